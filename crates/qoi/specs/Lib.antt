@@ -1,0 +1,9 @@
+pub mod Chunks
+pub mod ErrorText
+pub mod Files
+pub mod Headers
+pub mod Meaning
+pub mod Output
+pub mod Pixels
+pub mod Types
+pub mod Verdicts

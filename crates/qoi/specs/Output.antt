@@ -1,0 +1,19 @@
+-- Raw bytes of pixels: what a decoder gives and what an encoder is given.
+use Rattle.std.specs.Prelude.{ℕ, List, [], ◌∷◌, ◌⊎◌, ◌≡◌, ◌==◌, if◌then◌else◌}
+use Rattle.std.specs.List.{flat_map}
+use Rattle.qoi.specs.Pixels.{RgbaPixel, pixel}
+
+-- a number of channels that the format has
+abbrev pub IsChannels : ℕ → Type 0
+IsChannels n = (n ≡ 3) ⊎ (n ≡ 4)
+
+-- A pixel in this many channels, of a file with `file` channels: red, green, blue and, where there are four,
+-- alpha, which is 255 if the file has three.
+abbrev pub pixel_bytes : ℕ → ℕ → RgbaPixel → List ℕ
+pixel_bytes file channels p =
+    if channels == 3 then p.r ∷ p.g ∷ p.b ∷ []
+    else p.r ∷ p.g ∷ p.b ∷ (if file == 4 then p.a else 255) ∷ []
+
+-- the pixels' bytes, one after the other
+abbrev pub output : ℕ → ℕ → List RgbaPixel → List ℕ
+output file channels pixels = flat_map (pixel_bytes file channels) pixels

@@ -1,0 +1,31 @@
+//! The numbers of the format (QOI specification 1.0).
+
+/// First byte of the chunk that names an index position: `00` in the two high bits.
+pub const QOI_OP_INDEX: u8 = 0x00;
+/// First byte of a difference chunk: `01` in the two high bits.
+pub const QOI_OP_DIFF: u8 = 0x40;
+/// First byte of a luma chunk: `10` in the two high bits.
+pub const QOI_OP_LUMA: u8 = 0x80;
+/// First byte of a run chunk: `11` in the two high bits, for runs of 1 to 62.
+pub const QOI_OP_RUN: u8 = 0xc0;
+/// The byte that an RGB chunk begins with.
+pub const QOI_OP_RGB: u8 = 0xfe;
+/// The byte that an RGBA chunk begins with.
+pub const QOI_OP_RGBA: u8 = 0xff;
+
+/// The two high bits, which tell the chunks of one and two bytes apart.
+pub const QOI_MASK_2: u8 = 0xc0;
+
+/// Bytes of a header.
+pub const QOI_HEADER_SIZE: usize = 14;
+
+/// The end marker: seven bytes 00 and one 01.
+pub const QOI_PADDING: [u8; 8] = [0, 0, 0, 0, 0, 0, 0, 1];
+/// Bytes of the end marker.
+pub const QOI_PADDING_SIZE: usize = 8;
+
+/// The text `qoif` as a number, highest byte first.
+pub const QOI_MAGIC: u32 = 1903126886;
+
+/// The most pixels that an image may have.
+pub const QOI_PIXELS_MAX: usize = 400_000_000;

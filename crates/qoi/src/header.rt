@@ -1,0 +1,105 @@
+//! The header of a file (QOI specification 1.0, "QOI Header").
+ghost use Rattle.std.specs.Prelude.{◌≡◌, ◌*◌};
+ghost use Rattle.qoi.specs.declared.header.Header.{Header};
+
+use crate::consts::{QOI_HEADER_SIZE, QOI_MAGIC, QOI_PIXELS_MAX};
+use crate::error::{Error, Result};
+use crate::types::{Channels, ColorSpace};
+
+/// The size of an image, its number of channels and its color space.
+///
+/// A header of a file has width times height from 1 to 400,000,000; `try_new` sees to that.
+#[derive(Clone, Copy, PartialEq, Eq, Hash, Debug)]
+pub struct Header {
+    /// Width in pixels.
+    pub width: u32,
+    /// Height in pixels.
+    pub height: u32,
+    /// Channels of a pixel, which are informative.
+    pub channels: Channels,
+    /// Color space, which is informative.
+    pub colorspace: ColorSpace,
+}
+
+impl Header {
+    ghost use Rattle.qoi.specs.Headers.{head, header_of, tried_header, pixel_count};
+
+    /// A header of these fields; `InvalidImageDimensions` where width times height is 0 or
+    /// above 400,000,000.
+    pub fn try_new(
+        width: u32,
+        height: u32,
+        channels: Channels,
+        colorspace: ColorSpace,
+    ) -> Result<Header>
+        ensures { result ≡ tried_header width height channels colorspace }
+    {
+        let n_pixels = width as usize * height as usize;
+        if n_pixels == 0 || n_pixels > QOI_PIXELS_MAX {
+            return Err(Error::InvalidImageDimensions { width, height });
+        }
+        Ok(Header {
+            width,
+            height,
+            channels,
+            colorspace,
+        })
+    }
+
+    // The fourteen bytes of the header.
+    pub(crate) fn encode(&self) -> [u8; QOI_HEADER_SIZE]
+        ensures { result ≡ head self.now }
+    {
+        let [m0, m1, m2, m3] = QOI_MAGIC.to_be_bytes();
+        let [w0, w1, w2, w3] = self.width.to_be_bytes();
+        let [h0, h1, h2, h3] = self.height.to_be_bytes();
+        let channels = self.channels.as_u8();
+        let colorspace = self.colorspace.as_u8();
+        [
+            m0, m1, m2, m3, w0, w1, w2, w3, h0, h1, h2, h3, channels, colorspace,
+        ]
+    }
+
+    // The header at the front of the bytes, or the first refusal: the length, the channels, the
+    // color space, the magic, the dimensions.
+    pub(crate) fn decode(bytes: &[u8]) -> Result<Header>
+        ensures { result ≡ header_of bytes.now }
+    {
+        let [
+            m0,
+            m1,
+            m2,
+            m3,
+            w0,
+            w1,
+            w2,
+            w3,
+            h0,
+            h1,
+            h2,
+            h3,
+            channels,
+            colorspace,
+            ..
+        ] = *bytes
+        else {
+            return Err(Error::UnexpectedBufferEnd);
+        };
+        let channels = Channels::try_from(channels)?;
+        let colorspace = ColorSpace::try_from(colorspace)?;
+        let magic = u32::from_be_bytes([m0, m1, m2, m3]);
+        if magic != QOI_MAGIC {
+            return Err(Error::InvalidMagic { magic });
+        }
+        let width = u32::from_be_bytes([w0, w1, w2, w3]);
+        let height = u32::from_be_bytes([h0, h1, h2, h3]);
+        Header::try_new(width, height, channels, colorspace)
+    }
+
+    /// Width times height, in pixels.
+    pub fn n_pixels(&self) -> usize
+        ensures { result ≡ pixel_count self.now }
+    {
+        self.width as usize * self.height as usize
+    }
+}

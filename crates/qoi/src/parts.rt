@@ -1,0 +1,69 @@
+//! The crate's internal items that contracts rest on.
+ghost use Rattle.std.specs.Prelude.{◌≡◌, ℕ, List, ◌++◌, IfSome, IfNone, IsNone, IsSomeAnd};
+ghost use Rattle.qoi.specs.declared.parts.Chunk.{Chunk};
+ghost use Rattle.qoi.specs.Chunks.{IsChunk, bytes_of};
+ghost use Rattle.qoi.specs.Verdicts.{IsPartOfChunk};
+
+use crate::consts::{QOI_OP_DIFF, QOI_OP_INDEX, QOI_OP_LUMA, QOI_OP_RGB, QOI_OP_RGBA, QOI_OP_RUN};
+
+const QOI_OP_INDEX_END: u8 = QOI_OP_INDEX | 0x3f;
+
+const QOI_OP_DIFF_END: u8 = QOI_OP_DIFF | 0x3f;
+
+const QOI_OP_LUMA_END: u8 = QOI_OP_LUMA | 0x3f;
+// The bytes of runs of 63 and 64 are those of RGB and RGBA.
+const QOI_OP_RUN_END: u8 = QOI_OP_RUN | 0x3d;
+
+/// A chunk (QOI specification 1.0, "Chunks").
+#[derive(Clone, Copy, PartialEq, Eq, Debug)]
+pub enum Chunk {
+    /// The pixel at an index position, 0 to 63.
+    Place(u8),
+    /// Differences of red, green and blue from the previous pixel, -2 to 1 each: the chunk's byte.
+    Diff(u8),
+    /// A difference of green, -32 to 31, and those of red and blue less green's, -8 to 7: both
+    /// bytes of the chunk.
+    Luma(u8, u8),
+    /// The previous pixel again, 1 to 62 times.
+    Run(u8),
+    /// Red, green and blue; alpha stays.
+    Rgb(u8, u8, u8),
+    /// Red, green, blue and alpha.
+    Rgba(u8, u8, u8, u8),
+}
+
+/// The first chunk of the bytes, and the rest of the same slice.
+///
+/// `None` exactly where the slice is empty or shorter than the length of the chunk that its first
+/// byte begins: 4 for fe, 5 for ff, 2 for 80 to bf, and else 1.
+#[inline(always)]
+#[tactic(auto, using(crate::proofs::PartOfChunk::part_empty, crate::proofs::PartOfChunk::part_luma, crate::proofs::PartOfChunk::part_rgb, crate::proofs::PartOfChunk::part_rgba))]
+pub fn read_chunk(data: &[u8]) -> Option<(Chunk, &[u8])>
+    ensures some { IfSome result (λ x. IsChunk x.0 × («data».now ≡ bytes_of x.0 ++ x.1.now)) }
+    ensures none { IfNone result (IsPartOfChunk «data».now) }
+    ensures only { (c : Chunk) (rest : List ℕ) → IsChunk c → «data».now ≡ bytes_of c ++ rest
+        → IsSomeAnd result (λ x. (x.0 ≡ c) × (x.1.now ≡ rest)) }
+    ensures part { IsPartOfChunk «data».now → IsNone result }
+{
+    match data {
+        [b1 @ QOI_OP_INDEX..=QOI_OP_INDEX_END, rest @ ..] => Some((Chunk::Place(*b1), rest)),
+        [b1 @ QOI_OP_DIFF..=QOI_OP_DIFF_END, rest @ ..] => Some((Chunk::Diff(*b1), rest)),
+        [b1 @ QOI_OP_LUMA..=QOI_OP_LUMA_END, b2, rest @ ..] => {
+            Some((Chunk::Luma(*b1, *b2), rest))
+        }
+        [b1 @ QOI_OP_RUN..=QOI_OP_RUN_END, rest @ ..] => {
+            Some((Chunk::Run(*b1 - (QOI_OP_RUN - 1)), rest))
+        }
+        [QOI_OP_RGB, r, g, b, rest @ ..] => Some((Chunk::Rgb(*r, *g, *b), rest)),
+        [QOI_OP_RGBA, r, g, b, a, rest @ ..] => Some((Chunk::Rgba(*r, *g, *b, *a), rest)),
+        []
+        | [QOI_OP_LUMA..=QOI_OP_LUMA_END]
+        | [QOI_OP_RGB]
+        | [QOI_OP_RGB, _]
+        | [QOI_OP_RGB, _, _]
+        | [QOI_OP_RGBA]
+        | [QOI_OP_RGBA, _]
+        | [QOI_OP_RGBA, _, _]
+        | [QOI_OP_RGBA, _, _, _] => None,
+    }
+}

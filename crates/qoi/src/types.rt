@@ -1,0 +1,110 @@
+//! The number of channels and the color space of a header.
+ghost use Rattle.std.specs.Prelude.{◌≡◌, ◌↔◌, IsTrue};
+
+use crate::error::Error;
+
+/// How the color channels are to be read (QOI specification 1.0, "QOI Header").
+///
+/// The color space is informative: it stands in the header and changes no chunk.
+#[derive(Clone, Copy, PartialEq, Eq, PartialOrd, Ord, Hash, Debug)]
+pub enum ColorSpace {
+    /// sRGB with linear alpha.
+    Srgb = 0,
+    /// All channels linear.
+    Linear = 1,
+}
+
+impl ColorSpace {
+    ghost use Rattle.qoi.specs.Types.{colorspace_number};
+
+    /// Whether the color space is sRGB with linear alpha.
+    pub fn is_srgb(self) -> bool
+        ensures { IsTrue result ↔ (self ≡ ColorSpace.Srgb) }
+    {
+        matches!(self, ColorSpace::Srgb)
+    }
+
+    /// Whether all channels are linear.
+    pub fn is_linear(self) -> bool
+        ensures { IsTrue result ↔ (self ≡ ColorSpace.Linear) }
+    {
+        matches!(self, ColorSpace::Linear)
+    }
+
+    /// The number that a header has for the color space: 0 for `Srgb`, 1 for `Linear`.
+    pub fn as_u8(self) -> u8
+        ensures { result ≡ colorspace_number self }
+    {
+        self as u8
+    }
+}
+
+impl TryFrom<u8> for ColorSpace {
+    type Error = Error;
+
+    ghost use Rattle.qoi.specs.Types.{colorspace_of};
+
+    ghost try_from_gives = { λ n r. r ≡ colorspace_of n };
+
+    /// The color space of a header's number; every number but 0 and 1 is `InvalidColorSpace`.
+    fn try_from(colorspace: u8) -> Result<Self, Error> {
+        match colorspace {
+            0 => Ok(ColorSpace::Srgb),
+            1 => Ok(ColorSpace::Linear),
+            _ => Err(Error::InvalidColorSpace { colorspace }),
+        }
+    }
+}
+
+/// How many channels of 8 bits a pixel has (QOI specification 1.0, "QOI Header").
+///
+/// The number of channels is informative: it stands in the header and changes no chunk.
+#[derive(Clone, Copy, PartialEq, Eq, PartialOrd, Ord, Hash, Debug)]
+pub enum Channels {
+    /// Three channels: red, green and blue.
+    Rgb = 3,
+    /// Four channels: red, green, blue and alpha.
+    Rgba = 4,
+}
+
+impl Channels {
+    ghost use Rattle.qoi.specs.Types.{channels_number};
+
+    /// Whether there are three channels.
+    pub fn is_rgb(self) -> bool
+        ensures { IsTrue result ↔ (self ≡ Channels.Rgb) }
+    {
+        matches!(self, Channels::Rgb)
+    }
+
+    /// Whether there are four channels.
+    pub fn is_rgba(self) -> bool
+        ensures { IsTrue result ↔ (self ≡ Channels.Rgba) }
+    {
+        matches!(self, Channels::Rgba)
+    }
+
+    /// The number of channels: 3 for `Rgb`, 4 for `Rgba`.
+    pub fn as_u8(self) -> u8
+        ensures { result ≡ channels_number self }
+    {
+        self as u8
+    }
+}
+
+impl TryFrom<u8> for Channels {
+    type Error = Error;
+
+    ghost use Rattle.qoi.specs.Types.{channels_of};
+
+    ghost try_from_gives = { λ n r. r ≡ channels_of n };
+
+    /// The channels of a header's number; every number but 3 and 4 is `InvalidChannels`.
+    fn try_from(channels: u8) -> Result<Self, Error> {
+        match channels {
+            3 => Ok(Channels::Rgb),
+            4 => Ok(Channels::Rgba),
+            _ => Err(Error::InvalidChannels { channels }),
+        }
+    }
+}
