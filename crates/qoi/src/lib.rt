@@ -3,8 +3,10 @@
 
 #[doc(hidden)]
 pub mod consts;
+mod decode;
 mod error;
 mod header;
+mod pixel;
 #[doc(hidden)]
 pub mod parts;
 mod types;
