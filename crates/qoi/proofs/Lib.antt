@@ -1,1 +1,5 @@
+pub mod ChunksApart
+pub mod OneVerdict
 pub mod PartOfChunk
+pub mod SomeVerdict
+pub mod TakenBytes

@@ -1,0 +1,38 @@
+//! Laws on reading: bytes have one verdict, and files are read as they were put together.
+ghost use Rattle.std.specs.Prelude.{◌≡◌, ℕ, ◌+◌, ◌*◌, ◌<◌, ◌≤◌, List, ◌++◌, length};
+ghost use Rattle.qoi.specs.declared.parts.Chunk.{Chunk};
+ghost use Rattle.qoi.specs.Chunks.{IsChunk, AreChunks, bytes_of, text};
+ghost use Rattle.qoi.specs.Meaning.{Reaches, StayBelow, meaning};
+ghost use Rattle.qoi.specs.Verdicts.{IsPartOfChunk, IsWhole, IsCut, IsWrong};
+
+/// No chunk's bytes begin another's, and a part of a chunk begins with no whole chunk.
+pub fn chunks_are_apart()
+    ensures whole { (c d : Chunk) (x y : List ℕ) → IsChunk c → IsChunk d
+        → bytes_of c ++ x ≡ bytes_of d ++ y → (c ≡ d) × (x ≡ y) }
+    ensures part { (c : Chunk) (x : List ℕ) → IsChunk c → IsPartOfChunk (bytes_of c ++ x) → ⊥ }
+{}
+
+/// At most one verdict holds of any bytes, with one chunk list.
+pub fn verdict_is_one()
+    ensures whole { (n : ℕ) (bytes : List ℕ) (cs ds : List Chunk) (x y : List ℕ)
+        → IsWhole n bytes cs x → IsWhole n bytes ds y → (cs ≡ ds) × (x ≡ y) }
+    ensures cut { (n : ℕ) (bytes : List ℕ) (cs ds : List Chunk) (x y : List ℕ)
+        → IsCut n bytes cs x → IsCut n bytes ds y → (cs ≡ ds) × (x ≡ y) }
+    ensures wrong { (n : ℕ) (bytes : List ℕ) (cs ds : List Chunk) (eight other x y : List ℕ)
+        → IsWrong n bytes cs eight x → IsWrong n bytes ds other y → (cs ≡ ds) × (eight ≡ other) × (x ≡ y) }
+    ensures whole_not_cut { (n : ℕ) (bytes : List ℕ) (cs ds : List Chunk) (x part : List ℕ)
+        → IsWhole n bytes cs x → IsCut n bytes ds part → ⊥ }
+    ensures whole_not_wrong { (n : ℕ) (bytes : List ℕ) (cs ds : List Chunk) (x eight rest : List ℕ)
+        → IsWhole n bytes cs x → IsWrong n bytes ds eight rest → ⊥ }
+    ensures cut_not_wrong { (n : ℕ) (bytes : List ℕ) (cs ds : List Chunk) (part eight rest : List ℕ)
+        → IsCut n bytes cs part → IsWrong n bytes ds eight rest → ⊥ }
+{}
+
+/// An image of n pixels takes five bytes for each pixel at most; and where chunks stop short of
+/// n pixels, there is room for five bytes more.
+#[tactic(auto, using(crate::proofs::TakenBytes::reached_within, crate::proofs::TakenBytes::below_within))]
+pub fn bytes_taken()
+    ensures reached { (n : ℕ) (cs : List Chunk) → AreChunks cs → Reaches n cs → length (text cs) ≤ 5 * n }
+    ensures short { (n : ℕ) (cs : List Chunk) → AreChunks cs → StayBelow n cs
+        → length (meaning cs) < n → 5 + length (text cs) ≤ 5 * n }
+{}
