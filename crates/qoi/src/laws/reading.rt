@@ -1,6 +1,7 @@
 //! Laws on reading: bytes have one verdict, and files are read as they were put together.
-ghost use Rattle.std.specs.Prelude.{◌≡◌, ℕ, ◌+◌, ◌*◌, ◌<◌, ◌≤◌, List, ◌++◌, length};
+ghost use Rattle.std.specs.Prelude.{◌≡◌, ℕ, ◌+◌, ◌*◌, ◌<◌, ◌≤◌, ◌⊎◌, List, ◌++◌, length};
 ghost use Rattle.qoi.specs.declared.parts.Chunk.{Chunk};
+ghost use Rattle.qoi.specs.Bytes.{AreBytes};
 ghost use Rattle.qoi.specs.Chunks.{IsChunk, AreChunks, bytes_of, text};
 ghost use Rattle.qoi.specs.Meaning.{Reaches, StayBelow, meaning};
 ghost use Rattle.qoi.specs.Verdicts.{IsPartOfChunk, IsWhole, IsCut, IsWrong};
@@ -26,6 +27,14 @@ pub fn verdict_is_one()
         → IsWhole n bytes cs x → IsWrong n bytes ds eight rest → ⊥ }
     ensures cut_not_wrong { (n : ℕ) (bytes : List ℕ) (cs ds : List Chunk) (part eight rest : List ℕ)
         → IsCut n bytes cs part → IsWrong n bytes ds eight rest → ⊥ }
+{}
+
+/// Some verdict holds of any bytes.
+pub fn verdict_is_some()
+    ensures { (n : ℕ) (bytes : List ℕ) → AreBytes bytes
+        → ((cs : List Chunk) × (rest : List ℕ) × IsWhole n bytes cs rest)
+        ⊎ (((cs : List Chunk) × (part : List ℕ) × IsCut n bytes cs part)
+        ⊎ ((cs : List Chunk) × (eight : List ℕ) × (rest : List ℕ) × IsWrong n bytes cs eight rest)) }
 {}
 
 /// An image of n pixels takes five bytes for each pixel at most; and where chunks stop short of
