@@ -1,4 +1,5 @@
 pub mod ChunksApart
+pub mod HeaderBytes
 pub mod OneVerdict
 pub mod PartOfChunk
 pub mod SomeVerdict
