@@ -1,5 +1,6 @@
 pub mod ChunksApart
 pub mod HeaderBytes
+pub mod OneFile
 pub mod OneVerdict
 pub mod PartOfChunk
 pub mod SomeVerdict

@@ -1,8 +1,11 @@
 //! Laws on reading: bytes have one verdict, and files are read as they were put together.
-ghost use Rattle.std.specs.Prelude.{◌≡◌, ℕ, ◌+◌, ◌*◌, ◌<◌, ◌≤◌, ◌⊎◌, List, ◌++◌, length};
+ghost use Rattle.std.specs.Prelude.{◌≡◌, ℕ, ◌+◌, ◌*◌, ◌<◌, ◌≤◌, ◌⊎◌, List, ◌++◌, length, drop, Result, Ok};
+ghost use Rattle.qoi.specs.declared.header.Header.{Header};
 ghost use Rattle.qoi.specs.declared.parts.Chunk.{Chunk};
 ghost use Rattle.qoi.specs.Bytes.{AreBytes};
 ghost use Rattle.qoi.specs.Chunks.{IsChunk, AreChunks, bytes_of, text};
+ghost use Rattle.qoi.specs.Files.{IsFile, file};
+ghost use Rattle.qoi.specs.Headers.{head, pixel_count, IsValid, header_of};
 ghost use Rattle.qoi.specs.Meaning.{Reaches, StayBelow, meaning};
 ghost use Rattle.qoi.specs.Verdicts.{IsPartOfChunk, IsWhole, IsCut, IsWrong};
 
@@ -35,6 +38,30 @@ pub fn verdict_is_some()
         → ((cs : List Chunk) × (rest : List ℕ) × IsWhole n bytes cs rest)
         ⊎ (((cs : List Chunk) × (part : List ℕ) × IsCut n bytes cs part)
         ⊎ ((cs : List Chunk) × (eight : List ℕ) × (rest : List ℕ) × IsWrong n bytes cs eight rest)) }
+{}
+
+/// A valid header's fourteen bytes are read as it, whatever follows them; and bytes that are read as a
+/// header are its own, and it is valid.
+pub fn header_both_ways()
+    ensures size { (h : Header) → length (head h) ≡ 14 }
+    ensures read { (h : Header) (rest : List ℕ) → IsValid h → header_of (head h ++ rest) ≡ Ok h }
+    ensures only { (bytes : List ℕ) (h : Header) → AreBytes bytes → header_of bytes ≡ Ok h
+        → (bytes ≡ head h ++ drop 14 bytes) × IsValid h }
+{}
+
+/// No file begins another: the same bytes are one file and what follows it.
+pub fn no_file_begins_another()
+    ensures { (h k : Header) (cs ds : List Chunk) (x y : List ℕ) → IsFile h cs → IsFile k ds
+        → file h cs ++ x ≡ file k ds ++ y → (h ≡ k) × (cs ≡ ds) × (x ≡ y) }
+{}
+
+/// A file's header is read, and what follows the header is whole; and bytes with a header and whole
+/// chunks after it are a file and what follows it.
+pub fn files_are_read()
+    ensures read { (h : Header) (cs : List Chunk) (bytes rest : List ℕ) → IsFile h cs → bytes ≡ file h cs ++ rest
+        → (header_of bytes ≡ Ok h) × IsWhole (pixel_count h) (drop 14 bytes) cs rest }
+    ensures only { (h : Header) (cs : List Chunk) (bytes rest : List ℕ) → AreBytes bytes → header_of bytes ≡ Ok h
+        → IsWhole (pixel_count h) (drop 14 bytes) cs rest → IsFile h cs × (bytes ≡ file h cs ++ rest) }
 {}
 
 /// An image of n pixels takes five bytes for each pixel at most; and where chunks stop short of
