@@ -51,7 +51,7 @@ pub record SaysHeader (bytes : List ℕ) (h : Header) : Type 0 where
 tried_valid : (h : Header) → IsValid h → tried_header h.width h.height h.channels h.colorspace ≡ Ok h
 tried_valid h v =
     cond-true (nat_le 1 (h.width * h.height) && nat_le (h.width * h.height) 400000000) _ _
-        (and_from _ _ (le-leb 1 (h.width * h.height) v.0) (le-leb (h.width * h.height) 400000000 v.1))
+    (and_from _ _ (le-leb 1 (h.width * h.height) v.0) (le-leb (h.width * h.height) 400000000 v.1))
 
 -- bytes that say a header are read as it
 pub header_from_says : (bytes : List ℕ) (h : Header) → SaysHeader bytes h → header_of bytes ≡ Ok h
@@ -135,6 +135,7 @@ says_from bytes h e =
           height = ap (λ (x : Header). x.height) rest.is_header;
           valid = rest.valid;
         }
+
     with_channels : (r : Result Channels Error) → channels_of (slice_index bytes 12) ≡ r → 14 ≤ length bytes → with_channels_read bytes r ≡ Ok h → SaysHeader bytes h
     with_channels (Err x) is long k = absurd cc
     with_channels (Ok c) is long k = with_both c is long (colorspace_of (slice_index bytes 13)) refl k
@@ -151,11 +152,11 @@ four_bytes a b c d ha hb hc hd (suc (suc (suc (suc i)))) = omega arith
 pub head_from_says : (bytes : List ℕ) (h : Header) → AreBytes bytes → SaysHeader bytes h → bytes ≡ head h ++ drop 14 bytes
 head_from_says (m0 ∷ m1 ∷ m2 ∷ m3 ∷ w0 ∷ w1 ∷ w2 ∷ w3 ∷ h0 ∷ h1 ∷ h2 ∷ h3 ∷ c ∷ s ∷ rest) h fits says =
     let m : to_be_bytes w32 1903126886 ≡ m0 ∷ m1 ∷ m2 ∷ m3 ∷ [] =
-        be_bytes_4 (m0 ∷ m1 ∷ m2 ∷ m3 ∷ []) 1903126886 refl (four_bytes m0 m1 m2 m3 (fits 0) (fits 1) (fits 2) (fits 3)) (sym says.magic) in
+    be_bytes_4 (m0 ∷ m1 ∷ m2 ∷ m3 ∷ []) 1903126886 refl (four_bytes m0 m1 m2 m3 (fits 0) (fits 1) (fits 2) (fits 3)) (sym says.magic) in
     let w : to_be_bytes w32 h.width ≡ w0 ∷ w1 ∷ w2 ∷ w3 ∷ [] =
-        be_bytes_4 (w0 ∷ w1 ∷ w2 ∷ w3 ∷ []) h.width refl (four_bytes w0 w1 w2 w3 (fits 4) (fits 5) (fits 6) (fits 7)) (sym says.width) in
+    be_bytes_4 (w0 ∷ w1 ∷ w2 ∷ w3 ∷ []) h.width refl (four_bytes w0 w1 w2 w3 (fits 4) (fits 5) (fits 6) (fits 7)) (sym says.width) in
     let g : to_be_bytes w32 h.height ≡ h0 ∷ h1 ∷ h2 ∷ h3 ∷ [] =
-        be_bytes_4 (h0 ∷ h1 ∷ h2 ∷ h3 ∷ []) h.height refl (four_bytes h0 h1 h2 h3 (fits 8) (fits 9) (fits 10) (fits 11)) (sym says.height) in
+    be_bytes_4 (h0 ∷ h1 ∷ h2 ∷ h3 ∷ []) h.height refl (four_bytes h0 h1 h2 h3 (fits 8) (fits 9) (fits 10) (fits 11)) (sym says.height) in
     let k : c ≡ channels_number h.channels = channels_from c h.channels says.channels in
     let t : s ≡ colorspace_number h.colorspace = colorspace_from s h.colorspace says.colorspace in
     cc

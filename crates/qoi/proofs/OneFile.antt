@@ -32,9 +32,10 @@ file_is_whole h cs bytes rest f e = record {
 pub file_from_whole : (h : Header) (cs : List Chunk) (bytes rest : List ℕ) → AreBytes bytes → header_of bytes ≡ Ok h
     → IsWhole (pixel_count h) (drop 14 bytes) cs rest → IsFile h cs × (bytes ≡ file h cs ++ rest)
 file_from_whole h cs bytes rest fits e w =
-    let front = head_from_header_of bytes h fits e in
-    (record { valid = front.1; chunks = w.takes.chunks; reaches = record { short = w.takes.short; enough = w.enough } },
-     front.0 ∙ ap (λ l. head h ++ l) w.takes.split ∙ sym (file_parts h cs rest))
+    let front = head_from_header_of bytes h fits e in (
+      record { valid = front.1; chunks = w.takes.chunks; reaches = record { short = w.takes.short; enough = w.enough } },
+      front.0 ∙ ap (λ l. head h ++ l) w.takes.split ∙ sym (file_parts h cs rest),
+    )
 
 -- no file begins another
 pub file_is_one : (h k : Header) (cs ds : List Chunk) (x y : List ℕ) → IsFile h cs → IsFile k ds → file h cs ++ x ≡ file k ds ++ y → (h ≡ k) × (cs ≡ ds) × (x ≡ y)

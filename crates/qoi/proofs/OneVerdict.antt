@@ -35,7 +35,7 @@ one_takes_after n past (c ∷ cs) [] x y hc hd bc bd ec ed e =
     absurd (ends_without_chunk n past c y (text cs ++ x) hc.0 bc.0 ed (sym e ∙ append_assoc (bytes_of c) (text cs) x))
 one_takes_after n past (c ∷ cs) (d ∷ ds) x y hc hd bc bd ec ed e =
     let f : bytes_of c ++ (text cs ++ x) ≡ bytes_of d ++ (text ds ++ y) =
-        sym (append_assoc (bytes_of c) (text cs) x) ∙ e ∙ append_assoc (bytes_of d) (text ds) y in
+    sym (append_assoc (bytes_of c) (text cs) x) ∙ e ∙ append_assoc (bytes_of d) (text ds) y in
     let first = chunks_apart c d (text cs ++ x) (text ds ++ y) hc.0 hd.0 f in
     let Below : Chunk → Type 0 = λ b. StayBelowAfter n (then_chunk past b) ds in
     let Ends : Chunk → Type 0 = λ b. EndsChunks n (then_chunks (then_chunk past b) ds) y in

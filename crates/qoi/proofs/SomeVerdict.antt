@@ -58,22 +58,27 @@ run_front b bytes low high =
 pub high_front : (b : ℕ) (bytes : List ℕ) → AreBytes (b ∷ bytes) → 128 ≤ b → BeginsWithChunk (b ∷ bytes) ⊎ IsPartOfChunk (b ∷ bytes)
 high_front b bytes fits low =
     elim (cases_lt b 192) [
-      inl h ↦ luma_front b bytes fits low h
-    | inr h ↦ elim (cases_lt b 254) [
-        inl k ↦ run_front b bytes h k
-      | inr k ↦ elim (cases_lt b 255) [
-          inl l ↦ rgb_front b bytes fits (omega arith)
-        | inr l ↦ let small = fits 0 in rgba_front b bytes fits (omega arith) ] ] ]
+      | inl h ↦ luma_front b bytes fits low h
+      | inr h ↦ elim (cases_lt b 254) [
+        | inl k ↦ run_front b bytes h k
+        | inr k ↦ elim (cases_lt b 255) [
+          | inl l ↦ rgb_front b bytes fits (omega arith)
+          | inr l ↦ let small = fits 0 in rgba_front b bytes fits (omega arith)
+        ]
+      ]
+    ]
 
 -- bytes begin with a whole chunk, or are part of one
 pub front : (bytes : List ℕ) → AreBytes bytes → BeginsWithChunk bytes ⊎ IsPartOfChunk bytes
 front [] fits = inr (part_empty [] (omega arith))
 front (b ∷ bytes) fits =
     elim (cases_lt b 64) [
-      inl h ↦ inl (Place b, bytes, h, refl)
-    | inr h ↦ elim (cases_lt b 128) [
-        inl k ↦ inl (Diff b, bytes, (h, k), refl)
-      | inr k ↦ high_front b bytes fits k ] ]
+      | inl h ↦ inl (Place b, bytes, h, refl)
+      | inr h ↦ elim (cases_lt b 128) [
+        | inl k ↦ inl (Diff b, bytes, (h, k), refl)
+        | inr k ↦ high_front b bytes fits k
+      ]
+    ]
 
 -- chunks that begin these bytes after these pixels, up to where reading ends
 pub record Reading (n : ℕ) (past : Past) (bytes : List ℕ) : Type 0 where
@@ -114,12 +119,14 @@ pub reading_of : (fuel n : ℕ) (past : Past) (bytes : List ℕ) → length byte
 reading_of zero n past bytes h fits = absurd (omega arith)
 reading_of (suc fuel) n past bytes h fits =
     elim (cases_lt (length past) n) [
-      inr enough ↦ reading_ends n past bytes (inl enough)
-    | inl below ↦ elim (front bytes fits) [
-        inr part ↦ reading_ends n past bytes (inr (below, part))
-      | inl w ↦ reading_goes_on n past bytes w.0 w.1 below w.2 w.3 (reading_of fuel n (then_chunk past w.0) w.1
-          (omega (arith, ap length w.3, length-append (bytes_of w.0) w.1, length-bytes_of_pos w.0))
-          (bytes_after_front (bytes_of w.0) w.1 (subst AreBytes w.3 fits))) ] ]
+      | inr enough ↦ reading_ends n past bytes (inl enough)
+      | inl below ↦ elim (front bytes fits) [
+        | inr part ↦ reading_ends n past bytes (inr (below, part))
+        | inl w ↦ reading_goes_on n past bytes w.0 w.1 below w.2 w.3 (reading_of fuel n (then_chunk past w.0) w.1
+            (omega (arith, ap length w.3, length-append (bytes_of w.0) w.1, length-bytes_of_pos w.0))
+            (bytes_after_front (bytes_of w.0) w.1 (subst AreBytes w.3 fits)))
+      ]
+    ]
 
 -- the bytes are whole, cut or wrong
 abbrev pub HasVerdict : ℕ → List ℕ → Type 0
@@ -133,8 +140,9 @@ marker_verdict : (n : ℕ) (bytes : List ℕ) (cs : List Chunk) (eight rest : Li
 marker_verdict n bytes cs eight rest t enough h =
     let same = bytes_eq-Decides eight end_marker in
     elim (cases_Bool (bytes_eq eight end_marker)) [
-      inl yes_same ↦ inl (cs, rest, record { takes = let P : List ℕ → Type 0 = λ l. Takes n bytes cs (l ++ rest) in subst P (same.0 yes_same) t; enough = enough })
-    | inr differs ↦ inr (inr (cs, eight, rest, record { takes = t; enough = enough; length_is = h; other = λ e. false_is_not_true (sym differs ∙ same.1 e) })) ]
+      | inl yes_same ↦ inl (cs, rest, record { takes = let P : List ℕ → Type 0 = λ l. Takes n bytes cs (l ++ rest) in subst P (same.0 yes_same) t; enough = enough })
+      | inr differs ↦ inr (inr (cs, eight, rest, record { takes = t; enough = enough; length_is = h; other = λ e. false_is_not_true (sym differs ∙ same.1 e) }))
+    ]
   where
     false_is_not_true : false ≡ true → ⊥
     false_is_not_true e = cc
@@ -145,10 +153,11 @@ verdict_of_ends n bytes cs rest t (inr part) = inr (inl (cs, rest, record { take
 verdict_of_ends n bytes cs rest t (inl enough) =
     let above : n ≤ length (meaning cs) = omega (arith, length-meaning cs) in
     elim (cases_lt (length rest) 8) [
-      inl few ↦ inr (inl (cs, rest, record { takes = t; ends = inr (above, few) }))
-    | inr many ↦ marker_verdict n bytes cs (take 8 rest) (drop 8 rest)
-        (let P : List ℕ → Type 0 = λ l. Takes n bytes cs l in subst P (sym (take-append-drop 8 rest)) t)
-        above (omega (arith, length-take 8 rest)) ]
+      | inl few ↦ inr (inl (cs, rest, record { takes = t; ends = inr (above, few) }))
+      | inr many ↦ marker_verdict n bytes cs (take 8 rest) (drop 8 rest)
+          (let P : List ℕ → Type 0 = λ l. Takes n bytes cs l in subst P (sym (take-append-drop 8 rest)) t)
+          above (omega (arith, length-take 8 rest))
+    ]
 
 -- bytes have a verdict for each number of pixels
 pub verdict_of : (n : ℕ) (bytes : List ℕ) → AreBytes bytes → HasVerdict n bytes
