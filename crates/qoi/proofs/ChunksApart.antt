@@ -1,5 +1,5 @@
 -- No chunk's bytes begin another's.
-use Rattle.std.proofs.Common.{◌≡◌, ℕ, ◌+◌, ◌<◌, ◌≤◌, List, [], ◌∷◌, ◌++◌, length, get_or, arith, refl, ap, sym, ◌∙◌, append_assoc, length-append}
+use Rattle.std.proofs.Common.{◌≡◌, ℕ, ◌+◌, List, [], ◌∷◌, ◌++◌, length, get_or, arith, ap, sym, ◌∙◌, append_assoc, length-append}
 use Rattle.std.proofs.lemmas.List.{append-nil}
 use Rattle.qoi.specs.declared.parts.Chunk.{Chunk}
 use Rattle.qoi.specs.declared.parts.Chunk.TheVariants.{Place, Diff, Luma, Run, Rgb, Rgba}

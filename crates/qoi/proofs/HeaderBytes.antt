@@ -1,9 +1,9 @@
 -- A header's fourteen bytes are read as the header, and no other bytes are.
-use Rattle.std.proofs.Common.{◌≡◌, ℕ, ◌+◌, ◌*◌, ◌^◌, ◌<◌, ◌≤◌, ◌⊎◌, inl, inr, zero, suc, List, [], ◌∷◌, ◌++◌, length, get_or, take, drop, arith, refl, ap, sym, ◌∙◌, subst, Bool, true, false, Result, Ok, Err, slice_index, nat_le, nat_lt, ◌==◌, cond, ◌&&◌, append_assoc, length-append}
-use Rattle.std.proofs.lemmas.Bool.{cases_Bool, cond-true, cond-false, le-ltb, ltb-false, le-leb, leb-true, and_from, and_parts, eqb-true}
+use Rattle.std.proofs.Common.{◌≡◌, ℕ, ◌*◌, ◌^◌, ◌<◌, ◌≤◌, zero, suc, List, [], ◌∷◌, ◌++◌, length, drop, arith, refl, ap, sym, ◌∙◌, subst, Bool, true, false, Result, Ok, Err, slice_index, nat_le, nat_lt, ◌==◌, cond, ◌&&◌, length-append}
+use Rattle.std.proofs.lemmas.Bool.{cond-true, le-ltb, ltb-false, le-leb, leb-true, and_from, and_parts, eqb-true}
 use Rattle.std.proofs.Math.Nat.{mul-zero, mul_comm, le-mul_of_pos_right}
 use Rattle.std.proofs.lemmas.Nat.{from_be_bytes-to_be_bytes_4, be_bytes_4}
-use Rattle.std.specs.Int.{w32, to_be_bytes, from_be_bytes}
+use Rattle.std.specs.Int.{w32, to_be_bytes}
 use Rattle.qoi.specs.declared.error.Error.{Error}
 use Rattle.qoi.specs.declared.error.Error.TheVariants.{InvalidMagic, InvalidImageDimensions, UnexpectedBufferEnd}
 use Rattle.qoi.specs.declared.types.Channels.{Channels}

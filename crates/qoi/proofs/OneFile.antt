@@ -1,13 +1,12 @@
 -- A file is read as it was put together, in one way.
-use Rattle.std.proofs.Common.{◌≡◌, ℕ, ◌+◌, ◌*◌, ◌<◌, ◌≤◌, List, [], ◌∷◌, ◌++◌, length, drop, arith, refl, ap, sym, ◌∙◌, subst, Result, Ok, Err, append_assoc}
-use Rattle.qoi.specs.declared.error.Error.{Error}
+use Rattle.std.proofs.Common.{◌≡◌, ℕ, List, ◌++◌, drop, refl, ap, sym, ◌∙◌, subst, Ok, append_assoc}
 use Rattle.qoi.specs.declared.header.Header.{Header}
 use Rattle.qoi.specs.declared.parts.Chunk.{Chunk}
 use Rattle.qoi.specs.Bytes.{AreBytes}
 use Rattle.qoi.specs.Chunks.{text}
 use Rattle.qoi.specs.Headers.{head, pixel_count, header_of}
 use Rattle.qoi.specs.Files.{IsFile, file, end_marker}
-use Rattle.qoi.specs.Verdicts.{Takes, IsWhole}
+use Rattle.qoi.specs.Verdicts.{IsWhole}
 use Rattle.qoi.proofs.OneVerdict.{whole_is_one}
 use Rattle.qoi.proofs.HeaderBytes.{header_of-head, head_from_header_of}
 

@@ -1,6 +1,6 @@
 -- Some verdict holds of any bytes.
-use Rattle.std.proofs.Common.{◌≡◌, ◌≢◌, ℕ, ◌+◌, ◌-◌, ◌<◌, ◌≤◌, ◌⊎◌, inl, inr, zero, suc, List, [], ◌∷◌, ◌++◌, length, get_or, take, drop, arith, refl, ap, sym, ◌∙◌, subst, append_assoc, length-append, ⊎_elim, Bool, true, false, add-one}
-use Rattle.std.proofs.lemmas.List.{get_or-drop, drop-append-le, take-append-drop, length-take}
+use Rattle.std.proofs.Common.{◌≡◌, ℕ, ◌+◌, ◌-◌, ◌<◌, ◌≤◌, ◌⊎◌, inl, inr, zero, suc, List, [], ◌∷◌, ◌++◌, length, take, drop, arith, refl, ap, sym, ◌∙◌, subst, append_assoc, length-append, true, false, add-one}
+use Rattle.std.proofs.lemmas.List.{take-append-drop, length-take}
 use Rattle.std.proofs.lemmas.Bool.{cases_lt, cases_Bool}
 use Rattle.std.proofs.lemmas.Slice.Eq.{bytes_eq-Decides}
 use Rattle.std.specs.Str.{bytes_eq}
@@ -9,7 +9,7 @@ use Rattle.qoi.specs.declared.parts.Chunk.TheVariants.{Place, Diff, Luma, Run, R
 use Rattle.qoi.specs.Bytes.{AreBytes}
 use Rattle.qoi.specs.Pixels.{Past}
 use Rattle.qoi.specs.Chunks.{IsChunk, AreChunks, bytes_of, text, then_chunk}
-use Rattle.qoi.specs.Meaning.{Each, then_chunks, meaning}
+use Rattle.qoi.specs.Meaning.{then_chunks, meaning}
 use Rattle.qoi.specs.Files.{end_marker}
 use Rattle.qoi.specs.Verdicts.{IsPartOfChunk, Takes, IsWhole, IsCut, IsWrong}
 use Rattle.qoi.proofs.PartOfChunk.{part_empty, part_luma, part_rgb, part_rgba}
