@@ -1,6 +1,14 @@
-pub mod PartOfChunk
-pub mod SetLast
-pub mod SeenTable
 pub mod Appended
+pub mod ChunksApart
 pub mod FilledBuffer
+pub mod HeaderBytes
+pub mod OneFile
+pub mod OneVerdict
+pub mod PartOfChunk
 pub mod Progress
+pub mod SeenTable
+pub mod SetLast
+pub mod SomeVerdict
+pub mod TakenBytes
+pub mod Refusals
+pub mod ImageSize

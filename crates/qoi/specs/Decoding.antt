@@ -84,6 +84,10 @@ ReadsHeader false old new (Err e) = (taken : List ℕ) × Consumes old new taken
 abbrev pub byte_count : Header → ℕ → ℕ
 byte_count h channels = pixel_count h * channels
 
+-- how many bytes a file's image has in its own channels
+abbrev pub file_byte_count : Header → ℕ
+file_byte_count h = byte_count h (channels_number h.channels)
+
 -- The bytes are a file with this header and then the rest, and these are its pixels in the file's channels.
 pub record DecodesFile (bytes : List ℕ) (h : Header) (rest out : List ℕ) : Type 0 where
   pub header : header_of bytes ≡ Ok h
@@ -99,5 +103,5 @@ RefusesBuffer size required e = (size < required) × (e ≡ OutputBufferTooSmall
 abbrev pub RefusesFile : ℕ → List ℕ → Error → Type 0
 RefusesFile size bytes e = (header_of bytes ≡ Err e)
     ⊎ ((h : Header) × (header_of bytes ≡ Ok h)
-      × (RefusesBuffer size (byte_count h (channels_number h.channels)) e
-        ⊎ ((byte_count h (channels_number h.channels) ≤ size) × RefusesBytes (pixel_count h) (drop header_size bytes) e)))
+      × (RefusesBuffer size (file_byte_count h) e
+        ⊎ ((file_byte_count h ≤ size) × RefusesBytes (pixel_count h) (drop header_size bytes) e)))

@@ -5,7 +5,12 @@ ghost use Rattle.qoi.specs.Pixels.{Past, rgba};
 ghost use Rattle.qoi.specs.Chunks.{IsChunk, times as chunk_times, pixel_of, then_chunk};
 ghost use Rattle.qoi.specs.Output.{IsChannels, pixel_bytes};
 ghost use Rattle.qoi.specs.Filling.{HasFilled, HasSeen};
-ghost use Rattle.qoi.specs.Decoding.{EndsInChunk, ReadsPixels, ReadsImage, ReadsHeader, RefusesMarker, RefusesBytes, RefusesImage};
+ghost use Rattle.qoi.specs.Decoding.{EndsInChunk, ReadsPixels, ReadsImage, ReadsHeader, RefusesMarker, RefusesBytes, RefusesImage, RefusesFile, DecodesFile, header_size, byte_count, file_byte_count};
+ghost use Rattle.qoi.specs.DecoderState.{image_byte_count, DecodesImage, RefusesDecoding};
+ghost use Rattle.qoi.specs.Headers.{header_of, pixel_count};
+ghost use Rattle.qoi.specs.Verdicts.{IsWhole};
+ghost use Rattle.qoi.specs.declared.header.Header.{Header};
+ghost use Rattle.qoi.specs.declared.error.Error.{Error};
 ghost use Rattle.qoi.specs.Files.{end_marker};
 
 use crate::consts::{QOI_HEADER_SIZE, QOI_PADDING, QOI_PADDING_SIZE};
@@ -259,5 +264,150 @@ impl<'a> Reader for Bytes<'a> {
     fn decode_image(&mut self, out: &mut [u8], channels: u8, src_channels: u8) -> Result<()> {
         self.0 = decode_slice(self.0, out, channels, src_channels)?;
         Ok(())
+    }
+}
+
+/// The header at the front of the bytes; what follows its fourteen bytes doesn't matter.
+///
+/// Refusals, in this order: `UnexpectedBufferEnd` where there are fewer than fourteen bytes,
+/// `InvalidChannels`, `InvalidColorSpace`, `InvalidMagic`, `InvalidImageDimensions` (QOI
+/// specification 1.0, "QOI Header").
+pub fn decode_header(data: &[u8]) -> Result<Header>
+    ensures { result ≡ header_of «data».now }
+{
+    Header::decode(data)
+}
+
+/// Decodes a file into the front of the buffer, in the file's own channels, and answers its header.
+///
+/// The refusals are those of `Decoder::new` and then of its `decode_to_buf`. After a refusal of the
+/// image the first bytes of the buffer, as many as the image has, may be overwritten; all others
+/// are as before.
+pub fn decode_to_buf(buf: &mut [u8], data: &[u8]) -> Result<Header>
+    ensures decoded { IfOk result (λ h. (rest : List ℕ)
+        × DecodesFile «data».now h rest (take (file_byte_count h) buf.new)) }
+    ensures refused { IfErr result (RefusesFile (length buf.old) «data».now) }
+    // Whole files are accepted, whatever follows them.
+    ensures accepts { (h : Header) (cs : List Chunk) (rest : List ℕ) → header_of «data».now ≡ Ok h
+        → IsWhole (pixel_count h) (drop header_size «data».now) cs rest
+        → file_byte_count h ≤ length buf.old → result ≡ Ok h }
+    ensures later { (h : Header) → header_of «data».now ≡ Ok h
+        → drop (file_byte_count h) buf.new ≡ drop (file_byte_count h) buf.old }
+    ensures untouched { (e : Error) → header_of «data».now ≡ Err e → buf.new ≡ buf.old }
+{
+    let mut decoder = Decoder::new(data)?;
+    decoder.decode_to_buf(buf)?;
+    Ok(*decoder.header())
+}
+
+/// Decodes the images of files, one after the other, from a slice or from a reader.
+///
+/// A contract sees its reader, the header, and the channels of the output.
+#[derive(Drop)]
+pub struct Decoder<R> {
+    reader: R,
+    header: Header,
+    channels: Channels,
+}
+
+impl<R> Model for Decoder<R> {
+    ghost use Rattle.qoi.specs.DecoderState.{DecoderState};
+
+    ghost Value = { DecoderState R };
+
+    ghost view = { λ d. record { reader = d.reader; header = d.header; channels = d.channels } };
+
+    ghost use Rattle.qoi.specs.Headers.{IsValid};
+
+    ghost invariant = { λ d. IsValid d.header };
+}
+
+impl<'a> Decoder<Bytes<'a>> {
+    /// A decoder of the file at the front of the bytes, whose header is decoded at once.
+    ///
+    /// The refusals are those of `decode_header`. Then `data` is what follows the header, and the
+    /// channels are the header's.
+    pub fn new(data: &'a [u8]) -> Result<Decoder<Bytes<'a>>>
+        ensures accepted { IfOk result (λ d. (header_of «data».entry.now ≡ Ok d.header)
+            × (d.channels ≡ d.header.channels) × (d.reader ≡ drop header_size «data».entry.now)) }
+        ensures refused { IfErr result (λ e. header_of «data».entry.now ≡ Err e) }
+    {
+        let mut reader = Bytes::new(data);
+        let header = reader.decode_header()?;
+        Ok(Decoder {
+            reader,
+            header,
+            channels: header.channels,
+        })
+    }
+
+    /// The undecoded tail of the bytes: after a success what follows the end marker, and after a
+    /// refusal what it was before.
+    pub fn data(&self) -> &[u8]
+        ensures { result.now ≡ self.now.reader }
+    {
+        self.reader.as_slice()
+    }
+}
+
+impl<R: Reader> Decoder<R> {
+    /// The channels of the output, which are the header's.
+    pub fn channels(&self) -> Channels
+        ensures { result ≡ self.now.channels }
+    {
+        self.channels
+    }
+
+    /// The file's header.
+    pub fn header(&self) -> &Header
+        ensures { result.now ≡ self.now.header }
+    {
+        &self.header
+    }
+
+    /// How many bytes the decoded image has: pixels times channels of the output.
+    pub fn required_buf_len(&self) -> usize
+        ensures { result ≡ image_byte_count self.now }
+    {
+        self.header.n_pixels() * self.channels.as_u8() as usize
+    }
+
+    /// Decodes an image into the front of the buffer, and answers how many bytes it has.
+    ///
+    /// Refusals, in this order: `OutputBufferTooSmall` where the buffer is shorter than
+    /// `required_buf_len`, and then nothing was read or written; `UnexpectedBufferEnd` where the
+    /// bytes end within a chunk or within the eight bytes after the chunks; `InvalidPadding` where
+    /// those eight bytes aren't the end marker. A run that gives more pixels than are left is cut
+    /// (QOI specification 1.0, "File Format" and "Data").
+    ///
+    /// After a refusal the bytes ahead, the header and the channels are as before. The first
+    /// `required_buf_len` bytes of the buffer may then be overwritten; later bytes never are.
+    pub fn decode_to_buf(&mut self, buf: &mut [u8]) -> Result<usize>
+        ensures short { length buf.old < image_byte_count self.old
+            → (result ≡ Err (Error.OutputBufferTooSmall (length buf.old) (image_byte_count self.old)))
+            × (self.new ≡ self.old) × (buf.new ≡ buf.old) }
+        ensures decoded { IfOk result (λ size. (size ≡ image_byte_count self.old)
+            × DecodesImage R.ahead self.old self.new (take size buf.new)) }
+        ensures refused { image_byte_count self.old ≤ length buf.old
+            → IfErr result (RefusesDecoding R.in_memory R.ahead self.old self.new) }
+        // From memory, bytes whose verdict is whole are accepted.
+        ensures accepts { R.in_memory ≡ true → (bytes rest : List ℕ) (cs : List Chunk)
+            → R.ahead self.old.reader ≡ Some bytes → IsWhole (pixel_count self.old.header) bytes cs rest
+            → image_byte_count self.old ≤ length buf.old → IsOk result }
+        ensures later { drop (image_byte_count self.old) buf.new ≡ drop (image_byte_count self.old) buf.old }
+        ensures kept { self.new ≡ record self.old { reader = self.new.reader } }
+    {
+        let size = self.required_buf_len();
+        if buf.len() < size {
+            return Err(Error::OutputBufferTooSmall {
+                size: buf.len(),
+                required: size,
+            });
+        }
+        let channels = self.channels.as_u8();
+        let src_channels = self.header.channels.as_u8();
+        self.reader
+            .decode_image(&mut buf[..size], channels, src_channels)?;
+        Ok(size)
     }
 }

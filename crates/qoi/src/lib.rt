@@ -8,9 +8,12 @@ mod error;
 mod header;
 mod pixel;
 #[doc(hidden)]
+pub mod laws;
+#[doc(hidden)]
 pub mod parts;
 mod types;
 
+pub use crate::decode::{Decoder, decode_header, decode_to_buf};
 pub use crate::error::{Error, Result};
 pub use crate::header::Header;
 pub use crate::types::{Channels, ColorSpace};
