@@ -105,3 +105,8 @@ RefusesFile size bytes e = (header_of bytes ≡ Err e)
     ⊎ ((h : Header) × (header_of bytes ≡ Ok h)
       × (RefusesBuffer size (file_byte_count h) e
         ⊎ ((file_byte_count h ≤ size) × RefusesBytes (pixel_count h) (drop header_size bytes) e)))
+
+-- why a file is not decoded, where the buffer is long enough: the header, then the image
+abbrev pub RefusesWholeFile : List ℕ → Error → Type 0
+RefusesWholeFile bytes e = (header_of bytes ≡ Err e)
+    ⊎ ((h : Header) × (header_of bytes ≡ Ok h) × RefusesBytes (pixel_count h) (drop header_size bytes) e)

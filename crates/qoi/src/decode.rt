@@ -1,11 +1,11 @@
 //! Decoding, from slices.
-ghost use Rattle.std.specs.Prelude.{◌≡◌, ◌≢◌, ℕ, ◌+◌, ◌*◌, ◌/◌, ◌%◌, ◌<◌, ◌≤◌, List, [], ◌++◌, length, take, drop, replicate, Option, Some, MatchOption, MatchResult, IfOk, IfErr, OnOk, OnErr, IsOk, IsSome, Bool, true, Ok, Err, refl};
+ghost use Rattle.std.specs.Prelude.{◌≡◌, ◌≢◌, ℕ, ◌+◌, ◌*◌, ◌/◌, ◌%◌, ◌<◌, ◌≤◌, List, [], ◌++◌, length, take, drop, replicate, Option, Some, MatchOption, MatchResult, IfOk, IfErr, OnOk, OnErr, IsOk, IsErrOf, IsOkUnless, IsSome, ◌⊎◌, Bool, true, Ok, Err, refl};
 ghost use Rattle.qoi.specs.declared.parts.Chunk.{Chunk};
 ghost use Rattle.qoi.specs.Pixels.{Past, rgba};
 ghost use Rattle.qoi.specs.Chunks.{IsChunk, times as chunk_times, pixel_of, then_chunk};
 ghost use Rattle.qoi.specs.Output.{IsChannels, pixel_bytes};
 ghost use Rattle.qoi.specs.Filling.{HasFilled, HasSeen};
-ghost use Rattle.qoi.specs.Decoding.{EndsInChunk, ReadsPixels, ReadsImage, ReadsHeader, RefusesMarker, RefusesBytes, RefusesImage, RefusesFile, DecodesFile, header_size, byte_count, file_byte_count};
+ghost use Rattle.qoi.specs.Decoding.{EndsInChunk, ReadsPixels, ReadsImage, ReadsHeader, RefusesMarker, RefusesBytes, RefusesImage, RefusesFile, RefusesWholeFile, DecodesFile, header_size, byte_count, file_byte_count};
 ghost use Rattle.qoi.specs.DecoderState.{image_byte_count, DecodesImage, RefusesDecoding};
 ghost use Rattle.qoi.specs.Headers.{header_of, pixel_count};
 ghost use Rattle.qoi.specs.Verdicts.{IsWhole};
@@ -19,6 +19,7 @@ use crate::header::Header;
 use crate::parts::{Chunk, read_chunk};
 use crate::pixel::Pixel;
 use crate::types::Channels;
+use std::alloc::Global;
 use std::marker::Model;
 
 // What chunks can name: the pixels that were put at the 64 index positions, and the last pixel.
@@ -300,6 +301,21 @@ pub fn decode_to_buf(buf: &mut [u8], data: &[u8]) -> Result<Header>
     Ok(*decoder.header())
 }
 
+/// Decodes a file into a vector, in the file's own channels, and answers its header too.
+///
+/// The refusals are those of `Decoder::new` and then of its `decode_to_vec`.
+pub fn decode_to_vec(alloc: Global, data: &[u8]) -> Result<(Header, Vec<u8>)>
+    ensures decoded { IfOk result (λ x. (rest : List ℕ) × DecodesFile «data».now x.0 rest x.1.items) }
+    ensures refused { IfErr result (λ e. (e ≡ Error.OutOfMemory) ⊎ RefusesWholeFile «data».now e) }
+    // Whole files are accepted, whatever follows them, unless memory runs out.
+    ensures accepts { (h : Header) (cs : List Chunk) (rest : List ℕ) → header_of «data».now ≡ Ok h
+        → IsWhole (pixel_count h) (drop header_size «data».now) cs rest → IsOkUnless result Error.OutOfMemory }
+{
+    let mut decoder = Decoder::new(data)?;
+    let out = decoder.decode_to_vec(alloc)?;
+    Ok((*decoder.header(), out))
+}
+
 /// Decodes the images of files, one after the other, from a slice or from a reader.
 ///
 /// A contract sees its reader, the header, and the channels of the output.
@@ -409,5 +425,24 @@ impl<R: Reader> Decoder<R> {
         self.reader
             .decode_image(&mut buf[..size], channels, src_channels)?;
         Ok(size)
+    }
+    /// Decodes an image into a new vector, exactly as long as `required_buf_len`.
+    ///
+    /// `OutOfMemory` where the vector's memory isn't found; it is taken before a chunk is read, so
+    /// that the decoder is then unchanged. The other refusals are those of `decode_to_buf` but for
+    /// `OutputBufferTooSmall`, with what they leave.
+    pub fn decode_to_vec(&mut self, alloc: Global) -> Result<Vec<u8>>
+        ensures decoded { IfOk result (λ out. DecodesImage R.ahead self.old self.new out.items) }
+        ensures refused { IfErr result (λ e. (e ≡ Error.OutOfMemory) ⊎ RefusesDecoding R.in_memory R.ahead self.old self.new e) }
+        ensures no_memory { IsErrOf result Error.OutOfMemory → self.new ≡ self.old }
+        // From memory, bytes whose verdict is whole are accepted, unless memory runs out.
+        ensures accepts { R.in_memory ≡ true → (bytes rest : List ℕ) (cs : List Chunk)
+            → R.ahead self.old.reader ≡ Some bytes → IsWhole (pixel_count self.old.header) bytes cs rest
+            → IsOkUnless result Error.OutOfMemory }
+        ensures kept { self.new ≡ record self.old { reader = self.new.reader } }
+    {
+        let mut out = vec![in alloc; 0u8; self.required_buf_len()]?;
+        self.decode_to_buf(&mut out)?;
+        Ok(out)
     }
 }

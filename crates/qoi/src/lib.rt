@@ -13,7 +13,7 @@ pub mod laws;
 pub mod parts;
 mod types;
 
-pub use crate::decode::{Decoder, decode_header, decode_to_buf};
+pub use crate::decode::{Decoder, decode_header, decode_to_buf, decode_to_vec};
 pub use crate::error::{Error, Result};
 pub use crate::header::Header;
 pub use crate::types::{Channels, ColorSpace};

@@ -4,6 +4,7 @@ ghost use Rattle.qoi.specs.declared.parts.Chunk.{Chunk};
 ghost use Rattle.qoi.specs.Chunks.{IsChunk, bytes_of};
 ghost use Rattle.qoi.specs.Verdicts.{IsPartOfChunk};
 
+pub use crate::decode::{Bytes, Reader};
 pub use crate::pixel::Pixel;
 
 use crate::consts::{QOI_OP_DIFF, QOI_OP_INDEX, QOI_OP_LUMA, QOI_OP_RGB, QOI_OP_RGBA, QOI_OP_RUN};
