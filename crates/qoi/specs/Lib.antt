@@ -5,5 +5,7 @@ pub mod Headers
 pub mod Meaning
 pub mod Output
 pub mod Pixels
+pub mod Raw
 pub mod Types
 pub mod Verdicts
+pub mod Written
