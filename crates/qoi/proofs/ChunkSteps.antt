@@ -1,13 +1,13 @@
 -- Steps through a chunk list: runs and other chunks, the pixels in order, and lists joined end to end.
-use Rattle.std.proofs.Common.{◌≡◌, ◌≢◌, ◌⊎◌, inl, inr, ℕ, zero, suc, ◌+◌, ◌<◌, ◌≤◌, Bool, true, false, List, [], ◌∷◌, ◌++◌, length, reverse, replicate, refl, sym, ap, ◌∙◌, arith, append_assoc, append-nil}
-use Rattle.std.proofs.lemmas.List.{reverse-reverse, reverse-append, length-replicate, length-append, length-reverse, replicate-append-replicate}
+use Rattle.std.proofs.Common.{◌≡◌, ◌⊎◌, inl, inr, ℕ, zero, suc, ◌+◌, ◌<◌, Bool, true, false, List, [], ◌∷◌, ◌++◌, length, reverse, replicate, refl, ap, ◌∙◌, arith, append_assoc, append-nil}
+use Rattle.std.proofs.lemmas.List.{reverse-reverse, reverse-append, length-append, length-reverse, replicate-append-replicate}
 use Rattle.std.proofs.lemmas.Bool.{true≢false}
 use Rattle.qoi.specs.declared.parts.Chunk.{Chunk}
 use Rattle.qoi.specs.declared.parts.Chunk.TheVariants.{Place, Diff, Luma, Run, Rgb, Rgba}
-use Rattle.qoi.specs.Pixels.{RgbaPixel, Past, previous}
-use Rattle.qoi.specs.Chunks.{IsChunk, AreChunks, pixel_of, times, then_chunk}
+use Rattle.qoi.specs.Pixels.{RgbaPixel, Past}
+use Rattle.qoi.specs.Chunks.{IsChunk, pixel_of, times, then_chunk}
 use Rattle.qoi.specs.Meaning.{then_chunks, meaning, Each}
-use Rattle.qoi.specs.Written.{GivesFresh, IsRightAfter, IsFull, RunsAreFull}
+use Rattle.qoi.specs.Written.{GivesFresh, IsRightAfter, IsFull}
 
 -- the chunk is a run
 abbrev pub is_run : Chunk → Bool

@@ -1,16 +1,16 @@
 -- How a written list grows at its end, pixel by pixel, with a run that waits.
-use Rattle.std.proofs.Common.{◌≡◌, ◌≢◌, ◌⊎◌, inl, inr, ⊎_elim, ℕ, zero, suc, ◌+◌, ◌<◌, ◌≤◌, Bool, true, false, List, [], ◌∷◌, ◌++◌, length, reverse, replicate, refl, sym, ap, ◌∙◌, arith, append_assoc, append-nil}
-use Rattle.std.proofs.lemmas.List.{reverse-append, reverse-reverse}
+use Rattle.std.proofs.Common.{◌≡◌, ◌≢◌, inl, inr, ℕ, zero, suc, ◌<◌, false, List, [], ◌∷◌, ◌++◌, reverse, refl, sym, ap, ◌∙◌, arith, append_assoc}
+use Rattle.std.proofs.lemmas.List.{reverse-append}
 use Rattle.std.specs.List.{AllByRecursion}
 use Rattle.qoi.specs.declared.parts.Chunk.{Chunk}
 use Rattle.qoi.specs.declared.parts.Chunk.TheVariants.{Place, Diff, Luma, Run, Rgb, Rgba}
-use Rattle.qoi.specs.Pixels.{RgbaPixel, Past, previous, seen, hash}
+use Rattle.qoi.specs.Pixels.{RgbaPixel, Past, previous, hash}
 use Rattle.qoi.specs.Chunks.{IsChunk, AreChunks, pixel_of, then_chunk}
-use Rattle.qoi.specs.Meaning.{then_chunks, meaning, Each}
-use Rattle.qoi.specs.Written.{rank, noted, IsFirst, IsChoice, GivesFresh, IsRightAfter, IsFull, RunsAreFull, WrittenBy, Written}
+use Rattle.qoi.specs.Meaning.{then_chunks, Each}
+use Rattle.qoi.specs.Written.{rank, noted, IsChoice, IsRightAfter, IsFull, RunsAreFull, WrittenBy}
 use Rattle.qoi.proofs.SamePixels.{cases_pixel}
 use Rattle.qoi.proofs.NotedPixels.{noted_seen}
-use Rattle.qoi.proofs.ChunkSteps.{is_run, cases_run, right_from, full_other, full_before, then_other, then_chunks-append, each_append}
+use Rattle.qoi.proofs.ChunkSteps.{is_run, right_from, full_other, full_before, then_other, then_chunks-append, each_append}
 
 -- what holds of each of two lists holds of each of both
 pub all_append : {A : Type 0} (P : A → Type 0) (xs ys : List A) → AllByRecursion P xs → AllByRecursion P ys → AllByRecursion P (xs ++ ys)
@@ -172,15 +172,17 @@ spells_other (Rgba r g b a) h = refl
 
 -- the chosen chunk of a fresh pixel gives it
 pub choice_gives : (past : Past) (p : RgbaPixel) (c : Chunk) → IsChoice past p c → pixel_of past c ≡ p
-choice_gives past p c w = elim (cases_pixel (noted past (hash p)) p) as (λ _. pixel_of past c ≡ p)
-  [ inl is ↦ rw (w.place is) (noted_seen past p is)
-  | inr other ↦ (w.spelled other).gives ]
+choice_gives past p c w = elim (cases_pixel (noted past (hash p)) p) as (λ _. pixel_of past c ≡ p) [
+  | inl is ↦ rw (w.place is) (noted_seen past p is)
+  | inr other ↦ (w.spelled other).gives
+]
 
 -- and is no run
 pub choice_other : (past : Past) (p : RgbaPixel) (c : Chunk) → IsChoice past p c → is_run c ≡ false
-choice_other past p c w = elim (cases_pixel (noted past (hash p)) p) as (λ _. is_run c ≡ false)
-  [ inl is ↦ rw (w.place is) refl
-  | inr other ↦ spells_other c (w.spelled other).spells ]
+choice_other past p c w = elim (cases_pixel (noted past (hash p)) p) as (λ _. is_run c ≡ false) [
+  | inl is ↦ rw (w.place is) refl
+  | inr other ↦ spells_other c (w.spelled other).spells
+]
 
 -- a fresh pixel's chosen chunk is written
 pub coding_chosen : (past : Past) (cs : List Chunk) (p : RgbaPixel) (c : Chunk) → Coded IsChoice past cs → p ≢ previous past → IsChunk c → IsChoice past p c → Coding IsChoice (p ∷ past) 0 (cs ++ c ∷ [])

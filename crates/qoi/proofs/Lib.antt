@@ -2,7 +2,9 @@ pub mod ChunkSteps
 pub mod Coding
 pub mod NotedPixels
 pub mod PartOfChunk
+pub mod RawPixels
 pub mod SamePixels
 pub mod Spelled
 pub mod WrittenExists
 pub mod WrittenOnce
+pub mod WrittenShape

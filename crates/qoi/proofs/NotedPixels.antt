@@ -1,6 +1,6 @@
 -- What is noted at an index position: how it changes, and that it is seen there too.
-use Rattle.std.proofs.Common.{◌≡◌, ◌≢◌, ◌⊎◌, inl, inr, ⊎_elim, ℕ, Bool, true, false, cond, eqb, List, [], ◌∷◌, ◌++◌, replicate, zero, suc, ◌==◌, if◌then◌else◌, refl, sym, ap, ◌∙◌, arith}
-use Rattle.std.proofs.lemmas.Bool.{cond-true, cond-false, eq-eqb, eqb-true, ne_eqb, cases_eq, true≢false}
+use Rattle.std.proofs.Common.{◌≡◌, ◌≢◌, ◌⊎◌, inl, inr, ℕ, eqb, [], ◌∷◌, ◌==◌, if◌then◌else◌, refl, sym, ap, ◌∙◌, arith}
+use Rattle.std.proofs.lemmas.Bool.{cond-true, cond-false, eq-eqb, ne_eqb, cases_eq}
 use Rattle.qoi.specs.Pixels.{RgbaPixel, Past, pixel_eq, start, blank, hash, previous, seen}
 use Rattle.qoi.specs.Written.{fresh, noted}
 use Rattle.qoi.proofs.SamePixels.{pixel_eq-from, pixel_eq-ne, cases_pixel}
@@ -53,6 +53,7 @@ noted_seen (q ∷ past) p e = go (cases_pixel q (previous past)) (cases_eq (hash
         absurd (omega arith)
     first_repeat (r ∷ past) is same noted_is seen_is =
         is ∙ sym (seen_same past r (hash p) (ap hash (sym is) ∙ same)) ∙ seen_is
+
     go : (q ≡ previous past) ⊎ (q ≢ previous past) → (hash q ≡ hash p) ⊎ (hash q ≢ hash p) → (noted past (hash p) ≡ p → seen past (hash p) ≡ p) → seen (q ∷ past) (hash p) ≡ p
     go (inl is) (inl same) h =
         let n : noted past (hash p) ≡ p = sym (noted_repeat past q (hash p) is) ∙ e in

@@ -1,10 +1,10 @@
 -- The first chunk that spells a pixel out, by the differences of bytes that an encoder computes.
-use Rattle.std.proofs.Common.{◌≡◌, ◌≢◌, ◌⊎◌, inl, inr, ⊎_elim, ℕ, ◌+◌, ◌-◌, ◌*◌, ◌/◌, ◌%◌, ◌<◌, ◌≤◌, refl, sym, ap, ◌∙◌, arith}
-use Rattle.std.proofs.lemmas.Bool.{cases_lt, cases_eq}
+use Rattle.std.proofs.Common.{◌≡◌, ◌≢◌, ⊎_elim, ℕ, ◌+◌, ◌-◌, ◌*◌, ◌/◌, ◌%◌, ◌<◌, ◌≤◌, refl, sym, ap, arith}
+use Rattle.std.proofs.lemmas.Bool.{cases_lt}
 use Rattle.qoi.specs.declared.parts.Chunk.{Chunk}
 use Rattle.qoi.specs.declared.parts.Chunk.TheVariants.{Place, Diff, Luma, Run, Rgb, Rgba}
-use Rattle.qoi.specs.Pixels.{RgbaPixel, IsPixel, Past, pixel, previous}
-use Rattle.qoi.specs.Chunks.{IsChunk, pixel_of, after_diff, after_luma, moved}
+use Rattle.qoi.specs.Pixels.{RgbaPixel, IsPixel, Past, previous}
+use Rattle.qoi.specs.Chunks.{IsChunk, pixel_of, after_diff, after_luma}
 use Rattle.qoi.specs.Written.{rank, IsFirst}
 use Rattle.qoi.proofs.SamePixels.{same_pixel}
 
@@ -88,10 +88,10 @@ unfolding after_diff
 diff_gives q p iq ip alpha f =
     let k = diff_bits q p f in
     same_pixel _ p
-      (diff_back p.r q.r _ ip.r iq.r k.0)
-      (diff_back p.g q.g _ ip.g iq.g k.1)
-      (diff_back p.b q.b _ ip.b iq.b k.2)
-      (sym alpha)
+    (diff_back p.r q.r _ ip.r iq.r k.0)
+    (diff_back p.g q.g _ ip.g iq.g k.1)
+    (diff_back p.b q.b _ ip.b iq.b k.2)
+    (sym alpha)
 
 -- where the differences fit, the Luma gives the pixel
 pub luma_gives : (q p : RgbaPixel) → IsPixel q → IsPixel p → p.a ≡ q.a → FitsLuma q p → after_luma q (luma_byte q p) (luma_second q p) ≡ p
@@ -99,10 +99,10 @@ unfolding after_luma
 luma_gives q p iq ip alpha f =
     let k = luma_bits q p f in
     same_pixel _ p
-      (luma_back p.r q.r p.g q.g _ _ ip.r iq.r ip.g iq.g k.0 k.1)
-      (green_back p.g q.g _ ip.g iq.g k.0)
-      (luma_back p.b q.b p.g q.g _ _ ip.b iq.b ip.g iq.g k.0 k.2)
-      (sym alpha)
+    (luma_back p.r q.r p.g q.g _ _ ip.r iq.r ip.g iq.g k.0 k.1)
+    (green_back p.g q.g _ ip.g iq.g k.0)
+    (luma_back p.b q.b p.g q.g _ _ ip.b iq.b ip.g iq.g k.0 k.2)
+    (sym alpha)
 
 -- where a Diff gives the pixel, the differences fit
 pub fits_from_diff : (q p : RgbaPixel) (d : ℕ) → IsPixel q → after_diff q d ≡ p → FitsDiff q p

@@ -1,14 +1,14 @@
 -- An image has at most one written list, whatever the choice of a chunk, if the choice is of one chunk.
-use Rattle.std.proofs.Common.{◌≡◌, ◌≢◌, ◌⊎◌, inl, inr, ⊎_elim, ℕ, zero, suc, ◌+◌, ◌-◌, Bool, true, false, ◌/◌, ◌%◌, ◌<◌, ◌≤◌, List, [], ◌∷◌, ◌++◌, length, reverse, replicate, refl, sym, ap, ◌∙◌, arith, append_assoc, append-nil}
-use Rattle.std.proofs.lemmas.List.{append_cancel_left, reverse-reverse, reverse-append, length-replicate, length-append, length-reverse, replicate-append-replicate}
+use Rattle.std.proofs.Common.{◌≡◌, ◌⊎◌, inl, inr, ℕ, zero, suc, ◌+◌, ◌-◌, false, ◌/◌, ◌%◌, ◌<◌, ◌≤◌, List, [], ◌∷◌, ◌++◌, length, replicate, refl, sym, ap, ◌∙◌, arith, append_assoc}
+use Rattle.std.proofs.lemmas.List.{append_cancel_left, length-replicate, length-append, replicate-append-replicate}
 use Rattle.qoi.specs.declared.parts.Chunk.{Chunk}
 use Rattle.qoi.specs.declared.parts.Chunk.TheVariants.{Place, Diff, Luma, Run, Rgb, Rgba}
-use Rattle.qoi.specs.Pixels.{RgbaPixel, Past, pixel, pixel_eq, previous, seen, hash}
-use Rattle.qoi.specs.Chunks.{IsChunk, AreChunks, pixel_of, times, then_chunk, after_diff, after_luma, moved}
-use Rattle.qoi.specs.Meaning.{then_chunks, meaning, Each}
-use Rattle.qoi.specs.Written.{fresh, noted, rank, IsFirst, IsChoice, GivesFresh, IsRightAfter, IsFull, RunsAreFull, WrittenBy, Written}
+use Rattle.qoi.specs.Pixels.{RgbaPixel, Past, previous, hash}
+use Rattle.qoi.specs.Chunks.{IsChunk, AreChunks, pixel_of, times, then_chunk, after_diff, after_luma}
+use Rattle.qoi.specs.Meaning.{Each}
+use Rattle.qoi.specs.Written.{noted, rank, IsFirst, IsChoice, GivesFresh, IsRightAfter, IsFull, RunsAreFull, WrittenBy, Written}
 use Rattle.qoi.proofs.SamePixels.{cases_pixel}
-use Rattle.qoi.proofs.ChunkSteps.{is_run, cases_run, times_other, right_other, times_some, given, meaning_given, then_other}
+use Rattle.qoi.proofs.ChunkSteps.{is_run, cases_run, times_other, right_other, times_some, given, meaning_given}
 
 -- two differences that give one pixel are one
 pub diff_unique : (q : RgbaPixel) (d e : ℕ) → 64 ≤ d → d < 128 → 64 ≤ e → e < 128 → after_diff q d ≡ after_diff q e → d ≡ e
@@ -92,7 +92,7 @@ module _ (Choice : Past → RgbaPixel → Chunk → Type 0) where
   no_longer : (past : Past) (m k : ℕ) (cs : List Chunk) (more : List RgbaPixel) → 0 < m → m + suc k ≤ 62 → AreChunks cs → Each (IsRightAfter Choice) (then_chunk past (Run m)) cs → IsFull (Run m) cs → given past (Run m ∷ cs) ≡ replicate (m + suc k) (previous past) ++ more → ⊥
   no_longer past m k cs more h l a r f e =
       let s : replicate m (previous past) ++ given (then_chunk past (Run m)) cs ≡ replicate m (previous past) ++ (replicate (suc k) (previous past) ++ more)
-            = e ∙ ap (λ x. x ++ more) (sym (replicate-append-replicate m (suc k) (previous past))) ∙ append_assoc (replicate m (previous past)) (replicate (suc k) (previous past)) more in
+      = e ∙ ap (λ x. x ++ more) (sym (replicate-append-replicate m (suc k) (previous past))) ∙ append_assoc (replicate m (previous past)) (replicate (suc k) (previous past)) more in
       follows_run past m cs (replicate k (previous past) ++ more) h (omega arith) a r f (append_cancel_left _ _ _ s)
 
   -- of two lists that give the same neither begins with a run longer by any length
@@ -100,7 +100,7 @@ module _ (Choice : Past → RgbaPixel → Chunk → Type 0) where
   not_longer past m n cs ds h l a r f e less =
       let k : n ≡ m + suc (n - suc m) = omega arith in
       no_longer past m (n - suc m) cs (given (then_chunk past (Run n)) ds) h (omega arith) a r f
-          (e ∙ ap (λ x. replicate x (previous past) ++ given (then_chunk past (Run n)) ds) k)
+      (e ∙ ap (λ x. replicate x (previous past) ++ given (then_chunk past (Run n)) ds) k)
 
   -- two lists that give the same begin alike
   same_head : (unique : (past : Past) (p : RgbaPixel) (c d : Chunk) → IsChunk c → IsChunk d → Choice past p c → Choice past p d → c ≡ d) → (past : Past) (c : Chunk) (cs : List Chunk) (d : Chunk) (ds : List Chunk) → AreChunks (c ∷ cs) → AreChunks (d ∷ ds) → Each (IsRightAfter Choice) past (c ∷ cs) → Each (IsRightAfter Choice) past (d ∷ ds) → RunsAreFull (c ∷ cs) → RunsAreFull (d ∷ ds) → given past (c ∷ cs) ≡ given past (d ∷ ds) → c ≡ d
@@ -109,11 +109,13 @@ module _ (Choice : Past → RgbaPixel → Chunk → Type 0) where
       run_first : (n : ℕ) (x : Chunk) (xs ys : List Chunk) → IsChunk (Run n) → is_run x ≡ false → GivesFresh Choice past x → given past (Run n ∷ ys) ≡ given past (x ∷ xs) → ⊥
       run_first zero x xs ys i h g e = absurd (omega arith)
       run_first (suc n) x xs ys i h g e = g.is_fresh (sym (same_first _ _ _ _ (e ∙ given_other past x xs h)))
+
       runs : (m n : ℕ) → AreChunks (Run m ∷ cs) → AreChunks (Run n ∷ ds) → Each (IsRightAfter Choice) past (Run m ∷ cs) → Each (IsRightAfter Choice) past (Run n ∷ ds) → RunsAreFull (Run m ∷ cs) → RunsAreFull (Run n ∷ ds) → given past (Run m ∷ cs) ≡ given past (Run n ∷ ds) → m ≡ n
       runs m n ac ad rc rd fc fd e =
           let up = not_longer past m n cs ds ac.0.0 ad.0.1 ac.1 rc.1 fc.0 e in
           let down = not_longer past n m ds cs ad.0.0 ac.0.1 ad.1 rd.1 fd.0 (sym e) in
           grind (arith, up, down)
+
       go : (c d : Chunk) → ((n : ℕ) × (c ≡ Run n)) ⊎ (is_run c ≡ false) → ((n : ℕ) × (d ≡ Run n)) ⊎ (is_run d ≡ false) → AreChunks (c ∷ cs) → AreChunks (d ∷ ds) → Each (IsRightAfter Choice) past (c ∷ cs) → Each (IsRightAfter Choice) past (d ∷ ds) → RunsAreFull (c ∷ cs) → RunsAreFull (d ∷ ds) → given past (c ∷ cs) ≡ given past (d ∷ ds) → c ≡ d
       go c d (inl (m, is)) (inl (n, too)) ac ad rc rd fc fd e =
           is ∙ ap (λ (x : ℕ). Run x) (runs m n (rw is at ac) (rw too at ad) (rw is at rc) (rw too at rd) (rw is at fc) (rw too at fd) (rw (is, too) at e)) ∙ sym too
@@ -141,14 +143,15 @@ module _ (Choice : Past → RgbaPixel → Chunk → Type 0) where
   pub unique_by : (unique : (past : Past) (p : RgbaPixel) (c d : Chunk) → IsChunk c → IsChunk d → Choice past p c → Choice past p d → c ≡ d) → (image : List RgbaPixel) (cs ds : List Chunk) → WrittenBy Choice image cs → WrittenBy Choice image ds → cs ≡ ds
   unique_by unique image cs ds w v =
       same_given unique [] cs ds w.chunks v.chunks w.right v.right w.full v.full
-          (sym (meaning_given cs) ∙ w.means ∙ sym v.means ∙ meaning_given ds)
+      (sym (meaning_given cs) ∙ w.means ∙ sym v.means ∙ meaning_given ds)
 
 -- the choice of a fresh pixel's chunk is of one chunk
 pub choice_unique : (past : Past) (p : RgbaPixel) (c d : Chunk) → IsChunk c → IsChunk d → IsChoice past p c → IsChoice past p d → c ≡ d
 choice_unique past p c d ic id f g =
-    elim (cases_pixel (noted past (hash p)) p) as (λ _. c ≡ d)
-      [ inl is ↦ f.place is ∙ sym (g.place is)
-      | inr differs ↦ first_unique past p c d ic id (f.spelled differs) (g.spelled differs) ]
+    elim (cases_pixel (noted past (hash p)) p) as (λ _. c ≡ d) [
+      | inl is ↦ f.place is ∙ sym (g.place is)
+      | inr differs ↦ first_unique past p c d ic id (f.spelled differs) (g.spelled differs)
+    ]
 
 -- an image has one written list
 pub written_unique : (image : List RgbaPixel) (cs ds : List Chunk) → Written image cs → Written image ds → cs ≡ ds

@@ -6,6 +6,8 @@ pub mod consts;
 mod error;
 mod header;
 #[doc(hidden)]
+pub mod laws;
+#[doc(hidden)]
 pub mod parts;
 mod types;
 
