@@ -1,5 +1,6 @@
 pub mod ChunkSteps
 pub mod Coding
+pub mod Costs
 pub mod NotedPixels
 pub mod PartOfChunk
 pub mod RawPixels

@@ -6,6 +6,8 @@ pub mod Meaning
 pub mod Output
 pub mod Pixels
 pub mod Raw
+pub mod Regular
+pub mod Shortest
 pub mod Types
 pub mod Verdicts
 pub mod Written
