@@ -1,6 +1,7 @@
 pub mod ChunkSteps
 pub mod Coding
 pub mod Costs
+pub mod Lower
 pub mod NotedPixels
 pub mod PartOfChunk
 pub mod RawPixels
