@@ -6,6 +6,7 @@ pub mod NotedPixels
 pub mod PartOfChunk
 pub mod RawPixels
 pub mod SamePixels
+pub mod SlackSteps
 pub mod Spelled
 pub mod WrittenExists
 pub mod WrittenOnce
