@@ -8,6 +8,7 @@ pub mod RawPixels
 pub mod SamePixels
 pub mod SlackSteps
 pub mod Spelled
+pub mod Upper
 pub mod WrittenExists
 pub mod WrittenOnce
 pub mod WrittenShape

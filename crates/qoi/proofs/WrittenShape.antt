@@ -61,13 +61,13 @@ no_rgba past r g b a i e f =
     omega arith
 
 -- pixels before chunks have as many channels as those after them
-channels_before : (channels : ℕ) (past : Past) (cs : List Chunk) → HasChannels (then_chunks past cs) channels → HasChannels past channels
+pub channels_before : (channels : ℕ) (past : Past) (cs : List Chunk) → HasChannels (then_chunks past cs) channels → HasChannels past channels
 channels_before channels past cs (inl e) = inl e
 channels_before channels past cs (inr (e, h)) = inr (e, opaque_before past cs h)
 
 module _ (Choice : Past → RgbaPixel → Chunk → Type 0) (rgba_first : (past : Past) (r g b a : ℕ) → Choice past (pixel_of past (Rgba r g b a)) (Rgba r g b a) → IsFirst past (pixel_of past (Rgba r g b a)) (Rgba r g b a)) where
   -- a chunk has at most a byte more than its pixels' raw bytes, for each of them
-  chunk_fits : (channels : ℕ) (past : Past) (c : Chunk) → IsChunk c → HasChannels (then_chunk past c) channels → IsRightAfter Choice past c → length (bytes_of c) ≤ times c * channels + times c
+  pub chunk_fits : (channels : ℕ) (past : Past) (c : Chunk) → IsChunk c → HasChannels (then_chunk past c) channels → IsRightAfter Choice past c → length (bytes_of c) ≤ times c * channels + times c
   chunk_fits channels past (Place i) k h r = omega arith
   chunk_fits channels past (Diff d) k h r = omega arith
   chunk_fits channels past (Luma d e) k (inl s) r = omega arith
@@ -105,7 +105,7 @@ module _ (Choice : Past → RgbaPixel → Chunk → Type 0) (rgba_first : (past 
       back (inr s) = inr (s.0, rw past_is at (all_reverse (λ p. p.a ≡ 255) image s.1))
 
 -- an Rgba that is chosen is the first that spells its pixel out
-choice_rgba : (past : Past) (r g b a : ℕ) → IsChoice past (pixel_of past (Rgba r g b a)) (Rgba r g b a) → IsFirst past (pixel_of past (Rgba r g b a)) (Rgba r g b a)
+pub choice_rgba : (past : Past) (r g b a : ℕ) → IsChoice past (pixel_of past (Rgba r g b a)) (Rgba r g b a) → IsFirst past (pixel_of past (Rgba r g b a)) (Rgba r g b a)
 choice_rgba past r g b a w = elim (cases_pixel (noted past (hash (pixel_of past (Rgba r g b a)))) (pixel_of past (Rgba r g b a))) as (λ _. IsFirst past (pixel_of past (Rgba r g b a)) (Rgba r g b a)) [
   | inl is ↦ absurd (let e = w.place is in cc)
   | inr n ↦ w.spelled n
