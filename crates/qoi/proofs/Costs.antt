@@ -1,26 +1,27 @@
 -- What a pixel costs: the shortest chunk of a fresh one, and a run of repeats.
-use Rattle.std.proofs.Common.{◌≡◌, ◌≢◌, ◌⊎◌, inl, inr, ⊎_elim, ℕ, zero, suc, ◌+◌, ◌-◌, ◌*◌, ◌/◌, ◌%◌, ◌<◌, ◌≤◌, Bool, true, false, ◌||◌, cond, eqb, List, [], ◌∷◌, ◌++◌, length, replicate, refl, sym, ap, ◌∙◌, le_of_eq, arith}
-use Rattle.std.proofs.lemmas.Bool.{or_cases, or_from, or_left, or_right, or_parts, cond-true, cond-false, cond_both, true≢false, false_from_ne_true, cases_order, cases_eq, eq-eqb, ne_eqb, eqb-true, eqb-false, cases_Bool}
-use Rattle.qoi.specs.declared.parts.Chunk.{Chunk}
-use Rattle.qoi.specs.declared.parts.Chunk.TheVariants.{Place, Diff, Luma, Run, Rgb, Rgba}
-use Rattle.qoi.specs.Pixels.{RgbaPixel, Past, pixel, pixel_eq, previous, seen, hash}
-use Rattle.qoi.specs.Chunks.{IsChunk, pixel_of, bytes_of, after_diff, after_luma, then_chunk}
+use Rattle.std.proofs.Common.{◌≡◌, ◌≢◌, inl, inr, ℕ, zero, suc, ◌+◌, ◌-◌, ◌/◌, ◌%◌, ◌<◌, ◌≤◌, Bool, true, false, ◌||◌, cond, eqb, ◌∷◌, ◌++◌, replicate, refl, sym, le_of_eq, arith}
+use Rattle.std.proofs.lemmas.Bool.{or_cases, or_left, or_right, cond-true, cond-false, cond_both, true≢false, cases_eq, eq-eqb, eqb-true, eqb-false}
+use Rattle.qoi.specs.declared.parts.Chunk.TheVariants.{Diff, Luma}
+use Rattle.qoi.specs.Pixels.{RgbaPixel, Past, pixel_eq, previous, seen, hash}
+use Rattle.qoi.specs.Chunks.{IsChunk, after_diff, after_luma}
 use Rattle.qoi.specs.Shortest.{some_below, some_diff, some_luma, some_rgb, least, repeats, cost, total_cost}
 use Rattle.qoi.proofs.SamePixels.{pixel_eq-from, pixel_eq-true, pixel_eq-ne}
 
 -- a number that passes shows that some does
 some_below-from : (n : ℕ) (test : ℕ → Bool) (d : ℕ) → d < n → test d ≡ true → some_below n test ≡ true
 some_below-from zero test d l h = absurd (omega arith)
-some_below-from (suc n) test d l h = elim (cases_eq d n) as (λ _. (test n || some_below n test) ≡ true)
-  [ inl e ↦ or_left _ _ (rw e at h)
-  | inr other ↦ or_right _ _ (some_below-from n test d (omega arith) h) ]
+some_below-from (suc n) test d l h = elim (cases_eq d n) as (λ _. (test n || some_below n test) ≡ true) [
+  | inl e ↦ or_left _ _ (rw e at h)
+  | inr other ↦ or_right _ _ (some_below-from n test d (omega arith) h)
+]
 
 -- where some number passes there is one
 some_below-true : (n : ℕ) (test : ℕ → Bool) → some_below n test ≡ true → (d : ℕ) × (d < n) × (test d ≡ true)
 some_below-true zero test h = absurd (true≢false (sym h))
-some_below-true (suc n) test h = elim (or_cases (test n) (some_below n test) h) as (λ _. (d : ℕ) × (d < suc n) × (test d ≡ true))
-  [ inl e ↦ (n, omega arith, e)
-  | inr e ↦ let w = some_below-true n test e in (w.0, let l = w.1 in omega arith, w.2) ]
+some_below-true (suc n) test h = elim (or_cases (test n) (some_below n test) h) as (λ _. (d : ℕ) × (d < suc n) × (test d ≡ true)) [
+  | inl e ↦ (n, omega arith, e)
+  | inr e ↦ let w = some_below-true n test e in (w.0, let l = w.1 in omega arith, w.2)
+]
 
 -- a Diff that gives the pixel shows that some does
 pub some_diff-from : (q p : RgbaPixel) (d : ℕ) → IsChunk (Diff d) → after_diff q d ≡ p → some_diff q p ≡ true
@@ -43,7 +44,7 @@ unfolding some_luma
 some_luma-from q p d e i s =
     let k : 128 + (d - 128) ≡ d = omega arith in
     some_below-from 64 (λ d. some_below 256 (λ e. pixel_eq (after_luma q (128 + d) e) p)) (d - 128) (omega arith)
-        (some_below-from 256 (λ e. pixel_eq (after_luma q (128 + (d - 128)) e) p) e i.2 (rw k (pixel_eq-from _ p s)))
+    (some_below-from 256 (λ e. pixel_eq (after_luma q (128 + (d - 128)) e) p) e i.2 (rw k (pixel_eq-from _ p s)))
 
 -- where some Luma gives the pixel there is one
 pub some_luma-true : (q p : RgbaPixel) → some_luma q p ≡ true → (d e : ℕ) × IsChunk (Luma d e) × (after_luma q d e ≡ p)

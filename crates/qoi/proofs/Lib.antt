@@ -5,6 +5,7 @@ pub mod Lower
 pub mod NotedPixels
 pub mod PartOfChunk
 pub mod RawPixels
+pub mod RegularLists
 pub mod SamePixels
 pub mod SlackSteps
 pub mod Spelled

@@ -1,11 +1,11 @@
 -- No regular chunk list of an image has fewer bytes than its pixels cost.
-use Rattle.std.proofs.Common.{◌≡◌, ◌≢◌, ◌⊎◌, inl, inr, ⊎_elim, ℕ, zero, suc, ◌+◌, ◌*◌, ◌/◌, ◌%◌, ◌<◌, ◌≤◌, Bool, true, false, cond, eqb, List, [], ◌∷◌, ◌++◌, length, reverse, replicate, refl, sym, ap, ◌∙◌, arith, append_assoc}
+use Rattle.std.proofs.Common.{◌≡◌, ◌⊎◌, inl, inr, ℕ, ◌+◌, ◌%◌, ◌<◌, ◌≤◌, false, eqb, List, [], ◌∷◌, ◌++◌, length, reverse, refl, sym, ap, ◌∙◌, arith}
 use Rattle.std.proofs.lemmas.Bool.{cond_both}
 use Rattle.std.proofs.lemmas.List.{length-append, reverse-append, reverse-reverse}
 use Rattle.qoi.specs.declared.parts.Chunk.{Chunk}
 use Rattle.qoi.specs.declared.parts.Chunk.TheVariants.{Place, Diff, Luma, Run, Rgb, Rgba}
-use Rattle.qoi.specs.Pixels.{RgbaPixel, Past, previous, seen, hash}
-use Rattle.qoi.specs.Chunks.{IsChunk, AreChunks, pixel_of, times, bytes_of, text, then_chunk}
+use Rattle.qoi.specs.Pixels.{RgbaPixel, Past, previous, seen}
+use Rattle.qoi.specs.Chunks.{IsChunk, AreChunks, pixel_of, bytes_of, text, then_chunk}
 use Rattle.qoi.specs.Meaning.{then_chunks, meaning, Each}
 use Rattle.qoi.specs.Regular.{NamesWritten, Regular, Begins}
 use Rattle.qoi.specs.Shortest.{least, repeats, cost, total_cost, floor}
@@ -39,9 +39,10 @@ cost_front shortest (p ∷ more) past = let h = cost_front shortest more past in
 module _ (shortest : Past → RgbaPixel → ℕ) (Allowed : Past → Chunk → Type 0) (bounds : (past : Past) (c : Chunk) → IsChunk c → Allowed past c → is_run c ≡ false → shortest past (pixel_of past c) ≤ length (bytes_of c)) where
   -- a pixel costs no more than a chunk that gives it
   cost_other : (past : Past) (c : Chunk) → IsChunk c → Allowed past c → is_run c ≡ false → cost shortest past (pixel_of past c) ≤ length (bytes_of c)
-  cost_other past c k a o = elim (cases_pixel (pixel_of past c) (previous past)) as (λ _. cost shortest past (pixel_of past c) ≤ length (bytes_of c))
-    [ inl e ↦ rw (cost_repeat shortest past (pixel_of past c) e) (cond_both (eqb (repeats past % 62) 0) 1 0 (λ x. x ≤ length (bytes_of c)) (λ _. bytes_some c) (λ _. omega arith))
-    | inr n ↦ rw (cost_fresh shortest past (pixel_of past c) n) (bounds past c k a o) ]
+  cost_other past c k a o = elim (cases_pixel (pixel_of past c) (previous past)) as (λ _. cost shortest past (pixel_of past c) ≤ length (bytes_of c)) [
+    | inl e ↦ rw (cost_repeat shortest past (pixel_of past c) e) (cond_both (eqb (repeats past % 62) 0) 1 0 (λ x. x ≤ length (bytes_of c)) (λ _. bytes_some c) (λ _. omega arith))
+    | inr n ↦ rw (cost_fresh shortest past (pixel_of past c) n) (bounds past c k a o)
+  ]
 
   -- the pixels that a chunk gives cost no more than it
   cost_chunk : (past : Past) (c : Chunk) → IsChunk c → Allowed past c → total_cost shortest (then_chunk past c) ≤ total_cost shortest past + length (bytes_of c)

@@ -1,11 +1,11 @@
 -- Where the seen and the noted pixel differ, and how the slack grows there.
-use Rattle.std.proofs.Common.{◌≡◌, ◌≢◌, ◌⊎◌, inl, inr, ⊎_elim, ℕ, zero, suc, ◌+◌, ◌<◌, ◌≤◌, Bool, true, false, ◌&&◌, cond, eqb, List, [], ◌∷◌, ◌++◌, length, reverse, replicate, Option, None, Some, slice_get, refl, sym, ap, ◌∙◌, arith, append_assoc}
+use Rattle.std.proofs.Common.{◌≡◌, ◌≢◌, ◌⊎◌, inl, inr, ℕ, zero, suc, ◌+◌, ◌≤◌, Bool, true, ◌&&◌, cond, eqb, List, [], ◌∷◌, ◌++◌, reverse, replicate, Option, None, Some, slice_get, refl, sym, ap, ◌∙◌, arith}
 use Rattle.std.specs.List.{find}
 use Rattle.std.specs.Option.{option_or}
-use Rattle.std.proofs.lemmas.Bool.{cond_both, cond-true, cond-false, and_parts, and_from, and_right, true≢false, cases_Bool, eq-eqb, ne_eqb, eqb-true, cases_eq}
+use Rattle.std.proofs.lemmas.Bool.{cond_both, cond-true, cond-false, and_parts, and_from, and_right, true≢false, cases_Bool, eq-eqb, ne_eqb, cases_eq}
 use Rattle.std.proofs.lemmas.List.{reverse-append, reverse-reverse}
 use Rattle.std.proofs.lemmas.List.Folds.{find-append}
-use Rattle.qoi.specs.Pixels.{RgbaPixel, Past, pixel_eq, start, blank, previous, seen, hash}
+use Rattle.qoi.specs.Pixels.{RgbaPixel, Past, start, previous, seen, hash}
 use Rattle.qoi.specs.Written.{fresh, noted}
 use Rattle.qoi.specs.Shortest.{is_start, slack}
 use Rattle.qoi.proofs.SamePixels.{cases_pixel, pixel_eq-same, pixel_eq-from}
@@ -53,18 +53,20 @@ is_start-option (Some p) more h = h
 
 -- the first fresh pixel at the index position of opaque black stays
 returns_more : (past : Past) (p : RgbaPixel) → is_start (first_at past) ≡ true → is_start (first_at (p ∷ past)) ≡ true
-returns_more past p h = elim (cases_pixel p (previous past)) as (λ _. is_start (first_at (p ∷ past)) ≡ true)
-  [ inl e ↦ rw (fresh_repeat past p e) h
-  | inr n ↦ rw (first_at-fresh past p n, find-append (λ p. eqb (hash p) (hash start)) (reverse (fresh past)) (p ∷ [])) (is_start-option (first_at past) _ h) ]
+returns_more past p h = elim (cases_pixel p (previous past)) as (λ _. is_start (first_at (p ∷ past)) ≡ true) [
+  | inl e ↦ rw (fresh_repeat past p e) h
+  | inr n ↦ rw (first_at-fresh past p n, find-append (λ p. eqb (hash p) (hash start)) (reverse (fresh past)) (p ∷ [])) (is_start-option (first_at past) _ h)
+]
 
 -- the slack only grows
 pub slack_more : (n : ℕ) (past : Past) (p : RgbaPixel) → slack_at n past ≤ slack_at n (p ∷ past)
 unfolding slack_at
-slack_more n past p = elim (cases_Bool (opens past && is_start (first_at past))) as (λ _. cond (opens past && is_start (first_at past)) n 0 ≤ cond (opens (p ∷ past) && is_start (first_at (p ∷ past))) n 0)
-  [ inl e ↦
+slack_more n past p = elim (cases_Bool (opens past && is_start (first_at past))) as (λ _. cond (opens past && is_start (first_at past)) n 0 ≤ cond (opens (p ∷ past) && is_start (first_at (p ∷ past))) n 0) [
+  | inl e ↦
       let w = and_parts (opens past) (is_start (first_at past)) e in
       rw (opens_more past p w.0, returns_more past p w.1) (cond_both (opens past && is_start (first_at past)) n 0 (λ x. x ≤ n) (λ _. omega arith) (λ _. omega arith))
-  | inr e ↦ rw e (omega arith) ]
+  | inr e ↦ rw e (omega arith)
+]
 
 -- the slack only grows in a run
 pub slack_run : (n : ℕ) (past : Past) (p : RgbaPixel) (k : ℕ) → slack_at n past ≤ slack_at n (replicate k p ++ past)
@@ -113,10 +115,13 @@ noted_or_differs (q ∷ past) i = go past (cases_pixel q (previous past)) (cases
       nothing = first_at-repeat (r ∷ past) q e ∙ d.nothing;
       last = seen_same (r ∷ past) q i same ∙ e ∙ sym (seen_same past r i (ap hash (sym e) ∙ same)) ∙ d.last;
     })
+
     noted_here : (past : Past) → q ≢ previous past → hash q ≡ i → noted (q ∷ past) i ≡ q
     noted_here past n same = noted_fresh past q i n ∙ cond-true (eqb (hash q) i) q (noted past i) (eq-eqb _ _ same)
+
     noted_there : (past : Past) → q ≢ previous past → hash q ≢ i → noted (q ∷ past) i ≡ noted past i
     noted_there past n other = noted_fresh past q i n ∙ cond-false (eqb (hash q) i) q (noted past i) (ne_eqb _ _ other)
+
     go : (past : Past) → (q ≡ previous past) ⊎ (q ≢ previous past) → (hash q ≡ i) ⊎ (hash q ≢ i) → (seen past i ≡ noted past i) ⊎ Differs past i → (seen (q ∷ past) i ≡ noted (q ∷ past) i) ⊎ Differs (q ∷ past) i
     go past (inl e) (inl same) h = repeat_here past e same h
     go past (inl e) (inr other) (inl h) = inl (seen_other past q i other ∙ h ∙ sym (noted_repeat past q i e))
@@ -154,9 +159,10 @@ slack_after n past i p d f e = cond-true (opens (p ∷ past) && is_start (first_
 
 -- So where a fresh pixel is seen at its index position, but not noted there, the slack grows from none to all.
 pub slack_grows : (n : ℕ) (past : Past) (p : RgbaPixel) → p ≢ previous past → noted past (hash p) ≢ p → seen past (hash p) ≡ p → slack_at n past + n ≡ slack_at n (p ∷ past)
-slack_grows n past p f other s = elim (noted_or_differs past (hash p)) as (λ _. slack_at n past + n ≡ slack_at n (p ∷ past))
-  [ inl e ↦ absurd (other (sym e ∙ s))
+slack_grows n past p f other s = elim (noted_or_differs past (hash p)) as (λ _. slack_at n past + n ≡ slack_at n (p ∷ past)) [
+  | inl e ↦ absurd (other (sym e ∙ s))
   | inr d ↦
       let x = slack_before n past (hash p) d in
       let y = slack_after n past (hash p) p d f (sym s ∙ d.last) in
-      omega arith ]
+      omega arith
+]

@@ -1,20 +1,20 @@
 -- The written list has at most the bytes that the pixels cost and those of the slack.
-use Rattle.std.proofs.Common.{◌≡◌, ◌≢◌, ◌⊎◌, inl, inr, ⊎_elim, ℕ, zero, suc, ◌+◌, ◌*◌, ◌/◌, ◌%◌, ◌<◌, ◌≤◌, Bool, true, false, cond, eqb, List, [], ◌∷◌, ◌++◌, length, reverse, replicate, refl, sym, ap, ◌∙◌, arith}
-use Rattle.std.proofs.lemmas.Bool.{cases_Bool, false_from_ne_true, true≢false}
-use Rattle.std.proofs.lemmas.List.{length-append, reverse-append, reverse-reverse}
+use Rattle.std.proofs.Common.{◌≡◌, ◌≢◌, ◌⊎◌, inl, inr, ℕ, zero, suc, ◌+◌, ◌*◌, ◌%◌, ◌<◌, ◌≤◌, false, List, [], ◌∷◌, ◌++◌, length, reverse, replicate, refl, sym, ap, ◌∙◌, arith}
+use Rattle.std.proofs.lemmas.Bool.{false_from_ne_true}
+use Rattle.std.proofs.lemmas.List.{length-append, reverse-reverse}
 use Rattle.qoi.specs.declared.parts.Chunk.{Chunk}
 use Rattle.qoi.specs.declared.parts.Chunk.TheVariants.{Place, Diff, Luma, Run, Rgb, Rgba}
 use Rattle.qoi.specs.Pixels.{RgbaPixel, Past, previous, seen, hash}
-use Rattle.qoi.specs.Chunks.{IsChunk, AreChunks, pixel_of, times, bytes_of, text, then_chunk}
-use Rattle.qoi.specs.Meaning.{then_chunks, meaning, Each}
-use Rattle.qoi.specs.Raw.{HasChannels, AreOpaque}
+use Rattle.qoi.specs.Chunks.{IsChunk, AreChunks, pixel_of, bytes_of, text, then_chunk}
+use Rattle.qoi.specs.Meaning.{then_chunks, Each}
+use Rattle.qoi.specs.Raw.{HasChannels}
 use Rattle.qoi.specs.Written.{rank, noted, IsFirst, IsChoice, GivesFresh, IsRightAfter, IsFull, RunsAreFull, WrittenBy, Written}
-use Rattle.qoi.specs.Shortest.{some_diff, some_luma, some_rgb, least, repeats, cost, total_cost, floor, slack}
+use Rattle.qoi.specs.Shortest.{some_diff, some_luma, some_rgb, least, repeats, total_cost, floor, slack}
 use Rattle.qoi.proofs.SamePixels.{cases_pixel, same_pixel}
-use Rattle.qoi.proofs.ChunkSteps.{is_run, cases_run, times_other, right_other, then_other}
-use Rattle.qoi.proofs.Coding.{all_reverse, choice_other}
+use Rattle.qoi.proofs.ChunkSteps.{is_run, times_other, right_other, then_other}
+use Rattle.qoi.proofs.Coding.{all_reverse}
 use Rattle.qoi.proofs.Costs.{some_diff-true, some_luma-true, some_rgb-true, least_low, least_over_1, least_over_2, least_over_4, cost_fresh, cost_run, repeats_run, repeats_fresh}
-use Rattle.qoi.proofs.SlackSteps.{slack_at, slack_is, slack_none, slack_more, slack_run, slack_grows}
+use Rattle.qoi.proofs.SlackSteps.{slack_at, slack_is, slack_more, slack_grows}
 use Rattle.qoi.proofs.WrittenShape.{channels_before, chunk_fits, choice_rgba}
 
 -- where the first chunk is no Diff, no Diff gives the pixel
@@ -53,10 +53,13 @@ fresh_cost channels past c i h o g r = go (cases_pixel (noted past (hash (pixel_
   where
     low : 1 ≤ least past (pixel_of past c)
     low = least_low past (pixel_of past c)
+
     grows : slack_at channels past ≤ slack_at channels (pixel_of past c ∷ past)
     grows = slack_more channels past (pixel_of past c)
+
     one : (d : Chunk) (j : ℕ) → d ≡ Place j → length (bytes_of d) ≡ 1
     one d j e = rw e refl
+
     go : (noted past (hash (pixel_of past c)) ≡ pixel_of past c) ⊎ (noted past (hash (pixel_of past c)) ≢ pixel_of past c) → (seen past (hash (pixel_of past c)) ≡ pixel_of past c) ⊎ (seen past (hash (pixel_of past c)) ≢ pixel_of past c) → length (bytes_of c) + slack_at channels past ≤ least past (pixel_of past c) + slack_at channels (pixel_of past c ∷ past)
     go (inl e) s = let l = one c _ (g.is_chosen.place e) in let a = low in let b = grows in omega arith
     go (inr n) (inl s) =
@@ -145,6 +148,7 @@ module _ (shortest : Past → RgbaPixel → ℕ) (Choice : Past → RgbaPixel �
       back : HasChannels image channels → HasChannels (reverse image) channels
       back (inl s) = inl s
       back (inr s) = inr (s.0, all_reverse (λ p. p.a ≡ 255) image s.1)
+
       at_start : (cs : List Chunk) → Aligned [] cs
       at_start [] = tt
       at_start (Run n ∷ cs) = refl

@@ -1,5 +1,5 @@
 -- The fewest bytes that the pixels of an image take.
-use Rattle.std.specs.Prelude.{ℕ, zero, suc, ◌+◌, ◌%◌, List, [], ◌∷◌, Bool, true, false, ◌==◌, ◌&&◌, ◌||◌, if◌then◌else◌, reverse, Option, None, Some, slice_get}
+use Rattle.std.specs.Prelude.{ℕ, zero, suc, ◌+◌, ◌%◌, List, [], ◌∷◌, Bool, false, ◌==◌, ◌&&◌, ◌||◌, if◌then◌else◌, reverse, Option, None, Some, slice_get}
 use Rattle.std.specs.List.{find}
 use Rattle.qoi.specs.Pixels.{RgbaPixel, Past, pixel_eq, start, hash, previous, seen}
 use Rattle.qoi.specs.Chunks.{after_diff, after_luma}

@@ -1,13 +1,15 @@
 //! Laws of the chunk list that is written for an image.
-ghost use Rattle.std.specs.Prelude.{◌≡◌, ◌≢◌, ℕ, ◌+◌, ◌*◌, ◌<◌, ◌≤◌, List, ◌∷◌, ◌++◌, length};
+ghost use Rattle.std.specs.Prelude.{◌≡◌, ◌≢◌, ℕ, ◌+◌, ◌*◌, ◌/◌, ◌<◌, ◌≤◌, List, [], ◌∷◌, ◌++◌, length, replicate};
 ghost use Rattle.std.specs.List.{AllByRecursion};
 ghost use Rattle.qoi.specs.declared.parts.Chunk.{Chunk};
 ghost use Rattle.qoi.specs.declared.parts.Chunk.TheVariants.{Place};
-ghost use Rattle.qoi.specs.Pixels.{RgbaPixel, IsPixel};
-ghost use Rattle.qoi.specs.Chunks.{text};
-ghost use Rattle.qoi.specs.Meaning.{Reaches};
+ghost use Rattle.qoi.specs.Pixels.{RgbaPixel, IsPixel, Past, blank, pixel, previous};
+ghost use Rattle.qoi.specs.Chunks.{AreChunks, text};
+ghost use Rattle.qoi.specs.Meaning.{Reaches, meaning};
 ghost use Rattle.qoi.specs.Output.{IsChannels, output};
 ghost use Rattle.qoi.specs.Raw.{pixels_of, HasChannels};
+ghost use Rattle.qoi.specs.Regular.{Begins, Regular};
+ghost use Rattle.qoi.specs.Shortest.{floor, repeats, slack, total_cost};
 ghost use Rattle.qoi.specs.Written.{Written};
 
 /// An image has exactly one written list.
@@ -44,4 +46,58 @@ pub fn written_fits()
 /// The written list reaches the pixels of its image.
 pub fn written_reaches()
     ensures { (image : List RgbaPixel) (n : ℕ) (cs : List Chunk) → Written image cs → length image ≡ n → Reaches n cs }
+{}
+
+/// A list is regular if it names an index position only where a pixel was put. The written list is regular.
+pub fn written_is_regular()
+    ensures { (image : List RgbaPixel) (cs : List Chunk) → Written image cs → Regular cs }
+{}
+
+/// Where no pixel of an image is transparent black, as in an image of three channels, each list that reaches
+/// its pixels and begins with them is regular.
+pub fn no_blank_is_regular()
+    ensures { (image : List RgbaPixel) (cs : List Chunk) → Reaches (length image) cs → Begins (meaning cs) image
+        → AllByRecursion (λ p. p ≢ blank) image → Regular cs }
+{}
+
+/// No regular list whose pixels begin with those of an image has fewer bytes than the image's floor. Neither
+/// the length of its runs nor what it gives past the image matters.
+pub fn none_is_shorter()
+    ensures { (image : List RgbaPixel) (cs : List Chunk) → AreChunks cs → Regular cs → Begins (meaning cs) image
+        → floor image ≤ length (text cs) }
+{}
+
+/// The written list has at most the bytes of the floor and the slack.
+pub fn written_is_short()
+    ensures { (image : List RgbaPixel) (channels : ℕ) (cs : List Chunk) → HasChannels image channels
+        → Written image cs → length (text cs) ≤ floor image + slack image channels }
+{}
+
+/// So the written list is at most its slack longer than each regular list whose pixels begin with those of
+/// the image.
+pub fn written_is_near_shortest()
+    ensures { (image : List RgbaPixel) (channels : ℕ) (cs others : List Chunk) → HasChannels image channels
+        → Written image cs → AreChunks others → Regular others → Begins (meaning others) image
+        → length (text cs) ≤ length (text others) + slack image channels }
+{}
+
+/// In a floor a group of repeats costs a byte for each 62 of them, rounded up.
+pub fn group_cost()
+    ensures { (shortest : Past → RgbaPixel → ℕ) (past : Past) (n : ℕ) → repeats past ≡ 0
+        → total_cost shortest (replicate n (previous past) ++ past) ≡ total_cost shortest past + (n + 61) / 62 }
+{}
+
+/// The floor and the slack of a few images.
+pub fn shortest_examples()
+    ensures black_returns_rgb { floor (pixel 0 0 0 255 ∷ pixel 101 102 103 255 ∷ pixel 0 0 0 255 ∷ []) ≡ 6 }
+    ensures black_returns_rgba { floor (pixel 0 0 0 255 ∷ pixel 101 102 103 104 ∷ pixel 0 0 0 255 ∷ []) ≡ 7 }
+    ensures black_overwritten { floor (pixel 0 0 0 255 ∷ pixel 1 99 2 255 ∷ pixel 0 0 0 255 ∷ []) ≡ 9 }
+    ensures black_back_and_forth { floor (pixel 0 0 0 255 ∷ pixel 101 102 103 255 ∷ pixel 0 0 0 255
+        ∷ pixel 101 102 103 255 ∷ pixel 0 0 0 255 ∷ []) ≡ 8 }
+    ensures black_twice { floor (pixel 0 0 0 255 ∷ pixel 0 0 0 255 ∷ []) ≡ 1 }
+    ensures black_many { floor (replicate 63 (pixel 0 0 0 255) ++ pixel 101 102 103 104 ∷ pixel 0 0 0 255 ∷ []) ≡ 8 }
+    ensures blank_without_place { floor (pixel 64 0 0 0 ∷ pixel 0 0 0 0 ∷ pixel 64 0 0 0 ∷ pixel 0 0 0 0 ∷ []) ≡ 17 }
+    ensures slack_black_returns_rgb { slack (pixel 0 0 0 255 ∷ pixel 101 102 103 255 ∷ pixel 0 0 0 255 ∷ []) 3 ≡ 3 }
+    ensures slack_black_returns_rgba { slack (pixel 0 0 0 255 ∷ pixel 101 102 103 104 ∷ pixel 0 0 0 255 ∷ []) 4 ≡ 4 }
+    ensures slack_black_overwritten { slack (pixel 0 0 0 255 ∷ pixel 1 99 2 255 ∷ pixel 0 0 0 255 ∷ []) 3 ≡ 0 }
 {}
