@@ -7,6 +7,7 @@ pub mod PartOfChunk
 pub mod RawPixels
 pub mod RegularLists
 pub mod SamePixels
+pub mod SlackReached
 pub mod SlackSteps
 pub mod Spelled
 pub mod Upper

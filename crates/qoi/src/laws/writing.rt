@@ -2,7 +2,7 @@
 ghost use Rattle.std.specs.Prelude.{◌≡◌, ◌≢◌, ℕ, ◌+◌, ◌*◌, ◌/◌, ◌<◌, ◌≤◌, List, [], ◌∷◌, ◌++◌, length, replicate};
 ghost use Rattle.std.specs.List.{AllByRecursion};
 ghost use Rattle.qoi.specs.declared.parts.Chunk.{Chunk};
-ghost use Rattle.qoi.specs.declared.parts.Chunk.TheVariants.{Place};
+ghost use Rattle.qoi.specs.declared.parts.Chunk.TheVariants.{Place, Run, Rgb, Rgba};
 ghost use Rattle.qoi.specs.Pixels.{RgbaPixel, IsPixel, Past, blank, pixel, previous};
 ghost use Rattle.qoi.specs.Chunks.{AreChunks, text};
 ghost use Rattle.qoi.specs.Meaning.{Reaches, meaning};
@@ -56,8 +56,10 @@ pub fn written_is_regular()
 /// Where no pixel of an image is transparent black, as in an image of three channels, each list that reaches
 /// its pixels and begins with them is regular.
 pub fn no_blank_is_regular()
-    ensures { (image : List RgbaPixel) (cs : List Chunk) → Reaches (length image) cs → Begins (meaning cs) image
-        → AllByRecursion (λ p. p ≢ blank) image → Regular cs }
+    ensures no_blank { (image : List RgbaPixel) (cs : List Chunk) → Reaches (length image) cs
+        → Begins (meaning cs) image → AllByRecursion (λ p. p ≢ blank) image → Regular cs }
+    ensures three_channels { (image : List RgbaPixel) (cs : List Chunk) → Reaches (length image) cs
+        → Begins (meaning cs) image → HasChannels image 3 → Regular cs }
 {}
 
 /// No regular list whose pixels begin with those of an image has fewer bytes than the image's floor. Neither
@@ -100,4 +102,23 @@ pub fn shortest_examples()
     ensures slack_black_returns_rgb { slack (pixel 0 0 0 255 ∷ pixel 101 102 103 255 ∷ pixel 0 0 0 255 ∷ []) 3 ≡ 3 }
     ensures slack_black_returns_rgba { slack (pixel 0 0 0 255 ∷ pixel 101 102 103 104 ∷ pixel 0 0 0 255 ∷ []) 4 ≡ 4 }
     ensures slack_black_overwritten { slack (pixel 0 0 0 255 ∷ pixel 1 99 2 255 ∷ pixel 0 0 0 255 ∷ []) 3 ≡ 0 }
+{}
+
+/// The slack is reached. Opaque black, a color and opaque black again are written in 9 bytes in three channels
+/// and in 11 in four, and a regular list that names the index position of opaque black has 6 and 7.
+pub fn slack_is_reached()
+    ensures written_rgb { Written (pixel 0 0 0 255 ∷ pixel 101 102 103 255 ∷ pixel 0 0 0 255 ∷ [])
+        (Run 1 ∷ Rgb 101 102 103 ∷ Rgb 0 0 0 ∷ []) }
+    ensures regular_rgb { Regular (Run 1 ∷ Rgb 101 102 103 ∷ Place 53 ∷ []) }
+    ensures meaning_rgb { meaning (Run 1 ∷ Rgb 101 102 103 ∷ Place 53 ∷ [])
+        ≡ pixel 0 0 0 255 ∷ pixel 101 102 103 255 ∷ pixel 0 0 0 255 ∷ [] }
+    ensures longer_rgb { length (text (Run 1 ∷ Rgb 101 102 103 ∷ Rgb 0 0 0 ∷ []))
+        ≡ length (text (Run 1 ∷ Rgb 101 102 103 ∷ Place 53 ∷ [])) + 3 }
+    ensures written_rgba { Written (pixel 0 0 0 255 ∷ pixel 101 102 103 104 ∷ pixel 0 0 0 255 ∷ [])
+        (Run 1 ∷ Rgba 101 102 103 104 ∷ Rgba 0 0 0 255 ∷ []) }
+    ensures regular_rgba { Regular (Run 1 ∷ Rgba 101 102 103 104 ∷ Place 53 ∷ []) }
+    ensures meaning_rgba { meaning (Run 1 ∷ Rgba 101 102 103 104 ∷ Place 53 ∷ [])
+        ≡ pixel 0 0 0 255 ∷ pixel 101 102 103 104 ∷ pixel 0 0 0 255 ∷ [] }
+    ensures longer_rgba { length (text (Run 1 ∷ Rgba 101 102 103 104 ∷ Rgba 0 0 0 255 ∷ []))
+        ≡ length (text (Run 1 ∷ Rgba 101 102 103 104 ∷ Place 53 ∷ [])) + 4 }
 {}
