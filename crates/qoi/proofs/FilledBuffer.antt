@@ -134,7 +134,7 @@ filled_end f c n out at left count p past is le (inl e) h =
 filled_end f c n out at left count p past is le (inr full) h =
     let sum : left + (count - left) ≡ count = omega arith in
     let joined : replicate left p ++ (replicate (count - left) p ++ past) ≡ replicate count p ++ past =
-        sym (append_assoc (replicate left p) (replicate (count - left) p) past) ∙ ap (λ z. z ++ past) (replicate-append-replicate left (count - left) p ∙ ap (λ k. replicate k p) sum) in
+    sym (append_assoc (replicate left p) (replicate (count - left) p) past) ∙ ap (λ z. z ++ past) (replicate-append-replicate left (count - left) p ∙ ap (λ k. replicate k p) sum) in
     subst (λ z. HasFilled f c n out at z) joined (filled_full f c n out at (replicate (count - left) p ++ past) (replicate left p) is h full)
 
 -- where the buffer is full it has the bytes of the first n pixels

@@ -103,8 +103,8 @@ RefusesBuffer size required e = (size < required) × (e ≡ OutputBufferTooSmall
 abbrev pub RefusesFile : ℕ → List ℕ → Error → Type 0
 RefusesFile size bytes e = (header_of bytes ≡ Err e)
     ⊎ ((h : Header) × (header_of bytes ≡ Ok h)
-      × (RefusesBuffer size (file_byte_count h) e
-        ⊎ ((file_byte_count h ≤ size) × RefusesBytes (pixel_count h) (drop header_size bytes) e)))
+    × (RefusesBuffer size (file_byte_count h) e
+    ⊎ ((file_byte_count h ≤ size) × RefusesBytes (pixel_count h) (drop header_size bytes) e)))
 
 -- why a file is not decoded, where the buffer is long enough: the header, then the image
 abbrev pub RefusesWholeFile : List ℕ → Error → Type 0

@@ -9,5 +9,9 @@ pub mod Headers
 pub mod Meaning
 pub mod Output
 pub mod Pixels
+pub mod Raw
+pub mod Regular
+pub mod Shortest
 pub mod Types
 pub mod Verdicts
+pub mod Written

@@ -15,6 +15,6 @@ returns-in_err-decode_to_buf-clause-accepts c h cs rest read whole room =
     let size : file_byte_count h ≡ byte_count d.header (channels_number d.channels) =
     ap file_byte_count same ∙ ap (λ k. byte_count d.header (channels_number k)) (sym accepted.1) in
     let ok = c.decode_to_buf.ensures.accepts refl (drop header_size c.args.data.now) rest cs (ap Some accepted.2)
-        (subst (λ k. IsWhole (pixel_count k) (drop header_size c.args.data.now) cs rest) same whole) (subst (λ k. k ≤ length c.args.buf.now) size room) in
+    (subst (λ k. IsWhole (pixel_count k) (drop header_size c.args.data.now) cs rest) same whole) (subst (λ k. k ≤ length c.args.buf.now) size room) in
     let no : false ≡ true = subst IsOk c.in_err-decode_to_buf.was ok in
     cc

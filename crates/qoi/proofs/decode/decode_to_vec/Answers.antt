@@ -21,4 +21,4 @@ returns-in_err-out-clause-accepts c h cs rest read whole =
     let accepted = c.in_ok-decoder.ensures.accepted in
     let same : h ≡ d.header = cc in
     rw (p.1, p.2) (c.in_err-out.ensures.accepts refl (drop header_size c.args.data.now) rest cs (ap Some accepted.2)
-        (subst (λ k. IsWhole (pixel_count k) (drop header_size c.args.data.now) cs rest) same whole))
+    (subst (λ k. IsWhole (pixel_count k) (drop header_size c.args.data.now) cs rest) same whole))

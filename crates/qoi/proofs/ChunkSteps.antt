@@ -1,0 +1,131 @@
+-- Steps through a chunk list: runs and other chunks, the pixels in order, and lists joined end to end.
+use Rattle.std.proofs.Common.{◌≡◌, ◌⊎◌, inl, inr, ℕ, zero, suc, ◌+◌, ◌<◌, Bool, true, false, List, [], ◌∷◌, ◌++◌, length, reverse, replicate, refl, ap, ◌∙◌, arith, append_assoc, append-nil}
+use Rattle.std.proofs.lemmas.List.{reverse-reverse, reverse-append, length-append, length-reverse, replicate-append-replicate}
+use Rattle.std.proofs.lemmas.Bool.{true≢false}
+use Rattle.qoi.specs.declared.parts.Chunk.{Chunk}
+use Rattle.qoi.specs.declared.parts.Chunk.TheVariants.{Place, Diff, Luma, Run, Rgb, Rgba}
+use Rattle.qoi.specs.Pixels.{RgbaPixel, Past}
+use Rattle.qoi.specs.Chunks.{IsChunk, pixel_of, times, then_chunk}
+use Rattle.qoi.specs.Meaning.{then_chunks, meaning, Each}
+use Rattle.qoi.specs.Written.{GivesFresh, IsRightAfter, IsFull}
+
+-- the chunk is a run
+abbrev pub is_run : Chunk → Bool
+is_run (Run n) = true
+is_run _ = false
+
+-- a chunk is a run or not
+pub cases_run : (c : Chunk) → ((n : ℕ) × (c ≡ Run n)) ⊎ (is_run c ≡ false)
+cases_run (Run n) = inl (n, refl)
+cases_run (Place i) = inr refl
+cases_run (Diff d) = inr refl
+cases_run (Luma d e) = inr refl
+cases_run (Rgb r g b) = inr refl
+cases_run (Rgba r g b a) = inr refl
+
+-- a chunk other than a run gives one pixel
+pub times_other : (c : Chunk) → is_run c ≡ false → times c ≡ 1
+times_other (Run n) h = absurd (true≢false h)
+times_other (Place i) h = refl
+times_other (Diff d) h = refl
+times_other (Luma d e) h = refl
+times_other (Rgb r g b) h = refl
+times_other (Rgba r g b a) h = refl
+
+-- a chunk other than a run gives a fresh pixel
+pub right_other : (Choice : Past → RgbaPixel → Chunk → Type 0) (past : Past) (c : Chunk) → is_run c ≡ false → IsRightAfter Choice past c → GivesFresh Choice past c
+right_other Choice past (Run n) h r = absurd (true≢false h)
+right_other Choice past (Place i) h r = r
+right_other Choice past (Diff d) h r = r
+right_other Choice past (Luma d e) h r = r
+right_other Choice past (Rgb x g b) h r = r
+right_other Choice past (Rgba x g b a) h r = r
+
+-- and it is right where it does
+pub right_from : (Choice : Past → RgbaPixel → Chunk → Type 0) (past : Past) (c : Chunk) → GivesFresh Choice past c → IsRightAfter Choice past c
+right_from Choice past (Run n) g = tt
+right_from Choice past (Place i) g = g
+right_from Choice past (Diff d) g = g
+right_from Choice past (Luma d e) g = g
+right_from Choice past (Rgb x y b) g = g
+right_from Choice past (Rgba x y b a) g = g
+
+-- anything may follow a chunk other than a run
+pub full_other : (c : Chunk) (cs : List Chunk) → is_run c ≡ false → IsFull c cs
+full_other (Run n) cs h = absurd (true≢false h)
+full_other (Place i) cs h = tt
+full_other (Diff d) cs h = tt
+full_other (Luma d e) cs h = tt
+full_other (Rgb x y b) cs h = tt
+full_other (Rgba x y b a) cs h = tt
+
+-- a chunk other than a run may follow any chunk
+pub full_before : (c d : Chunk) (cs : List Chunk) → is_run d ≡ false → IsFull c (d ∷ cs)
+full_before (Run n) (Run m) cs h = absurd (true≢false h)
+full_before (Run n) (Place i) cs h = tt
+full_before (Run n) (Diff i) cs h = tt
+full_before (Run n) (Luma i e) cs h = tt
+full_before (Run n) (Rgb x y b) cs h = tt
+full_before (Run n) (Rgba x y b a) cs h = tt
+full_before (Place i) d cs h = tt
+full_before (Diff i) d cs h = tt
+full_before (Luma i e) d cs h = tt
+full_before (Rgb x y b) d cs h = tt
+full_before (Rgba x y b a) d cs h = tt
+
+-- each chunk gives at least one pixel
+pub times_some : (c : Chunk) → IsChunk c → 0 < times c
+times_some (Run n) h = h.0
+times_some (Place i) h = omega arith
+times_some (Diff d) h = omega arith
+times_some (Luma d e) h = omega arith
+times_some (Rgb x g b) h = omega arith
+times_some (Rgba x g b a) h = omega arith
+
+-- what stands after a chunk other than a run
+pub then_other : (past : Past) (c : Chunk) → is_run c ≡ false → then_chunk past c ≡ pixel_of past c ∷ past
+then_other past c h = rw (times_other c h) refl
+
+-- the pixels that the chunks give after these, in order
+abbrev pub given : Past → List Chunk → List RgbaPixel
+given past [] = []
+given past (c ∷ cs) = replicate (times c) (pixel_of past c) ++ given (then_chunk past c) cs
+
+-- one pixel many times is the same in reverse
+pub reverse-replicate : {A : Type 0} (n : ℕ) (a : A) → reverse (replicate n a) ≡ replicate n a
+reverse-replicate zero a = refl
+reverse-replicate (suc n) a =
+    reverse-append (a ∷ []) (replicate n a)
+    ∙ ap (λ r. r ++ a ∷ []) (reverse-replicate n a)
+    ∙ replicate-append-replicate n 1 a
+    ∙ ap (λ k. replicate k a) (let e : n + 1 ≡ suc n = omega arith in e)
+
+-- the pixels after chunks are those before them and those given
+pub then_chunks_given : (past : Past) (cs : List Chunk) → then_chunks past cs ≡ reverse (given past cs) ++ past
+then_chunks_given past [] = refl
+then_chunks_given past (c ∷ cs) =
+    then_chunks_given (then_chunk past c) cs
+    ∙ simp (reverse-append, reverse-replicate, append_assoc)
+
+-- what a chunk list means is what it gives at the start
+pub meaning_given : (cs : List Chunk) → meaning cs ≡ given [] cs
+meaning_given cs = ap reverse (then_chunks_given [] cs) ∙ simp (append-nil, reverse-reverse)
+
+-- there are as many pixels as are given
+pub length-then_chunks : (past : Past) (cs : List Chunk) → length (then_chunks past cs) ≡ length (given past cs) + length past
+length-then_chunks past cs = rw (then_chunks_given past cs) (simp (length-append, length-reverse))
+
+-- chunks after chunks
+pub then_chunks-append : (past : Past) (cs ds : List Chunk) → then_chunks past (cs ++ ds) ≡ then_chunks (then_chunks past cs) ds
+then_chunks-append past [] ds = refl
+then_chunks-append past (c ∷ cs) ds = then_chunks-append (then_chunk past c) cs ds
+
+-- what holds of each chunk of two lists holds of each of both
+pub each_append : (P : Past → Chunk → Type 0) (past : Past) (cs ds : List Chunk) → Each P past cs → Each P (then_chunks past cs) ds → Each P past (cs ++ ds)
+each_append P past [] ds h k = k
+each_append P past (c ∷ cs) ds h k = (h.0, each_append P (then_chunk past c) cs ds h.1 k)
+
+-- and of each of the second list
+pub each_back : (P : Past → Chunk → Type 0) (past : Past) (cs ds : List Chunk) → Each P past (cs ++ ds) → Each P (then_chunks past cs) ds
+each_back P past [] ds h = h
+each_back P past (c ∷ cs) ds h = each_back P (then_chunk past c) cs ds h.1

@@ -1,0 +1,79 @@
+-- No regular chunk list of an image has fewer bytes than its pixels cost.
+use Rattle.std.proofs.Common.{◌≡◌, ◌⊎◌, inl, inr, ℕ, ◌+◌, ◌%◌, ◌<◌, ◌≤◌, false, eqb, List, [], ◌∷◌, ◌++◌, length, reverse, refl, sym, ap, ◌∙◌, arith}
+use Rattle.std.proofs.lemmas.Bool.{cond_both}
+use Rattle.std.proofs.lemmas.List.{length-append, reverse-append, reverse-reverse}
+use Rattle.qoi.specs.declared.parts.Chunk.{Chunk}
+use Rattle.qoi.specs.declared.parts.Chunk.TheVariants.{Place, Diff, Luma, Run, Rgb, Rgba}
+use Rattle.qoi.specs.Pixels.{RgbaPixel, Past, previous, seen}
+use Rattle.qoi.specs.Chunks.{IsChunk, AreChunks, pixel_of, bytes_of, text, then_chunk}
+use Rattle.qoi.specs.Meaning.{then_chunks, meaning, Each}
+use Rattle.qoi.specs.Regular.{NamesWritten, Regular, Begins}
+use Rattle.qoi.specs.Shortest.{least, repeats, cost, total_cost, floor}
+use Rattle.qoi.proofs.SamePixels.{cases_pixel}
+use Rattle.qoi.proofs.ChunkSteps.{is_run, cases_run, then_other}
+use Rattle.qoi.proofs.Costs.{some_diff-from, some_luma-from, some_rgb-from, least_seen, least_diff, least_luma, least_rgb, least_high, cost_fresh, cost_repeat, cost_run}
+
+-- a chunk other than a run is no shorter than the least of its pixel
+pub least_bounds : (past : Past) (c : Chunk) → IsChunk c → NamesWritten past c → is_run c ≡ false → least past (pixel_of past c) ≤ length (bytes_of c)
+least_bounds past (Place i) k r o = least_seen past (seen past i) (ap (seen past) r)
+least_bounds past (Diff d) k r o = least_diff past _ (some_diff-from (previous past) _ d k refl)
+least_bounds past (Luma d e) k r o = least_luma past _ (some_luma-from (previous past) _ d e k refl)
+least_bounds past (Run n) k r o = absurd (cc)
+least_bounds past (Rgb x y z) k r o = least_rgb past _ (some_rgb-from (previous past) _ refl)
+least_bounds past (Rgba x y z w) k r o = least_high past (pixel_of past (Rgba x y z w))
+
+-- a chunk has some bytes
+pub bytes_some : (c : Chunk) → 0 < length (bytes_of c)
+bytes_some (Place i) = omega arith
+bytes_some (Diff d) = omega arith
+bytes_some (Luma d e) = omega arith
+bytes_some (Run n) = omega arith
+bytes_some (Rgb x y z) = omega arith
+bytes_some (Rgba x y z w) = omega arith
+
+-- the pixels of a beginning cost no more
+pub cost_front : (shortest : Past → RgbaPixel → ℕ) (more past : Past) → total_cost shortest past ≤ total_cost shortest (more ++ past)
+cost_front shortest [] past = omega arith
+cost_front shortest (p ∷ more) past = let h = cost_front shortest more past in omega arith
+
+module _ (shortest : Past → RgbaPixel → ℕ) (Allowed : Past → Chunk → Type 0) (bounds : (past : Past) (c : Chunk) → IsChunk c → Allowed past c → is_run c ≡ false → shortest past (pixel_of past c) ≤ length (bytes_of c)) where
+  -- a pixel costs no more than a chunk that gives it
+  cost_other : (past : Past) (c : Chunk) → IsChunk c → Allowed past c → is_run c ≡ false → cost shortest past (pixel_of past c) ≤ length (bytes_of c)
+  cost_other past c k a o = elim (cases_pixel (pixel_of past c) (previous past)) as (λ _. cost shortest past (pixel_of past c) ≤ length (bytes_of c)) [
+    | inl e ↦ rw (cost_repeat shortest past (pixel_of past c) e) (cond_both (eqb (repeats past % 62) 0) 1 0 (λ x. x ≤ length (bytes_of c)) (λ _. bytes_some c) (λ _. omega arith))
+    | inr n ↦ rw (cost_fresh shortest past (pixel_of past c) n) (bounds past c k a o)
+  ]
+
+  -- the pixels that a chunk gives cost no more than it
+  cost_chunk : (past : Past) (c : Chunk) → IsChunk c → Allowed past c → total_cost shortest (then_chunk past c) ≤ total_cost shortest past + length (bytes_of c)
+  cost_chunk past c k a = go (cases_run c)
+    where
+      go : ((n : ℕ) × (c ≡ Run n)) ⊎ (is_run c ≡ false) → total_cost shortest (then_chunk past c) ≤ total_cost shortest past + length (bytes_of c)
+      go (inl (n, e)) =
+          let i : IsChunk (Run n) = rw e at k in
+          let l = i.1 in
+          let h = cost_run shortest past n in
+          rw e (omega arith)
+      go (inr o) = let h = cost_other past c k a o in rw (then_other past c o) (omega arith)
+
+  -- nor than chunks
+  cost_chunks : (past : Past) (cs : List Chunk) → AreChunks cs → Each Allowed past cs → total_cost shortest (then_chunks past cs) ≤ total_cost shortest past + length (text cs)
+  cost_chunks past [] k a = omega arith
+  cost_chunks past (c ∷ cs) k a =
+      let one = cost_chunk past c k.0 a.0 in
+      let more = cost_chunks (then_chunk past c) cs k.1 a.1 in
+      let t : length (text (c ∷ cs)) ≡ length (bytes_of c) + length (text cs) = length-append (bytes_of c) (text cs) in
+      omega arith
+
+  -- so a chunk list that is allowed has no fewer bytes than the pixels of an image that it begins with cost
+  pub lower_by : (image : List RgbaPixel) (cs : List Chunk) → AreChunks cs → Each Allowed [] cs → Begins (meaning cs) image → total_cost shortest (reverse image) ≤ length (text cs)
+  lower_by image cs k a (more, b) =
+      let h = cost_chunks [] cs k a in
+      let e : then_chunks [] cs ≡ reverse more ++ reverse image = sym (reverse-reverse (then_chunks [] cs)) ∙ ap reverse b ∙ reverse-append image more in
+      let f = cost_front shortest (reverse more) (reverse image) in
+      let g : total_cost shortest (reverse more ++ reverse image) ≤ 0 + length (text cs) = rw e at h in
+      omega arith
+
+-- no regular chunk list that begins with an image has fewer bytes than the image's floor
+pub lower : (image : List RgbaPixel) (cs : List Chunk) → AreChunks cs → Regular cs → Begins (meaning cs) image → floor image ≤ length (text cs)
+lower image cs k r b = lower_by least NamesWritten least_bounds image cs k r b

@@ -1,0 +1,82 @@
+-- The pixels of raw bytes: they are pixels, of as many channels, and give the bytes back.
+use Rattle.std.proofs.Common.{◌≡◌, inl, inr, ℕ, zero, suc, ◌*◌, ◌<◌, List, [], ◌∷◌, length, refl, ap, arith}
+use Rattle.std.specs.List.{AllByRecursion}
+use Rattle.qoi.specs.Pixels.{IsPixel}
+use Rattle.qoi.specs.Output.{IsChannels, output}
+use Rattle.qoi.specs.Raw.{pixels_of_3, pixels_of_4, pixels_of, AreOpaque, HasChannels}
+
+-- three bytes each: they are pixels
+pixels_3 : (bytes : List ℕ) → AllByRecursion (λ b. b < 256) bytes → AllByRecursion IsPixel (pixels_of_3 bytes)
+pixels_3 [] h = tt
+pixels_3 (r ∷ []) h = tt
+pixels_3 (r ∷ g ∷ []) h = tt
+pixels_3 (r ∷ g ∷ b ∷ bytes) h = (record { r = h.0; g = h.1.0; b = h.1.1.0; a = omega arith }, pixels_3 bytes h.1.1.1)
+
+-- four bytes each: they are pixels
+pixels_4 : (bytes : List ℕ) → AllByRecursion (λ b. b < 256) bytes → AllByRecursion IsPixel (pixels_of_4 bytes)
+pixels_4 [] h = tt
+pixels_4 (r ∷ []) h = tt
+pixels_4 (r ∷ g ∷ []) h = tt
+pixels_4 (r ∷ g ∷ b ∷ []) h = tt
+pixels_4 (r ∷ g ∷ b ∷ a ∷ bytes) h = (record { r = h.0; g = h.1.0; b = h.1.1.0; a = h.1.1.1.0 }, pixels_4 bytes h.1.1.1.1)
+
+-- they are pixels
+pub pixels_of_are : (channels : ℕ) (bytes : List ℕ) → IsChannels channels → AllByRecursion (λ b. b < 256) bytes → AllByRecursion IsPixel (pixels_of channels bytes)
+pixels_of_are channels bytes (inl e) h = rw e (pixels_3 bytes h)
+pixels_of_are channels bytes (inr e) h = rw e (pixels_4 bytes h)
+
+-- three bytes each: they are opaque
+pub opaque_3 : (bytes : List ℕ) → AreOpaque (pixels_of_3 bytes)
+opaque_3 [] = tt
+opaque_3 (r ∷ []) = tt
+opaque_3 (r ∷ g ∷ []) = tt
+opaque_3 (r ∷ g ∷ b ∷ bytes) = (refl, opaque_3 bytes)
+
+-- they have as many channels as a pixel has bytes
+pub pixels_of_have : (channels : ℕ) (bytes : List ℕ) → IsChannels channels → HasChannels (pixels_of channels bytes) channels
+pixels_of_have channels bytes (inl e) = inr (e, rw e (opaque_3 bytes))
+pixels_of_have channels bytes (inr e) = inl e
+
+-- three bytes each: there are as many pixels
+count_3 : (bytes : List ℕ) (n : ℕ) → length bytes ≡ 3 * n → length (pixels_of_3 bytes) ≡ n
+count_3 [] n e = omega arith
+count_3 (r ∷ []) n e = absurd (omega arith)
+count_3 (r ∷ g ∷ []) n e = absurd (omega arith)
+count_3 (r ∷ g ∷ b ∷ bytes) zero e = absurd (omega arith)
+count_3 (r ∷ g ∷ b ∷ bytes) (suc n) e = ap suc (count_3 bytes n (omega arith))
+
+-- four bytes each: there are as many pixels
+count_4 : (bytes : List ℕ) (n : ℕ) → length bytes ≡ 4 * n → length (pixels_of_4 bytes) ≡ n
+count_4 [] n e = omega arith
+count_4 (r ∷ []) n e = absurd (omega arith)
+count_4 (r ∷ g ∷ []) n e = absurd (omega arith)
+count_4 (r ∷ g ∷ b ∷ []) n e = absurd (omega arith)
+count_4 (r ∷ g ∷ b ∷ a ∷ bytes) zero e = absurd (omega arith)
+count_4 (r ∷ g ∷ b ∷ a ∷ bytes) (suc n) e = ap suc (count_4 bytes n (omega arith))
+
+-- there are as many pixels as the bytes have room for
+pub length-pixels_of : (channels n : ℕ) (bytes : List ℕ) → IsChannels channels → length bytes ≡ channels * n → length (pixels_of channels bytes) ≡ n
+length-pixels_of channels n bytes (inl e) h = rw e (count_3 bytes n (rw e at h))
+length-pixels_of channels n bytes (inr e) h = rw e (count_4 bytes n (rw e at h))
+
+-- three bytes each: they give the bytes back
+back_3 : (bytes : List ℕ) (n : ℕ) → length bytes ≡ 3 * n → output 3 3 (pixels_of_3 bytes) ≡ bytes
+back_3 [] n e = refl
+back_3 (r ∷ []) n e = absurd (omega arith)
+back_3 (r ∷ g ∷ []) n e = absurd (omega arith)
+back_3 (r ∷ g ∷ b ∷ bytes) zero e = absurd (omega arith)
+back_3 (r ∷ g ∷ b ∷ bytes) (suc n) e = ap (λ (x : List ℕ). r ∷ g ∷ b ∷ x) (back_3 bytes n (omega arith))
+
+-- four bytes each: they give the bytes back
+back_4 : (bytes : List ℕ) (n : ℕ) → length bytes ≡ 4 * n → output 4 4 (pixels_of_4 bytes) ≡ bytes
+back_4 [] n e = refl
+back_4 (r ∷ []) n e = absurd (omega arith)
+back_4 (r ∷ g ∷ []) n e = absurd (omega arith)
+back_4 (r ∷ g ∷ b ∷ []) n e = absurd (omega arith)
+back_4 (r ∷ g ∷ b ∷ a ∷ bytes) zero e = absurd (omega arith)
+back_4 (r ∷ g ∷ b ∷ a ∷ bytes) (suc n) e = ap (λ (x : List ℕ). r ∷ g ∷ b ∷ a ∷ x) (back_4 bytes n (omega arith))
+
+-- they give the bytes back
+pub output-pixels_of : (channels n : ℕ) (bytes : List ℕ) → IsChannels channels → length bytes ≡ channels * n → output channels channels (pixels_of channels bytes) ≡ bytes
+output-pixels_of channels n bytes (inl e) h = rw e (back_3 bytes n (rw e at h))
+output-pixels_of channels n bytes (inr e) h = rw e (back_4 bytes n (rw e at h))

@@ -1,0 +1,102 @@
+-- The written list is regular, and so is each list of an image without transparent black.
+use Rattle.std.proofs.Common.{◌≡◌, ◌≢◌, ◌⊎◌, inl, inr, ℕ, ◌+◌, ◌<◌, ◌≤◌, List, [], ◌∷◌, ◌++◌, length, reverse, refl, sym, ap, ◌∙◌, subst, arith}
+use Rattle.std.specs.List.{AllByRecursion}
+use Rattle.std.proofs.lemmas.Bool.{cases_eq}
+use Rattle.std.proofs.lemmas.List.{length-append, length-reverse, reverse-append, reverse-reverse}
+use Rattle.qoi.specs.declared.parts.Chunk.{Chunk}
+use Rattle.qoi.specs.declared.parts.Chunk.TheVariants.{Place, Diff, Luma, Run, Rgb, Rgba}
+use Rattle.qoi.specs.Pixels.{RgbaPixel, Past, blank, seen, hash}
+use Rattle.qoi.specs.Chunks.{then_chunk}
+use Rattle.qoi.specs.Meaning.{then_chunks, meaning, Each, Reaches}
+use Rattle.qoi.specs.Written.{noted, IsChoice, IsRightAfter, Written}
+use Rattle.qoi.specs.Raw.{HasChannels}
+use Rattle.qoi.specs.Regular.{NamesWritten, Regular, Begins}
+use Rattle.qoi.proofs.SamePixels.{cases_pixel}
+use Rattle.qoi.proofs.NotedPixels.{seen_same, seen_other}
+use Rattle.qoi.proofs.ChunkSteps.{given, then_chunks_given}
+use Rattle.qoi.proofs.Coding.{all_back, all_reverse}
+
+-- a place chunk that is chosen names the index position of its pixel
+place_named : (past : Past) (i : ℕ) → IsChoice past (seen past i) (Place i) → hash (seen past i) ≡ i
+place_named past i w = elim (cases_pixel (noted past (hash (seen past i))) (seen past i)) as (λ _. hash (seen past i) ≡ i) [
+  | inl e ↦ let s = w.place e in cc
+  | inr n ↦ let s = (w.spelled n).spells in absurd (omega arith)
+]
+
+-- a chunk that is right names an index position that was written
+right_named : (past : Past) (c : Chunk) → IsRightAfter IsChoice past c → NamesWritten past c
+right_named past (Place i) r = place_named past i r.is_chosen
+right_named past (Diff d) r = tt
+right_named past (Luma d e) r = tt
+right_named past (Run n) r = tt
+right_named past (Rgb x y z) r = tt
+right_named past (Rgba x y z w) r = tt
+
+-- what follows from P holds of each chunk where P does
+each_map : (P Q : Past → Chunk → Type 0) → ((past : Past) (c : Chunk) → P past c → Q past c) → (past : Past) (cs : List Chunk) → Each P past cs → Each Q past cs
+each_map P Q f past [] h = tt
+each_map P Q f past (c ∷ cs) h = (f past c h.0, each_map P Q f (then_chunk past c) cs h.1)
+
+-- the written list is regular
+pub written_regular : (image : List RgbaPixel) (cs : List Chunk) → Written image cs → Regular cs
+written_regular image cs w = each_map (IsRightAfter IsChoice) NamesWritten right_named [] cs w.right
+
+-- what is seen at an index position is transparent black or has that position
+seen_blank_or : (past : Past) (i : ℕ) → (seen past i ≡ blank) ⊎ (hash (seen past i) ≡ i)
+seen_blank_or [] i = inl refl
+seen_blank_or (p ∷ past) i = elim (cases_eq (hash p) i) as (λ _. (seen (p ∷ past) i ≡ blank) ⊎ (hash (seen (p ∷ past) i) ≡ i)) [
+  | inl e ↦ inr (ap hash (seen_same past p i e) ∙ e)
+  | inr n ↦ rw (seen_other past p i n) (seen_blank_or past i)
+]
+
+-- what holds of each of a list holds of each of an end that is no longer
+suffix_all : {A : Type 0} (P : A → Type 0) (xs ys us vs : List A) → xs ++ ys ≡ us ++ vs → length ys ≤ length vs → AllByRecursion P vs → AllByRecursion P ys
+suffix_all P xs ys [] vs e l h = all_back P xs ys (rw (← e) at h)
+suffix_all P [] ys (u ∷ us) vs e l h =
+    let k : length ys ≡ length (u ∷ us) + length vs = ap length e ∙ length-append (u ∷ us) vs in
+    absurd (omega arith)
+suffix_all P (x ∷ xs) ys (u ∷ us) vs e l h = suffix_all P xs ys us vs (rest x u (xs ++ ys) (us ++ vs) e) l h
+  where
+    rest : {A : Type 0} (x u : A) (vs ws : List A) → x ∷ vs ≡ u ∷ ws → vs ≡ ws
+    rest x u vs ws e = cc
+
+-- an index position that is named before the end of an image without transparent black was written
+named_within : (past : Past) (c : Chunk) (cs : List Chunk) (us vs : List RgbaPixel) → then_chunks (then_chunk past c) cs ≡ us ++ vs → length past < length vs → AllByRecursion (λ p. p ≢ blank) vs → NamesWritten past c
+named_within past (Place i) cs us vs e l h =
+    let s = suffix_all (λ p. p ≢ blank) (reverse (given (seen past i ∷ past) cs)) (seen past i ∷ past) us vs (sym (then_chunks_given (seen past i ∷ past) cs) ∙ e) (omega arith) h in
+    elim (seen_blank_or past i) as (λ _. hash (seen past i) ≡ i) [
+      | inl e ↦ absurd (s.0 e)
+      | inr e ↦ e
+    ]
+named_within past (Diff d) cs us vs e l h = tt
+named_within past (Luma d d2) cs us vs e l h = tt
+named_within past (Run n) cs us vs e l h = tt
+named_within past (Rgb x y z) cs us vs e l h = tt
+named_within past (Rgba x y z w) cs us vs e l h = tt
+
+-- so are all that chunks name
+all_named : (past : Past) (cs : List Chunk) (us vs : List RgbaPixel) → then_chunks past cs ≡ us ++ vs → Each (λ past c. length past < length vs) past cs → AllByRecursion (λ p. p ≢ blank) vs → Each NamesWritten past cs
+all_named past [] us vs e l h = tt
+all_named past (c ∷ cs) us vs e l h = (named_within past c cs us vs e l.0 h, all_named (then_chunk past c) cs us vs e l.1 h)
+
+-- a list of an image without transparent black is regular
+pub no_blank_regular : (image : List RgbaPixel) (cs : List Chunk) → Reaches (length image) cs → Begins (meaning cs) image → AllByRecursion (λ p. p ≢ blank) image → Regular cs
+no_blank_regular image cs r (more, b) h =
+    let e : then_chunks [] cs ≡ reverse more ++ reverse image = sym (reverse-reverse (then_chunks [] cs)) ∙ ap reverse b ∙ reverse-append image more in
+    let l : length image ≡ length (reverse image) = sym (length-reverse image) in
+    all_named [] cs (reverse more) (reverse image) e (subst (λ n. Each (λ past c. length past < n) [] cs) l r.short) (all_reverse (λ p. p ≢ blank) image h)
+
+-- what follows from P holds of each of a list where P does
+all_map : {A : Type 0} (P Q : A → Type 0) → ((x : A) → P x → Q x) → (xs : List A) → AllByRecursion P xs → AllByRecursion Q xs
+all_map P Q f [] h = tt
+all_map P Q f (x ∷ xs) h = (f x h.0, all_map P Q f xs h.1)
+
+-- an opaque pixel is not transparent black
+opaque_not_blank : (p : RgbaPixel) → p.a ≡ 255 → p ≢ blank
+unfolding blank
+opaque_not_blank p a e = let z = ap (λ x. x.a) e in omega arith
+
+-- so a list of an image of three channels is regular
+pub opaque_regular : (image : List RgbaPixel) (cs : List Chunk) → Reaches (length image) cs → Begins (meaning cs) image → HasChannels image 3 → Regular cs
+opaque_regular image cs r b (inl e) = absurd (omega arith)
+opaque_regular image cs r b (inr (e, h)) = no_blank_regular image cs r b (all_map (λ p. p.a ≡ 255) (λ p. p ≢ blank) opaque_not_blank image h)

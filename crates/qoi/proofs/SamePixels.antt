@@ -1,0 +1,43 @@
+-- The test of two pixels says whether they are the same.
+use Rattle.std.proofs.Common.{◌≡◌, ◌≢◌, ◌⊎◌, inl, inr, Bool, true, false, ◌&&◌, eqb, refl}
+use Rattle.std.proofs.lemmas.Bool.{and_parts, and_from, eqb-true, eq-eqb, true≢false, false_from_ne_true}
+use Rattle.qoi.specs.Pixels.{RgbaPixel, pixel, pixel_eq}
+
+-- equal numbers make equal pixels
+pub same_pixel : (p q : RgbaPixel) → p.r ≡ q.r → p.g ≡ q.g → p.b ≡ q.b → p.a ≡ q.a → p ≡ q
+same_pixel p q r g b a = let e : pixel p.r p.g p.b p.a ≡ pixel q.r q.g q.b q.a = cc in e
+
+-- the test passes for the same pixel
+pub pixel_eq-same : (p : RgbaPixel) → pixel_eq p p ≡ true
+unfolding pixel_eq
+pixel_eq-same p =
+    and_from _ _ (and_from _ _ (and_from _ _ (eq-eqb p.r p.r refl) (eq-eqb p.g p.g refl)) (eq-eqb p.b p.b refl)) (eq-eqb p.a p.a refl)
+
+-- the test passes for equal pixels
+pub pixel_eq-from : (p q : RgbaPixel) → p ≡ q → pixel_eq p q ≡ true
+pixel_eq-from p q e = rw e (pixel_eq-same q)
+
+-- only equal pixels pass the test
+pub pixel_eq-true : (p q : RgbaPixel) → pixel_eq p q ≡ true → p ≡ q
+unfolding pixel_eq
+pixel_eq-true p q h =
+    let x = and_parts (eqb p.r q.r && eqb p.g q.g && eqb p.b q.b) (eqb p.a q.a) h in
+    let y = and_parts (eqb p.r q.r && eqb p.g q.g) (eqb p.b q.b) x.0 in
+    let z = and_parts (eqb p.r q.r) (eqb p.g q.g) y.0 in
+    same_pixel p q (eqb-true p.r q.r z.0) (eqb-true p.g q.g z.1) (eqb-true p.b q.b y.1) (eqb-true p.a q.a x.1)
+
+-- different pixels don't pass the test
+pub pixel_eq-ne : (p q : RgbaPixel) → p ≢ q → pixel_eq p q ≡ false
+pixel_eq-ne p q n = false_from_ne_true _ (λ h. n (pixel_eq-true p q h))
+
+-- pixels that don't pass the test are different
+pub pixel_eq-false : (p q : RgbaPixel) → pixel_eq p q ≡ false → p ≢ q
+pixel_eq-false p q h e = true≢false (let t = pixel_eq-from p q e in cc)
+
+-- two pixels are the same or not
+pub cases_pixel : (p q : RgbaPixel) → (p ≡ q) ⊎ (p ≢ q)
+cases_pixel p q = go (pixel_eq p q) refl
+  where
+    go : (t : Bool) → pixel_eq p q ≡ t → (p ≡ q) ⊎ (p ≢ q)
+    go true h = inl (pixel_eq-true p q h)
+    go false h = inr (pixel_eq-false p q h)

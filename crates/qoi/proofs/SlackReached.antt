@@ -1,0 +1,74 @@
+-- Two images whose written list is longer than a regular one by the whole slack.
+use Rattle.std.proofs.Common.{◌≡◌, ◌≢◌, [], ◌∷◌, refl, ap, arith}
+use Rattle.qoi.specs.declared.parts.Chunk.TheVariants.{Run, Rgb, Rgba}
+use Rattle.qoi.specs.Pixels.{RgbaPixel, IsPixel, Past, pixel, pixel_eq, start, blank, previous, hash}
+use Rattle.qoi.specs.Written.{noted, IsChoice, Written}
+use Rattle.qoi.proofs.Spelled.{FitsDiff, FitsLuma, first_rgb, first_rgba}
+
+-- an Rgb is chosen where the pixel isn't noted and green is far
+chosen_rgb : (past : Past) (p : RgbaPixel) → IsPixel (previous past) → noted past (hash p) ≢ p → p.a ≡ (previous past).a → (FitsDiff (previous past) p → ⊥) → (FitsLuma (previous past) p → ⊥) → IsChoice past p (Rgb p.r p.g p.b)
+chosen_rgb past p iq n alpha d l = record { place = λ e. absurd (n e); spelled = λ _. first_rgb past p iq alpha d l }
+
+-- an Rgba is chosen where the pixel isn't noted and alpha changes
+chosen_rgba : (past : Past) (p : RgbaPixel) → noted past (hash p) ≢ p → p.a ≢ (previous past).a → IsChoice past p (Rgba p.r p.g p.b p.a)
+chosen_rgba past p n alpha = record { place = λ e. absurd (n e); spelled = λ _. first_rgba past p alpha }
+
+-- different reds make different pixels
+red_differs : (p q : RgbaPixel) → p.r ≢ q.r → p ≢ q
+red_differs p q n e = n (ap (λ x. x.r) e)
+
+-- different alphas do
+alpha_differs : (p q : RgbaPixel) → p.a ≢ q.a → p ≢ q
+alpha_differs p q n e = n (ap (λ x. x.a) e)
+
+-- the list that is written for black, a color, and black, in three channels
+pub written_rgb : Written (pixel 0 0 0 255 ∷ pixel 101 102 103 255 ∷ pixel 0 0 0 255 ∷ []) (Run 1 ∷ Rgb 101 102 103 ∷ Rgb 0 0 0 ∷ [])
+unfolding start blank hash pixel_eq
+written_rgb = record {
+  chunks = ((omega arith, omega arith), ((omega arith, omega arith, omega arith), ((omega arith, omega arith, omega arith), tt)));
+  means = refl;
+  right = (
+    tt,
+    (
+      record {
+        is_fresh = red_differs _ _ (λ e. absurd (omega arith));
+        is_chosen = chosen_rgb (pixel 0 0 0 255 ∷ []) (pixel 101 102 103 255) (record { r = omega arith; g = omega arith; b = omega arith; a = omega arith })
+            (red_differs _ _ (λ e. absurd (omega arith))) refl (λ f. let x = f.r in absurd (omega arith)) (λ f. let x = f.g in absurd (omega arith));
+      },
+      (
+        record {
+          is_fresh = red_differs _ _ (λ e. absurd (omega arith));
+          is_chosen = chosen_rgb (pixel 101 102 103 255 ∷ pixel 0 0 0 255 ∷ []) (pixel 0 0 0 255) (record { r = omega arith; g = omega arith; b = omega arith; a = omega arith })
+              (alpha_differs _ _ (λ e. absurd (omega arith))) refl (λ f. let x = f.r in absurd (omega arith)) (λ f. let x = f.g in absurd (omega arith));
+        },
+        tt,
+      ),
+    ),
+  );
+  full = (tt, (tt, (tt, tt)));
+}
+
+-- the list that is written for black, a color, and black, in four channels
+pub written_rgba : Written (pixel 0 0 0 255 ∷ pixel 101 102 103 104 ∷ pixel 0 0 0 255 ∷ []) (Run 1 ∷ Rgba 101 102 103 104 ∷ Rgba 0 0 0 255 ∷ [])
+unfolding start blank hash pixel_eq
+written_rgba = record {
+  chunks = ((omega arith, omega arith), ((omega arith, omega arith, omega arith, omega arith), ((omega arith, omega arith, omega arith, omega arith), tt)));
+  means = refl;
+  right = (
+    tt,
+    (
+      record {
+        is_fresh = red_differs _ _ (λ e. absurd (omega arith));
+        is_chosen = chosen_rgba (pixel 0 0 0 255 ∷ []) (pixel 101 102 103 104) (red_differs _ _ (λ e. absurd (omega arith))) (λ e. absurd (omega arith));
+      },
+      (
+        record {
+          is_fresh = red_differs _ _ (λ e. absurd (omega arith));
+          is_chosen = chosen_rgba (pixel 101 102 103 104 ∷ pixel 0 0 0 255 ∷ []) (pixel 0 0 0 255) (alpha_differs _ _ (λ e. absurd (omega arith))) (λ e. absurd (omega arith));
+        },
+        tt,
+      ),
+    ),
+  );
+  full = (tt, (tt, (tt, tt)));
+}

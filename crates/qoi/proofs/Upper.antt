@@ -1,0 +1,166 @@
+-- The written list has at most the bytes that the pixels cost and those of the slack.
+use Rattle.std.proofs.Common.{◌≡◌, ◌≢◌, ◌⊎◌, inl, inr, ℕ, zero, suc, ◌+◌, ◌*◌, ◌%◌, ◌<◌, ◌≤◌, false, List, [], ◌∷◌, ◌++◌, length, reverse, replicate, refl, sym, ap, ◌∙◌, arith}
+use Rattle.std.proofs.lemmas.Bool.{false_from_ne_true}
+use Rattle.std.proofs.lemmas.List.{length-append, reverse-reverse}
+use Rattle.qoi.specs.declared.parts.Chunk.{Chunk}
+use Rattle.qoi.specs.declared.parts.Chunk.TheVariants.{Place, Diff, Luma, Run, Rgb, Rgba}
+use Rattle.qoi.specs.Pixels.{RgbaPixel, Past, previous, seen, hash}
+use Rattle.qoi.specs.Chunks.{IsChunk, AreChunks, pixel_of, bytes_of, text, then_chunk}
+use Rattle.qoi.specs.Meaning.{then_chunks, Each}
+use Rattle.qoi.specs.Raw.{HasChannels}
+use Rattle.qoi.specs.Written.{rank, noted, IsFirst, IsChoice, GivesFresh, IsRightAfter, IsFull, RunsAreFull, WrittenBy, Written}
+use Rattle.qoi.specs.Shortest.{some_diff, some_luma, some_rgb, least, repeats, total_cost, floor, slack}
+use Rattle.qoi.proofs.SamePixels.{cases_pixel, same_pixel}
+use Rattle.qoi.proofs.ChunkSteps.{is_run, times_other, right_other, then_other}
+use Rattle.qoi.proofs.Coding.{all_reverse}
+use Rattle.qoi.proofs.Costs.{some_diff-true, some_luma-true, some_rgb-true, least_low, least_over_1, least_over_2, least_over_4, cost_fresh, cost_run, repeats_run, repeats_fresh}
+use Rattle.qoi.proofs.SlackSteps.{slack_at, slack_is, slack_more, slack_grows}
+use Rattle.qoi.proofs.WrittenShape.{channels_before, chunk_fits, choice_rgba}
+
+-- where the first chunk is no Diff, no Diff gives the pixel
+no_diff : (past : Past) (p : RgbaPixel) (c : Chunk) → IsFirst past p c → 1 < rank c → some_diff (previous past) p ≡ false
+no_diff past p c f h = false_from_ne_true _ (λ t.
+    let w = some_diff-true (previous past) p t in
+    let l = f.first (Diff w.0) w.1 (omega arith) w.2 in
+    omega arith)
+
+-- where it is no Luma either, no Luma does
+no_luma : (past : Past) (p : RgbaPixel) (c : Chunk) → IsFirst past p c → 2 < rank c → some_luma (previous past) p ≡ false
+no_luma past p c f h = false_from_ne_true _ (λ t.
+    let w = some_luma-true (previous past) p t in
+    let l = f.first (Luma w.0 w.1) w.2 (omega arith) w.3 in
+    omega arith)
+
+-- where it is an Rgba, alpha changes
+no_rgb : (past : Past) (p : RgbaPixel) (c : Chunk) → IsChunk c → IsFirst past p c → 3 < rank c → some_rgb (previous past) p ≡ false
+no_rgb past p (Rgba r g b a) i f h = false_from_ne_true _ (λ t.
+    let w = some_rgb-true (previous past) p t in
+    let l = f.first (Rgb r g b) (i.0, i.1, i.2) (omega arith) (same_pixel _ p (ap (λ x. x.r) f.gives) (ap (λ x. x.g) f.gives) (ap (λ x. x.b) f.gives) (sym w)) in
+    omega arith)
+no_rgb past p c i f h = absurd (omega arith)
+
+-- the first chunk that spells a pixel out is no longer than the least, where the pixel isn't seen
+first_least : (past : Past) (p : RgbaPixel) (c : Chunk) → IsChunk c → IsFirst past p c → seen past (hash p) ≢ p → length (bytes_of c) ≤ least past p
+first_least past p (Diff d) i f n = least_low past p
+first_least past p (Luma d e) i f n = least_over_1 past p n (no_diff past p _ f (omega arith))
+first_least past p (Rgb r g b) i f n = least_over_2 past p n (no_diff past p _ f (omega arith)) (no_luma past p _ f (omega arith))
+first_least past p (Rgba r g b a) i f n = least_over_4 past p n (no_diff past p _ f (omega arith)) (no_luma past p _ f (omega arith)) (no_rgb past p _ i f (omega arith))
+first_least past p c i f n = let s = f.spells in absurd (omega arith)
+
+-- a fresh pixel's chosen chunk is no longer than the least, but for what the slack grows by
+fresh_cost : (channels : ℕ) (past : Past) (c : Chunk) → IsChunk c → HasChannels (then_chunk past c) channels → is_run c ≡ false → GivesFresh IsChoice past c → IsRightAfter IsChoice past c → length (bytes_of c) + slack_at channels past ≤ least past (pixel_of past c) + slack_at channels (pixel_of past c ∷ past)
+fresh_cost channels past c i h o g r = go (cases_pixel (noted past (hash (pixel_of past c))) (pixel_of past c)) (cases_pixel (seen past (hash (pixel_of past c))) (pixel_of past c))
+  where
+    low : 1 ≤ least past (pixel_of past c)
+    low = least_low past (pixel_of past c)
+
+    grows : slack_at channels past ≤ slack_at channels (pixel_of past c ∷ past)
+    grows = slack_more channels past (pixel_of past c)
+
+    one : (d : Chunk) (j : ℕ) → d ≡ Place j → length (bytes_of d) ≡ 1
+    one d j e = rw e refl
+
+    go : (noted past (hash (pixel_of past c)) ≡ pixel_of past c) ⊎ (noted past (hash (pixel_of past c)) ≢ pixel_of past c) → (seen past (hash (pixel_of past c)) ≡ pixel_of past c) ⊎ (seen past (hash (pixel_of past c)) ≢ pixel_of past c) → length (bytes_of c) + slack_at channels past ≤ least past (pixel_of past c) + slack_at channels (pixel_of past c ∷ past)
+    go (inl e) s = let l = one c _ (g.is_chosen.place e) in let a = low in let b = grows in omega arith
+    go (inr n) (inl s) =
+        let x = slack_grows channels past (pixel_of past c) g.is_fresh n s in
+        let f = chunk_fits IsChoice choice_rgba channels past c i h r in
+        let t = times_other c o in
+        let f1 : length (bytes_of c) ≤ 1 * channels + 1 = rw t at f in
+        let a = low in
+        omega arith
+    go (inr n) (inr u) =
+        let f = first_least past (pixel_of past c) c i (g.is_chosen.spelled n) u in
+        let b = grows in
+        omega arith
+
+-- a run begins at a multiple of 62 repeats
+abbrev Aligned : Past → List Chunk → Type 0
+Aligned past (Run n ∷ cs) = repeats past % 62 ≡ 0
+Aligned past _ = Unit {0}
+
+module _ (shortest : Past → RgbaPixel → ℕ) (Choice : Past → RgbaPixel → Chunk → Type 0) (extra : Past → ℕ) (extra_more : (past : Past) (p : RgbaPixel) → extra past ≤ extra (p ∷ past)) (channels : ℕ) (fresh_fits : (past : Past) (c : Chunk) → IsChunk c → HasChannels (then_chunk past c) channels → is_run c ≡ false → GivesFresh Choice past c → IsRightAfter Choice past c → length (bytes_of c) + extra past ≤ shortest past (pixel_of past c) + extra (pixel_of past c ∷ past)) where
+  -- what is extra only grows in a run
+  extra_run : (past : Past) (p : RgbaPixel) (k : ℕ) → extra past ≤ extra (replicate k p ++ past)
+  extra_run past p zero = omega arith
+  extra_run past p (suc k) =
+      let h = extra_run past p k in
+      let m = extra_more (replicate k p ++ past) p in
+      omega arith
+
+  -- a run costs its byte
+  run_fits : (past : Past) (n : ℕ) → 0 < n → repeats past % 62 ≡ 0 → 1 + total_cost shortest past + extra past ≤ total_cost shortest (then_chunk past (Run n)) + extra (then_chunk past (Run n))
+  run_fits past n h a =
+      let c = cost_run shortest past n in
+      let e = extra_run past (previous past) n in
+      omega arith
+
+  -- any other chunk costs no more than its pixel and what is extra
+  other_fits : (past : Past) (c : Chunk) → IsChunk c → HasChannels (then_chunk past c) channels → is_run c ≡ false → IsRightAfter Choice past c → length (bytes_of c) + total_cost shortest past + extra past ≤ total_cost shortest (then_chunk past c) + extra (then_chunk past c)
+  other_fits past c i h o r =
+      let g = right_other Choice past c o r in
+      let f = fresh_fits past c i h o g r in
+      let e = cost_fresh shortest past (pixel_of past c) g.is_fresh in
+      rw (then_other past c o) (omega arith)
+
+  -- a chunk costs no more than its pixels and what is extra
+  one_fits : (past : Past) (c : Chunk) (cs : List Chunk) → IsChunk c → HasChannels (then_chunk past c) channels → IsRightAfter Choice past c → Aligned past (c ∷ cs) → length (bytes_of c) + total_cost shortest past + extra past ≤ total_cost shortest (then_chunk past c) + extra (then_chunk past c)
+  one_fits past (Run n) cs i h r a = run_fits past n i.0 a
+  one_fits past (Place j) cs i h r a = other_fits past (Place j) i h refl r
+  one_fits past (Diff d) cs i h r a = other_fits past (Diff d) i h refl r
+  one_fits past (Luma d e) cs i h r a = other_fits past (Luma d e) i h refl r
+  one_fits past (Rgb x y z) cs i h r a = other_fits past (Rgb x y z) i h refl r
+  one_fits past (Rgba x y z w) cs i h r a = other_fits past (Rgba x y z w) i h refl r
+
+  -- the next run begins at a multiple of 62 repeats
+  aligned_next : (past : Past) (c : Chunk) (cs : List Chunk) → IsRightAfter Choice past c → IsFull c cs → Aligned past (c ∷ cs) → Aligned (then_chunk past c) cs
+  aligned_next past c [] r f a = tt
+  aligned_next past (Run m) (Run n ∷ cs) r f a = let e = repeats_run past m in omega arith
+  aligned_next past (Place j) (Run n ∷ cs) r f a = let e = repeats_fresh past _ r.is_fresh in omega arith
+  aligned_next past (Diff d) (Run n ∷ cs) r f a = let e = repeats_fresh past _ r.is_fresh in omega arith
+  aligned_next past (Luma d d2) (Run n ∷ cs) r f a = let e = repeats_fresh past _ r.is_fresh in omega arith
+  aligned_next past (Rgb x y z) (Run n ∷ cs) r f a = let e = repeats_fresh past _ r.is_fresh in omega arith
+  aligned_next past (Rgba x y z w) (Run n ∷ cs) r f a = let e = repeats_fresh past _ r.is_fresh in omega arith
+  aligned_next past c (Place j ∷ cs) r f a = tt
+  aligned_next past c (Diff d ∷ cs) r f a = tt
+  aligned_next past c (Luma d d2 ∷ cs) r f a = tt
+  aligned_next past c (Rgb x y z ∷ cs) r f a = tt
+  aligned_next past c (Rgba x y z w ∷ cs) r f a = tt
+
+  -- chunks cost no more than their pixels and what is extra
+  all_fit : (past : Past) (cs : List Chunk) → AreChunks cs → HasChannels (then_chunks past cs) channels → Each (IsRightAfter Choice) past cs → RunsAreFull cs → Aligned past cs → length (text cs) + total_cost shortest past + extra past ≤ total_cost shortest (then_chunks past cs) + extra (then_chunks past cs)
+  all_fit past [] i h r f a = omega arith
+  all_fit past (c ∷ cs) i h r f a =
+      let one = one_fits past c cs i.0 (channels_before channels (then_chunk past c) cs h) r.0 a in
+      let more = all_fit (then_chunk past c) cs i.1 h r.1 f.1 (aligned_next past c cs r.0 f.0 a) in
+      let t : length (text (c ∷ cs)) ≡ length (bytes_of c) + length (text cs) = length-append (bytes_of c) (text cs) in
+      omega arith
+
+  -- so the written list costs no more than the pixels of its image and what is extra
+  pub upper_by : (image : List RgbaPixel) (cs : List Chunk) → HasChannels image channels → WrittenBy Choice image cs → length (text cs) ≤ total_cost shortest (reverse image) + extra (reverse image)
+  upper_by image cs h w =
+      let e : then_chunks [] cs ≡ reverse image = sym (reverse-reverse (then_chunks [] cs)) ∙ ap reverse w.means in
+      let k : HasChannels (then_chunks [] cs) channels = rw e (back h) in
+      let u = all_fit [] cs w.chunks k w.right w.full (at_start cs) in
+      let v : length (text cs) + 0 + extra [] ≤ total_cost shortest (reverse image) + extra (reverse image) = rw e at u in
+      omega arith
+    where
+      back : HasChannels image channels → HasChannels (reverse image) channels
+      back (inl s) = inl s
+      back (inr s) = inr (s.0, all_reverse (λ p. p.a ≡ 255) image s.1)
+
+      at_start : (cs : List Chunk) → Aligned [] cs
+      at_start [] = tt
+      at_start (Run n ∷ cs) = refl
+      at_start (Place j ∷ cs) = tt
+      at_start (Diff d ∷ cs) = tt
+      at_start (Luma d d2 ∷ cs) = tt
+      at_start (Rgb x y z ∷ cs) = tt
+      at_start (Rgba x y z w ∷ cs) = tt
+
+-- the written list has at most the bytes of the floor and the slack
+pub upper : (image : List RgbaPixel) (channels : ℕ) (cs : List Chunk) → HasChannels image channels → Written image cs → length (text cs) ≤ floor image + slack image channels
+upper image channels cs h w =
+    let u = upper_by least IsChoice (slack_at channels) (slack_more channels) channels (fresh_cost channels) image cs h w in
+    let s = slack_is image channels in
+    omega arith

@@ -1,0 +1,158 @@
+-- An image has at most one written list, whatever the choice of a chunk, if the choice is of one chunk.
+use Rattle.std.proofs.Common.{◌≡◌, ◌⊎◌, inl, inr, ℕ, zero, suc, ◌+◌, ◌-◌, false, ◌/◌, ◌%◌, ◌<◌, ◌≤◌, List, [], ◌∷◌, ◌++◌, length, replicate, refl, sym, ap, ◌∙◌, arith, append_assoc}
+use Rattle.std.proofs.lemmas.List.{append_cancel_left, length-replicate, length-append, replicate-append-replicate}
+use Rattle.qoi.specs.declared.parts.Chunk.{Chunk}
+use Rattle.qoi.specs.declared.parts.Chunk.TheVariants.{Place, Diff, Luma, Run, Rgb, Rgba}
+use Rattle.qoi.specs.Pixels.{RgbaPixel, Past, previous, hash}
+use Rattle.qoi.specs.Chunks.{IsChunk, AreChunks, pixel_of, times, then_chunk, after_diff, after_luma}
+use Rattle.qoi.specs.Meaning.{Each}
+use Rattle.qoi.specs.Written.{noted, rank, IsFirst, IsChoice, GivesFresh, IsRightAfter, IsFull, RunsAreFull, WrittenBy, Written}
+use Rattle.qoi.proofs.SamePixels.{cases_pixel}
+use Rattle.qoi.proofs.ChunkSteps.{is_run, cases_run, times_other, right_other, times_some, given, meaning_given}
+
+-- two differences that give one pixel are one
+pub diff_unique : (q : RgbaPixel) (d e : ℕ) → 64 ≤ d → d < 128 → 64 ≤ e → e < 128 → after_diff q d ≡ after_diff q e → d ≡ e
+unfolding after_diff
+diff_unique q d e dl dh el eh s =
+    let r = ap (λ p. p.r) s in
+    let g = ap (λ p. p.g) s in
+    let b = ap (λ p. p.b) s in
+    omega arith
+
+-- two lumas that give one pixel are one
+pub luma_unique : (q : RgbaPixel) (d e x y : ℕ) → IsChunk (Luma d e) → IsChunk (Luma x y) → after_luma q d e ≡ after_luma q x y → Luma d e ≡ Luma x y
+unfolding after_luma
+luma_unique q d e x y c k s =
+    let r = ap (λ p. p.r) s in
+    let g = ap (λ p. p.g) s in
+    let b = ap (λ p. p.b) s in
+    let one : d ≡ x = omega arith in
+    let high : e / 16 ≡ y / 16 = omega arith in
+    let low : e % 16 ≡ y % 16 = omega arith in
+    let two : e ≡ y = omega arith in
+    cc
+
+-- of one kind only one chunk gives a pixel
+same_kind : (past : Past) (p : RgbaPixel) (c d : Chunk) → IsChunk c → IsChunk d → 0 < rank c → 0 < rank d → rank c ≤ rank d → rank d ≤ rank c → pixel_of past c ≡ p → pixel_of past d ≡ p → c ≡ d
+same_kind past p (Diff d) (Diff e) ic id rc rd l g s t = ap (λ (n : ℕ). Diff n) (diff_unique (previous past) d e ic.0 ic.1 id.0 id.1 (s ∙ sym t))
+same_kind past p (Luma d e) (Luma x y) ic id rc rd l g s t = luma_unique (previous past) d e x y ic id (s ∙ sym t)
+same_kind past p (Rgb r g b) (Rgb x y z) ic id rc rd l h s t =
+    let e = s ∙ sym t in
+    let er = ap (λ p. p.r) e in
+    let eg = ap (λ p. p.g) e in
+    let eb = ap (λ p. p.b) e in
+    cc
+same_kind past p (Rgba r g b a) (Rgba x y z w) ic id rc rd l h s t =
+    let e = s ∙ sym t in
+    let er = ap (λ p. p.r) e in
+    let eg = ap (λ p. p.g) e in
+    let eb = ap (λ p. p.b) e in
+    let ea = ap (λ p. p.a) e in
+    cc
+same_kind past p c d ic id rc rd l g s t = absurd (omega arith)
+
+-- the first chunk that spells a pixel out is one
+pub first_unique : (past : Past) (p : RgbaPixel) (c d : Chunk) → IsChunk c → IsChunk d → IsFirst past p c → IsFirst past p d → c ≡ d
+first_unique past p c d ic id f g =
+    same_kind past p c d ic id f.spells g.spells (f.first d id g.spells g.gives) (g.first c ic f.spells f.gives) f.gives g.gives
+
+-- chunks give some pixel
+given_some : (past : Past) (c : Chunk) (cs : List Chunk) → IsChunk c → given past (c ∷ cs) ≡ [] → ⊥
+given_some past c cs h e =
+    let n : 0 < times c = times_some c h in
+    let l : length (given past (c ∷ cs)) ≡ 0 = ap length e in
+    let k : times c + length (given (then_chunk past c) cs) ≡ 0 = simp (length-append, length-replicate) at l in
+    omega arith
+
+-- the first pixel that a chunk other than a run gives
+given_other : (past : Past) (c : Chunk) (cs : List Chunk) → is_run c ≡ false → given past (c ∷ cs) ≡ pixel_of past c ∷ given (then_chunk past c) cs
+given_other past c cs h = rw (times_other c h) refl
+
+-- the first pixels of equal lists are equal
+same_first : {A : Type 0} (a b : A) (x y : List A) → a ∷ x ≡ b ∷ y → a ≡ b
+same_first a b x y e = cc
+
+-- the other pixels of equal lists are equal
+same_rest : {A : Type 0} (a b : A) (x y : List A) → a ∷ x ≡ b ∷ y → x ≡ y
+same_rest a b x y e = cc
+
+module _ (Choice : Past → RgbaPixel → Chunk → Type 0) where
+  -- what follows a run that isn't full is no repeat
+  follows_run : (past : Past) (m : ℕ) (cs : List Chunk) (more : List RgbaPixel) → 0 < m → m < 62 → AreChunks cs → Each (IsRightAfter Choice) (then_chunk past (Run m)) cs → IsFull (Run m) cs → given (then_chunk past (Run m)) cs ≡ previous past ∷ more → ⊥
+  follows_run past zero cs more h l a r f e = absurd (omega arith)
+  follows_run past (suc m) [] more h l a r f e = absurd (cc)
+  follows_run past (suc m) (Run n ∷ cs) more h l a r f e = absurd (omega arith)
+  follows_run past (suc m) (Place i ∷ cs) more h l a r f e = absurd (r.0.is_fresh (same_first _ _ _ _ e))
+  follows_run past (suc m) (Diff d ∷ cs) more h l a r f e = absurd (r.0.is_fresh (same_first _ _ _ _ e))
+  follows_run past (suc m) (Luma d d2 ∷ cs) more h l a r f e = absurd (r.0.is_fresh (same_first _ _ _ _ e))
+  follows_run past (suc m) (Rgb x y z ∷ cs) more h l a r f e = absurd (r.0.is_fresh (same_first _ _ _ _ e))
+  follows_run past (suc m) (Rgba x y z w ∷ cs) more h l a r f e = absurd (r.0.is_fresh (same_first _ _ _ _ e))
+
+  -- so of two lists that give the same neither begins with the longer run
+  no_longer : (past : Past) (m k : ℕ) (cs : List Chunk) (more : List RgbaPixel) → 0 < m → m + suc k ≤ 62 → AreChunks cs → Each (IsRightAfter Choice) (then_chunk past (Run m)) cs → IsFull (Run m) cs → given past (Run m ∷ cs) ≡ replicate (m + suc k) (previous past) ++ more → ⊥
+  no_longer past m k cs more h l a r f e =
+      let s : replicate m (previous past) ++ given (then_chunk past (Run m)) cs ≡ replicate m (previous past) ++ (replicate (suc k) (previous past) ++ more)
+      = e ∙ ap (λ x. x ++ more) (sym (replicate-append-replicate m (suc k) (previous past))) ∙ append_assoc (replicate m (previous past)) (replicate (suc k) (previous past)) more in
+      follows_run past m cs (replicate k (previous past) ++ more) h (omega arith) a r f (append_cancel_left _ _ _ s)
+
+  -- of two lists that give the same neither begins with a run longer by any length
+  not_longer : (past : Past) (m n : ℕ) (cs ds : List Chunk) → 0 < m → n ≤ 62 → AreChunks cs → Each (IsRightAfter Choice) (then_chunk past (Run m)) cs → IsFull (Run m) cs → given past (Run m ∷ cs) ≡ given past (Run n ∷ ds) → m < n → ⊥
+  not_longer past m n cs ds h l a r f e less =
+      let k : n ≡ m + suc (n - suc m) = omega arith in
+      no_longer past m (n - suc m) cs (given (then_chunk past (Run n)) ds) h (omega arith) a r f
+      (e ∙ ap (λ x. replicate x (previous past) ++ given (then_chunk past (Run n)) ds) k)
+
+  -- two lists that give the same begin alike
+  same_head : (unique : (past : Past) (p : RgbaPixel) (c d : Chunk) → IsChunk c → IsChunk d → Choice past p c → Choice past p d → c ≡ d) → (past : Past) (c : Chunk) (cs : List Chunk) (d : Chunk) (ds : List Chunk) → AreChunks (c ∷ cs) → AreChunks (d ∷ ds) → Each (IsRightAfter Choice) past (c ∷ cs) → Each (IsRightAfter Choice) past (d ∷ ds) → RunsAreFull (c ∷ cs) → RunsAreFull (d ∷ ds) → given past (c ∷ cs) ≡ given past (d ∷ ds) → c ≡ d
+  same_head unique past c cs d ds ac ad rc rd fc fd e = go c d (cases_run c) (cases_run d) ac ad rc rd fc fd e
+    where
+      run_first : (n : ℕ) (x : Chunk) (xs ys : List Chunk) → IsChunk (Run n) → is_run x ≡ false → GivesFresh Choice past x → given past (Run n ∷ ys) ≡ given past (x ∷ xs) → ⊥
+      run_first zero x xs ys i h g e = absurd (omega arith)
+      run_first (suc n) x xs ys i h g e = g.is_fresh (sym (same_first _ _ _ _ (e ∙ given_other past x xs h)))
+
+      runs : (m n : ℕ) → AreChunks (Run m ∷ cs) → AreChunks (Run n ∷ ds) → Each (IsRightAfter Choice) past (Run m ∷ cs) → Each (IsRightAfter Choice) past (Run n ∷ ds) → RunsAreFull (Run m ∷ cs) → RunsAreFull (Run n ∷ ds) → given past (Run m ∷ cs) ≡ given past (Run n ∷ ds) → m ≡ n
+      runs m n ac ad rc rd fc fd e =
+          let up = not_longer past m n cs ds ac.0.0 ad.0.1 ac.1 rc.1 fc.0 e in
+          let down = not_longer past n m ds cs ad.0.0 ac.0.1 ad.1 rd.1 fd.0 (sym e) in
+          grind (arith, up, down)
+
+      go : (c d : Chunk) → ((n : ℕ) × (c ≡ Run n)) ⊎ (is_run c ≡ false) → ((n : ℕ) × (d ≡ Run n)) ⊎ (is_run d ≡ false) → AreChunks (c ∷ cs) → AreChunks (d ∷ ds) → Each (IsRightAfter Choice) past (c ∷ cs) → Each (IsRightAfter Choice) past (d ∷ ds) → RunsAreFull (c ∷ cs) → RunsAreFull (d ∷ ds) → given past (c ∷ cs) ≡ given past (d ∷ ds) → c ≡ d
+      go c d (inl (m, is)) (inl (n, too)) ac ad rc rd fc fd e =
+          is ∙ ap (λ (x : ℕ). Run x) (runs m n (rw is at ac) (rw too at ad) (rw is at rc) (rw too at rd) (rw is at fc) (rw too at fd) (rw (is, too) at e)) ∙ sym too
+      go c d (inl (m, is)) (inr o) ac ad rc rd fc fd e = absurd (run_first m d ds cs (rw is at ac.0) o (right_other Choice past d o rd.0) (rw is at e))
+      go c d (inr o) (inl (n, is)) ac ad rc rd fc fd e = absurd (run_first n c cs ds (rw is at ad.0) o (right_other Choice past c o rc.0) (rw is at (sym e)))
+      go c d (inr o) (inr p) ac ad rc rd fc fd e =
+          let s : pixel_of past c ≡ pixel_of past d = same_first _ _ _ _ (sym (given_other past c cs o) ∙ e ∙ given_other past d ds p) in
+          let x = (right_other Choice past c o rc.0).is_chosen in
+          let y = (right_other Choice past d p rd.0).is_chosen in
+          unique past (pixel_of past d) c d ac.0 ad.0 (rw s at x) y
+
+  -- two lists that give the same are the same
+  same_given : (unique : (past : Past) (p : RgbaPixel) (c d : Chunk) → IsChunk c → IsChunk d → Choice past p c → Choice past p d → c ≡ d) → (past : Past) (cs ds : List Chunk) → AreChunks cs → AreChunks ds → Each (IsRightAfter Choice) past cs → Each (IsRightAfter Choice) past ds → RunsAreFull cs → RunsAreFull ds → given past cs ≡ given past ds → cs ≡ ds
+  same_given unique past [] [] ac ad rc rd fc fd e = refl
+  same_given unique past [] (d ∷ ds) ac ad rc rd fc fd e = absurd (given_some past d ds ad.0 (sym e))
+  same_given unique past (c ∷ cs) [] ac ad rc rd fc fd e = absurd (given_some past c cs ac.0 e)
+  same_given unique past (c ∷ cs) (d ∷ ds) ac ad rc rd fc fd e =
+      let h : c ≡ d = same_head unique past c cs d ds ac ad rc rd fc fd e in
+      let g : given (then_chunk past c) cs ≡ given (then_chunk past c) ds = append_cancel_left (replicate (times c) (pixel_of past c)) _ _ (e ∙ ap (λ (x : Chunk). given past (x ∷ ds)) (sym h)) in
+      let r : Each (IsRightAfter Choice) (then_chunk past c) ds = rw (← h) at rd.1 in
+      let s : cs ≡ ds = same_given unique (then_chunk past c) cs ds ac.1 ad.1 rc.1 r fc.1 fd.1 g in
+      cc
+
+  -- an image has one written list, if the choice is of one chunk
+  pub unique_by : (unique : (past : Past) (p : RgbaPixel) (c d : Chunk) → IsChunk c → IsChunk d → Choice past p c → Choice past p d → c ≡ d) → (image : List RgbaPixel) (cs ds : List Chunk) → WrittenBy Choice image cs → WrittenBy Choice image ds → cs ≡ ds
+  unique_by unique image cs ds w v =
+      same_given unique [] cs ds w.chunks v.chunks w.right v.right w.full v.full
+      (sym (meaning_given cs) ∙ w.means ∙ sym v.means ∙ meaning_given ds)
+
+-- the choice of a fresh pixel's chunk is of one chunk
+pub choice_unique : (past : Past) (p : RgbaPixel) (c d : Chunk) → IsChunk c → IsChunk d → IsChoice past p c → IsChoice past p d → c ≡ d
+choice_unique past p c d ic id f g =
+    elim (cases_pixel (noted past (hash p)) p) as (λ _. c ≡ d) [
+      | inl is ↦ f.place is ∙ sym (g.place is)
+      | inr differs ↦ first_unique past p c d ic id (f.spelled differs) (g.spelled differs)
+    ]
+
+-- an image has one written list
+pub written_unique : (image : List RgbaPixel) (cs ds : List Chunk) → Written image cs → Written image ds → cs ≡ ds
+written_unique image cs ds w v = unique_by IsChoice choice_unique image cs ds w v

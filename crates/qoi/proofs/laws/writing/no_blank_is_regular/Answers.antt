@@ -1,0 +1,8 @@
+use Rattle.qoi.proofs.RegularLists.{no_blank_regular, opaque_regular}
+use Rattle.qoi.proofs.laws.writing.no_blank_is_regular.Goals as goal
+
+pub returns-clause-no_blank : goal.returns-clause-no_blank
+returns-clause-no_blank c = no_blank_regular
+
+pub returns-clause-three_channels : goal.returns-clause-three_channels
+returns-clause-three_channels c = opaque_regular

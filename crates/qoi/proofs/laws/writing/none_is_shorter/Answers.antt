@@ -1,0 +1,5 @@
+use Rattle.qoi.proofs.Lower.{lower}
+use Rattle.qoi.proofs.laws.writing.none_is_shorter.Goals as goal
+
+pub returns : goal.returns
+returns c = lower

@@ -1,0 +1,5 @@
+use Rattle.qoi.proofs.WrittenShape.{written_fits_lem}
+use Rattle.qoi.proofs.laws.writing.written_fits.Goals as goal
+
+pub returns : goal.returns
+returns c = written_fits_lem

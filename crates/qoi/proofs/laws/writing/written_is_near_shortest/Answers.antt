@@ -1,0 +1,10 @@
+use Rattle.std.proofs.Common.{arith}
+use Rattle.qoi.proofs.Lower.{lower}
+use Rattle.qoi.proofs.Upper.{upper}
+use Rattle.qoi.proofs.laws.writing.written_is_near_shortest.Goals as goal
+
+pub returns : goal.returns
+returns c = λ image channels cs others h w k r b.
+    let u = upper image channels cs h w in
+    let l = lower image others k r b in
+    omega arith

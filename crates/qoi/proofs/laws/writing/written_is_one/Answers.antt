@@ -1,0 +1,9 @@
+use Rattle.qoi.proofs.WrittenExists.{written_some}
+use Rattle.qoi.proofs.WrittenOnce.{written_unique}
+use Rattle.qoi.proofs.laws.writing.written_is_one.Goals as goal
+
+pub returns-clause-some : goal.returns-clause-some
+returns-clause-some c = written_some
+
+pub returns-clause-one : goal.returns-clause-one
+returns-clause-one c = written_unique

@@ -1,0 +1,5 @@
+use Rattle.qoi.proofs.RegularLists.{written_regular}
+use Rattle.qoi.proofs.laws.writing.written_is_regular.Goals as goal
+
+pub returns : goal.returns
+returns c = written_regular

@@ -1,0 +1,5 @@
+use Rattle.qoi.proofs.Upper.{upper}
+use Rattle.qoi.proofs.laws.writing.written_is_short.Goals as goal
+
+pub returns : goal.returns
+returns c = upper

@@ -1,0 +1,20 @@
+-- Chunk lists that name an index position only where a pixel was put, and lists that begin with an image.
+use Rattle.std.specs.Prelude.{◌≡◌, List, [], ◌++◌}
+use Rattle.qoi.specs.declared.parts.Chunk.{Chunk}
+use Rattle.qoi.specs.declared.parts.Chunk.TheVariants.{Place}
+use Rattle.qoi.specs.Pixels.{RgbaPixel, Past, seen, hash}
+use Rattle.qoi.specs.Meaning.{Each}
+
+-- an index position that is named holds a pixel whose position it is; so one where no pixel was put is named
+-- only if it is position 0
+abbrev pub NamesWritten : Past → Chunk → Type 0
+NamesWritten past (Place i) = hash (seen past i) ≡ i
+NamesWritten past _ = Unit {0}
+
+-- so it is throughout the list
+abbrev pub Regular : List Chunk → Type 0
+Regular cs = Each NamesWritten [] cs
+
+-- the pixels begin with those of the image
+abbrev pub Begins : List RgbaPixel → List RgbaPixel → Type 0
+Begins pixels image = (more : List RgbaPixel) × (pixels ≡ image ++ more)

@@ -1,0 +1,65 @@
+-- The fewest bytes that the pixels of an image take.
+use Rattle.std.specs.Prelude.{ℕ, zero, suc, ◌+◌, ◌%◌, List, [], ◌∷◌, Bool, false, ◌==◌, ◌&&◌, ◌||◌, if◌then◌else◌, reverse, Option, None, Some, slice_get}
+use Rattle.std.specs.List.{find}
+use Rattle.qoi.specs.Pixels.{RgbaPixel, Past, pixel_eq, start, hash, previous, seen}
+use Rattle.qoi.specs.Chunks.{after_diff, after_luma}
+use Rattle.qoi.specs.Written.{fresh}
+
+-- some number below n passes the test
+abbrev pub some_below : ℕ → (ℕ → Bool) → Bool
+some_below zero test = false
+some_below (suc n) test = test n || some_below n test
+
+-- some Diff gives p after q
+unfoldable pub some_diff : RgbaPixel → RgbaPixel → Bool
+some_diff q p = some_below 64 (λ d. pixel_eq (after_diff q (64 + d)) p)
+
+-- some Luma gives p after q
+unfoldable pub some_luma : RgbaPixel → RgbaPixel → Bool
+some_luma q p = some_below 64 (λ d. some_below 256 (λ e. pixel_eq (after_luma q (128 + d) e) p))
+
+-- some Rgb gives p after q
+unfoldable pub some_rgb : RgbaPixel → RgbaPixel → Bool
+some_rgb q p = p.a == q.a
+
+-- the bytes of the shortest chunk that gives the fresh pixel p, where a chunk list is regular
+unfoldable pub least : Past → RgbaPixel → ℕ
+least past p =
+    if pixel_eq (seen past (hash p)) p || some_diff (previous past) p then 1
+    else if some_luma (previous past) p then 2
+    else if some_rgb (previous past) p then 4
+    else 5
+
+-- how many repeats the pixels end with
+abbrev pub repeats : Past → ℕ
+repeats [] = 0
+repeats (p ∷ past) = if pixel_eq p (previous past) then suc (repeats past) else 0
+
+-- A fresh pixel costs its shortest chunk. A repeat costs a byte if it is the first of a group or each 62nd
+-- after that, so a group of k repeats costs k / 62, rounded up.
+unfoldable pub cost : (Past → RgbaPixel → ℕ) → Past → RgbaPixel → ℕ
+cost shortest past p =
+    if pixel_eq p (previous past) then (if repeats past % 62 == 0 then 1 else 0) else shortest past p
+
+-- what the pixels cost, one after the other
+abbrev pub total_cost : (Past → RgbaPixel → ℕ) → Past → ℕ
+total_cost shortest [] = 0
+total_cost shortest (p ∷ past) = total_cost shortest past + cost shortest past p
+
+-- what the pixels of an image cost
+abbrev pub floor : List RgbaPixel → ℕ
+floor image = total_cost least (reverse image)
+
+-- there is a pixel, and it is opaque black
+abbrev pub is_start : Option RgbaPixel → Bool
+is_start None = false
+is_start (Some p) = pixel_eq p start
+
+-- How many bytes longer the written list may be: none, unless the image opens with opaque black and its first
+-- fresh pixel at the index position of opaque black is opaque black. The opening isn't noted, so that pixel
+-- is spelled out.
+unfoldable pub slack : List RgbaPixel → ℕ → ℕ
+slack image channels =
+    if is_start (slice_get image 0)
+    && is_start (find (λ p. hash p == hash start) (reverse (fresh (reverse image))))
+    then channels else 0

@@ -1,0 +1,67 @@
+-- The chunk list that is written for an image.
+use Rattle.std.specs.Prelude.{◌≡◌, ◌≢◌, ℕ, ◌<◌, ◌≤◌, List, [], ◌∷◌, if◌then◌else◌}
+use Rattle.qoi.specs.declared.parts.Chunk.{Chunk}
+use Rattle.qoi.specs.declared.parts.Chunk.TheVariants.{Place, Diff, Luma, Run, Rgb, Rgba}
+use Rattle.qoi.specs.Pixels.{RgbaPixel, Past, pixel_eq, previous, seen, hash}
+use Rattle.qoi.specs.Chunks.{IsChunk, AreChunks, pixel_of}
+use Rattle.qoi.specs.Meaning.{meaning, Each}
+
+-- the fresh pixels: those that differ from the pixel before them
+abbrev pub fresh : Past → Past
+fresh [] = []
+fresh (p ∷ past) = if pixel_eq p (previous past) then fresh past else p ∷ fresh past
+
+-- what is noted at an index position: the last fresh pixel whose position it is
+abbrev pub noted : Past → ℕ → RgbaPixel
+noted past i = seen (fresh past) i
+
+-- the order in which the chunks that spell a pixel out are tried; places and runs are none of them
+abbrev pub rank : Chunk → ℕ
+rank (Diff d) = 1
+rank (Luma d e) = 2
+rank (Rgb r g b) = 3
+rank (Rgba r g b a) = 4
+rank (Place i) = 0
+rank (Run n) = 0
+
+-- the chunk is the first of Diff, Luma, Rgb and Rgba that gives the pixel
+pub record IsFirst (past : Past) (p : RgbaPixel) (c : Chunk) : Type 0 where
+  pub spells : 0 < rank c
+  pub gives : pixel_of past c ≡ p
+  pub first : (d : Chunk) → IsChunk d → 0 < rank d → pixel_of past d ≡ p → rank c ≤ rank d
+
+-- how a fresh pixel is given: by its index position if it is noted there, else by the first chunk that spells it out
+pub record IsChoice (past : Past) (p : RgbaPixel) (c : Chunk) : Type 0 where
+  pub place : noted past (hash p) ≡ p → c ≡ Place (hash p)
+  pub spelled : noted past (hash p) ≢ p → IsFirst past p c
+
+-- a chunk other than a run gives a fresh pixel, by the choice; so each repeat is given by a run
+pub record GivesFresh (Choice : Past → RgbaPixel → Chunk → Type 0) (past : Past) (c : Chunk) : Type 0 where
+  pub is_fresh : pixel_of past c ≢ previous past
+  pub is_chosen : Choice past (pixel_of past c) c
+
+-- runs are free, and each other chunk gives a fresh pixel, by the choice
+abbrev pub IsRightAfter : (Past → RgbaPixel → Chunk → Type 0) → Past → Chunk → Type 0
+IsRightAfter Choice past (Run n) = Unit {0}
+IsRightAfter Choice past c = GivesFresh Choice past c
+
+-- a run directly before a run has length 62
+abbrev pub IsFull : Chunk → List Chunk → Type 0
+IsFull (Run m) (Run n ∷ cs) = m ≡ 62
+IsFull _ _ = Unit {0}
+
+-- so it is throughout the list
+abbrev pub RunsAreFull : List Chunk → Type 0
+RunsAreFull [] = Unit {0}
+RunsAreFull (c ∷ cs) = IsFull c cs × RunsAreFull cs
+
+-- a chunk list that means the image, with this choice of a chunk for each fresh pixel
+pub record WrittenBy (Choice : Past → RgbaPixel → Chunk → Type 0) (image : List RgbaPixel) (cs : List Chunk) : Type 0 where
+  pub chunks : AreChunks cs
+  pub means : meaning cs ≡ image
+  pub right : Each (IsRightAfter Choice) [] cs
+  pub full : RunsAreFull cs
+
+-- the chunk list that is written for an image
+abbrev pub Written : List RgbaPixel → List Chunk → Type 0
+Written image cs = WrittenBy IsChoice image cs

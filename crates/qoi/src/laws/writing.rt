@@ -1,0 +1,124 @@
+//! Laws of the chunk list that is written for an image.
+ghost use Rattle.std.specs.Prelude.{◌≡◌, ◌≢◌, ℕ, ◌+◌, ◌*◌, ◌/◌, ◌<◌, ◌≤◌, List, [], ◌∷◌, ◌++◌, length, replicate};
+ghost use Rattle.std.specs.List.{AllByRecursion};
+ghost use Rattle.qoi.specs.declared.parts.Chunk.{Chunk};
+ghost use Rattle.qoi.specs.declared.parts.Chunk.TheVariants.{Place, Run, Rgb, Rgba};
+ghost use Rattle.qoi.specs.Pixels.{RgbaPixel, IsPixel, Past, blank, pixel, previous};
+ghost use Rattle.qoi.specs.Chunks.{AreChunks, text};
+ghost use Rattle.qoi.specs.Meaning.{Reaches, meaning};
+ghost use Rattle.qoi.specs.Output.{IsChannels, output};
+ghost use Rattle.qoi.specs.Raw.{pixels_of, HasChannels};
+ghost use Rattle.qoi.specs.Regular.{Begins, Regular};
+ghost use Rattle.qoi.specs.Shortest.{floor, repeats, slack, total_cost};
+ghost use Rattle.qoi.specs.Written.{Written};
+
+/// An image has exactly one written list.
+pub fn written_is_one()
+    ensures some { (image : List RgbaPixel) → AllByRecursion IsPixel image → (cs : List Chunk) × Written image cs }
+    ensures one { (image : List RgbaPixel) (cs ds : List Chunk) → Written image cs → Written image ds → cs ≡ ds }
+{}
+
+/// Two neighbouring place chunks of the written list never name the same index position.
+pub fn written_is_apart()
+    ensures { (image : List RgbaPixel) (cs front rest : List Chunk) (i : ℕ) → Written image cs
+        → cs ≢ front ++ Place i ∷ Place i ∷ rest }
+{}
+
+/// The pixels of raw bytes, three or four bytes a pixel, are pixels. They are opaque where three bytes make
+/// one, and they give the bytes back.
+pub fn bytes_are_pixels()
+    ensures pixels { (channels : ℕ) (bytes : List ℕ) → IsChannels channels → AllByRecursion (λ b. b < 256) bytes
+        → AllByRecursion IsPixel (pixels_of channels bytes) }
+    ensures channels { (channels : ℕ) (bytes : List ℕ) → IsChannels channels
+        → HasChannels (pixels_of channels bytes) channels }
+    ensures count { (channels n : ℕ) (bytes : List ℕ) → IsChannels channels → length bytes ≡ channels * n
+        → length (pixels_of channels bytes) ≡ n }
+    ensures back { (channels n : ℕ) (bytes : List ℕ) → IsChannels channels → length bytes ≡ channels * n
+        → output channels channels (pixels_of channels bytes) ≡ bytes }
+{}
+
+/// The written list takes at most a byte a pixel more than the raw bytes.
+pub fn written_fits()
+    ensures { (image : List RgbaPixel) (channels n : ℕ) (cs : List Chunk) → HasChannels image channels
+        → length image ≡ n → Written image cs → length (text cs) ≤ n * channels + n }
+{}
+
+/// The written list reaches the pixels of its image.
+pub fn written_reaches()
+    ensures { (image : List RgbaPixel) (n : ℕ) (cs : List Chunk) → Written image cs → length image ≡ n → Reaches n cs }
+{}
+
+/// A list is regular if it names an index position only where a pixel was put. The written list is regular.
+pub fn written_is_regular()
+    ensures { (image : List RgbaPixel) (cs : List Chunk) → Written image cs → Regular cs }
+{}
+
+/// Where no pixel of an image is transparent black, as in an image of three channels, each list that reaches
+/// its pixels and begins with them is regular.
+pub fn no_blank_is_regular()
+    ensures no_blank { (image : List RgbaPixel) (cs : List Chunk) → Reaches (length image) cs
+        → Begins (meaning cs) image → AllByRecursion (λ p. p ≢ blank) image → Regular cs }
+    ensures three_channels { (image : List RgbaPixel) (cs : List Chunk) → Reaches (length image) cs
+        → Begins (meaning cs) image → HasChannels image 3 → Regular cs }
+{}
+
+/// No regular list whose pixels begin with those of an image has fewer bytes than the image's floor. Neither
+/// the length of its runs nor what it gives past the image matters.
+pub fn none_is_shorter()
+    ensures { (image : List RgbaPixel) (cs : List Chunk) → AreChunks cs → Regular cs → Begins (meaning cs) image
+        → floor image ≤ length (text cs) }
+{}
+
+/// The written list has at most the bytes of the floor and the slack.
+pub fn written_is_short()
+    ensures { (image : List RgbaPixel) (channels : ℕ) (cs : List Chunk) → HasChannels image channels
+        → Written image cs → length (text cs) ≤ floor image + slack image channels }
+{}
+
+/// So the written list is at most its slack longer than each regular list whose pixels begin with those of
+/// the image.
+pub fn written_is_near_shortest()
+    ensures { (image : List RgbaPixel) (channels : ℕ) (cs others : List Chunk) → HasChannels image channels
+        → Written image cs → AreChunks others → Regular others → Begins (meaning others) image
+        → length (text cs) ≤ length (text others) + slack image channels }
+{}
+
+/// In a floor a group of repeats costs a byte for each 62 of them, rounded up.
+pub fn group_cost()
+    ensures { (shortest : Past → RgbaPixel → ℕ) (past : Past) (n : ℕ) → repeats past ≡ 0
+        → total_cost shortest (replicate n (previous past) ++ past) ≡ total_cost shortest past + (n + 61) / 62 }
+{}
+
+/// The floor and the slack of a few images.
+pub fn shortest_examples()
+    ensures black_returns_rgb { floor (pixel 0 0 0 255 ∷ pixel 101 102 103 255 ∷ pixel 0 0 0 255 ∷ []) ≡ 6 }
+    ensures black_returns_rgba { floor (pixel 0 0 0 255 ∷ pixel 101 102 103 104 ∷ pixel 0 0 0 255 ∷ []) ≡ 7 }
+    ensures black_overwritten { floor (pixel 0 0 0 255 ∷ pixel 1 99 2 255 ∷ pixel 0 0 0 255 ∷ []) ≡ 9 }
+    ensures black_back_and_forth { floor (pixel 0 0 0 255 ∷ pixel 101 102 103 255 ∷ pixel 0 0 0 255
+        ∷ pixel 101 102 103 255 ∷ pixel 0 0 0 255 ∷ []) ≡ 8 }
+    ensures black_twice { floor (pixel 0 0 0 255 ∷ pixel 0 0 0 255 ∷ []) ≡ 1 }
+    ensures black_many { floor (replicate 63 (pixel 0 0 0 255) ++ pixel 101 102 103 104 ∷ pixel 0 0 0 255 ∷ []) ≡ 8 }
+    ensures blank_without_place { floor (pixel 64 0 0 0 ∷ pixel 0 0 0 0 ∷ pixel 64 0 0 0 ∷ pixel 0 0 0 0 ∷ []) ≡ 17 }
+    ensures slack_black_returns_rgb { slack (pixel 0 0 0 255 ∷ pixel 101 102 103 255 ∷ pixel 0 0 0 255 ∷ []) 3 ≡ 3 }
+    ensures slack_black_returns_rgba { slack (pixel 0 0 0 255 ∷ pixel 101 102 103 104 ∷ pixel 0 0 0 255 ∷ []) 4 ≡ 4 }
+    ensures slack_black_overwritten { slack (pixel 0 0 0 255 ∷ pixel 1 99 2 255 ∷ pixel 0 0 0 255 ∷ []) 3 ≡ 0 }
+{}
+
+/// The slack is reached. Opaque black, a color and opaque black again are written in 9 bytes in three channels
+/// and in 11 in four, and a regular list that names the index position of opaque black has 6 and 7.
+pub fn slack_is_reached()
+    ensures written_rgb { Written (pixel 0 0 0 255 ∷ pixel 101 102 103 255 ∷ pixel 0 0 0 255 ∷ [])
+        (Run 1 ∷ Rgb 101 102 103 ∷ Rgb 0 0 0 ∷ []) }
+    ensures regular_rgb { Regular (Run 1 ∷ Rgb 101 102 103 ∷ Place 53 ∷ []) }
+    ensures meaning_rgb { meaning (Run 1 ∷ Rgb 101 102 103 ∷ Place 53 ∷ [])
+        ≡ pixel 0 0 0 255 ∷ pixel 101 102 103 255 ∷ pixel 0 0 0 255 ∷ [] }
+    ensures longer_rgb { length (text (Run 1 ∷ Rgb 101 102 103 ∷ Rgb 0 0 0 ∷ []))
+        ≡ length (text (Run 1 ∷ Rgb 101 102 103 ∷ Place 53 ∷ [])) + 3 }
+    ensures written_rgba { Written (pixel 0 0 0 255 ∷ pixel 101 102 103 104 ∷ pixel 0 0 0 255 ∷ [])
+        (Run 1 ∷ Rgba 101 102 103 104 ∷ Rgba 0 0 0 255 ∷ []) }
+    ensures regular_rgba { Regular (Run 1 ∷ Rgba 101 102 103 104 ∷ Place 53 ∷ []) }
+    ensures meaning_rgba { meaning (Run 1 ∷ Rgba 101 102 103 104 ∷ Place 53 ∷ [])
+        ≡ pixel 0 0 0 255 ∷ pixel 101 102 103 104 ∷ pixel 0 0 0 255 ∷ [] }
+    ensures longer_rgba { length (text (Run 1 ∷ Rgba 101 102 103 104 ∷ Rgba 0 0 0 255 ∷ []))
+        ≡ length (text (Run 1 ∷ Rgba 101 102 103 104 ∷ Place 53 ∷ [])) + 4 }
+{}
