@@ -27,3 +27,4 @@ pub mod Upper
 pub mod WrittenExists
 pub mod WrittenOnce
 pub mod WrittenShape
+pub mod SpelledBytes

@@ -1,8 +1,10 @@
+pub mod Buffer
 pub mod Bytes
 pub mod Chunks
 pub mod DecoderState
 pub mod Decoding
 pub mod ErrorText
+pub mod Errors
 pub mod Files
 pub mod Filling
 pub mod Headers
@@ -12,6 +14,9 @@ pub mod Pixels
 pub mod Raw
 pub mod Regular
 pub mod Shortest
+pub mod Spelling
+pub mod Stream
 pub mod Types
 pub mod Verdicts
+pub mod Writes
 pub mod Written

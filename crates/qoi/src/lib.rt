@@ -6,6 +6,7 @@ mod error;
 mod header;
 mod pixel;
 mod types;
+mod utils;
 
 #[doc(hidden)]
 pub mod consts;

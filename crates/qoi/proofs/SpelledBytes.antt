@@ -1,0 +1,72 @@
+-- The first chunk that spells a pixel out, from the differences that the encoder computes.
+use Rattle.std.proofs.Common.{◌≡◌, ◌≢◌, ℕ, ◌+◌, ◌-◌, ◌*◌, ◌%◌, ◌<◌, ◌≤◌, refl, sym, ap, ◌∙◌, subst, arith}
+use Rattle.qoi.specs.declared.parts.Chunk.TheVariants.{Diff, Luma, Rgb, Rgba}
+use Rattle.qoi.specs.Pixels.{RgbaPixel, IsPixel, Past, previous}
+use Rattle.qoi.specs.Written.{IsFirst}
+use Rattle.qoi.proofs.Spelled.{plus_2, plus_32, plus_8, FitsDiff, FitsLuma, first_diff, first_luma, first_rgb, first_rgba}
+
+-- the colors of a pixel and of the pixel before it
+pub record Colors (q p : RgbaPixel) (r1 g1 b1 r0 g0 b0 : ℕ) : Type 0 where
+  pub r : r1 ≡ p.r
+  pub g : g1 ≡ p.g
+  pub b : b1 ≡ p.b
+  pub before_r : r0 ≡ q.r
+  pub before_g : g0 ≡ q.g
+  pub before_b : b0 ≡ q.b
+
+-- a difference that wraps at 256, and what is added to it
+abbrev pub wrapped : ℕ → ℕ → ℕ
+wrapped x y = (x + (256 - y)) % 256
+
+-- the encoder's difference plus 2 is the format's
+is_plus_2 : (x y u v : ℕ) → u < 256 → v < 256 → x ≡ u → y ≡ v → (wrapped x y + 2) % 256 ≡ plus_2 u v
+is_plus_2 x y u v hu hv e f = omega arith
+
+is_plus_32 : (x y u v : ℕ) → u < 256 → v < 256 → x ≡ u → y ≡ v → (wrapped x y + 32) % 256 ≡ plus_32 u v
+is_plus_32 x y u v hu hv e f = omega arith
+
+is_plus_8 : (x y z w u v s t : ℕ) → u < 256 → v < 256 → s < 256 → t < 256 → x ≡ u → y ≡ v → z ≡ s → w ≡ t → ((wrapped x y + (256 - wrapped z w)) % 256 + 8) % 256 ≡ plus_8 u v s t
+is_plus_8 x y z w u v s t hu hv hs ht e f h i = omega arith
+
+module _ (past : Past) (p : RgbaPixel) (r g b r0 g0 b0 : ℕ) (before : IsPixel (previous past)) (is : IsPixel p) (alpha : p.a ≡ (previous past).a) (colors : Colors (previous past) p r g b r0 g0 b0) where
+  plus_2_r : (wrapped r r0 + 2) % 256 ≡ plus_2 p.r (previous past).r
+  plus_2_r = is_plus_2 _ _ _ _ is.r before.r colors.r colors.before_r
+
+  plus_2_g : (wrapped g g0 + 2) % 256 ≡ plus_2 p.g (previous past).g
+  plus_2_g = is_plus_2 _ _ _ _ is.g before.g colors.g colors.before_g
+
+  plus_2_b : (wrapped b b0 + 2) % 256 ≡ plus_2 p.b (previous past).b
+  plus_2_b = is_plus_2 _ _ _ _ is.b before.b colors.b colors.before_b
+
+  plus_8_r : ((wrapped r r0 + (256 - wrapped g g0)) % 256 + 8) % 256 ≡ plus_8 p.r (previous past).r p.g (previous past).g
+  plus_8_r = is_plus_8 _ _ _ _ _ _ _ _ is.r before.r is.g before.g colors.r colors.before_r colors.g colors.before_g
+
+  plus_8_b : ((wrapped b b0 + (256 - wrapped g g0)) % 256 + 8) % 256 ≡ plus_8 p.b (previous past).b p.g (previous past).g
+  plus_8_b = is_plus_8 _ _ _ _ _ _ _ _ is.b before.b is.g before.g colors.b colors.before_b colors.g colors.before_g
+
+  plus_32_g : (wrapped g g0 + 32) % 256 ≡ plus_32 p.g (previous past).g
+  plus_32_g = is_plus_32 _ _ _ _ is.g before.g colors.g colors.before_g
+
+  -- where the three differences fit a Diff, it is the first
+  pub spelled_diff : (wrapped r r0 + 2) % 256 < 4 → (wrapped g g0 + 2) % 256 < 4 → (wrapped b b0 + 2) % 256 < 4
+      → IsFirst past p (Diff (64 + (wrapped r r0 + 2) % 256 * 16 + (wrapped g g0 + 2) % 256 * 4 + (wrapped b b0 + 2) % 256))
+  spelled_diff x y z =
+      rw (plus_2_r, plus_2_g, plus_2_b) (first_diff past p before is alpha (record { r = rw plus_2_r at x; g = rw plus_2_g at y; b = rw plus_2_b at z }))
+
+  -- they don't fit a Diff
+  pub unfit_diff : ((wrapped r r0 + 2) % 256 < 4 → (wrapped g g0 + 2) % 256 < 4 → (wrapped b b0 + 2) % 256 < 4 → ⊥) → FitsDiff (previous past) p → ⊥
+  unfit_diff no_fit fits = no_fit (rw plus_2_r fits.r) (rw plus_2_g fits.g) (rw plus_2_b fits.b)
+
+  -- else where they fit a Luma, it is the first
+  pub spelled_luma : ((wrapped r r0 + 2) % 256 < 4 → (wrapped g g0 + 2) % 256 < 4 → (wrapped b b0 + 2) % 256 < 4 → ⊥) → (wrapped g g0 + 32) % 256 < 64
+      → ((wrapped r r0 + (256 - wrapped g g0)) % 256 + 8) % 256 < 16 → ((wrapped b b0 + (256 - wrapped g g0)) % 256 + 8) % 256 < 16
+      → IsFirst past p (Luma (128 + (wrapped g g0 + 32) % 256) (((wrapped r r0 + (256 - wrapped g g0)) % 256 + 8) % 256 * 16 + ((wrapped b b0 + (256 - wrapped g g0)) % 256 + 8) % 256))
+  spelled_luma no_fit x y z =
+      rw (plus_32_g, plus_8_r, plus_8_b) (first_luma past p before is alpha (unfit_diff no_fit) (record { r = rw plus_8_r at y; g = rw plus_32_g at x; b = rw plus_8_b at z }))
+
+  -- else an Rgb is
+  pub spelled_rgb : ((wrapped r r0 + 2) % 256 < 4 → (wrapped g g0 + 2) % 256 < 4 → (wrapped b b0 + 2) % 256 < 4 → ⊥)
+      → ((wrapped g g0 + 32) % 256 < 64 → ((wrapped r r0 + (256 - wrapped g g0)) % 256 + 8) % 256 < 16 → ((wrapped b b0 + (256 - wrapped g g0)) % 256 + 8) % 256 < 16 → ⊥)
+      → IsFirst past p (Rgb r g b)
+  spelled_rgb no_fit too_wide =
+      rw (colors.r, colors.g, colors.b) (first_rgb past p before alpha (unfit_diff no_fit) (λ fits. too_wide (rw plus_32_g fits.g) (rw plus_8_r fits.r) (rw plus_8_b fits.b)))

@@ -1,0 +1,20 @@
+-- What a write took moves from the rest to what is written.
+use Rattle.std.proofs.Common.{◌≡◌, ℕ, ◌+◌, ◌-◌, List, ◌++◌, length, take, drop, refl, sym, ap, ◌∙◌, append_assoc, take-append-drop, arith, length-append}
+use Rattle.std.proofs.lemmas.List.{take_rest, length-take-le}
+use Rattle.qoi.specs.Writes.{WroteBut, WriterLaws}
+use Rattle.qoi.specs.Stream.{StreamWrote, stream_laws}
+use Rattle.qoi.proofs.utils.GenericWriterWriter.write_many.Goals as goal
+
+pub loop-rest-preserved : goal.loop-rest-preserved
+loop-rest-preserved g c =
+    let i = c.loop-rest.invariant in
+    let rest = c.loop-rest.rest.now in
+    let n = c.in_ok-count.count in
+    let taken : length (take n rest) ≡ n = length-take-le n rest c.in_ok-count.ensures.bound in
+    let counted : (c.loop-rest.self.room - n) + length (take n rest) ≡ c.loop-rest.self.room =
+    omega (arith, taken, i.went.counted, c.requires, ap length i.split, length-append i.front rest, c.in_ok-count.ensures.bound) in
+    record {
+      front = i.front ++ take n rest;
+      split = i.split ∙ ap (λ z. i.front ++ z) (sym (take-append-drop n rest)) ∙ sym (append_assoc i.front (take n rest) (drop n rest)) ∙ ap (λ z. (i.front ++ take n rest) ++ z) (sym (take_rest rest n));
+      went = (stream_laws g.W.Write.contents).both _ _ _ i.front (take n rest) i.went (record { same_writer = refl; appended = c.in_ok-count.ensures.bytes; counted = counted });
+    }

@@ -1,0 +1,197 @@
+//! Where the encoder writes.
+ghost use Rattle.std.specs.Prelude.{◌≡◌, ℕ, ◌<◌, ◌≤◌, List, [], ◌∷◌, length, OnOk, IfErr};
+ghost use Rattle.qoi.specs.Writes.{WriterLaws, WroteSome};
+ghost use Rattle.qoi.specs.Chunks.{IsChunk, bytes_of};
+
+use crate::consts::{QOI_OP_INDEX, QOI_OP_RGB, QOI_OP_RGBA, QOI_OP_RUN};
+use crate::error::{Error, Result};
+use crate::parts::Chunk;
+use std::io;
+use std::io::{ErrorKind, Write};
+
+/// A place that takes bytes, one after the other.
+///
+/// A caller sees to it that the capacity suffices.
+pub trait Writer: Sized {
+    ghost use Rattle.qoi.specs.declared.error.Error.{Error};
+
+    /// `wrote a bytes b`: the writer `a` became `b` by writing the bytes.
+    ghost wrote: { Self → List ℕ → Self → Type 0 };
+
+    /// How many bytes can still be written.
+    ghost room: { Self → ℕ };
+
+    /// The errors that a call can answer at all.
+    ghost Refuses: { Error → Type 0 };
+
+    /// Writes one byte; a refusal leaves it unwritten.
+    fn write_one(&mut self, v: u8) -> Result<()>
+        requires { 0 < room self.old }
+        ensures written { OnOk result (wrote self.old (v ∷ []) self.new) }
+        ensures refused { IfErr result (λ e. Refuses e × WroteSome wrote self.old (v ∷ []) self.new) };
+
+    /// Writes all the bytes; after a refusal a beginning of them is written.
+    fn write_many(&mut self, v: &[u8]) -> Result<()>
+        requires { length v.now ≤ room self.old }
+        ensures written { OnOk result (wrote self.old v.now self.new) }
+        ensures refused { IfErr result (λ e. Refuses e × WroteSome wrote self.old v.now self.new) };
+
+    /// How many bytes can still be written.
+    fn capacity(&self) -> usize
+        ensures { result ≡ room self.now };
+
+    ghost laws: { WriterLaws wrote room };
+}
+
+// Writes a chunk's bytes.
+#[inline(always)]
+pub(crate) fn write_chunk<W: Writer>(buf: &mut W, chunk: Chunk) -> Result<()>
+    requires chunk { IsChunk chunk }
+    requires room { length (bytes_of chunk) ≤ W.room buf.old }
+    ensures written { OnOk result (W.wrote buf.old (bytes_of chunk) buf.new) }
+    ensures refused { IfErr result (λ e. W.Refuses e × WroteSome W.wrote buf.old (bytes_of chunk) buf.new) }
+{
+    match chunk {
+        Chunk::Place(i) => buf.write_one(QOI_OP_INDEX + i),
+        Chunk::Diff(b1) => buf.write_one(b1),
+        Chunk::Luma(b1, b2) => buf.write_many(&[b1, b2]),
+        Chunk::Run(n) => buf.write_one(QOI_OP_RUN + (n - 1)),
+        Chunk::Rgb(r, g, b) => buf.write_many(&[QOI_OP_RGB, r, g, b]),
+        Chunk::Rgba(r, g, b, a) => buf.write_many(&[QOI_OP_RGBA, r, g, b, a]),
+    }
+}
+
+/// A lent buffer that is written from the front. It keeps the whole buffer and how many bytes are
+/// written, and never refuses.
+#[derive(Drop)]
+pub struct BytesMut<'a> {
+    buf: &'a mut [u8],
+    written: usize,
+    ghost within: { written ≤ length buf.now },
+}
+
+impl<'a> BytesMut<'a> {
+    ghost use Rattle.qoi.specs.Buffer.{BufferWrote, buffer_name, written_bytes, bytes_left};
+
+    /// A writer over the whole buffer, in which nothing is written yet.
+    #[inline]
+    pub fn new(buf: &'a mut [u8]) -> BytesMut<'a>
+        ensures same_buffer { buffer_name result ≡ buf.entry.ghost_name }
+        ensures written { written_bytes result ≡ [] }
+        ensures left { bytes_left result ≡ buf.old }
+    {
+        BytesMut { buf, written: 0 }
+    }
+
+    /// Writes one byte.
+    #[inline]
+    pub fn write_one(&mut self, v: u8)
+        requires { 0 < length (bytes_left self.old) }
+        ensures { BufferWrote self.old (v ∷ []) self.new }
+    {
+        self.write_many(&[v]);
+    }
+
+    /// Writes all the bytes.
+    #[inline]
+    pub fn write_many(&mut self, v: &[u8])
+        requires { length v.now ≤ length (bytes_left self.old) }
+        ensures { BufferWrote self.old v.now self.new }
+    {
+        let end = self.written + v.len();
+        self.buf[self.written..end].copy_from_slice(v);
+        self.written = end;
+    }
+}
+
+impl<'a> Writer for BytesMut<'a> {
+    ghost use Rattle.qoi.specs.Buffer.{BufferWrote, bytes_left, buffer_laws};
+
+    ghost wrote = { BufferWrote };
+
+    ghost room = { λ s. length (bytes_left s) };
+
+    ghost Refuses = { λ _. ⊥ };
+
+    ghost laws = { buffer_laws };
+
+    #[inline]
+    fn write_one(&mut self, v: u8) -> Result<()> {
+        BytesMut::write_one(self, v);
+        Ok(())
+    }
+
+    #[inline]
+    fn write_many(&mut self, v: &[u8]) -> Result<()> {
+        BytesMut::write_many(self, v);
+        Ok(())
+    }
+
+    #[inline]
+    fn capacity(&self) -> usize {
+        self.buf.len() - self.written
+    }
+}
+
+/// A writer of the standard library. An unbuffered one wants a buffering writer around it, since
+/// each chunk is a call of its `write`.
+#[derive(Drop)]
+pub struct GenericWriter<'a, W> {
+    writer: &'a mut W,
+    room: usize,
+}
+
+impl<'a, W: Write> GenericWriter<'a, W> {
+    ghost use Rattle.qoi.specs.Stream.{stream_name, stream_writer, stream_room};
+
+    /// A writer that can still take the greatest `usize` of bytes.
+    pub fn new(writer: &'a mut W) -> GenericWriter<'a, W>
+        ensures same_writer { stream_name result ≡ writer.entry.ghost_name }
+        ensures value { stream_writer result ≡ writer.old }
+        ensures room { stream_room result ≡ usize.MAX }
+    {
+        GenericWriter {
+            writer,
+            room: usize::MAX,
+        }
+    }
+}
+
+impl<'a, W: Write> Writer for GenericWriter<'a, W> {
+    ghost use Rattle.qoi.specs.Stream.{StreamWrote, stream_room, stream_laws};
+    ghost use Rattle.qoi.specs.Errors.{IsIoError};
+
+    ghost wrote = { StreamWrote W.contents };
+
+    ghost room = { stream_room };
+
+    ghost Refuses = { IsIoError };
+
+    ghost laws = { stream_laws W.contents };
+
+    fn write_one(&mut self, v: u8) -> Result<()> {
+        Writer::write_many(self, &[v])
+    }
+
+    /// Writes by `write`, again after each short write. A write that takes no byte is a fault of
+    /// kind `WriteZero`, and an interruption is a fault.
+    fn write_many(&mut self, v: &[u8]) -> Result<()> {
+        let mut rest = v;
+        while !rest.is_empty() {
+            let count = self.writer.write(rest)?;
+            if count == 0 {
+                return Err(Error::IoError(io::Error::new(
+                    ErrorKind::WriteZero,
+                    "the writer took no byte",
+                )));
+            }
+            self.room -= count;
+            rest = &rest[count..];
+        }
+        Ok(())
+    }
+
+    fn capacity(&self) -> usize {
+        self.room
+    }
+}
