@@ -10,6 +10,7 @@ pub mod SamePixels
 pub mod SlackReached
 pub mod SlackSteps
 pub mod Spelled
+pub mod SpelledBytes
 pub mod Upper
 pub mod WrittenExists
 pub mod WrittenOnce
