@@ -1,5 +1,6 @@
 pub mod ChunkSteps
 pub mod Coding
+pub mod CodingRest
 pub mod Costs
 pub mod Lower
 pub mod NotedPixels
