@@ -12,6 +12,7 @@ pub mod SlackReached
 pub mod SlackSteps
 pub mod Spelled
 pub mod SpelledBytes
+pub mod TableNotes
 pub mod Upper
 pub mod WrittenExists
 pub mod WrittenOnce

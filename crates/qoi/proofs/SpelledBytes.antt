@@ -1,6 +1,6 @@
 -- The first chunk that spells a pixel out, by bytes as code computes them: differences that wrap, tests by a mask,
 -- and bytes joined by an or.
-use Rattle.std.proofs.Common.{◌≡◌, ◌≢◌, ◌⊎◌, ℕ, ◌+◌, ◌-◌, ◌*◌, ◌/◌, ◌%◌, ◌^◌, ◌<◌, ◌≤◌, refl, sym, ap, ◌∙◌, bit_or, arith}
+use Rattle.std.proofs.Common.{◌≡◌, ◌≢◌, ℕ, ◌+◌, ◌-◌, ◌*◌, ◌%◌, ◌^◌, ◌<◌, refl, bit_or, arith}
 use Rattle.std.proofs.lemmas.Nat.{le_or_l, le_or_r, or_lt, or_shifted}
 use Rattle.qoi.specs.declared.parts.Chunk.TheVariants.{Diff, Luma, Rgb, Rgba}
 use Rattle.qoi.specs.Pixels.{RgbaPixel, IsPixel, Past, previous}

@@ -10,7 +10,7 @@ use Rattle.qoi.specs.Chunks.{IsChunk}
 use Rattle.qoi.specs.Written.{noted, IsFirst, IsChoice, Written}
 use Rattle.qoi.proofs.SamePixels.{cases_pixel}
 use Rattle.qoi.proofs.Spelled.{FitsDiff, FitsLuma, plus_2, plus_8, plus_32, diff_byte, luma_byte, luma_second, diff_chunk, luma_chunk, first_diff, first_luma, first_rgb, first_rgba}
-use Rattle.qoi.proofs.Coding.{all_reverse, Coding, Coded, coding_none, coding_repeat, coding_full, coded_none, coded_run, coding_chosen, coded_all}
+use Rattle.qoi.proofs.Coding.{Coding, coding_none, coding_repeat, coding_full, coded_none, coded_run, coding_chosen, coded_all}
 
 -- the pixel before the first one is a pixel
 pub is_pixel_start : IsPixel start
@@ -86,9 +86,10 @@ coding_step past k cs p w h ip = go (cases_pixel p (previous past)) (cases_eq (s
 
 -- What is written so far is the beginning of a written list, whatever pixels follow.
 pub coding_completed : (rest : List RgbaPixel) (past : Past) (k : ℕ) (cs : List Chunk) → Coding IsChoice past k cs → AllByRecursion IsPixel past → AllByRecursion IsPixel rest → (more : List Chunk) × Written (reverse past ++ rest) (cs ++ more)
-coding_completed [] past k cs w h r = elim (cases_eq k 0) as (λ _. (more : List Chunk) × Written (reverse past ++ []) (cs ++ more))
-  [ inl z ↦ ([], rw (append-nil (reverse past), append-nil cs) (coded_all IsChoice past cs (coded_none IsChoice past k cs w z)))
-  | inr n ↦ (Run k ∷ [], rw (append-nil (reverse past)) (coded_all IsChoice past _ (coded_run IsChoice past k cs w (omega arith)))) ]
+coding_completed [] past k cs w h r = elim (cases_eq k 0) as (λ _. (more : List Chunk) × Written (reverse past ++ []) (cs ++ more)) [
+  | inl z ↦ ([], rw (append-nil (reverse past), append-nil cs) (coded_all IsChoice past cs (coded_none IsChoice past k cs w z)))
+  | inr n ↦ (Run k ∷ [], rw (append-nil (reverse past)) (coded_all IsChoice past _ (coded_run IsChoice past k cs w (omega arith))))
+]
 coding_completed (p ∷ rest) past k cs w h r =
     let s = coding_step past k cs p w h r.0 in
     let t = coding_completed rest (p ∷ past) s.0 (cs ++ s.1) s.2 (r.0, h) r.1 in
