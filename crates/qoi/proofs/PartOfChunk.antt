@@ -1,11 +1,8 @@
 -- Bytes that are too short for the chunk that their first byte begins.
 use Rattle.std.proofs.Common.{◌≡◌, ℕ, ◌<◌, ◌≤◌, List, [], ◌∷◌, length, get_or, arith, refl}
 use Rattle.qoi.specs.declared.parts.Chunk.TheVariants.{Place, Luma, Rgb, Rgba}
+use Rattle.qoi.specs.Bytes.{AreBytes}
 use Rattle.qoi.specs.Verdicts.{IsPartOfChunk}
-
--- each member is a byte
-abbrev pub AreBytes : List ℕ → Type 0
-AreBytes bytes = (i : ℕ) → get_or bytes i 0 < 256
 
 -- no byte begins any chunk
 pub part_empty : (bytes : List ℕ) → length bytes < 1 → IsPartOfChunk bytes

@@ -1,6 +1,10 @@
+pub mod Bytes
 pub mod Chunks
+pub mod DecoderState
+pub mod Decoding
 pub mod ErrorText
 pub mod Files
+pub mod Filling
 pub mod Headers
 pub mod Meaning
 pub mod Output

@@ -1,2 +1,4 @@
 //! Laws over the definitions.
+
+pub mod reading;
 pub mod writing;

@@ -1,16 +1,20 @@
 //! An encoder and a decoder of the QOI image format, proved.
 #![tactic(auto)]
 
-#[doc(hidden)]
-pub mod consts;
+mod decode;
 mod error;
 mod header;
+mod pixel;
+mod types;
+
+#[doc(hidden)]
+pub mod consts;
 #[doc(hidden)]
 pub mod laws;
 #[doc(hidden)]
 pub mod parts;
-mod types;
 
+pub use crate::decode::{Decoder, decode_header, decode_to_buf, decode_to_vec};
 pub use crate::error::{Error, Result};
 pub use crate::header::Header;
 pub use crate::types::{Channels, ColorSpace};

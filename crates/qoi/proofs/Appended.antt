@@ -1,0 +1,32 @@
+-- One more chunk at the end of a list.
+use Rattle.std.proofs.Common.{◌≡◌, ℕ, ◌<◌, List, [], ◌∷◌, ◌++◌, length, reverse, refl, ap, ◌∙◌, sym, append-nil, append_assoc}
+use Rattle.std.specs.List.{flat_map, AllByRecursion}
+use Rattle.std.proofs.lemmas.List.{length-reverse}
+use Rattle.std.proofs.lemmas.Grind.{flat_map-append}
+use Rattle.qoi.specs.declared.parts.Chunk.{Chunk}
+use Rattle.qoi.specs.Pixels.{Past}
+use Rattle.qoi.specs.Chunks.{IsChunk, AreChunks, bytes_of, text, then_chunk}
+use Rattle.qoi.specs.Meaning.{then_chunks, meaning, Each}
+
+-- the pixels after chunks and one more
+pub then_chunks-push : (past : Past) (cs : List Chunk) (c : Chunk) → then_chunks past (cs ++ c ∷ []) ≡ then_chunk (then_chunks past cs) c
+then_chunks-push past [] c = refl
+then_chunks-push past (d ∷ cs) c = then_chunks-push (then_chunk past d) cs c
+
+-- what holds of each chunk, and of one more
+pub Each-push : (P : Past → Chunk → Type 0) (past : Past) (cs : List Chunk) (c : Chunk) → Each P past cs → P (then_chunks past cs) c → Each P past (cs ++ c ∷ [])
+Each-push P past [] c each last = (last, tt)
+Each-push P past (d ∷ cs) c each last = (each.0, Each-push P (then_chunk past d) cs c each.1 last)
+
+pub AreChunks-push : (cs : List Chunk) (c : Chunk) → AreChunks cs → IsChunk c → AreChunks (cs ++ c ∷ [])
+AreChunks-push [] c are is = (is, tt)
+AreChunks-push (d ∷ cs) c are is = (are.0, AreChunks-push cs c are.1 is)
+
+-- the bytes of chunks and one more, and then others
+pub text-push : (cs : List Chunk) (c : Chunk) (rest : List ℕ) → text (cs ++ c ∷ []) ++ rest ≡ text cs ++ (bytes_of c ++ rest)
+text-push [] c rest = ap (λ z. z ++ rest) (append-nil (bytes_of c))
+text-push (d ∷ cs) c rest =
+    append_assoc (bytes_of d) (text (cs ++ c ∷ [])) rest ∙ ap (λ z. bytes_of d ++ z) (text-push cs c rest) ∙ sym (append_assoc (bytes_of d) (text cs) (bytes_of c ++ rest))
+
+pub length-meaning : (cs : List Chunk) → length (meaning cs) ≡ length (then_chunks [] cs)
+length-meaning cs = length-reverse (then_chunks [] cs)

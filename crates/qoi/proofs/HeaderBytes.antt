@@ -1,0 +1,218 @@
+-- A header's fourteen bytes are read as the header, and no other bytes are.
+use Rattle.std.proofs.Common.{◌≡◌, ℕ, ◌*◌, ◌^◌, ◌<◌, ◌≤◌, zero, suc, List, [], ◌∷◌, ◌++◌, length, take, drop, arith, refl, ap, sym, ◌∙◌, subst, Bool, true, false, Result, Ok, Err, slice_index, nat_le, nat_lt, ◌==◌, cond, ◌&&◌, length-append}
+use Rattle.std.proofs.lemmas.List.{length-take-le, drop_at}
+use Rattle.std.proofs.lemmas.Bool.{cond-true, le-ltb, ltb-false, le-leb, leb-true, and_from, and_parts, eqb-true}
+use Rattle.std.proofs.Math.Nat.{mul-zero, mul_comm, le-mul_of_pos_right}
+use Rattle.std.proofs.lemmas.Nat.{from_be_bytes-to_be_bytes_4, be_bytes_4}
+use Rattle.std.specs.Int.{w32, to_be_bytes}
+use Rattle.qoi.specs.declared.error.Error.{Error}
+use Rattle.qoi.specs.declared.error.Error.TheVariants.{InvalidMagic, InvalidImageDimensions, UnexpectedBufferEnd}
+use Rattle.qoi.specs.declared.types.Channels.{Channels}
+use Rattle.qoi.specs.declared.types.Channels.TheVariants.{Rgb, Rgba}
+use Rattle.qoi.specs.declared.types.ColorSpace.{ColorSpace}
+use Rattle.qoi.specs.declared.types.ColorSpace.TheVariants.{Srgb, Linear}
+use Rattle.qoi.specs.declared.header.Header.{Header}
+use Rattle.qoi.specs.Types.{channels_number, channels_of, colorspace_number, colorspace_of}
+use Rattle.qoi.specs.Bytes.{AreBytes}
+use Rattle.qoi.specs.Headers.{head, pixel_count, IsValid, tried_header, number_at, checked_header, with_channels_read, header_of}
+
+-- the number of channels is read back
+channels_back : (c : Channels) → channels_of (channels_number c) ≡ Ok c
+channels_back Rgb = refl
+channels_back Rgba = refl
+
+-- the number of a color space is read back
+colorspace_back : (s : ColorSpace) → colorspace_of (colorspace_number s) ≡ Ok s
+colorspace_back Srgb = refl
+colorspace_back Linear = refl
+
+-- a number that reads as channels is theirs
+channels_from : (n : ℕ) (c : Channels) → channels_of n ≡ Ok c → n ≡ channels_number c
+channels_from n c e = grind (arith)
+
+-- a number that reads as a color space is its own
+colorspace_from : (n : ℕ) (s : ColorSpace) → colorspace_of n ≡ Ok s → n ≡ colorspace_number s
+colorspace_from n s e = grind (arith)
+
+-- fourteen bytes
+pub length-head : (h : Header) → length (head h) ≡ 14
+length-head h = refl
+
+-- what bytes say whose verdict is a header
+pub record SaysHeader (bytes : List ℕ) (h : Header) : Type 0 where
+  pub long : 14 ≤ length bytes
+  pub channels : channels_of (slice_index bytes 12) ≡ Ok h.channels
+  pub colorspace : colorspace_of (slice_index bytes 13) ≡ Ok h.colorspace
+  pub magic : number_at bytes 0 ≡ 1903126886
+  pub width : number_at bytes 4 ≡ h.width
+  pub height : number_at bytes 8 ≡ h.height
+  pub valid : IsValid h
+
+-- dimensions within bounds are taken
+tried_valid : (h : Header) → IsValid h → tried_header h.width h.height h.channels h.colorspace ≡ Ok h
+tried_valid h v =
+    cond-true (nat_le 1 (h.width * h.height) && nat_le (h.width * h.height) 400000000) _ _
+    (and_from _ _ (le-leb 1 (h.width * h.height) v.0) (le-leb (h.width * h.height) 400000000 v.1))
+
+-- bytes that say a header are read as it
+pub header_from_says : (bytes : List ℕ) (h : Header) → SaysHeader bytes h → header_of bytes ≡ Ok h
+header_from_says bytes h s =
+    rw (le-ltb (length bytes) 14 s.long, s.channels, s.colorspace, s.magic, s.width, s.height) (tried_valid h s.valid)
+
+-- a factor of a product within the bound is below 2 ^ 32
+factor_below : (a b : ℕ) → 1 ≤ a * b → a * b ≤ 400000000 → a < 2 ^ 32
+factor_below a zero low high = absurd (omega (arith, mul-zero a))
+factor_below a (suc b) low high =
+    let pos : 0 < suc b = omega arith in
+    let h : a ≤ a * suc b = le-mul_of_pos_right a pos in
+    omega arith
+
+-- a valid header's bytes say it
+pub says_head : (h : Header) (rest : List ℕ) → IsValid h → SaysHeader (head h ++ rest) h
+says_head h rest v =
+    let turned = mul_comm h.width h.height in
+    record {
+      long = omega (arith, length-append (head h) rest, length-head h);
+      channels = channels_back h.channels;
+      colorspace = colorspace_back h.colorspace;
+      magic = refl;
+      width = from_be_bytes-to_be_bytes_4 h.width (factor_below h.width h.height v.0 v.1);
+      height = from_be_bytes-to_be_bytes_4 h.height (factor_below h.height h.width (omega (arith, v.0)) (omega (arith, v.1)));
+      valid = v;
+    }
+
+-- a valid header's bytes are read as it, whatever follows them
+pub header_of-head : (h : Header) (rest : List ℕ) → IsValid h → header_of (head h ++ rest) ≡ Ok h
+header_of-head h rest v = header_from_says (head h ++ rest) h (says_head h rest v)
+
+-- a test that guards against a refusal has passed
+guard_true : {A E : Type 0} (b : Bool) (r : Result A E) (refusal : E) (x : A) → cond b r (Err refusal) ≡ Ok x → (b ≡ true) × (r ≡ Ok x)
+guard_true true r refusal x e = (refl, e)
+guard_true false r refusal x e = absurd cc
+
+-- a test for a refusal has failed
+guard_false : {A E : Type 0} (b : Bool) (r : Result A E) (refusal : E) (x : A) → cond b (Err refusal) r ≡ Ok x → (b ≡ false) × (r ≡ Ok x)
+guard_false true r refusal x e = absurd cc
+guard_false false r refusal x e = (refl, e)
+
+-- what bytes say beside their length, where their channels and color space are read
+record SaysRest (bytes : List ℕ) (c : Channels) (s : ColorSpace) (h : Header) : Type 0 where
+  pub magic : number_at bytes 0 ≡ 1903126886
+  pub is_header : record { width = number_at bytes 4; height = number_at bytes 8; channels = c; colorspace = s } ≡ h
+  pub valid : IsValid h
+
+-- dimensions that are taken are within bounds
+rest_from : (bytes : List ℕ) (c : Channels) (s : ColorSpace) (h : Header) → checked_header bytes c s ≡ Ok h → SaysRest bytes c s h
+rest_from bytes c s h e =
+    let k : Header = record { width = number_at bytes 4; height = number_at bytes 8; channels = c; colorspace = s } in
+    let outer = guard_true (number_at bytes 0 == 1903126886) (tried_header (number_at bytes 4) (number_at bytes 8) c s) (InvalidMagic (number_at bytes 0)) h e in
+    let inner = guard_true (nat_le 1 (pixel_count k) && nat_le (pixel_count k) 400000000) (Ok k) (InvalidImageDimensions k.width k.height) h outer.1 in
+    let bounds = and_parts (nat_le 1 (pixel_count k)) (nat_le (pixel_count k) 400000000) inner.0 in
+    let same : k ≡ h = cc in
+    record {
+      magic = eqb-true (number_at bytes 0) 1903126886 outer.0;
+      is_header = same;
+      valid = subst IsValid same (leb-true 1 (pixel_count k) bounds.0, leb-true (pixel_count k) 400000000 bounds.1);
+    }
+
+-- bytes that are read as a header say it
+pub says_from : (bytes : List ℕ) (h : Header) → header_of bytes ≡ Ok h → SaysHeader bytes h
+says_from bytes h e =
+    let long = guard_false (nat_lt (length bytes) 14) (with_channels_read bytes (channels_of (slice_index bytes 12))) UnexpectedBufferEnd h e in
+    with_channels (channels_of (slice_index bytes 12)) refl (ltb-false (length bytes) 14 long.0) long.1
+  where
+    with_both : (c : Channels) → channels_of (slice_index bytes 12) ≡ Ok c → 14 ≤ length bytes
+        → (r : Result ColorSpace Error) → colorspace_of (slice_index bytes 13) ≡ r → with_channels_read bytes (Ok c) ≡ Ok h → SaysHeader bytes h
+    with_both c is_c long (Err x) is k = let f : Err x ≡ Ok h = rw is at k in absurd cc
+    with_both c is_c long (Ok s) is k =
+        let f : checked_header bytes c s ≡ Ok h = rw is at k in
+        let rest = rest_from bytes c s h f in
+        record {
+          long = long;
+          channels = is_c ∙ ap (λ (x : Header). Ok x.channels) rest.is_header;
+          colorspace = is ∙ ap (λ (x : Header). Ok x.colorspace) rest.is_header;
+          magic = rest.magic;
+          width = ap (λ (x : Header). x.width) rest.is_header;
+          height = ap (λ (x : Header). x.height) rest.is_header;
+          valid = rest.valid;
+        }
+
+    with_channels : (r : Result Channels Error) → channels_of (slice_index bytes 12) ≡ r → 14 ≤ length bytes → with_channels_read bytes r ≡ Ok h → SaysHeader bytes h
+    with_channels (Err x) is long k = absurd cc
+    with_channels (Ok c) is long k = with_both c is long (colorspace_of (slice_index bytes 13)) refl k
+
+-- four bytes are bytes
+four_bytes : (a b c d : ℕ) → a < 256 → b < 256 → c < 256 → d < 256 → AreBytes (a ∷ b ∷ c ∷ d ∷ [])
+four_bytes a b c d ha hb hc hd zero = ha
+four_bytes a b c d ha hb hc hd (suc zero) = hb
+four_bytes a b c d ha hb hc hd (suc (suc zero)) = hc
+four_bytes a b c d ha hb hc hd (suc (suc (suc zero))) = hd
+four_bytes a b c d ha hb hc hd (suc (suc (suc (suc i)))) = omega arith
+
+-- bytes that say a header are its own, and then the rest
+pub head_from_says : (bytes : List ℕ) (h : Header) → AreBytes bytes → SaysHeader bytes h → bytes ≡ head h ++ drop 14 bytes
+head_from_says (m0 ∷ m1 ∷ m2 ∷ m3 ∷ w0 ∷ w1 ∷ w2 ∷ w3 ∷ h0 ∷ h1 ∷ h2 ∷ h3 ∷ c ∷ s ∷ rest) h fits says =
+    let m : to_be_bytes w32 1903126886 ≡ m0 ∷ m1 ∷ m2 ∷ m3 ∷ [] =
+    be_bytes_4 (m0 ∷ m1 ∷ m2 ∷ m3 ∷ []) 1903126886 refl (four_bytes m0 m1 m2 m3 (fits 0) (fits 1) (fits 2) (fits 3)) (sym says.magic) in
+    let w : to_be_bytes w32 h.width ≡ w0 ∷ w1 ∷ w2 ∷ w3 ∷ [] =
+    be_bytes_4 (w0 ∷ w1 ∷ w2 ∷ w3 ∷ []) h.width refl (four_bytes w0 w1 w2 w3 (fits 4) (fits 5) (fits 6) (fits 7)) (sym says.width) in
+    let g : to_be_bytes w32 h.height ≡ h0 ∷ h1 ∷ h2 ∷ h3 ∷ [] =
+    be_bytes_4 (h0 ∷ h1 ∷ h2 ∷ h3 ∷ []) h.height refl (four_bytes h0 h1 h2 h3 (fits 8) (fits 9) (fits 10) (fits 11)) (sym says.height) in
+    let k : c ≡ channels_number h.channels = channels_from c h.channels says.channels in
+    let t : s ≡ colorspace_number h.colorspace = colorspace_from s h.colorspace says.colorspace in
+    cc
+head_from_says bytes h fits says = let long = says.long in absurd (omega arith)
+
+-- bytes that are read as a header are its own, and then the rest; and the header is valid
+pub head_from_header_of : (bytes : List ℕ) (h : Header) → AreBytes bytes → header_of bytes ≡ Ok h → (bytes ≡ head h ++ drop 14 bytes) × IsValid h
+head_from_header_of bytes h fits e =
+    let says = says_from bytes h e in
+    (head_from_says bytes h fits says, says.valid)
+
+-- what follows the fourteen bytes doesn't matter
+says-take : (bytes : List ℕ) (h : Header) → SaysHeader bytes h → SaysHeader (take 14 bytes) h
+says-take [] h s = absurd (omega (arith, s.long))
+says-take (a ∷ []) h s = absurd (omega (arith, s.long))
+says-take (a ∷ b ∷ []) h s = absurd (omega (arith, s.long))
+says-take (a ∷ b ∷ c ∷ []) h s = absurd (omega (arith, s.long))
+says-take (a ∷ b ∷ c ∷ d ∷ []) h s = absurd (omega (arith, s.long))
+says-take (a ∷ b ∷ c ∷ d ∷ e ∷ []) h s = absurd (omega (arith, s.long))
+says-take (a ∷ b ∷ c ∷ d ∷ e ∷ f ∷ []) h s = absurd (omega (arith, s.long))
+says-take (a ∷ b ∷ c ∷ d ∷ e ∷ f ∷ g ∷ []) h s = absurd (omega (arith, s.long))
+says-take (a ∷ b ∷ c ∷ d ∷ e ∷ f ∷ g ∷ i ∷ []) h s = absurd (omega (arith, s.long))
+says-take (a ∷ b ∷ c ∷ d ∷ e ∷ f ∷ g ∷ i ∷ j ∷ []) h s = absurd (omega (arith, s.long))
+says-take (a ∷ b ∷ c ∷ d ∷ e ∷ f ∷ g ∷ i ∷ j ∷ k ∷ []) h s = absurd (omega (arith, s.long))
+says-take (a ∷ b ∷ c ∷ d ∷ e ∷ f ∷ g ∷ i ∷ j ∷ k ∷ l ∷ []) h s = absurd (omega (arith, s.long))
+says-take (a ∷ b ∷ c ∷ d ∷ e ∷ f ∷ g ∷ i ∷ j ∷ k ∷ l ∷ m ∷ []) h s = absurd (omega (arith, s.long))
+says-take (a ∷ b ∷ c ∷ d ∷ e ∷ f ∷ g ∷ i ∷ j ∷ k ∷ l ∷ m ∷ n ∷ []) h s = absurd (omega (arith, s.long))
+says-take (a ∷ b ∷ c ∷ d ∷ e ∷ f ∷ g ∷ i ∷ j ∷ k ∷ l ∷ m ∷ n ∷ o ∷ rest) h s = record { long = omega arith; channels = s.channels; colorspace = s.colorspace; magic = s.magic; width = s.width; height = s.height; valid = s.valid }
+
+-- the fourteen bytes at the front of bytes that are read as a header
+pub header_front : (bytes : List ℕ) (h : Header) → header_of bytes ≡ Ok h → (length (take 14 bytes) ≡ 14) × (header_of (take 14 bytes) ≡ Ok h)
+header_front bytes h e =
+    let s = says_from bytes h e in
+    (length-take-le 14 bytes s.long, header_from_says (take 14 bytes) h (says-take bytes h s))
+
+-- the same header is read where other bytes follow
+says-append : (bytes rest : List ℕ) (h : Header) → SaysHeader bytes h → SaysHeader (bytes ++ rest) h
+says-append [] rest h s = absurd (omega (arith, s.long))
+says-append (a ∷ []) rest h s = absurd (omega (arith, s.long))
+says-append (a ∷ b ∷ []) rest h s = absurd (omega (arith, s.long))
+says-append (a ∷ b ∷ c ∷ []) rest h s = absurd (omega (arith, s.long))
+says-append (a ∷ b ∷ c ∷ d ∷ []) rest h s = absurd (omega (arith, s.long))
+says-append (a ∷ b ∷ c ∷ d ∷ e ∷ []) rest h s = absurd (omega (arith, s.long))
+says-append (a ∷ b ∷ c ∷ d ∷ e ∷ f ∷ []) rest h s = absurd (omega (arith, s.long))
+says-append (a ∷ b ∷ c ∷ d ∷ e ∷ f ∷ g ∷ []) rest h s = absurd (omega (arith, s.long))
+says-append (a ∷ b ∷ c ∷ d ∷ e ∷ f ∷ g ∷ i ∷ []) rest h s = absurd (omega (arith, s.long))
+says-append (a ∷ b ∷ c ∷ d ∷ e ∷ f ∷ g ∷ i ∷ j ∷ []) rest h s = absurd (omega (arith, s.long))
+says-append (a ∷ b ∷ c ∷ d ∷ e ∷ f ∷ g ∷ i ∷ j ∷ k ∷ []) rest h s = absurd (omega (arith, s.long))
+says-append (a ∷ b ∷ c ∷ d ∷ e ∷ f ∷ g ∷ i ∷ j ∷ k ∷ l ∷ []) rest h s = absurd (omega (arith, s.long))
+says-append (a ∷ b ∷ c ∷ d ∷ e ∷ f ∷ g ∷ i ∷ j ∷ k ∷ l ∷ m ∷ []) rest h s = absurd (omega (arith, s.long))
+says-append (a ∷ b ∷ c ∷ d ∷ e ∷ f ∷ g ∷ i ∷ j ∷ k ∷ l ∷ m ∷ n ∷ []) rest h s = absurd (omega (arith, s.long))
+says-append (a ∷ b ∷ c ∷ d ∷ e ∷ f ∷ g ∷ i ∷ j ∷ k ∷ l ∷ m ∷ n ∷ o ∷ more) rest h s = record { long = omega arith; channels = s.channels; colorspace = s.colorspace; magic = s.magic; width = s.width; height = s.height; valid = s.valid }
+
+-- bytes whose front is read as a header, and what follows it
+pub header_split : (bytes taken rest : List ℕ) (h : Header) → bytes ≡ taken ++ rest → length taken ≡ 14 → header_of taken ≡ Ok h
+    → (header_of bytes ≡ Ok h) × (rest ≡ drop 14 bytes)
+header_split bytes taken rest h split size read =
+    (rw split (header_from_says (taken ++ rest) h (says-append taken rest h (says_from taken h read))), sym (ap (drop 14) split ∙ drop_at taken rest 14 size))

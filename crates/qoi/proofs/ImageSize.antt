@@ -1,0 +1,20 @@
+-- The size of an image in bytes and in pixels.
+use Rattle.std.proofs.Common.{◌≡◌, ℕ, ◌*◌, ◌/◌, ◌≤◌, inl, inr, List, length, take, arith, refl, sym, ap, ◌∙◌, subst}
+use Rattle.std.proofs.lemmas.List.{length-take-le}
+use Rattle.qoi.specs.declared.types.Channels.{Channels}
+use Rattle.qoi.specs.declared.types.Channels.TheVariants.{Rgb, Rgba}
+use Rattle.qoi.specs.declared.header.Header.{Header}
+use Rattle.qoi.specs.Types.{channels_number}
+use Rattle.qoi.specs.Headers.{pixel_count}
+use Rattle.qoi.specs.Output.{IsChannels}
+use Rattle.qoi.specs.Decoding.{byte_count}
+
+-- there are three or four channels
+pub channels_are : (c : Channels) (n : ℕ) → n ≡ channels_number c → IsChannels n
+channels_are Rgb n e = inl e
+channels_are Rgba n e = inr e
+
+-- as many pixels as the image's bytes have room for
+pub image_pixels : (h : Header) (c : Channels) (size n : ℕ) (buf : List ℕ) → size ≡ byte_count h (channels_number c) → size ≤ length buf → n ≡ channels_number c → length (take size buf) / n ≡ pixel_count h
+image_pixels h Rgb size n buf e le is = rw (length-take-le size buf le, is) (omega arith)
+image_pixels h Rgba size n buf e le is = rw (length-take-le size buf le, is) (omega arith)

@@ -1,0 +1,49 @@
+-- A file is read as it was put together, in one way.
+use Rattle.std.proofs.Common.{◌≡◌, ℕ, List, ◌++◌, drop, refl, ap, sym, ◌∙◌, subst, Ok, append_assoc}
+use Rattle.qoi.specs.declared.header.Header.{Header}
+use Rattle.qoi.specs.declared.parts.Chunk.{Chunk}
+use Rattle.qoi.specs.Bytes.{AreBytes}
+use Rattle.qoi.specs.Chunks.{text}
+use Rattle.qoi.specs.Headers.{head, pixel_count, header_of}
+use Rattle.qoi.specs.Files.{IsFile, file, end_marker}
+use Rattle.qoi.specs.Verdicts.{IsWhole}
+use Rattle.qoi.proofs.OneVerdict.{whole_is_one}
+use Rattle.qoi.proofs.HeaderBytes.{header_of-head, head_from_header_of}
+
+-- a file and more bytes are header, chunks, end marker and those bytes
+pub file_parts : (h : Header) (cs : List Chunk) (rest : List ℕ) → file h cs ++ rest ≡ head h ++ (text cs ++ (end_marker ++ rest))
+file_parts h cs rest =
+    append_assoc (head h) (text cs ++ end_marker) rest ∙ ap (λ l. head h ++ l) (append_assoc (text cs) end_marker rest)
+
+-- the header of a file is read
+pub file_has_header : (h : Header) (cs : List Chunk) (bytes rest : List ℕ) → IsFile h cs → bytes ≡ file h cs ++ rest → header_of bytes ≡ Ok h
+file_has_header h cs bytes rest f e =
+    ap header_of (e ∙ file_parts h cs rest) ∙ header_of-head h (text cs ++ (end_marker ++ rest)) f.valid
+
+-- what follows the header of a file is whole
+pub file_is_whole : (h : Header) (cs : List Chunk) (bytes rest : List ℕ) → IsFile h cs → bytes ≡ file h cs ++ rest → IsWhole (pixel_count h) (drop 14 bytes) cs rest
+file_is_whole h cs bytes rest f e = record {
+  takes = record { chunks = f.chunks; short = f.reaches.short; split = ap (λ l. drop 14 l) (e ∙ file_parts h cs rest) };
+  enough = f.reaches.enough;
+}
+
+-- bytes with a header and whole chunks after it are a file and more bytes
+pub file_from_whole : (h : Header) (cs : List Chunk) (bytes rest : List ℕ) → AreBytes bytes → header_of bytes ≡ Ok h
+    → IsWhole (pixel_count h) (drop 14 bytes) cs rest → IsFile h cs × (bytes ≡ file h cs ++ rest)
+file_from_whole h cs bytes rest fits e w =
+    let front = head_from_header_of bytes h fits e in (
+      record { valid = front.1; chunks = w.takes.chunks; reaches = record { short = w.takes.short; enough = w.enough } },
+      front.0 ∙ ap (λ l. head h ++ l) w.takes.split ∙ sym (file_parts h cs rest),
+    )
+
+-- no file begins another
+pub file_is_one : (h k : Header) (cs ds : List Chunk) (x y : List ℕ) → IsFile h cs → IsFile k ds → file h cs ++ x ≡ file k ds ++ y → (h ≡ k) × (cs ≡ ds) × (x ≡ y)
+file_is_one h k cs ds x y f g e =
+    let first = file_has_header h cs (file h cs ++ x) x f refl in
+    let second = file_has_header k ds (file h cs ++ x) y g e in
+    let same : h ≡ k = cc in
+    let whole = file_is_whole h cs (file h cs ++ x) x f refl in
+    let other = file_is_whole k ds (file h cs ++ x) y g e in
+    let P : Header → Type 0 = λ j. IsWhole (pixel_count j) (drop 14 (file h cs ++ x)) ds y in
+    let both = whole_is_one (pixel_count h) (drop 14 (file h cs ++ x)) cs ds x y whole (subst P (sym same) other) in
+    (same, both.0, both.1)

@@ -1,0 +1,118 @@
+-- At most one verdict holds of any bytes, with one chunk list.
+use Rattle.std.proofs.Common.{◌≡◌, ℕ, ◌<◌, ◌≤◌, ◌⊎◌, inl, inr, List, [], ◌∷◌, ◌++◌, length, arith, refl, ap, sym, ◌∙◌, subst, append_assoc, length-append}
+use Rattle.std.proofs.lemmas.List.{append_cancel_left}
+use Rattle.qoi.specs.declared.parts.Chunk.{Chunk}
+use Rattle.qoi.specs.Pixels.{Past}
+use Rattle.qoi.specs.Chunks.{IsChunk, AreChunks, bytes_of, text, then_chunk}
+use Rattle.qoi.specs.Meaning.{Each, then_chunks, meaning}
+use Rattle.qoi.specs.Files.{end_marker}
+use Rattle.qoi.specs.Verdicts.{IsPartOfChunk, Takes, IsWhole, IsCut, IsWrong}
+use Rattle.qoi.proofs.Appended.{length-meaning}
+use Rattle.qoi.proofs.ChunksApart.{chunks_apart, part_begins_none}
+
+-- fewer than n pixels stand before each chunk, where these pixels stand before the first one
+abbrev pub StayBelowAfter : ℕ → Past → List Chunk → Type 0
+StayBelowAfter n past cs = Each (λ q c. length q < n) past cs
+
+-- reading chunks ends here: n pixels are reached, or the bytes end within a chunk
+abbrev pub EndsChunks : ℕ → Past → List ℕ → Type 0
+EndsChunks n past rest = (n ≤ length past) ⊎ ((length past < n) × IsPartOfChunk rest)
+
+-- where reading ends, no further chunk follows
+ends_without_chunk : (n : ℕ) (past : Past) (d : Chunk) (x y : List ℕ) → IsChunk d → length past < n → EndsChunks n past x → x ≡ bytes_of d ++ y → ⊥
+ends_without_chunk n past d x y hd short (inl enough) e = omega arith
+ends_without_chunk n past d x y hd short (inr part) e = part_begins_none d y hd (subst IsPartOfChunk e part.1)
+
+-- from any pixels on, two readings of the same bytes are one
+pub one_takes_after : (n : ℕ) (past : Past) (cs ds : List Chunk) (x y : List ℕ) → AreChunks cs → AreChunks ds
+    → StayBelowAfter n past cs → StayBelowAfter n past ds
+    → EndsChunks n (then_chunks past cs) x → EndsChunks n (then_chunks past ds) y
+    → text cs ++ x ≡ text ds ++ y → (cs ≡ ds) × (x ≡ y)
+one_takes_after n past [] [] x y hc hd bc bd ec ed e = (refl, e)
+one_takes_after n past [] (d ∷ ds) x y hc hd bc bd ec ed e =
+    absurd (ends_without_chunk n past d x (text ds ++ y) hd.0 bd.0 ec (e ∙ append_assoc (bytes_of d) (text ds) y))
+one_takes_after n past (c ∷ cs) [] x y hc hd bc bd ec ed e =
+    absurd (ends_without_chunk n past c y (text cs ++ x) hc.0 bc.0 ed (sym e ∙ append_assoc (bytes_of c) (text cs) x))
+one_takes_after n past (c ∷ cs) (d ∷ ds) x y hc hd bc bd ec ed e =
+    let f : bytes_of c ++ (text cs ++ x) ≡ bytes_of d ++ (text ds ++ y) =
+    sym (append_assoc (bytes_of c) (text cs) x) ∙ e ∙ append_assoc (bytes_of d) (text ds) y in
+    let first = chunks_apart c d (text cs ++ x) (text ds ++ y) hc.0 hd.0 f in
+    let Below : Chunk → Type 0 = λ b. StayBelowAfter n (then_chunk past b) ds in
+    let Ends : Chunk → Type 0 = λ b. EndsChunks n (then_chunks (then_chunk past b) ds) y in
+    let more = one_takes_after n (then_chunk past c) cs ds x y hc.1 hd.1 bc.1 (subst Below (sym first.0) bd.1) ec (subst Ends (sym first.0) ed) first.1 in
+    (cc, more.1)
+
+-- the chunks have reached n pixels
+enough_ends : (n : ℕ) (cs : List Chunk) (x : List ℕ) → n ≤ length (meaning cs) → EndsChunks n (then_chunks [] cs) x
+enough_ends n cs x h = inl (omega (arith, length-meaning cs))
+
+-- two readings of the same bytes are one
+pub one_takes : (n : ℕ) (bytes : List ℕ) (cs ds : List Chunk) (x y : List ℕ) → Takes n bytes cs x → Takes n bytes ds y
+    → EndsChunks n (then_chunks [] cs) x → EndsChunks n (then_chunks [] ds) y → (cs ≡ ds) × (x ≡ y)
+one_takes n bytes cs ds x y s t ec ed =
+    one_takes_after n [] cs ds x y s.chunks t.chunks s.short t.short ec ed (sym s.split ∙ t.split)
+
+-- reading of cut bytes ends where they end
+pub cut_ends : (n : ℕ) (bytes : List ℕ) (cs : List Chunk) (x : List ℕ) → IsCut n bytes cs x → EndsChunks n (then_chunks [] cs) x
+cut_ends n bytes cs x h = ends n cs x h.ends
+  where
+    ends : (n : ℕ) (cs : List Chunk) (x : List ℕ) → ((length (meaning cs) < n) × IsPartOfChunk x) ⊎ ((n ≤ length (meaning cs)) × (length x < 8)) → EndsChunks n (then_chunks [] cs) x
+    ends n cs x (inl (short, part)) = inr (omega (arith, length-meaning cs), part)
+    ends n cs x (inr (enough, part)) = enough_ends n cs x enough
+
+-- cut bytes whose chunks reach n pixels have fewer than eight bytes after them
+pub cut_is_short : (n : ℕ) (bytes : List ℕ) (cs : List Chunk) (x : List ℕ) → IsCut n bytes cs x → n ≤ length (meaning cs) → length x < 8
+cut_is_short n bytes cs x h enough = short h.ends
+  where
+    short : ((length (meaning cs) < n) × IsPartOfChunk x) ⊎ ((n ≤ length (meaning cs)) × (length x < 8)) → length x < 8
+    short (inl (below, part)) = absurd (omega arith)
+    short (inr (above, part)) = part
+
+-- lists of one length that begin the same bytes are one, and so is what follows
+pub same_front : (a b x y : List ℕ) → length a ≡ length b → a ++ x ≡ b ++ y → (a ≡ b) × (x ≡ y)
+same_front [] [] x y h e = (refl, e)
+same_front [] (b ∷ bs) x y h e = absurd (omega arith)
+same_front (a ∷ «as») [] x y h e = absurd (omega arith)
+same_front (a ∷ as1) (b ∷ bs) x y h e =
+    let more = same_front as1 bs x y (omega arith) cc in
+    (cc, more.1)
+
+-- bytes are whole in one way
+pub whole_is_one : (n : ℕ) (bytes : List ℕ) (cs ds : List Chunk) (x y : List ℕ) → IsWhole n bytes cs x → IsWhole n bytes ds y → (cs ≡ ds) × (x ≡ y)
+whole_is_one n bytes cs ds x y s t =
+    let both = one_takes n bytes cs ds (end_marker ++ x) (end_marker ++ y) s.takes t.takes (enough_ends n cs (end_marker ++ x) s.enough) (enough_ends n ds (end_marker ++ y) t.enough) in
+    (both.0, append_cancel_left end_marker x y both.1)
+
+-- bytes are cut in one way
+pub cut_is_one : (n : ℕ) (bytes : List ℕ) (cs ds : List Chunk) (x y : List ℕ) → IsCut n bytes cs x → IsCut n bytes ds y → (cs ≡ ds) × (x ≡ y)
+cut_is_one n bytes cs ds x y s t = one_takes n bytes cs ds x y s.takes t.takes (cut_ends n bytes cs x s) (cut_ends n bytes ds y t)
+
+-- bytes are wrong in one way
+pub wrong_is_one : (n : ℕ) (bytes : List ℕ) (cs ds : List Chunk) (eight other x y : List ℕ)
+    → IsWrong n bytes cs eight x → IsWrong n bytes ds other y → (cs ≡ ds) × (eight ≡ other) × (x ≡ y)
+wrong_is_one n bytes cs ds eight other x y s t =
+    let both = one_takes n bytes cs ds (eight ++ x) (other ++ y) s.takes t.takes (enough_ends n cs _ s.enough) (enough_ends n ds _ t.enough) in
+    let ends = same_front eight other x y (s.length_is ∙ sym t.length_is) both.1 in
+    (both.0, ends.0, ends.1)
+
+-- whole bytes aren't cut
+pub whole_not_cut : (n : ℕ) (bytes : List ℕ) (cs ds : List Chunk) (x part : List ℕ) → IsWhole n bytes cs x → IsCut n bytes ds part → ⊥
+whole_not_cut n bytes cs ds x part s t =
+    let both = one_takes n bytes cs ds (end_marker ++ x) part s.takes t.takes (enough_ends n cs (end_marker ++ x) s.enough) (cut_ends n bytes ds part t) in
+    let P : List Chunk → Type 0 = λ bs. n ≤ length (meaning bs) in
+    let short = cut_is_short n bytes ds part t (subst P both.0 s.enough) in
+    omega (arith, ap length both.1)
+
+-- whole bytes aren't wrong
+pub whole_not_wrong : (n : ℕ) (bytes : List ℕ) (cs ds : List Chunk) (x eight rest : List ℕ) → IsWhole n bytes cs x → IsWrong n bytes ds eight rest → ⊥
+whole_not_wrong n bytes cs ds x eight rest s t =
+    let both = one_takes n bytes cs ds (end_marker ++ x) (eight ++ rest) s.takes t.takes (enough_ends n cs (end_marker ++ x) s.enough) (enough_ends n ds _ t.enough) in
+    t.other (sym (same_front end_marker eight x rest (sym t.length_is) both.1).0)
+
+-- cut bytes aren't wrong
+pub cut_not_wrong : (n : ℕ) (bytes : List ℕ) (cs ds : List Chunk) (part eight rest : List ℕ) → IsCut n bytes cs part → IsWrong n bytes ds eight rest → ⊥
+cut_not_wrong n bytes cs ds part eight rest s t =
+    let both = one_takes n bytes cs ds part (eight ++ rest) s.takes t.takes (cut_ends n bytes cs part s) (enough_ends n ds _ t.enough) in
+    let P : List Chunk → Type 0 = λ bs. n ≤ length (meaning bs) in
+    let short = cut_is_short n bytes cs part s (subst P (sym both.0) t.enough) in
+    omega (arith, ap length both.1, length-append eight rest, t.length_is)

@@ -1,0 +1,72 @@
+-- The table of the pixels that were put at the 64 index positions.
+use Rattle.std.proofs.Common.{◌≡◌, ◌≢◌, ℕ, zero, suc, ◌+◌, ◌<◌, ◌≤◌, Bool, true, false, List, [], ◌∷◌, ◌++◌, length, get_or, slice_set, replicate, cond, eqb, eqb-true, arith, refl, sym, ap, ◌∙◌, get_or-set_other, get_or-set_same}
+use Rattle.std.proofs.lemmas.List.{length-set, length-replicate, get_or-replicate}
+use Rattle.std.proofs.lemmas.Bool.{eqb-false}
+use Rattle.qoi.specs.declared.parts.Chunk.{Chunk}
+use Rattle.qoi.specs.declared.parts.Chunk.TheVariants.{Place, Diff, Luma, Run, Rgb, Rgba}
+use Rattle.qoi.specs.Pixels.{RgbaPixel, Past, rgba, previous, seen, hash, start, blank, pixel}
+use Rattle.qoi.specs.Chunks.{IsChunk, times, pixel_of, then_chunk}
+use Rattle.qoi.specs.Filling.{HasSeen}
+
+-- an index position is below 64
+pub hash_below : (p : RgbaPixel) → hash p < 64
+unfolding hash
+hash_below p = omega arith
+
+-- a chunk gives a pixel
+pub times_above : (c : Chunk) → IsChunk c → 0 < times c
+times_above (Place i) h = omega arith
+times_above (Diff d) h = omega arith
+times_above (Luma d e) h = omega arith
+times_above (Run n) h = h.0
+times_above (Rgb r g b) h = omega arith
+times_above (Rgba r g b a) h = omega arith
+
+-- what an index position holds after a pixel came some times
+pub seen_copies : (n : ℕ) (p : RgbaPixel) (past : Past) (i : ℕ) → 0 < n → seen (replicate n p ++ past) i ≡ cond (eqb (hash p) i) p (seen past i)
+seen_copies zero p past i h = absurd (omega arith)
+seen_copies (suc zero) p past i h = refl
+seen_copies (suc (suc n)) p past i h = rw (seen_copies (suc n) p past i (omega arith)) (twice (eqb (hash p) i))
+  where
+    twice : (b : Bool) → cond b p (cond b p (seen past i)) ≡ cond b p (seen past i)
+    twice true = refl
+    twice false = refl
+
+pub previous_copies : (n : ℕ) (p : RgbaPixel) (past : Past) → 0 < n → previous (replicate n p ++ past) ≡ p
+previous_copies zero p past h = absurd (omega arith)
+previous_copies (suc n) p past h = refl
+
+-- the table after a write at the pixel's index position
+pub held_after : (places : List (List ℕ)) (px : List ℕ) (p : RgbaPixel) (past : Past) → length places ≡ 64 → rgba px ≡ p
+    → ((i : ℕ) → i < 64 → rgba (get_or places i []) ≡ seen past i) → (i : ℕ) → i < 64
+    → rgba (get_or (slice_set places (hash p) px) i []) ≡ cond (eqb (hash p) i) p (seen past i)
+held_after places px p past len is holds i h = at (eqb (hash p) i) refl
+  where
+    at : (b : Bool) → eqb (hash p) i ≡ b → rgba (get_or (slice_set places (hash p) px) i []) ≡ cond b p (seen past i)
+    at true e =
+        let same : hash p ≡ i = eqb-true (hash p) i e in
+        let inside : hash p < length places = omega (arith, hash_below p) in
+        rw (← same) (rw get_or-set_same is)
+    at false e =
+        let apart : i ≢ hash p = λ q. eqb-false (hash p) i e (sym q) in
+        rw get_or-set_other (holds i h)
+
+-- the state after a chunk
+pub seen_after : (places : List (List ℕ)) (last px : List ℕ) (past : Past) (c : Chunk) (h : ℕ) → IsChunk c → HasSeen places last past → rgba px ≡ pixel_of past c → h ≡ hash (rgba px)
+    → HasSeen (slice_set places h px) px (then_chunk past c)
+seen_after places last px past c h is s e at =
+    let position : h ≡ hash (pixel_of past c) = at ∙ ap hash e in
+    record {
+      length_is = length-set places h px ∙ s.length_is;
+      holds = λ i inside. rw position (held_after places px (pixel_of past c) past s.length_is e s.holds i inside ∙ sym (seen_copies (times c) (pixel_of past c) past i (times_above c is)));
+      last_is = e ∙ sym (previous_copies (times c) (pixel_of past c) past (times_above c is));
+    }
+
+-- the state before the first chunk
+pub seen_none : (empty last : List ℕ) → empty ≡ replicate 4 0 → last ≡ 0 ∷ 0 ∷ 0 ∷ 255 ∷ [] → HasSeen (replicate 64 empty) last []
+unfolding start blank
+seen_none empty last e l = record {
+  length_is = length-replicate 64 empty;
+  holds = λ i h. rw (get_or-replicate, e) refl;
+  last_is = rw l refl;
+}

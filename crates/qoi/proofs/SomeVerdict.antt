@@ -1,0 +1,167 @@
+-- Some verdict holds of any bytes.
+use Rattle.std.proofs.Common.{◌≡◌, ℕ, ◌+◌, ◌-◌, ◌<◌, ◌≤◌, ◌⊎◌, inl, inr, zero, suc, List, [], ◌∷◌, ◌++◌, length, take, drop, arith, refl, ap, sym, ◌∙◌, subst, append_assoc, length-append, true, false, add-one}
+use Rattle.std.proofs.lemmas.List.{take-append-drop, length-take}
+use Rattle.std.proofs.lemmas.Bool.{cases_lt, cases_Bool}
+use Rattle.std.proofs.lemmas.Slice.Eq.{bytes_eq-Decides}
+use Rattle.std.specs.Str.{bytes_eq}
+use Rattle.qoi.specs.declared.parts.Chunk.{Chunk}
+use Rattle.qoi.specs.declared.parts.Chunk.TheVariants.{Place, Diff, Luma, Run, Rgb, Rgba}
+use Rattle.qoi.specs.Bytes.{AreBytes}
+use Rattle.qoi.specs.Pixels.{Past}
+use Rattle.qoi.specs.Chunks.{IsChunk, AreChunks, bytes_of, text, then_chunk}
+use Rattle.qoi.specs.Meaning.{then_chunks, meaning}
+use Rattle.qoi.specs.Files.{end_marker}
+use Rattle.qoi.specs.Verdicts.{IsPartOfChunk, Takes, IsWhole, IsCut, IsWrong}
+use Rattle.qoi.proofs.PartOfChunk.{part_empty, part_luma, part_rgb, part_rgba}
+use Rattle.qoi.proofs.OneVerdict.{StayBelowAfter, EndsChunks}
+use Rattle.qoi.proofs.Appended.{length-meaning}
+
+-- what follows the first byte is bytes
+bytes_after : (b : ℕ) (bytes : List ℕ) → AreBytes (b ∷ bytes) → AreBytes bytes
+bytes_after b bytes fits i = let h = fits (i + 1) in rw add-one at h
+
+-- what follows some bytes is bytes
+pub bytes_after_front : (front rest : List ℕ) → AreBytes (front ++ rest) → AreBytes rest
+bytes_after_front [] rest fits = fits
+bytes_after_front (b ∷ front) rest fits = bytes_after_front front rest (bytes_after b (front ++ rest) fits)
+
+-- the bytes begin with a whole chunk
+abbrev pub BeginsWithChunk : List ℕ → Type 0
+BeginsWithChunk bytes = (c : Chunk) × (rest : List ℕ) × IsChunk c × (bytes ≡ bytes_of c ++ rest)
+
+-- bytes whose first byte is that of a luma
+luma_front : (b : ℕ) (bytes : List ℕ) → AreBytes (b ∷ bytes) → 128 ≤ b → b < 192 → BeginsWithChunk (b ∷ bytes) ⊎ IsPartOfChunk (b ∷ bytes)
+luma_front b [] fits low high = inr (part_luma (b ∷ []) fits (omega arith) low high)
+luma_front b (e ∷ rest) fits low high = inl (Luma b e, rest, (low, high, fits 1), refl)
+
+-- bytes whose first byte is fe
+rgb_front : (b : ℕ) (bytes : List ℕ) → AreBytes (b ∷ bytes) → b ≡ 254 → BeginsWithChunk (b ∷ bytes) ⊎ IsPartOfChunk (b ∷ bytes)
+rgb_front x (r ∷ g ∷ b ∷ rest) fits is = inl (Rgb r g b, rest, (fits 1, fits 2, fits 3), cc)
+rgb_front x [] fits is = inr (part_rgb (x ∷ []) fits (omega arith) is)
+rgb_front x (r ∷ []) fits is = inr (part_rgb (x ∷ r ∷ []) fits (omega arith) is)
+rgb_front x (r ∷ g ∷ []) fits is = inr (part_rgb (x ∷ r ∷ g ∷ []) fits (omega arith) is)
+
+-- bytes whose first byte is ff
+rgba_front : (b : ℕ) (bytes : List ℕ) → AreBytes (b ∷ bytes) → b ≡ 255 → BeginsWithChunk (b ∷ bytes) ⊎ IsPartOfChunk (b ∷ bytes)
+rgba_front x (r ∷ g ∷ b ∷ a ∷ rest) fits is = inl (Rgba r g b a, rest, (fits 1, fits 2, fits 3, fits 4), cc)
+rgba_front x [] fits is = inr (part_rgba (x ∷ []) fits (omega arith) is)
+rgba_front x (r ∷ []) fits is = inr (part_rgba (x ∷ r ∷ []) fits (omega arith) is)
+rgba_front x (r ∷ g ∷ []) fits is = inr (part_rgba (x ∷ r ∷ g ∷ []) fits (omega arith) is)
+rgba_front x (r ∷ g ∷ b ∷ []) fits is = inr (part_rgba (x ∷ r ∷ g ∷ b ∷ []) fits (omega arith) is)
+
+-- bytes whose first byte is that of a run
+run_front : (b : ℕ) (bytes : List ℕ) → 192 ≤ b → b < 254 → BeginsWithChunk (b ∷ bytes) ⊎ IsPartOfChunk (b ∷ bytes)
+run_front b bytes low high =
+    let n : b ≡ 191 + (b - 191) = omega arith in
+    inl (Run (b - 191), bytes, (omega arith, omega arith), ap (λ x. x ∷ bytes) n)
+
+-- bytes whose first byte is neither that of an index position nor that of a difference
+pub high_front : (b : ℕ) (bytes : List ℕ) → AreBytes (b ∷ bytes) → 128 ≤ b → BeginsWithChunk (b ∷ bytes) ⊎ IsPartOfChunk (b ∷ bytes)
+high_front b bytes fits low =
+    elim (cases_lt b 192) [
+      | inl h ↦ luma_front b bytes fits low h
+      | inr h ↦ elim (cases_lt b 254) [
+        | inl k ↦ run_front b bytes h k
+        | inr k ↦ elim (cases_lt b 255) [
+          | inl l ↦ rgb_front b bytes fits (omega arith)
+          | inr l ↦ let small = fits 0 in rgba_front b bytes fits (omega arith)
+        ]
+      ]
+    ]
+
+-- bytes begin with a whole chunk, or are part of one
+pub front : (bytes : List ℕ) → AreBytes bytes → BeginsWithChunk bytes ⊎ IsPartOfChunk bytes
+front [] fits = inr (part_empty [] (omega arith))
+front (b ∷ bytes) fits =
+    elim (cases_lt b 64) [
+      | inl h ↦ inl (Place b, bytes, h, refl)
+      | inr h ↦ elim (cases_lt b 128) [
+        | inl k ↦ inl (Diff b, bytes, (h, k), refl)
+        | inr k ↦ high_front b bytes fits k
+      ]
+    ]
+
+-- chunks that begin these bytes after these pixels, up to where reading ends
+pub record Reading (n : ℕ) (past : Past) (bytes : List ℕ) : Type 0 where
+  pub found : List Chunk
+  pub rest : List ℕ
+  pub chunks : AreChunks found
+  pub short : StayBelowAfter n past found
+  pub split : bytes ≡ text found ++ rest
+  pub ends : EndsChunks n (then_chunks past found) rest
+
+-- reading goes on after a chunk
+reading_goes_on : (n : ℕ) (past : Past) (bytes : List ℕ) (c : Chunk) (more : List ℕ) → length past < n → IsChunk c → bytes ≡ bytes_of c ++ more
+    → Reading n (then_chunk past c) more → Reading n past bytes
+reading_goes_on n past bytes c more below hc e r = record {
+  found = c ∷ r.found;
+  rest = r.rest;
+  chunks = (hc, r.chunks);
+  short = (below, r.short);
+  split = e ∙ ap (λ l. bytes_of c ++ l) r.split ∙ sym (append_assoc (bytes_of c) (text r.found) r.rest);
+  ends = r.ends;
+}
+
+-- reading ends at once
+reading_ends : (n : ℕ) (past : Past) (bytes : List ℕ) → EndsChunks n past bytes → Reading n past bytes
+reading_ends n past bytes h = record { found = []; rest = bytes; chunks = tt; short = tt; split = refl; ends = h }
+
+-- a chunk has a byte or more
+length-bytes_of_pos : (c : Chunk) → 0 < length (bytes_of c)
+length-bytes_of_pos (Place i) = omega arith
+length-bytes_of_pos (Diff d) = omega arith
+length-bytes_of_pos (Luma d e) = omega arith
+length-bytes_of_pos (Run n) = omega arith
+length-bytes_of_pos (Rgb r g b) = omega arith
+length-bytes_of_pos (Rgba r g b a) = omega arith
+
+-- reading ends, since each chunk takes a byte or more
+pub reading_of : (fuel n : ℕ) (past : Past) (bytes : List ℕ) → length bytes < fuel → AreBytes bytes → Reading n past bytes
+reading_of zero n past bytes h fits = absurd (omega arith)
+reading_of (suc fuel) n past bytes h fits =
+    elim (cases_lt (length past) n) [
+      | inr enough ↦ reading_ends n past bytes (inl enough)
+      | inl below ↦ elim (front bytes fits) [
+        | inr part ↦ reading_ends n past bytes (inr (below, part))
+        | inl w ↦ reading_goes_on n past bytes w.0 w.1 below w.2 w.3 (reading_of fuel n (then_chunk past w.0) w.1
+            (omega (arith, ap length w.3, length-append (bytes_of w.0) w.1, length-bytes_of_pos w.0))
+            (bytes_after_front (bytes_of w.0) w.1 (subst AreBytes w.3 fits)))
+      ]
+    ]
+
+-- the bytes are whole, cut or wrong
+abbrev pub HasVerdict : ℕ → List ℕ → Type 0
+HasVerdict n bytes = ((cs : List Chunk) × (rest : List ℕ) × IsWhole n bytes cs rest)
+    ⊎ (((cs : List Chunk) × (part : List ℕ) × IsCut n bytes cs part)
+    ⊎ ((cs : List Chunk) × (eight : List ℕ) × (rest : List ℕ) × IsWrong n bytes cs eight rest))
+
+-- the verdict where n pixels are reached and eight bytes or more follow
+marker_verdict : (n : ℕ) (bytes : List ℕ) (cs : List Chunk) (eight rest : List ℕ) → Takes n bytes cs (eight ++ rest)
+    → n ≤ length (meaning cs) → length eight ≡ 8 → HasVerdict n bytes
+marker_verdict n bytes cs eight rest t enough h =
+    let same = bytes_eq-Decides eight end_marker in
+    elim (cases_Bool (bytes_eq eight end_marker)) [
+      | inl yes_same ↦ inl (cs, rest, record { takes = let P : List ℕ → Type 0 = λ l. Takes n bytes cs (l ++ rest) in subst P (same.0 yes_same) t; enough = enough })
+      | inr differs ↦ inr (inr (cs, eight, rest, record { takes = t; enough = enough; length_is = h; other = λ e. false_is_not_true (sym differs ∙ same.1 e) }))
+    ]
+  where
+    false_is_not_true : false ≡ true → ⊥
+    false_is_not_true e = cc
+
+-- the verdict from a reading
+verdict_of_ends : (n : ℕ) (bytes : List ℕ) (cs : List Chunk) (rest : List ℕ) → Takes n bytes cs rest → EndsChunks n (then_chunks [] cs) rest → HasVerdict n bytes
+verdict_of_ends n bytes cs rest t (inr part) = inr (inl (cs, rest, record { takes = t; ends = inl (omega (arith, length-meaning cs), part.1) }))
+verdict_of_ends n bytes cs rest t (inl enough) =
+    let above : n ≤ length (meaning cs) = omega (arith, length-meaning cs) in
+    elim (cases_lt (length rest) 8) [
+      | inl few ↦ inr (inl (cs, rest, record { takes = t; ends = inr (above, few) }))
+      | inr many ↦ marker_verdict n bytes cs (take 8 rest) (drop 8 rest)
+          (let P : List ℕ → Type 0 = λ l. Takes n bytes cs l in subst P (sym (take-append-drop 8 rest)) t)
+          above (omega (arith, length-take 8 rest))
+    ]
+
+-- bytes have a verdict for each number of pixels
+pub verdict_of : (n : ℕ) (bytes : List ℕ) → AreBytes bytes → HasVerdict n bytes
+verdict_of n bytes fits =
+    let r = reading_of (suc (length bytes)) n [] bytes (omega arith) fits in
+    verdict_of_ends n bytes r.found r.rest (record { chunks = r.chunks; short = r.short; split = r.split }) r.ends

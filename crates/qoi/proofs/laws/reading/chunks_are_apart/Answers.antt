@@ -1,0 +1,5 @@
+use Rattle.qoi.proofs.ChunksApart.{part_begins_none}
+use Rattle.qoi.proofs.laws.reading.chunks_are_apart.Goals as goal
+
+pub returns-clause-part : goal.returns-clause-part
+returns-clause-part c = part_begins_none

@@ -1,0 +1,8 @@
+use Rattle.qoi.proofs.OneFile.{file_has_header, file_is_whole, file_from_whole}
+use Rattle.qoi.proofs.laws.reading.files_are_read.Goals as goal
+
+pub returns-clause-read : goal.returns-clause-read
+returns-clause-read c = λ h cs bytes rest f e. (file_has_header h cs bytes rest f e, file_is_whole h cs bytes rest f e)
+
+pub returns-clause-only : goal.returns-clause-only
+returns-clause-only c = file_from_whole

@@ -1,0 +1,5 @@
+use Rattle.qoi.proofs.OneFile.{file_is_one}
+use Rattle.qoi.proofs.laws.reading.no_file_begins_another.Goals as goal
+
+pub returns : goal.returns
+returns c = file_is_one

@@ -1,0 +1,5 @@
+use Rattle.qoi.proofs.SomeVerdict.{verdict_of}
+use Rattle.qoi.proofs.laws.reading.verdict_is_some.Goals as goal
+
+pub returns : goal.returns
+returns c = verdict_of

@@ -1,0 +1,112 @@
+-- What decoding an image answers and takes, and what its refusals say.
+use Rattle.std.specs.Prelude.{◌≡◌, ◌≢◌, ℕ, ◌*◌, ◌<◌, ◌≤◌, ◌⊎◌, List, [], ◌∷◌, ◌++◌, length, take, drop, Bool, true, false, Option, Some, Result, Ok, Err, IfSome}
+use Rattle.std.specs.Io.KnownBytes.{Consumes, Keeps}
+use Rattle.qoi.specs.declared.error.Error.{Error}
+use Rattle.qoi.specs.declared.error.Error.TheVariants.{OutputBufferTooSmall, UnexpectedBufferEnd, InvalidPadding, IoError}
+use Rattle.qoi.specs.declared.header.Header.{Header}
+use Rattle.qoi.specs.declared.parts.Chunk.{Chunk}
+use Rattle.qoi.specs.Chunks.{AreChunks, text}
+use Rattle.qoi.specs.Meaning.{Reaches, meaning}
+use Rattle.qoi.specs.Files.{end_marker, file_pixels}
+use Rattle.qoi.specs.Types.{channels_number}
+use Rattle.qoi.specs.Headers.{head, header_of, pixel_count}
+use Rattle.qoi.specs.Output.{output}
+use Rattle.qoi.specs.Verdicts.{IsPartOfChunk, Takes, IsWhole, IsCut, IsWrong}
+
+-- the bytes end within a chunk before n pixels are reached
+abbrev pub EndsInChunk : ℕ → List ℕ → Type 0
+EndsInChunk n bytes = (cs : List Chunk) × (part : List ℕ) × Takes n bytes cs part × (length (meaning cs) < n) × IsPartOfChunk part
+
+-- chunks that reach n pixels stand before the rest, and these are their first n pixels' bytes
+pub record ReadsPixels (file channels n : ℕ) (bytes rest out : List ℕ) : Type 0 where
+  pub cs : List Chunk
+  pub takes : Takes n bytes cs rest
+  pub reaches : Reaches n cs
+  pub out_is : out ≡ output file channels (take n (meaning cs))
+
+-- Chunks that reach n pixels and the end marker were taken, and these are their first n pixels' bytes.
+pub record ReadsImage (file channels n : ℕ) (old new : Option (List ℕ)) (out : List ℕ) : Type 0 where
+  pub cs : List Chunk
+  pub chunks : AreChunks cs
+  pub reaches : Reaches n cs
+  pub taken : Consumes old new (text cs ++ end_marker)
+  pub out_is : out ≡ output file channels (take n (meaning cs))
+
+-- why the bytes after the chunks are refused: fewer than eight, or eight other than the end marker
+abbrev pub RefusesMarker : List ℕ → Error → Type 0
+RefusesMarker bytes UnexpectedBufferEnd = length bytes < 8
+RefusesMarker bytes InvalidPadding = (eight : List ℕ) × (rest : List ℕ) × (length eight ≡ 8) × (eight ≢ end_marker) × (bytes ≡ eight ++ rest)
+RefusesMarker bytes _ = ⊥
+
+-- the bytes are cut
+abbrev pub HasCut : ℕ → List ℕ → Type 0
+HasCut n bytes = (cs : List Chunk) × (part : List ℕ) × IsCut n bytes cs part
+
+-- the bytes have other eight bytes than the end marker
+abbrev pub HasWrong : ℕ → List ℕ → List ℕ → Type 0
+HasWrong n bytes rest = (cs : List Chunk) × (eight : List ℕ) × IsWrong n bytes cs eight rest
+
+-- why bytes in memory are refused: cut is UnexpectedBufferEnd, and wrong is InvalidPadding
+abbrev pub RefusesBytes : ℕ → List ℕ → Error → Type 0
+RefusesBytes n bytes UnexpectedBufferEnd = HasCut n bytes
+RefusesBytes n bytes InvalidPadding = (rest : List ℕ) × HasWrong n bytes rest
+RefusesBytes n bytes _ = ⊥
+
+-- why a stream is refused, by the bytes that were taken
+abbrev pub RefusesTaken : ℕ → List ℕ → Error → Type 0
+RefusesTaken n taken (IoError e) = HasCut n taken
+RefusesTaken n taken InvalidPadding = HasWrong n taken []
+RefusesTaken n taken _ = ⊥
+
+-- A refused image. In memory nothing is taken, and the bytes ahead are cut or wrong. On a stream the bytes that
+-- were taken are cut, or they are wrong and end with the eight bytes.
+abbrev pub RefusesImage : Bool → ℕ → Option (List ℕ) → Option (List ℕ) → Error → Type 0
+RefusesImage true n old new e = Keeps old new × IfSome old (λ bytes. RefusesBytes n bytes e)
+RefusesImage false n old new e = (taken : List ℕ) × Consumes old new taken × RefusesTaken n taken e
+
+-- How many bytes a header takes.
+abbrev pub header_size : ℕ
+header_size = 14
+
+-- why a stream's header is refused: fewer than fourteen bytes came, or the fourteen that were taken are refused
+abbrev pub RefusesHeader : List ℕ → Error → Type 0
+RefusesHeader taken (IoError e) = length taken < header_size
+RefusesHeader taken e = (length taken ≡ header_size) × (header_of taken ≡ Err e)
+
+-- What reading a header answers and takes: fourteen bytes with the verdict on them. In memory a refusal takes
+-- nothing, and is the verdict on the bytes ahead.
+abbrev pub ReadsHeader : Bool → Option (List ℕ) → Option (List ℕ) → Result Header Error → Type 0
+ReadsHeader in_memory old new (Ok h) = (taken : List ℕ) × Consumes old new taken × (length taken ≡ header_size) × (header_of taken ≡ Ok h)
+ReadsHeader true old new (Err e) = Keeps old new × IfSome old (λ bytes. header_of bytes ≡ Err e)
+ReadsHeader false old new (Err e) = (taken : List ℕ) × Consumes old new taken × RefusesHeader taken e
+
+-- how many bytes an image has in this many channels
+abbrev pub byte_count : Header → ℕ → ℕ
+byte_count h channels = pixel_count h * channels
+
+-- how many bytes a file's image has in its own channels
+abbrev pub file_byte_count : Header → ℕ
+file_byte_count h = byte_count h (channels_number h.channels)
+
+-- The bytes are a file with this header and then the rest, and these are its pixels in the file's channels.
+pub record DecodesFile (bytes : List ℕ) (h : Header) (rest out : List ℕ) : Type 0 where
+  pub header : header_of bytes ≡ Ok h
+  pub cs : List Chunk
+  pub whole : IsWhole (pixel_count h) (drop header_size bytes) cs rest
+  pub out_is : out ≡ output (channels_number h.channels) (channels_number h.channels) (file_pixels h cs)
+
+-- the buffer is shorter than the image
+abbrev pub RefusesBuffer : ℕ → ℕ → Error → Type 0
+RefusesBuffer size required e = (size < required) × (e ≡ OutputBufferTooSmall size required)
+
+-- Why a file is not decoded into a buffer of this size: the header, then the buffer, then the image.
+abbrev pub RefusesFile : ℕ → List ℕ → Error → Type 0
+RefusesFile size bytes e = (header_of bytes ≡ Err e)
+    ⊎ ((h : Header) × (header_of bytes ≡ Ok h)
+    × (RefusesBuffer size (file_byte_count h) e
+    ⊎ ((file_byte_count h ≤ size) × RefusesBytes (pixel_count h) (drop header_size bytes) e)))
+
+-- why a file is not decoded, where the buffer is long enough: the header, then the image
+abbrev pub RefusesWholeFile : List ℕ → Error → Type 0
+RefusesWholeFile bytes e = (header_of bytes ≡ Err e)
+    ⊎ ((h : Header) × (header_of bytes ≡ Ok h) × RefusesBytes (pixel_count h) (drop header_size bytes) e)

@@ -1,0 +1,174 @@
+//! A pixel of three or four channels.
+ghost use Rattle.std.specs.Prelude.{◌≡◌, ◌<◌, ℕ, List, [], ◌∷◌, ◌++◌, length, take, drop, replicate, slice_index, slice_index_or};
+ghost use Rattle.qoi.specs.Pixels.{rgba, hash};
+ghost use Rattle.qoi.specs.Output.{IsChannels};
+ghost use Rattle.qoi.specs.Chunks.{after_diff, after_luma, moved};
+
+use std::marker::Model;
+
+/// A pixel of `N` channels of 8 bits, 3 or 4.
+///
+/// A contract sees it as the list of its bytes: red, green, blue and, where `N` is 4, alpha.
+#[derive(Clone, Copy, PartialEq, Eq, Debug)]
+pub struct Pixel<const N: usize>([u8; N]);
+
+impl<const N: usize> Model for Pixel<N> {
+    ghost Value = { List ℕ };
+
+    ghost view = { λ p. p.0 };
+
+    ghost inverse = { λ bytes. record { 0 = bytes } };
+
+    ghost invariant = { λ p. length p.0 ≡ N };
+}
+
+impl<const N: usize> Pixel<N> {
+    /// The pixel whose bytes are all 0.
+    #[inline]
+    pub fn new() -> Pixel<N>
+        requires { IsChannels N }
+        ensures { result ≡ replicate N 0 }
+    {
+        Pixel([0; N])
+    }
+
+    /// Sets red, green and blue, and keeps alpha.
+    #[inline]
+    pub fn update_rgb(&mut self, r: u8, g: u8, b: u8)
+        requires { IsChannels N }
+        ensures { self.new ≡ r ∷ g ∷ b ∷ drop 3 self.old }
+    {
+        self.0[0] = r;
+        self.0[1] = g;
+        self.0[2] = b;
+    }
+
+    /// Sets red, green, blue and alpha, which three channels drop.
+    #[inline]
+    pub fn update_rgba(&mut self, r: u8, g: u8, b: u8, a: u8)
+        requires { IsChannels N }
+        ensures { self.new ≡ take N (r ∷ g ∷ b ∷ a ∷ []) }
+    {
+        self.0[0] = r;
+        self.0[1] = g;
+        self.0[2] = b;
+        if N == 4 {
+            self.0[3] = a;
+        }
+    }
+
+    /// Adds to red, green and blue the differences of a difference chunk's byte (QOI specification
+    /// 1.0, "QOI_OP_DIFF"); sums wrap at 256.
+    #[inline]
+    #[tactic(auto, unfolding(crate::specs::Chunks::after_diff))]
+    pub fn update_diff(&mut self, b1: u8)
+        requires { IsChannels N }
+        ensures { rgba self.new ≡ after_diff (rgba self.old) b1 }
+    {
+        let vr = ((b1 >> 4) & 3).wrapping_sub(2);
+        let vg = ((b1 >> 2) & 3).wrapping_sub(2);
+        let vb = (b1 & 3).wrapping_sub(2);
+        self.rgb_add(vr, vg, vb);
+    }
+
+    /// Adds to red, green and blue the differences of a luma chunk's two bytes (QOI specification
+    /// 1.0, "QOI_OP_LUMA"); sums wrap at 256.
+    #[inline]
+    #[tactic(auto, unfolding(crate::specs::Chunks::after_luma))]
+    pub fn update_luma(&mut self, b1: u8, b2: u8)
+        requires { IsChannels N }
+        ensures { rgba self.new ≡ after_luma (rgba self.old) b1 b2 }
+    {
+        let vg = (b1 & 0x3f).wrapping_sub(32);
+        let vr = vg.wrapping_sub(8).wrapping_add(b2 >> 4);
+        let vb = vg.wrapping_sub(8).wrapping_add(b2 & 0x0f);
+        self.rgb_add(vr, vg, vb);
+    }
+
+    /// Adds to red, green and blue; sums wrap at 256.
+    #[inline]
+    pub fn rgb_add(&mut self, r: u8, g: u8, b: u8)
+        requires { IsChannels N }
+        ensures { rgba self.new ≡ moved (rgba self.old) r g b }
+    {
+        self.0[0] = self.0[0].wrapping_add(r);
+        self.0[1] = self.0[1].wrapping_add(g);
+        self.0[2] = self.0[2].wrapping_add(b);
+    }
+
+    /// The pixel in four channels, with alpha `with_a` where it has three.
+    #[inline]
+    pub fn as_rgba(self, with_a: u8) -> Pixel<4>
+        requires { IsChannels N }
+        ensures { result ≡ take 4 (self.entry ++ with_a ∷ []) }
+    {
+        let a = if N == 4 { self.0[3] } else { with_a };
+        Pixel([self.0[0], self.0[1], self.0[2], a])
+    }
+
+    /// Red.
+    #[inline]
+    pub fn r(self) -> u8
+        requires { IsChannels N }
+        ensures { result ≡ slice_index self.entry 0 }
+    {
+        self.0[0]
+    }
+
+    /// Green.
+    #[inline]
+    pub fn g(self) -> u8
+        requires { IsChannels N }
+        ensures { result ≡ slice_index self.entry 1 }
+    {
+        self.0[1]
+    }
+
+    /// Blue.
+    #[inline]
+    pub fn b(self) -> u8
+        requires { IsChannels N }
+        ensures { result ≡ slice_index self.entry 2 }
+    {
+        self.0[2]
+    }
+
+    /// Alpha, or `value` where there are three channels.
+    #[inline]
+    pub fn a_or(self, value: u8) -> u8
+        requires { IsChannels N }
+        ensures { result ≡ slice_index_or self.entry 3 value }
+    {
+        if N == 4 { self.0[3] } else { value }
+    }
+
+    /// The pixel with this alpha, or the pixel as it is where there are three channels.
+    #[inline]
+    #[tactic(auto, using(crate::proofs::SetLast::set_last))]
+    pub fn with_a(mut self, value: u8) -> Pixel<N>
+        requires { IsChannels N }
+        ensures { result ≡ take N (take 3 self.entry ++ value ∷ []) }
+    {
+        if N == 4 {
+            self.0[3] = value;
+        }
+        self
+    }
+
+    /// The index position of the pixel, 0 to 63, with alpha 255 where it has three channels (QOI
+    /// specification 1.0, "Chunks").
+    #[inline]
+    #[tactic(auto, unfolding(crate::specs::Pixels::hash))]
+    pub fn hash_index(self) -> u8
+        requires { IsChannels N }
+        ensures position { result ≡ hash (rgba self.entry) }
+        ensures within { result < 64 }
+    {
+        let a = self.a_or(0xff);
+        let sum = 3 * u32::from(self.0[0])
+            + 5 * u32::from(self.0[1])
+            + 7 * u32::from(self.0[2])
+            + 11 * u32::from(a);
+        (sum % 64) as u8
+    }
+}

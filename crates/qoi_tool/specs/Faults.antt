@@ -1,0 +1,8 @@
+-- The status that the program ends with after a fault.
+use Rattle.std.specs.Prelude.{ℕ}
+use Rattle.qoi_tool.specs.declared.Fault.{Fault}
+use Rattle.qoi_tool.specs.declared.Fault.TheVariants.{Usage, Image}
+
+abbrev pub status_of : Fault → ℕ
+status_of Usage = 2
+status_of (Image e) = 1

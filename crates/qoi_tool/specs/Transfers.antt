@@ -1,0 +1,24 @@
+-- What reading all of an input and writing to an output do to the bytes that are known.
+use Rattle.std.specs.Prelude.{◌≡◌, ℕ, List, ◌++◌, Option}
+use Rattle.std.specs.Io.KnownBytes.{Appends, Consumes, IsAtEnd}
+use Rattle.qoi.specs.declared.error.Error.{Error}
+use Rattle.qoi.specs.declared.error.Error.TheVariants.{IoError, OutOfMemory}
+
+-- these bytes were taken, and none is left
+abbrev pub TakesAll : Option (List ℕ) → Option (List ℕ) → List ℕ → Type 0
+TakesAll old new bytes = Consumes old new bytes × IsAtEnd new
+
+-- a beginning of the bytes was written
+abbrev pub WritesBeginning : Option (List ℕ) → Option (List ℕ) → List ℕ → Type 0
+WritesBeginning old new bytes = (front : List ℕ) × (rest : List ℕ) × (bytes ≡ front ++ rest) × Appends old new front
+
+-- an i/o error
+abbrev pub IsIoError : Error → Type 0
+IsIoError (IoError e) = Unit {0}
+IsIoError _ = ⊥
+
+-- an i/o error, or want of memory
+abbrev pub IsOutside : Error → Type 0
+IsOutside (IoError e) = Unit {0}
+IsOutside OutOfMemory = Unit {0}
+IsOutside _ = ⊥

@@ -1,0 +1,64 @@
+//! Reading all of an input, and writing all of an output.
+ghost use Rattle.std.specs.Prelude.{◌≡◌, ℕ, ◌+◌, ◌<◌, ◌≤◌, List, length, Option, Ok, OnOk, IfOk, IfErr, take};
+ghost use Rattle.std.specs.Io.KnownBytes.{Appends, Consumes, IsAtEnd};
+ghost use Rattle.qoi_tool.specs.Transfers.{TakesAll, WritesBeginning, IsIoError, IsOutside};
+
+use qoi::Error;
+use std::alloc::Global;
+use std::io;
+use std::io::{ErrorKind, Read, Write};
+
+// The least room that a read is given.
+const PIECE: usize = 65536;
+
+/// All the bytes that the reader gives until a read gives none.
+pub fn read_all<R: Read>(alloc: Global, input: &mut R) -> Result<Vec<u8>, Error>
+    ensures read { IfOk result (λ v. TakesAll (R.remaining input.old) (R.remaining input.new) v.items) }
+    ensures failed { IfErr result IsOutside }
+{
+    let mut bytes = Vec::new(alloc);
+    let mut filled = 0;
+    loop {
+        if filled == bytes.len() {
+            bytes.resize(filled.saturating_add(filled.max(PIECE)), 0)?;
+        }
+        let count = read_after(input, &mut bytes, filled)?;
+        if count == 0 {
+            bytes.truncate(filled);
+            return Ok(bytes);
+        }
+        filled += count;
+    }
+}
+
+// Reads once into the buffer behind the bytes that are filled, and answers how many bytes came.
+fn read_after<R: Read>(input: &mut R, buf: &mut [u8], filled: usize) -> io::Result<usize>
+    requires { filled ≤ length buf.old }
+    ensures read { IfOk result (λ n. (filled + n ≤ length buf.new)
+        × ((start : Option (List ℕ)) → Consumes start (R.remaining input.old) (take filled buf.old)
+        → Consumes start (R.remaining input.new) (take (filled + n) buf.new))) }
+    ensures ended { result ≡ Ok 0 → filled < length buf.old → IsAtEnd (R.remaining input.new) }
+{
+    let count = input.read(&mut buf[filled..])?;
+    Ok(count)
+}
+
+/// Writes all the bytes; after a fault a beginning of them was written.
+pub fn write_whole<W: Write>(output: &mut W, bytes: &[u8]) -> Result<(), Error>
+    ensures written { OnOk result (Appends (W.contents output.old) (W.contents output.new) bytes.now) }
+    ensures failed { IfErr result (λ e. IsIoError e
+        × WritesBeginning (W.contents output.old) (W.contents output.new) bytes.now) }
+{
+    let mut rest = bytes;
+    while !rest.is_empty() {
+        let count = output.write(rest)?;
+        if count == 0 {
+            return Err(Error::IoError(io::Error::new(
+                ErrorKind::WriteZero,
+                "the output took no byte",
+            )));
+        }
+        rest = &rest[count..];
+    }
+    Ok(())
+}
