@@ -2,6 +2,7 @@ pub mod Appended
 pub mod ChunkSteps
 pub mod ChunksApart
 pub mod Coding
+pub mod CodingRest
 pub mod Costs
 pub mod FilledBuffer
 pub mod HeaderBytes
@@ -22,9 +23,10 @@ pub mod SlackReached
 pub mod SlackSteps
 pub mod SomeVerdict
 pub mod Spelled
+pub mod SpelledBytes
+pub mod TableNotes
 pub mod TakenBytes
 pub mod Upper
 pub mod WrittenExists
 pub mod WrittenOnce
 pub mod WrittenShape
-pub mod SpelledBytes

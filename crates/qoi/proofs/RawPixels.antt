@@ -1,7 +1,7 @@
 -- The pixels of raw bytes: they are pixels, of as many channels, and give the bytes back.
-use Rattle.std.proofs.Common.{◌≡◌, inl, inr, ℕ, zero, suc, ◌*◌, ◌<◌, List, [], ◌∷◌, length, refl, ap, arith}
+use Rattle.std.proofs.Common.{◌≡◌, inl, inr, ℕ, zero, suc, ◌*◌, ◌<◌, List, [], ◌∷◌, ◌++◌, length, refl, ap, ◌∙◌, arith}
 use Rattle.std.specs.List.{AllByRecursion}
-use Rattle.qoi.specs.Pixels.{IsPixel}
+use Rattle.qoi.specs.Pixels.{RgbaPixel, IsPixel, pixel, rgba}
 use Rattle.qoi.specs.Output.{IsChannels, output}
 use Rattle.qoi.specs.Raw.{pixels_of_3, pixels_of_4, pixels_of, AreOpaque, HasChannels}
 
@@ -80,3 +80,53 @@ back_4 (r ∷ g ∷ b ∷ a ∷ bytes) (suc n) e = ap (λ (x : List ℕ). r ∷ 
 pub output-pixels_of : (channels n : ℕ) (bytes : List ℕ) → IsChannels channels → length bytes ≡ channels * n → output channels channels (pixels_of channels bytes) ≡ bytes
 output-pixels_of channels n bytes (inl e) h = rw e (back_3 bytes n (rw e at h))
 output-pixels_of channels n bytes (inr e) h = rw e (back_4 bytes n (rw e at h))
+
+-- three bytes each: the pixels of joined bytes
+append_3 : (xs ys : List ℕ) (n : ℕ) → length xs ≡ 3 * n → pixels_of_3 (xs ++ ys) ≡ pixels_of_3 xs ++ pixels_of_3 ys
+append_3 [] ys n e = refl
+append_3 (r ∷ []) ys n e = absurd (omega arith)
+append_3 (r ∷ g ∷ []) ys n e = absurd (omega arith)
+append_3 (r ∷ g ∷ b ∷ xs) ys zero e = absurd (omega arith)
+append_3 (r ∷ g ∷ b ∷ xs) ys (suc n) e = ap (λ (x : List RgbaPixel). pixel r g b 255 ∷ x) (append_3 xs ys n (omega arith))
+
+-- four bytes each: the pixels of joined bytes
+append_4 : (xs ys : List ℕ) (n : ℕ) → length xs ≡ 4 * n → pixels_of_4 (xs ++ ys) ≡ pixels_of_4 xs ++ pixels_of_4 ys
+append_4 [] ys n e = refl
+append_4 (r ∷ []) ys n e = absurd (omega arith)
+append_4 (r ∷ g ∷ []) ys n e = absurd (omega arith)
+append_4 (r ∷ g ∷ b ∷ []) ys n e = absurd (omega arith)
+append_4 (r ∷ g ∷ b ∷ a ∷ xs) ys zero e = absurd (omega arith)
+append_4 (r ∷ g ∷ b ∷ a ∷ xs) ys (suc n) e = ap (λ (x : List RgbaPixel). pixel r g b a ∷ x) (append_4 xs ys n (omega arith))
+
+-- the pixels of joined bytes
+pub pixels_of-append : (channels n : ℕ) (xs ys : List ℕ) → IsChannels channels → length xs ≡ channels * n → pixels_of channels (xs ++ ys) ≡ pixels_of channels xs ++ pixels_of channels ys
+pixels_of-append channels n xs ys (inl e) h = rw e (append_3 xs ys n (rw e at h))
+pixels_of-append channels n xs ys (inr e) h = rw e (append_4 xs ys n (rw e at h))
+
+-- the pixel of three bytes
+one_3 : (bytes : List ℕ) → length bytes ≡ 3 → pixels_of_3 bytes ≡ rgba bytes ∷ []
+one_3 [] e = absurd (omega arith)
+one_3 (r ∷ []) e = absurd (omega arith)
+one_3 (r ∷ g ∷ []) e = absurd (omega arith)
+one_3 (r ∷ g ∷ b ∷ []) e = refl
+one_3 (r ∷ g ∷ b ∷ a ∷ bytes) e = absurd (omega arith)
+
+-- the pixel of four bytes
+one_4 : (bytes : List ℕ) → length bytes ≡ 4 → pixels_of_4 bytes ≡ rgba bytes ∷ []
+one_4 [] e = absurd (omega arith)
+one_4 (r ∷ []) e = absurd (omega arith)
+one_4 (r ∷ g ∷ []) e = absurd (omega arith)
+one_4 (r ∷ g ∷ b ∷ []) e = absurd (omega arith)
+one_4 (r ∷ g ∷ b ∷ a ∷ []) e = refl
+one_4 (r ∷ g ∷ b ∷ a ∷ x ∷ bytes) e = absurd (omega arith)
+
+-- the pixel of as many bytes as there are channels
+pub pixels_of-one : (channels : ℕ) (bytes : List ℕ) → IsChannels channels → length bytes ≡ channels → pixels_of channels bytes ≡ rgba bytes ∷ []
+pixels_of-one channels bytes (inl e) h = rw e (one_3 bytes (h ∙ e))
+pixels_of-one channels bytes (inr e) h = rw e (one_4 bytes (h ∙ e))
+
+-- the first pixel of bytes, and the others
+pub pixels_of-next : (channels : ℕ) (bytes rest : List ℕ) → IsChannels channels → length bytes ≡ channels → pixels_of channels (bytes ++ rest) ≡ rgba bytes ∷ pixels_of channels rest
+pixels_of-next channels bytes rest k h =
+    pixels_of-append channels 1 bytes rest k (omega arith)
+    ∙ ap (λ x. x ++ pixels_of channels rest) (pixels_of-one channels bytes k h)

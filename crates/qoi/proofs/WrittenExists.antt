@@ -1,6 +1,6 @@
 -- Each image has a written list.
-use Rattle.std.proofs.Common.{◌≡◌, ◌≢◌, ◌⊎◌, inl, inr, ℕ, suc, ◌<◌, List, [], ◌∷◌, ◌++◌, reverse, refl, arith}
-use Rattle.std.proofs.lemmas.List.{reverse-reverse}
+use Rattle.std.proofs.Common.{◌≡◌, ◌≢◌, ◌⊎◌, inl, inr, ℕ, suc, ◌<◌, List, [], ◌∷◌, ◌++◌, reverse, refl, append_assoc, append-nil, arith}
+use Rattle.std.proofs.lemmas.List.{reverse-append}
 use Rattle.std.proofs.lemmas.Bool.{cases_lt, cases_eq}
 use Rattle.std.specs.List.{AllByRecursion}
 use Rattle.qoi.specs.declared.parts.Chunk.{Chunk}
@@ -10,7 +10,7 @@ use Rattle.qoi.specs.Chunks.{IsChunk}
 use Rattle.qoi.specs.Written.{noted, IsFirst, IsChoice, Written}
 use Rattle.qoi.proofs.SamePixels.{cases_pixel}
 use Rattle.qoi.proofs.Spelled.{FitsDiff, FitsLuma, plus_2, plus_8, plus_32, diff_byte, luma_byte, luma_second, diff_chunk, luma_chunk, first_diff, first_luma, first_rgb, first_rgba}
-use Rattle.qoi.proofs.Coding.{all_reverse, Coding, Coded, coding_none, coding_repeat, coding_full, coded_none, coded_run, coding_chosen, coded_all}
+use Rattle.qoi.proofs.Coding.{Coding, coding_none, coding_repeat, coding_full, coded_none, coded_run, coding_chosen, coded_all}
 
 -- the pixel before the first one is a pixel
 pub is_pixel_start : IsPixel start
@@ -73,32 +73,29 @@ choice_some past p iq ip =
       | inr n ↦ let f = first_some past p iq ip in (f.0, f.1, record { place = λ is. absurd (n is); spelled = λ _. f.2 })
     ]
 
--- pixels can be coded
-pub coding_some : (past : Past) → AllByRecursion IsPixel past → (k : ℕ) × (cs : List Chunk) × Coding IsChoice past k cs
-coding_some [] h = (0, [], coding_none IsChoice)
-coding_some (p ∷ past) h = go (coding_some past h.1) (cases_pixel p (previous past))
+-- one more pixel can be coded, by chunks at the end
+pub coding_step : (past : Past) (k : ℕ) (cs : List Chunk) (p : RgbaPixel) → Coding IsChoice past k cs → AllByRecursion IsPixel past → IsPixel p → (j : ℕ) × (more : List Chunk) × Coding IsChoice (p ∷ past) j (cs ++ more)
+coding_step past k cs p w h ip = go (cases_pixel p (previous past)) (cases_eq (suc k) 62) (cases_eq k 0) (choice_some past p (is_pixel_previous past h) ip)
   where
-    coded_some : (k : ℕ) (cs : List Chunk) → Coding IsChoice past k cs → (ds : List Chunk) × Coded IsChoice past ds
-    coded_some k cs w = elim (cases_eq k 0) as (λ _. (ds : List Chunk) × Coded IsChoice past ds) [
-      | inl z ↦ (cs, coded_none IsChoice past k cs w z)
-      | inr n ↦ (cs ++ Run k ∷ [], coded_run IsChoice past k cs w (omega arith))
-    ]
+    go : (p ≡ previous past) ⊎ (p ≢ previous past) → (suc k ≡ 62) ⊎ (suc k ≢ 62) → (k ≡ 0) ⊎ (k ≢ 0) → ((c : Chunk) × IsChunk c × IsChoice past p c) → (j : ℕ) × (more : List Chunk) × Coding IsChoice (p ∷ past) j (cs ++ more)
+    go (inl e) (inl l) z c = (0, Run 62 ∷ [], coding_full IsChoice past k cs p w e l)
+    go (inl e) (inr l) z c = (suc k, [], rw append-nil (coding_repeat IsChoice past k cs p w e (let m = w.waits in omega arith)))
+    go (inr n) l (inl z) (c, i, choice) = (0, c ∷ [], coding_chosen past cs p c (coded_none IsChoice past k cs w z) n i choice)
+    go (inr n) l (inr z) (c, i, choice) =
+        (0, Run k ∷ c ∷ [], rw append_assoc at (coding_chosen past (cs ++ Run k ∷ []) p c (coded_run IsChoice past k cs w (omega arith)) n i choice))
 
-    go : ((k : ℕ) × (cs : List Chunk) × Coding IsChoice past k cs) → (p ≡ previous past) ⊎ (p ≢ previous past) → (k : ℕ) × (cs : List Chunk) × Coding IsChoice (p ∷ past) k cs
-    go w (inl e) = elim (cases_eq (suc w.0) 62) as (λ _. (k : ℕ) × (cs : List Chunk) × Coding IsChoice (p ∷ past) k cs) [
-      | inl l ↦ (0, w.1 ++ Run 62 ∷ [], coding_full IsChoice past w.0 w.1 p w.2 e l)
-      | inr l ↦ (suc w.0, w.1, coding_repeat IsChoice past w.0 w.1 p w.2 e (let m = w.2.waits in omega arith))
-    ]
-    go w (inr n) =
-        let d = coded_some w.0 w.1 w.2 in
-        let c = choice_some past p (is_pixel_previous past h.1) h.0 in
-        (0, d.0 ++ c.0 ∷ [], coding_chosen past d.0 p c.0 d.1 n c.1 c.2)
+-- What is written so far is the beginning of a written list, whatever pixels follow.
+pub coding_completed : (rest : List RgbaPixel) (past : Past) (k : ℕ) (cs : List Chunk) → Coding IsChoice past k cs → AllByRecursion IsPixel past → AllByRecursion IsPixel rest → (more : List Chunk) × Written (reverse past ++ rest) (cs ++ more)
+coding_completed [] past k cs w h r = elim (cases_eq k 0) as (λ _. (more : List Chunk) × Written (reverse past ++ []) (cs ++ more)) [
+  | inl z ↦ ([], rw (append-nil (reverse past), append-nil cs) (coded_all IsChoice past cs (coded_none IsChoice past k cs w z)))
+  | inr n ↦ (Run k ∷ [], rw (append-nil (reverse past)) (coded_all IsChoice past _ (coded_run IsChoice past k cs w (omega arith))))
+]
+coding_completed (p ∷ rest) past k cs w h r =
+    let s = coding_step past k cs p w h r.0 in
+    let t = coding_completed rest (p ∷ past) s.0 (cs ++ s.1) s.2 (r.0, h) r.1 in
+    let v : Written (reverse past ++ p ∷ rest) (cs ++ s.1 ++ t.0) = rw (reverse-append (p ∷ []) past, append_assoc (reverse past) (p ∷ []) rest) at t.1 in
+    (s.1 ++ t.0, rw append_assoc at v)
 
 -- an image has a written list
 pub written_some : (image : List RgbaPixel) → AllByRecursion IsPixel image → (cs : List Chunk) × Written image cs
-written_some image h =
-    let w = coding_some (reverse image) (all_reverse IsPixel image h) in
-    elim (cases_eq w.0 0) as (λ _. (cs : List Chunk) × Written image cs) [
-      | inl z ↦ (w.1, rw reverse-reverse at (coded_all IsChoice _ _ (coded_none IsChoice _ w.0 w.1 w.2 z)))
-      | inr n ↦ (w.1 ++ Run w.0 ∷ [], rw reverse-reverse at (coded_all IsChoice _ _ (coded_run IsChoice _ w.0 w.1 w.2 (omega arith))))
-    ]
+written_some image h = coding_completed image [] 0 [] (coding_none IsChoice) tt h
