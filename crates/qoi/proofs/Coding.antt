@@ -7,6 +7,7 @@ use Rattle.qoi.specs.declared.parts.Chunk.TheVariants.{Place, Diff, Luma, Run, R
 use Rattle.qoi.specs.Pixels.{RgbaPixel, Past, previous, hash}
 use Rattle.qoi.specs.Chunks.{IsChunk, AreChunks, pixel_of, then_chunk}
 use Rattle.qoi.specs.Meaning.{then_chunks, Each}
+use Rattle.qoi.specs.Coding.{Coding, Coded}
 use Rattle.qoi.specs.Written.{rank, noted, IsChoice, IsRightAfter, IsFull, RunsAreFull, WrittenBy}
 use Rattle.qoi.proofs.SamePixels.{cases_pixel}
 use Rattle.qoi.proofs.NotedPixels.{noted_seen}
@@ -73,22 +74,6 @@ full_62 (d ∷ e ∷ cs) n h = (same d e h.0, full_62 (e ∷ cs) n h.1)
     same : (d e : Chunk) → IsFull d (e ∷ (cs ++ Run 62 ∷ [])) → IsFull d (e ∷ (cs ++ Run 62 ∷ Run n ∷ []))
     same (Run m) (Run n) h = h
     same d e h = tt
-
--- The chunks are written for these pixels but for the last k, which repeat and wait to be a run. A run may
--- follow the chunks.
-pub record Coding (Choice : Past → RgbaPixel → Chunk → Type 0) (past : Past) (k : ℕ) (cs : List Chunk) : Type 0 where
-  pub waits : k < 62
-  pub chunks : AreChunks cs
-  pub means : then_chunk (then_chunks [] cs) (Run k) ≡ past
-  pub right : Each (IsRightAfter Choice) [] cs
-  pub full : (n : ℕ) → RunsAreFull (cs ++ Run n ∷ [])
-
--- The chunks are written for these pixels, and nothing waits. A run may not follow.
-pub record Coded (Choice : Past → RgbaPixel → Chunk → Type 0) (past : Past) (cs : List Chunk) : Type 0 where
-  pub chunks : AreChunks cs
-  pub means : then_chunks [] cs ≡ past
-  pub right : Each (IsRightAfter Choice) [] cs
-  pub full : RunsAreFull cs
 
 -- the pixel before is the same after repeats
 previous_repeats : (past : Past) (k : ℕ) → previous (then_chunk past (Run k)) ≡ previous past

@@ -7,19 +7,10 @@ use Rattle.qoi.specs.declared.parts.Chunk.TheVariants.{Run}
 use Rattle.qoi.specs.Pixels.{RgbaPixel, IsPixel, Past, previous}
 use Rattle.qoi.specs.Chunks.{IsChunk}
 use Rattle.qoi.specs.Written.{IsChoice, Written}
-use Rattle.qoi.proofs.Coding.{all_front, all_back, all_reverse, Coding, coding_none, coding_repeat, coding_full, coded_none, coded_run, coding_chosen, coded_all}
+use Rattle.qoi.specs.Coding.{ToWrite, ToWrite, Coding}
+use Rattle.qoi.proofs.Coding.{all_front, all_back, all_reverse, coding_none, coding_repeat, coding_full, coded_none, coded_run, coding_chosen, coded_all}
 use Rattle.qoi.proofs.WrittenExists.{coding_completed}
 use Rattle.qoi.proofs.WrittenOnce.{written_unique}
-
--- The list cs is written for the image. Of its pixels `past` have come, the last k of which repeat and wait to
--- be a run, and `rest` follow. Of cs the chunks `todo` are still to be written.
-pub record ToWrite (image : List RgbaPixel) (cs : List Chunk) (past : Past) (rest : List RgbaPixel) (k : ℕ) (todo : List Chunk) : Type 0 where
-  pub whole : Written image cs
-  pub pixels : AllByRecursion IsPixel image
-  pub split : image ≡ reverse past ++ rest
-  pub done : List Chunk
-  pub coding : Coding IsChoice past k done
-  pub parts : cs ≡ done ++ todo
 
 -- at the start all is still to be written
 pub to_write_none : (image : List RgbaPixel) (cs : List Chunk) → Written image cs → AllByRecursion IsPixel image → ToWrite image cs [] image 0 cs

@@ -30,3 +30,6 @@ pub mod Upper
 pub mod WrittenExists
 pub mod WrittenOnce
 pub mod WrittenShape
+pub mod CoderTable
+pub mod CodingWrites
+pub mod EncodedPixels

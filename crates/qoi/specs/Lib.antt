@@ -1,6 +1,8 @@
 pub mod Buffer
 pub mod Bytes
 pub mod Chunks
+pub mod CoderState
+pub mod Coding
 pub mod DecoderState
 pub mod Decoding
 pub mod ErrorText

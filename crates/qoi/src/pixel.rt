@@ -192,7 +192,7 @@ impl<const N: usize> Pixel<N> {
     }
     // The first of a difference, a luma, an RGB and an RGBA chunk that gives this pixel after another.
     #[inline(always)]
-    fn spelled_after(self, px_prev: Pixel<N>) -> Chunk
+    pub(crate) fn spelled_after(self, px_prev: Pixel<N>) -> Chunk
         requires { IsChannels N }
         ensures chunk { IsChunk result }
         ensures size { length (bytes_of result) ≤ N + 1 }
