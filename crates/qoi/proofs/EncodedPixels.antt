@@ -31,7 +31,7 @@ pub record Encodes {W : Type 0} (n : ℕ) (wrote : W → List ℕ → W → Type
   pub waits : run < 62
 
 -- bytes by recursion
-all_bytes : (bytes : List ℕ) → AreBytes bytes → AllByRecursion (λ b. b < 256) bytes
+pub all_bytes : (bytes : List ℕ) → AreBytes bytes → AllByRecursion (λ b. b < 256) bytes
 all_bytes [] h = tt
 all_bytes (b ∷ bytes) h = (h 0, all_bytes bytes (λ i. tail_of i))
   where

@@ -33,3 +33,5 @@ pub mod WrittenShape
 pub mod CoderTable
 pub mod CodingWrites
 pub mod EncodedPixels
+pub mod FileOf
+pub mod BufferFilled

@@ -5,6 +5,8 @@ pub mod CoderState
 pub mod Coding
 pub mod DecoderState
 pub mod Decoding
+pub mod Encoded
+pub mod EncoderState
 pub mod ErrorText
 pub mod Errors
 pub mod Files

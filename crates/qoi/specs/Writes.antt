@@ -1,5 +1,6 @@
 -- What a writer's relation promises. `wrote a bytes b` says that the writer a became b by writing the bytes.
-use Rattle.std.specs.Prelude.{◌≡◌, ℕ, ◌+◌, List, [], ◌++◌, length}
+use Rattle.std.specs.Prelude.{◌≡◌, ℕ, ◌+◌, List, [], ◌++◌, length, Option}
+use Rattle.std.specs.Io.KnownBytes.{Appends}
 
 -- what each writer proves of its relation
 pub record WriterLaws {W : Type 0} (wrote : W → List ℕ → W → Type 0) (room : W → ℕ) : Type 0 where
@@ -19,3 +20,7 @@ pub record WroteBut {W : Type 0} (wrote : W → List ℕ → W → Type 0) (a : 
 -- a beginning of the bytes was written
 abbrev pub WroteSome : {W : Type 0} → (W → List ℕ → W → Type 0) → W → List ℕ → W → Type 0
 WroteSome wrote a bytes b = (rest : List ℕ) × WroteBut wrote a bytes rest b
+
+-- the bytes that are known grew by a beginning of these
+abbrev pub AppendsBeginning : Option (List ℕ) → Option (List ℕ) → List ℕ → Type 0
+AppendsBeginning old new bytes = (front : List ℕ) × (rest : List ℕ) × (bytes ≡ front ++ rest) × Appends old new front

@@ -3,6 +3,7 @@ ghost use Rattle.std.specs.Prelude.{◌≡◌, ◌*◌};
 ghost use Rattle.qoi.specs.declared.header.Header.{Header};
 
 use crate::consts::{QOI_HEADER_SIZE, QOI_MAGIC, QOI_PIXELS_MAX};
+use crate::encode::encode_max_len;
 use crate::error::{Error, Result};
 use crate::types::{Channels, ColorSpace};
 
@@ -23,6 +24,7 @@ pub struct Header {
 
 impl Header {
     ghost use Rattle.qoi.specs.Headers.{head, header_of, tried_header, pixel_count};
+    ghost use Rattle.qoi.specs.Encoded.{max_file_len};
 
     /// A header of these fields; `InvalidImageDimensions` where width times height is 0 or
     /// above 400,000,000.
@@ -96,10 +98,33 @@ impl Header {
         Header::try_new(width, height, channels, colorspace)
     }
 
+    /// The same header with other channels.
+    pub fn with_channels(mut self, channels: Channels) -> Header
+        ensures { result ≡ record self { channels = channels } }
+    {
+        self.channels = channels;
+        self
+    }
+
+    /// The same header with another color space.
+    pub fn with_colorspace(mut self, colorspace: ColorSpace) -> Header
+        ensures { result ≡ record self { colorspace = colorspace } }
+    {
+        self.colorspace = colorspace;
+        self
+    }
+
     /// Width times height, in pixels.
     pub fn n_pixels(&self) -> usize
         ensures { result ≡ pixel_count self.now }
     {
         self.width as usize * self.height as usize
+    }
+
+    /// The most bytes that the file of such an image has, or the greatest `usize` if that is less.
+    pub fn encode_max_len(&self) -> usize
+        ensures { result ≡ max_file_len self.now }
+    {
+        encode_max_len(self.width, self.height, self.channels.as_u8())
     }
 }

@@ -1,0 +1,162 @@
+-- The file of an image: what holds of it.
+use Rattle.std.proofs.Common.{◌≡◌, ◌≢◌, ℕ, ◌+◌, ◌*◌, ◌/◌, ◌%◌, ◌^◌, ◌<◌, ◌≤◌, inl, inr, List, [], ◌∷◌, ◌++◌, length, take, min, slice_set, ◌-◌, refl, sym, ap, ◌∙◌, subst, arith, append-nil, length-append}
+use Rattle.std.specs.List.{AllByRecursion}
+use Rattle.std.proofs.Math.Nat.{mul_comm}
+use Rattle.std.proofs.lemmas.List.{take-append-le}
+use Rattle.qoi.specs.declared.types.Channels.{Channels}
+use Rattle.qoi.specs.declared.types.Channels.TheVariants.{Rgb, Rgba}
+use Rattle.qoi.specs.declared.types.ColorSpace.{ColorSpace}
+use Rattle.qoi.specs.declared.header.Header.{Header}
+use Rattle.qoi.specs.declared.parts.Chunk.{Chunk}
+use Rattle.qoi.specs.Types.{channels_number, colorspace_number}
+use Rattle.qoi.specs.Headers.{head, pixel_count, IsValid}
+use Rattle.qoi.specs.Bytes.{AreBytes}
+use Rattle.qoi.specs.Chunks.{text}
+use Rattle.qoi.specs.Meaning.{Reaches, meaning}
+use Rattle.qoi.specs.Files.{file, file_pixels, end_marker, IsFile}
+use Rattle.qoi.specs.Output.{IsChannels, output}
+use Rattle.qoi.specs.Raw.{HasChannels}
+use Rattle.qoi.specs.Written.{IsChoice, Written}
+use Rattle.qoi.specs.Regular.{Regular, Begins}
+use Rattle.qoi.specs.Shortest.{floor, slack}
+use Rattle.qoi.specs.Decoding.{file_byte_count, DecodesFile}
+use Rattle.qoi.specs.Encoded.{max_len, max_file_len, image_pixels, IsEncoded, Spans, IsNearShortest, IsFileOf}
+use Rattle.qoi.proofs.FilledBuffer.{take_whole}
+use Rattle.qoi.proofs.ImageSize.{channels_are}
+use Rattle.qoi.proofs.OneFile.{file_has_header, file_is_whole}
+use Rattle.qoi.proofs.RawPixels.{pixels_of_are, pixels_of_have, length-pixels_of, output-pixels_of}
+use Rattle.qoi.specs.Writes.{WriterLaws, WroteBut, WroteSome}
+use Rattle.qoi.proofs.CodingWrites.{wrote_next, wrote_part}
+use Rattle.qoi.proofs.EncodedPixels.{all_bytes}
+use Rattle.qoi.proofs.WrittenExists.{written_some}
+use Rattle.qoi.proofs.WrittenOnce.{written_unique}
+use Rattle.qoi.proofs.WrittenShape.{reaches_by, apart_by, written_fits_lem}
+use Rattle.qoi.proofs.RegularLists.{written_regular, no_blank_regular}
+use Rattle.qoi.proofs.Lower.{lower}
+use Rattle.qoi.proofs.Upper.{upper}
+
+-- the bytes of a file are the header's, the chunks' and the end marker's
+pub length-file : (h : Header) (cs : List Chunk) → length (file h cs) ≡ 22 + length (text cs)
+length-file h cs = omega (arith, length-append (head h) (text cs ++ end_marker), length-append (text cs) end_marker)
+
+-- the greatest length is exact for a valid header
+pub max_is_exact : (h : Header) → IsValid h → max_file_len h ≡ pixel_count h * channels_number h.channels + pixel_count h + 22
+max_is_exact h valid = exact h.channels (pixel_count h) valid.1
+  where
+    exact : (c : Channels) (n : ℕ) → n ≤ 400000000 → min (14 + n * channels_number c + n + 8) (2 ^ 64 - 1) ≡ n * channels_number c + n + 22
+    exact Rgb n l = omega arith
+    exact Rgba n l = omega arith
+
+-- another color space changes the fourteenth byte alone
+other_space : (h : Header) (space : ColorSpace) (cs : List Chunk) → file (record h { colorspace = space }) cs ≡ slice_set (file h cs) 13 (colorspace_number space)
+other_space h space cs = refl
+
+module _ (h : Header) (raw : List ℕ) (valid : IsValid h) (size : length raw ≡ file_byte_count h) where
+  channels : IsChannels (channels_number h.channels)
+  channels = channels_are h.channels (channels_number h.channels) refl
+
+  image_size : length raw ≡ channels_number h.channels * pixel_count h
+  image_size = size ∙ mul_comm (pixel_count h) (channels_number h.channels)
+
+  -- as many pixels as the header says
+  count : length (image_pixels h raw) ≡ pixel_count h
+  count = length-pixels_of (channels_number h.channels) (pixel_count h) raw channels image_size
+
+  has : HasChannels (image_pixels h raw) (channels_number h.channels)
+  has = pixels_of_have (channels_number h.channels) raw channels
+
+  -- the chunks that are written fit
+  pub text_fits : (cs : List Chunk) → Written (image_pixels h raw) cs → length (text cs) ≤ pixel_count h * channels_number h.channels + pixel_count h
+  text_fits cs w = written_fits_lem (image_pixels h raw) (channels_number h.channels) (pixel_count h) cs has count w
+
+  -- they are those of a file
+  is_file : (cs : List Chunk) → Written (image_pixels h raw) cs → IsFile h cs
+  is_file cs w = record { valid = valid; chunks = w.chunks; reaches = reaches_by IsChoice (image_pixels h raw) (pixel_count h) cs w count }
+
+  -- it comes back
+  back : (cs : List Chunk) (rest : List ℕ) → Written (image_pixels h raw) cs → DecodesFile (file h cs ++ rest) h rest raw
+  back cs rest w = record {
+    header = file_has_header h cs (file h cs ++ rest) rest (is_file cs w) refl;
+    cs = cs;
+    whole = file_is_whole h cs (file h cs ++ rest) rest (is_file cs w) refl;
+    out_is = sym (output-pixels_of (channels_number h.channels) (pixel_count h) raw channels image_size)
+        ∙ ap (output (channels_number h.channels) (channels_number h.channels)) (sym (take_whole (pixel_count h) (image_pixels h raw) count) ∙ ap (take (pixel_count h)) (sym w.means));
+  }
+
+  -- it is near the shortest
+  near : (cs : List Chunk) → Written (image_pixels h raw) cs → IsNearShortest h raw (file h cs)
+  near cs w =
+      let image = image_pixels h raw in
+      let most = upper image (channels_number h.channels) cs has w in
+      let size_is = length-file h cs in
+      record {
+        floor_is_below = λ others s regular. lower image others s.chunks regular s.begins;
+        near_floor = omega arith;
+        near_others = λ others s regular. omega (arith, lower image others s.chunks regular s.begins, length-file h others);
+        all_regular = λ no_blank others s. no_blank_regular image others (subst (λ n. Reaches n others) (sym count) s.reaches) s.begins no_blank;
+      }
+
+  -- all of it
+  pub file_of : (cs : List Chunk) → Written (image_pixels h raw) cs → IsFileOf h raw (file h cs)
+  file_of cs w = record {
+    encoded = record { cs = cs; written = w; bytes_are = refl };
+    only = λ others e. e.bytes_are ∙ ap (file h) (written_unique (image_pixels h raw) e.cs cs e.written w);
+    fits = omega (arith, text_fits cs w, length-file h cs, max_is_exact h valid);
+    comes_back = λ rest. back cs rest w;
+    color_space = λ space others e. e.bytes_are ∙ ap (file (record h { colorspace = space })) (written_unique (image_pixels h raw) e.cs cs e.written w) ∙ other_space h space cs;
+    near_shortest = near cs w;
+    regular = λ others v. written_regular (image_pixels h raw) others v;
+    apart = λ others front rest i v. apart_by IsChoice (image_pixels h raw) others front rest i v;
+  }
+
+-- an image has a list that is written for it
+pub list_of : (h : Header) (raw : List ℕ) → AreBytes raw → (cs : List Chunk) × Written (image_pixels h raw) cs
+list_of h raw are = written_some (image_pixels h raw) (pixels_of_are (channels_number h.channels) raw (channels_are h.channels (channels_number h.channels) refl) (all_bytes raw are))
+
+-- A file that is written part after part.
+module _ {W : Type 0} (wrote : W → List ℕ → W → Type 0) (room : W → ℕ) (laws : WriterLaws wrote room) (h : Header) (cs : List Chunk) (start : W) where
+  -- nothing is written yet
+  unwritten : WroteBut wrote start (file h cs) (file h cs) start
+  unwritten = record { front = []; split = refl; went = laws.nothing start }
+
+  module _ (bytes : List ℕ) (is_head : bytes ≡ head h) where
+    begins : file h cs ≡ bytes ++ (text cs ++ end_marker)
+    begins = ap (λ z. z ++ (text cs ++ end_marker)) (sym is_head)
+
+    -- a beginning of the header was written
+    pub head_part : (next : W) → WroteSome wrote start bytes next → WroteSome wrote start (file h cs) next
+    head_part next some = wrote_part wrote room laws start start next (file h cs) (file h cs) bytes (text cs ++ end_marker) unwritten begins some
+
+    module _ (headed : W) (head_went : wrote start bytes headed) where
+      -- the header was written
+      after_head : WroteBut wrote start (file h cs) (text cs ++ end_marker) headed
+      after_head = wrote_next wrote room laws start start headed (file h cs) (file h cs) bytes (text cs ++ end_marker) unwritten begins head_went
+
+      -- the header and a beginning of the chunks were written
+      pub chunks_part : (next : W) → WroteSome wrote headed (text cs) next → WroteSome wrote start (file h cs) next
+      chunks_part next some = wrote_part wrote room laws start headed next (file h cs) (text cs ++ end_marker) (text cs) end_marker after_head refl some
+
+      module _ (chunked : W) (chunks_went : wrote headed (text cs) chunked) where
+        -- header and chunks were written
+        after_chunks : WroteBut wrote start (file h cs) end_marker chunked
+        after_chunks = wrote_next wrote room laws start headed chunked (file h cs) (text cs ++ end_marker) (text cs) end_marker after_head refl chunks_went
+
+        -- there is room for the end marker
+        pub marker_fits : 22 + length (text cs) ≤ room start → 8 ≤ room chunked
+        marker_fits enough =
+            let w = after_chunks in
+            omega (arith, laws.counts start chunked w.front w.went, ap length w.split, length-append w.front end_marker, length-file h cs)
+
+        -- header, chunks and a beginning of the end marker were written
+        pub marker_part : (next : W) → WroteSome wrote chunked end_marker next → WroteSome wrote start (file h cs) next
+        marker_part next some = wrote_part wrote room laws start chunked next (file h cs) end_marker end_marker [] after_chunks refl some
+
+        -- all of the file was written
+        pub file_went : (next : W) → wrote chunked end_marker next → wrote start (file h cs) next
+        file_went next went =
+            let all = wrote_next wrote room laws start chunked next (file h cs) end_marker end_marker [] after_chunks refl went in
+            subst (λ z. wrote start z next) (sym (all.split ∙ append-nil all.front)) all.went
+
+        -- as many bytes as the room fell by
+        pub file_counts : (next : W) → wrote chunked end_marker next → room start - room next ≡ length (file h cs)
+        file_counts next went = omega (arith, laws.counts start next (file h cs) (file_went next went))

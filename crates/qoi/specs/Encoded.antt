@@ -1,0 +1,84 @@
+-- The file of an image (QOI specification 1.0, "File Format" and "Data").
+use Rattle.std.specs.Prelude.{◌≡◌, ◌≢◌, ℕ, ◌+◌, ◌-◌, ◌*◌, ◌/◌, ◌%◌, ◌^◌, ◌<◌, ◌≤◌, List, ◌∷◌, ◌++◌, length, min, slice_set, Result, Ok, Err, ◌==◌, if◌then◌else◌}
+use Rattle.std.specs.List.{AllByRecursion}
+use Rattle.qoi.specs.declared.error.Error.{Error}
+use Rattle.qoi.specs.declared.error.Error.TheVariants.{InvalidImageLength}
+use Rattle.qoi.specs.declared.types.Channels.{Channels}
+use Rattle.qoi.specs.declared.types.Channels.TheVariants.{Rgb}
+use Rattle.qoi.specs.declared.types.ColorSpace.{ColorSpace}
+use Rattle.qoi.specs.declared.types.ColorSpace.TheVariants.{Srgb}
+use Rattle.qoi.specs.declared.header.Header.{Header}
+use Rattle.qoi.specs.declared.parts.Chunk.{Chunk}
+use Rattle.qoi.specs.declared.parts.Chunk.TheVariants.{Place}
+use Rattle.qoi.specs.Types.{channels_number, channels_of, colorspace_number}
+use Rattle.qoi.specs.Headers.{pixel_count, tried_header}
+use Rattle.qoi.specs.Pixels.{RgbaPixel, blank}
+use Rattle.qoi.specs.Chunks.{AreChunks, text}
+use Rattle.qoi.specs.Meaning.{Reaches, meaning}
+use Rattle.qoi.specs.Files.{file}
+use Rattle.qoi.specs.Raw.{pixels_of}
+use Rattle.qoi.specs.Written.{Written}
+use Rattle.qoi.specs.Regular.{Regular, Begins}
+use Rattle.qoi.specs.Shortest.{floor, slack}
+use Rattle.qoi.specs.Decoding.{DecodesFile}
+
+-- the most bytes that the file of an image of this size has, or the greatest usize if that is less
+abbrev pub max_len : ℕ → ℕ → ℕ → ℕ
+max_len width height channels = min (14 + width * height * channels + width * height + 8) (2 ^ 64 - 1)
+
+-- the same for the image of a header
+abbrev pub max_file_len : Header → ℕ
+max_file_len h = max_len h.width h.height (channels_number h.channels)
+
+-- a header with these channels, or their refusal
+abbrev pub with_number : Header → Result Channels Error → Result Header Error
+with_number h (Err e) = Err e
+with_number h (Ok channels) = Ok (record h { channels = channels })
+
+-- the channels of raw bytes, or the refusal of their number
+abbrev pub measured : List ℕ → Result Header Error → Result Header Error
+measured raw (Err e) = Err e
+measured raw (Ok h) =
+    if length raw % pixel_count h == 0 then with_number h (channels_of (min (length raw / pixel_count h) 255))
+    else Err (InvalidImageLength (length raw) h.width h.height)
+
+-- The header of an image of raw bytes, or the first refusal: the dimensions, the length, the number of channels,
+-- which is cut at 255.
+abbrev pub image_header : List ℕ → ℕ → ℕ → Result Header Error
+image_header raw width height = measured raw (tried_header width height Rgb Srgb)
+
+-- the pixels of an image's raw bytes
+abbrev pub image_pixels : Header → List ℕ → List RgbaPixel
+image_pixels h raw = pixels_of (channels_number h.channels) raw
+
+-- the bytes are the header, the chunk list that is written for the image, and the end marker
+pub record IsEncoded (h : Header) (raw bytes : List ℕ) : Type 0 where
+  pub cs : List Chunk
+  pub written : Written (image_pixels h raw) cs
+  pub bytes_are : bytes ≡ file h cs
+
+-- the chunks' pixels are those of the image, and then perhaps others
+pub record Spans (h : Header) (raw : List ℕ) (cs : List Chunk) : Type 0 where
+  pub chunks : AreChunks cs
+  pub reaches : Reaches (pixel_count h) cs
+  pub begins : Begins (meaning cs) (image_pixels h raw)
+
+-- How short the file is. No regular chunk list of the image has fewer bytes than the floor; the file's list
+-- has at most the floor's bytes and the slack's. Where no pixel is transparent black, each list is regular.
+pub record IsNearShortest (h : Header) (raw bytes : List ℕ) : Type 0 where
+  pub floor_is_below : (others : List Chunk) → Spans h raw others → Regular others → floor (image_pixels h raw) ≤ length (text others)
+  pub near_floor : length bytes ≤ 22 + floor (image_pixels h raw) + slack (image_pixels h raw) (channels_number h.channels)
+  pub near_others : (others : List Chunk) → Spans h raw others → Regular others
+      → length bytes ≤ length (file h others) + slack (image_pixels h raw) (channels_number h.channels)
+  pub all_regular : AllByRecursion (λ p. p ≢ blank) (image_pixels h raw) → (others : List Chunk) → Spans h raw others → Regular others
+
+-- The file of the image: there is one, it comes back whatever follows it, and it is near the shortest.
+pub record IsFileOf (h : Header) (raw bytes : List ℕ) : Type 0 where
+  pub encoded : IsEncoded h raw bytes
+  pub only : (others : List ℕ) → IsEncoded h raw others → others ≡ bytes
+  pub fits : length bytes ≤ max_file_len h
+  pub comes_back : (rest : List ℕ) → DecodesFile (bytes ++ rest) h rest raw
+  pub color_space : (space : ColorSpace) (others : List ℕ) → IsEncoded (record h { colorspace = space }) raw others → others ≡ slice_set bytes 13 (colorspace_number space)
+  pub near_shortest : IsNearShortest h raw bytes
+  pub regular : (cs : List Chunk) → Written (image_pixels h raw) cs → Regular cs
+  pub apart : (cs front rest : List Chunk) (i : ℕ) → Written (image_pixels h raw) cs → cs ≢ front ++ Place i ∷ Place i ∷ rest
