@@ -18,3 +18,6 @@ pub use crate::decode::{Decoder, decode_header, decode_to_buf, decode_to_vec};
 pub use crate::error::{Error, Result};
 pub use crate::header::Header;
 pub use crate::types::{Channels, ColorSpace};
+
+#[cfg(test)]
+mod tests;

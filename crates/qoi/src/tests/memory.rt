@@ -1,0 +1,64 @@
+use crate::tests::files::{ONE_RGB_PIXEL, file_of};
+use crate::{Channels, ColorSpace, Decoder, Error, Header};
+use std::alloc::Global;
+use std::test::Fail;
+
+// Takes memory in blocks of 2 to the power of `greatest` bytes until one is refused, then in blocks
+// of half the size, and so on down to 2 to the power of `least`. It takes `most` blocks at most.
+fn take_memory(alloc: Global, greatest: u32, least: u32, most: usize) -> crate::Result<Vec<Vec<u8>>> {
+    let mut held = Vec::with_capacity(alloc, most)?;
+    for k in least..greatest {
+        let size = 1usize << (greatest + least - k).min(62);
+        for _ in held.len()..most {
+            match Vec::with_capacity(alloc, size) {
+                Ok(block) => held.push(block)?,
+                Err(_) => break,
+            }
+        }
+    }
+    Ok(held)
+}
+
+#[test]
+fn refused_memory_leaves_the_decoder(rt: HostRuntime) -> Result<(), Fail> {
+    let mut decoder = Decoder::new(&ONE_RGB_PIXEL)?;
+    let held = take_memory(rt.alloc(), 39, 0, 600_000)?;
+    let answer = decoder.decode_to_vec(rt.alloc());
+    drop(held);
+    assert!(rt; matches!(answer, Err(Error::OutOfMemory)));
+    let pixels = decoder.decode_to_vec(rt.alloc())?;
+    assert_eq!(rt; pixels.as_slice(), [0x0b, 0x79, 0xe7].as_slice());
+    Ok(())
+}
+
+#[test]
+fn refused_memory_comes_before_the_chunks(rt: HostRuntime) -> Result<(), Fail> {
+    let bytes = [
+        0x71, 0x6f, 0x69, 0x66, 0, 0, 0x4e, 0x20, 0, 0, 0x4e, 0x20, 3, 0,
+    ];
+    let mut decoder = Decoder::new(&bytes)?;
+    let held = take_memory(rt.alloc(), 39, 30, 600_000)?;
+    let answer = decoder.decode_to_vec(rt.alloc());
+    drop(held);
+    assert!(rt; matches!(answer, Err(Error::OutOfMemory)));
+    assert!(rt; decoder.data().is_empty());
+    let header = Header::try_new(20000, 20000, Channels::Rgb, ColorSpace::Srgb)?;
+    assert_eq!(rt; *decoder.header(), header);
+    assert_eq!(rt; decoder.channels(), Channels::Rgb);
+    Ok(())
+}
+
+// A file of one index chunk for each pixel, in four channels.
+fn file_of_places(alloc: Global, width: u32, height: u32, place: u8) -> crate::Result<Vec<u8>> {
+    let chunks = vec![in alloc; place; width as usize * height as usize]?;
+    file_of(alloc, width, height, 4, 0, &chunks)
+}
+
+#[test]
+fn two_megapixels(rt: HostRuntime) -> Result<(), Fail> {
+    let file = file_of_places(rt.alloc(), 2000, 1000, 0x11)?;
+    let pixels = Decoder::new(&file)?.decode_to_vec(rt.alloc())?;
+    assert_eq!(rt; pixels.len(), 8_000_000);
+    assert!(rt; pixels.iter().all(|byte| *byte == 0));
+    Ok(())
+}
