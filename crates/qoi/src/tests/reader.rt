@@ -1,17 +1,37 @@
-use crate::Error;
+ghost use Rattle.std.specs.Prelude.{◌≡◌, ◌%◌, length};
+ghost use Rattle.qoi.specs.Output.{IsChannels};
+
 use crate::parts::{Bytes, Reader};
+use crate::{Error, Header};
 use crate::tests::files::ONE_RGB_PIXEL;
 use std::test::Fail;
+
+// Reads a header, by the trait alone.
+fn header_of<R: Reader>(reader: &mut R) -> crate::Result<Header> {
+    reader.decode_header()
+}
+
+// Reads an image, by the trait alone.
+fn image_of<R: Reader>(
+    reader: &mut R,
+    out: &mut [u8],
+    channels: u8,
+    src_channels: u8,
+) -> crate::Result<()>
+    requires { IsChannels channels → IsChannels src_channels → length out.old % channels ≡ 0 }
+{
+    reader.decode_image(out, channels, src_channels)
+}
 
 #[test]
 fn bytes_are_taken_at_the_front(rt: HostRuntime) -> Result<(), Fail> {
     let mut reader = Bytes::new(&ONE_RGB_PIXEL);
     assert_eq!(rt; reader.as_slice(), ONE_RGB_PIXEL.as_slice());
-    let header = reader.decode_header()?;
+    let header = header_of(&mut reader)?;
     assert_eq!(rt; (header.width, header.height), (1, 1));
     assert_eq!(rt; reader.as_slice(), [0xfe, 0x0b, 0x79, 0xe7, 0, 0, 0, 0, 0, 0, 0, 1].as_slice());
     let mut out = [0xaa; 3];
-    reader.decode_image(&mut out, 3, 3)?;
+    image_of(&mut reader, &mut out, 3, 3)?;
     assert_eq!(rt; out, [0x0b, 0x79, 0xe7]);
     assert!(rt; reader.as_slice().is_empty());
     Ok(())
@@ -23,7 +43,7 @@ fn channels_are_three_or_four(rt: HostRuntime) {
     for (channels, src_channels) in [(5u8, 3u8), (3, 7), (0, 4)] {
         let mut reader = Bytes::new(&bytes);
         let mut out = [0xaa; 12];
-        let refused = match reader.decode_image(&mut out, channels, src_channels) {
+        let refused = match image_of(&mut reader, &mut out, channels, src_channels) {
             Err(Error::InvalidChannels { channels: found }) => found == channels,
             _ => false,
         };

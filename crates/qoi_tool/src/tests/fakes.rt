@@ -1,4 +1,6 @@
 //! A reader and a writer in memory that end one of their calls badly, and memory that is taken.
+ghost use Rattle.std.specs.Prelude.{◌≡◌, IfOk};
+
 use std::alloc::Global;
 use std::io;
 use std::io::{ErrorKind, Read, Write};
@@ -28,7 +30,9 @@ pub const NONE: Bad = Bad {
 };
 
 // What a bad call answers.
-fn ended(end: End) -> io::Result<usize> {
+fn ended(end: End) -> io::Result<usize>
+    ensures { IfOk result (λ n. n ≡ 0) }
+{
     match end {
         End::Fault => Err(io::Error::from(ErrorKind::BrokenPipe)),
         End::Interruption => Err(io::Error::from(ErrorKind::Interrupted)),
