@@ -43,11 +43,24 @@ fn last_run(rt: HostRuntime) -> Result<(), Fail> {
 
     let file = file_of(alloc, 1, 1, 3, 0, &[0xc0, 0xc0])?;
     assert!(rt; matches!(decode_to_vec(alloc, &file), Err(Error::InvalidPadding)));
-    assert!(rt; matches!(decode_to_buf(&mut [0xaa; 3], &file), Err(Error::InvalidPadding)));
+    assert!(rt;
+        matches!(
+            decode_to_buf(&mut [0xaa; 3], &file),
+            Err(Error::InvalidPadding)
+        )
+    );
     let mut decoder = Decoder::new(&file)?;
     assert!(rt; matches!(decoder.decode_to_vec(alloc), Err(Error::InvalidPadding)));
-    assert!(rt; matches!(decoder.decode_to_buf(&mut [0xaa; 3]), Err(Error::InvalidPadding)));
-    assert_eq!(rt; decoder.data(), [0xc0, 0xc0, 0, 0, 0, 0, 0, 0, 0, 1].as_slice());
+    assert!(rt;
+        matches!(
+            decoder.decode_to_buf(&mut [0xaa; 3]),
+            Err(Error::InvalidPadding)
+        )
+    );
+    assert_eq!(rt;
+        decoder.data(),
+        [0xc0, 0xc0, 0, 0, 0, 0, 0, 0, 0, 1].as_slice()
+    );
     Ok(())
 }
 
@@ -58,15 +71,30 @@ fn cut_at_each_length(rt: HostRuntime) -> Result<(), Fail> {
         let file = &ONE_RGB_PIXEL[..size];
         assert!(rt; matches!(decode_to_vec(alloc, file), Err(Error::UnexpectedBufferEnd)));
         let mut buf = [0xaa; 5];
-        assert!(rt; matches!(decode_to_buf(&mut buf, file), Err(Error::UnexpectedBufferEnd)));
+        assert!(rt;
+            matches!(
+                decode_to_buf(&mut buf, file),
+                Err(Error::UnexpectedBufferEnd)
+            )
+        );
         assert_eq!(rt; &buf[3..], [0xaa, 0xaa].as_slice());
 
         let mut decoder = Decoder::new(file)?;
         let mut buf = [0xaa; 5];
-        assert!(rt; matches!(decoder.decode_to_buf(&mut buf), Err(Error::UnexpectedBufferEnd)));
+        assert!(rt;
+            matches!(
+                decoder.decode_to_buf(&mut buf),
+                Err(Error::UnexpectedBufferEnd)
+            )
+        );
         assert_eq!(rt; &buf[3..], [0xaa, 0xaa].as_slice());
         assert_eq!(rt; decoder.data(), &file[14..]);
-        assert!(rt; matches!(decoder.decode_to_vec(alloc), Err(Error::UnexpectedBufferEnd)));
+        assert!(rt;
+            matches!(
+                decoder.decode_to_vec(alloc),
+                Err(Error::UnexpectedBufferEnd)
+            )
+        );
         assert_eq!(rt; decoder.data(), &file[14..]);
         assert_eq!(rt; decoder.channels(), Channels::Rgb);
     }
@@ -153,7 +181,12 @@ fn two_files_in_one_slice(rt: HostRuntime) -> Result<(), Fail> {
     let second = decoder.decode_to_vec(alloc)?;
     assert_eq!(rt; second.as_slice(), [0xff, 0xff, 0xff].as_slice());
     assert!(rt; decoder.data().is_empty());
-    assert!(rt; matches!(decoder.decode_to_vec(alloc), Err(Error::UnexpectedBufferEnd)));
+    assert!(rt;
+        matches!(
+            decoder.decode_to_vec(alloc),
+            Err(Error::UnexpectedBufferEnd)
+        )
+    );
     assert!(rt; decoder.data().is_empty());
     Ok(())
 }

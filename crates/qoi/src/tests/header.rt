@@ -58,7 +58,9 @@ fn header_refusals(rt: HostRuntime) -> Result<(), Fail> {
             "invalid image dimensions: 0x5",
         ),
         (
-            &[0x71, 0x6f, 0x69, 0x66, 0x17, 0xd7, 0x84, 0x01, 0, 0, 0, 1, 3, 0],
+            &[
+                0x71, 0x6f, 0x69, 0x66, 0x17, 0xd7, 0x84, 0x01, 0, 0, 0, 1, 3, 0,
+            ],
             "invalid image dimensions: 400000001x1",
         ),
         // Thirteen bytes, whose channels are wrong.
@@ -78,7 +80,10 @@ fn header_dimensions(rt: HostRuntime) -> Result<(), Fail> {
     let (channels, colorspace) = (Channels::Rgba, ColorSpace::Linear);
     let largest = Header::try_new(20000, 20000, channels, colorspace)?;
     assert_eq!(rt; (largest.width, largest.height), (20000, 20000));
-    assert_eq!(rt; (largest.channels, largest.colorspace), (channels, colorspace));
+    assert_eq!(rt;
+        (largest.channels, largest.colorspace),
+        (channels, colorspace)
+    );
     assert_eq!(rt; largest.n_pixels(), 400_000_000);
     let bytes = [
         0x71, 0x6f, 0x69, 0x66, 0, 0, 0x4e, 0x20, 0, 0, 0x4e, 0x20, 4, 1,
@@ -108,7 +113,10 @@ fn header_takes_fourteen_bytes(rt: HostRuntime) -> Result<(), Fail> {
     ];
     let header = decode_header(&bytes)?;
     assert_eq!(rt; (header.width, header.height), (0x010203, 4));
-    assert_eq!(rt; (header.channels, header.colorspace), (Channels::Rgb, ColorSpace::Srgb));
+    assert_eq!(rt;
+        (header.channels, header.colorspace),
+        (Channels::Rgb, ColorSpace::Srgb)
+    );
     Ok(())
 }
 
@@ -125,12 +133,21 @@ fn error_texts(rt: HostRuntime) -> Result<(), Fail> {
         size: 25,
         required: 26,
     };
-    assert_prints(&rt, alloc, buffer, "output buffer size too small: 25 (required: 26)")?;
+    assert_prints(
+        &rt,
+        alloc,
+        buffer,
+        "output buffer size too small: 25 (required: 26)",
+    )?;
     let padding = "invalid padding (stream end marker mismatch)";
     assert_prints(&rt, alloc, Error::InvalidPadding, padding)?;
     assert_prints(&rt, alloc, Error::OutOfMemory, "out of memory")?;
     let error = Error::from(io::Error::from(io::ErrorKind::BrokenPipe));
     assert!(rt; matches!(&error, Error::IoError(e) if e.kind() == io::ErrorKind::BrokenPipe));
-    assert!(rt; format!(in alloc; "{error}")?.as_str().starts_with("i/o error: "));
+    assert!(rt;
+        format!(in alloc; "{error}")?
+            .as_str()
+            .starts_with("i/o error: ")
+    );
     Ok(())
 }

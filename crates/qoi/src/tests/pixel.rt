@@ -113,7 +113,11 @@ fn hashes(rt: HostRuntime) {
         ([249, 250, 251, 255], 31),
     ];
     for ([r, g, b, a], place) in places {
-        assert_eq!(rt; rgba(r, g, b, a).hash_index(), place, "at {r}, {g}, {b}, {a}");
+        assert_eq!(rt;
+            rgba(r, g, b, a).hash_index(),
+            place,
+            "at {r}, {g}, {b}, {a}"
+        );
         if a == 255 {
             assert_eq!(rt; rgb(r, g, b).hash_index(), place, "at {r}, {g}, {b}");
         }

@@ -2,8 +2,8 @@ ghost use Rattle.std.specs.Prelude.{◌≡◌, ◌%◌, length};
 ghost use Rattle.qoi.specs.Output.{IsChannels};
 
 use crate::parts::{Bytes, Reader};
-use crate::{Error, Header};
 use crate::tests::files::ONE_RGB_PIXEL;
+use crate::{Error, Header};
 use std::test::Fail;
 
 // Reads a header, by the trait alone.
@@ -29,7 +29,10 @@ fn bytes_are_taken_at_the_front(rt: HostRuntime) -> Result<(), Fail> {
     assert_eq!(rt; reader.as_slice(), ONE_RGB_PIXEL.as_slice());
     let header = header_of(&mut reader)?;
     assert_eq!(rt; (header.width, header.height), (1, 1));
-    assert_eq!(rt; reader.as_slice(), [0xfe, 0x0b, 0x79, 0xe7, 0, 0, 0, 0, 0, 0, 0, 1].as_slice());
+    assert_eq!(rt;
+        reader.as_slice(),
+        [0xfe, 0x0b, 0x79, 0xe7, 0, 0, 0, 0, 0, 0, 0, 1].as_slice()
+    );
     let mut out = [0xaa; 3];
     image_of(&mut reader, &mut out, 3, 3)?;
     assert_eq!(rt; out, [0x0b, 0x79, 0xe7]);
