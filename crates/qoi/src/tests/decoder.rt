@@ -1,5 +1,6 @@
 use crate::tests::files::{ONE_RGB_PIXEL, assert_decodes, file_of};
 use crate::{Channels, ColorSpace, Decoder, Error, Header, decode_to_buf, decode_to_vec};
+use std::alloc::Global;
 use std::test::Fail;
 
 #[test]
@@ -188,5 +189,20 @@ fn two_files_in_one_slice(rt: HostRuntime) -> Result<(), Fail> {
         )
     );
     assert!(rt; decoder.data().is_empty());
+    Ok(())
+}
+
+// A file of one index chunk for each pixel, in four channels.
+fn file_of_places(alloc: Global, width: u32, height: u32, place: u8) -> crate::Result<Vec<u8>> {
+    let chunks = vec![in alloc; place; width as usize * height as usize]?;
+    file_of(alloc, width, height, 4, 0, &chunks)
+}
+
+#[test]
+fn two_megapixels(rt: HostRuntime) -> Result<(), Fail> {
+    let file = file_of_places(rt.alloc(), 2000, 1000, 0x11)?;
+    let pixels = Decoder::new(&file)?.decode_to_vec(rt.alloc())?;
+    assert_eq!(rt; pixels.len(), 8_000_000);
+    assert!(rt; pixels.iter().all(|byte| *byte == 0));
     Ok(())
 }

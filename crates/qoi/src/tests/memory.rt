@@ -1,4 +1,4 @@
-use crate::tests::files::{ONE_RGB_PIXEL, file_of};
+use crate::tests::files::ONE_RGB_PIXEL;
 use crate::{Channels, ColorSpace, Decoder, Error, Header};
 use std::alloc::Global;
 use std::test::Fail;
@@ -48,20 +48,5 @@ fn refused_memory_comes_before_the_chunks(rt: HostRuntime) -> Result<(), Fail> {
     let header = Header::try_new(20000, 20000, Channels::Rgb, ColorSpace::Srgb)?;
     assert_eq!(rt; *decoder.header(), header);
     assert_eq!(rt; decoder.channels(), Channels::Rgb);
-    Ok(())
-}
-
-// A file of one index chunk for each pixel, in four channels.
-fn file_of_places(alloc: Global, width: u32, height: u32, place: u8) -> crate::Result<Vec<u8>> {
-    let chunks = vec![in alloc; place; width as usize * height as usize]?;
-    file_of(alloc, width, height, 4, 0, &chunks)
-}
-
-#[test]
-fn two_megapixels(rt: HostRuntime) -> Result<(), Fail> {
-    let file = file_of_places(rt.alloc(), 2000, 1000, 0x11)?;
-    let pixels = Decoder::new(&file)?.decode_to_vec(rt.alloc())?;
-    assert_eq!(rt; pixels.len(), 8_000_000);
-    assert!(rt; pixels.iter().all(|byte| *byte == 0));
     Ok(())
 }
