@@ -128,3 +128,6 @@ fn main(rt: HostRuntime) -> ExitCode {
         Err(fault) => ExitCode::from(report(&fault, &mut rt.stderr())),
     }
 }
+
+#[cfg(test)]
+mod tests;

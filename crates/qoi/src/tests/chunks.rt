@@ -1,0 +1,52 @@
+use crate::parts::{Chunk, read_chunk};
+
+#[test]
+fn one_byte(rt: HostRuntime) {
+    for b in 0..=255u8 {
+        let whole = b < 0x80 || (0xc0 <= b && b < 0xfe);
+        match read_chunk(&[b]) {
+            Some((_, rest)) => assert!(rt; whole && rest.is_empty(), "at {b}"),
+            None => assert!(rt; !whole, "at {b}"),
+        }
+    }
+    assert!(rt; read_chunk(&[]).is_none());
+}
+
+#[test]
+fn more_bytes(rt: HostRuntime) {
+    let whole: [(&[u8], Chunk, &[u8]); 14] = [
+        (&[0x00], Chunk::Place(0), &[]),
+        (&[0x3f, 0x3f], Chunk::Place(63), &[0x3f]),
+        (&[0x40], Chunk::Diff(0x40), &[]),
+        (&[0x7f, 1], Chunk::Diff(0x7f), &[1]),
+        (&[0x80, 0x88], Chunk::Luma(0x80, 0x88), &[]),
+        (&[0xbf, 0xff, 2], Chunk::Luma(0xbf, 0xff), &[2]),
+        (&[0xc0], Chunk::Run(1), &[]),
+        (&[0xc1], Chunk::Run(2), &[]),
+        (&[0xfc], Chunk::Run(61), &[]),
+        (&[0xfd, 0x00], Chunk::Run(62), &[0x00]),
+        (&[0xfe, 1, 2, 3, 0xfd], Chunk::Rgb(1, 2, 3), &[0xfd]),
+        (&[0xfe, 0xff, 0xfe, 0], Chunk::Rgb(0xff, 0xfe, 0), &[]),
+        (&[0xff, 1, 2, 3, 4, 5], Chunk::Rgba(1, 2, 3, 4), &[5]),
+        (&[0xff, 4, 3, 2, 1], Chunk::Rgba(4, 3, 2, 1), &[]),
+    ];
+    for (bytes, chunk, rest) in whole {
+        match read_chunk(bytes) {
+            Some((found, after)) => {
+                assert_eq!(rt; found, chunk);
+                assert_eq!(rt; after, rest);
+            }
+            None => assert!(rt; false, "no {chunk:?}"),
+        }
+    }
+    let parts: [&[u8]; 5] = [
+        &[0xfe, 1],
+        &[0xfe, 1, 2],
+        &[0xff, 1],
+        &[0xff, 1, 2],
+        &[0xff, 1, 2, 3],
+    ];
+    for part in parts {
+        assert!(rt; read_chunk(part).is_none());
+    }
+}
