@@ -22,11 +22,10 @@ pub AreChunks-push : (cs : List Chunk) (c : Chunk) → AreChunks cs → IsChunk 
 AreChunks-push [] c are is = (is, tt)
 AreChunks-push (d ∷ cs) c are is = (are.0, AreChunks-push cs c are.1 is)
 
--- the bytes of chunks and one more, and then others
-pub text-push : (cs : List Chunk) (c : Chunk) (rest : List ℕ) → text (cs ++ c ∷ []) ++ rest ≡ text cs ++ (bytes_of c ++ rest)
-text-push [] c rest = ap (λ z. z ++ rest) (append-nil (bytes_of c))
-text-push (d ∷ cs) c rest =
-    append_assoc (bytes_of d) (text (cs ++ c ∷ [])) rest ∙ ap (λ z. bytes_of d ++ z) (text-push cs c rest) ∙ sym (append_assoc (bytes_of d) (text cs) (bytes_of c ++ rest))
+-- the bytes of chunks and one more
+pub text-last : (cs : List Chunk) (c : Chunk) → text (cs ++ c ∷ []) ≡ text cs ++ bytes_of c
+text-last cs c = flat_map-append bytes_of cs (c ∷ []) ∙ ap (λ z. text cs ++ z) (append-nil (bytes_of c))
 
+-- as many pixels are meant as stand after the chunks
 pub length-meaning : (cs : List Chunk) → length (meaning cs) ≡ length (then_chunks [] cs)
 length-meaning cs = length-reverse (then_chunks [] cs)

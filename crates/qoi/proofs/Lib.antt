@@ -35,3 +35,4 @@ pub mod CodingWrites
 pub mod EncodedPixels
 pub mod FileOf
 pub mod BufferFilled
+pub mod StreamReads

@@ -1,21 +1,25 @@
 -- A decoder between two chunks: what it has taken, filled and seen.
-use Rattle.std.proofs.Common.{◌≡◌, ℕ, ◌+◌, ◌*◌, ◌/◌, ◌%◌, ◌<◌, ◌≤◌, List, [], ◌∷◌, ◌++◌, length, take, replicate, min, arith, refl, sym, ap, ◌∙◌, subst, inl, inr}
+use Rattle.std.proofs.Common.{◌≡◌, ℕ, ◌+◌, ◌*◌, ◌/◌, ◌%◌, ◌<◌, ◌≤◌, inl, inr, List, [], ◌∷◌, ◌++◌, length, take, replicate, min, Option, arith, refl, sym, ap, ◌∙◌, subst, append_assoc}
 use Rattle.qoi.specs.declared.parts.Chunk.{Chunk}
 use Rattle.qoi.specs.Pixels.{RgbaPixel, Past, rgba}
-use Rattle.qoi.specs.Chunks.{IsChunk, bytes_of, text, pixel_of, times, then_chunk}
-use Rattle.qoi.specs.Meaning.{then_chunks, meaning, Each, Reaches}
+use Rattle.std.specs.Io.KnownBytes.{Consumes}
+use Rattle.std.proofs.KnownBytes.{Consumes-trans}
+use Rattle.qoi.specs.Chunks.{IsChunk, AreChunks, bytes_of, text, pixel_of, times, then_chunk}
+use Rattle.qoi.specs.Meaning.{then_chunks, meaning, Each, StayBelow, Reaches}
 use Rattle.qoi.specs.Output.{IsChannels, output}
 use Rattle.qoi.specs.Filling.{HasFilled, HasSeen}
 use Rattle.qoi.specs.Verdicts.{Takes, IsPartOfChunk}
-use Rattle.qoi.specs.Decoding.{EndsInChunk, ReadsPixels}
-use Rattle.qoi.proofs.Appended.{then_chunks-push, Each-push, AreChunks-push, text-push, length-meaning}
+use Rattle.qoi.specs.Decoding.{EndsInChunk, ReadsPixels, StreamsPixels}
+use Rattle.qoi.proofs.Appended.{then_chunks-push, Each-push, AreChunks-push, text-last, length-meaning}
 use Rattle.qoi.proofs.FilledBuffer.{Counts, counts, filled_all, whole_pixels}
 use Rattle.qoi.proofs.SeenTable.{previous_copies, times_above}
 
--- Chunks were taken from the front of the bytes; their pixels were written and seen.
-pub record SoFar (f c n : ℕ) (bytes rest out : List ℕ) (at : ℕ) (places : List (List ℕ)) (last : List ℕ) : Type 0 where
+-- Chunks were taken, their pixels were written and seen. `Taken` says which bytes were taken.
+pub record SoFar (f c n : ℕ) (Taken : List ℕ → Type 0) (out : List ℕ) (at : ℕ) (places : List (List ℕ)) (last : List ℕ) : Type 0 where
   pub cs : List Chunk
-  pub takes : Takes n bytes cs rest
+  pub chunks : AreChunks cs
+  pub short : StayBelow n cs
+  pub taken : Taken (text cs)
   pub filled : HasFilled f c n out at (then_chunks [] cs)
   pub table : HasSeen places last (then_chunks [] cs)
   pub within : at ≤ length out
@@ -25,20 +29,13 @@ pub record SoFar (f c n : ℕ) (bytes rest out : List ℕ) (at : ℕ) (places : 
 pub fewer : (f c n : ℕ) (out : List ℕ) (at : ℕ) (past : Past) → IsChannels c → HasFilled f c n out at past → at < length out → length past < n
 fewer f c n out at past is h inside = (counts c n (length past) at (length out) is h.room h.at_is inside).below
 
--- one more chunk
-pub takes_more : (n : ℕ) (bytes rest after : List ℕ) (cs : List Chunk) (chunk : Chunk) → Takes n bytes cs rest → length (then_chunks [] cs) < n → IsChunk chunk → rest ≡ bytes_of chunk ++ after
-    → Takes n bytes (cs ++ chunk ∷ []) after
-takes_more n bytes rest after cs chunk t few is e = record {
-  chunks = AreChunks-push cs chunk t.chunks is;
-  short = Each-push (λ past c. length past < n) [] cs chunk t.short few;
-  split = t.split ∙ ap (λ z. text cs ++ z) e ∙ sym (text-push cs chunk after);
-}
-
 -- before the first chunk
-pub start_so_far : (f c : ℕ) (bytes out : List ℕ) (places : List (List ℕ)) (last : List ℕ) → IsChannels c → length out % c ≡ 0 → HasSeen places last [] → SoFar f c (length out / c) bytes bytes out 0 places last
-start_so_far f c bytes out places last is whole table = record {
+pub start_so_far : (f c : ℕ) (Taken : List ℕ → Type 0) (out : List ℕ) (places : List (List ℕ)) (last : List ℕ) → IsChannels c → length out % c ≡ 0 → HasSeen places last [] → Taken [] → SoFar f c (length out / c) Taken out 0 places last
+start_so_far f c Taken out places last is whole table none_taken = record {
   cs = [];
-  takes = record { chunks = tt; short = tt; split = refl };
+  chunks = tt;
+  short = tt;
+  taken = none_taken;
   filled = record { room = whole_pixels c (length out) is whole; at_is = none c is; same = refl };
   table = table;
   within = omega arith;
@@ -54,12 +51,12 @@ start_so_far f c bytes out places last is whole table = record {
     zero_whole c (inr e) = subst (λ k. 0 % k ≡ 0) (sym e) refl
 
 -- one more chunk, its pixels written and seen
-pub goes_on : (f c n : ℕ) (bytes rest after old new : List ℕ) (at end : ℕ) (places places' : List (List ℕ)) (last last' : List ℕ) (chunk : Chunk) → IsChannels c
-    → SoFar f c n bytes rest old at places last → at < length old → IsChunk chunk → rest ≡ bytes_of chunk ++ after
+pub goes_on : (f c n : ℕ) (Taken Taken' : List ℕ → Type 0) (old new : List ℕ) (at end : ℕ) (places places' : List (List ℕ)) (last last' : List ℕ) (chunk : Chunk) → IsChannels c
+    → SoFar f c n Taken old at places last → at < length old → IsChunk chunk → ((bytes : List ℕ) → Taken bytes → Taken' (bytes ++ bytes_of chunk))
     → ((past : Past) → HasSeen places last past → HasSeen places' last' (then_chunk past chunk))
     → ((past : Past) → HasFilled f c n old at past → HasFilled f c n new end (replicate (times chunk) (rgba last') ++ past))
-    → end ≤ length new → end % c ≡ 0 → SoFar f c n bytes after new end places' last'
-goes_on f c n bytes rest after old new at end places places' last last' chunk is s inside is_chunk split sees fills within whole =
+    → end ≤ length new → end % c ≡ 0 → SoFar f c n Taken' new end places' last'
+goes_on f c n Taken Taken' old new at end places places' last last' chunk is s inside is_chunk takes sees fills within whole =
     let past = then_chunks [] s.cs in
     let pushed = then_chunks-push [] s.cs chunk in
     let table = sees past s.table in
@@ -67,25 +64,52 @@ goes_on f c n bytes rest after old new at end places places' last last' chunk is
     let filled : HasFilled f c n new end (then_chunk past chunk) = subst (λ p. HasFilled f c n new end (replicate (times chunk) p ++ past)) pixel_is (fills past s.filled) in
     record {
       cs = s.cs ++ chunk ∷ [];
-      takes = takes_more n bytes rest after s.cs chunk s.takes (fewer f c n old at past is s.filled inside) is_chunk split;
+      chunks = AreChunks-push s.cs chunk s.chunks is_chunk;
+      short = Each-push (λ past c. length past < n) [] s.cs chunk s.short (fewer f c n old at past is s.filled inside);
+      taken = subst Taken' (sym (text-last s.cs chunk)) (takes (text s.cs) s.taken);
       filled = rw pushed filled;
       table = rw pushed table;
       within = within;
       whole = whole;
     }
 
--- where the buffer is full, the chunks reach n pixels
-pub reads_pixels : (f c n : ℕ) (bytes rest out : List ℕ) (at : ℕ) (places : List (List ℕ)) (last : List ℕ) → IsChannels c → SoFar f c n bytes rest out at places last → length out ≤ at → ReadsPixels f c n bytes rest out
-reads_pixels f c n bytes rest out at places last is s full =
+-- where the buffer is full, the chunks reach n pixels, and these are the first n
+pub reads_all : (f c n : ℕ) (Taken : List ℕ → Type 0) (out : List ℕ) (at : ℕ) (places : List (List ℕ)) (last : List ℕ) → IsChannels c → (s : SoFar f c n Taken out at places last) → length out ≤ at
+    → Reaches n s.cs × (out ≡ output f c (take n (meaning s.cs)))
+reads_all f c n Taken out at places last is s full =
     let all = filled_all f c n out at (then_chunks [] s.cs) is s.filled full in
-    record {
-      cs = s.cs;
-      takes = s.takes;
-      reaches = record { short = s.takes.short; enough = rw length-meaning all.0 };
-      out_is = all.1;
-    }
+    (record { short = s.short; enough = rw length-meaning all.0 }, all.1)
+
+-- the bytes of a slice that are taken, and those after them
+abbrev pub SplitAt : List ℕ → List ℕ → List ℕ → Type 0
+SplitAt bytes rest taken = bytes ≡ taken ++ rest
+
+-- a chunk more of a slice
+pub split_more : (bytes rest after : List ℕ) (chunk : Chunk) → rest ≡ bytes_of chunk ++ after → (taken : List ℕ) → SplitAt bytes rest taken → SplitAt bytes after (taken ++ bytes_of chunk)
+split_more bytes rest after chunk e taken split = split ∙ ap (λ z. taken ++ z) e ∙ sym (append_assoc taken (bytes_of chunk) after)
+
+-- the chunks of a slice whose pixels fill the buffer
+pub reads_pixels : (f c n : ℕ) (bytes rest out : List ℕ) (at : ℕ) (places : List (List ℕ)) (last : List ℕ) → IsChannels c → SoFar f c n (SplitAt bytes rest) out at places last → length out ≤ at → ReadsPixels f c n bytes rest out
+reads_pixels f c n bytes rest out at places last is s full =
+    let all = reads_all f c n (SplitAt bytes rest) out at places last is s full in
+    record { cs = s.cs; takes = record { chunks = s.chunks; short = s.short; split = s.taken }; reaches = all.0; out_is = all.1 }
 
 -- where there is room and no whole chunk is left, the bytes end within a chunk
-pub ends_in_chunk : (f c n : ℕ) (bytes rest out : List ℕ) (at : ℕ) (places : List (List ℕ)) (last : List ℕ) → IsChannels c → SoFar f c n bytes rest out at places last → at < length out → IsPartOfChunk rest → EndsInChunk n bytes
+pub ends_in_chunk : (f c n : ℕ) (bytes rest out : List ℕ) (at : ℕ) (places : List (List ℕ)) (last : List ℕ) → IsChannels c → SoFar f c n (SplitAt bytes rest) out at places last → at < length out → IsPartOfChunk rest → EndsInChunk n bytes
 ends_in_chunk f c n bytes rest out at places last is s inside part =
-    (s.cs, rest, s.takes, rw length-meaning (fewer f c n out at (then_chunks [] s.cs) is s.filled inside), part)
+    (s.cs, rest, record { chunks = s.chunks; short = s.short; split = s.taken }, rw length-meaning (fewer f c n out at (then_chunks [] s.cs) is s.filled inside), part)
+
+-- the chunks of a stream whose pixels fill the buffer
+pub streams_pixels : (f c n : ℕ) (old new : Option (List ℕ)) (out : List ℕ) (at : ℕ) (places : List (List ℕ)) (last : List ℕ) → IsChannels c → SoFar f c n (Consumes old new) out at places last → length out ≤ at → StreamsPixels f c n old new out
+streams_pixels f c n old new out at places last is s full =
+    let all = reads_all f c n (Consumes old new) out at places last is s full in
+    record { cs = s.cs; chunks = s.chunks; reaches = all.0; taken = s.taken; out_is = all.1 }
+
+-- where a stream gives no whole chunk, what was taken ends within a chunk
+pub stream_ends : (f c n : ℕ) (old now new : Option (List ℕ)) (out part : List ℕ) (at : ℕ) (places : List (List ℕ)) (last : List ℕ) → IsChannels c → SoFar f c n (Consumes old now) out at places last → at < length out → Consumes now new part → IsPartOfChunk part
+    → (taken : List ℕ) × Consumes old new taken × EndsInChunk n taken
+stream_ends f c n old now new out part at places last is s inside took is_part = (
+  text s.cs ++ part,
+  Consumes-trans old now new (text s.cs) part s.taken took,
+  (s.cs, part, record { chunks = s.chunks; short = s.short; split = refl }, rw length-meaning (fewer f c n out at (then_chunks [] s.cs) is s.filled inside), is_part),
+)

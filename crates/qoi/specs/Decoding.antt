@@ -24,6 +24,14 @@ pub record ReadsPixels (file channels n : ℕ) (bytes rest out : List ℕ) : Typ
   pub reaches : Reaches n cs
   pub out_is : out ≡ output file channels (take n (meaning cs))
 
+-- chunks that reach n pixels were taken, and these are their first n pixels' bytes
+pub record StreamsPixels (file channels n : ℕ) (old new : Option (List ℕ)) (out : List ℕ) : Type 0 where
+  pub cs : List Chunk
+  pub chunks : AreChunks cs
+  pub reaches : Reaches n cs
+  pub taken : Consumes old new (text cs)
+  pub out_is : out ≡ output file channels (take n (meaning cs))
+
 -- Chunks that reach n pixels and the end marker were taken, and these are their first n pixels' bytes.
 pub record ReadsImage (file channels n : ℕ) (old new : Option (List ℕ)) (out : List ℕ) : Type 0 where
   pub cs : List Chunk
@@ -57,6 +65,12 @@ abbrev pub RefusesTaken : ℕ → List ℕ → Error → Type 0
 RefusesTaken n taken (IoError e) = HasCut n taken
 RefusesTaken n taken InvalidPadding = HasWrong n taken []
 RefusesTaken n taken _ = ⊥
+
+-- why the bytes after a stream's chunks are refused, by those that were taken
+abbrev pub RefusesTakenMarker : List ℕ → Error → Type 0
+RefusesTakenMarker taken (IoError e) = length taken < 8
+RefusesTakenMarker taken InvalidPadding = (length taken ≡ 8) × (taken ≢ end_marker)
+RefusesTakenMarker taken _ = ⊥
 
 -- A refused image. In memory nothing is taken, and the bytes ahead are cut or wrong. On a stream the bytes that
 -- were taken are cut, or they are wrong and end with the eight bytes.

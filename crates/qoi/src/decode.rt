@@ -1,25 +1,34 @@
-//! Decoding, from slices.
-ghost use Rattle.std.specs.Prelude.{◌≡◌, ◌≢◌, ℕ, ◌+◌, ◌*◌, ◌/◌, ◌%◌, ◌<◌, ◌≤◌, List, [], ◌++◌, length, take, drop, replicate, Option, Some, MatchOption, MatchResult, IfOk, IfErr, OnOk, OnErr, IsOk, IsErrOf, IsOkUnless, IsSome, ◌⊎◌, Bool, true, Ok, Err, refl};
+//! Decoding, from slices and from streams.
+ghost use Rattle.std.specs.Prelude.{◌≡◌, ◌≢◌, ℕ, ◌+◌, ◌*◌, ◌/◌, ◌%◌, ◌<◌, ◌≤◌, List, [], ◌++◌, length, take, drop, replicate, Option, Some, MatchOption, MatchResult, IfOk, IfErr, OnOk, OnErr, IsOk, IsErrOf, IsOkUnless, IsSome, ◌⊎◌, Bool, true, false, Ok, Err, refl};
 ghost use Rattle.qoi.specs.declared.parts.Chunk.{Chunk};
 ghost use Rattle.qoi.specs.Pixels.{Past, rgba};
-ghost use Rattle.qoi.specs.Chunks.{IsChunk, times as chunk_times, pixel_of, then_chunk};
+ghost use Rattle.std.specs.Io.KnownBytes.{Consumes};
+ghost use Rattle.qoi.specs.Bytes.{AreBytes};
+ghost use Rattle.qoi.specs.Chunks.{IsChunk, bytes_of, times as chunk_times, pixel_of, then_chunk};
 ghost use Rattle.qoi.specs.Output.{IsChannels, pixel_bytes};
 ghost use Rattle.qoi.specs.Filling.{HasFilled, HasSeen};
-ghost use Rattle.qoi.specs.Decoding.{EndsInChunk, ReadsPixels, ReadsImage, ReadsHeader, RefusesMarker, RefusesBytes, RefusesImage, RefusesFile, RefusesWholeFile, DecodesFile, header_size, byte_count, file_byte_count};
+ghost use Rattle.qoi.specs.Decoding.{EndsInChunk, ReadsPixels, StreamsPixels, RefusesTaken, RefusesTakenMarker, ReadsImage, ReadsHeader, RefusesMarker, RefusesBytes, RefusesImage, RefusesFile, RefusesWholeFile, DecodesFile, header_size, byte_count, file_byte_count};
 ghost use Rattle.qoi.specs.DecoderState.{image_byte_count, DecodesImage, RefusesDecoding};
 ghost use Rattle.qoi.specs.Headers.{header_of, pixel_count};
-ghost use Rattle.qoi.specs.Verdicts.{IsWhole};
+ghost use Rattle.qoi.specs.Verdicts.{IsPartOfChunk, IsWhole};
 ghost use Rattle.qoi.specs.declared.header.Header.{Header};
 ghost use Rattle.qoi.specs.declared.error.Error.{Error};
 ghost use Rattle.qoi.specs.Files.{end_marker};
 
-use crate::consts::{QOI_HEADER_SIZE, QOI_PADDING, QOI_PADDING_SIZE};
+use crate::consts::{
+    QOI_HEADER_SIZE, QOI_OP_DIFF, QOI_OP_INDEX, QOI_OP_LUMA, QOI_OP_RGB, QOI_OP_RGBA, QOI_OP_RUN,
+    QOI_PADDING, QOI_PADDING_SIZE,
+};
 use crate::error::{Error, Result};
 use crate::header::Header;
-use crate::parts::{Chunk, read_chunk};
+use crate::parts::{
+    Chunk, QOI_OP_DIFF_END, QOI_OP_INDEX_END, QOI_OP_LUMA_END, QOI_OP_RUN_END, read_chunk,
+};
 use crate::pixel::Pixel;
 use crate::types::Channels;
 use std::alloc::Global;
+use std::io;
+use std::io::{ErrorKind, Read};
 use std::marker::Model;
 
 // What chunks can name: the pixels that were put at the 64 index positions, and the last pixel.
@@ -177,6 +186,133 @@ fn decode_slice<'a>(
     after_marker(rest)
 }
 
+// Fills the buffer from a stream, and asks for no byte past it. An interruption is a fault, and so
+// is the end of the stream.
+fn read_all<R: Read>(reader: &mut R, buf: &mut [u8]) -> io::Result<()>
+    ensures read { OnOk result (Consumes (R.remaining reader.old) (R.remaining reader.new) buf.new) }
+    ensures failed { OnErr result ((taken : List ℕ) × Consumes (R.remaining reader.old) (R.remaining reader.new) taken
+        × (length taken < length buf.old) × AreBytes taken) }
+    ensures bytes { AreBytes buf.new }
+{
+    let mut filled = 0;
+    while filled < buf.len() {
+        let count = reader.read(&mut buf[filled..])?;
+        if count == 0 {
+            return Err(io::Error::new(
+                ErrorKind::UnexpectedEof,
+                "the stream ended within a file",
+            ));
+        }
+        filled += count;
+    }
+    Ok(())
+}
+
+// Reads one chunk from a stream, and no byte past it.
+fn next_chunk<R: Read>(reader: &mut R) -> io::Result<Chunk>
+    ensures read { IfOk result (λ chunk. IsChunk chunk
+        × Consumes (R.remaining reader.old) (R.remaining reader.new) (bytes_of chunk)) }
+    ensures failed { OnErr result ((taken : List ℕ) × Consumes (R.remaining reader.old) (R.remaining reader.new) taken
+        × IsPartOfChunk taken) }
+{
+    let mut first = [0];
+    read_all(reader, &mut first)?;
+    match first[0] {
+        QOI_OP_INDEX..=QOI_OP_INDEX_END => Ok(Chunk::Place(first[0])),
+        QOI_OP_DIFF..=QOI_OP_DIFF_END => Ok(Chunk::Diff(first[0])),
+        QOI_OP_LUMA..=QOI_OP_LUMA_END => {
+            let mut more = [0];
+            read_all(reader, &mut more)?;
+            Ok(Chunk::Luma(first[0], more[0]))
+        }
+        QOI_OP_RUN..=QOI_OP_RUN_END => Ok(Chunk::Run(first[0] - (QOI_OP_RUN - 1))),
+        QOI_OP_RGB => {
+            let mut more = [0, 0, 0];
+            read_all(reader, &mut more)?;
+            Ok(Chunk::Rgb(more[0], more[1], more[2]))
+        }
+        QOI_OP_RGBA => {
+            let mut more = [0, 0, 0, 0];
+            read_all(reader, &mut more)?;
+            Ok(Chunk::Rgba(more[0], more[1], more[2], more[3]))
+        }
+    }
+}
+
+// Decodes chunks from a stream until `out` is full, and takes no byte past the last of them.
+fn stream_chunks<R: Read, const N: usize, const F: usize>(
+    reader: &mut R,
+    out: &mut [u8],
+) -> io::Result<()>
+    requires channels { IsChannels N }
+    requires whole { length out.old % N ≡ 0 }
+    ensures read { OnOk result (StreamsPixels F N (length out.old / N) (R.remaining reader.old) (R.remaining reader.new) out.new) }
+    ensures failed { OnErr result ((taken : List ℕ) × Consumes (R.remaining reader.old) (R.remaining reader.new) taken
+        × EndsInChunk (length out.old / N) taken) }
+{
+    let mut seen = Seen::new();
+    let mut at = 0;
+    while at < out.len() {
+        let chunk = next_chunk(reader)?;
+        seen.put(chunk);
+        at = fill::<N, F>(out, at, seen.last, times(chunk));
+    }
+    Ok(())
+}
+
+// Reads the eight bytes of the end marker from a stream.
+fn stream_marker<R: Read>(reader: &mut R) -> Result<()>
+    ensures read { OnOk result (Consumes (R.remaining reader.old) (R.remaining reader.new) end_marker) }
+    ensures refused { IfErr result (λ e. (taken : List ℕ) × Consumes (R.remaining reader.old) (R.remaining reader.new) taken
+        × RefusesTakenMarker taken e) }
+{
+    let mut eight = [0; QOI_PADDING_SIZE];
+    read_all(reader, &mut eight)?;
+    if eight != QOI_PADDING {
+        return Err(Error::InvalidPadding);
+    }
+    Ok(())
+}
+
+// Decodes chunks and the end marker from a stream, and takes no byte past them.
+fn stream_image<R: Read, const N: usize, const F: usize>(
+    reader: &mut R,
+    out: &mut [u8],
+) -> Result<()>
+    requires channels { IsChannels N }
+    requires whole { length out.old % N ≡ 0 }
+    ensures read { OnOk result (ReadsImage F N (length out.old / N) (R.remaining reader.old) (R.remaining reader.new) out.new) }
+    ensures refused { IfErr result (λ e. (taken : List ℕ) × Consumes (R.remaining reader.old) (R.remaining reader.new) taken
+        × RefusesTaken (length out.old / N) taken e) }
+{
+    stream_chunks::<R, N, F>(reader, out)?;
+    stream_marker(reader)
+}
+
+// Decodes an image from a stream into `out`, and takes no byte past its end marker.
+fn decode_stream<R: Read>(
+    reader: &mut R,
+    out: &mut [u8],
+    channels: u8,
+    src_channels: u8,
+) -> Result<()>
+    requires { IsChannels channels → IsChannels src_channels → length out.old % channels ≡ 0 }
+    ensures read { OnOk result (IsChannels channels × IsChannels src_channels
+        × ReadsImage src_channels channels (length out.old / channels) (R.remaining reader.old) (R.remaining reader.new) out.new) }
+    ensures refused { IsChannels channels → IsChannels src_channels
+        → IfErr result (λ e. (taken : List ℕ) × Consumes (R.remaining reader.old) (R.remaining reader.new) taken
+        × RefusesTaken (length out.old / channels) taken e) }
+    ensures channels { (IsChannels channels × IsChannels src_channels → ⊥)
+        → (result ≡ Err (Error.InvalidChannels channels)) × (reader.new ≡ reader.old) × (out.new ≡ out.old) }
+{
+    match (channels, src_channels) {
+        (3, 3) | (3, 4) => stream_image::<R, 3, 3>(reader, out),
+        (4, 3) => stream_image::<R, 4, 3>(reader, out),
+        (4, 4) => stream_image::<R, 4, 4>(reader, out),
+        _ => Err(Error::InvalidChannels { channels }),
+    }
+}
+
 // The bytes after the end marker.
 fn after_marker(data: &[u8]) -> Result<&[u8]>
     ensures found { IfOk result (λ rest. «data».now ≡ end_marker ++ rest.now) }
@@ -265,6 +401,24 @@ impl<'a> Reader for Bytes<'a> {
     fn decode_image(&mut self, out: &mut [u8], channels: u8, src_channels: u8) -> Result<()> {
         self.0 = decode_slice(self.0, out, channels, src_channels)?;
         Ok(())
+    }
+}
+
+impl<R: Read> Reader for R {
+    ghost ahead = { R.remaining };
+
+    ghost in_memory = { false };
+
+    ghost told = { λ _ no. cc no };
+
+    fn decode_header(&mut self) -> Result<Header> {
+        let mut bytes = [0; QOI_HEADER_SIZE];
+        read_all(self, &mut bytes)?;
+        Header::decode(&bytes)
+    }
+
+    fn decode_image(&mut self, out: &mut [u8], channels: u8, src_channels: u8) -> Result<()> {
+        decode_stream(self, out, channels, src_channels)
     }
 }
 

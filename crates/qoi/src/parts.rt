@@ -9,13 +9,13 @@ pub use crate::decode::{Bytes, Reader};
 pub use crate::pixel::Pixel;
 pub use crate::utils::{BytesMut, GenericWriter, Writer};
 
-const QOI_OP_INDEX_END: u8 = QOI_OP_INDEX | 0x3f;
+pub(crate) const QOI_OP_INDEX_END: u8 = QOI_OP_INDEX | 0x3f;
 
-const QOI_OP_DIFF_END: u8 = QOI_OP_DIFF | 0x3f;
+pub(crate) const QOI_OP_DIFF_END: u8 = QOI_OP_DIFF | 0x3f;
 
-const QOI_OP_LUMA_END: u8 = QOI_OP_LUMA | 0x3f;
+pub(crate) const QOI_OP_LUMA_END: u8 = QOI_OP_LUMA | 0x3f;
 // The bytes of runs of 63 and 64 are those of RGB and RGBA.
-const QOI_OP_RUN_END: u8 = QOI_OP_RUN | 0x3d;
+pub(crate) const QOI_OP_RUN_END: u8 = QOI_OP_RUN | 0x3d;
 
 /// A chunk (QOI specification 1.0, "Chunks").
 #[derive(Clone, Copy, PartialEq, Eq, Debug)]

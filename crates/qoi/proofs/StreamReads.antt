@@ -1,0 +1,87 @@
+-- What was read from a stream, piece after piece.
+use Rattle.std.proofs.Common.{◌≡◌, ◌≢◌, ℕ, zero, suc, ◌+◌, ◌-◌, ◌<◌, ◌≤◌, inl, inr, List, [], ◌∷◌, ◌++◌, length, take, get_or, Option, Result, IfErr, arith, refl, sym, ap, ◌∙◌, subst, append_assoc, append-nil, length-append}
+use Rattle.std.proofs.lemmas.List.{take-append-le, length-take-le}
+use Rattle.std.proofs.Math.Seq.{take-append-add}
+use Rattle.std.specs.Io.KnownBytes.{Consumes}
+use Rattle.std.proofs.KnownBytes.{Consumes-trans}
+use Rattle.std.proofs.lemmas.Result.{IfErr-weaker}
+use borrow.Rule.Slice.PartMut.{put_mid, post_of}
+use Rattle.qoi.specs.declared.error.Error.{Error}
+use Rattle.qoi.specs.declared.error.Error.TheVariants.{InvalidMagic, InvalidChannels, InvalidColorSpace, InvalidImageDimensions, InvalidImageLength, OutputBufferTooSmall, UnexpectedBufferEnd, InvalidPadding, IoError, OutOfMemory}
+use Rattle.qoi.specs.declared.parts.Chunk.{Chunk}
+use Rattle.qoi.specs.Bytes.{AreBytes}
+use Rattle.qoi.specs.Chunks.{AreChunks, text}
+use Rattle.qoi.specs.Meaning.{Reaches, meaning}
+use Rattle.qoi.specs.Files.{end_marker}
+use Rattle.qoi.specs.Verdicts.{IsPartOfChunk, Takes, IsCut, IsWrong}
+use Rattle.qoi.specs.Decoding.{EndsInChunk, StreamsPixels, HasCut, RefusesTaken, RefusesTakenMarker}
+use Rattle.qoi.proofs.PartOfChunk.{part_luma, part_rgb, part_rgba}
+
+-- the front of a buffer after a read behind what was filled
+pub take-read : (filled n k : ℕ) (buf piece : List ℕ) → filled ≤ length buf → n ≤ length piece → take (filled + n) (put_mid filled k buf piece) ≡ take filled buf ++ take n piece
+take-read filled n k buf piece within fits =
+    let size = length-take-le filled buf within in
+    ap (λ z. take (z + n) (put_mid filled k buf piece)) (sym size) ∙ take-append-add (take filled buf) (piece ++ post_of filled k buf) n
+    ∙ ap (λ z. take filled buf ++ z) (take-append-le n piece (post_of filled k buf) fits)
+
+-- and what it keeps of the front
+pub take-before : (filled k : ℕ) (buf piece : List ℕ) → filled ≤ length buf → take filled (put_mid filled k buf piece) ≡ take filled buf
+take-before filled k buf piece within = let e : filled + 0 ≡ filled = omega arith in ap (λ z. take z (put_mid filled k buf piece)) (sym e) ∙ take-read filled 0 k buf piece within (omega arith) ∙ append-nil (take filled buf)
+
+-- the front of bytes is bytes
+pub bytes_take : (n : ℕ) (bytes : List ℕ) → AreBytes bytes → AreBytes (take n bytes)
+bytes_take zero bytes h i = omega arith
+bytes_take (suc n) [] h i = omega arith
+bytes_take (suc n) (b ∷ bytes) h zero = h 0
+bytes_take (suc n) (b ∷ bytes) h (suc i) = bytes_take n bytes (λ j. h (suc j)) i
+
+-- two pieces of bytes are bytes
+pub bytes_append : (xs ys : List ℕ) → AreBytes xs → AreBytes ys → AreBytes (xs ++ ys)
+bytes_append [] ys h g i = g i
+bytes_append (x ∷ xs) ys h g zero = h 0
+bytes_append (x ∷ xs) ys h g (suc i) = bytes_append xs ys (λ j. h (suc j)) g i
+
+-- a first byte and some of those that it wants are part of a chunk
+pub part_read_luma : (first more : List ℕ) → length first ≡ 1 → AreBytes first → AreBytes more → 128 ≤ get_or first 0 0 → get_or first 0 0 < 192 → length more < 1 → IsPartOfChunk (first ++ more)
+part_read_luma [] more size h g low high few = absurd (omega arith)
+part_read_luma (b ∷ []) more size h g low high few = part_luma (b ∷ more) (bytes_append (b ∷ []) more h g) (omega arith) low high
+part_read_luma (b ∷ c ∷ first) more size h g low high few = absurd (omega arith)
+
+pub part_read_rgb : (first more : List ℕ) → length first ≡ 1 → AreBytes first → AreBytes more → get_or first 0 0 ≡ 254 → length more < 3 → IsPartOfChunk (first ++ more)
+part_read_rgb [] more size h g is few = absurd (omega arith)
+part_read_rgb (b ∷ []) more size h g is few = part_rgb (b ∷ more) (bytes_append (b ∷ []) more h g) (omega arith) is
+part_read_rgb (b ∷ c ∷ first) more size h g is few = absurd (omega arith)
+
+pub part_read_rgba : (first more : List ℕ) → length first ≡ 1 → AreBytes first → AreBytes more → get_or first 0 0 ≡ 255 → length more < 4 → IsPartOfChunk (first ++ more)
+part_read_rgba [] more size h g is few = absurd (omega arith)
+part_read_rgba (b ∷ []) more size h g is few = part_rgba (b ∷ more) (bytes_append (b ∷ []) more h g) (omega arith) is
+part_read_rgba (b ∷ c ∷ first) more size h g is few = absurd (omega arith)
+
+-- bytes that end within a chunk are cut
+pub cut_in_chunk : (n : ℕ) (taken : List ℕ) → EndsInChunk n taken → HasCut n taken
+cut_in_chunk n taken (cs, part, takes, short, is_part) = (cs, part, record { takes = takes; ends = inl (short, is_part) })
+
+-- why an image is refused whose marker is refused
+refused_after : (n : ℕ) (cs : List Chunk) → AreChunks cs → Reaches n cs → (taken : List ℕ) (e : Error) → RefusesTakenMarker taken e → RefusesTaken n (text cs ++ taken) e
+refused_after n cs chunks reaches taken (IoError x) few = (cs, taken, record { takes = record { chunks = chunks; short = reaches.short; split = refl }; ends = inr (reaches.enough, few) })
+refused_after n cs chunks reaches taken InvalidPadding (eight, other) = (cs, taken, record {
+  takes = record { chunks = chunks; short = reaches.short; split = ap (λ z. text cs ++ z) (sym (append-nil taken)) };
+  enough = reaches.enough;
+  length_is = eight;
+  other = other;
+})
+refused_after n cs chunks reaches taken (InvalidMagic m) none = none
+refused_after n cs chunks reaches taken (InvalidChannels k) none = none
+refused_after n cs chunks reaches taken (InvalidColorSpace k) none = none
+refused_after n cs chunks reaches taken (InvalidImageDimensions w h) none = none
+refused_after n cs chunks reaches taken (InvalidImageLength z w h) none = none
+refused_after n cs chunks reaches taken (OutputBufferTooSmall z r) none = none
+refused_after n cs chunks reaches taken UnexpectedBufferEnd none = none
+refused_after n cs chunks reaches taken OutOfMemory none = none
+
+-- what was taken where the marker was refused
+pub marker_refused : {T : Type 0} (f c n : ℕ) (old now new : Option (List ℕ)) (out : List ℕ) (r : Result T Error) → StreamsPixels f c n old now out → IfErr r (λ e. (taken : List ℕ) × Consumes now new taken × RefusesTakenMarker taken e)
+    → IfErr r (λ e. (taken : List ℕ) × Consumes old new taken × RefusesTaken n taken e)
+marker_refused f c n old now new out r s why =
+    IfErr-weaker r (λ e. (taken : List ℕ) × Consumes now new taken × RefusesTakenMarker taken e) (λ e. (taken : List ℕ) × Consumes old new taken × RefusesTaken n taken e)
+    (λ e (taken, took, refused). (text s.cs ++ taken, Consumes-trans old now new (text s.cs) taken s.taken took, refused_after n s.cs s.chunks s.reaches taken e refused)) why
