@@ -520,8 +520,72 @@ impl<'a> Decoder<Bytes<'a>> {
     }
 }
 
+impl<R: Read + Drop> Decoder<R> {
+    /// A decoder of the file that stands ahead of the reader, whose header is decoded at once:
+    /// fourteen bytes are read and no more. The channels are the header's.
+    ///
+    /// Refusals, in this order: `IoError` where the fourteen bytes don't come, and then those of
+    /// `decode_header`. The reader is dropped then.
+    pub fn from_stream(mut reader: R) -> Result<Decoder<R>>
+        ensures accepted { IfOk result (λ d. ReadsHeader false (R.remaining reader) (R.remaining d.reader) (Ok d.header)
+            × (d.channels ≡ d.header.channels)) }
+        ensures refused { IfErr result (λ e. (left : Option (List ℕ)) × ReadsHeader false (R.remaining reader) left (Err e)) }
+    {
+        let header = reader.decode_header()?;
+        Ok(Decoder {
+            reader,
+            header,
+            channels: header.channels,
+        })
+    }
+
+    /// The reader, as it stands: after a success behind the end marker, and after a refusal behind
+    /// the bytes that were read.
+    pub fn reader(&self) -> &R
+        ensures { result.now ≡ self.now.reader }
+    {
+        &self.reader
+    }
+
+    /// Gives back the reader, as it stands.
+    pub fn into_reader(self) -> R
+        ensures { result ≡ self.reader }
+    {
+        self.reader
+    }
+}
+
 impl<R: Reader> Decoder<R> {
-    /// The channels of the output, which are the header's.
+    /// Chooses the channels of the output. The file's own stay in the header.
+    ///
+    /// Into three channels the alpha is dropped; into four an alpha of 255 is added where the file
+    /// has three.
+    pub fn with_channels(mut self, channels: Channels) -> Decoder<R>
+        ensures { result ≡ record self { channels = channels } }
+    {
+        self.channels = channels;
+        self
+    }
+
+    /// A second decoder, at the same bytes, with the same header and channels.
+    ///
+    /// The caller's condition is that a clone of the reader equals it. `OutOfMemory` where the
+    /// reader's clone finds no memory.
+    pub fn clone(&self) -> Result<Decoder<R>>
+    where
+        R: Clone,
+        requires { (reader : _) → R.is_clone self.now.reader reader → reader ≡ self.now.reader }
+        ensures cloned { IfOk result (λ d. d ≡ self.now) }
+        ensures refused { IfErr result (λ e. e ≡ Error.OutOfMemory) }
+    {
+        Ok(Decoder {
+            reader: self.reader.clone()?,
+            header: self.header,
+            channels: self.channels,
+        })
+    }
+
+    /// The channels of the output: the header's, until others are chosen.
     pub fn channels(&self) -> Channels
         ensures { result ≡ self.now.channels }
     {
