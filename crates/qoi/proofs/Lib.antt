@@ -36,3 +36,4 @@ pub mod EncodedPixels
 pub mod FileOf
 pub mod BufferFilled
 pub mod StreamReads
+pub mod StreamVerdicts

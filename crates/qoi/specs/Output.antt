@@ -17,3 +17,8 @@ pixel_bytes file channels p =
 -- the pixels' bytes, one after the other
 abbrev pub output : ℕ → ℕ → List RgbaPixel → List ℕ
 output file channels pixels = flat_map (pixel_bytes file channels) pixels
+
+-- the bytes without each fourth
+abbrev pub without_fourth : List ℕ → List ℕ
+without_fourth (r ∷ g ∷ b ∷ a ∷ bytes) = r ∷ g ∷ b ∷ without_fourth bytes
+without_fourth bytes = bytes
