@@ -102,9 +102,10 @@ chosen_spelled n table px four past i c is size e h other at missing first =
     let place : i ≡ hash (rgba px) = at ∙ ap hash means in
     let p = rgba px in
     let not_held : at_place table (hash p) ≢ p = λ held. missing (rgba_same 4 (get_or table i []) four (inr refl) (rw place (h.four (hash p) (hash_below p))) long (rw place (held ∙ sym means))) in
-    let fresh = notes_fresh past p (at_place table) (at_place (slice_set table i four)) (notes_of table past h) other (λ j l. rw place (after table four p j h.length_is means)) in
-    (choice_spelled past p c (at_place table) (notes_of table past h) not_held first,
-     record { length_is = length-set table i four ∙ h.length_is; four = λ j l. rw place (long_after table four (hash p) j h.length_is long h.four l (hash_below p)); holds = fresh.holds })
+    let fresh = notes_fresh past p (at_place table) (at_place (slice_set table i four)) (notes_of table past h) other (λ j l. rw place (after table four p j h.length_is means)) in (
+      choice_spelled past p c (at_place table) (notes_of table past h) not_held first,
+      record { length_is = length-set table i four ∙ h.length_is; four = λ j l. rw place (long_after table four (hash p) j h.length_is long h.four l (hash_below p)); holds = fresh.holds },
+    )
   where
     after : (table : List (List ℕ)) (four : List ℕ) (p : RgbaPixel) (j : ℕ) → length table ≡ 64 → rgba four ≡ p → at_place (slice_set table (hash p) four) j ≡ cond (eqb (hash p) j) p (at_place table j)
     after table four p j len means = by (eqb (hash p) j) refl

@@ -64,12 +64,16 @@ cut_in_chunk n taken (cs, part, takes, short, is_part) = (cs, part, record { tak
 -- why an image is refused whose marker is refused
 refused_after : (n : ℕ) (cs : List Chunk) → AreChunks cs → Reaches n cs → (taken : List ℕ) (e : Error) → RefusesTakenMarker taken e → RefusesTaken n (text cs ++ taken) e
 refused_after n cs chunks reaches taken (IoError x) few = (cs, taken, record { takes = record { chunks = chunks; short = reaches.short; split = refl }; ends = inr (reaches.enough, few) })
-refused_after n cs chunks reaches taken InvalidPadding (eight, other) = (cs, taken, record {
-  takes = record { chunks = chunks; short = reaches.short; split = ap (λ z. text cs ++ z) (sym (append-nil taken)) };
-  enough = reaches.enough;
-  length_is = eight;
-  other = other;
-})
+refused_after n cs chunks reaches taken InvalidPadding (eight, other) = (
+  cs,
+  taken,
+  record {
+    takes = record { chunks = chunks; short = reaches.short; split = ap (λ z. text cs ++ z) (sym (append-nil taken)) };
+    enough = reaches.enough;
+    length_is = eight;
+    other = other;
+  },
+)
 refused_after n cs chunks reaches taken (InvalidMagic m) none = none
 refused_after n cs chunks reaches taken (InvalidChannels k) none = none
 refused_after n cs chunks reaches taken (InvalidColorSpace k) none = none

@@ -198,10 +198,7 @@ fn read_all<R: Read>(reader: &mut R, buf: &mut [u8]) -> io::Result<()>
     while filled < buf.len() {
         let count = reader.read(&mut buf[filled..])?;
         if count == 0 {
-            return Err(io::Error::new(
-                ErrorKind::UnexpectedEof,
-                "the stream ended within a file",
-            ));
+            return Err(io::Error::new(ErrorKind::UnexpectedEof, "the stream ended within a file"));
         }
         filled += count;
     }
@@ -532,10 +529,11 @@ impl<R: Read + Drop> Decoder<R> {
         ensures refused { IfErr result (λ e. (left : Option (List ℕ)) × ReadsHeader false (R.remaining reader) left (Err e)) }
     {
         let header = reader.decode_header()?;
+        let channels = header.channels;
         Ok(Decoder {
             reader,
             header,
-            channels: header.channels,
+            channels,
         })
     }
 

@@ -1,5 +1,6 @@
 //! Worked examples, with values from outside, and what no contract says.
 
+mod channels;
 mod chunks;
 mod decoder;
 mod files;
@@ -7,4 +8,6 @@ mod header;
 mod memory;
 mod pixel;
 mod reader;
+mod sources;
+mod streams;
 mod types;

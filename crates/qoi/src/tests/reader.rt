@@ -52,6 +52,13 @@ fn channels_are_three_or_four(rt: HostRuntime) {
         };
         assert!(rt; refused, "at {channels} and {src_channels}");
         assert_eq!(rt; reader.as_slice(), bytes.as_slice());
+        let mut stream = bytes.as_slice();
+        let refused = match image_of(&mut stream, &mut out, channels, src_channels) {
+            Err(Error::InvalidChannels { channels: found }) => found == channels,
+            _ => false,
+        };
+        assert!(rt; refused, "at {channels} and {src_channels} from a stream");
+        assert_eq!(rt; stream, bytes.as_slice());
         assert_eq!(rt; out, [0xaa; 12]);
     }
 }

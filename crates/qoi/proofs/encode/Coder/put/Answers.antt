@@ -33,13 +33,13 @@ returns-then-eq-clause-written g c start image cs todo past rest w =
     let more = c.repeat.new.self in
     elim (cases_lt (s.run + 1) 62) [
       | inl l ↦
-        let r = c.in_ok-repeat.ensures.waits l in
-        let waits = repeat_waits g.W.Writer.wrote g.W.Writer.room g.met.W.Writer.laws g.row.N start image cs past p rest todo _ _ _ _ w same (omega arith) in
-        (todo, coding_in g.W.Writer.wrote g.row.N start image cs _ rest todo _ _ _ _ _ _ _ _ (ap (λ k. k.noted) r.1) (ap (λ k. k.last) r.1) (ap (λ k. k.run) r.1 ∙ add-one s.run) r.2 waits)
+          let r = c.in_ok-repeat.ensures.waits l in
+          let waits = repeat_waits g.W.Writer.wrote g.W.Writer.room g.met.W.Writer.laws g.row.N start image cs past p rest todo _ _ _ _ w same (omega arith) in
+          (todo, coding_in g.W.Writer.wrote g.row.N start image cs _ rest todo _ _ _ _ _ _ _ _ (ap (λ k. k.noted) r.1) (ap (λ k. k.last) r.1) (ap (λ k. k.run) r.1 ∙ add-one s.run) r.2 waits)
       | inr l ↦
-        let r = c.in_ok-repeat.ensures.written (omega arith) in
-        let full = repeat_full g.W.Writer.wrote g.W.Writer.room g.met.W.Writer.laws g.row.N start image cs past p rest todo _ _ _ _ w c.repeat.new.buf same (omega arith) r.1 in
-        (full.0, coding_in g.W.Writer.wrote g.row.N start image cs _ rest full.0 _ _ _ _ _ _ _ _ (ap (λ k. k.noted) r.0) (ap (λ k. k.last) r.0) (ap (λ k. k.run) r.0) refl full.1)
+          let r = c.in_ok-repeat.ensures.written (omega arith) in
+          let full = repeat_full g.W.Writer.wrote g.W.Writer.room g.met.W.Writer.laws g.row.N start image cs past p rest todo _ _ _ _ w c.repeat.new.buf same (omega arith) r.1 in
+          (full.0, coding_in g.W.Writer.wrote g.row.N start image cs _ rest full.0 _ _ _ _ _ _ _ _ (ap (λ k. k.noted) r.0) (ap (λ k. k.last) r.0) (ap (λ k. k.run) r.0) refl full.1)
     ]
 
 pub returns-in_err-repeat-clause-beginning : goal.returns-in_err-repeat-clause-beginning
@@ -64,7 +64,7 @@ returns-in_err-write_chunk-clause-beginning g c start image cs todo past rest w 
     let state = flushed g.row.N s.noted _ s.last _ past (ap (λ k. k.noted) empty) (ap (λ k. k.last) empty) w.state in
     let choice = c.choose-chunk.ensures.choice past (pixels_are image cs past _ rest _ todo w.to_write).0 state fresh in
     on_err _ (chunk_part g.W.Writer.wrote g.W.Writer.room g.met.W.Writer.laws g.row.N start image cs past (rgba c.args.px) rest todo _ _ _ _ w c.choose-chunk.result c.flush.new.buf fresh c.choose-chunk.ensures.chunk choice.0 c.in_ok-flush.ensures.written
-        c.write_chunk.new.buf c.in_err-write_chunk.ensures.refused.1)
+    c.write_chunk.new.buf c.in_err-write_chunk.ensures.refused.1)
 
 pub returns-clause-written : goal.returns-clause-written
 returns-clause-written g c start image cs todo past rest w =
@@ -74,5 +74,5 @@ returns-clause-written g c start image cs todo past rest w =
     let state = flushed g.row.N s.noted _ s.last _ past (ap (λ k. k.noted) empty) (ap (λ k. k.last) empty) w.state in
     let choice = c.choose-chunk.ensures.choice past (pixels_are image cs past _ rest _ todo w.to_write).0 state fresh in
     let full = chunk_written g.W.Writer.wrote g.W.Writer.room g.met.W.Writer.laws g.row.N start image cs past (rgba c.args.px) rest todo _ _ _ _ w c.choose-chunk.result c.flush.new.buf fresh c.choose-chunk.ensures.chunk choice.0 c.in_ok-flush.ensures.written
-        c.write_chunk.new.buf c.choose-chunk.new.self.noted c.args.px c.in_ok-write_chunk.ensures.written (record { table_is = choice.1; size = c.requires.size; last_is = refl }) in
+    c.write_chunk.new.buf c.choose-chunk.new.self.noted c.args.px c.in_ok-write_chunk.ensures.written (record { table_is = choice.1; size = c.requires.size; last_is = refl }) in
     (full.0, coding_in g.W.Writer.wrote g.row.N start image cs _ rest full.0 _ _ _ _ _ _ _ _ refl refl (c.choose-chunk.ensures.kept.1 ∙ ap (λ k. k.run) empty) refl full.1)
