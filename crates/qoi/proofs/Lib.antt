@@ -37,3 +37,4 @@ pub mod FileOf
 pub mod BufferFilled
 pub mod StreamReads
 pub mod StreamVerdicts
+pub mod LengthReached

@@ -6,19 +6,19 @@ use Rattle.qoi.specs.Written.{noted, IsChoice, Written}
 use Rattle.qoi.proofs.Spelled.{FitsDiff, FitsLuma, first_rgb, first_rgba}
 
 -- an Rgb is chosen where the pixel isn't noted and green is far
-chosen_rgb : (past : Past) (p : RgbaPixel) → IsPixel (previous past) → noted past (hash p) ≢ p → p.a ≡ (previous past).a → (FitsDiff (previous past) p → ⊥) → (FitsLuma (previous past) p → ⊥) → IsChoice past p (Rgb p.r p.g p.b)
+pub chosen_rgb : (past : Past) (p : RgbaPixel) → IsPixel (previous past) → noted past (hash p) ≢ p → p.a ≡ (previous past).a → (FitsDiff (previous past) p → ⊥) → (FitsLuma (previous past) p → ⊥) → IsChoice past p (Rgb p.r p.g p.b)
 chosen_rgb past p iq n alpha d l = record { place = λ e. absurd (n e); spelled = λ _. first_rgb past p iq alpha d l }
 
 -- an Rgba is chosen where the pixel isn't noted and alpha changes
-chosen_rgba : (past : Past) (p : RgbaPixel) → noted past (hash p) ≢ p → p.a ≢ (previous past).a → IsChoice past p (Rgba p.r p.g p.b p.a)
+pub chosen_rgba : (past : Past) (p : RgbaPixel) → noted past (hash p) ≢ p → p.a ≢ (previous past).a → IsChoice past p (Rgba p.r p.g p.b p.a)
 chosen_rgba past p n alpha = record { place = λ e. absurd (n e); spelled = λ _. first_rgba past p alpha }
 
 -- different reds make different pixels
-red_differs : (p q : RgbaPixel) → p.r ≢ q.r → p ≢ q
+pub red_differs : (p q : RgbaPixel) → p.r ≢ q.r → p ≢ q
 red_differs p q n e = n (ap (λ x. x.r) e)
 
 -- different alphas do
-alpha_differs : (p q : RgbaPixel) → p.a ≢ q.a → p ≢ q
+pub alpha_differs : (p q : RgbaPixel) → p.a ≢ q.a → p ≢ q
 alpha_differs p q n e = n (ap (λ x. x.a) e)
 
 -- the list that is written for black, a color, and black, in three channels

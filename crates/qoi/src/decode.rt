@@ -446,6 +446,8 @@ pub fn decode_to_buf(buf: &mut [u8], data: &[u8]) -> Result<Header>
     ensures later { (h : Header) → header_of «data».now ≡ Ok h
         → drop (file_byte_count h) buf.new ≡ drop (file_byte_count h) buf.old }
     ensures untouched { (e : Error) → header_of «data».now ≡ Err e → buf.new ≡ buf.old }
+    ensures short { (h : Header) → header_of «data».now ≡ Ok h → length buf.old < file_byte_count h
+        → (result ≡ Err (Error.OutputBufferTooSmall (length buf.old) (file_byte_count h))) × (buf.new ≡ buf.old) }
 {
     let mut decoder = Decoder::new(data)?;
     decoder.decode_to_buf(buf)?;
@@ -523,6 +525,9 @@ impl<R: Read + Drop> Decoder<R> {
     ///
     /// Refusals, in this order: `IoError` where the fourteen bytes don't come, and then those of
     /// `decode_header`. The reader is dropped then.
+    ///
+    /// A decoder asks its reader for a chunk's few bytes at a time, and never for one past the end
+    /// marker: a file or a socket wants a buffering reader around it, as `std::io::BufReader`.
     pub fn from_stream(mut reader: R) -> Result<Decoder<R>>
         ensures accepted { IfOk result (λ d. ReadsHeader false (R.remaining reader) (R.remaining d.reader) (Ok d.header)
             × (d.channels ≡ d.header.channels)) }
@@ -642,6 +647,7 @@ impl<R: Reader> Decoder<R> {
             .decode_image(&mut buf[..size], channels, src_channels)?;
         Ok(size)
     }
+
     /// Decodes an image into a new vector, exactly as long as `required_buf_len`.
     ///
     /// `OutOfMemory` where the vector's memory isn't found; it is taken before a chunk is read, so

@@ -2,9 +2,13 @@
 ghost use Rattle.std.specs.Prelude.{◌≡◌, ◌≢◌, ℕ, ◌+◌, ◌*◌, ◌/◌, ◌<◌, ◌≤◌, List, [], ◌∷◌, ◌++◌, length, replicate};
 ghost use Rattle.std.specs.List.{AllByRecursion};
 ghost use Rattle.qoi.specs.declared.parts.Chunk.{Chunk};
+ghost use Rattle.qoi.specs.declared.types.Channels.{Channels};
+ghost use Rattle.qoi.specs.declared.types.ColorSpace.{ColorSpace};
 ghost use Rattle.qoi.specs.declared.parts.Chunk.TheVariants.{Place, Run, Rgb, Rgba};
 ghost use Rattle.qoi.specs.Pixels.{RgbaPixel, IsPixel, Past, blank, pixel, previous};
 ghost use Rattle.qoi.specs.Chunks.{AreChunks, text};
+ghost use Rattle.qoi.specs.Encoded.{max_len};
+ghost use Rattle.qoi.specs.Files.{file};
 ghost use Rattle.qoi.specs.Meaning.{Reaches, meaning};
 ghost use Rattle.qoi.specs.Output.{IsChannels, output};
 ghost use Rattle.qoi.specs.Raw.{pixels_of, HasChannels};
@@ -121,4 +125,12 @@ pub fn slack_is_reached()
         ≡ pixel 0 0 0 255 ∷ pixel 101 102 103 104 ∷ pixel 0 0 0 255 ∷ [] }
     ensures longer_rgba { length (text (Run 1 ∷ Rgba 101 102 103 104 ∷ Rgba 0 0 0 255 ∷ []))
         ≡ length (text (Run 1 ∷ Rgba 101 102 103 104 ∷ Place 53 ∷ [])) + 4 }
+{}
+
+/// The greatest length of a file is reached: one pixel that is written in full, in three channels and in four.
+pub fn greatest_length_is_reached()
+    ensures written_rgb { Written (pixel 11 121 231 255 ∷ []) (Rgb 11 121 231 ∷ []) }
+    ensures length_rgb { length (file (record { width = 1; height = 1; channels = Channels.Rgb; colorspace = ColorSpace.Srgb }) (Rgb 11 121 231 ∷ [])) ≡ max_len 1 1 3 }
+    ensures written_rgba { Written (pixel 11 121 231 55 ∷ []) (Rgba 11 121 231 55 ∷ []) }
+    ensures length_rgba { length (file (record { width = 1; height = 1; channels = Channels.Rgba; colorspace = ColorSpace.Srgb }) (Rgba 11 121 231 55 ∷ [])) ≡ max_len 1 1 4 }
 {}

@@ -1,0 +1,39 @@
+-- One pixel that is written in full, in three channels and in four.
+use Rattle.std.proofs.Common.{◌≡◌, ◌≢◌, [], ◌∷◌, refl, ap, arith}
+use Rattle.qoi.specs.declared.parts.Chunk.TheVariants.{Rgb, Rgba}
+use Rattle.qoi.specs.Pixels.{pixel, pixel_eq, start, blank, hash}
+use Rattle.qoi.specs.Written.{Written}
+use Rattle.qoi.proofs.SlackReached.{chosen_rgb, chosen_rgba, red_differs, alpha_differs}
+
+-- a far color is written as an RGB
+pub one_rgb : Written (pixel 11 121 231 255 ∷ []) (Rgb 11 121 231 ∷ [])
+unfolding start blank hash pixel_eq
+one_rgb = record {
+  chunks = ((omega arith, omega arith, omega arith), tt);
+  means = refl;
+  right = (
+    record {
+      is_fresh = red_differs _ _ (λ e. absurd (omega arith));
+      is_chosen = chosen_rgb [] (pixel 11 121 231 255) (record { r = omega arith; g = omega arith; b = omega arith; a = omega arith })
+          (red_differs _ _ (λ e. absurd (omega arith))) refl (λ f. let x = f.r in absurd (omega arith)) (λ f. let x = f.g in absurd (omega arith));
+    },
+    tt,
+  );
+  full = (tt, tt);
+}
+
+-- another alpha is written as an RGBA
+pub one_rgba : Written (pixel 11 121 231 55 ∷ []) (Rgba 11 121 231 55 ∷ [])
+unfolding start blank hash pixel_eq
+one_rgba = record {
+  chunks = ((omega arith, omega arith, omega arith, omega arith), tt);
+  means = refl;
+  right = (
+    record {
+      is_fresh = red_differs _ _ (λ e. absurd (omega arith));
+      is_chosen = chosen_rgba [] (pixel 11 121 231 55) (red_differs _ _ (λ e. absurd (omega arith))) (λ e. absurd (omega arith));
+    },
+    tt,
+  );
+  full = (tt, tt);
+}
