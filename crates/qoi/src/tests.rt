@@ -2,8 +2,10 @@
 
 mod chunks;
 mod decoder;
+mod encoder;
 mod files;
 mod header;
+mod images;
 mod memory;
 mod pixel;
 mod reader;
