@@ -1,5 +1,6 @@
 //! Worked examples, with values from outside, and what no contract says.
 
+mod choices;
 mod chunks;
 mod decoder;
 mod encoder;
@@ -9,4 +10,5 @@ mod images;
 mod memory;
 mod pixel;
 mod reader;
+mod spelling;
 mod types;
