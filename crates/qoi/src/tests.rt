@@ -12,3 +12,4 @@ mod pixel;
 mod reader;
 mod spelling;
 mod types;
+mod writers;
