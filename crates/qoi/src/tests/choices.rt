@@ -149,3 +149,20 @@ fn blank_after_a_pixel(rt: HostRuntime) -> Result<(), Fail> {
     assert_encodes(&rt, alloc, &image, (2, 1), Channels::Rgba, &chunks)?;
     Ok(())
 }
+
+// A pixel that is noted at its index position is written as that position, also where a difference
+// or a luma would give it.
+#[test]
+fn positions_come_first(rt: HostRuntime) -> Result<(), Fail> {
+    let alloc = rt.alloc();
+    let image = [11, 22, 33, 12, 22, 33, 11, 22, 33, 12, 22, 33];
+    let chunks = [0xfe, 0x0b, 0x16, 0x21, 0x7a, 0x2b, 0x2e];
+    assert_encodes(&rt, alloc, &image, (4, 1), Channels::Rgb, &chunks)?;
+    let image = [11, 22, 33, 21, 32, 43, 11, 22, 33, 21, 32, 43];
+    let chunks = [0xfe, 0x0b, 0x16, 0x21, 0xaa, 0x88, 0x2b, 0x01];
+    assert_encodes(&rt, alloc, &image, (4, 1), Channels::Rgb, &chunks)?;
+    let image = [11, 22, 33, 44, 12, 22, 33, 44, 11, 22, 33, 44];
+    let chunks = [0xff, 0x0b, 0x16, 0x21, 0x2c, 0x7a, 0x1a];
+    assert_encodes(&rt, alloc, &image, (3, 1), Channels::Rgba, &chunks)?;
+    Ok(())
+}
