@@ -1,13 +1,21 @@
 //! Worked examples, with values from outside, and what no contract says.
 
 mod channels;
+mod choices;
 mod chunks;
 mod decoder;
+mod encoder;
 mod files;
+mod generated;
+mod generator;
 mod header;
+mod images;
+mod lengths;
 mod memory;
 mod pixel;
 mod reader;
 mod sources;
+mod spelling;
 mod streams;
 mod types;
+mod writers;

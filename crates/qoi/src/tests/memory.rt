@@ -1,5 +1,5 @@
 use crate::tests::files::ONE_RGB_PIXEL;
-use crate::{Channels, ColorSpace, Decoder, Error, Header};
+use crate::{Channels, ColorSpace, Decoder, Encoder, Error, Header, encode_to_vec};
 use std::alloc::Global;
 use std::test::Fail;
 
@@ -48,5 +48,26 @@ fn refused_memory_comes_before_the_chunks(rt: HostRuntime) -> Result<(), Fail> {
     let header = Header::try_new(20000, 20000, Channels::Rgb, ColorSpace::Srgb)?;
     assert_eq!(rt; *decoder.header(), header);
     assert_eq!(rt; decoder.channels(), Channels::Rgb);
+    Ok(())
+}
+
+#[test]
+fn refused_memory_leaves_the_encoder(rt: HostRuntime) -> Result<(), Fail> {
+    let image = [0x0b, 0x79, 0xe7];
+    let encoder = Encoder::new(&image, 1, 1)?;
+    let held = take_memory(rt.alloc(), 2, 600_000)?;
+    let method = encoder.encode_to_vec(rt.alloc());
+    let free = encode_to_vec(rt.alloc(), &image, 1, 1);
+    let mut buf = [0xaa; 26];
+    let into_buffer = encoder.encode_to_buf(&mut buf);
+    drop(held);
+    assert!(rt; matches!(method, Err(Error::OutOfMemory)));
+    assert!(rt; matches!(free, Err(Error::OutOfMemory)));
+    assert!(rt; matches!(into_buffer, Ok(26)));
+    assert_eq!(rt; buf, ONE_RGB_PIXEL);
+    let file = encoder.encode_to_vec(rt.alloc())?;
+    assert_eq!(rt; file.as_slice(), ONE_RGB_PIXEL.as_slice());
+    let file = encode_to_vec(rt.alloc(), &image, 1, 1)?;
+    assert_eq!(rt; file.as_slice(), ONE_RGB_PIXEL.as_slice());
     Ok(())
 }
