@@ -7,4 +7,5 @@ mod header;
 mod memory;
 mod pixel;
 mod reader;
+mod surface;
 mod types;
