@@ -1,14 +1,19 @@
 //! Laws on the values that callers hold: numbers of channels and of color spaces, equality, order,
 //! and hashing.
-ghost use Rattle.std.specs.Prelude.{◌≡◌, ◌≢◌, ◌↔◌, ◌<◌, ℕ, IsTrue, Result, Ok, Err};
+ghost use Rattle.std.specs.Prelude.{◌≡◌, ◌≢◌, ◌↔◌, ◌<◌, ℕ, ◌++◌, IsTrue, List, [], ◌∷◌, length, take, drop, Result, Ok, Err};
 ghost use Rattle.std.specs.Ordering.{nat_cmp, is_eq};
 ghost use Rattle.qoi.specs.declared.error.Error.{Error};
 ghost use Rattle.qoi.specs.declared.header.Header.{Header};
 ghost use Rattle.qoi.specs.declared.types.Channels.{Channels};
 ghost use Rattle.qoi.specs.declared.types.ColorSpace.{ColorSpace};
+ghost use Rattle.qoi.specs.declared.parts.Chunk.{Chunk};
+ghost use Rattle.qoi.specs.Chunks.{pixel_of};
+ghost use Rattle.qoi.specs.Output.{IsChannels};
+ghost use Rattle.qoi.specs.Pixels.{Past, previous, rgba};
 ghost use Rattle.qoi.specs.Types.{channels_number, colorspace_number};
 
 use crate::header::Header;
+use crate::parts::{Chunk, Pixel};
 use crate::types::{Channels, ColorSpace};
 use std::hash::Hash;
 
@@ -55,4 +60,24 @@ pub fn headers_compare()
     ensures equality { (h k : Header) → IsTrue (⟦<Header as PartialEq>⟧.eq h k) ↔ (h ≡ k) }
     ensures hash { (h k : Header) → IsTrue (⟦<Header as PartialEq>⟧.eq h k)
         → ⟦<Header as Hash>⟧.hash_input h ≡ ⟦<Header as Hash>⟧.hash_input k }
+{}
+
+/// Equal pixels have the same bytes.
+pub fn pixels_compare<const N: usize>()
+    ensures { (p q : List ℕ) → IsTrue (⟦<Pixel<N> as PartialEq>⟧.eq p q) ↔ (p ≡ q) }
+{}
+
+/// Equal chunks are the same.
+pub fn chunks_compare()
+    ensures { (c d : Chunk) → IsTrue (⟦<Chunk as PartialEq>⟧.eq c d) ↔ (c ≡ d) }
+{}
+
+/// The updates of a pixel of three or four channels give what chunks give after it, and a pixel of
+/// three channels means the opaque one of four.
+pub fn pixels_follow_chunks()
+    ensures rgb_chunk { (px : List ℕ) (past : Past) (r g b : ℕ) → IsChannels (length px) → previous past ≡ rgba px
+        → rgba (r ∷ g ∷ b ∷ drop 3 px) ≡ pixel_of past (Chunk.Rgb r g b) }
+    ensures rgba_chunk { (past : Past) (r g b a : ℕ)
+        → rgba (take 4 (r ∷ g ∷ b ∷ a ∷ [])) ≡ pixel_of past (Chunk.Rgba r g b a) }
+    ensures opaque { (px : List ℕ) → IsChannels (length px) → rgba (take 4 (px ++ 255 ∷ [])) ≡ rgba px }
 {}
