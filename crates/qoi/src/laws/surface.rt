@@ -34,7 +34,7 @@ pub fn colorspace_there_and_back()
 {}
 
 /// Equality, order and hashing of channels agree: equal channels are the same, the order is that of
-/// the numbers, and equal channels hash alike.
+/// the numbers, and what a hasher is fed tells different channels apart, and equal ones not.
 pub fn channels_compare()
     ensures equality { (c d : Channels) → IsTrue (⟦<Channels as PartialEq>⟧.eq c d) ↔ (c ≡ d) }
     ensures order { (c d : Channels)
@@ -42,10 +42,13 @@ pub fn channels_compare()
     ensures ties { (c d : Channels) → ⟦<Channels as PartialEq>⟧.eq c d ≡ is_eq (⟦<Channels as Ord>⟧.cmp c d) }
     ensures hash { (c d : Channels) → IsTrue (⟦<Channels as PartialEq>⟧.eq c d)
         → ⟦<Channels as Hash>⟧.hash_input c ≡ ⟦<Channels as Hash>⟧.hash_input d }
+    ensures apart { (c d : Channels)
+        → ⟦<Channels as Hash>⟧.hash_input c ≡ ⟦<Channels as Hash>⟧.hash_input d → c ≡ d }
 {}
 
 /// Equality, order and hashing of color spaces agree: equal color spaces are the same, the order is
-/// that of the numbers, and equal color spaces hash alike.
+/// that of the numbers, and what a hasher is fed tells different color spaces apart, and equal ones
+/// not.
 pub fn colorspace_compare()
     ensures equality { (c d : ColorSpace) → IsTrue (⟦<ColorSpace as PartialEq>⟧.eq c d) ↔ (c ≡ d) }
     ensures order { (c d : ColorSpace)
@@ -53,6 +56,8 @@ pub fn colorspace_compare()
     ensures ties { (c d : ColorSpace) → ⟦<ColorSpace as PartialEq>⟧.eq c d ≡ is_eq (⟦<ColorSpace as Ord>⟧.cmp c d) }
     ensures hash { (c d : ColorSpace) → IsTrue (⟦<ColorSpace as PartialEq>⟧.eq c d)
         → ⟦<ColorSpace as Hash>⟧.hash_input c ≡ ⟦<ColorSpace as Hash>⟧.hash_input d }
+    ensures apart { (c d : ColorSpace)
+        → ⟦<ColorSpace as Hash>⟧.hash_input c ≡ ⟦<ColorSpace as Hash>⟧.hash_input d → c ≡ d }
 {}
 
 /// Equal headers are the same, and hash alike.
