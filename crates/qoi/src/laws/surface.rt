@@ -34,7 +34,7 @@ pub fn colorspace_there_and_back()
 {}
 
 /// Equality, order and hashing of channels agree: equal channels are the same, the order is that of
-/// the numbers, and what a hasher is fed tells different channels apart, and equal ones not.
+/// the numbers, and a hasher is fed the same for equal channels alone.
 pub fn channels_compare()
     ensures equality { (c d : Channels) → IsTrue (⟦<Channels as PartialEq>⟧.eq c d) ↔ (c ≡ d) }
     ensures order { (c d : Channels)
@@ -47,8 +47,7 @@ pub fn channels_compare()
 {}
 
 /// Equality, order and hashing of color spaces agree: equal color spaces are the same, the order is
-/// that of the numbers, and what a hasher is fed tells different color spaces apart, and equal ones
-/// not.
+/// that of the numbers, and a hasher is fed the same for equal color spaces alone.
 pub fn colorspace_compare()
     ensures equality { (c d : ColorSpace) → IsTrue (⟦<ColorSpace as PartialEq>⟧.eq c d) ↔ (c ≡ d) }
     ensures order { (c d : ColorSpace)

@@ -1,5 +1,4 @@
 use Rattle.std.proofs.Common.{◌≡◌, ℕ, List, [], slice_index_or, arith, refl, ap}
-use Rattle.qoi.specs.declared.types.Channels.{Channels}
 use Rattle.qoi.specs.declared.types.Channels.TheVariants.{Rgb, Rgba}
 use Rattle.std.specs.Hash.{le_bytes}
 use Rattle.qoi.proofs.laws.surface.channels_compare.Goals as goal

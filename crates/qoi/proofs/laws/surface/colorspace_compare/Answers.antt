@@ -1,5 +1,4 @@
 use Rattle.std.proofs.Common.{◌≡◌, ℕ, List, [], slice_index_or, arith, refl, ap}
-use Rattle.qoi.specs.declared.types.ColorSpace.{ColorSpace}
 use Rattle.qoi.specs.declared.types.ColorSpace.TheVariants.{Srgb, Linear}
 use Rattle.std.specs.Hash.{le_bytes}
 use Rattle.qoi.proofs.laws.surface.colorspace_compare.Goals as goal
