@@ -1,10 +1,12 @@
 -- The header of a file: its fourteen bytes and the verdict on them (QOI specification 1.0, "QOI Header").
-use Rattle.std.specs.Prelude.{ℕ, ◌≤◌, ◌<◌, ◌*◌, List, [], ◌∷◌, ◌++◌, length, take, drop, slice_index, Result, Ok, Err, nat_lt, nat_le, ◌==◌, ◌&&◌, not, if◌then◌else◌}
+use Rattle.std.specs.Prelude.{ℕ, ◌≤◌, ◌<◌, ◌*◌, ◌-◌, ◌^◌, List, [], ◌∷◌, ◌++◌, length, take, drop, slice_index, min, Result, Ok, Err, nat_lt, nat_le, ◌==◌, ◌&&◌, not, if◌then◌else◌}
 use Rattle.std.specs.Int.{w32, to_be_bytes, from_be_bytes}
 use Rattle.qoi.specs.declared.error.Error.{Error}
 use Rattle.qoi.specs.declared.error.Error.TheVariants.{InvalidMagic, InvalidImageDimensions, UnexpectedBufferEnd}
 use Rattle.qoi.specs.declared.types.Channels.{Channels}
+use Rattle.qoi.specs.declared.types.Channels.TheVariants.{Rgb}
 use Rattle.qoi.specs.declared.types.ColorSpace.{ColorSpace}
+use Rattle.qoi.specs.declared.types.ColorSpace.TheVariants.{Srgb}
 use Rattle.qoi.specs.declared.header.Header.{Header}
 use Rattle.qoi.specs.Types.{channels_number, channels_of, colorspace_number, colorspace_of}
 
@@ -19,6 +21,14 @@ head h = magic_bytes ++ to_be_bytes w32 h.width ++ to_be_bytes w32 h.height ++ c
 -- width times height
 abbrev pub pixel_count : Header → ℕ
 pixel_count h = h.width * h.height
+
+-- the raw bytes of an image, or the greatest usize if that is less
+abbrev pub raw_byte_count : Header → ℕ
+raw_byte_count h = min (pixel_count h * channels_number h.channels) (2 ^ 64 - 1)
+
+-- one pixel of three channels in sRGB
+abbrev pub default_header : Header
+default_header = record { width = 1; height = 1; channels = Rgb; colorspace = Srgb }
 
 -- an image has 1 to 400,000,000 pixels
 abbrev pub IsValid : Header → Type 0

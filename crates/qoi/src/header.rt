@@ -22,8 +22,24 @@ pub struct Header {
     pub colorspace: ColorSpace,
 }
 
+impl Default for Header {
+    ghost use Rattle.qoi.specs.Headers.{default_header};
+
+    ghost is_default = { λ header. header ≡ default_header };
+
+    /// The header of one pixel of three channels in sRGB.
+    fn default() -> Header {
+        Header {
+            width: 1,
+            height: 1,
+            channels: Channels::default(),
+            colorspace: ColorSpace::default(),
+        }
+    }
+}
+
 impl Header {
-    ghost use Rattle.qoi.specs.Headers.{head, header_of, tried_header, pixel_count};
+    ghost use Rattle.qoi.specs.Headers.{head, header_of, tried_header, pixel_count, raw_byte_count};
     ghost use Rattle.qoi.specs.Encoded.{max_file_len};
 
     /// A header of these fields; `InvalidImageDimensions` where width times height is 0 or
@@ -119,6 +135,15 @@ impl Header {
         ensures { result ≡ pixel_count self.now }
     {
         self.width as usize * self.height as usize
+    }
+
+    /// The raw bytes of such an image, width times height times channels, or the greatest `usize` if
+    /// that is less.
+    pub fn n_bytes(&self) -> usize
+        ensures { result ≡ raw_byte_count self.now }
+    {
+        self.n_pixels()
+            .saturating_mul(usize::from(self.channels.as_u8()))
     }
 
     /// The most bytes that the file of such an image has, or the greatest `usize` if that is less.

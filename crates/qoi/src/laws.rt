@@ -2,4 +2,5 @@
 
 pub mod reading;
 pub mod streams;
+pub mod surface;
 pub mod writing;

@@ -6,7 +6,7 @@ ghost use Rattle.qoi.specs.Verdicts.{IsPartOfChunk};
 
 use crate::consts::{QOI_OP_DIFF, QOI_OP_INDEX, QOI_OP_LUMA, QOI_OP_RGB, QOI_OP_RGBA, QOI_OP_RUN};
 pub use crate::decode::{Bytes, Reader};
-pub use crate::pixel::Pixel;
+pub use crate::pixel::{Pixel, SupportedChannels};
 pub use crate::utils::{BytesMut, GenericWriter, Writer};
 
 pub(crate) const QOI_OP_INDEX_END: u8 = QOI_OP_INDEX | 0x3f;

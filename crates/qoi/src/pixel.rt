@@ -30,6 +30,22 @@ impl<const N: usize> Model for Pixel<N> {
     ghost invariant = { λ p. length p.0 ≡ N };
 }
 
+/// The pixels of the numbers of channels that the format has.
+pub trait SupportedChannels {}
+
+impl SupportedChannels for Pixel<3> {}
+
+impl SupportedChannels for Pixel<4> {}
+
+impl<const N: usize> From<Pixel<N>> for [u8; N] {
+    ghost from_gives = { λ px bytes. bytes ≡ px };
+
+    /// The bytes of the pixel: red, green, blue and, where `N` is 4, alpha.
+    fn from(px: Pixel<N>) -> [u8; N] {
+        px.0
+    }
+}
+
 impl<const N: usize> Pixel<N> {
     /// The pixel whose bytes are all 0.
     #[inline]
@@ -48,6 +64,17 @@ impl<const N: usize> Pixel<N> {
         ensures { self.new ≡ s.now }
     {
         self.0.copy_from_slice(s);
+    }
+
+    /// Takes the first bytes of another pixel, as many as both have.
+    #[inline]
+    pub fn update<const M: usize>(&mut self, px: Pixel<M>)
+        requires own { IsChannels N }
+        requires other { IsChannels M }
+        ensures { self.new ≡ take N px.entry ++ drop M self.old }
+    {
+        let both = N.min(M);
+        self.0[..both].copy_from_slice(&px.0[..both]);
     }
 
     /// Sets red, green and blue, and keeps alpha.

@@ -17,5 +17,6 @@ mod reader;
 mod sources;
 mod spelling;
 mod streams;
+mod surface;
 mod types;
 mod writers;

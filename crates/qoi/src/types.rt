@@ -39,6 +39,28 @@ impl ColorSpace {
     }
 }
 
+impl Default for ColorSpace {
+    ghost use Rattle.qoi.specs.declared.types.ColorSpace.TheVariants.{Srgb};
+
+    ghost is_default = { λ colorspace. colorspace ≡ Srgb };
+
+    /// `Srgb`.
+    fn default() -> ColorSpace {
+        ColorSpace::Srgb
+    }
+}
+
+impl From<ColorSpace> for u8 {
+    ghost use Rattle.qoi.specs.Types.{colorspace_number};
+
+    ghost from_gives = { λ colorspace n. n ≡ colorspace_number colorspace };
+
+    /// The number that a header has for the color space: 0 for `Srgb`, 1 for `Linear`.
+    fn from(colorspace: ColorSpace) -> u8 {
+        colorspace.as_u8()
+    }
+}
+
 impl TryFrom<u8> for ColorSpace {
     type Error = Error;
 
@@ -89,6 +111,28 @@ impl Channels {
         ensures { result ≡ channels_number self }
     {
         self as u8
+    }
+}
+
+impl Default for Channels {
+    ghost use Rattle.qoi.specs.declared.types.Channels.TheVariants.{Rgb};
+
+    ghost is_default = { λ channels. channels ≡ Rgb };
+
+    /// `Rgb`.
+    fn default() -> Channels {
+        Channels::Rgb
+    }
+}
+
+impl From<Channels> for u8 {
+    ghost use Rattle.qoi.specs.Types.{channels_number};
+
+    ghost from_gives = { λ channels n. n ≡ channels_number channels };
+
+    /// The number of channels: 3 for `Rgb`, 4 for `Rgba`.
+    fn from(channels: Channels) -> u8 {
+        channels.as_u8()
     }
 }
 
