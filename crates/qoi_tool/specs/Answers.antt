@@ -1,38 +1,67 @@
 -- The answer of the program to its words and to the bytes of its input.
-use Rattle.std.specs.Prelude.{◌≡◌, ℕ, ◌⊎◌, List, [], ◌++◌, Option, drop, Ok, Err}
+use Rattle.std.specs.Prelude.{◌≡◌, ℕ, ◌⊎◌, List, [], ◌++◌, Option, Some, drop, Ok, Err}
 use Rattle.std.specs.Io.KnownBytes.{Appends, Keeps}
 use Rattle.qoi.specs.declared.error.Error.{Error}
-use Rattle.qoi.specs.declared.error.Error.TheVariants.{IoError, OutOfMemory}
 use Rattle.qoi.specs.declared.header.Header.{Header}
-use Rattle.qoi.specs.Headers.{header_of}
-use Rattle.qoi.specs.Decoding.{DecodesFile, RefusesWholeFile}
+use Rattle.qoi.specs.Types.{channels_number}
+use Rattle.qoi.specs.Headers.{header_of, pixel_count}
+use Rattle.qoi.specs.Decoding.{DecodesFile, ReadsImage, RefusesWholeFile, header_size}
+use Rattle.qoi.specs.Encoded.{image_header, IsFileOf}
 use Rattle.qoi_tool.specs.declared.command.Command.{Command}
-use Rattle.qoi_tool.specs.declared.command.Command.TheVariants.{Decode}
+use Rattle.qoi_tool.specs.declared.command.Command.TheVariants.{Decode, DecodeInto, Encode, Info}
 use Rattle.qoi_tool.specs.declared.Fault.{Fault}
 use Rattle.qoi_tool.specs.declared.Fault.TheVariants.{Usage, Image}
+use Rattle.qoi_tool.specs.Lines.{header_line}
 use Rattle.qoi_tool.specs.Words.{Asks, IsUsage}
-use Rattle.qoi_tool.specs.Transfers.{TakesAll, WritesBeginning, IsIoError, IsOutside}
+use Rattle.qoi_tool.specs.Transfers.{TakesAll, TakesCount, TakesFewer, WritesBeginning, IsIoError, IsOutside}
+
+-- what a command takes of its input: the bytes of a header, or all
+abbrev pub Takes : Command → Option (List ℕ) → Option (List ℕ) → List ℕ → Type 0
+Takes Decode old new input = TakesAll old new input
+Takes (DecodeInto channels) old new input = TakesAll old new input
+Takes (Encode w h space) old new input = TakesAll old new input
+Takes Info old new input = TakesCount header_size old new input
 
 -- what a command writes for an input
 abbrev pub Writes : Command → List ℕ → List ℕ → Type 0
 Writes Decode input out = (h : Header) × (rest : List ℕ) × DecodesFile input h rest out
+Writes (DecodeInto channels) input out = (h : Header) × (rest : List ℕ) × (header_of input ≡ Ok h)
+    × ReadsImage (channels_number h.channels) (channels_number channels) (pixel_count h) (Some (drop header_size input)) (Some rest) out
+Writes (Encode width height space) input out = (h : Header) × (image_header input width height ≡ Ok h)
+    × IsFileOf (record h { colorspace = space }) input out
+Writes Info input out = (h : Header) × (header_of input ≡ Ok h) × (out ≡ header_line h)
 
 -- why the library refuses an input
 abbrev pub Refuses : Command → List ℕ → Error → Type 0
 Refuses Decode input e = RefusesWholeFile input e
+Refuses (DecodeInto channels) input e = RefusesWholeFile input e
+Refuses (Encode width height space) input e = image_header input width height ≡ Err e
+Refuses Info input e = header_of input ≡ Err e
 
--- all input was read, and what the words ask for was written
+-- why a command stops before its answer is known: `info` takes no memory, and fewer bytes than a header has
+abbrev pub StopsEarly : Command → Option (List ℕ) → Option (List ℕ) → Error → Type 0
+StopsEarly Decode old new e = IsOutside e
+StopsEarly (DecodeInto channels) old new e = IsOutside e
+StopsEarly (Encode w h space) old new e = IsOutside e
+StopsEarly Info old new e = IsIoError e × TakesFewer header_size old new
+
+-- the input was taken, and what the command answers was written
+abbrev pub Does : Command → Option (List ℕ) → Option (List ℕ) → Option (List ℕ) → Option (List ℕ) → Type 0
+Does command in_old in_new out_old out_new =
+    (input : List ℕ) × (out : List ℕ) × Takes command in_old in_new input × Writes command input out × Appends out_old out_new out
+
+-- what the words ask for was done
 abbrev pub Finishes : List (List ℕ) → Option (List ℕ) → Option (List ℕ) → Option (List ℕ) → Option (List ℕ) → Type 0
-Finishes words in_old in_new out_old out_new =
-    (command : Command) × (input : List ℕ) × (out : List ℕ) × Asks words command × TakesAll in_old in_new input × Writes command input out × Appends out_old out_new out
+Finishes words in_old in_new out_old out_new = (command : Command) × Asks words command × Does command in_old in_new out_old out_new
 
--- All input was read and the library refused it, and nothing was written; or reading stopped by a fault or by
--- want of memory, and nothing was written; or writing stopped by a fault, and a beginning of the answer was written.
+-- The input was taken and the library refused it, and nothing was written; or the command stopped by a fault of the
+-- input or by want of memory, and nothing was written; or writing stopped by a fault, and a beginning of the answer
+-- was written.
 abbrev pub Stops : Command → Option (List ℕ) → Option (List ℕ) → Option (List ℕ) → Option (List ℕ) → Error → Type 0
 Stops command in_old in_new out_old out_new e =
-    ((input : List ℕ) × TakesAll in_old in_new input × Refuses command input e × Keeps out_old out_new)
-    ⊎ ((IsOutside e × Keeps out_old out_new)
-      ⊎ (IsIoError e × ((input : List ℕ) × (out : List ℕ) × TakesAll in_old in_new input × Writes command input out × WritesBeginning out_old out_new out)))
+    ((input : List ℕ) × Takes command in_old in_new input × Refuses command input e × Keeps out_old out_new)
+    ⊎ ((StopsEarly command in_old in_new e × Keeps out_old out_new)
+      ⊎ (IsIoError e × ((input : List ℕ) × (out : List ℕ) × Takes command in_old in_new input × Writes command input out × WritesBeginning out_old out_new out)))
 
 -- what a fault says
 abbrev pub StopsAt : List (List ℕ) → Option (List ℕ) → Option (List ℕ) → Option (List ℕ) → Option (List ℕ) → Fault → Type 0

@@ -1,5 +1,5 @@
 -- What reading all of an input and writing to an output do to the bytes that are known.
-use Rattle.std.specs.Prelude.{◌≡◌, ℕ, List, ◌++◌, Option}
+use Rattle.std.specs.Prelude.{◌≡◌, ℕ, ◌<◌, List, ◌++◌, length, Option}
 use Rattle.std.specs.Io.KnownBytes.{Appends, Consumes, IsAtEnd}
 use Rattle.qoi.specs.declared.error.Error.{Error}
 use Rattle.qoi.specs.declared.error.Error.TheVariants.{IoError, OutOfMemory}
@@ -7,6 +7,14 @@ use Rattle.qoi.specs.declared.error.Error.TheVariants.{IoError, OutOfMemory}
 -- these bytes were taken, and none is left
 abbrev pub TakesAll : Option (List ℕ) → Option (List ℕ) → List ℕ → Type 0
 TakesAll old new bytes = Consumes old new bytes × IsAtEnd new
+
+-- these bytes were taken, so many
+abbrev pub TakesCount : ℕ → Option (List ℕ) → Option (List ℕ) → List ℕ → Type 0
+TakesCount count old new bytes = Consumes old new bytes × (length bytes ≡ count)
+
+-- fewer bytes were taken
+abbrev pub TakesFewer : ℕ → Option (List ℕ) → Option (List ℕ) → Type 0
+TakesFewer count old new = (taken : List ℕ) × Consumes old new taken × (length taken < count)
 
 -- a beginning of the bytes was written
 abbrev pub WritesBeginning : Option (List ℕ) → Option (List ℕ) → List ℕ → Type 0

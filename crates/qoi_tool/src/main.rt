@@ -1,27 +1,31 @@
-//! Raw pixels of a QOI file, on standard output.
+//! Decodes QOI files into raw bytes, encodes raw bytes into QOI files, and tells what the header of a
+//! file says: from standard input to standard output.
 #![tactic(auto)]
 
 mod command;
+mod line;
 mod transfer;
 
 ghost use Rattle.std.specs.Prelude.{◌≡◌, ℕ, List, OnOk, IfErr, Err, map};
 ghost use Rattle.std.specs.String.{string_bytes};
 ghost use Rattle.qoi_tool.specs.declared.Fault.{Fault};
-ghost use Rattle.qoi_tool.specs.declared.command.Command.TheVariants.{Decode};
+ghost use Rattle.qoi_tool.specs.declared.command.Command.TheVariants.{Decode, DecodeInto, Encode, Info};
 ghost use Rattle.qoi_tool.specs.Words.{IsUsage};
 ghost use Rattle.qoi_tool.specs.Faults.{status_of};
-ghost use Rattle.qoi_tool.specs.Transfers.{TakesAll};
-ghost use Rattle.qoi_tool.specs.Answers.{Finishes, StopsAt, Stops, Writes};
-ghost use Rattle.std.specs.Io.KnownBytes.{Appends};
+ghost use Rattle.qoi_tool.specs.Answers.{Finishes, StopsAt, Stops, Does};
 
 use crate::command::{Command, command_of};
-use crate::transfer::{read_all, write_whole};
-use qoi::{Error, decode_to_vec};
+use crate::line::write_line;
+use crate::transfer::{read_all, read_exactly, write_whole};
+use qoi::{Channels, ColorSpace, Decoder, Encoder, Error, decode_header, decode_to_vec};
 use std::alloc::Global;
 use std::env;
 use std::io;
 use std::io::{ErrorKind, Read, Write};
 use std::process::ExitCode;
+
+// How many bytes a header has.
+const HEADER_SIZE: usize = 14;
 
 /// Why the program ends without having done its work.
 #[derive(Debug, Drop)]
@@ -65,6 +69,11 @@ pub fn run<R: Read, W: Write>(
     };
     match command {
         Command::Decode => decode(alloc, input, output)?,
+        Command::DecodeInto(channels) => decode_into(alloc, channels, input, output)?,
+        Command::Encode(width, height, colorspace) => {
+            encode(alloc, width, height, colorspace, input, output)?;
+        }
+        Command::Info => info(input, output)?,
     }
     Ok(())
 }
@@ -75,14 +84,65 @@ fn decode<R: Read, W: Write>(
     input: &mut R,
     output: &mut W,
 ) -> Result<(), Error>
-    ensures done { OnOk result ((bytes : List ℕ) × (out : List ℕ) × TakesAll (R.remaining input.old) (R.remaining input.new) bytes
-        × Writes Decode bytes out × Appends (W.contents output.old) (W.contents output.new) out) }
+    ensures done { OnOk result (Does Decode
+        (R.remaining input.old) (R.remaining input.new) (W.contents output.old) (W.contents output.new)) }
     ensures refused { IfErr result (Stops Decode
         (R.remaining input.old) (R.remaining input.new) (W.contents output.old) (W.contents output.new)) }
 {
     let file = read_all(alloc, input)?;
     let (_, pixels) = decode_to_vec(alloc, &file)?;
     write_whole(output, &pixels)
+}
+
+// Reads a file, and writes its raw bytes in these channels.
+fn decode_into<R: Read, W: Write>(
+    alloc: Global,
+    channels: Channels,
+    input: &mut R,
+    output: &mut W,
+) -> Result<(), Error>
+    ensures done { OnOk result (Does (DecodeInto channels)
+        (R.remaining input.old) (R.remaining input.new) (W.contents output.old) (W.contents output.new)) }
+    ensures refused { IfErr result (Stops (DecodeInto channels)
+        (R.remaining input.old) (R.remaining input.new) (W.contents output.old) (W.contents output.new)) }
+{
+    let file = read_all(alloc, input)?;
+    let mut decoder = Decoder::new(&file)?.with_channels(channels);
+    let pixels = decoder.decode_to_vec(alloc)?;
+    write_whole(output, &pixels)
+}
+
+// Reads the raw bytes of an image, and writes its file.
+fn encode<R: Read, W: Write>(
+    alloc: Global,
+    width: u32,
+    height: u32,
+    colorspace: ColorSpace,
+    input: &mut R,
+    output: &mut W,
+) -> Result<(), Error>
+    ensures done { OnOk result (Does (Encode width height colorspace)
+        (R.remaining input.old) (R.remaining input.new) (W.contents output.old) (W.contents output.new)) }
+    ensures refused { IfErr result (Stops (Encode width height colorspace)
+        (R.remaining input.old) (R.remaining input.new) (W.contents output.old) (W.contents output.new)) }
+{
+    let pixels = read_all(alloc, input)?;
+    let encoder = Encoder::new(&pixels, width, height)?.with_colorspace(colorspace);
+    encoder.encode_to_stream(output)?;
+    Ok(())
+}
+
+// Reads a header and no byte past it, and writes a line of what it says. It takes no memory.
+fn info<R: Read, W: Write>(input: &mut R, output: &mut W) -> Result<(), Error>
+    ensures done { OnOk result (Does Info
+        (R.remaining input.old) (R.remaining input.new) (W.contents output.old) (W.contents output.new)) }
+    ensures refused { IfErr result (Stops Info
+        (R.remaining input.old) (R.remaining input.new) (W.contents output.old) (W.contents output.new)) }
+{
+    let mut bytes = [0; HEADER_SIZE];
+    read_exactly(input, &mut bytes)?;
+    let header = decode_header(&bytes)?;
+    write_line(output, &header)
 }
 
 /// Writes the line of a fault, and answers the status of the program: 1 for `Image`, 2 for `Usage`.

@@ -20,13 +20,55 @@ const ONE_RGB_PIXEL: [u8; 26] = [
 
 const ONE_RGB_PIXEL_BYTES: [u8; 3] = [0x0b, 0x79, 0xe7];
 
+// The file of (101,102,103,104), (1,2,3,4) and the first pixel again, in four channels.
+const PLACE_RGBA: [u8; 33] = [
+    0x71, 0x6f, 0x69, 0x66, 0, 0, 0, 3, 0, 0, 0, 1, 4, 0, 0xff, 0x65, 0x66, 0x67, 0x68, 0xff, 1, 2,
+    3, 4, 0x36, 0, 0, 0, 0, 0, 0, 0, 1,
+];
+
+// A header of 20,000 by 20,000 pixels in four channels, linear.
+const GREAT_HEADER: [u8; 14] = [
+    0x71, 0x6f, 0x69, 0x66, 0, 0, 0x4e, 0x20, 0, 0, 0x4e, 0x20, 4, 1,
+];
+
+// The words of a call.
+fn given(alloc: Global, words: &[&str]) -> Result<Vec<String>, Error> {
+    let mut given = Vec::new(alloc);
+    for word in words {
+        given.push(String::from_str(alloc, word)?)?;
+    }
+    Ok(given)
+}
+
+// What the program answers.
+fn answer(
+    alloc: Global,
+    words: &[&str],
+    input: &mut Source<'_>,
+    output: &mut Sink,
+) -> Result<(), Fault> {
+    let words = given(alloc, words)?;
+    run(alloc, &words, input, output)
+}
+
+// Compares what the program writes for the bytes of its input.
+fn assert_writes(
+    rt: &impl Abort,
+    alloc: Global,
+    words: &[&str],
+    bytes: &[u8],
+    wanted: &[u8],
+) -> Result<(), Error> {
+    let mut input = Source::new(bytes, usize::MAX, NONE);
+    let mut output = Sink::new(alloc, usize::MAX, NONE)?;
+    assert!(rt; answer(alloc, words, &mut input, &mut output).is_ok());
+    assert_eq!(rt; output.got.as_slice(), wanted);
+    Ok(())
+}
+
 // What `dec` answers.
 fn dec(alloc: Global, input: &mut Source<'_>, output: &mut Sink) -> Result<(), Fault> {
-    let dec = match String::from_str(alloc, "dec") {
-        Ok(dec) => dec,
-        Err(error) => return Err(Fault::Image(Error::from(error))),
-    };
-    run(alloc, &[dec], input, output)
+    answer(alloc, &["dec"], input, output)
 }
 
 // Whether the answer is a fault of this kind.
@@ -81,12 +123,23 @@ fn the_program(rt: HostRuntime) -> Result<(), Fail> {
 #[test]
 fn other_words(rt: HostRuntime) -> Result<(), Fail> {
     let alloc = rt.alloc();
-    let words: [&[&str]; 5] = [&[], &["de"], &["decode"], &["dec", "rgbx"], &["dec", ""]];
+    let words: [&[&str]; 13] = [
+        &[],
+        &["de"],
+        &["decode"],
+        &["dec", "rgbx"],
+        &["dec", ""],
+        &["info", "rgb"],
+        &["enc", "1"],
+        &["enc", "+1", "1"],
+        &["enc", "1", "4294967296"],
+        &["enc", "4294967296", "1"],
+        &["enc", "", "1"],
+        &["enc", "1", "1", "srgb"],
+        &["enc", "1", "1", "linear", "linear"],
+    ];
     for some in words {
-        let mut given = Vec::new(alloc);
-        for word in some {
-            given.push(String::from_str(alloc, word)?)?;
-        }
+        let given = given(alloc, some)?;
         let mut input = Source::new(&ONE_RGB_PIXEL, usize::MAX, NONE);
         let mut output = Sink::new(alloc, usize::MAX, NONE)?;
         let answer = run(alloc, &given, &mut input, &mut output);
@@ -95,6 +148,67 @@ fn other_words(rt: HostRuntime) -> Result<(), Fail> {
         assert!(rt; output.got.is_empty());
         assert_reports(&rt, alloc, answer, 2, USAGE)?;
     }
+    Ok(())
+}
+
+#[test]
+fn chosen_channels(rt: HostRuntime) -> Result<(), Fail> {
+    let alloc = rt.alloc();
+    let rgba = [0x0b, 0x79, 0xe7, 0xff];
+    assert_writes(&rt, alloc, &["dec", "rgba"], &ONE_RGB_PIXEL, &rgba)?;
+    let rgb = [0x65, 0x66, 0x67, 1, 2, 3, 0x65, 0x66, 0x67];
+    assert_writes(&rt, alloc, &["dec", "rgb"], &PLACE_RGBA, &rgb)?;
+    Ok(())
+}
+
+#[test]
+fn encoding(rt: HostRuntime) -> Result<(), Fail> {
+    let alloc = rt.alloc();
+    let bytes = ONE_RGB_PIXEL_BYTES;
+    assert_writes(&rt, alloc, &["enc", "1", "1"], &bytes, &ONE_RGB_PIXEL)?;
+    assert_writes(&rt, alloc, &["enc", "01", "1"], &bytes, &ONE_RGB_PIXEL)?;
+    let mut linear = ONE_RGB_PIXEL;
+    linear[13] = 1;
+    assert_writes(&rt, alloc, &["enc", "1", "1", "linear"], &bytes, &linear)?;
+    Ok(())
+}
+
+#[test]
+fn refused_images(rt: HostRuntime) -> Result<(), Fail> {
+    let alloc = rt.alloc();
+    let mut input = Source::new(&[], usize::MAX, NONE);
+    let mut output = Sink::new(alloc, usize::MAX, NONE)?;
+    let wide = answer(alloc, &["enc", "4294967295", "1"], &mut input, &mut output);
+    let line = "qoi_tool: invalid image dimensions: 4294967295x1\n";
+    assert_reports(&rt, alloc, wide, 1, line)?;
+    let mut input = Source::new(&[1, 2, 3, 4, 5], usize::MAX, NONE);
+    let five = answer(alloc, &["enc", "1", "1"], &mut input, &mut output);
+    let line = "qoi_tool: invalid number of channels: 5\n";
+    assert_reports(&rt, alloc, five, 1, line)?;
+    assert!(rt; output.got.is_empty());
+    Ok(())
+}
+
+// The reader gives all that is asked for in a call, or a byte.
+#[test]
+fn header_lines(rt: HostRuntime) -> Result<(), Fail> {
+    let alloc = rt.alloc();
+    for most in [usize::MAX, 1] {
+        let mut input = Source::new(&ONE_RGB_PIXEL, most, NONE);
+        let mut output = Sink::new(alloc, usize::MAX, NONE)?;
+        assert!(rt; answer(alloc, &["info"], &mut input, &mut output).is_ok());
+        let line = b"1x1 channels 3 colorspace srgb\n";
+        assert_eq!(rt; output.got.as_slice(), line.as_slice());
+        assert_eq!(rt; input.left.len(), 12);
+
+        let mut input = Source::new(&ONE_RGB_PIXEL[..13], most, NONE);
+        let mut output = Sink::new(alloc, usize::MAX, NONE)?;
+        let cut = answer(alloc, &["info"], &mut input, &mut output);
+        assert!(rt; is_io(&cut, ErrorKind::UnexpectedEof));
+        assert!(rt; output.got.is_empty());
+    }
+    let line = b"20000x20000 channels 4 colorspace linear\n";
+    assert_writes(&rt, alloc, &["info"], &GREAT_HEADER, line)?;
     Ok(())
 }
 
@@ -196,7 +310,10 @@ fn failing_writer(rt: HostRuntime) -> Result<(), Fail> {
 #[test]
 fn no_memory(rt: HostRuntime) -> Result<(), Fail> {
     let alloc = rt.alloc();
-    let words = [String::from_str(alloc, "dec")?];
+    let words = given(alloc, &["dec"])?;
+    let info = given(alloc, &["info"])?;
+    let mut header = Source::new(&ONE_RGB_PIXEL, usize::MAX, NONE);
+    let mut line = Sink::new(alloc, usize::MAX, NONE)?;
     let mut input = Source::new(&ONE_RGB_PIXEL, usize::MAX, NONE);
     let mut output = Sink::new(alloc, usize::MAX, NONE)?;
     let mut err = Sink::new(alloc, usize::MAX, NONE)?;
@@ -206,7 +323,11 @@ fn no_memory(rt: HostRuntime) -> Result<(), Fail> {
         Ok(()) => 0,
         Err(fault) => report(fault, &mut err),
     };
+    let told = run(alloc, &info, &mut header, &mut line);
     drop(held);
+    assert!(rt; told.is_ok());
+    let wanted = b"1x1 channels 3 colorspace srgb\n";
+    assert_eq!(rt; line.got.as_slice(), wanted.as_slice());
     assert!(rt; matches!(answer, Err(Fault::Image(Error::OutOfMemory))));
     assert!(rt; output.got.is_empty());
     assert_eq!(rt; status, 1);

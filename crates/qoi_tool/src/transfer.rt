@@ -1,7 +1,7 @@
-//! Reading all of an input, and writing all of an output.
-ghost use Rattle.std.specs.Prelude.{◌≡◌, ℕ, ◌+◌, ◌<◌, ◌≤◌, List, length, Option, Ok, OnOk, IfOk, IfErr, take};
-ghost use Rattle.std.specs.Io.KnownBytes.{Appends, Consumes, IsAtEnd};
-ghost use Rattle.qoi_tool.specs.Transfers.{TakesAll, WritesBeginning, IsIoError, IsOutside};
+//! Reading an input to its end or into a buffer, and writing all of an output.
+ghost use Rattle.std.specs.Prelude.{◌≡◌, ℕ, ◌+◌, ◌<◌, ◌≤◌, List, length, Option, Ok, OnOk, OnErr, IfOk, IfErr, take};
+ghost use Rattle.std.specs.Io.KnownBytes.{Appends, Consumes, IsAtEnd, Keeps};
+ghost use Rattle.qoi_tool.specs.Transfers.{TakesAll, TakesFewer, WritesBeginning, IsIoError, IsOutside};
 
 use qoi::Error;
 use std::alloc::Global;
@@ -31,12 +31,36 @@ pub fn read_all<R: Read>(alloc: Global, input: &mut R) -> Result<Vec<u8>, Error>
     }
 }
 
+/// Fills the buffer, and reads no byte past it; an early end is an `IoError` of kind
+/// `UnexpectedEof`.
+pub fn read_exactly<R: Read>(input: &mut R, buf: &mut [u8]) -> Result<(), Error>
+    ensures read { OnOk result (Consumes (R.remaining input.old) (R.remaining input.new) buf.new) }
+    ensures failed { IfErr result (λ e. IsIoError e
+        × TakesFewer (length buf.old) (R.remaining input.old) (R.remaining input.new)) }
+    ensures size { length buf.new ≡ length buf.old }
+{
+    let mut filled = 0;
+    while filled < buf.len() {
+        let count = read_after(input, buf, filled)?;
+        if count == 0 {
+            return Err(Error::IoError(io::Error::new(
+                ErrorKind::UnexpectedEof,
+                "the input ended within a header",
+            )));
+        }
+        filled += count;
+    }
+    Ok(())
+}
+
 // Reads once into the buffer behind the bytes that are filled, and answers how many bytes came.
 fn read_after<R: Read>(input: &mut R, buf: &mut [u8], filled: usize) -> io::Result<usize>
     requires { filled ≤ length buf.old }
     ensures read { IfOk result (λ n. (filled + n ≤ length buf.new)
         × ((start : Option (List ℕ)) → Consumes start (R.remaining input.old) (take filled buf.old)
         → Consumes start (R.remaining input.new) (take (filled + n) buf.new))) }
+    ensures size { length buf.new ≡ length buf.old }
+    ensures failed { OnErr result (Keeps (R.remaining input.old) (R.remaining input.new)) }
     ensures ended { result ≡ Ok 0 → filled < length buf.old → IsAtEnd (R.remaining input.new) }
 {
     let count = input.read(&mut buf[filled..])?;

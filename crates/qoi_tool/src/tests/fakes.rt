@@ -43,7 +43,8 @@ fn ended(end: End) -> io::Result<usize>
 /// Gives its bytes, at most so many a call.
 #[derive(Drop)]
 pub struct Source<'a> {
-    left: &'a [u8],
+    /// The bytes that are left.
+    pub left: &'a [u8],
     most: usize,
     bad: Bad,
     /// How many calls there were.

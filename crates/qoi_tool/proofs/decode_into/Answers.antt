@@ -1,0 +1,31 @@
+-- What the decoder refuses is what the file is refused for.
+use Rattle.std.proofs.Common.{◌≡◌, ℕ, List, drop, Ok, sym, ap, ◌∙◌, subst, inl, inr, ⊎_elim}
+use Rattle.std.proofs.lemmas.Result.{err_from_is_err_and}
+use Rattle.std.proofs.KnownBytes.{Keeps-refl}
+use Rattle.qoi.specs.declared.error.Error.{Error}
+use Rattle.qoi.specs.declared.header.Header.{Header}
+use Rattle.qoi.specs.Headers.{header_of, pixel_count}
+use Rattle.qoi.specs.DecoderState.{DecoderState}
+use Rattle.qoi.specs.Decoding.{header_size, RefusesBytes, RefusesWholeFile}
+use Rattle.qoi_tool.specs.Transfers.{IsOutside}
+use Rattle.qoi_tool.proofs.decode_into.Goals as goal
+
+-- a file is refused for the bytes after its header
+refused_bytes : (input : List ℕ) (h k : Header) (bytes : List ℕ) (e : Error) → header_of input ≡ Ok h → k ≡ h → bytes ≡ drop header_size input → RefusesBytes (pixel_count k) bytes e → RefusesWholeFile input e
+refused_bytes input h k bytes e read same after r =
+    inr (h, read, subst (λ (z : Header). RefusesBytes (pixel_count z) (drop header_size input) e) same (subst (λ (z : List ℕ). RefusesBytes (pixel_count k) z e) after r))
+
+pub returns-in_err-pixels-clause-refused : goal.returns-in_err-pixels-clause-refused
+returns-in_err-pixels-clause-refused g c =
+    let p = err_from_is_err_and c.from_residual-in_err-pixels.result c.from_residual-in_err-pixels.ensures.1 in
+    let d = c.in_ok-new.field-0 in
+    let accepted = c.in_ok-new.ensures.accepted in
+    let chosen = c.with_channels-decoder.result in
+    let same = c.with_channels-decoder.ensures in
+    let read = subst (λ (z : List ℕ). header_of z ≡ Ok d.header) c.deref.ensures.value accepted.0 in
+    let after = ap (λ (z : DecoderState (List ℕ)). z.reader) same ∙ accepted.2 ∙ ap (drop header_size) c.deref.ensures.value in
+    let kept = Keeps-refl (g.W.Write.contents c.args.output.now) in
+    rw (p.1, p.2) (⊎_elim (λ none. inr (inl (subst IsOutside (sym none) tt, kept)))
+        (λ r. inl (c.in_ok-file.file.items, c.in_ok-file.ensures.read,
+            refused_bytes c.in_ok-file.file.items d.header chosen.header chosen.reader c.in_err-pixels.field-0.0 read (ap (λ (z : DecoderState (List ℕ)). z.header) same) after r.1, kept))
+        c.in_err-pixels.ensures.refused)
