@@ -57,7 +57,14 @@ fn line_of(header: &Header) -> io::Result<Line>
     let width = header.width;
     let height = header.height;
     let channels = header.channels.as_u8();
-    let space = if header.colorspace.is_linear() { "linear" } else { "srgb" };
-    writeln!(line, "{width}x{height} channels {channels} colorspace {space}")?;
+    let space = if header.colorspace.is_linear() {
+        "linear"
+    } else {
+        "srgb"
+    };
+    writeln!(
+        line,
+        "{width}x{height} channels {channels} colorspace {space}"
+    )?;
     Ok(line)
 }

@@ -19,6 +19,7 @@ returns-clause-read g c =
     let buf = c.args.buf.now in
     let piece = c.read.new.buf in
     let rest = post_of c.args.filled (length buf - c.args.filled) buf in
-    let bound = c.in_ok-count.ensures.bound.0 in
-    (omega (arith, bound, length-take-le c.args.filled buf c.requires, length-append (take c.args.filled buf) (piece ++ rest), length-append piece rest),
-     λ start before. rw (take-read c.args.filled c.in_ok-count.count (length buf - c.args.filled) buf piece c.requires bound) (Consumes-trans start _ _ _ _ before c.in_ok-count.ensures.bytes.0))
+    let bound = c.in_ok-count.ensures.bound.0 in (
+      omega (arith, bound, length-take-le c.args.filled buf c.requires, length-append (take c.args.filled buf) (piece ++ rest), length-append piece rest),
+      λ start before. rw (take-read c.args.filled c.in_ok-count.count (length buf - c.args.filled) buf piece c.requires bound) (Consumes-trans start _ _ _ _ before c.in_ok-count.ensures.bytes.0),
+    )
