@@ -1,16 +1,16 @@
 -- The table of an encoder, and the chunk that is chosen by it.
-use Rattle.std.proofs.Common.{◌≡◌, ◌≢◌, ℕ, zero, suc, ◌+◌, ◌<◌, ◌≤◌, Bool, true, false, cond, eqb, List, [], ◌∷◌, ◌++◌, length, get_or, take, slice_set, replicate, inl, inr, refl, sym, ap, ◌∙◌, subst, arith, get_or-set_same, get_or-set_other}
+use Rattle.std.proofs.Common.{◌≡◌, ◌≢◌, ℕ, zero, suc, ◌<◌, Bool, true, false, cond, eqb, List, [], ◌∷◌, ◌++◌, length, get_or, take, slice_set, replicate, inl, inr, refl, sym, ap, ◌∙◌, arith, get_or-set_same, get_or-set_other}
 use Rattle.std.proofs.lemmas.List.{length-set, length-replicate, get_or-replicate}
 use Rattle.std.proofs.lemmas.Bool.{eqb-true, eqb-false}
 use Rattle.qoi.specs.declared.parts.Chunk.{Chunk}
 use Rattle.qoi.specs.declared.parts.Chunk.TheVariants.{Place, Run}
-use Rattle.qoi.specs.Pixels.{RgbaPixel, Past, IsPixel, rgba, previous, hash, start, blank, pixel}
+use Rattle.qoi.specs.Pixels.{RgbaPixel, Past, rgba, previous, hash, start, blank, pixel}
 use Rattle.qoi.specs.Chunks.{bytes_of, text}
 use Rattle.qoi.specs.Output.{IsChannels}
-use Rattle.qoi.specs.Written.{noted, IsFirst, IsChoice}
+use Rattle.qoi.specs.Written.{IsFirst, IsChoice}
 use Rattle.qoi.specs.CoderState.{HasNoted, HasCoded, waiting_run}
 use Rattle.qoi.proofs.SeenTable.{hash_below}
-use Rattle.qoi.proofs.TableNotes.{Notes, notes_none, notes_repeat, notes_fresh, notes_same, choice_place, choice_spelled}
+use Rattle.qoi.proofs.TableNotes.{Notes, notes_repeat, notes_fresh, notes_same, choice_place, choice_spelled}
 
 -- a pixel's bytes are its colors and, where there are four, its alpha
 own_bytes : (n : ℕ) (xs : List ℕ) → IsChannels n → length xs ≡ n → xs ≡ take n ((rgba xs).r ∷ (rgba xs).g ∷ (rgba xs).b ∷ (rgba xs).a ∷ [])

@@ -5,8 +5,8 @@ use Rattle.std.specs.List.{AllByRecursion}
 use Rattle.qoi.specs.declared.parts.Chunk.{Chunk}
 use Rattle.qoi.specs.declared.parts.Chunk.TheVariants.{Place, Diff, Luma, Run, Rgb, Rgba}
 use Rattle.qoi.specs.Pixels.{RgbaPixel, Past, previous, hash}
-use Rattle.qoi.specs.Chunks.{IsChunk, AreChunks, pixel_of, then_chunk}
-use Rattle.qoi.specs.Meaning.{then_chunks, Each}
+use Rattle.qoi.specs.Chunks.{IsChunk, pixel_of, then_chunk}
+use Rattle.qoi.specs.Meaning.{then_chunks}
 use Rattle.qoi.specs.Coding.{Coding, Coded}
 use Rattle.qoi.specs.Written.{rank, noted, IsChoice, IsRightAfter, IsFull, RunsAreFull, WrittenBy}
 use Rattle.qoi.proofs.SamePixels.{cases_pixel}

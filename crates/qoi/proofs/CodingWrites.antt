@@ -1,11 +1,11 @@
 -- An encoder that writes: each write is the next part of what is still to be written.
-use Rattle.std.proofs.Common.{◌≡◌, ◌≢◌, ℕ, zero, suc, ◌<◌, List, [], ◌∷◌, ◌++◌, length, reverse, refl, sym, ap, ◌∙◌, subst, append_assoc, arith, Result, Ok, Err, OnErr}
+use Rattle.std.proofs.Common.{◌≡◌, ◌≢◌, ℕ, zero, suc, ◌<◌, List, ◌∷◌, ◌++◌, reverse, refl, sym, ap, ◌∙◌, append_assoc, arith, Result, Ok, Err, OnErr}
 use Rattle.std.specs.List.{AllByRecursion}
 use Rattle.std.proofs.lemmas.List.{reverse-reverse}
 use Rattle.std.proofs.lemmas.Grind.{flat_map-append}
 use Rattle.qoi.specs.declared.parts.Chunk.{Chunk}
 use Rattle.qoi.specs.declared.parts.Chunk.TheVariants.{Run}
-use Rattle.qoi.specs.Pixels.{RgbaPixel, IsPixel, Past, rgba, previous}
+use Rattle.qoi.specs.Pixels.{RgbaPixel, IsPixel, Past, previous}
 use Rattle.qoi.specs.Chunks.{IsChunk, bytes_of, text}
 use Rattle.qoi.specs.Written.{IsChoice}
 use Rattle.qoi.specs.Writes.{WriterLaws, WroteBut, WroteSome}

@@ -5,12 +5,11 @@ use Rattle.std.proofs.Math.Nat.{mul_comm}
 use Rattle.std.proofs.lemmas.Bool.{eqb-true, eqb-false}
 use Rattle.qoi.specs.declared.parts.Chunk.{Chunk}
 use Rattle.qoi.specs.Bytes.{AreBytes}
-use Rattle.qoi.specs.Pixels.{RgbaPixel, IsPixel, Past, rgba, previous}
-use Rattle.qoi.specs.Chunks.{bytes_of, text}
+use Rattle.qoi.specs.Pixels.{RgbaPixel, IsPixel, Past, rgba}
+use Rattle.qoi.specs.Chunks.{text}
 use Rattle.qoi.specs.Output.{IsChannels}
 use Rattle.qoi.specs.Raw.{pixels_of}
-use Rattle.qoi.specs.Written.{Written}
-use Rattle.qoi.specs.Writes.{WriterLaws, WroteBut, WroteSome}
+use Rattle.qoi.specs.Writes.{WriterLaws, WroteSome}
 use Rattle.qoi.specs.CoderState.{HasCoded, waiting_run}
 use Rattle.qoi.specs.Coding.{ToWrite, IsCoding}
 use Rattle.qoi.proofs.FilledBuffer.{whole_pixels, pixel_room}

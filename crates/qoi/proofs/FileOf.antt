@@ -1,8 +1,6 @@
 -- The file of an image: what holds of it.
-use Rattle.std.proofs.Common.{◌≡◌, ◌≢◌, ℕ, ◌+◌, ◌*◌, ◌/◌, ◌%◌, ◌^◌, ◌<◌, ◌≤◌, inl, inr, List, [], ◌∷◌, ◌++◌, length, take, min, slice_set, ◌-◌, refl, sym, ap, ◌∙◌, subst, arith, append-nil, length-append}
-use Rattle.std.specs.List.{AllByRecursion}
+use Rattle.std.proofs.Common.{◌≡◌, ℕ, ◌+◌, ◌*◌, ◌^◌, ◌≤◌, List, [], ◌++◌, length, take, min, slice_set, ◌-◌, refl, sym, ap, ◌∙◌, subst, arith, append-nil, length-append}
 use Rattle.std.proofs.Math.Nat.{mul_comm}
-use Rattle.std.proofs.lemmas.List.{take-append-le}
 use Rattle.qoi.specs.declared.types.Channels.{Channels}
 use Rattle.qoi.specs.declared.types.Channels.TheVariants.{Rgb, Rgba}
 use Rattle.qoi.specs.declared.types.ColorSpace.{ColorSpace}
@@ -12,15 +10,13 @@ use Rattle.qoi.specs.Types.{channels_number, colorspace_number}
 use Rattle.qoi.specs.Headers.{head, pixel_count, IsValid}
 use Rattle.qoi.specs.Bytes.{AreBytes}
 use Rattle.qoi.specs.Chunks.{text}
-use Rattle.qoi.specs.Meaning.{Reaches, meaning}
-use Rattle.qoi.specs.Files.{file, file_pixels, end_marker, IsFile}
+use Rattle.qoi.specs.Meaning.{Reaches}
+use Rattle.qoi.specs.Files.{file, end_marker, IsFile}
 use Rattle.qoi.specs.Output.{IsChannels, output}
 use Rattle.qoi.specs.Raw.{HasChannels}
 use Rattle.qoi.specs.Written.{IsChoice, Written}
-use Rattle.qoi.specs.Regular.{Regular, Begins}
-use Rattle.qoi.specs.Shortest.{floor, slack}
 use Rattle.qoi.specs.Decoding.{file_byte_count, DecodesFile}
-use Rattle.qoi.specs.Encoded.{max_len, max_file_len, image_pixels, IsEncoded, Spans, IsNearShortest, IsFileOf}
+use Rattle.qoi.specs.Encoded.{max_file_len, image_pixels, IsNearShortest, IsFileOf}
 use Rattle.qoi.proofs.FilledBuffer.{take_whole}
 use Rattle.qoi.proofs.ImageSize.{channels_are}
 use Rattle.qoi.proofs.OneFile.{file_has_header, file_is_whole}

@@ -1,9 +1,9 @@
 -- One pixel that is written in full, in three channels and in four.
-use Rattle.std.proofs.Common.{◌≡◌, ◌≢◌, [], ◌∷◌, refl, ap, arith}
+use Rattle.std.proofs.Common.{[], ◌∷◌, refl, arith}
 use Rattle.qoi.specs.declared.parts.Chunk.TheVariants.{Rgb, Rgba}
 use Rattle.qoi.specs.Pixels.{pixel, pixel_eq, start, blank, hash}
 use Rattle.qoi.specs.Written.{Written}
-use Rattle.qoi.proofs.SlackReached.{chosen_rgb, chosen_rgba, red_differs, alpha_differs}
+use Rattle.qoi.proofs.SlackReached.{chosen_rgb, chosen_rgba, red_differs}
 
 -- a far color is written as an RGB
 pub one_rgb : Written (pixel 11 121 231 255 ∷ []) (Rgb 11 121 231 ∷ [])

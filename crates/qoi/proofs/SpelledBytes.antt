@@ -1,9 +1,9 @@
 -- The first chunk that spells a pixel out, from the differences that the encoder computes.
-use Rattle.std.proofs.Common.{◌≡◌, ◌≢◌, ℕ, ◌+◌, ◌-◌, ◌*◌, ◌%◌, ◌<◌, ◌≤◌, refl, sym, ap, ◌∙◌, subst, arith}
-use Rattle.qoi.specs.declared.parts.Chunk.TheVariants.{Diff, Luma, Rgb, Rgba}
+use Rattle.std.proofs.Common.{◌≡◌, ℕ, ◌+◌, ◌-◌, ◌*◌, ◌%◌, ◌<◌, arith}
+use Rattle.qoi.specs.declared.parts.Chunk.TheVariants.{Diff, Luma, Rgb}
 use Rattle.qoi.specs.Pixels.{RgbaPixel, IsPixel, Past, previous}
 use Rattle.qoi.specs.Written.{IsFirst}
-use Rattle.qoi.proofs.Spelled.{plus_2, plus_32, plus_8, FitsDiff, FitsLuma, first_diff, first_luma, first_rgb, first_rgba}
+use Rattle.qoi.proofs.Spelled.{plus_2, plus_32, plus_8, FitsDiff, first_diff, first_luma, first_rgb}
 
 -- the colors of a pixel and of the pixel before it
 pub record Colors (q p : RgbaPixel) (r1 g1 b1 r0 g0 b0 : ℕ) : Type 0 where

@@ -1,5 +1,5 @@
 -- What was read from a stream, piece after piece.
-use Rattle.std.proofs.Common.{◌≡◌, ◌≢◌, ℕ, zero, suc, ◌+◌, ◌-◌, ◌<◌, ◌≤◌, inl, inr, List, [], ◌∷◌, ◌++◌, length, take, get_or, Option, Result, IfErr, arith, refl, sym, ap, ◌∙◌, subst, append_assoc, append-nil, length-append}
+use Rattle.std.proofs.Common.{◌≡◌, ℕ, zero, suc, ◌+◌, ◌<◌, ◌≤◌, inl, inr, List, [], ◌∷◌, ◌++◌, length, take, get_or, Option, Result, IfErr, arith, refl, sym, ap, ◌∙◌, append-nil}
 use Rattle.std.proofs.lemmas.List.{take-append-le, length-take-le}
 use Rattle.std.proofs.Math.Seq.{take-append-add}
 use Rattle.std.specs.Io.KnownBytes.{Consumes}
@@ -11,9 +11,8 @@ use Rattle.qoi.specs.declared.error.Error.TheVariants.{InvalidMagic, InvalidChan
 use Rattle.qoi.specs.declared.parts.Chunk.{Chunk}
 use Rattle.qoi.specs.Bytes.{AreBytes}
 use Rattle.qoi.specs.Chunks.{AreChunks, text}
-use Rattle.qoi.specs.Meaning.{Reaches, meaning}
-use Rattle.qoi.specs.Files.{end_marker}
-use Rattle.qoi.specs.Verdicts.{IsPartOfChunk, Takes, IsCut, IsWrong}
+use Rattle.qoi.specs.Meaning.{Reaches}
+use Rattle.qoi.specs.Verdicts.{IsPartOfChunk}
 use Rattle.qoi.specs.Decoding.{EndsInChunk, StreamsPixels, HasCut, RefusesTaken, RefusesTakenMarker}
 use Rattle.qoi.proofs.PartOfChunk.{part_luma, part_rgb, part_rgba}
 

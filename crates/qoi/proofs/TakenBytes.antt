@@ -4,7 +4,7 @@ use Rattle.std.proofs.lemmas.List.{length-replicate}
 use Rattle.qoi.specs.declared.parts.Chunk.{Chunk}
 use Rattle.qoi.specs.declared.parts.Chunk.TheVariants.{Place, Diff, Luma, Run, Rgb, Rgba}
 use Rattle.qoi.specs.Pixels.{Past}
-use Rattle.qoi.specs.Chunks.{IsChunk, AreChunks, bytes_of, text, times, pixel_of, then_chunk}
+use Rattle.qoi.specs.Chunks.{AreChunks, bytes_of, text, times, pixel_of, then_chunk}
 use Rattle.qoi.specs.Meaning.{Reaches, StayBelow, meaning, then_chunks}
 use Rattle.qoi.proofs.Appended.{length-meaning}
 use Rattle.qoi.proofs.OneVerdict.{StayBelowAfter}

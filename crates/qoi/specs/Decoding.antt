@@ -1,5 +1,5 @@
 -- What decoding an image answers and takes, and what its refusals say.
-use Rattle.std.specs.Prelude.{◌≡◌, ◌≢◌, ℕ, ◌*◌, ◌<◌, ◌≤◌, ◌⊎◌, List, [], ◌∷◌, ◌++◌, length, take, drop, Bool, true, false, Option, Some, Result, Ok, Err, IfSome}
+use Rattle.std.specs.Prelude.{◌≡◌, ◌≢◌, ℕ, ◌*◌, ◌<◌, ◌≤◌, ◌⊎◌, List, [], ◌++◌, length, take, drop, Bool, true, false, Option, Result, Ok, Err, IfSome}
 use Rattle.std.specs.Io.KnownBytes.{Consumes, Keeps}
 use Rattle.qoi.specs.declared.error.Error.{Error}
 use Rattle.qoi.specs.declared.error.Error.TheVariants.{OutputBufferTooSmall, UnexpectedBufferEnd, InvalidPadding, IoError}
@@ -9,7 +9,7 @@ use Rattle.qoi.specs.Chunks.{AreChunks, text}
 use Rattle.qoi.specs.Meaning.{Reaches, meaning}
 use Rattle.qoi.specs.Files.{end_marker, file_pixels}
 use Rattle.qoi.specs.Types.{channels_number}
-use Rattle.qoi.specs.Headers.{head, header_of, pixel_count}
+use Rattle.qoi.specs.Headers.{header_of, pixel_count}
 use Rattle.qoi.specs.Output.{output}
 use Rattle.qoi.specs.Verdicts.{IsPartOfChunk, Takes, IsWhole, IsCut, IsWrong}
 

@@ -1,6 +1,6 @@
 -- A buffer that is filled with pixels, and the state of a decoder between two chunks.
 use Rattle.std.specs.Prelude.{◌≡◌, ℕ, ◌*◌, ◌<◌, List, [], length, take, reverse, min, slice_index_or}
-use Rattle.qoi.specs.Pixels.{RgbaPixel, Past, rgba, previous, seen}
+use Rattle.qoi.specs.Pixels.{Past, rgba, previous, seen}
 use Rattle.qoi.specs.Output.{output}
 
 -- The first `at` bytes of the buffer are those of the pixels so far, as far as they fit n pixels.

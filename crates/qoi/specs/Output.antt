@@ -1,7 +1,7 @@
 -- Raw bytes of pixels: what a decoder gives and what an encoder is given.
 use Rattle.std.specs.Prelude.{ℕ, List, [], ◌∷◌, ◌⊎◌, ◌≡◌, ◌==◌, if◌then◌else◌}
 use Rattle.std.specs.List.{flat_map}
-use Rattle.qoi.specs.Pixels.{RgbaPixel, pixel}
+use Rattle.qoi.specs.Pixels.{RgbaPixel}
 
 -- a number of channels that the format has
 abbrev pub IsChannels : ℕ → Type 0

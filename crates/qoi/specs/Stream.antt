@@ -1,8 +1,8 @@
 -- A writer of the standard library, behind a reference.
 use base.Fml.{GName}
-use Rattle.std.specs.Prelude.{◌≡◌, ℕ, ◌+◌, List, [], ◌++◌, length, Option}
+use Rattle.std.specs.Prelude.{◌≡◌, ℕ, ◌+◌, List, length, Option}
 use Rattle.std.specs.Io.KnownBytes.{Appends}
-use Rattle.std.proofs.Common.{refl, sym, ap, ◌∙◌, arith, length-append}
+use Rattle.std.proofs.Common.{refl, ◌∙◌, arith, length-append}
 use Rattle.std.proofs.KnownBytes.{Appends-nil, Appends-trans}
 use Rattle.qoi.specs.Writes.{WriterLaws}
 use Rattle.qoi.specs.declared.utils.GenericWriter.{GenericWriter}

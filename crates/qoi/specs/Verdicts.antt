@@ -1,9 +1,9 @@
 -- The verdict on the bytes after a header, for an image of n pixels: exactly one of whole, cut and wrong
 -- (QOI specification 1.0, "File Format" and "Data").
-use Rattle.std.specs.Prelude.{◌≡◌, ◌≢◌, ℕ, ◌<◌, ◌≤◌, ◌⊎◌, List, [], ◌∷◌, ◌++◌, length}
+use Rattle.std.specs.Prelude.{◌≡◌, ◌≢◌, ℕ, ◌<◌, ◌≤◌, ◌⊎◌, List, ◌∷◌, ◌++◌, length}
 use Rattle.qoi.specs.declared.parts.Chunk.{Chunk}
 use Rattle.qoi.specs.Chunks.{IsChunk, AreChunks, bytes_of, text}
-use Rattle.qoi.specs.Meaning.{Reaches, StayBelow, meaning}
+use Rattle.qoi.specs.Meaning.{StayBelow, meaning}
 use Rattle.qoi.specs.Files.{end_marker}
 
 -- a beginning of a chunk's bytes, at least one byte short of the whole; it may be empty

@@ -1,6 +1,5 @@
 -- A whole file is not refused.
-use Rattle.std.proofs.Common.{◌≡◌, ◌≤◌, ◌*◌, length, drop, Some, IsOk, false, true, refl, ap, sym, ◌∙◌, subst}
-use Rattle.qoi.specs.declared.header.Header.{Header}
+use Rattle.std.proofs.Common.{◌≡◌, ◌≤◌, length, drop, Some, IsOk, false, true, refl, ap, sym, ◌∙◌, subst}
 use Rattle.qoi.specs.Types.{channels_number}
 use Rattle.qoi.specs.Headers.{pixel_count}
 use Rattle.qoi.specs.Verdicts.{IsWhole}

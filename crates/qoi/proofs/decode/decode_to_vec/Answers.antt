@@ -1,7 +1,6 @@
 -- What the decoder refuses is what the file is refused for.
-use Rattle.std.proofs.Common.{◌≡◌, List, ℕ, drop, Ok, Some, refl, ap, sym, ◌∙◌, subst, inl, inr, ⊎_elim}
+use Rattle.std.proofs.Common.{◌≡◌, drop, Some, refl, ap, subst, inl, inr, ⊎_elim}
 use Rattle.std.proofs.lemmas.Result.{err_from_is_err_and}
-use Rattle.qoi.specs.declared.header.Header.{Header}
 use Rattle.qoi.specs.Headers.{pixel_count}
 use Rattle.qoi.specs.Verdicts.{IsWhole}
 use Rattle.qoi.specs.Decoding.{header_size, RefusesBytes}

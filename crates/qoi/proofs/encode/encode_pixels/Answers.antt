@@ -1,12 +1,8 @@
 -- Pixel by pixel, and at the end the run that waits.
-use Rattle.std.proofs.Common.{◌≡◌, ◌≢◌, ◌+◌, ◌%◌, ◌<◌, ◌≤◌, ℕ, List, [], ◌++◌, length, take, drop, rules, false, true, refl, sym, ap, ◌∙◌, arith, take-append-drop}
+use Rattle.std.proofs.Common.{length, rules, ap, ◌∙◌, arith}
 use Rattle.std.proofs.lemmas.List.{length-take-le}
-use Rattle.std.proofs.lemmas.Bool.{eqb-true, eqb-false}
 use Rattle.std.proofs.lemmas.Result.{err_from_is_err_and}
-use Rattle.qoi.specs.Output.{IsChannels}
-use Rattle.qoi.proofs.FilledBuffer.{pixel_room, channels_above}
-use Rattle.qoi.proofs.CodingWrites.{on_err}
-use Rattle.qoi.proofs.EncodedPixels.{Encodes, encodes_none, room_is_left, next_ahead, whole_after, encodes_all, encodes_part, pixel_ahead, marker_room, none_left, split_is}
+use Rattle.qoi.proofs.EncodedPixels.{encodes_none, room_is_left, next_ahead, whole_after, encodes_all, encodes_part, pixel_ahead, marker_room, none_left, split_is}
 use Rattle.qoi.proofs.encode.encode_pixels.Goals as goal
 
 pub loop-rest-init : goal.loop-rest-init

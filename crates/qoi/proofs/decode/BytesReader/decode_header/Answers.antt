@@ -1,5 +1,5 @@
 -- The fourteen bytes at the front have the verdict of all the bytes.
-use Rattle.std.proofs.Common.{◌≡◌, ℕ, ◌-◌, List, Ok, ◌++◌, length, take, drop, arith, sym, ap, ◌∙◌, take-append-drop}
+use Rattle.std.proofs.Common.{◌≡◌, ◌-◌, Ok, ◌++◌, length, take, drop, sym, ap, ◌∙◌, take-append-drop}
 use Rattle.std.proofs.lemmas.List.{length-drop}
 use Rattle.qoi.proofs.FilledBuffer.{take_whole}
 use Rattle.qoi.specs.Headers.{header_of}

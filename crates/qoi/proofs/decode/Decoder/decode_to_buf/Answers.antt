@@ -1,8 +1,7 @@
 -- Whole bytes in memory are not refused.
-use Rattle.std.proofs.Common.{◌≡◌, ◌/◌, ◌≤◌, length, take, Some, ap, ◌∙◌, arith}
+use Rattle.std.proofs.Common.{◌≡◌, ◌/◌, ◌≤◌, length, take, ap, ◌∙◌, arith}
 use Rattle.qoi.specs.Types.{channels_number}
 use Rattle.qoi.specs.Headers.{pixel_count}
-use Rattle.qoi.specs.Decoding.{byte_count}
 use Rattle.qoi.proofs.ImageSize.{channels_are, image_pixels}
 use Rattle.qoi.proofs.Refusals.{whole_not_refused_in}
 use Rattle.qoi.proofs.decode.Decoder.decode_to_buf.Goals as goal

@@ -1,13 +1,11 @@
 -- A repeat waits or fills its run; before any other pixel's chunk the run that waits is written.
-use Rattle.std.proofs.Common.{◌≡◌, ◌≢◌, ◌⊎◌, inl, inr, ℕ, List, ◌∷◌, suc, ◌+◌, ◌<◌, length, false, true, refl, sym, ap, ◌∙◌, arith, add-one}
+use Rattle.std.proofs.Common.{◌≡◌, ◌≢◌, inl, inr, ℕ, List, ◌+◌, length, false, true, refl, sym, ap, ◌∙◌, arith, add-one}
 use Rattle.std.proofs.lemmas.Bool.{cases_lt}
 use Rattle.std.proofs.lemmas.Slice.Eq.{bytes_eq-Decides}
 use Rattle.std.specs.Str.{bytes_eq}
-use Rattle.qoi.specs.declared.parts.Chunk.{Chunk}
 use Rattle.qoi.specs.Output.{IsChannels}
 use Rattle.qoi.specs.Pixels.{Past, rgba, previous}
 use Rattle.qoi.specs.CoderState.{HasCoded}
-use Rattle.qoi.specs.Coding.{IsCoding}
 use Rattle.qoi.proofs.CoderTable.{rgba_same}
 use Rattle.qoi.proofs.CodingWrites.{pixels_are, repeat_waits, repeat_full, repeat_part, flush_part, chunk_written, chunk_part, on_err, coding_in}
 use Rattle.qoi.proofs.encode.Coder.put.Goals as goal

@@ -1,5 +1,5 @@
 -- The bytes stand behind those written before, and what is behind them stays.
-use Rattle.std.proofs.Common.{◌≡◌, ◌+◌, ◌-◌, ◌≤◌, ◌++◌, length, take, drop, rules, refl, sym, ap, ◌∙◌, arith, length-drop, drop-drop}
+use Rattle.std.proofs.Common.{◌≡◌, ◌+◌, ◌-◌, ◌≤◌, ◌++◌, length, take, rules, refl, sym, ap, ◌∙◌, arith, drop-drop}
 use Rattle.std.proofs.lemmas.Slice.{take-put_mid, drop-put_mid}
 use Rattle.qoi.proofs.utils.BytesMut.write_many.Goals as goal
 
