@@ -76,13 +76,17 @@ fn assert_images_come_back(
 #[test]
 fn images_of_three_channels_come_back(rt: HostRuntime) -> Result<(), Fail> {
     let mut numbers = Numbers::new(0x5eed);
-    assert_images_come_back(&rt, rt.alloc(), &mut numbers, Channels::Rgb, 400)?;
+    for most in [400, 40] {
+        assert_images_come_back(&rt, rt.alloc(), &mut numbers, Channels::Rgb, most)?;
+    }
     Ok(())
 }
 
 #[test]
 fn images_of_four_channels_come_back(rt: HostRuntime) -> Result<(), Fail> {
     let mut numbers = Numbers::new(0x5eed5);
-    assert_images_come_back(&rt, rt.alloc(), &mut numbers, Channels::Rgba, 400)?;
+    for most in [400, 40] {
+        assert_images_come_back(&rt, rt.alloc(), &mut numbers, Channels::Rgba, most)?;
+    }
     Ok(())
 }
