@@ -1,5 +1,5 @@
 -- The answer of the program to its words and to the bytes of its input.
-use Rattle.std.specs.Prelude.{◌≡◌, ℕ, ◌⊎◌, List, [], ◌++◌, Option, Some, drop, Ok, Err}
+use Rattle.std.specs.Prelude.{◌≡◌, ℕ, ◌⊎◌, List, Option, Some, drop, Ok, Err}
 use Rattle.std.specs.Io.KnownBytes.{Appends, Keeps}
 use Rattle.qoi.specs.declared.error.Error.{Error}
 use Rattle.qoi.specs.declared.header.Header.{Header}
@@ -61,7 +61,7 @@ abbrev pub Stops : Command → Option (List ℕ) → Option (List ℕ) → Optio
 Stops command in_old in_new out_old out_new e =
     ((input : List ℕ) × Takes command in_old in_new input × Refuses command input e × Keeps out_old out_new)
     ⊎ ((StopsEarly command in_old in_new e × Keeps out_old out_new)
-      ⊎ (IsIoError e × ((input : List ℕ) × (out : List ℕ) × Takes command in_old in_new input × Writes command input out × WritesBeginning out_old out_new out)))
+    ⊎ (IsIoError e × ((input : List ℕ) × (out : List ℕ) × Takes command in_old in_new input × Writes command input out × WritesBeginning out_old out_new out)))
 
 -- what a fault says
 abbrev pub StopsAt : List (List ℕ) → Option (List ℕ) → Option (List ℕ) → Option (List ℕ) → Option (List ℕ) → Fault → Type 0

@@ -27,7 +27,12 @@ pub fn command_of(words: &[String]) -> Option<Command>
         [word, channels] => two_words(word.as_str(), channels.as_str()),
         [word, width, height] => three_words(word.as_str(), width.as_str(), height.as_str()),
         [word, width, height, space] => {
-            four_words(word.as_str(), width.as_str(), height.as_str(), space.as_str())
+            four_words(
+                word.as_str(),
+                width.as_str(),
+                height.as_str(),
+                space.as_str(),
+            )
         }
         _ => None,
     }

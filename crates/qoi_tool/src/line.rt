@@ -9,7 +9,7 @@ use qoi::{Error, Header};
 use std::io;
 use std::io::Write;
 
-// Room for a line: it has at most 55 bytes.
+// Room for a line: it has at most 51 bytes.
 const ROOM: usize = 64;
 
 // A line that is being made, in a buffer of fixed length.
@@ -57,7 +57,14 @@ fn line_of(header: &Header) -> io::Result<Line>
     let width = header.width;
     let height = header.height;
     let channels = header.channels.as_u8();
-    let space = if header.colorspace.is_linear() { "linear" } else { "srgb" };
-    writeln!(line, "{width}x{height} channels {channels} colorspace {space}")?;
+    let space = if header.colorspace.is_linear() {
+        "linear"
+    } else {
+        "srgb"
+    };
+    writeln!(
+        line,
+        "{width}x{height} channels {channels} colorspace {space}"
+    )?;
     Ok(line)
 }

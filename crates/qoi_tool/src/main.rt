@@ -19,10 +19,9 @@ use crate::line::write_line;
 use crate::transfer::{read_all, read_exactly, write_whole};
 use qoi::{Channels, ColorSpace, Decoder, Encoder, Error, decode_header, decode_to_vec};
 use std::alloc::Global;
-use std::env;
-use std::io;
 use std::io::{ErrorKind, Read, Write};
 use std::process::ExitCode;
+use std::{env, io};
 
 // How many bytes a header has.
 const HEADER_SIZE: usize = 14;
@@ -79,11 +78,7 @@ pub fn run<R: Read, W: Write>(
 }
 
 // Reads a file, and writes its raw bytes in the file's own channels.
-fn decode<R: Read, W: Write>(
-    alloc: Global,
-    input: &mut R,
-    output: &mut W,
-) -> Result<(), Error>
+fn decode<R: Read, W: Write>(alloc: Global, input: &mut R, output: &mut W) -> Result<(), Error>
     ensures done { OnOk result (Does Decode
         (R.remaining input.old) (R.remaining input.new) (W.contents output.old) (W.contents output.new)) }
     ensures refused { IfErr result (Stops Decode
@@ -152,7 +147,10 @@ pub fn report<W: Write>(fault: &Fault, err: &mut W) -> u8
 {
     match fault {
         Fault::Usage => {
-            let _ = writeln!(err, "usage: qoi_tool dec [rgb|rgba] | enc W H [linear] | info");
+            let _ = writeln!(
+                err,
+                "usage: qoi_tool dec [rgb|rgba] | enc W H [linear] | info"
+            );
             2
         }
         Fault::Image(error) => {

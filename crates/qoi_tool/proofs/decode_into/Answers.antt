@@ -26,6 +26,10 @@ returns-in_err-pixels-clause-refused g c =
     let after = ap (λ (z : DecoderState (List ℕ)). z.reader) same ∙ accepted.2 ∙ ap (drop header_size) c.deref.ensures.value in
     let kept = Keeps-refl (g.W.Write.contents c.args.output.now) in
     rw (p.1, p.2) (⊎_elim (λ none. inr (inl (subst IsOutside (sym none) tt, kept)))
-        (λ r. inl (c.in_ok-file.file.items, c.in_ok-file.ensures.read,
-            refused_bytes c.in_ok-file.file.items d.header chosen.header chosen.reader c.in_err-pixels.field-0.0 read (ap (λ (z : DecoderState (List ℕ)). z.header) same) after r.1, kept))
-        c.in_err-pixels.ensures.refused)
+    (λ r. inl (
+      c.in_ok-file.file.items,
+      c.in_ok-file.ensures.read,
+      refused_bytes c.in_ok-file.file.items d.header chosen.header chosen.reader c.in_err-pixels.field-0.0 read (ap (λ (z : DecoderState (List ℕ)). z.header) same) after r.1,
+      kept,
+    ))
+    c.in_err-pixels.ensures.refused)

@@ -12,4 +12,4 @@ returns-clause-refused g c =
     let bytes = c.read_exactly.new.buf in
     let size : length bytes ≡ 14 = c.in_ok-read_exactly.ensures.size in
     IfErr-weaker c.write_line.result _ (Stops Info (g.R.Read.remaining c.args.input.now) (g.R.Read.remaining c.read_exactly.new.input) (g.W.Write.contents c.args.output.now) (g.W.Write.contents c.write_line.new.output))
-        (λ e failed. inr (inr (failed.0, (bytes, header_line h, (c.in_ok-read_exactly.ensures.read, size), (h, sym c.in_ok-header.ensures, refl), failed.1)))) c.write_line.ensures.failed
+    (λ e failed. inr (inr (failed.0, (bytes, header_line h, (c.in_ok-read_exactly.ensures.read, size), (h, sym c.in_ok-header.ensures, refl), failed.1)))) c.write_line.ensures.failed

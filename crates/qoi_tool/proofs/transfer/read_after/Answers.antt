@@ -1,8 +1,7 @@
 -- What was read stands behind what was filled.
-use Rattle.std.proofs.Common.{◌≡◌, ℕ, ◌+◌, ◌-◌, ◌≤◌, List, ◌++◌, length, take, arith, refl, sym, ap, ◌∙◌, length-append}
+use Rattle.std.proofs.Common.{◌≡◌, ℕ, ◌+◌, ◌-◌, ◌≤◌, List, ◌++◌, length, take, arith, sym, ap, ◌∙◌, length-append}
 use Rattle.std.proofs.lemmas.List.{take-append-le, length-take-le}
 use Rattle.std.proofs.Math.Seq.{take-append-add}
-use Rattle.std.specs.Io.KnownBytes.{Consumes}
 use Rattle.std.proofs.KnownBytes.{Consumes-trans}
 use borrow.Rule.Slice.PartMut.{put_mid, post_of}
 use Rattle.qoi_tool.proofs.transfer.read_after.Goals as goal
@@ -19,6 +18,7 @@ returns-clause-read g c =
     let buf = c.args.buf.now in
     let piece = c.read.new.buf in
     let rest = post_of c.args.filled (length buf - c.args.filled) buf in
-    let bound = c.in_ok-count.ensures.bound.0 in
-    (omega (arith, bound, length-take-le c.args.filled buf c.requires, length-append (take c.args.filled buf) (piece ++ rest), length-append piece rest),
-     λ start before. rw (take-read c.args.filled c.in_ok-count.count (length buf - c.args.filled) buf piece c.requires bound) (Consumes-trans start _ _ _ _ before c.in_ok-count.ensures.bytes.0))
+    let bound = c.in_ok-count.ensures.bound.0 in (
+      omega (arith, bound, length-take-le c.args.filled buf c.requires, length-append (take c.args.filled buf) (piece ++ rest), length-append piece rest),
+      λ start before. rw (take-read c.args.filled c.in_ok-count.count (length buf - c.args.filled) buf piece c.requires bound) (Consumes-trans start _ _ _ _ before c.in_ok-count.ensures.bytes.0),
+    )
