@@ -9,7 +9,7 @@ use qoi::{Error, Header};
 use std::io;
 use std::io::Write;
 
-// Room for a line: it has at most 55 bytes.
+// Room for a line: it has at most 51 bytes.
 const ROOM: usize = 64;
 
 // A line that is being made, in a buffer of fixed length.
