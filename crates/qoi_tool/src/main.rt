@@ -12,6 +12,7 @@ ghost use Rattle.qoi_tool.specs.declared.Fault.{Fault};
 ghost use Rattle.qoi_tool.specs.declared.command.Command.TheVariants.{Decode, DecodeInto, Encode, Info};
 ghost use Rattle.qoi_tool.specs.Words.{IsUsage};
 ghost use Rattle.qoi_tool.specs.Faults.{status_of};
+ghost use Rattle.qoi_tool.specs.Transfers.{IsOutside};
 ghost use Rattle.qoi_tool.specs.Answers.{Finishes, StopsAt, Stops, Does};
 
 use crate::command::{Command, command_of};
@@ -161,7 +162,9 @@ pub fn report<W: Write>(fault: &Fault, err: &mut W) -> u8
 }
 
 // The arguments after the program's name.
-fn words_of(rt: &HostRuntime) -> Result<Vec<String>, Error> {
+fn words_of(rt: &HostRuntime) -> Result<Vec<String>, Error>
+    ensures { IfErr result IsOutside }
+{
     match env::args(rt) {
         Ok(args) => Ok(args.skip(1).collect(rt.alloc())?),
         Err(error) if error.kind() == ErrorKind::OutOfMemory => Err(Error::OutOfMemory),
