@@ -13,7 +13,8 @@ use Rattle.qoi_tool.specs.declared.Fault.{Fault}
 use Rattle.qoi_tool.specs.declared.Fault.TheVariants.{Usage, Image}
 use Rattle.qoi_tool.specs.Lines.{header_line}
 use Rattle.qoi_tool.specs.Words.{Asks, IsUsage}
-use Rattle.qoi_tool.specs.Transfers.{TakesAll, TakesCount, TakesFewer, WritesBeginning, IsIoError, IsOutside}
+use Rattle.qoi_tool.specs.Transfers.{TakesAll, TakesCount, TakesFewer, WritesBeginning, IsOutside}
+use Rattle.qoi.specs.Errors.{IsIoError}
 
 -- what a command takes of its input: the bytes of a header, or all
 abbrev pub Takes : Command → Option (List ℕ) → Option (List ℕ) → List ℕ → Type 0

@@ -20,11 +20,6 @@ TakesFewer count old new = (taken : List ℕ) × Consumes old new taken × (leng
 abbrev pub WritesBeginning : Option (List ℕ) → Option (List ℕ) → List ℕ → Type 0
 WritesBeginning old new bytes = (front : List ℕ) × (rest : List ℕ) × (bytes ≡ front ++ rest) × Appends old new front
 
--- an i/o error
-abbrev pub IsIoError : Error → Type 0
-IsIoError (IoError e) = Unit {0}
-IsIoError _ = ⊥
-
 -- an i/o error, or want of memory
 abbrev pub IsOutside : Error → Type 0
 IsOutside (IoError e) = Unit {0}

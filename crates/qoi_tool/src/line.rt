@@ -2,7 +2,8 @@
 ghost use Rattle.std.specs.Prelude.{◌≡◌, ◌≤◌, List, length, take, Some, OnOk, IfOk, IfErr};
 ghost use Rattle.std.specs.Io.KnownBytes.{Appends};
 ghost use Rattle.qoi_tool.specs.Lines.{header_line};
-ghost use Rattle.qoi_tool.specs.Transfers.{WritesBeginning, IsIoError};
+ghost use Rattle.qoi_tool.specs.Transfers.{WritesBeginning};
+ghost use Rattle.qoi.specs.Errors.{IsIoError};
 
 use crate::transfer::write_whole;
 use qoi::{Error, Header};

@@ -173,7 +173,9 @@ fn words_of(rt: &HostRuntime) -> Result<Vec<String>, Error>
 }
 
 // Standard output behind a buffer: an encoder writes a few bytes at a time.
-fn output_of(rt: &HostRuntime) -> Result<BufWriter<Stdout>, Error> {
+fn output_of(rt: &HostRuntime) -> Result<BufWriter<Stdout>, Error>
+    ensures { IfErr result IsOutside }
+{
     match BufWriter::new(rt.alloc(), rt.stdout()) {
         Ok(output) => Ok(output),
         Err(_) => Err(Error::OutOfMemory),

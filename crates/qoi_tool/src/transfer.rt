@@ -1,7 +1,8 @@
 //! Reading an input to its end or into a buffer, and writing all of an output.
 ghost use Rattle.std.specs.Prelude.{◌≡◌, ℕ, ◌+◌, ◌<◌, ◌≤◌, List, length, Option, Ok, OnOk, OnErr, IfOk, IfErr, take};
 ghost use Rattle.std.specs.Io.KnownBytes.{Appends, Consumes, IsAtEnd, Keeps};
-ghost use Rattle.qoi_tool.specs.Transfers.{TakesAll, TakesFewer, WritesBeginning, IsIoError, IsOutside};
+ghost use Rattle.qoi_tool.specs.Transfers.{TakesAll, TakesFewer, WritesBeginning, IsOutside};
+ghost use Rattle.qoi.specs.Errors.{IsIoError};
 
 use qoi::Error;
 use std::alloc::Global;
