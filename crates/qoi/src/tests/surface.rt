@@ -1,3 +1,6 @@
+use crate::consts::{
+    QOI_MASK_2, QOI_OP_DIFF, QOI_OP_INDEX, QOI_OP_LUMA, QOI_OP_RGB, QOI_OP_RGBA, QOI_OP_RUN,
+};
 use crate::parts::{Chunk, Pixel, SupportedChannels};
 use crate::{Channels, ColorSpace, Encoder, Error, Header, encode_max_len};
 use std::alloc::Global;
@@ -241,4 +244,20 @@ fn is_error<E: std::error::Error>(_error: &E) -> bool {
 #[test]
 fn errors_are_std_errors(rt: HostRuntime) {
     assert!(rt; is_error(&Error::InvalidPadding));
+}
+
+// The two high bits tell the chunks of one and two bytes apart.
+#[test]
+fn first_bytes_have_their_two_high_bits(rt: HostRuntime) {
+    for (first, high) in [
+        (QOI_OP_INDEX, 0x00u8),
+        (QOI_OP_DIFF, 0x40),
+        (QOI_OP_LUMA, 0x80),
+        (QOI_OP_RUN, 0xc0),
+        (QOI_OP_RGB, 0xc0),
+        (QOI_OP_RGBA, 0xc0),
+    ] {
+        assert_eq!(rt; first & QOI_MASK_2, high);
+        assert_eq!(rt; (first | 0x3f) & QOI_MASK_2, high);
+    }
 }
