@@ -11,7 +11,7 @@ use Rattle.qoi.specs.Headers.{head, pixel_count, IsValid}
 use Rattle.qoi.specs.Bytes.{AreBytes}
 use Rattle.qoi.specs.Chunks.{text}
 use Rattle.qoi.specs.Meaning.{Reaches}
-use Rattle.qoi.specs.Files.{file, end_marker, IsFile}
+use Rattle.qoi.specs.Files.{file, file_pixels, end_marker, IsFile}
 use Rattle.qoi.specs.Output.{IsChannels, output}
 use Rattle.qoi.specs.Raw.{HasChannels}
 use Rattle.qoi.specs.Written.{IsChoice, Written}
@@ -19,7 +19,7 @@ use Rattle.qoi.specs.Decoding.{file_byte_count, DecodesFile}
 use Rattle.qoi.specs.Encoded.{max_file_len, image_pixels, IsNearShortest, IsFileOf}
 use Rattle.qoi.proofs.FilledBuffer.{take_whole}
 use Rattle.qoi.proofs.ImageSize.{channels_are}
-use Rattle.qoi.proofs.OneFile.{file_has_header, file_is_whole}
+use Rattle.qoi.proofs.OneFile.{decodes_file}
 use Rattle.qoi.proofs.RawPixels.{pixels_of_are, pixels_of_have, length-pixels_of, output-pixels_of}
 use Rattle.qoi.specs.Writes.{WriterLaws, WroteBut, WroteSome}
 use Rattle.qoi.proofs.CodingWrites.{wrote_next, wrote_part}
@@ -71,13 +71,11 @@ module _ (h : Header) (raw : List ℕ) (valid : IsValid h) (size : length raw �
 
   -- it comes back
   back : (cs : List Chunk) (rest : List ℕ) → Written (image_pixels h raw) cs → DecodesFile (file h cs ++ rest) h rest raw
-  back cs rest w = record {
-    header = file_has_header h cs (file h cs ++ rest) rest (is_file cs w) refl;
-    cs = cs;
-    whole = file_is_whole h cs (file h cs ++ rest) rest (is_file cs w) refl;
-    out_is = sym (output-pixels_of (channels_number h.channels) (pixel_count h) raw channels image_size)
-        ∙ ap (output (channels_number h.channels) (channels_number h.channels)) (sym (take_whole (pixel_count h) (image_pixels h raw) count) ∙ ap (take (pixel_count h)) (sym w.means));
-  }
+  back cs rest w =
+      let image : raw ≡ output (channels_number h.channels) (channels_number h.channels) (file_pixels h cs)
+          = sym (output-pixels_of (channels_number h.channels) (pixel_count h) raw channels image_size)
+          ∙ ap (output (channels_number h.channels) (channels_number h.channels)) (sym (take_whole (pixel_count h) (image_pixels h raw) count) ∙ ap (take (pixel_count h)) (sym w.means)) in
+      decodes_file h cs (file h cs ++ rest) rest raw (is_file cs w) refl image
 
   -- it is near the shortest
   near : (cs : List Chunk) → Written (image_pixels h raw) cs → IsNearShortest h raw (file h cs)

@@ -1,12 +1,16 @@
 -- A file is read as it was put together, in one way.
-use Rattle.std.proofs.Common.{◌≡◌, ℕ, List, ◌++◌, drop, refl, ap, sym, ◌∙◌, subst, Ok, append_assoc}
+use Rattle.std.proofs.Common.{◌≡◌, ℕ, List, ◌++◌, drop, Some, refl, ap, sym, ◌∙◌, subst, Ok, append_assoc}
 use Rattle.qoi.specs.declared.header.Header.{Header}
 use Rattle.qoi.specs.declared.parts.Chunk.{Chunk}
 use Rattle.qoi.specs.Bytes.{AreBytes}
 use Rattle.qoi.specs.Chunks.{text}
+use Rattle.qoi.specs.Types.{channels_number}
 use Rattle.qoi.specs.Headers.{head, pixel_count, header_of}
-use Rattle.qoi.specs.Files.{IsFile, file, end_marker}
+use Rattle.qoi.specs.Files.{IsFile, file, file_pixels, end_marker}
+use Rattle.qoi.specs.Output.{output}
 use Rattle.qoi.specs.Verdicts.{IsWhole}
+use Rattle.qoi.specs.Decoding.{DecodesFile, ReadsImage, header_size}
+use Rattle.qoi.specs.DecoderState.{DecoderState}
 use Rattle.qoi.proofs.OneVerdict.{whole_is_one}
 use Rattle.qoi.proofs.HeaderBytes.{header_of-head, head_from_header_of}
 
@@ -36,14 +40,54 @@ file_from_whole h cs bytes rest fits e w =
       front.0 ∙ ap (λ l. head h ++ l) w.takes.split ∙ sym (file_parts h cs rest),
     )
 
+-- a header is read in one way
+pub header_is_one : (bytes : List ℕ) (h k : Header) → header_of bytes ≡ Ok h → header_of bytes ≡ Ok k → h ≡ k
+header_is_one bytes h k first second = cc
+
 -- no file begins another
 pub file_is_one : (h k : Header) (cs ds : List Chunk) (x y : List ℕ) → IsFile h cs → IsFile k ds → file h cs ++ x ≡ file k ds ++ y → (h ≡ k) × (cs ≡ ds) × (x ≡ y)
 file_is_one h k cs ds x y f g e =
     let first = file_has_header h cs (file h cs ++ x) x f refl in
     let second = file_has_header k ds (file h cs ++ x) y g e in
-    let same : h ≡ k = cc in
+    let same : h ≡ k = header_is_one (file h cs ++ x) h k first second in
     let whole = file_is_whole h cs (file h cs ++ x) x f refl in
     let other = file_is_whole k ds (file h cs ++ x) y g e in
     let P : Header → Type 0 = λ j. IsWhole (pixel_count j) (drop 14 (file h cs ++ x)) ds y in
     let both = whole_is_one (pixel_count h) (drop 14 (file h cs ++ x)) cs ds x y whole (subst P (sym same) other) in
     (same, both.0, both.1)
+
+-- a file and what follows it are decoded as that file, and as no other
+pub decodes_file : (h : Header) (cs : List Chunk) (bytes rest out : List ℕ) → IsFile h cs → bytes ≡ file h cs ++ rest
+    → out ≡ output (channels_number h.channels) (channels_number h.channels) (file_pixels h cs) → DecodesFile bytes h rest out
+decodes_file h cs bytes rest out f split out_is = record {
+  cs = cs;
+  is_file = f;
+  split = split;
+  out_is = out_is;
+  only = λ k ds more g e. file_is_one k h ds cs more rest g f (sym e ∙ split);
+  header = file_has_header h cs bytes rest f split;
+  whole = file_is_whole h cs bytes rest f split;
+}
+
+-- a header and the image that is read behind it are a file
+pub decodes_read : (h : Header) (bytes rest out : List ℕ) → AreBytes bytes → header_of bytes ≡ Ok h
+    → ReadsImage (channels_number h.channels) (channels_number h.channels) (pixel_count h) (Some (drop header_size bytes)) (Some rest) out
+    → DecodesFile bytes h rest out
+decodes_read h bytes rest out fits read r =
+    let taken : drop header_size bytes ≡ text r.cs ++ (end_marker ++ rest) = r.taken ∙ append_assoc (text r.cs) end_marker rest in
+    let whole : IsWhole (pixel_count h) (drop header_size bytes) r.cs rest = record {
+      takes = record { chunks = r.chunks; short = r.reaches.short; split = taken };
+      enough = r.reaches.enough;
+    } in
+    let front = file_from_whole h r.cs bytes rest fits read whole in
+    decodes_file h r.cs bytes rest out front.0 front.1 r.out_is
+
+-- so it is where a decoder reads it, in the file's own channels
+pub decodes_behind : (bytes : List ℕ) (d : DecoderState (List ℕ)) (rest out : List ℕ) → AreBytes bytes → header_of bytes ≡ Ok d.header
+    → d.channels ≡ d.header.channels → d.reader ≡ drop header_size bytes
+    → ReadsImage (channels_number d.header.channels) (channels_number d.channels) (pixel_count d.header) (Some d.reader) (Some rest) out
+    → DecodesFile bytes d.header rest out
+decodes_behind bytes d rest out fits read own after r =
+    let own_channels = subst (λ k. ReadsImage (channels_number d.header.channels) (channels_number k) (pixel_count d.header) (Some d.reader) (Some rest) out) own r in
+    decodes_read d.header bytes rest out fits read
+    (subst (λ z. ReadsImage (channels_number d.header.channels) (channels_number d.header.channels) (pixel_count d.header) (Some z) (Some rest) out) after own_channels)

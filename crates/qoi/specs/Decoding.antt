@@ -7,7 +7,7 @@ use Rattle.qoi.specs.declared.header.Header.{Header}
 use Rattle.qoi.specs.declared.parts.Chunk.{Chunk}
 use Rattle.qoi.specs.Chunks.{AreChunks, text}
 use Rattle.qoi.specs.Meaning.{Reaches, meaning}
-use Rattle.qoi.specs.Files.{end_marker, file_pixels}
+use Rattle.qoi.specs.Files.{IsFile, end_marker, file, file_pixels}
 use Rattle.qoi.specs.Types.{channels_number}
 use Rattle.qoi.specs.Headers.{header_of, pixel_count}
 use Rattle.qoi.specs.Output.{output}
@@ -102,12 +102,16 @@ byte_count h channels = pixel_count h * channels
 abbrev pub file_byte_count : Header → ℕ
 file_byte_count h = byte_count h (channels_number h.channels)
 
--- The bytes are a file with this header and then the rest, and these are its pixels in the file's channels.
+-- The bytes are a file with this header and then the rest, and these are its pixels in the file's channels. The
+-- bytes begin with no other file, so what follows never changes the reading.
 pub record DecodesFile (bytes : List ℕ) (h : Header) (rest out : List ℕ) : Type 0 where
-  pub header : header_of bytes ≡ Ok h
   pub cs : List Chunk
-  pub whole : IsWhole (pixel_count h) (drop header_size bytes) cs rest
+  pub is_file : IsFile h cs
+  pub split : bytes ≡ file h cs ++ rest
   pub out_is : out ≡ output (channels_number h.channels) (channels_number h.channels) (file_pixels h cs)
+  pub only : (k : Header) (ds : List Chunk) (more : List ℕ) → IsFile k ds → bytes ≡ file k ds ++ more → (k ≡ h) × (ds ≡ cs) × (more ≡ rest)
+  pub header : header_of bytes ≡ Ok h
+  pub whole : IsWhole (pixel_count h) (drop header_size bytes) cs rest
 
 -- the buffer is shorter than the image
 abbrev pub RefusesBuffer : ℕ → ℕ → Error → Type 0

@@ -13,7 +13,7 @@ ghost use Rattle.qoi.specs.Headers.{header_of, pixel_count};
 ghost use Rattle.qoi.specs.Verdicts.{IsPartOfChunk, IsWhole};
 ghost use Rattle.qoi.specs.declared.header.Header.{Header};
 ghost use Rattle.qoi.specs.declared.error.Error.{Error};
-ghost use Rattle.qoi.specs.Files.{end_marker};
+ghost use Rattle.qoi.specs.Files.{IsFile, end_marker, file};
 
 use crate::consts::{
     QOI_HEADER_SIZE, QOI_OP_DIFF, QOI_OP_INDEX, QOI_OP_LUMA, QOI_OP_RGB, QOI_OP_RGBA, QOI_OP_RUN,
@@ -333,14 +333,24 @@ pub trait Reader: Sized {
     /// Whether they stand in memory: then a refusal takes none of them, and none is an i/o error.
     ghost in_memory: { Bool };
 
-    /// Reads the fourteen bytes of a header.
+    /// Reads the fourteen bytes of a header (QOI specification 1.0, "QOI Header").
+    ///
+    /// Refusals, in this order: `UnexpectedBufferEnd` where there are fewer than fourteen bytes, or
+    /// `IoError` from a stream; `InvalidChannels`, `InvalidColorSpace`, `InvalidMagic`,
+    /// `InvalidImageDimensions`.
     fn decode_header(&mut self) -> Result<Header>
         ensures { ReadsHeader in_memory (ahead self.old) (ahead self.new) result };
 
-    /// Reads chunks until `out` is full of pixels, and then the end marker.
+    /// Reads chunks until `out` is full of pixels, and then the end marker (QOI specification 1.0,
+    /// "File Format" and "Data").
     ///
-    /// `channels` are those of the output, and `src_channels` those of the file's header; where
-    /// either isn't 3 or 4, `InvalidChannels` with `channels`, and nothing is read.
+    /// `channels` are those of the output, and `src_channels` those of the file's header. The caller
+    /// sees to it that `out` has a multiple of `channels` bytes.
+    ///
+    /// Refusals, in this order: `InvalidChannels` with `channels` where either number isn't 3 or 4,
+    /// and then nothing is read; `UnexpectedBufferEnd` where the bytes end within a chunk or within
+    /// the eight bytes after the chunks, or `IoError` from a stream; `InvalidPadding` where those
+    /// eight bytes aren't the end marker.
     fn decode_image(&mut self, out: &mut [u8], channels: u8, src_channels: u8) -> Result<()>
         requires { IsChannels channels → IsChannels src_channels → length out.old % channels ≡ 0 }
         ensures read { OnOk result (IsChannels channels × IsChannels src_channels
@@ -439,9 +449,8 @@ pub fn decode_to_buf(buf: &mut [u8], data: &[u8]) -> Result<Header>
     ensures decoded { IfOk result (λ h. (rest : List ℕ)
         × DecodesFile «data».now h rest (take (file_byte_count h) buf.new)) }
     ensures refused { IfErr result (RefusesFile (length buf.old) «data».now) }
-    // Whole files are accepted, whatever follows them.
-    ensures accepts { (h : Header) (cs : List Chunk) (rest : List ℕ) → header_of «data».now ≡ Ok h
-        → IsWhole (pixel_count h) (drop header_size «data».now) cs rest
+    // Files are accepted, whatever follows them.
+    ensures accepts { (h : Header) (cs : List Chunk) (rest : List ℕ) → IsFile h cs → «data».now ≡ file h cs ++ rest
         → file_byte_count h ≤ length buf.old → result ≡ Ok h }
     ensures later { (h : Header) → header_of «data».now ≡ Ok h
         → drop (file_byte_count h) buf.new ≡ drop (file_byte_count h) buf.old }
@@ -460,9 +469,9 @@ pub fn decode_to_buf(buf: &mut [u8], data: &[u8]) -> Result<Header>
 pub fn decode_to_vec(alloc: Global, data: &[u8]) -> Result<(Header, Vec<u8>)>
     ensures decoded { IfOk result (λ x. (rest : List ℕ) × DecodesFile «data».now x.0 rest x.1.items) }
     ensures refused { IfErr result (λ e. (e ≡ Error.OutOfMemory) ⊎ RefusesWholeFile «data».now e) }
-    // Whole files are accepted, whatever follows them, unless memory runs out.
-    ensures accepts { (h : Header) (cs : List Chunk) (rest : List ℕ) → header_of «data».now ≡ Ok h
-        → IsWhole (pixel_count h) (drop header_size «data».now) cs rest → IsOkUnless result Error.OutOfMemory }
+    // Files are accepted, whatever follows them, unless memory runs out.
+    ensures accepts { (h : Header) (cs : List Chunk) (rest : List ℕ) → IsFile h cs → «data».now ≡ file h cs ++ rest
+        → IsOkUnless result Error.OutOfMemory }
 {
     let mut decoder = Decoder::new(data)?;
     let out = decoder.decode_to_vec(alloc)?;
@@ -615,10 +624,12 @@ impl<R: Reader> Decoder<R> {
     /// `required_buf_len`, and then nothing was read or written; `UnexpectedBufferEnd` where the
     /// bytes end within a chunk or within the eight bytes after the chunks; `InvalidPadding` where
     /// those eight bytes aren't the end marker. A run that gives more pixels than are left is cut
-    /// (QOI specification 1.0, "File Format" and "Data").
+    /// (QOI specification 1.0, "File Format" and "Data"). From a stream an early end is `IoError` in
+    /// place of `UnexpectedBufferEnd`, and so is a fault of the reader.
     ///
-    /// After a refusal the bytes ahead, the header and the channels are as before. The first
-    /// `required_buf_len` bytes of the buffer may then be overwritten; later bytes never are.
+    /// After a refusal the header and the channels are as before. So are the bytes ahead in a slice;
+    /// a reader stands behind the bytes that were read. The first `required_buf_len` bytes of the
+    /// buffer may then be overwritten; later bytes never are.
     pub fn decode_to_buf(&mut self, buf: &mut [u8]) -> Result<usize>
         ensures short { length buf.old < image_byte_count self.old
             → (result ≡ Err (Error.OutputBufferTooSmall (length buf.old) (image_byte_count self.old)))

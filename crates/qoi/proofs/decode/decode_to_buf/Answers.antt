@@ -1,13 +1,18 @@
--- A whole file is not refused.
-use Rattle.std.proofs.Common.{◌≡◌, ◌≤◌, length, drop, Some, IsOk, false, true, refl, ap, sym, ◌∙◌, subst}
+-- A file is decoded as such, and it is not refused.
+use Rattle.std.proofs.Common.{◌≡◌, ◌≤◌, List, length, take, drop, Some, Ok, ℕ, IsOk, false, true, refl, ap, sym, ◌∙◌, subst, arith}
+use Rattle.qoi.specs.declared.header.Header.{Header}
 use Rattle.qoi.specs.Types.{channels_number}
 use Rattle.qoi.specs.Headers.{pixel_count}
 use Rattle.qoi.specs.Verdicts.{IsWhole}
-use Rattle.qoi.specs.Decoding.{header_size, file_byte_count, byte_count}
+use Rattle.qoi.specs.Decoding.{DecodesFile, ReadsImage, header_size, file_byte_count, byte_count}
+use Rattle.qoi.specs.DecoderState.{DecoderState}
+use Rattle.qoi.proofs.OneFile.{file_has_header, file_is_whole, header_is_one, decodes_behind}
 use Rattle.qoi.proofs.decode.decode_to_buf.Goals as goal
 
 pub returns-in_err-decode_to_buf-clause-accepts : goal.returns-in_err-decode_to_buf-clause-accepts
-returns-in_err-decode_to_buf-clause-accepts c h cs rest read whole room =
+returns-in_err-decode_to_buf-clause-accepts c h cs rest f split room =
+    let read = file_has_header h cs c.args.data.now rest f split in
+    let whole = file_is_whole h cs c.args.data.now rest f split in
     let d = c.in_ok-decoder.decoder in
     let accepted = c.in_ok-decoder.ensures.accepted in
     let same : h ≡ d.header = cc in
@@ -17,3 +22,28 @@ returns-in_err-decode_to_buf-clause-accepts c h cs rest read whole room =
     (subst (λ k. IsWhole (pixel_count k) (drop header_size c.args.data.now) cs rest) same whole) (subst (λ k. k ≤ length c.args.buf.now) size room) in
     let no : false ≡ true = subst IsOk c.in_err-decode_to_buf.was ok in
     cc
+
+pub returns-in_err-decoder-clause-accepts : goal.returns-in_err-decoder-clause-accepts
+returns-in_err-decoder-clause-accepts c h cs rest f split room =
+    let read = file_has_header h cs c.args.data.now rest f split in
+    let refused = c.in_err-decoder.ensures.refused in
+    cc
+
+pub returns-clause-decoded : goal.returns-clause-decoded
+returns-clause-decoded c =
+    let d = c.in_ok-decoder.decoder in
+    let accepted = c.in_ok-decoder.ensures.accepted in
+    let rest = c.decode_to_buf.new.self.reader in
+    let decoded = c.in_ok-decode_to_buf.ensures.decoded in
+    let buf = c.decode_to_buf.new.buf in
+    let same : d.header ≡ c.header.result.now = cc in
+    let size : c.in_ok-decode_to_buf.field-0 ≡ file_byte_count d.header = decoded.0 ∙ ap (λ k. byte_count d.header (channels_number k)) accepted.1 in
+    let image = subst (λ z. ReadsImage (channels_number d.header.channels) (channels_number d.channels) (pixel_count d.header) (Some d.reader) (Some rest) (take z buf)) size decoded.1 in
+    (rest, subst (λ (k : Header). DecodesFile c.args.data.now k rest (take (file_byte_count k) buf)) same
+    (decodes_behind c.args.data.now d rest (take (file_byte_count d.header) buf) (λ i. omega (arith, c.type_inv.data i)) accepted.0 accepted.1 accepted.2 image))
+
+pub returns-clause-accepts : goal.returns-clause-accepts
+returns-clause-accepts c h cs rest f split room =
+    let d = c.in_ok-decoder.decoder in
+    let same : c.header.result.now ≡ d.header = c.header.ensures ∙ ap (λ (s : DecoderState (List ℕ)). s.header) c.in_ok-decode_to_buf.ensures.kept in
+    ap Ok (same ∙ header_is_one c.args.data.now d.header h c.in_ok-decoder.ensures.accepted.0 (file_has_header h cs c.args.data.now rest f split))

@@ -1,9 +1,12 @@
--- What the decoder refuses is what the file is refused for.
-use Rattle.std.proofs.Common.{◌≡◌, drop, Some, refl, ap, subst, inl, inr, ⊎_elim}
+-- A file is decoded as such, and what the decoder refuses is what the file is refused for.
+use Rattle.std.proofs.Common.{◌≡◌, ℕ, List, drop, Some, refl, ap, sym, ◌∙◌, subst, inl, inr, ⊎_elim, arith}
+use Rattle.qoi.specs.declared.header.Header.{Header}
 use Rattle.std.proofs.lemmas.Result.{err_from_is_err_and}
 use Rattle.qoi.specs.Headers.{pixel_count}
 use Rattle.qoi.specs.Verdicts.{IsWhole}
-use Rattle.qoi.specs.Decoding.{header_size, RefusesBytes}
+use Rattle.qoi.specs.Decoding.{DecodesFile, header_size, RefusesBytes}
+use Rattle.qoi.specs.DecoderState.{DecoderState}
+use Rattle.qoi.proofs.OneFile.{file_has_header, file_is_whole, decodes_behind}
 use Rattle.qoi.proofs.decode.decode_to_vec.Goals as goal
 
 pub returns-in_err-out-clause-refused : goal.returns-in_err-out-clause-refused
@@ -14,10 +17,27 @@ returns-in_err-out-clause-refused c =
     rw (p.1, p.2) (⊎_elim inl (λ r. inr (inr (d.header, accepted.0, subst (λ z. RefusesBytes (pixel_count d.header) z c.in_err-out.field-0.0) accepted.2 r.1))) c.in_err-out.ensures.refused)
 
 pub returns-in_err-out-clause-accepts : goal.returns-in_err-out-clause-accepts
-returns-in_err-out-clause-accepts c h cs rest read whole =
+returns-in_err-out-clause-accepts c h cs rest f split =
+    let read = file_has_header h cs c.args.data.now rest f split in
+    let whole = file_is_whole h cs c.args.data.now rest f split in
     let p = err_from_is_err_and c.from_residual-in_err-out.result c.from_residual-in_err-out.ensures.1 in
     let d = c.in_ok-decoder.decoder in
     let accepted = c.in_ok-decoder.ensures.accepted in
     let same : h ≡ d.header = cc in
     rw (p.1, p.2) (c.in_err-out.ensures.accepts refl (drop header_size c.args.data.now) rest cs (ap Some accepted.2)
     (subst (λ k. IsWhole (pixel_count k) (drop header_size c.args.data.now) cs rest) same whole))
+
+pub returns-in_err-decoder-clause-accepts : goal.returns-in_err-decoder-clause-accepts
+returns-in_err-decoder-clause-accepts c h cs rest f split =
+    let read = file_has_header h cs c.args.data.now rest f split in
+    let refused = c.in_err-decoder.ensures.refused in
+    absurd cc
+
+pub returns-clause-decoded : goal.returns-clause-decoded
+returns-clause-decoded c =
+    let d = c.in_ok-decoder.decoder in
+    let accepted = c.in_ok-decoder.ensures.accepted in
+    let rest = c.decode_to_vec.new.self.reader in
+    let same : c.header.result.now ≡ d.header = c.header.ensures ∙ ap (λ (s : DecoderState (List ℕ)). s.header) c.in_ok-out.ensures.kept in
+    (rest, subst (λ (k : Header). DecodesFile c.args.data.now k rest c.in_ok-out.out.items) (sym same)
+    (decodes_behind c.args.data.now d rest c.in_ok-out.out.items (λ i. omega (arith, c.type_inv.data i)) accepted.0 accepted.1 accepted.2 c.in_ok-out.ensures.decoded))

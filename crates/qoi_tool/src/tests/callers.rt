@@ -1,0 +1,100 @@
+//! A caller for each way of using the library, proved by the contracts of its public calls alone.
+ghost use Rattle.std.specs.Prelude.{◌≡◌, ℕ, ◌++◌, List, Option, Some, Ok, IfOk, OnOk, length, drop, false};
+ghost use Rattle.std.specs.Io.KnownBytes.{Appends};
+ghost use Rattle.qoi.specs.declared.header.Header.{Header};
+ghost use Rattle.qoi.specs.Types.{channels_number};
+ghost use Rattle.qoi.specs.Headers.{header_of, pixel_count};
+ghost use Rattle.qoi.specs.Encoded.{IsFileOf};
+ghost use Rattle.qoi.specs.Decoding.{DecodesFile, ReadsHeader, ReadsImage, header_size};
+
+use crate::tests::ONE_RGB_PIXEL;
+use qoi::{Decoder, Encoder, Error, decode_to_vec};
+use std::alloc::Global;
+use std::io::{Read, Write};
+use std::test::Fail;
+
+/// Vectors. The raw bytes of the image of a file, in the file's own channels; any bytes may follow
+/// the file.
+pub fn raw_bytes(alloc: Global, file: &[u8]) -> Result<Vec<u8>, Error>
+    ensures { IfOk result (λ raw. (h : Header) × (rest : List ℕ) × DecodesFile file.now h rest raw.items) }
+{
+    let (_, raw) = decode_to_vec(alloc, file)?;
+    Ok(raw)
+}
+
+/// Buffer to buffer. The file of an image at the front of a buffer, and its length.
+pub fn pack(buf: &mut [u8], raw: &[u8], width: u32, height: u32) -> Result<usize, Error>
+    ensures { IfOk result (λ n. (h : Header) × (bytes : List ℕ) × IsFileOf h raw.now bytes
+        × (n ≡ length bytes) × (buf.new ≡ bytes ++ drop n buf.old)) }
+{
+    let encoder = Encoder::new(raw, width, height)?;
+    let required = encoder.required_buf_len();
+    if buf.len() < required {
+        return Err(Error::OutputBufferTooSmall {
+            size: buf.len(),
+            required,
+        });
+    }
+    encoder.encode_to_buf(buf)
+}
+
+/// Stream out. The file of an image goes to a writer.
+pub fn send<W: Write>(raw: &[u8], width: u32, height: u32, out: &mut W) -> Result<usize, Error>
+    ensures { OnOk result ((h : Header) × (bytes : List ℕ) × IsFileOf h raw.now bytes
+        × Appends (W.contents out.old) (W.contents out.new) bytes) }
+{
+    let encoder = Encoder::new(raw, width, height)?;
+    encoder.encode_to_stream(out)
+}
+
+/// Stream in. The raw bytes of the image that stands ahead of a reader, and the reader behind it.
+pub fn receive<R: Read + Drop>(alloc: Global, reader: R) -> Result<(Vec<u8>, R), Error>
+    ensures { IfOk result (λ x. (h : Header) × (middle : Option (List ℕ))
+        × ReadsHeader false (R.remaining reader) middle (Ok h)
+        × ReadsImage (channels_number h.channels) (channels_number h.channels) (pixel_count h)
+        middle (R.remaining x.1) x.0.items) }
+{
+    let mut decoder = Decoder::from_stream(reader)?;
+    let raw = decoder.decode_to_vec(alloc)?;
+    Ok((raw, decoder.into_reader()))
+}
+
+/// Several files in one slice. The raw bytes of the images of two files, one behind the other.
+pub fn two_images(alloc: Global, bytes: &[u8]) -> Result<(Vec<u8>, Vec<u8>), Error>
+    ensures { IfOk result (λ x. (h : Header) × (k : Header) × (middle : List ℕ) × (rest : List ℕ)
+        × (header_of bytes.now ≡ Ok h)
+        × ReadsImage (channels_number h.channels) (channels_number h.channels) (pixel_count h)
+        (Some (drop header_size bytes.now)) (Some middle) x.0.items
+        × DecodesFile middle k rest x.1.items) }
+{
+    let mut decoder = Decoder::new(bytes)?;
+    let first = decoder.decode_to_vec(alloc)?;
+    let (_, second) = decode_to_vec(alloc, decoder.data())?;
+    Ok((first, second))
+}
+
+#[test]
+fn callers(rt: HostRuntime) -> Result<(), Fail> {
+    let alloc = rt.alloc();
+    let pixel = [0x0b, 0x79, 0xe7];
+    let file = ONE_RGB_PIXEL;
+    let raw = raw_bytes(alloc, &file)?;
+    assert_eq!(rt; raw.as_slice(), pixel.as_slice());
+    let mut buf = [0xaa; 27];
+    assert_eq!(rt; pack(&mut buf, &pixel, 1, 1)?, 26);
+    assert_eq!(rt; buf[..26], file[..]);
+    assert_eq!(rt; buf[26], 0xaa);
+    let mut sent = Vec::new(alloc);
+    assert_eq!(rt; send(&pixel, 1, 1, &mut sent)?, 26);
+    assert_eq!(rt; sent.as_slice(), file.as_slice());
+    let mut two = [0; 52];
+    two[..26].copy_from_slice(&file);
+    two[26..].copy_from_slice(&file);
+    let (first, second) = two_images(alloc, &two)?;
+    assert_eq!(rt; first.as_slice(), pixel.as_slice());
+    assert_eq!(rt; second.as_slice(), pixel.as_slice());
+    let (raw, left) = receive(alloc, &two[..])?;
+    assert_eq!(rt; raw.as_slice(), pixel.as_slice());
+    assert_eq!(rt; left, file.as_slice());
+    Ok(())
+}
