@@ -1,5 +1,5 @@
 -- The table of an encoder, and the chunk that is chosen by it.
-use Rattle.std.proofs.Common.{◌≡◌, ◌≢◌, ℕ, zero, suc, ◌<◌, Bool, true, false, cond, eqb, List, [], ◌∷◌, ◌++◌, length, get_or, take, slice_set, replicate, inl, inr, refl, sym, ap, ◌∙◌, arith, get_or-set_same, get_or-set_other}
+use Rattle.std.proofs.Common.{◌≡◌, ◌≢◌, ℕ, zero, suc, ◌<◌, Bool, true, false, eqb, List, [], ◌∷◌, ◌++◌, length, get_or, take, slice_set, replicate, inl, inr, refl, sym, ap, ◌∙◌, arith, get_or-set_same, get_or-set_other}
 use Rattle.std.proofs.lemmas.List.{length-set, length-replicate, get_or-replicate}
 use Rattle.std.proofs.lemmas.Bool.{eqb-true, eqb-false}
 use Rattle.qoi.specs.declared.parts.Chunk.{Chunk}
@@ -9,7 +9,7 @@ use Rattle.qoi.specs.Chunks.{bytes_of, text}
 use Rattle.qoi.specs.Output.{IsChannels}
 use Rattle.qoi.specs.Written.{IsFirst, IsChoice}
 use Rattle.qoi.specs.CoderState.{HasNoted, HasCoded, waiting_run}
-use Rattle.qoi.proofs.SeenTable.{hash_below}
+use Rattle.qoi.proofs.SeenTable.{hash_below, held_after}
 use Rattle.qoi.proofs.TableNotes.{Notes, notes_repeat, notes_fresh, notes_same, choice_place, choice_spelled}
 
 -- a pixel's bytes are its colors and, where there are four, its alpha
@@ -102,23 +102,11 @@ chosen_spelled n table px four past i c is size e h other at missing first =
     let place : i ≡ hash (rgba px) = at ∙ ap hash means in
     let p = rgba px in
     let not_held : at_place table (hash p) ≢ p = λ held. missing (rgba_same 4 (get_or table i []) four (inr refl) (rw place (h.four (hash p) (hash_below p))) long (rw place (held ∙ sym means))) in
-    let fresh = notes_fresh past p (at_place table) (at_place (slice_set table i four)) (notes_of table past h) other (λ j l. rw place (after table four p j h.length_is means)) in (
+    let fresh = notes_fresh past p (at_place table) (at_place (slice_set table i four)) (notes_of table past h) other (λ j l. rw place (held_after table four p j h.length_is means)) in (
       choice_spelled past p c (at_place table) (notes_of table past h) not_held first,
       record { length_is = length-set table i four ∙ h.length_is; four = λ j l. rw place (long_after table four (hash p) j h.length_is long h.four l (hash_below p)); holds = fresh.holds },
     )
   where
-    after : (table : List (List ℕ)) (four : List ℕ) (p : RgbaPixel) (j : ℕ) → length table ≡ 64 → rgba four ≡ p → at_place (slice_set table (hash p) four) j ≡ cond (eqb (hash p) j) p (at_place table j)
-    after table four p j len means = by (eqb (hash p) j) refl
-      where
-        by : (b : Bool) → eqb (hash p) j ≡ b → at_place (slice_set table (hash p) four) j ≡ cond b p (at_place table j)
-        by true e =
-            let same : hash p ≡ j = eqb-true (hash p) j e in
-            let inside : hash p < length table = omega (arith, hash_below p) in
-            rw (← same) (rw get_or-set_same means)
-        by false e =
-            let apart : j ≢ hash p = λ q. eqb-false (hash p) j e (sym q) in
-            rw get_or-set_other refl
-
     long_after : (table : List (List ℕ)) (four : List ℕ) (i j : ℕ) → length table ≡ 64 → length four ≡ 4 → ((k : ℕ) → k < 64 → length (get_or table k []) ≡ 4) → j < 64 → i < 64 → length (get_or (slice_set table i four) j []) ≡ 4
     long_after table four i j len long all l m = by (eqb i j) refl
       where

@@ -73,8 +73,8 @@ module _ (h : Header) (raw : List ℕ) (valid : IsValid h) (size : length raw �
   back : (cs : List Chunk) (rest : List ℕ) → Written (image_pixels h raw) cs → DecodesFile (file h cs ++ rest) h rest raw
   back cs rest w =
       let image : raw ≡ output (channels_number h.channels) (channels_number h.channels) (file_pixels h cs)
-          = sym (output-pixels_of (channels_number h.channels) (pixel_count h) raw channels image_size)
-          ∙ ap (output (channels_number h.channels) (channels_number h.channels)) (sym (take_whole (pixel_count h) (image_pixels h raw) count) ∙ ap (take (pixel_count h)) (sym w.means)) in
+      = sym (output-pixels_of (channels_number h.channels) (pixel_count h) raw channels image_size)
+      ∙ ap (output (channels_number h.channels) (channels_number h.channels)) (sym (take_whole (pixel_count h) (image_pixels h raw) count) ∙ ap (take (pixel_count h)) (sym w.means)) in
       decodes_file h cs (file h cs ++ rest) rest raw (is_file cs w) refl image
 
   -- it is near the shortest

@@ -37,19 +37,18 @@ previous_copies zero p past h = absurd (omega arith)
 previous_copies (suc n) p past h = refl
 
 -- the table after a write at the pixel's index position
-pub held_after : (places : List (List ℕ)) (px : List ℕ) (p : RgbaPixel) (past : Past) → length places ≡ 64 → rgba px ≡ p
-    → ((i : ℕ) → i < 64 → rgba (get_or places i []) ≡ seen past i) → (i : ℕ) → i < 64
-    → rgba (get_or (slice_set places (hash p) px) i []) ≡ cond (eqb (hash p) i) p (seen past i)
-held_after places px p past len is holds i h = at (eqb (hash p) i) refl
+pub held_after : (places : List (List ℕ)) (px : List ℕ) (p : RgbaPixel) (i : ℕ) → length places ≡ 64 → rgba px ≡ p
+    → rgba (get_or (slice_set places (hash p) px) i []) ≡ cond (eqb (hash p) i) p (rgba (get_or places i []))
+held_after places px p i len is = at (eqb (hash p) i) refl
   where
-    at : (b : Bool) → eqb (hash p) i ≡ b → rgba (get_or (slice_set places (hash p) px) i []) ≡ cond b p (seen past i)
+    at : (b : Bool) → eqb (hash p) i ≡ b → rgba (get_or (slice_set places (hash p) px) i []) ≡ cond b p (rgba (get_or places i []))
     at true e =
         let same : hash p ≡ i = eqb-true (hash p) i e in
         let inside : hash p < length places = omega (arith, hash_below p) in
         rw (← same) (rw get_or-set_same is)
     at false e =
         let apart : i ≢ hash p = λ q. eqb-false (hash p) i e (sym q) in
-        rw get_or-set_other (holds i h)
+        rw get_or-set_other refl
 
 -- the state after a chunk
 pub seen_after : (places : List (List ℕ)) (last px : List ℕ) (past : Past) (c : Chunk) (h : ℕ) → IsChunk c → HasSeen places last past → rgba px ≡ pixel_of past c → h ≡ hash (rgba px)
@@ -58,7 +57,9 @@ seen_after places last px past c h is s e at =
     let position : h ≡ hash (pixel_of past c) = at ∙ ap hash e in
     record {
       length_is = length-set places h px ∙ s.length_is;
-      holds = λ i inside. rw position (held_after places px (pixel_of past c) past s.length_is e s.holds i inside ∙ sym (seen_copies (times c) (pixel_of past c) past i (times_above c is)));
+      holds = λ i inside. rw position (held_after places px (pixel_of past c) i s.length_is e
+          ∙ ap (cond (eqb (hash (pixel_of past c)) i) (pixel_of past c)) (s.holds i inside)
+          ∙ sym (seen_copies (times c) (pixel_of past c) past i (times_above c is)));
       last_is = e ∙ sym (previous_copies (times c) (pixel_of past c) past (times_above c is));
     }
 

@@ -1,30 +1,6 @@
-use crate::{Channels, ColorSpace, Error, Header, decode_header};
-use std::alloc::Global;
-use std::io;
-use std::process::Abort;
+use crate::tests::texts::assert_refuses;
+use crate::{Channels, ColorSpace, Header, decode_header};
 use std::test::Fail;
-
-// Compares the printed text of a refusal.
-fn assert_refuses<T: Drop>(
-    rt: &impl Abort,
-    alloc: Global,
-    answer: crate::Result<T>,
-    text: &str,
-) -> crate::Result<()> {
-    let Err(error) = answer else {
-        assert!(rt; false, "accepted, not: {text}");
-        return Ok(());
-    };
-    let printed = format!(in alloc; "{error}")?;
-    assert_eq!(rt; printed.as_str(), text);
-    Ok(())
-}
-
-// Compares the printed texts of refusals.
-fn assert_prints(rt: &impl Abort, alloc: Global, error: Error, text: &str) -> crate::Result<()> {
-    assert_eq!(rt; format!(in alloc; "{error}")?.as_str(), text);
-    Ok(())
-}
 
 #[test]
 fn header_refusals(rt: HostRuntime) -> Result<(), Fail> {
@@ -116,38 +92,6 @@ fn header_takes_fourteen_bytes(rt: HostRuntime) -> Result<(), Fail> {
     assert_eq!(rt;
         (header.channels, header.colorspace),
         (Channels::Rgb, ColorSpace::Srgb)
-    );
-    Ok(())
-}
-
-#[test]
-fn error_texts(rt: HostRuntime) -> Result<(), Fail> {
-    let alloc = rt.alloc();
-    let length = Error::InvalidImageLength {
-        size: 7,
-        width: 2,
-        height: 1,
-    };
-    assert_prints(&rt, alloc, length, "invalid image length: 7 bytes for 2x1")?;
-    let buffer = Error::OutputBufferTooSmall {
-        size: 25,
-        required: 26,
-    };
-    assert_prints(
-        &rt,
-        alloc,
-        buffer,
-        "output buffer size too small: 25 (required: 26)",
-    )?;
-    let padding = "invalid padding (stream end marker mismatch)";
-    assert_prints(&rt, alloc, Error::InvalidPadding, padding)?;
-    assert_prints(&rt, alloc, Error::OutOfMemory, "out of memory")?;
-    let error = Error::from(io::Error::from(io::ErrorKind::BrokenPipe));
-    assert!(rt; matches!(&error, Error::IoError(e) if e.kind() == io::ErrorKind::BrokenPipe));
-    assert!(rt;
-        format!(in alloc; "{error}")?
-            .as_str()
-            .starts_with("i/o error: ")
     );
     Ok(())
 }

@@ -1,5 +1,5 @@
+use crate::tests::fakes::{End, Source};
 use crate::tests::files::{ONE_RGB_PIXEL, file_of};
-use crate::tests::sources::{End, Source};
 use crate::{Channels, ColorSpace, Decoder, Error, Header};
 use std::alloc::Global;
 use std::io::{Cursor, ErrorKind};

@@ -2,48 +2,11 @@ use crate::consts::{
     QOI_MASK_2, QOI_OP_DIFF, QOI_OP_INDEX, QOI_OP_LUMA, QOI_OP_RGB, QOI_OP_RGBA, QOI_OP_RUN,
 };
 use crate::parts::{Chunk, Pixel, SupportedChannels};
+use crate::tests::texts::{assert_prints, assert_refuses, assert_shows};
 use crate::{Channels, ColorSpace, Encoder, Error, Header, encode_max_len};
-use std::alloc::Global;
-use std::fmt::{Debug, Display};
 use std::hash::{DefaultHasher, Hash, Hasher};
-use std::process::Abort;
+use std::io;
 use std::test::Fail;
-
-// Compares a printed text.
-fn assert_prints<T: Display>(
-    rt: &impl Abort,
-    alloc: Global,
-    value: &T,
-    text: &str,
-) -> crate::Result<()> {
-    assert_eq!(rt; format!(in alloc; "{value}")?.as_str(), text);
-    Ok(())
-}
-
-// Compares a text for debugging.
-fn assert_shows<T: Debug>(
-    rt: &impl Abort,
-    alloc: Global,
-    value: &T,
-    text: &str,
-) -> crate::Result<()> {
-    assert_eq!(rt; format!(in alloc; "{value:?}")?.as_str(), text);
-    Ok(())
-}
-
-// Compares the printed text of a refusal.
-fn assert_refuses<T: Drop>(
-    rt: &impl Abort,
-    alloc: Global,
-    answer: crate::Result<T>,
-    text: &str,
-) -> crate::Result<()> {
-    match answer {
-        Ok(_) => assert!(rt; false, "accepted, not: {text}"),
-        Err(error) => assert_prints(rt, alloc, &error, text)?,
-    }
-    Ok(())
-}
 
 #[test]
 fn refusals_are_printed(rt: HostRuntime) -> Result<(), Fail> {
@@ -96,6 +59,18 @@ fn refusals_are_printed(rt: HostRuntime) -> Result<(), Fail> {
         "invalid padding (stream end marker mismatch)",
     )?;
     assert_prints(&rt, alloc, &Error::OutOfMemory, "out of memory")?;
+    Ok(())
+}
+
+#[test]
+fn io_errors_are_kept(rt: HostRuntime) -> Result<(), Fail> {
+    let error = Error::from(io::Error::from(io::ErrorKind::BrokenPipe));
+    assert!(rt; matches!(&error, Error::IoError(e) if e.kind() == io::ErrorKind::BrokenPipe));
+    assert!(rt;
+        format!(in rt.alloc(); "{error}")?
+            .as_str()
+            .starts_with("i/o error: ")
+    );
     Ok(())
 }
 

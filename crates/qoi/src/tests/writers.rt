@@ -1,75 +1,10 @@
-ghost use Rattle.std.specs.Prelude.{◌≡◌, IfOk};
-
+use crate::tests::fakes::{End, Sink};
 use crate::tests::files::ONE_RGB_PIXEL;
 use crate::{ColorSpace, Encoder, Error};
 use std::alloc::Global;
-use std::io;
-use std::io::{ErrorKind, Write};
+use std::io::ErrorKind;
 use std::process::Abort;
 use std::test::Fail;
-
-// How a bad call ends.
-#[derive(Clone, Copy, PartialEq, Eq, Debug)]
-enum End {
-    Fault,
-    Interruption,
-    // No byte is taken, and no error is answered.
-    NoByte,
-}
-
-// What a bad call answers.
-fn ended(end: End) -> io::Result<usize>
-    ensures { IfOk result (λ n. n ≡ 0) }
-{
-    match end {
-        End::Fault => Err(io::Error::from(ErrorKind::BrokenPipe)),
-        End::Interruption => Err(io::Error::from(ErrorKind::Interrupted)),
-        End::NoByte => Ok(0),
-    }
-}
-
-// A writer that keeps the bytes that it takes, at most so many a call. One of its calls, counted
-// from 1, is bad.
-#[derive(Drop)]
-struct Sink {
-    got: Vec<u8>,
-    most: usize,
-    bad: usize,
-    end: End,
-    calls: usize,
-}
-
-impl Sink {
-    // A writer that has taken no byte yet, and has memory for a hundred.
-    fn new(alloc: Global, most: usize, bad: usize, end: End) -> crate::Result<Sink> {
-        Ok(Sink {
-            got: Vec::with_capacity(alloc, 100)?,
-            most,
-            bad,
-            end,
-            calls: 0,
-        })
-    }
-}
-
-impl Write for Sink {
-    fn write(&mut self, buf: &[u8]) -> io::Result<usize> {
-        self.calls = self.calls.saturating_add(1);
-        if self.calls == self.bad {
-            return ended(self.end);
-        }
-        let n = buf.len().min(self.most);
-        match self.got.extend_from_slice(&buf[..n]) {
-            Ok(()) => Ok(n),
-            Err(_) => Err(io::Error::from(ErrorKind::OutOfMemory)),
-        }
-    }
-
-    fn flush(&mut self) -> io::Result<()> {
-        self.calls = self.calls.saturating_add(1);
-        Ok(())
-    }
-}
 
 // Encodes one pixel 0b 79 e7 to the writer: the answer's number or kind of error.
 fn sent(writer: &mut Sink) -> crate::Result<(Option<usize>, Option<ErrorKind>)> {

@@ -38,9 +38,11 @@ returns-clause-decoded c =
     let buf = c.decode_to_buf.new.buf in
     let same : d.header ≡ c.header.result.now = cc in
     let size : c.in_ok-decode_to_buf.field-0 ≡ file_byte_count d.header = decoded.0 ∙ ap (λ k. byte_count d.header (channels_number k)) accepted.1 in
-    let image = subst (λ z. ReadsImage (channels_number d.header.channels) (channels_number d.channels) (pixel_count d.header) (Some d.reader) (Some rest) (take z buf)) size decoded.1 in
-    (rest, subst (λ (k : Header). DecodesFile c.args.data.now k rest (take (file_byte_count k) buf)) same
-    (decodes_behind c.args.data.now d rest (take (file_byte_count d.header) buf) (λ i. omega (arith, c.type_inv.data i)) accepted.0 accepted.1 accepted.2 image))
+    let image = subst (λ z. ReadsImage (channels_number d.header.channels) (channels_number d.channels) (pixel_count d.header) (Some d.reader) (Some rest) (take z buf)) size decoded.1 in (
+      rest,
+      subst (λ (k : Header). DecodesFile c.args.data.now k rest (take (file_byte_count k) buf)) same
+          (decodes_behind c.args.data.now d rest (take (file_byte_count d.header) buf) (λ i. omega (arith, c.type_inv.data i)) accepted.0 accepted.1 accepted.2 image),
+    )
 
 pub returns-clause-accepts : goal.returns-clause-accepts
 returns-clause-accepts c h cs rest f split room =

@@ -38,6 +38,8 @@ returns-clause-decoded c =
     let d = c.in_ok-decoder.decoder in
     let accepted = c.in_ok-decoder.ensures.accepted in
     let rest = c.decode_to_vec.new.self.reader in
-    let same : c.header.result.now ≡ d.header = c.header.ensures ∙ ap (λ (s : DecoderState (List ℕ)). s.header) c.in_ok-out.ensures.kept in
-    (rest, subst (λ (k : Header). DecodesFile c.args.data.now k rest c.in_ok-out.out.items) (sym same)
-    (decodes_behind c.args.data.now d rest c.in_ok-out.out.items (λ i. omega (arith, c.type_inv.data i)) accepted.0 accepted.1 accepted.2 c.in_ok-out.ensures.decoded))
+    let same : c.header.result.now ≡ d.header = c.header.ensures ∙ ap (λ (s : DecoderState (List ℕ)). s.header) c.in_ok-out.ensures.kept in (
+      rest,
+      subst (λ (k : Header). DecodesFile c.args.data.now k rest c.in_ok-out.out.items) (sym same)
+          (decodes_behind c.args.data.now d rest c.in_ok-out.out.items (λ i. omega (arith, c.type_inv.data i)) accepted.0 accepted.1 accepted.2 c.in_ok-out.ensures.decoded),
+    )

@@ -1,8 +1,9 @@
-//! A reader in memory that ends one of its calls badly.
+//! A reader and a writer in memory that end one of their calls badly.
 ghost use Rattle.std.specs.Prelude.{◌≡◌, IfOk};
 
+use std::alloc::Global;
 use std::io;
-use std::io::{ErrorKind, Read};
+use std::io::{ErrorKind, Read, Write};
 
 /// How a bad call ends.
 #[derive(Clone, Copy, PartialEq, Eq, Debug)]
@@ -60,5 +61,50 @@ impl<'a> Read for Source<'a> {
         buf[..n].copy_from_slice(&self.left[..n]);
         self.left = &self.left[n..];
         Ok(n)
+    }
+}
+
+/// Keeps the bytes that it takes, at most so many a call.
+#[derive(Drop)]
+pub struct Sink {
+    /// The bytes that were taken.
+    pub got: Vec<u8>,
+    most: usize,
+    bad_call: usize,
+    end: End,
+    /// How many calls there were, of `flush` too.
+    pub calls: usize,
+}
+
+impl Sink {
+    /// A writer with memory for a hundred bytes, whose call of this number, counted from 1, ends so;
+    /// none does at 0.
+    pub fn new(alloc: Global, most: usize, bad_call: usize, end: End) -> crate::Result<Sink> {
+        Ok(Sink {
+            got: Vec::with_capacity(alloc, 100)?,
+            most,
+            bad_call,
+            end,
+            calls: 0,
+        })
+    }
+}
+
+impl Write for Sink {
+    fn write(&mut self, buf: &[u8]) -> io::Result<usize> {
+        self.calls = self.calls.saturating_add(1);
+        if self.calls == self.bad_call {
+            return ended(self.end);
+        }
+        let n = buf.len().min(self.most);
+        match self.got.extend_from_slice(&buf[..n]) {
+            Ok(()) => Ok(n),
+            Err(_) => Err(io::Error::from(ErrorKind::OutOfMemory)),
+        }
+    }
+
+    fn flush(&mut self) -> io::Result<()> {
+        self.calls = self.calls.saturating_add(1);
+        Ok(())
     }
 }
