@@ -17,6 +17,7 @@ pub Each-push : (P : Past → Chunk → Type 0) (past : Past) (cs : List Chunk) 
 Each-push P past [] c each last = (last, tt)
 Each-push P past (d ∷ cs) c each last = (each.0, Each-push P (then_chunk past d) cs c each.1 last)
 
+-- chunks and one more are chunks
 pub AreChunks-push : (cs : List Chunk) (c : Chunk) → AreChunks cs → IsChunk c → AreChunks (cs ++ c ∷ [])
 AreChunks-push [] c are is = (is, tt)
 AreChunks-push (d ∷ cs) c are is = (are.0, AreChunks-push cs c are.1 is)

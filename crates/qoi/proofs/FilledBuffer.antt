@@ -28,6 +28,7 @@ pub whole_pixels : (c len : ℕ) → IsChannels c → len % c ≡ 0 → len ≡ 
 whole_pixels c len (inl e) = subst (λ k. len % k ≡ 0 → len ≡ k * (len / k)) (sym e) (λ p. omega arith)
 whole_pixels c len (inr e) = subst (λ k. len % k ≡ 0 → len ≡ k * (len / k)) (sym e) (λ p. omega arith)
 
+-- a pixel has as many bytes as channels
 pub length-pixel_bytes : (f c : ℕ) (p : RgbaPixel) → IsChannels c → length (pixel_bytes f c p) ≡ c
 length-pixel_bytes f c p (inl e) = rw e refl
 length-pixel_bytes f c p (inr e) = rw e refl
@@ -65,6 +66,7 @@ pub record Counts (c n l at len : ℕ) : Type 0 where
   pub next : at + c ≡ c * min n (suc l)
   pub room : at + c ≤ len
 
+-- where the buffer stands and how many pixels came count alike
 pub counts : (c n l at len : ℕ) → IsChannels c → len ≡ c * n → at ≡ c * min n l → at < len → Counts c n l at len
 counts c n l at len (inl e) = subst (λ k. len ≡ k * n → at ≡ k * min n l → at < len → Counts k n l at len) (sym e)
     (λ p q h. record { below = omega arith; now = omega arith; next = omega arith; room = omega arith })

@@ -32,6 +32,7 @@ seen_copies (suc (suc n)) p past i h = rw (seen_copies (suc n) p past i (omega a
     twice true = refl
     twice false = refl
 
+-- the last of some copies is the pixel itself
 pub previous_copies : (n : ℕ) (p : RgbaPixel) (past : Past) → 0 < n → previous (replicate n p ++ past) ≡ p
 previous_copies zero p past h = absurd (omega arith)
 previous_copies (suc n) p past h = refl

@@ -22,9 +22,11 @@ wrapped x y = (x + (256 - y)) % 256
 is_plus_2 : (x y u v : ℕ) → u < 256 → v < 256 → x ≡ u → y ≡ v → (wrapped x y + 2) % 256 ≡ plus_2 u v
 is_plus_2 x y u v hu hv e f = omega arith
 
+-- so is green's difference plus 32
 is_plus_32 : (x y u v : ℕ) → u < 256 → v < 256 → x ≡ u → y ≡ v → (wrapped x y + 32) % 256 ≡ plus_32 u v
 is_plus_32 x y u v hu hv e f = omega arith
 
+-- and a difference less green's plus 8
 is_plus_8 : (x y z w u v s t : ℕ) → u < 256 → v < 256 → s < 256 → t < 256 → x ≡ u → y ≡ v → z ≡ s → w ≡ t → ((wrapped x y + (256 - wrapped z w)) % 256 + 8) % 256 ≡ plus_8 u v s t
 is_plus_8 x y z w u v s t hu hv hs ht e f h i = omega arith
 

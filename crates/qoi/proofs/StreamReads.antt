@@ -46,11 +46,13 @@ part_read_luma [] more size h g low high few = absurd (omega arith)
 part_read_luma (b ∷ []) more size h g low high few = part_luma (b ∷ more) (bytes_append (b ∷ []) more h g) (omega arith) low high
 part_read_luma (b ∷ c ∷ first) more size h g low high few = absurd (omega arith)
 
+-- the first byte of RGB and fewer than three more are a part of it
 pub part_read_rgb : (first more : List ℕ) → length first ≡ 1 → AreBytes first → AreBytes more → get_or first 0 0 ≡ 254 → length more < 3 → IsPartOfChunk (first ++ more)
 part_read_rgb [] more size h g is few = absurd (omega arith)
 part_read_rgb (b ∷ []) more size h g is few = part_rgb (b ∷ more) (bytes_append (b ∷ []) more h g) (omega arith) is
 part_read_rgb (b ∷ c ∷ first) more size h g is few = absurd (omega arith)
 
+-- the first byte of RGBA and fewer than four more are a part of it
 pub part_read_rgba : (first more : List ℕ) → length first ≡ 1 → AreBytes first → AreBytes more → get_or first 0 0 ≡ 255 → length more < 4 → IsPartOfChunk (first ++ more)
 part_read_rgba [] more size h g is few = absurd (omega arith)
 part_read_rgba (b ∷ []) more size h g is few = part_rgba (b ∷ more) (bytes_append (b ∷ []) more h g) (omega arith) is

@@ -15,6 +15,7 @@ IsChunk (Run n) = (0 < n) × (n ≤ 62)
 IsChunk (Rgb r g b) = (r < 256) × (g < 256) × (b < 256)
 IsChunk (Rgba r g b a) = (r < 256) × (g < 256) × (b < 256) × (a < 256)
 
+-- so it is of each chunk of a list
 abbrev pub AreChunks : List Chunk → Type 0
 AreChunks cs = AllByRecursion IsChunk cs
 

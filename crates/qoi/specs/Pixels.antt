@@ -9,6 +9,7 @@ pub record RgbaPixel : Type 0 where
   pub b : ℕ
   pub a : ℕ
 
+-- the pixel of four numbers
 abbrev pub pixel : ℕ → ℕ → ℕ → ℕ → RgbaPixel
 pixel r g b a = record { r = r; g = g; b = b; a = a }
 

@@ -1,3 +1,4 @@
+-- The numbers of channels that a hasher is fed are apart.
 use Rattle.std.proofs.Common.{◌≡◌, ℕ, List, [], slice_index_or, arith, refl, ap}
 use Rattle.qoi.specs.declared.types.Channels.TheVariants.{Rgb, Rgba}
 use Rattle.std.specs.Hash.{le_bytes}

@@ -1,3 +1,4 @@
+-- The numbers of color spaces that a hasher is fed are apart.
 use Rattle.std.proofs.Common.{◌≡◌, ℕ, List, [], slice_index_or, arith, refl, ap}
 use Rattle.qoi.specs.declared.types.ColorSpace.TheVariants.{Srgb, Linear}
 use Rattle.std.specs.Hash.{le_bytes}

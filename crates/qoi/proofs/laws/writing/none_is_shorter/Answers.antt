@@ -1,3 +1,4 @@
+-- By the lower bound.
 use Rattle.qoi.proofs.Lower.{lower}
 use Rattle.qoi.proofs.laws.writing.none_is_shorter.Goals as goal
 

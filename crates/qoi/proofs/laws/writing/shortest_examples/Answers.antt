@@ -1,3 +1,4 @@
+-- Each is computed, pixel by pixel.
 use Rattle.std.proofs.Common.{refl}
 use Rattle.qoi.specs.Pixels.{pixel_eq, start, blank, hash}
 use Rattle.qoi.specs.Chunks.{after_diff, after_luma}

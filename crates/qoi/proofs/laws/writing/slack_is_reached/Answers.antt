@@ -1,3 +1,4 @@
+-- Both images are computed, chunk by chunk.
 use Rattle.std.proofs.Common.{refl}
 use Rattle.qoi.specs.Pixels.{start, blank, hash}
 use Rattle.qoi.proofs.SlackReached.{written_rgb, written_rgba}

@@ -1,3 +1,4 @@
+-- By the lemma on neighbours in a written list.
 use Rattle.qoi.specs.Written.{IsChoice}
 use Rattle.qoi.proofs.WrittenShape.{apart_by}
 use Rattle.qoi.proofs.laws.writing.written_is_apart.Goals as goal

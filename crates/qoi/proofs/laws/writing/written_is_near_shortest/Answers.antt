@@ -1,3 +1,4 @@
+-- By the lower and the upper bound.
 use Rattle.std.proofs.Common.{arith}
 use Rattle.qoi.proofs.Lower.{lower}
 use Rattle.qoi.proofs.Upper.{upper}

@@ -1,3 +1,4 @@
+-- By the lemmas that some list is written, and no other.
 use Rattle.qoi.proofs.WrittenExists.{written_some}
 use Rattle.qoi.proofs.WrittenOnce.{written_unique}
 use Rattle.qoi.proofs.laws.writing.written_is_one.Goals as goal

@@ -1,3 +1,4 @@
+-- By the lemma on the index positions that a written list names.
 use Rattle.qoi.proofs.RegularLists.{written_regular}
 use Rattle.qoi.proofs.laws.writing.written_is_regular.Goals as goal
 

@@ -1,3 +1,4 @@
+-- By the upper bound.
 use Rattle.qoi.proofs.Upper.{upper}
 use Rattle.qoi.proofs.laws.writing.written_is_short.Goals as goal
 

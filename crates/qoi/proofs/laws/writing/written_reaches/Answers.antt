@@ -1,3 +1,4 @@
+-- By the lemma on the pixels of a written list.
 use Rattle.qoi.specs.Written.{IsChoice}
 use Rattle.qoi.proofs.WrittenShape.{reaches_by}
 use Rattle.qoi.proofs.laws.writing.written_reaches.Goals as goal
