@@ -22,6 +22,15 @@ times_above (Run n) h = h.0
 times_above (Rgb r g b) h = omega arith
 times_above (Rgba r g b a) h = omega arith
 
+-- a chunk other than a run gives one
+pub times_once : (c : Chunk) → ((n : ℕ) → c ≡ Run n → ⊥) → times c ≡ 1
+times_once (Place i) other = refl
+times_once (Diff d) other = refl
+times_once (Luma d e) other = refl
+times_once (Run n) other = absurd (other n refl)
+times_once (Rgb r g b) other = refl
+times_once (Rgba r g b a) other = refl
+
 -- what an index position holds after a pixel came some times
 pub seen_copies : (n : ℕ) (p : RgbaPixel) (past : Past) (i : ℕ) → 0 < n → seen (replicate n p ++ past) i ≡ cond (eqb (hash p) i) p (seen past i)
 seen_copies zero p past i h = absurd (omega arith)

@@ -84,17 +84,6 @@ impl Seen {
     }
 }
 
-// How many times a chunk gives its pixel.
-#[inline(always)]
-fn times(chunk: Chunk) -> usize
-    ensures { result ≡ chunk_times chunk }
-{
-    match chunk {
-        Chunk::Run(n) => n as usize,
-        _ => 1,
-    }
-}
-
 // Writes a pixel at `at` in `N` channels, of a file of `F` channels.
 #[inline(always)]
 fn write_pixel<const N: usize, const F: usize>(out: &mut [u8], at: usize, px: Pixel<4>)
@@ -137,6 +126,36 @@ fn fill<const N: usize, const F: usize>(
     at
 }
 
+// Puts a chunk's pixel at its index position, writes it from `at` on, once or as often as a run says
+// and as far as there is room, and answers where it stopped. Only a run takes a loop.
+#[inline(always)]
+fn give<const N: usize, const F: usize>(
+    seen: &mut Seen,
+    chunk: Chunk,
+    out: &mut [u8],
+    at: usize,
+) -> usize
+    requires channels { IsChannels N }
+    requires chunk { IsChunk chunk }
+    requires table { length seen.old.places ≡ 64 }
+    requires whole { (length out.old % N ≡ 0) × (at % N ≡ 0) }
+    requires inside { at < length out.old }
+    ensures seen { (past : Past) → HasSeen seen.old.places seen.old.last past
+        → HasSeen seen.new.places seen.new.last (then_chunk past chunk) }
+    ensures filled { (n : ℕ) (past : Past) → HasFilled F N n out.old at past
+        → HasFilled F N n out.new result (replicate (chunk_times chunk) (rgba seen.new.last) ++ past) }
+    ensures whole { result % N ≡ 0 }
+    ensures within { (at < result) × (result ≤ length out.new) }
+{
+    if let Chunk::Run(n) = chunk {
+        seen.put(chunk);
+        return fill::<N, F>(out, at, seen.last, n as usize);
+    }
+    seen.put(chunk);
+    write_pixel::<N, F>(out, at, seen.last);
+    at + N
+}
+
 // Decodes chunks until `out` is full, and gives the bytes after them.
 fn decode_chunks<'a, const N: usize, const F: usize>(
     data: &'a [u8],
@@ -152,8 +171,7 @@ fn decode_chunks<'a, const N: usize, const F: usize>(
     let mut at = 0;
     while at < out.len() {
         let (chunk, after) = read_chunk(rest)?;
-        seen.put(chunk);
-        at = fill::<N, F>(out, at, seen.last, times(chunk));
+        at = give::<N, F>(&mut seen, chunk, out, at);
         rest = after;
     }
     Some(rest)
@@ -251,8 +269,7 @@ fn stream_chunks<R: Read, const N: usize, const F: usize>(
     let mut at = 0;
     while at < out.len() {
         let chunk = next_chunk(reader)?;
-        seen.put(chunk);
-        at = fill::<N, F>(out, at, seen.last, times(chunk));
+        at = give::<N, F>(&mut seen, chunk, out, at);
     }
     Ok(())
 }

@@ -73,7 +73,7 @@ impl<const N: usize> Coder<N> {
     {
         let px_rgba = px.as_rgba(0xff);
         let place = px_rgba.hash_index();
-        if self.noted[place as usize] == px_rgba {
+        if self.noted[place as usize].is_same(px_rgba) {
             return Chunk::Place(place);
         }
         self.noted[place as usize] = px_rgba;
@@ -116,7 +116,7 @@ impl<const N: usize> Coder<N> {
         ensures run { OnOk result (self.new.run < 62) }
         ensures table { length self.new.noted ≡ 64 }
     {
-        if px == self.last {
+        if px.is_same(self.last) {
             self.repeat(buf)?;
             return Ok(());
         }

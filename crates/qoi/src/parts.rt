@@ -48,25 +48,30 @@ pub fn read_chunk(data: &[u8]) -> Option<(Chunk, &[u8])>
         → IsSomeAnd result (λ x. (x.0 ≡ c) × (x.1.now ≡ rest)) }
     ensures part { IsPartOfChunk «data».now → IsNone result }
 {
-    match data {
-        [b1 @ QOI_OP_INDEX..=QOI_OP_INDEX_END, rest @ ..] => Some((Chunk::Place(*b1), rest)),
-        [b1 @ QOI_OP_DIFF..=QOI_OP_DIFF_END, rest @ ..] => Some((Chunk::Diff(*b1), rest)),
-        [b1 @ QOI_OP_LUMA..=QOI_OP_LUMA_END, b2, rest @ ..] => {
-            Some((Chunk::Luma(*b1, *b2), rest))
+    let [first, rest @ ..] = data else {
+        return None;
+    };
+    match *first {
+        QOI_OP_INDEX..=QOI_OP_INDEX_END => Some((Chunk::Place(*first), rest)),
+        QOI_OP_DIFF..=QOI_OP_DIFF_END => Some((Chunk::Diff(*first), rest)),
+        QOI_OP_LUMA..=QOI_OP_LUMA_END => {
+            match rest {
+                [second, rest @ ..] => Some((Chunk::Luma(*first, *second), rest)),
+                _ => None,
+            }
         }
-        [b1 @ QOI_OP_RUN..=QOI_OP_RUN_END, rest @ ..] => {
-            Some((Chunk::Run(*b1 - (QOI_OP_RUN - 1)), rest))
+        QOI_OP_RUN..=QOI_OP_RUN_END => Some((Chunk::Run(*first - (QOI_OP_RUN - 1)), rest)),
+        QOI_OP_RGB => {
+            match rest {
+                [r, g, b, rest @ ..] => Some((Chunk::Rgb(*r, *g, *b), rest)),
+                _ => None,
+            }
         }
-        [QOI_OP_RGB, r, g, b, rest @ ..] => Some((Chunk::Rgb(*r, *g, *b), rest)),
-        [QOI_OP_RGBA, r, g, b, a, rest @ ..] => Some((Chunk::Rgba(*r, *g, *b, *a), rest)),
-        []
-        | [QOI_OP_LUMA..=QOI_OP_LUMA_END]
-        | [QOI_OP_RGB]
-        | [QOI_OP_RGB, _]
-        | [QOI_OP_RGB, _, _]
-        | [QOI_OP_RGBA]
-        | [QOI_OP_RGBA, _]
-        | [QOI_OP_RGBA, _, _]
-        | [QOI_OP_RGBA, _, _, _] => None,
+        QOI_OP_RGBA => {
+            match rest {
+                [r, g, b, a, rest @ ..] => Some((Chunk::Rgba(*r, *g, *b, *a), rest)),
+                _ => None,
+            }
+        }
     }
 }

@@ -1,5 +1,5 @@
 //! A pixel of three or four channels.
-ghost use Rattle.std.specs.Prelude.{◌≡◌, ◌<◌, ◌≤◌, ◌+◌, ℕ, OnOk, IfErr, List, [], ◌∷◌, ◌++◌, length, take, drop, replicate, slice_index, slice_index_or};
+ghost use Rattle.std.specs.Prelude.{◌≡◌, ◌↔◌, ◌<◌, ◌≤◌, ◌+◌, ℕ, IsTrue, OnOk, IfErr, List, [], ◌∷◌, ◌++◌, length, take, drop, replicate, slice_index, slice_index_or};
 ghost use Rattle.qoi.specs.Pixels.{Past, IsPixel, rgba, hash, previous};
 ghost use Rattle.qoi.specs.Output.{IsChannels};
 ghost use Rattle.qoi.specs.Written.{IsFirst};
@@ -217,6 +217,21 @@ impl<const N: usize> Pixel<N> {
             + 11 * u32::from(a);
         (sum % 64) as u8
     }
+
+    // Whether both are the same pixel. Four bytes are compared as one number.
+    #[inline(always)]
+    pub(crate) fn is_same(self, other: Pixel<N>) -> bool
+        requires { IsChannels N }
+        ensures { IsTrue result ↔ (self.entry ≡ other.entry) }
+    {
+        if N == 4 {
+            let bytes = [self.0[0], self.0[1], self.0[2], self.0[3]];
+            let others = [other.0[0], other.0[1], other.0[2], other.0[3]];
+            return u32::from_le_bytes(bytes) == u32::from_le_bytes(others);
+        }
+        self == other
+    }
+
     // The first of a difference, a luma, an RGB and an RGBA chunk that gives this pixel after another.
     #[inline(always)]
     pub(crate) fn spelled_after(self, px_prev: Pixel<N>) -> Chunk

@@ -13,9 +13,9 @@ returns-in_err-chunk-clause-failed g c =
 
 pub loop-at-preserved : goal.loop-at-preserved
 loop-at-preserved g c =
-    goes_on g.row.F g.row.N (length c.args.out.now / g.row.N) (Consumes (g.R.Read.remaining c.args.reader.now) (g.R.Read.remaining c.loop-at.reader)) (Consumes (g.R.Read.remaining c.args.reader.now) (g.R.Read.remaining c.next_chunk.new.reader)) c.loop-at.out _ c.loop-at.at _ c.loop-at.seen.0 _ c.loop-at.seen.1.0 _ c.in_ok-chunk.chunk
+    goes_on g.row.F g.row.N (length c.args.out.now / g.row.N) (Consumes (g.R.Read.remaining c.args.reader.now) (g.R.Read.remaining c.loop-at.reader)) (Consumes (g.R.Read.remaining c.args.reader.now) (g.R.Read.remaining c.next_chunk.new.reader)) c.loop-at.out _ c.loop-at.at _ c.loop-at.seen.places _ c.loop-at.seen.last _ c.in_ok-chunk.chunk
     c.requires.channels c.loop-at.invariant c.loop-at-test.true c.in_ok-chunk.ensures.read.0 (λ bytes took. Consumes-trans _ _ _ bytes _ took c.in_ok-chunk.ensures.read.1)
-    c.put.ensures (λ past h. rw c.times.ensures at (c.fill-at.ensures.filled (length c.args.out.now / g.row.N) past h)) c.fill-at.ensures.within.1 c.fill-at.ensures.whole
+    c.give-at.ensures.seen (c.give-at.ensures.filled (length c.args.out.now / g.row.N)) c.give-at.ensures.within.1 c.give-at.ensures.whole
 
 pub returns-clause-read : goal.returns-clause-read
 returns-clause-read g c =

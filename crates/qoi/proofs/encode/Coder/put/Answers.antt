@@ -1,8 +1,6 @@
 -- A repeat waits or fills its run; before any other pixel's chunk the run that waits is written.
 use Rattle.std.proofs.Common.{◌≡◌, ◌≢◌, inl, inr, ℕ, List, ◌+◌, length, false, true, refl, sym, ap, ◌∙◌, arith, add-one}
 use Rattle.std.proofs.lemmas.Bool.{cases_lt}
-use Rattle.std.proofs.lemmas.Slice.Eq.{bytes_eq-Decides}
-use Rattle.std.specs.Str.{bytes_eq}
 use Rattle.qoi.specs.Output.{IsChannels}
 use Rattle.qoi.specs.Pixels.{Past, rgba, previous}
 use Rattle.qoi.specs.CoderState.{HasCoded}
@@ -11,23 +9,23 @@ use Rattle.qoi.proofs.CodingWrites.{pixels_are, repeat_waits, repeat_full, repea
 use Rattle.qoi.proofs.encode.Coder.put.Goals as goal
 
 -- the last pixel's bytes again are a repeat
-same_pixel : (n : ℕ) (table : List (List ℕ)) (px last : List ℕ) (past : Past) → HasCoded n table last past → true ≡ bytes_eq px last → rgba px ≡ previous past
-same_pixel n table px last past state e = ap rgba ((bytes_eq-Decides px last).0 (sym e)) ∙ state.last_is
+same_pixel : (n : ℕ) (table : List (List ℕ)) (px last : List ℕ) (past : Past) → HasCoded n table last past → px ≡ last → rgba px ≡ previous past
+same_pixel n table px last past state same = ap rgba same ∙ state.last_is
 
 -- a pixel of other bytes than the last one is fresh
-other_pixel : (n : ℕ) (table : List (List ℕ)) (px last : List ℕ) (past : Past) → IsChannels n → length px ≡ n → HasCoded n table last past → false ≡ bytes_eq px last → rgba px ≢ previous past
-other_pixel n table px last past is size state e same =
-    let no : false ≡ true = e ∙ (bytes_eq-Decides px last).1 (rgba_same n px last is size state.size (same ∙ sym state.last_is)) in cc
+other_pixel : (n : ℕ) (table : List (List ℕ)) (px last : List ℕ) (past : Past) → IsChannels n → length px ≡ n → HasCoded n table last past → (px ≡ last → false ≡ true) → rgba px ≢ previous past
+other_pixel n table px last past is size state apart same =
+    let no : false ≡ true = apart (rgba_same n px last is size state.size (same ∙ sym state.last_is)) in cc
 
 -- the state where the run was written
 flushed : (n : ℕ) (table table' : List (List ℕ)) (last last' : List ℕ) (past : Past) → table' ≡ table → last' ≡ last → HasCoded n table last past → HasCoded n table' last' past
 flushed n table table' last last' past t l s = rw (t, l) s
 
-pub returns-then-eq-clause-written : goal.returns-then-eq-clause-written
-returns-then-eq-clause-written g c start image cs todo past rest w =
+pub returns-then-is_same-clause-written : goal.returns-then-is_same-clause-written
+returns-then-is_same-clause-written g c start image cs todo past rest w =
     let s = c.args.self.now in
     let p = rgba c.args.px in
-    let same : p ≡ previous past = same_pixel g.row.N s.noted c.args.px s.last past w.state c.if-eq.ensures in
+    let same : p ≡ previous past = same_pixel g.row.N s.noted c.args.px s.last past w.state (c.if-is_same.ensures.0 refl) in
     let more = c.repeat.new.self in
     elim (cases_lt (s.run + 1) 62) [
       | inl l ↦
@@ -44,20 +42,20 @@ pub returns-in_err-repeat-clause-beginning : goal.returns-in_err-repeat-clause-b
 returns-in_err-repeat-clause-beginning g c start image cs todo past rest w =
     let s = c.args.self.now in
     let p = rgba c.args.px in
-    let same : p ≡ previous past = same_pixel g.row.N s.noted c.args.px s.last past w.state c.if-eq.ensures in
+    let same : p ≡ previous past = same_pixel g.row.N s.noted c.args.px s.last past w.state (c.if-is_same.ensures.0 refl) in
     let r = c.in_err-repeat.ensures.refused in
     on_err _ (repeat_part g.W.Writer.wrote g.W.Writer.room g.met.W.Writer.laws g.row.N start image cs past p rest todo _ _ _ _ w c.repeat.new.buf same (omega (arith, r.1)) r.2)
 
 pub returns-in_err-flush-clause-beginning : goal.returns-in_err-flush-clause-beginning
 returns-in_err-flush-clause-beginning g c start image cs todo past rest w =
     let s = c.args.self.now in
-    let fresh = other_pixel g.row.N s.noted c.args.px s.last past c.requires.channels c.requires.size w.state c.if-eq.ensures in
+    let fresh = other_pixel g.row.N s.noted c.args.px s.last past c.requires.channels c.requires.size w.state c.if-is_same.ensures.1 in
     on_err _ (flush_part g.W.Writer.wrote g.W.Writer.room g.met.W.Writer.laws g.row.N start image cs past (rgba c.args.px) rest todo _ _ _ _ w c.flush.new.buf fresh c.in_err-flush.ensures.refused.1)
 
 pub returns-in_err-write_chunk-clause-beginning : goal.returns-in_err-write_chunk-clause-beginning
 returns-in_err-write_chunk-clause-beginning g c start image cs todo past rest w =
     let s = c.args.self.now in
-    let fresh = other_pixel g.row.N s.noted c.args.px s.last past c.requires.channels c.requires.size w.state c.if-eq.ensures in
+    let fresh = other_pixel g.row.N s.noted c.args.px s.last past c.requires.channels c.requires.size w.state c.if-is_same.ensures.1 in
     let empty = c.in_ok-flush.ensures.emptied in
     let state = flushed g.row.N s.noted _ s.last _ past (ap (λ k. k.noted) empty) (ap (λ k. k.last) empty) w.state in
     let choice = c.choose-chunk.ensures.choice past (pixels_are image cs past _ rest _ todo w.to_write).0 state fresh in
@@ -67,7 +65,7 @@ returns-in_err-write_chunk-clause-beginning g c start image cs todo past rest w 
 pub returns-clause-written : goal.returns-clause-written
 returns-clause-written g c start image cs todo past rest w =
     let s = c.args.self.now in
-    let fresh = other_pixel g.row.N s.noted c.args.px s.last past c.requires.channels c.requires.size w.state c.if-eq.ensures in
+    let fresh = other_pixel g.row.N s.noted c.args.px s.last past c.requires.channels c.requires.size w.state c.if-is_same.ensures.1 in
     let empty = c.in_ok-flush.ensures.emptied in
     let state = flushed g.row.N s.noted _ s.last _ past (ap (λ k. k.noted) empty) (ap (λ k. k.last) empty) w.state in
     let choice = c.choose-chunk.ensures.choice past (pixels_are image cs past _ rest _ todo w.to_write).0 state fresh in
