@@ -3,6 +3,7 @@ use Rattle.std.proofs.Common.{◌≡◌, ℕ, zero, suc, ◌+◌, ◌-◌, ◌*�
 use Rattle.std.proofs.lemmas.List.{length-reverse, reverse-append, take-append-le, take_at, length-take-le, length-drop, replicate-append-replicate}
 use Rattle.std.proofs.Math.Seq.{take-length, take-append-add}
 use Rattle.std.proofs.Math.Nat.{mul-suc}
+use Rattle.std.proofs.lemmas.Bool.{cases_lt}
 use Rattle.std.proofs.lemmas.Grind.{flat_map-append}
 use Rattle.qoi.specs.Pixels.{RgbaPixel, Past}
 use Rattle.qoi.specs.Output.{IsChannels, pixel_bytes, output}
@@ -58,6 +59,34 @@ take_whole n xs e = rw (← e) (take-length xs)
 pub output-more : (f c : ℕ) (p : RgbaPixel) (past : Past) → output f c (reverse (p ∷ past)) ≡ output f c (reverse past) ++ pixel_bytes f c p
 output-more f c p past =
     ap (output f c) (reverse-append (p ∷ []) past) ∙ flat_map-append (pixel_bytes f c) (reverse past) (p ∷ []) ∙ ap (λ z. output f c (reverse past) ++ z) (append-nil (pixel_bytes f c p))
+
+-- how many of `count` copies there is room for from `at` on
+abbrev pub copies : ℕ → ℕ → ℕ → ℕ → ℕ
+copies c at len count = min count ((len - at) / c)
+
+-- the copies fit, and where they aren't all of them they fill the buffer
+pub record Fits (c at len count left : ℕ) : Type 0 where
+  pub room : 0 < left → at + (copies c at len count - left) * c + c ≤ len
+  pub next : 0 < left → at + (copies c at len count - left) * c + c ≡ at + (copies c at len count - (left - 1)) * c
+  pub whole : (at + (copies c at len count - left) * c) % c ≡ 0
+  pub within : at + (copies c at len count - left) * c ≤ len
+  pub further : at < len → 0 < count → left ≡ 0 → at < at + (copies c at len count - left) * c
+  pub ends : left ≡ 0 → (count - copies c at len count ≡ 0) ⊎ (len ≤ at + (copies c at len count - left) * c)
+
+-- so it is at each turn
+pub copies_fit : (c at len count left : ℕ) → IsChannels c → len % c ≡ 0 → at % c ≡ 0 → at ≤ len → left ≤ copies c at len count → Fits c at len count left
+copies_fit c at len count left (inl e) = subst (λ k. len % k ≡ 0 → at % k ≡ 0 → at ≤ len → left ≤ copies k at len count → Fits k at len count left) (sym e)
+    (λ p q h l. record { room = λ some. omega arith; next = λ some. omega arith; whole = omega arith; within = omega arith; further = λ inside some none. omega arith; ends = λ none. ending (cases_lt ((len - at) / 3) count) p q h none })
+  where
+    ending : ((len - at) / 3 < count) ⊎ (count ≤ (len - at) / 3) → len % 3 ≡ 0 → at % 3 ≡ 0 → at ≤ len → left ≡ 0 → (count - copies 3 at len count ≡ 0) ⊎ (len ≤ at + (copies 3 at len count - left) * 3)
+    ending (inl many) p q h none = inr (omega arith)
+    ending (inr few) p q h none = inl (omega arith)
+copies_fit c at len count left (inr e) = subst (λ k. len % k ≡ 0 → at % k ≡ 0 → at ≤ len → left ≤ copies k at len count → Fits k at len count left) (sym e)
+    (λ p q h l. record { room = λ some. omega arith; next = λ some. omega arith; whole = omega arith; within = omega arith; further = λ inside some none. omega arith; ends = λ none. ending (cases_lt ((len - at) / 4) count) p q h none })
+  where
+    ending : ((len - at) / 4 < count) ⊎ (count ≤ (len - at) / 4) → len % 4 ≡ 0 → at % 4 ≡ 0 → at ≤ len → left ≡ 0 → (count - copies 4 at len count ≡ 0) ⊎ (len ≤ at + (copies 4 at len count - left) * 4)
+    ending (inl many) p q h none = inr (omega arith)
+    ending (inr few) p q h none = inl (omega arith)
 
 -- where there is room, the place is after the pixels so far
 pub record Counts (c n l at len : ℕ) : Type 0 where

@@ -117,8 +117,8 @@ fn fill<const N: usize, const F: usize>(
     ensures within { (at ≤ result) × (result ≤ length out.new) }
     ensures further { at < length out.old → 0 < count → at < result }
 {
-    let mut left = count;
-    while left > 0 && at < out.len() {
+    let mut left = count.min((out.len() - at) / N);
+    while left > 0 {
         write_pixel::<N, F>(out, at, px);
         at += N;
         left -= 1;
