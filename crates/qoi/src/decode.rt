@@ -4,7 +4,7 @@ ghost use Rattle.qoi.specs.declared.parts.Chunk.{Chunk};
 ghost use Rattle.qoi.specs.Pixels.{Past, rgba};
 ghost use Rattle.std.specs.Io.KnownBytes.{Consumes};
 ghost use Rattle.qoi.specs.Bytes.{AreBytes};
-ghost use Rattle.qoi.specs.Chunks.{IsChunk, bytes_of, times as chunk_times, pixel_of, then_chunk};
+ghost use Rattle.qoi.specs.Chunks.{IsChunk, bytes_of, times, pixel_of, then_chunk};
 ghost use Rattle.qoi.specs.Output.{IsChannels, pixel_bytes};
 ghost use Rattle.qoi.specs.Filling.{HasFilled, HasSeen};
 ghost use Rattle.qoi.specs.Decoding.{EndsInChunk, ReadsPixels, StreamsPixels, RefusesTaken, RefusesTakenMarker, ReadsImage, ReadsHeader, RefusesMarker, RefusesBytes, RefusesImage, RefusesFile, RefusesWholeFile, DecodesFile, header_size, byte_count, file_byte_count};
@@ -143,7 +143,7 @@ fn give<const N: usize, const F: usize>(
     ensures seen { (past : Past) → HasSeen seen.old.places seen.old.last past
         → HasSeen seen.new.places seen.new.last (then_chunk past chunk) }
     ensures filled { (n : ℕ) (past : Past) → HasFilled F N n out.old at past
-        → HasFilled F N n out.new result (replicate (chunk_times chunk) (rgba seen.new.last) ++ past) }
+        → HasFilled F N n out.new result (replicate (times chunk) (rgba seen.new.last) ++ past) }
     ensures whole { result % N ≡ 0 }
     ensures within { (at < result) × (result ≤ length out.new) }
 {
