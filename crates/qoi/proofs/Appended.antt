@@ -1,8 +1,9 @@
 -- One more chunk at the end of a list.
-use Rattle.std.proofs.Common.{◌≡◌, List, [], ◌∷◌, ◌++◌, length, refl, ap, ◌∙◌, append-nil}
+use Rattle.std.proofs.Common.{◌≡◌, ◌<◌, ◌≤◌, List, [], ◌∷◌, ◌++◌, length, arith, refl, ap, ◌∙◌, append-nil}
 use Rattle.std.proofs.lemmas.List.{length-reverse}
 use Rattle.std.proofs.lemmas.Grind.{flat_map-append}
 use Rattle.qoi.specs.declared.parts.Chunk.{Chunk}
+use Rattle.qoi.specs.declared.parts.Chunk.TheVariants.{Place, Diff, Luma, Run, Rgb, Rgba}
 use Rattle.qoi.specs.Pixels.{Past}
 use Rattle.qoi.specs.Chunks.{IsChunk, AreChunks, bytes_of, text, then_chunk}
 use Rattle.qoi.specs.Meaning.{then_chunks, meaning, Each}
@@ -16,6 +17,15 @@ then_chunks-push past (d ∷ cs) c = then_chunks-push (then_chunk past d) cs c
 pub Each-push : (P : Past → Chunk → Type 0) (past : Past) (cs : List Chunk) (c : Chunk) → Each P past cs → P (then_chunks past cs) c → Each P past (cs ++ c ∷ [])
 Each-push P past [] c each last = (last, tt)
 Each-push P past (d ∷ cs) c each last = (each.0, Each-push P (then_chunk past d) cs c each.1 last)
+
+-- a chunk has one byte to five
+pub length-bytes_of : (c : Chunk) → (0 < length (bytes_of c)) × (length (bytes_of c) ≤ 5)
+length-bytes_of (Place i) = (omega arith, omega arith)
+length-bytes_of (Diff d) = (omega arith, omega arith)
+length-bytes_of (Luma d e) = (omega arith, omega arith)
+length-bytes_of (Run n) = (omega arith, omega arith)
+length-bytes_of (Rgb r g b) = (omega arith, omega arith)
+length-bytes_of (Rgba r g b a) = (omega arith, omega arith)
 
 -- chunks and one more are chunks
 pub AreChunks-push : (cs : List Chunk) (c : Chunk) → AreChunks cs → IsChunk c → AreChunks (cs ++ c ∷ [])

@@ -14,7 +14,7 @@ use Rattle.qoi.specs.Files.{end_marker}
 use Rattle.qoi.specs.Verdicts.{IsPartOfChunk, Takes, IsWhole, IsCut, IsWrong}
 use Rattle.qoi.proofs.PartOfChunk.{part_empty, part_luma, part_rgb, part_rgba}
 use Rattle.qoi.proofs.OneVerdict.{StayBelowAfter, EndsChunks}
-use Rattle.qoi.proofs.Appended.{length-meaning}
+use Rattle.qoi.proofs.Appended.{length-bytes_of, length-meaning}
 
 -- what follows the first byte is bytes
 bytes_after : (b : ℕ) (bytes : List ℕ) → AreBytes (b ∷ bytes) → AreBytes bytes
@@ -106,15 +106,6 @@ reading_goes_on n past bytes c more below hc e r = record {
 reading_ends : (n : ℕ) (past : Past) (bytes : List ℕ) → EndsChunks n past bytes → Reading n past bytes
 reading_ends n past bytes h = record { found = []; rest = bytes; chunks = tt; short = tt; split = refl; ends = h }
 
--- a chunk has a byte or more
-length-bytes_of_pos : (c : Chunk) → 0 < length (bytes_of c)
-length-bytes_of_pos (Place i) = omega arith
-length-bytes_of_pos (Diff d) = omega arith
-length-bytes_of_pos (Luma d e) = omega arith
-length-bytes_of_pos (Run n) = omega arith
-length-bytes_of_pos (Rgb r g b) = omega arith
-length-bytes_of_pos (Rgba r g b a) = omega arith
-
 -- reading ends, since each chunk takes a byte or more
 pub reading_of : (fuel n : ℕ) (past : Past) (bytes : List ℕ) → length bytes < fuel → AreBytes bytes → Reading n past bytes
 reading_of zero n past bytes h fits = absurd (omega arith)
@@ -124,7 +115,7 @@ reading_of (suc fuel) n past bytes h fits =
       | inl below ↦ elim (front bytes fits) [
         | inr part ↦ reading_ends n past bytes (inr (below, part))
         | inl w ↦ reading_goes_on n past bytes w.0 w.1 below w.2 w.3 (reading_of fuel n (then_chunk past w.0) w.1
-            (omega (arith, ap length w.3, length-append (bytes_of w.0) w.1, length-bytes_of_pos w.0))
+            (omega (arith, ap length w.3, length-append (bytes_of w.0) w.1, (length-bytes_of w.0).0))
             (bytes_after_front (bytes_of w.0) w.1 (subst AreBytes w.3 fits)))
       ]
     ]
