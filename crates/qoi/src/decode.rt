@@ -495,7 +495,8 @@ pub fn decode_to_vec(alloc: Global, data: &[u8]) -> Result<(Header, Vec<u8>)>
     Ok((*decoder.header(), out))
 }
 
-/// Decodes the images of files, one after the other, from a slice or from a reader.
+/// Decodes the images of files, one after the other, from a slice or from a reader (QOI specification
+/// 1.0, "File Format", "Data" and "Chunks").
 ///
 /// A contract sees its reader, the header, and the channels of the output.
 #[derive(Drop)]

@@ -242,7 +242,8 @@ pub fn encode_to_vec(alloc: Global, data: &[u8], width: u32, height: u32) -> Res
     Encoder::new(data, width, height)?.encode_to_vec(alloc)
 }
 
-/// Encodes an image into buffers, vectors and writers: the same file each time.
+/// Encodes an image into buffers, vectors and writers: the same file each time (QOI specification
+/// 1.0, "File Format", "Data" and "Chunks").
 ///
 /// A contract sees the raw bytes and the header that the file gets.
 #[derive(Drop)]

@@ -96,6 +96,7 @@ impl From<io::Error> for Error {
 
     ghost from_gives = { λ error e. e ≡ IoError error };
 
+    /// `IoError` with this error.
     fn from(error: io::Error) -> Error {
         Error::IoError(error)
     }
@@ -107,6 +108,7 @@ impl From<AllocError> for Error {
 
     ghost from_gives = { λ _ e. e ≡ OutOfMemory };
 
+    /// `OutOfMemory`.
     fn from(_error: AllocError) -> Error {
         Error::OutOfMemory
     }
@@ -118,6 +120,7 @@ impl<T: Drop> From<AllocFailed<T>> for Error {
 
     ghost from_gives = { λ _ e. e ≡ OutOfMemory };
 
+    /// `OutOfMemory`.
     fn from(_error: AllocFailed<T>) -> Error {
         Error::OutOfMemory
     }

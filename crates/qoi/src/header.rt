@@ -7,7 +7,8 @@ use crate::encode::encode_max_len;
 use crate::error::{Error, Result};
 use crate::types::{Channels, ColorSpace};
 
-/// The size of an image, its number of channels and its color space.
+/// The size of an image, its number of channels and its color space (QOI specification 1.0, "QOI
+/// Header").
 ///
 /// A header of a file has width times height from 1 to 400,000,000; `try_new` sees to that.
 #[derive(Clone, Copy, PartialEq, Eq, Hash, Debug)]

@@ -35,7 +35,7 @@ pub enum Chunk {
     Rgba(u8, u8, u8, u8),
 }
 
-/// The first chunk of the bytes, and the rest of the same slice.
+/// The first chunk of the bytes, and the rest of the same slice (QOI specification 1.0, "Chunks").
 ///
 /// `None` exactly where the slice is empty or shorter than the length of the chunk that its first
 /// byte begins: 4 for fe, 5 for ff, 2 for 80 to bf, and else 1.

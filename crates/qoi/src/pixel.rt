@@ -77,7 +77,8 @@ impl<const N: usize> Pixel<N> {
         self.0[..both].copy_from_slice(&px.0[..both]);
     }
 
-    /// Sets red, green and blue, and keeps alpha.
+    /// Sets red, green and blue, and keeps alpha, as an RGB chunk does (QOI specification 1.0,
+    /// "QOI_OP_RGB").
     #[inline]
     pub fn update_rgb(&mut self, r: u8, g: u8, b: u8)
         requires { IsChannels N }
@@ -88,7 +89,8 @@ impl<const N: usize> Pixel<N> {
         self.0[2] = b;
     }
 
-    /// Sets red, green, blue and alpha, which three channels drop.
+    /// Sets red, green, blue and alpha, as an RGBA chunk does (QOI specification 1.0,
+    /// "QOI_OP_RGBA"); three channels drop alpha.
     #[inline]
     pub fn update_rgba(&mut self, r: u8, g: u8, b: u8, a: u8)
         requires { IsChannels N }
@@ -262,7 +264,7 @@ impl<const N: usize> Pixel<N> {
     }
 
     /// Writes the first of a difference, a luma, an RGB and an RGBA chunk that gives this pixel
-    /// after the pixel `px_prev`.
+    /// after the pixel `px_prev` (QOI specification 1.0, "Chunks").
     ///
     /// The caller sees to it that the writer has room for `N` + 1 bytes. The only refusals are the
     /// writer's, and then a beginning of the chunk is written.
