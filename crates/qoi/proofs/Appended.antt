@@ -2,8 +2,8 @@
 use Rattle.std.proofs.Common.{◌≡◌, ◌<◌, ◌≤◌, List, [], ◌∷◌, ◌++◌, length, arith, refl, ap, ◌∙◌, append-nil}
 use Rattle.std.proofs.lemmas.List.{length-reverse}
 use Rattle.std.proofs.lemmas.Grind.{flat_map-append}
-use Rattle.qoi.specs.declared.parts.Chunk.{Chunk}
-use Rattle.qoi.specs.declared.parts.Chunk.TheVariants.{Place, Diff, Luma, Run, Rgb, Rgba}
+use Rattle.qoi.specs.declared.chunk.Chunk.{Chunk}
+use Rattle.qoi.specs.declared.chunk.Chunk.TheVariants.{Place, Diff, Luma, Run, Rgb, Rgba}
 use Rattle.qoi.specs.Pixels.{Past}
 use Rattle.qoi.specs.Chunks.{IsChunk, AreChunks, bytes_of, text, then_chunk}
 use Rattle.qoi.specs.Meaning.{then_chunks, meaning, Each}

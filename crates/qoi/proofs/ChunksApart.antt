@@ -1,8 +1,8 @@
 -- No chunk's bytes begin another's.
 use Rattle.std.proofs.Common.{◌≡◌, ℕ, ◌+◌, List, [], ◌∷◌, ◌++◌, length, get_or, arith, ap, sym, ◌∙◌, append_assoc, length-append}
 use Rattle.std.proofs.lemmas.List.{append-nil}
-use Rattle.qoi.specs.declared.parts.Chunk.{Chunk}
-use Rattle.qoi.specs.declared.parts.Chunk.TheVariants.{Place, Diff, Luma, Run, Rgb, Rgba}
+use Rattle.qoi.specs.declared.chunk.Chunk.{Chunk}
+use Rattle.qoi.specs.declared.chunk.Chunk.TheVariants.{Place, Diff, Luma, Run, Rgb, Rgba}
 use Rattle.qoi.specs.Chunks.{IsChunk, bytes_of}
 use Rattle.qoi.specs.Verdicts.{IsPartOfChunk}
 

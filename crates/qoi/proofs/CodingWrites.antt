@@ -3,8 +3,8 @@ use Rattle.std.proofs.Common.{◌≡◌, ◌≢◌, ℕ, zero, suc, ◌<◌, Lis
 use Rattle.std.specs.List.{AllByRecursion}
 use Rattle.std.proofs.lemmas.List.{reverse-reverse}
 use Rattle.std.proofs.lemmas.Grind.{flat_map-append}
-use Rattle.qoi.specs.declared.parts.Chunk.{Chunk}
-use Rattle.qoi.specs.declared.parts.Chunk.TheVariants.{Run}
+use Rattle.qoi.specs.declared.chunk.Chunk.{Chunk}
+use Rattle.qoi.specs.declared.chunk.Chunk.TheVariants.{Run}
 use Rattle.qoi.specs.Pixels.{RgbaPixel, IsPixel, Past, previous}
 use Rattle.qoi.specs.Chunks.{IsChunk, bytes_of, text}
 use Rattle.qoi.specs.Written.{IsChoice}

@@ -2,8 +2,8 @@
 use Rattle.std.proofs.Common.{◌≡◌, ◌≢◌, ℕ, zero, suc, ◌<◌, Bool, true, false, List, [], ◌∷◌, ◌++◌, length, get_or, slice_set, replicate, cond, eqb, eqb-true, arith, refl, sym, ap, ◌∙◌, get_or-set_other, get_or-set_same}
 use Rattle.std.proofs.lemmas.List.{length-set, length-replicate, get_or-replicate}
 use Rattle.std.proofs.lemmas.Bool.{eqb-false}
-use Rattle.qoi.specs.declared.parts.Chunk.{Chunk}
-use Rattle.qoi.specs.declared.parts.Chunk.TheVariants.{Place, Diff, Luma, Run, Rgb, Rgba}
+use Rattle.qoi.specs.declared.chunk.Chunk.{Chunk}
+use Rattle.qoi.specs.declared.chunk.Chunk.TheVariants.{Place, Diff, Luma, Run, Rgb, Rgba}
 use Rattle.qoi.specs.Pixels.{RgbaPixel, Past, rgba, previous, seen, hash, start, blank}
 use Rattle.qoi.specs.Chunks.{IsChunk, times, pixel_of, then_chunk}
 use Rattle.qoi.specs.Filling.{HasSeen}

@@ -1,6 +1,6 @@
 -- Two images whose written list is longer than a regular one by the whole slack.
 use Rattle.std.proofs.Common.{◌≡◌, ◌≢◌, [], ◌∷◌, refl, ap, arith}
-use Rattle.qoi.specs.declared.parts.Chunk.TheVariants.{Run, Rgb, Rgba}
+use Rattle.qoi.specs.declared.chunk.Chunk.TheVariants.{Run, Rgb, Rgba}
 use Rattle.qoi.specs.Pixels.{RgbaPixel, IsPixel, Past, pixel, pixel_eq, start, blank, previous, hash}
 use Rattle.qoi.specs.Written.{noted, IsChoice, Written}
 use Rattle.qoi.proofs.Spelled.{FitsDiff, FitsLuma, first_rgb, first_rgba}

@@ -1,8 +1,8 @@
 -- The first chunk that spells a pixel out, by the differences of bytes that an encoder computes.
 use Rattle.std.proofs.Common.{◌≡◌, ◌≢◌, ⊎_elim, ℕ, ◌+◌, ◌-◌, ◌*◌, ◌/◌, ◌%◌, ◌<◌, ◌≤◌, refl, sym, ap, arith}
 use Rattle.std.proofs.lemmas.Bool.{cases_lt}
-use Rattle.qoi.specs.declared.parts.Chunk.{Chunk}
-use Rattle.qoi.specs.declared.parts.Chunk.TheVariants.{Place, Diff, Luma, Run, Rgb, Rgba}
+use Rattle.qoi.specs.declared.chunk.Chunk.{Chunk}
+use Rattle.qoi.specs.declared.chunk.Chunk.TheVariants.{Place, Diff, Luma, Run, Rgb, Rgba}
 use Rattle.qoi.specs.Pixels.{RgbaPixel, IsPixel, Past, previous}
 use Rattle.qoi.specs.Chunks.{IsChunk, pixel_of, after_diff, after_luma}
 use Rattle.qoi.specs.Written.{rank, IsFirst}

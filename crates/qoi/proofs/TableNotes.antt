@@ -1,8 +1,8 @@
 -- A table that holds what is noted at each index position, as an encoder keeps it.
 use Rattle.std.proofs.Common.{◌≡◌, ◌≢◌, ℕ, ◌<◌, cond, eqb, [], ◌∷◌, ◌==◌, if◌then◌else◌, refl, sym, ap, ◌∙◌}
 use Rattle.std.proofs.lemmas.Bool.{cond_both, eqb-true}
-use Rattle.qoi.specs.declared.parts.Chunk.{Chunk}
-use Rattle.qoi.specs.declared.parts.Chunk.TheVariants.{Place}
+use Rattle.qoi.specs.declared.chunk.Chunk.{Chunk}
+use Rattle.qoi.specs.declared.chunk.Chunk.TheVariants.{Place}
 use Rattle.qoi.specs.Pixels.{RgbaPixel, Past, previous, hash, blank}
 use Rattle.qoi.specs.Written.{noted, IsFirst, IsChoice}
 use Rattle.qoi.proofs.NotedPixels.{noted_repeat, noted_fresh}

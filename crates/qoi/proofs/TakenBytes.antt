@@ -1,7 +1,7 @@
 -- How many bytes a decoder takes for n pixels.
 use Rattle.std.proofs.Common.{◌≡◌, ℕ, ◌+◌, ◌*◌, ◌<◌, ◌≤◌, List, [], ◌∷◌, length, replicate, arith, length-append}
 use Rattle.std.proofs.lemmas.List.{length-replicate}
-use Rattle.qoi.specs.declared.parts.Chunk.{Chunk}
+use Rattle.qoi.specs.declared.chunk.Chunk.{Chunk}
 use Rattle.qoi.specs.Pixels.{Past}
 use Rattle.qoi.specs.Chunks.{AreChunks, bytes_of, text, times, pixel_of, then_chunk}
 use Rattle.qoi.specs.Meaning.{Reaches, StayBelow, meaning, then_chunks}

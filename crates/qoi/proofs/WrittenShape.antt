@@ -2,8 +2,8 @@
 use Rattle.std.proofs.Common.{◌≡◌, inl, inr, ℕ, ◌+◌, ◌*◌, ◌<◌, ◌≤◌, List, [], ◌∷◌, ◌++◌, length, reverse, refl, sym, ap, ◌∙◌, eqb, add-mul, arith}
 use Rattle.std.proofs.lemmas.List.{reverse-reverse, length-append, length-replicate, length-reverse}
 use Rattle.std.proofs.lemmas.Bool.{cond_both}
-use Rattle.qoi.specs.declared.parts.Chunk.{Chunk}
-use Rattle.qoi.specs.declared.parts.Chunk.TheVariants.{Place, Diff, Luma, Run, Rgb, Rgba}
+use Rattle.qoi.specs.declared.chunk.Chunk.{Chunk}
+use Rattle.qoi.specs.declared.chunk.Chunk.TheVariants.{Place, Diff, Luma, Run, Rgb, Rgba}
 use Rattle.qoi.specs.Pixels.{RgbaPixel, Past, previous, start, seen, hash}
 use Rattle.qoi.specs.Chunks.{IsChunk, AreChunks, bytes_of, text, pixel_of, times, then_chunk}
 use Rattle.qoi.specs.Meaning.{then_chunks, meaning, Each, Reaches}

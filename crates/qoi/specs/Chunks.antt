@@ -1,8 +1,8 @@
 -- The six kinds of chunk, their bytes, and the pixels that they give (QOI specification 1.0, "Chunks").
 use Rattle.std.specs.Prelude.{ℕ, ◌+◌, ◌/◌, ◌%◌, ◌<◌, ◌≤◌, List, [], ◌∷◌, ◌++◌, replicate}
 use Rattle.std.specs.List.{flat_map, AllByRecursion}
-use Rattle.qoi.specs.declared.parts.Chunk.{Chunk}
-use Rattle.qoi.specs.declared.parts.Chunk.TheVariants.{Place, Diff, Luma, Run, Rgb, Rgba}
+use Rattle.qoi.specs.declared.chunk.Chunk.{Chunk}
+use Rattle.qoi.specs.declared.chunk.Chunk.TheVariants.{Place, Diff, Luma, Run, Rgb, Rgba}
 use Rattle.qoi.specs.Pixels.{RgbaPixel, Past, pixel, previous, seen}
 
 -- The numbers that a chunk may have: an index position, the bytes of a difference and of a luma with

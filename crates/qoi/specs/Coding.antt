@@ -1,8 +1,8 @@
 -- An image's list while it is being written.
 use Rattle.std.specs.Prelude.{◌≡◌, ℕ, ◌<◌, List, [], ◌∷◌, ◌++◌, reverse}
 use Rattle.std.specs.List.{AllByRecursion}
-use Rattle.qoi.specs.declared.parts.Chunk.{Chunk}
-use Rattle.qoi.specs.declared.parts.Chunk.TheVariants.{Run}
+use Rattle.qoi.specs.declared.chunk.Chunk.{Chunk}
+use Rattle.qoi.specs.declared.chunk.Chunk.TheVariants.{Run}
 use Rattle.qoi.specs.Pixels.{RgbaPixel, IsPixel, Past}
 use Rattle.qoi.specs.Chunks.{AreChunks, text, then_chunk}
 use Rattle.qoi.specs.Meaning.{Each, then_chunks}

@@ -1,7 +1,7 @@
 -- The files of the format (QOI specification 1.0, "File Format" and "Data").
 use Rattle.std.specs.Prelude.{ℕ, List, [], ◌∷◌, ◌++◌, take}
 use Rattle.qoi.specs.declared.header.Header.{Header}
-use Rattle.qoi.specs.declared.parts.Chunk.{Chunk}
+use Rattle.qoi.specs.declared.chunk.Chunk.{Chunk}
 use Rattle.qoi.specs.Pixels.{RgbaPixel}
 use Rattle.qoi.specs.Chunks.{AreChunks, text}
 use Rattle.qoi.specs.Meaning.{Reaches, meaning}

@@ -1,6 +1,6 @@
 -- What a list of chunks means (QOI specification 1.0, "Chunks" and "Data").
 use Rattle.std.specs.Prelude.{ℕ, ◌<◌, ◌≤◌, List, [], ◌∷◌, length, reverse}
-use Rattle.qoi.specs.declared.parts.Chunk.{Chunk}
+use Rattle.qoi.specs.declared.chunk.Chunk.{Chunk}
 use Rattle.qoi.specs.Pixels.{RgbaPixel, Past}
 use Rattle.qoi.specs.Chunks.{then_chunk}
 

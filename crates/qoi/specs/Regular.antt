@@ -1,7 +1,7 @@
 -- Chunk lists that name an index position only where a pixel was put, and lists that begin with an image.
 use Rattle.std.specs.Prelude.{◌≡◌, List, [], ◌++◌}
-use Rattle.qoi.specs.declared.parts.Chunk.{Chunk}
-use Rattle.qoi.specs.declared.parts.Chunk.TheVariants.{Place}
+use Rattle.qoi.specs.declared.chunk.Chunk.{Chunk}
+use Rattle.qoi.specs.declared.chunk.Chunk.TheVariants.{Place}
 use Rattle.qoi.specs.Pixels.{RgbaPixel, Past, seen, hash}
 use Rattle.qoi.specs.Meaning.{Each}
 

@@ -1,6 +1,6 @@
 -- The chunk that spells a pixel out after another (QOI specification 1.0, "Chunks").
 use Rattle.std.specs.Prelude.{◌≡◌, ℕ, List}
-use Rattle.qoi.specs.declared.parts.Chunk.{Chunk}
+use Rattle.qoi.specs.declared.chunk.Chunk.{Chunk}
 use Rattle.qoi.specs.Pixels.{Past, IsPixel, rgba, previous}
 use Rattle.qoi.specs.Chunks.{IsChunk}
 use Rattle.qoi.specs.Written.{IsFirst}

@@ -1,7 +1,7 @@
 -- The verdict on the bytes after a header, for an image of n pixels: exactly one of whole, cut and wrong
 -- (QOI specification 1.0, "File Format" and "Data").
 use Rattle.std.specs.Prelude.{◌≡◌, ◌≢◌, ℕ, ◌<◌, ◌≤◌, ◌⊎◌, List, ◌∷◌, ◌++◌, length}
-use Rattle.qoi.specs.declared.parts.Chunk.{Chunk}
+use Rattle.qoi.specs.declared.chunk.Chunk.{Chunk}
 use Rattle.qoi.specs.Chunks.{IsChunk, AreChunks, bytes_of, text}
 use Rattle.qoi.specs.Meaning.{StayBelow, meaning}
 use Rattle.qoi.specs.Files.{end_marker}

@@ -1,7 +1,7 @@
 -- The chunk list that is written for an image.
 use Rattle.std.specs.Prelude.{◌≡◌, ◌≢◌, ℕ, ◌<◌, ◌≤◌, List, [], ◌∷◌, if◌then◌else◌}
-use Rattle.qoi.specs.declared.parts.Chunk.{Chunk}
-use Rattle.qoi.specs.declared.parts.Chunk.TheVariants.{Place, Diff, Luma, Run, Rgb, Rgba}
+use Rattle.qoi.specs.declared.chunk.Chunk.{Chunk}
+use Rattle.qoi.specs.declared.chunk.Chunk.TheVariants.{Place, Diff, Luma, Run, Rgb, Rgba}
 use Rattle.qoi.specs.Pixels.{RgbaPixel, Past, pixel_eq, previous, seen, hash}
 use Rattle.qoi.specs.Chunks.{IsChunk, AreChunks, pixel_of}
 use Rattle.qoi.specs.Meaning.{meaning, Each}

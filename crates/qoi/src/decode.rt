@@ -1,6 +1,6 @@
 //! Decoding, from slices and from streams.
 ghost use Rattle.std.specs.Prelude.{◌≡◌, ◌≢◌, ℕ, ◌+◌, ◌*◌, ◌/◌, ◌%◌, ◌<◌, ◌≤◌, List, [], ◌++◌, length, take, drop, replicate, Option, Some, MatchOption, MatchResult, IfOk, IfErr, OnOk, OnErr, IsOk, IsErrOf, IsOkUnless, IsSome, ◌⊎◌, Bool, true, false, Ok, Err, refl};
-ghost use Rattle.qoi.specs.declared.parts.Chunk.{Chunk};
+ghost use Rattle.qoi.specs.declared.chunk.Chunk.{Chunk};
 ghost use Rattle.qoi.specs.Pixels.{Past, rgba};
 ghost use Rattle.std.specs.Io.KnownBytes.{Consumes};
 ghost use Rattle.qoi.specs.Bytes.{AreBytes};
@@ -15,15 +15,15 @@ ghost use Rattle.qoi.specs.declared.header.Header.{Header};
 ghost use Rattle.qoi.specs.declared.error.Error.{Error};
 ghost use Rattle.qoi.specs.Files.{IsFile, end_marker, file};
 
+use crate::chunk::{
+    Chunk, QOI_OP_DIFF_END, QOI_OP_INDEX_END, QOI_OP_LUMA_END, QOI_OP_RUN_END, read_chunk,
+};
 use crate::consts::{
     QOI_HEADER_SIZE, QOI_OP_DIFF, QOI_OP_INDEX, QOI_OP_LUMA, QOI_OP_RGB, QOI_OP_RGBA, QOI_OP_RUN,
     QOI_PADDING, QOI_PADDING_SIZE,
 };
 use crate::error::{Error, Result};
 use crate::header::Header;
-use crate::parts::{
-    Chunk, QOI_OP_DIFF_END, QOI_OP_INDEX_END, QOI_OP_LUMA_END, QOI_OP_RUN_END, read_chunk,
-};
 use crate::pixel::Pixel;
 use crate::types::Channels;
 use std::alloc::Global;

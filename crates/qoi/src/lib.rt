@@ -17,6 +17,7 @@
 //! ```
 #![tactic(auto)]
 
+mod chunk;
 #[doc(hidden)]
 pub mod consts;
 mod decode;

@@ -1,17 +1,9 @@
 //! A pixel of three or four channels.
-ghost use Rattle.std.specs.Prelude.{◌≡◌, ◌↔◌, ◌<◌, ◌≤◌, ◌+◌, ℕ, IsTrue, OnOk, IfErr, List, [], ◌∷◌, ◌++◌, length, take, drop, replicate, slice_index, slice_index_or};
-ghost use Rattle.qoi.specs.Pixels.{Past, IsPixel, rgba, hash, previous};
+ghost use Rattle.std.specs.Prelude.{◌≡◌, ◌↔◌, ◌<◌, ℕ, IsTrue, List, [], ◌∷◌, ◌++◌, length, take, drop, replicate, slice_index, slice_index_or};
+ghost use Rattle.qoi.specs.Pixels.{rgba, hash};
 ghost use Rattle.qoi.specs.Output.{IsChannels};
-ghost use Rattle.qoi.specs.Written.{IsFirst};
-ghost use Rattle.qoi.specs.Spelling.{Spells};
-ghost use Rattle.qoi.specs.Writes.{WroteSome};
-ghost use Rattle.qoi.specs.declared.parts.Chunk.{Chunk};
-ghost use Rattle.qoi.specs.Chunks.{IsChunk, after_diff, after_luma, moved, bytes_of};
+ghost use Rattle.qoi.specs.Chunks.{after_diff, after_luma, moved};
 
-use crate::consts::{QOI_OP_DIFF, QOI_OP_LUMA};
-use crate::error::Result;
-use crate::parts::Chunk;
-use crate::utils::{Writer, write_chunk};
 use std::marker::Model;
 
 /// A pixel of `N` channels of 8 bits, 3 or 4.
@@ -232,50 +224,5 @@ impl<const N: usize> Pixel<N> {
             return u32::from_le_bytes(bytes) == u32::from_le_bytes(others);
         }
         self == other
-    }
-
-    // The first of a difference, a luma, an RGB and an RGBA chunk that gives this pixel after another.
-    #[inline(always)]
-    pub(crate) fn spelled_after(self, px_prev: Pixel<N>) -> Chunk
-        requires { IsChannels N }
-        ensures chunk { IsChunk result }
-        ensures size { length (bytes_of result) ≤ N + 1 }
-        ensures first { (past : Past) → IsPixel (previous past) → previous past ≡ rgba px_prev.entry
-            → IsFirst past (rgba self.entry) result }
-    {
-        let (r, g, b, a) = (self.r(), self.g(), self.b(), self.a_or(0xff));
-        if a != px_prev.a_or(0xff) {
-            return Chunk::Rgba(r, g, b, a);
-        }
-        let vr = r.wrapping_sub(px_prev.r());
-        let vg = g.wrapping_sub(px_prev.g());
-        let vb = b.wrapping_sub(px_prev.b());
-        let (vr_2, vg_2, vb_2) = (vr.wrapping_add(2), vg.wrapping_add(2), vb.wrapping_add(2));
-        if vr_2 < 4 && vg_2 < 4 && vb_2 < 4 {
-            return Chunk::Diff(QOI_OP_DIFF + vr_2 * 16 + vg_2 * 4 + vb_2);
-        }
-        let vg_32 = vg.wrapping_add(32);
-        let vg_r_8 = vr.wrapping_sub(vg).wrapping_add(8);
-        let vg_b_8 = vb.wrapping_sub(vg).wrapping_add(8);
-        if vg_32 < 64 && vg_r_8 < 16 && vg_b_8 < 16 {
-            return Chunk::Luma(QOI_OP_LUMA + vg_32, vg_r_8 * 16 + vg_b_8);
-        }
-        Chunk::Rgb(r, g, b)
-    }
-
-    /// Writes the first of a difference, a luma, an RGB and an RGBA chunk that gives this pixel
-    /// after the pixel `px_prev` (QOI specification 1.0, "Chunks").
-    ///
-    /// The caller sees to it that the writer has room for `N` + 1 bytes. The only refusals are the
-    /// writer's, and then a beginning of the chunk is written.
-    #[inline]
-    pub fn encode_into<W: Writer>(&self, px_prev: Pixel<N>, buf: &mut W) -> Result<()>
-        requires channels { IsChannels N }
-        requires room { N + 1 ≤ W.room buf.old }
-        ensures written { OnOk result ((c : Chunk) × Spells self.now px_prev.entry c × W.wrote buf.old (bytes_of c) buf.new) }
-        ensures refused { IfErr result (λ e. W.Refuses e
-            × (c : Chunk) × Spells self.now px_prev.entry c × WroteSome W.wrote buf.old (bytes_of c) buf.new) }
-    {
-        write_chunk(buf, self.spelled_after(px_prev))
     }
 }

@@ -1,11 +1,15 @@
 //! Where the encoder writes.
-ghost use Rattle.std.specs.Prelude.{◌≡◌, ℕ, ◌<◌, ◌≤◌, List, [], ◌∷◌, length, OnOk, IfErr};
+ghost use Rattle.std.specs.Prelude.{◌≡◌, ℕ, ◌+◌, ◌<◌, ◌≤◌, List, [], ◌∷◌, length, OnOk, IfErr};
+ghost use Rattle.qoi.specs.declared.chunk.Chunk.{Chunk};
 ghost use Rattle.qoi.specs.Writes.{WriterLaws, WroteSome};
 ghost use Rattle.qoi.specs.Chunks.{IsChunk, bytes_of};
+ghost use Rattle.qoi.specs.Output.{IsChannels};
+ghost use Rattle.qoi.specs.Spelling.{Spells};
 
+use crate::chunk::Chunk;
 use crate::consts::{QOI_OP_INDEX, QOI_OP_RGB, QOI_OP_RGBA, QOI_OP_RUN};
 use crate::error::{Error, Result};
-use crate::parts::Chunk;
+use crate::pixel::Pixel;
 use std::io;
 use std::io::{ErrorKind, Write};
 
@@ -58,6 +62,24 @@ pub(crate) fn write_chunk<W: Writer>(buf: &mut W, chunk: Chunk) -> Result<()>
         Chunk::Run(n) => buf.write_one(QOI_OP_RUN + (n - 1)),
         Chunk::Rgb(r, g, b) => buf.write_many(&[QOI_OP_RGB, r, g, b]),
         Chunk::Rgba(r, g, b, a) => buf.write_many(&[QOI_OP_RGBA, r, g, b, a]),
+    }
+}
+
+impl<const N: usize> Pixel<N> {
+    /// Writes the first of a difference, a luma, an RGB and an RGBA chunk that gives this pixel
+    /// after the pixel `px_prev` (QOI specification 1.0, "Chunks").
+    ///
+    /// The caller sees to it that the writer has room for `N` + 1 bytes. The only refusals are the
+    /// writer's, and then a beginning of the chunk is written.
+    #[inline]
+    pub fn encode_into<W: Writer>(&self, px_prev: Pixel<N>, buf: &mut W) -> Result<()>
+        requires channels { IsChannels N }
+        requires room { N + 1 ≤ W.room buf.old }
+        ensures written { OnOk result ((c : Chunk) × Spells self.now px_prev.entry c × W.wrote buf.old (bytes_of c) buf.new) }
+        ensures refused { IfErr result (λ e. W.Refuses e
+            × (c : Chunk) × Spells self.now px_prev.entry c × WroteSome W.wrote buf.old (bytes_of c) buf.new) }
+    {
+        write_chunk(buf, self.spelled_after(px_prev))
     }
 }
 

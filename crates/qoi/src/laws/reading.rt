@@ -4,7 +4,7 @@ ghost use Rattle.qoi.specs.declared.error.Error.{Error};
 ghost use Rattle.qoi.specs.declared.header.Header.{Header};
 ghost use Rattle.qoi.specs.declared.types.Channels.{Channels};
 ghost use Rattle.qoi.specs.declared.types.ColorSpace.{ColorSpace};
-ghost use Rattle.qoi.specs.declared.parts.Chunk.{Chunk};
+ghost use Rattle.qoi.specs.declared.chunk.Chunk.{Chunk};
 ghost use Rattle.qoi.specs.Bytes.{AreBytes};
 ghost use Rattle.qoi.specs.Chunks.{IsChunk, AreChunks, bytes_of, text};
 ghost use Rattle.qoi.specs.Files.{IsFile, file, file_pixels};

@@ -2,7 +2,7 @@
 ghost use Rattle.std.specs.Prelude.{◌≡◌, ℕ, ◌+◌, ◌*◌, ◌<◌, List, [], length, take, Option, Some, false, slice_index};
 ghost use Rattle.std.specs.Io.KnownBytes.{Consumes};
 ghost use Rattle.qoi.specs.declared.error.Error.{Error};
-ghost use Rattle.qoi.specs.declared.parts.Chunk.{Chunk};
+ghost use Rattle.qoi.specs.declared.chunk.Chunk.{Chunk};
 ghost use Rattle.qoi.specs.Pixels.{RgbaPixel};
 ghost use Rattle.qoi.specs.Meaning.{meaning};
 ghost use Rattle.qoi.specs.Output.{output, without_fourth};

@@ -1,10 +1,10 @@
 //! Laws of the chunk list that is written for an image.
 ghost use Rattle.std.specs.Prelude.{◌≡◌, ◌≢◌, ℕ, ◌+◌, ◌*◌, ◌/◌, ◌<◌, ◌≤◌, List, [], ◌∷◌, ◌++◌, length, replicate};
 ghost use Rattle.std.specs.List.{AllByRecursion};
-ghost use Rattle.qoi.specs.declared.parts.Chunk.{Chunk};
+ghost use Rattle.qoi.specs.declared.chunk.Chunk.{Chunk};
 ghost use Rattle.qoi.specs.declared.types.Channels.{Channels};
 ghost use Rattle.qoi.specs.declared.types.ColorSpace.{ColorSpace};
-ghost use Rattle.qoi.specs.declared.parts.Chunk.TheVariants.{Place, Run, Rgb, Rgba};
+ghost use Rattle.qoi.specs.declared.chunk.Chunk.TheVariants.{Place, Run, Rgb, Rgba};
 ghost use Rattle.qoi.specs.Pixels.{RgbaPixel, IsPixel, Past, blank, pixel, previous};
 ghost use Rattle.qoi.specs.Chunks.{AreChunks, text};
 ghost use Rattle.qoi.specs.Encoded.{max_len};

@@ -1,0 +1,109 @@
+//! The chunks of the format (QOI specification 1.0, "Chunks").
+ghost use Rattle.std.specs.Prelude.{◌≡◌, ◌≤◌, ◌+◌, ℕ, List, ◌++◌, length, IfSome, IfNone, IsNone, IsSomeAnd};
+ghost use Rattle.qoi.specs.declared.chunk.Chunk.{Chunk};
+ghost use Rattle.qoi.specs.Pixels.{Past, IsPixel, rgba, previous};
+ghost use Rattle.qoi.specs.Chunks.{IsChunk, bytes_of};
+ghost use Rattle.qoi.specs.Output.{IsChannels};
+ghost use Rattle.qoi.specs.Verdicts.{IsPartOfChunk};
+ghost use Rattle.qoi.specs.Written.{IsFirst};
+
+use crate::consts::{QOI_OP_DIFF, QOI_OP_INDEX, QOI_OP_LUMA, QOI_OP_RGB, QOI_OP_RGBA, QOI_OP_RUN};
+use crate::pixel::Pixel;
+
+pub(crate) const QOI_OP_INDEX_END: u8 = QOI_OP_INDEX | 0x3f;
+
+pub(crate) const QOI_OP_DIFF_END: u8 = QOI_OP_DIFF | 0x3f;
+
+pub(crate) const QOI_OP_LUMA_END: u8 = QOI_OP_LUMA | 0x3f;
+// The bytes of runs of 63 and 64 are those of RGB and RGBA.
+pub(crate) const QOI_OP_RUN_END: u8 = QOI_OP_RUN | 0x3d;
+
+/// A chunk (QOI specification 1.0, "Chunks").
+#[derive(Clone, Copy, PartialEq, Eq, Debug)]
+pub enum Chunk {
+    /// The pixel at an index position, 0 to 63.
+    Place(u8),
+    /// Differences of red, green and blue from the previous pixel, -2 to 1 each: the chunk's byte.
+    Diff(u8),
+    /// A difference of green, -32 to 31, and those of red and blue less green's, -8 to 7: both
+    /// bytes of the chunk.
+    Luma(u8, u8),
+    /// The previous pixel again, 1 to 62 times.
+    Run(u8),
+    /// Red, green and blue; alpha stays.
+    Rgb(u8, u8, u8),
+    /// Red, green, blue and alpha.
+    Rgba(u8, u8, u8, u8),
+}
+
+/// The first chunk of the bytes, and the rest of the same slice (QOI specification 1.0, "Chunks").
+///
+/// `None` exactly where the slice is empty or shorter than the length of the chunk that its first
+/// byte begins: 4 for fe, 5 for ff, 2 for 80 to bf, and else 1.
+#[inline(always)]
+#[tactic(auto, using(crate::proofs::PartOfChunk::part_empty, crate::proofs::PartOfChunk::part_luma, crate::proofs::PartOfChunk::part_rgb, crate::proofs::PartOfChunk::part_rgba))]
+pub fn read_chunk(data: &[u8]) -> Option<(Chunk, &[u8])>
+    ensures some { IfSome result (λ x. IsChunk x.0 × («data».now ≡ bytes_of x.0 ++ x.1.now)) }
+    ensures none { IfNone result (IsPartOfChunk «data».now) }
+    ensures only { (c : Chunk) (rest : List ℕ) → IsChunk c → «data».now ≡ bytes_of c ++ rest
+        → IsSomeAnd result (λ x. (x.0 ≡ c) × (x.1.now ≡ rest)) }
+    ensures part { IsPartOfChunk «data».now → IsNone result }
+{
+    let [first, rest @ ..] = data else {
+        return None;
+    };
+    match *first {
+        QOI_OP_INDEX..=QOI_OP_INDEX_END => Some((Chunk::Place(*first), rest)),
+        QOI_OP_DIFF..=QOI_OP_DIFF_END => Some((Chunk::Diff(*first), rest)),
+        QOI_OP_LUMA..=QOI_OP_LUMA_END => {
+            match rest {
+                [second, rest @ ..] => Some((Chunk::Luma(*first, *second), rest)),
+                _ => None,
+            }
+        }
+        QOI_OP_RUN..=QOI_OP_RUN_END => Some((Chunk::Run(*first - (QOI_OP_RUN - 1)), rest)),
+        QOI_OP_RGB => {
+            match rest {
+                [r, g, b, rest @ ..] => Some((Chunk::Rgb(*r, *g, *b), rest)),
+                _ => None,
+            }
+        }
+        QOI_OP_RGBA => {
+            match rest {
+                [r, g, b, a, rest @ ..] => Some((Chunk::Rgba(*r, *g, *b, *a), rest)),
+                _ => None,
+            }
+        }
+    }
+}
+
+impl<const N: usize> Pixel<N> {
+    // The first of a difference, a luma, an RGB and an RGBA chunk that gives this pixel after another.
+    #[inline(always)]
+    pub(crate) fn spelled_after(self, px_prev: Pixel<N>) -> Chunk
+        requires { IsChannels N }
+        ensures chunk { IsChunk result }
+        ensures size { length (bytes_of result) ≤ N + 1 }
+        ensures first { (past : Past) → IsPixel (previous past) → previous past ≡ rgba px_prev.entry
+            → IsFirst past (rgba self.entry) result }
+    {
+        let (r, g, b, a) = (self.r(), self.g(), self.b(), self.a_or(0xff));
+        if a != px_prev.a_or(0xff) {
+            return Chunk::Rgba(r, g, b, a);
+        }
+        let vr = r.wrapping_sub(px_prev.r());
+        let vg = g.wrapping_sub(px_prev.g());
+        let vb = b.wrapping_sub(px_prev.b());
+        let (vr_2, vg_2, vb_2) = (vr.wrapping_add(2), vg.wrapping_add(2), vb.wrapping_add(2));
+        if vr_2 < 4 && vg_2 < 4 && vb_2 < 4 {
+            return Chunk::Diff(QOI_OP_DIFF + vr_2 * 16 + vg_2 * 4 + vb_2);
+        }
+        let vg_32 = vg.wrapping_add(32);
+        let vg_r_8 = vr.wrapping_sub(vg).wrapping_add(8);
+        let vg_b_8 = vb.wrapping_sub(vg).wrapping_add(8);
+        if vg_32 < 64 && vg_r_8 < 16 && vg_b_8 < 16 {
+            return Chunk::Luma(QOI_OP_LUMA + vg_32, vg_r_8 * 16 + vg_b_8);
+        }
+        Chunk::Rgb(r, g, b)
+    }
+}
