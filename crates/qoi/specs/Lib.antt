@@ -20,6 +20,7 @@ pub mod Regular
 pub mod Shortest
 pub mod Spelling
 pub mod Stream
+pub mod Taken
 pub mod Types
 pub mod Verdicts
 pub mod Writes

@@ -7,6 +7,10 @@ use Rattle.qoi.specs.Pixels.{RgbaPixel}
 abbrev pub IsChannels : ℕ → Type 0
 IsChannels n = (n ≡ 3) ⊎ (n ≡ 4)
 
+-- the channels of an output and those of a file are both 3 or 4
+abbrev pub AreChannels : ℕ → ℕ → Type 0
+AreChannels channels file = IsChannels channels × IsChannels file
+
 -- A pixel in this many channels, of a file with `file` channels: red, green, blue and, where there are four,
 -- alpha, which is 255 if the file has three.
 abbrev pub pixel_bytes : ℕ → ℕ → RgbaPixel → List ℕ

@@ -32,7 +32,8 @@ pub trait Writer: Sized {
     fn write_one(&mut self, v: u8) -> Result<()>
         requires { 0 < room self.old }
         ensures written { OnOk result (wrote self.old (v ∷ []) self.new) }
-        ensures refused { IfErr result (λ e. Refuses e × WroteSome wrote self.old (v ∷ []) self.new) };
+        ensures refused { IfErr result (λ e.
+            Refuses e × WroteSome wrote self.old (v ∷ []) self.new) };
 
     /// Writes all the bytes; after a refusal a beginning of them is written.
     fn write_many(&mut self, v: &[u8]) -> Result<()>
@@ -53,7 +54,8 @@ pub(crate) fn write_chunk<W: Writer>(buf: &mut W, chunk: Chunk) -> Result<()>
     requires chunk { IsChunk chunk }
     requires room { length (bytes_of chunk) ≤ W.room buf.old }
     ensures written { OnOk result (W.wrote buf.old (bytes_of chunk) buf.new) }
-    ensures refused { IfErr result (λ e. W.Refuses e × WroteSome W.wrote buf.old (bytes_of chunk) buf.new) }
+    ensures refused { IfErr result (λ e.
+        W.Refuses e × WroteSome W.wrote buf.old (bytes_of chunk) buf.new) }
 {
     match chunk {
         Chunk::Place(i) => buf.write_one(QOI_OP_INDEX + i),
@@ -75,9 +77,10 @@ impl<const N: usize> Pixel<N> {
     pub fn encode_into<W: Writer>(&self, px_prev: Pixel<N>, buf: &mut W) -> Result<()>
         requires channels { IsChannels N }
         requires room { N + 1 ≤ W.room buf.old }
-        ensures written { OnOk result ((c : Chunk) × Spells self.now px_prev.entry c × W.wrote buf.old (bytes_of c) buf.new) }
-        ensures refused { IfErr result (λ e. W.Refuses e
-            × (c : Chunk) × Spells self.now px_prev.entry c × WroteSome W.wrote buf.old (bytes_of c) buf.new) }
+        ensures written { OnOk result ((c : Chunk) × Spells self.now px_prev.entry c
+            × W.wrote buf.old (bytes_of c) buf.new) }
+        ensures refused { IfErr result (λ e. W.Refuses e × (c : Chunk)
+            × Spells self.now px_prev.entry c × WroteSome W.wrote buf.old (bytes_of c) buf.new) }
     {
         write_chunk(buf, self.spelled_after(px_prev))
     }

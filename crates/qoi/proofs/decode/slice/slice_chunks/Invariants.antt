@@ -1,7 +1,7 @@
 -- Chunks were taken, and their pixels written and seen.
 use Rattle.std.proofs.Common.{◌-◌, ◌/◌, length}
 use Rattle.qoi.proofs.Progress.{SoFar, SplitAt}
-use Rattle.qoi.proofs.decode.decode_chunks.Given as goal
+use Rattle.qoi.proofs.decode.slice.slice_chunks.Given as goal
 
 abbrev pub invariant-loop-at : goal.invariant-loop-at
 invariant-loop-at g l = SoFar g.row.F g.row.N (length l.initial.out / g.row.N) (SplitAt l.fn.data l.rest) l.out l.at l.seen.places l.seen.last

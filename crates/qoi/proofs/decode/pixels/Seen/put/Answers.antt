@@ -1,6 +1,6 @@
 -- A write at the hash of the chunk's pixel keeps the table.
 use Rattle.qoi.proofs.SeenTable.{seen_after}
-use Rattle.qoi.proofs.decode.Seen.put.Goals as goal
+use Rattle.qoi.proofs.decode.pixels.Seen.put.Goals as goal
 
 pub returns : goal.returns
 returns c past s =

@@ -4,7 +4,7 @@ use Rattle.std.proofs.lemmas.List.{length-drop}
 use Rattle.qoi.proofs.FilledBuffer.{take_whole}
 use Rattle.qoi.specs.Headers.{header_of}
 use Rattle.qoi.proofs.HeaderBytes.{header_front}
-use Rattle.qoi.proofs.decode.BytesReader.decode_header.Goals as goal
+use Rattle.qoi.proofs.decode.reader.BytesReader.decode_header.Goals as goal
 
 pub returns : goal.returns
 returns c =

@@ -3,7 +3,7 @@ use Rattle.std.proofs.Common.{◌≡◌, ℕ, ◌+◌, ◌-◌, ◌*◌, ◌≤�
 use Rattle.qoi.specs.Pixels.{Past, rgba}
 use Rattle.qoi.specs.Filling.{HasFilled}
 use Rattle.qoi.proofs.FilledBuffer.{copies}
-use Rattle.qoi.proofs.decode.fill.Given as goal
+use Rattle.qoi.proofs.decode.pixels.fill.Given as goal
 
 abbrev pub invariant-loop-left : goal.invariant-loop-left
 invariant-loop-left g l =

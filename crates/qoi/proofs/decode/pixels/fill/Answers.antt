@@ -3,7 +3,7 @@ use Rattle.std.proofs.Common.{◌≡◌, ◌+◌, ◌-◌, ◌≤◌, ◌<◌, �
 use Rattle.qoi.specs.Pixels.{rgba}
 use Rattle.qoi.specs.Filling.{HasFilled}
 use Rattle.qoi.proofs.FilledBuffer.{copies, copies_fit, channels_above, filled_copy, filled_end}
-use Rattle.qoi.proofs.decode.fill.Goals as goal
+use Rattle.qoi.proofs.decode.pixels.fill.Goals as goal
 
 pub loop-left-preserved : goal.loop-left-preserved
 loop-left-preserved g c =

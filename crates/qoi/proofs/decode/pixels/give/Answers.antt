@@ -3,7 +3,7 @@ use Rattle.std.proofs.Common.{◌+◌, ◌<◌, ◌≤◌, ◌≡◌, arith, len
 use Rattle.qoi.specs.Chunks.{times}
 use Rattle.qoi.proofs.FilledBuffer.{channels_above, pixel_room, pixel_end, filled_more}
 use Rattle.qoi.proofs.SeenTable.{times_once}
-use Rattle.qoi.proofs.decode.give.Goals as goal
+use Rattle.qoi.proofs.decode.pixels.give.Goals as goal
 
 pub returns : goal.returns
 returns g c =

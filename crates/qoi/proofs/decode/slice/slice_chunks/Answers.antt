@@ -1,7 +1,7 @@
 -- A chunk more is taken, and at the end the buffer is full.
 use Rattle.std.proofs.Common.{length, ◌/◌, refl}
 use Rattle.qoi.proofs.Progress.{SplitAt, start_so_far, goes_on, split_more, reads_pixels}
-use Rattle.qoi.proofs.decode.decode_chunks.Goals as goal
+use Rattle.qoi.proofs.decode.slice.slice_chunks.Goals as goal
 
 pub loop-at-init : goal.loop-at-init
 loop-at-init g c = start_so_far g.row.F g.row.N (SplitAt c.args.data.now c.args.data.now) c.args.out.now _ _ c.requires.channels c.requires.whole c.new-seen.ensures refl

@@ -2,7 +2,7 @@
 use Rattle.std.proofs.Common.{◌-◌, ◌/◌, length}
 use Rattle.std.specs.Io.KnownBytes.{Consumes}
 use Rattle.qoi.proofs.Progress.{SoFar}
-use Rattle.qoi.proofs.decode.stream_chunks.Given as goal
+use Rattle.qoi.proofs.decode.stream.stream_chunks.Given as goal
 
 abbrev pub invariant-loop-at : goal.invariant-loop-at
 invariant-loop-at g l =

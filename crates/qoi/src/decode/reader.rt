@@ -1,0 +1,130 @@
+//! Where a decoder takes its bytes from: bytes in memory, or a stream.
+ghost use Rattle.std.specs.Prelude.{◌≡◌, ℕ, ◌/◌, ◌%◌, List, length, Option, Some, IfErr, OnOk, IsSome, Bool, true, false, Err, refl};
+ghost use Rattle.qoi.specs.Output.{AreChannels};
+ghost use Rattle.qoi.specs.Decoding.{ReadsImage, ReadsHeader, RefusesImage};
+ghost use Rattle.qoi.specs.declared.error.Error.{Error};
+
+use crate::consts::QOI_HEADER_SIZE;
+use crate::decode::slice::slice_image;
+use crate::decode::stream::{read_all, stream_image};
+use crate::error::{Error, Result};
+use crate::header::Header;
+use std::io::Read;
+use std::marker::Model;
+
+/// Where a decoder takes its bytes from.
+pub trait Reader: Sized {
+    /// The bytes that stand ahead, where the reader tells them.
+    ghost ahead: { Self → Option (List ℕ) };
+
+    /// Whether they stand in memory: then a refusal takes none of them, and none is an i/o error.
+    ghost in_memory: { Bool };
+
+    /// Reads the fourteen bytes of a header (QOI specification 1.0, "QOI Header").
+    ///
+    /// Refusals, in this order: `UnexpectedBufferEnd` where there are fewer than fourteen bytes, or
+    /// `IoError` from a stream; `InvalidChannels`, `InvalidColorSpace`, `InvalidMagic`,
+    /// `InvalidImageDimensions`.
+    fn decode_header(&mut self) -> Result<Header>
+        ensures { ReadsHeader in_memory (ahead self.old) (ahead self.new) result };
+
+    /// Reads chunks until `out` is full of pixels, and then the end marker (QOI specification 1.0,
+    /// "File Format" and "Data").
+    ///
+    /// `channels` are those of the output, and `src_channels` those of the file's header. The caller
+    /// sees to it that `out` has a multiple of `channels` bytes.
+    ///
+    /// Refusals, in this order: `InvalidChannels` with `channels` where either number isn't 3 or 4,
+    /// and then nothing is read; `UnexpectedBufferEnd` where the bytes end within a chunk or within
+    /// the eight bytes after the chunks, or `IoError` from a stream; `InvalidPadding` where those
+    /// eight bytes aren't the end marker.
+    fn decode_image(&mut self, out: &mut [u8], channels: u8, src_channels: u8) -> Result<()>
+        requires { AreChannels channels src_channels → length out.old % channels ≡ 0 }
+        ensures read { OnOk result (AreChannels channels src_channels
+            × ReadsImage src_channels channels (length out.old / channels)
+            (ahead self.old) (ahead self.new) out.new) }
+        ensures refused { AreChannels channels src_channels
+            → IfErr result (RefusesImage in_memory (length out.old / channels)
+            (ahead self.old) (ahead self.new)) }
+        ensures channels { (AreChannels channels src_channels → ⊥)
+            → (result ≡ Err (Error.InvalidChannels channels))
+            × (self.new ≡ self.old) × (out.new ≡ out.old) };
+
+    /// Bytes in memory are told.
+    ghost told: { (reader : Self) → in_memory ≡ true → IsSome (ahead reader) };
+}
+
+/// Bytes in memory, from which decoding takes at the front. A contract sees the bytes that are left.
+#[derive(Drop)]
+pub struct Bytes<'a>(&'a [u8]);
+
+impl<'a> Model for Bytes<'a> {
+    ghost Value = { List ℕ };
+
+    ghost view = { λ b. b.0.now };
+}
+
+impl<'a> Bytes<'a> {
+    /// A reader of these bytes.
+    #[inline]
+    pub fn new(data: &'a [u8]) -> Bytes<'a>
+        ensures { result ≡ «data».entry.now }
+    {
+        Bytes(data)
+    }
+
+    /// The bytes that are left.
+    #[inline]
+    pub fn as_slice(&self) -> &[u8]
+        ensures { result.now ≡ self.now }
+    {
+        self.0
+    }
+}
+
+impl<'a> Reader for Bytes<'a> {
+    ghost ahead = { Some };
+
+    ghost in_memory = { true };
+
+    ghost told = { λ _ _. refl };
+
+    fn decode_header(&mut self) -> Result<Header> {
+        let header = Header::decode(self.0)?;
+        self.0 = &self.0[QOI_HEADER_SIZE..];
+        Ok(header)
+    }
+
+    fn decode_image(&mut self, out: &mut [u8], channels: u8, src_channels: u8) -> Result<()> {
+        self.0 = match (channels, src_channels) {
+            (3, 3) | (3, 4) => slice_image::<3, 3>(self.0, out)?,
+            (4, 3) => slice_image::<4, 3>(self.0, out)?,
+            (4, 4) => slice_image::<4, 4>(self.0, out)?,
+            _ => return Err(Error::InvalidChannels { channels }),
+        };
+        Ok(())
+    }
+}
+
+impl<R: Read> Reader for R {
+    ghost ahead = { R.remaining };
+
+    ghost in_memory = { false };
+
+    ghost told = { λ _ no. cc no };
+
+    fn decode_header(&mut self) -> Result<Header> {
+        let mut bytes = [0; QOI_HEADER_SIZE];
+        read_all(self, &mut bytes)?;
+        Header::decode(&bytes)
+    }
+
+    fn decode_image(&mut self, out: &mut [u8], channels: u8, src_channels: u8) -> Result<()> {
+        match (channels, src_channels) {
+            (3, 3) | (3, 4) => stream_image::<R, 3, 3>(self, out),
+            (4, 3) => stream_image::<R, 4, 3>(self, out),
+            (4, 4) => stream_image::<R, 4, 4>(self, out),
+            _ => Err(Error::InvalidChannels { channels }),
+        }
+    }
+}

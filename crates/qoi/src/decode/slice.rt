@@ -1,0 +1,63 @@
+//! Decoding an image from bytes in memory.
+ghost use Rattle.std.specs.Prelude.{◌≡◌, ℕ, ◌/◌, ◌%◌, ◌++◌, length, Some, MatchOption, IfOk, IfErr};
+ghost use Rattle.qoi.specs.Output.{IsChannels};
+ghost use Rattle.qoi.specs.Files.{end_marker};
+ghost use Rattle.qoi.specs.Decoding.{EndsInChunk, ReadsPixels, ReadsImage, RefusesMarker, RefusesBytes};
+
+use crate::chunk::read_chunk;
+use crate::consts::{QOI_PADDING, QOI_PADDING_SIZE};
+use crate::decode::pixels::{Seen, give};
+use crate::error::{Error, Result};
+
+// Decodes chunks until `out` is full, and gives the bytes after them.
+fn slice_chunks<'a, const N: usize, const F: usize>(
+    data: &'a [u8],
+    out: &mut [u8],
+) -> Option<&'a [u8]>
+    requires channels { IsChannels N }
+    requires whole { length out.old % N ≡ 0 }
+    ensures { MatchOption result (EndsInChunk (length out.old / N) «data».entry.now)
+        (λ rest. ReadsPixels F N (length out.old / N) «data».entry.now rest.now out.new) }
+{
+    let mut seen = Seen::new();
+    let mut rest = data;
+    let mut at = 0;
+    while at < out.len() {
+        let (chunk, after) = read_chunk(rest)?;
+        at = give::<N, F>(&mut seen, chunk, out, at);
+        rest = after;
+    }
+    Some(rest)
+}
+
+// The bytes after the end marker.
+fn slice_marker(data: &[u8]) -> Result<&[u8]>
+    ensures found { IfOk result (λ rest. «data».now ≡ end_marker ++ rest.now) }
+    ensures refused { IfErr result (RefusesMarker «data».now) }
+{
+    if data.len() < QOI_PADDING_SIZE {
+        return Err(Error::UnexpectedBufferEnd);
+    }
+    let (eight, rest) = data.split_at(QOI_PADDING_SIZE);
+    if eight != QOI_PADDING.as_slice() {
+        return Err(Error::InvalidPadding);
+    }
+    Ok(rest)
+}
+
+// Decodes chunks and the end marker, and gives the bytes after them.
+pub(super) fn slice_image<'a, const N: usize, const F: usize>(
+    data: &'a [u8],
+    out: &mut [u8],
+) -> Result<&'a [u8]>
+    requires channels { IsChannels N }
+    requires whole { length out.old % N ≡ 0 }
+    ensures read { IfOk result (λ rest.
+        ReadsImage F N (length out.old / N) (Some «data».entry.now) (Some rest.now) out.new) }
+    ensures refused { IfErr result (RefusesBytes (length out.old / N) «data».entry.now) }
+{
+    let Some(rest) = slice_chunks::<N, F>(data, out) else {
+        return Err(Error::UnexpectedBufferEnd);
+    };
+    slice_marker(rest)
+}

@@ -1,0 +1,123 @@
+//! Decoding an image from a stream.
+ghost use Rattle.std.specs.Prelude.{◌≡◌, ℕ, ◌/◌, ◌%◌, ◌<◌, List, length, IfOk, IfErr, OnOk, OnErr};
+ghost use Rattle.std.specs.Io.KnownBytes.{Consumes};
+ghost use Rattle.qoi.specs.Bytes.{AreBytes};
+ghost use Rattle.qoi.specs.Chunks.{IsChunk, bytes_of};
+ghost use Rattle.qoi.specs.Output.{IsChannels};
+ghost use Rattle.qoi.specs.Files.{end_marker};
+ghost use Rattle.qoi.specs.Verdicts.{IsPartOfChunk};
+ghost use Rattle.qoi.specs.Decoding.{EndsInChunk, StreamsPixels, ReadsImage, RefusesTaken, RefusesTakenMarker};
+ghost use Rattle.qoi.specs.Taken.{HasTaken};
+
+use crate::chunk::{Chunk, QOI_OP_DIFF_END, QOI_OP_INDEX_END, QOI_OP_LUMA_END, QOI_OP_RUN_END};
+use crate::consts::{
+    QOI_OP_DIFF, QOI_OP_INDEX, QOI_OP_LUMA, QOI_OP_RGB, QOI_OP_RGBA, QOI_OP_RUN, QOI_PADDING,
+    QOI_PADDING_SIZE,
+};
+use crate::decode::pixels::{Seen, give};
+use crate::error::{Error, Result};
+use std::io;
+use std::io::{ErrorKind, Read};
+
+// Fills the buffer from a stream, and asks for no byte past it. An interruption is a fault, and so
+// is the end of the stream.
+pub(super) fn read_all<R: Read>(reader: &mut R, buf: &mut [u8]) -> io::Result<()>
+    ensures read { OnOk result
+        (Consumes (R.remaining reader.old) (R.remaining reader.new) buf.new) }
+    ensures failed { OnErr result (HasTaken (R.remaining reader.old) (R.remaining reader.new)
+        (λ taken. (length taken < length buf.old) × AreBytes taken)) }
+    ensures bytes { AreBytes buf.new }
+{
+    let mut filled = 0;
+    while filled < buf.len() {
+        let count = reader.read(&mut buf[filled..])?;
+        if count == 0 {
+            return Err(io::Error::new(ErrorKind::UnexpectedEof, "the stream ended within a file"));
+        }
+        filled += count;
+    }
+    Ok(())
+}
+
+// Reads one chunk from a stream, and no byte past it.
+fn next_chunk<R: Read>(reader: &mut R) -> io::Result<Chunk>
+    ensures read { IfOk result (λ chunk. IsChunk chunk
+        × Consumes (R.remaining reader.old) (R.remaining reader.new) (bytes_of chunk)) }
+    ensures failed { OnErr result (HasTaken (R.remaining reader.old) (R.remaining reader.new)
+        IsPartOfChunk) }
+{
+    let mut first = [0];
+    read_all(reader, &mut first)?;
+    match first[0] {
+        QOI_OP_INDEX..=QOI_OP_INDEX_END => Ok(Chunk::Place(first[0])),
+        QOI_OP_DIFF..=QOI_OP_DIFF_END => Ok(Chunk::Diff(first[0])),
+        QOI_OP_LUMA..=QOI_OP_LUMA_END => {
+            let mut more = [0];
+            read_all(reader, &mut more)?;
+            Ok(Chunk::Luma(first[0], more[0]))
+        }
+        QOI_OP_RUN..=QOI_OP_RUN_END => Ok(Chunk::Run(first[0] - (QOI_OP_RUN - 1))),
+        QOI_OP_RGB => {
+            let mut more = [0, 0, 0];
+            read_all(reader, &mut more)?;
+            Ok(Chunk::Rgb(more[0], more[1], more[2]))
+        }
+        QOI_OP_RGBA => {
+            let mut more = [0, 0, 0, 0];
+            read_all(reader, &mut more)?;
+            Ok(Chunk::Rgba(more[0], more[1], more[2], more[3]))
+        }
+    }
+}
+
+// Decodes chunks from a stream until `out` is full, and takes no byte past the last of them.
+fn stream_chunks<R: Read, const N: usize, const F: usize>(
+    reader: &mut R,
+    out: &mut [u8],
+) -> io::Result<()>
+    requires channels { IsChannels N }
+    requires whole { length out.old % N ≡ 0 }
+    ensures read { OnOk result (StreamsPixels F N (length out.old / N)
+        (R.remaining reader.old) (R.remaining reader.new) out.new) }
+    ensures failed { OnErr result (HasTaken (R.remaining reader.old) (R.remaining reader.new)
+        (EndsInChunk (length out.old / N))) }
+{
+    let mut seen = Seen::new();
+    let mut at = 0;
+    while at < out.len() {
+        let chunk = next_chunk(reader)?;
+        at = give::<N, F>(&mut seen, chunk, out, at);
+    }
+    Ok(())
+}
+
+// Reads the eight bytes of the end marker from a stream.
+fn stream_marker<R: Read>(reader: &mut R) -> Result<()>
+    ensures read { OnOk result
+        (Consumes (R.remaining reader.old) (R.remaining reader.new) end_marker) }
+    ensures refused { IfErr result (λ e. HasTaken (R.remaining reader.old) (R.remaining reader.new)
+        (λ taken. RefusesTakenMarker taken e)) }
+{
+    let mut eight = [0; QOI_PADDING_SIZE];
+    read_all(reader, &mut eight)?;
+    if eight != QOI_PADDING {
+        return Err(Error::InvalidPadding);
+    }
+    Ok(())
+}
+
+// Decodes chunks and the end marker from a stream, and takes no byte past them.
+pub(super) fn stream_image<R: Read, const N: usize, const F: usize>(
+    reader: &mut R,
+    out: &mut [u8],
+) -> Result<()>
+    requires channels { IsChannels N }
+    requires whole { length out.old % N ≡ 0 }
+    ensures read { OnOk result (ReadsImage F N (length out.old / N)
+        (R.remaining reader.old) (R.remaining reader.new) out.new) }
+    ensures refused { IfErr result (λ e. HasTaken (R.remaining reader.old) (R.remaining reader.new)
+        (λ taken. RefusesTaken (length out.old / N) taken e)) }
+{
+    stream_chunks::<R, N, F>(reader, out)?;
+    stream_marker(reader)
+}
