@@ -17,19 +17,19 @@ use Rattle.qoi.specs.Raw.{HasChannels}
 use Rattle.qoi.specs.Written.{IsChoice, Written}
 use Rattle.qoi.specs.Decoding.{file_byte_count, DecodesFile}
 use Rattle.qoi.specs.Encoded.{max_file_len, image_pixels, IsNearShortest, IsFileOf}
-use Rattle.qoi.proofs.FilledBuffer.{take_whole}
-use Rattle.qoi.proofs.ImageSize.{channels_are}
-use Rattle.qoi.proofs.OneFile.{decodes_file}
-use Rattle.qoi.proofs.RawPixels.{pixels_of_are, pixels_of_have, length-pixels_of, output-pixels_of}
+use Rattle.qoi.proofs.decoding.FilledBuffer.{take_whole}
+use Rattle.qoi.proofs.decoding.ImageSize.{channels_are}
+use Rattle.qoi.proofs.decoding.OneFile.{decodes_file}
+use Rattle.qoi.proofs.format.RawPixels.{pixels_of_are, pixels_of_have, length-pixels_of, output-pixels_of}
 use Rattle.qoi.specs.Writes.{WriterLaws, WroteBut, WroteSome}
-use Rattle.qoi.proofs.CodingWrites.{wrote_next, wrote_part}
-use Rattle.qoi.proofs.EncodedPixels.{all_bytes}
-use Rattle.qoi.proofs.WrittenExists.{written_some}
-use Rattle.qoi.proofs.WrittenOnce.{written_unique}
-use Rattle.qoi.proofs.WrittenShape.{reaches_by, apart_by, written_fits_lem}
-use Rattle.qoi.proofs.RegularLists.{written_regular, no_blank_regular}
-use Rattle.qoi.proofs.Lower.{lower}
-use Rattle.qoi.proofs.Upper.{upper}
+use Rattle.qoi.proofs.encoding.CodingWrites.{wrote_next, wrote_part}
+use Rattle.qoi.proofs.encoding.EncodedPixels.{all_bytes}
+use Rattle.qoi.proofs.encoding.WrittenExists.{written_some}
+use Rattle.qoi.proofs.encoding.WrittenOnce.{written_unique}
+use Rattle.qoi.proofs.encoding.WrittenShape.{reaches_by, apart_by, written_fits_lem}
+use Rattle.qoi.proofs.shortness.RegularLists.{written_regular, no_blank_regular}
+use Rattle.qoi.proofs.shortness.Lower.{lower}
+use Rattle.qoi.proofs.shortness.Upper.{upper}
 
 -- the bytes of a file are the header's, the chunks' and the end marker's
 pub length-file : (h : Header) (cs : List Chunk) → length (file h cs) ≡ 22 + length (text cs)

@@ -325,7 +325,7 @@ impl<'a> Encoder<'a> {
     ///
     /// `OutputBufferTooSmall` exactly where the buffer is shorter than `required_buf_len`, even
     /// where the file would fit; then the buffer is untouched.
-    #[tactic(auto, using(crate::proofs::BufferFilled::buffer_filled))]
+    #[tactic(auto, using(crate::proofs::encoding::BufferFilled::buffer_filled))]
     pub fn encode_to_buf(&self, buf: &mut [u8]) -> Result<usize>
         ensures short { length buf.old < max_file_len self.now.header
             → (result ≡ Err (Error.OutputBufferTooSmall (length buf.old) (max_file_len self.now.header))) × (buf.new ≡ buf.old) }

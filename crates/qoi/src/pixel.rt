@@ -184,7 +184,7 @@ impl<const N: usize> Pixel<N> {
 
     /// The pixel with this alpha, or the pixel as it is where there are three channels.
     #[inline]
-    #[tactic(auto, using(crate::proofs::SetLast::set_last))]
+    #[tactic(auto, using(crate::proofs::format::SetLast::set_last))]
     pub fn with_a(mut self, value: u8) -> Pixel<N>
         requires { IsChannels N }
         ensures { result ≡ take N (take 3 self.entry ++ value ∷ []) }

@@ -71,7 +71,7 @@ pub fn files_are_read()
 
 /// An image of n pixels takes five bytes for each pixel at most; and where chunks stop short of
 /// n pixels, there is room for five bytes more.
-#[tactic(auto, using(crate::proofs::TakenBytes::reached_within, crate::proofs::TakenBytes::below_within))]
+#[tactic(auto, using(crate::proofs::decoding::TakenBytes::reached_within, crate::proofs::decoding::TakenBytes::below_within))]
 pub fn bytes_taken()
     ensures reached { (n : ℕ) (cs : List Chunk) → AreChunks cs → Reaches n cs → length (text cs) ≤ 5 * n }
     ensures short { (n : ℕ) (cs : List Chunk) → AreChunks cs → StayBelow n cs

@@ -6,7 +6,7 @@ use Rattle.qoi.specs.Headers.{pixel_count}
 use Rattle.qoi.specs.Verdicts.{IsWhole}
 use Rattle.qoi.specs.Decoding.{DecodesFile, ReadsImage, header_size, file_byte_count, byte_count}
 use Rattle.qoi.specs.DecoderState.{DecoderState}
-use Rattle.qoi.proofs.OneFile.{file_has_header, file_is_whole, header_is_one, decodes_behind}
+use Rattle.qoi.proofs.decoding.OneFile.{file_has_header, file_is_whole, header_is_one, decodes_behind}
 use Rattle.qoi.proofs.decode.decode_to_buf.Goals as goal
 
 pub returns-in_err-decode_to_buf-clause-accepts : goal.returns-in_err-decode_to_buf-clause-accepts

@@ -6,7 +6,7 @@ use Rattle.qoi.specs.Headers.{pixel_count}
 use Rattle.qoi.specs.Verdicts.{IsWhole}
 use Rattle.qoi.specs.Decoding.{DecodesFile, header_size, RefusesBytes}
 use Rattle.qoi.specs.DecoderState.{DecoderState}
-use Rattle.qoi.proofs.OneFile.{file_has_header, file_is_whole, decodes_behind}
+use Rattle.qoi.proofs.decoding.OneFile.{file_has_header, file_is_whole, decodes_behind}
 use Rattle.qoi.proofs.decode.decode_to_vec.Goals as goal
 
 pub returns-in_err-out-clause-refused : goal.returns-in_err-out-clause-refused

@@ -2,7 +2,7 @@
 use Rattle.std.proofs.Common.{length, rules, ap, ◌∙◌, arith}
 use Rattle.std.proofs.lemmas.List.{length-take-le}
 use Rattle.std.proofs.lemmas.Result.{err_from_is_err_and}
-use Rattle.qoi.proofs.EncodedPixels.{encodes_none, room_is_left, next_ahead, whole_after, encodes_all, encodes_part, pixel_ahead, marker_room, none_left, split_is}
+use Rattle.qoi.proofs.encoding.EncodedPixels.{encodes_none, room_is_left, next_ahead, whole_after, encodes_all, encodes_part, pixel_ahead, marker_room, none_left, split_is}
 use Rattle.qoi.proofs.encode.encode_pixels.Goals as goal
 
 pub loop-rest-init : goal.loop-rest-init

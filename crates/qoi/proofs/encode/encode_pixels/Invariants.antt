@@ -1,6 +1,6 @@
 -- The pixels so far are encoded.
 use Rattle.std.proofs.Common.{length}
-use Rattle.qoi.proofs.EncodedPixels.{Encodes}
+use Rattle.qoi.proofs.encoding.EncodedPixels.{Encodes}
 use Rattle.qoi.proofs.encode.encode_pixels.Given as goal
 
 abbrev pub invariant-loop-rest : goal.invariant-loop-rest

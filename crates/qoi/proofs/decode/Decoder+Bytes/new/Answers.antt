@@ -1,6 +1,6 @@
 -- The header's bytes are the front of all, and the reader has what follows them.
 use Rattle.std.proofs.Common.{refl, sym, ◌∙◌}
-use Rattle.qoi.proofs.HeaderBytes.{header_split}
+use Rattle.qoi.proofs.format.HeaderBytes.{header_split}
 use Rattle.qoi.proofs.decode.Decoder+Bytes.new.Goals as goal
 
 pub returns-clause-accepted : goal.returns-clause-accepted

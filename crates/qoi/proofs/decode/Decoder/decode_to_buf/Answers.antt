@@ -2,8 +2,8 @@
 use Rattle.std.proofs.Common.{◌≡◌, ◌/◌, ◌≤◌, length, take, ap, ◌∙◌, arith}
 use Rattle.qoi.specs.Types.{channels_number}
 use Rattle.qoi.specs.Headers.{pixel_count}
-use Rattle.qoi.proofs.ImageSize.{channels_are, image_pixels}
-use Rattle.qoi.proofs.Refusals.{whole_not_refused_in}
+use Rattle.qoi.proofs.decoding.ImageSize.{channels_are, image_pixels}
+use Rattle.qoi.proofs.decoding.Refusals.{whole_not_refused_in}
 use Rattle.qoi.proofs.decode.Decoder.decode_to_buf.Goals as goal
 
 pub returns-in_err-decode_image-clause-accepts : goal.returns-in_err-decode_image-clause-accepts

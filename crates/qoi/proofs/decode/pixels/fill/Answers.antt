@@ -2,7 +2,7 @@
 use Rattle.std.proofs.Common.{◌≡◌, ◌+◌, ◌-◌, ◌≤◌, ◌<◌, ◌⊎◌, arith, length, ap, ◌∙◌, subst, replicate, ◌++◌}
 use Rattle.qoi.specs.Pixels.{rgba}
 use Rattle.qoi.specs.Filling.{HasFilled}
-use Rattle.qoi.proofs.FilledBuffer.{copies, copies_fit, channels_above, filled_copy, filled_end}
+use Rattle.qoi.proofs.decoding.FilledBuffer.{copies, copies_fit, channels_above, filled_copy, filled_end}
 use Rattle.qoi.proofs.decode.pixels.fill.Goals as goal
 
 pub loop-left-preserved : goal.loop-left-preserved

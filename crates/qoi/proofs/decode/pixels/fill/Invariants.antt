@@ -2,7 +2,7 @@
 use Rattle.std.proofs.Common.{◌≡◌, ℕ, ◌+◌, ◌-◌, ◌*◌, ◌≤◌, length, ◌++◌, replicate}
 use Rattle.qoi.specs.Pixels.{Past, rgba}
 use Rattle.qoi.specs.Filling.{HasFilled}
-use Rattle.qoi.proofs.FilledBuffer.{copies}
+use Rattle.qoi.proofs.decoding.FilledBuffer.{copies}
 use Rattle.qoi.proofs.decode.pixels.fill.Given as goal
 
 abbrev pub invariant-loop-left : goal.invariant-loop-left

@@ -1,6 +1,6 @@
 -- A chunk more is taken, and at the end the buffer is full.
 use Rattle.std.proofs.Common.{length, ◌/◌, refl}
-use Rattle.qoi.proofs.Progress.{SplitAt, start_so_far, goes_on, split_more, reads_pixels}
+use Rattle.qoi.proofs.decoding.Progress.{SplitAt, start_so_far, goes_on, split_more, reads_pixels}
 use Rattle.qoi.proofs.decode.slice.slice_chunks.Goals as goal
 
 pub loop-at-init : goal.loop-at-init

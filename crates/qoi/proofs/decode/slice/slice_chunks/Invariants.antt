@@ -1,6 +1,6 @@
 -- Chunks were taken, and their pixels written and seen.
 use Rattle.std.proofs.Common.{◌-◌, ◌/◌, length}
-use Rattle.qoi.proofs.Progress.{SoFar, SplitAt}
+use Rattle.qoi.proofs.decoding.Progress.{SoFar, SplitAt}
 use Rattle.qoi.proofs.decode.slice.slice_chunks.Given as goal
 
 abbrev pub invariant-loop-at : goal.invariant-loop-at

@@ -2,8 +2,8 @@
 use Rattle.std.proofs.Common.{length, ◌/◌}
 use Rattle.std.specs.Io.KnownBytes.{Consumes}
 use Rattle.std.proofs.KnownBytes.{Consumes-trans}
-use Rattle.qoi.proofs.CodingWrites.{on_err}
-use Rattle.qoi.proofs.Progress.{goes_on, streams_pixels, stream_ends}
+use Rattle.qoi.proofs.encoding.CodingWrites.{on_err}
+use Rattle.qoi.proofs.decoding.Progress.{goes_on, streams_pixels, stream_ends}
 use Rattle.qoi.proofs.decode.stream.stream_chunks.Goals as goal
 
 pub returns-in_err-chunk-clause-failed : goal.returns-in_err-chunk-clause-failed

@@ -1,7 +1,7 @@
 -- Chunks were taken, and their pixels written and seen.
 use Rattle.std.proofs.Common.{◌-◌, ◌/◌, length}
 use Rattle.std.specs.Io.KnownBytes.{Consumes}
-use Rattle.qoi.proofs.Progress.{SoFar}
+use Rattle.qoi.proofs.decoding.Progress.{SoFar}
 use Rattle.qoi.proofs.decode.stream.stream_chunks.Given as goal
 
 abbrev pub invariant-loop-at : goal.invariant-loop-at

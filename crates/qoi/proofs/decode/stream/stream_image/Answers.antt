@@ -1,7 +1,7 @@
 -- The chunks are cut, or the marker after them is refused.
 use Rattle.std.proofs.Common.{◌/◌, length}
 use Rattle.std.proofs.lemmas.Result.{err_from_is_err_and}
-use Rattle.qoi.proofs.StreamReads.{cut_in_chunk, marker_refused}
+use Rattle.qoi.proofs.decoding.StreamReads.{cut_in_chunk, marker_refused}
 use Rattle.qoi.proofs.decode.stream.stream_image.Goals as goal
 
 pub returns-in_err-stream_chunks-clause-refused : goal.returns-in_err-stream_chunks-clause-refused

@@ -1,7 +1,7 @@
 -- The chunk is chosen by the table.
 use Rattle.std.proofs.Common.{◌≡◌, ◌<◌, [], length, false, true, refl, sym, ◌∙◌, arith}
 use Rattle.std.proofs.lemmas.List.{get_or_read}
-use Rattle.qoi.proofs.CoderTable.{chosen_place, chosen_spelled}
+use Rattle.qoi.proofs.encoding.CoderTable.{chosen_place, chosen_spelled}
 use Rattle.qoi.proofs.encode.Coder.choose.Goals as goal
 
 pub returns-then-is_same-clause-choice : goal.returns-then-is_same-clause-choice

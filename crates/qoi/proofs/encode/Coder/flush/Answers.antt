@@ -1,5 +1,5 @@
 -- One chunk is written.
-use Rattle.qoi.proofs.CoderTable.{text-waiting_run}
+use Rattle.qoi.proofs.encoding.CoderTable.{text-waiting_run}
 use Rattle.qoi.proofs.encode.Coder.flush.Goals as goal
 
 pub returns-clause-refused : goal.returns-clause-refused

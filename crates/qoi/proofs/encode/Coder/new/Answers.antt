@@ -1,5 +1,5 @@
 -- The state before the first pixel.
-use Rattle.qoi.proofs.CoderTable.{coded_none_yet}
+use Rattle.qoi.proofs.encoding.CoderTable.{coded_none_yet}
 use Rattle.qoi.proofs.encode.Coder.new.Goals as goal
 
 pub returns-clause-state : goal.returns-clause-state

@@ -4,8 +4,8 @@ use Rattle.std.proofs.lemmas.Bool.{cases_lt}
 use Rattle.qoi.specs.Output.{IsChannels}
 use Rattle.qoi.specs.Pixels.{Past, rgba, previous}
 use Rattle.qoi.specs.CoderState.{HasCoded}
-use Rattle.qoi.proofs.CoderTable.{rgba_same}
-use Rattle.qoi.proofs.CodingWrites.{pixels_are, repeat_waits, repeat_full, repeat_part, flush_part, chunk_written, chunk_part, on_err, coding_in}
+use Rattle.qoi.proofs.encoding.CoderTable.{rgba_same}
+use Rattle.qoi.proofs.encoding.CodingWrites.{pixels_are, repeat_waits, repeat_full, repeat_part, flush_part, chunk_written, chunk_part, on_err, coding_in}
 use Rattle.qoi.proofs.encode.Coder.put.Goals as goal
 
 -- the last pixel's bytes again are a repeat

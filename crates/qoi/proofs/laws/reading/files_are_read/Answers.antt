@@ -1,5 +1,5 @@
 -- By the lemmas on a file's header and what follows it.
-use Rattle.qoi.proofs.OneFile.{file_has_header, file_is_whole, file_from_whole}
+use Rattle.qoi.proofs.decoding.OneFile.{file_has_header, file_is_whole, file_from_whole}
 use Rattle.qoi.proofs.laws.reading.files_are_read.Goals as goal
 
 pub returns-clause-read : goal.returns-clause-read

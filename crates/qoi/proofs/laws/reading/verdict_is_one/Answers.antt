@@ -1,5 +1,5 @@
 -- By the lemmas on two verdicts of the same bytes.
-use Rattle.qoi.proofs.OneVerdict.{whole_is_one, cut_is_one, wrong_is_one, whole_not_cut, whole_not_wrong, cut_not_wrong}
+use Rattle.qoi.proofs.format.OneVerdict.{whole_is_one, cut_is_one, wrong_is_one, whole_not_cut, whole_not_wrong, cut_not_wrong}
 use Rattle.qoi.proofs.laws.reading.verdict_is_one.Goals as goal
 
 pub returns-clause-whole : goal.returns-clause-whole

@@ -1,5 +1,5 @@
 -- Pixel after pixel.
-use Rattle.qoi.proofs.StreamVerdicts.{rgb_is_without_fourth, fourth_is_opaque}
+use Rattle.qoi.proofs.decoding.StreamVerdicts.{rgb_is_without_fourth, fourth_is_opaque}
 use Rattle.qoi.proofs.laws.streams.channels_of_an_image.Goals as goal
 
 pub returns-clause-rgb : goal.returns-clause-rgb

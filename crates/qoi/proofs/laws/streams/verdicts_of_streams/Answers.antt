@@ -1,5 +1,5 @@
 -- By the lemmas on a stream's bytes.
-use Rattle.qoi.proofs.StreamVerdicts.{cut_is_not_read, wrong_is_not_read, cut_is_io_error, whole_is_io_error}
+use Rattle.qoi.proofs.decoding.StreamVerdicts.{cut_is_not_read, wrong_is_not_read, cut_is_io_error, whole_is_io_error}
 use Rattle.qoi.proofs.laws.streams.verdicts_of_streams.Goals as goal
 
 pub returns-clause-cut_is_not_read : goal.returns-clause-cut_is_not_read

@@ -1,5 +1,5 @@
 -- By the lemmas on the pixels of raw bytes.
-use Rattle.qoi.proofs.RawPixels.{pixels_of_are, pixels_of_have, length-pixels_of, output-pixels_of}
+use Rattle.qoi.proofs.format.RawPixels.{pixels_of_are, pixels_of_have, length-pixels_of, output-pixels_of}
 use Rattle.qoi.proofs.laws.writing.bytes_are_pixels.Goals as goal
 
 pub returns-clause-pixels : goal.returns-clause-pixels

@@ -1,6 +1,6 @@
 -- By the lemmas on one pixel that is written in full.
 use Rattle.std.proofs.Common.{refl}
-use Rattle.qoi.proofs.LengthReached.{one_rgb, one_rgba}
+use Rattle.qoi.proofs.shortness.LengthReached.{one_rgb, one_rgba}
 use Rattle.qoi.proofs.laws.writing.greatest_length_is_reached.Goals as goal
 
 pub returns-clause-written_rgb : goal.returns-clause-written_rgb

@@ -1,6 +1,6 @@
 -- By the lemma on a group of repeats.
 use Rattle.std.proofs.Common.{arith}
-use Rattle.qoi.proofs.Costs.{cost_run}
+use Rattle.qoi.proofs.shortness.Costs.{cost_run}
 use Rattle.qoi.proofs.laws.writing.group_cost.Goals as goal
 
 pub returns : goal.returns

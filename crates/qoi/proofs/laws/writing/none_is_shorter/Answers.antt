@@ -1,5 +1,5 @@
 -- By the lower bound.
-use Rattle.qoi.proofs.Lower.{lower}
+use Rattle.qoi.proofs.shortness.Lower.{lower}
 use Rattle.qoi.proofs.laws.writing.none_is_shorter.Goals as goal
 
 pub returns : goal.returns

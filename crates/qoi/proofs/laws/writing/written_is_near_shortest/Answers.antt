@@ -1,7 +1,7 @@
 -- By the lower and the upper bound.
 use Rattle.std.proofs.Common.{arith}
-use Rattle.qoi.proofs.Lower.{lower}
-use Rattle.qoi.proofs.Upper.{upper}
+use Rattle.qoi.proofs.shortness.Lower.{lower}
+use Rattle.qoi.proofs.shortness.Upper.{upper}
 use Rattle.qoi.proofs.laws.writing.written_is_near_shortest.Goals as goal
 
 pub returns : goal.returns

@@ -1,6 +1,6 @@
 -- By the lemmas that some list is written, and no other.
-use Rattle.qoi.proofs.WrittenExists.{written_some}
-use Rattle.qoi.proofs.WrittenOnce.{written_unique}
+use Rattle.qoi.proofs.encoding.WrittenExists.{written_some}
+use Rattle.qoi.proofs.encoding.WrittenOnce.{written_unique}
 use Rattle.qoi.proofs.laws.writing.written_is_one.Goals as goal
 
 pub returns-clause-some : goal.returns-clause-some

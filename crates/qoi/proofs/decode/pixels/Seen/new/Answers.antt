@@ -1,6 +1,6 @@
 -- A table of transparent black holds what the index positions hold before the first pixel.
 use Rattle.std.proofs.Common.{refl}
-use Rattle.qoi.proofs.SeenTable.{seen_none}
+use Rattle.qoi.proofs.decoding.SeenTable.{seen_none}
 use Rattle.qoi.proofs.decode.pixels.Seen.new.Goals as goal
 
 pub returns : goal.returns

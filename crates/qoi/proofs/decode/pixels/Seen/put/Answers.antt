@@ -1,5 +1,5 @@
 -- A write at the hash of the chunk's pixel keeps the table.
-use Rattle.qoi.proofs.SeenTable.{seen_after}
+use Rattle.qoi.proofs.decoding.SeenTable.{seen_after}
 use Rattle.qoi.proofs.decode.pixels.Seen.put.Goals as goal
 
 pub returns : goal.returns

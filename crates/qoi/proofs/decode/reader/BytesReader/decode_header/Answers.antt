@@ -1,9 +1,9 @@
 -- The fourteen bytes at the front have the verdict of all the bytes.
 use Rattle.std.proofs.Common.{◌≡◌, ◌-◌, Ok, ◌++◌, length, take, drop, sym, ap, ◌∙◌, take-append-drop}
 use Rattle.std.proofs.lemmas.List.{length-drop}
-use Rattle.qoi.proofs.FilledBuffer.{take_whole}
+use Rattle.qoi.proofs.decoding.FilledBuffer.{take_whole}
 use Rattle.qoi.specs.Headers.{header_of}
-use Rattle.qoi.proofs.HeaderBytes.{header_front}
+use Rattle.qoi.proofs.format.HeaderBytes.{header_front}
 use Rattle.qoi.proofs.decode.reader.BytesReader.decode_header.Goals as goal
 
 pub returns : goal.returns

@@ -12,7 +12,7 @@ use Rattle.qoi.specs.Output.{output, without_fourth}
 use Rattle.qoi.specs.Verdicts.{IsWhole, IsCut, IsWrong}
 use Rattle.qoi.specs.Decoding.{ReadsImage, RefusesImage, RefusesTaken, HasWrong}
 use Rattle.qoi.specs.Errors.{IsIoError}
-use Rattle.qoi.proofs.OneVerdict.{whole_not_cut, whole_not_wrong, cut_not_wrong}
+use Rattle.qoi.proofs.format.OneVerdict.{whole_not_cut, whole_not_wrong, cut_not_wrong}
 
 -- what was read was whole
 pub read_is_whole : (f c n : ℕ) (bytes : List ℕ) (left : Option (List ℕ)) (out : List ℕ) → ReadsImage f c n (Some bytes) left out

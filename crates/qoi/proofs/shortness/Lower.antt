@@ -9,9 +9,9 @@ use Rattle.qoi.specs.Chunks.{IsChunk, AreChunks, pixel_of, bytes_of, text, then_
 use Rattle.qoi.specs.Meaning.{then_chunks, meaning, Each}
 use Rattle.qoi.specs.Regular.{NamesWritten, Regular, Begins}
 use Rattle.qoi.specs.Shortest.{least, repeats, cost, total_cost, floor}
-use Rattle.qoi.proofs.SamePixels.{cases_pixel}
-use Rattle.qoi.proofs.ChunkSteps.{is_run, cases_run, then_other}
-use Rattle.qoi.proofs.Costs.{some_diff-from, some_luma-from, some_rgb-from, least_seen, least_diff, least_luma, least_rgb, least_high, cost_fresh, cost_repeat, cost_run}
+use Rattle.qoi.proofs.format.SamePixels.{cases_pixel}
+use Rattle.qoi.proofs.format.ChunkSteps.{is_run, cases_run, then_other}
+use Rattle.qoi.proofs.shortness.Costs.{some_diff-from, some_luma-from, some_rgb-from, least_seen, least_diff, least_luma, least_rgb, least_high, cost_fresh, cost_repeat, cost_run}
 
 -- a chunk other than a run is no shorter than the least of its pixel
 pub least_bounds : (past : Past) (c : Chunk) → IsChunk c → NamesWritten past c → is_run c ≡ false → least past (pixel_of past c) ≤ length (bytes_of c)

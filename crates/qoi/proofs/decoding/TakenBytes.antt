@@ -5,9 +5,9 @@ use Rattle.qoi.specs.declared.chunk.Chunk.{Chunk}
 use Rattle.qoi.specs.Pixels.{Past}
 use Rattle.qoi.specs.Chunks.{AreChunks, bytes_of, text, times, pixel_of, then_chunk}
 use Rattle.qoi.specs.Meaning.{Reaches, StayBelow, meaning, then_chunks}
-use Rattle.qoi.proofs.Appended.{length-bytes_of, length-meaning}
-use Rattle.qoi.proofs.OneVerdict.{StayBelowAfter}
-use Rattle.qoi.proofs.SeenTable.{times_above}
+use Rattle.qoi.proofs.format.Appended.{length-bytes_of, length-meaning}
+use Rattle.qoi.proofs.format.OneVerdict.{StayBelowAfter}
+use Rattle.qoi.proofs.decoding.SeenTable.{times_above}
 
 -- the pixels after a chunk are those before it and its own
 pub length-then_chunk : (past : Past) (c : Chunk) → length (then_chunk past c) ≡ times c + length past

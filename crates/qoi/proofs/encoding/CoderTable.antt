@@ -9,8 +9,8 @@ use Rattle.qoi.specs.Chunks.{bytes_of, text}
 use Rattle.qoi.specs.Output.{IsChannels}
 use Rattle.qoi.specs.Written.{IsFirst, IsChoice}
 use Rattle.qoi.specs.CoderState.{HasNoted, HasCoded, waiting_run}
-use Rattle.qoi.proofs.SeenTable.{hash_below, held_after}
-use Rattle.qoi.proofs.TableNotes.{Notes, notes_repeat, notes_fresh, notes_same, choice_place, choice_spelled}
+use Rattle.qoi.proofs.decoding.SeenTable.{hash_below, held_after}
+use Rattle.qoi.proofs.encoding.TableNotes.{Notes, notes_repeat, notes_fresh, notes_same, choice_place, choice_spelled}
 
 -- a pixel's bytes are its colors and, where there are four, its alpha
 own_bytes : (n : ℕ) (xs : List ℕ) → IsChannels n → length xs ≡ n → xs ≡ take n ((rgba xs).r ∷ (rgba xs).g ∷ (rgba xs).b ∷ (rgba xs).a ∷ [])

@@ -9,9 +9,9 @@ use Rattle.qoi.specs.Chunks.{IsChunk, pixel_of, then_chunk}
 use Rattle.qoi.specs.Meaning.{then_chunks}
 use Rattle.qoi.specs.Coding.{Coding, Coded}
 use Rattle.qoi.specs.Written.{rank, noted, IsChoice, IsRightAfter, IsFull, RunsAreFull, WrittenBy}
-use Rattle.qoi.proofs.SamePixels.{cases_pixel}
-use Rattle.qoi.proofs.NotedPixels.{noted_seen}
-use Rattle.qoi.proofs.ChunkSteps.{is_run, right_from, full_other, full_before, then_other, then_chunks-append, each_append}
+use Rattle.qoi.proofs.format.SamePixels.{cases_pixel}
+use Rattle.qoi.proofs.encoding.NotedPixels.{noted_seen}
+use Rattle.qoi.proofs.format.ChunkSteps.{is_run, right_from, full_other, full_before, then_other, then_chunks-append, each_append}
 
 -- what holds of each of two lists holds of each of both
 pub all_append : {A : Type 0} (P : A → Type 0) (xs ys : List A) → AllByRecursion P xs → AllByRecursion P ys → AllByRecursion P (xs ++ ys)

@@ -11,8 +11,8 @@ use Rattle.qoi.specs.Output.{output}
 use Rattle.qoi.specs.Verdicts.{IsWhole}
 use Rattle.qoi.specs.Decoding.{DecodesFile, ReadsImage, header_size}
 use Rattle.qoi.specs.DecoderState.{DecoderState}
-use Rattle.qoi.proofs.OneVerdict.{whole_is_one}
-use Rattle.qoi.proofs.HeaderBytes.{header_of-head, head_from_header_of}
+use Rattle.qoi.proofs.format.OneVerdict.{whole_is_one}
+use Rattle.qoi.proofs.format.HeaderBytes.{header_of-head, head_from_header_of}
 
 -- a file and more bytes are header, chunks, end marker and those bytes
 pub file_parts : (h : Header) (cs : List Chunk) (rest : List ℕ) → file h cs ++ rest ≡ head h ++ (text cs ++ (end_marker ++ rest))

@@ -7,8 +7,8 @@ use Rattle.qoi.specs.Pixels.{RgbaPixel, Past, previous, hash}
 use Rattle.qoi.specs.Chunks.{IsChunk, AreChunks, pixel_of, times, then_chunk, after_diff, after_luma}
 use Rattle.qoi.specs.Meaning.{Each}
 use Rattle.qoi.specs.Written.{noted, rank, IsFirst, IsChoice, GivesFresh, IsRightAfter, IsFull, RunsAreFull, WrittenBy, Written}
-use Rattle.qoi.proofs.SamePixels.{cases_pixel}
-use Rattle.qoi.proofs.ChunkSteps.{is_run, cases_run, times_other, right_other, times_some, given, meaning_given}
+use Rattle.qoi.proofs.format.SamePixels.{cases_pixel}
+use Rattle.qoi.proofs.format.ChunkSteps.{is_run, cases_run, times_other, right_other, times_some, given, meaning_given}
 
 -- two differences that give one pixel are one
 pub diff_unique : (q : RgbaPixel) (d e : ℕ) → 64 ≤ d → d < 128 → 64 ≤ e → e < 128 → after_diff q d ≡ after_diff q e → d ≡ e

@@ -3,7 +3,7 @@ use Rattle.std.proofs.Common.{◌≡◌, ◌≢◌, [], ◌∷◌, refl, ap, ari
 use Rattle.qoi.specs.declared.chunk.Chunk.TheVariants.{Run, Rgb, Rgba}
 use Rattle.qoi.specs.Pixels.{RgbaPixel, IsPixel, Past, pixel, pixel_eq, start, blank, previous, hash}
 use Rattle.qoi.specs.Written.{noted, IsChoice, Written}
-use Rattle.qoi.proofs.Spelled.{FitsDiff, FitsLuma, first_rgb, first_rgba}
+use Rattle.qoi.proofs.encoding.Spelled.{FitsDiff, FitsLuma, first_rgb, first_rgba}
 
 -- an Rgb is chosen where the pixel isn't noted and green is far
 pub chosen_rgb : (past : Past) (p : RgbaPixel) → IsPixel (previous past) → noted past (hash p) ≢ p → p.a ≡ (previous past).a → (FitsDiff (previous past) p → ⊥) → (FitsLuma (previous past) p → ⊥) → IsChoice past p (Rgb p.r p.g p.b)

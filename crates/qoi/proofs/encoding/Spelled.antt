@@ -6,7 +6,7 @@ use Rattle.qoi.specs.declared.chunk.Chunk.TheVariants.{Place, Diff, Luma, Run, R
 use Rattle.qoi.specs.Pixels.{RgbaPixel, IsPixel, Past, previous}
 use Rattle.qoi.specs.Chunks.{IsChunk, pixel_of, after_diff, after_luma}
 use Rattle.qoi.specs.Written.{rank, IsFirst}
-use Rattle.qoi.proofs.SamePixels.{same_pixel}
+use Rattle.qoi.proofs.format.SamePixels.{same_pixel}
 
 -- what is added to y, plus 2, for x; it wraps at 256
 abbrev pub plus_2 : ℕ → ℕ → ℕ

@@ -3,7 +3,7 @@ use Rattle.std.proofs.Common.{◌≡◌, ◌≢◌, ◌⊎◌, inl, inr, ℕ, eq
 use Rattle.std.proofs.lemmas.Bool.{cond-true, cond-false, eq-eqb, ne_eqb, cases_eq}
 use Rattle.qoi.specs.Pixels.{RgbaPixel, Past, pixel_eq, start, blank, hash, previous, seen}
 use Rattle.qoi.specs.Written.{fresh, noted}
-use Rattle.qoi.proofs.SamePixels.{pixel_eq-from, pixel_eq-ne, cases_pixel}
+use Rattle.qoi.proofs.format.SamePixels.{pixel_eq-from, pixel_eq-ne, cases_pixel}
 
 -- a repeat is not fresh
 pub fresh_repeat : (past : Past) (p : RgbaPixel) → p ≡ previous past → fresh (p ∷ past) ≡ fresh past

@@ -3,7 +3,7 @@ use Rattle.std.proofs.Common.{◌≡◌, ℕ, ◌+◌, ◌-◌, ◌*◌, ◌%◌
 use Rattle.qoi.specs.declared.chunk.Chunk.TheVariants.{Diff, Luma, Rgb}
 use Rattle.qoi.specs.Pixels.{RgbaPixel, IsPixel, Past, previous}
 use Rattle.qoi.specs.Written.{IsFirst}
-use Rattle.qoi.proofs.Spelled.{plus_2, plus_32, plus_8, FitsDiff, first_diff, first_luma, first_rgb}
+use Rattle.qoi.proofs.encoding.Spelled.{plus_2, plus_32, plus_8, FitsDiff, first_diff, first_luma, first_rgb}
 
 -- the colors of a pixel and of the pixel before it
 pub record Colors (q p : RgbaPixel) (r1 g1 b1 r0 g0 b0 : ℕ) : Type 0 where

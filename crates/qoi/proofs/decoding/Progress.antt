@@ -10,9 +10,9 @@ use Rattle.qoi.specs.Output.{IsChannels, output}
 use Rattle.qoi.specs.Filling.{HasFilled, HasSeen}
 use Rattle.qoi.specs.Verdicts.{IsPartOfChunk}
 use Rattle.qoi.specs.Decoding.{EndsInChunk, ReadsPixels, StreamsPixels}
-use Rattle.qoi.proofs.Appended.{then_chunks-push, Each-push, AreChunks-push, text-last, length-meaning}
-use Rattle.qoi.proofs.FilledBuffer.{counts, filled_all, whole_pixels}
-use Rattle.qoi.proofs.SeenTable.{previous_copies, times_above}
+use Rattle.qoi.proofs.format.Appended.{then_chunks-push, Each-push, AreChunks-push, text-last, length-meaning}
+use Rattle.qoi.proofs.decoding.FilledBuffer.{counts, filled_all, whole_pixels}
+use Rattle.qoi.proofs.decoding.SeenTable.{previous_copies, times_above}
 
 -- Chunks were taken, their pixels were written and seen. `Taken` says which bytes were taken.
 pub record SoFar (f c n : ℕ) (Taken : List ℕ → Type 0) (out : List ℕ) (at : ℕ) (places : List (List ℕ)) (last : List ℕ) : Type 0 where

@@ -11,10 +11,10 @@ use Rattle.qoi.specs.Meaning.{then_chunks, meaning, Each, Reaches}
 use Rattle.qoi.specs.Written.{noted, IsChoice, IsRightAfter, Written}
 use Rattle.qoi.specs.Raw.{HasChannels}
 use Rattle.qoi.specs.Regular.{NamesWritten, Regular, Begins}
-use Rattle.qoi.proofs.SamePixels.{cases_pixel}
-use Rattle.qoi.proofs.NotedPixels.{seen_same, seen_other}
-use Rattle.qoi.proofs.ChunkSteps.{given, then_chunks_given}
-use Rattle.qoi.proofs.Coding.{all_back, all_reverse}
+use Rattle.qoi.proofs.format.SamePixels.{cases_pixel}
+use Rattle.qoi.proofs.encoding.NotedPixels.{seen_same, seen_other}
+use Rattle.qoi.proofs.format.ChunkSteps.{given, then_chunks_given}
+use Rattle.qoi.proofs.encoding.Coding.{all_back, all_reverse}
 
 -- a place chunk that is chosen names the index position of its pixel
 place_named : (past : Past) (i : ℕ) → IsChoice past (seen past i) (Place i) → hash (seen past i) ≡ i

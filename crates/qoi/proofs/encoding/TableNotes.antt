@@ -5,8 +5,8 @@ use Rattle.qoi.specs.declared.chunk.Chunk.{Chunk}
 use Rattle.qoi.specs.declared.chunk.Chunk.TheVariants.{Place}
 use Rattle.qoi.specs.Pixels.{RgbaPixel, Past, previous, hash, blank}
 use Rattle.qoi.specs.Written.{noted, IsFirst, IsChoice}
-use Rattle.qoi.proofs.NotedPixels.{noted_repeat, noted_fresh}
-use Rattle.qoi.proofs.WrittenExists.{hash_lt}
+use Rattle.qoi.proofs.encoding.NotedPixels.{noted_repeat, noted_fresh}
+use Rattle.qoi.proofs.encoding.WrittenExists.{hash_lt}
 
 -- what the table holds is what is noted
 pub record Notes (past : Past) (table : ℕ → RgbaPixel) : Type 0 where

@@ -3,7 +3,7 @@ use Rattle.std.proofs.Common.{[], ◌∷◌, refl, arith}
 use Rattle.qoi.specs.declared.chunk.Chunk.TheVariants.{Rgb, Rgba}
 use Rattle.qoi.specs.Pixels.{pixel, pixel_eq, start, blank, hash}
 use Rattle.qoi.specs.Written.{Written}
-use Rattle.qoi.proofs.SlackReached.{chosen_rgb, chosen_rgba, red_differs}
+use Rattle.qoi.proofs.shortness.SlackReached.{chosen_rgb, chosen_rgba, red_differs}
 
 -- a far color is written as an RGB
 pub one_rgb : Written (pixel 11 121 231 255 ∷ []) (Rgb 11 121 231 ∷ [])

@@ -14,7 +14,7 @@ use Rattle.qoi.specs.Chunks.{AreChunks, text}
 use Rattle.qoi.specs.Meaning.{Reaches}
 use Rattle.qoi.specs.Verdicts.{IsPartOfChunk}
 use Rattle.qoi.specs.Decoding.{EndsInChunk, StreamsPixels, HasCut, RefusesTaken, RefusesTakenMarker}
-use Rattle.qoi.proofs.PartOfChunk.{part_luma, part_rgb, part_rgba}
+use Rattle.qoi.proofs.format.PartOfChunk.{part_luma, part_rgb, part_rgba}
 
 -- the front of a buffer after a read behind what was filled
 pub take-read : (filled n k : ℕ) (buf piece : List ℕ) → filled ≤ length buf → n ≤ length piece → take (filled + n) (put_mid filled k buf piece) ≡ take filled buf ++ take n piece

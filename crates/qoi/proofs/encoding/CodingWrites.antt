@@ -11,10 +11,10 @@ use Rattle.qoi.specs.Written.{IsChoice}
 use Rattle.qoi.specs.Writes.{WriterLaws, WroteBut, WroteSome}
 use Rattle.qoi.specs.CoderState.{HasCoded, waiting_run}
 use Rattle.qoi.specs.Coding.{ToWrite, IsCoding}
-use Rattle.qoi.proofs.Coding.{all_front, all_back, all_reverse}
-use Rattle.qoi.proofs.CodingRest.{to_write_repeat, to_write_full, to_write_fresh, to_write_run_fresh}
-use Rattle.qoi.proofs.CoderTable.{noted_again}
-use Rattle.qoi.proofs.WrittenExists.{choice_some, is_pixel_previous}
+use Rattle.qoi.proofs.encoding.Coding.{all_front, all_back, all_reverse}
+use Rattle.qoi.proofs.encoding.CodingRest.{to_write_repeat, to_write_full, to_write_fresh, to_write_run_fresh}
+use Rattle.qoi.proofs.encoding.CoderTable.{noted_again}
+use Rattle.qoi.proofs.encoding.WrittenExists.{choice_some, is_pixel_previous}
 
 -- the next pixel and the one before it have bytes
 pub pixels_are : (image : List RgbaPixel) (cs : List Chunk) (past : Past) (p : RgbaPixel) (rest : List RgbaPixel) (k : ℕ) (todo : List Chunk) → ToWrite image cs past (p ∷ rest) k todo → IsPixel (previous past) × IsPixel p

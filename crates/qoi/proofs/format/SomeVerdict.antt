@@ -12,9 +12,9 @@ use Rattle.qoi.specs.Chunks.{IsChunk, AreChunks, bytes_of, text, then_chunk}
 use Rattle.qoi.specs.Meaning.{then_chunks, meaning}
 use Rattle.qoi.specs.Files.{end_marker}
 use Rattle.qoi.specs.Verdicts.{IsPartOfChunk, Takes, IsWhole, IsCut, IsWrong}
-use Rattle.qoi.proofs.PartOfChunk.{part_empty, part_luma, part_rgb, part_rgba}
-use Rattle.qoi.proofs.OneVerdict.{StayBelowAfter, EndsChunks}
-use Rattle.qoi.proofs.Appended.{length-bytes_of, length-meaning}
+use Rattle.qoi.proofs.format.PartOfChunk.{part_empty, part_luma, part_rgb, part_rgba}
+use Rattle.qoi.proofs.format.OneVerdict.{StayBelowAfter, EndsChunks}
+use Rattle.qoi.proofs.format.Appended.{length-bytes_of, length-meaning}
 
 -- what follows the first byte is bytes
 bytes_after : (b : ℕ) (bytes : List ℕ) → AreBytes (b ∷ bytes) → AreBytes bytes

@@ -8,8 +8,8 @@ use Rattle.std.proofs.lemmas.List.Folds.{find-append}
 use Rattle.qoi.specs.Pixels.{RgbaPixel, Past, start, previous, seen, hash}
 use Rattle.qoi.specs.Written.{fresh, noted}
 use Rattle.qoi.specs.Shortest.{is_start, slack}
-use Rattle.qoi.proofs.SamePixels.{cases_pixel, pixel_eq-same, pixel_eq-from}
-use Rattle.qoi.proofs.NotedPixels.{fresh_repeat, fresh_more, noted_repeat, noted_fresh, seen_same, seen_other}
+use Rattle.qoi.proofs.format.SamePixels.{cases_pixel, pixel_eq-same, pixel_eq-from}
+use Rattle.qoi.proofs.encoding.NotedPixels.{fresh_repeat, fresh_more, noted_repeat, noted_fresh, seen_same, seen_other}
 
 -- the image so far opens with opaque black
 abbrev pub opens : Past → Bool

@@ -5,7 +5,7 @@ use Rattle.qoi.specs.declared.chunk.Chunk.TheVariants.{Diff, Luma}
 use Rattle.qoi.specs.Pixels.{RgbaPixel, Past, pixel_eq, previous, seen, hash}
 use Rattle.qoi.specs.Chunks.{IsChunk, after_diff, after_luma}
 use Rattle.qoi.specs.Shortest.{some_below, some_diff, some_luma, some_rgb, least, repeats, cost, total_cost}
-use Rattle.qoi.proofs.SamePixels.{pixel_eq-from, pixel_eq-true, pixel_eq-ne}
+use Rattle.qoi.proofs.format.SamePixels.{pixel_eq-from, pixel_eq-true, pixel_eq-ne}
 
 -- a number that passes shows that some does
 some_below-from : (n : ℕ) (test : ℕ → Bool) (d : ℕ) → d < n → test d ≡ true → some_below n test ≡ true

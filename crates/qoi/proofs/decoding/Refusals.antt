@@ -5,7 +5,7 @@ use Rattle.qoi.specs.declared.error.Error.TheVariants.{InvalidMagic, InvalidChan
 use Rattle.qoi.specs.declared.chunk.Chunk.{Chunk}
 use Rattle.qoi.specs.Verdicts.{IsWhole}
 use Rattle.qoi.specs.Decoding.{RefusesBytes, RefusesImage}
-use Rattle.qoi.proofs.OneVerdict.{whole_not_cut, whole_not_wrong}
+use Rattle.qoi.proofs.format.OneVerdict.{whole_not_cut, whole_not_wrong}
 
 -- bytes whose verdict is whole are not refused
 pub whole_not_refused : (n : ℕ) (bytes : List ℕ) (cs : List Chunk) (rest : List ℕ) (e : Error) → IsWhole n bytes cs rest → RefusesBytes n bytes e → ⊥

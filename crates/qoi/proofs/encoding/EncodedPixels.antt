@@ -12,12 +12,12 @@ use Rattle.qoi.specs.Raw.{pixels_of}
 use Rattle.qoi.specs.Writes.{WriterLaws, WroteSome}
 use Rattle.qoi.specs.CoderState.{HasCoded, waiting_run}
 use Rattle.qoi.specs.Coding.{ToWrite, IsCoding}
-use Rattle.qoi.proofs.FilledBuffer.{whole_pixels, pixel_room}
-use Rattle.qoi.proofs.RawPixels.{pixels_of_are, pixels_of_have, length-pixels_of, pixels_of-next}
-use Rattle.qoi.proofs.WrittenExists.{written_some}
-use Rattle.qoi.proofs.WrittenShape.{written_fits_lem}
-use Rattle.qoi.proofs.CodingRest.{to_write_none, to_write_end, to_write_end_run}
-use Rattle.qoi.proofs.CodingWrites.{wrote_next, wrote_part}
+use Rattle.qoi.proofs.decoding.FilledBuffer.{whole_pixels, pixel_room}
+use Rattle.qoi.proofs.format.RawPixels.{pixels_of_are, pixels_of_have, length-pixels_of, pixels_of-next}
+use Rattle.qoi.proofs.encoding.WrittenExists.{written_some}
+use Rattle.qoi.proofs.encoding.WrittenShape.{written_fits_lem}
+use Rattle.qoi.proofs.encoding.CodingRest.{to_write_none, to_write_end, to_write_end_run}
+use Rattle.qoi.proofs.encoding.CodingWrites.{wrote_next, wrote_part}
 
 -- the chunks of the pixels of all the bytes, but those that are still to be written for the rest
 pub record Encodes {W : Type 0} (n : ℕ) (wrote : W → List ℕ → W → Type 0) (start : W) (bytes rest : List ℕ) (table : List (List ℕ)) (last : List ℕ) (run : ℕ) (buf : W) : Type 0 where

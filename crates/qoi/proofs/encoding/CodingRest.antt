@@ -8,9 +8,9 @@ use Rattle.qoi.specs.Pixels.{RgbaPixel, IsPixel, Past, previous}
 use Rattle.qoi.specs.Chunks.{IsChunk}
 use Rattle.qoi.specs.Written.{IsChoice, Written}
 use Rattle.qoi.specs.Coding.{ToWrite, ToWrite, Coding}
-use Rattle.qoi.proofs.Coding.{all_front, all_back, all_reverse, coding_none, coding_repeat, coding_full, coded_none, coded_run, coding_chosen, coded_all}
-use Rattle.qoi.proofs.WrittenExists.{coding_completed}
-use Rattle.qoi.proofs.WrittenOnce.{written_unique}
+use Rattle.qoi.proofs.encoding.Coding.{all_front, all_back, all_reverse, coding_none, coding_repeat, coding_full, coded_none, coded_run, coding_chosen, coded_all}
+use Rattle.qoi.proofs.encoding.WrittenExists.{coding_completed}
+use Rattle.qoi.proofs.encoding.WrittenOnce.{written_unique}
 
 -- at the start all is still to be written
 pub to_write_none : (image : List RgbaPixel) (cs : List Chunk) → Written image cs → AllByRecursion IsPixel image → ToWrite image cs [] image 0 cs

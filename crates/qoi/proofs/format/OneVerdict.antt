@@ -7,8 +7,8 @@ use Rattle.qoi.specs.Chunks.{IsChunk, AreChunks, bytes_of, text, then_chunk}
 use Rattle.qoi.specs.Meaning.{Each, then_chunks, meaning}
 use Rattle.qoi.specs.Files.{end_marker}
 use Rattle.qoi.specs.Verdicts.{IsPartOfChunk, Takes, IsWhole, IsCut, IsWrong}
-use Rattle.qoi.proofs.Appended.{length-meaning}
-use Rattle.qoi.proofs.ChunksApart.{chunks_apart, part_begins_none}
+use Rattle.qoi.proofs.format.Appended.{length-meaning}
+use Rattle.qoi.proofs.format.ChunksApart.{chunks_apart, part_begins_none}
 
 -- fewer than n pixels stand before each chunk, where these pixels stand before the first one
 abbrev pub StayBelowAfter : ℕ → Past → List Chunk → Type 0

@@ -1,0 +1,10 @@
+-- Lemmas on decoding.
+pub mod FilledBuffer
+pub mod ImageSize
+pub mod OneFile
+pub mod Progress
+pub mod Refusals
+pub mod SeenTable
+pub mod StreamReads
+pub mod StreamVerdicts
+pub mod TakenBytes

@@ -1,0 +1,14 @@
+-- Lemmas on encoding.
+pub mod BufferFilled
+pub mod CoderTable
+pub mod Coding
+pub mod CodingRest
+pub mod CodingWrites
+pub mod EncodedPixels
+pub mod NotedPixels
+pub mod Spelled
+pub mod SpelledBytes
+pub mod TableNotes
+pub mod WrittenExists
+pub mod WrittenOnce
+pub mod WrittenShape

@@ -1,0 +1,11 @@
+-- Lemmas on the format: headers, pixels, chunks and files.
+pub mod Appended
+pub mod ChunkSteps
+pub mod ChunksApart
+pub mod HeaderBytes
+pub mod OneVerdict
+pub mod PartOfChunk
+pub mod RawPixels
+pub mod SamePixels
+pub mod SetLast
+pub mod SomeVerdict
