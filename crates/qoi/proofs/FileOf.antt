@@ -6,14 +6,8 @@ use Rattle.qoi.specs.declared.types.Channels.TheVariants.{Rgb, Rgba}
 use Rattle.qoi.specs.declared.types.ColorSpace.{ColorSpace}
 use Rattle.qoi.specs.declared.header.Header.{Header}
 use Rattle.qoi.specs.declared.chunk.Chunk.{Chunk}
-use Rattle.qoi.specs.Types.{channels_number, colorspace_number}
-use Rattle.qoi.specs.Headers.{head, pixel_count, IsValid}
-use Rattle.qoi.specs.Bytes.{AreBytes}
-use Rattle.qoi.specs.Chunks.{text}
-use Rattle.qoi.specs.Meaning.{Reaches}
-use Rattle.qoi.specs.Files.{file, file_pixels, end_marker, IsFile}
-use Rattle.qoi.specs.Output.{IsChannels, output}
-use Rattle.qoi.specs.Raw.{HasChannels}
+use Rattle.qoi.specs.Qoi.{channels_number, colorspace_number, head, pixel_count, IsValid, AreBytes, text, Reaches, file, file_pixels, end_marker, IsFile}
+use Rattle.qoi.specs.Raw.{IsChannels, output, HasChannels}
 use Rattle.qoi.specs.Written.{IsChoice, Written}
 use Rattle.qoi.specs.Decoding.{file_byte_count, DecodesFile}
 use Rattle.qoi.specs.Encoded.{max_file_len, image_pixels, IsNearShortest, IsFileOf}
@@ -21,7 +15,7 @@ use Rattle.qoi.proofs.decoding.FilledBuffer.{take_whole}
 use Rattle.qoi.proofs.decoding.ImageSize.{channels_are}
 use Rattle.qoi.proofs.decoding.OneFile.{decodes_file}
 use Rattle.qoi.proofs.format.RawPixels.{pixels_of_are, pixels_of_have, length-pixels_of, output-pixels_of}
-use Rattle.qoi.specs.Writes.{WriterLaws, WroteBut, WroteSome}
+use Rattle.qoi.specs.writers.Writes.{WriterLaws, WroteBut, WroteSome}
 use Rattle.qoi.proofs.encoding.CodingWrites.{wrote_next, wrote_part}
 use Rattle.qoi.proofs.encoding.EncodedPixels.{all_bytes}
 use Rattle.qoi.proofs.encoding.WrittenExists.{written_some}

@@ -3,8 +3,7 @@ use Rattle.std.specs.Prelude.{ℕ, List, Option, Bool}
 use Rattle.qoi.specs.declared.error.Error.{Error}
 use Rattle.qoi.specs.declared.types.Channels.{Channels}
 use Rattle.qoi.specs.declared.header.Header.{Header}
-use Rattle.qoi.specs.Types.{channels_number}
-use Rattle.qoi.specs.Headers.{pixel_count}
+use Rattle.qoi.specs.Qoi.{channels_number, pixel_count}
 use Rattle.qoi.specs.Decoding.{byte_count, ReadsImage, RefusesImage}
 
 -- the reader as it stands, the header of the file, and the channels of the output

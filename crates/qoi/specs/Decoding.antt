@@ -5,12 +5,8 @@ use Rattle.qoi.specs.declared.error.Error.{Error}
 use Rattle.qoi.specs.declared.error.Error.TheVariants.{OutputBufferTooSmall, UnexpectedBufferEnd, InvalidPadding, IoError}
 use Rattle.qoi.specs.declared.header.Header.{Header}
 use Rattle.qoi.specs.declared.chunk.Chunk.{Chunk}
-use Rattle.qoi.specs.Chunks.{AreChunks, text}
-use Rattle.qoi.specs.Meaning.{Reaches, meaning}
-use Rattle.qoi.specs.Files.{IsFile, end_marker, file, file_pixels}
-use Rattle.qoi.specs.Types.{channels_number}
-use Rattle.qoi.specs.Headers.{header_of, pixel_count}
-use Rattle.qoi.specs.Output.{output}
+use Rattle.qoi.specs.Qoi.{header_size, AreChunks, text, Reaches, meaning, IsFile, end_marker, file, file_pixels, channels_number, header_of, pixel_count}
+use Rattle.qoi.specs.Raw.{output}
 use Rattle.qoi.specs.Verdicts.{IsPartOfChunk, Takes, IsWhole, IsCut, IsWrong}
 
 -- the bytes end within a chunk before n pixels are reached
@@ -77,10 +73,6 @@ RefusesTakenMarker taken _ = ⊥
 abbrev pub RefusesImage : Bool → ℕ → Option (List ℕ) → Option (List ℕ) → Error → Type 0
 RefusesImage true n old new e = Keeps old new × IfSome old (λ bytes. RefusesBytes n bytes e)
 RefusesImage false n old new e = (taken : List ℕ) × Consumes old new taken × RefusesTaken n taken e
-
--- How many bytes a header takes.
-abbrev pub header_size : ℕ
-header_size = 14
 
 -- why a stream's header is refused: fewer than fourteen bytes came, or the fourteen that were taken are refused
 abbrev pub RefusesHeader : List ℕ → Error → Type 0

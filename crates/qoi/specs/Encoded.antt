@@ -10,12 +10,7 @@ use Rattle.qoi.specs.declared.types.ColorSpace.TheVariants.{Srgb}
 use Rattle.qoi.specs.declared.header.Header.{Header}
 use Rattle.qoi.specs.declared.chunk.Chunk.{Chunk}
 use Rattle.qoi.specs.declared.chunk.Chunk.TheVariants.{Place}
-use Rattle.qoi.specs.Types.{channels_number, channels_of, colorspace_number}
-use Rattle.qoi.specs.Headers.{pixel_count, tried_header}
-use Rattle.qoi.specs.Pixels.{RgbaPixel, blank}
-use Rattle.qoi.specs.Chunks.{AreChunks, text}
-use Rattle.qoi.specs.Meaning.{Reaches, meaning}
-use Rattle.qoi.specs.Files.{file}
+use Rattle.qoi.specs.Qoi.{channels_number, channels_of, colorspace_number, pixel_count, tried_header, RgbaPixel, blank, AreChunks, text, Reaches, meaning, file}
 use Rattle.qoi.specs.Raw.{pixels_of}
 use Rattle.qoi.specs.Written.{Written}
 use Rattle.qoi.specs.Regular.{Regular, Begins}

@@ -4,6 +4,7 @@ use Rattle.std.specs.Int.{w32, to_be_bytes}
 use Rattle.std.specs.Fmt.{decimal}
 use Rattle.qoi.specs.declared.error.Error.{Error}
 use Rattle.qoi.specs.declared.error.Error.TheVariants.{InvalidMagic, InvalidChannels, InvalidColorSpace, InvalidImageDimensions, InvalidImageLength, OutputBufferTooSmall, UnexpectedBufferEnd, InvalidPadding, IoError, OutOfMemory}
+use Rattle.qoi.specs.Qoi.{magic_number}
 
 -- width and height in pixels
 abbrev pub size_text : ℕ → ℕ → List ℕ
@@ -20,7 +21,7 @@ bytes_text n = codes "[" ++ (byte_text n 0 ++ (codes ", " ++ (byte_text n 1 ++ (
 -- The text of an error, but for the words of an i/o error, which are the library's own.
 abbrev pub printed : Error → Option (List ℕ)
 printed (InvalidMagic n) =
-    Some (codes "invalid magic: expected " ++ (decimal 1903126886 ++ (codes ", got " ++ bytes_text n)))
+    Some (codes "invalid magic: expected " ++ (decimal magic_number ++ (codes ", got " ++ bytes_text n)))
 printed (InvalidChannels n) = Some (codes "invalid number of channels: " ++ decimal n)
 printed (InvalidColorSpace n) = Some (codes "invalid color space: " ++ (decimal n ++ codes " (expected 0 or 1)"))
 printed (InvalidImageDimensions width height) = Some (codes "invalid image dimensions: " ++ size_text width height)

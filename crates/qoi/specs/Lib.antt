@@ -1,27 +1,23 @@
-pub mod Buffer
-pub mod Bytes
-pub mod Chunks
-pub mod CoderState
-pub mod Coding
-pub mod DecoderState
+-- The format.
+pub mod Qoi
+-- Raw bytes and pixels.
+pub mod Raw
+-- Which bytes are accepted, and what decoding answers.
+pub mod Verdicts
 pub mod Decoding
+pub mod DecoderState
+-- What is written, and the file of an image.
+pub mod Written
+pub mod Spelling
 pub mod Encoded
 pub mod EncoderState
-pub mod ErrorText
-pub mod Errors
-pub mod Files
-pub mod Filling
-pub mod Headers
-pub mod Meaning
-pub mod Output
-pub mod Pixels
-pub mod Raw
+-- How short it is.
 pub mod Regular
 pub mod Shortest
-pub mod Spelling
-pub mod Stream
-pub mod Taken
-pub mod Types
-pub mod Verdicts
-pub mod Writes
-pub mod Written
+-- Errors and their texts.
+pub mod Errors
+pub mod ErrorText
+-- Writers' calls and words.
+pub mod writers
+-- States of loops.
+pub mod inner

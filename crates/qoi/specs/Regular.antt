@@ -2,8 +2,7 @@
 use Rattle.std.specs.Prelude.{◌≡◌, List, [], ◌++◌}
 use Rattle.qoi.specs.declared.chunk.Chunk.{Chunk}
 use Rattle.qoi.specs.declared.chunk.Chunk.TheVariants.{Place}
-use Rattle.qoi.specs.Pixels.{RgbaPixel, Past, seen, hash}
-use Rattle.qoi.specs.Meaning.{Each}
+use Rattle.qoi.specs.Qoi.{RgbaPixel, Past, seen, hash, Each}
 
 -- an index position that is named holds a pixel whose position it is; so one where no pixel was put is named
 -- only if it is position 0

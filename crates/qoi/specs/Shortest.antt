@@ -1,8 +1,7 @@
 -- The fewest bytes that the pixels of an image take.
 use Rattle.std.specs.Prelude.{ℕ, zero, suc, ◌+◌, ◌%◌, List, [], ◌∷◌, Bool, false, ◌==◌, ◌&&◌, ◌||◌, if◌then◌else◌, reverse, Option, None, Some, slice_get}
 use Rattle.std.specs.List.{find}
-use Rattle.qoi.specs.Pixels.{RgbaPixel, Past, pixel_eq, start, hash, previous, seen}
-use Rattle.qoi.specs.Chunks.{after_diff, after_luma}
+use Rattle.qoi.specs.Qoi.{RgbaPixel, Past, pixel_eq, start, hash, previous, seen, after_diff, after_luma}
 use Rattle.qoi.specs.Written.{fresh}
 
 -- some number below n passes the test
@@ -31,15 +30,15 @@ least past p =
     else 5
 
 -- how many repeats the pixels end with
-abbrev pub repeats : Past → ℕ
-repeats [] = 0
-repeats (p ∷ past) = if pixel_eq p (previous past) then suc (repeats past) else 0
+abbrev pub trailing_repeats : Past → ℕ
+trailing_repeats [] = 0
+trailing_repeats (p ∷ past) = if pixel_eq p (previous past) then suc (trailing_repeats past) else 0
 
 -- A fresh pixel costs its shortest chunk. A repeat costs a byte if it is the first of a group or each 62nd
 -- after that, so a group of k repeats costs k / 62, rounded up.
 unfoldable pub cost : (Past → RgbaPixel → ℕ) → Past → RgbaPixel → ℕ
 cost shortest past p =
-    if pixel_eq p (previous past) then (if repeats past % 62 == 0 then 1 else 0) else shortest past p
+    if pixel_eq p (previous past) then (if trailing_repeats past % 62 == 0 then 1 else 0) else shortest past p
 
 -- what the pixels cost, one after the other
 abbrev pub total_cost : (Past → RgbaPixel → ℕ) → Past → ℕ

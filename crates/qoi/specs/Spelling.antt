@@ -1,8 +1,7 @@
 -- The chunk that spells a pixel out after another (QOI specification 1.0, "Chunks").
 use Rattle.std.specs.Prelude.{◌≡◌, ℕ, List}
 use Rattle.qoi.specs.declared.chunk.Chunk.{Chunk}
-use Rattle.qoi.specs.Pixels.{Past, IsPixel, rgba, previous}
-use Rattle.qoi.specs.Chunks.{IsChunk}
+use Rattle.qoi.specs.Qoi.{Past, IsPixel, rgba, previous, IsChunk}
 use Rattle.qoi.specs.Written.{IsFirst}
 
 -- the first of Diff, Luma, Rgb and Rgba that gives the one pixel after the other

@@ -2,9 +2,7 @@
 -- (QOI specification 1.0, "File Format" and "Data").
 use Rattle.std.specs.Prelude.{◌≡◌, ◌≢◌, ℕ, ◌<◌, ◌≤◌, ◌⊎◌, List, ◌∷◌, ◌++◌, length}
 use Rattle.qoi.specs.declared.chunk.Chunk.{Chunk}
-use Rattle.qoi.specs.Chunks.{IsChunk, AreChunks, bytes_of, text}
-use Rattle.qoi.specs.Meaning.{StayBelow, meaning}
-use Rattle.qoi.specs.Files.{end_marker}
+use Rattle.qoi.specs.Qoi.{IsChunk, AreChunks, bytes_of, text, StayBelow, meaning, end_marker}
 
 -- a beginning of a chunk's bytes, at least one byte short of the whole; it may be empty
 abbrev pub IsPartOfChunk : List ℕ → Type 0

@@ -2,9 +2,7 @@
 use Rattle.std.specs.Prelude.{◌≡◌, ◌≢◌, ℕ, ◌<◌, ◌≤◌, List, [], ◌∷◌, if◌then◌else◌}
 use Rattle.qoi.specs.declared.chunk.Chunk.{Chunk}
 use Rattle.qoi.specs.declared.chunk.Chunk.TheVariants.{Place, Diff, Luma, Run, Rgb, Rgba}
-use Rattle.qoi.specs.Pixels.{RgbaPixel, Past, pixel_eq, previous, seen, hash}
-use Rattle.qoi.specs.Chunks.{IsChunk, AreChunks, pixel_of}
-use Rattle.qoi.specs.Meaning.{meaning, Each}
+use Rattle.qoi.specs.Qoi.{RgbaPixel, Past, pixel_eq, previous, seen, hash, IsChunk, AreChunks, pixel_of, meaning, Each}
 
 -- the fresh pixels: those that differ from the pixel before them
 abbrev pub fresh : Past → Past

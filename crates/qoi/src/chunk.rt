@@ -1,9 +1,8 @@
 //! The chunks of the format (QOI specification 1.0, "Chunks").
 ghost use Rattle.std.specs.Prelude.{◌≡◌, ◌≤◌, ◌+◌, ℕ, List, ◌++◌, length, IfSome, IfNone, IsNone, IsSomeAnd};
 ghost use Rattle.qoi.specs.declared.chunk.Chunk.{Chunk};
-ghost use Rattle.qoi.specs.Pixels.{Past, IsPixel, rgba, previous};
-ghost use Rattle.qoi.specs.Chunks.{IsChunk, bytes_of};
-ghost use Rattle.qoi.specs.Output.{IsChannels};
+ghost use Rattle.qoi.specs.Qoi.{Past, IsPixel, rgba, previous, IsChunk, bytes_of};
+ghost use Rattle.qoi.specs.Raw.{IsChannels};
 ghost use Rattle.qoi.specs.Verdicts.{IsPartOfChunk};
 ghost use Rattle.qoi.specs.Written.{IsFirst};
 

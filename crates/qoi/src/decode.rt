@@ -3,10 +3,9 @@ ghost use Rattle.std.specs.Prelude.{◌≡◌, ℕ, ◌<◌, ◌≤◌, List, �
 ghost use Rattle.qoi.specs.declared.chunk.Chunk.{Chunk};
 ghost use Rattle.qoi.specs.declared.header.Header.{Header};
 ghost use Rattle.qoi.specs.declared.error.Error.{Error};
-ghost use Rattle.qoi.specs.Headers.{header_of, pixel_count};
-ghost use Rattle.qoi.specs.Files.{IsFile, file};
+ghost use Rattle.qoi.specs.Qoi.{header_of, pixel_count, IsFile, file, header_size};
 ghost use Rattle.qoi.specs.Verdicts.{IsWhole};
-ghost use Rattle.qoi.specs.Decoding.{ReadsHeader, RefusesFile, RefusesWholeFile, DecodesFile, header_size, file_byte_count};
+ghost use Rattle.qoi.specs.Decoding.{ReadsHeader, RefusesFile, RefusesWholeFile, DecodesFile, file_byte_count};
 ghost use Rattle.qoi.specs.DecoderState.{image_byte_count, DecodesImage, RefusesDecoding};
 
 mod pixels;
@@ -89,7 +88,7 @@ impl<R> Model for Decoder<R> {
 
     ghost view = { λ d. record { reader = d.reader; header = d.header; channels = d.channels } };
 
-    ghost use Rattle.qoi.specs.Headers.{IsValid};
+    ghost use Rattle.qoi.specs.Qoi.{IsValid};
 
     ghost invariant = { λ d. IsValid d.header };
 }

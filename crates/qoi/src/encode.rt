@@ -3,21 +3,16 @@ ghost use Rattle.std.specs.Prelude.{◌≡◌, ◌≢◌, ℕ, ◌+◌, ◌*◌,
 ghost use Rattle.std.specs.Io.KnownBytes.{Appends};
 ghost use Rattle.qoi.specs.declared.header.Header.{Header};
 ghost use Rattle.qoi.specs.declared.error.Error.{Error};
-ghost use Rattle.qoi.specs.Types.{channels_number};
-ghost use Rattle.qoi.specs.Headers.{IsValid};
+ghost use Rattle.qoi.specs.Qoi.{channels_number, IsValid, RgbaPixel, Past, IsPixel, rgba, previous, IsChunk, bytes_of, text};
 ghost use Rattle.qoi.specs.Decoding.{file_byte_count};
 ghost use Rattle.qoi.specs.Encoded.{max_len, max_file_len, image_header, IsFileOf};
 ghost use Rattle.qoi.specs.Errors.{IsIoError};
-ghost use Rattle.qoi.specs.Writes.{AppendsBeginning};
+ghost use Rattle.qoi.specs.writers.Writes.{AppendsBeginning, WroteSome};
 ghost use Rattle.qoi.specs.declared.chunk.Chunk.{Chunk};
-ghost use Rattle.qoi.specs.Pixels.{RgbaPixel, Past, IsPixel, rgba, previous};
-ghost use Rattle.qoi.specs.Chunks.{IsChunk, bytes_of, text};
-ghost use Rattle.qoi.specs.Output.{IsChannels};
+ghost use Rattle.qoi.specs.Raw.{IsChannels, pixels_of};
 ghost use Rattle.qoi.specs.Written.{IsChoice, Written};
-ghost use Rattle.qoi.specs.Raw.{pixels_of};
-ghost use Rattle.qoi.specs.Writes.{WroteSome};
-ghost use Rattle.qoi.specs.CoderState.{HasNoted, HasCoded, waiting_run};
-ghost use Rattle.qoi.specs.Coding.{IsCoding};
+ghost use Rattle.qoi.specs.inner.CoderState.{HasNoted, HasCoded, waiting_run};
+ghost use Rattle.qoi.specs.inner.Coding.{IsCoding};
 ghost use Rattle.qoi.specs.declared.chunk.Chunk.TheVariants.{Run};
 
 use crate::chunk::Chunk;
@@ -255,7 +250,7 @@ pub struct Encoder<'a> {
 impl<'a> Model for Encoder<'a> {
     ghost use Rattle.std.specs.Prelude.{◌≡◌, length};
     ghost use Rattle.qoi.specs.EncoderState.{EncoderState};
-    ghost use Rattle.qoi.specs.Headers.{IsValid};
+    ghost use Rattle.qoi.specs.Qoi.{IsValid};
     ghost use Rattle.qoi.specs.Decoding.{file_byte_count};
 
     ghost Value = { EncoderState };

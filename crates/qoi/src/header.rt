@@ -24,7 +24,7 @@ pub struct Header {
 }
 
 impl Default for Header {
-    ghost use Rattle.qoi.specs.Headers.{default_header};
+    ghost use Rattle.qoi.specs.Qoi.{default_header};
 
     ghost is_default = { λ header. header ≡ default_header };
 
@@ -40,7 +40,7 @@ impl Default for Header {
 }
 
 impl Header {
-    ghost use Rattle.qoi.specs.Headers.{head, header_of, tried_header, pixel_count, raw_byte_count};
+    ghost use Rattle.qoi.specs.Qoi.{head, header_of, tried_header, pixel_count, raw_byte_count};
     ghost use Rattle.qoi.specs.Encoded.{max_file_len};
 
     /// A header of these fields; `InvalidImageDimensions` where width times height is 0 or

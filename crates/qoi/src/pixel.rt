@@ -1,8 +1,7 @@
 //! A pixel of three or four channels.
 ghost use Rattle.std.specs.Prelude.{◌≡◌, ◌↔◌, ◌<◌, ℕ, IsTrue, List, [], ◌∷◌, ◌++◌, length, take, drop, replicate, slice_index, slice_index_or};
-ghost use Rattle.qoi.specs.Pixels.{rgba, hash};
-ghost use Rattle.qoi.specs.Output.{IsChannels};
-ghost use Rattle.qoi.specs.Chunks.{after_diff, after_luma, moved};
+ghost use Rattle.qoi.specs.Qoi.{rgba, hash, after_diff, after_luma, moved};
+ghost use Rattle.qoi.specs.Raw.{IsChannels};
 
 use std::marker::Model;
 
@@ -99,7 +98,7 @@ impl<const N: usize> Pixel<N> {
     /// Adds to red, green and blue the differences of a difference chunk's byte (QOI specification
     /// 1.0, "QOI_OP_DIFF"); sums wrap at 256.
     #[inline]
-    #[tactic(auto, unfolding(crate::specs::Chunks::after_diff))]
+    #[tactic(auto, unfolding(crate::specs::Qoi::after_diff))]
     pub fn update_diff(&mut self, b1: u8)
         requires { IsChannels N }
         ensures { rgba self.new ≡ after_diff (rgba self.old) b1 }
@@ -113,7 +112,7 @@ impl<const N: usize> Pixel<N> {
     /// Adds to red, green and blue the differences of a luma chunk's two bytes (QOI specification
     /// 1.0, "QOI_OP_LUMA"); sums wrap at 256.
     #[inline]
-    #[tactic(auto, unfolding(crate::specs::Chunks::after_luma))]
+    #[tactic(auto, unfolding(crate::specs::Qoi::after_luma))]
     pub fn update_luma(&mut self, b1: u8, b2: u8)
         requires { IsChannels N }
         ensures { rgba self.new ≡ after_luma (rgba self.old) b1 b2 }
@@ -198,7 +197,7 @@ impl<const N: usize> Pixel<N> {
     /// The index position of the pixel, 0 to 63, with alpha 255 where it has three channels (QOI
     /// specification 1.0, "Chunks").
     #[inline]
-    #[tactic(auto, unfolding(crate::specs::Pixels::hash))]
+    #[tactic(auto, unfolding(crate::specs::Qoi::hash))]
     pub fn hash_index(self) -> u8
         requires { IsChannels N }
         ensures position { result ≡ hash (rgba self.entry) }

@@ -15,7 +15,7 @@ pub enum ColorSpace {
 }
 
 impl ColorSpace {
-    ghost use Rattle.qoi.specs.Types.{colorspace_number};
+    ghost use Rattle.qoi.specs.Qoi.{colorspace_number};
 
     /// Whether the color space is sRGB with linear alpha.
     pub fn is_srgb(self) -> bool
@@ -51,7 +51,7 @@ impl Default for ColorSpace {
 }
 
 impl From<ColorSpace> for u8 {
-    ghost use Rattle.qoi.specs.Types.{colorspace_number};
+    ghost use Rattle.qoi.specs.Qoi.{colorspace_number};
 
     ghost from_gives = { λ colorspace n. n ≡ colorspace_number colorspace };
 
@@ -64,7 +64,7 @@ impl From<ColorSpace> for u8 {
 impl TryFrom<u8> for ColorSpace {
     type Error = Error;
 
-    ghost use Rattle.qoi.specs.Types.{colorspace_of};
+    ghost use Rattle.qoi.specs.Qoi.{colorspace_of};
 
     ghost try_from_gives = { λ n r. r ≡ colorspace_of n };
 
@@ -90,7 +90,7 @@ pub enum Channels {
 }
 
 impl Channels {
-    ghost use Rattle.qoi.specs.Types.{channels_number};
+    ghost use Rattle.qoi.specs.Qoi.{channels_number};
 
     /// Whether there are three channels.
     pub fn is_rgb(self) -> bool
@@ -126,7 +126,7 @@ impl Default for Channels {
 }
 
 impl From<Channels> for u8 {
-    ghost use Rattle.qoi.specs.Types.{channels_number};
+    ghost use Rattle.qoi.specs.Qoi.{channels_number};
 
     ghost from_gives = { λ channels n. n ≡ channels_number channels };
 
@@ -139,7 +139,7 @@ impl From<Channels> for u8 {
 impl TryFrom<u8> for Channels {
     type Error = Error;
 
-    ghost use Rattle.qoi.specs.Types.{channels_of};
+    ghost use Rattle.qoi.specs.Qoi.{channels_of};
 
     ghost try_from_gives = { λ n r. r ≡ channels_of n };
 

@@ -1,9 +1,9 @@
 //! Where the encoder writes.
 ghost use Rattle.std.specs.Prelude.{◌≡◌, ℕ, ◌+◌, ◌<◌, ◌≤◌, List, [], ◌∷◌, length, OnOk, IfErr};
 ghost use Rattle.qoi.specs.declared.chunk.Chunk.{Chunk};
-ghost use Rattle.qoi.specs.Writes.{WriterLaws, WroteSome};
-ghost use Rattle.qoi.specs.Chunks.{IsChunk, bytes_of};
-ghost use Rattle.qoi.specs.Output.{IsChannels};
+ghost use Rattle.qoi.specs.writers.Writes.{WriterLaws, WroteSome};
+ghost use Rattle.qoi.specs.Qoi.{IsChunk, bytes_of};
+ghost use Rattle.qoi.specs.Raw.{IsChannels};
 ghost use Rattle.qoi.specs.Spelling.{Spells};
 
 use crate::chunk::Chunk;
@@ -96,7 +96,7 @@ pub struct BytesMut<'a> {
 }
 
 impl<'a> BytesMut<'a> {
-    ghost use Rattle.qoi.specs.Buffer.{BufferWrote, buffer_name, written_bytes, bytes_left};
+    ghost use Rattle.qoi.specs.writers.Buffer.{BufferWrote, buffer_name, written_bytes, bytes_left};
 
     /// A writer over the whole buffer, in which nothing is written yet.
     #[inline]
@@ -130,7 +130,7 @@ impl<'a> BytesMut<'a> {
 }
 
 impl<'a> Writer for BytesMut<'a> {
-    ghost use Rattle.qoi.specs.Buffer.{BufferWrote, bytes_left, buffer_laws};
+    ghost use Rattle.qoi.specs.writers.Buffer.{BufferWrote, bytes_left, buffer_laws};
 
     ghost wrote = { BufferWrote };
 
@@ -167,7 +167,7 @@ pub struct GenericWriter<'a, W> {
 }
 
 impl<'a, W: Write> GenericWriter<'a, W> {
-    ghost use Rattle.qoi.specs.Stream.{stream_name, stream_writer, stream_room};
+    ghost use Rattle.qoi.specs.writers.Stream.{stream_name, stream_writer, stream_room};
 
     /// A writer that can still take the greatest `usize` of bytes.
     pub fn new(writer: &'a mut W) -> GenericWriter<'a, W>
@@ -183,7 +183,7 @@ impl<'a, W: Write> GenericWriter<'a, W> {
 }
 
 impl<'a, W: Write> Writer for GenericWriter<'a, W> {
-    ghost use Rattle.qoi.specs.Stream.{StreamWrote, stream_room, stream_laws};
+    ghost use Rattle.qoi.specs.writers.Stream.{StreamWrote, stream_room, stream_laws};
     ghost use Rattle.qoi.specs.Errors.{IsIoError};
 
     ghost wrote = { StreamWrote W.contents };

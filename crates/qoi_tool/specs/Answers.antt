@@ -3,9 +3,8 @@ use Rattle.std.specs.Prelude.{◌≡◌, ℕ, ◌⊎◌, List, Option, Some, dro
 use Rattle.std.specs.Io.KnownBytes.{Appends, Keeps}
 use Rattle.qoi.specs.declared.error.Error.{Error}
 use Rattle.qoi.specs.declared.header.Header.{Header}
-use Rattle.qoi.specs.Types.{channels_number}
-use Rattle.qoi.specs.Headers.{header_of, pixel_count}
-use Rattle.qoi.specs.Decoding.{DecodesFile, ReadsImage, RefusesWholeFile, header_size}
+use Rattle.qoi.specs.Qoi.{channels_number, header_of, pixel_count, header_size}
+use Rattle.qoi.specs.Decoding.{DecodesFile, ReadsImage, RefusesWholeFile}
 use Rattle.qoi.specs.Encoded.{image_header, IsFileOf}
 use Rattle.qoi_tool.specs.declared.command.Command.{Command}
 use Rattle.qoi_tool.specs.declared.command.Command.TheVariants.{Decode, DecodeInto, Encode, Info}

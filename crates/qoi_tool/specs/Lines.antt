@@ -4,7 +4,7 @@ use Rattle.std.specs.Fmt.{decimal}
 use Rattle.qoi.specs.declared.types.ColorSpace.{ColorSpace}
 use Rattle.qoi.specs.declared.types.ColorSpace.TheVariants.{Srgb, Linear}
 use Rattle.qoi.specs.declared.header.Header.{Header}
-use Rattle.qoi.specs.Types.{channels_number}
+use Rattle.qoi.specs.Qoi.{channels_number}
 
 -- the name of a color space
 abbrev pub space_name : ColorSpace → List ℕ

@@ -5,9 +5,9 @@ use Rattle.std.proofs.Math.Seq.{take-length, take-append-add}
 use Rattle.std.proofs.Math.Nat.{mul-suc}
 use Rattle.std.proofs.lemmas.Bool.{cases_lt}
 use Rattle.std.proofs.lemmas.Grind.{flat_map-append}
-use Rattle.qoi.specs.Pixels.{RgbaPixel, Past}
-use Rattle.qoi.specs.Output.{IsChannels, pixel_bytes, output}
-use Rattle.qoi.specs.Filling.{HasFilled}
+use Rattle.qoi.specs.Qoi.{RgbaPixel, Past}
+use Rattle.qoi.specs.Raw.{IsChannels, pixel_bytes, output}
+use Rattle.qoi.specs.inner.Filling.{HasFilled}
 
 -- there are channels
 pub channels_above : (c : ℕ) → IsChannels c → 0 < c

@@ -4,9 +4,8 @@ use Rattle.std.proofs.lemmas.List.{length-take-le}
 use Rattle.qoi.specs.declared.types.Channels.{Channels}
 use Rattle.qoi.specs.declared.types.Channels.TheVariants.{Rgb, Rgba}
 use Rattle.qoi.specs.declared.header.Header.{Header}
-use Rattle.qoi.specs.Types.{channels_number}
-use Rattle.qoi.specs.Headers.{pixel_count}
-use Rattle.qoi.specs.Output.{IsChannels}
+use Rattle.qoi.specs.Qoi.{channels_number, pixel_count}
+use Rattle.qoi.specs.Raw.{IsChannels}
 use Rattle.qoi.specs.Decoding.{byte_count}
 
 -- there are three or four channels

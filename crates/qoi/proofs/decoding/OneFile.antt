@@ -2,14 +2,10 @@
 use Rattle.std.proofs.Common.{◌≡◌, ℕ, List, ◌++◌, drop, Some, refl, ap, sym, ◌∙◌, subst, Ok, append_assoc}
 use Rattle.qoi.specs.declared.header.Header.{Header}
 use Rattle.qoi.specs.declared.chunk.Chunk.{Chunk}
-use Rattle.qoi.specs.Bytes.{AreBytes}
-use Rattle.qoi.specs.Chunks.{text}
-use Rattle.qoi.specs.Types.{channels_number}
-use Rattle.qoi.specs.Headers.{head, pixel_count, header_of}
-use Rattle.qoi.specs.Files.{IsFile, file, file_pixels, end_marker}
-use Rattle.qoi.specs.Output.{output}
+use Rattle.qoi.specs.Qoi.{AreBytes, text, channels_number, head, pixel_count, header_of, IsFile, file, file_pixels, end_marker, header_size}
+use Rattle.qoi.specs.Raw.{output}
 use Rattle.qoi.specs.Verdicts.{IsWhole}
-use Rattle.qoi.specs.Decoding.{DecodesFile, ReadsImage, header_size}
+use Rattle.qoi.specs.Decoding.{DecodesFile, ReadsImage}
 use Rattle.qoi.specs.DecoderState.{DecoderState}
 use Rattle.qoi.proofs.format.OneVerdict.{whole_is_one}
 use Rattle.qoi.proofs.format.HeaderBytes.{header_of-head, head_from_header_of}

@@ -1,13 +1,11 @@
 -- A decoder between two chunks: what it has taken, filled and seen.
 use Rattle.std.proofs.Common.{◌≡◌, ℕ, ◌*◌, ◌/◌, ◌%◌, ◌<◌, ◌≤◌, inl, inr, List, [], ◌∷◌, ◌++◌, length, take, replicate, min, Option, arith, refl, sym, ap, ◌∙◌, subst, append_assoc}
 use Rattle.qoi.specs.declared.chunk.Chunk.{Chunk}
-use Rattle.qoi.specs.Pixels.{Past, rgba}
+use Rattle.qoi.specs.Qoi.{Past, rgba, IsChunk, AreChunks, bytes_of, text, pixel_of, times, then_chunk, then_chunks, meaning, StayBelow, Reaches}
 use Rattle.std.specs.Io.KnownBytes.{Consumes}
 use Rattle.std.proofs.KnownBytes.{Consumes-trans}
-use Rattle.qoi.specs.Chunks.{IsChunk, AreChunks, bytes_of, text, pixel_of, times, then_chunk}
-use Rattle.qoi.specs.Meaning.{then_chunks, meaning, StayBelow, Reaches}
-use Rattle.qoi.specs.Output.{IsChannels, output}
-use Rattle.qoi.specs.Filling.{HasFilled, HasSeen}
+use Rattle.qoi.specs.Raw.{IsChannels, output}
+use Rattle.qoi.specs.inner.Filling.{HasFilled, HasSeen}
 use Rattle.qoi.specs.Verdicts.{IsPartOfChunk}
 use Rattle.qoi.specs.Decoding.{EndsInChunk, ReadsPixels, StreamsPixels}
 use Rattle.qoi.proofs.format.Appended.{then_chunks-push, Each-push, AreChunks-push, text-last, length-meaning}

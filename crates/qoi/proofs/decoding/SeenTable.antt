@@ -4,9 +4,8 @@ use Rattle.std.proofs.lemmas.List.{length-set, length-replicate, get_or-replicat
 use Rattle.std.proofs.lemmas.Bool.{eqb-false}
 use Rattle.qoi.specs.declared.chunk.Chunk.{Chunk}
 use Rattle.qoi.specs.declared.chunk.Chunk.TheVariants.{Place, Diff, Luma, Run, Rgb, Rgba}
-use Rattle.qoi.specs.Pixels.{RgbaPixel, Past, rgba, previous, seen, hash, start, blank}
-use Rattle.qoi.specs.Chunks.{IsChunk, times, pixel_of, then_chunk}
-use Rattle.qoi.specs.Filling.{HasSeen}
+use Rattle.qoi.specs.Qoi.{RgbaPixel, Past, rgba, previous, seen, hash, start, blank, IsChunk, times, pixel_of, then_chunk}
+use Rattle.qoi.specs.inner.Filling.{HasSeen}
 
 -- an index position is below 64
 pub hash_below : (p : RgbaPixel) → hash p < 64

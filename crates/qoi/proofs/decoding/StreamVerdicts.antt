@@ -4,11 +4,8 @@ use Rattle.std.specs.Io.KnownBytes.{Consumes}
 use Rattle.qoi.specs.declared.error.Error.{Error}
 use Rattle.qoi.specs.declared.error.Error.TheVariants.{InvalidMagic, InvalidChannels, InvalidColorSpace, InvalidImageDimensions, InvalidImageLength, OutputBufferTooSmall, UnexpectedBufferEnd, InvalidPadding, IoError, OutOfMemory}
 use Rattle.qoi.specs.declared.chunk.Chunk.{Chunk}
-use Rattle.qoi.specs.Pixels.{RgbaPixel}
-use Rattle.qoi.specs.Chunks.{text}
-use Rattle.qoi.specs.Meaning.{meaning}
-use Rattle.qoi.specs.Files.{end_marker}
-use Rattle.qoi.specs.Output.{output, without_fourth}
+use Rattle.qoi.specs.Qoi.{RgbaPixel, text, meaning, end_marker}
+use Rattle.qoi.specs.Raw.{output, without_fourth}
 use Rattle.qoi.specs.Verdicts.{IsWhole, IsCut, IsWrong}
 use Rattle.qoi.specs.Decoding.{ReadsImage, RefusesImage, RefusesTaken, HasWrong}
 use Rattle.qoi.specs.Errors.{IsIoError}

@@ -2,9 +2,7 @@
 use Rattle.std.proofs.Common.{◌≡◌, ℕ, ◌+◌, ◌*◌, ◌<◌, ◌≤◌, List, [], ◌∷◌, length, replicate, arith, length-append}
 use Rattle.std.proofs.lemmas.List.{length-replicate}
 use Rattle.qoi.specs.declared.chunk.Chunk.{Chunk}
-use Rattle.qoi.specs.Pixels.{Past}
-use Rattle.qoi.specs.Chunks.{AreChunks, bytes_of, text, times, pixel_of, then_chunk}
-use Rattle.qoi.specs.Meaning.{Reaches, StayBelow, meaning, then_chunks}
+use Rattle.qoi.specs.Qoi.{Past, AreChunks, bytes_of, text, times, pixel_of, then_chunk, Reaches, StayBelow, meaning, then_chunks}
 use Rattle.qoi.proofs.format.Appended.{length-bytes_of, length-meaning}
 use Rattle.qoi.proofs.format.OneVerdict.{StayBelowAfter}
 use Rattle.qoi.proofs.decoding.SeenTable.{times_above}

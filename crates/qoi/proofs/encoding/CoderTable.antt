@@ -4,11 +4,10 @@ use Rattle.std.proofs.lemmas.List.{length-set, length-replicate, get_or-replicat
 use Rattle.std.proofs.lemmas.Bool.{eqb-true, eqb-false}
 use Rattle.qoi.specs.declared.chunk.Chunk.{Chunk}
 use Rattle.qoi.specs.declared.chunk.Chunk.TheVariants.{Place, Run}
-use Rattle.qoi.specs.Pixels.{RgbaPixel, Past, rgba, previous, hash, start, blank, pixel}
-use Rattle.qoi.specs.Chunks.{bytes_of, text}
-use Rattle.qoi.specs.Output.{IsChannels}
+use Rattle.qoi.specs.Qoi.{RgbaPixel, Past, rgba, previous, hash, start, blank, pixel, bytes_of, text}
+use Rattle.qoi.specs.Raw.{IsChannels}
 use Rattle.qoi.specs.Written.{IsFirst, IsChoice}
-use Rattle.qoi.specs.CoderState.{HasNoted, HasCoded, waiting_run}
+use Rattle.qoi.specs.inner.CoderState.{HasNoted, HasCoded, waiting_run}
 use Rattle.qoi.proofs.decoding.SeenTable.{hash_below, held_after}
 use Rattle.qoi.proofs.encoding.TableNotes.{Notes, notes_repeat, notes_fresh, notes_same, choice_place, choice_spelled}
 

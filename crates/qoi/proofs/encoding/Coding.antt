@@ -4,10 +4,8 @@ use Rattle.std.proofs.lemmas.List.{reverse-append}
 use Rattle.std.specs.List.{AllByRecursion}
 use Rattle.qoi.specs.declared.chunk.Chunk.{Chunk}
 use Rattle.qoi.specs.declared.chunk.Chunk.TheVariants.{Place, Diff, Luma, Run, Rgb, Rgba}
-use Rattle.qoi.specs.Pixels.{RgbaPixel, Past, previous, hash}
-use Rattle.qoi.specs.Chunks.{IsChunk, pixel_of, then_chunk}
-use Rattle.qoi.specs.Meaning.{then_chunks}
-use Rattle.qoi.specs.Coding.{Coding, Coded}
+use Rattle.qoi.specs.Qoi.{RgbaPixel, Past, previous, hash, IsChunk, pixel_of, then_chunk, then_chunks}
+use Rattle.qoi.specs.inner.Coding.{Coding, Coded}
 use Rattle.qoi.specs.Written.{rank, noted, IsChoice, IsRightAfter, IsFull, RunsAreFull, WrittenBy}
 use Rattle.qoi.proofs.format.SamePixels.{cases_pixel}
 use Rattle.qoi.proofs.encoding.NotedPixels.{noted_seen}

@@ -4,10 +4,9 @@ use Rattle.std.proofs.lemmas.List.{append_cancel_left, reverse-append, reverse-r
 use Rattle.std.specs.List.{AllByRecursion}
 use Rattle.qoi.specs.declared.chunk.Chunk.{Chunk}
 use Rattle.qoi.specs.declared.chunk.Chunk.TheVariants.{Run}
-use Rattle.qoi.specs.Pixels.{RgbaPixel, IsPixel, Past, previous}
-use Rattle.qoi.specs.Chunks.{IsChunk}
+use Rattle.qoi.specs.Qoi.{RgbaPixel, IsPixel, Past, previous, IsChunk}
 use Rattle.qoi.specs.Written.{IsChoice, Written}
-use Rattle.qoi.specs.Coding.{ToWrite, ToWrite, Coding}
+use Rattle.qoi.specs.inner.Coding.{ToWrite, ToWrite, Coding}
 use Rattle.qoi.proofs.encoding.Coding.{all_front, all_back, all_reverse, coding_none, coding_repeat, coding_full, coded_none, coded_run, coding_chosen, coded_all}
 use Rattle.qoi.proofs.encoding.WrittenExists.{coding_completed}
 use Rattle.qoi.proofs.encoding.WrittenOnce.{written_unique}

@@ -5,12 +5,11 @@ use Rattle.std.proofs.lemmas.List.{reverse-reverse}
 use Rattle.std.proofs.lemmas.Grind.{flat_map-append}
 use Rattle.qoi.specs.declared.chunk.Chunk.{Chunk}
 use Rattle.qoi.specs.declared.chunk.Chunk.TheVariants.{Run}
-use Rattle.qoi.specs.Pixels.{RgbaPixel, IsPixel, Past, previous}
-use Rattle.qoi.specs.Chunks.{IsChunk, bytes_of, text}
+use Rattle.qoi.specs.Qoi.{RgbaPixel, IsPixel, Past, previous, IsChunk, bytes_of, text}
 use Rattle.qoi.specs.Written.{IsChoice}
-use Rattle.qoi.specs.Writes.{WriterLaws, WroteBut, WroteSome}
-use Rattle.qoi.specs.CoderState.{HasCoded, waiting_run}
-use Rattle.qoi.specs.Coding.{ToWrite, IsCoding}
+use Rattle.qoi.specs.writers.Writes.{WriterLaws, WroteBut, WroteSome}
+use Rattle.qoi.specs.inner.CoderState.{HasCoded, waiting_run}
+use Rattle.qoi.specs.inner.Coding.{ToWrite, IsCoding}
 use Rattle.qoi.proofs.encoding.Coding.{all_front, all_back, all_reverse}
 use Rattle.qoi.proofs.encoding.CodingRest.{to_write_repeat, to_write_full, to_write_fresh, to_write_run_fresh}
 use Rattle.qoi.proofs.encoding.CoderTable.{noted_again}

@@ -4,14 +4,11 @@ use Rattle.std.specs.List.{AllByRecursion}
 use Rattle.std.proofs.Math.Nat.{mul_comm}
 use Rattle.std.proofs.lemmas.Bool.{eqb-true, eqb-false}
 use Rattle.qoi.specs.declared.chunk.Chunk.{Chunk}
-use Rattle.qoi.specs.Bytes.{AreBytes}
-use Rattle.qoi.specs.Pixels.{RgbaPixel, IsPixel, Past, rgba}
-use Rattle.qoi.specs.Chunks.{text}
-use Rattle.qoi.specs.Output.{IsChannels}
-use Rattle.qoi.specs.Raw.{pixels_of}
-use Rattle.qoi.specs.Writes.{WriterLaws, WroteSome}
-use Rattle.qoi.specs.CoderState.{HasCoded, waiting_run}
-use Rattle.qoi.specs.Coding.{ToWrite, IsCoding}
+use Rattle.qoi.specs.Qoi.{AreBytes, RgbaPixel, IsPixel, Past, rgba, text}
+use Rattle.qoi.specs.Raw.{IsChannels, pixels_of}
+use Rattle.qoi.specs.writers.Writes.{WriterLaws, WroteSome}
+use Rattle.qoi.specs.inner.CoderState.{HasCoded, waiting_run}
+use Rattle.qoi.specs.inner.Coding.{ToWrite, IsCoding}
 use Rattle.qoi.proofs.decoding.FilledBuffer.{whole_pixels, pixel_room}
 use Rattle.qoi.proofs.format.RawPixels.{pixels_of_are, pixels_of_have, length-pixels_of, pixels_of-next}
 use Rattle.qoi.proofs.encoding.WrittenExists.{written_some}

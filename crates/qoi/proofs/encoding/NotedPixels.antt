@@ -1,7 +1,7 @@
 -- What is noted at an index position: how it changes, and that it is seen there too.
 use Rattle.std.proofs.Common.{◌≡◌, ◌≢◌, ◌⊎◌, inl, inr, ℕ, eqb, [], ◌∷◌, ◌==◌, if◌then◌else◌, refl, sym, ap, ◌∙◌, arith}
 use Rattle.std.proofs.lemmas.Bool.{cond-true, cond-false, eq-eqb, ne_eqb, cases_eq}
-use Rattle.qoi.specs.Pixels.{RgbaPixel, Past, pixel_eq, start, blank, hash, previous, seen}
+use Rattle.qoi.specs.Qoi.{RgbaPixel, Past, pixel_eq, start, blank, hash, previous, seen}
 use Rattle.qoi.specs.Written.{fresh, noted}
 use Rattle.qoi.proofs.format.SamePixels.{pixel_eq-from, pixel_eq-ne, cases_pixel}
 

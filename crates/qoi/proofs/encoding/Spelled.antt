@@ -3,8 +3,7 @@ use Rattle.std.proofs.Common.{◌≡◌, ◌≢◌, ⊎_elim, ℕ, ◌+◌, ◌-
 use Rattle.std.proofs.lemmas.Bool.{cases_lt}
 use Rattle.qoi.specs.declared.chunk.Chunk.{Chunk}
 use Rattle.qoi.specs.declared.chunk.Chunk.TheVariants.{Place, Diff, Luma, Run, Rgb, Rgba}
-use Rattle.qoi.specs.Pixels.{RgbaPixel, IsPixel, Past, previous}
-use Rattle.qoi.specs.Chunks.{IsChunk, pixel_of, after_diff, after_luma}
+use Rattle.qoi.specs.Qoi.{RgbaPixel, IsPixel, Past, previous, IsChunk, pixel_of, after_diff, after_luma}
 use Rattle.qoi.specs.Written.{rank, IsFirst}
 use Rattle.qoi.proofs.format.SamePixels.{same_pixel}
 

@@ -1,7 +1,7 @@
 -- The first chunk that spells a pixel out, from the differences that the encoder computes.
 use Rattle.std.proofs.Common.{◌≡◌, ℕ, ◌+◌, ◌-◌, ◌*◌, ◌%◌, ◌<◌, arith}
 use Rattle.qoi.specs.declared.chunk.Chunk.TheVariants.{Diff, Luma, Rgb}
-use Rattle.qoi.specs.Pixels.{RgbaPixel, IsPixel, Past, previous}
+use Rattle.qoi.specs.Qoi.{RgbaPixel, IsPixel, Past, previous}
 use Rattle.qoi.specs.Written.{IsFirst}
 use Rattle.qoi.proofs.encoding.Spelled.{plus_2, plus_32, plus_8, FitsDiff, first_diff, first_luma, first_rgb}
 

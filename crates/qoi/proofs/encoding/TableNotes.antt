@@ -3,7 +3,7 @@ use Rattle.std.proofs.Common.{◌≡◌, ◌≢◌, ℕ, ◌<◌, cond, eqb, [],
 use Rattle.std.proofs.lemmas.Bool.{cond_both, eqb-true}
 use Rattle.qoi.specs.declared.chunk.Chunk.{Chunk}
 use Rattle.qoi.specs.declared.chunk.Chunk.TheVariants.{Place}
-use Rattle.qoi.specs.Pixels.{RgbaPixel, Past, previous, hash, blank}
+use Rattle.qoi.specs.Qoi.{RgbaPixel, Past, previous, hash, blank}
 use Rattle.qoi.specs.Written.{noted, IsFirst, IsChoice}
 use Rattle.qoi.proofs.encoding.NotedPixels.{noted_repeat, noted_fresh}
 use Rattle.qoi.proofs.encoding.WrittenExists.{hash_lt}

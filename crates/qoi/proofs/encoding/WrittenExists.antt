@@ -5,12 +5,11 @@ use Rattle.std.proofs.lemmas.Bool.{cases_lt, cases_eq}
 use Rattle.std.specs.List.{AllByRecursion}
 use Rattle.qoi.specs.declared.chunk.Chunk.{Chunk}
 use Rattle.qoi.specs.declared.chunk.Chunk.TheVariants.{Place, Diff, Luma, Run, Rgb, Rgba}
-use Rattle.qoi.specs.Pixels.{RgbaPixel, IsPixel, Past, previous, start, hash}
-use Rattle.qoi.specs.Chunks.{IsChunk}
+use Rattle.qoi.specs.Qoi.{RgbaPixel, IsPixel, Past, previous, start, hash, IsChunk}
 use Rattle.qoi.specs.Written.{noted, IsFirst, IsChoice, Written}
 use Rattle.qoi.proofs.format.SamePixels.{cases_pixel}
 use Rattle.qoi.proofs.encoding.Spelled.{FitsDiff, FitsLuma, plus_2, plus_8, plus_32, diff_byte, luma_byte, luma_second, diff_chunk, luma_chunk, first_diff, first_luma, first_rgb, first_rgba}
-use Rattle.qoi.specs.Coding.{Coding}
+use Rattle.qoi.specs.inner.Coding.{Coding}
 use Rattle.qoi.proofs.encoding.Coding.{coding_none, coding_repeat, coding_full, coded_none, coded_run, coding_chosen, coded_all}
 
 -- the pixel before the first one is a pixel

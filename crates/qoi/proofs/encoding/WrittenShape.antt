@@ -4,9 +4,7 @@ use Rattle.std.proofs.lemmas.List.{reverse-reverse, length-append, length-replic
 use Rattle.std.proofs.lemmas.Bool.{cond_both}
 use Rattle.qoi.specs.declared.chunk.Chunk.{Chunk}
 use Rattle.qoi.specs.declared.chunk.Chunk.TheVariants.{Place, Diff, Luma, Run, Rgb, Rgba}
-use Rattle.qoi.specs.Pixels.{RgbaPixel, Past, previous, start, seen, hash}
-use Rattle.qoi.specs.Chunks.{IsChunk, AreChunks, bytes_of, text, pixel_of, times, then_chunk}
-use Rattle.qoi.specs.Meaning.{then_chunks, meaning, Each, Reaches}
+use Rattle.qoi.specs.Qoi.{RgbaPixel, Past, previous, start, seen, hash, IsChunk, AreChunks, bytes_of, text, pixel_of, times, then_chunk, then_chunks, meaning, Each, Reaches}
 use Rattle.qoi.specs.Raw.{AreOpaque, HasChannels}
 use Rattle.qoi.specs.Written.{noted, IsFirst, IsChoice, IsRightAfter, WrittenBy, Written}
 use Rattle.qoi.proofs.format.SamePixels.{cases_pixel, same_pixel}

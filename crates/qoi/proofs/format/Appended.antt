@@ -4,9 +4,7 @@ use Rattle.std.proofs.lemmas.List.{length-reverse}
 use Rattle.std.proofs.lemmas.Grind.{flat_map-append}
 use Rattle.qoi.specs.declared.chunk.Chunk.{Chunk}
 use Rattle.qoi.specs.declared.chunk.Chunk.TheVariants.{Place, Diff, Luma, Run, Rgb, Rgba}
-use Rattle.qoi.specs.Pixels.{Past}
-use Rattle.qoi.specs.Chunks.{IsChunk, AreChunks, bytes_of, text, then_chunk}
-use Rattle.qoi.specs.Meaning.{then_chunks, meaning, Each}
+use Rattle.qoi.specs.Qoi.{Past, IsChunk, AreChunks, bytes_of, text, then_chunk, then_chunks, meaning, Each}
 
 -- the pixels after chunks and one more
 pub then_chunks-push : (past : Past) (cs : List Chunk) (c : Chunk) → then_chunks past (cs ++ c ∷ []) ≡ then_chunk (then_chunks past cs) c

@@ -4,9 +4,7 @@ use Rattle.std.proofs.lemmas.List.{reverse-reverse, reverse-append, length-appen
 use Rattle.std.proofs.lemmas.Bool.{true≢false}
 use Rattle.qoi.specs.declared.chunk.Chunk.{Chunk}
 use Rattle.qoi.specs.declared.chunk.Chunk.TheVariants.{Place, Diff, Luma, Run, Rgb, Rgba}
-use Rattle.qoi.specs.Pixels.{RgbaPixel, Past}
-use Rattle.qoi.specs.Chunks.{IsChunk, pixel_of, times, then_chunk}
-use Rattle.qoi.specs.Meaning.{then_chunks, meaning, Each}
+use Rattle.qoi.specs.Qoi.{RgbaPixel, Past, IsChunk, pixel_of, times, then_chunk, then_chunks, meaning, Each}
 use Rattle.qoi.specs.Written.{GivesFresh, IsRightAfter, IsFull}
 
 -- the chunk is a run

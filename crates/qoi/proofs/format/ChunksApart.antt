@@ -3,7 +3,7 @@ use Rattle.std.proofs.Common.{◌≡◌, ℕ, ◌+◌, List, [], ◌∷◌, ◌+
 use Rattle.std.proofs.lemmas.List.{append-nil}
 use Rattle.qoi.specs.declared.chunk.Chunk.{Chunk}
 use Rattle.qoi.specs.declared.chunk.Chunk.TheVariants.{Place, Diff, Luma, Run, Rgb, Rgba}
-use Rattle.qoi.specs.Chunks.{IsChunk, bytes_of}
+use Rattle.qoi.specs.Qoi.{IsChunk, bytes_of}
 use Rattle.qoi.specs.Verdicts.{IsPartOfChunk}
 
 -- equal bytes begin with the same chunk, and go on the same

@@ -12,9 +12,7 @@ use Rattle.qoi.specs.declared.types.Channels.TheVariants.{Rgb, Rgba}
 use Rattle.qoi.specs.declared.types.ColorSpace.{ColorSpace}
 use Rattle.qoi.specs.declared.types.ColorSpace.TheVariants.{Srgb, Linear}
 use Rattle.qoi.specs.declared.header.Header.{Header}
-use Rattle.qoi.specs.Types.{channels_number, channels_of, colorspace_number, colorspace_of}
-use Rattle.qoi.specs.Bytes.{AreBytes}
-use Rattle.qoi.specs.Headers.{head, pixel_count, IsValid, tried_header, number_at, checked_header, with_channels_read, header_of}
+use Rattle.qoi.specs.Qoi.{channels_number, channels_of, colorspace_number, colorspace_of, AreBytes, head, pixel_count, IsValid, tried_header, number_at, checked_header, with_channels_read, header_of}
 
 -- the number of channels is read back
 channels_back : (c : Channels) → channels_of (channels_number c) ≡ Ok c

@@ -2,10 +2,7 @@
 use Rattle.std.proofs.Common.{◌≡◌, ℕ, ◌<◌, ◌≤◌, ◌⊎◌, inl, inr, List, [], ◌∷◌, ◌++◌, length, arith, refl, ap, sym, ◌∙◌, subst, append_assoc, length-append}
 use Rattle.std.proofs.lemmas.List.{append_cancel_left}
 use Rattle.qoi.specs.declared.chunk.Chunk.{Chunk}
-use Rattle.qoi.specs.Pixels.{Past}
-use Rattle.qoi.specs.Chunks.{IsChunk, AreChunks, bytes_of, text, then_chunk}
-use Rattle.qoi.specs.Meaning.{Each, then_chunks, meaning}
-use Rattle.qoi.specs.Files.{end_marker}
+use Rattle.qoi.specs.Qoi.{Past, IsChunk, AreChunks, bytes_of, text, then_chunk, Each, then_chunks, meaning, end_marker}
 use Rattle.qoi.specs.Verdicts.{IsPartOfChunk, Takes, IsWhole, IsCut, IsWrong}
 use Rattle.qoi.proofs.format.Appended.{length-meaning}
 use Rattle.qoi.proofs.format.ChunksApart.{chunks_apart, part_begins_none}

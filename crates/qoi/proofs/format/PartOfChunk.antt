@@ -1,7 +1,7 @@
 -- Bytes that are too short for the chunk that their first byte begins.
 use Rattle.std.proofs.Common.{◌≡◌, ℕ, ◌<◌, ◌≤◌, List, [], ◌∷◌, length, get_or, arith, refl}
 use Rattle.qoi.specs.declared.chunk.Chunk.TheVariants.{Place, Luma, Rgb, Rgba}
-use Rattle.qoi.specs.Bytes.{AreBytes}
+use Rattle.qoi.specs.Qoi.{AreBytes}
 use Rattle.qoi.specs.Verdicts.{IsPartOfChunk}
 
 -- no byte begins any chunk

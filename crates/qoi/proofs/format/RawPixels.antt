@@ -1,9 +1,8 @@
 -- The pixels of raw bytes: they are pixels, of as many channels, and give the bytes back.
 use Rattle.std.proofs.Common.{◌≡◌, inl, inr, ℕ, zero, suc, ◌*◌, ◌<◌, List, [], ◌∷◌, ◌++◌, length, refl, ap, ◌∙◌, arith}
 use Rattle.std.specs.List.{AllByRecursion}
-use Rattle.qoi.specs.Pixels.{RgbaPixel, IsPixel, pixel, rgba}
-use Rattle.qoi.specs.Output.{IsChannels, output}
-use Rattle.qoi.specs.Raw.{pixels_of_3, pixels_of_4, pixels_of, AreOpaque, HasChannels}
+use Rattle.qoi.specs.Qoi.{RgbaPixel, IsPixel, pixel, rgba}
+use Rattle.qoi.specs.Raw.{IsChannels, output, pixels_of_3, pixels_of_4, pixels_of, AreOpaque, HasChannels}
 
 -- three bytes each: they are pixels
 pixels_3 : (bytes : List ℕ) → AllByRecursion (λ b. b < 256) bytes → AllByRecursion IsPixel (pixels_of_3 bytes)

@@ -1,7 +1,7 @@
 -- The test of two pixels says whether they are the same.
 use Rattle.std.proofs.Common.{◌≡◌, ◌≢◌, ◌⊎◌, inl, inr, Bool, true, false, ◌&&◌, eqb, refl}
 use Rattle.std.proofs.lemmas.Bool.{and_parts, and_from, eqb-true, eq-eqb, true≢false, false_from_ne_true}
-use Rattle.qoi.specs.Pixels.{RgbaPixel, pixel, pixel_eq}
+use Rattle.qoi.specs.Qoi.{RgbaPixel, pixel, pixel_eq}
 
 -- equal numbers make equal pixels
 pub same_pixel : (p q : RgbaPixel) → p.r ≡ q.r → p.g ≡ q.g → p.b ≡ q.b → p.a ≡ q.a → p ≡ q

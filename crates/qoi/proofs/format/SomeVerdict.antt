@@ -6,11 +6,7 @@ use Rattle.std.proofs.lemmas.Slice.Eq.{bytes_eq-Decides}
 use Rattle.std.specs.Str.{bytes_eq}
 use Rattle.qoi.specs.declared.chunk.Chunk.{Chunk}
 use Rattle.qoi.specs.declared.chunk.Chunk.TheVariants.{Place, Diff, Luma, Run, Rgb, Rgba}
-use Rattle.qoi.specs.Bytes.{AreBytes}
-use Rattle.qoi.specs.Pixels.{Past}
-use Rattle.qoi.specs.Chunks.{IsChunk, AreChunks, bytes_of, text, then_chunk}
-use Rattle.qoi.specs.Meaning.{then_chunks, meaning}
-use Rattle.qoi.specs.Files.{end_marker}
+use Rattle.qoi.specs.Qoi.{AreBytes, Past, IsChunk, AreChunks, bytes_of, text, then_chunk, then_chunks, meaning, end_marker}
 use Rattle.qoi.specs.Verdicts.{IsPartOfChunk, Takes, IsWhole, IsCut, IsWrong}
 use Rattle.qoi.proofs.format.PartOfChunk.{part_empty, part_luma, part_rgb, part_rgba}
 use Rattle.qoi.proofs.format.OneVerdict.{StayBelowAfter, EndsChunks}

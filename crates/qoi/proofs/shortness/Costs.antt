@@ -2,9 +2,8 @@
 use Rattle.std.proofs.Common.{◌≡◌, ◌≢◌, inl, inr, ℕ, zero, suc, ◌+◌, ◌-◌, ◌/◌, ◌%◌, ◌<◌, ◌≤◌, Bool, true, false, ◌||◌, cond, eqb, ◌∷◌, ◌++◌, replicate, refl, sym, le_of_eq, arith}
 use Rattle.std.proofs.lemmas.Bool.{or_cases, or_left, or_right, cond-true, cond-false, cond_both, true≢false, cases_eq, eq-eqb, eqb-true, eqb-false}
 use Rattle.qoi.specs.declared.chunk.Chunk.TheVariants.{Diff, Luma}
-use Rattle.qoi.specs.Pixels.{RgbaPixel, Past, pixel_eq, previous, seen, hash}
-use Rattle.qoi.specs.Chunks.{IsChunk, after_diff, after_luma}
-use Rattle.qoi.specs.Shortest.{some_below, some_diff, some_luma, some_rgb, least, repeats, cost, total_cost}
+use Rattle.qoi.specs.Qoi.{RgbaPixel, Past, pixel_eq, previous, seen, hash, IsChunk, after_diff, after_luma}
+use Rattle.qoi.specs.Shortest.{some_below, some_diff, some_luma, some_rgb, least, trailing_repeats, cost, total_cost}
 use Rattle.qoi.proofs.format.SamePixels.{pixel_eq-from, pixel_eq-true, pixel_eq-ne}
 
 -- a number that passes shows that some does
@@ -163,16 +162,16 @@ unfolding cost
 cost_fresh shortest past p n = cond-false (pixel_eq p (previous past)) _ _ (pixel_eq-ne p (previous past) n)
 
 -- what a repeat costs
-pub cost_repeat : (shortest : Past → RgbaPixel → ℕ) (past : Past) (p : RgbaPixel) → p ≡ previous past → cost shortest past p ≡ cond (eqb (repeats past % 62) 0) 1 0
+pub cost_repeat : (shortest : Past → RgbaPixel → ℕ) (past : Past) (p : RgbaPixel) → p ≡ previous past → cost shortest past p ≡ cond (eqb (trailing_repeats past % 62) 0) 1 0
 unfolding cost
 cost_repeat shortest past p e = cond-true (pixel_eq p (previous past)) _ _ (pixel_eq-from p (previous past) e)
 
 -- a repeat is one more
-pub repeats_more : (past : Past) (p : RgbaPixel) → p ≡ previous past → repeats (p ∷ past) ≡ suc (repeats past)
+pub repeats_more : (past : Past) (p : RgbaPixel) → p ≡ previous past → trailing_repeats (p ∷ past) ≡ suc (trailing_repeats past)
 repeats_more past p e = cond-true (pixel_eq p (previous past)) _ _ (pixel_eq-from p (previous past) e)
 
 -- after a fresh pixel there are none
-pub repeats_fresh : (past : Past) (p : RgbaPixel) → p ≢ previous past → repeats (p ∷ past) ≡ 0
+pub repeats_fresh : (past : Past) (p : RgbaPixel) → p ≢ previous past → trailing_repeats (p ∷ past) ≡ 0
 repeats_fresh past p n = cond-false (pixel_eq p (previous past)) _ _ (pixel_eq-ne p (previous past) n)
 
 -- the pixel before is the same after repeats
@@ -181,7 +180,7 @@ previous_repeated past zero = refl
 previous_repeated past (suc n) = refl
 
 -- the repeats of a run
-pub repeats_run : (past : Past) (n : ℕ) → repeats (replicate n (previous past) ++ past) ≡ n + repeats past
+pub repeats_run : (past : Past) (n : ℕ) → trailing_repeats (replicate n (previous past) ++ past) ≡ n + trailing_repeats past
 repeats_run past zero = omega arith
 repeats_run past (suc n) =
     let m = repeats_more (replicate n (previous past) ++ past) (previous past) (sym (previous_repeated past n)) in
@@ -195,13 +194,13 @@ group_more k = cond_both (eqb (k % 62) 0) 1 0 (λ x. x + (k + 61) / 62 ≡ (suc 
     (λ e. let h : k % 62 ≢ 0 = eqb-false (k % 62) 0 e in omega arith)
 
 -- what a run costs: a byte for each 62 of the group, rounded up
-pub cost_run : (shortest : Past → RgbaPixel → ℕ) (past : Past) (n : ℕ) → total_cost shortest (replicate n (previous past) ++ past) + (repeats past + 61) / 62 ≡ total_cost shortest past + (n + repeats past + 61) / 62
+pub cost_run : (shortest : Past → RgbaPixel → ℕ) (past : Past) (n : ℕ) → total_cost shortest (replicate n (previous past) ++ past) + (trailing_repeats past + 61) / 62 ≡ total_cost shortest past + (n + trailing_repeats past + 61) / 62
 cost_run shortest past zero = omega arith
 cost_run shortest past (suc n) =
     let before = replicate n (previous past) ++ past in
     let h = cost_run shortest past n in
     let c = cost_repeat shortest before (previous past) (sym (previous_repeated past n)) in
     let r = repeats_run past n in
-    let g = group_more (n + repeats past) in
-    let c2 : cost shortest before (previous past) ≡ cond (eqb ((n + repeats past) % 62) 0) 1 0 = rw r at c in
+    let g = group_more (n + trailing_repeats past) in
+    let c2 : cost shortest before (previous past) ≡ cond (eqb ((n + trailing_repeats past) % 62) 0) 1 0 = rw r at c in
     omega arith

@@ -1,7 +1,7 @@
 -- One pixel that is written in full, in three channels and in four.
 use Rattle.std.proofs.Common.{[], ◌∷◌, refl, arith}
 use Rattle.qoi.specs.declared.chunk.Chunk.TheVariants.{Rgb, Rgba}
-use Rattle.qoi.specs.Pixels.{pixel, pixel_eq, start, blank, hash}
+use Rattle.qoi.specs.Qoi.{pixel, pixel_eq, start, blank, hash}
 use Rattle.qoi.specs.Written.{Written}
 use Rattle.qoi.proofs.shortness.SlackReached.{chosen_rgb, chosen_rgba, red_differs}
 

@@ -4,11 +4,9 @@ use Rattle.std.proofs.lemmas.Bool.{cond_both}
 use Rattle.std.proofs.lemmas.List.{length-append, reverse-append, reverse-reverse}
 use Rattle.qoi.specs.declared.chunk.Chunk.{Chunk}
 use Rattle.qoi.specs.declared.chunk.Chunk.TheVariants.{Place, Diff, Luma, Run, Rgb, Rgba}
-use Rattle.qoi.specs.Pixels.{RgbaPixel, Past, previous, seen}
-use Rattle.qoi.specs.Chunks.{IsChunk, AreChunks, pixel_of, bytes_of, text, then_chunk}
-use Rattle.qoi.specs.Meaning.{then_chunks, meaning, Each}
+use Rattle.qoi.specs.Qoi.{RgbaPixel, Past, previous, seen, IsChunk, AreChunks, pixel_of, bytes_of, text, then_chunk, then_chunks, meaning, Each}
 use Rattle.qoi.specs.Regular.{NamesWritten, Regular, Begins}
-use Rattle.qoi.specs.Shortest.{least, repeats, cost, total_cost, floor}
+use Rattle.qoi.specs.Shortest.{least, trailing_repeats, cost, total_cost, floor}
 use Rattle.qoi.proofs.format.SamePixels.{cases_pixel}
 use Rattle.qoi.proofs.format.ChunkSteps.{is_run, cases_run, then_other}
 use Rattle.qoi.proofs.shortness.Costs.{some_diff-from, some_luma-from, some_rgb-from, least_seen, least_diff, least_luma, least_rgb, least_high, cost_fresh, cost_repeat, cost_run}
@@ -40,7 +38,7 @@ module _ (shortest : Past → RgbaPixel → ℕ) (Allowed : Past → Chunk → T
   -- a pixel costs no more than a chunk that gives it
   cost_other : (past : Past) (c : Chunk) → IsChunk c → Allowed past c → is_run c ≡ false → cost shortest past (pixel_of past c) ≤ length (bytes_of c)
   cost_other past c k a o = elim (cases_pixel (pixel_of past c) (previous past)) as (λ _. cost shortest past (pixel_of past c) ≤ length (bytes_of c)) [
-    | inl e ↦ rw (cost_repeat shortest past (pixel_of past c) e) (cond_both (eqb (repeats past % 62) 0) 1 0 (λ x. x ≤ length (bytes_of c)) (λ _. bytes_some c) (λ _. omega arith))
+    | inl e ↦ rw (cost_repeat shortest past (pixel_of past c) e) (cond_both (eqb (trailing_repeats past % 62) 0) 1 0 (λ x. x ≤ length (bytes_of c)) (λ _. bytes_some c) (λ _. omega arith))
     | inr n ↦ rw (cost_fresh shortest past (pixel_of past c) n) (bounds past c k a o)
   ]
 

@@ -5,9 +5,7 @@ use Rattle.std.proofs.lemmas.Bool.{cases_eq}
 use Rattle.std.proofs.lemmas.List.{length-append, length-reverse, reverse-append, reverse-reverse}
 use Rattle.qoi.specs.declared.chunk.Chunk.{Chunk}
 use Rattle.qoi.specs.declared.chunk.Chunk.TheVariants.{Place, Diff, Luma, Run, Rgb, Rgba}
-use Rattle.qoi.specs.Pixels.{RgbaPixel, Past, blank, seen, hash}
-use Rattle.qoi.specs.Chunks.{then_chunk}
-use Rattle.qoi.specs.Meaning.{then_chunks, meaning, Each, Reaches}
+use Rattle.qoi.specs.Qoi.{RgbaPixel, Past, blank, seen, hash, then_chunk, then_chunks, meaning, Each, Reaches}
 use Rattle.qoi.specs.Written.{noted, IsChoice, IsRightAfter, Written}
 use Rattle.qoi.specs.Raw.{HasChannels}
 use Rattle.qoi.specs.Regular.{NamesWritten, Regular, Begins}

@@ -1,7 +1,7 @@
 -- Two images whose written list is longer than a regular one by the whole slack.
 use Rattle.std.proofs.Common.{◌≡◌, ◌≢◌, [], ◌∷◌, refl, ap, arith}
 use Rattle.qoi.specs.declared.chunk.Chunk.TheVariants.{Run, Rgb, Rgba}
-use Rattle.qoi.specs.Pixels.{RgbaPixel, IsPixel, Past, pixel, pixel_eq, start, blank, previous, hash}
+use Rattle.qoi.specs.Qoi.{RgbaPixel, IsPixel, Past, pixel, pixel_eq, start, blank, previous, hash}
 use Rattle.qoi.specs.Written.{noted, IsChoice, Written}
 use Rattle.qoi.proofs.encoding.Spelled.{FitsDiff, FitsLuma, first_rgb, first_rgba}
 

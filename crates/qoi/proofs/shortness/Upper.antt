@@ -4,12 +4,10 @@ use Rattle.std.proofs.lemmas.Bool.{false_from_ne_true}
 use Rattle.std.proofs.lemmas.List.{length-append, reverse-reverse}
 use Rattle.qoi.specs.declared.chunk.Chunk.{Chunk}
 use Rattle.qoi.specs.declared.chunk.Chunk.TheVariants.{Place, Diff, Luma, Run, Rgb, Rgba}
-use Rattle.qoi.specs.Pixels.{RgbaPixel, Past, previous, seen, hash}
-use Rattle.qoi.specs.Chunks.{IsChunk, AreChunks, pixel_of, bytes_of, text, then_chunk}
-use Rattle.qoi.specs.Meaning.{then_chunks, Each}
+use Rattle.qoi.specs.Qoi.{RgbaPixel, Past, previous, seen, hash, IsChunk, AreChunks, pixel_of, bytes_of, text, then_chunk, then_chunks, Each}
 use Rattle.qoi.specs.Raw.{HasChannels}
 use Rattle.qoi.specs.Written.{rank, noted, IsFirst, IsChoice, GivesFresh, IsRightAfter, IsFull, RunsAreFull, WrittenBy, Written}
-use Rattle.qoi.specs.Shortest.{some_diff, some_luma, some_rgb, least, repeats, total_cost, floor, slack}
+use Rattle.qoi.specs.Shortest.{some_diff, some_luma, some_rgb, least, trailing_repeats, total_cost, floor, slack}
 use Rattle.qoi.proofs.format.SamePixels.{cases_pixel, same_pixel}
 use Rattle.qoi.proofs.format.ChunkSteps.{is_run, times_other, right_other, then_other}
 use Rattle.qoi.proofs.encoding.Coding.{all_reverse}
@@ -76,7 +74,7 @@ fresh_cost channels past c i h o g r = go (cases_pixel (noted past (hash (pixel_
 
 -- a run begins at a multiple of 62 repeats
 abbrev Aligned : Past → List Chunk → Type 0
-Aligned past (Run n ∷ cs) = repeats past % 62 ≡ 0
+Aligned past (Run n ∷ cs) = trailing_repeats past % 62 ≡ 0
 Aligned past _ = Unit {0}
 
 module _ (shortest : Past → RgbaPixel → ℕ) (Choice : Past → RgbaPixel → Chunk → Type 0) (extra : Past → ℕ) (extra_more : (past : Past) (p : RgbaPixel) → extra past ≤ extra (p ∷ past)) (channels : ℕ) (fresh_fits : (past : Past) (c : Chunk) → IsChunk c → HasChannels (then_chunk past c) channels → is_run c ≡ false → GivesFresh Choice past c → IsRightAfter Choice past c → length (bytes_of c) + extra past ≤ shortest past (pixel_of past c) + extra (pixel_of past c ∷ past)) where
@@ -89,7 +87,7 @@ module _ (shortest : Past → RgbaPixel → ℕ) (Choice : Past → RgbaPixel �
       omega arith
 
   -- a run costs its byte
-  run_fits : (past : Past) (n : ℕ) → 0 < n → repeats past % 62 ≡ 0 → 1 + total_cost shortest past + extra past ≤ total_cost shortest (then_chunk past (Run n)) + extra (then_chunk past (Run n))
+  run_fits : (past : Past) (n : ℕ) → 0 < n → trailing_repeats past % 62 ≡ 0 → 1 + total_cost shortest past + extra past ≤ total_cost shortest (then_chunk past (Run n)) + extra (then_chunk past (Run n))
   run_fits past n h a =
       let c = cost_run shortest past n in
       let e = extra_run past (previous past) n in

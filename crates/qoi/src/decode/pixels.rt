@@ -1,9 +1,8 @@
 //! What both loops put into the output: the pixels of chunks.
 ghost use Rattle.std.specs.Prelude.{◌≡◌, ℕ, ◌+◌, ◌%◌, ◌<◌, ◌≤◌, [], ◌++◌, length, take, drop, replicate};
-ghost use Rattle.qoi.specs.Pixels.{Past, rgba};
-ghost use Rattle.qoi.specs.Chunks.{IsChunk, times, pixel_of, then_chunk};
-ghost use Rattle.qoi.specs.Output.{IsChannels, pixel_bytes};
-ghost use Rattle.qoi.specs.Filling.{HasFilled, HasSeen};
+ghost use Rattle.qoi.specs.Qoi.{Past, rgba, IsChunk, times, pixel_of, then_chunk};
+ghost use Rattle.qoi.specs.Raw.{IsChannels, pixel_bytes};
+ghost use Rattle.qoi.specs.inner.Filling.{HasFilled, HasSeen};
 
 use crate::chunk::Chunk;
 use crate::pixel::Pixel;
@@ -17,7 +16,7 @@ pub(super) struct Seen {
 
 impl Seen {
     // Before the first chunk: transparent black at each index position, and opaque black.
-    #[tactic(auto, unfolding(crate::specs::Pixels::start, crate::specs::Pixels::blank))]
+    #[tactic(auto, unfolding(crate::specs::Qoi::start, crate::specs::Qoi::blank))]
     pub(super) fn new() -> Seen
         ensures { HasSeen result.places result.last [] }
     {

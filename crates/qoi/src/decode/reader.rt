@@ -1,6 +1,6 @@
 //! Where a decoder takes its bytes from: bytes in memory, or a stream.
 ghost use Rattle.std.specs.Prelude.{◌≡◌, ℕ, ◌/◌, ◌%◌, List, length, Option, Some, IfErr, OnOk, IsSome, Bool, true, false, Err, refl};
-ghost use Rattle.qoi.specs.Output.{AreChannels};
+ghost use Rattle.qoi.specs.Raw.{AreChannels};
 ghost use Rattle.qoi.specs.Decoding.{ReadsImage, ReadsHeader, RefusesImage};
 ghost use Rattle.qoi.specs.declared.error.Error.{Error};
 

@@ -1,7 +1,7 @@
 //! Decoding an image from bytes in memory.
 ghost use Rattle.std.specs.Prelude.{◌≡◌, ℕ, ◌/◌, ◌%◌, ◌++◌, length, Some, MatchOption, IfOk, IfErr};
-ghost use Rattle.qoi.specs.Output.{IsChannels};
-ghost use Rattle.qoi.specs.Files.{end_marker};
+ghost use Rattle.qoi.specs.Raw.{IsChannels};
+ghost use Rattle.qoi.specs.Qoi.{end_marker};
 ghost use Rattle.qoi.specs.Decoding.{EndsInChunk, ReadsPixels, ReadsImage, RefusesMarker, RefusesBytes};
 
 use crate::chunk::read_chunk;

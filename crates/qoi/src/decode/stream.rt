@@ -1,13 +1,11 @@
 //! Decoding an image from a stream.
 ghost use Rattle.std.specs.Prelude.{◌≡◌, ℕ, ◌/◌, ◌%◌, ◌<◌, List, length, IfOk, IfErr, OnOk, OnErr};
 ghost use Rattle.std.specs.Io.KnownBytes.{Consumes};
-ghost use Rattle.qoi.specs.Bytes.{AreBytes};
-ghost use Rattle.qoi.specs.Chunks.{IsChunk, bytes_of};
-ghost use Rattle.qoi.specs.Output.{IsChannels};
-ghost use Rattle.qoi.specs.Files.{end_marker};
+ghost use Rattle.qoi.specs.Qoi.{AreBytes, IsChunk, bytes_of, end_marker};
+ghost use Rattle.qoi.specs.Raw.{IsChannels};
 ghost use Rattle.qoi.specs.Verdicts.{IsPartOfChunk};
 ghost use Rattle.qoi.specs.Decoding.{EndsInChunk, StreamsPixels, ReadsImage, RefusesTaken, RefusesTakenMarker};
-ghost use Rattle.qoi.specs.Taken.{HasTaken};
+ghost use Rattle.qoi.specs.inner.Taken.{HasTaken};
 
 use crate::chunk::{Chunk, QOI_OP_DIFF_END, QOI_OP_INDEX_END, QOI_OP_LUMA_END, QOI_OP_RUN_END};
 use crate::consts::{

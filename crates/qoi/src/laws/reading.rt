@@ -5,13 +5,8 @@ ghost use Rattle.qoi.specs.declared.header.Header.{Header};
 ghost use Rattle.qoi.specs.declared.types.Channels.{Channels};
 ghost use Rattle.qoi.specs.declared.types.ColorSpace.{ColorSpace};
 ghost use Rattle.qoi.specs.declared.chunk.Chunk.{Chunk};
-ghost use Rattle.qoi.specs.Bytes.{AreBytes};
-ghost use Rattle.qoi.specs.Chunks.{IsChunk, AreChunks, bytes_of, text};
-ghost use Rattle.qoi.specs.Files.{IsFile, file, file_pixels};
-ghost use Rattle.qoi.specs.Headers.{head, pixel_count, IsValid, header_of};
-ghost use Rattle.qoi.specs.Output.{output};
-ghost use Rattle.qoi.specs.Pixels.{pixel, hash};
-ghost use Rattle.qoi.specs.Meaning.{Reaches, StayBelow, meaning};
+ghost use Rattle.qoi.specs.Qoi.{AreBytes, IsChunk, AreChunks, bytes_of, text, IsFile, file, file_pixels, head, pixel_count, IsValid, header_of, pixel, hash, Reaches, StayBelow, meaning};
+ghost use Rattle.qoi.specs.Raw.{output};
 ghost use Rattle.qoi.specs.Verdicts.{IsPartOfChunk, IsWhole, IsCut, IsWrong};
 
 /// No chunk's bytes begin another's, and a part of a chunk begins with no whole chunk.
@@ -79,7 +74,7 @@ pub fn bytes_taken()
 {}
 
 /// Small images and headers, computed on the definitions.
-#[tactic(auto, unfolding(crate::specs::Pixels::start, crate::specs::Pixels::blank, crate::specs::Pixels::hash, crate::specs::Chunks::after_diff, crate::specs::Chunks::after_luma))]
+#[tactic(auto, unfolding(crate::specs::Qoi::start, crate::specs::Qoi::blank, crate::specs::Qoi::hash, crate::specs::Qoi::after_diff, crate::specs::Qoi::after_luma))]
 pub fn worked_examples()
     ensures rgb_text { text (Chunk.Rgb 11 121 231 ∷ []) ≡ 0xfe ∷ 0x0b ∷ 0x79 ∷ 0xe7 ∷ [] }
     ensures rgb_means { meaning (Chunk.Rgb 11 121 231 ∷ []) ≡ pixel 11 121 231 255 ∷ [] }

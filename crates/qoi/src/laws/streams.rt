@@ -3,9 +3,8 @@ ghost use Rattle.std.specs.Prelude.{◌≡◌, ℕ, ◌+◌, ◌*◌, ◌<◌, L
 ghost use Rattle.std.specs.Io.KnownBytes.{Consumes};
 ghost use Rattle.qoi.specs.declared.error.Error.{Error};
 ghost use Rattle.qoi.specs.declared.chunk.Chunk.{Chunk};
-ghost use Rattle.qoi.specs.Pixels.{RgbaPixel};
-ghost use Rattle.qoi.specs.Meaning.{meaning};
-ghost use Rattle.qoi.specs.Output.{output, without_fourth};
+ghost use Rattle.qoi.specs.Qoi.{RgbaPixel, meaning};
+ghost use Rattle.qoi.specs.Raw.{output, without_fourth};
 ghost use Rattle.qoi.specs.Verdicts.{IsWhole, IsCut, IsWrong};
 ghost use Rattle.qoi.specs.Decoding.{ReadsImage, RefusesImage, HasWrong};
 ghost use Rattle.qoi.specs.Errors.{IsIoError};

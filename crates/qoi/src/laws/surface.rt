@@ -7,10 +7,8 @@ ghost use Rattle.qoi.specs.declared.header.Header.{Header};
 ghost use Rattle.qoi.specs.declared.types.Channels.{Channels};
 ghost use Rattle.qoi.specs.declared.types.ColorSpace.{ColorSpace};
 ghost use Rattle.qoi.specs.declared.chunk.Chunk.{Chunk};
-ghost use Rattle.qoi.specs.Chunks.{pixel_of};
-ghost use Rattle.qoi.specs.Output.{IsChannels};
-ghost use Rattle.qoi.specs.Pixels.{Past, previous, rgba};
-ghost use Rattle.qoi.specs.Types.{channels_number, colorspace_number};
+ghost use Rattle.qoi.specs.Qoi.{pixel_of, Past, previous, rgba, channels_number, colorspace_number};
+ghost use Rattle.qoi.specs.Raw.{IsChannels};
 
 use crate::header::Header;
 use crate::parts::{Chunk, Pixel};

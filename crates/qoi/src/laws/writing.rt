@@ -5,15 +5,11 @@ ghost use Rattle.qoi.specs.declared.chunk.Chunk.{Chunk};
 ghost use Rattle.qoi.specs.declared.types.Channels.{Channels};
 ghost use Rattle.qoi.specs.declared.types.ColorSpace.{ColorSpace};
 ghost use Rattle.qoi.specs.declared.chunk.Chunk.TheVariants.{Place, Run, Rgb, Rgba};
-ghost use Rattle.qoi.specs.Pixels.{RgbaPixel, IsPixel, Past, blank, pixel, previous};
-ghost use Rattle.qoi.specs.Chunks.{AreChunks, text};
+ghost use Rattle.qoi.specs.Qoi.{RgbaPixel, IsPixel, Past, blank, pixel, previous, AreChunks, text, file, Reaches, meaning};
 ghost use Rattle.qoi.specs.Encoded.{max_len};
-ghost use Rattle.qoi.specs.Files.{file};
-ghost use Rattle.qoi.specs.Meaning.{Reaches, meaning};
-ghost use Rattle.qoi.specs.Output.{IsChannels, output};
-ghost use Rattle.qoi.specs.Raw.{pixels_of, HasChannels};
+ghost use Rattle.qoi.specs.Raw.{IsChannels, output, pixels_of, HasChannels};
 ghost use Rattle.qoi.specs.Regular.{Begins, Regular};
-ghost use Rattle.qoi.specs.Shortest.{floor, repeats, slack, total_cost};
+ghost use Rattle.qoi.specs.Shortest.{floor, trailing_repeats, slack, total_cost};
 ghost use Rattle.qoi.specs.Written.{Written};
 
 /// An image has exactly one written list.
@@ -89,7 +85,7 @@ pub fn written_is_near_shortest()
 
 /// In a floor a group of repeats costs a byte for each 62 of them, rounded up.
 pub fn group_cost()
-    ensures { (shortest : Past → RgbaPixel → ℕ) (past : Past) (n : ℕ) → repeats past ≡ 0
+    ensures { (shortest : Past → RgbaPixel → ℕ) (past : Past) (n : ℕ) → trailing_repeats past ≡ 0
         → total_cost shortest (replicate n (previous past) ++ past) ≡ total_cost shortest past + (n + 61) / 62 }
 {}
 

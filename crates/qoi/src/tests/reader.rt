@@ -1,5 +1,5 @@
 ghost use Rattle.std.specs.Prelude.{◌≡◌, ◌%◌, length};
-ghost use Rattle.qoi.specs.Output.{IsChannels};
+ghost use Rattle.qoi.specs.Raw.{IsChannels};
 
 use crate::parts::{Bytes, Reader};
 use crate::tests::files::ONE_RGB_PIXEL;

@@ -4,9 +4,9 @@ use Rattle.std.proofs.lemmas.Result.{err_from_is_err_and}
 use Rattle.std.proofs.KnownBytes.{Keeps-refl}
 use Rattle.qoi.specs.declared.error.Error.{Error}
 use Rattle.qoi.specs.declared.header.Header.{Header}
-use Rattle.qoi.specs.Headers.{header_of, pixel_count}
+use Rattle.qoi.specs.Qoi.{header_of, pixel_count, header_size}
 use Rattle.qoi.specs.DecoderState.{DecoderState}
-use Rattle.qoi.specs.Decoding.{header_size, RefusesBytes, RefusesWholeFile}
+use Rattle.qoi.specs.Decoding.{RefusesBytes, RefusesWholeFile}
 use Rattle.qoi_tool.specs.Transfers.{IsOutside}
 use Rattle.qoi_tool.proofs.decode_into.Goals as goal
 

@@ -2,10 +2,9 @@
 ghost use Rattle.std.specs.Prelude.{◌≡◌, ℕ, ◌++◌, List, Option, Some, Ok, IfOk, OnOk, length, drop, false};
 ghost use Rattle.std.specs.Io.KnownBytes.{Appends};
 ghost use Rattle.qoi.specs.declared.header.Header.{Header};
-ghost use Rattle.qoi.specs.Types.{channels_number};
-ghost use Rattle.qoi.specs.Headers.{header_of, pixel_count};
+ghost use Rattle.qoi.specs.Qoi.{channels_number, header_of, pixel_count, header_size};
 ghost use Rattle.qoi.specs.Encoded.{IsFileOf};
-ghost use Rattle.qoi.specs.Decoding.{DecodesFile, ReadsHeader, ReadsImage, header_size};
+ghost use Rattle.qoi.specs.Decoding.{DecodesFile, ReadsHeader, ReadsImage};
 
 use crate::tests::ONE_RGB_PIXEL;
 use qoi::{Decoder, Encoder, Error, decode_to_vec};

@@ -1,10 +1,9 @@
 -- A file is decoded as such, and it is not refused.
 use Rattle.std.proofs.Common.{◌≡◌, ◌≤◌, List, length, take, drop, Some, Ok, ℕ, IsOk, false, true, refl, ap, sym, ◌∙◌, subst, arith}
 use Rattle.qoi.specs.declared.header.Header.{Header}
-use Rattle.qoi.specs.Types.{channels_number}
-use Rattle.qoi.specs.Headers.{pixel_count}
+use Rattle.qoi.specs.Qoi.{channels_number, pixel_count, header_size}
 use Rattle.qoi.specs.Verdicts.{IsWhole}
-use Rattle.qoi.specs.Decoding.{DecodesFile, ReadsImage, header_size, file_byte_count, byte_count}
+use Rattle.qoi.specs.Decoding.{DecodesFile, ReadsImage, file_byte_count, byte_count}
 use Rattle.qoi.specs.DecoderState.{DecoderState}
 use Rattle.qoi.proofs.decoding.OneFile.{file_has_header, file_is_whole, header_is_one, decodes_behind}
 use Rattle.qoi.proofs.decode.decode_to_buf.Goals as goal

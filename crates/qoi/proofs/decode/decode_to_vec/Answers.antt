@@ -2,9 +2,9 @@
 use Rattle.std.proofs.Common.{◌≡◌, ℕ, List, drop, Some, refl, ap, sym, ◌∙◌, subst, inl, inr, ⊎_elim, arith}
 use Rattle.qoi.specs.declared.header.Header.{Header}
 use Rattle.std.proofs.lemmas.Result.{err_from_is_err_and}
-use Rattle.qoi.specs.Headers.{pixel_count}
+use Rattle.qoi.specs.Qoi.{pixel_count, header_size}
 use Rattle.qoi.specs.Verdicts.{IsWhole}
-use Rattle.qoi.specs.Decoding.{DecodesFile, header_size, RefusesBytes}
+use Rattle.qoi.specs.Decoding.{DecodesFile, RefusesBytes}
 use Rattle.qoi.specs.DecoderState.{DecoderState}
 use Rattle.qoi.proofs.decoding.OneFile.{file_has_header, file_is_whole, decodes_behind}
 use Rattle.qoi.proofs.decode.decode_to_vec.Goals as goal

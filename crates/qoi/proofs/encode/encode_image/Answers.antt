@@ -1,7 +1,7 @@
 -- Header, chunks and end marker, one after the other.
 use Rattle.std.proofs.Common.{arith}
 use Rattle.std.proofs.lemmas.Result.{err_from_is_err_and}
-use Rattle.qoi.specs.Files.{file}
+use Rattle.qoi.specs.Qoi.{file}
 use Rattle.qoi.proofs.FileOf.{file_of, list_of, text_fits, max_is_exact, head_part, chunks_part, marker_part, marker_fits, file_went, file_counts}
 use Rattle.qoi.proofs.encode.encode_image.Goals as goal
 

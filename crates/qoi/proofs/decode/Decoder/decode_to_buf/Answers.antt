@@ -1,7 +1,6 @@
 -- Whole bytes in memory are not refused.
 use Rattle.std.proofs.Common.{◌≡◌, ◌/◌, ◌≤◌, length, take, ap, ◌∙◌, arith}
-use Rattle.qoi.specs.Types.{channels_number}
-use Rattle.qoi.specs.Headers.{pixel_count}
+use Rattle.qoi.specs.Qoi.{channels_number, pixel_count}
 use Rattle.qoi.proofs.decoding.ImageSize.{channels_are, image_pixels}
 use Rattle.qoi.proofs.decoding.Refusals.{whole_not_refused_in}
 use Rattle.qoi.proofs.decode.Decoder.decode_to_buf.Goals as goal

@@ -1,7 +1,7 @@
 -- Each copy is one pixel more, and where they aren't all there was no room for more.
 use Rattle.std.proofs.Common.{◌≡◌, ◌+◌, ◌-◌, ◌≤◌, ◌<◌, ◌⊎◌, arith, length, ap, ◌∙◌, subst, replicate, ◌++◌}
-use Rattle.qoi.specs.Pixels.{rgba}
-use Rattle.qoi.specs.Filling.{HasFilled}
+use Rattle.qoi.specs.Qoi.{rgba}
+use Rattle.qoi.specs.inner.Filling.{HasFilled}
 use Rattle.qoi.proofs.decoding.FilledBuffer.{copies, copies_fit, channels_above, filled_copy, filled_end}
 use Rattle.qoi.proofs.decode.pixels.fill.Goals as goal
 

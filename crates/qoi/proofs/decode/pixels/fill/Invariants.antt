@@ -1,7 +1,7 @@
 -- Some of the copies that there is room for are written.
 use Rattle.std.proofs.Common.{◌≡◌, ℕ, ◌+◌, ◌-◌, ◌*◌, ◌≤◌, length, ◌++◌, replicate}
-use Rattle.qoi.specs.Pixels.{Past, rgba}
-use Rattle.qoi.specs.Filling.{HasFilled}
+use Rattle.qoi.specs.Qoi.{Past, rgba}
+use Rattle.qoi.specs.inner.Filling.{HasFilled}
 use Rattle.qoi.proofs.decoding.FilledBuffer.{copies}
 use Rattle.qoi.proofs.decode.pixels.fill.Given as goal
 

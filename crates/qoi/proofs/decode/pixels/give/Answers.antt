@@ -1,6 +1,6 @@
 -- A chunk other than a run gives one pixel.
 use Rattle.std.proofs.Common.{◌+◌, ◌<◌, ◌≤◌, ◌≡◌, arith, length}
-use Rattle.qoi.specs.Chunks.{times}
+use Rattle.qoi.specs.Qoi.{times}
 use Rattle.qoi.proofs.decoding.FilledBuffer.{channels_above, pixel_room, pixel_end, filled_more}
 use Rattle.qoi.proofs.decoding.SeenTable.{times_once}
 use Rattle.qoi.proofs.decode.pixels.give.Goals as goal

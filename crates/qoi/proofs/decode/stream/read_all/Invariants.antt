@@ -1,7 +1,7 @@
 -- What was taken stands at the front of the buffer, and all in it are bytes.
 use Rattle.std.proofs.Common.{◌-◌, ◌≤◌, length, take}
 use Rattle.std.specs.Io.KnownBytes.{Consumes}
-use Rattle.qoi.specs.Bytes.{AreBytes}
+use Rattle.qoi.specs.Qoi.{AreBytes}
 use Rattle.qoi.proofs.decode.stream.read_all.Given as goal
 
 abbrev pub invariant-loop-filled : goal.invariant-loop-filled

@@ -1,9 +1,9 @@
 -- A repeat waits or fills its run; before any other pixel's chunk the run that waits is written.
 use Rattle.std.proofs.Common.{◌≡◌, ◌≢◌, inl, inr, ℕ, List, ◌+◌, length, false, true, refl, sym, ap, ◌∙◌, arith, add-one}
 use Rattle.std.proofs.lemmas.Bool.{cases_lt}
-use Rattle.qoi.specs.Output.{IsChannels}
-use Rattle.qoi.specs.Pixels.{Past, rgba, previous}
-use Rattle.qoi.specs.CoderState.{HasCoded}
+use Rattle.qoi.specs.Raw.{IsChannels}
+use Rattle.qoi.specs.Qoi.{Past, rgba, previous}
+use Rattle.qoi.specs.inner.CoderState.{HasCoded}
 use Rattle.qoi.proofs.encoding.CoderTable.{rgba_same}
 use Rattle.qoi.proofs.encoding.CodingWrites.{pixels_are, repeat_waits, repeat_full, repeat_part, flush_part, chunk_written, chunk_part, on_err, coding_in}
 use Rattle.qoi.proofs.encode.Coder.put.Goals as goal

@@ -1,7 +1,6 @@
 -- Each is computed, pixel by pixel.
 use Rattle.std.proofs.Common.{refl}
-use Rattle.qoi.specs.Pixels.{pixel_eq, start, blank, hash}
-use Rattle.qoi.specs.Chunks.{after_diff, after_luma}
+use Rattle.qoi.specs.Qoi.{pixel_eq, start, blank, hash, after_diff, after_luma}
 use Rattle.qoi.specs.Shortest.{some_diff, some_luma, some_rgb, least, cost, slack}
 use Rattle.qoi.proofs.laws.writing.shortest_examples.Goals as goal
 

@@ -1,6 +1,6 @@
 -- Both images are computed, chunk by chunk.
 use Rattle.std.proofs.Common.{refl}
-use Rattle.qoi.specs.Pixels.{start, blank, hash}
+use Rattle.qoi.specs.Qoi.{start, blank, hash}
 use Rattle.qoi.proofs.shortness.SlackReached.{written_rgb, written_rgba}
 use Rattle.qoi.proofs.laws.writing.slack_is_reached.Goals as goal
 

@@ -1,6 +1,6 @@
 -- The tests of the differences are those of the chunks.
 use Rattle.std.proofs.Common.{◌≡◌, ◌<◌, ℕ, List, slice_index, slice_index_or, sym, ap, ◌∙◌, arith}
-use Rattle.qoi.specs.Pixels.{Past, IsPixel, rgba, previous}
+use Rattle.qoi.specs.Qoi.{Past, IsPixel, rgba, previous}
 use Rattle.qoi.proofs.encoding.Spelled.{first_rgba}
 use Rattle.qoi.proofs.encoding.SpelledBytes.{Colors, spelled_diff, spelled_luma, spelled_rgb}
 use Rattle.qoi.proofs.pixel.Pixel.spelled_after.Goals as goal

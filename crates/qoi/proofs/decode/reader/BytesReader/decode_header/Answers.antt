@@ -2,7 +2,7 @@
 use Rattle.std.proofs.Common.{◌≡◌, ◌-◌, Ok, ◌++◌, length, take, drop, sym, ap, ◌∙◌, take-append-drop}
 use Rattle.std.proofs.lemmas.List.{length-drop}
 use Rattle.qoi.proofs.decoding.FilledBuffer.{take_whole}
-use Rattle.qoi.specs.Headers.{header_of}
+use Rattle.qoi.specs.Qoi.{header_of}
 use Rattle.qoi.proofs.format.HeaderBytes.{header_front}
 use Rattle.qoi.proofs.decode.reader.BytesReader.decode_header.Goals as goal
 

@@ -2,7 +2,7 @@
 use Rattle.std.specs.Prelude.{◌≡◌, ℕ, ◌<◌, List, [], ◌∷◌, length, slice_index_or, zero, suc}
 use Rattle.qoi.specs.declared.chunk.Chunk.{Chunk}
 use Rattle.qoi.specs.declared.chunk.Chunk.TheVariants.{Run}
-use Rattle.qoi.specs.Pixels.{Past, rgba, previous}
+use Rattle.qoi.specs.Qoi.{Past, rgba, previous}
 use Rattle.qoi.specs.Written.{noted}
 
 -- the table has what is noted at each index position

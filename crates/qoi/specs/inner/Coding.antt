@@ -3,12 +3,10 @@ use Rattle.std.specs.Prelude.{◌≡◌, ℕ, ◌<◌, List, [], ◌∷◌, ◌+
 use Rattle.std.specs.List.{AllByRecursion}
 use Rattle.qoi.specs.declared.chunk.Chunk.{Chunk}
 use Rattle.qoi.specs.declared.chunk.Chunk.TheVariants.{Run}
-use Rattle.qoi.specs.Pixels.{RgbaPixel, IsPixel, Past}
-use Rattle.qoi.specs.Chunks.{AreChunks, text, then_chunk}
-use Rattle.qoi.specs.Meaning.{Each, then_chunks}
+use Rattle.qoi.specs.Qoi.{RgbaPixel, IsPixel, Past, AreChunks, text, then_chunk, Each, then_chunks}
 use Rattle.qoi.specs.Written.{IsChoice, IsRightAfter, RunsAreFull, Written}
-use Rattle.qoi.specs.Writes.{WroteBut}
-use Rattle.qoi.specs.CoderState.{HasCoded}
+use Rattle.qoi.specs.writers.Writes.{WroteBut}
+use Rattle.qoi.specs.inner.CoderState.{HasCoded}
 
 -- The chunks are written for these pixels but for the last k, which repeat and wait to be a run. A run may
 -- follow the chunks.

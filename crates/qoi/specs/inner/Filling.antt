@@ -1,7 +1,7 @@
 -- A buffer that is filled with pixels, and the state of a decoder between two chunks.
 use Rattle.std.specs.Prelude.{◌≡◌, ℕ, ◌*◌, ◌<◌, List, [], length, take, reverse, min, slice_index_or}
-use Rattle.qoi.specs.Pixels.{Past, rgba, previous, seen}
-use Rattle.qoi.specs.Output.{output}
+use Rattle.qoi.specs.Qoi.{Past, rgba, previous, seen}
+use Rattle.qoi.specs.Raw.{output}
 
 -- The first `at` bytes of the buffer are those of the pixels so far, as far as they fit n pixels.
 pub record HasFilled (file channels n : ℕ) (out : List ℕ) (at : ℕ) (past : Past) : Type 0 where

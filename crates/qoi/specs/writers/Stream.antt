@@ -4,7 +4,7 @@ use Rattle.std.specs.Prelude.{◌≡◌, ℕ, ◌+◌, List, length, Option}
 use Rattle.std.specs.Io.KnownBytes.{Appends}
 use Rattle.std.proofs.Common.{refl, ◌∙◌, arith, length-append}
 use Rattle.std.proofs.KnownBytes.{Appends-nil, Appends-trans}
-use Rattle.qoi.specs.Writes.{WriterLaws}
+use Rattle.qoi.specs.writers.Writes.{WriterLaws}
 use Rattle.qoi.specs.declared.utils.GenericWriter.{GenericWriter}
 
 -- which writer it is
