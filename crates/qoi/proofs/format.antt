@@ -8,4 +8,5 @@ pub mod PartOfChunk
 pub mod RawPixels
 pub mod SamePixels
 pub mod SetLast
+pub mod ShortLists
 pub mod SomeVerdict

@@ -8,9 +8,10 @@ use Rattle.qoi.specs.Raw.{IsChannels, output}
 use Rattle.qoi.specs.inner.Filling.{HasFilled, HasSeen}
 use Rattle.qoi.specs.Verdicts.{IsPartOfChunk}
 use Rattle.qoi.specs.Decoding.{EndsInChunk, ReadsPixels, StreamsPixels}
-use Rattle.qoi.proofs.format.Appended.{then_chunks-push, Each-push, AreChunks-push, text-last, length-meaning}
+use Rattle.qoi.proofs.format.ChunkSteps.{times_some, then_chunks-append, each_append}
+use Rattle.qoi.proofs.format.Appended.{are_chunks_append, text-last, length-meaning}
 use Rattle.qoi.proofs.decoding.FilledBuffer.{counts, filled_all, whole_pixels}
-use Rattle.qoi.proofs.decoding.SeenTable.{previous_copies, times_above}
+use Rattle.qoi.proofs.decoding.SeenTable.{previous_copies}
 
 -- Chunks were taken, their pixels were written and seen. `Taken` says which bytes were taken.
 pub record SoFar (f c n : ℕ) (Taken : List ℕ → Type 0) (out : List ℕ) (at : ℕ) (places : List (List ℕ)) (last : List ℕ) : Type 0 where
@@ -56,14 +57,14 @@ pub goes_on : (f c n : ℕ) (Taken Taken' : List ℕ → Type 0) (old new : List
     → end ≤ length new → end % c ≡ 0 → SoFar f c n Taken' new end places' last'
 goes_on f c n Taken Taken' old new at end places places' last last' chunk is s inside is_chunk takes sees fills within whole =
     let past = then_chunks [] s.cs in
-    let pushed = then_chunks-push [] s.cs chunk in
+    let pushed = then_chunks-append [] s.cs (chunk ∷ []) in
     let table = sees past s.table in
-    let pixel_is : rgba last' ≡ pixel_of past chunk = table.last_is ∙ previous_copies (times chunk) (pixel_of past chunk) past (times_above chunk is_chunk) in
+    let pixel_is : rgba last' ≡ pixel_of past chunk = table.last_is ∙ previous_copies (times chunk) (pixel_of past chunk) past (times_some chunk is_chunk) in
     let filled : HasFilled f c n new end (then_chunk past chunk) = subst (λ p. HasFilled f c n new end (replicate (times chunk) p ++ past)) pixel_is (fills past s.filled) in
     record {
       cs = s.cs ++ chunk ∷ [];
-      chunks = AreChunks-push s.cs chunk s.chunks is_chunk;
-      short = Each-push (λ past c. length past < n) [] s.cs chunk s.short (fewer f c n old at past is s.filled inside);
+      chunks = are_chunks_append s.cs (chunk ∷ []) s.chunks (is_chunk, tt);
+      short = each_append (λ past c. length past < n) [] s.cs (chunk ∷ []) s.short (fewer f c n old at past is s.filled inside, tt);
       taken = subst Taken' (sym (text-last s.cs chunk)) (takes (text s.cs) s.taken);
       filled = rw pushed filled;
       table = rw pushed table;

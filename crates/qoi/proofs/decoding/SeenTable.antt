@@ -1,34 +1,21 @@
 -- The table of the pixels that were put at the 64 index positions.
-use Rattle.std.proofs.Common.{◌≡◌, ◌≢◌, ℕ, zero, suc, ◌<◌, Bool, true, false, List, [], ◌∷◌, ◌++◌, length, get_or, slice_set, replicate, cond, eqb, eqb-true, arith, refl, sym, ap, ◌∙◌, get_or-set_other, get_or-set_same}
+use Rattle.std.proofs.Common.{◌≡◌, ◌≢◌, inl, inr, ℕ, zero, suc, ◌<◌, Bool, true, false, List, [], ◌∷◌, ◌++◌, length, get_or, slice_set, replicate, cond, eqb, eqb-true, arith, refl, sym, ap, ◌∙◌, get_or-set_other, get_or-set_same}
 use Rattle.std.proofs.lemmas.List.{length-set, length-replicate, get_or-replicate}
 use Rattle.std.proofs.lemmas.Bool.{eqb-false}
 use Rattle.qoi.specs.declared.chunk.Chunk.{Chunk}
-use Rattle.qoi.specs.declared.chunk.Chunk.TheVariants.{Place, Diff, Luma, Run, Rgb, Rgba}
+use Rattle.qoi.specs.declared.chunk.Chunk.TheVariants.{Run}
 use Rattle.qoi.specs.Qoi.{RgbaPixel, Past, rgba, previous, seen, hash, start, blank, IsChunk, times, pixel_of, then_chunk}
 use Rattle.qoi.specs.inner.Filling.{HasSeen}
+use Rattle.qoi.proofs.format.SamePixels.{hash_below}
+use Rattle.qoi.proofs.format.ChunkSteps.{cases_run, times_other, times_some}
 
--- an index position is below 64
-pub hash_below : (p : RgbaPixel) → hash p < 64
-unfolding hash
-hash_below p = omega arith
-
--- a chunk gives a pixel
-pub times_above : (c : Chunk) → IsChunk c → 0 < times c
-times_above (Place i) h = omega arith
-times_above (Diff d) h = omega arith
-times_above (Luma d e) h = omega arith
-times_above (Run n) h = h.0
-times_above (Rgb r g b) h = omega arith
-times_above (Rgba r g b a) h = omega arith
-
--- a chunk other than a run gives one
+-- a chunk other than a run gives one pixel
 pub times_once : (c : Chunk) → ((n : ℕ) → c ≡ Run n → ⊥) → times c ≡ 1
-times_once (Place i) other = refl
-times_once (Diff d) other = refl
-times_once (Luma d e) other = refl
-times_once (Run n) other = absurd (other n refl)
-times_once (Rgb r g b) other = refl
-times_once (Rgba r g b a) other = refl
+times_once c other =
+    elim (cases_run c) [
+      | inl run ↦ absurd (other run.0 run.1)
+      | inr h ↦ times_other c h
+    ]
 
 -- what an index position holds after a pixel came some times
 pub seen_copies : (n : ℕ) (p : RgbaPixel) (past : Past) (i : ℕ) → 0 < n → seen (replicate n p ++ past) i ≡ cond (eqb (hash p) i) p (seen past i)
@@ -68,8 +55,8 @@ seen_after places last px past c h is s e at =
       length_is = length-set places h px ∙ s.length_is;
       holds = λ i inside. rw position (held_after places px (pixel_of past c) i s.length_is e
           ∙ ap (cond (eqb (hash (pixel_of past c)) i) (pixel_of past c)) (s.holds i inside)
-          ∙ sym (seen_copies (times c) (pixel_of past c) past i (times_above c is)));
-      last_is = e ∙ sym (previous_copies (times c) (pixel_of past c) past (times_above c is));
+          ∙ sym (seen_copies (times c) (pixel_of past c) past i (times_some c is)));
+      last_is = e ∙ sym (previous_copies (times c) (pixel_of past c) past (times_some c is));
     }
 
 -- the state before the first chunk

@@ -8,7 +8,8 @@ use Rattle.qoi.specs.Qoi.{RgbaPixel, Past, rgba, previous, hash, start, blank, p
 use Rattle.qoi.specs.Raw.{IsChannels}
 use Rattle.qoi.specs.Written.{IsFirst, IsChoice}
 use Rattle.qoi.specs.inner.CoderState.{HasNoted, HasCoded, waiting_run}
-use Rattle.qoi.proofs.decoding.SeenTable.{hash_below, held_after}
+use Rattle.qoi.proofs.format.SamePixels.{hash_below}
+use Rattle.qoi.proofs.decoding.SeenTable.{held_after}
 use Rattle.qoi.proofs.encoding.TableNotes.{Notes, notes_repeat, notes_fresh, notes_same, choice_place, choice_spelled}
 
 -- a pixel's bytes are its colors and, where there are four, its alpha

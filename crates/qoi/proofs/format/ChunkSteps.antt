@@ -4,7 +4,7 @@ use Rattle.std.proofs.lemmas.List.{reverse-reverse, reverse-append, length-appen
 use Rattle.std.proofs.lemmas.Bool.{true≢false}
 use Rattle.qoi.specs.declared.chunk.Chunk.{Chunk}
 use Rattle.qoi.specs.declared.chunk.Chunk.TheVariants.{Place, Diff, Luma, Run, Rgb, Rgba}
-use Rattle.qoi.specs.Qoi.{RgbaPixel, Past, IsChunk, pixel_of, times, then_chunk, then_chunks, meaning, Each}
+use Rattle.qoi.specs.Qoi.{RgbaPixel, Past, previous, IsChunk, pixel_of, times, then_chunk, then_chunks, meaning, Each}
 use Rattle.qoi.specs.Written.{GivesFresh, IsRightAfter, IsFull}
 
 -- the chunk is a run
@@ -79,6 +79,11 @@ times_some (Diff d) h = omega arith
 times_some (Luma d e) h = omega arith
 times_some (Rgb x g b) h = omega arith
 times_some (Rgba x g b a) h = omega arith
+
+-- the pixel before is the same after repeats
+pub previous_repeated : (past : Past) (n : ℕ) → previous (replicate n (previous past) ++ past) ≡ previous past
+previous_repeated past zero = refl
+previous_repeated past (suc n) = refl
 
 -- what stands after a chunk other than a run
 pub then_other : (past : Past) (c : Chunk) → is_run c ≡ false → then_chunk past c ≡ pixel_of past c ∷ past

@@ -1,10 +1,10 @@
 -- A header's fourteen bytes are read as the header, and no other bytes are.
-use Rattle.std.proofs.Common.{◌≡◌, ℕ, ◌*◌, ◌^◌, ◌<◌, ◌≤◌, zero, suc, List, [], ◌∷◌, ◌++◌, length, take, drop, arith, refl, ap, sym, ◌∙◌, subst, Bool, true, false, Result, Ok, Err, slice_index, nat_le, nat_lt, ◌==◌, cond, ◌&&◌, length-append}
-use Rattle.std.proofs.lemmas.List.{length-take-le, drop_at}
+use Rattle.std.proofs.Common.{◌≡◌, ℕ, ◌+◌, ◌*◌, ◌^◌, ◌<◌, ◌≤◌, zero, suc, List, [], ◌∷◌, ◌++◌, length, take, drop, arith, refl, ap, sym, ◌∙◌, subst, Bool, true, false, Result, Ok, Err, slice_index, nat_le, nat_lt, ◌==◌, cond, ◌&&◌, length-append}
+use Rattle.std.proofs.lemmas.List.{length-take-le, length-drop, drop_at, take-append-drop, take-append-le, drop-append-le, get_or_append_left}
 use Rattle.std.proofs.lemmas.Bool.{cond-true, le-ltb, ltb-false, le-leb, leb-true, and_from, and_parts, eqb-true}
 use Rattle.std.proofs.Math.Nat.{mul-zero, mul_comm, le-mul_of_pos_right}
 use Rattle.std.proofs.lemmas.Nat.{from_be_bytes-to_be_bytes_4, be_bytes_4}
-use Rattle.std.specs.Int.{w32, to_be_bytes}
+use Rattle.std.specs.Int.{w32, to_be_bytes, from_be_bytes}
 use Rattle.qoi.specs.declared.error.Error.{Error}
 use Rattle.qoi.specs.declared.error.Error.TheVariants.{InvalidMagic, InvalidImageDimensions, UnexpectedBufferEnd}
 use Rattle.qoi.specs.declared.types.Channels.{Channels}
@@ -12,7 +12,7 @@ use Rattle.qoi.specs.declared.types.Channels.TheVariants.{Rgb, Rgba}
 use Rattle.qoi.specs.declared.types.ColorSpace.{ColorSpace}
 use Rattle.qoi.specs.declared.types.ColorSpace.TheVariants.{Srgb, Linear}
 use Rattle.qoi.specs.declared.header.Header.{Header}
-use Rattle.qoi.specs.Qoi.{channels_number, channels_of, colorspace_number, colorspace_of, AreBytes, head, pixel_count, IsValid, tried_header, number_at, checked_header, with_channels_read, header_of}
+use Rattle.qoi.specs.Qoi.{magic_number, pixels_max, channels_number, channels_of, colorspace_number, colorspace_of, AreBytes, head, pixel_count, IsValid, tried_header, number_at, checked_header, with_channels_read, header_of}
 
 -- the number of channels is read back
 channels_back : (c : Channels) → channels_of (channels_number c) ≡ Ok c
@@ -41,7 +41,7 @@ pub record SaysHeader (bytes : List ℕ) (h : Header) : Type 0 where
   pub long : 14 ≤ length bytes
   pub channels : channels_of (slice_index bytes 12) ≡ Ok h.channels
   pub colorspace : colorspace_of (slice_index bytes 13) ≡ Ok h.colorspace
-  pub magic : number_at bytes 0 ≡ 1903126886
+  pub magic : number_at bytes 0 ≡ magic_number
   pub width : number_at bytes 4 ≡ h.width
   pub height : number_at bytes 8 ≡ h.height
   pub valid : IsValid h
@@ -49,8 +49,8 @@ pub record SaysHeader (bytes : List ℕ) (h : Header) : Type 0 where
 -- dimensions within bounds are taken
 tried_valid : (h : Header) → IsValid h → tried_header h.width h.height h.channels h.colorspace ≡ Ok h
 tried_valid h v =
-    cond-true (nat_le 1 (h.width * h.height) && nat_le (h.width * h.height) 400000000) _ _
-    (and_from _ _ (le-leb 1 (h.width * h.height) v.0) (le-leb (h.width * h.height) 400000000 v.1))
+    cond-true (nat_le 1 (h.width * h.height) && nat_le (h.width * h.height) pixels_max) _ _
+    (and_from _ _ (le-leb 1 (h.width * h.height) v.0) (le-leb (h.width * h.height) pixels_max v.1))
 
 -- bytes that say a header are read as it
 pub header_from_says : (bytes : List ℕ) (h : Header) → SaysHeader bytes h → header_of bytes ≡ Ok h
@@ -58,7 +58,7 @@ header_from_says bytes h s =
     rw (le-ltb (length bytes) 14 s.long, s.channels, s.colorspace, s.magic, s.width, s.height) (tried_valid h s.valid)
 
 -- a factor of a product within the bound is below 2 ^ 32
-factor_below : (a b : ℕ) → 1 ≤ a * b → a * b ≤ 400000000 → a < 2 ^ 32
+factor_below : (a b : ℕ) → 1 ≤ a * b → a * b ≤ pixels_max → a < 2 ^ 32
 factor_below a zero low high = absurd (omega (arith, mul-zero a))
 factor_below a (suc b) low high =
     let pos : 0 < suc b = omega arith in
@@ -95,7 +95,7 @@ guard_false false r refusal x e = (refl, e)
 
 -- what bytes say beside their length, where their channels and color space are read
 record SaysRest (bytes : List ℕ) (c : Channels) (s : ColorSpace) (h : Header) : Type 0 where
-  pub magic : number_at bytes 0 ≡ 1903126886
+  pub magic : number_at bytes 0 ≡ magic_number
   pub is_header : record { width = number_at bytes 4; height = number_at bytes 8; channels = c; colorspace = s } ≡ h
   pub valid : IsValid h
 
@@ -103,14 +103,14 @@ record SaysRest (bytes : List ℕ) (c : Channels) (s : ColorSpace) (h : Header) 
 rest_from : (bytes : List ℕ) (c : Channels) (s : ColorSpace) (h : Header) → checked_header bytes c s ≡ Ok h → SaysRest bytes c s h
 rest_from bytes c s h e =
     let k : Header = record { width = number_at bytes 4; height = number_at bytes 8; channels = c; colorspace = s } in
-    let outer = guard_true (number_at bytes 0 == 1903126886) (tried_header (number_at bytes 4) (number_at bytes 8) c s) (InvalidMagic (number_at bytes 0)) h e in
-    let inner = guard_true (nat_le 1 (pixel_count k) && nat_le (pixel_count k) 400000000) (Ok k) (InvalidImageDimensions k.width k.height) h outer.1 in
-    let bounds = and_parts (nat_le 1 (pixel_count k)) (nat_le (pixel_count k) 400000000) inner.0 in
+    let outer = guard_true (number_at bytes 0 == magic_number) (tried_header (number_at bytes 4) (number_at bytes 8) c s) (InvalidMagic (number_at bytes 0)) h e in
+    let inner = guard_true (nat_le 1 (pixel_count k) && nat_le (pixel_count k) pixels_max) (Ok k) (InvalidImageDimensions k.width k.height) h outer.1 in
+    let bounds = and_parts (nat_le 1 (pixel_count k)) (nat_le (pixel_count k) pixels_max) inner.0 in
     let same : k ≡ h = cc in
     record {
-      magic = eqb-true (number_at bytes 0) 1903126886 outer.0;
+      magic = eqb-true (number_at bytes 0) magic_number outer.0;
       is_header = same;
-      valid = subst IsValid same (leb-true 1 (pixel_count k) bounds.0, leb-true (pixel_count k) 400000000 bounds.1);
+      valid = subst IsValid same (leb-true 1 (pixel_count k) bounds.0, leb-true (pixel_count k) pixels_max bounds.1);
     }
 
 -- bytes that are read as a header say it
@@ -150,8 +150,8 @@ four_bytes a b c d ha hb hc hd (suc (suc (suc (suc i)))) = omega arith
 -- bytes that say a header are its own, and then the rest
 pub head_from_says : (bytes : List ℕ) (h : Header) → AreBytes bytes → SaysHeader bytes h → bytes ≡ head h ++ drop 14 bytes
 head_from_says (m0 ∷ m1 ∷ m2 ∷ m3 ∷ w0 ∷ w1 ∷ w2 ∷ w3 ∷ h0 ∷ h1 ∷ h2 ∷ h3 ∷ c ∷ s ∷ rest) h fits says =
-    let m : to_be_bytes w32 1903126886 ≡ m0 ∷ m1 ∷ m2 ∷ m3 ∷ [] =
-    be_bytes_4 (m0 ∷ m1 ∷ m2 ∷ m3 ∷ []) 1903126886 refl (four_bytes m0 m1 m2 m3 (fits 0) (fits 1) (fits 2) (fits 3)) (sym says.magic) in
+    let m : to_be_bytes w32 magic_number ≡ m0 ∷ m1 ∷ m2 ∷ m3 ∷ [] =
+    be_bytes_4 (m0 ∷ m1 ∷ m2 ∷ m3 ∷ []) magic_number refl (four_bytes m0 m1 m2 m3 (fits 0) (fits 1) (fits 2) (fits 3)) (sym says.magic) in
     let w : to_be_bytes w32 h.width ≡ w0 ∷ w1 ∷ w2 ∷ w3 ∷ [] =
     be_bytes_4 (w0 ∷ w1 ∷ w2 ∷ w3 ∷ []) h.width refl (four_bytes w0 w1 w2 w3 (fits 4) (fits 5) (fits 6) (fits 7)) (sym says.width) in
     let g : to_be_bytes w32 h.height ≡ h0 ∷ h1 ∷ h2 ∷ h3 ∷ [] =
@@ -167,47 +167,45 @@ head_from_header_of bytes h fits e =
     let says = says_from bytes h e in
     (head_from_says bytes h fits says, says.valid)
 
--- what follows the fourteen bytes doesn't matter
-says-take : (bytes : List ℕ) (h : Header) → SaysHeader bytes h → SaysHeader (take 14 bytes) h
-says-take [] h s = absurd (omega (arith, s.long))
-says-take (a ∷ []) h s = absurd (omega (arith, s.long))
-says-take (a ∷ b ∷ []) h s = absurd (omega (arith, s.long))
-says-take (a ∷ b ∷ c ∷ []) h s = absurd (omega (arith, s.long))
-says-take (a ∷ b ∷ c ∷ d ∷ []) h s = absurd (omega (arith, s.long))
-says-take (a ∷ b ∷ c ∷ d ∷ e ∷ []) h s = absurd (omega (arith, s.long))
-says-take (a ∷ b ∷ c ∷ d ∷ e ∷ f ∷ []) h s = absurd (omega (arith, s.long))
-says-take (a ∷ b ∷ c ∷ d ∷ e ∷ f ∷ g ∷ []) h s = absurd (omega (arith, s.long))
-says-take (a ∷ b ∷ c ∷ d ∷ e ∷ f ∷ g ∷ i ∷ []) h s = absurd (omega (arith, s.long))
-says-take (a ∷ b ∷ c ∷ d ∷ e ∷ f ∷ g ∷ i ∷ j ∷ []) h s = absurd (omega (arith, s.long))
-says-take (a ∷ b ∷ c ∷ d ∷ e ∷ f ∷ g ∷ i ∷ j ∷ k ∷ []) h s = absurd (omega (arith, s.long))
-says-take (a ∷ b ∷ c ∷ d ∷ e ∷ f ∷ g ∷ i ∷ j ∷ k ∷ l ∷ []) h s = absurd (omega (arith, s.long))
-says-take (a ∷ b ∷ c ∷ d ∷ e ∷ f ∷ g ∷ i ∷ j ∷ k ∷ l ∷ m ∷ []) h s = absurd (omega (arith, s.long))
-says-take (a ∷ b ∷ c ∷ d ∷ e ∷ f ∷ g ∷ i ∷ j ∷ k ∷ l ∷ m ∷ n ∷ []) h s = absurd (omega (arith, s.long))
-says-take (a ∷ b ∷ c ∷ d ∷ e ∷ f ∷ g ∷ i ∷ j ∷ k ∷ l ∷ m ∷ n ∷ o ∷ rest) h s = record { long = omega arith; channels = s.channels; colorspace = s.colorspace; magic = s.magic; width = s.width; height = s.height; valid = s.valid }
+-- a number at the front of bytes doesn't change by what follows
+number_at-append : (bytes rest : List ℕ) (i : ℕ) → i + 4 ≤ length bytes → number_at (bytes ++ rest) i ≡ number_at bytes i
+number_at-append bytes rest i h =
+    ap (λ z. from_be_bytes w32 (take 4 z)) (drop-append-le i bytes rest (omega arith))
+    ∙ ap (from_be_bytes w32) (take-append-le 4 (drop i bytes) rest (omega (arith, length-drop i bytes)))
+
+-- what fourteen bytes say, they say with any bytes behind them
+says-append : (bytes rest : List ℕ) (h : Header) → SaysHeader bytes h → SaysHeader (bytes ++ rest) h
+says-append bytes rest h s =
+    let long = s.long in
+    record {
+      long = omega (arith, long, length-append bytes rest);
+      channels = ap channels_of (get_or_append_left bytes rest 0 12 (omega arith)) ∙ s.channels;
+      colorspace = ap colorspace_of (get_or_append_left bytes rest 0 13 (omega arith)) ∙ s.colorspace;
+      magic = number_at-append bytes rest 0 (omega arith) ∙ s.magic;
+      width = number_at-append bytes rest 4 (omega arith) ∙ s.width;
+      height = number_at-append bytes rest 8 (omega arith) ∙ s.height;
+      valid = s.valid;
+    }
+
+-- and what they say with bytes behind them, they say alone
+says-before : (bytes rest : List ℕ) (h : Header) → 14 ≤ length bytes → SaysHeader (bytes ++ rest) h → SaysHeader bytes h
+says-before bytes rest h long s = record {
+  long = long;
+  channels = sym (ap channels_of (get_or_append_left bytes rest 0 12 (omega arith))) ∙ s.channels;
+  colorspace = sym (ap colorspace_of (get_or_append_left bytes rest 0 13 (omega arith))) ∙ s.colorspace;
+  magic = sym (number_at-append bytes rest 0 (omega arith)) ∙ s.magic;
+  width = sym (number_at-append bytes rest 4 (omega arith)) ∙ s.width;
+  height = sym (number_at-append bytes rest 8 (omega arith)) ∙ s.height;
+  valid = s.valid;
+}
 
 -- the fourteen bytes at the front of bytes that are read as a header
 pub header_front : (bytes : List ℕ) (h : Header) → header_of bytes ≡ Ok h → (length (take 14 bytes) ≡ 14) × (header_of (take 14 bytes) ≡ Ok h)
 header_front bytes h e =
     let s = says_from bytes h e in
-    (length-take-le 14 bytes s.long, header_from_says (take 14 bytes) h (says-take bytes h s))
-
--- the same header is read where other bytes follow
-says-append : (bytes rest : List ℕ) (h : Header) → SaysHeader bytes h → SaysHeader (bytes ++ rest) h
-says-append [] rest h s = absurd (omega (arith, s.long))
-says-append (a ∷ []) rest h s = absurd (omega (arith, s.long))
-says-append (a ∷ b ∷ []) rest h s = absurd (omega (arith, s.long))
-says-append (a ∷ b ∷ c ∷ []) rest h s = absurd (omega (arith, s.long))
-says-append (a ∷ b ∷ c ∷ d ∷ []) rest h s = absurd (omega (arith, s.long))
-says-append (a ∷ b ∷ c ∷ d ∷ e ∷ []) rest h s = absurd (omega (arith, s.long))
-says-append (a ∷ b ∷ c ∷ d ∷ e ∷ f ∷ []) rest h s = absurd (omega (arith, s.long))
-says-append (a ∷ b ∷ c ∷ d ∷ e ∷ f ∷ g ∷ []) rest h s = absurd (omega (arith, s.long))
-says-append (a ∷ b ∷ c ∷ d ∷ e ∷ f ∷ g ∷ i ∷ []) rest h s = absurd (omega (arith, s.long))
-says-append (a ∷ b ∷ c ∷ d ∷ e ∷ f ∷ g ∷ i ∷ j ∷ []) rest h s = absurd (omega (arith, s.long))
-says-append (a ∷ b ∷ c ∷ d ∷ e ∷ f ∷ g ∷ i ∷ j ∷ k ∷ []) rest h s = absurd (omega (arith, s.long))
-says-append (a ∷ b ∷ c ∷ d ∷ e ∷ f ∷ g ∷ i ∷ j ∷ k ∷ l ∷ []) rest h s = absurd (omega (arith, s.long))
-says-append (a ∷ b ∷ c ∷ d ∷ e ∷ f ∷ g ∷ i ∷ j ∷ k ∷ l ∷ m ∷ []) rest h s = absurd (omega (arith, s.long))
-says-append (a ∷ b ∷ c ∷ d ∷ e ∷ f ∷ g ∷ i ∷ j ∷ k ∷ l ∷ m ∷ n ∷ []) rest h s = absurd (omega (arith, s.long))
-says-append (a ∷ b ∷ c ∷ d ∷ e ∷ f ∷ g ∷ i ∷ j ∷ k ∷ l ∷ m ∷ n ∷ o ∷ more) rest h s = record { long = omega arith; channels = s.channels; colorspace = s.colorspace; magic = s.magic; width = s.width; height = s.height; valid = s.valid }
+    let size = length-take-le 14 bytes s.long in
+    let whole : SaysHeader (take 14 bytes ++ drop 14 bytes) h = subst (λ z. SaysHeader z h) (sym (take-append-drop 14 bytes)) s in
+    (size, header_from_says (take 14 bytes) h (says-before (take 14 bytes) (drop 14 bytes) h (omega arith) whole))
 
 -- bytes whose front is read as a header, and what follows it
 pub header_split : (bytes taken rest : List ℕ) (h : Header) → bytes ≡ taken ++ rest → length taken ≡ 14 → header_of taken ≡ Ok h

@@ -1,7 +1,12 @@
--- The test of two pixels says whether they are the same.
-use Rattle.std.proofs.Common.{◌≡◌, ◌≢◌, ◌⊎◌, inl, inr, Bool, true, false, ◌&&◌, eqb, refl}
+-- The test of two pixels says whether they are the same, and each has an index position.
+use Rattle.std.proofs.Common.{◌≡◌, ◌≢◌, ◌⊎◌, inl, inr, Bool, true, false, ◌&&◌, eqb, ◌<◌, arith, refl}
 use Rattle.std.proofs.lemmas.Bool.{and_parts, and_from, eqb-true, eq-eqb, true≢false, false_from_ne_true}
-use Rattle.qoi.specs.Qoi.{RgbaPixel, pixel, pixel_eq}
+use Rattle.qoi.specs.Qoi.{RgbaPixel, pixel, pixel_eq, hash}
+
+-- an index position is below 64
+pub hash_below : (p : RgbaPixel) → hash p < 64
+unfolding hash
+hash_below p = omega arith
 
 -- equal numbers make equal pixels
 pub same_pixel : (p q : RgbaPixel) → p.r ≡ q.r → p.g ≡ q.g → p.b ≡ q.b → p.a ≡ q.a → p ≡ q

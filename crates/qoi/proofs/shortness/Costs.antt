@@ -5,6 +5,7 @@ use Rattle.qoi.specs.declared.chunk.Chunk.TheVariants.{Diff, Luma}
 use Rattle.qoi.specs.Qoi.{RgbaPixel, Past, pixel_eq, previous, seen, hash, IsChunk, after_diff, after_luma}
 use Rattle.qoi.specs.Shortest.{some_below, some_diff, some_luma, some_rgb, least, trailing_repeats, cost, total_cost}
 use Rattle.qoi.proofs.format.SamePixels.{pixel_eq-from, pixel_eq-true, pixel_eq-ne}
+use Rattle.qoi.proofs.format.ChunkSteps.{previous_repeated}
 
 -- a number that passes shows that some does
 some_below-from : (n : ℕ) (test : ℕ → Bool) (d : ℕ) → d < n → test d ≡ true → some_below n test ≡ true
@@ -173,11 +174,6 @@ repeats_more past p e = cond-true (pixel_eq p (previous past)) _ _ (pixel_eq-fro
 -- after a fresh pixel there are none
 pub repeats_fresh : (past : Past) (p : RgbaPixel) → p ≢ previous past → trailing_repeats (p ∷ past) ≡ 0
 repeats_fresh past p n = cond-false (pixel_eq p (previous past)) _ _ (pixel_eq-ne p (previous past) n)
-
--- the pixel before is the same after repeats
-pub previous_repeated : (past : Past) (n : ℕ) → previous (replicate n (previous past) ++ past) ≡ previous past
-previous_repeated past zero = refl
-previous_repeated past (suc n) = refl
 
 -- the repeats of a run
 pub repeats_run : (past : Past) (n : ℕ) → trailing_repeats (replicate n (previous past) ++ past) ≡ n + trailing_repeats past

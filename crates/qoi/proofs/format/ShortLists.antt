@@ -1,0 +1,39 @@
+-- Lists whose length is known, by their members.
+use Rattle.std.proofs.Common.{◌≡◌, ◌≤◌, ℕ, List, [], ◌∷◌, length, arith, refl}
+
+-- there is no member
+pub no_member : (xs : List ℕ) → length xs ≡ 0 → xs ≡ []
+no_member [] e = refl
+no_member (x ∷ xs) e = absurd (omega arith)
+
+-- three members stand at the front
+pub record Three (xs : List ℕ) : Type 0 where
+  pub r : ℕ
+  pub g : ℕ
+  pub b : ℕ
+  pub rest : List ℕ
+  pub is : xs ≡ r ∷ g ∷ b ∷ rest
+
+-- four members stand at the front
+pub record Four (xs : List ℕ) : Type 0 where
+  pub r : ℕ
+  pub g : ℕ
+  pub b : ℕ
+  pub a : ℕ
+  pub rest : List ℕ
+  pub is : xs ≡ r ∷ g ∷ b ∷ a ∷ rest
+
+-- so it is where there are three or more
+pub three : (xs : List ℕ) → 3 ≤ length xs → Three xs
+three [] h = absurd (omega arith)
+three (r ∷ []) h = absurd (omega arith)
+three (r ∷ g ∷ []) h = absurd (omega arith)
+three (r ∷ g ∷ b ∷ rest) h = record { r = r; g = g; b = b; rest = rest; is = refl }
+
+-- so it is where there are four or more
+pub four : (xs : List ℕ) → 4 ≤ length xs → Four xs
+four [] h = absurd (omega arith)
+four (r ∷ []) h = absurd (omega arith)
+four (r ∷ g ∷ []) h = absurd (omega arith)
+four (r ∷ g ∷ b ∷ []) h = absurd (omega arith)
+four (r ∷ g ∷ b ∷ a ∷ rest) h = record { r = r; g = g; b = b; a = a; rest = rest; is = refl }
