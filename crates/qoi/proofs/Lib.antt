@@ -26,6 +26,7 @@ pub mod Spelled
 pub mod SpelledBytes
 pub mod TableNotes
 pub mod TakenBytes
+pub mod Unwritten
 pub mod Upper
 pub mod WrittenExists
 pub mod WrittenOnce

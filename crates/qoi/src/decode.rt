@@ -7,13 +7,14 @@ ghost use Rattle.qoi.specs.Bytes.{AreBytes};
 ghost use Rattle.qoi.specs.Chunks.{IsChunk, bytes_of, times, pixel_of, then_chunk};
 ghost use Rattle.qoi.specs.Output.{IsChannels, pixel_bytes};
 ghost use Rattle.qoi.specs.Filling.{HasFilled, HasSeen};
-ghost use Rattle.qoi.specs.Decoding.{EndsInChunk, ReadsPixels, StreamsPixels, RefusesTaken, RefusesTakenMarker, ReadsImage, ReadsHeader, RefusesMarker, RefusesBytes, RefusesImage, RefusesFile, RefusesWholeFile, DecodesFile, header_size, byte_count, file_byte_count};
+ghost use Rattle.qoi.specs.Decoding.{EndsInChunk, ReadsPixels, StreamsPixels, RefusesTaken, RefusesTakenMarker, ReadsImage, ReadsHeader, RefusesMarker, RefusesBytes, RefusesImage, RefusesFile, RefusesWholeFile, DecodesFile, header_size, byte_count, file_byte_count, HasImageLength};
 ghost use Rattle.qoi.specs.DecoderState.{image_byte_count, DecodesImage, RefusesDecoding};
-ghost use Rattle.qoi.specs.Headers.{header_of, pixel_count};
+ghost use Rattle.qoi.specs.Headers.{header_of, pixel_count, raw_byte_count};
 ghost use Rattle.qoi.specs.Verdicts.{IsPartOfChunk, IsWhole};
 ghost use Rattle.qoi.specs.declared.header.Header.{Header};
 ghost use Rattle.qoi.specs.declared.error.Error.{Error};
 ghost use Rattle.qoi.specs.Files.{IsFile, end_marker, file};
+ghost use Rattle.qoi.specs.Encoded.{IsFileOf};
 
 use crate::consts::{
     QOI_HEADER_SIZE, QOI_OP_DIFF, QOI_OP_INDEX, QOI_OP_LUMA, QOI_OP_RGB, QOI_OP_RGBA, QOI_OP_RUN,
@@ -474,6 +475,13 @@ pub fn decode_to_buf(buf: &mut [u8], data: &[u8]) -> Result<Header>
     ensures untouched { (e : Error) → header_of «data».now ≡ Err e → buf.new ≡ buf.old }
     ensures short { (h : Header) → header_of «data».now ≡ Ok h → length buf.old < file_byte_count h
         → (result ≡ Err (Error.OutputBufferTooSmall (length buf.old) (file_byte_count h))) × (buf.new ≡ buf.old) }
+    // The file of an image gives its header and its raw bytes, where the buffer is long enough; so it
+    // does where other bytes follow it.
+    ensures comes_back { (h : Header) (raw : List ℕ) → IsFileOf h raw «data».now
+        → length raw ≤ length buf.old → (result ≡ Ok h) × (take (length raw) buf.new ≡ raw) }
+    ensures followed { (h : Header) (raw bytes rest : List ℕ) → IsFileOf h raw bytes → «data».now ≡ bytes ++ rest
+        → length raw ≤ length buf.old → (result ≡ Ok h) × (take (length raw) buf.new ≡ raw) }
+    ensures room { IfOk result (λ h. raw_byte_count h ≤ length buf.old) }
 {
     let mut decoder = Decoder::new(data)?;
     decoder.decode_to_buf(buf)?;
@@ -482,15 +490,24 @@ pub fn decode_to_buf(buf: &mut [u8], data: &[u8]) -> Result<Header>
 
 /// Decodes a file into a vector, in the file's own channels, and answers its header too.
 ///
-/// The refusals are those of `Decoder::new` and then of its `decode_to_vec`.
+/// The refusals are those of `Decoder::new` and then of its `decode_to_vec`; so memory is asked for
+/// only where the header is good. The vector has `n_bytes` of the header.
 pub fn decode_to_vec(alloc: Global, data: &[u8]) -> Result<(Header, Vec<u8>)>
     ensures decoded { IfOk result (λ x. (rest : List ℕ) × DecodesFile «data».now x.0 rest x.1.items) }
-    ensures refused { IfErr result (λ e. (e ≡ Error.OutOfMemory) ⊎ RefusesWholeFile «data».now e) }
+    ensures length { IfOk result (λ x. HasImageLength (raw_byte_count x.0) x.1.items) }
+    ensures refused { IfErr result (λ e. RefusesWholeFile «data».now e
+        ⊎ ((e ≡ Error.OutOfMemory) × (h : Header) × (header_of «data».now ≡ Ok h))) }
     // Files are accepted, whatever follows them, unless memory runs out.
     ensures accepts { (h : Header) (cs : List Chunk) (rest : List ℕ) → IsFile h cs → «data».now ≡ file h cs ++ rest
         → IsOkUnless result Error.OutOfMemory }
+    // The file of an image gives its header and its raw bytes, unless memory runs out; so it does
+    // where other bytes follow it.
+    ensures comes_back { (h : Header) (raw : List ℕ) → IsFileOf h raw «data».now
+        → MatchResult result (λ x. (x.0 ≡ h) × (x.1.items ≡ raw)) (λ e. e ≡ Error.OutOfMemory) }
+    ensures followed { (h : Header) (raw bytes rest : List ℕ) → IsFileOf h raw bytes → «data».now ≡ bytes ++ rest
+        → MatchResult result (λ x. (x.0 ≡ h) × (x.1.items ≡ raw)) (λ e. e ≡ Error.OutOfMemory) }
 {
-    let mut decoder = Decoder::new(data)?;
+    let mut decoder = Decoder::<Bytes>::new(data)?;
     let out = decoder.decode_to_vec(alloc)?;
     Ok((*decoder.header(), out))
 }
@@ -597,15 +614,17 @@ impl<R: Reader> Decoder<R> {
         self
     }
 
-    /// A second decoder, at the same bytes, with the same header and channels.
+    /// A second decoder with the same header and channels, whose reader is a clone of this one's
+    /// reader. Where each clone of the reader equals it, as of a slice, the decoders are equal.
     ///
-    /// The caller's condition is that a clone of the reader equals it. `OutOfMemory` where the
-    /// reader's clone finds no memory.
+    /// `OutOfMemory` where the reader's clone finds no memory.
     pub fn clone(&self) -> Result<Decoder<R>>
     where
         R: Clone,
-        requires { (reader : _) → R.is_clone self.now.reader reader → reader ≡ self.now.reader }
-        ensures cloned { IfOk result (λ d. d ≡ self.now) }
+        ensures cloned { IfOk result (λ d. (d ≡ record self.now { reader = d.reader })
+            × R.is_clone self.now.reader d.reader) }
+        ensures equal { ((reader : _) → R.is_clone self.now.reader reader → reader ≡ self.now.reader)
+            → IfOk result (λ d. d ≡ self.now) }
         ensures refused { IfErr result (λ e. e ≡ Error.OutOfMemory) }
     {
         Ok(Decoder {
@@ -631,7 +650,8 @@ impl<R: Reader> Decoder<R> {
 
     /// How many bytes the decoded image has: pixels times channels of the output.
     pub fn required_buf_len(&self) -> usize
-        ensures { result ≡ image_byte_count self.now }
+        ensures bytes { result ≡ image_byte_count self.now }
+        ensures some { 3 ≤ result }
     {
         self.header.n_pixels() * self.channels.as_u8() as usize
     }
@@ -684,6 +704,7 @@ impl<R: Reader> Decoder<R> {
     /// `OutputBufferTooSmall`, with what they leave.
     pub fn decode_to_vec(&mut self, alloc: Global) -> Result<Vec<u8>>
         ensures decoded { IfOk result (λ out. DecodesImage R.ahead self.old self.new out.items) }
+        ensures length { IfOk result (λ out. HasImageLength (image_byte_count self.old) out.items) }
         ensures refused { IfErr result (λ e. (e ≡ Error.OutOfMemory) ⊎ RefusesDecoding R.in_memory R.ahead self.old self.new e) }
         ensures no_memory { IsErrOf result Error.OutOfMemory → self.new ≡ self.old }
         // From memory, bytes whose verdict is whole are accepted, unless memory runs out.

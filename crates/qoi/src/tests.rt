@@ -3,6 +3,7 @@
 mod channels;
 mod choices;
 mod chunks;
+mod clones;
 mod decoder;
 mod encoder;
 mod fakes;

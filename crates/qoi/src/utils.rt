@@ -1,6 +1,7 @@
 //! Where the encoder writes.
 ghost use Rattle.std.specs.Prelude.{◌≡◌, ℕ, ◌<◌, ◌≤◌, List, [], ◌∷◌, length, OnOk, IfErr};
 ghost use Rattle.qoi.specs.Writes.{WriterLaws, WroteSome};
+ghost use Rattle.qoi.specs.Errors.{IsIoError};
 ghost use Rattle.qoi.specs.Chunks.{IsChunk, bytes_of};
 
 use crate::consts::{QOI_OP_INDEX, QOI_OP_RGB, QOI_OP_RGBA, QOI_OP_RUN};
@@ -28,7 +29,7 @@ pub trait Writer: Sized {
     fn write_one(&mut self, v: u8) -> Result<()>
         requires { 0 < room self.old }
         ensures written { OnOk result (wrote self.old (v ∷ []) self.new) }
-        ensures refused { IfErr result (λ e. Refuses e × WroteSome wrote self.old (v ∷ []) self.new) };
+        ensures refused { IfErr result (λ e. Refuses e × wrote self.old [] self.new) };
 
     /// Writes all the bytes; after a refusal a beginning of them is written.
     fn write_many(&mut self, v: &[u8]) -> Result<()>
@@ -45,6 +46,7 @@ pub trait Writer: Sized {
 
 // Writes a chunk's bytes.
 #[inline(always)]
+#[tactic(auto, using(crate::proofs::Unwritten::nothing_written))]
 pub(crate) fn write_chunk<W: Writer>(buf: &mut W, chunk: Chunk) -> Result<()>
     requires chunk { IsChunk chunk }
     requires room { length (bytes_of chunk) ≤ W.room buf.old }
@@ -159,7 +161,6 @@ impl<'a, W: Write> GenericWriter<'a, W> {
 
 impl<'a, W: Write> Writer for GenericWriter<'a, W> {
     ghost use Rattle.qoi.specs.Stream.{StreamWrote, stream_room, stream_laws};
-    ghost use Rattle.qoi.specs.Errors.{IsIoError};
 
     ghost wrote = { StreamWrote W.contents };
 
@@ -169,8 +170,14 @@ impl<'a, W: Write> Writer for GenericWriter<'a, W> {
 
     ghost laws = { stream_laws W.contents };
 
+    /// Writes by one call of `write`. A write that takes no byte is a fault of kind `WriteZero`, and
+    /// an interruption is a fault.
     fn write_one(&mut self, v: u8) -> Result<()> {
-        Writer::write_many(self, &[v])
+        if self.writer.write(&[v])? == 0 {
+            return Err(no_byte_taken());
+        }
+        self.room -= 1;
+        Ok(())
     }
 
     /// Writes by `write`, again after each short write. A write that takes no byte is a fault of
@@ -180,10 +187,7 @@ impl<'a, W: Write> Writer for GenericWriter<'a, W> {
         while !rest.is_empty() {
             let count = self.writer.write(rest)?;
             if count == 0 {
-                return Err(Error::IoError(io::Error::new(
-                    ErrorKind::WriteZero,
-                    "the writer took no byte",
-                )));
+                return Err(no_byte_taken());
             }
             self.room -= count;
             rest = &rest[count..];
@@ -194,4 +198,11 @@ impl<'a, W: Write> Writer for GenericWriter<'a, W> {
     fn capacity(&self) -> usize {
         self.room
     }
+}
+
+// The fault of a write that took no byte.
+fn no_byte_taken() -> Error
+    ensures { IsIoError result }
+{
+    Error::IoError(io::Error::new(ErrorKind::WriteZero, "the writer took no byte"))
 }

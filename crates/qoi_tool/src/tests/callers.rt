@@ -8,7 +8,7 @@ ghost use Rattle.qoi.specs.Encoded.{IsFileOf};
 ghost use Rattle.qoi.specs.Decoding.{DecodesFile, ReadsHeader, ReadsImage, header_size};
 
 use crate::tests::ONE_RGB_PIXEL;
-use qoi::{Decoder, Encoder, Error, decode_to_vec};
+use qoi::{Decoder, Encoder, Error, decode_to_buf, decode_to_vec, encode_to_vec};
 use std::alloc::Global;
 use std::io::{Read, Write};
 use std::test::Fail;
@@ -71,6 +71,72 @@ pub fn two_images(alloc: Global, bytes: &[u8]) -> Result<(Vec<u8>, Vec<u8>), Err
     let first = decoder.decode_to_vec(alloc)?;
     let (_, second) = decode_to_vec(alloc, decoder.data())?;
     Ok((first, second))
+}
+
+/// There and back. The raw bytes of an image are encoded into a vector and decoded again, and are
+/// the same bytes.
+pub fn there_and_back(
+    alloc: Global,
+    raw: &[u8],
+    width: u32,
+    height: u32,
+) -> Result<Vec<u8>, Error>
+    ensures { IfOk result (λ back. back.items ≡ raw.now) }
+{
+    let file = encode_to_vec(alloc, raw, width, height)?;
+    let (_, back) = decode_to_vec(alloc, &file)?;
+    Ok(back)
+}
+
+/// A writer and a vector. What went to the writer is what the vector holds.
+pub fn send_and_keep<W: Write>(
+    alloc: Global,
+    raw: &[u8],
+    width: u32,
+    height: u32,
+    out: &mut W,
+) -> Result<Vec<u8>, Error>
+    ensures { IfOk result (λ kept. Appends (W.contents out.old) (W.contents out.new) kept.items) }
+{
+    let encoder = Encoder::new(raw, width, height)?;
+    let kept = encoder.encode_to_vec(alloc)?;
+    encoder.encode_to_stream(out)?;
+    Ok(kept)
+}
+
+/// Lengths of vectors. A decoded image has the bytes that its header says, and at least one pixel.
+pub fn first_byte(alloc: Global, file: &[u8]) -> Result<u8, Error> {
+    let (header, pixels) = decode_to_vec(alloc, file)?;
+    let whole = pixels.len() == header.n_bytes();
+    prove!(whole);
+    Ok(pixels[0])
+}
+
+/// Lengths in buffers. The part of the buffer that an image was decoded into.
+pub fn decoded_part<'a>(buf: &'a mut [u8], file: &[u8]) -> Result<&'a [u8], Error> {
+    let header = decode_to_buf(buf, file)?;
+    Ok(&buf[..header.n_bytes()])
+}
+
+/// All files of a slice. The raw bytes of the images of files that stand one behind the other, until
+/// the slice is empty or a file is refused.
+pub fn all_images(
+    alloc: Global,
+    bytes: &[u8],
+    images: &mut Vec<Vec<u8>>,
+) -> Result<(), Error> {
+    let mut rest = bytes;
+    for _ in 0..bytes.len() {
+        if rest.is_empty() {
+            break;
+        }
+        let mut decoder = Decoder::new(rest)?;
+        images.push(decoder.decode_to_vec(alloc)?)?;
+        // `data` borrows from the decoder: what goes on to the next turn is its length.
+        let left = decoder.data().len();
+        rest = &rest[rest.len() - left..];
+    }
+    Ok(())
 }
 
 #[test]
