@@ -40,7 +40,7 @@ pub type Rgba = [u8; 4];
 pub const START: Rgba = [0, 0, 0, 255];
 
 // The six kinds of pixel.
-#[derive(Clone, Copy, PartialEq, Eq, Debug)]
+#[derive(Clone, Copy)]
 enum Kind {
     New,
     Seen,
@@ -156,7 +156,7 @@ pub fn image(
             again -= 1;
         } else {
             let kind = shares.kind(numbers);
-            if kind == Kind::Repeat && numbers.below(4) == 0 {
+            if matches!(kind, Kind::Repeat) && numbers.below(4) == 0 {
                 again = numbers.below(200);
             }
             px = pixel(numbers, kind, &seen, last);

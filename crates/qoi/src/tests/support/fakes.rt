@@ -6,7 +6,7 @@ use std::io;
 use std::io::{ErrorKind, Read, Write};
 
 /// How a bad call ends.
-#[derive(Clone, Copy, PartialEq, Eq, Debug)]
+#[derive(Clone, Copy)]
 pub enum End {
     /// A fault of the device.
     Fault,
@@ -15,6 +15,19 @@ pub enum End {
     /// No byte, and no error.
     NoByte,
 }
+
+/// Which call is the bad one, counted from 1 (0: none), and how it ends.
+#[derive(Clone, Copy)]
+pub struct Bad {
+    pub call: usize,
+    pub end: End,
+}
+
+/// No bad call.
+pub const NONE: Bad = Bad {
+    call: 0,
+    end: End::Fault,
+};
 
 // What a bad call answers.
 fn ended(end: End) -> io::Result<usize>
@@ -30,22 +43,21 @@ fn ended(end: End) -> io::Result<usize>
 /// Gives its bytes, at most so many a call.
 #[derive(Drop)]
 pub struct Source<'a> {
-    /// What it hasn't given yet.
+    /// The bytes that are left.
     pub left: &'a [u8],
     most: usize,
-    bad_call: usize,
-    end: End,
-    calls: usize,
+    bad: Bad,
+    /// How many calls there were.
+    pub calls: usize,
 }
 
 impl<'a> Source<'a> {
-    /// A reader of these bytes whose call of this number, counted from 1, ends so; none does at 0.
-    pub fn new(left: &'a [u8], most: usize, bad_call: usize, end: End) -> Source<'a> {
+    /// A reader of these bytes.
+    pub fn new(left: &'a [u8], most: usize, bad: Bad) -> Source<'a> {
         Source {
             left,
             most,
-            bad_call,
-            end,
+            bad,
             calls: 0,
         }
     }
@@ -54,8 +66,8 @@ impl<'a> Source<'a> {
 impl<'a> Read for Source<'a> {
     fn read(&mut self, buf: &mut [u8]) -> io::Result<usize> {
         self.calls = self.calls.saturating_add(1);
-        if self.calls == self.bad_call {
-            return ended(self.end);
+        if self.calls == self.bad.call {
+            return ended(self.bad.end);
         }
         let n = buf.len().min(self.left.len()).min(self.most);
         buf[..n].copy_from_slice(&self.left[..n]);
@@ -70,21 +82,18 @@ pub struct Sink {
     /// The bytes that were taken.
     pub got: Vec<u8>,
     most: usize,
-    bad_call: usize,
-    end: End,
+    bad: Bad,
     /// How many calls there were, of `flush` too.
     pub calls: usize,
 }
 
 impl Sink {
-    /// A writer with memory for a hundred bytes, whose call of this number, counted from 1, ends so;
-    /// none does at 0.
-    pub fn new(alloc: Global, most: usize, bad_call: usize, end: End) -> crate::Result<Sink> {
+    /// A writer that has room for a hundred bytes before it takes memory.
+    pub fn new(alloc: Global, most: usize, bad: Bad) -> crate::Result<Sink> {
         Ok(Sink {
             got: Vec::with_capacity(alloc, 100)?,
             most,
-            bad_call,
-            end,
+            bad,
             calls: 0,
         })
     }
@@ -93,8 +102,8 @@ impl Sink {
 impl Write for Sink {
     fn write(&mut self, buf: &[u8]) -> io::Result<usize> {
         self.calls = self.calls.saturating_add(1);
-        if self.calls == self.bad_call {
-            return ended(self.end);
+        if self.calls == self.bad.call {
+            return ended(self.bad.end);
         }
         let n = buf.len().min(self.most);
         match self.got.extend_from_slice(&buf[..n]) {
