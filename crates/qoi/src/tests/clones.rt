@@ -1,43 +1,11 @@
 //! Clones of decoders, and how many calls and bytes a decoder asks of its reader.
-use crate::tests::files::ONE_RGB_PIXEL;
+use crate::tests::support::fakes::{Bad, End, NONE, Source};
+use crate::tests::support::files::ONE_RGB_PIXEL;
 use crate::{Channels, Decoder, Error};
 use std::alloc::Global;
-use std::io;
-use std::io::{BufReader, Cursor, ErrorKind, Read};
+use std::io::{BufReader, Cursor, Read};
 use std::process::Abort;
 use std::test::Fail;
-
-// A reader that can be cloned: it gives a byte a call, and its call of this number fails.
-#[derive(Clone, Drop)]
-struct Steps<'a> {
-    left: &'a [u8],
-    bad_call: usize,
-    calls: usize,
-}
-
-impl<'a> Steps<'a> {
-    // A reader of these bytes; no call fails at 0.
-    fn new(left: &'a [u8], bad_call: usize) -> Steps<'a> {
-        Steps {
-            left,
-            bad_call,
-            calls: 0,
-        }
-    }
-}
-
-impl<'a> Read for Steps<'a> {
-    fn read(&mut self, buf: &mut [u8]) -> io::Result<usize> {
-        self.calls = self.calls.saturating_add(1);
-        if self.calls == self.bad_call {
-            return Err(io::Error::from(ErrorKind::BrokenPipe));
-        }
-        let n = buf.len().min(self.left.len()).min(1);
-        buf[..n].copy_from_slice(&self.left[..n]);
-        self.left = &self.left[n..];
-        Ok(n)
-    }
-}
 
 // A decoder and its clone decode the same image, each by itself.
 fn assert_clones<R: Read + Drop + Clone>(
@@ -61,7 +29,7 @@ fn clones_over_many_readers(rt: HostRuntime) -> Result<(), Fail> {
     let file = Vec::from_slice(alloc, &ONE_RGB_PIXEL)?;
     assert_clones(&rt, alloc, ONE_RGB_PIXEL.as_slice())?;
     assert_clones(&rt, alloc, Cursor::new(file.clone()?))?;
-    assert_clones(&rt, alloc, Steps::new(&ONE_RGB_PIXEL, 0))?;
+    assert_clones(&rt, alloc, Source::new(&ONE_RGB_PIXEL, 1, NONE))?;
     Ok(())
 }
 
@@ -69,7 +37,7 @@ fn clones_over_many_readers(rt: HostRuntime) -> Result<(), Fail> {
 #[test]
 fn a_buffering_reader(rt: HostRuntime) -> Result<(), Fail> {
     let alloc = rt.alloc();
-    let reader = BufReader::with_capacity(alloc, 5, Steps::new(&ONE_RGB_PIXEL, 0))?;
+    let reader = BufReader::with_capacity(alloc, 5, Source::new(&ONE_RGB_PIXEL, 1, NONE))?;
     let mut decoder = Decoder::from_stream(reader)?;
     let pixels = [0x0b, 0x79, 0xe7];
     assert_eq!(rt; decoder.decode_to_vec(alloc)?.as_slice(), pixels.as_slice());
@@ -78,13 +46,13 @@ fn a_buffering_reader(rt: HostRuntime) -> Result<(), Fail> {
 
 #[test]
 fn a_header_takes_fourteen_bytes(rt: HostRuntime) -> Result<(), Fail> {
-    let mut reader = Steps::new(&ONE_RGB_PIXEL, 0);
+    let mut reader = Source::new(&ONE_RGB_PIXEL, 1, NONE);
     let decoder = Decoder::from_stream(&mut reader)?;
     assert_eq!(rt; decoder.into_reader().left, &ONE_RGB_PIXEL[14..]);
 
     let mut refused = ONE_RGB_PIXEL;
     refused[12] = 5;
-    let mut reader = Steps::new(&refused, 0);
+    let mut reader = Source::new(&refused, 1, NONE);
     let is_refused = matches!(
         Decoder::from_stream(&mut reader),
         Err(Error::InvalidChannels { channels: 5 })
@@ -96,7 +64,7 @@ fn a_header_takes_fourteen_bytes(rt: HostRuntime) -> Result<(), Fail> {
 }
 
 // Decodes an image by a reader that is lent.
-fn decode_by(alloc: Global, reader: &mut Steps<'_>) -> crate::Result<()> {
+fn decode_by(alloc: Global, reader: &mut Source<'_>) -> crate::Result<()> {
     Decoder::from_stream(reader)?.decode_to_vec(alloc)?;
     Ok(())
 }
@@ -105,7 +73,14 @@ fn decode_by(alloc: Global, reader: &mut Steps<'_>) -> crate::Result<()> {
 #[test]
 fn a_fault_is_the_last_call(rt: HostRuntime) {
     for call in 1..=26usize {
-        let mut reader = Steps::new(&ONE_RGB_PIXEL, call);
+        let mut reader = Source::new(
+            &ONE_RGB_PIXEL,
+            1,
+            Bad {
+                call,
+                end: End::Fault,
+            },
+        );
         assert!(rt; matches!(decode_by(rt.alloc(), &mut reader), Err(Error::IoError(_))));
         assert_eq!(rt; reader.calls, call);
     }

@@ -41,7 +41,7 @@ fn ended(end: End) -> io::Result<usize>
 }
 
 /// Gives its bytes, at most so many a call.
-#[derive(Drop)]
+#[derive(Clone, Drop)]
 pub struct Source<'a> {
     /// The bytes that are left.
     pub left: &'a [u8],
