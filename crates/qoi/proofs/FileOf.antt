@@ -1,16 +1,17 @@
 -- The file of an image: what holds of it.
-use Rattle.std.proofs.Common.{◌≡◌, ℕ, ◌+◌, ◌*◌, ◌^◌, ◌≤◌, List, [], ◌++◌, length, take, min, slice_set, ◌-◌, refl, sym, ap, ◌∙◌, subst, arith, append-nil, length-append}
+use Rattle.std.proofs.Common.{◌≡◌, ℕ, ◌+◌, ◌*◌, ◌^◌, ◌<◌, ◌≤◌, List, [], ◌∷◌, ◌++◌, length, take, min, slice_set, ◌-◌, refl, sym, ap, ◌∙◌, subst, arith, append-nil, length-append}
 use Rattle.std.proofs.Math.Nat.{mul_comm}
 use Rattle.qoi.specs.declared.types.Channels.{Channels}
 use Rattle.qoi.specs.declared.types.Channels.TheVariants.{Rgb, Rgba}
 use Rattle.qoi.specs.declared.types.ColorSpace.{ColorSpace}
 use Rattle.qoi.specs.declared.header.Header.{Header}
 use Rattle.qoi.specs.declared.chunk.Chunk.{Chunk}
-use Rattle.qoi.specs.Qoi.{channels_number, colorspace_number, head, pixel_count, IsValid, AreBytes, text, Reaches, file, file_pixels, end_marker, IsFile}
+use Rattle.qoi.specs.Qoi.{channels_number, colorspace_number, head, pixel_count, IsValid, AreBytes, bytes_of, text, Reaches, meaning, file, file_pixels, end_marker, IsFile}
 use Rattle.qoi.specs.Raw.{IsChannels, output, HasChannels}
 use Rattle.qoi.specs.Written.{IsChoice, Written}
 use Rattle.qoi.specs.Decoding.{file_byte_count, DecodesFile}
 use Rattle.qoi.specs.Encoded.{max_file_len, image_pixels, IsNearShortest, IsFileOf}
+use Rattle.qoi.proofs.format.Appended.{length-bytes_of}
 use Rattle.qoi.proofs.decoding.FilledBuffer.{take_whole}
 use Rattle.qoi.proofs.decoding.ImageSize.{channels_are}
 use Rattle.qoi.proofs.decoding.OneFile.{decodes_file}
@@ -23,6 +24,7 @@ use Rattle.qoi.proofs.encoding.WrittenOnce.{written_unique}
 use Rattle.qoi.proofs.encoding.WrittenShape.{reaches_by, apart_by, written_fits_lem}
 use Rattle.qoi.proofs.shortness.RegularLists.{written_regular, no_blank_regular}
 use Rattle.qoi.proofs.shortness.Lower.{lower}
+use Rattle.qoi.proofs.shortness.SlackSteps.{slack_most, slack_opens}
 use Rattle.qoi.proofs.shortness.Upper.{upper}
 
 -- the bytes of a file are the header's, the chunks' and the end marker's
@@ -36,6 +38,16 @@ max_is_exact h valid = exact h.channels (pixel_count h) valid.1
     exact : (c : Channels) (n : ℕ) → n ≤ 400000000 → min (14 + n * channels_number c + n + 8) (2 ^ 64 - 1) ≡ n * channels_number c + n + 22
     exact Rgb n l = omega arith
     exact Rgba n l = omega arith
+
+-- at most four channels
+four_channels : (c : Channels) → channels_number c ≤ 4
+four_channels Rgb = omega arith
+four_channels Rgba = omega arith
+
+-- a list that means a pixel has a byte
+text_some : (cs : List Chunk) → 0 < length (meaning cs) → 0 < length (text cs)
+text_some [] none = none
+text_some (c ∷ cs) some = omega (arith, length-append (bytes_of c) (text cs), length-bytes_of c)
 
 -- another color space changes the fourteenth byte alone
 other_space : (h : Header) (space : ColorSpace) (cs : List Chunk) → file (record h { colorspace = space }) cs ≡ slice_set (file h cs) 13 (colorspace_number space)
@@ -59,6 +71,10 @@ module _ (h : Header) (raw : List ℕ) (valid : IsValid h) (size : length raw �
   pub text_fits : (cs : List Chunk) → Written (image_pixels h raw) cs → length (text cs) ≤ pixel_count h * channels_number h.channels + pixel_count h
   text_fits cs w = written_fits_lem (image_pixels h raw) (channels_number h.channels) (pixel_count h) cs has count w
 
+  -- they have a byte
+  text_long : (cs : List Chunk) → Written (image_pixels h raw) cs → 0 < length (text cs)
+  text_long cs w = text_some cs (omega (arith, count, ap length w.means, valid.0))
+
   -- they are those of a file
   is_file : (cs : List Chunk) → Written (image_pixels h raw) cs → IsFile h cs
   is_file cs w = record { valid = valid; chunks = w.chunks; reaches = reaches_by IsChoice (image_pixels h raw) (pixel_count h) cs w count }
@@ -81,15 +97,20 @@ module _ (h : Header) (raw : List ℕ) (valid : IsValid h) (size : length raw �
         floor_is_below = λ others s regular. lower image others s.chunks regular s.begins;
         near_floor = omega arith;
         near_others = λ others s regular. omega (arith, lower image others s.chunks regular s.begins, length-file h others);
+        four_at_most = λ others s regular. omega (arith, lower image others s.chunks regular s.begins, length-file h others, slack_most image (channels_number h.channels), four_channels h.channels);
+        none_shorter = λ other others s regular. omega (arith, lower image others s.chunks regular s.begins, length-file h others, slack_opens image (channels_number h.channels) other);
         all_regular = λ no_blank others s. no_blank_regular image others (subst (λ n. Reaches n others) (sym count) s.reaches) s.begins no_blank;
       }
 
   -- all of it
   pub file_of : (cs : List Chunk) → Written (image_pixels h raw) cs → IsFileOf h raw (file h cs)
   file_of cs w = record {
+    valid = valid;
+    size = size;
     encoded = record { cs = cs; written = w; bytes_are = refl };
     only = λ others e. e.bytes_are ∙ ap (file h) (written_unique (image_pixels h raw) e.cs cs e.written w);
     fits = omega (arith, text_fits cs w, length-file h cs, max_is_exact h valid);
+    long = omega (arith, text_long cs w, length-file h cs);
     comes_back = λ rest. back cs rest w;
     color_space = λ space others e. e.bytes_are ∙ ap (file (record h { colorspace = space })) (written_unique (image_pixels h raw) e.cs cs e.written w) ∙ other_space h space cs;
     near_shortest = near cs w;

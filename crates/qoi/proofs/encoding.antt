@@ -9,6 +9,7 @@ pub mod NotedPixels
 pub mod Spelled
 pub mod SpelledBytes
 pub mod TableNotes
+pub mod Unwritten
 pub mod WrittenExists
 pub mod WrittenOnce
 pub mod WrittenShape

@@ -5,7 +5,7 @@ use Rattle.qoi.specs.declared.error.Error.{Error}
 use Rattle.qoi.specs.declared.error.Error.TheVariants.{OutputBufferTooSmall, UnexpectedBufferEnd, InvalidPadding, IoError}
 use Rattle.qoi.specs.declared.header.Header.{Header}
 use Rattle.qoi.specs.declared.chunk.Chunk.{Chunk}
-use Rattle.qoi.specs.Qoi.{header_size, AreChunks, text, Reaches, meaning, IsFile, end_marker, file, file_pixels, channels_number, header_of, pixel_count}
+use Rattle.qoi.specs.Qoi.{header_size, AreChunks, text, Reaches, meaning, IsFile, end_marker, file, file_pixels, channels_number, head, header_of, pixel_count, IsValid}
 use Rattle.qoi.specs.Raw.{output}
 use Rattle.qoi.specs.Verdicts.{IsPartOfChunk, Takes, IsWhole, IsCut, IsWrong}
 
@@ -79,10 +79,11 @@ abbrev pub RefusesHeader : List ℕ → Error → Type 0
 RefusesHeader taken (IoError e) = length taken < header_size
 RefusesHeader taken e = (length taken ≡ header_size) × (header_of taken ≡ Err e)
 
--- What reading a header answers and takes: fourteen bytes with the verdict on them. In memory a refusal takes
--- nothing, and is the verdict on the bytes ahead.
+-- What reading a header answers and takes: the fourteen bytes of a valid header, or a refusal, which is the verdict
+-- on the bytes. In memory a refusal takes nothing, and is the verdict on the bytes ahead.
 abbrev pub ReadsHeader : Bool → Option (List ℕ) → Option (List ℕ) → Result Header Error → Type 0
 ReadsHeader in_memory old new (Ok h) = (taken : List ℕ) × Consumes old new taken × (length taken ≡ header_size) × (header_of taken ≡ Ok h)
+    × (taken ≡ head h) × IsValid h
 ReadsHeader true old new (Err e) = Keeps old new × IfSome old (λ bytes. header_of bytes ≡ Err e)
 ReadsHeader false old new (Err e) = (taken : List ℕ) × Consumes old new taken × RefusesHeader taken e
 
@@ -93,6 +94,10 @@ byte_count h channels = pixel_count h * channels
 -- how many bytes a file's image has in its own channels
 abbrev pub file_byte_count : Header → ℕ
 file_byte_count h = byte_count h (channels_number h.channels)
+
+-- an image's bytes are so many, and at least those of one pixel
+abbrev pub HasImageLength : ℕ → List ℕ → Type 0
+HasImageLength n bytes = (length bytes ≡ n) × (3 ≤ length bytes)
 
 -- The bytes are a file with this header and then the rest, and these are its pixels in the file's channels. The
 -- bytes begin with no other file, so what follows never changes the reading.

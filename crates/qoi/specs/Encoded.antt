@@ -10,12 +10,12 @@ use Rattle.qoi.specs.declared.types.ColorSpace.TheVariants.{Srgb}
 use Rattle.qoi.specs.declared.header.Header.{Header}
 use Rattle.qoi.specs.declared.chunk.Chunk.{Chunk}
 use Rattle.qoi.specs.declared.chunk.Chunk.TheVariants.{Place}
-use Rattle.qoi.specs.Qoi.{channels_number, channels_of, colorspace_number, pixel_count, tried_header, RgbaPixel, blank, AreChunks, text, Reaches, meaning, file}
+use Rattle.qoi.specs.Qoi.{channels_number, channels_of, colorspace_number, pixel_count, tried_header, IsValid, RgbaPixel, blank, start, AreChunks, text, Reaches, meaning, file}
 use Rattle.qoi.specs.Raw.{pixels_of}
 use Rattle.qoi.specs.Written.{Written}
 use Rattle.qoi.specs.Regular.{Regular, Begins}
 use Rattle.qoi.specs.Shortest.{floor, slack}
-use Rattle.qoi.specs.Decoding.{DecodesFile}
+use Rattle.qoi.specs.Decoding.{DecodesFile, file_byte_count}
 
 -- the most bytes that the file of an image of this size has, or the greatest usize if that is less
 abbrev pub max_len : ℕ → ℕ → ℕ → ℕ
@@ -24,6 +24,10 @@ max_len width height channels = min (14 + width * height * channels + width * he
 -- the same for the image of a header
 abbrev pub max_file_len : Header → ℕ
 max_file_len h = max_len h.width h.height (channels_number h.channels)
+
+-- a length that a file with this header can have: header, a byte and end marker at least, and the greatest length at most
+abbrev pub IsFileLength : Header → ℕ → Type 0
+IsFileLength h n = (23 ≤ n) × (n ≤ max_file_len h)
 
 -- a header with these channels, or their refusal
 abbrev pub with_number : Header → Result Channels Error → Result Header Error
@@ -58,6 +62,10 @@ pub record Spans (h : Header) (raw : List ℕ) (cs : List Chunk) : Type 0 where
   pub reaches : Reaches (pixel_count h) cs
   pub begins : Begins (meaning cs) (image_pixels h raw)
 
+-- the first pixel is opaque black
+abbrev pub OpensBlack : List RgbaPixel → Type 0
+OpensBlack image = (rest : List RgbaPixel) × (image ≡ start ∷ rest)
+
 -- How short the file is. No regular chunk list of the image has fewer bytes than the floor; the file's list
 -- has at most the floor's bytes and the slack's. Where no pixel is transparent black, each list is regular.
 pub record IsNearShortest (h : Header) (raw bytes : List ℕ) : Type 0 where
@@ -65,13 +73,21 @@ pub record IsNearShortest (h : Header) (raw bytes : List ℕ) : Type 0 where
   pub near_floor : length bytes ≤ 22 + floor (image_pixels h raw) + slack (image_pixels h raw) (channels_number h.channels)
   pub near_others : (others : List Chunk) → Spans h raw others → Regular others
       → length bytes ≤ length (file h others) + slack (image_pixels h raw) (channels_number h.channels)
+  -- no regular list is over four bytes shorter, and none is shorter at all unless the image opens opaque black
+  pub four_at_most : (others : List Chunk) → Spans h raw others → Regular others → length bytes ≤ length (file h others) + 4
+  pub none_shorter : (OpensBlack (image_pixels h raw) → ⊥) → (others : List Chunk) → Spans h raw others → Regular others
+      → length bytes ≤ length (file h others)
   pub all_regular : AllByRecursion (λ p. p ≢ blank) (image_pixels h raw) → (others : List Chunk) → Spans h raw others → Regular others
 
--- The file of the image: there is one, it comes back whatever follows it, and it is near the shortest.
+-- The file of the image, which has a valid header and as many raw bytes as it says: there is one file, it comes back
+-- whatever follows it, and it is near the shortest.
 pub record IsFileOf (h : Header) (raw bytes : List ℕ) : Type 0 where
+  pub valid : IsValid h
+  pub size : length raw ≡ file_byte_count h
   pub encoded : IsEncoded h raw bytes
   pub only : (others : List ℕ) → IsEncoded h raw others → others ≡ bytes
   pub fits : length bytes ≤ max_file_len h
+  pub long : 23 ≤ length bytes
   pub comes_back : (rest : List ℕ) → DecodesFile (bytes ++ rest) h rest raw
   pub color_space : (space : ColorSpace) (others : List ℕ) → IsEncoded (record h { colorspace = space }) raw others → others ≡ slice_set bytes 13 (colorspace_number space)
   pub near_shortest : IsNearShortest h raw bytes

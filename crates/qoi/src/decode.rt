@@ -1,11 +1,12 @@
 //! Decoding, from slices and from streams.
-ghost use Rattle.std.specs.Prelude.{◌≡◌, ℕ, ◌<◌, ◌≤◌, List, ◌++◌, length, take, drop, Option, Some, IfOk, IfErr, IsOk, IsErrOf, IsOkUnless, ◌⊎◌, true, false, Ok, Err};
+ghost use Rattle.std.specs.Prelude.{◌≡◌, ℕ, ◌<◌, ◌≤◌, List, ◌++◌, length, take, drop, Option, Some, MatchResult, IfOk, IfErr, IsOk, IsErrOf, IsOkUnless, ◌⊎◌, true, false, Ok, Err};
 ghost use Rattle.qoi.specs.declared.chunk.Chunk.{Chunk};
 ghost use Rattle.qoi.specs.declared.header.Header.{Header};
 ghost use Rattle.qoi.specs.declared.error.Error.{Error};
-ghost use Rattle.qoi.specs.Qoi.{header_of, pixel_count, IsFile, file, header_size};
+ghost use Rattle.qoi.specs.Qoi.{header_of, pixel_count, raw_byte_count, IsFile, file, header_size};
 ghost use Rattle.qoi.specs.Verdicts.{IsWhole};
-ghost use Rattle.qoi.specs.Decoding.{ReadsHeader, RefusesFile, RefusesWholeFile, DecodesFile, file_byte_count};
+ghost use Rattle.qoi.specs.Decoding.{ReadsHeader, RefusesFile, RefusesWholeFile, DecodesFile, file_byte_count, HasImageLength};
+ghost use Rattle.qoi.specs.Encoded.{IsFileOf};
 ghost use Rattle.qoi.specs.DecoderState.{image_byte_count, DecodesImage, RefusesDecoding};
 
 mod pixels;
@@ -49,6 +50,13 @@ pub fn decode_to_buf(buf: &mut [u8], data: &[u8]) -> Result<Header>
     ensures untouched { (e : Error) → header_of «data».now ≡ Err e → buf.new ≡ buf.old }
     ensures short { (h : Header) → header_of «data».now ≡ Ok h → length buf.old < file_byte_count h
         → (result ≡ Err (Error.OutputBufferTooSmall (length buf.old) (file_byte_count h))) × (buf.new ≡ buf.old) }
+    // The file of an image gives its header and its raw bytes, where the buffer is long enough; so it
+    // does where other bytes follow it.
+    ensures comes_back { (h : Header) (raw : List ℕ) → IsFileOf h raw «data».now
+        → length raw ≤ length buf.old → (result ≡ Ok h) × (take (length raw) buf.new ≡ raw) }
+    ensures followed { (h : Header) (raw bytes rest : List ℕ) → IsFileOf h raw bytes → «data».now ≡ bytes ++ rest
+        → length raw ≤ length buf.old → (result ≡ Ok h) × (take (length raw) buf.new ≡ raw) }
+    ensures room { IfOk result (λ h. raw_byte_count h ≤ length buf.old) }
 {
     let mut decoder = Decoder::new(data)?;
     decoder.decode_to_buf(buf)?;
@@ -57,15 +65,24 @@ pub fn decode_to_buf(buf: &mut [u8], data: &[u8]) -> Result<Header>
 
 /// Decodes a file into a vector, in the file's own channels, and answers its header too.
 ///
-/// The refusals are those of `Decoder::new` and then of its `decode_to_vec`.
+/// The refusals are those of `Decoder::new` and then of its `decode_to_vec`; so memory is asked for
+/// only where the header is good. The vector has `n_bytes` of the header.
 pub fn decode_to_vec(alloc: Global, data: &[u8]) -> Result<(Header, Vec<u8>)>
     ensures decoded { IfOk result (λ x. (rest : List ℕ) × DecodesFile «data».now x.0 rest x.1.items) }
-    ensures refused { IfErr result (λ e. (e ≡ Error.OutOfMemory) ⊎ RefusesWholeFile «data».now e) }
+    ensures length { IfOk result (λ x. HasImageLength (raw_byte_count x.0) x.1.items) }
+    ensures refused { IfErr result (λ e. RefusesWholeFile «data».now e
+        ⊎ ((e ≡ Error.OutOfMemory) × (h : Header) × (header_of «data».now ≡ Ok h))) }
     // Files are accepted, whatever follows them, unless memory runs out.
     ensures accepts { (h : Header) (cs : List Chunk) (rest : List ℕ) → IsFile h cs → «data».now ≡ file h cs ++ rest
         → IsOkUnless result Error.OutOfMemory }
+    // The file of an image gives its header and its raw bytes, unless memory runs out; so it does
+    // where other bytes follow it.
+    ensures comes_back { (h : Header) (raw : List ℕ) → IsFileOf h raw «data».now
+        → MatchResult result (λ x. (x.0 ≡ h) × (x.1.items ≡ raw)) (λ e. e ≡ Error.OutOfMemory) }
+    ensures followed { (h : Header) (raw bytes rest : List ℕ) → IsFileOf h raw bytes → «data».now ≡ bytes ++ rest
+        → MatchResult result (λ x. (x.0 ≡ h) × (x.1.items ≡ raw)) (λ e. e ≡ Error.OutOfMemory) }
 {
-    let mut decoder = Decoder::new(data)?;
+    let mut decoder = Decoder::<Bytes>::new(data)?;
     let out = decoder.decode_to_vec(alloc)?;
     Ok((*decoder.header(), out))
 }
@@ -172,15 +189,17 @@ impl<R: Reader> Decoder<R> {
         self
     }
 
-    /// A second decoder, at the same bytes, with the same header and channels.
+    /// A second decoder with the same header and channels, whose reader is a clone of this one's
+    /// reader. Where each clone of the reader equals it, as of a slice, the decoders are equal.
     ///
-    /// The caller's condition is that a clone of the reader equals it. `OutOfMemory` where the
-    /// reader's clone finds no memory.
+    /// `OutOfMemory` where the reader's clone finds no memory.
     pub fn clone(&self) -> Result<Decoder<R>>
     where
         R: Clone,
-        requires { (reader : _) → R.is_clone self.now.reader reader → reader ≡ self.now.reader }
-        ensures cloned { IfOk result (λ d. d ≡ self.now) }
+        ensures cloned { IfOk result (λ d. (d ≡ record self.now { reader = d.reader })
+            × R.is_clone self.now.reader d.reader) }
+        ensures equal { ((reader : _) → R.is_clone self.now.reader reader → reader ≡ self.now.reader)
+            → IfOk result (λ d. d ≡ self.now) }
         ensures refused { IfErr result (λ e. e ≡ Error.OutOfMemory) }
     {
         Ok(Decoder {
@@ -206,7 +225,8 @@ impl<R: Reader> Decoder<R> {
 
     /// How many bytes the decoded image has: pixels times channels of the output.
     pub fn required_buf_len(&self) -> usize
-        ensures { result ≡ image_byte_count self.now }
+        ensures bytes { result ≡ image_byte_count self.now }
+        ensures some { 3 ≤ result }
     {
         self.header.n_pixels() * self.channels.as_u8() as usize
     }
@@ -259,6 +279,7 @@ impl<R: Reader> Decoder<R> {
     /// `OutputBufferTooSmall`, with what they leave.
     pub fn decode_to_vec(&mut self, alloc: Global) -> Result<Vec<u8>>
         ensures decoded { IfOk result (λ out. DecodesImage R.ahead self.old self.new out.items) }
+        ensures length { IfOk result (λ out. HasImageLength (image_byte_count self.old) out.items) }
         ensures refused { IfErr result (λ e. (e ≡ Error.OutOfMemory) ⊎ RefusesDecoding R.in_memory R.ahead self.old self.new e) }
         ensures no_memory { IsErrOf result Error.OutOfMemory → self.new ≡ self.old }
         // From memory, bytes whose verdict is whole are accepted, unless memory runs out.

@@ -5,7 +5,7 @@ ghost use Rattle.qoi.specs.declared.header.Header.{Header};
 ghost use Rattle.qoi.specs.declared.error.Error.{Error};
 ghost use Rattle.qoi.specs.Qoi.{channels_number, IsValid, RgbaPixel, Past, IsPixel, rgba, previous, IsChunk, bytes_of, text};
 ghost use Rattle.qoi.specs.Decoding.{file_byte_count};
-ghost use Rattle.qoi.specs.Encoded.{max_len, max_file_len, image_header, IsFileOf};
+ghost use Rattle.qoi.specs.Encoded.{max_len, max_file_len, image_header, IsFileLength, IsFileOf};
 ghost use Rattle.qoi.specs.Errors.{IsIoError};
 ghost use Rattle.qoi.specs.writers.Writes.{AppendsBeginning, WroteSome};
 ghost use Rattle.qoi.specs.declared.chunk.Chunk.{Chunk};
@@ -220,6 +220,7 @@ pub fn encode_to_buf(buf: &mut [u8], data: &[u8], width: u32, height: u32) -> Re
     ensures encoded { (h : Header) → image_header «data».now width height ≡ Ok h → max_file_len h ≤ length buf.old
         → IsOkAnd result (λ n. (bytes : List ℕ) × IsFileOf h «data».now bytes × (n ≡ length bytes)
         × (buf.new ≡ bytes ++ drop n buf.old)) }
+    ensures length { (h : Header) → image_header «data».now width height ≡ Ok h → IfOk result (IsFileLength h) }
 {
     Encoder::new(data, width, height)?.encode_to_buf(buf)
 }
@@ -233,6 +234,8 @@ pub fn encode_to_vec(alloc: Global, data: &[u8], width: u32, height: u32) -> Res
         × IsFileOf h «data».now v.items) }
     ensures refused { IfErr result (λ e. (image_header «data».now width height ≡ Err e)
         ⊎ ((e ≡ Error.OutOfMemory) × (h : Header) × (image_header «data».now width height ≡ Ok h))) }
+    ensures length { (h : Header) → image_header «data».now width height ≡ Ok h
+        → IfOk result (λ v. IsFileLength h (length v.items)) }
 {
     Encoder::new(data, width, height)?.encode_to_vec(alloc)
 }
@@ -327,6 +330,7 @@ impl<'a> Encoder<'a> {
         ensures encoded { max_file_len self.now.header ≤ length buf.old
             → IsOkAnd result (λ n. (bytes : List ℕ) × IsFileOf self.now.header self.now.raw bytes × (n ≡ length bytes)
             × (buf.new ≡ bytes ++ drop n buf.old)) }
+        ensures length { IfOk result (IsFileLength self.now.header) }
     {
         let required = self.required_buf_len();
         if buf.len() < required {
@@ -342,10 +346,10 @@ impl<'a> Encoder<'a> {
 
     /// Encodes the image into a new vector, which has exactly the file.
     ///
-    /// `OutOfMemory` where the memory for `required_buf_len` bytes isn't found; the vector holds
-    /// no more than that at any moment, and keeps it as its capacity.
+    /// `OutOfMemory` where the memory for `required_buf_len` bytes isn't found.
     pub fn encode_to_vec(&self, alloc: Global) -> Result<Vec<u8>>
         ensures encoded { IfOk result (λ v. IsFileOf self.now.header self.now.raw v.items) }
+        ensures length { IfOk result (λ v. IsFileLength self.now.header (length v.items)) }
         ensures refused { IsOkUnless result Error.OutOfMemory }
     {
         let mut file = vec![in alloc; 0u8; self.required_buf_len()]?;
@@ -364,6 +368,10 @@ impl<'a> Encoder<'a> {
     pub fn encode_to_stream<W: Write>(&self, writer: &mut W) -> Result<usize>
         ensures sent { IfOk result (λ n. (bytes : List ℕ) × IsFileOf self.now.header self.now.raw bytes × (n ≡ length bytes)
             × Appends (W.contents writer.old) (W.contents writer.new) bytes) }
+        // Any bytes that are the file of the image are those that were sent.
+        ensures same { (bytes : List ℕ) → IsFileOf self.now.header self.now.raw bytes
+            → IfOk result (λ n. (n ≡ length bytes) × Appends (W.contents writer.old) (W.contents writer.new) bytes) }
+        ensures length { IfOk result (IsFileLength self.now.header) }
         ensures refused { IfErr result (λ e. IsIoError e × (bytes : List ℕ) × IsFileOf self.now.header self.now.raw bytes
             × AppendsBeginning (W.contents writer.old) (W.contents writer.new) bytes) }
     {

@@ -1,5 +1,5 @@
 //! The header of a file (QOI specification 1.0, "QOI Header").
-ghost use Rattle.std.specs.Prelude.{◌≡◌, ◌*◌};
+ghost use Rattle.std.specs.Prelude.{◌≡◌, ◌*◌, take, IfOk};
 ghost use Rattle.qoi.specs.declared.header.Header.{Header};
 
 use crate::consts::{QOI_HEADER_SIZE, QOI_MAGIC, QOI_PIXELS_MAX};
@@ -40,7 +40,7 @@ impl Default for Header {
 }
 
 impl Header {
-    ghost use Rattle.qoi.specs.Qoi.{head, header_of, tried_header, pixel_count, raw_byte_count};
+    ghost use Rattle.qoi.specs.Qoi.{head, header_of, tried_header, pixel_count, raw_byte_count, header_size, IsValid};
     ghost use Rattle.qoi.specs.Encoded.{max_file_len};
 
     /// A header of these fields; `InvalidImageDimensions` where width times height is 0 or
@@ -82,7 +82,8 @@ impl Header {
     // The header at the front of the bytes, or the first refusal: the length, the channels, the
     // color space, the magic, the dimensions.
     pub(crate) fn decode(bytes: &[u8]) -> Result<Header>
-        ensures { result ≡ header_of bytes.now }
+        ensures read { result ≡ header_of bytes.now }
+        ensures own { IfOk result (λ h. (take header_size bytes.now ≡ head h) × IsValid h) }
     {
         let [
             m0,

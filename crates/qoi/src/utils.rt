@@ -2,6 +2,7 @@
 ghost use Rattle.std.specs.Prelude.{◌≡◌, ℕ, ◌+◌, ◌<◌, ◌≤◌, List, [], ◌∷◌, length, OnOk, IfErr};
 ghost use Rattle.qoi.specs.declared.chunk.Chunk.{Chunk};
 ghost use Rattle.qoi.specs.writers.Writes.{WriterLaws, WroteSome};
+ghost use Rattle.qoi.specs.Errors.{IsIoError};
 ghost use Rattle.qoi.specs.Qoi.{IsChunk, bytes_of};
 ghost use Rattle.qoi.specs.Raw.{IsChannels};
 ghost use Rattle.qoi.specs.Spelling.{Spells};
@@ -32,8 +33,7 @@ pub trait Writer: Sized {
     fn write_one(&mut self, v: u8) -> Result<()>
         requires { 0 < room self.old }
         ensures written { OnOk result (wrote self.old (v ∷ []) self.new) }
-        ensures refused { IfErr result (λ e.
-            Refuses e × WroteSome wrote self.old (v ∷ []) self.new) };
+        ensures refused { IfErr result (λ e. Refuses e × wrote self.old [] self.new) };
 
     /// Writes all the bytes; after a refusal a beginning of them is written.
     fn write_many(&mut self, v: &[u8]) -> Result<()>
@@ -50,6 +50,7 @@ pub trait Writer: Sized {
 
 // Writes a chunk's bytes.
 #[inline(always)]
+#[tactic(auto, using(crate::proofs::encoding::Unwritten::nothing_written))]
 pub(crate) fn write_chunk<W: Writer>(buf: &mut W, chunk: Chunk) -> Result<()>
     requires chunk { IsChunk chunk }
     requires room { length (bytes_of chunk) ≤ W.room buf.old }
@@ -184,7 +185,6 @@ impl<'a, W: Write> GenericWriter<'a, W> {
 
 impl<'a, W: Write> Writer for GenericWriter<'a, W> {
     ghost use Rattle.qoi.specs.writers.Stream.{StreamWrote, stream_room, stream_laws};
-    ghost use Rattle.qoi.specs.Errors.{IsIoError};
 
     ghost wrote = { StreamWrote W.contents };
 
@@ -194,8 +194,14 @@ impl<'a, W: Write> Writer for GenericWriter<'a, W> {
 
     ghost laws = { stream_laws W.contents };
 
+    /// Writes by one call of `write`. A write that takes no byte is a fault of kind `WriteZero`, and
+    /// an interruption is a fault.
     fn write_one(&mut self, v: u8) -> Result<()> {
-        Writer::write_many(self, &[v])
+        if self.writer.write(&[v])? == 0 {
+            return Err(no_byte_taken());
+        }
+        self.room -= 1;
+        Ok(())
     }
 
     /// Writes by `write`, again after each short write. A write that takes no byte is a fault of
@@ -205,10 +211,7 @@ impl<'a, W: Write> Writer for GenericWriter<'a, W> {
         while !rest.is_empty() {
             let count = self.writer.write(rest)?;
             if count == 0 {
-                return Err(Error::IoError(io::Error::new(
-                    ErrorKind::WriteZero,
-                    "the writer took no byte",
-                )));
+                return Err(no_byte_taken());
             }
             self.room -= count;
             rest = &rest[count..];
@@ -219,4 +222,11 @@ impl<'a, W: Write> Writer for GenericWriter<'a, W> {
     fn capacity(&self) -> usize {
         self.room
     }
+}
+
+// The fault of a write that took no byte.
+fn no_byte_taken() -> Error
+    ensures { IsIoError result }
+{
+    Error::IoError(io::Error::new(ErrorKind::WriteZero, "the writer took no byte"))
 }

@@ -1,12 +1,15 @@
 -- A header's fourteen bytes are read as the header, and no other bytes are.
-use Rattle.std.proofs.Common.{◌≡◌, ℕ, ◌+◌, ◌*◌, ◌^◌, ◌<◌, ◌≤◌, zero, suc, List, [], ◌∷◌, ◌++◌, length, take, drop, arith, refl, ap, sym, ◌∙◌, subst, Bool, true, false, Result, Ok, Err, slice_index, nat_le, nat_lt, ◌==◌, cond, ◌&&◌, length-append}
+use Rattle.std.proofs.Common.{◌≡◌, ℕ, ◌+◌, ◌*◌, ◌^◌, ◌<◌, ◌≤◌, zero, suc, List, [], ◌∷◌, ◌++◌, length, take, drop, arith, refl, ap, sym, ◌∙◌, subst, Bool, true, false, Option, Result, Ok, Err, IfOk, slice_index, nat_le, nat_lt, ◌==◌, cond, ◌&&◌, length-append}
 use Rattle.std.proofs.lemmas.List.{length-take-le, length-drop, drop_at, take-append-drop, take-append-le, drop-append-le, get_or_append_left}
 use Rattle.std.proofs.lemmas.Bool.{cond-true, le-ltb, ltb-false, le-leb, leb-true, and_from, and_parts, eqb-true}
 use Rattle.std.proofs.Math.Nat.{mul-zero, mul_comm, le-mul_of_pos_right}
 use Rattle.std.proofs.lemmas.Nat.{from_be_bytes-to_be_bytes_4, be_bytes_4}
 use Rattle.std.specs.Int.{w32, to_be_bytes, from_be_bytes}
+use Rattle.std.specs.Io.KnownBytes.{Consumes}
+use Rattle.qoi.specs.Decoding.{ReadsHeader}
+use Rattle.qoi.proofs.decoding.FilledBuffer.{take_whole}
 use Rattle.qoi.specs.declared.error.Error.{Error}
-use Rattle.qoi.specs.declared.error.Error.TheVariants.{InvalidMagic, InvalidImageDimensions, UnexpectedBufferEnd}
+use Rattle.qoi.specs.declared.error.Error.TheVariants.{InvalidMagic, InvalidChannels, InvalidColorSpace, InvalidImageDimensions, InvalidImageLength, OutputBufferTooSmall, UnexpectedBufferEnd, InvalidPadding, IoError, OutOfMemory}
 use Rattle.qoi.specs.declared.types.Channels.{Channels}
 use Rattle.qoi.specs.declared.types.Channels.TheVariants.{Rgb, Rgba}
 use Rattle.qoi.specs.declared.types.ColorSpace.{ColorSpace}
@@ -166,6 +169,28 @@ pub head_from_header_of : (bytes : List ℕ) (h : Header) → AreBytes bytes →
 head_from_header_of bytes h fits e =
     let says = says_from bytes h e in
     (head_from_says bytes h fits says, says.valid)
+
+-- the first fourteen of bytes that are read as a header are its own
+pub own_header : (bytes : List ℕ) (r : Result Header Error) → AreBytes bytes → r ≡ header_of bytes → IfOk r (λ h. (take 14 bytes ≡ head h) × IsValid h)
+own_header bytes (Ok h) fits e =
+    let own = head_from_header_of bytes h fits (sym e) in
+    (ap (take 14) own.0, own.1)
+own_header bytes (Err x) fits e = tt
+
+-- what was read of a stream where fourteen bytes came
+pub stream_header : (old new : Option (List ℕ)) (bytes : List ℕ) (r : Result Header Error) → length bytes ≡ 14 → Consumes old new bytes → r ≡ header_of bytes
+    → IfOk r (λ h. (take 14 bytes ≡ head h) × IsValid h) → ReadsHeader false old new r
+stream_header old new bytes (Ok h) size came e own = (bytes, came, size, sym e, sym (take_whole 14 bytes size) ∙ own.0, own.1)
+stream_header old new bytes (Err UnexpectedBufferEnd) size came e own = (bytes, came, (size, sym e))
+stream_header old new bytes (Err InvalidPadding) size came e own = (bytes, came, (size, sym e))
+stream_header old new bytes (Err OutOfMemory) size came e own = (bytes, came, (size, sym e))
+stream_header old new bytes (Err (InvalidMagic m)) size came e own = (bytes, came, (size, sym e))
+stream_header old new bytes (Err (InvalidChannels n)) size came e own = (bytes, came, (size, sym e))
+stream_header old new bytes (Err (InvalidColorSpace n)) size came e own = (bytes, came, (size, sym e))
+stream_header old new bytes (Err (InvalidImageDimensions w h)) size came e own = (bytes, came, (size, sym e))
+stream_header old new bytes (Err (InvalidImageLength z w h)) size came e own = (bytes, came, (size, sym e))
+stream_header old new bytes (Err (OutputBufferTooSmall z n)) size came e own = (bytes, came, (size, sym e))
+stream_header old new bytes (Err (IoError i)) size came e own = absurd (grind (arith, e))
 
 -- a number at the front of bytes doesn't change by what follows
 number_at-append : (bytes rest : List ℕ) (i : ℕ) → i + 4 ≤ length bytes → number_at (bytes ++ rest) i ≡ number_at bytes i

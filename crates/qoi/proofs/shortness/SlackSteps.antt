@@ -1,5 +1,5 @@
 -- Where the seen and the noted pixel differ, and how the slack grows there.
-use Rattle.std.proofs.Common.{◌≡◌, ◌≢◌, ◌⊎◌, inl, inr, ℕ, zero, suc, ◌+◌, ◌≤◌, Bool, true, ◌&&◌, cond, eqb, List, [], ◌∷◌, ◌++◌, reverse, replicate, Option, None, Some, slice_get, refl, sym, ap, ◌∙◌, arith}
+use Rattle.std.proofs.Common.{◌≡◌, ◌≢◌, ◌⊎◌, inl, inr, ℕ, zero, suc, ◌+◌, ◌≤◌, Bool, true, false, ◌&&◌, cond, eqb, List, [], ◌∷◌, ◌++◌, reverse, replicate, Option, None, Some, slice_get, refl, sym, ap, ◌∙◌, arith}
 use Rattle.std.specs.List.{find}
 use Rattle.std.specs.Option.{option_or}
 use Rattle.std.proofs.lemmas.Bool.{cond_both, cond-true, cond-false, and_parts, and_from, and_right, true≢false, cases_Bool, eq-eqb, ne_eqb, cases_eq}
@@ -8,7 +8,8 @@ use Rattle.std.proofs.lemmas.List.Folds.{find-append}
 use Rattle.qoi.specs.Qoi.{RgbaPixel, Past, start, previous, seen, hash}
 use Rattle.qoi.specs.Written.{fresh, noted}
 use Rattle.qoi.specs.Shortest.{is_start, slack}
-use Rattle.qoi.proofs.format.SamePixels.{cases_pixel, pixel_eq-same, pixel_eq-from}
+use Rattle.qoi.specs.Encoded.{OpensBlack}
+use Rattle.qoi.proofs.format.SamePixels.{cases_pixel, pixel_eq-same, pixel_eq-from, pixel_eq-ne}
 use Rattle.qoi.proofs.encoding.NotedPixels.{fresh_repeat, fresh_more, noted_repeat, noted_fresh, seen_same, seen_other}
 
 -- the image so far opens with opaque black
@@ -166,3 +167,18 @@ slack_grows n past p f other s = elim (noted_or_differs past (hash p)) as (λ _.
       let y = slack_after n past (hash p) p d f (sym s ∙ d.last) in
       omega arith
 ]
+
+-- the slack is at most the number of channels
+pub slack_most : (image : List RgbaPixel) (n : ℕ) → slack image n ≤ n
+unfolding slack
+slack_most image n =
+    cond_both (is_start (slice_get image 0) && is_start (find (λ p. eqb (hash p) (hash start)) (reverse (fresh (reverse image))))) n 0 (λ x. x ≤ n)
+    (λ _. omega arith) (λ _. omega arith)
+
+-- there is none where the image doesn't open with opaque black
+pub slack_opens : (image : List RgbaPixel) (n : ℕ) → (OpensBlack image → ⊥) → slack image n ≡ 0
+unfolding slack
+slack_opens [] n closed = refl
+slack_opens (p ∷ image) n closed =
+    let other : is_start (slice_get (p ∷ image) 0) ≡ false = pixel_eq-ne p start (λ e. closed (image, ap (λ q. q ∷ image) e)) in
+    rw other refl

@@ -64,6 +64,15 @@ pub fn headers_compare()
         → ⟦<Header as Hash>⟧.hash_input h ≡ ⟦<Header as Hash>⟧.hash_input k }
 {}
 
+/// A clone of a value is that value.
+pub fn clones_are_equal<const N: usize>()
+    ensures channels { (c d : Channels) → ⟦<Channels as Clone>⟧.is_clone c d → d ≡ c }
+    ensures color_spaces { (c d : ColorSpace) → ⟦<ColorSpace as Clone>⟧.is_clone c d → d ≡ c }
+    ensures headers { (h k : Header) → ⟦<Header as Clone>⟧.is_clone h k → k ≡ h }
+    ensures pixels { (p q : List ℕ) → ⟦<Pixel<N> as Clone>⟧.is_clone p q → q ≡ p }
+    ensures chunks { (c d : Chunk) → ⟦<Chunk as Clone>⟧.is_clone c d → d ≡ c }
+{}
+
 /// Equal pixels have the same bytes.
 pub fn pixels_compare<const N: usize>()
     ensures { (p q : List ℕ) → IsTrue (⟦<Pixel<N> as PartialEq>⟧.eq p q) ↔ (p ≡ q) }

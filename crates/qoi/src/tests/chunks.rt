@@ -1,15 +1,55 @@
+//! The first chunk of some bytes.
 use crate::parts::{Chunk, read_chunk};
+use crate::tests::support::texts::{assert_at, assert_bytes};
+use std::process::Abort;
+
+// How many bytes follow the first chunk.
+fn behind(bytes: &[u8]) -> Option<usize> {
+    match read_chunk(bytes) {
+        Some((_, rest)) => Some(rest.len()),
+        None => None,
+    }
+}
 
 #[test]
 fn one_byte(rt: HostRuntime) {
-    for b in 0..=255u8 {
-        let whole = b < 0x80 || (0xc0 <= b && b < 0xfe);
-        match read_chunk(&[b]) {
-            Some((_, rest)) => assert!(rt; whole && rest.is_empty(), "at {b}"),
-            None => assert!(rt; !whole, "at {b}"),
-        }
+    for b in 0..0x80u8 {
+        assert_at(&rt, behind(&[b]) == Some(0), usize::from(b));
     }
-    assert!(rt; read_chunk(&[]).is_none());
+    for b in 0x80..0xc0u8 {
+        assert_at(&rt, behind(&[b]).is_none(), usize::from(b));
+    }
+    for b in 0xc0..0xfeu8 {
+        assert_at(&rt, behind(&[b]) == Some(0), usize::from(b));
+    }
+}
+
+#[test]
+fn too_few_bytes(rt: HostRuntime) {
+    let parts: [&[u8]; 8] = [
+        &[],
+        &[0xfe],
+        &[0xfe, 1],
+        &[0xfe, 1, 2],
+        &[0xff],
+        &[0xff, 1],
+        &[0xff, 1, 2],
+        &[0xff, 1, 2, 3],
+    ];
+    for part in parts {
+        assert_at(&rt, read_chunk(part).is_none(), part.len());
+    }
+}
+
+// Compares the first chunk and what follows it.
+fn assert_chunk(rt: &impl Abort, bytes: &[u8], chunk: Chunk, rest: &[u8]) {
+    match read_chunk(bytes) {
+        Some((found, after)) => {
+            assert_eq!(rt; found, chunk);
+            assert_bytes(rt, after, rest);
+        }
+        None => assert!(rt; false, "no {chunk:?}"),
+    }
 }
 
 #[test]
@@ -31,22 +71,6 @@ fn more_bytes(rt: HostRuntime) {
         (&[0xff, 4, 3, 2, 1], Chunk::Rgba(4, 3, 2, 1), &[]),
     ];
     for (bytes, chunk, rest) in whole {
-        match read_chunk(bytes) {
-            Some((found, after)) => {
-                assert_eq!(rt; found, chunk);
-                assert_eq!(rt; after, rest);
-            }
-            None => assert!(rt; false, "no {chunk:?}"),
-        }
-    }
-    let parts: [&[u8]; 5] = [
-        &[0xfe, 1],
-        &[0xfe, 1, 2],
-        &[0xff, 1],
-        &[0xff, 1, 2],
-        &[0xff, 1, 2, 3],
-    ];
-    for part in parts {
-        assert!(rt; read_chunk(part).is_none());
+        assert_chunk(&rt, bytes, chunk, rest);
     }
 }

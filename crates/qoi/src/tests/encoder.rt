@@ -1,104 +1,92 @@
-use crate::tests::files::{ONE_RGB_PIXEL, assert_decodes, file_of};
-use crate::tests::images::assert_encodes;
-use crate::{
-    Channels, ColorSpace, Encoder, Error, Header, encode_max_len, encode_to_buf, encode_to_vec,
-};
+//! Images that are encoded, and what is refused.
+use crate::tests::support::files::{ONE_RGB_PIXEL, PIXEL, assert_decodes, file_of, rgb, rgba};
+use crate::tests::support::images::{assert_encodes, assert_files, assert_writes};
+use crate::tests::support::texts::{assert_bytes, assert_header, assert_number, assert_refused};
+use crate::{ColorSpace, Encoder, Header, Result, encode_max_len, encode_to_buf, encode_to_vec};
 use std::alloc::Global;
 use std::process::Abort;
-use std::test::Fail;
 
 #[test]
-fn one_rgb_pixel(rt: HostRuntime) -> Result<(), Fail> {
-    let alloc = rt.alloc();
-    let image = [0x0b, 0x79, 0xe7];
-    assert_encodes(
-        &rt,
-        alloc,
-        &image,
-        (1, 1),
-        Channels::Rgb,
-        &ONE_RGB_PIXEL[14..18],
-    )?;
-    let file = encode_to_vec(alloc, &image, 1, 1)?;
-    assert_eq!(rt; file.as_slice(), ONE_RGB_PIXEL.as_slice());
-    assert_eq!(rt; file.len(), encode_max_len(1, 1, 3));
-
-    let encoder = Encoder::new(&image, 1, 1)?.with_colorspace(ColorSpace::Linear);
+fn one_rgb_pixel(rt: HostRuntime) -> Result<()> {
+    assert_number(&rt, encode_max_len(1, 1, 3), 26);
+    assert_files(&rt, rt.alloc(), rgb(1), &PIXEL, &ONE_RGB_PIXEL)?;
+    let header = Header {
+        colorspace: ColorSpace::Linear,
+        ..rgb(1)
+    };
     let mut linear = ONE_RGB_PIXEL;
     linear[13] = 1;
-    assert_eq!(rt; encoder.encode_to_vec(alloc)?.as_slice(), linear.as_slice());
-    let mut buf = [0xaa; 26];
-    assert_eq!(rt; encoder.encode_to_buf(&mut buf)?, 26);
-    assert_eq!(rt; buf, linear);
-    let header = Header::try_new(1, 1, Channels::Rgb, ColorSpace::Linear)?;
-    assert_decodes(&rt, alloc, &buf, header, &image)?;
-    Ok(())
+    let encoder = Encoder::new(&PIXEL, 1, 1)?.with_colorspace(ColorSpace::Linear);
+    assert_writes(&rt, rt.alloc(), &encoder, &header, &linear)
 }
 
 #[test]
-fn one_rgba_pixel(rt: HostRuntime) -> Result<(), Fail> {
-    let alloc = rt.alloc();
-    let image = [11, 121, 231, 55];
+fn one_rgba_pixel(rt: HostRuntime) -> Result<()> {
+    let (alloc, header) = (rt.alloc(), rgba(1));
     let chunks = [0xff, 0x0b, 0x79, 0xe7, 0x37];
-    assert_encodes(&rt, alloc, &image, (1, 1), Channels::Rgba, &chunks)?;
-    assert_eq!(rt; encode_to_vec(alloc, &image, 1, 1)?.len(), 27);
-    assert_eq!(rt; encode_max_len(1, 1, 4), 27);
-    let image = [11, 121, 231, 255];
+    assert_encodes(&rt, alloc, header, &[11, 121, 231, 55], &chunks)?;
+    assert_number(&rt, encode_max_len(1, 1, 4), 27);
+    assert_number(
+        &rt,
+        encode_to_vec(alloc, &[11, 121, 231, 55], 1, 1)?.len(),
+        27,
+    );
     let chunks = [0xfe, 0x0b, 0x79, 0xe7];
-    assert_encodes(&rt, alloc, &image, (1, 1), Channels::Rgba, &chunks)?;
+    assert_encodes(&rt, alloc, header, &[11, 121, 231, 255], &chunks)
+}
+
+// One pixel (0,0,0) and its file, and aa behind it.
+const BLACK_AND_MORE: [u8; 26] = [
+    0x71, 0x6f, 0x69, 0x66, 0, 0, 0, 1, 0, 0, 0, 1, 3, 0, 0xc0, 0, 0, 0, 0, 0, 0, 0, 1, 0xaa, 0xaa,
+    0xaa,
+];
+
+#[test]
+fn one_black_pixel(rt: HostRuntime) -> Result<()> {
+    assert_encodes(&rt, rt.alloc(), rgb(1), &[0, 0, 0], &[0xc0])?;
+    let mut buf = [0xaa; 26];
+    assert_number(
+        &rt,
+        Encoder::new(&[0, 0, 0], 1, 1)?.encode_to_buf(&mut buf)?,
+        23,
+    );
+    assert_bytes(&rt, &buf, &BLACK_AND_MORE);
+    let mut buf = [0xaa; 26];
+    assert_number(&rt, encode_to_buf(&mut buf, &[0, 0, 0], 1, 1)?, 23);
+    assert_bytes(&rt, &buf, &BLACK_AND_MORE);
     Ok(())
 }
 
-// The size and the required length of a buffer that is refused.
-fn too_small(answer: crate::Result<usize>) -> Option<(usize, usize)> {
-    match answer {
-        Err(Error::OutputBufferTooSmall { size, required }) => Some((size, required)),
-        _ => None,
-    }
-}
-
 #[test]
-fn one_black_pixel(rt: HostRuntime) -> Result<(), Fail> {
-    let alloc = rt.alloc();
-    let image = [0, 0, 0];
-    assert_encodes(&rt, alloc, &image, (1, 1), Channels::Rgb, &[0xc0])?;
-    let encoder = Encoder::new(&image, 1, 1)?;
+fn one_black_pixel_in_a_short_buffer(rt: HostRuntime) -> Result<()> {
+    let text = "output buffer size too small: 25 (required: 26)";
     let mut short = [0xaa; 25];
-    assert_eq!(rt;
-        too_small(encoder.encode_to_buf(&mut short)),
-        Some((25, 26))
-    );
-    assert_eq!(rt;
-        too_small(encode_to_buf(&mut short, &image, 1, 1)),
-        Some((25, 26))
-    );
-    assert_eq!(rt; short, [0xaa; 25]);
-    let mut method = [0xaa; 26];
-    assert_eq!(rt; encoder.encode_to_buf(&mut method)?, 23);
-    let file = file_of(alloc, 1, 1, 3, 0, &[0xc0])?;
-    assert_eq!(rt; &method[..23], file.as_slice());
-    assert_eq!(rt; &method[23..], [0xaa; 3].as_slice());
-    let mut free = [0xaa; 26];
-    assert_eq!(rt; encode_to_buf(&mut free, &image, 1, 1)?, 23);
-    assert_eq!(rt; free, method);
+    let method = Encoder::new(&[0, 0, 0], 1, 1)?.encode_to_buf(&mut short);
+    assert_refused(&rt, rt.alloc(), method.err(), text)?;
+    let free = encode_to_buf(&mut short, &[0, 0, 0], 1, 1);
+    assert_refused(&rt, rt.alloc(), free.err(), text)?;
+    assert_bytes(&rt, &short, &[0xaa; 25]);
     Ok(())
 }
 
 #[test]
-fn black_runs(rt: HostRuntime) -> Result<(), Fail> {
+fn black_runs(rt: HostRuntime) -> Result<()> {
     let alloc = rt.alloc();
-    assert_encodes(&rt, alloc, &[0; 186], (62, 1), Channels::Rgb, &[0xfd])?;
-    assert_encodes(&rt, alloc, &[0; 189], (63, 1), Channels::Rgb, &[0xfd, 0xc0])?;
+    assert_encodes(&rt, alloc, rgb(62), &[0; 186], &[0xfd])?;
+    assert_encodes(&rt, alloc, rgb(63), &[0; 189], &[0xfd, 0xc0])?;
     let mut image = Vec::from_slice(alloc, &[0; 189])?;
     image.extend_from_slice(&[11, 22, 33])?;
     let chunks = [0xfd, 0xc0, 0xfe, 0x0b, 0x16, 0x21];
-    assert_encodes(&rt, alloc, &image, (64, 1), Channels::Rgb, &chunks)?;
-    assert_encodes(&rt, alloc, &image, (8, 8), Channels::Rgb, &chunks)?;
-    Ok(())
+    assert_encodes(&rt, alloc, rgb(64), &image, &chunks)?;
+    let square = Header {
+        height: 8,
+        ..rgb(8)
+    };
+    assert_encodes(&rt, alloc, square, &image, &chunks)
 }
 
 #[test]
-fn one_small_step(rt: HostRuntime) -> Result<(), Fail> {
+fn one_small_step(rt: HostRuntime) -> Result<()> {
     let steps: [([u8; 3], &[u8]); 7] = [
         ([255, 255, 255], &[0x55]),
         ([1, 1, 1], &[0x7f]),
@@ -109,82 +97,89 @@ fn one_small_step(rt: HostRuntime) -> Result<(), Fail> {
         ([32, 32, 32], &[0xfe, 0x20, 0x20, 0x20]),
     ];
     for (image, chunks) in steps {
-        assert_encodes(&rt, rt.alloc(), &image, (1, 1), Channels::Rgb, chunks)?;
+        assert_encodes(&rt, rt.alloc(), rgb(1), &image, chunks)?;
     }
     Ok(())
 }
 
 #[test]
-fn place_rgb(rt: HostRuntime) -> Result<(), Fail> {
+fn place_rgb(rt: HostRuntime) -> Result<()> {
     let image = [101, 102, 103, 1, 2, 3, 101, 102, 103];
     let chunks = [0xfe, 0x65, 0x66, 0x67, 0xfe, 0x01, 0x02, 0x03, 0x33];
-    assert_encodes(&rt, rt.alloc(), &image, (3, 1), Channels::Rgb, &chunks)?;
-    Ok(())
+    assert_encodes(&rt, rt.alloc(), rgb(3), &image, &chunks)
 }
 
 #[test]
-fn place_rgba(rt: HostRuntime) -> Result<(), Fail> {
+fn place_rgba(rt: HostRuntime) -> Result<()> {
     let image = [101, 102, 103, 104, 1, 2, 3, 4, 101, 102, 103, 104];
     let chunks = [
         0xff, 0x65, 0x66, 0x67, 0x68, 0xff, 0x01, 0x02, 0x03, 0x04, 0x36,
     ];
-    assert_encodes(&rt, rt.alloc(), &image, (3, 1), Channels::Rgba, &chunks)?;
-    Ok(())
+    assert_encodes(&rt, rt.alloc(), rgba(3), &image, &chunks)
 }
 
 #[test]
-fn blank_first(rt: HostRuntime) -> Result<(), Fail> {
-    assert_encodes(&rt, rt.alloc(), &[0; 4], (1, 1), Channels::Rgba, &[0x00])?;
-    Ok(())
+fn blank_first(rt: HostRuntime) -> Result<()> {
+    assert_encodes(&rt, rt.alloc(), rgba(1), &[0; 4], &[0x00])
 }
 
-// The chunks that are written, and shorter ones that decode to the same pixels.
+// Encodes the image to these chunks, and decodes shorter ones to it.
+fn assert_shorter(
+    rt: &impl Abort,
+    alloc: Global,
+    header: Header,
+    image: &[u8],
+    chunks: &[u8],
+    shorter: &[u8],
+) -> Result<()> {
+    assert_encodes(rt, alloc, header, image, chunks)?;
+    assert_decodes(rt, alloc, &file_of(alloc, header, shorter)?, &header, image)
+}
+
 #[test]
-fn black_returns_rgb(rt: HostRuntime) -> Result<(), Fail> {
-    let alloc = rt.alloc();
+fn black_returns_rgb(rt: HostRuntime) -> Result<()> {
     let image = [0, 0, 0, 101, 102, 103, 0, 0, 0];
     let chunks = [0xc0, 0xfe, 0x65, 0x66, 0x67, 0xfe, 0, 0, 0];
-    assert_encodes(&rt, alloc, &image, (3, 1), Channels::Rgb, &chunks)?;
-    let shorter = file_of(alloc, 3, 1, 3, 0, &[0xc0, 0xfe, 0x65, 0x66, 0x67, 0x35])?;
-    let header = Header::try_new(3, 1, Channels::Rgb, ColorSpace::Srgb)?;
-    assert_decodes(&rt, alloc, &shorter, header, &image)?;
-    let written = encode_to_vec(alloc, &image, 3, 1)?;
-    assert_eq!(rt; written.len(), shorter.len().saturating_add(3));
-    Ok(())
+    let shorter = [0xc0, 0xfe, 0x65, 0x66, 0x67, 0x35];
+    assert_shorter(&rt, rt.alloc(), rgb(3), &image, &chunks, &shorter)
 }
 
 #[test]
-fn black_returns_rgba(rt: HostRuntime) -> Result<(), Fail> {
-    let alloc = rt.alloc();
+fn black_returns_rgba(rt: HostRuntime) -> Result<()> {
     let image = [0, 0, 0, 255, 101, 102, 103, 104, 0, 0, 0, 255];
     let chunks = [0xc0, 0xff, 0x65, 0x66, 0x67, 0x68, 0xff, 0, 0, 0, 0xff];
-    assert_encodes(&rt, alloc, &image, (3, 1), Channels::Rgba, &chunks)?;
     let shorter = [0xc0, 0xff, 0x65, 0x66, 0x67, 0x68, 0x35];
-    let shorter = file_of(alloc, 3, 1, 4, 0, &shorter)?;
-    let header = Header::try_new(3, 1, Channels::Rgba, ColorSpace::Srgb)?;
-    assert_decodes(&rt, alloc, &shorter, header, &image)?;
-    let written = encode_to_vec(alloc, &image, 3, 1)?;
-    assert_eq!(rt; written.len(), shorter.len().saturating_add(4));
-    Ok(())
+    assert_shorter(&rt, rt.alloc(), rgba(3), &image, &chunks, &shorter)
 }
 
 #[test]
-fn black_overwritten(rt: HostRuntime) -> Result<(), Fail> {
+fn black_overwritten(rt: HostRuntime) -> Result<()> {
     let image = [0, 0, 0, 1, 99, 2, 0, 0, 0];
     let chunks = [0xc0, 0xfe, 0x01, 0x63, 0x02, 0xfe, 0, 0, 0];
-    assert_encodes(&rt, rt.alloc(), &image, (3, 1), Channels::Rgb, &chunks)?;
-    Ok(())
+    assert_encodes(&rt, rt.alloc(), rgb(3), &image, &chunks)
 }
 
 #[test]
-fn plain_runs(rt: HostRuntime) -> Result<(), Fail> {
-    let alloc = rt.alloc();
+fn plain_runs(rt: HostRuntime) -> Result<()> {
     let image = [1, 99, 2, 251, 252, 253, 249, 250, 251];
     let chunks = [0xfe, 0x01, 0x63, 0x02, 0xfe, 0xfb, 0xfc, 0xfd, 0x40];
-    assert_encodes(&rt, alloc, &image, (3, 1), Channels::Rgb, &chunks)?;
-    let image = [1, 99, 2, 11, 33, 55, 11, 33, 55, 11, 33, 55];
-    let chunks = [0xfe, 0x01, 0x63, 0x02, 0xfe, 0x0b, 0x21, 0x37, 0xc1];
-    assert_encodes(&rt, alloc, &image, (4, 1), Channels::Rgb, &chunks)?;
+    assert_encodes(&rt, rt.alloc(), rgb(3), &image, &chunks)
+}
+
+// A run of two, at the end of the image and with a pixel behind it.
+#[test]
+fn plain_runs_rgb(rt: HostRuntime) -> Result<()> {
+    let image = [1, 99, 2, 11, 33, 55, 11, 33, 55, 11, 33, 55, 1, 2, 3];
+    let chunks = [
+        0xfe, 0x01, 0x63, 0x02, 0xfe, 0x0b, 0x21, 0x37, 0xc1, 0xfe, 0x01, 0x02, 0x03,
+    ];
+    assert_encodes(&rt, rt.alloc(), rgb(4), &image[..12], &chunks[..9])?;
+    assert_encodes(&rt, rt.alloc(), rgb(5), &image, &chunks)
+}
+
+// A run of two, at the end of the image and with a pixel behind it.
+#[test]
+fn plain_runs_rgba(rt: HostRuntime) -> Result<()> {
     let image = [
         1, 99, 2, 3, 11, 33, 55, 77, 11, 33, 55, 77, 11, 33, 55, 77, 1, 2, 3, 4,
     ];
@@ -192,33 +187,27 @@ fn plain_runs(rt: HostRuntime) -> Result<(), Fail> {
         0xff, 0x01, 0x63, 0x02, 0x03, 0xff, 0x0b, 0x21, 0x37, 0x4d, 0xc1, 0xff, 0x01, 0x02, 0x03,
         0x04,
     ];
-    assert_encodes(&rt, alloc, &image, (5, 1), Channels::Rgba, &chunks)?;
-    Ok(())
+    assert_encodes(&rt, rt.alloc(), rgba(4), &image[..16], &chunks[..11])?;
+    assert_encodes(&rt, rt.alloc(), rgba(5), &image, &chunks)
 }
 
 // A black pixel isn't written as the first index position, which holds a pixel of alpha 0.
 #[test]
-fn black_and_blank(rt: HostRuntime) -> Result<(), Fail> {
+fn black_and_blank(rt: HostRuntime) -> Result<()> {
     let image = [101, 102, 103, 0, 0, 0];
     let chunks = [0xfe, 0x65, 0x66, 0x67, 0xfe, 0, 0, 0];
-    assert_encodes(&rt, rt.alloc(), &image, (2, 1), Channels::Rgb, &chunks)?;
-    Ok(())
+    assert_encodes(&rt, rt.alloc(), rgb(2), &image, &chunks)
 }
 
-// The chunks that are written, and shorter ones that name a position where no pixel stood yet.
+// The shorter chunks name a position where no pixel stood yet.
 #[test]
-fn blank_without_place(rt: HostRuntime) -> Result<(), Fail> {
-    let alloc = rt.alloc();
+fn blank_without_place(rt: HostRuntime) -> Result<()> {
     let image = [64, 0, 0, 0, 0, 0, 0, 0, 64, 0, 0, 0, 0, 0, 0, 0];
     let chunks = [
         0xff, 0x40, 0, 0, 0, 0xfe, 0, 0, 0, 0xfe, 0x40, 0, 0, 0xfe, 0, 0, 0,
     ];
-    assert_encodes(&rt, alloc, &image, (4, 1), Channels::Rgba, &chunks)?;
     let shorter = [0xff, 0x40, 0, 0, 0, 0x11, 0xfe, 0x40, 0, 0, 0x11];
-    let shorter = file_of(alloc, 4, 1, 4, 0, &shorter)?;
-    let header = Header::try_new(4, 1, Channels::Rgba, ColorSpace::Srgb)?;
-    assert_decodes(&rt, alloc, &shorter, header, &image)?;
-    Ok(())
+    assert_shorter(&rt, rt.alloc(), rgba(4), &image, &chunks, &shorter)
 }
 
 // The printed text of what `Encoder::new` refuses, and of the refusals of both free calls.
@@ -228,108 +217,79 @@ fn assert_refuses(
     image: &[u8],
     (width, height): (u32, u32),
     text: &str,
-) -> crate::Result<()> {
-    let refusals = [
-        Encoder::new(image, width, height).err(),
-        encode_to_vec(alloc, image, width, height).err(),
-        encode_to_buf(&mut [], image, width, height).err(),
+) -> Result<()> {
+    assert_refused(rt, alloc, Encoder::new(image, width, height).err(), text)?;
+    let free = encode_to_vec(alloc, image, width, height).err();
+    assert_refused(rt, alloc, free, text)?;
+    let into_buffer = encode_to_buf(&mut [], image, width, height).err();
+    assert_refused(rt, alloc, into_buffer, text)
+}
+
+#[test]
+fn header_refusals(rt: HostRuntime) -> Result<()> {
+    let refused = [
+        (0, (1, 1), "invalid number of channels: 0"),
+        (2, (1, 1), "invalid number of channels: 2"),
+        (5, (1, 1), "invalid number of channels: 5"),
+        (255, (1, 1), "invalid number of channels: 255"),
+        (300, (1, 1), "invalid number of channels: 255"),
+        (7, (2, 1), "invalid image length: 7 bytes for 2x1"),
+        (7, (1, 3), "invalid image length: 7 bytes for 1x3"),
+        (3, (0, 5), "invalid image dimensions: 0x5"),
+        (0, (400_000_001, 1), "invalid image dimensions: 400000001x1"),
     ];
-    for refusal in refusals {
-        match refusal {
-            Some(error) => {
-                let printed = format!(in alloc; "{error}")?;
-                assert_eq!(rt; printed.as_str(), text);
-            }
-            None => assert!(rt; false, "accepted, not: {text}"),
-        }
+    for (length, size, text) in refused {
+        let image = vec![in rt.alloc(); 0u8; length]?;
+        assert_refuses(&rt, rt.alloc(), &image, size, text)?;
     }
     Ok(())
 }
 
+// Compares the header, the channels and the greatest length of an encoder in this color space.
+fn assert_gets(rt: &impl Abort, encoder: &Encoder<'_>, header: &Header, length: usize) {
+    assert_header(rt, encoder.header(), header);
+    assert!(rt; encoder.channels() == header.channels);
+    assert_number(rt, encoder.required_buf_len(), length);
+}
+
 #[test]
-fn header_refusals(rt: HostRuntime) -> Result<(), Fail> {
-    let refused: [(&[u8], (u32, u32), &str); 9] = [
-        (&[], (1, 1), "invalid number of channels: 0"),
-        (&[0; 2], (1, 1), "invalid number of channels: 2"),
-        (&[0; 5], (1, 1), "invalid number of channels: 5"),
-        (&[0; 255], (1, 1), "invalid number of channels: 255"),
-        (&[0; 300], (1, 1), "invalid number of channels: 255"),
-        (&[0; 7], (2, 1), "invalid image length: 7 bytes for 2x1"),
-        (&[0; 7], (1, 3), "invalid image length: 7 bytes for 1x3"),
-        (&[0; 3], (0, 5), "invalid image dimensions: 0x5"),
+fn encoder_getters(rt: HostRuntime) -> Result<()> {
+    let images: [(&[u8], Header, usize); 3] = [
         (
-            &[],
-            (400_000_001, 1),
-            "invalid image dimensions: 400000001x1",
+            &[0; 18],
+            Header {
+                height: 2,
+                ..rgb(3)
+            },
+            46,
         ),
+        (
+            &[0; 24],
+            Header {
+                height: 3,
+                ..rgba(2)
+            },
+            52,
+        ),
+        (&[0; 3], rgb(1), 26),
     ];
-    for (image, size, text) in refused {
-        assert_refuses(&rt, rt.alloc(), image, size, text)?;
-    }
-    Ok(())
-}
-
-#[test]
-fn greatest_lengths(rt: HostRuntime) -> Result<(), Fail> {
-    let lengths = [
-        ((1, 1, 3), 26),
-        ((1, 1, 4), 27),
-        ((2, 3, 3), 46),
-        ((3, 2, 4), 52),
-        ((0, 7, 4), 22),
-        ((20000, 20000, 4), 2_000_000_022),
-        ((5, 1, 255), 1302),
-        ((u32::MAX, u32::MAX, 4), 18446744073709551615),
-        ((u32::MAX, u32::MAX, 0), 18446744065119617047),
-    ];
-    for ((width, height, channels), length) in lengths {
-        assert_eq!(rt;
-            encode_max_len(width, height, channels),
-            length,
-            "at {width}, {height}, {channels}"
-        );
-    }
-    let header = Header::try_new(3, 2, Channels::Rgb, ColorSpace::Linear)?;
-    assert_eq!(rt; header.encode_max_len(), 46);
-    assert_eq!(rt; header.with_channels(Channels::Rgba).encode_max_len(), 52);
-    Ok(())
-}
-
-#[test]
-fn header_fields_are_changed_alone(rt: HostRuntime) -> Result<(), Fail> {
-    let header = Header::try_new(3, 2, Channels::Rgb, ColorSpace::Linear)?;
-    let four = Header::try_new(3, 2, Channels::Rgba, ColorSpace::Linear)?;
-    let srgb = Header::try_new(3, 2, Channels::Rgb, ColorSpace::Srgb)?;
-    assert_eq!(rt; header.with_channels(Channels::Rgba), four);
-    assert_eq!(rt; four.with_channels(Channels::Rgb), header);
-    assert_eq!(rt; header.with_colorspace(ColorSpace::Srgb), srgb);
-    assert_eq!(rt; srgb.with_colorspace(ColorSpace::Linear), header);
-    assert_eq!(rt; srgb.with_colorspace(ColorSpace::Srgb), srgb);
-    Ok(())
-}
-
-#[test]
-fn encoder_getters(rt: HostRuntime) -> Result<(), Fail> {
-    let images: [(&[u8], (u32, u32), Channels, usize); 3] = [
-        (&[0; 18], (3, 2), Channels::Rgb, 46),
-        (&[0; 24], (2, 3), Channels::Rgba, 52),
-        (&[0; 3], (1, 1), Channels::Rgb, 26),
-    ];
-    for (image, (width, height), channels, length) in images {
-        let mut encoder = Encoder::new(image, width, height)?;
-        for colorspace in [ColorSpace::Srgb, ColorSpace::Linear, ColorSpace::Srgb] {
-            encoder = encoder.with_colorspace(colorspace);
-            let header = Header::try_new(width, height, channels, colorspace)?;
-            assert_eq!(rt; *encoder.header(), header);
-            assert_eq!(rt; encoder.channels(), channels);
-            assert_eq!(rt; encoder.required_buf_len(), length);
-        }
+    for (image, srgb, length) in images {
+        let encoder = Encoder::new(image, srgb.width, srgb.height)?;
+        assert_gets(&rt, &encoder, &srgb, length);
+        let linear = Header {
+            colorspace: ColorSpace::Linear,
+            ..srgb
+        };
+        let encoder = encoder.with_colorspace(ColorSpace::Linear);
+        assert_gets(&rt, &encoder, &linear, length);
+        let encoder = encoder.with_colorspace(ColorSpace::Srgb);
+        assert_gets(&rt, &encoder, &srgb, length);
     }
     Ok(())
 }
 
 // Pixel k, from 0, is three times k modulo 251.
-fn climbing(alloc: Global, n: u32) -> crate::Result<Vec<u8>> {
+fn climbing(alloc: Global, n: u32) -> Result<Vec<u8>> {
     let mut image = Vec::new(alloc);
     for k in 0..n {
         image.extend_from_slice(&[(k % 251) as u8; 3])?;
@@ -338,7 +298,7 @@ fn climbing(alloc: Global, n: u32) -> crate::Result<Vec<u8>> {
 }
 
 // Steps of 1, and of 6 from 250 to 0: differences and lumas.
-fn climbing_chunks(alloc: Global, n: u32) -> crate::Result<Vec<u8>> {
+fn climbing_chunks(alloc: Global, n: u32) -> Result<Vec<u8>> {
     let mut chunks = Vec::from_slice(alloc, &[0xc0])?;
     for k in 1..n {
         if k % 251 == 0 {
@@ -351,13 +311,15 @@ fn climbing_chunks(alloc: Global, n: u32) -> crate::Result<Vec<u8>> {
 }
 
 #[test]
-fn two_megapixels(rt: HostRuntime) -> Result<(), Fail> {
+fn two_megapixels(rt: HostRuntime) -> Result<()> {
     let alloc = rt.alloc();
+    let header = Header {
+        height: 1000,
+        ..rgb(2000)
+    };
     let image = climbing(alloc, 2_000_000)?;
     let chunks = climbing_chunks(alloc, 2_000_000)?;
     assert!(rt; chunks.starts_with(&[0xc0, 0x7f, 0x7f]));
-    let file = encode_to_vec(alloc, &image, 2000, 1000)?;
-    assert_eq!(rt; file.len(), 2_007_990);
-    assert_encodes(&rt, alloc, &image, (2000, 1000), Channels::Rgb, &chunks)?;
-    Ok(())
+    assert_number(&rt, chunks.len(), 2_007_990 - 22);
+    assert_encodes(&rt, alloc, header, &image, &chunks)
 }

@@ -1,9 +1,11 @@
 //! The number of bytes of an image's chunks, against a number that fewer don't do for.
-use crate::tests::generator::{Numbers, Rgba, START, image};
-use crate::{Channels, encode_to_vec};
+use crate::tests::support::files::{assert_decodes, file_of, rgb, rgba};
+use crate::tests::support::generator::{Numbers, Rgba, START, image};
+use crate::tests::support::images::assert_encodes;
+use crate::tests::support::texts::assert_number;
+use crate::{Channels, Header, Result, encode_to_vec};
 use std::alloc::Global;
 use std::process::Abort;
-use std::test::Fail;
 
 // The index position of a pixel.
 fn place([r, g, b, a]: Rgba) -> usize {
@@ -130,92 +132,134 @@ fn bounds(image: &[u8], channels: Channels) -> (usize, usize) {
     (counted.bytes, slack)
 }
 
-// How many bytes the chunks of an image's file have, which stand between a header of 14 bytes and
-// an end marker of 8.
-fn length(alloc: Global, image: &[u8], (width, height): (u32, u32)) -> crate::Result<usize> {
-    let file = encode_to_vec(alloc, image, width, height)?;
-    Ok(file.len().saturating_sub(22))
-}
-
-#[test]
-fn known_lengths(rt: HostRuntime) -> Result<(), Fail> {
-    let mut blacks = Vec::new(rt.alloc());
-    for _ in 0..63 {
-        blacks.extend_from_slice(&START)?;
-    }
-    blacks.extend_from_slice(&[101, 102, 103, 104, 0, 0, 0, 255])?;
-    let images: [(&[u8], u32, Channels, (usize, usize), usize); 7] = [
-        (
-            &[0, 0, 0, 101, 102, 103, 0, 0, 0],
-            3,
-            Channels::Rgb,
-            (6, 3),
-            9,
-        ),
-        (
-            &[0, 0, 0, 255, 101, 102, 103, 104, 0, 0, 0, 255],
-            3,
-            Channels::Rgba,
-            (7, 4),
-            11,
-        ),
-        (&[0, 0, 0, 1, 99, 2, 0, 0, 0], 3, Channels::Rgb, (9, 0), 9),
-        (
-            &[0, 0, 0, 101, 102, 103, 0, 0, 0, 101, 102, 103, 0, 0, 0],
-            5,
-            Channels::Rgb,
-            (8, 3),
-            11,
-        ),
-        (blacks.as_slice(), 65, Channels::Rgba, (8, 4), 12),
-        (&[0; 6], 2, Channels::Rgb, (1, 0), 1),
-        (&[0, 0, 0, 255, 0, 0, 0, 255], 2, Channels::Rgba, (1, 0), 1),
-    ];
-    for (image, width, channels, expected, written) in images {
-        assert_eq!(rt; bounds(image, channels), expected, "at {written} bytes");
-        assert_eq!(rt; length(rt.alloc(), image, (width, 1))?, written);
-    }
+// Compares the number, the slack and how many bytes the chunks of the image's file have. They stand
+// between a header of 14 bytes and an end marker of 8.
+fn assert_bounds(
+    rt: &impl Abort,
+    alloc: Global,
+    header: Header,
+    image: &[u8],
+    (least, slack): (usize, usize),
+    written: usize,
+) -> Result<()> {
+    let found = bounds(image, header.channels);
+    assert_number(rt, found.0, least);
+    assert_number(rt, found.1, slack);
+    let file = encode_to_vec(alloc, image, header.width, header.height)?;
+    assert_number(rt, file.len().saturating_sub(22), written);
     Ok(())
 }
 
-// Draws 1,000 images of up to 30 by 30 pixels, and compares their lengths with both bounds. Some
-// images have slack and use all of it, and some use none.
-fn assert_lengths(
+// The images of the examples `black_returns_rgb`, `black_returns_rgba` and `black_overwritten`.
+#[test]
+fn known_lengths(rt: HostRuntime) -> Result<()> {
+    let alloc = rt.alloc();
+    let image = [0, 0, 0, 101, 102, 103, 0, 0, 0];
+    assert_bounds(&rt, alloc, rgb(3), &image, (6, 3), 9)?;
+    let image = [0, 0, 0, 255, 101, 102, 103, 104, 0, 0, 0, 255];
+    assert_bounds(&rt, alloc, rgba(3), &image, (7, 4), 11)?;
+    let image = [0, 0, 0, 1, 99, 2, 0, 0, 0];
+    assert_bounds(&rt, alloc, rgb(3), &image, (9, 0), 9)
+}
+
+#[test]
+fn black_returns_twice(rt: HostRuntime) -> Result<()> {
+    let image = [0, 0, 0, 101, 102, 103, 0, 0, 0, 101, 102, 103, 0, 0, 0];
+    let chunks = [0xc0, 0xfe, 0x65, 0x66, 0x67, 0xfe, 0, 0, 0, 0x33, 0x35];
+    assert_encodes(&rt, rt.alloc(), rgb(5), &image, &chunks)?;
+    assert_bounds(&rt, rt.alloc(), rgb(5), &image, (8, 3), 11)
+}
+
+#[test]
+fn black_returns_after_63(rt: HostRuntime) -> Result<()> {
+    let mut image = Vec::new(rt.alloc());
+    for _ in 0..63 {
+        image.extend_from_slice(&START)?;
+    }
+    image.extend_from_slice(&[101, 102, 103, 104, 0, 0, 0, 255])?;
+    let chunks = [
+        0xfd, 0xc0, 0xff, 0x65, 0x66, 0x67, 0x68, 0xff, 0, 0, 0, 0xff,
+    ];
+    assert_encodes(&rt, rt.alloc(), rgba(65), &image, &chunks)?;
+    assert_bounds(&rt, rt.alloc(), rgba(65), &image, (8, 4), 12)
+}
+
+#[test]
+fn black_twice(rt: HostRuntime) -> Result<()> {
+    assert_encodes(&rt, rt.alloc(), rgb(2), &[0; 6], &[0xc1])?;
+    assert_bounds(&rt, rt.alloc(), rgb(2), &[0; 6], (1, 0), 1)?;
+    let opaque = [0, 0, 0, 255, 0, 0, 0, 255];
+    assert_encodes(&rt, rt.alloc(), rgba(2), &opaque, &[0xc1])?;
+    assert_bounds(&rt, rt.alloc(), rgba(2), &opaque, (1, 0), 1)
+}
+
+// Two differences give the image of two black pixels.
+#[test]
+fn black_twice_by_differences(rt: HostRuntime) -> Result<()> {
+    let file = file_of(rt.alloc(), rgb(2), &[0x6a, 0x6a])?;
+    assert_decodes(&rt, rt.alloc(), &file, &rgb(2), &[0; 6])
+}
+
+// What is drawn: how many pixels there were, and how many images used all of the slack that they
+// have, and none of it.
+#[derive(Drop)]
+struct Drawn {
+    pixels: usize,
+    used: u32,
+    unused: u32,
+}
+
+// Compares the bytes of the chunks of an image's file, which stand between a header of 14 bytes and
+// an end marker of 8, with both bounds.
+fn assert_length(
     rt: &impl Abort,
-    alloc: Global,
-    numbers: &mut Numbers,
+    drawn: &mut Drawn,
+    image: &[u8],
     channels: Channels,
-) -> crate::Result<()> {
-    let mut pixels = 0usize;
-    let (mut used, mut unused) = (0u32, 0u32);
+    file: usize,
+) {
+    let (least, slack) = bounds(image, channels);
+    let (written, most) = (file.saturating_sub(22), least.saturating_add(slack));
+    assert!(rt;
+        least <= written && written <= most,
+        "{written} bytes, {least} to {most}"
+    );
+    if slack > 0 && written == most {
+        drawn.used = drawn.used.saturating_add(1);
+    }
+    if slack > 0 && written == least {
+        drawn.unused = drawn.unused.saturating_add(1);
+    }
+}
+
+// Draws 1,000 images of up to 30 by 30 pixels.
+fn assert_lengths(rt: &impl Abort, alloc: Global, channels: Channels) -> Result<()> {
+    let mut numbers = Numbers::new(0xacce55);
+    let mut drawn = Drawn {
+        pixels: 0,
+        used: 0,
+        unused: 0,
+    };
     for _ in 0..1000u32 {
         let (width, height) = (1 + numbers.below(30), 1 + numbers.below(30));
         let n = width as usize * height as usize;
-        let image = image(alloc, numbers, channels, n)?;
-        let (least, slack) = bounds(&image, channels);
-        let written = length(alloc, &image, (width, height))?;
-        assert!(rt; least <= written, "{written} bytes, not {least}");
-        let most = least.saturating_add(slack);
-        assert!(rt; written <= most, "{written} bytes, not {most}");
-        if slack > 0 && written == most {
-            used = used.saturating_add(1);
-        }
-        if slack > 0 && written == least {
-            unused = unused.saturating_add(1);
-        }
-        pixels = pixels.saturating_add(n);
+        let image = image(alloc, &mut numbers, channels, n)?;
+        let file = encode_to_vec(alloc, &image, width, height)?;
+        assert_length(rt, &mut drawn, &image, channels, file.len());
+        drawn.pixels = drawn.pixels.saturating_add(n);
     }
-    assert!(rt;
-        pixels >= 100_000 && used > 0 && unused > 0,
-        "{pixels}, {used}, {unused}"
-    );
+    assert!(rt; drawn.pixels >= 100_000);
+    assert!(rt; drawn.used > 0);
+    assert!(rt; drawn.unused > 0);
     Ok(())
 }
 
 #[test]
-fn lengths_are_near_the_least(rt: HostRuntime) -> Result<(), Fail> {
-    let mut numbers = Numbers::new(0xacce55);
-    assert_lengths(&rt, rt.alloc(), &mut numbers, Channels::Rgb)?;
-    assert_lengths(&rt, rt.alloc(), &mut numbers, Channels::Rgba)?;
-    Ok(())
+fn lengths_are_near_the_least_rgb(rt: HostRuntime) -> Result<()> {
+    assert_lengths(&rt, rt.alloc(), Channels::Rgb)
+}
+
+#[test]
+fn lengths_are_near_the_least_rgba(rt: HostRuntime) -> Result<()> {
+    assert_lengths(&rt, rt.alloc(), Channels::Rgba)
 }

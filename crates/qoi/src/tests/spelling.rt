@@ -1,8 +1,10 @@
+//! The chunk of a pixel after another, and the writers that take it.
 ghost use Rattle.std.specs.Prelude.{◌≤◌};
 
+use crate::Result;
 use crate::parts::{BytesMut, GenericWriter, Pixel, Writer};
+use crate::tests::support::texts::{assert_bytes, assert_number};
 use std::process::Abort;
-use std::test::Fail;
 
 // The pixel of these bytes, read from a slice.
 fn rgb(bytes: [u8; 3]) -> Pixel<3> {
@@ -18,83 +20,87 @@ fn rgba(bytes: [u8; 4]) -> Pixel<4> {
     px
 }
 
-#[test]
-fn bytes_are_read(rt: HostRuntime) {
-    let three = rgb([1, 2, 3]);
-    assert_eq!(rt;
-        (three.r(), three.g(), three.b(), three.a_or(9)),
-        (1, 2, 3, 9)
-    );
-    let four = rgba([1, 2, 3, 4]);
-    assert_eq!(rt; (four.r(), four.g(), four.b(), four.a_or(9)), (1, 2, 3, 4));
-    let mut px = rgba([1, 2, 3, 4]);
-    px.read(&[8, 7, 6, 5]);
-    assert!(rt; px == rgba([8, 7, 6, 5]));
+// The bytes of the pixel's chunk after opaque black, with aa behind them, and how many those are.
+fn spelled3(bytes: [u8; 3]) -> Result<([u8; 6], usize)> {
+    let mut buf = [0xaa; 6];
+    let mut writer = BytesMut::new(&mut buf);
+    rgb(bytes).encode_into(rgb([0, 0, 0]), &mut writer)?;
+    let left = writer.capacity();
+    Ok((buf, left))
 }
 
-// Each kind of chunk, after opaque black.
+// The same of a pixel of four channels, after black of alpha 7.
+fn spelled4(bytes: [u8; 4]) -> Result<([u8; 6], usize)> {
+    let mut buf = [0xaa; 6];
+    let mut writer = BytesMut::new(&mut buf);
+    rgba(bytes).encode_into(rgba([0, 0, 0, 7]), &mut writer)?;
+    let left = writer.capacity();
+    Ok((buf, left))
+}
+
 #[test]
-fn pixels_are_spelled(rt: HostRuntime) -> Result<(), Fail> {
-    let three: [([u8; 3], &[u8]); 4] = [
-        ([254, 255, 1], &[0x47]),
-        ([255, 0, 3], &[0xa0, 0x7b]),
-        ([32, 32, 32], &[0xfe, 32, 32, 32]),
-        ([0, 0, 0], &[0x6a]),
+fn pixels_of_three_channels_are_spelled(rt: HostRuntime) -> Result<()> {
+    let chunks = [
+        ([254, 255, 1], [0x47, 0xaa, 0xaa, 0xaa, 0xaa, 0xaa], 5),
+        ([255, 0, 3], [0xa0, 0x7b, 0xaa, 0xaa, 0xaa, 0xaa], 4),
+        ([32, 32, 32], [0xfe, 32, 32, 32, 0xaa, 0xaa], 2),
+        ([0, 0, 0], [0x6a, 0xaa, 0xaa, 0xaa, 0xaa, 0xaa], 5),
     ];
-    for (bytes, chunk) in three {
-        let mut buf = [0xaa; 6];
-        let mut writer = BytesMut::new(&mut buf);
-        rgb(bytes).encode_into(rgb([0, 0, 0]), &mut writer)?;
-        let left = writer.capacity();
-        assert!(rt; buf.starts_with(chunk));
-        assert_eq!(rt; chunk.len().saturating_add(left), 6);
-        assert!(rt; buf.iter().skip(chunk.len()).all(|byte| *byte == 0xaa));
+    for (bytes, chunk, room) in chunks {
+        let (buf, left) = spelled3(bytes)?;
+        assert_bytes(&rt, &buf, &chunk);
+        assert_number(&rt, left, room);
     }
-    let four: [([u8; 4], &[u8]); 4] = [
-        ([254, 255, 1, 7], &[0x47]),
-        ([255, 0, 3, 7], &[0xa0, 0x7b]),
-        ([32, 32, 32, 7], &[0xfe, 32, 32, 32]),
-        ([32, 32, 32, 8], &[0xff, 32, 32, 32, 8]),
+    Ok(())
+}
+
+#[test]
+fn pixels_of_four_channels_are_spelled(rt: HostRuntime) -> Result<()> {
+    let chunks = [
+        ([254, 255, 1, 7], [0x47, 0xaa, 0xaa, 0xaa, 0xaa, 0xaa], 5),
+        ([255, 0, 3, 7], [0xa0, 0x7b, 0xaa, 0xaa, 0xaa, 0xaa], 4),
+        ([32, 32, 32, 7], [0xfe, 32, 32, 32, 0xaa, 0xaa], 2),
+        ([32, 32, 32, 8], [0xff, 32, 32, 32, 8, 0xaa], 1),
     ];
-    for (bytes, chunk) in four {
-        let mut buf = [0xaa; 6];
-        let mut writer = BytesMut::new(&mut buf);
-        rgba(bytes).encode_into(rgba([0, 0, 0, 7]), &mut writer)?;
-        let left = writer.capacity();
-        assert!(rt; buf.starts_with(chunk));
-        assert_eq!(rt; chunk.len().saturating_add(left), 6);
-        assert!(rt; buf.iter().skip(chunk.len()).all(|byte| *byte == 0xaa));
+    for (bytes, chunk, room) in chunks {
+        let (buf, left) = spelled4(bytes)?;
+        assert_bytes(&rt, &buf, &chunk);
+        assert_number(&rt, left, room);
     }
     Ok(())
 }
 
 // Writes four bytes by the trait alone, and compares the room before and after.
-fn write_four<W: Writer>(rt: &impl Abort, writer: &mut W) -> crate::Result<()>
+fn write_four<W: Writer>(rt: &impl Abort, writer: &mut W) -> Result<()>
     requires { 4 ≤ W.room writer.old }
 {
     let room = writer.capacity();
     writer.write_one(1)?;
     writer.write_many(&[2, 3, 4])?;
-    assert_eq!(rt; writer.capacity().saturating_add(4), room);
+    assert_number(rt, writer.capacity().saturating_add(4), room);
     Ok(())
 }
 
 #[test]
-fn writers_take_bytes(rt: HostRuntime) -> Result<(), Fail> {
+fn buffers_take_bytes(rt: HostRuntime) -> Result<()> {
     let mut buf = [0xaa; 6];
     let mut writer = BytesMut::new(&mut buf);
-    assert_eq!(rt; writer.capacity(), 6);
+    assert_number(&rt, writer.capacity(), 6);
     write_four(&rt, &mut writer)?;
-    assert_eq!(rt; writer.capacity(), 2);
+    assert!(rt; writer.capacity() == 2);
     writer.write_one(5);
     writer.write_many(&[]);
-    assert_eq!(rt; writer.capacity(), 1);
-    assert_eq!(rt; buf, [1, 2, 3, 4, 5, 0xaa]);
+    assert_number(&rt, writer.capacity(), 1);
+    assert_bytes(&rt, &buf, &[1, 2, 3, 4, 5, 0xaa]);
+    Ok(())
+}
 
+#[test]
+fn writers_take_bytes(rt: HostRuntime) -> Result<()> {
     let mut sent = Vec::from_slice(rt.alloc(), &[9])?;
     let mut writer = GenericWriter::new(&mut sent);
-    assert_eq!(rt; writer.capacity(), usize::MAX);
+    assert_number(&rt, writer.capacity(), usize::MAX);
     write_four(&rt, &mut writer)?;
-    assert_eq!(rt; sent.as_slice(), [9, 1, 2, 3, 4].as_slice());
+    assert_bytes(&rt, &sent, &[9, 1, 2, 3, 4]);
     Ok(())
 }

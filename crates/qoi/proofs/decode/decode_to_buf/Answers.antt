@@ -1,11 +1,13 @@
 -- A file is decoded as such, and it is not refused.
-use Rattle.std.proofs.Common.{◌≡◌, ◌≤◌, List, length, take, drop, Some, Ok, ℕ, IsOk, false, true, refl, ap, sym, ◌∙◌, subst, arith}
+use Rattle.std.proofs.Common.{◌≡◌, [], append-nil, ◌≤◌, List, ◌++◌, length, take, drop, Some, Ok, ℕ, IsOk, false, true, refl, ap, sym, ◌∙◌, subst, arith}
 use Rattle.qoi.specs.declared.header.Header.{Header}
-use Rattle.qoi.specs.Qoi.{channels_number, pixel_count, header_size}
+use Rattle.qoi.specs.Qoi.{channels_number, header_of, pixel_count, header_size}
 use Rattle.qoi.specs.Verdicts.{IsWhole}
 use Rattle.qoi.specs.Decoding.{DecodesFile, ReadsImage, file_byte_count, byte_count}
 use Rattle.qoi.specs.DecoderState.{DecoderState}
-use Rattle.qoi.proofs.decoding.OneFile.{file_has_header, file_is_whole, header_is_one, decodes_behind}
+use Rattle.qoi.proofs.decoding.OneFile.{file_has_header, file_is_whole, header_is_one, decodes_behind, decoding_is_one}
+use Rattle.qoi.specs.Encoded.{IsFileOf}
+use Rattle.std.proofs.lemmas.Result.{err_from_is_err_and}
 use Rattle.qoi.proofs.decode.decode_to_buf.Goals as goal
 
 pub returns-in_err-decode_to_buf-clause-accepts : goal.returns-in_err-decode_to_buf-clause-accepts
@@ -48,3 +50,38 @@ returns-clause-accepts c h cs rest f split room =
     let d = c.in_ok-decoder.decoder in
     let same : c.header.result.now ≡ d.header = c.header.ensures ∙ ap (λ (s : DecoderState (List ℕ)). s.header) c.in_ok-decode_to_buf.ensures.kept in
     ap Ok (same ∙ header_is_one c.args.data.now d.header h c.in_ok-decoder.ensures.accepted.0 (file_has_header h cs c.args.data.now rest f split))
+
+-- the file of an image, as a file
+file_ahead : (h : Header) (raw bytes rest «data» : List ℕ) → IsFileOf h raw bytes → «data» ≡ bytes ++ rest → DecodesFile «data» h rest raw
+file_ahead h raw bytes rest ahead f split = subst (λ (z : List ℕ). DecodesFile z h rest raw) (sym split) (f.comes_back rest)
+
+pub returns-in_err-decode_to_buf-clause-followed : goal.returns-in_err-decode_to_buf-clause-followed
+returns-in_err-decode_to_buf-clause-followed c h raw bytes rest f split room =
+    let d = file_ahead h raw bytes rest c.args.data.now f split in
+    let p = err_from_is_err_and c.from_residual-in_err-decode_to_buf.result c.from_residual-in_err-decode_to_buf.ensures.1 in
+    let ok = returns-in_err-decode_to_buf-clause-accepts c h d.cs rest d.is_file d.split (subst (λ n. n ≤ length c.args.buf.now) f.size room) in
+    let error = p.1 in
+    absurd cc
+
+pub returns-clause-followed : goal.returns-clause-followed
+returns-clause-followed c h raw bytes rest f split room =
+    let d = file_ahead h raw bytes rest c.args.data.now f split in
+    let decoded = returns-clause-decoded c in
+    let buf = c.decode_to_buf.new.buf in
+    let k = c.header.result.now in
+    let one = decoding_is_one c.args.data.now h k rest decoded.0 raw (take (file_byte_count k) buf) d decoded.1 in (
+      ap Ok one.0,
+      ap (λ n. take n buf) (f.size ∙ ap file_byte_count (sym one.0)) ∙ one.1,
+    )
+
+pub returns-in_err-decode_to_buf-clause-comes_back : goal.returns-in_err-decode_to_buf-clause-comes_back
+returns-in_err-decode_to_buf-clause-comes_back c h raw f room = returns-in_err-decode_to_buf-clause-followed c h raw c.args.data.now [] f (sym (append-nil c.args.data.now)) room
+
+pub returns-clause-comes_back : goal.returns-clause-comes_back
+returns-clause-comes_back c h raw f room = returns-clause-followed c h raw c.args.data.now [] f (sym (append-nil c.args.data.now)) room
+
+pub returns-in_err-decoder-clause-comes_back : goal.returns-in_err-decoder-clause-comes_back
+returns-in_err-decoder-clause-comes_back c h raw f room =
+    let read = subst (λ (z : List ℕ). header_of z ≡ Ok h) (append-nil c.args.data.now) (f.comes_back []).header in
+    let refused = c.in_err-decoder.ensures.refused in
+    absurd cc

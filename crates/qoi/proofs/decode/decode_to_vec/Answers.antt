@@ -1,12 +1,12 @@
 -- A file is decoded as such, and what the decoder refuses is what the file is refused for.
-use Rattle.std.proofs.Common.{◌≡◌, ℕ, List, drop, Some, refl, ap, sym, ◌∙◌, subst, inl, inr, ⊎_elim, arith}
+use Rattle.std.proofs.Common.{Ok, ◌≡◌, [], append-nil, ℕ, List, drop, Some, refl, ap, sym, ◌∙◌, subst, inl, inr, ⊎_elim, arith}
 use Rattle.qoi.specs.declared.header.Header.{Header}
 use Rattle.std.proofs.lemmas.Result.{err_from_is_err_and}
-use Rattle.qoi.specs.Qoi.{pixel_count, header_size}
+use Rattle.qoi.specs.Qoi.{header_of, pixel_count, header_size}
 use Rattle.qoi.specs.Verdicts.{IsWhole}
 use Rattle.qoi.specs.Decoding.{DecodesFile, RefusesBytes}
 use Rattle.qoi.specs.DecoderState.{DecoderState}
-use Rattle.qoi.proofs.decoding.OneFile.{file_has_header, file_is_whole, decodes_behind}
+use Rattle.qoi.proofs.decoding.OneFile.{file_has_header, file_is_whole, decodes_behind, decoding_is_one}
 use Rattle.qoi.proofs.decode.decode_to_vec.Goals as goal
 
 pub returns-in_err-out-clause-refused : goal.returns-in_err-out-clause-refused
@@ -14,7 +14,7 @@ returns-in_err-out-clause-refused c =
     let p = err_from_is_err_and c.from_residual-in_err-out.result c.from_residual-in_err-out.ensures.1 in
     let d = c.in_ok-decoder.decoder in
     let accepted = c.in_ok-decoder.ensures.accepted in
-    rw (p.1, p.2) (⊎_elim inl (λ r. inr (inr (d.header, accepted.0, subst (λ z. RefusesBytes (pixel_count d.header) z c.in_err-out.field-0.0) accepted.2 r.1))) c.in_err-out.ensures.refused)
+    rw (p.1, p.2) (⊎_elim (λ none. inr (none, d.header, accepted.0)) (λ r. inl (inr (d.header, accepted.0, subst (λ z. RefusesBytes (pixel_count d.header) z c.in_err-out.field-0.0) accepted.2 r.1))) c.in_err-out.ensures.refused)
 
 pub returns-in_err-out-clause-accepts : goal.returns-in_err-out-clause-accepts
 returns-in_err-out-clause-accepts c h cs rest f split =
@@ -43,3 +43,28 @@ returns-clause-decoded c =
       subst (λ (k : Header). DecodesFile c.args.data.now k rest c.in_ok-out.out.items) (sym same)
           (decodes_behind c.args.data.now d rest c.in_ok-out.out.items (λ i. omega (arith, c.type_inv.data i)) accepted.0 accepted.1 accepted.2 c.in_ok-out.ensures.decoded),
     )
+
+pub returns-in_err-out-clause-followed : goal.returns-in_err-out-clause-followed
+returns-in_err-out-clause-followed c h raw bytes rest f split =
+    let d = subst (λ (z : List ℕ). DecodesFile z h rest raw) (sym split) (f.comes_back rest) in
+    let p = err_from_is_err_and c.from_residual-in_err-out.result c.from_residual-in_err-out.ensures.1 in
+    let unless = returns-in_err-out-clause-accepts c h d.cs rest d.is_file d.split in
+    rw p.1 (rw p.1 at unless)
+
+pub returns-clause-followed : goal.returns-clause-followed
+returns-clause-followed c h raw bytes rest f split =
+    let d = subst (λ (z : List ℕ). DecodesFile z h rest raw) (sym split) (f.comes_back rest) in
+    let decoded = returns-clause-decoded c in
+    decoding_is_one c.args.data.now h c.header.result.now rest decoded.0 raw c.in_ok-out.out.items d decoded.1
+
+pub returns-in_err-out-clause-comes_back : goal.returns-in_err-out-clause-comes_back
+returns-in_err-out-clause-comes_back c h raw f = returns-in_err-out-clause-followed c h raw c.args.data.now [] f (sym (append-nil c.args.data.now))
+
+pub returns-clause-comes_back : goal.returns-clause-comes_back
+returns-clause-comes_back c h raw f = returns-clause-followed c h raw c.args.data.now [] f (sym (append-nil c.args.data.now))
+
+pub returns-in_err-decoder-clause-comes_back : goal.returns-in_err-decoder-clause-comes_back
+returns-in_err-decoder-clause-comes_back c h raw f =
+    let read = subst (λ (z : List ℕ). header_of z ≡ Ok h) (append-nil c.args.data.now) (f.comes_back []).header in
+    let refused = c.in_err-decoder.ensures.refused in
+    absurd cc

@@ -1,0 +1,7 @@
+//! What the tests share.
+
+pub mod fakes;
+pub mod files;
+pub mod generator;
+pub mod images;
+pub mod texts;
