@@ -43,18 +43,21 @@ pub fn decode_to_buf(buf: &mut [u8], data: &[u8]) -> Result<Header>
         × DecodesFile «data».now h rest (take (file_byte_count h) buf.new)) }
     ensures refused { IfErr result (RefusesFile (length buf.old) «data».now) }
     // Files are accepted, whatever follows them.
-    ensures accepts { (h : Header) (cs : List Chunk) (rest : List ℕ) → IsFile h cs → «data».now ≡ file h cs ++ rest
+    ensures accepts { (h : Header) (cs : List Chunk) (rest : List ℕ) → IsFile h cs
+        → «data».now ≡ file h cs ++ rest
         → file_byte_count h ≤ length buf.old → result ≡ Ok h }
     ensures later { (h : Header) → header_of «data».now ≡ Ok h
         → drop (file_byte_count h) buf.new ≡ drop (file_byte_count h) buf.old }
     ensures untouched { (e : Error) → header_of «data».now ≡ Err e → buf.new ≡ buf.old }
     ensures short { (h : Header) → header_of «data».now ≡ Ok h → length buf.old < file_byte_count h
-        → (result ≡ Err (Error.OutputBufferTooSmall (length buf.old) (file_byte_count h))) × (buf.new ≡ buf.old) }
+        → (result ≡ Err (Error.OutputBufferTooSmall (length buf.old) (file_byte_count h)))
+        × (buf.new ≡ buf.old) }
     // The file of an image gives its header and its raw bytes, where the buffer is long enough; so it
     // does where other bytes follow it.
     ensures comes_back { (h : Header) (raw : List ℕ) → IsFileOf h raw «data».now
         → length raw ≤ length buf.old → (result ≡ Ok h) × (take (length raw) buf.new ≡ raw) }
-    ensures followed { (h : Header) (raw bytes rest : List ℕ) → IsFileOf h raw bytes → «data».now ≡ bytes ++ rest
+    ensures followed { (h : Header) (raw bytes rest : List ℕ) → IsFileOf h raw bytes
+        → «data».now ≡ bytes ++ rest
         → length raw ≤ length buf.old → (result ≡ Ok h) × (take (length raw) buf.new ≡ raw) }
     ensures room { IfOk result (λ h. raw_byte_count h ≤ length buf.old) }
 {
@@ -68,18 +71,21 @@ pub fn decode_to_buf(buf: &mut [u8], data: &[u8]) -> Result<Header>
 /// The refusals are those of `Decoder::new` and then of its `decode_to_vec`; so memory is asked for
 /// only where the header is good. The vector has `n_bytes` of the header.
 pub fn decode_to_vec(alloc: Global, data: &[u8]) -> Result<(Header, Vec<u8>)>
-    ensures decoded { IfOk result (λ x. (rest : List ℕ) × DecodesFile «data».now x.0 rest x.1.items) }
+    ensures decoded { IfOk result (λ x. (rest : List ℕ)
+        × DecodesFile «data».now x.0 rest x.1.items) }
     ensures length { IfOk result (λ x. HasImageLength (raw_byte_count x.0) x.1.items) }
     ensures refused { IfErr result (λ e. RefusesWholeFile «data».now e
         ⊎ ((e ≡ Error.OutOfMemory) × (h : Header) × (header_of «data».now ≡ Ok h))) }
     // Files are accepted, whatever follows them, unless memory runs out.
-    ensures accepts { (h : Header) (cs : List Chunk) (rest : List ℕ) → IsFile h cs → «data».now ≡ file h cs ++ rest
+    ensures accepts { (h : Header) (cs : List Chunk) (rest : List ℕ) → IsFile h cs
+        → «data».now ≡ file h cs ++ rest
         → IsOkUnless result Error.OutOfMemory }
     // The file of an image gives its header and its raw bytes, unless memory runs out; so it does
     // where other bytes follow it.
     ensures comes_back { (h : Header) (raw : List ℕ) → IsFileOf h raw «data».now
         → MatchResult result (λ x. (x.0 ≡ h) × (x.1.items ≡ raw)) (λ e. e ≡ Error.OutOfMemory) }
-    ensures followed { (h : Header) (raw bytes rest : List ℕ) → IsFileOf h raw bytes → «data».now ≡ bytes ++ rest
+    ensures followed { (h : Header) (raw bytes rest : List ℕ) → IsFileOf h raw bytes
+        → «data».now ≡ bytes ++ rest
         → MatchResult result (λ x. (x.0 ≡ h) × (x.1.items ≡ raw)) (λ e. e ≡ Error.OutOfMemory) }
 {
     let mut decoder = Decoder::<Bytes>::new(data)?;
@@ -148,9 +154,11 @@ impl<R: Read + Drop> Decoder<R> {
     /// A decoder asks its reader for a chunk's few bytes at a time, and never for one past the end
     /// marker: a file or a socket wants a buffering reader around it, as `std::io::BufReader`.
     pub fn from_stream(mut reader: R) -> Result<Decoder<R>>
-        ensures accepted { IfOk result (λ d. ReadsHeader false (R.remaining reader) (R.remaining d.reader) (Ok d.header)
+        ensures accepted { IfOk result (λ d. ReadsHeader false (R.remaining reader)
+            (R.remaining d.reader) (Ok d.header)
             × (d.channels ≡ d.header.channels)) }
-        ensures refused { IfErr result (λ e. (left : Option (List ℕ)) × ReadsHeader false (R.remaining reader) left (Err e)) }
+        ensures refused { IfErr result (λ e. (left : Option (List ℕ))
+            × ReadsHeader false (R.remaining reader) left (Err e)) }
     {
         let header = reader.decode_header()?;
         let channels = header.channels;
@@ -198,7 +206,8 @@ impl<R: Reader> Decoder<R> {
         R: Clone,
         ensures cloned { IfOk result (λ d. (d ≡ record self.now { reader = d.reader })
             × R.is_clone self.now.reader d.reader) }
-        ensures equal { ((reader : _) → R.is_clone self.now.reader reader → reader ≡ self.now.reader)
+        ensures equal { ((reader : _) → R.is_clone self.now.reader reader
+            → reader ≡ self.now.reader)
             → IfOk result (λ d. d ≡ self.now) }
         ensures refused { IfErr result (λ e. e ≡ Error.OutOfMemory) }
     {
@@ -245,7 +254,8 @@ impl<R: Reader> Decoder<R> {
     /// buffer may then be overwritten; later bytes never are.
     pub fn decode_to_buf(&mut self, buf: &mut [u8]) -> Result<usize>
         ensures short { length buf.old < image_byte_count self.old
-            → (result ≡ Err (Error.OutputBufferTooSmall (length buf.old) (image_byte_count self.old)))
+            → IsErrOf result
+            (Error.OutputBufferTooSmall (length buf.old) (image_byte_count self.old))
             × (self.new ≡ self.old) × (buf.new ≡ buf.old) }
         ensures decoded { IfOk result (λ size. (size ≡ image_byte_count self.old)
             × DecodesImage R.ahead self.old self.new (take size buf.new)) }
@@ -253,9 +263,11 @@ impl<R: Reader> Decoder<R> {
             → IfErr result (RefusesDecoding R.in_memory R.ahead self.old self.new) }
         // From memory, bytes whose verdict is whole are accepted.
         ensures accepts { R.in_memory ≡ true → (bytes rest : List ℕ) (cs : List Chunk)
-            → R.ahead self.old.reader ≡ Some bytes → IsWhole (pixel_count self.old.header) bytes cs rest
+            → R.ahead self.old.reader ≡ Some bytes
+            → IsWhole (pixel_count self.old.header) bytes cs rest
             → image_byte_count self.old ≤ length buf.old → IsOk result }
-        ensures later { drop (image_byte_count self.old) buf.new ≡ drop (image_byte_count self.old) buf.old }
+        ensures later { drop (image_byte_count self.old) buf.new
+            ≡ drop (image_byte_count self.old) buf.old }
         ensures kept { self.new ≡ record self.old { reader = self.new.reader } }
     {
         let size = self.required_buf_len();
@@ -280,11 +292,13 @@ impl<R: Reader> Decoder<R> {
     pub fn decode_to_vec(&mut self, alloc: Global) -> Result<Vec<u8>>
         ensures decoded { IfOk result (λ out. DecodesImage R.ahead self.old self.new out.items) }
         ensures length { IfOk result (λ out. HasImageLength (image_byte_count self.old) out.items) }
-        ensures refused { IfErr result (λ e. (e ≡ Error.OutOfMemory) ⊎ RefusesDecoding R.in_memory R.ahead self.old self.new e) }
+        ensures refused { IfErr result (λ e. (e ≡ Error.OutOfMemory)
+            ⊎ RefusesDecoding R.in_memory R.ahead self.old self.new e) }
         ensures no_memory { IsErrOf result Error.OutOfMemory → self.new ≡ self.old }
         // From memory, bytes whose verdict is whole are accepted, unless memory runs out.
         ensures accepts { R.in_memory ≡ true → (bytes rest : List ℕ) (cs : List Chunk)
-            → R.ahead self.old.reader ≡ Some bytes → IsWhole (pixel_count self.old.header) bytes cs rest
+            → R.ahead self.old.reader ≡ Some bytes
+            → IsWhole (pixel_count self.old.header) bytes cs rest
             → IsOkUnless result Error.OutOfMemory }
         ensures kept { self.new ≡ record self.old { reader = self.new.reader } }
     {

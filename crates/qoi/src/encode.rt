@@ -1,5 +1,5 @@
 //! Encoding, into buffers, vectors and writers.
-ghost use Rattle.std.specs.Prelude.{◌≡◌, ◌≢◌, ℕ, ◌+◌, ◌*◌, ◌/◌, ◌%◌, ◌<◌, ◌≤◌, List, [], ◌∷◌, ◌++◌, length, take, drop, ◌⊎◌, Ok, Err, IsOk, IsOkAnd, IsOkUnless, OnOk, OnErr, IfOk, IfErr};
+ghost use Rattle.std.specs.Prelude.{◌≡◌, ◌≢◌, ℕ, ◌+◌, ◌*◌, ◌/◌, ◌%◌, ◌<◌, ◌≤◌, List, [], ◌∷◌, ◌++◌, length, take, drop, ◌⊎◌, Ok, Err, IsErrOf, IsOk, IsOkAnd, IsOkUnless, OnOk, OnErr, IfOk, IfErr};
 ghost use Rattle.std.specs.Io.KnownBytes.{Appends};
 ghost use Rattle.qoi.specs.declared.header.Header.{Header};
 ghost use Rattle.qoi.specs.declared.error.Error.{Error};
@@ -214,13 +214,18 @@ pub fn encode_max_len(width: u32, height: u32, channels: u8) -> usize
 ///
 /// The refusals are those of `Encoder::new` and then of its `encode_to_buf`.
 pub fn encode_to_buf(buf: &mut [u8], data: &[u8], width: u32, height: u32) -> Result<usize>
-    ensures image { (e : Error) → image_header «data».now width height ≡ Err e → (result ≡ Err e) × (buf.new ≡ buf.old) }
-    ensures short { (h : Header) → image_header «data».now width height ≡ Ok h → length buf.old < max_file_len h
-        → (result ≡ Err (Error.OutputBufferTooSmall (length buf.old) (max_file_len h))) × (buf.new ≡ buf.old) }
-    ensures encoded { (h : Header) → image_header «data».now width height ≡ Ok h → max_file_len h ≤ length buf.old
+    ensures image { (e : Error) → image_header «data».now width height ≡ Err e → (result ≡ Err e)
+        × (buf.new ≡ buf.old) }
+    ensures short { (h : Header) → image_header «data».now width height ≡ Ok h
+        → length buf.old < max_file_len h
+        → (result ≡ Err (Error.OutputBufferTooSmall (length buf.old) (max_file_len h)))
+        × (buf.new ≡ buf.old) }
+    ensures encoded { (h : Header) → image_header «data».now width height ≡ Ok h
+        → max_file_len h ≤ length buf.old
         → IsOkAnd result (λ n. (bytes : List ℕ) × IsFileOf h «data».now bytes × (n ≡ length bytes)
         × (buf.new ≡ bytes ++ drop n buf.old)) }
-    ensures length { (h : Header) → image_header «data».now width height ≡ Ok h → IfOk result (IsFileLength h) }
+    ensures length { (h : Header) → image_header «data».now width height ≡ Ok h
+        → IfOk result (IsFileLength h) }
 {
     Encoder::new(data, width, height)?.encode_to_buf(buf)
 }
@@ -233,7 +238,8 @@ pub fn encode_to_vec(alloc: Global, data: &[u8], width: u32, height: u32) -> Res
     ensures encoded { IfOk result (λ v. (h : Header) × (image_header «data».now width height ≡ Ok h)
         × IsFileOf h «data».now v.items) }
     ensures refused { IfErr result (λ e. (image_header «data».now width height ≡ Err e)
-        ⊎ ((e ≡ Error.OutOfMemory) × (h : Header) × (image_header «data».now width height ≡ Ok h))) }
+        ⊎ ((e ≡ Error.OutOfMemory) × (h : Header)
+        × (image_header «data».now width height ≡ Ok h))) }
     ensures length { (h : Header) → image_header «data».now width height ≡ Ok h
         → IfOk result (λ v. IsFileLength h (length v.items)) }
 {
@@ -271,7 +277,9 @@ impl<'a> Encoder<'a> {
     /// 400,000,000; `InvalidImageLength` where the bytes aren't the same number for each pixel;
     /// `InvalidChannels` where that number, cut at 255, isn't 3 or 4.
     pub fn new(data: &'a [u8], width: u32, height: u32) -> Result<Encoder<'a>>
-        ensures accepted { IfOk result (λ e. (image_header «data».entry.now width height ≡ Ok e.header) × (e.raw ≡ «data».entry.now)) }
+        ensures accepted { IfOk result (λ e.
+            (image_header «data».entry.now width height ≡ Ok e.header)
+            × (e.raw ≡ «data».entry.now)) }
         ensures refused { IfErr result (λ e. image_header «data».entry.now width height ≡ Err e) }
     {
         let mut header = Header::try_new(width, height, Channels::Rgb, ColorSpace::Srgb)?;
@@ -291,7 +299,8 @@ impl<'a> Encoder<'a> {
     /// The same encoder with another color space, which changes the fourteenth byte of the file
     /// and no other.
     pub fn with_colorspace(mut self, colorspace: ColorSpace) -> Encoder<'a>
-        ensures { result ≡ record self.entry { header = record self.entry.header { colorspace = colorspace } } }
+        ensures { result
+            ≡ record self.entry { header = record self.entry.header { colorspace = colorspace } } }
     {
         self.header = self.header.with_colorspace(colorspace);
         self
@@ -326,9 +335,12 @@ impl<'a> Encoder<'a> {
     #[tactic(auto, using(crate::proofs::encoding::BufferFilled::buffer_filled))]
     pub fn encode_to_buf(&self, buf: &mut [u8]) -> Result<usize>
         ensures short { length buf.old < max_file_len self.now.header
-            → (result ≡ Err (Error.OutputBufferTooSmall (length buf.old) (max_file_len self.now.header))) × (buf.new ≡ buf.old) }
+            → IsErrOf result
+            (Error.OutputBufferTooSmall (length buf.old) (max_file_len self.now.header))
+            × (buf.new ≡ buf.old) }
         ensures encoded { max_file_len self.now.header ≤ length buf.old
-            → IsOkAnd result (λ n. (bytes : List ℕ) × IsFileOf self.now.header self.now.raw bytes × (n ≡ length bytes)
+            → IsOkAnd result (λ n. (bytes : List ℕ) × IsFileOf self.now.header self.now.raw bytes
+            × (n ≡ length bytes)
             × (buf.new ≡ bytes ++ drop n buf.old)) }
         ensures length { IfOk result (IsFileLength self.now.header) }
     {
@@ -366,13 +378,16 @@ impl<'a> Encoder<'a> {
     /// end marker are written by calls of their own, so an unbuffered writer wants a buffering one
     /// around it.
     pub fn encode_to_stream<W: Write>(&self, writer: &mut W) -> Result<usize>
-        ensures sent { IfOk result (λ n. (bytes : List ℕ) × IsFileOf self.now.header self.now.raw bytes × (n ≡ length bytes)
+        ensures sent { IfOk result (λ n. (bytes : List ℕ)
+            × IsFileOf self.now.header self.now.raw bytes × (n ≡ length bytes)
             × Appends (W.contents writer.old) (W.contents writer.new) bytes) }
         // Any bytes that are the file of the image are those that were sent.
         ensures same { (bytes : List ℕ) → IsFileOf self.now.header self.now.raw bytes
-            → IfOk result (λ n. (n ≡ length bytes) × Appends (W.contents writer.old) (W.contents writer.new) bytes) }
+            → IfOk result (λ n. (n ≡ length bytes)
+            × Appends (W.contents writer.old) (W.contents writer.new) bytes) }
         ensures length { IfOk result (IsFileLength self.now.header) }
-        ensures refused { IfErr result (λ e. IsIoError e × (bytes : List ℕ) × IsFileOf self.now.header self.now.raw bytes
+        ensures refused { IfErr result (λ e. IsIoError e × (bytes : List ℕ)
+            × IsFileOf self.now.header self.now.raw bytes
             × AppendsBeginning (W.contents writer.old) (W.contents writer.new) bytes) }
     {
         let mut writer = GenericWriter::new(writer);

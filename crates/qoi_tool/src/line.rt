@@ -39,9 +39,11 @@ impl Write for Line {
 
 /// Writes the line of a header; after a fault a beginning of it was written.
 pub fn write_line<W: Write>(output: &mut W, header: &Header) -> Result<(), Error>
-    ensures written { OnOk result (Appends (W.contents output.old) (W.contents output.new) (header_line header.now)) }
+    ensures written { OnOk result (Appends (W.contents output.old) (W.contents output.new)
+        (header_line header.now)) }
     ensures failed { IfErr result (λ e. IsIoError e
-        × WritesBeginning (W.contents output.old) (W.contents output.new) (header_line header.now)) }
+        × WritesBeginning (W.contents output.old) (W.contents output.new)
+        (header_line header.now)) }
 {
     let line = line_of(header)?;
     write_whole(output, &line.bytes[..line.filled])

@@ -59,9 +59,11 @@ pub fn run<R: Read, W: Write>(
     output: &mut W,
 ) -> Result<(), Fault>
     ensures done { OnOk result (Finishes (map string_bytes words.now)
-        (R.remaining input.old) (R.remaining input.new) (W.contents output.old) (W.contents output.new)) }
+        (R.remaining input.old) (R.remaining input.new) (W.contents output.old)
+        (W.contents output.new)) }
     ensures refused { IfErr result (StopsAt (map string_bytes words.now)
-        (R.remaining input.old) (R.remaining input.new) (W.contents output.old) (W.contents output.new)) }
+        (R.remaining input.old) (R.remaining input.new) (W.contents output.old)
+        (W.contents output.new)) }
     ensures usage { IsUsage (map string_bytes words.now) → result ≡ Err Fault.Usage }
 {
     let Some(command) = command_of(words) else {
@@ -81,9 +83,11 @@ pub fn run<R: Read, W: Write>(
 // Reads a file, and writes its raw bytes in the file's own channels.
 fn decode<R: Read, W: Write>(alloc: Global, input: &mut R, output: &mut W) -> Result<(), Error>
     ensures done { OnOk result (Does Decode
-        (R.remaining input.old) (R.remaining input.new) (W.contents output.old) (W.contents output.new)) }
+        (R.remaining input.old) (R.remaining input.new) (W.contents output.old)
+        (W.contents output.new)) }
     ensures refused { IfErr result (Stops Decode
-        (R.remaining input.old) (R.remaining input.new) (W.contents output.old) (W.contents output.new)) }
+        (R.remaining input.old) (R.remaining input.new) (W.contents output.old)
+        (W.contents output.new)) }
 {
     let file = read_all(alloc, input)?;
     let (_, pixels) = decode_to_vec(alloc, &file)?;
@@ -98,9 +102,11 @@ fn decode_into<R: Read, W: Write>(
     output: &mut W,
 ) -> Result<(), Error>
     ensures done { OnOk result (Does (DecodeInto channels)
-        (R.remaining input.old) (R.remaining input.new) (W.contents output.old) (W.contents output.new)) }
+        (R.remaining input.old) (R.remaining input.new) (W.contents output.old)
+        (W.contents output.new)) }
     ensures refused { IfErr result (Stops (DecodeInto channels)
-        (R.remaining input.old) (R.remaining input.new) (W.contents output.old) (W.contents output.new)) }
+        (R.remaining input.old) (R.remaining input.new) (W.contents output.old)
+        (W.contents output.new)) }
 {
     let file = read_all(alloc, input)?;
     let mut decoder = Decoder::new(&file)?.with_channels(channels);
@@ -118,9 +124,11 @@ fn encode<R: Read, W: Write>(
     output: &mut W,
 ) -> Result<(), Error>
     ensures done { OnOk result (Does (Encode width height colorspace)
-        (R.remaining input.old) (R.remaining input.new) (W.contents output.old) (W.contents output.new)) }
+        (R.remaining input.old) (R.remaining input.new) (W.contents output.old)
+        (W.contents output.new)) }
     ensures refused { IfErr result (Stops (Encode width height colorspace)
-        (R.remaining input.old) (R.remaining input.new) (W.contents output.old) (W.contents output.new)) }
+        (R.remaining input.old) (R.remaining input.new) (W.contents output.old)
+        (W.contents output.new)) }
 {
     let pixels = read_all(alloc, input)?;
     let encoder = Encoder::new(&pixels, width, height)?.with_colorspace(colorspace);
@@ -131,9 +139,11 @@ fn encode<R: Read, W: Write>(
 // Reads a header and no byte past it, and writes a line of what it says. It takes no memory.
 fn info<R: Read, W: Write>(input: &mut R, output: &mut W) -> Result<(), Error>
     ensures done { OnOk result (Does Info
-        (R.remaining input.old) (R.remaining input.new) (W.contents output.old) (W.contents output.new)) }
+        (R.remaining input.old) (R.remaining input.new) (W.contents output.old)
+        (W.contents output.new)) }
     ensures refused { IfErr result (Stops Info
-        (R.remaining input.old) (R.remaining input.new) (W.contents output.old) (W.contents output.new)) }
+        (R.remaining input.old) (R.remaining input.new) (W.contents output.old)
+        (W.contents output.new)) }
 {
     let mut bytes = [0; HEADER_SIZE];
     read_exactly(input, &mut bytes)?;

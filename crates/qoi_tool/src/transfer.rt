@@ -14,7 +14,8 @@ const PIECE: usize = 65536;
 
 /// All the bytes that the reader gives until a read gives none.
 pub fn read_all<R: Read>(alloc: Global, input: &mut R) -> Result<Vec<u8>, Error>
-    ensures read { IfOk result (λ v. TakesAll (R.remaining input.old) (R.remaining input.new) v.items) }
+    ensures read { IfOk result (λ v. TakesAll (R.remaining input.old)
+        (R.remaining input.new) v.items) }
     ensures failed { IfErr result IsOutside }
 {
     let mut bytes = Vec::new(alloc);
@@ -70,7 +71,8 @@ fn read_after<R: Read>(input: &mut R, buf: &mut [u8], filled: usize) -> io::Resu
 
 /// Writes all the bytes; after a fault a beginning of them was written.
 pub fn write_whole<W: Write>(output: &mut W, bytes: &[u8]) -> Result<(), Error>
-    ensures written { OnOk result (Appends (W.contents output.old) (W.contents output.new) bytes.now) }
+    ensures written { OnOk result (Appends (W.contents output.old)
+        (W.contents output.new) bytes.now) }
     ensures failed { IfErr result (λ e. IsIoError e
         × WritesBeginning (W.contents output.old) (W.contents output.new) bytes.now) }
 {

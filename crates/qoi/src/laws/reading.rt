@@ -23,7 +23,8 @@ pub fn verdict_is_one()
     ensures cut { (n : ℕ) (bytes : List ℕ) (cs ds : List Chunk) (x y : List ℕ)
         → IsCut n bytes cs x → IsCut n bytes ds y → (cs ≡ ds) × (x ≡ y) }
     ensures wrong { (n : ℕ) (bytes : List ℕ) (cs ds : List Chunk) (eight other x y : List ℕ)
-        → IsWrong n bytes cs eight x → IsWrong n bytes ds other y → (cs ≡ ds) × (eight ≡ other) × (x ≡ y) }
+        → IsWrong n bytes cs eight x → IsWrong n bytes ds other y → (cs ≡ ds) × (eight ≡ other)
+        × (x ≡ y) }
     ensures whole_not_cut { (n : ℕ) (bytes : List ℕ) (cs ds : List Chunk) (x part : List ℕ)
         → IsWhole n bytes cs x → IsCut n bytes ds part → ⊥ }
     ensures whole_not_wrong { (n : ℕ) (bytes : List ℕ) (cs ds : List Chunk) (x eight rest : List ℕ)
@@ -37,7 +38,8 @@ pub fn verdict_is_some()
     ensures { (n : ℕ) (bytes : List ℕ) → AreBytes bytes
         → ((cs : List Chunk) × (rest : List ℕ) × IsWhole n bytes cs rest)
         ⊎ (((cs : List Chunk) × (part : List ℕ) × IsCut n bytes cs part)
-        ⊎ ((cs : List Chunk) × (eight : List ℕ) × (rest : List ℕ) × IsWrong n bytes cs eight rest)) }
+        ⊎ ((cs : List Chunk) × (eight : List ℕ) × (rest : List ℕ)
+        × IsWrong n bytes cs eight rest)) }
 {}
 
 /// A valid header's fourteen bytes are read as it, whatever follows them; and bytes that are read as a
@@ -58,17 +60,21 @@ pub fn no_file_begins_another()
 /// A file's header is read, and what follows the header is whole; and bytes with a header and whole
 /// chunks after it are a file and what follows it.
 pub fn files_are_read()
-    ensures read { (h : Header) (cs : List Chunk) (bytes rest : List ℕ) → IsFile h cs → bytes ≡ file h cs ++ rest
+    ensures read { (h : Header) (cs : List Chunk) (bytes rest : List ℕ) → IsFile h cs
+        → bytes ≡ file h cs ++ rest
         → (header_of bytes ≡ Ok h) × IsWhole (pixel_count h) (drop 14 bytes) cs rest }
-    ensures only { (h : Header) (cs : List Chunk) (bytes rest : List ℕ) → AreBytes bytes → header_of bytes ≡ Ok h
-        → IsWhole (pixel_count h) (drop 14 bytes) cs rest → IsFile h cs × (bytes ≡ file h cs ++ rest) }
+    ensures only { (h : Header) (cs : List Chunk) (bytes rest : List ℕ) → AreBytes bytes
+        → header_of bytes ≡ Ok h
+        → IsWhole (pixel_count h) (drop 14 bytes) cs rest → IsFile h cs
+        × (bytes ≡ file h cs ++ rest) }
 {}
 
 /// An image of n pixels takes five bytes for each pixel at most; and where chunks stop short of
 /// n pixels, there is room for five bytes more.
 #[tactic(auto, using(crate::proofs::decoding::TakenBytes::reached_within, crate::proofs::decoding::TakenBytes::below_within))]
 pub fn bytes_taken()
-    ensures reached { (n : ℕ) (cs : List Chunk) → AreChunks cs → Reaches n cs → length (text cs) ≤ 5 * n }
+    ensures reached { (n : ℕ) (cs : List Chunk) → AreChunks cs → Reaches n cs
+        → length (text cs) ≤ 5 * n }
     ensures short { (n : ℕ) (cs : List Chunk) → AreChunks cs → StayBelow n cs
         → length (meaning cs) < n → 5 + length (text cs) ≤ 5 * n }
 {}
@@ -90,16 +96,20 @@ pub fn worked_examples()
     ensures luma_wraps { meaning (Chunk.Luma 0x9f 0 ∷ []) ≡ pixel 247 255 247 255 ∷ [] }
     ensures luma_least { meaning (Chunk.Luma 0x80 0x88 ∷ []) ≡ pixel 224 224 224 255 ∷ [] }
     ensures luma_greatest { meaning (Chunk.Luma 0xbf 0xff ∷ []) ≡ pixel 38 31 38 255 ∷ [] }
-    ensures place_means_seen { meaning (Chunk.Rgb 101 102 103 ∷ Chunk.Rgb 1 2 3 ∷ Chunk.Place 0x33 ∷ [])
+    ensures place_means_seen { meaning (Chunk.Rgb 101 102 103 ∷ Chunk.Rgb 1 2 3 ∷ Chunk.Place 0x33
+        ∷ [])
         ≡ pixel 101 102 103 255 ∷ pixel 1 2 3 255 ∷ pixel 101 102 103 255 ∷ [] }
     ensures empty_place_is_transparent_black { meaning (Chunk.Place 0 ∷ []) ≡ pixel 0 0 0 0 ∷ [] }
     ensures run_is_seen { meaning (Chunk.Run 1 ∷ Chunk.Rgb 101 102 103 ∷ Chunk.Place 0x35 ∷ [])
         ≡ pixel 0 0 0 255 ∷ pixel 101 102 103 255 ∷ pixel 0 0 0 255 ∷ [] }
-    ensures empty_place_is_seen { meaning (Chunk.Rgba 64 0 0 0 ∷ Chunk.Place 0x11 ∷ Chunk.Place 0 ∷ [])
+    ensures empty_place_is_seen { meaning (Chunk.Rgba 64 0 0 0 ∷ Chunk.Place 0x11 ∷ Chunk.Place 0
+        ∷ [])
         ≡ pixel 64 0 0 0 ∷ pixel 0 0 0 0 ∷ pixel 0 0 0 0 ∷ [] }
-    ensures place_means_rgba { meaning (Chunk.Rgba 101 102 103 104 ∷ Chunk.Rgba 1 2 3 4 ∷ Chunk.Place 0x36 ∷ [])
+    ensures place_means_rgba { meaning (Chunk.Rgba 101 102 103 104 ∷ Chunk.Rgba 1 2 3 4
+        ∷ Chunk.Place 0x36 ∷ [])
         ≡ pixel 101 102 103 104 ∷ pixel 1 2 3 4 ∷ pixel 101 102 103 104 ∷ [] }
-    ensures place_text { text (Chunk.Rgba 101 102 103 104 ∷ Chunk.Rgba 1 2 3 4 ∷ Chunk.Place 0x36 ∷ [])
+    ensures place_text { text (Chunk.Rgba 101 102 103 104 ∷ Chunk.Rgba 1 2 3 4 ∷ Chunk.Place 0x36
+        ∷ [])
         ≡ 0xff ∷ 0x65 ∷ 0x66 ∷ 0x67 ∷ 0x68 ∷ 0xff ∷ 0x01 ∷ 0x02 ∷ 0x03 ∷ 0x04 ∷ 0x36 ∷ [] }
     ensures hash_black { hash (pixel 0 0 0 255) ≡ 53 }
     ensures hash_transparent_black { hash (pixel 0 0 0 0) ≡ 0 }
@@ -113,32 +123,49 @@ pub fn worked_examples()
     ensures hash_multiples { hash (pixel 11 33 55 77) ≡ 22 }
     ensures hash_high { hash (pixel 251 252 253 255) ≡ 61 }
     ensures hash_high_less { hash (pixel 249 250 251 255) ≡ 31 }
-    ensures header_is_read { header_of (0x71 ∷ 0x6f ∷ 0x69 ∷ 0x66 ∷ 0x00 ∷ 0x00 ∷ 0x00 ∷ 0x01 ∷ 0x00 ∷ 0x00 ∷ 0x00 ∷ 0x01 ∷ 0x03 ∷ 0x00 ∷ [])
-        ≡ Ok (record { width = 1; height = 1; channels = Channels.Rgb; colorspace = ColorSpace.Srgb }) }
-    ensures largest_header_is_read { header_of (0x71 ∷ 0x6f ∷ 0x69 ∷ 0x66 ∷ 0x00 ∷ 0x00 ∷ 0x4e ∷ 0x20 ∷ 0x00 ∷ 0x00 ∷ 0x4e ∷ 0x20 ∷ 0x04 ∷ 0x01 ∷ [])
-        ≡ Ok (record { width = 20000; height = 20000; channels = Channels.Rgba; colorspace = ColorSpace.Linear }) }
-    ensures channels_before_magic { header_of (0x71 ∷ 0x6f ∷ 0x69 ∷ 0x67 ∷ 0x00 ∷ 0x00 ∷ 0x00 ∷ 0x01 ∷ 0x00 ∷ 0x00 ∷ 0x00 ∷ 0x01 ∷ 0x05 ∷ 0x00 ∷ [])
+    ensures header_is_read { header_of (0x71 ∷ 0x6f ∷ 0x69 ∷ 0x66 ∷ 0x00 ∷ 0x00 ∷ 0x00 ∷ 0x01 ∷ 0x00
+        ∷ 0x00 ∷ 0x00 ∷ 0x01 ∷ 0x03 ∷ 0x00 ∷ [])
+        ≡ Ok (record { width = 1; height = 1;
+            channels = Channels.Rgb; colorspace = ColorSpace.Srgb }) }
+    ensures largest_header_is_read { header_of (0x71 ∷ 0x6f ∷ 0x69 ∷ 0x66 ∷ 0x00 ∷ 0x00 ∷ 0x4e
+        ∷ 0x20 ∷ 0x00 ∷ 0x00 ∷ 0x4e ∷ 0x20 ∷ 0x04 ∷ 0x01 ∷ [])
+        ≡ Ok (record { width = 20000; height = 20000;
+            channels = Channels.Rgba; colorspace = ColorSpace.Linear }) }
+    ensures channels_before_magic { header_of (0x71 ∷ 0x6f ∷ 0x69 ∷ 0x67 ∷ 0x00 ∷ 0x00 ∷ 0x00 ∷ 0x01
+        ∷ 0x00 ∷ 0x00 ∷ 0x00 ∷ 0x01 ∷ 0x05 ∷ 0x00 ∷ [])
         ≡ Err (Error.InvalidChannels 5) }
-    ensures magic_before_dimensions { header_of (0x71 ∷ 0x6f ∷ 0x69 ∷ 0x67 ∷ 0x00 ∷ 0x00 ∷ 0x00 ∷ 0x00 ∷ 0x00 ∷ 0x00 ∷ 0x00 ∷ 0x01 ∷ 0x03 ∷ 0x00 ∷ [])
+    ensures magic_before_dimensions { header_of (0x71 ∷ 0x6f ∷ 0x69 ∷ 0x67 ∷ 0x00 ∷ 0x00 ∷ 0x00
+        ∷ 0x00 ∷ 0x00 ∷ 0x00 ∷ 0x00 ∷ 0x01 ∷ 0x03 ∷ 0x00 ∷ [])
         ≡ Err (Error.InvalidMagic 1903126887) }
-    ensures wrong_magic { header_of (0x71 ∷ 0x6f ∷ 0x69 ∷ 0x67 ∷ 0x00 ∷ 0x00 ∷ 0x00 ∷ 0x01 ∷ 0x00 ∷ 0x00 ∷ 0x00 ∷ 0x01 ∷ 0x03 ∷ 0x00 ∷ [])
+    ensures wrong_magic { header_of (0x71 ∷ 0x6f ∷ 0x69 ∷ 0x67 ∷ 0x00 ∷ 0x00 ∷ 0x00 ∷ 0x01 ∷ 0x00
+        ∷ 0x00 ∷ 0x00 ∷ 0x01 ∷ 0x03 ∷ 0x00 ∷ [])
         ≡ Err (Error.InvalidMagic 1903126887) }
-    ensures color_space_before_magic { header_of (0x71 ∷ 0x6f ∷ 0x69 ∷ 0x67 ∷ 0x00 ∷ 0x00 ∷ 0x00 ∷ 0x01 ∷ 0x00 ∷ 0x00 ∷ 0x00 ∷ 0x01 ∷ 0x03 ∷ 0x02 ∷ [])
+    ensures color_space_before_magic { header_of (0x71 ∷ 0x6f ∷ 0x69 ∷ 0x67 ∷ 0x00 ∷ 0x00 ∷ 0x00
+        ∷ 0x01 ∷ 0x00 ∷ 0x00 ∷ 0x00 ∷ 0x01 ∷ 0x03 ∷ 0x02 ∷ [])
         ≡ Err (Error.InvalidColorSpace 2) }
-    ensures no_pixels { header_of (0x71 ∷ 0x6f ∷ 0x69 ∷ 0x66 ∷ 0x00 ∷ 0x00 ∷ 0x00 ∷ 0x00 ∷ 0x00 ∷ 0x00 ∷ 0x00 ∷ 0x01 ∷ 0x03 ∷ 0x00 ∷ [])
+    ensures no_pixels { header_of (0x71 ∷ 0x6f ∷ 0x69 ∷ 0x66 ∷ 0x00 ∷ 0x00 ∷ 0x00 ∷ 0x00 ∷ 0x00
+        ∷ 0x00 ∷ 0x00 ∷ 0x01 ∷ 0x03 ∷ 0x00 ∷ [])
         ≡ Err (Error.InvalidImageDimensions 0 1) }
-    ensures too_many_pixels { header_of (0x71 ∷ 0x6f ∷ 0x69 ∷ 0x66 ∷ 0x00 ∷ 0x00 ∷ 0x4e ∷ 0x20 ∷ 0x00 ∷ 0x00 ∷ 0x4e ∷ 0x21 ∷ 0x04 ∷ 0x01 ∷ [])
+    ensures too_many_pixels { header_of (0x71 ∷ 0x6f ∷ 0x69 ∷ 0x66 ∷ 0x00 ∷ 0x00 ∷ 0x4e ∷ 0x20
+        ∷ 0x00 ∷ 0x00 ∷ 0x4e ∷ 0x21 ∷ 0x04 ∷ 0x01 ∷ [])
         ≡ Err (Error.InvalidImageDimensions 20000 20001) }
-    ensures thirteen_bytes { header_of (0x71 ∷ 0x6f ∷ 0x69 ∷ 0x66 ∷ 0x00 ∷ 0x00 ∷ 0x00 ∷ 0x01 ∷ 0x00 ∷ 0x00 ∷ 0x00 ∷ 0x01 ∷ 0x03 ∷ [])
+    ensures thirteen_bytes { header_of (0x71 ∷ 0x6f ∷ 0x69 ∷ 0x66 ∷ 0x00 ∷ 0x00 ∷ 0x00 ∷ 0x01 ∷ 0x00
+        ∷ 0x00 ∷ 0x00 ∷ 0x01 ∷ 0x03 ∷ [])
         ≡ Err Error.UnexpectedBufferEnd }
-    ensures file_of_one_pixel { file (record { width = 1; height = 1; channels = Channels.Rgb; colorspace = ColorSpace.Srgb }) (Chunk.Rgb 11 121 231 ∷ [])
-        ≡ 0x71 ∷ 0x6f ∷ 0x69 ∷ 0x66 ∷ 0x00 ∷ 0x00 ∷ 0x00 ∷ 0x01 ∷ 0x00 ∷ 0x00 ∷ 0x00 ∷ 0x01 ∷ 0x03 ∷ 0x00 ∷ 0xfe ∷ 0x0b ∷ 0x79 ∷ 0xe7 ∷ 0x00 ∷ 0x00 ∷ 0x00 ∷ 0x00 ∷ 0x00 ∷ 0x00 ∷ 0x00 ∷ 0x01 ∷ [] }
+    ensures file_of_one_pixel { file
+        (record { width = 1; height = 1; channels = Channels.Rgb; colorspace = ColorSpace.Srgb })
+        (Chunk.Rgb 11 121 231 ∷ [])
+        ≡ 0x71 ∷ 0x6f ∷ 0x69 ∷ 0x66 ∷ 0x00 ∷ 0x00 ∷ 0x00 ∷ 0x01 ∷ 0x00 ∷ 0x00 ∷ 0x00 ∷ 0x01 ∷ 0x03
+        ∷ 0x00 ∷ 0xfe ∷ 0x0b ∷ 0x79 ∷ 0xe7 ∷ 0x00 ∷ 0x00 ∷ 0x00 ∷ 0x00 ∷ 0x00 ∷ 0x00 ∷ 0x00 ∷ 0x01
+        ∷ [] }
     ensures three_as_three { output 3 3 (pixel 1 2 3 4 ∷ []) ≡ 1 ∷ 2 ∷ 3 ∷ [] }
     ensures three_as_four { output 3 4 (pixel 1 2 3 4 ∷ []) ≡ 1 ∷ 2 ∷ 3 ∷ 255 ∷ [] }
     ensures four_as_four { output 4 4 (pixel 1 2 3 4 ∷ []) ≡ 1 ∷ 2 ∷ 3 ∷ 4 ∷ [] }
     ensures four_as_three { output 4 3 (pixel 1 2 3 4 ∷ []) ≡ 1 ∷ 2 ∷ 3 ∷ [] }
     ensures long_run_reaches { Reaches 4 (Chunk.Run 62 ∷ []) }
-    ensures long_run_is_cut { file_pixels (record { width = 2; height = 2; channels = Channels.Rgb; colorspace = ColorSpace.Srgb }) (Chunk.Run 62 ∷ [])
+    ensures long_run_is_cut { file_pixels
+        (record { width = 2; height = 2; channels = Channels.Rgb; colorspace = ColorSpace.Srgb })
+        (Chunk.Run 62 ∷ [])
         ≡ pixel 0 0 0 255 ∷ pixel 0 0 0 255 ∷ pixel 0 0 0 255 ∷ pixel 0 0 0 255 ∷ [] }
     ensures no_chunk_past_the_end { Reaches 1 (Chunk.Run 1 ∷ Chunk.Run 1 ∷ []) → ⊥ }
 {}

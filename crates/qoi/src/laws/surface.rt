@@ -37,7 +37,8 @@ pub fn channels_compare()
     ensures equality { (c d : Channels) → IsTrue (⟦<Channels as PartialEq>⟧.eq c d) ↔ (c ≡ d) }
     ensures order { (c d : Channels)
         → ⟦<Channels as Ord>⟧.cmp c d ≡ nat_cmp (channels_number c) (channels_number d) }
-    ensures ties { (c d : Channels) → ⟦<Channels as PartialEq>⟧.eq c d ≡ is_eq (⟦<Channels as Ord>⟧.cmp c d) }
+    ensures ties { (c d : Channels)
+        → ⟦<Channels as PartialEq>⟧.eq c d ≡ is_eq (⟦<Channels as Ord>⟧.cmp c d) }
     ensures hash { (c d : Channels) → IsTrue (⟦<Channels as PartialEq>⟧.eq c d)
         → ⟦<Channels as Hash>⟧.hash_input c ≡ ⟦<Channels as Hash>⟧.hash_input d }
     ensures apart { (c d : Channels)
@@ -50,7 +51,8 @@ pub fn colorspace_compare()
     ensures equality { (c d : ColorSpace) → IsTrue (⟦<ColorSpace as PartialEq>⟧.eq c d) ↔ (c ≡ d) }
     ensures order { (c d : ColorSpace)
         → ⟦<ColorSpace as Ord>⟧.cmp c d ≡ nat_cmp (colorspace_number c) (colorspace_number d) }
-    ensures ties { (c d : ColorSpace) → ⟦<ColorSpace as PartialEq>⟧.eq c d ≡ is_eq (⟦<ColorSpace as Ord>⟧.cmp c d) }
+    ensures ties { (c d : ColorSpace)
+        → ⟦<ColorSpace as PartialEq>⟧.eq c d ≡ is_eq (⟦<ColorSpace as Ord>⟧.cmp c d) }
     ensures hash { (c d : ColorSpace) → IsTrue (⟦<ColorSpace as PartialEq>⟧.eq c d)
         → ⟦<ColorSpace as Hash>⟧.hash_input c ≡ ⟦<ColorSpace as Hash>⟧.hash_input d }
     ensures apart { (c d : ColorSpace)
@@ -86,9 +88,11 @@ pub fn chunks_compare()
 /// The updates of a pixel of three or four channels give what chunks give after it, and a pixel of
 /// three channels means the opaque one of four.
 pub fn pixels_follow_chunks()
-    ensures rgb_chunk { (px : List ℕ) (past : Past) (r g b : ℕ) → IsChannels (length px) → previous past ≡ rgba px
+    ensures rgb_chunk { (px : List ℕ) (past : Past) (r g b : ℕ) → IsChannels (length px)
+        → previous past ≡ rgba px
         → rgba (r ∷ g ∷ b ∷ drop 3 px) ≡ pixel_of past (Chunk.Rgb r g b) }
     ensures rgba_chunk { (past : Past) (r g b a : ℕ)
         → rgba (take 4 (r ∷ g ∷ b ∷ a ∷ [])) ≡ pixel_of past (Chunk.Rgba r g b a) }
-    ensures opaque { (px : List ℕ) → IsChannels (length px) → rgba (take 4 (px ++ 255 ∷ [])) ≡ rgba px }
+    ensures opaque { (px : List ℕ) → IsChannels (length px)
+        → rgba (take 4 (px ++ 255 ∷ [])) ≡ rgba px }
 {}

@@ -14,8 +14,10 @@ ghost use Rattle.qoi.specs.Written.{Written};
 
 /// An image has exactly one written list.
 pub fn written_is_one()
-    ensures some { (image : List RgbaPixel) → AllByRecursion IsPixel image → (cs : List Chunk) × Written image cs }
-    ensures one { (image : List RgbaPixel) (cs ds : List Chunk) → Written image cs → Written image ds → cs ≡ ds }
+    ensures some { (image : List RgbaPixel) → AllByRecursion IsPixel image → (cs : List Chunk)
+        × Written image cs }
+    ensures one { (image : List RgbaPixel) (cs ds : List Chunk) → Written image cs
+        → Written image ds → cs ≡ ds }
 {}
 
 /// Two neighbouring place chunks of the written list never name the same index position.
@@ -27,25 +29,30 @@ pub fn written_is_apart()
 /// The pixels of raw bytes, three or four bytes a pixel, are pixels. They are opaque where three bytes make
 /// one, and they give the bytes back.
 pub fn bytes_are_pixels()
-    ensures pixels { (channels : ℕ) (bytes : List ℕ) → IsChannels channels → AllByRecursion (λ b. b < 256) bytes
+    ensures pixels { (channels : ℕ) (bytes : List ℕ) → IsChannels channels
+        → AllByRecursion (λ b. b < 256) bytes
         → AllByRecursion IsPixel (pixels_of channels bytes) }
     ensures channels { (channels : ℕ) (bytes : List ℕ) → IsChannels channels
         → HasChannels (pixels_of channels bytes) channels }
-    ensures count { (channels n : ℕ) (bytes : List ℕ) → IsChannels channels → length bytes ≡ channels * n
+    ensures count { (channels n : ℕ) (bytes : List ℕ) → IsChannels channels
+        → length bytes ≡ channels * n
         → length (pixels_of channels bytes) ≡ n }
-    ensures back { (channels n : ℕ) (bytes : List ℕ) → IsChannels channels → length bytes ≡ channels * n
+    ensures back { (channels n : ℕ) (bytes : List ℕ) → IsChannels channels
+        → length bytes ≡ channels * n
         → output channels channels (pixels_of channels bytes) ≡ bytes }
 {}
 
 /// The written list takes at most a byte a pixel more than the raw bytes.
 pub fn written_fits()
-    ensures { (image : List RgbaPixel) (channels n : ℕ) (cs : List Chunk) → HasChannels image channels
+    ensures { (image : List RgbaPixel) (channels n : ℕ) (cs : List Chunk)
+        → HasChannels image channels
         → length image ≡ n → Written image cs → length (text cs) ≤ n * channels + n }
 {}
 
 /// The written list reaches the pixels of its image.
 pub fn written_reaches()
-    ensures { (image : List RgbaPixel) (n : ℕ) (cs : List Chunk) → Written image cs → length image ≡ n → Reaches n cs }
+    ensures { (image : List RgbaPixel) (n : ℕ) (cs : List Chunk) → Written image cs
+        → length image ≡ n → Reaches n cs }
 {}
 
 /// A list is regular if it names an index position only where a pixel was put. The written list is regular.
@@ -65,7 +72,8 @@ pub fn no_blank_is_regular()
 /// No regular list whose pixels begin with those of an image has fewer bytes than the image's floor. Neither
 /// the length of its runs nor what it gives past the image matters.
 pub fn none_is_shorter()
-    ensures { (image : List RgbaPixel) (cs : List Chunk) → AreChunks cs → Regular cs → Begins (meaning cs) image
+    ensures { (image : List RgbaPixel) (cs : List Chunk) → AreChunks cs → Regular cs
+        → Begins (meaning cs) image
         → floor image ≤ length (text cs) }
 {}
 
@@ -78,7 +86,8 @@ pub fn written_is_short()
 /// So the written list is at most its slack longer than each regular list whose pixels begin with those of
 /// the image.
 pub fn written_is_near_shortest()
-    ensures { (image : List RgbaPixel) (channels : ℕ) (cs others : List Chunk) → HasChannels image channels
+    ensures { (image : List RgbaPixel) (channels : ℕ) (cs others : List Chunk)
+        → HasChannels image channels
         → Written image cs → AreChunks others → Regular others → Begins (meaning others) image
         → length (text cs) ≤ length (text others) + slack image channels }
 {}
@@ -86,22 +95,31 @@ pub fn written_is_near_shortest()
 /// In a floor a group of repeats costs a byte for each 62 of them, rounded up.
 pub fn group_cost()
     ensures { (shortest : Past → RgbaPixel → ℕ) (past : Past) (n : ℕ) → trailing_repeats past ≡ 0
-        → total_cost shortest (replicate n (previous past) ++ past) ≡ total_cost shortest past + (n + 61) / 62 }
+        → total_cost shortest (replicate n (previous past) ++ past)
+        ≡ total_cost shortest past + (n + 61) / 62 }
 {}
 
 /// The floor and the slack of a few images.
 pub fn shortest_examples()
-    ensures black_returns_rgb { floor (pixel 0 0 0 255 ∷ pixel 101 102 103 255 ∷ pixel 0 0 0 255 ∷ []) ≡ 6 }
-    ensures black_returns_rgba { floor (pixel 0 0 0 255 ∷ pixel 101 102 103 104 ∷ pixel 0 0 0 255 ∷ []) ≡ 7 }
-    ensures black_overwritten { floor (pixel 0 0 0 255 ∷ pixel 1 99 2 255 ∷ pixel 0 0 0 255 ∷ []) ≡ 9 }
+    ensures black_returns_rgb { floor (pixel 0 0 0 255 ∷ pixel 101 102 103 255 ∷ pixel 0 0 0 255
+        ∷ []) ≡ 6 }
+    ensures black_returns_rgba { floor (pixel 0 0 0 255 ∷ pixel 101 102 103 104 ∷ pixel 0 0 0 255
+        ∷ []) ≡ 7 }
+    ensures black_overwritten { floor (pixel 0 0 0 255 ∷ pixel 1 99 2 255 ∷ pixel 0 0 0 255 ∷ [])
+        ≡ 9 }
     ensures black_back_and_forth { floor (pixel 0 0 0 255 ∷ pixel 101 102 103 255 ∷ pixel 0 0 0 255
         ∷ pixel 101 102 103 255 ∷ pixel 0 0 0 255 ∷ []) ≡ 8 }
     ensures black_twice { floor (pixel 0 0 0 255 ∷ pixel 0 0 0 255 ∷ []) ≡ 1 }
-    ensures black_many { floor (replicate 63 (pixel 0 0 0 255) ++ pixel 101 102 103 104 ∷ pixel 0 0 0 255 ∷ []) ≡ 8 }
-    ensures blank_without_place { floor (pixel 64 0 0 0 ∷ pixel 0 0 0 0 ∷ pixel 64 0 0 0 ∷ pixel 0 0 0 0 ∷ []) ≡ 17 }
-    ensures slack_black_returns_rgb { slack (pixel 0 0 0 255 ∷ pixel 101 102 103 255 ∷ pixel 0 0 0 255 ∷ []) 3 ≡ 3 }
-    ensures slack_black_returns_rgba { slack (pixel 0 0 0 255 ∷ pixel 101 102 103 104 ∷ pixel 0 0 0 255 ∷ []) 4 ≡ 4 }
-    ensures slack_black_overwritten { slack (pixel 0 0 0 255 ∷ pixel 1 99 2 255 ∷ pixel 0 0 0 255 ∷ []) 3 ≡ 0 }
+    ensures black_many { floor (replicate 63 (pixel 0 0 0 255) ++ pixel 101 102 103 104
+        ∷ pixel 0 0 0 255 ∷ []) ≡ 8 }
+    ensures blank_without_place { floor (pixel 64 0 0 0 ∷ pixel 0 0 0 0 ∷ pixel 64 0 0 0
+        ∷ pixel 0 0 0 0 ∷ []) ≡ 17 }
+    ensures slack_black_returns_rgb { slack (pixel 0 0 0 255 ∷ pixel 101 102 103 255
+        ∷ pixel 0 0 0 255 ∷ []) 3 ≡ 3 }
+    ensures slack_black_returns_rgba { slack (pixel 0 0 0 255 ∷ pixel 101 102 103 104
+        ∷ pixel 0 0 0 255 ∷ []) 4 ≡ 4 }
+    ensures slack_black_overwritten { slack (pixel 0 0 0 255 ∷ pixel 1 99 2 255 ∷ pixel 0 0 0 255
+        ∷ []) 3 ≡ 0 }
 {}
 
 /// The slack is reached. Opaque black, a color and opaque black again are written in 9 bytes in three channels
@@ -126,7 +144,11 @@ pub fn slack_is_reached()
 /// The greatest length of a file is reached: one pixel that is written in full, in three channels and in four.
 pub fn greatest_length_is_reached()
     ensures written_rgb { Written (pixel 11 121 231 255 ∷ []) (Rgb 11 121 231 ∷ []) }
-    ensures length_rgb { length (file (record { width = 1; height = 1; channels = Channels.Rgb; colorspace = ColorSpace.Srgb }) (Rgb 11 121 231 ∷ [])) ≡ max_len 1 1 3 }
+    ensures length_rgb { length (file
+        (record { width = 1; height = 1; channels = Channels.Rgb; colorspace = ColorSpace.Srgb })
+        (Rgb 11 121 231 ∷ [])) ≡ max_len 1 1 3 }
     ensures written_rgba { Written (pixel 11 121 231 55 ∷ []) (Rgba 11 121 231 55 ∷ []) }
-    ensures length_rgba { length (file (record { width = 1; height = 1; channels = Channels.Rgba; colorspace = ColorSpace.Srgb }) (Rgba 11 121 231 55 ∷ [])) ≡ max_len 1 1 4 }
+    ensures length_rgba { length (file
+        (record { width = 1; height = 1; channels = Channels.Rgba; colorspace = ColorSpace.Srgb })
+        (Rgba 11 121 231 55 ∷ [])) ≡ max_len 1 1 4 }
 {}

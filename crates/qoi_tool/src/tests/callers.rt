@@ -17,7 +17,8 @@ use std::test::Fail;
 /// Vectors. The raw bytes of the image of a file, in the file's own channels; any bytes may follow
 /// the file.
 pub fn raw_bytes(alloc: Global, file: &[u8]) -> Result<Vec<u8>, Error>
-    ensures { IfOk result (λ raw. (h : Header) × (rest : List ℕ) × DecodesFile file.now h rest raw.items) }
+    ensures { IfOk result (λ raw. (h : Header) × (rest : List ℕ)
+        × DecodesFile file.now h rest raw.items) }
 {
     let (_, raw) = decode_to_vec(alloc, file)?;
     Ok(raw)
@@ -122,7 +123,8 @@ pub fn space_byte(alloc: Global, raw: &[u8], width: u32, height: u32) -> Result<
 
 /// Shortness. A file is at most four bytes longer than that of any regular list of the image.
 pub fn near_shortest(alloc: Global, raw: &[u8], width: u32, height: u32) -> Result<Vec<u8>, Error>
-    ensures { IfOk result (λ v. (h : Header) × ((others : List Chunk) → Spans h raw.now others → Regular others
+    ensures { IfOk result (λ v. (h : Header) × ((others : List Chunk) → Spans h raw.now others
+        → Regular others
         → length v.items ≤ length (file h others) + 4)) }
 {
     encode_to_vec(alloc, raw, width, height)
@@ -130,7 +132,8 @@ pub fn near_shortest(alloc: Global, raw: &[u8], width: u32, height: u32) -> Resu
 
 /// A stream's header. The bytes that were taken of a reader are those of a valid header.
 pub fn header_ahead<R: Read + Drop>(reader: R) -> Result<(Header, R), Error>
-    ensures { IfOk result (λ x. IsValid x.0 × Consumes (R.remaining reader) (R.remaining x.1) (head x.0)) }
+    ensures { IfOk result (λ x. IsValid x.0
+        × Consumes (R.remaining reader) (R.remaining x.1) (head x.0)) }
 {
     let decoder = Decoder::from_stream(reader)?;
     Ok((*decoder.header(), decoder.into_reader()))
