@@ -6,11 +6,12 @@ use Rattle.qoi.specs.declared.types.Channels.TheVariants.{Rgb, Rgba}
 use Rattle.qoi.specs.declared.types.ColorSpace.{ColorSpace}
 use Rattle.qoi.specs.declared.header.Header.{Header}
 use Rattle.qoi.specs.declared.chunk.Chunk.{Chunk}
-use Rattle.qoi.specs.Qoi.{channels_number, colorspace_number, head, pixel_count, IsValid, AreBytes, bytes_of, text, Reaches, meaning, file, file_pixels, end_marker, IsFile}
+use Rattle.qoi.specs.declared.chunk.Chunk.TheVariants.{Place}
+use Rattle.qoi.specs.Qoi.{channels_number, colorspace_number, head, pixel_count, IsValid, RgbaPixel, AreChunks, AreBytes, bytes_of, text, Reaches, meaning, file, file_pixels, end_marker, IsFile}
 use Rattle.qoi.specs.Raw.{IsChannels, output, HasChannels}
 use Rattle.qoi.specs.Written.{IsChoice, Written}
 use Rattle.qoi.specs.Decoding.{file_byte_count, DecodesFile}
-use Rattle.qoi.specs.Encoded.{max_file_len, image_pixels, IsNearShortest, IsFileOf}
+use Rattle.qoi.specs.Encoded.{max_file_len, image_pixels, IsNearShortest, IsFileBy, IsFileOf}
 use Rattle.qoi.proofs.format.Appended.{length-bytes_of}
 use Rattle.qoi.proofs.decoding.FilledBuffer.{take_whole}
 use Rattle.qoi.proofs.decoding.ImageSize.{channels_are}
@@ -53,6 +54,28 @@ text_some (c ∷ cs) some = omega (arith, length-append (bytes_of c) (text cs), 
 other_space : (h : Header) (space : ColorSpace) (cs : List Chunk) → file (record h { colorspace = space }) cs ≡ slice_set (file h cs) 13 (colorspace_number space)
 other_space h space cs = refl
 
+-- What the lists that are written for images have in common: the chunks are chunks and mean the image, there is one
+-- list, it reaches the pixels, it fits, and no two neighbours name one index position.
+pub record WritesLists (Lists : List RgbaPixel → List Chunk → Type 0) : Type 0 where
+  pub chunks : (image : List RgbaPixel) (cs : List Chunk) → Lists image cs → AreChunks cs
+  pub means : (image : List RgbaPixel) (cs : List Chunk) → Lists image cs → meaning cs ≡ image
+  pub one : (image : List RgbaPixel) (cs ds : List Chunk) → Lists image cs → Lists image ds → cs ≡ ds
+  pub reaches : (image : List RgbaPixel) (n : ℕ) (cs : List Chunk) → Lists image cs → length image ≡ n → Reaches n cs
+  pub fits : (image : List RgbaPixel) (channels n : ℕ) (cs : List Chunk) → HasChannels image channels → length image ≡ n
+      → Lists image cs → length (text cs) ≤ n * channels + n
+  pub apart : (image : List RgbaPixel) (cs front rest : List Chunk) (i : ℕ) → Lists image cs → cs ≡ front ++ Place i ∷ Place i ∷ rest → ⊥
+
+-- so do those of `Written`
+pub written_lists : WritesLists Written
+written_lists = record {
+  chunks = λ image cs w. w.chunks;
+  means = λ image cs w. w.means;
+  one = written_unique;
+  reaches = reaches_by IsChoice;
+  fits = written_fits_lem;
+  apart = apart_by IsChoice;
+}
+
 module _ (h : Header) (raw : List ℕ) (valid : IsValid h) (size : length raw ≡ file_byte_count h) where
   channels : IsChannels (channels_number h.channels)
   channels = channels_are h.channels (channels_number h.channels) refl
@@ -67,25 +90,49 @@ module _ (h : Header) (raw : List ℕ) (valid : IsValid h) (size : length raw �
   has : HasChannels (image_pixels h raw) (channels_number h.channels)
   has = pixels_of_have (channels_number h.channels) raw channels
 
+  module _ (Lists : List RgbaPixel → List Chunk → Type 0) (lists : WritesLists Lists) where
+    -- the chunks that are written fit
+    list_fits : (cs : List Chunk) → Lists (image_pixels h raw) cs → length (text cs) ≤ pixel_count h * channels_number h.channels + pixel_count h
+    list_fits cs w = lists.fits (image_pixels h raw) (channels_number h.channels) (pixel_count h) cs has count w
+
+    -- they have a byte
+    text_long : (cs : List Chunk) → Lists (image_pixels h raw) cs → 0 < length (text cs)
+    text_long cs w = text_some cs (omega (arith, count, ap length (lists.means (image_pixels h raw) cs w), valid.0))
+
+    -- they are those of a file
+    is_file : (cs : List Chunk) → Lists (image_pixels h raw) cs → IsFile h cs
+    is_file cs w = record {
+      valid = valid;
+      chunks = lists.chunks (image_pixels h raw) cs w;
+      reaches = lists.reaches (image_pixels h raw) (pixel_count h) cs w count;
+    }
+
+    -- it comes back
+    back : (cs : List Chunk) (rest : List ℕ) → Lists (image_pixels h raw) cs → DecodesFile (file h cs ++ rest) h rest raw
+    back cs rest w =
+        let means = lists.means (image_pixels h raw) cs w in
+        let image : raw ≡ output (channels_number h.channels) (channels_number h.channels) (file_pixels h cs)
+        = sym (output-pixels_of (channels_number h.channels) (pixel_count h) raw channels image_size)
+        ∙ ap (output (channels_number h.channels) (channels_number h.channels)) (sym (take_whole (pixel_count h) (image_pixels h raw) count) ∙ ap (take (pixel_count h)) (sym means)) in
+        decodes_file h cs (file h cs ++ rest) rest raw (is_file cs w) refl image
+
+    -- what holds whatever lists are written
+    pub file_by : (cs : List Chunk) → Lists (image_pixels h raw) cs → IsFileBy Lists h raw (file h cs)
+    file_by cs w = record {
+      valid = valid;
+      size = size;
+      encoded = record { cs = cs; written = w; bytes_are = refl };
+      only = λ others e. e.bytes_are ∙ ap (file h) (lists.one (image_pixels h raw) e.cs cs e.written w);
+      fits = omega (arith, list_fits cs w, length-file h cs, max_is_exact h valid);
+      long = omega (arith, text_long cs w, length-file h cs);
+      comes_back = λ rest. back cs rest w;
+      color_space = λ space others e. e.bytes_are ∙ ap (file (record h { colorspace = space })) (lists.one (image_pixels h raw) e.cs cs e.written w) ∙ other_space h space cs;
+      apart = λ others front rest i v. lists.apart (image_pixels h raw) others front rest i v;
+    }
+
   -- the chunks that are written fit
   pub text_fits : (cs : List Chunk) → Written (image_pixels h raw) cs → length (text cs) ≤ pixel_count h * channels_number h.channels + pixel_count h
-  text_fits cs w = written_fits_lem (image_pixels h raw) (channels_number h.channels) (pixel_count h) cs has count w
-
-  -- they have a byte
-  text_long : (cs : List Chunk) → Written (image_pixels h raw) cs → 0 < length (text cs)
-  text_long cs w = text_some cs (omega (arith, count, ap length w.means, valid.0))
-
-  -- they are those of a file
-  is_file : (cs : List Chunk) → Written (image_pixels h raw) cs → IsFile h cs
-  is_file cs w = record { valid = valid; chunks = w.chunks; reaches = reaches_by IsChoice (image_pixels h raw) (pixel_count h) cs w count }
-
-  -- it comes back
-  back : (cs : List Chunk) (rest : List ℕ) → Written (image_pixels h raw) cs → DecodesFile (file h cs ++ rest) h rest raw
-  back cs rest w =
-      let image : raw ≡ output (channels_number h.channels) (channels_number h.channels) (file_pixels h cs)
-      = sym (output-pixels_of (channels_number h.channels) (pixel_count h) raw channels image_size)
-      ∙ ap (output (channels_number h.channels) (channels_number h.channels)) (sym (take_whole (pixel_count h) (image_pixels h raw) count) ∙ ap (take (pixel_count h)) (sym w.means)) in
-      decodes_file h cs (file h cs ++ rest) rest raw (is_file cs w) refl image
+  text_fits = list_fits Written written_lists
 
   -- it is near the shortest
   near : (cs : List Chunk) → Written (image_pixels h raw) cs → IsNearShortest h raw (file h cs)
@@ -105,17 +152,9 @@ module _ (h : Header) (raw : List ℕ) (valid : IsValid h) (size : length raw �
   -- all of it
   pub file_of : (cs : List Chunk) → Written (image_pixels h raw) cs → IsFileOf h raw (file h cs)
   file_of cs w = record {
-    valid = valid;
-    size = size;
-    encoded = record { cs = cs; written = w; bytes_are = refl };
-    only = λ others e. e.bytes_are ∙ ap (file h) (written_unique (image_pixels h raw) e.cs cs e.written w);
-    fits = omega (arith, text_fits cs w, length-file h cs, max_is_exact h valid);
-    long = omega (arith, text_long cs w, length-file h cs);
-    comes_back = λ rest. back cs rest w;
-    color_space = λ space others e. e.bytes_are ∙ ap (file (record h { colorspace = space })) (written_unique (image_pixels h raw) e.cs cs e.written w) ∙ other_space h space cs;
+    is_file = file_by Written written_lists cs w;
     near_shortest = near cs w;
     regular = λ others v. written_regular (image_pixels h raw) others v;
-    apart = λ others front rest i v. apart_by IsChoice (image_pixels h raw) others front rest i v;
   }
 
 -- an image has a list that is written for it

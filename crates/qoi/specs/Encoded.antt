@@ -50,11 +50,25 @@ image_header raw width height = measured raw (tried_header width height Rgb Srgb
 abbrev pub image_pixels : Header → List ℕ → List RgbaPixel
 image_pixels h raw = pixels_of (channels_number h.channels) raw
 
--- the bytes are the header, the chunk list that is written for the image, and the end marker
-pub record IsEncoded (h : Header) (raw bytes : List ℕ) : Type 0 where
+-- the bytes are the header, a list of chunks that is written for the image, and the end marker
+pub record IsEncoded (Lists : List RgbaPixel → List Chunk → Type 0) (h : Header) (raw bytes : List ℕ) : Type 0 where
   pub cs : List Chunk
-  pub written : Written (image_pixels h raw) cs
+  pub written : Lists (image_pixels h raw) cs
   pub bytes_are : bytes ≡ file h cs
+
+-- The file of the image, whatever lists are written: a valid header and as many raw bytes as it says; there is one
+-- file, it fits, it comes back whatever follows it, and no two neighbours of its list name one index position.
+pub record IsFileBy (Lists : List RgbaPixel → List Chunk → Type 0) (h : Header) (raw bytes : List ℕ) : Type 0 where
+  pub valid : IsValid h
+  pub size : length raw ≡ file_byte_count h
+  pub encoded : IsEncoded Lists h raw bytes
+  pub only : (others : List ℕ) → IsEncoded Lists h raw others → others ≡ bytes
+  pub fits : length bytes ≤ max_file_len h
+  pub long : 23 ≤ length bytes
+  pub comes_back : (rest : List ℕ) → DecodesFile (bytes ++ rest) h rest raw
+  pub color_space : (space : ColorSpace) (others : List ℕ) → IsEncoded Lists (record h { colorspace = space }) raw others
+      → others ≡ slice_set bytes 13 (colorspace_number space)
+  pub apart : (cs front rest : List Chunk) (i : ℕ) → Lists (image_pixels h raw) cs → cs ≢ front ++ Place i ∷ Place i ∷ rest
 
 -- the chunks' pixels are those of the image, and then perhaps others
 pub record Spans (h : Header) (raw : List ℕ) (cs : List Chunk) : Type 0 where
@@ -79,17 +93,8 @@ pub record IsNearShortest (h : Header) (raw bytes : List ℕ) : Type 0 where
       → length bytes ≤ length (file h others)
   pub all_regular : AllByRecursion (λ p. p ≢ blank) (image_pixels h raw) → (others : List Chunk) → Spans h raw others → Regular others
 
--- The file of the image, which has a valid header and as many raw bytes as it says: there is one file, it comes back
--- whatever follows it, and it is near the shortest.
+-- The file of the image by the lists of `Written`, which is near the shortest, and whose list is regular.
 pub record IsFileOf (h : Header) (raw bytes : List ℕ) : Type 0 where
-  pub valid : IsValid h
-  pub size : length raw ≡ file_byte_count h
-  pub encoded : IsEncoded h raw bytes
-  pub only : (others : List ℕ) → IsEncoded h raw others → others ≡ bytes
-  pub fits : length bytes ≤ max_file_len h
-  pub long : 23 ≤ length bytes
-  pub comes_back : (rest : List ℕ) → DecodesFile (bytes ++ rest) h rest raw
-  pub color_space : (space : ColorSpace) (others : List ℕ) → IsEncoded (record h { colorspace = space }) raw others → others ≡ slice_set bytes 13 (colorspace_number space)
+  pub is_file : IsFileBy Written h raw bytes
   pub near_shortest : IsNearShortest h raw bytes
   pub regular : (cs : List Chunk) → Written (image_pixels h raw) cs → Regular cs
-  pub apart : (cs front rest : List Chunk) (i : ℕ) → Written (image_pixels h raw) cs → cs ≢ front ++ Place i ∷ Place i ∷ rest

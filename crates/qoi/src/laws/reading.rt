@@ -125,12 +125,20 @@ pub fn worked_examples()
     ensures hash_high_less { hash (pixel 249 250 251 255) ≡ 31 }
     ensures header_is_read { header_of (0x71 ∷ 0x6f ∷ 0x69 ∷ 0x66 ∷ 0x00 ∷ 0x00 ∷ 0x00 ∷ 0x01 ∷ 0x00
         ∷ 0x00 ∷ 0x00 ∷ 0x01 ∷ 0x03 ∷ 0x00 ∷ [])
-        ≡ Ok (record { width = 1; height = 1;
-            channels = Channels.Rgb; colorspace = ColorSpace.Srgb }) }
+        ≡ Ok (record {
+          width = 1;
+          height = 1;
+          channels = Channels.Rgb;
+          colorspace = ColorSpace.Srgb;
+        }) }
     ensures largest_header_is_read { header_of (0x71 ∷ 0x6f ∷ 0x69 ∷ 0x66 ∷ 0x00 ∷ 0x00 ∷ 0x4e
         ∷ 0x20 ∷ 0x00 ∷ 0x00 ∷ 0x4e ∷ 0x20 ∷ 0x04 ∷ 0x01 ∷ [])
-        ≡ Ok (record { width = 20000; height = 20000;
-            channels = Channels.Rgba; colorspace = ColorSpace.Linear }) }
+        ≡ Ok (record {
+          width = 20000;
+          height = 20000;
+          channels = Channels.Rgba;
+          colorspace = ColorSpace.Linear;
+        }) }
     ensures channels_before_magic { header_of (0x71 ∷ 0x6f ∷ 0x69 ∷ 0x67 ∷ 0x00 ∷ 0x00 ∷ 0x00 ∷ 0x01
         ∷ 0x00 ∷ 0x00 ∷ 0x00 ∷ 0x01 ∷ 0x05 ∷ 0x00 ∷ [])
         ≡ Err (Error.InvalidChannels 5) }

@@ -53,13 +53,13 @@ returns-clause-accepts c h cs rest f split room =
 
 -- the file of an image, as a file
 file_ahead : (h : Header) (raw bytes rest «data» : List ℕ) → IsFileOf h raw bytes → «data» ≡ bytes ++ rest → DecodesFile «data» h rest raw
-file_ahead h raw bytes rest ahead f split = subst (λ (z : List ℕ). DecodesFile z h rest raw) (sym split) (f.comes_back rest)
+file_ahead h raw bytes rest ahead f split = subst (λ (z : List ℕ). DecodesFile z h rest raw) (sym split) (f.is_file.comes_back rest)
 
 pub returns-in_err-decode_to_buf-clause-followed : goal.returns-in_err-decode_to_buf-clause-followed
 returns-in_err-decode_to_buf-clause-followed c h raw bytes rest f split room =
     let d = file_ahead h raw bytes rest c.args.data.now f split in
     let p = err_from_is_err_and c.from_residual-in_err-decode_to_buf.result c.from_residual-in_err-decode_to_buf.ensures.1 in
-    let ok = returns-in_err-decode_to_buf-clause-accepts c h d.cs rest d.is_file d.split (subst (λ n. n ≤ length c.args.buf.now) f.size room) in
+    let ok = returns-in_err-decode_to_buf-clause-accepts c h d.cs rest d.is_file d.split (subst (λ n. n ≤ length c.args.buf.now) f.is_file.size room) in
     let error = p.1 in
     absurd cc
 
@@ -71,7 +71,7 @@ returns-clause-followed c h raw bytes rest f split room =
     let k = c.header.result.now in
     let one = decoding_is_one c.args.data.now h k rest decoded.0 raw (take (file_byte_count k) buf) d decoded.1 in (
       ap Ok one.0,
-      ap (λ n. take n buf) (f.size ∙ ap file_byte_count (sym one.0)) ∙ one.1,
+      ap (λ n. take n buf) (f.is_file.size ∙ ap file_byte_count (sym one.0)) ∙ one.1,
     )
 
 pub returns-in_err-decode_to_buf-clause-comes_back : goal.returns-in_err-decode_to_buf-clause-comes_back
@@ -82,6 +82,6 @@ returns-clause-comes_back c h raw f room = returns-clause-followed c h raw c.arg
 
 pub returns-in_err-decoder-clause-comes_back : goal.returns-in_err-decoder-clause-comes_back
 returns-in_err-decoder-clause-comes_back c h raw f room =
-    let read = subst (λ (z : List ℕ). header_of z ≡ Ok h) (append-nil c.args.data.now) (f.comes_back []).header in
+    let read = subst (λ (z : List ℕ). header_of z ≡ Ok h) (append-nil c.args.data.now) (f.is_file.comes_back []).header in
     let refused = c.in_err-decoder.ensures.refused in
     absurd cc

@@ -19,6 +19,6 @@ pub returns-clause-same : goal.returns-clause-same
 returns-clause-same g c bytes f =
     let w = c.in_ok-n.ensures.written in
     let own = subst (λ (s : EncoderState). IsFileOf s.header s.raw w.0) c.self.view_is w.1 in
-    let same : w.0 ≡ bytes = f.only w.0 own.encoded in
+    let same : w.0 ≡ bytes = f.is_file.only w.0 own.is_file.encoded in
     let came : Appends (g.W.Write.contents c.args.writer.now) (g.W.Write.contents c.writer-2-1.given.0) w.0 = search rules in
     (w.2 ∙ ap length same, subst (λ (z : List ℕ). Appends (g.W.Write.contents c.args.writer.now) (g.W.Write.contents c.writer-2-1.given.0) z) same came)
