@@ -40,7 +40,7 @@ pub enum Chunk {
 /// `None` exactly where the slice is empty or shorter than the length of the chunk that its first
 /// byte begins: 4 for fe, 5 for ff, 2 for 80 to bf, and else 1.
 #[inline(always)]
-#[tactic(auto, using(crate::proofs::format::PartOfChunk::part_empty, crate::proofs::format::PartOfChunk::part_luma, crate::proofs::format::PartOfChunk::part_rgb, crate::proofs::format::PartOfChunk::part_rgba))]
+#[tactic(auto, using(crate::proofs::format::PartOfChunk::parts))]
 pub fn read_chunk(data: &[u8]) -> Option<(Chunk, &[u8])>
     ensures some { IfSome result (λ x. IsChunk x.0 × («data».now ≡ bytes_of x.0 ++ x.1.now)) }
     ensures none { IfNone result (IsPartOfChunk «data».now) }

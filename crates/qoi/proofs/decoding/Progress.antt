@@ -25,8 +25,8 @@ pub record SoFar (f c n : ℕ) (Taken : List ℕ → Type 0) (out : List ℕ) (a
   pub whole : at % c ≡ 0
 
 -- fewer than n pixels were given, where there is room for more
-pub fewer : (f c n : ℕ) (out : List ℕ) (at : ℕ) (past : Past) → IsChannels c → HasFilled f c n out at past → at < length out → length past < n
-fewer f c n out at past is h inside = (counts c n (length past) at (length out) is h.room h.at_is inside).below
+pub fewer : {f c n : ℕ} {out : List ℕ} {at : ℕ} {past : Past} → IsChannels c → HasFilled f c n out at past → at < length out → length past < n
+fewer {c = c} {n = n} {out = out} {at = at} {past = past} is h inside = (counts c n (length past) at (length out) is h.room h.at_is inside).below
 
 -- before the first chunk
 pub start_so_far : (f c : ℕ) (Taken : List ℕ → Type 0) (out : List ℕ) (places : List (List ℕ)) (last : List ℕ) → IsChannels c → length out % c ≡ 0 → HasSeen places last [] → Taken [] → SoFar f c (length out / c) Taken out 0 places last
@@ -50,12 +50,12 @@ start_so_far f c Taken out places last is whole table none_taken = record {
     zero_whole c (inr e) = subst (λ k. 0 % k ≡ 0) (sym e) refl
 
 -- one more chunk, its pixels written and seen
-pub goes_on : (f c n : ℕ) (Taken Taken' : List ℕ → Type 0) (old new : List ℕ) (at end : ℕ) (places places' : List (List ℕ)) (last last' : List ℕ) (chunk : Chunk) → IsChannels c
+pub goes_on : {f c n : ℕ} {Taken Taken' : List ℕ → Type 0} {old new : List ℕ} {at end : ℕ} {places places' : List (List ℕ)} {last last' : List ℕ} (chunk : Chunk) → IsChannels c
     → SoFar f c n Taken old at places last → at < length old → IsChunk chunk → ((bytes : List ℕ) → Taken bytes → Taken' (bytes ++ bytes_of chunk))
     → ((past : Past) → HasSeen places last past → HasSeen places' last' (then_chunk past chunk))
     → ((past : Past) → HasFilled f c n old at past → HasFilled f c n new end (replicate (times chunk) (rgba last') ++ past))
     → end ≤ length new → end % c ≡ 0 → SoFar f c n Taken' new end places' last'
-goes_on f c n Taken Taken' old new at end places places' last last' chunk is s inside is_chunk takes sees fills within whole =
+goes_on {f} {c} {n} {Taken} {Taken'} {old} {new} {at} {end} {places} {places'} {last} {last'} chunk is s inside is_chunk takes sees fills within whole =
     let past = then_chunks [] s.cs in
     let pushed = then_chunks-append [] s.cs (chunk ∷ []) in
     let table = sees past s.table in
@@ -64,7 +64,7 @@ goes_on f c n Taken Taken' old new at end places places' last last' chunk is s i
     record {
       cs = s.cs ++ chunk ∷ [];
       chunks = are_chunks_append s.cs (chunk ∷ []) s.chunks (is_chunk, tt);
-      short = each_append (λ past c. length past < n) [] s.cs (chunk ∷ []) s.short (fewer f c n old at past is s.filled inside, tt);
+      short = each_append (λ past c. length past < n) [] s.cs (chunk ∷ []) s.short (fewer is s.filled inside, tt);
       taken = subst Taken' (sym (text-last s.cs chunk)) (takes (text s.cs) s.taken);
       filled = rw pushed filled;
       table = rw pushed table;
@@ -73,9 +73,9 @@ goes_on f c n Taken Taken' old new at end places places' last last' chunk is s i
     }
 
 -- where the buffer is full, the chunks reach n pixels, and these are the first n
-pub reads_all : (f c n : ℕ) (Taken : List ℕ → Type 0) (out : List ℕ) (at : ℕ) (places : List (List ℕ)) (last : List ℕ) → IsChannels c → (s : SoFar f c n Taken out at places last) → length out ≤ at
+pub reads_all : {f c n : ℕ} {Taken : List ℕ → Type 0} {out : List ℕ} {at : ℕ} {places : List (List ℕ)} {last : List ℕ} → IsChannels c → (s : SoFar f c n Taken out at places last) → length out ≤ at
     → Reaches n s.cs × (out ≡ output f c (take n (meaning s.cs)))
-reads_all f c n Taken out at places last is s full =
+reads_all {f} {c} {n} {Taken} {out} {at} is s full =
     let all = filled_all f c n out at (then_chunks [] s.cs) is s.filled full in
     (record { short = s.short; enough = rw length-meaning all.0 }, all.1)
 
@@ -88,27 +88,27 @@ pub split_more : (bytes rest after : List ℕ) (chunk : Chunk) → rest ≡ byte
 split_more bytes rest after chunk e taken split = split ∙ ap (λ z. taken ++ z) e ∙ sym (append_assoc taken (bytes_of chunk) after)
 
 -- the chunks of a slice whose pixels fill the buffer
-pub reads_pixels : (f c n : ℕ) (bytes rest out : List ℕ) (at : ℕ) (places : List (List ℕ)) (last : List ℕ) → IsChannels c → SoFar f c n (SplitAt bytes rest) out at places last → length out ≤ at → ReadsPixels f c n bytes rest out
-reads_pixels f c n bytes rest out at places last is s full =
-    let all = reads_all f c n (SplitAt bytes rest) out at places last is s full in
+pub reads_pixels : {f c n : ℕ} {bytes rest out : List ℕ} {at : ℕ} {places : List (List ℕ)} {last : List ℕ} → IsChannels c → SoFar f c n (SplitAt bytes rest) out at places last → length out ≤ at → ReadsPixels f c n bytes rest out
+reads_pixels is s full =
+    let all = reads_all is s full in
     record { cs = s.cs; takes = record { chunks = s.chunks; short = s.short; split = s.taken }; reaches = all.0; out_is = all.1 }
 
 -- where there is room and no whole chunk is left, the bytes end within a chunk
 pub ends_in_chunk : (f c n : ℕ) (bytes rest out : List ℕ) (at : ℕ) (places : List (List ℕ)) (last : List ℕ) → IsChannels c → SoFar f c n (SplitAt bytes rest) out at places last → at < length out → IsPartOfChunk rest → EndsInChunk n bytes
 ends_in_chunk f c n bytes rest out at places last is s inside part =
-    (s.cs, rest, record { chunks = s.chunks; short = s.short; split = s.taken }, rw length-meaning (fewer f c n out at (then_chunks [] s.cs) is s.filled inside), part)
+    (s.cs, rest, record { chunks = s.chunks; short = s.short; split = s.taken }, rw length-meaning (fewer is s.filled inside), part)
 
 -- the chunks of a stream whose pixels fill the buffer
-pub streams_pixels : (f c n : ℕ) (old new : Option (List ℕ)) (out : List ℕ) (at : ℕ) (places : List (List ℕ)) (last : List ℕ) → IsChannels c → SoFar f c n (Consumes old new) out at places last → length out ≤ at → StreamsPixels f c n old new out
-streams_pixels f c n old new out at places last is s full =
-    let all = reads_all f c n (Consumes old new) out at places last is s full in
+pub streams_pixels : {f c n : ℕ} {old new : Option (List ℕ)} {out : List ℕ} {at : ℕ} {places : List (List ℕ)} {last : List ℕ} → IsChannels c → SoFar f c n (Consumes old new) out at places last → length out ≤ at → StreamsPixels f c n old new out
+streams_pixels is s full =
+    let all = reads_all is s full in
     record { cs = s.cs; chunks = s.chunks; reaches = all.0; taken = s.taken; out_is = all.1 }
 
 -- where a stream gives no whole chunk, what was taken ends within a chunk
-pub stream_ends : (f c n : ℕ) (old now new : Option (List ℕ)) (out part : List ℕ) (at : ℕ) (places : List (List ℕ)) (last : List ℕ) → IsChannels c → SoFar f c n (Consumes old now) out at places last → at < length out → Consumes now new part → IsPartOfChunk part
+pub stream_ends : {f c n : ℕ} (old now new : Option (List ℕ)) {out : List ℕ} (part : List ℕ) {at : ℕ} {places : List (List ℕ)} {last : List ℕ} → IsChannels c → SoFar f c n (Consumes old now) out at places last → at < length out → Consumes now new part → IsPartOfChunk part
     → (taken : List ℕ) × Consumes old new taken × EndsInChunk n taken
-stream_ends f c n old now new out part at places last is s inside took is_part = (
+stream_ends old now new part is s inside took is_part = (
   text s.cs ++ part,
   Consumes-trans old now new (text s.cs) part s.taken took,
-  (s.cs, part, record { chunks = s.chunks; short = s.short; split = refl }, rw length-meaning (fewer f c n out at (then_chunks [] s.cs) is s.filled inside), is_part),
+  (s.cs, part, record { chunks = s.chunks; short = s.short; split = refl }, rw length-meaning (fewer is s.filled inside), is_part),
 )

@@ -1,10 +1,10 @@
 -- Lists of chunks joined end to end, and the lengths of chunks.
-use Rattle.std.proofs.Common.{◌≡◌, ◌<◌, ◌≤◌, List, [], ◌∷◌, ◌++◌, length, arith, refl, ap, ◌∙◌, append-nil}
+use Rattle.std.proofs.Common.{◌≡◌, ◌<◌, ◌≤◌, List, [], ◌∷◌, ◌++◌, length, arith, ap, ◌∙◌, append-nil}
 use Rattle.std.proofs.lemmas.List.{length-reverse}
 use Rattle.std.proofs.lemmas.Grind.{flat_map-append}
 use Rattle.qoi.specs.declared.chunk.Chunk.{Chunk}
 use Rattle.qoi.specs.declared.chunk.Chunk.TheVariants.{Place, Diff, Luma, Run, Rgb, Rgba}
-use Rattle.qoi.specs.Qoi.{Past, IsChunk, AreChunks, bytes_of, text, then_chunk, then_chunks, meaning, Each}
+use Rattle.qoi.specs.Qoi.{AreChunks, bytes_of, text, then_chunks, meaning}
 
 -- a chunk has one byte to five
 pub length-bytes_of : (c : Chunk) → (0 < length (bytes_of c)) × (length (bytes_of c) ≤ 5)

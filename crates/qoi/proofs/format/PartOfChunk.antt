@@ -31,3 +31,6 @@ part_rgba (x ∷ r ∷ []) fits h is = (Rgba r 0 0 0, 0, 0 ∷ 0 ∷ [], (fits 1
 part_rgba (x ∷ r ∷ g ∷ []) fits h is = (Rgba r g 0 0, 0, 0 ∷ [], (fits 1, fits 2, omega arith, omega arith), cc)
 part_rgba (x ∷ r ∷ g ∷ b ∷ []) fits h is = (Rgba r g b 0, 0, [], (fits 1, fits 2, fits 3, omega arith), cc)
 part_rgba (x ∷ r ∷ g ∷ b ∷ a ∷ bytes) fits h is = absurd (omega arith)
+
+-- a slice of each such length is part of a chunk
+pub ruleset parts = (part_empty, part_luma, part_rgb, part_rgba)

@@ -8,10 +8,10 @@ loop-at-init g c = start_so_far g.row.F g.row.N (SplitAt c.args.data.now c.args.
 
 pub loop-at-preserved : goal.loop-at-preserved
 loop-at-preserved g c =
-    goes_on g.row.F g.row.N (length c.args.out.now / g.row.N) (SplitAt c.args.data.now c.loop-at.rest.now) (SplitAt c.args.data.now c.in_ok-chunk.after.now) c.loop-at.out _ c.loop-at.at _ c.loop-at.seen.places _ c.loop-at.seen.last _ c.in_ok-chunk.chunk
-    c.requires.channels c.loop-at.invariant c.loop-at-test.true c.in_ok-chunk.ensures.some.0 (split_more c.args.data.now c.loop-at.rest.now c.in_ok-chunk.after.now c.in_ok-chunk.chunk c.in_ok-chunk.ensures.some.1)
+    goes_on c.in_ok-chunk.chunk c.requires.channels c.loop-at.invariant c.loop-at-test.true c.in_ok-chunk.ensures.some.0
+    (split_more c.args.data.now c.loop-at.rest.now c.in_ok-chunk.after.now c.in_ok-chunk.chunk c.in_ok-chunk.ensures.some.1)
     c.give-at.ensures.seen (c.give-at.ensures.filled (length c.args.out.now / g.row.N)) c.give-at.ensures.within.1 c.give-at.ensures.whole
 
 pub returns : goal.returns
 returns g c =
-    reads_pixels g.row.F g.row.N (length c.args.out.now / g.row.N) c.args.data.now _ c.loop-at.out c.loop-at.at _ _ c.requires.channels c.loop-at.invariant c.loop-at-test.false
+    reads_pixels c.requires.channels c.loop-at.invariant c.loop-at-test.false
