@@ -1,10 +1,12 @@
 pub mod Appended
 pub mod ChunkSteps
 pub mod ChunksApart
+pub mod Choices
 pub mod Coding
 pub mod CodingRest
 pub mod Costs
 pub mod FilledBuffer
+pub mod GroupRuns
 pub mod HeaderBytes
 pub mod ImageSize
 pub mod Lower
@@ -24,7 +26,7 @@ pub mod SlackSteps
 pub mod SomeVerdict
 pub mod Spelled
 pub mod SpelledBytes
-pub mod TableNotes
+pub mod TableHolds
 pub mod TakenBytes
 pub mod Upper
 pub mod WrittenExists

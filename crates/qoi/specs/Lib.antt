@@ -2,7 +2,6 @@ pub mod Buffer
 pub mod Bytes
 pub mod Chunks
 pub mod CoderState
-pub mod Coding
 pub mod DecoderState
 pub mod Decoding
 pub mod Encoded
@@ -17,9 +16,11 @@ pub mod Output
 pub mod Pixels
 pub mod Raw
 pub mod Regular
+pub mod Runs
 pub mod Shortest
 pub mod Spelling
 pub mod Stream
+pub mod Table
 pub mod Types
 pub mod Verdicts
 pub mod Writes
