@@ -1,4 +1,4 @@
--- Lemmas on the format: headers, pixels, chunks and files.
+-- Lemmas on the format: headers, pixels, index positions, chunks and files.
 pub mod Appended
 pub mod ChunkSteps
 pub mod ChunksApart
@@ -10,3 +10,4 @@ pub mod SamePixels
 pub mod SetLast
 pub mod ShortLists
 pub mod SomeVerdict
+pub mod TableHolds

@@ -7,6 +7,7 @@ pub mod Verdicts
 pub mod Decoding
 pub mod DecoderState
 -- What is written, and the file of an image.
+pub mod Runs
 pub mod Written
 pub mod Spelling
 pub mod Encoded

@@ -1,5 +1,5 @@
--- States of loops: of the decoders and of the coder.
+-- States of loops, and what the table of index positions holds.
 pub mod CoderState
-pub mod Coding
 pub mod Filling
+pub mod Table
 pub mod Taken

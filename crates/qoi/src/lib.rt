@@ -29,6 +29,8 @@ pub mod laws;
 #[doc(hidden)]
 pub mod parts;
 mod pixel;
+mod runs;
+mod table;
 mod types;
 mod utils;
 

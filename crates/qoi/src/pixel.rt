@@ -211,17 +211,35 @@ impl<const N: usize> Pixel<N> {
         (sum % 64) as u8
     }
 
-    // Whether both are the same pixel. Four bytes are compared as one number.
+    // The same pixel in four channels, opaque where it has three.
+    #[inline(always)]
+    pub(crate) fn in_four_channels(self) -> Pixel<4>
+        requires { IsChannels N }
+        ensures { rgba result ≡ rgba self.entry }
+    {
+        Pixel([self.r(), self.g(), self.b(), self.a_or(0xff)])
+    }
+
+    // Whether both are the same pixel.
     #[inline(always)]
     pub(crate) fn is_same(self, other: Pixel<N>) -> bool
         requires { IsChannels N }
-        ensures { IsTrue result ↔ (self.entry ≡ other.entry) }
+        ensures { IsTrue result ↔ (rgba self.entry ≡ rgba other.entry) }
     {
-        if N == 4 {
-            let bytes = [self.0[0], self.0[1], self.0[2], self.0[3]];
-            let others = [other.0[0], other.0[1], other.0[2], other.0[3]];
-            return u32::from_le_bytes(bytes) == u32::from_le_bytes(others);
-        }
-        self == other
+        same_bytes(self.0, other.0)
     }
+}
+
+// Whether both are the same bytes. Four are compared as one number.
+#[inline(always)]
+fn same_bytes<const N: usize>(own: [u8; N], others: [u8; N]) -> bool
+    requires { IsChannels N }
+    ensures { IsTrue result ↔ (own ≡ others) }
+{
+    if N == 4 {
+        let bytes = [own[0], own[1], own[2], own[3]];
+        let other = [others[0], others[1], others[2], others[3]];
+        return u32::from_le_bytes(bytes) == u32::from_le_bytes(other);
+    }
+    own == others
 }

@@ -1,16 +1,15 @@
--- The table of an encoder, and the chunk that is chosen by it.
-use Rattle.std.proofs.Common.{◌≡◌, ◌≢◌, ℕ, zero, suc, ◌<◌, Bool, true, false, eqb, List, [], ◌∷◌, ◌++◌, length, get_or, take, slice_set, replicate, inl, inr, refl, sym, ap, ◌∙◌, arith, get_or-set_same, get_or-set_other}
-use Rattle.std.proofs.lemmas.List.{length-set, length-replicate, get_or-replicate}
-use Rattle.std.proofs.lemmas.Bool.{eqb-true, eqb-false}
+-- The table of a coder, and the chunk that is chosen by it.
+use Rattle.std.proofs.Common.{◌≡◌, ◌≢◌, ℕ, zero, suc, eqb, inl, inr, List, [], ◌∷◌, ◌++◌, length, take, replicate, Some, refl, sym, ap, ◌∙◌, subst, arith}
+use Rattle.std.proofs.lemmas.Bool.{cond_both, eqb-true}
 use Rattle.qoi.specs.declared.chunk.Chunk.{Chunk}
-use Rattle.qoi.specs.declared.chunk.Chunk.TheVariants.{Place, Run}
-use Rattle.qoi.specs.Qoi.{RgbaPixel, Past, rgba, previous, hash, start, blank, pixel, bytes_of, text}
+use Rattle.qoi.specs.declared.chunk.Chunk.TheVariants.{Place}
+use Rattle.qoi.specs.Qoi.{RgbaPixel, Past, rgba, previous, hash, start, seen}
 use Rattle.qoi.specs.Raw.{IsChannels}
-use Rattle.qoi.specs.Written.{IsFirst, IsChoice}
-use Rattle.qoi.specs.inner.CoderState.{HasNoted, HasCoded, waiting_run}
-use Rattle.qoi.proofs.format.SamePixels.{hash_below}
-use Rattle.qoi.proofs.decoding.SeenTable.{held_after}
-use Rattle.qoi.proofs.encoding.TableNotes.{Notes, notes_repeat, notes_fresh, notes_same, choice_place, choice_spelled}
+use Rattle.qoi.specs.inner.Table.{Holds}
+use Rattle.qoi.specs.Written.{fresh, noted, IsFirst, IsChoice}
+use Rattle.qoi.specs.inner.CoderState.{StateAfter}
+use Rattle.qoi.proofs.encoding.Coding.{previous_repeats}
+use Rattle.qoi.proofs.encoding.NotedPixels.{fresh_repeat, fresh_more}
 
 -- a pixel's bytes are its colors and, where there are four, its alpha
 own_bytes : (n : ℕ) (xs : List ℕ) → IsChannels n → length xs ≡ n → xs ≡ take n ((rgba xs).r ∷ (rgba xs).g ∷ (rgba xs).b ∷ (rgba xs).a ∷ [])
@@ -32,94 +31,49 @@ pub rgba_same : (n : ℕ) (xs ys : List ℕ) → IsChannels n → length xs ≡ 
 rgba_same n xs ys is p q same =
     own_bytes n xs is p ∙ ap (λ k. take n (k.r ∷ k.g ∷ k.b ∷ k.a ∷ [])) same ∙ sym (own_bytes n ys is q)
 
--- four bytes of a pixel, opaque where it has three
-pub rgba_four : (n : ℕ) (xs : List ℕ) → IsChannels n → length xs ≡ n → (rgba (take 4 (xs ++ 255 ∷ [])) ≡ rgba xs) × (length (take 4 (xs ++ 255 ∷ [])) ≡ 4)
-rgba_four n [] (inl e) h = absurd (omega arith)
-rgba_four n [] (inr e) h = absurd (omega arith)
-rgba_four n (a ∷ []) (inl e) h = absurd (omega arith)
-rgba_four n (a ∷ []) (inr e) h = absurd (omega arith)
-rgba_four n (a ∷ b ∷ []) (inl e) h = absurd (omega arith)
-rgba_four n (a ∷ b ∷ []) (inr e) h = absurd (omega arith)
-rgba_four n (a ∷ b ∷ c ∷ []) is h = (refl, refl)
-rgba_four n (a ∷ b ∷ c ∷ d ∷ []) is h = (refl, refl)
-rgba_four n (a ∷ b ∷ c ∷ d ∷ x ∷ xs) (inl e) h = absurd (omega arith)
-rgba_four n (a ∷ b ∷ c ∷ d ∷ x ∷ xs) (inr e) h = absurd (omega arith)
+-- as many zeros, with the last of four at 255, are the pixel before the first one
+pub opened : (n : ℕ) → IsChannels n → rgba (take n (take 3 (replicate n 0) ++ 255 ∷ [])) ≡ start
+unfolding start
+opened n (inl e) = rw e refl
+opened n (inr e) = rw e refl
 
--- the table of pixels
-abbrev pub at_place : List (List ℕ) → ℕ → RgbaPixel
-at_place table i = rgba (get_or table i [])
+-- a pixel that the table holds may be put there again
+holds_again : (table : List RgbaPixel) (past : Past) (p : RgbaPixel) → Holds table past → seen past (hash p) ≡ p → Holds table (p ∷ past)
+holds_again table past p holds is = λ i l. holds i l ∙ ap (λ x. Some x) (cond_both (eqb (hash p) i) p (seen past i) (λ x. seen past i ≡ x) (λ t. ap (seen past) (sym (eqb-true (hash p) i t)) ∙ is) (λ _. refl))
 
--- the table as notes
-pub notes_of : (table : List (List ℕ)) (past : Past) → HasNoted table past → Notes past (at_place table)
-notes_of table past h = record { holds = h.holds }
+-- a fresh pixel that stands at its index position is given by it
+pub chosen_place : (past : Past) (p : RgbaPixel) (i : ℕ) → i ≡ hash p → seen (fresh past) i ≡ p → IsChoice past p (Place i)
+chosen_place past p i at is =
+    let found : noted past (hash p) ≡ p = ap (seen (fresh past)) (sym at) ∙ is in
+    rw at (record { place = λ _. refl; spelled = λ other. absurd (other found) })
 
--- as many zeros
-abbrev zeros : ℕ → List ℕ
-zeros n = replicate n 0
+-- any other is spelled out
+pub chosen_spelled : (past : Past) (p : RgbaPixel) (i : ℕ) (c : Chunk) → i ≡ hash p → seen (fresh past) i ≢ p → IsFirst past p c → IsChoice past p c
+chosen_spelled past p i c at differs first =
+    let missing : noted past (hash p) ≢ p = λ found. differs (ap (seen (fresh past)) at ∙ found) in
+    record { place = λ found. absurd (missing found); spelled = λ _. first }
 
--- the state before the first pixel
-pub coded_none_yet : (n : ℕ) (empty opened last : List ℕ) → IsChannels n → empty ≡ replicate 4 0 → opened ≡ replicate n 0 → last ≡ take n (take 3 opened ++ 255 ∷ []) → HasCoded n (replicate 64 empty) last []
-unfolding start blank
-coded_none_yet n empty opened last is e z l = record {
-  table_is = record {
-    length_is = length-replicate 64 empty;
-    four = λ i h. rw (get_or-replicate, e) refl;
-    holds = λ i h. rw (get_or-replicate, e) refl;
-  };
-  size = rw (l, z) (sized n is);
-  last_is = rw (l, z) (opaque n is);
+-- where a fresh pixel stands at its index position, the table stays as it is
+pub state_place : (past : Past) (table : List RgbaPixel) (px : List ℕ) (i : ℕ) → Holds table (fresh past) → rgba px ≢ previous past → i ≡ hash (rgba px) → seen (fresh past) i ≡ rgba px → StateAfter (rgba px ∷ past) table px
+state_place past table px i holds differs at is = record {
+  table_is = subst (λ x. Holds table x) (sym (fresh_more past (rgba px) differs)) (holds_again table (fresh past) (rgba px) holds (ap (seen (fresh past)) (sym at) ∙ is));
+  last_is = refl;
+}
+
+-- else it is put there
+pub state_put : (past : Past) (table : List RgbaPixel) (p : RgbaPixel) (px : List ℕ) → p ≡ rgba px → rgba px ≢ previous past → Holds table (p ∷ fresh past) → StateAfter (rgba px ∷ past) table px
+state_put past table p px is differs holds = record {
+  table_is = subst (λ x. Holds table x) (ap (λ q. q ∷ fresh past) is ∙ sym (fresh_more past (rgba px) differs)) holds;
+  last_is = refl;
+}
+
+-- repeats change nothing
+pub state_repeats : (n : ℕ) (past : Past) (table : List RgbaPixel) (last : List ℕ) → StateAfter past table last → StateAfter (replicate n (previous past) ++ past) table last
+state_repeats n past table last s = record {
+  table_is = subst (λ x. Holds table x) (sym (fresh_repeats n)) s.table_is;
+  last_is = s.last_is ∙ sym (previous_repeats n past);
 }
   where
-    sized : (n : ℕ) → IsChannels n → length (take n (take 3 (zeros n) ++ 255 ∷ [])) ≡ n
-    sized n (inl e) = rw e refl
-    sized n (inr e) = rw e refl
-
-    opaque : (n : ℕ) → IsChannels n → rgba (take n (take 3 (zeros n) ++ 255 ∷ [])) ≡ pixel 0 0 0 255
-    opaque n (inl e) = rw e refl
-    opaque n (inr e) = rw e refl
-
--- a repeat leaves the table as it is
-pub noted_again : (table : List (List ℕ)) (past : Past) (p : RgbaPixel) → HasNoted table past → p ≡ previous past → HasNoted table (p ∷ past)
-noted_again table past p h e = record { length_is = h.length_is; four = h.four; holds = (notes_repeat past p (at_place table) (notes_of table past h) e).holds }
-
--- a pixel that is noted is given by its index position
-pub chosen_place : (n : ℕ) (table : List (List ℕ)) (px four : List ℕ) (past : Past) (i : ℕ) → IsChannels n → length px ≡ n → four ≡ take 4 (px ++ 255 ∷ []) → HasNoted table past → rgba px ≢ previous past
-    → i ≡ hash (rgba four) → get_or table i [] ≡ four → IsChoice past (rgba px) (Place i) × HasNoted table (rgba px ∷ past)
-chosen_place n table px four past i is size e h other at found =
-    let means : rgba four ≡ rgba px = ap rgba e ∙ (rgba_four n px is size).0 in
-    let place : i ≡ hash (rgba px) = at ∙ ap hash means in
-    let held : at_place table (hash (rgba px)) ≡ rgba px = ap (λ k. at_place table k) (sym place) ∙ ap rgba found ∙ means in
-    let same = notes_same past (rgba px) (at_place table) (notes_of table past h) other held in
-    (rw place (choice_place past (rgba px) (at_place table) (notes_of table past h) held), record { length_is = h.length_is; four = h.four; holds = same.holds })
-
--- any other is spelled out, and noted
-pub chosen_spelled : (n : ℕ) (table : List (List ℕ)) (px four : List ℕ) (past : Past) (i : ℕ) (c : Chunk) → IsChannels n → length px ≡ n → four ≡ take 4 (px ++ 255 ∷ []) → HasNoted table past → rgba px ≢ previous past
-    → i ≡ hash (rgba four) → get_or table i [] ≢ four → IsFirst past (rgba px) c → IsChoice past (rgba px) c × HasNoted (slice_set table i four) (rgba px ∷ past)
-chosen_spelled n table px four past i c is size e h other at missing first =
-    let whole = rgba_four n px is size in
-    let means : rgba four ≡ rgba px = ap rgba e ∙ whole.0 in
-    let long : length four ≡ 4 = ap length e ∙ whole.1 in
-    let place : i ≡ hash (rgba px) = at ∙ ap hash means in
-    let p = rgba px in
-    let not_held : at_place table (hash p) ≢ p = λ held. missing (rgba_same 4 (get_or table i []) four (inr refl) (rw place (h.four (hash p) (hash_below p))) long (rw place (held ∙ sym means))) in
-    let fresh = notes_fresh past p (at_place table) (at_place (slice_set table i four)) (notes_of table past h) other (λ j l. rw place (held_after table four p j h.length_is means)) in (
-      choice_spelled past p c (at_place table) (notes_of table past h) not_held first,
-      record { length_is = length-set table i four ∙ h.length_is; four = λ j l. rw place (long_after table four (hash p) j h.length_is long h.four l (hash_below p)); holds = fresh.holds },
-    )
-  where
-    long_after : (table : List (List ℕ)) (four : List ℕ) (i j : ℕ) → length table ≡ 64 → length four ≡ 4 → ((k : ℕ) → k < 64 → length (get_or table k []) ≡ 4) → j < 64 → i < 64 → length (get_or (slice_set table i four) j []) ≡ 4
-    long_after table four i j len long all l m = by (eqb i j) refl
-      where
-        by : (b : Bool) → eqb i j ≡ b → length (get_or (slice_set table i four) j []) ≡ 4
-        by true e =
-            let same : i ≡ j = eqb-true i j e in
-            let inside : i < length table = omega arith in
-            rw (← same) (rw get_or-set_same long)
-        by false e =
-            let apart : j ≢ i = λ q. eqb-false i j e (sym q) in
-            rw get_or-set_other (all j l)
-
--- the bytes of the run that waits, where there is one
-pub text-waiting_run : (n : ℕ) → n ≢ 0 → text (waiting_run n) ≡ bytes_of (Run n)
-text-waiting_run zero h = absurd (h refl)
-text-waiting_run (suc n) h = refl
+    fresh_repeats : (k : ℕ) → fresh (replicate k (previous past) ++ past) ≡ fresh past
+    fresh_repeats zero = refl
+    fresh_repeats (suc k) = fresh_repeat (replicate k (previous past) ++ past) (previous past) (sym (previous_repeats k past)) ∙ fresh_repeats k

@@ -1,14 +1,12 @@
--- How a written list grows at its end, pixel by pixel, with a run that waits.
-use Rattle.std.proofs.Common.{◌≡◌, ◌≢◌, inl, inr, ℕ, zero, suc, ◌<◌, false, List, [], ◌∷◌, ◌++◌, reverse, refl, sym, ap, ◌∙◌, arith, append_assoc}
-use Rattle.std.proofs.lemmas.List.{reverse-append}
+-- How a written list grows at its end: by the runs of a group of repeats, and by a fresh pixel's chunk.
+use Rattle.std.proofs.Common.{◌≡◌, ◌≢◌, ℕ, zero, suc, ◌+◌, ◌*◌, ◌/◌, ◌%◌, ◌<◌, false, List, [], ◌∷◌, ◌++◌, reverse, replicate, refl, sym, ap, ◌∙◌, subst, subst₂, arith, append_assoc, append-nil}
+use Rattle.std.proofs.lemmas.List.{reverse-append, reverse-reverse, replicate-append-replicate}
 use Rattle.std.specs.List.{AllByRecursion}
 use Rattle.qoi.specs.declared.chunk.Chunk.{Chunk}
 use Rattle.qoi.specs.declared.chunk.Chunk.TheVariants.{Place, Diff, Luma, Run, Rgb, Rgba}
-use Rattle.qoi.specs.Qoi.{RgbaPixel, Past, previous, hash, IsChunk, pixel_of, then_chunk, then_chunks}
-use Rattle.qoi.specs.inner.Coding.{Coding, Coded}
-use Rattle.qoi.specs.Written.{rank, noted, IsChoice, IsRightAfter, IsFull, RunsAreFull, WrittenBy}
-use Rattle.qoi.proofs.format.SamePixels.{cases_pixel}
-use Rattle.qoi.proofs.encoding.NotedPixels.{noted_seen}
+use Rattle.qoi.specs.Qoi.{RgbaPixel, Past, previous, IsChunk, AreChunks, pixel_of, then_chunks, Each}
+use Rattle.qoi.specs.Runs.{last_run, runs}
+use Rattle.qoi.specs.Written.{IsRightAfter, IsFull, RunsAreFull, WrittenBy}
 use Rattle.qoi.proofs.format.ChunkSteps.{is_run, right_from, full_other, full_before, then_other, then_chunks-append, each_append}
 
 -- what holds of each of two lists holds of each of both
@@ -73,100 +71,90 @@ full_62 (d ∷ e ∷ cs) n h = (same d e h.0, full_62 (e ∷ cs) n h.1)
     same (Run m) (Run n) h = h
     same d e h = tt
 
+-- chunks after chunks
+pub chunks_split : (a b d : List Chunk) (c : Chunk) → ((a ++ b) ++ c ∷ []) ++ d ≡ a ++ (b ++ c ∷ d)
+chunks_split a b d c = append_assoc (a ++ b) (c ∷ []) d ∙ append_assoc a b (c ∷ d)
+
+-- a run of any length may follow the list
+abbrev pub TakesRun : List Chunk → Type 0
+TakesRun cs = (n : ℕ) → RunsAreFull (cs ++ Run n ∷ [])
+
 -- the pixel before is the same after repeats
-previous_repeats : (past : Past) (k : ℕ) → previous (then_chunk past (Run k)) ≡ previous past
-previous_repeats past zero = refl
-previous_repeats past (suc k) = refl
+pub previous_repeats : (n : ℕ) (past : Past) → previous (replicate n (previous past) ++ past) ≡ previous past
+previous_repeats zero past = refl
+previous_repeats (suc n) past = refl
+
+-- so many of one and then more of it are as many together
+repeats_after : (m n : ℕ) (q : RgbaPixel) (past : Past) → replicate m q ++ (replicate n q ++ past) ≡ replicate (m + n) q ++ past
+repeats_after m n q past = sym (append_assoc (replicate m q) (replicate n q) past) ∙ ap (λ x. x ++ past) (replicate-append-replicate m n q)
 
 module _ (Choice : Past → RgbaPixel → Chunk → Type 0) where
-  -- at the start nothing is written
-  pub coding_none : Coding Choice [] 0 []
-  coding_none = record { waits = omega arith; chunks = tt; means = refl; right = tt; full = λ n. (tt, tt) }
+  -- nothing is written for no pixel
+  pub written_none : WrittenBy Choice [] []
+  written_none = record { chunks = tt; means = refl; right = tt; full = tt }
 
-  -- a repeat is the pixel that waits
-  repeat_is : (past : Past) (k : ℕ) (cs : List Chunk) (p : RgbaPixel) → Coding Choice past k cs → p ≡ previous past → then_chunk (then_chunks [] cs) (Run (suc k)) ≡ p ∷ past
-  repeat_is past k cs p w e =
-      let s : p ≡ previous (then_chunks [] cs) = e ∙ ap previous (sym w.means) ∙ previous_repeats (then_chunks [] cs) k in
-      ap (λ x. x ∷ then_chunk (then_chunks [] cs) (Run k)) (sym s) ∙ ap (λ x. p ∷ x) w.means
+  -- the pixels after a list that is written for them
+  then_written : (past : Past) (cs : List Chunk) → WrittenBy Choice (reverse past) cs → then_chunks [] cs ≡ past
+  then_written past cs w = sym (reverse-reverse (then_chunks [] cs)) ∙ ap reverse w.means ∙ reverse-reverse past
 
-  -- a repeat waits
-  pub coding_repeat : (past : Past) (k : ℕ) (cs : List Chunk) (p : RgbaPixel) → Coding Choice past k cs → p ≡ previous past → suc k < 62 → Coding Choice (p ∷ past) (suc k) cs
-  coding_repeat past k cs p w e l = record {
-    waits = l;
-    chunks = w.chunks;
-    means = repeat_is past k cs p w e;
-    right = w.right;
-    full = w.full;
-  }
+  -- more chunks are written at its end
+  written_append : (past after : Past) (cs ds : List Chunk) → WrittenBy Choice (reverse past) cs → AreChunks ds → then_chunks past ds ≡ after → Each (IsRightAfter Choice) past ds → RunsAreFull (cs ++ ds) → WrittenBy Choice (reverse after) (cs ++ ds)
+  written_append past after cs ds w are means right full =
+      let before : then_chunks [] cs ≡ past = then_written past cs w in
+      record {
+        chunks = all_append IsChunk cs ds w.chunks are;
+        means = ap reverse (then_chunks-append [] cs ds ∙ ap (λ x. then_chunks x ds) before ∙ means);
+        right = each_append (IsRightAfter Choice) [] cs ds w.right (subst (λ x. Each (IsRightAfter Choice) x ds) (sym before) right);
+        full = full;
+      }
 
-  -- at 62 the run is written
-  pub coding_full : (past : Past) (k : ℕ) (cs : List Chunk) (p : RgbaPixel) → Coding Choice past k cs → p ≡ previous past → suc k ≡ 62 → Coding Choice (p ∷ past) 0 (cs ++ Run 62 ∷ [])
-  coding_full past k cs p w e l = record {
-    waits = omega arith;
-    chunks = all_append IsChunk cs _ w.chunks ((omega arith, omega arith), tt);
-    means = then_chunks-append [] cs (Run 62 ∷ []) ∙ ap (λ n. then_chunk (then_chunks [] cs) (Run n)) (sym l) ∙ repeat_is past k cs p w e;
-    right = each_append (IsRightAfter Choice) [] cs _ w.right (tt, tt);
-    full = λ n. rw append_assoc (full_62 cs n (w.full 62));
-  }
+  -- 62 repeats are written as a full run, and a run may follow
+  full_run : (past : Past) (cs : List Chunk) → WrittenBy Choice (reverse past) cs → TakesRun cs → WrittenBy Choice (reverse (replicate 62 (previous past) ++ past)) (cs ++ Run 62 ∷ []) × TakesRun (cs ++ Run 62 ∷ [])
+  full_run past cs w takes = (
+    written_append past (replicate 62 (previous past) ++ past) cs (Run 62 ∷ []) w ((omega arith, omega arith), tt) refl (tt, tt) (takes 62),
+    λ n. rw append_assoc (full_62 cs n (takes 62)),
+  )
 
-  -- where nothing waits, all is written
-  pub coded_none : (past : Past) (k : ℕ) (cs : List Chunk) → Coding Choice past k cs → k ≡ 0 → Coded Choice past cs
-  coded_none past k cs w e = record {
-    chunks = w.chunks;
-    means = rw e at w.means;
-    right = w.right;
-    full = full_front cs _ (w.full 0);
-  }
+  -- so are as many times 62 repeats
+  full_runs : (m : ℕ) (past : Past) (q : RgbaPixel) (cs : List Chunk) → q ≡ previous past → WrittenBy Choice (reverse past) cs → TakesRun cs
+      → WrittenBy Choice (reverse (replicate (m * 62) q ++ past)) (cs ++ replicate m (Run 62)) × TakesRun (cs ++ replicate m (Run 62))
+  full_runs zero past q cs is w takes = rw (append-nil cs) (w, takes)
+  full_runs (suc m) past q cs is w takes =
+      let one = full_run past cs w takes in
+      let first : WrittenBy Choice (reverse (replicate 62 q ++ past)) (cs ++ Run 62 ∷ []) = subst (λ p. WrittenBy Choice (reverse (replicate 62 p ++ past)) (cs ++ Run 62 ∷ [])) (sym is) one.0 in
+      let again : q ≡ previous (replicate 62 q ++ past) = refl in
+      let more = full_runs m (replicate 62 q ++ past) q (cs ++ Run 62 ∷ []) again first one.1 in
+      let count : m * 62 + 62 ≡ suc m * 62 = omega arith in
+      let pixels : replicate (m * 62) q ++ (replicate 62 q ++ past) ≡ replicate (suc m * 62) q ++ past = repeats_after (m * 62) 62 q past ∙ ap (λ k. replicate k q ++ past) count in
+      subst₂ (λ p c. WrittenBy Choice (reverse p) c × TakesRun c) pixels (append_assoc cs (Run 62 ∷ []) (replicate m (Run 62))) more
 
-  -- else the run that waits is written
-  pub coded_run : (past : Past) (k : ℕ) (cs : List Chunk) → Coding Choice past k cs → 0 < k → Coded Choice past (cs ++ Run k ∷ [])
-  coded_run past k cs w h = record {
-    chunks = all_append IsChunk cs _ w.chunks ((h, let l = w.waits in omega arith), tt);
-    means = then_chunks-append [] cs (Run k ∷ []) ∙ w.means;
-    right = each_append (IsRightAfter Choice) [] cs _ w.right (tt, tt);
-    full = w.full k;
-  }
+  -- the last run of a group is written
+  written_last : (k : ℕ) (past : Past) (cs : List Chunk) → k < 62 → WrittenBy Choice (reverse past) cs → TakesRun cs → WrittenBy Choice (reverse (replicate k (previous past) ++ past)) (cs ++ last_run k)
+  written_last zero past cs short w takes = rw (append-nil cs) w
+  written_last (suc k) past cs short w takes =
+      written_append past (replicate (suc k) (previous past) ++ past) cs (Run (suc k) ∷ []) w ((omega arith, omega arith), tt) refl (tt, tt) (takes (suc k))
 
-  -- a fresh pixel's chunk is written
-  pub coding_fresh : (past : Past) (cs : List Chunk) (p : RgbaPixel) (c : Chunk) → Coded Choice past cs → p ≢ previous past → IsChunk c → is_run c ≡ false → pixel_of past c ≡ p → Choice past p c → Coding Choice (p ∷ past) 0 (cs ++ c ∷ [])
-  coding_fresh past cs p c w n i o g choice = record {
-    waits = omega arith;
-    chunks = all_append IsChunk cs _ w.chunks (i, tt);
-    means = then_chunks-append [] cs (c ∷ []) ∙ ap (λ x. then_chunk x c) w.means ∙ then_other past c o ∙ ap (λ x. x ∷ past) g;
-    right = each_append (IsRightAfter Choice) [] cs _ w.right (rw w.means right_here, tt);
-    full = λ k. rw append_assoc (full_push cs c k o w.full);
-  }
+  -- the runs of a group are written
+  pub written_runs : (past : Past) (n : ℕ) (cs : List Chunk) → WrittenBy Choice (reverse past) cs → TakesRun cs → WrittenBy Choice (reverse (replicate n (previous past) ++ past)) (cs ++ runs n)
+  unfolding runs
+  written_runs past n cs w takes =
+      let q = previous past in
+      let many = n / 62 * 62 in
+      let fulls = full_runs (n / 62) past q cs refl w takes in
+      let short : n % 62 < 62 = omega arith in
+      let all = written_last (n % 62) (replicate many q ++ past) (cs ++ replicate (n / 62) (Run 62)) short fulls.0 fulls.1 in
+      let count : n % 62 + many ≡ n = omega arith in
+      let pixels : replicate (n % 62) (previous (replicate many q ++ past)) ++ (replicate many q ++ past) ≡ replicate n q ++ past
+      = ap (λ p. replicate (n % 62) p ++ (replicate many q ++ past)) (previous_repeats many past) ∙ repeats_after (n % 62) many q past ∙ ap (λ k. replicate k q ++ past) count in
+      subst₂ (λ p c. WrittenBy Choice (reverse p) c) pixels (append_assoc cs (replicate (n / 62) (Run 62)) (last_run (n % 62))) all
+
+  -- a fresh pixel's chunk is written, and a run may follow
+  pub written_fresh : (past : Past) (cs : List Chunk) (p : RgbaPixel) (c : Chunk) → WrittenBy Choice (reverse past) cs → p ≢ previous past → IsChunk c → is_run c ≡ false → pixel_of past c ≡ p → Choice past p c
+      → WrittenBy Choice (reverse (p ∷ past)) (cs ++ c ∷ []) × TakesRun (cs ++ c ∷ [])
+  written_fresh past cs p c w fresh is other gives choice = (
+    written_append past (p ∷ past) cs (c ∷ []) w (is, tt) (then_other past c other ∙ ap (λ x. x ∷ past) gives) (right_from Choice past c (record { is_fresh = rw gives fresh; is_chosen = rw gives choice }), tt) (full_front (cs ++ c ∷ []) (Run 1 ∷ []) (takes 1)),
+    takes,
+  )
     where
-      right_here : IsRightAfter Choice past c
-      right_here = right_from Choice past c (record { is_fresh = rw g n; is_chosen = rw g choice })
-
-  -- at the end it is the list that is written for the image
-  pub coded_all : (past : Past) (cs : List Chunk) → Coded Choice past cs → WrittenBy Choice (reverse past) cs
-  coded_all past cs w = record { chunks = w.chunks; means = ap reverse w.means; right = w.right; full = w.full }
-
--- a chunk that spells a pixel out is no run
-spells_other : (c : Chunk) → 0 < rank c → is_run c ≡ false
-spells_other (Run n) h = absurd (omega arith)
-spells_other (Place i) h = absurd (omega arith)
-spells_other (Diff d) h = refl
-spells_other (Luma d e) h = refl
-spells_other (Rgb r g b) h = refl
-spells_other (Rgba r g b a) h = refl
-
--- the chosen chunk of a fresh pixel gives it
-pub choice_gives : (past : Past) (p : RgbaPixel) (c : Chunk) → IsChoice past p c → pixel_of past c ≡ p
-choice_gives past p c w = elim (cases_pixel (noted past (hash p)) p) as (λ _. pixel_of past c ≡ p) [
-  | inl is ↦ rw (w.place is) (noted_seen past p is)
-  | inr other ↦ (w.spelled other).gives
-]
-
--- and is no run
-pub choice_other : (past : Past) (p : RgbaPixel) (c : Chunk) → IsChoice past p c → is_run c ≡ false
-choice_other past p c w = elim (cases_pixel (noted past (hash p)) p) as (λ _. is_run c ≡ false) [
-  | inl is ↦ rw (w.place is) refl
-  | inr other ↦ spells_other c (w.spelled other).spells
-]
-
--- a fresh pixel's chosen chunk is written
-pub coding_chosen : (past : Past) (cs : List Chunk) (p : RgbaPixel) (c : Chunk) → Coded IsChoice past cs → p ≢ previous past → IsChunk c → IsChoice past p c → Coding IsChoice (p ∷ past) 0 (cs ++ c ∷ [])
-coding_chosen past cs p c w n i choice = coding_fresh IsChoice past cs p c w n i (choice_other past p c choice) (choice_gives past p c choice) choice
+      takes : TakesRun (cs ++ c ∷ [])
+      takes n = rw append_assoc (full_push cs c n other w.full)

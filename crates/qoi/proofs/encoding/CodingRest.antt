@@ -1,121 +1,115 @@
--- What is still to be written of an image's list, as an encoder goes through its pixels.
-use Rattle.std.proofs.Common.{◌≡◌, ◌≢◌, ℕ, zero, suc, ◌+◌, ◌<◌, List, [], ◌∷◌, ◌++◌, reverse, replicate, refl, sym, ap, ◌∙◌, subst, subst₂, arith, append_assoc, append-nil}
-use Rattle.std.proofs.lemmas.List.{append_cancel_left, reverse-append, reverse-reverse}
-use Rattle.std.specs.List.{AllByRecursion}
+-- What is still to be written of an image's list, as a coder goes from one group of repeats and the fresh pixel behind
+-- it to the next.
+use Rattle.std.proofs.Common.{◌≡◌, ◌≢◌, ℕ, List, [], ◌∷◌, ◌++◌, reverse, replicate, Some, refl, sym, ap, ◌∙◌, subst, append_assoc, append-nil}
+use Rattle.std.proofs.lemmas.List.{append_cancel_left, reverse-append}
+use Rattle.std.specs.List.{AllByRecursion, slice_get}
 use Rattle.qoi.specs.declared.chunk.Chunk.{Chunk}
-use Rattle.qoi.specs.declared.chunk.Chunk.TheVariants.{Run}
 use Rattle.qoi.specs.Qoi.{RgbaPixel, IsPixel, Past, previous, IsChunk}
-use Rattle.qoi.specs.Written.{IsChoice, Written}
-use Rattle.qoi.specs.inner.Coding.{ToWrite, ToWrite, Coding}
-use Rattle.qoi.proofs.encoding.Coding.{all_front, all_back, all_reverse, coding_none, coding_repeat, coding_full, coded_none, coded_run, coding_chosen, coded_all}
-use Rattle.qoi.proofs.encoding.WrittenExists.{coding_completed}
-use Rattle.qoi.proofs.encoding.WrittenOnce.{written_unique}
+use Rattle.qoi.specs.Runs.{runs}
+use Rattle.qoi.specs.Written.{WrittenBy}
+use Rattle.qoi.proofs.format.ChunkSteps.{reverse-replicate}
+use Rattle.qoi.proofs.encoding.Coding.{TakesRun, all_back, chunks_split, previous_repeats, written_none, written_runs, written_fresh}
+use Rattle.qoi.proofs.encoding.Choices.{Chooses}
+use Rattle.qoi.proofs.encoding.WrittenExists.{is_pixel_start, written_on}
+use Rattle.qoi.proofs.encoding.WrittenOnce.{unique_by}
 
--- at the start all is still to be written
-pub to_write_none : (image : List RgbaPixel) (cs : List Chunk) → Written image cs → AllByRecursion IsPixel image → ToWrite image cs [] image 0 cs
-to_write_none image cs w h = record { whole = w; pixels = h; split = refl; done = []; coding = coding_none IsChoice; parts = refl }
+-- The list cs is written for the image. Of its pixels `past` have come, and `done` is the list that is written for
+-- them, which a run may follow; `rest` follow. Of cs the chunks `todo` are still to be written.
+pub record StillToWrite (Choice : Past → RgbaPixel → Chunk → Type 0) (image : List RgbaPixel) (cs : List Chunk) (past : Past) (rest : List RgbaPixel) (todo : List Chunk) : Type 0 where
+  pub whole : WrittenBy Choice image cs
+  pub split : image ≡ reverse past ++ rest
+  pub before : IsPixel (previous past)
+  pub are : AllByRecursion IsPixel rest
+  pub done : List Chunk
+  pub written : WrittenBy Choice (reverse past) done
+  pub takes_run : TakesRun done
+  pub parts : cs ≡ done ++ todo
 
--- the next pixel moves to those that have come
-next_split : (image : List RgbaPixel) (past : Past) (p : RgbaPixel) (rest : List RgbaPixel) → image ≡ reverse past ++ p ∷ rest → image ≡ reverse (p ∷ past) ++ rest
-next_split image past p rest e = e ∙ sym (append_assoc (reverse past) (p ∷ []) rest) ∙ ap (λ x. x ++ rest) (sym (reverse-append (p ∷ []) past))
+module _ (Choice : Past → RgbaPixel → Chunk → Type 0) (choices : Chooses Choice) where
+  -- before the first pixel all is still to be written
+  pub all_to_write : (image : List RgbaPixel) (cs : List Chunk) → WrittenBy Choice image cs → AllByRecursion IsPixel image → StillToWrite Choice image cs [] image cs
+  all_to_write image cs w are = record { whole = w; split = refl; before = is_pixel_start; are = are; done = []; written = written_none Choice; takes_run = λ n. (tt, tt); parts = refl }
 
--- what a coding has written begins what was still to be written
-to_write_next : (image : List RgbaPixel) (cs : List Chunk) (past : Past) (p : RgbaPixel) (rest : List RgbaPixel) (k j : ℕ) (todo new : List Chunk) (w : ToWrite image cs past (p ∷ rest) k todo) → Coding IsChoice (p ∷ past) j (w.done ++ new) → (more : List Chunk) × (todo ≡ new ++ more) × ToWrite image cs (p ∷ past) rest j more
-to_write_next image cs past p rest k j todo new w c = (
-  t.0,
-  same,
-  record {
-    whole = w.whole;
-    pixels = w.pixels;
-    split = s;
-    done = w.done ++ new;
-    coding = c;
-    parts = whole;
-  },
-)
-  where
-    s : image ≡ reverse (p ∷ past) ++ rest
-    s = next_split image past p rest w.split
+  module _ (image : List RgbaPixel) (cs : List Chunk) (past : Past) (n : ℕ) (rest : List RgbaPixel) (todo : List Chunk) (w : StillToWrite Choice image cs past (replicate n (previous past) ++ rest) todo) where
+    -- the pixels up to the end of the group
+    abbrev group : Past
+    group = replicate n (previous past) ++ past
 
-    h : AllByRecursion IsPixel (reverse (p ∷ past) ++ rest)
-    h = rw s at w.pixels
+    -- what follows the written chunks in a list of the image is what is to be written
+    next_is : (new : List Chunk) → WrittenBy Choice image (w.done ++ new) → todo ≡ new
+    next_is new v = append_cancel_left w.done todo new (sym w.parts ∙ unique_by Choice choices.only image cs (w.done ++ new) w.whole v)
 
-    before : AllByRecursion IsPixel (p ∷ past)
-    before = rw (reverse-reverse (p ∷ past)) at (all_reverse IsPixel (reverse (p ∷ past)) (all_front IsPixel (reverse (p ∷ past)) rest h))
+    -- the group belongs to the pixels that have come
+    image_is : image ≡ reverse group ++ rest
+    image_is =
+        w.split
+        ∙ sym (append_assoc (reverse past) (replicate n (previous past)) rest)
+        ∙ sym (ap (λ x. x ++ rest) (reverse-append (replicate n (previous past)) past ∙ ap (λ x. reverse past ++ x) (reverse-replicate n (previous past))))
 
-    t : (more : List Chunk) × Written (reverse (p ∷ past) ++ rest) (w.done ++ new ++ more)
-    t = coding_completed rest (p ∷ past) j (w.done ++ new) c before (all_back IsPixel (reverse (p ∷ past)) rest h)
+    -- the runs of the group are written
+    group_written : WrittenBy Choice (reverse group) (w.done ++ runs n)
+    group_written = written_runs Choice past n w.done w.written w.takes_run
 
-    whole : cs ≡ w.done ++ new ++ t.0
-    whole = written_unique image cs (w.done ++ new ++ t.0) w.whole (subst (λ x. Written x (w.done ++ new ++ t.0)) (sym s) t.1)
+    -- at the end of the pixels the runs of the group are to be written, and nothing else
+    pub only_runs : rest ≡ [] → todo ≡ runs n
+    only_runs none =
+        let all : image ≡ reverse group = image_is ∙ ap (λ x. reverse group ++ x) none ∙ append-nil (reverse group) in
+        next_is (runs n) (subst (λ x. WrittenBy Choice x (w.done ++ runs n)) (sym all) group_written)
 
-    same : todo ≡ new ++ t.0
-    same = append_cancel_left w.done todo (new ++ t.0) (sym w.parts ∙ whole ∙ append_assoc w.done new t.0)
+    module _ (p : RgbaPixel) (more : List RgbaPixel) (c : Chunk) (ahead : rest ≡ p ∷ more) (fresh : p ≢ previous past) (is : IsChunk c) (choice : Choice (replicate n (previous past) ++ past) p c) where
+      -- the next pixels are pixels
+      next_are : AllByRecursion IsPixel (p ∷ more)
+      next_are = subst (λ x. AllByRecursion IsPixel x) ahead (all_back IsPixel (replicate n (previous past)) rest w.are)
 
--- a repeat waits
-pub to_write_repeat : (image : List RgbaPixel) (cs : List Chunk) (past : Past) (p : RgbaPixel) (rest : List RgbaPixel) (k : ℕ) (todo : List Chunk) → ToWrite image cs past (p ∷ rest) k todo → p ≡ previous past → suc k < 62 → ToWrite image cs (p ∷ past) rest (suc k) todo
-to_write_repeat image cs past p rest k todo w e l = record {
-  whole = w.whole;
-  pixels = w.pixels;
-  split = next_split image past p rest w.split;
-  done = w.done;
-  coding = coding_repeat IsChoice past k w.done p w.coding e l;
-  parts = w.parts;
-}
+      -- the fresh pixel's chunk is written behind the runs
+      fresh_written : WrittenBy Choice (reverse (p ∷ group)) ((w.done ++ runs n) ++ c ∷ []) × TakesRun ((w.done ++ runs n) ++ c ∷ [])
+      fresh_written = written_fresh Choice group (w.done ++ runs n) p c group_written (λ e. fresh (e ∙ previous_repeats n past)) is (choices.no_run group p c choice) (choices.gives group p c choice) choice
 
--- at 62 the run is written
-pub to_write_full : (image : List RgbaPixel) (cs : List Chunk) (past : Past) (p : RgbaPixel) (rest : List RgbaPixel) (k : ℕ) (todo : List Chunk) → ToWrite image cs past (p ∷ rest) k todo → p ≡ previous past → suc k ≡ 62 → (more : List Chunk) × (todo ≡ Run 62 ∷ more) × ToWrite image cs (p ∷ past) rest 0 more
-to_write_full image cs past p rest k todo w e l = to_write_next image cs past p rest k 0 todo (Run 62 ∷ []) w (coding_full IsChoice past k w.done p w.coding e l)
+      -- the pixels after it
+      after_is : image ≡ reverse (p ∷ group) ++ more
+      after_is =
+          image_is
+          ∙ ap (λ x. reverse group ++ x) ahead
+          ∙ sym (ap (λ x. x ++ more) (reverse-append (p ∷ []) group) ∙ append_assoc (reverse group) (p ∷ []) more)
 
--- where nothing waits, a fresh pixel's chosen chunk is written
-pub to_write_fresh : (image : List RgbaPixel) (cs : List Chunk) (past : Past) (p : RgbaPixel) (rest : List RgbaPixel) (k : ℕ) (todo : List Chunk) (c : Chunk) → ToWrite image cs past (p ∷ rest) k todo → p ≢ previous past → k ≡ 0 → IsChunk c → IsChoice past p c → (more : List Chunk) × (todo ≡ c ∷ more) × ToWrite image cs (p ∷ past) rest 0 more
-to_write_fresh image cs past p rest k todo c w n z i choice =
-    to_write_next image cs past p rest k 0 todo (c ∷ []) w (coding_chosen past w.done p c (coded_none IsChoice past k w.done w.coding z) n i choice)
+      -- some chunks complete the list
+      completed : (left : List Chunk) × WrittenBy Choice (reverse (p ∷ group) ++ more) (((w.done ++ runs n) ++ c ∷ []) ++ left)
+      completed = written_on Choice choices more (p ∷ group) 0 ((w.done ++ runs n) ++ c ∷ []) fresh_written.0 fresh_written.1 next_are.0 next_are.1
 
--- else the run that waits is written first
-pub to_write_run_fresh : (image : List RgbaPixel) (cs : List Chunk) (past : Past) (p : RgbaPixel) (rest : List RgbaPixel) (k : ℕ) (todo : List Chunk) (c : Chunk) → ToWrite image cs past (p ∷ rest) k todo → p ≢ previous past → 0 < k → IsChunk c → IsChoice past p c → (more : List Chunk) × (todo ≡ Run k ∷ c ∷ more) × ToWrite image cs (p ∷ past) rest 0 more
-to_write_run_fresh image cs past p rest k todo c w n h i choice =
-    to_write_next image cs past p rest k 0 todo (Run k ∷ c ∷ []) w
-    (rw append_assoc at (coding_chosen past (w.done ++ Run k ∷ []) p c (coded_run IsChoice past k w.done w.coding h) n i choice))
+      -- so the runs and the chunk are to be written next
+      todo_is : todo ≡ runs n ++ c ∷ completed.0
+      todo_is =
+          let all = subst (λ x. WrittenBy Choice x (((w.done ++ runs n) ++ c ∷ []) ++ completed.0)) (sym after_is) completed.1 in
+          next_is (runs n ++ c ∷ completed.0) (subst (λ x. WrittenBy Choice image x) (chunks_split w.done (runs n) completed.0 c) all)
 
--- the end of the pixels
-at_end : (image : List RgbaPixel) (past : Past) → image ≡ reverse past ++ [] → image ≡ reverse past
-at_end image past e = e ∙ append-nil (reverse past)
+      -- before a fresh pixel the runs and its chunk are to be written next
+      pub runs_and_chunk : (left : List Chunk) × (todo ≡ runs n ++ c ∷ left) × StillToWrite Choice image cs (p ∷ (replicate n (previous past) ++ past)) more left
+      runs_and_chunk = (
+        completed.0,
+        todo_is,
+        record {
+          whole = w.whole;
+          split = after_is;
+          before = next_are.0;
+          are = next_are.1;
+          done = (w.done ++ runs n) ++ c ∷ [];
+          written = fresh_written.0;
+          takes_run = fresh_written.1;
+          parts = w.parts ∙ ap (λ x. w.done ++ x) todo_is ∙ sym (chunks_split w.done (runs n) completed.0 c);
+        },
+      )
 
--- at the end, where nothing waits, nothing is still to be written
-pub to_write_end : (image : List RgbaPixel) (cs : List Chunk) (past : Past) (k : ℕ) (todo : List Chunk) → ToWrite image cs past [] k todo → k ≡ 0 → todo ≡ []
-to_write_end image cs past k todo w z =
-    let v = coded_all IsChoice past w.done (coded_none IsChoice past k w.done w.coding z) in
-    let u : cs ≡ w.done = written_unique image cs w.done w.whole (rw (at_end image past w.split) v) in
-    append_cancel_left w.done todo [] (sym w.parts ∙ u ∙ sym (append-nil w.done))
-
--- else the run that waits is
-pub to_write_end_run : (image : List RgbaPixel) (cs : List Chunk) (past : Past) (k : ℕ) (todo : List Chunk) → ToWrite image cs past [] k todo → 0 < k → todo ≡ Run k ∷ []
-to_write_end_run image cs past k todo w h =
-    let v = coded_all IsChoice past _ (coded_run IsChoice past k w.done w.coding h) in
-    let u : cs ≡ w.done ++ Run k ∷ [] = written_unique image cs _ w.whole (rw (at_end image past w.split) v) in
-    append_cancel_left w.done todo (Run k ∷ []) (sym w.parts ∙ u)
-
--- as many repeats
-repeats_next : (p : RgbaPixel) (n : ℕ) (past : Past) → p ≡ previous past → previous (replicate n p ++ past) ≡ p
-repeats_next p zero past e = sym e
-repeats_next p (suc n) past e = refl
-
--- repeats wait
-pub to_write_repeats : (image : List RgbaPixel) (cs : List Chunk) (past : Past) (p : RgbaPixel) (n : ℕ) (rest : List RgbaPixel) (k : ℕ) (todo : List Chunk) → ToWrite image cs past (replicate n p ++ rest) k todo → p ≡ previous past → n + k < 62 → ToWrite image cs (replicate n p ++ past) rest (n + k) todo
-to_write_repeats image cs past p zero rest k todo w e l = subst (λ j. ToWrite image cs past rest j todo) (let z : k ≡ 0 + k = omega arith in z) w
-to_write_repeats image cs past p (suc n) rest k todo w e l =
-    let one = to_write_repeat image cs past p (replicate n p ++ rest) k todo w e (omega arith) in
-    let more = to_write_repeats image cs (p ∷ past) p n rest (suc k) todo one refl (omega arith) in
-    subst₂ (λ x j. ToWrite image cs x rest j todo) (shift n) (let z : n + suc k ≡ suc n + k = omega arith in z) more
-  where
-    shift : (n : ℕ) → replicate n p ++ p ∷ past ≡ p ∷ (replicate n p ++ past)
-    shift zero = refl
-    shift (suc n) = ap (λ (x : Past). p ∷ x) (shift n)
-
--- 62 repeats are written as a run, where nothing waits
-pub to_write_62 : (image : List RgbaPixel) (cs : List Chunk) (past : Past) (p : RgbaPixel) (rest : List RgbaPixel) (todo : List Chunk) → ToWrite image cs past (replicate 62 p ++ rest) 0 todo → p ≡ previous past → (more : List Chunk) × (todo ≡ Run 62 ∷ more) × ToWrite image cs (replicate 62 p ++ past) rest 0 more
-to_write_62 image cs past p rest todo w e =
-    let x : replicate 62 p ++ rest ≡ replicate 61 p ++ p ∷ rest = refl in
-    let v = to_write_repeats image cs past p 61 (p ∷ rest) 0 todo (rw x at w) e (omega arith) in
-    to_write_full image cs (replicate 61 p ++ past) p rest 61 todo v (sym (repeats_next p 61 past e)) refl
+    -- where the group is whole, its runs are to be written next
+    pub runs_next : slice_get rest 0 ≢ Some (previous past) → (left : List Chunk) × (todo ≡ runs n ++ left)
+    runs_next other = go rest refl
+      where
+        go : (ahead : List RgbaPixel) → rest ≡ ahead → (left : List Chunk) × (todo ≡ runs n ++ left)
+        go [] e = ([], only_runs e ∙ sym (append-nil (runs n)))
+        go (p ∷ more) e =
+            let fresh : p ≢ previous past = λ same. other (ap (λ x. slice_get x 0) e ∙ ap Some same) in
+            let are = subst (λ x. AllByRecursion IsPixel x) e (all_back IsPixel (replicate n (previous past)) rest w.are) in
+            let end : Past = replicate n (previous past) ++ past in
+            let same = previous_repeats n past in
+            let c = choices.some end p (subst IsPixel (sym same) w.before) are.0 (λ q. fresh (q ∙ same)) in
+            let next = runs_and_chunk p more c.0 e fresh c.1 c.2 in
+            (c.0 ∷ next.0, next.1)

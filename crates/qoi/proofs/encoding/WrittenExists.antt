@@ -1,16 +1,21 @@
--- Each image has a written list.
-use Rattle.std.proofs.Common.{◌≡◌, ◌≢◌, ◌⊎◌, inl, inr, ℕ, suc, ◌<◌, List, [], ◌∷◌, ◌++◌, reverse, refl, append_assoc, append-nil, arith}
+-- Each image has a written list, whatever the choice of a chunk for a fresh pixel, if there is one for each.
+use Rattle.std.proofs.Common.{◌≡◌, ◌≢◌, ◌⊎◌, inl, inr, ℕ, suc, ◌<◌, false, List, [], ◌∷◌, ◌++◌, reverse, replicate, refl, sym, ap, ◌∙◌, subst, subst₂, append_assoc, append-nil, arith}
 use Rattle.std.proofs.lemmas.List.{reverse-append}
 use Rattle.std.proofs.lemmas.Bool.{cases_lt, cases_eq}
 use Rattle.std.specs.List.{AllByRecursion}
 use Rattle.qoi.specs.declared.chunk.Chunk.{Chunk}
 use Rattle.qoi.specs.declared.chunk.Chunk.TheVariants.{Place, Diff, Luma, Run, Rgb, Rgba}
-use Rattle.qoi.specs.Qoi.{RgbaPixel, IsPixel, Past, previous, start, hash, IsChunk}
-use Rattle.qoi.specs.Written.{noted, IsFirst, IsChoice, Written}
+use Rattle.qoi.specs.Qoi.{RgbaPixel, IsPixel, Past, previous, start, hash, IsChunk, pixel_of}
+use Rattle.qoi.specs.Runs.{runs}
+use Rattle.qoi.specs.Written.{noted, rank, IsFirst, IsChoice, WrittenBy, Written}
 use Rattle.qoi.proofs.format.SamePixels.{cases_pixel}
+use Rattle.qoi.proofs.encoding.NotedPixels.{noted_seen}
 use Rattle.qoi.proofs.encoding.Spelled.{FitsDiff, FitsLuma, plus_2, plus_8, plus_32, diff_byte, luma_byte, luma_second, diff_chunk, luma_chunk, first_diff, first_luma, first_rgb, first_rgba}
-use Rattle.qoi.specs.inner.Coding.{Coding}
-use Rattle.qoi.proofs.encoding.Coding.{coding_none, coding_repeat, coding_full, coded_none, coded_run, coding_chosen, coded_all}
+use Rattle.qoi.proofs.format.ChunkSteps.{is_run}
+use Rattle.qoi.proofs.encoding.Coding.{TakesRun, chunks_split, previous_repeats, written_none, written_runs, written_fresh}
+use Rattle.qoi.proofs.encoding.Choices.{Chooses}
+use Rattle.qoi.proofs.encoding.WrittenOnce.{choice_unique}
+use Rattle.qoi.proofs.encoding.WrittenShape.{choice_rgba}
 
 -- the pixel before the first one is a pixel
 pub is_pixel_start : IsPixel start
@@ -73,29 +78,74 @@ choice_some past p iq ip =
       | inr n ↦ let f = first_some past p iq ip in (f.0, f.1, record { place = λ is. absurd (n is); spelled = λ _. f.2 })
     ]
 
--- one more pixel can be coded, by chunks at the end
-pub coding_step : (past : Past) (k : ℕ) (cs : List Chunk) (p : RgbaPixel) → Coding IsChoice past k cs → AllByRecursion IsPixel past → IsPixel p → (j : ℕ) × (more : List Chunk) × Coding IsChoice (p ∷ past) j (cs ++ more)
-coding_step past k cs p w h ip = go (cases_pixel p (previous past)) (cases_eq (suc k) 62) (cases_eq k 0) (choice_some past p (is_pixel_previous past h) ip)
-  where
-    go : (p ≡ previous past) ⊎ (p ≢ previous past) → (suc k ≡ 62) ⊎ (suc k ≢ 62) → (k ≡ 0) ⊎ (k ≢ 0) → ((c : Chunk) × IsChunk c × IsChoice past p c) → (j : ℕ) × (more : List Chunk) × Coding IsChoice (p ∷ past) j (cs ++ more)
-    go (inl e) (inl l) z c = (0, Run 62 ∷ [], coding_full IsChoice past k cs p w e l)
-    go (inl e) (inr l) z c = (suc k, [], rw append-nil (coding_repeat IsChoice past k cs p w e (let m = w.waits in omega arith)))
-    go (inr n) l (inl z) (c, i, choice) = (0, c ∷ [], coding_chosen past cs p c (coded_none IsChoice past k cs w z) n i choice)
-    go (inr n) l (inr z) (c, i, choice) =
-        (0, Run k ∷ c ∷ [], rw append_assoc at (coding_chosen past (cs ++ Run k ∷ []) p c (coded_run IsChoice past k cs w (omega arith)) n i choice))
+-- a chunk that spells a pixel out is no run
+spells_other : (c : Chunk) → 0 < rank c → is_run c ≡ false
+spells_other (Run n) h = absurd (omega arith)
+spells_other (Place i) h = absurd (omega arith)
+spells_other (Diff d) h = refl
+spells_other (Luma d e) h = refl
+spells_other (Rgb r g b) h = refl
+spells_other (Rgba r g b a) h = refl
 
--- What is written so far is the beginning of a written list, whatever pixels follow.
-pub coding_completed : (rest : List RgbaPixel) (past : Past) (k : ℕ) (cs : List Chunk) → Coding IsChoice past k cs → AllByRecursion IsPixel past → AllByRecursion IsPixel rest → (more : List Chunk) × Written (reverse past ++ rest) (cs ++ more)
-coding_completed [] past k cs w h r = elim (cases_eq k 0) as (λ _. (more : List Chunk) × Written (reverse past ++ []) (cs ++ more)) [
-  | inl z ↦ ([], rw (append-nil (reverse past), append-nil cs) (coded_all IsChoice past cs (coded_none IsChoice past k cs w z)))
-  | inr n ↦ (Run k ∷ [], rw (append-nil (reverse past)) (coded_all IsChoice past _ (coded_run IsChoice past k cs w (omega arith))))
+-- the chosen chunk of a fresh pixel gives it
+choice_gives : (past : Past) (p : RgbaPixel) (c : Chunk) → IsChoice past p c → pixel_of past c ≡ p
+choice_gives past p c w = elim (cases_pixel (noted past (hash p)) p) as (λ _. pixel_of past c ≡ p) [
+  | inl is ↦ rw (w.place is) (noted_seen past p is)
+  | inr other ↦ (w.spelled other).gives
 ]
-coding_completed (p ∷ rest) past k cs w h r =
-    let s = coding_step past k cs p w h r.0 in
-    let t = coding_completed rest (p ∷ past) s.0 (cs ++ s.1) s.2 (r.0, h) r.1 in
-    let v : Written (reverse past ++ p ∷ rest) (cs ++ s.1 ++ t.0) = rw (reverse-append (p ∷ []) past, append_assoc (reverse past) (p ∷ []) rest) at t.1 in
-    (s.1 ++ t.0, rw append_assoc at v)
+
+-- and is no run
+choice_other : (past : Past) (p : RgbaPixel) (c : Chunk) → IsChoice past p c → is_run c ≡ false
+choice_other past p c w = elim (cases_pixel (noted past (hash p)) p) as (λ _. is_run c ≡ false) [
+  | inl is ↦ rw (w.place is) refl
+  | inr other ↦ spells_other c (w.spelled other).spells
+]
+
+-- the choice of a chunk has what it has to offer
+pub chooses : Chooses IsChoice
+chooses = record {
+  some = λ past p before is _. choice_some past p before is;
+  only = choice_unique;
+  no_run = choice_other;
+  gives = choice_gives;
+  rgba_first = choice_rgba;
+}
+
+module _ (Choice : Past → RgbaPixel → Chunk → Type 0) (choices : Chooses Choice) where
+  -- a repeat joins its group
+  joined : (p q : RgbaPixel) (n : ℕ) (past : Past) (rest : List RgbaPixel) → p ≡ q → reverse (replicate (suc n) q ++ past) ++ rest ≡ reverse (replicate n q ++ past) ++ p ∷ rest
+  joined p q n past rest e =
+      ap (λ x. x ++ rest) (reverse-append (q ∷ []) (replicate n q ++ past))
+      ∙ append_assoc (reverse (replicate n q ++ past)) (q ∷ []) rest
+      ∙ ap (λ x. reverse (replicate n q ++ past) ++ x ∷ rest) (sym e)
+
+  -- and a fresh pixel's chunk follows the runs of the group before it
+  fresh_joined : (p : RgbaPixel) (group : Past) (rest : List RgbaPixel) (cs rs more : List Chunk) (c : Chunk) → WrittenBy Choice (reverse (p ∷ group) ++ rest) (((cs ++ rs) ++ c ∷ []) ++ more) → WrittenBy Choice (reverse group ++ p ∷ rest) (cs ++ (rs ++ c ∷ more))
+  fresh_joined p group rest cs rs more c w = subst₂ (λ x y. WrittenBy Choice x y) (joined p p 0 group rest refl) (chunks_split cs rs more c) w
+
+  -- a list that is written for the pixels before a group begins one for the image, whatever pixels follow
+  pub written_on : (rest : List RgbaPixel) (past : Past) (n : ℕ) (cs : List Chunk) → WrittenBy Choice (reverse past) cs → TakesRun cs → IsPixel (previous past) → AllByRecursion IsPixel rest
+      → (more : List Chunk) × WrittenBy Choice (reverse (replicate n (previous past) ++ past) ++ rest) (cs ++ more)
+  written_on [] past n cs w takes before are = (runs n, rw (append-nil (reverse (replicate n (previous past) ++ past))) (written_runs Choice past n cs w takes))
+  written_on (p ∷ rest) past n cs w takes before are =
+      elim (cases_pixel p (previous past)) as (λ _. (more : List Chunk) × WrittenBy Choice (reverse (replicate n (previous past) ++ past) ++ p ∷ rest) (cs ++ more)) [
+        | inl again ↦
+            let all = written_on rest past (suc n) cs w takes before are.1 in
+            (all.0, subst (λ x. WrittenBy Choice x (cs ++ all.0)) (joined p (previous past) n past rest again) all.1)
+        | inr fresh ↦
+            let group : Past = replicate n (previous past) ++ past in
+            let same : previous group ≡ previous past = previous_repeats n past in
+            let differs : p ≢ previous group = λ e. fresh (e ∙ same) in
+            let c = choices.some group p (subst IsPixel (sym same) before) are.0 differs in
+            let next = written_fresh Choice group (cs ++ runs n) p c.0 (written_runs Choice past n cs w takes) differs c.1 (choices.no_run group p c.0 c.2) (choices.gives group p c.0 c.2) c.2 in
+            let all = written_on rest (p ∷ group) 0 ((cs ++ runs n) ++ c.0 ∷ []) next.0 next.1 are.0 are.1 in
+            (runs n ++ c.0 ∷ all.0, fresh_joined p group rest cs (runs n) all.0 c.0 all.1)
+      ]
+
+  -- an image has a written list
+  pub some_by : (image : List RgbaPixel) → AllByRecursion IsPixel image → (cs : List Chunk) × WrittenBy Choice image cs
+  some_by image are = written_on image [] 0 [] (written_none Choice) (λ n. (tt, tt)) is_pixel_start are
 
 -- an image has a written list
 pub written_some : (image : List RgbaPixel) → AllByRecursion IsPixel image → (cs : List Chunk) × Written image cs
-written_some image h = coding_completed image [] 0 [] (coding_none IsChoice) tt h
+written_some image are = some_by IsChoice chooses image are

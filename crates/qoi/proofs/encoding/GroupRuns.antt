@@ -1,0 +1,173 @@
+-- The pixels that repeat at the front of bytes, and the runs of a group.
+use Rattle.std.proofs.Common.{◌≡◌, ◌≢◌, ◌⊎◌, inl, inr, ℕ, zero, suc, ◌+◌, ◌-◌, ◌*◌, ◌/◌, ◌%◌, ◌<◌, ◌≤◌, List, [], ◌∷◌, ◌++◌, length, take, drop, min, replicate, Some, refl, sym, ap, ◌∙◌, subst, arith, length-append, take-append-drop}
+use Rattle.std.proofs.Math.Seq.{drop-append_seam}
+use Rattle.std.proofs.lemmas.List.{length-replicate, length-drop, length-take-le}
+use Rattle.std.proofs.lemmas.Bool.{cases_lt}
+use Rattle.std.specs.List.{slice_get}
+use Rattle.qoi.specs.declared.chunk.Chunk.TheVariants.{Run}
+use Rattle.qoi.specs.Qoi.{RgbaPixel, rgba}
+use Rattle.qoi.specs.Raw.{IsChannels, pixels_of}
+use Rattle.qoi.specs.Runs.{IsCount, last_run, runs}
+use Rattle.qoi.proofs.decoding.FilledBuffer.{whole_pixels}
+use Rattle.qoi.proofs.format.RawPixels.{length-pixels_of, pixels_of-append, pixels_of-next}
+
+-- a group of none has no run
+pub runs-none : runs 0 ≡ []
+unfolding runs
+runs-none = refl
+
+-- the first run of a group has as many repeats as there are, and 62 at most
+pub runs-more : (n k : ℕ) → 0 < n → k ≡ min n 62 → runs n ≡ Run k ∷ runs (n - k)
+unfolding runs
+runs-more n k some e = go (cases_lt n 62)
+  where
+    last : (n : ℕ) → 0 < n → last_run n ≡ Run n ∷ []
+    last zero h = absurd (omega arith)
+    last (suc n) h = refl
+
+    go : (n < 62) ⊎ (62 ≤ n) → replicate (n / 62) (Run 62) ++ last_run (n % 62) ≡ Run k ∷ (replicate ((n - k) / 62) (Run 62) ++ last_run ((n - k) % 62))
+    go (inl few) =
+        let is : k ≡ n = omega arith in
+        let zero_runs : n / 62 ≡ 0 = omega arith in
+        let all : n % 62 ≡ n = omega arith in
+        let none : n - k ≡ 0 = omega arith in
+        rw (zero_runs, all, none, is) (last n some)
+    go (inr many) =
+        let is : k ≡ 62 = omega arith in
+        let one : n / 62 ≡ suc ((n - 62) / 62) = omega arith in
+        let rest : n % 62 ≡ (n - 62) % 62 = omega arith in
+        rw (is, one, rest) refl
+
+-- the bytes of the next pixel and those after them
+pub split_is : (n : ℕ) (rest front after : List ℕ) → front ≡ take n rest → after ≡ drop n rest → rest ≡ front ++ after
+split_is n rest front after f a = sym (take-append-drop n rest) ∙ cc
+
+-- bytes of less than a pixel have no pixel
+pub none_of_few : (n : ℕ) (rest : List ℕ) → IsChannels n → length rest < n → pixels_of n rest ≡ []
+none_of_few n [] (inl e) h = rw e refl
+none_of_few n (a ∷ []) (inl e) h = rw e refl
+none_of_few n (a ∷ b ∷ []) (inl e) h = rw e refl
+none_of_few n (a ∷ b ∷ c ∷ rest) (inl e) h = absurd (omega arith)
+none_of_few n [] (inr e) h = rw e refl
+none_of_few n (a ∷ []) (inr e) h = rw e refl
+none_of_few n (a ∷ b ∷ []) (inr e) h = rw e refl
+none_of_few n (a ∷ b ∷ c ∷ []) (inr e) h = rw e refl
+none_of_few n (a ∷ b ∷ c ∷ d ∷ rest) (inr e) h = absurd (omega arith)
+
+-- so many pixels that are p, and then others
+count_of : (p : RgbaPixel) (pixels rest : List RgbaPixel) (n : ℕ) → pixels ≡ replicate n p ++ rest → slice_get rest 0 ≢ Some p → IsCount p pixels n
+count_of p pixels rest n e other = record {
+  same = e ∙ ap (λ x. replicate n p ++ x) (sym behind);
+  other = λ same. other (sym (first n) ∙ ap (λ x. slice_get x n) (sym e) ∙ same);
+}
+  where
+    behind : drop n pixels ≡ rest
+    behind = ap (drop n) e ∙ ap (λ k. drop k (replicate n p ++ rest)) (sym (length-replicate n p)) ∙ drop-append_seam (replicate n p) rest
+
+    first : (n : ℕ) → slice_get (replicate n p ++ rest) n ≡ slice_get rest 0
+    first zero = refl
+    first (suc n) = first n
+
+-- The first so many pixels of the bytes are p, and `rest` are the bytes behind them.
+pub record RepeatsSoFar (n : ℕ) (bytes rest : List ℕ) (p : RgbaPixel) (count : ℕ) : Type 0 where
+  pub size : n * count + length rest ≡ length bytes
+  pub same : pixels_of n bytes ≡ replicate count p ++ pixels_of n rest
+
+-- none so far
+pub repeats_none : (n : ℕ) (bytes : List ℕ) (p : RgbaPixel) → IsChannels n → RepeatsSoFar n bytes bytes p 0
+repeats_none n bytes p (inl e) = record { size = rw e (omega arith); same = refl }
+repeats_none n bytes p (inr e) = record { size = rw e (omega arith); same = refl }
+
+module _ (n : ℕ) (bytes rest : List ℕ) (p : RgbaPixel) (count : ℕ) (is : IsChannels n) (w : RepeatsSoFar n bytes rest p count) where
+  -- there are fewer than bytes
+  pub repeats_below : n ≤ length rest → count < length bytes
+  repeats_below = below is
+    where
+      below : IsChannels n → n ≤ length rest → count < length bytes
+      below (inl e) h = let s : 3 * count + length rest ≡ length bytes = subst (λ k. k * count + length rest ≡ length bytes) e w.size in omega arith
+      below (inr e) h = let s : 4 * count + length rest ≡ length bytes = subst (λ k. k * count + length rest ≡ length bytes) e w.size in omega arith
+
+  module _ (front after : List ℕ) (split : rest ≡ front ++ after) (size : length front ≡ n) where
+    -- the next pixel and those behind it
+    next_pixels : pixels_of n rest ≡ rgba front ∷ pixels_of n after
+    next_pixels = ap (pixels_of n) split ∙ pixels_of-next n front after is size
+
+    -- one more
+    pub repeats_more : rgba front ≡ p → RepeatsSoFar n bytes after p (count + 1)
+    repeats_more same = record {
+      size = sized is;
+      same = w.same ∙ ap (λ x. replicate count p ++ x) (next_pixels ∙ ap (λ x. x ∷ pixels_of n after) same) ∙ one_more count;
+    }
+      where
+        sized : IsChannels n → n * (count + 1) + length after ≡ length bytes
+        sized (inl e) = let s = subst (λ k. k * count + length rest ≡ length bytes) e w.size in rw e (omega (arith, s, ap length split, length-append front after, size, e))
+        sized (inr e) = let s = subst (λ k. k * count + length rest ≡ length bytes) e w.size in rw e (omega (arith, s, ap length split, length-append front after, size, e))
+
+        one_more : (k : ℕ) → replicate k p ++ p ∷ pixels_of n after ≡ replicate (k + 1) p ++ pixels_of n after
+        one_more zero = refl
+        one_more (suc k) = let j : suc k + 1 ≡ suc (k + 1) = omega arith in rw j (ap (λ (x : List RgbaPixel). p ∷ x) (one_more k))
+
+    -- the next pixel is another
+    pub repeats_other : rgba front ≢ p → IsCount p (pixels_of n bytes) count
+    repeats_other differs = count_of p (pixels_of n bytes) (pixels_of n rest) count w.same (λ e. differs (first_is (rgba front) p (sym (ap (λ x. slice_get x 0) next_pixels) ∙ e)))
+      where
+        first_is : (a b : RgbaPixel) → Some a ≡ Some b → a ≡ b
+        first_is a b e = cc
+
+  -- no whole pixel is left
+  pub repeats_end : length rest < n → IsCount p (pixels_of n bytes) count
+  repeats_end few = count_of p (pixels_of n bytes) (pixels_of n rest) count w.same (λ e. absurd (none (sym (ap (λ x. slice_get x 0) (none_of_few n rest is few)) ∙ e)))
+    where
+      none : slice_get {X = RgbaPixel} [] 0 ≡ Some p → ⊥
+      none e = cc
+
+-- The pixels of the bytes are so many of q, and then those of the bytes behind them, of which the first is another.
+pub record Group (n : ℕ) (bytes : List ℕ) (q : RgbaPixel) (count : ℕ) : Type 0 where
+  pub within : n * count ≤ length bytes
+  pub pixels : pixels_of n bytes ≡ replicate count q ++ pixels_of n (drop (n * count) bytes)
+  pub other : slice_get (pixels_of n (drop (n * count) bytes)) 0 ≢ Some q
+  pub whole : length (drop (n * count) bytes) % n ≡ 0
+
+-- counted repeats are a group
+pub group_of : (n : ℕ) (bytes : List ℕ) (q : RgbaPixel) (count : ℕ) → IsChannels n → length bytes % n ≡ 0 → IsCount q (pixels_of n bytes) count → Group n bytes q count
+group_of n bytes q count is whole w = record {
+  within = inside;
+  pixels = w.same ∙ ap (λ x. replicate count q ++ x) behind;
+  other = λ e. w.other (first count (pixels_of n bytes) ∙ ap (λ x. slice_get x 0) behind ∙ e);
+  whole = rw length-drop (still is);
+}
+  where
+    size : length bytes ≡ n * (length bytes / n)
+    size = whole_pixels n (length bytes) is whole
+
+    enough : count ≤ length bytes / n
+    enough = omega (arith, length-pixels_of n (length bytes / n) bytes is size, ap length w.same, length-append (replicate count q) (drop count (pixels_of n bytes)), length-replicate count q)
+
+    inside : n * count ≤ length bytes
+    inside = by_channels is
+      where
+        by_channels : IsChannels n → n * count ≤ length bytes
+        by_channels (inl e) = let m = enough in subst (λ k. count ≤ length bytes / k → k * count ≤ length bytes) (sym e) (λ h. omega arith) m
+        by_channels (inr e) = let m = enough in subst (λ k. count ≤ length bytes / k → k * count ≤ length bytes) (sym e) (λ h. omega arith) m
+
+    front : List ℕ
+    front = take (n * count) bytes
+
+    length_front : length (take (n * count) bytes) ≡ n * count
+    length_front = length-take-le (n * count) bytes inside
+
+    behind : drop count (pixels_of n bytes) ≡ pixels_of n (drop (n * count) bytes)
+    behind =
+        ap (λ x. drop count (pixels_of n x)) (sym (take-append-drop (n * count) bytes))
+        ∙ ap (drop count) (pixels_of-append n count (take (n * count) bytes) (drop (n * count) bytes) is length_front)
+        ∙ ap (λ k. drop k (pixels_of n (take (n * count) bytes) ++ pixels_of n (drop (n * count) bytes))) (sym (length-pixels_of n count (take (n * count) bytes) is length_front))
+        ∙ drop-append_seam (pixels_of n (take (n * count) bytes)) (pixels_of n (drop (n * count) bytes))
+
+    first : (k : ℕ) (xs : List RgbaPixel) → slice_get xs k ≡ slice_get (drop k xs) 0
+    first zero xs = refl
+    first (suc k) [] = refl
+    first (suc k) (x ∷ xs) = first k xs
+
+    still : IsChannels n → (length bytes - n * count) % n ≡ 0
+    still (inl e) = let m = whole in let h = inside in subst (λ k. length bytes % k ≡ 0 → k * count ≤ length bytes → (length bytes - k * count) % k ≡ 0) (sym e) (λ a b. omega arith) m h
+    still (inr e) = let m = whole in let h = inside in subst (λ k. length bytes % k ≡ 0 → k * count ≤ length bytes → (length bytes - k * count) % k ≡ 0) (sym e) (λ a b. omega arith) m h

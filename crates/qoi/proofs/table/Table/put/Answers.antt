@@ -1,0 +1,17 @@
+-- A pixel is put at its own index position.
+use Rattle.std.proofs.Common.{sym, subst, arith}
+use Rattle.qoi.specs.Qoi.{rgba}
+use Rattle.qoi.specs.inner.Table.{Holds}
+use Rattle.qoi.proofs.format.TableHolds.{holds_put}
+use Rattle.qoi.proofs.encoding.WrittenExists.{hash_lt}
+use Rattle.qoi.proofs.table.Table.put.Goals as goal
+
+pub listed : goal.listed
+listed c = omega (arith, c.requires, c.self.invariant, hash_lt (rgba c.args.px))
+
+pub bounds-self-inside-place : goal.bounds-self-inside-place
+bounds-self-inside-place c = omega (arith, c.requires, hash_lt (rgba c.args.px))
+
+pub returns : goal.returns
+returns c past holds =
+    holds_put c.self.inside.pixels c.args.px past c.args.place c.self.invariant c.requires (subst (λ t. Holds t past) (sym c.self.view_is) holds)

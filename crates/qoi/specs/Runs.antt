@@ -1,0 +1,19 @@
+-- Repeats at the front of pixels, and the runs that are written for them.
+use Rattle.std.specs.Prelude.{◌≡◌, ◌≢◌, ℕ, ◌/◌, ◌%◌, List, [], ◌∷◌, ◌++◌, drop, replicate, slice_get, Some, zero, suc}
+use Rattle.qoi.specs.declared.chunk.Chunk.{Chunk}
+use Rattle.qoi.specs.declared.chunk.Chunk.TheVariants.{Run}
+use Rattle.qoi.specs.Qoi.{RgbaPixel}
+
+-- the first so many of the pixels are p, and the next one, if there is one, isn't
+pub record IsCount (p : RgbaPixel) (pixels : List RgbaPixel) (count : ℕ) : Type 0 where
+  pub same : pixels ≡ replicate count p ++ drop count pixels
+  pub other : slice_get pixels count ≢ Some p
+
+-- a run of so many repeats, or no chunk where there is none
+abbrev pub last_run : ℕ → List Chunk
+last_run zero = []
+last_run (suc n) = Run (suc n) ∷ []
+
+-- the chunks of a group of so many repeats: runs of 62, and a run of the rest
+unfoldable pub runs : ℕ → List Chunk
+runs n = replicate (n / 62) (Run 62) ++ last_run (n % 62)

@@ -1,0 +1,127 @@
+//! The coder: the chunks of an image's pixels, a group of repeats and the fresh pixel behind it at a
+//! time (QOI specification 1.0, "Data" and "Chunks").
+ghost use Rattle.std.specs.Prelude.{◌≡◌, ◌≢◌, ℕ, ◌+◌, ◌/◌, ◌%◌, ◌≤◌, List, [], ◌∷◌, length, OnOk, IfErr};
+ghost use Rattle.qoi.specs.declared.chunk.Chunk.{Chunk};
+ghost use Rattle.qoi.specs.Qoi.{Past, IsPixel, rgba, previous, IsChunk, text, channels_number};
+ghost use Rattle.qoi.specs.Raw.{IsChannels, pixels_of};
+ghost use Rattle.qoi.specs.Runs.{runs};
+ghost use Rattle.qoi.specs.Written.{IsChoice, Written};
+ghost use Rattle.qoi.specs.writers.Writes.{WroteSome};
+ghost use Rattle.qoi.specs.inner.CoderState.{StateAfter};
+
+use crate::chunk::Chunk;
+use crate::error::Result;
+use crate::pixel::Pixel;
+use crate::runs::repeats;
+use crate::table::Table;
+use crate::types::Channels;
+use crate::utils::{Writer, write_chunk};
+
+// The longest run of one chunk.
+const RUN_MAX: usize = 62;
+
+// The fresh pixels at the 64 index positions, and the last pixel.
+#[derive(Drop)]
+struct Coder<const N: usize> {
+    table: Table,
+    last: Pixel<N>,
+}
+
+impl<const N: usize> Coder<N> {
+    // Before the first pixel: transparent black at each index position, and opaque black.
+    fn new() -> Coder<N>
+        requires { IsChannels N }
+        ensures { StateAfter [] result.table result.last }
+    {
+        Coder {
+            table: Table::new(),
+            last: Pixel::new().with_a(0xff),
+        }
+    }
+
+    // The chunk of a fresh pixel: its index position if it stands there, else the first chunk that
+    // spells it out. It then stands there, and is the last pixel.
+    #[inline(always)]
+    fn choose(&mut self, px: Pixel<N>) -> Chunk
+        requires { IsChannels N }
+        ensures chunk { IsChunk result }
+        ensures choice { (past : Past) → IsPixel (previous past) → rgba px.entry ≢ previous past
+            → StateAfter past self.old.table self.old.last → IsChoice past (rgba px.entry) result }
+        ensures state { (past : Past) → rgba px.entry ≢ previous past
+            → StateAfter past self.old.table self.old.last
+            → StateAfter (rgba px.entry ∷ past) self.new.table self.new.last }
+    {
+        let last = self.last;
+        self.last = px;
+        let place = px.hash_index();
+        let four = px.in_four_channels();
+        if self.table.at(place).is_same(four) {
+            return Chunk::Place(place);
+        }
+        self.table.put(place, four);
+        px.spelled_after(last)
+    }
+}
+
+// Writes the runs of a group of so many repeats.
+#[inline(always)]
+fn write_runs<W: Writer>(buf: &mut W, count: usize) -> Result<()>
+    requires { length (text (runs count)) ≤ W.room buf.old }
+    ensures written { OnOk result (W.wrote buf.old (text (runs count)) buf.new) }
+    ensures refused { IfErr result (λ e. W.Refuses e
+        × WroteSome W.wrote buf.old (text (runs count)) buf.new) }
+{
+    let mut left = count;
+    while left > 0 {
+        let run = left.min(RUN_MAX);
+        write_chunk(buf, Chunk::Run(run as u8))?;
+        left -= run;
+    }
+    Ok(())
+}
+
+// Writes the chunks of an image's raw bytes, `N` bytes a pixel.
+fn encode_pixels<W: Writer, const N: usize>(buf: &mut W, data: &[u8]) -> Result<()>
+    requires channels { IsChannels N }
+    requires whole { length «data».now % N ≡ 0 }
+    requires room { length «data».now + length «data».now / N ≤ W.room buf.old }
+    ensures written { OnOk result ((cs : List Chunk) × Written (pixels_of N «data».now) cs
+        × W.wrote buf.old (text cs) buf.new) }
+    ensures refused { IfErr result (λ e. W.Refuses e × (cs : List Chunk)
+        × Written (pixels_of N «data».now) cs × WroteSome W.wrote buf.old (text cs) buf.new) }
+{
+    let mut coder = Coder::<N>::new();
+    let mut px = Pixel::<N>::new();
+    let mut rest = data;
+    loop {
+        let count = repeats(rest, coder.last);
+        write_runs(buf, count)?;
+        let (_, behind) = rest.split_at(N * count);
+        if behind.is_empty() {
+            return Ok(());
+        }
+        let (front, after) = behind.split_at(N);
+        px.read(front);
+        let chunk = coder.choose(px);
+        write_chunk(buf, chunk)?;
+        rest = after;
+    }
+}
+
+// Writes the chunks of an image's raw bytes, of this many channels.
+pub(super) fn encode_chunks<W: Writer>(buf: &mut W, channels: Channels, data: &[u8]) -> Result<()>
+    requires whole { length «data».now % channels_number channels ≡ 0 }
+    requires room { length «data».now + length «data».now / channels_number channels ≤ W.room buf.old }
+    ensures written { OnOk result ((cs : List Chunk)
+        × Written (pixels_of (channels_number channels) «data».now) cs
+        × W.wrote buf.old (text cs) buf.new) }
+    ensures refused { IfErr result (λ e. W.Refuses e × (cs : List Chunk)
+        × Written (pixels_of (channels_number channels) «data».now) cs
+        × WroteSome W.wrote buf.old (text cs) buf.new) }
+{
+    match channels {
+        Channels::Rgb => encode_pixels::<W, 3>(buf, data)?,
+        Channels::Rgba => encode_pixels::<W, 4>(buf, data)?,
+    }
+    Ok(())
+}
