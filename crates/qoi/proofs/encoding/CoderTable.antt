@@ -8,7 +8,7 @@ use Rattle.qoi.specs.Raw.{IsChannels}
 use Rattle.qoi.specs.inner.Table.{Holds}
 use Rattle.qoi.specs.Written.{fresh, noted, IsFirst, IsChoice}
 use Rattle.qoi.specs.inner.CoderState.{StateAfter}
-use Rattle.qoi.proofs.encoding.Coding.{previous_repeats}
+use Rattle.qoi.proofs.format.ChunkSteps.{previous_repeats}
 use Rattle.qoi.proofs.encoding.NotedPixels.{fresh_repeat, fresh_more}
 
 -- a pixel's bytes are its colors and, where there are four, its alpha

@@ -7,7 +7,7 @@ use Rattle.qoi.specs.declared.chunk.Chunk.TheVariants.{Place, Diff, Luma, Run, R
 use Rattle.qoi.specs.Qoi.{RgbaPixel, Past, previous, IsChunk, AreChunks, pixel_of, then_chunks, Each}
 use Rattle.qoi.specs.Runs.{last_run, runs}
 use Rattle.qoi.specs.Written.{IsRightAfter, IsFull, RunsAreFull, WrittenBy}
-use Rattle.qoi.proofs.format.ChunkSteps.{is_run, right_from, full_other, full_before, then_other, then_chunks-append, each_append}
+use Rattle.qoi.proofs.format.ChunkSteps.{previous_repeats, is_run, right_from, full_other, full_before, then_other, then_chunks-append, each_append}
 
 -- what holds of each of two lists holds of each of both
 pub all_append : {A : Type 0} (P : A → Type 0) (xs ys : List A) → AllByRecursion P xs → AllByRecursion P ys → AllByRecursion P (xs ++ ys)
@@ -78,11 +78,6 @@ chunks_split a b d c = append_assoc (a ++ b) (c ∷ []) d ∙ append_assoc a b (
 -- a run of any length may follow the list
 abbrev pub TakesRun : List Chunk → Type 0
 TakesRun cs = (n : ℕ) → RunsAreFull (cs ++ Run n ∷ [])
-
--- the pixel before is the same after repeats
-pub previous_repeats : (n : ℕ) (past : Past) → previous (replicate n (previous past) ++ past) ≡ previous past
-previous_repeats zero past = refl
-previous_repeats (suc n) past = refl
 
 -- so many of one and then more of it are as many together
 repeats_after : (m n : ℕ) (q : RgbaPixel) (past : Past) → replicate m q ++ (replicate n q ++ past) ≡ replicate (m + n) q ++ past

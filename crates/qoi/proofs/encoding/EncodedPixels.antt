@@ -13,7 +13,7 @@ use Rattle.qoi.specs.inner.CoderState.{StateAfter}
 use Rattle.qoi.specs.Written.{IsChoice, WrittenBy}
 use Rattle.qoi.specs.writers.Writes.{WriterLaws, WroteBut, WroteSome}
 use Rattle.qoi.proofs.encoding.Choices.{Chooses}
-use Rattle.qoi.proofs.encoding.Coding.{previous_repeats}
+use Rattle.qoi.proofs.format.ChunkSteps.{previous_repeats}
 use Rattle.qoi.proofs.encoding.CodingRest.{StillToWrite, all_to_write, only_runs, runs_and_chunk, runs_next}
 use Rattle.qoi.proofs.encoding.CodingWrites.{wrote_none, wrote_next, wrote_part, wrote_all, left_fits}
 use Rattle.qoi.proofs.decoding.FilledBuffer.{whole_pixels, pixel_room}

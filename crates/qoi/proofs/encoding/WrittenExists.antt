@@ -8,11 +8,11 @@ use Rattle.qoi.specs.declared.chunk.Chunk.TheVariants.{Place, Diff, Luma, Run, R
 use Rattle.qoi.specs.Qoi.{RgbaPixel, IsPixel, Past, previous, start, hash, IsChunk, pixel_of}
 use Rattle.qoi.specs.Runs.{runs}
 use Rattle.qoi.specs.Written.{noted, rank, IsFirst, IsChoice, WrittenBy, Written}
-use Rattle.qoi.proofs.format.SamePixels.{cases_pixel}
+use Rattle.qoi.proofs.format.SamePixels.{cases_pixel, hash_below}
 use Rattle.qoi.proofs.encoding.NotedPixels.{noted_seen}
 use Rattle.qoi.proofs.encoding.Spelled.{FitsDiff, FitsLuma, plus_2, plus_8, plus_32, diff_byte, luma_byte, luma_second, diff_chunk, luma_chunk, first_diff, first_luma, first_rgb, first_rgba}
-use Rattle.qoi.proofs.format.ChunkSteps.{is_run}
-use Rattle.qoi.proofs.encoding.Coding.{TakesRun, chunks_split, previous_repeats, written_none, written_runs, written_fresh}
+use Rattle.qoi.proofs.format.ChunkSteps.{previous_repeats, is_run}
+use Rattle.qoi.proofs.encoding.Coding.{TakesRun, chunks_split, written_none, written_runs, written_fresh}
 use Rattle.qoi.proofs.encoding.Choices.{Chooses}
 use Rattle.qoi.proofs.encoding.WrittenOnce.{choice_unique}
 use Rattle.qoi.proofs.encoding.WrittenShape.{choice_rgba}
@@ -26,11 +26,6 @@ is_pixel_start = record { r = omega arith; g = omega arith; b = omega arith; a =
 pub is_pixel_previous : (past : Past) → AllByRecursion IsPixel past → IsPixel (previous past)
 is_pixel_previous [] h = is_pixel_start
 is_pixel_previous (p ∷ past) h = h.0
-
--- a pixel's index position is one
-pub hash_lt : (p : RgbaPixel) → hash p < 64
-unfolding hash
-hash_lt p = omega arith
 
 -- the differences fit a Diff or not
 pub cases_diff : (q p : RgbaPixel) → FitsDiff q p ⊎ (FitsDiff q p → ⊥)
@@ -74,7 +69,7 @@ first_some past p iq ip = go (cases_eq p.a (previous past).a) (cases_diff (previ
 pub choice_some : (past : Past) (p : RgbaPixel) → IsPixel (previous past) → IsPixel p → (c : Chunk) × IsChunk c × IsChoice past p c
 choice_some past p iq ip =
     elim (cases_pixel (noted past (hash p)) p) as (λ _. (c : Chunk) × IsChunk c × IsChoice past p c) [
-      | inl is ↦ (Place (hash p), hash_lt p, record { place = λ _. refl; spelled = λ n. absurd (n is) })
+      | inl is ↦ (Place (hash p), hash_below p, record { place = λ _. refl; spelled = λ n. absurd (n is) })
       | inr n ↦ let f = first_some past p iq ip in (f.0, f.1, record { place = λ is. absurd (n is); spelled = λ _. f.2 })
     ]
 

@@ -81,9 +81,9 @@ times_some (Rgb x g b) h = omega arith
 times_some (Rgba x g b a) h = omega arith
 
 -- the pixel before is the same after repeats
-pub previous_repeated : (past : Past) (n : ℕ) → previous (replicate n (previous past) ++ past) ≡ previous past
-previous_repeated past zero = refl
-previous_repeated past (suc n) = refl
+pub previous_repeats : (n : ℕ) (past : Past) → previous (replicate n (previous past) ++ past) ≡ previous past
+previous_repeats zero past = refl
+previous_repeats (suc n) past = refl
 
 -- what stands after a chunk other than a run
 pub then_other : (past : Past) (c : Chunk) → is_run c ≡ false → then_chunk past c ≡ pixel_of past c ∷ past

@@ -7,7 +7,7 @@ use Rattle.std.specs.List.{slice_get}
 use Rattle.std.specs.Option.{option_map}
 use Rattle.qoi.specs.Qoi.{RgbaPixel, Past, rgba, hash, blank, seen}
 use Rattle.qoi.specs.inner.Table.{Holds}
-use Rattle.qoi.proofs.encoding.WrittenExists.{hash_lt}
+use Rattle.qoi.proofs.format.SamePixels.{hash_below}
 
 -- the pixel of an entry
 entry_at : (entries : List (List ℕ)) (i : ℕ) → length entries ≡ 64 → i < 64 → slice_get (map rgba entries) i ≡ Some (rgba (get_or entries i []))
@@ -34,7 +34,7 @@ held_after entries px i size = at (eqb (hash (rgba px)) i) refl
     at : (b : Bool) → eqb (hash (rgba px)) i ≡ b → rgba (get_or (slice_set entries (hash (rgba px)) px) i []) ≡ cond b (rgba px) (rgba (get_or entries i []))
     at true e =
         let same : hash (rgba px) ≡ i = eqb-true (hash (rgba px)) i e in
-        let inside : hash (rgba px) < length entries = omega (arith, hash_lt (rgba px)) in
+        let inside : hash (rgba px) < length entries = omega (arith, hash_below (rgba px)) in
         rw (← same) (rw get_or-set_same refl)
     at false e =
         let apart : i ≢ hash (rgba px) = λ q. eqb-false (hash (rgba px)) i e (sym q) in

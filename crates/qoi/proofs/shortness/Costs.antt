@@ -5,7 +5,7 @@ use Rattle.qoi.specs.declared.chunk.Chunk.TheVariants.{Diff, Luma}
 use Rattle.qoi.specs.Qoi.{RgbaPixel, Past, pixel_eq, previous, seen, hash, IsChunk, after_diff, after_luma}
 use Rattle.qoi.specs.Shortest.{some_below, some_diff, some_luma, some_rgb, least, trailing_repeats, cost, total_cost}
 use Rattle.qoi.proofs.format.SamePixels.{pixel_eq-from, pixel_eq-true, pixel_eq-ne}
-use Rattle.qoi.proofs.format.ChunkSteps.{previous_repeated}
+use Rattle.qoi.proofs.format.ChunkSteps.{previous_repeats}
 
 -- a number that passes shows that some does
 some_below-from : (n : ℕ) (test : ℕ → Bool) (d : ℕ) → d < n → test d ≡ true → some_below n test ≡ true
@@ -179,7 +179,7 @@ repeats_fresh past p n = cond-false (pixel_eq p (previous past)) _ _ (pixel_eq-n
 pub repeats_run : (past : Past) (n : ℕ) → trailing_repeats (replicate n (previous past) ++ past) ≡ n + trailing_repeats past
 repeats_run past zero = omega arith
 repeats_run past (suc n) =
-    let m = repeats_more (replicate n (previous past) ++ past) (previous past) (sym (previous_repeated past n)) in
+    let m = repeats_more (replicate n (previous past) ++ past) (previous past) (sym (previous_repeats n past)) in
     let h = repeats_run past n in
     omega arith
 
@@ -195,7 +195,7 @@ cost_run shortest past zero = omega arith
 cost_run shortest past (suc n) =
     let before = replicate n (previous past) ++ past in
     let h = cost_run shortest past n in
-    let c = cost_repeat shortest before (previous past) (sym (previous_repeated past n)) in
+    let c = cost_repeat shortest before (previous past) (sym (previous_repeats n past)) in
     let r = repeats_run past n in
     let g = group_more (n + trailing_repeats past) in
     let c2 : cost shortest before (previous past) ≡ cond (eqb ((n + trailing_repeats past) % 62) 0) 1 0 = rw r at c in

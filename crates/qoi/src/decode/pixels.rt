@@ -6,22 +6,23 @@ ghost use Rattle.qoi.specs.inner.Filling.{HasFilled, HasSeen};
 
 use crate::chunk::Chunk;
 use crate::pixel::Pixel;
+use crate::table::Table;
 
 // What chunks can name: the pixels that were put at the 64 index positions, and the last pixel.
 #[derive(Drop)]
 pub(super) struct Seen {
-    places: [Pixel<4>; 64],
+    table: Table,
     last: Pixel<4>,
 }
 
 impl Seen {
     // Before the first chunk: transparent black at each index position, and opaque black.
-    #[tactic(auto, unfolding(crate::specs::Qoi::start, crate::specs::Qoi::blank))]
+    #[tactic(auto, unfolding(crate::specs::Qoi::start))]
     pub(super) fn new() -> Seen
-        ensures { HasSeen result.places result.last [] }
+        ensures { HasSeen result.table result.last [] }
     {
         Seen {
-            places: [Pixel::new(); 64],
+            table: Table::new(),
             last: Pixel::new().with_a(0xff),
         }
     }
@@ -30,12 +31,12 @@ impl Seen {
     #[inline(always)]
     fn pixel_of(&self, chunk: Chunk) -> Pixel<4>
         requires chunk { IsChunk chunk }
-        ensures { (past : Past) → HasSeen self.now.places self.now.last past
+        ensures { (past : Past) → HasSeen self.now.table self.now.last past
             → rgba result ≡ pixel_of past chunk }
     {
         let mut px = self.last;
         match chunk {
-            Chunk::Place(i) => px = self.places[i as usize],
+            Chunk::Place(i) => px = self.table.at(i),
             Chunk::Diff(b1) => px.update_diff(b1),
             Chunk::Luma(b1, b2) => px.update_luma(b1, b2),
             Chunk::Run(_) => {}
@@ -49,11 +50,11 @@ impl Seen {
     #[inline(always)]
     fn put(&mut self, chunk: Chunk)
         requires chunk { IsChunk chunk }
-        ensures { (past : Past) → HasSeen self.old.places self.old.last past
-            → HasSeen self.new.places self.new.last (then_chunk past chunk) }
+        ensures { (past : Past) → HasSeen self.old.table self.old.last past
+            → HasSeen self.new.table self.new.last (then_chunk past chunk) }
     {
         let px = self.pixel_of(chunk);
-        self.places[px.hash_index() as usize] = px;
+        self.table.put(px.hash_index(), px);
         self.last = px;
     }
 }
@@ -113,8 +114,8 @@ pub(super) fn give<const N: usize, const F: usize>(
     requires chunk { IsChunk chunk }
     requires whole { (length out.old % N ≡ 0) × (at % N ≡ 0) }
     requires inside { at < length out.old }
-    ensures seen { (past : Past) → HasSeen seen.old.places seen.old.last past
-        → HasSeen seen.new.places seen.new.last (then_chunk past chunk) }
+    ensures seen { (past : Past) → HasSeen seen.old.table seen.old.last past
+        → HasSeen seen.new.table seen.new.last (then_chunk past chunk) }
     ensures filled { (n : ℕ) (past : Past) → HasFilled F N n out.old at past
         → HasFilled F N n out.new result (replicate (times chunk) (rgba seen.new.last) ++ past) }
     ensures whole { result % N ≡ 0 }

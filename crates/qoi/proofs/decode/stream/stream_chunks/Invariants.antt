@@ -6,7 +6,7 @@ use Rattle.qoi.proofs.decode.stream.stream_chunks.Given as goal
 
 abbrev pub invariant-loop-at : goal.invariant-loop-at
 invariant-loop-at g l =
-    SoFar g.row.F g.row.N (length l.initial.out / g.row.N) (Consumes (g.R.Read.remaining l.initial.reader) (g.R.Read.remaining l.reader)) l.out l.at l.seen.places l.seen.last
+    SoFar g.row.F g.row.N (length l.initial.out / g.row.N) (Consumes (g.R.Read.remaining l.initial.reader) (g.R.Read.remaining l.reader)) l.out l.at l.seen.table l.seen.last
 
 abbrev pub decreases-loop-at : goal.decreases-loop-at
 decreases-loop-at g l = length l.out - l.at
