@@ -114,7 +114,8 @@ fn encode_pixels<W: Writer, const N: usize>(buf: &mut W, data: &[u8]) -> Result<
 // Writes the chunks of an image's raw bytes, of this many channels.
 pub(super) fn encode_chunks<W: Writer>(buf: &mut W, channels: Channels, data: &[u8]) -> Result<()>
     requires whole { length «data».now % channels_number channels ≡ 0 }
-    requires room { length «data».now + length «data».now / channels_number channels ≤ W.room buf.old }
+    requires room { length «data».now + length «data».now / channels_number channels
+        ≤ W.room buf.old }
     ensures written { OnOk result ((cs : List Chunk)
         × Written (pixels_of (channels_number channels) «data».now) cs
         × W.wrote buf.old (text cs) buf.new) }
