@@ -1,5 +1,5 @@
 -- The table of a coder, and the chunk that is chosen by it.
-use Rattle.std.proofs.Common.{◌≡◌, ◌≢◌, ℕ, zero, suc, eqb, inl, inr, List, [], ◌∷◌, ◌++◌, length, take, replicate, Some, refl, sym, ap, ◌∙◌, subst, arith}
+use Rattle.std.proofs.Common.{◌≡◌, ◌≢◌, ℕ, zero, suc, eqb, inl, inr, List, [], ◌∷◌, ◌++◌, take, replicate, Some, refl, sym, ap, ◌∙◌, subst}
 use Rattle.std.proofs.lemmas.Bool.{cond_both, eqb-true}
 use Rattle.qoi.specs.declared.chunk.Chunk.{Chunk}
 use Rattle.qoi.specs.declared.chunk.Chunk.TheVariants.{Place}
@@ -10,26 +10,6 @@ use Rattle.qoi.specs.Written.{fresh, noted, IsFirst, IsChoice}
 use Rattle.qoi.specs.inner.CoderState.{StateAfter}
 use Rattle.qoi.proofs.format.ChunkSteps.{previous_repeats}
 use Rattle.qoi.proofs.encoding.NotedPixels.{fresh_repeat, fresh_more}
-
--- a pixel's bytes are its colors and, where there are four, its alpha
-own_bytes : (n : ℕ) (xs : List ℕ) → IsChannels n → length xs ≡ n → xs ≡ take n ((rgba xs).r ∷ (rgba xs).g ∷ (rgba xs).b ∷ (rgba xs).a ∷ [])
-own_bytes n [] (inl e) h = absurd (omega arith)
-own_bytes n [] (inr e) h = absurd (omega arith)
-own_bytes n (a ∷ []) (inl e) h = absurd (omega arith)
-own_bytes n (a ∷ []) (inr e) h = absurd (omega arith)
-own_bytes n (a ∷ b ∷ []) (inl e) h = absurd (omega arith)
-own_bytes n (a ∷ b ∷ []) (inr e) h = absurd (omega arith)
-own_bytes n (a ∷ b ∷ c ∷ []) (inl e) h = rw e refl
-own_bytes n (a ∷ b ∷ c ∷ []) (inr e) h = absurd (omega arith)
-own_bytes n (a ∷ b ∷ c ∷ d ∷ []) (inl e) h = absurd (omega arith)
-own_bytes n (a ∷ b ∷ c ∷ d ∷ []) (inr e) h = rw e refl
-own_bytes n (a ∷ b ∷ c ∷ d ∷ x ∷ xs) (inl e) h = absurd (omega arith)
-own_bytes n (a ∷ b ∷ c ∷ d ∷ x ∷ xs) (inr e) h = absurd (omega arith)
-
--- bytes of three or four channels are the same where they mean the same pixel
-pub rgba_same : (n : ℕ) (xs ys : List ℕ) → IsChannels n → length xs ≡ n → length ys ≡ n → rgba xs ≡ rgba ys → xs ≡ ys
-rgba_same n xs ys is p q same =
-    own_bytes n xs is p ∙ ap (λ k. take n (k.r ∷ k.g ∷ k.b ∷ k.a ∷ [])) same ∙ sym (own_bytes n ys is q)
 
 -- as many zeros, with the last of four at 255, are the pixel before the first one
 pub opened : (n : ℕ) → IsChannels n → rgba (take n (take 3 (replicate n 0) ++ 255 ∷ [])) ≡ start

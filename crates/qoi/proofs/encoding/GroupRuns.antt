@@ -54,6 +54,25 @@ none_of_few n (a ∷ b ∷ []) (inr e) h = rw e refl
 none_of_few n (a ∷ b ∷ c ∷ []) (inr e) h = rw e refl
 none_of_few n (a ∷ b ∷ c ∷ d ∷ rest) (inr e) h = absurd (omega arith)
 
+-- where there are fewer bytes no pixel is the first
+pub first_of_few : (n : ℕ) (rest : List ℕ) (p : RgbaPixel) → IsChannels n → length rest < n → slice_get (pixels_of n rest) 0 ≢ Some p
+first_of_few n rest p is few e = none (sym (ap (λ x. slice_get x 0) (none_of_few n rest is few)) ∙ e)
+  where
+    none : slice_get {X = RgbaPixel} [] 0 ≡ Some p → ⊥
+    none e = cc
+
+-- the first pixel of bytes
+pub first_of : (n : ℕ) (rest front after : List ℕ) → IsChannels n → rest ≡ front ++ after → length front ≡ n → slice_get (pixels_of n rest) 0 ≡ Some (rgba front)
+first_of n rest front after is split size = ap (λ x. slice_get x 0) (ap (pixels_of n) split ∙ pixels_of-next n front after is size)
+
+-- equal where both are there
+pub some_same : (a b : RgbaPixel) → Some a ≡ Some b → a ≡ b
+some_same a b e = cc
+
+-- none repeats where the first is another
+pub count_none : (p : RgbaPixel) (pixels : List RgbaPixel) → slice_get pixels 0 ≢ Some p → IsCount p pixels 0
+count_none p pixels other = record { same = refl; other = other }
+
 -- so many pixels that are p, and then others
 count_of : (p : RgbaPixel) (pixels rest : List RgbaPixel) (n : ℕ) → pixels ≡ replicate n p ++ rest → slice_get rest 0 ≢ Some p → IsCount p pixels n
 count_of p pixels rest n e other = record {
@@ -109,17 +128,11 @@ module _ (n : ℕ) (bytes rest : List ℕ) (p : RgbaPixel) (count : ℕ) (is : I
 
     -- the next pixel is another
     pub repeats_other : rgba front ≢ p → IsCount p (pixels_of n bytes) count
-    repeats_other differs = count_of p (pixels_of n bytes) (pixels_of n rest) count w.same (λ e. differs (first_is (rgba front) p (sym (ap (λ x. slice_get x 0) next_pixels) ∙ e)))
-      where
-        first_is : (a b : RgbaPixel) → Some a ≡ Some b → a ≡ b
-        first_is a b e = cc
+    repeats_other differs = count_of p (pixels_of n bytes) (pixels_of n rest) count w.same (λ e. differs (some_same (rgba front) p (sym (first_of n rest front after is split size) ∙ e)))
 
   -- no whole pixel is left
   pub repeats_end : length rest < n → IsCount p (pixels_of n bytes) count
-  repeats_end few = count_of p (pixels_of n bytes) (pixels_of n rest) count w.same (λ e. absurd (none (sym (ap (λ x. slice_get x 0) (none_of_few n rest is few)) ∙ e)))
-    where
-      none : slice_get {X = RgbaPixel} [] 0 ≡ Some p → ⊥
-      none e = cc
+  repeats_end few = count_of p (pixels_of n bytes) (pixels_of n rest) count w.same (first_of_few n rest p is few)
 
 -- The pixels of the bytes are so many of q, and then those of the bytes behind them, of which the first is another.
 pub record Group (n : ℕ) (bytes : List ℕ) (q : RgbaPixel) (count : ℕ) : Type 0 where

@@ -2,7 +2,7 @@
 use Rattle.std.proofs.Common.{◌≡◌, false, true, ap, ◌∙◌}
 use Rattle.qoi.specs.Qoi.{rgba}
 use Rattle.qoi.proofs.encoding.GroupRuns.{split_is, repeats_other, repeats_end}
-use Rattle.qoi.proofs.runs.repeats.Goals as goal
+use Rattle.qoi.proofs.runs.count.Goals as goal
 
 pub returns-then-not-is_same : goal.returns-then-not-is_same
 returns-then-not-is_same g c =

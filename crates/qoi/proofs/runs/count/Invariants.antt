@@ -2,7 +2,7 @@
 use Rattle.std.proofs.Common.{length}
 use Rattle.qoi.specs.Qoi.{rgba}
 use Rattle.qoi.proofs.encoding.GroupRuns.{RepeatsSoFar}
-use Rattle.qoi.proofs.runs.repeats.Given as goal
+use Rattle.qoi.proofs.runs.count.Given as goal
 
 abbrev pub invariant-loop-rest : goal.invariant-loop-rest
 invariant-loop-rest g l = RepeatsSoFar g.row.N l.data l.rest (rgba l.px) l.count
