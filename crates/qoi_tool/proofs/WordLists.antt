@@ -1,24 +1,12 @@
--- Lists of few words, by their bytes.
-use Rattle.std.proofs.Common.{◌≡◌, ℕ, List, [], ◌∷◌, length, map, get_or, String, arith}
+-- Lists of words, by their bytes.
+use Rattle.std.proofs.Common.{◌≡◌, ℕ, ◌+◌, ◌<◌, List, ◌∷◌, length, drop, map, get_or, String, sym, ap, ◌∙◌}
+use Rattle.std.proofs.lemmas.List.{at_drop_more}
 use Rattle.std.specs.String.{string_bytes}
 
--- three words
-pub three_words : {Z : Type 0} (words : List (String Z)) (a b c : String Z) (xs ys zs : List ℕ) → length words ≡ 3
-    → a ≡ get_or words 0 a → b ≡ get_or words 1 b → c ≡ get_or words 2 c
-    → xs ≡ string_bytes a → ys ≡ string_bytes b → zs ≡ string_bytes c → map string_bytes words ≡ xs ∷ ys ∷ zs ∷ []
-three_words (w ∷ v ∷ u ∷ []) a b c xs ys zs size is_a is_b is_c e_a e_b e_c = cc
-three_words [] a b c xs ys zs size is_a is_b is_c e_a e_b e_c = absurd (omega arith)
-three_words (w ∷ []) a b c xs ys zs size is_a is_b is_c e_a e_b e_c = absurd (omega arith)
-three_words (w ∷ v ∷ []) a b c xs ys zs size is_a is_b is_c e_a e_b e_c = absurd (omega arith)
-three_words (w ∷ v ∷ u ∷ t ∷ words) a b c xs ys zs size is_a is_b is_c e_a e_b e_c = absurd (omega arith)
-
--- four words
-pub four_words : {Z : Type 0} (words : List (String Z)) (a b c d : String Z) (xs ys zs us : List ℕ) → length words ≡ 4
-    → a ≡ get_or words 0 a → b ≡ get_or words 1 b → c ≡ get_or words 2 c → d ≡ get_or words 3 d
-    → xs ≡ string_bytes a → ys ≡ string_bytes b → zs ≡ string_bytes c → us ≡ string_bytes d → map string_bytes words ≡ xs ∷ ys ∷ zs ∷ us ∷ []
-four_words (w ∷ v ∷ u ∷ t ∷ []) a b c d xs ys zs us size is_a is_b is_c is_d e_a e_b e_c e_d = cc
-four_words [] a b c d xs ys zs us size is_a is_b is_c is_d e_a e_b e_c e_d = absurd (omega arith)
-four_words (w ∷ []) a b c d xs ys zs us size is_a is_b is_c is_d e_a e_b e_c e_d = absurd (omega arith)
-four_words (w ∷ v ∷ []) a b c d xs ys zs us size is_a is_b is_c is_d e_a e_b e_c e_d = absurd (omega arith)
-four_words (w ∷ v ∷ u ∷ []) a b c d xs ys zs us size is_a is_b is_c is_d e_a e_b e_c e_d = absurd (omega arith)
-four_words (w ∷ v ∷ u ∷ t ∷ s ∷ words) a b c d xs ys zs us size is_a is_b is_c is_d e_a e_b e_c e_d = absurd (omega arith)
+-- a word that stands at i, and the words after it
+pub word_before : {Z : Type 0} (words : List (String Z)) (i : ℕ) (a : String Z) (xs : List ℕ) → i < length words
+    → a ≡ get_or words i a → xs ≡ string_bytes a → map string_bytes (drop i words) ≡ xs ∷ map string_bytes (drop (i + 1) words)
+word_before words i a xs within is_a e_a =
+    at_drop_more (map string_bytes) words i a within
+    ∙ ap (λ z. string_bytes z ∷ map string_bytes (drop (i + 1) words)) (sym is_a)
+    ∙ ap (λ z. z ∷ map string_bytes (drop (i + 1) words)) (sym e_a)

@@ -1,7 +1,7 @@
 //! The words that the program is called with.
-ghost use Rattle.std.specs.Prelude.{◌≡◌, ℕ, List, [], ◌∷◌, MatchOption, map};
+ghost use Rattle.std.specs.Prelude.{◌≡◌, ◌≢◌, ℕ, MatchOption, map};
 ghost use Rattle.std.specs.String.{string_bytes};
-ghost use Rattle.qoi_tool.specs.Words.{Asks, IsUsage, IsSide};
+ghost use Rattle.qoi_tool.specs.Words.{Asks, IsUsage, IsSide, channels_word, last_words};
 
 use qoi::{Channels, ColorSpace};
 
@@ -23,73 +23,42 @@ pub fn command_of(words: &[String]) -> Option<Command>
     ensures { MatchOption result (IsUsage (map string_bytes words.now)) (Asks (map string_bytes words.now)) }
 {
     match words {
-        [word] => one_word(word.as_str()),
-        [word, channels] => two_words(word.as_str(), channels.as_str()),
-        [word, width, height] => three_words(word.as_str(), width.as_str(), height.as_str()),
-        [word, width, height, space] => {
-            four_words(
-                word.as_str(),
-                width.as_str(),
-                height.as_str(),
-                space.as_str(),
-            )
+        [word] if word.as_str() == "dec" => Some(Command::Decode),
+        [word, channels] if word.as_str() == "dec" => {
+            Some(Command::DecodeInto(channels_of(channels.as_str())?))
         }
+        [word, width, height, options @ ..] if word.as_str() == "enc" => {
+            let width = side_of(width.as_str())?;
+            let height = side_of(height.as_str())?;
+            Some(Command::Encode(width, height, space_of(options)?))
+        }
+        [word] if word.as_str() == "info" => Some(Command::Info),
         _ => None,
     }
 }
 
-// The command of one word.
-fn one_word(word: &str) -> Option<Command>
-    ensures { MatchOption result (IsUsage (word.now ∷ [])) (Asks (word.now ∷ [])) }
+// The channels of their word.
+fn channels_of(word: &str) -> Option<Channels>
+    ensures { MatchOption result ((channels : Channels) → word.now ≢ channels_word channels)
+        (λ channels. word.now ≡ channels_word channels) }
 {
-    if word == "dec" {
-        Some(Command::Decode)
-    } else if word == "info" {
-        Some(Command::Info)
-    } else {
-        None
+    match word {
+        "rgb" => Some(Channels::Rgb),
+        "rgba" => Some(Channels::Rgba),
+        _ => None,
     }
 }
 
-// The command of two words.
-fn two_words(word: &str, channels: &str) -> Option<Command>
-    ensures { MatchOption result (IsUsage (word.now ∷ channels.now ∷ [])) (Asks (word.now ∷ channels.now ∷ [])) }
+// The color space of the options of `enc`.
+fn space_of(options: &[String]) -> Option<ColorSpace>
+    ensures { MatchOption result ((space : ColorSpace) → map string_bytes options.now ≢ last_words space)
+        (λ space. map string_bytes options.now ≡ last_words space) }
 {
-    if word != "dec" {
-        None
-    } else if channels == "rgb" {
-        Some(Command::DecodeInto(Channels::Rgb))
-    } else if channels == "rgba" {
-        Some(Command::DecodeInto(Channels::Rgba))
-    } else {
-        None
+    match options {
+        [] => Some(ColorSpace::Srgb),
+        [option] if option.as_str() == "linear" => Some(ColorSpace::Linear),
+        _ => None,
     }
-}
-
-// The command of three words.
-fn three_words(word: &str, width: &str, height: &str) -> Option<Command>
-    ensures { MatchOption result (IsUsage (word.now ∷ width.now ∷ height.now ∷ []))
-        (Asks (word.now ∷ width.now ∷ height.now ∷ [])) }
-{
-    if word != "enc" {
-        return None;
-    }
-    let width = side_of(width)?;
-    let height = side_of(height)?;
-    Some(Command::Encode(width, height, ColorSpace::Srgb))
-}
-
-// The command of four words.
-fn four_words(word: &str, width: &str, height: &str, space: &str) -> Option<Command>
-    ensures { MatchOption result (IsUsage (word.now ∷ width.now ∷ height.now ∷ space.now ∷ []))
-        (Asks (word.now ∷ width.now ∷ height.now ∷ space.now ∷ [])) }
-{
-    if word != "enc" || space != "linear" {
-        return None;
-    }
-    let width = side_of(width)?;
-    let height = side_of(height)?;
-    Some(Command::Encode(width, height, ColorSpace::Linear))
 }
 
 // The number of a word that has digits alone, if it is at most 4,294,967,295.
