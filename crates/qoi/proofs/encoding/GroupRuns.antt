@@ -92,40 +92,8 @@ pub record RepeatsSoFar (n : ℕ) (bytes rest : List ℕ) (p : RgbaPixel) (count
   pub size : n * count + length rest ≡ length bytes
   pub same : pixels_of n bytes ≡ replicate count p ++ pixels_of n rest
 
--- none so far
-pub repeats_none : (n : ℕ) (bytes : List ℕ) (p : RgbaPixel) → IsChannels n → RepeatsSoFar n bytes bytes p 0
-repeats_none n bytes p (inl e) = record { size = rw e (omega arith); same = refl }
-repeats_none n bytes p (inr e) = record { size = rw e (omega arith); same = refl }
-
 module _ (n : ℕ) (bytes rest : List ℕ) (p : RgbaPixel) (count : ℕ) (is : IsChannels n) (w : RepeatsSoFar n bytes rest p count) where
-  -- there are fewer than bytes
-  pub repeats_below : n ≤ length rest → count < length bytes
-  repeats_below = below is
-    where
-      below : IsChannels n → n ≤ length rest → count < length bytes
-      below (inl e) h = let s : 3 * count + length rest ≡ length bytes = subst (λ k. k * count + length rest ≡ length bytes) e w.size in omega arith
-      below (inr e) h = let s : 4 * count + length rest ≡ length bytes = subst (λ k. k * count + length rest ≡ length bytes) e w.size in omega arith
-
   module _ (front after : List ℕ) (split : rest ≡ front ++ after) (size : length front ≡ n) where
-    -- the next pixel and those behind it
-    next_pixels : pixels_of n rest ≡ rgba front ∷ pixels_of n after
-    next_pixels = ap (pixels_of n) split ∙ pixels_of-next n front after is size
-
-    -- one more
-    pub repeats_more : rgba front ≡ p → RepeatsSoFar n bytes after p (count + 1)
-    repeats_more same = record {
-      size = sized is;
-      same = w.same ∙ ap (λ x. replicate count p ++ x) (next_pixels ∙ ap (λ x. x ∷ pixels_of n after) same) ∙ one_more count;
-    }
-      where
-        sized : IsChannels n → n * (count + 1) + length after ≡ length bytes
-        sized (inl e) = let s = subst (λ k. k * count + length rest ≡ length bytes) e w.size in rw e (omega (arith, s, ap length split, length-append front after, size, e))
-        sized (inr e) = let s = subst (λ k. k * count + length rest ≡ length bytes) e w.size in rw e (omega (arith, s, ap length split, length-append front after, size, e))
-
-        one_more : (k : ℕ) → replicate k p ++ p ∷ pixels_of n after ≡ replicate (k + 1) p ++ pixels_of n after
-        one_more zero = refl
-        one_more (suc k) = let j : suc k + 1 ≡ suc (k + 1) = omega arith in rw j (ap (λ (x : List RgbaPixel). p ∷ x) (one_more k))
-
     -- the next pixel is another
     pub repeats_other : rgba front ≢ p → IsCount p (pixels_of n bytes) count
     repeats_other differs = count_of p (pixels_of n bytes) (pixels_of n rest) count w.same (λ e. differs (some_same (rgba front) p (sym (first_of n rest front after is split size) ∙ e)))
