@@ -11,10 +11,10 @@ ghost use Rattle.qoi.specs.writers.Writes.{AppendsBeginning, WroteSome};
 
 mod coder;
 
-use crate::consts::{QOI_HEADER_SIZE, QOI_PADDING, QOI_PADDING_SIZE};
+use crate::consts::QOI_PADDING;
 use crate::encode::coder::encode_chunks;
 use crate::error::{Error, Result};
-use crate::header::Header;
+use crate::header::{Header, max_file_size};
 use crate::types::{Channels, ColorSpace};
 use crate::utils::{BytesMut, GenericWriter, Writer};
 use std::alloc::Global;
@@ -45,10 +45,7 @@ fn encode_image<W: Writer>(buf: &mut W, header: &Header, data: &[u8]) -> Result<
 pub fn encode_max_len(width: u32, height: u32, channels: u8) -> usize
     ensures { result ≡ max_len width height channels }
 {
-    let n_pixels = width as usize * height as usize;
-    n_pixels
-        .saturating_mul(channels as usize + 1)
-        .saturating_add(QOI_HEADER_SIZE + QOI_PADDING_SIZE)
+    max_file_size(width, height, channels)
 }
 
 /// Encodes raw bytes into the front of the buffer, with color space `Srgb`, and answers how many

@@ -1,9 +1,9 @@
 //! The header of a file (QOI specification 1.0, "QOI Header").
+ghost use Rattle.qoi.specs.Encoded.{max_len};
 ghost use Rattle.std.specs.Prelude.{◌≡◌, ◌*◌, take, IfOk};
 ghost use Rattle.qoi.specs.declared.header.Header.{Header};
 
-use crate::consts::{QOI_HEADER_SIZE, QOI_MAGIC, QOI_PIXELS_MAX};
-use crate::encode::encode_max_len;
+use crate::consts::{QOI_HEADER_SIZE, QOI_MAGIC, QOI_PADDING_SIZE, QOI_PIXELS_MAX};
 use crate::error::{Error, Result};
 use crate::types::{Channels, ColorSpace};
 
@@ -152,6 +152,16 @@ impl Header {
     pub fn encode_max_len(&self) -> usize
         ensures { result ≡ max_file_len self.now }
     {
-        encode_max_len(self.width, self.height, self.channels.as_u8())
+        max_file_size(self.width, self.height, self.channels.as_u8())
     }
+}
+
+// The most bytes that the file of an image of this size has, or the greatest `usize` if that is less.
+pub(crate) fn max_file_size(width: u32, height: u32, channels: u8) -> usize
+    ensures { result ≡ max_len width height channels }
+{
+    let n_pixels = width as usize * height as usize;
+    n_pixels
+        .saturating_mul(channels as usize + 1)
+        .saturating_add(QOI_HEADER_SIZE + QOI_PADDING_SIZE)
 }

@@ -20,7 +20,8 @@ pub enum Command {
 
 /// The command of the words, if they are those of one.
 pub fn command_of(words: &[String]) -> Option<Command>
-    ensures { MatchOption result (IsUsage (map string_bytes words.now)) (Asks (map string_bytes words.now)) }
+    ensures { MatchOption result (IsUsage (map string_bytes words.now))
+        (Asks (map string_bytes words.now)) }
 {
     match words {
         [word] if word.as_str() == "dec" => Some(Command::Decode),
@@ -51,7 +52,8 @@ fn channels_of(word: &str) -> Option<Channels>
 
 // The color space of the options of `enc`.
 fn space_of(options: &[String]) -> Option<ColorSpace>
-    ensures { MatchOption result ((space : ColorSpace) → map string_bytes options.now ≢ last_words space)
+    ensures { MatchOption result
+        ((space : ColorSpace) → map string_bytes options.now ≢ last_words space)
         (λ space. map string_bytes options.now ≡ last_words space) }
 {
     match options {

@@ -10,8 +10,9 @@ ghost use Rattle.qoi.specs.declared.chunk.Chunk.{Chunk};
 ghost use Rattle.qoi.specs.Qoi.{pixel_of, Past, previous, rgba, channels_number, colorspace_number};
 ghost use Rattle.qoi.specs.Raw.{IsChannels};
 
+use crate::chunk::Chunk;
 use crate::header::Header;
-use crate::parts::{Chunk, Pixel};
+use crate::pixel::Pixel;
 use crate::types::{Channels, ColorSpace};
 use std::hash::Hash;
 

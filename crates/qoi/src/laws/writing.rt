@@ -1,4 +1,5 @@
-//! Laws of the chunk list that is written for an image.
+//! Laws of the chunk list that is written for an image. They compute whole images and files, so they
+//! import types and variants beside the definitions.
 ghost use Rattle.std.specs.Prelude.{◌≡◌, ◌≢◌, ℕ, ◌+◌, ◌*◌, ◌/◌, ◌<◌, ◌≤◌, List, [], ◌∷◌, ◌++◌, length, replicate};
 ghost use Rattle.std.specs.List.{AllByRecursion};
 ghost use Rattle.qoi.specs.declared.chunk.Chunk.{Chunk};
