@@ -46,7 +46,8 @@ pub fn send<W: Write>(raw: &[u8], width: u32, height: u32, out: &mut W) -> Resul
         × Appends (W.contents out.old) (W.contents out.new) bytes) }
 {
     let encoder = Encoder::new(raw, width, height)?;
-    encoder.encode_to_stream(out)
+    let size = encoder.encode_to_stream(out)?;
+    Ok(size)
 }
 
 /// Stream in. The raw bytes of the image that stands ahead of a reader, and the reader behind it.
