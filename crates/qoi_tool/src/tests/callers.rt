@@ -3,7 +3,7 @@ ghost use Rattle.std.specs.Prelude.{◌≡◌, ℕ, ◌+◌, ◌≤◌, ◌++◌
 ghost use Rattle.std.specs.Io.KnownBytes.{Appends, Consumes};
 ghost use Rattle.qoi.specs.declared.header.Header.{Header};
 ghost use Rattle.qoi.specs.Qoi.{channels_number, head, header_of, pixel_count, header_size, IsValid, file};
-ghost use Rattle.qoi.specs.Encoded.{IsFileOf, Spans};
+ghost use Rattle.qoi.specs.Encoded.{IsFileOf, Spans, OpensBlack, image_pixels};
 ghost use Rattle.qoi.specs.Regular.{Regular};
 ghost use Rattle.qoi.specs.declared.chunk.Chunk.{Chunk};
 ghost use Rattle.qoi.specs.Decoding.{DecodesFile, ReadsHeader, ReadsImage};
@@ -122,11 +122,15 @@ pub fn space_byte(alloc: Global, raw: &[u8], width: u32, height: u32) -> Result<
     Ok(file[13])
 }
 
-/// Shortness. A file is at most four bytes longer than that of any regular list of the image.
+/// Shortness. A file is at most four bytes longer than that of any regular list of the image, and no
+/// longer at all unless the image opens with opaque black.
 pub fn near_shortest(alloc: Global, raw: &[u8], width: u32, height: u32) -> Result<Vec<u8>, Error>
-    ensures { IfOk result (λ v. (h : Header) × ((others : List Chunk) → Spans h raw.now others
-        → Regular others
+    ensures four_at_most { IfOk result (λ v. (h : Header) × ((others : List Chunk)
+        → Spans h raw.now others → Regular others
         → length v.items ≤ length (file h others) + 4)) }
+    ensures none_shorter { IfOk result (λ v. (h : Header)
+        × ((OpensBlack (image_pixels h raw.now) → ⊥) → (others : List Chunk)
+        → Spans h raw.now others → Regular others → length v.items ≤ length (file h others))) }
 {
     encode_to_vec(alloc, raw, width, height)
 }
