@@ -18,8 +18,8 @@ use Rattle.qoi.proofs.decoding.ImageSize.{channels_are}
 use Rattle.qoi.proofs.decoding.OneFile.{decodes_file}
 use Rattle.qoi.proofs.format.RawPixels.{pixels_of_are, pixels_of_have, length-pixels_of, output-pixels_of}
 use Rattle.qoi.specs.writers.Writes.{WriterLaws, WroteBut, WroteSome}
-use Rattle.qoi.proofs.encoding.CodingWrites.{wrote_next, wrote_part}
-use Rattle.qoi.proofs.encoding.EncodedPixels.{all_bytes}
+use Rattle.qoi.proofs.encoding.WriterProgress.{wrote_next, wrote_part}
+use Rattle.qoi.proofs.encoding.CoderSteps.{all_bytes}
 use Rattle.qoi.proofs.encoding.WrittenExists.{written_some}
 use Rattle.qoi.proofs.encoding.WrittenOnce.{written_unique}
 use Rattle.qoi.proofs.encoding.WrittenShape.{reaches_by, apart_by, written_fits_lem}

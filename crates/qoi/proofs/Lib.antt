@@ -3,3 +3,4 @@ pub mod decoding
 pub mod encoding
 pub mod shortness
 pub mod FileOf
+pub mod Results

@@ -1,16 +1,16 @@
 -- Lemmas on encoding.
 pub mod BufferFilled
 pub mod Choices
+pub mod CoderSteps
 pub mod CoderTable
-pub mod Coding
-pub mod CodingRest
-pub mod CodingWrites
-pub mod EncodedPixels
 pub mod GroupRuns
 pub mod NotedPixels
 pub mod Spelled
 pub mod SpelledBytes
+pub mod StillToWrite
 pub mod Unwritten
+pub mod WriterProgress
 pub mod WrittenExists
+pub mod WrittenGrows
 pub mod WrittenOnce
 pub mod WrittenShape

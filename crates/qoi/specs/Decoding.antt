@@ -1,4 +1,4 @@
--- What decoding an image answers and takes, and what its refusals say.
+-- What decoding an image returns and takes, and what its refusals say.
 use Rattle.std.specs.Prelude.{◌≡◌, ◌≢◌, ℕ, ◌*◌, ◌<◌, ◌≤◌, ◌⊎◌, List, [], ◌++◌, length, take, drop, Bool, true, false, Option, Result, Ok, Err, IfSome}
 use Rattle.std.specs.Io.KnownBytes.{Consumes, Keeps}
 use Rattle.qoi.specs.declared.error.Error.{Error}
@@ -79,7 +79,7 @@ abbrev pub RefusesHeader : List ℕ → Error → Type 0
 RefusesHeader taken (IoError e) = length taken < header_size
 RefusesHeader taken e = (length taken ≡ header_size) × (header_of taken ≡ Err e)
 
--- What reading a header answers and takes: the fourteen bytes of a valid header, or a refusal, which is the verdict
+-- What reading a header returns and takes: the fourteen bytes of a valid header, or a refusal, which is the verdict
 -- on the bytes. In memory a refusal takes nothing, and is the verdict on the bytes ahead.
 abbrev pub ReadsHeader : Bool → Option (List ℕ) → Option (List ℕ) → Result Header Error → Type 0
 ReadsHeader in_memory old new (Ok h) = (taken : List ℕ) × Consumes old new taken × (length taken ≡ header_size) × (header_of taken ≡ Ok h)

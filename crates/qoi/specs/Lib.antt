@@ -2,7 +2,7 @@
 pub mod Qoi
 -- Raw bytes and pixels.
 pub mod Raw
--- Which bytes are accepted, and what decoding answers.
+-- Which bytes are accepted, and what decoding returns.
 pub mod Verdicts
 pub mod Decoding
 pub mod DecoderState

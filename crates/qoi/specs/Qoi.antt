@@ -143,9 +143,13 @@ start = pixel 0 0 0 255
 unfoldable pub blank : RgbaPixel
 blank = pixel 0 0 0 0
 
+-- how many index positions there are
+abbrev pub positions : ℕ
+positions = 64
+
 -- the index position of a pixel, 0 to 63
 unfoldable pub hash : RgbaPixel → ℕ
-hash p = (3 * p.r + 5 * p.g + 7 * p.b + 11 * p.a) % 64
+hash p = (3 * p.r + 5 * p.g + 7 * p.b + 11 * p.a) % positions
 
 -- the pixels up to some point of an image, the last one first
 abbrev pub Past : Type 0
@@ -163,13 +167,28 @@ seen (p ∷ past) i = if hash p == i then p else seen past i
 
 -- Chunks ("Chunks")
 
+-- the two high bits of a difference's, a luma's and a run's first byte, the six low ones being 0; an index
+-- position's are 0
+abbrev pub diff_tag : ℕ
+diff_tag = 0x40
+
+abbrev pub luma_tag : ℕ
+luma_tag = 0x80
+
+abbrev pub run_tag : ℕ
+run_tag = 0xc0
+
+-- the longest run of one chunk
+abbrev pub run_max : ℕ
+run_max = 62
+
 -- The numbers that a chunk may have: an index position, the bytes of a difference and of a luma with
 -- their two high bits, the length of a run, and bytes of pixels.
 abbrev pub IsChunk : Chunk → Type 0
-IsChunk (Place i) = i < 64
-IsChunk (Diff d) = (64 ≤ d) × (d < 128)
-IsChunk (Luma d e) = (128 ≤ d) × (d < 192) × (e < 256)
-IsChunk (Run n) = (0 < n) × (n ≤ 62)
+IsChunk (Place i) = i < positions
+IsChunk (Diff d) = (diff_tag ≤ d) × (d < luma_tag)
+IsChunk (Luma d e) = (luma_tag ≤ d) × (d < run_tag) × (e < 256)
+IsChunk (Run n) = (0 < n) × (n ≤ run_max)
 IsChunk (Rgb r g b) = (r < 256) × (g < 256) × (b < 256)
 IsChunk (Rgba r g b a) = (r < 256) × (g < 256) × (b < 256) × (a < 256)
 
@@ -177,12 +196,12 @@ IsChunk (Rgba r g b a) = (r < 256) × (g < 256) × (b < 256) × (a < 256)
 abbrev pub AreChunks : List Chunk → Type 0
 AreChunks cs = AllByRecursion IsChunk cs
 
--- a chunk's bytes; a run of n is the byte c0 + n - 1
+-- a chunk's bytes; the six low bits of a run are its length less 1
 abbrev pub bytes_of : Chunk → List ℕ
 bytes_of (Place i) = i ∷ []
 bytes_of (Diff d) = d ∷ []
 bytes_of (Luma d e) = d ∷ e ∷ []
-bytes_of (Run n) = (191 + n) ∷ []
+bytes_of (Run n) = (run_tag - 1 + n) ∷ []
 bytes_of (Rgb r g b) = 254 ∷ r ∷ g ∷ b ∷ []
 bytes_of (Rgba r g b a) = 255 ∷ r ∷ g ∷ b ∷ a ∷ []
 

@@ -2,7 +2,7 @@
 use Rattle.std.specs.Prelude.{◌≡◌, ◌≢◌, ℕ, ◌/◌, ◌%◌, List, [], ◌∷◌, ◌++◌, drop, replicate, slice_get, Some, zero, suc}
 use Rattle.qoi.specs.declared.chunk.Chunk.{Chunk}
 use Rattle.qoi.specs.declared.chunk.Chunk.TheVariants.{Run}
-use Rattle.qoi.specs.Qoi.{RgbaPixel}
+use Rattle.qoi.specs.Qoi.{RgbaPixel, run_max}
 
 -- the first so many of the pixels are p, and the next one, if there is one, isn't
 pub record IsCount (p : RgbaPixel) (pixels : List RgbaPixel) (count : ℕ) : Type 0 where
@@ -16,4 +16,4 @@ last_run (suc n) = Run (suc n) ∷ []
 
 -- the chunks of a group of so many repeats: runs of 62, and a run of the rest
 unfoldable pub runs : ℕ → List Chunk
-runs n = replicate (n / 62) (Run 62) ++ last_run (n % 62)
+runs n = replicate (n / run_max) (Run run_max) ++ last_run (n % run_max)

@@ -1,7 +1,7 @@
 -- The fewest bytes that the pixels of an image take.
 use Rattle.std.specs.Prelude.{ℕ, zero, suc, ◌+◌, ◌%◌, List, [], ◌∷◌, Bool, false, ◌==◌, ◌&&◌, ◌||◌, if◌then◌else◌, reverse, Option, None, Some, slice_get}
 use Rattle.std.specs.List.{find}
-use Rattle.qoi.specs.Qoi.{RgbaPixel, Past, pixel_eq, start, hash, previous, seen, after_diff, after_luma}
+use Rattle.qoi.specs.Qoi.{RgbaPixel, Past, pixel_eq, start, hash, previous, seen, diff_tag, luma_tag, run_max, after_diff, after_luma}
 use Rattle.qoi.specs.Written.{fresh}
 
 -- some number below n passes the test
@@ -11,11 +11,11 @@ some_below (suc n) test = test n || some_below n test
 
 -- some Diff gives p after q
 unfoldable pub some_diff : RgbaPixel → RgbaPixel → Bool
-some_diff q p = some_below 64 (λ d. pixel_eq (after_diff q (64 + d)) p)
+some_diff q p = some_below 64 (λ d. pixel_eq (after_diff q (diff_tag + d)) p)
 
 -- some Luma gives p after q
 unfoldable pub some_luma : RgbaPixel → RgbaPixel → Bool
-some_luma q p = some_below 64 (λ d. some_below 256 (λ e. pixel_eq (after_luma q (128 + d) e) p))
+some_luma q p = some_below 64 (λ d. some_below 256 (λ e. pixel_eq (after_luma q (luma_tag + d) e) p))
 
 -- some Rgb gives p after q
 unfoldable pub some_rgb : RgbaPixel → RgbaPixel → Bool
@@ -38,7 +38,7 @@ trailing_repeats (p ∷ past) = if pixel_eq p (previous past) then suc (trailing
 -- after that, so a group of k repeats costs k / 62, rounded up.
 unfoldable pub cost : (Past → RgbaPixel → ℕ) → Past → RgbaPixel → ℕ
 cost shortest past p =
-    if pixel_eq p (previous past) then (if trailing_repeats past % 62 == 0 then 1 else 0) else shortest past p
+    if pixel_eq p (previous past) then (if trailing_repeats past % run_max == 0 then 1 else 0) else shortest past p
 
 -- what the pixels cost, one after the other
 abbrev pub total_cost : (Past → RgbaPixel → ℕ) → Past → ℕ

@@ -2,7 +2,7 @@
 use Rattle.std.specs.Prelude.{◌≡◌, ◌≢◌, ℕ, ◌<◌, ◌≤◌, List, [], ◌∷◌, if◌then◌else◌}
 use Rattle.qoi.specs.declared.chunk.Chunk.{Chunk}
 use Rattle.qoi.specs.declared.chunk.Chunk.TheVariants.{Place, Diff, Luma, Run, Rgb, Rgba}
-use Rattle.qoi.specs.Qoi.{RgbaPixel, Past, pixel_eq, previous, seen, hash, IsChunk, AreChunks, pixel_of, meaning, Each}
+use Rattle.qoi.specs.Qoi.{RgbaPixel, Past, pixel_eq, previous, seen, hash, IsChunk, AreChunks, run_max, pixel_of, meaning, Each}
 
 -- the fresh pixels: those that differ from the pixel before them
 abbrev pub fresh : Past → Past
@@ -45,7 +45,7 @@ IsRightAfter Choice past c = GivesFresh Choice past c
 
 -- a run directly before a run has length 62
 abbrev pub IsFull : Chunk → List Chunk → Type 0
-IsFull (Run m) (Run n ∷ cs) = m ≡ 62
+IsFull (Run m) (Run n ∷ cs) = m ≡ run_max
 IsFull _ _ = Unit {0}
 
 -- so it is throughout the list

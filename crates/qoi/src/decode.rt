@@ -33,7 +33,7 @@ pub fn decode_header(data: &[u8]) -> Result<Header>
     Header::decode(data)
 }
 
-/// Decodes a file into the front of the buffer, in the file's own channels, and answers its header.
+/// Decodes a file into the front of the buffer, in the file's own channels, and returns its header.
 ///
 /// The refusals are those of `Decoder::new` and then of its `decode_to_buf`. After a refusal of the
 /// image the first bytes of the buffer, as many as the image has, may be overwritten; all others
@@ -66,7 +66,7 @@ pub fn decode_to_buf(buf: &mut [u8], data: &[u8]) -> Result<Header>
     Ok(*decoder.header())
 }
 
-/// Decodes a file into a vector, in the file's own channels, and answers its header too.
+/// Decodes a file into a vector, in the file's own channels, and returns its header too.
 ///
 /// The refusals are those of `Decoder::new` and then of its `decode_to_vec`; so memory is asked for
 /// only where the header is good. The vector has `n_bytes` of the header.
@@ -240,7 +240,7 @@ impl<R: Reader> Decoder<R> {
         self.header.n_pixels() * self.channels.as_u8() as usize
     }
 
-    /// Decodes an image into the front of the buffer, and answers how many bytes it has.
+    /// Decodes an image into the front of the buffer, and returns how many bytes it has.
     ///
     /// Refusals, in this order: `OutputBufferTooSmall` where the buffer is shorter than
     /// `required_buf_len`, and then nothing was read or written; `UnexpectedBufferEnd` where the

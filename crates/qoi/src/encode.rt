@@ -21,7 +21,7 @@ use std::alloc::Global;
 use std::io::Write;
 use std::marker::Model;
 
-// Writes the file of an image, and answers how many bytes it has.
+// Writes the file of an image, and returns how many bytes it has.
 fn encode_image<W: Writer>(buf: &mut W, header: &Header, data: &[u8]) -> Result<usize>
     requires valid { IsValid header.now }
     requires image { length «data».now ≡ file_byte_count header.now }
@@ -48,7 +48,7 @@ pub fn encode_max_len(width: u32, height: u32, channels: u8) -> usize
     max_file_size(width, height, channels)
 }
 
-/// Encodes raw bytes into the front of the buffer, with color space `Srgb`, and answers how many
+/// Encodes raw bytes into the front of the buffer, with color space `Srgb`, and returns how many
 /// bytes the file has. The size is in pixels.
 ///
 /// The refusals are those of `Encoder::new` and then of its `encode_to_buf`.
@@ -166,7 +166,7 @@ impl<'a> Encoder<'a> {
         self.header.encode_max_len()
     }
 
-    /// Encodes the image into the front of the buffer, and answers how many bytes the file has;
+    /// Encodes the image into the front of the buffer, and returns how many bytes the file has;
     /// later bytes stay as they are.
     ///
     /// `OutputBufferTooSmall` exactly where the buffer is shorter than `required_buf_len`, even
@@ -209,7 +209,7 @@ impl<'a> Encoder<'a> {
         Ok(file)
     }
 
-    /// Encodes the image to a writer, and answers how many bytes the file has; then all of it went
+    /// Encodes the image to a writer, and returns how many bytes the file has; then all of it went
     /// out. The writer isn't flushed.
     ///
     /// `IoError` where the writer reports a fault, an interruption among them, or takes no byte

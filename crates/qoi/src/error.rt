@@ -44,7 +44,7 @@ pub enum Error {
     OutOfMemory,
 }
 
-/// What a call that can refuse with an [`Error`] answers.
+/// What a call that can refuse with an [`Error`] returns.
 pub type Result<T> = std::result::Result<T, Error>;
 
 impl fmt::Display for Error {

@@ -41,7 +41,7 @@ fn given(alloc: Global, words: &[&str]) -> Result<Vec<String>, Error> {
     Ok(given)
 }
 
-// What the program answers.
+// What the program returns.
 fn answer(
     alloc: Global,
     words: &[&str],
@@ -67,7 +67,7 @@ fn assert_writes(
     Ok(())
 }
 
-// What `dec` answers.
+// What `dec` returns.
 fn dec(alloc: Global, input: &mut Source<'_>, output: &mut Sink) -> Result<(), Fault> {
     answer(alloc, &["dec"], input, output)
 }
@@ -77,7 +77,7 @@ fn is_io(answer: &Result<(), Fault>, kind: ErrorKind) -> bool {
     matches!(answer, Err(Fault::Image(Error::IoError(e))) if e.kind() == kind)
 }
 
-// Compares what a fault's report writes and answers.
+// Compares what a fault's report writes and returns.
 fn assert_reports(
     rt: &impl Abort,
     alloc: Global,
@@ -92,7 +92,7 @@ fn assert_reports(
     let mut err = Sink::new(alloc, usize::MAX, NONE)?;
     assert_eq!(rt; report(&fault, &mut err), status);
     assert_eq!(rt; err.got.as_slice(), line.as_bytes());
-    // What the writes answer is ignored.
+    // What the writes return is ignored.
     let bad = Bad {
         call: 1,
         end: End::Fault,

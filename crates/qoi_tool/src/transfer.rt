@@ -55,7 +55,7 @@ pub fn read_exactly<R: Read>(input: &mut R, buf: &mut [u8]) -> Result<(), Error>
     Ok(())
 }
 
-// Reads once into the buffer behind the bytes that are filled, and answers how many bytes came.
+// Reads once into the buffer behind the bytes that are filled, and returns how many bytes came.
 fn read_after<R: Read>(input: &mut R, buf: &mut [u8], filled: usize) -> io::Result<usize>
     requires { filled ≤ length buf.old }
     ensures read { IfOk result (λ n. (filled + n ≤ length buf.new)

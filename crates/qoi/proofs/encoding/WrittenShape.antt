@@ -9,7 +9,7 @@ use Rattle.qoi.specs.Raw.{AreOpaque, HasChannels}
 use Rattle.qoi.specs.Written.{noted, IsFirst, IsChoice, IsRightAfter, WrittenBy, Written}
 use Rattle.qoi.proofs.format.SamePixels.{cases_pixel, same_pixel}
 use Rattle.qoi.proofs.format.ChunkSteps.{times_some, then_chunks_given, length-then_chunks, given, meaning_given, each_back}
-use Rattle.qoi.proofs.encoding.Coding.{all_back, all_reverse}
+use Rattle.qoi.proofs.encoding.WrittenGrows.{all_back, all_reverse}
 
 -- an index position holds the same after its pixel
 seen_again : (past : Past) (i : ℕ) → seen (seen past i ∷ past) i ≡ seen past i

@@ -12,7 +12,7 @@ use Rattle.qoi.specs.Regular.{NamesWritten, Regular, Begins}
 use Rattle.qoi.proofs.format.SamePixels.{cases_pixel}
 use Rattle.qoi.proofs.encoding.NotedPixels.{seen_same, seen_other}
 use Rattle.qoi.proofs.format.ChunkSteps.{given, then_chunks_given}
-use Rattle.qoi.proofs.encoding.Coding.{all_back, all_reverse}
+use Rattle.qoi.proofs.encoding.WrittenGrows.{all_back, all_reverse}
 
 -- a place chunk that is chosen names the index position of its pixel
 place_named : (past : Past) (i : ℕ) → IsChoice past (seen past i) (Place i) → hash (seen past i) ≡ i

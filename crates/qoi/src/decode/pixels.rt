@@ -75,7 +75,7 @@ fn write_pixel<const N: usize, const F: usize>(out: &mut [u8], at: usize, px: Pi
     }
 }
 
-// Writes a pixel `count` times from `at` on, as far as there is room, and answers where it stopped.
+// Writes a pixel `count` times from `at` on, as far as there is room, and returns where it stopped.
 #[inline(always)]
 fn fill<const N: usize, const F: usize>(
     out: &mut [u8],
@@ -102,7 +102,7 @@ fn fill<const N: usize, const F: usize>(
 }
 
 // Puts a chunk's pixel at its index position, writes it from `at` on, once or as often as a run says
-// and as far as there is room, and answers where it stopped. Only a run takes a loop.
+// and as far as there is room, and returns where it stopped. Only a run takes a loop.
 #[inline(always)]
 pub(super) fn give<const N: usize, const F: usize>(
     seen: &mut Seen,

@@ -29,7 +29,7 @@ pub const NONE: Bad = Bad {
     end: End::Fault,
 };
 
-// What a bad call answers.
+// What a bad call returns.
 fn ended(end: End) -> io::Result<usize>
     ensures { IfOk result (λ n. n ≡ 0) }
 {

@@ -4,7 +4,7 @@ use Rattle.std.specs.Io.KnownBytes.{Consumes}
 use Rattle.qoi.specs.Verdicts.{IsPartOfChunk}
 use Rattle.std.proofs.KnownBytes.{Consumes-trans}
 use Rattle.qoi.proofs.format.PartOfChunk.{part_empty}
-use Rattle.qoi.proofs.encoding.CodingWrites.{on_err}
+use Rattle.qoi.proofs.Results.{on_err}
 use Rattle.qoi.proofs.decoding.StreamReads.{part_read_luma, part_read_rgb, part_read_rgba}
 use Rattle.qoi.proofs.decode.stream.next_chunk.Goals as goal
 

@@ -5,7 +5,7 @@ use Rattle.std.specs.Io.KnownBytes.{Consumes}
 use Rattle.std.proofs.KnownBytes.{Consumes-trans, Consumes-kept}
 use borrow.Rule.Slice.PartMut.{put_mid, post_of}
 use Rattle.qoi.specs.Qoi.{AreBytes}
-use Rattle.qoi.proofs.encoding.CodingWrites.{on_err}
+use Rattle.qoi.proofs.Results.{on_err}
 use Rattle.qoi.proofs.decoding.StreamReads.{take-read, take-before, bytes_take}
 use Rattle.qoi.proofs.decode.stream.read_all.Goals as goal
 

@@ -1,7 +1,7 @@
 -- A chunk more is taken, and at the end the buffer is full.
 use Rattle.std.proofs.Common.{length, ◌/◌}
 use Rattle.std.proofs.KnownBytes.{Consumes-trans}
-use Rattle.qoi.proofs.encoding.CodingWrites.{on_err}
+use Rattle.qoi.proofs.Results.{on_err}
 use Rattle.qoi.proofs.decoding.Progress.{goes_on, streams_pixels, stream_ends}
 use Rattle.qoi.proofs.decode.stream.stream_chunks.Goals as goal
 

@@ -5,7 +5,7 @@ use Rattle.qoi.specs.Qoi.{rgba, previous}
 use Rattle.qoi.specs.Written.{IsChoice}
 use Rattle.qoi.specs.inner.CoderState.{StateAfter}
 use Rattle.qoi.proofs.encoding.CoderTable.{state_repeats}
-use Rattle.qoi.proofs.encoding.EncodedPixels.{Task, groups_none, group_before, runs_fit, runs_part, runs_all, fresh_behind, chunk_fits, chunk_part, groups_next, pixel_ahead, none_left}
+use Rattle.qoi.proofs.encoding.CoderSteps.{Task, groups_none, group_before, runs_fit, runs_part, runs_all, fresh_behind, chunk_fits, chunk_part, groups_next, pixel_ahead, none_left}
 use Rattle.qoi.proofs.encoding.GroupRuns.{Group, group_of, split_is}
 use Rattle.qoi.proofs.encoding.WrittenExists.{chooses}
 use Rattle.qoi.proofs.encode.coder.encode_pixels.Goals as goal

@@ -1,6 +1,6 @@
 -- The coder stands between two groups.
 use Rattle.std.proofs.Common.{length}
-use Rattle.qoi.proofs.encoding.EncodedPixels.{CoderBetween}
+use Rattle.qoi.proofs.encoding.CoderSteps.{CoderBetween}
 use Rattle.qoi.proofs.encode.coder.encode_pixels.Given as goal
 
 abbrev pub invariant-loop-behind : goal.invariant-loop-behind

@@ -5,7 +5,7 @@ use Rattle.qoi.specs.Qoi.{bytes_of, text}
 use Rattle.qoi.specs.Runs.{runs}
 use Rattle.qoi.specs.writers.Writes.{WroteBut}
 use Rattle.qoi.specs.declared.chunk.Chunk.TheVariants.{Run}
-use Rattle.qoi.proofs.encoding.CodingWrites.{wrote_next, wrote_part, wrote_all, left_fits}
+use Rattle.qoi.proofs.encoding.WriterProgress.{wrote_next, wrote_part, wrote_all, left_fits}
 use Rattle.qoi.proofs.encoding.GroupRuns.{runs-none, runs-more}
 use Rattle.qoi.proofs.encode.coder.write_runs.Goals as goal
 

@@ -14,8 +14,8 @@ use Rattle.qoi.specs.Written.{IsChoice, WrittenBy}
 use Rattle.qoi.specs.writers.Writes.{WriterLaws, WroteBut, WroteSome}
 use Rattle.qoi.proofs.encoding.Choices.{Chooses}
 use Rattle.qoi.proofs.format.ChunkSteps.{previous_repeats}
-use Rattle.qoi.proofs.encoding.CodingRest.{StillToWrite, all_to_write, only_runs, runs_and_chunk, runs_next}
-use Rattle.qoi.proofs.encoding.CodingWrites.{wrote_none, wrote_next, wrote_part, wrote_all, left_fits}
+use Rattle.qoi.proofs.encoding.StillToWrite.{StillToWrite, all_to_write, only_runs, runs_and_chunk, runs_next}
+use Rattle.qoi.proofs.encoding.WriterProgress.{wrote_none, wrote_next, wrote_part, wrote_all, left_fits}
 use Rattle.qoi.proofs.decoding.FilledBuffer.{whole_pixels, pixel_room}
 use Rattle.qoi.proofs.encoding.GroupRuns.{Group}
 use Rattle.qoi.proofs.format.RawPixels.{pixels_of_are, pixels_of_have, length-pixels_of, pixels_of-next}

@@ -1,5 +1,5 @@
 -- A writer that writes the next part of what is left.
-use Rattle.std.proofs.Common.{◌≡◌, ℕ, ◌≤◌, List, [], ◌++◌, length, refl, sym, ap, ◌∙◌, subst, append_assoc, append-nil, length-append, arith, Result, Ok, Err, OnErr}
+use Rattle.std.proofs.Common.{◌≡◌, ℕ, ◌≤◌, List, [], ◌++◌, length, refl, sym, ap, ◌∙◌, subst, append_assoc, append-nil, length-append, arith}
 use Rattle.qoi.specs.writers.Writes.{WriterLaws, WroteBut, WroteSome}
 
 module _ {W : Type 0} (wrote : W → List ℕ → W → Type 0) (room : W → ℕ) (laws : WriterLaws wrote room) where
@@ -36,8 +36,3 @@ module _ {W : Type 0} (wrote : W → List ℕ → W → Type 0) (room : W → �
   left_fits start now all rest w fits =
       let counted = laws.counts start now w.front w.went in
       omega (arith, fits, ap length w.split, length-append w.front rest, counted)
-
--- what holds, holds where a result is an error
-pub on_err : {T E P : Type 0} (r : Result T E) → P → OnErr r P
-on_err (Ok x) p = tt
-on_err (Err e) p = p

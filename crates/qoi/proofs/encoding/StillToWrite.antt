@@ -8,7 +8,7 @@ use Rattle.qoi.specs.Qoi.{RgbaPixel, IsPixel, Past, previous, IsChunk}
 use Rattle.qoi.specs.Runs.{runs}
 use Rattle.qoi.specs.Written.{WrittenBy}
 use Rattle.qoi.proofs.format.ChunkSteps.{previous_repeats, reverse-replicate}
-use Rattle.qoi.proofs.encoding.Coding.{TakesRun, all_back, chunks_split, written_none, written_runs, written_fresh}
+use Rattle.qoi.proofs.encoding.WrittenGrows.{TakesRun, all_back, chunks_split, written_none, written_runs, written_fresh}
 use Rattle.qoi.proofs.encoding.Choices.{Chooses}
 use Rattle.qoi.proofs.encoding.WrittenExists.{is_pixel_start, written_on}
 use Rattle.qoi.proofs.encoding.WrittenOnce.{unique_by}
