@@ -1,5 +1,7 @@
 -- Lemmas on decoding.
+pub mod Deltas
 pub mod FilledBuffer
+pub mod FirstChunk
 pub mod ImageSize
 pub mod OneFile
 pub mod Progress

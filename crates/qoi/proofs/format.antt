@@ -4,6 +4,7 @@ pub mod ChunkSteps
 pub mod ChunksApart
 pub mod HeaderBytes
 pub mod OneVerdict
+pub mod PackedPixels
 pub mod PartOfChunk
 pub mod RawPixels
 pub mod SamePixels

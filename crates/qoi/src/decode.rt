@@ -9,6 +9,7 @@ ghost use Rattle.qoi.specs.Decoding.{ReadsHeader, RefusesFile, RefusesWholeFile,
 ghost use Rattle.qoi.specs.Encoded.{IsFileOf};
 ghost use Rattle.qoi.specs.DecoderState.{image_byte_count, DecodesImage, RefusesDecoding};
 
+mod deltas;
 mod pixels;
 mod reader;
 mod slice;

@@ -26,6 +26,7 @@ mod error;
 mod header;
 #[doc(hidden)]
 pub mod laws;
+mod packed;
 #[doc(hidden)]
 pub mod parts;
 mod pixel;

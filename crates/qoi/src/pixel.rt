@@ -3,6 +3,7 @@ ghost use Rattle.std.specs.Prelude.{◌≡◌, ◌↔◌, ◌<◌, ℕ, IsTrue, 
 ghost use Rattle.qoi.specs.Qoi.{rgba, hash, after_diff, after_luma, moved};
 ghost use Rattle.qoi.specs.Raw.{IsChannels};
 
+use crate::packed::Packed;
 use std::marker::Model;
 
 /// A pixel of `N` channels of 8 bits, 3 or 4.
@@ -197,27 +198,21 @@ impl<const N: usize> Pixel<N> {
     /// The index position of the pixel, 0 to 63, with alpha 255 where it has three channels (QOI
     /// specification 1.0, "Chunks").
     #[inline]
-    #[tactic(auto, unfolding(crate::specs::Qoi::hash))]
     pub fn hash_index(self) -> u8
         requires { IsChannels N }
         ensures position { result ≡ hash (rgba self.entry) }
         ensures within { result < 64 }
     {
-        let a = self.a_or(0xff);
-        let sum = 3 * u32::from(self.0[0])
-            + 5 * u32::from(self.0[1])
-            + 7 * u32::from(self.0[2])
-            + 11 * u32::from(a);
-        (sum % 64) as u8
+        self.packed().spread().hash_index()
     }
 
-    // The same pixel in four channels, opaque where it has three.
+    // The same pixel as one number, opaque where it has three channels.
     #[inline(always)]
-    pub(crate) fn in_four_channels(self) -> Pixel<4>
+    pub(crate) fn packed(self) -> Packed
         requires { IsChannels N }
-        ensures { rgba result ≡ rgba self.entry }
+        ensures { result ≡ rgba self.entry }
     {
-        Pixel([self.r(), self.g(), self.b(), self.a_or(0xff)])
+        Packed::new(self.r(), self.g(), self.b(), self.a_or(0xff))
     }
 
     // Whether both are the same pixel.

@@ -1,10 +1,10 @@
 //! The 64 index positions and the pixels that they hold (QOI specification 1.0, "Chunks": the running
 //! array of previously seen pixels).
 ghost use Rattle.std.specs.Prelude.{◌≡◌, ◌<◌, [], ◌∷◌};
-ghost use Rattle.qoi.specs.Qoi.{Past, rgba, hash, seen};
+ghost use Rattle.qoi.specs.Qoi.{Past, hash, seen};
 ghost use Rattle.qoi.specs.inner.Table.{Holds};
 
-use crate::pixel::Pixel;
+use crate::packed::Packed;
 use std::marker::Model;
 
 /// The pixels that the 64 index positions hold.
@@ -12,16 +12,16 @@ use std::marker::Model;
 /// A contract sees the list of the pixels.
 #[derive(Drop)]
 pub(crate) struct Table {
-    pixels: [Pixel<4>; 64],
+    pixels: [Packed; 64],
 }
 
 impl Model for Table {
-    ghost use Rattle.std.specs.Prelude.{◌≡◌, List, map, length};
-    ghost use Rattle.qoi.specs.Qoi.{RgbaPixel, rgba};
+    ghost use Rattle.std.specs.Prelude.{◌≡◌, List, length};
+    ghost use Rattle.qoi.specs.Qoi.{RgbaPixel};
 
     ghost Value = { List RgbaPixel };
 
-    ghost view = { λ t. map rgba t.pixels };
+    ghost view = { λ t. t.pixels };
 
     ghost invariant = { λ t. length t.pixels ≡ 64 };
 }
@@ -32,24 +32,24 @@ impl Table {
         ensures { Holds result [] }
     {
         Table {
-            pixels: [Pixel::new(); 64],
+            pixels: [Packed::blank(); 64],
         }
     }
 
     /// The pixel at an index position.
     #[inline(always)]
-    pub(crate) fn at(&self, place: u8) -> Pixel<4>
+    pub(crate) fn at(&self, place: u8) -> Packed
         requires { place < 64 }
-        ensures { (past : Past) → Holds self.now past → rgba result ≡ seen past place }
+        ensures { (past : Past) → Holds self.now past → result ≡ seen past place }
     {
         self.pixels[place as usize]
     }
 
     /// Puts a pixel at its index position.
     #[inline(always)]
-    pub(crate) fn put(&mut self, place: u8, px: Pixel<4>)
-        requires { place ≡ hash (rgba px) }
-        ensures { (past : Past) → Holds self.old past → Holds self.new (rgba px ∷ past) }
+    pub(crate) fn put(&mut self, place: u8, px: Packed)
+        requires { place ≡ hash px }
+        ensures { (past : Past) → Holds self.old past → Holds self.new (px ∷ past) }
     {
         self.pixels[place as usize] = px;
     }

@@ -1,6 +1,6 @@
 -- A buffer that is filled with pixels, one after the other.
 use Rattle.std.proofs.Common.{◌≡◌, ℕ, zero, suc, ◌+◌, ◌-◌, ◌*◌, ◌/◌, ◌%◌, ◌<◌, ◌≤◌, ◌⊎◌, inl, inr, List, [], ◌∷◌, ◌++◌, length, take, drop, reverse, replicate, min, arith, refl, sym, ap, ◌∙◌, subst, append-nil, append_assoc, length-append}
-use Rattle.std.proofs.lemmas.List.{length-reverse, reverse-append, take-append-le, take_at, length-take-le, length-drop, replicate-append-replicate}
+use Rattle.std.proofs.lemmas.List.{take-take, length-reverse, reverse-append, take-append-le, take_at, length-take-le, length-drop, length-replicate, reverse-reverse}
 use Rattle.std.proofs.Math.Seq.{take-length, take-append-add}
 use Rattle.std.proofs.Math.Nat.{mul-suc}
 use Rattle.std.proofs.lemmas.Bool.{cases_lt}
@@ -8,6 +8,7 @@ use Rattle.std.proofs.lemmas.Grind.{flat_map-append}
 use Rattle.qoi.specs.Qoi.{RgbaPixel, Past}
 use Rattle.qoi.specs.Raw.{IsChannels, pixel_bytes, output}
 use Rattle.qoi.specs.inner.Filling.{HasFilled}
+use Rattle.qoi.proofs.format.ChunkSteps.{repeats_after, reverse-replicate}
 
 -- there are channels
 pub channels_above : (c : ℕ) → IsChannels c → 0 < c
@@ -55,52 +56,18 @@ take-output f c (suc n) (p ∷ ps) is h =
 pub take_whole : {A : Type 0} (n : ℕ) (xs : List A) → length xs ≡ n → take n xs ≡ xs
 take_whole n xs e = rw (← e) (take-length xs)
 
--- the bytes of the pixels and of one more
-pub output-more : (f c : ℕ) (p : RgbaPixel) (past : Past) → output f c (reverse (p ∷ past)) ≡ output f c (reverse past) ++ pixel_bytes f c p
-output-more f c p past =
-    ap (output f c) (reverse-append (p ∷ []) past) ∙ flat_map-append (pixel_bytes f c) (reverse past) (p ∷ []) ∙ ap (λ z. output f c (reverse past) ++ z) (append-nil (pixel_bytes f c p))
-
--- how many of `count` copies there is room for from `at` on
-abbrev pub copies : ℕ → ℕ → ℕ → ℕ → ℕ
-copies c at len count = min count ((len - at) / c)
-
--- the copies fit, and where they aren't all of them they fill the buffer
-pub record Fits (c at len count left : ℕ) : Type 0 where
-  pub room : 0 < left → at + (copies c at len count - left) * c + c ≤ len
-  pub next : 0 < left → at + (copies c at len count - left) * c + c ≡ at + (copies c at len count - (left - 1)) * c
-  pub whole : (at + (copies c at len count - left) * c) % c ≡ 0
-  pub within : at + (copies c at len count - left) * c ≤ len
-  pub further : at < len → 0 < count → left ≡ 0 → at < at + (copies c at len count - left) * c
-  pub ends : left ≡ 0 → (count - copies c at len count ≡ 0) ⊎ (len ≤ at + (copies c at len count - left) * c)
-
--- so it is at each turn
-pub copies_fit : (c at len count left : ℕ) → IsChannels c → len % c ≡ 0 → at % c ≡ 0 → at ≤ len → left ≤ copies c at len count → Fits c at len count left
-copies_fit c at len count left (inl e) = subst (λ k. len % k ≡ 0 → at % k ≡ 0 → at ≤ len → left ≤ copies k at len count → Fits k at len count left) (sym e)
-    (λ p q h l. record { room = λ some. omega arith; next = λ some. omega arith; whole = omega arith; within = omega arith; further = λ inside some none. omega arith; ends = λ none. ending (cases_lt ((len - at) / 3) count) p q h none })
-  where
-    ending : ((len - at) / 3 < count) ⊎ (count ≤ (len - at) / 3) → len % 3 ≡ 0 → at % 3 ≡ 0 → at ≤ len → left ≡ 0 → (count - copies 3 at len count ≡ 0) ⊎ (len ≤ at + (copies 3 at len count - left) * 3)
-    ending (inl many) p q h none = inr (omega arith)
-    ending (inr few) p q h none = inl (omega arith)
-copies_fit c at len count left (inr e) = subst (λ k. len % k ≡ 0 → at % k ≡ 0 → at ≤ len → left ≤ copies k at len count → Fits k at len count left) (sym e)
-    (λ p q h l. record { room = λ some. omega arith; next = λ some. omega arith; whole = omega arith; within = omega arith; further = λ inside some none. omega arith; ends = λ none. ending (cases_lt ((len - at) / 4) count) p q h none })
-  where
-    ending : ((len - at) / 4 < count) ⊎ (count ≤ (len - at) / 4) → len % 4 ≡ 0 → at % 4 ≡ 0 → at ≤ len → left ≡ 0 → (count - copies 4 at len count ≡ 0) ⊎ (len ≤ at + (copies 4 at len count - left) * 4)
-    ending (inl many) p q h none = inr (omega arith)
-    ending (inr few) p q h none = inl (omega arith)
-
 -- where there is room, the place is after the pixels so far
-pub record Counts (c n l at len : ℕ) : Type 0 where
+pub record Counts (c n l k at len : ℕ) : Type 0 where
   pub below : l < n
   pub now : at ≡ c * l
-  pub next : at + c ≡ c * min n (suc l)
-  pub room : at + c ≤ len
+  pub next : at + c * k ≡ c * min n (k + l)
 
--- where the buffer stands and how many pixels came count alike
-pub counts : (c n l at len : ℕ) → IsChannels c → len ≡ c * n → at ≡ c * min n l → at < len → Counts c n l at len
-counts c n l at len (inl e) = subst (λ k. len ≡ k * n → at ≡ k * min n l → at < len → Counts k n l at len) (sym e)
-    (λ p q h. record { below = omega arith; now = omega arith; next = omega arith; room = omega arith })
-counts c n l at len (inr e) = subst (λ k. len ≡ k * n → at ≡ k * min n l → at < len → Counts k n l at len) (sym e)
-    (λ p q h. record { below = omega arith; now = omega arith; next = omega arith; room = omega arith })
+-- where the buffer stands and how many pixels came count alike, also after k more that fit
+pub counts : (c n l k at len : ℕ) → IsChannels c → len ≡ c * n → at ≡ c * min n l → at < len → at + c * k ≤ len → Counts c n l k at len
+counts c n l k at len (inl e) = subst (λ m. len ≡ m * n → at ≡ m * min n l → at < len → at + m * k ≤ len → Counts m n l k at len) (sym e)
+    (λ p q h r. record { below = omega arith; now = omega arith; next = omega arith })
+counts c n l k at len (inr e) = subst (λ m. len ≡ m * n → at ≡ m * min n l → at < len → at + m * k ≤ len → Counts m n l k at len) (sym e)
+    (λ p q h r. record { below = omega arith; now = omega arith; next = omega arith })
 
 -- where there is none, the pixels so far are enough
 pub full_counts : (c n l at len : ℕ) → IsChannels c → len ≡ c * n → at ≡ c * min n l → len ≤ at → (n ≤ l) × (at ≡ len)
@@ -109,24 +76,39 @@ full_counts c n l at len (inl e) = subst (λ k. len ≡ k * n → at ≡ k * min
 full_counts c n l at len (inr e) = subst (λ k. len ≡ k * n → at ≡ k * min n l → len ≤ at → (n ≤ l) × (at ≡ len)) (sym e)
     (λ p q h. (omega arith, omega arith))
 
--- a pixel written at the place after the others
-pub filled_more : (f c n : ℕ) (out : List ℕ) (at : ℕ) (past : Past) (p : RgbaPixel) → IsChannels c → HasFilled f c n out at past → at < length out
-    → HasFilled f c n (take at out ++ (pixel_bytes f c p ++ drop (at + c) out)) (at + c) (p ∷ past)
-filled_more f c n out at past p is h inside =
-    let place = counts c n (length past) at (length out) is h.room h.at_is inside in
-    let bytes = pixel_bytes f c p in
+-- the bytes of pixels and of those before them
+output-append : (f c : ℕ) (more past : Past) → output f c (reverse (more ++ past)) ≡ output f c (reverse past) ++ output f c (reverse more)
+output-append f c more past = ap (output f c) (reverse-append more past) ∙ flat_map-append (pixel_bytes f c) (reverse past) (reverse more)
+
+-- pixels written at the place after the others
+filled_list : (f c n : ℕ) (out : List ℕ) (at : ℕ) (past : Past) (ps : List RgbaPixel) → IsChannels c → HasFilled f c n out at past → at < length out → at + c * length ps ≤ length out
+    → HasFilled f c n (take at out ++ (output f c ps ++ drop (at + c * length ps) out)) (at + c * length ps) (reverse ps ++ past)
+filled_list f c n out at past ps is h inside fits =
+    let place = counts c n (length past) (length ps) at (length out) is h.room h.at_is inside fits in
+    let bytes = output f c ps in
     let so_far = output f c (reverse past) in
-    let one = length-pixel_bytes f c p is in
+    let end = at + c * length ps in
+    let some : length bytes ≡ c * length ps = length-output f c ps is in
     let many : length so_far ≡ at = length-output f c (reverse past) is ∙ ap (λ k. c * k) (length-reverse past) ∙ sym place.now in
     let front : length (take at out) ≡ at = length-take-le at out (omega arith) in
-    let both : length (take at out ++ bytes) ≡ at + c = omega (arith, length-append (take at out) bytes) in
-    let all : length (so_far ++ bytes) ≡ at + c = omega (arith, length-append so_far bytes) in
+    let both : length (take at out ++ bytes) ≡ end = omega (arith, length-append (take at out) bytes) in
+    let all : length (so_far ++ bytes) ≡ end = omega (arith, length-append so_far bytes) in
     record {
-      room = omega (arith, h.room, length-append (take at out) (bytes ++ drop (at + c) out), length-append bytes (drop (at + c) out), length-drop (at + c) out, place.room);
-      at_is = place.next;
-      same = ap (take (at + c)) (sym (append_assoc (take at out) bytes (drop (at + c) out))) ∙ take_at (take at out ++ bytes) (drop (at + c) out) (at + c) both
-          ∙ ap (λ z. z ++ bytes) (h.same ∙ take_whole at so_far many) ∙ sym (ap (take (at + c)) (output-more f c p past) ∙ take_whole (at + c) (so_far ++ bytes) all);
+      room = omega (arith, h.room, length-append (take at out) (bytes ++ drop end out), length-append bytes (drop end out), length-drop end out, fits);
+      at_is = place.next ∙ ap (λ k. c * min n k) (sym (length-append (reverse ps) past ∙ ap (λ k. k + length past) (length-reverse ps)));
+      same = ap (take end) (sym (append_assoc (take at out) bytes (drop end out))) ∙ take_at (take at out ++ bytes) (drop end out) end both
+          ∙ ap (λ z. z ++ bytes) (h.same ∙ take_whole at so_far many)
+          ∙ sym (ap (take end) (output-append f c (reverse ps) past ∙ ap (λ z. so_far ++ output f c z) (reverse-reverse ps)) ∙ take_whole end (so_far ++ bytes) all);
     }
+
+-- a pixel written so
+pub filled_more : (f c n : ℕ) (out new : List ℕ) (at : ℕ) (past : Past) (p : RgbaPixel) → IsChannels c → at < length out → at + c ≤ length out → new ≡ take at out ++ (pixel_bytes f c p ++ drop (at + c) out)
+    → HasFilled f c n out at past → HasFilled f c n new (at + c) (p ∷ past)
+filled_more f c n out new at past p is inside fits e h =
+    let one : c * 1 ≡ c = omega arith in
+    let bytes : output f c (p ∷ []) ≡ pixel_bytes f c p = append-nil (pixel_bytes f c p) in
+    let listed = filled_list f c n out at past (p ∷ []) is h inside (rw one fits) in
+    rw e (rw (one, bytes) at listed)
 
 -- where the buffer is full, further pixels change nothing
 pub filled_full : (f c n : ℕ) (out : List ℕ) (at : ℕ) (past more : Past) → IsChannels c → HasFilled f c n out at past → length out ≤ at → HasFilled f c n out at (more ++ past)
@@ -141,31 +123,78 @@ filled_full f c n out at past more is h full =
           (long_enough c n (length past) at (length out) (length (output f c (reverse past))) is h.room h.at_is full (length-output f c (reverse past) is ∙ ap (λ k. c * k) (length-reverse past))));
     }
   where
-    output-append : (f c : ℕ) (more past : Past) → output f c (reverse (more ++ past)) ≡ output f c (reverse past) ++ output f c (reverse more)
-    output-append f c more past = ap (output f c) (reverse-append more past) ∙ flat_map-append (pixel_bytes f c) (reverse past) (reverse more)
-
     long_enough : (c n l at len size : ℕ) → IsChannels c → len ≡ c * n → at ≡ c * min n l → len ≤ at → size ≡ c * l → at ≤ size
     long_enough c n l at len size (inl e) = subst (λ k. len ≡ k * n → at ≡ k * min n l → len ≤ at → size ≡ k * l → at ≤ size) (sym e) (λ p q h s. omega arith)
     long_enough c n l at len size (inr e) = subst (λ k. len ≡ k * n → at ≡ k * min n l → len ≤ at → size ≡ k * l → at ≤ size) (sym e) (λ p q h s. omega arith)
 
--- one more copy of a pixel
-pub filled_copy : (f c n : ℕ) (out new : List ℕ) (at left count : ℕ) (p : RgbaPixel) (past : Past) → IsChannels c → 0 < left → left ≤ count → at < length out
-    → new ≡ take at out ++ (pixel_bytes f c p ++ drop (at + c) out) → HasFilled f c n out at (replicate (count - left) p ++ past)
-    → HasFilled f c n new (at + c) (replicate (count - (left - 1)) p ++ past)
-filled_copy f c n out new at left count p past is some le inside e h =
-    let one : count - (left - 1) ≡ suc (count - left) = omega arith in
-    rw (e, one) (filled_more f c n out at (replicate (count - left) p ++ past) p is h inside)
+-- where the room is for all of them, it is for k pixels after some
+pub room_after : (c at done k all len : ℕ) → IsChannels c → done + k ≤ all → at + c * all ≤ len → (at + c * done + c * k ≤ len) × (0 < k → at + c * done < len)
+room_after c at done k all len (inl e) = subst (λ d. done + k ≤ all → at + d * all ≤ len → (at + d * done + d * k ≤ len) × (0 < k → at + d * done < len)) (sym e) (λ p q. (omega arith, λ r. omega arith))
+room_after c at done k all len (inr e) = subst (λ d. done + k ≤ all → at + d * all ≤ len → (at + d * done + d * k ≤ len) × (0 < k → at + d * done < len)) (sym e) (λ p q. (omega arith, λ r. omega arith))
 
--- after some of `count` copies, the rest of them changes nothing where the buffer is full
-pub filled_end : (f c n : ℕ) (out : List ℕ) (at left count : ℕ) (p : RgbaPixel) (past : Past) → IsChannels c → left ≤ count → (left ≡ 0) ⊎ (length out ≤ at)
-    → HasFilled f c n out at (replicate (count - left) p ++ past) → HasFilled f c n out at (replicate count p ++ past)
-filled_end f c n out at left count p past is le (inl e) h =
-    let same : count - left ≡ count = omega arith in rw (← same) h
-filled_end f c n out at left count p past is le (inr full) h =
-    let sum : left + (count - left) ≡ count = omega arith in
-    let joined : replicate left p ++ (replicate (count - left) p ++ past) ≡ replicate count p ++ past =
-    sym (append_assoc (replicate left p) (replicate (count - left) p) past) ∙ ap (λ z. z ++ past) (replicate-append-replicate left (count - left) p ∙ ap (λ k. replicate k p) sum) in
-    subst (λ z. HasFilled f c n out at z) joined (filled_full f c n out at (replicate (count - left) p ++ past) (replicate left p) is h full)
+-- the place after some pixels and then more of them
+pub after_both : (c at m k : ℕ) → IsChannels c → at + c * m + c * k ≡ at + c * (m + k)
+after_both c at m k (inl e) = subst (λ d. at + d * m + d * k ≡ at + d * (m + k)) (sym e) (omega arith)
+after_both c at m k (inr e) = subst (λ d. at + d * m + d * k ≡ at + d * (m + k)) (sym e) (omega arith)
+
+-- a pixel written alone is a copy of it
+pub one_copy : (f c : ℕ) (out new : List ℕ) (at : ℕ) (p : RgbaPixel) → new ≡ take at out ++ (pixel_bytes f c p ++ drop (at + c) out) → new ≡ take at out ++ (output f c (replicate 1 p) ++ drop (at + c * 1) out)
+one_copy f c out new at p e =
+    let one : c * 1 ≡ c = omega arith in
+    let bytes : output f c (replicate 1 p) ≡ pixel_bytes f c p = append-nil (pixel_bytes f c p) in
+    rw (one, bytes) e
+
+-- k more copies of a pixel
+pub filled_copies : (f c n k : ℕ) (out new : List ℕ) (at done : ℕ) (p : RgbaPixel) (past : Past) → IsChannels c → at + c * done < length out → at + c * done + c * k ≤ length out
+    → new ≡ take (at + c * done) out ++ (output f c (replicate k p) ++ drop (at + c * done + c * k) out)
+    → HasFilled f c n out (at + c * done) (replicate done p ++ past) → HasFilled f c n new (at + c * (done + k)) (replicate (done + k) p ++ past)
+filled_copies f c n k out new at done p past is inside fits e h =
+    let size : length (replicate k p) ≡ k = length-replicate k p in
+    let listed = filled_list f c n out (at + c * done) (replicate done p ++ past) (replicate k p) is h inside (rw size fits) in
+    let copies = repeats_after k done p past ∙ ap (λ m. replicate m p ++ past) (plus_comm k done) in
+    let copied = rw (size, reverse-replicate k p, copies) at listed in
+    rw e (subst (λ m. HasFilled f c n (take (at + c * done) out ++ (output f c (replicate k p) ++ drop (at + c * done + c * k) out)) m (replicate (done + k) p ++ past)) (after_both c at done k is) copied)
+  where
+    plus_comm : (a b : ℕ) → a + b ≡ b + a
+    plus_comm a b = omega arith
+
+-- fewer of the copies are written too
+pub filled_fewer : (f c n : ℕ) (old out : List ℕ) (at done count : ℕ) (p : RgbaPixel) (past : Past) → IsChannels c → count ≤ done → length out ≡ length old → at + c * count ≤ length old → HasFilled f c n old at past
+    → HasFilled f c n out (at + c * done) (replicate done p ++ past) → HasFilled f c n out (at + c * count) (replicate count p ++ past)
+filled_fewer f c n old out at done count p past is le size fits start h =
+    let few = replicate count p ++ past in
+    let end = at + c * count in
+    let many : length few ≡ count + length past = length-append (replicate count p) past ∙ ap (λ k. k + length past) (length-replicate count p) in
+    let place = ends c n (length past) count done at (length old) is le start.room start.at_is fits in
+    let sum : done - count + count ≡ done = omega arith in
+    let parts : replicate done p ++ past ≡ replicate (done - count) p ++ few = sym (repeats_after (done - count) count p past ∙ ap (λ k. replicate k p ++ past) sum) in
+    let within : end ≤ length (output f c (reverse few)) = omega (arith, place.1, ap (λ k. c * k) many, length-output f c (reverse few) is, ap (λ k. c * k) (length-reverse few)) in
+    record {
+      room = h.room;
+      at_is = place.0 ∙ ap (λ k. c * min n k) (sym many);
+      same = sym (take-take end (at + c * done) out place.2) ∙ ap (take end) h.same ∙ take-take end (at + c * done) (output f c (reverse (replicate done p ++ past))) place.2
+          ∙ ap (λ q. take end (output f c (reverse q))) parts ∙ ap (take end) (output-append f c (replicate (done - count) p) few)
+          ∙ take-append-le end (output f c (reverse few)) (output f c (reverse (replicate (done - count) p))) within;
+    }
+  where
+    ends : (c n l count done at len : ℕ) → IsChannels c → count ≤ done → len ≡ c * n → at ≡ c * min n l → at + c * count ≤ len
+        → (at + c * count ≡ c * min n (count + l)) × (at + c * count ≤ c * (count + l)) × (at + c * count ≤ at + c * done)
+    ends c n l count done at len (inl e) = subst (λ k. count ≤ done → len ≡ k * n → at ≡ k * min n l → at + k * count ≤ len → (at + k * count ≡ k * min n (count + l)) × (at + k * count ≤ k * (count + l)) × (at + k * count ≤ at + k * done)) (sym e)
+        (λ d p q r. (omega arith, omega arith, omega arith))
+    ends c n l count done at len (inr e) = subst (λ k. count ≤ done → len ≡ k * n → at ≡ k * min n l → at + k * count ≤ len → (at + k * count ≡ k * min n (count + l)) × (at + k * count ≤ k * (count + l)) × (at + k * count ≤ at + k * done)) (sym e)
+        (λ d p q r. (omega arith, omega arith, omega arith))
+
+-- the copies that there is room for are all, or they end where the buffer does
+pub copies_end : (c at count len : ℕ) → IsChannels c → len % c ≡ 0 → at % c ≡ 0 → at ≤ len → (min count ((len - at) / c) ≡ count) ⊎ (len ≤ at + c * min count ((len - at) / c))
+copies_end c at count len (inl e) = subst (λ k. len % k ≡ 0 → at % k ≡ 0 → at ≤ len → (min count ((len - at) / k) ≡ count) ⊎ (len ≤ at + k * min count ((len - at) / k))) (sym e) (λ p q l. elim (cases_lt ((len - at) / 3) count) [ inl few ↦ inr (omega arith) | inr all ↦ inl (omega arith) ])
+copies_end c at count len (inr e) = subst (λ k. len % k ≡ 0 → at % k ≡ 0 → at ≤ len → (min count ((len - at) / k) ≡ count) ⊎ (len ≤ at + k * min count ((len - at) / k))) (sym e) (λ p q l. elim (cases_lt ((len - at) / 4) count) [ inl few ↦ inr (omega arith) | inr all ↦ inl (omega arith) ])
+
+-- after those of `count` copies that there is room for, the others change nothing
+pub filled_end : (f c n : ℕ) (out : List ℕ) (at all count : ℕ) (p : RgbaPixel) (past : Past) → IsChannels c → all ≤ count → (all ≡ count) ⊎ (length out ≤ at) → HasFilled f c n out at (replicate all p ++ past) → HasFilled f c n out at (replicate count p ++ past)
+filled_end f c n out at all count p past is le (inl e) h = subst (λ k. HasFilled f c n out at (replicate k p ++ past)) e h
+filled_end f c n out at all count p past is le (inr full) h =
+    let sum : count - all + all ≡ count = omega arith in
+    subst (λ z. HasFilled f c n out at z) (repeats_after (count - all) all p past ∙ ap (λ k. replicate k p ++ past) sum) (filled_full f c n out at (replicate all p ++ past) (replicate (count - all) p) is h full)
 
 -- where the buffer is full it has the bytes of the first n pixels
 pub filled_all : (f c n : ℕ) (out : List ℕ) (at : ℕ) (past : Past) → IsChannels c → HasFilled f c n out at past → length out ≤ at

@@ -1,11 +1,11 @@
 -- What a decoder keeps from chunk to chunk.
-use Rattle.std.proofs.Common.{◌≡◌, inl, inr, ℕ, zero, suc, ◌<◌, Bool, true, false, List, [], ◌∷◌, ◌++◌, replicate, cond, eqb, Some, arith, refl, sym, ap, ◌∙◌}
+use Rattle.std.proofs.Common.{◌≡◌, inl, inr, ℕ, zero, suc, ◌<◌, Bool, true, false, List, ◌∷◌, ◌++◌, replicate, cond, eqb, Some, arith, refl, sym, ap, ◌∙◌}
 use Rattle.qoi.specs.declared.chunk.Chunk.{Chunk}
 use Rattle.qoi.specs.declared.chunk.Chunk.TheVariants.{Run}
-use Rattle.qoi.specs.Qoi.{RgbaPixel, Past, rgba, previous, seen, hash, start, IsChunk, times, pixel_of, then_chunk}
+use Rattle.qoi.specs.Qoi.{RgbaPixel, Past, previous, seen, hash, times}
 use Rattle.qoi.specs.inner.Filling.{HasSeen}
 use Rattle.qoi.specs.inner.Table.{Holds}
-use Rattle.qoi.proofs.format.ChunkSteps.{cases_run, times_other, times_some}
+use Rattle.qoi.proofs.format.ChunkSteps.{cases_run, times_other}
 
 -- a chunk other than a run gives one pixel
 pub times_once : (c : Chunk) → ((n : ℕ) → c ≡ Run n → ⊥) → times c ≡ 1
@@ -30,16 +30,13 @@ pub previous_copies : (n : ℕ) (p : RgbaPixel) (past : Past) → 0 < n → prev
 previous_copies zero p past h = absurd (omega arith)
 previous_copies (suc n) p past h = refl
 
--- the state after a chunk whose pixel was put at its index position
-pub seen_after : (table : List RgbaPixel) (px : List ℕ) (past : Past) (c : Chunk) → IsChunk c → rgba px ≡ pixel_of past c → Holds table (rgba px ∷ past) → HasSeen table px (then_chunk past c)
-seen_after table px past c is e held =
-    let some = times_some c is in
-    record {
-      table_is = λ i l. held i l ∙ ap Some (ap (λ p. cond (eqb (hash p) i) p (seen past i)) e ∙ sym (seen_copies (times c) (pixel_of past c) past i some));
-      last_is = e ∙ sym (previous_copies (times c) (pixel_of past c) past some);
-    }
+-- the state after a pixel that was put at its index position
+pub seen_put : (table : List RgbaPixel) (p : RgbaPixel) (past : Past) → Holds table (p ∷ past) → HasSeen table p (p ∷ past)
+seen_put table p past held = record { table_is = held; last_is = refl }
 
--- the last pixel before the first chunk
-pub start_last : (last : List ℕ) → last ≡ 0 ∷ 0 ∷ 0 ∷ 255 ∷ [] → rgba last ≡ previous []
-unfolding start
-start_last last l = rw l refl
+-- the state after a pixel, put once, is that after some copies of it
+pub seen_repeated : (table : List RgbaPixel) (p last : RgbaPixel) (past : Past) (n : ℕ) → 0 < n → HasSeen table last (p ∷ past) → HasSeen table last (replicate n p ++ past)
+seen_repeated table p last past n some h = record {
+  table_is = λ i l. h.table_is i l ∙ ap Some (sym (seen_copies n p past i some));
+  last_is = h.last_is ∙ sym (previous_copies n p past some);
+}

@@ -1,5 +1,5 @@
 -- What was read from a stream, piece after piece.
-use Rattle.std.proofs.Common.{◌≡◌, ℕ, zero, suc, ◌+◌, ◌<◌, ◌≤◌, inl, inr, List, [], ◌∷◌, ◌++◌, length, take, get_or, Option, Result, IfErr, arith, refl, sym, ap, ◌∙◌, append-nil}
+use Rattle.std.proofs.Common.{◌≡◌, ℕ, zero, suc, ◌+◌, ◌<◌, ◌≤◌, inl, inr, List, [], ◌∷◌, ◌++◌, length, take, Option, Result, IfErr, arith, refl, sym, ap, ◌∙◌, append-nil}
 use Rattle.std.proofs.lemmas.List.{take-append-le, length-take-le}
 use Rattle.std.proofs.Math.Seq.{take-append-add}
 use Rattle.std.specs.Io.KnownBytes.{Consumes}
@@ -32,29 +32,22 @@ bytes_take (suc n) [] h i = omega arith
 bytes_take (suc n) (b ∷ bytes) h zero = h 0
 bytes_take (suc n) (b ∷ bytes) h (suc i) = bytes_take n bytes (λ j. h (suc j)) i
 
--- two pieces of bytes are bytes
-pub bytes_append : (xs ys : List ℕ) → AreBytes xs → AreBytes ys → AreBytes (xs ++ ys)
-bytes_append [] ys h g i = g i
-bytes_append (x ∷ xs) ys h g zero = h 0
-bytes_append (x ∷ xs) ys h g (suc i) = bytes_append xs ys (λ j. h (suc j)) g i
+-- a byte and more bytes are bytes
+byte_and : (b : ℕ) (more : List ℕ) → b < 256 → AreBytes more → AreBytes (b ∷ more)
+byte_and b more fits h zero = fits
+byte_and b more fits h (suc i) = h i
 
--- a first byte and some of those that it wants are part of a chunk
-pub part_read_luma : (first more : List ℕ) → length first ≡ 1 → AreBytes first → AreBytes more → 128 ≤ get_or first 0 0 → get_or first 0 0 < 192 → length more < 1 → IsPartOfChunk (first ++ more)
-part_read_luma [] more size h g low high few = absurd (omega arith)
-part_read_luma (b ∷ []) more size h g low high few = part_luma (b ∷ more) (bytes_append (b ∷ []) more h g) (omega arith) low high
-part_read_luma (b ∷ c ∷ first) more size h g low high few = absurd (omega arith)
+-- the first byte of a luma is a part of it
+pub part_read_luma : (b : ℕ) → b < 256 → 128 ≤ b → b < 192 → IsPartOfChunk (b ∷ [])
+part_read_luma b fits low high = part_luma (b ∷ []) (byte_and b [] fits (λ i. omega arith)) (omega arith) low high
 
 -- the first byte of RGB and fewer than three more are a part of it
-pub part_read_rgb : (first more : List ℕ) → length first ≡ 1 → AreBytes first → AreBytes more → get_or first 0 0 ≡ 254 → length more < 3 → IsPartOfChunk (first ++ more)
-part_read_rgb [] more size h g is few = absurd (omega arith)
-part_read_rgb (b ∷ []) more size h g is few = part_rgb (b ∷ more) (bytes_append (b ∷ []) more h g) (omega arith) is
-part_read_rgb (b ∷ c ∷ first) more size h g is few = absurd (omega arith)
+pub part_read_rgb : (b : ℕ) (more : List ℕ) → b < 256 → AreBytes more → b ≡ 254 → length more < 3 → IsPartOfChunk (b ∷ more)
+part_read_rgb b more fits h is few = part_rgb (b ∷ more) (byte_and b more fits h) (omega arith) is
 
 -- the first byte of RGBA and fewer than four more are a part of it
-pub part_read_rgba : (first more : List ℕ) → length first ≡ 1 → AreBytes first → AreBytes more → get_or first 0 0 ≡ 255 → length more < 4 → IsPartOfChunk (first ++ more)
-part_read_rgba [] more size h g is few = absurd (omega arith)
-part_read_rgba (b ∷ []) more size h g is few = part_rgba (b ∷ more) (bytes_append (b ∷ []) more h g) (omega arith) is
-part_read_rgba (b ∷ c ∷ first) more size h g is few = absurd (omega arith)
+pub part_read_rgba : (b : ℕ) (more : List ℕ) → b < 256 → AreBytes more → b ≡ 255 → length more < 4 → IsPartOfChunk (b ∷ more)
+part_read_rgba b more fits h is few = part_rgba (b ∷ more) (byte_and b more fits h) (omega arith) is
 
 -- bytes that end within a chunk are cut
 pub cut_in_chunk : (n : ℕ) (taken : List ℕ) → EndsInChunk n taken → HasCut n taken

@@ -1,13 +1,13 @@
 -- How a written list grows at its end: by the runs of a group of repeats, and by a fresh pixel's chunk.
 use Rattle.std.proofs.Common.{◌≡◌, ◌≢◌, ℕ, zero, suc, ◌+◌, ◌*◌, ◌/◌, ◌%◌, ◌<◌, false, List, [], ◌∷◌, ◌++◌, reverse, replicate, refl, sym, ap, ◌∙◌, subst, subst₂, arith, append_assoc, append-nil}
-use Rattle.std.proofs.lemmas.List.{reverse-append, reverse-reverse, replicate-append-replicate}
+use Rattle.std.proofs.lemmas.List.{reverse-append, reverse-reverse}
 use Rattle.std.specs.List.{AllByRecursion}
 use Rattle.qoi.specs.declared.chunk.Chunk.{Chunk}
 use Rattle.qoi.specs.declared.chunk.Chunk.TheVariants.{Place, Diff, Luma, Run, Rgb, Rgba}
 use Rattle.qoi.specs.Qoi.{RgbaPixel, Past, previous, IsChunk, AreChunks, pixel_of, then_chunks, Each}
 use Rattle.qoi.specs.Runs.{last_run, runs}
 use Rattle.qoi.specs.Written.{IsRightAfter, IsFull, RunsAreFull, WrittenBy}
-use Rattle.qoi.proofs.format.ChunkSteps.{previous_repeats, is_run, right_from, full_other, full_before, then_other, then_chunks-append, each_append}
+use Rattle.qoi.proofs.format.ChunkSteps.{previous_repeats, repeats_after, is_run, right_from, full_other, full_before, then_other, then_chunks-append, each_append}
 
 -- what holds of each of two lists holds of each of both
 pub all_append : {A : Type 0} (P : A → Type 0) (xs ys : List A) → AllByRecursion P xs → AllByRecursion P ys → AllByRecursion P (xs ++ ys)
@@ -78,10 +78,6 @@ chunks_split a b d c = append_assoc (a ++ b) (c ∷ []) d ∙ append_assoc a b (
 -- a run of any length may follow the list
 abbrev pub TakesRun : List Chunk → Type 0
 TakesRun cs = (n : ℕ) → RunsAreFull (cs ++ Run n ∷ [])
-
--- so many of one and then more of it are as many together
-repeats_after : (m n : ℕ) (q : RgbaPixel) (past : Past) → replicate m q ++ (replicate n q ++ past) ≡ replicate (m + n) q ++ past
-repeats_after m n q past = sym (append_assoc (replicate m q) (replicate n q) past) ∙ ap (λ x. x ++ past) (replicate-append-replicate m n q)
 
 module _ (Choice : Past → RgbaPixel → Chunk → Type 0) where
   -- nothing is written for no pixel

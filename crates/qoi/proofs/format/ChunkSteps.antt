@@ -1,5 +1,5 @@
 -- Steps through a chunk list: runs and other chunks, the pixels in order, and lists joined end to end.
-use Rattle.std.proofs.Common.{◌≡◌, ◌⊎◌, inl, inr, ℕ, zero, suc, ◌+◌, ◌<◌, Bool, true, false, List, [], ◌∷◌, ◌++◌, length, reverse, replicate, refl, ap, ◌∙◌, arith, append_assoc, append-nil}
+use Rattle.std.proofs.Common.{◌≡◌, ◌⊎◌, inl, inr, ℕ, zero, suc, ◌+◌, ◌<◌, Bool, true, false, List, [], ◌∷◌, ◌++◌, length, reverse, replicate, refl, sym, ap, ◌∙◌, arith, append_assoc, append-nil}
 use Rattle.std.proofs.lemmas.List.{reverse-reverse, reverse-append, length-append, length-reverse, replicate-append-replicate}
 use Rattle.std.proofs.lemmas.Bool.{true≢false}
 use Rattle.qoi.specs.declared.chunk.Chunk.{Chunk}
@@ -132,3 +132,7 @@ each_append P past (c ∷ cs) ds h k = (h.0, each_append P (then_chunk past c) c
 pub each_back : (P : Past → Chunk → Type 0) (past : Past) (cs ds : List Chunk) → Each P past (cs ++ ds) → Each P (then_chunks past cs) ds
 each_back P past [] ds h = h
 each_back P past (c ∷ cs) ds h = each_back P (then_chunk past c) cs ds h.1
+
+-- so many of one and then more of it are as many together
+pub repeats_after : (m n : ℕ) (q : RgbaPixel) (past : Past) → replicate m q ++ (replicate n q ++ past) ≡ replicate (m + n) q ++ past
+repeats_after m n q past = sym (append_assoc (replicate m q) (replicate n q) past) ∙ ap (λ x. x ++ past) (replicate-append-replicate m n q)

@@ -1,77 +1,169 @@
 //! What both loops put into the output: the pixels of chunks.
-ghost use Rattle.std.specs.Prelude.{◌≡◌, ℕ, ◌+◌, ◌%◌, ◌<◌, ◌≤◌, [], ◌++◌, length, take, drop, replicate};
-ghost use Rattle.qoi.specs.Qoi.{Past, rgba, IsChunk, times, pixel_of, then_chunk};
-ghost use Rattle.qoi.specs.Raw.{IsChannels, pixel_bytes};
-ghost use Rattle.qoi.specs.inner.Filling.{HasFilled, HasSeen};
+ghost use Rattle.std.specs.Prelude.{◌≡◌, ℕ, ◌+◌, ◌*◌, ◌%◌, ◌<◌, ◌≤◌, [], ◌∷◌, ◌++◌, length, take, drop, replicate, nat_le, nat_lt, ◌&&◌, if◌then◌else◌};
+ghost use Rattle.qoi.specs.Qoi.{Past, IsChunk, times, seen, previous, after_diff, after_luma, pixel_of};
+ghost use Rattle.qoi.specs.Raw.{IsChannels, pixel_bytes, output};
+ghost use Rattle.qoi.specs.inner.Filling.{HasFilled, HasSeen, Gives};
 
 use crate::chunk::Chunk;
-use crate::pixel::Pixel;
+use crate::consts::QOI_OP_DIFF;
+use crate::decode::deltas::{delta, nibbles};
+use crate::packed::{Packed, Spread};
 use crate::table::Table;
 
 // What chunks can name: the pixels that were put at the 64 index positions, and the last pixel.
 #[derive(Drop)]
 pub(super) struct Seen {
     table: Table,
-    last: Pixel<4>,
+    last: Spread,
 }
 
 impl Seen {
     // Before the first chunk: transparent black at each index position, and opaque black.
-    #[tactic(auto, unfolding(crate::specs::Qoi::start))]
     pub(super) fn new() -> Seen
         ensures { HasSeen result.table result.last [] }
     {
         Seen {
             table: Table::new(),
-            last: Pixel::new().with_a(0xff),
+            last: Spread::start(),
         }
+    }
+
+    // The last pixel.
+    #[inline(always)]
+    pub(super) fn last(&self) -> Spread
+        ensures { result ≡ self.now.last }
+    {
+        self.last
+    }
+
+    // The pixel of a chunk that is an index position, a difference, a luma or a run of 1, by its first
+    // byte and the one after it, which only a luma has. All of them are found without a jump.
+    #[inline(always)]
+    pub(super) fn short_pixel(&self, b1: u8, b2: u8) -> Spread
+        requires { b1 ≤ 192 }
+        ensures place { b1 < 64 → (past : Past) → HasSeen self.now.table self.now.last past
+            → result ≡ seen past b1 }
+        ensures diff { 64 ≤ b1 → b1 < 128 → result ≡ after_diff self.now.last b1 }
+        ensures luma { 128 ≤ b1 → b1 < 192 → result ≡ after_luma self.now.last b1 b2 }
+        ensures run { b1 ≡ 192 → result ≡ self.now.last }
+    {
+        let more = pick(is_luma(b1), nibbles(b2), 0);
+        let moved = self.last.moved(delta(b1) + more);
+        let noted = self.table.at(b1 % 64).spread();
+        pick(b1 < QOI_OP_DIFF, noted, moved)
     }
 
     // The pixel that a chunk gives.
     #[inline(always)]
-    fn pixel_of(&self, chunk: Chunk) -> Pixel<4>
+    fn pixel_of(&self, chunk: Chunk) -> Spread
         requires chunk { IsChunk chunk }
         ensures { (past : Past) → HasSeen self.now.table self.now.last past
-            → rgba result ≡ pixel_of past chunk }
+            → result ≡ pixel_of past chunk }
     {
-        let mut px = self.last;
         match chunk {
-            Chunk::Place(i) => px = self.table.at(i),
-            Chunk::Diff(b1) => px.update_diff(b1),
-            Chunk::Luma(b1, b2) => px.update_luma(b1, b2),
-            Chunk::Run(_) => {}
-            Chunk::Rgb(r, g, b) => px.update_rgb(r, g, b),
-            Chunk::Rgba(r, g, b, a) => px.update_rgba(r, g, b, a),
+            Chunk::Place(i) => self.table.at(i).spread(),
+            Chunk::Diff(b1) => self.short_pixel(b1, 0),
+            Chunk::Luma(b1, b2) => self.short_pixel(b1, b2),
+            Chunk::Run(_) => self.last,
+            Chunk::Rgb(r, g, b) => self.last.with_rgb(r, g, b),
+            Chunk::Rgba(r, g, b, a) => Spread::new(r, g, b, a),
         }
-        px
     }
 
-    // Makes the chunk's pixel the last one, and puts it at its index position.
+    // Makes a pixel the last one, and puts it at its index position.
     #[inline(always)]
-    fn put(&mut self, chunk: Chunk)
-        requires chunk { IsChunk chunk }
-        ensures { (past : Past) → HasSeen self.old.table self.old.last past
-            → HasSeen self.new.table self.new.last (then_chunk past chunk) }
+    fn put(&mut self, px: Spread)
+        ensures last { self.new.last ≡ px }
+        ensures seen { (past : Past) → HasSeen self.old.table self.old.last past
+            → HasSeen self.new.table self.new.last (px ∷ past) }
     {
-        let px = self.pixel_of(chunk);
-        self.table.put(px.hash_index(), px);
+        self.table.put(px.hash_index(), px.packed());
         self.last = px;
     }
 }
 
+// Whether a chunk with this first byte is a luma.
+#[inline(always)]
+pub(super) fn is_luma(b1: u8) -> bool
+    ensures { result ≡ (nat_le 128 b1 && nat_lt b1 192) }
+{
+    b1 / 64 == 2
+}
+
+// The first value or the other one. As both are at hand, no jump is needed.
+#[inline(always)]
+fn pick<T: Copy>(first: bool, one: T, other: T) -> T
+    ensures { result ≡ if first then one else other }
+{
+    if first { one } else { other }
+}
+
 // Writes a pixel at `at` in `N` channels, of a file of `F` channels.
 #[inline(always)]
-fn write_pixel<const N: usize, const F: usize>(out: &mut [u8], at: usize, px: Pixel<4>)
+fn write_pixel<const N: usize, const F: usize>(out: &mut [u8], at: usize, px: Packed)
     requires channels { IsChannels N }
     requires room { at + N ≤ length out.old }
-    ensures { out.new ≡ take at out.old ++ (pixel_bytes F N (rgba px) ++ drop (at + N) out.old) }
+    ensures { out.new ≡ take at out.old ++ (pixel_bytes F N px ++ drop (at + N) out.old) }
 {
     let (r, g, b) = (px.r(), px.g(), px.b());
     if N == 3 {
         out[at..at + 3].copy_from_slice(&[r, g, b]);
     } else {
-        let a = if F == 4 { px.a_or(0xff) } else { 0xff };
+        let a = if F == 4 { px.a() } else { 0xff };
         out[at..at + 4].copy_from_slice(&[r, g, b, a]);
+    }
+}
+
+// Writes a pixel eight times from `at` on.
+#[inline(always)]
+fn write_block<const N: usize, const F: usize>(out: &mut [u8], at: usize, px: Packed)
+    requires channels { IsChannels N }
+    requires room { at + N * 8 ≤ length out.old }
+    ensures { out.new ≡ take at out.old
+        ++ (output F N (replicate 8 px) ++ drop (at + N * 8) out.old) }
+{
+    let (r, g, b) = (px.r(), px.g(), px.b());
+    if N == 3 {
+        out[at..at + 24].copy_from_slice(&[
+            r, g, b, r, g, b, r, g, b, r, g, b, r, g, b, r, g, b, r, g, b, r, g, b,
+        ]);
+    } else {
+        let a = if F == 4 { px.a() } else { 0xff };
+        out[at..at + 32].copy_from_slice(&[
+            r, g, b, a, r, g, b, a, r, g, b, a, r, g, b, a, r, g, b, a, r, g, b, a, r, g, b, a, r,
+            g, b, a,
+        ]);
+    }
+}
+
+// Writes a pixel `count` times from `at` on, by blocks of eight; what the last block writes past them
+// is written again later.
+#[inline(always)]
+fn fill_blocks<const N: usize, const F: usize>(out: &mut [u8], at: usize, px: Packed, count: usize)
+    requires channels { IsChannels N }
+    requires room { at + N * (count + 7) ≤ length out.old }
+    ensures { (n : ℕ) (past : Past) → HasFilled F N n out.old at past
+        → HasFilled F N n out.new (at + N * count) (replicate count px ++ past) }
+{
+    let mut done = 0;
+    while done < count {
+        write_block::<N, F>(out, at + N * done, px);
+        done += 8;
+    }
+}
+
+// Writes a pixel `count` times from `at` on, one by one.
+#[inline(always)]
+fn fill_pixels<const N: usize, const F: usize>(out: &mut [u8], at: usize, px: Packed, count: usize)
+    requires channels { IsChannels N }
+    requires room { at + N * count ≤ length out.old }
+    ensures { (n : ℕ) (past : Past) → HasFilled F N n out.old at past
+        → HasFilled F N n out.new (at + N * count) (replicate count px ++ past) }
+{
+    let mut done = 0;
+    while done < count {
+        write_pixel::<N, F>(out, at + N * done, px);
+        done += 1;
     }
 }
 
@@ -79,30 +171,81 @@ fn write_pixel<const N: usize, const F: usize>(out: &mut [u8], at: usize, px: Pi
 #[inline(always)]
 fn fill<const N: usize, const F: usize>(
     out: &mut [u8],
-    mut at: usize,
-    px: Pixel<4>,
+    at: usize,
+    px: Packed,
     count: usize,
 ) -> usize
     requires channels { IsChannels N }
     requires whole { (length out.old % N ≡ 0) × (at % N ≡ 0) }
     requires within { at ≤ length out.old }
     ensures filled { (n : ℕ) (past : Past) → HasFilled F N n out.old at past
-        → HasFilled F N n out.new result (replicate count (rgba px) ++ past) }
+        → HasFilled F N n out.new result (replicate count px ++ past) }
     ensures whole { result % N ≡ 0 }
     ensures within { (at ≤ result) × (result ≤ length out.new) }
     ensures further { at < length out.old → 0 < count → at < result }
 {
-    let mut left = count.min((out.len() - at) / N);
-    while left > 0 {
-        write_pixel::<N, F>(out, at, px);
-        at += N;
-        left -= 1;
+    let room = (out.len() - at) / N;
+    let all = count.min(room);
+    if room - all < 7 {
+        fill_pixels::<N, F>(out, at, px, all);
+    } else {
+        fill_blocks::<N, F>(out, at, px, all);
     }
-    at
+    at + N * all
 }
 
-// Puts a chunk's pixel at its index position, writes it from `at` on, once or as often as a run says
-// and as far as there is room, and returns where it stopped. Only a run takes a loop.
+// Makes a pixel the last one, puts it at its index position, writes it at `at`, and returns where it
+// stopped.
+#[inline(always)]
+pub(super) fn give_pixel<const N: usize, const F: usize>(
+    seen: &mut Seen,
+    px: Spread,
+    out: &mut [u8],
+    at: usize,
+) -> usize
+    requires channels { IsChannels N }
+    requires whole { (length out.old % N ≡ 0) × (at % N ≡ 0) }
+    requires inside { at < length out.old }
+    ensures last { seen.new.last ≡ px }
+    ensures seen { (past : Past) → HasSeen seen.old.table seen.old.last past
+        → HasSeen seen.new.table seen.new.last (px ∷ past) }
+    ensures filled { (n : ℕ) (past : Past) → HasFilled F N n out.old at past
+        → HasFilled F N n out.new result (px ∷ past) }
+    ensures whole { result % N ≡ 0 }
+    ensures within { (at < result) × (result ≤ length out.new) }
+{
+    seen.put(px);
+    write_pixel::<N, F>(out, at, px.packed());
+    at + N
+}
+
+// Gives the last pixel again, `count` times, and as far as there is room, and returns where it
+// stopped.
+#[inline(always)]
+pub(super) fn give_run<const N: usize, const F: usize>(
+    seen: &mut Seen,
+    count: usize,
+    out: &mut [u8],
+    at: usize,
+) -> usize
+    requires channels { IsChannels N }
+    requires whole { (length out.old % N ≡ 0) × (at % N ≡ 0) }
+    requires inside { at < length out.old }
+    requires some { 0 < count }
+    ensures last { seen.new.last ≡ seen.old.last }
+    ensures seen { (past : Past) → HasSeen seen.old.table seen.old.last past
+        → HasSeen seen.new.table seen.new.last (replicate count seen.old.last ++ past) }
+    ensures filled { (n : ℕ) (past : Past) → HasFilled F N n out.old at past
+        → HasFilled F N n out.new result (replicate count seen.old.last ++ past) }
+    ensures whole { result % N ≡ 0 }
+    ensures within { (at < result) × (result ≤ length out.new) }
+{
+    let px = seen.last;
+    seen.put(px);
+    fill::<N, F>(out, at, px.packed(), count)
+}
+
+// Gives the pixels of a chunk from `at` on, as far as there is room, and returns where it stopped.
 #[inline(always)]
 pub(super) fn give<const N: usize, const F: usize>(
     seen: &mut Seen,
@@ -114,18 +257,14 @@ pub(super) fn give<const N: usize, const F: usize>(
     requires chunk { IsChunk chunk }
     requires whole { (length out.old % N ≡ 0) × (at % N ≡ 0) }
     requires inside { at < length out.old }
-    ensures seen { (past : Past) → HasSeen seen.old.table seen.old.last past
-        → HasSeen seen.new.table seen.new.last (then_chunk past chunk) }
-    ensures filled { (n : ℕ) (past : Past) → HasFilled F N n out.old at past
-        → HasFilled F N n out.new result (replicate (times chunk) (rgba seen.new.last) ++ past) }
+    ensures gives { Gives F N chunk seen.old.table seen.old.last out.old at
+        seen.new.table seen.new.last out.new result }
     ensures whole { result % N ≡ 0 }
     ensures within { (at < result) × (result ≤ length out.new) }
 {
     if let Chunk::Run(n) = chunk {
-        seen.put(chunk);
-        return fill::<N, F>(out, at, seen.last, n as usize);
+        return give_run::<N, F>(seen, n as usize, out, at);
     }
-    seen.put(chunk);
-    write_pixel::<N, F>(out, at, seen.last);
-    at + N
+    let px = seen.pixel_of(chunk);
+    give_pixel::<N, F>(seen, px, out, at)
 }

@@ -1,5 +1,5 @@
 //! Decoding an image from a stream.
-ghost use Rattle.std.specs.Prelude.{◌≡◌, ℕ, ◌/◌, ◌%◌, ◌<◌, List, length, IfOk, IfErr, OnOk, OnErr};
+ghost use Rattle.std.specs.Prelude.{◌≡◌, ℕ, ◌/◌, ◌%◌, ◌<◌, List, [], ◌∷◌, length, IfOk, IfErr, OnOk, OnErr};
 ghost use Rattle.std.specs.Io.KnownBytes.{Consumes};
 ghost use Rattle.qoi.specs.Qoi.{AreBytes, IsChunk, bytes_of, end_marker};
 ghost use Rattle.qoi.specs.Raw.{IsChannels};
@@ -17,6 +17,12 @@ use crate::error::{Error, Result};
 use std::io;
 use std::io::{ErrorKind, Read};
 
+// What reading past the end of a stream returns.
+#[cold]
+fn ended() -> io::Error {
+    io::Error::new(ErrorKind::UnexpectedEof, "the stream ended within a file")
+}
+
 // Fills the buffer from a stream, and asks for no byte past it. An interruption is a fault, and so
 // is the end of the stream.
 pub(super) fn read_all<R: Read>(reader: &mut R, buf: &mut [u8]) -> io::Result<()>
@@ -30,11 +36,27 @@ pub(super) fn read_all<R: Read>(reader: &mut R, buf: &mut [u8]) -> io::Result<()
     while filled < buf.len() {
         let count = reader.read(&mut buf[filled..])?;
         if count == 0 {
-            return Err(io::Error::new(ErrorKind::UnexpectedEof, "the stream ended within a file"));
+            return Err(ended());
         }
         filled += count;
     }
     Ok(())
+}
+
+// Reads a byte from a stream.
+#[inline(always)]
+fn read_one<R: Read>(reader: &mut R) -> io::Result<u8>
+    ensures read { IfOk result (λ byte.
+        Consumes (R.remaining reader.old) (R.remaining reader.new) (byte ∷ [])) }
+    ensures failed { OnErr result
+        (Consumes (R.remaining reader.old) (R.remaining reader.new) []) }
+{
+    let mut one = [0];
+    let count = reader.read(&mut one)?;
+    if count == 0 {
+        return Err(ended());
+    }
+    Ok(one[0])
 }
 
 // Reads one chunk from a stream, and no byte past it.
@@ -44,17 +66,15 @@ fn next_chunk<R: Read>(reader: &mut R) -> io::Result<Chunk>
     ensures failed { OnErr result (HasTaken (R.remaining reader.old) (R.remaining reader.new)
         IsPartOfChunk) }
 {
-    let mut first = [0];
-    read_all(reader, &mut first)?;
-    match first[0] {
-        QOI_OP_INDEX..=QOI_OP_INDEX_END => Ok(Chunk::Place(first[0])),
-        QOI_OP_DIFF..=QOI_OP_DIFF_END => Ok(Chunk::Diff(first[0])),
+    let first = read_one(reader)?;
+    match first {
+        QOI_OP_INDEX..=QOI_OP_INDEX_END => Ok(Chunk::Place(first)),
+        QOI_OP_DIFF..=QOI_OP_DIFF_END => Ok(Chunk::Diff(first)),
         QOI_OP_LUMA..=QOI_OP_LUMA_END => {
-            let mut more = [0];
-            read_all(reader, &mut more)?;
-            Ok(Chunk::Luma(first[0], more[0]))
+            let second = read_one(reader)?;
+            Ok(Chunk::Luma(first, second))
         }
-        QOI_OP_RUN..=QOI_OP_RUN_END => Ok(Chunk::Run(first[0] - (QOI_OP_RUN - 1))),
+        QOI_OP_RUN..=QOI_OP_RUN_END => Ok(Chunk::Run(first - (QOI_OP_RUN - 1))),
         QOI_OP_RGB => {
             let mut more = [0, 0, 0];
             read_all(reader, &mut more)?;

@@ -54,11 +54,11 @@ impl<const N: usize> Coder<N> {
         let last = self.last;
         self.last = px;
         let place = px.hash_index();
-        let four = px.in_four_channels();
-        if self.table.at(place).is_same(four) {
+        let packed = px.packed();
+        if self.table.at(place).is_same(packed) {
             return Chunk::Place(place);
         }
-        self.table.put(place, four);
+        self.table.put(place, packed);
         px.spelled_after(last)
     }
 }

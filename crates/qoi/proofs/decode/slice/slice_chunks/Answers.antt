@@ -1,6 +1,8 @@
--- A chunk more is taken, and at the end the buffer is full.
-use Rattle.std.proofs.Common.{length, ◌/◌, refl}
-use Rattle.qoi.proofs.decoding.Progress.{SplitAt, start_so_far, goes_on, split_more, reads_pixels}
+-- A chunk more is taken, and at the end the buffer is full or the bytes are cut.
+use Rattle.std.proofs.Common.{length, ◌/◌, ◌++◌, refl, sym, ap, ◌∙◌, subst, arith}
+use Rattle.qoi.specs.Qoi.{AreBytes, bytes_of}
+use Rattle.qoi.proofs.format.SomeVerdict.{bytes_after_front}
+use Rattle.qoi.proofs.decoding.Progress.{SplitAt, start_so_far, goes_on, split_more, reads_pixels, few_left}
 use Rattle.qoi.proofs.decode.slice.slice_chunks.Goals as goal
 
 pub loop-at-init : goal.loop-at-init
@@ -8,10 +10,15 @@ loop-at-init g c = start_so_far g.row.F g.row.N (SplitAt c.args.data.now c.args.
 
 pub loop-at-preserved : goal.loop-at-preserved
 loop-at-preserved g c =
-    goes_on c.in_ok-chunk.chunk c.requires.channels c.loop-at.invariant c.loop-at-test.true c.in_ok-chunk.ensures.some.0
-    (split_more c.args.data.now c.loop-at.rest.now c.in_ok-chunk.after.now c.in_ok-chunk.chunk c.in_ok-chunk.ensures.some.1)
-    c.give-at.ensures.seen (c.give-at.ensures.filled (length c.args.out.now / g.row.N)) c.give-at.ensures.within.1 c.give-at.ensures.whole
+    let first = c.give_first-taken.ensures.gives in
+    goes_on first.chunk c.requires.channels c.loop-at.invariant c.loop-at-test.true first.is_chunk
+    (split_more c.args.data.now c.loop-at.rest.now _ first.chunk (first.split ∙ ap (λ z. bytes_of first.chunk ++ z) (sym c.split_at.ensures.back)))
+    first.gives.seen (first.gives.filled (length c.args.out.now / g.row.N)) c.give_first-taken.ensures.within.1 c.give_first-taken.ensures.whole
 
 pub returns : goal.returns
 returns g c =
     reads_pixels c.requires.channels c.loop-at.invariant c.loop-at-test.false
+
+pub returns-then-rest-lt-QOI_PADDING_SIZE : goal.returns-then-rest-lt-QOI_PADDING_SIZE
+returns-then-rest-lt-QOI_PADDING_SIZE g c =
+    few_left c.requires.channels c.loop-at.invariant c.loop-at-test.true (bytes_after_front _ c.loop-at.rest.now (subst AreBytes c.loop-at.invariant.taken (λ i. omega (arith, c.type_inv.data i)))) c.if-rest-lt-QOI_PADDING_SIZE.true

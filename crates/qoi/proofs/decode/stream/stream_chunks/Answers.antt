@@ -14,7 +14,7 @@ pub loop-at-preserved : goal.loop-at-preserved
 loop-at-preserved g c =
     goes_on c.in_ok-chunk.chunk c.requires.channels c.loop-at.invariant c.loop-at-test.true c.in_ok-chunk.ensures.read.0
     (λ bytes took. Consumes-trans _ _ _ bytes _ took c.in_ok-chunk.ensures.read.1)
-    c.give-at.ensures.seen (c.give-at.ensures.filled (length c.args.out.now / g.row.N)) c.give-at.ensures.within.1 c.give-at.ensures.whole
+    c.give-at.ensures.gives.seen (c.give-at.ensures.gives.filled (length c.args.out.now / g.row.N)) c.give-at.ensures.within.1 c.give-at.ensures.whole
 
 pub returns-clause-read : goal.returns-clause-read
 returns-clause-read g c =

@@ -8,19 +8,19 @@ use Rattle.qoi.proofs.encode.coder.Coder.choose.Goals as goal
 pub returns-then-is_same-clause-choice : goal.returns-then-is_same-clause-choice
 returns-then-is_same-clause-choice g c past before differs state =
     chosen_place past (rgba c.args.px) _ c.hash_index-place.ensures.position
-    (sym (c.at.ensures (fresh past) state.table_is) ∙ c.if-is_same.ensures.0 refl ∙ c.in_four_channels-four.ensures)
+    (sym (c.at.ensures (fresh past) state.table_is) ∙ c.if-is_same.ensures.0 refl ∙ c.packed-packed.ensures)
 
 pub returns-then-is_same-clause-state : goal.returns-then-is_same-clause-state
 returns-then-is_same-clause-state g c past differs state =
     state_place past _ c.args.px _ state.table_is differs c.hash_index-place.ensures.position
-    (sym (c.at.ensures (fresh past) state.table_is) ∙ c.if-is_same.ensures.0 refl ∙ c.in_four_channels-four.ensures)
+    (sym (c.at.ensures (fresh past) state.table_is) ∙ c.if-is_same.ensures.0 refl ∙ c.packed-packed.ensures)
 
 pub returns-clause-choice : goal.returns-clause-choice
 returns-clause-choice g c past before differs state =
     chosen_spelled past (rgba c.args.px) _ _ c.hash_index-place.ensures.position
-    (λ is. let no : false ≡ true = c.if-is_same.ensures.1 (c.at.ensures (fresh past) state.table_is ∙ is ∙ sym c.in_four_channels-four.ensures) in cc)
+    (λ is. let no : false ≡ true = c.if-is_same.ensures.1 (c.at.ensures (fresh past) state.table_is ∙ is ∙ sym c.packed-packed.ensures) in cc)
     (c.spelled_after.ensures.first past before (sym state.last_is))
 
 pub returns-clause-state : goal.returns-clause-state
 returns-clause-state g c past differs state =
-    state_put past _ _ c.args.px c.in_four_channels-four.ensures differs (c.put.ensures (fresh past) state.table_is)
+    state_put past _ _ c.args.px c.packed-packed.ensures differs (c.put.ensures (fresh past) state.table_is)
