@@ -1,5 +1,5 @@
 //! Pixels as single numbers: packed into 32 bits, and spread over 64.
-ghost use Rattle.std.specs.Prelude.{◌≡◌, ◌↔◌, ◌^◌, ◌<◌, ◌≤◌, ℕ, IsTrue};
+ghost use Rattle.std.specs.Prelude.{◌≡◌, ◌↔◌, ◌+◌, ◌*◌, ◌^◌, ◌<◌, ◌≤◌, ℕ, IsTrue};
 ghost use Rattle.qoi.specs.Qoi.{pixel, start, blank, hash, moved};
 ghost use Rattle.qoi.specs.inner.Packed.{lanes};
 
@@ -106,6 +106,15 @@ impl Packed {
         ensures { result ≡ self.a }
     {
         (self.0 / 0x100_0000) as u8
+    }
+
+    /// Red, green and blue in the three lowest bytes.
+    #[inline(always)]
+    pub(crate) fn rgb(self) -> u64
+        ensures number { result ≡ self.r + self.g * 2 ^ 8 + self.b * 2 ^ 16 }
+        ensures bytes { (self.r < 256) × (self.g < 256) × (self.b < 256) }
+    {
+        u64::from(self.0 % 0x100_0000)
     }
 
     /// Whether both are the same pixel.

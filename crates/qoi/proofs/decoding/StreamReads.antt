@@ -1,5 +1,5 @@
 -- What was read from a stream, piece after piece.
-use Rattle.std.proofs.Common.{◌≡◌, ℕ, zero, suc, ◌+◌, ◌<◌, ◌≤◌, inl, inr, List, [], ◌∷◌, ◌++◌, length, take, Option, Result, IfErr, arith, refl, sym, ap, ◌∙◌, append-nil}
+use Rattle.std.proofs.Common.{◌≡◌, ℕ, zero, suc, ◌+◌, ◌<◌, ◌≤◌, ◌-◌, ◌⊎◌, inl, inr, List, [], ◌∷◌, ◌++◌, length, get_or, take, Option, Result, IfErr, arith, refl, sym, ap, ◌∙◌, append-nil}
 use Rattle.std.proofs.lemmas.List.{take-append-le, length-take-le}
 use Rattle.std.proofs.Math.Seq.{take-append-add}
 use Rattle.std.specs.Io.KnownBytes.{Consumes}
@@ -9,10 +9,13 @@ use borrow.Rule.Slice.PartMut.{put_mid, post_of}
 use Rattle.qoi.specs.declared.error.Error.{Error}
 use Rattle.qoi.specs.declared.error.Error.TheVariants.{InvalidMagic, InvalidChannels, InvalidColorSpace, InvalidImageDimensions, InvalidImageLength, OutputBufferTooSmall, UnexpectedBufferEnd, InvalidPadding, IoError, OutOfMemory}
 use Rattle.qoi.specs.declared.chunk.Chunk.{Chunk}
+use Rattle.qoi.specs.declared.chunk.Chunk.TheVariants.{Place, Diff, Run, Rgb, Rgba}
+use Rattle.qoi.specs.inner.Taken.{IsChunkAhead}
+use Rattle.std.proofs.lemmas.Bool.{cases_lt}
 use Rattle.qoi.specs.Qoi.{AreBytes, AreChunks, text, Reaches}
 use Rattle.qoi.specs.Verdicts.{IsPartOfChunk}
 use Rattle.qoi.specs.Decoding.{EndsInChunk, StreamsPixels, HasCut, RefusesTaken, RefusesTakenMarker}
-use Rattle.qoi.proofs.format.PartOfChunk.{part_luma, part_rgb, part_rgba}
+use Rattle.qoi.proofs.format.PartOfChunk.{byte_and, part_luma, part_rgb, part_rgba}
 
 -- the front of a buffer after a read behind what was filled
 pub take-read : (filled n k : ℕ) (buf piece : List ℕ) → filled ≤ length buf → n ≤ length piece → take (filled + n) (put_mid filled k buf piece) ≡ take filled buf ++ take n piece
@@ -32,11 +35,6 @@ bytes_take (suc n) [] h i = omega arith
 bytes_take (suc n) (b ∷ bytes) h zero = h 0
 bytes_take (suc n) (b ∷ bytes) h (suc i) = bytes_take n bytes (λ j. h (suc j)) i
 
--- a byte and more bytes are bytes
-byte_and : (b : ℕ) (more : List ℕ) → b < 256 → AreBytes more → AreBytes (b ∷ more)
-byte_and b more fits h zero = fits
-byte_and b more fits h (suc i) = h i
-
 -- the first byte of a luma is a part of it
 pub part_read_luma : (b : ℕ) → b < 256 → 128 ≤ b → b < 192 → IsPartOfChunk (b ∷ [])
 part_read_luma b fits low high = part_luma (b ∷ []) (byte_and b [] fits (λ i. omega arith)) (omega arith) low high
@@ -48,6 +46,26 @@ part_read_rgb b more fits h is few = part_rgb (b ∷ more) (byte_and b more fits
 -- the first byte of RGBA and fewer than four more are a part of it
 pub part_read_rgba : (b : ℕ) (more : List ℕ) → b < 256 → AreBytes more → b ≡ 255 → length more < 4 → IsPartOfChunk (b ∷ more)
 part_read_rgba b more fits h is few = part_rgba (b ∷ more) (byte_and b more fits h) (omega arith) is
+
+-- an index position's, a difference's and a run's byte are a chunk of their own
+pub alone_ahead : (b : ℕ) (zeros : List ℕ) → (b < 128) ⊎ ((192 ≤ b) × (b < 254)) → IsChunkAhead (b ∷ zeros) (b ∷ [])
+alone_ahead b zeros (inl low) =
+    elim (cases_lt b 64) [
+      | inl place ↦ (Place b, zeros, place, refl, refl)
+      | inr diff ↦ (Diff b, zeros, (diff, low), refl, refl)
+    ]
+alone_ahead b zeros (inr run) =
+    let n : b ≡ 191 + (b - 191) = omega (arith, run.0) in (Run (b - 191), zeros, (omega (arith, run.0), omega (arith, run.1)), ap (λ x. x ∷ []) n, ap (λ x. x ∷ zeros) n)
+
+-- three bytes after the first byte of RGB
+pub rgb_ahead : (b : ℕ) (more zeros : List ℕ) → b ≡ 254 → length more ≡ 3 → AreBytes more → IsChunkAhead (b ∷ get_or more 0 0 ∷ get_or more 1 0 ∷ get_or more 2 0 ∷ zeros) (b ∷ more)
+rgb_ahead x (r ∷ g ∷ b ∷ []) zeros is size fits = (Rgb r g b, zeros, (fits 0, fits 1, fits 2), rw is refl, rw is refl)
+rgb_ahead x _ zeros is size fits = absurd (omega arith)
+
+-- four bytes after the first byte of RGBA
+pub rgba_ahead : (b : ℕ) (more zeros : List ℕ) → b ≡ 255 → length more ≡ 4 → AreBytes more → IsChunkAhead (b ∷ get_or more 0 0 ∷ get_or more 1 0 ∷ get_or more 2 0 ∷ get_or more 3 0 ∷ zeros) (b ∷ more)
+rgba_ahead x (r ∷ g ∷ b ∷ a ∷ []) zeros is size fits = (Rgba r g b a, zeros, (fits 0, fits 1, fits 2, fits 3), rw is refl, rw is refl)
+rgba_ahead x _ zeros is size fits = absurd (omega arith)
 
 -- bytes that end within a chunk are cut
 pub cut_in_chunk : (n : ℕ) (taken : List ℕ) → EndsInChunk n taken → HasCut n taken

@@ -1,8 +1,13 @@
 -- Bytes that are too short for the chunk that their first byte begins.
-use Rattle.std.proofs.Common.{◌≡◌, ℕ, ◌<◌, ◌≤◌, List, [], ◌∷◌, length, get_or, arith, refl}
+use Rattle.std.proofs.Common.{◌≡◌, ℕ, zero, suc, ◌<◌, ◌≤◌, List, [], ◌∷◌, length, get_or, arith, refl}
 use Rattle.qoi.specs.declared.chunk.Chunk.TheVariants.{Place, Luma, Rgb, Rgba}
 use Rattle.qoi.specs.Qoi.{AreBytes}
 use Rattle.qoi.specs.Verdicts.{IsPartOfChunk}
+
+-- a byte and more bytes are bytes
+pub byte_and : (b : ℕ) (more : List ℕ) → b < 256 → AreBytes more → AreBytes (b ∷ more)
+byte_and b more fits h zero = fits
+byte_and b more fits h (suc i) = h i
 
 -- no byte begins any chunk
 pub part_empty : (bytes : List ℕ) → length bytes < 1 → IsPartOfChunk bytes

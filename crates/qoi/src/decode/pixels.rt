@@ -1,11 +1,11 @@
 //! What both loops put into the output: the pixels of chunks.
 ghost use Rattle.std.specs.Prelude.{◌≡◌, ℕ, ◌+◌, ◌*◌, ◌%◌, ◌<◌, ◌≤◌, [], ◌∷◌, ◌++◌, length, take, drop, replicate, nat_le, nat_lt, ◌&&◌, if◌then◌else◌};
-ghost use Rattle.qoi.specs.Qoi.{Past, IsChunk, times, seen, previous, after_diff, after_luma, pixel_of};
+ghost use Rattle.std.specs.Int.{w64, to_le_bytes};
+ghost use Rattle.qoi.specs.Qoi.{Past, seen, after_diff, after_luma};
 ghost use Rattle.qoi.specs.Raw.{IsChannels, pixel_bytes, output};
-ghost use Rattle.qoi.specs.inner.Filling.{HasFilled, HasSeen, Gives};
+ghost use Rattle.qoi.specs.inner.Filling.{HasFilled, HasSeen, GivesFirst};
 
-use crate::chunk::Chunk;
-use crate::consts::QOI_OP_DIFF;
+use crate::consts::{QOI_OP_DIFF, QOI_OP_RGB, QOI_OP_RGBA, QOI_OP_RUN};
 use crate::decode::deltas::{delta, nibbles};
 use crate::packed::{Packed, Spread};
 use crate::table::Table;
@@ -30,7 +30,7 @@ impl Seen {
 
     // The last pixel.
     #[inline(always)]
-    pub(super) fn last(&self) -> Spread
+    fn last(&self) -> Spread
         ensures { result ≡ self.now.last }
     {
         self.last
@@ -39,7 +39,7 @@ impl Seen {
     // The pixel of a chunk that is an index position, a difference, a luma or a run of 1, by its first
     // byte and the one after it, which only a luma has. All of them are found without a jump.
     #[inline(always)]
-    pub(super) fn short_pixel(&self, b1: u8, b2: u8) -> Spread
+    fn short_pixel(&self, b1: u8, b2: u8) -> Spread
         requires { b1 ≤ 192 }
         ensures place { b1 < 64 → (past : Past) → HasSeen self.now.table self.now.last past
             → result ≡ seen past b1 }
@@ -51,23 +51,6 @@ impl Seen {
         let moved = self.last.moved(delta(b1) + more);
         let noted = self.table.at(b1 % 64).spread();
         pick(b1 < QOI_OP_DIFF, noted, moved)
-    }
-
-    // The pixel that a chunk gives.
-    #[inline(always)]
-    fn pixel_of(&self, chunk: Chunk) -> Spread
-        requires chunk { IsChunk chunk }
-        ensures { (past : Past) → HasSeen self.now.table self.now.last past
-            → result ≡ pixel_of past chunk }
-    {
-        match chunk {
-            Chunk::Place(i) => self.table.at(i).spread(),
-            Chunk::Diff(b1) => self.short_pixel(b1, 0),
-            Chunk::Luma(b1, b2) => self.short_pixel(b1, b2),
-            Chunk::Run(_) => self.last,
-            Chunk::Rgb(r, g, b) => self.last.with_rgb(r, g, b),
-            Chunk::Rgba(r, g, b, a) => Spread::new(r, g, b, a),
-        }
     }
 
     // Makes a pixel the last one, and puts it at its index position.
@@ -84,7 +67,7 @@ impl Seen {
 
 // Whether a chunk with this first byte is a luma.
 #[inline(always)]
-pub(super) fn is_luma(b1: u8) -> bool
+fn is_luma(b1: u8) -> bool
     ensures { result ≡ (nat_le 128 b1 && nat_lt b1 192) }
 {
     b1 / 64 == 2
@@ -114,7 +97,25 @@ fn write_pixel<const N: usize, const F: usize>(out: &mut [u8], at: usize, px: Pa
     }
 }
 
-// Writes a pixel eight times from `at` on.
+// Writes the eight bytes of a number at `at`, the lowest first.
+#[inline(always)]
+fn write_word(out: &mut [u8], at: usize, word: u64)
+    requires { at + 8 ≤ length out.old }
+    ensures { out.new ≡ take at out.old ++ (to_le_bytes w64 word ++ drop (at + 8) out.old) }
+{
+    out[at..at + 8].copy_from_slice(&[
+        (word % 256) as u8,
+        (word / 0x100 % 256) as u8,
+        (word / 0x1_0000 % 256) as u8,
+        (word / 0x100_0000 % 256) as u8,
+        (word / 0x1_0000_0000 % 256) as u8,
+        (word / 0x100_0000_0000 % 256) as u8,
+        (word / 0x1_0000_0000_0000 % 256) as u8,
+        (word / 0x100_0000_0000_0000) as u8,
+    ]);
+}
+
+// Writes a pixel eight times from `at` on, as three or four numbers of eight bytes.
 #[inline(always)]
 fn write_block<const N: usize, const F: usize>(out: &mut [u8], at: usize, px: Packed)
     requires channels { IsChannels N }
@@ -122,17 +123,23 @@ fn write_block<const N: usize, const F: usize>(out: &mut [u8], at: usize, px: Pa
     ensures { out.new ≡ take at out.old
         ++ (output F N (replicate 8 px) ++ drop (at + N * 8) out.old) }
 {
-    let (r, g, b) = (px.r(), px.g(), px.b());
+    let rgb = px.rgb();
     if N == 3 {
-        out[at..at + 24].copy_from_slice(&[
-            r, g, b, r, g, b, r, g, b, r, g, b, r, g, b, r, g, b, r, g, b, r, g, b,
-        ]);
+        write_word(out, at, rgb + (rgb << 24) + (rgb << 48));
+        write_word(
+            out,
+            at + 8,
+            (rgb >> 16) + (rgb << 8) + (rgb << 32) + (rgb << 56),
+        );
+        write_word(out, at + 16, (rgb >> 8) + (rgb << 16) + (rgb << 40));
     } else {
         let a = if F == 4 { px.a() } else { 0xff };
-        out[at..at + 32].copy_from_slice(&[
-            r, g, b, a, r, g, b, a, r, g, b, a, r, g, b, a, r, g, b, a, r, g, b, a, r, g, b, a, r,
-            g, b, a,
-        ]);
+        let word = rgb + (u64::from(a) << 24);
+        let two = word + (word << 32);
+        write_word(out, at, two);
+        write_word(out, at + 8, two);
+        write_word(out, at + 16, two);
+        write_word(out, at + 24, two);
     }
 }
 
@@ -178,26 +185,26 @@ fn fill<const N: usize, const F: usize>(
     requires channels { IsChannels N }
     requires whole { (length out.old % N ≡ 0) × (at % N ≡ 0) }
     requires within { at ≤ length out.old }
+    requires short { count ≤ 62 }
     ensures filled { (n : ℕ) (past : Past) → HasFilled F N n out.old at past
         → HasFilled F N n out.new result (replicate count px ++ past) }
     ensures whole { result % N ≡ 0 }
     ensures within { (at ≤ result) × (result ≤ length out.new) }
     ensures further { at < length out.old → 0 < count → at < result }
 {
-    let room = (out.len() - at) / N;
-    let all = count.min(room);
-    if room - all < 7 {
-        fill_pixels::<N, F>(out, at, px, all);
-    } else {
-        fill_blocks::<N, F>(out, at, px, all);
+    if N * (count + 7) <= out.len() - at {
+        fill_blocks::<N, F>(out, at, px, count);
+        return at + N * count;
     }
+    let all = count.min((out.len() - at) / N);
+    fill_pixels::<N, F>(out, at, px, all);
     at + N * all
 }
 
 // Makes a pixel the last one, puts it at its index position, writes it at `at`, and returns where it
 // stopped.
 #[inline(always)]
-pub(super) fn give_pixel<const N: usize, const F: usize>(
+fn give_pixel<const N: usize, const F: usize>(
     seen: &mut Seen,
     px: Spread,
     out: &mut [u8],
@@ -222,7 +229,7 @@ pub(super) fn give_pixel<const N: usize, const F: usize>(
 // Gives the last pixel again, `count` times, and as far as there is room, and returns where it
 // stopped.
 #[inline(always)]
-pub(super) fn give_run<const N: usize, const F: usize>(
+fn give_run<const N: usize, const F: usize>(
     seen: &mut Seen,
     count: usize,
     out: &mut [u8],
@@ -231,7 +238,7 @@ pub(super) fn give_run<const N: usize, const F: usize>(
     requires channels { IsChannels N }
     requires whole { (length out.old % N ≡ 0) × (at % N ≡ 0) }
     requires inside { at < length out.old }
-    requires some { 0 < count }
+    requires some { (0 < count) × (count ≤ 62) }
     ensures last { seen.new.last ≡ seen.old.last }
     ensures seen { (past : Past) → HasSeen seen.old.table seen.old.last past
         → HasSeen seen.new.table seen.new.last (replicate count seen.old.last ++ past) }
@@ -245,26 +252,45 @@ pub(super) fn give_run<const N: usize, const F: usize>(
     fill::<N, F>(out, at, px.packed(), count)
 }
 
-// Gives the pixels of a chunk from `at` on, as far as there is room, and returns where it stopped.
+// Gives the pixels of the chunk that the bytes begin with, and returns how many bytes it has and where
+// the output stopped. Eight bytes have any chunk whole, and a byte after a short one.
 #[inline(always)]
-pub(super) fn give<const N: usize, const F: usize>(
+pub(super) fn give_first<const N: usize, const F: usize>(
     seen: &mut Seen,
-    chunk: Chunk,
+    bytes: &[u8],
     out: &mut [u8],
     at: usize,
-) -> usize
+) -> (usize, usize)
     requires channels { IsChannels N }
-    requires chunk { IsChunk chunk }
+    requires long { 8 ≤ length bytes.now }
     requires whole { (length out.old % N ≡ 0) × (at % N ≡ 0) }
     requires inside { at < length out.old }
-    ensures gives { Gives F N chunk seen.old.table seen.old.last out.old at
-        seen.new.table seen.new.last out.new result }
-    ensures whole { result % N ≡ 0 }
-    ensures within { (at < result) × (result ≤ length out.new) }
+    ensures taken { result.0 ≤ length bytes.now }
+    ensures gives { GivesFirst F N bytes.now (drop result.0 bytes.now) seen.old.table
+        seen.old.last out.old at seen.new.table seen.new.last out.new result.1 }
+    ensures whole { result.1 % N ≡ 0 }
+    ensures within { (at < result.1) × (result.1 ≤ length out.new) }
 {
-    if let Chunk::Run(n) = chunk {
-        return give_run::<N, F>(seen, n as usize, out, at);
+    let b1 = bytes[0];
+    match b1 {
+        0..=QOI_OP_RUN => {
+            let px = seen.short_pixel(b1, bytes[1]);
+            (
+                1 + usize::from(is_luma(b1)),
+                give_pixel::<N, F>(seen, px, out, at),
+            )
+        }
+        QOI_OP_RGB => {
+            let px = seen.last().with_rgb(bytes[1], bytes[2], bytes[3]);
+            (4, give_pixel::<N, F>(seen, px, out, at))
+        }
+        QOI_OP_RGBA => {
+            let px = Spread::new(bytes[1], bytes[2], bytes[3], bytes[4]);
+            (5, give_pixel::<N, F>(seen, px, out, at))
+        }
+        _ => (
+            1,
+            give_run::<N, F>(seen, (b1 - (QOI_OP_RUN - 1)) as usize, out, at),
+        ),
     }
-    let px = seen.pixel_of(chunk);
-    give_pixel::<N, F>(seen, px, out, at)
 }

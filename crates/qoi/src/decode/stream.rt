@@ -1,18 +1,15 @@
 //! Decoding an image from a stream.
 ghost use Rattle.std.specs.Prelude.{◌≡◌, ℕ, ◌/◌, ◌%◌, ◌<◌, List, [], ◌∷◌, length, IfOk, IfErr, OnOk, OnErr};
 ghost use Rattle.std.specs.Io.KnownBytes.{Consumes};
-ghost use Rattle.qoi.specs.Qoi.{AreBytes, IsChunk, bytes_of, end_marker};
+ghost use Rattle.qoi.specs.Qoi.{AreBytes, end_marker};
 ghost use Rattle.qoi.specs.Raw.{IsChannels};
 ghost use Rattle.qoi.specs.Verdicts.{IsPartOfChunk};
 ghost use Rattle.qoi.specs.Decoding.{EndsInChunk, StreamsPixels, ReadsImage, RefusesTaken, RefusesTakenMarker};
-ghost use Rattle.qoi.specs.inner.Taken.{HasTaken};
+ghost use Rattle.qoi.specs.inner.Taken.{HasTaken, IsChunkAhead};
 
-use crate::chunk::{Chunk, QOI_OP_DIFF_END, QOI_OP_INDEX_END, QOI_OP_LUMA_END, QOI_OP_RUN_END};
-use crate::consts::{
-    QOI_OP_DIFF, QOI_OP_INDEX, QOI_OP_LUMA, QOI_OP_RGB, QOI_OP_RGBA, QOI_OP_RUN, QOI_PADDING,
-    QOI_PADDING_SIZE,
-};
-use crate::decode::pixels::{Seen, give};
+use crate::chunk::QOI_OP_LUMA_END;
+use crate::consts::{QOI_OP_LUMA, QOI_OP_RGB, QOI_OP_RGBA, QOI_PADDING, QOI_PADDING_SIZE};
+use crate::decode::pixels::{Seen, give_first};
 use crate::error::{Error, Result};
 use std::io;
 use std::io::{ErrorKind, Read};
@@ -59,32 +56,31 @@ fn read_one<R: Read>(reader: &mut R) -> io::Result<u8>
     Ok(one[0])
 }
 
-// Reads one chunk from a stream, and no byte past it.
-fn next_chunk<R: Read>(reader: &mut R) -> io::Result<Chunk>
-    ensures read { IfOk result (λ chunk. IsChunk chunk
-        × Consumes (R.remaining reader.old) (R.remaining reader.new) (bytes_of chunk)) }
+// Reads one chunk from a stream, and no byte past it. Zeros stand behind its bytes.
+#[inline(always)]
+fn next_chunk<R: Read>(reader: &mut R) -> io::Result<[u8; 8]>
+    ensures read { IfOk result (λ bytes. HasTaken (R.remaining reader.old) (R.remaining reader.new)
+        (IsChunkAhead bytes)) }
     ensures failed { OnErr result (HasTaken (R.remaining reader.old) (R.remaining reader.new)
         IsPartOfChunk) }
 {
-    let first = read_one(reader)?;
-    match first {
-        QOI_OP_INDEX..=QOI_OP_INDEX_END => Ok(Chunk::Place(first)),
-        QOI_OP_DIFF..=QOI_OP_DIFF_END => Ok(Chunk::Diff(first)),
+    let b1 = read_one(reader)?;
+    match b1 {
         QOI_OP_LUMA..=QOI_OP_LUMA_END => {
-            let second = read_one(reader)?;
-            Ok(Chunk::Luma(first, second))
+            let b2 = read_one(reader)?;
+            Ok([b1, b2, 0, 0, 0, 0, 0, 0])
         }
-        QOI_OP_RUN..=QOI_OP_RUN_END => Ok(Chunk::Run(first - (QOI_OP_RUN - 1))),
         QOI_OP_RGB => {
             let mut more = [0, 0, 0];
             read_all(reader, &mut more)?;
-            Ok(Chunk::Rgb(more[0], more[1], more[2]))
+            Ok([b1, more[0], more[1], more[2], 0, 0, 0, 0])
         }
         QOI_OP_RGBA => {
             let mut more = [0, 0, 0, 0];
             read_all(reader, &mut more)?;
-            Ok(Chunk::Rgba(more[0], more[1], more[2], more[3]))
+            Ok([b1, more[0], more[1], more[2], more[3], 0, 0, 0])
         }
+        _ => Ok([b1, 0, 0, 0, 0, 0, 0, 0]),
     }
 }
 
@@ -103,8 +99,8 @@ fn stream_chunks<R: Read, const N: usize, const F: usize>(
     let mut seen = Seen::new();
     let mut at = 0;
     while at < out.len() {
-        let chunk = next_chunk(reader)?;
-        at = give::<N, F>(&mut seen, chunk, out, at);
+        let bytes = next_chunk(reader)?;
+        (_, at) = give_first::<N, F>(&mut seen, &bytes, out, at);
     }
     Ok(())
 }

@@ -1,30 +1,62 @@
 -- A first byte, and some of those that it wants, are part of a chunk.
-use Rattle.std.proofs.Common.{ℕ, List, [], ◌∷◌, arith}
+use Rattle.std.proofs.Common.{ℕ, List, [], ◌∷◌, inl, inr, arith, rules, refl}
 use Rattle.std.specs.Io.KnownBytes.{Consumes}
+use Rattle.qoi.specs.declared.chunk.Chunk.TheVariants.{Luma}
 use Rattle.qoi.specs.Verdicts.{IsPartOfChunk}
 use Rattle.std.proofs.KnownBytes.{Consumes-trans}
 use Rattle.qoi.proofs.format.PartOfChunk.{part_empty}
 use Rattle.qoi.proofs.Results.{on_err}
-use Rattle.qoi.proofs.decoding.StreamReads.{part_read_luma, part_read_rgb, part_read_rgba}
+use Rattle.qoi.proofs.decoding.StreamReads.{part_read_luma, part_read_rgb, part_read_rgba, alone_ahead, rgb_ahead, rgba_ahead}
 use Rattle.qoi.proofs.decode.stream.next_chunk.Goals as goal
 
-pub returns-in_err-first-clause-failed : goal.returns-in_err-first-clause-failed
-returns-in_err-first-clause-failed g c =
-    on_err {P = (x : List ℕ) × Consumes (g.R.Read.remaining c.args.reader.now) (g.R.Read.remaining c.read_one.new.reader) x × IsPartOfChunk x} _ ([], c.in_err-first.ensures.failed, part_empty [] (omega arith))
+pub returns-in_err-b1-clause-failed : goal.returns-in_err-b1-clause-failed
+returns-in_err-b1-clause-failed g c =
+    on_err {P = (x : List ℕ) × Consumes (g.R.Read.remaining c.args.reader.now) (g.R.Read.remaining c.read_one.new.reader) x × IsPartOfChunk x} _ ([], c.in_err-b1.ensures.failed, part_empty [] (omega arith))
 
 pub returns-in_err-read_all-in-254-clause-failed : goal.returns-in_err-read_all-in-254-clause-failed
 returns-in_err-read_all-in-254-clause-failed g c =
     let f = c.in_err-read_all-in-254.ensures.failed in
-    let first = c.in_ok-first.first in
-    on_err {P = (x : List ℕ) × Consumes (g.R.Read.remaining c.args.reader.now) (g.R.Read.remaining c.read_all.new.reader) x × IsPartOfChunk x} _ (first ∷ f.0, Consumes-trans _ _ _ (first ∷ []) f.0 c.in_ok-first.ensures.read f.1, part_read_rgb first f.0 (omega arith) f.2.1 c.in-254.is (omega (arith, f.2.0)))
+    let first = c.in_ok-b1.b1 in
+    on_err {P = (x : List ℕ) × Consumes (g.R.Read.remaining c.args.reader.now) (g.R.Read.remaining c.read_all.new.reader) x × IsPartOfChunk x} _ (first ∷ f.0, Consumes-trans _ _ _ (first ∷ []) f.0 c.in_ok-b1.ensures.read f.1, part_read_rgb first f.0 (omega arith) f.2.1 c.in-254.is (omega (arith, f.2.0)))
 
 pub returns-in_err-read_all-in-255-clause-failed : goal.returns-in_err-read_all-in-255-clause-failed
 returns-in_err-read_all-in-255-clause-failed g c =
     let f = c.in_err-read_all-in-255.ensures.failed in
-    let first = c.in_ok-first.first in
-    on_err {P = (x : List ℕ) × Consumes (g.R.Read.remaining c.args.reader.now) (g.R.Read.remaining c.read_all-in-255.new.reader) x × IsPartOfChunk x} _ (first ∷ f.0, Consumes-trans _ _ _ (first ∷ []) f.0 c.in_ok-first.ensures.read f.1, part_read_rgba first f.0 (omega arith) f.2.1 c.in-255.is (omega (arith, f.2.0)))
+    let first = c.in_ok-b1.b1 in
+    on_err {P = (x : List ℕ) × Consumes (g.R.Read.remaining c.args.reader.now) (g.R.Read.remaining c.read_all-in-255.new.reader) x × IsPartOfChunk x} _ (first ∷ f.0, Consumes-trans _ _ _ (first ∷ []) f.0 c.in_ok-b1.ensures.read f.1, part_read_rgba first f.0 (omega arith) f.2.1 c.in-255.is (omega (arith, f.2.0)))
 
-pub returns-in_err-second-in-128-to-191-clause-failed : goal.returns-in_err-second-in-128-to-191-clause-failed
-returns-in_err-second-in-128-to-191-clause-failed g c =
-    let first = c.in_ok-first.first in
-    on_err {P = (x : List ℕ) × Consumes (g.R.Read.remaining c.args.reader.now) (g.R.Read.remaining c.read_one-in-128-to-191.new.reader) x × IsPartOfChunk x} _ (first ∷ [], Consumes-trans _ _ _ (first ∷ []) [] c.in_ok-first.ensures.read c.in_err-second-in-128-to-191.ensures.failed, part_read_luma first (omega arith) (omega arith) (omega arith))
+pub returns-in_err-b2-in-128-to-191-clause-failed : goal.returns-in_err-b2-in-128-to-191-clause-failed
+returns-in_err-b2-in-128-to-191-clause-failed g c =
+    let first = c.in_ok-b1.b1 in
+    on_err {P = (x : List ℕ) × Consumes (g.R.Read.remaining c.args.reader.now) (g.R.Read.remaining c.read_one-in-128-to-191.new.reader) x × IsPartOfChunk x} _ (first ∷ [], Consumes-trans _ _ _ (first ∷ []) [] c.in_ok-b1.ensures.read c.in_err-b2-in-128-to-191.ensures.failed, part_read_luma first (omega arith) (omega arith) (omega arith))
+
+pub returns-in_ok-read_all-in-254-clause-read : goal.returns-in_ok-read_all-in-254-clause-read
+returns-in_ok-read_all-in-254-clause-read g c =
+    let more = c.read_all.new.buf in (
+      c.in_ok-b1.b1 ∷ more,
+      Consumes-trans _ _ _ (c.in_ok-b1.b1 ∷ []) more c.in_ok-b1.ensures.read c.in_ok-read_all-in-254.ensures.read,
+      rgb_ahead c.in_ok-b1.b1 more (0 ∷ 0 ∷ 0 ∷ 0 ∷ []) c.in-254.is c.read_all.auto.buf c.read_all.ensures.bytes,
+    )
+
+pub returns-in_ok-read_all-in-255-clause-read : goal.returns-in_ok-read_all-in-255-clause-read
+returns-in_ok-read_all-in-255-clause-read g c =
+    let more = c.read_all-in-255.new.buf in (
+      c.in_ok-b1.b1 ∷ more,
+      Consumes-trans _ _ _ (c.in_ok-b1.b1 ∷ []) more c.in_ok-b1.ensures.read c.in_ok-read_all-in-255.ensures.read,
+      rgba_ahead c.in_ok-b1.b1 more (0 ∷ 0 ∷ 0 ∷ []) c.in-255.is c.read_all-in-255.auto.buf c.read_all-in-255.ensures.bytes,
+    )
+
+pub returns-in_ok-b2-in-128-to-191-clause-read : goal.returns-in_ok-b2-in-128-to-191-clause-read
+returns-in_ok-b2-in-128-to-191-clause-read g c =
+    let b1 = c.in_ok-b1.b1 in
+    let b2 = c.in_ok-b2-in-128-to-191.b2 in (
+      b1 ∷ b2 ∷ [],
+      Consumes-trans _ _ _ (b1 ∷ []) (b2 ∷ []) c.in_ok-b1.ensures.read c.in_ok-b2-in-128-to-191.ensures.read,
+      (Luma b1 b2, 0 ∷ 0 ∷ 0 ∷ 0 ∷ 0 ∷ 0 ∷ [], (omega arith, omega arith, omega arith), refl, refl),
+    )
+
+pub returns-in_default-clause-read : goal.returns-in_default-clause-read
+returns-in_default-clause-read g c = (c.in_ok-b1.b1 ∷ [], c.in_ok-b1.ensures.read, alone_ahead c.in_ok-b1.b1 (0 ∷ 0 ∷ 0 ∷ 0 ∷ 0 ∷ 0 ∷ 0 ∷ []) (inl (search rules)))
+
+pub returns-in_default-2-clause-read : goal.returns-in_default-2-clause-read
+returns-in_default-2-clause-read g c = (c.in_ok-b1.b1 ∷ [], c.in_ok-b1.ensures.read, alone_ahead c.in_ok-b1.b1 (0 ∷ 0 ∷ 0 ∷ 0 ∷ 0 ∷ 0 ∷ 0 ∷ []) (inr (search rules, search rules)))

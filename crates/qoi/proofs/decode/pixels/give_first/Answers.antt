@@ -4,7 +4,7 @@ use Rattle.std.proofs.lemmas.Bool.Decides.{nat_tests}
 use Rattle.qoi.specs.declared.chunk.Chunk.TheVariants.{Rgb, Rgba}
 use Rattle.qoi.specs.Qoi.{pixel}
 use Rattle.qoi.proofs.decoding.FirstChunk.{front_4, front_5, gives_once, gives_short, gives_run}
-use Rattle.qoi.proofs.decode.slice.give_first.Goals as goal
+use Rattle.qoi.proofs.decode.pixels.give_first.Goals as goal
 
 pub returns-in-254-clause-gives : goal.returns-in-254-clause-gives
 returns-in-254-clause-gives g c =
