@@ -80,35 +80,39 @@ full_counts c n l at len (inr e) = subst (λ k. len ≡ k * n → at ≡ k * min
 output-append : (f c : ℕ) (more past : Past) → output f c (reverse (more ++ past)) ≡ output f c (reverse past) ++ output f c (reverse more)
 output-append f c more past = ap (output f c) (reverse-append more past) ∙ flat_map-append (pixel_bytes f c) (reverse past) (reverse more)
 
--- pixels written at the place after the others
-filled_list : (f c n : ℕ) (out : List ℕ) (at : ℕ) (past : Past) (ps : List RgbaPixel) → IsChannels c → HasFilled f c n out at past → at < length out → at + c * length ps ≤ length out
-    → HasFilled f c n (take at out ++ (output f c ps ++ drop (at + c * length ps) out)) (at + c * length ps) (reverse ps ++ past)
-filled_list f c n out at past ps is h inside fits =
+-- pixels written at the place after the others, whatever stands behind them
+filled_list : (f c n : ℕ) (out new : List ℕ) (at : ℕ) (past : Past) (ps : List RgbaPixel) → IsChannels c → at < length out → at + c * length ps ≤ length out → length new ≡ length out → take (at + c * length ps) new ≡ take at out ++ output f c ps
+    → HasFilled f c n out at past → HasFilled f c n new (at + c * length ps) (reverse ps ++ past)
+filled_list f c n out new at past ps is inside fits size e h =
     let place = counts c n (length past) (length ps) at (length out) is h.room h.at_is inside fits in
     let bytes = output f c ps in
     let so_far = output f c (reverse past) in
     let end = at + c * length ps in
     let some : length bytes ≡ c * length ps = length-output f c ps is in
     let many : length so_far ≡ at = length-output f c (reverse past) is ∙ ap (λ k. c * k) (length-reverse past) ∙ sym place.now in
-    let front : length (take at out) ≡ at = length-take-le at out (omega arith) in
-    let both : length (take at out ++ bytes) ≡ end = omega (arith, length-append (take at out) bytes) in
     let all : length (so_far ++ bytes) ≡ end = omega (arith, length-append so_far bytes) in
     record {
-      room = omega (arith, h.room, length-append (take at out) (bytes ++ drop end out), length-append bytes (drop end out), length-drop end out, fits);
+      room = size ∙ h.room;
       at_is = place.next ∙ ap (λ k. c * min n k) (sym (length-append (reverse ps) past ∙ ap (λ k. k + length past) (length-reverse ps)));
-      same = ap (take end) (sym (append_assoc (take at out) bytes (drop end out))) ∙ take_at (take at out ++ bytes) (drop end out) end both
-          ∙ ap (λ z. z ++ bytes) (h.same ∙ take_whole at so_far many)
+      same = e ∙ ap (λ z. z ++ bytes) (h.same ∙ take_whole at so_far many)
           ∙ sym (ap (take end) (output-append f c (reverse ps) past ∙ ap (λ z. so_far ++ output f c z) (reverse-reverse ps)) ∙ take_whole end (so_far ++ bytes) all);
     }
 
--- a pixel written so
-pub filled_more : (f c n : ℕ) (out new : List ℕ) (at : ℕ) (past : Past) (p : RgbaPixel) → IsChannels c → at < length out → at + c ≤ length out → new ≡ take at out ++ (pixel_bytes f c p ++ drop (at + c) out)
-    → HasFilled f c n out at past → HasFilled f c n new (at + c) (p ∷ past)
-filled_more f c n out new at past p is inside fits e h =
+-- a pixel alone is written
+pub pixel_written : (f c : ℕ) (out new : List ℕ) (at : ℕ) (p : RgbaPixel) → IsChannels c → at + c ≤ length out → new ≡ take at out ++ (pixel_bytes f c p ++ drop (at + c) out) → take (at + c * 1) new ≡ take at out ++ output f c (replicate 1 p)
+pixel_written f c out new at p is room e =
     let one : c * 1 ≡ c = omega arith in
-    let bytes : output f c (p ∷ []) ≡ pixel_bytes f c p = append-nil (pixel_bytes f c p) in
-    let listed = filled_list f c n out at past (p ∷ []) is h inside (rw one fits) in
-    rw e (rw (one, bytes) at listed)
+    let bytes : output f c (replicate 1 p) ≡ pixel_bytes f c p = append-nil (pixel_bytes f c p) in
+    let front = take at out ++ pixel_bytes f c p in
+    let many : length front ≡ at + c = omega (arith, length-append (take at out) (pixel_bytes f c p), length-take-le at out (omega arith), length-pixel_bytes f c p is) in
+    rw (one, bytes) (ap (take (at + c)) (e ∙ sym (append_assoc (take at out) (pixel_bytes f c p) (drop (at + c) out))) ∙ take_at front (drop (at + c) out) (at + c) many)
+
+-- and the buffer is filled with it too
+pub filled_more : (f c n : ℕ) (out new : List ℕ) (at : ℕ) (past : Past) (p : RgbaPixel) → IsChannels c → at < length out → at + c ≤ length out → length new ≡ length out → new ≡ take at out ++ (pixel_bytes f c p ++ drop (at + c) out)
+    → HasFilled f c n out at past → HasFilled f c n new (at + c) (p ∷ past)
+filled_more f c n out new at past p is inside room size e h =
+    let one : c * 1 ≡ c = omega arith in
+    subst (λ k. HasFilled f c n new (at + k) (p ∷ past)) one (filled_list f c n out new at past (p ∷ []) is inside (rw one room) size (pixel_written f c out new at p is room e) h)
 
 -- where the buffer is full, further pixels change nothing
 pub filled_full : (f c n : ℕ) (out : List ℕ) (at : ℕ) (past more : Past) → IsChannels c → HasFilled f c n out at past → length out ≤ at → HasFilled f c n out at (more ++ past)
@@ -132,28 +136,32 @@ pub room_after : (c at done k all len : ℕ) → IsChannels c → done + k ≤ a
 room_after c at done k all len (inl e) = subst (λ d. done + k ≤ all → at + d * all ≤ len → (at + d * done + d * k ≤ len) × (0 < k → at + d * done < len)) (sym e) (λ p q. (omega arith, λ r. omega arith))
 room_after c at done k all len (inr e) = subst (λ d. done + k ≤ all → at + d * all ≤ len → (at + d * done + d * k ≤ len) × (0 < k → at + d * done < len)) (sym e) (λ p q. (omega arith, λ r. omega arith))
 
+-- where a block of sixteen bytes begins within the copies, its whole pixels have room
+pub record BlockRoom (c at done count len : ℕ) : Type 0 where
+  pub more : done + 16 / c ≤ count + 4
+  pub inside : at + c * done < len
+  pub fits : at + c * done + c * (16 / c) ≤ len
+  pub block : at + c * done + 16 ≤ len
+
+-- so it is where sixteen bytes have room behind the copies
+pub block_room : (c at done count len : ℕ) → IsChannels c → done < count → at + c * count + 16 ≤ len → BlockRoom c at done count len
+block_room c at done count len (inl e) = subst (λ d. done < count → at + d * count + 16 ≤ len → BlockRoom d at done count len) (sym e) (λ p q. record { more = omega arith; inside = omega arith; fits = omega arith; block = omega arith })
+block_room c at done count len (inr e) = subst (λ d. done < count → at + d * count + 16 ≤ len → BlockRoom d at done count len) (sym e) (λ p q. record { more = omega arith; inside = omega arith; fits = omega arith; block = omega arith })
+
 -- the place after some pixels and then more of them
 pub after_both : (c at m k : ℕ) → IsChannels c → at + c * m + c * k ≡ at + c * (m + k)
 after_both c at m k (inl e) = subst (λ d. at + d * m + d * k ≡ at + d * (m + k)) (sym e) (omega arith)
 after_both c at m k (inr e) = subst (λ d. at + d * m + d * k ≡ at + d * (m + k)) (sym e) (omega arith)
 
--- a pixel written alone is a copy of it
-pub one_copy : (f c : ℕ) (out new : List ℕ) (at : ℕ) (p : RgbaPixel) → new ≡ take at out ++ (pixel_bytes f c p ++ drop (at + c) out) → new ≡ take at out ++ (output f c (replicate 1 p) ++ drop (at + c * 1) out)
-one_copy f c out new at p e =
-    let one : c * 1 ≡ c = omega arith in
-    let bytes : output f c (replicate 1 p) ≡ pixel_bytes f c p = append-nil (pixel_bytes f c p) in
-    rw (one, bytes) e
-
 -- k more copies of a pixel
-pub filled_copies : (f c n k : ℕ) (out new : List ℕ) (at done : ℕ) (p : RgbaPixel) (past : Past) → IsChannels c → at + c * done < length out → at + c * done + c * k ≤ length out
-    → new ≡ take (at + c * done) out ++ (output f c (replicate k p) ++ drop (at + c * done + c * k) out)
+pub filled_copies : (f c n k : ℕ) (out new : List ℕ) (at done : ℕ) (p : RgbaPixel) (past : Past) → IsChannels c → at + c * done < length out → at + c * done + c * k ≤ length out → length new ≡ length out
+    → take (at + c * done + c * k) new ≡ take (at + c * done) out ++ output f c (replicate k p)
     → HasFilled f c n out (at + c * done) (replicate done p ++ past) → HasFilled f c n new (at + c * (done + k)) (replicate (done + k) p ++ past)
-filled_copies f c n k out new at done p past is inside fits e h =
-    let size : length (replicate k p) ≡ k = length-replicate k p in
-    let listed = filled_list f c n out (at + c * done) (replicate done p ++ past) (replicate k p) is h inside (rw size fits) in
+filled_copies f c n k out new at done p past is inside fits size e h =
+    let many : length (replicate k p) ≡ k = length-replicate k p in
+    let listed = filled_list f c n out new (at + c * done) (replicate done p ++ past) (replicate k p) is inside (rw many fits) size (rw many e) h in
     let copies = repeats_after k done p past ∙ ap (λ m. replicate m p ++ past) (plus_comm k done) in
-    let copied = rw (size, reverse-replicate k p, copies) at listed in
-    rw e (subst (λ m. HasFilled f c n (take (at + c * done) out ++ (output f c (replicate k p) ++ drop (at + c * done + c * k) out)) m (replicate (done + k) p ++ past)) (after_both c at done k is) copied)
+    subst (λ m. HasFilled f c n new m (replicate (done + k) p ++ past)) (after_both c at done k is) (rw (many, reverse-replicate k p, copies) at listed)
   where
     plus_comm : (a b : ℕ) → a + b ≡ b + a
     plus_comm a b = omega arith

@@ -1,6 +1,5 @@
 //! What both loops put into the output: the pixels of chunks.
-ghost use Rattle.std.specs.Prelude.{◌≡◌, ℕ, ◌+◌, ◌*◌, ◌%◌, ◌<◌, ◌≤◌, [], ◌∷◌, ◌++◌, length, take, drop, replicate, nat_le, nat_lt, ◌&&◌, if◌then◌else◌};
-ghost use Rattle.std.specs.Int.{w64, to_le_bytes};
+ghost use Rattle.std.specs.Prelude.{◌≡◌, ℕ, ◌+◌, ◌*◌, ◌/◌, ◌%◌, ◌<◌, ◌≤◌, [], ◌∷◌, ◌++◌, length, take, drop, replicate, nat_le, nat_lt, ◌&&◌, if◌then◌else◌};
 ghost use Rattle.qoi.specs.Qoi.{Past, seen, after_diff, after_luma};
 ghost use Rattle.qoi.specs.Raw.{IsChannels, pixel_bytes, output};
 ghost use Rattle.qoi.specs.inner.Filling.{HasFilled, HasSeen, GivesFirst};
@@ -9,6 +8,7 @@ use crate::consts::{QOI_OP_DIFF, QOI_OP_RGB, QOI_OP_RGBA, QOI_OP_RUN};
 use crate::decode::deltas::{delta, nibbles};
 use crate::packed::{Packed, Spread};
 use crate::table::Table;
+use std::simd::{u8x16, u64x2};
 
 // What chunks can name: the pixels that were put at the 64 index positions, and the last pixel.
 #[derive(Drop)]
@@ -97,65 +97,46 @@ fn write_pixel<const N: usize, const F: usize>(out: &mut [u8], at: usize, px: Pa
     }
 }
 
-// Writes the eight bytes of a number at `at`, the lowest first.
+// The first sixteen bytes of a pixel that is written again and again.
 #[inline(always)]
-fn write_word(out: &mut [u8], at: usize, word: u64)
-    requires { at + 8 ≤ length out.old }
-    ensures { out.new ≡ take at out.old ++ (to_le_bytes w64 word ++ drop (at + 8) out.old) }
-{
-    out[at..at + 8].copy_from_slice(&[
-        (word % 256) as u8,
-        (word / 0x100 % 256) as u8,
-        (word / 0x1_0000 % 256) as u8,
-        (word / 0x100_0000 % 256) as u8,
-        (word / 0x1_0000_0000 % 256) as u8,
-        (word / 0x100_0000_0000 % 256) as u8,
-        (word / 0x1_0000_0000_0000 % 256) as u8,
-        (word / 0x100_0000_0000_0000) as u8,
-    ]);
-}
-
-// Writes a pixel eight times from `at` on, as three or four numbers of eight bytes.
-#[inline(always)]
-fn write_block<const N: usize, const F: usize>(out: &mut [u8], at: usize, px: Packed)
-    requires channels { IsChannels N }
-    requires room { at + N * 8 ≤ length out.old }
-    ensures { out.new ≡ take at out.old
-        ++ (output F N (replicate 8 px) ++ drop (at + N * 8) out.old) }
+fn block<const N: usize, const F: usize>(px: Packed) -> u8x16
+    requires { IsChannels N }
+    ensures { result ≡ take 16 (output F N (replicate 6 px)) }
 {
     let rgb = px.rgb();
     if N == 3 {
-        write_word(out, at, rgb + (rgb << 24) + (rgb << 48));
-        write_word(
-            out,
-            at + 8,
-            (rgb >> 16) + (rgb << 8) + (rgb << 32) + (rgb << 56),
-        );
-        write_word(out, at + 16, (rgb >> 8) + (rgb << 16) + (rgb << 40));
-    } else {
-        let a = if F == 4 { px.a() } else { 0xff };
-        let word = rgb + (u64::from(a) << 24);
-        let two = word + (word << 32);
-        write_word(out, at, two);
-        write_word(out, at + 8, two);
-        write_word(out, at + 16, two);
-        write_word(out, at + 24, two);
+        let eight = rgb + (rgb << 24) + (rgb << 48);
+        let more = (rgb >> 16) + (rgb << 8) + (rgb << 32) + (rgb << 56);
+        return u64x2::from_array([eight, more]).to_le_bytes();
     }
+    let a = if F == 4 { px.a() } else { 0xff };
+    u64x2::splat((rgb + (u64::from(a) << 24)) * 0x1_0000_0001).to_le_bytes()
 }
 
-// Writes a pixel `count` times from `at` on, by blocks of eight; what the last block writes past them
-// is written again later.
+// Writes a block at `at`: a pixel as often as it has room there, and what is left over.
+#[inline(always)]
+fn write_block<const N: usize, const F: usize>(out: &mut [u8], at: usize, px: Packed)
+    requires channels { IsChannels N }
+    requires room { at + 16 ≤ length out.old }
+    ensures { take (at + N * (16 / N)) out.new
+        ≡ take at out.old ++ output F N (replicate (16 / N) px) }
+{
+    block::<N, F>(px).copy_to_slice(&mut out[at..at + 16]);
+}
+
+// Writes a pixel `count` times from `at` on, by blocks; what the last block writes past them is
+// written again later.
 #[inline(always)]
 fn fill_blocks<const N: usize, const F: usize>(out: &mut [u8], at: usize, px: Packed, count: usize)
     requires channels { IsChannels N }
-    requires room { at + N * (count + 7) ≤ length out.old }
+    requires room { at + N * count + 16 ≤ length out.old }
     ensures { (n : ℕ) (past : Past) → HasFilled F N n out.old at past
         → HasFilled F N n out.new (at + N * count) (replicate count px ++ past) }
 {
     let mut done = 0;
     while done < count {
         write_block::<N, F>(out, at + N * done, px);
-        done += 8;
+        done += 16 / N;
     }
 }
 
@@ -192,7 +173,7 @@ fn fill<const N: usize, const F: usize>(
     ensures within { (at ≤ result) × (result ≤ length out.new) }
     ensures further { at < length out.old → 0 < count → at < result }
 {
-    if N * (count + 7) <= out.len() - at {
+    if N * count + 16 <= out.len() - at {
         fill_blocks::<N, F>(out, at, px, count);
         return at + N * count;
     }
