@@ -8,6 +8,7 @@ mod decoder;
 mod encoder;
 mod generated;
 mod header;
+mod hostile;
 mod lengths;
 mod memory;
 mod pixel;

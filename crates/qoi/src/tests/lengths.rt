@@ -1,17 +1,11 @@
 //! The number of bytes of an image's chunks, against a number that fewer don't do for.
 use crate::tests::support::files::{assert_decodes, file_of, rgb, rgba};
-use crate::tests::support::generator::{Numbers, Rgba, START, image};
+use crate::tests::support::generator::{Numbers, Rgba, START, image, place};
 use crate::tests::support::images::assert_encodes;
 use crate::tests::support::texts::assert_number;
 use crate::{Channels, Header, Result, encode_to_vec};
 use std::alloc::Global;
 use std::process::Abort;
-
-// The index position of a pixel.
-fn place([r, g, b, a]: Rgba) -> usize {
-    let sum = 3 * usize::from(r) + 5 * usize::from(g) + 7 * usize::from(b) + 11 * usize::from(a);
-    sum % 64
-}
 
 // The difference from -128 to 127 that leads from one byte to the other, modulo 256.
 fn difference(from: u8, to: u8) -> i32 {

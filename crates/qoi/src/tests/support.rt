@@ -4,4 +4,6 @@ pub mod fakes;
 pub mod files;
 pub mod generator;
 pub mod images;
+pub mod lists;
+pub mod reference;
 pub mod texts;

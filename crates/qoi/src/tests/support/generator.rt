@@ -39,6 +39,12 @@ pub type Rgba = [u8; 4];
 /// Opaque black, which stands before the first pixel.
 pub const START: Rgba = [0, 0, 0, 255];
 
+/// The index position of a pixel.
+pub fn place([r, g, b, a]: Rgba) -> usize {
+    let sum = 3 * usize::from(r) + 5 * usize::from(g) + 7 * usize::from(b) + 11 * usize::from(a);
+    sum % 64
+}
+
 // The six kinds of pixel.
 #[derive(Clone, Copy)]
 enum Kind {
