@@ -1,6 +1,6 @@
 -- A buffer that is filled with pixels, one after the other.
 use Rattle.std.proofs.Common.{◌≡◌, ℕ, zero, suc, ◌+◌, ◌-◌, ◌*◌, ◌/◌, ◌%◌, ◌<◌, ◌≤◌, ◌⊎◌, inl, inr, List, [], ◌∷◌, ◌++◌, length, take, drop, reverse, replicate, min, arith, refl, sym, ap, ◌∙◌, subst, append-nil, append_assoc, length-append}
-use Rattle.std.proofs.lemmas.List.{take-take, length-reverse, reverse-append, take-append-le, take_at, length-take-le, length-drop, length-replicate, reverse-reverse}
+use Rattle.std.proofs.lemmas.List.{take-take, length-reverse, reverse-append, take-append-le, take_at, length-take-le, length-replicate, reverse-reverse}
 use Rattle.std.proofs.Math.Seq.{take-length, take-append-add}
 use Rattle.std.proofs.Math.Nat.{mul-suc}
 use Rattle.std.proofs.lemmas.Bool.{cases_lt}

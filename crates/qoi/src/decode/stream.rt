@@ -1,11 +1,12 @@
 //! Decoding an image from a stream.
-ghost use Rattle.std.specs.Prelude.{◌≡◌, ℕ, ◌/◌, ◌%◌, ◌<◌, List, [], ◌∷◌, length, IfOk, IfErr, OnOk, OnErr};
+ghost use Rattle.std.specs.Prelude.{◌≡◌, ℕ, ◌/◌, ◌%◌, ◌<◌, ◌≤◌, List, [], ◌∷◌, length, IfOk, IfErr, OnOk, OnErr};
 ghost use Rattle.std.specs.Io.KnownBytes.{Consumes};
 ghost use Rattle.qoi.specs.Qoi.{AreBytes, end_marker};
 ghost use Rattle.qoi.specs.Raw.{IsChannels};
 ghost use Rattle.qoi.specs.Verdicts.{IsPartOfChunk};
 ghost use Rattle.qoi.specs.Decoding.{EndsInChunk, StreamsPixels, ReadsImage, RefusesTaken, RefusesTakenMarker};
-ghost use Rattle.qoi.specs.inner.Taken.{HasTaken, IsChunkAhead};
+ghost use Rattle.qoi.specs.inner.Filling.{GivesFirst};
+ghost use Rattle.qoi.specs.inner.Taken.{HasTaken};
 
 use crate::chunk::QOI_OP_LUMA_END;
 use crate::consts::{QOI_OP_LUMA, QOI_OP_RGB, QOI_OP_RGBA, QOI_PADDING, QOI_PADDING_SIZE};
@@ -56,11 +57,23 @@ fn read_one<R: Read>(reader: &mut R) -> io::Result<u8>
     Ok(one[0])
 }
 
-// Reads one chunk from a stream, and no byte past it. Zeros stand behind its bytes.
+// Reads one chunk from a stream, and no byte past it, gives its pixels, and returns where the output
+// stopped.
 #[inline(always)]
-fn next_chunk<R: Read>(reader: &mut R) -> io::Result<[u8; 8]>
-    ensures read { IfOk result (λ bytes. HasTaken (R.remaining reader.old) (R.remaining reader.new)
-        (IsChunkAhead bytes)) }
+fn next_chunk<R: Read, const N: usize, const F: usize>(
+    reader: &mut R,
+    seen: &mut Seen,
+    out: &mut [u8],
+    at: usize,
+) -> io::Result<usize>
+    requires channels { IsChannels N }
+    requires whole { (length out.old % N ≡ 0) × (at % N ≡ 0) }
+    requires inside { at < length out.old }
+    ensures read { IfOk result (λ end. HasTaken (R.remaining reader.old) (R.remaining reader.new)
+        (λ taken. GivesFirst F N taken [] seen.old.table seen.old.last out.old at
+        seen.new.table seen.new.last out.new end)) }
+    ensures whole { IfOk result (λ end. end % N ≡ 0) }
+    ensures within { IfOk result (λ end. (at < end) × (end ≤ length out.new)) }
     ensures failed { OnErr result (HasTaken (R.remaining reader.old) (R.remaining reader.new)
         IsPartOfChunk) }
 {
@@ -68,19 +81,21 @@ fn next_chunk<R: Read>(reader: &mut R) -> io::Result<[u8; 8]>
     match b1 {
         QOI_OP_LUMA..=QOI_OP_LUMA_END => {
             let b2 = read_one(reader)?;
-            Ok([b1, b2, 0, 0, 0, 0, 0, 0])
+            Ok(give_first::<N, F>(seen, &[b1, b2, 0, 0, 0, 0, 0, 0], out, at).1)
         }
         QOI_OP_RGB => {
             let mut more = [0, 0, 0];
             read_all(reader, &mut more)?;
-            Ok([b1, more[0], more[1], more[2], 0, 0, 0, 0])
+            let bytes = [b1, more[0], more[1], more[2], 0, 0, 0, 0];
+            Ok(give_first::<N, F>(seen, &bytes, out, at).1)
         }
         QOI_OP_RGBA => {
             let mut more = [0, 0, 0, 0];
             read_all(reader, &mut more)?;
-            Ok([b1, more[0], more[1], more[2], more[3], 0, 0, 0])
+            let bytes = [b1, more[0], more[1], more[2], more[3], 0, 0, 0];
+            Ok(give_first::<N, F>(seen, &bytes, out, at).1)
         }
-        _ => Ok([b1, 0, 0, 0, 0, 0, 0, 0]),
+        _ => Ok(give_first::<N, F>(seen, &[b1, 0, 0, 0, 0, 0, 0, 0], out, at).1),
     }
 }
 
@@ -99,8 +114,7 @@ fn stream_chunks<R: Read, const N: usize, const F: usize>(
     let mut seen = Seen::new();
     let mut at = 0;
     while at < out.len() {
-        let bytes = next_chunk(reader)?;
-        (_, at) = give_first::<N, F>(&mut seen, &bytes, out, at);
+        at = next_chunk::<R, N, F>(reader, &mut seen, out, at)?;
     }
     Ok(())
 }

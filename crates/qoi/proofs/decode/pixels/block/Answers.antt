@@ -1,6 +1,6 @@
 -- Two numbers of eight bytes hold the block.
 use Rattle.std.proofs.Common.{◌≡◌, ◌<◌, ◌==◌, if◌then◌else◌, arith, sym, ◌∙◌}
-use Rattle.qoi.proofs.decoding.Blocks.{HoldsRgb, block_3, block_4, if_other}
+use Rattle.qoi.proofs.decoding.Blocks.{block_3, block_4, if_other}
 use Rattle.qoi.proofs.decode.pixels.block.Goals.{then-this-eq4, else-this-eq4}
 use Rattle.qoi.proofs.decode.pixels.block.Goals as goal
 

@@ -1,5 +1,5 @@
 -- A block more at each turn, and the copies that were asked for are among those that are written.
-use Rattle.std.proofs.Common.{◌+◌, ◌*◌, ◌/◌, length, arith}
+use Rattle.std.proofs.Common.{◌/◌, length, arith}
 use Rattle.qoi.proofs.decoding.FilledBuffer.{block_room, filled_copies, filled_fewer}
 use Rattle.qoi.proofs.decode.pixels.fill_blocks.Goals as goal
 

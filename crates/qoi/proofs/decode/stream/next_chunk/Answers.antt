@@ -1,12 +1,13 @@
 -- A first byte, and some of those that it wants, are part of a chunk.
-use Rattle.std.proofs.Common.{ℕ, List, [], ◌∷◌, inl, inr, arith, rules, refl}
+use Rattle.std.proofs.Common.{ℕ, ◌<◌, ◌≤◌, ◌⊎◌, List, [], ◌∷◌, inl, inr, arith, rules, refl}
 use Rattle.std.specs.Io.KnownBytes.{Consumes}
 use Rattle.qoi.specs.declared.chunk.Chunk.TheVariants.{Luma}
 use Rattle.qoi.specs.Verdicts.{IsPartOfChunk}
 use Rattle.std.proofs.KnownBytes.{Consumes-trans}
 use Rattle.qoi.proofs.format.PartOfChunk.{part_empty}
 use Rattle.qoi.proofs.Results.{on_err}
-use Rattle.qoi.proofs.decoding.StreamReads.{part_read_luma, part_read_rgb, part_read_rgba, alone_ahead, rgb_ahead, rgba_ahead}
+use Rattle.qoi.proofs.decoding.StreamReads.{part_read_luma, part_read_rgb, part_read_rgba, gives_taken, alone_ahead, rgb_ahead, rgba_ahead}
+use Rattle.qoi.proofs.decode.stream.next_chunk.Goals.{in_default-via-then-b1-lt128, in_default-via-else-b1-lt128+else-b1-lt192}
 use Rattle.qoi.proofs.decode.stream.next_chunk.Goals as goal
 
 pub returns-in_err-b1-clause-failed : goal.returns-in_err-b1-clause-failed
@@ -35,7 +36,7 @@ returns-in_ok-read_all-in-254-clause-read g c =
     let more = c.read_all.new.buf in (
       c.in_ok-b1.b1 ∷ more,
       Consumes-trans _ _ _ (c.in_ok-b1.b1 ∷ []) more c.in_ok-b1.ensures.read c.in_ok-read_all-in-254.ensures.read,
-      rgb_ahead c.in_ok-b1.b1 more (0 ∷ 0 ∷ 0 ∷ 0 ∷ []) c.in-254.is c.read_all.auto.buf c.read_all.ensures.bytes,
+      gives_taken _ (rgb_ahead c.in_ok-b1.b1 more (0 ∷ 0 ∷ 0 ∷ 0 ∷ []) c.in-254.is c.read_all.auto.buf c.read_all.ensures.bytes) c.give_first.ensures.gives,
     )
 
 pub returns-in_ok-read_all-in-255-clause-read : goal.returns-in_ok-read_all-in-255-clause-read
@@ -43,7 +44,7 @@ returns-in_ok-read_all-in-255-clause-read g c =
     let more = c.read_all-in-255.new.buf in (
       c.in_ok-b1.b1 ∷ more,
       Consumes-trans _ _ _ (c.in_ok-b1.b1 ∷ []) more c.in_ok-b1.ensures.read c.in_ok-read_all-in-255.ensures.read,
-      rgba_ahead c.in_ok-b1.b1 more (0 ∷ 0 ∷ 0 ∷ []) c.in-255.is c.read_all-in-255.auto.buf c.read_all-in-255.ensures.bytes,
+      gives_taken _ (rgba_ahead c.in_ok-b1.b1 more (0 ∷ 0 ∷ 0 ∷ []) c.in-255.is c.read_all-in-255.auto.buf c.read_all-in-255.ensures.bytes) c.give_first-in-255.ensures.gives,
     )
 
 pub returns-in_ok-b2-in-128-to-191-clause-read : goal.returns-in_ok-b2-in-128-to-191-clause-read
@@ -52,11 +53,13 @@ returns-in_ok-b2-in-128-to-191-clause-read g c =
     let b2 = c.in_ok-b2-in-128-to-191.b2 in (
       b1 ∷ b2 ∷ [],
       Consumes-trans _ _ _ (b1 ∷ []) (b2 ∷ []) c.in_ok-b1.ensures.read c.in_ok-b2-in-128-to-191.ensures.read,
-      (Luma b1 b2, 0 ∷ 0 ∷ 0 ∷ 0 ∷ 0 ∷ 0 ∷ [], (omega arith, omega arith, omega arith), refl, refl),
+      gives_taken _ (Luma b1 b2, 0 ∷ 0 ∷ 0 ∷ 0 ∷ 0 ∷ 0 ∷ [], (omega arith, omega arith, omega arith), refl, refl) c.give_first-in-128-to-191.ensures.gives,
     )
 
 pub returns-in_default-clause-read : goal.returns-in_default-clause-read
-returns-in_default-clause-read g c = (c.in_ok-b1.b1 ∷ [], c.in_ok-b1.ensures.read, alone_ahead c.in_ok-b1.b1 (0 ∷ 0 ∷ 0 ∷ 0 ∷ 0 ∷ 0 ∷ 0 ∷ []) (inl (search rules)))
-
-pub returns-in_default-2-clause-read : goal.returns-in_default-2-clause-read
-returns-in_default-2-clause-read g c = (c.in_ok-b1.b1 ∷ [], c.in_ok-b1.ensures.read, alone_ahead c.in_ok-b1.b1 (0 ∷ 0 ∷ 0 ∷ 0 ∷ 0 ∷ 0 ∷ 0 ∷ []) (inr (search rules, search rules)))
+returns-in_default-clause-read g c =
+    let alone : (c.in_ok-b1.b1 < 128) ⊎ ((192 ≤ c.in_ok-b1.b1) × (c.in_ok-b1.b1 < 254)) = elim c.in_default.branch [
+      | in_default-via-then-b1-lt128 w ↦ inl (search rules)
+      | in_default-via-else-b1-lt128+else-b1-lt192 w ↦ inr (search rules, search rules)
+    ] in
+    (c.in_ok-b1.b1 ∷ [], c.in_ok-b1.ensures.read, gives_taken _ (alone_ahead c.in_ok-b1.b1 (0 ∷ 0 ∷ 0 ∷ 0 ∷ 0 ∷ 0 ∷ 0 ∷ []) alone) c.give_first-in_default.ensures.gives)
