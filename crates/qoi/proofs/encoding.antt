@@ -5,6 +5,7 @@ pub mod CoderSteps
 pub mod CoderTable
 pub mod GroupRuns
 pub mod NotedPixels
+pub mod PixelBlock
 pub mod Spelled
 pub mod SpelledBytes
 pub mod StillToWrite

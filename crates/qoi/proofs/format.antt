@@ -3,9 +3,11 @@ pub mod Appended
 pub mod ChunkSteps
 pub mod ChunksApart
 pub mod HeaderBytes
+pub mod Lanes
 pub mod OneVerdict
 pub mod PackedPixels
 pub mod PartOfChunk
+pub mod PixelBlocks
 pub mod RawPixels
 pub mod SamePixels
 pub mod SetLast

@@ -1,13 +1,12 @@
 //! The chunks of the format (QOI specification 1.0, "Chunks").
-ghost use Rattle.std.specs.Prelude.{◌≡◌, ◌≤◌, ◌+◌, ℕ, List, ◌++◌, length, IfSome, IfNone, IsNone, IsSomeAnd};
+ghost use Rattle.std.specs.Prelude.{◌≡◌, ◌≤◌, ℕ, List, ◌++◌, length, IfSome, IfNone, IsNone, IsSomeAnd};
 ghost use Rattle.qoi.specs.declared.chunk.Chunk.{Chunk};
-ghost use Rattle.qoi.specs.Qoi.{Past, IsPixel, rgba, previous, IsChunk, bytes_of};
-ghost use Rattle.qoi.specs.Raw.{IsChannels};
+ghost use Rattle.qoi.specs.Qoi.{Past, IsPixel, previous, IsChunk, bytes_of};
 ghost use Rattle.qoi.specs.Verdicts.{IsPartOfChunk};
 ghost use Rattle.qoi.specs.Written.{IsFirst};
 
 use crate::consts::{QOI_OP_DIFF, QOI_OP_INDEX, QOI_OP_LUMA, QOI_OP_RGB, QOI_OP_RGBA, QOI_OP_RUN};
-use crate::pixel::Pixel;
+use crate::packed::Packed;
 
 pub(crate) const QOI_OP_INDEX_END: u8 = QOI_OP_INDEX | 0x3f;
 
@@ -76,18 +75,18 @@ pub fn read_chunk(data: &[u8]) -> Option<(Chunk, &[u8])>
     }
 }
 
-impl<const N: usize> Pixel<N> {
-    // The first of a difference, a luma, an RGB and an RGBA chunk that gives this pixel after another.
+impl Packed {
+    /// The first of a difference, a luma, an RGB and an RGBA chunk that gives this pixel after another.
     #[inline(always)]
-    pub(crate) fn spelled_after(self, px_prev: Pixel<N>) -> Chunk
-        requires { IsChannels N }
+    pub(crate) fn spelled_after(self, px_prev: Packed) -> Chunk
         ensures chunk { IsChunk result }
-        ensures size { length (bytes_of result) ≤ N + 1 }
-        ensures first { (past : Past) → IsPixel (previous past) → previous past ≡ rgba px_prev.entry
-            → IsFirst past (rgba self.entry) result }
+        ensures size { length (bytes_of result) ≤ 5 }
+        ensures opaque { self.a ≡ px_prev.a → length (bytes_of result) ≤ 4 }
+        ensures first { (past : Past) → IsPixel (previous past) → previous past ≡ px_prev
+            → IsFirst past self result }
     {
-        let (r, g, b, a) = (self.r(), self.g(), self.b(), self.a_or(0xff));
-        if a != px_prev.a_or(0xff) {
+        let (r, g, b, a) = (self.r(), self.g(), self.b(), self.a());
+        if a != px_prev.a() {
             return Chunk::Rgba(r, g, b, a);
         }
         let vr = r.wrapping_sub(px_prev.r());

@@ -1,9 +1,11 @@
 //! Pixels as single numbers: packed into 32 bits, and spread over 64.
-ghost use Rattle.std.specs.Prelude.{◌≡◌, ◌↔◌, ◌+◌, ◌*◌, ◌^◌, ◌<◌, ◌≤◌, ℕ, IsTrue};
-ghost use Rattle.qoi.specs.Qoi.{pixel, start, blank, hash, moved};
-ghost use Rattle.qoi.specs.inner.Packed.{lanes};
+ghost use Rattle.std.specs.Prelude.{◌≡◌, ◌↔◌, ◌+◌, ◌*◌, ◌^◌, ◌<◌, ◌≤◌, ℕ, length, take, drop, replicate, IsTrue};
+ghost use Rattle.qoi.specs.Qoi.{IsPixel, pixel, rgba, start, blank, hash, moved};
+ghost use Rattle.qoi.specs.Raw.{IsChannels, output};
+ghost use Rattle.qoi.specs.inner.Packed.{word, lanes};
 
 use std::marker::Model;
+use std::simd::{u8x16, u64x2};
 
 // The lanes of a spread pixel: all its bits but the free ones.
 const LANES: u64 = 0xff00_ff00_00ff_00ff;
@@ -76,6 +78,30 @@ impl Packed {
         Packed(u32::from_le_bytes([r, g, b, a]))
     }
 
+    /// The pixel that the first `N` bytes mean; of three channels it is opaque.
+    #[inline(always)]
+    pub(crate) fn read<const N: usize>(bytes: &[u8]) -> Packed
+        requires channels { IsChannels N }
+        requires enough { N ≤ length bytes.now }
+        ensures { result ≡ rgba (take N bytes.now) }
+    {
+        if N == 4 {
+            return Packed::new(bytes[0], bytes[1], bytes[2], bytes[3]);
+        }
+        if bytes.len() > 3 {
+            return Packed::new(bytes[0], bytes[1], bytes[2], bytes[3]).opaque();
+        }
+        Packed::new(bytes[0], bytes[1], bytes[2], 0xff)
+    }
+
+    /// The pixel with alpha 255.
+    #[inline(always)]
+    pub(crate) fn opaque(self) -> Packed
+        ensures { result ≡ pixel self.r self.g self.b 255 }
+    {
+        Packed(self.0 % 0x100_0000 + 0xff00_0000)
+    }
+
     /// Red.
     #[inline(always)]
     pub(crate) fn r(self) -> u8
@@ -108,13 +134,39 @@ impl Packed {
         (self.0 / 0x100_0000) as u8
     }
 
-    /// Red, green and blue in the three lowest bytes.
+    // The number in the low half of 64 bits.
     #[inline(always)]
-    pub(crate) fn rgb(self) -> u64
-        ensures number { result ≡ self.r + self.g * 2 ^ 8 + self.b * 2 ^ 16 }
-        ensures bytes { (self.r < 256) × (self.g < 256) × (self.b < 256) }
+    fn wide(self) -> u64
+        ensures number { result ≡ word self }
+        ensures bytes { IsPixel self }
     {
-        u64::from(self.0 % 0x100_0000)
+        u64::from(self.0)
+    }
+
+    /// Sixteen bytes of the pixel written sixteen times in `N` channels, the `PART`th of the `N`
+    /// parts.
+    #[inline(always)]
+    pub(crate) fn block<const N: usize, const PART: usize>(self) -> u8x16
+        requires channels { IsChannels N }
+        requires part { PART < N }
+        ensures bytes { result ≡ take 16 (drop (16 * PART) (output N N (replicate 16 self))) }
+        ensures sixteen { length result ≡ 16 }
+    {
+        let word = self.wide();
+        if N == 4 {
+            return u64x2::splat(word * 0x1_0000_0001).to_le_bytes();
+        }
+        let rgb = word % 0x100_0000;
+        let first = rgb + (rgb << 24) + (rgb << 48);
+        let second = (rgb >> 16) + (rgb << 8) + (rgb << 32) + (rgb << 56);
+        let third = (rgb >> 8) + (rgb << 16) + (rgb << 40);
+        if PART == 0 {
+            return u64x2::from_array([first, second]).to_le_bytes();
+        }
+        if PART == 1 {
+            return u64x2::from_array([third, first]).to_le_bytes();
+        }
+        u64x2::from_array([second, third]).to_le_bytes()
     }
 
     /// Whether both are the same pixel.
@@ -133,6 +185,16 @@ impl Packed {
     {
         let word = u64::from(self.0);
         Spread((word + (word << 32)) & LANES)
+    }
+}
+
+impl Packed {
+    /// Opaque black, the pixel before the first one.
+    #[tactic(auto, unfolding(crate::specs::Qoi::start))]
+    pub(crate) fn start() -> Packed
+        ensures { result ≡ start }
+    {
+        Packed(0xff00_0000)
     }
 }
 

@@ -2,4 +2,5 @@
 pub use crate::chunk::{Chunk, read_chunk};
 pub use crate::decode::{Bytes, Reader};
 pub use crate::pixel::{Pixel, SupportedChannels};
+pub use crate::runs::repeats;
 pub use crate::utils::{BytesMut, GenericWriter, Writer};

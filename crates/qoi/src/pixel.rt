@@ -1,5 +1,5 @@
 //! A pixel of three or four channels.
-ghost use Rattle.std.specs.Prelude.{◌≡◌, ◌↔◌, ◌<◌, ℕ, IsTrue, List, [], ◌∷◌, ◌++◌, length, take, drop, replicate, slice_index, slice_index_or};
+ghost use Rattle.std.specs.Prelude.{◌≡◌, ◌<◌, ℕ, List, [], ◌∷◌, ◌++◌, length, take, drop, replicate, slice_index, slice_index_or};
 ghost use Rattle.qoi.specs.Qoi.{rgba, hash, after_diff, after_luma, moved};
 ghost use Rattle.qoi.specs.Raw.{IsChannels};
 
@@ -210,31 +210,9 @@ impl<const N: usize> Pixel<N> {
     #[inline(always)]
     pub(crate) fn packed(self) -> Packed
         requires { IsChannels N }
-        ensures { result ≡ rgba self.entry }
+        ensures same { result ≡ rgba self.entry }
+        ensures opaque { N ≡ 3 → result.a ≡ 255 }
     {
         Packed::new(self.r(), self.g(), self.b(), self.a_or(0xff))
     }
-
-    // Whether both are the same pixel.
-    #[inline(always)]
-    pub(crate) fn is_same(self, other: Pixel<N>) -> bool
-        requires { IsChannels N }
-        ensures { IsTrue result ↔ (rgba self.entry ≡ rgba other.entry) }
-    {
-        same_bytes(self.0, other.0)
-    }
-}
-
-// Whether both are the same bytes. Four are compared as one number.
-#[inline(always)]
-fn same_bytes<const N: usize>(own: [u8; N], others: [u8; N]) -> bool
-    requires { IsChannels N }
-    ensures { IsTrue result ↔ (own ≡ others) }
-{
-    if N == 4 {
-        let bytes = [own[0], own[1], own[2], own[3]];
-        let other = [others[0], others[1], others[2], others[3]];
-        return u32::from_le_bytes(bytes) == u32::from_le_bytes(other);
-    }
-    own == others
 }

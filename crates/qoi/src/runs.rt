@@ -1,58 +1,126 @@
 //! Repeats of a pixel in raw bytes.
-ghost use Rattle.std.specs.Prelude.{◌≡◌, ◌↔◌, IsTrue, slice_get, Some};
+ghost use Rattle.std.specs.Prelude.{◌≡◌, ◌↔◌, ◌+◌, ◌*◌, ◌≤◌, ◌<◌, ◌++◌, length, take, drop, replicate, IsTrue, slice_get, Some};
 ghost use Rattle.qoi.specs.Qoi.{rgba};
-ghost use Rattle.qoi.specs.Raw.{IsChannels, pixels_of};
+ghost use Rattle.qoi.specs.Raw.{IsChannels, output, pixels_of};
 ghost use Rattle.qoi.specs.Runs.{IsCount};
 
+use crate::packed::Packed;
 use crate::pixel::Pixel;
+use std::simd::u8x16;
 
 /// How many whole pixels at the front of `data` equal `px`.
-///
-/// Mostly there is none, so the first pixel is looked at before any loop.
 #[inline(always)]
 pub fn repeats<const N: usize>(data: &[u8], px: Pixel<N>) -> usize
     requires { IsChannels N }
     ensures { IsCount (rgba px.entry) (pixels_of N «data».now) result }
 {
-    if begins_with(data, px) {
-        count(data, px)
-    } else {
-        0
+    repeats_of::<N>(data, px.packed())
+}
+
+/// How many whole pixels at the front of `data` equal `px`.
+///
+/// Mostly there is none or one, so the first two are looked at by themselves.
+#[inline(always)]
+pub(crate) fn repeats_of<const N: usize>(data: &[u8], px: Packed) -> usize
+    requires { IsChannels N }
+    ensures { IsCount px (pixels_of N «data».now) result }
+{
+    if !begins_with::<N>(data, px) {
+        return 0;
     }
+    let (_, rest) = data.split_at(N);
+    if !begins_with::<N>(rest, px) {
+        return 1;
+    }
+    count::<N>(data, px)
 }
 
 // Whether a whole pixel equal to `px` stands at the front.
 #[inline(always)]
-fn begins_with<const N: usize>(data: &[u8], px: Pixel<N>) -> bool
+fn begins_with<const N: usize>(data: &[u8], px: Packed) -> bool
     requires { IsChannels N }
-    ensures { IsTrue result ↔ (slice_get (pixels_of N «data».now) 0 ≡ Some (rgba px.entry)) }
+    ensures { IsTrue result ↔ (slice_get (pixels_of N «data».now) 0 ≡ Some px) }
 {
-    if data.len() < N {
-        return false;
+    data.len() >= N && Packed::read::<N>(data).is_same(px)
+}
+
+// Counts by blocks of sixteen pixels, and then pixel by pixel.
+#[inline(never)]
+fn count<const N: usize>(data: &[u8], px: Packed) -> usize
+    requires channels { IsChannels N }
+    requires opaque { N ≡ 3 → px.a ≡ 255 }
+    ensures { IsCount px (pixels_of N «data».now) result }
+{
+    let (blocks, rest) = count_blocks::<N>(data, px);
+    blocks + count_pixels::<N>(rest, px)
+}
+
+// How many pixels the blocks of sixteen have that are `px` throughout, and the bytes behind them.
+#[inline(always)]
+fn count_blocks<'a, const N: usize>(data: &'a [u8], px: Packed) -> (usize, &'a [u8])
+    requires channels { IsChannels N }
+    requires opaque { N ≡ 3 → px.a ≡ 255 }
+    ensures within { result.0 + length result.1.now ≤ length «data».entry.now }
+    ensures same { pixels_of N «data».entry.now
+        ≡ replicate result.0 px ++ pixels_of N result.1.now }
+{
+    let mut count = 0;
+    let mut rest = data;
+    while rest.len() >= N * 16 && is_block::<N>(rest, px) {
+        let (_, after) = rest.split_at(N * 16);
+        rest = after;
+        count += 16;
     }
-    let (front, _) = data.split_at(N);
-    let mut next = Pixel::<N>::new();
-    next.read(front);
-    next.is_same(px)
+    (count, rest)
 }
 
 // Counts pixel by pixel.
 #[inline(always)]
-fn count<const N: usize>(data: &[u8], px: Pixel<N>) -> usize
+fn count_pixels<const N: usize>(data: &[u8], px: Packed) -> usize
     requires { IsChannels N }
-    ensures { IsCount (rgba px.entry) (pixels_of N «data».now) result }
+    ensures within { result ≤ length «data».now }
+    ensures counted { IsCount px (pixels_of N «data».now) result }
 {
-    let mut next = Pixel::<N>::new();
     let mut count = 0;
     let mut rest = data;
-    while rest.len() >= N {
-        let (front, after) = rest.split_at(N);
-        next.read(front);
-        if !next.is_same(px) {
-            return count;
-        }
+    while begins_with::<N>(rest, px) {
+        let (_, after) = rest.split_at(N);
         rest = after;
         count += 1;
     }
     count
+}
+
+// Whether the first sixteen pixels are all `px`, by three or four vectors of sixteen bytes.
+#[inline(always)]
+fn is_block<const N: usize>(bytes: &[u8], px: Packed) -> bool
+    requires channels { IsChannels N }
+    requires opaque { N ≡ 3 → px.a ≡ 255 }
+    requires long { N * 16 ≤ length bytes.now }
+    ensures { IsTrue result
+        → pixels_of N bytes.now ≡ replicate 16 px ++ pixels_of N (drop (N * 16) bytes.now) }
+{
+    if !is_part::<N, 0>(bytes, px) {
+        return false;
+    }
+    if !is_part::<N, 1>(bytes, px) {
+        return false;
+    }
+    if !is_part::<N, 2>(bytes, px) {
+        return false;
+    }
+    N == 3 || is_part::<N, 3>(bytes, px)
+}
+
+// Whether the `PART`th sixteen bytes are those of `px` written again and again.
+#[inline(always)]
+fn is_part<const N: usize, const PART: usize>(bytes: &[u8], px: Packed) -> bool
+    requires channels { IsChannels N }
+    requires part { PART < N }
+    requires long { N * 16 ≤ length bytes.now }
+    ensures { IsTrue result → take 16 (drop (16 * PART) bytes.now)
+        ≡ take 16 (drop (16 * PART) (output N N (replicate 16 px))) }
+{
+    let (_, part) = bytes.split_at(16 * PART);
+    u8x16::from_slice(part) == px.block::<N, PART>()
 }

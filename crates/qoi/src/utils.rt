@@ -83,7 +83,7 @@ impl<const N: usize> Pixel<N> {
         ensures refused { IfErr result (λ e. W.Refuses e × (c : Chunk)
             × Spells self.now px_prev.entry c × WroteSome W.wrote buf.old (bytes_of c) buf.new) }
     {
-        write_chunk(buf, self.spelled_after(px_prev))
+        write_chunk(buf, self.packed().spelled_after(px_prev.packed()))
     }
 }
 

@@ -15,7 +15,7 @@ use Rattle.qoi.specs.writers.Writes.{WriterLaws, WroteBut, WroteSome}
 use Rattle.qoi.proofs.format.ChunkSteps.{previous_repeats}
 use Rattle.qoi.proofs.encoding.StillToWrite.{StillToWrite, all_to_write, only_runs, runs_and_chunk, runs_next}
 use Rattle.qoi.proofs.encoding.WriterProgress.{wrote_none, wrote_next, wrote_part, wrote_all, left_fits}
-use Rattle.qoi.proofs.decoding.FilledBuffer.{whole_pixels}
+use Rattle.qoi.proofs.decoding.FilledBuffer.{whole_pixels, take_whole}
 use Rattle.qoi.proofs.encoding.CoderTable.{state_repeats}
 use Rattle.qoi.proofs.encoding.GroupRuns.{Group, group_of, split_is, none_of_few}
 use Rattle.qoi.proofs.format.RawPixels.{pixels_of_are, pixels_of_have, length-pixels_of, pixels_of-next}
@@ -52,7 +52,7 @@ module _ {W : Type 0} (wrote : W → List ℕ → W → Type 0) (room : W → �
     pub went : WroteBut wrote start (text cs) (next ++ more) buf
 
   -- Between two groups: the pixels of `rest` are still to come, and the chunks `todo` are still to be written.
-  pub record CoderBetween (rest : List ℕ) (table : List RgbaPixel) (last : List ℕ) (buf : W) : Type 0 where
+  pub record CoderBetween (rest : List ℕ) (table : List RgbaPixel) (last : RgbaPixel) (buf : W) : Type 0 where
     pub past : Past
     pub todo : List Chunk
     pub writing : Writing [] (text todo) buf
@@ -62,12 +62,12 @@ module _ {W : Type 0} (wrote : W → List ℕ → W → Type 0) (room : W → �
     pub state : StateAfter past table last
 
   -- Once the repeats are counted: they stand ahead as a group.
-  pub record AtGroup (rest : List ℕ) (table : List RgbaPixel) (last : List ℕ) (buf : W) (count : ℕ) : Type 0 where
+  pub record AtGroup (rest : List ℕ) (table : List RgbaPixel) (last : RgbaPixel) (buf : W) (count : ℕ) : Type 0 where
     pub between : CoderBetween rest table last buf
-    pub group : Group n rest (rgba last) count
+    pub group : Group n rest last count
 
   -- Once the chunk of the fresh pixel is chosen: it is to be written next, and then the coder is between two groups.
-  pub record AtFresh (after : List ℕ) (table : List RgbaPixel) (last : List ℕ) (chunk : Chunk) (buf : W) : Type 0 where
+  pub record AtFresh (after : List ℕ) (table : List RgbaPixel) (last : RgbaPixel) (chunk : Chunk) (buf : W) : Type 0 where
     pub next : (left : List Chunk) × Writing (bytes_of chunk) (text left) buf
     pub between : {now : W} → wrote buf (bytes_of chunk) now → CoderBetween after table last now
 
@@ -101,7 +101,7 @@ module _ {W : Type 0} {wrote : W → List ℕ → W → Type 0} {room : W → �
   all_went {now = now} w went = (w.cs, w.written, wrote_all wrote room w.task.laws start now (text w.cs) (next_went w {piece = []} went refl).went)
 
   -- before the first pixel
-  pub coder_starts : {table : List RgbaPixel} {last : List ℕ} → Task wrote room n bytes start → StateAfter [] table last → CoderBetween wrote room n bytes start bytes table last start
+  pub coder_starts : {table : List RgbaPixel} {last : RgbaPixel} → Task wrote room n bytes start → StateAfter [] table last → CoderBetween wrote room n bytes start bytes table last start
   coder_starts task state =
       let are : AllByRecursion IsPixel (pixels_of n bytes) = pixels_of_are n bytes task.channels (all_bytes bytes task.are) in
       let list = some_by IsChoice chooses (pixels_of n bytes) are in
@@ -116,10 +116,10 @@ module _ {W : Type 0} {wrote : W → List ℕ → W → Type 0} {room : W → �
       }
 
   -- counted repeats are a group
-  pub at_group : {rest last : List ℕ} {table : List RgbaPixel} {buf : W} {count : ℕ} → CoderBetween wrote room n bytes start rest table last buf → IsCount (rgba last) (pixels_of n rest) count → AtGroup wrote room n bytes start rest table last buf count
-  at_group {rest = rest} {last = last} {count = count} e counted = record { between = e; group = group_of n rest (rgba last) count e.writing.task.channels e.whole counted }
+  pub at_group : {rest : List ℕ} {last : RgbaPixel} {table : List RgbaPixel} {buf : W} {count : ℕ} → CoderBetween wrote room n bytes start rest table last buf → IsCount last (pixels_of n rest) count → AtGroup wrote room n bytes start rest table last buf count
+  at_group {rest = rest} {last = last} {count = count} e counted = record { between = e; group = group_of n rest last count e.writing.task.channels e.whole counted }
 
-  module _ {rest last : List ℕ} {table : List RgbaPixel} {buf : W} {count : ℕ} (a : AtGroup wrote room n bytes start rest table last buf count) where
+  module _ {rest : List ℕ} {last : RgbaPixel} {table : List RgbaPixel} {buf : W} {count : ℕ} (a : AtGroup wrote room n bytes start rest table last buf count) where
     -- the pixels behind the group
     abbrev others : List RgbaPixel
     others = pixels_of n (drop (n * count) rest)
@@ -157,35 +157,35 @@ module _ {W : Type 0} {wrote : W → List ℕ → W → Type 0} {room : W → �
           let some : length behind ≢ 0 = eqb-false (length behind) 0 (sym test) in
           by_channels (λ k. length behind % k ≡ 0 → k ≤ length behind) (λ w. omega arith) (λ w. omega arith) n a.between.writing.task.channels (ap (λ x. length x % n) back ∙ a.group.whole)
 
-      module _ {front after px : List ℕ} (front_is : front ≡ take n behind) (after_is : after ≡ drop n behind) (size : length front ≡ n) (same : px ≡ front) where
+      module _ {front after : List ℕ} {px : RgbaPixel} (front_is : front ≡ take n behind) (after_is : after ≡ drop n behind) (size : length front ≡ n) (same : px ≡ rgba (take n front)) where
         -- the bytes behind it are this pixel's and those after it
         split : drop (n * count) rest ≡ front ++ after
         split = sym back ∙ split_is n behind front after front_is after_is
 
         -- so the pixel stands ahead
-        pixel_ahead : others ≡ rgba px ∷ pixels_of n after
-        pixel_ahead = ap (pixels_of n) split ∙ pixels_of-next n front after a.between.writing.task.channels size ∙ ap (λ z. rgba z ∷ pixels_of n after) (sym same)
+        pixel_ahead : others ≡ px ∷ pixels_of n after
+        pixel_ahead = ap (pixels_of n) split ∙ pixels_of-next n front after a.between.writing.task.channels size ∙ ap (λ z. z ∷ pixels_of n after) (sym (same ∙ ap rgba (take_whole n front size)))
 
         -- it is fresh
-        is_fresh : rgba px ≢ previous a.between.past
+        is_fresh : px ≢ previous a.between.past
         is_fresh is = other_ahead (ap (λ x. slice_get x 0) pixel_ahead ∙ ap (λ p. Some p) is)
 
         -- its chunk is chosen once the runs are written
-        pub at_fresh : {flushed : W} {chunk : Chunk} {next_table : List RgbaPixel} {next_last : List ℕ} → wrote buf (text (runs count)) flushed → IsChunk chunk → ((past : Past) → IsPixel (previous past) → rgba px ≢ previous past → StateAfter past table last → IsChoice past (rgba px) chunk) → ((past : Past) → rgba px ≢ previous past → StateAfter past table last → StateAfter (rgba px ∷ past) next_table next_last) → AtFresh wrote room n bytes start after next_table next_last chunk flushed
+        pub at_fresh : {flushed : W} {chunk : Chunk} {next_table : List RgbaPixel} {next_last : RgbaPixel} → wrote buf (text (runs count)) flushed → IsChunk chunk → ((past : Past) → IsPixel (previous past) → px ≢ previous past → StateAfter past table last → IsChoice past px chunk) → ((past : Past) → px ≢ previous past → StateAfter past table last → StateAfter (px ∷ past) next_table next_last) → AtFresh wrote room n bytes start after next_table next_last chunk flushed
         at_fresh {chunk = chunk} went is choice state =
             let e = a.between in
             let end : Past = replicate count (previous e.past) ++ e.past in
             let repeated : previous end ≡ previous e.past = previous_repeats count e.past in
-            let fresh : rgba px ≢ previous end = λ p. is_fresh (p ∙ repeated) in
+            let fresh : px ≢ previous end = λ p. is_fresh (p ∙ repeated) in
             let still : StateAfter end table last = state_repeats count e.past table last e.state in
             let chosen = choice end (subst IsPixel (sym repeated) e.to_write.before) fresh still in
-            let left = runs_and_chunk IsChoice chooses _ _ _ count others _ group_ahead (rgba px) _ chunk pixel_ahead is_fresh is chosen in
+            let left = runs_and_chunk IsChoice chooses _ _ _ count others _ group_ahead px _ chunk pixel_ahead is_fresh is chosen in
             let next : Writing wrote room n bytes start (bytes_of chunk) (text left.0) _ = next_went (runs_first (chunk ∷ left.0) left.1) went refl in
             let sizes : length (drop (n * count) rest) ≡ n + length after = ap length split ∙ length-append front after ∙ ap (λ k. k + length after) size in
             record {
               next = (left.0, next);
               between = λ went. record {
-                past = rgba px ∷ end;
+                past = px ∷ end;
                 todo = left.0;
                 writing = next_went next went refl;
                 to_write = left.2;

@@ -1,21 +1,14 @@
 -- The table of a coder, and the chunk that is chosen by it.
-use Rattle.std.proofs.Common.{◌≡◌, ◌≢◌, ℕ, zero, suc, eqb, inl, inr, List, [], ◌∷◌, ◌++◌, take, replicate, Some, refl, sym, ap, ◌∙◌, subst}
+use Rattle.std.proofs.Common.{◌≡◌, ◌≢◌, ℕ, zero, suc, eqb, List, ◌∷◌, ◌++◌, replicate, Some, refl, sym, ap, ◌∙◌, subst}
 use Rattle.std.proofs.lemmas.Bool.{cond_both, eqb-true}
 use Rattle.qoi.specs.declared.chunk.Chunk.{Chunk}
 use Rattle.qoi.specs.declared.chunk.Chunk.TheVariants.{Place}
-use Rattle.qoi.specs.Qoi.{RgbaPixel, Past, rgba, previous, hash, start, seen}
-use Rattle.qoi.specs.Raw.{IsChannels}
+use Rattle.qoi.specs.Qoi.{RgbaPixel, Past, previous, hash, seen}
 use Rattle.qoi.specs.inner.Table.{Holds}
 use Rattle.qoi.specs.Written.{fresh, noted, IsFirst, IsChoice}
 use Rattle.qoi.specs.inner.CoderState.{StateAfter}
 use Rattle.qoi.proofs.format.ChunkSteps.{previous_repeats}
 use Rattle.qoi.proofs.encoding.NotedPixels.{fresh_repeat, fresh_more}
-
--- as many zeros, with the last of four at 255, are the pixel before the first one
-pub opened : (n : ℕ) → IsChannels n → rgba (take n (take 3 (replicate n 0) ++ 255 ∷ [])) ≡ start
-unfolding start
-opened n (inl e) = rw e refl
-opened n (inr e) = rw e refl
 
 -- a pixel that the table holds may be put there again
 holds_again : (table : List RgbaPixel) (past : Past) (p : RgbaPixel) → Holds table past → seen past (hash p) ≡ p → Holds table (p ∷ past)
@@ -34,21 +27,18 @@ chosen_spelled past p i c at differs first =
     record { place = λ found. absurd (missing found); spelled = λ _. first }
 
 -- where a fresh pixel stands at its index position, the table stays as it is
-pub state_place : (past : Past) (table : List RgbaPixel) (px : List ℕ) (i : ℕ) → Holds table (fresh past) → rgba px ≢ previous past → i ≡ hash (rgba px) → seen (fresh past) i ≡ rgba px → StateAfter (rgba px ∷ past) table px
+pub state_place : (past : Past) (table : List RgbaPixel) (px : RgbaPixel) (i : ℕ) → Holds table (fresh past) → px ≢ previous past → i ≡ hash px → seen (fresh past) i ≡ px → StateAfter (px ∷ past) table px
 state_place past table px i holds differs at is = record {
-  table_is = subst (λ x. Holds table x) (sym (fresh_more past (rgba px) differs)) (holds_again table (fresh past) (rgba px) holds (ap (seen (fresh past)) (sym at) ∙ is));
+  table_is = subst (λ x. Holds table x) (sym (fresh_more past px differs)) (holds_again table (fresh past) px holds (ap (seen (fresh past)) (sym at) ∙ is));
   last_is = refl;
 }
 
 -- else it is put there
-pub state_put : (past : Past) (table : List RgbaPixel) (p : RgbaPixel) (px : List ℕ) → p ≡ rgba px → rgba px ≢ previous past → Holds table (p ∷ fresh past) → StateAfter (rgba px ∷ past) table px
-state_put past table p px is differs holds = record {
-  table_is = subst (λ x. Holds table x) (ap (λ q. q ∷ fresh past) is ∙ sym (fresh_more past (rgba px) differs)) holds;
-  last_is = refl;
-}
+pub state_put : (past : Past) (table : List RgbaPixel) (px : RgbaPixel) → px ≢ previous past → Holds table (px ∷ fresh past) → StateAfter (px ∷ past) table px
+state_put past table px differs holds = record { table_is = subst (λ x. Holds table x) (sym (fresh_more past px differs)) holds; last_is = refl }
 
 -- repeats change nothing
-pub state_repeats : (n : ℕ) (past : Past) (table : List RgbaPixel) (last : List ℕ) → StateAfter past table last → StateAfter (replicate n (previous past) ++ past) table last
+pub state_repeats : (n : ℕ) (past : Past) (table : List RgbaPixel) (last : RgbaPixel) → StateAfter past table last → StateAfter (replicate n (previous past) ++ past) table last
 state_repeats n past table last s = record {
   table_is = subst (λ x. Holds table x) (sym (fresh_repeats n)) s.table_is;
   last_is = s.last_is ∙ sym (previous_repeats n past);

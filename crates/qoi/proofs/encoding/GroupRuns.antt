@@ -9,6 +9,7 @@ use Rattle.qoi.specs.Qoi.{RgbaPixel, rgba}
 use Rattle.qoi.specs.Raw.{IsChannels, pixels_of}
 use Rattle.qoi.specs.Runs.{IsCount, last_run, runs}
 use Rattle.qoi.proofs.decoding.FilledBuffer.{whole_pixels}
+use Rattle.qoi.proofs.format.ChunkSteps.{repeats_after}
 use Rattle.qoi.proofs.format.RawPixels.{length-pixels_of, pixels_of-append, pixels_of-next}
 
 -- a group of none has no run
@@ -74,7 +75,7 @@ pub count_none : (p : RgbaPixel) (pixels : List RgbaPixel) → slice_get pixels 
 count_none p pixels other = record { same = refl; other = other }
 
 -- so many pixels that are p, and then others
-count_of : (p : RgbaPixel) (pixels rest : List RgbaPixel) (n : ℕ) → pixels ≡ replicate n p ++ rest → slice_get rest 0 ≢ Some p → IsCount p pixels n
+pub count_of : (p : RgbaPixel) (pixels rest : List RgbaPixel) (n : ℕ) → pixels ≡ replicate n p ++ rest → slice_get rest 0 ≢ Some p → IsCount p pixels n
 count_of p pixels rest n e other = record {
   same = e ∙ ap (λ x. replicate n p ++ x) (sym behind);
   other = λ same. other (sym (first n) ∙ ap (λ x. slice_get x n) (sym e) ∙ same);
@@ -92,15 +93,32 @@ pub record RepeatsSoFar (n : ℕ) (bytes rest : List ℕ) (p : RgbaPixel) (count
   pub size : n * count + length rest ≡ length bytes
   pub same : pixels_of n bytes ≡ replicate count p ++ pixels_of n rest
 
-module _ (n : ℕ) (bytes rest : List ℕ) (p : RgbaPixel) (count : ℕ) (is : IsChannels n) (w : RepeatsSoFar n bytes rest p count) where
-  module _ (front after : List ℕ) (split : rest ≡ front ++ after) (size : length front ≡ n) where
-    -- the next pixel is another
-    pub repeats_other : rgba front ≢ p → IsCount p (pixels_of n bytes) count
-    repeats_other differs = count_of p (pixels_of n bytes) (pixels_of n rest) count w.same (λ e. differs (some_same (rgba front) p (sym (first_of n rest front after is split size) ∙ e)))
+-- no more pixels than bytes
+pub counted_within : (n count more len : ℕ) → IsChannels n → n * count + more ≡ len → count + more ≤ len
+counted_within n count more len (inl e) = subst (λ k. k * count + more ≡ len → count + more ≤ len) (sym e) (λ s. omega arith)
+counted_within n count more len (inr e) = subst (λ k. k * count + more ≡ len → count + more ≤ len) (sym e) (λ s. omega arith)
 
-  -- no whole pixel is left
-  pub repeats_end : length rest < n → IsCount p (pixels_of n bytes) count
-  repeats_end few = count_of p (pixels_of n bytes) (pixels_of n rest) count w.same (first_of_few n rest p is few)
+-- sixteen pixels more are p
+pub repeats_block : (n : ℕ) (bytes rest after : List ℕ) (p : RgbaPixel) (count : ℕ) → IsChannels n → RepeatsSoFar n bytes rest p count → n * 16 ≤ length rest → after ≡ drop (n * 16) rest → pixels_of n rest ≡ replicate 16 p ++ pixels_of n (drop (n * 16) rest)
+    → RepeatsSoFar n bytes after p (count + 16)
+repeats_block n bytes rest after p count is w room behind block = record {
+  size = sums n is (omega (arith, ap length behind, length-drop (n * 16) rest)) w.size;
+  same = w.same ∙ ap (λ x. replicate count p ++ x) (block ∙ ap (λ x. replicate 16 p ++ pixels_of n x) (sym behind)) ∙ repeats_after count 16 p (pixels_of n after);
+}
+  where
+    sums : (n : ℕ) → IsChannels n → length after + n * 16 ≡ length rest → n * count + length rest ≡ length bytes → n * (count + 16) + length after ≡ length bytes
+    sums n (inl e) = subst (λ k. length after + k * 16 ≡ length rest → k * count + length rest ≡ length bytes → k * (count + 16) + length after ≡ length bytes) (sym e) (λ a b. omega arith)
+    sums n (inr e) = subst (λ k. length after + k * 16 ≡ length rest → k * count + length rest ≡ length bytes → k * (count + 16) + length after ≡ length bytes) (sym e) (λ a b. omega arith)
+
+-- the member at a place is the first behind as many
+nth_first : (k : ℕ) (xs : List RgbaPixel) → slice_get xs k ≡ slice_get (drop k xs) 0
+nth_first zero xs = refl
+nth_first (suc k) [] = refl
+nth_first (suc k) (x ∷ xs) = nth_first k xs
+
+-- repeats, and those that are counted behind them
+pub counted_on : (p : RgbaPixel) (pixels rest : List RgbaPixel) (n more : ℕ) → pixels ≡ replicate n p ++ rest → IsCount p rest more → IsCount p pixels (n + more)
+counted_on p pixels rest n more e w = count_of p pixels (drop more rest) (n + more) (e ∙ ap (λ x. replicate n p ++ x) w.same ∙ repeats_after n more p (drop more rest)) (λ same. w.other (nth_first more rest ∙ same))
 
 -- The pixels of the bytes are so many of q, and then those of the bytes behind them, of which the first is another.
 pub record Group (n : ℕ) (bytes : List ℕ) (q : RgbaPixel) (count : ℕ) : Type 0 where
@@ -114,7 +132,7 @@ pub group_of : (n : ℕ) (bytes : List ℕ) (q : RgbaPixel) (count : ℕ) → Is
 group_of n bytes q count is whole w = record {
   within = inside;
   pixels = w.same ∙ ap (λ x. replicate count q ++ x) behind;
-  other = λ e. w.other (first count (pixels_of n bytes) ∙ ap (λ x. slice_get x 0) behind ∙ e);
+  other = λ e. w.other (nth_first count (pixels_of n bytes) ∙ ap (λ x. slice_get x 0) behind ∙ e);
   whole = rw length-drop (still is);
 }
   where
@@ -143,11 +161,6 @@ group_of n bytes q count is whole w = record {
         ∙ ap (drop count) (pixels_of-append n count (take (n * count) bytes) (drop (n * count) bytes) is length_front)
         ∙ ap (λ k. drop k (pixels_of n (take (n * count) bytes) ++ pixels_of n (drop (n * count) bytes))) (sym (length-pixels_of n count (take (n * count) bytes) is length_front))
         ∙ drop-append_seam (pixels_of n (take (n * count) bytes)) (pixels_of n (drop (n * count) bytes))
-
-    first : (k : ℕ) (xs : List RgbaPixel) → slice_get xs k ≡ slice_get (drop k xs) 0
-    first zero xs = refl
-    first (suc k) [] = refl
-    first (suc k) (x ∷ xs) = first k xs
 
     still : IsChannels n → (length bytes - n * count) % n ≡ 0
     still (inl e) = let m = whole in let h = inside in subst (λ k. length bytes % k ≡ 0 → k * count ≤ length bytes → (length bytes - k * count) % k ≡ 0) (sym e) (λ a b. omega arith) m h

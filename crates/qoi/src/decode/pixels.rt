@@ -8,7 +8,7 @@ use crate::consts::{QOI_OP_DIFF, QOI_OP_RGB, QOI_OP_RGBA, QOI_OP_RUN};
 use crate::decode::deltas::{delta, nibbles};
 use crate::packed::{Packed, Spread};
 use crate::table::Table;
-use std::simd::{u8x16, u64x2};
+use std::simd::u8x16;
 
 // What chunks can name: the pixels that were put at the 64 index positions, and the last pixel.
 #[derive(Drop)]
@@ -103,14 +103,10 @@ fn block<const N: usize, const F: usize>(px: Packed) -> u8x16
     requires { IsChannels N }
     ensures { result ≡ take 16 (output F N (replicate 6 px)) }
 {
-    let rgb = px.rgb();
-    if N == 3 {
-        let eight = rgb + (rgb << 24) + (rgb << 48);
-        let more = (rgb >> 16) + (rgb << 8) + (rgb << 32) + (rgb << 56);
-        return u64x2::from_array([eight, more]).to_le_bytes();
+    if F == 4 {
+        return px.block::<N, 0>();
     }
-    let a = if F == 4 { px.a() } else { 0xff };
-    u64x2::splat((rgb + (u64::from(a) << 24)) * 0x1_0000_0001).to_le_bytes()
+    px.opaque().block::<N, 0>()
 }
 
 // Writes a block at `at`: a pixel as often as it has room there, and what is left over.

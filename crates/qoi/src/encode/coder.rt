@@ -2,7 +2,7 @@
 //! time (QOI specification 1.0, "Data" and "Chunks").
 ghost use Rattle.std.specs.Prelude.{◌≡◌, ◌≢◌, ℕ, ◌+◌, ◌/◌, ◌%◌, ◌≤◌, List, [], ◌∷◌, length, OnOk, IfErr};
 ghost use Rattle.qoi.specs.declared.chunk.Chunk.{Chunk};
-ghost use Rattle.qoi.specs.Qoi.{Past, IsPixel, rgba, previous, IsChunk, text, channels_number};
+ghost use Rattle.qoi.specs.Qoi.{Past, IsPixel, previous, IsChunk, text, channels_number};
 ghost use Rattle.qoi.specs.Raw.{IsChannels, pixels_of};
 ghost use Rattle.qoi.specs.Runs.{runs};
 ghost use Rattle.qoi.specs.Written.{IsChoice, Written};
@@ -11,8 +11,8 @@ ghost use Rattle.qoi.specs.inner.CoderState.{StateAfter};
 
 use crate::chunk::Chunk;
 use crate::error::Result;
-use crate::pixel::Pixel;
-use crate::runs::repeats;
+use crate::packed::Packed;
+use crate::runs::repeats_of;
 use crate::table::Table;
 use crate::types::Channels;
 use crate::utils::{Writer, write_chunk};
@@ -22,43 +22,40 @@ const RUN_MAX: usize = 62;
 
 // The fresh pixels at the 64 index positions, and the last pixel.
 #[derive(Drop)]
-struct Coder<const N: usize> {
+struct Coder {
     table: Table,
-    last: Pixel<N>,
+    last: Packed,
 }
 
-impl<const N: usize> Coder<N> {
+impl Coder {
     // Before the first pixel: transparent black at each index position, and opaque black.
-    fn new() -> Coder<N>
-        requires { IsChannels N }
+    fn new() -> Coder
         ensures { StateAfter [] result.table result.last }
     {
         Coder {
             table: Table::new(),
-            last: Pixel::new().with_a(0xff),
+            last: Packed::start(),
         }
     }
 
     // The chunk of a fresh pixel: its index position if it stands there, else the first chunk that
     // spells it out. It then stands there, and is the last pixel.
     #[inline(always)]
-    fn choose(&mut self, px: Pixel<N>) -> Chunk
-        requires { IsChannels N }
+    fn choose(&mut self, px: Packed) -> Chunk
         ensures chunk { IsChunk result }
-        ensures choice { (past : Past) → IsPixel (previous past) → rgba px.entry ≢ previous past
-            → StateAfter past self.old.table self.old.last → IsChoice past (rgba px.entry) result }
-        ensures state { (past : Past) → rgba px.entry ≢ previous past
+        ensures choice { (past : Past) → IsPixel (previous past) → px ≢ previous past
+            → StateAfter past self.old.table self.old.last → IsChoice past px result }
+        ensures state { (past : Past) → px ≢ previous past
             → StateAfter past self.old.table self.old.last
-            → StateAfter (rgba px.entry ∷ past) self.new.table self.new.last }
+            → StateAfter (px ∷ past) self.new.table self.new.last }
     {
         let last = self.last;
         self.last = px;
-        let place = px.hash_index();
-        let packed = px.packed();
-        if self.table.at(place).is_same(packed) {
+        let place = px.spread().hash_index();
+        if self.table.at(place).is_same(px) {
             return Chunk::Place(place);
         }
-        self.table.put(place, packed);
+        self.table.put(place, px);
         px.spelled_after(last)
     }
 }
@@ -90,19 +87,17 @@ fn encode_pixels<W: Writer, const N: usize>(buf: &mut W, data: &[u8]) -> Result<
     ensures refused { IfErr result (λ e. W.Refuses e × (cs : List Chunk)
         × Written (pixels_of N «data».now) cs × WroteSome W.wrote buf.old (text cs) buf.new) }
 {
-    let mut coder = Coder::<N>::new();
-    let mut px = Pixel::<N>::new();
+    let mut coder = Coder::new();
     let mut rest = data;
     loop {
-        let count = repeats(rest, coder.last);
+        let count = repeats_of::<N>(rest, coder.last);
         write_runs(buf, count)?;
         let (_, behind) = rest.split_at(N * count);
         if behind.is_empty() {
             return Ok(());
         }
         let (front, after) = behind.split_at(N);
-        px.read(front);
-        let chunk = coder.choose(px);
+        let chunk = coder.choose(Packed::read::<N>(front));
         write_chunk(buf, chunk)?;
         rest = after;
     }

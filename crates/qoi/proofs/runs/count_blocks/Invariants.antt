@@ -1,11 +1,10 @@
 -- The pixels so far repeat.
 use Rattle.std.proofs.Common.{length}
-use Rattle.qoi.specs.Qoi.{rgba}
 use Rattle.qoi.proofs.encoding.GroupRuns.{RepeatsSoFar}
-use Rattle.qoi.proofs.runs.count.Given as goal
+use Rattle.qoi.proofs.runs.count_blocks.Given as goal
 
 abbrev pub invariant-loop-rest : goal.invariant-loop-rest
-invariant-loop-rest g l = RepeatsSoFar g.row.N l.data l.rest (rgba l.px) l.count
+invariant-loop-rest g l = RepeatsSoFar g.row.N l.data l.rest l.px l.count
 
 abbrev pub decreases-loop-rest : goal.decreases-loop-rest
 decreases-loop-rest g l = length l.rest
