@@ -5,7 +5,7 @@ ghost use Rattle.qoi.specs.Raw.{IsChannels, output};
 ghost use Rattle.qoi.specs.inner.Packed.{word, lanes};
 
 use std::marker::Model;
-use std::simd::{u8x16, u64x2};
+use std::simd::{Simd, u8x4, u8x16, u64x2};
 
 // The lanes of a spread pixel: all its bits but the free ones.
 const LANES: u64 = 0xff00_ff00_00ff_00ff;
@@ -85,13 +85,21 @@ impl Packed {
         requires enough { N ≤ length bytes.now }
         ensures { result ≡ rgba (take N bytes.now) }
     {
-        if N == 4 {
-            return Packed::new(bytes[0], bytes[1], bytes[2], bytes[3]);
+        if bytes.len() < 4 {
+            return Packed::new(bytes[0], bytes[1], bytes[2], 0xff);
         }
-        if bytes.len() > 3 {
-            return Packed::new(bytes[0], bytes[1], bytes[2], bytes[3]).opaque();
-        }
-        Packed::new(bytes[0], bytes[1], bytes[2], 0xff)
+        let four = Packed::load(bytes);
+        if N == 4 { four } else { four.opaque() }
+    }
+
+    // The pixel of four bytes, which are read at once.
+    #[inline(always)]
+    fn load(bytes: &[u8]) -> Packed
+        requires { 4 ≤ length bytes.now }
+        ensures { result ≡ rgba (take 4 bytes.now) }
+    {
+        let number = Simd::<u32, 1>::from_le_bytes(u8x4::from_slice(bytes));
+        Packed(number.to_array()[0])
     }
 
     /// The pixel with alpha 255.

@@ -1,9 +1,9 @@
 -- A coder among the pixels of raw bytes.
-use Rattle.std.proofs.Common.{◌≡◌, ◌≢◌, ℕ, suc, ◌+◌, ◌*◌, ◌/◌, ◌%◌, ◌<◌, ◌≤◌, inl, inr, List, [], ◌∷◌, ◌++◌, length, get_or, false, true, ◌==◌, replicate, Some, refl, sym, ap, ◌∙◌, subst, arith, append-nil, length-append, take, drop}
+use Rattle.std.proofs.Common.{◌≡◌, ◌≢◌, ℕ, suc, ◌+◌, ◌*◌, ◌/◌, ◌%◌, ◌<◌, ◌≤◌, inl, inr, List, [], ◌∷◌, ◌++◌, length, get_or, false, true, ◌==◌, replicate, Some, refl, sym, ap, ◌∙◌, subst, arith, append-nil, length-append, take, drop, take-append-drop}
 use Rattle.std.specs.List.{AllByRecursion, slice_get}
 use Rattle.std.proofs.Math.Nat.{mul_comm}
 use Rattle.std.proofs.lemmas.Bool.{eqb-true, eqb-false}
-use Rattle.std.proofs.lemmas.List.{length-drop}
+use Rattle.std.proofs.lemmas.List.{length-drop, length-take-le}
 use Rattle.std.proofs.lemmas.Grind.{flat_map-append}
 use Rattle.qoi.specs.declared.chunk.Chunk.{Chunk}
 use Rattle.qoi.specs.Qoi.{AreBytes, RgbaPixel, IsPixel, Past, rgba, previous, IsChunk, bytes_of, text}
@@ -15,9 +15,9 @@ use Rattle.qoi.specs.writers.Writes.{WriterLaws, WroteBut, WroteSome}
 use Rattle.qoi.proofs.format.ChunkSteps.{previous_repeats}
 use Rattle.qoi.proofs.encoding.StillToWrite.{StillToWrite, all_to_write, only_runs, runs_and_chunk, runs_next}
 use Rattle.qoi.proofs.encoding.WriterProgress.{wrote_none, wrote_next, wrote_part, wrote_all, left_fits}
-use Rattle.qoi.proofs.decoding.FilledBuffer.{whole_pixels, take_whole}
+use Rattle.qoi.proofs.decoding.FilledBuffer.{whole_pixels}
 use Rattle.qoi.proofs.encoding.CoderTable.{state_repeats}
-use Rattle.qoi.proofs.encoding.GroupRuns.{Group, group_of, split_is, none_of_few}
+use Rattle.qoi.proofs.encoding.GroupRuns.{Group, group_of, none_of_few}
 use Rattle.qoi.proofs.format.RawPixels.{pixels_of_are, pixels_of_have, length-pixels_of, pixels_of-next}
 use Rattle.qoi.proofs.encoding.WrittenExists.{chooses, some_by}
 use Rattle.qoi.proofs.encoding.WrittenShape.{fits_by}
@@ -157,14 +157,22 @@ module _ {W : Type 0} {wrote : W → List ℕ → W → Type 0} {room : W → �
           let some : length behind ≢ 0 = eqb-false (length behind) 0 (sym test) in
           by_channels (λ k. length behind % k ≡ 0 → k ≤ length behind) (λ w. omega arith) (λ w. omega arith) n a.between.writing.task.channels (ap (λ x. length x % n) back ∙ a.group.whole)
 
-      module _ {front after : List ℕ} {px : RgbaPixel} (front_is : front ≡ take n behind) (after_is : after ≡ drop n behind) (size : length front ≡ n) (same : px ≡ rgba (take n front)) where
-        -- the bytes behind it are this pixel's and those after it
-        split : drop (n * count) rest ≡ front ++ after
-        split = sym back ∙ split_is n behind front after front_is after_is
+      module _ {px : RgbaPixel} (enough : n ≤ length behind) (same : px ≡ rgba (take n behind)) where
+        -- the bytes behind the pixel
+        abbrev after : List ℕ
+        after = drop n behind
+
+        -- the bytes behind the group are this pixel's and those after it
+        split : drop (n * count) rest ≡ take n behind ++ after
+        split = sym back ∙ sym (take-append-drop n behind)
+
+        -- as many as a pixel has
+        size : length (take n behind) ≡ n
+        size = length-take-le n behind enough
 
         -- so the pixel stands ahead
         pixel_ahead : others ≡ px ∷ pixels_of n after
-        pixel_ahead = ap (pixels_of n) split ∙ pixels_of-next n front after a.between.writing.task.channels size ∙ ap (λ z. z ∷ pixels_of n after) (sym (same ∙ ap rgba (take_whole n front size)))
+        pixel_ahead = ap (pixels_of n) split ∙ pixels_of-next n (take n behind) after a.between.writing.task.channels size ∙ ap (λ z. z ∷ pixels_of n after) (sym same)
 
         -- it is fresh
         is_fresh : px ≢ previous a.between.past
@@ -181,7 +189,7 @@ module _ {W : Type 0} {wrote : W → List ℕ → W → Type 0} {room : W → �
             let chosen = choice end (subst IsPixel (sym repeated) e.to_write.before) fresh still in
             let left = runs_and_chunk IsChoice chooses _ _ _ count others _ group_ahead px _ chunk pixel_ahead is_fresh is chosen in
             let next : Writing wrote room n bytes start (bytes_of chunk) (text left.0) _ = next_went (runs_first (chunk ∷ left.0) left.1) went refl in
-            let sizes : length (drop (n * count) rest) ≡ n + length after = ap length split ∙ length-append front after ∙ ap (λ k. k + length after) size in
+            let sizes : length (drop (n * count) rest) ≡ n + length after = ap length split ∙ length-append (take n behind) after ∙ ap (λ k. k + length after) size in
             record {
               next = (left.0, next);
               between = λ went. record {

@@ -1,8 +1,9 @@
 -- Pixels as single numbers.
-use Rattle.std.proofs.Common.{◌≡◌, ℕ, ◌+◌, ◌*◌, ◌/◌, ◌%◌, ◌^◌, ◌<◌, ◌≤◌, arith, sym, ap, ◌∙◌}
+use Rattle.std.proofs.Common.{◌≡◌, ℕ, ◌+◌, ◌*◌, ◌/◌, ◌%◌, ◌^◌, ◌<◌, ◌≤◌, List, ◌∷◌, length, take, arith, sym, ap, ◌∙◌}
+use lib.Lanes.{number_l}
 use Rattle.std.specs.Int.Bits.{bit_and}
 use Rattle.std.proofs.lemmas.Nat.{and_block, and_mask}
-use Rattle.qoi.specs.Qoi.{moved}
+use Rattle.qoi.specs.Qoi.{AreBytes, rgba, moved}
 use Rattle.qoi.proofs.format.SamePixels.{same_pixel}
 use Rattle.qoi.specs.inner.Packed.{pixel_of_word, lanes, spread, pixel_of_spread}
 
@@ -44,3 +45,8 @@ lanes_added s r g b e l lr lg lb = same_pixel _ _ (omega arith) (omega arith) (o
 -- and a spread pixel has room for them
 pub lanes_fit : (s by : ℕ) → s ≡ spread (pixel_of_spread s) → s < 2 ^ 64 → by < 2 ^ 52 → s + by < 2 ^ 64
 lanes_fit s by e l lb = omega arith
+
+-- four bytes read as one number mean their pixel
+pub loaded : (bytes : List ℕ) → AreBytes bytes → 4 ≤ length bytes → pixel_of_word (number_l 256 (take 4 bytes) % 2 ^ 32) ≡ rgba (take 4 bytes)
+loaded (r ∷ g ∷ b ∷ a ∷ bytes) h l = same_pixel _ _ (omega (arith, h 0, h 1, h 2, h 3)) (omega (arith, h 0, h 1, h 2, h 3)) (omega (arith, h 0, h 1, h 2, h 3)) (omega (arith, h 0, h 1, h 2, h 3))
+loaded _ h l = absurd (omega arith)

@@ -96,9 +96,9 @@ fn encode_pixels<W: Writer, const N: usize>(buf: &mut W, data: &[u8]) -> Result<
         if behind.is_empty() {
             return Ok(());
         }
-        let (front, after) = behind.split_at(N);
-        let chunk = coder.choose(Packed::read::<N>(front));
+        let chunk = coder.choose(Packed::read::<N>(behind));
         write_chunk(buf, chunk)?;
+        let (_, after) = behind.split_at(N);
         rest = after;
     }
 }
