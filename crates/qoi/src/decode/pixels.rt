@@ -206,7 +206,6 @@ fn give_pixel<const N: usize, const F: usize>(
 // Gives the last pixel again, `count` times, and as far as there is room, and returns where it
 // stopped.
 #[inline(always)]
-#[tactic(auto, using(crate::proofs::decoding::SeenTable::seen_repeated))]
 fn give_run<const N: usize, const F: usize>(
     seen: &mut Seen,
     count: usize,
