@@ -1,5 +1,6 @@
 -- What a contract sees of a decoder.
-use Rattle.std.specs.Prelude.{ℕ, List, Option, Bool}
+use Rattle.std.specs.Prelude.{ℕ, ◌+◌, ◌*◌, ◌≤◌, List, Option, Bool, length}
+use Rattle.std.specs.Io.KnownBytes.{Consumes}
 use Rattle.qoi.specs.declared.error.Error.{Error}
 use Rattle.qoi.specs.declared.types.Channels.{Channels}
 use Rattle.qoi.specs.declared.header.Header.{Header}
@@ -24,3 +25,11 @@ DecodesImage ahead old new out =
 -- why the bytes ahead were refused, and what of them was taken
 abbrev pub RefusesDecoding : {R : Type 0} → Bool → (R → Option (List ℕ)) → DecoderState R → DecoderState R → Error → Type 0
 RefusesDecoding in_memory ahead old new e = RefusesImage in_memory (pixel_count old.header) (ahead old.reader) (ahead new.reader) e
+
+-- at most so many bytes were taken
+abbrev pub TakesAtMost : ℕ → Option (List ℕ) → Option (List ℕ) → Type 0
+TakesAtMost most old new = (taken : List ℕ) × Consumes old new taken × (length taken ≤ most)
+
+-- at most five bytes for each pixel and eight more were taken from the bytes ahead
+abbrev pub TakesWithin : {R : Type 0} → (R → Option (List ℕ)) → DecoderState R → DecoderState R → Type 0
+TakesWithin ahead old new = TakesAtMost (5 * pixel_count old.header + 8) (ahead old.reader) (ahead new.reader)

@@ -7,7 +7,7 @@ ghost use Rattle.qoi.specs.Qoi.{header_of, pixel_count, raw_byte_count, IsFile, 
 ghost use Rattle.qoi.specs.Verdicts.{IsWhole};
 ghost use Rattle.qoi.specs.Decoding.{ReadsHeader, RefusesFile, RefusesWholeFile, DecodesFile, file_byte_count, HasImageLength};
 ghost use Rattle.qoi.specs.Encoded.{IsFileOf};
-ghost use Rattle.qoi.specs.DecoderState.{image_byte_count, DecodesImage, RefusesDecoding};
+ghost use Rattle.qoi.specs.DecoderState.{image_byte_count, DecodesImage, RefusesDecoding, TakesWithin};
 
 mod deltas;
 mod pixels;
@@ -270,6 +270,8 @@ impl<R: Reader> Decoder<R> {
         ensures later { drop (image_byte_count self.old) buf.new
             ≡ drop (image_byte_count self.old) buf.old }
         ensures kept { self.new ≡ record self.old { reader = self.new.reader } }
+        // Of n pixels a call takes at most 5n + 8 bytes, also where it refuses.
+        ensures bounded { TakesWithin R.ahead self.old self.new }
     {
         let size = self.required_buf_len();
         if buf.len() < size {
@@ -302,6 +304,8 @@ impl<R: Reader> Decoder<R> {
             → IsWhole (pixel_count self.old.header) bytes cs rest
             → IsOkUnless result Error.OutOfMemory }
         ensures kept { self.new ≡ record self.old { reader = self.new.reader } }
+        // Of n pixels a call takes at most 5n + 8 bytes, also where it refuses.
+        ensures bounded { TakesWithin R.ahead self.old self.new }
     {
         let mut out = vec![in alloc; 0u8; self.required_buf_len()]?;
         self.decode_to_buf(&mut out)?;

@@ -111,7 +111,8 @@ fn decode_into<R: Read, W: Write>(
     let file = read_all(alloc, input)?;
     let mut decoder = Decoder::new(&file)?.with_channels(channels);
     let pixels = decoder.decode_to_vec(alloc)?;
-    write_whole(output, &pixels)
+    write_whole(output, &pixels)?;
+    Ok(())
 }
 
 // Reads the raw bytes of an image, and writes its file.

@@ -1,8 +1,14 @@
 -- How many bytes a decoder takes for n pixels.
-use Rattle.std.proofs.Common.{◌≡◌, ℕ, ◌+◌, ◌*◌, ◌<◌, ◌≤◌, List, [], ◌∷◌, length, replicate, arith, length-append}
+use Rattle.std.proofs.Common.{◌≡◌, inl, inr, ℕ, ◌+◌, ◌*◌, ◌<◌, ◌≤◌, List, [], ◌∷◌, ◌++◌, length, replicate, Bool, true, false, Option, Some, None, sym, ap, arith, length-append}
+use Rattle.std.specs.Io.KnownBytes.{Consumes, Keeps}
+use Rattle.qoi.specs.declared.error.Error.{Error}
+use Rattle.qoi.specs.declared.error.Error.TheVariants.{InvalidMagic, InvalidChannels, InvalidColorSpace, InvalidImageDimensions, InvalidImageLength, OutputBufferTooSmall, UnexpectedBufferEnd, InvalidPadding, IoError, OutOfMemory}
+use Rattle.qoi.specs.Verdicts.{IsPartOfChunk}
+use Rattle.qoi.specs.Decoding.{HasCut, HasWrong, ReadsImage, RefusesImage}
+use Rattle.qoi.specs.DecoderState.{TakesAtMost}
 use Rattle.std.proofs.lemmas.List.{length-replicate}
 use Rattle.qoi.specs.declared.chunk.Chunk.{Chunk}
-use Rattle.qoi.specs.Qoi.{Past, AreChunks, bytes_of, text, times, pixel_of, then_chunk, Reaches, StayBelow, meaning, then_chunks}
+use Rattle.qoi.specs.Qoi.{Past, AreChunks, bytes_of, text, times, pixel_of, then_chunk, Reaches, StayBelow, meaning, then_chunks, end_marker}
 use Rattle.qoi.proofs.format.Appended.{length-bytes_of, length-meaning}
 use Rattle.qoi.proofs.format.OneVerdict.{StayBelowAfter}
 use Rattle.qoi.proofs.format.ChunkSteps.{times_some}
@@ -31,3 +37,44 @@ reached_within n cs h r = omega (arith, bytes_short n [] cs h (omega arith) r.sh
 -- chunks that stay below n pixels leave room for five bytes more
 pub below_within : (n : ℕ) (cs : List Chunk) → AreChunks cs → StayBelow n cs → length (meaning cs) < n → 5 + length (text cs) ≤ 5 * n
 below_within n cs h s below = omega (arith, bytes_within [] cs h, length-meaning cs)
+
+-- a part of a chunk has fewer bytes than five
+part_within : (part : List ℕ) → IsPartOfChunk part → length part ≤ 4
+part_within part (c, next, more, is, e) = omega (arith, (length-bytes_of c).1, ap length e, length-append part (next ∷ more))
+
+-- cut bytes are within the bound
+cut_within : (n : ℕ) (bytes : List ℕ) → HasCut n bytes → length bytes ≤ 5 * n + 8
+cut_within n bytes (cs, part, cut) =
+    elim cut.ends [
+      | inl chunk ↦ omega (arith, below_within n cs cut.takes.chunks cut.takes.short chunk.0, part_within part chunk.1, ap length cut.takes.split, length-append (text cs) part)
+      | inr marker ↦ omega (arith, reached_within n cs cut.takes.chunks (record { short = cut.takes.short; enough = marker.0 }), marker.1, ap length cut.takes.split, length-append (text cs) part)
+    ]
+
+-- so are wrong ones with nothing behind the eight bytes
+wrong_within : (n : ℕ) (bytes : List ℕ) → HasWrong n bytes [] → length bytes ≤ 5 * n + 8
+wrong_within n bytes (cs, eight, wrong) =
+    omega (arith, reached_within n cs wrong.takes.chunks (record { short = wrong.takes.short; enough = wrong.enough }), wrong.length_is, ap length wrong.takes.split, length-append (text cs) (eight ++ []), length-append eight [])
+
+-- a decoded image is
+pub read_within : (f c n : ℕ) (old new : Option (List ℕ)) (out : List ℕ) → ReadsImage f c n old new out → TakesAtMost (5 * n + 8) old new
+read_within f c n old new out r = (text r.cs ++ end_marker, r.taken, omega (arith, reached_within n r.cs r.chunks r.reaches, length-append (text r.cs) end_marker))
+
+-- bytes that are kept have lost none
+keeps_all : (old new : Option (List ℕ)) → Keeps old new → Consumes old new []
+keeps_all None new k = tt
+keeps_all (Some xs) None k = absurd k
+keeps_all (Some xs) (Some ys) k = sym k
+
+-- and a refused one
+pub refused_within : (in_memory : Bool) (n : ℕ) (old new : Option (List ℕ)) (e : Error) → RefusesImage in_memory n old new e → TakesAtMost (5 * n + 8) old new
+refused_within true n old new e r = ([], keeps_all old new r.0, omega arith)
+refused_within false n old new (IoError x) (taken, took, why) = (taken, took, cut_within n taken why)
+refused_within false n old new InvalidPadding (taken, took, why) = (taken, took, wrong_within n taken why)
+refused_within false n old new (InvalidMagic x) (taken, took, why) = absurd why
+refused_within false n old new (InvalidChannels x) (taken, took, why) = absurd why
+refused_within false n old new (InvalidColorSpace x) (taken, took, why) = absurd why
+refused_within false n old new (InvalidImageDimensions x y) (taken, took, why) = absurd why
+refused_within false n old new (InvalidImageLength x y z) (taken, took, why) = absurd why
+refused_within false n old new (OutputBufferTooSmall x y) (taken, took, why) = absurd why
+refused_within false n old new UnexpectedBufferEnd (taken, took, why) = absurd why
+refused_within false n old new OutOfMemory (taken, took, why) = absurd why

@@ -1,13 +1,13 @@
 -- What the decoder refuses is what the file is refused for.
-use Rattle.std.proofs.Common.{◌≡◌, ℕ, List, drop, Ok, sym, ap, ◌∙◌, subst, inl, inr, ⊎_elim}
+use Rattle.std.proofs.Common.{◌≡◌, ℕ, List, drop, Ok, Some, sym, ap, ◌∙◌, subst, inl, inr, ⊎_elim}
 use Rattle.std.proofs.lemmas.Result.{err_from_is_err_and}
 use Rattle.std.proofs.KnownBytes.{Keeps-refl}
 use Rattle.qoi.specs.declared.error.Error.{Error}
 use Rattle.qoi.specs.declared.header.Header.{Header}
-use Rattle.qoi.specs.Qoi.{header_of, pixel_count, header_size}
+use Rattle.qoi.specs.Qoi.{channels_number, header_of, pixel_count, header_size}
 use Rattle.qoi.specs.DecoderState.{DecoderState}
-use Rattle.qoi.specs.Decoding.{RefusesBytes, RefusesWholeFile}
-use Rattle.qoi_tool.specs.Transfers.{IsOutside}
+use Rattle.qoi.specs.Decoding.{ReadsImage, RefusesBytes, RefusesWholeFile}
+use Rattle.qoi_tool.specs.Transfers.{IsOutside, WritesBeginning}
 use Rattle.qoi_tool.proofs.decode_into.Goals as goal
 
 -- a file is refused for the bytes after its header
@@ -33,3 +33,17 @@ returns-in_err-pixels-clause-refused g c =
       kept,
     ))
     c.in_err-pixels.ensures.refused)
+
+-- where writing failed, the image was decoded
+pub returns-in_err-write_whole-clause-refused : goal.returns-in_err-write_whole-clause-refused
+returns-in_err-write_whole-clause-refused g c =
+    let p = err_from_is_err_and c.from_residual-in_err-write_whole.result c.from_residual-in_err-write_whole.ensures.1 in
+    let d = c.in_ok-new.field-0 in
+    let accepted = c.in_ok-new.ensures.accepted in
+    let read = subst (λ (z : List ℕ). header_of z ≡ Ok d.header) c.deref.ensures.value accepted.0 in
+    let rest = c.decode_to_vec.new.self.reader in
+    let out = c.in_ok-pixels.pixels.items in
+    let decoded = subst (λ (z : DecoderState (List ℕ)). ReadsImage (channels_number z.header.channels) (channels_number z.channels) (pixel_count z.header) (Some z.reader) (Some rest) out) c.with_channels-decoder.ensures c.in_ok-pixels.ensures.decoded in
+    let whole = subst (λ (z : List ℕ). ReadsImage (channels_number d.header.channels) (channels_number c.args.channels) (pixel_count d.header) (Some z) (Some rest) out) (accepted.2 ∙ ap (drop header_size) c.deref.ensures.value) decoded in
+    let failed = c.in_err-write_whole.ensures.failed in
+    rw (p.1, p.2) (inr (inr (failed.0, (c.in_ok-file.file.items, out, c.in_ok-file.ensures.read, (d.header, rest, read, whole), subst (WritesBeginning _ _) c.deref-2.ensures.value failed.1))))
