@@ -13,6 +13,7 @@ mod lengths;
 mod memory;
 mod pixel;
 mod reader;
+mod runs;
 mod spelling;
 mod streams;
 mod support;
