@@ -1,5 +1,6 @@
 -- Lemmas on encoding.
 pub mod BufferFilled
+pub mod ChunkBehind
 pub mod Choices
 pub mod CoderSteps
 pub mod CoderTable
@@ -7,7 +8,7 @@ pub mod GroupRuns
 pub mod NotedPixels
 pub mod PixelBlock
 pub mod Spelled
-pub mod SpelledBytes
+pub mod SpelledSteps
 pub mod StillToWrite
 pub mod Unwritten
 pub mod WriterProgress

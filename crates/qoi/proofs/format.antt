@@ -4,6 +4,7 @@ pub mod ChunkSteps
 pub mod ChunksApart
 pub mod HeaderBytes
 pub mod Lanes
+pub mod Numbers
 pub mod OneVerdict
 pub mod PackedPixels
 pub mod PartOfChunk
@@ -13,4 +14,5 @@ pub mod SamePixels
 pub mod SetLast
 pub mod ShortLists
 pub mod SomeVerdict
+pub mod Steps
 pub mod TableHolds

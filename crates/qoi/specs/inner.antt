@@ -1,6 +1,8 @@
--- States of loops, and what the table of index positions holds.
+-- States of loops, what the table of index positions holds, and pixels and chunks as single numbers.
 pub mod CoderState
 pub mod Filling
 pub mod Packed
+pub mod PackedChunk
+pub mod Steps
 pub mod Table
 pub mod Taken

@@ -1,12 +1,10 @@
 //! The chunks of the format (QOI specification 1.0, "Chunks").
-ghost use Rattle.std.specs.Prelude.{◌≡◌, ◌≤◌, ℕ, List, ◌++◌, length, IfSome, IfNone, IsNone, IsSomeAnd};
+ghost use Rattle.std.specs.Prelude.{◌≡◌, ℕ, List, ◌++◌, IfSome, IfNone, IsNone, IsSomeAnd};
 ghost use Rattle.qoi.specs.declared.chunk.Chunk.{Chunk};
-ghost use Rattle.qoi.specs.Qoi.{Past, IsPixel, previous, IsChunk, bytes_of};
+ghost use Rattle.qoi.specs.Qoi.{IsChunk, bytes_of};
 ghost use Rattle.qoi.specs.Verdicts.{IsPartOfChunk};
-ghost use Rattle.qoi.specs.Written.{IsFirst};
 
 use crate::consts::{QOI_OP_DIFF, QOI_OP_INDEX, QOI_OP_LUMA, QOI_OP_RGB, QOI_OP_RGBA, QOI_OP_RUN};
-use crate::packed::Packed;
 
 pub(crate) const QOI_OP_INDEX_END: u8 = QOI_OP_INDEX | 0x3f;
 
@@ -72,36 +70,5 @@ pub fn read_chunk(data: &[u8]) -> Option<(Chunk, &[u8])>
                 _ => None,
             }
         }
-    }
-}
-
-impl Packed {
-    /// The first of a difference, a luma, an RGB and an RGBA chunk that gives this pixel after another.
-    #[inline(always)]
-    pub(crate) fn spelled_after(self, px_prev: Packed) -> Chunk
-        ensures chunk { IsChunk result }
-        ensures size { length (bytes_of result) ≤ 5 }
-        ensures opaque { self.a ≡ px_prev.a → length (bytes_of result) ≤ 4 }
-        ensures first { (past : Past) → IsPixel (previous past) → previous past ≡ px_prev
-            → IsFirst past self result }
-    {
-        let (r, g, b, a) = (self.r(), self.g(), self.b(), self.a());
-        if a != px_prev.a() {
-            return Chunk::Rgba(r, g, b, a);
-        }
-        let vr = r.wrapping_sub(px_prev.r());
-        let vg = g.wrapping_sub(px_prev.g());
-        let vb = b.wrapping_sub(px_prev.b());
-        let (vr_2, vg_2, vb_2) = (vr.wrapping_add(2), vg.wrapping_add(2), vb.wrapping_add(2));
-        if vr_2 < 4 && vg_2 < 4 && vb_2 < 4 {
-            return Chunk::Diff(QOI_OP_DIFF + vr_2 * 16 + vg_2 * 4 + vb_2);
-        }
-        let vg_32 = vg.wrapping_add(32);
-        let vg_r_8 = vr.wrapping_sub(vg).wrapping_add(8);
-        let vg_b_8 = vb.wrapping_sub(vg).wrapping_add(8);
-        if vg_32 < 64 && vg_r_8 < 16 && vg_b_8 < 16 {
-            return Chunk::Luma(QOI_OP_LUMA + vg_32, vg_r_8 * 16 + vg_b_8);
-        }
-        Chunk::Rgb(r, g, b)
     }
 }

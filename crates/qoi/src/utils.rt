@@ -1,18 +1,21 @@
 //! Where the encoder writes.
-ghost use Rattle.std.specs.Prelude.{◌≡◌, ℕ, ◌+◌, ◌<◌, ◌≤◌, List, [], ◌∷◌, length, OnOk, IfErr};
+ghost use lib.Lanes.{number_l, digits_l};
+ghost use Rattle.std.specs.Prelude.{◌≡◌, ℕ, ◌+◌, ◌<◌, ◌≤◌, List, [], ◌∷◌, length, OnOk, IfErr, IsTrue, IsFalse};
 ghost use Rattle.qoi.specs.declared.chunk.Chunk.{Chunk};
 ghost use Rattle.qoi.specs.writers.Writes.{WriterLaws, WroteSome};
 ghost use Rattle.qoi.specs.Errors.{IsIoError};
-ghost use Rattle.qoi.specs.Qoi.{IsChunk, bytes_of};
+ghost use Rattle.qoi.specs.Qoi.{AreBytes, IsChunk, bytes_of};
 ghost use Rattle.qoi.specs.Raw.{IsChannels};
 ghost use Rattle.qoi.specs.Spelling.{Spells};
 
 use crate::chunk::Chunk;
 use crate::consts::{QOI_OP_INDEX, QOI_OP_RGB, QOI_OP_RGBA, QOI_OP_RUN};
 use crate::error::{Error, Result};
+use crate::packed_chunk::PackedChunk;
 use crate::pixel::Pixel;
 use std::io;
 use std::io::{ErrorKind, Write};
+use std::simd::{Simd, u8x8};
 
 /// A place that takes bytes, one after the other.
 ///
@@ -41,6 +44,12 @@ pub trait Writer: Sized {
         ensures written { OnOk result (wrote self.old v.now self.new) }
         ensures refused { IfErr result (λ e. Refuses e × WroteSome wrote self.old v.now self.new) };
 
+    /// Writes a chunk at once, or answers `false` and writes nothing.
+    fn append(&mut self, chunk: PackedChunk) -> bool
+        requires { length (bytes_of chunk) ≤ room self.old }
+        ensures written { IsTrue result → wrote self.old (bytes_of chunk) self.new }
+        ensures kept { IsFalse result → self.new ≡ self.old };
+
     /// How many bytes can still be written.
     fn capacity(&self) -> usize
         ensures { result ≡ room self.now };
@@ -48,10 +57,25 @@ pub trait Writer: Sized {
     ghost laws: { WriterLaws wrote room };
 }
 
-// Writes a chunk's bytes.
+// Writes a chunk.
+#[inline(always)]
+pub(crate) fn write_chunk<W: Writer>(buf: &mut W, chunk: PackedChunk) -> Result<()>
+    requires chunk { IsChunk chunk }
+    requires room { length (bytes_of chunk) ≤ W.room buf.old }
+    ensures written { OnOk result (W.wrote buf.old (bytes_of chunk) buf.new) }
+    ensures refused { IfErr result (λ e.
+        W.Refuses e × WroteSome W.wrote buf.old (bytes_of chunk) buf.new) }
+{
+    if buf.append(chunk) {
+        return Ok(());
+    }
+    write_bytes(buf, chunk.chunk())
+}
+
+// Writes a chunk's bytes, one by itself and more of them together.
 #[inline(always)]
 #[tactic(auto, using(crate::proofs::encoding::Unwritten::nothing_written))]
-pub(crate) fn write_chunk<W: Writer>(buf: &mut W, chunk: Chunk) -> Result<()>
+fn write_bytes<W: Writer>(buf: &mut W, chunk: Chunk) -> Result<()>
     requires chunk { IsChunk chunk }
     requires room { length (bytes_of chunk) ≤ W.room buf.old }
     ensures written { OnOk result (W.wrote buf.old (bytes_of chunk) buf.new) }
@@ -130,6 +154,56 @@ impl<'a> BytesMut<'a> {
     }
 }
 
+impl<'a> BytesMut<'a> {
+    ghost use Rattle.qoi.specs.writers.Buffer.{BufferWrote, written_bytes, bytes_left, last_eight};
+
+    // The number of the last eight bytes that were written.
+    #[inline(always)]
+    fn last_eight(&self) -> u64
+        requires { 8 ≤ length (written_bytes self.now) }
+        ensures number { result ≡ number_l 256 (last_eight self.now) }
+        ensures bytes { AreBytes (last_eight self.now) }
+    {
+        load(&self.buf[self.written - 8..self.written])
+    }
+
+    // Writes a chunk where eight bytes or more are written: the eight bytes that end with the chunk's
+    // are written at once, whatever length the chunk has.
+    #[inline(always)]
+    fn write_over(&mut self, chunk: PackedChunk)
+        requires eight { 8 ≤ length (written_bytes self.old) }
+        requires room { length (bytes_of chunk) ≤ length (bytes_left self.old) }
+        ensures { BufferWrote self.old (bytes_of chunk) self.new }
+    {
+        let before = self.last_eight();
+        let end = self.written + (chunk.bits() / 8) as usize;
+        let eight = (before >> chunk.bits()) + chunk.top();
+        store(&mut self.buf[end - 8..end], eight);
+        self.written = end;
+    }
+}
+
+// The number of eight bytes, the first of them the lowest.
+#[inline(always)]
+fn load(bytes: &[u8]) -> u64
+    requires { length bytes.now ≡ 8 }
+    ensures number { result ≡ number_l 256 bytes.now }
+    ensures bytes { AreBytes bytes.now }
+{
+    Simd::<u64, 1>::from_le_bytes(u8x8::from_slice(bytes)).to_array()[0]
+}
+
+// Writes the eight bytes of a number.
+#[inline(always)]
+fn store(bytes: &mut [u8], number: u64)
+    requires { length bytes.old ≡ 8 }
+    ensures { bytes.new ≡ digits_l 256 8 number }
+{
+    Simd::<u64, 1>::from_array([number])
+        .to_le_bytes()
+        .copy_to_slice(bytes);
+}
+
 impl<'a> Writer for BytesMut<'a> {
     ghost use Rattle.qoi.specs.writers.Buffer.{BufferWrote, bytes_left, buffer_laws};
 
@@ -151,6 +225,15 @@ impl<'a> Writer for BytesMut<'a> {
     fn write_many(&mut self, v: &[u8]) -> Result<()> {
         BytesMut::write_many(self, v);
         Ok(())
+    }
+
+    #[inline(always)]
+    fn append(&mut self, chunk: PackedChunk) -> bool {
+        if self.written < 8 {
+            return false;
+        }
+        self.write_over(chunk);
+        true
     }
 
     #[inline]
@@ -217,6 +300,11 @@ impl<'a, W: Write> Writer for GenericWriter<'a, W> {
             rest = &rest[count..];
         }
         Ok(())
+    }
+
+    #[inline(always)]
+    fn append(&mut self, _chunk: PackedChunk) -> bool {
+        false
     }
 
     fn capacity(&self) -> usize {

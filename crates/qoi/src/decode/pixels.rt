@@ -1,12 +1,12 @@
 //! What both loops put into the output: the pixels of chunks.
-ghost use Rattle.std.specs.Prelude.{◌≡◌, ℕ, ◌+◌, ◌*◌, ◌/◌, ◌%◌, ◌<◌, ◌≤◌, [], ◌∷◌, ◌++◌, length, take, drop, replicate, nat_le, nat_lt, ◌&&◌, if◌then◌else◌};
+ghost use Rattle.std.specs.Prelude.{◌≡◌, ℕ, ◌+◌, ◌*◌, ◌/◌, ◌%◌, ◌<◌, ◌≤◌, [], ◌∷◌, ◌++◌, length, take, drop, replicate, nat_le, nat_lt, ◌&&◌};
 ghost use Rattle.qoi.specs.Qoi.{Past, seen, after_diff, after_luma};
 ghost use Rattle.qoi.specs.Raw.{IsChannels, pixel_bytes, output};
 ghost use Rattle.qoi.specs.inner.Filling.{HasFilled, HasSeen, GivesFirst};
 
 use crate::consts::{QOI_OP_DIFF, QOI_OP_RGB, QOI_OP_RGBA, QOI_OP_RUN};
 use crate::decode::deltas::{delta, nibbles};
-use crate::packed::{Packed, Spread};
+use crate::packed::{Packed, Spread, pick};
 use crate::table::Table;
 use std::simd::u8x16;
 
@@ -71,14 +71,6 @@ fn is_luma(b1: u8) -> bool
     ensures { result ≡ (nat_le 128 b1 && nat_lt b1 192) }
 {
     b1 / 64 == 2
-}
-
-// The first value or the other one. As both are at hand, no jump is needed.
-#[inline(always)]
-fn pick<T: Copy>(first: bool, one: T, other: T) -> T
-    ensures { result ≡ if first then one else other }
-{
-    if first { one } else { other }
 }
 
 // Writes a pixel at `at` in `N` channels, of a file of `F` channels.

@@ -9,9 +9,9 @@ ghost use Rattle.qoi.specs.Written.{IsChoice, Written};
 ghost use Rattle.qoi.specs.writers.Writes.{WroteSome};
 ghost use Rattle.qoi.specs.inner.CoderState.{StateAfter};
 
-use crate::chunk::Chunk;
 use crate::error::Result;
-use crate::packed::Packed;
+use crate::packed::{Packed, pick};
+use crate::packed_chunk::PackedChunk;
 use crate::runs::repeats_of;
 use crate::table::Table;
 use crate::types::Channels;
@@ -41,7 +41,7 @@ impl Coder {
     // The chunk of a fresh pixel: its index position if it stands there, else the first chunk that
     // spells it out. It then stands there, and is the last pixel.
     #[inline(always)]
-    fn choose(&mut self, px: Packed) -> Chunk
+    fn choose(&mut self, px: Packed) -> PackedChunk
         ensures chunk { IsChunk result }
         ensures choice { (past : Past) → IsPixel (previous past) → px ≢ previous past
             → StateAfter past self.old.table self.old.last → IsChoice past px result }
@@ -52,11 +52,13 @@ impl Coder {
         let last = self.last;
         self.last = px;
         let place = px.spread().hash_index();
-        if self.table.at(place).is_same(px) {
-            return Chunk::Place(place);
-        }
+        let noted = self.table.at(place);
         self.table.put(place, px);
-        px.spelled_after(last)
+        pick(
+            noted.is_same(px),
+            PackedChunk::place(place),
+            px.spelled_after(last),
+        )
     }
 }
 
@@ -71,7 +73,7 @@ fn write_runs<W: Writer>(buf: &mut W, count: usize) -> Result<()>
     let mut left = count;
     while left > 0 {
         let run = left.min(RUN_MAX);
-        write_chunk(buf, Chunk::Run(run as u8))?;
+        write_chunk(buf, PackedChunk::run(run as u8))?;
         left -= run;
     }
     Ok(())

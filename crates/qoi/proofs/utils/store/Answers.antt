@@ -1,0 +1,6 @@
+-- The eight bytes are those of the number.
+use Rattle.qoi.proofs.format.Numbers.{eight_stored}
+use Rattle.qoi.proofs.utils.store.Goals as goal
+
+pub returns : goal.returns
+returns c = eight_stored c.args.bytes.now c.args.number c.requires
