@@ -8,6 +8,9 @@ use crate::packed::Packed;
 use crate::pixel::Pixel;
 use std::simd::u8x16;
 
+// How many pixels are looked at one by one before blocks are.
+const FEW: usize = 16;
+
 /// How many whole pixels at the front of `data` equal `px`.
 #[inline(always)]
 pub fn repeats<const N: usize>(data: &[u8], px: Pixel<N>) -> usize
@@ -19,20 +22,23 @@ pub fn repeats<const N: usize>(data: &[u8], px: Pixel<N>) -> usize
 
 /// How many whole pixels at the front of `data` equal `px`.
 ///
-/// Mostly there is none or one, so the first two are looked at by themselves.
+/// Mostly there are few, so the first ones are looked at by themselves.
 #[inline(always)]
 pub(crate) fn repeats_of<const N: usize>(data: &[u8], px: Packed) -> usize
     requires { IsChannels N }
     ensures { IsCount px (pixels_of N «data».now) result }
 {
-    if !begins_with::<N>(data, px) {
-        return 0;
+    let mut count = 0;
+    let mut rest = data;
+    while begins_with::<N>(rest, px) {
+        if count == FEW {
+            return count + count_more::<N>(rest, px);
+        }
+        let (_, after) = rest.split_at(N);
+        rest = after;
+        count += 1;
     }
-    let (_, rest) = data.split_at(N);
-    if !begins_with::<N>(rest, px) {
-        return 1;
-    }
-    count::<N>(data, px)
+    count
 }
 
 // Whether a whole pixel equal to `px` stands at the front.
@@ -46,10 +52,11 @@ fn begins_with<const N: usize>(data: &[u8], px: Packed) -> bool
 
 // Counts by blocks of sixteen pixels, and then pixel by pixel.
 #[inline(never)]
-fn count<const N: usize>(data: &[u8], px: Packed) -> usize
+fn count_more<const N: usize>(data: &[u8], px: Packed) -> usize
     requires channels { IsChannels N }
     requires opaque { N ≡ 3 → px.a ≡ 255 }
-    ensures { IsCount px (pixels_of N «data».now) result }
+    ensures within { result ≤ length «data».now }
+    ensures counted { IsCount px (pixels_of N «data».now) result }
 {
     let (blocks, rest) = count_blocks::<N>(data, px);
     blocks + count_pixels::<N>(rest, px)
