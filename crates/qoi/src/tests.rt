@@ -1,5 +1,6 @@
 //! Worked examples, with values from outside, and what no contract says.
 
+mod broken;
 mod channels;
 mod choices;
 mod chunks;

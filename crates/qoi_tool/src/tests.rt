@@ -1,5 +1,6 @@
 //! The program over readers and writers in memory, with faults and with no memory.
 
+mod beginnings;
 mod callers;
 mod fakes;
 

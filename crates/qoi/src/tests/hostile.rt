@@ -1,18 +1,15 @@
 //! Drawn lists of chunks that no encoder writes, against a plain decoder.
 ghost use Rattle.std.specs.Prelude.{◌<◌};
 
-use crate::parts::Reader;
+use crate::tests::support::decodings::{Call, Decoding, assert_cut};
 use crate::tests::support::fakes::{NONE, Source};
 use crate::tests::support::files::{file_of, rgb, rgba};
 use crate::tests::support::generator::Rgba;
 use crate::tests::support::lists::Lists;
 use crate::tests::support::reference::Reference;
-use crate::tests::support::texts::{
-    assert_bytes, assert_fails, assert_header, assert_number, assert_refused,
-};
+use crate::tests::support::texts::assert_bytes;
 use crate::{Channels, Decoder, Header, Result};
 use std::alloc::Global;
-use std::io::ErrorKind;
 use std::process::Abort;
 
 // The raw bytes of the pixels in these channels. A file of three channels is opaque.
@@ -27,46 +24,22 @@ fn raw(alloc: Global, pixels: &[Rgba], own: Channels, channels: Channels) -> Res
     Ok(bytes)
 }
 
-// Decodes into a buffer that is five bytes longer than it has to be.
-fn assert_image<R: Reader>(
-    rt: &impl Abort,
-    alloc: Global,
-    decoder: &mut Decoder<R>,
-    header: &Header,
-    bytes: &[u8],
-) -> Result<()> {
-    assert_number(rt, decoder.required_buf_len(), bytes.len());
-    let mut buf = vec![in alloc; 0xaau8; bytes.len().saturating_add(5)]?;
-    assert_number(rt, decoder.decode_to_buf(&mut buf)?, bytes.len());
-    assert_header(rt, decoder.header(), header);
-    match buf.split_at_checked(bytes.len()) {
-        Some((front, rest)) => {
-            assert_bytes(rt, front, bytes);
-            assert_bytes(rt, rest, &[0xaa; 5]);
-        }
-        None => assert!(rt; false, "no image"),
-    }
-    Ok(())
-}
-
 // Decodes the file by slice, by stream, and by a stream that gives few bytes a call.
 fn assert_file(
     rt: &impl Abort,
     alloc: Global,
     file: &[u8],
-    (header, channels): (Header, Channels),
+    decoding: Decoding,
     bytes: &[u8],
     behind: &[u8],
 ) -> Result<()> {
-    let mut slice = Decoder::new(file)?.with_channels(channels);
-    assert_image(rt, alloc, &mut slice, &header, bytes)?;
-    assert_bytes(rt, slice.data(), behind);
-    let mut stream = Decoder::from_stream(file)?.with_channels(channels);
-    assert_image(rt, alloc, &mut stream, &header, bytes)?;
-    assert_bytes(rt, stream.into_reader(), behind);
+    let slice = decoding.of_slice(rt, alloc, file, behind)?;
+    assert_bytes(rt, &slice?, bytes);
+    let stream = decoding.of_stream(rt, alloc, file, behind)?;
+    assert_bytes(rt, &stream?, bytes);
     let source = Source::new(file, 3, NONE);
-    let mut short = Decoder::from_stream(source)?.with_channels(channels);
-    assert_image(rt, alloc, &mut short, &header, bytes)?;
+    let mut short = Decoder::from_stream(source)?.with_channels(decoding.channels);
+    assert_bytes(rt, &decoding.of(rt, alloc, &mut short)?, bytes);
     assert_bytes(rt, short.into_reader().left, behind);
     Ok(())
 }
@@ -86,7 +59,12 @@ fn assert_chunks(
         file.extend_from_slice(behind)?;
         for channels in [Channels::Rgb, Channels::Rgba] {
             let bytes = raw(alloc, pixels, own, channels)?;
-            assert_file(rt, alloc, &file, (header, channels), &bytes, behind)?;
+            let decoding = Decoding {
+                header,
+                channels,
+                call: Call::ToBuf,
+            };
+            assert_file(rt, alloc, &file, decoding, &bytes, behind)?;
         }
     }
     Ok(())
@@ -158,30 +136,6 @@ fn last_runs(rt: HostRuntime) -> Result<()> {
     Ok(())
 }
 
-// Decodes the front of a file by slice and by stream. Both refuse, and the slice is as before.
-fn assert_cut(rt: &impl Abort, alloc: Global, cut: &[u8], channels: Channels) -> Result<()> {
-    let mut slice = Decoder::new(cut)?.with_channels(channels);
-    let mut buf = vec![in alloc; 0u8; slice.required_buf_len()]?;
-    let refusal = slice.decode_to_buf(&mut buf).err();
-    assert_refused(
-        rt,
-        alloc,
-        refusal,
-        "unexpected input buffer end while decoding",
-    )?;
-    match cut.split_at_checked(14) {
-        Some((_, rest)) => assert_bytes(rt, slice.data(), rest),
-        None => assert!(rt; false, "no header"),
-    }
-    let mut stream = Decoder::from_stream(cut)?.with_channels(channels);
-    assert_fails(
-        rt,
-        stream.decode_to_buf(&mut buf).err(),
-        ErrorKind::UnexpectedEof,
-    );
-    Ok(())
-}
-
 // Each front of a file that has its header whole.
 #[test]
 fn cut_at_each_length(rt: HostRuntime) -> Result<()> {
@@ -192,8 +146,8 @@ fn cut_at_each_length(rt: HostRuntime) -> Result<()> {
             let file = file_of(alloc, header, &lists.list(alloc, n, 7)?)?;
             for size in 14..file.len() {
                 if let Some((cut, _)) = file.split_at_checked(size) {
-                    assert_cut(&rt, alloc, cut, Channels::Rgb)?;
-                    assert_cut(&rt, alloc, cut, Channels::Rgba)?;
+                    assert_cut(&rt, alloc, cut, header, Channels::Rgb)?;
+                    assert_cut(&rt, alloc, cut, header, Channels::Rgba)?;
                 }
             }
         }

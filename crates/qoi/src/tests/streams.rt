@@ -1,37 +1,16 @@
 //! Files that are decoded from a stream, and what is refused.
 use crate::tests::support::fakes::{Bad, End, NONE, Source};
-use crate::tests::support::files::{ONE_RGB_PIXEL, PIXEL, file_of, rgb};
+use crate::tests::support::files::{ONE_RGB_PIXEL, PIXEL, rgb};
 use crate::tests::support::texts::{
     assert_bytes, assert_fails, assert_header, assert_number, assert_refused,
 };
-use crate::{Channels, Decoder, Error, Result};
+use crate::{Channels, Decoder, Result};
 use std::alloc::Global;
 use std::io::{Cursor, ErrorKind};
 
 // Decodes from a stream.
 fn decode_by(alloc: Global, source: Source<'_>) -> Result<Vec<u8>> {
     Decoder::from_stream(source)?.decode_to_vec(alloc)
-}
-
-// What decoding the slice as a stream refuses, where the header is read or else behind it, and
-// whether the header was read and is still the same.
-fn refusal_of(alloc: Global, file: &[u8]) -> (Option<Error>, bool) {
-    match Decoder::from_stream(file) {
-        Ok(mut decoder) => {
-            let refusal = decoder.decode_to_vec(alloc).err();
-            (refusal, *decoder.header() == rgb(1))
-        }
-        Err(error) => (Some(error), false),
-    }
-}
-
-#[test]
-fn cut_at_each_length(rt: HostRuntime) {
-    for size in 0..26 {
-        let (refusal, has_header) = refusal_of(rt.alloc(), &ONE_RGB_PIXEL[..size]);
-        assert_fails(&rt, refusal, ErrorKind::UnexpectedEof);
-        assert!(rt; has_header == (size >= 14));
-    }
 }
 
 #[test]
@@ -51,28 +30,6 @@ fn two_files_in_one_stream(rt: HostRuntime) -> Result<()> {
 }
 
 #[test]
-fn what_follows_is_left(rt: HostRuntime) -> Result<()> {
-    let mut bytes = Vec::from_slice(rt.alloc(), &ONE_RGB_PIXEL)?;
-    bytes.extend_from_slice(&[0x78, 0x79])?;
-    let mut decoder = Decoder::from_stream(bytes.as_slice())?;
-    assert_bytes(&rt, &decoder.decode_to_vec(rt.alloc())?, &PIXEL);
-    assert_bytes(&rt, decoder.into_reader(), &[0x78, 0x79]);
-    Ok(())
-}
-
-#[test]
-fn short_buffers_take_nothing(rt: HostRuntime) -> Result<()> {
-    let mut decoder = Decoder::from_stream(ONE_RGB_PIXEL.as_slice())?;
-    let mut buf = [0xaa; 2];
-    let refusal = decoder.decode_to_buf(&mut buf).err();
-    let text = "output buffer size too small: 2 (required: 3)";
-    assert_refused(&rt, rt.alloc(), refusal, text)?;
-    assert_bytes(&rt, &buf, &[0xaa, 0xaa]);
-    assert_number(&rt, decoder.reader().len(), 12);
-    Ok(())
-}
-
-#[test]
 fn clones_go_on_alone(rt: HostRuntime) -> Result<()> {
     let mut decoder = Decoder::from_stream(ONE_RGB_PIXEL.as_slice())?;
     let mut cloned = decoder.clone()?;
@@ -85,17 +42,6 @@ fn clones_go_on_alone(rt: HostRuntime) -> Result<()> {
 fn clones_keep_channels(rt: HostRuntime) -> Result<()> {
     let decoder = Decoder::from_stream(ONE_RGB_PIXEL.as_slice())?.with_channels(Channels::Rgba);
     assert!(rt; decoder.clone()?.channels().is_rgba());
-    Ok(())
-}
-
-#[test]
-fn refused_padding_takes_eight_bytes(rt: HostRuntime) -> Result<()> {
-    let file = file_of(rt.alloc(), rgb(1), &[0xc0, 0xc0])?;
-    let mut decoder = Decoder::from_stream(file.as_slice())?;
-    let refusal = decoder.decode_to_vec(rt.alloc()).err();
-    let text = "invalid padding (stream end marker mismatch)";
-    assert_refused(&rt, rt.alloc(), refusal, text)?;
-    assert_bytes(&rt, decoder.into_reader(), &[1]);
     Ok(())
 }
 

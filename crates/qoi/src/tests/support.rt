@@ -1,5 +1,7 @@
 //! What the tests share.
 
+pub mod decodings;
+pub mod examples;
 pub mod fakes;
 pub mod files;
 pub mod generator;
