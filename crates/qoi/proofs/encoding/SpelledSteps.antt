@@ -25,6 +25,16 @@ abbrev pub spelled : Bool → Bool → Bool → RgbaPixel → RgbaPixel → Rgba
 spelled is_diff is_luma keeps d l p =
     if is_diff then Diff (diff_tag + d.r * 16 + d.g * 4 + d.b) else (if is_luma then Luma (luma_tag + l.g) (l.r * 16 + l.b) else (if keeps then Rgb p.r p.g p.b else Rgba p.r p.g p.b p.a))
 
+-- three picks make it
+pub picked : {r short full diff luma rgb rgba : Chunk} (is_diff is_luma keeps : Bool) (d l p : RgbaPixel)
+    → r ≡ if is_diff then diff else short → short ≡ if is_luma then luma else full → full ≡ if keeps then rgb else rgba
+    → diff ≡ Diff (diff_tag + d.r * 16 + d.g * 4 + d.b) → luma ≡ Luma (luma_tag + l.g) (l.r * 16 + l.b) → rgb ≡ Rgb p.r p.g p.b → rgba ≡ Rgba p.r p.g p.b p.a
+    → r ≡ spelled is_diff is_luma keeps d l p
+picked is_diff is_luma keeps d l p first second third ed el er ea =
+    let full = third ∙ (λ i. if keeps then er i else ea i) in
+    let short = second ∙ (λ i. if is_luma then el i else full i) in
+    first ∙ (λ i. if is_diff then ed i else short i)
+
 -- where alpha stays, it has at most four bytes
 pub short_opaque : (is_diff is_luma keeps : Bool) (d l p : RgbaPixel) → keeps ≡ true → length (bytes_of (spelled is_diff is_luma keeps d l p)) ≤ 4
 short_opaque true is_luma keeps d l p e = omega arith

@@ -54,11 +54,8 @@ impl Coder {
         let place = px.spread().hash_index();
         let noted = self.table.at(place);
         self.table.put(place, px);
-        pick(
-            noted.is_same(px),
-            PackedChunk::place(place),
-            px.spelled_after(last),
-        )
+        let spelled = px.spelled_after(last);
+        pick(noted.is_same(px), PackedChunk::place(place), spelled)
     }
 }
 

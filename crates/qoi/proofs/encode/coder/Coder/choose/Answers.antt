@@ -7,8 +7,8 @@ use Rattle.qoi.proofs.encode.coder.Coder.choose.Goals as goal
 
 pub returns-clause-choice : goal.returns-clause-choice
 returns-clause-choice c past before differs state =
-    subst (IsChoice past c.args.px) (sym (c.pick.ensures ∙ (λ i. if c.is_same.result then c.place.ensures i else c.spelled_after.result)))
-    (chosen past c.args.px _ _ c.is_same.result c.spelled_after.result (c.hash_index-place.ensures.position ∙ ap hash c.spread.ensures) (c.at-noted.ensures (fresh past) state.table_is) c.is_same.ensures (c.spelled_after.ensures.first past before (sym state.last_is)))
+    subst (IsChoice past c.args.px) (sym (c.pick.ensures ∙ (λ i. if c.is_same.result then c.place.ensures i else c.spelled_after-spelled.result)))
+    (chosen past c.args.px _ _ c.is_same.result c.spelled_after-spelled.result (c.hash_index-place.ensures.position ∙ ap hash c.spread.ensures) (c.at-noted.ensures (fresh past) state.table_is) c.is_same.ensures (c.spelled_after-spelled.ensures.first past before (sym state.last_is)))
 
 pub returns-clause-state : goal.returns-clause-state
 returns-clause-state c past differs state = state_put past _ c.args.px differs (c.put.ensures (fresh past) state.table_is)
