@@ -4,9 +4,10 @@ use crate::tests::support::files::{ONE_RGB_PIXEL, PIXEL, file_of, rgb};
 use crate::tests::support::texts::{
     assert_bytes, assert_fails, assert_header, assert_number, assert_refused,
 };
-use crate::{Channels, Decoder, Error, Result};
+use crate::{Decoder, Error, Result};
 use std::alloc::Global;
 use std::io::{Cursor, ErrorKind};
+use std::process::Abort;
 
 // Decodes from a stream.
 fn decode_by(alloc: Global, source: Source<'_>) -> Result<Vec<u8>> {
@@ -73,22 +74,6 @@ fn short_buffers_take_nothing(rt: HostRuntime) -> Result<()> {
 }
 
 #[test]
-fn clones_go_on_alone(rt: HostRuntime) -> Result<()> {
-    let mut decoder = Decoder::from_stream(ONE_RGB_PIXEL.as_slice())?;
-    let mut cloned = decoder.clone()?;
-    assert_bytes(&rt, &decoder.decode_to_vec(rt.alloc())?, &PIXEL);
-    assert_bytes(&rt, &cloned.decode_to_vec(rt.alloc())?, &PIXEL);
-    Ok(())
-}
-
-#[test]
-fn clones_keep_channels(rt: HostRuntime) -> Result<()> {
-    let decoder = Decoder::from_stream(ONE_RGB_PIXEL.as_slice())?.with_channels(Channels::Rgba);
-    assert!(rt; decoder.clone()?.channels().is_rgba());
-    Ok(())
-}
-
-#[test]
 fn refused_padding_takes_eight_bytes(rt: HostRuntime) -> Result<()> {
     let file = file_of(rt.alloc(), rgb(1), &[0xc0, 0xc0])?;
     let mut decoder = Decoder::from_stream(file.as_slice())?;
@@ -109,7 +94,36 @@ fn short_reads(rt: HostRuntime) -> Result<()> {
     Ok(())
 }
 
-// One byte a call makes 26 calls; each of them in turn ends badly.
+// What ends decoding into a buffer, by a reader that is lent; the header takes fourteen calls. A
+// refusal leaves header and channels.
+fn refusal_at(rt: &impl Abort, reader: &mut Source<'_>, call: usize) -> Option<Error> {
+    match Decoder::from_stream(reader) {
+        Ok(mut decoder) => {
+            assert!(rt; call > 14);
+            let refusal = decoder.decode_to_buf(&mut [0xaa; 3]).err();
+            assert_header(rt, decoder.header(), &rgb(1));
+            assert!(rt; decoder.channels().is_rgb());
+            refusal
+        }
+        Err(error) => {
+            assert!(rt; call <= 14);
+            Some(error)
+        }
+    }
+}
+
+// Decodes by a reader that gives a byte a call and has a bad call. The error is of this kind, the
+// reader isn't called again, and these bytes are left.
+fn assert_stops(rt: &impl Abort, alloc: Global, bad: Bad, kind: ErrorKind, left: &[u8]) {
+    let mut reader = Source::new(&ONE_RGB_PIXEL, 1, bad);
+    assert_fails(rt, refusal_at(rt, &mut reader, bad.call), kind);
+    assert_bytes(rt, reader.left, left);
+    assert_number(rt, reader.calls, bad.call);
+    let vector = decode_by(alloc, Source::new(&ONE_RGB_PIXEL, 1, bad));
+    assert_fails(rt, vector.err(), kind);
+}
+
+// One byte a call makes 26 calls; each of them in turn ends badly, and then none of them.
 #[test]
 fn bad_reads(rt: HostRuntime) -> Result<()> {
     let ends = [
@@ -118,20 +132,44 @@ fn bad_reads(rt: HostRuntime) -> Result<()> {
         (End::NoByte, ErrorKind::UnexpectedEof),
     ];
     for (end, kind) in ends {
-        for call in 1..27 {
-            let source = Source::new(&ONE_RGB_PIXEL, 1, Bad { call, end });
-            assert_fails(&rt, decode_by(rt.alloc(), source).err(), kind);
+        for taken in 0..26usize {
+            let bad = Bad {
+                call: taken + 1,
+                end,
+            };
+            assert_stops(&rt, rt.alloc(), bad, kind, &ONE_RGB_PIXEL[taken..]);
         }
-        let source = Source::new(&ONE_RGB_PIXEL, 1, Bad { call: 27, end });
-        assert_bytes(&rt, &decode_by(rt.alloc(), source)?, &PIXEL);
+        let mut reader = Source::new(&ONE_RGB_PIXEL, 1, Bad { call: 27, end });
+        let mut buf = [0xaa; 3];
+        let mut decoder = Decoder::from_stream(&mut reader)?;
+        assert_number(&rt, decoder.decode_to_buf(&mut buf)?, 3);
+        assert_bytes(&rt, &buf, &PIXEL);
+        assert_bytes(&rt, decoder.into_reader().left, &[]);
     }
     Ok(())
 }
 
 #[test]
-fn headers_are_refused(rt: HostRuntime) -> Result<()> {
+fn a_header_takes_fourteen_bytes(rt: HostRuntime) -> Result<()> {
+    let mut reader = Source::new(&ONE_RGB_PIXEL, 1, NONE);
+    let decoder = Decoder::from_stream(&mut reader)?;
+    assert_bytes(&rt, decoder.into_reader().left, &ONE_RGB_PIXEL[14..]);
+    Ok(())
+}
+
+// What refuses a header, by a reader that is lent.
+fn header_refusal(reader: &mut Source<'_>) -> Option<Error> {
+    Decoder::from_stream(reader).err()
+}
+
+#[test]
+fn a_refused_header_takes_fourteen_bytes(rt: HostRuntime) -> Result<()> {
     let mut file = ONE_RGB_PIXEL;
     file[12] = 5;
-    let refusal = Decoder::from_stream(file.as_slice()).err();
-    assert_refused(&rt, rt.alloc(), refusal, "invalid number of channels: 5")
+    let mut reader = Source::new(&file, 1, NONE);
+    let refusal = header_refusal(&mut reader);
+    assert_refused(&rt, rt.alloc(), refusal, "invalid number of channels: 5")?;
+    assert_number(&rt, reader.calls, 14);
+    assert_bytes(&rt, reader.left, &file[14..]);
+    Ok(())
 }
