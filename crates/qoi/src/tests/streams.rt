@@ -4,14 +4,14 @@ use crate::tests::support::files::{ONE_RGB_PIXEL, PIXEL, file_of, rgb};
 use crate::tests::support::texts::{
     assert_bytes, assert_fails, assert_header, assert_number, assert_refused,
 };
-use crate::{Decoder, Error, Result};
+use crate::{Channels, Decoder, Error, Result};
 use std::alloc::Global;
-use std::io::{Cursor, ErrorKind};
+use std::io::{Cursor, ErrorKind, Read};
 use std::process::Abort;
 
 // Decodes from a stream.
-fn decode_by(alloc: Global, source: Source<'_>) -> Result<Vec<u8>> {
-    Decoder::from_stream(source)?.decode_to_vec(alloc)
+fn decode_by<R: Read + Drop>(alloc: Global, reader: R) -> Result<Vec<u8>> {
+    Decoder::from_stream(reader)?.decode_to_vec(alloc)
 }
 
 // What decoding the slice as a stream refuses, where the header is read or else behind it, and
@@ -95,14 +95,15 @@ fn short_reads(rt: HostRuntime) -> Result<()> {
 }
 
 // What ends decoding into a buffer, by a reader that is lent; the header takes fourteen calls. A
-// refusal leaves header and channels.
+// refusal leaves the header and the chosen channels.
 fn refusal_at(rt: &impl Abort, reader: &mut Source<'_>, call: usize) -> Option<Error> {
     match Decoder::from_stream(reader) {
-        Ok(mut decoder) => {
+        Ok(decoder) => {
             assert!(rt; call > 14);
-            let refusal = decoder.decode_to_buf(&mut [0xaa; 3]).err();
+            let mut decoder = decoder.with_channels(Channels::Rgba);
+            let refusal = decoder.decode_to_buf(&mut [0xaa; 4]).err();
             assert_header(rt, decoder.header(), &rgb(1));
-            assert!(rt; decoder.channels().is_rgb());
+            assert!(rt; decoder.channels().is_rgba());
             refusal
         }
         Err(error) => {
@@ -112,15 +113,27 @@ fn refusal_at(rt: &impl Abort, reader: &mut Source<'_>, call: usize) -> Option<E
     }
 }
 
-// Decodes by a reader that gives a byte a call and has a bad call. The error is of this kind, the
-// reader isn't called again, and these bytes are left.
+// The refusal is an error of this kind, the reader wasn't called again, and these bytes are left.
+fn assert_stopped(
+    rt: &impl Abort,
+    refusal: Option<Error>,
+    kind: ErrorKind,
+    reader: &Source<'_>,
+    (call, left): (usize, &[u8]),
+) {
+    assert_fails(rt, refusal, kind);
+    assert_number(rt, reader.calls, call);
+    assert_bytes(rt, reader.left, left);
+}
+
+// Decodes into a buffer and into a vector, by readers that give a byte a call and have a bad call.
 fn assert_stops(rt: &impl Abort, alloc: Global, bad: Bad, kind: ErrorKind, left: &[u8]) {
     let mut reader = Source::new(&ONE_RGB_PIXEL, 1, bad);
-    assert_fails(rt, refusal_at(rt, &mut reader, bad.call), kind);
-    assert_bytes(rt, reader.left, left);
-    assert_number(rt, reader.calls, bad.call);
-    let vector = decode_by(alloc, Source::new(&ONE_RGB_PIXEL, 1, bad));
-    assert_fails(rt, vector.err(), kind);
+    let refusal = refusal_at(rt, &mut reader, bad.call);
+    assert_stopped(rt, refusal, kind, &reader, (bad.call, left));
+    let mut reader = Source::new(&ONE_RGB_PIXEL, 1, bad);
+    let refusal = decode_by(alloc, &mut reader).err();
+    assert_stopped(rt, refusal, kind, &reader, (bad.call, left));
 }
 
 // One byte a call makes 26 calls; each of them in turn ends badly, and then none of them.
@@ -146,14 +159,6 @@ fn bad_reads(rt: HostRuntime) -> Result<()> {
         assert_bytes(&rt, &buf, &PIXEL);
         assert_bytes(&rt, decoder.into_reader().left, &[]);
     }
-    Ok(())
-}
-
-#[test]
-fn a_header_takes_fourteen_bytes(rt: HostRuntime) -> Result<()> {
-    let mut reader = Source::new(&ONE_RGB_PIXEL, 1, NONE);
-    let decoder = Decoder::from_stream(&mut reader)?;
-    assert_bytes(&rt, decoder.into_reader().left, &ONE_RGB_PIXEL[14..]);
     Ok(())
 }
 
