@@ -16,6 +16,7 @@ mod pixel;
 mod reader;
 mod runs;
 mod spelling;
+mod std_streams;
 mod streams;
 mod support;
 mod surface;

@@ -78,6 +78,28 @@ fn is_io(answer: &Result<(), Fault>, kind: ErrorKind) -> bool {
     matches!(answer, Err(Fault::Image(Error::IoError(e))) if e.kind() == kind)
 }
 
+// Tests that the answer is a fault of this kind, and that its report is a line with status 1. The call
+// is named where one of the two isn't so.
+fn assert_io(
+    rt: &impl Abort,
+    alloc: Global,
+    answer: Result<(), Fault>,
+    kind: ErrorKind,
+    call: usize,
+) -> Result<(), Error> {
+    assert!(rt; is_io(&answer, kind), "at call {call}");
+    if let Err(fault) = answer {
+        let mut err = Sink::new(alloc, usize::MAX, NONE)?;
+        assert_eq!(rt; report(&fault, &mut err), 1);
+        assert!(rt;
+            err.got.starts_with(b"qoi_tool: i/o error: "),
+            "at call {call}"
+        );
+        assert!(rt; err.got.ends_with(b"\n"), "at call {call}");
+    }
+    Ok(())
+}
+
 // Compares what a fault's report writes and returns.
 fn assert_reports(
     rt: &impl Abort,
@@ -206,7 +228,7 @@ fn header_lines(rt: HostRuntime) -> Result<(), Fail> {
         let mut input = Source::new(&ONE_RGB_PIXEL[..13], most, NONE);
         let mut output = Sink::new(alloc, usize::MAX, NONE)?;
         let cut = answer(alloc, &["info"], &mut input, &mut output);
-        assert!(rt; is_io(&cut, ErrorKind::UnexpectedEof));
+        assert_io(&rt, alloc, cut, ErrorKind::UnexpectedEof, 14)?;
         assert!(rt; output.got.is_empty());
     }
     let line = b"20000x20000 channels 4 colorspace linear\n";
@@ -248,7 +270,7 @@ fn failing_reader(rt: HostRuntime) -> Result<(), Fail> {
             let mut input = Source::new(&ONE_RGB_PIXEL, 1, Bad { call, end });
             let mut output = Sink::new(alloc, usize::MAX, NONE)?;
             let answer = dec(alloc, &mut input, &mut output);
-            assert!(rt; is_io(&answer, kind), "at call {call}");
+            assert_io(&rt, alloc, answer, kind, call)?;
             assert_eq!(rt; input.calls, call);
             assert!(rt; output.got.is_empty(), "at call {call}");
         }
@@ -298,7 +320,7 @@ fn failing_writer(rt: HostRuntime) -> Result<(), Fail> {
             let mut input = Source::new(&ONE_RGB_PIXEL, usize::MAX, NONE);
             let mut output = Sink::new(alloc, 1, Bad { call, end })?;
             let answer = dec(alloc, &mut input, &mut output);
-            assert!(rt; is_io(&answer, kind), "at call {call}");
+            assert_io(&rt, alloc, answer, kind, call)?;
             assert_eq!(rt; output.got.as_slice(), &ONE_RGB_PIXEL_BYTES[..written]);
         }
         let mut input = Source::new(&ONE_RGB_PIXEL, usize::MAX, NONE);
@@ -309,30 +331,52 @@ fn failing_writer(rt: HostRuntime) -> Result<(), Fail> {
     Ok(())
 }
 
+// Runs the program while all memory is taken, and writes the line of its fault. Returns the status.
+fn starved(
+    alloc: Global,
+    words: &[&str],
+    input: &mut Source<'_>,
+    output: &mut Sink,
+    err: &mut Sink,
+) -> Result<u8, Error> {
+    let words = given(alloc, words)?;
+    let held = take_memory(alloc, 2)?;
+    let status = match run(alloc, &words, input, output) {
+        Ok(()) => 0,
+        Err(fault) => report(&fault, err),
+    };
+    drop(held);
+    Ok(status)
+}
+
 #[test]
 fn no_memory(rt: HostRuntime) -> Result<(), Fail> {
     let alloc = rt.alloc();
-    let words = given(alloc, &["dec"])?;
-    let info = given(alloc, &["info"])?;
-    let mut header = Source::new(&ONE_RGB_PIXEL, usize::MAX, NONE);
-    let mut line = Sink::new(alloc, usize::MAX, NONE)?;
+    let words: [&[&str]; 3] = [&["dec"], &["dec", "rgb"], &["enc", "1", "1"]];
+    for some in words {
+        let mut input = Source::new(&ONE_RGB_PIXEL, usize::MAX, NONE);
+        let mut output = Sink::new(alloc, usize::MAX, NONE)?;
+        let mut err = Sink::new(alloc, usize::MAX, NONE)?;
+        assert_eq!(rt; starved(alloc, some, &mut input, &mut output, &mut err)?, 1);
+        assert!(rt; output.got.is_empty());
+        assert_eq!(rt; err.got.as_slice(), b"qoi_tool: out of memory\n".as_slice());
+    }
+    Ok(())
+}
+
+// `info` takes no memory.
+#[test]
+fn info_without_memory(rt: HostRuntime) -> Result<(), Fail> {
+    let alloc = rt.alloc();
     let mut input = Source::new(&ONE_RGB_PIXEL, usize::MAX, NONE);
     let mut output = Sink::new(alloc, usize::MAX, NONE)?;
     let mut err = Sink::new(alloc, usize::MAX, NONE)?;
-    let held = take_memory(alloc, 600_000)?;
-    let answer = run(alloc, &words, &mut input, &mut output);
-    let status = match &answer {
-        Ok(()) => 0,
-        Err(fault) => report(fault, &mut err),
-    };
-    let told = run(alloc, &info, &mut header, &mut line);
-    drop(held);
-    assert!(rt; told.is_ok());
-    let wanted = b"1x1 channels 3 colorspace srgb\n";
-    assert_eq!(rt; line.got.as_slice(), wanted.as_slice());
-    assert!(rt; matches!(answer, Err(Fault::Image(Error::OutOfMemory))));
-    assert!(rt; output.got.is_empty());
-    assert_eq!(rt; status, 1);
-    assert_eq!(rt; err.got.as_slice(), b"qoi_tool: out of memory\n".as_slice());
+    assert_eq!(rt;
+        starved(alloc, &["info"], &mut input, &mut output, &mut err)?,
+        0
+    );
+    let line = b"1x1 channels 3 colorspace srgb\n";
+    assert_eq!(rt; output.got.as_slice(), line.as_slice());
+    assert!(rt; err.got.is_empty());
     Ok(())
 }

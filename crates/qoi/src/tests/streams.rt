@@ -4,13 +4,14 @@ use crate::tests::support::files::{ONE_RGB_PIXEL, PIXEL, rgb};
 use crate::tests::support::texts::{
     assert_bytes, assert_fails, assert_header, assert_number, assert_refused,
 };
-use crate::{Channels, Decoder, Result};
+use crate::{Channels, Decoder, Error, Result};
 use std::alloc::Global;
-use std::io::{Cursor, ErrorKind};
+use std::io::{Cursor, ErrorKind, Read};
+use std::process::Abort;
 
 // Decodes from a stream.
-fn decode_by(alloc: Global, source: Source<'_>) -> Result<Vec<u8>> {
-    Decoder::from_stream(source)?.decode_to_vec(alloc)
+fn decode_by<R: Read + Drop>(alloc: Global, reader: R) -> Result<Vec<u8>> {
+    Decoder::from_stream(reader)?.decode_to_vec(alloc)
 }
 
 #[test]
@@ -29,22 +30,6 @@ fn two_files_in_one_stream(rt: HostRuntime) -> Result<()> {
     Ok(())
 }
 
-#[test]
-fn clones_go_on_alone(rt: HostRuntime) -> Result<()> {
-    let mut decoder = Decoder::from_stream(ONE_RGB_PIXEL.as_slice())?;
-    let mut cloned = decoder.clone()?;
-    assert_bytes(&rt, &decoder.decode_to_vec(rt.alloc())?, &PIXEL);
-    assert_bytes(&rt, &cloned.decode_to_vec(rt.alloc())?, &PIXEL);
-    Ok(())
-}
-
-#[test]
-fn clones_keep_channels(rt: HostRuntime) -> Result<()> {
-    let decoder = Decoder::from_stream(ONE_RGB_PIXEL.as_slice())?.with_channels(Channels::Rgba);
-    assert!(rt; decoder.clone()?.channels().is_rgba());
-    Ok(())
-}
-
 // However few bytes a call gives, the pixels are the same.
 #[test]
 fn short_reads(rt: HostRuntime) -> Result<()> {
@@ -55,7 +40,49 @@ fn short_reads(rt: HostRuntime) -> Result<()> {
     Ok(())
 }
 
-// One byte a call makes 26 calls; each of them in turn ends badly.
+// What ends decoding into a buffer, by a reader that is lent; the header takes fourteen calls. A
+// refusal leaves the header and the chosen channels.
+fn refusal_at(rt: &impl Abort, reader: &mut Source<'_>, call: usize) -> Option<Error> {
+    match Decoder::from_stream(reader) {
+        Ok(decoder) => {
+            assert!(rt; call > 14);
+            let mut decoder = decoder.with_channels(Channels::Rgba);
+            let refusal = decoder.decode_to_buf(&mut [0xaa; 4]).err();
+            assert_header(rt, decoder.header(), &rgb(1));
+            assert!(rt; decoder.channels().is_rgba());
+            refusal
+        }
+        Err(error) => {
+            assert!(rt; call <= 14);
+            Some(error)
+        }
+    }
+}
+
+// The refusal is an error of this kind, the reader wasn't called again, and these bytes are left.
+fn assert_stopped(
+    rt: &impl Abort,
+    refusal: Option<Error>,
+    kind: ErrorKind,
+    reader: &Source<'_>,
+    (call, left): (usize, &[u8]),
+) {
+    assert_fails(rt, refusal, kind);
+    assert_number(rt, reader.calls, call);
+    assert_bytes(rt, reader.left, left);
+}
+
+// Decodes into a buffer and into a vector, by readers that give a byte a call and have a bad call.
+fn assert_stops(rt: &impl Abort, alloc: Global, bad: Bad, kind: ErrorKind, left: &[u8]) {
+    let mut reader = Source::new(&ONE_RGB_PIXEL, 1, bad);
+    let refusal = refusal_at(rt, &mut reader, bad.call);
+    assert_stopped(rt, refusal, kind, &reader, (bad.call, left));
+    let mut reader = Source::new(&ONE_RGB_PIXEL, 1, bad);
+    let refusal = decode_by(alloc, &mut reader).err();
+    assert_stopped(rt, refusal, kind, &reader, (bad.call, left));
+}
+
+// One byte a call makes 26 calls; each of them in turn ends badly, and then none of them.
 #[test]
 fn bad_reads(rt: HostRuntime) -> Result<()> {
     let ends = [
@@ -64,20 +91,36 @@ fn bad_reads(rt: HostRuntime) -> Result<()> {
         (End::NoByte, ErrorKind::UnexpectedEof),
     ];
     for (end, kind) in ends {
-        for call in 1..27 {
-            let source = Source::new(&ONE_RGB_PIXEL, 1, Bad { call, end });
-            assert_fails(&rt, decode_by(rt.alloc(), source).err(), kind);
+        for taken in 0..26usize {
+            let bad = Bad {
+                call: taken + 1,
+                end,
+            };
+            assert_stops(&rt, rt.alloc(), bad, kind, &ONE_RGB_PIXEL[taken..]);
         }
-        let source = Source::new(&ONE_RGB_PIXEL, 1, Bad { call: 27, end });
-        assert_bytes(&rt, &decode_by(rt.alloc(), source)?, &PIXEL);
+        let mut reader = Source::new(&ONE_RGB_PIXEL, 1, Bad { call: 27, end });
+        let mut buf = [0xaa; 3];
+        let mut decoder = Decoder::from_stream(&mut reader)?;
+        assert_number(&rt, decoder.decode_to_buf(&mut buf)?, 3);
+        assert_bytes(&rt, &buf, &PIXEL);
+        assert_bytes(&rt, decoder.into_reader().left, &[]);
     }
     Ok(())
 }
 
+// What refuses a header, by a reader that is lent.
+fn header_refusal(reader: &mut Source<'_>) -> Option<Error> {
+    Decoder::from_stream(reader).err()
+}
+
 #[test]
-fn headers_are_refused(rt: HostRuntime) -> Result<()> {
+fn a_refused_header_takes_fourteen_bytes(rt: HostRuntime) -> Result<()> {
     let mut file = ONE_RGB_PIXEL;
     file[12] = 5;
-    let refusal = Decoder::from_stream(file.as_slice()).err();
-    assert_refused(&rt, rt.alloc(), refusal, "invalid number of channels: 5")
+    let mut reader = Source::new(&file, 1, NONE);
+    let refusal = header_refusal(&mut reader);
+    assert_refused(&rt, rt.alloc(), refusal, "invalid number of channels: 5")?;
+    assert_number(&rt, reader.calls, 14);
+    assert_bytes(&rt, reader.left, &file[14..]);
+    Ok(())
 }

@@ -21,8 +21,8 @@ fn assert_sends(
     Ok(writer)
 }
 
-// Encodes the pixel to a writer whose bad call ends the encoding. The beginning of the
-// file has gone out.
+// Encodes the pixel to a writer whose bad call ends the encoding and is the last one. This beginning
+// of the file has gone out.
 fn assert_stops(
     rt: &impl Abort,
     alloc: Global,
@@ -37,34 +37,6 @@ fn assert_stops(
     assert_bytes(rt, &writer.got, gone);
     assert_number(rt, writer.calls, bad.call);
     Ok(())
-}
-
-#[test]
-fn failing_writer(rt: HostRuntime) -> Result<()> {
-    let bad = Bad {
-        call: 5,
-        end: End::Fault,
-    };
-    let gone = [0x71, 0x6f, 0x69, 0x66];
-    assert_stops(&rt, rt.alloc(), 1, bad, ErrorKind::BrokenPipe, &gone)
-}
-
-#[test]
-fn first_call_fails(rt: HostRuntime) -> Result<()> {
-    let bad = Bad {
-        call: 1,
-        end: End::Fault,
-    };
-    assert_stops(&rt, rt.alloc(), 100, bad, ErrorKind::BrokenPipe, &[])
-}
-
-#[test]
-fn third_call_takes_no_byte(rt: HostRuntime) -> Result<()> {
-    let bad = Bad {
-        call: 3,
-        end: End::NoByte,
-    };
-    assert_stops(&rt, rt.alloc(), 1, bad, ErrorKind::WriteZero, &[0x71, 0x6f])
 }
 
 #[test]
@@ -85,7 +57,26 @@ fn a_call_for_each_part(rt: HostRuntime) -> Result<()> {
     Ok(())
 }
 
-// One byte a call makes 26 calls; each of them in turn ends badly.
+// The header, the chunk and the end marker, each in a call; each call in turn fails.
+#[test]
+fn each_part_fails_once(rt: HostRuntime) -> Result<()> {
+    let file = &ONE_RGB_PIXEL;
+    let parts: [(usize, &[u8]); 3] = [(1, &[]), (2, &file[..14]), (3, &file[..18])];
+    for (call, gone) in parts {
+        let end = End::Fault;
+        assert_stops(
+            &rt,
+            rt.alloc(),
+            100,
+            Bad { call, end },
+            ErrorKind::BrokenPipe,
+            gone,
+        )?;
+    }
+    Ok(())
+}
+
+// One byte a call makes 26 calls; each of them in turn ends badly, and then none of them.
 #[test]
 fn each_call_is_bad_once(rt: HostRuntime) -> Result<()> {
     let ends = [

@@ -1,12 +1,13 @@
-//! A reader and a writer in memory that end one of their calls badly, and memory that is taken.
+//! A reader and a writer in memory that end one of their calls badly, and memory that is taken. This
+//! file is the same in the tests of both crates.
 ghost use Rattle.std.specs.Prelude.{◌≡◌, IfOk};
 
-use std::alloc::Global;
+use std::alloc::{AllocError, Global};
 use std::io;
 use std::io::{ErrorKind, Read, Write};
 
 /// How a bad call ends.
-#[derive(Clone, Copy, PartialEq, Eq, Debug)]
+#[derive(Clone, Copy)]
 pub enum End {
     /// A fault of the device.
     Fault,
@@ -17,7 +18,7 @@ pub enum End {
 }
 
 /// Which call is the bad one, counted from 1 (0: none), and how it ends.
-#[derive(Clone, Copy, PartialEq, Eq, Debug)]
+#[derive(Clone, Copy)]
 pub struct Bad {
     pub call: usize,
     pub end: End,
@@ -41,7 +42,7 @@ fn ended(end: End) -> io::Result<usize>
 }
 
 /// Gives its bytes, at most so many a call.
-#[derive(Drop)]
+#[derive(Clone, Drop)]
 pub struct Source<'a> {
     /// The bytes that are left.
     pub left: &'a [u8],
@@ -83,12 +84,13 @@ pub struct Sink {
     pub got: Vec<u8>,
     most: usize,
     bad: Bad,
-    calls: usize,
+    /// How many calls there were, of `flush` too.
+    pub calls: usize,
 }
 
 impl Sink {
     /// A writer that has room for a hundred bytes before it takes memory.
-    pub fn new(alloc: Global, most: usize, bad: Bad) -> Result<Sink, qoi::Error> {
+    pub fn new(alloc: Global, most: usize, bad: Bad) -> Result<Sink, AllocError> {
         Ok(Sink {
             got: Vec::with_capacity(alloc, 100)?,
             most,
@@ -112,16 +114,21 @@ impl Write for Sink {
     }
 
     fn flush(&mut self) -> io::Result<()> {
+        self.calls = self.calls.saturating_add(1);
         Ok(())
     }
 }
 
 /// Takes memory in blocks of 2 to the power of 39 bytes until one is refused, then in blocks of half
-/// the size, and so on down to 2 bytes. It takes `most` blocks at most.
-pub fn take_memory(alloc: Global, most: usize) -> Result<Vec<Vec<u8>>, qoi::Error> {
+/// the size, and so on down to `least` bytes. It takes 600,000 blocks at most.
+pub fn take_memory(alloc: Global, least: usize) -> Result<Vec<Vec<u8>>, AllocError> {
+    let most = 600_000;
     let mut held = Vec::with_capacity(alloc, most)?;
     for k in 0..39u32 {
         let size = (1usize << 39) >> k;
+        if size < least {
+            break;
+        }
         for _ in held.len()..most {
             match Vec::with_capacity(alloc, size) {
                 Ok(block) => held.push(block)?,

@@ -1,7 +1,8 @@
-//! A reader and a writer in memory that end one of their calls badly.
+//! A reader and a writer in memory that end one of their calls badly, and memory that is taken. This
+//! file is the same in the tests of both crates.
 ghost use Rattle.std.specs.Prelude.{◌≡◌, IfOk};
 
-use std::alloc::Global;
+use std::alloc::{AllocError, Global};
 use std::io;
 use std::io::{ErrorKind, Read, Write};
 
@@ -89,7 +90,7 @@ pub struct Sink {
 
 impl Sink {
     /// A writer that has room for a hundred bytes before it takes memory.
-    pub fn new(alloc: Global, most: usize, bad: Bad) -> crate::Result<Sink> {
+    pub fn new(alloc: Global, most: usize, bad: Bad) -> Result<Sink, AllocError> {
         Ok(Sink {
             got: Vec::with_capacity(alloc, 100)?,
             most,
@@ -116,4 +117,24 @@ impl Write for Sink {
         self.calls = self.calls.saturating_add(1);
         Ok(())
     }
+}
+
+/// Takes memory in blocks of 2 to the power of 39 bytes until one is refused, then in blocks of half
+/// the size, and so on down to `least` bytes. It takes 600,000 blocks at most.
+pub fn take_memory(alloc: Global, least: usize) -> Result<Vec<Vec<u8>>, AllocError> {
+    let most = 600_000;
+    let mut held = Vec::with_capacity(alloc, most)?;
+    for k in 0..39u32 {
+        let size = (1usize << 39) >> k;
+        if size < least {
+            break;
+        }
+        for _ in held.len()..most {
+            match Vec::with_capacity(alloc, size) {
+                Ok(block) => held.push(block)?,
+                Err(_) => break,
+            }
+        }
+    }
+    Ok(held)
 }
