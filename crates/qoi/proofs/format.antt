@@ -1,10 +1,10 @@
 -- Lemmas on the format: headers, pixels, index positions, chunks and files.
 pub mod Appended
 pub mod ChunkSteps
+pub mod ChunkNumbers
 pub mod ChunksApart
 pub mod HeaderBytes
 pub mod Lanes
-pub mod Numbers
 pub mod OneVerdict
 pub mod PackedPixels
 pub mod PartOfChunk

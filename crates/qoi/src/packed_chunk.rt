@@ -1,12 +1,11 @@
 //! Chunks as single numbers, and the chunk that spells a pixel out after another.
-ghost use Rattle.std.specs.Prelude.{◌≡◌, ◌↔◌, ◌+◌, ◌*◌, ◌<◌, ◌≤◌, length};
+ghost use Rattle.std.specs.Prelude.{◌≡◌, ◌+◌, ◌*◌, ◌<◌, ◌≤◌, ◌⊎◌, [], ◌∷◌, length};
 ghost use Rattle.qoi.specs.declared.chunk.Chunk.{Chunk};
 ghost use Rattle.qoi.specs.declared.chunk.Chunk.TheVariants.{Place, Diff, Luma, Run, Rgb, Rgba};
 ghost use Rattle.qoi.specs.Qoi.{Past, IsPixel, previous, IsChunk, bytes_of, diff_tag, luma_tag, positions, run_max};
 ghost use Rattle.qoi.specs.Written.{IsFirst};
 ghost use Rattle.qoi.specs.inner.PackedChunk.{top_of, bits_of};
 
-use crate::chunk::Chunk;
 use crate::consts::{QOI_OP_DIFF, QOI_OP_LUMA, QOI_OP_RGB, QOI_OP_RGBA, QOI_OP_RUN};
 use crate::packed::{Packed, Spread, pick};
 use std::marker::Model;
@@ -134,32 +133,60 @@ impl PackedChunk {
     #[inline(always)]
     pub(crate) fn bits(self) -> u32
         ensures bits { result ≡ bits_of self }
+        ensures sizes { (result ≡ 8) ⊎ (result ≡ 16) ⊎ (result ≡ 32) ⊎ (result ≡ 40) }
     {
         self.bits
     }
 
-    /// The same chunk.
+    /// The byte of a chunk of 8 bits.
     #[inline(always)]
-    pub fn chunk(self) -> Chunk
-        ensures { result ≡ self }
+    #[tactic(auto, using(crate::proofs::format::ChunkNumbers::one_byte))]
+    pub(crate) fn one(self) -> u8
+        requires { bits_of self ≡ 8 }
+        ensures { bytes_of self ≡ result ∷ [] }
     {
-        let last = (self.top >> 56) as u8;
-        if self.bits == 8 {
-            return match last {
-                0..64 => Chunk::Place(last),
-                64..128 => Chunk::Diff(last),
-                _ => Chunk::Run(last - (QOI_OP_RUN - 1)),
-            };
-        }
-        let third = ((self.top >> 48) % 256) as u8;
-        if self.bits == 16 {
-            return Chunk::Luma(third, last);
-        }
-        let second = ((self.top >> 40) % 256) as u8;
-        if self.bits == 32 {
-            return Chunk::Rgb(second, third, last);
-        }
-        Chunk::Rgba(((self.top >> 32) % 256) as u8, second, third, last)
+        (self.top >> 56) as u8
+    }
+
+    /// The bytes of a chunk of 16 bits.
+    #[inline(always)]
+    #[tactic(auto, using(crate::proofs::format::ChunkNumbers::two_bytes))]
+    pub(crate) fn two(self) -> [u8; 2]
+        requires { bits_of self ≡ 16 }
+        ensures { result ≡ bytes_of self }
+    {
+        [((self.top >> 48) % 256) as u8, (self.top >> 56) as u8]
+    }
+
+    /// The bytes of a chunk of 32 bits.
+    #[inline(always)]
+    #[tactic(auto, using(crate::proofs::format::ChunkNumbers::four_bytes))]
+    pub(crate) fn four(self) -> [u8; 4]
+        requires { bits_of self ≡ 32 }
+        ensures { result ≡ bytes_of self }
+    {
+        [
+            ((self.top >> 32) % 256) as u8,
+            ((self.top >> 40) % 256) as u8,
+            ((self.top >> 48) % 256) as u8,
+            (self.top >> 56) as u8,
+        ]
+    }
+
+    /// The bytes of a chunk of 40 bits.
+    #[inline(always)]
+    #[tactic(auto, using(crate::proofs::format::ChunkNumbers::five_bytes))]
+    pub(crate) fn five(self) -> [u8; 5]
+        requires { bits_of self ≡ 40 }
+        ensures { result ≡ bytes_of self }
+    {
+        [
+            ((self.top >> 24) % 256) as u8,
+            ((self.top >> 32) % 256) as u8,
+            ((self.top >> 40) % 256) as u8,
+            ((self.top >> 48) % 256) as u8,
+            (self.top >> 56) as u8,
+        ]
     }
 }
 

@@ -8,8 +8,6 @@ ghost use Rattle.qoi.specs.Qoi.{AreBytes, IsChunk, bytes_of};
 ghost use Rattle.qoi.specs.Raw.{IsChannels};
 ghost use Rattle.qoi.specs.Spelling.{Spells};
 
-use crate::chunk::Chunk;
-use crate::consts::{QOI_OP_INDEX, QOI_OP_RGB, QOI_OP_RGBA, QOI_OP_RUN};
 use crate::error::{Error, Result};
 use crate::packed_chunk::PackedChunk;
 use crate::pixel::Pixel;
@@ -69,26 +67,23 @@ pub(crate) fn write_chunk<W: Writer>(buf: &mut W, chunk: PackedChunk) -> Result<
     if buf.append(chunk) {
         return Ok(());
     }
-    write_bytes(buf, chunk.chunk())
+    write_bytes(buf, chunk)
 }
 
 // Writes a chunk's bytes, one by itself and more of them together.
 #[inline(always)]
 #[tactic(auto, using(crate::proofs::encoding::Unwritten::nothing_written))]
-fn write_bytes<W: Writer>(buf: &mut W, chunk: Chunk) -> Result<()>
-    requires chunk { IsChunk chunk }
-    requires room { length (bytes_of chunk) ≤ W.room buf.old }
+fn write_bytes<W: Writer>(buf: &mut W, chunk: PackedChunk) -> Result<()>
+    requires { length (bytes_of chunk) ≤ W.room buf.old }
     ensures written { OnOk result (W.wrote buf.old (bytes_of chunk) buf.new) }
     ensures refused { IfErr result (λ e.
         W.Refuses e × WroteSome W.wrote buf.old (bytes_of chunk) buf.new) }
 {
-    match chunk {
-        Chunk::Place(i) => buf.write_one(QOI_OP_INDEX + i),
-        Chunk::Diff(b1) => buf.write_one(b1),
-        Chunk::Luma(b1, b2) => buf.write_many(&[b1, b2]),
-        Chunk::Run(n) => buf.write_one(QOI_OP_RUN + (n - 1)),
-        Chunk::Rgb(r, g, b) => buf.write_many(&[QOI_OP_RGB, r, g, b]),
-        Chunk::Rgba(r, g, b, a) => buf.write_many(&[QOI_OP_RGBA, r, g, b, a]),
+    match chunk.bits() {
+        8 => buf.write_one(chunk.one()),
+        16 => buf.write_many(&chunk.two()),
+        32 => buf.write_many(&chunk.four()),
+        _ => buf.write_many(&chunk.five()),
     }
 }
 

@@ -1,6 +1,6 @@
 -- The number holds the eight bytes.
 use Rattle.std.proofs.Common.{arith}
-use Rattle.qoi.proofs.format.Numbers.{eight_loaded}
+use Rattle.qoi.proofs.format.ChunkNumbers.{eight_loaded}
 use Rattle.qoi.proofs.utils.load.Goals as goal
 
 pub returns-clause-number : goal.returns-clause-number

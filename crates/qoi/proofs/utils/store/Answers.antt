@@ -1,5 +1,5 @@
 -- The eight bytes are those of the number.
-use Rattle.qoi.proofs.format.Numbers.{eight_stored}
+use Rattle.qoi.proofs.format.ChunkNumbers.{eight_stored}
 use Rattle.qoi.proofs.utils.store.Goals as goal
 
 pub returns : goal.returns

@@ -5,7 +5,7 @@ use Rattle.std.proofs.lemmas.List.{length-take-le}
 use Rattle.qoi.specs.Qoi.{bytes_of}
 use Rattle.qoi.specs.writers.Buffer.{last_eight}
 use Rattle.qoi.proofs.encoding.ChunkBehind.{few_bytes, written_over}
-use Rattle.qoi.proofs.format.Numbers.{chunk_behind}
+use Rattle.qoi.proofs.format.ChunkNumbers.{chunk_behind}
 use Rattle.qoi.proofs.utils.BytesMut.write_over.Goals as goal
 
 pub returns : goal.returns

@@ -1,4 +1,4 @@
--- Bytes as the digits of a number, the first of them the lowest.
+-- The bytes of chunks as the digits of numbers, the first of them the lowest.
 use Rattle.std.proofs.Common.{◌≡◌, ℕ, ◌+◌, ◌/◌, ◌%◌, ◌^◌, ◌<◌, List, [], ◌∷◌, ◌++◌, length, take, drop, arith, ap, ◌∙◌}
 use lib.Lanes.{number_l, digits_l, put_chunk}
 use Rattle.qoi.specs.declared.chunk.Chunk.{Chunk}
@@ -39,3 +39,36 @@ eight_loaded bytes h l = absurd (omega arith)
 pub eight_stored : (bytes : List ℕ) (x : ℕ) → length bytes ≡ 8 → put_chunk 0 bytes (digits_l 256 8 (x + 0)) ≡ digits_l 256 8 x
 eight_stored (p ∷ q ∷ r ∷ s ∷ t ∷ u ∷ v ∷ w ∷ []) x l = let same : x + 0 ≡ x = omega arith in ap (digits_l 256 8) same
 eight_stored bytes x l = absurd (omega arith)
+
+-- the byte of a chunk of 8 bits
+pub one_byte : (c : Chunk) → IsChunk c → bits_of c ≡ 8 → bytes_of c ≡ (top_of c / 2 ^ 56) ∷ []
+one_byte (Place i) is e = ap (λ x. x ∷ []) (omega (arith, is))
+one_byte (Diff d) is e = ap (λ x. x ∷ []) (omega (arith, is))
+one_byte (Run n) is e = ap (λ x. x ∷ []) (omega (arith, is))
+one_byte c is e = absurd (omega arith)
+
+-- the bytes of one of 16
+pub two_bytes : (c : Chunk) → IsChunk c → bits_of c ≡ 16 → (top_of c / 2 ^ 48 % 256) ∷ (top_of c / 2 ^ 56) ∷ [] ≡ bytes_of c
+two_bytes (Luma d f) is e = let x : top_of (Luma d f) / 2 ^ 48 % 256 ≡ d = omega (arith, is) in let y : top_of (Luma d f) / 2 ^ 56 ≡ f = omega (arith, is) in λ i. x i ∷ y i ∷ []
+two_bytes c is e = absurd (omega arith)
+
+-- of one of 32
+pub four_bytes : (c : Chunk) → IsChunk c → bits_of c ≡ 32 → (top_of c / 2 ^ 32 % 256) ∷ (top_of c / 2 ^ 40 % 256) ∷ (top_of c / 2 ^ 48 % 256) ∷ (top_of c / 2 ^ 56) ∷ [] ≡ bytes_of c
+four_bytes (Rgb r g b) is e =
+    let w : top_of (Rgb r g b) / 2 ^ 32 % 256 ≡ 254 = omega (arith, is) in
+    let x : top_of (Rgb r g b) / 2 ^ 40 % 256 ≡ r = omega (arith, is) in
+    let y : top_of (Rgb r g b) / 2 ^ 48 % 256 ≡ g = omega (arith, is) in
+    let z : top_of (Rgb r g b) / 2 ^ 56 ≡ b = omega (arith, is) in
+    λ i. w i ∷ x i ∷ y i ∷ z i ∷ []
+four_bytes c is e = absurd (omega arith)
+
+-- and of one of 40
+pub five_bytes : (c : Chunk) → IsChunk c → bits_of c ≡ 40 → (top_of c / 2 ^ 24 % 256) ∷ (top_of c / 2 ^ 32 % 256) ∷ (top_of c / 2 ^ 40 % 256) ∷ (top_of c / 2 ^ 48 % 256) ∷ (top_of c / 2 ^ 56) ∷ [] ≡ bytes_of c
+five_bytes (Rgba r g b a) is e =
+    let v : top_of (Rgba r g b a) / 2 ^ 24 % 256 ≡ 255 = omega (arith, is) in
+    let w : top_of (Rgba r g b a) / 2 ^ 32 % 256 ≡ r = omega (arith, is) in
+    let x : top_of (Rgba r g b a) / 2 ^ 40 % 256 ≡ g = omega (arith, is) in
+    let y : top_of (Rgba r g b a) / 2 ^ 48 % 256 ≡ b = omega (arith, is) in
+    let z : top_of (Rgba r g b a) / 2 ^ 56 ≡ a = omega (arith, is) in
+    λ i. v i ∷ w i ∷ x i ∷ y i ∷ z i ∷ []
+five_bytes c is e = absurd (omega arith)
