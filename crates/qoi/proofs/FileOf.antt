@@ -9,7 +9,9 @@ use Rattle.qoi.specs.declared.chunk.Chunk.{Chunk}
 use Rattle.qoi.specs.declared.chunk.Chunk.TheVariants.{Place}
 use Rattle.qoi.specs.Qoi.{channels_number, colorspace_number, head, pixel_count, IsValid, RgbaPixel, AreChunks, AreBytes, bytes_of, text, Reaches, meaning, file, file_pixels, end_marker, IsFile}
 use Rattle.qoi.specs.Raw.{IsChannels, output, HasChannels}
-use Rattle.qoi.specs.Written.{IsChoice, Written}
+use Rattle.qoi.specs.declared.types.Style.{Style}
+use Rattle.qoi.specs.declared.types.Style.TheVariants.{Reference}
+use Rattle.qoi.specs.Styles.{in_style, WrittenIn}
 use Rattle.qoi.specs.Decoding.{file_byte_count, DecodesFile}
 use Rattle.qoi.specs.Encoded.{max_file_len, image_pixels, IsNearShortest, IsFileBy, IsFileOf}
 use Rattle.qoi.proofs.format.Appended.{length-bytes_of}
@@ -22,8 +24,9 @@ use Rattle.qoi.proofs.encoding.WriterProgress.{wrote_next, wrote_part}
 use Rattle.qoi.proofs.encoding.CoderSteps.{all_bytes}
 use Rattle.qoi.proofs.encoding.WrittenExists.{written_some}
 use Rattle.qoi.proofs.encoding.WrittenOnce.{written_unique}
-use Rattle.qoi.proofs.encoding.WrittenShape.{reaches_by, apart_by, written_fits_lem}
-use Rattle.qoi.proofs.shortness.RegularLists.{written_regular, no_blank_regular}
+use Rattle.qoi.proofs.encoding.WrittenShape.{written_fits_lem}
+use Rattle.qoi.proofs.encoding.StyleLists.{style_chunks, style_means, style_unique, style_reaches, style_length, style_apart, style_regular}
+use Rattle.qoi.proofs.shortness.RegularLists.{no_blank_regular}
 use Rattle.qoi.proofs.shortness.Lower.{lower}
 use Rattle.qoi.proofs.shortness.SlackSteps.{slack_most, slack_opens}
 use Rattle.qoi.proofs.shortness.Upper.{upper}
@@ -65,15 +68,15 @@ pub record WritesLists (Lists : List RgbaPixel → List Chunk → Type 0) : Type
       → Lists image cs → length (text cs) ≤ n * channels + n
   pub apart : (image : List RgbaPixel) (cs front rest : List Chunk) (i : ℕ) → Lists image cs → cs ≡ front ++ Place i ∷ Place i ∷ rest → ⊥
 
--- so do those of `Written`
-pub written_lists : WritesLists Written
-written_lists = record {
-  chunks = λ image cs w. w.chunks;
-  means = λ image cs w. w.means;
-  one = written_unique;
-  reaches = reaches_by IsChoice;
-  fits = written_fits_lem;
-  apart = apart_by IsChoice;
+-- so do those of each style
+pub written_lists : (style : Style) → WritesLists (WrittenIn style)
+written_lists style = record {
+  chunks = λ image cs w. style_chunks style image cs w;
+  means = λ image cs w. style_means style image cs w;
+  one = style_unique style;
+  reaches = λ image n cs w e. style_reaches style image n cs w e;
+  fits = λ image channels n cs has e w. subst (λ k. k ≤ n * channels + n) (sym (style_length style image cs w)) (written_fits_lem image channels n w.list has e w.written);
+  apart = style_apart style;
 }
 
 module _ (h : Header) (raw : List ℕ) (valid : IsValid h) (size : length raw ≡ file_byte_count h) where
@@ -131,14 +134,15 @@ module _ (h : Header) (raw : List ℕ) (valid : IsValid h) (size : length raw �
     }
 
   -- the chunks that are written fit
-  pub text_fits : (cs : List Chunk) → Written (image_pixels h raw) cs → length (text cs) ≤ pixel_count h * channels_number h.channels + pixel_count h
-  text_fits = list_fits Written written_lists
+  pub text_fits : (style : Style) (cs : List Chunk) → WrittenIn style (image_pixels h raw) cs → length (text cs) ≤ pixel_count h * channels_number h.channels + pixel_count h
+  text_fits style = list_fits (WrittenIn style) (written_lists style)
 
   -- it is near the shortest
-  near : (cs : List Chunk) → Written (image_pixels h raw) cs → IsNearShortest h raw (file h cs)
-  near cs w =
+  near : (style : Style) (cs : List Chunk) → WrittenIn style (image_pixels h raw) cs → IsNearShortest h raw (file h cs)
+  near style cs w =
       let image = image_pixels h raw in
-      let most = upper image (channels_number h.channels) cs has w in
+      let most = upper image (channels_number h.channels) w.list has w.written in
+      let same = style_length style image cs w in
       let size_is = length-file h cs in
       record {
         floor_is_below = λ others s regular. lower image others s.chunks regular s.begins;
@@ -150,16 +154,23 @@ module _ (h : Header) (raw : List ℕ) (valid : IsValid h) (size : length raw �
       }
 
   -- all of it
-  pub file_of : (cs : List Chunk) → Written (image_pixels h raw) cs → IsFileOf h raw (file h cs)
-  file_of cs w = record {
-    is_file = file_by Written written_lists cs w;
-    near_shortest = near cs w;
-    regular = λ others v. written_regular (image_pixels h raw) others v;
+  pub file_of : (style : Style) (cs : List Chunk) → WrittenIn style (image_pixels h raw) cs → IsFileOf style h raw (file h cs)
+  file_of style cs w = record {
+    is_file = file_by (WrittenIn style) (written_lists style) cs w;
+    near_shortest = near style cs w;
+    regular = λ others v. style_regular style (image_pixels h raw) others v;
+    as_long = λ others e.
+        let one = style_length Reference (image_pixels h raw) e.cs e.written in
+        let two = style_length style (image_pixels h raw) cs w in
+        let list = written_unique (image_pixels h raw) e.written.list w.list e.written.written w.written in
+        omega (arith, ap length e.bytes_are, length-file h e.cs, length-file h cs, ap (λ (x : List Chunk). length (text x)) list);
   }
 
 -- an image has a list that is written for it
-pub list_of : (h : Header) (raw : List ℕ) → AreBytes raw → (cs : List Chunk) × Written (image_pixels h raw) cs
-list_of h raw are = written_some (image_pixels h raw) (pixels_of_are (channels_number h.channels) raw (channels_are h.channels (channels_number h.channels) refl) (all_bytes raw are))
+pub list_of : (style : Style) (h : Header) (raw : List ℕ) → AreBytes raw → (cs : List Chunk) × WrittenIn style (image_pixels h raw) cs
+list_of style h raw are =
+    let list = written_some (image_pixels h raw) (pixels_of_are (channels_number h.channels) raw (channels_are h.channels (channels_number h.channels) refl) (all_bytes raw are)) in
+    (in_style style list.0, record { list = list.0; written = list.1; is = refl })
 
 -- A file that is written part after part.
 module _ {W : Type 0} (wrote : W → List ℕ → W → Type 0) (room : W → ℕ) (laws : WriterLaws wrote room) (h : Header) (cs : List Chunk) (start : W) where

@@ -7,9 +7,12 @@ pub mod CoderTable
 pub mod GroupRuns
 pub mod NotedPixels
 pub mod PixelBlock
+pub mod PlacedLists
 pub mod Spelled
 pub mod SpelledSteps
 pub mod StillToWrite
+pub mod StyledLists
+pub mod StyleLists
 pub mod Unwritten
 pub mod WriterProgress
 pub mod WrittenExists

@@ -1,8 +1,10 @@
 -- What a contract sees of an encoder.
 use Rattle.std.specs.Prelude.{ℕ, List}
 use Rattle.qoi.specs.declared.header.Header.{Header}
+use Rattle.qoi.specs.declared.types.Style.{Style}
 
--- the raw bytes, and the header that the file gets
+-- the raw bytes, the header that the file gets, and the style
 pub record EncoderState : Type 0 where
   pub raw : List ℕ
   pub header : Header
+  pub style : Style

@@ -9,6 +9,7 @@ pub mod DecoderState
 -- What is written, and the file of an image.
 pub mod Runs
 pub mod Written
+pub mod Styles
 pub mod Spelling
 pub mod Encoded
 pub mod EncoderState

@@ -6,6 +6,7 @@ ghost use Rattle.qoi.specs.declared.error.Error.{Error};
 ghost use Rattle.qoi.specs.Qoi.{header_of, pixel_count, raw_byte_count, IsFile, file, header_size};
 ghost use Rattle.qoi.specs.Verdicts.{IsWhole};
 ghost use Rattle.qoi.specs.Decoding.{ReadsHeader, RefusesFile, RefusesWholeFile, DecodesFile, file_byte_count, HasImageLength};
+ghost use Rattle.qoi.specs.declared.types.Style.{Style};
 ghost use Rattle.qoi.specs.Encoded.{IsFileOf};
 ghost use Rattle.qoi.specs.DecoderState.{image_byte_count, DecodesImage, RefusesDecoding, TakesWithin};
 
@@ -55,10 +56,11 @@ pub fn decode_to_buf(buf: &mut [u8], data: &[u8]) -> Result<Header>
         × (buf.new ≡ buf.old) }
     // The file of an image gives its header and its raw bytes, where the buffer is long enough; so it
     // does where other bytes follow it.
-    ensures comes_back { (h : Header) (raw : List ℕ) → IsFileOf h raw «data».now
+    ensures comes_back { (style : Style) (h : Header) (raw : List ℕ)
+        → IsFileOf style h raw «data».now
         → length raw ≤ length buf.old → (result ≡ Ok h) × (take (length raw) buf.new ≡ raw) }
-    ensures followed { (h : Header) (raw bytes rest : List ℕ) → IsFileOf h raw bytes
-        → «data».now ≡ bytes ++ rest
+    ensures followed { (style : Style) (h : Header) (raw bytes rest : List ℕ)
+        → IsFileOf style h raw bytes → «data».now ≡ bytes ++ rest
         → length raw ≤ length buf.old → (result ≡ Ok h) × (take (length raw) buf.new ≡ raw) }
     ensures room { IfOk result (λ h. raw_byte_count h ≤ length buf.old) }
 {
@@ -83,10 +85,11 @@ pub fn decode_to_vec(alloc: Global, data: &[u8]) -> Result<(Header, Vec<u8>)>
         → IsOkUnless result Error.OutOfMemory }
     // The file of an image gives its header and its raw bytes, unless memory runs out; so it does
     // where other bytes follow it.
-    ensures comes_back { (h : Header) (raw : List ℕ) → IsFileOf h raw «data».now
+    ensures comes_back { (style : Style) (h : Header) (raw : List ℕ)
+        → IsFileOf style h raw «data».now
         → MatchResult result (λ x. (x.0 ≡ h) × (x.1.items ≡ raw)) (λ e. e ≡ Error.OutOfMemory) }
-    ensures followed { (h : Header) (raw bytes rest : List ℕ) → IsFileOf h raw bytes
-        → «data».now ≡ bytes ++ rest
+    ensures followed { (style : Style) (h : Header) (raw bytes rest : List ℕ)
+        → IsFileOf style h raw bytes → «data».now ≡ bytes ++ rest
         → MatchResult result (λ x. (x.0 ≡ h) × (x.1.items ≡ raw)) (λ e. e ≡ Error.OutOfMemory) }
 {
     let mut decoder = Decoder::<Bytes>::new(data)?;

@@ -3,6 +3,7 @@ ghost use Rattle.std.specs.Prelude.{◌≡◌, ℕ, ◌<◌, ◌≤◌, List, �
 ghost use Rattle.std.specs.Io.KnownBytes.{Appends};
 ghost use Rattle.qoi.specs.declared.header.Header.{Header};
 ghost use Rattle.qoi.specs.declared.error.Error.{Error};
+ghost use Rattle.qoi.specs.declared.types.Style.TheVariants.{Reference};
 ghost use Rattle.qoi.specs.Qoi.{channels_number, IsValid};
 ghost use Rattle.qoi.specs.Decoding.{file_byte_count};
 ghost use Rattle.qoi.specs.Encoded.{max_len, max_file_len, image_header, IsFileLength, IsFileOf};
@@ -15,25 +16,25 @@ use crate::consts::QOI_PADDING;
 use crate::encode::coder::encode_chunks;
 use crate::error::{Error, Result};
 use crate::header::{Header, max_file_size};
-use crate::types::{Channels, ColorSpace};
+use crate::types::{Channels, ColorSpace, Style};
 use crate::utils::{BytesMut, GenericWriter, Writer};
 use std::alloc::Global;
 use std::io::Write;
 use std::marker::Model;
 
 // Writes the file of an image, and returns how many bytes it has.
-fn encode_image<W: Writer>(buf: &mut W, header: &Header, data: &[u8]) -> Result<usize>
+fn encode_image<W: Writer>(buf: &mut W, style: Style, header: &Header, data: &[u8]) -> Result<usize>
     requires valid { IsValid header.now }
     requires image { length «data».now ≡ file_byte_count header.now }
     requires room { max_file_len header.now ≤ W.room buf.old }
-    ensures written { IfOk result (λ n. (bytes : List ℕ) × IsFileOf header.now «data».now bytes
+    ensures written { IfOk result (λ n. (bytes : List ℕ) × IsFileOf style header.now «data».now bytes
         × (n ≡ length bytes) × W.wrote buf.old bytes buf.new) }
     ensures refused { IfErr result (λ e. W.Refuses e × (bytes : List ℕ)
-        × IsFileOf header.now «data».now bytes × WroteSome W.wrote buf.old bytes buf.new) }
+        × IsFileOf style header.now «data».now bytes × WroteSome W.wrote buf.old bytes buf.new) }
 {
     let room = buf.capacity();
     buf.write_many(&header.encode())?;
-    encode_chunks(buf, header.channels, data)?;
+    encode_chunks(buf, style, header.channels, data)?;
     buf.write_many(&QOI_PADDING)?;
     Ok(room - buf.capacity())
 }
@@ -61,7 +62,7 @@ pub fn encode_to_buf(buf: &mut [u8], data: &[u8], width: u32, height: u32) -> Re
         × (buf.new ≡ buf.old) }
     ensures encoded { (h : Header) → image_header «data».now width height ≡ Ok h
         → max_file_len h ≤ length buf.old
-        → IsOkAnd result (λ n. (bytes : List ℕ) × IsFileOf h «data».now bytes × (n ≡ length bytes)
+        → IsOkAnd result (λ n. (bytes : List ℕ) × IsFileOf Reference h «data».now bytes × (n ≡ length bytes)
         × (buf.new ≡ bytes ++ drop n buf.old)) }
     ensures length { (h : Header) → image_header «data».now width height ≡ Ok h
         → IfOk result (IsFileLength h) }
@@ -75,7 +76,7 @@ pub fn encode_to_buf(buf: &mut [u8], data: &[u8], width: u32, height: u32) -> Re
 /// The refusals are those of `Encoder::new` and then of its `encode_to_vec`.
 pub fn encode_to_vec(alloc: Global, data: &[u8], width: u32, height: u32) -> Result<Vec<u8>>
     ensures encoded { IfOk result (λ v. (h : Header) × (image_header «data».now width height ≡ Ok h)
-        × IsFileOf h «data».now v.items) }
+        × IsFileOf Reference h «data».now v.items) }
     ensures refused { IfErr result (λ e. (image_header «data».now width height ≡ Err e)
         ⊎ ((e ≡ Error.OutOfMemory) × (h : Header)
         × (image_header «data».now width height ≡ Ok h))) }
@@ -88,11 +89,12 @@ pub fn encode_to_vec(alloc: Global, data: &[u8], width: u32, height: u32) -> Res
 /// Encodes an image into buffers, vectors and writers: the same file each time (QOI specification
 /// 1.0, "File Format", "Data" and "Chunks").
 ///
-/// A contract sees the raw bytes and the header that the file gets.
+/// A contract sees the raw bytes, the header that the file gets, and the style.
 #[derive(Drop)]
 pub struct Encoder<'a> {
     data: &'a [u8],
     header: Header,
+    style: Style,
 }
 
 impl<'a> Model for Encoder<'a> {
@@ -103,14 +105,15 @@ impl<'a> Model for Encoder<'a> {
 
     ghost Value = { EncoderState };
 
-    ghost view = { λ e. record { raw = e.«data».now; header = e.header } };
+    ghost view = { λ e. record { raw = e.«data».now; header = e.header; style = e.style } };
 
     ghost invariant = { λ e. IsValid e.header × (length e.«data».now ≡ file_byte_count e.header) };
 }
 
 impl<'a> Encoder<'a> {
     /// An encoder of raw bytes, three or four a pixel, of an image of this size in pixels. The
-    /// number of channels is that of the bytes for each pixel, and the color space is `Srgb`.
+    /// number of channels is that of the bytes for each pixel, the color space is `Srgb`, and the
+    /// style `Reference`.
     ///
     /// Refusals, in this order: `InvalidImageDimensions` where width times height is 0 or above
     /// 400,000,000; `InvalidImageLength` where the bytes aren't the same number for each pixel;
@@ -119,6 +122,7 @@ impl<'a> Encoder<'a> {
         ensures accepted { IfOk result (λ e.
             (image_header «data».entry.now width height ≡ Ok e.header)
             × (e.raw ≡ «data».entry.now)) }
+        ensures style { IfOk result (λ e. e.style ≡ Reference) }
         ensures refused { IfErr result (λ e. image_header «data».entry.now width height ≡ Err e) }
     {
         let mut header = Header::try_new(width, height, Channels::Rgb, ColorSpace::Srgb)?;
@@ -132,7 +136,11 @@ impl<'a> Encoder<'a> {
             });
         }
         header.channels = Channels::try_from((size / n_pixels).min(0xff) as u8)?;
-        Ok(Encoder { data, header })
+        Ok(Encoder {
+            data,
+            header,
+            style: Style::Reference,
+        })
     }
 
     /// The same encoder with another color space, which changes the fourteenth byte of the file
@@ -143,6 +151,21 @@ impl<'a> Encoder<'a> {
     {
         self.header = self.header.with_colorspace(colorspace);
         self
+    }
+
+    /// The same encoder with another style.
+    pub fn with_style(mut self, style: Style) -> Encoder<'a>
+        ensures { result ≡ record self.entry { style = style } }
+    {
+        self.style = style;
+        self
+    }
+
+    /// The style.
+    pub fn style(&self) -> Style
+        ensures { result ≡ self.now.style }
+    {
+        self.style
     }
 
     /// The number of channels, found from the raw bytes.
@@ -178,7 +201,7 @@ impl<'a> Encoder<'a> {
             (Error.OutputBufferTooSmall (length buf.old) (max_file_len self.now.header))
             × (buf.new ≡ buf.old) }
         ensures encoded { max_file_len self.now.header ≤ length buf.old
-            → IsOkAnd result (λ n. (bytes : List ℕ) × IsFileOf self.now.header self.now.raw bytes
+            → IsOkAnd result (λ n. (bytes : List ℕ) × IsFileOf self.now.style self.now.header self.now.raw bytes
             × (n ≡ length bytes)
             × (buf.new ≡ bytes ++ drop n buf.old)) }
         ensures length { IfOk result (IsFileLength self.now.header) }
@@ -191,7 +214,7 @@ impl<'a> Encoder<'a> {
             });
         }
         let mut writer = BytesMut::new(buf);
-        let n = encode_image(&mut writer, &self.header, self.data)?;
+        let n = encode_image(&mut writer, self.style, &self.header, self.data)?;
         Ok(n)
     }
 
@@ -199,7 +222,7 @@ impl<'a> Encoder<'a> {
     ///
     /// `OutOfMemory` where the memory for `required_buf_len` bytes isn't found.
     pub fn encode_to_vec(&self, alloc: Global) -> Result<Vec<u8>>
-        ensures encoded { IfOk result (λ v. IsFileOf self.now.header self.now.raw v.items) }
+        ensures encoded { IfOk result (λ v. IsFileOf self.now.style self.now.header self.now.raw v.items) }
         ensures length { IfOk result (λ v. IsFileLength self.now.header (length v.items)) }
         ensures refused { IsOkUnless result Error.OutOfMemory }
     {
@@ -218,19 +241,19 @@ impl<'a> Encoder<'a> {
     /// around it.
     pub fn encode_to_stream<W: Write>(&self, writer: &mut W) -> Result<usize>
         ensures sent { IfOk result (λ n. (bytes : List ℕ)
-            × IsFileOf self.now.header self.now.raw bytes × (n ≡ length bytes)
+            × IsFileOf self.now.style self.now.header self.now.raw bytes × (n ≡ length bytes)
             × Appends (W.contents writer.old) (W.contents writer.new) bytes) }
         // Any bytes that are the file of the image are those that were sent.
-        ensures same { (bytes : List ℕ) → IsFileOf self.now.header self.now.raw bytes
+        ensures same { (bytes : List ℕ) → IsFileOf self.now.style self.now.header self.now.raw bytes
             → IfOk result (λ n. (n ≡ length bytes)
             × Appends (W.contents writer.old) (W.contents writer.new) bytes) }
         ensures length { IfOk result (IsFileLength self.now.header) }
         ensures refused { IfErr result (λ e. IsIoError e × (bytes : List ℕ)
-            × IsFileOf self.now.header self.now.raw bytes
+            × IsFileOf self.now.style self.now.header self.now.raw bytes
             × AppendsBeginning (W.contents writer.old) (W.contents writer.new) bytes) }
     {
         let mut writer = GenericWriter::new(writer);
-        let n = encode_image(&mut writer, &self.header, self.data)?;
+        let n = encode_image(&mut writer, self.style, &self.header, self.data)?;
         Ok(n)
     }
 }

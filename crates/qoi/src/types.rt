@@ -1,4 +1,4 @@
-//! The number of channels and the color space of a header.
+//! The number of channels and the color space of a header, and the style of an encoder.
 ghost use Rattle.std.specs.Prelude.{◌≡◌, ◌↔◌, IsTrue};
 
 use crate::error::Error;
@@ -151,4 +151,16 @@ impl TryFrom<u8> for Channels {
             _ => Err(Error::InvalidChannels { channels }),
         }
     }
+}
+
+/// Which of the chunks that mean the same an encoder writes. All styles are read back alike.
+#[derive(Clone, Copy, PartialEq, Eq, Debug)]
+pub enum Style {
+    /// Repeats by runs, each other pixel by its index position if it was written before, else by the
+    /// first of a difference, a luma and a full chunk that gives it. The Rust crate with its feature
+    /// `reference` writes so.
+    Reference,
+    /// As `Reference`, but a single repeat between two other pixels by the index position of the
+    /// pixel, unless the chunk before is that position. The file is as long.
+    Places,
 }

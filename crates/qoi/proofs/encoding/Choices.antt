@@ -4,7 +4,7 @@ use Rattle.qoi.specs.declared.chunk.Chunk.{Chunk}
 use Rattle.qoi.specs.declared.chunk.Chunk.TheVariants.{Rgba}
 use Rattle.qoi.specs.Qoi.{RgbaPixel, IsPixel, Past, previous, IsChunk, pixel_of}
 use Rattle.qoi.specs.Written.{IsFirst}
-use Rattle.qoi.proofs.format.ChunkSteps.{is_run}
+use Rattle.qoi.specs.Styles.{is_run}
 
 -- for each fresh pixel there is one chunk, it is no run and gives the pixel, and an Rgba stands only where no
 -- shorter chunk spells the pixel out

@@ -1,32 +1,38 @@
 -- The pixels that repeat at the front of bytes, and the runs of a group.
-use Rattle.std.proofs.Common.{◌≡◌, ◌≢◌, ◌⊎◌, inl, inr, ℕ, zero, suc, ◌+◌, ◌-◌, ◌*◌, ◌/◌, ◌%◌, ◌<◌, ◌≤◌, List, [], ◌∷◌, ◌++◌, length, take, drop, min, replicate, Some, refl, sym, ap, ◌∙◌, subst, arith, length-append, take-append-drop}
+use Rattle.std.proofs.Common.{◌≡◌, ◌≢◌, ◌⊎◌, inl, inr, ℕ, zero, suc, ◌+◌, ◌-◌, ◌*◌, ◌/◌, ◌%◌, ◌<◌, ◌≤◌, List, [], ◌∷◌, ◌++◌, length, take, drop, min, replicate, false, ◌==◌, if◌then◌else◌, Some, refl, sym, ap, ◌∙◌, subst, arith, length-append, take-append-drop}
 use Rattle.std.proofs.Math.Seq.{drop-append_seam}
 use Rattle.std.proofs.lemmas.List.{length-replicate, length-drop, length-take-le}
-use Rattle.std.proofs.lemmas.Bool.{cases_lt}
+use Rattle.std.proofs.lemmas.Bool.{cases_lt, ne_eqb}
 use Rattle.std.specs.List.{slice_get}
+use Rattle.qoi.specs.declared.chunk.Chunk.{Chunk}
 use Rattle.qoi.specs.declared.chunk.Chunk.TheVariants.{Run}
 use Rattle.qoi.specs.Qoi.{RgbaPixel, rgba}
 use Rattle.qoi.specs.Raw.{IsChannels, pixels_of}
-use Rattle.qoi.specs.Runs.{IsCount, last_run, runs}
+use Rattle.qoi.specs.Runs.{IsCount, last_by, runs_by}
 use Rattle.qoi.proofs.decoding.FilledBuffer.{whole_pixels}
 use Rattle.qoi.proofs.format.ChunkSteps.{repeats_after}
 use Rattle.qoi.proofs.format.RawPixels.{length-pixels_of, pixels_of-append, pixels_of-next}
 
+-- two and more aren't one
+pub not_one : (n : ℕ) → (suc (suc n) == 1) ≡ false
+not_one n = ne_eqb (suc (suc n)) 1 (λ e. omega arith)
+
 -- a group of none has no run
-pub runs-none : runs 0 ≡ []
-unfolding runs
-runs-none = refl
+pub runs-none : (one : Chunk) → runs_by one 0 ≡ []
+unfolding runs_by
+runs-none one = refl
 
 -- the first run of a group has as many repeats as there are, and 62 at most
-pub runs-more : (n k : ℕ) → 0 < n → k ≡ min n 62 → runs n ≡ Run k ∷ runs (n - k)
-unfolding runs
-runs-more n k some e = go (cases_lt n 62)
+pub runs-more : (one : Chunk) (n k : ℕ) → 0 < n → k ≡ min n 62 → runs_by one n ≡ (if k == 1 then one else Run k) ∷ runs_by one (n - k)
+unfolding runs_by
+runs-more one n k some e = go (cases_lt n 62)
   where
-    last : (n : ℕ) → 0 < n → last_run n ≡ Run n ∷ []
+    last : (n : ℕ) → 0 < n → last_by one n ≡ (if n == 1 then one else Run n) ∷ []
     last zero h = absurd (omega arith)
-    last (suc n) h = refl
+    last (suc zero) h = refl
+    last (suc (suc n)) h = ap (λ t. (if t then one else Run (suc (suc n))) ∷ []) (sym (not_one n))
 
-    go : (n < 62) ⊎ (62 ≤ n) → replicate (n / 62) (Run 62) ++ last_run (n % 62) ≡ Run k ∷ (replicate ((n - k) / 62) (Run 62) ++ last_run ((n - k) % 62))
+    go : (n < 62) ⊎ (62 ≤ n) → replicate (n / 62) (Run 62) ++ last_by one (n % 62) ≡ (if k == 1 then one else Run k) ∷ (replicate ((n - k) / 62) (Run 62) ++ last_by one ((n - k) % 62))
     go (inl few) =
         let is : k ≡ n = omega arith in
         let zero_runs : n / 62 ≡ 0 = omega arith in
@@ -35,9 +41,9 @@ runs-more n k some e = go (cases_lt n 62)
         rw (zero_runs, all, none, is) (last n some)
     go (inr many) =
         let is : k ≡ 62 = omega arith in
-        let one : n / 62 ≡ suc ((n - 62) / 62) = omega arith in
+        let more : n / 62 ≡ suc ((n - 62) / 62) = omega arith in
         let rest : n % 62 ≡ (n - 62) % 62 = omega arith in
-        rw (is, one, rest) refl
+        rw (is, more, rest) refl
 
 -- the bytes of the next pixel and those after them
 pub split_is : (n : ℕ) (rest front after : List ℕ) → front ≡ take n rest → after ≡ drop n rest → rest ≡ front ++ after

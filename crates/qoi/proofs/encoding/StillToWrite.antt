@@ -1,8 +1,8 @@
 -- What is still to be written of an image's list, as a coder goes from one group of repeats and the fresh pixel behind
 -- it to the next.
-use Rattle.std.proofs.Common.{◌≡◌, ◌≢◌, ℕ, List, [], ◌∷◌, ◌++◌, reverse, replicate, Some, refl, sym, ap, ◌∙◌, subst, append_assoc, append-nil}
+use Rattle.std.proofs.Common.{◌≡◌, ◌≢◌, ℕ, List, [], ◌∷◌, ◌++◌, reverse, replicate, refl, sym, ap, ◌∙◌, subst, append_assoc, append-nil}
 use Rattle.std.proofs.lemmas.List.{append_cancel_left, reverse-append}
-use Rattle.std.specs.List.{AllByRecursion, slice_get}
+use Rattle.std.specs.List.{AllByRecursion}
 use Rattle.qoi.specs.declared.chunk.Chunk.{Chunk}
 use Rattle.qoi.specs.Qoi.{RgbaPixel, IsPixel, Past, previous, IsChunk}
 use Rattle.qoi.specs.Runs.{runs}
@@ -98,18 +98,3 @@ module _ (Choice : Past → RgbaPixel → Chunk → Type 0) (choices : Chooses C
           parts = w.parts ∙ ap (λ x. w.done ++ x) todo_is ∙ sym (chunks_split w.done (runs n) completed.0 c);
         },
       )
-
-    -- where the group is whole, its runs are to be written next
-    pub runs_next : slice_get rest 0 ≢ Some (previous past) → (left : List Chunk) × (todo ≡ runs n ++ left)
-    runs_next other = go rest refl
-      where
-        go : (ahead : List RgbaPixel) → rest ≡ ahead → (left : List Chunk) × (todo ≡ runs n ++ left)
-        go [] e = ([], only_runs e ∙ sym (append-nil (runs n)))
-        go (p ∷ more) e =
-            let fresh : p ≢ previous past = λ same. other (ap (λ x. slice_get x 0) e ∙ ap Some same) in
-            let are = subst (λ x. AllByRecursion IsPixel x) e (all_back IsPixel (replicate n (previous past)) rest w.are) in
-            let end : Past = replicate n (previous past) ++ past in
-            let same = previous_repeats n past in
-            let c = choices.some end p (subst IsPixel (sym same) w.before) are.0 (λ q. fresh (q ∙ same)) in
-            let next = runs_and_chunk p more c.0 e fresh c.1 c.2 in
-            (c.0 ∷ next.0, next.1)

@@ -11,7 +11,8 @@ use Rattle.qoi.specs.Written.{noted, rank, IsFirst, IsChoice, WrittenBy, Written
 use Rattle.qoi.proofs.format.SamePixels.{cases_pixel, hash_below}
 use Rattle.qoi.proofs.encoding.NotedPixels.{noted_seen}
 use Rattle.qoi.proofs.encoding.Spelled.{FitsDiff, FitsLuma, plus_2, plus_8, plus_32, diff_byte, luma_byte, luma_second, diff_chunk, luma_chunk, first_diff, first_luma, first_rgb, first_rgba}
-use Rattle.qoi.proofs.format.ChunkSteps.{previous_repeats, is_run}
+use Rattle.qoi.specs.Styles.{is_run}
+use Rattle.qoi.proofs.format.ChunkSteps.{previous_repeats}
 use Rattle.qoi.proofs.encoding.WrittenGrows.{TakesRun, chunks_split, written_none, written_runs, written_fresh}
 use Rattle.qoi.proofs.encoding.Choices.{Chooses}
 use Rattle.qoi.proofs.encoding.WrittenOnce.{choice_unique}

@@ -7,7 +7,8 @@ use Rattle.qoi.specs.declared.chunk.Chunk.TheVariants.{Place, Diff, Luma, Run, R
 use Rattle.qoi.specs.Qoi.{RgbaPixel, Past, previous, IsChunk, AreChunks, pixel_of, then_chunks, Each}
 use Rattle.qoi.specs.Runs.{last_run, runs}
 use Rattle.qoi.specs.Written.{IsRightAfter, IsFull, RunsAreFull, WrittenBy}
-use Rattle.qoi.proofs.format.ChunkSteps.{previous_repeats, repeats_after, is_run, right_from, full_other, full_before, then_other, then_chunks-append, each_append}
+use Rattle.qoi.specs.Styles.{is_run}
+use Rattle.qoi.proofs.format.ChunkSteps.{previous_repeats, repeats_after, right_from, full_other, full_before, then_other, then_chunks-append, each_append}
 
 -- what holds of each of two lists holds of each of both
 pub all_append : {A : Type 0} (P : A → Type 0) (xs ys : List A) → AllByRecursion P xs → AllByRecursion P ys → AllByRecursion P (xs ++ ys)

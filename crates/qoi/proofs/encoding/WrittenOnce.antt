@@ -6,7 +6,8 @@ use Rattle.qoi.specs.declared.chunk.Chunk.TheVariants.{Place, Diff, Luma, Run, R
 use Rattle.qoi.specs.Qoi.{RgbaPixel, Past, previous, hash, IsChunk, AreChunks, pixel_of, times, then_chunk, after_diff, after_luma, Each}
 use Rattle.qoi.specs.Written.{noted, rank, IsFirst, IsChoice, GivesFresh, IsRightAfter, IsFull, RunsAreFull, WrittenBy, Written}
 use Rattle.qoi.proofs.format.SamePixels.{cases_pixel}
-use Rattle.qoi.proofs.format.ChunkSteps.{is_run, cases_run, times_other, right_other, times_some, given, meaning_given}
+use Rattle.qoi.specs.Styles.{is_run}
+use Rattle.qoi.proofs.format.ChunkSteps.{cases_run, times_other, right_other, times_some, given, meaning_given}
 
 -- two differences that give one pixel are one
 pub diff_unique : (q : RgbaPixel) (d e : ℕ) → 64 ≤ d → d < 128 → 64 ≤ e → e < 128 → after_diff q d ≡ after_diff q e → d ≡ e

@@ -12,7 +12,7 @@ use Rattle.qoi.proofs.format.ChunkSteps.{times_some, then_chunks_given, length-t
 use Rattle.qoi.proofs.encoding.WrittenGrows.{all_back, all_reverse}
 
 -- an index position holds the same after its pixel
-seen_again : (past : Past) (i : ℕ) → seen (seen past i ∷ past) i ≡ seen past i
+pub seen_again : (past : Past) (i : ℕ) → seen (seen past i ∷ past) i ≡ seen past i
 seen_again past i = cond_both (eqb (hash (seen past i)) i) (seen past i) (seen past i) (λ x. x ≡ seen past i) (λ _. refl) (λ _. refl)
 
 -- two neighbours never name one index position

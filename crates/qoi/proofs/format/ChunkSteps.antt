@@ -1,16 +1,12 @@
 -- Steps through a chunk list: runs and other chunks, the pixels in order, and lists joined end to end.
-use Rattle.std.proofs.Common.{◌≡◌, ◌⊎◌, inl, inr, ℕ, zero, suc, ◌+◌, ◌<◌, Bool, true, false, List, [], ◌∷◌, ◌++◌, length, reverse, replicate, refl, sym, ap, ◌∙◌, arith, append_assoc, append-nil}
+use Rattle.std.proofs.Common.{◌≡◌, ◌⊎◌, inl, inr, ℕ, zero, suc, ◌+◌, ◌<◌, false, List, [], ◌∷◌, ◌++◌, length, reverse, replicate, refl, sym, ap, ◌∙◌, arith, append_assoc, append-nil}
 use Rattle.std.proofs.lemmas.List.{reverse-reverse, reverse-append, length-append, length-reverse, replicate-append-replicate}
 use Rattle.std.proofs.lemmas.Bool.{true≢false}
 use Rattle.qoi.specs.declared.chunk.Chunk.{Chunk}
 use Rattle.qoi.specs.declared.chunk.Chunk.TheVariants.{Place, Diff, Luma, Run, Rgb, Rgba}
 use Rattle.qoi.specs.Qoi.{RgbaPixel, Past, previous, IsChunk, pixel_of, times, then_chunk, then_chunks, meaning, Each}
 use Rattle.qoi.specs.Written.{GivesFresh, IsRightAfter, IsFull}
-
--- the chunk is a run
-abbrev pub is_run : Chunk → Bool
-is_run (Run n) = true
-is_run _ = false
+use Rattle.qoi.specs.Styles.{is_run}
 
 -- a chunk is a run or not
 pub cases_run : (c : Chunk) → ((n : ℕ) × (c ≡ Run n)) ⊎ (is_run c ≡ false)

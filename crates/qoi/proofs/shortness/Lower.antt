@@ -8,7 +8,8 @@ use Rattle.qoi.specs.Qoi.{RgbaPixel, Past, previous, seen, IsChunk, AreChunks, p
 use Rattle.qoi.specs.Regular.{NamesWritten, Regular, Begins}
 use Rattle.qoi.specs.Shortest.{least, trailing_repeats, cost, total_cost, floor}
 use Rattle.qoi.proofs.format.SamePixels.{cases_pixel}
-use Rattle.qoi.proofs.format.ChunkSteps.{is_run, cases_run, then_other}
+use Rattle.qoi.specs.Styles.{is_run}
+use Rattle.qoi.proofs.format.ChunkSteps.{cases_run, then_other}
 use Rattle.qoi.proofs.shortness.Costs.{some_diff-from, some_luma-from, some_rgb-from, least_seen, least_diff, least_luma, least_rgb, least_high, cost_fresh, cost_repeat, cost_run}
 
 -- a chunk other than a run is no shorter than the least of its pixel

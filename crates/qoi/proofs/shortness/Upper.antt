@@ -9,7 +9,8 @@ use Rattle.qoi.specs.Raw.{HasChannels}
 use Rattle.qoi.specs.Written.{rank, noted, IsFirst, IsChoice, GivesFresh, IsRightAfter, IsFull, RunsAreFull, WrittenBy, Written}
 use Rattle.qoi.specs.Shortest.{some_diff, some_luma, some_rgb, least, trailing_repeats, total_cost, floor, slack}
 use Rattle.qoi.proofs.format.SamePixels.{cases_pixel, same_pixel}
-use Rattle.qoi.proofs.format.ChunkSteps.{is_run, times_other, right_other, then_other}
+use Rattle.qoi.specs.Styles.{is_run}
+use Rattle.qoi.proofs.format.ChunkSteps.{times_other, right_other, then_other}
 use Rattle.qoi.proofs.encoding.WrittenGrows.{all_reverse}
 use Rattle.qoi.proofs.shortness.Costs.{some_diff-true, some_luma-true, some_rgb-true, least_low, least_over_1, least_over_2, least_over_4, cost_fresh, cost_run, repeats_run, repeats_fresh}
 use Rattle.qoi.proofs.shortness.SlackSteps.{slack_at, slack_is, slack_more, slack_grows}

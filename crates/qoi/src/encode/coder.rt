@@ -1,40 +1,60 @@
 //! The coder: the chunks of an image's pixels, a group of repeats and the fresh pixel behind it at a
 //! time (QOI specification 1.0, "Data" and "Chunks").
-ghost use Rattle.std.specs.Prelude.{◌≡◌, ◌≢◌, ℕ, ◌+◌, ◌/◌, ◌%◌, ◌≤◌, List, [], ◌∷◌, length, OnOk, IfErr};
+ghost use Rattle.std.specs.Prelude.{◌≡◌, ◌≢◌, ℕ, ◌+◌, ◌/◌, ◌%◌, ◌≤◌, true, List, [], ◌∷◌, Option, None, Some, length, OnOk, IfErr};
 ghost use Rattle.qoi.specs.declared.chunk.Chunk.{Chunk};
-ghost use Rattle.qoi.specs.Qoi.{Past, IsPixel, previous, IsChunk, text, channels_number};
+ghost use Rattle.qoi.specs.Qoi.{Past, IsPixel, previous, hash, IsChunk, bytes_of, text, channels_number};
 ghost use Rattle.qoi.specs.Raw.{IsChannels, pixels_of};
-ghost use Rattle.qoi.specs.Runs.{runs};
-ghost use Rattle.qoi.specs.Written.{IsChoice, Written};
+ghost use Rattle.qoi.specs.Runs.{runs_by};
+ghost use Rattle.qoi.specs.Written.{IsChoice};
+ghost use Rattle.qoi.specs.Styles.{names, WrittenIn};
 ghost use Rattle.qoi.specs.writers.Writes.{WroteSome};
-ghost use Rattle.qoi.specs.inner.CoderState.{StateAfter};
+ghost use Rattle.qoi.specs.inner.CoderState.{StateAfter, StyleAfter, rest_of_one};
 
 use crate::error::Result;
 use crate::packed::{Packed, pick};
 use crate::packed_chunk::PackedChunk;
 use crate::runs::repeats_of;
 use crate::table::Table;
-use crate::types::Channels;
+use crate::types::{Channels, Style};
 use crate::utils::{Writer, write_chunk};
 
 // The longest run of one chunk.
 const RUN_MAX: usize = 62;
 
-// The fresh pixels at the 64 index positions, and the last pixel.
+// The fresh pixels at the 64 index positions, and the last pixel; and whether a fresh pixel came, and
+// whether the chunk of the last one names its index position.
 #[derive(Drop)]
 struct Coder {
     table: Table,
     last: Packed,
+    begun: bool,
+    placed: bool,
 }
 
 impl Coder {
     // Before the first pixel: transparent black at each index position, and opaque black.
     fn new() -> Coder
-        ensures { StateAfter [] result.table result.last }
+        ensures state { StateAfter [] result.table result.last }
+        ensures style { StyleAfter [] None result.begun result.placed }
     {
         Coder {
             table: Table::new(),
             last: Packed::start(),
+            begun: false,
+            placed: false,
+        }
+    }
+
+    // How a rest of 1 of a group of so many repeats is written where a fresh pixel follows the group.
+    #[inline(always)]
+    fn rest_of_one(&self, style: Style, count: usize) -> PackedChunk
+        ensures { result ≡ rest_of_one style self.now.begun self.now.placed self.now.last count }
+    {
+        match style {
+            Style::Places if self.begun && (count > 1 || !self.placed) => {
+                PackedChunk::place(self.last.spread().hash_index())
+            }
+            _ => PackedChunk::run(1),
         }
     }
 
@@ -48,6 +68,9 @@ impl Coder {
         ensures state { (past : Past) → px ≢ previous past
             → StateAfter past self.old.table self.old.last
             → StateAfter (px ∷ past) self.new.table self.new.last }
+        ensures style { (past : Past) → IsPixel (previous past) → px ≢ previous past
+            → StateAfter past self.old.table self.old.last
+            → StyleAfter (px ∷ past) (Some result) self.new.begun self.new.placed }
     {
         let last = self.last;
         self.last = px;
@@ -55,47 +78,53 @@ impl Coder {
         let noted = self.table.at(place);
         self.table.put(place, px);
         let spelled = px.spelled_after(last);
-        pick(noted.is_same(px), PackedChunk::place(place), spelled)
+        self.begun = true;
+        self.placed = noted.is_same(px);
+        pick(self.placed, PackedChunk::place(place), spelled)
     }
 }
 
-// Writes the runs of a group of so many repeats.
+// Writes the runs of a group of so many repeats, a rest of 1 by the chunk `one`.
 #[inline(always)]
-fn write_runs<W: Writer>(buf: &mut W, count: usize) -> Result<()>
-    requires { length (text (runs count)) ≤ W.room buf.old }
-    ensures written { OnOk result (W.wrote buf.old (text (runs count)) buf.new) }
+fn write_runs<W: Writer>(buf: &mut W, count: usize, one: PackedChunk) -> Result<()>
+    requires { length (text (runs_by one count)) ≤ W.room buf.old }
+    ensures written { OnOk result (W.wrote buf.old (text (runs_by one count)) buf.new) }
     ensures refused { IfErr result (λ e. W.Refuses e
-        × WroteSome W.wrote buf.old (text (runs count)) buf.new) }
+        × WroteSome W.wrote buf.old (text (runs_by one count)) buf.new) }
 {
     let mut left = count;
     while left > 0 {
         let run = left.min(RUN_MAX);
-        write_chunk(buf, PackedChunk::run(run as u8))?;
+        let chunk = pick(run == 1, one, PackedChunk::run(run as u8));
+        write_chunk(buf, chunk)?;
         left -= run;
     }
     Ok(())
 }
 
 // Writes the chunks of an image's raw bytes, `N` bytes a pixel.
-fn encode_pixels<W: Writer, const N: usize>(buf: &mut W, data: &[u8]) -> Result<()>
+#[inline(always)]
+fn encode_pixels<W: Writer, const N: usize>(buf: &mut W, style: Style, data: &[u8]) -> Result<()>
     requires channels { IsChannels N }
     requires whole { length «data».now % N ≡ 0 }
     requires room { length «data».now + length «data».now / N ≤ W.room buf.old }
-    ensures written { OnOk result ((cs : List Chunk) × Written (pixels_of N «data».now) cs
-        × W.wrote buf.old (text cs) buf.new) }
+    ensures written { OnOk result ((cs : List Chunk)
+        × WrittenIn style (pixels_of N «data».now) cs × W.wrote buf.old (text cs) buf.new) }
     ensures refused { IfErr result (λ e. W.Refuses e × (cs : List Chunk)
-        × Written (pixels_of N «data».now) cs × WroteSome W.wrote buf.old (text cs) buf.new) }
+        × WrittenIn style (pixels_of N «data».now) cs
+        × WroteSome W.wrote buf.old (text cs) buf.new) }
 {
     let mut coder = Coder::new();
     let mut rest = data;
     loop {
         let count = repeats_of::<N>(rest, coder.last);
-        write_runs(buf, count)?;
         let (_, behind) = rest.split_at(N * count);
         if behind.is_empty() {
-            return Ok(());
+            return write_runs(buf, count, PackedChunk::run(1));
         }
+        let one = coder.rest_of_one(style, count);
         let chunk = coder.choose(Packed::read::<N>(behind));
+        write_runs(buf, count, one)?;
         write_chunk(buf, chunk)?;
         let (_, after) = behind.split_at(N);
         rest = after;
@@ -103,20 +132,32 @@ fn encode_pixels<W: Writer, const N: usize>(buf: &mut W, data: &[u8]) -> Result<
 }
 
 // Writes the chunks of an image's raw bytes, of this many channels.
-pub(super) fn encode_chunks<W: Writer>(buf: &mut W, channels: Channels, data: &[u8]) -> Result<()>
+pub(super) fn encode_chunks<W: Writer>(
+    buf: &mut W,
+    style: Style,
+    channels: Channels,
+    data: &[u8],
+) -> Result<()>
     requires whole { length «data».now % channels_number channels ≡ 0 }
     requires room { length «data».now + length «data».now / channels_number channels
         ≤ W.room buf.old }
     ensures written { OnOk result ((cs : List Chunk)
-        × Written (pixels_of (channels_number channels) «data».now) cs
+        × WrittenIn style (pixels_of (channels_number channels) «data».now) cs
         × W.wrote buf.old (text cs) buf.new) }
     ensures refused { IfErr result (λ e. W.Refuses e × (cs : List Chunk)
-        × Written (pixels_of (channels_number channels) «data».now) cs
+        × WrittenIn style (pixels_of (channels_number channels) «data».now) cs
         × WroteSome W.wrote buf.old (text cs) buf.new) }
 {
-    match channels {
-        Channels::Rgb => encode_pixels::<W, 3>(buf, data)?,
-        Channels::Rgba => encode_pixels::<W, 4>(buf, data)?,
+    // Each pair has a loop of its own, in which the style is known.
+    match (channels, style) {
+        (Channels::Rgb, Style::Reference) => {
+            encode_pixels::<W, 3>(buf, Style::Reference, data)?;
+        }
+        (Channels::Rgb, Style::Places) => encode_pixels::<W, 3>(buf, Style::Places, data)?,
+        (Channels::Rgba, Style::Reference) => {
+            encode_pixels::<W, 4>(buf, Style::Reference, data)?;
+        }
+        (Channels::Rgba, Style::Places) => encode_pixels::<W, 4>(buf, Style::Places, data)?,
     }
     Ok(())
 }

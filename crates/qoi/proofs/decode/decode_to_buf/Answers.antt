@@ -6,6 +6,7 @@ use Rattle.qoi.specs.Verdicts.{IsWhole}
 use Rattle.qoi.specs.Decoding.{DecodesFile, ReadsImage, file_byte_count, byte_count}
 use Rattle.qoi.specs.DecoderState.{DecoderState}
 use Rattle.qoi.proofs.decoding.OneFile.{file_has_header, file_is_whole, header_is_one, decodes_behind, decoding_is_one}
+use Rattle.qoi.specs.declared.types.Style.{Style}
 use Rattle.qoi.specs.Encoded.{IsFileOf}
 use Rattle.std.proofs.lemmas.Result.{err_from_is_err_and}
 use Rattle.qoi.proofs.decode.decode_to_buf.Goals as goal
@@ -52,20 +53,20 @@ returns-clause-accepts c h cs rest f split room =
     ap Ok (same ∙ header_is_one c.args.data.now d.header h c.in_ok-decoder.ensures.accepted.0 (file_has_header h cs c.args.data.now rest f split))
 
 -- the file of an image, as a file
-file_ahead : (h : Header) (raw bytes rest «data» : List ℕ) → IsFileOf h raw bytes → «data» ≡ bytes ++ rest → DecodesFile «data» h rest raw
-file_ahead h raw bytes rest ahead f split = subst (λ (z : List ℕ). DecodesFile z h rest raw) (sym split) (f.is_file.comes_back rest)
+file_ahead : (style : Style) (h : Header) (raw bytes rest «data» : List ℕ) → IsFileOf style h raw bytes → «data» ≡ bytes ++ rest → DecodesFile «data» h rest raw
+file_ahead style h raw bytes rest ahead f split = subst (λ (z : List ℕ). DecodesFile z h rest raw) (sym split) (f.is_file.comes_back rest)
 
 pub returns-in_err-decode_to_buf-clause-followed : goal.returns-in_err-decode_to_buf-clause-followed
-returns-in_err-decode_to_buf-clause-followed c h raw bytes rest f split room =
-    let d = file_ahead h raw bytes rest c.args.data.now f split in
+returns-in_err-decode_to_buf-clause-followed c style h raw bytes rest f split room =
+    let d = file_ahead style h raw bytes rest c.args.data.now f split in
     let p = err_from_is_err_and c.from_residual-in_err-decode_to_buf.result c.from_residual-in_err-decode_to_buf.ensures.1 in
     let ok = returns-in_err-decode_to_buf-clause-accepts c h d.cs rest d.is_file d.split (subst (λ n. n ≤ length c.args.buf.now) f.is_file.size room) in
     let error = p.1 in
     absurd cc
 
 pub returns-clause-followed : goal.returns-clause-followed
-returns-clause-followed c h raw bytes rest f split room =
-    let d = file_ahead h raw bytes rest c.args.data.now f split in
+returns-clause-followed c style h raw bytes rest f split room =
+    let d = file_ahead style h raw bytes rest c.args.data.now f split in
     let decoded = returns-clause-decoded c in
     let buf = c.decode_to_buf.new.buf in
     let k = c.header.result.now in
@@ -75,13 +76,13 @@ returns-clause-followed c h raw bytes rest f split room =
     )
 
 pub returns-in_err-decode_to_buf-clause-comes_back : goal.returns-in_err-decode_to_buf-clause-comes_back
-returns-in_err-decode_to_buf-clause-comes_back c h raw f room = returns-in_err-decode_to_buf-clause-followed c h raw c.args.data.now [] f (sym (append-nil c.args.data.now)) room
+returns-in_err-decode_to_buf-clause-comes_back c style h raw f room = returns-in_err-decode_to_buf-clause-followed c style h raw c.args.data.now [] f (sym (append-nil c.args.data.now)) room
 
 pub returns-clause-comes_back : goal.returns-clause-comes_back
-returns-clause-comes_back c h raw f room = returns-clause-followed c h raw c.args.data.now [] f (sym (append-nil c.args.data.now)) room
+returns-clause-comes_back c style h raw f room = returns-clause-followed c style h raw c.args.data.now [] f (sym (append-nil c.args.data.now)) room
 
 pub returns-in_err-decoder-clause-comes_back : goal.returns-in_err-decoder-clause-comes_back
-returns-in_err-decoder-clause-comes_back c h raw f room =
+returns-in_err-decoder-clause-comes_back c style h raw f room =
     let read = subst (λ (z : List ℕ). header_of z ≡ Ok h) (append-nil c.args.data.now) (f.is_file.comes_back []).header in
     let refused = c.in_err-decoder.ensures.refused in
     absurd cc

@@ -45,26 +45,26 @@ returns-clause-decoded c =
     )
 
 pub returns-in_err-out-clause-followed : goal.returns-in_err-out-clause-followed
-returns-in_err-out-clause-followed c h raw bytes rest f split =
+returns-in_err-out-clause-followed c style h raw bytes rest f split =
     let d = subst (λ (z : List ℕ). DecodesFile z h rest raw) (sym split) (f.is_file.comes_back rest) in
     let p = err_from_is_err_and c.from_residual-in_err-out.result c.from_residual-in_err-out.ensures.1 in
     let unless = returns-in_err-out-clause-accepts c h d.cs rest d.is_file d.split in
     rw p.1 (rw p.1 at unless)
 
 pub returns-clause-followed : goal.returns-clause-followed
-returns-clause-followed c h raw bytes rest f split =
+returns-clause-followed c style h raw bytes rest f split =
     let d = subst (λ (z : List ℕ). DecodesFile z h rest raw) (sym split) (f.is_file.comes_back rest) in
     let decoded = returns-clause-decoded c in
     decoding_is_one c.args.data.now h c.header.result.now rest decoded.0 raw c.in_ok-out.out.items d decoded.1
 
 pub returns-in_err-out-clause-comes_back : goal.returns-in_err-out-clause-comes_back
-returns-in_err-out-clause-comes_back c h raw f = returns-in_err-out-clause-followed c h raw c.args.data.now [] f (sym (append-nil c.args.data.now))
+returns-in_err-out-clause-comes_back c style h raw f = returns-in_err-out-clause-followed c style h raw c.args.data.now [] f (sym (append-nil c.args.data.now))
 
 pub returns-clause-comes_back : goal.returns-clause-comes_back
-returns-clause-comes_back c h raw f = returns-clause-followed c h raw c.args.data.now [] f (sym (append-nil c.args.data.now))
+returns-clause-comes_back c style h raw f = returns-clause-followed c style h raw c.args.data.now [] f (sym (append-nil c.args.data.now))
 
 pub returns-in_err-decoder-clause-comes_back : goal.returns-in_err-decoder-clause-comes_back
-returns-in_err-decoder-clause-comes_back c h raw f =
+returns-in_err-decoder-clause-comes_back c style h raw f =
     let read = subst (λ (z : List ℕ). header_of z ≡ Ok h) (append-nil c.args.data.now) (f.is_file.comes_back []).header in
     let refused = c.in_err-decoder.ensures.refused in
     absurd cc

@@ -11,14 +11,14 @@ returns-in_err-n-clause-refused g c =
     let p = err_from_is_err_and c.from_residual.result c.from_residual.ensures.1 in
     let r = c.in_err-n.ensures.refused in
     let value = c.new-writer.ensures.value in
-    let f = subst (λ (s : EncoderState). IsFileOf s.header s.raw r.1) c.self.view_is r.2 in
+    let f = subst (λ (s : EncoderState). IsFileOf s.style s.header s.raw r.1) c.self.view_is r.2 in
     let came : Appends (g.W.Write.contents c.args.writer.now) (g.W.Write.contents c.writer-2-1.given.0) r.3.1.front = search rules in
     rw (p.1, p.2) (r.0, r.1, f, (r.3.1.front, r.3.0, r.3.1.split, came))
 
 pub returns-clause-same : goal.returns-clause-same
 returns-clause-same g c bytes f =
     let w = c.in_ok-n.ensures.written in
-    let own = subst (λ (s : EncoderState). IsFileOf s.header s.raw w.0) c.self.view_is w.1 in
+    let own = subst (λ (s : EncoderState). IsFileOf s.style s.header s.raw w.0) c.self.view_is w.1 in
     let same : w.0 ≡ bytes = f.is_file.only w.0 own.is_file.encoded in
     let came : Appends (g.W.Write.contents c.args.writer.now) (g.W.Write.contents c.writer-2-1.given.0) w.0 = search rules in
     (w.2 ∙ ap length same, subst (λ (z : List ℕ). Appends (g.W.Write.contents c.args.writer.now) (g.W.Write.contents c.writer-2-1.given.0) z) same came)

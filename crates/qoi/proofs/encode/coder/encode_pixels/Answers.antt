@@ -1,21 +1,19 @@
 -- A group and the fresh pixel behind it at a time.
-use Rattle.std.proofs.Common.{arith, sym, subst, drop}
+use Rattle.std.proofs.Common.{arith, sym, subst, drop, length, ◌≤◌, OnOk, IfErr}
 use Rattle.std.proofs.lemmas.Result.{err_from_is_err_and}
-use Rattle.qoi.proofs.encoding.CoderSteps.{CoderBetween, AtFresh, next_fits, next_part, all_went, coder_starts, at_group, runs_ahead, runs_alone, pixel_behind, at_fresh}
+use Rattle.qoi.specs.Qoi.{text}
+use Rattle.qoi.specs.Runs.{runs_by}
+use Rattle.qoi.specs.writers.Writes.{WroteSome}
+use Rattle.qoi.proofs.Results.{on_ok_map, if_err_map}
+use Rattle.qoi.proofs.encoding.CoderSteps.{CoderBetween, AtFresh, next_fits, next_part, all_went, coder_starts, at_group, runs_alone, pixel_behind, at_fresh}
 use Rattle.qoi.proofs.encode.coder.encode_pixels.Given.{Over}
-use Rattle.qoi.proofs.encode.coder.encode_pixels.Goals.{After-write_chunk}
+use Rattle.qoi.proofs.encode.coder.encode_pixels.Goals.{After-choose-chunk}
 use Rattle.qoi.proofs.encode.coder.encode_pixels.Goals as goal
 
 pub loop-behind-init : goal.loop-behind-init
-loop-behind-init g c = coder_starts (record { laws = g.met.W.Writer.laws; channels = c.requires.channels; are = λ i. omega (arith, c.type_inv.data i); whole = c.requires.whole; enough = c.requires.room }) c.new-coder.ensures
-
-pub write_runs-requires : goal.write_runs-requires
-write_runs-requires g c = next_fits (runs_ahead (at_group c.loop-behind.invariant c.repeats_of-count.ensures)).1
-
-pub returns-in_err-write_runs-clause-refused : goal.returns-in_err-write_runs-clause-refused
-returns-in_err-write_runs-clause-refused g c =
-    let p = err_from_is_err_and c.from_residual.result c.from_residual.ensures.1 in
-    rw (p.1, p.2) (next_part (runs_ahead (at_group c.loop-behind.invariant c.repeats_of-count.ensures)).1 c.in_err-write_runs.ensures.refused)
+loop-behind-init g c =
+    let new = c.new-coder.ensures in
+    coder_starts (record { laws = g.met.W.Writer.laws; channels = c.requires.channels; are = λ i. omega (arith, c.type_inv.data i); whole = c.requires.whole; enough = c.requires.room }) new.state new.style
 
 pub overflow_mul-count : goal.overflow_mul-count
 overflow_mul-count g c = omega (arith, (at_group c.loop-behind.invariant c.repeats_of-count.ensures).group.within)
@@ -24,28 +22,46 @@ pub split_at-requires : goal.split_at-requires
 split_at-requires g c = (at_group c.loop-behind.invariant c.repeats_of-count.ensures).group.within
 
 pub returns-then-is_empty-clause-written : goal.returns-then-is_empty-clause-written
-returns-then-is_empty-clause-written g c = all_went (runs_alone (at_group c.loop-behind.invariant c.repeats_of-count.ensures) c.split_at.ensures.back c.if-is_empty.ensures) c.in_ok-write_runs.ensures.written
+returns-then-is_empty-clause-written g c =
+    let runs = runs_alone (at_group c.loop-behind.invariant c.repeats_of-count.ensures) c.split_at.ensures.back c.if-is_empty.ensures in
+    on_ok_map c.write_runs.result (all_went runs) (subst (λ one. OnOk c.write_runs.result (g.W.Writer.wrote c.loop-behind.buf (text (runs_by one c.repeats_of-count.result)) c.write_runs.new.buf)) c.run.ensures c.write_runs.ensures.written)
+
+pub returns-then-is_empty-clause-refused : goal.returns-then-is_empty-clause-refused
+returns-then-is_empty-clause-refused g c =
+    let runs = runs_alone (at_group c.loop-behind.invariant c.repeats_of-count.ensures) c.split_at.ensures.back c.if-is_empty.ensures in
+    if_err_map c.write_runs.result (λ e. next_part runs) (subst (λ one. IfErr c.write_runs.result (λ e. g.W.Writer.Refuses e × WroteSome g.W.Writer.wrote c.loop-behind.buf (text (runs_by one c.repeats_of-count.result)) c.write_runs.new.buf)) c.run.ensures c.write_runs.ensures.refused)
+
+pub write_runs-requires : goal.write_runs-requires
+write_runs-requires g c =
+    let runs = runs_alone (at_group c.loop-behind.invariant c.repeats_of-count.ensures) c.split_at.ensures.back c.if-is_empty.ensures in
+    subst (λ one. length (text (runs_by one c.repeats_of-count.result)) ≤ g.W.Writer.room c.loop-behind.buf) (sym c.run.ensures) (next_fits runs)
 
 pub read-requires-clause-enough : goal.read-requires-clause-enough
 read-requires-clause-enough g c = pixel_behind (at_group c.loop-behind.invariant c.repeats_of-count.ensures) c.split_at.ensures.back c.if-is_empty.ensures
 
-pub write_chunk-requires-clause-room : goal.write_chunk-requires-clause-room
-write_chunk-requires-clause-room g c =
-    let chosen = c.choose-chunk.ensures in
-    next_fits (at_fresh (at_group c.loop-behind.invariant c.repeats_of-count.ensures) c.split_at.ensures.back (pixel_behind (at_group c.loop-behind.invariant c.repeats_of-count.ensures) c.split_at.ensures.back c.if-is_empty.ensures) c.read.ensures c.in_ok-write_runs.ensures.written chosen.chunk chosen.choice chosen.state).next.1
-
 -- what stands once the chunk of the fresh pixel is chosen
-fresh : (g : Over) (c : After-write_chunk g) → AtFresh g.W.Writer.wrote g.W.Writer.room g.row.N c.args.data.now c.args.buf.now (drop g.row.N c.split_at.result.1.now) c.choose-chunk.new.self.table c.choose-chunk.new.self.last c.choose-chunk.result c.write_runs.new.buf
+fresh : (g : Over) (c : After-choose-chunk g) → AtFresh g.W.Writer.wrote g.W.Writer.room c.args.style g.row.N c.args.data.now c.args.buf.now (drop g.row.N c.split_at.result.1.now) c.choose-chunk.new.self.table c.choose-chunk.new.self.last c.choose-chunk.new.self.begun c.choose-chunk.new.self.placed (text (runs_by c.rest_of_one-one.result c.repeats_of-count.result)) c.choose-chunk.result c.loop-behind.buf
 fresh g c =
     let chosen = c.choose-chunk.ensures in
-    at_fresh (at_group c.loop-behind.invariant c.repeats_of-count.ensures) c.split_at.ensures.back (pixel_behind (at_group c.loop-behind.invariant c.repeats_of-count.ensures) c.split_at.ensures.back c.if-is_empty.ensures) c.read.ensures c.in_ok-write_runs.ensures.written chosen.chunk chosen.choice chosen.state
+    at_fresh (at_group c.loop-behind.invariant c.repeats_of-count.ensures) c.split_at.ensures.back (pixel_behind (at_group c.loop-behind.invariant c.repeats_of-count.ensures) c.split_at.ensures.back c.if-is_empty.ensures) c.read.ensures c.rest_of_one-one.ensures chosen.chunk chosen.choice chosen.state chosen.style
+
+pub write_runs-requires-in-loop-behind : goal.write_runs-requires-in-loop-behind
+write_runs-requires-in-loop-behind g c = next_fits (fresh g (goal.at.write_runs-requires-in-loop-behind g c).After-choose-chunk).runs
+
+pub returns-in_err-write_runs-clause-refused : goal.returns-in_err-write_runs-clause-refused
+returns-in_err-write_runs-clause-refused g c =
+    let p = err_from_is_err_and c.from_residual.result c.from_residual.ensures.1 in
+    rw (p.1, p.2) (next_part (fresh g (goal.at.returns-in_err-write_runs-clause-refused g c).After-choose-chunk).runs c.in_err-write_runs.ensures.refused)
+
+pub write_chunk-requires-clause-room : goal.write_chunk-requires-clause-room
+write_chunk-requires-clause-room g c = next_fits ((fresh g (goal.at.write_chunk-requires-clause-room g c).After-choose-chunk).next c.in_ok-write_runs.ensures.written)
 
 pub returns-in_err-write_chunk-clause-refused : goal.returns-in_err-write_chunk-clause-refused
 returns-in_err-write_chunk-clause-refused g c =
     let p = err_from_is_err_and c.from_residual-in_err-write_chunk.result c.from_residual-in_err-write_chunk.ensures.1 in
-    rw (p.1, p.2) (next_part (fresh g (goal.at.returns-in_err-write_chunk-clause-refused g c).After-write_chunk).next.1 c.in_err-write_chunk.ensures.refused)
+    rw (p.1, p.2) (next_part ((fresh g (goal.at.returns-in_err-write_chunk-clause-refused g c).After-choose-chunk).next c.in_ok-write_runs.ensures.written) c.in_err-write_chunk.ensures.refused)
 
 pub loop-behind-preserved : goal.loop-behind-preserved
 loop-behind-preserved g c =
-    subst (λ rest. CoderBetween g.W.Writer.wrote g.W.Writer.room g.row.N c.args.data.now c.args.buf.now rest c.choose-chunk.new.self.table c.choose-chunk.new.self.last c.write_chunk.new.buf) (sym c.split_at-in-loop-behind.ensures.back)
-    ((fresh g (goal.at.loop-behind-preserved g c).After-write_chunk).between c.in_ok-write_chunk.ensures.written)
+    subst (λ rest. CoderBetween g.W.Writer.wrote g.W.Writer.room c.args.style g.row.N c.args.data.now c.args.buf.now rest c.choose-chunk.new.self.table c.choose-chunk.new.self.last c.choose-chunk.new.self.begun c.choose-chunk.new.self.placed c.write_chunk.new.buf) (sym c.split_at-in-loop-behind.ensures.back)
+    ((fresh g (goal.at.loop-behind-preserved g c).After-choose-chunk).between c.in_ok-write_runs.ensures.written c.in_ok-write_chunk.ensures.written)

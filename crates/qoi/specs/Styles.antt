@@ -1,0 +1,58 @@
+-- What an encoder writes in each style.
+use Rattle.std.specs.Prelude.{◌≡◌, ℕ, Bool, true, false, not, ◌==◌, ◌&&◌, if◌then◌else◌, List, [], ◌∷◌, Option, None, Some}
+use Rattle.qoi.specs.declared.chunk.Chunk.{Chunk}
+use Rattle.qoi.specs.declared.chunk.Chunk.TheVariants.{Place, Run}
+use Rattle.qoi.specs.declared.types.Style.{Style}
+use Rattle.qoi.specs.declared.types.Style.TheVariants.{Reference, Places}
+use Rattle.qoi.specs.Qoi.{RgbaPixel, Past, previous, hash, then_chunk}
+use Rattle.qoi.specs.Written.{fresh, Written}
+
+-- the chunk is a run
+abbrev pub is_run : Chunk → Bool
+is_run (Run n) = true
+is_run _ = false
+
+-- a chunk other than a run comes next, which gives a fresh pixel
+abbrev pub fresh_next : List Chunk → Bool
+fresh_next [] = false
+fresh_next (c ∷ cs) = not (is_run c)
+
+-- there is a pixel
+abbrev pub has_pixel : Past → Bool
+has_pixel [] = false
+has_pixel (p ∷ past) = true
+
+-- one of them is fresh
+abbrev pub some_fresh : Past → Bool
+some_fresh past = has_pixel (fresh past)
+
+-- the chunk, if there is one, is this index position
+abbrev pub names : Option Chunk → ℕ → Bool
+names (Some (Place j)) i = j == i
+names _ _ = false
+
+-- A run of n is given by the index position of its pixel if n is 1, a fresh pixel comes next, one stands before it, and
+-- the chunk before it isn't that position.
+abbrev pub is_placed : Past → Option Chunk → ℕ → List Chunk → Bool
+is_placed past before n cs = n == 1 && fresh_next cs && some_fresh past && not (names before (hash (previous past)))
+
+-- such a run's chunk, and each other chunk as it is
+abbrev pub place_for : Past → Option Chunk → Chunk → List Chunk → Chunk
+place_for past before (Run n) cs = if is_placed past before n cs then Place (hash (previous past)) else Run n
+place_for past before c cs = c
+
+-- so it is for each chunk of a list, after these pixels and after the chunk before it, if there is one
+abbrev pub placed_after : Past → Option Chunk → List Chunk → List Chunk
+placed_after past before [] = []
+placed_after past before (c ∷ cs) = place_for past before c cs ∷ placed_after (then_chunk past c) (Some c) cs
+
+-- the written list, as a style has it
+abbrev pub in_style : Style → List Chunk → List Chunk
+in_style Reference cs = cs
+in_style Places cs = placed_after [] None cs
+
+-- the chunk list that is written for an image in a style
+pub record WrittenIn (style : Style) (image : List RgbaPixel) (cs : List Chunk) : Type 0 where
+  pub list : List Chunk
+  pub written : Written image list
+  pub is : cs ≡ in_style style list
