@@ -11,7 +11,7 @@ use Rattle.qoi.specs.Qoi.{channels_number, colorspace_number, head, pixel_count,
 use Rattle.qoi.specs.Raw.{IsChannels, output, HasChannels}
 use Rattle.qoi.specs.declared.types.Style.{Style}
 use Rattle.qoi.specs.declared.types.Style.TheVariants.{Reference}
-use Rattle.qoi.specs.Styles.{in_style, WrittenIn}
+use Rattle.qoi.specs.Styles.{WrittenIn}
 use Rattle.qoi.specs.Decoding.{file_byte_count, DecodesFile}
 use Rattle.qoi.specs.Encoded.{max_file_len, image_pixels, IsNearShortest, IsFileBy, IsFileOf}
 use Rattle.qoi.proofs.format.Appended.{length-bytes_of}
@@ -22,14 +22,10 @@ use Rattle.qoi.proofs.format.RawPixels.{pixels_of_are, pixels_of_have, length-pi
 use Rattle.qoi.specs.writers.Writes.{WriterLaws, WroteBut, WroteSome}
 use Rattle.qoi.proofs.encoding.WriterProgress.{wrote_next, wrote_part}
 use Rattle.qoi.proofs.encoding.CoderSteps.{all_bytes}
-use Rattle.qoi.proofs.encoding.WrittenExists.{written_some}
-use Rattle.qoi.proofs.encoding.WrittenOnce.{written_unique}
-use Rattle.qoi.proofs.encoding.WrittenShape.{written_fits_lem}
-use Rattle.qoi.proofs.encoding.StyleLists.{style_chunks, style_means, style_unique, style_reaches, style_length, style_apart, style_regular}
+use Rattle.qoi.proofs.encoding.StyleLists.{style_chunks, style_means, style_unique, style_reaches, style_fits, style_length, style_apart, style_regular, style_upper, style_some, style_as_long}
 use Rattle.qoi.proofs.shortness.RegularLists.{no_blank_regular}
 use Rattle.qoi.proofs.shortness.Lower.{lower}
 use Rattle.qoi.proofs.shortness.SlackSteps.{slack_most, slack_opens}
-use Rattle.qoi.proofs.shortness.Upper.{upper}
 
 -- the bytes of a file are the header's, the chunks' and the end marker's
 pub length-file : (h : Header) (cs : List Chunk) → length (file h cs) ≡ 22 + length (text cs)
@@ -71,11 +67,11 @@ pub record WritesLists (Lists : List RgbaPixel → List Chunk → Type 0) : Type
 -- so do those of each style
 pub written_lists : (style : Style) → WritesLists (WrittenIn style)
 written_lists style = record {
-  chunks = λ image cs w. style_chunks style image cs w;
-  means = λ image cs w. style_means style image cs w;
+  chunks = style_chunks style;
+  means = style_means style;
   one = style_unique style;
-  reaches = λ image n cs w e. style_reaches style image n cs w e;
-  fits = λ image channels n cs has e w. subst (λ k. k ≤ n * channels + n) (sym (style_length style image cs w)) (written_fits_lem image channels n w.list has e w.written);
+  reaches = style_reaches style;
+  fits = style_fits style;
   apart = style_apart style;
 }
 
@@ -141,8 +137,7 @@ module _ (h : Header) (raw : List ℕ) (valid : IsValid h) (size : length raw �
   near : (style : Style) (cs : List Chunk) → WrittenIn style (image_pixels h raw) cs → IsNearShortest h raw (file h cs)
   near style cs w =
       let image = image_pixels h raw in
-      let most = upper image (channels_number h.channels) w.list has w.written in
-      let same = style_length style image cs w in
+      let most = style_upper style image (channels_number h.channels) cs has w in
       let size_is = length-file h cs in
       record {
         floor_is_below = λ others s regular. lower image others s.chunks regular s.begins;
@@ -160,17 +155,14 @@ module _ (h : Header) (raw : List ℕ) (valid : IsValid h) (size : length raw �
     near_shortest = near style cs w;
     regular = λ others v. style_regular style (image_pixels h raw) others v;
     as_long = λ others e.
-        let one = style_length Reference (image_pixels h raw) e.cs e.written in
+        let one = style_as_long Reference (image_pixels h raw) w.list e.cs w.written e.written in
         let two = style_length style (image_pixels h raw) cs w in
-        let list = written_unique (image_pixels h raw) e.written.list w.list e.written.written w.written in
-        omega (arith, ap length e.bytes_are, length-file h e.cs, length-file h cs, ap (λ (x : List Chunk). length (text x)) list);
+        omega (arith, ap length e.bytes_are, length-file h e.cs, length-file h cs);
   }
 
 -- an image has a list that is written for it
 pub list_of : (style : Style) (h : Header) (raw : List ℕ) → AreBytes raw → (cs : List Chunk) × WrittenIn style (image_pixels h raw) cs
-list_of style h raw are =
-    let list = written_some (image_pixels h raw) (pixels_of_are (channels_number h.channels) raw (channels_are h.channels (channels_number h.channels) refl) (all_bytes raw are)) in
-    (in_style style list.0, record { list = list.0; written = list.1; is = refl })
+list_of style h raw are = style_some style (image_pixels h raw) (pixels_of_are (channels_number h.channels) raw (channels_are h.channels (channels_number h.channels) refl) (all_bytes raw are))
 
 -- A file that is written part after part.
 module _ {W : Type 0} (wrote : W → List ℕ → W → Type 0) (room : W → ℕ) (laws : WriterLaws wrote room) (h : Header) (cs : List Chunk) (start : W) where

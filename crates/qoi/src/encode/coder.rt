@@ -48,7 +48,8 @@ impl Coder {
     // How a rest of 1 of a group of so many repeats is written where a fresh pixel follows the group.
     #[inline(always)]
     fn rest_of_one(&self, style: Style, count: usize) -> PackedChunk
-        ensures { result ≡ rest_of_one style self.now.begun self.now.placed self.now.last count }
+        ensures one { result
+            ≡ rest_of_one style self.now.begun self.now.placed self.now.last count }
     {
         match style {
             Style::Places if self.begun && (count > 1 || !self.placed) => {

@@ -1,10 +1,12 @@
 //! Laws of the chunk list that is written for an image. They compute whole images and files, so they
 //! import types and variants beside the definitions.
-ghost use Rattle.std.specs.Prelude.{◌≡◌, ◌≢◌, ℕ, ◌+◌, ◌*◌, ◌/◌, ◌<◌, ◌≤◌, List, [], ◌∷◌, ◌++◌, length, replicate};
+ghost use Rattle.std.specs.Prelude.{◌≡◌, ◌≢◌, ◌↔◌, ℕ, ◌+◌, ◌*◌, ◌/◌, ◌<◌, ◌≤◌, List, [], ◌∷◌, ◌++◌, length, replicate};
 ghost use Rattle.std.specs.List.{AllByRecursion};
 ghost use Rattle.qoi.specs.declared.chunk.Chunk.{Chunk};
 ghost use Rattle.qoi.specs.declared.types.Channels.{Channels};
 ghost use Rattle.qoi.specs.declared.types.ColorSpace.{ColorSpace};
+ghost use Rattle.qoi.specs.declared.types.Style.{Style};
+ghost use Rattle.qoi.specs.declared.types.Style.TheVariants.{Reference, Places};
 ghost use Rattle.qoi.specs.declared.chunk.Chunk.TheVariants.{Place, Run, Rgb, Rgba};
 ghost use Rattle.qoi.specs.Qoi.{RgbaPixel, IsPixel, Past, blank, pixel, previous, AreChunks, text, file, Reaches, meaning};
 ghost use Rattle.qoi.specs.Encoded.{max_len};
@@ -12,19 +14,50 @@ ghost use Rattle.qoi.specs.Raw.{IsChannels, output, pixels_of, HasChannels};
 ghost use Rattle.qoi.specs.Regular.{Begins, Regular};
 ghost use Rattle.qoi.specs.Shortest.{floor, trailing_repeats, slack, total_cost};
 ghost use Rattle.qoi.specs.Written.{Written};
+ghost use Rattle.qoi.specs.Styles.{in_style, WrittenIn};
 
-/// An image has exactly one written list.
+/// An image has exactly one written list in each style.
 pub fn written_is_one()
-    ensures some { (image : List RgbaPixel) → AllByRecursion IsPixel image → (cs : List Chunk)
-        × Written image cs }
-    ensures one { (image : List RgbaPixel) (cs ds : List Chunk) → Written image cs
-        → Written image ds → cs ≡ ds }
+    ensures some { (style : Style) (image : List RgbaPixel) → AllByRecursion IsPixel image
+        → (cs : List Chunk) × WrittenIn style image cs }
+    ensures one { (style : Style) (image : List RgbaPixel) (cs ds : List Chunk)
+        → WrittenIn style image cs → WrittenIn style image ds → cs ≡ ds }
 {}
 
-/// Two neighbouring place chunks of the written list never name the same index position.
+/// In style `Reference` that is the list of `Written`; in style `Places` it is that list with some runs
+/// of 1 replaced, and as long.
+pub fn styles_are_written()
+    ensures reference { (image : List RgbaPixel) (cs : List Chunk) → Written image cs
+        ↔ WrittenIn Reference image cs }
+    ensures places { (image : List RgbaPixel) (cs : List Chunk) → Written image cs
+        → WrittenIn Places image (in_style Places cs) }
+    ensures as_long { (style : Style) (image : List RgbaPixel) (cs ds : List Chunk)
+        → Written image cs → WrittenIn style image ds → length (text ds) ≡ length (text cs) }
+{}
+
+/// The lists of style `Places` for the written lists of a few images.
+pub fn places_examples()
+    ensures single { in_style Places (Rgb 101 102 103 ∷ Run 1 ∷ Rgb 1 2 3 ∷ [])
+        ≡ Rgb 101 102 103 ∷ Place 51 ∷ Rgb 1 2 3 ∷ [] }
+    ensures behind_its_place { in_style Places
+        (Rgb 101 102 103 ∷ Rgb 1 2 3 ∷ Place 51 ∷ Run 1 ∷ Place 23 ∷ [])
+        ≡ Rgb 101 102 103 ∷ Rgb 1 2 3 ∷ Place 51 ∷ Run 1 ∷ Place 23 ∷ [] }
+    ensures behind_a_full_run { in_style Places (Rgb 101 102 103 ∷ Run 62 ∷ Run 1 ∷ Rgb 1 2 3 ∷ [])
+        ≡ Rgb 101 102 103 ∷ Run 62 ∷ Place 51 ∷ Rgb 1 2 3 ∷ [] }
+    ensures two { in_style Places (Rgb 101 102 103 ∷ Run 2 ∷ Rgb 1 2 3 ∷ [])
+        ≡ Rgb 101 102 103 ∷ Run 2 ∷ Rgb 1 2 3 ∷ [] }
+    ensures at_the_end { in_style Places (Rgb 101 102 103 ∷ Run 1 ∷ [])
+        ≡ Rgb 101 102 103 ∷ Run 1 ∷ [] }
+    ensures at_the_start { in_style Places (Run 1 ∷ Rgb 101 102 103 ∷ [])
+        ≡ Run 1 ∷ Rgb 101 102 103 ∷ [] }
+    ensures blank { in_style Places (Place 0 ∷ Run 1 ∷ Rgba 1 2 3 4 ∷ [])
+        ≡ Place 0 ∷ Run 1 ∷ Rgba 1 2 3 4 ∷ [] }
+{}
+
+/// Two neighbouring place chunks of a written list never name the same index position.
 pub fn written_is_apart()
-    ensures { (image : List RgbaPixel) (cs front rest : List Chunk) (i : ℕ) → Written image cs
-        → cs ≢ front ++ Place i ∷ Place i ∷ rest }
+    ensures { (style : Style) (image : List RgbaPixel) (cs front rest : List Chunk) (i : ℕ)
+        → WrittenIn style image cs → cs ≢ front ++ Place i ∷ Place i ∷ rest }
 {}
 
 /// The pixels of raw bytes, three or four bytes a pixel, are pixels. They are opaque where three bytes make
@@ -45,20 +78,21 @@ pub fn bytes_are_pixels()
 
 /// The written list takes at most a byte a pixel more than the raw bytes.
 pub fn written_fits()
-    ensures { (image : List RgbaPixel) (channels n : ℕ) (cs : List Chunk)
-        → HasChannels image channels
-        → length image ≡ n → Written image cs → length (text cs) ≤ n * channels + n }
+    ensures { (style : Style) (image : List RgbaPixel) (channels n : ℕ) (cs : List Chunk)
+        → HasChannels image channels → length image ≡ n → WrittenIn style image cs
+        → length (text cs) ≤ n * channels + n }
 {}
 
 /// The written list reaches the pixels of its image.
 pub fn written_reaches()
-    ensures { (image : List RgbaPixel) (n : ℕ) (cs : List Chunk) → Written image cs
-        → length image ≡ n → Reaches n cs }
+    ensures { (style : Style) (image : List RgbaPixel) (n : ℕ) (cs : List Chunk)
+        → WrittenIn style image cs → length image ≡ n → Reaches n cs }
 {}
 
 /// A list is regular if it names an index position only where a pixel was put. The written list is regular.
 pub fn written_is_regular()
-    ensures { (image : List RgbaPixel) (cs : List Chunk) → Written image cs → Regular cs }
+    ensures { (style : Style) (image : List RgbaPixel) (cs : List Chunk)
+        → WrittenIn style image cs → Regular cs }
 {}
 
 /// Where no pixel of an image is transparent black, as in an image of three channels, each list that reaches
@@ -80,16 +114,17 @@ pub fn none_is_shorter()
 
 /// The written list has at most the bytes of the floor and the slack.
 pub fn written_is_short()
-    ensures { (image : List RgbaPixel) (channels : ℕ) (cs : List Chunk) → HasChannels image channels
-        → Written image cs → length (text cs) ≤ floor image + slack image channels }
+    ensures { (style : Style) (image : List RgbaPixel) (channels : ℕ) (cs : List Chunk)
+        → HasChannels image channels → WrittenIn style image cs
+        → length (text cs) ≤ floor image + slack image channels }
 {}
 
 /// So the written list is at most its slack longer than each regular list whose pixels begin with those of
 /// the image.
 pub fn written_is_near_shortest()
-    ensures { (image : List RgbaPixel) (channels : ℕ) (cs others : List Chunk)
+    ensures { (style : Style) (image : List RgbaPixel) (channels : ℕ) (cs others : List Chunk)
         → HasChannels image channels
-        → Written image cs → AreChunks others → Regular others → Begins (meaning others) image
+        → WrittenIn style image cs → AreChunks others → Regular others → Begins (meaning others) image
         → length (text cs) ≤ length (text others) + slack image channels }
 {}
 

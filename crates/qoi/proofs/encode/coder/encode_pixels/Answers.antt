@@ -43,7 +43,7 @@ read-requires-clause-enough g c = pixel_behind (at_group c.loop-behind.invariant
 fresh : (g : Over) (c : After-choose-chunk g) → AtFresh g.W.Writer.wrote g.W.Writer.room c.args.style g.row.N c.args.data.now c.args.buf.now (drop g.row.N c.split_at.result.1.now) c.choose-chunk.new.self.table c.choose-chunk.new.self.last c.choose-chunk.new.self.begun c.choose-chunk.new.self.placed (text (runs_by c.rest_of_one-one.result c.repeats_of-count.result)) c.choose-chunk.result c.loop-behind.buf
 fresh g c =
     let chosen = c.choose-chunk.ensures in
-    at_fresh (at_group c.loop-behind.invariant c.repeats_of-count.ensures) c.split_at.ensures.back (pixel_behind (at_group c.loop-behind.invariant c.repeats_of-count.ensures) c.split_at.ensures.back c.if-is_empty.ensures) c.read.ensures c.rest_of_one-one.ensures chosen.chunk chosen.choice chosen.state chosen.style
+    at_fresh (at_group c.loop-behind.invariant c.repeats_of-count.ensures) c.split_at.ensures.back (pixel_behind (at_group c.loop-behind.invariant c.repeats_of-count.ensures) c.split_at.ensures.back c.if-is_empty.ensures) c.read.ensures c.rest_of_one-one.ensures.one chosen.chunk chosen.choice chosen.state chosen.style
 
 pub write_runs-requires-in-loop-behind : goal.write_runs-requires-in-loop-behind
 write_runs-requires-in-loop-behind g c = next_fits (fresh g (goal.at.write_runs-requires-in-loop-behind g c).After-choose-chunk).runs

@@ -1,11 +1,11 @@
 -- By the lower and the upper bound.
 use Rattle.std.proofs.Common.{arith}
 use Rattle.qoi.proofs.shortness.Lower.{lower}
-use Rattle.qoi.proofs.shortness.Upper.{upper}
+use Rattle.qoi.proofs.encoding.StyleLists.{style_upper}
 use Rattle.qoi.proofs.laws.writing.written_is_near_shortest.Goals as goal
 
 pub returns : goal.returns
-returns c = λ image channels cs others h w k r b.
-    let u = upper image channels cs h w in
+returns c = λ style image channels cs others h w k r b.
+    let u = style_upper style image channels cs h w in
     let l = lower image others k r b in
     omega arith

@@ -1,6 +1,6 @@
 -- By the upper bound.
-use Rattle.qoi.proofs.shortness.Upper.{upper}
+use Rattle.qoi.proofs.encoding.StyleLists.{style_upper}
 use Rattle.qoi.proofs.laws.writing.written_is_short.Goals as goal
 
 pub returns : goal.returns
-returns c = upper
+returns c = style_upper

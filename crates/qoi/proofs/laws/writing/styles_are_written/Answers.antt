@@ -1,0 +1,17 @@
+-- By the lemmas on the lists of each style.
+use Rattle.std.proofs.Common.{refl, sym, subst}
+use Rattle.qoi.specs.Written.{Written}
+use Rattle.qoi.proofs.encoding.StyleLists.{style_as_long}
+use Rattle.qoi.proofs.laws.writing.styles_are_written.Goals as goal
+
+pub returns-clause-reference : goal.returns-clause-reference
+returns-clause-reference c = λ image cs. (
+  λ w. record { list = cs; written = w; is = refl },
+  λ v. subst (λ x. Written image x) (sym v.is) v.written,
+)
+
+pub returns-clause-places : goal.returns-clause-places
+returns-clause-places c = λ image cs w. record { list = cs; written = w; is = refl }
+
+pub returns-clause-as_long : goal.returns-clause-as_long
+returns-clause-as_long c = style_as_long
