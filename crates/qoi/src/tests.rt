@@ -18,6 +18,7 @@ mod runs;
 mod spelling;
 mod std_streams;
 mod streams;
+mod styles;
 mod support;
 mod surface;
 mod types;
