@@ -58,7 +58,7 @@ module _ {W : Type 0} (wrote : W → List ℕ → W → Type 0) (room : W → �
 
   -- Between two groups: the pixels of `rest` are still to come, and the chunks `todo` are still to be written, as the
   -- style has them.
-  pub record CoderBetween (rest : List ℕ) (table : List RgbaPixel) (last : RgbaPixel) (begun placed : Bool) (buf : W) : Type 0 where
+  pub record CoderBetween (rest : List ℕ) (table : List RgbaPixel) (last : RgbaPixel) (place : ℕ) (begun placed : Bool) (buf : W) : Type 0 where
     pub past : Past
     pub before : Option Chunk
     pub todo : List Chunk
@@ -67,20 +67,20 @@ module _ {W : Type 0} (wrote : W → List ℕ → W → Type 0) (room : W → �
     pub whole : length rest % n ≡ 0
     pub within : length rest ≤ length bytes
     pub state : StateAfter past table last
-    pub style_state : StyleAfter past before begun placed
+    pub style_state : StyleAfter past before place begun placed
 
   -- Once the repeats are counted: they stand ahead as a group.
-  pub record AtGroup (rest : List ℕ) (table : List RgbaPixel) (last : RgbaPixel) (begun placed : Bool) (buf : W) (count : ℕ) : Type 0 where
-    pub between : CoderBetween rest table last begun placed buf
+  pub record AtGroup (rest : List ℕ) (table : List RgbaPixel) (last : RgbaPixel) (place : ℕ) (begun placed : Bool) (buf : W) (count : ℕ) : Type 0 where
+    pub between : CoderBetween rest table last place begun placed buf
     pub group : Group n rest last count
 
   -- Once the chunk of the fresh pixel is chosen: the runs before it and then the chunk are to be written next, and then
   -- the coder is between two groups.
-  pub record AtFresh (after : List ℕ) (table : List RgbaPixel) (last : RgbaPixel) (begun placed : Bool) (run_bytes : List ℕ) (chunk : Chunk) (buf : W) : Type 0 where
+  pub record AtFresh (after : List ℕ) (table : List RgbaPixel) (last : RgbaPixel) (place : ℕ) (begun placed : Bool) (run_bytes : List ℕ) (chunk : Chunk) (buf : W) : Type 0 where
     pub left : List ℕ
     pub runs : Writing run_bytes (bytes_of chunk ++ left) buf
     pub next : {flushed : W} → wrote buf run_bytes flushed → Writing (bytes_of chunk) left flushed
-    pub between : {flushed now : W} → wrote buf run_bytes flushed → wrote flushed (bytes_of chunk) now → CoderBetween after table last begun placed now
+    pub between : {flushed now : W} → wrote buf run_bytes flushed → wrote flushed (bytes_of chunk) now → CoderBetween after table last place begun placed now
 
 -- the written list in a style
 abbrev written_in : (style : Style) {image : List RgbaPixel} {list : List Chunk} → Written image list → WrittenIn style image (in_style style list)
@@ -117,7 +117,7 @@ module _ {W : Type 0} {wrote : W → List ℕ → W → Type 0} {room : W → �
   all_went {now = now} w went = (in_style style w.list, written_in style w.written, wrote_all wrote room w.task.laws start now (text (in_style style w.list)) (next_went w {piece = []} went refl).went)
 
   -- before the first pixel
-  pub coder_starts : {table : List RgbaPixel} {last : RgbaPixel} {begun placed : Bool} → Task wrote room style n bytes start → StateAfter [] table last → StyleAfter [] None begun placed → CoderBetween wrote room style n bytes start bytes table last begun placed start
+  pub coder_starts : {table : List RgbaPixel} {last : RgbaPixel} {place : ℕ} {begun placed : Bool} → Task wrote room style n bytes start → StateAfter [] table last → StyleAfter [] None place begun placed → CoderBetween wrote room style n bytes start bytes table last place begun placed start
   coder_starts task state style_state =
       let are : AllByRecursion IsPixel (pixels_of n bytes) = pixels_of_are n bytes task.channels (all_bytes bytes task.are) in
       let list = some_by IsChoice chooses (pixels_of n bytes) are in
@@ -139,10 +139,10 @@ module _ {W : Type 0} {wrote : W → List ℕ → W → Type 0} {room : W → �
       }
 
   -- counted repeats are a group
-  pub at_group : {rest : List ℕ} {last : RgbaPixel} {table : List RgbaPixel} {begun placed : Bool} {buf : W} {count : ℕ} → CoderBetween wrote room style n bytes start rest table last begun placed buf → IsCount last (pixels_of n rest) count → AtGroup wrote room style n bytes start rest table last begun placed buf count
+  pub at_group : {rest : List ℕ} {last : RgbaPixel} {table : List RgbaPixel} {place : ℕ} {begun placed : Bool} {buf : W} {count : ℕ} → CoderBetween wrote room style n bytes start rest table last place begun placed buf → IsCount last (pixels_of n rest) count → AtGroup wrote room style n bytes start rest table last place begun placed buf count
   at_group {rest = rest} {last = last} {count = count} e counted = record { between = e; group = group_of n rest last count e.writing.task.channels e.whole counted }
 
-  module _ {rest : List ℕ} {last : RgbaPixel} {table : List RgbaPixel} {begun placed : Bool} {buf : W} {count : ℕ} (a : AtGroup wrote room style n bytes start rest table last begun placed buf count) where
+  module _ {rest : List ℕ} {last : RgbaPixel} {table : List RgbaPixel} {place : ℕ} {begun placed : Bool} {buf : W} {count : ℕ} (a : AtGroup wrote room style n bytes start rest table last place begun placed buf count) where
     -- the pixels behind the group
     abbrev others : List RgbaPixel
     others = pixels_of n (drop (n * count) rest)
@@ -197,12 +197,12 @@ module _ {W : Type 0} {wrote : W → List ℕ → W → Type 0} {room : W → �
         is_fresh is = other_ahead (ap (λ x. slice_get x 0) pixel_ahead ∙ ap (λ p. Some p) is)
 
         -- the runs and its chunk are to be written next
-        pub at_fresh : {one chunk : Chunk} {next_table : List RgbaPixel} {next_last : RgbaPixel} {next_begun next_placed : Bool}
-            → one ≡ rest_of_one style begun placed last count → IsChunk chunk
+        pub at_fresh : {one chunk : Chunk} {next_table : List RgbaPixel} {next_last : RgbaPixel} {next_place : ℕ} {next_begun next_placed : Bool}
+            → one ≡ rest_of_one style begun placed place count → IsChunk chunk
             → ((past : Past) → IsPixel (previous past) → px ≢ previous past → StateAfter past table last → IsChoice past px chunk)
             → ((past : Past) → px ≢ previous past → StateAfter past table last → StateAfter (px ∷ past) next_table next_last)
-            → ((past : Past) → IsPixel (previous past) → px ≢ previous past → StateAfter past table last → StyleAfter (px ∷ past) (Some chunk) next_begun next_placed)
-            → AtFresh wrote room style n bytes start after next_table next_last next_begun next_placed (text (runs_by one count)) chunk buf
+            → ((past : Past) → IsPixel (previous past) → px ≢ previous past → StateAfter past table last → StyleAfter (px ∷ past) (Some chunk) next_place next_begun next_placed)
+            → AtFresh wrote room style n bytes start after next_table next_last next_place next_begun next_placed (text (runs_by one count)) chunk buf
         at_fresh {one = one} {chunk = chunk} single is choice state style_state =
             let e = a.between in
             let end : Past = replicate count (previous e.past) ++ e.past in
@@ -212,7 +212,7 @@ module _ {W : Type 0} {wrote : W → List ℕ → W → Type 0} {room : W → �
             let before : IsPixel (previous end) = subst IsPixel (sym repeated) e.to_write.before in
             let chosen = choice end before fresh still in
             let left = runs_and_chunk IsChoice chooses _ _ _ count others _ group_ahead px _ chunk pixel_ahead is_fresh is chosen in
-            let single_is : rest_of_one style (some_fresh e.past) (names e.before (hash (previous e.past))) (previous e.past) count ≡ one = rw (sym e.style_state.begun_is, sym e.style_state.placed_is, sym e.state.last_is) (sym single) in
+            let single_is : rest_of_one style (some_fresh e.past) (names e.before (hash (previous e.past))) (hash (previous e.past)) count ≡ one = rw (sym e.style_state.begun_is, sym e.style_state.placed_is, sym e.style_state.place_is) (sym single) in
             let todo = ap (styled style e.past e.before) left.1 ∙ styled_group style e.past e.before count px chunk left.0 (chooses.no_run end px chunk chosen) (chooses.gives end px chunk chosen)
             ∙ ap (λ x. runs_by x count ++ chunk ∷ styled style (px ∷ end) (Some chunk) left.0) single_is in
             let runs : Writing wrote room style n bytes start (text (runs_by one count)) (bytes_of chunk ++ text (styled style (px ∷ end) (Some chunk) left.0)) buf = chunks_first (runs_by one count) (chunk ∷ styled style (px ∷ end) (Some chunk) left.0) todo in

@@ -59,8 +59,9 @@ names_chosen past px i true c place first = sym (eq-eqb i (hash px) place)
 names_chosen past px i false c place first = sym (spells_no_place c (hash px) first.spells)
 
 -- so it is kept
-pub style_put : (past : Past) (px : RgbaPixel) (i : ℕ) (same : Bool) (c : Chunk) → px ≢ previous past → i ≡ hash px → IsFirst past px c → StyleAfter (px ∷ past) (Some (if same then Place i else c)) true same
+pub style_put : (past : Past) (px : RgbaPixel) (i : ℕ) (same : Bool) (c : Chunk) → px ≢ previous past → i ≡ hash px → IsFirst past px c → StyleAfter (px ∷ past) (Some (if same then Place i else c)) i true same
 style_put past px i same c differs place first = record {
+  place_is = place;
   begun_is = sym (ap has_pixel (fresh_more past px differs));
   placed_is = names_chosen past px i same c place first;
 }

@@ -103,7 +103,7 @@ rest_before (suc (suc r)) past before c left other =
     ∙ ap (λ x. long ∷ x ∷ placed_after (then_chunk end c) (Some c) left) (other_stays end (Some long) c left other)
 
 -- how the rest of a group of n is written, where it is single
-single_is : (past : Past) (before : Option Chunk) (k : ℕ) → single (replicate (62 * k) (previous past) ++ past) (before_rest before k) ≡ rest_of_one Places (some_fresh past) (names before (hash (previous past))) (previous past) (62 * k + 1)
+single_is : (past : Past) (before : Option Chunk) (k : ℕ) → single (replicate (62 * k) (previous past) ++ past) (before_rest before k) ≡ rest_of_one Places (some_fresh past) (names before (hash (previous past))) (hash (previous past)) (62 * k + 1)
 single_is past before zero = refl
 single_is past before (suc k) =
     let more : nat_lt 1 (62 * suc k + 1) ≡ true = lt-ltb 1 (62 * suc k + 1) (omega arith) in
@@ -118,7 +118,7 @@ last_same (suc (suc r)) c d e = refl
 
 -- the chunks of a group and of the fresh pixel behind it
 pub styled_group : (style : Style) (past : Past) (before : Option Chunk) (n : ℕ) (p : RgbaPixel) (c : Chunk) (left : List Chunk) → is_run c ≡ false → pixel_of (replicate n (previous past) ++ past) c ≡ p
-    → styled style past before (runs n ++ c ∷ left) ≡ runs_by (rest_of_one style (some_fresh past) (names before (hash (previous past))) (previous past) n) n ++ c ∷ styled style (p ∷ (replicate n (previous past) ++ past)) (Some c) left
+    → styled style past before (runs n ++ c ∷ left) ≡ runs_by (rest_of_one style (some_fresh past) (names before (hash (previous past))) (hash (previous past)) n) n ++ c ∷ styled style (p ∷ (replicate n (previous past) ++ past)) (Some c) left
 unfolding runs runs_by
 styled_group Reference past before n p c left other gives = ap (λ x. x ++ c ∷ left) (sym (runs_by_run n))
 styled_group Places past before n p c left other gives =
@@ -130,11 +130,11 @@ styled_group Places past before n p c left other gives =
     let count : r + 62 * k ≡ n = omega arith in
     let group : replicate r (previous end) ++ end ≡ replicate n q ++ past = ap (λ x. replicate r x ++ end) same ∙ repeats_after r (62 * k) q past ∙ ap (λ m. replicate m q ++ past) count in
     let after : then_chunk (replicate r (previous end) ++ end) c ≡ p ∷ (replicate n q ++ past) = ap (λ x. then_chunk x c) group ∙ then_other (replicate n q ++ past) c other ∙ ap (λ x. x ∷ (replicate n q ++ past)) gives in
-    let one : r ≡ 1 → single end (before_rest before k) ≡ rest_of_one Places (some_fresh past) (names before (hash q)) q n
-    = λ e. single_is past before k ∙ ap (rest_of_one Places (some_fresh past) (names before (hash q)) q) (omega arith) in
+    let one : r ≡ 1 → single end (before_rest before k) ≡ rest_of_one Places (some_fresh past) (names before (hash q)) (hash q) n
+    = λ e. single_is past before k ∙ ap (rest_of_one Places (some_fresh past) (names before (hash q)) (hash q)) (omega arith) in
     ap (λ x. placed_after past before x) (append_assoc (replicate k (Run 62)) (last_run r) (c ∷ left))
     ∙ full_stay k past before (last_run r ++ c ∷ left)
     ∙ ap (λ x. replicate k (Run 62) ++ x) (rest_before r end (before_rest before k) c left other
     ∙ ap (λ x. last_by (single end (before_rest before k)) r ++ c ∷ placed_after x (Some c) left) after
     ∙ ap (λ x. x ++ c ∷ placed_after (p ∷ (replicate n q ++ past)) (Some c) left) (last_same r _ _ one))
-    ∙ sym (append_assoc (replicate k (Run 62)) (last_by (rest_of_one Places (some_fresh past) (names before (hash q)) q n) r) (c ∷ placed_after (p ∷ (replicate n q ++ past)) (Some c) left))
+    ∙ sym (append_assoc (replicate k (Run 62)) (last_by (rest_of_one Places (some_fresh past) (names before (hash q)) (hash q) n) r) (c ∷ placed_after (p ∷ (replicate n q ++ past)) (Some c) left))

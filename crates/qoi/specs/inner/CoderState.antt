@@ -14,13 +14,14 @@ pub record StateAfter (past : Past) (table : List RgbaPixel) (last : RgbaPixel) 
   pub table_is : Holds table (fresh past)
   pub last_is : last ≡ previous past
 
--- what a coder keeps for a style after these pixels and this chunk: whether a fresh pixel came, and whether the chunk
--- names the last pixel's index position
-pub record StyleAfter (past : Past) (before : Option Chunk) (begun placed : Bool) : Type 0 where
+-- what a coder keeps for a style after these pixels and this chunk: the last pixel's index position, whether a fresh
+-- pixel came, and whether the chunk names that position
+pub record StyleAfter (past : Past) (before : Option Chunk) (place : ℕ) (begun placed : Bool) : Type 0 where
+  pub place_is : place ≡ hash (previous past)
   pub begun_is : begun ≡ some_fresh past
   pub placed_is : placed ≡ names before (hash (previous past))
 
--- the chunk of a rest of 1 of a group of n repeats of this pixel, where a fresh pixel follows
-abbrev pub rest_of_one : Style → Bool → Bool → RgbaPixel → ℕ → Chunk
-rest_of_one Reference begun placed last n = Run 1
-rest_of_one Places begun placed last n = if begun && (nat_lt 1 n || not placed) then Place (hash last) else Run 1
+-- the chunk of a rest of 1 of a group of n repeats of the pixel of this place, where a fresh pixel follows
+abbrev pub rest_of_one : Style → Bool → Bool → ℕ → ℕ → Chunk
+rest_of_one Reference begun placed place n = Run 1
+rest_of_one Places begun placed place n = if begun && (nat_lt 1 n || not placed) then Place place else Run 1

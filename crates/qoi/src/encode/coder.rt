@@ -1,8 +1,8 @@
 //! The coder: the chunks of an image's pixels, a group of repeats and the fresh pixel behind it at a
 //! time (QOI specification 1.0, "Data" and "Chunks").
-ghost use Rattle.std.specs.Prelude.{◌≡◌, ◌≢◌, ℕ, ◌+◌, ◌/◌, ◌%◌, ◌≤◌, true, List, [], ◌∷◌, Option, None, Some, length, OnOk, IfErr};
+ghost use Rattle.std.specs.Prelude.{◌≡◌, ◌≢◌, ℕ, ◌+◌, ◌/◌, ◌%◌, ◌<◌, ◌≤◌, List, [], ◌∷◌, Option, None, Some, length, OnOk, IfErr};
 ghost use Rattle.qoi.specs.declared.chunk.Chunk.{Chunk};
-ghost use Rattle.qoi.specs.Qoi.{Past, IsPixel, previous, hash, IsChunk, bytes_of, text, channels_number};
+ghost use Rattle.qoi.specs.Qoi.{Past, IsPixel, positions, previous, IsChunk, text, channels_number};
 ghost use Rattle.qoi.specs.Raw.{IsChannels, pixels_of};
 ghost use Rattle.qoi.specs.Runs.{runs_by};
 ghost use Rattle.qoi.specs.Written.{IsChoice};
@@ -21,25 +21,29 @@ use crate::utils::{Writer, write_chunk};
 // The longest run of one chunk.
 const RUN_MAX: usize = 62;
 
-// The fresh pixels at the 64 index positions, and the last pixel; and whether a fresh pixel came, and
-// whether the chunk of the last one names its index position.
+// The fresh pixels at the 64 index positions, the last pixel, and its index position; and whether a
+// fresh pixel came, and whether the chunk of the last one names its index position.
 #[derive(Drop)]
 struct Coder {
     table: Table,
     last: Packed,
+    place: u8,
     begun: bool,
     placed: bool,
+    ghost within: { place < positions },
 }
 
 impl Coder {
     // Before the first pixel: transparent black at each index position, and opaque black.
     fn new() -> Coder
         ensures state { StateAfter [] result.table result.last }
-        ensures style { StyleAfter [] None result.begun result.placed }
+        ensures style { StyleAfter [] None result.place result.begun result.placed }
     {
+        let last = Packed::start();
         Coder {
             table: Table::new(),
-            last: Packed::start(),
+            last,
+            place: last.spread().hash_index(),
             begun: false,
             placed: false,
         }
@@ -49,13 +53,12 @@ impl Coder {
     #[inline(always)]
     fn rest_of_one(&self, style: Style, count: usize) -> PackedChunk
         ensures one { result
-            ≡ rest_of_one style self.now.begun self.now.placed self.now.last count }
+            ≡ rest_of_one style self.now.begun self.now.placed self.now.place count }
     {
+        let named = self.begun & ((count > 1) | !self.placed);
         match style {
-            Style::Places if self.begun && (count > 1 || !self.placed) => {
-                PackedChunk::place(self.last.spread().hash_index())
-            }
-            _ => PackedChunk::run(1),
+            Style::Reference => PackedChunk::run(1),
+            Style::Places => pick(named, PackedChunk::place(self.place), PackedChunk::run(1)),
         }
     }
 
@@ -71,7 +74,7 @@ impl Coder {
             → StateAfter (px ∷ past) self.new.table self.new.last }
         ensures style { (past : Past) → IsPixel (previous past) → px ≢ previous past
             → StateAfter past self.old.table self.old.last
-            → StyleAfter (px ∷ past) (Some result) self.new.begun self.new.placed }
+            → StyleAfter (px ∷ past) (Some result) self.new.place self.new.begun self.new.placed }
     {
         let last = self.last;
         self.last = px;
@@ -79,6 +82,7 @@ impl Coder {
         let noted = self.table.at(place);
         self.table.put(place, px);
         let spelled = px.spelled_after(last);
+        self.place = place;
         self.begun = true;
         self.placed = noted.is_same(px);
         pick(self.placed, PackedChunk::place(place), spelled)

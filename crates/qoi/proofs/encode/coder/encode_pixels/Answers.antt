@@ -40,7 +40,7 @@ pub read-requires-clause-enough : goal.read-requires-clause-enough
 read-requires-clause-enough g c = pixel_behind (at_group c.loop-behind.invariant c.repeats_of-count.ensures) c.split_at.ensures.back c.if-is_empty.ensures
 
 -- what stands once the chunk of the fresh pixel is chosen
-fresh : (g : Over) (c : After-choose-chunk g) → AtFresh g.W.Writer.wrote g.W.Writer.room c.args.style g.row.N c.args.data.now c.args.buf.now (drop g.row.N c.split_at.result.1.now) c.choose-chunk.new.self.table c.choose-chunk.new.self.last c.choose-chunk.new.self.begun c.choose-chunk.new.self.placed (text (runs_by c.rest_of_one-one.result c.repeats_of-count.result)) c.choose-chunk.result c.loop-behind.buf
+fresh : (g : Over) (c : After-choose-chunk g) → AtFresh g.W.Writer.wrote g.W.Writer.room c.args.style g.row.N c.args.data.now c.args.buf.now (drop g.row.N c.split_at.result.1.now) c.choose-chunk.new.self.table c.choose-chunk.new.self.last c.choose-chunk.new.self.place c.choose-chunk.new.self.begun c.choose-chunk.new.self.placed (text (runs_by c.rest_of_one-one.result c.repeats_of-count.result)) c.choose-chunk.result c.loop-behind.buf
 fresh g c =
     let chosen = c.choose-chunk.ensures in
     at_fresh (at_group c.loop-behind.invariant c.repeats_of-count.ensures) c.split_at.ensures.back (pixel_behind (at_group c.loop-behind.invariant c.repeats_of-count.ensures) c.split_at.ensures.back c.if-is_empty.ensures) c.read.ensures c.rest_of_one-one.ensures.one chosen.chunk chosen.choice chosen.state chosen.style
@@ -63,5 +63,5 @@ returns-in_err-write_chunk-clause-refused g c =
 
 pub loop-behind-preserved : goal.loop-behind-preserved
 loop-behind-preserved g c =
-    subst (λ rest. CoderBetween g.W.Writer.wrote g.W.Writer.room c.args.style g.row.N c.args.data.now c.args.buf.now rest c.choose-chunk.new.self.table c.choose-chunk.new.self.last c.choose-chunk.new.self.begun c.choose-chunk.new.self.placed c.write_chunk.new.buf) (sym c.split_at-in-loop-behind.ensures.back)
+    subst (λ rest. CoderBetween g.W.Writer.wrote g.W.Writer.room c.args.style g.row.N c.args.data.now c.args.buf.now rest c.choose-chunk.new.self.table c.choose-chunk.new.self.last c.choose-chunk.new.self.place c.choose-chunk.new.self.begun c.choose-chunk.new.self.placed c.write_chunk.new.buf) (sym c.split_at-in-loop-behind.ensures.back)
     ((fresh g (goal.at.loop-behind-preserved g c).After-choose-chunk).between c.in_ok-write_runs.ensures.written c.in_ok-write_chunk.ensures.written)

@@ -16,5 +16,5 @@ returns-clause-state c past differs state = state_put past _ c.args.px differs (
 
 pub returns-clause-style : goal.returns-clause-style
 returns-clause-style c past before differs state =
-    subst (λ chunk. StyleAfter (c.args.px ∷ past) (Some chunk) true c.is_same-self.result) (sym (c.pick.ensures ∙ (λ i. if c.is_same-self.result then c.place.ensures i else c.spelled_after-spelled.result)))
+    subst (λ chunk. StyleAfter (c.args.px ∷ past) (Some chunk) c.hash_index-place.result true c.is_same-self.result) (sym (c.pick.ensures ∙ (λ i. if c.is_same-self.result then c.place.ensures i else c.spelled_after-spelled.result)))
     (style_put past c.args.px _ c.is_same-self.result c.spelled_after-spelled.result differs (c.hash_index-place.ensures.position ∙ ap hash c.spread.ensures) (c.spelled_after-spelled.ensures.first past before (sym state.last_is)))
