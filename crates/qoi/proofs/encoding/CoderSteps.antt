@@ -16,7 +16,7 @@ use Rattle.qoi.specs.Written.{IsChoice, Written}
 use Rattle.qoi.specs.Styles.{some_fresh, names, in_style, WrittenIn}
 use Rattle.qoi.specs.writers.Writes.{WriterLaws, WroteBut, WroteSome}
 use Rattle.qoi.proofs.format.ChunkSteps.{previous_repeats}
-use Rattle.qoi.proofs.encoding.StillToWrite.{StillToWrite, all_to_write, only_runs, runs_and_chunk}
+use Rattle.qoi.proofs.encoding.StillToWrite.{StillToWrite, all_to_write, next_pixel, only_runs, runs_and_chunk}
 use Rattle.qoi.proofs.encoding.WriterProgress.{wrote_none, wrote_next, wrote_part, wrote_all, left_fits}
 use Rattle.qoi.proofs.decoding.FilledBuffer.{whole_pixels}
 use Rattle.qoi.proofs.encoding.CoderTable.{state_repeats}
@@ -74,13 +74,10 @@ module _ {W : Type 0} (wrote : W → List ℕ → W → Type 0) (room : W → �
     pub between : CoderBetween rest table last place begun placed buf
     pub group : Group n rest last count
 
-  -- Once the chunk of the fresh pixel is chosen: the runs before it and then the chunk are to be written next, and then
-  -- the coder is between two groups.
-  pub record AtFresh (after : List ℕ) (table : List RgbaPixel) (last : RgbaPixel) (place : ℕ) (begun placed : Bool) (run_bytes : List ℕ) (chunk : Chunk) (buf : W) : Type 0 where
-    pub left : List ℕ
-    pub runs : Writing run_bytes (bytes_of chunk ++ left) buf
-    pub next : {flushed : W} → wrote buf run_bytes flushed → Writing (bytes_of chunk) left flushed
-    pub between : {flushed now : W} → wrote buf run_bytes flushed → wrote flushed (bytes_of chunk) now → CoderBetween after table last place begun placed now
+  -- Once the chunk of the fresh pixel is chosen: it is to be written next, and then the coder is between two groups.
+  pub record AtFresh (after : List ℕ) (table : List RgbaPixel) (last : RgbaPixel) (place : ℕ) (begun placed : Bool) (chunk : Chunk) (buf : W) : Type 0 where
+    pub next : (left : List ℕ) × Writing (bytes_of chunk) left buf
+    pub between : {now : W} → wrote buf (bytes_of chunk) now → CoderBetween after table last place begun placed now
 
 -- the written list in a style
 abbrev written_in : (style : Style) {image : List RgbaPixel} {list : List Chunk} → Written image list → WrittenIn style image (in_style style list)
@@ -196,40 +193,68 @@ module _ {W : Type 0} {wrote : W → List ℕ → W → Type 0} {room : W → �
         is_fresh : px ≢ previous a.between.past
         is_fresh is = other_ahead (ap (λ x. slice_get x 0) pixel_ahead ∙ ap (λ p. Some p) is)
 
-        -- the runs and its chunk are to be written next
-        pub at_fresh : {one chunk : Chunk} {next_table : List RgbaPixel} {next_last : RgbaPixel} {next_place : ℕ} {next_begun next_placed : Bool}
-            → one ≡ rest_of_one style begun placed place count → IsChunk chunk
-            → ((past : Past) → IsPixel (previous past) → px ≢ previous past → StateAfter past table last → IsChoice past px chunk)
-            → ((past : Past) → px ≢ previous past → StateAfter past table last → StateAfter (px ∷ past) next_table next_last)
-            → ((past : Past) → IsPixel (previous past) → px ≢ previous past → StateAfter past table last → StyleAfter (px ∷ past) (Some chunk) next_place next_begun next_placed)
-            → AtFresh wrote room style n bytes start after next_table next_last next_place next_begun next_placed (text (runs_by one count)) chunk buf
-        at_fresh {one = one} {chunk = chunk} single is choice state style_state =
-            let e = a.between in
-            let end : Past = replicate count (previous e.past) ++ e.past in
-            let repeated : previous end ≡ previous e.past = previous_repeats count e.past in
-            let fresh : px ≢ previous end = λ p. is_fresh (p ∙ repeated) in
-            let still : StateAfter end table last = state_repeats count e.past table last e.state in
-            let before : IsPixel (previous end) = subst IsPixel (sym repeated) e.to_write.before in
-            let chosen = choice end before fresh still in
-            let left = runs_and_chunk IsChoice chooses _ _ _ count others _ group_ahead px _ chunk pixel_ahead is_fresh is chosen in
-            let single_is : rest_of_one style (some_fresh e.past) (names e.before (hash (previous e.past))) (hash (previous e.past)) count ≡ one = rw (sym e.style_state.begun_is, sym e.style_state.placed_is, sym e.style_state.place_is) (sym single) in
-            let todo = ap (styled style e.past e.before) left.1 ∙ styled_group style e.past e.before count px chunk left.0 (chooses.no_run end px chunk chosen) (chooses.gives end px chunk chosen)
-            ∙ ap (λ x. runs_by x count ++ chunk ∷ styled style (px ∷ end) (Some chunk) left.0) single_is in
-            let runs : Writing wrote room style n bytes start (text (runs_by one count)) (bytes_of chunk ++ text (styled style (px ∷ end) (Some chunk) left.0)) buf = chunks_first (runs_by one count) (chunk ∷ styled style (px ∷ end) (Some chunk) left.0) todo in
-            let sizes : length (drop (n * count) rest) ≡ n + length after = ap length split ∙ length-append (take n behind) after ∙ ap (λ k. k + length after) size in
-            record {
-              left = text (styled style (px ∷ end) (Some chunk) left.0);
-              runs = runs;
-              next = λ went. next_went runs went refl;
-              between = λ went then. record {
-                past = px ∷ end;
-                before = Some chunk;
-                todo = left.0;
-                writing = next_went (next_went runs {piece = bytes_of chunk} went refl) then refl;
-                to_write = left.2;
-                whole = by_channels (λ k. length (drop (n * count) rest) ≡ k + length after → length (drop (n * count) rest) % k ≡ 0 → length after % k ≡ 0) (λ p q. omega arith) (λ p q. omega arith) n e.writing.task.channels sizes a.group.whole;
-                within = omega (arith, e.within, sizes, length-drop (n * count) rest);
-                state = state end fresh still;
-                style_state = style_state end before fresh still;
-              };
-            }
+        -- the pixels up to it
+        abbrev end : Past
+        end = replicate count (previous a.between.past) ++ a.between.past
+
+        -- it is fresh there, and the pixel before it is a pixel
+        fresh_there : px ≢ previous end
+        fresh_there p = is_fresh (p ∙ previous_repeats count a.between.past)
+
+        before_there : IsPixel (previous end)
+        before_there = subst IsPixel (sym (previous_repeats count a.between.past)) a.between.to_write.before
+
+        module _ {one : Chunk} (single : one ≡ rest_of_one style begun placed place count) where
+          -- what is left behind the runs and a chunk that is chosen
+          record Behind (chunk : Chunk) : Type 0 where
+            left : List Chunk
+            runs : Writing wrote room style n bytes start (text (runs_by one count)) (bytes_of chunk ++ text (styled style (px ∷ end) (Some chunk) left)) buf
+            to_write : StillToWrite IsChoice (pixels_of n bytes) runs.list (px ∷ end) (pixels_of n after) left
+
+          -- they are to be written next
+          behind_chunk : (chunk : Chunk) → IsChunk chunk → IsChoice end px chunk → Behind chunk
+          behind_chunk chunk is chosen =
+              let e = a.between in
+              let left = runs_and_chunk IsChoice chooses _ _ _ count others _ group_ahead px _ chunk pixel_ahead is_fresh is chosen in
+              let single_is : rest_of_one style (some_fresh e.past) (names e.before (hash (previous e.past))) (hash (previous e.past)) count ≡ one = rw (sym e.style_state.begun_is, sym e.style_state.placed_is, sym e.style_state.place_is) (sym single) in
+              let todo =
+              ap (styled style e.past e.before) left.1
+              ∙ styled_group style e.past e.before count px chunk left.0 (chooses.no_run end px chunk chosen) (chooses.gives end px chunk chosen)
+              ∙ ap (λ x. runs_by x count ++ chunk ∷ styled style (px ∷ end) (Some chunk) left.0) single_is in
+              record { left = left.0; runs = chunks_first (runs_by one count) (chunk ∷ styled style (px ∷ end) (Some chunk) left.0) todo; to_write = left.2 }
+
+          -- its runs are next, whichever chunk is chosen
+          pub runs_ahead : (left : List ℕ) × Writing wrote room style n bytes start (text (runs_by one count)) left buf
+          runs_ahead =
+              let c = chooses.some end px before_there (next_pixel IsChoice chooses _ _ _ count others _ group_ahead px _ pixel_ahead) fresh_there in
+              let b = behind_chunk c.0 c.1 c.2 in
+              (bytes_of c.0 ++ text (styled style (px ∷ end) (Some c.0) b.left), b.runs)
+
+          -- its chunk is chosen once the runs are written
+          pub at_fresh : {flushed : W} {chunk : Chunk} {next_table : List RgbaPixel} {next_last : RgbaPixel} {next_place : ℕ} {next_begun next_placed : Bool}
+              → wrote buf (text (runs_by one count)) flushed → IsChunk chunk
+              → ((past : Past) → IsPixel (previous past) → px ≢ previous past → StateAfter past table last → IsChoice past px chunk)
+              → ((past : Past) → px ≢ previous past → StateAfter past table last → StateAfter (px ∷ past) next_table next_last)
+              → ((past : Past) → IsPixel (previous past) → px ≢ previous past → StateAfter past table last → StyleAfter (px ∷ past) (Some chunk) next_place next_begun next_placed)
+              → AtFresh wrote room style n bytes start after next_table next_last next_place next_begun next_placed chunk flushed
+          at_fresh {chunk = chunk} went is choice state style_state =
+              let e = a.between in
+              let still : StateAfter end table last = state_repeats count e.past table last e.state in
+              let b = behind_chunk chunk is (choice end before_there fresh_there still) in
+              let left = text (styled style (px ∷ end) (Some chunk) b.left) in
+              let next : Writing wrote room style n bytes start (bytes_of chunk) left _ = next_went b.runs went refl in
+              let sizes : length (drop (n * count) rest) ≡ n + length after = ap length split ∙ length-append (take n behind) after ∙ ap (λ k. k + length after) size in
+              record {
+                next = (left, next);
+                between = λ went. record {
+                  past = px ∷ end;
+                  before = Some chunk;
+                  todo = b.left;
+                  writing = next_went next went refl;
+                  to_write = b.to_write;
+                  whole = by_channels (λ k. length (drop (n * count) rest) ≡ k + length after → length (drop (n * count) rest) % k ≡ 0 → length after % k ≡ 0) (λ p q. omega arith) (λ p q. omega arith) n e.writing.task.channels sizes a.group.whole;
+                  within = omega (arith, e.within, sizes, length-drop (n * count) rest);
+                  state = state end fresh_there still;
+                  style_state = style_state end before_there fresh_there still;
+                };
+              }

@@ -56,6 +56,12 @@ module _ (Choice : Past → RgbaPixel → Chunk → Type 0) (choices : Chooses C
         let all : image ≡ reverse group = image_is ∙ ap (λ x. reverse group ++ x) none ∙ append-nil (reverse group) in
         next_is (runs n) (subst (λ x. WrittenBy Choice x (w.done ++ runs n)) (sym all) group_written)
 
+    -- the next pixel is a pixel
+    pub next_pixel : (p : RgbaPixel) (more : List RgbaPixel) → rest ≡ p ∷ more → IsPixel p
+    next_pixel p more ahead =
+        let are = subst (λ x. AllByRecursion IsPixel x) ahead (all_back IsPixel (replicate n (previous past)) rest w.are) in
+        are.0
+
     module _ (p : RgbaPixel) (more : List RgbaPixel) (c : Chunk) (ahead : rest ≡ p ∷ more) (fresh : p ≢ previous past) (is : IsChunk c) (choice : Choice (replicate n (previous past) ++ past) p c) where
       -- the next pixels are pixels
       next_are : AllByRecursion IsPixel (p ∷ more)

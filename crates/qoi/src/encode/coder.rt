@@ -127,9 +127,8 @@ fn encode_pixels<W: Writer, const N: usize>(buf: &mut W, style: Style, data: &[u
         if behind.is_empty() {
             return write_runs(buf, count, PackedChunk::run(1));
         }
-        let one = coder.rest_of_one(style, count);
+        write_runs(buf, count, coder.rest_of_one(style, count))?;
         let chunk = coder.choose(Packed::read::<N>(behind));
-        write_runs(buf, count, one)?;
         write_chunk(buf, chunk)?;
         let (_, after) = behind.split_at(N);
         rest = after;

@@ -1,13 +1,13 @@
 -- A group and the fresh pixel behind it at a time.
-use Rattle.std.proofs.Common.{arith, sym, subst, drop, length, ◌≤◌, OnOk, IfErr}
+use Rattle.std.proofs.Common.{ℕ, List, refl, arith, sym, subst, drop, length, ◌≤◌, OnOk, IfErr}
 use Rattle.std.proofs.lemmas.Result.{err_from_is_err_and}
 use Rattle.qoi.specs.Qoi.{text}
 use Rattle.qoi.specs.Runs.{runs_by}
 use Rattle.qoi.specs.writers.Writes.{WroteSome}
 use Rattle.qoi.proofs.Results.{on_ok_map, if_err_map}
-use Rattle.qoi.proofs.encoding.CoderSteps.{CoderBetween, AtFresh, next_fits, next_part, all_went, coder_starts, at_group, runs_alone, pixel_behind, at_fresh}
+use Rattle.qoi.proofs.encoding.CoderSteps.{Writing, CoderBetween, AtFresh, next_fits, next_part, all_went, coder_starts, at_group, runs_alone, pixel_behind, runs_ahead, at_fresh}
 use Rattle.qoi.proofs.encode.coder.encode_pixels.Given.{Over}
-use Rattle.qoi.proofs.encode.coder.encode_pixels.Goals.{After-choose-chunk}
+use Rattle.qoi.proofs.encode.coder.encode_pixels.Goals.{After-rest_of_one, After-choose-chunk}
 use Rattle.qoi.proofs.encode.coder.encode_pixels.Goals as goal
 
 pub loop-behind-init : goal.loop-behind-init
@@ -39,29 +39,33 @@ write_runs-requires g c =
 pub read-requires-clause-enough : goal.read-requires-clause-enough
 read-requires-clause-enough g c = pixel_behind (at_group c.loop-behind.invariant c.repeats_of-count.ensures) c.split_at.ensures.back c.if-is_empty.ensures
 
--- what stands once the chunk of the fresh pixel is chosen
-fresh : (g : Over) (c : After-choose-chunk g) → AtFresh g.W.Writer.wrote g.W.Writer.room c.args.style g.row.N c.args.data.now c.args.buf.now (drop g.row.N c.split_at.result.1.now) c.choose-chunk.new.self.table c.choose-chunk.new.self.last c.choose-chunk.new.self.place c.choose-chunk.new.self.begun c.choose-chunk.new.self.placed (text (runs_by c.rest_of_one-one.result c.repeats_of-count.result)) c.choose-chunk.result c.loop-behind.buf
-fresh g c =
-    let chosen = c.choose-chunk.ensures in
-    at_fresh (at_group c.loop-behind.invariant c.repeats_of-count.ensures) c.split_at.ensures.back (pixel_behind (at_group c.loop-behind.invariant c.repeats_of-count.ensures) c.split_at.ensures.back c.if-is_empty.ensures) c.read.ensures c.rest_of_one-one.ensures.one chosen.chunk chosen.choice chosen.state chosen.style
+-- the runs stand ahead
+runs : (g : Over) (c : After-rest_of_one g) → (left : List ℕ) × Writing g.W.Writer.wrote g.W.Writer.room c.args.style g.row.N c.args.data.now c.args.buf.now (text (runs_by c.rest_of_one.result c.repeats_of-count.result)) left c.loop-behind.buf
+runs g c = runs_ahead (at_group c.loop-behind.invariant c.repeats_of-count.ensures) c.split_at.ensures.back (pixel_behind (at_group c.loop-behind.invariant c.repeats_of-count.ensures) c.split_at.ensures.back c.if-is_empty.ensures) refl c.rest_of_one.ensures.one
 
 pub write_runs-requires-in-loop-behind : goal.write_runs-requires-in-loop-behind
-write_runs-requires-in-loop-behind g c = next_fits (fresh g (goal.at.write_runs-requires-in-loop-behind g c).After-choose-chunk).runs
+write_runs-requires-in-loop-behind g c = next_fits (runs g (goal.at.write_runs-requires-in-loop-behind g c).After-rest_of_one).1
 
 pub returns-in_err-write_runs-clause-refused : goal.returns-in_err-write_runs-clause-refused
 returns-in_err-write_runs-clause-refused g c =
     let p = err_from_is_err_and c.from_residual.result c.from_residual.ensures.1 in
-    rw (p.1, p.2) (next_part (fresh g (goal.at.returns-in_err-write_runs-clause-refused g c).After-choose-chunk).runs c.in_err-write_runs.ensures.refused)
+    rw (p.1, p.2) (next_part (runs g (goal.at.returns-in_err-write_runs-clause-refused g c).After-rest_of_one).1 c.in_err-write_runs.ensures.refused)
+
+-- what stands once the chunk of the fresh pixel is chosen
+fresh : (g : Over) (c : After-choose-chunk g) → AtFresh g.W.Writer.wrote g.W.Writer.room c.args.style g.row.N c.args.data.now c.args.buf.now (drop g.row.N c.split_at.result.1.now) c.choose-chunk.new.self.table c.choose-chunk.new.self.last c.choose-chunk.new.self.place c.choose-chunk.new.self.begun c.choose-chunk.new.self.placed c.choose-chunk.result c.write_runs-in-loop-behind.new.buf
+fresh g c =
+    let chosen = c.choose-chunk.ensures in
+    at_fresh (at_group c.loop-behind.invariant c.repeats_of-count.ensures) c.split_at.ensures.back (pixel_behind (at_group c.loop-behind.invariant c.repeats_of-count.ensures) c.split_at.ensures.back c.if-is_empty.ensures) c.read.ensures c.rest_of_one.ensures.one c.in_ok-write_runs.ensures.written chosen.chunk chosen.choice chosen.state chosen.style
 
 pub write_chunk-requires-clause-room : goal.write_chunk-requires-clause-room
-write_chunk-requires-clause-room g c = next_fits ((fresh g (goal.at.write_chunk-requires-clause-room g c).After-choose-chunk).next c.in_ok-write_runs.ensures.written)
+write_chunk-requires-clause-room g c = next_fits (fresh g (goal.at.write_chunk-requires-clause-room g c).After-choose-chunk).next.1
 
 pub returns-in_err-write_chunk-clause-refused : goal.returns-in_err-write_chunk-clause-refused
 returns-in_err-write_chunk-clause-refused g c =
     let p = err_from_is_err_and c.from_residual-in_err-write_chunk.result c.from_residual-in_err-write_chunk.ensures.1 in
-    rw (p.1, p.2) (next_part ((fresh g (goal.at.returns-in_err-write_chunk-clause-refused g c).After-choose-chunk).next c.in_ok-write_runs.ensures.written) c.in_err-write_chunk.ensures.refused)
+    rw (p.1, p.2) (next_part (fresh g (goal.at.returns-in_err-write_chunk-clause-refused g c).After-choose-chunk).next.1 c.in_err-write_chunk.ensures.refused)
 
 pub loop-behind-preserved : goal.loop-behind-preserved
 loop-behind-preserved g c =
     subst (λ rest. CoderBetween g.W.Writer.wrote g.W.Writer.room c.args.style g.row.N c.args.data.now c.args.buf.now rest c.choose-chunk.new.self.table c.choose-chunk.new.self.last c.choose-chunk.new.self.place c.choose-chunk.new.self.begun c.choose-chunk.new.self.placed c.write_chunk.new.buf) (sym c.split_at-in-loop-behind.ensures.back)
-    ((fresh g (goal.at.loop-behind-preserved g c).After-choose-chunk).between c.in_ok-write_runs.ensures.written c.in_ok-write_chunk.ensures.written)
+    ((fresh g (goal.at.loop-behind-preserved g c).After-choose-chunk).between c.in_ok-write_chunk.ensures.written)
