@@ -19,7 +19,7 @@ use Rattle.qoi.specs.Errors.{IsIoError}
 abbrev pub Takes : Command → Option (List ℕ) → Option (List ℕ) → List ℕ → Type 0
 Takes Decode old new input = TakesAll old new input
 Takes (DecodeInto channels) old new input = TakesAll old new input
-Takes (Encode w h space) old new input = TakesAll old new input
+Takes (Encode w h space style) old new input = TakesAll old new input
 Takes Info old new input = TakesCount header_size old new input
 
 -- what a command writes for an input
@@ -27,22 +27,22 @@ abbrev pub Writes : Command → List ℕ → List ℕ → Type 0
 Writes Decode input out = (h : Header) × (rest : List ℕ) × DecodesFile input h rest out
 Writes (DecodeInto channels) input out = (h : Header) × (rest : List ℕ) × (header_of input ≡ Ok h)
     × ReadsImage (channels_number h.channels) (channels_number channels) (pixel_count h) (Some (drop header_size input)) (Some rest) out
-Writes (Encode width height space) input out = (h : Header) × (image_header input width height ≡ Ok h)
-    × IsFileOf (record h { colorspace = space }) input out
+Writes (Encode width height space style) input out = (h : Header) × (image_header input width height ≡ Ok h)
+    × IsFileOf style (record h { colorspace = space }) input out
 Writes Info input out = (h : Header) × (header_of input ≡ Ok h) × (out ≡ header_line h)
 
 -- why the library refuses an input
 abbrev pub Refuses : Command → List ℕ → Error → Type 0
 Refuses Decode input e = RefusesWholeFile input e
 Refuses (DecodeInto channels) input e = RefusesWholeFile input e
-Refuses (Encode width height space) input e = image_header input width height ≡ Err e
+Refuses (Encode width height space style) input e = image_header input width height ≡ Err e
 Refuses Info input e = header_of input ≡ Err e
 
 -- why a command stops before its answer is known: `info` takes no memory, and fewer bytes than a header has
 abbrev pub StopsEarly : Command → Option (List ℕ) → Option (List ℕ) → Error → Type 0
 StopsEarly Decode old new e = IsOutside e
 StopsEarly (DecodeInto channels) old new e = IsOutside e
-StopsEarly (Encode w h space) old new e = IsOutside e
+StopsEarly (Encode w h space style) old new e = IsOutside e
 StopsEarly Info old new e = IsIoError e × TakesFewer header_size old new
 
 -- the input was taken, and what the command answers was written

@@ -1,9 +1,9 @@
 //! The words that the program is called with.
-ghost use Rattle.std.specs.Prelude.{◌≡◌, ◌≢◌, ℕ, MatchOption, map};
+ghost use Rattle.std.specs.Prelude.{◌≡◌, ◌≢◌, ℕ, ◌++◌, MatchOption, map};
 ghost use Rattle.std.specs.String.{string_bytes};
-ghost use Rattle.qoi_tool.specs.Words.{Asks, IsUsage, IsSide, channels_word, last_words};
+ghost use Rattle.qoi_tool.specs.Words.{Asks, IsUsage, IsSide, channels_word, space_words, style_words};
 
-use qoi::{Channels, ColorSpace};
+use qoi::{Channels, ColorSpace, Style};
 
 /// What the words ask for.
 #[derive(Clone, Copy, PartialEq, Eq, Debug)]
@@ -12,8 +12,9 @@ pub enum Command {
     Decode,
     /// Decode a file into its raw bytes, in these channels.
     DecodeInto(Channels),
-    /// Encode the raw bytes of an image of this width and height in pixels, with this color space.
-    Encode(u32, u32, ColorSpace),
+    /// Encode the raw bytes of an image of this width and height in pixels, with this color space
+    /// and in this style.
+    Encode(u32, u32, ColorSpace, Style),
     /// Tell what the header of a file says.
     Info,
 }
@@ -31,7 +32,8 @@ pub fn command_of(words: &[String]) -> Option<Command>
         [word, width, height, options @ ..] if word.as_str() == "enc" => {
             let width = side_of(width.as_str())?;
             let height = side_of(height.as_str())?;
-            Some(Command::Encode(width, height, space_of(options)?))
+            let (space, style) = options_of(options)?;
+            Some(Command::Encode(width, height, space, style))
         }
         [word] if word.as_str() == "info" => Some(Command::Info),
         _ => None,
@@ -50,15 +52,30 @@ fn channels_of(word: &str) -> Option<Channels>
     }
 }
 
-// The color space of the options of `enc`.
-fn space_of(options: &[String]) -> Option<ColorSpace>
+// The color space and the style of the options of `enc`.
+fn options_of(options: &[String]) -> Option<(ColorSpace, Style)>
     ensures { MatchOption result
-        ((space : ColorSpace) → map string_bytes options.now ≢ last_words space)
-        (λ space. map string_bytes options.now ≡ last_words space) }
+        ((space : ColorSpace) (style : Style)
+        → map string_bytes options.now ≢ space_words space ++ style_words style)
+        (λ both. map string_bytes options.now ≡ space_words both.0 ++ style_words both.1) }
 {
     match options {
-        [] => Some(ColorSpace::Srgb),
-        [option] if option.as_str() == "linear" => Some(ColorSpace::Linear),
+        [option, rest @ ..] if option.as_str() == "linear" => {
+            Some((ColorSpace::Linear, style_of(rest)?))
+        }
+        _ => Some((ColorSpace::Srgb, style_of(options)?)),
+    }
+}
+
+// The style of the options behind the color space.
+fn style_of(options: &[String]) -> Option<Style>
+    ensures { MatchOption result
+        ((style : Style) → map string_bytes options.now ≢ style_words style)
+        (λ style. map string_bytes options.now ≡ style_words style) }
+{
+    match options {
+        [] => Some(Style::Reference),
+        [option] if option.as_str() == "places" => Some(Style::Places),
         _ => None,
     }
 }

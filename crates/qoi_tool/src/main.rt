@@ -18,7 +18,7 @@ ghost use Rattle.qoi_tool.specs.Answers.{Finishes, StopsAt, Stops, Does};
 use crate::command::{Command, command_of};
 use crate::line::write_line;
 use crate::transfer::{read_all, read_exactly, write_whole};
-use qoi::{Channels, ColorSpace, Decoder, Encoder, Error, decode_header, decode_to_vec};
+use qoi::{Channels, ColorSpace, Decoder, Encoder, Error, Style, decode_header, decode_to_vec};
 use std::alloc::Global;
 use std::io::{BufWriter, ErrorKind, Read, Stdout, Write};
 use std::process::ExitCode;
@@ -72,8 +72,8 @@ pub fn run<R: Read, W: Write>(
     match command {
         Command::Decode => decode(alloc, input, output)?,
         Command::DecodeInto(channels) => decode_into(alloc, channels, input, output)?,
-        Command::Encode(width, height, colorspace) => {
-            encode(alloc, width, height, colorspace, input, output)?;
+        Command::Encode(width, height, colorspace, style) => {
+            encode(alloc, width, height, colorspace, style, input, output)?;
         }
         Command::Info => info(input, output)?,
     }
@@ -121,18 +121,21 @@ fn encode<R: Read, W: Write>(
     width: u32,
     height: u32,
     colorspace: ColorSpace,
+    style: Style,
     input: &mut R,
     output: &mut W,
 ) -> Result<(), Error>
-    ensures done { OnOk result (Does (Encode width height colorspace)
+    ensures done { OnOk result (Does (Encode width height colorspace style)
         (R.remaining input.old) (R.remaining input.new) (W.contents output.old)
         (W.contents output.new)) }
-    ensures refused { IfErr result (Stops (Encode width height colorspace)
+    ensures refused { IfErr result (Stops (Encode width height colorspace style)
         (R.remaining input.old) (R.remaining input.new) (W.contents output.old)
         (W.contents output.new)) }
 {
     let pixels = read_all(alloc, input)?;
-    let encoder = Encoder::new(&pixels, width, height)?.with_colorspace(colorspace);
+    let encoder = Encoder::new(&pixels, width, height)?
+        .with_colorspace(colorspace)
+        .with_style(style);
     encoder.encode_to_stream(output)?;
     Ok(())
 }
@@ -161,7 +164,7 @@ pub fn report<W: Write>(fault: &Fault, err: &mut W) -> u8
         Fault::Usage => {
             let _ = writeln!(
                 err,
-                "usage: qoi_tool dec [rgb|rgba] | enc W H [linear] | info"
+                "usage: qoi_tool dec [rgb|rgba] | enc W H [linear] [places] | info"
             );
             2
         }

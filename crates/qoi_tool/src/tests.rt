@@ -12,7 +12,7 @@ use std::io::ErrorKind;
 use std::process::Abort;
 use std::test::Fail;
 
-const USAGE: &str = "usage: qoi_tool dec [rgb|rgba] | enc W H [linear] | info\n";
+const USAGE: &str = "usage: qoi_tool dec [rgb|rgba] | enc W H [linear] [places] | info\n";
 
 // The file of one pixel 0b 79 e7 in three channels.
 const ONE_RGB_PIXEL: [u8; 26] = [
@@ -26,6 +26,15 @@ const ONE_RGB_PIXEL_BYTES: [u8; 3] = [0x0b, 0x79, 0xe7];
 const PLACE_RGBA: [u8; 33] = [
     0x71, 0x6f, 0x69, 0x66, 0, 0, 0, 3, 0, 0, 0, 1, 4, 0, 0xff, 0x65, 0x66, 0x67, 0x68, 0xff, 1, 2,
     3, 4, 0x36, 0, 0, 0, 0, 0, 0, 0, 1,
+];
+
+// The raw bytes of (101,102,103) twice and (1,2,3), in three channels.
+const REPEAT_BYTES: [u8; 9] = [0x65, 0x66, 0x67, 0x65, 0x66, 0x67, 1, 2, 3];
+
+// Their file in style `Places`: its second chunk, the nineteenth byte, is an index position.
+const REPEAT_BY_PLACE: [u8; 31] = [
+    0x71, 0x6f, 0x69, 0x66, 0, 0, 0, 3, 0, 0, 0, 1, 3, 0, 0xfe, 0x65, 0x66, 0x67, 0x33, 0xfe, 1, 2,
+    3, 0, 0, 0, 0, 0, 0, 0, 1,
 ];
 
 // A header of 20,000 by 20,000 pixels in four channels, linear.
@@ -147,7 +156,7 @@ fn the_program(rt: HostRuntime) -> Result<(), Fail> {
 #[test]
 fn other_words(rt: HostRuntime) -> Result<(), Fail> {
     let alloc = rt.alloc();
-    let words: [&[&str]; 13] = [
+    let words: [&[&str]; 17] = [
         &[],
         &["de"],
         &["decode"],
@@ -160,7 +169,11 @@ fn other_words(rt: HostRuntime) -> Result<(), Fail> {
         &["enc", "4294967296", "1"],
         &["enc", "", "1"],
         &["enc", "1", "1", "srgb"],
-        &["enc", "1", "1", "linear", "linear"],
+        &["enc", "3", "1", "linear", "linear"],
+        &["enc", "3", "1", "places", "linear"],
+        &["enc", "3", "1", "places", "places"],
+        &["enc", "3", "1", "Places"],
+        &["enc", "3", "1", "linear", "places", "x"],
     ];
     for some in words {
         let given = given(alloc, some)?;
@@ -194,6 +207,26 @@ fn encoding(rt: HostRuntime) -> Result<(), Fail> {
     let mut linear = ONE_RGB_PIXEL;
     linear[13] = 1;
     assert_writes(&rt, alloc, &["enc", "1", "1", "linear"], &bytes, &linear)?;
+    Ok(())
+}
+
+// The file of each style, with its color space, and its way back.
+#[test]
+fn styles(rt: HostRuntime) -> Result<(), Fail> {
+    let alloc = rt.alloc();
+    let mut linear = REPEAT_BY_PLACE;
+    linear[13] = 1;
+    let mut by_run = REPEAT_BY_PLACE;
+    by_run[18] = 0xc0;
+    let files: [(&[&str], [u8; 31]); 3] = [
+        (&["enc", "3", "1"], by_run),
+        (&["enc", "3", "1", "places"], REPEAT_BY_PLACE),
+        (&["enc", "3", "1", "linear", "places"], linear),
+    ];
+    for (words, file) in files {
+        assert_writes(&rt, alloc, words, &REPEAT_BYTES, &file)?;
+        assert_writes(&rt, alloc, &["dec"], &file, &REPEAT_BYTES)?;
+    }
     Ok(())
 }
 

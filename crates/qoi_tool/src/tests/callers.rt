@@ -2,6 +2,7 @@
 ghost use Rattle.std.specs.Prelude.{◌≡◌, ℕ, ◌+◌, ◌≤◌, ◌++◌, List, Option, Some, Ok, IfOk, OnOk, length, drop, false};
 ghost use Rattle.std.specs.Io.KnownBytes.{Appends, Consumes};
 ghost use Rattle.qoi.specs.declared.header.Header.{Header};
+ghost use Rattle.qoi.specs.declared.types.Style.TheVariants.{Reference};
 ghost use Rattle.qoi.specs.Qoi.{channels_number, head, header_of, pixel_count, header_size, IsValid, file};
 ghost use Rattle.qoi.specs.Encoded.{IsFileOf, Spans, OpensBlack, image_pixels};
 ghost use Rattle.qoi.specs.Regular.{Regular};
@@ -26,7 +27,7 @@ pub fn raw_bytes(alloc: Global, file: &[u8]) -> Result<Vec<u8>, Error>
 
 /// Buffer to buffer. The file of an image at the front of a buffer, and its length.
 pub fn pack(buf: &mut [u8], raw: &[u8], width: u32, height: u32) -> Result<usize, Error>
-    ensures { IfOk result (λ n. (h : Header) × (bytes : List ℕ) × IsFileOf h raw.now bytes
+    ensures { IfOk result (λ n. (h : Header) × (bytes : List ℕ) × IsFileOf Reference h raw.now bytes
         × (n ≡ length bytes) × (buf.new ≡ bytes ++ drop n buf.old)) }
 {
     let encoder = Encoder::new(raw, width, height)?;
@@ -42,7 +43,7 @@ pub fn pack(buf: &mut [u8], raw: &[u8], width: u32, height: u32) -> Result<usize
 
 /// Stream out. The file of an image goes to a writer.
 pub fn send<W: Write>(raw: &[u8], width: u32, height: u32, out: &mut W) -> Result<usize, Error>
-    ensures { OnOk result ((h : Header) × (bytes : List ℕ) × IsFileOf h raw.now bytes
+    ensures { OnOk result ((h : Header) × (bytes : List ℕ) × IsFileOf Reference h raw.now bytes
         × Appends (W.contents out.old) (W.contents out.new) bytes) }
 {
     let encoder = Encoder::new(raw, width, height)?;
@@ -82,8 +83,7 @@ pub fn there_and_back(alloc: Global, raw: &[u8], width: u32, height: u32) -> Res
     ensures { IfOk result (λ back. back.items ≡ raw.now) }
 {
     let file = encode_to_vec(alloc, raw, width, height)?;
-    let (_, back) = decode_to_vec(alloc, &file)?;
-    Ok(back)
+    decode_to_vec(alloc, &file).map(|(_, back)| back)
 }
 
 /// A writer and a vector. What went to the writer is what the vector holds.
@@ -132,7 +132,8 @@ pub fn near_shortest(alloc: Global, raw: &[u8], width: u32, height: u32) -> Resu
         × ((OpensBlack (image_pixels h raw.now) → ⊥) → (others : List Chunk)
         → Spans h raw.now others → Regular others → length v.items ≤ length (file h others))) }
 {
-    encode_to_vec(alloc, raw, width, height)
+    let file = encode_to_vec(alloc, raw, width, height)?;
+    Ok(file)
 }
 
 /// A stream's header. The bytes that were taken of a reader are those of a valid header.

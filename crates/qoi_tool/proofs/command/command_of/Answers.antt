@@ -1,8 +1,8 @@
 -- The lists of the words of each command, by their bytes.
-use Rattle.std.proofs.Common.{rules, arith, ◌≡◌, codes, drop, map, sym, ap, ◌∙◌}
+use Rattle.std.proofs.Common.{rules, arith, ◌≡◌, ◌++◌, codes, drop, map, sym, ap, ◌∙◌}
 use Rattle.std.proofs.lemmas.List.{at_drop_all, take_rest}
 use Rattle.std.specs.String.{string_bytes}
-use Rattle.qoi_tool.specs.Words.{channels_word, last_words}
+use Rattle.qoi_tool.specs.Words.{channels_word, space_words, style_words}
 use Rattle.qoi_tool.proofs.WordLists.{word_before}
 use Rattle.qoi_tool.proofs.command.command_of.Goals as goal
 
@@ -26,12 +26,12 @@ returns-in_ok-channels_of-in-len2 c =
     word_before words 0 _ _ _ (omega arith) c.word-item-then-words-lt3.is is_dec
     (word_before words 1 _ _ _ (omega arith) c.channels-item.is asked (at_drop_all (map string_bytes) words 2 (omega arith)))
 
-pub returns-in_ok-space_of-in-len3-up : goal.returns-in_ok-space_of-in-len3-up
-returns-in_ok-space_of-in-len3-up c =
+pub returns-in_ok-space-in-len3-up : goal.returns-in_ok-space-in-len3-up
+returns-in_ok-space-in-len3-up c =
     let words = c.args.words.now in
     let is_enc : string_bytes c.word-item-2.result ≡ codes "enc" = search rules in
-    let options : map string_bytes (drop 3 words) ≡ last_words c.in_ok-space_of-in-len3-up.field-0 =
-    sym (ap (map string_bytes) (take_rest words 3)) ∙ c.in_ok-space_of-in-len3-up.ensures in (
+    let options : map string_bytes (drop 3 words) ≡ space_words c.in_ok-space-in-len3-up.space ++ style_words c.in_ok-space-in-len3-up.style =
+    sym (ap (map string_bytes) (take_rest words 3)) ∙ c.in_ok-space-in-len3-up.ensures in (
       c.as_str-in-len3-up.result.now,
       c.as_str-in-len3-up-2.result.now,
       word_before words 0 _ _ _ (omega arith) c.word-item-2.is is_enc

@@ -3,10 +3,10 @@ use Rattle.std.proofs.Common.{rules, arith, ◌≡◌, codes, map}
 use Rattle.std.proofs.lemmas.List.{at_drop_all}
 use Rattle.std.specs.String.{string_bytes}
 use Rattle.qoi_tool.proofs.WordLists.{word_before}
-use Rattle.qoi_tool.proofs.command.space_of.Goals as goal
+use Rattle.qoi_tool.proofs.command.style_of.Goals as goal
 
 pub returns-in-len1 : goal.returns-in-len1
 returns-in-len1 c =
     let options = c.args.options.now in
-    let is_linear : string_bytes c.option-item.result ≡ codes "linear" = search rules in
-    word_before options 0 _ _ _ (omega arith) c.option-item.is is_linear (at_drop_all (map string_bytes) options 1 (omega arith))
+    let is_places : string_bytes c.option-item.result ≡ codes "places" = search rules in
+    word_before options 0 _ _ _ (omega arith) c.option-item.is is_places (at_drop_all (map string_bytes) options 1 (omega arith))
