@@ -10,7 +10,6 @@ use Rattle.qoi.specs.declared.chunk.Chunk.TheVariants.{Place}
 use Rattle.qoi.specs.Qoi.{channels_number, colorspace_number, head, pixel_count, IsValid, RgbaPixel, AreChunks, AreBytes, bytes_of, text, Reaches, meaning, file, file_pixels, end_marker, IsFile}
 use Rattle.qoi.specs.Raw.{IsChannels, output, HasChannels}
 use Rattle.qoi.specs.declared.types.Style.{Style}
-use Rattle.qoi.specs.declared.types.Style.TheVariants.{Reference}
 use Rattle.qoi.specs.Styles.{WrittenIn}
 use Rattle.qoi.specs.Decoding.{file_byte_count, DecodesFile}
 use Rattle.qoi.specs.Encoded.{max_file_len, image_pixels, IsNearShortest, IsFileBy, IsFileOf}
@@ -22,7 +21,7 @@ use Rattle.qoi.proofs.format.RawPixels.{pixels_of_are, pixels_of_have, length-pi
 use Rattle.qoi.specs.writers.Writes.{WriterLaws, WroteBut, WroteSome}
 use Rattle.qoi.proofs.encoding.WriterProgress.{wrote_next, wrote_part}
 use Rattle.qoi.proofs.encoding.CoderSteps.{all_bytes}
-use Rattle.qoi.proofs.encoding.StyleLists.{style_chunks, style_means, style_unique, style_reaches, style_fits, style_length, style_apart, style_regular, style_upper, style_some, style_as_long}
+use Rattle.qoi.proofs.encoding.StyleLists.{style_chunks, style_means, style_unique, style_reaches, style_fits, style_length, style_apart, style_regular, style_upper, style_some}
 use Rattle.qoi.proofs.shortness.RegularLists.{no_blank_regular}
 use Rattle.qoi.proofs.shortness.Lower.{lower}
 use Rattle.qoi.proofs.shortness.SlackSteps.{slack_most, slack_opens}
@@ -154,10 +153,7 @@ module _ (h : Header) (raw : List ℕ) (valid : IsValid h) (size : length raw �
     is_file = file_by (WrittenIn style) (written_lists style) cs w;
     near_shortest = near style cs w;
     regular = λ others v. style_regular style (image_pixels h raw) others v;
-    as_long = λ others e.
-        let one = style_as_long Reference (image_pixels h raw) w.list e.cs w.written e.written in
-        let two = style_length style (image_pixels h raw) cs w in
-        omega (arith, ap length e.bytes_are, length-file h e.cs, length-file h cs);
+    as_long = record { cs = w.list; written = w.written; length_is = length-file h cs ∙ ap (λ k. 22 + k) (style_length style (image_pixels h raw) cs w) ∙ sym (length-file h w.list) };
   }
 
 -- an image has a list that is written for it

@@ -8,12 +8,12 @@ use Rattle.qoi.specs.declared.types.Channels.TheVariants.{Rgb}
 use Rattle.qoi.specs.declared.types.ColorSpace.{ColorSpace}
 use Rattle.qoi.specs.declared.types.ColorSpace.TheVariants.{Srgb}
 use Rattle.qoi.specs.declared.types.Style.{Style}
-use Rattle.qoi.specs.declared.types.Style.TheVariants.{Reference}
 use Rattle.qoi.specs.declared.header.Header.{Header}
 use Rattle.qoi.specs.declared.chunk.Chunk.{Chunk}
 use Rattle.qoi.specs.declared.chunk.Chunk.TheVariants.{Place}
 use Rattle.qoi.specs.Qoi.{channels_number, channels_of, colorspace_number, pixel_count, tried_header, IsValid, RgbaPixel, blank, start, AreChunks, text, Reaches, meaning, file}
 use Rattle.qoi.specs.Raw.{pixels_of}
+use Rattle.qoi.specs.Written.{Written}
 use Rattle.qoi.specs.Styles.{WrittenIn}
 use Rattle.qoi.specs.Regular.{Regular, Begins}
 use Rattle.qoi.specs.Shortest.{floor, slack}
@@ -95,10 +95,16 @@ pub record IsNearShortest (h : Header) (raw bytes : List ℕ) : Type 0 where
       → length bytes ≤ length (file h others)
   pub all_regular : AllByRecursion (λ p. p ≢ blank) (image_pixels h raw) → (others : List Chunk) → Spans h raw others → Regular others
 
+-- as long as the file of the list of `Written`
+pub record IsAsLong (h : Header) (raw bytes : List ℕ) : Type 0 where
+  pub cs : List Chunk
+  pub written : Written (image_pixels h raw) cs
+  pub length_is : length bytes ≡ length (file h cs)
+
 -- The file of the image in a style, which is near the shortest and as long as that of style Reference, and whose list
 -- is regular.
 pub record IsFileOf (style : Style) (h : Header) (raw bytes : List ℕ) : Type 0 where
   pub is_file : IsFileBy (WrittenIn style) h raw bytes
   pub near_shortest : IsNearShortest h raw bytes
   pub regular : (cs : List Chunk) → WrittenIn style (image_pixels h raw) cs → Regular cs
-  pub as_long : (others : List ℕ) → IsEncoded (WrittenIn Reference) h raw others → length others ≡ length bytes
+  pub as_long : IsAsLong h raw bytes

@@ -83,7 +83,8 @@ pub fn there_and_back(alloc: Global, raw: &[u8], width: u32, height: u32) -> Res
     ensures { IfOk result (λ back. back.items ≡ raw.now) }
 {
     let file = encode_to_vec(alloc, raw, width, height)?;
-    decode_to_vec(alloc, &file).map(|(_, back)| back)
+    let (_, back) = decode_to_vec(alloc, &file)?;
+    Ok(back)
 }
 
 /// A writer and a vector. What went to the writer is what the vector holds.
@@ -132,8 +133,7 @@ pub fn near_shortest(alloc: Global, raw: &[u8], width: u32, height: u32) -> Resu
         × ((OpensBlack (image_pixels h raw.now) → ⊥) → (others : List Chunk)
         → Spans h raw.now others → Regular others → length v.items ≤ length (file h others))) }
 {
-    let file = encode_to_vec(alloc, raw, width, height)?;
-    Ok(file)
+    encode_to_vec(alloc, raw, width, height)
 }
 
 /// A stream's header. The bytes that were taken of a reader are those of a valid header.

@@ -1,6 +1,7 @@
 -- A file is decoded as such, and it is not refused.
 use Rattle.std.proofs.Common.{◌≡◌, [], append-nil, ◌≤◌, List, ◌++◌, length, take, drop, Some, Ok, ℕ, IsOk, false, true, refl, ap, sym, ◌∙◌, subst, arith}
 use Rattle.qoi.specs.declared.header.Header.{Header}
+use Rattle.qoi.specs.declared.types.Style.TheVariants.{Reference}
 use Rattle.qoi.specs.Qoi.{channels_number, header_of, pixel_count, header_size}
 use Rattle.qoi.specs.Verdicts.{IsWhole}
 use Rattle.qoi.specs.Decoding.{DecodesFile, ReadsImage, file_byte_count, byte_count}
@@ -75,14 +76,23 @@ returns-clause-followed c style h raw bytes rest f split room =
       ap (λ n. take n buf) (f.is_file.size ∙ ap file_byte_count (sym one.0)) ∙ one.1,
     )
 
+pub returns-in_err-decode_to_buf-clause-comes_back_in : goal.returns-in_err-decode_to_buf-clause-comes_back_in
+returns-in_err-decode_to_buf-clause-comes_back_in c style h raw f room = returns-in_err-decode_to_buf-clause-followed c style h raw c.args.data.now [] f (sym (append-nil c.args.data.now)) room
+
 pub returns-in_err-decode_to_buf-clause-comes_back : goal.returns-in_err-decode_to_buf-clause-comes_back
-returns-in_err-decode_to_buf-clause-comes_back c style h raw f room = returns-in_err-decode_to_buf-clause-followed c style h raw c.args.data.now [] f (sym (append-nil c.args.data.now)) room
+returns-in_err-decode_to_buf-clause-comes_back c h raw f room = returns-in_err-decode_to_buf-clause-comes_back_in c Reference h raw f room
+
+pub returns-clause-comes_back_in : goal.returns-clause-comes_back_in
+returns-clause-comes_back_in c style h raw f room = returns-clause-followed c style h raw c.args.data.now [] f (sym (append-nil c.args.data.now)) room
 
 pub returns-clause-comes_back : goal.returns-clause-comes_back
-returns-clause-comes_back c style h raw f room = returns-clause-followed c style h raw c.args.data.now [] f (sym (append-nil c.args.data.now)) room
+returns-clause-comes_back c h raw f room = returns-clause-comes_back_in c Reference h raw f room
 
-pub returns-in_err-decoder-clause-comes_back : goal.returns-in_err-decoder-clause-comes_back
-returns-in_err-decoder-clause-comes_back c style h raw f room =
+pub returns-in_err-decoder-clause-comes_back_in : goal.returns-in_err-decoder-clause-comes_back_in
+returns-in_err-decoder-clause-comes_back_in c style h raw f room =
     let read = subst (λ (z : List ℕ). header_of z ≡ Ok h) (append-nil c.args.data.now) (f.is_file.comes_back []).header in
     let refused = c.in_err-decoder.ensures.refused in
     absurd cc
+
+pub returns-in_err-decoder-clause-comes_back : goal.returns-in_err-decoder-clause-comes_back
+returns-in_err-decoder-clause-comes_back c h raw f room = returns-in_err-decoder-clause-comes_back_in c Reference h raw f room

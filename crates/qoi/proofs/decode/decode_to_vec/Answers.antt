@@ -1,6 +1,7 @@
 -- A file is decoded as such, and what the decoder refuses is what the file is refused for.
 use Rattle.std.proofs.Common.{Ok, ◌≡◌, [], append-nil, ℕ, List, drop, Some, refl, ap, sym, ◌∙◌, subst, inl, inr, ⊎_elim, arith}
 use Rattle.qoi.specs.declared.header.Header.{Header}
+use Rattle.qoi.specs.declared.types.Style.TheVariants.{Reference}
 use Rattle.std.proofs.lemmas.Result.{err_from_is_err_and}
 use Rattle.qoi.specs.Qoi.{header_of, pixel_count, header_size}
 use Rattle.qoi.specs.Verdicts.{IsWhole}
@@ -57,14 +58,23 @@ returns-clause-followed c style h raw bytes rest f split =
     let decoded = returns-clause-decoded c in
     decoding_is_one c.args.data.now h c.header.result.now rest decoded.0 raw c.in_ok-out.out.items d decoded.1
 
+pub returns-in_err-out-clause-comes_back_in : goal.returns-in_err-out-clause-comes_back_in
+returns-in_err-out-clause-comes_back_in c style h raw f = returns-in_err-out-clause-followed c style h raw c.args.data.now [] f (sym (append-nil c.args.data.now))
+
 pub returns-in_err-out-clause-comes_back : goal.returns-in_err-out-clause-comes_back
-returns-in_err-out-clause-comes_back c style h raw f = returns-in_err-out-clause-followed c style h raw c.args.data.now [] f (sym (append-nil c.args.data.now))
+returns-in_err-out-clause-comes_back c h raw f = returns-in_err-out-clause-comes_back_in c Reference h raw f
+
+pub returns-clause-comes_back_in : goal.returns-clause-comes_back_in
+returns-clause-comes_back_in c style h raw f = returns-clause-followed c style h raw c.args.data.now [] f (sym (append-nil c.args.data.now))
 
 pub returns-clause-comes_back : goal.returns-clause-comes_back
-returns-clause-comes_back c style h raw f = returns-clause-followed c style h raw c.args.data.now [] f (sym (append-nil c.args.data.now))
+returns-clause-comes_back c h raw f = returns-clause-comes_back_in c Reference h raw f
 
-pub returns-in_err-decoder-clause-comes_back : goal.returns-in_err-decoder-clause-comes_back
-returns-in_err-decoder-clause-comes_back c style h raw f =
+pub returns-in_err-decoder-clause-comes_back_in : goal.returns-in_err-decoder-clause-comes_back_in
+returns-in_err-decoder-clause-comes_back_in c style h raw f =
     let read = subst (λ (z : List ℕ). header_of z ≡ Ok h) (append-nil c.args.data.now) (f.is_file.comes_back []).header in
     let refused = c.in_err-decoder.ensures.refused in
     absurd cc
+
+pub returns-in_err-decoder-clause-comes_back : goal.returns-in_err-decoder-clause-comes_back
+returns-in_err-decoder-clause-comes_back c h raw f = returns-in_err-decoder-clause-comes_back_in c Reference h raw f
