@@ -7,7 +7,6 @@ ghost use Rattle.qoi.specs.Qoi.{header_of, pixel_count, raw_byte_count, IsFile, 
 ghost use Rattle.qoi.specs.Verdicts.{IsWhole};
 ghost use Rattle.qoi.specs.Decoding.{ReadsHeader, RefusesFile, RefusesWholeFile, DecodesFile, file_byte_count, HasImageLength};
 ghost use Rattle.qoi.specs.declared.types.Style.{Style};
-ghost use Rattle.qoi.specs.declared.types.Style.TheVariants.{Reference};
 ghost use Rattle.qoi.specs.Encoded.{IsFileOf};
 ghost use Rattle.qoi.specs.DecoderState.{image_byte_count, DecodesImage, RefusesDecoding, TakesWithin};
 
@@ -57,7 +56,7 @@ pub fn decode_to_buf(buf: &mut [u8], data: &[u8]) -> Result<Header>
         × (buf.new ≡ buf.old) }
     // The file of an image gives its header and its raw bytes, where the buffer is long enough; so it
     // does where other bytes follow it.
-    ensures comes_back { (h : Header) (raw : List ℕ) → IsFileOf Reference h raw «data».now
+    ensures comes_back { (h : Header) (raw : List ℕ) → IsFileOf Style.Reference h raw «data».now
         → length raw ≤ length buf.old → (result ≡ Ok h) × (take (length raw) buf.new ≡ raw) }
     ensures comes_back_in { (style : Style) (h : Header) (raw : List ℕ)
         → IsFileOf style h raw «data».now
@@ -88,7 +87,7 @@ pub fn decode_to_vec(alloc: Global, data: &[u8]) -> Result<(Header, Vec<u8>)>
         → IsOkUnless result Error.OutOfMemory }
     // The file of an image gives its header and its raw bytes, unless memory runs out; so it does
     // where other bytes follow it.
-    ensures comes_back { (h : Header) (raw : List ℕ) → IsFileOf Reference h raw «data».now
+    ensures comes_back { (h : Header) (raw : List ℕ) → IsFileOf Style.Reference h raw «data».now
         → MatchResult result (λ x. (x.0 ≡ h) × (x.1.items ≡ raw)) (λ e. e ≡ Error.OutOfMemory) }
     ensures comes_back_in { (style : Style) (h : Header) (raw : List ℕ)
         → IsFileOf style h raw «data».now

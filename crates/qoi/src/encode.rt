@@ -27,7 +27,8 @@ fn encode_image<W: Writer>(buf: &mut W, style: Style, header: &Header, data: &[u
     requires valid { IsValid header.now }
     requires image { length «data».now ≡ file_byte_count header.now }
     requires room { max_file_len header.now ≤ W.room buf.old }
-    ensures written { IfOk result (λ n. (bytes : List ℕ) × IsFileOf style header.now «data».now bytes
+    ensures written { IfOk result (λ n. (bytes : List ℕ)
+        × IsFileOf style header.now «data».now bytes
         × (n ≡ length bytes) × W.wrote buf.old bytes buf.new) }
     ensures refused { IfErr result (λ e. W.Refuses e × (bytes : List ℕ)
         × IsFileOf style header.now «data».now bytes × WroteSome W.wrote buf.old bytes buf.new) }
@@ -62,8 +63,8 @@ pub fn encode_to_buf(buf: &mut [u8], data: &[u8], width: u32, height: u32) -> Re
         × (buf.new ≡ buf.old) }
     ensures encoded { (h : Header) → image_header «data».now width height ≡ Ok h
         → max_file_len h ≤ length buf.old
-        → IsOkAnd result (λ n. (bytes : List ℕ) × IsFileOf Reference h «data».now bytes × (n ≡ length bytes)
-        × (buf.new ≡ bytes ++ drop n buf.old)) }
+        → IsOkAnd result (λ n. (bytes : List ℕ) × IsFileOf Reference h «data».now bytes
+        × (n ≡ length bytes) × (buf.new ≡ bytes ++ drop n buf.old)) }
     ensures length { (h : Header) → image_header «data».now width height ≡ Ok h
         → IfOk result (IsFileLength h) }
 {
@@ -201,9 +202,9 @@ impl<'a> Encoder<'a> {
             (Error.OutputBufferTooSmall (length buf.old) (max_file_len self.now.header))
             × (buf.new ≡ buf.old) }
         ensures encoded { max_file_len self.now.header ≤ length buf.old
-            → IsOkAnd result (λ n. (bytes : List ℕ) × IsFileOf self.now.style self.now.header self.now.raw bytes
-            × (n ≡ length bytes)
-            × (buf.new ≡ bytes ++ drop n buf.old)) }
+            → IsOkAnd result (λ n. (bytes : List ℕ)
+            × IsFileOf self.now.style self.now.header self.now.raw bytes
+            × (n ≡ length bytes) × (buf.new ≡ bytes ++ drop n buf.old)) }
         ensures length { IfOk result (IsFileLength self.now.header) }
     {
         let required = self.required_buf_len();
@@ -222,7 +223,8 @@ impl<'a> Encoder<'a> {
     ///
     /// `OutOfMemory` where the memory for `required_buf_len` bytes isn't found.
     pub fn encode_to_vec(&self, alloc: Global) -> Result<Vec<u8>>
-        ensures encoded { IfOk result (λ v. IsFileOf self.now.style self.now.header self.now.raw v.items) }
+        ensures encoded { IfOk result (λ v.
+            IsFileOf self.now.style self.now.header self.now.raw v.items) }
         ensures length { IfOk result (λ v. IsFileLength self.now.header (length v.items)) }
         ensures refused { IsOkUnless result Error.OutOfMemory }
     {

@@ -124,7 +124,8 @@ pub fn written_is_short()
 pub fn written_is_near_shortest()
     ensures { (style : Style) (image : List RgbaPixel) (channels : ℕ) (cs others : List Chunk)
         → HasChannels image channels
-        → WrittenIn style image cs → AreChunks others → Regular others → Begins (meaning others) image
+        → WrittenIn style image cs → AreChunks others → Regular others
+        → Begins (meaning others) image
         → length (text cs) ≤ length (text others) + slack image channels }
 {}
 
