@@ -13,6 +13,7 @@ pub mod SpelledSteps
 pub mod StillToWrite
 pub mod StyledLists
 pub mod StyleLists
+pub mod TightChoice
 pub mod Unwritten
 pub mod WriterProgress
 pub mod WrittenExists

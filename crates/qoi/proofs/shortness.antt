@@ -6,3 +6,4 @@ pub mod RegularLists
 pub mod SlackReached
 pub mod SlackSteps
 pub mod Upper
+pub mod TightLists

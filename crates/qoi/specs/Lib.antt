@@ -16,6 +16,7 @@ pub mod EncoderState
 -- How short it is.
 pub mod Regular
 pub mod Shortest
+pub mod Tight
 -- Errors and their texts.
 pub mod Errors
 pub mod ErrorText

@@ -75,7 +75,7 @@ choice_some past p iq ip =
     ]
 
 -- a chunk that spells a pixel out is no run
-spells_other : (c : Chunk) → 0 < rank c → is_run c ≡ false
+pub spells_other : (c : Chunk) → 0 < rank c → is_run c ≡ false
 spells_other (Run n) h = absurd (omega arith)
 spells_other (Place i) h = absurd (omega arith)
 spells_other (Diff d) h = refl

@@ -39,7 +39,7 @@ no_rgb past p (Rgba r g b a) i f h = false_from_ne_true _ (λ t.
 no_rgb past p c i f h = absurd (omega arith)
 
 -- the first chunk that spells a pixel out is no longer than the least, where the pixel isn't seen
-first_least : (past : Past) (p : RgbaPixel) (c : Chunk) → IsChunk c → IsFirst past p c → seen past (hash p) ≢ p → length (bytes_of c) ≤ least past p
+pub first_least : (past : Past) (p : RgbaPixel) (c : Chunk) → IsChunk c → IsFirst past p c → seen past (hash p) ≢ p → length (bytes_of c) ≤ least past p
 first_least past p (Diff d) i f n = least_low past p
 first_least past p (Luma d e) i f n = least_over_1 past p n (no_diff past p _ f (omega arith))
 first_least past p (Rgb r g b) i f n = least_over_2 past p n (no_diff past p _ f (omega arith)) (no_luma past p _ f (omega arith))

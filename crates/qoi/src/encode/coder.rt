@@ -40,10 +40,11 @@ impl Coder {
         ensures style { StyleAfter [] None result.place result.begun result.placed }
     {
         let last = Packed::start();
+        let place = last.spread().hash_index();
         Coder {
             table: Table::new(),
             last,
-            place: last.spread().hash_index(),
+            place,
             begun: false,
             placed: false,
         }

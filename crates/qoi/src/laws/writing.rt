@@ -13,6 +13,7 @@ ghost use Rattle.qoi.specs.Encoded.{max_len};
 ghost use Rattle.qoi.specs.Raw.{IsChannels, output, pixels_of, HasChannels};
 ghost use Rattle.qoi.specs.Regular.{Begins, Regular};
 ghost use Rattle.qoi.specs.Shortest.{floor, trailing_repeats, slack, total_cost};
+ghost use Rattle.qoi.specs.Tight.{WrittenTight, floor0};
 ghost use Rattle.qoi.specs.Written.{Written};
 ghost use Rattle.qoi.specs.Styles.{in_style, WrittenIn};
 
@@ -127,6 +128,32 @@ pub fn written_is_near_shortest()
         → WrittenIn style image cs → AreChunks others → Regular others
         → Begins (meaning others) image
         → length (text cs) ≤ length (text others) + slack image channels }
+{}
+
+/// In a tight list transparent black may be given by an index position where no pixel was put. No chunk
+/// list at all whose pixels begin with those of an image has fewer bytes than its tight list, of which
+/// there is exactly one.
+pub fn tight_is_shortest()
+    ensures some { (image : List RgbaPixel) → AllByRecursion IsPixel image → (cs : List Chunk)
+        × WrittenTight image cs }
+    ensures one { (image : List RgbaPixel) (cs ds : List Chunk) → WrittenTight image cs
+        → WrittenTight image ds → cs ≡ ds }
+    ensures exact { (image : List RgbaPixel) (cs : List Chunk) → WrittenTight image cs
+        → length (text cs) ≡ floor0 image }
+    ensures shortest { (image : List RgbaPixel) (cs others : List Chunk) → WrittenTight image cs
+        → AreChunks others → Begins (meaning others) image → length (text cs) ≤ length (text others) }
+{}
+
+/// What the tight lists of a few images cost.
+pub fn tight_examples()
+    ensures black_returns_rgb { floor0 (pixel 0 0 0 255 ∷ pixel 101 102 103 255 ∷ pixel 0 0 0 255
+        ∷ []) ≡ 6 }
+    ensures black_returns_rgba { floor0 (pixel 0 0 0 255 ∷ pixel 101 102 103 104 ∷ pixel 0 0 0 255
+        ∷ []) ≡ 7 }
+    ensures black_overwritten { floor0 (pixel 0 0 0 255 ∷ pixel 1 99 2 255 ∷ pixel 0 0 0 255 ∷ [])
+        ≡ 9 }
+    ensures blank_without_place { floor0 (pixel 64 0 0 0 ∷ pixel 0 0 0 0 ∷ pixel 64 0 0 0
+        ∷ pixel 0 0 0 0 ∷ []) ≡ 11 }
 {}
 
 /// In a floor a group of repeats costs a byte for each 62 of them, rounded up.

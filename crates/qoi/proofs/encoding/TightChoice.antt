@@ -1,0 +1,167 @@
+-- The tight choice of a chunk: for each fresh pixel there is one, and it gives the pixel.
+use Rattle.std.proofs.Common.{◌≡◌, ◌≢◌, ◌⊎◌, inl, inr, ℕ, zero, suc, ◌+◌, ◌<◌, ◌≤◌, Bool, true, false, not, ◌||◌, ◌==◌, if◌then◌else◌, [], ◌∷◌, Option, None, Some, is_some, MatchOption, refl, sym, ap, ◌∙◌, subst, arith}
+use Rattle.std.specs.List.{find, list_any, range_with_len}
+use Rattle.std.proofs.lemmas.Bool.{cases_eq, cond-true, cond-false, ne_eqb, true≢false, or_parts}
+use Rattle.qoi.specs.declared.chunk.Chunk.{Chunk}
+use Rattle.qoi.specs.declared.chunk.Chunk.TheVariants.{Place, Rgba}
+use Rattle.qoi.specs.Qoi.{RgbaPixel, IsPixel, Past, pixel_eq, blank, positions, previous, seen, hash, IsChunk, pixel_of}
+use Rattle.qoi.specs.Written.{IsFirst}
+use Rattle.qoi.specs.Styles.{is_run}
+use Rattle.qoi.specs.Tight.{kept, is_unseen, least_unseen, IsTightChoice}
+use Rattle.qoi.proofs.format.SamePixels.{cases_pixel, hash_below, pixel_eq-from, pixel_eq-ne}
+use Rattle.qoi.proofs.encoding.NotedPixels.{seen_same, seen_other}
+use Rattle.qoi.proofs.encoding.Choices.{Chooses}
+use Rattle.qoi.proofs.encoding.WrittenExists.{first_some, spells_other}
+use Rattle.qoi.proofs.encoding.WrittenOnce.{first_unique}
+
+-- what is kept at an index position is what is seen there
+pub seen_kept : (past : Past) (i : ℕ) → seen (kept past) i ≡ seen past i
+seen_kept [] i = refl
+seen_kept (p ∷ []) i = refl
+seen_kept (p ∷ q ∷ past) i = go (seen_kept (q ∷ past) i) (cases_pixel p q) (cases_eq (hash p) i)
+  where
+    go : seen (kept (q ∷ past)) i ≡ seen (q ∷ past) i → (p ≡ q) ⊎ (p ≢ q) → (hash p ≡ i) ⊎ (hash p ≢ i) → seen (kept (p ∷ q ∷ past)) i ≡ seen (p ∷ q ∷ past) i
+    go before (inl e) (inl h) =
+        ap (λ x. seen x i) (cond-true (pixel_eq p q) _ _ (pixel_eq-from p q e))
+        ∙ before ∙ seen_same past q i (ap hash (sym e) ∙ h) ∙ sym e ∙ sym (seen_same (q ∷ past) p i h)
+    go before (inl e) (inr n) =
+        ap (λ x. seen x i) (cond-true (pixel_eq p q) _ _ (pixel_eq-from p q e))
+        ∙ before ∙ sym (seen_other (q ∷ past) p i n)
+    go before (inr d) (inl h) =
+        ap (λ x. seen x i) (cond-false (pixel_eq p q) _ _ (pixel_eq-ne p q d))
+        ∙ seen_same (kept (q ∷ past)) p i h ∙ sym (seen_same (q ∷ past) p i h)
+    go before (inr d) (inr n) =
+        ap (λ x. seen x i) (cond-false (pixel_eq p q) _ _ (pixel_eq-ne p q d))
+        ∙ seen_other (kept (q ∷ past)) p i n ∙ before ∙ sym (seen_other (q ∷ past) p i n)
+
+-- where no pixel was put transparent black is seen
+pub unseen_blank : (past : Past) (i : ℕ) → is_unseen past i ≡ true → seen past i ≡ blank
+unseen_blank [] i e = refl
+unseen_blank (p ∷ past) i e =
+    let both = or_parts (hash p == i) (list_any (λ q. hash q == i) past) (back _ e) in
+    cond-false (hash p == i) p (seen past i) both.0 ∙ unseen_blank past i (ap not both.1)
+  where
+    back : (t : Bool) → not t ≡ true → t ≡ false
+    back true h = absurd (true≢false (sym h))
+    back false h = refl
+
+-- no pixel was put at an index position, or one of that position is seen there
+pub unseen_or : (past : Past) (i : ℕ) → (is_unseen past i ≡ true) ⊎ (hash (seen past i) ≡ i)
+unseen_or [] i = inl refl
+unseen_or (p ∷ past) i = go (cases_eq (hash p) i) (unseen_or past i)
+  where
+    go : (hash p ≡ i) ⊎ (hash p ≢ i) → (is_unseen past i ≡ true) ⊎ (hash (seen past i) ≡ i) → (is_unseen (p ∷ past) i ≡ true) ⊎ (hash (seen (p ∷ past) i) ≡ i)
+    go (inl h) other = inr (ap hash (seen_same past p i h) ∙ h)
+    go (inr n) (inl e) = inl (ap (λ t. not (t || list_any (λ q. hash q == i) past)) (ne_eqb (hash p) i n) ∙ e)
+    go (inr n) (inr h) = inr (ap hash (seen_other past p i n) ∙ h)
+
+-- what is found passes the test, and is one of the numbers
+found : (test : ℕ → Bool) (a n i : ℕ) → find test (range_with_len a n) ≡ Some i → (test i ≡ true) × (i < a + n)
+found test a zero i e = absurd (let x = e in cc)
+found test a (suc n) i e = go (λ f. found test (a + 1) n i f) (test a) refl e
+  where
+    same : (j : ℕ) → Some j ≡ Some i → j ≡ i
+    same j e = cc
+
+    go : (find test (range_with_len (a + 1) n) ≡ Some i → (test i ≡ true) × (i < a + 1 + n)) → (t : Bool) → test a ≡ t → (if t then Some a else find test (range_with_len (a + 1) n)) ≡ Some i → (test i ≡ true) × (i < a + suc n)
+    go on true t e = let s = same a e in (subst (λ j. test j ≡ true) s t, omega arith)
+    go on false t e = let more = on e in (more.0, omega (arith, more.1))
+
+-- where a number passes the test, one is found
+some_found : (test : ℕ → Bool) (a n i : ℕ) → a ≤ i → i < a + n → test i ≡ true → is_some (find test (range_with_len a n)) ≡ true
+some_found test a zero i l u e = absurd (omega arith)
+some_found test a (suc n) i l u e = go (λ m. some_found test (a + 1) n i m (omega arith) e) (test a) refl (cases_eq a i)
+  where
+    go : (a + 1 ≤ i → is_some (find test (range_with_len (a + 1) n)) ≡ true) → (t : Bool) → test a ≡ t → (a ≡ i) ⊎ (a ≢ i) → is_some (if t then Some a else find test (range_with_len (a + 1) n)) ≡ true
+    go on true t c = refl
+    go on false t (inl h) = absurd (true≢false (sym e ∙ ap test (sym h) ∙ t))
+    go on false t (inr h) = on (omega arith)
+
+-- the least index position where no pixel was put is one
+pub unseen_found : (past : Past) (i : ℕ) → least_unseen past ≡ Some i → (is_unseen past i ≡ true) × (i < positions)
+unfolding least_unseen
+unseen_found past i e = found (is_unseen past) 0 64 i e
+
+-- and there is one where no pixel was put at some position
+pub unseen_some : (past : Past) (i : ℕ) → i < positions → is_unseen past i ≡ true → is_some (least_unseen past) ≡ true
+unfolding least_unseen
+unseen_some past i l e = some_found (is_unseen past) 0 64 i (omega arith) l e
+
+-- a pixel is kept at its index position; or not, and it is transparent black; or neither
+cases_tight : (past : Past) (p : RgbaPixel) (Goal : Type 0) → (seen (kept past) (hash p) ≡ p → Goal) → (seen (kept past) (hash p) ≢ p → p ≡ blank → Goal) → (seen (kept past) (hash p) ≢ p → p ≢ blank → Goal) → Goal
+cases_tight past p Goal f g h = go (cases_pixel (seen (kept past) (hash p)) p) (cases_pixel p blank)
+  where
+    go : (seen (kept past) (hash p) ≡ p) ⊎ (seen (kept past) (hash p) ≢ p) → (p ≡ blank) ⊎ (p ≢ blank) → Goal
+    go (inl is) b = f is
+    go (inr n) (inl b) = g n b
+    go (inr n) (inr b) = h n b
+
+-- there is a chunk for each fresh pixel
+tight_some : (past : Past) (p : RgbaPixel) → IsPixel (previous past) → IsPixel p → (c : Chunk) × IsChunk c × IsTightChoice past p c
+tight_some past p before is =
+    cases_tight past p ((c : Chunk) × IsChunk c × IsTightChoice past p c)
+    (λ e. (Place (hash p), hash_below p, record { place = λ _. refl; unseen = λ n. absurd (n e); spelled = λ n. absurd (n e) }))
+    (λ n b. blank_some n b (least_unseen past) refl)
+    (λ n b.
+    let f = first_some past p before is in
+    (f.0, f.1, record { place = λ e. absurd (n e); unseen = λ _ e. absurd (b e); spelled = λ _ _. f.2 }))
+  where
+    blank_some : seen (kept past) (hash p) ≢ p → p ≡ blank → (o : Option ℕ) → least_unseen past ≡ o → (c : Chunk) × IsChunk c × IsTightChoice past p c
+    blank_some n b None e =
+        let f = first_some past p before is in
+        (f.0, f.1, record { place = λ h. absurd (n h); unseen = λ _ _. subst (λ o. MatchOption o (IsFirst past p f.0) (λ i. f.0 ≡ Place i)) (sym e) f.2; spelled = λ _ h. absurd (h b) })
+    blank_some n b (Some i) e =
+        let u = unseen_found past i e in
+        (Place i, u.1, record { place = λ h. absurd (n h); unseen = λ _ _. subst (λ o. MatchOption o (IsFirst past p (Place i)) (λ j. Place i ≡ Place j)) (sym e) refl; spelled = λ _ h. absurd (h b) })
+
+-- what holds of the chunk that is kept at its position, of an unseen position for transparent black, and of the first
+-- chunk holds of the choice
+pub by_tight : (P : Past → RgbaPixel → Chunk → Type 0) (past : Past) (p : RgbaPixel) (c : Chunk) → IsTightChoice past p c
+    → (seen past (hash p) ≡ p → P past p (Place (hash p)))
+    → ((i : ℕ) → seen past (hash p) ≢ p → p ≡ blank → least_unseen past ≡ Some i → P past p (Place i))
+    → (seen past (hash p) ≢ p → (p ≡ blank → least_unseen past ≡ None) → IsFirst past p c → P past p c)
+    → P past p c
+by_tight P past p c w f g h =
+    cases_tight past p (P past p c)
+    (λ e. subst (P past p) (sym (w.place e)) (f (sym (seen_kept past (hash p)) ∙ e)))
+    (λ n b. go n b (least_unseen past) refl (w.unseen n b))
+    (λ n b. h (λ e. n (seen_kept past (hash p) ∙ e)) (λ e. absurd (b e)) (w.spelled n b))
+  where
+    go : seen (kept past) (hash p) ≢ p → p ≡ blank → (o : Option ℕ) → least_unseen past ≡ o → MatchOption (least_unseen past) (IsFirst past p c) (λ i. c ≡ Place i) → P past p c
+    go n b None e m = h (λ x. n (seen_kept past (hash p) ∙ x)) (λ _. e) (subst (λ o. MatchOption o (IsFirst past p c) (λ i. c ≡ Place i)) e m)
+    go n b (Some i) e m =
+        let is : c ≡ Place i = subst (λ o. MatchOption o (IsFirst past p c) (λ i. c ≡ Place i)) e m in
+        subst (P past p) (sym is) (g i (λ x. n (seen_kept past (hash p) ∙ x)) b e)
+
+-- it is one
+tight_unique : (past : Past) (p : RgbaPixel) (c d : Chunk) → IsChunk c → IsChunk d → IsTightChoice past p c → IsTightChoice past p d → c ≡ d
+tight_unique past p c d ic id w v =
+    cases_tight past p (c ≡ d)
+    (λ e. w.place e ∙ sym (v.place e))
+    (λ n b. go (least_unseen past) (w.unseen n b) (v.unseen n b))
+    (λ n b. first_unique past p c d ic id (w.spelled n b) (v.spelled n b))
+  where
+    go : (o : Option ℕ) → MatchOption o (IsFirst past p c) (λ i. c ≡ Place i) → MatchOption o (IsFirst past p d) (λ i. d ≡ Place i) → c ≡ d
+    go None f g = first_unique past p c d ic id f g
+    go (Some i) f g = f ∙ sym g
+
+-- it gives the pixel
+tight_gives : (past : Past) (p : RgbaPixel) (c : Chunk) → IsTightChoice past p c → pixel_of past c ≡ p
+tight_gives past p c w = by_tight (λ past p c. pixel_of past c ≡ p) past p c w (λ e. e) (λ i n b e. unseen_blank past i (unseen_found past i e).0 ∙ sym b) (λ n o f. f.gives)
+
+-- the tight choice has what a choice has to offer
+pub tight_chooses : Chooses IsTightChoice
+tight_chooses = record {
+  some = λ past p before is _. tight_some past p before is;
+  only = tight_unique;
+  no_run = λ past p c w. by_tight (λ past p c. is_run c ≡ false) past p c w (λ _. refl) (λ i n b e. refl) (λ n o f. spells_other c f.spells);
+  gives = tight_gives;
+  rgba_first = λ past r g b a w. rgba past r g b a w;
+}
+  where
+    is_rgba : Chunk → Bool
+    is_rgba (Rgba r g b a) = true
+    is_rgba _ = false
+
+    rgba : (past : Past) (r g b a : ℕ) → IsTightChoice past (pixel_of past (Rgba r g b a)) (Rgba r g b a) → IsFirst past (pixel_of past (Rgba r g b a)) (Rgba r g b a)
+    rgba past r g b a w = by_tight (λ past p c. is_rgba c ≡ true → IsFirst past p c) past _ _ w (λ _ x. absurd (true≢false (sym x))) (λ i n b e x. absurd (true≢false (sym x))) (λ n o f _. f) refl

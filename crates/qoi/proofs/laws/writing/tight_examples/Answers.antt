@@ -1,0 +1,22 @@
+-- Each is computed, pixel by pixel.
+use Rattle.std.proofs.Common.{refl}
+use Rattle.qoi.specs.Qoi.{pixel_eq, start, blank, hash, after_diff, after_luma}
+use Rattle.qoi.specs.Shortest.{some_diff, some_luma, some_rgb, least, cost}
+use Rattle.qoi.specs.Tight.{least_unseen, least0}
+use Rattle.qoi.proofs.laws.writing.tight_examples.Goals as goal
+
+pub returns-clause-black_returns_rgb : goal.returns-clause-black_returns_rgb
+unfolding pixel_eq start blank hash after_diff after_luma some_diff some_luma some_rgb least cost least_unseen least0
+returns-clause-black_returns_rgb c = refl
+
+pub returns-clause-black_returns_rgba : goal.returns-clause-black_returns_rgba
+unfolding pixel_eq start blank hash after_diff after_luma some_diff some_luma some_rgb least cost least_unseen least0
+returns-clause-black_returns_rgba c = refl
+
+pub returns-clause-black_overwritten : goal.returns-clause-black_overwritten
+unfolding pixel_eq start blank hash after_diff after_luma some_diff some_luma some_rgb least cost least_unseen least0
+returns-clause-black_overwritten c = refl
+
+pub returns-clause-blank_without_place : goal.returns-clause-blank_without_place
+unfolding pixel_eq start blank hash after_diff after_luma some_diff some_luma some_rgb least cost least_unseen least0
+returns-clause-blank_without_place c = refl

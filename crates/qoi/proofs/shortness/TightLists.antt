@@ -1,0 +1,79 @@
+-- No chunk list at all is shorter than the tight one.
+use Rattle.std.proofs.Common.{◌≡◌, ◌≢◌, ◌⊎◌, inl, inr, ◌+◌, ◌≤◌, true, false, ◌&&◌, List, [], ◌∷◌, length, None, is_some, refl, sym, ap, ◌∙◌, append-nil, arith}
+use Rattle.std.proofs.lemmas.Bool.{cond-true, cond-false, cond_both, and_from}
+use Rattle.qoi.specs.declared.chunk.Chunk.{Chunk}
+use Rattle.qoi.specs.declared.chunk.Chunk.TheVariants.{Place, Diff, Luma, Run, Rgb, Rgba}
+use Rattle.qoi.specs.Qoi.{RgbaPixel, Past, pixel_eq, blank, seen, hash, IsChunk, AreChunks, pixel_of, bytes_of, text, then_chunk, meaning, Each}
+use Rattle.qoi.specs.Raw.{HasChannels}
+use Rattle.qoi.specs.Regular.{Begins}
+use Rattle.qoi.specs.Shortest.{least}
+use Rattle.qoi.specs.Written.{GivesFresh, IsRightAfter}
+use Rattle.qoi.specs.Styles.{is_run}
+use Rattle.qoi.specs.Tight.{is_unseen, least_unseen, IsTightChoice, WrittenTight, least0, floor0}
+use Rattle.qoi.proofs.format.SamePixels.{cases_pixel, pixel_eq-from, pixel_eq-ne}
+use Rattle.qoi.proofs.encoding.TightChoice.{unseen_blank, unseen_or, unseen_some, by_tight}
+use Rattle.qoi.proofs.shortness.Costs.{least_low, least_seen}
+use Rattle.qoi.proofs.shortness.Lower.{least_bounds, lower_by}
+use Rattle.qoi.proofs.shortness.Upper.{first_least, upper_by}
+
+-- a fresh pixel costs at least a byte
+least0_low : (past : Past) (p : RgbaPixel) → 1 ≤ least0 past p
+unfolding least0
+least0_low past p = cond_both (pixel_eq p blank && is_some (least_unseen past)) 1 (least past p) (λ x. 1 ≤ x) (λ _. omega arith) (λ _. least_low past p)
+
+-- and no more than where each position that is named was written
+least0_high : (past : Past) (p : RgbaPixel) → least0 past p ≤ least past p
+unfolding least0
+least0_high past p = cond_both (pixel_eq p blank && is_some (least_unseen past)) 1 (least past p) (λ x. x ≤ least past p) (λ _. least_low past p) (λ _. omega arith)
+
+-- transparent black costs a byte where a position is unseen
+least0_unseen : (past : Past) (p : RgbaPixel) → p ≡ blank → is_some (least_unseen past) ≡ true → least0 past p ≡ 1
+unfolding least0
+least0_unseen past p b u = cond-true (pixel_eq p blank && is_some (least_unseen past)) 1 (least past p) (and_from _ _ (pixel_eq-from p blank b) u)
+
+-- else a pixel costs as much as there
+least0_same : (past : Past) (p : RgbaPixel) → (p ≡ blank → least_unseen past ≡ None) → least0 past p ≡ least past p
+unfolding least0
+least0_same past p other = go (cases_pixel p blank)
+  where
+    go : (p ≡ blank) ⊎ (p ≢ blank) → least0 past p ≡ least past p
+    go (inl b) = cond-false _ 1 (least past p) (ap (λ o. pixel_eq p blank && is_some o) (other b) ∙ ap (λ t. t && false) (pixel_eq-from p blank b))
+    go (inr n) = cond-false _ 1 (least past p) (ap (λ t. t && is_some (least_unseen past)) (pixel_eq-ne p blank n))
+
+-- a chunk other than a run is no shorter than its pixel costs
+least0_bounds : (past : Past) (c : Chunk) → IsChunk c → Unit {0} → is_run c ≡ false → least0 past (pixel_of past c) ≤ length (bytes_of c)
+least0_bounds past (Place i) k _ o = go (unseen_or past i)
+  where
+    go : (is_unseen past i ≡ true) ⊎ (hash (seen past i) ≡ i) → least0 past (seen past i) ≤ 1
+    go (inl e) = let h = least0_unseen past (seen past i) (unseen_blank past i e) (unseen_some past i k e) in omega arith
+    go (inr h) = let a = least0_high past (seen past i) in let b = least_seen past (seen past i) (ap (seen past) h) in omega arith
+least0_bounds past (Diff d) k _ o = let a = least0_high past (pixel_of past (Diff d)) in let b = least_bounds past (Diff d) k tt o in omega arith
+least0_bounds past (Luma d e) k _ o = let a = least0_high past (pixel_of past (Luma d e)) in let b = least_bounds past (Luma d e) k tt o in omega arith
+least0_bounds past (Run n) k _ o = absurd (let x = o in cc)
+least0_bounds past (Rgb x y z) k _ o = let a = least0_high past (pixel_of past (Rgb x y z)) in let b = least_bounds past (Rgb x y z) k tt o in omega arith
+least0_bounds past (Rgba x y z w) k _ o = let a = least0_high past (pixel_of past (Rgba x y z w)) in let b = least_bounds past (Rgba x y z w) k tt o in omega arith
+
+-- each list is allowed
+each_allowed : (past : Past) (cs : List Chunk) → Each (λ past c. Unit {0}) past cs
+each_allowed past [] = tt
+each_allowed past (c ∷ cs) = (tt, each_allowed (then_chunk past c) cs)
+
+-- no chunk list that begins with an image has fewer bytes than its pixels cost
+pub lower0 : (image : List RgbaPixel) (cs : List Chunk) → AreChunks cs → Begins (meaning cs) image → floor0 image ≤ length (text cs)
+lower0 image cs k b = lower_by least0 (λ past c. Unit {0}) least0_bounds image cs k (each_allowed [] cs) b
+
+-- a fresh pixel's chunk is no longer than it costs
+tight_cost : (past : Past) (c : Chunk) → IsChunk c → HasChannels (then_chunk past c) 4 → is_run c ≡ false → GivesFresh IsTightChoice past c → IsRightAfter IsTightChoice past c → length (bytes_of c) + 0 ≤ least0 past (pixel_of past c) + 0
+tight_cost past c k h o g r =
+    by_tight (λ past p c. IsChunk c → length (bytes_of c) + 0 ≤ least0 past p + 0) past (pixel_of past c) c g.is_chosen
+    (λ e _. let l = least0_low past (pixel_of past c) in omega arith)
+    (λ i n b e _. let l = least0_low past (pixel_of past c) in omega arith)
+    (λ n other f i. let l = first_least past (pixel_of past c) c i f n in let s = least0_same past (pixel_of past c) other in omega arith)
+    k
+
+-- so the tight list has just as many bytes
+pub tight_exact : (image : List RgbaPixel) (cs : List Chunk) → WrittenTight image cs → length (text cs) ≡ floor0 image
+tight_exact image cs w =
+    let u = upper_by least0 IsTightChoice (λ past. 0) (λ past p. omega arith) 4 tight_cost image cs (inl refl) w in
+    let l = lower0 image cs w.chunks ([], w.means ∙ sym (append-nil image)) in
+    omega arith

@@ -1,0 +1,41 @@
+-- The shortest chunk list of an image, where any index position may be named.
+use Rattle.std.specs.Prelude.{◌≡◌, ◌≢◌, ℕ, Bool, not, ◌==◌, ◌&&◌, if◌then◌else◌, List, [], ◌∷◌, reverse, Option, is_some, MatchOption}
+use Rattle.std.specs.List.{find, list_any, range_with_len}
+use Rattle.qoi.specs.declared.chunk.Chunk.{Chunk}
+use Rattle.qoi.specs.declared.chunk.Chunk.TheVariants.{Place}
+use Rattle.qoi.specs.Qoi.{RgbaPixel, Past, pixel_eq, blank, positions, seen, hash}
+use Rattle.qoi.specs.Written.{IsFirst, WrittenBy}
+use Rattle.qoi.specs.Shortest.{least, total_cost}
+
+-- the first pixel, and each that differs from the pixel before it
+abbrev pub kept : Past → Past
+kept [] = []
+kept (p ∷ []) = p ∷ []
+kept (p ∷ q ∷ past) = if pixel_eq p q then kept (q ∷ past) else p ∷ kept (q ∷ past)
+
+-- no pixel was put at the index position, so that it holds transparent black
+abbrev pub is_unseen : Past → ℕ → Bool
+is_unseen past i = not (list_any (λ p. hash p == i) past)
+
+-- the least index position where no pixel was put, if there is one
+unfoldable pub least_unseen : Past → Option ℕ
+least_unseen past = find (is_unseen past) (range_with_len 0 positions)
+
+-- How a fresh pixel is given: by its index position if it is kept there; else transparent black by the least position
+-- where no pixel was put, if there is one; else by the first chunk that spells it out.
+pub record IsTightChoice (past : Past) (p : RgbaPixel) (c : Chunk) : Type 0 where
+  pub place : seen (kept past) (hash p) ≡ p → c ≡ Place (hash p)
+  pub unseen : seen (kept past) (hash p) ≢ p → p ≡ blank → MatchOption (least_unseen past) (IsFirst past p c) (λ i. c ≡ Place i)
+  pub spelled : seen (kept past) (hash p) ≢ p → p ≢ blank → IsFirst past p c
+
+-- the tight chunk list of an image
+abbrev pub WrittenTight : List RgbaPixel → List Chunk → Type 0
+WrittenTight image cs = WrittenBy IsTightChoice image cs
+
+-- the bytes of the shortest chunk that gives the fresh pixel p, where any index position may be named
+unfoldable pub least0 : Past → RgbaPixel → ℕ
+least0 past p = if pixel_eq p blank && is_some (least_unseen past) then 1 else least past p
+
+-- what the pixels of an image cost then
+abbrev pub floor0 : List RgbaPixel → ℕ
+floor0 image = total_cost least0 (reverse image)
