@@ -6,6 +6,7 @@ ghost use Rattle.qoi.specs.declared.error.Error.{Error};
 ghost use Rattle.qoi.specs.declared.header.Header.{Header};
 ghost use Rattle.qoi.specs.declared.types.Channels.{Channels};
 ghost use Rattle.qoi.specs.declared.types.ColorSpace.{ColorSpace};
+ghost use Rattle.qoi.specs.declared.types.Style.{Style};
 ghost use Rattle.qoi.specs.declared.chunk.Chunk.{Chunk};
 ghost use Rattle.qoi.specs.Qoi.{pixel_of, Past, previous, rgba, channels_number, colorspace_number};
 ghost use Rattle.qoi.specs.Raw.{IsChannels};
@@ -13,7 +14,7 @@ ghost use Rattle.qoi.specs.Raw.{IsChannels};
 use crate::chunk::Chunk;
 use crate::header::Header;
 use crate::pixel::Pixel;
-use crate::types::{Channels, ColorSpace};
+use crate::types::{Channels, ColorSpace, Style};
 use std::hash::Hash;
 
 /// Channels come back from their number, and every other number is refused with itself.
@@ -71,6 +72,7 @@ pub fn headers_compare()
 pub fn clones_are_equal<const N: usize>()
     ensures channels { (c d : Channels) → ⟦<Channels as Clone>⟧.is_clone c d → d ≡ c }
     ensures color_spaces { (c d : ColorSpace) → ⟦<ColorSpace as Clone>⟧.is_clone c d → d ≡ c }
+    ensures styles { (s t : Style) → ⟦<Style as Clone>⟧.is_clone s t → t ≡ s }
     ensures headers { (h k : Header) → ⟦<Header as Clone>⟧.is_clone h k → k ≡ h }
     ensures pixels { (p q : List ℕ) → ⟦<Pixel<N> as Clone>⟧.is_clone p q → q ≡ p }
     ensures chunks { (c d : Chunk) → ⟦<Chunk as Clone>⟧.is_clone c d → d ≡ c }
@@ -79,6 +81,11 @@ pub fn clones_are_equal<const N: usize>()
 /// Equal pixels have the same bytes.
 pub fn pixels_compare<const N: usize>()
     ensures { (p q : List ℕ) → IsTrue (⟦<Pixel<N> as PartialEq>⟧.eq p q) ↔ (p ≡ q) }
+{}
+
+/// Equal styles are the same.
+pub fn styles_compare()
+    ensures { (s t : Style) → IsTrue (⟦<Style as PartialEq>⟧.eq s t) ↔ (s ≡ t) }
 {}
 
 /// Equal chunks are the same.
