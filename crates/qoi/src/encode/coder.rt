@@ -39,10 +39,11 @@ impl Coder {
         ensures state { StateAfter [] result.table result.last }
         ensures style { StyleAfter [] None result.place result.begun result.placed }
     {
+        let table = Table::new();
         let last = Packed::start();
         let place = last.spread().hash_index();
         Coder {
-            table: Table::new(),
+            table,
             last,
             place,
             begun: false,
