@@ -11,7 +11,7 @@ pub mod PlacedLists
 pub mod Spelled
 pub mod SpelledSteps
 pub mod StillToWrite
-pub mod StyledLists
+pub mod StyledGroup
 pub mod StyleLists
 pub mod TightChoice
 pub mod Unwritten

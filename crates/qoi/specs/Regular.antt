@@ -2,7 +2,7 @@
 use Rattle.std.specs.Prelude.{◌≡◌, List, [], ◌++◌}
 use Rattle.qoi.specs.declared.chunk.Chunk.{Chunk}
 use Rattle.qoi.specs.declared.chunk.Chunk.TheVariants.{Place}
-use Rattle.qoi.specs.Qoi.{RgbaPixel, Past, seen, hash, Each}
+use Rattle.qoi.specs.Qoi.{RgbaPixel, Past, seen, hash, AreChunks, meaning, Each}
 
 -- an index position that is named holds a pixel whose position it is; so one where no pixel was put is named
 -- only if it is position 0
@@ -17,3 +17,7 @@ Regular cs = Each NamesWritten [] cs
 -- the pixels begin with those of the image
 abbrev pub Begins : List RgbaPixel → List RgbaPixel → Type 0
 Begins pixels image = (more : List RgbaPixel) × (pixels ≡ image ++ more)
+
+-- chunks whose pixels begin with those of the image
+abbrev pub Covers : List RgbaPixel → List Chunk → Type 0
+Covers image cs = AreChunks cs × Begins (meaning cs) image

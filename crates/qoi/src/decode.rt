@@ -54,8 +54,8 @@ pub fn decode_to_buf(buf: &mut [u8], data: &[u8]) -> Result<Header>
     ensures short { (h : Header) → header_of «data».now ≡ Ok h → length buf.old < file_byte_count h
         → (result ≡ Err (Error.OutputBufferTooSmall (length buf.old) (file_byte_count h)))
         × (buf.new ≡ buf.old) }
-    // The file of an image gives its header and its raw bytes, where the buffer is long enough; so it
-    // does where other bytes follow it.
+    // The file of an image, in each style, gives its header and its raw bytes, where the buffer is
+    // long enough; so it does where other bytes follow it.
     ensures comes_back { (h : Header) (raw : List ℕ) → IsFileOf Style.Reference h raw «data».now
         → length raw ≤ length buf.old → (result ≡ Ok h) × (take (length raw) buf.new ≡ raw) }
     ensures comes_back_in { (style : Style) (h : Header) (raw : List ℕ)
@@ -85,8 +85,8 @@ pub fn decode_to_vec(alloc: Global, data: &[u8]) -> Result<(Header, Vec<u8>)>
     ensures accepts { (h : Header) (cs : List Chunk) (rest : List ℕ) → IsFile h cs
         → «data».now ≡ file h cs ++ rest
         → IsOkUnless result Error.OutOfMemory }
-    // The file of an image gives its header and its raw bytes, unless memory runs out; so it does
-    // where other bytes follow it.
+    // The file of an image, in each style, gives its header and its raw bytes, unless memory runs
+    // out; so it does where other bytes follow it.
     ensures comes_back { (h : Header) (raw : List ℕ) → IsFileOf Style.Reference h raw «data».now
         → MatchResult result (λ x. (x.0 ≡ h) × (x.1.items ≡ raw)) (λ e. e ≡ Error.OutOfMemory) }
     ensures comes_back_in { (style : Style) (h : Header) (raw : List ℕ)

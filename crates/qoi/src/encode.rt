@@ -154,7 +154,7 @@ impl<'a> Encoder<'a> {
         self
     }
 
-    /// The same encoder with another style.
+    /// The same encoder with another style: other chunks may be written, and the file is as long.
     pub fn with_style(mut self, style: Style) -> Encoder<'a>
         ensures { result ≡ record self.entry { style = style } }
     {

@@ -153,14 +153,16 @@ impl TryFrom<u8> for Channels {
     }
 }
 
-/// Which of the chunks that mean the same an encoder writes. All styles are read back alike.
+/// Which of the chunks that mean the same an encoder writes (QOI specification 1.0, "Chunks"). All
+/// styles are read back alike.
 #[derive(Clone, Copy, PartialEq, Eq, Debug)]
 pub enum Style {
     /// Repeats by runs, each other pixel by its index position if it was written before, else by the
     /// first of a difference, a luma and a full chunk that gives it. The Rust crate with its feature
     /// `reference` writes so.
     Reference,
-    /// As `Reference`, but a single repeat between two other pixels by the index position of the
-    /// pixel, unless the chunk before is that position. The file is as long.
+    /// As `Reference`, but a run of 1 that has a pixel other than the one before it both in front and
+    /// directly behind is an index position, unless the chunk before it is that position. The file
+    /// is as long.
     Places,
 }

@@ -25,7 +25,7 @@ use Rattle.qoi.proofs.format.RawPixels.{pixels_of_are, pixels_of_have, length-pi
 use Rattle.qoi.proofs.encoding.WrittenExists.{chooses, some_by}
 use Rattle.qoi.proofs.encoding.WrittenShape.{written_fits_lem}
 use Rattle.qoi.proofs.encoding.StyleLists.{style_length}
-use Rattle.qoi.proofs.encoding.StyledLists.{styled, styled_whole, styled_runs, styled_group}
+use Rattle.qoi.proofs.encoding.StyledGroup.{styled, styled_whole, styled_runs, styled_group}
 
 -- bytes by recursion
 pub all_bytes : (bytes : List ℕ) → AreBytes bytes → AllByRecursion (λ b. b < 256) bytes

@@ -8,10 +8,10 @@ ghost use Rattle.qoi.specs.declared.types.ColorSpace.{ColorSpace};
 ghost use Rattle.qoi.specs.declared.types.Style.{Style};
 ghost use Rattle.qoi.specs.declared.types.Style.TheVariants.{Reference, Places};
 ghost use Rattle.qoi.specs.declared.chunk.Chunk.TheVariants.{Place, Run, Rgb, Rgba};
-ghost use Rattle.qoi.specs.Qoi.{RgbaPixel, IsPixel, Past, blank, pixel, previous, AreChunks, text, file, Reaches, meaning};
+ghost use Rattle.qoi.specs.Qoi.{RgbaPixel, IsPixel, Past, blank, pixel, previous, text, file, Reaches, meaning};
 ghost use Rattle.qoi.specs.Encoded.{max_len};
 ghost use Rattle.qoi.specs.Raw.{IsChannels, output, pixels_of, HasChannels};
-ghost use Rattle.qoi.specs.Regular.{Begins, Regular};
+ghost use Rattle.qoi.specs.Regular.{Begins, Covers, Regular};
 ghost use Rattle.qoi.specs.Shortest.{floor, trailing_repeats, slack, total_cost};
 ghost use Rattle.qoi.specs.Tight.{WrittenTight, floor0};
 ghost use Rattle.qoi.specs.Written.{Written};
@@ -108,8 +108,7 @@ pub fn no_blank_is_regular()
 /// No regular list whose pixels begin with those of an image has fewer bytes than the image's floor. Neither
 /// the length of its runs nor what it gives past the image matters.
 pub fn none_is_shorter()
-    ensures { (image : List RgbaPixel) (cs : List Chunk) → AreChunks cs → Regular cs
-        → Begins (meaning cs) image
+    ensures { (image : List RgbaPixel) (cs : List Chunk) → Covers image cs → Regular cs
         → floor image ≤ length (text cs) }
 {}
 
@@ -125,8 +124,7 @@ pub fn written_is_short()
 pub fn written_is_near_shortest()
     ensures { (style : Style) (image : List RgbaPixel) (channels : ℕ) (cs others : List Chunk)
         → HasChannels image channels
-        → WrittenIn style image cs → AreChunks others → Regular others
-        → Begins (meaning others) image
+        → WrittenIn style image cs → Covers image others → Regular others
         → length (text cs) ≤ length (text others) + slack image channels }
 {}
 
@@ -141,7 +139,7 @@ pub fn tight_is_shortest()
     ensures exact { (image : List RgbaPixel) (cs : List Chunk) → WrittenTight image cs
         → length (text cs) ≡ floor0 image }
     ensures shortest { (image : List RgbaPixel) (cs others : List Chunk) → WrittenTight image cs
-        → AreChunks others → Begins (meaning others) image → length (text cs) ≤ length (text others) }
+        → Covers image others → length (text cs) ≤ length (text others) }
 {}
 
 /// What the tight lists of a few images cost.

@@ -17,7 +17,7 @@ pub returns-clause-exact : goal.returns-clause-exact
 returns-clause-exact c = tight_exact
 
 pub returns-clause-shortest : goal.returns-clause-shortest
-returns-clause-shortest c = λ image cs others w k b.
+returns-clause-shortest c = λ image cs others w covers.
     let e = tight_exact image cs w in
-    let l = lower0 image others k b in
+    let l = lower0 image others covers.0 covers.1 in
     omega arith

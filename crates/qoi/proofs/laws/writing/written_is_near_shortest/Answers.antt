@@ -5,7 +5,7 @@ use Rattle.qoi.proofs.encoding.StyleLists.{style_upper}
 use Rattle.qoi.proofs.laws.writing.written_is_near_shortest.Goals as goal
 
 pub returns : goal.returns
-returns c = λ style image channels cs others h w k r b.
+returns c = λ style image channels cs others h w covers regular.
     let u = style_upper style image channels cs h w in
-    let l = lower image others k r b in
+    let l = lower image others covers.0 regular covers.1 in
     omega arith

@@ -1,4 +1,4 @@
--- The written lists of each style, and the next chunks of one.
+-- What a style makes of the next chunks of a written list: those of a group of repeats, and of the fresh pixel behind it.
 use Rattle.std.proofs.Common.{◌≡◌, ℕ, zero, suc, ◌+◌, ◌*◌, ◌/◌, ◌%◌, true, false, not, ◌&&◌, nat_lt, if◌then◌else◌, List, [], ◌∷◌, ◌++◌, replicate, Option, None, Some, refl, sym, ap, ◌∙◌, arith, append_assoc}
 use Rattle.std.proofs.lemmas.Bool.{lt-ltb}
 use Rattle.qoi.specs.declared.chunk.Chunk.{Chunk}
