@@ -1,5 +1,5 @@
 -- The file of an image: what holds of it.
-use Rattle.std.proofs.Common.{◌≡◌, ℕ, ◌+◌, ◌*◌, ◌^◌, ◌<◌, ◌≤◌, List, [], ◌∷◌, ◌++◌, length, take, min, slice_set, ◌-◌, refl, sym, ap, ◌∙◌, subst, arith, append-nil, length-append}
+use Rattle.std.proofs.Common.{◌≡◌, ◌≢◌, ℕ, ◌+◌, ◌*◌, ◌^◌, ◌<◌, ◌≤◌, List, [], ◌∷◌, ◌++◌, length, take, min, slice_set, ◌-◌, refl, sym, ap, ◌∙◌, subst, arith, append-nil, length-append}
 use Rattle.std.proofs.Math.Nat.{mul_comm}
 use Rattle.qoi.specs.declared.types.Channels.{Channels}
 use Rattle.qoi.specs.declared.types.Channels.TheVariants.{Rgb, Rgba}
@@ -10,9 +10,11 @@ use Rattle.qoi.specs.declared.chunk.Chunk.TheVariants.{Place}
 use Rattle.qoi.specs.Qoi.{channels_number, colorspace_number, head, pixel_count, IsValid, RgbaPixel, AreChunks, AreBytes, bytes_of, text, Reaches, meaning, file, file_pixels, end_marker, IsFile}
 use Rattle.qoi.specs.Raw.{IsChannels, output, HasChannels}
 use Rattle.qoi.specs.declared.types.Style.{Style}
+use Rattle.qoi.specs.declared.types.Style.TheVariants.{Reference, Places, Tight}
+use Rattle.qoi.specs.Written.{Written}
 use Rattle.qoi.specs.Styles.{WrittenIn}
 use Rattle.qoi.specs.Decoding.{file_byte_count, DecodesFile}
-use Rattle.qoi.specs.Encoded.{max_file_len, image_pixels, IsNearShortest, IsFileBy, IsFileOf}
+use Rattle.qoi.specs.Encoded.{max_file_len, image_pixels, IsNearShortest, IsFileBy, IsAsReference, IsShortIn, IsFileOf}
 use Rattle.qoi.proofs.format.Appended.{length-bytes_of}
 use Rattle.qoi.proofs.decoding.FilledBuffer.{take_whole}
 use Rattle.qoi.proofs.decoding.ImageSize.{channels_are}
@@ -24,6 +26,7 @@ use Rattle.qoi.proofs.encoding.CoderSteps.{all_bytes}
 use Rattle.qoi.proofs.encoding.StyleLists.{style_chunks, style_means, style_unique, style_reaches, style_fits, style_length, style_apart, style_regular, style_upper, style_some}
 use Rattle.qoi.proofs.shortness.RegularLists.{no_blank_regular}
 use Rattle.qoi.proofs.shortness.Lower.{lower}
+use Rattle.qoi.proofs.shortness.TightLists.{lower0, tight_exact}
 use Rattle.qoi.proofs.shortness.SlackSteps.{slack_most, slack_opens}
 
 -- the bytes of a file are the header's, the chunks' and the end marker's
@@ -147,13 +150,30 @@ module _ (h : Header) (raw : List ℕ) (valid : IsValid h) (size : length raw �
         all_regular = λ no_blank others s. no_blank_regular image others (subst (λ n. Reaches n others) (sym count) s.reaches) s.begins no_blank;
       }
 
+  -- but in style Tight the list is regular, and as long as that of `Written`
+  as_reference : (style : Style) → style ≢ Tight → (cs : List Chunk) (w : WrittenIn style (image_pixels h raw) cs) → Written (image_pixels h raw) w.list → IsAsReference style h raw (file h cs)
+  as_reference style other cs w written = record {
+    regular = λ others v. style_regular style (image_pixels h raw) others other v;
+    list = w.list;
+    written = written;
+    as_long = length-file h cs ∙ ap (λ k. 22 + k) (style_length style (image_pixels h raw) cs w) ∙ sym (length-file h w.list);
+  }
+
+  -- how short it is in each style
+  short_in : (style : Style) (cs : List Chunk) → WrittenIn style (image_pixels h raw) cs → IsShortIn style h raw (file h cs)
+  short_in Reference cs w = as_reference Reference (λ e. absurd (let x = e in cc)) cs w w.written
+  short_in Places cs w = as_reference Places (λ e. absurd (let x = e in cc)) cs w w.written
+  short_in Tight cs w =
+      let size_is = length-file h cs in
+      let exact = style_length Tight (image_pixels h raw) cs w ∙ tight_exact (image_pixels h raw) w.list w.written in
+      record { floor0_is = omega arith; shortest = λ others s. omega (arith, lower0 (image_pixels h raw) others s.chunks s.begins, length-file h others) }
+
   -- all of it
   pub file_of : (style : Style) (cs : List Chunk) → WrittenIn style (image_pixels h raw) cs → IsFileOf style h raw (file h cs)
   file_of style cs w = record {
     is_file = file_by (WrittenIn style) (written_lists style) cs w;
     near_shortest = near style cs w;
-    regular = λ others v. style_regular style (image_pixels h raw) others v;
-    as_long = record { cs = w.list; written = w.written; length_is = length-file h cs ∙ ap (λ k. 22 + k) (style_length style (image_pixels h raw) cs w) ∙ sym (length-file h w.list) };
+    short = short_in style cs w;
   }
 
 -- an image has a list that is written for it

@@ -8,6 +8,7 @@ use Rattle.qoi.specs.declared.types.Channels.TheVariants.{Rgb}
 use Rattle.qoi.specs.declared.types.ColorSpace.{ColorSpace}
 use Rattle.qoi.specs.declared.types.ColorSpace.TheVariants.{Srgb}
 use Rattle.qoi.specs.declared.types.Style.{Style}
+use Rattle.qoi.specs.declared.types.Style.TheVariants.{Reference, Places, Tight}
 use Rattle.qoi.specs.declared.header.Header.{Header}
 use Rattle.qoi.specs.declared.chunk.Chunk.{Chunk}
 use Rattle.qoi.specs.declared.chunk.Chunk.TheVariants.{Place}
@@ -15,6 +16,7 @@ use Rattle.qoi.specs.Qoi.{channels_number, channels_of, colorspace_number, pixel
 use Rattle.qoi.specs.Raw.{pixels_of}
 use Rattle.qoi.specs.Written.{Written}
 use Rattle.qoi.specs.Styles.{WrittenIn}
+use Rattle.qoi.specs.Tight.{floor0}
 use Rattle.qoi.specs.Regular.{Regular, Begins}
 use Rattle.qoi.specs.Shortest.{floor, slack}
 use Rattle.qoi.specs.Decoding.{DecodesFile, file_byte_count}
@@ -95,16 +97,27 @@ pub record IsNearShortest (h : Header) (raw bytes : List ℕ) : Type 0 where
       → length bytes ≤ length (file h others)
   pub all_regular : AllByRecursion (λ p. p ≢ blank) (image_pixels h raw) → (others : List Chunk) → Spans h raw others → Regular others
 
--- as long as the file of the list of `Written`
-pub record IsAsLong (h : Header) (raw bytes : List ℕ) : Type 0 where
-  pub cs : List Chunk
-  pub written : Written (image_pixels h raw) cs
-  pub length_is : length bytes ≡ length (file h cs)
+-- Styles Reference and Places: the list is regular, and the file as long as that of the list of `Written`.
+pub record IsAsReference (style : Style) (h : Header) (raw bytes : List ℕ) : Type 0 where
+  pub regular : (cs : List Chunk) → WrittenIn style (image_pixels h raw) cs → Regular cs
+  pub list : List Chunk
+  pub written : Written (image_pixels h raw) list
+  pub as_long : length bytes ≡ length (file h list)
 
--- The file of the image in a style, which is near the shortest and as long as that of style Reference, and whose list
--- is regular.
+-- Style Tight: the list has just the bytes of the floor where any index position may be named, and no list of the image
+-- at all, regular or not, has fewer.
+pub record IsShortest (h : Header) (raw bytes : List ℕ) : Type 0 where
+  pub floor0_is : length bytes ≡ 22 + floor0 (image_pixels h raw)
+  pub shortest : (others : List Chunk) → Spans h raw others → length bytes ≤ length (file h others)
+
+-- how short the file is in a style
+abbrev pub IsShortIn : Style → Header → List ℕ → List ℕ → Type 0
+IsShortIn Reference h raw bytes = IsAsReference Reference h raw bytes
+IsShortIn Places h raw bytes = IsAsReference Places h raw bytes
+IsShortIn Tight h raw bytes = IsShortest h raw bytes
+
+-- The file of the image in a style: it is near the shortest, and in style Tight the shortest.
 pub record IsFileOf (style : Style) (h : Header) (raw bytes : List ℕ) : Type 0 where
   pub is_file : IsFileBy (WrittenIn style) h raw bytes
   pub near_shortest : IsNearShortest h raw bytes
-  pub regular : (cs : List Chunk) → WrittenIn style (image_pixels h raw) cs → Regular cs
-  pub as_long : IsAsLong h raw bytes
+  pub short : IsShortIn style h raw bytes

@@ -3,9 +3,10 @@ use Rattle.std.specs.Prelude.{◌≡◌, ℕ, Bool, true, false, not, ◌==◌, 
 use Rattle.qoi.specs.declared.chunk.Chunk.{Chunk}
 use Rattle.qoi.specs.declared.chunk.Chunk.TheVariants.{Place, Run}
 use Rattle.qoi.specs.declared.types.Style.{Style}
-use Rattle.qoi.specs.declared.types.Style.TheVariants.{Reference, Places}
+use Rattle.qoi.specs.declared.types.Style.TheVariants.{Reference, Places, Tight}
 use Rattle.qoi.specs.Qoi.{RgbaPixel, Past, previous, hash, then_chunk}
-use Rattle.qoi.specs.Written.{fresh, Written}
+use Rattle.qoi.specs.Written.{fresh, IsChoice, WrittenBy}
+use Rattle.qoi.specs.Tight.{IsTightChoice}
 
 -- the chunk is a run
 abbrev pub is_run : Chunk → Bool
@@ -46,13 +47,20 @@ abbrev pub placed_after : Past → Option Chunk → List Chunk → List Chunk
 placed_after past before [] = []
 placed_after past before (c ∷ cs) = place_for past before c cs ∷ placed_after (then_chunk past c) (Some c) cs
 
--- the written list, as a style has it
+-- how a style has each fresh pixel given
+abbrev pub choice_in : Style → Past → RgbaPixel → Chunk → Type 0
+choice_in Reference = IsChoice
+choice_in Places = IsChoice
+choice_in Tight = IsTightChoice
+
+-- the list of these choices, as a style has it
 abbrev pub in_style : Style → List Chunk → List Chunk
 in_style Reference cs = cs
 in_style Places cs = placed_after [] None cs
+in_style Tight cs = cs
 
 -- the chunk list that is written for an image in a style
 pub record WrittenIn (style : Style) (image : List RgbaPixel) (cs : List Chunk) : Type 0 where
   pub list : List Chunk
-  pub written : Written image list
+  pub written : WrittenBy (choice_in style) image list
   pub is : cs ≡ in_style style list

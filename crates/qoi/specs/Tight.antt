@@ -4,7 +4,7 @@ use Rattle.std.specs.List.{find, list_any, range_with_len}
 use Rattle.qoi.specs.declared.chunk.Chunk.{Chunk}
 use Rattle.qoi.specs.declared.chunk.Chunk.TheVariants.{Place}
 use Rattle.qoi.specs.Qoi.{RgbaPixel, Past, pixel_eq, blank, positions, seen, hash}
-use Rattle.qoi.specs.Written.{IsFirst, WrittenBy}
+use Rattle.qoi.specs.Written.{IsFirst}
 use Rattle.qoi.specs.Shortest.{least, total_cost}
 
 -- the first pixel, and each that differs from the pixel before it
@@ -27,10 +27,6 @@ pub record IsTightChoice (past : Past) (p : RgbaPixel) (c : Chunk) : Type 0 wher
   pub place : seen (kept past) (hash p) ≡ p → c ≡ Place (hash p)
   pub unseen : seen (kept past) (hash p) ≢ p → p ≡ blank → MatchOption (least_unseen past) (IsFirst past p c) (λ i. c ≡ Place i)
   pub spelled : seen (kept past) (hash p) ≢ p → p ≢ blank → IsFirst past p c
-
--- the tight chunk list of an image
-abbrev pub WrittenTight : List RgbaPixel → List Chunk → Type 0
-WrittenTight image cs = WrittenBy IsTightChoice image cs
 
 -- the bytes of the shortest chunk that gives the fresh pixel p, where any index position may be named
 unfoldable pub least0 : Past → RgbaPixel → ℕ

@@ -2,7 +2,7 @@
 //! array of previously seen pixels).
 ghost use Rattle.std.specs.Prelude.{◌≡◌, ◌<◌, [], ◌∷◌};
 ghost use Rattle.qoi.specs.Qoi.{Past, hash, seen};
-ghost use Rattle.qoi.specs.inner.Table.{Holds};
+ghost use Rattle.qoi.specs.inner.Table.{Holds, first_blank};
 
 use crate::packed::Packed;
 use std::marker::Model;
@@ -52,5 +52,19 @@ impl Table {
         ensures { (past : Past) → Holds self.old past → Holds self.new (px ∷ past) }
     {
         self.pixels[place as usize] = px;
+    }
+
+    /// The least index position that holds transparent black, if there is one.
+    pub(crate) fn first_blank(&self) -> Option<u8>
+        ensures { (past : Past) → Holds self.now past → result ≡ first_blank past }
+    {
+        let mut place = 0;
+        while place < 64 {
+            if self.at(place).is_same(Packed::blank()) {
+                return Some(place);
+            }
+            place += 1;
+        }
+        None
     }
 }

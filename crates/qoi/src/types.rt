@@ -165,4 +165,9 @@ pub enum Style {
     /// directly behind is an index position, unless the chunk before it is that position. The file
     /// is as long.
     Places,
+    /// As `Reference`, but opaque black that opens the image is put at its index position, too, and
+    /// transparent black that isn't at its position is the least position where no pixel was put,
+    /// if there is one. No other chunks of the image have fewer bytes. The decoder of the Rust crate
+    /// may read such a file of four channels otherwise.
+    Tight,
 }

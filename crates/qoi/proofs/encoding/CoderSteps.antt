@@ -12,19 +12,18 @@ use Rattle.qoi.specs.Qoi.{AreBytes, RgbaPixel, IsPixel, Past, rgba, previous, ha
 use Rattle.qoi.specs.Raw.{IsChannels, pixels_of}
 use Rattle.qoi.specs.Runs.{IsCount, runs_by}
 use Rattle.qoi.specs.inner.CoderState.{StateAfter, StyleAfter, rest_of_one}
-use Rattle.qoi.specs.Written.{IsChoice, Written}
-use Rattle.qoi.specs.Styles.{some_fresh, names, in_style, WrittenIn}
+use Rattle.qoi.specs.Written.{WrittenBy}
+use Rattle.qoi.specs.Styles.{some_fresh, names, choice_in, in_style, WrittenIn}
 use Rattle.qoi.specs.writers.Writes.{WriterLaws, WroteBut, WroteSome}
 use Rattle.qoi.proofs.format.ChunkSteps.{previous_repeats}
 use Rattle.qoi.proofs.encoding.StillToWrite.{StillToWrite, all_to_write, next_pixel, only_runs, runs_and_chunk}
 use Rattle.qoi.proofs.encoding.WriterProgress.{wrote_none, wrote_next, wrote_part, wrote_all, left_fits}
 use Rattle.qoi.proofs.decoding.FilledBuffer.{whole_pixels}
-use Rattle.qoi.proofs.encoding.CoderTable.{state_repeats}
 use Rattle.qoi.proofs.encoding.GroupRuns.{Group, group_of, none_of_few}
 use Rattle.qoi.proofs.format.RawPixels.{pixels_of_are, pixels_of_have, length-pixels_of, pixels_of-next}
-use Rattle.qoi.proofs.encoding.WrittenExists.{chooses, some_by}
-use Rattle.qoi.proofs.encoding.WrittenShape.{written_fits_lem}
-use Rattle.qoi.proofs.encoding.StyleLists.{style_length}
+use Rattle.qoi.proofs.encoding.WrittenExists.{some_by}
+use Rattle.qoi.proofs.encoding.WrittenShape.{fits_by}
+use Rattle.qoi.proofs.encoding.StyleLists.{chooses_in, style_length}
 use Rattle.qoi.proofs.encoding.StyledGroup.{styled, styled_whole, styled_runs, styled_group}
 
 -- bytes by recursion
@@ -53,7 +52,7 @@ module _ {W : Type 0} (wrote : W → List ℕ → W → Type 0) (room : W → �
   pub record Writing (next more : List ℕ) (buf : W) : Type 0 where
     pub task : Task
     pub list : List Chunk
-    pub written : Written (pixels_of n bytes) list
+    pub written : WrittenBy (choice_in style) (pixels_of n bytes) list
     pub went : WroteBut wrote start (text (in_style style list)) (next ++ more) buf
 
   -- Between two groups: the pixels of `rest` are still to come, and the chunks `todo` are still to be written, as the
@@ -63,10 +62,10 @@ module _ {W : Type 0} (wrote : W → List ℕ → W → Type 0) (room : W → �
     pub before : Option Chunk
     pub todo : List Chunk
     pub writing : Writing [] (text (styled style past before todo)) buf
-    pub to_write : StillToWrite IsChoice (pixels_of n bytes) writing.list past (pixels_of n rest) todo
+    pub to_write : StillToWrite (choice_in style) (pixels_of n bytes) writing.list past (pixels_of n rest) todo
     pub whole : length rest % n ≡ 0
     pub within : length rest ≤ length bytes
-    pub state : StateAfter past table last
+    pub state : StateAfter style past table last
     pub style_state : StyleAfter past before place begun placed
 
   -- Once the repeats are counted: they stand ahead as a group.
@@ -80,7 +79,7 @@ module _ {W : Type 0} (wrote : W → List ℕ → W → Type 0) (room : W → �
     pub between : {now : W} → wrote buf (bytes_of chunk) now → CoderBetween after table last place begun placed now
 
 -- the written list in a style
-abbrev written_in : (style : Style) {image : List RgbaPixel} {list : List Chunk} → Written image list → WrittenIn style image (in_style style list)
+abbrev written_in : (style : Style) {image : List RgbaPixel} {list : List Chunk} → WrittenBy (choice_in style) image list → WrittenIn style image (in_style style list)
 written_in style {list = list} w = record { list = list; written = w; is = refl }
 
 module _ {W : Type 0} {wrote : W → List ℕ → W → Type 0} {room : W → ℕ} {style : Style} {n : ℕ} {bytes : List ℕ} {start : W} where
@@ -91,7 +90,7 @@ module _ {W : Type 0} {wrote : W → List ℕ → W → Type 0} {room : W → �
         let task = w.task in
         let size : length bytes ≡ n * (length bytes / n) = whole_pixels n (length bytes) task.channels task.whole in
         let count : length (pixels_of n bytes) ≡ length bytes / n = length-pixels_of n (length bytes / n) bytes task.channels size in
-        let fits = written_fits_lem (pixels_of n bytes) n (length bytes / n) w.list (pixels_of_have n bytes task.channels) count w.written in
+        let fits = fits_by (choice_in style) (chooses_in style).rgba_first (pixels_of n bytes) n (length bytes / n) w.list (pixels_of_have n bytes task.channels) count w.written in
         let same = style_length style (pixels_of n bytes) (in_style style w.list) (written_in style w.written) in
         let list_fits : length (text (in_style style w.list)) ≤ room start = omega (arith, fits, same, task.enough, size, mul_comm (length bytes / n) n) in
         omega (arith, left_fits wrote room task.laws start buf (text (in_style style w.list)) (next ++ more) w.went list_fits, length-append next more)
@@ -114,10 +113,10 @@ module _ {W : Type 0} {wrote : W → List ℕ → W → Type 0} {room : W → �
   all_went {now = now} w went = (in_style style w.list, written_in style w.written, wrote_all wrote room w.task.laws start now (text (in_style style w.list)) (next_went w {piece = []} went refl).went)
 
   -- before the first pixel
-  pub coder_starts : {table : List RgbaPixel} {last : RgbaPixel} {place : ℕ} {begun placed : Bool} → Task wrote room style n bytes start → StateAfter [] table last → StyleAfter [] None place begun placed → CoderBetween wrote room style n bytes start bytes table last place begun placed start
+  pub coder_starts : {table : List RgbaPixel} {last : RgbaPixel} {place : ℕ} {begun placed : Bool} → Task wrote room style n bytes start → StateAfter style [] table last → StyleAfter [] None place begun placed → CoderBetween wrote room style n bytes start bytes table last place begun placed start
   coder_starts task state style_state =
       let are : AllByRecursion IsPixel (pixels_of n bytes) = pixels_of_are n bytes task.channels (all_bytes bytes task.are) in
-      let list = some_by IsChoice chooses (pixels_of n bytes) are in
+      let list = some_by (choice_in style) (chooses_in style) (pixels_of n bytes) are in
       record {
         past = [];
         before = None;
@@ -128,7 +127,7 @@ module _ {W : Type 0} {wrote : W → List ℕ → W → Type 0} {room : W → �
           written = list.1;
           went = subst (λ x. WroteBut wrote start (text (in_style style list.0)) (text x) start) (styled_whole style list.0) (wrote_none wrote room task.laws start (text (in_style style list.0)));
         };
-        to_write = all_to_write IsChoice chooses (pixels_of n bytes) list.0 list.1 are;
+        to_write = all_to_write (choice_in style) (chooses_in style) (pixels_of n bytes) list.0 list.1 are;
         whole = task.whole;
         within = omega arith;
         state = state;
@@ -145,8 +144,8 @@ module _ {W : Type 0} {wrote : W → List ℕ → W → Type 0} {room : W → �
     others = pixels_of n (drop (n * count) rest)
 
     -- the group stands ahead
-    group_ahead : StillToWrite IsChoice (pixels_of n bytes) a.between.writing.list a.between.past (replicate count (previous a.between.past) ++ others) a.between.todo
-    group_ahead = subst (λ x. StillToWrite IsChoice (pixels_of n bytes) a.between.writing.list a.between.past x a.between.todo) (a.group.pixels ∙ ap (λ p. replicate count p ++ others) a.between.state.last_is) a.between.to_write
+    group_ahead : StillToWrite (choice_in style) (pixels_of n bytes) a.between.writing.list a.between.past (replicate count (previous a.between.past) ++ others) a.between.todo
+    group_ahead = subst (λ x. StillToWrite (choice_in style) (pixels_of n bytes) a.between.writing.list a.between.past x a.between.todo) (a.group.pixels ∙ ap (λ p. replicate count p ++ others) a.between.state.last_is) a.between.to_write
 
     -- the pixel behind it is another
     other_ahead : slice_get others 0 ≢ Some (previous a.between.past)
@@ -163,7 +162,7 @@ module _ {W : Type 0} {wrote : W → List ℕ → W → Type 0} {room : W → �
           let none : length behind ≡ 0 = eqb-true (length behind) 0 (sym test) in
           let few = by_channels (λ k. length behind < k) (omega arith) (omega arith) n a.between.writing.task.channels in
           let ends : others ≡ [] = ap (pixels_of n) (sym back) ∙ none_of_few n behind a.between.writing.task.channels few in
-          let todo = only_runs IsChoice chooses _ _ _ count others _ group_ahead ends in
+          let todo = only_runs (choice_in style) (chooses_in style) _ _ _ count others _ group_ahead ends in
           chunks_first (runs_by (Run 1) count) [] (ap (styled style a.between.past a.between.before) todo ∙ styled_runs style a.between.past a.between.before count ∙ sym (append-nil (runs_by (Run 1) count)))
 
       -- where some are, there is a whole pixel
@@ -209,37 +208,38 @@ module _ {W : Type 0} {wrote : W → List ℕ → W → Type 0} {room : W → �
           record Behind (chunk : Chunk) : Type 0 where
             left : List Chunk
             runs : Writing wrote room style n bytes start (text (runs_by one count)) (bytes_of chunk ++ text (styled style (px ∷ end) (Some chunk) left)) buf
-            to_write : StillToWrite IsChoice (pixels_of n bytes) runs.list (px ∷ end) (pixels_of n after) left
+            to_write : StillToWrite (choice_in style) (pixels_of n bytes) runs.list (px ∷ end) (pixels_of n after) left
 
           -- they are to be written next
-          behind_chunk : (chunk : Chunk) → IsChunk chunk → IsChoice end px chunk → Behind chunk
+          behind_chunk : (chunk : Chunk) → IsChunk chunk → choice_in style end px chunk → Behind chunk
           behind_chunk chunk is chosen =
               let e = a.between in
-              let left = runs_and_chunk IsChoice chooses _ _ _ count others _ group_ahead px _ chunk pixel_ahead is_fresh is chosen in
+              let left = runs_and_chunk (choice_in style) (chooses_in style) _ _ _ count others _ group_ahead px _ chunk pixel_ahead is_fresh is chosen in
               let single_is : rest_of_one style (some_fresh e.past) (names e.before (hash (previous e.past))) (hash (previous e.past)) count ≡ one = rw (sym e.style_state.begun_is, sym e.style_state.placed_is, sym e.style_state.place_is) (sym single) in
               let todo =
               ap (styled style e.past e.before) left.1
-              ∙ styled_group style e.past e.before count px chunk left.0 (chooses.no_run end px chunk chosen) (chooses.gives end px chunk chosen)
+              ∙ styled_group style e.past e.before count px chunk left.0 ((chooses_in style).no_run end px chunk chosen) ((chooses_in style).gives end px chunk chosen)
               ∙ ap (λ x. runs_by x count ++ chunk ∷ styled style (px ∷ end) (Some chunk) left.0) single_is in
               record { left = left.0; runs = chunks_first (runs_by one count) (chunk ∷ styled style (px ∷ end) (Some chunk) left.0) todo; to_write = left.2 }
 
           -- its runs are next, whichever chunk is chosen
           pub runs_ahead : (left : List ℕ) × Writing wrote room style n bytes start (text (runs_by one count)) left buf
           runs_ahead =
-              let c = chooses.some end px before_there (next_pixel IsChoice chooses _ _ _ count others _ group_ahead px _ pixel_ahead) fresh_there in
+              let c = (chooses_in style).some end px before_there (next_pixel (choice_in style) (chooses_in style) _ _ _ count others _ group_ahead px _ pixel_ahead) fresh_there in
               let b = behind_chunk c.0 c.1 c.2 in
               (bytes_of c.0 ++ text (styled style (px ∷ end) (Some c.0) b.left), b.runs)
 
-          -- its chunk is chosen once the runs are written
-          pub at_fresh : {flushed : W} {chunk : Chunk} {next_table : List RgbaPixel} {next_last : RgbaPixel} {next_place : ℕ} {next_begun next_placed : Bool}
+          -- its chunk is chosen once the runs are written and the repeats have come
+          pub at_fresh : {flushed : W} {chunk : Chunk} {mid_table next_table : List RgbaPixel} {mid_last next_last : RgbaPixel} {next_place : ℕ} {next_begun next_placed : Bool}
               → wrote buf (text (runs_by one count)) flushed → IsChunk chunk
-              → ((past : Past) → IsPixel (previous past) → px ≢ previous past → StateAfter past table last → IsChoice past px chunk)
-              → ((past : Past) → px ≢ previous past → StateAfter past table last → StateAfter (px ∷ past) next_table next_last)
-              → ((past : Past) → IsPixel (previous past) → px ≢ previous past → StateAfter past table last → StyleAfter (px ∷ past) (Some chunk) next_place next_begun next_placed)
+              → ((past : Past) → StateAfter style past table last → StateAfter style (replicate count (previous past) ++ past) mid_table mid_last)
+              → ((past : Past) → IsPixel (previous past) → px ≢ previous past → StateAfter style past mid_table mid_last → choice_in style past px chunk)
+              → ((past : Past) → px ≢ previous past → StateAfter style past mid_table mid_last → StateAfter style (px ∷ past) next_table next_last)
+              → ((past : Past) → IsPixel (previous past) → px ≢ previous past → StateAfter style past mid_table mid_last → StyleAfter (px ∷ past) (Some chunk) next_place next_begun next_placed)
               → AtFresh wrote room style n bytes start after next_table next_last next_place next_begun next_placed chunk flushed
-          at_fresh {chunk = chunk} went is choice state style_state =
+          at_fresh {chunk = chunk} {mid_table = mid_table} {mid_last = mid_last} went is repeated choice state style_state =
               let e = a.between in
-              let still : StateAfter end table last = state_repeats count e.past table last e.state in
+              let still : StateAfter style end mid_table mid_last = repeated e.past e.state in
               let b = behind_chunk chunk is (choice end before_there fresh_there still) in
               let left = text (styled style (px ∷ end) (Some chunk) b.left) in
               let next : Writing wrote room style n bytes start (bytes_of chunk) left _ = next_went b.runs went refl in

@@ -4,7 +4,7 @@ use Rattle.std.proofs.lemmas.Bool.{lt-ltb}
 use Rattle.qoi.specs.declared.chunk.Chunk.{Chunk}
 use Rattle.qoi.specs.declared.chunk.Chunk.TheVariants.{Place, Diff, Luma, Run, Rgb, Rgba}
 use Rattle.qoi.specs.declared.types.Style.{Style}
-use Rattle.qoi.specs.declared.types.Style.TheVariants.{Reference, Places}
+use Rattle.qoi.specs.declared.types.Style.TheVariants.{Reference, Places, Tight}
 use Rattle.qoi.specs.Qoi.{RgbaPixel, Past, previous, hash, pixel_of, then_chunk}
 use Rattle.qoi.specs.Runs.{last_run, runs, last_by, runs_by}
 use Rattle.qoi.specs.Styles.{is_run, fresh_next, has_pixel, some_fresh, names, place_for, placed_after, in_style}
@@ -17,11 +17,13 @@ use Rattle.qoi.proofs.encoding.GroupRuns.{not_one}
 abbrev pub styled : Style → Past → Option Chunk → List Chunk → List Chunk
 styled Reference past before cs = cs
 styled Places past before cs = placed_after past before cs
+styled Tight past before cs = cs
 
 -- before the first pixel that is the whole list
 pub styled_whole : (style : Style) (cs : List Chunk) → in_style style cs ≡ styled style [] None cs
 styled_whole Reference cs = refl
 styled_whole Places cs = refl
+styled_whole Tight cs = refl
 
 -- a single rest by a run of 1
 pub last_by_run : (n : ℕ) → last_by (Run 1) n ≡ last_run n
@@ -121,6 +123,7 @@ pub styled_group : (style : Style) (past : Past) (before : Option Chunk) (n : �
     → styled style past before (runs n ++ c ∷ left) ≡ runs_by (rest_of_one style (some_fresh past) (names before (hash (previous past))) (hash (previous past)) n) n ++ c ∷ styled style (p ∷ (replicate n (previous past) ++ past)) (Some c) left
 unfolding runs runs_by
 styled_group Reference past before n p c left other gives = ap (λ x. x ++ c ∷ left) (sym (runs_by_run n))
+styled_group Tight past before n p c left other gives = ap (λ x. x ++ c ∷ left) (sym (runs_by_run n))
 styled_group Places past before n p c left other gives =
     let q = previous past in
     let k = n / 62 in

@@ -6,12 +6,13 @@ use Rattle.qoi.specs.declared.chunk.Chunk.{Chunk}
 use Rattle.qoi.specs.declared.chunk.Chunk.TheVariants.{Place, Rgba}
 use Rattle.qoi.specs.Qoi.{RgbaPixel, IsPixel, Past, pixel_eq, blank, positions, previous, seen, hash, IsChunk, pixel_of}
 use Rattle.qoi.specs.Written.{IsFirst}
-use Rattle.qoi.specs.Styles.{is_run}
+use Rattle.qoi.specs.Styles.{is_run, names}
 use Rattle.qoi.specs.Tight.{kept, is_unseen, least_unseen, IsTightChoice}
+use Rattle.qoi.specs.inner.Table.{first_blank}
 use Rattle.qoi.proofs.format.SamePixels.{cases_pixel, hash_below, pixel_eq-from, pixel_eq-ne}
 use Rattle.qoi.proofs.encoding.NotedPixels.{seen_same, seen_other}
 use Rattle.qoi.proofs.encoding.Choices.{Chooses}
-use Rattle.qoi.proofs.encoding.WrittenExists.{first_some, spells_other}
+use Rattle.qoi.proofs.encoding.WrittenExists.{first_some, spells_other, spells_no_place}
 use Rattle.qoi.proofs.encoding.WrittenOnce.{first_unique}
 
 -- what is kept at an index position is what is seen there
@@ -132,6 +133,47 @@ by_tight P past p c w f g h =
     go n b (Some i) e m =
         let is : c ≡ Place i = subst (λ o. MatchOption o (IsFirst past p c) (λ i. c ≡ Place i)) e m in
         subst (P past p) (sym is) (g i (λ x. n (seen_kept past (hash p) ∙ x)) b e)
+
+-- a pixel that isn't seen at its index position isn't given by it
+pub tight_no_place : (past : Past) (p : RgbaPixel) (c : Chunk) → seen past (hash p) ≢ p → IsTightChoice past p c → names (Some c) (hash p) ≡ false
+tight_no_place past p c differs w =
+    by_tight (λ past p c. names (Some c) (hash p) ≡ false) past p c w
+    (λ e. absurd (differs e))
+    (λ i n b e. ne_eqb i (hash p) (λ at. n (ap (seen past) (sym at) ∙ unseen_blank past i (unseen_found past i e).0 ∙ sym b)))
+    (λ n o f. spells_no_place c (hash p) f.spells)
+
+-- where transparent black isn't seen at its own index position, it is seen just where no pixel was put
+blank_unseen : (past : Past) (i : ℕ) → seen past (hash blank) ≢ blank → pixel_eq (seen past i) blank ≡ is_unseen past i
+blank_unseen past i differs = go (is_unseen past i) refl
+  where
+    put_there : (is_unseen past i ≡ true) ⊎ (hash (seen past i) ≡ i) → is_unseen past i ≡ false → seen past i ≢ blank
+    put_there (inl e) f b = true≢false (sym e ∙ f)
+    put_there (inr h) f b = differs (ap (seen past) (ap hash (sym b) ∙ h) ∙ b)
+
+    go : (t : Bool) → is_unseen past i ≡ t → pixel_eq (seen past i) blank ≡ t
+    go true e = pixel_eq-from (seen past i) blank (unseen_blank past i e)
+    go false e = pixel_eq-ne (seen past i) blank (put_there (unseen_or past i) e)
+
+-- so the first such position is the least where no pixel was put
+first_unseen : (past : Past) → seen past (hash blank) ≢ blank → first_blank past ≡ least_unseen past
+unfolding first_blank least_unseen
+first_unseen past differs = λ i. find (λ j. blank_unseen past j differs i) (range_with_len 0 positions)
+
+-- it is the choice for transparent black that isn't seen at its position
+pub blank_chosen : (past : Past) (i : ℕ) → seen past (hash blank) ≢ blank → Some i ≡ first_blank past → IsTightChoice past blank (Place i)
+blank_chosen past i differs found = record {
+  place = λ e. absurd (differs (sym (seen_kept past (hash blank)) ∙ e));
+  unseen = λ _ _. subst (λ o. MatchOption o (IsFirst past blank (Place i)) (λ j. Place i ≡ Place j)) (found ∙ first_unseen past differs) refl;
+  spelled = λ _ n. absurd (n refl);
+}
+
+-- and where there is none, and for each other pixel that isn't seen, that is the first chunk that spells it out
+pub spelled_chosen : (past : Past) (p : RgbaPixel) (c : Chunk) → seen past (hash p) ≢ p → (p ≡ blank → None ≡ first_blank past) → IsFirst past p c → IsTightChoice past p c
+spelled_chosen past p c differs none f = record {
+  place = λ e. absurd (differs (sym (seen_kept past (hash p)) ∙ e));
+  unseen = λ _ b. subst (λ o. MatchOption o (IsFirst past p c) (λ j. c ≡ Place j)) (none b ∙ first_unseen past (λ e. differs (ap (λ q. seen past (hash q)) b ∙ e ∙ sym b))) f;
+  spelled = λ _ _. f;
+}
 
 -- it is one
 tight_unique : (past : Past) (p : RgbaPixel) (c d : Chunk) → IsChunk c → IsChunk d → IsTightChoice past p c → IsTightChoice past p d → c ≡ d

@@ -1,5 +1,5 @@
 -- Each image has a written list, whatever the choice of a chunk for a fresh pixel, if there is one for each.
-use Rattle.std.proofs.Common.{◌≡◌, ◌≢◌, ◌⊎◌, inl, inr, ℕ, suc, ◌<◌, false, List, [], ◌∷◌, ◌++◌, reverse, replicate, refl, sym, ap, ◌∙◌, subst, subst₂, append_assoc, append-nil, arith}
+use Rattle.std.proofs.Common.{◌≡◌, ◌≢◌, ◌⊎◌, inl, inr, ℕ, suc, ◌<◌, false, List, [], ◌∷◌, ◌++◌, reverse, replicate, Some, refl, sym, ap, ◌∙◌, subst, subst₂, append_assoc, append-nil, arith}
 use Rattle.std.proofs.lemmas.List.{reverse-append}
 use Rattle.std.proofs.lemmas.Bool.{cases_lt, cases_eq}
 use Rattle.std.specs.List.{AllByRecursion}
@@ -11,7 +11,7 @@ use Rattle.qoi.specs.Written.{noted, rank, IsFirst, IsChoice, WrittenBy, Written
 use Rattle.qoi.proofs.format.SamePixels.{cases_pixel, hash_below}
 use Rattle.qoi.proofs.encoding.NotedPixels.{noted_seen}
 use Rattle.qoi.proofs.encoding.Spelled.{FitsDiff, FitsLuma, plus_2, plus_8, plus_32, diff_byte, luma_byte, luma_second, diff_chunk, luma_chunk, first_diff, first_luma, first_rgb, first_rgba}
-use Rattle.qoi.specs.Styles.{is_run}
+use Rattle.qoi.specs.Styles.{is_run, names}
 use Rattle.qoi.proofs.format.ChunkSteps.{previous_repeats}
 use Rattle.qoi.proofs.encoding.WrittenGrows.{TakesRun, chunks_split, written_none, written_runs, written_fresh}
 use Rattle.qoi.proofs.encoding.Choices.{Chooses}
@@ -83,6 +83,15 @@ spells_other (Luma d e) h = refl
 spells_other (Rgb r g b) h = refl
 spells_other (Rgba r g b a) h = refl
 
+-- nor an index position
+pub spells_no_place : (c : Chunk) (i : ℕ) → 0 < rank c → names (Some c) i ≡ false
+spells_no_place (Place j) i h = absurd (omega arith)
+spells_no_place (Diff d) i h = refl
+spells_no_place (Luma d e) i h = refl
+spells_no_place (Run n) i h = refl
+spells_no_place (Rgb r g b) i h = refl
+spells_no_place (Rgba r g b a) i h = refl
+
 -- the chosen chunk of a fresh pixel gives it
 choice_gives : (past : Past) (p : RgbaPixel) (c : Chunk) → IsChoice past p c → pixel_of past c ≡ p
 choice_gives past p c w = elim (cases_pixel (noted past (hash p)) p) as (λ _. pixel_of past c ≡ p) [
@@ -141,7 +150,3 @@ module _ (Choice : Past → RgbaPixel → Chunk → Type 0) (choices : Chooses C
   -- an image has a written list
   pub some_by : (image : List RgbaPixel) → AllByRecursion IsPixel image → (cs : List Chunk) × WrittenBy Choice image cs
   some_by image are = written_on image [] 0 [] (written_none Choice) (λ n. (tt, tt)) is_pixel_start are
-
--- an image has a written list
-pub written_some : (image : List RgbaPixel) → AllByRecursion IsPixel image → (cs : List Chunk) × Written image cs
-written_some image are = some_by IsChoice chooses image are

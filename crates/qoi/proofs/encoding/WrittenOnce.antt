@@ -151,7 +151,3 @@ choice_unique past p c d ic id f g =
       | inl is ↦ f.place is ∙ sym (g.place is)
       | inr differs ↦ first_unique past p c d ic id (f.spelled differs) (g.spelled differs)
     ]
-
--- an image has one written list
-pub written_unique : (image : List RgbaPixel) (cs ds : List Chunk) → Written image cs → Written image ds → cs ≡ ds
-written_unique image cs ds w v = unique_by IsChoice choice_unique image cs ds w v

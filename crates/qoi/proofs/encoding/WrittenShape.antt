@@ -108,7 +108,3 @@ choice_rgba past r g b a w = elim (cases_pixel (noted past (hash (pixel_of past 
   | inl is ↦ absurd (let e = w.place is in cc)
   | inr n ↦ w.spelled n
 ]
-
--- the written list has at most a byte a pixel more than the raw bytes
-pub written_fits_lem : (image : List RgbaPixel) (channels n : ℕ) (cs : List Chunk) → HasChannels image channels → length image ≡ n → Written image cs → length (text cs) ≤ n * channels + n
-written_fits_lem image channels n cs h e w = fits_by IsChoice choice_rgba image channels n cs h e w

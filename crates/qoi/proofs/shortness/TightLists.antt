@@ -1,18 +1,18 @@
 -- No chunk list at all is shorter than the tight one.
-use Rattle.std.proofs.Common.{◌≡◌, ◌≢◌, ◌⊎◌, inl, inr, ◌+◌, ◌≤◌, true, false, ◌&&◌, List, [], ◌∷◌, length, None, is_some, refl, sym, ap, ◌∙◌, append-nil, arith}
+use Rattle.std.proofs.Common.{◌≡◌, ◌≢◌, ◌⊎◌, inl, inr, ℕ, ◌+◌, ◌≤◌, true, false, ◌&&◌, List, [], ◌∷◌, length, reverse, None, is_some, refl, sym, ap, ◌∙◌, append-nil, arith}
 use Rattle.std.proofs.lemmas.Bool.{cond-true, cond-false, cond_both, and_from}
 use Rattle.qoi.specs.declared.chunk.Chunk.{Chunk}
 use Rattle.qoi.specs.declared.chunk.Chunk.TheVariants.{Place, Diff, Luma, Run, Rgb, Rgba}
-use Rattle.qoi.specs.Qoi.{RgbaPixel, Past, pixel_eq, blank, seen, hash, IsChunk, AreChunks, pixel_of, bytes_of, text, then_chunk, meaning, Each}
+use Rattle.qoi.specs.Qoi.{RgbaPixel, Past, pixel_eq, blank, previous, seen, hash, IsChunk, AreChunks, pixel_of, bytes_of, text, then_chunk, meaning, Each}
 use Rattle.qoi.specs.Raw.{HasChannels}
 use Rattle.qoi.specs.Regular.{Begins}
-use Rattle.qoi.specs.Shortest.{least}
-use Rattle.qoi.specs.Written.{GivesFresh, IsRightAfter}
+use Rattle.qoi.specs.Shortest.{least, cost, total_cost, floor}
+use Rattle.qoi.specs.Written.{GivesFresh, IsRightAfter, WrittenBy}
 use Rattle.qoi.specs.Styles.{is_run}
-use Rattle.qoi.specs.Tight.{is_unseen, least_unseen, IsTightChoice, WrittenTight, least0, floor0}
+use Rattle.qoi.specs.Tight.{is_unseen, least_unseen, IsTightChoice, least0, floor0}
 use Rattle.qoi.proofs.format.SamePixels.{cases_pixel, pixel_eq-from, pixel_eq-ne}
 use Rattle.qoi.proofs.encoding.TightChoice.{unseen_blank, unseen_or, unseen_some, by_tight}
-use Rattle.qoi.proofs.shortness.Costs.{least_low, least_seen}
+use Rattle.qoi.proofs.shortness.Costs.{least_low, least_seen, cost_fresh, cost_repeat}
 use Rattle.qoi.proofs.shortness.Lower.{least_bounds, lower_by}
 use Rattle.qoi.proofs.shortness.Upper.{first_least, upper_by}
 
@@ -72,8 +72,21 @@ tight_cost past c k h o g r =
     k
 
 -- so the tight list has just as many bytes
-pub tight_exact : (image : List RgbaPixel) (cs : List Chunk) → WrittenTight image cs → length (text cs) ≡ floor0 image
+pub tight_exact : (image : List RgbaPixel) (cs : List Chunk) → WrittenBy IsTightChoice image cs → length (text cs) ≡ floor0 image
 tight_exact image cs w =
     let u = upper_by least0 IsTightChoice (λ past. 0) (λ past p. omega arith) 4 tight_cost image cs (inl refl) w in
     let l = lower0 image cs w.chunks ([], w.means ∙ sym (append-nil image)) in
     omega arith
+
+-- where a pixel's shortest chunk is no longer, pixels cost no more
+costs_less : (s t : Past → RgbaPixel → ℕ) → ((past : Past) (p : RgbaPixel) → s past p ≤ t past p) → (past : Past) → total_cost s past ≤ total_cost t past
+costs_less s t less [] = omega arith
+costs_less s t less (p ∷ past) = let one = go (cases_pixel p (previous past)) in let more = costs_less s t less past in omega arith
+  where
+    go : (p ≡ previous past) ⊎ (p ≢ previous past) → cost s past p ≤ cost t past p
+    go (inl e) = rw (cost_repeat s past p e, cost_repeat t past p e) (omega arith)
+    go (inr n) = rw (cost_fresh s past p n, cost_fresh t past p n) (less past p)
+
+-- so the floor isn't higher than for regular lists
+pub floor0_high : (image : List RgbaPixel) → floor0 image ≤ floor image
+floor0_high image = costs_less least0 least least0_high (reverse image)

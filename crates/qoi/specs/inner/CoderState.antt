@@ -3,15 +3,21 @@ use Rattle.std.specs.Prelude.{◌≡◌, ℕ, Bool, not, ◌&&◌, ◌||◌, nat
 use Rattle.qoi.specs.declared.chunk.Chunk.{Chunk}
 use Rattle.qoi.specs.declared.chunk.Chunk.TheVariants.{Place, Run}
 use Rattle.qoi.specs.declared.types.Style.{Style}
-use Rattle.qoi.specs.declared.types.Style.TheVariants.{Reference, Places}
+use Rattle.qoi.specs.declared.types.Style.TheVariants.{Reference, Places, Tight}
 use Rattle.qoi.specs.Qoi.{RgbaPixel, Past, previous, hash}
 use Rattle.qoi.specs.Written.{fresh}
 use Rattle.qoi.specs.Styles.{some_fresh, names}
 use Rattle.qoi.specs.inner.Table.{Holds}
 
--- what a coder keeps after these pixels: the table of the fresh ones, and the last pixel
-pub record StateAfter (past : Past) (table : List RgbaPixel) (last : RgbaPixel) : Type 0 where
-  pub table_is : Holds table (fresh past)
+-- the pixels that a coder puts at their index positions: the fresh ones, or in style Tight as good as all of them
+abbrev pub held_in : Style → Past → Past
+held_in Reference past = fresh past
+held_in Places past = fresh past
+held_in Tight past = past
+
+-- what a coder keeps after these pixels: the table of those that it puts there, and the last pixel
+pub record StateAfter (style : Style) (past : Past) (table : List RgbaPixel) (last : RgbaPixel) : Type 0 where
+  pub table_is : Holds table (held_in style past)
   pub last_is : last ≡ previous past
 
 -- what a coder keeps for a style after these pixels and this chunk: the last pixel's index position, whether a fresh
@@ -24,4 +30,5 @@ pub record StyleAfter (past : Past) (before : Option Chunk) (place : ℕ) (begun
 -- the chunk of a rest of 1 of a group of n repeats of the pixel of this place, where a fresh pixel follows
 abbrev pub rest_of_one : Style → Bool → Bool → ℕ → ℕ → Chunk
 rest_of_one Reference begun placed place n = Run 1
+rest_of_one Tight begun placed place n = Run 1
 rest_of_one Places begun placed place n = if begun && (nat_lt 1 n || not placed) then Place place else Run 1

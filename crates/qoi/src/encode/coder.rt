@@ -1,14 +1,16 @@
 //! The coder: the chunks of an image's pixels, a group of repeats and the fresh pixel behind it at a
 //! time (QOI specification 1.0, "Data" and "Chunks").
-ghost use Rattle.std.specs.Prelude.{◌≡◌, ◌≢◌, ℕ, ◌+◌, ◌/◌, ◌%◌, ◌<◌, ◌≤◌, List, [], ◌∷◌, Option, None, Some, length, OnOk, IfErr};
+ghost use Rattle.std.specs.Prelude.{◌≡◌, ◌≢◌, ℕ, ◌+◌, ◌/◌, ◌%◌, ◌<◌, ◌≤◌, ◌↔◌, IsTrue, List, [], ◌∷◌, ◌++◌, Option, None, Some, length, replicate, OnOk, IfErr};
 ghost use Rattle.qoi.specs.declared.chunk.Chunk.{Chunk};
-ghost use Rattle.qoi.specs.Qoi.{Past, IsPixel, positions, previous, IsChunk, text, channels_number};
+ghost use Rattle.qoi.specs.Qoi.{Past, IsPixel, positions, previous, seen, hash, IsChunk, text, channels_number};
 ghost use Rattle.qoi.specs.Raw.{IsChannels, pixels_of};
 ghost use Rattle.qoi.specs.Runs.{runs_by};
-ghost use Rattle.qoi.specs.Written.{IsChoice};
-ghost use Rattle.qoi.specs.Styles.{names, WrittenIn};
+ghost use Rattle.qoi.specs.Written.{IsFirst};
+ghost use Rattle.qoi.specs.Tight.{IsTightChoice};
+ghost use Rattle.qoi.specs.Styles.{names, choice_in, WrittenIn};
 ghost use Rattle.qoi.specs.writers.Writes.{WroteSome};
 ghost use Rattle.qoi.specs.inner.CoderState.{StateAfter, StyleAfter, rest_of_one};
+ghost use Rattle.qoi.specs.inner.Table.{Holds};
 
 use crate::error::Result;
 use crate::packed::{Packed, pick};
@@ -36,7 +38,7 @@ struct Coder {
 impl Coder {
     // Before the first pixel: transparent black at each index position, and opaque black.
     fn new() -> Coder
-        ensures state { StateAfter [] result.table result.last }
+        ensures state { (style : Style) → StateAfter style [] result.table result.last }
         ensures style { StyleAfter [] None result.place result.begun result.placed }
     {
         let table = Table::new();
@@ -59,35 +61,70 @@ impl Coder {
     {
         let named = self.begun & ((count > 1) | !self.placed);
         match style {
-            Style::Reference => PackedChunk::run(1),
+            Style::Reference | Style::Tight => PackedChunk::run(1),
             Style::Places => pick(named, PackedChunk::place(self.place), PackedChunk::run(1)),
         }
     }
 
-    // The chunk of a fresh pixel: its index position if it stands there, else the first chunk that
-    // spells it out. It then stands there, and is the last pixel.
+    // So many repeats of the last pixel came. In style `Tight` they are put at its index position, too,
+    // which tells only of those that open the image: any other pixel stands there already.
     #[inline(always)]
-    fn choose(&mut self, px: Packed) -> PackedChunk
+    fn repeat(&mut self, style: Style, count: usize)
+        requires { self.old.place ≡ hash self.old.last }
+        ensures state { (past : Past) → StateAfter style past self.old.table self.old.last
+            → StateAfter style (replicate count (previous past) ++ past)
+            self.new.table self.new.last }
+    {
+        if style == Style::Tight && count > 0 {
+            self.table.put(self.place, self.last);
+        }
+    }
+
+    // In style `Tight`, how a pixel is given that doesn't stand at its index position: transparent black
+    // by the least position where no pixel was put, if there is one, and else as it is spelled out.
+    #[inline(always)]
+    fn unkept(&self, px: Packed, placed: bool, spelled: PackedChunk) -> PackedChunk
+        ensures chunk { IsChunk result }
+        ensures choice { (past : Past) → Holds self.now.table past
+            → (IsTrue placed ↔ (seen past (hash px) ≡ px)) → seen past (hash px) ≢ px
+            → IsFirst past px spelled → IsTightChoice past px result }
+    {
+        if px.is_same(Packed::blank()) & !placed {
+            if let Some(place) = self.table.first_blank() {
+                return PackedChunk::place(place);
+            }
+        }
+        spelled
+    }
+
+    // The chunk of a fresh pixel, as the style has it: its index position if it stands there, or else
+    // mostly the first chunk that spells it out. It then stands there, and is the last pixel.
+    #[inline(always)]
+    fn choose(&mut self, style: Style, px: Packed) -> PackedChunk
         ensures chunk { IsChunk result }
         ensures choice { (past : Past) → IsPixel (previous past) → px ≢ previous past
-            → StateAfter past self.old.table self.old.last → IsChoice past px result }
+            → StateAfter style past self.old.table self.old.last → choice_in style past px result }
         ensures state { (past : Past) → px ≢ previous past
-            → StateAfter past self.old.table self.old.last
-            → StateAfter (px ∷ past) self.new.table self.new.last }
+            → StateAfter style past self.old.table self.old.last
+            → StateAfter style (px ∷ past) self.new.table self.new.last }
         ensures style { (past : Past) → IsPixel (previous past) → px ≢ previous past
-            → StateAfter past self.old.table self.old.last
+            → StateAfter style past self.old.table self.old.last
             → StyleAfter (px ∷ past) (Some result) self.new.place self.new.begun self.new.placed }
     {
         let last = self.last;
         self.last = px;
         let place = px.spread().hash_index();
         let noted = self.table.at(place);
-        self.table.put(place, px);
-        let spelled = px.spelled_after(last);
         self.place = place;
         self.begun = true;
         self.placed = noted.is_same(px);
-        pick(self.placed, PackedChunk::place(place), spelled)
+        let spelled = px.spelled_after(last);
+        let other = match style {
+            Style::Reference | Style::Places => spelled,
+            Style::Tight => self.unkept(px, self.placed, spelled),
+        };
+        self.table.put(place, px);
+        pick(self.placed, PackedChunk::place(place), other)
     }
 }
 
@@ -130,7 +167,8 @@ fn encode_pixels<W: Writer, const N: usize>(buf: &mut W, style: Style, data: &[u
             return write_runs(buf, count, PackedChunk::run(1));
         }
         write_runs(buf, count, coder.rest_of_one(style, count))?;
-        let chunk = coder.choose(Packed::read::<N>(behind));
+        coder.repeat(style, count);
+        let chunk = coder.choose(style, Packed::read::<N>(behind));
         write_chunk(buf, chunk)?;
         let (_, after) = behind.split_at(N);
         rest = after;
@@ -160,10 +198,12 @@ pub(super) fn encode_chunks<W: Writer>(
             encode_pixels::<W, 3>(buf, Style::Reference, data)?;
         }
         (Channels::Rgb, Style::Places) => encode_pixels::<W, 3>(buf, Style::Places, data)?,
+        (Channels::Rgb, Style::Tight) => encode_pixels::<W, 3>(buf, Style::Tight, data)?,
         (Channels::Rgba, Style::Reference) => {
             encode_pixels::<W, 4>(buf, Style::Reference, data)?;
         }
         (Channels::Rgba, Style::Places) => encode_pixels::<W, 4>(buf, Style::Places, data)?,
+        (Channels::Rgba, Style::Tight) => encode_pixels::<W, 4>(buf, Style::Tight, data)?,
     }
     Ok(())
 }

@@ -6,15 +6,15 @@ ghost use Rattle.qoi.specs.declared.chunk.Chunk.{Chunk};
 ghost use Rattle.qoi.specs.declared.types.Channels.{Channels};
 ghost use Rattle.qoi.specs.declared.types.ColorSpace.{ColorSpace};
 ghost use Rattle.qoi.specs.declared.types.Style.{Style};
-ghost use Rattle.qoi.specs.declared.types.Style.TheVariants.{Reference, Places};
+ghost use Rattle.qoi.specs.declared.types.Style.TheVariants.{Reference, Places, Tight};
 ghost use Rattle.qoi.specs.declared.chunk.Chunk.TheVariants.{Place, Run, Rgb, Rgba};
 ghost use Rattle.qoi.specs.Qoi.{RgbaPixel, IsPixel, Past, blank, pixel, previous, text, file, Reaches, meaning};
 ghost use Rattle.qoi.specs.Encoded.{max_len};
 ghost use Rattle.qoi.specs.Raw.{IsChannels, output, pixels_of, HasChannels};
 ghost use Rattle.qoi.specs.Regular.{Begins, Covers, Regular};
 ghost use Rattle.qoi.specs.Shortest.{floor, trailing_repeats, slack, total_cost};
-ghost use Rattle.qoi.specs.Tight.{WrittenTight, floor0};
-ghost use Rattle.qoi.specs.Written.{Written};
+ghost use Rattle.qoi.specs.Tight.{IsTightChoice, floor0};
+ghost use Rattle.qoi.specs.Written.{WrittenBy, Written};
 ghost use Rattle.qoi.specs.Styles.{in_style, WrittenIn};
 
 /// An image has exactly one written list in each style.
@@ -26,14 +26,16 @@ pub fn written_is_one()
 {}
 
 /// In style `Reference` that is the list of `Written`; in style `Places` it is that list with some runs
-/// of 1 replaced, and as long.
+/// of 1 replaced, and as long; in style `Tight` it is the list of the tight choices.
 pub fn styles_are_written()
     ensures reference { (image : List RgbaPixel) (cs : List Chunk) → Written image cs
         ↔ WrittenIn Reference image cs }
     ensures places { (image : List RgbaPixel) (cs : List Chunk) → Written image cs
         → WrittenIn Places image (in_style Places cs) }
-    ensures as_long { (style : Style) (image : List RgbaPixel) (cs ds : List Chunk)
-        → Written image cs → WrittenIn style image ds → length (text ds) ≡ length (text cs) }
+    ensures as_long { (image : List RgbaPixel) (cs ds : List Chunk) → Written image cs
+        → WrittenIn Places image ds → length (text ds) ≡ length (text cs) }
+    ensures tight { (image : List RgbaPixel) (cs : List Chunk) → WrittenBy IsTightChoice image cs
+        ↔ WrittenIn Tight image cs }
 {}
 
 /// The lists of style `Places` for the written lists of a few images.
@@ -90,9 +92,10 @@ pub fn written_reaches()
         → WrittenIn style image cs → length image ≡ n → Reaches n cs }
 {}
 
-/// A list is regular if it names an index position only where a pixel was put. The written list is regular.
+/// A list is regular if it names an index position only where a pixel was put. The written list is
+/// regular in each style but `Tight`.
 pub fn written_is_regular()
-    ensures { (style : Style) (image : List RgbaPixel) (cs : List Chunk)
+    ensures { (style : Style) (image : List RgbaPixel) (cs : List Chunk) → style ≢ Tight
         → WrittenIn style image cs → Regular cs }
 {}
 
@@ -128,18 +131,14 @@ pub fn written_is_near_shortest()
         → length (text cs) ≤ length (text others) + slack image channels }
 {}
 
-/// In a tight list transparent black may be given by an index position where no pixel was put. No chunk
-/// list at all whose pixels begin with those of an image has fewer bytes than its tight list, of which
-/// there is exactly one.
+/// In style `Tight` transparent black may be given by an index position where no pixel was put. No
+/// chunk list at all whose pixels begin with those of an image has fewer bytes than the written list.
 pub fn tight_is_shortest()
-    ensures some { (image : List RgbaPixel) → AllByRecursion IsPixel image → (cs : List Chunk)
-        × WrittenTight image cs }
-    ensures one { (image : List RgbaPixel) (cs ds : List Chunk) → WrittenTight image cs
-        → WrittenTight image ds → cs ≡ ds }
-    ensures exact { (image : List RgbaPixel) (cs : List Chunk) → WrittenTight image cs
+    ensures exact { (image : List RgbaPixel) (cs : List Chunk) → WrittenIn Tight image cs
         → length (text cs) ≡ floor0 image }
-    ensures shortest { (image : List RgbaPixel) (cs others : List Chunk) → WrittenTight image cs
+    ensures shortest { (image : List RgbaPixel) (cs others : List Chunk) → WrittenIn Tight image cs
         → Covers image others → length (text cs) ≤ length (text others) }
+    ensures floors { (image : List RgbaPixel) → floor0 image ≤ floor image }
 {}
 
 /// What the tight lists of a few images cost.
