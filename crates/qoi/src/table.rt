@@ -1,7 +1,7 @@
 //! The 64 index positions and the pixels that they hold (QOI specification 1.0, "Chunks": the running
 //! array of previously seen pixels).
-ghost use Rattle.std.specs.Prelude.{◌≡◌, ◌<◌, [], ◌∷◌};
-ghost use Rattle.qoi.specs.Qoi.{Past, hash, seen};
+ghost use Rattle.std.specs.Prelude.{◌≡◌, ◌<◌, [], ◌∷◌, IfSome};
+ghost use Rattle.qoi.specs.Qoi.{Past, positions, hash, seen};
 ghost use Rattle.qoi.specs.inner.Table.{Holds, first_blank};
 
 use crate::packed::Packed;
@@ -56,7 +56,8 @@ impl Table {
 
     /// The least index position that holds transparent black, if there is one.
     pub(crate) fn first_blank(&self) -> Option<u8>
-        ensures { (past : Past) → Holds self.now past → result ≡ first_blank past }
+        ensures below { IfSome result (λ place. place < positions) }
+        ensures first { (past : Past) → Holds self.now past → result ≡ first_blank past }
     {
         let mut place = 0;
         while place < 64 {

@@ -1,5 +1,5 @@
 -- The table of a coder, and the chunk that is chosen by it.
-use Rattle.std.proofs.Common.{◌≡◌, ◌≢◌, ◌↔◌, ℕ, zero, suc, ◌<◌, Bool, true, false, IsTrue, if◌then◌else◌, List, ◌∷◌, ◌++◌, replicate, Some, refl, sym, ap, ◌∙◌, subst, arith}
+use Rattle.std.proofs.Common.{◌≡◌, ◌≢◌, ◌↔◌, ◌⊎◌, inl, inr, ℕ, zero, suc, ◌<◌, Bool, true, false, IsTrue, if◌then◌else◌, List, ◌∷◌, ◌++◌, replicate, Some, refl, sym, ap, ◌∙◌, subst, arith}
 use Rattle.std.proofs.lemmas.Bool.{eq-eqb}
 use Rattle.qoi.specs.declared.chunk.Chunk.{Chunk}
 use Rattle.qoi.specs.declared.chunk.Chunk.TheVariants.{Place}
@@ -17,12 +17,6 @@ use Rattle.qoi.proofs.encoding.NotedPixels.{fresh_repeat, fresh_more}
 use Rattle.qoi.proofs.encoding.TightChoice.{seen_kept, tight_no_place}
 use Rattle.qoi.proofs.encoding.WrittenExists.{spells_no_place}
 
--- by this chunk a style gives a fresh pixel that doesn't stand at its index position
-abbrev pub GivesOther : Style → Past → RgbaPixel → Chunk → Type 0
-GivesOther Reference past p c = IsFirst past p c
-GivesOther Places past p c = IsFirst past p c
-GivesOther Tight past p c = seen past (hash p) ≢ p → IsTightChoice past p c
-
 -- a fresh pixel that stands at its index position is given by it
 place_chosen : (style : Style) (past : Past) (p : RgbaPixel) → seen (held_in style past) (hash p) ≡ p → choice_in style past p (Place (hash p))
 place_chosen Reference past p is = record { place = λ _. refl; spelled = λ other. absurd (other is) }
@@ -31,17 +25,48 @@ place_chosen Tight past p is =
     let kept_there = seen_kept past (hash p) ∙ is in
     record { place = λ _. refl; unseen = λ other. absurd (other kept_there); spelled = λ other. absurd (other kept_there) }
 
--- any other by the other chunk
-other_chosen : (style : Style) (past : Past) (p : RgbaPixel) (c : Chunk) → seen (held_in style past) (hash p) ≢ p → GivesOther style past p c → choice_in style past p c
-other_chosen Reference past p c differs first = record { place = λ is. absurd (differs is); spelled = λ _. first }
-other_chosen Places past p c differs first = record { place = λ is. absurd (differs is); spelled = λ _. first }
-other_chosen Tight past p c differs other = other differs
+-- any other is spelled out where index positions of fresh pixels alone are named
+pub spelled_out : (style : Style) (past : Past) (p : RgbaPixel) (c : Chunk) → (style ≡ Reference) ⊎ (style ≡ Places) → IsFirst past p c → seen (held_in style past) (hash p) ≢ p → choice_in style past p c
+spelled_out style past p c (inl is) first differs = let d = rw is at differs in rw is (record { place = λ e. absurd (d e); spelled = λ _. first })
+spelled_out style past p c (inr is) first differs = let d = rw is at differs in rw is (record { place = λ e. absurd (d e); spelled = λ _. first })
 
--- either chunk, as the test says whether it stands there
-pub chosen : (style : Style) (past : Past) (px at : RgbaPixel) (i : ℕ) (same : Bool) (c : Chunk) → i ≡ hash px → at ≡ seen (held_in style past) i → (IsTrue same ↔ (at ≡ px)) → GivesOther style past px c → choice_in style past px (if same then Place i else c)
-chosen style past px at i true c place is same other = rw place (place_chosen style past px (ap (seen (held_in style past)) (sym place) ∙ sym is ∙ same.0 refl))
-chosen style past px at i false c place is same other =
-    other_chosen style past px c (λ found. let no : false ≡ true = same.1 (is ∙ ap (seen (held_in style past)) place ∙ found) in cc) other
+-- any other isn't given by its index position
+other_place : (style : Style) (past : Past) (p : RgbaPixel) (c : Chunk) → seen (held_in style past) (hash p) ≢ p → choice_in style past p c → names (Some c) (hash p) ≡ false
+other_place Reference past p c differs w = spells_no_place c (hash p) (w.spelled differs).spells
+other_place Places past p c differs w = spells_no_place c (hash p) (w.spelled differs).spells
+other_place Tight past p c differs w = tight_no_place past p c differs w
+
+module _ (style : Style) (past : Past) (px at : RgbaPixel) (i : ℕ) (place : i ≡ hash px) (is : at ≡ seen (held_in style past) i) where
+  -- what stands there
+  there : at ≡ seen (held_in style past) (hash px)
+  there = is ∙ ap (seen (held_in style past)) place
+
+  -- the test whether it is the pixel
+  pub test_there : (same : Bool) → (IsTrue same ↔ (at ≡ px)) → IsTrue same ↔ (seen (held_in style past) (hash px) ≡ px)
+  test_there same test = (λ t. sym there ∙ test.0 t, λ e. test.1 (there ∙ e))
+
+  -- it isn't
+  not_there : (IsTrue false ↔ (at ≡ px)) → seen (held_in style past) (hash px) ≢ px
+  not_there test e = absurd (let no : false ≡ true = test.1 (there ∙ e) in cc)
+
+  -- either chunk is chosen, as the test says
+  pub chosen : (same : Bool) (c : Chunk) → (IsTrue same ↔ (at ≡ px)) → (seen (held_in style past) (hash px) ≢ px → choice_in style past px c) → choice_in style past px (if same then Place i else c)
+  chosen true c test other = rw place (place_chosen style past px (sym there ∙ test.0 refl))
+  chosen false c test other = other (not_there test)
+
+  -- whether the chunk names the fresh pixel's index position is that test
+  names_chosen : (same : Bool) (c : Chunk) → (IsTrue same ↔ (at ≡ px)) → (seen (held_in style past) (hash px) ≢ px → choice_in style past px c) → same ≡ names (Some (if same then Place i else c)) (hash px)
+  names_chosen true c test other = sym (eq-eqb i (hash px) place)
+  names_chosen false c test other = sym (other_place style past px c (not_there test) (other (not_there test)))
+
+  -- so it is kept
+  pub style_put : (same : Bool) (c : Chunk) → px ≢ previous past → (IsTrue same ↔ (at ≡ px)) → (seen (held_in style past) (hash px) ≢ px → choice_in style past px c)
+      → StyleAfter (px ∷ past) (Some (if same then Place i else c)) i true same
+  style_put same c differs test other = record {
+    place_is = place;
+    begun_is = sym (ap has_pixel (fresh_more past px differs));
+    placed_is = names_chosen same c test other;
+  }
 
 -- a fresh pixel is put at its index position
 pub state_put : (style : Style) (past : Past) (old table : List RgbaPixel) (last px : RgbaPixel) → px ≢ previous past → StateAfter style past old last → ((seen : Past) → Holds old seen → Holds table (px ∷ seen)) → StateAfter style (px ∷ past) table px
@@ -61,17 +86,10 @@ fresh_repeats (suc k) past = fresh_repeat (replicate k (previous past) ++ past) 
 repeats_stay : (n : ℕ) (past : Past) (table : List RgbaPixel) → Holds table (fresh past) → Holds table (fresh (replicate n (previous past) ++ past))
 repeats_stay n past table holds = subst (λ x. Holds table x) (sym (fresh_repeats n past)) holds
 
--- repeats that aren't put: there are none, or the style has the fresh pixels alone
-pub state_unput : (style : Style) (n : ℕ) (past : Past) (table : List RgbaPixel) (last : RgbaPixel) → (style ≡ Tight → n ≡ 0) → StateAfter style past table last → StateAfter style (replicate n (previous past) ++ past) table last
-state_unput style n past table last none s = record {
-  table_is = go style none s.table_is;
-  last_is = s.last_is ∙ sym (previous_repeats n past);
-}
-  where
-    go : (style : Style) → (style ≡ Tight → n ≡ 0) → Holds table (held_in style past) → Holds table (held_in style (replicate n (previous past) ++ past))
-    go Reference none h = repeats_stay n past table h
-    go Places none h = repeats_stay n past table h
-    go Tight none h = subst (λ k. Holds table (replicate k (previous past) ++ past)) (sym (none refl)) h
+-- repeats that aren't put, where the fresh pixels alone are
+pub state_unput : (style : Style) (n : ℕ) (past : Past) (table : List RgbaPixel) (last : RgbaPixel) → (style ≡ Reference) ⊎ (style ≡ Places) → StateAfter style past table last → StateAfter style (replicate n (previous past) ++ past) table last
+state_unput style n past table last (inl is) s = rw is (record { table_is = repeats_stay n past table (rw is at s.table_is); last_is = s.last_is ∙ sym (previous_repeats n past) })
+state_unput style n past table last (inr is) s = rw is (record { table_is = repeats_stay n past table (rw is at s.table_is); last_is = s.last_is ∙ sym (previous_repeats n past) })
 
 -- repeats that are put, in style Tight
 pub state_put_again : (n : ℕ) (past : Past) (old table : List RgbaPixel) (last : RgbaPixel) → 0 < n → StateAfter Tight past old last → ((seen : Past) → Holds old seen → Holds table (last ∷ seen)) → StateAfter Tight (replicate n (previous past) ++ past) table last
@@ -79,24 +97,3 @@ state_put_again n past old table last some s puts =
     let once = seen_put table (previous past) past (subst (λ p. Holds table (p ∷ past)) s.last_is (puts past s.table_is)) in
     let all = seen_repeated table (previous past) (previous past) past n some once in
     record { table_is = all.table_is; last_is = s.last_is ∙ all.last_is }
-
--- the chunk of a pixel that doesn't stand at its index position isn't that position
-other_no_place : (style : Style) (past : Past) (p : RgbaPixel) (c : Chunk) → seen (held_in style past) (hash p) ≢ p → GivesOther style past p c → names (Some c) (hash p) ≡ false
-other_no_place Reference past p c differs first = spells_no_place c (hash p) first.spells
-other_no_place Places past p c differs first = spells_no_place c (hash p) first.spells
-other_no_place Tight past p c differs other = tight_no_place past p c differs (other differs)
-
--- whether the chunk names the fresh pixel's index position is the test whether it stood there
-names_chosen : (style : Style) (past : Past) (px at : RgbaPixel) (i : ℕ) (same : Bool) (c : Chunk) → i ≡ hash px → at ≡ seen (held_in style past) i → (IsTrue same ↔ (at ≡ px)) → GivesOther style past px c → same ≡ names (Some (if same then Place i else c)) (hash px)
-names_chosen style past px at i true c place is same other = sym (eq-eqb i (hash px) place)
-names_chosen style past px at i false c place is same other =
-    sym (other_no_place style past px c (λ found. let no : false ≡ true = same.1 (is ∙ ap (seen (held_in style past)) place ∙ found) in cc) other)
-
--- so it is kept
-pub style_put : (style : Style) (past : Past) (px at : RgbaPixel) (i : ℕ) (same : Bool) (c : Chunk) → px ≢ previous past → i ≡ hash px → at ≡ seen (held_in style past) i → (IsTrue same ↔ (at ≡ px)) → GivesOther style past px c
-    → StyleAfter (px ∷ past) (Some (if same then Place i else c)) i true same
-style_put style past px at i same c differs place is test other = record {
-  place_is = place;
-  begun_is = sym (ap has_pixel (fresh_more past px differs));
-  placed_is = names_chosen style past px at i same c place is test other;
-}

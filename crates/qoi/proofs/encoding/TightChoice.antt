@@ -160,14 +160,14 @@ unfolding first_blank least_unseen
 first_unseen past differs = λ i. find (λ j. blank_unseen past j differs i) (range_with_len 0 positions)
 
 -- it is the choice for transparent black that isn't seen at its position
-pub blank_chosen : (past : Past) (i : ℕ) → seen past (hash blank) ≢ blank → Some i ≡ first_blank past → IsTightChoice past blank (Place i)
-blank_chosen past i differs found = record {
-  place = λ e. absurd (differs (sym (seen_kept past (hash blank)) ∙ e));
-  unseen = λ _ _. subst (λ o. MatchOption o (IsFirst past blank (Place i)) (λ j. Place i ≡ Place j)) (found ∙ first_unseen past differs) refl;
-  spelled = λ _ n. absurd (n refl);
+pub blank_chosen : (past : Past) (p : RgbaPixel) (i : ℕ) → p ≡ blank → seen past (hash p) ≢ p → Some i ≡ first_blank past → IsTightChoice past p (Place i)
+blank_chosen past p i b differs found = record {
+  place = λ e. absurd (differs (sym (seen_kept past (hash p)) ∙ e));
+  unseen = λ _ _. subst (λ o. MatchOption o (IsFirst past p (Place i)) (λ j. Place i ≡ Place j)) (found ∙ first_unseen past (λ e. differs (ap (λ q. seen past (hash q)) b ∙ e ∙ sym b))) refl;
+  spelled = λ _ n. absurd (n b);
 }
 
--- and where there is none, and for each other pixel that isn't seen, that is the first chunk that spells it out
+-- where there is none, and for each other pixel that isn't seen, that is the first chunk that spells it out
 pub spelled_chosen : (past : Past) (p : RgbaPixel) (c : Chunk) → seen past (hash p) ≢ p → (p ≡ blank → None ≡ first_blank past) → IsFirst past p c → IsTightChoice past p c
 spelled_chosen past p c differs none f = record {
   place = λ e. absurd (differs (sym (seen_kept past (hash p)) ∙ e));

@@ -1,11 +1,12 @@
--- The entries of the table of index positions.
-use Rattle.std.proofs.Common.{◌≡◌, ◌≢◌, ℕ, ◌<◌, Bool, true, false, cond, eqb, eqb-true, List, ◌∷◌, [], length, get_or, slice_set, replicate, Some, refl, sym, ap, ◌∙◌, arith, get_or-set_same, get_or-set_other}
+-- The entries of the table of index positions, and the first that is transparent black.
+use Rattle.std.proofs.Common.{◌≡◌, ◌≢◌, ℕ, suc, ◌+◌, ◌-◌, ◌<◌, ◌≤◌, Bool, true, false, cond, eqb, eqb-true, List, ◌∷◌, [], length, get_or, slice_set, replicate, Option, None, Some, refl, sym, ap, ◌∙◌, arith, get_or-set_same, get_or-set_other}
+use Rattle.std.specs.List.{find, range_with_len}
 use Rattle.std.proofs.lemmas.List.{length-set, length-replicate, get_or-replicate}
-use Rattle.std.proofs.lemmas.Bool.{eqb-false}
+use Rattle.std.proofs.lemmas.Bool.{cond-true, cond-false, eqb-false}
 use Rattle.std.proofs.lemmas.Option.{slice_get-get_or}
-use Rattle.qoi.specs.Qoi.{RgbaPixel, Past, hash, blank, seen}
-use Rattle.qoi.specs.inner.Table.{Holds}
-use Rattle.qoi.proofs.format.SamePixels.{hash_below}
+use Rattle.qoi.specs.Qoi.{RgbaPixel, Past, pixel_eq, hash, blank, seen}
+use Rattle.qoi.specs.inner.Table.{Holds, first_blank}
+use Rattle.qoi.proofs.format.SamePixels.{hash_below, pixel_eq-from, pixel_eq-ne}
 
 -- an entry is what the table holds there
 pub held_at : (entries : List RgbaPixel) (past : Past) (i : ℕ) → length entries ≡ 64 → i < 64 → Holds entries past → get_or entries i blank ≡ seen past i
@@ -36,3 +37,34 @@ pub holds_put : (entries : List RgbaPixel) (p : RgbaPixel) (past : Past) (place 
 holds_put entries p past place size at holds i l = rw at (
     slice_get-get_or (slice_set entries (hash p) p) i blank (omega (arith, length-set entries (hash p) p))
     ∙ ap (λ x. Some x) (held_after entries p i size ∙ ap (cond (eqb (hash p) i) p) (held_at entries past i size l holds)))
+
+-- the first index position from k on where transparent black is seen, if there is one
+unfoldable pub blank_from : Past → ℕ → Option ℕ
+blank_from past k = find (λ i. pixel_eq (seen past i) blank) (range_with_len k (64 - k))
+
+-- from 0 on that is the first of all
+pub blank_from_start : (past : Past) → first_blank past ≡ blank_from past 0
+unfolding first_blank blank_from
+blank_from_start past = refl
+
+-- the next position is looked at, and then those behind it
+blank_from_next : (past : Past) (k : ℕ) → k < 64 → blank_from past k ≡ cond (pixel_eq (seen past k) blank) (Some k) (blank_from past (k + 1))
+unfolding blank_from
+blank_from_next past k l =
+    let more : 64 - k ≡ suc (64 - (k + 1)) = omega arith in
+    ap (λ n. find (λ i. pixel_eq (seen past i) blank) (range_with_len k n)) more
+
+-- where transparent black is seen there, it is this one
+pub blank_here : (past : Past) (k : ℕ) → k < 64 → seen past k ≡ blank → blank_from past k ≡ Some k
+blank_here past k l e = blank_from_next past k l ∙ cond-true (pixel_eq (seen past k) blank) _ _ (pixel_eq-from (seen past k) blank e)
+
+-- else it is behind it
+pub blank_behind : (past : Past) (k : ℕ) → k < 64 → seen past k ≢ blank → blank_from past k ≡ blank_from past (k + 1)
+blank_behind past k l n = blank_from_next past k l ∙ cond-false (pixel_eq (seen past k) blank) _ _ (pixel_eq-ne (seen past k) blank n)
+
+-- behind the last position there is none
+pub blank_nowhere : (past : Past) (k : ℕ) → 64 ≤ k → blank_from past k ≡ None
+unfolding blank_from
+blank_nowhere past k l =
+    let none : 64 - k ≡ 0 = omega arith in
+    ap (λ n. find (λ i. pixel_eq (seen past i) blank) (range_with_len k n)) none

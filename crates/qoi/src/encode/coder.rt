@@ -6,10 +6,9 @@ ghost use Rattle.qoi.specs.Qoi.{Past, IsPixel, positions, previous, seen, hash, 
 ghost use Rattle.qoi.specs.Raw.{IsChannels, pixels_of};
 ghost use Rattle.qoi.specs.Runs.{runs_by};
 ghost use Rattle.qoi.specs.Written.{IsFirst};
-ghost use Rattle.qoi.specs.Tight.{IsTightChoice};
 ghost use Rattle.qoi.specs.Styles.{names, choice_in, WrittenIn};
 ghost use Rattle.qoi.specs.writers.Writes.{WroteSome};
-ghost use Rattle.qoi.specs.inner.CoderState.{StateAfter, StyleAfter, rest_of_one};
+ghost use Rattle.qoi.specs.inner.CoderState.{held_in, StateAfter, StyleAfter, rest_of_one};
 ghost use Rattle.qoi.specs.inner.Table.{Holds};
 
 use crate::error::Result;
@@ -75,26 +74,39 @@ impl Coder {
             → StateAfter style (replicate count (previous past) ++ past)
             self.new.table self.new.last }
     {
-        if style == Style::Tight && count > 0 {
-            self.table.put(self.place, self.last);
+        match style {
+            Style::Reference | Style::Places => {}
+            Style::Tight => {
+                if count > 0 {
+                    self.table.put(self.place, self.last);
+                }
+            }
         }
     }
 
-    // In style `Tight`, how a pixel is given that doesn't stand at its index position: transparent black
-    // by the least position where no pixel was put, if there is one, and else as it is spelled out.
+    // How the style has a fresh pixel given that doesn't stand at its index position: by the first chunk
+    // that spells it out, but in style `Tight` transparent black by the least position where no pixel was
+    // put, if there is one.
     #[inline(always)]
-    fn unkept(&self, px: Packed, placed: bool, spelled: PackedChunk) -> PackedChunk
+    fn unkept(&self, style: Style, px: Packed, placed: bool, spelled: PackedChunk) -> PackedChunk
+        requires { IsChunk spelled }
         ensures chunk { IsChunk result }
-        ensures choice { (past : Past) → Holds self.now.table past
-            → (IsTrue placed ↔ (seen past (hash px) ≡ px)) → seen past (hash px) ≢ px
-            → IsFirst past px spelled → IsTightChoice past px result }
+        ensures choice { (past : Past) → Holds self.now.table (held_in style past)
+            → (IsTrue placed ↔ (seen (held_in style past) (hash px) ≡ px))
+            → IsFirst past px spelled → seen (held_in style past) (hash px) ≢ px
+            → choice_in style past px result }
     {
-        if px.is_same(Packed::blank()) & !placed {
-            if let Some(place) = self.table.first_blank() {
-                return PackedChunk::place(place);
+        match style {
+            Style::Reference | Style::Places => spelled,
+            Style::Tight => {
+                if px.is_same(Packed::blank()) & !placed {
+                    if let Some(place) = self.table.first_blank() {
+                        return PackedChunk::place(place);
+                    }
+                }
+                spelled
             }
         }
-        spelled
     }
 
     // The chunk of a fresh pixel, as the style has it: its index position if it stands there, or else
@@ -119,10 +131,7 @@ impl Coder {
         self.begun = true;
         self.placed = noted.is_same(px);
         let spelled = px.spelled_after(last);
-        let other = match style {
-            Style::Reference | Style::Places => spelled,
-            Style::Tight => self.unkept(px, self.placed, spelled),
-        };
+        let other = self.unkept(style, px, self.placed, spelled);
         self.table.put(place, px);
         pick(self.placed, PackedChunk::place(place), other)
     }

@@ -1,20 +1,28 @@
 -- The chunk is chosen by the table.
-use Rattle.std.proofs.Common.{true, if◌then◌else◌, ◌∷◌, Some, sym, ap, ◌∙◌, subst}
-use Rattle.qoi.specs.Qoi.{hash}
-use Rattle.qoi.specs.Written.{fresh, IsChoice}
-use Rattle.qoi.specs.inner.CoderState.{StyleAfter}
-use Rattle.qoi.proofs.encoding.CoderTable.{chosen, state_put, style_put}
+use Rattle.std.proofs.Common.{◌≡◌, ◌≢◌, true, if◌then◌else◌, ◌∷◌, Some, sym, ap, ◌∙◌, subst}
+use Rattle.qoi.specs.Qoi.{Past, IsPixel, previous, hash, seen}
+use Rattle.qoi.specs.Styles.{choice_in}
+use Rattle.qoi.specs.inner.CoderState.{held_in, StateAfter, StyleAfter}
+use Rattle.qoi.proofs.encoding.CoderTable.{test_there, chosen, state_put, style_put}
 use Rattle.qoi.proofs.encode.coder.Coder.choose.Goals as goal
 
 pub returns-clause-choice : goal.returns-clause-choice
 returns-clause-choice c past before differs state =
-    subst (IsChoice past c.args.px) (sym (c.pick.ensures ∙ (λ i. if c.is_same-self.result then c.place.ensures i else c.spelled_after-spelled.result)))
-    (chosen past c.args.px _ _ c.is_same-self.result c.spelled_after-spelled.result (c.hash_index-place.ensures.position ∙ ap hash c.spread.ensures) (c.at-noted.ensures (fresh past) state.table_is) c.is_same-self.ensures (c.spelled_after-spelled.ensures.first past before (sym state.last_is)))
+    let place = c.hash_index-place.ensures.position ∙ ap hash c.spread.ensures in
+    let held = c.at-noted.ensures (held_in c.args.style past) state.table_is in
+    let first = c.spelled_after-spelled.ensures.first past before (sym state.last_is) in
+    let other = c.unkept-other.ensures.choice past state.table_is (test_there c.args.style past c.args.px _ _ place held _ c.is_same-self.ensures) first in
+    subst (choice_in c.args.style past c.args.px) (sym (c.pick.ensures ∙ (λ i. if c.is_same-self.result then c.place.ensures i else c.unkept-other.result)))
+    (chosen c.args.style past c.args.px _ _ place held c.is_same-self.result c.unkept-other.result c.is_same-self.ensures other)
 
 pub returns-clause-state : goal.returns-clause-state
-returns-clause-state c past differs state = state_put past _ c.args.px differs (c.put.ensures (fresh past) state.table_is)
+returns-clause-state c past differs state = state_put c.args.style past _ _ _ c.args.px differs state c.put.ensures
 
 pub returns-clause-style : goal.returns-clause-style
 returns-clause-style c past before differs state =
-    subst (λ chunk. StyleAfter (c.args.px ∷ past) (Some chunk) c.hash_index-place.result true c.is_same-self.result) (sym (c.pick.ensures ∙ (λ i. if c.is_same-self.result then c.place.ensures i else c.spelled_after-spelled.result)))
-    (style_put past c.args.px _ c.is_same-self.result c.spelled_after-spelled.result differs (c.hash_index-place.ensures.position ∙ ap hash c.spread.ensures) (c.spelled_after-spelled.ensures.first past before (sym state.last_is)))
+    let place = c.hash_index-place.ensures.position ∙ ap hash c.spread.ensures in
+    let held = c.at-noted.ensures (held_in c.args.style past) state.table_is in
+    let first = c.spelled_after-spelled.ensures.first past before (sym state.last_is) in
+    let other = c.unkept-other.ensures.choice past state.table_is (test_there c.args.style past c.args.px _ _ place held _ c.is_same-self.ensures) first in
+    subst (λ chunk. StyleAfter (c.args.px ∷ past) (Some chunk) c.hash_index-place.result true c.is_same-self.result) (sym (c.pick.ensures ∙ (λ i. if c.is_same-self.result then c.place.ensures i else c.unkept-other.result)))
+    (style_put c.args.style past c.args.px _ _ place held c.is_same-self.result c.unkept-other.result differs c.is_same-self.ensures other)
