@@ -1,5 +1,5 @@
 -- The table of a coder, and the chunk that is chosen by it.
-use Rattle.std.proofs.Common.{◌≡◌, ◌≢◌, ◌↔◌, ◌⊎◌, inl, inr, ℕ, zero, suc, ◌<◌, Bool, true, false, IsTrue, if◌then◌else◌, List, ◌∷◌, ◌++◌, replicate, Some, refl, sym, ap, ◌∙◌, subst, arith}
+use Rattle.std.proofs.Common.{◌≡◌, ◌≢◌, ◌↔◌, ◌⊎◌, inl, inr, ℕ, zero, suc, ◌<◌, Bool, true, false, IsTrue, if◌then◌else◌, List, [], ◌∷◌, ◌++◌, replicate, Some, refl, sym, ap, ◌∙◌, subst}
 use Rattle.std.proofs.lemmas.Bool.{eq-eqb}
 use Rattle.qoi.specs.declared.chunk.Chunk.{Chunk}
 use Rattle.qoi.specs.declared.chunk.Chunk.TheVariants.{Place}
@@ -8,7 +8,6 @@ use Rattle.qoi.specs.declared.types.Style.TheVariants.{Reference, Places, Tight}
 use Rattle.qoi.specs.Qoi.{RgbaPixel, Past, previous, hash, seen}
 use Rattle.qoi.specs.inner.Table.{Holds}
 use Rattle.qoi.specs.Written.{fresh, IsFirst}
-use Rattle.qoi.specs.Tight.{IsTightChoice}
 use Rattle.qoi.specs.Styles.{has_pixel, names, choice_in}
 use Rattle.qoi.specs.inner.CoderState.{held_in, StateAfter, StyleAfter}
 use Rattle.qoi.proofs.format.ChunkSteps.{previous_repeats}
@@ -67,6 +66,12 @@ module _ (style : Style) (past : Past) (px at : RgbaPixel) (i : ℕ) (place : i 
     begun_is = sym (ap has_pixel (fresh_more past px differs));
     placed_is = names_chosen same c test other;
   }
+
+-- before the first pixel none is put
+pub none_held : (style : Style) (table : List RgbaPixel) → Holds table [] → Holds table (held_in style [])
+none_held Reference table h = h
+none_held Places table h = h
+none_held Tight table h = h
 
 -- a fresh pixel is put at its index position
 pub state_put : (style : Style) (past : Past) (old table : List RgbaPixel) (last px : RgbaPixel) → px ≢ previous past → StateAfter style past old last → ((seen : Past) → Holds old seen → Holds table (px ∷ seen)) → StateAfter style (px ∷ past) table px

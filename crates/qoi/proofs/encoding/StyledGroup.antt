@@ -74,6 +74,7 @@ last_stays (suc (suc r)) past before = ap (λ x. x ∷ []) (long_stays r past be
 pub styled_runs : (style : Style) (past : Past) (before : Option Chunk) (n : ℕ) → styled style past before (runs n) ≡ runs_by (Run 1) n
 unfolding runs runs_by
 styled_runs Reference past before n = sym (runs_by_run n)
+styled_runs Tight past before n = sym (runs_by_run n)
 styled_runs Places past before n =
     full_stay (n / 62) past before (last_run (n % 62))
     ∙ ap (λ x. replicate (n / 62) (Run 62) ++ x) (last_stays (n % 62) _ (before_rest before (n / 62)))

@@ -7,7 +7,7 @@ use Rattle.qoi.specs.declared.chunk.Chunk.{Chunk}
 use Rattle.qoi.specs.declared.chunk.Chunk.TheVariants.{Place, Diff, Luma, Run, Rgb, Rgba}
 use Rattle.qoi.specs.Qoi.{RgbaPixel, IsPixel, Past, previous, start, hash, IsChunk, pixel_of}
 use Rattle.qoi.specs.Runs.{runs}
-use Rattle.qoi.specs.Written.{noted, rank, IsFirst, IsChoice, WrittenBy, Written}
+use Rattle.qoi.specs.Written.{noted, rank, IsFirst, IsChoice, WrittenBy}
 use Rattle.qoi.proofs.format.SamePixels.{cases_pixel, hash_below}
 use Rattle.qoi.proofs.encoding.NotedPixels.{noted_seen}
 use Rattle.qoi.proofs.encoding.Spelled.{FitsDiff, FitsLuma, plus_2, plus_8, plus_32, diff_byte, luma_byte, luma_second, diff_chunk, luma_chunk, first_diff, first_luma, first_rgb, first_rgba}

@@ -6,7 +6,7 @@ use Rattle.qoi.specs.declared.chunk.Chunk.{Chunk}
 use Rattle.qoi.specs.declared.chunk.Chunk.TheVariants.{Place, Diff, Luma, Run, Rgb, Rgba}
 use Rattle.qoi.specs.Qoi.{RgbaPixel, Past, previous, start, seen, hash, IsChunk, AreChunks, bytes_of, text, pixel_of, times, then_chunk, then_chunks, meaning, Each, Reaches}
 use Rattle.qoi.specs.Raw.{AreOpaque, HasChannels}
-use Rattle.qoi.specs.Written.{noted, IsFirst, IsChoice, IsRightAfter, WrittenBy, Written}
+use Rattle.qoi.specs.Written.{noted, IsFirst, IsChoice, IsRightAfter, WrittenBy}
 use Rattle.qoi.proofs.format.SamePixels.{cases_pixel, same_pixel}
 use Rattle.qoi.proofs.format.ChunkSteps.{times_some, then_chunks_given, length-then_chunks, given, meaning_given, each_back}
 use Rattle.qoi.proofs.encoding.WrittenGrows.{all_back, all_reverse}

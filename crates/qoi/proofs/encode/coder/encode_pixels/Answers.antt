@@ -1,7 +1,7 @@
 -- A group and the fresh pixel behind it at a time.
-use Rattle.std.proofs.Common.{ℕ, List, refl, arith, sym, subst, drop, length, ◌≤◌, OnOk, IfErr}
+use Rattle.std.proofs.Common.{ℕ, List, refl, arith, sym, ap, ◌∙◌, subst, drop, length, ◌≤◌, OnOk, IfErr}
 use Rattle.std.proofs.lemmas.Result.{err_from_is_err_and}
-use Rattle.qoi.specs.Qoi.{text}
+use Rattle.qoi.specs.Qoi.{hash, text}
 use Rattle.qoi.specs.Runs.{runs_by}
 use Rattle.qoi.specs.writers.Writes.{WroteSome}
 use Rattle.qoi.proofs.Results.{on_ok_map, if_err_map}
@@ -13,7 +13,7 @@ use Rattle.qoi.proofs.encode.coder.encode_pixels.Goals as goal
 pub loop-behind-init : goal.loop-behind-init
 loop-behind-init g c =
     let new = c.new-coder.ensures in
-    coder_starts (record { laws = g.met.W.Writer.laws; channels = c.requires.channels; are = λ i. omega (arith, c.type_inv.data i); whole = c.requires.whole; enough = c.requires.room }) new.state new.style
+    coder_starts (record { laws = g.met.W.Writer.laws; channels = c.requires.channels; are = λ i. omega (arith, c.type_inv.data i); whole = c.requires.whole; enough = c.requires.room }) (new.state c.args.style) new.style
 
 pub overflow_mul-count : goal.overflow_mul-count
 overflow_mul-count g c = omega (arith, (at_group c.loop-behind.invariant c.repeats_of-count.ensures).group.within)
@@ -51,11 +51,14 @@ returns-in_err-write_runs-clause-refused g c =
     let p = err_from_is_err_and c.from_residual.result c.from_residual.ensures.1 in
     rw (p.1, p.2) (next_part (runs g (goal.at.returns-in_err-write_runs-clause-refused g c).After-rest_of_one).1 c.in_err-write_runs.ensures.refused)
 
+pub repeat-requires : goal.repeat-requires
+repeat-requires g c = let b = c.loop-behind.invariant in b.style_state.place_is ∙ ap hash (sym b.state.last_is)
+
 -- what stands once the chunk of the fresh pixel is chosen
 fresh : (g : Over) (c : After-choose-chunk g) → AtFresh g.W.Writer.wrote g.W.Writer.room c.args.style g.row.N c.args.data.now c.args.buf.now (drop g.row.N c.split_at.result.1.now) c.choose-chunk.new.self.table c.choose-chunk.new.self.last c.choose-chunk.new.self.place c.choose-chunk.new.self.begun c.choose-chunk.new.self.placed c.choose-chunk.result c.write_runs-in-loop-behind.new.buf
 fresh g c =
     let chosen = c.choose-chunk.ensures in
-    at_fresh (at_group c.loop-behind.invariant c.repeats_of-count.ensures) c.split_at.ensures.back (pixel_behind (at_group c.loop-behind.invariant c.repeats_of-count.ensures) c.split_at.ensures.back c.if-is_empty.ensures) c.read.ensures c.rest_of_one.ensures.one c.in_ok-write_runs.ensures.written chosen.chunk chosen.choice chosen.state chosen.style
+    at_fresh (at_group c.loop-behind.invariant c.repeats_of-count.ensures) c.split_at.ensures.back (pixel_behind (at_group c.loop-behind.invariant c.repeats_of-count.ensures) c.split_at.ensures.back c.if-is_empty.ensures) c.read.ensures c.rest_of_one.ensures.one c.in_ok-write_runs.ensures.written chosen.chunk c.repeat.ensures.state chosen.choice chosen.state chosen.style
 
 pub write_chunk-requires-clause-room : goal.write_chunk-requires-clause-room
 write_chunk-requires-clause-room g c = next_fits (fresh g (goal.at.write_chunk-requires-clause-room g c).After-choose-chunk).next.1

@@ -1,6 +1,6 @@
 -- Position after position is looked at.
-use Rattle.std.proofs.Common.{refl, sym, arith, ◌∙◌, ◌≡◌, ◌≢◌}
-use Rattle.qoi.specs.Qoi.{Past, blank, seen}
+use Rattle.std.proofs.Common.{sym, ◌∙◌, ◌≡◌, ◌≢◌}
+use Rattle.qoi.specs.Qoi.{blank, seen}
 use Rattle.qoi.proofs.format.TableHolds.{blank_from_start, blank_here, blank_behind, blank_nowhere}
 use Rattle.qoi.proofs.table.Table.first_blank.Goals as goal
 

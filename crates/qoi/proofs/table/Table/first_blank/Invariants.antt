@@ -1,5 +1,5 @@
 -- The first is none of those before the place.
-use Rattle.std.proofs.Common.{◌≡◌, ◌-◌, ◌≤◌}
+use Rattle.std.proofs.Common.{◌≡◌, ◌-◌}
 use Rattle.qoi.specs.Qoi.{Past}
 use Rattle.qoi.specs.inner.Table.{Holds, first_blank}
 use Rattle.qoi.proofs.format.TableHolds.{blank_from}

@@ -1,8 +1,8 @@
 -- The chunk is chosen by the table.
-use Rattle.std.proofs.Common.{◌≡◌, ◌≢◌, true, if◌then◌else◌, ◌∷◌, Some, sym, ap, ◌∙◌, subst}
-use Rattle.qoi.specs.Qoi.{Past, IsPixel, previous, hash, seen}
+use Rattle.std.proofs.Common.{true, if◌then◌else◌, ◌∷◌, Some, sym, ap, ◌∙◌, subst}
+use Rattle.qoi.specs.Qoi.{hash}
 use Rattle.qoi.specs.Styles.{choice_in}
-use Rattle.qoi.specs.inner.CoderState.{held_in, StateAfter, StyleAfter}
+use Rattle.qoi.specs.inner.CoderState.{held_in, StyleAfter}
 use Rattle.qoi.proofs.encoding.CoderTable.{test_there, chosen, state_put, style_put}
 use Rattle.qoi.proofs.encode.coder.Coder.choose.Goals as goal
 

@@ -10,6 +10,6 @@ returns-in-Reference c = record { state = λ past s. state_unput c.args.style c.
 pub returns-then-count-gt0 : goal.returns-then-count-gt0
 returns-then-count-gt0 c = record {
   state = λ past s.
-  let tight : StateAfter Tight past c.args.self.now.table c.args.self.now.last = rw c.in-Tight.is at s in
-  rw c.in-Tight.is (state_put_again c.args.count past c.args.self.now.table c.put.new.self c.args.self.now.last c.if-count-gt0.true tight c.put.ensures);
+      let tight : StateAfter Tight past c.args.self.now.table c.args.self.now.last = rw c.in-Tight.is at s in
+      rw c.in-Tight.is (state_put_again c.args.count past c.args.self.now.table c.put.new.self c.args.self.now.last c.if-count-gt0.true tight c.put.ensures);
 }

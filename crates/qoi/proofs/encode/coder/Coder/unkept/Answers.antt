@@ -1,7 +1,7 @@
 -- Transparent black by the first position that holds it, or else as it is spelled out.
 use Rattle.std.proofs.Common.{◌≡◌, ◌≢◌, ◌&&◌, Bool, true, false, not, IsTrue, sym, ◌∙◌, subst}
 use Rattle.std.proofs.lemmas.Bool.{and_parts, true≢false}
-use Rattle.qoi.specs.Qoi.{Past, seen, hash}
+use Rattle.qoi.specs.Qoi.{seen, hash}
 use Rattle.qoi.specs.Tight.{IsTightChoice}
 use Rattle.qoi.proofs.encoding.CoderTable.{spelled_out}
 use Rattle.qoi.proofs.encoding.TightChoice.{blank_chosen, spelled_chosen}
