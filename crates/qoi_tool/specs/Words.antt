@@ -6,7 +6,7 @@ use Rattle.qoi.specs.declared.types.Channels.TheVariants.{Rgb, Rgba}
 use Rattle.qoi.specs.declared.types.ColorSpace.{ColorSpace}
 use Rattle.qoi.specs.declared.types.ColorSpace.TheVariants.{Srgb, Linear}
 use Rattle.qoi.specs.declared.types.Style.{Style}
-use Rattle.qoi.specs.declared.types.Style.TheVariants.{Reference, Places}
+use Rattle.qoi.specs.declared.types.Style.TheVariants.{Reference, Places, Tight}
 use Rattle.qoi_tool.specs.declared.command.Command.{Command}
 use Rattle.qoi_tool.specs.declared.command.Command.TheVariants.{Decode, DecodeInto, Encode, Info}
 
@@ -28,6 +28,7 @@ space_words Linear = codes "linear" ∷ []
 abbrev pub style_words : Style → List (List ℕ)
 style_words Reference = []
 style_words Places = codes "places" ∷ []
+style_words Tight = codes "tight" ∷ []
 
 -- the words ask for the command
 abbrev pub Asks : List (List ℕ) → Command → Type 0

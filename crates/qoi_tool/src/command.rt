@@ -76,6 +76,7 @@ fn style_of(options: &[String]) -> Option<Style>
     match options {
         [] => Some(Style::Reference),
         [option] if option.as_str() == "places" => Some(Style::Places),
+        [option] if option.as_str() == "tight" => Some(Style::Tight),
         _ => None,
     }
 }

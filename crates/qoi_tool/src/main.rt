@@ -164,7 +164,7 @@ pub fn report<W: Write>(fault: &Fault, err: &mut W) -> u8
         Fault::Usage => {
             let _ = writeln!(
                 err,
-                "usage: qoi_tool dec [rgb|rgba] | enc W H [linear] [places] | info"
+                "usage: qoi_tool dec [rgb|rgba] | enc W H [linear] [places|tight] | info"
             );
             2
         }

@@ -12,7 +12,7 @@ use std::io::ErrorKind;
 use std::process::Abort;
 use std::test::Fail;
 
-const USAGE: &str = "usage: qoi_tool dec [rgb|rgba] | enc W H [linear] [places] | info\n";
+const USAGE: &str = "usage: qoi_tool dec [rgb|rgba] | enc W H [linear] [places|tight] | info\n";
 
 // The file of one pixel 0b 79 e7 in three channels.
 const ONE_RGB_PIXEL: [u8; 26] = [
@@ -35,6 +35,15 @@ const REPEAT_BYTES: [u8; 9] = [0x65, 0x66, 0x67, 0x65, 0x66, 0x67, 1, 2, 3];
 const REPEAT_BY_PLACE: [u8; 31] = [
     0x71, 0x6f, 0x69, 0x66, 0, 0, 0, 3, 0, 0, 0, 1, 3, 0, 0xfe, 0x65, 0x66, 0x67, 0x33, 0xfe, 1, 2,
     3, 0, 0, 0, 0, 0, 0, 0, 1,
+];
+
+// The raw bytes of black, (101,102,103) and black again, in three channels.
+const BLACK_BYTES: [u8; 9] = [0, 0, 0, 0x65, 0x66, 0x67, 0, 0, 0];
+
+// Their file in style `Tight`: its last chunk, the twentieth byte, is black's index position.
+const BLACK_BY_PLACE: [u8; 28] = [
+    0x71, 0x6f, 0x69, 0x66, 0, 0, 0, 3, 0, 0, 0, 1, 3, 0, 0xc0, 0xfe, 0x65, 0x66, 0x67, 0x35, 0, 0,
+    0, 0, 0, 0, 0, 1,
 ];
 
 // A header of 20,000 by 20,000 pixels in four channels, linear.
@@ -156,7 +165,7 @@ fn the_program(rt: HostRuntime) -> Result<(), Fail> {
 #[test]
 fn other_words(rt: HostRuntime) -> Result<(), Fail> {
     let alloc = rt.alloc();
-    let words: [&[&str]; 17] = [
+    let words: [&[&str]; 22] = [
         &[],
         &["de"],
         &["decode"],
@@ -172,7 +181,12 @@ fn other_words(rt: HostRuntime) -> Result<(), Fail> {
         &["enc", "3", "1", "linear", "linear"],
         &["enc", "3", "1", "places", "linear"],
         &["enc", "3", "1", "places", "places"],
+        &["enc", "3", "1", "places", "tight"],
+        &["enc", "3", "1", "tight", "linear"],
+        &["enc", "3", "1", "tight", "places"],
+        &["enc", "3", "1", "tight", "tight"],
         &["enc", "3", "1", "Places"],
+        &["enc", "3", "1", "Tight"],
         &["enc", "3", "1", "linear", "places", "x"],
     ];
     for some in words {
@@ -214,18 +228,34 @@ fn encoding(rt: HostRuntime) -> Result<(), Fail> {
 #[test]
 fn styles(rt: HostRuntime) -> Result<(), Fail> {
     let alloc = rt.alloc();
-    let mut linear = REPEAT_BY_PLACE;
-    linear[13] = 1;
+    let mut linear_places = REPEAT_BY_PLACE;
+    linear_places[13] = 1;
     let mut by_run = REPEAT_BY_PLACE;
     by_run[18] = 0xc0;
-    let files: [(&[&str], [u8; 31]); 3] = [
-        (&["enc", "3", "1"], by_run),
-        (&["enc", "3", "1", "places"], REPEAT_BY_PLACE),
-        (&["enc", "3", "1", "linear", "places"], linear),
+    let mut linear_tight = BLACK_BY_PLACE;
+    linear_tight[13] = 1;
+    let files: [(&[&str], &[u8], &[u8]); 5] = [
+        (&["enc", "3", "1"], &REPEAT_BYTES, &by_run),
+        (
+            &["enc", "3", "1", "places"],
+            &REPEAT_BYTES,
+            &REPEAT_BY_PLACE,
+        ),
+        (
+            &["enc", "3", "1", "linear", "places"],
+            &REPEAT_BYTES,
+            &linear_places,
+        ),
+        (&["enc", "3", "1", "tight"], &BLACK_BYTES, &BLACK_BY_PLACE),
+        (
+            &["enc", "3", "1", "linear", "tight"],
+            &BLACK_BYTES,
+            &linear_tight,
+        ),
     ];
-    for (words, file) in files {
-        assert_writes(&rt, alloc, words, &REPEAT_BYTES, &file)?;
-        assert_writes(&rt, alloc, &["dec"], &file, &REPEAT_BYTES)?;
+    for (words, bytes, file) in files {
+        assert_writes(&rt, alloc, words, bytes, file)?;
+        assert_writes(&rt, alloc, &["dec"], file, bytes)?;
     }
     Ok(())
 }
