@@ -230,16 +230,16 @@ module _ {W : Type 0} {wrote : W → List ℕ → W → Type 0} {room : W → �
               (bytes_of c.0 ++ text (styled style (px ∷ end) (Some c.0) b.left), b.runs)
 
           -- its chunk is chosen once the runs are written and the repeats have come
-          pub at_fresh : {flushed : W} {chunk : Chunk} {mid_table next_table : List RgbaPixel} {mid_last next_last : RgbaPixel} {next_place : ℕ} {next_begun next_placed : Bool}
+          pub at_fresh : {flushed : W} {chunk : Chunk} {mid_table next_table : List RgbaPixel} {next_last : RgbaPixel} {next_place : ℕ} {next_begun next_placed : Bool}
               → wrote buf (text (runs_by one count)) flushed → IsChunk chunk
-              → ((past : Past) → StateAfter style past table last → StateAfter style (replicate count (previous past) ++ past) mid_table mid_last)
-              → ((past : Past) → IsPixel (previous past) → px ≢ previous past → StateAfter style past mid_table mid_last → choice_in style past px chunk)
-              → ((past : Past) → px ≢ previous past → StateAfter style past mid_table mid_last → StateAfter style (px ∷ past) next_table next_last)
-              → ((past : Past) → IsPixel (previous past) → px ≢ previous past → StateAfter style past mid_table mid_last → StyleAfter (px ∷ past) (Some chunk) next_place next_begun next_placed)
+              → ((past : Past) → StateAfter style past table last → StateAfter style (replicate count (previous past) ++ past) mid_table last)
+              → ((past : Past) → IsPixel (previous past) → px ≢ previous past → StateAfter style past mid_table last → choice_in style past px chunk)
+              → ((past : Past) → px ≢ previous past → StateAfter style past mid_table last → StateAfter style (px ∷ past) next_table next_last)
+              → ((past : Past) → IsPixel (previous past) → px ≢ previous past → StateAfter style past mid_table last → StyleAfter (px ∷ past) (Some chunk) next_place next_begun next_placed)
               → AtFresh wrote room style n bytes start after next_table next_last next_place next_begun next_placed chunk flushed
-          at_fresh {chunk = chunk} {mid_table = mid_table} {mid_last = mid_last} went is repeated choice state style_state =
+          at_fresh {chunk = chunk} {mid_table = mid_table} went is repeated choice state style_state =
               let e = a.between in
-              let still : StateAfter style end mid_table mid_last = repeated e.past e.state in
+              let still : StateAfter style end mid_table last = repeated e.past e.state in
               let b = behind_chunk chunk is (choice end before_there fresh_there still) in
               let left = text (styled style (px ∷ end) (Some chunk) b.left) in
               let next : Writing wrote room style n bytes start (bytes_of chunk) left _ = next_went b.runs went refl in

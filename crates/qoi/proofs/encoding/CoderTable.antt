@@ -5,7 +5,7 @@ use Rattle.qoi.specs.declared.chunk.Chunk.{Chunk}
 use Rattle.qoi.specs.declared.chunk.Chunk.TheVariants.{Place}
 use Rattle.qoi.specs.declared.types.Style.{Style}
 use Rattle.qoi.specs.declared.types.Style.TheVariants.{Reference, Places, Tight}
-use Rattle.qoi.specs.Qoi.{RgbaPixel, Past, previous, hash, seen}
+use Rattle.qoi.specs.Qoi.{RgbaPixel, Past, start, previous, hash, seen}
 use Rattle.qoi.specs.inner.Table.{Holds}
 use Rattle.qoi.specs.Written.{fresh, IsFirst}
 use Rattle.qoi.specs.Styles.{has_pixel, names, choice_in}
@@ -68,10 +68,13 @@ module _ (style : Style) (past : Past) (px at : RgbaPixel) (i : ℕ) (place : i 
   }
 
 -- before the first pixel none is put
-pub none_held : (style : Style) (table : List RgbaPixel) → Holds table [] → Holds table (held_in style [])
-none_held Reference table h = h
-none_held Places table h = h
-none_held Tight table h = h
+pub state_none : (style : Style) (table : List RgbaPixel) (last : RgbaPixel) → Holds table [] → last ≡ start → StateAfter style [] table last
+state_none style table last holds is = record { table_is = go style; last_is = is }
+  where
+    go : (style : Style) → Holds table (held_in style [])
+    go Reference = holds
+    go Places = holds
+    go Tight = holds
 
 -- a fresh pixel is put at its index position
 pub state_put : (style : Style) (past : Past) (old table : List RgbaPixel) (last px : RgbaPixel) → px ≢ previous past → StateAfter style past old last → ((seen : Past) → Holds old seen → Holds table (px ∷ seen)) → StateAfter style (px ∷ past) table px

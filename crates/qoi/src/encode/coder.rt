@@ -2,7 +2,7 @@
 //! time (QOI specification 1.0, "Data" and "Chunks").
 ghost use Rattle.std.specs.Prelude.{◌≡◌, ◌≢◌, ℕ, ◌+◌, ◌/◌, ◌%◌, ◌<◌, ◌≤◌, ◌↔◌, IsTrue, List, [], ◌∷◌, ◌++◌, Option, None, Some, length, replicate, OnOk, IfErr};
 ghost use Rattle.qoi.specs.declared.chunk.Chunk.{Chunk};
-ghost use Rattle.qoi.specs.Qoi.{Past, IsPixel, positions, previous, seen, hash, IsChunk, text, channels_number};
+ghost use Rattle.qoi.specs.Qoi.{Past, IsPixel, start, positions, previous, seen, hash, IsChunk, text, channels_number};
 ghost use Rattle.qoi.specs.Raw.{IsChannels, pixels_of};
 ghost use Rattle.qoi.specs.Runs.{runs_by};
 ghost use Rattle.qoi.specs.Written.{IsFirst};
@@ -22,11 +22,11 @@ use crate::utils::{Writer, write_chunk};
 // The longest run of one chunk.
 const RUN_MAX: usize = 62;
 
-// The fresh pixels at the 64 index positions, the last pixel, and its index position; and whether a
-// fresh pixel came, and whether the chunk of the last one names its index position.
+// The last pixel and its index position; and whether a fresh pixel came, and whether the chunk of the
+// last one names its index position. The table of the 64 positions stands beside it: the processor keeps
+// these in registers.
 #[derive(Drop)]
 struct Coder {
-    table: Table,
     last: Packed,
     place: u8,
     begun: bool,
@@ -35,16 +35,14 @@ struct Coder {
 }
 
 impl Coder {
-    // Before the first pixel: transparent black at each index position, and opaque black.
+    // Before the first pixel: opaque black.
     fn new() -> Coder
-        ensures state { (style : Style) → StateAfter style [] result.table result.last }
+        ensures last { result.last ≡ start }
         ensures style { StyleAfter [] None result.place result.begun result.placed }
     {
-        let table = Table::new();
         let last = Packed::start();
         let place = last.spread().hash_index();
         Coder {
-            table,
             last,
             place,
             begun: false,
@@ -68,43 +66,17 @@ impl Coder {
     // So many repeats of the last pixel came. In style `Tight` they are put at its index position, too,
     // which tells only of those that open the image: any other pixel stands there already.
     #[inline(always)]
-    fn repeat(&mut self, style: Style, count: usize)
-        requires { self.old.place ≡ hash self.old.last }
-        ensures state { (past : Past) → StateAfter style past self.old.table self.old.last
-            → StateAfter style (replicate count (previous past) ++ past)
-            self.new.table self.new.last }
+    fn repeat(&self, table: &mut Table, style: Style, count: usize)
+        requires { self.now.place ≡ hash self.now.last }
+        ensures state { (past : Past) → StateAfter style past table.old self.now.last
+            → StateAfter style (replicate count (previous past) ++ past) table.new self.now.last }
     {
         match style {
             Style::Reference | Style::Places => {}
             Style::Tight => {
                 if count > 0 {
-                    self.table.put(self.place, self.last);
+                    table.put(self.place, self.last);
                 }
-            }
-        }
-    }
-
-    // How the style has a fresh pixel given that doesn't stand at its index position: by the first chunk
-    // that spells it out, but in style `Tight` transparent black by the least position where no pixel was
-    // put, if there is one.
-    #[inline(always)]
-    fn unkept(&self, style: Style, px: Packed, placed: bool, spelled: PackedChunk) -> PackedChunk
-        requires { IsChunk spelled }
-        ensures chunk { IsChunk result }
-        ensures choice { (past : Past) → Holds self.now.table (held_in style past)
-            → (IsTrue placed ↔ (seen (held_in style past) (hash px) ≡ px))
-            → IsFirst past px spelled → seen (held_in style past) (hash px) ≢ px
-            → choice_in style past px result }
-    {
-        match style {
-            Style::Reference | Style::Places => spelled,
-            Style::Tight => {
-                if px.is_same(Packed::blank()) & !placed {
-                    if let Some(place) = self.table.first_blank() {
-                        return PackedChunk::place(place);
-                    }
-                }
-                spelled
             }
         }
     }
@@ -112,28 +84,58 @@ impl Coder {
     // The chunk of a fresh pixel, as the style has it: its index position if it stands there, or else
     // mostly the first chunk that spells it out. It then stands there, and is the last pixel.
     #[inline(always)]
-    fn choose(&mut self, style: Style, px: Packed) -> PackedChunk
+    fn choose(&mut self, table: &mut Table, style: Style, px: Packed) -> PackedChunk
         ensures chunk { IsChunk result }
         ensures choice { (past : Past) → IsPixel (previous past) → px ≢ previous past
-            → StateAfter style past self.old.table self.old.last → choice_in style past px result }
+            → StateAfter style past table.old self.old.last → choice_in style past px result }
         ensures state { (past : Past) → px ≢ previous past
-            → StateAfter style past self.old.table self.old.last
-            → StateAfter style (px ∷ past) self.new.table self.new.last }
+            → StateAfter style past table.old self.old.last
+            → StateAfter style (px ∷ past) table.new self.new.last }
         ensures style { (past : Past) → IsPixel (previous past) → px ≢ previous past
-            → StateAfter style past self.old.table self.old.last
+            → StateAfter style past table.old self.old.last
             → StyleAfter (px ∷ past) (Some result) self.new.place self.new.begun self.new.placed }
     {
-        let last = self.last;
-        self.last = px;
         let place = px.spread().hash_index();
-        let noted = self.table.at(place);
+        let placed = table.at(place).is_same(px);
+        let spelled = px.spelled_after(self.last);
+        let other = unkept(table, style, px, placed, spelled);
+        table.put(place, px);
+        self.last = px;
         self.place = place;
         self.begun = true;
-        self.placed = noted.is_same(px);
-        let spelled = px.spelled_after(last);
-        let other = self.unkept(style, px, self.placed, spelled);
-        self.table.put(place, px);
-        pick(self.placed, PackedChunk::place(place), other)
+        self.placed = placed;
+        pick(placed, PackedChunk::place(place), other)
+    }
+}
+
+// How the style has a fresh pixel given that doesn't stand at its index position: by the first chunk
+// that spells it out, but in style `Tight` transparent black by the least position where no pixel was
+// put, if there is one.
+#[inline(always)]
+fn unkept(
+    table: &Table,
+    style: Style,
+    px: Packed,
+    placed: bool,
+    spelled: PackedChunk,
+) -> PackedChunk
+    requires { IsChunk spelled }
+    ensures chunk { IsChunk result }
+    ensures choice { (past : Past) → Holds table.now (held_in style past)
+        → (IsTrue placed ↔ (seen (held_in style past) (hash px) ≡ px))
+        → IsFirst past px spelled → seen (held_in style past) (hash px) ≢ px
+        → choice_in style past px result }
+{
+    match style {
+        Style::Reference | Style::Places => spelled,
+        Style::Tight => {
+            if px.is_same(Packed::blank()) & !placed {
+                if let Some(place) = table.first_blank() {
+                    return PackedChunk::place(place);
+                }
+            }
+            spelled
+        }
     }
 }
 
@@ -167,6 +169,7 @@ fn encode_pixels<W: Writer, const N: usize>(buf: &mut W, style: Style, data: &[u
         × WrittenIn style (pixels_of N «data».now) cs
         × WroteSome W.wrote buf.old (text cs) buf.new) }
 {
+    let mut table = Table::new();
     let mut coder = Coder::new();
     let mut rest = data;
     loop {
@@ -176,8 +179,8 @@ fn encode_pixels<W: Writer, const N: usize>(buf: &mut W, style: Style, data: &[u
             return write_runs(buf, count, PackedChunk::run(1));
         }
         write_runs(buf, count, coder.rest_of_one(style, count))?;
-        coder.repeat(style, count);
-        let chunk = coder.choose(style, Packed::read::<N>(behind));
+        coder.repeat(&mut table, style, count);
+        let chunk = coder.choose(&mut table, style, Packed::read::<N>(behind));
         write_chunk(buf, chunk)?;
         let (_, after) = behind.split_at(N);
         rest = after;

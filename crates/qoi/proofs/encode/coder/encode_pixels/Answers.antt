@@ -5,6 +5,7 @@ use Rattle.qoi.specs.Qoi.{hash, text}
 use Rattle.qoi.specs.Runs.{runs_by}
 use Rattle.qoi.specs.writers.Writes.{WroteSome}
 use Rattle.qoi.proofs.Results.{on_ok_map, if_err_map}
+use Rattle.qoi.proofs.encoding.CoderTable.{state_none}
 use Rattle.qoi.proofs.encoding.CoderSteps.{Writing, CoderBetween, AtFresh, next_fits, next_part, all_went, coder_starts, at_group, runs_alone, pixel_behind, runs_ahead, at_fresh}
 use Rattle.qoi.proofs.encode.coder.encode_pixels.Given.{Over}
 use Rattle.qoi.proofs.encode.coder.encode_pixels.Goals.{After-rest_of_one, After-choose-chunk}
@@ -13,7 +14,7 @@ use Rattle.qoi.proofs.encode.coder.encode_pixels.Goals as goal
 pub loop-behind-init : goal.loop-behind-init
 loop-behind-init g c =
     let new = c.new-coder.ensures in
-    coder_starts (record { laws = g.met.W.Writer.laws; channels = c.requires.channels; are = λ i. omega (arith, c.type_inv.data i); whole = c.requires.whole; enough = c.requires.room }) (new.state c.args.style) new.style
+    coder_starts (record { laws = g.met.W.Writer.laws; channels = c.requires.channels; are = λ i. omega (arith, c.type_inv.data i); whole = c.requires.whole; enough = c.requires.room }) (state_none c.args.style _ _ c.new-table.ensures new.last) new.style
 
 pub overflow_mul-count : goal.overflow_mul-count
 overflow_mul-count g c = omega (arith, (at_group c.loop-behind.invariant c.repeats_of-count.ensures).group.within)
@@ -55,7 +56,7 @@ pub repeat-requires : goal.repeat-requires
 repeat-requires g c = let b = c.loop-behind.invariant in b.style_state.place_is ∙ ap hash (sym b.state.last_is)
 
 -- what stands once the chunk of the fresh pixel is chosen
-fresh : (g : Over) (c : After-choose-chunk g) → AtFresh g.W.Writer.wrote g.W.Writer.room c.args.style g.row.N c.args.data.now c.args.buf.now (drop g.row.N c.split_at.result.1.now) c.choose-chunk.new.self.table c.choose-chunk.new.self.last c.choose-chunk.new.self.place c.choose-chunk.new.self.begun c.choose-chunk.new.self.placed c.choose-chunk.result c.write_runs-in-loop-behind.new.buf
+fresh : (g : Over) (c : After-choose-chunk g) → AtFresh g.W.Writer.wrote g.W.Writer.room c.args.style g.row.N c.args.data.now c.args.buf.now (drop g.row.N c.split_at.result.1.now) c.choose-chunk.new.table c.choose-chunk.new.self.last c.choose-chunk.new.self.place c.choose-chunk.new.self.begun c.choose-chunk.new.self.placed c.choose-chunk.result c.write_runs-in-loop-behind.new.buf
 fresh g c =
     let chosen = c.choose-chunk.ensures in
     at_fresh (at_group c.loop-behind.invariant c.repeats_of-count.ensures) c.split_at.ensures.back (pixel_behind (at_group c.loop-behind.invariant c.repeats_of-count.ensures) c.split_at.ensures.back c.if-is_empty.ensures) c.read.ensures c.rest_of_one.ensures.one c.in_ok-write_runs.ensures.written chosen.chunk c.repeat.ensures.state chosen.choice chosen.state chosen.style
@@ -70,5 +71,5 @@ returns-in_err-write_chunk-clause-refused g c =
 
 pub loop-behind-preserved : goal.loop-behind-preserved
 loop-behind-preserved g c =
-    subst (λ rest. CoderBetween g.W.Writer.wrote g.W.Writer.room c.args.style g.row.N c.args.data.now c.args.buf.now rest c.choose-chunk.new.self.table c.choose-chunk.new.self.last c.choose-chunk.new.self.place c.choose-chunk.new.self.begun c.choose-chunk.new.self.placed c.write_chunk.new.buf) (sym c.split_at-in-loop-behind.ensures.back)
+    subst (λ rest. CoderBetween g.W.Writer.wrote g.W.Writer.room c.args.style g.row.N c.args.data.now c.args.buf.now rest c.choose-chunk.new.table c.choose-chunk.new.self.last c.choose-chunk.new.self.place c.choose-chunk.new.self.begun c.choose-chunk.new.self.placed c.write_chunk.new.buf) (sym c.split_at-in-loop-behind.ensures.back)
     ((fresh g (goal.at.loop-behind-preserved g c).After-choose-chunk).between c.in_ok-write_chunk.ensures.written)

@@ -5,7 +5,7 @@ use Rattle.qoi.specs.Qoi.{seen, hash}
 use Rattle.qoi.specs.Tight.{IsTightChoice}
 use Rattle.qoi.proofs.encoding.CoderTable.{spelled_out}
 use Rattle.qoi.proofs.encoding.TightChoice.{blank_chosen, spelled_chosen}
-use Rattle.qoi.proofs.encode.coder.Coder.unkept.Goals as goal
+use Rattle.qoi.proofs.encode.coder.unkept.Goals as goal
 
 pub returns-in-Reference-clause-choice : goal.returns-in-Reference-clause-choice
 returns-in-Reference-clause-choice c = λ past holds test. spelled_out c.args.style past c.args.px c.args.spelled c.in-Reference.is
