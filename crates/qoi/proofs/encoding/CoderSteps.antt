@@ -156,20 +156,12 @@ module _ {W : Type 0} {wrote : W → List ℕ → W → Type 0} {room : W → �
     chunks_first first left is = next_went a.between.writing (a.between.writing.task.laws.nothing buf) (ap text is ∙ flat_map-append bytes_of first left)
 
     module _ {behind : List ℕ} (back : behind ≡ drop (n * count) rest) where
-      -- where no byte is behind it, its runs are next, and nothing follows them
-      pub runs_alone : true ≡ (length behind == 0) → Writing wrote room style n bytes start (text (runs_by (Run 1) count)) [] buf
-      runs_alone test =
-          let none : length behind ≡ 0 = eqb-true (length behind) 0 (sym test) in
-          let few = by_channels (λ k. length behind < k) (omega arith) (omega arith) n a.between.writing.task.channels in
+      -- where no pixel is behind it, its runs are next, and nothing follows them
+      pub runs_alone : length behind < n → Writing wrote room style n bytes start (text (runs_by (Run 1) count)) [] buf
+      runs_alone few =
           let ends : others ≡ [] = ap (pixels_of n) (sym back) ∙ none_of_few n behind a.between.writing.task.channels few in
           let todo = only_runs (choice_in style) (chooses_in style) _ _ _ count others _ group_ahead ends in
           chunks_first (runs_by (Run 1) count) [] (ap (styled style a.between.past a.between.before) todo ∙ styled_runs style a.between.past a.between.before count ∙ sym (append-nil (runs_by (Run 1) count)))
-
-      -- where some are, there is a whole pixel
-      pub pixel_behind : false ≡ (length behind == 0) → n ≤ length behind
-      pixel_behind test =
-          let some : length behind ≢ 0 = eqb-false (length behind) 0 (sym test) in
-          by_channels (λ k. length behind % k ≡ 0 → k ≤ length behind) (λ w. omega arith) (λ w. omega arith) n a.between.writing.task.channels (ap (λ x. length x % n) back ∙ a.group.whole)
 
       module _ {px : RgbaPixel} (enough : n ≤ length behind) (same : px ≡ rgba (take n behind)) where
         -- the bytes behind the pixel

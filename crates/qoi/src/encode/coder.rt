@@ -175,7 +175,7 @@ fn encode_pixels<W: Writer, const N: usize>(buf: &mut W, style: Style, data: &[u
     loop {
         let count = repeats_of::<N>(rest, coder.last);
         let (_, behind) = rest.split_at(N * count);
-        if behind.is_empty() {
+        if behind.len() < N {
             return write_runs(buf, count, PackedChunk::run(1));
         }
         write_runs(buf, count, coder.rest_of_one(style, count))?;
