@@ -104,17 +104,17 @@ pub record IsAsReference (style : Style) (h : Header) (raw bytes : List ℕ) : T
   pub written : Written (image_pixels h raw) list
   pub as_long : length bytes ≡ length (file h list)
 
--- Style Tight: the list has just the bytes of the floor where any index position may be named, and no list of the image
--- at all, regular or not, has fewer.
-pub record IsShortest (h : Header) (raw bytes : List ℕ) : Type 0 where
-  pub floor0_is : length bytes ≡ 22 + floor0 (image_pixels h raw)
-  pub shortest : (others : List Chunk) → Spans h raw others → length bytes ≤ length (file h others)
+-- Style Tight: the number of bytes is the least. Header and end marker have 22, the chunks those of the floor where any
+-- index position may be named, and no list of the image at all, regular or not, makes a shorter file.
+pub record IsShortest (h : Header) (raw : List ℕ) (n : ℕ) : Type 0 where
+  pub floor0_is : n ≡ 22 + floor0 (image_pixels h raw)
+  pub shortest : (others : List Chunk) → Spans h raw others → n ≤ length (file h others)
 
 -- how short the file is in a style
 abbrev pub IsShortIn : Style → Header → List ℕ → List ℕ → Type 0
 IsShortIn Reference h raw bytes = IsAsReference Reference h raw bytes
 IsShortIn Places h raw bytes = IsAsReference Places h raw bytes
-IsShortIn Tight h raw bytes = IsShortest h raw bytes
+IsShortIn Tight h raw bytes = IsShortest h raw (length bytes)
 
 -- The file of the image in a style: it is near the shortest, and in style Tight the shortest.
 pub record IsFileOf (style : Style) (h : Header) (raw bytes : List ℕ) : Type 0 where

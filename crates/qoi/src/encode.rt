@@ -3,10 +3,10 @@ ghost use Rattle.std.specs.Prelude.{◌≡◌, ℕ, ◌<◌, ◌≤◌, List, �
 ghost use Rattle.std.specs.Io.KnownBytes.{Appends};
 ghost use Rattle.qoi.specs.declared.header.Header.{Header};
 ghost use Rattle.qoi.specs.declared.error.Error.{Error};
-ghost use Rattle.qoi.specs.declared.types.Style.TheVariants.{Reference};
+ghost use Rattle.qoi.specs.declared.types.Style.TheVariants.{Reference, Tight};
 ghost use Rattle.qoi.specs.Qoi.{channels_number, IsValid};
 ghost use Rattle.qoi.specs.Decoding.{file_byte_count};
-ghost use Rattle.qoi.specs.Encoded.{max_len, max_file_len, image_header, IsFileLength, IsFileOf};
+ghost use Rattle.qoi.specs.Encoded.{max_len, max_file_len, image_header, IsFileLength, IsFileOf, IsShortest};
 ghost use Rattle.qoi.specs.Errors.{IsIoError};
 ghost use Rattle.qoi.specs.writers.Writes.{AppendsBeginning, WroteSome};
 
@@ -154,7 +154,8 @@ impl<'a> Encoder<'a> {
         self
     }
 
-    /// The same encoder with another style: other chunks may be written, and the file is as long.
+    /// The same encoder with another style: other chunks may be written. In style `Places` the file is
+    /// as long as in `Reference`, in style `Tight` it is the shortest that there is.
     pub fn with_style(mut self, style: Style) -> Encoder<'a>
         ensures { result ≡ record self.entry { style = style } }
     {
@@ -205,6 +206,9 @@ impl<'a> Encoder<'a> {
             → IsOkAnd result (λ n. (bytes : List ℕ)
             × IsFileOf self.now.style self.now.header self.now.raw bytes
             × (n ≡ length bytes) × (buf.new ≡ bytes ++ drop n buf.old)) }
+        // No list of chunks of the image, regular or not, makes a shorter file.
+        ensures shortest { self.now.style ≡ Tight
+            → IfOk result (IsShortest self.now.header self.now.raw) }
         ensures length { IfOk result (IsFileLength self.now.header) }
     {
         let required = self.required_buf_len();
@@ -225,6 +229,9 @@ impl<'a> Encoder<'a> {
     pub fn encode_to_vec(&self, alloc: Global) -> Result<Vec<u8>>
         ensures encoded { IfOk result (λ v.
             IsFileOf self.now.style self.now.header self.now.raw v.items) }
+        // No list of chunks of the image, regular or not, makes a shorter file.
+        ensures shortest { self.now.style ≡ Tight
+            → IfOk result (λ v. IsShortest self.now.header self.now.raw (length v.items)) }
         ensures length { IfOk result (λ v. IsFileLength self.now.header (length v.items)) }
         ensures refused { IsOkUnless result Error.OutOfMemory }
     {
@@ -249,6 +256,9 @@ impl<'a> Encoder<'a> {
         ensures same { (bytes : List ℕ) → IsFileOf self.now.style self.now.header self.now.raw bytes
             → IfOk result (λ n. (n ≡ length bytes)
             × Appends (W.contents writer.old) (W.contents writer.new) bytes) }
+        // No list of chunks of the image, regular or not, makes a shorter file.
+        ensures shortest { self.now.style ≡ Tight
+            → IfOk result (IsShortest self.now.header self.now.raw) }
         ensures length { IfOk result (IsFileLength self.now.header) }
         ensures refused { IfErr result (λ e. IsIoError e × (bytes : List ℕ)
             × IsFileOf self.now.style self.now.header self.now.raw bytes

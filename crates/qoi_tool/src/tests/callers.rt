@@ -4,13 +4,13 @@ ghost use Rattle.std.specs.Io.KnownBytes.{Appends, Consumes};
 ghost use Rattle.qoi.specs.declared.header.Header.{Header};
 ghost use Rattle.qoi.specs.declared.types.Style.TheVariants.{Reference};
 ghost use Rattle.qoi.specs.Qoi.{channels_number, head, header_of, pixel_count, header_size, IsValid, file};
-ghost use Rattle.qoi.specs.Encoded.{IsFileOf, Spans, OpensBlack, image_pixels};
+ghost use Rattle.qoi.specs.Encoded.{IsFileOf, IsShortest, Spans, OpensBlack, image_pixels};
 ghost use Rattle.qoi.specs.Regular.{Regular};
 ghost use Rattle.qoi.specs.declared.chunk.Chunk.{Chunk};
 ghost use Rattle.qoi.specs.Decoding.{DecodesFile, ReadsHeader, ReadsImage};
 
 use crate::tests::ONE_RGB_PIXEL;
-use qoi::{Decoder, Encoder, Error, Header, decode_to_buf, decode_to_vec, encode_to_vec};
+use qoi::{Decoder, Encoder, Error, Header, Style, decode_to_buf, decode_to_vec, encode_to_vec};
 use std::alloc::Global;
 use std::io::{Read, Write};
 use std::test::Fail;
@@ -136,6 +136,15 @@ pub fn near_shortest(alloc: Global, raw: &[u8], width: u32, height: u32) -> Resu
     encode_to_vec(alloc, raw, width, height)
 }
 
+/// The shortest file. In style `Tight` no list of chunks of the image, regular or not, makes a shorter
+/// one.
+pub fn shortest(alloc: Global, raw: &[u8], width: u32, height: u32) -> Result<Vec<u8>, Error>
+    ensures { IfOk result (λ v. (h : Header) × IsShortest h raw.now (length v.items)) }
+{
+    let encoder = Encoder::new(raw, width, height)?.with_style(Style::Tight);
+    encoder.encode_to_vec(alloc)
+}
+
 /// A stream's header. The bytes that were taken of a reader are those of a valid header.
 pub fn header_ahead<R: Read + Drop>(reader: R) -> Result<(Header, R), Error>
     ensures { IfOk result (λ x. IsValid x.0
@@ -198,6 +207,10 @@ fn callers_of_both_ways(rt: HostRuntime) -> Result<(), Fail> {
     );
     assert_eq!(rt;
         near_shortest(alloc, &pixel, 1, 1)?.as_slice(),
+        ONE_RGB_PIXEL.as_slice()
+    );
+    assert_eq!(rt;
+        shortest(alloc, &pixel, 1, 1)?.as_slice(),
         ONE_RGB_PIXEL.as_slice()
     );
     let mut sent = Vec::new(alloc);
