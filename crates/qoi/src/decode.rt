@@ -160,7 +160,7 @@ impl<R: Read + Drop> Decoder<R> {
     /// `decode_header`. The reader is dropped then.
     ///
     /// A decoder asks its reader for a chunk's few bytes at a time, and never for one past the end
-    /// marker: a file or a socket wants a buffering reader around it, as `std::io::BufReader`.
+    /// marker: wrap a file or a socket in a `BufReader`.
     pub fn from_stream(mut reader: R) -> Result<Decoder<R>>
         ensures accepted { IfOk result (λ d. ReadsHeader false (R.remaining reader)
             (R.remaining d.reader) (Ok d.header)

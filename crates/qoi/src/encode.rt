@@ -246,8 +246,7 @@ impl<'a> Encoder<'a> {
     ///
     /// `IoError` where the writer reports a fault, an interruption among them, or takes no byte
     /// (kind `WriteZero`); then a beginning of the file went out. The header, each chunk and the
-    /// end marker are written by calls of their own, so an unbuffered writer wants a buffering one
-    /// around it.
+    /// end marker are written by calls of their own: wrap an unbuffered writer in a `BufWriter`.
     pub fn encode_to_stream<W: Write>(&self, writer: &mut W) -> Result<usize>
         ensures sent { IfOk result (λ n. (bytes : List ℕ)
             × IsFileOf self.now.style self.now.header self.now.raw bytes × (n ≡ length bytes)

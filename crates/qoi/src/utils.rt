@@ -27,7 +27,7 @@ pub trait Writer: Sized {
     /// How many bytes can still be written.
     ghost room: { Self → ℕ };
 
-    /// The errors that a call can answer at all.
+    /// The errors that a call can return at all.
     ghost Refuses: { Error → Type 0 };
 
     /// Writes one byte; a refusal leaves it unwritten.
@@ -42,7 +42,7 @@ pub trait Writer: Sized {
         ensures written { OnOk result (wrote self.old v.now self.new) }
         ensures refused { IfErr result (λ e. Refuses e × WroteSome wrote self.old v.now self.new) };
 
-    /// Writes a chunk at once, or answers `false` and writes nothing.
+    /// Writes a chunk at once, or returns `false` and writes nothing.
     fn append(&mut self, chunk: PackedChunk) -> bool
         requires { length (bytes_of chunk) ≤ room self.old }
         ensures written { IsTrue result → wrote self.old (bytes_of chunk) self.new }
@@ -237,8 +237,8 @@ impl<'a> Writer for BytesMut<'a> {
     }
 }
 
-/// A writer of the standard library. An unbuffered one wants a buffering writer around it, since
-/// each chunk is a call of its `write`.
+/// A writer of the standard library. Each chunk is a call of its `write`: wrap an unbuffered one in a
+/// `BufWriter`.
 #[derive(Drop)]
 pub struct GenericWriter<'a, W> {
     writer: &'a mut W,

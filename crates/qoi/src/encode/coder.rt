@@ -206,16 +206,16 @@ pub(super) fn encode_chunks<W: Writer>(
 {
     // Each pair has a loop of its own, in which the style is known.
     match (channels, style) {
-        (Channels::Rgb, Style::Reference) => {
-            encode_pixels::<W, 3>(buf, Style::Reference, data)?;
-        }
-        (Channels::Rgb, Style::Places) => encode_pixels::<W, 3>(buf, Style::Places, data)?,
-        (Channels::Rgb, Style::Tight) => encode_pixels::<W, 3>(buf, Style::Tight, data)?,
         (Channels::Rgba, Style::Reference) => {
             encode_pixels::<W, 4>(buf, Style::Reference, data)?;
         }
         (Channels::Rgba, Style::Places) => encode_pixels::<W, 4>(buf, Style::Places, data)?,
         (Channels::Rgba, Style::Tight) => encode_pixels::<W, 4>(buf, Style::Tight, data)?,
+        (Channels::Rgb, Style::Reference) => {
+            encode_pixels::<W, 3>(buf, Style::Reference, data)?;
+        }
+        (Channels::Rgb, Style::Places) => encode_pixels::<W, 3>(buf, Style::Places, data)?,
+        (Channels::Rgb, Style::Tight) => encode_pixels::<W, 3>(buf, Style::Tight, data)?,
     }
     Ok(())
 }
