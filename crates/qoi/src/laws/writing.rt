@@ -8,7 +8,7 @@ ghost use Rattle.qoi.specs.declared.types.ColorSpace.{ColorSpace};
 ghost use Rattle.qoi.specs.declared.types.Style.{Style};
 ghost use Rattle.qoi.specs.declared.types.Style.TheVariants.{Reference, Places, Tight};
 ghost use Rattle.qoi.specs.declared.chunk.Chunk.TheVariants.{Place, Run, Rgb, Rgba};
-ghost use Rattle.qoi.specs.Qoi.{RgbaPixel, IsPixel, Past, blank, pixel, previous, text, file, Reaches, meaning};
+ghost use Rattle.qoi.specs.Qoi.{RgbaPixel, IsPixel, Past, blank, pixel, previous, AreChunks, text, file, Reaches, meaning};
 ghost use Rattle.qoi.specs.Encoded.{max_len};
 ghost use Rattle.qoi.specs.Raw.{IsChannels, output, pixels_of, HasChannels};
 ghost use Rattle.qoi.specs.Regular.{Begins, Covers, Regular};
@@ -84,6 +84,14 @@ pub fn written_fits()
     ensures { (style : Style) (image : List RgbaPixel) (channels n : ℕ) (cs : List Chunk)
         → HasChannels image channels → length image ≡ n → WrittenIn style image cs
         → length (text cs) ≤ n * channels + n }
+{}
+
+/// The written list is a list of chunks, and its pixels are those of its image.
+pub fn written_means()
+    ensures chunks { (style : Style) (image : List RgbaPixel) (cs : List Chunk)
+        → WrittenIn style image cs → AreChunks cs }
+    ensures pixels { (style : Style) (image : List RgbaPixel) (cs : List Chunk)
+        → WrittenIn style image cs → meaning cs ≡ image }
 {}
 
 /// The written list reaches the pixels of its image.

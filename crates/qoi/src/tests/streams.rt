@@ -30,6 +30,17 @@ fn two_files_in_one_stream(rt: HostRuntime) -> Result<()> {
     Ok(())
 }
 
+// What follows the end marker is left to the reader.
+#[test]
+fn bytes_behind_a_file_stay(rt: HostRuntime) -> Result<()> {
+    let mut bytes = Vec::from_slice(rt.alloc(), &ONE_RGB_PIXEL)?;
+    bytes.extend_from_slice(&[0x78, 0x79])?;
+    let mut decoder = Decoder::from_stream(bytes.as_slice())?;
+    assert_bytes(&rt, &decoder.decode_to_vec(rt.alloc())?, &PIXEL);
+    assert_bytes(&rt, decoder.into_reader(), &[0x78, 0x79]);
+    Ok(())
+}
+
 // However few bytes a call gives, the pixels are the same.
 #[test]
 fn short_reads(rt: HostRuntime) -> Result<()> {

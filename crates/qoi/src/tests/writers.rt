@@ -76,7 +76,8 @@ fn each_part_fails_once(rt: HostRuntime) -> Result<()> {
     Ok(())
 }
 
-// One byte a call makes 26 calls; each of them in turn ends badly, and then none of them.
+// One byte a call makes 26 calls; each of them in turn ends badly, and then none of them. The fifth is
+// the example `failing_writer`: `71 6f 69 66` went out.
 #[test]
 fn each_call_is_bad_once(rt: HostRuntime) -> Result<()> {
     let ends = [
