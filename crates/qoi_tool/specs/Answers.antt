@@ -45,7 +45,7 @@ StopsEarly (DecodeInto channels) old new e = IsOutside e
 StopsEarly (Encode w h space style) old new e = IsOutside e
 StopsEarly Info old new e = IsIoError e × TakesFewer header_size old new
 
--- the input was taken, and what the command answers was written
+-- the input was taken, and the command's answer was written
 abbrev pub Does : Command → Option (List ℕ) → Option (List ℕ) → Option (List ℕ) → Option (List ℕ) → Type 0
 Does command in_old in_new out_old out_new =
     (input : List ℕ) × (out : List ℕ) × Takes command in_old in_new input × Writes command input out × Appends out_old out_new out

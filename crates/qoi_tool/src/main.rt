@@ -156,7 +156,7 @@ fn info<R: Read, W: Write>(input: &mut R, output: &mut W) -> Result<(), Error>
 }
 
 /// Writes the line of a fault, and returns the status of the program: 1 for `Image`, 2 for `Usage`.
-/// What its writes answer is ignored.
+/// What its writes return is ignored.
 pub fn report<W: Write>(fault: &Fault, err: &mut W) -> u8
     ensures { result ≡ status_of fault.now }
 {

@@ -14,7 +14,7 @@ use std::marker::Model;
 
 /// Where a decoder takes its bytes from.
 pub trait Reader: Sized {
-    /// The bytes that stand ahead, where the reader tells them.
+    /// The bytes that stand ahead, where the reader's contract states them.
     ghost ahead: { Self → Option (List ℕ) };
 
     /// Whether they stand in memory: then a refusal takes none of them, and none is an i/o error.

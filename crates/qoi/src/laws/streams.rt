@@ -1,4 +1,4 @@
-//! Laws on streams that tell their bytes, and on the channels of an image.
+//! Laws on streams whose contracts state their bytes, and on the channels of an image.
 ghost use Rattle.std.specs.Prelude.{◌≡◌, ℕ, ◌+◌, ◌*◌, ◌<◌, List, [], length, take, Option, Some, false, slice_index};
 ghost use Rattle.std.specs.Io.KnownBytes.{Consumes};
 ghost use Rattle.qoi.specs.declared.error.Error.{Error};
