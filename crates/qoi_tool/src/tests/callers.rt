@@ -87,6 +87,21 @@ pub fn there_and_back(alloc: Global, raw: &[u8], width: u32, height: u32) -> Res
     Ok(back)
 }
 
+/// There and back in style `Tight`.
+pub fn tight_there_and_back(
+    alloc: Global,
+    raw: &[u8],
+    width: u32,
+    height: u32,
+) -> Result<Vec<u8>, Error>
+    ensures { IfOk result (λ back. back.items ≡ raw.now) }
+{
+    let encoder = Encoder::new(raw, width, height)?.with_style(Style::Tight);
+    let file = encoder.encode_to_vec(alloc)?;
+    let (_, back) = decode_to_vec(alloc, &file)?;
+    Ok(back)
+}
+
 /// A writer and a vector. What went to the writer is what the vector holds.
 pub fn send_and_keep<W: Write>(
     alloc: Global,
@@ -203,6 +218,10 @@ fn callers_of_both_ways(rt: HostRuntime) -> Result<(), Fail> {
     let pixel = [0x0b, 0x79, 0xe7];
     assert_eq!(rt;
         there_and_back(alloc, &pixel, 1, 1)?.as_slice(),
+        pixel.as_slice()
+    );
+    assert_eq!(rt;
+        tight_there_and_back(alloc, &pixel, 1, 1)?.as_slice(),
         pixel.as_slice()
     );
     assert_eq!(rt;
