@@ -41,6 +41,3 @@ pub use crate::encode::{Encoder, encode_max_len, encode_to_buf, encode_to_vec};
 pub use crate::error::{Error, Result};
 pub use crate::header::Header;
 pub use crate::types::{Channels, ColorSpace, Style};
-
-#[cfg(test)]
-mod tests;

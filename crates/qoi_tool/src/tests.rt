@@ -1,7 +1,6 @@
 //! The program over readers and writers in memory, with faults and with no memory.
 
 mod beginnings;
-mod callers;
 mod fakes;
 
 use crate::tests::fakes::{Bad, End, NONE, Sink, Source, take_memory};
