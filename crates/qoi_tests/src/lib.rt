@@ -1,6 +1,7 @@
-//! The tests of the library `qoi`, which see it as any other crate does: its public items and their
-//! contracts.
+//! Callers of the library `qoi`, and its tests. Both see it as any other crate does: by its public items
+//! and their contracts.
 #![tactic(auto)]
 
+pub mod callers;
 #[cfg(test)]
 mod tests;

@@ -1,4 +1,4 @@
-//! Worked examples, with values from outside; what no contract says; and proved callers.
+//! Worked examples, with values from outside, and what no contract says.
 
 mod broken;
 mod callers;

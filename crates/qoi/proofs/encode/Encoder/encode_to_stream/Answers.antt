@@ -6,7 +6,7 @@ use Rattle.qoi.specs.EncoderState.{EncoderState}
 use Rattle.qoi.specs.Encoded.{IsFileOf}
 use Rattle.qoi.proofs.encode.Encoder.encode_to_stream.Goals as goal
 
--- What was sent by one name was sent by any other.
+-- equal bytes were sent, too
 sent_as : (before after : Option (List ℕ)) → {sent same : List ℕ} → sent ≡ same → Appends before after sent → Appends before after same
 sent_as before after e h = subst (Appends before after) e h
 

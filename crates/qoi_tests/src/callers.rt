@@ -1,0 +1,186 @@
+//! A caller for each way of using the library, proved by the contracts of its public calls alone.
+ghost use Rattle.std.specs.Prelude.{◌≡◌, ℕ, ◌+◌, ◌≤◌, ◌++◌, List, Option, Some, Ok, IfOk, OnOk, length, drop, false};
+ghost use Rattle.std.specs.Io.KnownBytes.{Appends, Consumes};
+ghost use Rattle.qoi.specs.declared.header.Header.{Header};
+ghost use Rattle.qoi.specs.declared.types.Style.TheVariants.{Reference, Tight};
+ghost use Rattle.qoi.specs.Qoi.{channels_number, head, header_of, pixel_count, header_size, IsValid, file};
+ghost use Rattle.qoi.specs.Encoded.{IsFileOf, IsShortest, Spans, OpensBlack, image_pixels};
+ghost use Rattle.qoi.specs.Regular.{Regular};
+ghost use Rattle.qoi.specs.declared.chunk.Chunk.{Chunk};
+ghost use Rattle.qoi.specs.Decoding.{DecodesFile, ReadsHeader, ReadsImage};
+
+use qoi::{Decoder, Encoder, Error, Header, Style, decode_to_buf, decode_to_vec, encode_to_vec};
+use std::alloc::Global;
+use std::io::{Read, Write};
+
+/// Vectors. The raw bytes of the image of a file, in the file's own channels; any bytes may follow
+/// the file.
+pub fn raw_bytes(alloc: Global, file: &[u8]) -> Result<Vec<u8>, Error>
+    ensures { IfOk result (λ raw. (h : Header) × (rest : List ℕ)
+        × DecodesFile file.now h rest raw.items) }
+{
+    let (_, raw) = decode_to_vec(alloc, file)?;
+    Ok(raw)
+}
+
+/// Buffer to buffer. The file of an image at the front of a buffer, and its length.
+pub fn pack(buf: &mut [u8], raw: &[u8], width: u32, height: u32) -> Result<usize, Error>
+    ensures { IfOk result (λ n. (h : Header) × (bytes : List ℕ) × IsFileOf Reference h raw.now bytes
+        × (n ≡ length bytes) × (buf.new ≡ bytes ++ drop n buf.old)) }
+{
+    let encoder = Encoder::new(raw, width, height)?;
+    let required = encoder.required_buf_len();
+    if buf.len() < required {
+        return Err(Error::OutputBufferTooSmall {
+            size: buf.len(),
+            required,
+        });
+    }
+    encoder.encode_to_buf(buf)
+}
+
+/// Stream out. The file of an image goes to a writer.
+pub fn send<W: Write>(raw: &[u8], width: u32, height: u32, out: &mut W) -> Result<usize, Error>
+    ensures { OnOk result ((h : Header) × (bytes : List ℕ) × IsFileOf Reference h raw.now bytes
+        × Appends (W.contents out.old) (W.contents out.new) bytes) }
+{
+    let encoder = Encoder::new(raw, width, height)?;
+    let size = encoder.encode_to_stream(out)?;
+    Ok(size)
+}
+
+/// Stream in. The raw bytes of the image that stands ahead of a reader, and the reader behind it.
+pub fn receive<R: Read + Drop>(alloc: Global, reader: R) -> Result<(Vec<u8>, R), Error>
+    ensures { IfOk result (λ x. (h : Header) × (middle : Option (List ℕ))
+        × ReadsHeader false (R.remaining reader) middle (Ok h)
+        × ReadsImage (channels_number h.channels) (channels_number h.channels) (pixel_count h)
+        middle (R.remaining x.1) x.0.items) }
+{
+    let mut decoder = Decoder::from_stream(reader)?;
+    let raw = decoder.decode_to_vec(alloc)?;
+    Ok((raw, decoder.into_reader()))
+}
+
+/// Several files in one slice. The raw bytes of the images of two files, one behind the other.
+pub fn two_images(alloc: Global, bytes: &[u8]) -> Result<(Vec<u8>, Vec<u8>), Error>
+    ensures { IfOk result (λ x. (h : Header) × (k : Header) × (middle : List ℕ) × (rest : List ℕ)
+        × (header_of bytes.now ≡ Ok h)
+        × ReadsImage (channels_number h.channels) (channels_number h.channels) (pixel_count h)
+        (Some (drop header_size bytes.now)) (Some middle) x.0.items
+        × DecodesFile middle k rest x.1.items) }
+{
+    let mut decoder = Decoder::new(bytes)?;
+    let first = decoder.decode_to_vec(alloc)?;
+    let (_, second) = decode_to_vec(alloc, decoder.data())?;
+    Ok((first, second))
+}
+
+/// There and back. The raw bytes of an image are encoded into a vector and decoded again, and are
+/// the same bytes.
+pub fn there_and_back(alloc: Global, raw: &[u8], width: u32, height: u32) -> Result<Vec<u8>, Error>
+    ensures { IfOk result (λ back. back.items ≡ raw.now) }
+{
+    let file = encode_to_vec(alloc, raw, width, height)?;
+    let (_, back) = decode_to_vec(alloc, &file)?;
+    Ok(back)
+}
+
+/// There and back in style `Tight`.
+pub fn tight_there_and_back(
+    alloc: Global,
+    raw: &[u8],
+    width: u32,
+    height: u32,
+) -> Result<Vec<u8>, Error>
+    ensures { IfOk result (λ back. back.items ≡ raw.now) }
+{
+    let encoder = Encoder::new(raw, width, height)?.with_style(Style::Tight);
+    let file = encoder.encode_to_vec(alloc)?;
+    let (_, back) = decode_to_vec(alloc, &file)?;
+    Ok(back)
+}
+
+/// A writer and a vector. What went to the writer is what the vector holds.
+pub fn send_and_keep<W: Write>(
+    alloc: Global,
+    raw: &[u8],
+    width: u32,
+    height: u32,
+    out: &mut W,
+) -> Result<Vec<u8>, Error>
+    ensures { IfOk result (λ kept. Appends (W.contents out.old) (W.contents out.new) kept.items) }
+{
+    let encoder = Encoder::new(raw, width, height)?;
+    let kept = encoder.encode_to_vec(alloc)?;
+    encoder.encode_to_stream(out)?;
+    Ok(kept)
+}
+
+/// Lengths of vectors. A decoded image has the bytes that its header says, and at least one pixel.
+pub fn first_byte(alloc: Global, file: &[u8]) -> Result<u8, Error> {
+    let (header, pixels) = decode_to_vec(alloc, file)?;
+    let whole = pixels.len() == header.n_bytes();
+    prove!(whole);
+    Ok(pixels[0])
+}
+
+/// Lengths in buffers. The part of the buffer that an image was decoded into.
+pub fn decoded_part<'a>(buf: &'a mut [u8], file: &[u8]) -> Result<&'a [u8], Error> {
+    let header = decode_to_buf(buf, file)?;
+    Ok(&buf[..header.n_bytes()])
+}
+
+/// Lengths of files. A file has a header: its fourteenth byte is there.
+pub fn space_byte(alloc: Global, raw: &[u8], width: u32, height: u32) -> Result<u8, Error> {
+    let file = Encoder::new(raw, width, height)?.encode_to_vec(alloc)?;
+    Ok(file[13])
+}
+
+/// Shortness. A file is at most four bytes longer than that of any regular list of the image, and no
+/// longer at all unless the image opens with opaque black.
+pub fn near_shortest(alloc: Global, raw: &[u8], width: u32, height: u32) -> Result<Vec<u8>, Error>
+    ensures four_at_most { IfOk result (λ v. (h : Header) × ((others : List Chunk)
+        → Spans h raw.now others → Regular others
+        → length v.items ≤ length (file h others) + 4)) }
+    ensures none_shorter { IfOk result (λ v. (h : Header)
+        × ((OpensBlack (image_pixels h raw.now) → ⊥) → (others : List Chunk)
+        → Spans h raw.now others → Regular others → length v.items ≤ length (file h others))) }
+{
+    encode_to_vec(alloc, raw, width, height)
+}
+
+/// The shortest file. In style `Tight` no list of chunks of the image, regular or not, makes a shorter
+/// one.
+pub fn shortest(alloc: Global, raw: &[u8], width: u32, height: u32) -> Result<Vec<u8>, Error>
+    ensures encoded { IfOk result (λ v. (h : Header) × IsFileOf Tight h raw.now v.items) }
+    ensures no_shorter { IfOk result (λ v. (h : Header) × IsShortest h raw.now (length v.items)) }
+{
+    let encoder = Encoder::new(raw, width, height)?.with_style(Style::Tight);
+    encoder.encode_to_vec(alloc)
+}
+
+/// A stream's header. The bytes that were taken of a reader are those of a valid header.
+pub fn header_ahead<R: Read + Drop>(reader: R) -> Result<(Header, R), Error>
+    ensures { IfOk result (λ x. IsValid x.0
+        × Consumes (R.remaining reader) (R.remaining x.1) (head x.0)) }
+{
+    let decoder = Decoder::from_stream(reader)?;
+    Ok((*decoder.header(), decoder.into_reader()))
+}
+
+/// All files of a slice. The raw bytes of the images of files that stand one behind the other, until
+/// the slice is empty or a file is refused.
+pub fn all_images(alloc: Global, bytes: &[u8], images: &mut Vec<Vec<u8>>) -> Result<(), Error> {
+    let mut rest = bytes;
+    for _ in 0..bytes.len() {
+        if rest.is_empty() {
+            break;
+        }
+        let mut decoder = Decoder::new(rest)?;
+        images.push(decoder.decode_to_vec(alloc)?)?;
+        // `data` borrows from the decoder: what goes on to the next turn is its length.
+        let left = decoder.data().len();
+        rest = &rest[rest.len() - left..];
+    }
+    Ok(())
+}
