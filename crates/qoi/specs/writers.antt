@@ -1,4 +1,6 @@
--- What a writer's calls promise, and the two writers' words.
+-- What a writer's calls promise, and the writers' words.
+pub mod Behind
 pub mod Buffer
+pub mod Pieces
 pub mod Stream
 pub mod Writes

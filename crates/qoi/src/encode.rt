@@ -11,13 +11,15 @@ ghost use Rattle.qoi.specs.Errors.{IsIoError};
 ghost use Rattle.qoi.specs.writers.Writes.{AppendsBeginning, WroteSome};
 
 mod coder;
+mod pieces;
 
 use crate::consts::QOI_PADDING;
 use crate::encode::coder::encode_chunks;
+use crate::encode::pieces::Pieces;
 use crate::error::{Error, Result};
 use crate::header::{Header, max_file_size};
 use crate::types::{Channels, ColorSpace, Style};
-use crate::utils::{BytesMut, GenericWriter, Writer};
+use crate::utils::{BytesMut, Writer};
 use std::alloc::Global;
 use std::io::Write;
 use std::marker::Model;
@@ -245,8 +247,8 @@ impl<'a> Encoder<'a> {
     /// out. The writer isn't flushed.
     ///
     /// `IoError` where the writer reports a fault, an interruption among them, or takes no byte
-    /// (kind `WriteZero`); then a beginning of the file went out. The header, each chunk and the
-    /// end marker are written by calls of their own: wrap an unbuffered writer in a `BufWriter`.
+    /// (kind `WriteZero`); then a beginning of the file went out. The file is written in pieces of
+    /// 4096 bytes and a last one of the rest.
     pub fn encode_to_stream<W: Write>(&self, writer: &mut W) -> Result<usize>
         ensures sent { IfOk result (λ n. (bytes : List ℕ)
             × IsFileOf self.now.style self.now.header self.now.raw bytes × (n ≡ length bytes)
@@ -263,8 +265,9 @@ impl<'a> Encoder<'a> {
             × IsFileOf self.now.style self.now.header self.now.raw bytes
             × AppendsBeginning (W.contents writer.old) (W.contents writer.new) bytes) }
     {
-        let mut writer = GenericWriter::new(writer);
-        let n = encode_image(&mut writer, self.style, &self.header, self.data)?;
+        let mut pieces = Pieces::new(writer);
+        let n = encode_image(&mut pieces, self.style, &self.header, self.data)?;
+        pieces.give()?;
         Ok(n)
     }
 }

@@ -3,6 +3,7 @@ ghost use lib.Lanes.{number_l, digits_l};
 ghost use Rattle.std.specs.Prelude.{◌≡◌, ℕ, ◌+◌, ◌<◌, ◌≤◌, List, [], ◌∷◌, length, OnOk, IfErr, IsTrue, IsFalse};
 ghost use Rattle.qoi.specs.declared.chunk.Chunk.{Chunk};
 ghost use Rattle.qoi.specs.writers.Writes.{WriterLaws, WroteSome};
+ghost use Rattle.qoi.specs.writers.Behind.{StandsBehind};
 ghost use Rattle.qoi.specs.Errors.{IsIoError};
 ghost use Rattle.qoi.specs.Qoi.{AreBytes, IsChunk, bytes_of};
 ghost use Rattle.qoi.specs.Raw.{IsChannels};
@@ -143,39 +144,34 @@ impl<'a> BytesMut<'a> {
         requires { length v.now ≤ length (bytes_left self.old) }
         ensures { BufferWrote self.old v.now self.new }
     {
-        let end = self.written + v.len();
-        self.buf[self.written..end].copy_from_slice(v);
-        self.written = end;
+        self.written = copy_behind(self.buf, self.written, v);
     }
 }
 
-impl<'a> BytesMut<'a> {
-    ghost use Rattle.qoi.specs.writers.Buffer.{BufferWrote, written_bytes, bytes_left, last_eight};
+// Writes bytes behind the first `written` ones of a buffer, and returns where they end.
+#[inline(always)]
+pub(crate) fn copy_behind(buf: &mut [u8], written: usize, v: &[u8]) -> usize
+    requires { written + length v.now ≤ length buf.old }
+    ensures { StandsBehind buf.old written v.now buf.new result }
+{
+    let end = written + v.len();
+    buf[written..end].copy_from_slice(v);
+    end
+}
 
-    // The number of the last eight bytes that were written.
-    #[inline(always)]
-    fn last_eight(&self) -> u64
-        requires { 8 ≤ length (written_bytes self.now) }
-        ensures number { result ≡ number_l 256 (last_eight self.now) }
-        ensures bytes { AreBytes (last_eight self.now) }
-    {
-        load(&self.buf[self.written - 8..self.written])
-    }
-
-    // Writes a chunk where eight bytes or more are written: the eight bytes that end with the chunk's
-    // are written at once, whatever length the chunk has.
-    #[inline(always)]
-    fn write_over(&mut self, chunk: PackedChunk)
-        requires eight { 8 ≤ length (written_bytes self.old) }
-        requires room { length (bytes_of chunk) ≤ length (bytes_left self.old) }
-        ensures { BufferWrote self.old (bytes_of chunk) self.new }
-    {
-        let before = self.last_eight();
-        let end = self.written + (chunk.bits() / 8) as usize;
-        let eight = (before >> chunk.bits()) + chunk.top();
-        store(&mut self.buf[end - 8..end], eight);
-        self.written = end;
-    }
+// Writes a chunk behind the first `written` bytes of a buffer, eight or more, and returns where it ends:
+// the eight bytes that end with the chunk's are written at once, whatever length the chunk has.
+#[inline(always)]
+pub(crate) fn chunk_behind(buf: &mut [u8], written: usize, chunk: PackedChunk) -> usize
+    requires eight { 8 ≤ written }
+    requires room { written + length (bytes_of chunk) ≤ length buf.old }
+    ensures { StandsBehind buf.old written (bytes_of chunk) buf.new result }
+{
+    let before = load(&buf[written - 8..written]);
+    let end = written + (chunk.bits() / 8) as usize;
+    let eight = (before >> chunk.bits()) + chunk.top();
+    store(&mut buf[end - 8..end], eight);
+    end
 }
 
 // The number of eight bytes, the first of them the lowest.
@@ -227,7 +223,7 @@ impl<'a> Writer for BytesMut<'a> {
         if self.written < 8 {
             return false;
         }
-        self.write_over(chunk);
+        self.written = chunk_behind(self.buf, self.written, chunk);
         true
     }
 
@@ -237,8 +233,7 @@ impl<'a> Writer for BytesMut<'a> {
     }
 }
 
-/// A writer of the standard library. Each chunk is a call of its `write`: wrap an unbuffered one in a
-/// `BufWriter`.
+/// A writer of the standard library, which is given the bytes as they come.
 #[derive(Drop)]
 pub struct GenericWriter<'a, W> {
     writer: &'a mut W,

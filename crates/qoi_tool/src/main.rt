@@ -20,7 +20,7 @@ use crate::line::write_line;
 use crate::transfer::{read_all, read_exactly, write_whole};
 use qoi::{Channels, ColorSpace, Decoder, Encoder, Error, Style, decode_header, decode_to_vec};
 use std::alloc::Global;
-use std::io::{BufWriter, ErrorKind, Read, Stdout, Write};
+use std::io::{ErrorKind, Read, Write};
 use std::process::ExitCode;
 use std::{env, io};
 
@@ -186,25 +186,10 @@ fn words_of(rt: &HostRuntime) -> Result<Vec<String>, Error>
     }
 }
 
-// Standard output behind a buffer: an encoder writes a few bytes at a time.
-fn output_of(rt: &HostRuntime) -> Result<BufWriter<Stdout>, Error>
-    ensures { IfErr result IsOutside }
-{
-    match BufWriter::new(rt.alloc(), rt.stdout()) {
-        Ok(output) => Ok(output),
-        Err(_) => Err(Error::OutOfMemory),
-    }
-}
-
 // Does what the program was called for, with its arguments, standard input and standard output.
 fn run_here(rt: &HostRuntime) -> Result<(), Fault> {
     let words = words_of(rt)?;
-    let mut output = output_of(rt)?;
-    run(rt.alloc(), &words, &mut rt.stdin(), &mut output)?;
-    match output.flush() {
-        Ok(()) => Ok(()),
-        Err(error) => Err(Fault::Image(Error::IoError(error))),
-    }
+    run(rt.alloc(), &words, &mut rt.stdin(), &mut rt.stdout())
 }
 
 fn main(rt: HostRuntime) -> ExitCode {

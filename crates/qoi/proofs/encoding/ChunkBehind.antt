@@ -7,6 +7,7 @@ use Rattle.std.proofs.lemmas.Slice.{take-put_mid, drop-put_mid}
 use Rattle.qoi.specs.declared.chunk.Chunk.{Chunk}
 use Rattle.qoi.specs.declared.chunk.Chunk.TheVariants.{Place, Diff, Luma, Run, Rgb, Rgba}
 use Rattle.qoi.specs.Qoi.{bytes_of}
+use Rattle.qoi.specs.writers.Behind.{StandsBehind}
 
 -- a chunk has at most five bytes
 pub few_bytes : (c : Chunk) → length (bytes_of c) ≤ 5
@@ -35,8 +36,9 @@ written_behind xs bytes w k some few =
 
 -- what a buffer is once the eight bytes that end with these were written into it
 pub written_over : (xs stored bytes : List ℕ) (w n : ℕ) → 8 ≤ w → w + n ≤ length xs → n ≡ length bytes → n ≤ 8 → stored ≡ drop n (take 8 (drop (w - 8) xs)) ++ bytes → length stored ≡ 8
-    → let now = put_mid (w + n - 8) (w + n - (w + n - 8)) xs stored in (take (w + n) now ≡ take w xs ++ bytes) × (drop (w + n) now ≡ drop (length bytes) (drop w xs))
-written_over xs stored bytes w n some room size few is eight = (
-  take-put_mid (w + n - 8) (w + n - (w + n - 8)) xs stored (w + n) (omega (arith, eight)) (omega (arith, room)) ∙ ap (λ z. take (w + n - 8) xs ++ z) is ∙ written_behind xs bytes w n some few,
-  drop-put_mid (w + n - 8) (w + n - (w + n - 8)) xs stored (w + n) (omega arith) (omega (arith, room)) (omega (arith, eight)) ∙ sym (drop-drop n w xs) ∙ ap (λ k. drop k (drop w xs)) size,
-)
+    → StandsBehind xs w bytes (put_mid (w + n - 8) (w + n - (w + n - 8)) xs stored) (w + n)
+written_over xs stored bytes w n some room size few is eight = record {
+  reached = ap (λ k. w + k) size;
+  front = take-put_mid (w + n - 8) (w + n - (w + n - 8)) xs stored (w + n) (omega (arith, eight)) (omega (arith, room)) ∙ ap (λ z. take (w + n - 8) xs ++ z) is ∙ written_behind xs bytes w n some few;
+  later = drop-put_mid (w + n - 8) (w + n - (w + n - 8)) xs stored (w + n) (omega arith) (omega (arith, room)) (omega (arith, eight));
+}

@@ -1,6 +1,6 @@
 -- A buffer that is written from the front.
 use base.Fml.{GName}
-use Rattle.std.specs.Prelude.{◌≡◌, ℕ, ◌-◌, ◌≤◌, List, ◌++◌, length, take, drop}
+use Rattle.std.specs.Prelude.{◌≡◌, ℕ, ◌≤◌, List, ◌++◌, length, take, drop}
 use Rattle.std.proofs.Common.{refl, sym, ap, ◌∙◌, arith, append_assoc, append-nil, length-append, length-drop, drop-drop}
 use Rattle.qoi.specs.writers.Writes.{WriterLaws}
 use Rattle.qoi.specs.declared.utils.BytesMut.{BytesMut}
@@ -16,10 +16,6 @@ written_bytes s = take s.written s.buf.now
 -- the bytes not yet overwritten
 abbrev pub bytes_left : BytesMut → List ℕ
 bytes_left s = drop s.written s.buf.now
-
--- the last eight bytes that were written
-abbrev pub last_eight : BytesMut → List ℕ
-last_eight s = take 8 (drop (s.written - 8) s.buf.now)
 
 -- the same buffer is kept, the bytes stand behind those before, and all later bytes are as before
 pub record BufferWrote (s : BytesMut) (bytes : List ℕ) (t : BytesMut) : Type 0 where

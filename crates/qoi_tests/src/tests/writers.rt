@@ -1,6 +1,6 @@
 //! An image that is encoded to a writer, which may end one of its calls badly.
 use crate::tests::support::fakes::{Bad, End, NONE, Sink};
-use crate::tests::support::files::{ONE_RGB_PIXEL, PIXEL};
+use crate::tests::support::files::{ONE_RGB_PIXEL, PIXEL, file_of, rgb};
 use crate::tests::support::texts::{assert_bytes, assert_fails, assert_number};
 use qoi::{ColorSpace, Encoder, Result};
 use std::alloc::Global;
@@ -46,33 +46,50 @@ fn three_bytes_a_call(rt: HostRuntime) -> Result<()> {
     Ok(())
 }
 
-// The header, the chunk and the end marker, and no flush.
+// A short file is one piece, and there is no flush.
 #[test]
-fn a_call_for_each_part(rt: HostRuntime) -> Result<()> {
+fn one_call_for_a_short_file(rt: HostRuntime) -> Result<()> {
     let writer = assert_sends(&rt, rt.alloc(), 100, NONE, ColorSpace::Linear)?;
-    assert_number(&rt, writer.calls, 3);
+    assert_number(&rt, writer.calls, 1);
     let mut linear = ONE_RGB_PIXEL;
     linear[13] = 1;
     assert_bytes(&rt, &writer.got, &linear);
     Ok(())
 }
 
-// The header, the chunk and the end marker, each in a call; each call in turn fails.
-#[test]
-fn each_part_fails_once(rt: HostRuntime) -> Result<()> {
-    let file = &ONE_RGB_PIXEL;
-    let parts: [(usize, &[u8]); 3] = [(1, &[]), (2, &file[..14]), (3, &file[..18])];
-    for (call, gone) in parts {
-        let end = End::Fault;
-        assert_stops(
-            &rt,
-            rt.alloc(),
-            100,
-            Bad { call, end },
-            ErrorKind::BrokenPipe,
-            gone,
-        )?;
+// The raw bytes of an image of 1500 pixels, and its file of 6022 bytes: green goes up by 100 each time,
+// so each pixel is an RGB chunk.
+fn long_file(alloc: Global) -> Result<(Vec<u8>, Vec<u8>)> {
+    let mut raw = Vec::new(alloc);
+    let mut chunks = Vec::new(alloc);
+    for i in 1..=1500u16 {
+        let [high, low] = i.to_be_bytes();
+        let pixel = [high, low.wrapping_mul(100), low];
+        raw.extend_from_slice(&pixel)?;
+        chunks.push(0xfe)?;
+        chunks.extend_from_slice(&pixel)?;
     }
+    let file = file_of(alloc, rgb(1500), &chunks)?;
+    Ok((raw, file))
+}
+
+// A longer file goes out in a piece of 4096 bytes and one of the rest; each of the two calls fails once.
+#[test]
+fn each_piece_fails_once(rt: HostRuntime) -> Result<()> {
+    let (raw, file) = long_file(rt.alloc())?;
+    let encoder = Encoder::new(&raw, 1500, 1)?;
+    for (call, gone) in [(1, 0usize), (2, 4096)] {
+        let end = End::Fault;
+        let mut writer = Sink::new(rt.alloc(), 10_000, Bad { call, end })?;
+        let refusal = encoder.encode_to_stream(&mut writer).err();
+        assert_fails(&rt, refusal, ErrorKind::BrokenPipe);
+        assert_bytes(&rt, &writer.got, &file[..gone]);
+        assert_number(&rt, writer.calls, call);
+    }
+    let mut writer = Sink::new(rt.alloc(), 10_000, NONE)?;
+    assert_number(&rt, encoder.encode_to_stream(&mut writer)?, 6022);
+    assert_bytes(&rt, &writer.got, &file);
+    assert_number(&rt, writer.calls, 2);
     Ok(())
 }
 

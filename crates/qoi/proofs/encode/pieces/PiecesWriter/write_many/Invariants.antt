@@ -1,0 +1,11 @@
+-- All but the rest of the bytes is written.
+use Rattle.std.proofs.Common.{length}
+use Rattle.qoi.specs.writers.Writes.{WroteBut}
+use Rattle.qoi.specs.writers.Pieces.{PiecesWrote}
+use Rattle.qoi.proofs.encode.pieces.PiecesWriter.write_many.Given as goal
+
+abbrev pub invariant-loop-rest : goal.invariant-loop-rest
+invariant-loop-rest g l = WroteBut (PiecesWrote g.W.Write.contents) l.initial.self l.v l.rest l.self
+
+abbrev pub decreases-loop-rest : goal.decreases-loop-rest
+decreases-loop-rest g l = length l.rest

@@ -1,0 +1,23 @@
+-- What a writer that is given its bytes in pieces was sent.
+use Rattle.std.proofs.Common.{◌≡◌, ℕ, List, [], ◌++◌, Option, sym, ap, subst, ◌∙◌, append-nil, append_assoc}
+use Rattle.std.specs.Io.KnownBytes.{Appends}
+use Rattle.qoi.specs.declared.encode.pieces.Pieces.{Pieces}
+use Rattle.qoi.specs.writers.Writes.{AppendsBeginning, WroteSome}
+use Rattle.qoi.specs.writers.Pieces.{PiecesWrote, pieces_laws, pieces_writer, kept_bytes}
+
+module _ {W : Type 0} (contents : W → Option (List ℕ)) where
+  -- what was written before the last piece was given was written behind it, too
+  pub given_last : (s t u : Pieces W) (bytes : List ℕ) → PiecesWrote contents s bytes t → PiecesWrote contents t [] u → PiecesWrote contents s bytes u
+  given_last s t u bytes p q = subst (λ z. PiecesWrote contents s z u) (append-nil bytes) ((pieces_laws contents).both s t u bytes [] p q)
+
+  -- all of the bytes, where none is kept
+  pub all_sent : (s t : Pieces W) (bytes : List ℕ) → kept_bytes s ≡ [] → PiecesWrote contents s bytes t → kept_bytes t ≡ [] → Appends (contents (pieces_writer s)) (contents (pieces_writer t)) bytes
+  all_sent s t bytes none p sent =
+      subst (Appends (contents (pieces_writer s)) (contents (pieces_writer t))) (sym (ap (λ z. z ++ bytes) (sym none) ∙ p.kept ∙ ap (λ z. p.given ++ z) sent ∙ append-nil p.given)) p.appended
+
+  -- a beginning of them
+  pub some_sent : (s t : Pieces W) (bytes : List ℕ) → kept_bytes s ≡ [] → WroteSome (PiecesWrote contents) s bytes t → AppendsBeginning (contents (pieces_writer s)) (contents (pieces_writer t)) bytes
+  some_sent s t bytes none some =
+      let w = some.1 in
+      let p = w.went in
+      (p.given, kept_bytes t ++ some.0, w.split ∙ ap (λ z. z ++ some.0) (ap (λ z. z ++ w.front) (sym none) ∙ p.kept) ∙ append_assoc p.given (kept_bytes t) some.0, p.appended)
