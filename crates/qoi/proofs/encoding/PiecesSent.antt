@@ -6,6 +6,10 @@ use Rattle.qoi.specs.writers.Writes.{AppendsBeginning, WroteSome}
 use Rattle.qoi.specs.writers.Pieces.{PiecesWrote, pieces_laws, pieces_writer, kept_bytes}
 
 module _ {W : Type 0} (contents : W → Option (List ℕ)) where
+  -- equal writers hold the same bytes
+  pub appends_as : {a b : W} (after : Option (List ℕ)) (bytes : List ℕ) → a ≡ b → Appends (contents a) after bytes → Appends (contents b) after bytes
+  appends_as after bytes e h = subst (λ w. Appends (contents w) after bytes) e h
+
   -- what was written before the last piece was given was written behind it, too
   pub given_last : (s t u : Pieces W) (bytes : List ℕ) → PiecesWrote contents s bytes t → PiecesWrote contents t [] u → PiecesWrote contents s bytes u
   given_last s t u bytes p q = subst (λ z. PiecesWrote contents s z u) (append-nil bytes) ((pieces_laws contents).both s t u bytes [] p q)

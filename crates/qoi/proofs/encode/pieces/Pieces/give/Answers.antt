@@ -1,13 +1,9 @@
 -- What the writer took is no longer kept.
-use Rattle.std.proofs.Common.{◌≡◌, ◌-◌, List, ℕ, Option, take, drop, refl, sym, subst, ◌∙◌, arith, append-nil}
-use Rattle.std.specs.Io.KnownBytes.{Appends}
+use Rattle.std.proofs.Common.{◌-◌, take, drop, refl, sym, ◌∙◌, arith, append-nil}
 use Rattle.std.proofs.lemmas.Result.{err_from_is_err_and}
 use Rattle.qoi.proofs.encoding.KeptBytes.{part_kept, rest_kept}
+use Rattle.qoi.proofs.encoding.PiecesSent.{appends_as}
 use Rattle.qoi.proofs.encode.pieces.Pieces.give.Goals as goal
-
--- equal writers hold the same bytes
-appends_as : {W : Type 0} (contents : W → Option (List ℕ)) {a b : W} (after : Option (List ℕ)) (bytes : List ℕ) → a ≡ b → Appends (contents a) after bytes → Appends (contents b) after bytes
-appends_as contents after bytes e h = subst (λ w. Appends (contents w) after bytes) e h
 
 pub returns-in_err-given-clause-refused : goal.returns-in_err-given-clause-refused
 returns-in_err-given-clause-refused g c =
