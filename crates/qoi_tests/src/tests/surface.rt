@@ -71,12 +71,44 @@ fn types_are_shown(rt: HostRuntime) -> Result<()> {
 
 #[test]
 fn errors_are_shown(rt: HostRuntime) -> Result<()> {
-    let error = Error::OutputBufferTooSmall {
-        size: 25,
-        required: 26,
-    };
-    let text = "OutputBufferTooSmall { size: 25, required: 26 }";
-    assert_shows(&rt, rt.alloc(), &error, text)
+    let (width, height, size) = (1, 2, 5);
+    let errors = [
+        (
+            Error::InvalidMagic { magic: 7 },
+            "InvalidMagic { magic: 7 }",
+        ),
+        (
+            Error::InvalidChannels { channels: 5 },
+            "InvalidChannels { channels: 5 }",
+        ),
+        (
+            Error::InvalidColorSpace { colorspace: 2 },
+            "InvalidColorSpace { colorspace: 2 }",
+        ),
+        (
+            Error::InvalidImageDimensions { width, height },
+            "InvalidImageDimensions { width: 1, height: 2 }",
+        ),
+        (
+            Error::InvalidImageLength {
+                size,
+                width,
+                height,
+            },
+            "InvalidImageLength { size: 5, width: 1, height: 2 }",
+        ),
+        (
+            Error::OutputBufferTooSmall { size, required: 26 },
+            "OutputBufferTooSmall { size: 5, required: 26 }",
+        ),
+        (Error::UnexpectedBufferEnd, "UnexpectedBufferEnd"),
+        (Error::InvalidPadding, "InvalidPadding"),
+        (Error::OutOfMemory, "OutOfMemory"),
+    ];
+    for (error, text) in &errors {
+        assert_shows(&rt, rt.alloc(), error, text)?;
+    }
+    Ok(())
 }
 
 #[test]

@@ -78,12 +78,13 @@ fn long_file(alloc: Global) -> Result<(Vec<u8>, Vec<u8>)> {
 fn each_piece_fails_once(rt: HostRuntime) -> Result<()> {
     let (raw, file) = long_file(rt.alloc())?;
     let encoder = Encoder::new(&raw, 1500, 1)?;
-    for (call, gone) in [(1, 0usize), (2, 4096)] {
+    for (call, gone) in [(1, 0), (2, 4096)] {
         let end = End::Fault;
         let mut writer = Sink::new(rt.alloc(), 10_000, Bad { call, end })?;
         let refusal = encoder.encode_to_stream(&mut writer).err();
         assert_fails(&rt, refusal, ErrorKind::BrokenPipe);
-        assert_bytes(&rt, &writer.got, &file[..gone]);
+        assert_number(&rt, writer.got.len(), gone);
+        assert!(rt; file.starts_with(&writer.got));
         assert_number(&rt, writer.calls, call);
     }
     let mut writer = Sink::new(rt.alloc(), 10_000, NONE)?;
