@@ -5,7 +5,6 @@ pub mod Choices
 pub mod CoderSteps
 pub mod CoderTable
 pub mod GroupRuns
-pub mod KeptBytes
 pub mod NotedPixels
 pub mod PiecesSent
 pub mod PixelBlock

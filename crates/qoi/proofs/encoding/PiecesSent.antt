@@ -1,16 +1,22 @@
 -- What a writer that is given its bytes in pieces was sent.
-use Rattle.std.proofs.Common.{◌≡◌, ℕ, List, [], ◌++◌, Option, sym, ap, subst, ◌∙◌, append-nil, append_assoc}
+use Rattle.std.proofs.Common.{◌≡◌, ℕ, ◌+◌, List, [], ◌++◌, Option, length, drop, sym, ap, subst, ◌∙◌, append-nil, append_assoc, drop-drop}
+use Rattle.std.proofs.Math.Seq.{drop-append_seam}
 use Rattle.std.specs.Io.KnownBytes.{Appends}
 use Rattle.qoi.specs.declared.encode.pieces.Pieces.{Pieces}
 use Rattle.qoi.specs.writers.Writes.{AppendsBeginning, WroteSome}
 use Rattle.qoi.specs.writers.Pieces.{PiecesWrote, pieces_laws, pieces_writer, kept_bytes}
+
+-- kept bytes once the first of them are gone
+pub rest_kept : (xs front rest : List ℕ) (gone more : ℕ) → drop gone xs ≡ front ++ rest → more ≡ length front → drop gone xs ++ [] ≡ front ++ drop (gone + more) xs
+rest_kept xs front rest gone more e size =
+    append-nil (drop gone xs) ∙ e ∙ ap (λ z. front ++ z) (sym (ap (λ k. drop (gone + k) xs) size ∙ sym (drop-drop (length front) gone xs) ∙ ap (drop (length front)) e ∙ drop-append_seam front rest))
 
 module _ {W : Type 0} (contents : W → Option (List ℕ)) where
   -- equal writers hold the same bytes
   pub appends_as : {a b : W} (after : Option (List ℕ)) (bytes : List ℕ) → a ≡ b → Appends (contents a) after bytes → Appends (contents b) after bytes
   appends_as after bytes e h = subst (λ w. Appends (contents w) after bytes) e h
 
-  -- what was written before the last piece was given was written behind it, too
+  -- the same bytes were written once the last piece is given
   pub given_last : (s t u : Pieces W) (bytes : List ℕ) → PiecesWrote contents s bytes t → PiecesWrote contents t [] u → PiecesWrote contents s bytes u
   given_last s t u bytes p q = subst (λ z. PiecesWrote contents s z u) (append-nil bytes) ((pieces_laws contents).both s t u bytes [] p q)
 

@@ -1,5 +1,5 @@
 //! A file that is written in pieces.
-ghost use Rattle.std.specs.Prelude.{◌≡◌, ℕ, ◌+◌, ◌<◌, ◌≤◌, List, [], length, IfOk, OnOk, IfErr};
+ghost use Rattle.std.specs.Prelude.{◌≡◌, ℕ, ◌+◌, ◌<◌, ◌≤◌, List, [], length, take, drop, IfOk, OnOk, IfErr};
 ghost use Rattle.qoi.specs.declared.encode.pieces.TheConstants.{PIECE};
 ghost use Rattle.qoi.specs.Errors.{IsIoError};
 
@@ -12,8 +12,8 @@ use std::io::Write;
 const PIECE: usize = 4096;
 
 /// A writer of the standard library that is given its bytes in pieces: they are kept until a piece is
-/// full. It keeps those of `piece` from `gone` to `end`; `room` is what it could still take where
-/// `end` was 0.
+/// full. Those of `piece` from `gone` to `end` are kept; `room` is how many could still be written when
+/// the piece was begun.
 #[derive(Drop)]
 pub(super) struct Pieces<'a, W> {
     writer: &'a mut W,
@@ -53,10 +53,9 @@ impl<'a, W: Write> Pieces<'a, W> {
         ensures refused { IfErr result (λ e. IsIoError e
             × PiecesWrote W.contents self.old [] self.new) }
     {
-        // A copy: the writer is lent from this struct, too, and bytes of it can't be lent beside that.
-        let piece = self.piece;
+        let piece = &self.piece;
         let mut writer = GenericWriter::new(self.writer);
-        let given = writer.write_many(&piece[self.gone..self.end]);
+        let given = writer.write_many(part_of(piece, self.gone, self.end));
         self.gone += usize::MAX - writer.capacity();
         given?;
         self.room -= self.end;
@@ -127,4 +126,12 @@ impl<'a, W: Write> Writer for Pieces<'a, W> {
     fn capacity(&self) -> usize {
         self.room - self.end
     }
+}
+
+// The bytes of a piece from one place to another.
+fn part_of(piece: &[u8; PIECE], from: usize, to: usize) -> &[u8]
+    requires { (from ≤ to) × (to ≤ length piece.now) }
+    ensures { result.now ≡ drop from (take to piece.now) }
+{
+    &piece[from..to]
 }
