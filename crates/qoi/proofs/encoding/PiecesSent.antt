@@ -1,12 +1,19 @@
 -- What a writer that is given its bytes in pieces was sent.
-use Rattle.std.proofs.Common.{◌≡◌, ℕ, ◌+◌, List, [], ◌++◌, Option, length, drop, sym, ap, subst, ◌∙◌, append-nil, append_assoc, drop-drop}
+use Rattle.std.proofs.Common.{◌≡◌, ℕ, ◌+◌, ◌-◌, ◌≤◌, List, [], ◌++◌, Option, length, take, drop, arith, sym, ap, subst, ◌∙◌, append-nil, append_assoc, drop-drop}
 use Rattle.std.proofs.Math.Seq.{drop-append_seam}
+use Rattle.std.proofs.lemmas.List.{drop-take}
 use Rattle.std.specs.Io.KnownBytes.{Appends}
 use Rattle.qoi.specs.declared.encode.pieces.Pieces.{Pieces}
 use Rattle.qoi.specs.writers.Writes.{AppendsBeginning, WroteSome}
 use Rattle.qoi.specs.writers.Pieces.{PiecesWrote, pieces_laws, pieces_writer, kept_bytes}
 
--- kept bytes once the first of them are gone
+-- kept bytes as a part of the piece
+pub part_kept : (xs : List ℕ) (gone end : ℕ) → gone ≤ end → take (end - gone) (drop gone xs) ≡ drop gone (take end xs)
+part_kept xs gone end l =
+    let all : end ≡ gone + (end - gone) = omega (arith, l) in
+    sym (ap (λ n. drop gone (take n xs)) all ∙ drop-take gone (end - gone) xs)
+
+-- and once the first of them are gone
 pub rest_kept : (xs front rest : List ℕ) (gone more : ℕ) → drop gone xs ≡ front ++ rest → more ≡ length front → drop gone xs ++ [] ≡ front ++ drop (gone + more) xs
 rest_kept xs front rest gone more e size =
     append-nil (drop gone xs) ∙ e ∙ ap (λ z. front ++ z) (sym (ap (λ k. drop (gone + k) xs) size ∙ sym (drop-drop (length front) gone xs) ∙ ap (drop (length front)) e ∙ drop-append_seam front rest))

@@ -1,5 +1,5 @@
 //! A file that is written in pieces.
-ghost use Rattle.std.specs.Prelude.{◌≡◌, ℕ, ◌+◌, ◌<◌, ◌≤◌, List, [], length, take, drop, IfOk, OnOk, IfErr};
+ghost use Rattle.std.specs.Prelude.{◌≡◌, ℕ, ◌+◌, ◌<◌, ◌≤◌, List, [], length, IfOk, OnOk, IfErr};
 ghost use Rattle.qoi.specs.declared.encode.pieces.TheConstants.{PIECE};
 ghost use Rattle.qoi.specs.Errors.{IsIoError};
 
@@ -53,9 +53,11 @@ impl<'a, W: Write> Pieces<'a, W> {
         ensures refused { IfErr result (λ e. IsIoError e
             × PiecesWrote W.contents self.old [] self.new) }
     {
-        let piece = &self.piece;
+        // A copy: where the array itself is lent, `end` stays in memory beside it, and each chunk waits
+        // for it.
+        let piece = self.piece;
         let mut writer = GenericWriter::new(self.writer);
-        let given = writer.write_many(part_of(piece, self.gone, self.end));
+        let given = writer.write_many(&piece[self.gone..self.end]);
         self.gone += usize::MAX - writer.capacity();
         given?;
         self.room -= self.end;
@@ -126,12 +128,4 @@ impl<'a, W: Write> Writer for Pieces<'a, W> {
     fn capacity(&self) -> usize {
         self.room - self.end
     }
-}
-
-// The bytes of a piece from one place to another.
-fn part_of(piece: &[u8; PIECE], from: usize, to: usize) -> &[u8]
-    requires { (from ≤ to) × (to ≤ length piece.now) }
-    ensures { result.now ≡ drop from (take to piece.now) }
-{
-    &piece[from..to]
 }
