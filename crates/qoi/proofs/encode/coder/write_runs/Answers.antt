@@ -17,6 +17,11 @@ next g c longest =
     ∙ (λ i. (if c.min-run.result == 1 then c.args.one else sym c.run.ensures i) ∷ runs_by c.args.one (c.loop-left.left - c.min-run.result))
     ∙ (λ i. sym c.pick-chunk.ensures i ∷ runs_by c.args.one (c.loop-left.left - c.min-run.result))
 
+pub loop-left-preserved : goal.loop-left-preserved
+loop-left-preserved g c =
+    let more = next g (goal.at.loop-left-preserved g c).After-pick-chunk c.min-run.ensures in
+    wrote_next g.W.Writer.wrote g.W.Writer.room g.met.W.Writer.laws c.args.buf.now c.loop-left.buf c.write_chunk.new.buf (text (runs_by c.args.one c.args.count)) (text (runs_by c.args.one c.loop-left.left)) (bytes_of c.pick-chunk.result) (text (runs_by c.args.one (c.loop-left.left - c.min-run.result))) c.loop-left.invariant (ap text more) c.in_ok-write_chunk.ensures.written
+
 pub write_chunk-requires-clause-room : goal.write_chunk-requires-clause-room
 write_chunk-requires-clause-room g c =
     let more = next g (goal.at.write_chunk-requires-clause-room g c).After-pick-chunk c.min-run.ensures in
@@ -30,11 +35,6 @@ returns-in_err-write_chunk-clause-refused g c =
     let p = err_from_is_err_and c.from_residual.result c.from_residual.ensures.1 in
     let refused = c.in_err-write_chunk.ensures.refused in
     rw (p.1, p.2) (refused.0, wrote_part g.W.Writer.wrote g.W.Writer.room g.met.W.Writer.laws c.args.buf.now c.loop-left.buf c.write_chunk.new.buf (text (runs_by c.args.one c.args.count)) (text (runs_by c.args.one c.loop-left.left)) (bytes_of c.pick-chunk.result) (text (runs_by c.args.one (c.loop-left.left - c.min-run.result))) c.loop-left.invariant (ap text more) refused.1)
-
-pub loop-left-preserved : goal.loop-left-preserved
-loop-left-preserved g c =
-    let more = next g (goal.at.loop-left-preserved g c).After-pick-chunk c.min-run.ensures in
-    wrote_next g.W.Writer.wrote g.W.Writer.room g.met.W.Writer.laws c.args.buf.now c.loop-left.buf c.write_chunk.new.buf (text (runs_by c.args.one c.args.count)) (text (runs_by c.args.one c.loop-left.left)) (bytes_of c.pick-chunk.result) (text (runs_by c.args.one (c.loop-left.left - c.min-run.result))) c.loop-left.invariant (ap text more) c.in_ok-write_chunk.ensures.written
 
 pub returns-clause-written : goal.returns-clause-written
 returns-clause-written g c =
