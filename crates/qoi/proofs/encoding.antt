@@ -1,21 +1,21 @@
 -- Lemmas on encoding.
 pub mod BufferFilled
-pub mod ChunkBehind
 pub mod Choices
 pub mod CoderSteps
 pub mod CoderTable
 pub mod GroupRuns
 pub mod NotedPixels
-pub mod PiecesSent
 pub mod PixelBlock
 pub mod PlacedLists
 pub mod Spelled
 pub mod SpelledSteps
+pub mod SpelledLanes
+pub mod QuadGroups
+pub mod QuadLoop
 pub mod StillToWrite
 pub mod StyledGroup
 pub mod StyleLists
 pub mod TightChoice
-pub mod Unwritten
 pub mod WriterProgress
 pub mod WrittenExists
 pub mod WrittenGrows

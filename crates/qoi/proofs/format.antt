@@ -1,14 +1,16 @@
 -- Lemmas on the format: headers, pixels, index positions, chunks and files.
 pub mod Appended
 pub mod ChunkSteps
-pub mod ChunkNumbers
 pub mod ChunksApart
 pub mod HeaderBytes
 pub mod Lanes
+pub mod LaneRuns
+pub mod LaneBytes
 pub mod OneVerdict
 pub mod PackedPixels
 pub mod PartOfChunk
 pub mod PixelBlocks
+pub mod Quads
 pub mod RawPixels
 pub mod SamePixels
 pub mod SetLast

@@ -11,15 +11,16 @@ ghost use Rattle.qoi.specs.Errors.{IsIoError};
 ghost use Rattle.qoi.specs.writers.Writes.{AppendsBeginning, WroteSome};
 
 mod coder;
-mod pieces;
+pub(crate) mod piece;
+pub(crate) mod quad;
 
 use crate::consts::QOI_PADDING;
 use crate::encode::coder::encode_chunks;
-use crate::encode::pieces::Pieces;
+use crate::encode::piece::Piece;
 use crate::error::{Error, Result};
 use crate::header::{Header, max_file_size};
 use crate::types::{Channels, ColorSpace, Style};
-use crate::utils::{BytesMut, Writer};
+use crate::utils::{BytesMut, GenericWriter, Writer};
 use std::alloc::Global;
 use std::io::Write;
 use std::marker::Model;
@@ -36,9 +37,11 @@ fn encode_image<W: Writer>(buf: &mut W, style: Style, header: &Header, data: &[u
         × IsFileOf style header.now «data».now bytes × WroteSome W.wrote buf.old bytes buf.new) }
 {
     let room = buf.capacity();
-    buf.write_many(&header.encode())?;
-    encode_chunks(buf, style, header.channels, data)?;
-    buf.write_many(&QOI_PADDING)?;
+    let mut piece = Piece::new();
+    piece.keep(&header.encode());
+    encode_chunks(buf, &mut piece, style, header.channels, data)?;
+    piece.keep(&QOI_PADDING);
+    piece.finish(buf)?;
     Ok(room - buf.capacity())
 }
 
@@ -265,9 +268,8 @@ impl<'a> Encoder<'a> {
             × IsFileOf self.now.style self.now.header self.now.raw bytes
             × AppendsBeginning (W.contents writer.old) (W.contents writer.new) bytes) }
     {
-        let mut pieces = Pieces::new(writer);
-        let n = encode_image(&mut pieces, self.style, &self.header, self.data)?;
-        pieces.give()?;
+        let mut writer = GenericWriter::new(writer);
+        let n = encode_image(&mut writer, self.style, &self.header, self.data)?;
         Ok(n)
     }
 }

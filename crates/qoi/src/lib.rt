@@ -27,7 +27,6 @@ mod header;
 #[doc(hidden)]
 pub mod laws;
 mod packed;
-mod packed_chunk;
 #[doc(hidden)]
 pub mod parts;
 mod pixel;

@@ -2,8 +2,7 @@
 ghost use Rattle.std.specs.Prelude.{◌≡◌, ◌↔◌, ◌+◌, ◌*◌, ◌%◌, ◌^◌, ◌<◌, ◌≤◌, ℕ, length, take, drop, replicate, IsTrue, if◌then◌else◌};
 ghost use Rattle.qoi.specs.Qoi.{IsPixel, pixel, rgba, start, blank, hash, moved};
 ghost use Rattle.qoi.specs.Raw.{IsChannels, output};
-ghost use Rattle.qoi.specs.inner.Packed.{word, lanes, spread};
-ghost use Rattle.qoi.specs.inner.Steps.{steps, small_steps, wide_steps};
+ghost use Rattle.qoi.specs.inner.Packed.{word, pixel_of_word, lanes, spread};
 
 use std::marker::Model;
 use std::simd::{Simd, u8x4, u8x16, u64x2};
@@ -14,12 +13,6 @@ const LANES: u64 = 0xff00_ff00_00ff_00ff;
 // (3 * 2^56 + 7 * 2^40 + 5 * 2^16 + 11) * 4: the six highest bits of its product with a spread pixel
 // are the six lowest ones of 3 r + 5 g + 7 b + 11 a.
 const HASH_FACTOR: u64 = 0x0c00_1c00_0014_002c;
-
-// 1 above the lanes of red, green and blue, from which their differences borrow.
-const GUARDS: u64 = 0x0001_0000_0100_0100;
-
-// The same, with 8 for red and blue and 32 for green.
-const WIDE_GUARDS: u64 = 0x0000_2000_0108_0108;
 
 /// A pixel in 32 bits: red in the lowest byte, then green, blue and alpha.
 ///
@@ -83,6 +76,14 @@ impl Packed {
         ensures { result ≡ pixel r g b a }
     {
         Packed(u32::from_le_bytes([r, g, b, a]))
+    }
+
+    /// The pixel of a number.
+    #[inline(always)]
+    pub(crate) fn of_number(number: u32) -> Packed
+        ensures { result ≡ pixel_of_word number }
+    {
+        Packed(number)
     }
 
     /// The pixel that the first `N` bytes mean; of three channels it is opaque.
@@ -149,6 +150,15 @@ impl Packed {
         (self.0 / 0x100_0000) as u8
     }
 
+    /// Its number.
+    #[inline(always)]
+    pub(crate) fn number(self) -> u32
+        ensures number { result ≡ word self }
+        ensures bytes { IsPixel self }
+    {
+        self.0
+    }
+
     /// The number in the low half of 64 bits.
     #[inline(always)]
     pub(crate) fn wide(self) -> u64
@@ -201,9 +211,7 @@ impl Packed {
         let word = u64::from(self.0);
         Spread((word + (word << 32)) & LANES)
     }
-}
 
-impl Packed {
     /// Opaque black, the pixel before the first one.
     #[tactic(auto, unfolding(crate::specs::Qoi::start))]
     pub(crate) fn start() -> Packed
@@ -260,74 +268,6 @@ impl Spread {
         ensures nothing { by ≡ 0 → result ≡ self }
     {
         Spread((self.0 + by) & LANES)
-    }
-
-    /// Its number.
-    #[inline(always)]
-    pub(crate) fn number(self) -> u64
-        ensures { result ≡ spread self }
-    {
-        self.0
-    }
-
-    /// Whether both are the same pixel.
-    #[inline(always)]
-    pub(crate) fn is_same(self, other: Spread) -> bool
-        ensures { IsTrue result ↔ (self ≡ other) }
-    {
-        self.0 == other.0
-    }
-
-    /// What is added to the other's channels for this one's; it wraps at 256.
-    #[inline(always)]
-    pub(crate) fn minus(self, other: Spread) -> Spread
-        ensures { result ≡ steps other self }
-    {
-        Spread((self.0 + GUARDS).wrapping_sub(other.0) & LANES)
-    }
-
-    /// Steps with 2 added to those of red, green and blue, as a difference chunk has them.
-    #[inline(always)]
-    pub(crate) fn small_steps(self) -> Spread
-        ensures { result ≡ small_steps self }
-    {
-        self.moved(0x0200_0002_0002)
-    }
-
-    /// Steps as a luma chunk has them: green's with 32 added, and red's and blue's less green's with 8
-    /// added.
-    #[inline(always)]
-    pub(crate) fn wide_steps(self) -> Spread
-        ensures { result ≡ wide_steps self }
-    {
-        let green = (self.0 >> 40) % 256;
-        Spread((self.0 + WIDE_GUARDS - green * 0x1_0001) & LANES)
-    }
-
-    /// Steps cut to those of a difference chunk.
-    #[inline(always)]
-    #[tactic(auto, using(crate::proofs::format::Steps::small_masked, crate::proofs::format::Steps::small_is_spread))]
-    pub(crate) fn cut_small(self) -> Spread
-        ensures { result ≡ pixel (self.r % 4) (self.g % 4) (self.b % 4) 0 }
-    {
-        Spread(self.0 & 0x0000_0300_0003_0003)
-    }
-
-    /// Steps cut to those of a luma chunk.
-    #[inline(always)]
-    #[tactic(auto, using(crate::proofs::format::Steps::wide_masked, crate::proofs::format::Steps::wide_is_spread))]
-    pub(crate) fn cut_wide(self) -> Spread
-        ensures { result ≡ pixel (self.r % 16) (self.g % 64) (self.b % 16) 0 }
-    {
-        Spread(self.0 & 0x0000_3f00_000f_000f)
-    }
-
-    /// Whether the highest of the steps, alpha's, is 0.
-    #[inline(always)]
-    pub(crate) fn keeps_alpha(self) -> bool
-        ensures { IsTrue result ↔ (self.a ≡ 0) }
-    {
-        self.0 >> 56 == 0
     }
 
     /// The pixel with its own alpha and other red, green and blue.

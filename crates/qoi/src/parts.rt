@@ -1,7 +1,6 @@
 //! The crate's internal items that contracts rest on.
 pub use crate::chunk::{Chunk, read_chunk};
 pub use crate::decode::{Bytes, Reader};
-pub use crate::packed_chunk::PackedChunk;
 pub use crate::pixel::{Pixel, SupportedChannels};
 pub use crate::runs::repeats;
 pub use crate::utils::{BytesMut, GenericWriter, Writer};

@@ -1,9 +1,16 @@
 //! A pixel of three or four channels.
-ghost use Rattle.std.specs.Prelude.{◌≡◌, ◌<◌, ℕ, List, [], ◌∷◌, ◌++◌, length, take, drop, replicate, slice_index, slice_index_or};
-ghost use Rattle.qoi.specs.Qoi.{rgba, hash, after_diff, after_luma, moved};
+ghost use Rattle.std.specs.Prelude.{◌≡◌, ◌+◌, ◌<◌, ◌≤◌, OnOk, IfErr, ℕ, List, [], ◌∷◌, ◌++◌, length, take, drop, replicate, slice_index, slice_index_or};
+ghost use Rattle.qoi.specs.declared.chunk.Chunk.{Chunk};
+ghost use Rattle.qoi.specs.Spelling.{Spells};
+ghost use Rattle.qoi.specs.writers.Writes.{WroteSome};
+ghost use Rattle.qoi.specs.Qoi.{bytes_of, rgba, hash, after_diff, after_luma, moved};
 ghost use Rattle.qoi.specs.Raw.{IsChannels};
 
+use crate::encode::piece::put_chunk;
+use crate::encode::quad::Quad;
+use crate::error::Result;
 use crate::packed::Packed;
+use crate::utils::Writer;
 use std::marker::Model;
 
 /// A pixel of `N` channels of 8 bits, 3 or 4.
@@ -204,6 +211,27 @@ impl<const N: usize> Pixel<N> {
         ensures within { result < 64 }
     {
         self.packed().spread().hash_index()
+    }
+
+    /// Writes the first of a difference, a luma, an RGB and an RGBA chunk that gives this pixel
+    /// after the pixel `px_prev` (QOI specification 1.0, "Chunks").
+    ///
+    /// The caller sees to it that the writer has room for `N` + 1 bytes. The only refusals are the
+    /// writer's, and then a beginning of the chunk is written.
+    #[inline]
+    pub fn encode_into<W: Writer>(&self, px_prev: Pixel<N>, buf: &mut W) -> Result<()>
+        requires channels { IsChannels N }
+        requires room { N + 1 ≤ W.room buf.old }
+        ensures written { OnOk result ((c : Chunk) × Spells self.now px_prev.entry c
+            × W.wrote buf.old (bytes_of c) buf.new) }
+        ensures refused { IfErr result (λ e. W.Refuses e × (c : Chunk)
+            × Spells self.now px_prev.entry c × WroteSome W.wrote buf.old (bytes_of c) buf.new) }
+    {
+        let quad = Quad::alone::<N>(self.packed(), px_prev.packed());
+        let mut bytes = [0; 8];
+        let end =
+            put_chunk::<N>(&mut bytes, 0, quad.pixels[0], quad.numbers[0], quad.sizes[0]);
+        buf.write_many(&bytes[..end])
     }
 
     // The same pixel as one number, opaque where it has three channels.

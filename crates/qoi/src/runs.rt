@@ -1,15 +1,14 @@
 //! Repeats of a pixel in raw bytes.
-ghost use Rattle.std.specs.Prelude.{◌≡◌, ◌↔◌, ◌+◌, ◌*◌, ◌≤◌, ◌<◌, ◌++◌, length, take, drop, replicate, IsTrue, slice_get, Some};
+ghost use lib.Lanes.{mask_l, zip2};
+ghost use Rattle.std.specs.Prelude.{ℕ, List, nat_eq, ◌≡◌, ◌↔◌, ◌+◌, ◌*◌, ◌≤◌, ◌<◌, ◌++◌, length, take, drop, replicate, IsTrue, slice_get, Some};
 ghost use Rattle.qoi.specs.Qoi.{rgba};
 ghost use Rattle.qoi.specs.Raw.{IsChannels, output, pixels_of};
 ghost use Rattle.qoi.specs.Runs.{IsCount};
+ghost use Rattle.qoi.specs.inner.Quad.{IsRun};
 
 use crate::packed::Packed;
 use crate::pixel::Pixel;
 use std::simd::u8x16;
-
-// How many pixels are looked at one by one before blocks are.
-const FEW: usize = 16;
 
 /// How many whole pixels at the front of `data` equal `px`.
 #[inline(always)]
@@ -20,39 +19,21 @@ pub fn repeats<const N: usize>(data: &[u8], px: Pixel<N>) -> usize
     repeats_of::<N>(data, px.packed())
 }
 
-/// How many whole pixels at the front of `data` equal `px`.
-///
-/// Mostly there are few, so the first ones are looked at by themselves.
+/// How many of four pixels repeat the one before them, from a lane on, by a bit for each of the four.
 #[inline(always)]
-pub(crate) fn repeats_of<const N: usize>(data: &[u8], px: Packed) -> usize
-    requires { IsChannels N }
-    ensures { IsCount px (pixels_of N «data».now) result }
+pub(crate) fn repeats_in_quad(bits: u64, lane: usize) -> usize
+    requires within { bits < 16 }
+    requires lane { lane < 4 }
+    ensures run { (cur prev : List ℕ) → length cur ≡ 4 → length prev ≡ 4
+        → bits ≡ mask_l (zip2 nat_eq cur prev) → IsRun cur prev lane result }
 {
-    let mut count = 0;
-    let mut rest = data;
-    while begins_with::<N>(rest, px) {
-        if count == FEW {
-            return count + count_more::<N>(rest, px);
-        }
-        let (_, after) = rest.split_at(N);
-        rest = after;
-        count += 1;
-    }
-    count
+    (!(bits >> lane as u32)).trailing_zeros() as usize
 }
 
-// Whether a whole pixel equal to `px` stands at the front.
-#[inline(always)]
-fn begins_with<const N: usize>(data: &[u8], px: Packed) -> bool
-    requires { IsChannels N }
-    ensures { IsTrue result ↔ (slice_get (pixels_of N «data».now) 0 ≡ Some px) }
-{
-    data.len() >= N && Packed::read::<N>(data).is_same(px)
-}
-
-// Counts by blocks of sixteen pixels, and then pixel by pixel.
+/// How many whole pixels at the front of `data` equal `px`: counted by blocks of sixteen pixels, and then
+/// pixel by pixel.
 #[inline(never)]
-fn count_more<const N: usize>(data: &[u8], px: Packed) -> usize
+pub(crate) fn repeats_of<const N: usize>(data: &[u8], px: Packed) -> usize
     requires channels { IsChannels N }
     requires opaque { N ≡ 3 → px.a ≡ 255 }
     ensures within { result ≤ length «data».now }
@@ -96,6 +77,15 @@ fn count_pixels<const N: usize>(data: &[u8], px: Packed) -> usize
         count += 1;
     }
     count
+}
+
+// Whether a whole pixel equal to `px` stands at the front.
+#[inline(always)]
+fn begins_with<const N: usize>(data: &[u8], px: Packed) -> bool
+    requires { IsChannels N }
+    ensures { IsTrue result ↔ (slice_get (pixels_of N «data».now) 0 ≡ Some px) }
+{
+    data.len() >= N && Packed::read::<N>(data).is_same(px)
 }
 
 // Whether the first sixteen pixels are all `px`, by three or four vectors of sixteen bytes.

@@ -1,10 +1,10 @@
 //! The 64 index positions and the pixels that they hold (QOI specification 1.0, "Chunks": the running
 //! array of previously seen pixels).
-ghost use Rattle.std.specs.Prelude.{◌≡◌, ◌<◌, [], ◌∷◌, IfSome};
+ghost use Rattle.std.specs.Prelude.{◌≡◌, ◌<◌, [], ◌∷◌, IfSome, IsTrue, IsFalse};
 ghost use Rattle.qoi.specs.Qoi.{Past, positions, hash, seen};
 ghost use Rattle.qoi.specs.inner.Table.{Holds, first_blank};
 
-use crate::packed::Packed;
+use crate::packed::{Packed, pick};
 use std::marker::Model;
 
 /// The pixels that the 64 index positions hold.
@@ -52,6 +52,17 @@ impl Table {
         ensures { (past : Past) → Holds self.old past → Holds self.new (px ∷ past) }
     {
         self.pixels[place as usize] = px;
+    }
+
+    /// Puts a pixel at its index position, or nothing. No jump is needed.
+    #[inline(always)]
+    pub(crate) fn put_if(&mut self, puts: bool, place: u8, px: Packed)
+        requires { place ≡ hash px }
+        ensures puts { IsTrue puts → (past : Past) → Holds self.old past → Holds self.new (px ∷ past) }
+        ensures stays { IsFalse puts → self.new ≡ self.old }
+    {
+        let held = self.pixels[place as usize];
+        self.pixels[place as usize] = pick(puts, px, held);
     }
 
     /// The least index position that holds transparent black, if there is one.

@@ -10,20 +10,9 @@ use Rattle.qoi.specs.Written.{WrittenBy}
 use Rattle.qoi.proofs.format.ChunkSteps.{previous_repeats, reverse-replicate}
 use Rattle.qoi.proofs.encoding.WrittenGrows.{TakesRun, all_back, chunks_split, written_none, written_runs, written_fresh}
 use Rattle.qoi.proofs.encoding.Choices.{Chooses}
+pub use Rattle.qoi.specs.inner.CoderLoop.{StillToWrite}
 use Rattle.qoi.proofs.encoding.WrittenExists.{is_pixel_start, written_on}
 use Rattle.qoi.proofs.encoding.WrittenOnce.{unique_by}
-
--- The list cs is written for the image. Of its pixels `past` have come, and `done` is the list that is written for
--- them, which a run may follow; `rest` follow. Of cs the chunks `todo` are still to be written.
-pub record StillToWrite (Choice : Past → RgbaPixel → Chunk → Type 0) (image : List RgbaPixel) (cs : List Chunk) (past : Past) (rest : List RgbaPixel) (todo : List Chunk) : Type 0 where
-  pub whole : WrittenBy Choice image cs
-  pub split : image ≡ reverse past ++ rest
-  pub before : IsPixel (previous past)
-  pub are : AllByRecursion IsPixel rest
-  pub done : List Chunk
-  pub written : WrittenBy Choice (reverse past) done
-  pub takes_run : TakesRun done
-  pub parts : cs ≡ done ++ todo
 
 module _ (Choice : Past → RgbaPixel → Chunk → Type 0) (choices : Chooses Choice) where
   -- before the first pixel all is still to be written

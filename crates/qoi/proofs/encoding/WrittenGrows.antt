@@ -9,6 +9,7 @@ use Rattle.qoi.specs.Runs.{last_run, runs}
 use Rattle.qoi.specs.Written.{IsRightAfter, IsFull, RunsAreFull, WrittenBy}
 use Rattle.qoi.specs.Styles.{is_run}
 use Rattle.qoi.proofs.format.ChunkSteps.{previous_repeats, repeats_after, right_from, full_other, full_before, then_other, then_chunks-append, each_append}
+pub use Rattle.qoi.specs.inner.CoderLoop.{TakesRun}
 
 -- what holds of each of two lists holds of each of both
 pub all_append : {A : Type 0} (P : A → Type 0) (xs ys : List A) → AllByRecursion P xs → AllByRecursion P ys → AllByRecursion P (xs ++ ys)
@@ -75,10 +76,6 @@ full_62 (d ∷ e ∷ cs) n h = (same d e h.0, full_62 (e ∷ cs) n h.1)
 -- chunks after chunks
 pub chunks_split : (a b d : List Chunk) (c : Chunk) → ((a ++ b) ++ c ∷ []) ++ d ≡ a ++ (b ++ c ∷ d)
 chunks_split a b d c = append_assoc (a ++ b) (c ∷ []) d ∙ append_assoc a b (c ∷ d)
-
--- a run of any length may follow the list
-abbrev pub TakesRun : List Chunk → Type 0
-TakesRun cs = (n : ℕ) → RunsAreFull (cs ++ Run n ∷ [])
 
 module _ (Choice : Past → RgbaPixel → Chunk → Type 0) where
   -- nothing is written for no pixel

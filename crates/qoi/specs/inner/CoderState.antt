@@ -1,5 +1,5 @@
--- The state of a coder between two pixels.
-use Rattle.std.specs.Prelude.{◌≡◌, ℕ, Bool, not, ◌&&◌, ◌||◌, nat_lt, if◌then◌else◌, List, Option}
+-- What a coder keeps between two pixels.
+use Rattle.std.specs.Prelude.{◌≡◌, ℕ, Bool, not, ◌&&◌, ◌||◌, nat_lt, if◌then◌else◌, List, [], ◌∷◌, Option, Some}
 use Rattle.qoi.specs.declared.chunk.Chunk.{Chunk}
 use Rattle.qoi.specs.declared.chunk.Chunk.TheVariants.{Place, Run}
 use Rattle.qoi.specs.declared.types.Style.{Style}
@@ -32,3 +32,8 @@ abbrev pub rest_of_one : Style → Bool → Bool → ℕ → ℕ → Chunk
 rest_of_one Reference begun placed place n = Run 1
 rest_of_one Tight begun placed place n = Run 1
 rest_of_one Places begun placed place n = if begun && (nat_lt 1 n || not placed) then Place place else Run 1
+
+-- the last of the chunks, or the chunk before them where there is none
+abbrev pub last_chunk : Option Chunk → List Chunk → Option Chunk
+last_chunk before [] = before
+last_chunk before (c ∷ cs) = last_chunk (Some c) cs

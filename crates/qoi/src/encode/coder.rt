@@ -1,26 +1,38 @@
-//! The coder: the chunks of an image's pixels, a group of repeats and the fresh pixel behind it at a
-//! time (QOI specification 1.0, "Data" and "Chunks").
-ghost use Rattle.std.specs.Prelude.{◌≡◌, ◌≢◌, ℕ, ◌+◌, ◌/◌, ◌%◌, ◌<◌, ◌≤◌, ◌↔◌, IsTrue, List, [], ◌∷◌, ◌++◌, Option, None, Some, length, replicate, OnOk, IfErr};
+//! The coder: the chunks of an image's pixels, four pixels at a time (QOI specification 1.0, "Data" and
+//! "Chunks").
+ghost use lib.Lanes.{mask_l, zip2, digits_l};
+ghost use Rattle.std.specs.Prelude.{◌≡◌, ◌≢◌, ◌⊎◌, ℕ, ◌+◌, ◌*◌, ◌/◌, ◌%◌, ◌^◌, ◌<◌, ◌≤◌, ◌↔◌, IsTrue, IsFalse, nat_eq, List, [], ◌∷◌, ◌++◌, Option, None, Some, length, take, drop, replicate, slice_get, slice_index, OnOk, IfErr};
 ghost use Rattle.qoi.specs.declared.chunk.Chunk.{Chunk};
-ghost use Rattle.qoi.specs.Qoi.{Past, IsPixel, start, positions, previous, seen, hash, IsChunk, text, channels_number};
+ghost use Rattle.qoi.specs.declared.chunk.Chunk.TheVariants.{Place, Run};
+ghost use Rattle.qoi.specs.declared.encode.piece.TheConstants.{PIECE, ROOM};
+ghost use Rattle.qoi.specs.Qoi.{RgbaPixel, Past, IsPixel, start, positions, previous, seen, hash, IsChunk, bytes_of, text, channels_number};
 ghost use Rattle.qoi.specs.Raw.{IsChannels, pixels_of};
-ghost use Rattle.qoi.specs.Runs.{runs_by};
+ghost use Rattle.qoi.specs.Runs.{IsCount, runs_by};
 ghost use Rattle.qoi.specs.Written.{IsFirst};
-ghost use Rattle.qoi.specs.Styles.{names, choice_in, WrittenIn};
-ghost use Rattle.qoi.specs.writers.Writes.{WroteSome};
-ghost use Rattle.qoi.specs.inner.CoderState.{held_in, StateAfter, StyleAfter, rest_of_one};
+ghost use Rattle.qoi.specs.Styles.{choice_in, WrittenIn};
+ghost use Rattle.qoi.specs.writers.Writes.{WroteBut, WroteSome};
+ghost use Rattle.qoi.specs.inner.Packed.{word, pixel_of_word};
+ghost use Rattle.qoi.specs.inner.Piece.{kept_bytes};
+ghost use Rattle.qoi.specs.inner.Quad.{HasBytes, IsSpelled, QuadFits, IsQuad, IsFreshLane};
+ghost use Rattle.qoi.specs.inner.CoderState.{held_in, StateAfter, StyleAfter, rest_of_one, last_chunk};
 ghost use Rattle.qoi.specs.inner.Table.{Holds};
 
+use crate::consts::QOI_OP_RUN;
+use crate::encode::piece::{PIECE, Piece, put_chunk, put_run, put_runs};
+use crate::encode::quad::{Quad, before, four, repeating};
 use crate::error::Result;
 use crate::packed::{Packed, pick};
-use crate::packed_chunk::PackedChunk;
-use crate::runs::repeats_of;
+use crate::runs::{repeats_in_quad, repeats_of};
 use crate::table::Table;
 use crate::types::{Channels, Style};
-use crate::utils::{Writer, write_chunk};
+use crate::utils::Writer;
 
 // The longest run of one chunk.
 const RUN_MAX: usize = 62;
+
+// How many repeats are written at a time at most: sixteen runs. What is left of a longer group is a group
+// of its own, with the same chunks.
+const REPEATS_MAX: usize = 992;
 
 // The last pixel and its index position; and whether a fresh pixel came, and whether the chunk of the
 // last one names its index position. The table of the 64 positions stands beside it: the processor keeps
@@ -31,10 +43,12 @@ struct Coder {
     place: u8,
     begun: bool,
     placed: bool,
-    ghost within: { place < positions },
+    ghost within: { place ≡ hash last },
 }
 
 impl Coder {
+    ghost use Rattle.qoi.specs.inner.CoderLoop.{Writing, CoderBetween, AtLane};
+
     // Before the first pixel: opaque black.
     fn new() -> Coder
         ensures last { result.last ≡ start }
@@ -50,172 +64,395 @@ impl Coder {
         }
     }
 
-    // How a rest of 1 of a group of so many repeats is written where a fresh pixel follows the group.
+    // The byte of a rest of 1 of a group of so many repeats, where a fresh pixel follows the group.
     #[inline(always)]
-    fn rest_of_one(&self, style: Style, count: usize) -> PackedChunk
-        ensures one { result
-            ≡ rest_of_one style self.now.begun self.now.placed self.now.place count }
+    fn rest_of_one(&self, style: Style, count: usize) -> u8
+        ensures { bytes_of (rest_of_one style self.now.begun self.now.placed self.now.place count)
+            ≡ result ∷ [] }
     {
         let named = self.begun & ((count > 1) | !self.placed);
         match style {
-            Style::Reference | Style::Tight => PackedChunk::run(1),
-            Style::Places => pick(named, PackedChunk::place(self.place), PackedChunk::run(1)),
+            Style::Reference | Style::Tight => QOI_OP_RUN,
+            Style::Places => pick(named, self.place, QOI_OP_RUN),
         }
     }
 
-    // So many repeats of the last pixel came. In style `Tight` they are put at its index position, too,
-    // which tells only of those that open the image: any other pixel stands there already.
+    // So many repeats of the last pixel came, whose rest of 1 was written as the byte `one`. In style
+    // `Tight` they are put at its index position, too, which tells only of those that open the image: any
+    // other pixel stands there already.
     #[inline(always)]
-    fn repeat(&self, table: &mut Table, style: Style, count: usize)
-        requires { self.now.place ≡ hash self.now.last }
-        ensures state { (past : Past) → StateAfter style past table.old self.now.last
-            → StateAfter style (replicate count (previous past) ++ past) table.new self.now.last }
+    fn repeat(&mut self, table: &mut Table, style: Style, count: usize, one: u8)
+        ensures last { self.new.last ≡ self.old.last }
+        ensures state { (past : Past) → StateAfter style past table.old self.old.last
+            → StateAfter style (replicate count (previous past) ++ past) table.new self.new.last }
+        ensures style { (past : Past) (before : Option Chunk) (c : Chunk) → bytes_of c ≡ one ∷ []
+            → (c ≡ Run 1) ⊎ (c ≡ Place self.old.place)
+            → StyleAfter past before self.old.place self.old.begun self.old.placed
+            → StyleAfter (replicate count (previous past) ++ past)
+            (last_chunk before (runs_by c count)) self.new.place self.new.begun self.new.placed }
     {
         match style {
             Style::Reference | Style::Places => {}
-            Style::Tight => {
-                if count > 0 {
-                    table.put(self.place, self.last);
-                }
-            }
+            Style::Tight => table.put_if(count > 0, self.place, self.last),
         }
+        let named = (count % RUN_MAX == 1) & (one < 64);
+        self.placed = pick(count > 0, named, self.placed);
     }
 
-    // The chunk of a fresh pixel, as the style has it: its index position if it stands there, or else
-    // mostly the first chunk that spells it out. It then stands there, and is the last pixel.
+    // Writes the chunk of a fresh pixel of the four, as the style has it: its index position if it stands
+    // there, or else mostly the first chunk that spells it out. It then stands there, and is the last pixel.
     #[inline(always)]
-    fn choose(&mut self, table: &mut Table, style: Style, px: Packed) -> PackedChunk
-        ensures chunk { IsChunk result }
-        ensures choice { (past : Past) → IsPixel (previous past) → px ≢ previous past
-            → StateAfter style past table.old self.old.last → choice_in style past px result }
-        ensures state { (past : Past) → px ≢ previous past
-            → StateAfter style past table.old self.old.last
-            → StateAfter style (px ∷ past) table.new self.new.last }
-        ensures style { (past : Past) → IsPixel (previous past) → px ≢ previous past
-            → StateAfter style past table.old self.old.last
-            → StyleAfter (px ∷ past) (Some result) self.new.place self.new.begun self.new.placed }
+    fn give<const N: usize>(
+        &mut self,
+        table: &mut Table,
+        out: &mut [u8],
+        at: usize,
+        style: Style,
+        quad: &Quad,
+        lane: usize,
+    ) -> usize
+        requires channels { IsChannels N }
+        requires room { at + 8 ≤ length out.old }
+        requires lane { lane < 4 }
+        requires quad { QuadFits N quad.now }
+        ensures same { length out.new ≡ length out.old }
+        ensures within { result ≤ at + 5 }
+        ensures last { self.new.last ≡ pixel_of_word (slice_index quad.now.pixels lane) }
+        ensures given { (w : Writing) (q : ℕ) (c : Chunk) (rest : List RgbaPixel) → w.style ≡ style
+            → IsSpelled (slice_index quad.now.pixels lane) q (slice_index quad.now.numbers lane)
+            (slice_index quad.now.sizes lane) c → self.old.last ≡ pixel_of_word q
+            → pixel_of_word (slice_index quad.now.pixels lane) ≢ pixel_of_word q
+            → CoderBetween w (pixel_of_word (slice_index quad.now.pixels lane) ∷ rest) table.old
+            self.old (take at out.old)
+            → CoderBetween w rest table.new self.new (take result out.new) }
     {
-        let place = px.spread().hash_index();
+        let px = Packed::of_number(quad.pixels[lane]);
+        let place = (quad.places[lane] % 256) as u8;
         let placed = table.at(place).is_same(px);
-        let spelled = px.spelled_after(self.last);
-        let other = unkept(table, style, px, placed, spelled);
+        let (number, size) =
+            unkept(table, style, px, placed, quad.numbers[lane], quad.sizes[lane]);
         table.put(place, px);
-        self.last = px;
-        self.place = place;
-        self.begun = true;
-        self.placed = placed;
-        pick(placed, PackedChunk::place(place), other)
+        *self = Coder {
+            last: px,
+            place,
+            begun: true,
+            placed,
+        };
+        let number = pick(placed, u32::from(place), number);
+        put_chunk::<N>(out, at, quad.pixels[lane], number, pick(placed, 1, size))
+    }
+
+    // Writes four fresh pixels.
+    #[inline(always)]
+    fn give_four<const N: usize>(
+        &mut self,
+        table: &mut Table,
+        out: &mut [u8],
+        at: usize,
+        style: Style,
+        quad: &Quad,
+    ) -> usize
+        requires channels { IsChannels N }
+        requires room { at + 28 ≤ length out.old }
+        requires quad { QuadFits N quad.now }
+        ensures same { length out.new ≡ length out.old }
+        ensures within { result ≤ at + 20 }
+        ensures given { (w : Writing) (pixels : List RgbaPixel) → w.style ≡ style
+            → IsQuad N quad.now pixels → ((k : ℕ) → k < 4 → IsFreshLane quad.now k)
+            → AtLane w quad.now pixels 0 table.old self.old (take at out.old)
+            → AtLane w quad.now pixels 4 table.new self.new (take result out.new) }
+    {
+        let first = self.give::<N>(table, out, at, style, quad, 0);
+        let second = self.give::<N>(table, out, first, style, quad, 1);
+        let third = self.give::<N>(table, out, second, style, quad, 2);
+        self.give::<N>(table, out, third, style, quad, 3)
+    }
+
+    // Writes the repeats from a lane on and the fresh pixel behind them, if it is one of the four, and
+    // returns where they end and the lane behind.
+    #[inline(always)]
+    fn give_group<const N: usize>(
+        &mut self,
+        table: &mut Table,
+        out: &mut [u8],
+        at: usize,
+        style: Style,
+        quad: &Quad,
+        repeating: u64,
+        lane: usize,
+    ) -> (usize, usize)
+        requires channels { IsChannels N }
+        requires room { at + 9 ≤ length out.old }
+        requires quad { QuadFits N quad.now }
+        requires bits { repeating ≡ mask_l (zip2 nat_eq quad.now.pixels quad.now.before) }
+        requires lane { lane ≤ 4 }
+        ensures same { length out.new ≡ length out.old }
+        ensures within { result.0 ≤ at + 6 }
+        ensures lanes { (lane ≤ result.1) × (result.1 ≤ 4) }
+        ensures some { lane ≡ 0 → repeating < 15 → 0 < result.1 }
+        ensures given { (w : Writing) (pixels : List RgbaPixel) → w.style ≡ style
+            → IsQuad N quad.now pixels
+            → AtLane w quad.now pixels lane table.old self.old (take at out.old)
+            → AtLane w quad.now pixels result.1 table.new self.new (take result.0 out.new) }
+    {
+        if lane > 3 {
+            return (at, lane);
+        }
+        let count = repeats_in_quad(repeating, lane);
+        if lane + count > 3 {
+            return (at, lane);
+        }
+        let one = self.rest_of_one(style, count);
+        let behind = put_run(out, at, count, one);
+        self.repeat(table, style, count, one);
+        let end = self.give::<N>(table, out, behind, style, quad, lane + count);
+        (end, lane + count + 1)
+    }
+
+    // Writes the repeats at the front, 992 at most, and returns where they end and how many there are.
+    #[inline(always)]
+    fn give_runs<const N: usize>(
+        &mut self,
+        table: &mut Table,
+        out: &mut [u8],
+        at: usize,
+        style: Style,
+        data: &[u8],
+    ) -> (usize, usize)
+        requires channels { IsChannels N }
+        requires whole { length «data».now % N ≡ 0 }
+        requires room { at + 17 ≤ length out.old }
+        ensures same { length out.new ≡ length out.old }
+        ensures within { result.0 ≤ at + result.1 / 62 + 1 }
+        ensures inside { N * result.1 ≤ length «data».now }
+        ensures most { result.1 ≤ 992 }
+        ensures last { self.new.last ≡ self.old.last }
+        ensures counted { length «data».now < 16
+            → IsCount self.old.last (pixels_of N «data».now) result.1 }
+        ensures some { slice_get (pixels_of N «data».now) 0 ≡ Some self.old.last → 0 < result.1 }
+        ensures given { (w : Writing) → w.style ≡ style
+            → CoderBetween w (pixels_of N «data».now) table.old self.old (take at out.old)
+            → CoderBetween w (pixels_of N (drop (N * result.1) «data».now)) table.new self.new
+            (take result.0 out.new) }
+    {
+        let (near, _) = data.split_at(data.len().min(N * REPEATS_MAX));
+        let count = repeats_of::<N>(near, self.last);
+        let (_, behind) = data.split_at(N * count);
+        let one = if behind.is_empty() { QOI_OP_RUN } else { self.rest_of_one(style, count) };
+        let end = put_runs(out, at, count, one);
+        self.repeat(table, style, count, one);
+        (end, count)
+    }
+
+    // Writes pixels of the first four, or the repeats at the front where all four repeat, and returns where
+    // they end and how many there are.
+    #[inline(always)]
+    fn give_quad<const N: usize>(
+        &mut self,
+        table: &mut Table,
+        out: &mut [u8],
+        at: usize,
+        style: Style,
+        data: &[u8],
+    ) -> (usize, usize)
+        requires channels { IsChannels N }
+        requires whole { length «data».now % N ≡ 0 }
+        requires long { 16 ≤ length «data».now }
+        requires opaque { N ≡ 3 → self.old.last.a ≡ 255 }
+        requires room { at + 64 ≤ length out.old }
+        ensures same { length out.new ≡ length out.old }
+        ensures within { result.0 ≤ at + 20 }
+        ensures inside { N * result.1 ≤ length «data».now }
+        ensures some { 0 < result.1 }
+        ensures opaque { N ≡ 3 → self.new.last.a ≡ 255 }
+        ensures given { (w : Writing) → w.style ≡ style
+            → CoderBetween w (pixels_of N «data».now) table.old self.old (take at out.old)
+            → CoderBetween w (pixels_of N (drop (N * result.1) «data».now)) table.new self.new
+            (take result.0 out.new) }
+    {
+        let cur = four::<N>(data);
+        let prev = before(self.last.number(), cur);
+        let bits = repeating(cur, prev);
+        if bits == 15 {
+            return self.give_runs::<N>(table, out, at, style, data);
+        }
+        let quad = Quad::new::<N>(cur, prev);
+        if bits == 0 {
+            return (self.give_four::<N>(table, out, at, style, &quad), 4);
+        }
+        let (end, lane) = self.give_group::<N>(table, out, at, style, &quad, bits, 0);
+        let (end, lane) = self.give_group::<N>(table, out, end, style, &quad, bits, lane);
+        self.give_group::<N>(table, out, end, style, &quad, bits, lane)
+    }
+
+    // Keeps the chunks of pixels until the piece is full or fewer than sixteen bytes are left, and returns
+    // what is left.
+    #[inline(always)]
+    fn fill<'a, const N: usize>(
+        &mut self,
+        table: &mut Table,
+        piece: &mut Piece,
+        style: Style,
+        data: &'a [u8],
+    ) -> &'a [u8]
+        requires channels { IsChannels N }
+        requires whole { length «data».entry.now % N ≡ 0 }
+        requires opaque { N ≡ 3 → self.old.last.a ≡ 255 }
+        requires room { piece.old.end < PIECE }
+        ensures end { piece.new.end < PIECE + 20 }
+        ensures few { piece.new.end < PIECE → length result.now < 16 }
+        ensures some { PIECE ≤ piece.new.end → length result.now < length «data».entry.now }
+        ensures whole { length result.now % N ≡ 0 }
+        ensures opaque { N ≡ 3 → self.new.last.a ≡ 255 }
+        ensures given { (w : Writing) → w.style ≡ style
+            → CoderBetween w (pixels_of N «data».entry.now) table.old self.old (kept_bytes piece.old)
+            → CoderBetween w (pixels_of N result.now) table.new self.new (kept_bytes piece.new) }
+    {
+        let mut end = piece.end;
+        let mut rest = data;
+        while end < PIECE && rest.len() >= 16 {
+            let (next, count) = self.give_quad::<N>(table, &mut piece.bytes, end, style, rest);
+            end = next;
+            let (_, after) = rest.split_at(N * count);
+            rest = after;
+        }
+        piece.end = end;
+        rest
+    }
+
+    // Keeps the chunks of the last pixels: fewer than sixteen bytes.
+    fn give_last<const N: usize>(
+        &mut self,
+        table: &mut Table,
+        piece: &mut Piece,
+        style: Style,
+        data: &[u8],
+    )
+        requires channels { IsChannels N }
+        requires whole { length «data».now % N ≡ 0 }
+        requires few { length «data».now < 16 }
+        requires opaque { N ≡ 3 → self.old.last.a ≡ 255 }
+        requires room { piece.old.end < PIECE }
+        ensures end { piece.new.end < PIECE + 32 }
+        ensures given { (w : Writing) → w.style ≡ style
+            → CoderBetween w (pixels_of N «data».now) table.old self.old (kept_bytes piece.old)
+            → CoderBetween w [] table.new self.new (kept_bytes piece.new) }
+    {
+        let mut end = piece.end;
+        let mut rest = data;
+        while !rest.is_empty() {
+            let (next, count) = self.give_runs::<N>(table, &mut piece.bytes, end, style, rest);
+            end = next;
+            (_, rest) = rest.split_at(N * count);
+            if !rest.is_empty() {
+                let px = Packed::read::<N>(rest);
+                let quad = Quad::alone::<N>(px, self.last);
+                end = self.give::<N>(table, &mut piece.bytes, end, style, &quad, 0);
+                (_, rest) = rest.split_at(N);
+            }
+        }
+        piece.end = end;
     }
 }
 
 // How the style has a fresh pixel given that doesn't stand at its index position: by the first chunk
 // that spells it out, but in style `Tight` transparent black by the least position where no pixel was
-// put, if there is one.
+// put, if there is one. The chunk is a number that has its bytes, and how many these are.
 #[inline(always)]
 fn unkept(
     table: &Table,
     style: Style,
     px: Packed,
     placed: bool,
-    spelled: PackedChunk,
-) -> PackedChunk
-    requires { IsChunk spelled }
-    ensures chunk { IsChunk result }
-    ensures choice { (past : Past) → Holds table.now (held_in style past)
+    number: u32,
+    size: u32,
+) -> (u32, u32)
+    ensures few { result.1 ≤ size }
+    ensures choice { (past : Past) (alpha : ℕ) (c : Chunk) → Holds table.now (held_in style past)
         → (IsTrue placed ↔ (seen (held_in style past) (hash px) ≡ px))
-        → IsFirst past px spelled → seen (held_in style past) (hash px) ≢ px
-        → choice_in style past px result }
+        → IsChunk c → HasBytes alpha number size c → IsFirst past px c
+        → seen (held_in style past) (hash px) ≢ px
+        → (d : Chunk) × IsChunk d × HasBytes alpha result.0 result.1 d × choice_in style past px d }
 {
     match style {
-        Style::Reference | Style::Places => spelled,
+        Style::Reference | Style::Places => (number, size),
         Style::Tight => {
             if px.is_same(Packed::blank()) & !placed {
                 if let Some(place) = table.first_blank() {
-                    return PackedChunk::place(place);
+                    return (u32::from(place), 1);
                 }
             }
-            spelled
+            (number, size)
         }
     }
 }
 
-// Writes the runs of a group of so many repeats, a rest of 1 by the chunk `one`.
+// Keeps the chunks of an image's raw bytes, `N` bytes a pixel, and gives the writer each full piece.
 #[inline(always)]
-fn write_runs<W: Writer>(buf: &mut W, count: usize, one: PackedChunk) -> Result<()>
-    requires { length (text (runs_by one count)) ≤ W.room buf.old }
-    ensures written { OnOk result (W.wrote buf.old (text (runs_by one count)) buf.new) }
-    ensures refused { IfErr result (λ e. W.Refuses e
-        × WroteSome W.wrote buf.old (text (runs_by one count)) buf.new) }
-{
-    let mut left = count;
-    while left > 0 {
-        let run = left.min(RUN_MAX);
-        let chunk = pick(run == 1, one, PackedChunk::run(run as u8));
-        write_chunk(buf, chunk)?;
-        left -= run;
-    }
-    Ok(())
-}
-
-// Writes the chunks of an image's raw bytes, `N` bytes a pixel.
-#[inline(always)]
-fn encode_pixels<W: Writer, const N: usize>(buf: &mut W, style: Style, data: &[u8]) -> Result<()>
+fn encode_pixels<W: Writer, const N: usize>(
+    buf: &mut W,
+    piece: &mut Piece,
+    style: Style,
+    data: &[u8],
+) -> Result<()>
     requires channels { IsChannels N }
     requires whole { length «data».now % N ≡ 0 }
-    requires room { length «data».now + length «data».now / N ≤ W.room buf.old }
-    ensures written { OnOk result ((cs : List Chunk)
-        × WrittenIn style (pixels_of N «data».now) cs × W.wrote buf.old (text cs) buf.new) }
+    requires begun { piece.old.end < PIECE }
+    requires room { piece.old.end + (length «data».now + length «data».now / N) ≤ W.room buf.old }
+    ensures end { OnOk result (piece.new.end < PIECE + 32) }
+    ensures written { OnOk result ((cs : List Chunk) × WrittenIn style (pixels_of N «data».now) cs
+        × WroteBut W.wrote buf.old (kept_bytes piece.old ++ text cs) (kept_bytes piece.new) buf.new) }
     ensures refused { IfErr result (λ e. W.Refuses e × (cs : List Chunk)
         × WrittenIn style (pixels_of N «data».now) cs
-        × WroteSome W.wrote buf.old (text cs) buf.new) }
+        × WroteSome W.wrote buf.old (kept_bytes piece.old ++ text cs) buf.new) }
 {
     let mut table = Table::new();
     let mut coder = Coder::new();
     let mut rest = data;
     loop {
-        let count = repeats_of::<N>(rest, coder.last);
-        let (_, behind) = rest.split_at(N * count);
-        if behind.len() < N {
-            return write_runs(buf, count, PackedChunk::run(1));
+        rest = coder.fill::<N>(&mut table, piece, style, rest);
+        if piece.end < PIECE {
+            coder.give_last::<N>(&mut table, piece, style, rest);
+            return Ok(());
         }
-        write_runs(buf, count, coder.rest_of_one(style, count))?;
-        coder.repeat(&mut table, style, count);
-        let chunk = coder.choose(&mut table, style, Packed::read::<N>(behind));
-        write_chunk(buf, chunk)?;
-        let (_, after) = behind.split_at(N);
-        rest = after;
+        piece.give(buf)?;
     }
 }
 
-// Writes the chunks of an image's raw bytes, of this many channels.
+// Keeps the chunks of an image's raw bytes, of this many channels, and gives the writer each full piece.
 pub(super) fn encode_chunks<W: Writer>(
     buf: &mut W,
+    piece: &mut Piece,
     style: Style,
     channels: Channels,
     data: &[u8],
 ) -> Result<()>
     requires whole { length «data».now % channels_number channels ≡ 0 }
-    requires room { length «data».now + length «data».now / channels_number channels
-        ≤ W.room buf.old }
+    requires begun { piece.old.end < PIECE }
+    requires room { piece.old.end
+        + (length «data».now + length «data».now / channels_number channels) ≤ W.room buf.old }
+    ensures end { OnOk result (piece.new.end < PIECE + 32) }
     ensures written { OnOk result ((cs : List Chunk)
         × WrittenIn style (pixels_of (channels_number channels) «data».now) cs
-        × W.wrote buf.old (text cs) buf.new) }
+        × WroteBut W.wrote buf.old (kept_bytes piece.old ++ text cs) (kept_bytes piece.new) buf.new) }
     ensures refused { IfErr result (λ e. W.Refuses e × (cs : List Chunk)
         × WrittenIn style (pixels_of (channels_number channels) «data».now) cs
-        × WroteSome W.wrote buf.old (text cs) buf.new) }
+        × WroteSome W.wrote buf.old (kept_bytes piece.old ++ text cs) buf.new) }
 {
     // Each pair has a loop of its own, in which the style is known.
     match (channels, style) {
         (Channels::Rgba, Style::Reference) => {
-            encode_pixels::<W, 4>(buf, Style::Reference, data)?;
+            encode_pixels::<W, 4>(buf, piece, Style::Reference, data)?;
         }
-        (Channels::Rgba, Style::Places) => encode_pixels::<W, 4>(buf, Style::Places, data)?,
-        (Channels::Rgba, Style::Tight) => encode_pixels::<W, 4>(buf, Style::Tight, data)?,
+        (Channels::Rgba, Style::Places) => {
+            encode_pixels::<W, 4>(buf, piece, Style::Places, data)?;
+        }
+        (Channels::Rgba, Style::Tight) => encode_pixels::<W, 4>(buf, piece, Style::Tight, data)?,
         (Channels::Rgb, Style::Reference) => {
-            encode_pixels::<W, 3>(buf, Style::Reference, data)?;
+            encode_pixels::<W, 3>(buf, piece, Style::Reference, data)?;
         }
-        (Channels::Rgb, Style::Places) => encode_pixels::<W, 3>(buf, Style::Places, data)?,
-        (Channels::Rgb, Style::Tight) => encode_pixels::<W, 3>(buf, Style::Tight, data)?,
+        (Channels::Rgb, Style::Places) => encode_pixels::<W, 3>(buf, piece, Style::Places, data)?,
+        (Channels::Rgb, Style::Tight) => encode_pixels::<W, 3>(buf, piece, Style::Tight, data)?,
     }
     Ok(())
 }

@@ -1,0 +1,23 @@
+-- The choices of the lanes.
+use Rattle.qoi.proofs.format.Quads.{found_keep, numbers_chosen, counts_chosen}
+use Rattle.qoi.proofs.encoding.SpelledLanes.{lanes_spelled, counts_few}
+use Rattle.qoi.proofs.encode.quad.spell.Goals as goal
+
+pub fulls-requires-clause-opaque : goal.fulls-requires-clause-opaque
+fulls-requires-clause-opaque g c = λ three. found_keep c.args.cur c.args.prev c.steps-steps.result c.steps-steps.ensures.lanes c.fits-cur.1 c.fits-prev.1 (c.requires.opaque three)
+
+pub returns-clause-words : goal.returns-clause-words
+returns-clause-words g c =
+    numbers_chosen c.args.cur c.args.prev c.steps-steps.result c.small-small.result c.wide-wide.result c.fits-cur.0 c.fits-prev.0 c.steps-steps.ensures.lanes c.small-small.ensures.lanes c.wide-wide.ensures.lanes
+    c.diffs.result c.lumas.result c.fulls.result.0 c.diffs.ensures.lanes c.lumas.ensures.lanes c.fulls.ensures.words
+
+pub returns-clause-counts : goal.returns-clause-counts
+returns-clause-counts g c =
+    counts_chosen c.args.cur c.args.prev c.steps-steps.result c.small-small.result c.wide-wide.result c.fits-cur.0 c.fits-prev.0 c.steps-steps.ensures.lanes c.small-small.ensures.lanes c.wide-wide.ensures.lanes
+    c.fulls.result.1 c.fulls.ensures.counts
+
+pub returns-clause-lanes : goal.returns-clause-lanes
+returns-clause-lanes g c = lanes_spelled c.args.cur c.args.prev _ _ c.fits-cur.0 c.fits-prev.0 c.fits-cur.1 c.fits-prev.1 (returns-clause-words g c) (returns-clause-counts g c)
+
+pub returns-clause-few : goal.returns-clause-few
+returns-clause-few g c = counts_few g.row.N c.args.cur c.args.prev _ c.requires.channels c.fits-cur.0 c.fits-prev.0 c.fits-cur.1 c.fits-prev.1 c.requires.opaque (returns-clause-counts g c)

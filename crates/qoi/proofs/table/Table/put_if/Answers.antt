@@ -1,0 +1,22 @@
+-- A pixel is put at its own index position, or what is held there again.
+use Rattle.std.proofs.Common.{◌≡◌, IsTrue, true, false, sym, subst, arith, ap, ◌∙◌, refl}
+use Rattle.qoi.specs.inner.Table.{Holds}
+use Rattle.qoi.proofs.format.TableHolds.{holds_put}
+use Rattle.qoi.proofs.format.SamePixels.{hash_below}
+use Rattle.qoi.proofs.table.Table.put_if.Goals as goal
+
+pub listed : goal.listed
+listed c = omega (arith, c.requires, c.self.invariant, hash_below c.args.px)
+
+pub bounds-self-inside-place : goal.bounds-self-inside-place
+bounds-self-inside-place c = omega (arith, c.requires, hash_below c.args.px)
+
+pub listed-2 : goal.listed-2
+listed-2 c = omega (arith, c.requires, c.self.invariant, hash_below c.args.px)
+
+pub bounds-self-inside-place-2 : goal.bounds-self-inside-place-2
+bounds-self-inside-place-2 c = omega (arith, c.requires, hash_below c.args.px)
+
+pub returns-clause-puts : goal.returns-clause-puts
+returns-clause-puts c puts past holds =
+    holds_put c.self.inside.pixels c.args.px past c.args.place c.self.invariant c.requires (subst (λ t. Holds t past) (sym c.self.view_is) holds)

@@ -1,0 +1,217 @@
+//! Four pixels at a time, packed in the lanes of a vector: read, compared with the pixels before them, and
+//! each spelled out (QOI specification 1.0, "Chunks").
+ghost use lib.Lanes.{mask_l, zip2};
+ghost use Rattle.std.specs.Prelude.{◌≡◌, nat_eq, ◌∷◌, ◌+◌, ◌<◌, ◌≤◌, ℕ, length, take, map, slice_index};
+ghost use Rattle.qoi.specs.declared.chunk.Chunk.{Chunk};
+ghost use Rattle.qoi.specs.Qoi.{hash};
+ghost use Rattle.qoi.specs.Raw.{IsChannels, pixels_of};
+ghost use Rattle.qoi.specs.inner.Packed.{word, pixel_of_word};
+ghost use Rattle.qoi.specs.inner.Quad.{stepped, step_word, small_word, wide_word, green_twice, diff_number, luma_number, rgb_number, full_number, full_count, KeepAlpha, spelled_number, spelled_count, SameAlpha, IsSpelled, QuadFits};
+
+use crate::packed::Packed;
+use std::simd::prelude::*;
+
+/// Four pixels and the ones before them, packed, and how each is given: by its index position, or spelled
+/// out by a chunk. Of the chunk there are a number whose lowest bytes are the chunk's first four, and how
+/// many bytes it has; the fifth, of an RGBA, is the pixel's alpha.
+#[derive(Drop)]
+pub(crate) struct Quad {
+    pub(crate) pixels: [u32; 4],
+    pub(crate) before: [u32; 4],
+    pub(crate) places: [u32; 4],
+    pub(crate) numbers: [u32; 4],
+    pub(crate) sizes: [u32; 4],
+}
+
+impl Quad {
+    /// Four pixels after the ones before them.
+    #[inline(always)]
+    pub(super) fn new<const N: usize>(cur: u32x4, prev: u32x4) -> Quad
+        requires channels { IsChannels N }
+        requires opaque { N ≡ 3 → SameAlpha cur prev }
+        ensures pixels { result.pixels ≡ cur }
+        ensures before { result.before ≡ prev }
+        ensures fits { QuadFits N result }
+        ensures spelled { (k : ℕ) → k < 4 → (c : Chunk)
+            × IsSpelled (slice_index cur k) (slice_index prev k) (slice_index result.numbers k)
+            (slice_index result.sizes k) c }
+    {
+        let (numbers, sizes) = spell::<N>(cur, prev);
+        Quad {
+            pixels: cur.to_array(),
+            before: prev.to_array(),
+            places: places(cur).to_array(),
+            numbers: numbers.to_array(),
+            sizes: sizes.to_array(),
+        }
+    }
+
+    /// One pixel after the one before it, four times.
+    #[inline(always)]
+    pub(crate) fn alone<const N: usize>(px: Packed, last: Packed) -> Quad
+        requires channels { IsChannels N }
+        requires opaque { N ≡ 3 → px.a ≡ last.a }
+        ensures pixel { slice_index result.pixels 0 ≡ word px }
+        ensures fits { QuadFits N result }
+        ensures spelled { (c : Chunk) × IsSpelled (word px) (word last)
+            (slice_index result.numbers 0) (slice_index result.sizes 0) c }
+    {
+        Quad::new::<N>(u32x4::splat(px.number()), u32x4::splat(last.number()))
+    }
+}
+
+/// The first four pixels of raw bytes in `N` channels, packed.
+#[inline(always)]
+pub(super) fn four<const N: usize>(bytes: &[u8]) -> u32x4
+    requires channels { IsChannels N }
+    requires enough { 16 ≤ length bytes.now }
+    ensures lanes { result ≡ map word (take 4 (pixels_of N bytes.now)) }
+{
+    let v = u8x16::from_slice(bytes);
+    if N == 4 {
+        return u32x4::from_le_bytes(v);
+    }
+    let opaque: u8x16 = v.shuffle(
+        u8x16::splat(255),
+        [0, 1, 2, 16, 3, 4, 5, 16, 6, 7, 8, 16, 9, 10, 11, 16],
+    );
+    u32x4::from_le_bytes(opaque)
+}
+
+/// The pixels before four others, the first of which follows `last`.
+#[inline(always)]
+pub(super) fn before(last: u32, cur: u32x4) -> u32x4
+    ensures lanes { result ≡ last ∷ take 3 cur }
+{
+    u32x4::splat(last).shuffle(cur, [3, 4, 5, 6])
+}
+
+/// Which pixels repeat the ones before them: a bit for each, the lowest for the first.
+#[inline(always)]
+pub(super) fn repeating(cur: u32x4, prev: u32x4) -> u64
+    ensures bits { result ≡ mask_l (zip2 nat_eq cur prev) }
+    ensures within { result < 16 }
+{
+    cur.simd_eq(prev).to_bitmask()
+}
+
+// The index positions of pixels.
+#[inline(always)]
+fn places(cur: u32x4) -> u32x4
+    ensures lanes { result ≡ map (λ w. hash (pixel_of_word w)) cur }
+{
+    let weights = u32x4::splat(0x0b07_0503).to_le_bytes();
+    cur.to_le_bytes().dot4(weights) & u32x4::splat(63)
+}
+
+// What is added to each channel of a lane of `prev` for that of `cur`; it wraps at 256.
+#[inline(always)]
+fn steps(cur: u32x4, prev: u32x4) -> u32x4
+    ensures lanes { result ≡ stepped step_word cur prev }
+{
+    u32x4::from_le_bytes(cur.to_le_bytes() - prev.to_le_bytes())
+}
+
+// Steps as a difference chunk has them: with 2 added to those of red, green and blue.
+#[inline(always)]
+fn small(steps: u32x4) -> u32x4
+    ensures lanes { result ≡ map small_word steps }
+{
+    u32x4::from_le_bytes(steps.to_le_bytes() + u32x4::splat(0x0002_0202).to_le_bytes())
+}
+
+// Green's steps in the places of red and blue.
+#[inline(always)]
+fn greens(steps: u32x4) -> u32x4
+    ensures lanes { result ≡ map green_twice steps }
+{
+    let g = (steps >> u32x4::splat(8)) & u32x4::splat(0xff);
+    g + (g << u32x4::splat(16))
+}
+
+// Steps as a luma chunk has them: green's with 32 added, and red's and blue's less green's with 8 added.
+#[inline(always)]
+fn wide(steps: u32x4) -> u32x4
+    ensures lanes { result ≡ map wide_word steps }
+{
+    let gg = greens(steps).to_le_bytes();
+    u32x4::from_le_bytes(
+        steps.to_le_bytes() + u32x4::splat(0x0008_2008).to_le_bytes() - gg,
+    )
+}
+
+// Numbers whose lowest bytes are the difference chunks of these steps.
+#[inline(always)]
+fn diffs(small: u32x4) -> u32x4
+    ensures lanes { result ≡ map diff_number small }
+{
+    (small << u32x4::splat(4))
+        + (small >> u32x4::splat(6))
+        + (small >> u32x4::splat(16))
+        + u32x4::splat(0x40)
+}
+
+// Numbers whose two lowest bytes are the luma chunks of these steps.
+#[inline(always)]
+fn lumas(wide: u32x4) -> u32x4
+    ensures lanes { result ≡ map luma_number wide }
+{
+    (wide >> u32x4::splat(8)) + (wide << u32x4::splat(12)) + u32x4::splat(0x80)
+}
+
+// Numbers whose bytes are the RGB chunks of the pixels.
+#[inline(always)]
+fn rgbs(cur: u32x4) -> u32x4
+    ensures lanes { result ≡ map rgb_number cur }
+{
+    (cur << u32x4::splat(8)) + u32x4::splat(0xfe)
+}
+
+// The same with RGBA chunks but for their last byte, alpha, where alpha's step isn't 0; and how many bytes
+// a chunk has.
+#[inline(always)]
+fn fulls<const N: usize>(cur: u32x4, steps: u32x4) -> (u32x4, u32x4)
+    requires channels { IsChannels N }
+    requires opaque { N ≡ 3 → KeepAlpha steps }
+    ensures words { result.0 ≡ stepped full_number cur steps }
+    ensures counts { result.1 ≡ map full_count steps }
+{
+    let word = rgbs(cur);
+    let count = u32x4::splat(4);
+    if N == 3 {
+        return (word, count);
+    }
+    let zero = u32x4::splat(0);
+    let one = (steps & u32x4::splat(0xff00_0000))
+        .simd_ne(zero)
+        .select(u32x4::splat(1), zero);
+    (word + one, count + one)
+}
+
+// The first chunks of a difference, a luma, an RGB and an RGBA that give the pixels after the ones before
+// them: numbers whose lowest bytes are a chunk's, but for the alpha of an RGBA, and how many bytes it has.
+#[inline(always)]
+fn spell<const N: usize>(cur: u32x4, prev: u32x4) -> (u32x4, u32x4)
+    requires channels { IsChannels N }
+    requires opaque { N ≡ 3 → SameAlpha cur prev }
+    ensures words { result.0 ≡ stepped spelled_number cur prev }
+    ensures counts { result.1 ≡ stepped spelled_count cur prev }
+    ensures few { (k : ℕ) → k < 4 → slice_index result.1 k ≤ N + 1 }
+    ensures lanes { (k : ℕ) → k < 4 → (c : Chunk)
+        × IsSpelled (slice_index cur k) (slice_index prev k) (slice_index result.0 k)
+        (slice_index result.1 k) c }
+{
+    let steps = steps(cur, prev);
+    let small = small(steps);
+    let wide = wide(steps);
+    let zero = u32x4::splat(0);
+    let is_diff = (small & u32x4::splat(0xfffc_fcfc)).simd_eq(zero);
+    let is_luma = (wide & u32x4::splat(0xfff0_c0f0)).simd_eq(zero);
+    let (word, count) = fulls::<N>(cur, steps);
+    let short = is_luma.select(lumas(wide), word);
+    let few = is_luma.select(u32x4::splat(2), count);
+    (
+        is_diff.select(diffs(small), short),
+        is_diff.select(u32x4::splat(1), few),
+    )
+}
