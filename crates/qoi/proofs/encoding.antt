@@ -10,6 +10,7 @@ pub mod PlacedLists
 pub mod Spelled
 pub mod SpelledSteps
 pub mod SpelledLanes
+pub mod RunBytes
 pub mod QuadGroups
 pub mod QuadLoop
 pub mod StillToWrite
