@@ -1,6 +1,6 @@
 -- The table of a coder, and the chunk that is chosen by it.
-use Rattle.std.proofs.Common.{◌≡◌, ◌≢◌, ◌↔◌, ◌⊎◌, inl, inr, ℕ, zero, suc, ◌<◌, Bool, true, false, IsTrue, if◌then◌else◌, List, [], ◌∷◌, ◌++◌, replicate, Some, refl, sym, ap, ◌∙◌, subst}
-use Rattle.std.proofs.lemmas.Bool.{eq-eqb}
+use Rattle.std.proofs.Common.{◌≡◌, ◌≢◌, ◌↔◌, ◌⊎◌, inl, inr, ℕ, zero, suc, ◌<◌, Bool, true, false, IsTrue, IsFalse, nat_lt, arith, if◌then◌else◌, List, [], ◌∷◌, ◌++◌, replicate, Some, refl, sym, ap, ◌∙◌, subst}
+use Rattle.std.proofs.lemmas.Bool.{eq-eqb, lt-ltb}
 use Rattle.qoi.specs.declared.chunk.Chunk.{Chunk}
 use Rattle.qoi.specs.declared.chunk.Chunk.TheVariants.{Place}
 use Rattle.qoi.specs.declared.types.Style.{Style}
@@ -105,3 +105,9 @@ state_put_again n past old table last some s puts =
     let once = seen_put table (previous past) past (subst (λ p. Holds table (p ∷ past)) s.last_is (puts past s.table_is)) in
     let all = seen_repeated table (previous past) (previous past) past n some once in
     record { table_is = all.table_is; last_is = s.last_is ∙ all.last_is }
+
+-- repeats that are put if there are any
+pub state_put_some : (n : ℕ) (past : Past) (old table : List RgbaPixel) (last : RgbaPixel) → (IsTrue (nat_lt 0 n) → (seen : Past) → Holds old seen → Holds table (last ∷ seen)) → (IsFalse (nat_lt 0 n) → table ≡ old)
+    → StateAfter Tight past old last → StateAfter Tight (replicate n (previous past) ++ past) table last
+state_put_some zero past old table last puts stays s = subst (λ t. StateAfter Tight past t last) (sym (stays refl)) s
+state_put_some (suc n) past old table last puts stays s = state_put_again (suc n) past old table last (omega arith) s (puts (lt-ltb 0 (suc n) (omega arith)))

@@ -1,32 +1,100 @@
--- What is still to be written of an image's list, as a coder goes from one group of repeats and the fresh pixel behind
--- it to the next.
-use Rattle.std.proofs.Common.{◌≡◌, ◌≢◌, ℕ, List, [], ◌∷◌, ◌++◌, reverse, replicate, refl, sym, ap, ◌∙◌, subst, append_assoc, append-nil}
+-- What is still to be written of an image's list, as a coder goes from pixel to pixel: over the repeats of a group, and
+-- over a fresh pixel.
+use Rattle.std.proofs.Common.{◌≡◌, ◌≢◌, ◌⊎◌, inl, inr, ℕ, zero, suc, ◌*◌, ◌/◌, ◌%◌, ◌<◌, List, [], ◌∷◌, ◌++◌, reverse, replicate, Some, true, not, refl, sym, ap, ◌∙◌, subst, arith, append_assoc, append-nil}
 use Rattle.std.proofs.lemmas.List.{append_cancel_left, reverse-append}
-use Rattle.std.specs.List.{AllByRecursion}
+use Rattle.std.specs.List.{AllByRecursion, slice_get}
 use Rattle.qoi.specs.declared.chunk.Chunk.{Chunk}
+use Rattle.qoi.specs.declared.chunk.Chunk.TheVariants.{Run}
 use Rattle.qoi.specs.Qoi.{RgbaPixel, IsPixel, Past, previous, IsChunk}
-use Rattle.qoi.specs.Runs.{runs}
+use Rattle.qoi.specs.Runs.{last_run, runs}
 use Rattle.qoi.specs.Written.{WrittenBy}
-use Rattle.qoi.proofs.format.ChunkSteps.{previous_repeats, reverse-replicate}
-use Rattle.qoi.proofs.encoding.WrittenGrows.{TakesRun, all_back, chunks_split, written_none, written_runs, written_fresh}
-use Rattle.qoi.proofs.encoding.Choices.{Chooses}
+use Rattle.qoi.specs.Styles.{fresh_next}
 pub use Rattle.qoi.specs.inner.CoderLoop.{StillToWrite}
+use Rattle.qoi.proofs.format.ChunkSteps.{previous_repeats, reverse-replicate}
+use Rattle.qoi.proofs.format.SamePixels.{cases_pixel}
+use Rattle.qoi.proofs.encoding.WrittenGrows.{TakesRun, all_back, written_none, full_runs, written_runs, written_fresh}
+use Rattle.qoi.proofs.encoding.Choices.{Chooses}
 use Rattle.qoi.proofs.encoding.WrittenExists.{is_pixel_start, written_on}
 use Rattle.qoi.proofs.encoding.WrittenOnce.{unique_by}
+
+-- no repeats have no runs
+pub runs_none : runs 0 ≡ []
+unfolding runs
+runs_none = refl
+
+-- a group without a rest is full runs
+runs_full : (n : ℕ) → n % 62 ≡ 0 → runs n ≡ replicate (n / 62) (Run 62)
+unfolding runs
+runs_full n e = ap (λ r. replicate (n / 62) (Run 62) ++ last_run r) e ∙ append-nil (replicate (n / 62) (Run 62))
 
 module _ (Choice : Past → RgbaPixel → Chunk → Type 0) (choices : Chooses Choice) where
   -- before the first pixel all is still to be written
   pub all_to_write : (image : List RgbaPixel) (cs : List Chunk) → WrittenBy Choice image cs → AllByRecursion IsPixel image → StillToWrite Choice image cs [] image cs
-  all_to_write image cs w are = record { whole = w; split = refl; before = is_pixel_start; are = are; done = []; written = written_none Choice; takes_run = λ n. (tt, tt); parts = refl }
+  all_to_write image cs w are = record { whole = w; split = refl; before = is_pixel_start; are = are; done = []; written = written_none Choice; takes_run = λ same n. (tt, tt); parts = refl }
 
-  module _ (image : List RgbaPixel) (cs : List Chunk) (past : Past) (n : ℕ) (rest : List RgbaPixel) (todo : List Chunk) (w : StillToWrite Choice image cs past (replicate n (previous past) ++ rest) todo) where
+  -- the runs of a group behind a list, which a run may follow if there are repeats at all
+  group_runs : (n : ℕ) (past : Past) (cs : List Chunk) → WrittenBy Choice (reverse past) cs → (0 < n → TakesRun cs) → WrittenBy Choice (reverse (replicate n (previous past) ++ past)) (cs ++ runs n)
+  group_runs zero past cs w takes = subst (WrittenBy Choice (reverse past)) (sym (ap (λ x. cs ++ x) runs_none ∙ append-nil cs)) w
+  group_runs (suc n) past cs w takes = written_runs Choice past (suc n) cs w (takes (omega arith))
+
+  -- a run may follow runs that are full
+  full_take : (n : ℕ) (past : Past) (cs : List Chunk) → n % 62 ≡ 0 → WrittenBy Choice (reverse past) cs → TakesRun cs → TakesRun (cs ++ runs n)
+  full_take n past cs e w takes = subst (λ x. TakesRun (cs ++ x)) (sym (runs_full n e)) (full_runs Choice (n / 62) past (previous past) cs refl w takes).1
+
+  module _ {image : List RgbaPixel} {cs : List Chunk} {past : Past} {rest : List RgbaPixel} {todo : List Chunk} (w : StillToWrite Choice image cs past rest todo) where
+    -- What follows the written chunks in a list of the image is what is to be written; so the first of these chunks are next.
+    next : (after : Past) (more : List RgbaPixel) (new left : List Chunk) → image ≡ reverse after ++ more → IsPixel (previous after) → AllByRecursion IsPixel more
+        → WrittenBy Choice (reverse after) (w.done ++ new) → (slice_get more 0 ≡ Some (previous after) → TakesRun (w.done ++ new)) → WrittenBy Choice (reverse after ++ more) ((w.done ++ new) ++ left)
+        → (todo ≡ new ++ left) × StillToWrite Choice image cs after more left
+    next after more new left split before are written takes all =
+        let whole = subst (λ x. WrittenBy Choice image x) (append_assoc w.done new left) (subst (λ x. WrittenBy Choice x ((w.done ++ new) ++ left)) (sym split) all) in
+        let todo_is : todo ≡ new ++ left = append_cancel_left w.done todo (new ++ left) (sym w.parts ∙ unique_by Choice choices.only image cs (w.done ++ (new ++ left)) w.whole whole) in
+        (
+          todo_is,
+          record {
+            whole = w.whole;
+            split = split;
+            before = before;
+            are = are;
+            done = w.done ++ new;
+            written = written;
+            takes_run = takes;
+            parts = w.parts ∙ ap (λ x. w.done ++ x) todo_is ∙ sym (append_assoc w.done new left);
+          },
+        )
+
+    -- the chunk of a fresh pixel is next
+    pub chunk_next : (p : RgbaPixel) (more : List RgbaPixel) (c : Chunk) → rest ≡ p ∷ more → p ≢ previous past → IsChunk c → Choice past p c
+        → (left : List Chunk) × (todo ≡ c ∷ left) × StillToWrite Choice image cs (p ∷ past) more left
+    chunk_next p more c ahead fresh is choice =
+        let are : AllByRecursion IsPixel (p ∷ more) = subst (λ x. AllByRecursion IsPixel x) ahead w.are in
+        let one = written_fresh Choice past w.done p c w.written fresh is (choices.no_run past p c choice) (choices.gives past p c choice) choice in
+        let split : image ≡ reverse (p ∷ past) ++ more = w.split ∙ ap (λ x. reverse past ++ x) ahead ∙ sym (ap (λ x. x ++ more) (reverse-append (p ∷ []) past) ∙ append_assoc (reverse past) (p ∷ []) more) in
+        let all = written_on Choice choices more (p ∷ past) 0 (w.done ++ c ∷ []) one.0 one.1 are.0 are.1 in
+        let r = next (p ∷ past) more (c ∷ []) all.0 split are.0 are.1 one.0 (λ same. one.1) all.1 in
+        (all.0, r.0, r.1)
+
+    -- the next pixel is one
+    pub next_pixel : (p : RgbaPixel) (more : List RgbaPixel) → rest ≡ p ∷ more → IsPixel p
+    next_pixel p more ahead = let are = subst (λ x. AllByRecursion IsPixel x) ahead w.are in are.0
+
+  -- before a fresh pixel its chunk is next, which is no run
+  pub fresh_todo : {image : List RgbaPixel} {cs : List Chunk} {past : Past} {todo : List Chunk} (p : RgbaPixel) (more : List RgbaPixel) → StillToWrite Choice image cs past (p ∷ more) todo → p ≢ previous past → fresh_next todo ≡ true
+  fresh_todo {past = past} p more w differs =
+      let c = choices.some past p w.before w.are.0 differs in
+      let r = chunk_next w p more c.0 refl differs c.1 c.2 in
+      ap fresh_next r.1 ∙ ap not (choices.no_run past p c.0 c.2)
+
+  -- at the end nothing is
+  pub none_todo : {image : List RgbaPixel} {cs : List Chunk} {past : Past} {todo : List Chunk} → StillToWrite Choice image cs past [] todo → todo ≡ []
+  none_todo {image} {cs} {past} {todo} w =
+      let all = subst (λ x. WrittenBy Choice x w.done) (sym (w.split ∙ append-nil (reverse past))) w.written in
+      append_cancel_left w.done todo [] (sym w.parts ∙ unique_by Choice choices.only image cs w.done w.whole all ∙ sym (append-nil w.done))
+
+  module _ {image : List RgbaPixel} {cs : List Chunk} {past : Past} {todo : List Chunk} (n : ℕ) (rest : List RgbaPixel) (w : StillToWrite Choice image cs past (replicate n (previous past) ++ rest) todo) where
     -- the pixels up to the end of the group
     abbrev group : Past
     group = replicate n (previous past) ++ past
-
-    -- what follows the written chunks in a list of the image is what is to be written
-    next_is : (new : List Chunk) → WrittenBy Choice image (w.done ++ new) → todo ≡ new
-    next_is new v = append_cancel_left w.done todo new (sym w.parts ∙ unique_by Choice choices.only image cs (w.done ++ new) w.whole v)
 
     -- the group belongs to the pixels that have come
     image_is : image ≡ reverse group ++ rest
@@ -35,61 +103,73 @@ module _ (Choice : Past → RgbaPixel → Chunk → Type 0) (choices : Chooses C
         ∙ sym (append_assoc (reverse past) (replicate n (previous past)) rest)
         ∙ sym (ap (λ x. x ++ rest) (reverse-append (replicate n (previous past)) past ∙ ap (λ x. reverse past ++ x) (reverse-replicate n (previous past))))
 
+    -- a run may follow what is written where a repeat is next
+    takes_now : slice_get (replicate n (previous past) ++ rest) 0 ≡ Some (previous past) → TakesRun w.done
+    takes_now = w.takes_run
+
+    starts : (n : ℕ) → 0 < n → slice_get (replicate n (previous past) ++ rest) 0 ≡ Some (previous past)
+    starts zero some = absurd (omega arith)
+    starts (suc n) some = refl
+
+    goes_on : (n : ℕ) → slice_get rest 0 ≡ Some (previous past) → slice_get (replicate n (previous past) ++ rest) 0 ≡ Some (previous past)
+    goes_on zero e = e
+    goes_on (suc n) e = refl
+
     -- the runs of the group are written
     group_written : WrittenBy Choice (reverse group) (w.done ++ runs n)
-    group_written = written_runs Choice past n w.done w.written w.takes_run
+    group_written = group_runs n past w.done w.written (λ some. w.takes_run (starts n some))
 
-    -- at the end of the pixels the runs of the group are to be written, and nothing else
-    pub only_runs : rest ≡ [] → todo ≡ runs n
-    only_runs none =
-        let all : image ≡ reverse group = image_is ∙ ap (λ x. reverse group ++ x) none ∙ append-nil (reverse group) in
-        next_is (runs n) (subst (λ x. WrittenBy Choice x (w.done ++ runs n)) (sym all) group_written)
+    -- the pixels behind the group are pixels, and so is the one before them
+    behind_are : AllByRecursion IsPixel rest
+    behind_are = all_back IsPixel (replicate n (previous past)) rest w.are
 
-    -- the next pixel is a pixel
-    pub next_pixel : (p : RgbaPixel) (more : List RgbaPixel) → rest ≡ p ∷ more → IsPixel p
-    next_pixel p more ahead =
-        let are = subst (λ x. AllByRecursion IsPixel x) ahead (all_back IsPixel (replicate n (previous past)) rest w.are) in
-        are.0
+    before_is : IsPixel (previous group)
+    before_is = subst IsPixel (sym (previous_repeats n past)) w.before
 
-    module _ (p : RgbaPixel) (more : List RgbaPixel) (c : Chunk) (ahead : rest ≡ p ∷ more) (fresh : p ≢ previous past) (is : IsChunk c) (choice : Choice (replicate n (previous past) ++ past) p c) where
-      -- the next pixels are pixels
-      next_are : AllByRecursion IsPixel (p ∷ more)
-      next_are = subst (λ x. AllByRecursion IsPixel x) ahead (all_back IsPixel (replicate n (previous past)) rest w.are)
+    -- behind the group, where no repeat of it is next
+    ended : (left : List Chunk) → (slice_get rest 0 ≢ Some (previous past)) → WrittenBy Choice (reverse group ++ rest) ((w.done ++ runs n) ++ left) → (todo ≡ runs n ++ left) × StillToWrite Choice image cs group rest left
+    ended left other all = next w group rest (runs n) left image_is before_is behind_are group_written (λ same. absurd (other (same ∙ ap (λ p. Some p) (previous_repeats n past)))) all
 
-      -- the fresh pixel's chunk is written behind the runs
-      fresh_written : WrittenBy Choice (reverse (p ∷ group)) ((w.done ++ runs n) ++ c ∷ []) × TakesRun ((w.done ++ runs n) ++ c ∷ [])
-      fresh_written = written_fresh Choice group (w.done ++ runs n) p c group_written (λ e. fresh (e ∙ previous_repeats n past)) is (choices.no_run group p c choice) (choices.gives group p c choice) choice
+    -- The runs of a group are next, where no further repeat follows or they are full.
+    pub runs_next : (slice_get rest 0 ≢ Some (previous past)) ⊎ (n % 62 ≡ 0) → (left : List Chunk) × (todo ≡ runs n ++ left) × StillToWrite Choice image cs group rest left
+    runs_next ends = by_rest rest refl
+      where
+        by_rest : (pixels : List RgbaPixel) → rest ≡ pixels → (left : List Chunk) × (todo ≡ runs n ++ left) × StillToWrite Choice image cs group rest left
+        by_rest [] none =
+            let other : slice_get rest 0 ≢ Some (previous past) = λ e. absurd (let no : slice_get {X = RgbaPixel} [] 0 ≡ Some (previous past) = sym (ap (λ x. slice_get x 0) none) ∙ e in cc) in
+            let whole : reverse group ≡ reverse group ++ rest = sym (append-nil (reverse group)) ∙ ap (λ x. reverse group ++ x) (sym none) in
+            let r = ended [] other (subst (λ x. WrittenBy Choice x ((w.done ++ runs n) ++ [])) whole (subst (WrittenBy Choice (reverse group)) (sym (append-nil (w.done ++ runs n))) group_written)) in
+            ([], r.0, r.1)
+        by_rest (p ∷ more) ahead = by_next (cases_pixel p (previous past))
+          where
+            are : AllByRecursion IsPixel (p ∷ more)
+            are = subst (λ x. AllByRecursion IsPixel x) ahead behind_are
 
-      -- the pixels after it
-      after_is : image ≡ reverse (p ∷ group) ++ more
-      after_is =
-          image_is
-          ∙ ap (λ x. reverse group ++ x) ahead
-          ∙ sym (ap (λ x. x ++ more) (reverse-append (p ∷ []) group) ∙ append_assoc (reverse group) (p ∷ []) more)
+            first : slice_get rest 0 ≡ Some p
+            first = ap (λ x. slice_get x 0) ahead
 
-      -- some chunks complete the list
-      completed : (left : List Chunk) × WrittenBy Choice (reverse (p ∷ group) ++ more) (((w.done ++ runs n) ++ c ∷ []) ++ left)
-      completed = written_on Choice choices more (p ∷ group) 0 ((w.done ++ runs n) ++ c ∷ []) fresh_written.0 fresh_written.1 next_are.0 next_are.1
+            by_next : (p ≡ previous past) ⊎ (p ≢ previous past) → (left : List Chunk) × (todo ≡ runs n ++ left) × StillToWrite Choice image cs group rest left
+            by_next (inr other) =
+                let differs : p ≢ previous group = λ e. other (e ∙ previous_repeats n past) in
+                let c = choices.some group p before_is are.0 differs in
+                let one = written_fresh Choice group (w.done ++ runs n) p c.0 group_written differs c.1 (choices.no_run group p c.0 c.2) (choices.gives group p c.0 c.2) c.2 in
+                let all = written_on Choice choices more (p ∷ group) 0 ((w.done ++ runs n) ++ c.0 ∷ []) one.0 one.1 are.0 are.1 in
+                let pixels : reverse (p ∷ group) ++ more ≡ reverse group ++ rest = ap (λ x. x ++ more) (reverse-append (p ∷ []) group) ∙ append_assoc (reverse group) (p ∷ []) more ∙ ap (λ x. reverse group ++ x) (sym ahead) in
+                let list = subst (λ x. WrittenBy Choice x ((w.done ++ runs n) ++ c.0 ∷ all.0)) pixels (subst (WrittenBy Choice (reverse (p ∷ group) ++ more)) (append_assoc (w.done ++ runs n) (c.0 ∷ []) all.0) all.1) in
+                let r = ended (c.0 ∷ all.0) (λ e. other (some_same (sym first ∙ e))) list in
+                (c.0 ∷ all.0, r.0, r.1)
+              where
+                some_same : {a b : RgbaPixel} → Some a ≡ Some b → a ≡ b
+                some_same e = cc
+            by_next (inl same) = by_end ends
+              where
+                again : slice_get rest 0 ≡ Some (previous past)
+                again = first ∙ ap (λ q. Some q) same
 
-      -- so the runs and the chunk are to be written next
-      todo_is : todo ≡ runs n ++ c ∷ completed.0
-      todo_is =
-          let all = subst (λ x. WrittenBy Choice x (((w.done ++ runs n) ++ c ∷ []) ++ completed.0)) (sym after_is) completed.1 in
-          next_is (runs n ++ c ∷ completed.0) (subst (λ x. WrittenBy Choice image x) (chunks_split w.done (runs n) completed.0 c) all)
-
-      -- before a fresh pixel the runs and its chunk are to be written next
-      pub runs_and_chunk : (left : List Chunk) × (todo ≡ runs n ++ c ∷ left) × StillToWrite Choice image cs (p ∷ (replicate n (previous past) ++ past)) more left
-      runs_and_chunk = (
-        completed.0,
-        todo_is,
-        record {
-          whole = w.whole;
-          split = after_is;
-          before = next_are.0;
-          are = next_are.1;
-          done = (w.done ++ runs n) ++ c ∷ [];
-          written = fresh_written.0;
-          takes_run = fresh_written.1;
-          parts = w.parts ∙ ap (λ x. w.done ++ x) todo_is ∙ sym (chunks_split w.done (runs n) completed.0 c);
-        },
-      )
+                by_end : (slice_get rest 0 ≢ Some (previous past)) ⊎ (n % 62 ≡ 0) → (left : List Chunk) × (todo ≡ runs n ++ left) × StillToWrite Choice image cs group rest left
+                by_end (inl other) = absurd (other again)
+                by_end (inr full) =
+                    let takes = full_take n past w.done full w.written (w.takes_run (goes_on n again)) in
+                    let all = written_on Choice choices rest group 0 (w.done ++ runs n) group_written takes before_is behind_are in
+                    let r = next w group rest (runs n) all.0 image_is before_is behind_are group_written (λ _. takes) all.1 in
+                    (all.0, r.0, r.1)

@@ -1,6 +1,6 @@
 -- What a style makes of the next chunks of a written list: those of a group of repeats, and of the fresh pixel behind it.
-use Rattle.std.proofs.Common.{◌≡◌, ℕ, zero, suc, ◌+◌, ◌*◌, ◌/◌, ◌%◌, true, false, not, ◌&&◌, nat_lt, if◌then◌else◌, List, [], ◌∷◌, ◌++◌, replicate, Option, None, Some, refl, sym, ap, ◌∙◌, arith, append_assoc}
-use Rattle.std.proofs.lemmas.Bool.{lt-ltb}
+use Rattle.std.proofs.Common.{◌≡◌, ℕ, zero, suc, ◌+◌, ◌*◌, ◌/◌, ◌%◌, true, false, not, Bool, ◌&&◌, nat_eq, nat_lt, ◌<◌, ◌⊎◌, inl, inr, if◌then◌else◌, List, [], ◌∷◌, ◌++◌, replicate, Option, None, Some, refl, sym, ap, ◌∙◌, arith, append_assoc}
+use Rattle.std.proofs.lemmas.Bool.{lt-ltb, ne_eqb}
 use Rattle.qoi.specs.declared.chunk.Chunk.{Chunk}
 use Rattle.qoi.specs.declared.chunk.Chunk.TheVariants.{Place, Diff, Luma, Run, Rgb, Rgba}
 use Rattle.qoi.specs.declared.types.Style.{Style}
@@ -8,16 +8,12 @@ use Rattle.qoi.specs.declared.types.Style.TheVariants.{Reference, Places, Tight}
 use Rattle.qoi.specs.Qoi.{RgbaPixel, Past, previous, hash, pixel_of, then_chunk}
 use Rattle.qoi.specs.Runs.{last_run, runs, last_by, runs_by}
 use Rattle.qoi.specs.Styles.{is_run, fresh_next, has_pixel, some_fresh, names, place_for, placed_after, in_style}
-use Rattle.qoi.specs.inner.CoderState.{rest_of_one}
+use Rattle.qoi.specs.inner.CoderState.{StyleAfter, rest_of_one, last_chunk}
+use Rattle.qoi.specs.inner.CoderLoop.{styled}
 use Rattle.qoi.proofs.format.ChunkSteps.{previous_repeats, repeats_after, then_other}
 use Rattle.qoi.proofs.encoding.CoderTable.{fresh_repeats}
 use Rattle.qoi.proofs.encoding.GroupRuns.{not_one}
-
--- as a style has chunks after these pixels and this chunk
-abbrev pub styled : Style → Past → Option Chunk → List Chunk → List Chunk
-styled Reference past before cs = cs
-styled Places past before cs = placed_after past before cs
-styled Tight past before cs = cs
+use Rattle.qoi.proofs.encoding.StillToWrite.{runs_none}
 
 -- before the first pixel that is the whole list
 pub styled_whole : (style : Style) (cs : List Chunk) → in_style style cs ≡ styled style [] None cs
@@ -32,7 +28,7 @@ last_by_run (suc zero) = refl
 last_by_run (suc (suc n)) = refl
 
 -- so all of the group is runs
-pub runs_by_run : (n : ℕ) → runs_by (Run 1) n ≡ runs n
+runs_by_run : (n : ℕ) → runs_by (Run 1) n ≡ runs n
 unfolding runs runs_by
 runs_by_run n = ap (λ x. replicate (n / 62) (Run 62) ++ x) (last_by_run (n % 62))
 
@@ -64,21 +60,6 @@ full_stay (suc k) past before cs =
 long_stays : (r : ℕ) (past : Past) (before : Option Chunk) (cs : List Chunk) → place_for past before (Run (suc (suc r))) cs ≡ Run (suc (suc r))
 long_stays r past before cs = ap (λ t. if t && fresh_next cs && some_fresh past && not (names before (hash (previous past))) then Place (hash (previous past)) else Run (suc (suc r))) (not_one r)
 
--- a last run at the end stays
-last_stays : (r : ℕ) (past : Past) (before : Option Chunk) → placed_after past before (last_run r) ≡ last_by (Run 1) r
-last_stays zero past before = refl
-last_stays (suc zero) past before = refl
-last_stays (suc (suc r)) past before = ap (λ x. x ∷ []) (long_stays r past before [])
-
--- the runs of a group at the end stay
-pub styled_runs : (style : Style) (past : Past) (before : Option Chunk) (n : ℕ) → styled style past before (runs n) ≡ runs_by (Run 1) n
-unfolding runs runs_by
-styled_runs Reference past before n = sym (runs_by_run n)
-styled_runs Tight past before n = sym (runs_by_run n)
-styled_runs Places past before n =
-    full_stay (n / 62) past before (last_run (n % 62))
-    ∙ ap (λ x. replicate (n / 62) (Run 62) ++ x) (last_stays (n % 62) _ (before_rest before (n / 62)))
-
 -- a chunk other than a run stays
 other_stays : (past : Past) (before : Option Chunk) (c : Chunk) (cs : List Chunk) → is_run c ≡ false → place_for past before c cs ≡ c
 other_stays past before (Run n) cs e = absurd (let x = e in cc)
@@ -91,19 +72,6 @@ other_stays past before (Rgba r g b a) cs e = refl
 -- a rest before a chunk other than a run
 abbrev single : Past → Option Chunk → Chunk
 single past before = if some_fresh past && not (names before (hash (previous past))) then Place (hash (previous past)) else Run 1
-
-rest_before : (r : ℕ) (past : Past) (before : Option Chunk) (c : Chunk) (left : List Chunk) → is_run c ≡ false
-    → placed_after past before (last_run r ++ c ∷ left) ≡ last_by (single past before) r ++ c ∷ placed_after (then_chunk (replicate r (previous past) ++ past) c) (Some c) left
-rest_before zero past before c left other = ap (λ x. x ∷ placed_after (then_chunk past c) (Some c) left) (other_stays past before c left other)
-rest_before (suc zero) past before c left other =
-    let first : place_for past before (Run 1) (c ∷ left) ≡ single past before = ap (λ t. if not t && some_fresh past && not (names before (hash (previous past))) then Place (hash (previous past)) else Run 1) other in
-    ap (λ x. x ∷ placed_after (then_chunk past (Run 1)) (Some (Run 1)) (c ∷ left)) first
-    ∙ ap (λ x. single past before ∷ x ∷ placed_after (then_chunk (previous past ∷ past) c) (Some c) left) (other_stays (previous past ∷ past) (Some (Run 1)) c left other)
-rest_before (suc (suc r)) past before c left other =
-    let end : Past = replicate (suc (suc r)) (previous past) ++ past in
-    let long : Chunk = Run (suc (suc r)) in
-    ap (λ x. x ∷ placed_after end (Some long) (c ∷ left)) (long_stays r past before (c ∷ left))
-    ∙ ap (λ x. long ∷ x ∷ placed_after (then_chunk end c) (Some c) left) (other_stays end (Some long) c left other)
 
 -- how the rest of a group of n is written, where it is single
 single_is : (past : Past) (before : Option Chunk) (k : ℕ) → single (replicate (62 * k) (previous past) ++ past) (before_rest before k) ≡ rest_of_one Places (some_fresh past) (names before (hash (previous past))) (hash (previous past)) (62 * k + 1)
@@ -119,13 +87,42 @@ last_same zero c d e = refl
 last_same (suc zero) c d e = ap (λ x. x ∷ []) (e refl)
 last_same (suc (suc r)) c d e = refl
 
--- the chunks of a group and of the fresh pixel behind it
-pub styled_group : (style : Style) (past : Past) (before : Option Chunk) (n : ℕ) (p : RgbaPixel) (c : Chunk) (left : List Chunk) → is_run c ≡ false → pixel_of (replicate n (previous past) ++ past) c ≡ p
-    → styled style past before (runs n ++ c ∷ left) ≡ runs_by (rest_of_one style (some_fresh past) (names before (hash (previous past))) (hash (previous past)) n) n ++ c ∷ styled style (p ∷ (replicate n (previous past) ++ past)) (Some c) left
+-- so are the runs of a group
+plain : (n : ℕ) (one : Chunk) → (n % 62 ≡ 1 → one ≡ Run 1) → runs_by (Run 1) n ≡ runs_by one n
+unfolding runs_by
+plain n one is = ap (λ x. replicate (n / 62) (Run 62) ++ x) (last_same (n % 62) (Run 1) one (λ e. sym (is e)))
+
+-- the last chunk of full runs, and then of others
+last_fulls : (k : ℕ) (before : Option Chunk) (cs : List Chunk) → last_chunk before (replicate k (Run 62) ++ cs) ≡ last_chunk (before_rest before k) cs
+last_fulls zero before cs = refl
+last_fulls (suc k) before cs = last_fulls k (Some (Run 62)) cs ∙ ap (λ b. last_chunk b cs) (behind_full k)
+
+-- How a rest of 1 is written before these chunks: at the end by a run, and before a fresh pixel as the style has it.
+abbrev pub WritesOne : Style → Past → Option Chunk → ℕ → List Chunk → Chunk → Type 0
+WritesOne style past before n left one =
+    ((left ≡ []) × (one ≡ Run 1)) ⊎ ((fresh_next left ≡ true) × (one ≡ rest_of_one style (some_fresh past) (names before (hash (previous past))) (hash (previous past)) n))
+
+-- the rest of a group behind its full runs
+rest_stays : (r : ℕ) (past : Past) (before : Option Chunk) (left : List Chunk) (one : Chunk) → (r ≡ 1 → ((left ≡ []) × (one ≡ Run 1)) ⊎ ((fresh_next left ≡ true) × (one ≡ single past before)))
+    → placed_after past before (last_run r ++ left) ≡ last_by one r ++ placed_after (replicate r (previous past) ++ past) (last_chunk before (last_run r)) left
+rest_stays zero past before left one is = refl
+rest_stays (suc (suc r)) past before left one is = ap (λ x. x ∷ placed_after (replicate (suc (suc r)) (previous past) ++ past) (Some (Run (suc (suc r)))) left) (long_stays r past before left)
+rest_stays (suc zero) past before left one is = go (is refl)
+  where
+    go : ((left ≡ []) × (one ≡ Run 1)) ⊎ ((fresh_next left ≡ true) × (one ≡ single past before))
+        → placed_after past before (Run 1 ∷ left) ≡ one ∷ placed_after (previous past ∷ past) (Some (Run 1)) left
+    go (inl (none, e)) = rw (none, e) refl
+    go (inr (fresh, e)) =
+        ap (λ x. x ∷ placed_after (previous past ∷ past) (Some (Run 1)) left)
+        (ap (λ t. if t && some_fresh past && not (names before (hash (previous past))) then Place (hash (previous past)) else Run 1) fresh ∙ sym e)
+
+-- the chunks of a group of repeats, and what follows them
+pub styled_runs : (style : Style) (past : Past) (before : Option Chunk) (n : ℕ) (left : List Chunk) (one : Chunk) → (n % 62 ≡ 1 → WritesOne style past before n left one)
+    → styled style past before (runs n ++ left) ≡ runs_by one n ++ styled style (replicate n (previous past) ++ past) (last_chunk before (runs n)) left
 unfolding runs runs_by
-styled_group Reference past before n p c left other gives = ap (λ x. x ++ c ∷ left) (sym (runs_by_run n))
-styled_group Tight past before n p c left other gives = ap (λ x. x ++ c ∷ left) (sym (runs_by_run n))
-styled_group Places past before n p c left other gives =
+styled_runs Reference past before n left one is = ap (λ x. x ++ left) (sym (runs_by_run n) ∙ plain n one (λ e. elim (is e) [ inl p ↦ p.1 | inr p ↦ p.1 ]))
+styled_runs Tight past before n left one is = ap (λ x. x ++ left) (sym (runs_by_run n) ∙ plain n one (λ e. elim (is e) [ inl p ↦ p.1 | inr p ↦ p.1 ]))
+styled_runs Places past before n left one is =
     let q = previous past in
     let k = n / 62 in
     let r = n % 62 in
@@ -133,12 +130,57 @@ styled_group Places past before n p c left other gives =
     let same : previous end ≡ q = previous_repeats (62 * k) past in
     let count : r + 62 * k ≡ n = omega arith in
     let group : replicate r (previous end) ++ end ≡ replicate n q ++ past = ap (λ x. replicate r x ++ end) same ∙ repeats_after r (62 * k) q past ∙ ap (λ m. replicate m q ++ past) count in
-    let after : then_chunk (replicate r (previous end) ++ end) c ≡ p ∷ (replicate n q ++ past) = ap (λ x. then_chunk x c) group ∙ then_other (replicate n q ++ past) c other ∙ ap (λ x. x ∷ (replicate n q ++ past)) gives in
-    let one : r ≡ 1 → single end (before_rest before k) ≡ rest_of_one Places (some_fresh past) (names before (hash q)) (hash q) n
-    = λ e. single_is past before k ∙ ap (rest_of_one Places (some_fresh past) (names before (hash q)) (hash q)) (omega arith) in
-    ap (λ x. placed_after past before x) (append_assoc (replicate k (Run 62)) (last_run r) (c ∷ left))
-    ∙ full_stay k past before (last_run r ++ c ∷ left)
-    ∙ ap (λ x. replicate k (Run 62) ++ x) (rest_before r end (before_rest before k) c left other
-    ∙ ap (λ x. last_by (single end (before_rest before k)) r ++ c ∷ placed_after x (Some c) left) after
-    ∙ ap (λ x. x ++ c ∷ placed_after (p ∷ (replicate n q ++ past)) (Some c) left) (last_same r _ _ one))
-    ∙ sym (append_assoc (replicate k (Run 62)) (last_by (rest_of_one Places (some_fresh past) (names before (hash q)) (hash q) n) r) (c ∷ placed_after (p ∷ (replicate n q ++ past)) (Some c) left))
+    let one_is : r ≡ 1 → ((left ≡ []) × (one ≡ Run 1)) ⊎ ((fresh_next left ≡ true) × (one ≡ single end (before_rest before k)))
+    = λ e. (let whole : 62 * k + 1 ≡ n = omega arith in
+    elim (is e) [
+      | inl p ↦ inl p
+      | inr p ↦ inr (p.0, p.1 ∙ ap (rest_of_one Places (some_fresh past) (names before (hash q)) (hash q)) (sym whole) ∙ sym (single_is past before k))
+    ]) in
+    ap (λ x. placed_after past before x) (append_assoc (replicate k (Run 62)) (last_run r) left)
+    ∙ full_stay k past before (last_run r ++ left)
+    ∙ ap (λ x. replicate k (Run 62) ++ x) (rest_stays r end (before_rest before k) left one one_is
+    ∙ (λ i. last_by one r ++ placed_after (group i) (sym (last_fulls k before (last_run r)) i) left))
+    ∙ sym (append_assoc (replicate k (Run 62)) (last_by one r) (placed_after (replicate n q ++ past) (last_chunk before (replicate k (Run 62) ++ last_run r)) left))
+
+-- the chunk of a fresh pixel, and what follows it
+pub styled_chunk : (style : Style) (past : Past) (before : Option Chunk) (p : RgbaPixel) (c : Chunk) (left : List Chunk) → is_run c ≡ false → pixel_of past c ≡ p
+    → styled style past before (c ∷ left) ≡ c ∷ styled style (p ∷ past) (Some c) left
+styled_chunk Reference past before p c left other gives = refl
+styled_chunk Tight past before p c left other gives = refl
+styled_chunk Places past before p c left other gives =
+    ap (λ x. x ∷ placed_after (then_chunk past c) (Some c) left) (other_stays past before c left other)
+    ∙ ap (λ x. c ∷ placed_after x (Some c) left) (then_other past c other ∙ ap (λ x. x ∷ past) gives)
+
+-- behind repeats the last chunk is a run, and names no index position
+rest_names_none : (k r : ℕ) (before : Option Chunk) (i : ℕ) → 0 < k + r → names (last_chunk (before_rest before k) (last_run r)) i ≡ false
+rest_names_none zero zero before i some = absurd (omega arith)
+rest_names_none (suc k) zero before i some = refl
+rest_names_none k (suc r) before i some = refl
+
+pub runs_name_none : (n : ℕ) (before : Option Chunk) (i : ℕ) → 0 < n → names (last_chunk before (runs n)) i ≡ false
+unfolding runs
+runs_name_none n before i some = ap (λ b. names b i) (last_fulls (n / 62) before (last_run (n % 62))) ∙ rest_names_none (n / 62) (n % 62) before i (omega arith)
+
+-- so it is kept of repeats
+pub style_repeats : (n : ℕ) (past : Past) (before : Option Chunk) (place : ℕ) (begun placed : Bool) → StyleAfter past before place begun placed
+    → StyleAfter (replicate n (previous past) ++ past) (last_chunk before (runs n)) place begun (placed && nat_eq n 0)
+style_repeats zero past before place begun placed s = record {
+  place_is = s.place_is;
+  begun_is = s.begun_is;
+  placed_is = and_true placed ∙ s.placed_is ∙ ap (λ cs. names (last_chunk before cs) (hash (previous past))) (sym runs_none);
+}
+  where
+    and_true : (b : Bool) → b && true ≡ b
+    and_true true = refl
+    and_true false = refl
+style_repeats (suc n) past before place begun placed s =
+    let same = previous_repeats (suc n) past in
+    record {
+      place_is = s.place_is ∙ ap hash (sym same);
+      begun_is = s.begun_is ∙ sym (ap has_pixel (fresh_repeats (suc n) past));
+      placed_is = ap (λ b. placed && b) (ne_eqb (suc n) 0 (λ e. omega arith)) ∙ and_false placed ∙ sym (runs_name_none (suc n) before _ (omega arith));
+    }
+  where
+    and_false : (b : Bool) → b && false ≡ false
+    and_false true = refl
+    and_false false = refl

@@ -105,7 +105,7 @@ module _ (Choice : Past → RgbaPixel → Chunk → Type 0) where
   )
 
   -- so are as many times 62 repeats
-  full_runs : (m : ℕ) (past : Past) (q : RgbaPixel) (cs : List Chunk) → q ≡ previous past → WrittenBy Choice (reverse past) cs → TakesRun cs
+  pub full_runs : (m : ℕ) (past : Past) (q : RgbaPixel) (cs : List Chunk) → q ≡ previous past → WrittenBy Choice (reverse past) cs → TakesRun cs
       → WrittenBy Choice (reverse (replicate (m * 62) q ++ past)) (cs ++ replicate m (Run 62)) × TakesRun (cs ++ replicate m (Run 62))
   full_runs zero past q cs is w takes = rw (append-nil cs) (w, takes)
   full_runs (suc m) past q cs is w takes =

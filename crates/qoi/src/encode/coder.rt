@@ -7,7 +7,7 @@ ghost use Rattle.qoi.specs.declared.chunk.Chunk.TheVariants.{Place, Run};
 ghost use Rattle.qoi.specs.declared.encode.piece.TheConstants.{PIECE, ROOM};
 ghost use Rattle.qoi.specs.Qoi.{RgbaPixel, Past, IsPixel, start, positions, previous, seen, hash, IsChunk, bytes_of, text, channels_number};
 ghost use Rattle.qoi.specs.Raw.{IsChannels, pixels_of};
-ghost use Rattle.qoi.specs.Runs.{IsCount, runs_by};
+ghost use Rattle.qoi.specs.Runs.{IsCount, runs};
 ghost use Rattle.qoi.specs.Written.{IsFirst};
 ghost use Rattle.qoi.specs.Styles.{choice_in, WrittenIn};
 ghost use Rattle.qoi.specs.writers.Writes.{WroteBut, WroteSome};
@@ -77,26 +77,23 @@ impl Coder {
         }
     }
 
-    // So many repeats of the last pixel came, whose rest of 1 was written as the byte `one`. In style
-    // `Tight` they are put at its index position, too, which tells only of those that open the image: any
-    // other pixel stands there already.
+    // So many repeats of the last pixel came. In style `Tight` they are put at its index position, too,
+    // which tells only of those that open the image: any other pixel stands there already.
     #[inline(always)]
-    fn repeat(&mut self, table: &mut Table, style: Style, count: usize, one: u8)
+    fn repeat(&mut self, table: &mut Table, style: Style, count: usize)
         ensures last { self.new.last ≡ self.old.last }
         ensures state { (past : Past) → StateAfter style past table.old self.old.last
             → StateAfter style (replicate count (previous past) ++ past) table.new self.new.last }
-        ensures style { (past : Past) (before : Option Chunk) (c : Chunk) → bytes_of c ≡ one ∷ []
-            → (c ≡ Run 1) ⊎ (c ≡ Place self.old.place)
+        ensures style { (past : Past) (before : Option Chunk)
             → StyleAfter past before self.old.place self.old.begun self.old.placed
             → StyleAfter (replicate count (previous past) ++ past)
-            (last_chunk before (runs_by c count)) self.new.place self.new.begun self.new.placed }
+            (last_chunk before (runs count)) self.new.place self.new.begun self.new.placed }
     {
         match style {
             Style::Reference | Style::Places => {}
             Style::Tight => table.put_if(count > 0, self.place, self.last),
         }
-        let named = (count % RUN_MAX == 1) & (one < 64);
-        self.placed = pick(count > 0, named, self.placed);
+        self.placed = self.placed & (count == 0);
     }
 
     // Writes the chunk of a fresh pixel of the four, as the style has it: its index position if it stands
@@ -204,7 +201,7 @@ impl Coder {
         }
         let one = self.rest_of_one(style, count);
         let behind = put_run(out, at, count, one);
-        self.repeat(table, style, count, one);
+        self.repeat(table, style, count);
         let end = self.give::<N>(table, out, behind, style, quad, lane + count);
         (end, lane + count + 1)
     }
@@ -240,7 +237,7 @@ impl Coder {
         let (_, behind) = data.split_at(N * count);
         let one = if behind.is_empty() { QOI_OP_RUN } else { self.rest_of_one(style, count) };
         let end = put_runs(out, at, count, one);
-        self.repeat(table, style, count, one);
+        self.repeat(table, style, count);
         (end, count)
     }
 
