@@ -5,13 +5,16 @@ use Rattle.qoi.specs.declared.chunk.Chunk.{Chunk}
 use Rattle.qoi.specs.declared.chunk.Chunk.TheVariants.{Place}
 use Rattle.qoi.specs.declared.types.Style.{Style}
 use Rattle.qoi.specs.declared.types.Style.TheVariants.{Reference, Places, Tight}
-use Rattle.qoi.specs.Qoi.{RgbaPixel, Past, start, previous, hash, seen}
+use Rattle.qoi.specs.Qoi.{RgbaPixel, Past, start, previous, hash, IsChunk, seen}
 use Rattle.qoi.specs.inner.Table.{Holds}
+use Rattle.qoi.specs.inner.Quad.{HasBytes}
 use Rattle.qoi.specs.Written.{fresh, IsFirst}
 use Rattle.qoi.specs.Styles.{has_pixel, names, choice_in}
 use Rattle.qoi.specs.inner.CoderState.{held_in, StateAfter, StyleAfter}
 use Rattle.qoi.proofs.format.ChunkSteps.{previous_repeats}
+use Rattle.qoi.proofs.format.SamePixels.{hash_below}
 use Rattle.qoi.proofs.decoding.SeenTable.{seen_put, seen_repeated}
+use Rattle.qoi.proofs.encoding.SpelledLanes.{place_bytes}
 use Rattle.qoi.proofs.encoding.NotedPixels.{fresh_repeat, fresh_more}
 use Rattle.qoi.proofs.encoding.TightChoice.{seen_kept, tight_no_place}
 use Rattle.qoi.proofs.encoding.WrittenExists.{spells_no_place}
@@ -48,24 +51,20 @@ module _ (style : Style) (past : Past) (px at : RgbaPixel) (i : ℕ) (place : i 
   not_there : (IsTrue false ↔ (at ≡ px)) → seen (held_in style past) (hash px) ≢ px
   not_there test e = absurd (let no : false ≡ true = test.1 (there ∙ e) in cc)
 
-  -- either chunk is chosen, as the test says
-  pub chosen : (same : Bool) (c : Chunk) → (IsTrue same ↔ (at ≡ px)) → (seen (held_in style past) (hash px) ≢ px → choice_in style past px c) → choice_in style past px (if same then Place i else c)
-  chosen true c test other = rw place (place_chosen style past px (sym there ∙ test.0 refl))
-  chosen false c test other = other (not_there test)
-
-  -- whether the chunk names the fresh pixel's index position is that test
-  names_chosen : (same : Bool) (c : Chunk) → (IsTrue same ↔ (at ≡ px)) → (seen (held_in style past) (hash px) ≢ px → choice_in style past px c) → same ≡ names (Some (if same then Place i else c)) (hash px)
-  names_chosen true c test other = sym (eq-eqb i (hash px) place)
-  names_chosen false c test other = sym (other_place style past px c (not_there test) (other (not_there test)))
+  -- Either chunk is chosen, as the test says: the index position, or another one; and it names the position exactly if
+  -- the pixel stands there. Its bytes are the lowest of a number.
+  pub fresh_chosen : (same : Bool) (alpha number size : ℕ) → (IsTrue same ↔ (at ≡ px)) → (seen (held_in style past) (hash px) ≢ px → (d : Chunk) × IsChunk d × HasBytes alpha number size d × choice_in style past px d)
+      → (d : Chunk) × IsChunk d × HasBytes alpha (if same then i else number) (if same then 1 else size) d × choice_in style past px d × (same ≡ names (Some d) (hash px))
+  fresh_chosen true alpha number size test other =
+      let below : i < 64 = omega (arith, place, hash_below px) in
+      (Place i, below, place_bytes i alpha below, rw place (place_chosen style past px (sym there ∙ test.0 refl)), sym (eq-eqb i (hash px) place))
+  fresh_chosen false alpha number size test other =
+      let o = other (not_there test) in
+      (o.0, o.1, o.2, o.3, sym (other_place style past px o.0 (not_there test) o.3))
 
   -- so it is kept
-  pub style_put : (same : Bool) (c : Chunk) → px ≢ previous past → (IsTrue same ↔ (at ≡ px)) → (seen (held_in style past) (hash px) ≢ px → choice_in style past px c)
-      → StyleAfter (px ∷ past) (Some (if same then Place i else c)) i true same
-  style_put same c differs test other = record {
-    place_is = place;
-    begun_is = sym (ap has_pixel (fresh_more past px differs));
-    placed_is = names_chosen same c test other;
-  }
+  pub style_put : (same : Bool) (c : Chunk) → px ≢ previous past → same ≡ names (Some c) (hash px) → StyleAfter (px ∷ past) (Some c) i true same
+  style_put same c differs named = record { place_is = place; begun_is = sym (ap has_pixel (fresh_more past px differs)); placed_is = named }
 
 -- before the first pixel none is put
 pub state_none : (style : Style) (table : List RgbaPixel) (last : RgbaPixel) → Holds table [] → last ≡ start → StateAfter style [] table last

@@ -1,1 +1,97 @@
--- Placeholder.
+-- The groups of repeats among four pixels.
+use Rattle.std.proofs.Common.{◌≡◌, ◌≢◌, ℕ, zero, suc, ◌+◌, ◌*◌, ◌/◌, ◌%◌, ◌^◌, ◌<◌, ◌≤◌, List, [], ◌∷◌, ◌++◌, length, take, drop, map, replicate, slice_index, Some, refl, sym, ap, ◌∙◌, arith, subst}
+use Rattle.std.specs.List.{AllByRecursion, slice_get}
+use Rattle.std.proofs.lemmas.List.{get_or-take, get_or-drop, length-drop, drop-drop}
+use Rattle.qoi.specs.Qoi.{RgbaPixel, IsPixel, hash}
+use Rattle.qoi.specs.Runs.{IsCount}
+use Rattle.qoi.specs.inner.Packed.{word, pixel_of_word}
+use Rattle.qoi.specs.inner.Quad.{IsRun}
+use Rattle.qoi.proofs.encoding.SpelledLanes.{unpacked}
+
+-- the index position of a lane's pixel
+pub place_lane : (xs : List ℕ) (k : ℕ) → slice_index (map (λ w. hash (pixel_of_word w)) xs) k ≡ hash (pixel_of_word (slice_index xs k))
+unfolding hash
+place_lane [] k = refl
+place_lane (x ∷ xs) zero = refl
+place_lane (x ∷ xs) (suc k) = place_lane xs k
+
+word_below : (p : RgbaPixel) → IsPixel p → word p < 2 ^ 32
+word_below p i = omega (arith, i.r, i.g, i.b, i.a)
+
+packed : (w : ℕ) → w < 2 ^ 32 → word (pixel_of_word w) ≡ w
+packed w l = omega arith
+
+-- numbers that repeat are pixels that repeat
+run_count : (w : ℕ) (ps : List RgbaPixel) (n : ℕ) → w < 2 ^ 32 → AllByRecursion IsPixel ps → n < length ps
+    → ((k : ℕ) → k < n → slice_index (map word ps) k ≡ slice_index (w ∷ map word ps) k) → slice_index (map word ps) n ≢ slice_index (w ∷ map word ps) n → IsCount (pixel_of_word w) ps n
+run_count w [] n l are few same stops = absurd (omega arith)
+run_count w (p ∷ ps) zero l are few same stops = record {
+  same = refl;
+  other = λ e. stops (let is : p ≡ pixel_of_word w = some_same e in ap word is ∙ packed w l);
+}
+  where
+    some_same : {a b : RgbaPixel} → Some a ≡ Some b → a ≡ b
+    some_same e = cc
+run_count w (p ∷ ps) (suc n) l are few same stops =
+    let e : word p ≡ w = same 0 (omega arith) in
+    let is : p ≡ pixel_of_word w = sym (unpacked p are.0) ∙ ap pixel_of_word e in
+    let rest = subst (λ q. IsCount q ps n) (ap pixel_of_word e) (run_count (word p) ps n (word_below p are.0) are.1 (omega arith) (λ k lt. same (suc k) (omega arith)) stops) in
+    record {
+      same = λ i. is i ∷ rest.same i;
+      other = rest.other;
+    }
+
+map_take : (n : ℕ) (ps : List RgbaPixel) → map word (take n ps) ≡ take n (map word ps)
+map_take zero ps = refl
+map_take (suc n) [] = refl
+map_take (suc n) (p ∷ ps) = ap (λ ws. word p ∷ ws) (map_take n ps)
+
+map_drop : (n : ℕ) (ps : List RgbaPixel) → map word (drop n ps) ≡ drop n (map word ps)
+map_drop zero ps = refl
+map_drop (suc n) [] = refl
+map_drop (suc n) (p ∷ ps) = map_drop n ps
+
+all_drop : (n : ℕ) (ps : List RgbaPixel) → AllByRecursion IsPixel ps → AllByRecursion IsPixel (drop n ps)
+all_drop zero ps a = a
+all_drop (suc n) [] a = a
+all_drop (suc n) (p ∷ ps) a = all_drop n ps a.1
+
+-- The repeats of the pixel before a lane are those that the lanes count, where a lane stops them.
+module _ (last : ℕ) (pixels : List RgbaPixel) (cur prev : List ℕ) (at n : ℕ) (long : 4 ≤ length pixels) (are : AllByRecursion IsPixel pixels) (ce : cur ≡ map word (take 4 pixels)) (pe : prev ≡ last ∷ take 3 cur) where
+  lane : (k : ℕ) → at + k < 4 → slice_index (map word (drop at pixels)) k ≡ slice_index cur (at + k)
+  lane k l =
+      ap (λ ws. slice_index ws k) (map_drop at pixels) ∙ get_or-drop at (map word pixels) k 0
+      ∙ sym (get_or-take 4 (map word pixels) (at + k) 0 l) ∙ ap (λ ws. slice_index ws (at + k)) (sym (map_take 4 pixels) ∙ sym ce)
+
+  before_lane : (j : ℕ) → j < 3 → slice_index prev (suc j) ≡ slice_index cur j
+  before_lane j l = ap (λ ws. slice_index ws (suc j)) pe ∙ get_or-take 3 cur j 0 l
+
+  behind : (k : ℕ) → at + k < 4 → slice_index (slice_index prev at ∷ map word (drop at pixels)) k ≡ slice_index prev (at + k)
+  behind zero l = ap (slice_index prev) (omega arith)
+  behind (suc k) l = lane k (omega arith) ∙ sym (before_lane (at + k) (omega arith)) ∙ ap (slice_index prev) (omega arith)
+
+  pub quad_count : slice_index prev at < 2 ^ 32 → at + n < 4 → IsRun cur prev at n → IsCount (pixel_of_word (slice_index prev at)) (drop at pixels) n
+  quad_count l short run =
+      run_count (slice_index prev at) (drop at pixels) n l (all_drop at pixels are) (omega (arith, length-drop at pixels))
+      (λ k lt. lane k (omega arith) ∙ run.same (at + k) (omega arith) (omega arith) ∙ sym (behind k (omega arith)))
+      (λ e. run.stops short (sym (lane n short) ∙ e ∙ behind n short))
+
+-- the pixel before the fresh one is that before the lane
+pub before_run : (cur prev : List ℕ) (last at n : ℕ) → prev ≡ last ∷ take 3 cur → IsRun cur prev at n → (k : ℕ) → k ≤ n → at + k < 4 → slice_index prev (at + k) ≡ slice_index prev at
+before_run cur prev last at n pe run zero le l = ap (slice_index prev) (omega arith)
+before_run cur prev last at n pe run (suc k) le l =
+    ap (slice_index prev) (omega arith) ∙ ap (λ ws. slice_index ws (suc (at + k))) pe ∙ get_or-take 3 cur (at + k) 0 (omega arith)
+    ∙ run.same (at + k) (omega arith) (omega arith) ∙ before_run cur prev last at n pe run k (omega arith) (omega arith)
+
+-- different numbers are different pixels
+pub differ : (v w : ℕ) → v < 2 ^ 32 → w < 2 ^ 32 → v ≢ w → pixel_of_word v ≢ pixel_of_word w
+differ v w lv lw n e = n (sym (packed v lv) ∙ ap word e ∙ packed w lw)
+
+-- the pixel of a lane, and those behind it
+lane_pixel : (pixels : List RgbaPixel) (cur : List ℕ) (j : ℕ) → 4 ≤ length pixels → AllByRecursion IsPixel pixels → cur ≡ map word (take 4 pixels) → j < 4 → drop j pixels ≡ pixel_of_word (slice_index cur j) ∷ drop (suc j) pixels
+lane_pixel (p0 ∷ p1 ∷ p2 ∷ p3 ∷ more) cur zero l a ce lt = λ i. sym (ap (λ ws. pixel_of_word (slice_index ws 0)) ce ∙ unpacked p0 a.0) i ∷ p1 ∷ p2 ∷ p3 ∷ more
+lane_pixel (p0 ∷ p1 ∷ p2 ∷ p3 ∷ more) cur (suc zero) l a ce lt = λ i. sym (ap (λ ws. pixel_of_word (slice_index ws 1)) ce ∙ unpacked p1 a.1.0) i ∷ p2 ∷ p3 ∷ more
+lane_pixel (p0 ∷ p1 ∷ p2 ∷ p3 ∷ more) cur (suc (suc zero)) l a ce lt = λ i. sym (ap (λ ws. pixel_of_word (slice_index ws 2)) ce ∙ unpacked p2 a.1.1.0) i ∷ p3 ∷ more
+lane_pixel (p0 ∷ p1 ∷ p2 ∷ p3 ∷ more) cur (suc (suc (suc zero))) l a ce lt = λ i. sym (ap (λ ws. pixel_of_word (slice_index ws 3)) ce ∙ unpacked p3 a.1.1.1.0) i ∷ more
+lane_pixel (p0 ∷ p1 ∷ p2 ∷ p3 ∷ more) cur (suc (suc (suc (suc j)))) l a ce lt = absurd (omega arith)
+lane_pixel _ cur j l a ce lt = absurd (omega arith)

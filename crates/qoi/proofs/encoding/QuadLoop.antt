@@ -1,1 +1,74 @@
--- Placeholder.
+-- The lanes of four pixels and the pixels before them.
+use Rattle.std.proofs.Common.{◌≡◌, ℕ, zero, suc, ◌+◌, ◌*◌, ◌/◌, ◌%◌, ◌^◌, ◌<◌, ◌≤◌, inl, inr, List, [], ◌∷◌, length, take, drop, map, slice_index, refl, sym, ap, ◌∙◌, arith, subst}
+use Rattle.std.specs.List.{AllByRecursion}
+use Rattle.std.proofs.lemmas.List.{get_or-take, length-take-le, length-map}
+use Rattle.qoi.specs.Qoi.{AreBytes, RgbaPixel, IsPixel}
+use Rattle.qoi.specs.Raw.{IsChannels, pixels_of, pixels_of_3, pixels_of_4}
+use Rattle.qoi.specs.inner.Packed.{word, pixel_of_word}
+use Rattle.qoi.specs.inner.Quad.{SameAlpha}
+
+-- enough bytes have four pixels
+three_long : (bytes : List ℕ) → 16 ≤ length bytes → 4 ≤ length (pixels_of_3 bytes)
+three_long (b0 ∷ b1 ∷ b2 ∷ b3 ∷ b4 ∷ b5 ∷ b6 ∷ b7 ∷ b8 ∷ b9 ∷ b10 ∷ b11 ∷ bytes) l = omega arith
+three_long _ l = absurd (omega arith)
+
+four_long : (bytes : List ℕ) → 16 ≤ length bytes → 4 ≤ length (pixels_of_4 bytes)
+four_long (b0 ∷ b1 ∷ b2 ∷ b3 ∷ b4 ∷ b5 ∷ b6 ∷ b7 ∷ b8 ∷ b9 ∷ b10 ∷ b11 ∷ b12 ∷ b13 ∷ b14 ∷ b15 ∷ bytes) l = omega arith
+four_long _ l = absurd (omega arith)
+
+pub long_pixels : (n : ℕ) (bytes : List ℕ) → IsChannels n → 16 ≤ length bytes → 4 ≤ length (pixels_of n bytes)
+long_pixels n bytes (inl e) l = rw e (three_long bytes l)
+long_pixels n bytes (inr e) l = rw e (four_long bytes l)
+
+-- opaque pixels after an opaque one keep alpha
+opaque_word : (r g b : ℕ) → r < 256 → g < 256 → b < 256 → (r + g * 2 ^ 8 + b * 2 ^ 16 + 255 * 2 ^ 24) / 2 ^ 24 ≡ 255
+opaque_word r g b lr lg lb = omega arith
+
+opaque_lanes : (bytes : List ℕ) (last : ℕ) → AreBytes bytes → 16 ≤ length bytes → last / 2 ^ 24 ≡ 255 → (let cur = map word (take 4 (pixels_of_3 bytes)) in SameAlpha cur (last ∷ take 3 cur))
+opaque_lanes (b0 ∷ b1 ∷ b2 ∷ b3 ∷ b4 ∷ b5 ∷ b6 ∷ b7 ∷ b8 ∷ b9 ∷ b10 ∷ b11 ∷ bytes) last h l e =
+    let x = opaque_word b0 b1 b2 (h 0) (h 1) (h 2) in
+    let y = opaque_word b3 b4 b5 (h 3) (h 4) (h 5) in
+    let z = opaque_word b6 b7 b8 (h 6) (h 7) (h 8) in
+    let w = opaque_word b9 b10 b11 (h 9) (h 10) (h 11) in
+    (x ∙ sym e, (y ∙ sym x, (z ∙ sym y, (w ∙ sym z, tt))))
+opaque_lanes _ last h l e = absurd (omega arith)
+
+pub quad_opaque : (n : ℕ) (bytes : List ℕ) (last : ℕ) (cur prev : List ℕ) → n ≡ 3 → AreBytes bytes → 16 ≤ length bytes → last / 2 ^ 24 ≡ 255 → cur ≡ map word (take 4 (pixels_of n bytes)) → prev ≡ last ∷ take 3 cur → SameAlpha cur prev
+quad_opaque n bytes last cur prev three h l e ce pe =
+    let is : cur ≡ map word (take 4 (pixels_of_3 bytes)) = ce ∙ ap (λ n. map word (take 4 (pixels_of n bytes))) three in
+    let old = pe ∙ ap (λ xs. last ∷ take 3 xs) is in
+    subst (λ xs. SameAlpha xs prev) (sym is) (subst (SameAlpha (map word (take 4 (pixels_of_3 bytes)))) (sym old) (opaque_lanes bytes last h l e))
+
+-- the lanes are numbers of 32 bits
+words_below : (ps : List RgbaPixel) (k : ℕ) → AllByRecursion IsPixel ps → slice_index (map word ps) k < 2 ^ 32
+words_below [] k a = omega arith
+words_below (p ∷ ps) zero a = let i = a.0 in omega (arith, i.r, i.g, i.b, i.a)
+words_below (p ∷ ps) (suc k) a = words_below ps k a.1
+
+all_take : (n : ℕ) (ps : List RgbaPixel) → AllByRecursion IsPixel ps → AllByRecursion IsPixel (take n ps)
+all_take zero ps a = tt
+all_take (suc n) [] a = tt
+all_take (suc n) (p ∷ ps) a = (a.0, all_take n ps a.1)
+
+module _ (pixels : List RgbaPixel) (last : ℕ) (cur prev : List ℕ) (long : 4 ≤ length pixels) (are : AllByRecursion IsPixel pixels) (ce : cur ≡ map word (take 4 pixels)) (pe : prev ≡ last ∷ take 3 cur) where
+  pub cur_length : length cur ≡ 4
+  cur_length = ap length ce ∙ length-map (take 4 pixels) word ∙ length-take-le 4 pixels long
+
+  pub prev_length : length prev ≡ 4
+  prev_length = ap length pe ∙ omega (arith, length-take-le 3 cur (omega (arith, cur_length)))
+
+  pub cur_below : (k : ℕ) → slice_index cur k < 2 ^ 32
+  cur_below k = subst (λ xs. slice_index xs k < 2 ^ 32) (sym ce) (words_below (take 4 pixels) k (all_take 4 pixels are))
+
+  pub prev_below : (k : ℕ) → k < 4 → last < 2 ^ 32 → slice_index prev k < 2 ^ 32
+  prev_below k lt l = subst (λ xs. slice_index xs k < 2 ^ 32) (sym pe) (go k lt)
+    where
+      go : (k : ℕ) → k < 4 → slice_index (last ∷ take 3 cur) k < 2 ^ 32
+      go zero lt = l
+      go (suc k) lt = rw (get_or-take 3 cur k 0 (omega arith)) (cur_below k)
+
+-- the last pixel of a group is that before the next lane
+pub px_next : (cur : List ℕ) (last lane n : ℕ) → lane + (n + 1) < 4 → slice_index cur (lane + n) ≡ slice_index (last ∷ take 3 cur) (lane + (n + 1))
+px_next cur last lane n l =
+    let next : suc (lane + n) ≡ lane + (n + 1) = omega arith in
+    sym (get_or-take 3 cur (lane + n) 0 (omega arith)) ∙ ap (slice_index (last ∷ take 3 cur)) next

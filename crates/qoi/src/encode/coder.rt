@@ -364,7 +364,7 @@ fn unkept(
     number: u32,
     size: u32,
 ) -> (u32, u32)
-    ensures few { result.1 ≤ size }
+    ensures few { (n : ℕ) → 1 ≤ n → size ≤ n → result.1 ≤ n }
     ensures choice { (past : Past) (alpha : ℕ) (c : Chunk) → Holds table.now (held_in style past)
         → (IsTrue placed ↔ (seen (held_in style past) (hash px) ≡ px))
         → IsChunk c → HasBytes alpha number size c → IsFirst past px c
