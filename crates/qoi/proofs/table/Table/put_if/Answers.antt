@@ -1,5 +1,5 @@
 -- A pixel is put at its own index position, or what is held there again.
-use Rattle.std.proofs.Common.{◌≡◌, IsTrue, true, false, sym, subst, arith, ap, ◌∙◌, refl}
+use Rattle.std.proofs.Common.{◌≡◌, true, sym, subst, arith, ◌∙◌, refl}
 use Rattle.qoi.specs.inner.Table.{Holds}
 use Rattle.qoi.proofs.format.TableHolds.{holds_put}
 use Rattle.qoi.proofs.format.SamePixels.{hash_below}
@@ -19,4 +19,6 @@ bounds-self-inside-place-2 c = omega (arith, c.requires, hash_below c.args.px)
 
 pub returns-clause-puts : goal.returns-clause-puts
 returns-clause-puts c puts past holds =
-    holds_put c.self.inside.pixels c.args.px past c.args.place c.self.invariant c.requires (subst (λ t. Holds t past) (sym c.self.view_is) holds)
+    let t : c.args.puts ≡ true = puts in
+    let picked : c.pick.result ≡ c.args.px = c.pick.ensures ∙ rw t refl in
+    rw picked (holds_put c.self.inside.pixels c.args.px past c.args.place c.self.invariant c.requires (subst (λ h. Holds h past) (sym c.self.view_is) holds))
