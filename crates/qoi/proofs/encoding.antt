@@ -14,6 +14,7 @@ pub mod SpelledLanes
 pub mod RunBytes
 pub mod QuadGroups
 pub mod QuadLoop
+pub mod QuadSteps
 pub mod StillToWrite
 pub mod StyledGroup
 pub mod StyleLists

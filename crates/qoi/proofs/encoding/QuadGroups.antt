@@ -15,10 +15,12 @@ place_lane [] k = refl
 place_lane (x ∷ xs) zero = refl
 place_lane (x ∷ xs) (suc k) = place_lane xs k
 
+-- a pixel packed has 32 bits
 word_below : (p : RgbaPixel) → IsPixel p → word p < 2 ^ 32
 word_below p i = omega (arith, i.r, i.g, i.b, i.a)
 
-packed : (w : ℕ) → w < 2 ^ 32 → word (pixel_of_word w) ≡ w
+-- a number packed again
+pub packed : (w : ℕ) → w < 2 ^ 32 → word (pixel_of_word w) ≡ w
 packed w l = omega arith
 
 -- numbers that repeat are pixels that repeat
@@ -88,10 +90,23 @@ pub differ : (v w : ℕ) → v < 2 ^ 32 → w < 2 ^ 32 → v ≢ w → pixel_of_
 differ v w lv lw n e = n (sym (packed v lv) ∙ ap word e ∙ packed w lw)
 
 -- the pixel of a lane, and those behind it
-lane_pixel : (pixels : List RgbaPixel) (cur : List ℕ) (j : ℕ) → 4 ≤ length pixels → AllByRecursion IsPixel pixels → cur ≡ map word (take 4 pixels) → j < 4 → drop j pixels ≡ pixel_of_word (slice_index cur j) ∷ drop (suc j) pixels
+pub lane_pixel : (pixels : List RgbaPixel) (cur : List ℕ) (j : ℕ) → 4 ≤ length pixels → AllByRecursion IsPixel pixels → cur ≡ map word (take 4 pixels) → j < 4 → drop j pixels ≡ pixel_of_word (slice_index cur j) ∷ drop (suc j) pixels
 lane_pixel (p0 ∷ p1 ∷ p2 ∷ p3 ∷ more) cur zero l a ce lt = λ i. sym (ap (λ ws. pixel_of_word (slice_index ws 0)) ce ∙ unpacked p0 a.0) i ∷ p1 ∷ p2 ∷ p3 ∷ more
 lane_pixel (p0 ∷ p1 ∷ p2 ∷ p3 ∷ more) cur (suc zero) l a ce lt = λ i. sym (ap (λ ws. pixel_of_word (slice_index ws 1)) ce ∙ unpacked p1 a.1.0) i ∷ p2 ∷ p3 ∷ more
 lane_pixel (p0 ∷ p1 ∷ p2 ∷ p3 ∷ more) cur (suc (suc zero)) l a ce lt = λ i. sym (ap (λ ws. pixel_of_word (slice_index ws 2)) ce ∙ unpacked p2 a.1.1.0) i ∷ p3 ∷ more
 lane_pixel (p0 ∷ p1 ∷ p2 ∷ p3 ∷ more) cur (suc (suc (suc zero))) l a ce lt = λ i. sym (ap (λ ws. pixel_of_word (slice_index ws 3)) ce ∙ unpacked p3 a.1.1.1.0) i ∷ more
 lane_pixel (p0 ∷ p1 ∷ p2 ∷ p3 ∷ more) cur (suc (suc (suc (suc j)))) l a ce lt = absurd (omega arith)
 lane_pixel _ cur j l a ce lt = absurd (omega arith)
+
+-- a pixel whose number this is
+pub last_packed : (p : RgbaPixel) (w : ℕ) → IsPixel p → word p ≡ w → p ≡ pixel_of_word w
+last_packed p w is e = sym (unpacked p is) ∙ ap pixel_of_word e
+
+-- the first pixel behind counted ones is another
+pub count_other : (p : RgbaPixel) (pixels : List RgbaPixel) (n : ℕ) → IsCount p pixels n → slice_get (drop n pixels) 0 ≢ Some p
+count_other p pixels n count e = count.other (nth n pixels ∙ e)
+  where
+    nth : (k : ℕ) (xs : List RgbaPixel) → slice_get xs k ≡ slice_get (drop k xs) 0
+    nth zero xs = refl
+    nth (suc k) [] = refl
+    nth (suc k) (x ∷ xs) = nth k xs

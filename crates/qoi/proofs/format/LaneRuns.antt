@@ -2,7 +2,7 @@
 use Rattle.std.proofs.Common.{◌≡◌, ◌≢◌, ℕ, zero, suc, ◌+◌, ◌-◌, ◌*◌, ◌/◌, ◌%◌, ◌^◌, ◌<◌, ◌≤◌, Bool, true, false, cond, eqb, eqb-true, List, [], ◌∷◌, length, drop, map, slice_index, refl, sym, ap, ◌∙◌, arith, w32, subst, length-drop}
 use Rattle.std.specs.List.{common_prefix_len}
 use Rattle.std.proofs.Math.Nat.{pow-suc}
-use Rattle.std.proofs.lemmas.Bool.{eqb-false}
+use Rattle.std.proofs.lemmas.Bool.{eqb-false, eq-eqb}
 use Rattle.std.proofs.lemmas.List.{get_or-drop}
 use Rattle.std.proofs.lemmas.Nat.{shr-shr, shr_le}
 use Rattle.std.proofs.lemmas.Simd.{tops_compared, mask_l-mod, mask_l-lt, length-zip2}
@@ -119,3 +119,24 @@ no_run xs ys at e g m l = record {
   same = λ k from to. absurd (omega arith);
   stops = λ short. none_agree xs ys (e ∙ sym g) m (at + 0) (omega arith);
 }
+
+-- where four lanes agree all bits are set
+pub all_agree : (xs ys : List ℕ) (n : ℕ) → length xs ≡ 4 → length ys ≡ 4 → 4 ≤ n → IsRun xs ys 0 n → mask_l (zip2 eqb xs ys) ≡ 15
+all_agree (x0 ∷ x1 ∷ x2 ∷ x3 ∷ []) (y0 ∷ y1 ∷ y2 ∷ y3 ∷ []) n e g many run =
+    let t0 = eq-eqb x0 y0 (run.same 0 (omega arith) (omega arith)) in
+    let t1 = eq-eqb x1 y1 (run.same 1 (omega arith) (omega arith)) in
+    let t2 = eq-eqb x2 y2 (run.same 2 (omega arith) (omega arith)) in
+    let t3 = eq-eqb x3 y3 (run.same 3 (omega arith) (omega arith)) in
+    λ i. mask_l (t0 i ∷ t1 i ∷ t2 i ∷ t3 i ∷ [])
+all_agree (x0 ∷ x1 ∷ x2 ∷ x3 ∷ []) _ n e g many run = absurd (omega arith)
+all_agree _ ys n e g many run = absurd (omega arith)
+
+-- and the first lanes agree where all bits are
+pub first_agrees : (xs ys : List ℕ) → length xs ≡ 4 → length ys ≡ 4 → mask_l (zip2 eqb xs ys) ≡ 15 → slice_index xs 0 ≡ slice_index ys 0
+first_agrees [] ys e g m = absurd (omega arith)
+first_agrees (x ∷ xs) [] e g m = absurd (omega arith)
+first_agrees (x ∷ xs) (y ∷ ys) e g m = go (eqb x y) refl m
+  where
+    go : (b : Bool) → eqb x y ≡ b → cond b 1 0 + 2 * mask_l (zip2 eqb xs ys) ≡ 15 → x ≡ y
+    go true is m = eqb-true x y is
+    go false is m = absurd (omega arith)

@@ -105,8 +105,16 @@ pub record IsRun (xs ys : List ℕ) (at n : ℕ) : Type 0 where
   pub same : (k : ℕ) → at ≤ k → k < at + n → slice_index xs k ≡ slice_index ys k
   pub stops : at + n < 4 → slice_index xs (at + n) ≢ slice_index ys (at + n)
 
--- the chunks have at most a byte more than the pixels, and the index positions are those of the pixels
+-- four packed pixels are opaque
+abbrev pub AreOpaqueWords : List ℕ → Type 0
+AreOpaqueWords words = (k : ℕ) → k < 4 → slice_index words k / 2 ^ 24 ≡ 255
+
+-- There are four, of three channels they are opaque, the chunks have at most a byte more than the pixels, and the index
+-- positions are those of the pixels.
 pub record QuadFits (n : ℕ) (quad : Quad) : Type 0 where
+  pub four : length quad.pixels ≡ 4
+  pub four_before : length quad.before ≡ 4
+  pub opaque : n ≡ 3 → AreOpaqueWords quad.pixels
   pub few : (k : ℕ) → k < 4 → slice_index quad.sizes k ≤ n + 1
   pub places_are : quad.places ≡ map (λ w. hash (pixel_of_word w)) quad.pixels
 

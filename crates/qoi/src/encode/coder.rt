@@ -115,6 +115,7 @@ impl Coder {
         ensures same { length out.new ≡ length out.old }
         ensures within { result ≤ at + 5 }
         ensures last { self.new.last ≡ pixel_of_word (slice_index quad.now.pixels lane) }
+        ensures opaque { N ≡ 3 → self.new.last.a ≡ 255 }
         ensures given { (w : Writing) (q : ℕ) (c : Chunk) (rest : List RgbaPixel) → w.style ≡ style
             → IsSpelled (slice_index quad.now.pixels lane) q (slice_index quad.now.numbers lane)
             (slice_index quad.now.sizes lane) c → self.old.last ≡ pixel_of_word q
@@ -154,6 +155,7 @@ impl Coder {
         requires quad { QuadFits N quad.now }
         ensures same { length out.new ≡ length out.old }
         ensures within { result ≤ at + 20 }
+        ensures opaque { N ≡ 3 → self.new.last.a ≡ 255 }
         ensures given { (w : Writing) (pixels : List RgbaPixel) → w.style ≡ style
             → IsQuad N quad.now pixels → ((k : ℕ) → k < 4 → IsFreshLane quad.now k)
             → AtLane w quad.now pixels 0 table.old self.old (take at out.old)
@@ -181,12 +183,14 @@ impl Coder {
         requires channels { IsChannels N }
         requires room { at + 9 ≤ length out.old }
         requires quad { QuadFits N quad.now }
+        requires within { repeating < 16 }
         requires bits { repeating ≡ mask_l (zip2 nat_eq quad.now.pixels quad.now.before) }
         requires lane { lane ≤ 4 }
         ensures same { length out.new ≡ length out.old }
         ensures within { result.0 ≤ at + 6 }
         ensures lanes { (lane ≤ result.1) × (result.1 ≤ 4) }
         ensures some { lane ≡ 0 → repeating < 15 → 0 < result.1 }
+        ensures opaque { N ≡ 3 → self.old.last.a ≡ 255 → self.new.last.a ≡ 255 }
         ensures given { (w : Writing) (pixels : List RgbaPixel) → w.style ≡ style
             → IsQuad N quad.now pixels
             → AtLane w quad.now pixels lane table.old self.old (take at out.old)
@@ -218,6 +222,7 @@ impl Coder {
     ) -> (usize, usize)
         requires channels { IsChannels N }
         requires whole { length «data».now % N ≡ 0 }
+        requires opaque { N ≡ 3 → self.old.last.a ≡ 255 }
         requires room { at + 17 ≤ length out.old }
         ensures same { length out.new ≡ length out.old }
         ensures within { result.0 ≤ at + result.1 / 62 + 1 }

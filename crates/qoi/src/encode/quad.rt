@@ -6,7 +6,7 @@ ghost use Rattle.qoi.specs.declared.chunk.Chunk.{Chunk};
 ghost use Rattle.qoi.specs.Qoi.{hash};
 ghost use Rattle.qoi.specs.Raw.{IsChannels, pixels_of};
 ghost use Rattle.qoi.specs.inner.Packed.{word, pixel_of_word};
-ghost use Rattle.qoi.specs.inner.Quad.{stepped, step_word, small_word, wide_word, green_twice, diff_number, luma_number, rgb_number, full_number, full_count, KeepAlpha, spelled_number, spelled_count, SameAlpha, IsSpelled, QuadFits};
+ghost use Rattle.qoi.specs.inner.Quad.{stepped, step_word, small_word, wide_word, green_twice, diff_number, luma_number, rgb_number, full_number, full_count, KeepAlpha, spelled_number, spelled_count, SameAlpha, IsSpelled, AreOpaqueWords, QuadFits};
 
 use crate::packed::Packed;
 use std::simd::prelude::*;
@@ -28,7 +28,8 @@ impl Quad {
     #[inline(always)]
     pub(super) fn new<const N: usize>(cur: u32x4, prev: u32x4) -> Quad
         requires channels { IsChannels N }
-        requires opaque { N ≡ 3 → SameAlpha cur prev }
+        requires opaque { N ≡ 3 → AreOpaqueWords cur }
+        requires same_alpha { N ≡ 3 → SameAlpha cur prev }
         ensures pixels { result.pixels ≡ cur }
         ensures before { result.before ≡ prev }
         ensures fits { QuadFits N result }
@@ -50,7 +51,8 @@ impl Quad {
     #[inline(always)]
     pub(crate) fn alone<const N: usize>(px: Packed, last: Packed) -> Quad
         requires channels { IsChannels N }
-        requires opaque { N ≡ 3 → px.a ≡ last.a }
+        requires opaque { N ≡ 3 → px.a ≡ 255 }
+        requires same_alpha { N ≡ 3 → px.a ≡ last.a }
         ensures pixel { slice_index result.pixels 0 ≡ word px }
         ensures fits { QuadFits N result }
         ensures spelled { (c : Chunk) × IsSpelled (word px) (word last)

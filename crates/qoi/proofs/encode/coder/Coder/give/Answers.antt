@@ -55,3 +55,6 @@ returns-clause-given g c w q chunk rest same_style spelled last_is differs b =
     chunk_given b p rest d.0 (λ j. sym p_is j ∷ rest) fresh d.1 (subst (λ s. choice_in s past p d.0) (sym same_style) d.3) bytes
     (subst (λ s. StateAfter s (p ∷ past) c.put.new.self p) (sym same_style) table)
     (style_put style past p c.at.result i at_place held same d.0 (λ e. fresh (e ∙ sym state.last_is)) d.4)
+
+pub returns-clause-opaque : goal.returns-clause-opaque
+returns-clause-opaque g c three = ap (λ p. p.a) c.of_number-px.ensures ∙ c.requires.quad.opaque three c.args.lane c.requires.lane
