@@ -9,7 +9,8 @@ use Rattle.qoi.specs.writers.Writes.{WriterLaws, WroteBut, WroteSome}
 use Rattle.qoi.proofs.encoding.WriterProgress.{wrote_none, wrote_next, wrote_part, wrote_all}
 
 -- the bytes behind a full piece, copied to the front
-pub moved_front : (xs : List ℕ) (piece room end : ℕ) → length xs ≡ room → piece ≤ end → end ≤ room → take (end - piece) (copy_within xs piece room 0) ≡ drop piece (take end xs)
+pub moved_front : (xs : List ℕ) (piece room end : ℕ) → length xs ≡ room → piece ≤ end → end ≤ room
+    → take (end - piece) (copy_within xs piece room 0) ≡ drop piece (take end xs)
 moved_front xs piece room end size full within =
     let behind : length (drop piece xs) ≡ room - piece = omega (arith, length-drop piece xs) in
     ap (take (end - piece)) (paste_all xs 0 (drop piece xs) (room - piece) (sym behind))
@@ -18,8 +19,8 @@ moved_front xs piece room end size full within =
 
 module _ {W : Type 0} (wrote : W → List ℕ → W → Type 0) (room : W → ℕ) (laws : WriterLaws wrote room) where
   -- the kept bytes were given as far as a full piece
-  pub given_but : (a b next : W) (old new now : Piece) (piece : ℕ) → now ≡ new → next ≡ b → wrote a (take piece (kept_bytes old)) b → kept_bytes new ≡ drop piece (kept_bytes old)
-      → WroteBut wrote a (kept_bytes old) (kept_bytes now) next
+  pub given_but : (a b next : W) (old new now : Piece) (piece : ℕ) → now ≡ new → next ≡ b
+      → wrote a (take piece (kept_bytes old)) b → kept_bytes new ≡ drop piece (kept_bytes old) → WroteBut wrote a (kept_bytes old) (kept_bytes now) next
   given_but a b next old new now piece is same went kept = record {
     front = take piece (kept_bytes old);
     split = sym (take-append-drop piece (kept_bytes old)) ∙ ap (λ z. take piece (kept_bytes old) ++ z) (sym (ap kept_bytes is ∙ kept));
@@ -33,8 +34,10 @@ module _ {W : Type 0} (wrote : W → List ℕ → W → Type 0) (room : W → �
       (subst (λ w. WroteBut wrote a (kept_bytes old) (kept_bytes old) w) (sym same) (wrote_none wrote room laws a (kept_bytes old)))
 
   -- then the rest was given
-  pub rest_given : {T E : Type 0} (r : Result T E) (a b next : W) (all rest : List ℕ) → WroteBut wrote a all rest b → OnOk r (wrote b rest next) → OnOk r (wrote a all next)
-  rest_given (Ok x) a b next all rest w went = wrote_all wrote room laws a next all (wrote_next wrote room laws a b next all rest rest [] w (sym (append-nil rest)) went)
+  pub rest_given : {T E : Type 0} (r : Result T E) (a b next : W) (all rest : List ℕ) → WroteBut wrote a all rest b → OnOk r (wrote b rest next)
+      → OnOk r (wrote a all next)
+  rest_given (Ok x) a b next all rest w went =
+      wrote_all wrote room laws a next all (wrote_next wrote room laws a b next all rest rest [] w (sym (append-nil rest)) went)
   rest_given (Err e) a b next all rest w went = tt
 
   -- or a beginning of it

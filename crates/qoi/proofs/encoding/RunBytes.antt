@@ -1,5 +1,5 @@
 -- The bytes of a group's runs, behind those written before.
-use Rattle.std.proofs.Common.{Bool, true, false, nat_lt, lt-ltb, if◌then◌else◌, ◌==◌, append-nil, set, ◌≡◌, ℕ, zero, suc, ◌+◌, ◌-◌, ◌/◌, ◌%◌, ◌<◌, ◌≤◌, List, [], ◌∷◌, ◌++◌, length, take, drop, replicate, refl, sym, ap, ◌∙◌, arith, append_assoc}
+use Rattle.std.proofs.Common.{nat_lt, lt-ltb, if◌then◌else◌, ◌==◌, append-nil, set, ◌≡◌, ℕ, zero, suc, ◌+◌, ◌-◌, ◌/◌, ◌%◌, ◌<◌, ◌≤◌, List, [], ◌∷◌, ◌++◌, length, take, drop, replicate, refl, sym, ap, ◌∙◌, arith, append_assoc}
 use Rattle.std.proofs.lemmas.Grind.{flat_map-append}
 use Rattle.std.proofs.lemmas.List.{take-set, take-append-le, take-replicate, length-take-le, length-drop}
 use Rattle.std.proofs.lemmas.Simd.{put_chunk_whole}

@@ -1,5 +1,5 @@
 -- Transparent black by the first position that holds it, or else as it is spelled out.
-use Rattle.std.proofs.Common.{◌≡◌, ◌≢◌, ◌&&◌, ◌<◌, Bool, true, false, not, IsTrue, sym, ◌∙◌, subst, arith}
+use Rattle.std.proofs.Common.{◌≡◌, ◌≢◌, ◌&&◌, Bool, true, false, not, IsTrue, sym, ◌∙◌}
 use Rattle.std.proofs.lemmas.Bool.{and_parts, true≢false}
 use Rattle.qoi.specs.declared.chunk.Chunk.TheVariants.{Place}
 use Rattle.qoi.specs.Qoi.{seen, hash, blank}
@@ -37,5 +37,6 @@ not_both false placed e s n = true≢false (sym s)
 pub returns-else-is_same-placed-clause-choice : goal.returns-else-is_same-placed-clause-choice
 returns-else-is_same-placed-clause-choice c = λ past alpha chunk holds test is bytes first differs.
     let other : seen past (hash c.args.px) ≢ c.args.px = rw c.in-Tight.is at differs in
-    let no : c.args.px ≡ blank → ⊥ = λ b. not_both c.is_same.result c.args.placed c.if-is_same-placed.false (c.is_same.ensures.1 (b ∙ sym c.blank.ensures)) (λ t. differs (test.0 t)) in
+    let no : c.args.px ≡ blank → ⊥ = λ b.
+        not_both c.is_same.result c.args.placed c.if-is_same-placed.false (c.is_same.ensures.1 (b ∙ sym c.blank.ensures)) (λ t. differs (test.0 t)) in
     rw c.in-Tight.is (chunk, is, bytes, spelled_chosen past c.args.px chunk other (λ b. absurd (no b)) first)

@@ -1,5 +1,5 @@
 -- One byte is a run.
-use Rattle.std.proofs.Common.{◌+◌, ap, ◌∙◌, take, set}
+use Rattle.std.proofs.Common.{◌+◌, ◌∙◌, take, set}
 use Rattle.qoi.proofs.encoding.RunBytes.{run_written}
 use Rattle.qoi.proofs.encode.piece.put_run.Goals as goal
 

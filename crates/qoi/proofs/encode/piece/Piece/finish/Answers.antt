@@ -17,7 +17,9 @@ returns-in_err-give-clause-refused g c =
     let a = c.args.buf.now in
     let all = kept_bytes c.args.self.now in
     let none = wrote_none g.W.Writer.wrote g.W.Writer.room laws a all in
-    rw (p.1, p.2) (r.0, wrote_part g.W.Writer.wrote g.W.Writer.room laws a a c.give.new.buf all all (take 4096 all) (drop 4096 all) none (sym (take-append-drop 4096 all)) r.1)
+    let parts = sym (take-append-drop 4096 all) in
+    let some = wrote_part g.W.Writer.wrote g.W.Writer.room laws a a c.give.new.buf all all (take 4096 all) (drop 4096 all) none parts r.1 in
+    rw (p.1, p.2) (r.0, some)
 
 pub write_many-requires : goal.write_many-requires
 write_many-requires g c =
@@ -28,7 +30,8 @@ write_many-requires g c =
     let b = c.if-self-ge-PIECE.buf in
     let but : WroteBut g.W.Writer.wrote a (kept_bytes old) (kept_bytes now) b = elim c.if-self-ge-PIECE.branch [
       | then-self-ge-PIECE+in_ok-give w ↦
-          given_but g.W.Writer.wrote g.W.Writer.room laws a w.give.new.buf b old w.give.new.self now 4096 w.self-is w.buf-is w.in_ok-give.ensures.written w.in_ok-give.ensures.kept
+          given_but g.W.Writer.wrote g.W.Writer.room laws a w.give.new.buf b old w.give.new.self now 4096 w.self-is w.buf-is
+          w.in_ok-give.ensures.written w.in_ok-give.ensures.kept
       | else-self-ge-PIECE w ↦ none_but g.W.Writer.wrote g.W.Writer.room laws a b old now w.self-is w.buf-is
     ] in
     left_fits g.W.Writer.wrote g.W.Writer.room laws a b (kept_bytes old) (kept_bytes now) but
@@ -43,10 +46,14 @@ returns g c =
     let b = c.if-self-ge-PIECE.buf in
     let but : WroteBut g.W.Writer.wrote a (kept_bytes old) (kept_bytes now) b = elim c.if-self-ge-PIECE.branch [
       | then-self-ge-PIECE+in_ok-give w ↦
-          given_but g.W.Writer.wrote g.W.Writer.room laws a w.give.new.buf b old w.give.new.self now 4096 w.self-is w.buf-is w.in_ok-give.ensures.written w.in_ok-give.ensures.kept
+          given_but g.W.Writer.wrote g.W.Writer.room laws a w.give.new.buf b old w.give.new.self now 4096 w.self-is w.buf-is
+          w.in_ok-give.ensures.written w.in_ok-give.ensures.kept
       | else-self-ge-PIECE w ↦ none_but g.W.Writer.wrote g.W.Writer.room laws a b old now w.self-is w.buf-is
     ] in
+    let all = kept_bytes old in
+    let next = c.write_many.new.self in
+    let r = c.write_many.result in
     record {
-      written = rest_given g.W.Writer.wrote g.W.Writer.room laws c.write_many.result a b c.write_many.new.self (kept_bytes old) (kept_bytes now) but c.write_many.ensures.written;
-      refused = rest_refused g.W.Writer.wrote g.W.Writer.room laws c.write_many.result g.W.Writer.Refuses a b c.write_many.new.self (kept_bytes old) (kept_bytes now) but c.write_many.ensures.refused;
+      written = rest_given g.W.Writer.wrote g.W.Writer.room laws r a b next all (kept_bytes now) but c.write_many.ensures.written;
+      refused = rest_refused g.W.Writer.wrote g.W.Writer.room laws r g.W.Writer.Refuses a b next all (kept_bytes now) but c.write_many.ensures.refused;
     }
