@@ -1,7 +1,7 @@
 -- The pixels that repeat at the front of bytes, and the runs of a group.
-use Rattle.std.proofs.Common.{◌≡◌, ◌≢◌, ◌⊎◌, inl, inr, ℕ, zero, suc, ◌+◌, ◌-◌, ◌*◌, ◌/◌, ◌%◌, ◌<◌, ◌≤◌, List, [], ◌∷◌, ◌++◌, length, take, drop, min, replicate, false, ◌==◌, if◌then◌else◌, Some, refl, sym, ap, ◌∙◌, subst, arith, length-append, take-append-drop}
-use Rattle.std.proofs.Math.Seq.{drop-append_seam}
-use Rattle.std.proofs.lemmas.List.{length-replicate, length-drop, length-take-le}
+use Rattle.std.proofs.Common.{◌≡◌, ◌≢◌, ◌⊎◌, inl, inr, ℕ, zero, suc, ◌+◌, ◌-◌, ◌*◌, ◌/◌, ◌%◌, ◌<◌, ◌≤◌, List, [], ◌∷◌, ◌++◌, length, take, drop, min, replicate, false, ◌==◌, if◌then◌else◌, Some, refl, sym, ap, ◌∙◌, subst, arith, length-append, take-append-drop, append_assoc}
+use Rattle.std.proofs.Math.Seq.{drop-append_seam, take-length}
+use Rattle.std.proofs.lemmas.List.{length-replicate, length-drop, length-take-le, drop-append-le}
 use Rattle.std.proofs.lemmas.Bool.{cases_lt, ne_eqb}
 use Rattle.std.specs.List.{slice_get}
 use Rattle.qoi.specs.declared.chunk.Chunk.{Chunk}
@@ -171,3 +171,85 @@ group_of n bytes q count is whole w = record {
     still : IsChannels n → (length bytes - n * count) % n ≡ 0
     still (inl e) = let m = whole in let h = inside in subst (λ k. length bytes % k ≡ 0 → k * count ≤ length bytes → (length bytes - k * count) % k ≡ 0) (sym e) (λ a b. omega arith) m h
     still (inr e) = let m = whole in let h = inside in subst (λ k. length bytes % k ≡ 0 → k * count ≤ length bytes → (length bytes - k * count) % k ≡ 0) (sym e) (λ a b. omega arith) m h
+
+-- pixels behind others are those of the bytes behind theirs
+pub pixels_drop : (n k : ℕ) (bytes : List ℕ) → IsChannels n → n * k ≤ length bytes → drop k (pixels_of n bytes) ≡ pixels_of n (drop (n * k) bytes)
+pixels_drop n k bytes is inside =
+    let size : length (take (n * k) bytes) ≡ n * k = length-take-le (n * k) bytes inside in
+    ap (λ x. drop k (pixels_of n x)) (sym (take-append-drop (n * k) bytes))
+    ∙ ap (drop k) (pixels_of-append n k (take (n * k) bytes) (drop (n * k) bytes) is size)
+    ∙ ap (λ j. drop j (pixels_of n (take (n * k) bytes) ++ pixels_of n (drop (n * k) bytes))) (sym (length-pixels_of n k (take (n * k) bytes) is size))
+    ∙ drop-append_seam (pixels_of n (take (n * k) bytes)) (pixels_of n (drop (n * k) bytes))
+
+-- bytes of whole pixels have a pixel, if there are any
+pub some_pixels : (n : ℕ) (bytes : List ℕ) → IsChannels n → length bytes % n ≡ 0 → 0 < length bytes → pixels_of n bytes ≢ []
+some_pixels n bytes is whole some none =
+    let size = whole_pixels n (length bytes) is whole in
+    let count = length-pixels_of n (length bytes / n) bytes is size in
+    let zero : length (pixels_of n bytes) ≡ 0 = ap length none in
+    no_bytes n (length bytes) is some (omega (arith, count)) size
+  where
+    no_bytes : (n len : ℕ) → IsChannels n → 0 < len → len / n ≡ 0 → len ≡ n * (len / n) → ⊥
+    no_bytes n len (inl e) some none size = let h = some in subst (λ k. len / k ≡ 0 → len ≡ k * (len / k) → ⊥) (sym e) (λ a b. omega arith) none size
+    no_bytes n len (inr e) some none size = let h = some in subst (λ k. len / k ≡ 0 → len ≡ k * (len / k) → ⊥) (sym e) (λ a b. omega arith) none size
+
+-- The repeats at the front of bytes, of which some are looked at: they stand ahead, and another pixel, or none, is behind
+-- them, or as many were found as were looked at.
+pub record NearGroup (n : ℕ) (bytes : List ℕ) (q : RgbaPixel) (most count : ℕ) : Type 0 where
+  pub within : n * count ≤ length bytes
+  pub few : count ≤ most
+  pub pixels : pixels_of n bytes ≡ replicate count q ++ pixels_of n (drop (n * count) bytes)
+  pub ends : (slice_get (pixels_of n (drop (n * count) bytes)) 0 ≢ Some q) ⊎ (count ≡ most)
+  pub whole : length (drop (n * count) bytes) % n ≡ 0
+
+-- the rest is whole, too
+whole_rest : (n count len : ℕ) → IsChannels n → len % n ≡ 0 → n * count ≤ len → (len - n * count) % n ≡ 0
+whole_rest n count len (inl e) whole inside = subst (λ k. len % k ≡ 0 → k * count ≤ len → (len - k * count) % k ≡ 0) (sym e) (λ a b. omega arith) whole inside
+whole_rest n count len (inr e) whole inside = subst (λ k. len % k ≡ 0 → k * count ≤ len → (len - k * count) % k ≡ 0) (sym e) (λ a b. omega arith) whole inside
+
+few_of : (n count most : ℕ) → IsChannels n → n * count ≤ n * most → count ≤ most
+few_of n count most (inl e) l = subst (λ k. k * count ≤ k * most → count ≤ most) (sym e) (λ a. omega arith) l
+few_of n count most (inr e) l = subst (λ k. k * count ≤ k * most → count ≤ most) (sym e) (λ a. omega arith) l
+
+whole_times : (n k : ℕ) → IsChannels n → n * k % n ≡ 0
+whole_times n k (inl e) = subst (λ j. j * k % j ≡ 0) (sym e) (omega arith)
+whole_times n k (inr e) = subst (λ j. j * k % j ≡ 0) (sym e) (omega arith)
+
+times_rest : (n most count : ℕ) → IsChannels n → count ≤ most → n * most - n * count ≡ n * (most - count)
+times_rest n most count (inl e) l = subst (λ j. j * most - j * count ≡ j * (most - count)) (sym e) (omega arith)
+times_rest n most count (inr e) l = subst (λ j. j * most - j * count ≡ j * (most - count)) (sym e) (omega arith)
+
+pub near_group : (n : ℕ) (bytes : List ℕ) (q : RgbaPixel) (most count m : ℕ) → IsChannels n → length bytes % n ≡ 0 → m ≡ min (length bytes) (n * most) → IsCount q (pixels_of n (take m bytes)) count → NearGroup n bytes q most count
+near_group n bytes q most count m is whole m_is counted = go (cases_lt (n * most) (length bytes))
+  where
+    go : (n * most < length bytes) ⊎ (length bytes ≤ n * most) → NearGroup n bytes q most count
+    go (inr all) =
+        let every : m ≡ length bytes = omega arith in
+        let same : take m bytes ≡ bytes = ap (λ k. take k bytes) every ∙ take-length bytes in
+        let g = group_of n bytes q count is whole (subst (λ x. IsCount q (pixels_of n x) count) same counted) in
+        record { within = g.within; few = few_of n count most is (omega (arith, g.within)); pixels = g.pixels; ends = inl g.other; whole = g.whole }
+    go (inl many) =
+        let every : m ≡ n * most = omega arith in
+        let near = take (n * most) bytes in
+        let far = drop (n * most) bytes in
+        let size : length near ≡ n * most = length-take-le (n * most) bytes (omega arith) in
+        let near_whole : length near % n ≡ 0 = ap (λ k. k % n) size ∙ whole_times n most is in
+        let g = group_of n near q count is near_whole (subst (λ k. IsCount q (pixels_of n (take k bytes)) count) every counted) in
+        let few = few_of n count most is (omega (arith, g.within, size)) in
+        let inside : n * count ≤ length bytes = omega (arith, g.within, size) in
+        let behind = drop (n * count) near in
+        let behind_size : length behind ≡ n * (most - count) = length-drop (n * count) near ∙ ap (λ k. k - n * count) size ∙ times_rest n most count is few in
+        let joined : drop (n * count) bytes ≡ behind ++ far = ap (drop (n * count)) (sym (take-append-drop (n * most) bytes)) ∙ drop-append-le (n * count) near far (omega (arith, g.within)) in
+        let ahead : pixels_of n (drop (n * count) bytes) ≡ pixels_of n behind ++ pixels_of n far = ap (pixels_of n) joined ∙ pixels_of-append n (most - count) behind far is behind_size in
+        let all : pixels_of n bytes ≡ pixels_of n near ++ pixels_of n far = ap (pixels_of n) (sym (take-append-drop (n * most) bytes)) ∙ pixels_of-append n most near far is size in
+        record {
+          within = inside;
+          few = few;
+          pixels = all ∙ ap (λ x. x ++ pixels_of n far) g.pixels ∙ append_assoc (replicate count q) (pixels_of n behind) (pixels_of n far) ∙ ap (λ x. replicate count q ++ x) (sym ahead);
+          ends = end_of (pixels_of n behind) (pixels_of n far) ahead g.other (length-pixels_of n (most - count) behind is behind_size) few;
+          whole = ap (λ k. k % n) (length-drop (n * count) bytes) ∙ whole_rest n count (length bytes) is whole inside;
+        }
+      where
+        end_of : (xs ys : List RgbaPixel) {zs : List RgbaPixel} → zs ≡ xs ++ ys → slice_get xs 0 ≢ Some q → length xs ≡ most - count → count ≤ most → (slice_get zs 0 ≢ Some q) ⊎ (count ≡ most)
+        end_of [] ys e other len few = inr (omega arith)
+        end_of (x ∷ xs) ys e other len few = inl (λ same. other (sym (ap (λ z. slice_get z 0) e) ∙ same))
