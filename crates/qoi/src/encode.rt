@@ -157,7 +157,8 @@ impl<'a> Encoder<'a> {
     }
 
     /// The same encoder with another style: other chunks may be written. In style `Places` the file is
-    /// as long as in `Reference`, in style `Tight` it is the shortest that there is.
+    /// as long as in `Reference`. In style `Tight` it is the shortest that there is, and the Rust
+    /// crate may read it otherwise: choose it where the readers are known to follow QOI 1.0.
     pub fn with_style(mut self, style: Style) -> Encoder<'a>
         ensures { result ≡ record self.entry { style = style } }
     {
