@@ -101,9 +101,11 @@ pub fn decode_to_vec(alloc: Global, data: &[u8]) -> Result<(Header, Vec<u8>)>
     Ok((*decoder.header(), out))
 }
 
-/// Decodes the image of a file, from a slice or from a reader (QOI specification 1.0, "File Format",
-/// "Data" and "Chunks"). A further call decodes chunks and end marker of a further image by the same
-/// header; for the next file make another decoder, of `data` or of the reader.
+/// Decodes the image of a file, from a slice or from a reader (QOI specification 1.0, "File
+/// Format", "Data" and "Chunks").
+///
+/// A further call decodes the chunks and the end marker of a further image by the same header. For
+/// the next file make another decoder, of `data` or of the reader.
 ///
 /// A contract sees its reader, the header, and the channels of the output.
 #[derive(Drop)]
