@@ -255,10 +255,10 @@ impl<R: Reader> Decoder<R> {
     ///
     /// Refusals, in this order: `OutputBufferTooSmall` where the buffer is shorter than
     /// `required_buf_len`, and then nothing was read or written; `UnexpectedBufferEnd` where the
-    /// bytes end before the last pixel's chunk does or within the eight bytes after it;
-    /// `InvalidPadding` where those eight bytes aren't the end marker. A run that gives more pixels
-    /// than are left is cut (QOI specification 1.0, "File Format" and "Data"). From a stream an early
-    /// end is `IoError` in place of `UnexpectedBufferEnd`, and so is a fault of the reader.
+    /// bytes end before the image does or within the eight bytes after the chunks; `InvalidPadding`
+    /// where those eight bytes aren't the end marker. A run that gives more pixels than are left is
+    /// cut (QOI specification 1.0, "File Format" and "Data"). From a stream an early end is `IoError`
+    /// in place of `UnexpectedBufferEnd`, and so is a fault of the reader.
     ///
     /// After a refusal the header and the channels are as before. So are the bytes ahead in a slice;
     /// a reader stands behind the bytes that were read. The first `required_buf_len` bytes of the

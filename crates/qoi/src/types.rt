@@ -170,6 +170,6 @@ pub enum Style {
     /// if there is one. No other chunks of the image have fewer bytes.
     ///
     /// It is for readers that are known to follow QOI 1.0: in four channels the decoder of the Rust
-    /// crate reads many such files otherwise, since it doesn't put all pixels at their position.
+    /// crate reads some such files otherwise, since it doesn't put all pixels at their position.
     Tight,
 }

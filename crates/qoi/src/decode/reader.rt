@@ -35,9 +35,9 @@ pub trait Reader: Sized {
     /// sees to it that `out` has a multiple of `channels` bytes.
     ///
     /// Refusals, in this order: `InvalidChannels` with `channels` where either number isn't 3 or 4,
-    /// and then nothing is read; `UnexpectedBufferEnd` where the bytes end before the last pixel's
-    /// chunk does or within the eight bytes after it, or `IoError` from a stream; `InvalidPadding`
-    /// where those eight bytes aren't the end marker.
+    /// and then nothing is read; `UnexpectedBufferEnd` where the bytes end before `out` is full or
+    /// within the eight bytes after the chunks, or `IoError` from a stream; `InvalidPadding` where
+    /// those eight bytes aren't the end marker.
     fn decode_image(&mut self, out: &mut [u8], channels: u8, src_channels: u8) -> Result<()>
         requires { AreChannels channels src_channels → length out.old % channels ≡ 0 }
         ensures read { OnOk result (AreChannels channels src_channels
