@@ -160,7 +160,8 @@ impl<R: Read + Drop> Decoder<R> {
     /// fourteen bytes are read and no more. The channels are the header's.
     ///
     /// Refusals, in this order: `IoError` where the fourteen bytes don't come, and then those of
-    /// `decode_header`. The reader is dropped then, so that the contract can't say what it took.
+    /// `decode_header` on them. The reader is dropped then, so that the contract can't say what was
+    /// taken of it.
     ///
     /// A decoder asks its reader for a chunk's few bytes at a time, and never for one past the end
     /// marker: wrap a file or a socket in a `BufReader`.

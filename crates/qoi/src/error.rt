@@ -34,7 +34,7 @@ pub enum Error {
         size: usize,
         required: usize,
     },
-    /// The input slice ends before the header, the chunks and the end marker do.
+    /// The input slice ends before header, chunks and end marker are whole.
     UnexpectedBufferEnd,
     /// The eight bytes after the chunks aren't the end marker.
     InvalidPadding,

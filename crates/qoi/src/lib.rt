@@ -9,7 +9,7 @@
 //! - [`Decoder`] also chooses the channels of its output, reads from a `std::io::Read`, and tells
 //!   what follows a file.
 //! - [`decode_header`] looks at the first fourteen bytes alone; [`encode_max_len`] is the most bytes
-//!   that a file can have.
+//!   that an encoded image can have.
 //!
 //! ```
 //! let file = encode_to_vec(alloc, &pixels, width, height)?;

@@ -17,7 +17,7 @@ pub trait Reader: Sized {
     /// The bytes that stand ahead, where the reader's contract states them.
     ghost ahead: { Self → Option (List ℕ) };
 
-    /// Whether they stand in memory: then a refusal takes none of them, and none is an i/o error.
+    /// Whether they stand in memory: then a refusal takes none of them, and is no i/o error.
     ghost in_memory: { Bool };
 
     /// Reads the fourteen bytes of a header (QOI specification 1.0, "QOI Header").
@@ -50,7 +50,7 @@ pub trait Reader: Sized {
             → (result ≡ Err (Error.InvalidChannels channels))
             × (self.new ≡ self.old) × (out.new ≡ out.old) };
 
-    /// Bytes in memory are told.
+    /// The bytes of a reader in memory are stated.
     ghost told: { (reader : Self) → in_memory ≡ true → IsSome (ahead reader) };
 }
 
