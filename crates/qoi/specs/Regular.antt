@@ -1,4 +1,5 @@
--- Chunk lists that name an index position only where a pixel was put, and lists that begin with an image.
+-- Chunk lists that name an index position only where it holds a pixel of that position, and lists that begin
+-- with an image.
 use Rattle.std.specs.Prelude.{◌≡◌, List, [], ◌++◌}
 use Rattle.qoi.specs.declared.chunk.Chunk.{Chunk}
 use Rattle.qoi.specs.declared.chunk.Chunk.TheVariants.{Place}

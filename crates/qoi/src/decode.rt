@@ -101,8 +101,11 @@ pub fn decode_to_vec(alloc: Global, data: &[u8]) -> Result<(Header, Vec<u8>)>
     Ok((*decoder.header(), out))
 }
 
-/// Decodes the images of files, one after the other, from a slice or from a reader (QOI specification
-/// 1.0, "File Format", "Data" and "Chunks").
+/// Decodes the image of a file, from a slice or from a reader (QOI specification 1.0, "File
+/// Format", "Data" and "Chunks").
+///
+/// A further call decodes the chunks and the end marker of a further image by the same header. For
+/// the next file make another decoder, of `data` or of the reader.
 ///
 /// A contract sees its reader, the header, and the channels of the output.
 #[derive(Drop)]
@@ -157,7 +160,8 @@ impl<R: Read + Drop> Decoder<R> {
     /// fourteen bytes are read and no more. The channels are the header's.
     ///
     /// Refusals, in this order: `IoError` where the fourteen bytes don't come, and then those of
-    /// `decode_header`. The reader is dropped then.
+    /// `decode_header` on them. The reader is dropped then, so that the contract can't say what was
+    /// taken of it.
     ///
     /// A decoder asks its reader for a chunk's few bytes at a time, and never for one past the end
     /// marker: wrap a file or a socket in a `BufReader`.
@@ -252,10 +256,10 @@ impl<R: Reader> Decoder<R> {
     ///
     /// Refusals, in this order: `OutputBufferTooSmall` where the buffer is shorter than
     /// `required_buf_len`, and then nothing was read or written; `UnexpectedBufferEnd` where the
-    /// bytes end within a chunk or within the eight bytes after the chunks; `InvalidPadding` where
-    /// those eight bytes aren't the end marker. A run that gives more pixels than are left is cut
-    /// (QOI specification 1.0, "File Format" and "Data"). From a stream an early end is `IoError` in
-    /// place of `UnexpectedBufferEnd`, and so is a fault of the reader.
+    /// bytes end before the image does or within the eight bytes after the chunks; `InvalidPadding`
+    /// where those eight bytes aren't the end marker. A run that gives more pixels than are left is
+    /// cut (QOI specification 1.0, "File Format" and "Data"). From a stream an early end is `IoError`
+    /// in place of `UnexpectedBufferEnd`, and so is a fault of the reader.
     ///
     /// After a refusal the header and the channels are as before. So are the bytes ahead in a slice;
     /// a reader stands behind the bytes that were read. The first `required_buf_len` bytes of the

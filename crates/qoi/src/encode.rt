@@ -48,7 +48,8 @@ fn encode_image<W: Writer>(buf: &mut W, style: Style, header: &Header, data: &[u
 /// The most bytes that the file of an image has, or the greatest `usize` if that is less: header,
 /// end marker, and for each pixel its channels and one byte more.
 ///
-/// The size is in pixels. It is reached by a single pixel that no shorter chunk gives.
+/// The size is in pixels. In three and in four channels a single pixel that no shorter chunk gives
+/// reaches this number.
 pub fn encode_max_len(width: u32, height: u32, channels: u8) -> usize
     ensures { result ≡ max_len width height channels }
 {
@@ -160,7 +161,9 @@ impl<'a> Encoder<'a> {
     }
 
     /// The same encoder with another style: other chunks may be written. In style `Places` the file is
-    /// as long as in `Reference`, in style `Tight` it is the shortest that there is.
+    /// as long as in `Reference`. In style `Tight` no other chunks of the image make a shorter file,
+    /// and the Rust crate may read it otherwise: choose `Tight` where the readers are known to follow
+    /// QOI 1.0.
     pub fn with_style(mut self, style: Style) -> Encoder<'a>
         ensures { result ≡ record self.entry { style = style } }
     {

@@ -34,13 +34,13 @@ pub enum Error {
         size: usize,
         required: usize,
     },
-    /// The input slice ends within the header, a chunk or the end marker.
+    /// The input slice ends before header, chunks and end marker are whole.
     UnexpectedBufferEnd,
     /// The eight bytes after the chunks aren't the end marker.
     InvalidPadding,
     /// The reader or the writer reported a fault, the reader ended, or a write took no byte.
     IoError(io::Error),
-    /// A growth of memory was refused.
+    /// An allocation failed.
     OutOfMemory,
 }
 

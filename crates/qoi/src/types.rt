@@ -153,21 +153,25 @@ impl TryFrom<u8> for Channels {
     }
 }
 
-/// Which of the chunks that mean the same an encoder writes (QOI specification 1.0, "Chunks"). All
-/// styles are read back alike.
+/// Which chunks an encoder writes, of all that mean the image (QOI specification 1.0, "Chunks"). By
+/// the specification, and by this crate's decoder, the pixels are the same in each style.
 #[derive(Clone, Copy, PartialEq, Eq, Debug)]
 pub enum Style {
-    /// Repeats by runs, each other pixel by its index position if it was written before, else by the
-    /// first of a difference, a luma and a full chunk that gives it. The Rust crate with its feature
-    /// `reference` writes so.
+    /// Repeats by runs, each other pixel by its index position if it is noted there, else by the
+    /// first of a difference, a luma and a full chunk that gives it. Repeats aren't noted, and an
+    /// empty position holds transparent black. The Rust crate with its feature `reference` writes
+    /// so.
     Reference,
-    /// As `Reference`, but a run of 1 that has a pixel other than the one before it both in front and
-    /// directly behind is an index position, unless the chunk before it is that position. The file
-    /// is as long.
+    /// As `Reference`, but a run of 1 is the index position of its pixel, where a pixel that is no
+    /// repeat stands somewhere before it and another follows directly, and where the chunk before it
+    /// isn't that position. The file is as long.
     Places,
     /// As `Reference`, but opaque black that opens the image is put at its index position, too, and
     /// transparent black that isn't at its position is the least position where no pixel was put,
-    /// if there is one. No other chunks of the image have fewer bytes. The decoder of the Rust crate
-    /// may read such a file of four channels otherwise.
+    /// if there is one. No other chunks of the image have fewer bytes.
+    ///
+    /// It is for readers that are known to follow QOI 1.0. The decoder of the Rust crate reads some
+    /// such files otherwise, of four channels or into four, since it doesn't put the pixels of runs
+    /// and of empty positions at their position.
     Tight,
 }

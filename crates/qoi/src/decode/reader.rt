@@ -17,7 +17,7 @@ pub trait Reader: Sized {
     /// The bytes that stand ahead, where the reader's contract states them.
     ghost ahead: { Self → Option (List ℕ) };
 
-    /// Whether they stand in memory: then a refusal takes none of them, and none is an i/o error.
+    /// Whether they stand in memory: then a refusal takes none of them, and is no i/o error.
     ghost in_memory: { Bool };
 
     /// Reads the fourteen bytes of a header (QOI specification 1.0, "QOI Header").
@@ -35,9 +35,9 @@ pub trait Reader: Sized {
     /// sees to it that `out` has a multiple of `channels` bytes.
     ///
     /// Refusals, in this order: `InvalidChannels` with `channels` where either number isn't 3 or 4,
-    /// and then nothing is read; `UnexpectedBufferEnd` where the bytes end within a chunk or within
-    /// the eight bytes after the chunks, or `IoError` from a stream; `InvalidPadding` where those
-    /// eight bytes aren't the end marker.
+    /// and then nothing is read; `UnexpectedBufferEnd` where the bytes end before `out` is full or
+    /// within the eight bytes after the chunks, or `IoError` from a stream; `InvalidPadding` where
+    /// those eight bytes aren't the end marker.
     fn decode_image(&mut self, out: &mut [u8], channels: u8, src_channels: u8) -> Result<()>
         requires { AreChannels channels src_channels → length out.old % channels ≡ 0 }
         ensures read { OnOk result (AreChannels channels src_channels
@@ -50,7 +50,7 @@ pub trait Reader: Sized {
             → (result ≡ Err (Error.InvalidChannels channels))
             × (self.new ≡ self.old) × (out.new ≡ out.old) };
 
-    /// Bytes in memory are told.
+    /// The bytes of a reader in memory are stated.
     ghost told: { (reader : Self) → in_memory ≡ true → IsSome (ahead reader) };
 }
 

@@ -100,8 +100,8 @@ pub fn written_reaches()
         → WrittenIn style image cs → length image ≡ n → Reaches n cs }
 {}
 
-/// A list is regular if it names an index position only where a pixel was put. The written list is
-/// regular in each style but `Tight`.
+/// A list is regular if each index position that it names holds a pixel of that position; where no
+/// pixel was put, that is position 0 alone. The written list is regular in each style but `Tight`.
 pub fn written_is_regular()
     ensures { (style : Style) (image : List RgbaPixel) (cs : List Chunk) → style ≢ Tight
         → WrittenIn style image cs → Regular cs }
