@@ -16,7 +16,7 @@ place_lane (x ∷ xs) zero = refl
 place_lane (x ∷ xs) (suc k) = place_lane xs k
 
 -- a pixel packed has 32 bits
-word_below : (p : RgbaPixel) → IsPixel p → word p < 2 ^ 32
+pub word_below : (p : RgbaPixel) → IsPixel p → word p < 2 ^ 32
 word_below p i = omega (arith, i.r, i.g, i.b, i.a)
 
 -- a number packed again

@@ -5,7 +5,7 @@ use Rattle.std.proofs.lemmas.List.{get_or-take, length-take-le, length-map}
 use Rattle.qoi.specs.Qoi.{AreBytes, RgbaPixel, IsPixel}
 use Rattle.qoi.specs.Raw.{IsChannels, pixels_of, pixels_of_3, pixels_of_4}
 use Rattle.qoi.specs.inner.Packed.{word, pixel_of_word}
-use Rattle.qoi.specs.inner.Quad.{SameAlpha}
+use Rattle.qoi.specs.inner.Quad.{SameAlpha, AreOpaqueWords}
 
 -- enough bytes have four pixels
 three_long : (bytes : List ℕ) → 16 ≤ length bytes → 4 ≤ length (pixels_of_3 bytes)
@@ -72,3 +72,19 @@ pub px_next : (cur : List ℕ) (last lane n : ℕ) → lane + (n + 1) < 4 → sl
 px_next cur last lane n l =
     let next : suc (lane + n) ≡ lane + (n + 1) = omega arith in
     sym (get_or-take 3 cur (lane + n) 0 (omega arith)) ∙ ap (slice_index (last ∷ take 3 cur)) next
+
+-- of three channels the lanes are opaque
+opaque_three : (bytes : List ℕ) → AreBytes bytes → 16 ≤ length bytes → AreOpaqueWords (map word (take 4 (pixels_of_3 bytes)))
+opaque_three (b0 ∷ b1 ∷ b2 ∷ b3 ∷ b4 ∷ b5 ∷ b6 ∷ b7 ∷ b8 ∷ b9 ∷ b10 ∷ b11 ∷ bytes) h l zero lt = opaque_word b0 b1 b2 (h 0) (h 1) (h 2)
+opaque_three (b0 ∷ b1 ∷ b2 ∷ b3 ∷ b4 ∷ b5 ∷ b6 ∷ b7 ∷ b8 ∷ b9 ∷ b10 ∷ b11 ∷ bytes) h l (suc zero) lt = opaque_word b3 b4 b5 (h 3) (h 4) (h 5)
+opaque_three (b0 ∷ b1 ∷ b2 ∷ b3 ∷ b4 ∷ b5 ∷ b6 ∷ b7 ∷ b8 ∷ b9 ∷ b10 ∷ b11 ∷ bytes) h l (suc (suc zero)) lt = opaque_word b6 b7 b8 (h 6) (h 7) (h 8)
+opaque_three (b0 ∷ b1 ∷ b2 ∷ b3 ∷ b4 ∷ b5 ∷ b6 ∷ b7 ∷ b8 ∷ b9 ∷ b10 ∷ b11 ∷ bytes) h l (suc (suc (suc zero))) lt = opaque_word b9 b10 b11 (h 9) (h 10) (h 11)
+opaque_three (b0 ∷ b1 ∷ b2 ∷ b3 ∷ b4 ∷ b5 ∷ b6 ∷ b7 ∷ b8 ∷ b9 ∷ b10 ∷ b11 ∷ bytes) h l (suc (suc (suc (suc k)))) lt = absurd (omega arith)
+opaque_three _ h l k lt = absurd (omega arith)
+
+pub opaque_words : (n : ℕ) (bytes cur : List ℕ) → n ≡ 3 → AreBytes bytes → 16 ≤ length bytes → cur ≡ map word (take 4 (pixels_of n bytes)) → AreOpaqueWords cur
+opaque_words n bytes cur three h l ce = subst AreOpaqueWords (sym (ce ∙ ap (λ n. map word (take 4 (pixels_of n bytes))) three)) (opaque_three bytes h l)
+
+-- alpha of a pixel packed
+pub word_alpha : (p : RgbaPixel) → IsPixel p → word p / 2 ^ 24 ≡ p.a
+word_alpha p i = omega (arith, i.r, i.g, i.b)
