@@ -1,7 +1,7 @@
 -- The pixels that repeat at the front of bytes, and the runs of a group.
 use Rattle.std.proofs.Common.{◌≡◌, ◌≢◌, ◌⊎◌, inl, inr, ℕ, zero, suc, ◌+◌, ◌-◌, ◌*◌, ◌/◌, ◌%◌, ◌<◌, ◌≤◌, List, [], ◌∷◌, ◌++◌, length, take, drop, min, replicate, false, ◌==◌, if◌then◌else◌, Some, refl, sym, ap, ◌∙◌, subst, arith, length-append, take-append-drop, append_assoc}
 use Rattle.std.proofs.Math.Seq.{drop-append_seam, take-length}
-use Rattle.std.proofs.lemmas.List.{length-replicate, length-drop, length-take-le, drop-append-le}
+use Rattle.std.proofs.lemmas.List.{length-replicate, length-drop, length-take-le, drop-append-le, drop-drop}
 use Rattle.std.proofs.lemmas.Bool.{cases_lt, ne_eqb}
 use Rattle.std.specs.List.{slice_get}
 use Rattle.qoi.specs.declared.chunk.Chunk.{Chunk}
@@ -203,7 +203,7 @@ pub record NearGroup (n : ℕ) (bytes : List ℕ) (q : RgbaPixel) (most count : 
   pub whole : length (drop (n * count) bytes) % n ≡ 0
 
 -- the rest is whole, too
-whole_rest : (n count len : ℕ) → IsChannels n → len % n ≡ 0 → n * count ≤ len → (len - n * count) % n ≡ 0
+pub whole_rest : (n count len : ℕ) → IsChannels n → len % n ≡ 0 → n * count ≤ len → (len - n * count) % n ≡ 0
 whole_rest n count len (inl e) whole inside = subst (λ k. len % k ≡ 0 → k * count ≤ len → (len - k * count) % k ≡ 0) (sym e) (λ a b. omega arith) whole inside
 whole_rest n count len (inr e) whole inside = subst (λ k. len % k ≡ 0 → k * count ≤ len → (len - k * count) % k ≡ 0) (sym e) (λ a b. omega arith) whole inside
 
@@ -253,3 +253,21 @@ near_group n bytes q most count m is whole m_is counted = go (cases_lt (n * most
         end_of : (xs ys : List RgbaPixel) {zs : List RgbaPixel} → zs ≡ xs ++ ys → slice_get xs 0 ≢ Some q → length xs ≡ most - count → count ≤ most → (slice_get zs 0 ≢ Some q) ⊎ (count ≡ most)
         end_of [] ys e other len few = inr (omega arith)
         end_of (x ∷ xs) ys e other len few = inl (λ same. other (sym (ap (λ z. slice_get z 0) e) ∙ same))
+
+-- pixels have bytes
+pub some_bytes : (n k : ℕ) → IsChannels n → 0 < k → 0 < n * k
+some_bytes n k (inl e) some = subst (λ j. 0 < j * k) (sym e) (omega arith)
+some_bytes n k (inr e) some = subst (λ j. 0 < j * k) (sym e) (omega arith)
+
+-- the bytes behind a pixel that is behind others
+pub drop_next : (n k : ℕ) (bytes : List ℕ) → IsChannels n → drop n (drop (n * k) bytes) ≡ drop (n * (k + 1)) bytes
+drop_next n k bytes (inl e) = drop-drop n (n * k) bytes ∙ ap (λ j. drop j bytes) (subst (λ j. j * k + j ≡ j * (k + 1)) (sym e) (omega arith))
+drop_next n k bytes (inr e) = drop-drop n (n * k) bytes ∙ ap (λ j. drop j bytes) (subst (λ j. j * k + j ≡ j * (k + 1)) (sym e) (omega arith))
+
+-- the first pixel of whole bytes, and those behind it
+pub pixel_ahead : (n : ℕ) (bytes : List ℕ) → IsChannels n → length bytes % n ≡ 0 → 0 < length bytes → pixels_of n bytes ≡ rgba (take n bytes) ∷ pixels_of n (drop n bytes)
+pixel_ahead n bytes is whole some = ap (pixels_of n) (sym (take-append-drop n bytes)) ∙ pixels_of-next n (take n bytes) (drop n bytes) is (length-take-le n bytes (enough n (length bytes) is whole some))
+  where
+    enough : (n len : ℕ) → IsChannels n → len % n ≡ 0 → 0 < len → n ≤ len
+    enough n len (inl e) whole some = subst (λ k. len % k ≡ 0 → k ≤ len) (sym e) (λ a. omega arith) whole
+    enough n len (inr e) whole some = subst (λ k. len % k ≡ 0 → k ≤ len) (sym e) (λ a. omega arith) whole

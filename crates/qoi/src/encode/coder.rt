@@ -298,7 +298,7 @@ impl Coder {
         data: &'a [u8],
     ) -> &'a [u8]
         requires channels { IsChannels N }
-        requires whole { length «data».entry.now % N ≡ 0 }
+        requires whole { length «data».now % N ≡ 0 }
         requires opaque { N ≡ 3 → self.old.last.a ≡ 255 }
         requires room { piece.old.end < PIECE }
         ensures end { piece.new.end < PIECE + 20 }
@@ -322,6 +322,41 @@ impl Coder {
         rest
     }
 
+    // Writes the repeats at the front and the fresh pixel behind them, if there is one, and returns where they
+    // end and how many pixels these are.
+    fn give_next<const N: usize>(
+        &mut self,
+        table: &mut Table,
+        out: &mut [u8],
+        at: usize,
+        style: Style,
+        data: &[u8],
+    ) -> (usize, usize)
+        requires channels { IsChannels N }
+        requires whole { length «data».now % N ≡ 0 }
+        requires some { 0 < length «data».now }
+        requires few { length «data».now < 16 }
+        requires opaque { N ≡ 3 → self.old.last.a ≡ 255 }
+        requires room { at + 32 ≤ length out.old }
+        ensures same { length out.new ≡ length out.old }
+        ensures within { result.0 ≤ at + 2 * (N * result.1) }
+        ensures inside { N * result.1 ≤ length «data».now }
+        ensures some { 0 < result.1 }
+        ensures opaque { N ≡ 3 → self.new.last.a ≡ 255 }
+        ensures given { (w : Writing) → w.style ≡ style
+            → CoderBetween w (pixels_of N «data».now) table.old self.old (take at out.old)
+            → CoderBetween w (pixels_of N (drop (N * result.1) «data».now)) table.new self.new
+            (take result.0 out.new) }
+    {
+        let (end, count) = self.give_runs::<N>(table, out, at, style, data);
+        let (_, behind) = data.split_at(N * count);
+        if behind.is_empty() {
+            return (end, count);
+        }
+        let quad = Quad::alone::<N>(Packed::read::<N>(behind), self.last);
+        (self.give::<N>(table, out, end, style, &quad, 0), count + 1)
+    }
+
     // Keeps the chunks of the last pixels: fewer than sixteen bytes.
     fn give_last<const N: usize>(
         &mut self,
@@ -343,15 +378,10 @@ impl Coder {
         let mut end = piece.end;
         let mut rest = data;
         while !rest.is_empty() {
-            let (next, count) = self.give_runs::<N>(table, &mut piece.bytes, end, style, rest);
+            let (next, count) = self.give_next::<N>(table, &mut piece.bytes, end, style, rest);
             end = next;
-            (_, rest) = rest.split_at(N * count);
-            if !rest.is_empty() {
-                let px = Packed::read::<N>(rest);
-                let quad = Quad::alone::<N>(px, self.last);
-                end = self.give::<N>(table, &mut piece.bytes, end, style, &quad, 0);
-                (_, rest) = rest.split_at(N);
-            }
+            let (_, after) = rest.split_at(N * count);
+            rest = after;
         }
         piece.end = end;
     }
