@@ -5,6 +5,7 @@ pub mod CoderSteps
 pub mod CoderTable
 pub mod GroupRuns
 pub mod NotedPixels
+pub mod PieceByPiece
 pub mod PieceGiven
 pub mod PixelBlock
 pub mod PlacedLists
