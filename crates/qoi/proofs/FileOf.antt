@@ -1,5 +1,5 @@
 -- The file of an image: what holds of it.
-use Rattle.std.proofs.Common.{◌≡◌, ◌≢◌, ℕ, ◌+◌, ◌*◌, ◌^◌, ◌<◌, ◌≤◌, List, [], ◌∷◌, ◌++◌, length, take, min, slice_set, ◌-◌, refl, sym, ap, ◌∙◌, subst, arith, append-nil, length-append}
+use Rattle.std.proofs.Common.{◌≡◌, ◌≢◌, ℕ, ◌+◌, ◌*◌, ◌^◌, ◌<◌, ◌≤◌, List, [], ◌∷◌, ◌++◌, length, take, min, slice_set, ◌-◌, refl, sym, ap, ◌∙◌, subst, arith, append-nil, append_assoc, length-append}
 use Rattle.std.proofs.Math.Nat.{mul_comm}
 use Rattle.qoi.specs.declared.types.Channels.{Channels}
 use Rattle.qoi.specs.declared.types.Channels.TheVariants.{Rgb, Rgba}
@@ -21,7 +21,7 @@ use Rattle.qoi.proofs.decoding.ImageSize.{channels_are}
 use Rattle.qoi.proofs.decoding.OneFile.{decodes_file}
 use Rattle.qoi.proofs.format.RawPixels.{pixels_of_are, pixels_of_have, length-pixels_of, output-pixels_of}
 use Rattle.qoi.specs.writers.Writes.{WriterLaws, WroteBut, WroteSome}
-use Rattle.qoi.proofs.encoding.WriterProgress.{wrote_next, wrote_part}
+use Rattle.qoi.proofs.encoding.WriterProgress.{wrote_next, wrote_part, wrote_all, left_fits}
 use Rattle.qoi.proofs.encoding.CoderSteps.{all_bytes}
 use Rattle.qoi.proofs.encoding.StyleLists.{style_chunks, style_means, style_unique, style_reaches, style_fits, style_length, style_apart, style_regular, style_upper, style_some}
 use Rattle.qoi.proofs.shortness.RegularLists.{no_blank_regular}
@@ -180,50 +180,41 @@ module _ (h : Header) (raw : List ℕ) (valid : IsValid h) (size : length raw �
 pub list_of : (style : Style) (h : Header) (raw : List ℕ) → AreBytes raw → (cs : List Chunk) × WrittenIn style (image_pixels h raw) cs
 list_of style h raw are = style_some style (image_pixels h raw) (pixels_of_are (channels_number h.channels) raw (channels_are h.channels (channels_number h.channels) refl) (all_bytes raw are))
 
--- A file that is written part after part.
+-- A file of which all went to a writer but the bytes that are kept.
 module _ {W : Type 0} (wrote : W → List ℕ → W → Type 0) (room : W → ℕ) (laws : WriterLaws wrote room) (h : Header) (cs : List Chunk) (start : W) where
-  -- nothing is written yet
-  unwritten : WroteBut wrote start (file h cs) (file h cs) start
-  unwritten = record { front = []; split = refl; went = laws.nothing start }
+  module _ (front : List ℕ) (is_head : front ≡ head h) where
+    -- header and chunks, and then the end marker
+    file_is : file h cs ≡ (front ++ text cs) ++ end_marker
+    file_is = ap (λ z. z ++ (text cs ++ end_marker)) (sym is_head) ∙ sym (append_assoc front (text cs) end_marker)
 
-  module _ (bytes : List ℕ) (is_head : bytes ≡ head h) where
-    begins : file h cs ≡ bytes ++ (text cs ++ end_marker)
-    begins = ap (λ z. z ++ (text cs ++ end_marker)) (sym is_head)
+    -- a beginning of header and chunks went
+    pub chunks_part : {now : W} → WroteSome wrote start (front ++ text cs) now → WroteSome wrote start (file h cs) now
+    chunks_part some = (
+      some.0 ++ end_marker,
+      record { front = some.1.front; split = file_is ∙ ap (λ z. z ++ end_marker) some.1.split ∙ append_assoc some.1.front some.0 end_marker; went = some.1.went },
+    )
 
-    -- a beginning of the header was written
-    pub head_part : (next : W) → WroteSome wrote start bytes next → WroteSome wrote start (file h cs) next
-    head_part next some = wrote_part wrote room laws start start next (file h cs) (file h cs) bytes (text cs ++ end_marker) unwritten begins some
+    -- the end marker is kept, too
+    pub marker_kept : {now : W} {kept last : List ℕ} → WroteBut wrote start (front ++ text cs) kept now → last ≡ kept ++ end_marker → WroteBut wrote start (file h cs) last now
+    marker_kept {kept = kept} w is = record {
+      front = w.front;
+      split = file_is ∙ ap (λ z. z ++ end_marker) w.split ∙ append_assoc w.front kept end_marker ∙ ap (λ z. w.front ++ z) (sym is);
+      went = w.went;
+    }
 
-    module _ (headed : W) (head_went : wrote start bytes headed) where
-      -- the header was written
-      after_head : WroteBut wrote start (file h cs) (text cs ++ end_marker) headed
-      after_head = wrote_next wrote room laws start start headed (file h cs) (file h cs) bytes (text cs ++ end_marker) unwritten begins head_went
+  module _ {now : W} {last : List ℕ} (w : WroteBut wrote start (file h cs) last now) where
+    -- there is room for what is kept
+    pub last_fits : 22 + length (text cs) ≤ room start → length last ≤ room now
+    last_fits enough = left_fits wrote room laws start now (file h cs) last w (omega (arith, length-file h cs))
 
-      -- the header and a beginning of the chunks were written
-      pub chunks_part : (next : W) → WroteSome wrote headed (text cs) next → WroteSome wrote start (file h cs) next
-      chunks_part next some = wrote_part wrote room laws start headed next (file h cs) (text cs ++ end_marker) (text cs) end_marker after_head refl some
+    -- a beginning of it went
+    pub last_part : {next : W} → WroteSome wrote now last next → WroteSome wrote start (file h cs) next
+    last_part {next} some = wrote_part wrote room laws start now next (file h cs) last last [] w (sym (append-nil last)) some
 
-      module _ (chunked : W) (chunks_went : wrote headed (text cs) chunked) where
-        -- header and chunks were written
-        after_chunks : WroteBut wrote start (file h cs) end_marker chunked
-        after_chunks = wrote_next wrote room laws start headed chunked (file h cs) (text cs ++ end_marker) (text cs) end_marker after_head refl chunks_went
+    -- all of the file went
+    pub file_went : {next : W} → wrote now last next → wrote start (file h cs) next
+    file_went {next} went = wrote_all wrote room laws start next (file h cs) (wrote_next wrote room laws start now next (file h cs) last last [] w (sym (append-nil last)) went)
 
-        -- there is room for the end marker
-        pub marker_fits : 22 + length (text cs) ≤ room start → 8 ≤ room chunked
-        marker_fits enough =
-            let w = after_chunks in
-            omega (arith, laws.counts start chunked w.front w.went, ap length w.split, length-append w.front end_marker, length-file h cs)
-
-        -- header, chunks and a beginning of the end marker were written
-        pub marker_part : (next : W) → WroteSome wrote chunked end_marker next → WroteSome wrote start (file h cs) next
-        marker_part next some = wrote_part wrote room laws start chunked next (file h cs) end_marker end_marker [] after_chunks refl some
-
-        -- all of the file was written
-        pub file_went : (next : W) → wrote chunked end_marker next → wrote start (file h cs) next
-        file_went next went =
-            let all = wrote_next wrote room laws start chunked next (file h cs) end_marker end_marker [] after_chunks refl went in
-            subst (λ z. wrote start z next) (sym (all.split ∙ append-nil all.front)) all.went
-
-        -- as many bytes as the room fell by
-        pub file_counts : (next : W) → wrote chunked end_marker next → room start - room next ≡ length (file h cs)
-        file_counts next went = omega (arith, laws.counts start next (file h cs) (file_went next went))
+    -- as many bytes as the room fell by
+    pub file_counts : {next : W} → wrote now last next → room start - room next ≡ length (file h cs)
+    file_counts {next} went = omega (arith, laws.counts start next (file h cs) (file_went went))

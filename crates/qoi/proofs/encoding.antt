@@ -17,6 +17,7 @@ pub mod QuadGroups
 pub mod QuadLoop
 pub mod QuadSteps
 pub mod StillToWrite
+pub mod StreamSent
 pub mod StyledGroup
 pub mod StyleLists
 pub mod TightChoice

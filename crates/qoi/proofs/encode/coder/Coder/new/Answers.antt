@@ -1,7 +1,4 @@
 -- The state before the first pixel.
-use Rattle.qoi.proofs.encoding.CoderSteps.{runs_given, chunk_given}
-use Rattle.qoi.proofs.encoding.StyledGroup.{styled_chunk, styled_runs}
-use Rattle.qoi.proofs.encoding.StillToWrite.{chunk_next, runs_next}
 use Rattle.std.proofs.Common.{refl, ap, ◌∙◌}
 use Rattle.qoi.specs.Qoi.{hash}
 use Rattle.qoi.proofs.encode.coder.Coder.new.Goals as goal
