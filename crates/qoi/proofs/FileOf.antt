@@ -176,10 +176,6 @@ module _ (h : Header) (raw : List ℕ) (valid : IsValid h) (size : length raw �
     short = short_in style cs w;
   }
 
--- an image has a list that is written for it
-pub list_of : (style : Style) (h : Header) (raw : List ℕ) → AreBytes raw → (cs : List Chunk) × WrittenIn style (image_pixels h raw) cs
-list_of style h raw are = style_some style (image_pixels h raw) (pixels_of_are (channels_number h.channels) raw (channels_are h.channels (channels_number h.channels) refl) (all_bytes raw are))
-
 -- A file of which all went to a writer but the bytes that are kept.
 module _ {W : Type 0} (wrote : W → List ℕ → W → Type 0) (room : W → ℕ) (laws : WriterLaws wrote room) (h : Header) (cs : List Chunk) (start : W) where
   module _ (front : List ℕ) (is_head : front ≡ head h) where

@@ -16,5 +16,4 @@ pub mod SamePixels
 pub mod SetLast
 pub mod ShortLists
 pub mod SomeVerdict
-pub mod Steps
 pub mod TableHolds

@@ -1,4 +1,4 @@
--- States of loops, what the table of index positions holds, and pixels and chunks as single numbers.
+-- States of loops, what the table of index positions holds, pixels as single numbers, four at a time, and kept bytes.
 pub mod CoderState
 pub mod CoderLoop
 pub mod Filling

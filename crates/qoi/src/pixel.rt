@@ -229,8 +229,13 @@ impl<const N: usize> Pixel<N> {
     {
         let quad = Quad::alone::<N>(self.packed(), px_prev.packed());
         let mut bytes = [0; 8];
-        let end =
-            put_chunk::<N>(&mut bytes, 0, quad.pixels[0], quad.numbers[0], quad.sizes[0]);
+        let end = put_chunk::<N>(
+            &mut bytes,
+            0,
+            quad.pixels[0],
+            quad.numbers[0],
+            quad.sizes[0],
+        );
         buf.write_many(&bytes[..end])
     }
 

@@ -1,10 +1,12 @@
 //! Repeats of a pixel in raw bytes.
 ghost use lib.Lanes.{mask_l, zip2};
-ghost use Rattle.std.specs.Prelude.{ℕ, List, nat_eq, ◌≡◌, ◌↔◌, ◌+◌, ◌*◌, ◌≤◌, ◌<◌, ◌++◌, length, take, drop, replicate, IsTrue, slice_get, Some};
-ghost use Rattle.qoi.specs.Qoi.{rgba};
+ghost use Rattle.std.specs.Prelude.{ℕ, List, nat_eq, slice_index, ◌≡◌, ◌↔◌, ◌+◌, ◌*◌, ◌≤◌, ◌<◌, ◌++◌, length, take, drop, replicate, IsTrue, slice_get, Some};
+ghost use Rattle.qoi.specs.Qoi.{RgbaPixel, rgba};
 ghost use Rattle.qoi.specs.Raw.{IsChannels, output, pixels_of};
 ghost use Rattle.qoi.specs.Runs.{IsCount};
-ghost use Rattle.qoi.specs.inner.Quad.{IsRun};
+ghost use Rattle.qoi.specs.declared.encode.quad.Quad.{Quad};
+ghost use Rattle.qoi.specs.inner.Packed.{pixel_of_word};
+ghost use Rattle.qoi.specs.inner.Quad.{IsQuad, IsRun};
 
 use crate::packed::Packed;
 use crate::pixel::Pixel;
@@ -19,11 +21,15 @@ pub fn repeats<const N: usize>(data: &[u8], px: Pixel<N>) -> usize
     repeats_of::<N>(data, px.packed())
 }
 
-/// How many of four pixels repeat the one before them, from a lane on, by a bit for each of the four.
+/// How many of four pixels repeat the one before a lane, from this lane on. A bit for each of the four says
+/// whether it repeats the one before it.
 #[inline(always)]
 pub(crate) fn repeats_in_quad(bits: u64, lane: usize) -> usize
     requires within { bits < 16 }
     requires lane { lane < 4 }
+    ensures counted { (n : ℕ) (quad : Quad) (pixels : List RgbaPixel) → IsQuad n quad pixels
+        → bits ≡ mask_l (zip2 nat_eq quad.pixels quad.before) → lane + result < 4
+        → IsCount (pixel_of_word (slice_index quad.before lane)) (drop lane pixels) result }
     ensures run { (cur prev : List ℕ) → length cur ≡ 4 → length prev ≡ 4
         → bits ≡ mask_l (zip2 nat_eq cur prev) → IsRun cur prev lane result }
 {

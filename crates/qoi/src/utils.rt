@@ -123,7 +123,7 @@ impl<'a> Writer for BytesMut<'a> {
     }
 }
 
-/// A writer of the standard library, which is given the bytes as they come.
+/// A writer of the standard library, which is given the bytes of each call at once.
 #[derive(Drop)]
 pub struct GenericWriter<'a, W> {
     writer: &'a mut W,

@@ -81,7 +81,7 @@ module _ {w : Writing} {pixels : List RgbaPixel} {table : List RgbaPixel} {coder
         todo = r.0;
         to_write = r.2;
         ahead_is = bytes_next w.ahead bytes next (runs_by one n) (styled w.style (replicate n (previous b.past) ++ b.past) (last_chunk b.before (runs n)) r.0)
-        (b.ahead_is ∙ ap (λ cs. bytes ++ text (styled w.style b.past b.before cs)) r.1 ∙ ap (λ cs. bytes ++ text cs) (styled_runs w.style b.past b.before n r.0 one single)) written;
+            (b.ahead_is ∙ ap (λ cs. bytes ++ text (styled w.style b.past b.before cs)) r.1 ∙ ap (λ cs. bytes ++ text cs) (styled_runs w.style b.past b.before n r.0 one single)) written;
         state = state;
         style_state = style_state;
       }
@@ -120,8 +120,8 @@ module _ {w : Writing} {pixels : List RgbaPixel} {table : List RgbaPixel} {coder
         todo = r.0;
         to_write = r.2;
         ahead_is = bytes_next w.ahead bytes next (c ∷ []) (styled w.style (p ∷ b.past) (Some c) r.0)
-        (b.ahead_is ∙ ap (λ cs. bytes ++ text (styled w.style b.past b.before cs)) r.1 ∙ ap (λ cs. bytes ++ text cs) (styled_chunk w.style b.past b.before p c r.0 (choices.no_run b.past p c choice) (choices.gives b.past p c choice)))
-        (written ∙ ap (λ x. bytes ++ x) (sym (append-nil (bytes_of c))));
+            (b.ahead_is ∙ ap (λ cs. bytes ++ text (styled w.style b.past b.before cs)) r.1 ∙ ap (λ cs. bytes ++ text cs) (styled_chunk w.style b.past b.before p c r.0 (choices.no_run b.past p c choice) (choices.gives b.past p c choice)))
+            (written ∙ ap (λ x. bytes ++ x) (sym (append-nil (bytes_of c))));
         state = state;
         style_state = style_state;
       }

@@ -17,38 +17,6 @@ use Rattle.qoi.proofs.format.RawPixels.{length-pixels_of, pixels_of-append, pixe
 pub not_one : (n : ℕ) → (suc (suc n) == 1) ≡ false
 not_one n = ne_eqb (suc (suc n)) 1 (λ e. omega arith)
 
--- a group of none has no run
-pub runs-none : (one : Chunk) → runs_by one 0 ≡ []
-unfolding runs_by
-runs-none one = refl
-
--- the first run of a group has as many repeats as there are, and 62 at most
-pub runs-more : (one : Chunk) (n k : ℕ) → 0 < n → k ≡ min n 62 → runs_by one n ≡ (if k == 1 then one else Run k) ∷ runs_by one (n - k)
-unfolding runs_by
-runs-more one n k some e = go (cases_lt n 62)
-  where
-    last : (n : ℕ) → 0 < n → last_by one n ≡ (if n == 1 then one else Run n) ∷ []
-    last zero h = absurd (omega arith)
-    last (suc zero) h = refl
-    last (suc (suc n)) h = ap (λ t. (if t then one else Run (suc (suc n))) ∷ []) (sym (not_one n))
-
-    go : (n < 62) ⊎ (62 ≤ n) → replicate (n / 62) (Run 62) ++ last_by one (n % 62) ≡ (if k == 1 then one else Run k) ∷ (replicate ((n - k) / 62) (Run 62) ++ last_by one ((n - k) % 62))
-    go (inl few) =
-        let is : k ≡ n = omega arith in
-        let zero_runs : n / 62 ≡ 0 = omega arith in
-        let all : n % 62 ≡ n = omega arith in
-        let none : n - k ≡ 0 = omega arith in
-        rw (zero_runs, all, none, is) (last n some)
-    go (inr many) =
-        let is : k ≡ 62 = omega arith in
-        let more : n / 62 ≡ suc ((n - 62) / 62) = omega arith in
-        let rest : n % 62 ≡ (n - 62) % 62 = omega arith in
-        rw (is, more, rest) refl
-
--- the bytes of the next pixel and those after them
-pub split_is : (n : ℕ) (rest front after : List ℕ) → front ≡ take n rest → after ≡ drop n rest → rest ≡ front ++ after
-split_is n rest front after f a = sym (take-append-drop n rest) ∙ cc
-
 -- bytes of less than a pixel have no pixel
 pub none_of_few : (n : ℕ) (rest : List ℕ) → IsChannels n → length rest < n → pixels_of n rest ≡ []
 none_of_few n [] (inl e) h = rw e refl
@@ -61,13 +29,6 @@ none_of_few n (a ∷ b ∷ []) (inr e) h = rw e refl
 none_of_few n (a ∷ b ∷ c ∷ []) (inr e) h = rw e refl
 none_of_few n (a ∷ b ∷ c ∷ d ∷ rest) (inr e) h = absurd (omega arith)
 
--- where there are fewer bytes no pixel is the first
-pub first_of_few : (n : ℕ) (rest : List ℕ) (p : RgbaPixel) → IsChannels n → length rest < n → slice_get (pixels_of n rest) 0 ≢ Some p
-first_of_few n rest p is few e = none (sym (ap (λ x. slice_get x 0) (none_of_few n rest is few)) ∙ e)
-  where
-    none : slice_get {X = RgbaPixel} [] 0 ≡ Some p → ⊥
-    none e = cc
-
 -- the first pixel of bytes
 pub first_of : (n : ℕ) (rest front after : List ℕ) → IsChannels n → rest ≡ front ++ after → length front ≡ n → slice_get (pixels_of n rest) 0 ≡ Some (rgba front)
 first_of n rest front after is split size = ap (λ x. slice_get x 0) (ap (pixels_of n) split ∙ pixels_of-next n front after is size)
@@ -75,10 +36,6 @@ first_of n rest front after is split size = ap (λ x. slice_get x 0) (ap (pixels
 -- equal where both are there
 pub some_same : (a b : RgbaPixel) → Some a ≡ Some b → a ≡ b
 some_same a b e = cc
-
--- none repeats where the first is another
-pub count_none : (p : RgbaPixel) (pixels : List RgbaPixel) → slice_get pixels 0 ≢ Some p → IsCount p pixels 0
-count_none p pixels other = record { same = refl; other = other }
 
 -- so many pixels that are p, and then others
 pub count_of : (p : RgbaPixel) (pixels rest : List RgbaPixel) (n : ℕ) → pixels ≡ replicate n p ++ rest → slice_get rest 0 ≢ Some p → IsCount p pixels n

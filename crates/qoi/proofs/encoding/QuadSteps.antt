@@ -30,9 +30,9 @@ module _ {n : ℕ} {quad : Quad} {pixels : List RgbaPixel} (is : IsQuad n quad p
   lane_after last_is between = record {
     between = between;
     last_is = λ l. (let here : k ≡ k + 0 = omega arith in
-    let next : k + (0 + 1) ≡ suc k = omega arith in
-    ap word last_is ∙ packed (slice_index quad.pixels k) below ∙ ap (slice_index quad.pixels) here ∙ px_next quad.pixels is.last k 0 (omega arith)
-    ∙ ap (slice_index (is.last ∷ take 3 quad.pixels)) next ∙ ap (λ ws. slice_index ws (suc k)) (sym is.before_are));
+        let next : k + (0 + 1) ≡ suc k = omega arith in
+        ap word last_is ∙ packed (slice_index quad.pixels k) below ∙ ap (slice_index quad.pixels) here ∙ px_next quad.pixels is.last k 0 (omega arith)
+        ∙ ap (slice_index (is.last ∷ take 3 quad.pixels)) next ∙ ap (λ ws. slice_index ws (suc k)) (sym is.before_are));
   }
 
   -- a fresh lane
@@ -60,7 +60,7 @@ module _ {n : ℕ} {quad : Quad} (pixels : List RgbaPixel) (number : ℕ) (cur p
     small = small;
     before_are = qp ∙ pe ∙ ap (λ xs. number ∷ take 3 xs) (sym qc);
     spelled = λ k lt. (let s = spelled k lt in
-    (s.0, subst (λ xs. IsSpelled (slice_index xs k) (slice_index quad.before k) (slice_index quad.numbers k) (slice_index quad.sizes k) s.0) (sym qc) (subst (λ ys. IsSpelled (slice_index cur k) (slice_index ys k) (slice_index quad.numbers k) (slice_index quad.sizes k) s.0) (sym qp) s.1)));
+        (s.0, subst (λ xs. IsSpelled (slice_index xs k) (slice_index quad.before k) (slice_index quad.numbers k) (slice_index quad.sizes k) s.0) (sym qc) (subst (λ ys. IsSpelled (slice_index cur k) (slice_index ys k) (slice_index quad.numbers k) (slice_index quad.sizes k) s.0) (sym qp) s.1)));
   }
 
 -- before the first lane

@@ -56,22 +56,22 @@ is_diff : (p : RgbaPixel) → IsPixel p → IsTrue (eqb (bit_and (word p) 0xfffc
 is_diff p i = (
   λ t. (let e = eqb-true _ _ t in let m = diff_mask p i in same_pixel _ p (omega arith) (omega arith) (omega arith) (omega arith)),
   λ e. (
-    let r : p.r % 4 ≡ p.r = ap (λ z. z.r) e in
-    let g : p.g % 4 ≡ p.g = ap (λ z. z.g) e in
-    let b : p.b % 4 ≡ p.b = ap (λ z. z.b) e in
-    let a : 0 ≡ p.a = ap (λ z. z.a) e in
-    eq-eqb _ _ (diff_mask p i ∙ omega arith)),
+      let r : p.r % 4 ≡ p.r = ap (λ z. z.r) e in
+      let g : p.g % 4 ≡ p.g = ap (λ z. z.g) e in
+      let b : p.b % 4 ≡ p.b = ap (λ z. z.b) e in
+      let a : 0 ≡ p.a = ap (λ z. z.a) e in
+      eq-eqb _ _ (diff_mask p i ∙ omega arith)),
 )
 
 is_luma : (p : RgbaPixel) → IsPixel p → IsTrue (eqb (bit_and (word p) 0xfff0c0f0) 0) ↔ (wide_cut p ≡ p)
 is_luma p i = (
   λ t. (let e = eqb-true _ _ t in let m = luma_mask p i in same_pixel _ p (omega arith) (omega arith) (omega arith) (omega arith)),
   λ e. (
-    let r : p.r % 16 ≡ p.r = ap (λ z. z.r) e in
-    let g : p.g % 64 ≡ p.g = ap (λ z. z.g) e in
-    let b : p.b % 16 ≡ p.b = ap (λ z. z.b) e in
-    let a : 0 ≡ p.a = ap (λ z. z.a) e in
-    eq-eqb _ _ (luma_mask p i ∙ omega arith)),
+      let r : p.r % 16 ≡ p.r = ap (λ z. z.r) e in
+      let g : p.g % 64 ≡ p.g = ap (λ z. z.g) e in
+      let b : p.b % 16 ≡ p.b = ap (λ z. z.b) e in
+      let a : 0 ≡ p.a = ap (λ z. z.a) e in
+      eq-eqb _ _ (luma_mask p i ∙ omega arith)),
 )
 
 keeps_alpha : (p : RgbaPixel) → IsPixel p → IsTrue (eqb (bit_and (word p) 0xff000000) 0) ↔ (p.a ≡ 0)
@@ -253,13 +253,3 @@ place_bytes i alpha l = λ j. small i l j ∷ []
   where
     small : (i : ℕ) → i < 64 → i % 256 ≡ i
     small i l = omega arith
-
--- the bytes of either chunk
-pub either_bytes : (b : Bool) (i alpha number count : ℕ) (c : Chunk) → i < 64 → take count (digits_l 256 4 number ++ alpha ∷ []) ≡ bytes_of c
-    → take (if b then 1 else count) (digits_l 256 4 (if b then i else number) ++ alpha ∷ []) ≡ bytes_of (if b then Place i else c)
-either_bytes true i alpha number count c l e = place_bytes i alpha l
-either_bytes false i alpha number count c l e = e
-
-pub either_chunk : (b : Bool) (i : ℕ) (c : Chunk) → i < 64 → IsChunk c → IsChunk (if b then Place i else c)
-either_chunk true i c l h = l
-either_chunk false i c l h = h

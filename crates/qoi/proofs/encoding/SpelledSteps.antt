@@ -35,13 +35,6 @@ picked is_diff is_luma keeps d l p first second third ed el er ea =
     let short = second ∙ (λ i. if is_luma then el i else full i) in
     first ∙ (λ i. if is_diff then ed i else short i)
 
--- where alpha stays, it has at most four bytes
-pub short_opaque : (is_diff is_luma keeps : Bool) (d l p : RgbaPixel) → keeps ≡ true → length (bytes_of (spelled is_diff is_luma keeps d l p)) ≤ 4
-short_opaque true is_luma keeps d l p e = omega arith
-short_opaque false true keeps d l p e = omega arith
-short_opaque false false true d l p e = omega arith
-short_opaque false false false d l p e = absurd (absurd_false e)
-
 module _ (past : Past) (p : RgbaPixel) (iq : IsPixel (previous past)) (ip : IsPixel p) where
   abbrev q : RgbaPixel
   q = previous past

@@ -48,8 +48,7 @@ module _ (Choice : Past → RgbaPixel → Chunk → Type 0) (choices : Chooses C
         → (todo ≡ new ++ left) × StillToWrite Choice image cs after more left
     next after more new left split before are written takes all =
         let whole = subst (λ x. WrittenBy Choice image x) (append_assoc w.done new left) (subst (λ x. WrittenBy Choice x ((w.done ++ new) ++ left)) (sym split) all) in
-        let todo_is : todo ≡ new ++ left = append_cancel_left w.done todo (new ++ left) (sym w.parts ∙ unique_by Choice choices.only image cs (w.done ++ (new ++ left)) w.whole whole) in
-        (
+        let todo_is : todo ≡ new ++ left = append_cancel_left w.done todo (new ++ left) (sym w.parts ∙ unique_by Choice choices.only image cs (w.done ++ (new ++ left)) w.whole whole) in (
           todo_is,
           record {
             whole = w.whole;
@@ -73,10 +72,6 @@ module _ (Choice : Past → RgbaPixel → Chunk → Type 0) (choices : Chooses C
         let all = written_on Choice choices more (p ∷ past) 0 (w.done ++ c ∷ []) one.0 one.1 are.0 are.1 in
         let r = next (p ∷ past) more (c ∷ []) all.0 split are.0 are.1 one.0 (λ same. one.1) all.1 in
         (all.0, r.0, r.1)
-
-    -- the next pixel is one
-    pub next_pixel : (p : RgbaPixel) (more : List RgbaPixel) → rest ≡ p ∷ more → IsPixel p
-    next_pixel p more ahead = let are = subst (λ x. AllByRecursion IsPixel x) ahead w.are in are.0
 
   -- before a fresh pixel its chunk is next, which is no run
   pub fresh_todo : {image : List RgbaPixel} {cs : List Chunk} {past : Past} {todo : List Chunk} (p : RgbaPixel) (more : List RgbaPixel) → StillToWrite Choice image cs past (p ∷ more) todo → p ≢ previous past → fresh_next todo ≡ true
@@ -102,10 +97,6 @@ module _ (Choice : Past → RgbaPixel → Chunk → Type 0) (choices : Chooses C
         w.split
         ∙ sym (append_assoc (reverse past) (replicate n (previous past)) rest)
         ∙ sym (ap (λ x. x ++ rest) (reverse-append (replicate n (previous past)) past ∙ ap (λ x. reverse past ++ x) (reverse-replicate n (previous past))))
-
-    -- a run may follow what is written where a repeat is next
-    takes_now : slice_get (replicate n (previous past) ++ rest) 0 ≡ Some (previous past) → TakesRun w.done
-    takes_now = w.takes_run
 
     starts : (n : ℕ) → 0 < n → slice_get (replicate n (previous past) ++ rest) 0 ≡ Some (previous past)
     starts zero some = absurd (omega arith)

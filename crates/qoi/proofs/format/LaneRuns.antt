@@ -87,7 +87,7 @@ run_of xs ys at n e g l h =
     record {
       within = omega (arith, p.within, length-drop at xs);
       same = λ k from to. (let back : at + (k - at) ≡ k = omega arith in
-      ap (slice_index xs) (sym back) ∙ sym (get_or-drop at xs (k - at) 0) ∙ p.same (k - at) (omega arith) ∙ get_or-drop at ys (k - at) 0 ∙ ap (slice_index ys) back);
+          ap (slice_index xs) (sym back) ∙ sym (get_or-drop at xs (k - at) 0) ∙ p.same (k - at) (omega arith) ∙ get_or-drop at ys (k - at) 0 ∙ ap (slice_index ys) back);
       stops = λ short same. p.stops (omega (arith, length-drop at xs)) (get_or-drop at xs n 0 ∙ same ∙ sym (get_or-drop at ys n 0));
     }
 

@@ -35,15 +35,16 @@ styled Reference past before cs = cs
 styled Places past before cs = placed_after past before cs
 styled Tight past before cs = cs
 
--- A list that is written for an image in a style; and bytes that the chunks to be written end.
+-- A list that is written for an image in a style, and the bytes that didn't go to a writer yet: those that are kept, and
+-- behind them those of the chunks that are still to be written.
 pub record Writing : Type 0 where
   pub style : Style
   pub image : List RgbaPixel
   pub list : List Chunk
   pub ahead : List ℕ
 
--- Between two pixels: the pixels `rest` still come, and the bytes ahead are these and those of the chunks that are still
--- to be written, as the style has them.
+-- Between two pixels: the pixels `rest` still come, and the bytes ahead are those that are kept and those of the chunks
+-- that are still to be written, as the style has them.
 pub record CoderBetween (w : Writing) (rest : List RgbaPixel) (table : List RgbaPixel) (coder : Coder) (bytes : List ℕ) : Type 0 where
   pub past : Past
   pub before : Option Chunk

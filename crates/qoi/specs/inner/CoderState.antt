@@ -9,7 +9,7 @@ use Rattle.qoi.specs.Written.{fresh}
 use Rattle.qoi.specs.Styles.{some_fresh, names}
 use Rattle.qoi.specs.inner.Table.{Holds}
 
--- the pixels that a coder puts at their index positions: the fresh ones, or in style Tight as good as all of them
+-- the pixels that a coder puts at their index positions: the fresh ones, and in style Tight all of them
 abbrev pub held_in : Style → Past → Past
 held_in Reference past = fresh past
 held_in Places past = fresh past

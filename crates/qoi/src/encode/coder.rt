@@ -27,11 +27,8 @@ use crate::table::Table;
 use crate::types::{Channels, Style};
 use crate::utils::Writer;
 
-// The longest run of one chunk.
-const RUN_MAX: usize = 62;
-
-// How many repeats are written at a time at most: sixteen runs. What is left of a longer group is a group
-// of its own, with the same chunks.
+// The most repeats that are written at a time: sixteen runs. What is left of a longer group is written as
+// a group of its own, by the same chunks.
 const REPEATS_MAX: usize = 992;
 
 // The last pixel and its index position; and whether a fresh pixel came, and whether the chunk of the
@@ -98,6 +95,7 @@ impl Coder {
 
     // Writes the chunk of a fresh pixel of the four, as the style has it: its index position if it stands
     // there, or else mostly the first chunk that spells it out. It then stands there, and is the last pixel.
+    // Returns where the chunk ends.
     #[inline(always)]
     fn give<const N: usize>(
         &mut self,
@@ -127,8 +125,14 @@ impl Coder {
         let px = Packed::of_number(quad.pixels[lane]);
         let place = (quad.places[lane] % 256) as u8;
         let placed = table.at(place).is_same(px);
-        let (number, size) =
-            unkept(table, style, px, placed, quad.numbers[lane], quad.sizes[lane]);
+        let (number, size) = unkept(
+            table,
+            style,
+            px,
+            placed,
+            quad.numbers[lane],
+            quad.sizes[lane],
+        );
         table.put(place, px);
         *self = Coder {
             last: px,
@@ -140,7 +144,7 @@ impl Coder {
         put_chunk::<N>(out, at, quad.pixels[lane], number, pick(placed, 1, size))
     }
 
-    // Writes four fresh pixels.
+    // Writes four fresh pixels, and returns where their chunks end.
     #[inline(always)]
     fn give_four<const N: usize>(
         &mut self,
@@ -167,8 +171,8 @@ impl Coder {
         self.give::<N>(table, out, third, style, quad, 3)
     }
 
-    // Writes the repeats from a lane on and the fresh pixel behind them, if it is one of the four, and
-    // returns where they end and the lane behind.
+    // Writes the repeats from a lane on and the fresh pixel behind them, and returns where they end and the
+    // lane behind. Where no fresh pixel of the four is behind them nothing is written.
     #[inline(always)]
     fn give_group<const N: usize>(
         &mut self,
@@ -210,7 +214,8 @@ impl Coder {
         (end, lane + count + 1)
     }
 
-    // Writes the repeats at the front, 992 at most, and returns where they end and how many there are.
+    // Writes the repeats at the front, 992 at most, and returns where their runs end and how many repeats
+    // there are.
     #[inline(always)]
     fn give_runs<const N: usize>(
         &mut self,
@@ -240,14 +245,19 @@ impl Coder {
         let (near, _) = data.split_at(data.len().min(N * REPEATS_MAX));
         let count = repeats_of::<N>(near, self.last);
         let (_, behind) = data.split_at(N * count);
-        let one = if behind.is_empty() { QOI_OP_RUN } else { self.rest_of_one(style, count) };
+        let one = if behind.is_empty() {
+            QOI_OP_RUN
+        } else {
+            self.rest_of_one(style, count)
+        };
         let end = put_runs(out, at, count, one);
         self.repeat(table, style, count);
         (end, count)
     }
 
-    // Writes pixels of the first four, or the repeats at the front where all four repeat, and returns where
-    // they end and how many there are.
+    // Writes pixels: the first four where all are fresh, the repeats at the front where all four repeat, and
+    // else those up to the last fresh one of the four. Returns where their chunks end and how many pixels
+    // these are.
     #[inline(always)]
     fn give_quad<const N: usize>(
         &mut self,

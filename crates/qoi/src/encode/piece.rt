@@ -86,9 +86,8 @@ impl Piece {
     }
 }
 
-/// Stores a chunk behind the first `at` bytes, and returns where it ends: `size` bytes, of which the first
-/// four are the lowest of the number and the fifth is the pixel's alpha. Up to eight bytes behind the first
-/// ones may change.
+/// Stores a chunk behind the first `at` bytes, and returns where it ends. It has `size` bytes: the lowest
+/// ones of the number and, if there is a fifth, the pixel's alpha. Bytes behind the chunk may change.
 #[inline(always)]
 pub(crate) fn put_chunk<const N: usize>(
     out: &mut [u8],
@@ -114,8 +113,8 @@ pub(crate) fn put_chunk<const N: usize>(
     at + size as usize
 }
 
-/// Stores the run of a group of few repeats behind the first `at` bytes, a single one as the byte `one`, and
-/// returns where it ends. One byte is stored in any case.
+/// Stores the run of a group of fewer than 62 repeats behind the first `at` bytes, that of a single one as
+/// the byte `one`, and returns where it ends. One byte is stored in any case.
 #[inline(always)]
 pub(super) fn put_run(out: &mut [u8], at: usize, count: usize, one: u8) -> usize
     requires room { at < length out.old }
@@ -130,7 +129,7 @@ pub(super) fn put_run(out: &mut [u8], at: usize, count: usize, one: u8) -> usize
 }
 
 /// Stores the runs of a group of at most 992 repeats behind the first `at` bytes, a rest of 1 as the byte
-/// `one`, and returns where they end. Up to seventeen bytes behind the first ones may change.
+/// `one`, and returns where they end. Bytes behind them may change.
 #[inline(always)]
 pub(super) fn put_runs(out: &mut [u8], at: usize, count: usize, one: u8) -> usize
     requires room { at + 17 ≤ length out.old }

@@ -11,9 +11,9 @@ ghost use Rattle.qoi.specs.inner.Quad.{stepped, step_word, small_word, wide_word
 use crate::packed::Packed;
 use std::simd::prelude::*;
 
-/// Four pixels and the ones before them, packed, and how each is given: by its index position, or spelled
-/// out by a chunk. Of the chunk there are a number whose lowest bytes are the chunk's first four, and how
-/// many bytes it has; the fifth, of an RGBA, is the pixel's alpha.
+/// Four pixels and the ones before them, packed; their index positions; and the chunks that spell them out:
+/// a number whose lowest bytes are the chunk's, and how many bytes the chunk has. The fifth byte, of an
+/// RGBA, isn't in the number: it is the pixel's alpha.
 #[derive(Drop)]
 pub(crate) struct Quad {
     pub(crate) pixels: [u32; 4],
@@ -137,9 +137,7 @@ fn wide(steps: u32x4) -> u32x4
     ensures lanes { result ≡ map wide_word steps }
 {
     let gg = greens(steps).to_le_bytes();
-    u32x4::from_le_bytes(
-        steps.to_le_bytes() + u32x4::splat(0x0008_2008).to_le_bytes() - gg,
-    )
+    u32x4::from_le_bytes(steps.to_le_bytes() + u32x4::splat(0x0008_2008).to_le_bytes() - gg)
 }
 
 // Numbers whose lowest bytes are the difference chunks of these steps.

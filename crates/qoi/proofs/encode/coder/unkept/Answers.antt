@@ -38,5 +38,5 @@ pub returns-else-is_same-placed-clause-choice : goal.returns-else-is_same-placed
 returns-else-is_same-placed-clause-choice c = λ past alpha chunk holds test is bytes first differs.
     let other : seen past (hash c.args.px) ≢ c.args.px = rw c.in-Tight.is at differs in
     let no : c.args.px ≡ blank → ⊥ = λ b.
-        not_both c.is_same.result c.args.placed c.if-is_same-placed.false (c.is_same.ensures.1 (b ∙ sym c.blank.ensures)) (λ t. differs (test.0 t)) in
+    not_both c.is_same.result c.args.placed c.if-is_same-placed.false (c.is_same.ensures.1 (b ∙ sym c.blank.ensures)) (λ t. differs (test.0 t)) in
     rw c.in-Tight.is (chunk, is, bytes, spelled_chosen past c.args.px chunk other (λ b. absurd (no b)) first)

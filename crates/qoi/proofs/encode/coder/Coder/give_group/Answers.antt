@@ -10,7 +10,7 @@ use Rattle.qoi.specs.inner.CoderLoop.{AtLane}
 use Rattle.qoi.specs.inner.Packed.{word, pixel_of_word}
 use Rattle.qoi.proofs.format.LaneRuns.{all_agree}
 use Rattle.qoi.proofs.encoding.CoderSteps.{runs_given}
-use Rattle.qoi.proofs.encoding.QuadGroups.{quad_count, count_other, before_run, differ, lane_pixel, last_packed}
+use Rattle.qoi.proofs.encoding.QuadGroups.{count_other, before_run, differ, lane_pixel, last_packed}
 use Rattle.qoi.proofs.encoding.QuadLoop.{cur_below, prev_below}
 use Rattle.qoi.proofs.encoding.QuadSteps.{lane_after}
 use Rattle.qoi.proofs.encode.coder.Coder.give_group.Goals as goal
@@ -38,7 +38,7 @@ returns-clause-given g c w pixels style_is is start =
     let b = start.between in
     let last = c.args.self.now.last in
     let last_is : last ≡ pixel_of_word (slice_index prev lane) = last_packed last (slice_index prev lane) (subst IsPixel (sym b.state.last_is) b.to_write.before) (start.last_is open_lane) in
-    let count = subst (λ q. IsCount q (drop lane pixels) n) (sym last_is) (quad_count is.last pixels cur prev lane n is.long is.are is.pixels_are is.before_are (below lane open_lane) short run) in
+    let count = subst (λ q. IsCount q (drop lane pixels) n) (sym last_is) (c.repeats_in_quad-count.ensures.counted g.row.N c.args.quad.now pixels is c.requires.bits short) in
     let p = pixel_of_word (slice_index cur k) in
     let more = drop (suc k) pixels in
     let ahead : drop n (drop lane pixels) ≡ p ∷ more = drop-drop n lane pixels ∙ ap (λ j. drop j pixels) (omega arith) ∙ lane_pixel pixels cur k is.long is.are is.pixels_are short in
