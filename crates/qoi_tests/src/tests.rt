@@ -16,6 +16,7 @@ mod lengths;
 mod memory;
 mod pieces;
 mod pixel;
+mod plain;
 mod quads;
 mod reader;
 mod runs;

@@ -18,15 +18,18 @@ enum Kind {
     Rgba,
     // An RGB chunk, and a repeat behind it.
     Pair,
+    // The pixel that stood before the last one.
+    Seen,
     // A run of 62.
     Run,
 }
 
-const KINDS: [Kind; 6] = [
+const KINDS: [Kind; 7] = [
     Kind::Difference,
     Kind::Luma,
     Kind::Rgb,
     Kind::Pair,
+    Kind::Seen,
     Kind::Run,
     Kind::Rgba,
 ];
@@ -39,7 +42,7 @@ struct Tail {
     times: usize,
 }
 
-const TAILS: [Tail; 6] = [
+const TAILS: [Tail; 7] = [
     Tail {
         kind: Kind::Difference,
         bytes: 1,
@@ -61,6 +64,11 @@ const TAILS: [Tail; 6] = [
         times: 10,
     },
     Tail {
+        kind: Kind::Seen,
+        bytes: 1,
+        times: 50,
+    },
+    Tail {
         kind: Kind::Run,
         bytes: 1,
         times: 20,
@@ -77,8 +85,8 @@ fn allowed(channels: Channels) -> u32
     ensures { 0 < result }
 {
     match channels {
-        Channels::Rgb => 5,
-        Channels::Rgba => 6,
+        Channels::Rgb => 6,
+        Channels::Rgba => 7,
     }
 }
 
@@ -98,21 +106,36 @@ impl Drawing {
         }
     }
 
+    // Adds a pixel.
+    fn push(&mut self, px: Rgba) -> Result<()> {
+        self.pixels.push(px)?;
+        self.last = px;
+        Ok(())
+    }
+
     // Adds a pixel that is so far from the last one.
     fn add(&mut self, [dr, dg, db, da]: [u8; 4]) -> Result<()> {
         let [r, g, b, a] = self.last;
-        self.last = [
+        self.push([
             r.wrapping_add(dr),
             g.wrapping_add(dg),
             b.wrapping_add(db),
             a.wrapping_add(da),
-        ];
-        self.pixels.push(self.last)?;
-        Ok(())
+        ])
     }
 
-    // Adds the pixels of a kind. The fresh ones have another index position and another red than the one
-    // before: among equal steps none comes again while it is noted.
+    // Adds the pixel that stood before the last one.
+    fn seen(&mut self) -> Result<()> {
+        let before = self.pixels.len().saturating_sub(2);
+        let px = match self.pixels.get(before) {
+            Some(px) => *px,
+            None => START,
+        };
+        self.push(px)
+    }
+
+    // Adds the pixels of a kind. The new ones have another index position than the one before: among equal
+    // steps none comes again while it is noted.
     fn step(&mut self, kind: Kind) -> Result<()> {
         match kind {
             Kind::Difference => self.add([1, 0, 0, 0]),
@@ -123,6 +146,7 @@ impl Drawing {
                 self.add([3, 100, 7, 0])?;
                 self.add([0; 4])
             }
+            Kind::Seen => self.seen(),
             Kind::Run => {
                 for _ in 0..62 {
                     self.add([0; 4])?;
