@@ -7,5 +7,7 @@ pub mod files;
 pub mod generator;
 pub mod images;
 pub mod lists;
+pub mod plain;
 pub mod reference;
+pub mod rows;
 pub mod texts;

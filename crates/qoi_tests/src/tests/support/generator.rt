@@ -40,7 +40,10 @@ pub type Rgba = [u8; 4];
 pub const START: Rgba = [0, 0, 0, 255];
 
 /// The index position of a pixel.
-pub fn place([r, g, b, a]: Rgba) -> usize {
+pub fn place(px: Rgba) -> usize
+    ensures { result < 64 }
+{
+    let [r, g, b, a] = px;
     let sum = 3 * usize::from(r) + 5 * usize::from(g) + 7 * usize::from(b) + 11 * usize::from(a);
     sum % 64
 }
