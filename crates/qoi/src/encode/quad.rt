@@ -17,10 +17,10 @@ use std::simd::prelude::*;
 #[derive(Drop)]
 pub(crate) struct Quad {
     pub(crate) pixels: [u32; 4],
-    pub(crate) before: [u32; 4],
     pub(crate) places: [u32; 4],
     pub(crate) numbers: [u32; 4],
     pub(crate) sizes: [u32; 4],
+    pub(crate) before: u32x4,
 }
 
 impl Quad {
@@ -40,10 +40,10 @@ impl Quad {
         let (numbers, sizes) = spell::<N>(cur, prev);
         Quad {
             pixels: cur.to_array(),
-            before: prev.to_array(),
             places: places(cur).to_array(),
             numbers: numbers.to_array(),
             sizes: sizes.to_array(),
+            before: prev,
         }
     }
 
