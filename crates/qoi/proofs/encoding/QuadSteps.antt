@@ -8,13 +8,13 @@ use Rattle.qoi.specs.declared.encode.quad.Quad.{Quad}
 use Rattle.qoi.specs.Qoi.{AreBytes, RgbaPixel, IsPixel}
 use Rattle.qoi.specs.Raw.{IsChannels, pixels_of}
 use Rattle.qoi.specs.inner.Packed.{word, pixel_of_word}
-use Rattle.qoi.specs.inner.Quad.{IsSpelled, IsQuad, IsFreshLane}
+use Rattle.qoi.specs.inner.Quad.{IsSpelled, AreFourAfter, IsQuad, IsFreshLane}
 use Rattle.qoi.specs.inner.CoderLoop.{Writing, CoderBetween, AtLane}
 use Rattle.qoi.proofs.format.RawPixels.{pixels_of_are}
 use Rattle.qoi.proofs.encoding.CoderSteps.{all_bytes}
 use Rattle.qoi.proofs.format.LaneRuns.{none_agree}
 use Rattle.qoi.proofs.encoding.SpelledLanes.{unpacked}
-use Rattle.qoi.proofs.encoding.QuadGroups.{differ, packed, lane_pixel, last_packed}
+use Rattle.qoi.proofs.encoding.QuadGroups.{word_below, differ, packed, lane_pixel, last_packed}
 use Rattle.qoi.proofs.encoding.QuadLoop.{long_pixels, cur_length, prev_length, cur_below, prev_below, px_next}
 
 module _ {n : ℕ} {quad : Quad} {pixels : List RgbaPixel} (is : IsQuad n quad pixels) (k : ℕ) (lt : k < 4) where
@@ -48,52 +48,51 @@ module _ {n : ℕ} {quad : Quad} {pixels : List RgbaPixel} (is : IsQuad n quad p
       lane_after last_is (given (slice_index quad.before k) s.0 (drop (suc k) pixels) s.1 before (differ (slice_index quad.pixels k) (slice_index quad.before k) below below_before fresh)
       (subst (λ x. CoderBetween w x table coder bytes) ahead b))
 
--- four pixels that were read, and spelled out after the ones before them
-module _ {n : ℕ} {quad : Quad} (pixels : List RgbaPixel) (number : ℕ) (cur prev : List ℕ) (long : 4 ≤ length pixels) (are : AllByRecursion IsPixel pixels) (ce : cur ≡ map word (take 4 pixels)) (pe : prev ≡ number ∷ take 3 cur) where
-  pub quad_is : number < 2 ^ 32 → quad.pixels ≡ cur → quad.before ≡ prev
-      → ((k : ℕ) → k < 4 → (c : Chunk) × IsSpelled (slice_index cur k) (slice_index prev k) (slice_index quad.numbers k) (slice_index quad.sizes k) c) → IsQuad n quad pixels
-  quad_is small qc qp spelled = record {
-    long = long;
-    are = are;
-    pixels_are = qc ∙ ce;
-    last = number;
-    small = small;
-    before_are = qp ∙ pe ∙ ap (λ xs. number ∷ take 3 xs) (sym qc);
-    spelled = λ k lt. (let s = spelled k lt in
-        (s.0, subst (λ xs. IsSpelled (slice_index xs k) (slice_index quad.before k) (slice_index quad.numbers k) (slice_index quad.sizes k) s.0) (sym qc) (subst (λ ys. IsSpelled (slice_index cur k) (slice_index ys k) (slice_index quad.numbers k) (slice_index quad.sizes k) s.0) (sym qp) s.1)));
-  }
+-- four pixels spelled out after the ones before them
+pub quad_is : {n : ℕ} {quad : Quad} (last : RgbaPixel) (pixels : List RgbaPixel) (cur prev : List ℕ) → AreFourAfter last pixels cur prev → IsPixel last → quad.pixels ≡ cur → quad.before ≡ prev
+    → ((k : ℕ) → k < 4 → (c : Chunk) × IsSpelled (slice_index cur k) (slice_index prev k) (slice_index quad.numbers k) (slice_index quad.sizes k) c) → IsQuad n quad pixels
+quad_is {quad = quad} last pixels cur prev four is qc qp spelled = record {
+  long = four.long;
+  are = four.are;
+  pixels_are = qc ∙ four.pixels_are;
+  last = word last;
+  small = word_below last is;
+  before_are = qp ∙ four.before_are ∙ ap (λ xs. word last ∷ take 3 xs) (sym qc);
+  spelled = λ k lt. (let s = spelled k lt in
+      (s.0, subst (λ xs. IsSpelled (slice_index xs k) (slice_index quad.before k) (slice_index quad.numbers k) (slice_index quad.sizes k) s.0) (sym qc) (subst (λ ys. IsSpelled (slice_index cur k) (slice_index ys k) (slice_index quad.numbers k) (slice_index quad.sizes k) s.0) (sym qp) s.1)));
+}
 
 -- before the first lane
-pub quad_starts : {w : Writing} {quad : Quad} {pixels : List RgbaPixel} {table : List RgbaPixel} {coder : Coder} {bytes prev : List ℕ} {number : ℕ} (cur : List ℕ) → CoderBetween w pixels table coder bytes → number ≡ word coder.last → prev ≡ number ∷ take 3 cur → quad.before ≡ prev
+pub quad_starts : {w : Writing} {quad : Quad} {pixels : List RgbaPixel} {table : List RgbaPixel} {coder : Coder} {bytes prev : List ℕ} (cur : List ℕ) → CoderBetween w pixels table coder bytes → prev ≡ word coder.last ∷ take 3 cur → quad.before ≡ prev
     → AtLane w quad pixels 0 table coder bytes
-quad_starts cur b n_is pe qp = record { between = b; last_is = λ lt. sym (ap (λ xs. slice_index xs 0) (qp ∙ pe) ∙ n_is) }
+quad_starts cur b pe qp = record { between = b; last_is = λ lt. sym (ap (λ xs. slice_index xs 0) (qp ∙ pe)) }
 
 -- where no lane repeats the one before, each is fresh
 pub all_fresh : (quad : Quad) (cur prev : List ℕ) → length cur ≡ 4 → length prev ≡ 4 → quad.pixels ≡ cur → quad.before ≡ prev → mask_l (zip2 nat_eq cur prev) ≡ 0 → (k : ℕ) → k < 4 → IsFreshLane quad k
 all_fresh quad cur prev lc lp qc qp none k lt same = none_agree cur prev (lc ∙ sym lp) none k (omega arith) (ap (λ xs. slice_index xs k) (sym qc) ∙ same ∙ ap (λ xs. slice_index xs k) qp)
 
 -- where the first lane repeats the one before, the last pixel comes again
-pub first_same : (pixels : List RgbaPixel) (last : RgbaPixel) (number : ℕ) (cur prev : List ℕ) → 4 ≤ length pixels → AllByRecursion IsPixel pixels → cur ≡ map word (take 4 pixels) → prev ≡ number ∷ take 3 cur → number ≡ word last → IsPixel last
-    → slice_index cur 0 ≡ slice_index prev 0 → slice_get pixels 0 ≡ Some last
-first_same [] last number cur prev long are ce pe n_is is e = absurd (omega arith)
-first_same (p ∷ pixels) last number cur prev long are ce pe n_is is e =
-    let words : word p ≡ word last = sym (ap (λ xs. slice_index xs 0) ce) ∙ e ∙ ap (λ xs. slice_index xs 0) pe ∙ n_is in
-    ap (λ q. Some q) (sym (unpacked p are.0) ∙ ap pixel_of_word words ∙ unpacked last is)
+pub first_same : (last : RgbaPixel) (pixels : List RgbaPixel) (cur prev : List ℕ) → AreFourAfter last pixels cur prev → IsPixel last → slice_index cur 0 ≡ slice_index prev 0 → slice_get pixels 0 ≡ Some last
+first_same last [] cur prev four is e = let long = four.long in absurd (omega arith)
+first_same last (p ∷ pixels) cur prev four is e =
+    let words : word p ≡ word last = sym (ap (λ xs. slice_index xs 0) four.pixels_are) ∙ e ∙ ap (λ xs. slice_index xs 0) four.before_are in
+    ap (λ q. Some q) (sym (unpacked p four.are.0) ∙ ap pixel_of_word words ∙ unpacked last is)
 
 -- lanes within bytes
 pub few_lanes : (n r len : ℕ) → IsChannels n → r ≤ 4 → 16 ≤ len → n * r ≤ len
 few_lanes n r len (inl e) few long = subst (λ k. k * r ≤ len) (sym e) (omega arith)
 few_lanes n r len (inr e) few long = subst (λ k. k * r ≤ len) (sym e) (omega arith)
 
--- What holds of four pixels that were read from bytes, and of the ones before them.
-pub record FourRead (n : ℕ) (bytes cur prev : List ℕ) : Type 0 where
-  pub long : 4 ≤ length (pixels_of n bytes)
-  pub are : AllByRecursion IsPixel (pixels_of n bytes)
-  pub four : length cur ≡ 4
-  pub four_before : length prev ≡ 4
+-- four pixels that were read from bytes
+pub four_read : (n : ℕ) (bytes : List ℕ) (last : RgbaPixel) (number : ℕ) (cur prev : List ℕ) → IsChannels n → AreBytes bytes → 16 ≤ length bytes → cur ≡ map word (take 4 (pixels_of n bytes)) → prev ≡ number ∷ take 3 cur → number ≡ word last
+    → AreFourAfter last (pixels_of n bytes) cur prev
+four_read n bytes last number cur prev channels byte size ce pe n_is = record {
+  long = long_pixels n bytes channels size;
+  are = pixels_of_are n bytes channels (all_bytes bytes byte);
+  pixels_are = ce;
+  before_are = pe ∙ ap (λ z. z ∷ take 3 cur) n_is;
+}
 
-pub four_read : (n : ℕ) (bytes : List ℕ) (number : ℕ) (cur prev : List ℕ) → IsChannels n → AreBytes bytes → 16 ≤ length bytes → cur ≡ map word (take 4 (pixels_of n bytes)) → prev ≡ number ∷ take 3 cur → FourRead n bytes cur prev
-four_read n bytes number cur prev channels byte size ce pe =
-    let long = long_pixels n bytes channels size in
-    let are = pixels_of_are n bytes channels (all_bytes bytes byte) in
-    record { long = long; are = are; four = cur_length (pixels_of n bytes) number cur prev long are ce pe; four_before = prev_length (pixels_of n bytes) number cur prev long are ce pe }
+-- there are as many lanes
+pub four_lanes : (last : RgbaPixel) (pixels : List RgbaPixel) (cur prev : List ℕ) → AreFourAfter last pixels cur prev → (length cur ≡ 4) × (length prev ≡ 4)
+four_lanes last pixels cur prev f = (cur_length pixels (word last) cur prev f.long f.are f.pixels_are f.before_are, prev_length pixels (word last) cur prev f.long f.are f.pixels_are f.before_are)

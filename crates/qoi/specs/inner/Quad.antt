@@ -122,6 +122,13 @@ pub record QuadFits (n : ℕ) (quad : Quad) : Type 0 where
 abbrev pub IsFreshLane : Quad → ℕ → Type 0
 IsFreshLane quad k = slice_index quad.pixels k ≢ slice_index quad.before k
 
+-- the lanes are the first four of these pixels, and the ones before them, of which the last pixel is the first
+pub record AreFourAfter (last : RgbaPixel) (pixels : List RgbaPixel) (cur prev : List ℕ) : Type 0 where
+  pub long : 4 ≤ length pixels
+  pub are : AllByRecursion IsPixel pixels
+  pub pixels_are : cur ≡ map word (take 4 pixels)
+  pub before_are : prev ≡ word last ∷ take 3 cur
+
 -- the four are the first of these pixels, after the last one
 pub record IsQuad (n : ℕ) (quad : Quad) (pixels : List RgbaPixel) : Type 0 where
   pub long : 4 ≤ length pixels

@@ -13,7 +13,7 @@ ghost use Rattle.qoi.specs.Styles.{choice_in, WrittenIn};
 ghost use Rattle.qoi.specs.writers.Writes.{WroteBut, WroteSome};
 ghost use Rattle.qoi.specs.inner.Packed.{word, pixel_of_word};
 ghost use Rattle.qoi.specs.inner.Piece.{kept_bytes};
-ghost use Rattle.qoi.specs.inner.Quad.{HasBytes, IsSpelled, QuadFits, IsQuad, IsFreshLane};
+ghost use Rattle.qoi.specs.inner.Quad.{HasBytes, IsSpelled, AreOpaqueWords, SameAlpha, AreFourAfter, QuadFits, IsQuad, IsFreshLane};
 ghost use Rattle.qoi.specs.inner.CoderState.{held_in, StateAfter, StyleAfter, rest_of_one, last_chunk};
 ghost use Rattle.qoi.specs.inner.Table.{Holds};
 
@@ -26,6 +26,7 @@ use crate::runs::{repeats_in_quad, repeats_of};
 use crate::table::Table;
 use crate::types::{Channels, Style};
 use crate::utils::Writer;
+use std::simd::u32x4;
 
 // The most repeats that are written at a time: sixteen runs. What is left of a longer group is written as
 // a group of its own, by the same chunks.
@@ -255,6 +256,43 @@ impl Coder {
         (end, count)
     }
 
+    // Writes four pixels that don't all repeat: all where each is fresh, else those up to the last fresh one.
+    // Returns where their chunks end and how many pixels these are.
+    #[inline(always)]
+    fn give_lanes<const N: usize>(
+        &mut self,
+        table: &mut Table,
+        out: &mut [u8],
+        at: usize,
+        style: Style,
+        cur: u32x4,
+        prev: u32x4,
+        bits: u64,
+    ) -> (usize, usize)
+        requires channels { IsChannels N }
+        requires opaque { N ≡ 3 → AreOpaqueWords cur }
+        requires same_alpha { N ≡ 3 → SameAlpha cur prev }
+        requires bits { bits ≡ mask_l (zip2 nat_eq cur prev) }
+        requires within { bits < 15 }
+        requires room { at + 64 ≤ length out.old }
+        ensures same { length out.new ≡ length out.old }
+        ensures within { result.0 ≤ at + 20 }
+        ensures lanes { (0 < result.1) × (result.1 ≤ 4) }
+        ensures opaque { N ≡ 3 → self.old.last.a ≡ 255 → self.new.last.a ≡ 255 }
+        ensures given { (w : Writing) (pixels : List RgbaPixel) → w.style ≡ style
+            → AreFourAfter self.old.last pixels cur prev
+            → CoderBetween w pixels table.old self.old (take at out.old)
+            → CoderBetween w (drop result.1 pixels) table.new self.new (take result.0 out.new) }
+    {
+        let quad = Quad::new::<N>(cur, prev);
+        if bits == 0 {
+            return (self.give_four::<N>(table, out, at, style, &quad), 4);
+        }
+        let (end, lane) = self.give_group::<N>(table, out, at, style, &quad, bits, 0);
+        let (end, lane) = self.give_group::<N>(table, out, end, style, &quad, bits, lane);
+        self.give_group::<N>(table, out, end, style, &quad, bits, lane)
+    }
+
     // Writes pixels: the first four where all are fresh, the repeats at the front where all four repeat, and
     // else those up to the last fresh one of the four. Returns where their chunks end and how many pixels
     // these are.
@@ -288,13 +326,7 @@ impl Coder {
         if bits == 15 {
             return self.give_runs::<N>(table, out, at, style, data);
         }
-        let quad = Quad::new::<N>(cur, prev);
-        if bits == 0 {
-            return (self.give_four::<N>(table, out, at, style, &quad), 4);
-        }
-        let (end, lane) = self.give_group::<N>(table, out, at, style, &quad, bits, 0);
-        let (end, lane) = self.give_group::<N>(table, out, end, style, &quad, bits, lane);
-        self.give_group::<N>(table, out, end, style, &quad, bits, lane)
+        self.give_lanes::<N>(table, out, at, style, cur, prev, bits)
     }
 
     // Keeps the chunks of pixels until the piece is full or fewer than sixteen bytes are left, and returns
