@@ -4,7 +4,7 @@ ghost use Rattle.std.specs.Io.KnownBytes.{Appends};
 ghost use Rattle.qoi.specs.declared.header.Header.{Header};
 ghost use Rattle.qoi.specs.declared.error.Error.{Error};
 ghost use Rattle.qoi.specs.declared.types.Style.TheVariants.{Reference, Tight};
-ghost use Rattle.qoi.specs.Qoi.{channels_number, IsValid};
+ghost use Rattle.qoi.specs.Qoi.{IsValid};
 ghost use Rattle.qoi.specs.Decoding.{file_byte_count};
 ghost use Rattle.qoi.specs.Encoded.{max_len, max_file_len, image_header, IsFileLength, IsFileOf, IsShortest};
 ghost use Rattle.qoi.specs.Errors.{IsIoError};

@@ -1,10 +1,10 @@
 -- The lanes of four pixels and the pixels before them.
-use Rattle.std.proofs.Common.{◌≡◌, ℕ, zero, suc, ◌+◌, ◌*◌, ◌/◌, ◌%◌, ◌^◌, ◌<◌, ◌≤◌, inl, inr, List, [], ◌∷◌, length, take, drop, map, slice_index, refl, sym, ap, ◌∙◌, arith, subst}
+use Rattle.std.proofs.Common.{◌≡◌, ℕ, zero, suc, ◌+◌, ◌*◌, ◌/◌, ◌^◌, ◌<◌, ◌≤◌, inl, inr, List, [], ◌∷◌, length, take, map, slice_index, sym, ap, ◌∙◌, arith, subst}
 use Rattle.std.specs.List.{AllByRecursion}
 use Rattle.std.proofs.lemmas.List.{get_or-take, length-take-le, length-map}
 use Rattle.qoi.specs.Qoi.{AreBytes, RgbaPixel, IsPixel}
 use Rattle.qoi.specs.Raw.{IsChannels, pixels_of, pixels_of_3, pixels_of_4}
-use Rattle.qoi.specs.inner.Packed.{word, pixel_of_word}
+use Rattle.qoi.specs.inner.Packed.{word}
 use Rattle.qoi.specs.inner.Quad.{SameAlpha, AreOpaqueWords}
 
 -- enough bytes have four pixels

@@ -1,6 +1,6 @@
 -- Among four pixels: from a fresh one to the next lane.
-use Rattle.std.proofs.Common.{◌≡◌, ◌≢◌, ℕ, suc, ◌+◌, ◌*◌, ◌^◌, ◌<◌, ◌≤◌, nat_eq, inl, inr, Some, List, [], ◌∷◌, length, map, take, drop, slice_index, refl, sym, ap, ◌∙◌, arith, subst}
-use Rattle.std.specs.List.{AllByRecursion, slice_get}
+use Rattle.std.proofs.Common.{◌≡◌, ◌≢◌, ℕ, suc, ◌+◌, ◌*◌, ◌^◌, ◌<◌, ◌≤◌, nat_eq, inl, inr, Some, List, [], ◌∷◌, length, map, take, drop, slice_index, sym, ap, ◌∙◌, arith, subst}
+use Rattle.std.specs.List.{slice_get}
 use lib.Lanes.{mask_l, zip2}
 use Rattle.qoi.specs.declared.chunk.Chunk.{Chunk}
 use Rattle.qoi.specs.declared.encode.coder.Coder.{Coder}

@@ -1,15 +1,13 @@
 -- The first chunk that spells a pixel out, as the lanes of a vector find it.
-use Rattle.std.proofs.Common.{◌≡◌, ◌↔◌, ℕ, zero, suc, ◌+◌, ◌*◌, ◌/◌, ◌%◌, ◌^◌, ◌<◌, ◌≤◌, Bool, true, false, inl, inr, cond, if◌then◌else◌, eqb, eqb-true, eq-eqb, IsTrue, List, [], ◌∷◌, ◌++◌, length, take, slice_index, refl, sym, ap, ◌∙◌, arith, bit_and, Fits, w32, subst}
+use Rattle.std.proofs.Common.{◌≡◌, ◌↔◌, ℕ, zero, suc, ◌+◌, ◌*◌, ◌/◌, ◌%◌, ◌^◌, ◌<◌, ◌≤◌, Bool, true, false, inl, inr, cond, eqb, eqb-true, eq-eqb, IsTrue, List, [], ◌∷◌, ◌++◌, length, take, slice_index, refl, sym, ap, ◌∙◌, arith, bit_and, Fits, w32, subst}
 use Rattle.std.proofs.lemmas.Nat.{and_mask, and_block}
 use lib.Lanes.{Each1, digits_l}
 use Rattle.qoi.specs.declared.chunk.Chunk.{Chunk}
-use Rattle.qoi.specs.declared.chunk.Chunk.TheVariants.{Place, Diff, Luma, Rgb, Rgba}
-use Rattle.qoi.specs.Qoi.{RgbaPixel, pixel, IsPixel, Past, previous, IsChunk, bytes_of}
-use Rattle.qoi.specs.Written.{IsFirst}
+use Rattle.qoi.specs.Qoi.{RgbaPixel, IsPixel, IsChunk, bytes_of}
 use Rattle.qoi.specs.Raw.{IsChannels}
 use Rattle.qoi.specs.inner.Packed.{word, pixel_of_word}
 use Rattle.qoi.specs.inner.Steps.{steps, small_steps, wide_steps}
-use Rattle.qoi.specs.inner.Quad.{stepped, step_word, small_word, wide_word, plus_32, diff_number, luma_number, rgb_number, changes, full_number, full_count, spelled_number, spelled_count, SameAlpha, IsSpelled}
+use Rattle.qoi.specs.inner.Quad.{stepped, step_word, small_word, wide_word, plus_32, diff_number, luma_number, rgb_number, spelled_number, spelled_count, SameAlpha, IsSpelled}
 use Rattle.qoi.proofs.format.SamePixels.{same_pixel}
 use Rattle.qoi.proofs.encoding.SpelledSteps.{small_cut, wide_cut, spelled, spelled_first}
 

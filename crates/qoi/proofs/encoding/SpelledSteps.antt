@@ -1,8 +1,8 @@
 -- The first chunk that spells a pixel out, from the steps that the encoder computes.
-use Rattle.std.proofs.Common.{◌≡◌, ◌↔◌, ◌+◌, ◌*◌, ◌%◌, ◌≤◌, Bool, true, false, IsTrue, length, if◌then◌else◌, refl, sym, ap, ◌∙◌, arith, subst}
+use Rattle.std.proofs.Common.{◌≡◌, ◌↔◌, ◌+◌, ◌*◌, ◌%◌, Bool, true, false, IsTrue, if◌then◌else◌, refl, sym, ap, ◌∙◌, arith, subst}
 use Rattle.qoi.specs.declared.chunk.Chunk.{Chunk}
 use Rattle.qoi.specs.declared.chunk.Chunk.TheVariants.{Diff, Luma, Rgb, Rgba}
-use Rattle.qoi.specs.Qoi.{RgbaPixel, pixel, IsPixel, Past, previous, diff_tag, luma_tag, bytes_of}
+use Rattle.qoi.specs.Qoi.{RgbaPixel, pixel, IsPixel, Past, previous, diff_tag, luma_tag}
 use Rattle.qoi.specs.Written.{IsFirst}
 use Rattle.qoi.specs.inner.Steps.{steps, small_steps, wide_steps}
 use Rattle.qoi.proofs.format.SamePixels.{same_pixel}

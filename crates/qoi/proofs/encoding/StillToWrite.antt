@@ -1,6 +1,6 @@
 -- What is still to be written of an image's list, as a coder goes from pixel to pixel: over the repeats of a group, and
 -- over a fresh pixel.
-use Rattle.std.proofs.Common.{◌≡◌, ◌≢◌, ◌⊎◌, inl, inr, ℕ, zero, suc, ◌*◌, ◌/◌, ◌%◌, ◌<◌, List, [], ◌∷◌, ◌++◌, reverse, replicate, Some, true, not, refl, sym, ap, ◌∙◌, subst, arith, append_assoc, append-nil}
+use Rattle.std.proofs.Common.{◌≡◌, ◌≢◌, ◌⊎◌, inl, inr, ℕ, zero, suc, ◌/◌, ◌%◌, ◌<◌, List, [], ◌∷◌, ◌++◌, reverse, replicate, Some, true, not, refl, sym, ap, ◌∙◌, subst, arith, append_assoc, append-nil}
 use Rattle.std.proofs.lemmas.List.{append_cancel_left, reverse-append}
 use Rattle.std.specs.List.{AllByRecursion, slice_get}
 use Rattle.qoi.specs.declared.chunk.Chunk.{Chunk}

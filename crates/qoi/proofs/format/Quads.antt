@@ -1,5 +1,5 @@
 -- The lanes of a vector of packed pixels, by their bytes.
-use Rattle.std.proofs.Common.{◌≡◌, Bool, true, false, not, cond, eqb, ℕ, zero, suc, ◌+◌, ◌-◌, ◌*◌, ◌/◌, ◌%◌, ◌^◌, ◌<◌, ◌≤◌, List, [], ◌∷◌, ◌++◌, length, take, map, replicate, refl, sym, ap, ◌∙◌, arith, subst, bit_and, Fits, w8, w32}
+use Rattle.std.proofs.Common.{◌≡◌, Bool, true, false, not, cond, eqb, ℕ, zero, suc, ◌+◌, ◌-◌, ◌*◌, ◌/◌, ◌%◌, ◌^◌, ◌<◌, ◌≤◌, List, [], ◌∷◌, ◌++◌, length, take, map, replicate, refl, sym, ap, ◌∙◌, arith, subst, bit_and, Fits, w32}
 use Rattle.std.proofs.lemmas.Simd.{Each1-zip2, Each2-all, length-zip2, Each1-from_get_or}
 use Rattle.std.proofs.lemmas.Nat.{and_mask, and_block}
 use Rattle.std.proofs.lemmas.List.{length-take-le, get_or-take, length-map}

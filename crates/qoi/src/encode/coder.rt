@@ -1,17 +1,16 @@
 //! The coder: the chunks of an image's pixels, four pixels at a time (QOI specification 1.0, "Data" and
 //! "Chunks").
-ghost use lib.Lanes.{mask_l, zip2, digits_l};
-ghost use Rattle.std.specs.Prelude.{◌≡◌, ◌≢◌, ◌⊎◌, ℕ, ◌+◌, ◌*◌, ◌/◌, ◌%◌, ◌^◌, ◌<◌, ◌≤◌, ◌↔◌, IsTrue, IsFalse, nat_eq, List, [], ◌∷◌, ◌++◌, Option, None, Some, length, take, drop, replicate, slice_get, slice_index, OnOk, IfErr};
+ghost use lib.Lanes.{mask_l, zip2};
+ghost use Rattle.std.specs.Prelude.{◌≡◌, ◌≢◌, ℕ, ◌+◌, ◌*◌, ◌/◌, ◌%◌, ◌<◌, ◌≤◌, ◌↔◌, IsTrue, nat_eq, List, [], ◌∷◌, ◌++◌, Option, None, Some, length, take, drop, replicate, slice_get, slice_index, OnOk, IfErr};
 ghost use Rattle.qoi.specs.declared.chunk.Chunk.{Chunk};
-ghost use Rattle.qoi.specs.declared.chunk.Chunk.TheVariants.{Place, Run};
-ghost use Rattle.qoi.specs.declared.encode.piece.TheConstants.{PIECE, ROOM};
-ghost use Rattle.qoi.specs.Qoi.{RgbaPixel, Past, IsPixel, start, positions, previous, seen, hash, IsChunk, bytes_of, text, channels_number};
+ghost use Rattle.qoi.specs.declared.encode.piece.TheConstants.{PIECE};
+ghost use Rattle.qoi.specs.Qoi.{RgbaPixel, Past, start, previous, seen, hash, IsChunk, bytes_of, text, channels_number};
 ghost use Rattle.qoi.specs.Raw.{IsChannels, pixels_of};
 ghost use Rattle.qoi.specs.Runs.{IsCount, runs};
 ghost use Rattle.qoi.specs.Written.{IsFirst};
 ghost use Rattle.qoi.specs.Styles.{choice_in, WrittenIn};
 ghost use Rattle.qoi.specs.writers.Writes.{WroteBut, WroteSome};
-ghost use Rattle.qoi.specs.inner.Packed.{word, pixel_of_word};
+ghost use Rattle.qoi.specs.inner.Packed.{pixel_of_word};
 ghost use Rattle.qoi.specs.inner.Piece.{kept_bytes};
 ghost use Rattle.qoi.specs.inner.Quad.{HasBytes, IsSpelled, AreOpaqueWords, SameAlpha, AreFourAfter, QuadFits, IsQuad, IsFreshLane};
 ghost use Rattle.qoi.specs.inner.CoderState.{held_in, StateAfter, StyleAfter, rest_of_one, last_chunk};

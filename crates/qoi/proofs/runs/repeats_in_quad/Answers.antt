@@ -1,5 +1,4 @@
 -- The first clear bit ends the run.
-use Rattle.std.proofs.Common.{length, ◌≡◌, arith}
 use Rattle.qoi.proofs.format.LaneRuns.{agreeing_run}
 use Rattle.qoi.proofs.encoding.QuadGroups.{quad_count}
 use Rattle.qoi.proofs.encoding.QuadLoop.{cur_length, prev_length, prev_below}

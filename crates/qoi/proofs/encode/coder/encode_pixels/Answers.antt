@@ -1,10 +1,9 @@
 -- A piece at a time.
-use Rattle.std.proofs.Common.{◌≡◌, ◌≤◌, length, take, arith, ap}
+use Rattle.std.proofs.Common.{arith, ap}
 use Rattle.std.proofs.lemmas.List.{length-take-le}
 use Rattle.std.proofs.lemmas.Result.{err_from_is_err_and}
 use Rattle.qoi.specs.declared.encode.piece.TheConstants.{PIECE}
 use Rattle.qoi.specs.Qoi.{start}
-use Rattle.qoi.specs.inner.Piece.{kept_bytes}
 use Rattle.qoi.proofs.encoding.CoderTable.{state_none}
 use Rattle.qoi.proofs.encoding.PieceByPiece.{piece_starts, piece_filled, piece_fits, piece_went, piece_part, piece_ends}
 use Rattle.qoi.proofs.encode.coder.encode_pixels.Goals as goal

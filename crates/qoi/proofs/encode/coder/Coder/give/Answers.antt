@@ -1,5 +1,5 @@
 -- The chunk is chosen by the table.
-use Rattle.std.proofs.Common.{◌≡◌, ◌≢◌, ◌↔◌, ◌<◌, ◌%◌, ◌/◌, ◌^◌, IsTrue, slice_index, sym, ap, ◌∙◌, arith, subst, take, ◌++◌, [], ◌∷◌, if◌then◌else◌}
+use Rattle.std.proofs.Common.{◌≡◌, ◌≢◌, ◌%◌, ◌/◌, ◌^◌, slice_index, sym, ap, ◌∙◌, arith, subst, take, ◌++◌, [], ◌∷◌, if◌then◌else◌}
 use lib.Lanes.{digits_l}
 use Rattle.qoi.specs.Qoi.{hash, seen}
 use Rattle.qoi.specs.Written.{IsFirst}

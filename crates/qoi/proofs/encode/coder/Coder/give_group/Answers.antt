@@ -1,5 +1,5 @@
 -- The runs, and then the chunk.
-use Rattle.std.proofs.Common.{◌≡◌, ◌≢◌, ◌<◌, ◌≤◌, ◌+◌, ℕ, suc, [], ◌∷◌, ◌++◌, replicate, inl, inr, Some, take, drop, slice_index, refl, sym, ap, ◌∙◌, arith, subst}
+use Rattle.std.proofs.Common.{◌≡◌, ◌≢◌, ◌<◌, ◌+◌, ℕ, suc, ◌∷◌, ◌++◌, replicate, inl, inr, Some, take, drop, slice_index, sym, ap, ◌∙◌, arith, subst}
 use Rattle.std.specs.List.{slice_get}
 use Rattle.qoi.specs.Qoi.{IsPixel, previous}
 use Rattle.qoi.specs.inner.Quad.{IsRun}
@@ -7,7 +7,7 @@ use Rattle.std.proofs.lemmas.List.{drop-drop}
 use Rattle.qoi.specs.Runs.{IsCount}
 use Rattle.qoi.specs.inner.CoderState.{StateAfter, rest_of_one}
 use Rattle.qoi.specs.inner.CoderLoop.{AtLane}
-use Rattle.qoi.specs.inner.Packed.{word, pixel_of_word}
+use Rattle.qoi.specs.inner.Packed.{pixel_of_word}
 use Rattle.qoi.proofs.format.LaneRuns.{all_agree}
 use Rattle.qoi.proofs.encoding.CoderSteps.{runs_given}
 use Rattle.qoi.proofs.encoding.QuadGroups.{count_other, before_run, differ, lane_pixel, last_packed}

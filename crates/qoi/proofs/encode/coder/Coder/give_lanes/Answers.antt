@@ -1,5 +1,5 @@
 -- Four fresh pixels, or group after group.
-use Rattle.std.proofs.Common.{◌≡◌, ◌<◌, sym, ◌∙◌, arith, subst}
+use Rattle.std.proofs.Common.{sym, ◌∙◌, subst}
 use Rattle.qoi.specs.Qoi.{IsPixel}
 use Rattle.qoi.proofs.encoding.QuadSteps.{four_lanes, quad_is, quad_starts, all_fresh}
 use Rattle.qoi.proofs.encode.coder.Coder.give_lanes.Goals as goal

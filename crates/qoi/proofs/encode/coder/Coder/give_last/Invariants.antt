@@ -1,5 +1,5 @@
 -- The pixels up to here are written.
-use Rattle.std.proofs.Common.{◌≡◌, ◌+◌, ◌*◌, ◌%◌, ◌<◌, ◌≤◌, length, take}
+use Rattle.std.proofs.Common.{◌≡◌, ◌+◌, ◌*◌, ◌%◌, ◌≤◌, length, take}
 use Rattle.qoi.specs.Raw.{pixels_of}
 use Rattle.qoi.specs.inner.CoderLoop.{Writing, CoderBetween}
 use Rattle.qoi.proofs.encode.coder.Coder.give_last.Given as goal

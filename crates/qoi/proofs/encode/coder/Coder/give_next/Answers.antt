@@ -1,9 +1,9 @@
 -- The runs, and the fresh pixel behind them.
-use Rattle.std.proofs.Common.{◌≡◌, ◌≢◌, ◌<◌, ◌*◌, ◌+◌, ◌%◌, ◌∷◌, length, take, drop, slice_index, Some, sym, ap, ◌∙◌, arith, subst, eqb-true}
+use Rattle.std.proofs.Common.{◌≡◌, ◌≢◌, ◌<◌, ◌*◌, ◌%◌, ◌∷◌, length, take, drop, slice_index, Some, sym, ap, ◌∙◌, arith, subst}
 use Rattle.std.specs.List.{AllByRecursion, slice_get}
 use Rattle.std.proofs.lemmas.Bool.{eqb-false}
 use Rattle.std.proofs.lemmas.List.{length-drop}
-use Rattle.qoi.specs.Qoi.{RgbaPixel, IsPixel, rgba}
+use Rattle.qoi.specs.Qoi.{IsPixel, rgba}
 use Rattle.qoi.specs.Raw.{pixels_of}
 use Rattle.qoi.specs.inner.CoderLoop.{CoderBetween}
 use Rattle.qoi.specs.inner.Packed.{word, pixel_of_word}

@@ -1,9 +1,9 @@
 -- The repeats at the front, or four pixels of which one is fresh.
-use Rattle.std.proofs.Common.{◌≡◌, ◌<◌, ◌/◌, ◌^◌, ◌∷◌, length, take, sym, ap, ◌∙◌, arith, subst}
+use Rattle.std.proofs.Common.{◌≡◌, ◌/◌, ◌^◌, length, take, sym, ap, ◌∙◌, arith, subst}
 use Rattle.qoi.specs.Raw.{pixels_of}
 use Rattle.qoi.specs.inner.CoderLoop.{CoderBetween}
 use Rattle.qoi.specs.inner.Quad.{AreFourAfter}
-use Rattle.qoi.proofs.format.LaneRuns.{all_agree, first_agrees}
+use Rattle.qoi.proofs.format.LaneRuns.{first_agrees}
 use Rattle.qoi.proofs.encoding.GroupRuns.{pixels_drop}
 use Rattle.qoi.proofs.encoding.QuadLoop.{quad_opaque, opaque_words, word_alpha}
 use Rattle.qoi.proofs.encoding.QuadSteps.{four_read, four_lanes, first_same, few_lanes}
