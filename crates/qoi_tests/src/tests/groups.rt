@@ -1,4 +1,5 @@
-//! Groups of repeats that begin at each pixel of a quad, by the plain encoder: runs, and what is left.
+//! Groups of repeats that begin at each pixel of a quad, by the plain encoder: runs, and what is
+//! left.
 use crate::tests::support::generator::Rgba;
 use crate::tests::support::rows::Row;
 use crate::tests::support::texts::assert_number;
@@ -6,9 +7,9 @@ use qoi::{Channels, Result, Style};
 use std::alloc::Global;
 use std::process::Abort;
 
-// Fresh pixels in front of a group, for three channels and for four. Each green is 64 or more from the
-// one before it, modulo 256: so the first three and the last are RGB or RGBA chunks. Those between came
-// before, and are index positions.
+// Fresh pixels in front of a group, for three channels and for four. Each green is 64 or more from
+// the one before it, modulo 256: so the first three and the last are RGB or RGBA chunks. Those
+// between came before, and are index positions.
 #[derive(Clone, Copy)]
 struct Front {
     channels: Channels,
@@ -33,8 +34,8 @@ const FRONTS: [Front; 2] = [
     },
 ];
 
-// The pixels behind a group: the first is an RGB or RGBA chunk as well. Then come index positions, a
-// repeat behind one of them, and a repeat at the end.
+// The pixels behind a group: the first is an RGB or RGBA chunk as well. Then come index positions,
+// a repeat behind one of them, and a repeat at the end.
 const E: Rgba = [150, 16, 160, 255];
 
 const F: Rgba = [170, 112, 180, 255];
@@ -45,8 +46,8 @@ const BEHIND: [Rgba; 8] = [E, F, E, E, F, G, E, E];
 
 const STYLES: [Style; 3] = [Style::Reference, Style::Places, Style::Tight];
 
-// Some fresh pixels, so many repeats of the last one, and so many pixels behind them. Where no pixel
-// stands in front, opaque black is repeated.
+// Some fresh pixels, so many repeats of the last one, and so many pixels behind them. Where no
+// pixel stands in front, opaque black is repeated.
 fn pixels_of(alloc: Global, front: &[Rgba], repeats: usize, behind: usize) -> Result<Vec<Rgba>> {
     let mut pixels = Vec::from_slice(alloc, front)?;
     let last = match front.last() {
@@ -90,15 +91,15 @@ fn groups_that_begin_at_each_pixel_of_a_quad(rt: HostRuntime) -> Result<()> {
     Ok(())
 }
 
-// Encodes a million repeats behind three fresh pixels, in each style: 16,129 runs of 62 and one of 2.
-// The file has so many bytes.
+// Encodes a million repeats behind three fresh pixels, in each style: 16,129 runs of 62 and one of
+// 2. The file has so many bytes.
 fn assert_million(rt: &impl Abort, alloc: Global, fronts: Front, size: usize) -> Result<()> {
     let [one, two, three, ..] = fronts.pixels;
     let pixels = pixels_of(alloc, &[one, two, three], 1_000_000, 1)?;
     for style in STYLES {
         let row = Row::new(alloc, fronts.channels, style, &pixels)?;
         assert_number(rt, row.file.len(), size);
-        row.check(rt, alloc)?;
+        row.check_vec(rt, alloc)?;
     }
     Ok(())
 }

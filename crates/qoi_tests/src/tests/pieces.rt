@@ -1,5 +1,5 @@
-//! Files that go out in more than one piece of 4096 bytes, by the plain encoder: chunks and end marker
-//! end just before, at and just behind the end of a piece.
+//! Files that go out in more than one piece of 4096 bytes, by the plain encoder: chunks and end
+//! marker end just before, at and just behind the end of a piece.
 ghost use Rattle.std.specs.Prelude.{◌<◌};
 
 use crate::tests::support::generator::{Numbers, Rgba, START};
@@ -71,7 +71,7 @@ const TAILS: [Tail; 7] = [
     Tail {
         kind: Kind::Run,
         bytes: 1,
-        times: 20,
+        times: 12,
     },
     Tail {
         kind: Kind::Rgba,
@@ -134,8 +134,8 @@ impl Drawing {
         self.push(px)
     }
 
-    // Adds the pixels of a kind. The new ones have another index position than the one before: among equal
-    // steps none comes again while it is noted.
+    // Adds the pixels of a kind. The new ones have another index position than the one before:
+    // among equal steps none comes again while it is noted.
     fn step(&mut self, kind: Kind) -> Result<()> {
         match kind {
             Kind::Difference => self.add([1, 0, 0, 0]),
@@ -192,42 +192,57 @@ fn assert_size(
     Ok(())
 }
 
-// Encodes images of which the file, or the header and the chunks, have as many bytes as one piece or
-// two, and up to ten or two more or fewer.
-fn assert_sizes(rt: &impl Abort, alloc: Global, style: Style) -> Result<()> {
-    for channels in [Channels::Rgb, Channels::Rgba] {
-        for (pieces, most) in [(4096, 10usize), (8192, 2)] {
-            for bytes in pieces - most..=pieces + most {
-                assert_size(rt, alloc, channels, style, bytes - 22)?;
-                assert_size(rt, alloc, channels, style, bytes - 14)?;
-            }
+// How many bytes the chunks have. With header and end marker, 22 bytes, or with the header alone,
+// 14, they are one piece and up to ten bytes more or fewer, or two pieces and up to two.
+const SIZES: [(usize, usize); 3] = [(4064, 4092), (8168, 8172), (8176, 8180)];
+
+// Encodes images of each of these sizes.
+fn assert_sizes(rt: &impl Abort, alloc: Global, channels: Channels, style: Style) -> Result<()> {
+    for (least, most) in SIZES {
+        for size in least..=most {
+            assert_size(rt, alloc, channels, style, size)?;
         }
     }
     Ok(())
 }
 
 #[test]
-fn files_close_to_whole_pieces_reference(rt: HostRuntime) -> Result<()> {
-    assert_sizes(&rt, rt.alloc(), Style::Reference)
+fn files_close_to_whole_pieces_reference_rgb(rt: HostRuntime) -> Result<()> {
+    assert_sizes(&rt, rt.alloc(), Channels::Rgb, Style::Reference)
 }
 
 #[test]
-fn files_close_to_whole_pieces_places(rt: HostRuntime) -> Result<()> {
-    assert_sizes(&rt, rt.alloc(), Style::Places)
+fn files_close_to_whole_pieces_reference_rgba(rt: HostRuntime) -> Result<()> {
+    assert_sizes(&rt, rt.alloc(), Channels::Rgba, Style::Reference)
 }
 
 #[test]
-fn files_close_to_whole_pieces_tight(rt: HostRuntime) -> Result<()> {
-    assert_sizes(&rt, rt.alloc(), Style::Tight)
+fn files_close_to_whole_pieces_places_rgb(rt: HostRuntime) -> Result<()> {
+    assert_sizes(&rt, rt.alloc(), Channels::Rgb, Style::Places)
 }
 
-// Draws an image of 2,200 steps of all kinds, of which one of 40 at most is a run.
+#[test]
+fn files_close_to_whole_pieces_places_rgba(rt: HostRuntime) -> Result<()> {
+    assert_sizes(&rt, rt.alloc(), Channels::Rgba, Style::Places)
+}
+
+#[test]
+fn files_close_to_whole_pieces_tight_rgb(rt: HostRuntime) -> Result<()> {
+    assert_sizes(&rt, rt.alloc(), Channels::Rgb, Style::Tight)
+}
+
+#[test]
+fn files_close_to_whole_pieces_tight_rgba(rt: HostRuntime) -> Result<()> {
+    assert_sizes(&rt, rt.alloc(), Channels::Rgba, Style::Tight)
+}
+
+// Draws an image of 2,200 steps of all kinds, of which few are runs.
 fn draw(alloc: Global, numbers: &mut Numbers, channels: Channels) -> Result<Vec<Rgba>> {
     let mut drawing = Drawing::new(alloc);
     for _ in 0..2200 {
         let drawn = numbers.below(allowed(channels)) as usize;
         match KINDS.get(drawn) {
-            Some(Kind::Run) if numbers.below(8) > 0 => drawing.step(Kind::Rgb)?,
+            Some(Kind::Run) if numbers.below(40) > 0 => drawing.step(Kind::Rgb)?,
             Some(kind) => drawing.step(*kind)?,
             None => {}
         }
@@ -235,17 +250,19 @@ fn draw(alloc: Global, numbers: &mut Numbers, channels: Channels) -> Result<Vec<
     Ok(drawing.pixels)
 }
 
-// Chunks of all lengths in any order, at the ends of pieces, too.
+// Chunks of all lengths in any order, at the ends of pieces, too. The writer takes all of a piece,
+// or less.
 #[test]
 fn drawn_files_in_pieces(rt: HostRuntime) -> Result<()> {
     let mut numbers = Numbers::new(0x91ece5);
     for style in [Style::Reference, Style::Places, Style::Tight] {
         for channels in [Channels::Rgb, Channels::Rgba] {
-            for _ in 0..60 {
+            for _ in 0..10 {
                 let pixels = draw(rt.alloc(), &mut numbers, channels)?;
                 let row = Row::new(rt.alloc(), channels, style, &pixels)?;
                 assert!(rt; row.file.len() > 4096);
                 row.check(&rt, rt.alloc())?;
+                row.sent(&rt, rt.alloc(), 1000)?;
                 row.check_pieces(&rt, rt.alloc())?;
             }
         }

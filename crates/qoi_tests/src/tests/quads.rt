@@ -1,12 +1,13 @@
-//! Short images of three pixels that come again and again, by the plain encoder: repeats, pixels that
-//! came before, and pixels that share an index position, side by side in every order.
+//! Short images of three pixels that come again and again, by the plain encoder: repeats, pixels
+//! that came before, and pixels that share an index position, side by side in every order.
 use crate::tests::support::generator::{Numbers, Rgba};
 use crate::tests::support::rows::Row;
 use qoi::{Channels, Result, Style};
 use std::alloc::Global;
 use std::process::Abort;
 
-// Pixels that images are drawn from. The first two share an index position, which the third has not.
+// Pixels that images are drawn from. The first two share an index position, which the third has
+// not.
 #[derive(Clone, Copy)]
 struct Alphabet {
     channels: Channels,

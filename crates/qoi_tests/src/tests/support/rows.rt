@@ -55,17 +55,29 @@ impl Row {
         Ok(encoder.with_style(self.style))
     }
 
-    /// Encodes the row by each of the encoder's methods, compares with the file, and decodes it back.
+    /// Encodes the row by each of the encoder's methods, compares with the file, and decodes it
+    /// back.
     pub fn check(&self, rt: &impl Abort, alloc: Global) -> Result<()> {
         assert_writes(rt, alloc, &self.encoder()?, &self.header, &self.file)?;
+        self.check_back(rt, alloc)
+    }
+
+    /// Encodes the row to a vector, compares with the file, and decodes it back.
+    pub fn check_vec(&self, rt: &impl Abort, alloc: Global) -> Result<()> {
+        assert_bytes(rt, &self.encoder()?.encode_to_vec(alloc)?, &self.file);
+        self.check_back(rt, alloc)
+    }
+
+    // Decodes the file back.
+    fn check_back(&self, rt: &impl Abort, alloc: Global) -> Result<()> {
         let (header, raw) = decode_to_vec(alloc, &self.file)?;
         assert_header(rt, &header, &self.header);
         assert_bytes(rt, &raw, &self.raw);
         Ok(())
     }
 
-    // Encodes the row to a writer that takes at most so many bytes a call, and all of the file.
-    fn sent(&self, rt: &impl Abort, alloc: Global, most: usize) -> Result<Sink> {
+    /// Encodes the row to a writer that takes at most so many bytes a call, and all of the file.
+    pub fn sent(&self, rt: &impl Abort, alloc: Global, most: usize) -> Result<Sink> {
         let mut writer = Sink::new(alloc, most, NONE)?;
         let size = self.encoder()?.encode_to_stream(&mut writer)?;
         assert_number(rt, size, self.file.len());
@@ -73,10 +85,9 @@ impl Row {
         Ok(writer)
     }
 
-    /// Encodes the row to writers: in calls of a piece, and a last one of what is left. Each of the calls
-    /// fails once, and the pieces before it have gone out.
+    /// Encodes the row to writers: in calls of a piece, and a last one of what is left. Each of the
+    /// calls fails once, and the pieces before it have gone out.
     pub fn check_pieces(&self, rt: &impl Abort, alloc: Global) -> Result<()> {
-        self.sent(rt, alloc, 1000)?;
         let calls = self.file.len().div_ceil(PIECE);
         assert_number(rt, self.sent(rt, alloc, usize::MAX)?.calls, calls);
         for before in 0..calls {
