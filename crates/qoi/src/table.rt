@@ -58,7 +58,8 @@ impl Table {
     #[inline(always)]
     pub(crate) fn put_if(&mut self, puts: bool, place: u8, px: Packed)
         requires { place ≡ hash px }
-        ensures puts { IsTrue puts → (past : Past) → Holds self.old past → Holds self.new (px ∷ past) }
+        ensures puts { IsTrue puts → (past : Past) → Holds self.old past
+            → Holds self.new (px ∷ past) }
         ensures stays { IsFalse puts → self.new ≡ self.old }
     {
         let held = self.pixels[place as usize];

@@ -348,7 +348,8 @@ impl Coder {
         ensures whole { length result.now % N ≡ 0 }
         ensures opaque { N ≡ 3 → self.new.last.a ≡ 255 }
         ensures given { (w : Writing) → w.style ≡ style
-            → CoderBetween w (pixels_of N «data».entry.now) table.old self.old (kept_bytes piece.old)
+            → CoderBetween w (pixels_of N «data».entry.now) table.old self.old
+            (kept_bytes piece.old)
             → CoderBetween w (pixels_of N result.now) table.new self.new (kept_bytes piece.new) }
     {
         let mut end = piece.end;
@@ -474,7 +475,8 @@ fn encode_pixels<W: Writer, const N: usize>(
     requires room { piece.old.end + (length «data».now + length «data».now / N) ≤ W.room buf.old }
     ensures end { OnOk result (piece.new.end < PIECE + 32) }
     ensures written { OnOk result ((cs : List Chunk) × WrittenIn style (pixels_of N «data».now) cs
-        × WroteBut W.wrote buf.old (kept_bytes piece.old ++ text cs) (kept_bytes piece.new) buf.new) }
+        × WroteBut W.wrote buf.old (kept_bytes piece.old ++ text cs) (kept_bytes piece.new)
+        buf.new) }
     ensures refused { IfErr result (λ e. W.Refuses e × (cs : List Chunk)
         × WrittenIn style (pixels_of N «data».now) cs
         × WroteSome W.wrote buf.old (kept_bytes piece.old ++ text cs) buf.new) }
@@ -507,7 +509,8 @@ pub(super) fn encode_chunks<W: Writer>(
     ensures end { OnOk result (piece.new.end < PIECE + 32) }
     ensures written { OnOk result ((cs : List Chunk)
         × WrittenIn style (pixels_of (channels_number channels) «data».now) cs
-        × WroteBut W.wrote buf.old (kept_bytes piece.old ++ text cs) (kept_bytes piece.new) buf.new) }
+        × WroteBut W.wrote buf.old (kept_bytes piece.old ++ text cs) (kept_bytes piece.new)
+        buf.new) }
     ensures refused { IfErr result (λ e. W.Refuses e × (cs : List Chunk)
         × WrittenIn style (pixels_of (channels_number channels) «data».now) cs
         × WroteSome W.wrote buf.old (kept_bytes piece.old ++ text cs) buf.new) }
