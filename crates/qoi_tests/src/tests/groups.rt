@@ -91,29 +91,44 @@ fn groups_that_begin_at_each_pixel_of_a_quad(rt: HostRuntime) -> Result<()> {
     Ok(())
 }
 
-// Encodes a million repeats behind three fresh pixels, in each style: 16,129 runs of 62 and one of
-// 2. The file has so many bytes.
-fn assert_million(rt: &impl Abort, alloc: Global, fronts: Front, size: usize) -> Result<()> {
-    let [one, two, three, ..] = fronts.pixels;
-    let pixels = pixels_of(alloc, &[one, two, three], 1_000_000, 1)?;
-    for style in STYLES {
-        let row = Row::new(alloc, fronts.channels, style, &pixels)?;
-        assert_number(rt, row.file.len(), size);
-        row.check_vec(rt, alloc)?;
+// Encodes a million repeats that begin at each pixel of a quad, in each style: 16,129 runs of 62 and
+// one of 2, behind 0 to 3 fresh pixels. The files have so many bytes.
+fn assert_million(rt: &impl Abort, alloc: Global, fronts: Front, sizes: [usize; 4]) -> Result<()> {
+    for n in 0..4 {
+        if let Some(front) = fronts.pixels.get(..n) {
+            let pixels = pixels_of(alloc, front, 1_000_000, 1)?;
+            for style in STYLES {
+                let row = Row::new(alloc, fronts.channels, style, &pixels)?;
+                assert_number(rt, row.file.len(), sizes[n]);
+                row.check_vec(rt, alloc)?;
+            }
+        }
     }
     Ok(())
 }
 
-// Four RGB chunks.
+// The header, an RGB chunk for each fresh pixel, the runs, the RGB chunk behind them, the end marker.
 #[test]
 fn a_million_repeats_rgb(rt: HostRuntime) -> Result<()> {
     let [fronts, _] = FRONTS;
-    assert_million(&rt, rt.alloc(), fronts, 14 + 3 * 4 + 16_129 + 1 + 4 + 8)
+    let sizes = [
+        14 + 16_130 + 4 + 8,
+        14 + 4 + 16_130 + 4 + 8,
+        14 + 2 * 4 + 16_130 + 4 + 8,
+        14 + 3 * 4 + 16_130 + 4 + 8,
+    ];
+    assert_million(&rt, rt.alloc(), fronts, sizes)
 }
 
-// Four RGBA chunks.
+// The fresh pixels are RGBA chunks. The pixel behind the runs is one too, but behind opaque black.
 #[test]
 fn a_million_repeats_rgba(rt: HostRuntime) -> Result<()> {
     let [_, fronts] = FRONTS;
-    assert_million(&rt, rt.alloc(), fronts, 14 + 3 * 5 + 16_129 + 1 + 5 + 8)
+    let sizes = [
+        14 + 16_130 + 4 + 8,
+        14 + 5 + 16_130 + 5 + 8,
+        14 + 2 * 5 + 16_130 + 5 + 8,
+        14 + 3 * 5 + 16_130 + 5 + 8,
+    ];
+    assert_million(&rt, rt.alloc(), fronts, sizes)
 }
