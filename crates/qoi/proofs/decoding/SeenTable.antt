@@ -3,7 +3,6 @@ use Rattle.std.proofs.Common.{◌≡◌, inl, inr, ℕ, zero, suc, ◌<◌, Bool
 use Rattle.qoi.specs.declared.chunk.Chunk.{Chunk}
 use Rattle.qoi.specs.declared.chunk.Chunk.TheVariants.{Run}
 use Rattle.qoi.specs.Qoi.{RgbaPixel, Past, previous, seen, hash, times}
-use Rattle.qoi.specs.inner.Filling.{HasSeen}
 use Rattle.qoi.specs.inner.Table.{Holds}
 use Rattle.qoi.proofs.format.ChunkSteps.{cases_run, times_other}
 
@@ -30,13 +29,6 @@ pub previous_copies : (n : ℕ) (p : RgbaPixel) (past : Past) → 0 < n → prev
 previous_copies zero p past h = absurd (omega arith)
 previous_copies (suc n) p past h = refl
 
--- the state after a pixel that was put at its index position
-pub seen_put : (table : List RgbaPixel) (p : RgbaPixel) (past : Past) → Holds table (p ∷ past) → HasSeen table p (p ∷ past)
-seen_put table p past held = record { table_is = held; last_is = refl }
-
--- the state after a pixel, put once, is that after some copies of it
-pub seen_repeated : (table : List RgbaPixel) (p last : RgbaPixel) (past : Past) (n : ℕ) → 0 < n → HasSeen table last (p ∷ past) → HasSeen table last (replicate n p ++ past)
-seen_repeated table p last past n some h = record {
-  table_is = λ i l. h.table_is i l ∙ ap Some (sym (seen_copies n p past i some));
-  last_is = h.last_is ∙ sym (previous_copies n p past some);
-}
+-- the table after a pixel, put once, is that after some copies of it
+pub holds_copies : (table : List RgbaPixel) (p : RgbaPixel) (past : Past) (n : ℕ) → 0 < n → Holds table (p ∷ past) → Holds table (replicate n p ++ past)
+holds_copies table p past n some h i l = h i l ∙ ap Some (sym (seen_copies n p past i some))

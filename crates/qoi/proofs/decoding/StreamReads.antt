@@ -1,5 +1,5 @@
 -- What was read from a stream, piece after piece.
-use Rattle.std.proofs.Common.{◌≡◌, ℕ, zero, suc, ◌+◌, ◌<◌, ◌≤◌, ◌-◌, ◌⊎◌, inl, inr, List, [], ◌∷◌, ◌++◌, length, get_or, take, Option, Result, IfErr, arith, refl, sym, ap, ◌∙◌, append-nil}
+use Rattle.std.proofs.Common.{◌≡◌, ℕ, zero, suc, ◌+◌, ◌<◌, ◌≤◌, ◌-◌, ◌⊎◌, inl, inr, List, [], ◌∷◌, ◌++◌, length, get_or, take, drop, take-append-drop, Option, Result, IfErr, arith, refl, sym, ap, ◌∙◌, append-nil}
 use Rattle.std.proofs.lemmas.List.{take-append-le, length-take-le}
 use Rattle.std.proofs.Math.Seq.{take-append-add}
 use Rattle.std.specs.Io.KnownBytes.{Consumes}
@@ -10,10 +10,10 @@ use Rattle.qoi.specs.declared.error.Error.{Error}
 use Rattle.qoi.specs.declared.error.Error.TheVariants.{InvalidMagic, InvalidChannels, InvalidColorSpace, InvalidImageDimensions, InvalidImageLength, OutputBufferTooSmall, UnexpectedBufferEnd, InvalidPadding, IoError, OutOfMemory}
 use Rattle.qoi.specs.declared.chunk.Chunk.{Chunk}
 use Rattle.qoi.specs.declared.chunk.Chunk.TheVariants.{Place, Diff, Run, Rgb, Rgba}
-use Rattle.qoi.specs.inner.Filling.{GivesFirst}
+use Rattle.qoi.specs.inner.Filling.{Filling, GivesChunk}
 use Rattle.qoi.proofs.format.ChunksApart.{chunks_apart}
 use Rattle.std.proofs.lemmas.Bool.{cases_lt}
-use Rattle.qoi.specs.Qoi.{AreBytes, RgbaPixel, IsChunk, AreChunks, bytes_of, text, Reaches}
+use Rattle.qoi.specs.Qoi.{AreBytes, IsChunk, AreChunks, bytes_of, text, Reaches}
 use Rattle.qoi.specs.Verdicts.{IsPartOfChunk}
 use Rattle.qoi.specs.Decoding.{EndsInChunk, StreamsPixels, HasCut, RefusesTaken, RefusesTakenMarker}
 use Rattle.qoi.proofs.format.PartOfChunk.{byte_and, part_luma, part_rgb, part_rgba}
@@ -53,11 +53,11 @@ abbrev pub IsChunkAhead : List ℕ → List ℕ → Type 0
 IsChunkAhead bytes taken = (c : Chunk) × (rest : List ℕ) × IsChunk c × (taken ≡ bytes_of c) × (bytes ≡ bytes_of c ++ rest)
 
 -- of such bytes the chunk was given that was taken
-pub gives_taken : {f c : ℕ} {bytes rest : List ℕ} {table : List RgbaPixel} {last : RgbaPixel} {out : List ℕ} {at : ℕ} {table' : List RgbaPixel} {last' : RgbaPixel} {out' : List ℕ} {end : ℕ} (taken : List ℕ) → IsChunkAhead bytes taken
-    → GivesFirst f c bytes rest table last out at table' last' out' end → GivesFirst f c taken [] table last out at table' last' out' end
-gives_taken taken (c, more, is_chunk, taken_is, bytes_are) first =
-    let same = chunks_apart c first.chunk more _ is_chunk first.is_chunk (sym bytes_are ∙ first.split) in
-    record { chunk = first.chunk; is_chunk = first.is_chunk; split = taken_is ∙ ap bytes_of same.0 ∙ sym (append-nil (bytes_of first.chunk)); gives = first.gives }
+pub gives_taken : {f c : ℕ} {old new : Filling} (bytes : List ℕ) (size : ℕ) (taken : List ℕ) → IsChunkAhead bytes taken → GivesChunk f c (take size bytes) old new → GivesChunk f c taken old new
+gives_taken bytes size taken (c, more, is_chunk, taken_is, bytes_are) first =
+    let split = sym (take-append-drop size bytes) ∙ ap (λ z. z ++ drop size bytes) first.bytes_are in
+    let same = chunks_apart c first.chunk more (drop size bytes) is_chunk first.is_chunk (sym bytes_are ∙ split) in
+    record { chunk = first.chunk; is_chunk = first.is_chunk; bytes_are = taken_is ∙ ap bytes_of same.0; gives = first.gives }
 
 -- an index position's, a difference's and a run's byte are a chunk of their own
 pub alone_ahead : (b : ℕ) (zeros : List ℕ) → (b < 128) ⊎ ((192 ≤ b) × (b < 254)) → IsChunkAhead (b ∷ zeros) (b ∷ [])

@@ -13,7 +13,7 @@ use Rattle.qoi.specs.Styles.{has_pixel, names, choice_in}
 use Rattle.qoi.specs.inner.CoderState.{held_in, StateAfter, StyleAfter}
 use Rattle.qoi.proofs.format.ChunkSteps.{previous_repeats}
 use Rattle.qoi.proofs.format.SamePixels.{hash_below}
-use Rattle.qoi.proofs.decoding.SeenTable.{seen_put, seen_repeated}
+use Rattle.qoi.proofs.decoding.SeenTable.{holds_copies, previous_copies}
 use Rattle.qoi.proofs.encoding.SpelledLanes.{place_bytes}
 use Rattle.qoi.proofs.encoding.NotedPixels.{fresh_repeat, fresh_more}
 use Rattle.qoi.proofs.encoding.TightChoice.{seen_kept, tight_no_place}
@@ -101,9 +101,8 @@ state_unput style n past table last (inr is) s = rw is (record { table_is = repe
 -- repeats that are put, in style Tight
 pub state_put_again : (n : ℕ) (past : Past) (old table : List RgbaPixel) (last : RgbaPixel) → 0 < n → StateAfter Tight past old last → ((seen : Past) → Holds old seen → Holds table (last ∷ seen)) → StateAfter Tight (replicate n (previous past) ++ past) table last
 state_put_again n past old table last some s puts =
-    let once = seen_put table (previous past) past (subst (λ p. Holds table (p ∷ past)) s.last_is (puts past s.table_is)) in
-    let all = seen_repeated table (previous past) (previous past) past n some once in
-    record { table_is = all.table_is; last_is = s.last_is ∙ all.last_is }
+    let once = subst (λ p. Holds table (p ∷ past)) s.last_is (puts past s.table_is) in
+    record { table_is = holds_copies table (previous past) past n some once; last_is = s.last_is ∙ sym (previous_copies n (previous past) past some) }
 
 -- repeats that are put if there are any
 pub state_put_some : (n : ℕ) (past : Past) (old table : List RgbaPixel) (last : RgbaPixel) → (IsTrue (nat_lt 0 n) → (seen : Past) → Holds old seen → Holds table (last ∷ seen)) → (IsFalse (nat_lt 0 n) → table ≡ old)

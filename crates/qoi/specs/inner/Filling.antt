@@ -1,5 +1,5 @@
 -- A buffer that is filled with pixels, and the state of a decoder between two chunks.
-use Rattle.std.specs.Prelude.{◌≡◌, ℕ, ◌*◌, List, ◌++◌, length, take, reverse, replicate, min}
+use Rattle.std.specs.Prelude.{◌≡◌, ℕ, ◌*◌, ◌%◌, List, ◌++◌, length, take, reverse, replicate, min}
 use Rattle.qoi.specs.declared.chunk.Chunk.{Chunk}
 use Rattle.qoi.specs.Qoi.{RgbaPixel, Past, previous, IsChunk, bytes_of, times, then_chunk}
 use Rattle.qoi.specs.inner.Table.{Holds}
@@ -11,19 +11,34 @@ pub record HasFilled (file channels n : ℕ) (out : List ℕ) (at : ℕ) (past :
   pub at_is : at ≡ channels * min n (length past)
   pub same : take at out ≡ take at (output file channels (reverse past))
 
--- what a decoder keeps after these pixels: the table of all of them, and the last pixel
-pub record HasSeen (table : List RgbaPixel) (last : RgbaPixel) (past : Past) : Type 0 where
-  pub table_is : Holds table past
-  pub last_is : last ≡ previous past
+-- both are numbers of bytes of whole pixels
+abbrev pub IsWholePixels : ℕ → ℕ → ℕ → Type 0
+IsWholePixels channels size at = (size % channels ≡ 0) × (at % channels ≡ 0)
 
--- the pixels of a chunk were seen, and written from `at` to `end`
-pub record Gives (file channels : ℕ) (chunk : Chunk) (table : List RgbaPixel) (last : RgbaPixel) (out : List ℕ) (at : ℕ) (table' : List RgbaPixel) (last' : RgbaPixel) (out' : List ℕ) (end : ℕ) : Type 0 where
-  pub seen : (past : Past) → HasSeen table last past → HasSeen table' last' (then_chunk past chunk)
-  pub filled : (n : ℕ) (past : Past) → HasFilled file channels n out at past → HasFilled file channels n out' end (replicate (times chunk) last' ++ past)
+-- what a decoder keeps between two chunks: the table, the last pixel, the output, and how many bytes of it are written
+pub record Filling : Type 0 where
+  pub table : List RgbaPixel
+  pub last : RgbaPixel
+  pub out : List ℕ
+  pub at : ℕ
 
--- the bytes begin with a chunk, and its pixels were seen and written
-pub record GivesFirst (file channels : ℕ) (bytes rest : List ℕ) (table : List RgbaPixel) (last : RgbaPixel) (out : List ℕ) (at : ℕ) (table' : List RgbaPixel) (last' : RgbaPixel) (out' : List ℕ) (end : ℕ) : Type 0 where
+-- these four
+abbrev pub filling : List RgbaPixel → RgbaPixel → List ℕ → ℕ → Filling
+filling table last out at = record { table = table; last = last; out = out; at = at }
+
+-- the table of all of these pixels, and the last of them
+pub record HasSeen (s : Filling) (past : Past) : Type 0 where
+  pub table_is : Holds s.table past
+  pub last_is : s.last ≡ previous past
+
+-- the pixels of a chunk were seen, and written behind the others
+pub record Gives (file channels : ℕ) (chunk : Chunk) (old new : Filling) : Type 0 where
+  pub seen : (past : Past) → HasSeen old past → HasSeen new (then_chunk past chunk)
+  pub filled : (n : ℕ) (past : Past) → HasFilled file channels n old.out old.at past → HasFilled file channels n new.out new.at (replicate (times chunk) new.last ++ past)
+
+-- the bytes are those of a chunk, and its pixels were seen and written
+pub record GivesChunk (file channels : ℕ) (bytes : List ℕ) (old new : Filling) : Type 0 where
   pub chunk : Chunk
   pub is_chunk : IsChunk chunk
-  pub split : bytes ≡ bytes_of chunk ++ rest
-  pub gives : Gives file channels chunk table last out at table' last' out' end
+  pub bytes_are : bytes ≡ bytes_of chunk
+  pub gives : Gives file channels chunk old new

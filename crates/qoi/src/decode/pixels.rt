@@ -2,7 +2,8 @@
 ghost use Rattle.std.specs.Prelude.{◌≡◌, ℕ, ◌+◌, ◌*◌, ◌/◌, ◌%◌, ◌<◌, ◌≤◌, [], ◌∷◌, ◌++◌, length, take, drop, replicate, nat_le, nat_lt, ◌&&◌};
 ghost use Rattle.qoi.specs.Qoi.{Past, seen, after_diff, after_luma};
 ghost use Rattle.qoi.specs.Raw.{IsChannels, pixel_bytes, output};
-ghost use Rattle.qoi.specs.inner.Filling.{HasFilled, HasSeen, GivesFirst};
+ghost use Rattle.qoi.specs.inner.Filling.{HasFilled, IsWholePixels, GivesChunk, filling};
+ghost use Rattle.qoi.specs.inner.Table.{Holds};
 
 use crate::consts::{QOI_OP_DIFF, QOI_OP_RGB, QOI_OP_RGBA, QOI_OP_RUN};
 use crate::decode::deltas::{delta, nibbles};
@@ -10,59 +11,20 @@ use crate::packed::{Packed, Spread, pick};
 use crate::table::Table;
 use std::simd::u8x16;
 
-// What chunks can name: the pixels that were put at the 64 index positions, and the last pixel.
-#[derive(Drop)]
-pub(super) struct Seen {
-    table: Table,
-    last: Spread,
-}
-
-impl Seen {
-    // Before the first chunk: transparent black at each index position, and opaque black.
-    pub(super) fn new() -> Seen
-        ensures { HasSeen result.table result.last [] }
-    {
-        Seen {
-            table: Table::new(),
-            last: Spread::start(),
-        }
-    }
-
-    // The last pixel.
-    #[inline(always)]
-    fn last(&self) -> Spread
-        ensures { result ≡ self.now.last }
-    {
-        self.last
-    }
-
-    // The pixel of a chunk that is an index position, a difference, a luma or a run of 1, by its first
-    // byte and the one after it, which only a luma has. All of them are found without a jump.
-    #[inline(always)]
-    fn short_pixel(&self, b1: u8, b2: u8) -> Spread
-        requires { b1 ≤ 192 }
-        ensures place { b1 < 64 → (past : Past) → HasSeen self.now.table self.now.last past
-            → result ≡ seen past b1 }
-        ensures diff { 64 ≤ b1 → b1 < 128 → result ≡ after_diff self.now.last b1 }
-        ensures luma { 128 ≤ b1 → b1 < 192 → result ≡ after_luma self.now.last b1 b2 }
-        ensures run { b1 ≡ 192 → result ≡ self.now.last }
-    {
-        let more = pick(is_luma(b1), nibbles(b2), 0);
-        let moved = self.last.moved(delta(b1) + more);
-        let noted = self.table.at(b1 % 64).spread();
-        pick(b1 < QOI_OP_DIFF, noted, moved)
-    }
-
-    // Makes a pixel the last one, and puts it at its index position.
-    #[inline(always)]
-    fn put(&mut self, px: Spread)
-        ensures last { self.new.last ≡ px }
-        ensures seen { (past : Past) → HasSeen self.old.table self.old.last past
-            → HasSeen self.new.table self.new.last (px ∷ past) }
-    {
-        self.table.put(px.hash_index(), px.packed());
-        self.last = px;
-    }
+// The pixel of a chunk that is an index position, a difference, a luma or a run of 1, by its first byte
+// and the one after it, which only a luma has. All of them are found without a jump.
+#[inline(always)]
+fn short_pixel(table: &Table, last: Spread, b1: u8, b2: u8) -> Spread
+    requires { b1 ≤ 192 }
+    ensures place { b1 < 64 → (past : Past) → Holds table.now past → result ≡ seen past b1 }
+    ensures diff { 64 ≤ b1 → b1 < 128 → result ≡ after_diff last b1 }
+    ensures luma { 128 ≤ b1 → b1 < 192 → result ≡ after_luma last b1 b2 }
+    ensures run { b1 ≡ 192 → result ≡ last }
+{
+    let more = pick(is_luma(b1), nibbles(b2), 0);
+    let moved = last.moved(delta(b1) + more);
+    let noted = table.at(b1 % 64).spread();
+    pick(b1 < QOI_OP_DIFF, noted, moved)
 }
 
 // Whether a chunk with this first byte is a luma.
@@ -152,7 +114,7 @@ fn fill<const N: usize, const F: usize>(
     count: usize,
 ) -> usize
     requires channels { IsChannels N }
-    requires whole { (length out.old % N ≡ 0) × (at % N ≡ 0) }
+    requires whole { IsWholePixels N (length out.old) at }
     requires within { at ≤ length out.old }
     requires short { count ≤ 62 }
     ensures filled { (n : ℕ) (past : Past) → HasFilled F N n out.old at past
@@ -170,96 +132,115 @@ fn fill<const N: usize, const F: usize>(
     at + N * all
 }
 
-// Makes a pixel the last one, puts it at its index position, writes it at `at`, and returns where it
-// stopped.
+// Puts a pixel at its index position, writes it at `at`, and returns where the output stopped.
 #[inline(always)]
 fn give_pixel<const N: usize, const F: usize>(
-    seen: &mut Seen,
+    table: &mut Table,
     px: Spread,
     out: &mut [u8],
     at: usize,
 ) -> usize
     requires channels { IsChannels N }
-    requires whole { (length out.old % N ≡ 0) × (at % N ≡ 0) }
+    requires whole { IsWholePixels N (length out.old) at }
     requires inside { at < length out.old }
-    ensures last { seen.new.last ≡ px }
-    ensures seen { (past : Past) → HasSeen seen.old.table seen.old.last past
-        → HasSeen seen.new.table seen.new.last (px ∷ past) }
+    ensures table { (past : Past) → Holds table.old past → Holds table.new (px ∷ past) }
     ensures filled { (n : ℕ) (past : Past) → HasFilled F N n out.old at past
         → HasFilled F N n out.new result (px ∷ past) }
     ensures whole { result % N ≡ 0 }
     ensures within { (at < result) × (result ≤ length out.new) }
 {
-    seen.put(px);
-    write_pixel::<N, F>(out, at, px.packed());
+    let packed = px.packed();
+    table.put(px.hash_index(), packed);
+    write_pixel::<N, F>(out, at, packed);
     at + N
 }
 
-// Gives the last pixel again, `count` times, and as far as there is room, and returns where it
+// Gives the last pixel again, `count` times, and as far as there is room, and returns where the output
 // stopped.
 #[inline(always)]
 fn give_run<const N: usize, const F: usize>(
-    seen: &mut Seen,
+    table: &mut Table,
+    px: Spread,
     count: usize,
     out: &mut [u8],
     at: usize,
 ) -> usize
     requires channels { IsChannels N }
-    requires whole { (length out.old % N ≡ 0) × (at % N ≡ 0) }
+    requires whole { IsWholePixels N (length out.old) at }
     requires inside { at < length out.old }
     requires some { (0 < count) × (count ≤ 62) }
-    ensures last { seen.new.last ≡ seen.old.last }
-    ensures seen { (past : Past) → HasSeen seen.old.table seen.old.last past
-        → HasSeen seen.new.table seen.new.last (replicate count seen.old.last ++ past) }
+    ensures table { (past : Past) → Holds table.old past
+        → Holds table.new (replicate count px ++ past) }
     ensures filled { (n : ℕ) (past : Past) → HasFilled F N n out.old at past
-        → HasFilled F N n out.new result (replicate count seen.old.last ++ past) }
+        → HasFilled F N n out.new result (replicate count px ++ past) }
     ensures whole { result % N ≡ 0 }
     ensures within { (at < result) × (result ≤ length out.new) }
 {
-    let px = seen.last;
-    seen.put(px);
-    fill::<N, F>(out, at, px.packed(), count)
+    let packed = px.packed();
+    table.put(px.hash_index(), packed);
+    fill::<N, F>(out, at, packed, count)
 }
 
-// Gives the pixels of the chunk that the bytes begin with, and returns how many bytes it has and where
-// the output stopped. Eight bytes have any chunk whole, and a byte after a short one.
+// What a chunk leaves: how many bytes it has, the pixel that is the last one then, and where the output
+// stopped.
+#[derive(Clone, Copy)]
+pub(super) struct Given {
+    pub(super) taken: usize,
+    pub(super) last: Spread,
+    pub(super) at: usize,
+}
+
+// Gives the pixels of the chunk that the bytes begin with. Eight bytes have any chunk whole, and a byte
+// after a short one.
 #[inline(always)]
 pub(super) fn give_first<const N: usize, const F: usize>(
-    seen: &mut Seen,
+    table: &mut Table,
+    last: Spread,
     bytes: &[u8],
     out: &mut [u8],
     at: usize,
-) -> (usize, usize)
+) -> Given
     requires channels { IsChannels N }
     requires long { 8 ≤ length bytes.now }
-    requires whole { (length out.old % N ≡ 0) × (at % N ≡ 0) }
+    requires whole { IsWholePixels N (length out.old) at }
     requires inside { at < length out.old }
-    ensures taken { result.0 ≤ length bytes.now }
-    ensures gives { GivesFirst F N bytes.now (drop result.0 bytes.now) seen.old.table
-        seen.old.last out.old at seen.new.table seen.new.last out.new result.1 }
-    ensures whole { result.1 % N ≡ 0 }
-    ensures within { (at < result.1) × (result.1 ≤ length out.new) }
+    ensures taken { result.taken ≤ length bytes.now }
+    ensures gives { GivesChunk F N (take result.taken bytes.now)
+        (filling table.old last out.old at)
+        (filling table.new result.last out.new result.at) }
+    ensures whole { result.at % N ≡ 0 }
+    ensures within { (at < result.at) × (result.at ≤ length out.new) }
 {
     let b1 = bytes[0];
     match b1 {
         0..=QOI_OP_RUN => {
-            let px = seen.short_pixel(b1, bytes[1]);
-            (
-                1 + usize::from(is_luma(b1)),
-                give_pixel::<N, F>(seen, px, out, at),
-            )
+            let px = short_pixel(table, last, b1, bytes[1]);
+            Given {
+                taken: 1 + usize::from(is_luma(b1)),
+                last: px,
+                at: give_pixel::<N, F>(table, px, out, at),
+            }
         }
         QOI_OP_RGB => {
-            let px = seen.last().with_rgb(bytes[1], bytes[2], bytes[3]);
-            (4, give_pixel::<N, F>(seen, px, out, at))
+            let px = last.with_rgb(bytes[1], bytes[2], bytes[3]);
+            Given {
+                taken: 4,
+                last: px,
+                at: give_pixel::<N, F>(table, px, out, at),
+            }
         }
         QOI_OP_RGBA => {
             let px = Spread::new(bytes[1], bytes[2], bytes[3], bytes[4]);
-            (5, give_pixel::<N, F>(seen, px, out, at))
+            Given {
+                taken: 5,
+                last: px,
+                at: give_pixel::<N, F>(table, px, out, at),
+            }
         }
-        _ => (
-            1,
-            give_run::<N, F>(seen, (b1 - (QOI_OP_RUN - 1)) as usize, out, at),
-        ),
+        _ => Given {
+            taken: 1,
+            last,
+            at: give_run::<N, F>(table, last, (b1 - (QOI_OP_RUN - 1)) as usize, out, at),
+        },
     }
 }

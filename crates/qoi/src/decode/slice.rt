@@ -5,8 +5,10 @@ ghost use Rattle.qoi.specs.Qoi.{end_marker};
 ghost use Rattle.qoi.specs.Decoding.{HasCut, ReadsPixels, ReadsImage, RefusesMarker, RefusesBytes};
 
 use crate::consts::{QOI_PADDING, QOI_PADDING_SIZE};
-use crate::decode::pixels::{Seen, give_first};
+use crate::decode::pixels::give_first;
 use crate::error::{Error, Result};
+use crate::packed::Spread;
+use crate::table::Table;
 
 // Decodes chunks until `out` is full, and gives the bytes after them. Where fewer than eight bytes are
 // left before that, the file is cut, since its end marker alone has eight.
@@ -19,17 +21,19 @@ fn slice_chunks<'a, const N: usize, const F: usize>(
     ensures { MatchOption result (HasCut (length out.old / N) «data».entry.now)
         (λ rest. ReadsPixels F N (length out.old / N) «data».entry.now rest.now out.new) }
 {
-    let mut seen = Seen::new();
+    let mut table = Table::new();
+    let mut last = Spread::start();
     let mut rest = data;
     let mut at = 0;
     while at < out.len() {
         if rest.len() < QOI_PADDING_SIZE {
             return None;
         }
-        let (taken, end) = give_first::<N, F>(&mut seen, rest, out, at);
-        let (_, after) = rest.split_at(taken);
+        let given = give_first::<N, F>(&mut table, last, rest, out, at);
+        let (_, after) = rest.split_at(given.taken);
         rest = after;
-        at = end;
+        last = given.last;
+        at = given.at;
     }
     Some(rest)
 }

@@ -5,13 +5,15 @@ ghost use Rattle.qoi.specs.Qoi.{AreBytes, end_marker};
 ghost use Rattle.qoi.specs.Raw.{IsChannels};
 ghost use Rattle.qoi.specs.Verdicts.{IsPartOfChunk};
 ghost use Rattle.qoi.specs.Decoding.{EndsInChunk, StreamsPixels, ReadsImage, RefusesTaken, RefusesTakenMarker};
-ghost use Rattle.qoi.specs.inner.Filling.{GivesFirst};
+ghost use Rattle.qoi.specs.inner.Filling.{IsWholePixels, GivesChunk, filling};
 ghost use Rattle.qoi.specs.inner.Taken.{HasTaken};
 
 use crate::chunk::QOI_OP_LUMA_END;
 use crate::consts::{QOI_OP_LUMA, QOI_OP_RGB, QOI_OP_RGBA, QOI_PADDING, QOI_PADDING_SIZE};
-use crate::decode::pixels::{Seen, give_first};
+use crate::decode::pixels::{Given, give_first};
 use crate::error::{Error, Result};
+use crate::packed::Spread;
+use crate::table::Table;
 use std::io;
 use std::io::{ErrorKind, Read};
 
@@ -57,23 +59,24 @@ fn read_one<R: Read>(reader: &mut R) -> io::Result<u8>
     Ok(one[0])
 }
 
-// Reads one chunk from a stream, and no byte past it, gives its pixels, and returns where the output
-// stopped.
+// Reads one chunk from a stream, and no byte past it, and gives its pixels.
 #[inline(always)]
 fn next_chunk<R: Read, const N: usize, const F: usize>(
     reader: &mut R,
-    seen: &mut Seen,
+    table: &mut Table,
+    last: Spread,
     out: &mut [u8],
     at: usize,
-) -> io::Result<usize>
+) -> io::Result<Given>
     requires channels { IsChannels N }
-    requires whole { (length out.old % N ≡ 0) × (at % N ≡ 0) }
+    requires whole { IsWholePixels N (length out.old) at }
     requires inside { at < length out.old }
-    ensures read { IfOk result (λ end. HasTaken (R.remaining reader.old) (R.remaining reader.new)
-        (λ taken. GivesFirst F N taken [] seen.old.table seen.old.last out.old at
-        seen.new.table seen.new.last out.new end)) }
-    ensures whole { IfOk result (λ end. end % N ≡ 0) }
-    ensures within { IfOk result (λ end. (at < end) × (end ≤ length out.new)) }
+    ensures read { IfOk result (λ given.
+        HasTaken (R.remaining reader.old) (R.remaining reader.new)
+        (λ taken. GivesChunk F N taken (filling table.old last out.old at)
+        (filling table.new given.last out.new given.at))) }
+    ensures whole { IfOk result (λ given. given.at % N ≡ 0) }
+    ensures within { IfOk result (λ given. (at < given.at) × (given.at ≤ length out.new)) }
     ensures failed { OnErr result (HasTaken (R.remaining reader.old) (R.remaining reader.new)
         IsPartOfChunk) }
 {
@@ -81,21 +84,21 @@ fn next_chunk<R: Read, const N: usize, const F: usize>(
     match b1 {
         QOI_OP_LUMA..=QOI_OP_LUMA_END => {
             let b2 = read_one(reader)?;
-            Ok(give_first::<N, F>(seen, &[b1, b2, 0, 0, 0, 0, 0, 0], out, at).1)
+            Ok(give_first::<N, F>(table, last, &[b1, b2, 0, 0, 0, 0, 0, 0], out, at))
         }
         QOI_OP_RGB => {
             let mut more = [0, 0, 0];
             read_all(reader, &mut more)?;
             let bytes = [b1, more[0], more[1], more[2], 0, 0, 0, 0];
-            Ok(give_first::<N, F>(seen, &bytes, out, at).1)
+            Ok(give_first::<N, F>(table, last, &bytes, out, at))
         }
         QOI_OP_RGBA => {
             let mut more = [0, 0, 0, 0];
             read_all(reader, &mut more)?;
             let bytes = [b1, more[0], more[1], more[2], more[3], 0, 0, 0];
-            Ok(give_first::<N, F>(seen, &bytes, out, at).1)
+            Ok(give_first::<N, F>(table, last, &bytes, out, at))
         }
-        _ => Ok(give_first::<N, F>(seen, &[b1, 0, 0, 0, 0, 0, 0, 0], out, at).1),
+        _ => Ok(give_first::<N, F>(table, last, &[b1, 0, 0, 0, 0, 0, 0, 0], out, at)),
     }
 }
 
@@ -111,10 +114,13 @@ fn stream_chunks<R: Read, const N: usize, const F: usize>(
     ensures failed { OnErr result (HasTaken (R.remaining reader.old) (R.remaining reader.new)
         (EndsInChunk (length out.old / N))) }
 {
-    let mut seen = Seen::new();
+    let mut table = Table::new();
+    let mut last = Spread::start();
     let mut at = 0;
     while at < out.len() {
-        at = next_chunk::<R, N, F>(reader, &mut seen, out, at)?;
+        let given = next_chunk::<R, N, F>(reader, &mut table, last, out, at)?;
+        last = given.last;
+        at = given.at;
     }
     Ok(())
 }

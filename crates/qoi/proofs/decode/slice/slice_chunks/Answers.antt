@@ -1,19 +1,20 @@
 -- A chunk more is taken, and at the end the buffer is full or the bytes are cut.
-use Rattle.std.proofs.Common.{length, ◌/◌, ◌++◌, refl, sym, ap, ◌∙◌, subst, arith}
-use Rattle.qoi.specs.Qoi.{AreBytes, bytes_of}
+use Rattle.std.proofs.Common.{take, ◌++◌, refl, sym, ap, ◌∙◌, subst, arith, take-append-drop}
+use Rattle.qoi.specs.Qoi.{AreBytes}
 use Rattle.qoi.proofs.format.SomeVerdict.{bytes_after_front}
 use Rattle.qoi.proofs.decoding.Progress.{SplitAt, start_so_far, goes_on, split_more, reads_pixels, few_left}
 use Rattle.qoi.proofs.decode.slice.slice_chunks.Goals as goal
 
 pub loop-at-init : goal.loop-at-init
-loop-at-init g c = start_so_far g.row.F g.row.N (SplitAt c.args.data.now c.args.data.now) c.args.out.now _ _ c.requires.channels c.requires.whole c.new-seen.ensures refl
+loop-at-init g c = start_so_far g.row.F g.row.N (SplitAt c.args.data.now c.args.data.now) _ _ c.args.out.now c.requires.channels c.requires.whole c.new-table.ensures c.start-last.ensures refl
 
 pub loop-at-preserved : goal.loop-at-preserved
 loop-at-preserved g c =
-    let first = c.give_first-taken.ensures.gives in
-    goes_on first.chunk c.requires.channels c.loop-at.invariant c.loop-at-test.true first.is_chunk
-    (split_more c.args.data.now c.loop-at.rest.now _ first.chunk (first.split ∙ ap (λ z. bytes_of first.chunk ++ z) (sym c.split_at.ensures.back)))
-    first.gives.seen (first.gives.filled (length c.args.out.now / g.row.N)) c.give_first-taken.ensures.within.1 c.give_first-taken.ensures.whole
+    let rest = c.loop-at.rest.now in
+    let taken = c.give_first-given.result.taken in
+    goes_on c.requires.channels c.loop-at.invariant c.loop-at-test.true c.give_first-given.ensures.gives
+    (split_more c.args.data.now rest _ (take taken rest) (sym (take-append-drop taken rest) ∙ ap (λ z. take taken rest ++ z) (sym c.split_at.ensures.back)))
+    c.give_first-given.ensures.within.1 c.give_first-given.ensures.whole
 
 pub returns : goal.returns
 returns g c =

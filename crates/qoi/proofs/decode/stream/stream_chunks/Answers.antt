@@ -1,23 +1,22 @@
 -- A chunk more is taken, and at the end the buffer is full.
-use Rattle.std.proofs.Common.{length, ◌/◌, append-nil, ◌∙◌, subst}
-use Rattle.std.specs.Io.KnownBytes.{Consumes}
-use Rattle.std.proofs.KnownBytes.{Consumes-trans}
-use Rattle.qoi.specs.Qoi.{bytes_of}
+use Rattle.std.proofs.KnownBytes.{Consumes-nil, Consumes-trans}
 use Rattle.qoi.proofs.Results.{on_err}
-use Rattle.qoi.proofs.decoding.Progress.{goes_on, streams_pixels, stream_ends}
+use Rattle.qoi.proofs.decoding.Progress.{start_so_far, goes_on, streams_pixels, stream_ends}
 use Rattle.qoi.proofs.decode.stream.stream_chunks.Goals as goal
 
-pub returns-in_err-at-clause-failed : goal.returns-in_err-at-clause-failed
-returns-in_err-at-clause-failed g c =
-    let f = c.in_err-at.ensures.failed in
+pub returns-in_err-given-clause-failed : goal.returns-in_err-given-clause-failed
+returns-in_err-given-clause-failed g c =
+    let f = c.in_err-given.ensures.failed in
     on_err _ (stream_ends _ _ _ f.0 c.requires.channels c.loop-at.invariant c.loop-at-test.true f.1 f.2)
+
+pub loop-at-init : goal.loop-at-init
+loop-at-init g c = start_so_far g.row.F g.row.N _ _ _ c.args.out.now c.requires.channels c.requires.whole c.new-table.ensures c.start-last.ensures (Consumes-nil _)
 
 pub loop-at-preserved : goal.loop-at-preserved
 loop-at-preserved g c =
-    let (taken, took, first) = c.in_ok-at.ensures.read in
-    goes_on first.chunk c.requires.channels c.loop-at.invariant c.loop-at-test.true first.is_chunk
-    (λ bytes before. Consumes-trans _ _ _ bytes _ before (subst (Consumes _ _) (first.split ∙ append-nil (bytes_of first.chunk)) took))
-    first.gives.seen (first.gives.filled (length c.args.out.now / g.row.N)) c.in_ok-at.ensures.within.1 c.in_ok-at.ensures.whole
+    let (taken, took, given) = c.in_ok-given.ensures.read in
+    goes_on c.requires.channels c.loop-at.invariant c.loop-at-test.true given (λ before so_far. Consumes-trans _ _ _ before _ so_far took)
+    c.in_ok-given.ensures.within.1 c.in_ok-given.ensures.whole
 
 pub returns-clause-read : goal.returns-clause-read
 returns-clause-read g c =

@@ -3,7 +3,7 @@ use Rattle.std.proofs.Common.{◌≡◌, ◌+◌, ◌/◌, ◌%◌, arith}
 use Rattle.std.proofs.lemmas.Bool.Decides.{nat_tests}
 use Rattle.qoi.specs.Qoi.{after_diff, after_luma}
 use Rattle.qoi.specs.inner.Packed.{lanes}
-use Rattle.qoi.proofs.decode.pixels.Seen.short_pixel.Goals as goal
+use Rattle.qoi.proofs.decode.pixels.short_pixel.Goals as goal
 
 pub returns-clause-diff : goal.returns-clause-diff
 unfolding after_diff
