@@ -136,17 +136,24 @@ pub room_after : (c at done k all len : ℕ) → IsChannels c → done + k ≤ a
 room_after c at done k all len (inl e) = subst (λ d. done + k ≤ all → at + d * all ≤ len → (at + d * done + d * k ≤ len) × (0 < k → at + d * done < len)) (sym e) (λ p q. (omega arith, λ r. omega arith))
 room_after c at done k all len (inr e) = subst (λ d. done + k ≤ all → at + d * all ≤ len → (at + d * done + d * k ≤ len) × (0 < k → at + d * done < len)) (sym e) (λ p q. (omega arith, λ r. omega arith))
 
--- where a block of sixteen bytes begins within the copies, its whole pixels have room
-pub record BlockRoom (c at done count len : ℕ) : Type 0 where
-  pub more : done + 16 / c ≤ count + 4
+-- a block of sixteen bytes has room, and so have its whole pixels
+pub record BlockRoom (c at done len : ℕ) : Type 0 where
   pub inside : at + c * done < len
   pub fits : at + c * done + c * (16 / c) ≤ len
   pub block : at + c * done + 16 ≤ len
 
--- so it is where sixteen bytes have room behind the copies
-pub block_room : (c at done count len : ℕ) → IsChannels c → done < count → at + c * count + 16 ≤ len → BlockRoom c at done count len
-block_room c at done count len (inl e) = subst (λ d. done < count → at + d * count + 16 ≤ len → BlockRoom d at done count len) (sym e) (λ p q. record { more = omega arith; inside = omega arith; fits = omega arith; block = omega arith })
-block_room c at done count len (inr e) = subst (λ d. done < count → at + d * count + 16 ≤ len → BlockRoom d at done count len) (sym e) (λ p q. record { more = omega arith; inside = omega arith; fits = omega arith; block = omega arith })
+-- two blocks, one behind the other, of which the first begins within the copies
+pub record TwoBlocks (c at done count len : ℕ) : Type 0 where
+  pub first : BlockRoom c at done len
+  pub second : BlockRoom c at (done + 16 / c) len
+  pub more : done + 2 * (16 / c) ≤ count + 9
+
+-- they have room where thirty-two bytes have room behind the copies
+pub two_blocks : (c at done count len : ℕ) → IsChannels c → done < count → at + c * count + 32 ≤ len → TwoBlocks c at done count len
+two_blocks c at done count len (inl e) = subst (λ d. done < count → at + d * count + 32 ≤ len → TwoBlocks d at done count len) (sym e)
+    (λ p q. record { first = record { inside = omega arith; fits = omega arith; block = omega arith }; second = record { inside = omega arith; fits = omega arith; block = omega arith }; more = omega arith })
+two_blocks c at done count len (inr e) = subst (λ d. done < count → at + d * count + 32 ≤ len → TwoBlocks d at done count len) (sym e)
+    (λ p q. record { first = record { inside = omega arith; fits = omega arith; block = omega arith }; second = record { inside = omega arith; fits = omega arith; block = omega arith }; more = omega arith })
 
 -- the place after some pixels and then more of them
 pub after_both : (c at m k : ℕ) → IsChannels c → at + c * m + c * k ≡ at + c * (m + k)

@@ -74,19 +74,20 @@ fn write_block<const N: usize, const F: usize>(out: &mut [u8], at: usize, px: Pa
     block::<N, F>(px).copy_to_slice(&mut out[at..at + 16]);
 }
 
-// Writes a pixel `count` times from `at` on, by blocks; what the last block writes past them is
-// written again later.
+// Writes a pixel `count` times from `at` on, by two blocks at a time; what the last two write past them
+// is written again later.
 #[inline(always)]
 fn fill_blocks<const N: usize, const F: usize>(out: &mut [u8], at: usize, px: Packed, count: usize)
     requires channels { IsChannels N }
-    requires room { at + N * count + 16 ≤ length out.old }
+    requires room { at + N * count + 32 ≤ length out.old }
     ensures { (n : ℕ) (past : Past) → HasFilled F N n out.old at past
         → HasFilled F N n out.new (at + N * count) (replicate count px ++ past) }
 {
     let mut done = 0;
     while done < count {
         write_block::<N, F>(out, at + N * done, px);
-        done += 16 / N;
+        write_block::<N, F>(out, at + N * (done + 16 / N), px);
+        done += 2 * (16 / N);
     }
 }
 
@@ -123,7 +124,7 @@ fn fill<const N: usize, const F: usize>(
     ensures within { (at ≤ result) × (result ≤ length out.new) }
     ensures further { at < length out.old → 0 < count → at < result }
 {
-    if N * count + 16 <= out.len() - at {
+    if N * count + 32 <= out.len() - at {
         fill_blocks::<N, F>(out, at, px, count);
         return at + N * count;
     }

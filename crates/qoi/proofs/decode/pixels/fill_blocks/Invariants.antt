@@ -6,7 +6,7 @@ use Rattle.qoi.proofs.decode.pixels.fill_blocks.Given as goal
 
 abbrev pub invariant-loop-done : goal.invariant-loop-done
 invariant-loop-done g l =
-    (l.done ≤ l.count + 4) × ((n : ℕ) (past : Past) → HasFilled g.row.F g.row.N n l.initial.out l.at past
+    (l.done ≤ l.count + 9) × ((n : ℕ) (past : Past) → HasFilled g.row.F g.row.N n l.initial.out l.at past
     → HasFilled g.row.F g.row.N n l.out (l.at + g.row.N * l.done) (replicate l.done l.px ++ past))
 
 abbrev pub decreases-loop-done : goal.decreases-loop-done
