@@ -1,5 +1,5 @@
 //! Pixels as single numbers: packed into 32 bits, and spread over 64.
-ghost use Rattle.std.specs.Prelude.{◌≡◌, ◌↔◌, ◌+◌, ◌*◌, ◌%◌, ◌^◌, ◌<◌, ◌≤◌, ℕ, length, take, drop, replicate, IsTrue, if◌then◌else◌};
+ghost use Rattle.std.specs.Prelude.{◌≡◌, ◌↔◌, ◌+◌, ◌*◌, ◌%◌, ◌^◌, ◌<◌, ◌≤◌, ℕ, [], ◌∷◌, length, take, drop, replicate, IsTrue, if◌then◌else◌};
 ghost use Rattle.qoi.specs.Qoi.{IsPixel, pixel, rgba, start, blank, hash, moved};
 ghost use Rattle.qoi.specs.Raw.{IsChannels, output};
 ghost use Rattle.qoi.specs.inner.Packed.{word, pixel_of_word, lanes, spread};
@@ -148,6 +148,14 @@ impl Packed {
         ensures { result ≡ self.a }
     {
         (self.0 / 0x100_0000) as u8
+    }
+
+    /// Red, green, blue and alpha.
+    #[inline(always)]
+    pub(crate) fn bytes(self) -> [u8; 4]
+        ensures { result ≡ self.r ∷ self.g ∷ self.b ∷ self.a ∷ [] }
+    {
+        self.0.to_le_bytes()
     }
 
     /// Its number.

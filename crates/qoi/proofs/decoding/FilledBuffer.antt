@@ -1,6 +1,6 @@
 -- A buffer that is filled with pixels, one after the other.
-use Rattle.std.proofs.Common.{◌≡◌, ℕ, zero, suc, ◌+◌, ◌-◌, ◌*◌, ◌/◌, ◌%◌, ◌<◌, ◌≤◌, ◌⊎◌, inl, inr, List, [], ◌∷◌, ◌++◌, length, take, drop, reverse, replicate, min, arith, refl, sym, ap, ◌∙◌, subst, append-nil, append_assoc, length-append}
-use Rattle.std.proofs.lemmas.List.{take-take, length-reverse, reverse-append, take-append-le, take_at, length-take-le, length-replicate, reverse-reverse}
+use Rattle.std.proofs.Common.{◌≡◌, ℕ, zero, suc, ◌+◌, ◌-◌, ◌*◌, ◌/◌, ◌%◌, ◌<◌, ◌≤◌, ◌⊎◌, inl, inr, List, [], ◌∷◌, ◌++◌, length, take, reverse, replicate, min, arith, refl, sym, ap, ◌∙◌, subst, append-nil, length-append}
+use Rattle.std.proofs.lemmas.List.{take-take, length-reverse, reverse-append, take-append-le, length-replicate, reverse-reverse}
 use Rattle.std.proofs.Math.Seq.{take-length, take-append-add}
 use Rattle.std.proofs.Math.Nat.{mul-suc}
 use Rattle.std.proofs.lemmas.Bool.{cases_lt}
@@ -99,20 +99,18 @@ filled_list f c n out new at past ps is inside fits size e h =
     }
 
 -- a pixel alone is written
-pub pixel_written : (f c : ℕ) (out new : List ℕ) (at : ℕ) (p : RgbaPixel) → IsChannels c → at + c ≤ length out → new ≡ take at out ++ (pixel_bytes f c p ++ drop (at + c) out) → take (at + c * 1) new ≡ take at out ++ output f c (replicate 1 p)
-pixel_written f c out new at p is room e =
+pub pixel_written : (f c : ℕ) (out new : List ℕ) (at : ℕ) (p : RgbaPixel) → take (at + c) new ≡ take at out ++ pixel_bytes f c p → take (at + c * 1) new ≡ take at out ++ output f c (replicate 1 p)
+pixel_written f c out new at p e =
     let one : c * 1 ≡ c = omega arith in
     let bytes : output f c (replicate 1 p) ≡ pixel_bytes f c p = append-nil (pixel_bytes f c p) in
-    let front = take at out ++ pixel_bytes f c p in
-    let many : length front ≡ at + c = omega (arith, length-append (take at out) (pixel_bytes f c p), length-take-le at out (omega arith), length-pixel_bytes f c p is) in
-    rw (one, bytes) (ap (take (at + c)) (e ∙ sym (append_assoc (take at out) (pixel_bytes f c p) (drop (at + c) out))) ∙ take_at front (drop (at + c) out) (at + c) many)
+    rw (one, bytes) e
 
 -- and the buffer is filled with it too
-pub filled_more : (f c n : ℕ) (out new : List ℕ) (at : ℕ) (past : Past) (p : RgbaPixel) → IsChannels c → at < length out → at + c ≤ length out → length new ≡ length out → new ≡ take at out ++ (pixel_bytes f c p ++ drop (at + c) out)
+pub filled_more : (f c n : ℕ) (out new : List ℕ) (at : ℕ) (past : Past) (p : RgbaPixel) → IsChannels c → at < length out → at + c ≤ length out → length new ≡ length out → take (at + c) new ≡ take at out ++ pixel_bytes f c p
     → HasFilled f c n out at past → HasFilled f c n new (at + c) (p ∷ past)
 filled_more f c n out new at past p is inside room size e h =
     let one : c * 1 ≡ c = omega arith in
-    subst (λ k. HasFilled f c n new (at + k) (p ∷ past)) one (filled_list f c n out new at past (p ∷ []) is inside (rw one room) size (pixel_written f c out new at p is room e) h)
+    subst (λ k. HasFilled f c n new (at + k) (p ∷ past)) one (filled_list f c n out new at past (p ∷ []) is inside (rw one room) size (pixel_written f c out new at p e) h)
 
 -- where the buffer is full, further pixels change nothing
 pub filled_full : (f c n : ℕ) (out : List ℕ) (at : ℕ) (past more : Past) → IsChannels c → HasFilled f c n out at past → length out ≤ at → HasFilled f c n out at (more ++ past)

@@ -35,19 +35,20 @@ fn is_luma(b1: u8) -> bool
     b1 / 64 == 2
 }
 
-// Writes a pixel at `at` in `N` channels, of a file of `F` channels.
+// Writes a pixel at `at` in `N` channels, of a file of `F` channels. Where there is room for it, a byte
+// more is written behind three, and written again later.
 #[inline(always)]
 fn write_pixel<const N: usize, const F: usize>(out: &mut [u8], at: usize, px: Packed)
     requires channels { IsChannels N }
     requires room { at + N ≤ length out.old }
-    ensures { out.new ≡ take at out.old ++ (pixel_bytes F N px ++ drop (at + N) out.old) }
+    ensures { take (at + N) out.new ≡ take at out.old ++ pixel_bytes F N px }
 {
-    let (r, g, b) = (px.r(), px.g(), px.b());
-    if N == 3 {
-        out[at..at + 3].copy_from_slice(&[r, g, b]);
+    let px = if F == 4 { px } else { px.opaque() };
+    let four = px.bytes();
+    if at + 4 <= out.len() {
+        out[at..at + 4].copy_from_slice(&four);
     } else {
-        let a = if F == 4 { px.a() } else { 0xff };
-        out[at..at + 4].copy_from_slice(&[r, g, b, a]);
+        out[at..at + 3].copy_from_slice(&four[..3]);
     }
 }
 
