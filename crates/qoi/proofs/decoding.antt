@@ -4,6 +4,7 @@ pub mod Deltas
 pub mod FilledBuffer
 pub mod FirstChunk
 pub mod ImageSize
+pub mod LeastBytes
 pub mod OneFile
 pub mod Progress
 pub mod Refusals

@@ -1,11 +1,11 @@
 -- What decoding an image returns and takes, and what its refusals say.
-use Rattle.std.specs.Prelude.{◌≡◌, ◌≢◌, ℕ, ◌*◌, ◌<◌, ◌≤◌, ◌⊎◌, List, [], ◌++◌, length, take, drop, Bool, true, false, Option, Result, Ok, Err, IfSome}
+use Rattle.std.specs.Prelude.{◌≡◌, ◌≢◌, ℕ, ◌+◌, ◌/◌, ◌*◌, ◌<◌, ◌≤◌, ◌⊎◌, List, [], ◌++◌, length, take, drop, Bool, true, false, Option, Some, Result, Ok, Err, IfSome}
 use Rattle.std.specs.Io.KnownBytes.{Consumes, Keeps}
 use Rattle.qoi.specs.declared.error.Error.{Error}
 use Rattle.qoi.specs.declared.error.Error.TheVariants.{OutputBufferTooSmall, UnexpectedBufferEnd, InvalidPadding, IoError}
 use Rattle.qoi.specs.declared.header.Header.{Header}
 use Rattle.qoi.specs.declared.chunk.Chunk.{Chunk}
-use Rattle.qoi.specs.Qoi.{header_size, AreChunks, text, Reaches, meaning, IsFile, end_marker, file, file_pixels, channels_number, head, header_of, pixel_count, IsValid}
+use Rattle.qoi.specs.Qoi.{header_size, run_max, AreChunks, text, Reaches, meaning, IsFile, end_marker, file, file_pixels, channels_number, head, header_of, pixel_count, IsValid}
 use Rattle.qoi.specs.Raw.{output}
 use Rattle.qoi.specs.Verdicts.{IsPartOfChunk, Takes, IsWhole, IsCut, IsWrong}
 
@@ -67,6 +67,16 @@ abbrev pub RefusesTakenMarker : List ℕ → Error → Type 0
 RefusesTakenMarker taken (IoError e) = length taken < 8
 RefusesTakenMarker taken InvalidPadding = (length taken ≡ 8) × (taken ≢ end_marker)
 RefusesTakenMarker taken _ = ⊥
+
+-- how many bytes the chunks of n pixels and the end marker have at least: a chunk has a byte or more, and gives 62
+-- pixels at most
+abbrev pub least_byte_count : ℕ → ℕ
+least_byte_count n = (n + 61) / run_max + 8
+
+-- the bytes that stand ahead are enough for n pixels, or may be: nobody knows what a stream has ahead
+abbrev pub CouldHold : Bool → ℕ → Option (List ℕ) → Type 0
+CouldHold true n (Some bytes) = least_byte_count n ≤ length bytes
+CouldHold in_memory n ahead = Unit {0}
 
 -- A refused image. In memory nothing is taken, and the bytes ahead are cut or wrong. On a stream the bytes that
 -- were taken are cut, or they are wrong and end with the eight bytes.

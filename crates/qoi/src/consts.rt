@@ -13,6 +13,9 @@ pub const QOI_OP_RGB: u8 = 0xfe;
 /// The byte that an RGBA chunk begins with.
 pub const QOI_OP_RGBA: u8 = 0xff;
 
+/// The longest run of one chunk, in pixels.
+pub(crate) const QOI_RUN_MAX: usize = 62;
+
 /// The two high bits, which tell the chunks of one and two bytes apart.
 pub const QOI_MASK_2: u8 = 0xc0;
 

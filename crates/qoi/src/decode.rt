@@ -1,11 +1,11 @@
 //! Decoding, from slices and from streams.
-ghost use Rattle.std.specs.Prelude.{◌≡◌, ℕ, ◌<◌, ◌≤◌, List, ◌++◌, length, take, drop, Option, Some, MatchResult, IfOk, IfErr, IsOk, IsErrOf, IsOkUnless, ◌⊎◌, true, false, Ok, Err};
+ghost use Rattle.std.specs.Prelude.{◌≡◌, ℕ, ◌*◌, ◌<◌, ◌≤◌, List, ◌++◌, length, take, drop, Option, Some, MatchResult, IfOk, IfErr, IsOk, IsErrOf, IsOkUnless, ◌⊎◌, true, false, Ok, Err};
 ghost use Rattle.qoi.specs.declared.chunk.Chunk.{Chunk};
 ghost use Rattle.qoi.specs.declared.header.Header.{Header};
 ghost use Rattle.qoi.specs.declared.error.Error.{Error};
 ghost use Rattle.qoi.specs.Qoi.{header_of, pixel_count, raw_byte_count, IsFile, file, header_size};
 ghost use Rattle.qoi.specs.Verdicts.{IsWhole};
-ghost use Rattle.qoi.specs.Decoding.{ReadsHeader, RefusesFile, RefusesWholeFile, DecodesFile, file_byte_count, HasImageLength};
+ghost use Rattle.qoi.specs.Decoding.{CouldHold, least_byte_count, ReadsHeader, RefusesFile, RefusesWholeFile, DecodesFile, file_byte_count, HasImageLength};
 ghost use Rattle.qoi.specs.declared.types.Style.{Style};
 ghost use Rattle.qoi.specs.Encoded.{IsFileOf};
 ghost use Rattle.qoi.specs.DecoderState.{image_byte_count, DecodesImage, RefusesDecoding, TakesWithin};
@@ -74,13 +74,18 @@ pub fn decode_to_buf(buf: &mut [u8], data: &[u8]) -> Result<Header>
 /// Decodes a file into a vector, in the file's own channels, and returns its header too.
 ///
 /// The refusals are those of `Decoder::new` and then of its `decode_to_vec`; so memory is asked for
-/// only where the header is good. The vector has `n_bytes` of the header.
+/// only where the header is good and the bytes behind it could hold such an image: at most 62 pixels
+/// for each byte of the slice, and so 248 bytes. The vector has `n_bytes` of the header.
 pub fn decode_to_vec(alloc: Global, data: &[u8]) -> Result<(Header, Vec<u8>)>
     ensures decoded { IfOk result (λ x. (rest : List ℕ)
         × DecodesFile «data».now x.0 rest x.1.items) }
     ensures length { IfOk result (λ x. HasImageLength (raw_byte_count x.0) x.1.items) }
     ensures refused { IfErr result (λ e. RefusesWholeFile «data».now e
-        ⊎ ((e ≡ Error.OutOfMemory) × (h : Header) × (header_of «data».now ≡ Ok h))) }
+        ⊎ ((e ≡ Error.OutOfMemory) × (h : Header) × (header_of «data».now ≡ Ok h)
+        × (least_byte_count (pixel_count h) ≤ length (drop header_size «data».now)))) }
+    // So the vector has at most 62 pixels for each byte of the slice.
+    ensures held { IfOk result (λ x. (pixel_count x.0 ≤ 62 * length «data».now)
+        × (length x.1.items ≤ 248 * length «data».now)) }
     // Files are accepted, whatever follows them, unless memory runs out.
     ensures accepts { (h : Header) (cs : List Chunk) (rest : List ℕ) → IsFile h cs
         → «data».now ≡ file h cs ++ rest
@@ -302,13 +307,20 @@ impl<R: Reader> Decoder<R> {
     ///
     /// `OutOfMemory` where the vector's memory isn't found; it is taken before a chunk is read, so
     /// that the decoder is then unchanged. The other refusals are those of `decode_to_buf` but for
-    /// `OutputBufferTooSmall`, with what they leave.
+    /// `OutputBufferTooSmall`, with what they leave. Where the bytes ahead are in memory, and too few
+    /// for so many pixels whatever they are, `UnexpectedBufferEnd` comes before memory is asked for:
+    /// each 62 pixels take a byte at least, and the end marker has eight.
     pub fn decode_to_vec(&mut self, alloc: Global) -> Result<Vec<u8>>
         ensures decoded { IfOk result (λ out. DecodesImage R.ahead self.old self.new out.items) }
         ensures length { IfOk result (λ out. HasImageLength (image_byte_count self.old) out.items) }
         ensures refused { IfErr result (λ e. (e ≡ Error.OutOfMemory)
             ⊎ RefusesDecoding R.in_memory R.ahead self.old self.new e) }
         ensures no_memory { IsErrOf result Error.OutOfMemory → self.new ≡ self.old }
+        // Memory is asked for only where the bytes ahead could hold the image.
+        ensures holds { IsErrOf result Error.OutOfMemory
+            → CouldHold R.in_memory (pixel_count self.old.header) (R.ahead self.old.reader) }
+        ensures held { IfOk result (λ out.
+            CouldHold R.in_memory (pixel_count self.old.header) (R.ahead self.old.reader)) }
         // From memory, bytes whose verdict is whole are accepted, unless memory runs out.
         ensures accepts { R.in_memory ≡ true → (bytes rest : List ℕ) (cs : List Chunk)
             → R.ahead self.old.reader ≡ Some bytes
@@ -318,6 +330,9 @@ impl<R: Reader> Decoder<R> {
         // Of n pixels a call takes at most 5n + 8 bytes, also where it refuses.
         ensures bounded { TakesWithin R.ahead self.old self.new }
     {
+        if !self.reader.could_hold(self.header.n_pixels()) {
+            return Err(Error::UnexpectedBufferEnd);
+        }
         let mut out = vec![in alloc; 0u8; self.required_buf_len()]?;
         self.decode_to_buf(&mut out)?;
         Ok(out)

@@ -1,12 +1,12 @@
 -- The size of an image in bytes and in pixels.
-use Rattle.std.proofs.Common.{◌≡◌, ℕ, ◌/◌, ◌≤◌, inl, inr, List, length, take, arith}
+use Rattle.std.proofs.Common.{◌≡◌, ℕ, ◌*◌, ◌/◌, ◌≤◌, inl, inr, List, length, take, arith}
 use Rattle.std.proofs.lemmas.List.{length-take-le}
 use Rattle.qoi.specs.declared.types.Channels.{Channels}
 use Rattle.qoi.specs.declared.types.Channels.TheVariants.{Rgb, Rgba}
 use Rattle.qoi.specs.declared.header.Header.{Header}
 use Rattle.qoi.specs.Qoi.{channels_number, pixel_count}
 use Rattle.qoi.specs.Raw.{IsChannels}
-use Rattle.qoi.specs.Decoding.{byte_count}
+use Rattle.qoi.specs.Decoding.{byte_count, least_byte_count}
 
 -- there are three or four channels
 pub channels_are : (c : Channels) (n : ℕ) → n ≡ channels_number c → IsChannels n
@@ -17,3 +17,8 @@ channels_are Rgba n e = inr e
 pub image_pixels : (h : Header) (c : Channels) (size n : ℕ) (buf : List ℕ) → size ≡ byte_count h (channels_number c) → size ≤ length buf → n ≡ channels_number c → length (take size buf) / n ≡ pixel_count h
 image_pixels h Rgb size n buf e le is = rw (length-take-le size buf le, is) (omega arith)
 image_pixels h Rgba size n buf e le is = rw (length-take-le size buf le, is) (omega arith)
+
+-- an image that bytes could hold has at most 62 pixels, and so 248 raw bytes, for each of them
+pub bounded_by : (n size : ℕ) (c : Channels) (rest bytes : List ℕ) → least_byte_count n ≤ length rest → length rest ≤ length bytes → size ≤ n * channels_number c → (n ≤ 62 * length bytes) × (size ≤ 248 * length bytes)
+bounded_by n size Rgb rest bytes holds within is = (omega (arith, holds, within), omega (arith, holds, within, is))
+bounded_by n size Rgba rest bytes holds within is = (omega (arith, holds, within), omega (arith, holds, within, is))

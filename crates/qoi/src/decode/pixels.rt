@@ -162,7 +162,7 @@ fn give_pixel<const N: usize, const F: usize>(
 #[inline(always)]
 fn give_run<const N: usize, const F: usize>(
     table: &mut Table,
-    px: Spread,
+    last: Spread,
     count: usize,
     out: &mut [u8],
     at: usize,
@@ -172,14 +172,14 @@ fn give_run<const N: usize, const F: usize>(
     requires inside { at < length out.old }
     requires some { (0 < count) × (count ≤ 62) }
     ensures table { (past : Past) → Holds table.old past
-        → Holds table.new (replicate count px ++ past) }
+        → Holds table.new (replicate count last ++ past) }
     ensures filled { (n : ℕ) (past : Past) → HasFilled F N n out.old at past
-        → HasFilled F N n out.new result (replicate count px ++ past) }
+        → HasFilled F N n out.new result (replicate count last ++ past) }
     ensures whole { result % N ≡ 0 }
     ensures within { (at < result) × (result ≤ length out.new) }
 {
-    let packed = px.packed();
-    table.put(px.hash_index(), packed);
+    let packed = last.packed();
+    table.put(last.hash_index(), packed);
     fill::<N, F>(out, at, packed, count)
 }
 

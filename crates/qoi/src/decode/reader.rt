@@ -1,11 +1,11 @@
 //! Where a decoder takes its bytes from: bytes in memory, or a stream.
-ghost use Rattle.std.specs.Prelude.{◌≡◌, ℕ, ◌/◌, ◌%◌, List, length, Option, Some, IfErr, OnOk, IsSome, Bool, true, false, Err, refl};
+ghost use Rattle.std.specs.Prelude.{◌≡◌, ◌↔◌, IsTrue, IsFalse, ℕ, ◌/◌, ◌%◌, List, length, Option, Some, IfErr, OnOk, IsSome, Bool, true, false, Err, refl};
 ghost use Rattle.qoi.specs.Raw.{AreChannels};
-ghost use Rattle.qoi.specs.Decoding.{ReadsImage, ReadsHeader, RefusesImage};
+ghost use Rattle.qoi.specs.Decoding.{CouldHold, ReadsImage, ReadsHeader, RefusesImage};
 ghost use Rattle.qoi.specs.declared.error.Error.{Error};
 
 use crate::consts::QOI_HEADER_SIZE;
-use crate::decode::slice::slice_image;
+use crate::decode::slice::{could_hold, slice_image};
 use crate::decode::stream::{read_all, stream_image};
 use crate::error::{Error, Result};
 use crate::header::Header;
@@ -27,6 +27,16 @@ pub trait Reader: Sized {
     /// `InvalidImageDimensions`.
     fn decode_header(&mut self) -> Result<Header>
         ensures { ReadsHeader in_memory (ahead self.old) (ahead self.new) result };
+
+    /// Whether the bytes ahead could hold the chunks of an image of so many pixels, and the end marker.
+    ///
+    /// In memory they couldn't where they are fewer than the eight of the end marker and one for each
+    /// 62 pixels, the longest run; they are cut then, whatever they are. A stream always could, since
+    /// nobody knows what it has ahead.
+    fn could_hold(&self, n_pixels: usize) -> bool
+        ensures holds { IsTrue result ↔ CouldHold in_memory n_pixels (ahead self.now) }
+        ensures cut { IsFalse result → RefusesImage in_memory n_pixels
+            (ahead self.now) (ahead self.now) Error.UnexpectedBufferEnd };
 
     /// Reads chunks until `out` is full of pixels, and then the end marker (QOI specification 1.0,
     /// "File Format" and "Data").
@@ -95,6 +105,10 @@ impl<'a> Reader for Bytes<'a> {
         Ok(header)
     }
 
+    fn could_hold(&self, n_pixels: usize) -> bool {
+        could_hold(self.0, n_pixels)
+    }
+
     fn decode_image(&mut self, out: &mut [u8], channels: u8, src_channels: u8) -> Result<()> {
         self.0 = match (channels, src_channels) {
             (3, 3) | (3, 4) => slice_image::<3, 3>(self.0, out)?,
@@ -117,6 +131,10 @@ impl<R: Read> Reader for R {
         let mut bytes = [0; QOI_HEADER_SIZE];
         read_all(self, &mut bytes)?;
         Header::decode(&bytes)
+    }
+
+    fn could_hold(&self, _n_pixels: usize) -> bool {
+        true
     }
 
     fn decode_image(&mut self, out: &mut [u8], channels: u8, src_channels: u8) -> Result<()> {

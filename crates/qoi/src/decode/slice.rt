@@ -1,14 +1,24 @@
 //! Decoding an image from bytes in memory.
-ghost use Rattle.std.specs.Prelude.{◌≡◌, ℕ, ◌/◌, ◌%◌, ◌++◌, length, Some, MatchOption, IfOk, IfErr};
+ghost use Rattle.std.specs.Prelude.{◌≡◌, ◌↔◌, ◌≤◌, IsTrue, IsFalse, ℕ, ◌/◌, ◌%◌, ◌++◌, length, Some, MatchOption, IfOk, IfErr};
 ghost use Rattle.qoi.specs.Raw.{IsChannels};
 ghost use Rattle.qoi.specs.Qoi.{end_marker};
-ghost use Rattle.qoi.specs.Decoding.{HasCut, ReadsPixels, ReadsImage, RefusesMarker, RefusesBytes};
+ghost use Rattle.qoi.specs.Decoding.{HasCut, least_byte_count, ReadsPixels, ReadsImage, RefusesMarker, RefusesBytes};
 
-use crate::consts::{QOI_PADDING, QOI_PADDING_SIZE};
+use crate::consts::{QOI_PADDING, QOI_PADDING_SIZE, QOI_RUN_MAX};
 use crate::decode::pixels::give_first;
 use crate::error::{Error, Result};
 use crate::packed::Spread;
 use crate::table::Table;
+
+// Whether the bytes could hold the chunks of so many pixels, of which each gives 62 at most, and the end
+// marker. Otherwise they are cut, whatever they are.
+#[tactic(auto, using(crate::proofs::decoding::LeastBytes::few_are_cut))]
+pub(super) fn could_hold(data: &[u8], n_pixels: usize) -> bool
+    ensures holds { IsTrue result ↔ (least_byte_count n_pixels ≤ length «data».now) }
+    ensures cut { IsFalse result → HasCut n_pixels «data».now }
+{
+    data.len() >= n_pixels.div_ceil(QOI_RUN_MAX) + QOI_PADDING_SIZE
+}
 
 // Decodes chunks until `out` is full, and gives the bytes after them. Where fewer than eight bytes are
 // left before that, the file is cut, since its end marker alone has eight.

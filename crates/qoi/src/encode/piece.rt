@@ -8,7 +8,7 @@ ghost use Rattle.qoi.specs.Raw.{IsChannels};
 ghost use Rattle.qoi.specs.Runs.{runs_by};
 ghost use Rattle.qoi.specs.writers.Writes.{WroteSome};
 
-use crate::consts::QOI_OP_RUN;
+use crate::consts::{QOI_OP_RUN, QOI_RUN_MAX};
 use crate::error::Result;
 use crate::packed::pick;
 use crate::utils::{Writer, copy_behind};
@@ -19,9 +19,6 @@ pub(super) const PIECE: usize = 4096;
 
 // The room that bytes are kept in: what is stored may go past a full piece.
 const ROOM: usize = 4224;
-
-// The longest run of one chunk.
-const RUN_MAX: usize = 62;
 
 /// Bytes that are kept: the first `end` ones. Those behind them mean nothing.
 #[derive(Drop)]
@@ -139,6 +136,6 @@ pub(super) fn put_runs(out: &mut [u8], at: usize, count: usize, one: u8) -> usiz
     ensures written { (c : Chunk) → bytes_of c ≡ one ∷ []
         → take result out.new ≡ take at out.old ++ text (runs_by c count) }
 {
-    u8x16::splat(QOI_OP_RUN - 1 + RUN_MAX as u8).copy_to_slice(&mut out[at..at + 16]);
-    put_run(out, at + count / RUN_MAX, count % RUN_MAX, one)
+    u8x16::splat(QOI_OP_RUN - 1 + QOI_RUN_MAX as u8).copy_to_slice(&mut out[at..at + 16]);
+    put_run(out, at + count / QOI_RUN_MAX, count % QOI_RUN_MAX, one)
 }

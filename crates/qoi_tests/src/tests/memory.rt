@@ -1,4 +1,5 @@
 //! Allocations that are refused, and the calls that take no memory.
+use crate::tests::support::decodings::CUT;
 use crate::tests::support::fakes::take_memory;
 use crate::tests::support::files::{ONE_RGB_PIXEL, PIXEL, rgb};
 use crate::tests::support::texts::{assert_bytes, assert_header, assert_number, assert_refused};
@@ -58,23 +59,70 @@ fn each_allocation_of_decode_to_vec(rt: HostRuntime) -> Result<()> {
     Ok(())
 }
 
+// The header of an image of 20000 by 20000 pixels.
+const LARGE: [u8; 14] = [
+    0x71, 0x6f, 0x69, 0x66, 0, 0, 0x4e, 0x20, 0, 0, 0x4e, 0x20, 3, 0,
+];
+
+// As many bytes as 400,000,000 pixels need: a byte for each 62 of them, and the end marker.
+const NEEDED: usize = 6_451_613 + 8;
+
 #[test]
 fn refused_memory_comes_before_the_chunks(rt: HostRuntime) -> Result<()> {
-    let bytes = [
-        0x71, 0x6f, 0x69, 0x66, 0, 0, 0x4e, 0x20, 0, 0, 0x4e, 0x20, 3, 0,
-    ];
     let header = Header {
         height: 20000,
         ..rgb(20000)
     };
-    let mut decoder = Decoder::new(&bytes)?;
+    let mut bytes = [0; 20];
+    bytes[..14].copy_from_slice(&LARGE);
+    let mut decoder = Decoder::from_stream(&bytes[..])?;
     let held = take_memory(rt.alloc(), 1 << 30)?;
     let refusal = decoder.decode_to_vec(rt.alloc()).err();
     drop(held);
     assert_refused(&rt, rt.alloc(), refusal, REFUSED)?;
-    assert_bytes(&rt, decoder.data(), &[]);
+    assert_bytes(&rt, decoder.reader(), &[0; 6]);
     assert_header(&rt, decoder.header(), &header);
     assert!(rt; decoder.channels().is_rgb());
+    Ok(())
+}
+
+// A large header with so many bytes behind it, while all memory is taken: both calls refuse, and the
+// decoder is as before.
+fn assert_large(rt: &impl Abort, alloc: Global, behind: usize, text: &str) -> Result<()> {
+    let mut file = Vec::from_slice(alloc, &LARGE)?;
+    file.resize(behind.saturating_add(14), 0)?;
+    let mut decoder = Decoder::new(&file)?;
+    let held = take_memory(alloc, 2)?;
+    let method = decoder.decode_to_vec(alloc).err();
+    let free = decode_to_vec(alloc, &file).err();
+    drop(held);
+    assert_refused(rt, alloc, method, text)?;
+    assert_refused(rt, alloc, free, text)?;
+    assert_number(rt, decoder.data().len(), behind);
+    Ok(())
+}
+
+#[test]
+fn too_few_bytes_ask_for_no_memory(rt: HostRuntime) -> Result<()> {
+    for behind in [0, 1, NEEDED - 1] {
+        assert_large(&rt, rt.alloc(), behind, CUT)?;
+    }
+    assert_large(&rt, rt.alloc(), NEEDED, REFUSED)
+}
+
+// An image of 62000 by 10 pixels, all opaque black, in as few bytes as it can have: 10,000 runs of 62.
+#[test]
+fn runs_alone_are_enough(rt: HostRuntime) -> Result<()> {
+    let alloc = rt.alloc();
+    let mut file = Vec::from_slice(alloc, &[0x71, 0x6f, 0x69, 0x66])?;
+    file.extend_from_slice(&[0, 0, 0xf2, 0x30, 0, 0, 0, 10, 3, 0])?;
+    file.resize(14 + 10_000, 0xfd)?;
+    file.extend_from_slice(&[0, 0, 0, 0, 0, 0, 0, 1])?;
+    let black = vec![in alloc; 0u8; 3 * 620_000]?;
+    let mut decoder = Decoder::new(&file)?;
+    assert_bytes(&rt, &decoder.decode_to_vec(alloc)?, &black);
+    assert_number(&rt, decoder.data().len(), 0);
+    assert_bytes(&rt, &decode_to_vec(alloc, &file)?.1, &black);
     Ok(())
 }
 

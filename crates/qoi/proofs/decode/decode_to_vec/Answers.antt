@@ -1,12 +1,14 @@
 -- A file is decoded as such, and what the decoder refuses is what the file is refused for.
-use Rattle.std.proofs.Common.{Ok, ◌≡◌, [], append-nil, ℕ, List, drop, Some, refl, ap, sym, ◌∙◌, subst, inl, inr, ⊎_elim, arith}
+use Rattle.std.proofs.Common.{Ok, Err, ◌≡◌, ◌≤◌, length, [], append-nil, ℕ, List, drop, Some, refl, ap, sym, ◌∙◌, subst, inl, inr, ⊎_elim, arith}
 use Rattle.qoi.specs.declared.header.Header.{Header}
 use Rattle.qoi.specs.declared.types.Style.TheVariants.{Reference}
 use Rattle.std.proofs.lemmas.Result.{err_from_is_err_and}
 use Rattle.qoi.specs.Qoi.{header_of, pixel_count, header_size}
 use Rattle.qoi.specs.Verdicts.{IsWhole}
-use Rattle.qoi.specs.Decoding.{DecodesFile, RefusesBytes}
+use Rattle.qoi.specs.Decoding.{DecodesFile, RefusesBytes, least_byte_count}
 use Rattle.qoi.specs.DecoderState.{DecoderState}
+use Rattle.std.proofs.lemmas.List.{length-drop}
+use Rattle.qoi.proofs.decoding.ImageSize.{bounded_by}
 use Rattle.qoi.proofs.decoding.OneFile.{file_has_header, file_is_whole, decodes_behind, decoding_is_one}
 use Rattle.qoi.proofs.decode.decode_to_vec.Goals as goal
 
@@ -15,7 +17,7 @@ returns-in_err-out-clause-refused c =
     let p = err_from_is_err_and c.from_residual-in_err-out.result c.from_residual-in_err-out.ensures.1 in
     let d = c.in_ok-decoder.decoder in
     let accepted = c.in_ok-decoder.ensures.accepted in
-    rw (p.1, p.2) (⊎_elim (λ none. inr (none, d.header, accepted.0)) (λ r. inl (inr (d.header, accepted.0, subst (λ z. RefusesBytes (pixel_count d.header) z c.in_err-out.field-0.0) accepted.2 r.1))) c.in_err-out.ensures.refused)
+    rw (p.1, p.2) (⊎_elim (λ none. inr (none, d.header, accepted.0, subst (λ z. least_byte_count (pixel_count d.header) ≤ length z) accepted.2 (c.in_err-out.ensures.holds (ap Err none)))) (λ r. inl (inr (d.header, accepted.0, subst (λ z. RefusesBytes (pixel_count d.header) z c.in_err-out.field-0.0) accepted.2 r.1))) c.in_err-out.ensures.refused)
 
 pub returns-in_err-out-clause-accepts : goal.returns-in_err-out-clause-accepts
 returns-in_err-out-clause-accepts c h cs rest f split =
@@ -78,3 +80,12 @@ returns-in_err-decoder-clause-comes_back_in c style h raw f =
 
 pub returns-in_err-decoder-clause-comes_back : goal.returns-in_err-decoder-clause-comes_back
 returns-in_err-decoder-clause-comes_back c h raw f = returns-in_err-decoder-clause-comes_back_in c Reference h raw f
+
+pub returns-clause-held : goal.returns-clause-held
+returns-clause-held c =
+    let d = c.in_ok-decoder.decoder in
+    let accepted = c.in_ok-decoder.ensures.accepted in
+    let same : c.header.result.now ≡ d.header = c.header.ensures ∙ ap (λ (s : DecoderState (List ℕ)). s.header) c.in_ok-out.ensures.kept in
+    let size = c.in_ok-out.ensures.length.0 in
+    rw same (bounded_by (pixel_count d.header) (length c.in_ok-out.out.items) d.channels d.reader c.args.data.now c.in_ok-out.ensures.held
+        (omega (arith, ap length accepted.2, length-drop header_size c.args.data.now)) (omega (arith, size)))

@@ -1,8 +1,18 @@
 -- Whole bytes in memory are not refused.
-use Rattle.std.proofs.Common.{◌≡◌, ◌≤◌, ◌++◌, length, drop, IsOk, false, true, ◌∙◌, subst, arith, length-append}
+use Rattle.std.proofs.Common.{rules, ◌≡◌, ◌≤◌, ◌++◌, length, drop, IsOk, false, true, ◌∙◌, subst, arith, length-append}
 use Rattle.std.proofs.lemmas.List.{length-take-le}
+use Rattle.qoi.specs.declared.error.Error.TheVariants.{UnexpectedBufferEnd}
+use Rattle.qoi.specs.Qoi.{pixel_count}
+use Rattle.qoi.specs.Decoding.{RefusesImage}
 use Rattle.qoi.specs.DecoderState.{image_byte_count}
+use Rattle.qoi.proofs.decoding.Refusals.{whole_not_refused_in}
 use Rattle.qoi.proofs.decode.Decoder.decode_to_vec.Goals as goal
+
+pub returns-then-not-could_hold-clause-accepts : goal.returns-then-not-could_hold-clause-accepts
+returns-then-not-could_hold-clause-accepts g c memory bytes rest cs told whole =
+    let cut = c.could_hold.ensures.cut (search rules) in
+    absurd (whole_not_refused_in g.R.Reader.in_memory (pixel_count c.args.self.now.header) _ _ _ bytes cs rest memory told whole
+    (subst (λ s. RefusesImage g.R.Reader.in_memory (pixel_count s.header) (g.R.Reader.ahead s.reader) (g.R.Reader.ahead s.reader) UnexpectedBufferEnd) c.self.view_is (rw c.n_pixels.ensures at cut)))
 
 pub returns-in_err-decode_to_buf-clause-accepts : goal.returns-in_err-decode_to_buf-clause-accepts
 returns-in_err-decode_to_buf-clause-accepts g c memory bytes rest cs told whole =

@@ -2,6 +2,7 @@
 use Rattle.std.proofs.Common.{take, ◌++◌, refl, sym, ap, ◌∙◌, subst, arith, take-append-drop}
 use Rattle.qoi.specs.Qoi.{AreBytes}
 use Rattle.qoi.proofs.format.SomeVerdict.{bytes_after_front}
+use Rattle.qoi.specs.inner.Filling.{filling}
 use Rattle.qoi.proofs.decoding.Progress.{SplitAt, start_so_far, goes_on, split_more, reads_pixels, few_left}
 use Rattle.qoi.proofs.decode.slice.slice_chunks.Goals as goal
 
@@ -12,7 +13,9 @@ pub loop-at-preserved : goal.loop-at-preserved
 loop-at-preserved g c =
     let rest = c.loop-at.rest.now in
     let taken = c.give_first-given.result.taken in
-    goes_on c.requires.channels c.loop-at.invariant c.loop-at-test.true c.give_first-given.ensures.gives
+    let given = c.give_first-given.result in
+    goes_on {old = filling c.loop-at.table c.loop-at.last c.loop-at.out c.loop-at.at} {new = filling c.give_first-given.new.table given.last c.give_first-given.new.out given.at}
+    c.requires.channels c.loop-at.invariant c.loop-at-test.true c.give_first-given.ensures.gives
     (split_more c.args.data.now rest _ (take taken rest) (sym (take-append-drop taken rest) ∙ ap (λ z. take taken rest ++ z) (sym c.split_at.ensures.back)))
     c.give_first-given.ensures.within.1 c.give_first-given.ensures.whole
 

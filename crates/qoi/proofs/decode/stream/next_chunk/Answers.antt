@@ -3,6 +3,7 @@ use Rattle.std.proofs.Common.{ℕ, ◌<◌, ◌≤◌, ◌⊎◌, List, [], ◌�
 use Rattle.std.specs.Io.KnownBytes.{Consumes}
 use Rattle.qoi.specs.declared.chunk.Chunk.TheVariants.{Luma}
 use Rattle.qoi.specs.Verdicts.{IsPartOfChunk}
+use Rattle.qoi.specs.inner.Filling.{filling}
 use Rattle.std.proofs.KnownBytes.{Consumes-trans}
 use Rattle.qoi.proofs.format.PartOfChunk.{part_empty}
 use Rattle.qoi.proofs.Results.{on_err}
@@ -36,7 +37,8 @@ returns-in_ok-read_all-in-254-clause-read g c =
     let more = c.read_all.new.buf in (
       c.in_ok-b1.b1 ∷ more,
       Consumes-trans _ _ _ (c.in_ok-b1.b1 ∷ []) more c.in_ok-b1.ensures.read c.in_ok-read_all-in-254.ensures.read,
-      gives_taken _ _ _ (rgb_ahead c.in_ok-b1.b1 more (0 ∷ 0 ∷ 0 ∷ 0 ∷ []) c.in-254.is c.read_all.auto.buf c.read_all.ensures.bytes) c.give_first.ensures.gives,
+      gives_taken {old = filling c.args.table.now c.args.last c.args.out.now c.args.at} {new = filling c.give_first.new.table c.give_first.result.last c.give_first.new.out c.give_first.result.at} _ _ _
+      (rgb_ahead c.in_ok-b1.b1 more (0 ∷ 0 ∷ 0 ∷ 0 ∷ []) c.in-254.is c.read_all.auto.buf c.read_all.ensures.bytes) c.give_first.ensures.gives,
     )
 
 pub returns-in_ok-read_all-in-255-clause-read : goal.returns-in_ok-read_all-in-255-clause-read
@@ -44,7 +46,8 @@ returns-in_ok-read_all-in-255-clause-read g c =
     let more = c.read_all-in-255.new.buf in (
       c.in_ok-b1.b1 ∷ more,
       Consumes-trans _ _ _ (c.in_ok-b1.b1 ∷ []) more c.in_ok-b1.ensures.read c.in_ok-read_all-in-255.ensures.read,
-      gives_taken _ _ _ (rgba_ahead c.in_ok-b1.b1 more (0 ∷ 0 ∷ 0 ∷ []) c.in-255.is c.read_all-in-255.auto.buf c.read_all-in-255.ensures.bytes) c.give_first-in-255.ensures.gives,
+      gives_taken {old = filling c.args.table.now c.args.last c.args.out.now c.args.at} {new = filling c.give_first-in-255.new.table c.give_first-in-255.result.last c.give_first-in-255.new.out c.give_first-in-255.result.at} _ _ _
+      (rgba_ahead c.in_ok-b1.b1 more (0 ∷ 0 ∷ 0 ∷ []) c.in-255.is c.read_all-in-255.auto.buf c.read_all-in-255.ensures.bytes) c.give_first-in-255.ensures.gives,
     )
 
 pub returns-in_ok-b2-in-128-to-191-clause-read : goal.returns-in_ok-b2-in-128-to-191-clause-read
@@ -53,7 +56,8 @@ returns-in_ok-b2-in-128-to-191-clause-read g c =
     let b2 = c.in_ok-b2-in-128-to-191.b2 in (
       b1 ∷ b2 ∷ [],
       Consumes-trans _ _ _ (b1 ∷ []) (b2 ∷ []) c.in_ok-b1.ensures.read c.in_ok-b2-in-128-to-191.ensures.read,
-      gives_taken _ _ _ (Luma b1 b2, 0 ∷ 0 ∷ 0 ∷ 0 ∷ 0 ∷ 0 ∷ [], (omega arith, omega arith, omega arith), refl, refl) c.give_first-in-128-to-191.ensures.gives,
+      gives_taken {old = filling c.args.table.now c.args.last c.args.out.now c.args.at} {new = filling c.give_first-in-128-to-191.new.table c.give_first-in-128-to-191.result.last c.give_first-in-128-to-191.new.out c.give_first-in-128-to-191.result.at} _ _ _
+      (Luma b1 b2, 0 ∷ 0 ∷ 0 ∷ 0 ∷ 0 ∷ 0 ∷ [], (omega arith, omega arith, omega arith), refl, refl) c.give_first-in-128-to-191.ensures.gives,
     )
 
 pub returns-in_default-clause-read : goal.returns-in_default-clause-read
@@ -62,4 +66,5 @@ returns-in_default-clause-read g c =
       | in_default-via-then-b1-lt128 w ↦ inl (search rules)
       | in_default-via-else-b1-lt128+else-b1-lt192 w ↦ inr (search rules, search rules)
     ] in
-    (c.in_ok-b1.b1 ∷ [], c.in_ok-b1.ensures.read, gives_taken _ _ _ (alone_ahead c.in_ok-b1.b1 (0 ∷ 0 ∷ 0 ∷ 0 ∷ 0 ∷ 0 ∷ 0 ∷ []) alone) c.give_first-in_default.ensures.gives)
+    (c.in_ok-b1.b1 ∷ [], c.in_ok-b1.ensures.read, gives_taken {old = filling c.args.table.now c.args.last c.args.out.now c.args.at} {new = filling c.give_first-in_default.new.table c.give_first-in_default.result.last c.give_first-in_default.new.out c.give_first-in_default.result.at} _ _ _
+      (alone_ahead c.in_ok-b1.b1 (0 ∷ 0 ∷ 0 ∷ 0 ∷ 0 ∷ 0 ∷ 0 ∷ []) alone) c.give_first-in_default.ensures.gives)

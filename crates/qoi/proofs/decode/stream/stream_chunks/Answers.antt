@@ -1,6 +1,7 @@
 -- A chunk more is taken, and at the end the buffer is full.
 use Rattle.std.proofs.KnownBytes.{Consumes-nil, Consumes-trans}
 use Rattle.qoi.proofs.Results.{on_err}
+use Rattle.qoi.specs.inner.Filling.{filling}
 use Rattle.qoi.proofs.decoding.Progress.{start_so_far, goes_on, streams_pixels, stream_ends}
 use Rattle.qoi.proofs.decode.stream.stream_chunks.Goals as goal
 
@@ -15,7 +16,9 @@ loop-at-init g c = start_so_far g.row.F g.row.N _ _ _ c.args.out.now c.requires.
 pub loop-at-preserved : goal.loop-at-preserved
 loop-at-preserved g c =
     let (taken, took, given) = c.in_ok-given.ensures.read in
-    goes_on c.requires.channels c.loop-at.invariant c.loop-at-test.true given (λ before so_far. Consumes-trans _ _ _ before _ so_far took)
+    let to = c.in_ok-given.given in
+    goes_on {old = filling c.loop-at.table c.loop-at.last c.loop-at.out c.loop-at.at} {new = filling c.next_chunk.new.table to.last c.next_chunk.new.out to.at}
+    c.requires.channels c.loop-at.invariant c.loop-at-test.true given (λ before so_far. Consumes-trans _ _ _ before _ so_far took)
     c.in_ok-given.ensures.within.1 c.in_ok-given.ensures.whole
 
 pub returns-clause-read : goal.returns-clause-read
