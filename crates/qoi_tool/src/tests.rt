@@ -2,12 +2,13 @@
 
 mod beginnings;
 mod fakes;
+mod pieces;
 
 use crate::tests::fakes::{Bad, End, NONE, Sink, Source, take_memory};
 use crate::{Fault, report, run};
 use qoi::Error;
 use std::alloc::Global;
-use std::io::ErrorKind;
+use std::io::{ErrorKind, Read};
 use std::process::Abort;
 use std::test::Fail;
 
@@ -60,10 +61,10 @@ fn given(alloc: Global, words: &[&str]) -> Result<Vec<String>, Error> {
 }
 
 // What the program returns.
-fn answer(
+fn answer<R: Read>(
     alloc: Global,
     words: &[&str],
-    input: &mut Source<'_>,
+    input: &mut R,
     output: &mut Sink,
 ) -> Result<(), Fault> {
     let words = given(alloc, words)?;
@@ -86,7 +87,7 @@ fn assert_writes(
 }
 
 // What `dec` returns.
-fn dec(alloc: Global, input: &mut Source<'_>, output: &mut Sink) -> Result<(), Fault> {
+fn dec<R: Read>(alloc: Global, input: &mut R, output: &mut Sink) -> Result<(), Fault> {
     answer(alloc, &["dec"], input, output)
 }
 
@@ -305,7 +306,7 @@ fn followed(alloc: Global, more: usize) -> Result<Vec<u8>, Error> {
     Ok(bytes)
 }
 
-// Bytes after the end marker are ignored; 200,000 of them are more than one piece of the reading.
+// Bytes after the end marker are ignored; for 200,000 of them the reading's vector grows again.
 #[test]
 fn bytes_after_the_marker(rt: HostRuntime) -> Result<(), Fail> {
     let alloc = rt.alloc();

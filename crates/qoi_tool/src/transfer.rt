@@ -9,8 +9,11 @@ use std::alloc::Global;
 use std::io;
 use std::io::{ErrorKind, Read, Write};
 
-// The least room that a read is given.
-const PIECE: usize = 65536;
+// The least that the vector of an input grows by.
+const LEAST: usize = 65_536;
+
+// The most that it grows by at a time, since all of that is filled with zeros before it is read into.
+const PIECE: usize = 1_048_576;
 
 /// All the bytes that the reader gives until a read gives none.
 pub fn read_all<R: Read>(alloc: Global, input: &mut R) -> Result<Vec<u8>, Error>
@@ -22,7 +25,7 @@ pub fn read_all<R: Read>(alloc: Global, input: &mut R) -> Result<Vec<u8>, Error>
     let mut filled = 0;
     loop {
         if filled == bytes.len() {
-            bytes.resize(filled.saturating_add(filled.max(PIECE)), 0)?;
+            bytes.resize(filled.saturating_add(filled.clamp(LEAST, PIECE)), 0)?;
         }
         let count = read_after(input, &mut bytes, filled)?;
         if count == 0 {
