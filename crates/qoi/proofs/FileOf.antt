@@ -14,7 +14,7 @@ use Rattle.qoi.specs.declared.types.Style.TheVariants.{Reference, Places, Tight}
 use Rattle.qoi.specs.Written.{Written}
 use Rattle.qoi.specs.Styles.{WrittenIn}
 use Rattle.qoi.specs.Decoding.{file_byte_count, DecodesFile}
-use Rattle.qoi.specs.Encoded.{max_file_len, image_pixels, IsNearShortest, IsFileBy, IsAsReference, IsShortIn, IsFileOf}
+use Rattle.qoi.specs.Encoded.{max_file_len, image_pixels, Spans, IsShortest, IsNearShortest, IsFileBy, IsAsReference, IsShortIn, IsFileOf}
 use Rattle.qoi.proofs.format.Appended.{length-bytes_of}
 use Rattle.qoi.proofs.decoding.FilledBuffer.{take_whole}
 use Rattle.qoi.proofs.decoding.ImageSize.{channels_are}
@@ -22,7 +22,7 @@ use Rattle.qoi.proofs.decoding.OneFile.{decodes_file}
 use Rattle.qoi.proofs.format.RawPixels.{pixels_of_have, length-pixels_of, output-pixels_of}
 use Rattle.qoi.specs.writers.Writes.{WriterLaws, WroteBut, WroteSome}
 use Rattle.qoi.proofs.encoding.WriterProgress.{wrote_next, wrote_part, wrote_all, left_fits}
-use Rattle.qoi.proofs.encoding.StyleLists.{style_chunks, style_means, style_unique, style_reaches, style_fits, style_length, style_apart, style_regular, style_upper}
+use Rattle.qoi.proofs.encoding.StyleLists.{style_chunks, style_means, style_unique, style_reaches, style_fits, style_length, style_apart, style_regular, style_upper, places_as_long}
 use Rattle.qoi.proofs.shortness.RegularLists.{no_blank_regular}
 use Rattle.qoi.proofs.shortness.Lower.{lower}
 use Rattle.qoi.proofs.shortness.TightLists.{lower0, tight_exact}
@@ -213,3 +213,29 @@ module _ {W : Type 0} (wrote : W → List ℕ → W → Type 0) (room : W → �
     -- as many bytes as the room fell by
     pub file_counts : {next : W} → wrote now last next → room start - room next ≡ length (file h cs)
     file_counts {next} went = omega (arith, laws.counts start next (file h cs) (file_went went))
+
+-- the chunks of the file in any style span the image
+file_spans : (style : Style) (h : Header) (raw bytes : List ℕ) → (f : IsFileOf style h raw bytes) → Spans h raw f.is_file.encoded.cs
+file_spans style h raw bytes f =
+    let image = image_pixels h raw in
+    let e = f.is_file.encoded in
+    record {
+      chunks = style_chunks style image e.cs e.written;
+      reaches = style_reaches style image (pixel_count h) e.cs e.written (count h raw f.is_file.valid f.is_file.size);
+      begins = ([], style_means style image e.cs e.written ∙ sym (append-nil image));
+    }
+
+-- so in no style is the file shorter than the least number of bytes
+pub shortest_is_least : (style : Style) (h : Header) (raw bytes : List ℕ) (n : ℕ) → IsShortest h raw n → IsFileOf style h raw bytes → n ≤ length bytes
+shortest_is_least style h raw bytes n s f =
+    let e = f.is_file.encoded in
+    subst (λ z. n ≤ length z) (sym e.bytes_are) (s.shortest e.cs (file_spans style h raw bytes f))
+
+-- in style Places it is as long as in style Reference
+pub places_length : (h : Header) (raw placed bytes : List ℕ) → IsFileOf Places h raw placed → IsFileOf Reference h raw bytes → length placed ≡ length bytes
+places_length h raw placed bytes p f =
+    let d = p.is_file.encoded in
+    let e = f.is_file.encoded in
+    let written = subst (λ cs. Written (image_pixels h raw) cs) (sym e.written.is) e.written.written in
+    let as_long = places_as_long (image_pixels h raw) e.cs d.cs written d.written in
+    ap length d.bytes_are ∙ length-file h d.cs ∙ ap (λ k. 22 + k) as_long ∙ sym (length-file h e.cs) ∙ sym (ap length e.bytes_are)

@@ -121,3 +121,7 @@ pub record IsFileOf (style : Style) (h : Header) (raw bytes : List ℕ) : Type 0
   pub is_file : IsFileBy (WrittenIn style) h raw bytes
   pub near_shortest : IsNearShortest h raw bytes
   pub short : IsShortIn style h raw bytes
+
+-- the file that the free calls write for raw bytes of this size: with the header that is found for them, in style Reference
+abbrev pub IsFileFor : List ℕ → ℕ → ℕ → List ℕ → Type 0
+IsFileFor raw width height bytes = (h : Header) × (image_header raw width height ≡ Ok h) × IsFileOf Reference h raw bytes

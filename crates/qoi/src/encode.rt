@@ -1,12 +1,13 @@
 //! Encoding, into buffers, vectors and writers.
-ghost use Rattle.std.specs.Prelude.{◌≡◌, ℕ, ◌<◌, ◌≤◌, List, ◌++◌, length, drop, ◌⊎◌, Ok, Err, IsErrOf, IsOkAnd, IsOkUnless, IfOk, IfErr};
+ghost use Rattle.std.specs.Prelude.{◌≡◌, ℕ, ◌<◌, ◌≤◌, List, ◌++◌, length, take, drop, ◌⊎◌, Ok, Err, IsErrOf, IsOkAnd, IsOkUnless, IfOk, IfErr, MatchResult};
 ghost use Rattle.std.specs.Io.KnownBytes.{Appends};
 ghost use Rattle.qoi.specs.declared.header.Header.{Header};
 ghost use Rattle.qoi.specs.declared.error.Error.{Error};
-ghost use Rattle.qoi.specs.declared.types.Style.TheVariants.{Reference, Tight};
+ghost use Rattle.qoi.specs.declared.types.Style.{Style};
+ghost use Rattle.qoi.specs.declared.types.Style.TheVariants.{Reference, Places, Tight};
 ghost use Rattle.qoi.specs.Qoi.{IsValid};
 ghost use Rattle.qoi.specs.Decoding.{file_byte_count};
-ghost use Rattle.qoi.specs.Encoded.{max_len, max_file_len, image_header, IsFileLength, IsFileOf, IsShortest};
+ghost use Rattle.qoi.specs.Encoded.{max_len, max_file_len, image_header, IsFileLength, IsFileOf, IsFileFor, IsShortest};
 ghost use Rattle.qoi.specs.Errors.{IsIoError};
 ghost use Rattle.qoi.specs.writers.Writes.{AppendsBeginning, WroteSome};
 
@@ -71,8 +72,14 @@ pub fn encode_to_buf(buf: &mut [u8], data: &[u8], width: u32, height: u32) -> Re
         → max_file_len h ≤ length buf.old
         → IsOkAnd result (λ n. (bytes : List ℕ) × IsFileOf Reference h «data».now bytes
         × (n ≡ length bytes) × (buf.new ≡ bytes ++ drop n buf.old)) }
+    // The part of the buffer that was written is the file.
+    ensures front { IfOk result (λ n. IsFileFor «data».now width height (take n buf.new)) }
+    // Any bytes that are the file of the image are those that were written.
+    ensures same { (bytes : List ℕ) → IsFileFor «data».now width height bytes
+        → IfOk result (λ n. (n ≡ length bytes) × (buf.new ≡ bytes ++ drop n buf.old)) }
     ensures length { (h : Header) → image_header «data».now width height ≡ Ok h
         → IfOk result (IsFileLength h) }
+    ensures room { IfOk result (λ n. n ≤ length buf.old) }
 {
     Encoder::new(data, width, height)?.encode_to_buf(buf)
 }
@@ -82,8 +89,10 @@ pub fn encode_to_buf(buf: &mut [u8], data: &[u8], width: u32, height: u32) -> Re
 ///
 /// The refusals are those of `Encoder::new` and then of its `encode_to_vec`.
 pub fn encode_to_vec(alloc: Global, data: &[u8], width: u32, height: u32) -> Result<Vec<u8>>
-    ensures encoded { IfOk result (λ v. (h : Header) × (image_header «data».now width height ≡ Ok h)
-        × IsFileOf Reference h «data».now v.items) }
+    ensures encoded { IfOk result (λ v. IsFileFor «data».now width height v.items) }
+    // Any bytes that are the file of the image are those of the vector.
+    ensures same { (bytes : List ℕ) → IsFileFor «data».now width height bytes
+        → IfOk result (λ v. v.items ≡ bytes) }
     ensures refused { IfErr result (λ e. (image_header «data».now width height ≡ Err e)
         ⊎ ((e ≡ Error.OutOfMemory) × (h : Header)
         × (image_header «data».now width height ≡ Ok h))) }
@@ -214,10 +223,25 @@ impl<'a> Encoder<'a> {
             → IsOkAnd result (λ n. (bytes : List ℕ)
             × IsFileOf self.now.style self.now.header self.now.raw bytes
             × (n ≡ length bytes) × (buf.new ≡ bytes ++ drop n buf.old)) }
+        // The part of the buffer that was written is the file.
+        ensures front { IfOk result (λ n.
+            IsFileOf self.now.style self.now.header self.now.raw (take n buf.new)) }
+        // Any bytes that are the file of the image are those that were written.
+        ensures same { (bytes : List ℕ) → IsFileOf self.now.style self.now.header self.now.raw bytes
+            → IfOk result (λ n. (n ≡ length bytes) × (buf.new ≡ bytes ++ drop n buf.old)) }
         // No list of chunks of the image, regular or not, makes a shorter file.
         ensures shortest { self.now.style ≡ Tight
             → IfOk result (IsShortest self.now.header self.now.raw) }
+        // In style `Places` the file is as long as in `Reference`.
+        ensures as_long { self.now.style ≡ Places → (bytes : List ℕ)
+            → IsFileOf Reference self.now.header self.now.raw bytes
+            → IfOk result (λ n. n ≡ length bytes) }
+        // In style `Tight` it is no longer than in any style.
+        ensures no_longer { self.now.style ≡ Tight → (style : Style) (bytes : List ℕ)
+            → IsFileOf style self.now.header self.now.raw bytes
+            → IfOk result (λ n. n ≤ length bytes) }
         ensures length { IfOk result (IsFileLength self.now.header) }
+        ensures room { IfOk result (λ n. n ≤ length buf.old) }
     {
         let required = self.required_buf_len();
         if buf.len() < required {
@@ -237,9 +261,20 @@ impl<'a> Encoder<'a> {
     pub fn encode_to_vec(&self, alloc: Global) -> Result<Vec<u8>>
         ensures encoded { IfOk result (λ v.
             IsFileOf self.now.style self.now.header self.now.raw v.items) }
+        // Any bytes that are the file of the image are those of the vector.
+        ensures same { (bytes : List ℕ) → IsFileOf self.now.style self.now.header self.now.raw bytes
+            → IfOk result (λ v. v.items ≡ bytes) }
         // No list of chunks of the image, regular or not, makes a shorter file.
         ensures shortest { self.now.style ≡ Tight
             → IfOk result (λ v. IsShortest self.now.header self.now.raw (length v.items)) }
+        // In style `Places` the file is as long as in `Reference`.
+        ensures as_long { self.now.style ≡ Places → (bytes : List ℕ)
+            → IsFileOf Reference self.now.header self.now.raw bytes
+            → IfOk result (λ v. length v.items ≡ length bytes) }
+        // In style `Tight` it is no longer than in any style.
+        ensures no_longer { self.now.style ≡ Tight → (style : Style) (bytes : List ℕ)
+            → IsFileOf style self.now.header self.now.raw bytes
+            → IfOk result (λ v. length v.items ≤ length bytes) }
         ensures length { IfOk result (λ v. IsFileLength self.now.header (length v.items)) }
         ensures refused { IsOkUnless result Error.OutOfMemory }
     {
@@ -259,13 +294,22 @@ impl<'a> Encoder<'a> {
         ensures sent { IfOk result (λ n. (bytes : List ℕ)
             × IsFileOf self.now.style self.now.header self.now.raw bytes × (n ≡ length bytes)
             × Appends (W.contents writer.old) (W.contents writer.new) bytes) }
-        // Any bytes that are the file of the image are those that were sent.
+        // Any bytes that are the file of the image are those that were sent, all or a beginning.
         ensures same { (bytes : List ℕ) → IsFileOf self.now.style self.now.header self.now.raw bytes
-            → IfOk result (λ n. (n ≡ length bytes)
-            × Appends (W.contents writer.old) (W.contents writer.new) bytes) }
+            → MatchResult result (λ n. (n ≡ length bytes)
+            × Appends (W.contents writer.old) (W.contents writer.new) bytes)
+            (λ _. AppendsBeginning (W.contents writer.old) (W.contents writer.new) bytes) }
         // No list of chunks of the image, regular or not, makes a shorter file.
         ensures shortest { self.now.style ≡ Tight
             → IfOk result (IsShortest self.now.header self.now.raw) }
+        // In style `Places` the file is as long as in `Reference`.
+        ensures as_long { self.now.style ≡ Places → (bytes : List ℕ)
+            → IsFileOf Reference self.now.header self.now.raw bytes
+            → IfOk result (λ n. n ≡ length bytes) }
+        // In style `Tight` it is no longer than in any style.
+        ensures no_longer { self.now.style ≡ Tight → (style : Style) (bytes : List ℕ)
+            → IsFileOf style self.now.header self.now.raw bytes
+            → IfOk result (λ n. n ≤ length bytes) }
         ensures length { IfOk result (IsFileLength self.now.header) }
         ensures refused { IfErr result (λ e. IsIoError e × (bytes : List ℕ)
             × IsFileOf self.now.style self.now.header self.now.raw bytes

@@ -1,15 +1,19 @@
 //! A caller for each way of using the library, proved by the contracts of its public calls alone.
-ghost use Rattle.std.specs.Prelude.{◌≡◌, ℕ, ◌+◌, ◌≤◌, ◌++◌, List, Option, Some, Ok, IfOk, OnOk, length, drop, false};
+ghost use Rattle.std.specs.Prelude.{◌≡◌, ℕ, ◌+◌, ◌≤◌, ◌++◌, List, Option, Some, Ok, IfOk, OnOk, IfErr, length, drop, false};
 ghost use Rattle.std.specs.Io.KnownBytes.{Appends, Consumes};
 ghost use Rattle.qoi.specs.declared.header.Header.{Header};
 ghost use Rattle.qoi.specs.declared.types.Style.TheVariants.{Reference, Tight};
 ghost use Rattle.qoi.specs.Qoi.{channels_number, head, header_of, pixel_count, header_size, IsValid, file};
 ghost use Rattle.qoi.specs.Encoded.{IsFileOf, IsShortest, Spans, OpensBlack, image_pixels};
 ghost use Rattle.qoi.specs.Regular.{Regular};
+ghost use Rattle.qoi.specs.writers.Writes.{AppendsBeginning};
 ghost use Rattle.qoi.specs.declared.chunk.Chunk.{Chunk};
 ghost use Rattle.qoi.specs.Decoding.{DecodesFile, ReadsHeader, ReadsImage};
 
-use qoi::{Decoder, Encoder, Error, Header, Style, decode_to_buf, decode_to_vec, encode_to_vec};
+use qoi::{
+    Decoder, Encoder, Error, Header, Style, decode_to_buf, decode_to_vec, encode_to_buf,
+    encode_to_vec,
+};
 use std::alloc::Global;
 use std::io::{Read, Write};
 
@@ -36,7 +40,17 @@ pub fn pack(buf: &mut [u8], raw: &[u8], width: u32, height: u32) -> Result<usize
             required,
         });
     }
-    encoder.encode_to_buf(buf)
+    let size = encoder.encode_to_buf(buf)?;
+    Ok(size)
+}
+
+/// Buffer to buffer, in one call.
+pub fn pack_at_once(buf: &mut [u8], raw: &[u8], width: u32, height: u32) -> Result<usize, Error>
+    ensures { IfOk result (λ n. (h : Header) × (bytes : List ℕ) × IsFileOf Reference h raw.now bytes
+        × (n ≡ length bytes) × (buf.new ≡ bytes ++ drop n buf.old)) }
+{
+    let size = encode_to_buf(buf, raw, width, height)?;
+    Ok(size)
 }
 
 /// Stream out. The file of an image goes to a writer.
@@ -128,6 +142,167 @@ pub fn first_byte(alloc: Global, file: &[u8]) -> Result<u8, Error> {
 pub fn decoded_part<'a>(buf: &'a mut [u8], file: &[u8]) -> Result<&'a [u8], Error> {
     let header = decode_to_buf(buf, file)?;
     Ok(&buf[..header.n_bytes()])
+}
+
+/// The part of a buffer that a file was encoded into.
+pub fn encoded_part<'a>(
+    buf: &'a mut [u8],
+    raw: &[u8],
+    width: u32,
+    height: u32,
+) -> Result<&'a [u8], Error>
+    ensures { IfOk result (λ file. (h : Header) × IsFileOf Reference h raw.now file.now) }
+{
+    let size = encode_to_buf(buf, raw, width, height)?;
+    Ok(&buf[..size])
+}
+
+/// The part of a buffer that a file in style `Tight` was encoded into.
+pub fn tight_part<'a>(
+    buf: &'a mut [u8],
+    raw: &[u8],
+    width: u32,
+    height: u32,
+) -> Result<&'a [u8], Error>
+    ensures { IfOk result (λ file. (h : Header) × IsFileOf Tight h raw.now file.now) }
+{
+    let encoder = Encoder::new(raw, width, height)?.with_style(Style::Tight);
+    let size = encoder.encode_to_buf(buf)?;
+    Ok(&buf[..size])
+}
+
+/// A buffer and a vector, by the free calls. The front of the buffer is what the vector holds.
+pub fn pack_and_keep(
+    alloc: Global,
+    buf: &mut [u8],
+    raw: &[u8],
+    width: u32,
+    height: u32,
+) -> Result<Vec<u8>, Error>
+    ensures { IfOk result (λ kept. buf.new ≡ kept.items ++ drop (length kept.items) buf.old) }
+{
+    let kept = encode_to_vec(alloc, raw, width, height)?;
+    encode_to_buf(buf, raw, width, height)?;
+    Ok(kept)
+}
+
+/// A buffer and a vector, by the methods, in any style.
+pub fn pack_and_keep_in(
+    alloc: Global,
+    buf: &mut [u8],
+    raw: &[u8],
+    width: u32,
+    height: u32,
+    style: Style,
+) -> Result<Vec<u8>, Error>
+    ensures { IfOk result (λ kept. buf.new ≡ kept.items ++ drop (length kept.items) buf.old) }
+{
+    let encoder = Encoder::new(raw, width, height)?.with_style(style);
+    encoder.encode_to_buf(buf)?;
+    let kept = encoder.encode_to_vec(alloc)?;
+    Ok(kept)
+}
+
+/// Two vectors. The free call and the method give the same file.
+pub fn keep_twice(
+    alloc: Global,
+    raw: &[u8],
+    width: u32,
+    height: u32,
+) -> Result<(Vec<u8>, Vec<u8>), Error>
+    ensures { IfOk result (λ x. x.0.items ≡ x.1.items) }
+{
+    let first = encode_to_vec(alloc, raw, width, height)?;
+    let second = Encoder::new(raw, width, height)?.encode_to_vec(alloc)?;
+    Ok((first, second))
+}
+
+/// A writer that may refuse. The file is kept, and then sent; where the writer refuses, a beginning of
+/// what is kept went out.
+pub fn keep_and_try<W: Write>(
+    alloc: Global,
+    raw: &[u8],
+    width: u32,
+    height: u32,
+    out: &mut W,
+) -> Result<(Vec<u8>, Result<usize, Error>), Error>
+    ensures { IfOk result (λ x. IfErr x.1 (λ _. AppendsBeginning (W.contents out.old)
+        (W.contents out.new) x.0.items)) }
+{
+    let encoder = Encoder::new(raw, width, height)?;
+    let kept = encoder.encode_to_vec(alloc)?;
+    let sent = encoder.encode_to_stream(out);
+    Ok((kept, sent))
+}
+
+/// Styles. In `Places` the file is as long as in `Reference`.
+pub fn as_long(
+    alloc: Global,
+    raw: &[u8],
+    width: u32,
+    height: u32,
+) -> Result<(Vec<u8>, Vec<u8>), Error> {
+    let reference = encode_to_vec(alloc, raw, width, height)?;
+    let encoder = Encoder::new(raw, width, height)?.with_style(Style::Places);
+    let places = encoder.encode_to_vec(alloc)?;
+    let same = places.len() == reference.len();
+    prove!(same);
+    Ok((reference, places))
+}
+
+/// Styles. In `Tight` the file is no longer than in any other.
+pub fn no_longer(
+    alloc: Global,
+    raw: &[u8],
+    width: u32,
+    height: u32,
+    style: Style,
+) -> Result<(Vec<u8>, Vec<u8>), Error> {
+    let encoder = Encoder::new(raw, width, height)?.with_style(style);
+    let other = encoder.encode_to_vec(alloc)?;
+    let tight = encoder.with_style(Style::Tight).encode_to_vec(alloc)?;
+    let no_longer = tight.len() <= other.len();
+    prove!(no_longer);
+    Ok((other, tight))
+}
+
+/// Styles, in a buffer and to a writer: the lengths of the files in `Reference`, `Places` and `Tight`.
+pub fn lengths<W: Write>(
+    buf: &mut [u8],
+    raw: &[u8],
+    width: u32,
+    height: u32,
+    out: &mut W,
+) -> Result<(usize, usize, usize), Error> {
+    let reference = encode_to_buf(buf, raw, width, height)?;
+    let encoder = Encoder::new(raw, width, height)?.with_style(Style::Places);
+    let places = encoder.encode_to_stream(out)?;
+    let tight = encoder.with_style(Style::Tight).encode_to_buf(buf)?;
+    let same = places == reference;
+    prove!(same);
+    let no_longer = tight <= reference;
+    prove!(no_longer);
+    Ok((reference, places, tight))
+}
+
+/// Styles, the other way round: to a writer in `Tight`, in a buffer in `Places`.
+pub fn lengths_back<W: Write>(
+    buf: &mut [u8],
+    raw: &[u8],
+    width: u32,
+    height: u32,
+    out: &mut W,
+) -> Result<(usize, usize, usize), Error> {
+    let encoder = Encoder::new(raw, width, height)?;
+    let reference = encoder.encode_to_stream(out)?;
+    let encoder = encoder.with_style(Style::Places);
+    let places = encoder.encode_to_buf(buf)?;
+    let tight = encoder.with_style(Style::Tight).encode_to_stream(out)?;
+    let same = places == reference;
+    prove!(same);
+    let no_longer = tight <= places;
+    prove!(no_longer);
+    Ok((reference, places, tight))
 }
 
 /// Lengths of files. A file has a header: its fourteenth byte is there.
