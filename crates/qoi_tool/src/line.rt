@@ -5,7 +5,7 @@ ghost use Rattle.qoi_tool.specs.Lines.{header_line};
 ghost use Rattle.qoi_tool.specs.Transfers.{WritesBeginning};
 ghost use Rattle.qoi.specs.Errors.{IsIoError};
 
-use crate::transfer::write_whole;
+use crate::transfer::write_all;
 use qoi::{Error, Header};
 use std::io;
 use std::io::Write;
@@ -46,7 +46,7 @@ pub fn write_line<W: Write>(output: &mut W, header: &Header) -> Result<(), Error
         (header_line header.now)) }
 {
     let line = line_of(header)?;
-    write_whole(output, &line.bytes[..line.filled])
+    write_all(output, &line.bytes[..line.filled])
 }
 
 // The line of a header.

@@ -17,7 +17,7 @@ ghost use Rattle.qoi_tool.specs.Answers.{Finishes, StopsAt, Stops, Does};
 
 use crate::command::{Command, command_of};
 use crate::line::write_line;
-use crate::transfer::{read_all, read_exactly, write_whole};
+use crate::transfer::{read_exact, read_to_end, write_all};
 use qoi::{Channels, ColorSpace, Decoder, Encoder, Error, Style, decode_header, decode_to_vec};
 use std::alloc::Global;
 use std::io::{ErrorKind, Read, Write};
@@ -89,9 +89,9 @@ fn decode<R: Read, W: Write>(alloc: Global, input: &mut R, output: &mut W) -> Re
         (R.remaining input.old) (R.remaining input.new) (W.contents output.old)
         (W.contents output.new)) }
 {
-    let file = read_all(alloc, input)?;
+    let file = read_to_end(alloc, input)?;
     let (_, pixels) = decode_to_vec(alloc, &file)?;
-    write_whole(output, &pixels)
+    write_all(output, &pixels)
 }
 
 // Reads a file, and writes its raw bytes in these channels.
@@ -108,10 +108,10 @@ fn decode_into<R: Read, W: Write>(
         (R.remaining input.old) (R.remaining input.new) (W.contents output.old)
         (W.contents output.new)) }
 {
-    let file = read_all(alloc, input)?;
+    let file = read_to_end(alloc, input)?;
     let mut decoder = Decoder::new(&file)?.with_channels(channels);
     let pixels = decoder.decode_to_vec(alloc)?;
-    write_whole(output, &pixels)?;
+    write_all(output, &pixels)?;
     Ok(())
 }
 
@@ -132,7 +132,7 @@ fn encode<R: Read, W: Write>(
         (R.remaining input.old) (R.remaining input.new) (W.contents output.old)
         (W.contents output.new)) }
 {
-    let pixels = read_all(alloc, input)?;
+    let pixels = read_to_end(alloc, input)?;
     let encoder = Encoder::new(&pixels, width, height)?
         .with_colorspace(colorspace)
         .with_style(style);
@@ -150,7 +150,7 @@ fn info<R: Read, W: Write>(input: &mut R, output: &mut W) -> Result<(), Error>
         (W.contents output.new)) }
 {
     let mut bytes = [0; HEADER_SIZE];
-    read_exactly(input, &mut bytes)?;
+    read_exact(input, &mut bytes)?;
     let header = decode_header(&bytes)?;
     write_line(output, &header)
 }

@@ -15,8 +15,9 @@ const LEAST: usize = 65_536;
 // The most that it grows by at a time, since all of that is filled with zeros before it is read into.
 const PIECE: usize = 1_048_576;
 
-/// All the bytes that the reader gives until a read gives none.
-pub fn read_all<R: Read>(alloc: Global, input: &mut R) -> Result<Vec<u8>, Error>
+/// All the bytes that the reader gives until a read gives none. Other than the standard library's, it
+/// doesn't try again after an interruption, which is a fault.
+pub fn read_to_end<R: Read>(alloc: Global, input: &mut R) -> Result<Vec<u8>, Error>
     ensures read { IfOk result (λ v. TakesAll (R.remaining input.old)
         (R.remaining input.new) v.items) }
     ensures failed { IfErr result IsOutside }
@@ -37,8 +38,8 @@ pub fn read_all<R: Read>(alloc: Global, input: &mut R) -> Result<Vec<u8>, Error>
 }
 
 /// Fills the buffer, and reads no byte past it; an early end is an `IoError` of kind
-/// `UnexpectedEof`.
-pub fn read_exactly<R: Read>(input: &mut R, buf: &mut [u8]) -> Result<(), Error>
+/// `UnexpectedEof`. Other than in the standard library's, an interruption is a fault.
+pub fn read_exact<R: Read>(input: &mut R, buf: &mut [u8]) -> Result<(), Error>
     ensures read { OnOk result (Consumes (R.remaining input.old) (R.remaining input.new) buf.new) }
     ensures failed { IfErr result (λ e. IsIoError e
         × TakesFewer (length buf.old) (R.remaining input.old) (R.remaining input.new)) }
@@ -72,8 +73,9 @@ fn read_after<R: Read>(input: &mut R, buf: &mut [u8], filled: usize) -> io::Resu
     Ok(count)
 }
 
-/// Writes all the bytes; after a fault a beginning of them was written.
-pub fn write_whole<W: Write>(output: &mut W, bytes: &[u8]) -> Result<(), Error>
+/// Writes all the bytes; after a fault a beginning of them was written. Other than in the standard
+/// library's, an interruption is a fault.
+pub fn write_all<W: Write>(output: &mut W, bytes: &[u8]) -> Result<(), Error>
     ensures written { OnOk result (Appends (W.contents output.old)
         (W.contents output.new) bytes.now) }
     ensures failed { IfErr result (λ e. IsIoError e

@@ -6,7 +6,7 @@ ghost use Rattle.qoi.specs.declared.error.Error.{Error};
 
 use crate::consts::QOI_HEADER_SIZE;
 use crate::decode::slice::{could_hold, slice_image};
-use crate::decode::stream::{read_all, stream_image};
+use crate::decode::stream::{read_exact, stream_image};
 use crate::error::{Error, Result};
 use crate::header::Header;
 use std::io::Read;
@@ -129,7 +129,7 @@ impl<R: Read> Reader for R {
 
     fn decode_header(&mut self) -> Result<Header> {
         let mut bytes = [0; QOI_HEADER_SIZE];
-        read_all(self, &mut bytes)?;
+        read_exact(self, &mut bytes)?;
         Header::decode(&bytes)
     }
 

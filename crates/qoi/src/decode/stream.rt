@@ -23,9 +23,9 @@ fn ended() -> io::Error {
     io::Error::new(ErrorKind::UnexpectedEof, "the stream ended within a file")
 }
 
-// Fills the buffer from a stream, and asks for no byte past it. An interruption is a fault, and so
-// is the end of the stream.
-pub(super) fn read_all<R: Read>(reader: &mut R, buf: &mut [u8]) -> io::Result<()>
+// Fills the buffer from a stream, and asks for no byte past it. Other than in the standard library's,
+// an interruption is a fault; so is the end of the stream.
+pub(super) fn read_exact<R: Read>(reader: &mut R, buf: &mut [u8]) -> io::Result<()>
     ensures read { OnOk result
         (Consumes (R.remaining reader.old) (R.remaining reader.new) buf.new) }
     ensures failed { OnErr result (HasTaken (R.remaining reader.old) (R.remaining reader.new)
@@ -88,13 +88,13 @@ fn next_chunk<R: Read, const N: usize, const F: usize>(
         }
         QOI_OP_RGB => {
             let mut more = [0, 0, 0];
-            read_all(reader, &mut more)?;
+            read_exact(reader, &mut more)?;
             let bytes = [b1, more[0], more[1], more[2], 0, 0, 0, 0];
             Ok(give_first::<N, F>(table, last, &bytes, out, at))
         }
         QOI_OP_RGBA => {
             let mut more = [0, 0, 0, 0];
-            read_all(reader, &mut more)?;
+            read_exact(reader, &mut more)?;
             let bytes = [b1, more[0], more[1], more[2], more[3], 0, 0, 0];
             Ok(give_first::<N, F>(table, last, &bytes, out, at))
         }
@@ -133,7 +133,7 @@ fn stream_marker<R: Read>(reader: &mut R) -> Result<()>
         (λ taken. RefusesTakenMarker taken e)) }
 {
     let mut eight = [0; QOI_PADDING_SIZE];
-    read_all(reader, &mut eight)?;
+    read_exact(reader, &mut eight)?;
     if eight != QOI_PADDING {
         return Err(Error::InvalidPadding);
     }

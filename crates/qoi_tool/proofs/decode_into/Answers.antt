@@ -35,9 +35,9 @@ returns-in_err-pixels-clause-refused g c =
     c.in_err-pixels.ensures.refused)
 
 -- where writing failed, the image was decoded
-pub returns-in_err-write_whole-clause-refused : goal.returns-in_err-write_whole-clause-refused
-returns-in_err-write_whole-clause-refused g c =
-    let p = err_from_is_err_and c.from_residual-in_err-write_whole.result c.from_residual-in_err-write_whole.ensures.1 in
+pub returns-in_err-write_all-clause-refused : goal.returns-in_err-write_all-clause-refused
+returns-in_err-write_all-clause-refused g c =
+    let p = err_from_is_err_and c.from_residual-in_err-write_all.result c.from_residual-in_err-write_all.ensures.1 in
     let d = c.in_ok-new.field-0 in
     let accepted = c.in_ok-new.ensures.accepted in
     let read = subst (λ (z : List ℕ). header_of z ≡ Ok d.header) c.deref.ensures.value accepted.0 in
@@ -45,5 +45,5 @@ returns-in_err-write_whole-clause-refused g c =
     let out = c.in_ok-pixels.pixels.items in
     let decoded = subst (λ (z : DecoderState (List ℕ)). ReadsImage (channels_number z.header.channels) (channels_number z.channels) (pixel_count z.header) (Some z.reader) (Some rest) out) c.with_channels-decoder.ensures c.in_ok-pixels.ensures.decoded in
     let whole = subst (λ (z : List ℕ). ReadsImage (channels_number d.header.channels) (channels_number c.args.channels) (pixel_count d.header) (Some z) (Some rest) out) (accepted.2 ∙ ap (drop header_size) c.deref.ensures.value) decoded in
-    let failed = c.in_err-write_whole.ensures.failed in
+    let failed = c.in_err-write_all.ensures.failed in
     rw (p.1, p.2) (inr (inr (failed.0, (c.in_ok-file.file.items, out, c.in_ok-file.ensures.read, (d.header, rest, read, whole), subst (WritesBeginning _ _) c.deref-2.ensures.value failed.1))))

@@ -88,4 +88,4 @@ returns-clause-held c =
     let same : c.header.result.now ≡ d.header = c.header.ensures ∙ ap (λ (s : DecoderState (List ℕ)). s.header) c.in_ok-out.ensures.kept in
     let size = c.in_ok-out.ensures.length.0 in
     rw same (bounded_by (pixel_count d.header) (length c.in_ok-out.out.items) d.channels d.reader c.args.data.now c.in_ok-out.ensures.held
-        (omega (arith, ap length accepted.2, length-drop header_size c.args.data.now)) (omega (arith, size)))
+    (omega (arith, ap length accepted.2, length-drop header_size c.args.data.now)) (omega (arith, size)))

@@ -4,4 +4,4 @@ use Rattle.qoi.proofs.decode.stream.stream_marker.Goals as goal
 
 pub returns-then-ne-clause-refused : goal.returns-then-ne-clause-refused
 returns-then-ne-clause-refused g c =
-    (c.read_all.new.buf, c.in_ok-read_all.ensures.read, (c.read_all.auto.buf, search rules))
+    (c.read_exact.new.buf, c.in_ok-read_exact.ensures.read, (c.read_exact.auto.buf, search rules))

@@ -5,6 +5,6 @@ use Rattle.qoi.proofs.decode.reader.AnyReader.decode_header.Goals as goal
 
 pub returns : goal.returns
 returns g c =
-    let bytes = c.read_all.new.buf in
-    let size : length bytes ≡ 14 = c.read_all.auto.buf in
-    stream_header (g.R.Read.remaining c.args.self.now) (g.R.Read.remaining c.read_all.new.reader) bytes c.decode.result size c.in_ok-read_all.ensures.read c.decode.ensures.read c.decode.ensures.own
+    let bytes = c.read_exact.new.buf in
+    let size : length bytes ≡ 14 = c.read_exact.auto.buf in
+    stream_header (g.R.Read.remaining c.args.self.now) (g.R.Read.remaining c.read_exact.new.reader) bytes c.decode.result size c.in_ok-read_exact.ensures.read c.decode.ensures.read c.decode.ensures.own

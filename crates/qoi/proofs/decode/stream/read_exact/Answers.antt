@@ -7,7 +7,7 @@ use borrow.Rule.Slice.PartMut.{put_mid, post_of}
 use Rattle.qoi.specs.Qoi.{AreBytes}
 use Rattle.qoi.proofs.Results.{on_err}
 use Rattle.qoi.proofs.decoding.StreamReads.{take-read, take-before, bytes_take}
-use Rattle.qoi.proofs.decode.stream.read_all.Goals as goal
+use Rattle.qoi.proofs.decode.stream.read_exact.Goals as goal
 
 pub returns-in_err-count-clause-failed : goal.returns-in_err-count-clause-failed
 returns-in_err-count-clause-failed g c =

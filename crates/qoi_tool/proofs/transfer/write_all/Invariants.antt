@@ -1,7 +1,7 @@
 -- What is left to write is the end of the bytes.
 use Rattle.std.proofs.Common.{◌≡◌, ℕ, List, ◌++◌, length}
 use Rattle.std.specs.Io.KnownBytes.{Appends}
-use Rattle.qoi_tool.proofs.transfer.write_whole.Given as goal
+use Rattle.qoi_tool.proofs.transfer.write_all.Given as goal
 
 abbrev pub invariant-loop-rest : goal.invariant-loop-rest
 invariant-loop-rest g l =

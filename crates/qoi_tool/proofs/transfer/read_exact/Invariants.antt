@@ -1,7 +1,7 @@
 -- What was taken stands at the front of the buffer.
 use Rattle.std.proofs.Common.{◌-◌, ◌≤◌, length, take}
 use Rattle.std.specs.Io.KnownBytes.{Consumes}
-use Rattle.qoi_tool.proofs.transfer.read_exactly.Given as goal
+use Rattle.qoi_tool.proofs.transfer.read_exact.Given as goal
 
 abbrev pub invariant-loop-filled : goal.invariant-loop-filled
 invariant-loop-filled g l =

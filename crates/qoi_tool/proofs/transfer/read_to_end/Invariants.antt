@@ -1,7 +1,7 @@
 -- What was read stands at the front of the vector.
 use Rattle.std.proofs.Common.{◌-◌, ◌^◌, ◌≤◌, take, vec_len}
 use Rattle.std.specs.Io.KnownBytes.{Consumes}
-use Rattle.qoi_tool.proofs.transfer.read_all.Given as goal
+use Rattle.qoi_tool.proofs.transfer.read_to_end.Given as goal
 
 abbrev pub invariant-loop-filled : goal.invariant-loop-filled
 invariant-loop-filled g l =
