@@ -6,10 +6,10 @@ use Rattle.qoi.specs.declared.chunk.Chunk.{Chunk}
 use Rattle.qoi.specs.Qoi.{RgbaPixel, IsPixel, IsChunk, bytes_of}
 use Rattle.qoi.specs.Raw.{IsChannels}
 use Rattle.qoi.specs.inner.Packed.{word, pixel_of_word}
-use Rattle.qoi.specs.inner.Steps.{steps, small_steps, wide_steps}
-use Rattle.qoi.specs.inner.Quad.{stepped, step_word, small_word, wide_word, plus_32, diff_number, luma_number, rgb_number, spelled_number, spelled_count, SameAlpha, IsSpelled}
+use Rattle.qoi.specs.inner.Steps.{steps, diff_steps, luma_steps}
+use Rattle.qoi.specs.inner.Quad.{stepped, step_word, diff_word, luma_word, plus_32, diff_number, luma_number, rgb_number, spelled_number, spelled_count, SameAlpha, IsSpelled}
 use Rattle.qoi.proofs.format.SamePixels.{same_pixel}
-use Rattle.qoi.proofs.encoding.SpelledSteps.{small_cut, wide_cut, spelled, spelled_first}
+use Rattle.qoi.proofs.encoding.SpelledSteps.{diff_bits, luma_bits, spelled, spelled_first}
 
 -- the highest bits of a byte
 and_fc : (x : ℕ) → x < 256 → bit_and x 252 ≡ x / 4 * 4
@@ -50,7 +50,7 @@ alpha_mask p i =
     ∙ masked p.r p.g p.b p.a 0 0 0 255 i.r i.g i.b (omega arith) (omega arith) (omega arith)
     ∙ omega (arith, and_mask p.r 0, and_mask p.g 0, and_mask p.b 0, and_mask p.a 8, i.a)
 
-is_diff : (p : RgbaPixel) → IsPixel p → IsTrue (eqb (bit_and (word p) 0xfffcfcfc) 0) ↔ (small_cut p ≡ p)
+is_diff : (p : RgbaPixel) → IsPixel p → IsTrue (eqb (bit_and (word p) 0xfffcfcfc) 0) ↔ (diff_bits p ≡ p)
 is_diff p i = (
   λ t. (let e = eqb-true _ _ t in let m = diff_mask p i in same_pixel _ p (omega arith) (omega arith) (omega arith) (omega arith)),
   λ e. (
@@ -61,7 +61,7 @@ is_diff p i = (
       eq-eqb _ _ (diff_mask p i ∙ omega arith)),
 )
 
-is_luma : (p : RgbaPixel) → IsPixel p → IsTrue (eqb (bit_and (word p) 0xfff0c0f0) 0) ↔ (wide_cut p ≡ p)
+is_luma : (p : RgbaPixel) → IsPixel p → IsTrue (eqb (bit_and (word p) 0xfff0c0f0) 0) ↔ (luma_bits p ≡ p)
 is_luma p i = (
   λ t. (let e = eqb-true _ _ t in let m = luma_mask p i in same_pixel _ p (omega arith) (omega arith) (omega arith) (omega arith)),
   λ e. (
@@ -102,9 +102,9 @@ full_fourth : (p n : ℕ) → n ≤ 1 → plus_32 (rgb_number p) n / 256 / 256 /
 full_fourth p n l = omega arith
 
 -- the bytes of the choice
-chunk_bytes : (d l k : Bool) (sm wi : RgbaPixel) (p : ℕ) → (d ≡ true → small_cut sm ≡ sm) → (l ≡ true → wide_cut wi ≡ wi)
+chunk_bytes : (d l k : Bool) (sm wi : RgbaPixel) (p : ℕ) → (d ≡ true → diff_bits sm ≡ sm) → (l ≡ true → luma_bits wi ≡ wi)
     → take (cond d 1 (cond l 2 (plus_32 4 (cond k 0 1)))) (digits_l 256 4 (cond d (diff_number (word sm)) (cond l (luma_number (word wi)) (plus_32 (rgb_number p) (cond k 0 1)))) ++ (p / 2 ^ 24) ∷ [])
-    ≡ bytes_of (spelled d l k (small_cut sm) (wide_cut wi) (pixel_of_word p))
+    ≡ bytes_of (spelled d l k (diff_bits sm) (luma_bits wi) (pixel_of_word p))
 chunk_bytes true l k sm wi p hd hl =
     let e = hd refl in
     λ i. diff_low sm.r sm.g sm.b sm.a (ap (λ z. z.r) e) (ap (λ z. z.g) e) (ap (λ z. z.b) e) (ap (λ z. z.a) e) i ∷ []
@@ -115,7 +115,7 @@ chunk_bytes false false true sm wi p hd hl = λ i. full_first p 0 (omega arith) 
 chunk_bytes false false false sm wi p hd hl = λ i. full_first p 1 (omega arith) i ∷ full_second p 1 (omega arith) i ∷ full_third p 1 (omega arith) i ∷ full_fourth p 1 (omega arith) i ∷ (p / 2 ^ 24) ∷ []
 
 -- it is a chunk
-chosen_chunk : (d l k : Bool) (sm wi p : RgbaPixel) → IsPixel p → IsChunk (spelled d l k (small_cut sm) (wide_cut wi) p)
+chosen_chunk : (d l k : Bool) (sm wi p : RgbaPixel) → IsPixel p → IsChunk (spelled d l k (diff_bits sm) (luma_bits wi) p)
 chosen_chunk true l k sm wi p i = (omega arith, omega arith)
 chosen_chunk false true k sm wi p i = (omega arith, omega arith, omega arith)
 chosen_chunk false false true sm wi p i = (i.r, i.g, i.b)
@@ -132,21 +132,21 @@ unpacked p i = same_pixel _ p (omega (arith, i.r, i.g, i.b, i.a)) (omega (arith,
 steps_pixel : (q p : RgbaPixel) → IsPixel (steps q p)
 steps_pixel q p = record { r = omega arith; g = omega arith; b = omega arith; a = omega arith }
 
-small_pixel : (s : RgbaPixel) → IsPixel s → IsPixel (small_steps s)
-small_pixel s i = record { r = omega arith; g = omega arith; b = omega arith; a = i.a }
+diff_pixel : (s : RgbaPixel) → IsPixel s → IsPixel (diff_steps s)
+diff_pixel s i = record { r = omega arith; g = omega arith; b = omega arith; a = i.a }
 
-wide_pixel : (s : RgbaPixel) → IsPixel s → IsPixel (wide_steps s)
-wide_pixel s i = record { r = omega arith; g = omega arith; b = omega arith; a = i.a }
+luma_pixel : (s : RgbaPixel) → IsPixel s → IsPixel (luma_steps s)
+luma_pixel s i = record { r = omega arith; g = omega arith; b = omega arith; a = i.a }
 
 module _ (p q : ℕ) (lp : p < 2 ^ 32) (lq : q < 2 ^ 32) where
   abbrev s : RgbaPixel
   s = steps (pixel_of_word q) (pixel_of_word p)
 
   abbrev sm : RgbaPixel
-  sm = small_steps s
+  sm = diff_steps s
 
   abbrev wi : RgbaPixel
-  wi = wide_steps s
+  wi = luma_steps s
 
   abbrev d : Bool
   d = eqb (bit_and (word sm) 0xfffcfcfc) 0
@@ -158,7 +158,7 @@ module _ (p q : ℕ) (lp : p < 2 ^ 32) (lq : q < 2 ^ 32) where
   k = eqb (bit_and (word s) 0xff000000) 0
 
   abbrev chunk_of_lanes : Chunk
-  chunk_of_lanes = spelled d l k (small_cut sm) (wide_cut wi) (pixel_of_word p)
+  chunk_of_lanes = spelled d l k (diff_bits sm) (luma_bits wi) (pixel_of_word p)
 
   is_s : IsPixel s
   is_s = steps_pixel (pixel_of_word q) (pixel_of_word p)
@@ -167,20 +167,20 @@ module _ (p q : ℕ) (lp : p < 2 ^ 32) (lq : q < 2 ^ 32) where
   back = unpacked s is_s
 
   number_is : spelled_number p q ≡ cond d (diff_number (word sm)) (cond l (luma_number (word wi)) (plus_32 (rgb_number p) (cond k 0 1)))
-  number_is = λ i. cond (eqb (bit_and (word (small_steps (back i))) 0xfffcfcfc) 0) (diff_number (word (small_steps (back i)))) (cond (eqb (bit_and (word (wide_steps (back i))) 0xfff0c0f0) 0) (luma_number (word (wide_steps (back i)))) (plus_32 (rgb_number p) (cond k 0 1)))
+  number_is = λ i. cond (eqb (bit_and (word (diff_steps (back i))) 0xfffcfcfc) 0) (diff_number (word (diff_steps (back i)))) (cond (eqb (bit_and (word (luma_steps (back i))) 0xfff0c0f0) 0) (luma_number (word (luma_steps (back i)))) (plus_32 (rgb_number p) (cond k 0 1)))
 
   count_is : spelled_count p q ≡ cond d 1 (cond l 2 (plus_32 4 (cond k 0 1)))
-  count_is = λ i. cond (eqb (bit_and (word (small_steps (back i))) 0xfffcfcfc) 0) 1 (cond (eqb (bit_and (word (wide_steps (back i))) 0xfff0c0f0) 0) 2 (plus_32 4 (cond k 0 1)))
+  count_is = λ i. cond (eqb (bit_and (word (diff_steps (back i))) 0xfffcfcfc) 0) 1 (cond (eqb (bit_and (word (luma_steps (back i))) 0xfff0c0f0) 0) 2 (plus_32 4 (cond k 0 1)))
 
   pub spelled_lane : IsSpelled p q (spelled_number p q) (spelled_count p q) chunk_of_lanes
   spelled_lane =
-      let dt = is_diff sm (small_pixel s is_s) in
-      let lt = is_luma wi (wide_pixel s is_s) in
+      let dt = is_diff sm (diff_pixel s is_s) in
+      let lt = is_luma wi (luma_pixel s is_s) in
       let kt = keeps_alpha s is_s in
       record {
         chunk = chosen_chunk d l k sm wi (pixel_of_word p) (of_word p lp);
         bytes = (λ i. take (count_is i) (digits_l 256 4 (number_is i) ++ (p / 2 ^ 24) ∷ [])) ∙ chunk_bytes d l k sm wi p dt.0 lt.0;
-        first = λ past before e. spelled_first past (pixel_of_word p) before (of_word p lp) s sm (small_cut sm) wi (wide_cut wi) d l k (λ i. steps (sym e i) (pixel_of_word p)) refl refl refl refl dt lt kt;
+        first = λ past before e. spelled_first past (pixel_of_word p) before (of_word p lp) s sm (diff_bits sm) wi (luma_bits wi) d l k (λ i. steps (sym e i) (pixel_of_word p)) refl refl refl refl dt lt kt;
       }
 
 -- the lanes of four
@@ -221,14 +221,14 @@ count_kept false false true e = omega arith
 count_kept false false false e = absurd (let no : false ≡ true = e in cc)
 
 few_bytes : (p q : ℕ) → spelled_count p q ≤ 5
-few_bytes p q = let s = step_word p q in count_few (eqb (bit_and (small_word s) 0xfffcfcfc) 0) (eqb (bit_and (wide_word s) 0xfff0c0f0) 0) (eqb (bit_and s 0xff000000) 0)
+few_bytes p q = let s = step_word p q in count_few (eqb (bit_and (diff_word s) 0xfffcfcfc) 0) (eqb (bit_and (luma_word s) 0xfff0c0f0) 0) (eqb (bit_and s 0xff000000) 0)
 
 kept_bytes : (p q : ℕ) → p < 2 ^ 32 → q < 2 ^ 32 → p / 2 ^ 24 ≡ q / 2 ^ 24 → spelled_count p q ≤ 4
 kept_bytes p q lp lq e =
     let s = step_word p q in
     let is_s = steps_pixel (pixel_of_word q) (pixel_of_word p) in
     let zero : (steps (pixel_of_word q) (pixel_of_word p)).a ≡ 0 = omega arith in
-    count_kept (eqb (bit_and (small_word s) 0xfffcfcfc) 0) (eqb (bit_and (wide_word s) 0xfff0c0f0) 0) (eqb (bit_and s 0xff000000) 0) ((keeps_alpha (steps (pixel_of_word q) (pixel_of_word p)) is_s).1 zero)
+    count_kept (eqb (bit_and (diff_word s) 0xfffcfcfc) 0) (eqb (bit_and (luma_word s) 0xfff0c0f0) 0) (eqb (bit_and s 0xff000000) 0) ((keeps_alpha (steps (pixel_of_word q) (pixel_of_word p)) is_s).1 zero)
 
 same_at : (ps qs : List ℕ) (k : ℕ) → k < length ps → k < length qs → SameAlpha ps qs → slice_index ps k / 2 ^ 24 ≡ slice_index qs k / 2 ^ 24
 same_at [] qs k h j s = absurd (omega arith)

@@ -4,7 +4,7 @@ use Rattle.qoi.specs.declared.chunk.Chunk.{Chunk}
 use Rattle.qoi.specs.declared.chunk.Chunk.TheVariants.{Diff, Luma, Rgb, Rgba}
 use Rattle.qoi.specs.Qoi.{RgbaPixel, pixel, IsPixel, Past, previous, diff_tag, luma_tag}
 use Rattle.qoi.specs.Written.{IsFirst}
-use Rattle.qoi.specs.inner.Steps.{steps, small_steps, wide_steps}
+use Rattle.qoi.specs.inner.Steps.{steps, diff_steps, luma_steps}
 use Rattle.qoi.proofs.format.SamePixels.{same_pixel}
 use Rattle.qoi.proofs.encoding.Spelled.{plus_2, plus_32, plus_8, FitsDiff, FitsLuma, first_diff, first_luma, first_rgb, first_rgba}
 
@@ -13,12 +13,12 @@ absurd_false : false ≡ true → ⊥
 absurd_false e = cc
 
 -- the steps of a Diff, cut to its bits
-abbrev pub small_cut : RgbaPixel → RgbaPixel
-small_cut s = pixel (s.r % 4) (s.g % 4) (s.b % 4) 0
+abbrev pub diff_bits : RgbaPixel → RgbaPixel
+diff_bits s = pixel (s.r % 4) (s.g % 4) (s.b % 4) 0
 
 -- the steps of a Luma, cut to its bits
-abbrev pub wide_cut : RgbaPixel → RgbaPixel
-wide_cut s = pixel (s.r % 16) (s.g % 64) (s.b % 16) 0
+abbrev pub luma_bits : RgbaPixel → RgbaPixel
+luma_bits s = pixel (s.r % 16) (s.g % 64) (s.b % 16) 0
 
 -- the chunk that the steps choose
 abbrev pub spelled : Bool → Bool → Bool → RgbaPixel → RgbaPixel → RgbaPixel → Chunk
@@ -40,10 +40,10 @@ module _ (past : Past) (p : RgbaPixel) (iq : IsPixel (previous past)) (ip : IsPi
   q = previous past
 
   abbrev small : RgbaPixel
-  small = small_steps (steps q p)
+  small = diff_steps (steps q p)
 
   abbrev wide : RgbaPixel
-  wide = wide_steps (steps q p)
+  wide = luma_steps (steps q p)
 
   -- the steps of a Diff are the format's
   small_r : small.r ≡ plus_2 p.r q.r
@@ -73,7 +73,7 @@ module _ (past : Past) (p : RgbaPixel) (iq : IsPixel (previous past)) (ip : IsPi
   alpha_step e = omega (arith, iq.a, ip.a)
 
   -- steps that the cut leaves as they are fit a Diff
-  fits_diff : small_cut small ≡ small → FitsDiff q p
+  fits_diff : diff_bits small ≡ small → FitsDiff q p
   fits_diff e =
       let r : small.r % 4 ≡ small.r = ap (λ z. z.r) e in
       let g : small.g % 4 ≡ small.g = ap (λ z. z.g) e in
@@ -81,23 +81,23 @@ module _ (past : Past) (p : RgbaPixel) (iq : IsPixel (previous past)) (ip : IsPi
       record { r = rw (sym small_r) (omega (arith, r)); g = rw (sym small_g) (omega (arith, g)); b = rw (sym small_b) (omega (arith, b)) }
 
   -- and those that fit one stay as they are
-  diff_fits : p.a ≡ q.a → FitsDiff q p → small_cut small ≡ small
+  diff_fits : p.a ≡ q.a → FitsDiff q p → diff_bits small ≡ small
   diff_fits alpha f = same_pixel _ _ (omega (arith, f.r, small_r)) (omega (arith, f.g, small_g)) (omega (arith, f.b, small_b)) (sym (alpha_step alpha))
 
   -- so it is of a Luma
-  fits_luma : wide_cut wide ≡ wide → FitsLuma q p
+  fits_luma : luma_bits wide ≡ wide → FitsLuma q p
   fits_luma e =
       let r : wide.r % 16 ≡ wide.r = ap (λ z. z.r) e in
       let g : wide.g % 64 ≡ wide.g = ap (λ z. z.g) e in
       let b : wide.b % 16 ≡ wide.b = ap (λ z. z.b) e in
       record { r = rw (sym wide_r) (omega (arith, r)); g = rw (sym wide_g) (omega (arith, g)); b = rw (sym wide_b) (omega (arith, b)) }
 
-  luma_fits : p.a ≡ q.a → FitsLuma q p → wide_cut wide ≡ wide
+  luma_fits : p.a ≡ q.a → FitsLuma q p → luma_bits wide ≡ wide
   luma_fits alpha f = same_pixel _ _ (omega (arith, f.r, wide_r)) (omega (arith, f.g, wide_g)) (omega (arith, f.b, wide_b)) (sym (alpha_step alpha))
 
   -- the first chunk that gives the pixel
-  first_of : (is_diff is_luma keeps : Bool) → (IsTrue is_diff ↔ (small_cut small ≡ small)) → (IsTrue is_luma ↔ (wide_cut wide ≡ wide)) → (IsTrue keeps ↔ ((steps q p).a ≡ 0))
-      → IsFirst past p (spelled is_diff is_luma keeps (small_cut small) (wide_cut wide) p)
+  first_of : (is_diff is_luma keeps : Bool) → (IsTrue is_diff ↔ (diff_bits small ≡ small)) → (IsTrue is_luma ↔ (luma_bits wide ≡ wide)) → (IsTrue keeps ↔ ((steps q p).a ≡ 0))
+      → IsFirst past p (spelled is_diff is_luma keeps (diff_bits small) (luma_bits wide) p)
   first_of true is_luma keeps d l k =
       let e = d.0 refl in
       let alpha = alpha_same (ap (λ z. z.a) e) in
@@ -116,13 +116,13 @@ module _ (past : Past) (p : RgbaPixel) (iq : IsPixel (previous past)) (ip : IsPi
   first_of false false false d l k = first_rgba past p (λ same. absurd_false (k.1 (alpha_step same)))
 
   -- from the steps as they were found
-  pub spelled_first : (m sm cs wi cw : RgbaPixel) (is_diff is_luma keeps : Bool) → m ≡ steps q p → sm ≡ small_steps m → cs ≡ small_cut sm → wi ≡ wide_steps m → cw ≡ wide_cut wi
+  pub spelled_first : (m sm cs wi cw : RgbaPixel) (is_diff is_luma keeps : Bool) → m ≡ steps q p → sm ≡ diff_steps m → cs ≡ diff_bits sm → wi ≡ luma_steps m → cw ≡ luma_bits wi
       → (IsTrue is_diff ↔ (cs ≡ sm)) → (IsTrue is_luma ↔ (cw ≡ wi)) → (IsTrue keeps ↔ (m.a ≡ 0)) → IsFirst past p (spelled is_diff is_luma keeps cs cw p)
   spelled_first m sm cs wi cw is_diff is_luma keeps em es ec ew el d l k =
-      let s = es ∙ ap small_steps em in
-      let c = ec ∙ ap small_cut s in
-      let w = ew ∙ ap wide_steps em in
-      let f = el ∙ ap wide_cut w in
+      let s = es ∙ ap diff_steps em in
+      let c = ec ∙ ap diff_bits s in
+      let w = ew ∙ ap luma_steps em in
+      let f = el ∙ ap luma_bits w in
       let a = ap (λ z. z.a) em in
       subst (IsFirst past p) (λ i. spelled is_diff is_luma keeps (sym c i) (sym f i) p)
       (first_of is_diff is_luma keeps (λ t. sym c ∙ d.0 t ∙ s, λ e. d.1 (c ∙ e ∙ sym s)) (λ t. sym f ∙ l.0 t ∙ w, λ e. l.1 (f ∙ e ∙ sym w)) (λ t. sym a ∙ k.0 t, λ e. k.1 (a ∙ e)))

@@ -7,7 +7,7 @@ use lib.Lanes.{Each1, zip2, pick_l, sel_l, top, number_l, digits_l, dots}
 use Rattle.qoi.specs.Qoi.{AreBytes, hash}
 use Rattle.qoi.specs.Raw.{pixels_of, pixels_of_3, pixels_of_4}
 use Rattle.qoi.specs.inner.Packed.{word, pixel_of_word}
-use Rattle.qoi.specs.inner.Quad.{stepped, step_word, small_word, wide_word, green_twice, plus_32, up, down, diff_number, luma_number, rgb_number, changes, full_number, full_count, KeepAlpha, spelled_number, spelled_count, SameAlpha}
+use Rattle.qoi.specs.inner.Quad.{stepped, step_word, diff_word, luma_word, green_twice, plus_32, up, down, diff_number, luma_number, rgb_number, changes, full_number, full_count, KeepAlpha, spelled_number, spelled_count, SameAlpha}
 
 -- four times as many
 abbrev pub fourfold : ℕ → ℕ
@@ -109,16 +109,16 @@ through f xs bs e g fit small =
     ∙ lanes_of_bytes 4 (zip2 f (bytes_in xs) bs) (length-zip2 f (bytes_in xs) bs (sym (ap length is) ∙ sym g) ∙ sym (ap length is)) (Each1-zip2 f (λ b. b < 256) (bytes_in xs) bs (Each2-all (λ a b. f a b < 256) small (bytes_in xs) bs))
 
 -- two added to the bytes of red, green and blue
-small_lane : (x : ℕ) → x < 2 ^ 32 → of_four (plus (x % 2 ^ 8) 2) (plus (x / 2 ^ 8 % 2 ^ 8) 2) (plus (x / 2 ^ 16 % 2 ^ 8) 2) (plus (x / 2 ^ 24) 0) ≡ small_word x
-small_lane x l = omega arith
+diff_step_lane : (x : ℕ) → x < 2 ^ 32 → of_four (plus (x % 2 ^ 8) 2) (plus (x / 2 ^ 8 % 2 ^ 8) 2) (plus (x / 2 ^ 16 % 2 ^ 8) 2) (plus (x / 2 ^ 24) 0) ≡ diff_word x
+diff_step_lane x l = omega arith
 
-small_words : (xs : List ℕ) → length xs ≡ 4 → Each1 (Fits w32) xs → words_in (zip2 plus (bytes_in xs) (2 ∷ 2 ∷ 2 ∷ 0 ∷ 2 ∷ 2 ∷ 2 ∷ 0 ∷ 2 ∷ 2 ∷ 2 ∷ 0 ∷ 2 ∷ 2 ∷ 2 ∷ 0 ∷ [])) ≡ map small_word xs
-small_words (x ∷ y ∷ z ∷ w ∷ []) e f = λ i. small_lane x f.0.fits i ∷ small_lane y f.1.0.fits i ∷ small_lane z f.1.1.0.fits i ∷ small_lane w f.1.1.1.0.fits i ∷ []
-small_words _ e f = absurd (omega arith)
+diff_step_words : (xs : List ℕ) → length xs ≡ 4 → Each1 (Fits w32) xs → words_in (zip2 plus (bytes_in xs) (2 ∷ 2 ∷ 2 ∷ 0 ∷ 2 ∷ 2 ∷ 2 ∷ 0 ∷ 2 ∷ 2 ∷ 2 ∷ 0 ∷ 2 ∷ 2 ∷ 2 ∷ 0 ∷ [])) ≡ map diff_word xs
+diff_step_words (x ∷ y ∷ z ∷ w ∷ []) e f = λ i. diff_step_lane x f.0.fits i ∷ diff_step_lane y f.1.0.fits i ∷ diff_step_lane z f.1.1.0.fits i ∷ diff_step_lane w f.1.1.1.0.fits i ∷ []
+diff_step_words _ e f = absurd (omega arith)
 
-pub small_lanes : (xs : List ℕ) → length xs ≡ 4 → Each1 (Fits w32) xs
-    → digits_l 4294967296 4 (number_l 256 (zip2 plus (digits_l 256 16 (number_l 4294967296 xs)) (2 ∷ 2 ∷ 2 ∷ 0 ∷ 2 ∷ 2 ∷ 2 ∷ 0 ∷ 2 ∷ 2 ∷ 2 ∷ 0 ∷ 2 ∷ 2 ∷ 2 ∷ 0 ∷ []))) ≡ map small_word xs
-small_lanes xs e f = through plus xs (2 ∷ 2 ∷ 2 ∷ 0 ∷ 2 ∷ 2 ∷ 2 ∷ 0 ∷ 2 ∷ 2 ∷ 2 ∷ 0 ∷ 2 ∷ 2 ∷ 2 ∷ 0 ∷ []) e refl f (λ a b. omega arith) ∙ small_words xs e f
+pub diff_step_lanes : (xs : List ℕ) → length xs ≡ 4 → Each1 (Fits w32) xs
+    → digits_l 4294967296 4 (number_l 256 (zip2 plus (digits_l 256 16 (number_l 4294967296 xs)) (2 ∷ 2 ∷ 2 ∷ 0 ∷ 2 ∷ 2 ∷ 2 ∷ 0 ∷ 2 ∷ 2 ∷ 2 ∷ 0 ∷ 2 ∷ 2 ∷ 2 ∷ 0 ∷ []))) ≡ map diff_word xs
+diff_step_lanes xs e f = through plus xs (2 ∷ 2 ∷ 2 ∷ 0 ∷ 2 ∷ 2 ∷ 2 ∷ 0 ∷ 2 ∷ 2 ∷ 2 ∷ 0 ∷ 2 ∷ 2 ∷ 2 ∷ 0 ∷ []) e refl f (λ a b. omega arith) ∙ diff_step_words xs e f
 
 -- the index position of a lane
 place : (x : ℕ) → bit_and (x % 2 ^ 8 * 3 + x / 2 ^ 8 % 2 ^ 8 * 5 + (x / 2 ^ 16 % 2 ^ 8 * 7 + x / 2 ^ 24 * 11)) 63 ≡ hash (pixel_of_word x)
@@ -147,36 +147,36 @@ pub green_lanes : (xs : List ℕ) → length xs ≡ 4
 green_lanes (x ∷ y ∷ z ∷ w ∷ []) e = λ i. green_lane x i ∷ green_lane y i ∷ green_lane z i ∷ green_lane w i ∷ []
 green_lanes _ e = absurd (omega arith)
 
--- the wide steps of a lane
-wide_lane : (x g : ℕ) → x < 2 ^ 32 → g ≡ green_twice x
-    → of_four (less (plus (x % 2 ^ 8) 8) (g % 2 ^ 8)) (less (plus (x / 2 ^ 8 % 2 ^ 8) 32) (g / 2 ^ 8 % 2 ^ 8)) (less (plus (x / 2 ^ 16 % 2 ^ 8) 8) (g / 2 ^ 16 % 2 ^ 8)) (less (plus (x / 2 ^ 24) 0) (g / 2 ^ 24)) ≡ wide_word x
-wide_lane x g l e = omega arith
+-- the steps of a luma of a lane
+luma_step_lane : (x g : ℕ) → x < 2 ^ 32 → g ≡ green_twice x
+    → of_four (less (plus (x % 2 ^ 8) 8) (g % 2 ^ 8)) (less (plus (x / 2 ^ 8 % 2 ^ 8) 32) (g / 2 ^ 8 % 2 ^ 8)) (less (plus (x / 2 ^ 16 % 2 ^ 8) 8) (g / 2 ^ 16 % 2 ^ 8)) (less (plus (x / 2 ^ 24) 0) (g / 2 ^ 24)) ≡ luma_word x
+luma_step_lane x g l e = omega arith
 
 abbrev widened : List ℕ → List ℕ
 widened xs = zip2 plus (bytes_in xs) (8 ∷ 32 ∷ 8 ∷ 0 ∷ 8 ∷ 32 ∷ 8 ∷ 0 ∷ 8 ∷ 32 ∷ 8 ∷ 0 ∷ 8 ∷ 32 ∷ 8 ∷ 0 ∷ [])
 
-wide_words : (xs gs : List ℕ) → length xs ≡ 4 → Each1 (Fits w32) xs → gs ≡ map green_twice xs → words_in (zip2 less (widened xs) (bytes_in gs)) ≡ map wide_word xs
-wide_words (x ∷ y ∷ z ∷ w ∷ []) gs e f h =
+luma_step_words : (xs gs : List ℕ) → length xs ≡ 4 → Each1 (Fits w32) xs → gs ≡ map green_twice xs → words_in (zip2 less (widened xs) (bytes_in gs)) ≡ map luma_word xs
+luma_step_words (x ∷ y ∷ z ∷ w ∷ []) gs e f h =
     ap (λ gs. words_in (zip2 less (widened (x ∷ y ∷ z ∷ w ∷ [])) (bytes_in gs))) h
-    ∙ (λ i. wide_lane x _ f.0.fits refl i ∷ wide_lane y _ f.1.0.fits refl i ∷ wide_lane z _ f.1.1.0.fits refl i ∷ wide_lane w _ f.1.1.1.0.fits refl i ∷ [])
-wide_words _ gs e f h = absurd (omega arith)
+    ∙ (λ i. luma_step_lane x _ f.0.fits refl i ∷ luma_step_lane y _ f.1.0.fits refl i ∷ luma_step_lane z _ f.1.1.0.fits refl i ∷ luma_step_lane w _ f.1.1.1.0.fits refl i ∷ [])
+luma_step_words _ gs e f h = absurd (omega arith)
 
-long_wide : (xs gs : List ℕ) → length xs ≡ 4 → length gs ≡ 4 → length (zip2 less (widened xs) (bytes_in gs)) ≡ 16
-long_wide (x ∷ y ∷ z ∷ w ∷ []) (a ∷ b ∷ c ∷ d ∷ []) e h = refl
-long_wide (x ∷ y ∷ z ∷ w ∷ []) _ e h = absurd (omega arith)
-long_wide _ gs e h = absurd (omega arith)
+long_luma : (xs gs : List ℕ) → length xs ≡ 4 → length gs ≡ 4 → length (zip2 less (widened xs) (bytes_in gs)) ≡ 16
+long_luma (x ∷ y ∷ z ∷ w ∷ []) (a ∷ b ∷ c ∷ d ∷ []) e h = refl
+long_luma (x ∷ y ∷ z ∷ w ∷ []) _ e h = absurd (omega arith)
+long_luma _ gs e h = absurd (omega arith)
 
 greens_fit : (xs : List ℕ) → Each1 (Fits w32) (map green_twice xs)
 greens_fit [] = tt
 greens_fit (x ∷ xs) = (record { fits = omega arith }, greens_fit xs)
 
-pub wide_lanes : (xs gs : List ℕ) → length xs ≡ 4 → Each1 (Fits w32) xs → gs ≡ map green_twice xs
-    → digits_l 4294967296 4 (number_l 256 (zip2 less (zip2 plus (digits_l 256 16 (number_l 4294967296 xs)) (8 ∷ 32 ∷ 8 ∷ 0 ∷ 8 ∷ 32 ∷ 8 ∷ 0 ∷ 8 ∷ 32 ∷ 8 ∷ 0 ∷ 8 ∷ 32 ∷ 8 ∷ 0 ∷ [])) (digits_l 256 16 (number_l 4294967296 gs)))) ≡ map wide_word xs
-wide_lanes xs gs e f t =
+pub luma_step_lanes : (xs gs : List ℕ) → length xs ≡ 4 → Each1 (Fits w32) xs → gs ≡ map green_twice xs
+    → digits_l 4294967296 4 (number_l 256 (zip2 less (zip2 plus (digits_l 256 16 (number_l 4294967296 xs)) (8 ∷ 32 ∷ 8 ∷ 0 ∷ 8 ∷ 32 ∷ 8 ∷ 0 ∷ 8 ∷ 32 ∷ 8 ∷ 0 ∷ 8 ∷ 32 ∷ 8 ∷ 0 ∷ [])) (digits_l 256 16 (number_l 4294967296 gs)))) ≡ map luma_word xs
+luma_step_lanes xs gs e f t =
     let h : length gs ≡ 4 = ap length t ∙ length-map xs green_twice ∙ e in
     (λ i. digits_l 4294967296 4 (number_l 256 (zip2 less (zip2 plus (bytes_of_lanes 4 xs e f i) (8 ∷ 32 ∷ 8 ∷ 0 ∷ 8 ∷ 32 ∷ 8 ∷ 0 ∷ 8 ∷ 32 ∷ 8 ∷ 0 ∷ 8 ∷ 32 ∷ 8 ∷ 0 ∷ [])) (bytes_of_lanes 4 gs h (subst (Each1 (Fits w32)) (sym t) (greens_fit xs)) i))))
-    ∙ lanes_of_bytes 4 _ (long_wide xs gs e h) (Each1-zip2 less (λ b. b < 256) (widened xs) (bytes_in gs) (Each2-all (λ a b. less a b < 256) (λ a b. omega arith) (widened xs) (bytes_in gs)))
-    ∙ wide_words xs gs e f t
+    ∙ lanes_of_bytes 4 _ (long_luma xs gs e h) (Each1-zip2 less (λ b. b < 256) (widened xs) (bytes_in gs) (Each2-all (λ a b. less a b < 256) (λ a b. omega arith) (widened xs) (bytes_in gs)))
+    ∙ luma_step_words xs gs e f t
 
 -- the front of four-byte pixels, as lanes
 words_of_4 : (n : ℕ) (bytes : List ℕ) → fourfold n ≤ length bytes → words_in (take (fourfold n) bytes) ≡ map word (take n (pixels_of_4 bytes))
@@ -312,28 +312,28 @@ one_chosen : (t u d l f : ℕ) → top_lane_of t u d l f ≡ lane_of t u d l f
 one_chosen t u d l f = chosen (eqb (bit_and t 0xfffcfcfc) 0) (eqb (bit_and u 0xfff0c0f0) 0) d l f
 
 number_choice : (cur prev : List ℕ) → length cur ≡ 4 → length prev ≡ 4
-    → (let ss = stepped step_word cur prev in let ts = map small_word ss in let us = map wide_word ss in choice ts us (map diff_number ts) (map luma_number us) (stepped full_number cur ss)) ≡ stepped spelled_number cur prev
+    → (let ss = stepped step_word cur prev in let ts = map diff_word ss in let us = map luma_word ss in choice ts us (map diff_number ts) (map luma_number us) (stepped full_number cur ss)) ≡ stepped spelled_number cur prev
 number_choice (p0 ∷ p1 ∷ p2 ∷ p3 ∷ []) (q0 ∷ q1 ∷ q2 ∷ q3 ∷ []) e g = λ i. one p0 q0 i ∷ one p1 q1 i ∷ one p2 q2 i ∷ one p3 q3 i ∷ []
   where
-    one : (p q : ℕ) → (let s = step_word p q in let t = small_word s in let u = wide_word s in top_lane_of t u (diff_number t) (luma_number u) (full_number p s)) ≡ spelled_number p q
-    one p q = let s = step_word p q in let t = small_word s in let u = wide_word s in one_chosen t u (diff_number t) (luma_number u) (full_number p s)
+    one : (p q : ℕ) → (let s = step_word p q in let t = diff_word s in let u = luma_word s in top_lane_of t u (diff_number t) (luma_number u) (full_number p s)) ≡ spelled_number p q
+    one p q = let s = step_word p q in let t = diff_word s in let u = luma_word s in one_chosen t u (diff_number t) (luma_number u) (full_number p s)
 number_choice (p0 ∷ p1 ∷ p2 ∷ p3 ∷ []) _ e g = absurd (omega arith)
 number_choice _ prev e g = absurd (omega arith)
 
 count_choice : (cur prev : List ℕ) → length cur ≡ 4 → length prev ≡ 4
-    → (let ss = stepped step_word cur prev in let ts = map small_word ss in let us = map wide_word ss in choice ts us (replicate 4 1) (replicate 4 2) (map full_count ss)) ≡ stepped spelled_count cur prev
+    → (let ss = stepped step_word cur prev in let ts = map diff_word ss in let us = map luma_word ss in choice ts us (replicate 4 1) (replicate 4 2) (map full_count ss)) ≡ stepped spelled_count cur prev
 count_choice (p0 ∷ p1 ∷ p2 ∷ p3 ∷ []) (q0 ∷ q1 ∷ q2 ∷ q3 ∷ []) e g = λ i. one p0 q0 i ∷ one p1 q1 i ∷ one p2 q2 i ∷ one p3 q3 i ∷ []
   where
-    one : (p q : ℕ) → (let s = step_word p q in let t = small_word s in let u = wide_word s in top_lane_of t u 1 2 (full_count s)) ≡ spelled_count p q
-    one p q = let s = step_word p q in let t = small_word s in let u = wide_word s in one_chosen t u 1 2 (full_count s)
+    one : (p q : ℕ) → (let s = step_word p q in let t = diff_word s in let u = luma_word s in top_lane_of t u 1 2 (full_count s)) ≡ spelled_count p q
+    one p q = let s = step_word p q in let t = diff_word s in let u = luma_word s in one_chosen t u 1 2 (full_count s)
 count_choice (p0 ∷ p1 ∷ p2 ∷ p3 ∷ []) _ e g = absurd (omega arith)
 count_choice _ prev e g = absurd (omega arith)
 
-module _ (cur prev ss ts us : List ℕ) (e : length cur ≡ 4) (g : length prev ≡ 4) (se : ss ≡ stepped step_word cur prev) (te : ts ≡ map small_word ss) (ue : us ≡ map wide_word ss) where
+module _ (cur prev ss ts us : List ℕ) (e : length cur ≡ 4) (g : length prev ≡ 4) (se : ss ≡ stepped step_word cur prev) (te : ts ≡ map diff_word ss) (ue : us ≡ map luma_word ss) where
   pub numbers_chosen : (ds ls fs : List ℕ) → ds ≡ map diff_number ts → ls ≡ map luma_number us → fs ≡ stepped full_number cur ss → choice ts us ds ls fs ≡ stepped spelled_number cur prev
   numbers_chosen ds ls fs de le fe =
-      let t = te ∙ ap (map small_word) se in
-      let u = ue ∙ ap (map wide_word) se in
+      let t = te ∙ ap (map diff_word) se in
+      let u = ue ∙ ap (map luma_word) se in
       let d = de ∙ ap (map diff_number) t in
       let l = le ∙ ap (map luma_number) u in
       let f = fe ∙ ap (stepped full_number cur) se in
@@ -341,7 +341,7 @@ module _ (cur prev ss ts us : List ℕ) (e : length cur ≡ 4) (g : length prev 
 
   pub counts_chosen : (fs : List ℕ) → fs ≡ map full_count ss → choice ts us (replicate 4 1) (replicate 4 2) fs ≡ stepped spelled_count cur prev
   counts_chosen fs fe =
-      let t = te ∙ ap (map small_word) se in
-      let u = ue ∙ ap (map wide_word) se in
+      let t = te ∙ ap (map diff_word) se in
+      let u = ue ∙ ap (map luma_word) se in
       let f = fe ∙ ap (map full_count) se in
       (λ i. choice (t i) (u i) (replicate 4 1) (replicate 4 2) (f i)) ∙ count_choice cur prev e g

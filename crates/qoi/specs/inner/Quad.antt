@@ -8,7 +8,7 @@ use Rattle.qoi.specs.declared.encode.quad.Quad.{Quad}
 use Rattle.qoi.specs.Qoi.{RgbaPixel, Past, IsPixel, previous, hash, IsChunk, bytes_of}
 use Rattle.qoi.specs.Written.{IsFirst}
 use Rattle.qoi.specs.inner.Packed.{word, pixel_of_word}
-use Rattle.qoi.specs.inner.Steps.{steps, small_steps, wide_steps}
+use Rattle.qoi.specs.inner.Steps.{steps, diff_steps, luma_steps}
 
 -- a function of each number and the one beside it
 abbrev pub stepped : (ℕ → ℕ → ℕ) → List ℕ → List ℕ → List ℕ
@@ -21,12 +21,12 @@ abbrev pub step_word : ℕ → ℕ → ℕ
 step_word p q = word (steps (pixel_of_word q) (pixel_of_word p))
 
 -- as a Diff has them
-abbrev pub small_word : ℕ → ℕ
-small_word s = word (small_steps (pixel_of_word s))
+abbrev pub diff_word : ℕ → ℕ
+diff_word s = word (diff_steps (pixel_of_word s))
 
 -- as a Luma has them
-abbrev pub wide_word : ℕ → ℕ
-wide_word s = word (wide_steps (pixel_of_word s))
+abbrev pub luma_word : ℕ → ℕ
+luma_word s = word (luma_steps (pixel_of_word s))
 
 -- green's step in the places of red and blue
 abbrev pub green_twice : ℕ → ℕ
@@ -74,14 +74,14 @@ KeepAlpha (s ∷ ss) = (s / 2 ^ 24 ≡ 0) × KeepAlpha ss
 -- the number whose lowest bytes are the chunk's
 abbrev pub spelled_number : ℕ → ℕ → ℕ
 spelled_number p q = let s = step_word p q in
-    if nat_eq (bit_and (small_word s) 0xfffcfcfc) 0 then diff_number (small_word s)
-    else (if nat_eq (bit_and (wide_word s) 0xfff0c0f0) 0 then luma_number (wide_word s) else full_number p s)
+    if nat_eq (bit_and (diff_word s) 0xfffcfcfc) 0 then diff_number (diff_word s)
+    else (if nat_eq (bit_and (luma_word s) 0xfff0c0f0) 0 then luma_number (luma_word s) else full_number p s)
 
 -- and how many bytes the chunk has
 abbrev pub spelled_count : ℕ → ℕ → ℕ
 spelled_count p q = let s = step_word p q in
-    if nat_eq (bit_and (small_word s) 0xfffcfcfc) 0 then 1
-    else (if nat_eq (bit_and (wide_word s) 0xfff0c0f0) 0 then 2 else full_count s)
+    if nat_eq (bit_and (diff_word s) 0xfffcfcfc) 0 then 1
+    else (if nat_eq (bit_and (luma_word s) 0xfff0c0f0) 0 then 2 else full_count s)
 
 -- alpha is the same in each pixel and the one beside it
 abbrev pub SameAlpha : List ℕ → List ℕ → Type 0

@@ -125,7 +125,7 @@ impl Coder {
         let px = Packed::of_number(quad.pixels[lane]);
         let place = (quad.places[lane] % 256) as u8;
         let placed = table.at(place).is_same(px);
-        let (number, size) = unkept(
+        let (number, size) = spelled_or_blank(
             table,
             style,
             px,
@@ -433,7 +433,7 @@ impl Coder {
 // that spells it out, but in style `Tight` transparent black by the least position where no pixel was
 // put, if there is one. The chunk is a number that has its bytes, and how many these are.
 #[inline(always)]
-fn unkept(
+fn spelled_or_blank(
     table: &Table,
     style: Style,
     px: Packed,

@@ -6,7 +6,7 @@ ghost use Rattle.qoi.specs.declared.chunk.Chunk.{Chunk};
 ghost use Rattle.qoi.specs.Qoi.{hash};
 ghost use Rattle.qoi.specs.Raw.{IsChannels, pixels_of};
 ghost use Rattle.qoi.specs.inner.Packed.{word, pixel_of_word};
-ghost use Rattle.qoi.specs.inner.Quad.{stepped, step_word, small_word, wide_word, green_twice, diff_number, luma_number, rgb_number, full_number, full_count, KeepAlpha, spelled_number, spelled_count, SameAlpha, IsSpelled, AreOpaqueWords, QuadFits};
+ghost use Rattle.qoi.specs.inner.Quad.{stepped, step_word, diff_word, luma_word, green_twice, diff_number, luma_number, rgb_number, full_number, full_count, KeepAlpha, spelled_number, spelled_count, SameAlpha, IsSpelled, AreOpaqueWords, QuadFits};
 
 use crate::packed::Packed;
 use std::simd::prelude::*;
@@ -116,8 +116,8 @@ fn steps(cur: u32x4, prev: u32x4) -> u32x4
 
 // Steps as a difference chunk has them: with 2 added to those of red, green and blue.
 #[inline(always)]
-fn small(steps: u32x4) -> u32x4
-    ensures lanes { result ≡ map small_word steps }
+fn diff_steps(steps: u32x4) -> u32x4
+    ensures lanes { result ≡ map diff_word steps }
 {
     u32x4::from_le_bytes(steps.to_le_bytes() + u32x4::splat(0x0002_0202).to_le_bytes())
 }
@@ -133,8 +133,8 @@ fn greens(steps: u32x4) -> u32x4
 
 // Steps as a luma chunk has them: green's with 32 added, and red's and blue's less green's with 8 added.
 #[inline(always)]
-fn wide(steps: u32x4) -> u32x4
-    ensures lanes { result ≡ map wide_word steps }
+fn luma_steps(steps: u32x4) -> u32x4
+    ensures lanes { result ≡ map luma_word steps }
 {
     let gg = greens(steps).to_le_bytes();
     u32x4::from_le_bytes(steps.to_le_bytes() + u32x4::splat(0x0008_2008).to_le_bytes() - gg)
@@ -142,21 +142,21 @@ fn wide(steps: u32x4) -> u32x4
 
 // Numbers whose lowest bytes are the difference chunks of these steps.
 #[inline(always)]
-fn diffs(small: u32x4) -> u32x4
-    ensures lanes { result ≡ map diff_number small }
+fn diffs(steps: u32x4) -> u32x4
+    ensures lanes { result ≡ map diff_number steps }
 {
-    (small << u32x4::splat(4))
-        + (small >> u32x4::splat(6))
-        + (small >> u32x4::splat(16))
+    (steps << u32x4::splat(4))
+        + (steps >> u32x4::splat(6))
+        + (steps >> u32x4::splat(16))
         + u32x4::splat(0x40)
 }
 
 // Numbers whose two lowest bytes are the luma chunks of these steps.
 #[inline(always)]
-fn lumas(wide: u32x4) -> u32x4
-    ensures lanes { result ≡ map luma_number wide }
+fn lumas(steps: u32x4) -> u32x4
+    ensures lanes { result ≡ map luma_number steps }
 {
-    (wide >> u32x4::splat(8)) + (wide << u32x4::splat(12)) + u32x4::splat(0x80)
+    (steps >> u32x4::splat(8)) + (steps << u32x4::splat(12)) + u32x4::splat(0x80)
 }
 
 // Numbers whose bytes are the RGB chunks of the pixels.
@@ -202,16 +202,16 @@ fn spell<const N: usize>(cur: u32x4, prev: u32x4) -> (u32x4, u32x4)
         (slice_index result.1 k) c }
 {
     let steps = steps(cur, prev);
-    let small = small(steps);
-    let wide = wide(steps);
+    let for_diff = diff_steps(steps);
+    let for_luma = luma_steps(steps);
     let zero = u32x4::splat(0);
-    let is_diff = (small & u32x4::splat(0xfffc_fcfc)).simd_eq(zero);
-    let is_luma = (wide & u32x4::splat(0xfff0_c0f0)).simd_eq(zero);
+    let is_diff = (for_diff & u32x4::splat(0xfffc_fcfc)).simd_eq(zero);
+    let is_luma = (for_luma & u32x4::splat(0xfff0_c0f0)).simd_eq(zero);
     let (word, count) = fulls::<N>(cur, steps);
-    let short = is_luma.select(lumas(wide), word);
+    let short = is_luma.select(lumas(for_luma), word);
     let few = is_luma.select(u32x4::splat(2), count);
     (
-        is_diff.select(diffs(small), short),
+        is_diff.select(diffs(for_diff), short),
         is_diff.select(u32x4::splat(1), few),
     )
 }
