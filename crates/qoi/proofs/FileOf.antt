@@ -51,7 +51,8 @@ text_some [] none = none
 text_some (c ∷ cs) some = omega (arith, length-append (bytes_of c) (text cs), length-bytes_of c)
 
 -- another color space changes the fourteenth byte alone
-other_space : (h : Header) (space : ColorSpace) (cs : List Chunk) → file (record h { colorspace = space }) cs ≡ slice_set (file h cs) 13 (colorspace_number space)
+other_space : (h : Header) (space : ColorSpace) (cs : List Chunk)
+    → file (record h { colorspace = space }) cs ≡ slice_set (file h cs) 13 (colorspace_number space)
 other_space h space cs = refl
 
 -- What the lists that are written for images have in common: the chunks are chunks and mean the image, there is one
@@ -113,7 +114,8 @@ module _ (h : Header) (raw : List ℕ) (valid : IsValid h) (size : length raw �
         let means = lists.means (image_pixels h raw) cs w in
         let image : raw ≡ output (channels_number h.channels) (channels_number h.channels) (file_pixels h cs)
         = sym (output-pixels_of (channels_number h.channels) (pixel_count h) raw channels image_size)
-        ∙ ap (output (channels_number h.channels) (channels_number h.channels)) (sym (take_whole (pixel_count h) (image_pixels h raw) count) ∙ ap (take (pixel_count h)) (sym means)) in
+        ∙ ap (output (channels_number h.channels) (channels_number h.channels))
+        (sym (take_whole (pixel_count h) (image_pixels h raw) count) ∙ ap (take (pixel_count h)) (sym means)) in
         decodes_file h cs (file h cs ++ rest) rest raw (is_file cs w) refl image
 
     -- what holds whatever lists are written
@@ -126,12 +128,14 @@ module _ (h : Header) (raw : List ℕ) (valid : IsValid h) (size : length raw �
       fits = omega (arith, list_fits cs w, length-file h cs, max_is_exact h valid);
       long = omega (arith, text_long cs w, length-file h cs);
       comes_back = λ rest. back cs rest w;
-      color_space = λ space others e. e.bytes_are ∙ ap (file (record h { colorspace = space })) (lists.one (image_pixels h raw) e.cs cs e.written w) ∙ other_space h space cs;
+      color_space = λ space others e. e.bytes_are ∙ ap (file (record h { colorspace = space })) (lists.one (image_pixels h raw) e.cs cs e.written w)
+          ∙ other_space h space cs;
       apart = λ others front rest i v. lists.apart (image_pixels h raw) others front rest i v;
     }
 
   -- the chunks that are written fit
-  pub text_fits : (style : Style) (cs : List Chunk) → WrittenIn style (image_pixels h raw) cs → length (text cs) ≤ pixel_count h * channels_number h.channels + pixel_count h
+  pub text_fits : (style : Style) (cs : List Chunk) → WrittenIn style (image_pixels h raw) cs
+      → length (text cs) ≤ pixel_count h * channels_number h.channels + pixel_count h
   text_fits style = list_fits (WrittenIn style) (written_lists style)
 
   -- it is near the shortest
@@ -144,13 +148,25 @@ module _ (h : Header) (raw : List ℕ) (valid : IsValid h) (size : length raw �
         floor_is_below = λ others s regular. lower image others s.chunks regular s.begins;
         near_floor = omega arith;
         near_others = λ others s regular. omega (arith, lower image others s.chunks regular s.begins, length-file h others);
-        four_at_most = λ others s regular. omega (arith, lower image others s.chunks regular s.begins, length-file h others, slack_most image (channels_number h.channels), four_channels h.channels);
-        none_shorter = λ other others s regular. omega (arith, lower image others s.chunks regular s.begins, length-file h others, slack_opens image (channels_number h.channels) other);
+        four_at_most = λ others s regular. omega (
+          arith,
+          lower image others s.chunks regular s.begins,
+          length-file h others,
+          slack_most image (channels_number h.channels),
+          four_channels h.channels,
+        );
+        none_shorter = λ other others s regular. omega (
+          arith,
+          lower image others s.chunks regular s.begins,
+          length-file h others,
+          slack_opens image (channels_number h.channels) other,
+        );
         all_regular = λ no_blank others s. no_blank_regular image others (subst (λ n. Reaches n others) (sym count) s.reaches) s.begins no_blank;
       }
 
   -- but in style Tight the list is regular, and as long as that of `Written`
-  as_reference : (style : Style) → style ≢ Tight → (cs : List Chunk) (w : WrittenIn style (image_pixels h raw) cs) → Written (image_pixels h raw) w.list → IsAsReference style h raw (file h cs)
+  as_reference : (style : Style) → style ≢ Tight → (cs : List Chunk) (w : WrittenIn style (image_pixels h raw) cs) → Written (image_pixels h raw) w.list
+      → IsAsReference style h raw (file h cs)
   as_reference style other cs w written = record {
     regular = λ others v. style_regular style (image_pixels h raw) others other v;
     list = w.list;
@@ -186,11 +202,17 @@ module _ {W : Type 0} (wrote : W → List ℕ → W → Type 0) (room : W → �
     pub chunks_part : {now : W} → WroteSome wrote start (front ++ text cs) now → WroteSome wrote start (file h cs) now
     chunks_part some = (
       some.0 ++ end_marker,
-      record { front = some.1.front; split = file_is ∙ ap (λ z. z ++ end_marker) some.1.split ∙ append_assoc some.1.front some.0 end_marker; went = some.1.went },
+      record {
+        front = some.1.front;
+        split = file_is ∙ ap (λ z. z ++ end_marker) some.1.split
+            ∙ append_assoc some.1.front some.0 end_marker;
+        went = some.1.went;
+      },
     )
 
     -- the end marker is kept, too
-    pub marker_kept : {now : W} {kept last : List ℕ} → WroteBut wrote start (front ++ text cs) kept now → last ≡ kept ++ end_marker → WroteBut wrote start (file h cs) last now
+    pub marker_kept : {now : W} {kept last : List ℕ} → WroteBut wrote start (front ++ text cs) kept now → last ≡ kept ++ end_marker
+        → WroteBut wrote start (file h cs) last now
     marker_kept {kept = kept} w is = record {
       front = w.front;
       split = file_is ∙ ap (λ z. z ++ end_marker) w.split ∙ append_assoc w.front kept end_marker ∙ ap (λ z. w.front ++ z) (sym is);
@@ -208,7 +230,8 @@ module _ {W : Type 0} (wrote : W → List ℕ → W → Type 0) (room : W → �
 
     -- all of the file went
     pub file_went : {next : W} → wrote now last next → wrote start (file h cs) next
-    file_went {next} went = wrote_all wrote room laws start next (file h cs) (wrote_next wrote room laws start now next (file h cs) last last [] w (sym (append-nil last)) went)
+    file_went {next} went = wrote_all wrote room laws start next (file h cs)
+        (wrote_next wrote room laws start now next (file h cs) last last [] w (sym (append-nil last)) went)
 
     -- as many bytes as the room fell by
     pub file_counts : {next : W} → wrote now last next → room start - room next ≡ length (file h cs)

@@ -4,6 +4,8 @@ use Rattle.qoi.specs.declared.utils.BytesMut.{BytesMut}
 use Rattle.qoi.specs.writers.Buffer.{BufferWrote, written_bytes, bytes_left}
 
 -- the bytes stand at its front, and all later ones are as before
-pub buffer_filled : (s t : BytesMut) (old bytes : List ℕ) (n : ℕ) → written_bytes s ≡ [] → bytes_left s ≡ old → BufferWrote s bytes t → n ≡ length bytes → t.buf.now ≡ bytes ++ drop n old
+pub buffer_filled : (s t : BytesMut) (old bytes : List ℕ) (n : ℕ) → written_bytes s ≡ [] → bytes_left s ≡ old → BufferWrote s bytes t → n ≡ length bytes
+    → t.buf.now ≡ bytes ++ drop n old
 buffer_filled s t old bytes n none left w size =
-    sym (take-append-drop t.written t.buf.now) ∙ ap (λ z. z ++ bytes_left t) (w.written ∙ ap (λ z. z ++ bytes) none) ∙ ap (λ z. bytes ++ z) (w.left ∙ ap (drop (length bytes)) left ∙ ap (λ k. drop k old) (sym size))
+    sym (take-append-drop t.written t.buf.now) ∙ ap (λ z. z ++ bytes_left t) (w.written ∙ ap (λ z. z ++ bytes) none)
+    ∙ ap (λ z. bytes ++ z) (w.left ∙ ap (drop (length bytes)) left ∙ ap (λ k. drop k old) (sym size))

@@ -13,4 +13,5 @@ pub record Chooses (Choice : Past → RgbaPixel → Chunk → Type 0) : Type 0 w
   pub only : (past : Past) (p : RgbaPixel) (c d : Chunk) → IsChunk c → IsChunk d → Choice past p c → Choice past p d → c ≡ d
   pub no_run : (past : Past) (p : RgbaPixel) (c : Chunk) → Choice past p c → is_run c ≡ false
   pub gives : (past : Past) (p : RgbaPixel) (c : Chunk) → Choice past p c → pixel_of past c ≡ p
-  pub rgba_first : (past : Past) (r g b a : ℕ) → Choice past (pixel_of past (Rgba r g b a)) (Rgba r g b a) → IsFirst past (pixel_of past (Rgba r g b a)) (Rgba r g b a)
+  pub rgba_first : (past : Past) (r g b a : ℕ) → Choice past (pixel_of past (Rgba r g b a)) (Rgba r g b a)
+      → IsFirst past (pixel_of past (Rgba r g b a)) (Rgba r g b a)

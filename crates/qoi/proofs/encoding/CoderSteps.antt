@@ -28,7 +28,8 @@ all_bytes (b ∷ bytes) h = (h 0, all_bytes bytes (λ i. tail_of i))
     tail_of i = h (suc i)
 
 -- before the first pixel, behind bytes that stand in front of the chunks
-pub coder_starts : (style : Style) (image : List RgbaPixel) (list : List Chunk) (front : List ℕ) (table : List RgbaPixel) (coder : Coder) → WrittenBy (choice_in style) image list → AllByRecursion IsPixel image
+pub coder_starts : (style : Style) (image : List RgbaPixel) (list : List Chunk) (front : List ℕ) (table : List RgbaPixel) (coder : Coder)
+    → WrittenBy (choice_in style) image list → AllByRecursion IsPixel image
     → StateAfter style [] table coder.last → StyleAfter [] None coder.place coder.begun coder.placed
     → CoderBetween (record { style = style; image = image; list = list; ahead = front ++ text (in_style style list) }) image table coder front
 coder_starts style image list front table coder written are state style_state = record {
@@ -48,7 +49,8 @@ styled_none Places past before = refl
 styled_none Tight past before = refl
 
 -- the first chunks' bytes are those written next
-bytes_next : (ahead bytes next : List ℕ) (first left : List Chunk) → ahead ≡ bytes ++ text (first ++ left) → next ≡ bytes ++ text first → ahead ≡ next ++ text left
+bytes_next : (ahead bytes next : List ℕ) (first left : List Chunk) → ahead ≡ bytes ++ text (first ++ left) → next ≡ bytes ++ text first
+    → ahead ≡ next ++ text left
 bytes_next ahead bytes next first left e n =
     e ∙ ap (λ x. bytes ++ x) (flat_map-append bytes_of first left) ∙ sym (append_assoc bytes (text first) (text left)) ∙ ap (λ x. x ++ text left) (sym n)
 
@@ -59,7 +61,8 @@ module _ {w : Writing} {pixels : List RgbaPixel} {table : List RgbaPixel} {coder
 
   -- The runs of a group are written. A rest of 1 is written by the chunk `one`: at the end a run, and before a fresh pixel
   -- as the style has it.
-  pub runs_given : (n : ℕ) (rest : List RgbaPixel) (one : Chunk) {next_table : List RgbaPixel} {next_coder : Coder} {next : List ℕ} → pixels ≡ replicate n coder.last ++ rest
+  pub runs_given : (n : ℕ) (rest : List RgbaPixel) (one : Chunk) {next_table : List RgbaPixel} {next_coder : Coder} {next : List ℕ}
+      → pixels ≡ replicate n coder.last ++ rest
       → (slice_get rest 0 ≢ Some coder.last) ⊎ (n % 62 ≡ 0)
       → (n % 62 ≡ 1 → ((rest ≡ []) × (one ≡ Run 1)) ⊎ ((rest ≢ []) × (one ≡ rest_of_one w.style coder.begun coder.placed coder.place n)))
       → next ≡ bytes ++ text (runs_by one n)
@@ -81,35 +84,51 @@ module _ {w : Writing} {pixels : List RgbaPixel} {table : List RgbaPixel} {coder
         todo = r.0;
         to_write = r.2;
         ahead_is = bytes_next w.ahead bytes next (runs_by one n) (styled w.style (replicate n (previous b.past) ++ b.past) (last_chunk b.before (runs n)) r.0)
-            (b.ahead_is ∙ ap (λ cs. bytes ++ text (styled w.style b.past b.before cs)) r.1 ∙ ap (λ cs. bytes ++ text cs) (styled_runs w.style b.past b.before n r.0 one single)) written;
+            (b.ahead_is ∙ ap (λ cs. bytes ++ text (styled w.style b.past b.before cs)) r.1
+            ∙ ap (λ cs. bytes ++ text cs) (styled_runs w.style b.past b.before n r.0 one single)) written;
         state = state;
         style_state = style_state;
       }
     where
       -- a rest of 1 stands at the end or before a fresh pixel
-      single_is : n % 62 ≡ 1 → (left : List Chunk) → StillToWrite (choice_in w.style) w.image w.list (replicate n (previous b.past) ++ b.past) rest left → WritesOne w.style b.past b.before n left one
+      single_is : n % 62 ≡ 1 → (left : List Chunk) → StillToWrite (choice_in w.style) w.image w.list (replicate n (previous b.past) ++ b.past) rest left
+          → WritesOne w.style b.past b.before n left one
       single_is e left still = by_one (one_is e) ends
         where
-          style_is : rest_of_one w.style coder.begun coder.placed coder.place n ≡ rest_of_one w.style (some_fresh b.past) (names b.before (hash (previous b.past))) (hash (previous b.past)) n
+          style_is : rest_of_one w.style coder.begun coder.placed coder.place n ≡ rest_of_one w.style (some_fresh b.past)
+              (names b.before (hash (previous b.past))) (hash (previous b.past)) n
           style_is = λ i. rest_of_one w.style (b.style_state.begun_is i) (b.style_state.placed_is i) (b.style_state.place_is i) n
 
           other_first : (slice_get rest 0 ≢ Some coder.last) ⊎ (n % 62 ≡ 0) → slice_get rest 0 ≢ Some coder.last
           other_first (inl other) = other
           other_first (inr full) = absurd (let no : 1 ≡ 0 = sym e ∙ full in cc)
 
-          by_one : ((rest ≡ []) × (one ≡ Run 1)) ⊎ ((rest ≢ []) × (one ≡ rest_of_one w.style coder.begun coder.placed coder.place n)) → (slice_get rest 0 ≢ Some coder.last) ⊎ (n % 62 ≡ 0) → WritesOne w.style b.past b.before n left one
-          by_one (inl (none, is)) stops = inl (none_todo (choice_in w.style) (chooses_in w.style) (subst (λ x. StillToWrite (choice_in w.style) w.image w.list (replicate n (previous b.past) ++ b.past) x left) none still), is)
+          by_one : ((rest ≡ []) × (one ≡ Run 1)) ⊎ ((rest ≢ []) × (one ≡ rest_of_one w.style coder.begun coder.placed coder.place n))
+              → (slice_get rest 0 ≢ Some coder.last) ⊎ (n % 62 ≡ 0) → WritesOne w.style b.past b.before n left one
+          by_one (inl (none, is)) stops = inl (
+            none_todo (choice_in w.style) (chooses_in w.style)
+                (subst (λ x. StillToWrite (choice_in w.style) w.image w.list (replicate n (previous b.past) ++ b.past) x left) none still),
+            is,
+          )
           by_one (inr (some, is)) stops = by_rest rest refl
             where
               by_rest : (more : List RgbaPixel) → rest ≡ more → WritesOne w.style b.past b.before n left one
               by_rest [] none = absurd (some none)
               by_rest (p ∷ more) ahead =
-                  let differs : p ≢ previous (replicate n (previous b.past) ++ b.past) = λ e. other_first stops (ap (λ x. slice_get x 0) ahead ∙ ap (λ q. Some q) (e ∙ previous_repeats n b.past ∙ last_before)) in
-                  inr (fresh_todo (choice_in w.style) (chooses_in w.style) p more (subst (λ x. StillToWrite (choice_in w.style) w.image w.list (replicate n (previous b.past) ++ b.past) x left) ahead still) differs, is ∙ style_is)
+                  let differs : p ≢ previous (replicate n (previous b.past) ++ b.past) = λ e.
+                  other_first stops (ap (λ x. slice_get x 0) ahead ∙ ap (λ q. Some q) (e ∙ previous_repeats n b.past ∙ last_before)) in
+                  inr (
+                    fresh_todo (choice_in w.style) (chooses_in w.style) p more
+                        (subst (λ x. StillToWrite (choice_in w.style) w.image w.list (replicate n (previous b.past) ++ b.past) x left) ahead still) differs,
+                    is
+                        ∙ style_is,
+                  )
 
   -- The chunk of a fresh pixel is written.
-  pub chunk_given : (p : RgbaPixel) (rest : List RgbaPixel) (c : Chunk) {next_table : List RgbaPixel} {next_coder : Coder} {next : List ℕ} → pixels ≡ p ∷ rest → p ≢ coder.last → IsChunk c → choice_in w.style b.past p c
-      → next ≡ bytes ++ bytes_of c → StateAfter w.style (p ∷ b.past) next_table next_coder.last → StyleAfter (p ∷ b.past) (Some c) next_coder.place next_coder.begun next_coder.placed
+  pub chunk_given : (p : RgbaPixel) (rest : List RgbaPixel) (c : Chunk) {next_table : List RgbaPixel} {next_coder : Coder} {next : List ℕ} → pixels ≡ p ∷ rest
+      → p ≢ coder.last → IsChunk c → choice_in w.style b.past p c
+      → next ≡ bytes ++ bytes_of c → StateAfter w.style (p ∷ b.past) next_table next_coder.last
+      → StyleAfter (p ∷ b.past) (Some c) next_coder.place next_coder.begun next_coder.placed
       → CoderBetween w rest next_table next_coder next
   chunk_given p rest c {next_table} {next_coder} {next} ahead differs is choice written state style_state =
       let choices = chooses_in w.style in
@@ -120,14 +139,17 @@ module _ {w : Writing} {pixels : List RgbaPixel} {table : List RgbaPixel} {coder
         todo = r.0;
         to_write = r.2;
         ahead_is = bytes_next w.ahead bytes next (c ∷ []) (styled w.style (p ∷ b.past) (Some c) r.0)
-            (b.ahead_is ∙ ap (λ cs. bytes ++ text (styled w.style b.past b.before cs)) r.1 ∙ ap (λ cs. bytes ++ text cs) (styled_chunk w.style b.past b.before p c r.0 (choices.no_run b.past p c choice) (choices.gives b.past p c choice)))
+            (b.ahead_is ∙ ap (λ cs. bytes ++ text (styled w.style b.past b.before cs)) r.1
+            ∙ ap (λ cs. bytes ++ text cs) (styled_chunk w.style b.past b.before p c r.0 (choices.no_run b.past p c choice)
+            (choices.gives b.past p c choice)))
             (written ∙ ap (λ x. bytes ++ x) (sym (append-nil (bytes_of c))));
         state = state;
         style_state = style_state;
       }
 
   -- The first bytes are given away, and the others are kept.
-  pub piece_given : (gone kept : List ℕ) → bytes ≡ gone ++ kept → (ahead : List ℕ) × (w.ahead ≡ gone ++ ahead) × CoderBetween (record w { ahead = ahead }) pixels table coder kept
+  pub piece_given : (gone kept : List ℕ) → bytes ≡ gone ++ kept
+      → (ahead : List ℕ) × (w.ahead ≡ gone ++ ahead) × CoderBetween (record w { ahead = ahead }) pixels table coder kept
   piece_given gone kept split = (
     kept ++ text (styled w.style b.past b.before b.todo),
     b.ahead_is ∙ ap (λ x. x ++ text (styled w.style b.past b.before b.todo)) split ∙ append_assoc gone kept (text (styled w.style b.past b.before b.todo)),
@@ -137,4 +159,5 @@ module _ {w : Writing} {pixels : List RgbaPixel} {table : List RgbaPixel} {coder
 -- at the end of the pixels nothing is ahead but the bytes
 pub all_given : {w : Writing} {table : List RgbaPixel} {coder : Coder} {bytes : List ℕ} → CoderBetween w [] table coder bytes → w.ahead ≡ bytes
 all_given {w} {bytes = bytes} b =
-    b.ahead_is ∙ ap (λ cs. bytes ++ text (styled w.style b.past b.before cs)) (none_todo (choice_in w.style) (chooses_in w.style) b.to_write) ∙ ap (λ cs. bytes ++ text cs) (styled_none w.style b.past b.before) ∙ append-nil bytes
+    b.ahead_is ∙ ap (λ cs. bytes ++ text (styled w.style b.past b.before cs)) (none_todo (choice_in w.style) (chooses_in w.style) b.to_write)
+    ∙ ap (λ cs. bytes ++ text cs) (styled_none w.style b.past b.before) ∙ append-nil bytes

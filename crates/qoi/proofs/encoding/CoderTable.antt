@@ -28,12 +28,14 @@ place_chosen Tight past p is =
     record { place = λ _. refl; unseen = λ other. absurd (other kept_there); spelled = λ other. absurd (other kept_there) }
 
 -- any other is spelled out where index positions of fresh pixels alone are named
-pub spelled_out : (style : Style) (past : Past) (p : RgbaPixel) (c : Chunk) → (style ≡ Reference) ⊎ (style ≡ Places) → IsFirst past p c → seen (held_in style past) (hash p) ≢ p → choice_in style past p c
+pub spelled_out : (style : Style) (past : Past) (p : RgbaPixel) (c : Chunk) → (style ≡ Reference) ⊎ (style ≡ Places) → IsFirst past p c
+    → seen (held_in style past) (hash p) ≢ p → choice_in style past p c
 spelled_out style past p c (inl is) first differs = let d = rw is at differs in rw is (record { place = λ e. absurd (d e); spelled = λ _. first })
 spelled_out style past p c (inr is) first differs = let d = rw is at differs in rw is (record { place = λ e. absurd (d e); spelled = λ _. first })
 
 -- any other isn't given by its index position
-other_place : (style : Style) (past : Past) (p : RgbaPixel) (c : Chunk) → seen (held_in style past) (hash p) ≢ p → choice_in style past p c → names (Some c) (hash p) ≡ false
+other_place : (style : Style) (past : Past) (p : RgbaPixel) (c : Chunk) → seen (held_in style past) (hash p) ≢ p → choice_in style past p c
+    → names (Some c) (hash p) ≡ false
 other_place Reference past p c differs w = spells_no_place c (hash p) (w.spelled differs).spells
 other_place Places past p c differs w = spells_no_place c (hash p) (w.spelled differs).spells
 other_place Tight past p c differs w = tight_no_place past p c differs w
@@ -53,8 +55,10 @@ module _ (style : Style) (past : Past) (px at : RgbaPixel) (i : ℕ) (place : i 
 
   -- Either chunk is chosen, as the test says: the index position, or another one; and it names the position exactly if
   -- the pixel stands there. Its bytes are the lowest of a number.
-  pub fresh_chosen : (same : Bool) (alpha number size : ℕ) → (IsTrue same ↔ (at ≡ px)) → (seen (held_in style past) (hash px) ≢ px → (d : Chunk) × IsChunk d × HasBytes alpha number size d × choice_in style past px d)
-      → (d : Chunk) × IsChunk d × HasBytes alpha (if same then i else number) (if same then 1 else size) d × choice_in style past px d × (same ≡ names (Some d) (hash px))
+  pub fresh_chosen : (same : Bool) (alpha number size : ℕ) → (IsTrue same ↔ (at ≡ px))
+      → (seen (held_in style past) (hash px) ≢ px → (d : Chunk) × IsChunk d × HasBytes alpha number size d × choice_in style past px d)
+      → (d : Chunk) × IsChunk d × HasBytes alpha (if same then i else number) (if same then 1 else size) d × choice_in style past px d
+      × (same ≡ names (Some d) (hash px))
   fresh_chosen true alpha number size test other =
       let below : i < 64 = omega (arith, place, hash_below px) in
       (Place i, below, place_bytes i alpha below, rw place (place_chosen style past px (sym there ∙ test.0 refl)), sym (eq-eqb i (hash px) place))
@@ -76,7 +80,8 @@ state_none style table last holds is = record { table_is = go style; last_is = i
     go Tight = holds
 
 -- a fresh pixel is put at its index position
-pub state_put : (style : Style) (past : Past) (old table : List RgbaPixel) (last px : RgbaPixel) → px ≢ previous past → StateAfter style past old last → ((seen : Past) → Holds old seen → Holds table (px ∷ seen)) → StateAfter style (px ∷ past) table px
+pub state_put : (style : Style) (past : Past) (old table : List RgbaPixel) (last px : RgbaPixel) → px ≢ previous past → StateAfter style past old last
+    → ((seen : Past) → Holds old seen → Holds table (px ∷ seen)) → StateAfter style (px ∷ past) table px
 state_put style past old table last px differs s puts = record { table_is = go style (puts (held_in style past) s.table_is); last_is = refl }
   where
     go : (style : Style) → Holds table (px ∷ held_in style past) → Holds table (held_in style (px ∷ past))
@@ -94,18 +99,29 @@ repeats_stay : (n : ℕ) (past : Past) (table : List RgbaPixel) → Holds table 
 repeats_stay n past table holds = subst (λ x. Holds table x) (sym (fresh_repeats n past)) holds
 
 -- repeats that aren't put, where the fresh pixels alone are
-pub state_unput : (style : Style) (n : ℕ) (past : Past) (table : List RgbaPixel) (last : RgbaPixel) → (style ≡ Reference) ⊎ (style ≡ Places) → StateAfter style past table last → StateAfter style (replicate n (previous past) ++ past) table last
-state_unput style n past table last (inl is) s = rw is (record { table_is = repeats_stay n past table (rw is at s.table_is); last_is = s.last_is ∙ sym (previous_repeats n past) })
-state_unput style n past table last (inr is) s = rw is (record { table_is = repeats_stay n past table (rw is at s.table_is); last_is = s.last_is ∙ sym (previous_repeats n past) })
+pub state_unput : (style : Style) (n : ℕ) (past : Past) (table : List RgbaPixel) (last : RgbaPixel) → (style ≡ Reference) ⊎ (style ≡ Places)
+    → StateAfter style past table last → StateAfter style (replicate n (previous past) ++ past) table last
+state_unput style n past table last (inl is) s = rw is (record {
+  table_is = repeats_stay n past table (rw is at s.table_is);
+  last_is = s.last_is
+      ∙ sym (previous_repeats n past);
+})
+state_unput style n past table last (inr is) s = rw is (record {
+  table_is = repeats_stay n past table (rw is at s.table_is);
+  last_is = s.last_is
+      ∙ sym (previous_repeats n past);
+})
 
 -- repeats that are put, in style Tight
-pub state_put_again : (n : ℕ) (past : Past) (old table : List RgbaPixel) (last : RgbaPixel) → 0 < n → StateAfter Tight past old last → ((seen : Past) → Holds old seen → Holds table (last ∷ seen)) → StateAfter Tight (replicate n (previous past) ++ past) table last
+pub state_put_again : (n : ℕ) (past : Past) (old table : List RgbaPixel) (last : RgbaPixel) → 0 < n → StateAfter Tight past old last
+    → ((seen : Past) → Holds old seen → Holds table (last ∷ seen)) → StateAfter Tight (replicate n (previous past) ++ past) table last
 state_put_again n past old table last some s puts =
     let once = subst (λ p. Holds table (p ∷ past)) s.last_is (puts past s.table_is) in
     record { table_is = holds_copies table (previous past) past n some once; last_is = s.last_is ∙ sym (previous_copies n (previous past) past some) }
 
 -- repeats that are put if there are any
-pub state_put_some : (n : ℕ) (past : Past) (old table : List RgbaPixel) (last : RgbaPixel) → (IsTrue (nat_lt 0 n) → (seen : Past) → Holds old seen → Holds table (last ∷ seen)) → (IsFalse (nat_lt 0 n) → table ≡ old)
+pub state_put_some : (n : ℕ) (past : Past) (old table : List RgbaPixel) (last : RgbaPixel)
+    → (IsTrue (nat_lt 0 n) → (seen : Past) → Holds old seen → Holds table (last ∷ seen)) → (IsFalse (nat_lt 0 n) → table ≡ old)
     → StateAfter Tight past old last → StateAfter Tight (replicate n (previous past) ++ past) table last
 state_put_some zero past old table last puts stays s = subst (λ t. StateAfter Tight past t last) (sym (stays refl)) s
 state_put_some (suc n) past old table last puts stays s = state_put_again (suc n) past old table last (omega arith) s (puts (lt-ltb 0 (suc n) (omega arith)))

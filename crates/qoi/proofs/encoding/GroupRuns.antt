@@ -28,7 +28,8 @@ none_of_few n (a ∷ b ∷ c ∷ []) (inr e) h = rw e refl
 none_of_few n (a ∷ b ∷ c ∷ d ∷ rest) (inr e) h = absurd (omega arith)
 
 -- the first pixel of bytes
-pub first_of : (n : ℕ) (rest front after : List ℕ) → IsChannels n → rest ≡ front ++ after → length front ≡ n → slice_get (pixels_of n rest) 0 ≡ Some (rgba front)
+pub first_of : (n : ℕ) (rest front after : List ℕ) → IsChannels n → rest ≡ front ++ after → length front ≡ n
+    → slice_get (pixels_of n rest) 0 ≡ Some (rgba front)
 first_of n rest front after is split size = ap (λ x. slice_get x 0) (ap (pixels_of n) split ∙ pixels_of-next n front after is size)
 
 -- equal where both are there
@@ -60,16 +61,21 @@ counted_within n count more len (inl e) = subst (λ k. k * count + more ≡ len 
 counted_within n count more len (inr e) = subst (λ k. k * count + more ≡ len → count + more ≤ len) (sym e) (λ s. omega arith)
 
 -- sixteen pixels more are p
-pub repeats_block : (n : ℕ) (bytes rest after : List ℕ) (p : RgbaPixel) (count : ℕ) → IsChannels n → RepeatsSoFar n bytes rest p count → n * 16 ≤ length rest → after ≡ drop (n * 16) rest → pixels_of n rest ≡ replicate 16 p ++ pixels_of n (drop (n * 16) rest)
+pub repeats_block : (n : ℕ) (bytes rest after : List ℕ) (p : RgbaPixel) (count : ℕ) → IsChannels n → RepeatsSoFar n bytes rest p count → n * 16 ≤ length rest
+    → after ≡ drop (n * 16) rest → pixels_of n rest ≡ replicate 16 p ++ pixels_of n (drop (n * 16) rest)
     → RepeatsSoFar n bytes after p (count + 16)
 repeats_block n bytes rest after p count is w room behind block = record {
   size = sums n is (omega (arith, ap length behind, length-drop (n * 16) rest)) w.size;
-  same = w.same ∙ ap (λ x. replicate count p ++ x) (block ∙ ap (λ x. replicate 16 p ++ pixels_of n x) (sym behind)) ∙ repeats_after count 16 p (pixels_of n after);
+  same = w.same ∙ ap (λ x. replicate count p ++ x) (block ∙ ap (λ x. replicate 16 p ++ pixels_of n x) (sym behind))
+      ∙ repeats_after count 16 p (pixels_of n after);
 }
   where
-    sums : (n : ℕ) → IsChannels n → length after + n * 16 ≡ length rest → n * count + length rest ≡ length bytes → n * (count + 16) + length after ≡ length bytes
-    sums n (inl e) = subst (λ k. length after + k * 16 ≡ length rest → k * count + length rest ≡ length bytes → k * (count + 16) + length after ≡ length bytes) (sym e) (λ a b. omega arith)
-    sums n (inr e) = subst (λ k. length after + k * 16 ≡ length rest → k * count + length rest ≡ length bytes → k * (count + 16) + length after ≡ length bytes) (sym e) (λ a b. omega arith)
+    sums : (n : ℕ) → IsChannels n → length after + n * 16 ≡ length rest → n * count + length rest ≡ length bytes
+        → n * (count + 16) + length after ≡ length bytes
+    sums n (inl e) = subst (λ k. length after + k * 16 ≡ length rest → k * count + length rest ≡ length bytes
+        → k * (count + 16) + length after ≡ length bytes) (sym e) (λ a b. omega arith)
+    sums n (inr e) = subst (λ k. length after + k * 16 ≡ length rest → k * count + length rest ≡ length bytes
+        → k * (count + 16) + length after ≡ length bytes) (sym e) (λ a b. omega arith)
 
 -- the member at a place is the first behind as many
 nth_first : (k : ℕ) (xs : List RgbaPixel) → slice_get xs k ≡ slice_get (drop k xs) 0
@@ -78,8 +84,10 @@ nth_first (suc k) [] = refl
 nth_first (suc k) (x ∷ xs) = nth_first k xs
 
 -- repeats, and those that are counted behind them
-pub counted_on : (p : RgbaPixel) (pixels rest : List RgbaPixel) (n more : ℕ) → pixels ≡ replicate n p ++ rest → IsCount p rest more → IsCount p pixels (n + more)
-counted_on p pixels rest n more e w = count_of p pixels (drop more rest) (n + more) (e ∙ ap (λ x. replicate n p ++ x) w.same ∙ repeats_after n more p (drop more rest)) (λ same. w.other (nth_first more rest ∙ same))
+pub counted_on : (p : RgbaPixel) (pixels rest : List RgbaPixel) (n more : ℕ) → pixels ≡ replicate n p ++ rest → IsCount p rest more
+    → IsCount p pixels (n + more)
+counted_on p pixels rest n more e w = count_of p pixels (drop more rest) (n + more)
+    (e ∙ ap (λ x. replicate n p ++ x) w.same ∙ repeats_after n more p (drop more rest)) (λ same. w.other (nth_first more rest ∙ same))
 
 -- The pixels of the bytes are so many of q, and then those of the bytes behind them, of which the first is another.
 pub record Group (n : ℕ) (bytes : List ℕ) (q : RgbaPixel) (count : ℕ) : Type 0 where
@@ -89,7 +97,8 @@ pub record Group (n : ℕ) (bytes : List ℕ) (q : RgbaPixel) (count : ℕ) : Ty
   pub whole : length (drop (n * count) bytes) % n ≡ 0
 
 -- counted repeats are a group
-pub group_of : (n : ℕ) (bytes : List ℕ) (q : RgbaPixel) (count : ℕ) → IsChannels n → length bytes % n ≡ 0 → IsCount q (pixels_of n bytes) count → Group n bytes q count
+pub group_of : (n : ℕ) (bytes : List ℕ) (q : RgbaPixel) (count : ℕ) → IsChannels n → length bytes % n ≡ 0 → IsCount q (pixels_of n bytes) count
+    → Group n bytes q count
 group_of n bytes q count is whole w = record {
   within = inside;
   pixels = w.same ∙ ap (λ x. replicate count q ++ x) behind;
@@ -101,7 +110,13 @@ group_of n bytes q count is whole w = record {
     size = whole_pixels n (length bytes) is whole
 
     enough : count ≤ length bytes / n
-    enough = omega (arith, length-pixels_of n (length bytes / n) bytes is size, ap length w.same, length-append (replicate count q) (drop count (pixels_of n bytes)), length-replicate count q)
+    enough = omega (
+      arith,
+      length-pixels_of n (length bytes / n) bytes is size,
+      ap length w.same,
+      length-append (replicate count q) (drop count (pixels_of n bytes)),
+      length-replicate count q,
+    )
 
     inside : n * count ≤ length bytes
     inside = by_channels is
@@ -120,12 +135,15 @@ group_of n bytes q count is whole w = record {
     behind =
         ap (λ x. drop count (pixels_of n x)) (sym (take-append-drop (n * count) bytes))
         ∙ ap (drop count) (pixels_of-append n count (take (n * count) bytes) (drop (n * count) bytes) is length_front)
-        ∙ ap (λ k. drop k (pixels_of n (take (n * count) bytes) ++ pixels_of n (drop (n * count) bytes))) (sym (length-pixels_of n count (take (n * count) bytes) is length_front))
+        ∙ ap (λ k. drop k (pixels_of n (take (n * count) bytes) ++ pixels_of n (drop (n * count) bytes)))
+        (sym (length-pixels_of n count (take (n * count) bytes) is length_front))
         ∙ drop-append_seam (pixels_of n (take (n * count) bytes)) (pixels_of n (drop (n * count) bytes))
 
     still : IsChannels n → (length bytes - n * count) % n ≡ 0
-    still (inl e) = let m = whole in let h = inside in subst (λ k. length bytes % k ≡ 0 → k * count ≤ length bytes → (length bytes - k * count) % k ≡ 0) (sym e) (λ a b. omega arith) m h
-    still (inr e) = let m = whole in let h = inside in subst (λ k. length bytes % k ≡ 0 → k * count ≤ length bytes → (length bytes - k * count) % k ≡ 0) (sym e) (λ a b. omega arith) m h
+    still (inl e) = let m = whole in let h = inside in subst (λ k. length bytes % k ≡ 0 → k * count ≤ length bytes → (length bytes - k * count) % k ≡ 0)
+        (sym e) (λ a b. omega arith) m h
+    still (inr e) = let m = whole in let h = inside in subst (λ k. length bytes % k ≡ 0 → k * count ≤ length bytes → (length bytes - k * count) % k ≡ 0)
+        (sym e) (λ a b. omega arith) m h
 
 -- pixels behind others are those of the bytes behind theirs
 pub pixels_drop : (n k : ℕ) (bytes : List ℕ) → IsChannels n → n * k ≤ length bytes → drop k (pixels_of n bytes) ≡ pixels_of n (drop (n * k) bytes)
@@ -174,7 +192,8 @@ times_rest : (n most count : ℕ) → IsChannels n → count ≤ most → n * mo
 times_rest n most count (inl e) l = subst (λ j. j * most - j * count ≡ j * (most - count)) (sym e) (omega arith)
 times_rest n most count (inr e) l = subst (λ j. j * most - j * count ≡ j * (most - count)) (sym e) (omega arith)
 
-pub near_group : (n : ℕ) (bytes : List ℕ) (q : RgbaPixel) (most count m : ℕ) → IsChannels n → length bytes % n ≡ 0 → m ≡ min (length bytes) (n * most) → IsCount q (pixels_of n (take m bytes)) count → NearGroup n bytes q most count
+pub near_group : (n : ℕ) (bytes : List ℕ) (q : RgbaPixel) (most count m : ℕ) → IsChannels n → length bytes % n ≡ 0 → m ≡ min (length bytes) (n * most)
+    → IsCount q (pixels_of n (take m bytes)) count → NearGroup n bytes q most count
 near_group n bytes q most count m is whole m_is counted = go (cases_lt (n * most) (length bytes))
   where
     go : (n * most < length bytes) ⊎ (length bytes ≤ n * most) → NearGroup n bytes q most count
@@ -194,18 +213,23 @@ near_group n bytes q most count m is whole m_is counted = go (cases_lt (n * most
         let inside : n * count ≤ length bytes = omega (arith, g.within, size) in
         let behind = drop (n * count) near in
         let behind_size : length behind ≡ n * (most - count) = length-drop (n * count) near ∙ ap (λ k. k - n * count) size ∙ times_rest n most count is few in
-        let joined : drop (n * count) bytes ≡ behind ++ far = ap (drop (n * count)) (sym (take-append-drop (n * most) bytes)) ∙ drop-append-le (n * count) near far (omega (arith, g.within)) in
-        let ahead : pixels_of n (drop (n * count) bytes) ≡ pixels_of n behind ++ pixels_of n far = ap (pixels_of n) joined ∙ pixels_of-append n (most - count) behind far is behind_size in
-        let all : pixels_of n bytes ≡ pixels_of n near ++ pixels_of n far = ap (pixels_of n) (sym (take-append-drop (n * most) bytes)) ∙ pixels_of-append n most near far is size in
+        let joined : drop (n * count) bytes ≡ behind ++ far = ap (drop (n * count)) (sym (take-append-drop (n * most) bytes))
+        ∙ drop-append-le (n * count) near far (omega (arith, g.within)) in
+        let ahead : pixels_of n (drop (n * count) bytes) ≡ pixels_of n behind ++ pixels_of n far = ap (pixels_of n) joined
+        ∙ pixels_of-append n (most - count) behind far is behind_size in
+        let all : pixels_of n bytes ≡ pixels_of n near ++ pixels_of n far = ap (pixels_of n) (sym (take-append-drop (n * most) bytes))
+        ∙ pixels_of-append n most near far is size in
         record {
           within = inside;
           few = few;
-          pixels = all ∙ ap (λ x. x ++ pixels_of n far) g.pixels ∙ append_assoc (replicate count q) (pixels_of n behind) (pixels_of n far) ∙ ap (λ x. replicate count q ++ x) (sym ahead);
+          pixels = all ∙ ap (λ x. x ++ pixels_of n far) g.pixels ∙ append_assoc (replicate count q) (pixels_of n behind) (pixels_of n far)
+              ∙ ap (λ x. replicate count q ++ x) (sym ahead);
           ends = end_of (pixels_of n behind) (pixels_of n far) ahead g.other (length-pixels_of n (most - count) behind is behind_size) few;
           whole = ap (λ k. k % n) (length-drop (n * count) bytes) ∙ whole_rest n count (length bytes) is whole inside;
         }
       where
-        end_of : (xs ys : List RgbaPixel) {zs : List RgbaPixel} → zs ≡ xs ++ ys → slice_get xs 0 ≢ Some q → length xs ≡ most - count → count ≤ most → (slice_get zs 0 ≢ Some q) ⊎ (count ≡ most)
+        end_of : (xs ys : List RgbaPixel) {zs : List RgbaPixel} → zs ≡ xs ++ ys → slice_get xs 0 ≢ Some q → length xs ≡ most - count → count ≤ most
+            → (slice_get zs 0 ≢ Some q) ⊎ (count ≡ most)
         end_of [] ys e other len few = inr (omega arith)
         end_of (x ∷ xs) ys e other len few = inl (λ same. other (sym (ap (λ z. slice_get z 0) e) ∙ same))
 
@@ -220,8 +244,10 @@ drop_next n k bytes (inl e) = drop-drop n (n * k) bytes ∙ ap (λ j. drop j byt
 drop_next n k bytes (inr e) = drop-drop n (n * k) bytes ∙ ap (λ j. drop j bytes) (subst (λ j. j * k + j ≡ j * (k + 1)) (sym e) (omega arith))
 
 -- the first pixel of whole bytes, and those behind it
-pub pixel_ahead : (n : ℕ) (bytes : List ℕ) → IsChannels n → length bytes % n ≡ 0 → 0 < length bytes → pixels_of n bytes ≡ rgba (take n bytes) ∷ pixels_of n (drop n bytes)
-pixel_ahead n bytes is whole some = ap (pixels_of n) (sym (take-append-drop n bytes)) ∙ pixels_of-next n (take n bytes) (drop n bytes) is (length-take-le n bytes (enough n (length bytes) is whole some))
+pub pixel_ahead : (n : ℕ) (bytes : List ℕ) → IsChannels n → length bytes % n ≡ 0 → 0 < length bytes
+    → pixels_of n bytes ≡ rgba (take n bytes) ∷ pixels_of n (drop n bytes)
+pixel_ahead n bytes is whole some = ap (pixels_of n) (sym (take-append-drop n bytes))
+    ∙ pixels_of-next n (take n bytes) (drop n bytes) is (length-take-le n bytes (enough n (length bytes) is whole some))
   where
     enough : (n len : ℕ) → IsChannels n → len % n ≡ 0 → 0 < len → n ≤ len
     enough n len (inl e) whole some = subst (λ k. len % k ≡ 0 → k ≤ len) (sym e) (λ a. omega arith) whole

@@ -54,7 +54,8 @@ noted_seen (q ∷ past) p e = go (cases_pixel q (previous past)) (cases_eq (hash
     first_repeat (r ∷ past) is same noted_is seen_is =
         is ∙ sym (seen_same past r (hash p) (ap hash (sym is) ∙ same)) ∙ seen_is
 
-    go : (q ≡ previous past) ⊎ (q ≢ previous past) → (hash q ≡ hash p) ⊎ (hash q ≢ hash p) → (noted past (hash p) ≡ p → seen past (hash p) ≡ p) → seen (q ∷ past) (hash p) ≡ p
+    go : (q ≡ previous past) ⊎ (q ≢ previous past) → (hash q ≡ hash p) ⊎ (hash q ≢ hash p) → (noted past (hash p) ≡ p → seen past (hash p) ≡ p)
+        → seen (q ∷ past) (hash p) ≡ p
     go (inl is) (inl same) h =
         let n : noted past (hash p) ≡ p = sym (noted_repeat past q (hash p) is) ∙ e in
         seen_same past q (hash p) same ∙ first_repeat past is same n (h n)

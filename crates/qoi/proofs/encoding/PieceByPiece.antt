@@ -34,8 +34,10 @@ module _ {W : Type 0} (wrote : W → List ℕ → W → Type 0) (room : W → �
 
 module _ {W : Type 0} {wrote : W → List ℕ → W → Type 0} {room : W → ℕ} {style : Style} {n : ℕ} {bytes front : List ℕ} {start : W} where
   -- before the first pixel
-  pub piece_starts : {table : List RgbaPixel} {coder : Coder} → WriterLaws wrote room → IsChannels n → AreBytes bytes → length bytes % n ≡ 0 → length front + (length bytes + length bytes / n) ≤ room start
-      → StateAfter style [] table coder.last → StyleAfter [] None coder.place coder.begun coder.placed → PieceBetween wrote room style n bytes front start bytes table coder front start
+  pub piece_starts : {table : List RgbaPixel} {coder : Coder} → WriterLaws wrote room → IsChannels n → AreBytes bytes → length bytes % n ≡ 0
+      → length front + (length bytes + length bytes / n) ≤ room start
+      → StateAfter style [] table coder.last → StyleAfter [] None coder.place coder.begun coder.placed
+      → PieceBetween wrote room style n bytes front start bytes table coder front start
   piece_starts {table} {coder} laws channels are whole enough state style_state =
       let pixels = pixels_of n bytes in
       let pixels_are = pixels_of_are n bytes channels (all_bytes bytes are) in
@@ -54,11 +56,22 @@ module _ {W : Type 0} {wrote : W → List ℕ → W → Type 0} {room : W → �
         between = coder_starts style pixels list.0 front table coder list.1 pixels_are state style_state;
       }
 
-  module _ {rest : List ℕ} {table : List RgbaPixel} {coder : Coder} {kept : List ℕ} {buf : W} (p : PieceBetween wrote room style n bytes front start rest table coder kept buf) where
+  module _ {rest : List ℕ} {table : List RgbaPixel} {coder : Coder} {kept : List ℕ} {buf : W}
+      (p : PieceBetween wrote room style n bytes front start rest table coder kept buf) where
     -- the coder went on
     pub piece_filled : {rest' : List ℕ} {table' : List RgbaPixel} {coder' : Coder} {kept' : List ℕ}
-        → ((w : Writing) → w.style ≡ style → CoderBetween w (pixels_of n rest) table coder kept → CoderBetween w (pixels_of n rest') table' coder' kept') → PieceBetween wrote room style n bytes front start rest' table' coder' kept' buf
-    piece_filled given = record { laws = p.laws; list = p.list; written = p.written; fits = p.fits; ahead = p.ahead; went = p.went; between = given _ refl p.between }
+        → ((w : Writing) → w.style ≡ style → CoderBetween w (pixels_of n rest) table coder kept → CoderBetween w (pixels_of n rest') table' coder' kept')
+        → PieceBetween wrote room style n bytes front start rest' table' coder' kept' buf
+    piece_filled given = record {
+      laws = p.laws;
+      list = p.list;
+      written = p.written;
+      fits = p.fits;
+      ahead = p.ahead;
+      went = p.went;
+      between =
+          given _ refl p.between;
+    }
 
     -- the list in its style
     abbrev in_list : WrittenIn style (pixels_of n bytes) (in_style style p.list)
@@ -67,30 +80,50 @@ module _ {W : Type 0} {wrote : W → List ℕ → W → Type 0} {room : W → �
     -- what is kept begins with these bytes
     module _ (size : ℕ) where
       -- the first so many bytes and the others
-      abbrev given_first : (ahead : List ℕ) × (p.ahead ≡ take size kept ++ ahead) × CoderBetween (record { style = style; image = pixels_of n bytes; list = p.list; ahead = ahead }) (pixels_of n rest) table coder (drop size kept)
+      abbrev given_first : (ahead : List ℕ) × (p.ahead ≡ take size kept ++ ahead)
+          × CoderBetween (record { style = style; image = pixels_of n bytes; list = p.list; ahead = ahead }) (pixels_of n rest) table coder (drop size kept)
       given_first = piece_given p.between (take size kept) (drop size kept) (sym (take-append-drop size kept))
 
       -- there is room for them
       pub piece_fits : size ≤ length kept → size ≤ room buf
-      piece_fits enough = omega (arith, left_fits wrote room p.laws start buf (front ++ text (in_style style p.list)) p.ahead p.went p.fits, ap length given_first.1, length-append (take size kept) given_first.0, length-take-le size kept enough)
+      piece_fits enough = omega (
+        arith,
+        left_fits wrote room p.laws start buf (front ++ text (in_style style p.list)) p.ahead p.went p.fits,
+        ap length given_first.1,
+        length-append (take size kept) given_first.0,
+        length-take-le size kept enough,
+      )
 
       -- they are given away
-      pub piece_went : {now : W} {kept' : List ℕ} → wrote buf (take size kept) now → kept' ≡ drop size kept → PieceBetween wrote room style n bytes front start rest table coder kept' now
+      pub piece_went : {now : W} {kept' : List ℕ} → wrote buf (take size kept) now → kept' ≡ drop size kept
+          → PieceBetween wrote room style n bytes front start rest table coder kept' now
       piece_went {now} {kept'} went is = record {
         laws = p.laws;
         list = p.list;
         written = p.written;
         fits = p.fits;
         ahead = given_first.0;
-        went = wrote_next wrote room p.laws start buf now (front ++ text (in_style style p.list)) p.ahead (take size kept) given_first.0 p.went given_first.1 went;
-        between = subst (λ z. CoderBetween (record { style = style; image = pixels_of n bytes; list = p.list; ahead = given_first.0 }) (pixels_of n rest) table coder z) (sym is) given_first.2;
+        went = wrote_next wrote room p.laws start buf now (front ++ text (in_style style p.list)) p.ahead
+            (take size kept) given_first.0 p.went given_first.1 went;
+        between = subst (λ z. CoderBetween (record { style = style; image = pixels_of n bytes; list = p.list; ahead = given_first.0 })
+            (pixels_of n rest) table coder z) (sym is) given_first.2;
       }
 
       -- a beginning of them is
-      pub piece_part : {now : W} → WroteSome wrote buf (take size kept) now → (cs : List Chunk) × WrittenIn style (pixels_of n bytes) cs × WroteSome wrote start (front ++ text cs) now
-      piece_part {now} some = (in_style style p.list, in_list, wrote_part wrote room p.laws start buf now (front ++ text (in_style style p.list)) p.ahead (take size kept) given_first.0 p.went given_first.1 some)
+      pub piece_part : {now : W} → WroteSome wrote buf (take size kept) now
+          → (cs : List Chunk) × WrittenIn style (pixels_of n bytes) cs × WroteSome wrote start (front ++ text cs) now
+      piece_part {now} some = (
+        in_style style p.list,
+        in_list,
+        wrote_part wrote room p.laws start buf now (front ++ text (in_style style p.list)) p.ahead (take size kept) given_first.0 p.went given_first.1 some,
+      )
 
   -- at the end all but what is kept went
   pub piece_ends : {table : List RgbaPixel} {coder : Coder} {kept : List ℕ} {buf : W} {rest : List ℕ} {table' : List RgbaPixel} {coder' : Coder} {kept' : List ℕ} (p : PieceBetween wrote room style n bytes front start rest table coder kept buf)
-      → ((w : Writing) → w.style ≡ style → CoderBetween w (pixels_of n rest) table coder kept → CoderBetween w [] table' coder' kept') → (cs : List Chunk) × WrittenIn style (pixels_of n bytes) cs × WroteBut wrote start (front ++ text cs) kept' buf
-  piece_ends {buf = buf} p given = (in_style style p.list, record { list = p.list; written = p.written; is = refl }, subst (λ z. WroteBut wrote start (front ++ text (in_style style p.list)) z buf) (all_given (given _ refl p.between)) p.went)
+      → ((w : Writing) → w.style ≡ style → CoderBetween w (pixels_of n rest) table coder kept → CoderBetween w [] table' coder' kept')
+      → (cs : List Chunk) × WrittenIn style (pixels_of n bytes) cs × WroteBut wrote start (front ++ text cs) kept' buf
+  piece_ends {buf = buf} p given = (
+    in_style style p.list,
+    record { list = p.list; written = p.written; is = refl },
+    subst (λ z. WroteBut wrote start (front ++ text (in_style style p.list)) z buf) (all_given (given _ refl p.between)) p.went,
+  )

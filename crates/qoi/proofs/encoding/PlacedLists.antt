@@ -72,14 +72,19 @@ placed_length past before [] = refl
 placed_length past before (c ∷ cs) =
     let one = by_place (λ c d. length (bytes_of d) ≡ length (bytes_of c)) past before c cs (λ d. refl) (λ _. refl) in
     let more = placed_length (then_chunk past c) (Some c) cs in
-    omega (arith, length-append (bytes_of (place_for past before c cs)) (text (placed_after (then_chunk past c) (Some c) cs)), length-append (bytes_of c) (text cs))
+    omega (
+      arith,
+      length-append (bytes_of (place_for past before c cs)) (text (placed_after (then_chunk past c) (Some c) cs)),
+      length-append (bytes_of c) (text cs),
+    )
 
 -- it is regular where the list is
 pub placed_regular : (past : Past) (before : Option Chunk) (cs : List Chunk) → Each NamesWritten past cs → Each NamesWritten past (placed_after past before cs)
 placed_regular past before [] h = tt
 placed_regular past before (c ∷ cs) h = (
   by_place (λ c d. NamesWritten past c → NamesWritten past d) past before c cs (λ d k. k) (λ e _. ap hash e) h.0,
-  subst (λ x. Each NamesWritten x (placed_after (then_chunk past c) (Some c) cs)) (sym (same_pixels past before c cs)) (placed_regular (then_chunk past c) (Some c) cs h.1),
+  subst (λ x. Each NamesWritten x (placed_after (then_chunk past c) (Some c) cs)) (sym (same_pixels past before c cs))
+      (placed_regular (then_chunk past c) (Some c) cs h.1),
 )
 
 -- a chunk that is given by the index position i is that position, or a single run of its pixel
@@ -138,13 +143,15 @@ apart_first Choice past before (Rgb x y z) d cs i right e f = e
 apart_first Choice past before (Rgba x y z w) d cs i right e f = e
 
 -- so it is throughout the list
-pub placed_apart : (Choice : Past → RgbaPixel → Chunk → Type 0) (past : Past) (before : Option Chunk) (cs front rest : List Chunk) (i : ℕ) → Each (IsRightAfter Choice) past cs → placed_after past before cs ≡ front ++ Place i ∷ Place i ∷ rest → ⊥
+pub placed_apart : (Choice : Past → RgbaPixel → Chunk → Type 0) (past : Past) (before : Option Chunk) (cs front rest : List Chunk) (i : ℕ)
+    → Each (IsRightAfter Choice) past cs → placed_after past before cs ≡ front ++ Place i ∷ Place i ∷ rest → ⊥
 placed_apart Choice past before [] [] rest i right e = absurd (let x = e in cc)
 placed_apart Choice past before [] (x ∷ front) rest i right e = absurd (let x = e in cc)
 placed_apart Choice past before (c ∷ cs) (x ∷ front) rest i right e =
     placed_apart Choice (then_chunk past c) (Some c) cs front rest i right.1 (rest_of e)
   where
-    rest_of : place_for past before c cs ∷ placed_after (then_chunk past c) (Some c) cs ≡ x ∷ (front ++ Place i ∷ Place i ∷ rest) → placed_after (then_chunk past c) (Some c) cs ≡ front ++ Place i ∷ Place i ∷ rest
+    rest_of : place_for past before c cs ∷ placed_after (then_chunk past c) (Some c) cs ≡ x ∷ (front ++ Place i ∷ Place i ∷ rest)
+        → placed_after (then_chunk past c) (Some c) cs ≡ front ++ Place i ∷ Place i ∷ rest
     rest_of e = cc
 placed_apart Choice past before (c ∷ []) [] rest i right e = absurd (let x = e in cc)
 placed_apart Choice past before (c ∷ d ∷ cs) [] rest i right e =

@@ -25,7 +25,8 @@ packed w l = omega arith
 
 -- numbers that repeat are pixels that repeat
 run_count : (w : ℕ) (ps : List RgbaPixel) (n : ℕ) → w < 2 ^ 32 → AllByRecursion IsPixel ps → n < length ps
-    → ((k : ℕ) → k < n → slice_index (map word ps) k ≡ slice_index (w ∷ map word ps) k) → slice_index (map word ps) n ≢ slice_index (w ∷ map word ps) n → IsCount (pixel_of_word w) ps n
+    → ((k : ℕ) → k < n → slice_index (map word ps) k ≡ slice_index (w ∷ map word ps) k) → slice_index (map word ps) n ≢ slice_index (w ∷ map word ps) n
+    → IsCount (pixel_of_word w) ps n
 run_count w [] n l are few same stops = absurd (omega arith)
 run_count w (p ∷ ps) zero l are few same stops = record {
   same = refl;
@@ -37,7 +38,8 @@ run_count w (p ∷ ps) zero l are few same stops = record {
 run_count w (p ∷ ps) (suc n) l are few same stops =
     let e : word p ≡ w = same 0 (omega arith) in
     let is : p ≡ pixel_of_word w = sym (unpacked p are.0) ∙ ap pixel_of_word e in
-    let rest = subst (λ q. IsCount q ps n) (ap pixel_of_word e) (run_count (word p) ps n (word_below p are.0) are.1 (omega arith) (λ k lt. same (suc k) (omega arith)) stops) in
+    let rest = subst (λ q. IsCount q ps n) (ap pixel_of_word e)
+    (run_count (word p) ps n (word_below p are.0) are.1 (omega arith) (λ k lt. same (suc k) (omega arith)) stops) in
     record {
       same = λ i. is i ∷ rest.same i;
       other = rest.other;
@@ -59,7 +61,8 @@ all_drop (suc n) [] a = a
 all_drop (suc n) (p ∷ ps) a = all_drop n ps a.1
 
 -- The repeats of the pixel before a lane are those that the lanes count, where a lane stops them.
-module _ (last : ℕ) (pixels : List RgbaPixel) (cur prev : List ℕ) (at n : ℕ) (long : 4 ≤ length pixels) (are : AllByRecursion IsPixel pixels) (ce : cur ≡ map word (take 4 pixels)) (pe : prev ≡ last ∷ take 3 cur) where
+module _ (last : ℕ) (pixels : List RgbaPixel) (cur prev : List ℕ) (at n : ℕ) (long : 4 ≤ length pixels) (are : AllByRecursion IsPixel pixels)
+    (ce : cur ≡ map word (take 4 pixels)) (pe : prev ≡ last ∷ take 3 cur) where
   lane : (k : ℕ) → at + k < 4 → slice_index (map word (drop at pixels)) k ≡ slice_index cur (at + k)
   lane k l =
       ap (λ ws. slice_index ws k) (map_drop at pixels) ∙ get_or-drop at (map word pixels) k 0
@@ -79,7 +82,8 @@ module _ (last : ℕ) (pixels : List RgbaPixel) (cur prev : List ℕ) (at n : �
       (λ e. run.stops short (sym (lane n short) ∙ e ∙ behind n short))
 
 -- the pixel before the fresh one is that before the lane
-pub before_run : (cur prev : List ℕ) (last at n : ℕ) → prev ≡ last ∷ take 3 cur → IsRun cur prev at n → (k : ℕ) → k ≤ n → at + k < 4 → slice_index prev (at + k) ≡ slice_index prev at
+pub before_run : (cur prev : List ℕ) (last at n : ℕ) → prev ≡ last ∷ take 3 cur → IsRun cur prev at n → (k : ℕ) → k ≤ n → at + k < 4
+    → slice_index prev (at + k) ≡ slice_index prev at
 before_run cur prev last at n pe run zero le l = ap (slice_index prev) (omega arith)
 before_run cur prev last at n pe run (suc k) le l =
     ap (slice_index prev) (omega arith) ∙ ap (λ ws. slice_index ws (suc (at + k))) pe ∙ get_or-take 3 cur (at + k) 0 (omega arith)
@@ -90,11 +94,15 @@ pub differ : (v w : ℕ) → v < 2 ^ 32 → w < 2 ^ 32 → v ≢ w → pixel_of_
 differ v w lv lw n e = n (sym (packed v lv) ∙ ap word e ∙ packed w lw)
 
 -- the pixel of a lane, and those behind it
-pub lane_pixel : (pixels : List RgbaPixel) (cur : List ℕ) (j : ℕ) → 4 ≤ length pixels → AllByRecursion IsPixel pixels → cur ≡ map word (take 4 pixels) → j < 4 → drop j pixels ≡ pixel_of_word (slice_index cur j) ∷ drop (suc j) pixels
+pub lane_pixel : (pixels : List RgbaPixel) (cur : List ℕ) (j : ℕ) → 4 ≤ length pixels → AllByRecursion IsPixel pixels → cur ≡ map word (take 4 pixels) → j < 4
+    → drop j pixels ≡ pixel_of_word (slice_index cur j) ∷ drop (suc j) pixels
 lane_pixel (p0 ∷ p1 ∷ p2 ∷ p3 ∷ more) cur zero l a ce lt = λ i. sym (ap (λ ws. pixel_of_word (slice_index ws 0)) ce ∙ unpacked p0 a.0) i ∷ p1 ∷ p2 ∷ p3 ∷ more
-lane_pixel (p0 ∷ p1 ∷ p2 ∷ p3 ∷ more) cur (suc zero) l a ce lt = λ i. sym (ap (λ ws. pixel_of_word (slice_index ws 1)) ce ∙ unpacked p1 a.1.0) i ∷ p2 ∷ p3 ∷ more
-lane_pixel (p0 ∷ p1 ∷ p2 ∷ p3 ∷ more) cur (suc (suc zero)) l a ce lt = λ i. sym (ap (λ ws. pixel_of_word (slice_index ws 2)) ce ∙ unpacked p2 a.1.1.0) i ∷ p3 ∷ more
-lane_pixel (p0 ∷ p1 ∷ p2 ∷ p3 ∷ more) cur (suc (suc (suc zero))) l a ce lt = λ i. sym (ap (λ ws. pixel_of_word (slice_index ws 3)) ce ∙ unpacked p3 a.1.1.1.0) i ∷ more
+lane_pixel (p0 ∷ p1 ∷ p2 ∷ p3 ∷ more) cur (suc zero) l a ce lt = λ i.
+    sym (ap (λ ws. pixel_of_word (slice_index ws 1)) ce ∙ unpacked p1 a.1.0) i ∷ p2 ∷ p3 ∷ more
+lane_pixel (p0 ∷ p1 ∷ p2 ∷ p3 ∷ more) cur (suc (suc zero)) l a ce lt = λ i.
+    sym (ap (λ ws. pixel_of_word (slice_index ws 2)) ce ∙ unpacked p2 a.1.1.0) i ∷ p3 ∷ more
+lane_pixel (p0 ∷ p1 ∷ p2 ∷ p3 ∷ more) cur (suc (suc (suc zero))) l a ce lt = λ i.
+    sym (ap (λ ws. pixel_of_word (slice_index ws 3)) ce ∙ unpacked p3 a.1.1.1.0) i ∷ more
 lane_pixel (p0 ∷ p1 ∷ p2 ∷ p3 ∷ more) cur (suc (suc (suc (suc j)))) l a ce lt = absurd (omega arith)
 lane_pixel _ cur j l a ce lt = absurd (omega arith)
 

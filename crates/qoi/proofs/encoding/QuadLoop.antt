@@ -24,7 +24,8 @@ long_pixels n bytes (inr e) l = rw e (four_long bytes l)
 opaque_word : (r g b : ℕ) → r < 256 → g < 256 → b < 256 → (r + g * 2 ^ 8 + b * 2 ^ 16 + 255 * 2 ^ 24) / 2 ^ 24 ≡ 255
 opaque_word r g b lr lg lb = omega arith
 
-opaque_lanes : (bytes : List ℕ) (last : ℕ) → AreBytes bytes → 16 ≤ length bytes → last / 2 ^ 24 ≡ 255 → (let cur = map word (take 4 (pixels_of_3 bytes)) in SameAlpha cur (last ∷ take 3 cur))
+opaque_lanes : (bytes : List ℕ) (last : ℕ) → AreBytes bytes → 16 ≤ length bytes → last / 2 ^ 24 ≡ 255
+    → (let cur = map word (take 4 (pixels_of_3 bytes)) in SameAlpha cur (last ∷ take 3 cur))
 opaque_lanes (b0 ∷ b1 ∷ b2 ∷ b3 ∷ b4 ∷ b5 ∷ b6 ∷ b7 ∷ b8 ∷ b9 ∷ b10 ∷ b11 ∷ bytes) last h l e =
     let x = opaque_word b0 b1 b2 (h 0) (h 1) (h 2) in
     let y = opaque_word b3 b4 b5 (h 3) (h 4) (h 5) in
@@ -33,7 +34,8 @@ opaque_lanes (b0 ∷ b1 ∷ b2 ∷ b3 ∷ b4 ∷ b5 ∷ b6 ∷ b7 ∷ b8 ∷ b9 
     (x ∙ sym e, (y ∙ sym x, (z ∙ sym y, (w ∙ sym z, tt))))
 opaque_lanes _ last h l e = absurd (omega arith)
 
-pub quad_opaque : (n : ℕ) (bytes : List ℕ) (last : ℕ) (cur prev : List ℕ) → n ≡ 3 → AreBytes bytes → 16 ≤ length bytes → last / 2 ^ 24 ≡ 255 → cur ≡ map word (take 4 (pixels_of n bytes)) → prev ≡ last ∷ take 3 cur → SameAlpha cur prev
+pub quad_opaque : (n : ℕ) (bytes : List ℕ) (last : ℕ) (cur prev : List ℕ) → n ≡ 3 → AreBytes bytes → 16 ≤ length bytes → last / 2 ^ 24 ≡ 255
+    → cur ≡ map word (take 4 (pixels_of n bytes)) → prev ≡ last ∷ take 3 cur → SameAlpha cur prev
 quad_opaque n bytes last cur prev three h l e ce pe =
     let is : cur ≡ map word (take 4 (pixels_of_3 bytes)) = ce ∙ ap (λ n. map word (take 4 (pixels_of n bytes))) three in
     let old = pe ∙ ap (λ xs. last ∷ take 3 xs) is in
@@ -50,7 +52,8 @@ all_take zero ps a = tt
 all_take (suc n) [] a = tt
 all_take (suc n) (p ∷ ps) a = (a.0, all_take n ps a.1)
 
-module _ (pixels : List RgbaPixel) (last : ℕ) (cur prev : List ℕ) (long : 4 ≤ length pixels) (are : AllByRecursion IsPixel pixels) (ce : cur ≡ map word (take 4 pixels)) (pe : prev ≡ last ∷ take 3 cur) where
+module _ (pixels : List RgbaPixel) (last : ℕ) (cur prev : List ℕ) (long : 4 ≤ length pixels) (are : AllByRecursion IsPixel pixels)
+    (ce : cur ≡ map word (take 4 pixels)) (pe : prev ≡ last ∷ take 3 cur) where
   pub cur_length : length cur ≡ 4
   cur_length = ap length ce ∙ length-map (take 4 pixels) word ∙ length-take-le 4 pixels long
 

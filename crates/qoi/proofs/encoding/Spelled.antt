@@ -68,14 +68,17 @@ luma_fits : (x y u v k l : ℕ) → y < 256 → v < 256 → k < 64 → l < 16 �
 luma_fits x y u v k l hy hv hk hl e f = omega arith
 
 -- a Diff's byte holds its differences
-diff_bits : (q p : RgbaPixel) → FitsDiff q p → (diff_byte q p / 16 % 4 ≡ plus_2 p.r q.r) × (diff_byte q p / 4 % 4 ≡ plus_2 p.g q.g) × (diff_byte q p % 4 ≡ plus_2 p.b q.b)
+diff_bits : (q p : RgbaPixel) → FitsDiff q p → (diff_byte q p / 16 % 4 ≡ plus_2 p.r q.r) × (diff_byte q p / 4 % 4 ≡ plus_2 p.g q.g)
+    × (diff_byte q p % 4 ≡ plus_2 p.b q.b)
 diff_bits q p f = bits _ _ _ f.r f.g f.b
   where
-    bits : (r g b : ℕ) → r < 4 → g < 4 → b < 4 → ((64 + r * 16 + g * 4 + b) / 16 % 4 ≡ r) × ((64 + r * 16 + g * 4 + b) / 4 % 4 ≡ g) × ((64 + r * 16 + g * 4 + b) % 4 ≡ b)
+    bits : (r g b : ℕ) → r < 4 → g < 4 → b < 4 → ((64 + r * 16 + g * 4 + b) / 16 % 4 ≡ r) × ((64 + r * 16 + g * 4 + b) / 4 % 4 ≡ g)
+        × ((64 + r * 16 + g * 4 + b) % 4 ≡ b)
     bits r g b hr hg hb = (omega arith, omega arith, omega arith)
 
 -- a Luma's bytes hold its differences
-luma_bits : (q p : RgbaPixel) → FitsLuma q p → (luma_byte q p % 64 ≡ plus_32 p.g q.g) × (luma_second q p / 16 ≡ plus_8 p.r q.r p.g q.g) × (luma_second q p % 16 ≡ plus_8 p.b q.b p.g q.g)
+luma_bits : (q p : RgbaPixel) → FitsLuma q p → (luma_byte q p % 64 ≡ plus_32 p.g q.g) × (luma_second q p / 16 ≡ plus_8 p.r q.r p.g q.g)
+    × (luma_second q p % 16 ≡ plus_8 p.b q.b p.g q.g)
 luma_bits q p f = bits _ _ _ f.r f.g f.b
   where
     bits : (r g b : ℕ) → r < 16 → g < 64 → b < 16 → ((128 + g) % 64 ≡ g) × ((r * 16 + b) / 16 ≡ r) × ((r * 16 + b) % 16 ≡ b)
@@ -142,7 +145,8 @@ pub luma_chunk : (q p : RgbaPixel) → FitsLuma q p → IsChunk (Luma (luma_byte
 luma_chunk q p f = let r = f.r in let g = f.g in let b = f.b in (omega arith, omega arith, omega arith)
 
 -- the first chunk is the Diff, where the differences fit one
-pub first_diff : (past : Past) (p : RgbaPixel) → IsPixel (previous past) → IsPixel p → p.a ≡ (previous past).a → FitsDiff (previous past) p → IsFirst past p (Diff (diff_byte (previous past) p))
+pub first_diff : (past : Past) (p : RgbaPixel) → IsPixel (previous past) → IsPixel p → p.a ≡ (previous past).a → FitsDiff (previous past) p
+    → IsFirst past p (Diff (diff_byte (previous past) p))
 first_diff past p iq ip alpha f = record {
   spells = omega arith;
   gives = diff_gives (previous past) p iq ip alpha f;
@@ -150,7 +154,8 @@ first_diff past p iq ip alpha f = record {
 }
 
 -- else it is the Luma, where the differences fit one
-pub first_luma : (past : Past) (p : RgbaPixel) → IsPixel (previous past) → IsPixel p → p.a ≡ (previous past).a → (FitsDiff (previous past) p → ⊥) → FitsLuma (previous past) p → IsFirst past p (Luma (luma_byte (previous past) p) (luma_second (previous past) p))
+pub first_luma : (past : Past) (p : RgbaPixel) → IsPixel (previous past) → IsPixel p → p.a ≡ (previous past).a → (FitsDiff (previous past) p → ⊥)
+    → FitsLuma (previous past) p → IsFirst past p (Luma (luma_byte (previous past) p) (luma_second (previous past) p))
 first_luma past p iq ip alpha unfit f = record {
   spells = omega arith;
   gives = luma_gives (previous past) p iq ip alpha f;
@@ -166,7 +171,8 @@ first_luma past p iq ip alpha unfit f = record {
     least (Rgba r g b a) i s e = omega arith
 
 -- else it is the Rgb, where alpha stays
-pub first_rgb : (past : Past) (p : RgbaPixel) → IsPixel (previous past) → p.a ≡ (previous past).a → (FitsDiff (previous past) p → ⊥) → (FitsLuma (previous past) p → ⊥) → IsFirst past p (Rgb p.r p.g p.b)
+pub first_rgb : (past : Past) (p : RgbaPixel) → IsPixel (previous past) → p.a ≡ (previous past).a → (FitsDiff (previous past) p → ⊥)
+    → (FitsLuma (previous past) p → ⊥) → IsFirst past p (Rgb p.r p.g p.b)
 first_rgb past p iq alpha unfit wide = record {
   spells = omega arith;
   gives = same_pixel _ p refl refl refl (sym alpha);

@@ -13,17 +13,21 @@ use Rattle.qoi.proofs.encoding.SpelledSteps.{diff_bits, luma_bits, spelled, spel
 
 -- the highest bits of a byte
 and_fc : (x : ℕ) → x < 256 → bit_and x 252 ≡ x / 4 * 4
-and_fc x l = ap (λ z. bit_and z 252) (omega arith) ∙ and_block 2 (x / 4) 63 (x % 4) 0 (omega arith) (omega arith) ∙ omega (arith, and_mask (x / 4) 6, and_mask (x % 4) 0)
+and_fc x l = ap (λ z. bit_and z 252) (omega arith) ∙ and_block 2 (x / 4) 63 (x % 4) 0 (omega arith) (omega arith)
+    ∙ omega (arith, and_mask (x / 4) 6, and_mask (x % 4) 0)
 
 and_f0 : (x : ℕ) → x < 256 → bit_and x 240 ≡ x / 16 * 16
-and_f0 x l = ap (λ z. bit_and z 240) (omega arith) ∙ and_block 4 (x / 16) 15 (x % 16) 0 (omega arith) (omega arith) ∙ omega (arith, and_mask (x / 16) 4, and_mask (x % 16) 0)
+and_f0 x l = ap (λ z. bit_and z 240) (omega arith) ∙ and_block 4 (x / 16) 15 (x % 16) 0 (omega arith) (omega arith)
+    ∙ omega (arith, and_mask (x / 16) 4, and_mask (x % 16) 0)
 
 and_c0 : (x : ℕ) → x < 256 → bit_and x 192 ≡ x / 64 * 64
-and_c0 x l = ap (λ z. bit_and z 192) (omega arith) ∙ and_block 6 (x / 64) 3 (x % 64) 0 (omega arith) (omega arith) ∙ omega (arith, and_mask (x / 64) 2, and_mask (x % 64) 0)
+and_c0 x l = ap (λ z. bit_and z 192) (omega arith) ∙ and_block 6 (x / 64) 3 (x % 64) 0 (omega arith) (omega arith)
+    ∙ omega (arith, and_mask (x / 64) 2, and_mask (x % 64) 0)
 
 -- masks byte by byte
 masked : (r g b a mr mg mb ma : ℕ) → r < 256 → g < 256 → b < 256 → mr < 256 → mg < 256 → mb < 256
-    → bit_and (((a * 2 ^ 8 + b) * 2 ^ 8 + g) * 2 ^ 8 + r) (((ma * 2 ^ 8 + mb) * 2 ^ 8 + mg) * 2 ^ 8 + mr) ≡ ((bit_and a ma * 2 ^ 8 + bit_and b mb) * 2 ^ 8 + bit_and g mg) * 2 ^ 8 + bit_and r mr
+    → bit_and (((a * 2 ^ 8 + b) * 2 ^ 8 + g) * 2 ^ 8 + r) (((ma * 2 ^ 8 + mb) * 2 ^ 8 + mg) * 2 ^ 8 + mr)
+    ≡ ((bit_and a ma * 2 ^ 8 + bit_and b mb) * 2 ^ 8 + bit_and g mg) * 2 ^ 8 + bit_and r mr
 masked r g b a mr mg mb ma lr lg lb nr ng nb =
     and_block 8 ((a * 2 ^ 8 + b) * 2 ^ 8 + g) ((ma * 2 ^ 8 + mb) * 2 ^ 8 + mg) r mr lr nr
     ∙ ap (λ z. z * 2 ^ 8 + bit_and r mr) (and_block 8 (a * 2 ^ 8 + b) (ma * 2 ^ 8 + mb) g mg lg ng)
@@ -79,13 +83,15 @@ keeps_alpha p i = (
 )
 
 -- the lowest bytes of the chunks' numbers
-diff_low : (r g b a : ℕ) → r % 4 ≡ r → g % 4 ≡ g → b % 4 ≡ b → 0 ≡ a → diff_number (r + g * 2 ^ 8 + b * 2 ^ 16 + a * 2 ^ 24) % 256 ≡ 64 + r % 4 * 16 + g % 4 * 4 + b % 4
+diff_low : (r g b a : ℕ) → r % 4 ≡ r → g % 4 ≡ g → b % 4 ≡ b → 0 ≡ a
+    → diff_number (r + g * 2 ^ 8 + b * 2 ^ 16 + a * 2 ^ 24) % 256 ≡ 64 + r % 4 * 16 + g % 4 * 4 + b % 4
 diff_low r g b a er eg eb ea = omega arith
 
 luma_low : (r g b a : ℕ) → r % 16 ≡ r → g % 64 ≡ g → b % 16 ≡ b → 0 ≡ a → luma_number (r + g * 2 ^ 8 + b * 2 ^ 16 + a * 2 ^ 24) % 256 ≡ 128 + g % 64
 luma_low r g b a er eg eb ea = omega arith
 
-luma_next : (r g b a : ℕ) → r % 16 ≡ r → g % 64 ≡ g → b % 16 ≡ b → 0 ≡ a → luma_number (r + g * 2 ^ 8 + b * 2 ^ 16 + a * 2 ^ 24) / 256 % 256 ≡ r % 16 * 16 + b % 16
+luma_next : (r g b a : ℕ) → r % 16 ≡ r → g % 64 ≡ g → b % 16 ≡ b → 0 ≡ a
+    → luma_number (r + g * 2 ^ 8 + b * 2 ^ 16 + a * 2 ^ 24) / 256 % 256 ≡ r % 16 * 16 + b % 16
 luma_next r g b a er eg eb ea = omega arith
 
 -- one of two numbers
@@ -103,16 +109,20 @@ full_fourth p n l = omega arith
 
 -- the bytes of the choice
 chunk_bytes : (d l k : Bool) (sm wi : RgbaPixel) (p : ℕ) → (d ≡ true → diff_bits sm ≡ sm) → (l ≡ true → luma_bits wi ≡ wi)
-    → take (cond d 1 (cond l 2 (plus_32 4 (cond k 0 1)))) (digits_l 256 4 (cond d (diff_number (word sm)) (cond l (luma_number (word wi)) (plus_32 (rgb_number p) (cond k 0 1)))) ++ (p / 2 ^ 24) ∷ [])
+    → take (cond d 1 (cond l 2 (plus_32 4 (cond k 0 1)))) (digits_l 256 4
+    (cond d (diff_number (word sm)) (cond l (luma_number (word wi)) (plus_32 (rgb_number p) (cond k 0 1)))) ++ (p / 2 ^ 24) ∷ [])
     ≡ bytes_of (spelled d l k (diff_bits sm) (luma_bits wi) (pixel_of_word p))
 chunk_bytes true l k sm wi p hd hl =
     let e = hd refl in
     λ i. diff_low sm.r sm.g sm.b sm.a (ap (λ z. z.r) e) (ap (λ z. z.g) e) (ap (λ z. z.b) e) (ap (λ z. z.a) e) i ∷ []
 chunk_bytes false true k sm wi p hd hl =
     let e = hl refl in
-    λ i. luma_low wi.r wi.g wi.b wi.a (ap (λ z. z.r) e) (ap (λ z. z.g) e) (ap (λ z. z.b) e) (ap (λ z. z.a) e) i ∷ luma_next wi.r wi.g wi.b wi.a (ap (λ z. z.r) e) (ap (λ z. z.g) e) (ap (λ z. z.b) e) (ap (λ z. z.a) e) i ∷ []
-chunk_bytes false false true sm wi p hd hl = λ i. full_first p 0 (omega arith) i ∷ full_second p 0 (omega arith) i ∷ full_third p 0 (omega arith) i ∷ full_fourth p 0 (omega arith) i ∷ []
-chunk_bytes false false false sm wi p hd hl = λ i. full_first p 1 (omega arith) i ∷ full_second p 1 (omega arith) i ∷ full_third p 1 (omega arith) i ∷ full_fourth p 1 (omega arith) i ∷ (p / 2 ^ 24) ∷ []
+    λ i. luma_low wi.r wi.g wi.b wi.a (ap (λ z. z.r) e) (ap (λ z. z.g) e) (ap (λ z. z.b) e) (ap (λ z. z.a) e) i ∷ luma_next wi.r wi.g wi.b wi.a
+    (ap (λ z. z.r) e) (ap (λ z. z.g) e) (ap (λ z. z.b) e) (ap (λ z. z.a) e) i ∷ []
+chunk_bytes false false true sm wi p hd hl = λ i. full_first p 0 (omega arith) i ∷ full_second p 0 (omega arith) i ∷ full_third p 0
+    (omega arith) i ∷ full_fourth p 0 (omega arith) i ∷ []
+chunk_bytes false false false sm wi p hd hl = λ i. full_first p 1 (omega arith) i ∷ full_second p 1 (omega arith) i ∷ full_third p 1
+    (omega arith) i ∷ full_fourth p 1 (omega arith) i ∷ (p / 2 ^ 24) ∷ []
 
 -- it is a chunk
 chosen_chunk : (d l k : Bool) (sm wi p : RgbaPixel) → IsPixel p → IsChunk (spelled d l k (diff_bits sm) (luma_bits wi) p)
@@ -127,7 +137,8 @@ of_word p l = record { r = omega arith; g = omega arith; b = omega arith; a = om
 
 -- a pixel packed and unpacked
 pub unpacked : (p : RgbaPixel) → IsPixel p → pixel_of_word (word p) ≡ p
-unpacked p i = same_pixel _ p (omega (arith, i.r, i.g, i.b, i.a)) (omega (arith, i.r, i.g, i.b, i.a)) (omega (arith, i.r, i.g, i.b, i.a)) (omega (arith, i.r, i.g, i.b, i.a))
+unpacked p i = same_pixel _ p (omega (arith, i.r, i.g, i.b, i.a)) (omega (arith, i.r, i.g, i.b, i.a)) (omega (arith, i.r, i.g, i.b, i.a))
+    (omega (arith, i.r, i.g, i.b, i.a))
 
 steps_pixel : (q p : RgbaPixel) → IsPixel (steps q p)
 steps_pixel q p = record { r = omega arith; g = omega arith; b = omega arith; a = omega arith }
@@ -167,10 +178,12 @@ module _ (p q : ℕ) (lp : p < 2 ^ 32) (lq : q < 2 ^ 32) where
   back = unpacked s is_s
 
   number_is : spelled_number p q ≡ cond d (diff_number (word sm)) (cond l (luma_number (word wi)) (plus_32 (rgb_number p) (cond k 0 1)))
-  number_is = λ i. cond (eqb (bit_and (word (diff_steps (back i))) 0xfffcfcfc) 0) (diff_number (word (diff_steps (back i)))) (cond (eqb (bit_and (word (luma_steps (back i))) 0xfff0c0f0) 0) (luma_number (word (luma_steps (back i)))) (plus_32 (rgb_number p) (cond k 0 1)))
+  number_is = λ i. cond (eqb (bit_and (word (diff_steps (back i))) 0xfffcfcfc) 0) (diff_number (word (diff_steps (back i))))
+      (cond (eqb (bit_and (word (luma_steps (back i))) 0xfff0c0f0) 0) (luma_number (word (luma_steps (back i)))) (plus_32 (rgb_number p) (cond k 0 1)))
 
   count_is : spelled_count p q ≡ cond d 1 (cond l 2 (plus_32 4 (cond k 0 1)))
-  count_is = λ i. cond (eqb (bit_and (word (diff_steps (back i))) 0xfffcfcfc) 0) 1 (cond (eqb (bit_and (word (luma_steps (back i))) 0xfff0c0f0) 0) 2 (plus_32 4 (cond k 0 1)))
+  count_is = λ i. cond (eqb (bit_and (word (diff_steps (back i))) 0xfffcfcfc) 0) 1
+      (cond (eqb (bit_and (word (luma_steps (back i))) 0xfff0c0f0) 0) 2 (plus_32 4 (cond k 0 1)))
 
   pub spelled_lane : IsSpelled p q (spelled_number p q) (spelled_count p q) chunk_of_lanes
   spelled_lane =
@@ -180,11 +193,13 @@ module _ (p q : ℕ) (lp : p < 2 ^ 32) (lq : q < 2 ^ 32) where
       record {
         chunk = chosen_chunk d l k sm wi (pixel_of_word p) (of_word p lp);
         bytes = (λ i. take (count_is i) (digits_l 256 4 (number_is i) ++ (p / 2 ^ 24) ∷ [])) ∙ chunk_bytes d l k sm wi p dt.0 lt.0;
-        first = λ past before e. spelled_first past (pixel_of_word p) before (of_word p lp) s sm (diff_bits sm) wi (luma_bits wi) d l k (λ i. steps (sym e i) (pixel_of_word p)) refl refl refl refl dt lt kt;
+        first = λ past before e. spelled_first past (pixel_of_word p) before (of_word p lp) s sm (diff_bits sm) wi (luma_bits wi) d l k
+            (λ i. steps (sym e i) (pixel_of_word p)) refl refl refl refl dt lt kt;
       }
 
 -- the lanes of four
-stepped_at : (f : ℕ → ℕ → ℕ) (xs ys : List ℕ) (k : ℕ) → k < length xs → k < length ys → slice_index (stepped f xs ys) k ≡ f (slice_index xs k) (slice_index ys k)
+stepped_at : (f : ℕ → ℕ → ℕ) (xs ys : List ℕ) (k : ℕ) → k < length xs → k < length ys
+    → slice_index (stepped f xs ys) k ≡ f (slice_index xs k) (slice_index ys k)
 stepped_at f [] ys k h j = absurd (omega arith)
 stepped_at f (x ∷ xs) [] k h j = absurd (omega arith)
 stepped_at f (x ∷ xs) (y ∷ ys) zero h j = refl
@@ -195,7 +210,8 @@ lane_fits [] k f = omega arith
 lane_fits (x ∷ xs) zero f = f.0.fits
 lane_fits (x ∷ xs) (suc k) f = lane_fits xs k f.1
 
-pub lanes_spelled : (cur prev numbers counts : List ℕ) → length cur ≡ 4 → length prev ≡ 4 → Each1 (Fits w32) cur → Each1 (Fits w32) prev → numbers ≡ stepped spelled_number cur prev → counts ≡ stepped spelled_count cur prev
+pub lanes_spelled : (cur prev numbers counts : List ℕ) → length cur ≡ 4 → length prev ≡ 4 → Each1 (Fits w32) cur → Each1 (Fits w32) prev
+    → numbers ≡ stepped spelled_number cur prev → counts ≡ stepped spelled_count cur prev
     → (k : ℕ) → k < 4 → (c : Chunk) × IsSpelled (slice_index cur k) (slice_index prev k) (slice_index numbers k) (slice_index counts k) c
 lanes_spelled cur prev numbers counts e g f h ne ce k lt =
     let p = slice_index cur k in
@@ -221,14 +237,16 @@ count_kept false false true e = omega arith
 count_kept false false false e = absurd (let no : false ≡ true = e in cc)
 
 few_bytes : (p q : ℕ) → spelled_count p q ≤ 5
-few_bytes p q = let s = step_word p q in count_few (eqb (bit_and (diff_word s) 0xfffcfcfc) 0) (eqb (bit_and (luma_word s) 0xfff0c0f0) 0) (eqb (bit_and s 0xff000000) 0)
+few_bytes p q = let s = step_word p q in count_few (eqb (bit_and (diff_word s) 0xfffcfcfc) 0) (eqb (bit_and (luma_word s) 0xfff0c0f0) 0)
+    (eqb (bit_and s 0xff000000) 0)
 
 kept_bytes : (p q : ℕ) → p < 2 ^ 32 → q < 2 ^ 32 → p / 2 ^ 24 ≡ q / 2 ^ 24 → spelled_count p q ≤ 4
 kept_bytes p q lp lq e =
     let s = step_word p q in
     let is_s = steps_pixel (pixel_of_word q) (pixel_of_word p) in
     let zero : (steps (pixel_of_word q) (pixel_of_word p)).a ≡ 0 = omega arith in
-    count_kept (eqb (bit_and (diff_word s) 0xfffcfcfc) 0) (eqb (bit_and (luma_word s) 0xfff0c0f0) 0) (eqb (bit_and s 0xff000000) 0) ((keeps_alpha (steps (pixel_of_word q) (pixel_of_word p)) is_s).1 zero)
+    count_kept (eqb (bit_and (diff_word s) 0xfffcfcfc) 0) (eqb (bit_and (luma_word s) 0xfff0c0f0) 0) (eqb (bit_and s 0xff000000) 0)
+    ((keeps_alpha (steps (pixel_of_word q) (pixel_of_word p)) is_s).1 zero)
 
 same_at : (ps qs : List ℕ) (k : ℕ) → k < length ps → k < length qs → SameAlpha ps qs → slice_index ps k / 2 ^ 24 ≡ slice_index qs k / 2 ^ 24
 same_at [] qs k h j s = absurd (omega arith)
@@ -236,12 +254,15 @@ same_at (p ∷ ps) [] k h j s = absurd (omega arith)
 same_at (p ∷ ps) (q ∷ qs) zero h j s = s.0
 same_at (p ∷ ps) (q ∷ qs) (suc k) h j s = same_at ps qs k (omega arith) (omega arith) s.1
 
-pub counts_few : (n : ℕ) (cur prev counts : List ℕ) → IsChannels n → length cur ≡ 4 → length prev ≡ 4 → Each1 (Fits w32) cur → Each1 (Fits w32) prev → (n ≡ 3 → SameAlpha cur prev) → counts ≡ stepped spelled_count cur prev
+pub counts_few : (n : ℕ) (cur prev counts : List ℕ) → IsChannels n → length cur ≡ 4 → length prev ≡ 4 → Each1 (Fits w32) cur → Each1 (Fits w32) prev
+    → (n ≡ 3 → SameAlpha cur prev) → counts ≡ stepped spelled_count cur prev
     → (k : ℕ) → k < 4 → slice_index counts k ≤ n + 1
 counts_few n cur prev counts is e g f h same ce k lt =
-    let m : slice_index counts k ≡ spelled_count (slice_index cur k) (slice_index prev k) = ap (λ xs. slice_index xs k) ce ∙ stepped_at spelled_count cur prev k (omega arith) (omega arith) in
+    let m : slice_index counts k ≡ spelled_count (slice_index cur k) (slice_index prev k) = ap (λ xs. slice_index xs k) ce
+    ∙ stepped_at spelled_count cur prev k (omega arith) (omega arith) in
     elim is [
-      | inl three ↦ (let few = kept_bytes (slice_index cur k) (slice_index prev k) (lane_fits cur k f) (lane_fits prev k h) (same_at cur prev k (omega arith) (omega arith) (same three)) in omega arith)
+      | inl three ↦ (let few = kept_bytes (slice_index cur k) (slice_index prev k) (lane_fits cur k f) (lane_fits prev k h)
+          (same_at cur prev k (omega arith) (omega arith) (same three)) in omega arith)
       | inr four ↦ (let few = few_bytes (slice_index cur k) (slice_index prev k) in omega arith)
     ]
 

@@ -23,7 +23,8 @@ luma_bits s = pixel (s.r % 16) (s.g % 64) (s.b % 16) 0
 -- the chunk that the steps choose
 abbrev pub spelled : Bool → Bool → Bool → RgbaPixel → RgbaPixel → RgbaPixel → Chunk
 spelled is_diff is_luma keeps d l p =
-    if is_diff then Diff (diff_tag + d.r * 16 + d.g * 4 + d.b) else (if is_luma then Luma (luma_tag + l.g) (l.r * 16 + l.b) else (if keeps then Rgb p.r p.g p.b else Rgba p.r p.g p.b p.a))
+    if is_diff then Diff (diff_tag + d.r * 16 + d.g * 4 + d.b) else
+    (if is_luma then Luma (luma_tag + l.g) (l.r * 16 + l.b) else (if keeps then Rgb p.r p.g p.b else Rgba p.r p.g p.b p.a))
 
 -- three picks make it
 pub picked : {r short full diff luma rgb rgba : Chunk} (is_diff is_luma keeps : Bool) (d l p : RgbaPixel)
@@ -96,12 +97,14 @@ module _ (past : Past) (p : RgbaPixel) (iq : IsPixel (previous past)) (ip : IsPi
   luma_fits alpha f = same_pixel _ _ (omega (arith, f.r, wide_r)) (omega (arith, f.g, wide_g)) (omega (arith, f.b, wide_b)) (sym (alpha_step alpha))
 
   -- the first chunk that gives the pixel
-  first_of : (is_diff is_luma keeps : Bool) → (IsTrue is_diff ↔ (diff_bits small ≡ small)) → (IsTrue is_luma ↔ (luma_bits wide ≡ wide)) → (IsTrue keeps ↔ ((steps q p).a ≡ 0))
+  first_of : (is_diff is_luma keeps : Bool) → (IsTrue is_diff ↔ (diff_bits small ≡ small)) → (IsTrue is_luma ↔ (luma_bits wide ≡ wide))
+      → (IsTrue keeps ↔ ((steps q p).a ≡ 0))
       → IsFirst past p (spelled is_diff is_luma keeps (diff_bits small) (luma_bits wide) p)
   first_of true is_luma keeps d l k =
       let e = d.0 refl in
       let alpha = alpha_same (ap (λ z. z.a) e) in
-      subst (IsFirst past p) (ap Diff (omega (arith, small_r, small_g, small_b, ap (λ z. z.r) e, ap (λ z. z.g) e, ap (λ z. z.b) e))) (first_diff past p iq ip alpha (fits_diff e))
+      subst (IsFirst past p) (ap Diff (omega (arith, small_r, small_g, small_b, ap (λ z. z.r) e, ap (λ z. z.g) e, ap (λ z. z.b) e)))
+      (first_diff past p iq ip alpha (fits_diff e))
   first_of false true keeps d l k =
       let e = l.0 refl in
       let alpha = alpha_same (ap (λ z. z.a) e) in
@@ -116,7 +119,8 @@ module _ (past : Past) (p : RgbaPixel) (iq : IsPixel (previous past)) (ip : IsPi
   first_of false false false d l k = first_rgba past p (λ same. absurd_false (k.1 (alpha_step same)))
 
   -- from the steps as they were found
-  pub spelled_first : (m sm cs wi cw : RgbaPixel) (is_diff is_luma keeps : Bool) → m ≡ steps q p → sm ≡ diff_steps m → cs ≡ diff_bits sm → wi ≡ luma_steps m → cw ≡ luma_bits wi
+  pub spelled_first : (m sm cs wi cw : RgbaPixel) (is_diff is_luma keeps : Bool) → m ≡ steps q p → sm ≡ diff_steps m → cs ≡ diff_bits sm → wi ≡ luma_steps m
+      → cw ≡ luma_bits wi
       → (IsTrue is_diff ↔ (cs ≡ sm)) → (IsTrue is_luma ↔ (cw ≡ wi)) → (IsTrue keeps ↔ (m.a ≡ 0)) → IsFirst past p (spelled is_diff is_luma keeps cs cw p)
   spelled_first m sm cs wi cw is_diff is_luma keeps em es ec ew el d l k =
       let s = es ∙ ap diff_steps em in
@@ -125,4 +129,5 @@ module _ (past : Past) (p : RgbaPixel) (iq : IsPixel (previous past)) (ip : IsPi
       let f = el ∙ ap luma_bits w in
       let a = ap (λ z. z.a) em in
       subst (IsFirst past p) (λ i. spelled is_diff is_luma keeps (sym c i) (sym f i) p)
-      (first_of is_diff is_luma keeps (λ t. sym c ∙ d.0 t ∙ s, λ e. d.1 (c ∙ e ∙ sym s)) (λ t. sym f ∙ l.0 t ∙ w, λ e. l.1 (f ∙ e ∙ sym w)) (λ t. sym a ∙ k.0 t, λ e. k.1 (a ∙ e)))
+      (first_of is_diff is_luma keeps (λ t. sym c ∙ d.0 t ∙ s, λ e. d.1 (c ∙ e ∙ sym s)) (λ t. sym f ∙ l.0 t ∙ w, λ e. l.1 (f ∙ e ∙ sym w))
+      (λ t. sym a ∙ k.0 t, λ e. k.1 (a ∙ e)))

@@ -29,11 +29,23 @@ runs_full n e = ap (λ r. replicate (n / 62) (Run 62) ++ last_run r) e ∙ appen
 
 module _ (Choice : Past → RgbaPixel → Chunk → Type 0) (choices : Chooses Choice) where
   -- before the first pixel all is still to be written
-  pub all_to_write : (image : List RgbaPixel) (cs : List Chunk) → WrittenBy Choice image cs → AllByRecursion IsPixel image → StillToWrite Choice image cs [] image cs
-  all_to_write image cs w are = record { whole = w; split = refl; before = is_pixel_start; are = are; done = []; written = written_none Choice; takes_run = λ same n. (tt, tt); parts = refl }
+  pub all_to_write : (image : List RgbaPixel) (cs : List Chunk) → WrittenBy Choice image cs → AllByRecursion IsPixel image
+      → StillToWrite Choice image cs [] image cs
+  all_to_write image cs w are = record {
+    whole = w;
+    split = refl;
+    before = is_pixel_start;
+    are = are;
+    done = [];
+    written = written_none Choice;
+    takes_run =
+        λ same n. (tt, tt);
+    parts = refl;
+  }
 
   -- the runs of a group behind a list, which a run may follow if there are repeats at all
-  group_runs : (n : ℕ) (past : Past) (cs : List Chunk) → WrittenBy Choice (reverse past) cs → (0 < n → TakesRun cs) → WrittenBy Choice (reverse (replicate n (previous past) ++ past)) (cs ++ runs n)
+  group_runs : (n : ℕ) (past : Past) (cs : List Chunk) → WrittenBy Choice (reverse past) cs → (0 < n → TakesRun cs)
+      → WrittenBy Choice (reverse (replicate n (previous past) ++ past)) (cs ++ runs n)
   group_runs zero past cs w takes = subst (WrittenBy Choice (reverse past)) (sym (ap (λ x. cs ++ x) runs_none ∙ append-nil cs)) w
   group_runs (suc n) past cs w takes = written_runs Choice past (suc n) cs w (takes (omega arith))
 
@@ -41,14 +53,19 @@ module _ (Choice : Past → RgbaPixel → Chunk → Type 0) (choices : Chooses C
   full_take : (n : ℕ) (past : Past) (cs : List Chunk) → n % 62 ≡ 0 → WrittenBy Choice (reverse past) cs → TakesRun cs → TakesRun (cs ++ runs n)
   full_take n past cs e w takes = subst (λ x. TakesRun (cs ++ x)) (sym (runs_full n e)) (full_runs Choice (n / 62) past (previous past) cs refl w takes).1
 
-  module _ {image : List RgbaPixel} {cs : List Chunk} {past : Past} {rest : List RgbaPixel} {todo : List Chunk} (w : StillToWrite Choice image cs past rest todo) where
+  module _ {image : List RgbaPixel} {cs : List Chunk} {past : Past} {rest : List RgbaPixel} {todo : List Chunk}
+      (w : StillToWrite Choice image cs past rest todo) where
     -- What follows the written chunks in a list of the image is what is to be written; so the first of these chunks are next.
-    next : (after : Past) (more : List RgbaPixel) (new left : List Chunk) → image ≡ reverse after ++ more → IsPixel (previous after) → AllByRecursion IsPixel more
-        → WrittenBy Choice (reverse after) (w.done ++ new) → (slice_get more 0 ≡ Some (previous after) → TakesRun (w.done ++ new)) → WrittenBy Choice (reverse after ++ more) ((w.done ++ new) ++ left)
+    next : (after : Past) (more : List RgbaPixel) (new left : List Chunk) → image ≡ reverse after ++ more → IsPixel (previous after)
+        → AllByRecursion IsPixel more
+        → WrittenBy Choice (reverse after) (w.done ++ new) → (slice_get more 0 ≡ Some (previous after) → TakesRun (w.done ++ new))
+        → WrittenBy Choice (reverse after ++ more) ((w.done ++ new) ++ left)
         → (todo ≡ new ++ left) × StillToWrite Choice image cs after more left
     next after more new left split before are written takes all =
-        let whole = subst (λ x. WrittenBy Choice image x) (append_assoc w.done new left) (subst (λ x. WrittenBy Choice x ((w.done ++ new) ++ left)) (sym split) all) in
-        let todo_is : todo ≡ new ++ left = append_cancel_left w.done todo (new ++ left) (sym w.parts ∙ unique_by Choice choices.only image cs (w.done ++ (new ++ left)) w.whole whole) in (
+        let whole = subst (λ x. WrittenBy Choice image x) (append_assoc w.done new left)
+        (subst (λ x. WrittenBy Choice x ((w.done ++ new) ++ left)) (sym split) all) in
+        let todo_is : todo ≡ new ++ left = append_cancel_left w.done todo (new ++ left)
+        (sym w.parts ∙ unique_by Choice choices.only image cs (w.done ++ (new ++ left)) w.whole whole) in (
           todo_is,
           record {
             whole = w.whole;
@@ -68,13 +85,15 @@ module _ (Choice : Past → RgbaPixel → Chunk → Type 0) (choices : Chooses C
     chunk_next p more c ahead fresh is choice =
         let are : AllByRecursion IsPixel (p ∷ more) = subst (λ x. AllByRecursion IsPixel x) ahead w.are in
         let one = written_fresh Choice past w.done p c w.written fresh is (choices.no_run past p c choice) (choices.gives past p c choice) choice in
-        let split : image ≡ reverse (p ∷ past) ++ more = w.split ∙ ap (λ x. reverse past ++ x) ahead ∙ sym (ap (λ x. x ++ more) (reverse-append (p ∷ []) past) ∙ append_assoc (reverse past) (p ∷ []) more) in
+        let split : image ≡ reverse (p ∷ past) ++ more = w.split ∙ ap (λ x. reverse past ++ x) ahead
+        ∙ sym (ap (λ x. x ++ more) (reverse-append (p ∷ []) past) ∙ append_assoc (reverse past) (p ∷ []) more) in
         let all = written_on Choice choices more (p ∷ past) 0 (w.done ++ c ∷ []) one.0 one.1 are.0 are.1 in
         let r = next (p ∷ past) more (c ∷ []) all.0 split are.0 are.1 one.0 (λ same. one.1) all.1 in
         (all.0, r.0, r.1)
 
   -- before a fresh pixel its chunk is next, which is no run
-  pub fresh_todo : {image : List RgbaPixel} {cs : List Chunk} {past : Past} {todo : List Chunk} (p : RgbaPixel) (more : List RgbaPixel) → StillToWrite Choice image cs past (p ∷ more) todo → p ≢ previous past → fresh_next todo ≡ true
+  pub fresh_todo : {image : List RgbaPixel} {cs : List Chunk} {past : Past} {todo : List Chunk} (p : RgbaPixel) (more : List RgbaPixel)
+      → StillToWrite Choice image cs past (p ∷ more) todo → p ≢ previous past → fresh_next todo ≡ true
   fresh_todo {past = past} p more w differs =
       let c = choices.some past p w.before w.are.0 differs in
       let r = chunk_next w p more c.0 refl differs c.1 c.2 in
@@ -86,7 +105,8 @@ module _ (Choice : Past → RgbaPixel → Chunk → Type 0) (choices : Chooses C
       let all = subst (λ x. WrittenBy Choice x w.done) (sym (w.split ∙ append-nil (reverse past))) w.written in
       append_cancel_left w.done todo [] (sym w.parts ∙ unique_by Choice choices.only image cs w.done w.whole all ∙ sym (append-nil w.done))
 
-  module _ {image : List RgbaPixel} {cs : List Chunk} {past : Past} {todo : List Chunk} (n : ℕ) (rest : List RgbaPixel) (w : StillToWrite Choice image cs past (replicate n (previous past) ++ rest) todo) where
+  module _ {image : List RgbaPixel} {cs : List Chunk} {past : Past} {todo : List Chunk} (n : ℕ) (rest : List RgbaPixel)
+      (w : StillToWrite Choice image cs past (replicate n (previous past) ++ rest) todo) where
     -- the pixels up to the end of the group
     abbrev group : Past
     group = replicate n (previous past) ++ past
@@ -118,18 +138,23 @@ module _ (Choice : Past → RgbaPixel → Chunk → Type 0) (choices : Chooses C
     before_is = subst IsPixel (sym (previous_repeats n past)) w.before
 
     -- behind the group, where no repeat of it is next
-    ended : (left : List Chunk) → (slice_get rest 0 ≢ Some (previous past)) → WrittenBy Choice (reverse group ++ rest) ((w.done ++ runs n) ++ left) → (todo ≡ runs n ++ left) × StillToWrite Choice image cs group rest left
-    ended left other all = next w group rest (runs n) left image_is before_is behind_are group_written (λ same. absurd (other (same ∙ ap (λ p. Some p) (previous_repeats n past)))) all
+    ended : (left : List Chunk) → (slice_get rest 0 ≢ Some (previous past)) → WrittenBy Choice (reverse group ++ rest) ((w.done ++ runs n) ++ left)
+        → (todo ≡ runs n ++ left) × StillToWrite Choice image cs group rest left
+    ended left other all = next w group rest (runs n) left image_is before_is behind_are group_written
+        (λ same. absurd (other (same ∙ ap (λ p. Some p) (previous_repeats n past)))) all
 
     -- The runs of a group are next, where no further repeat follows or they are full.
-    pub runs_next : (slice_get rest 0 ≢ Some (previous past)) ⊎ (n % 62 ≡ 0) → (left : List Chunk) × (todo ≡ runs n ++ left) × StillToWrite Choice image cs group rest left
+    pub runs_next : (slice_get rest 0 ≢ Some (previous past)) ⊎ (n % 62 ≡ 0)
+        → (left : List Chunk) × (todo ≡ runs n ++ left) × StillToWrite Choice image cs group rest left
     runs_next ends = by_rest rest refl
       where
         by_rest : (pixels : List RgbaPixel) → rest ≡ pixels → (left : List Chunk) × (todo ≡ runs n ++ left) × StillToWrite Choice image cs group rest left
         by_rest [] none =
-            let other : slice_get rest 0 ≢ Some (previous past) = λ e. absurd (let no : slice_get {X = RgbaPixel} [] 0 ≡ Some (previous past) = sym (ap (λ x. slice_get x 0) none) ∙ e in cc) in
+            let other : slice_get rest 0 ≢ Some (previous past) = λ e.
+            absurd (let no : slice_get {X = RgbaPixel} [] 0 ≡ Some (previous past) = sym (ap (λ x. slice_get x 0) none) ∙ e in cc) in
             let whole : reverse group ≡ reverse group ++ rest = sym (append-nil (reverse group)) ∙ ap (λ x. reverse group ++ x) (sym none) in
-            let r = ended [] other (subst (λ x. WrittenBy Choice x ((w.done ++ runs n) ++ [])) whole (subst (WrittenBy Choice (reverse group)) (sym (append-nil (w.done ++ runs n))) group_written)) in
+            let r = ended [] other (subst (λ x. WrittenBy Choice x ((w.done ++ runs n) ++ [])) whole
+            (subst (WrittenBy Choice (reverse group)) (sym (append-nil (w.done ++ runs n))) group_written)) in
             ([], r.0, r.1)
         by_rest (p ∷ more) ahead = by_next (cases_pixel p (previous past))
           where
@@ -143,10 +168,13 @@ module _ (Choice : Past → RgbaPixel → Chunk → Type 0) (choices : Chooses C
             by_next (inr other) =
                 let differs : p ≢ previous group = λ e. other (e ∙ previous_repeats n past) in
                 let c = choices.some group p before_is are.0 differs in
-                let one = written_fresh Choice group (w.done ++ runs n) p c.0 group_written differs c.1 (choices.no_run group p c.0 c.2) (choices.gives group p c.0 c.2) c.2 in
+                let one = written_fresh Choice group (w.done ++ runs n) p c.0 group_written differs c.1 (choices.no_run group p c.0 c.2)
+                (choices.gives group p c.0 c.2) c.2 in
                 let all = written_on Choice choices more (p ∷ group) 0 ((w.done ++ runs n) ++ c.0 ∷ []) one.0 one.1 are.0 are.1 in
-                let pixels : reverse (p ∷ group) ++ more ≡ reverse group ++ rest = ap (λ x. x ++ more) (reverse-append (p ∷ []) group) ∙ append_assoc (reverse group) (p ∷ []) more ∙ ap (λ x. reverse group ++ x) (sym ahead) in
-                let list = subst (λ x. WrittenBy Choice x ((w.done ++ runs n) ++ c.0 ∷ all.0)) pixels (subst (WrittenBy Choice (reverse (p ∷ group) ++ more)) (append_assoc (w.done ++ runs n) (c.0 ∷ []) all.0) all.1) in
+                let pixels : reverse (p ∷ group) ++ more ≡ reverse group ++ rest = ap (λ x. x ++ more) (reverse-append (p ∷ []) group)
+                ∙ append_assoc (reverse group) (p ∷ []) more ∙ ap (λ x. reverse group ++ x) (sym ahead) in
+                let list = subst (λ x. WrittenBy Choice x ((w.done ++ runs n) ++ c.0 ∷ all.0)) pixels
+                (subst (WrittenBy Choice (reverse (p ∷ group) ++ more)) (append_assoc (w.done ++ runs n) (c.0 ∷ []) all.0) all.1) in
                 let r = ended (c.0 ∷ all.0) (λ e. other (some_same (sym first ∙ e))) list in
                 (c.0 ∷ all.0, r.0, r.1)
               where
@@ -157,7 +185,8 @@ module _ (Choice : Past → RgbaPixel → Chunk → Type 0) (choices : Chooses C
                 again : slice_get rest 0 ≡ Some (previous past)
                 again = first ∙ ap (λ q. Some q) same
 
-                by_end : (slice_get rest 0 ≢ Some (previous past)) ⊎ (n % 62 ≡ 0) → (left : List Chunk) × (todo ≡ runs n ++ left) × StillToWrite Choice image cs group rest left
+                by_end : (slice_get rest 0 ≢ Some (previous past)) ⊎ (n % 62 ≡ 0)
+                    → (left : List Chunk) × (todo ≡ runs n ++ left) × StillToWrite Choice image cs group rest left
                 by_end (inl other) = absurd (other again)
                 by_end (inr full) =
                     let takes = full_take n past w.done full w.written (w.takes_run (goes_on n again)) in

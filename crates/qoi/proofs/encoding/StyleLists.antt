@@ -29,7 +29,8 @@ chooses_in Places = chooses
 chooses_in Tight = tight_chooses
 
 -- what holds of the list of each style holds of each list that is written
-by_style : (P : List Chunk → Type 0) (style : Style) (image : List RgbaPixel) (cs : List Chunk) → (w : WrittenIn style image cs) → P w.list → P (placed_after [] None w.list) → P cs
+by_style : (P : List Chunk → Type 0) (style : Style) (image : List RgbaPixel) (cs : List Chunk) → (w : WrittenIn style image cs) → P w.list
+    → P (placed_after [] None w.list) → P cs
 by_style P Reference image cs w one two = subst P (sym w.is) one
 by_style P Places image cs w one two = subst P (sym w.is) two
 by_style P Tight image cs w one two = subst P (sym w.is) one
@@ -48,7 +49,8 @@ style_length style image cs w = by_style (λ x. length (text x) ≡ length (text
 
 -- there is one list
 pub style_unique : (style : Style) (image : List RgbaPixel) (cs ds : List Chunk) → WrittenIn style image cs → WrittenIn style image ds → cs ≡ ds
-style_unique style image cs ds w v = w.is ∙ ap (in_style style) (unique_by (choice_in style) (chooses_in style).only image w.list v.list w.written v.written) ∙ sym v.is
+style_unique style image cs ds w v = w.is ∙ ap (in_style style) (unique_by (choice_in style) (chooses_in style).only image w.list v.list w.written v.written)
+    ∙ sym v.is
 
 -- it reaches its pixels
 pub style_reaches : (style : Style) (image : List RgbaPixel) (n : ℕ) (cs : List Chunk) → WrittenIn style image cs → length image ≡ n → Reaches n cs
@@ -57,7 +59,8 @@ style_reaches style image n cs w e =
     record { short = stay_below [] cs n (style_chunks style image cs w) (sym (length-reverse (then_chunks [] cs)) ∙ m); enough = rw m (omega arith) }
 
 -- two neighbours never name one index position
-pub style_apart : (style : Style) (image : List RgbaPixel) (cs front rest : List Chunk) (i : ℕ) → WrittenIn style image cs → cs ≡ front ++ Place i ∷ Place i ∷ rest → ⊥
+pub style_apart : (style : Style) (image : List RgbaPixel) (cs front rest : List Chunk) (i : ℕ) → WrittenIn style image cs
+    → cs ≡ front ++ Place i ∷ Place i ∷ rest → ⊥
 style_apart style image cs front rest i w e = by_style (λ x. x ≡ front ++ Place i ∷ Place i ∷ rest → ⊥) style image cs w
     (apart_by (choice_in style) image w.list front rest i w.written)
     (placed_apart (choice_in style) [] None w.list front rest i w.written.right)
@@ -70,12 +73,16 @@ style_regular Places image cs other w = subst Regular (sym w.is) (placed_regular
 style_regular Tight image cs other w = absurd (other refl)
 
 -- it has at most a byte a pixel more than the raw bytes
-pub style_fits : (style : Style) (image : List RgbaPixel) (channels n : ℕ) (cs : List Chunk) → HasChannels image channels → length image ≡ n → WrittenIn style image cs → length (text cs) ≤ n * channels + n
-style_fits style image channels n cs has e w = subst (λ k. k ≤ n * channels + n) (sym (style_length style image cs w)) (fits_by (choice_in style) (chooses_in style).rgba_first image channels n w.list has e w.written)
+pub style_fits : (style : Style) (image : List RgbaPixel) (channels n : ℕ) (cs : List Chunk) → HasChannels image channels → length image ≡ n
+    → WrittenIn style image cs → length (text cs) ≤ n * channels + n
+style_fits style image channels n cs has e w = subst (λ k. k ≤ n * channels + n) (sym (style_length style image cs w))
+    (fits_by (choice_in style) (chooses_in style).rgba_first image channels n w.list has e w.written)
 
 -- and at most the bytes of the floor and the slack
-pub style_upper : (style : Style) (image : List RgbaPixel) (channels : ℕ) (cs : List Chunk) → HasChannels image channels → WrittenIn style image cs → length (text cs) ≤ floor image + slack image channels
-style_upper style image channels cs has w = subst (λ k. k ≤ floor image + slack image channels) (sym (style_length style image cs w)) (go style w.list w.written)
+pub style_upper : (style : Style) (image : List RgbaPixel) (channels : ℕ) (cs : List Chunk) → HasChannels image channels → WrittenIn style image cs
+    → length (text cs) ≤ floor image + slack image channels
+style_upper style image channels cs has w = subst (λ k. k ≤ floor image + slack image channels) (sym (style_length style image cs w))
+    (go style w.list w.written)
   where
     go : (style : Style) (list : List Chunk) → WrittenBy (choice_in style) image list → length (text list) ≤ floor image + slack image channels
     go Reference list v = upper image channels list has v
@@ -90,4 +97,5 @@ style_some style image are =
 
 -- in style Places it is as long as each list of `Written`
 pub places_as_long : (image : List RgbaPixel) (cs ds : List Chunk) → Written image cs → WrittenIn Places image ds → length (text ds) ≡ length (text cs)
-places_as_long image cs ds w v = style_length Places image ds v ∙ ap (λ (x : List Chunk). length (text x)) (unique_by IsChoice chooses.only image v.list cs v.written w)
+places_as_long image cs ds w v = style_length Places image ds v
+    ∙ ap (λ (x : List Chunk). length (text x)) (unique_by IsChoice chooses.only image v.list cs v.written w)

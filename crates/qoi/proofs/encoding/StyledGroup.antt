@@ -44,7 +44,8 @@ behind_full (suc k) = refl
 
 -- the runs of 62 stay
 full_stay : (k : ℕ) (past : Past) (before : Option Chunk) (cs : List Chunk)
-    → placed_after past before (replicate k (Run 62) ++ cs) ≡ replicate k (Run 62) ++ placed_after (replicate (62 * k) (previous past) ++ past) (before_rest before k) cs
+    → placed_after past before (replicate k (Run 62) ++ cs) ≡ replicate k (Run 62) ++ placed_after (replicate (62 * k) (previous past) ++ past)
+    (before_rest before k) cs
 full_stay zero past before cs = refl
 full_stay (suc k) past before cs =
     let q = previous past in
@@ -58,7 +59,8 @@ full_stay (suc k) past before cs =
 
 -- so does a run of two or more
 long_stays : (r : ℕ) (past : Past) (before : Option Chunk) (cs : List Chunk) → place_for past before (Run (suc (suc r))) cs ≡ Run (suc (suc r))
-long_stays r past before cs = ap (λ t. if t && fresh_next cs && some_fresh past && not (names before (hash (previous past))) then Place (hash (previous past)) else Run (suc (suc r))) (not_one r)
+long_stays r past before cs = ap (λ t. if t && fresh_next cs && some_fresh past && not (names before (hash (previous past))) then Place
+    (hash (previous past)) else Run (suc (suc r))) (not_one r)
 
 -- a chunk other than a run stays
 other_stays : (past : Past) (before : Option Chunk) (c : Chunk) (cs : List Chunk) → is_run c ≡ false → place_for past before c cs ≡ c
@@ -74,7 +76,8 @@ abbrev single : Past → Option Chunk → Chunk
 single past before = if some_fresh past && not (names before (hash (previous past))) then Place (hash (previous past)) else Run 1
 
 -- how the rest of a group of n is written, where it is single
-single_is : (past : Past) (before : Option Chunk) (k : ℕ) → single (replicate (62 * k) (previous past) ++ past) (before_rest before k) ≡ rest_of_one Places (some_fresh past) (names before (hash (previous past))) (hash (previous past)) (62 * k + 1)
+single_is : (past : Past) (before : Option Chunk) (k : ℕ) → single (replicate (62 * k) (previous past) ++ past) (before_rest before k) ≡ rest_of_one Places
+    (some_fresh past) (names before (hash (previous past))) (hash (previous past)) (62 * k + 1)
 single_is past before zero = refl
 single_is past before (suc k) =
     let more : nat_lt 1 (62 * suc k + 1) ≡ true = lt-ltb 1 (62 * suc k + 1) (omega arith) in
@@ -100,13 +103,16 @@ last_fulls (suc k) before cs = last_fulls k (Some (Run 62)) cs ∙ ap (λ b. las
 -- How a rest of 1 is written before these chunks: at the end by a run, and before a fresh pixel as the style has it.
 abbrev pub WritesOne : Style → Past → Option Chunk → ℕ → List Chunk → Chunk → Type 0
 WritesOne style past before n left one =
-    ((left ≡ []) × (one ≡ Run 1)) ⊎ ((fresh_next left ≡ true) × (one ≡ rest_of_one style (some_fresh past) (names before (hash (previous past))) (hash (previous past)) n))
+    ((left ≡ []) × (one ≡ Run 1)) ⊎ ((fresh_next left ≡ true)
+    × (one ≡ rest_of_one style (some_fresh past) (names before (hash (previous past))) (hash (previous past)) n))
 
 -- the rest of a group behind its full runs
-rest_stays : (r : ℕ) (past : Past) (before : Option Chunk) (left : List Chunk) (one : Chunk) → (r ≡ 1 → ((left ≡ []) × (one ≡ Run 1)) ⊎ ((fresh_next left ≡ true) × (one ≡ single past before)))
+rest_stays : (r : ℕ) (past : Past) (before : Option Chunk) (left : List Chunk) (one : Chunk)
+    → (r ≡ 1 → ((left ≡ []) × (one ≡ Run 1)) ⊎ ((fresh_next left ≡ true) × (one ≡ single past before)))
     → placed_after past before (last_run r ++ left) ≡ last_by one r ++ placed_after (replicate r (previous past) ++ past) (last_chunk before (last_run r)) left
 rest_stays zero past before left one is = refl
-rest_stays (suc (suc r)) past before left one is = ap (λ x. x ∷ placed_after (replicate (suc (suc r)) (previous past) ++ past) (Some (Run (suc (suc r)))) left) (long_stays r past before left)
+rest_stays (suc (suc r)) past before left one is = ap (λ x. x ∷ placed_after (replicate (suc (suc r)) (previous past) ++ past)
+    (Some (Run (suc (suc r)))) left) (long_stays r past before left)
 rest_stays (suc zero) past before left one is = go (is refl)
   where
     go : ((left ≡ []) × (one ≡ Run 1)) ⊎ ((fresh_next left ≡ true) × (one ≡ single past before))
@@ -117,7 +123,8 @@ rest_stays (suc zero) past before left one is = go (is refl)
         (ap (λ t. if t && some_fresh past && not (names before (hash (previous past))) then Place (hash (previous past)) else Run 1) fresh ∙ sym e)
 
 -- the chunks of a group of repeats, and what follows them
-pub styled_runs : (style : Style) (past : Past) (before : Option Chunk) (n : ℕ) (left : List Chunk) (one : Chunk) → (n % 62 ≡ 1 → WritesOne style past before n left one)
+pub styled_runs : (style : Style) (past : Past) (before : Option Chunk) (n : ℕ) (left : List Chunk) (one : Chunk)
+    → (n % 62 ≡ 1 → WritesOne style past before n left one)
     → styled style past before (runs n ++ left) ≡ runs_by one n ++ styled style (replicate n (previous past) ++ past) (last_chunk before (runs n)) left
 unfolding runs runs_by
 styled_runs Reference past before n left one is = ap (λ x. x ++ left) (sym (runs_by_run n) ∙ plain n one (λ e. elim (is e) [ inl p ↦ p.1 | inr p ↦ p.1 ]))
@@ -129,7 +136,8 @@ styled_runs Places past before n left one is =
     let end : Past = replicate (62 * k) q ++ past in
     let same : previous end ≡ q = previous_repeats (62 * k) past in
     let count : r + 62 * k ≡ n = omega arith in
-    let group : replicate r (previous end) ++ end ≡ replicate n q ++ past = ap (λ x. replicate r x ++ end) same ∙ repeats_after r (62 * k) q past ∙ ap (λ m. replicate m q ++ past) count in
+    let group : replicate r (previous end) ++ end ≡ replicate n q ++ past = ap (λ x. replicate r x ++ end) same ∙ repeats_after r (62 * k) q past
+    ∙ ap (λ m. replicate m q ++ past) count in
     let one_is : r ≡ 1 → ((left ≡ []) × (one ≡ Run 1)) ⊎ ((fresh_next left ≡ true) × (one ≡ single end (before_rest before k)))
     = λ e. (let whole : 62 * k + 1 ≡ n = omega arith in
     elim (is e) [
@@ -140,10 +148,12 @@ styled_runs Places past before n left one is =
     ∙ full_stay k past before (last_run r ++ left)
     ∙ ap (λ x. replicate k (Run 62) ++ x) (rest_stays r end (before_rest before k) left one one_is
     ∙ (λ i. last_by one r ++ placed_after (group i) (sym (last_fulls k before (last_run r)) i) left))
-    ∙ sym (append_assoc (replicate k (Run 62)) (last_by one r) (placed_after (replicate n q ++ past) (last_chunk before (replicate k (Run 62) ++ last_run r)) left))
+    ∙ sym (append_assoc (replicate k (Run 62)) (last_by one r)
+    (placed_after (replicate n q ++ past) (last_chunk before (replicate k (Run 62) ++ last_run r)) left))
 
 -- the chunk of a fresh pixel, and what follows it
-pub styled_chunk : (style : Style) (past : Past) (before : Option Chunk) (p : RgbaPixel) (c : Chunk) (left : List Chunk) → is_run c ≡ false → pixel_of past c ≡ p
+pub styled_chunk : (style : Style) (past : Past) (before : Option Chunk) (p : RgbaPixel) (c : Chunk) (left : List Chunk) → is_run c ≡ false
+    → pixel_of past c ≡ p
     → styled style past before (c ∷ left) ≡ c ∷ styled style (p ∷ past) (Some c) left
 styled_chunk Reference past before p c left other gives = refl
 styled_chunk Tight past before p c left other gives = refl

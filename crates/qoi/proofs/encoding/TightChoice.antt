@@ -64,7 +64,8 @@ found test a (suc n) i e = go (λ f. found test (a + 1) n i f) (test a) refl e
     same : (j : ℕ) → Some j ≡ Some i → j ≡ i
     same j e = cc
 
-    go : (find test (range_with_len (a + 1) n) ≡ Some i → (test i ≡ true) × (i < a + 1 + n)) → (t : Bool) → test a ≡ t → (if t then Some a else find test (range_with_len (a + 1) n)) ≡ Some i → (test i ≡ true) × (i < a + suc n)
+    go : (find test (range_with_len (a + 1) n) ≡ Some i → (test i ≡ true) × (i < a + 1 + n)) → (t : Bool) → test a ≡ t
+        → (if t then Some a else find test (range_with_len (a + 1) n)) ≡ Some i → (test i ≡ true) × (i < a + suc n)
     go on true t e = let s = same a e in (subst (λ j. test j ≡ true) s t, omega arith)
     go on false t e = let more = on e in (more.0, omega (arith, more.1))
 
@@ -73,7 +74,8 @@ some_found : (test : ℕ → Bool) (a n i : ℕ) → a ≤ i → i < a + n → t
 some_found test a zero i l u e = absurd (omega arith)
 some_found test a (suc n) i l u e = go (λ m. some_found test (a + 1) n i m (omega arith) e) (test a) refl (cases_eq a i)
   where
-    go : (a + 1 ≤ i → is_some (find test (range_with_len (a + 1) n)) ≡ true) → (t : Bool) → test a ≡ t → (a ≡ i) ⊎ (a ≢ i) → is_some (if t then Some a else find test (range_with_len (a + 1) n)) ≡ true
+    go : (a + 1 ≤ i → is_some (find test (range_with_len (a + 1) n)) ≡ true) → (t : Bool) → test a ≡ t → (a ≡ i) ⊎ (a ≢ i)
+        → is_some (if t then Some a else find test (range_with_len (a + 1) n)) ≡ true
     go on true t c = refl
     go on false t (inl h) = absurd (true≢false (sym e ∙ ap test (sym h) ∙ t))
     go on false t (inr h) = on (omega arith)
@@ -89,7 +91,8 @@ unfolding least_unseen
 unseen_some past i l e = some_found (is_unseen past) 0 64 i (omega arith) l e
 
 -- a pixel is kept at its index position; or not, and it is transparent black; or neither
-cases_tight : (past : Past) (p : RgbaPixel) (Goal : Type 0) → (seen (kept past) (hash p) ≡ p → Goal) → (seen (kept past) (hash p) ≢ p → p ≡ blank → Goal) → (seen (kept past) (hash p) ≢ p → p ≢ blank → Goal) → Goal
+cases_tight : (past : Past) (p : RgbaPixel) (Goal : Type 0) → (seen (kept past) (hash p) ≡ p → Goal) → (seen (kept past) (hash p) ≢ p → p ≡ blank → Goal)
+    → (seen (kept past) (hash p) ≢ p → p ≢ blank → Goal) → Goal
 cases_tight past p Goal f g h = go (cases_pixel (seen (kept past) (hash p)) p) (cases_pixel p blank)
   where
     go : (seen (kept past) (hash p) ≡ p) ⊎ (seen (kept past) (hash p) ≢ p) → (p ≡ blank) ⊎ (p ≢ blank) → Goal
@@ -109,11 +112,27 @@ tight_some past p before is =
   where
     blank_some : seen (kept past) (hash p) ≢ p → p ≡ blank → (o : Option ℕ) → least_unseen past ≡ o → (c : Chunk) × IsChunk c × IsTightChoice past p c
     blank_some n b None e =
-        let f = first_some past p before is in
-        (f.0, f.1, record { place = λ h. absurd (n h); unseen = λ _ _. subst (λ o. MatchOption o (IsFirst past p f.0) (λ i. f.0 ≡ Place i)) (sym e) f.2; spelled = λ _ h. absurd (h b) })
+        let f = first_some past p before is in (
+          f.0,
+          f.1,
+          record {
+            place = λ h. absurd (n h);
+            unseen = λ _ _.
+                subst (λ o. MatchOption o (IsFirst past p f.0) (λ i. f.0 ≡ Place i)) (sym e) f.2;
+            spelled = λ _ h. absurd (h b);
+          },
+        )
     blank_some n b (Some i) e =
-        let u = unseen_found past i e in
-        (Place i, u.1, record { place = λ h. absurd (n h); unseen = λ _ _. subst (λ o. MatchOption o (IsFirst past p (Place i)) (λ j. Place i ≡ Place j)) (sym e) refl; spelled = λ _ h. absurd (h b) })
+        let u = unseen_found past i e in (
+          Place i,
+          u.1,
+          record {
+            place = λ h. absurd (n h);
+            unseen = λ _ _.
+                subst (λ o. MatchOption o (IsFirst past p (Place i)) (λ j. Place i ≡ Place j)) (sym e) refl;
+            spelled = λ _ h. absurd (h b);
+          },
+        )
 
 -- what holds of the chunk that is kept at its position, of an unseen position for transparent black, and of the first
 -- chunk holds of the choice
@@ -128,7 +147,8 @@ by_tight P past p c w f g h =
     (λ n b. go n b (least_unseen past) refl (w.unseen n b))
     (λ n b. h (λ e. n (seen_kept past (hash p) ∙ e)) (λ e. absurd (b e)) (w.spelled n b))
   where
-    go : seen (kept past) (hash p) ≢ p → p ≡ blank → (o : Option ℕ) → least_unseen past ≡ o → MatchOption (least_unseen past) (IsFirst past p c) (λ i. c ≡ Place i) → P past p c
+    go : seen (kept past) (hash p) ≢ p → p ≡ blank → (o : Option ℕ) → least_unseen past ≡ o
+        → MatchOption (least_unseen past) (IsFirst past p c) (λ i. c ≡ Place i) → P past p c
     go n b None e m = h (λ x. n (seen_kept past (hash p) ∙ x)) (λ _. e) (subst (λ o. MatchOption o (IsFirst past p c) (λ i. c ≡ Place i)) e m)
     go n b (Some i) e m =
         let is : c ≡ Place i = subst (λ o. MatchOption o (IsFirst past p c) (λ i. c ≡ Place i)) e m in
@@ -163,15 +183,18 @@ first_unseen past differs = λ i. find (λ j. blank_unseen past j differs i) (ra
 pub blank_chosen : (past : Past) (p : RgbaPixel) (i : ℕ) → p ≡ blank → seen past (hash p) ≢ p → Some i ≡ first_blank past → IsTightChoice past p (Place i)
 blank_chosen past p i b differs found = record {
   place = λ e. absurd (differs (sym (seen_kept past (hash p)) ∙ e));
-  unseen = λ _ _. subst (λ o. MatchOption o (IsFirst past p (Place i)) (λ j. Place i ≡ Place j)) (found ∙ first_unseen past (λ e. differs (ap (λ q. seen past (hash q)) b ∙ e ∙ sym b))) refl;
+  unseen = λ _ _. subst (λ o. MatchOption o (IsFirst past p (Place i)) (λ j. Place i ≡ Place j))
+      (found ∙ first_unseen past (λ e. differs (ap (λ q. seen past (hash q)) b ∙ e ∙ sym b))) refl;
   spelled = λ _ n. absurd (n b);
 }
 
 -- where there is none, and for each other pixel that isn't seen, that is the first chunk that spells it out
-pub spelled_chosen : (past : Past) (p : RgbaPixel) (c : Chunk) → seen past (hash p) ≢ p → (p ≡ blank → None ≡ first_blank past) → IsFirst past p c → IsTightChoice past p c
+pub spelled_chosen : (past : Past) (p : RgbaPixel) (c : Chunk) → seen past (hash p) ≢ p → (p ≡ blank → None ≡ first_blank past) → IsFirst past p c
+    → IsTightChoice past p c
 spelled_chosen past p c differs none f = record {
   place = λ e. absurd (differs (sym (seen_kept past (hash p)) ∙ e));
-  unseen = λ _ b. subst (λ o. MatchOption o (IsFirst past p c) (λ j. c ≡ Place j)) (none b ∙ first_unseen past (λ e. differs (ap (λ q. seen past (hash q)) b ∙ e ∙ sym b))) f;
+  unseen = λ _ b. subst (λ o. MatchOption o (IsFirst past p c) (λ j. c ≡ Place j))
+      (none b ∙ first_unseen past (λ e. differs (ap (λ q. seen past (hash q)) b ∙ e ∙ sym b))) f;
   spelled = λ _ _. f;
 }
 
@@ -189,7 +212,8 @@ tight_unique past p c d ic id w v =
 
 -- it gives the pixel
 tight_gives : (past : Past) (p : RgbaPixel) (c : Chunk) → IsTightChoice past p c → pixel_of past c ≡ p
-tight_gives past p c w = by_tight (λ past p c. pixel_of past c ≡ p) past p c w (λ e. e) (λ i n b e. unseen_blank past i (unseen_found past i e).0 ∙ sym b) (λ n o f. f.gives)
+tight_gives past p c w = by_tight (λ past p c. pixel_of past c ≡ p) past p c w (λ e. e) (λ i n b e. unseen_blank past i (unseen_found past i e).0 ∙ sym b)
+    (λ n o f. f.gives)
 
 -- the tight choice has what a choice has to offer
 pub tight_chooses : Chooses IsTightChoice
@@ -205,5 +229,7 @@ tight_chooses = record {
     is_rgba (Rgba r g b a) = true
     is_rgba _ = false
 
-    rgba : (past : Past) (r g b a : ℕ) → IsTightChoice past (pixel_of past (Rgba r g b a)) (Rgba r g b a) → IsFirst past (pixel_of past (Rgba r g b a)) (Rgba r g b a)
-    rgba past r g b a w = by_tight (λ past p c. is_rgba c ≡ true → IsFirst past p c) past _ _ w (λ _ x. absurd (true≢false (sym x))) (λ i n b e x. absurd (true≢false (sym x))) (λ n o f _. f) refl
+    rgba : (past : Past) (r g b a : ℕ) → IsTightChoice past (pixel_of past (Rgba r g b a)) (Rgba r g b a)
+        → IsFirst past (pixel_of past (Rgba r g b a)) (Rgba r g b a)
+    rgba past r g b a w = by_tight (λ past p c. is_rgba c ≡ true → IsFirst past p c) past _ _ w (λ _ x. absurd (true≢false (sym x)))
+        (λ i n b e x. absurd (true≢false (sym x))) (λ n o f _. f) refl

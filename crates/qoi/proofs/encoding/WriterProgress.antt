@@ -8,7 +8,8 @@ module _ {W : Type 0} (wrote : W → List ℕ → W → Type 0) (room : W → �
   wrote_none start all = record { front = []; split = refl; went = laws.nothing start }
 
   -- the next part was written
-  pub wrote_next : (start now next : W) (all rest piece more : List ℕ) → WroteBut wrote start all rest now → rest ≡ piece ++ more → wrote now piece next → WroteBut wrote start all more next
+  pub wrote_next : (start now next : W) (all rest piece more : List ℕ) → WroteBut wrote start all rest now → rest ≡ piece ++ more → wrote now piece next
+      → WroteBut wrote start all more next
   wrote_next start now next all rest piece more w e went = record {
     front = w.front ++ piece;
     split = w.split ∙ ap (λ z. w.front ++ z) e ∙ sym (append_assoc w.front piece more);
@@ -16,13 +17,15 @@ module _ {W : Type 0} (wrote : W → List ℕ → W → Type 0) (room : W → �
   }
 
   -- a beginning of the next part was written
-  pub wrote_part : (start now next : W) (all rest piece more : List ℕ) → WroteBut wrote start all rest now → rest ≡ piece ++ more → WroteSome wrote now piece next → WroteSome wrote start all next
+  pub wrote_part : (start now next : W) (all rest piece more : List ℕ) → WroteBut wrote start all rest now → rest ≡ piece ++ more
+      → WroteSome wrote now piece next → WroteSome wrote start all next
   wrote_part start now next all rest piece more w e some =
       let part = some.1 in (
         some.0 ++ more,
         record {
           front = w.front ++ part.front;
-          split = w.split ∙ ap (λ z. w.front ++ z) (e ∙ ap (λ z. z ++ more) part.split ∙ append_assoc part.front some.0 more) ∙ sym (append_assoc w.front part.front (some.0 ++ more));
+          split = w.split ∙ ap (λ z. w.front ++ z) (e ∙ ap (λ z. z ++ more) part.split ∙ append_assoc part.front some.0 more)
+              ∙ sym (append_assoc w.front part.front (some.0 ++ more));
           went = laws.both start now next w.front part.front w.went part.went;
         },
       )

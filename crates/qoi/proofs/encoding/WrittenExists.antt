@@ -60,10 +60,15 @@ cases_luma q p =
 pub first_some : (past : Past) (p : RgbaPixel) → IsPixel (previous past) → IsPixel p → (c : Chunk) × IsChunk c × IsFirst past p c
 first_some past p iq ip = go (cases_eq p.a (previous past).a) (cases_diff (previous past) p) (cases_luma (previous past) p)
   where
-    go : (p.a ≡ (previous past).a) ⊎ (p.a ≡ (previous past).a → ⊥) → FitsDiff (previous past) p ⊎ (FitsDiff (previous past) p → ⊥) → FitsLuma (previous past) p ⊎ (FitsLuma (previous past) p → ⊥) → (c : Chunk) × IsChunk c × IsFirst past p c
+    go : (p.a ≡ (previous past).a) ⊎ (p.a ≡ (previous past).a → ⊥) → FitsDiff (previous past) p ⊎ (FitsDiff (previous past) p → ⊥)
+        → FitsLuma (previous past) p ⊎ (FitsLuma (previous past) p → ⊥) → (c : Chunk) × IsChunk c × IsFirst past p c
     go (inr changes) d l = (Rgba p.r p.g p.b p.a, (ip.r, ip.g, ip.b, ip.a), first_rgba past p changes)
     go (inl alpha) (inl f) l = (Diff (diff_byte (previous past) p), diff_chunk (previous past) p f, first_diff past p iq ip alpha f)
-    go (inl alpha) (inr unfit) (inl f) = (Luma (luma_byte (previous past) p) (luma_second (previous past) p), luma_chunk (previous past) p f, first_luma past p iq ip alpha unfit f)
+    go (inl alpha) (inr unfit) (inl f) = (
+      Luma (luma_byte (previous past) p) (luma_second (previous past) p),
+      luma_chunk (previous past) p f,
+      first_luma past p iq ip alpha unfit f,
+    )
     go (inl alpha) (inr unfit) (inr wide) = (Rgb p.r p.g p.b, (ip.r, ip.g, ip.b), first_rgb past p iq alpha unfit wide)
 
 -- some chunk is chosen for a fresh pixel
@@ -118,22 +123,26 @@ chooses = record {
 
 module _ (Choice : Past → RgbaPixel → Chunk → Type 0) (choices : Chooses Choice) where
   -- a repeat joins its group
-  joined : (p q : RgbaPixel) (n : ℕ) (past : Past) (rest : List RgbaPixel) → p ≡ q → reverse (replicate (suc n) q ++ past) ++ rest ≡ reverse (replicate n q ++ past) ++ p ∷ rest
+  joined : (p q : RgbaPixel) (n : ℕ) (past : Past) (rest : List RgbaPixel) → p ≡ q
+      → reverse (replicate (suc n) q ++ past) ++ rest ≡ reverse (replicate n q ++ past) ++ p ∷ rest
   joined p q n past rest e =
       ap (λ x. x ++ rest) (reverse-append (q ∷ []) (replicate n q ++ past))
       ∙ append_assoc (reverse (replicate n q ++ past)) (q ∷ []) rest
       ∙ ap (λ x. reverse (replicate n q ++ past) ++ x ∷ rest) (sym e)
 
   -- and a fresh pixel's chunk follows the runs of the group before it
-  fresh_joined : (p : RgbaPixel) (group : Past) (rest : List RgbaPixel) (cs rs more : List Chunk) (c : Chunk) → WrittenBy Choice (reverse (p ∷ group) ++ rest) (((cs ++ rs) ++ c ∷ []) ++ more) → WrittenBy Choice (reverse group ++ p ∷ rest) (cs ++ (rs ++ c ∷ more))
+  fresh_joined : (p : RgbaPixel) (group : Past) (rest : List RgbaPixel) (cs rs more : List Chunk) (c : Chunk)
+      → WrittenBy Choice (reverse (p ∷ group) ++ rest) (((cs ++ rs) ++ c ∷ []) ++ more) → WrittenBy Choice (reverse group ++ p ∷ rest) (cs ++ (rs ++ c ∷ more))
   fresh_joined p group rest cs rs more c w = subst₂ (λ x y. WrittenBy Choice x y) (joined p p 0 group rest refl) (chunks_split cs rs more c) w
 
   -- a list that is written for the pixels before a group begins one for the image, whatever pixels follow
-  pub written_on : (rest : List RgbaPixel) (past : Past) (n : ℕ) (cs : List Chunk) → WrittenBy Choice (reverse past) cs → TakesRun cs → IsPixel (previous past) → AllByRecursion IsPixel rest
+  pub written_on : (rest : List RgbaPixel) (past : Past) (n : ℕ) (cs : List Chunk) → WrittenBy Choice (reverse past) cs → TakesRun cs
+      → IsPixel (previous past) → AllByRecursion IsPixel rest
       → (more : List Chunk) × WrittenBy Choice (reverse (replicate n (previous past) ++ past) ++ rest) (cs ++ more)
   written_on [] past n cs w takes before are = (runs n, rw (append-nil (reverse (replicate n (previous past) ++ past))) (written_runs Choice past n cs w takes))
   written_on (p ∷ rest) past n cs w takes before are =
-      elim (cases_pixel p (previous past)) as (λ _. (more : List Chunk) × WrittenBy Choice (reverse (replicate n (previous past) ++ past) ++ p ∷ rest) (cs ++ more)) [
+      elim (cases_pixel p (previous past)) as (λ _. (more : List Chunk)
+      × WrittenBy Choice (reverse (replicate n (previous past) ++ past) ++ p ∷ rest) (cs ++ more)) [
         | inl again ↦
             let all = written_on rest past (suc n) cs w takes before are.1 in
             (all.0, subst (λ x. WrittenBy Choice x (cs ++ all.0)) (joined p (previous past) n past rest again) all.1)
@@ -142,7 +151,8 @@ module _ (Choice : Past → RgbaPixel → Chunk → Type 0) (choices : Chooses C
             let same : previous group ≡ previous past = previous_repeats n past in
             let differs : p ≢ previous group = λ e. fresh (e ∙ same) in
             let c = choices.some group p (subst IsPixel (sym same) before) are.0 differs in
-            let next = written_fresh Choice group (cs ++ runs n) p c.0 (written_runs Choice past n cs w takes) differs c.1 (choices.no_run group p c.0 c.2) (choices.gives group p c.0 c.2) c.2 in
+            let next = written_fresh Choice group (cs ++ runs n) p c.0 (written_runs Choice past n cs w takes) differs c.1 (choices.no_run group p c.0 c.2)
+            (choices.gives group p c.0 c.2) c.2 in
             let all = written_on rest (p ∷ group) 0 ((cs ++ runs n) ++ c.0 ∷ []) next.0 next.1 are.0 are.1 in
             (runs n ++ c.0 ∷ all.0, fresh_joined p group rest cs (runs n) all.0 c.0 all.1)
       ]

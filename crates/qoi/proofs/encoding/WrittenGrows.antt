@@ -87,7 +87,8 @@ module _ (Choice : Past → RgbaPixel → Chunk → Type 0) where
   then_written past cs w = sym (reverse-reverse (then_chunks [] cs)) ∙ ap reverse w.means ∙ reverse-reverse past
 
   -- more chunks are written at its end
-  written_append : (past after : Past) (cs ds : List Chunk) → WrittenBy Choice (reverse past) cs → AreChunks ds → then_chunks past ds ≡ after → Each (IsRightAfter Choice) past ds → RunsAreFull (cs ++ ds) → WrittenBy Choice (reverse after) (cs ++ ds)
+  written_append : (past after : Past) (cs ds : List Chunk) → WrittenBy Choice (reverse past) cs → AreChunks ds → then_chunks past ds ≡ after
+      → Each (IsRightAfter Choice) past ds → RunsAreFull (cs ++ ds) → WrittenBy Choice (reverse after) (cs ++ ds)
   written_append past after cs ds w are means right full =
       let before : then_chunks [] cs ≡ past = then_written past cs w in
       record {
@@ -98,7 +99,8 @@ module _ (Choice : Past → RgbaPixel → Chunk → Type 0) where
       }
 
   -- 62 repeats are written as a full run, and a run may follow
-  full_run : (past : Past) (cs : List Chunk) → WrittenBy Choice (reverse past) cs → TakesRun cs → WrittenBy Choice (reverse (replicate 62 (previous past) ++ past)) (cs ++ Run 62 ∷ []) × TakesRun (cs ++ Run 62 ∷ [])
+  full_run : (past : Past) (cs : List Chunk) → WrittenBy Choice (reverse past) cs → TakesRun cs
+      → WrittenBy Choice (reverse (replicate 62 (previous past) ++ past)) (cs ++ Run 62 ∷ []) × TakesRun (cs ++ Run 62 ∷ [])
   full_run past cs w takes = (
     written_append past (replicate 62 (previous past) ++ past) cs (Run 62 ∷ []) w ((omega arith, omega arith), tt) refl (tt, tt) (takes 62),
     λ n. rw append_assoc (full_62 cs n (takes 62)),
@@ -110,21 +112,25 @@ module _ (Choice : Past → RgbaPixel → Chunk → Type 0) where
   full_runs zero past q cs is w takes = rw (append-nil cs) (w, takes)
   full_runs (suc m) past q cs is w takes =
       let one = full_run past cs w takes in
-      let first : WrittenBy Choice (reverse (replicate 62 q ++ past)) (cs ++ Run 62 ∷ []) = subst (λ p. WrittenBy Choice (reverse (replicate 62 p ++ past)) (cs ++ Run 62 ∷ [])) (sym is) one.0 in
+      let first : WrittenBy Choice (reverse (replicate 62 q ++ past)) (cs ++ Run 62 ∷ []) =
+      subst (λ p. WrittenBy Choice (reverse (replicate 62 p ++ past)) (cs ++ Run 62 ∷ [])) (sym is) one.0 in
       let again : q ≡ previous (replicate 62 q ++ past) = refl in
       let more = full_runs m (replicate 62 q ++ past) q (cs ++ Run 62 ∷ []) again first one.1 in
       let count : m * 62 + 62 ≡ suc m * 62 = omega arith in
-      let pixels : replicate (m * 62) q ++ (replicate 62 q ++ past) ≡ replicate (suc m * 62) q ++ past = repeats_after (m * 62) 62 q past ∙ ap (λ k. replicate k q ++ past) count in
+      let pixels : replicate (m * 62) q ++ (replicate 62 q ++ past) ≡ replicate (suc m * 62) q ++ past = repeats_after (m * 62) 62 q past
+      ∙ ap (λ k. replicate k q ++ past) count in
       subst₂ (λ p c. WrittenBy Choice (reverse p) c × TakesRun c) pixels (append_assoc cs (Run 62 ∷ []) (replicate m (Run 62))) more
 
   -- the last run of a group is written
-  written_last : (k : ℕ) (past : Past) (cs : List Chunk) → k < 62 → WrittenBy Choice (reverse past) cs → TakesRun cs → WrittenBy Choice (reverse (replicate k (previous past) ++ past)) (cs ++ last_run k)
+  written_last : (k : ℕ) (past : Past) (cs : List Chunk) → k < 62 → WrittenBy Choice (reverse past) cs → TakesRun cs
+      → WrittenBy Choice (reverse (replicate k (previous past) ++ past)) (cs ++ last_run k)
   written_last zero past cs short w takes = rw (append-nil cs) w
   written_last (suc k) past cs short w takes =
       written_append past (replicate (suc k) (previous past) ++ past) cs (Run (suc k) ∷ []) w ((omega arith, omega arith), tt) refl (tt, tt) (takes (suc k))
 
   -- the runs of a group are written
-  pub written_runs : (past : Past) (n : ℕ) (cs : List Chunk) → WrittenBy Choice (reverse past) cs → TakesRun cs → WrittenBy Choice (reverse (replicate n (previous past) ++ past)) (cs ++ runs n)
+  pub written_runs : (past : Past) (n : ℕ) (cs : List Chunk) → WrittenBy Choice (reverse past) cs → TakesRun cs
+      → WrittenBy Choice (reverse (replicate n (previous past) ++ past)) (cs ++ runs n)
   unfolding runs
   written_runs past n cs w takes =
       let q = previous past in
@@ -134,14 +140,17 @@ module _ (Choice : Past → RgbaPixel → Chunk → Type 0) where
       let all = written_last (n % 62) (replicate many q ++ past) (cs ++ replicate (n / 62) (Run 62)) short fulls.0 fulls.1 in
       let count : n % 62 + many ≡ n = omega arith in
       let pixels : replicate (n % 62) (previous (replicate many q ++ past)) ++ (replicate many q ++ past) ≡ replicate n q ++ past
-      = ap (λ p. replicate (n % 62) p ++ (replicate many q ++ past)) (previous_repeats many past) ∙ repeats_after (n % 62) many q past ∙ ap (λ k. replicate k q ++ past) count in
+      = ap (λ p. replicate (n % 62) p ++ (replicate many q ++ past)) (previous_repeats many past) ∙ repeats_after (n % 62) many q past
+      ∙ ap (λ k. replicate k q ++ past) count in
       subst₂ (λ p c. WrittenBy Choice (reverse p) c) pixels (append_assoc cs (replicate (n / 62) (Run 62)) (last_run (n % 62))) all
 
   -- a fresh pixel's chunk is written, and a run may follow
-  pub written_fresh : (past : Past) (cs : List Chunk) (p : RgbaPixel) (c : Chunk) → WrittenBy Choice (reverse past) cs → p ≢ previous past → IsChunk c → is_run c ≡ false → pixel_of past c ≡ p → Choice past p c
+  pub written_fresh : (past : Past) (cs : List Chunk) (p : RgbaPixel) (c : Chunk) → WrittenBy Choice (reverse past) cs → p ≢ previous past → IsChunk c
+      → is_run c ≡ false → pixel_of past c ≡ p → Choice past p c
       → WrittenBy Choice (reverse (p ∷ past)) (cs ++ c ∷ []) × TakesRun (cs ++ c ∷ [])
   written_fresh past cs p c w fresh is other gives choice = (
-    written_append past (p ∷ past) cs (c ∷ []) w (is, tt) (then_other past c other ∙ ap (λ x. x ∷ past) gives) (right_from Choice past c (record { is_fresh = rw gives fresh; is_chosen = rw gives choice }), tt) (full_front (cs ++ c ∷ []) (Run 1 ∷ []) (takes 1)),
+    written_append past (p ∷ past) cs (c ∷ []) w (is, tt) (then_other past c other ∙ ap (λ x. x ∷ past) gives)
+        (right_from Choice past c (record { is_fresh = rw gives fresh; is_chosen = rw gives choice }), tt) (full_front (cs ++ c ∷ []) (Run 1 ∷ []) (takes 1)),
     takes,
   )
     where

@@ -32,7 +32,8 @@ luma_unique q d e x y c k s =
     cc
 
 -- of one kind only one chunk gives a pixel
-same_kind : (past : Past) (p : RgbaPixel) (c d : Chunk) → IsChunk c → IsChunk d → 0 < rank c → 0 < rank d → rank c ≤ rank d → rank d ≤ rank c → pixel_of past c ≡ p → pixel_of past d ≡ p → c ≡ d
+same_kind : (past : Past) (p : RgbaPixel) (c d : Chunk) → IsChunk c → IsChunk d → 0 < rank c → 0 < rank d → rank c ≤ rank d → rank d ≤ rank c
+    → pixel_of past c ≡ p → pixel_of past d ≡ p → c ≡ d
 same_kind past p (Diff d) (Diff e) ic id rc rd l g s t = ap (λ (n : ℕ). Diff n) (diff_unique (previous past) d e ic.0 ic.1 id.0 id.1 (s ∙ sym t))
 same_kind past p (Luma d e) (Luma x y) ic id rc rd l g s t = luma_unique (previous past) d e x y ic id (s ∙ sym t)
 same_kind past p (Rgb r g b) (Rgb x y z) ic id rc rd l h s t =
@@ -77,7 +78,8 @@ same_rest a b x y e = cc
 
 module _ (Choice : Past → RgbaPixel → Chunk → Type 0) where
   -- what follows a run that isn't full is no repeat
-  follows_run : (past : Past) (m : ℕ) (cs : List Chunk) (more : List RgbaPixel) → 0 < m → m < 62 → AreChunks cs → Each (IsRightAfter Choice) (then_chunk past (Run m)) cs → IsFull (Run m) cs → given (then_chunk past (Run m)) cs ≡ previous past ∷ more → ⊥
+  follows_run : (past : Past) (m : ℕ) (cs : List Chunk) (more : List RgbaPixel) → 0 < m → m < 62 → AreChunks cs
+      → Each (IsRightAfter Choice) (then_chunk past (Run m)) cs → IsFull (Run m) cs → given (then_chunk past (Run m)) cs ≡ previous past ∷ more → ⊥
   follows_run past zero cs more h l a r f e = absurd (omega arith)
   follows_run past (suc m) [] more h l a r f e = absurd (cc)
   follows_run past (suc m) (Run n ∷ cs) more h l a r f e = absurd (omega arith)
@@ -88,36 +90,49 @@ module _ (Choice : Past → RgbaPixel → Chunk → Type 0) where
   follows_run past (suc m) (Rgba x y z w ∷ cs) more h l a r f e = absurd (r.0.is_fresh (same_first _ _ _ _ e))
 
   -- so of two lists that give the same neither begins with the longer run
-  no_longer : (past : Past) (m k : ℕ) (cs : List Chunk) (more : List RgbaPixel) → 0 < m → m + suc k ≤ 62 → AreChunks cs → Each (IsRightAfter Choice) (then_chunk past (Run m)) cs → IsFull (Run m) cs → given past (Run m ∷ cs) ≡ replicate (m + suc k) (previous past) ++ more → ⊥
+  no_longer : (past : Past) (m k : ℕ) (cs : List Chunk) (more : List RgbaPixel) → 0 < m → m + suc k ≤ 62 → AreChunks cs
+      → Each (IsRightAfter Choice) (then_chunk past (Run m)) cs → IsFull (Run m) cs → given past (Run m ∷ cs) ≡ replicate (m + suc k) (previous past) ++ more
+      → ⊥
   no_longer past m k cs more h l a r f e =
       let s : replicate m (previous past) ++ given (then_chunk past (Run m)) cs ≡ replicate m (previous past) ++ (replicate (suc k) (previous past) ++ more)
-      = e ∙ ap (λ x. x ++ more) (sym (replicate-append-replicate m (suc k) (previous past))) ∙ append_assoc (replicate m (previous past)) (replicate (suc k) (previous past)) more in
+      = e ∙ ap (λ x. x ++ more) (sym (replicate-append-replicate m (suc k) (previous past)))
+      ∙ append_assoc (replicate m (previous past)) (replicate (suc k) (previous past)) more in
       follows_run past m cs (replicate k (previous past) ++ more) h (omega arith) a r f (append_cancel_left _ _ _ s)
 
   -- of two lists that give the same neither begins with a run longer by any length
-  not_longer : (past : Past) (m n : ℕ) (cs ds : List Chunk) → 0 < m → n ≤ 62 → AreChunks cs → Each (IsRightAfter Choice) (then_chunk past (Run m)) cs → IsFull (Run m) cs → given past (Run m ∷ cs) ≡ given past (Run n ∷ ds) → m < n → ⊥
+  not_longer : (past : Past) (m n : ℕ) (cs ds : List Chunk) → 0 < m → n ≤ 62 → AreChunks cs → Each (IsRightAfter Choice) (then_chunk past (Run m)) cs
+      → IsFull (Run m) cs → given past (Run m ∷ cs) ≡ given past (Run n ∷ ds) → m < n → ⊥
   not_longer past m n cs ds h l a r f e less =
       let k : n ≡ m + suc (n - suc m) = omega arith in
       no_longer past m (n - suc m) cs (given (then_chunk past (Run n)) ds) h (omega arith) a r f
       (e ∙ ap (λ x. replicate x (previous past) ++ given (then_chunk past (Run n)) ds) k)
 
   -- two lists that give the same begin alike
-  same_head : (unique : (past : Past) (p : RgbaPixel) (c d : Chunk) → IsChunk c → IsChunk d → Choice past p c → Choice past p d → c ≡ d) → (past : Past) (c : Chunk) (cs : List Chunk) (d : Chunk) (ds : List Chunk) → AreChunks (c ∷ cs) → AreChunks (d ∷ ds) → Each (IsRightAfter Choice) past (c ∷ cs) → Each (IsRightAfter Choice) past (d ∷ ds) → RunsAreFull (c ∷ cs) → RunsAreFull (d ∷ ds) → given past (c ∷ cs) ≡ given past (d ∷ ds) → c ≡ d
+  same_head : (unique : (past : Past) (p : RgbaPixel) (c d : Chunk) → IsChunk c → IsChunk d → Choice past p c → Choice past p d → c ≡ d)
+      → (past : Past) (c : Chunk) (cs : List Chunk) (d : Chunk) (ds : List Chunk) → AreChunks (c ∷ cs) → AreChunks (d ∷ ds)
+      → Each (IsRightAfter Choice) past (c ∷ cs) → Each (IsRightAfter Choice) past (d ∷ ds) → RunsAreFull (c ∷ cs) → RunsAreFull (d ∷ ds)
+      → given past (c ∷ cs) ≡ given past (d ∷ ds) → c ≡ d
   same_head unique past c cs d ds ac ad rc rd fc fd e = go c d (cases_run c) (cases_run d) ac ad rc rd fc fd e
     where
-      run_first : (n : ℕ) (x : Chunk) (xs ys : List Chunk) → IsChunk (Run n) → is_run x ≡ false → GivesFresh Choice past x → given past (Run n ∷ ys) ≡ given past (x ∷ xs) → ⊥
+      run_first : (n : ℕ) (x : Chunk) (xs ys : List Chunk) → IsChunk (Run n) → is_run x ≡ false → GivesFresh Choice past x
+          → given past (Run n ∷ ys) ≡ given past (x ∷ xs) → ⊥
       run_first zero x xs ys i h g e = absurd (omega arith)
       run_first (suc n) x xs ys i h g e = g.is_fresh (sym (same_first _ _ _ _ (e ∙ given_other past x xs h)))
 
-      runs : (m n : ℕ) → AreChunks (Run m ∷ cs) → AreChunks (Run n ∷ ds) → Each (IsRightAfter Choice) past (Run m ∷ cs) → Each (IsRightAfter Choice) past (Run n ∷ ds) → RunsAreFull (Run m ∷ cs) → RunsAreFull (Run n ∷ ds) → given past (Run m ∷ cs) ≡ given past (Run n ∷ ds) → m ≡ n
+      runs : (m n : ℕ) → AreChunks (Run m ∷ cs) → AreChunks (Run n ∷ ds) → Each (IsRightAfter Choice) past (Run m ∷ cs)
+          → Each (IsRightAfter Choice) past (Run n ∷ ds) → RunsAreFull (Run m ∷ cs) → RunsAreFull (Run n ∷ ds)
+          → given past (Run m ∷ cs) ≡ given past (Run n ∷ ds) → m ≡ n
       runs m n ac ad rc rd fc fd e =
           let up = not_longer past m n cs ds ac.0.0 ad.0.1 ac.1 rc.1 fc.0 e in
           let down = not_longer past n m ds cs ad.0.0 ac.0.1 ad.1 rd.1 fd.0 (sym e) in
           grind (arith, up, down)
 
-      go : (c d : Chunk) → ((n : ℕ) × (c ≡ Run n)) ⊎ (is_run c ≡ false) → ((n : ℕ) × (d ≡ Run n)) ⊎ (is_run d ≡ false) → AreChunks (c ∷ cs) → AreChunks (d ∷ ds) → Each (IsRightAfter Choice) past (c ∷ cs) → Each (IsRightAfter Choice) past (d ∷ ds) → RunsAreFull (c ∷ cs) → RunsAreFull (d ∷ ds) → given past (c ∷ cs) ≡ given past (d ∷ ds) → c ≡ d
+      go : (c d : Chunk) → ((n : ℕ) × (c ≡ Run n)) ⊎ (is_run c ≡ false) → ((n : ℕ) × (d ≡ Run n)) ⊎ (is_run d ≡ false) → AreChunks (c ∷ cs)
+          → AreChunks (d ∷ ds) → Each (IsRightAfter Choice) past (c ∷ cs) → Each (IsRightAfter Choice) past (d ∷ ds) → RunsAreFull (c ∷ cs)
+          → RunsAreFull (d ∷ ds) → given past (c ∷ cs) ≡ given past (d ∷ ds) → c ≡ d
       go c d (inl (m, is)) (inl (n, too)) ac ad rc rd fc fd e =
-          is ∙ ap (λ (x : ℕ). Run x) (runs m n (rw is at ac) (rw too at ad) (rw is at rc) (rw too at rd) (rw is at fc) (rw too at fd) (rw (is, too) at e)) ∙ sym too
+          is ∙ ap (λ (x : ℕ). Run x) (runs m n (rw is at ac) (rw too at ad) (rw is at rc) (rw too at rd) (rw is at fc) (rw too at fd) (rw (is, too) at e))
+          ∙ sym too
       go c d (inl (m, is)) (inr o) ac ad rc rd fc fd e = absurd (run_first m d ds cs (rw is at ac.0) o (right_other Choice past d o rd.0) (rw is at e))
       go c d (inr o) (inl (n, is)) ac ad rc rd fc fd e = absurd (run_first n c cs ds (rw is at ad.0) o (right_other Choice past c o rc.0) (rw is at (sym e)))
       go c d (inr o) (inr p) ac ad rc rd fc fd e =
@@ -127,19 +142,23 @@ module _ (Choice : Past → RgbaPixel → Chunk → Type 0) where
           unique past (pixel_of past d) c d ac.0 ad.0 (rw s at x) y
 
   -- two lists that give the same are the same
-  same_given : (unique : (past : Past) (p : RgbaPixel) (c d : Chunk) → IsChunk c → IsChunk d → Choice past p c → Choice past p d → c ≡ d) → (past : Past) (cs ds : List Chunk) → AreChunks cs → AreChunks ds → Each (IsRightAfter Choice) past cs → Each (IsRightAfter Choice) past ds → RunsAreFull cs → RunsAreFull ds → given past cs ≡ given past ds → cs ≡ ds
+  same_given : (unique : (past : Past) (p : RgbaPixel) (c d : Chunk) → IsChunk c → IsChunk d → Choice past p c → Choice past p d → c ≡ d)
+      → (past : Past) (cs ds : List Chunk) → AreChunks cs → AreChunks ds → Each (IsRightAfter Choice) past cs → Each (IsRightAfter Choice) past ds
+      → RunsAreFull cs → RunsAreFull ds → given past cs ≡ given past ds → cs ≡ ds
   same_given unique past [] [] ac ad rc rd fc fd e = refl
   same_given unique past [] (d ∷ ds) ac ad rc rd fc fd e = absurd (given_some past d ds ad.0 (sym e))
   same_given unique past (c ∷ cs) [] ac ad rc rd fc fd e = absurd (given_some past c cs ac.0 e)
   same_given unique past (c ∷ cs) (d ∷ ds) ac ad rc rd fc fd e =
       let h : c ≡ d = same_head unique past c cs d ds ac ad rc rd fc fd e in
-      let g : given (then_chunk past c) cs ≡ given (then_chunk past c) ds = append_cancel_left (replicate (times c) (pixel_of past c)) _ _ (e ∙ ap (λ (x : Chunk). given past (x ∷ ds)) (sym h)) in
+      let g : given (then_chunk past c) cs ≡ given (then_chunk past c) ds =
+      append_cancel_left (replicate (times c) (pixel_of past c)) _ _ (e ∙ ap (λ (x : Chunk). given past (x ∷ ds)) (sym h)) in
       let r : Each (IsRightAfter Choice) (then_chunk past c) ds = rw (← h) at rd.1 in
       let s : cs ≡ ds = same_given unique (then_chunk past c) cs ds ac.1 ad.1 rc.1 r fc.1 fd.1 g in
       cc
 
   -- an image has one written list, if the choice is of one chunk
-  pub unique_by : (unique : (past : Past) (p : RgbaPixel) (c d : Chunk) → IsChunk c → IsChunk d → Choice past p c → Choice past p d → c ≡ d) → (image : List RgbaPixel) (cs ds : List Chunk) → WrittenBy Choice image cs → WrittenBy Choice image ds → cs ≡ ds
+  pub unique_by : (unique : (past : Past) (p : RgbaPixel) (c d : Chunk) → IsChunk c → IsChunk d → Choice past p c → Choice past p d → c ≡ d)
+      → (image : List RgbaPixel) (cs ds : List Chunk) → WrittenBy Choice image cs → WrittenBy Choice image ds → cs ≡ ds
   unique_by unique image cs ds w v =
       same_given unique [] cs ds w.chunks v.chunks w.right v.right w.full v.full
       (sym (meaning_given cs) ∙ w.means ∙ sym v.means ∙ meaning_given ds)

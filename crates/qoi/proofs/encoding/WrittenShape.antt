@@ -16,7 +16,8 @@ pub seen_again : (past : Past) (i : ℕ) → seen (seen past i ∷ past) i ≡ s
 seen_again past i = cond_both (eqb (hash (seen past i)) i) (seen past i) (seen past i) (λ x. x ≡ seen past i) (λ _. refl) (λ _. refl)
 
 -- two neighbours never name one index position
-pub apart_by : (Choice : Past → RgbaPixel → Chunk → Type 0) (image : List RgbaPixel) (cs front rest : List Chunk) (i : ℕ) → WrittenBy Choice image cs → cs ≡ front ++ Place i ∷ Place i ∷ rest → ⊥
+pub apart_by : (Choice : Past → RgbaPixel → Chunk → Type 0) (image : List RgbaPixel) (cs front rest : List Chunk) (i : ℕ) → WrittenBy Choice image cs
+    → cs ≡ front ++ Place i ∷ Place i ∷ rest → ⊥
 apart_by Choice image cs front rest i w e =
     let r : Each (IsRightAfter Choice) [] (front ++ Place i ∷ Place i ∷ rest) = rw e at w.right in
     let s = each_back (IsRightAfter Choice) [] front (Place i ∷ Place i ∷ rest) r in
@@ -36,7 +37,8 @@ stay_below past (c ∷ cs) n a e =
     (omega arith, stay_below (then_chunk past c) cs n a.1 e)
 
 -- a written list reaches its pixels
-pub reaches_by : (Choice : Past → RgbaPixel → Chunk → Type 0) (image : List RgbaPixel) (n : ℕ) (cs : List Chunk) → WrittenBy Choice image cs → length image ≡ n → Reaches n cs
+pub reaches_by : (Choice : Past → RgbaPixel → Chunk → Type 0) (image : List RgbaPixel) (n : ℕ) (cs : List Chunk) → WrittenBy Choice image cs
+    → length image ≡ n → Reaches n cs
 reaches_by Choice image n cs w e =
     let m : length (meaning cs) ≡ n = ap length w.means ∙ e in
     let l : length (meaning cs) ≡ length (then_chunks [] cs) = length-reverse (then_chunks [] cs) in
@@ -63,9 +65,11 @@ pub channels_before : (channels : ℕ) (past : Past) (cs : List Chunk) → HasCh
 channels_before channels past cs (inl e) = inl e
 channels_before channels past cs (inr (e, h)) = inr (e, opaque_before past cs h)
 
-module _ (Choice : Past → RgbaPixel → Chunk → Type 0) (rgba_first : (past : Past) (r g b a : ℕ) → Choice past (pixel_of past (Rgba r g b a)) (Rgba r g b a) → IsFirst past (pixel_of past (Rgba r g b a)) (Rgba r g b a)) where
+module _ (Choice : Past → RgbaPixel → Chunk → Type 0) (rgba_first : (past : Past) (r g b a : ℕ) → Choice past (pixel_of past (Rgba r g b a)) (Rgba r g b a)
+    → IsFirst past (pixel_of past (Rgba r g b a)) (Rgba r g b a)) where
   -- a chunk has at most a byte more than its pixels' raw bytes, for each of them
-  pub chunk_fits : (channels : ℕ) (past : Past) (c : Chunk) → IsChunk c → HasChannels (then_chunk past c) channels → IsRightAfter Choice past c → length (bytes_of c) ≤ times c * channels + times c
+  pub chunk_fits : (channels : ℕ) (past : Past) (c : Chunk) → IsChunk c → HasChannels (then_chunk past c) channels → IsRightAfter Choice past c
+      → length (bytes_of c) ≤ times c * channels + times c
   chunk_fits channels past (Place i) k h r = omega arith
   chunk_fits channels past (Diff d) k h r = omega arith
   chunk_fits channels past (Luma d e) k (inl s) r = omega arith
@@ -78,7 +82,8 @@ module _ (Choice : Past → RgbaPixel → Chunk → Type 0) (rgba_first : (past 
       absurd (no_rgba past x y z w k (s.1.0 ∙ sym (opaque_previous past s.1.1)) (rgba_first past x y z w r.is_chosen))
 
   -- so have chunks
-  chunks_fit : (channels : ℕ) (past : Past) (cs : List Chunk) → AreChunks cs → HasChannels (then_chunks past cs) channels → Each (IsRightAfter Choice) past cs → length (text cs) ≤ length (given past cs) * channels + length (given past cs)
+  chunks_fit : (channels : ℕ) (past : Past) (cs : List Chunk) → AreChunks cs → HasChannels (then_chunks past cs) channels → Each (IsRightAfter Choice) past cs
+      → length (text cs) ≤ length (given past cs) * channels + length (given past cs)
   chunks_fit channels past [] k h r = omega arith
   chunks_fit channels past (c ∷ cs) k h r =
       let one = chunk_fits channels past c k.0 (channels_before channels (then_chunk past c) cs h) r.0 in
@@ -89,7 +94,8 @@ module _ (Choice : Past → RgbaPixel → Chunk → Type 0) (rgba_first : (past 
       rw (l, t) (omega arith)
 
   -- a written list has at most a byte a pixel more than the raw bytes
-  pub fits_by : (image : List RgbaPixel) (channels n : ℕ) (cs : List Chunk) → HasChannels image channels → length image ≡ n → WrittenBy Choice image cs → length (text cs) ≤ n * channels + n
+  pub fits_by : (image : List RgbaPixel) (channels n : ℕ) (cs : List Chunk) → HasChannels image channels → length image ≡ n → WrittenBy Choice image cs
+      → length (text cs) ≤ n * channels + n
   fits_by image channels n cs h e w =
       let g : length (given [] cs) ≡ n = ap length (sym (meaning_given cs) ∙ w.means) ∙ e in
       let k = chunks_fit channels [] cs w.chunks (back h) w.right in
@@ -103,8 +109,10 @@ module _ (Choice : Past → RgbaPixel → Chunk → Type 0) (rgba_first : (past 
       back (inr s) = inr (s.0, rw past_is at (all_reverse (λ p. p.a ≡ 255) image s.1))
 
 -- an Rgba that is chosen is the first that spells its pixel out
-pub choice_rgba : (past : Past) (r g b a : ℕ) → IsChoice past (pixel_of past (Rgba r g b a)) (Rgba r g b a) → IsFirst past (pixel_of past (Rgba r g b a)) (Rgba r g b a)
-choice_rgba past r g b a w = elim (cases_pixel (noted past (hash (pixel_of past (Rgba r g b a)))) (pixel_of past (Rgba r g b a))) as (λ _. IsFirst past (pixel_of past (Rgba r g b a)) (Rgba r g b a)) [
-  | inl is ↦ absurd (let e = w.place is in cc)
-  | inr n ↦ w.spelled n
-]
+pub choice_rgba : (past : Past) (r g b a : ℕ) → IsChoice past (pixel_of past (Rgba r g b a)) (Rgba r g b a)
+    → IsFirst past (pixel_of past (Rgba r g b a)) (Rgba r g b a)
+choice_rgba past r g b a w = elim (cases_pixel (noted past (hash (pixel_of past (Rgba r g b a)))) (pixel_of past (Rgba r g b a))) as
+    (λ _. IsFirst past (pixel_of past (Rgba r g b a)) (Rgba r g b a)) [
+      | inl is ↦ absurd (let e = w.place is in cc)
+      | inr n ↦ w.spelled n
+    ]

@@ -27,7 +27,8 @@ times_other (Rgb r g b) h = refl
 times_other (Rgba r g b a) h = refl
 
 -- a chunk other than a run gives a fresh pixel
-pub right_other : (Choice : Past → RgbaPixel → Chunk → Type 0) (past : Past) (c : Chunk) → is_run c ≡ false → IsRightAfter Choice past c → GivesFresh Choice past c
+pub right_other : (Choice : Past → RgbaPixel → Chunk → Type 0) (past : Past) (c : Chunk) → is_run c ≡ false → IsRightAfter Choice past c
+    → GivesFresh Choice past c
 right_other Choice past (Run n) h r = absurd (true≢false h)
 right_other Choice past (Place i) h r = r
 right_other Choice past (Diff d) h r = r

@@ -106,7 +106,8 @@ record SaysRest (bytes : List ℕ) (c : Channels) (s : ColorSpace) (h : Header) 
 rest_from : (bytes : List ℕ) (c : Channels) (s : ColorSpace) (h : Header) → checked_header bytes c s ≡ Ok h → SaysRest bytes c s h
 rest_from bytes c s h e =
     let k : Header = record { width = number_at bytes 4; height = number_at bytes 8; channels = c; colorspace = s } in
-    let outer = guard_true (number_at bytes 0 == magic_number) (tried_header (number_at bytes 4) (number_at bytes 8) c s) (InvalidMagic (number_at bytes 0)) h e in
+    let outer = guard_true (number_at bytes 0 == magic_number) (tried_header (number_at bytes 4) (number_at bytes 8) c s)
+    (InvalidMagic (number_at bytes 0)) h e in
     let inner = guard_true (nat_le 1 (pixel_count k) && nat_le (pixel_count k) pixels_max) (Ok k) (InvalidImageDimensions k.width k.height) h outer.1 in
     let bounds = and_parts (nat_le 1 (pixel_count k)) (nat_le (pixel_count k) pixels_max) inner.0 in
     let same : k ≡ h = cc in
@@ -138,7 +139,8 @@ says_from bytes h e =
           valid = rest.valid;
         }
 
-    with_channels : (r : Result Channels Error) → channels_of (slice_index bytes 12) ≡ r → 14 ≤ length bytes → with_channels_read bytes r ≡ Ok h → SaysHeader bytes h
+    with_channels : (r : Result Channels Error) → channels_of (slice_index bytes 12) ≡ r → 14 ≤ length bytes → with_channels_read bytes r ≡ Ok h
+        → SaysHeader bytes h
     with_channels (Err x) is long k = absurd cc
     with_channels (Ok c) is long k = with_both c is long (colorspace_of (slice_index bytes 13)) refl k
 

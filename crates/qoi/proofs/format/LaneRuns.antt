@@ -11,8 +11,10 @@ use lib.Lanes.{zip2, mask_l, top}
 use Rattle.qoi.specs.inner.Quad.{IsRun}
 
 -- the bits of four lanes
-pub agree_bits : (xs ys : List ℕ) → length xs ≡ 4 → length ys ≡ 4 → mask_l (map (top 31) (zip2 (λ a b. cond (eqb a b) 4294967295 0) xs ys)) % 2 ^ 64 ≡ mask_l (zip2 eqb xs ys)
-agree_bits xs ys e g = ap (λ ms. mask_l ms % 2 ^ 64) (tops_compared w32 eqb xs ys) ∙ mask_l-mod (zip2 eqb xs ys) 64 (omega (arith, length-zip2 eqb xs ys (e ∙ sym g)))
+pub agree_bits : (xs ys : List ℕ) → length xs ≡ 4 → length ys ≡ 4
+    → mask_l (map (top 31) (zip2 (λ a b. cond (eqb a b) 4294967295 0) xs ys)) % 2 ^ 64 ≡ mask_l (zip2 eqb xs ys)
+agree_bits xs ys e g = ap (λ ms. mask_l ms % 2 ^ 64) (tops_compared w32 eqb xs ys)
+    ∙ mask_l-mod (zip2 eqb xs ys) 64 (omega (arith, length-zip2 eqb xs ys (e ∙ sym g)))
 
 -- are four
 pub few_bits : (xs ys : List ℕ) (n : ℕ) → length xs ≡ 4 → length ys ≡ 4 → n ≡ mask_l (zip2 eqb xs ys) → n < 16
@@ -27,14 +29,16 @@ halved true m = omega arith
 halved false m = omega arith
 
 -- the bits from a lane on
-pub bits_from : (at : ℕ) (xs ys : List ℕ) → length xs ≡ length ys → at ≤ length xs → mask_l (zip2 eqb xs ys) / 2 ^ at ≡ mask_l (zip2 eqb (drop at xs) (drop at ys))
+pub bits_from : (at : ℕ) (xs ys : List ℕ) → length xs ≡ length ys → at ≤ length xs
+    → mask_l (zip2 eqb xs ys) / 2 ^ at ≡ mask_l (zip2 eqb (drop at xs) (drop at ys))
 bits_from zero xs ys e l = omega arith
 bits_from (suc at) [] ys e l = absurd (omega arith)
 bits_from (suc at) (x ∷ xs) [] e l = absurd (omega arith)
 bits_from (suc at) (x ∷ xs) (y ∷ ys) e l =
     let n = cond (eqb x y) 1 0 + 2 * mask_l (zip2 eqb xs ys) in
     let turned : suc at ≡ 1 + at = omega arith in
-    ap (λ k. n / 2 ^ k) turned ∙ sym (shr-shr n 1 at) ∙ ap (λ z. z / 2 ^ at) (halved (eqb x y) (mask_l (zip2 eqb xs ys))) ∙ bits_from at xs ys (omega arith) (omega arith)
+    ap (λ k. n / 2 ^ k) turned ∙ sym (shr-shr n 1 at) ∙ ap (λ z. z / 2 ^ at) (halved (eqb x y) (mask_l (zip2 eqb xs ys)))
+    ∙ bits_from at xs ys (omega arith) (omega arith)
 
 -- the lowest bit that isn't set
 even_under : (n t : ℕ) → n % 2 ≡ 0 → under (n % 2) t ≡ suc t
@@ -50,7 +54,8 @@ clear_step k true m n c l h f =
     ∙ omega (arith, f (omega (arith, pow-suc 2 k)) (omega (arith, pow-suc 2 k)))
 clear_step k false m n c l h f = odd_under n (count_trailing_zeros k (n / 2)) (omega (arith, pow-suc 2 k))
 
-pub first_clear : (k : ℕ) (xs ys : List ℕ) (n : ℕ) → length xs ≡ length ys → mask_l (zip2 eqb xs ys) + 1 < 2 ^ k → n ≡ 2 ^ k - 1 - mask_l (zip2 eqb xs ys) → count_trailing_zeros k n ≡ common_prefix_len eqb xs ys
+pub first_clear : (k : ℕ) (xs ys : List ℕ) (n : ℕ) → length xs ≡ length ys → mask_l (zip2 eqb xs ys) + 1 < 2 ^ k → n ≡ 2 ^ k - 1 - mask_l (zip2 eqb xs ys)
+    → count_trailing_zeros k n ≡ common_prefix_len eqb xs ys
 unfolding count_trailing_zeros
 first_clear zero xs ys n e l h = absurd (omega arith)
 first_clear (suc k) [] ys n e l h =
@@ -87,11 +92,13 @@ run_of xs ys at n e g l h =
     record {
       within = omega (arith, p.within, length-drop at xs);
       same = λ k from to. (let back : at + (k - at) ≡ k = omega arith in
-          ap (slice_index xs) (sym back) ∙ sym (get_or-drop at xs (k - at) 0) ∙ p.same (k - at) (omega arith) ∙ get_or-drop at ys (k - at) 0 ∙ ap (slice_index ys) back);
+          ap (slice_index xs) (sym back) ∙ sym (get_or-drop at xs (k - at) 0) ∙ p.same (k - at) (omega arith) ∙ get_or-drop at ys (k - at) 0
+          ∙ ap (slice_index ys) back);
       stops = λ short same. p.stops (omega (arith, length-drop at xs)) (get_or-drop at xs n 0 ∙ same ∙ sym (get_or-drop at ys n 0));
     }
 
-pub agreeing_run : (xs ys : List ℕ) (bits at : ℕ) → length xs ≡ 4 → length ys ≡ 4 → at < 4 → bits < 16 → bits ≡ mask_l (zip2 eqb xs ys) → IsRun xs ys at (count_trailing_zeros 64 (18446744073709551615 - bits / 2 ^ at))
+pub agreeing_run : (xs ys : List ℕ) (bits at : ℕ) → length xs ≡ 4 → length ys ≡ 4 → at < 4 → bits < 16 → bits ≡ mask_l (zip2 eqb xs ys)
+    → IsRun xs ys at (count_trailing_zeros 64 (18446744073709551615 - bits / 2 ^ at))
 agreeing_run xs ys bits at e g l few h =
     let d : length (drop at xs) ≡ length (drop at ys) = omega (arith, length-drop at xs, length-drop at ys) in
     let m : bits / 2 ^ at ≡ mask_l (zip2 eqb (drop at xs) (drop at ys)) = ap (λ z. z / 2 ^ at) h ∙ bits_from at xs ys (e ∙ sym g) (omega arith) in
@@ -107,7 +114,8 @@ none_agree [] ys e m = λ k l. absurd (omega arith)
 none_agree (x ∷ xs) [] e m = λ k l. absurd (omega arith)
 none_agree (x ∷ xs) (y ∷ ys) e m = go (eqb x y) refl m (none_agree xs ys (omega arith))
   where
-    go : (b : Bool) → eqb x y ≡ b → cond b 1 0 + 2 * mask_l (zip2 eqb xs ys) ≡ 0 → (mask_l (zip2 eqb xs ys) ≡ 0 → (k : ℕ) → k < length xs → slice_index xs k ≢ slice_index ys k)
+    go : (b : Bool) → eqb x y ≡ b → cond b 1 0 + 2 * mask_l (zip2 eqb xs ys) ≡ 0
+        → (mask_l (zip2 eqb xs ys) ≡ 0 → (k : ℕ) → k < length xs → slice_index xs k ≢ slice_index ys k)
         → (k : ℕ) → k < suc (length xs) → slice_index (x ∷ xs) k ≢ slice_index (y ∷ ys) k
     go true is m rest k l = absurd (omega arith)
     go false is m rest zero l = eqb-false x y is

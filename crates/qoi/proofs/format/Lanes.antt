@@ -9,7 +9,8 @@ abbrev differ : ℕ → ℕ → Bool
 differ x y = not (eqb x y)
 
 -- where the first lanes don't differ, nor the others, the vectors hold the same
-both_same : (x y : ℕ) (xs ys : List ℕ) (b : Bool) → eqb x y ≡ b → cond (not b) 1 0 + 2 * mask_l (zip2 differ xs ys) ≡ 0 → (mask_l (zip2 differ xs ys) ≡ 0 → xs ≡ ys) → x ∷ xs ≡ y ∷ ys
+both_same : (x y : ℕ) (xs ys : List ℕ) (b : Bool) → eqb x y ≡ b → cond (not b) 1 0 + 2 * mask_l (zip2 differ xs ys) ≡ 0
+    → (mask_l (zip2 differ xs ys) ≡ 0 → xs ≡ ys) → x ∷ xs ≡ y ∷ ys
 both_same x y xs ys true is e rest = let head = eqb-true x y is in let more = rest (omega arith) in cc
 both_same x y xs ys false is e rest = absurd (omega arith)
 
@@ -21,7 +22,8 @@ none_differ (x ∷ xs) [] size e = absurd (omega arith)
 none_differ (x ∷ xs) (y ∷ ys) size e = both_same x y xs ys (eqb x y) refl e (none_differ xs ys (omega arith))
 
 -- so two vectors that aren't unequal hold the same
-pub same_lanes : (xs ys : List ℕ) → length xs ≡ length ys → length xs ≤ 64 → mask_l (map (top 7) (zip2 (λ a b. cond (differ a b) 255 0) xs ys)) % 2 ^ 64 ≡ 0 → xs ≡ ys
+pub same_lanes : (xs ys : List ℕ) → length xs ≡ length ys → length xs ≤ 64 → mask_l (map (top 7) (zip2 (λ a b. cond (differ a b) 255 0) xs ys)) % 2 ^ 64 ≡ 0
+    → xs ≡ ys
 same_lanes xs ys size few e =
     let tops = tops_compared w8 differ xs ys in
     let small = mask_l-mod (zip2 differ xs ys) 64 (omega (arith, length-zip2 differ xs ys size)) in

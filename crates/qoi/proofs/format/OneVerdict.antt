@@ -53,7 +53,8 @@ one_takes n bytes cs ds x y s t ec ed =
 pub cut_ends : (n : ℕ) (bytes : List ℕ) (cs : List Chunk) (x : List ℕ) → IsCut n bytes cs x → EndsChunks n (then_chunks [] cs) x
 cut_ends n bytes cs x h = ends n cs x h.ends
   where
-    ends : (n : ℕ) (cs : List Chunk) (x : List ℕ) → ((length (meaning cs) < n) × IsPartOfChunk x) ⊎ ((n ≤ length (meaning cs)) × (length x < 8)) → EndsChunks n (then_chunks [] cs) x
+    ends : (n : ℕ) (cs : List Chunk) (x : List ℕ) → ((length (meaning cs) < n) × IsPartOfChunk x) ⊎ ((n ≤ length (meaning cs)) × (length x < 8))
+        → EndsChunks n (then_chunks [] cs) x
     ends n cs x (inl (short, part)) = inr (omega (arith, length-meaning cs), part)
     ends n cs x (inr (enough, part)) = enough_ends n cs x enough
 
@@ -77,7 +78,8 @@ same_front (a ∷ as1) (b ∷ bs) x y h e =
 -- bytes are whole in one way
 pub whole_is_one : (n : ℕ) (bytes : List ℕ) (cs ds : List Chunk) (x y : List ℕ) → IsWhole n bytes cs x → IsWhole n bytes ds y → (cs ≡ ds) × (x ≡ y)
 whole_is_one n bytes cs ds x y s t =
-    let both = one_takes n bytes cs ds (end_marker ++ x) (end_marker ++ y) s.takes t.takes (enough_ends n cs (end_marker ++ x) s.enough) (enough_ends n ds (end_marker ++ y) t.enough) in
+    let both = one_takes n bytes cs ds (end_marker ++ x) (end_marker ++ y) s.takes t.takes (enough_ends n cs (end_marker ++ x) s.enough)
+    (enough_ends n ds (end_marker ++ y) t.enough) in
     (both.0, append_cancel_left end_marker x y both.1)
 
 -- bytes are cut in one way
@@ -103,7 +105,8 @@ whole_not_cut n bytes cs ds x part s t =
 -- whole bytes aren't wrong
 pub whole_not_wrong : (n : ℕ) (bytes : List ℕ) (cs ds : List Chunk) (x eight rest : List ℕ) → IsWhole n bytes cs x → IsWrong n bytes ds eight rest → ⊥
 whole_not_wrong n bytes cs ds x eight rest s t =
-    let both = one_takes n bytes cs ds (end_marker ++ x) (eight ++ rest) s.takes t.takes (enough_ends n cs (end_marker ++ x) s.enough) (enough_ends n ds _ t.enough) in
+    let both = one_takes n bytes cs ds (end_marker ++ x) (eight ++ rest) s.takes t.takes (enough_ends n cs (end_marker ++ x) s.enough)
+    (enough_ends n ds _ t.enough) in
     t.other (sym (same_front end_marker eight x rest (sym t.length_is) both.1).0)
 
 -- cut bytes aren't wrong

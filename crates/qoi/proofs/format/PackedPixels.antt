@@ -39,7 +39,8 @@ pub word_twice : (w : ℕ) → w < 2 ^ 32 → pixel_of_spread (w + w * 2 ^ 32) �
 word_twice w l = same_pixel _ _ (omega arith) (omega arith) (omega arith) (omega arith)
 
 -- numbers added in their lanes move the pixel
-pub lanes_added : (s r g b : ℕ) → s ≡ spread (pixel_of_spread s) → s < 2 ^ 64 → r ≤ 1000 → g ≤ 1000 → b ≤ 1000 → pixel_of_spread (s + lanes r g b) ≡ moved (pixel_of_spread s) r g b
+pub lanes_added : (s r g b : ℕ) → s ≡ spread (pixel_of_spread s) → s < 2 ^ 64 → r ≤ 1000 → g ≤ 1000 → b ≤ 1000
+    → pixel_of_spread (s + lanes r g b) ≡ moved (pixel_of_spread s) r g b
 lanes_added s r g b e l lr lg lb = same_pixel _ _ (omega arith) (omega arith) (omega arith) (omega arith)
 
 -- and a spread pixel has room for them
@@ -48,5 +49,6 @@ lanes_fit s by e l lb = omega arith
 
 -- four bytes read as one number mean their pixel
 pub loaded : (bytes : List ℕ) → AreBytes bytes → 4 ≤ length bytes → pixel_of_word (number_l 256 (take 4 bytes) % 2 ^ 32) ≡ rgba (take 4 bytes)
-loaded (r ∷ g ∷ b ∷ a ∷ bytes) h l = same_pixel _ _ (omega (arith, h 0, h 1, h 2, h 3)) (omega (arith, h 0, h 1, h 2, h 3)) (omega (arith, h 0, h 1, h 2, h 3)) (omega (arith, h 0, h 1, h 2, h 3))
+loaded (r ∷ g ∷ b ∷ a ∷ bytes) h l = same_pixel _ _ (omega (arith, h 0, h 1, h 2, h 3)) (omega (arith, h 0, h 1, h 2, h 3))
+    (omega (arith, h 0, h 1, h 2, h 3)) (omega (arith, h 0, h 1, h 2, h 3))
 loaded _ h l = absurd (omega arith)

@@ -21,7 +21,8 @@ pixels_4 (r ∷ g ∷ b ∷ []) h = tt
 pixels_4 (r ∷ g ∷ b ∷ a ∷ bytes) h = (record { r = h.0; g = h.1.0; b = h.1.1.0; a = h.1.1.1.0 }, pixels_4 bytes h.1.1.1.1)
 
 -- they are pixels
-pub pixels_of_are : (channels : ℕ) (bytes : List ℕ) → IsChannels channels → AllByRecursion (λ b. b < 256) bytes → AllByRecursion IsPixel (pixels_of channels bytes)
+pub pixels_of_are : (channels : ℕ) (bytes : List ℕ) → IsChannels channels → AllByRecursion (λ b. b < 256) bytes
+    → AllByRecursion IsPixel (pixels_of channels bytes)
 pixels_of_are channels bytes (inl e) h = rw e (pixels_3 bytes h)
 pixels_of_are channels bytes (inr e) h = rw e (pixels_4 bytes h)
 
@@ -67,7 +68,8 @@ back_4 bytes (suc n) e =
     rw t.is (ap (λ (x : List ℕ). t.r ∷ t.g ∷ t.b ∷ t.a ∷ x) (back_4 t.rest n (omega (arith, ap length t.is))))
 
 -- they give the bytes back
-pub output-pixels_of : (channels n : ℕ) (bytes : List ℕ) → IsChannels channels → length bytes ≡ channels * n → output channels channels (pixels_of channels bytes) ≡ bytes
+pub output-pixels_of : (channels n : ℕ) (bytes : List ℕ) → IsChannels channels → length bytes ≡ channels * n
+    → output channels channels (pixels_of channels bytes) ≡ bytes
 output-pixels_of channels n bytes (inl e) h = rw e (back_3 bytes n (rw e at h))
 output-pixels_of channels n bytes (inr e) h = rw e (back_4 bytes n (rw e at h))
 
@@ -86,7 +88,8 @@ append_4 xs ys (suc n) e =
     rw t.is (ap (λ (x : List RgbaPixel). pixel t.r t.g t.b t.a ∷ x) (append_4 t.rest ys n (omega (arith, ap length t.is))))
 
 -- the pixels of joined bytes
-pub pixels_of-append : (channels n : ℕ) (xs ys : List ℕ) → IsChannels channels → length xs ≡ channels * n → pixels_of channels (xs ++ ys) ≡ pixels_of channels xs ++ pixels_of channels ys
+pub pixels_of-append : (channels n : ℕ) (xs ys : List ℕ) → IsChannels channels → length xs ≡ channels * n
+    → pixels_of channels (xs ++ ys) ≡ pixels_of channels xs ++ pixels_of channels ys
 pixels_of-append channels n xs ys (inl e) h = rw e (append_3 xs ys n (rw e at h))
 pixels_of-append channels n xs ys (inr e) h = rw e (append_4 xs ys n (rw e at h))
 
@@ -110,7 +113,8 @@ pixels_of-one channels bytes (inl e) h = rw e (one_3 bytes (h ∙ e))
 pixels_of-one channels bytes (inr e) h = rw e (one_4 bytes (h ∙ e))
 
 -- the first pixel of bytes, and the others
-pub pixels_of-next : (channels : ℕ) (bytes rest : List ℕ) → IsChannels channels → length bytes ≡ channels → pixels_of channels (bytes ++ rest) ≡ rgba bytes ∷ pixels_of channels rest
+pub pixels_of-next : (channels : ℕ) (bytes rest : List ℕ) → IsChannels channels → length bytes ≡ channels
+    → pixels_of channels (bytes ++ rest) ≡ rgba bytes ∷ pixels_of channels rest
 pixels_of-next channels bytes rest k h =
     pixels_of-append channels 1 bytes rest k (omega arith)
     ∙ ap (λ x. x ++ pixels_of channels rest) (pixels_of-one channels bytes k h)

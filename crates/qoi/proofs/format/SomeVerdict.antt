@@ -128,7 +128,15 @@ marker_verdict : (n : ℕ) (bytes : List ℕ) (cs : List Chunk) (eight rest : Li
 marker_verdict n bytes cs eight rest t enough h =
     let same = bytes_eq-Decides eight end_marker in
     elim (cases_Bool (bytes_eq eight end_marker)) [
-      | inl yes_same ↦ inl (cs, rest, record { takes = let P : List ℕ → Type 0 = λ l. Takes n bytes cs (l ++ rest) in subst P (same.0 yes_same) t; enough = enough })
+      | inl yes_same ↦ inl (
+        cs,
+        rest,
+        record {
+          takes = let P : List ℕ
+              → Type 0 = λ l. Takes n bytes cs (l ++ rest) in subst P (same.0 yes_same) t;
+          enough = enough;
+        },
+      )
       | inr differs ↦ inr (inr (cs, eight, rest, record { takes = t; enough = enough; length_is = h; other = λ e. false_is_not_true (sym differs ∙ same.1 e) }))
     ]
   where
@@ -136,7 +144,8 @@ marker_verdict n bytes cs eight rest t enough h =
     false_is_not_true e = cc
 
 -- the verdict from a reading
-verdict_of_ends : (n : ℕ) (bytes : List ℕ) (cs : List Chunk) (rest : List ℕ) → Takes n bytes cs rest → EndsChunks n (then_chunks [] cs) rest → HasVerdict n bytes
+verdict_of_ends : (n : ℕ) (bytes : List ℕ) (cs : List Chunk) (rest : List ℕ) → Takes n bytes cs rest → EndsChunks n (then_chunks [] cs) rest
+    → HasVerdict n bytes
 verdict_of_ends n bytes cs rest t (inr part) = inr (inl (cs, rest, record { takes = t; ends = inl (omega (arith, length-meaning cs), part.1) }))
 verdict_of_ends n bytes cs rest t (inl enough) =
     let above : n ≤ length (meaning cs) = omega (arith, length-meaning cs) in

@@ -20,7 +20,8 @@ pub holds_none : Holds (replicate 64 blank) []
 holds_none i l = slice_get-get_or (replicate 64 blank) i blank (omega (arith, length-replicate 64 blank)) ∙ ap Some (get_or-replicate 64 i blank blank l)
 
 -- the entries after a write at a pixel's index position
-held_after : (entries : List RgbaPixel) (p : RgbaPixel) (i : ℕ) → length entries ≡ 64 → get_or (slice_set entries (hash p) p) i blank ≡ cond (eqb (hash p) i) p (get_or entries i blank)
+held_after : (entries : List RgbaPixel) (p : RgbaPixel) (i : ℕ) → length entries ≡ 64
+    → get_or (slice_set entries (hash p) p) i blank ≡ cond (eqb (hash p) i) p (get_or entries i blank)
 held_after entries p i size = at (eqb (hash p) i) refl
   where
     at : (b : Bool) → eqb (hash p) i ≡ b → get_or (slice_set entries (hash p) p) i blank ≡ cond b p (get_or entries i blank)
@@ -33,7 +34,8 @@ held_after entries p i size = at (eqb (hash p) i) refl
         rw get_or-set_other refl
 
 -- a pixel that is put there is held
-pub holds_put : (entries : List RgbaPixel) (p : RgbaPixel) (past : Past) (place : ℕ) → length entries ≡ 64 → place ≡ hash p → Holds entries past → Holds (slice_set entries place p) (p ∷ past)
+pub holds_put : (entries : List RgbaPixel) (p : RgbaPixel) (past : Past) (place : ℕ) → length entries ≡ 64 → place ≡ hash p → Holds entries past
+    → Holds (slice_set entries place p) (p ∷ past)
 holds_put entries p past place size at holds i l = rw at (
     slice_get-get_or (slice_set entries (hash p) p) i blank (omega (arith, length-set entries (hash p) p))
     ∙ ap (λ x. Some x) (held_after entries p i size ∙ ap (cond (eqb (hash p) i) p) (held_at entries past i size l holds)))

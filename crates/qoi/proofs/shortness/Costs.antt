@@ -70,7 +70,8 @@ abbrev ladder : Bool → Bool → Bool → Bool → ℕ
 ladder s d l r = cond (s || d) 1 (cond l 2 (cond r 4 5))
 
 -- it is the least
-is_ladder : (past : Past) (p : RgbaPixel) → least past p ≡ ladder (pixel_eq (seen past (hash p)) p) (some_diff (previous past) p) (some_luma (previous past) p) (some_rgb (previous past) p)
+is_ladder : (past : Past) (p : RgbaPixel) → least past p ≡ ladder (pixel_eq (seen past (hash p)) p) (some_diff (previous past) p)
+    (some_luma (previous past) p) (some_rgb (previous past) p)
 unfolding least
 is_ladder past p = refl
 
@@ -123,11 +124,13 @@ ladder_over_2 false false false false h k m = omega arith
 
 -- the least is at least 1
 pub least_low : (past : Past) (p : RgbaPixel) → 1 ≤ least past p
-least_low past p = rw (is_ladder past p) (ladder_low (pixel_eq (seen past (hash p)) p) (some_diff (previous past) p) (some_luma (previous past) p) (some_rgb (previous past) p))
+least_low past p = rw (is_ladder past p) (ladder_low (pixel_eq (seen past (hash p)) p) (some_diff (previous past) p) (some_luma (previous past) p)
+    (some_rgb (previous past) p))
 
 -- the least is at most 5
 pub least_high : (past : Past) (p : RgbaPixel) → least past p ≤ 5
-least_high past p = rw (is_ladder past p) (ladder_high (pixel_eq (seen past (hash p)) p) (some_diff (previous past) p) (some_luma (previous past) p) (some_rgb (previous past) p))
+least_high past p = rw (is_ladder past p) (ladder_high (pixel_eq (seen past (hash p)) p) (some_diff (previous past) p) (some_luma (previous past) p)
+    (some_rgb (previous past) p))
 
 -- where the pixel is seen at its index position the least is 1
 pub least_seen : (past : Past) (p : RgbaPixel) → seen past (hash p) ≡ p → least past p ≤ 1
@@ -139,22 +142,28 @@ least_diff past p e = rw (is_ladder past p) (le_of_eq (cond-true _ 1 _ (or_right
 
 -- where a Luma gives the pixel the least is at most 2
 pub least_luma : (past : Past) (p : RgbaPixel) → some_luma (previous past) p ≡ true → least past p ≤ 2
-least_luma past p e = rw (is_ladder past p) (ladder_2 (pixel_eq (seen past (hash p)) p) (some_diff (previous past) p) (some_luma (previous past) p) (some_rgb (previous past) p) e)
+least_luma past p e = rw (is_ladder past p) (ladder_2 (pixel_eq (seen past (hash p)) p) (some_diff (previous past) p) (some_luma (previous past) p)
+    (some_rgb (previous past) p) e)
 
 -- where alpha stays the least is at most 4
 pub least_rgb : (past : Past) (p : RgbaPixel) → some_rgb (previous past) p ≡ true → least past p ≤ 4
-least_rgb past p e = rw (is_ladder past p) (ladder_4 (pixel_eq (seen past (hash p)) p) (some_diff (previous past) p) (some_luma (previous past) p) (some_rgb (previous past) p) e)
+least_rgb past p e = rw (is_ladder past p) (ladder_4 (pixel_eq (seen past (hash p)) p) (some_diff (previous past) p) (some_luma (previous past) p)
+    (some_rgb (previous past) p) e)
 
 -- where the pixel isn't seen at its index position and no Diff gives it, the least is at least 2
 pub least_over_1 : (past : Past) (p : RgbaPixel) → seen past (hash p) ≢ p → some_diff (previous past) p ≡ false → 2 ≤ least past p
-least_over_1 past p n d = rw (is_ladder past p) (ladder_over_1 (pixel_eq (seen past (hash p)) p) (some_diff (previous past) p) (some_luma (previous past) p) (some_rgb (previous past) p) (pixel_eq-ne _ p n) d)
+least_over_1 past p n d = rw (is_ladder past p) (ladder_over_1 (pixel_eq (seen past (hash p)) p) (some_diff (previous past) p) (some_luma (previous past) p)
+    (some_rgb (previous past) p) (pixel_eq-ne _ p n) d)
 
 -- where no Luma gives it either, the least is at least 4
-pub least_over_2 : (past : Past) (p : RgbaPixel) → seen past (hash p) ≢ p → some_diff (previous past) p ≡ false → some_luma (previous past) p ≡ false → 4 ≤ least past p
-least_over_2 past p n d l = rw (is_ladder past p) (ladder_over_2 (pixel_eq (seen past (hash p)) p) (some_diff (previous past) p) (some_luma (previous past) p) (some_rgb (previous past) p) (pixel_eq-ne _ p n) d l)
+pub least_over_2 : (past : Past) (p : RgbaPixel) → seen past (hash p) ≢ p → some_diff (previous past) p ≡ false → some_luma (previous past) p ≡ false
+    → 4 ≤ least past p
+least_over_2 past p n d l = rw (is_ladder past p) (ladder_over_2 (pixel_eq (seen past (hash p)) p) (some_diff (previous past) p) (some_luma (previous past) p)
+    (some_rgb (previous past) p) (pixel_eq-ne _ p n) d l)
 
 -- where alpha changes too, the least is 5
-pub least_over_4 : (past : Past) (p : RgbaPixel) → seen past (hash p) ≢ p → some_diff (previous past) p ≡ false → some_luma (previous past) p ≡ false → some_rgb (previous past) p ≡ false → 5 ≤ least past p
+pub least_over_4 : (past : Past) (p : RgbaPixel) → seen past (hash p) ≢ p → some_diff (previous past) p ≡ false → some_luma (previous past) p ≡ false
+    → some_rgb (previous past) p ≡ false → 5 ≤ least past p
 least_over_4 past p n d l r = rw (is_ladder past p, pixel_eq-ne _ p n, d, l, r) (omega arith)
 
 -- what a fresh pixel costs
@@ -163,7 +172,8 @@ unfolding cost
 cost_fresh shortest past p n = cond-false (pixel_eq p (previous past)) _ _ (pixel_eq-ne p (previous past) n)
 
 -- what a repeat costs
-pub cost_repeat : (shortest : Past → RgbaPixel → ℕ) (past : Past) (p : RgbaPixel) → p ≡ previous past → cost shortest past p ≡ cond (eqb (trailing_repeats past % 62) 0) 1 0
+pub cost_repeat : (shortest : Past → RgbaPixel → ℕ) (past : Past) (p : RgbaPixel) → p ≡ previous past
+    → cost shortest past p ≡ cond (eqb (trailing_repeats past % 62) 0) 1 0
 unfolding cost
 cost_repeat shortest past p e = cond-true (pixel_eq p (previous past)) _ _ (pixel_eq-from p (previous past) e)
 
@@ -190,7 +200,9 @@ group_more k = cond_both (eqb (k % 62) 0) 1 0 (λ x. x + (k + 61) / 62 ≡ (suc 
     (λ e. let h : k % 62 ≢ 0 = eqb-false (k % 62) 0 e in omega arith)
 
 -- what a run costs: a byte for each 62 of the group, rounded up
-pub cost_run : (shortest : Past → RgbaPixel → ℕ) (past : Past) (n : ℕ) → total_cost shortest (replicate n (previous past) ++ past) + (trailing_repeats past + 61) / 62 ≡ total_cost shortest past + (n + trailing_repeats past + 61) / 62
+pub cost_run : (shortest : Past → RgbaPixel → ℕ) (past : Past) (n : ℕ)
+    → total_cost shortest (replicate n (previous past) ++ past) + (trailing_repeats past + 61) / 62
+    ≡ total_cost shortest past + (n + trailing_repeats past + 61) / 62
 cost_run shortest past zero = omega arith
 cost_run shortest past (suc n) =
     let before = replicate n (previous past) ++ past in

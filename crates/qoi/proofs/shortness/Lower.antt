@@ -35,11 +35,13 @@ pub cost_front : (shortest : Past → RgbaPixel → ℕ) (more past : Past) → 
 cost_front shortest [] past = omega arith
 cost_front shortest (p ∷ more) past = let h = cost_front shortest more past in omega arith
 
-module _ (shortest : Past → RgbaPixel → ℕ) (Allowed : Past → Chunk → Type 0) (bounds : (past : Past) (c : Chunk) → IsChunk c → Allowed past c → is_run c ≡ false → shortest past (pixel_of past c) ≤ length (bytes_of c)) where
+module _ (shortest : Past → RgbaPixel → ℕ) (Allowed : Past → Chunk → Type 0)
+    (bounds : (past : Past) (c : Chunk) → IsChunk c → Allowed past c → is_run c ≡ false → shortest past (pixel_of past c) ≤ length (bytes_of c)) where
   -- a pixel costs no more than a chunk that gives it
   cost_other : (past : Past) (c : Chunk) → IsChunk c → Allowed past c → is_run c ≡ false → cost shortest past (pixel_of past c) ≤ length (bytes_of c)
   cost_other past c k a o = elim (cases_pixel (pixel_of past c) (previous past)) as (λ _. cost shortest past (pixel_of past c) ≤ length (bytes_of c)) [
-    | inl e ↦ rw (cost_repeat shortest past (pixel_of past c) e) (cond_both (eqb (trailing_repeats past % 62) 0) 1 0 (λ x. x ≤ length (bytes_of c)) (λ _. bytes_some c) (λ _. omega arith))
+    | inl e ↦ rw (cost_repeat shortest past (pixel_of past c) e)
+        (cond_both (eqb (trailing_repeats past % 62) 0) 1 0 (λ x. x ≤ length (bytes_of c)) (λ _. bytes_some c) (λ _. omega arith))
     | inr n ↦ rw (cost_fresh shortest past (pixel_of past c) n) (bounds past c k a o)
   ]
 
@@ -56,7 +58,8 @@ module _ (shortest : Past → RgbaPixel → ℕ) (Allowed : Past → Chunk → T
       go (inr o) = let h = cost_other past c k a o in rw (then_other past c o) (omega arith)
 
   -- nor than chunks
-  cost_chunks : (past : Past) (cs : List Chunk) → AreChunks cs → Each Allowed past cs → total_cost shortest (then_chunks past cs) ≤ total_cost shortest past + length (text cs)
+  cost_chunks : (past : Past) (cs : List Chunk) → AreChunks cs → Each Allowed past cs
+      → total_cost shortest (then_chunks past cs) ≤ total_cost shortest past + length (text cs)
   cost_chunks past [] k a = omega arith
   cost_chunks past (c ∷ cs) k a =
       let one = cost_chunk past c k.0 a.0 in
@@ -65,7 +68,8 @@ module _ (shortest : Past → RgbaPixel → ℕ) (Allowed : Past → Chunk → T
       omega arith
 
   -- so a chunk list that is allowed has no fewer bytes than the pixels of an image that it begins with cost
-  pub lower_by : (image : List RgbaPixel) (cs : List Chunk) → AreChunks cs → Each Allowed [] cs → Begins (meaning cs) image → total_cost shortest (reverse image) ≤ length (text cs)
+  pub lower_by : (image : List RgbaPixel) (cs : List Chunk) → AreChunks cs → Each Allowed [] cs → Begins (meaning cs) image
+      → total_cost shortest (reverse image) ≤ length (text cs)
   lower_by image cs k a (more, b) =
       let h = cost_chunks [] cs k a in
       let e : then_chunks [] cs ≡ reverse more ++ reverse image = sym (reverse-reverse (then_chunks [] cs)) ∙ ap reverse b ∙ reverse-append image more in

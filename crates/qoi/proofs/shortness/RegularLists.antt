@@ -59,9 +59,11 @@ suffix_all P (x ∷ xs) ys (u ∷ us) vs e l h = suffix_all P xs ys us vs (rest 
     rest x u vs ws e = cc
 
 -- an index position that is named before the end of an image without transparent black was written
-named_within : (past : Past) (c : Chunk) (cs : List Chunk) (us vs : List RgbaPixel) → then_chunks (then_chunk past c) cs ≡ us ++ vs → length past < length vs → AllByRecursion (λ p. p ≢ blank) vs → NamesWritten past c
+named_within : (past : Past) (c : Chunk) (cs : List Chunk) (us vs : List RgbaPixel) → then_chunks (then_chunk past c) cs ≡ us ++ vs → length past < length vs
+    → AllByRecursion (λ p. p ≢ blank) vs → NamesWritten past c
 named_within past (Place i) cs us vs e l h =
-    let s = suffix_all (λ p. p ≢ blank) (reverse (given (seen past i ∷ past) cs)) (seen past i ∷ past) us vs (sym (then_chunks_given (seen past i ∷ past) cs) ∙ e) (omega arith) h in
+    let s = suffix_all (λ p. p ≢ blank) (reverse (given (seen past i ∷ past) cs)) (seen past i ∷ past) us vs
+    (sym (then_chunks_given (seen past i ∷ past) cs) ∙ e) (omega arith) h in
     elim (seen_blank_or past i) as (λ _. hash (seen past i) ≡ i) [
       | inl e ↦ absurd (s.0 e)
       | inr e ↦ e
@@ -73,12 +75,14 @@ named_within past (Rgb x y z) cs us vs e l h = tt
 named_within past (Rgba x y z w) cs us vs e l h = tt
 
 -- so are all that chunks name
-all_named : (past : Past) (cs : List Chunk) (us vs : List RgbaPixel) → then_chunks past cs ≡ us ++ vs → Each (λ past c. length past < length vs) past cs → AllByRecursion (λ p. p ≢ blank) vs → Each NamesWritten past cs
+all_named : (past : Past) (cs : List Chunk) (us vs : List RgbaPixel) → then_chunks past cs ≡ us ++ vs → Each (λ past c. length past < length vs) past cs
+    → AllByRecursion (λ p. p ≢ blank) vs → Each NamesWritten past cs
 all_named past [] us vs e l h = tt
 all_named past (c ∷ cs) us vs e l h = (named_within past c cs us vs e l.0 h, all_named (then_chunk past c) cs us vs e l.1 h)
 
 -- a list of an image without transparent black is regular
-pub no_blank_regular : (image : List RgbaPixel) (cs : List Chunk) → Reaches (length image) cs → Begins (meaning cs) image → AllByRecursion (λ p. p ≢ blank) image → Regular cs
+pub no_blank_regular : (image : List RgbaPixel) (cs : List Chunk) → Reaches (length image) cs → Begins (meaning cs) image
+    → AllByRecursion (λ p. p ≢ blank) image → Regular cs
 no_blank_regular image cs r (more, b) h =
     let e : then_chunks [] cs ≡ reverse more ++ reverse image = sym (reverse-reverse (then_chunks [] cs)) ∙ ap reverse b ∙ reverse-append image more in
     let l : length image ≡ length (reverse image) = sym (length-reverse image) in

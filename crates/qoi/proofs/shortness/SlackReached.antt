@@ -6,7 +6,8 @@ use Rattle.qoi.specs.Written.{noted, IsChoice, Written}
 use Rattle.qoi.proofs.encoding.Spelled.{FitsDiff, FitsLuma, first_rgb, first_rgba}
 
 -- an Rgb is chosen where the pixel isn't noted and green is far
-pub chosen_rgb : (past : Past) (p : RgbaPixel) → IsPixel (previous past) → noted past (hash p) ≢ p → p.a ≡ (previous past).a → (FitsDiff (previous past) p → ⊥) → (FitsLuma (previous past) p → ⊥) → IsChoice past p (Rgb p.r p.g p.b)
+pub chosen_rgb : (past : Past) (p : RgbaPixel) → IsPixel (previous past) → noted past (hash p) ≢ p → p.a ≡ (previous past).a
+    → (FitsDiff (previous past) p → ⊥) → (FitsLuma (previous past) p → ⊥) → IsChoice past p (Rgb p.r p.g p.b)
 chosen_rgb past p iq n alpha d l = record { place = λ e. absurd (n e); spelled = λ _. first_rgb past p iq alpha d l }
 
 -- an Rgba is chosen where the pixel isn't noted and alpha changes
@@ -38,7 +39,8 @@ written_rgb = record {
       (
         record {
           is_fresh = red_differs _ _ (λ e. absurd (omega arith));
-          is_chosen = chosen_rgb (pixel 101 102 103 255 ∷ pixel 0 0 0 255 ∷ []) (pixel 0 0 0 255) (record { r = omega arith; g = omega arith; b = omega arith; a = omega arith })
+          is_chosen = chosen_rgb (pixel 101 102 103 255 ∷ pixel 0 0 0 255 ∷ []) (pixel 0 0 0 255)
+              (record { r = omega arith; g = omega arith; b = omega arith; a = omega arith })
               (alpha_differs _ _ (λ e. absurd (omega arith))) refl (λ f. let x = f.r in absurd (omega arith)) (λ f. let x = f.g in absurd (omega arith));
         },
         tt,
@@ -64,7 +66,8 @@ written_rgba = record {
       (
         record {
           is_fresh = red_differs _ _ (λ e. absurd (omega arith));
-          is_chosen = chosen_rgba (pixel 101 102 103 104 ∷ pixel 0 0 0 255 ∷ []) (pixel 0 0 0 255) (alpha_differs _ _ (λ e. absurd (omega arith))) (λ e. absurd (omega arith));
+          is_chosen = chosen_rgba (pixel 101 102 103 104 ∷ pixel 0 0 0 255 ∷ []) (pixel 0 0 0 255) (alpha_differs _ _ (λ e. absurd (omega arith)))
+              (λ e. absurd (omega arith));
         },
         tt,
       ),

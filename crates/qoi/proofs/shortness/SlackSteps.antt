@@ -44,7 +44,8 @@ opens_more : (past : Past) (p : RgbaPixel) → opens past ≡ true → opens (p 
 opens_more past p h = rw (reverse-append (p ∷ []) past) (opens_list (reverse past) (p ∷ []) h)
 
 -- a fresh pixel is looked at last
-first_at-fresh : (past : Past) (p : RgbaPixel) → p ≢ previous past → first_at (p ∷ past) ≡ find (λ p. eqb (hash p) (hash start)) (reverse (fresh past) ++ p ∷ [])
+first_at-fresh : (past : Past) (p : RgbaPixel) → p ≢ previous past
+    → first_at (p ∷ past) ≡ find (λ p. eqb (hash p) (hash start)) (reverse (fresh past) ++ p ∷ [])
 first_at-fresh past p n = ap (find (λ p. eqb (hash p) (hash start))) (ap reverse (fresh_more past p n) ∙ reverse-append (p ∷ []) (fresh past))
 
 -- what was found first is still found first
@@ -62,12 +63,14 @@ returns_more past p h = elim (cases_pixel p (previous past)) as (λ _. is_start 
 -- the slack only grows
 pub slack_more : (n : ℕ) (past : Past) (p : RgbaPixel) → slack_at n past ≤ slack_at n (p ∷ past)
 unfolding slack_at
-slack_more n past p = elim (cases_Bool (opens past && is_start (first_at past))) as (λ _. cond (opens past && is_start (first_at past)) n 0 ≤ cond (opens (p ∷ past) && is_start (first_at (p ∷ past))) n 0) [
-  | inl e ↦
-      let w = and_parts (opens past) (is_start (first_at past)) e in
-      rw (opens_more past p w.0, returns_more past p w.1) (cond_both (opens past && is_start (first_at past)) n 0 (λ x. x ≤ n) (λ _. omega arith) (λ _. omega arith))
-  | inr e ↦ rw e (omega arith)
-]
+slack_more n past p = elim (cases_Bool (opens past && is_start (first_at past))) as
+    (λ _. cond (opens past && is_start (first_at past)) n 0 ≤ cond (opens (p ∷ past) && is_start (first_at (p ∷ past))) n 0) [
+      | inl e ↦
+          let w = and_parts (opens past) (is_start (first_at past)) e in
+          rw (opens_more past p w.0, returns_more past p w.1) (cond_both (opens past && is_start (first_at past)) n 0 (λ x. x ≤ n) (λ _. omega arith)
+          (λ _. omega arith))
+      | inr e ↦ rw e (omega arith)
+    ]
 
 -- the slack only grows in a run
 pub slack_run : (n : ℕ) (past : Past) (p : RgbaPixel) (k : ℕ) → slack_at n past ≤ slack_at n (replicate k p ++ past)
@@ -102,14 +105,16 @@ pub noted_or_differs : (past : Past) (i : ℕ) → (seen past i ≡ noted past i
 noted_or_differs [] i = inl refl
 noted_or_differs (q ∷ past) i = go past (cases_pixel q (previous past)) (cases_eq (hash q) i) (noted_or_differs past i)
   where
-    repeat_here : (past : Past) → q ≡ previous past → hash q ≡ i → (seen past i ≡ noted past i) ⊎ Differs past i → (seen (q ∷ past) i ≡ noted (q ∷ past) i) ⊎ Differs (q ∷ past) i
+    repeat_here : (past : Past) → q ≡ previous past → hash q ≡ i → (seen past i ≡ noted past i) ⊎ Differs past i
+        → (seen (q ∷ past) i ≡ noted (q ∷ past) i) ⊎ Differs (q ∷ past) i
     repeat_here [] e same h = inr (record {
       place = sym same ∙ ap hash e;
       opened = rw e (pixel_eq-same start);
       nothing = first_at-repeat [] q e;
       last = seen_same [] q i same ∙ e;
     })
-    repeat_here (r ∷ past) e same (inl h) = inl (seen_same (r ∷ past) q i same ∙ e ∙ sym (seen_same past r i (ap hash (sym e) ∙ same)) ∙ h ∙ sym (noted_repeat (r ∷ past) q i e))
+    repeat_here (r ∷ past) e same (inl h) = inl (seen_same (r ∷ past) q i same ∙ e ∙ sym (seen_same past r i (ap hash (sym e) ∙ same)) ∙ h
+        ∙ sym (noted_repeat (r ∷ past) q i e))
     repeat_here (r ∷ past) e same (inr d) = inr (record {
       place = d.place;
       opened = opens_more (r ∷ past) q d.opened;
@@ -123,7 +128,8 @@ noted_or_differs (q ∷ past) i = go past (cases_pixel q (previous past)) (cases
     noted_there : (past : Past) → q ≢ previous past → hash q ≢ i → noted (q ∷ past) i ≡ noted past i
     noted_there past n other = noted_fresh past q i n ∙ cond-false (eqb (hash q) i) q (noted past i) (ne_eqb _ _ other)
 
-    go : (past : Past) → (q ≡ previous past) ⊎ (q ≢ previous past) → (hash q ≡ i) ⊎ (hash q ≢ i) → (seen past i ≡ noted past i) ⊎ Differs past i → (seen (q ∷ past) i ≡ noted (q ∷ past) i) ⊎ Differs (q ∷ past) i
+    go : (past : Past) → (q ≡ previous past) ⊎ (q ≢ previous past) → (hash q ≡ i) ⊎ (hash q ≢ i) → (seen past i ≡ noted past i) ⊎ Differs past i
+        → (seen (q ∷ past) i ≡ noted (q ∷ past) i) ⊎ Differs (q ∷ past) i
     go past (inl e) (inl same) h = repeat_here past e same h
     go past (inl e) (inr other) (inl h) = inl (seen_other past q i other ∙ h ∙ sym (noted_repeat past q i e))
     go past (inl e) (inr other) (inr d) = inr (record {
@@ -149,7 +155,8 @@ slack_before n past i d = cond-false (opens past && is_start (first_at past)) n 
 -- and if opaque black comes again there is
 slack_after : (n : ℕ) (past : Past) (i : ℕ) (p : RgbaPixel) → Differs past i → p ≢ previous past → p ≡ start → slack_at n (p ∷ past) ≡ n
 unfolding slack_at
-slack_after n past i p d f e = cond-true (opens (p ∷ past) && is_start (first_at (p ∷ past))) n 0 (and_from _ _ (opens_more past p d.opened) (ap is_start found ∙ pixel_eq-from p start e))
+slack_after n past i p d f e = cond-true (opens (p ∷ past) && is_start (first_at (p ∷ past))) n 0
+    (and_from _ _ (opens_more past p d.opened) (ap is_start found ∙ pixel_eq-from p start e))
   where
     found : first_at (p ∷ past) ≡ Some p
     found =
@@ -159,7 +166,8 @@ slack_after n past i p d f e = cond-true (opens (p ∷ past) && is_start (first_
         ∙ cond-true (eqb (hash p) (hash start)) (Some p) None (eq-eqb _ _ (ap hash e))
 
 -- So where a fresh pixel is seen at its index position, but not noted there, the slack grows from none to all.
-pub slack_grows : (n : ℕ) (past : Past) (p : RgbaPixel) → p ≢ previous past → noted past (hash p) ≢ p → seen past (hash p) ≡ p → slack_at n past + n ≡ slack_at n (p ∷ past)
+pub slack_grows : (n : ℕ) (past : Past) (p : RgbaPixel) → p ≢ previous past → noted past (hash p) ≢ p → seen past (hash p) ≡ p
+    → slack_at n past + n ≡ slack_at n (p ∷ past)
 slack_grows n past p f other s = elim (noted_or_differs past (hash p)) as (λ _. slack_at n past + n ≡ slack_at n (p ∷ past)) [
   | inl e ↦ absurd (other (sym e ∙ s))
   | inr d ↦

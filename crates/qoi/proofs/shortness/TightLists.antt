@@ -24,7 +24,8 @@ least0_low past p = cond_both (pixel_eq p blank && is_some (least_unseen past)) 
 -- and no more than where each position that is named was written
 least0_high : (past : Past) (p : RgbaPixel) → least0 past p ≤ least past p
 unfolding least0
-least0_high past p = cond_both (pixel_eq p blank && is_some (least_unseen past)) 1 (least past p) (λ x. x ≤ least past p) (λ _. least_low past p) (λ _. omega arith)
+least0_high past p = cond_both (pixel_eq p blank && is_some (least_unseen past)) 1 (least past p) (λ x. x ≤ least past p) (λ _. least_low past p)
+    (λ _. omega arith)
 
 -- transparent black costs a byte where a position is unseen
 least0_unseen : (past : Past) (p : RgbaPixel) → p ≡ blank → is_some (least_unseen past) ≡ true → least0 past p ≡ 1
@@ -51,7 +52,8 @@ least0_bounds past (Diff d) k _ o = let a = least0_high past (pixel_of past (Dif
 least0_bounds past (Luma d e) k _ o = let a = least0_high past (pixel_of past (Luma d e)) in let b = least_bounds past (Luma d e) k tt o in omega arith
 least0_bounds past (Run n) k _ o = absurd (let x = o in cc)
 least0_bounds past (Rgb x y z) k _ o = let a = least0_high past (pixel_of past (Rgb x y z)) in let b = least_bounds past (Rgb x y z) k tt o in omega arith
-least0_bounds past (Rgba x y z w) k _ o = let a = least0_high past (pixel_of past (Rgba x y z w)) in let b = least_bounds past (Rgba x y z w) k tt o in omega arith
+least0_bounds past (Rgba x y z w) k _ o = let a = least0_high past (pixel_of past (Rgba x y z w)) in let b = least_bounds past (Rgba x y z w) k tt o in
+    omega arith
 
 -- each list is allowed
 each_allowed : (past : Past) (cs : List Chunk) → Each (λ past c. Unit {0}) past cs
@@ -63,7 +65,8 @@ pub lower0 : (image : List RgbaPixel) (cs : List Chunk) → AreChunks cs → Beg
 lower0 image cs k b = lower_by least0 (λ past c. Unit {0}) least0_bounds image cs k (each_allowed [] cs) b
 
 -- a fresh pixel's chunk is no longer than it costs
-tight_cost : (past : Past) (c : Chunk) → IsChunk c → HasChannels (then_chunk past c) 4 → is_run c ≡ false → GivesFresh IsTightChoice past c → IsRightAfter IsTightChoice past c → length (bytes_of c) + 0 ≤ least0 past (pixel_of past c) + 0
+tight_cost : (past : Past) (c : Chunk) → IsChunk c → HasChannels (then_chunk past c) 4 → is_run c ≡ false → GivesFresh IsTightChoice past c
+    → IsRightAfter IsTightChoice past c → length (bytes_of c) + 0 ≤ least0 past (pixel_of past c) + 0
 tight_cost past c k h o g r =
     by_tight (λ past p c. IsChunk c → length (bytes_of c) + 0 ≤ least0 past p + 0) past (pixel_of past c) c g.is_chosen
     (λ e _. let l = least0_low past (pixel_of past c) in omega arith)

@@ -34,7 +34,8 @@ no_luma past p c f h = false_from_ne_true _ (λ t.
 no_rgb : (past : Past) (p : RgbaPixel) (c : Chunk) → IsChunk c → IsFirst past p c → 3 < rank c → some_rgb (previous past) p ≡ false
 no_rgb past p (Rgba r g b a) i f h = false_from_ne_true _ (λ t.
     let w = some_rgb-true (previous past) p t in
-    let l = f.first (Rgb r g b) (i.0, i.1, i.2) (omega arith) (same_pixel _ p (ap (λ x. x.r) f.gives) (ap (λ x. x.g) f.gives) (ap (λ x. x.b) f.gives) (sym w)) in
+    let l = f.first (Rgb r g b) (i.0, i.1, i.2) (omega arith)
+    (same_pixel _ p (ap (λ x. x.r) f.gives) (ap (λ x. x.g) f.gives) (ap (λ x. x.b) f.gives) (sym w)) in
     omega arith)
 no_rgb past p c i f h = absurd (omega arith)
 
@@ -43,12 +44,15 @@ pub first_least : (past : Past) (p : RgbaPixel) (c : Chunk) → IsChunk c → Is
 first_least past p (Diff d) i f n = least_low past p
 first_least past p (Luma d e) i f n = least_over_1 past p n (no_diff past p _ f (omega arith))
 first_least past p (Rgb r g b) i f n = least_over_2 past p n (no_diff past p _ f (omega arith)) (no_luma past p _ f (omega arith))
-first_least past p (Rgba r g b a) i f n = least_over_4 past p n (no_diff past p _ f (omega arith)) (no_luma past p _ f (omega arith)) (no_rgb past p _ i f (omega arith))
+first_least past p (Rgba r g b a) i f n = least_over_4 past p n (no_diff past p _ f (omega arith)) (no_luma past p _ f (omega arith))
+    (no_rgb past p _ i f (omega arith))
 first_least past p c i f n = let s = f.spells in absurd (omega arith)
 
 -- a fresh pixel's chosen chunk is no longer than the least, but for what the slack grows by
-fresh_cost : (channels : ℕ) (past : Past) (c : Chunk) → IsChunk c → HasChannels (then_chunk past c) channels → is_run c ≡ false → GivesFresh IsChoice past c → IsRightAfter IsChoice past c → length (bytes_of c) + slack_at channels past ≤ least past (pixel_of past c) + slack_at channels (pixel_of past c ∷ past)
-fresh_cost channels past c i h o g r = go (cases_pixel (noted past (hash (pixel_of past c))) (pixel_of past c)) (cases_pixel (seen past (hash (pixel_of past c))) (pixel_of past c))
+fresh_cost : (channels : ℕ) (past : Past) (c : Chunk) → IsChunk c → HasChannels (then_chunk past c) channels → is_run c ≡ false → GivesFresh IsChoice past c
+    → IsRightAfter IsChoice past c → length (bytes_of c) + slack_at channels past ≤ least past (pixel_of past c) + slack_at channels (pixel_of past c ∷ past)
+fresh_cost channels past c i h o g r = go (cases_pixel (noted past (hash (pixel_of past c))) (pixel_of past c))
+    (cases_pixel (seen past (hash (pixel_of past c))) (pixel_of past c))
   where
     low : 1 ≤ least past (pixel_of past c)
     low = least_low past (pixel_of past c)
@@ -59,7 +63,9 @@ fresh_cost channels past c i h o g r = go (cases_pixel (noted past (hash (pixel_
     one : (d : Chunk) (j : ℕ) → d ≡ Place j → length (bytes_of d) ≡ 1
     one d j e = rw e refl
 
-    go : (noted past (hash (pixel_of past c)) ≡ pixel_of past c) ⊎ (noted past (hash (pixel_of past c)) ≢ pixel_of past c) → (seen past (hash (pixel_of past c)) ≡ pixel_of past c) ⊎ (seen past (hash (pixel_of past c)) ≢ pixel_of past c) → length (bytes_of c) + slack_at channels past ≤ least past (pixel_of past c) + slack_at channels (pixel_of past c ∷ past)
+    go : (noted past (hash (pixel_of past c)) ≡ pixel_of past c) ⊎ (noted past (hash (pixel_of past c)) ≢ pixel_of past c)
+        → (seen past (hash (pixel_of past c)) ≡ pixel_of past c) ⊎ (seen past (hash (pixel_of past c)) ≢ pixel_of past c)
+        → length (bytes_of c) + slack_at channels past ≤ least past (pixel_of past c) + slack_at channels (pixel_of past c ∷ past)
     go (inl e) s = let l = one c _ (g.is_chosen.place e) in let a = low in let b = grows in omega arith
     go (inr n) (inl s) =
         let x = slack_grows channels past (pixel_of past c) g.is_fresh n s in
@@ -78,7 +84,10 @@ abbrev Aligned : Past → List Chunk → Type 0
 Aligned past (Run n ∷ cs) = trailing_repeats past % 62 ≡ 0
 Aligned past _ = Unit {0}
 
-module _ (shortest : Past → RgbaPixel → ℕ) (Choice : Past → RgbaPixel → Chunk → Type 0) (extra : Past → ℕ) (extra_more : (past : Past) (p : RgbaPixel) → extra past ≤ extra (p ∷ past)) (channels : ℕ) (fresh_fits : (past : Past) (c : Chunk) → IsChunk c → HasChannels (then_chunk past c) channels → is_run c ≡ false → GivesFresh Choice past c → IsRightAfter Choice past c → length (bytes_of c) + extra past ≤ shortest past (pixel_of past c) + extra (pixel_of past c ∷ past)) where
+module _ (shortest : Past → RgbaPixel → ℕ) (Choice : Past → RgbaPixel → Chunk → Type 0) (extra : Past → ℕ)
+    (extra_more : (past : Past) (p : RgbaPixel) → extra past ≤ extra (p ∷ past)) (channels : ℕ)
+    (fresh_fits : (past : Past) (c : Chunk) → IsChunk c → HasChannels (then_chunk past c) channels → is_run c ≡ false → GivesFresh Choice past c
+    → IsRightAfter Choice past c → length (bytes_of c) + extra past ≤ shortest past (pixel_of past c) + extra (pixel_of past c ∷ past)) where
   -- what is extra only grows in a run
   extra_run : (past : Past) (p : RgbaPixel) (k : ℕ) → extra past ≤ extra (replicate k p ++ past)
   extra_run past p zero = omega arith
@@ -88,14 +97,16 @@ module _ (shortest : Past → RgbaPixel → ℕ) (Choice : Past → RgbaPixel �
       omega arith
 
   -- a run costs its byte
-  run_fits : (past : Past) (n : ℕ) → 0 < n → trailing_repeats past % 62 ≡ 0 → 1 + total_cost shortest past + extra past ≤ total_cost shortest (then_chunk past (Run n)) + extra (then_chunk past (Run n))
+  run_fits : (past : Past) (n : ℕ) → 0 < n → trailing_repeats past % 62 ≡ 0
+      → 1 + total_cost shortest past + extra past ≤ total_cost shortest (then_chunk past (Run n)) + extra (then_chunk past (Run n))
   run_fits past n h a =
       let c = cost_run shortest past n in
       let e = extra_run past (previous past) n in
       omega arith
 
   -- any other chunk costs no more than its pixel and what is extra
-  other_fits : (past : Past) (c : Chunk) → IsChunk c → HasChannels (then_chunk past c) channels → is_run c ≡ false → IsRightAfter Choice past c → length (bytes_of c) + total_cost shortest past + extra past ≤ total_cost shortest (then_chunk past c) + extra (then_chunk past c)
+  other_fits : (past : Past) (c : Chunk) → IsChunk c → HasChannels (then_chunk past c) channels → is_run c ≡ false → IsRightAfter Choice past c
+      → length (bytes_of c) + total_cost shortest past + extra past ≤ total_cost shortest (then_chunk past c) + extra (then_chunk past c)
   other_fits past c i h o r =
       let g = right_other Choice past c o r in
       let f = fresh_fits past c i h o g r in
@@ -103,7 +114,9 @@ module _ (shortest : Past → RgbaPixel → ℕ) (Choice : Past → RgbaPixel �
       rw (then_other past c o) (omega arith)
 
   -- a chunk costs no more than its pixels and what is extra
-  one_fits : (past : Past) (c : Chunk) (cs : List Chunk) → IsChunk c → HasChannels (then_chunk past c) channels → IsRightAfter Choice past c → Aligned past (c ∷ cs) → length (bytes_of c) + total_cost shortest past + extra past ≤ total_cost shortest (then_chunk past c) + extra (then_chunk past c)
+  one_fits : (past : Past) (c : Chunk) (cs : List Chunk) → IsChunk c → HasChannels (then_chunk past c) channels → IsRightAfter Choice past c
+      → Aligned past (c ∷ cs) → length (bytes_of c) + total_cost shortest past + extra past ≤ total_cost shortest (then_chunk past c) + extra
+      (then_chunk past c)
   one_fits past (Run n) cs i h r a = run_fits past n i.0 a
   one_fits past (Place j) cs i h r a = other_fits past (Place j) i h refl r
   one_fits past (Diff d) cs i h r a = other_fits past (Diff d) i h refl r
@@ -127,7 +140,8 @@ module _ (shortest : Past → RgbaPixel → ℕ) (Choice : Past → RgbaPixel �
   aligned_next past c (Rgba x y z w ∷ cs) r f a = tt
 
   -- chunks cost no more than their pixels and what is extra
-  all_fit : (past : Past) (cs : List Chunk) → AreChunks cs → HasChannels (then_chunks past cs) channels → Each (IsRightAfter Choice) past cs → RunsAreFull cs → Aligned past cs → length (text cs) + total_cost shortest past + extra past ≤ total_cost shortest (then_chunks past cs) + extra (then_chunks past cs)
+  all_fit : (past : Past) (cs : List Chunk) → AreChunks cs → HasChannels (then_chunks past cs) channels → Each (IsRightAfter Choice) past cs → RunsAreFull cs
+      → Aligned past cs → length (text cs) + total_cost shortest past + extra past ≤ total_cost shortest (then_chunks past cs) + extra (then_chunks past cs)
   all_fit past [] i h r f a = omega arith
   all_fit past (c ∷ cs) i h r f a =
       let one = one_fits past c cs i.0 (channels_before channels (then_chunk past c) cs h) r.0 a in
@@ -136,7 +150,8 @@ module _ (shortest : Past → RgbaPixel → ℕ) (Choice : Past → RgbaPixel �
       omega arith
 
   -- so the written list costs no more than the pixels of its image and what is extra
-  pub upper_by : (image : List RgbaPixel) (cs : List Chunk) → HasChannels image channels → WrittenBy Choice image cs → length (text cs) ≤ total_cost shortest (reverse image) + extra (reverse image)
+  pub upper_by : (image : List RgbaPixel) (cs : List Chunk) → HasChannels image channels → WrittenBy Choice image cs
+      → length (text cs) ≤ total_cost shortest (reverse image) + extra (reverse image)
   upper_by image cs h w =
       let e : then_chunks [] cs ≡ reverse image = sym (reverse-reverse (then_chunks [] cs)) ∙ ap reverse w.means in
       let k : HasChannels (then_chunks [] cs) channels = rw e (back h) in
@@ -158,7 +173,8 @@ module _ (shortest : Past → RgbaPixel → ℕ) (Choice : Past → RgbaPixel �
       at_start (Rgba x y z w ∷ cs) = tt
 
 -- the written list has at most the bytes of the floor and the slack
-pub upper : (image : List RgbaPixel) (channels : ℕ) (cs : List Chunk) → HasChannels image channels → Written image cs → length (text cs) ≤ floor image + slack image channels
+pub upper : (image : List RgbaPixel) (channels : ℕ) (cs : List Chunk) → HasChannels image channels → Written image cs
+    → length (text cs) ≤ floor image + slack image channels
 upper image channels cs h w =
     let u = upper_by least IsChoice (slack_at channels) (slack_more channels) channels (fresh_cost channels) image cs h w in
     let s = slack_is image channels in

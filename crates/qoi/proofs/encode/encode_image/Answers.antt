@@ -17,14 +17,23 @@ returns-in_err-encode_chunks-clause-refused g c =
     let r = c.in_err-encode_chunks.ensures.refused in
     let theirs = file_of h c.args.data.now c.requires.valid c.requires.image c.args.style r.1 r.2 in
     let front : kept_bytes c.keep.new.self ≡ head h = c.keep.ensures.kept ∙ ap (λ z. z ++ c.encode.result) c.new-piece.ensures ∙ c.encode.ensures in
-    rw (e.1, e.2) (r.0, file h r.1, theirs, chunks_part g.W.Writer.wrote g.W.Writer.room g.met.W.Writer.laws h r.1 c.args.buf.now (kept_bytes c.keep.new.self) front r.3)
+    rw (e.1, e.2) (
+      r.0,
+      file h r.1,
+      theirs,
+      chunks_part g.W.Writer.wrote g.W.Writer.room g.met.W.Writer.laws h r.1 c.args.buf.now
+          (kept_bytes c.keep.new.self) front r.3,
+    )
 
 -- all of the file went but what is kept
-kept : (g : Over) (c : After-keep-2 g) → WroteBut g.W.Writer.wrote c.args.buf.now (file c.args.header.now c.in_ok-encode_chunks.ensures.written.0) (kept_bytes c.keep-2.new.self) c.encode_chunks.new.buf
+kept : (g : Over) (c : After-keep-2 g) → WroteBut g.W.Writer.wrote c.args.buf.now (file c.args.header.now c.in_ok-encode_chunks.ensures.written.0)
+    (kept_bytes c.keep-2.new.self) c.encode_chunks.new.buf
 kept g c =
     let w = c.in_ok-encode_chunks.ensures.written in
-    let front : kept_bytes c.keep.new.self ≡ head c.args.header.now = c.keep.ensures.kept ∙ ap (λ z. z ++ c.encode.result) c.new-piece.ensures ∙ c.encode.ensures in
-    marker_kept g.W.Writer.wrote g.W.Writer.room g.met.W.Writer.laws c.args.header.now w.0 c.args.buf.now (kept_bytes c.keep.new.self) front w.2 c.keep-2.ensures.kept
+    let front : kept_bytes c.keep.new.self ≡ head c.args.header.now = c.keep.ensures.kept ∙ ap (λ z. z ++ c.encode.result) c.new-piece.ensures
+    ∙ c.encode.ensures in
+    marker_kept g.W.Writer.wrote g.W.Writer.room g.met.W.Writer.laws c.args.header.now w.0 c.args.buf.now
+    (kept_bytes c.keep.new.self) front w.2 c.keep-2.ensures.kept
 
 pub finish-requires : goal.finish-requires
 finish-requires g c =
@@ -32,8 +41,14 @@ finish-requires g c =
     let w = c.in_ok-encode_chunks.ensures.written in
     let piece = c.keep-2.new.self in
     let size = length-take-le piece.end piece.bytes (omega (arith, piece.within)) in
-    let enough : 22 + length (text w.0) ≤ g.W.Writer.room c.args.buf.now = omega (arith, c.requires.room, max_is_exact h c.requires.valid, text_fits h c.args.data.now c.requires.valid c.requires.image c.args.style w.0 w.1) in
-    omega (arith, size, last_fits g.W.Writer.wrote g.W.Writer.room g.met.W.Writer.laws h w.0 c.args.buf.now (kept g (goal.at.finish-requires g c).After-keep-2) enough)
+    let enough : 22 + length (text w.0) ≤ g.W.Writer.room c.args.buf.now =
+    omega (arith, c.requires.room, max_is_exact h c.requires.valid, text_fits h c.args.data.now c.requires.valid c.requires.image c.args.style w.0 w.1) in
+    omega (
+      arith,
+      size,
+      last_fits g.W.Writer.wrote g.W.Writer.room g.met.W.Writer.laws h w.0 c.args.buf.now
+          (kept g (goal.at.finish-requires g c).After-keep-2) enough,
+    )
 
 pub returns-in_err-finish-clause-refused : goal.returns-in_err-finish-clause-refused
 returns-in_err-finish-clause-refused g c =
@@ -42,7 +57,13 @@ returns-in_err-finish-clause-refused g c =
     let e = err_from_is_err_and c.from_residual-in_err-finish.result c.from_residual-in_err-finish.ensures.1 in
     let r = c.in_err-finish.ensures.refused in
     let theirs = file_of h c.args.data.now c.requires.valid c.requires.image c.args.style w.0 w.1 in
-    rw (e.1, e.2) (r.0, file h w.0, theirs, last_part g.W.Writer.wrote g.W.Writer.room g.met.W.Writer.laws h w.0 c.args.buf.now (kept g (goal.at.returns-in_err-finish-clause-refused g c).After-keep-2) r.1)
+    rw (e.1, e.2) (
+      r.0,
+      file h w.0,
+      theirs,
+      last_part g.W.Writer.wrote g.W.Writer.room g.met.W.Writer.laws h w.0 c.args.buf.now
+          (kept g (goal.at.returns-in_err-finish-clause-refused g c).After-keep-2) r.1,
+    )
 
 pub returns-clause-written : goal.returns-clause-written
 returns-clause-written g c =
@@ -51,5 +72,9 @@ returns-clause-written g c =
     let all = kept g (goal.at.returns-clause-written g c).After-keep-2 in
     let went = c.in_ok-finish.ensures.written in
     let theirs = file_of h c.args.data.now c.requires.valid c.requires.image c.args.style w.0 w.1 in
-    let counted = file_counts g.W.Writer.wrote g.W.Writer.room g.met.W.Writer.laws h w.0 c.args.buf.now all went in
-    (file h w.0, theirs, rw (c.capacity-room.ensures, c.capacity.ensures) counted, file_went g.W.Writer.wrote g.W.Writer.room g.met.W.Writer.laws h w.0 c.args.buf.now all went)
+    let counted = file_counts g.W.Writer.wrote g.W.Writer.room g.met.W.Writer.laws h w.0 c.args.buf.now all went in (
+      file h w.0,
+      theirs,
+      rw (c.capacity-room.ensures, c.capacity.ensures) counted,
+      file_went g.W.Writer.wrote g.W.Writer.room g.met.W.Writer.laws h w.0 c.args.buf.now all went,
+    )

@@ -6,7 +6,8 @@ use Rattle.qoi.proofs.runs.count_pixels.Goals as goal
 
 pub returns-clause-counted : goal.returns-clause-counted
 returns-clause-counted g c =
-    count_of c.args.px (pixels_of g.row.N c.args.data.now) (pixels_of g.row.N c.loop-rest.rest.now) c.loop-rest.count c.loop-rest.invariant.same (λ e. let no : false ≡ true = c.loop-rest-test.ensures.1 e in cc)
+    count_of c.args.px (pixels_of g.row.N c.args.data.now) (pixels_of g.row.N c.loop-rest.rest.now) c.loop-rest.count c.loop-rest.invariant.same
+    (λ e. let no : false ≡ true = c.loop-rest-test.ensures.1 e in cc)
 
 pub returns-clause-within : goal.returns-clause-within
 returns-clause-within g c = omega (arith, counted_within _ c.loop-rest.count _ _ c.requires c.loop-rest.invariant.size)

@@ -16,7 +16,8 @@ returns-in_err-n-clause-refused g c =
     let f = subst (λ (s : EncoderState). IsFileOf s.style s.header s.raw r.1) c.self.view_is r.2 in
     let went = r.3.1.went in
     let same = went.same_writer in
-    let front = appends_as g.W.Write.contents (g.W.Write.contents (stream_writer c.encode_image.new.buf)) r.3.1.front c.new-writer.ensures.value went.appended in
+    let front = appends_as g.W.Write.contents (g.W.Write.contents
+    (stream_writer c.encode_image.new.buf)) r.3.1.front c.new-writer.ensures.value went.appended in
     rw (e.1, e.2) (r.0, r.1, f, (r.3.1.front, r.3.0, r.3.1.split, search rules))
 
 pub returns-in_err-n-clause-same : goal.returns-in_err-n-clause-same
@@ -27,7 +28,8 @@ returns-in_err-n-clause-same g c bytes f =
     let is : r.1 ≡ bytes = f.is_file.only r.1 own.is_file.encoded in
     let went = r.3.1.went in
     let same = went.same_writer in
-    let front = appends_as g.W.Write.contents (g.W.Write.contents (stream_writer c.encode_image.new.buf)) r.3.1.front c.new-writer.ensures.value went.appended in
+    let front = appends_as g.W.Write.contents (g.W.Write.contents
+    (stream_writer c.encode_image.new.buf)) r.3.1.front c.new-writer.ensures.value went.appended in
     rw e.1 (r.3.1.front, r.3.0, sym is ∙ r.3.1.split, search rules)
 
 pub returns-clause-same : goal.returns-clause-same
@@ -35,7 +37,8 @@ returns-clause-same g c bytes f =
     let w = c.in_ok-n.ensures.written in
     let own = subst (λ (s : EncoderState). IsFileOf s.style s.header s.raw w.0) c.self.view_is w.1 in
     let is : w.0 ≡ bytes = f.is_file.only w.0 own.is_file.encoded in
-    let all = subst (Appends (g.W.Write.contents (stream_writer c.new-writer.result)) (g.W.Write.contents (stream_writer c.encode_image.new.buf))) is w.3.appended in
+    let all = subst (Appends (g.W.Write.contents (stream_writer c.new-writer.result))
+    (g.W.Write.contents (stream_writer c.encode_image.new.buf))) is w.3.appended in
     let sent = appends_as g.W.Write.contents (g.W.Write.contents (stream_writer c.encode_image.new.buf)) bytes c.new-writer.ensures.value all in
     let same = w.3.same_writer in
     (w.2 ∙ ap length is, search rules)

@@ -17,7 +17,8 @@ loop-piece-init g c =
       end = c.requires.begun;
       whole = c.requires.whole;
       opaque = λ _. ap (λ p. p.a) new.last;
-      state = piece_starts g.met.W.Writer.laws c.requires.channels (λ i. omega (arith, c.type_inv.data i)) c.requires.whole (omega (arith, size, c.requires.room)) (state_none c.args.style _ _ c.new-table.ensures new.last) new.style;
+      state = piece_starts g.met.W.Writer.laws c.requires.channels (λ i. omega (arith, c.type_inv.data i)) c.requires.whole
+          (omega (arith, size, c.requires.room)) (state_none c.args.style _ _ c.new-table.ensures new.last) new.style;
     }
 
 pub returns-then-piece-lt-PIECE-clause-written : goal.returns-then-piece-lt-PIECE-clause-written

@@ -4,7 +4,8 @@ use Rattle.qoi.proofs.format.Quads.{full_lanes, count_lanes, full_opaque, count_
 use Rattle.qoi.proofs.encode.quad.fulls.Goals as goal
 
 pub returns-then-this-eq3-clause-words : goal.returns-then-this-eq3-clause-words
-returns-then-this-eq3-clause-words g c = full_opaque c.args.cur c.args.steps c.rgbs-word.result (c.fits-cur.0 ∙ sym c.fits-steps.0) c.fits-steps.1 (c.requires.opaque c.if-this-eq3.true) c.rgbs-word.ensures.lanes
+returns-then-this-eq3-clause-words g c = full_opaque c.args.cur c.args.steps c.rgbs-word.result (c.fits-cur.0 ∙ sym c.fits-steps.0) c.fits-steps.1
+    (c.requires.opaque c.if-this-eq3.true) c.rgbs-word.ensures.lanes
 
 pub returns-then-this-eq3-clause-counts : goal.returns-then-this-eq3-clause-counts
 returns-then-this-eq3-clause-counts g c = count_opaque c.args.steps c.fits-steps.0 c.fits-steps.1 (c.requires.opaque c.if-this-eq3.true)

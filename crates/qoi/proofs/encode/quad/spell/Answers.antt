@@ -4,7 +4,8 @@ use Rattle.qoi.proofs.encoding.SpelledLanes.{lanes_spelled, counts_few}
 use Rattle.qoi.proofs.encode.quad.spell.Goals as goal
 
 pub fulls-requires-clause-opaque : goal.fulls-requires-clause-opaque
-fulls-requires-clause-opaque g c = λ three. found_keep c.args.cur c.args.prev c.steps-steps.result c.steps-steps.ensures.lanes c.fits-cur.1 c.fits-prev.1 (c.requires.opaque three)
+fulls-requires-clause-opaque g c = λ three. found_keep c.args.cur c.args.prev c.steps-steps.result c.steps-steps.ensures.lanes c.fits-cur.1 c.fits-prev.1
+    (c.requires.opaque three)
 
 pub returns-clause-words : goal.returns-clause-words
 returns-clause-words g c =
@@ -17,7 +18,10 @@ returns-clause-counts g c =
     c.fulls.result.1 c.fulls.ensures.counts
 
 pub returns-clause-lanes : goal.returns-clause-lanes
-returns-clause-lanes g c = lanes_spelled c.args.cur c.args.prev _ _ c.fits-cur.0 c.fits-prev.0 c.fits-cur.1 c.fits-prev.1 (returns-clause-words g c) (returns-clause-counts g c)
+returns-clause-lanes g c = lanes_spelled c.args.cur c.args.prev _ _ c.fits-cur.0 c.fits-prev.0 c.fits-cur.1 c.fits-prev.1 (returns-clause-words g c)
+    (returns-clause-counts g c)
 
 pub returns-clause-few : goal.returns-clause-few
-returns-clause-few g c = counts_few g.row.N c.args.cur c.args.prev _ c.requires.channels c.fits-cur.0 c.fits-prev.0 c.fits-cur.1 c.fits-prev.1 c.requires.opaque (returns-clause-counts g c)
+returns-clause-few g c =
+    counts_few g.row.N c.args.cur c.args.prev _ c.requires.channels c.fits-cur.0 c.fits-prev.0 c.fits-cur.1 c.fits-prev.1 c.requires.opaque
+    (returns-clause-counts g c)

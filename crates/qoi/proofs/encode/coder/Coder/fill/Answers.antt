@@ -22,5 +22,6 @@ loop-end-preserved g c =
       some = λ _. omega (arith, i.left, c.give_quad-next.ensures.inside);
       whole = ap (λ m. m % g.row.N) size ∙ whole_rest g.row.N k (length rest) c.requires.channels i.whole c.give_quad-next.ensures.inside;
       opaque = c.give_quad-next.ensures.opaque;
-      given = λ w e b. subst (λ xs. CoderBetween w (pixels_of g.row.N xs) c.give_quad-next.new.table c.give_quad-next.new.self (take c.give_quad-next.result.0 c.give_quad-next.new.out)) (sym back) (c.give_quad-next.ensures.given w e (i.given w e b));
+      given = λ w e b. subst (λ xs. CoderBetween w (pixels_of g.row.N xs) c.give_quad-next.new.table c.give_quad-next.new.self
+          (take c.give_quad-next.result.0 c.give_quad-next.new.out)) (sym back) (c.give_quad-next.ensures.given w e (i.given w e b));
     }

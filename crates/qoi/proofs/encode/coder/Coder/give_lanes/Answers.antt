@@ -11,7 +11,8 @@ returns-then-bits-eq0-clause-given g c w pixels style_is four b =
     let prev = c.args.prev in
     let lanes = four_lanes last pixels cur prev four in
     let new = c.new-quad.ensures in
-    let is = quad_is {n = g.row.N} {quad = c.new-quad.result} last pixels cur prev four (subst IsPixel (sym b.state.last_is) b.to_write.before) new.pixels new.before new.spelled in
+    let is = quad_is {n = g.row.N} {quad = c.new-quad.result} last pixels cur prev four
+    (subst IsPixel (sym b.state.last_is) b.to_write.before) new.pixels new.before new.spelled in
     let start = quad_starts {quad = c.new-quad.result} cur b four.before_are new.before in
     let fresh = all_fresh c.new-quad.result cur prev lanes.0 lanes.1 new.pixels new.before (sym c.requires.bits ∙ c.if-bits-eq0.true) in
     (c.give_four.ensures.given w pixels style_is is fresh start).between
@@ -28,7 +29,8 @@ returns-clause-given g c w pixels style_is four b =
     let cur = c.args.cur in
     let prev = c.args.prev in
     let new = c.new-quad.ensures in
-    let is = quad_is {n = g.row.N} {quad = c.new-quad.result} last pixels cur prev four (subst IsPixel (sym b.state.last_is) b.to_write.before) new.pixels new.before new.spelled in
+    let is = quad_is {n = g.row.N} {quad = c.new-quad.result} last pixels cur prev four
+    (subst IsPixel (sym b.state.last_is) b.to_write.before) new.pixels new.before new.spelled in
     let start = quad_starts {quad = c.new-quad.result} cur b four.before_are new.before in
     let one = c.give_group-end.ensures.given w pixels style_is is start in
     let two = c.give_group-end-2.ensures.given w pixels style_is is one in

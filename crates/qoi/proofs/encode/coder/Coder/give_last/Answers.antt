@@ -21,5 +21,6 @@ loop-rest-preserved g c =
       left = omega (arith, i.left);
       whole = ap (λ m. m % g.row.N) size ∙ whole_rest g.row.N k (length rest) c.requires.channels i.whole c.give_next-next.ensures.inside;
       opaque = c.give_next-next.ensures.opaque;
-      given = λ w e b. subst (λ xs. CoderBetween w (pixels_of g.row.N xs) c.give_next-next.new.table c.give_next-next.new.self (take c.give_next-next.result.0 c.give_next-next.new.out)) (sym back) (c.give_next-next.ensures.given w e (i.given w e b));
+      given = λ w e b. subst (λ xs. CoderBetween w (pixels_of g.row.N xs) c.give_next-next.new.table c.give_next-next.new.self
+          (take c.give_next-next.result.0 c.give_next-next.new.out)) (sym back) (c.give_next-next.ensures.given w e (i.given w e b));
     }

@@ -13,7 +13,8 @@ use Rattle.qoi.proofs.encode.coder.Coder.give_quad.Goals as goal
 
 -- what was read
 four : (g : Over) (c : After-repeating-bits g) → AreFourAfter c.args.self.now.last (pixels_of g.row.N c.args.data.now) c.four-cur.result c.before-prev.result
-four g c = four_read g.row.N c.args.data.now c.args.self.now.last c.number.result c.four-cur.result c.before-prev.result c.requires.channels (λ k. omega (arith, c.type_inv.data k)) c.requires.long c.four-cur.ensures.lanes c.before-prev.ensures.lanes c.number.ensures.number
+four g c = four_read g.row.N c.args.data.now c.args.self.now.last c.number.result c.four-cur.result c.before-prev.result c.requires.channels
+    (λ k. omega (arith, c.type_inv.data k)) c.requires.long c.four-cur.ensures.lanes c.before-prev.ensures.lanes c.number.ensures.number
 
 pub returns-then-bits-eq15-clause-some : goal.returns-then-bits-eq15-clause-some
 returns-then-bits-eq15-clause-some g c =
@@ -30,8 +31,10 @@ give_lanes-requires-clause-opaque g c = λ three.
 
 pub give_lanes-requires-clause-same_alpha : goal.give_lanes-requires-clause-same_alpha
 give_lanes-requires-clause-same_alpha g c = λ three.
-    let alpha : c.number.result / 2 ^ 24 ≡ 255 = ap (λ z. z / 2 ^ 24) c.number.ensures.number ∙ word_alpha c.args.self.now.last c.number.ensures.bytes ∙ c.requires.opaque three in
-    quad_opaque g.row.N c.args.data.now c.number.result c.four-cur.result c.before-prev.result three (λ k. omega (arith, c.type_inv.data k)) c.requires.long alpha c.four-cur.ensures.lanes c.before-prev.ensures.lanes
+    let alpha : c.number.result / 2 ^ 24 ≡ 255 = ap (λ z. z / 2 ^ 24) c.number.ensures.number ∙ word_alpha c.args.self.now.last c.number.ensures.bytes
+    ∙ c.requires.opaque three in
+    quad_opaque g.row.N c.args.data.now c.number.result c.four-cur.result c.before-prev.result three
+    (λ k. omega (arith, c.type_inv.data k)) c.requires.long alpha c.four-cur.ensures.lanes c.before-prev.ensures.lanes
 
 pub returns-clause-inside : goal.returns-clause-inside
 returns-clause-inside g c = few_lanes g.row.N c.give_lanes.result.1 (length c.args.data.now) c.requires.channels c.give_lanes.ensures.lanes.1 c.requires.long
@@ -43,5 +46,6 @@ pub returns-clause-given : goal.returns-clause-given
 returns-clause-given g c w style_is b =
     let f = four g (goal.at.returns-clause-given g c).After-repeating-bits in
     let inside = few_lanes g.row.N c.give_lanes.result.1 (length c.args.data.now) c.requires.channels c.give_lanes.ensures.lanes.1 c.requires.long in
-    subst (λ x. CoderBetween w x c.give_lanes.new.table c.give_lanes.new.self (take c.give_lanes.result.0 c.give_lanes.new.out)) (pixels_drop g.row.N c.give_lanes.result.1 c.args.data.now c.requires.channels inside)
+    subst (λ x. CoderBetween w x c.give_lanes.new.table c.give_lanes.new.self (take c.give_lanes.result.0 c.give_lanes.new.out))
+    (pixels_drop g.row.N c.give_lanes.result.1 c.args.data.now c.requires.channels inside)
     (c.give_lanes.ensures.given w (pixels_of g.row.N c.args.data.now) style_is f b)

@@ -17,7 +17,9 @@ use Rattle.qoi.proofs.encode.coder.Coder.give_runs.Goals as goal
 -- the repeats stand ahead
 near : (g : Over) (c : After-repeats_of-count g) → NearGroup g.row.N c.args.data.now c.args.self.now.last 992 c.repeats_of-count.result
 near g c =
-    let counted = subst (λ xs. IsCount c.args.self.now.last (pixels_of g.row.N xs) c.repeats_of-count.result) c.split_at.ensures.front c.repeats_of-count.ensures.counted in
+    let counted =
+    subst (λ xs.
+    IsCount c.args.self.now.last (pixels_of g.row.N xs) c.repeats_of-count.result) c.split_at.ensures.front c.repeats_of-count.ensures.counted in
     near_group g.row.N c.args.data.now c.args.self.now.last 992 c.repeats_of-count.result _ c.requires.channels c.requires.whole c.min.ensures counted
 
 pub repeats_of-count-requires-clause-opaque : goal.repeats_of-count-requires-clause-opaque
@@ -43,11 +45,31 @@ returns-clause-given g c w style_is b =
     let full : n ≡ 992 → n % 62 ≡ 0 = λ e. ap (λ k. k % 62) e in
     let last_part = c.split_at-2.result.1.now in
     let back : length behind ≡ length last_part = ap length (sym c.split_at-2.ensures.back) in
-    let ends : (slice_get rest 0 ≢ Some coder.last) ⊎ (n % 62 ≡ 0) = elim group.ends as (λ _. (slice_get rest 0 ≢ Some coder.last) ⊎ (n % 62 ≡ 0)) [ inl other ↦ inl other | inr e ↦ inr (full e) ] in
-    let one : (one : Chunk) × (bytes_of one ≡ c.if-is_empty.one ∷ []) × (((rest ≡ []) × (one ≡ Run 1)) ⊎ ((rest ≢ []) × (one ≡ rest_of_one w.style coder.begun coder.placed coder.place n)))
+    let ends : (slice_get rest 0 ≢ Some coder.last) ⊎ (n % 62 ≡ 0) =
+    elim group.ends as (λ _. (slice_get rest 0 ≢ Some coder.last) ⊎ (n % 62 ≡ 0)) [ inl other ↦ inl other | inr e ↦ inr (full e) ] in
+    let one : (one : Chunk) × (bytes_of one ≡ c.if-is_empty.one ∷ [])
+    × (((rest ≡ []) × (one ≡ Run 1)) ⊎ ((rest ≢ []) × (one ≡ rest_of_one w.style coder.begun coder.placed coder.place n)))
     = elim c.if-is_empty.branch [
-      | then-is_empty x ↦ (Run 1, ap (λ z. z ∷ []) (sym x.one-is), inl (none_of_few g.row.N behind c.requires.channels (let zero : length last_part ≡ 0 = eqb-true (length last_part) 0 (sym c.is_empty.ensures ∙ x.if-is_empty.true) in omega (arith, back, c.requires.channels)), refl))
-      | else-is_empty x ↦ (rest_of_one w.style coder.begun coder.placed coder.place n, ap (λ s. bytes_of (rest_of_one s coder.begun coder.placed coder.place n)) style_is ∙ x.rest_of_one-one.ensures ∙ ap (λ z. z ∷ []) (sym x.one-is), inr (some_pixels g.row.N behind c.requires.channels group.whole (let other : length last_part ≢ 0 = eqb-false (length last_part) 0 (sym c.is_empty.ensures ∙ x.if-is_empty.false) in omega (arith, back)), refl))
+      | then-is_empty x ↦ (
+        Run 1,
+        ap (λ z. z ∷ []) (sym x.one-is),
+        inl (
+          none_of_few g.row.N behind c.requires.channels
+              (let zero : length last_part ≡ 0 = eqb-true (length last_part) 0 (sym c.is_empty.ensures ∙ x.if-is_empty.true) in
+              omega (arith, back, c.requires.channels)),
+          refl,
+        ),
+      )
+      | else-is_empty x ↦ (
+        rest_of_one w.style coder.begun coder.placed coder.place n,
+        ap (λ s. bytes_of (rest_of_one s coder.begun coder.placed coder.place n)) style_is ∙ x.rest_of_one-one.ensures
+            ∙ ap (λ z. z ∷ []) (sym x.one-is),
+        inr (
+          some_pixels g.row.N behind c.requires.channels group.whole
+              (let other : length last_part ≢ 0 = eqb-false (length last_part) 0 (sym c.is_empty.ensures ∙ x.if-is_empty.false) in omega (arith, back)),
+          refl,
+        ),
+      )
     ] in
     let held = c.repeat.ensures.state b.past (subst (λ s. StateAfter s b.past c.args.table.now coder.last) style_is b.state) in
     runs_given b n rest one.0 {next_table = c.repeat.new.table} {next_coder = c.repeat.new.self} group.pixels ends (λ _. one.2)

@@ -10,9 +10,12 @@ use Rattle.qoi.proofs.encode.coder.Coder.repeat.Goals.{in-Reference, in-Tight}
 
 pub returns-clause-state : goal.returns-clause-state
 returns-clause-state c past s = elim c.match-style.branch [
-  | in-Reference w ↦ subst (λ t. StateAfter c.args.style (replicate c.args.count (previous past) ++ past) t c.args.self.now.last) (sym w.table-is) (state_unput c.args.style c.args.count past c.args.table.now c.args.self.now.last w.in-Reference.is s)
+  | in-Reference w ↦ subst (λ t. StateAfter c.args.style (replicate c.args.count (previous past) ++ past) t c.args.self.now.last) (sym w.table-is)
+      (state_unput c.args.style c.args.count past c.args.table.now c.args.self.now.last w.in-Reference.is s)
   | in-Tight w ↦ (let tight : StateAfter Tight past c.args.table.now c.args.self.now.last = rw w.in-Tight.is at s in
-      subst (λ t. StateAfter c.args.style (replicate c.args.count (previous past) ++ past) t c.args.self.now.last) (sym w.table-is) (rw w.in-Tight.is (state_put_some c.args.count past c.args.table.now w.put_if.new.self c.args.self.now.last w.put_if.ensures.puts w.put_if.ensures.stays tight)))
+      subst (λ t. StateAfter c.args.style (replicate c.args.count (previous past) ++ past) t c.args.self.now.last) (sym w.table-is)
+      (rw w.in-Tight.is
+      (state_put_some c.args.count past c.args.table.now w.put_if.new.self c.args.self.now.last w.put_if.ensures.puts w.put_if.ensures.stays tight)))
 ]
 
 pub returns-clause-style : goal.returns-clause-style
