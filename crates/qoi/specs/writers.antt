@@ -1,5 +1,5 @@
 -- What a writer's calls promise, and the writers' words.
 pub mod Behind
-pub mod Buffer
-pub mod Stream
+pub mod BytesMut
+pub mod GenericWriter
 pub mod Writes

@@ -52,7 +52,7 @@ pub struct BytesMut<'a> {
 }
 
 impl<'a> BytesMut<'a> {
-    ghost use Rattle.qoi.specs.writers.Buffer.{BufferWrote, buffer_name, written_bytes, bytes_left};
+    ghost use Rattle.qoi.specs.writers.BytesMut.{BufferWrote, buffer_name, written_bytes, bytes_left};
 
     /// A writer over the whole buffer, in which nothing is written yet.
     #[inline]
@@ -95,7 +95,7 @@ pub(crate) fn copy_behind(buf: &mut [u8], written: usize, v: &[u8]) -> usize
 }
 
 impl<'a> Writer for BytesMut<'a> {
-    ghost use Rattle.qoi.specs.writers.Buffer.{BufferWrote, bytes_left, buffer_laws};
+    ghost use Rattle.qoi.specs.writers.BytesMut.{BufferWrote, bytes_left, buffer_laws};
 
     ghost wrote = { BufferWrote };
 
@@ -131,7 +131,7 @@ pub struct GenericWriter<'a, W> {
 }
 
 impl<'a, W: Write> GenericWriter<'a, W> {
-    ghost use Rattle.qoi.specs.writers.Stream.{stream_name, stream_writer, stream_room};
+    ghost use Rattle.qoi.specs.writers.GenericWriter.{stream_name, stream_writer, stream_room};
 
     /// A writer that can still take the greatest `usize` of bytes.
     pub fn new(writer: &'a mut W) -> GenericWriter<'a, W>
@@ -147,7 +147,7 @@ impl<'a, W: Write> GenericWriter<'a, W> {
 }
 
 impl<'a, W: Write> Writer for GenericWriter<'a, W> {
-    ghost use Rattle.qoi.specs.writers.Stream.{StreamWrote, stream_room, stream_laws};
+    ghost use Rattle.qoi.specs.writers.GenericWriter.{StreamWrote, stream_room, stream_laws};
 
     ghost wrote = { StreamWrote W.contents };
 

@@ -1,7 +1,7 @@
 -- A buffer that bytes were written to from the front.
 use Rattle.std.proofs.Common.{◌≡◌, ℕ, List, [], ◌++◌, length, drop, sym, ap, ◌∙◌, take-append-drop}
 use Rattle.qoi.specs.declared.utils.BytesMut.{BytesMut}
-use Rattle.qoi.specs.writers.Buffer.{BufferWrote, written_bytes, bytes_left}
+use Rattle.qoi.specs.writers.BytesMut.{BufferWrote, written_bytes, bytes_left}
 
 -- the bytes stand at its front, and all later ones are as before
 pub buffer_filled : (s t : BytesMut) (old bytes : List ℕ) (n : ℕ) → written_bytes s ≡ [] → bytes_left s ≡ old → BufferWrote s bytes t → n ≡ length bytes

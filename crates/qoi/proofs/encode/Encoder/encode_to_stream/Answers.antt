@@ -4,7 +4,7 @@ use Rattle.std.specs.Io.KnownBytes.{Appends}
 use Rattle.std.proofs.lemmas.Result.{err_from_is_err_and}
 use Rattle.qoi.specs.EncoderState.{EncoderState}
 use Rattle.qoi.specs.Encoded.{IsFileOf}
-use Rattle.qoi.specs.writers.Stream.{stream_writer}
+use Rattle.qoi.specs.writers.GenericWriter.{stream_writer}
 use Rattle.qoi.proofs.FileOf.{shortest_is_least, places_length}
 use Rattle.qoi.proofs.encoding.StreamSent.{appends_as}
 use Rattle.qoi.proofs.encode.Encoder.encode_to_stream.Goals as goal

@@ -1,7 +1,7 @@
 -- What a write took moves from the rest to what is written.
 use Rattle.std.proofs.Common.{◌≡◌, ◌+◌, ◌-◌, ◌++◌, length, take, drop, refl, sym, ap, ◌∙◌, append_assoc, take-append-drop, arith, length-append}
 use Rattle.std.proofs.lemmas.List.{take_rest, length-take-le}
-use Rattle.qoi.specs.writers.Stream.{stream_laws}
+use Rattle.qoi.specs.writers.GenericWriter.{stream_laws}
 use Rattle.qoi.proofs.utils.GenericWriterWriter.write_many.Goals as goal
 
 pub loop-rest-preserved : goal.loop-rest-preserved

@@ -1,7 +1,7 @@
 -- All but the rest of the bytes is written.
 use Rattle.std.proofs.Common.{length}
 use Rattle.qoi.specs.writers.Writes.{WroteBut}
-use Rattle.qoi.specs.writers.Stream.{StreamWrote}
+use Rattle.qoi.specs.writers.GenericWriter.{StreamWrote}
 use Rattle.qoi.proofs.utils.GenericWriterWriter.write_many.Given as goal
 
 abbrev pub invariant-loop-rest : goal.invariant-loop-rest
