@@ -1,6 +1,6 @@
 //! What both loops put into the output: the pixels of chunks.
 ghost use Rattle.std.specs.Prelude.{◌≡◌, ℕ, ◌+◌, ◌*◌, ◌/◌, ◌%◌, ◌<◌, ◌≤◌, [], ◌∷◌, ◌++◌, length, take, drop, replicate, nat_le, nat_lt, ◌&&◌};
-ghost use Rattle.qoi.specs.Qoi.{Past, seen, after_diff, after_luma};
+ghost use Rattle.qoi.specs.Qoi.{Past, run_max, seen, after_diff, after_luma};
 ghost use Rattle.qoi.specs.Raw.{IsChannels, pixel_bytes, output};
 ghost use Rattle.qoi.specs.inner.Filling.{HasFilled, IsWholePixels, GivesChunk, filling};
 ghost use Rattle.qoi.specs.inner.Table.{Holds};
@@ -118,7 +118,7 @@ fn fill<const N: usize, const F: usize>(
     requires channels { IsChannels N }
     requires whole { IsWholePixels N (length out.old) at }
     requires within { at ≤ length out.old }
-    requires short { count ≤ 62 }
+    requires short { count ≤ run_max }
     ensures filled { (n : ℕ) (past : Past) → HasFilled F N n out.old at past
         → HasFilled F N n out.new result (replicate count px ++ past) }
     ensures whole { result % N ≡ 0 }
@@ -170,7 +170,7 @@ fn give_run<const N: usize, const F: usize>(
     requires channels { IsChannels N }
     requires whole { IsWholePixels N (length out.old) at }
     requires inside { at < length out.old }
-    requires some { (0 < count) × (count ≤ 62) }
+    requires some { (0 < count) × (count ≤ run_max) }
     ensures table { (past : Past) → Holds table.old past
         → Holds table.new (replicate count last ++ past) }
     ensures filled { (n : ℕ) (past : Past) → HasFilled F N n out.old at past

@@ -4,7 +4,7 @@ ghost use lib.Lanes.{mask_l, zip2};
 ghost use Rattle.std.specs.Prelude.{◌≡◌, ◌≢◌, ℕ, ◌+◌, ◌*◌, ◌/◌, ◌%◌, ◌<◌, ◌≤◌, ◌↔◌, IsTrue, nat_eq, List, [], ◌∷◌, ◌++◌, Option, None, Some, length, take, drop, replicate, slice_get, slice_index, OnOk, IfErr};
 ghost use Rattle.qoi.specs.declared.chunk.Chunk.{Chunk};
 ghost use Rattle.qoi.specs.declared.encode.piece.TheConstants.{PIECE};
-ghost use Rattle.qoi.specs.Qoi.{RgbaPixel, Past, start, previous, seen, hash, IsChunk, bytes_of, text, channels_number};
+ghost use Rattle.qoi.specs.Qoi.{RgbaPixel, Past, run_max, start, previous, seen, hash, IsChunk, bytes_of, text, channels_number};
 ghost use Rattle.qoi.specs.Raw.{IsChannels, pixels_of};
 ghost use Rattle.qoi.specs.Runs.{IsCount, runs};
 ghost use Rattle.qoi.specs.Written.{IsFirst};
@@ -230,7 +230,7 @@ impl Coder {
         requires opaque { N ≡ 3 → self.old.last.a ≡ 255 }
         requires room { at + 17 ≤ length out.old }
         ensures same { length out.new ≡ length out.old }
-        ensures within { result.0 ≤ at + result.1 / 62 + 1 }
+        ensures within { result.0 ≤ at + result.1 / run_max + 1 }
         ensures inside { N * result.1 ≤ length «data».now }
         ensures most { result.1 ≤ 992 }
         ensures last { self.new.last ≡ self.old.last }

@@ -3,7 +3,7 @@ ghost use lib.Lanes.{digits_l};
 ghost use Rattle.std.specs.Prelude.{◌≡◌, ◌+◌, ◌/◌, ◌^◌, ◌<◌, ◌≤◌, [], ◌∷◌, ◌++◌, length, take, drop, OnOk, IfErr};
 ghost use Rattle.qoi.specs.declared.chunk.Chunk.{Chunk};
 ghost use Rattle.qoi.specs.declared.encode.piece.TheConstants.{PIECE, ROOM};
-ghost use Rattle.qoi.specs.Qoi.{bytes_of, text};
+ghost use Rattle.qoi.specs.Qoi.{run_max, bytes_of, text};
 ghost use Rattle.qoi.specs.Raw.{IsChannels};
 ghost use Rattle.qoi.specs.Runs.{runs_by};
 ghost use Rattle.qoi.specs.writers.Writes.{WroteSome};
@@ -115,7 +115,7 @@ pub(crate) fn put_chunk<const N: usize>(
 #[inline(always)]
 pub(super) fn put_run(out: &mut [u8], at: usize, count: usize, one: u8) -> usize
     requires room { at < length out.old }
-    requires few { count < 62 }
+    requires few { count < run_max }
     ensures same { length out.new ≡ length out.old }
     ensures within { result ≤ at + 1 }
     ensures written { (c : Chunk) → bytes_of c ≡ one ∷ []
@@ -132,7 +132,7 @@ pub(super) fn put_runs(out: &mut [u8], at: usize, count: usize, one: u8) -> usiz
     requires room { at + 17 ≤ length out.old }
     requires few { count ≤ 992 }
     ensures same { length out.new ≡ length out.old }
-    ensures within { result ≤ at + count / 62 + 1 }
+    ensures within { result ≤ at + count / run_max + 1 }
     ensures written { (c : Chunk) → bytes_of c ≡ one ∷ []
         → take result out.new ≡ take at out.old ++ text (runs_by c count) }
 {
