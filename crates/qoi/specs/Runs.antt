@@ -9,21 +9,13 @@ pub record IsCount (p : RgbaPixel) (pixels : List RgbaPixel) (count : ℕ) : Typ
   pub same : pixels ≡ replicate count p ++ drop count pixels
   pub other : slice_get pixels count ≢ Some p
 
--- a run of so many repeats, or no chunk where there is none
-abbrev pub last_run : ℕ → List Chunk
-last_run zero = []
-last_run (suc n) = Run (suc n) ∷ []
-
--- the chunks of a group of so many repeats: runs of 62, and a run of the rest
-unfoldable pub runs : ℕ → List Chunk
-runs n = replicate (n / run_max) (Run run_max) ++ last_run (n % run_max)
-
--- a run of so many repeats, or the chunk `one` where it is a single one, or no chunk where there is none
+-- A run of so many repeats, or no chunk where there is none. A single repeat is given by the chunk `one`, which may be a
+-- run of 1.
 abbrev pub last_by : Chunk → ℕ → List Chunk
 last_by one zero = []
 last_by one (suc zero) = one ∷ []
 last_by one (suc (suc n)) = Run (suc (suc n)) ∷ []
 
--- the chunks of a group of so many repeats, a rest of 1 by the chunk `one`
+-- the chunks of a group of so many repeats: runs of 62, and a run of the rest, but a rest of 1 by the chunk `one`
 unfoldable pub runs_by : Chunk → ℕ → List Chunk
 runs_by one n = replicate (n / run_max) (Run run_max) ++ last_by one (n % run_max)

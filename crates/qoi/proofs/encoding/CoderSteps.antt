@@ -9,7 +9,7 @@ use Rattle.qoi.specs.declared.encode.coder.Coder.{Coder}
 use Rattle.qoi.specs.declared.types.Style.{Style}
 use Rattle.qoi.specs.declared.types.Style.TheVariants.{Reference, Places, Tight}
 use Rattle.qoi.specs.Qoi.{AreBytes, RgbaPixel, IsPixel, Past, previous, hash, IsChunk, bytes_of, text}
-use Rattle.qoi.specs.Runs.{runs, runs_by}
+use Rattle.qoi.specs.Runs.{runs_by}
 use Rattle.qoi.specs.Written.{WrittenBy}
 use Rattle.qoi.specs.Styles.{some_fresh, names, choice_in, in_style}
 use Rattle.qoi.specs.inner.CoderState.{StateAfter, StyleAfter, rest_of_one, last_chunk}
@@ -67,7 +67,7 @@ module _ {w : Writing} {pixels : List RgbaPixel} {table : List RgbaPixel} {coder
       → (n % 62 ≡ 1 → ((rest ≡ []) × (one ≡ Run 1)) ⊎ ((rest ≢ []) × (one ≡ rest_of_one w.style coder.begun coder.placed coder.place n)))
       → next ≡ bytes ++ text (runs_by one n)
       → StateAfter w.style (replicate n (previous b.past) ++ b.past) next_table next_coder.last
-      → StyleAfter (replicate n (previous b.past) ++ b.past) (last_chunk b.before (runs n)) next_coder.place next_coder.begun next_coder.placed
+      → StyleAfter (replicate n (previous b.past) ++ b.past) (last_chunk b.before (runs_by (Run 1) n)) next_coder.place next_coder.begun next_coder.placed
       → CoderBetween w rest next_table next_coder next
   runs_given n rest one {next_table} {next_coder} {next} split ends one_is written state style_state =
       let ahead : pixels ≡ replicate n (previous b.past) ++ rest = split ∙ ap (λ p. replicate n p ++ rest) b.state.last_is in
@@ -80,10 +80,10 @@ module _ {w : Writing} {pixels : List RgbaPixel} {table : List RgbaPixel} {coder
       let single = λ (e : n % 62 ≡ 1). single_is e r.0 r.2 in
       record {
         past = replicate n (previous b.past) ++ b.past;
-        before = last_chunk b.before (runs n);
+        before = last_chunk b.before (runs_by (Run 1) n);
         todo = r.0;
         to_write = r.2;
-        ahead_is = bytes_next w.ahead bytes next (runs_by one n) (styled w.style (replicate n (previous b.past) ++ b.past) (last_chunk b.before (runs n)) r.0)
+        ahead_is = bytes_next w.ahead bytes next (runs_by one n) (styled w.style (replicate n (previous b.past) ++ b.past) (last_chunk b.before (runs_by (Run 1) n)) r.0)
             (b.ahead_is ∙ ap (λ cs. bytes ++ text (styled w.style b.past b.before cs)) r.1
             ∙ ap (λ cs. bytes ++ text cs) (styled_runs w.style b.past b.before n r.0 one single)) written;
         state = state;

@@ -6,7 +6,7 @@ use Rattle.std.specs.List.{AllByRecursion, slice_get}
 use Rattle.qoi.specs.declared.chunk.Chunk.{Chunk}
 use Rattle.qoi.specs.declared.chunk.Chunk.TheVariants.{Run}
 use Rattle.qoi.specs.Qoi.{RgbaPixel, IsPixel, Past, previous, IsChunk}
-use Rattle.qoi.specs.Runs.{last_run, runs}
+use Rattle.qoi.specs.Runs.{last_by, runs_by}
 use Rattle.qoi.specs.Written.{WrittenBy}
 use Rattle.qoi.specs.Styles.{fresh_next}
 pub use Rattle.qoi.specs.inner.CoderLoop.{StillToWrite}
@@ -18,14 +18,14 @@ use Rattle.qoi.proofs.encoding.WrittenExists.{is_pixel_start, written_on}
 use Rattle.qoi.proofs.encoding.WrittenOnce.{unique_by}
 
 -- no repeats have no runs
-pub runs_none : runs 0 ≡ []
-unfolding runs
+pub runs_none : runs_by (Run 1) 0 ≡ []
+unfolding runs_by
 runs_none = refl
 
 -- a group without a rest is full runs
-runs_full : (n : ℕ) → n % 62 ≡ 0 → runs n ≡ replicate (n / 62) (Run 62)
-unfolding runs
-runs_full n e = ap (λ r. replicate (n / 62) (Run 62) ++ last_run r) e ∙ append-nil (replicate (n / 62) (Run 62))
+runs_full : (n : ℕ) → n % 62 ≡ 0 → runs_by (Run 1) n ≡ replicate (n / 62) (Run 62)
+unfolding runs_by
+runs_full n e = ap (λ r. replicate (n / 62) (Run 62) ++ last_by (Run 1) r) e ∙ append-nil (replicate (n / 62) (Run 62))
 
 module _ (Choice : Past → RgbaPixel → Chunk → Type 0) (choices : Chooses Choice) where
   -- before the first pixel all is still to be written
@@ -45,12 +45,12 @@ module _ (Choice : Past → RgbaPixel → Chunk → Type 0) (choices : Chooses C
 
   -- the runs of a group behind a list, which a run may follow if there are repeats at all
   group_runs : (n : ℕ) (past : Past) (cs : List Chunk) → WrittenBy Choice (reverse past) cs → (0 < n → TakesRun cs)
-      → WrittenBy Choice (reverse (replicate n (previous past) ++ past)) (cs ++ runs n)
+      → WrittenBy Choice (reverse (replicate n (previous past) ++ past)) (cs ++ runs_by (Run 1) n)
   group_runs zero past cs w takes = subst (WrittenBy Choice (reverse past)) (sym (ap (λ x. cs ++ x) runs_none ∙ append-nil cs)) w
   group_runs (suc n) past cs w takes = written_runs Choice past (suc n) cs w (takes (omega arith))
 
   -- a run may follow runs that are full
-  full_take : (n : ℕ) (past : Past) (cs : List Chunk) → n % 62 ≡ 0 → WrittenBy Choice (reverse past) cs → TakesRun cs → TakesRun (cs ++ runs n)
+  full_take : (n : ℕ) (past : Past) (cs : List Chunk) → n % 62 ≡ 0 → WrittenBy Choice (reverse past) cs → TakesRun cs → TakesRun (cs ++ runs_by (Run 1) n)
   full_take n past cs e w takes = subst (λ x. TakesRun (cs ++ x)) (sym (runs_full n e)) (full_runs Choice (n / 62) past (previous past) cs refl w takes).1
 
   module _ {image : List RgbaPixel} {cs : List Chunk} {past : Past} {rest : List RgbaPixel} {todo : List Chunk}
@@ -127,7 +127,7 @@ module _ (Choice : Past → RgbaPixel → Chunk → Type 0) (choices : Chooses C
     goes_on (suc n) e = refl
 
     -- the runs of the group are written
-    group_written : WrittenBy Choice (reverse group) (w.done ++ runs n)
+    group_written : WrittenBy Choice (reverse group) (w.done ++ runs_by (Run 1) n)
     group_written = group_runs n past w.done w.written (λ some. w.takes_run (starts n some))
 
     -- the pixels behind the group are pixels, and so is the one before them
@@ -138,23 +138,23 @@ module _ (Choice : Past → RgbaPixel → Chunk → Type 0) (choices : Chooses C
     before_is = subst IsPixel (sym (previous_repeats n past)) w.before
 
     -- behind the group, where no repeat of it is next
-    ended : (left : List Chunk) → (slice_get rest 0 ≢ Some (previous past)) → WrittenBy Choice (reverse group ++ rest) ((w.done ++ runs n) ++ left)
-        → (todo ≡ runs n ++ left) × StillToWrite Choice image cs group rest left
-    ended left other all = next w group rest (runs n) left image_is before_is behind_are group_written
+    ended : (left : List Chunk) → (slice_get rest 0 ≢ Some (previous past)) → WrittenBy Choice (reverse group ++ rest) ((w.done ++ runs_by (Run 1) n) ++ left)
+        → (todo ≡ runs_by (Run 1) n ++ left) × StillToWrite Choice image cs group rest left
+    ended left other all = next w group rest (runs_by (Run 1) n) left image_is before_is behind_are group_written
         (λ same. absurd (other (same ∙ ap (λ p. Some p) (previous_repeats n past)))) all
 
     -- The runs of a group are next, where no further repeat follows or they are full.
     pub runs_next : (slice_get rest 0 ≢ Some (previous past)) ⊎ (n % 62 ≡ 0)
-        → (left : List Chunk) × (todo ≡ runs n ++ left) × StillToWrite Choice image cs group rest left
+        → (left : List Chunk) × (todo ≡ runs_by (Run 1) n ++ left) × StillToWrite Choice image cs group rest left
     runs_next ends = by_rest rest refl
       where
-        by_rest : (pixels : List RgbaPixel) → rest ≡ pixels → (left : List Chunk) × (todo ≡ runs n ++ left) × StillToWrite Choice image cs group rest left
+        by_rest : (pixels : List RgbaPixel) → rest ≡ pixels → (left : List Chunk) × (todo ≡ runs_by (Run 1) n ++ left) × StillToWrite Choice image cs group rest left
         by_rest [] none =
             let other : slice_get rest 0 ≢ Some (previous past) = λ e.
             absurd (let no : slice_get {X = RgbaPixel} [] 0 ≡ Some (previous past) = sym (ap (λ x. slice_get x 0) none) ∙ e in cc) in
             let whole : reverse group ≡ reverse group ++ rest = sym (append-nil (reverse group)) ∙ ap (λ x. reverse group ++ x) (sym none) in
-            let r = ended [] other (subst (λ x. WrittenBy Choice x ((w.done ++ runs n) ++ [])) whole
-            (subst (WrittenBy Choice (reverse group)) (sym (append-nil (w.done ++ runs n))) group_written)) in
+            let r = ended [] other (subst (λ x. WrittenBy Choice x ((w.done ++ runs_by (Run 1) n) ++ [])) whole
+            (subst (WrittenBy Choice (reverse group)) (sym (append-nil (w.done ++ runs_by (Run 1) n))) group_written)) in
             ([], r.0, r.1)
         by_rest (p ∷ more) ahead = by_next (cases_pixel p (previous past))
           where
@@ -164,17 +164,17 @@ module _ (Choice : Past → RgbaPixel → Chunk → Type 0) (choices : Chooses C
             first : slice_get rest 0 ≡ Some p
             first = ap (λ x. slice_get x 0) ahead
 
-            by_next : (p ≡ previous past) ⊎ (p ≢ previous past) → (left : List Chunk) × (todo ≡ runs n ++ left) × StillToWrite Choice image cs group rest left
+            by_next : (p ≡ previous past) ⊎ (p ≢ previous past) → (left : List Chunk) × (todo ≡ runs_by (Run 1) n ++ left) × StillToWrite Choice image cs group rest left
             by_next (inr other) =
                 let differs : p ≢ previous group = λ e. other (e ∙ previous_repeats n past) in
                 let c = choices.some group p before_is are.0 differs in
-                let one = written_fresh Choice group (w.done ++ runs n) p c.0 group_written differs c.1 (choices.no_run group p c.0 c.2)
+                let one = written_fresh Choice group (w.done ++ runs_by (Run 1) n) p c.0 group_written differs c.1 (choices.no_run group p c.0 c.2)
                 (choices.gives group p c.0 c.2) c.2 in
-                let all = written_on Choice choices more (p ∷ group) 0 ((w.done ++ runs n) ++ c.0 ∷ []) one.0 one.1 are.0 are.1 in
+                let all = written_on Choice choices more (p ∷ group) 0 ((w.done ++ runs_by (Run 1) n) ++ c.0 ∷ []) one.0 one.1 are.0 are.1 in
                 let pixels : reverse (p ∷ group) ++ more ≡ reverse group ++ rest = ap (λ x. x ++ more) (reverse-append (p ∷ []) group)
                 ∙ append_assoc (reverse group) (p ∷ []) more ∙ ap (λ x. reverse group ++ x) (sym ahead) in
-                let list = subst (λ x. WrittenBy Choice x ((w.done ++ runs n) ++ c.0 ∷ all.0)) pixels
-                (subst (WrittenBy Choice (reverse (p ∷ group) ++ more)) (append_assoc (w.done ++ runs n) (c.0 ∷ []) all.0) all.1) in
+                let list = subst (λ x. WrittenBy Choice x ((w.done ++ runs_by (Run 1) n) ++ c.0 ∷ all.0)) pixels
+                (subst (WrittenBy Choice (reverse (p ∷ group) ++ more)) (append_assoc (w.done ++ runs_by (Run 1) n) (c.0 ∷ []) all.0) all.1) in
                 let r = ended (c.0 ∷ all.0) (λ e. other (some_same (sym first ∙ e))) list in
                 (c.0 ∷ all.0, r.0, r.1)
               where
@@ -186,10 +186,10 @@ module _ (Choice : Past → RgbaPixel → Chunk → Type 0) (choices : Chooses C
                 again = first ∙ ap (λ q. Some q) same
 
                 by_end : (slice_get rest 0 ≢ Some (previous past)) ⊎ (n % 62 ≡ 0)
-                    → (left : List Chunk) × (todo ≡ runs n ++ left) × StillToWrite Choice image cs group rest left
+                    → (left : List Chunk) × (todo ≡ runs_by (Run 1) n ++ left) × StillToWrite Choice image cs group rest left
                 by_end (inl other) = absurd (other again)
                 by_end (inr full) =
                     let takes = full_take n past w.done full w.written (w.takes_run (goes_on n again)) in
-                    let all = written_on Choice choices rest group 0 (w.done ++ runs n) group_written takes before_is behind_are in
-                    let r = next w group rest (runs n) all.0 image_is before_is behind_are group_written (λ _. takes) all.1 in
+                    let all = written_on Choice choices rest group 0 (w.done ++ runs_by (Run 1) n) group_written takes before_is behind_are in
+                    let r = next w group rest (runs_by (Run 1) n) all.0 image_is before_is behind_are group_written (λ _. takes) all.1 in
                     (all.0, r.0, r.1)

@@ -6,7 +6,7 @@ use Rattle.qoi.specs.declared.chunk.Chunk.TheVariants.{Place, Diff, Luma, Run, R
 use Rattle.qoi.specs.declared.types.Style.{Style}
 use Rattle.qoi.specs.declared.types.Style.TheVariants.{Reference, Places, Tight}
 use Rattle.qoi.specs.Qoi.{RgbaPixel, Past, previous, hash, pixel_of, then_chunk}
-use Rattle.qoi.specs.Runs.{last_run, runs, last_by, runs_by}
+use Rattle.qoi.specs.Runs.{last_by, runs_by}
 use Rattle.qoi.specs.Styles.{is_run, fresh_next, has_pixel, some_fresh, names, place_for, placed_after, in_style}
 use Rattle.qoi.specs.inner.CoderState.{StyleAfter, rest_of_one, last_chunk}
 use Rattle.qoi.specs.inner.CoderLoop.{styled}
@@ -20,17 +20,6 @@ pub styled_whole : (style : Style) (cs : List Chunk) → in_style style cs ≡ s
 styled_whole Reference cs = refl
 styled_whole Places cs = refl
 styled_whole Tight cs = refl
-
--- a single rest by a run of 1
-pub last_by_run : (n : ℕ) → last_by (Run 1) n ≡ last_run n
-last_by_run zero = refl
-last_by_run (suc zero) = refl
-last_by_run (suc (suc n)) = refl
-
--- so all of the group is runs
-runs_by_run : (n : ℕ) → runs_by (Run 1) n ≡ runs n
-unfolding runs runs_by
-runs_by_run n = ap (λ x. replicate (n / 62) (Run 62) ++ x) (last_by_run (n % 62))
 
 -- the chunk before the rest of a group that has so many runs of 62
 abbrev before_rest : Option Chunk → ℕ → Option Chunk
@@ -109,7 +98,7 @@ WritesOne style past before n left one =
 -- the rest of a group behind its full runs
 rest_stays : (r : ℕ) (past : Past) (before : Option Chunk) (left : List Chunk) (one : Chunk)
     → (r ≡ 1 → ((left ≡ []) × (one ≡ Run 1)) ⊎ ((fresh_next left ≡ true) × (one ≡ single past before)))
-    → placed_after past before (last_run r ++ left) ≡ last_by one r ++ placed_after (replicate r (previous past) ++ past) (last_chunk before (last_run r)) left
+    → placed_after past before (last_by (Run 1) r ++ left) ≡ last_by one r ++ placed_after (replicate r (previous past) ++ past) (last_chunk before (last_by (Run 1) r)) left
 rest_stays zero past before left one is = refl
 rest_stays (suc (suc r)) past before left one is = ap (λ x. x ∷ placed_after (replicate (suc (suc r)) (previous past) ++ past)
     (Some (Run (suc (suc r)))) left) (long_stays r past before left)
@@ -125,10 +114,10 @@ rest_stays (suc zero) past before left one is = go (is refl)
 -- the chunks of a group of repeats, and what follows them
 pub styled_runs : (style : Style) (past : Past) (before : Option Chunk) (n : ℕ) (left : List Chunk) (one : Chunk)
     → (n % 62 ≡ 1 → WritesOne style past before n left one)
-    → styled style past before (runs n ++ left) ≡ runs_by one n ++ styled style (replicate n (previous past) ++ past) (last_chunk before (runs n)) left
-unfolding runs runs_by
-styled_runs Reference past before n left one is = ap (λ x. x ++ left) (sym (runs_by_run n) ∙ plain n one (λ e. elim (is e) [ inl p ↦ p.1 | inr p ↦ p.1 ]))
-styled_runs Tight past before n left one is = ap (λ x. x ++ left) (sym (runs_by_run n) ∙ plain n one (λ e. elim (is e) [ inl p ↦ p.1 | inr p ↦ p.1 ]))
+    → styled style past before (runs_by (Run 1) n ++ left) ≡ runs_by one n ++ styled style (replicate n (previous past) ++ past) (last_chunk before (runs_by (Run 1) n)) left
+unfolding runs_by
+styled_runs Reference past before n left one is = ap (λ x. x ++ left) (plain n one (λ e. elim (is e) [ inl p ↦ p.1 | inr p ↦ p.1 ]))
+styled_runs Tight past before n left one is = ap (λ x. x ++ left) (plain n one (λ e. elim (is e) [ inl p ↦ p.1 | inr p ↦ p.1 ]))
 styled_runs Places past before n left one is =
     let q = previous past in
     let k = n / 62 in
@@ -144,12 +133,12 @@ styled_runs Places past before n left one is =
       | inl p ↦ inl p
       | inr p ↦ inr (p.0, p.1 ∙ ap (rest_of_one Places (some_fresh past) (names before (hash q)) (hash q)) (sym whole) ∙ sym (single_is past before k))
     ]) in
-    ap (λ x. placed_after past before x) (append_assoc (replicate k (Run 62)) (last_run r) left)
-    ∙ full_stay k past before (last_run r ++ left)
+    ap (λ x. placed_after past before x) (append_assoc (replicate k (Run 62)) (last_by (Run 1) r) left)
+    ∙ full_stay k past before (last_by (Run 1) r ++ left)
     ∙ ap (λ x. replicate k (Run 62) ++ x) (rest_stays r end (before_rest before k) left one one_is
-    ∙ (λ i. last_by one r ++ placed_after (group i) (sym (last_fulls k before (last_run r)) i) left))
+    ∙ (λ i. last_by one r ++ placed_after (group i) (sym (last_fulls k before (last_by (Run 1) r)) i) left))
     ∙ sym (append_assoc (replicate k (Run 62)) (last_by one r)
-    (placed_after (replicate n q ++ past) (last_chunk before (replicate k (Run 62) ++ last_run r)) left))
+    (placed_after (replicate n q ++ past) (last_chunk before (replicate k (Run 62) ++ last_by (Run 1) r)) left))
 
 -- the chunk of a fresh pixel, and what follows it
 pub styled_chunk : (style : Style) (past : Past) (before : Option Chunk) (p : RgbaPixel) (c : Chunk) (left : List Chunk) → is_run c ≡ false
@@ -162,18 +151,19 @@ styled_chunk Places past before p c left other gives =
     ∙ ap (λ x. c ∷ placed_after x (Some c) left) (then_other past c other ∙ ap (λ x. x ∷ past) gives)
 
 -- behind repeats the last chunk is a run, and names no index position
-rest_names_none : (k r : ℕ) (before : Option Chunk) (i : ℕ) → 0 < k + r → names (last_chunk (before_rest before k) (last_run r)) i ≡ false
+rest_names_none : (k r : ℕ) (before : Option Chunk) (i : ℕ) → 0 < k + r → names (last_chunk (before_rest before k) (last_by (Run 1) r)) i ≡ false
 rest_names_none zero zero before i some = absurd (omega arith)
 rest_names_none (suc k) zero before i some = refl
-rest_names_none k (suc r) before i some = refl
+rest_names_none k (suc zero) before i some = refl
+rest_names_none k (suc (suc r)) before i some = refl
 
-pub runs_name_none : (n : ℕ) (before : Option Chunk) (i : ℕ) → 0 < n → names (last_chunk before (runs n)) i ≡ false
-unfolding runs
-runs_name_none n before i some = ap (λ b. names b i) (last_fulls (n / 62) before (last_run (n % 62))) ∙ rest_names_none (n / 62) (n % 62) before i (omega arith)
+pub runs_name_none : (n : ℕ) (before : Option Chunk) (i : ℕ) → 0 < n → names (last_chunk before (runs_by (Run 1) n)) i ≡ false
+unfolding runs_by
+runs_name_none n before i some = ap (λ b. names b i) (last_fulls (n / 62) before (last_by (Run 1) (n % 62))) ∙ rest_names_none (n / 62) (n % 62) before i (omega arith)
 
 -- so it is kept of repeats
 pub style_repeats : (n : ℕ) (past : Past) (before : Option Chunk) (place : ℕ) (begun placed : Bool) → StyleAfter past before place begun placed
-    → StyleAfter (replicate n (previous past) ++ past) (last_chunk before (runs n)) place begun (placed && nat_eq n 0)
+    → StyleAfter (replicate n (previous past) ++ past) (last_chunk before (runs_by (Run 1) n)) place begun (placed && nat_eq n 0)
 style_repeats zero past before place begun placed s = record {
   place_is = s.place_is;
   begun_is = s.begun_is;

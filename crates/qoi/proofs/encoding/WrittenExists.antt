@@ -6,7 +6,7 @@ use Rattle.std.specs.List.{AllByRecursion}
 use Rattle.qoi.specs.declared.chunk.Chunk.{Chunk}
 use Rattle.qoi.specs.declared.chunk.Chunk.TheVariants.{Place, Diff, Luma, Run, Rgb, Rgba}
 use Rattle.qoi.specs.Qoi.{RgbaPixel, IsPixel, Past, previous, start, hash, IsChunk, pixel_of}
-use Rattle.qoi.specs.Runs.{runs}
+use Rattle.qoi.specs.Runs.{runs_by}
 use Rattle.qoi.specs.Written.{noted, rank, IsFirst, IsChoice, WrittenBy}
 use Rattle.qoi.proofs.format.SamePixels.{cases_pixel, hash_below}
 use Rattle.qoi.proofs.encoding.NotedPixels.{noted_seen}
@@ -139,7 +139,7 @@ module _ (Choice : Past → RgbaPixel → Chunk → Type 0) (choices : Chooses C
   pub written_on : (rest : List RgbaPixel) (past : Past) (n : ℕ) (cs : List Chunk) → WrittenBy Choice (reverse past) cs → TakesRun cs
       → IsPixel (previous past) → AllByRecursion IsPixel rest
       → (more : List Chunk) × WrittenBy Choice (reverse (replicate n (previous past) ++ past) ++ rest) (cs ++ more)
-  written_on [] past n cs w takes before are = (runs n, rw (append-nil (reverse (replicate n (previous past) ++ past))) (written_runs Choice past n cs w takes))
+  written_on [] past n cs w takes before are = (runs_by (Run 1) n, rw (append-nil (reverse (replicate n (previous past) ++ past))) (written_runs Choice past n cs w takes))
   written_on (p ∷ rest) past n cs w takes before are =
       elim (cases_pixel p (previous past)) as (λ _. (more : List Chunk)
       × WrittenBy Choice (reverse (replicate n (previous past) ++ past) ++ p ∷ rest) (cs ++ more)) [
@@ -151,10 +151,10 @@ module _ (Choice : Past → RgbaPixel → Chunk → Type 0) (choices : Chooses C
             let same : previous group ≡ previous past = previous_repeats n past in
             let differs : p ≢ previous group = λ e. fresh (e ∙ same) in
             let c = choices.some group p (subst IsPixel (sym same) before) are.0 differs in
-            let next = written_fresh Choice group (cs ++ runs n) p c.0 (written_runs Choice past n cs w takes) differs c.1 (choices.no_run group p c.0 c.2)
+            let next = written_fresh Choice group (cs ++ runs_by (Run 1) n) p c.0 (written_runs Choice past n cs w takes) differs c.1 (choices.no_run group p c.0 c.2)
             (choices.gives group p c.0 c.2) c.2 in
-            let all = written_on rest (p ∷ group) 0 ((cs ++ runs n) ++ c.0 ∷ []) next.0 next.1 are.0 are.1 in
-            (runs n ++ c.0 ∷ all.0, fresh_joined p group rest cs (runs n) all.0 c.0 all.1)
+            let all = written_on rest (p ∷ group) 0 ((cs ++ runs_by (Run 1) n) ++ c.0 ∷ []) next.0 next.1 are.0 are.1 in
+            (runs_by (Run 1) n ++ c.0 ∷ all.0, fresh_joined p group rest cs (runs_by (Run 1) n) all.0 c.0 all.1)
       ]
 
   -- an image has a written list

@@ -5,7 +5,7 @@ use Rattle.std.specs.List.{AllByRecursion}
 use Rattle.qoi.specs.declared.chunk.Chunk.{Chunk}
 use Rattle.qoi.specs.declared.chunk.Chunk.TheVariants.{Place, Diff, Luma, Run, Rgb, Rgba}
 use Rattle.qoi.specs.Qoi.{RgbaPixel, Past, previous, IsChunk, AreChunks, pixel_of, then_chunks, Each}
-use Rattle.qoi.specs.Runs.{last_run, runs}
+use Rattle.qoi.specs.Runs.{last_by, runs_by}
 use Rattle.qoi.specs.Written.{IsRightAfter, IsFull, RunsAreFull, WrittenBy}
 use Rattle.qoi.specs.Styles.{is_run}
 use Rattle.qoi.proofs.format.ChunkSteps.{previous_repeats, repeats_after, right_from, full_other, full_before, then_other, then_chunks-append, each_append}
@@ -123,15 +123,18 @@ module _ (Choice : Past → RgbaPixel → Chunk → Type 0) where
 
   -- the last run of a group is written
   written_last : (k : ℕ) (past : Past) (cs : List Chunk) → k < 62 → WrittenBy Choice (reverse past) cs → TakesRun cs
-      → WrittenBy Choice (reverse (replicate k (previous past) ++ past)) (cs ++ last_run k)
+      → WrittenBy Choice (reverse (replicate k (previous past) ++ past)) (cs ++ last_by (Run 1) k)
   written_last zero past cs short w takes = rw (append-nil cs) w
-  written_last (suc k) past cs short w takes =
-      written_append past (replicate (suc k) (previous past) ++ past) cs (Run (suc k) ∷ []) w ((omega arith, omega arith), tt) refl (tt, tt) (takes (suc k))
+  written_last (suc zero) past cs short w takes =
+      written_append past (previous past ∷ past) cs (Run 1 ∷ []) w ((omega arith, omega arith), tt) refl (tt, tt) (takes 1)
+  written_last (suc (suc k)) past cs short w takes =
+      written_append past (replicate (suc (suc k)) (previous past) ++ past) cs (Run (suc (suc k)) ∷ []) w ((omega arith, omega arith), tt) refl (tt, tt)
+      (takes (suc (suc k)))
 
   -- the runs of a group are written
   pub written_runs : (past : Past) (n : ℕ) (cs : List Chunk) → WrittenBy Choice (reverse past) cs → TakesRun cs
-      → WrittenBy Choice (reverse (replicate n (previous past) ++ past)) (cs ++ runs n)
-  unfolding runs
+      → WrittenBy Choice (reverse (replicate n (previous past) ++ past)) (cs ++ runs_by (Run 1) n)
+  unfolding runs_by
   written_runs past n cs w takes =
       let q = previous past in
       let many = n / 62 * 62 in
@@ -142,7 +145,7 @@ module _ (Choice : Past → RgbaPixel → Chunk → Type 0) where
       let pixels : replicate (n % 62) (previous (replicate many q ++ past)) ++ (replicate many q ++ past) ≡ replicate n q ++ past
       = ap (λ p. replicate (n % 62) p ++ (replicate many q ++ past)) (previous_repeats many past) ∙ repeats_after (n % 62) many q past
       ∙ ap (λ k. replicate k q ++ past) count in
-      subst₂ (λ p c. WrittenBy Choice (reverse p) c) pixels (append_assoc cs (replicate (n / 62) (Run 62)) (last_run (n % 62))) all
+      subst₂ (λ p c. WrittenBy Choice (reverse p) c) pixels (append_assoc cs (replicate (n / 62) (Run 62)) (last_by (Run 1) (n % 62))) all
 
   -- a fresh pixel's chunk is written, and a run may follow
   pub written_fresh : (past : Past) (cs : List Chunk) (p : RgbaPixel) (c : Chunk) → WrittenBy Choice (reverse past) cs → p ≢ previous past → IsChunk c

@@ -6,7 +6,7 @@ ghost use Rattle.qoi.specs.declared.chunk.Chunk.{Chunk};
 ghost use Rattle.qoi.specs.declared.encode.piece.TheConstants.{PIECE};
 ghost use Rattle.qoi.specs.Qoi.{RgbaPixel, Past, run_max, start, previous, seen, hash, IsChunk, bytes_of, text, channels_number};
 ghost use Rattle.qoi.specs.Raw.{IsChannels, pixels_of};
-ghost use Rattle.qoi.specs.Runs.{IsCount, runs};
+ghost use Rattle.qoi.specs.Runs.{IsCount, runs_by};
 ghost use Rattle.qoi.specs.Written.{IsFirst};
 ghost use Rattle.qoi.specs.Styles.{choice_in, WrittenIn};
 ghost use Rattle.qoi.specs.writers.Writes.{WroteBut, WroteSome};
@@ -84,7 +84,7 @@ impl Coder {
         ensures style { (past : Past) (before : Option Chunk)
             → StyleAfter past before self.old.place self.old.begun self.old.placed
             → StyleAfter (replicate count (previous past) ++ past)
-            (last_chunk before (runs count)) self.new.place self.new.begun self.new.placed }
+            (last_chunk before (runs_by (Chunk.Run 1) count)) self.new.place self.new.begun self.new.placed }
     {
         match style {
             Style::Reference | Style::Places => {}
