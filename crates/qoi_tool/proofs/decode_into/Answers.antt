@@ -11,9 +11,15 @@ use Rattle.qoi_tool.specs.Transfers.{IsOutside, WritesBeginning}
 use Rattle.qoi_tool.proofs.decode_into.Goals as goal
 
 -- a file is refused for the bytes after its header
-refused_bytes : (input : List ℕ) (h k : Header) (bytes : List ℕ) (e : Error) → header_of input ≡ Ok h → k ≡ h → bytes ≡ drop header_size input → RefusesBytes (pixel_count k) bytes e → RefusesWholeFile input e
+refused_bytes : (input : List ℕ) (h k : Header) (bytes : List ℕ) (e : Error) → header_of input ≡ Ok h → k ≡ h → bytes ≡ drop header_size input
+    → RefusesBytes (pixel_count k) bytes e → RefusesWholeFile input e
 refused_bytes input h k bytes e read same after r =
-    inr (h, read, subst (λ (z : Header). RefusesBytes (pixel_count z) (drop header_size input) e) same (subst (λ (z : List ℕ). RefusesBytes (pixel_count k) z e) after r))
+    inr (
+      h,
+      read,
+      subst (λ (z : Header). RefusesBytes (pixel_count z) (drop header_size input) e) same
+          (subst (λ (z : List ℕ). RefusesBytes (pixel_count k) z e) after r),
+    )
 
 pub returns-in_err-pixels-clause-refused : goal.returns-in_err-pixels-clause-refused
 returns-in_err-pixels-clause-refused g c =
@@ -29,7 +35,8 @@ returns-in_err-pixels-clause-refused g c =
     (λ r. inl (
       c.in_ok-file.file.items,
       c.in_ok-file.ensures.read,
-      refused_bytes c.in_ok-file.file.items d.header chosen.header chosen.reader c.in_err-pixels.field-0.0 read (ap (λ (z : DecoderState (List ℕ)). z.header) same) after r.1,
+      refused_bytes c.in_ok-file.file.items d.header chosen.header chosen.reader c.in_err-pixels.field-0.0 read
+          (ap (λ (z : DecoderState (List ℕ)). z.header) same) after r.1,
       kept,
     ))
     c.in_err-pixels.ensures.refused)
@@ -43,7 +50,18 @@ returns-in_err-write_all-clause-refused g c =
     let read = subst (λ (z : List ℕ). header_of z ≡ Ok d.header) c.deref.ensures.value accepted.0 in
     let rest = c.decode_to_vec.new.self.reader in
     let out = c.in_ok-pixels.pixels.items in
-    let decoded = subst (λ (z : DecoderState (List ℕ)). ReadsImage (channels_number z.header.channels) (channels_number z.channels) (pixel_count z.header) (Some z.reader) (Some rest) out) c.with_channels-decoder.ensures c.in_ok-pixels.ensures.decoded in
-    let whole = subst (λ (z : List ℕ). ReadsImage (channels_number d.header.channels) (channels_number c.args.channels) (pixel_count d.header) (Some z) (Some rest) out) (accepted.2 ∙ ap (drop header_size) c.deref.ensures.value) decoded in
+    let decoded = subst (λ (z : DecoderState (List ℕ)). ReadsImage (channels_number z.header.channels) (channels_number z.channels) (pixel_count z.header)
+    (Some z.reader) (Some rest) out) c.with_channels-decoder.ensures c.in_ok-pixels.ensures.decoded in
+    let whole = subst (λ (z : List ℕ). ReadsImage (channels_number d.header.channels) (channels_number c.args.channels) (pixel_count d.header) (Some z)
+    (Some rest) out) (accepted.2 ∙ ap (drop header_size) c.deref.ensures.value) decoded in
     let failed = c.in_err-write_all.ensures.failed in
-    rw (p.1, p.2) (inr (inr (failed.0, (c.in_ok-file.file.items, out, c.in_ok-file.ensures.read, (d.header, rest, read, whole), subst (WritesBeginning _ _) c.deref-2.ensures.value failed.1))))
+    rw (p.1, p.2) (inr (inr (
+      failed.0,
+      (
+        c.in_ok-file.file.items,
+        out,
+        c.in_ok-file.ensures.read,
+        (d.header, rest, read, whole),
+        subst (WritesBeginning _ _) c.deref-2.ensures.value failed.1,
+      ),
+    )))

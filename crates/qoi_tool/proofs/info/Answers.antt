@@ -11,5 +11,15 @@ returns-clause-refused g c =
     let h = c.in_ok-header.header in
     let bytes = c.read_exact.new.buf in
     let size : length bytes ≡ 14 = c.in_ok-read_exact.ensures.size in
-    IfErr-weaker c.write_line.result _ (Stops Info (g.R.Read.remaining c.args.input.now) (g.R.Read.remaining c.read_exact.new.input) (g.W.Write.contents c.args.output.now) (g.W.Write.contents c.write_line.new.output))
-    (λ e failed. inr (inr (failed.0, (bytes, header_line h, (c.in_ok-read_exact.ensures.read, size), (h, sym c.in_ok-header.ensures, refl), failed.1)))) c.write_line.ensures.failed
+    IfErr-weaker c.write_line.result _ (Stops Info (g.R.Read.remaining c.args.input.now) (g.R.Read.remaining c.read_exact.new.input)
+    (g.W.Write.contents c.args.output.now) (g.W.Write.contents c.write_line.new.output))
+    (λ e failed. inr (inr (
+      failed.0,
+      (
+        bytes,
+        header_line h,
+        (c.in_ok-read_exact.ensures.read, size),
+        (h, sym c.in_ok-header.ensures, refl),
+        failed.1,
+      ),
+    ))) c.write_line.ensures.failed

@@ -12,6 +12,7 @@ returns c =
     let size : length c.copy_from_slice.new.self ≡ length bytes = ap length copied in
     record {
       reached = refl;
-      front = take-put_mid w (w + length bytes - w) buf c.copy_from_slice.new.self (w + length bytes) (omega arith) (omega (arith, c.requires)) ∙ ap (λ z. take w buf ++ z) copied;
+      front = take-put_mid w (w + length bytes - w) buf c.copy_from_slice.new.self (w + length bytes) (omega arith) (omega (arith, c.requires))
+          ∙ ap (λ z. take w buf ++ z) copied;
       later = drop-put_mid w (w + length bytes - w) buf c.copy_from_slice.new.self (w + length bytes) (omega arith) (omega (arith, c.requires)) (omega arith);
     }

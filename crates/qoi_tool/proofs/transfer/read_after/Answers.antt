@@ -7,7 +7,8 @@ use borrow.Rule.Slice.PartMut.{put_mid, post_of}
 use Rattle.qoi_tool.proofs.transfer.read_after.Goals as goal
 
 -- the front of a buffer after a read behind what was filled
-take-read : (filled n k : ℕ) (buf piece : List ℕ) → filled ≤ length buf → n ≤ length piece → take (filled + n) (put_mid filled k buf piece) ≡ take filled buf ++ take n piece
+take-read : (filled n k : ℕ) (buf piece : List ℕ) → filled ≤ length buf → n ≤ length piece
+    → take (filled + n) (put_mid filled k buf piece) ≡ take filled buf ++ take n piece
 take-read filled n k buf piece within fits =
     let size = length-take-le filled buf within in
     ap (λ z. take (z + n) (put_mid filled k buf piece)) (sym size) ∙ take-append-add (take filled buf) (piece ++ post_of filled k buf) n
@@ -20,5 +21,6 @@ returns-clause-read g c =
     let rest = post_of c.args.filled (length buf - c.args.filled) buf in
     let bound = c.in_ok-count.ensures.bound.0 in (
       omega (arith, bound, length-take-le c.args.filled buf c.requires, length-append (take c.args.filled buf) (piece ++ rest), length-append piece rest),
-      λ start before. rw (take-read c.args.filled c.in_ok-count.count (length buf - c.args.filled) buf piece c.requires bound) (Consumes-trans start _ _ _ _ before c.in_ok-count.ensures.bytes.0),
+      λ start before. rw (take-read c.args.filled c.in_ok-count.count (length buf - c.args.filled) buf piece c.requires bound)
+          (Consumes-trans start _ _ _ _ before c.in_ok-count.ensures.bytes.0),
     )

@@ -9,7 +9,8 @@ pub returns-clause-exact : goal.returns-clause-exact
 returns-clause-exact c = λ image cs w. style_length Tight image cs w ∙ tight_exact image w.list w.written
 
 pub returns-clause-shortest : goal.returns-clause-shortest
-returns-clause-shortest c = λ image cs others w covers. omega (arith, style_length Tight image cs w, tight_exact image w.list w.written, lower0 image others covers.0 covers.1)
+returns-clause-shortest c = λ image cs others w covers. omega
+    (arith, style_length Tight image cs w, tight_exact image w.list w.written, lower0 image others covers.0 covers.1)
 
 pub returns-clause-floors : goal.returns-clause-floors
 returns-clause-floors c = floor0_high

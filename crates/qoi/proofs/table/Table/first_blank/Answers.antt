@@ -14,7 +14,8 @@ returns-then-is_same-clause-first c = λ past holds.
 
 pub loop-place-preserved : goal.loop-place-preserved
 loop-place-preserved c = λ past holds.
-    let other : seen past c.loop-place.place ≢ blank = λ e. let no = sym (c.is_same.ensures.1 (c.at.ensures past holds ∙ e ∙ sym c.blank.ensures)) ∙ c.if-is_same.false in cc in
+    let other : seen past c.loop-place.place ≢ blank = λ e. let no = sym (c.is_same.ensures.1 (c.at.ensures past holds ∙ e ∙ sym c.blank.ensures))
+    ∙ c.if-is_same.false in cc in
     c.loop-place.invariant past holds ∙ blank_behind past c.loop-place.place c.loop-place-test.true other
 
 pub returns-clause-first : goal.returns-clause-first

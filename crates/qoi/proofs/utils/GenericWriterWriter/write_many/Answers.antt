@@ -14,6 +14,8 @@ loop-rest-preserved g c =
     omega (arith, taken, i.went.counted, c.requires, ap length i.split, length-append i.front rest, c.in_ok-count.ensures.bound) in
     record {
       front = i.front ++ take n rest;
-      split = i.split ∙ ap (λ z. i.front ++ z) (sym (take-append-drop n rest)) ∙ sym (append_assoc i.front (take n rest) (drop n rest)) ∙ ap (λ z. (i.front ++ take n rest) ++ z) (sym (take_rest rest n));
-      went = (stream_laws g.W.Write.contents).both _ _ _ i.front (take n rest) i.went (record { same_writer = refl; appended = c.in_ok-count.ensures.bytes; counted = counted });
+      split = i.split ∙ ap (λ z. i.front ++ z) (sym (take-append-drop n rest)) ∙ sym (append_assoc i.front (take n rest) (drop n rest))
+          ∙ ap (λ z. (i.front ++ take n rest) ++ z) (sym (take_rest rest n));
+      went = (stream_laws g.W.Write.contents).both _ _ _ i.front (take n rest) i.went
+          (record { same_writer = refl; appended = c.in_ok-count.ensures.bytes; counted = counted });
     }
