@@ -23,8 +23,8 @@ fn short_pixel(table: &Table, last: Spread, b1: u8, b2: u8) -> Spread
 {
     let more = pick(is_luma(b1), nibbles(b2), 0);
     let moved = last.moved(delta(b1) + more);
-    let noted = table.at(b1 % 64).spread();
-    pick(b1 < QOI_OP_DIFF, noted, moved)
+    let held = table.at(b1 % 64).spread();
+    pick(b1 < QOI_OP_DIFF, held, moved)
 }
 
 // Whether a chunk with this first byte is a luma.
