@@ -1,4 +1,5 @@
 -- Lemmas on decoding.
+pub mod Ahead
 pub mod Blocks
 pub mod Deltas
 pub mod FilledBuffer

@@ -6,6 +6,7 @@ pub mod Raw
 pub mod Verdicts
 pub mod Decoding
 pub mod DecoderState
+pub mod Reading
 -- What is written, and the file of an image.
 pub mod Runs
 pub mod Written

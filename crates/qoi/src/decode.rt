@@ -1,5 +1,5 @@
 //! Decoding, from slices and from streams.
-ghost use Rattle.std.specs.Prelude.{◌≡◌, ℕ, ◌*◌, ◌<◌, ◌≤◌, List, ◌++◌, length, take, drop, Option, Some, MatchResult, IfOk, IfErr, IsOk, IsErrOf, IsOkUnless, ◌⊎◌, true, false, Ok, Err};
+ghost use Rattle.std.specs.Prelude.{◌≡◌, ℕ, ◌*◌, ◌<◌, ◌≤◌, List, [], ◌++◌, length, take, drop, Option, Some, MatchResult, IfOk, IfErr, OnOk, IsOk, IsOkAnd, IsErrOf, IsOkUnless, ◌⊎◌, true, false, Ok, Err};
 ghost use Rattle.qoi.specs.declared.chunk.Chunk.{Chunk};
 ghost use Rattle.qoi.specs.declared.header.Header.{Header};
 ghost use Rattle.qoi.specs.declared.error.Error.{Error};
@@ -9,6 +9,7 @@ ghost use Rattle.qoi.specs.Decoding.{CouldHold, least_byte_count, ReadsHeader, R
 ghost use Rattle.qoi.specs.declared.types.Style.{Style};
 ghost use Rattle.qoi.specs.Encoded.{IsFileOf};
 ghost use Rattle.qoi.specs.DecoderState.{image_byte_count, DecodesImage, RefusesDecoding, TakesWithin};
+ghost use Rattle.qoi.specs.Reading.{IsFault, IsImageFor, IsLeft};
 
 mod deltas;
 mod pixels;
@@ -140,6 +141,20 @@ impl<'a> Decoder<Bytes<'a>> {
     pub fn new(data: &'a [u8]) -> Result<Decoder<Bytes<'a>>>
         ensures accepted { IfOk result (λ d. (header_of «data».entry.now ≡ Ok d.header)
             × (d.channels ≡ d.header.channels) × (d.reader ≡ drop header_size «data».entry.now)) }
+        // Of the file of an image, in each style, the decoder has the header, and the image stands
+        // ahead; so it does where other bytes follow the file.
+        ensures comes_back { (h : Header) (raw : List ℕ)
+            → IsFileOf Style.Reference h raw «data».entry.now
+            → IsOkAnd result (λ d. (d.header ≡ h)
+            × IsImageFor d (drop header_size «data».entry.now) raw []) }
+        ensures comes_back_in { (style : Style) (h : Header) (raw : List ℕ)
+            → IsFileOf style h raw «data».entry.now
+            → IsOkAnd result (λ d. (d.header ≡ h)
+            × IsImageFor d (drop header_size «data».entry.now) raw []) }
+        ensures followed { (style : Style) (h : Header) (raw bytes rest : List ℕ)
+            → IsFileOf style h raw bytes → «data».entry.now ≡ bytes ++ rest
+            → IsOkAnd result (λ d. (d.header ≡ h)
+            × IsImageFor d (drop header_size «data».entry.now) raw rest) }
         ensures refused { IfErr result (λ e. header_of «data».entry.now ≡ Err e) }
     {
         let mut reader = Bytes::new(data);
@@ -174,6 +189,20 @@ impl<R: Read + Drop> Decoder<R> {
         ensures accepted { IfOk result (λ d. ReadsHeader false (R.remaining reader)
             (R.remaining d.reader) (Ok d.header)
             × (d.channels ≡ d.header.channels)) }
+        // Where the file of an image stands ahead of the reader, the decoder has its header, and the
+        // image stands ahead; so it does where other bytes follow the file.
+        ensures behind { (bytes : List ℕ) → R.remaining reader ≡ Some bytes
+            → IfOk result (λ d. R.remaining d.reader ≡ Some (drop header_size bytes)) }
+        ensures comes_back { (h : Header) (raw bytes : List ℕ)
+            → IsFileOf Style.Reference h raw bytes → R.remaining reader ≡ Some bytes
+            → IfOk result (λ d. (d.header ≡ h) × IsImageFor d (drop header_size bytes) raw []) }
+        ensures comes_back_in { (style : Style) (h : Header) (raw bytes : List ℕ)
+            → IsFileOf style h raw bytes → R.remaining reader ≡ Some bytes
+            → IfOk result (λ d. (d.header ≡ h) × IsImageFor d (drop header_size bytes) raw []) }
+        ensures followed { (style : Style) (h : Header) (raw bytes rest : List ℕ)
+            → IsFileOf style h raw bytes → R.remaining reader ≡ Some (bytes ++ rest)
+            → IfOk result (λ d. (d.header ≡ h)
+            × IsImageFor d (drop header_size (bytes ++ rest)) raw rest) }
         ensures refused { IfErr result (λ e. (left : Option (List ℕ))
             × ReadsHeader false (R.remaining reader) left (Err e)) }
     {
@@ -283,6 +312,15 @@ impl<R: Reader> Decoder<R> {
             → R.ahead self.old.reader ≡ Some bytes
             → IsWhole (pixel_count self.old.header) bytes cs rest
             → image_byte_count self.old ≤ length buf.old → IsOk result }
+        // The image that stands ahead is decoded, and what follows it is left.
+        ensures image { (bytes raw rest : List ℕ) → IsImageFor self.old bytes raw rest
+            → R.ahead self.old.reader ≡ Some bytes → IfOk result (λ size. take size buf.new ≡ raw) }
+        ensures left { (bytes raw rest : List ℕ) → IsImageFor self.old bytes raw rest
+            → R.ahead self.old.reader ≡ Some bytes
+            → OnOk result (IsLeft (R.ahead self.new.reader) rest) }
+        ensures faults { (bytes raw rest : List ℕ) → IsImageFor self.old bytes raw rest
+            → R.ahead self.old.reader ≡ Some bytes → image_byte_count self.old ≤ length buf.old
+            → IfErr result (IsFault R.in_memory) }
         ensures later { drop (image_byte_count self.old) buf.new
             ≡ drop (image_byte_count self.old) buf.old }
         ensures kept { self.new ≡ record self.old { reader = self.new.reader } }
@@ -326,6 +364,15 @@ impl<R: Reader> Decoder<R> {
             → R.ahead self.old.reader ≡ Some bytes
             → IsWhole (pixel_count self.old.header) bytes cs rest
             → IsOkUnless result Error.OutOfMemory }
+        // The image that stands ahead is decoded, and what follows it is left.
+        ensures image { (bytes raw rest : List ℕ) → IsImageFor self.old bytes raw rest
+            → R.ahead self.old.reader ≡ Some bytes → IfOk result (λ out. out.items ≡ raw) }
+        ensures left { (bytes raw rest : List ℕ) → IsImageFor self.old bytes raw rest
+            → R.ahead self.old.reader ≡ Some bytes
+            → OnOk result (IsLeft (R.ahead self.new.reader) rest) }
+        ensures faults { (bytes raw rest : List ℕ) → IsImageFor self.old bytes raw rest
+            → R.ahead self.old.reader ≡ Some bytes
+            → IfErr result (λ e. (e ≡ Error.OutOfMemory) ⊎ IsFault R.in_memory e) }
         ensures kept { self.new ≡ record self.old { reader = self.new.reader } }
         // Of n pixels a call takes at most 5n + 8 bytes, also where it refuses.
         ensures bounded { TakesWithin R.ahead self.old self.new }

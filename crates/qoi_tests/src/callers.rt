@@ -1,5 +1,5 @@
 //! A caller for each way of using the library, proved by the contracts of its public calls alone.
-ghost use Rattle.std.specs.Prelude.{◌≡◌, ℕ, ◌+◌, ◌≤◌, ◌++◌, List, Option, Some, Ok, IfOk, OnOk, IfErr, length, drop, false};
+ghost use Rattle.std.specs.Prelude.{◌≡◌, ℕ, ◌+◌, ◌*◌, ◌≤◌, ◌++◌, List, Option, Some, Ok, IfOk, OnOk, IfErr, length, drop, false};
 ghost use Rattle.std.specs.Io.KnownBytes.{Appends, Consumes};
 ghost use Rattle.qoi.specs.declared.header.Header.{Header};
 ghost use Rattle.qoi.specs.declared.types.Style.TheVariants.{Reference, Tight};
@@ -358,4 +358,27 @@ pub fn all_images(alloc: Global, bytes: &[u8], images: &mut Vec<Vec<u8>>) -> Res
         rest = &rest[rest.len() - left..];
     }
     Ok(())
+}
+
+/// There and back by the methods. The raw bytes come back.
+pub fn methods_there_and_back(
+    alloc: Global,
+    raw: &[u8],
+    width: u32,
+    height: u32,
+) -> Result<Vec<u8>, Error>
+    ensures { IfOk result (λ back. back.items ≡ raw.now) }
+{
+    let file = encode_to_vec(alloc, raw, width, height)?;
+    let mut decoder = Decoder::new(&file)?;
+    let back = decoder.decode_to_vec(alloc)?;
+    Ok(back)
+}
+
+/// Memory. The raw bytes of a file are at most 248 for each of its bytes.
+pub fn bounded_bytes(alloc: Global, file: &[u8]) -> Result<Vec<u8>, Error>
+    ensures { IfOk result (λ raw. length raw.items ≤ 248 * length file.now) }
+{
+    let (_, raw) = decode_to_vec(alloc, file)?;
+    Ok(raw)
 }

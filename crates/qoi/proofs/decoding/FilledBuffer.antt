@@ -81,7 +81,8 @@ output-append : (f c : ℕ) (more past : Past) → output f c (reverse (more ++ 
 output-append f c more past = ap (output f c) (reverse-append more past) ∙ flat_map-append (pixel_bytes f c) (reverse past) (reverse more)
 
 -- pixels written at the place after the others, whatever stands behind them
-filled_list : (f c n : ℕ) (out new : List ℕ) (at : ℕ) (past : Past) (ps : List RgbaPixel) → IsChannels c → at < length out → at + c * length ps ≤ length out → length new ≡ length out → take (at + c * length ps) new ≡ take at out ++ output f c ps
+filled_list : (f c n : ℕ) (out new : List ℕ) (at : ℕ) (past : Past) (ps : List RgbaPixel) → IsChannels c → at < length out → at + c * length ps ≤ length out
+    → length new ≡ length out → take (at + c * length ps) new ≡ take at out ++ output f c ps
     → HasFilled f c n out at past → HasFilled f c n new (at + c * length ps) (reverse ps ++ past)
 filled_list f c n out new at past ps is inside fits size e h =
     let place = counts c n (length past) (length ps) at (length out) is h.room h.at_is inside fits in
@@ -95,25 +96,30 @@ filled_list f c n out new at past ps is inside fits size e h =
       room = size ∙ h.room;
       at_is = place.next ∙ ap (λ k. c * min n k) (sym (length-append (reverse ps) past ∙ ap (λ k. k + length past) (length-reverse ps)));
       same = e ∙ ap (λ z. z ++ bytes) (h.same ∙ take_whole at so_far many)
-          ∙ sym (ap (take end) (output-append f c (reverse ps) past ∙ ap (λ z. so_far ++ output f c z) (reverse-reverse ps)) ∙ take_whole end (so_far ++ bytes) all);
+          ∙ sym (ap (take end) (output-append f c (reverse ps) past ∙ ap (λ z. so_far ++ output f c z) (reverse-reverse ps))
+          ∙ take_whole end (so_far ++ bytes) all);
     }
 
 -- a pixel alone is written
-pub pixel_written : (f c : ℕ) (out new : List ℕ) (at : ℕ) (p : RgbaPixel) → take (at + c) new ≡ take at out ++ pixel_bytes f c p → take (at + c * 1) new ≡ take at out ++ output f c (replicate 1 p)
+pub pixel_written : (f c : ℕ) (out new : List ℕ) (at : ℕ) (p : RgbaPixel) → take (at + c) new ≡ take at out ++ pixel_bytes f c p
+    → take (at + c * 1) new ≡ take at out ++ output f c (replicate 1 p)
 pixel_written f c out new at p e =
     let one : c * 1 ≡ c = omega arith in
     let bytes : output f c (replicate 1 p) ≡ pixel_bytes f c p = append-nil (pixel_bytes f c p) in
     rw (one, bytes) e
 
 -- and the buffer is filled with it too
-pub filled_more : (f c n : ℕ) (out new : List ℕ) (at : ℕ) (past : Past) (p : RgbaPixel) → IsChannels c → at < length out → at + c ≤ length out → length new ≡ length out → take (at + c) new ≡ take at out ++ pixel_bytes f c p
+pub filled_more : (f c n : ℕ) (out new : List ℕ) (at : ℕ) (past : Past) (p : RgbaPixel) → IsChannels c → at < length out → at + c ≤ length out
+    → length new ≡ length out → take (at + c) new ≡ take at out ++ pixel_bytes f c p
     → HasFilled f c n out at past → HasFilled f c n new (at + c) (p ∷ past)
 filled_more f c n out new at past p is inside room size e h =
     let one : c * 1 ≡ c = omega arith in
-    subst (λ k. HasFilled f c n new (at + k) (p ∷ past)) one (filled_list f c n out new at past (p ∷ []) is inside (rw one room) size (pixel_written f c out new at p e) h)
+    subst (λ k. HasFilled f c n new (at + k) (p ∷ past)) one
+    (filled_list f c n out new at past (p ∷ []) is inside (rw one room) size (pixel_written f c out new at p e) h)
 
 -- where the buffer is full, further pixels change nothing
-pub filled_full : (f c n : ℕ) (out : List ℕ) (at : ℕ) (past more : Past) → IsChannels c → HasFilled f c n out at past → length out ≤ at → HasFilled f c n out at (more ++ past)
+pub filled_full : (f c n : ℕ) (out : List ℕ) (at : ℕ) (past more : Past) → IsChannels c → HasFilled f c n out at past → length out ≤ at
+    → HasFilled f c n out at (more ++ past)
 filled_full f c n out at past more is h full =
     let place = full_counts c n (length past) at (length out) is h.room h.at_is full in
     let size = length-append more past in
@@ -122,7 +128,8 @@ filled_full f c n out at past more is h full =
       room = h.room;
       at_is = h.at_is ∙ ap (λ k. c * k) (sym min_is);
       same = h.same ∙ sym (ap (take at) (output-append f c more past) ∙ take-append-le at (output f c (reverse past)) (output f c (reverse more))
-          (long_enough c n (length past) at (length out) (length (output f c (reverse past))) is h.room h.at_is full (length-output f c (reverse past) is ∙ ap (λ k. c * k) (length-reverse past))));
+          (long_enough c n (length past) at (length out) (length (output f c (reverse past))) is h.room h.at_is full
+          (length-output f c (reverse past) is ∙ ap (λ k. c * k) (length-reverse past))));
     }
   where
     long_enough : (c n l at len size : ℕ) → IsChannels c → len ≡ c * n → at ≡ c * min n l → len ≤ at → size ≡ c * l → at ≤ size
@@ -131,8 +138,10 @@ filled_full f c n out at past more is h full =
 
 -- where the room is for all of them, it is for k pixels after some
 pub room_after : (c at done k all len : ℕ) → IsChannels c → done + k ≤ all → at + c * all ≤ len → (at + c * done + c * k ≤ len) × (0 < k → at + c * done < len)
-room_after c at done k all len (inl e) = subst (λ d. done + k ≤ all → at + d * all ≤ len → (at + d * done + d * k ≤ len) × (0 < k → at + d * done < len)) (sym e) (λ p q. (omega arith, λ r. omega arith))
-room_after c at done k all len (inr e) = subst (λ d. done + k ≤ all → at + d * all ≤ len → (at + d * done + d * k ≤ len) × (0 < k → at + d * done < len)) (sym e) (λ p q. (omega arith, λ r. omega arith))
+room_after c at done k all len (inl e) = subst (λ d. done + k ≤ all → at + d * all ≤ len → (at + d * done + d * k ≤ len) × (0 < k → at + d * done < len))
+    (sym e) (λ p q. (omega arith, λ r. omega arith))
+room_after c at done k all len (inr e) = subst (λ d. done + k ≤ all → at + d * all ≤ len → (at + d * done + d * k ≤ len) × (0 < k → at + d * done < len))
+    (sym e) (λ p q. (omega arith, λ r. omega arith))
 
 -- a block of sixteen bytes has room, and so have its whole pixels
 pub record BlockRoom (c at done len : ℕ) : Type 0 where
@@ -149,9 +158,19 @@ pub record TwoBlocks (c at done count len : ℕ) : Type 0 where
 -- they have room where thirty-two bytes have room behind the copies
 pub two_blocks : (c at done count len : ℕ) → IsChannels c → done < count → at + c * count + 32 ≤ len → TwoBlocks c at done count len
 two_blocks c at done count len (inl e) = subst (λ d. done < count → at + d * count + 32 ≤ len → TwoBlocks d at done count len) (sym e)
-    (λ p q. record { first = record { inside = omega arith; fits = omega arith; block = omega arith }; second = record { inside = omega arith; fits = omega arith; block = omega arith }; more = omega arith })
+    (λ p q. record {
+      first = record { inside = omega arith; fits = omega arith; block = omega arith };
+      second =
+          record { inside = omega arith; fits = omega arith; block = omega arith };
+      more = omega arith;
+    })
 two_blocks c at done count len (inr e) = subst (λ d. done < count → at + d * count + 32 ≤ len → TwoBlocks d at done count len) (sym e)
-    (λ p q. record { first = record { inside = omega arith; fits = omega arith; block = omega arith }; second = record { inside = omega arith; fits = omega arith; block = omega arith }; more = omega arith })
+    (λ p q. record {
+      first = record { inside = omega arith; fits = omega arith; block = omega arith };
+      second =
+          record { inside = omega arith; fits = omega arith; block = omega arith };
+      more = omega arith;
+    })
 
 -- the place after some pixels and then more of them
 pub after_both : (c at m k : ℕ) → IsChannels c → at + c * m + c * k ≡ at + c * (m + k)
@@ -159,7 +178,8 @@ after_both c at m k (inl e) = subst (λ d. at + d * m + d * k ≡ at + d * (m + 
 after_both c at m k (inr e) = subst (λ d. at + d * m + d * k ≡ at + d * (m + k)) (sym e) (omega arith)
 
 -- k more copies of a pixel
-pub filled_copies : (f c n k : ℕ) (out new : List ℕ) (at done : ℕ) (p : RgbaPixel) (past : Past) → IsChannels c → at + c * done < length out → at + c * done + c * k ≤ length out → length new ≡ length out
+pub filled_copies : (f c n k : ℕ) (out new : List ℕ) (at done : ℕ) (p : RgbaPixel) (past : Past) → IsChannels c → at + c * done < length out
+    → at + c * done + c * k ≤ length out → length new ≡ length out
     → take (at + c * done + c * k) new ≡ take (at + c * done) out ++ output f c (replicate k p)
     → HasFilled f c n out (at + c * done) (replicate done p ++ past) → HasFilled f c n new (at + c * (done + k)) (replicate (done + k) p ++ past)
 filled_copies f c n k out new at done p past is inside fits size e h =
@@ -172,7 +192,8 @@ filled_copies f c n k out new at done p past is inside fits size e h =
     plus_comm a b = omega arith
 
 -- fewer of the copies are written too
-pub filled_fewer : (f c n : ℕ) (old out : List ℕ) (at done count : ℕ) (p : RgbaPixel) (past : Past) → IsChannels c → count ≤ done → length out ≡ length old → at + c * count ≤ length old → HasFilled f c n old at past
+pub filled_fewer : (f c n : ℕ) (old out : List ℕ) (at done count : ℕ) (p : RgbaPixel) (past : Past) → IsChannels c → count ≤ done → length out ≡ length old
+    → at + c * count ≤ length old → HasFilled f c n old at past
     → HasFilled f c n out (at + c * done) (replicate done p ++ past) → HasFilled f c n out (at + c * count) (replicate count p ++ past)
 filled_fewer f c n old out at done count p past is le size fits start h =
     let few = replicate count p ++ past in
@@ -180,34 +201,46 @@ filled_fewer f c n old out at done count p past is le size fits start h =
     let many : length few ≡ count + length past = length-append (replicate count p) past ∙ ap (λ k. k + length past) (length-replicate count p) in
     let place = ends c n (length past) count done at (length old) is le start.room start.at_is fits in
     let sum : done - count + count ≡ done = omega arith in
-    let parts : replicate done p ++ past ≡ replicate (done - count) p ++ few = sym (repeats_after (done - count) count p past ∙ ap (λ k. replicate k p ++ past) sum) in
-    let within : end ≤ length (output f c (reverse few)) = omega (arith, place.1, ap (λ k. c * k) many, length-output f c (reverse few) is, ap (λ k. c * k) (length-reverse few)) in
+    let parts : replicate done p ++ past ≡ replicate (done - count) p ++ few =
+    sym (repeats_after (done - count) count p past ∙ ap (λ k. replicate k p ++ past) sum) in
+    let within : end ≤ length (output f c (reverse few)) = omega
+    (arith, place.1, ap (λ k. c * k) many, length-output f c (reverse few) is, ap (λ k. c * k) (length-reverse few)) in
     record {
       room = h.room;
       at_is = place.0 ∙ ap (λ k. c * min n k) (sym many);
-      same = sym (take-take end (at + c * done) out place.2) ∙ ap (take end) h.same ∙ take-take end (at + c * done) (output f c (reverse (replicate done p ++ past))) place.2
+      same = sym (take-take end (at + c * done) out place.2) ∙ ap (take end) h.same
+          ∙ take-take end (at + c * done) (output f c (reverse (replicate done p ++ past))) place.2
           ∙ ap (λ q. take end (output f c (reverse q))) parts ∙ ap (take end) (output-append f c (replicate (done - count) p) few)
           ∙ take-append-le end (output f c (reverse few)) (output f c (reverse (replicate (done - count) p))) within;
     }
   where
     ends : (c n l count done at len : ℕ) → IsChannels c → count ≤ done → len ≡ c * n → at ≡ c * min n l → at + c * count ≤ len
         → (at + c * count ≡ c * min n (count + l)) × (at + c * count ≤ c * (count + l)) × (at + c * count ≤ at + c * done)
-    ends c n l count done at len (inl e) = subst (λ k. count ≤ done → len ≡ k * n → at ≡ k * min n l → at + k * count ≤ len → (at + k * count ≡ k * min n (count + l)) × (at + k * count ≤ k * (count + l)) × (at + k * count ≤ at + k * done)) (sym e)
+    ends c n l count done at len (inl e) = subst (λ k. count ≤ done → len ≡ k * n → at ≡ k * min n l → at + k * count ≤ len
+        → (at + k * count ≡ k * min n (count + l)) × (at + k * count ≤ k * (count + l)) × (at + k * count ≤ at + k * done)) (sym e)
         (λ d p q r. (omega arith, omega arith, omega arith))
-    ends c n l count done at len (inr e) = subst (λ k. count ≤ done → len ≡ k * n → at ≡ k * min n l → at + k * count ≤ len → (at + k * count ≡ k * min n (count + l)) × (at + k * count ≤ k * (count + l)) × (at + k * count ≤ at + k * done)) (sym e)
+    ends c n l count done at len (inr e) = subst (λ k. count ≤ done → len ≡ k * n → at ≡ k * min n l → at + k * count ≤ len
+        → (at + k * count ≡ k * min n (count + l)) × (at + k * count ≤ k * (count + l)) × (at + k * count ≤ at + k * done)) (sym e)
         (λ d p q r. (omega arith, omega arith, omega arith))
 
 -- the copies that there is room for are all, or they end where the buffer does
-pub copies_end : (c at count len : ℕ) → IsChannels c → len % c ≡ 0 → at % c ≡ 0 → at ≤ len → (min count ((len - at) / c) ≡ count) ⊎ (len ≤ at + c * min count ((len - at) / c))
-copies_end c at count len (inl e) = subst (λ k. len % k ≡ 0 → at % k ≡ 0 → at ≤ len → (min count ((len - at) / k) ≡ count) ⊎ (len ≤ at + k * min count ((len - at) / k))) (sym e) (λ p q l. elim (cases_lt ((len - at) / 3) count) [ inl few ↦ inr (omega arith) | inr all ↦ inl (omega arith) ])
-copies_end c at count len (inr e) = subst (λ k. len % k ≡ 0 → at % k ≡ 0 → at ≤ len → (min count ((len - at) / k) ≡ count) ⊎ (len ≤ at + k * min count ((len - at) / k))) (sym e) (λ p q l. elim (cases_lt ((len - at) / 4) count) [ inl few ↦ inr (omega arith) | inr all ↦ inl (omega arith) ])
+pub copies_end : (c at count len : ℕ) → IsChannels c → len % c ≡ 0 → at % c ≡ 0 → at ≤ len
+    → (min count ((len - at) / c) ≡ count) ⊎ (len ≤ at + c * min count ((len - at) / c))
+copies_end c at count len (inl e) = subst (λ k. len % k ≡ 0 → at % k ≡ 0 → at ≤ len
+    → (min count ((len - at) / k) ≡ count) ⊎ (len ≤ at + k * min count ((len - at) / k))) (sym e)
+    (λ p q l. elim (cases_lt ((len - at) / 3) count) [ inl few ↦ inr (omega arith) | inr all ↦ inl (omega arith) ])
+copies_end c at count len (inr e) = subst (λ k. len % k ≡ 0 → at % k ≡ 0 → at ≤ len
+    → (min count ((len - at) / k) ≡ count) ⊎ (len ≤ at + k * min count ((len - at) / k))) (sym e)
+    (λ p q l. elim (cases_lt ((len - at) / 4) count) [ inl few ↦ inr (omega arith) | inr all ↦ inl (omega arith) ])
 
 -- after those of `count` copies that there is room for, the others change nothing
-pub filled_end : (f c n : ℕ) (out : List ℕ) (at all count : ℕ) (p : RgbaPixel) (past : Past) → IsChannels c → all ≤ count → (all ≡ count) ⊎ (length out ≤ at) → HasFilled f c n out at (replicate all p ++ past) → HasFilled f c n out at (replicate count p ++ past)
+pub filled_end : (f c n : ℕ) (out : List ℕ) (at all count : ℕ) (p : RgbaPixel) (past : Past) → IsChannels c → all ≤ count → (all ≡ count) ⊎ (length out ≤ at)
+    → HasFilled f c n out at (replicate all p ++ past) → HasFilled f c n out at (replicate count p ++ past)
 filled_end f c n out at all count p past is le (inl e) h = subst (λ k. HasFilled f c n out at (replicate k p ++ past)) e h
 filled_end f c n out at all count p past is le (inr full) h =
     let sum : count - all + all ≡ count = omega arith in
-    subst (λ z. HasFilled f c n out at z) (repeats_after (count - all) all p past ∙ ap (λ k. replicate k p ++ past) sum) (filled_full f c n out at (replicate all p ++ past) (replicate (count - all) p) is h full)
+    subst (λ z. HasFilled f c n out at z) (repeats_after (count - all) all p past ∙ ap (λ k. replicate k p ++ past) sum)
+    (filled_full f c n out at (replicate all p ++ past) (replicate (count - all) p) is h full)
 
 -- where the buffer is full it has the bytes of the first n pixels
 pub filled_all : (f c n : ℕ) (out : List ℕ) (at : ℕ) (past : Past) → IsChannels c → HasFilled f c n out at past → length out ≤ at

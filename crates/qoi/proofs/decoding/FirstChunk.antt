@@ -28,7 +28,8 @@ front_4 (a ∷ b ∷ c ∷ []) l = absurd (omega arith)
 front_4 (a ∷ b ∷ c ∷ d ∷ bytes) l = refl
 
 -- the first five
-pub front_5 : (bytes : List ℕ) → 5 ≤ length bytes → take 5 bytes ≡ get_or bytes 0 0 ∷ get_or bytes 1 0 ∷ get_or bytes 2 0 ∷ get_or bytes 3 0 ∷ get_or bytes 4 0 ∷ []
+pub front_5 : (bytes : List ℕ) → 5 ≤ length bytes → take 5 bytes
+    ≡ get_or bytes 0 0 ∷ get_or bytes 1 0 ∷ get_or bytes 2 0 ∷ get_or bytes 3 0 ∷ get_or bytes 4 0 ∷ []
 front_5 [] l = absurd (omega arith)
 front_5 (a ∷ []) l = absurd (omega arith)
 front_5 (a ∷ b ∷ []) l = absurd (omega arith)
@@ -58,7 +59,8 @@ pub record IsShortPixel (b e : ℕ) (s : Filling) (p : RgbaPixel) : Type 0 where
   pub run : b ≡ 192 → p ≡ s.last
 
 -- a short chunk, of which a luma alone has a second byte
-pub gives_short : {f c : ℕ} {p : RgbaPixel} {old new : Filling} (bytes : List ℕ) (b e taken : ℕ) → 2 ≤ length bytes → b ≡ get_or bytes 0 0 → e ≡ get_or bytes 1 0
+pub gives_short : {f c : ℕ} {p : RgbaPixel} {old new : Filling} (bytes : List ℕ) (b e taken : ℕ) → 2 ≤ length bytes → b ≡ get_or bytes 0 0
+    → e ≡ get_or bytes 1 0
     → b ≤ 192 → e < 256 → (b < 128 → taken ≡ 1) → (128 ≤ b → b < 192 → taken ≡ 2) → (b ≡ 192 → taken ≡ 1)
     → IsShortPixel b e old p → GivesOnce f c p old new → GivesChunk f c (take taken bytes) old new
 gives_short bytes b e taken long first second low byte one two again px g =
@@ -96,13 +98,18 @@ gives_short bytes b e taken long first second low byte one two again px g =
 -- a run of any length
 pub gives_run : {f c : ℕ} {old new : Filling} (bytes : List ℕ) (n : ℕ) → 1 ≤ length bytes → get_or bytes 0 0 ≡ 191 + n → 0 < n → n ≤ 62 → new.last ≡ old.last
     → ((past : Past) → Holds old.table past → Holds new.table (replicate n old.last ++ past))
-    → ((m : ℕ) (past : Past) → HasFilled f c m old.out old.at past → HasFilled f c m new.out new.at (replicate n old.last ++ past)) → GivesChunk f c (take 1 bytes) old new
+    → ((m : ℕ) (past : Past) → HasFilled f c m old.out old.at past → HasFilled f c m new.out new.at (replicate n old.last ++ past))
+    → GivesChunk f c (take 1 bytes) old new
 gives_run bytes n long first some most same sees fills = record {
   chunk = Run n;
   is_chunk = (some, most);
   bytes_are = front_1 bytes long ∙ ap (λ x. x ∷ []) first;
   gives = record {
-    seen = λ past h. record { table_is = rw (← h.last_is) (sees past h.table_is); last_is = same ∙ h.last_is ∙ sym (previous_copies n (previous past) past some) };
+    seen = λ past h. record {
+      table_is = rw (← h.last_is) (sees past h.table_is);
+      last_is = same ∙ h.last_is
+          ∙ sym (previous_copies n (previous past) past some);
+    };
     filled = λ m past h. rw same (fills m past h);
   };
 }

@@ -14,11 +14,13 @@ channels_are Rgb n e = inl e
 channels_are Rgba n e = inr e
 
 -- as many pixels as the image's bytes have room for
-pub image_pixels : (h : Header) (c : Channels) (size n : ℕ) (buf : List ℕ) → size ≡ byte_count h (channels_number c) → size ≤ length buf → n ≡ channels_number c → length (take size buf) / n ≡ pixel_count h
+pub image_pixels : (h : Header) (c : Channels) (size n : ℕ) (buf : List ℕ) → size ≡ byte_count h (channels_number c) → size ≤ length buf
+    → n ≡ channels_number c → length (take size buf) / n ≡ pixel_count h
 image_pixels h Rgb size n buf e le is = rw (length-take-le size buf le, is) (omega arith)
 image_pixels h Rgba size n buf e le is = rw (length-take-le size buf le, is) (omega arith)
 
 -- an image that bytes could hold has at most 62 pixels, and so 248 raw bytes, for each of them
-pub bounded_by : (n size : ℕ) (c : Channels) (rest bytes : List ℕ) → least_byte_count n ≤ length rest → length rest ≤ length bytes → size ≤ n * channels_number c → (n ≤ 62 * length bytes) × (size ≤ 248 * length bytes)
+pub bounded_by : (n size : ℕ) (c : Channels) (rest bytes : List ℕ) → least_byte_count n ≤ length rest → length rest ≤ length bytes
+    → size ≤ n * channels_number c → (n ≤ 62 * length bytes) × (size ≤ 248 * length bytes)
 bounded_by n size Rgb rest bytes holds within is = (omega (arith, holds, within), omega (arith, holds, within, is))
 bounded_by n size Rgba rest bytes holds within is = (omega (arith, holds, within), omega (arith, holds, within, is))

@@ -25,10 +25,19 @@ pixels_most past (c ∷ cs) chunks =
     let more = pixels_most (then_chunk past c) cs chunks.1 in
     let most = times_most c chunks.0 in
     let some = (length-bytes_of c).0 in
-    omega (arith, more, most, some, length-append (bytes_of c) (text cs), length-append (replicate (times c) (pixel_of past c)) past, length-replicate (times c) (pixel_of past c))
+    omega (
+      arith,
+      more,
+      most,
+      some,
+      length-append (bytes_of c) (text cs),
+      length-append (replicate (times c) (pixel_of past c)) past,
+      length-replicate (times c) (pixel_of past c),
+    )
 
 -- where chunks reach n pixels and eight bytes follow, there are as many bytes as n pixels need
-enough_bytes : (n : ℕ) (bytes : List ℕ) (cs : List Chunk) (eight rest : List ℕ) → Takes n bytes cs (eight ++ rest) → n ≤ length (meaning cs) → length eight ≡ 8 → least_byte_count n ≤ length bytes
+enough_bytes : (n : ℕ) (bytes : List ℕ) (cs : List Chunk) (eight rest : List ℕ) → Takes n bytes cs (eight ++ rest) → n ≤ length (meaning cs)
+    → length eight ≡ 8 → least_byte_count n ≤ length bytes
 enough_bytes n bytes cs eight rest takes enough is =
     let most = pixels_most [] cs takes.chunks in
     omega (arith, most, enough, is, length-meaning cs, ap length takes.split, length-append (text cs) (eight ++ rest), length-append eight rest)
@@ -44,6 +53,7 @@ few_are_cut n bytes fits few =
       | inl whole ↦ let (cs, rest, is) = whole in let enough = whole_holds n bytes cs rest is in absurd (omega (arith, few, enough))
       | inr other ↦ elim other [
         | inl cut ↦ cut
-        | inr wrong ↦ let (cs, eight, rest, is) = wrong in let enough = enough_bytes n bytes cs eight rest is.takes is.enough is.length_is in absurd (omega (arith, few, enough))
+        | inr wrong ↦ let (cs, eight, rest, is) = wrong in let enough = enough_bytes n bytes cs eight rest is.takes is.enough is.length_is in
+            absurd (omega (arith, few, enough))
       ]
     ]

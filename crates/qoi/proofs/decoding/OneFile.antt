@@ -21,7 +21,8 @@ file_has_header h cs bytes rest f e =
     ap header_of (e ∙ file_parts h cs rest) ∙ header_of-head h (text cs ++ (end_marker ++ rest)) f.valid
 
 -- what follows the header of a file is whole
-pub file_is_whole : (h : Header) (cs : List Chunk) (bytes rest : List ℕ) → IsFile h cs → bytes ≡ file h cs ++ rest → IsWhole (pixel_count h) (drop 14 bytes) cs rest
+pub file_is_whole : (h : Header) (cs : List Chunk) (bytes rest : List ℕ) → IsFile h cs → bytes ≡ file h cs ++ rest
+    → IsWhole (pixel_count h) (drop 14 bytes) cs rest
 file_is_whole h cs bytes rest f e = record {
   takes = record { chunks = f.chunks; short = f.reaches.short; split = ap (λ l. drop 14 l) (e ∙ file_parts h cs rest) };
   enough = f.reaches.enough;
@@ -41,7 +42,8 @@ pub header_is_one : (bytes : List ℕ) (h k : Header) → header_of bytes ≡ Ok
 header_is_one bytes h k first second = cc
 
 -- no file begins another
-pub file_is_one : (h k : Header) (cs ds : List Chunk) (x y : List ℕ) → IsFile h cs → IsFile k ds → file h cs ++ x ≡ file k ds ++ y → (h ≡ k) × (cs ≡ ds) × (x ≡ y)
+pub file_is_one : (h k : Header) (cs ds : List Chunk) (x y : List ℕ) → IsFile h cs → IsFile k ds → file h cs ++ x ≡ file k ds ++ y
+    → (h ≡ k) × (cs ≡ ds) × (x ≡ y)
 file_is_one h k cs ds x y f g e =
     let first = file_has_header h cs (file h cs ++ x) x f refl in
     let second = file_has_header k ds (file h cs ++ x) y g e in
@@ -84,12 +86,15 @@ pub decodes_behind : (bytes : List ℕ) (d : DecoderState (List ℕ)) (rest out 
     → ReadsImage (channels_number d.header.channels) (channels_number d.channels) (pixel_count d.header) (Some d.reader) (Some rest) out
     → DecodesFile bytes d.header rest out
 decodes_behind bytes d rest out fits read own after r =
-    let own_channels = subst (λ k. ReadsImage (channels_number d.header.channels) (channels_number k) (pixel_count d.header) (Some d.reader) (Some rest) out) own r in
+    let own_channels = subst (λ k. ReadsImage (channels_number d.header.channels) (channels_number k) (pixel_count d.header) (Some d.reader)
+    (Some rest) out) own r in
     decodes_read d.header bytes rest out fits read
-    (subst (λ z. ReadsImage (channels_number d.header.channels) (channels_number d.header.channels) (pixel_count d.header) (Some z) (Some rest) out) after own_channels)
+    (subst (λ z. ReadsImage (channels_number d.header.channels) (channels_number d.header.channels) (pixel_count d.header) (Some z)
+    (Some rest) out) after own_channels)
 
 -- bytes are decoded in one way
-pub decoding_is_one : (bytes : List ℕ) (h k : Header) (rest more out other : List ℕ) → DecodesFile bytes h rest out → DecodesFile bytes k more other → (k ≡ h) × (other ≡ out)
+pub decoding_is_one : (bytes : List ℕ) (h k : Header) (rest more out other : List ℕ) → DecodesFile bytes h rest out → DecodesFile bytes k more other
+    → (k ≡ h) × (other ≡ out)
 decoding_is_one bytes h k rest more out other d e =
     let one = d.only k e.cs more e.is_file e.split in
     let P : Header → List Chunk → List ℕ = λ j cs. output (channels_number j.channels) (channels_number j.channels) (file_pixels j cs) in

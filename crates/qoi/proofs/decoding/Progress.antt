@@ -29,10 +29,12 @@ pub record SoFar (f c n : ℕ) (Taken : List ℕ → Type 0) (now : Filling) : T
 
 -- fewer than n pixels were given, where there is room for more
 pub fewer : {f c n : ℕ} {out : List ℕ} {at : ℕ} {past : Past} → IsChannels c → HasFilled f c n out at past → at < length out → length past < n
-fewer {c = c} {n = n} {out = out} {at = at} {past = past} is h inside = (counts c n (length past) 0 at (length out) is h.room h.at_is inside (omega arith)).below
+fewer {c = c} {n = n} {out = out} {at = at} {past = past} is h inside =
+    (counts c n (length past) 0 at (length out) is h.room h.at_is inside (omega arith)).below
 
 -- before the first chunk
-pub start_so_far : (f c : ℕ) (Taken : List ℕ → Type 0) (table : List RgbaPixel) (last : RgbaPixel) (out : List ℕ) → IsChannels c → length out % c ≡ 0 → Holds table [] → last ≡ start → Taken [] → SoFar f c (length out / c) Taken (filling table last out 0)
+pub start_so_far : (f c : ℕ) (Taken : List ℕ → Type 0) (table : List RgbaPixel) (last : RgbaPixel) (out : List ℕ) → IsChannels c → length out % c ≡ 0
+    → Holds table [] → last ≡ start → Taken [] → SoFar f c (length out / c) Taken (filling table last out 0)
 start_so_far f c Taken table last out is whole blank opaque none_taken = record {
   cs = [];
   chunks = tt;
@@ -53,7 +55,8 @@ start_so_far f c Taken table last out is whole blank opaque none_taken = record 
     zero_whole c (inr e) = subst (λ k. 0 % k ≡ 0) (sym e) refl
 
 -- one more chunk, its pixels written and seen
-pub goes_on : {f c n : ℕ} {Taken Taken' : List ℕ → Type 0} {old new : Filling} {bytes : List ℕ} → IsChannels c → SoFar f c n Taken old → old.at < length old.out → GivesChunk f c bytes old new
+pub goes_on : {f c n : ℕ} {Taken Taken' : List ℕ → Type 0} {old new : Filling} {bytes : List ℕ} → IsChannels c → SoFar f c n Taken old
+    → old.at < length old.out → GivesChunk f c bytes old new
     → ((before : List ℕ) → Taken before → Taken' (before ++ bytes)) → new.at ≤ length new.out → new.at % c ≡ 0 → SoFar f c n Taken' new
 goes_on {f} {c} {n} {Taken} {Taken'} {old} {new} {bytes} is s inside g takes within whole =
     let chunk = g.chunk in
@@ -61,7 +64,8 @@ goes_on {f} {c} {n} {Taken} {Taken'} {old} {new} {bytes} is s inside g takes wit
     let pushed = then_chunks-append [] s.cs (chunk ∷ []) in
     let seen = g.gives.seen past s.seen in
     let pixel_is : new.last ≡ pixel_of past chunk = seen.last_is ∙ previous_copies (times chunk) (pixel_of past chunk) past (times_some chunk g.is_chunk) in
-    let filled : HasFilled f c n new.out new.at (then_chunk past chunk) = subst (λ p. HasFilled f c n new.out new.at (replicate (times chunk) p ++ past)) pixel_is (g.gives.filled n past s.filled) in
+    let filled : HasFilled f c n new.out new.at (then_chunk past chunk) =
+    subst (λ p. HasFilled f c n new.out new.at (replicate (times chunk) p ++ past)) pixel_is (g.gives.filled n past s.filled) in
     record {
       cs = s.cs ++ chunk ∷ [];
       chunks = are_chunks_append s.cs (chunk ∷ []) s.chunks (g.is_chunk, tt);
@@ -89,13 +93,15 @@ pub split_more : (bytes rest after more : List ℕ) → rest ≡ more ++ after �
 split_more bytes rest after more e taken split = split ∙ ap (λ z. taken ++ z) e ∙ sym (append_assoc taken more after)
 
 -- the chunks of a slice whose pixels fill the buffer
-pub reads_pixels : {f c n : ℕ} {bytes rest : List ℕ} {now : Filling} → IsChannels c → SoFar f c n (SplitAt bytes rest) now → length now.out ≤ now.at → ReadsPixels f c n bytes rest now.out
+pub reads_pixels : {f c n : ℕ} {bytes rest : List ℕ} {now : Filling} → IsChannels c → SoFar f c n (SplitAt bytes rest) now → length now.out ≤ now.at
+    → ReadsPixels f c n bytes rest now.out
 reads_pixels is s full =
     let all = reads_all is s full in
     record { cs = s.cs; takes = record { chunks = s.chunks; short = s.short; split = s.taken }; reaches = all.0; out_is = all.1 }
 
 -- where there is room and fewer bytes are left than an end marker has, the bytes are cut
-pub few_left : {f c n : ℕ} {bytes rest : List ℕ} {now : Filling} → IsChannels c → SoFar f c n (SplitAt bytes rest) now → now.at < length now.out → AreBytes rest → length rest < 8 → HasCut n bytes
+pub few_left : {f c n : ℕ} {bytes rest : List ℕ} {now : Filling} → IsChannels c → SoFar f c n (SplitAt bytes rest) now → now.at < length now.out
+    → AreBytes rest → length rest < 8 → HasCut n bytes
 few_left {f} {c} {n} {bytes} {rest} {now} is s inside fits few =
     let r = reading_of (suc (length rest)) n (then_chunks [] s.cs) rest (omega arith) fits in
     let all = s.cs ++ r.found in
@@ -107,7 +113,8 @@ few_left {f} {c} {n} {bytes} {rest} {now} is s inside fits few =
         takes = record {
           chunks = are_chunks_append s.cs r.found s.chunks r.chunks;
           short = each_append (λ past c. length past < n) [] s.cs r.found s.short r.short;
-          split = s.taken ∙ ap (λ z. text s.cs ++ z) r.split ∙ sym (append_assoc (text s.cs) (text r.found) r.rest) ∙ ap (λ z. z ++ r.rest) (sym (flat_map-append bytes_of s.cs r.found));
+          split = s.taken ∙ ap (λ z. text s.cs ++ z) r.split ∙ sym (append_assoc (text s.cs) (text r.found) r.rest)
+              ∙ ap (λ z. z ++ r.rest) (sym (flat_map-append bytes_of s.cs r.found));
         };
         ends = elim r.ends [
           | inl enough ↦ inr (rw (length-meaning, pushed) enough, omega arith)
@@ -117,13 +124,15 @@ few_left {f} {c} {n} {bytes} {rest} {now} is s inside fits few =
     )
 
 -- the chunks of a stream whose pixels fill the buffer
-pub streams_pixels : {f c n : ℕ} {old new : Option (List ℕ)} {now : Filling} → IsChannels c → SoFar f c n (Consumes old new) now → length now.out ≤ now.at → StreamsPixels f c n old new now.out
+pub streams_pixels : {f c n : ℕ} {old new : Option (List ℕ)} {now : Filling} → IsChannels c → SoFar f c n (Consumes old new) now → length now.out ≤ now.at
+    → StreamsPixels f c n old new now.out
 streams_pixels is s full =
     let all = reads_all is s full in
     record { cs = s.cs; chunks = s.chunks; reaches = all.0; taken = s.taken; out_is = all.1 }
 
 -- where a stream gives no whole chunk, what was taken ends within a chunk
-pub stream_ends : {f c n : ℕ} (old middle new : Option (List ℕ)) (part : List ℕ) {now : Filling} → IsChannels c → SoFar f c n (Consumes old middle) now → now.at < length now.out → Consumes middle new part → IsPartOfChunk part
+pub stream_ends : {f c n : ℕ} (old middle new : Option (List ℕ)) (part : List ℕ) {now : Filling} → IsChannels c → SoFar f c n (Consumes old middle) now
+    → now.at < length now.out → Consumes middle new part → IsPartOfChunk part
     → (taken : List ℕ) × Consumes old new taken × EndsInChunk n taken
 stream_ends old middle new part is s inside took is_part = (
   text s.cs ++ part,

@@ -21,7 +21,8 @@ whole_not_refused n bytes cs rest (IoError i) whole no_reason = no_reason
 whole_not_refused n bytes cs rest OutOfMemory whole no_reason = no_reason
 
 -- the same for a refusal of a reader whose bytes stand in memory
-pub whole_not_refused_in : (in_memory : Bool) (n : ℕ) (old new : Option (List ℕ)) (e : Error) (bytes : List ℕ) (cs : List Chunk) (rest : List ℕ) → in_memory ≡ true → old ≡ Some bytes
+pub whole_not_refused_in : (in_memory : Bool) (n : ℕ) (old new : Option (List ℕ)) (e : Error) (bytes : List ℕ) (cs : List Chunk) (rest : List ℕ)
+    → in_memory ≡ true → old ≡ Some bytes
     → IsWhole n bytes cs rest → RefusesImage in_memory n old new e → ⊥
 whole_not_refused_in true n (Some xs) new e bytes cs rest memory told whole refused =
     let same : xs ≡ bytes = cc in

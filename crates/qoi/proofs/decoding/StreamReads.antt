@@ -19,7 +19,8 @@ use Rattle.qoi.specs.Decoding.{EndsInChunk, StreamsPixels, HasCut, RefusesTaken,
 use Rattle.qoi.proofs.format.PartOfChunk.{byte_and, part_luma, part_rgb, part_rgba}
 
 -- the front of a buffer after a read behind what was filled
-pub take-read : (filled n k : ℕ) (buf piece : List ℕ) → filled ≤ length buf → n ≤ length piece → take (filled + n) (put_mid filled k buf piece) ≡ take filled buf ++ take n piece
+pub take-read : (filled n k : ℕ) (buf piece : List ℕ) → filled ≤ length buf → n ≤ length piece
+    → take (filled + n) (put_mid filled k buf piece) ≡ take filled buf ++ take n piece
 take-read filled n k buf piece within fits =
     let size = length-take-le filled buf within in
     ap (λ z. take (z + n) (put_mid filled k buf piece)) (sym size) ∙ take-append-add (take filled buf) (piece ++ post_of filled k buf) n
@@ -27,7 +28,8 @@ take-read filled n k buf piece within fits =
 
 -- and what it keeps of the front
 pub take-before : (filled k : ℕ) (buf piece : List ℕ) → filled ≤ length buf → take filled (put_mid filled k buf piece) ≡ take filled buf
-take-before filled k buf piece within = let e : filled + 0 ≡ filled = omega arith in ap (λ z. take z (put_mid filled k buf piece)) (sym e) ∙ take-read filled 0 k buf piece within (omega arith) ∙ append-nil (take filled buf)
+take-before filled k buf piece within = let e : filled + 0 ≡ filled = omega arith in ap (λ z. take z (put_mid filled k buf piece)) (sym e)
+    ∙ take-read filled 0 k buf piece within (omega arith) ∙ append-nil (take filled buf)
 
 -- the front of bytes is bytes
 pub bytes_take : (n : ℕ) (bytes : List ℕ) → AreBytes bytes → AreBytes (take n bytes)
@@ -53,7 +55,8 @@ abbrev pub IsChunkAhead : List ℕ → List ℕ → Type 0
 IsChunkAhead bytes taken = (c : Chunk) × (rest : List ℕ) × IsChunk c × (taken ≡ bytes_of c) × (bytes ≡ bytes_of c ++ rest)
 
 -- of such bytes the chunk was given that was taken
-pub gives_taken : {f c : ℕ} {old new : Filling} (bytes : List ℕ) (size : ℕ) (taken : List ℕ) → IsChunkAhead bytes taken → GivesChunk f c (take size bytes) old new → GivesChunk f c taken old new
+pub gives_taken : {f c : ℕ} {old new : Filling} (bytes : List ℕ) (size : ℕ) (taken : List ℕ) → IsChunkAhead bytes taken
+    → GivesChunk f c (take size bytes) old new → GivesChunk f c taken old new
 gives_taken bytes size taken (c, more, is_chunk, taken_is, bytes_are) first =
     let split = sym (take-append-drop size bytes) ∙ ap (λ z. z ++ drop size bytes) first.bytes_are in
     let same = chunks_apart c first.chunk more (drop size bytes) is_chunk first.is_chunk (sym bytes_are ∙ split) in
@@ -67,15 +70,23 @@ alone_ahead b zeros (inl low) =
       | inr diff ↦ (Diff b, zeros, (diff, low), refl, refl)
     ]
 alone_ahead b zeros (inr run) =
-    let n : b ≡ 191 + (b - 191) = omega (arith, run.0) in (Run (b - 191), zeros, (omega (arith, run.0), omega (arith, run.1)), ap (λ x. x ∷ []) n, ap (λ x. x ∷ zeros) n)
+    let n : b ≡ 191 + (b - 191) = omega (arith, run.0) in (
+      Run (b - 191),
+      zeros,
+      (omega (arith, run.0), omega (arith, run.1)),
+      ap (λ x. x ∷ []) n,
+      ap (λ x. x ∷ zeros) n,
+    )
 
 -- three bytes after the first byte of RGB
-pub rgb_ahead : (b : ℕ) (more zeros : List ℕ) → b ≡ 254 → length more ≡ 3 → AreBytes more → IsChunkAhead (b ∷ get_or more 0 0 ∷ get_or more 1 0 ∷ get_or more 2 0 ∷ zeros) (b ∷ more)
+pub rgb_ahead : (b : ℕ) (more zeros : List ℕ) → b ≡ 254 → length more ≡ 3 → AreBytes more
+    → IsChunkAhead (b ∷ get_or more 0 0 ∷ get_or more 1 0 ∷ get_or more 2 0 ∷ zeros) (b ∷ more)
 rgb_ahead x (r ∷ g ∷ b ∷ []) zeros is size fits = (Rgb r g b, zeros, (fits 0, fits 1, fits 2), rw is refl, rw is refl)
 rgb_ahead x _ zeros is size fits = absurd (omega arith)
 
 -- four bytes after the first byte of RGBA
-pub rgba_ahead : (b : ℕ) (more zeros : List ℕ) → b ≡ 255 → length more ≡ 4 → AreBytes more → IsChunkAhead (b ∷ get_or more 0 0 ∷ get_or more 1 0 ∷ get_or more 2 0 ∷ get_or more 3 0 ∷ zeros) (b ∷ more)
+pub rgba_ahead : (b : ℕ) (more zeros : List ℕ) → b ≡ 255 → length more ≡ 4 → AreBytes more
+    → IsChunkAhead (b ∷ get_or more 0 0 ∷ get_or more 1 0 ∷ get_or more 2 0 ∷ get_or more 3 0 ∷ zeros) (b ∷ more)
 rgba_ahead x (r ∷ g ∷ b ∷ a ∷ []) zeros is size fits = (Rgba r g b a, zeros, (fits 0, fits 1, fits 2, fits 3), rw is refl, rw is refl)
 rgba_ahead x _ zeros is size fits = absurd (omega arith)
 
@@ -84,8 +95,13 @@ pub cut_in_chunk : (n : ℕ) (taken : List ℕ) → EndsInChunk n taken → HasC
 cut_in_chunk n taken (cs, part, takes, short, is_part) = (cs, part, record { takes = takes; ends = inl (short, is_part) })
 
 -- why an image is refused whose marker is refused
-refused_after : (n : ℕ) (cs : List Chunk) → AreChunks cs → Reaches n cs → (taken : List ℕ) (e : Error) → RefusesTakenMarker taken e → RefusesTaken n (text cs ++ taken) e
-refused_after n cs chunks reaches taken (IoError x) few = (cs, taken, record { takes = record { chunks = chunks; short = reaches.short; split = refl }; ends = inr (reaches.enough, few) })
+refused_after : (n : ℕ) (cs : List Chunk) → AreChunks cs → Reaches n cs → (taken : List ℕ) (e : Error) → RefusesTakenMarker taken e
+    → RefusesTaken n (text cs ++ taken) e
+refused_after n cs chunks reaches taken (IoError x) few = (
+  cs,
+  taken,
+  record { takes = record { chunks = chunks; short = reaches.short; split = refl }; ends = inr (reaches.enough, few) },
+)
 refused_after n cs chunks reaches taken InvalidPadding (eight, other) = (
   cs,
   taken,
@@ -106,8 +122,14 @@ refused_after n cs chunks reaches taken UnexpectedBufferEnd none = none
 refused_after n cs chunks reaches taken OutOfMemory none = none
 
 -- what was taken where the marker was refused
-pub marker_refused : {T : Type 0} (f c n : ℕ) (old now new : Option (List ℕ)) (out : List ℕ) (r : Result T Error) → StreamsPixels f c n old now out → IfErr r (λ e. (taken : List ℕ) × Consumes now new taken × RefusesTakenMarker taken e)
+pub marker_refused : {T : Type 0} (f c n : ℕ) (old now new : Option (List ℕ)) (out : List ℕ) (r : Result T Error) → StreamsPixels f c n old now out
+    → IfErr r (λ e. (taken : List ℕ) × Consumes now new taken × RefusesTakenMarker taken e)
     → IfErr r (λ e. (taken : List ℕ) × Consumes old new taken × RefusesTaken n taken e)
 marker_refused f c n old now new out r s why =
-    IfErr-weaker r (λ e. (taken : List ℕ) × Consumes now new taken × RefusesTakenMarker taken e) (λ e. (taken : List ℕ) × Consumes old new taken × RefusesTaken n taken e)
-    (λ e (taken, took, refused). (text s.cs ++ taken, Consumes-trans old now new (text s.cs) taken s.taken took, refused_after n s.cs s.chunks s.reaches taken e refused)) why
+    IfErr-weaker r (λ e. (taken : List ℕ) × Consumes now new taken × RefusesTakenMarker taken e)
+    (λ e. (taken : List ℕ) × Consumes old new taken × RefusesTaken n taken e)
+    (λ e (taken, took, refused). (
+      text s.cs ++ taken,
+      Consumes-trans old now new (text s.cs) taken s.taken took,
+      refused_after n s.cs s.chunks s.reaches taken e refused,
+    )) why

@@ -18,7 +18,11 @@ read_is_whole f c n bytes None out r = absurd r.taken
 read_is_whole f c n bytes (Some rest) out r = (
   r.cs,
   rest,
-  record { takes = record { chunks = r.chunks; short = r.reaches.short; split = r.taken ∙ append_assoc (text r.cs) end_marker rest }; enough = r.reaches.enough },
+  record {
+    takes = record { chunks = r.chunks; short = r.reaches.short; split = r.taken ∙ append_assoc (text r.cs) end_marker rest };
+    enough =
+        r.reaches.enough;
+  },
   refl,
   r.out_is,
 )
@@ -45,19 +49,22 @@ padding_is_wrong n bytes (Some rest) taken took (cs, eight, w) = (
 )
 
 -- cut bytes are not read
-pub cut_is_not_read : (f c n : ℕ) (bytes : List ℕ) (cs : List Chunk) (part : List ℕ) (left : Option (List ℕ)) (out : List ℕ) → IsCut n bytes cs part → ReadsImage f c n (Some bytes) left out → ⊥
+pub cut_is_not_read : (f c n : ℕ) (bytes : List ℕ) (cs : List Chunk) (part : List ℕ) (left : Option (List ℕ)) (out : List ℕ) → IsCut n bytes cs part
+    → ReadsImage f c n (Some bytes) left out → ⊥
 cut_is_not_read f c n bytes cs part left out cut r =
     let w = read_is_whole f c n bytes left out r in
     whole_not_cut n bytes w.0 cs w.1 part w.2 cut
 
 -- wrong bytes are not read
-pub wrong_is_not_read : (f c n : ℕ) (bytes : List ℕ) (cs : List Chunk) (eight rest : List ℕ) (left : Option (List ℕ)) (out : List ℕ) → IsWrong n bytes cs eight rest → ReadsImage f c n (Some bytes) left out → ⊥
+pub wrong_is_not_read : (f c n : ℕ) (bytes : List ℕ) (cs : List Chunk) (eight rest : List ℕ) (left : Option (List ℕ)) (out : List ℕ)
+    → IsWrong n bytes cs eight rest → ReadsImage f c n (Some bytes) left out → ⊥
 wrong_is_not_read f c n bytes cs eight rest left out wrong r =
     let w = read_is_whole f c n bytes left out r in
     whole_not_wrong n bytes w.0 cs w.1 eight rest w.2 wrong
 
 -- where the bytes are not wrong, a refusal is an i/o error
-only_io_error : (n : ℕ) (bytes : List ℕ) (left : Option (List ℕ)) (taken : List ℕ) (e : Error) → ((cs : List Chunk) (eight rest : List ℕ) → IsWrong n bytes cs eight rest → ⊥) → Consumes (Some bytes) left taken
+only_io_error : (n : ℕ) (bytes : List ℕ) (left : Option (List ℕ)) (taken : List ℕ) (e : Error)
+    → ((cs : List Chunk) (eight rest : List ℕ) → IsWrong n bytes cs eight rest → ⊥) → Consumes (Some bytes) left taken
     → RefusesTaken n taken e → IsIoError e
 only_io_error n bytes left taken (IoError x) not_wrong took why = tt
 only_io_error n bytes left taken InvalidPadding not_wrong took why = let w = padding_is_wrong n bytes left taken took why in not_wrong w.0 w.1 w.2 w.3
@@ -71,12 +78,16 @@ only_io_error n bytes left taken UnexpectedBufferEnd not_wrong took none = none
 only_io_error n bytes left taken OutOfMemory not_wrong took none = none
 
 -- cut bytes are refused with an i/o error
-pub cut_is_io_error : (n : ℕ) (bytes : List ℕ) (cs : List Chunk) (part : List ℕ) (left : Option (List ℕ)) (e : Error) → IsCut n bytes cs part → RefusesImage false n (Some bytes) left e → IsIoError e
-cut_is_io_error n bytes cs part left e cut (taken, took, why) = only_io_error n bytes left taken e (λ ds eight rest wrong. cut_not_wrong n bytes cs ds part eight rest cut wrong) took why
+pub cut_is_io_error : (n : ℕ) (bytes : List ℕ) (cs : List Chunk) (part : List ℕ) (left : Option (List ℕ)) (e : Error) → IsCut n bytes cs part
+    → RefusesImage false n (Some bytes) left e → IsIoError e
+cut_is_io_error n bytes cs part left e cut (taken, took, why) =
+    only_io_error n bytes left taken e (λ ds eight rest wrong. cut_not_wrong n bytes cs ds part eight rest cut wrong) took why
 
 -- whole bytes are refused with an i/o error alone
-pub whole_is_io_error : (n : ℕ) (bytes : List ℕ) (cs : List Chunk) (rest : List ℕ) (left : Option (List ℕ)) (e : Error) → IsWhole n bytes cs rest → RefusesImage false n (Some bytes) left e → IsIoError e
-whole_is_io_error n bytes cs rest left e whole (taken, took, why) = only_io_error n bytes left taken e (λ ds eight after wrong. whole_not_wrong n bytes cs ds rest eight after whole wrong) took why
+pub whole_is_io_error : (n : ℕ) (bytes : List ℕ) (cs : List Chunk) (rest : List ℕ) (left : Option (List ℕ)) (e : Error) → IsWhole n bytes cs rest
+    → RefusesImage false n (Some bytes) left e → IsIoError e
+whole_is_io_error n bytes cs rest left e whole (taken, took, why) =
+    only_io_error n bytes left taken e (λ ds eight after wrong. whole_not_wrong n bytes cs ds rest eight after whole wrong) took why
 
 -- three channels are four without each fourth byte
 pub rgb_is_without_fourth : (file : ℕ) (pixels : List RgbaPixel) → output file 3 pixels ≡ without_fourth (output file 4 pixels)

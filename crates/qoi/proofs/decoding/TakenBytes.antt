@@ -21,14 +21,28 @@ length-then_chunk past c = omega (arith, length-append (replicate (times c) (pix
 bytes_within : (past : Past) (cs : List Chunk) → AreChunks cs → length (text cs) + 5 * length past ≤ 5 * length (then_chunks past cs)
 bytes_within past [] h = omega arith
 bytes_within past (c ∷ cs) h =
-    omega (arith, bytes_within (then_chunk past c) cs h.1, length-append (bytes_of c) (text cs), (length-bytes_of c).1, times_some c h.0, length-then_chunk past c)
+    omega (
+      arith,
+      bytes_within (then_chunk past c) cs h.1,
+      length-append (bytes_of c) (text cs),
+      (length-bytes_of c).1,
+      times_some c h.0,
+      length-then_chunk past c,
+    )
 
 -- the same for chunks that each stand after fewer than n pixels, whatever the last of them gives
 bytes_short : (n : ℕ) (past : Past) (cs : List Chunk) → AreChunks cs → length past ≤ n → StayBelowAfter n past cs → length (text cs) + 5 * length past ≤ 5 * n
 bytes_short n past [] h below short = omega arith
 bytes_short n past (c ∷ []) h below short = omega (arith, length-append (bytes_of c) [], (length-bytes_of c).1, short.0)
 bytes_short n past (c ∷ d ∷ cs) h below short =
-    omega (arith, bytes_short n (then_chunk past c) (d ∷ cs) h.1 (omega (arith, short.1.0)) short.1, length-append (bytes_of c) (text (d ∷ cs)), (length-bytes_of c).1, times_some c h.0, length-then_chunk past c)
+    omega (
+      arith,
+      bytes_short n (then_chunk past c) (d ∷ cs) h.1 (omega (arith, short.1.0)) short.1,
+      length-append (bytes_of c) (text (d ∷ cs)),
+      (length-bytes_of c).1,
+      times_some c h.0,
+      length-then_chunk past c,
+    )
 
 -- chunks that reach n pixels have five bytes for each pixel, at most
 pub reached_within : (n : ℕ) (cs : List Chunk) → AreChunks cs → Reaches n cs → length (text cs) ≤ 5 * n
@@ -46,18 +60,41 @@ part_within part (c, next, more, is, e) = omega (arith, (length-bytes_of c).1, a
 cut_within : (n : ℕ) (bytes : List ℕ) → HasCut n bytes → length bytes ≤ 5 * n + 8
 cut_within n bytes (cs, part, cut) =
     elim cut.ends [
-      | inl chunk ↦ omega (arith, below_within n cs cut.takes.chunks cut.takes.short chunk.0, part_within part chunk.1, ap length cut.takes.split, length-append (text cs) part)
-      | inr marker ↦ omega (arith, reached_within n cs cut.takes.chunks (record { short = cut.takes.short; enough = marker.0 }), marker.1, ap length cut.takes.split, length-append (text cs) part)
+      | inl chunk ↦ omega (
+        arith,
+        below_within n cs cut.takes.chunks cut.takes.short chunk.0,
+        part_within part chunk.1,
+        ap length cut.takes.split,
+        length-append (text cs) part,
+      )
+      | inr marker ↦ omega (
+        arith,
+        reached_within n cs cut.takes.chunks (record { short = cut.takes.short; enough = marker.0 }),
+        marker.1,
+        ap length cut.takes.split,
+        length-append (text cs) part,
+      )
     ]
 
 -- so are wrong ones with nothing behind the eight bytes
 wrong_within : (n : ℕ) (bytes : List ℕ) → HasWrong n bytes [] → length bytes ≤ 5 * n + 8
 wrong_within n bytes (cs, eight, wrong) =
-    omega (arith, reached_within n cs wrong.takes.chunks (record { short = wrong.takes.short; enough = wrong.enough }), wrong.length_is, ap length wrong.takes.split, length-append (text cs) (eight ++ []), length-append eight [])
+    omega (
+      arith,
+      reached_within n cs wrong.takes.chunks (record { short = wrong.takes.short; enough = wrong.enough }),
+      wrong.length_is,
+      ap length wrong.takes.split,
+      length-append (text cs) (eight ++ []),
+      length-append eight [],
+    )
 
 -- a decoded image is
 pub read_within : (f c n : ℕ) (old new : Option (List ℕ)) (out : List ℕ) → ReadsImage f c n old new out → TakesAtMost (5 * n + 8) old new
-read_within f c n old new out r = (text r.cs ++ end_marker, r.taken, omega (arith, reached_within n r.cs r.chunks r.reaches, length-append (text r.cs) end_marker))
+read_within f c n old new out r = (
+  text r.cs ++ end_marker,
+  r.taken,
+  omega (arith, reached_within n r.cs r.chunks r.reaches, length-append (text r.cs) end_marker),
+)
 
 -- bytes that are kept have lost none
 keeps_all : (old new : Option (List ℕ)) → Keeps old new → Consumes old new []

@@ -1,9 +1,10 @@
 //! The callers, run on a file of one pixel.
 use crate::callers::{
-    all_images, as_long, decoded_part, encoded_part, first_byte, header_ahead, keep_and_try,
-    keep_twice, lengths, lengths_back, near_shortest, no_longer, pack, pack_and_keep,
-    pack_and_keep_in, pack_at_once, raw_bytes, receive, send, send_and_keep, shortest, space_byte,
-    there_and_back, tight_part, tight_there_and_back, two_images,
+    all_images, as_long, bounded_bytes, decoded_part, encoded_part, first_byte, header_ahead,
+    keep_and_try, keep_twice, lengths, lengths_back, methods_there_and_back, near_shortest,
+    no_longer, pack, pack_and_keep, pack_and_keep_in, pack_at_once, raw_bytes, receive, send,
+    send_and_keep, shortest, space_byte, there_and_back, tight_part, tight_there_and_back,
+    two_images,
 };
 use crate::tests::support::fakes::{Bad, End, Sink};
 use crate::tests::support::files::ONE_RGB_PIXEL;
@@ -46,6 +47,14 @@ fn callers_of_both_ways(rt: HostRuntime) -> Result<(), Fail> {
     );
     assert_eq!(rt;
         tight_there_and_back(alloc, &pixel, 1, 1)?.as_slice(),
+        pixel.as_slice()
+    );
+    assert_eq!(rt;
+        methods_there_and_back(alloc, &pixel, 1, 1)?.as_slice(),
+        pixel.as_slice()
+    );
+    assert_eq!(rt;
+        bounded_bytes(alloc, &ONE_RGB_PIXEL)?.as_slice(),
         pixel.as_slice()
     );
     assert_eq!(rt;

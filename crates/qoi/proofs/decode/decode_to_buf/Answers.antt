@@ -41,10 +41,12 @@ returns-clause-decoded c =
     let buf = c.decode_to_buf.new.buf in
     let same : d.header ≡ c.header.result.now = cc in
     let size : c.in_ok-decode_to_buf.field-0 ≡ file_byte_count d.header = decoded.0 ∙ ap (λ k. byte_count d.header (channels_number k)) accepted.1 in
-    let image = subst (λ z. ReadsImage (channels_number d.header.channels) (channels_number d.channels) (pixel_count d.header) (Some d.reader) (Some rest) (take z buf)) size decoded.1 in (
+    let image = subst (λ z. ReadsImage (channels_number d.header.channels) (channels_number d.channels) (pixel_count d.header) (Some d.reader) (Some rest)
+    (take z buf)) size decoded.1 in (
       rest,
       subst (λ (k : Header). DecodesFile c.args.data.now k rest (take (file_byte_count k) buf)) same
-          (decodes_behind c.args.data.now d rest (take (file_byte_count d.header) buf) (λ i. omega (arith, c.type_inv.data i)) accepted.0 accepted.1 accepted.2 image),
+          (decodes_behind c.args.data.now d rest (take (file_byte_count d.header) buf)
+          (λ i. omega (arith, c.type_inv.data i)) accepted.0 accepted.1 accepted.2 image),
     )
 
 pub returns-clause-accepts : goal.returns-clause-accepts
@@ -77,7 +79,8 @@ returns-clause-followed c style h raw bytes rest f split room =
     )
 
 pub returns-in_err-decode_to_buf-clause-comes_back_in : goal.returns-in_err-decode_to_buf-clause-comes_back_in
-returns-in_err-decode_to_buf-clause-comes_back_in c style h raw f room = returns-in_err-decode_to_buf-clause-followed c style h raw c.args.data.now [] f (sym (append-nil c.args.data.now)) room
+returns-in_err-decode_to_buf-clause-comes_back_in c style h raw f room =
+    returns-in_err-decode_to_buf-clause-followed c style h raw c.args.data.now [] f (sym (append-nil c.args.data.now)) room
 
 pub returns-in_err-decode_to_buf-clause-comes_back : goal.returns-in_err-decode_to_buf-clause-comes_back
 returns-in_err-decode_to_buf-clause-comes_back c h raw f room = returns-in_err-decode_to_buf-clause-comes_back_in c Reference h raw f room

@@ -17,7 +17,18 @@ returns-in_err-out-clause-refused c =
     let p = err_from_is_err_and c.from_residual-in_err-out.result c.from_residual-in_err-out.ensures.1 in
     let d = c.in_ok-decoder.decoder in
     let accepted = c.in_ok-decoder.ensures.accepted in
-    rw (p.1, p.2) (⊎_elim (λ none. inr (none, d.header, accepted.0, subst (λ z. least_byte_count (pixel_count d.header) ≤ length z) accepted.2 (c.in_err-out.ensures.holds (ap Err none)))) (λ r. inl (inr (d.header, accepted.0, subst (λ z. RefusesBytes (pixel_count d.header) z c.in_err-out.field-0.0) accepted.2 r.1))) c.in_err-out.ensures.refused)
+    rw (p.1, p.2) (⊎_elim (λ none. inr (
+      none,
+      d.header,
+      accepted.0,
+      subst (λ z. least_byte_count (pixel_count d.header) ≤ length z) accepted.2 (c.in_err-out.ensures.holds (ap Err none)),
+    ))
+    (λ r. inl (inr (
+      d.header,
+      accepted.0,
+      subst (λ z.
+          RefusesBytes (pixel_count d.header) z c.in_err-out.field-0.0) accepted.2 r.1,
+    ))) c.in_err-out.ensures.refused)
 
 pub returns-in_err-out-clause-accepts : goal.returns-in_err-out-clause-accepts
 returns-in_err-out-clause-accepts c h cs rest f split =
@@ -44,7 +55,8 @@ returns-clause-decoded c =
     let same : c.header.result.now ≡ d.header = c.header.ensures ∙ ap (λ (s : DecoderState (List ℕ)). s.header) c.in_ok-out.ensures.kept in (
       rest,
       subst (λ (k : Header). DecodesFile c.args.data.now k rest c.in_ok-out.out.items) (sym same)
-          (decodes_behind c.args.data.now d rest c.in_ok-out.out.items (λ i. omega (arith, c.type_inv.data i)) accepted.0 accepted.1 accepted.2 c.in_ok-out.ensures.decoded),
+          (decodes_behind c.args.data.now d rest c.in_ok-out.out.items
+          (λ i. omega (arith, c.type_inv.data i)) accepted.0 accepted.1 accepted.2 c.in_ok-out.ensures.decoded),
     )
 
 pub returns-in_err-out-clause-followed : goal.returns-in_err-out-clause-followed
@@ -61,7 +73,8 @@ returns-clause-followed c style h raw bytes rest f split =
     decoding_is_one c.args.data.now h c.header.result.now rest decoded.0 raw c.in_ok-out.out.items d decoded.1
 
 pub returns-in_err-out-clause-comes_back_in : goal.returns-in_err-out-clause-comes_back_in
-returns-in_err-out-clause-comes_back_in c style h raw f = returns-in_err-out-clause-followed c style h raw c.args.data.now [] f (sym (append-nil c.args.data.now))
+returns-in_err-out-clause-comes_back_in c style h raw f = returns-in_err-out-clause-followed c style h raw c.args.data.now [] f
+    (sym (append-nil c.args.data.now))
 
 pub returns-in_err-out-clause-comes_back : goal.returns-in_err-out-clause-comes_back
 returns-in_err-out-clause-comes_back c h raw f = returns-in_err-out-clause-comes_back_in c Reference h raw f

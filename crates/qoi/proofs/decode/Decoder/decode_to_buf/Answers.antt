@@ -1,8 +1,12 @@
 -- Whole bytes in memory are not refused, and each image takes a bounded number of bytes.
-use Rattle.std.proofs.Common.{◌≡◌, ◌+◌, ◌*◌, ap, ◌∙◌, arith, subst}
+use Rattle.std.proofs.Common.{◌≡◌, ◌+◌, ◌*◌, ◌++◌, length, take, drop, ap, ◌∙◌, arith, subst}
+use Rattle.std.proofs.lemmas.List.{length-take-le}
+use Rattle.std.proofs.lemmas.Result.{err_from_is_err_and}
+use lib.Seq.{take-append_seam}
 use Rattle.qoi.specs.Qoi.{channels_number, pixel_count}
 use Rattle.qoi.specs.Decoding.{RefusesImage}
 use Rattle.qoi.specs.DecoderState.{TakesAtMost}
+use Rattle.qoi.proofs.decoding.Ahead.{reads_image_of, left_known, fault_ahead}
 use Rattle.qoi.proofs.decoding.ImageSize.{channels_are, image_pixels}
 use Rattle.qoi.proofs.decoding.Refusals.{whole_not_refused_in}
 use Rattle.qoi.proofs.decoding.TakenBytes.{read_within, refused_within}
@@ -11,20 +15,24 @@ use Rattle.qoi.proofs.decode.Decoder.decode_to_buf.Goals.{After-from_residual}
 use Rattle.qoi.proofs.decode.Decoder.decode_to_buf.Goals as goal
 
 -- the image was refused
-refused : (g : Over) (c : After-from_residual g) → RefusesImage g.R.Reader.in_memory (pixel_count c.args.self.now.header) (g.R.Reader.ahead c.args.self.now.reader) (g.R.Reader.ahead c.decode_image.new.self) c.in_err-decode_image.field-0.0
+refused : (g : Over) (c : After-from_residual g) → RefusesImage g.R.Reader.in_memory (pixel_count c.args.self.now.header)
+    (g.R.Reader.ahead c.args.self.now.reader) (g.R.Reader.ahead c.decode_image.new.self) c.in_err-decode_image.field-0.0
 refused g c =
     let d = c.args.self.now in
     let channels : c.as_u8-channels.result ≡ channels_number d.channels =
     c.as_u8-channels.ensures ∙ ap (λ s. channels_number s.channels) c.self.view_is in
     let file : c.as_u8-src_channels.result ≡ channels_number d.header.channels =
     c.as_u8-src_channels.ensures ∙ ap (λ s. channels_number s.header.channels) c.self.view_is in
-    let pixels = image_pixels d.header d.channels c.required_buf_len-size.result c.as_u8-channels.result c.args.buf.now c.required_buf_len-size.ensures.bytes (omega arith) channels in
+    let pixels = image_pixels d.header d.channels c.required_buf_len-size.result c.as_u8-channels.result c.args.buf.now c.required_buf_len-size.ensures.bytes
+    (omega arith) channels in
     let image = c.in_err-decode_image.ensures.refused (channels_are d.channels _ channels, channels_are d.header.channels _ file) in
-    subst (λ old. RefusesImage g.R.Reader.in_memory (pixel_count d.header) old (g.R.Reader.ahead c.decode_image.new.self) c.in_err-decode_image.field-0.0) (ap (λ s. g.R.Reader.ahead s.reader) c.self.view_is) (rw pixels at image)
+    subst (λ old. RefusesImage g.R.Reader.in_memory (pixel_count d.header) old (g.R.Reader.ahead c.decode_image.new.self) c.in_err-decode_image.field-0.0)
+    (ap (λ s. g.R.Reader.ahead s.reader) c.self.view_is) (rw pixels at image)
 
 pub returns-in_err-decode_image-clause-accepts : goal.returns-in_err-decode_image-clause-accepts
 returns-in_err-decode_image-clause-accepts g c memory bytes rest cs told whole room =
-    absurd (whole_not_refused_in g.R.Reader.in_memory (pixel_count c.args.self.now.header) _ _ _ bytes cs rest memory told whole (refused g (goal.at.returns-in_err-decode_image-clause-accepts g c).After-from_residual))
+    absurd (whole_not_refused_in g.R.Reader.in_memory (pixel_count c.args.self.now.header) _ _ _ bytes cs rest memory told whole
+    (refused g (goal.at.returns-in_err-decode_image-clause-accepts g c).After-from_residual))
 
 pub returns-in_err-decode_image-clause-bounded : goal.returns-in_err-decode_image-clause-bounded
 returns-in_err-decode_image-clause-bounded g c = refused_within g.R.Reader.in_memory _ _ _ _ (refused g c)
@@ -33,6 +41,34 @@ pub returns-clause-bounded : goal.returns-clause-bounded
 returns-clause-bounded g c =
     let d = c.args.self.now in
     let channels = c.as_u8-channels.ensures ∙ ap (λ s. channels_number s.channels) c.self.view_is in
-    let pixels = image_pixels d.header d.channels c.required_buf_len-size.result c.as_u8-channels.result c.args.buf.now c.required_buf_len-size.ensures.bytes (omega arith) channels in
+    let pixels = image_pixels d.header d.channels c.required_buf_len-size.result c.as_u8-channels.result c.args.buf.now c.required_buf_len-size.ensures.bytes
+    (omega arith) channels in
     let within = read_within _ _ _ _ _ _ c.in_ok-decode_image.ensures.read.1 in
-    subst (λ old. TakesAtMost (5 * pixel_count d.header + 8) old (g.R.Reader.ahead c.decode_image.new.self)) (ap (λ s. g.R.Reader.ahead s.reader) c.self.view_is) (rw pixels at within)
+    subst (λ old. TakesAtMost (5 * pixel_count d.header + 8) old (g.R.Reader.ahead c.decode_image.new.self))
+    (ap (λ s. g.R.Reader.ahead s.reader) c.self.view_is) (rw pixels at within)
+
+pub returns-in_err-decode_image-clause-faults : goal.returns-in_err-decode_image-clause-faults
+returns-in_err-decode_image-clause-faults g c bytes raw rest image told room =
+    let p = err_from_is_err_and c.from_residual.result c.from_residual.ensures.1 in
+    rw (p.1, p.2) (fault_ahead g.R.Reader.in_memory c.args.self.now _ _ _ bytes raw rest image told
+    (refused g (goal.at.returns-in_err-decode_image-clause-faults g c).After-from_residual))
+
+pub returns-clause-left : goal.returns-clause-left
+returns-clause-left g c bytes raw rest image told =
+    let d = c.args.self.now in
+    let channels = c.as_u8-channels.ensures ∙ ap (λ s. channels_number s.channels) c.self.view_is in
+    let pixels = image_pixels d.header d.channels c.required_buf_len-size.result c.as_u8-channels.result c.args.buf.now c.required_buf_len-size.ensures.bytes
+    (omega arith) channels in
+    left_known _ rest
+    (reads_image_of g.R.Reader.ahead _ d _ _ _ _ _ bytes raw rest c.self.view_is c.as_u8-channels.ensures c.as_u8-src_channels.ensures pixels c.in_ok-decode_image.ensures.read.1 image told).1
+
+pub returns-clause-image : goal.returns-clause-image
+returns-clause-image g c bytes raw rest image told =
+    let d = c.args.self.now in
+    let channels = c.as_u8-channels.ensures ∙ ap (λ s. channels_number s.channels) c.self.view_is in
+    let size = c.required_buf_len-size.result in
+    let pixels = image_pixels d.header d.channels size c.as_u8-channels.result c.args.buf.now c.required_buf_len-size.ensures.bytes (omega arith) channels in
+    let out = c.decode_image.new.out in
+    let same : size ≡ length out = omega (arith, c.decode_image.auto.out, length-take-le size c.args.buf.now (omega arith)) in
+    ap (λ n. take n (out ++ drop size c.args.buf.now)) same ∙ take-append_seam out (drop size c.args.buf.now)
+    ∙ (reads_image_of g.R.Reader.ahead _ d _ _ _ _ _ bytes raw rest c.self.view_is c.as_u8-channels.ensures c.as_u8-src_channels.ensures pixels c.in_ok-decode_image.ensures.read.1 image told).0

@@ -1,10 +1,11 @@
 -- Whole bytes in memory are not refused.
-use Rattle.std.proofs.Common.{rules, ◌≡◌, ◌≤◌, ◌++◌, length, drop, IsOk, false, true, ◌∙◌, subst, arith, length-append}
+use Rattle.std.proofs.Common.{rules, ◌≡◌, ◌≤◌, ◌++◌, length, drop, IsOk, false, true, ◌∙◌, subst, inr, arith, length-append}
 use Rattle.std.proofs.lemmas.List.{length-take-le}
 use Rattle.qoi.specs.declared.error.Error.TheVariants.{UnexpectedBufferEnd}
 use Rattle.qoi.specs.Qoi.{pixel_count}
 use Rattle.qoi.specs.Decoding.{RefusesImage}
 use Rattle.qoi.specs.DecoderState.{image_byte_count}
+use Rattle.qoi.proofs.decoding.Ahead.{fault_ahead}
 use Rattle.qoi.proofs.decoding.Refusals.{whole_not_refused_in}
 use Rattle.qoi.proofs.decode.Decoder.decode_to_vec.Goals as goal
 
@@ -12,11 +13,13 @@ pub returns-then-not-could_hold-clause-accepts : goal.returns-then-not-could_hol
 returns-then-not-could_hold-clause-accepts g c memory bytes rest cs told whole =
     let cut = c.could_hold.ensures.cut (search rules) in
     absurd (whole_not_refused_in g.R.Reader.in_memory (pixel_count c.args.self.now.header) _ _ _ bytes cs rest memory told whole
-    (subst (λ s. RefusesImage g.R.Reader.in_memory (pixel_count s.header) (g.R.Reader.ahead s.reader) (g.R.Reader.ahead s.reader) UnexpectedBufferEnd) c.self.view_is (rw c.n_pixels.ensures at cut)))
+    (subst (λ s. RefusesImage g.R.Reader.in_memory (pixel_count s.header) (g.R.Reader.ahead s.reader)
+    (g.R.Reader.ahead s.reader) UnexpectedBufferEnd) c.self.view_is (rw c.n_pixels.ensures at cut)))
 
 pub returns-in_err-decode_to_buf-clause-accepts : goal.returns-in_err-decode_to_buf-clause-accepts
 returns-in_err-decode_to_buf-clause-accepts g c memory bytes rest cs told whole =
-    let room : image_byte_count c.args.self.now ≤ length c.deref_mut.result.now = omega (arith, c.in_ok-out.ensures.len, c.deref_mut.ensures.len, c.required_buf_len.ensures.bytes) in
+    let room : image_byte_count c.args.self.now ≤ length c.deref_mut.result.now =
+    omega (arith, c.in_ok-out.ensures.len, c.deref_mut.ensures.len, c.required_buf_len.ensures.bytes) in
     let ok = c.decode_to_buf.ensures.accepts memory bytes rest cs told whole room in
     let no : false ≡ true = subst IsOk c.in_err-decode_to_buf.was ok in
     cc
@@ -27,6 +30,14 @@ returns-clause-length g c =
     let items = c.in_ok-out.out.items in
     let n = c.in_ok-out.out.len in
     let counted : n ≡ image_byte_count c.args.self.now = omega (arith, c.in_ok-out.ensures.len, c.required_buf_len.ensures.bytes) in
-    let within : n ≤ length (buf ++ drop (length buf) items) = omega (arith, length-append buf (drop (length buf) items), c.decode_to_buf.auto.buf, c.deref_mut.ensures.len) in
+    let within : n ≤ length (buf ++ drop (length buf) items) =
+    omega (arith, length-append buf (drop (length buf) items), c.decode_to_buf.auto.buf, c.deref_mut.ensures.len) in
     let size = length-take-le n (buf ++ drop (length buf) items) within in
     (size ∙ counted, omega (arith, size, counted, c.required_buf_len.ensures.some, c.required_buf_len.ensures.bytes))
+
+pub returns-then-not-could_hold-clause-faults : goal.returns-then-not-could_hold-clause-faults
+returns-then-not-could_hold-clause-faults g c bytes raw rest image told =
+    let cut = c.could_hold.ensures.cut (search rules) in
+    inr (fault_ahead g.R.Reader.in_memory c.args.self.now _ _ UnexpectedBufferEnd bytes raw rest image told
+    (subst (λ s. RefusesImage g.R.Reader.in_memory (pixel_count s.header) (g.R.Reader.ahead s.reader)
+    (g.R.Reader.ahead s.reader) UnexpectedBufferEnd) c.self.view_is (rw c.n_pixels.ensures at cut)))

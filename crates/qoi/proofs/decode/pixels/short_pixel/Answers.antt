@@ -23,7 +23,8 @@ returns-clause-luma c low high =
     let m = c.pick-more.ensures in
     let l = c.is_luma.ensures in
     let b = c.nibbles.ensures in
-    let e : c.delta.result + c.pick-more.result ≡ lanes (c.args.b1 % 64 + c.args.b2 / 16 + 216) (c.args.b1 % 64 + 224) (c.args.b1 % 64 + c.args.b2 % 16 + 216) = grind (arith, nat_tests) in
+    let e : c.delta.result + c.pick-more.result ≡ lanes (c.args.b1 % 64 + c.args.b2 / 16 + 216) (c.args.b1 % 64 + 224)
+    (c.args.b1 % 64 + c.args.b2 % 16 + 216) = grind (arith, nat_tests) in
     let moved = c.moved-moved.ensures.moved _ _ _ (omega (arith, c.ranges.b2.fits)) (omega arith) (omega arith) e in
     let p = c.pick.ensures in
     grind (arith, nat_tests)

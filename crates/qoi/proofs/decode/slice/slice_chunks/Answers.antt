@@ -7,14 +7,17 @@ use Rattle.qoi.proofs.decoding.Progress.{SplitAt, start_so_far, goes_on, split_m
 use Rattle.qoi.proofs.decode.slice.slice_chunks.Goals as goal
 
 pub loop-at-init : goal.loop-at-init
-loop-at-init g c = start_so_far g.row.F g.row.N (SplitAt c.args.data.now c.args.data.now) _ _ c.args.out.now c.requires.channels c.requires.whole c.new-table.ensures c.start-last.ensures refl
+loop-at-init g c =
+    start_so_far g.row.F g.row.N
+    (SplitAt c.args.data.now c.args.data.now) _ _ c.args.out.now c.requires.channels c.requires.whole c.new-table.ensures c.start-last.ensures refl
 
 pub loop-at-preserved : goal.loop-at-preserved
 loop-at-preserved g c =
     let rest = c.loop-at.rest.now in
     let taken = c.give_first-given.result.taken in
     let given = c.give_first-given.result in
-    goes_on {old = filling c.loop-at.table c.loop-at.last c.loop-at.out c.loop-at.at} {new = filling c.give_first-given.new.table given.last c.give_first-given.new.out given.at}
+    goes_on {old = filling c.loop-at.table c.loop-at.last c.loop-at.out c.loop-at.at} {new =
+    filling c.give_first-given.new.table given.last c.give_first-given.new.out given.at}
     c.requires.channels c.loop-at.invariant c.loop-at-test.true c.give_first-given.ensures.gives
     (split_more c.args.data.now rest _ (take taken rest) (sym (take-append-drop taken rest) ∙ ap (λ z. take taken rest ++ z) (sym c.split_at.ensures.back)))
     c.give_first-given.ensures.within.1 c.give_first-given.ensures.whole
@@ -25,4 +28,6 @@ returns g c =
 
 pub returns-then-rest-lt-QOI_PADDING_SIZE : goal.returns-then-rest-lt-QOI_PADDING_SIZE
 returns-then-rest-lt-QOI_PADDING_SIZE g c =
-    few_left c.requires.channels c.loop-at.invariant c.loop-at-test.true (bytes_after_front _ c.loop-at.rest.now (subst AreBytes c.loop-at.invariant.taken (λ i. omega (arith, c.type_inv.data i)))) c.if-rest-lt-QOI_PADDING_SIZE.true
+    few_left c.requires.channels c.loop-at.invariant c.loop-at-test.true
+    (bytes_after_front _ c.loop-at.rest.now (subst AreBytes c.loop-at.invariant.taken
+    (λ i. omega (arith, c.type_inv.data i)))) c.if-rest-lt-QOI_PADDING_SIZE.true

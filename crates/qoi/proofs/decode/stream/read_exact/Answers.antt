@@ -15,7 +15,8 @@ returns-in_err-count-clause-failed g c =
     let filled = c.loop-filled.filled in
     let i = c.loop-filled.invariant in
     let whole : AreBytes (put_mid filled (length buf - filled) buf c.read.new.buf) = λ j. omega (arith, c.type_inv.buf j) in
-    on_err {P = (x : List ℕ) × Consumes (g.R.Read.remaining c.args.reader.now) (g.R.Read.remaining c.read.new.self) x × ((length x < length c.args.buf.now) × AreBytes x)} _ (
+    on_err {P = (x : List ℕ) × Consumes (g.R.Read.remaining c.args.reader.now) (g.R.Read.remaining c.read.new.self) x
+    × ((length x < length c.args.buf.now) × AreBytes x)} _ (
       take filled buf,
       Consumes-kept _ _ _ _ i.1 c.in_err-count.ensures.bytes,
       (
@@ -33,7 +34,8 @@ returns-then-count-eq0-clause-failed g c =
     let bound = c.in_ok-count.ensures.bound.0 in
     let whole : AreBytes (put_mid filled (length buf - filled) buf c.read.new.buf) = λ j. omega (arith, c.type_inv.buf j) in
     let front = take-read filled n (length buf - filled) buf c.read.new.buf i.0 bound in
-    let size : length (take filled buf ++ take n c.read.new.buf) < length buf = omega (arith, length-append (take filled buf) (take n c.read.new.buf), length-take-le filled buf i.0, length-take-le n c.read.new.buf bound) in (
+    let size : length (take filled buf ++ take n c.read.new.buf) < length buf =
+    omega (arith, length-append (take filled buf) (take n c.read.new.buf), length-take-le filled buf i.0, length-take-le n c.read.new.buf bound) in (
       take filled buf ++ take n c.read.new.buf,
       Consumes-trans _ _ _ _ _ i.1 c.in_ok-count.ensures.bytes.0,
       (rw (← c.loop-filled.auto.buf) size, subst AreBytes front (bytes_take (filled + n) _ whole)),

@@ -11,7 +11,8 @@ returns-in_err-given-clause-failed g c =
     on_err _ (stream_ends _ _ _ f.0 c.requires.channels c.loop-at.invariant c.loop-at-test.true f.1 f.2)
 
 pub loop-at-init : goal.loop-at-init
-loop-at-init g c = start_so_far g.row.F g.row.N _ _ _ c.args.out.now c.requires.channels c.requires.whole c.new-table.ensures c.start-last.ensures (Consumes-nil _)
+loop-at-init g c = start_so_far g.row.F g.row.N _ _ _ c.args.out.now c.requires.channels c.requires.whole c.new-table.ensures c.start-last.ensures
+    (Consumes-nil _)
 
 pub loop-at-preserved : goal.loop-at-preserved
 loop-at-preserved g c =

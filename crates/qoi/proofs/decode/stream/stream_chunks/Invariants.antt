@@ -7,7 +7,8 @@ use Rattle.qoi.proofs.decode.stream.stream_chunks.Given as goal
 
 abbrev pub invariant-loop-at : goal.invariant-loop-at
 invariant-loop-at g l =
-    SoFar g.row.F g.row.N (length l.initial.out / g.row.N) (Consumes (g.R.Read.remaining l.initial.reader) (g.R.Read.remaining l.reader)) (filling l.table l.last l.out l.at)
+    SoFar g.row.F g.row.N (length l.initial.out / g.row.N) (Consumes (g.R.Read.remaining l.initial.reader) (g.R.Read.remaining l.reader))
+    (filling l.table l.last l.out l.at)
 
 abbrev pub decreases-loop-at : goal.decreases-loop-at
 decreases-loop-at g l = length l.out - l.at

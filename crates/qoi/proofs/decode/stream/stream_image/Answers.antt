@@ -12,4 +12,5 @@ returns-in_err-stream_chunks-clause-refused g c =
 
 pub returns-clause-refused : goal.returns-clause-refused
 returns-clause-refused g c =
-    marker_refused g.row.F g.row.N (length c.args.out.now / g.row.N) _ _ _ _ c.stream_marker.result c.in_ok-stream_chunks.ensures.read c.stream_marker.ensures.refused
+    marker_refused g.row.F g.row.N
+    (length c.args.out.now / g.row.N) _ _ _ _ c.stream_marker.result c.in_ok-stream_chunks.ensures.read c.stream_marker.ensures.refused

@@ -7,4 +7,5 @@ pub returns : goal.returns
 returns g c =
     let bytes = c.read_exact.new.buf in
     let size : length bytes ≡ 14 = c.read_exact.auto.buf in
-    stream_header (g.R.Read.remaining c.args.self.now) (g.R.Read.remaining c.read_exact.new.reader) bytes c.decode.result size c.in_ok-read_exact.ensures.read c.decode.ensures.read c.decode.ensures.own
+    stream_header (g.R.Read.remaining c.args.self.now)
+    (g.R.Read.remaining c.read_exact.new.reader) bytes c.decode.result size c.in_ok-read_exact.ensures.read c.decode.ensures.read c.decode.ensures.own

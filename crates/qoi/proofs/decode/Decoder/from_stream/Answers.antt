@@ -1,0 +1,21 @@
+-- The image of a file stands ahead, once the header was read.
+use Rattle.std.proofs.Common.{◌++◌, [], append-nil, refl, sym}
+use Rattle.qoi.specs.declared.types.Style.TheVariants.{Reference}
+use Rattle.qoi.proofs.decoding.Ahead.{header_read_from, image_of_file, file_ahead}
+use Rattle.qoi.proofs.decode.Decoder.from_stream.Goals as goal
+
+pub returns-clause-behind : goal.returns-clause-behind
+returns-clause-behind g c bytes told = (header_read_from _ _ bytes c.in_ok-header.header c.in_ok-header.ensures told).1
+
+pub returns-clause-comes_back_in : goal.returns-clause-comes_back_in
+returns-clause-comes_back_in g c style h raw bytes f told =
+    let read = (header_read_from _ _ bytes c.in_ok-header.header c.in_ok-header.ensures told).0 in
+    image_of_file _ bytes h [] raw read refl (file_ahead style h raw bytes [] bytes f (sym (append-nil bytes)))
+
+pub returns-clause-comes_back : goal.returns-clause-comes_back
+returns-clause-comes_back g c h raw bytes f told = returns-clause-comes_back_in g c Reference h raw bytes f told
+
+pub returns-clause-followed : goal.returns-clause-followed
+returns-clause-followed g c style h raw bytes rest f told =
+    let read = (header_read_from _ _ (bytes ++ rest) c.in_ok-header.header c.in_ok-header.ensures told).0 in
+    image_of_file _ (bytes ++ rest) h rest raw read refl (file_ahead style h raw bytes rest (bytes ++ rest) f refl)

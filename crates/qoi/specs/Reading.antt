@@ -1,0 +1,32 @@
+-- What a decoder reads where the bytes are known that stand ahead of it.
+use Rattle.std.specs.Prelude.{◌≡◌, ℕ, List, take, Bool, true, false, Option, Some, None}
+use Rattle.qoi.specs.declared.error.Error.{Error}
+use Rattle.qoi.specs.declared.types.Channels.{Channels}
+use Rattle.qoi.specs.declared.header.Header.{Header}
+use Rattle.qoi.specs.declared.chunk.Chunk.{Chunk}
+use Rattle.qoi.specs.Qoi.{channels_number, pixel_count, meaning}
+use Rattle.qoi.specs.Raw.{output}
+use Rattle.qoi.specs.Verdicts.{IsWhole}
+use Rattle.qoi.specs.DecoderState.{DecoderState}
+use Rattle.qoi.specs.Errors.{IsIoError}
+
+-- the bytes are whole for the header, then comes the rest, and these are the pixels in the channels
+pub record IsImage (channels : Channels) (bytes : List ℕ) (h : Header) (rest out : List ℕ) : Type 0 where
+  pub cs : List Chunk
+  pub whole : IsWhole (pixel_count h) bytes cs rest
+  pub out_is : out ≡ output (channels_number h.channels) (channels_number channels) (take (pixel_count h) (meaning cs))
+
+-- For this decoder the bytes are an image of these raw bytes, in its channels, and then the rest. The word is no
+-- abbreviation, so that a search passes it on as it stands.
+unfoldable pub IsImageFor : {R : Type 0} → DecoderState R → List ℕ → List ℕ → List ℕ → Type 0
+IsImageFor d bytes raw rest = IsImage d.channels bytes d.header rest raw
+
+-- these bytes are left, and that is known
+abbrev pub IsLeft : Option (List ℕ) → List ℕ → Type 0
+IsLeft (Some bytes) rest = bytes ≡ rest
+IsLeft None rest = ⊥
+
+-- what may refuse an image that stands ahead: nothing from memory, and an i/o error from a stream
+abbrev pub IsFault : Bool → Error → Type 0
+IsFault true e = ⊥
+IsFault false e = IsIoError e
