@@ -84,7 +84,8 @@ impl Coder {
         ensures style { (past : Past) (before : Option Chunk)
             → StyleAfter past before self.old.place self.old.begun self.old.placed
             → StyleAfter (replicate count (previous past) ++ past)
-            (last_chunk before (runs_by (Chunk.Run 1) count)) self.new.place self.new.begun self.new.placed }
+            (last_chunk before (runs_by (Chunk.Run 1) count))
+            self.new.place self.new.begun self.new.placed }
     {
         match style {
             Style::Reference | Style::Places => {}
