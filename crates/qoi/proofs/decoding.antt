@@ -8,6 +8,7 @@ pub mod ImageSize
 pub mod LeastBytes
 pub mod OneFile
 pub mod Progress
+pub mod RefusedBytes
 pub mod Refusals
 pub mod SeenTable
 pub mod StreamReads

@@ -50,10 +50,14 @@ HasCut n bytes = (cs : List Chunk) × (part : List ℕ) × IsCut n bytes cs part
 abbrev pub HasWrong : ℕ → List ℕ → List ℕ → Type 0
 HasWrong n bytes rest = (cs : List Chunk) × (eight : List ℕ) × IsWrong n bytes cs eight rest
 
+-- the bytes have such eight bytes, whatever follows them
+abbrev pub AreWrong : ℕ → List ℕ → Type 0
+AreWrong n bytes = (rest : List ℕ) × HasWrong n bytes rest
+
 -- why bytes in memory are refused: cut is UnexpectedBufferEnd, and wrong is InvalidPadding
 abbrev pub RefusesBytes : ℕ → List ℕ → Error → Type 0
 RefusesBytes n bytes UnexpectedBufferEnd = HasCut n bytes
-RefusesBytes n bytes InvalidPadding = (rest : List ℕ) × HasWrong n bytes rest
+RefusesBytes n bytes InvalidPadding = AreWrong n bytes
 RefusesBytes n bytes _ = ⊥
 
 -- why a stream is refused, by the bytes that were taken

@@ -1,10 +1,11 @@
 -- What a decoder reads where the bytes are known that stand ahead of it.
-use Rattle.std.specs.Prelude.{◌≡◌, ℕ, List, take, Bool, true, false, Option, Some, None}
+use Rattle.std.specs.Prelude.{◌≡◌, ◌⊎◌, ℕ, List, ◌++◌, take, Bool, true, false, Option, Some, None}
 use Rattle.qoi.specs.declared.error.Error.{Error}
+use Rattle.qoi.specs.declared.error.Error.TheVariants.{UnexpectedBufferEnd, InvalidPadding}
 use Rattle.qoi.specs.declared.types.Channels.{Channels}
 use Rattle.qoi.specs.declared.header.Header.{Header}
 use Rattle.qoi.specs.declared.chunk.Chunk.{Chunk}
-use Rattle.qoi.specs.Qoi.{channels_number, pixel_count, meaning}
+use Rattle.qoi.specs.Qoi.{channels_number, head, IsValid, pixel_count, meaning}
 use Rattle.qoi.specs.Raw.{output}
 use Rattle.qoi.specs.Verdicts.{IsWhole}
 use Rattle.qoi.specs.DecoderState.{DecoderState}
@@ -30,3 +31,18 @@ IsLeft None rest = ⊥
 abbrev pub IsFault : Bool → Error → Type 0
 IsFault true e = ⊥
 IsFault false e = IsIoError e
+
+-- The decoder is of the file at the front of the bytes: its header's bytes stand there, then comes what is ahead of the
+-- decoder, and its channels are the file's own. Like the word above, this is no abbreviation.
+unfoldable pub IsDecoderOf : {R : Type 0} → DecoderState R → List ℕ → List ℕ → Type 0
+IsDecoderOf d bytes ahead = (bytes ≡ head d.header ++ ahead) × IsValid d.header × (d.channels ≡ d.header.channels)
+
+-- what refuses cut bytes: from memory their end, and an i/o error from a stream
+abbrev pub IsForCut : Bool → Error → Type 0
+IsForCut true e = e ≡ UnexpectedBufferEnd
+IsForCut false e = IsIoError e
+
+-- what refuses wrong bytes: their padding, and from a stream that, or an i/o error
+abbrev pub IsForWrong : Bool → Error → Type 0
+IsForWrong true e = e ≡ InvalidPadding
+IsForWrong false e = (e ≡ InvalidPadding) ⊎ IsIoError e

@@ -1,15 +1,16 @@
 //! Decoding, from slices and from streams.
-ghost use Rattle.std.specs.Prelude.{◌≡◌, ℕ, ◌*◌, ◌<◌, ◌≤◌, List, [], ◌++◌, length, take, drop, Option, Some, MatchResult, IfOk, IfErr, OnOk, IsOk, IsOkAnd, IsErrOf, IsOkUnless, ◌⊎◌, true, false, Ok, Err};
+ghost use Rattle.std.specs.Prelude.{◌≡◌, ℕ, ◌*◌, ◌<◌, ◌≤◌, List, [], ◌++◌, length, take, drop, Option, Some, MatchResult, ◌+◌, IfOk, IfErr, OnOk, IsOk, IsOkAnd, IsErrAnd, IsErrOf, IsOkUnless, slice_index, ◌⊎◌, true, false, Ok, Err};
 ghost use Rattle.qoi.specs.declared.chunk.Chunk.{Chunk};
 ghost use Rattle.qoi.specs.declared.header.Header.{Header};
 ghost use Rattle.qoi.specs.declared.error.Error.{Error};
 ghost use Rattle.qoi.specs.Qoi.{header_of, pixel_count, raw_byte_count, IsFile, file, header_size};
 ghost use Rattle.qoi.specs.Verdicts.{IsWhole};
-ghost use Rattle.qoi.specs.Decoding.{CouldHold, least_byte_count, ReadsHeader, RefusesFile, RefusesWholeFile, DecodesFile, file_byte_count, HasImageLength};
+ghost use Rattle.qoi.specs.Decoding.{AreWrong, CouldHold, HasCut, least_byte_count, ReadsHeader, RefusesFile, RefusesWholeFile, DecodesFile, file_byte_count, HasImageLength};
 ghost use Rattle.qoi.specs.declared.types.Style.{Style};
 ghost use Rattle.qoi.specs.Encoded.{IsFileOf};
 ghost use Rattle.qoi.specs.DecoderState.{image_byte_count, DecodesImage, RefusesDecoding, TakesWithin};
-ghost use Rattle.qoi.specs.Reading.{IsFault, IsImageFor, IsLeft};
+ghost use Rattle.qoi.specs.Reading.{IsDecoderOf, IsFault, IsForCut, IsForWrong, IsImage, IsImageFor, IsLeft};
+ghost use Rattle.qoi.specs.Raw.{without_fourth};
 
 mod deltas;
 mod pixels;
@@ -66,6 +67,13 @@ pub fn decode_to_buf(buf: &mut [u8], data: &[u8]) -> Result<Header>
         → IsFileOf style h raw bytes → «data».now ≡ bytes ++ rest
         → length raw ≤ length buf.old → (result ≡ Ok h) × (take (length raw) buf.new ≡ raw) }
     ensures room { IfOk result (λ h. raw_byte_count h ≤ length buf.old) }
+    // Behind a header cut bytes are refused for their end, and wrong ones for their padding.
+    ensures cut { (h : Header) → header_of «data».now ≡ Ok h
+        → HasCut (pixel_count h) (drop header_size «data».now)
+        → file_byte_count h ≤ length buf.old → result ≡ Err Error.UnexpectedBufferEnd }
+    ensures wrong { (h : Header) → header_of «data».now ≡ Ok h
+        → AreWrong (pixel_count h) (drop header_size «data».now)
+        → file_byte_count h ≤ length buf.old → result ≡ Err Error.InvalidPadding }
 {
     let mut decoder = Decoder::new(data)?;
     decoder.decode_to_buf(buf)?;
@@ -101,6 +109,14 @@ pub fn decode_to_vec(alloc: Global, data: &[u8]) -> Result<(Header, Vec<u8>)>
     ensures followed { (style : Style) (h : Header) (raw bytes rest : List ℕ)
         → IsFileOf style h raw bytes → «data».now ≡ bytes ++ rest
         → MatchResult result (λ x. (x.0 ≡ h) × (x.1.items ≡ raw)) (λ e. e ≡ Error.OutOfMemory) }
+    // Behind a header cut bytes are refused for their end, and wrong ones for their padding, unless
+    // memory runs out.
+    ensures cut { (h : Header) → header_of «data».now ≡ Ok h
+        → HasCut (pixel_count h) (drop header_size «data».now)
+        → IsErrAnd result (λ e. (e ≡ Error.OutOfMemory) ⊎ (e ≡ Error.UnexpectedBufferEnd)) }
+    ensures wrong { (h : Header) → header_of «data».now ≡ Ok h
+        → AreWrong (pixel_count h) (drop header_size «data».now)
+        → IsErrAnd result (λ e. (e ≡ Error.OutOfMemory) ⊎ (e ≡ Error.InvalidPadding)) }
 {
     let mut decoder = Decoder::<Bytes>::new(data)?;
     let out = decoder.decode_to_vec(alloc)?;
@@ -155,6 +171,8 @@ impl<'a> Decoder<Bytes<'a>> {
             → IsFileOf style h raw bytes → «data».entry.now ≡ bytes ++ rest
             → IsOkAnd result (λ d. (d.header ≡ h)
             × IsImageFor d (drop header_size «data».entry.now) raw rest) }
+        ensures made { IfOk result (λ d. IsDecoderOf d «data».entry.now
+            (drop header_size «data».entry.now)) }
         ensures refused { IfErr result (λ e. header_of «data».entry.now ≡ Err e) }
     {
         let mut reader = Bytes::new(data);
@@ -203,6 +221,8 @@ impl<R: Read + Drop> Decoder<R> {
             → IsFileOf style h raw bytes → R.remaining reader ≡ Some (bytes ++ rest)
             → IfOk result (λ d. (d.header ≡ h)
             × IsImageFor d (drop header_size (bytes ++ rest)) raw rest) }
+        ensures made { (bytes : List ℕ) → R.remaining reader ≡ Some bytes
+            → IfOk result (λ d. IsDecoderOf d bytes (drop header_size bytes)) }
         ensures refused { IfErr result (λ e. (left : Option (List ℕ))
             × ReadsHeader false (R.remaining reader) left (Err e)) }
     {
@@ -321,6 +341,40 @@ impl<R: Reader> Decoder<R> {
         ensures faults { (bytes raw rest : List ℕ) → IsImageFor self.old bytes raw rest
             → R.ahead self.old.reader ≡ Some bytes → image_byte_count self.old ≤ length buf.old
             → IfErr result (IsFault R.in_memory) }
+        // What was decoded stood ahead, and what follows it is left.
+        ensures read { (bytes : List ℕ) → R.ahead self.old.reader ≡ Some bytes
+            → IfOk result (λ size. (rest : List ℕ) × IsLeft (R.ahead self.new.reader) rest
+            × IsImage self.old.channels bytes self.old.header rest (take size buf.new)) }
+        // Of a decoder of these bytes, in the file's own channels, it is a file at their front.
+        ensures file { (bytes ahead : List ℕ) → IsDecoderOf self.old bytes ahead
+            → R.ahead self.old.reader ≡ Some ahead
+            → IfOk result (λ size. (rest : List ℕ) × IsLeft (R.ahead self.new.reader) rest
+            × DecodesFile bytes self.old.header rest (take size buf.new)) }
+        // In three channels it is what four are without each fourth byte; and where the file has
+        // three, each fourth byte of four is 255.
+        ensures rgb { (bytes four rest : List ℕ) → self.old.channels ≡ Channels.Rgb
+            → IsImage Channels.Rgba bytes self.old.header rest four
+            → R.ahead self.old.reader ≡ Some bytes
+            → IfOk result (λ size. take size buf.new ≡ without_fourth four) }
+        ensures opaque { self.old.channels ≡ Channels.Rgba → self.old.header.channels ≡ Channels.Rgb
+            → IfOk result (λ size. (i : ℕ) → i < pixel_count self.old.header
+            → slice_index (take size buf.new) (4 * i + 3) ≡ 255) }
+        // Cut bytes and wrong ones are refused; and only those are refused for their end and their
+        // padding.
+        ensures cut { (bytes : List ℕ) → R.ahead self.old.reader ≡ Some bytes
+            → HasCut (pixel_count self.old.header) bytes
+            → image_byte_count self.old ≤ length buf.old
+            → IsErrAnd result (IsForCut R.in_memory) }
+        ensures wrong { (bytes : List ℕ) → R.ahead self.old.reader ≡ Some bytes
+            → AreWrong (pixel_count self.old.header) bytes
+            → image_byte_count self.old ≤ length buf.old
+            → IsErrAnd result (IsForWrong R.in_memory) }
+        ensures only_cut { (bytes : List ℕ) → R.ahead self.old.reader ≡ Some bytes
+            → IsErrOf result Error.UnexpectedBufferEnd
+            → HasCut (pixel_count self.old.header) bytes }
+        ensures only_wrong { (bytes : List ℕ) → R.ahead self.old.reader ≡ Some bytes
+            → IsErrOf result Error.InvalidPadding
+            → AreWrong (pixel_count self.old.header) bytes }
         ensures later { drop (image_byte_count self.old) buf.new
             ≡ drop (image_byte_count self.old) buf.old }
         ensures kept { self.new ≡ record self.old { reader = self.new.reader } }
@@ -373,6 +427,38 @@ impl<R: Reader> Decoder<R> {
         ensures faults { (bytes raw rest : List ℕ) → IsImageFor self.old bytes raw rest
             → R.ahead self.old.reader ≡ Some bytes
             → IfErr result (λ e. (e ≡ Error.OutOfMemory) ⊎ IsFault R.in_memory e) }
+        // What was decoded stood ahead, and what follows it is left.
+        ensures read { (bytes : List ℕ) → R.ahead self.old.reader ≡ Some bytes
+            → IfOk result (λ out. (rest : List ℕ) × IsLeft (R.ahead self.new.reader) rest
+            × IsImage self.old.channels bytes self.old.header rest out.items) }
+        // Of a decoder of these bytes, in the file's own channels, it is a file at their front.
+        ensures file { (bytes ahead : List ℕ) → IsDecoderOf self.old bytes ahead
+            → R.ahead self.old.reader ≡ Some ahead
+            → IfOk result (λ out. (rest : List ℕ) × IsLeft (R.ahead self.new.reader) rest
+            × DecodesFile bytes self.old.header rest out.items) }
+        // In three channels it is what four are without each fourth byte; and where the file has
+        // three, each fourth byte of four is 255.
+        ensures rgb { (bytes four rest : List ℕ) → self.old.channels ≡ Channels.Rgb
+            → IsImage Channels.Rgba bytes self.old.header rest four
+            → R.ahead self.old.reader ≡ Some bytes
+            → IfOk result (λ out. out.items ≡ without_fourth four) }
+        ensures opaque { self.old.channels ≡ Channels.Rgba → self.old.header.channels ≡ Channels.Rgb
+            → IfOk result (λ out. (i : ℕ) → i < pixel_count self.old.header
+            → slice_index out.items (4 * i + 3) ≡ 255) }
+        // Cut bytes and wrong ones are refused; and only those are refused for their end and their
+        // padding.
+        ensures cut { (bytes : List ℕ) → R.ahead self.old.reader ≡ Some bytes
+            → HasCut (pixel_count self.old.header) bytes
+            → IsErrAnd result (λ e. (e ≡ Error.OutOfMemory) ⊎ IsForCut R.in_memory e) }
+        ensures wrong { (bytes : List ℕ) → R.ahead self.old.reader ≡ Some bytes
+            → AreWrong (pixel_count self.old.header) bytes
+            → IsErrAnd result (λ e. (e ≡ Error.OutOfMemory) ⊎ IsForWrong R.in_memory e) }
+        ensures only_cut { (bytes : List ℕ) → R.ahead self.old.reader ≡ Some bytes
+            → IsErrOf result Error.UnexpectedBufferEnd
+            → HasCut (pixel_count self.old.header) bytes }
+        ensures only_wrong { (bytes : List ℕ) → R.ahead self.old.reader ≡ Some bytes
+            → IsErrOf result Error.InvalidPadding
+            → AreWrong (pixel_count self.old.header) bytes }
         ensures kept { self.new ≡ record self.old { reader = self.new.reader } }
         // Of n pixels a call takes at most 5n + 8 bytes, also where it refuses.
         ensures bounded { TakesWithin R.ahead self.old self.new }

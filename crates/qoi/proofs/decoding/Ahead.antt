@@ -1,21 +1,25 @@
 -- The image that stands ahead of a decoder: a file brings it there, it is decoded, and it isn't refused.
-use Rattle.std.proofs.Common.{◌≡◌, ℕ, List, ◌++◌, drop, take, Bool, true, false, Option, Some, None, Ok, refl, ap, sym, ◌∙◌, subst}
+use Rattle.std.proofs.Common.{◌≡◌, ◌+◌, ◌*◌, ◌<◌, arith, slice_index, ℕ, List, ◌++◌, drop, take, Bool, true, false, Option, Some, None, Ok, refl, ap, sym, ◌∙◌, subst}
+use Rattle.std.proofs.lemmas.List.{length-take-le}
+use Rattle.std.specs.Io.KnownBytes.{Consumes}
 use Rattle.qoi.specs.declared.error.Error.{Error}
 use Rattle.qoi.specs.declared.header.Header.{Header}
 use Rattle.qoi.specs.declared.types.Channels.{Channels}
+use Rattle.qoi.specs.declared.types.Channels.TheVariants.{Rgb, Rgba}
+use Rattle.qoi.specs.declared.chunk.Chunk.{Chunk}
 use Rattle.qoi.specs.declared.types.Style.{Style}
-use Rattle.qoi.specs.Qoi.{channels_number, header_of, header_size, pixel_count, meaning}
-use Rattle.qoi.specs.Raw.{output}
+use Rattle.qoi.specs.Qoi.{channels_number, head, header_of, header_size, IsValid, pixel_count, meaning}
+use Rattle.qoi.specs.Raw.{output, without_fourth}
 use Rattle.qoi.specs.Verdicts.{IsWhole}
-use Rattle.qoi.specs.Decoding.{DecodesFile, ReadsHeader, ReadsImage, RefusesImage}
+use Rattle.qoi.specs.Decoding.{AreWrong, DecodesFile, HasCut, ReadsHeader, ReadsImage, RefusesImage}
 use Rattle.qoi.specs.DecoderState.{DecoderState}
 use Rattle.qoi.specs.Encoded.{IsFileOf}
-use Rattle.qoi.specs.Reading.{IsImageFor, IsLeft, IsFault}
-use Rattle.qoi.proofs.decoding.OneFile.{header_is_one}
-use Rattle.qoi.proofs.decoding.StreamVerdicts.{read_is_whole, whole_is_io_error}
+use Rattle.qoi.specs.Reading.{IsDecoderOf, IsFault, IsImage, IsImageFor, IsLeft}
+use Rattle.qoi.proofs.decoding.OneFile.{decodes_file, file_parts, header_is_one}
+use Rattle.qoi.proofs.decoding.StreamVerdicts.{fourth_is_opaque, read_is_whole, rgb_is_without_fourth, whole_is_io_error}
 use Rattle.qoi.proofs.decoding.Refusals.{whole_not_refused_in}
 use Rattle.qoi.proofs.format.HeaderBytes.{header_split}
-use Rattle.qoi.proofs.format.OneVerdict.{whole_is_one}
+use Rattle.qoi.proofs.format.OneVerdict.{whole_is_one, whole_not_cut, whole_not_wrong}
 
 -- behind the header of a file stands its image
 pub image_of_file : {R : Type 0} (d : DecoderState R) (bytes : List ℕ) (h : Header) (rest raw : List ℕ) → header_of bytes ≡ Ok d.header
@@ -47,6 +51,15 @@ header_read bytes (Some rest) h r = let split = header_split bytes r.0 rest h r.
 pub header_read_from : (old left : Option (List ℕ)) (bytes : List ℕ) (h : Header) → ReadsHeader false old left (Ok h) → old ≡ Some bytes
     → (header_of bytes ≡ Ok h) × (left ≡ Some (drop header_size bytes))
 header_read_from old left bytes h r told = header_read bytes left h (subst (λ z. ReadsHeader false z left (Ok h)) told r)
+
+-- and the header's bytes stand at their front
+pub header_front : (old left : Option (List ℕ)) (bytes : List ℕ) (h : Header) → ReadsHeader false old left (Ok h) → old ≡ Some bytes
+    → (bytes ≡ head h ++ drop header_size bytes) × IsValid h
+header_front old None bytes h r told = absurd (subst (λ z. Consumes z None r.0) told r.1)
+header_front old (Some rest) bytes h r told =
+    let split : bytes ≡ r.0 ++ rest = subst (λ z. Consumes z (Some rest) r.0) told r.1 in
+    let after = (header_split bytes r.0 rest h split r.2 r.3).1 in
+    (split ∙ ap (λ z. z ++ rest) r.4 ∙ ap (λ z. head h ++ z) after, r.5)
 
 -- what is read is the image that stood ahead, and the rest is left
 pub reads_image : {R : Type 0} (d : DecoderState R) (bytes : List ℕ) (left : Option (List ℕ)) (out raw rest : List ℕ) → IsImageFor d bytes raw rest
@@ -88,3 +101,73 @@ fault_ahead true d old new e bytes raw rest image told refused =
     whole_not_refused_in true (pixel_count d.header) old new e bytes image.cs rest refl told image.whole refused
 fault_ahead false d old new e bytes raw rest image told refused =
     whole_is_io_error (pixel_count d.header) bytes image.cs rest new e image.whole (subst (λ z. RefusesImage false (pixel_count d.header) z new e) told refused)
+
+-- what is read from known bytes is an image at their front, and what follows it is left
+pub image_read : (channels : Channels) (h : Header) (bytes : List ℕ) (left : Option (List ℕ)) (out : List ℕ)
+    → ReadsImage (channels_number h.channels) (channels_number channels) (pixel_count h) (Some bytes) left out
+    → (rest : List ℕ) × IsLeft left rest × IsImage channels bytes h rest out
+image_read channels h bytes left out r =
+    let w = read_is_whole (channels_number h.channels) (channels_number channels) (pixel_count h) bytes left out r in (
+      w.1,
+      left_known left w.1 w.3,
+      record { cs = w.0; whole = w.2; out_is = w.4 },
+    )
+
+-- so it is where the channels and the pixels are given by numbers
+pub image_read_of : {R : Type 0} (ahead : R → Option (List ℕ)) (s d : DecoderState R) (left : Option (List ℕ)) (f c n : ℕ) (out bytes : List ℕ)
+    → s ≡ d → c ≡ channels_number s.channels → f ≡ channels_number s.header.channels → n ≡ pixel_count d.header
+    → ReadsImage f c n (ahead s.reader) left out → ahead d.reader ≡ Some bytes
+    → (rest : List ℕ) × IsLeft left rest × IsImage d.channels bytes d.header rest out
+image_read_of {R} ahead s d left f c n out bytes same channels file pixels r told =
+    let P : DecoderState R → Type 0 = λ t. ReadsImage (channels_number t.header.channels) (channels_number t.channels) (pixel_count d.header)
+    (ahead t.reader) left out in
+    let Q : Option (List ℕ) → Type 0 = λ z. ReadsImage (channels_number d.header.channels) (channels_number d.channels) (pixel_count d.header) z left out in
+    image_read d.channels d.header bytes left out (subst Q told (subst P same (rw (sym file, sym channels, sym pixels) r)))
+
+-- of a decoder of these bytes an image in the file's own channels is a file at their front
+pub file_from_image : {R : Type 0} (d : DecoderState R) (bytes ahead rest out : List ℕ) → IsDecoderOf d bytes ahead
+    → IsImage d.channels ahead d.header rest out → DecodesFile bytes d.header rest out
+unfolding IsDecoderOf
+file_from_image d bytes ahead rest out (split, valid, own) image =
+    let h = d.header in
+    let cs = image.cs in
+    let w = image.whole in
+    let P : Channels → List ℕ = λ k. output (channels_number h.channels) (channels_number k) (take (pixel_count h) (meaning cs)) in
+    decodes_file h cs bytes rest out
+    (record { valid = valid; chunks = w.takes.chunks; reaches = record { short = w.takes.short; enough = w.enough } })
+    (split ∙ ap (λ l. head h ++ l) w.takes.split ∙ sym (file_parts h cs rest)) (image.out_is ∙ ap P own)
+
+-- the image of a header that was read makes a decoder of these bytes
+pub decoder_of : {R : Type 0} (d : DecoderState R) (bytes ahead : List ℕ) → bytes ≡ head d.header ++ ahead → IsValid d.header
+    → d.channels ≡ d.header.channels → IsDecoderOf d bytes ahead
+unfolding IsDecoderOf
+decoder_of d bytes ahead split valid own = (split, valid, own)
+
+-- an image in three channels is the one in four without each fourth byte
+pub three_of_four : (channels : Channels) (h : Header) (bytes rest more out four : List ℕ) → channels ≡ Rgb → IsImage channels bytes h rest out
+    → IsImage Rgba bytes h more four → out ≡ without_fourth four
+three_of_four channels h bytes rest more out four is three image =
+    let f = channels_number h.channels in
+    let n = pixel_count h in
+    let one = whole_is_one n bytes image.cs three.cs more rest image.whole three.whole in
+    let P : List Chunk → List ℕ = λ cs. output f 4 (take n (meaning cs)) in
+    three.out_is ∙ ap (λ k. output f (channels_number k) (take n (meaning three.cs))) is ∙ rgb_is_without_fourth f (take n (meaning three.cs))
+    ∙ ap without_fourth (ap P (sym one.0) ∙ sym image.out_is)
+
+-- bytes of which an image is read aren't cut
+pub image_not_cut : (channels : Channels) (h : Header) (bytes rest out : List ℕ) → IsImage channels bytes h rest out → HasCut (pixel_count h) bytes → ⊥
+image_not_cut channels h bytes rest out image (cs, part, cut) = whole_not_cut (pixel_count h) bytes image.cs cs rest part image.whole cut
+
+-- nor are they wrong
+pub image_not_wrong : (channels : Channels) (h : Header) (bytes rest out : List ℕ) → IsImage channels bytes h rest out
+    → AreWrong (pixel_count h) bytes → ⊥
+image_not_wrong channels h bytes rest out image (more, (cs, eight, wrong)) =
+    whole_not_wrong (pixel_count h) bytes image.cs cs rest eight more image.whole wrong
+
+-- each fourth byte of an image in four channels is 255, where the file has three
+pub fourth_of_image : (f c n : ℕ) (old new : Option (List ℕ)) (out : List ℕ) → ReadsImage f c n old new out → f ≡ 3 → c ≡ 4
+    → (i : ℕ) → i < n → slice_index out (4 * i + 3) ≡ 255
+fourth_of_image f c n old new out r three four i below =
+    let pixels = take n (meaning r.cs) in
+    ap (λ z. slice_index z (4 * i + 3)) (r.out_is ∙ ap (λ k. output k c pixels) three ∙ ap (λ k. output 3 k pixels) four)
+    ∙ fourth_is_opaque pixels i (omega (arith, below, length-take-le n (meaning r.cs) r.reaches.enough))

@@ -1,10 +1,11 @@
 -- A file is decoded as such, and it is not refused.
-use Rattle.std.proofs.Common.{◌≡◌, [], append-nil, ◌≤◌, List, ◌++◌, length, take, drop, Some, Ok, ℕ, IsOk, false, true, refl, ap, sym, ◌∙◌, subst, arith}
+use Rattle.std.proofs.Common.{Err, ◌<◌, ◌⊎◌, inl, inr, ⊎_elim, ◌≡◌, [], append-nil, ◌≤◌, List, ◌++◌, length, take, drop, Some, Ok, ℕ, IsOk, false, true, refl, ap, sym, ◌∙◌, subst, arith}
+use Rattle.std.proofs.lemmas.Bool.{cases_lt}
 use Rattle.qoi.specs.declared.header.Header.{Header}
 use Rattle.qoi.specs.declared.types.Style.TheVariants.{Reference}
 use Rattle.qoi.specs.Qoi.{channels_number, header_of, pixel_count, header_size}
 use Rattle.qoi.specs.Verdicts.{IsWhole}
-use Rattle.qoi.specs.Decoding.{DecodesFile, ReadsImage, file_byte_count, byte_count}
+use Rattle.qoi.specs.Decoding.{AreWrong, HasCut, RefusesBuffer, RefusesBytes, DecodesFile, ReadsImage, file_byte_count, byte_count}
 use Rattle.qoi.specs.DecoderState.{DecoderState}
 use Rattle.qoi.proofs.decoding.OneFile.{file_has_header, file_is_whole, header_is_one, decodes_behind, decoding_is_one}
 use Rattle.qoi.specs.declared.types.Style.{Style}
@@ -55,6 +56,10 @@ returns-clause-accepts c h cs rest f split room =
     let same : c.header.result.now ≡ d.header = c.header.ensures ∙ ap (λ (s : DecoderState (List ℕ)). s.header) c.in_ok-decode_to_buf.ensures.kept in
     ap Ok (same ∙ header_is_one c.args.data.now d.header h c.in_ok-decoder.ensures.accepted.0 (file_has_header h cs c.args.data.now rest f split))
 
+-- the buffer is too short, or it isn't
+by_size : (n required : ℕ) (P Q : Type 0) → (n < required → P) → (required ≤ n → Q) → P ⊎ ((required ≤ n) × Q)
+by_size n required P Q less enough = ⊎_elim (λ short. inl (less short)) (λ room. inr (room, enough room)) (cases_lt n required)
+
 -- the file of an image, as a file
 file_ahead : (style : Style) (h : Header) (raw bytes rest «data» : List ℕ) → IsFileOf style h raw bytes → «data» ≡ bytes ++ rest → DecodesFile «data» h rest raw
 file_ahead style h raw bytes rest ahead f split = subst (λ (z : List ℕ). DecodesFile z h rest raw) (sym split) (f.is_file.comes_back rest)
@@ -99,3 +104,41 @@ returns-in_err-decoder-clause-comes_back_in c style h raw f room =
 
 pub returns-in_err-decoder-clause-comes_back : goal.returns-in_err-decoder-clause-comes_back
 returns-in_err-decoder-clause-comes_back c h raw f room = returns-in_err-decoder-clause-comes_back_in c Reference h raw f room
+
+pub returns-in_err-decode_to_buf-clause-cut : goal.returns-in_err-decode_to_buf-clause-cut
+returns-in_err-decode_to_buf-clause-cut c h read cut room =
+    let d = c.in_ok-decoder.decoder in
+    let accepted = c.in_ok-decoder.ensures.accepted in
+    let p = err_from_is_err_and c.from_residual-in_err-decode_to_buf.result c.from_residual-in_err-decode_to_buf.ensures.1 in
+    let same = header_is_one c.args.data.now h d.header read accepted.0 in
+    let size : file_byte_count h ≡ byte_count d.header (channels_number d.channels) =
+    ap file_byte_count same ∙ ap (λ k. byte_count d.header (channels_number k)) (sym accepted.1) in
+    let refused = c.in_err-decode_to_buf.ensures.cut (drop header_size c.args.data.now) (ap Some accepted.2)
+    (subst (λ k. HasCut (pixel_count k) (drop header_size c.args.data.now)) same cut) (subst (λ k. k ≤ length c.args.buf.now) size room) in
+    p.1 ∙ ap Err (p.2 ∙ refused)
+
+pub returns-in_err-decode_to_buf-clause-wrong : goal.returns-in_err-decode_to_buf-clause-wrong
+returns-in_err-decode_to_buf-clause-wrong c h read wrong room =
+    let d = c.in_ok-decoder.decoder in
+    let accepted = c.in_ok-decoder.ensures.accepted in
+    let p = err_from_is_err_and c.from_residual-in_err-decode_to_buf.result c.from_residual-in_err-decode_to_buf.ensures.1 in
+    let same = header_is_one c.args.data.now h d.header read accepted.0 in
+    let size : file_byte_count h ≡ byte_count d.header (channels_number d.channels) =
+    ap file_byte_count same ∙ ap (λ k. byte_count d.header (channels_number k)) (sym accepted.1) in
+    let refused = c.in_err-decode_to_buf.ensures.wrong (drop header_size c.args.data.now) (ap Some accepted.2)
+    (subst (λ k. AreWrong (pixel_count k) (drop header_size c.args.data.now)) same wrong) (subst (λ k. k ≤ length c.args.buf.now) size room) in
+    p.1 ∙ ap Err (p.2 ∙ refused)
+
+pub returns-in_err-decode_to_buf-clause-refused : goal.returns-in_err-decode_to_buf-clause-refused
+returns-in_err-decode_to_buf-clause-refused c =
+    let d = c.in_ok-decoder.decoder in
+    let accepted = c.in_ok-decoder.ensures.accepted in
+    let p = err_from_is_err_and c.from_residual-in_err-decode_to_buf.result c.from_residual-in_err-decode_to_buf.ensures.1 in
+    let size : byte_count d.header (channels_number d.channels) ≡ file_byte_count d.header = ap (λ k. byte_count d.header (channels_number k)) accepted.1 in
+    let n = length c.args.buf.now in
+    let less : n < file_byte_count d.header → RefusesBuffer n (file_byte_count d.header) c.in_err-decode_to_buf.field-0.0 =
+    (λ short. let e = (c.in_err-decode_to_buf.ensures.short (subst (λ k. n < k) (sym size) short)).0 in (short, cc)) in
+    let enough : file_byte_count d.header ≤ n → RefusesBytes (pixel_count d.header) (drop header_size c.args.data.now) c.in_err-decode_to_buf.field-0.0 =
+    (λ room. subst (λ z. RefusesBytes (pixel_count d.header) z c.in_err-decode_to_buf.field-0.0) accepted.2
+    (c.in_err-decode_to_buf.ensures.refused (subst (λ k. k ≤ n) (sym size) room)).1) in
+    rw (p.1, p.2) (inr (d.header, accepted.0, by_size n (file_byte_count d.header) _ _ less enough))

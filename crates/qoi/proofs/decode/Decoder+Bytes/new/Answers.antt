@@ -1,8 +1,9 @@
 -- The header's bytes are the front of all, and the reader has what follows them.
-use Rattle.std.proofs.Common.{ℕ, List, [], append-nil, refl, sym, ◌∙◌}
+use Rattle.std.proofs.Common.{ap, drop, ◌++◌, ℕ, List, [], append-nil, refl, sym, ◌∙◌}
 use Rattle.qoi.specs.declared.types.Style.TheVariants.{Reference}
+use Rattle.qoi.specs.Qoi.{head, header_size}
 use Rattle.qoi.specs.DecoderState.{DecoderState}
-use Rattle.qoi.proofs.decoding.Ahead.{image_of_file, file_ahead}
+use Rattle.qoi.proofs.decoding.Ahead.{decoder_of, image_of_file, file_ahead}
 use Rattle.qoi.proofs.format.HeaderBytes.{header_split}
 use Rattle.qoi.proofs.decode.Decoder+Bytes.new.Goals as goal
 
@@ -33,3 +34,12 @@ returns-in_err-header-clause-comes_back_in c style h raw f =
 
 pub returns-in_err-header-clause-comes_back : goal.returns-in_err-header-clause-comes_back
 returns-in_err-header-clause-comes_back c h raw f = returns-in_err-header-clause-comes_back_in c Reference h raw f
+
+pub returns-clause-made : goal.returns-clause-made
+returns-clause-made c =
+    let e = c.in_ok-header.ensures in
+    let accepted = returns-clause-accepted c in
+    let d : DecoderState (List ℕ) = record { reader = c.decode_header.new.self; header = c.in_ok-header.header; channels = c.in_ok-header.header.channels } in
+    let split = sym c.new-reader.ensures ∙ e.1 in
+    decoder_of d c.args.data.now (drop header_size c.args.data.now)
+    (split ∙ ap (λ z. z ++ c.decode_header.new.self) e.4 ∙ ap (λ z. head d.header ++ z) accepted.2) e.5 refl

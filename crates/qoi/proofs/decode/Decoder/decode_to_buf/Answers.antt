@@ -1,12 +1,15 @@
 -- Whole bytes in memory are not refused, and each image takes a bounded number of bytes.
-use Rattle.std.proofs.Common.{◌≡◌, ◌+◌, ◌*◌, ◌++◌, length, take, drop, ap, ◌∙◌, arith, subst}
+use Rattle.std.proofs.Common.{◌≡◌, ◌+◌, ◌*◌, ◌++◌, length, take, drop, slice_index, ap, ◌∙◌, sym, arith, subst}
 use Rattle.std.proofs.lemmas.List.{length-take-le}
 use Rattle.std.proofs.lemmas.Result.{err_from_is_err_and}
 use lib.Seq.{take-append_seam}
+use Rattle.qoi.specs.declared.error.Error.TheVariants.{InvalidPadding, UnexpectedBufferEnd}
 use Rattle.qoi.specs.Qoi.{channels_number, pixel_count}
 use Rattle.qoi.specs.Decoding.{RefusesImage}
 use Rattle.qoi.specs.DecoderState.{TakesAtMost}
-use Rattle.qoi.proofs.decoding.Ahead.{reads_image_of, left_known, fault_ahead}
+use Rattle.qoi.proofs.decoding.Ahead.{fault_ahead, file_from_image, fourth_of_image, image_not_cut, image_not_wrong, image_read_of, left_known, reads_image_of, three_of_four}
+use Rattle.qoi.specs.Reading.{IsImage}
+use Rattle.qoi.proofs.decoding.RefusedBytes.{end_is_cut, padding_is_only_wrong, refused_for_cut, refused_for_wrong}
 use Rattle.qoi.proofs.decoding.ImageSize.{channels_are, image_pixels}
 use Rattle.qoi.proofs.decoding.Refusals.{whole_not_refused_in}
 use Rattle.qoi.proofs.decoding.TakenBytes.{read_within, refused_within}
@@ -72,3 +75,82 @@ returns-clause-image g c bytes raw rest image told =
     let same : size ≡ length out = omega (arith, c.decode_image.auto.out, length-take-le size c.args.buf.now (omega arith)) in
     ap (λ n. take n (out ++ drop size c.args.buf.now)) same ∙ take-append_seam out (drop size c.args.buf.now)
     ∙ (reads_image_of g.R.Reader.ahead _ d _ _ _ _ _ bytes raw rest c.self.view_is c.as_u8-channels.ensures c.as_u8-src_channels.ensures pixels c.in_ok-decode_image.ensures.read.1 image told).0
+
+pub returns-clause-read : goal.returns-clause-read
+returns-clause-read g c bytes told =
+    let d = c.args.self.now in
+    let channels = c.as_u8-channels.ensures ∙ ap (λ s. channels_number s.channels) c.self.view_is in
+    let size = c.required_buf_len-size.result in
+    let pixels = image_pixels d.header d.channels size c.as_u8-channels.result c.args.buf.now c.required_buf_len-size.ensures.bytes (omega arith) channels in
+    let out = c.decode_image.new.out in
+    let same : size ≡ length out = omega (arith, c.decode_image.auto.out, length-take-le size c.args.buf.now (omega arith)) in
+    let front : take size (out ++ drop size c.args.buf.now) ≡ out =
+    ap (λ n. take n (out ++ drop size c.args.buf.now)) same ∙ take-append_seam out (drop size c.args.buf.now) in
+    let r = image_read_of g.R.Reader.ahead _ d _ _ _ _ _ bytes c.self.view_is c.as_u8-channels.ensures c.as_u8-src_channels.ensures pixels
+    c.in_ok-decode_image.ensures.read.1 told in
+    (r.0, r.1, subst (λ z. IsImage d.channels bytes d.header r.0 z) (sym front) r.2)
+
+pub returns-clause-file : goal.returns-clause-file
+returns-clause-file g c bytes ahead made told =
+    let r = returns-clause-read g c ahead told in
+    (r.0, r.1, file_from_image c.args.self.now bytes ahead r.0 _ made r.2)
+
+pub returns-clause-rgb : goal.returns-clause-rgb
+returns-clause-rgb g c bytes four rest three image told =
+    let r = returns-clause-read g c bytes told in
+    three_of_four _ _ bytes r.0 rest _ four three r.2 image
+
+pub returns-clause-opaque : goal.returns-clause-opaque
+returns-clause-opaque g c four three i below =
+    let d = c.args.self.now in
+    let channels = c.as_u8-channels.ensures ∙ ap (λ s. channels_number s.channels) c.self.view_is in
+    let file = c.as_u8-src_channels.ensures ∙ ap (λ s. channels_number s.header.channels) c.self.view_is in
+    let size = c.required_buf_len-size.result in
+    let pixels = image_pixels d.header d.channels size c.as_u8-channels.result c.args.buf.now c.required_buf_len-size.ensures.bytes (omega arith) channels in
+    let out = c.decode_image.new.out in
+    let same : size ≡ length out = omega (arith, c.decode_image.auto.out, length-take-le size c.args.buf.now (omega arith)) in
+    let front : take size (out ++ drop size c.args.buf.now) ≡ out =
+    ap (λ n. take n (out ++ drop size c.args.buf.now)) same ∙ take-append_seam out (drop size c.args.buf.now) in
+    ap (λ z. slice_index z (4 * i + 3)) front
+    ∙ fourth_of_image _ _ _ _ _ out c.in_ok-decode_image.ensures.read.1 (file ∙ ap channels_number three) (channels ∙ ap channels_number four) i
+    (omega (arith, pixels, below))
+
+pub returns-clause-cut : goal.returns-clause-cut
+returns-clause-cut g c bytes told cut room =
+    let r = returns-clause-read g c bytes told in
+    image_not_cut _ _ bytes r.0 _ r.2 cut
+
+pub returns-clause-wrong : goal.returns-clause-wrong
+returns-clause-wrong g c bytes told wrong room =
+    let r = returns-clause-read g c bytes told in
+    image_not_wrong _ _ bytes r.0 _ r.2 wrong
+
+pub returns-in_err-decode_image-clause-cut : goal.returns-in_err-decode_image-clause-cut
+returns-in_err-decode_image-clause-cut g c bytes told cut room =
+    let p = err_from_is_err_and c.from_residual.result c.from_residual.ensures.1 in
+    rw (p.1, p.2) (refused_for_cut g.R.Reader.in_memory (pixel_count c.args.self.now.header) _ _ _ bytes told cut
+    (refused g (goal.at.returns-in_err-decode_image-clause-cut g c).After-from_residual))
+
+pub returns-in_err-decode_image-clause-wrong : goal.returns-in_err-decode_image-clause-wrong
+returns-in_err-decode_image-clause-wrong g c bytes told wrong room =
+    let p = err_from_is_err_and c.from_residual.result c.from_residual.ensures.1 in
+    rw (p.1, p.2) (refused_for_wrong g.R.Reader.in_memory (pixel_count c.args.self.now.header) _ _ _ bytes told wrong
+    (refused g (goal.at.returns-in_err-decode_image-clause-wrong g c).After-from_residual))
+
+pub returns-in_err-decode_image-clause-only_cut : goal.returns-in_err-decode_image-clause-only_cut
+returns-in_err-decode_image-clause-only_cut g c bytes told is =
+    let p = err_from_is_err_and c.from_residual.result c.from_residual.ensures.1 in
+    let first = p.1 in
+    let second = p.2 in
+    let error : c.in_err-decode_image.field-0.0 ≡ UnexpectedBufferEnd = cc in
+    end_is_cut g.R.Reader.in_memory (pixel_count c.args.self.now.header) _ _ _ bytes told error
+    (refused g (goal.at.returns-in_err-decode_image-clause-only_cut g c).After-from_residual)
+
+pub returns-in_err-decode_image-clause-only_wrong : goal.returns-in_err-decode_image-clause-only_wrong
+returns-in_err-decode_image-clause-only_wrong g c bytes told is =
+    let p = err_from_is_err_and c.from_residual.result c.from_residual.ensures.1 in
+    let first = p.1 in
+    let second = p.2 in
+    let error : c.in_err-decode_image.field-0.0 ≡ InvalidPadding = cc in
+    padding_is_only_wrong g.R.Reader.in_memory (pixel_count c.args.self.now.header) _ _ _ bytes told error
+    (refused g (goal.at.returns-in_err-decode_image-clause-only_wrong g c).After-from_residual)

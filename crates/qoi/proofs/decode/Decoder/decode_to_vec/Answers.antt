@@ -1,11 +1,14 @@
 -- Whole bytes in memory are not refused.
-use Rattle.std.proofs.Common.{rules, ◌≡◌, ◌≤◌, ◌++◌, length, drop, IsOk, false, true, ◌∙◌, subst, inr, arith, length-append}
+use Rattle.std.proofs.Common.{rules, ◌≡◌, ◌≤◌, ◌++◌, length, take, drop, ap, sym, IsOk, false, true, ◌∙◌, subst, inr, arith, length-append}
 use Rattle.std.proofs.lemmas.List.{length-take-le}
+use Rattle.std.proofs.Math.Seq.{take-length}
+use lib.Seq.{take-append_seam}
 use Rattle.qoi.specs.declared.error.Error.TheVariants.{UnexpectedBufferEnd}
 use Rattle.qoi.specs.Qoi.{pixel_count}
 use Rattle.qoi.specs.Decoding.{RefusesImage}
 use Rattle.qoi.specs.DecoderState.{image_byte_count}
 use Rattle.qoi.proofs.decoding.Ahead.{fault_ahead}
+use Rattle.qoi.proofs.decoding.RefusedBytes.{refused_for_wrong}
 use Rattle.qoi.proofs.decoding.Refusals.{whole_not_refused_in}
 use Rattle.qoi.proofs.decode.Decoder.decode_to_vec.Goals as goal
 
@@ -41,3 +44,21 @@ returns-then-not-could_hold-clause-faults g c bytes raw rest image told =
     inr (fault_ahead g.R.Reader.in_memory c.args.self.now _ _ UnexpectedBufferEnd bytes raw rest image told
     (subst (λ s. RefusesImage g.R.Reader.in_memory (pixel_count s.header) (g.R.Reader.ahead s.reader)
     (g.R.Reader.ahead s.reader) UnexpectedBufferEnd) c.self.view_is (rw c.n_pixels.ensures at cut)))
+
+pub returns-then-not-could_hold-clause-wrong : goal.returns-then-not-could_hold-clause-wrong
+returns-then-not-could_hold-clause-wrong g c bytes told wrong =
+    let cut = c.could_hold.ensures.cut (search rules) in
+    inr (refused_for_wrong g.R.Reader.in_memory (pixel_count c.args.self.now.header) _ _ UnexpectedBufferEnd bytes told wrong
+    (subst (λ s. RefusesImage g.R.Reader.in_memory (pixel_count s.header) (g.R.Reader.ahead s.reader)
+    (g.R.Reader.ahead s.reader) UnexpectedBufferEnd) c.self.view_is (rw c.n_pixels.ensures at cut)))
+
+pub returns-clause-rgb : goal.returns-clause-rgb
+returns-clause-rgb g c bytes four rest three image told =
+    let buf = c.decode_to_buf.new.buf in
+    let after = drop (length buf) c.in_ok-out.out.items in
+    let n = c.in_ok-out.out.len in
+    let size = c.in_ok-decode_to_buf.field-0 in
+    let counted : n ≡ length buf = omega (arith, c.decode_to_buf.auto.buf, c.deref_mut.ensures.len) in
+    let filled : length buf ≡ size = omega (arith, counted, c.in_ok-out.ensures.len, c.required_buf_len.ensures.bytes, c.in_ok-decode_to_buf.ensures.decoded.0) in
+    ap (λ k. take k (buf ++ after)) counted ∙ take-append_seam buf after ∙ sym (take-length buf) ∙ ap (λ k. take k buf) filled
+    ∙ c.in_ok-decode_to_buf.ensures.rgb bytes four rest three image told

@@ -1,7 +1,8 @@
 -- The image of a file stands ahead, once the header was read.
-use Rattle.std.proofs.Common.{◌++◌, [], append-nil, refl, sym}
+use Rattle.std.proofs.Common.{drop, ◌++◌, [], append-nil, refl, sym}
 use Rattle.qoi.specs.declared.types.Style.TheVariants.{Reference}
-use Rattle.qoi.proofs.decoding.Ahead.{header_read_from, image_of_file, file_ahead}
+use Rattle.qoi.specs.Qoi.{header_size}
+use Rattle.qoi.proofs.decoding.Ahead.{decoder_of, header_front, header_read_from, image_of_file, file_ahead}
 use Rattle.qoi.proofs.decode.Decoder.from_stream.Goals as goal
 
 pub returns-clause-behind : goal.returns-clause-behind
@@ -19,3 +20,8 @@ pub returns-clause-followed : goal.returns-clause-followed
 returns-clause-followed g c style h raw bytes rest f told =
     let read = (header_read_from _ _ (bytes ++ rest) c.in_ok-header.header c.in_ok-header.ensures told).0 in
     image_of_file _ (bytes ++ rest) h rest raw read refl (file_ahead style h raw bytes rest (bytes ++ rest) f refl)
+
+pub returns-clause-made : goal.returns-clause-made
+returns-clause-made g c bytes told =
+    let front = header_front _ _ bytes c.in_ok-header.header c.in_ok-header.ensures told in
+    decoder_of _ bytes (drop header_size bytes) front.0 front.1 refl

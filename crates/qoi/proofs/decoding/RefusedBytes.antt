@@ -1,0 +1,86 @@
+-- What refuses known bytes that stand ahead of a decoder, by what they are.
+use Rattle.std.proofs.Common.{◌≡◌, ℕ, List, Bool, true, false, Option, Some, inl, inr, refl, subst}
+use Rattle.qoi.specs.declared.error.Error.{Error}
+use Rattle.qoi.specs.declared.error.Error.TheVariants.{InvalidMagic, InvalidChannels, InvalidColorSpace, InvalidImageDimensions, InvalidImageLength, OutputBufferTooSmall, UnexpectedBufferEnd, InvalidPadding, IoError, OutOfMemory}
+use Rattle.qoi.specs.Decoding.{AreWrong, HasCut, RefusesBytes, RefusesImage, RefusesTaken}
+use Rattle.qoi.specs.Reading.{IsForCut, IsForWrong}
+use Rattle.qoi.proofs.decoding.StreamVerdicts.{cut_is_io_error, padding_is_wrong}
+use Rattle.qoi.proofs.format.OneVerdict.{cut_not_wrong}
+
+-- cut bytes in memory are refused for their end
+cut_in_memory : (n : ℕ) (bytes : List ℕ) (e : Error) → HasCut n bytes → RefusesBytes n bytes e → e ≡ UnexpectedBufferEnd
+cut_in_memory n bytes UnexpectedBufferEnd cut why = refl
+cut_in_memory n bytes InvalidPadding (cs, part, cut) (rest, (ds, eight, wrong)) = absurd (cut_not_wrong n bytes cs ds part eight rest cut wrong)
+cut_in_memory n bytes (InvalidMagic m) cut none = absurd none
+cut_in_memory n bytes (InvalidChannels k) cut none = absurd none
+cut_in_memory n bytes (InvalidColorSpace k) cut none = absurd none
+cut_in_memory n bytes (InvalidImageDimensions w h) cut none = absurd none
+cut_in_memory n bytes (InvalidImageLength s w h) cut none = absurd none
+cut_in_memory n bytes (OutputBufferTooSmall s r) cut none = absurd none
+cut_in_memory n bytes (IoError i) cut none = absurd none
+cut_in_memory n bytes OutOfMemory cut none = absurd none
+
+-- wrong bytes in memory are refused for their padding
+wrong_in_memory : (n : ℕ) (bytes : List ℕ) (e : Error) → AreWrong n bytes → RefusesBytes n bytes e → e ≡ InvalidPadding
+wrong_in_memory n bytes InvalidPadding wrong why = refl
+wrong_in_memory n bytes UnexpectedBufferEnd (rest, (ds, eight, wrong)) (cs, part, cut) = absurd (cut_not_wrong n bytes cs ds part eight rest cut wrong)
+wrong_in_memory n bytes (InvalidMagic m) wrong none = absurd none
+wrong_in_memory n bytes (InvalidChannels k) wrong none = absurd none
+wrong_in_memory n bytes (InvalidColorSpace k) wrong none = absurd none
+wrong_in_memory n bytes (InvalidImageDimensions w h) wrong none = absurd none
+wrong_in_memory n bytes (InvalidImageLength s w h) wrong none = absurd none
+wrong_in_memory n bytes (OutputBufferTooSmall s r) wrong none = absurd none
+wrong_in_memory n bytes (IoError i) wrong none = absurd none
+wrong_in_memory n bytes OutOfMemory wrong none = absurd none
+
+-- a stream is refused for its padding or with an i/o error
+padding_or_io : (n : ℕ) (taken : List ℕ) (e : Error) → RefusesTaken n taken e → IsForWrong false e
+padding_or_io n taken (IoError x) why = inr tt
+padding_or_io n taken InvalidPadding why = inl refl
+padding_or_io n taken (InvalidMagic m) none = absurd none
+padding_or_io n taken (InvalidChannels k) none = absurd none
+padding_or_io n taken (InvalidColorSpace k) none = absurd none
+padding_or_io n taken (InvalidImageDimensions w h) none = absurd none
+padding_or_io n taken (InvalidImageLength z w h) none = absurd none
+padding_or_io n taken (OutputBufferTooSmall z r) none = absurd none
+padding_or_io n taken UnexpectedBufferEnd none = absurd none
+padding_or_io n taken OutOfMemory none = absurd none
+
+-- what refuses cut bytes
+pub refused_for_cut : (in_memory : Bool) (n : ℕ) (old new : Option (List ℕ)) (e : Error) (bytes : List ℕ) → old ≡ Some bytes → HasCut n bytes
+    → RefusesImage in_memory n old new e → IsForCut in_memory e
+refused_for_cut true n old new e bytes told cut refused =
+    cut_in_memory n bytes e cut (subst (λ z. RefusesImage true n z new e) told refused).1
+refused_for_cut false n old new e bytes told (cs, part, cut) refused =
+    cut_is_io_error n bytes cs part new e cut (subst (λ z. RefusesImage false n z new e) told refused)
+
+-- what refuses wrong bytes
+pub refused_for_wrong : (in_memory : Bool) (n : ℕ) (old new : Option (List ℕ)) (e : Error) (bytes : List ℕ) → old ≡ Some bytes
+    → AreWrong n bytes → RefusesImage in_memory n old new e → IsForWrong in_memory e
+refused_for_wrong true n old new e bytes told wrong refused =
+    wrong_in_memory n bytes e wrong (subst (λ z. RefusesImage true n z new e) told refused).1
+refused_for_wrong false n old new e bytes told wrong (taken, took, why) = padding_or_io n taken e why
+
+-- only cut bytes are refused for their end
+ended : (in_memory : Bool) (n : ℕ) (new : Option (List ℕ)) (bytes : List ℕ) → RefusesImage in_memory n (Some bytes) new UnexpectedBufferEnd → HasCut n bytes
+ended true n new bytes refused = refused.1
+ended false n new bytes (taken, took, none) = absurd none
+
+-- the same where the bytes and the error are known by equations
+pub end_is_cut : (in_memory : Bool) (n : ℕ) (old new : Option (List ℕ)) (e : Error) (bytes : List ℕ) → old ≡ Some bytes → e ≡ UnexpectedBufferEnd
+    → RefusesImage in_memory n old new e → HasCut n bytes
+end_is_cut in_memory n old new e bytes told is refused = ended in_memory n new bytes (subst (λ x. RefusesImage in_memory n (Some bytes) new x) is (subst (λ z. RefusesImage in_memory n z new e) told refused))
+
+-- only wrong bytes are refused for their padding
+padded : (in_memory : Bool) (n : ℕ) (new : Option (List ℕ)) (bytes : List ℕ) → RefusesImage in_memory n (Some bytes) new InvalidPadding
+    → AreWrong n bytes
+padded true n new bytes refused = refused.1
+padded false n new bytes (taken, took, why) =
+    let w = padding_is_wrong n bytes new taken took why in
+    (w.2, (w.0, w.1, w.3))
+
+-- the same where the bytes and the error are known by equations
+pub padding_is_only_wrong : (in_memory : Bool) (n : ℕ) (old new : Option (List ℕ)) (e : Error) (bytes : List ℕ) → old ≡ Some bytes
+    → e ≡ InvalidPadding → RefusesImage in_memory n old new e → AreWrong n bytes
+padding_is_only_wrong in_memory n old new e bytes told is refused =
+    padded in_memory n new bytes (subst (λ x. RefusesImage in_memory n (Some bytes) new x) is (subst (λ z. RefusesImage in_memory n z new e) told refused))
