@@ -1,5 +1,5 @@
 //! Decoding, from slices and from streams.
-ghost use Rattle.std.specs.Prelude.{◌≡◌, ℕ, ◌*◌, ◌<◌, ◌≤◌, List, [], ◌++◌, length, take, drop, Option, Some, MatchResult, ◌+◌, IfOk, IfErr, OnOk, IsOk, IsOkAnd, IsErrAnd, IsErrOf, IsOkUnless, slice_index, ◌⊎◌, true, false, Ok, Err};
+ghost use Rattle.std.specs.Prelude.{◌≡◌, ℕ, ◌*◌, ◌<◌, ◌≤◌, List, [], ◌++◌, length, take, drop, Option, Some, MatchResult, ◌+◌, IfOk, IfErr, IfSome, OnOk, IsOk, IsOkAnd, IsErrAnd, IsErrOf, IsOkUnless, slice_index, ◌⊎◌, true, false, Ok, Err};
 ghost use Rattle.qoi.specs.declared.chunk.Chunk.{Chunk};
 ghost use Rattle.qoi.specs.declared.header.Header.{Header};
 ghost use Rattle.qoi.specs.declared.error.Error.{Error};
@@ -9,7 +9,7 @@ ghost use Rattle.qoi.specs.Decoding.{AreWrong, CouldHold, HasCut, least_byte_cou
 ghost use Rattle.qoi.specs.declared.types.Style.{Style};
 ghost use Rattle.qoi.specs.Encoded.{IsFileOf};
 ghost use Rattle.qoi.specs.DecoderState.{image_byte_count, DecodesImage, RefusesDecoding, TakesWithin};
-ghost use Rattle.qoi.specs.Reading.{IsDecoderOf, IsFault, IsForCut, IsForWrong, IsImage, IsImageFor, IsLeft};
+ghost use Rattle.qoi.specs.Reading.{HasImage, IsDecoderOf, IsFault, IsForCut, IsForWrong, IsImage, StandsAhead, StandsBefore};
 ghost use Rattle.qoi.specs.Raw.{without_fourth};
 
 mod deltas;
@@ -157,22 +157,21 @@ impl<'a> Decoder<Bytes<'a>> {
     pub fn new(data: &'a [u8]) -> Result<Decoder<Bytes<'a>>>
         ensures accepted { IfOk result (λ d. (header_of «data».entry.now ≡ Ok d.header)
             × (d.channels ≡ d.header.channels) × (d.reader ≡ drop header_size «data».entry.now)) }
-        // Of the file of an image, in each style, the decoder has the header, and the image stands
-        // ahead; so it does where other bytes follow the file.
-        ensures comes_back { (h : Header) (raw : List ℕ)
-            → IsFileOf Style.Reference h raw «data».entry.now
-            → IsOkAnd result (λ d. (d.header ≡ h)
-            × IsImageFor d (drop header_size «data».entry.now) raw []) }
-        ensures comes_back_in { (style : Style) (h : Header) (raw : List ℕ)
-            → IsFileOf style h raw «data».entry.now
-            → IsOkAnd result (λ d. (d.header ≡ h)
-            × IsImageFor d (drop header_size «data».entry.now) raw []) }
+        // Of the file of an image, in each style, the image stands ahead; so it does where other bytes
+        // follow the file. The header is the image's.
+        ensures comes_back { (style : Style) (h : Header) (raw bytes : List ℕ)
+            → IsFileOf style h raw bytes → «data».entry.now ≡ bytes
+            → IsOkAnd result (λ d. StandsAhead Some d raw) }
         ensures followed { (style : Style) (h : Header) (raw bytes rest : List ℕ)
             → IsFileOf style h raw bytes → «data».entry.now ≡ bytes ++ rest
-            → IsOkAnd result (λ d. (d.header ≡ h)
-            × IsImageFor d (drop header_size «data».entry.now) raw rest) }
-        ensures made { IfOk result (λ d. IsDecoderOf d «data».entry.now
-            (drop header_size «data».entry.now)) }
+            → IsOkAnd result (λ d. StandsAhead Some d raw) }
+        ensures before { (style : Style) (h : Header) (raw bytes rest : List ℕ)
+            → IsFileOf style h raw bytes → «data».entry.now ≡ bytes ++ rest
+            → IsOkAnd result (λ d. StandsBefore Some d rest) }
+        ensures header { (style : Style) (h : Header) (raw bytes rest : List ℕ)
+            → IsFileOf style h raw bytes → «data».entry.now ≡ bytes ++ rest
+            → IsOkAnd result (λ d. d.header ≡ h) }
+        ensures made { IfOk result (λ d. IsDecoderOf Some d «data».entry.now) }
         ensures refused { IfErr result (λ e. header_of «data».entry.now ≡ Err e) }
     {
         let mut reader = Bytes::new(data);
@@ -207,22 +206,28 @@ impl<R: Read + Drop> Decoder<R> {
         ensures accepted { IfOk result (λ d. ReadsHeader false (R.remaining reader)
             (R.remaining d.reader) (Ok d.header)
             × (d.channels ≡ d.header.channels)) }
-        // Where the file of an image stands ahead of the reader, the decoder has its header, and the
-        // image stands ahead; so it does where other bytes follow the file.
+        // Where the bytes are known that stand ahead of the reader, the header is theirs, and the
+        // decoder stands behind it.
+        ensures read { (bytes : List ℕ) → R.remaining reader ≡ Some bytes
+            → IfOk result (λ d. header_of bytes ≡ Ok d.header) }
         ensures behind { (bytes : List ℕ) → R.remaining reader ≡ Some bytes
             → IfOk result (λ d. R.remaining d.reader ≡ Some (drop header_size bytes)) }
-        ensures comes_back { (h : Header) (raw bytes : List ℕ)
-            → IsFileOf Style.Reference h raw bytes → R.remaining reader ≡ Some bytes
-            → IfOk result (λ d. (d.header ≡ h) × IsImageFor d (drop header_size bytes) raw []) }
-        ensures comes_back_in { (style : Style) (h : Header) (raw bytes : List ℕ)
+        // Where they are the file of an image, in each style, the image stands ahead; so it does where
+        // other bytes follow the file. The header is the image's.
+        ensures comes_back { (style : Style) (h : Header) (raw bytes : List ℕ)
             → IsFileOf style h raw bytes → R.remaining reader ≡ Some bytes
-            → IfOk result (λ d. (d.header ≡ h) × IsImageFor d (drop header_size bytes) raw []) }
+            → IfOk result (λ d. StandsAhead R.remaining d raw) }
         ensures followed { (style : Style) (h : Header) (raw bytes rest : List ℕ)
             → IsFileOf style h raw bytes → R.remaining reader ≡ Some (bytes ++ rest)
-            → IfOk result (λ d. (d.header ≡ h)
-            × IsImageFor d (drop header_size (bytes ++ rest)) raw rest) }
+            → IfOk result (λ d. StandsAhead R.remaining d raw) }
+        ensures before { (style : Style) (h : Header) (raw bytes rest : List ℕ)
+            → IsFileOf style h raw bytes → R.remaining reader ≡ Some (bytes ++ rest)
+            → IfOk result (λ d. StandsBefore R.remaining d rest) }
+        ensures header { (style : Style) (h : Header) (raw bytes rest : List ℕ)
+            → IsFileOf style h raw bytes → R.remaining reader ≡ Some (bytes ++ rest)
+            → IfOk result (λ d. d.header ≡ h) }
         ensures made { (bytes : List ℕ) → R.remaining reader ≡ Some bytes
-            → IfOk result (λ d. IsDecoderOf d bytes (drop header_size bytes)) }
+            → IfOk result (λ d. IsDecoderOf R.remaining d bytes) }
         ensures refused { IfErr result (λ e. (left : Option (List ℕ))
             × ReadsHeader false (R.remaining reader) left (Err e)) }
     {
@@ -333,27 +338,33 @@ impl<R: Reader> Decoder<R> {
             → IsWhole (pixel_count self.old.header) bytes cs rest
             → image_byte_count self.old ≤ length buf.old → IsOk result }
         // The image that stands ahead is decoded, and what follows it is left.
-        ensures image { (bytes raw rest : List ℕ) → IsImageFor self.old bytes raw rest
-            → R.ahead self.old.reader ≡ Some bytes → IfOk result (λ size. take size buf.new ≡ raw) }
-        ensures left { (bytes raw rest : List ℕ) → IsImageFor self.old bytes raw rest
-            → R.ahead self.old.reader ≡ Some bytes
-            → OnOk result (IsLeft (R.ahead self.new.reader) rest) }
-        ensures faults { (bytes raw rest : List ℕ) → IsImageFor self.old bytes raw rest
-            → R.ahead self.old.reader ≡ Some bytes → image_byte_count self.old ≤ length buf.old
+        ensures image { (raw : List ℕ) → StandsAhead R.ahead self.old raw
+            → IfOk result (λ size. take size buf.new ≡ raw) }
+        ensures left { (rest : List ℕ) → StandsBefore R.ahead self.old rest
+            → OnOk result (R.ahead self.new.reader ≡ Some rest) }
+        ensures faults { (raw : List ℕ) → StandsAhead R.ahead self.old raw
+            → image_byte_count self.old ≤ length buf.old
             → IfErr result (IsFault R.in_memory) }
         // What was decoded stood ahead, and what follows it is left.
-        ensures read { (bytes : List ℕ) → R.ahead self.old.reader ≡ Some bytes
-            → IfOk result (λ size. (rest : List ℕ) × IsLeft (R.ahead self.new.reader) rest
+        ensures read { IfSome (R.ahead self.old.reader) (λ bytes. IfOk result (λ size.
+            HasImage self.old.channels bytes self.old.header (take size buf.new))) }
+        ensures rest { (bytes : List ℕ) → R.ahead self.old.reader ≡ Some bytes
+            → IfOk result (λ size. (rest : List ℕ) × (R.ahead self.new.reader ≡ Some rest)
             × IsImage self.old.channels bytes self.old.header rest (take size buf.new)) }
+        // The same bytes are the same image, from whatever reader.
+        ensures same { (channels : Channels) (h : Header) (bytes raw : List ℕ)
+            → HasImage channels bytes h raw → channels ≡ self.old.channels
+            → h ≡ self.old.header → R.ahead self.old.reader ≡ Some bytes
+            → IfOk result (λ size. take size buf.new ≡ raw) }
         // Of a decoder of these bytes, in the file's own channels, it is a file at their front.
-        ensures file { (bytes ahead : List ℕ) → IsDecoderOf self.old bytes ahead
-            → R.ahead self.old.reader ≡ Some ahead
-            → IfOk result (λ size. (rest : List ℕ) × IsLeft (R.ahead self.new.reader) rest
+        ensures file { (bytes : List ℕ) → IsDecoderOf R.ahead self.old bytes
+            → IfOk result (λ size. (rest : List ℕ) × (R.ahead self.new.reader ≡ Some rest)
             × DecodesFile bytes self.old.header rest (take size buf.new)) }
         // In three channels it is what four are without each fourth byte; and where the file has
         // three, each fourth byte of four is 255.
-        ensures rgb { (bytes four rest : List ℕ) → self.old.channels ≡ Channels.Rgb
-            → IsImage Channels.Rgba bytes self.old.header rest four
+        ensures rgb { (channels : Channels) (h : Header) (bytes four : List ℕ)
+            → HasImage channels bytes h four → channels ≡ Channels.Rgba
+            → self.old.channels ≡ Channels.Rgb → h ≡ self.old.header
             → R.ahead self.old.reader ≡ Some bytes
             → IfOk result (λ size. take size buf.new ≡ without_fourth four) }
         ensures opaque { self.old.channels ≡ Channels.Rgba → self.old.header.channels ≡ Channels.Rgb
@@ -419,27 +430,32 @@ impl<R: Reader> Decoder<R> {
             → IsWhole (pixel_count self.old.header) bytes cs rest
             → IsOkUnless result Error.OutOfMemory }
         // The image that stands ahead is decoded, and what follows it is left.
-        ensures image { (bytes raw rest : List ℕ) → IsImageFor self.old bytes raw rest
-            → R.ahead self.old.reader ≡ Some bytes → IfOk result (λ out. out.items ≡ raw) }
-        ensures left { (bytes raw rest : List ℕ) → IsImageFor self.old bytes raw rest
-            → R.ahead self.old.reader ≡ Some bytes
-            → OnOk result (IsLeft (R.ahead self.new.reader) rest) }
-        ensures faults { (bytes raw rest : List ℕ) → IsImageFor self.old bytes raw rest
-            → R.ahead self.old.reader ≡ Some bytes
+        ensures image { (raw : List ℕ) → StandsAhead R.ahead self.old raw
+            → IfOk result (λ out. out.items ≡ raw) }
+        ensures left { (rest : List ℕ) → StandsBefore R.ahead self.old rest
+            → OnOk result (R.ahead self.new.reader ≡ Some rest) }
+        ensures faults { (raw : List ℕ) → StandsAhead R.ahead self.old raw
             → IfErr result (λ e. (e ≡ Error.OutOfMemory) ⊎ IsFault R.in_memory e) }
         // What was decoded stood ahead, and what follows it is left.
-        ensures read { (bytes : List ℕ) → R.ahead self.old.reader ≡ Some bytes
-            → IfOk result (λ out. (rest : List ℕ) × IsLeft (R.ahead self.new.reader) rest
+        ensures read { IfSome (R.ahead self.old.reader) (λ bytes. IfOk result (λ out.
+            HasImage self.old.channels bytes self.old.header out.items)) }
+        ensures rest { (bytes : List ℕ) → R.ahead self.old.reader ≡ Some bytes
+            → IfOk result (λ out. (rest : List ℕ) × (R.ahead self.new.reader ≡ Some rest)
             × IsImage self.old.channels bytes self.old.header rest out.items) }
+        // The same bytes are the same image, from whatever reader.
+        ensures same { (channels : Channels) (h : Header) (bytes raw : List ℕ)
+            → HasImage channels bytes h raw → channels ≡ self.old.channels
+            → h ≡ self.old.header → R.ahead self.old.reader ≡ Some bytes
+            → IfOk result (λ out. out.items ≡ raw) }
         // Of a decoder of these bytes, in the file's own channels, it is a file at their front.
-        ensures file { (bytes ahead : List ℕ) → IsDecoderOf self.old bytes ahead
-            → R.ahead self.old.reader ≡ Some ahead
-            → IfOk result (λ out. (rest : List ℕ) × IsLeft (R.ahead self.new.reader) rest
+        ensures file { (bytes : List ℕ) → IsDecoderOf R.ahead self.old bytes
+            → IfOk result (λ out. (rest : List ℕ) × (R.ahead self.new.reader ≡ Some rest)
             × DecodesFile bytes self.old.header rest out.items) }
         // In three channels it is what four are without each fourth byte; and where the file has
         // three, each fourth byte of four is 255.
-        ensures rgb { (bytes four rest : List ℕ) → self.old.channels ≡ Channels.Rgb
-            → IsImage Channels.Rgba bytes self.old.header rest four
+        ensures rgb { (channels : Channels) (h : Header) (bytes four : List ℕ)
+            → HasImage channels bytes h four → channels ≡ Channels.Rgba
+            → self.old.channels ≡ Channels.Rgb → h ≡ self.old.header
             → R.ahead self.old.reader ≡ Some bytes
             → IfOk result (λ out. out.items ≡ without_fourth four) }
         ensures opaque { self.old.channels ≡ Channels.Rgba → self.old.header.channels ≡ Channels.Rgb

@@ -1,5 +1,5 @@
 -- The image that stands ahead of a decoder: a file brings it there, it is decoded, and it isn't refused.
-use Rattle.std.proofs.Common.{◌≡◌, ◌+◌, ◌*◌, ◌<◌, arith, slice_index, ℕ, List, ◌++◌, drop, take, Bool, true, false, Option, Some, None, Ok, refl, ap, sym, ◌∙◌, subst}
+use Rattle.std.proofs.Common.{◌≡◌, ◌+◌, ◌*◌, ◌<◌, arith, slice_index, ℕ, List, ◌++◌, drop, take, Bool, true, false, Option, Some, None, IfSome, Ok, refl, ap, sym, ◌∙◌, subst}
 use Rattle.std.proofs.lemmas.List.{length-take-le}
 use Rattle.std.specs.Io.KnownBytes.{Consumes}
 use Rattle.qoi.specs.declared.error.Error.{Error}
@@ -14,28 +14,36 @@ use Rattle.qoi.specs.Verdicts.{IsWhole}
 use Rattle.qoi.specs.Decoding.{AreWrong, DecodesFile, HasCut, ReadsHeader, ReadsImage, RefusesImage}
 use Rattle.qoi.specs.DecoderState.{DecoderState}
 use Rattle.qoi.specs.Encoded.{IsFileOf}
-use Rattle.qoi.specs.Reading.{IsDecoderOf, IsFault, IsImage, IsImageFor, IsLeft}
+use Rattle.qoi.specs.Reading.{HasImage, IsDecoderOf, IsFault, IsImage, StandsAhead, StandsBefore}
 use Rattle.qoi.proofs.decoding.OneFile.{decodes_file, file_parts, header_is_one}
 use Rattle.qoi.proofs.decoding.StreamVerdicts.{fourth_is_opaque, read_is_whole, rgb_is_without_fourth, whole_is_io_error}
 use Rattle.qoi.proofs.decoding.Refusals.{whole_not_refused_in}
 use Rattle.qoi.proofs.format.HeaderBytes.{header_split}
 use Rattle.qoi.proofs.format.OneVerdict.{whole_is_one, whole_not_cut, whole_not_wrong}
 
--- behind the header of a file stands its image
-pub image_of_file : {R : Type 0} (d : DecoderState R) (bytes : List ℕ) (h : Header) (rest raw : List ℕ) → header_of bytes ≡ Ok d.header
-    → d.channels ≡ d.header.channels
-    → DecodesFile bytes h rest raw → (d.header ≡ h) × IsImageFor d (drop header_size bytes) raw rest
-unfolding IsImageFor
-image_of_file d bytes h rest raw read own f =
-    let same : d.header ≡ h = header_is_one bytes d.header h read f.header in
-    let P : Header → Channels → List ℕ = λ k c. output (channels_number k.channels) (channels_number c) (take (pixel_count k) (meaning f.cs)) in (
-      same,
-      record {
-        cs = f.cs;
-        whole = subst (λ k. IsWhole (pixel_count k) (drop header_size bytes) f.cs rest) (sym same) f.whole;
-        out_is = f.out_is ∙ ap (λ k. P k k.channels) (sym same) ∙ ap (P d.header) (sym own);
-      },
-    )
+-- behind the header of a file stands its image, and then what follows the file
+pub image_of_file : (channels : Channels) (k : Header) (bytes : List ℕ) (h : Header) (rest raw : List ℕ)
+    → header_of bytes ≡ Ok k → channels ≡ k.channels → DecodesFile bytes h rest raw → IsImage channels (drop header_size bytes) k rest raw
+image_of_file channels k bytes h rest raw read own f =
+    let same : k ≡ h = header_is_one bytes k h read f.header in
+    let P : Header → Channels → List ℕ = λ j c. output (channels_number j.channels) (channels_number c) (take (pixel_count j) (meaning f.cs)) in
+    record {
+      cs = f.cs;
+      whole = subst (λ j. IsWhole (pixel_count j) (drop header_size bytes) f.cs rest) (sym same) f.whole;
+      out_is = f.out_is ∙ ap (λ j. P j j.channels) (sym same) ∙ ap (P k) (sym own);
+    }
+
+-- an image stands ahead
+pub stands_ahead : {R : Type 0} (ahead : R → Option (List ℕ)) (d : DecoderState R) (bytes rest raw : List ℕ) → ahead d.reader ≡ Some bytes
+    → IsImage d.channels bytes d.header rest raw → StandsAhead ahead d raw
+unfolding StandsAhead
+stands_ahead ahead d bytes rest raw told image = (bytes, rest, told, image)
+
+-- and before the rest
+pub stands_before : {R : Type 0} (ahead : R → Option (List ℕ)) (d : DecoderState R) (bytes rest raw : List ℕ) → ahead d.reader ≡ Some bytes
+    → IsImage d.channels bytes d.header rest raw → StandsBefore ahead d rest
+unfolding StandsBefore
+stands_before ahead d bytes rest raw told image = (bytes, raw, told, image)
 
 -- the file of an image, as a file
 pub file_ahead : (style : Style) (h : Header) (raw bytes rest all : List ℕ) → IsFileOf style h raw bytes → all ≡ bytes ++ rest → DecodesFile all h rest raw
@@ -61,55 +69,24 @@ header_front old (Some rest) bytes h r told =
     let after = (header_split bytes r.0 rest h split r.2 r.3).1 in
     (split ∙ ap (λ z. z ++ rest) r.4 ∙ ap (λ z. head h ++ z) after, r.5)
 
--- what is read is the image that stood ahead, and the rest is left
-pub reads_image : {R : Type 0} (d : DecoderState R) (bytes : List ℕ) (left : Option (List ℕ)) (out raw rest : List ℕ) → IsImageFor d bytes raw rest
-    → ReadsImage (channels_number d.header.channels) (channels_number d.channels) (pixel_count d.header) (Some bytes) left out
-    → (out ≡ raw) × (left ≡ Some rest)
-unfolding IsImageFor
-reads_image d bytes left out raw rest image r =
-    let f = channels_number d.header.channels in
-    let c = channels_number d.channels in
-    let n = pixel_count d.header in
-    let w = read_is_whole f c n bytes left out r in
-    let one = whole_is_one n bytes w.0 image.cs w.1 rest w.2 image.whole in (
-      w.4 ∙ ap (λ cs. output f c (take n (meaning cs))) one.0 ∙ sym image.out_is,
-      w.3 ∙ ap Some one.1,
-    )
-
--- so it is where the channels and the pixels are given by numbers
-pub reads_image_of : {R : Type 0} (ahead : R → Option (List ℕ)) (s d : DecoderState R) (left : Option (List ℕ)) (f c n : ℕ) (out bytes raw rest : List ℕ)
-    → s ≡ d → c ≡ channels_number s.channels
-    → f ≡ channels_number s.header.channels → n ≡ pixel_count d.header → ReadsImage f c n (ahead s.reader) left out → IsImageFor d bytes raw rest
-    → ahead d.reader ≡ Some bytes
-    → (out ≡ raw) × (left ≡ Some rest)
-reads_image_of {R} ahead s d left f c n out bytes raw rest same channels file pixels r image told =
-    let P : DecoderState R → Type 0 = λ t. ReadsImage (channels_number t.header.channels) (channels_number t.channels) (pixel_count d.header)
-    (ahead t.reader) left out in
-    let Q : Option (List ℕ) → Type 0 = λ z. ReadsImage (channels_number d.header.channels) (channels_number d.channels) (pixel_count d.header) z left out in
-    reads_image d bytes left out raw rest image (subst Q told (subst P same (rw (sym file, sym channels, sym pixels) r)))
-
--- and that rest is known
-pub left_known : (left : Option (List ℕ)) (rest : List ℕ) → left ≡ Some rest → IsLeft left rest
-left_known left rest e = subst (λ z. IsLeft z rest) (sym e) refl
-
--- what refuses it is a fault
-pub fault_ahead : {R : Type 0} (in_memory : Bool) (d : DecoderState R) (old new : Option (List ℕ)) (e : Error) (bytes raw rest : List ℕ)
-    → IsImageFor d bytes raw rest → old ≡ Some bytes
-    → RefusesImage in_memory (pixel_count d.header) old new e → IsFault in_memory e
-unfolding IsImageFor
-fault_ahead true d old new e bytes raw rest image told refused =
-    whole_not_refused_in true (pixel_count d.header) old new e bytes image.cs rest refl told image.whole refused
-fault_ahead false d old new e bytes raw rest image told refused =
-    whole_is_io_error (pixel_count d.header) bytes image.cs rest new e image.whole (subst (λ z. RefusesImage false (pixel_count d.header) z new e) told refused)
+-- what refuses an image that stands ahead is a fault
+pub fault_ahead : {R : Type 0} (in_memory : Bool) (ahead : R → Option (List ℕ)) (d : DecoderState R) (new : Option (List ℕ)) (e : Error) (raw : List ℕ)
+    → StandsAhead ahead d raw → RefusesImage in_memory (pixel_count d.header) (ahead d.reader) new e → IsFault in_memory e
+unfolding StandsAhead
+fault_ahead true ahead d new e raw (bytes, rest, told, image) refused =
+    whole_not_refused_in true (pixel_count d.header) (ahead d.reader) new e bytes image.cs rest refl told image.whole refused
+fault_ahead false ahead d new e raw (bytes, rest, told, image) refused =
+    whole_is_io_error (pixel_count d.header) bytes image.cs rest new e image.whole
+    (subst (λ z. RefusesImage false (pixel_count d.header) z new e) told refused)
 
 -- what is read from known bytes is an image at their front, and what follows it is left
 pub image_read : (channels : Channels) (h : Header) (bytes : List ℕ) (left : Option (List ℕ)) (out : List ℕ)
     → ReadsImage (channels_number h.channels) (channels_number channels) (pixel_count h) (Some bytes) left out
-    → (rest : List ℕ) × IsLeft left rest × IsImage channels bytes h rest out
+    → (rest : List ℕ) × (left ≡ Some rest) × IsImage channels bytes h rest out
 image_read channels h bytes left out r =
     let w = read_is_whole (channels_number h.channels) (channels_number channels) (pixel_count h) bytes left out r in (
       w.1,
-      left_known left w.1 w.3,
+      w.3,
       record { cs = w.0; whole = w.2; out_is = w.4 },
     )
 
@@ -117,42 +94,92 @@ image_read channels h bytes left out r =
 pub image_read_of : {R : Type 0} (ahead : R → Option (List ℕ)) (s d : DecoderState R) (left : Option (List ℕ)) (f c n : ℕ) (out bytes : List ℕ)
     → s ≡ d → c ≡ channels_number s.channels → f ≡ channels_number s.header.channels → n ≡ pixel_count d.header
     → ReadsImage f c n (ahead s.reader) left out → ahead d.reader ≡ Some bytes
-    → (rest : List ℕ) × IsLeft left rest × IsImage d.channels bytes d.header rest out
+    → (rest : List ℕ) × (left ≡ Some rest) × IsImage d.channels bytes d.header rest out
 image_read_of {R} ahead s d left f c n out bytes same channels file pixels r told =
     let P : DecoderState R → Type 0 = λ t. ReadsImage (channels_number t.header.channels) (channels_number t.channels) (pixel_count d.header)
     (ahead t.reader) left out in
     let Q : Option (List ℕ) → Type 0 = λ z. ReadsImage (channels_number d.header.channels) (channels_number d.channels) (pixel_count d.header) z left out in
     image_read d.channels d.header bytes left out (subst Q told (subst P same (rw (sym file, sym channels, sym pixels) r)))
 
--- of a decoder of these bytes an image in the file's own channels is a file at their front
-pub file_from_image : {R : Type 0} (d : DecoderState R) (bytes ahead rest out : List ℕ) → IsDecoderOf d bytes ahead
-    → IsImage d.channels ahead d.header rest out → DecodesFile bytes d.header rest out
+-- bytes are one image
+pub image_is_one : (channels : Channels) (h : Header) (bytes rest more raw out : List ℕ) → IsImage channels bytes h rest raw
+    → IsImage channels bytes h more out → (out ≡ raw) × (more ≡ rest)
+image_is_one channels h bytes rest more raw out image other =
+    let n = pixel_count h in
+    let one = whole_is_one n bytes image.cs other.cs rest more image.whole other.whole in
+    let P : List Chunk → List ℕ = λ cs. output (channels_number h.channels) (channels_number channels) (take n (meaning cs)) in
+    (other.out_is ∙ ap P (sym one.0) ∙ sym image.out_is, sym one.1)
+
+-- bytes are one image, where channels and header are equal, too
+pub same_image : (channels own : Channels) (h k : Header) (bytes more raw out : List ℕ) → channels ≡ own → h ≡ k
+    → HasImage channels bytes h raw → IsImage own bytes k more out → out ≡ raw
+unfolding HasImage
+same_image channels own h k bytes more raw out as_own as_k (rest, image) other =
+    (image_is_one own k bytes rest more raw out (subst (λ j. IsImage own bytes j rest raw) as_k (subst (λ j. IsImage j bytes h rest raw) as_own image)) other).0
+
+-- what stands ahead was read
+pub read_stood_ahead : {R : Type 0} (ahead : R → Option (List ℕ)) (d : DecoderState R) (left : Option (List ℕ)) (raw out : List ℕ)
+    → StandsAhead ahead d raw
+    → ((bytes : List ℕ) → ahead d.reader ≡ Some bytes → (more : List ℕ) × (left ≡ Some more) × IsImage d.channels bytes d.header more out)
+    → out ≡ raw
+unfolding StandsAhead
+read_stood_ahead ahead d left raw out (bytes, rest, told, image) reads =
+    let r = reads bytes told in
+    (image_is_one d.channels d.header bytes rest r.0 raw out image r.2).0
+
+-- what an image stands before is left
+pub left_stood_behind : {R : Type 0} (ahead : R → Option (List ℕ)) (d : DecoderState R) (left : Option (List ℕ)) (rest out : List ℕ)
+    → StandsBefore ahead d rest
+    → ((bytes : List ℕ) → ahead d.reader ≡ Some bytes → (more : List ℕ) × (left ≡ Some more) × IsImage d.channels bytes d.header more out)
+    → left ≡ Some rest
+unfolding StandsBefore
+left_stood_behind ahead d left rest out (bytes, raw, told, image) reads =
+    let r = reads bytes told in
+    r.1 ∙ ap Some (image_is_one d.channels d.header bytes rest r.0 raw out image r.2).1
+
+-- an image is read, whether or not the bytes ahead are known
+pub has_image_ahead : (channels : Channels) (h : Header) (old left : Option (List ℕ)) (out : List ℕ)
+    → ((bytes : List ℕ) → old ≡ Some bytes → (rest : List ℕ) × (left ≡ Some rest) × IsImage channels bytes h rest out)
+    → IfSome old (λ bytes. HasImage channels bytes h out)
+unfolding HasImage
+has_image_ahead channels h (Some bytes) left out reads = let r = reads bytes refl in (r.0, r.2)
+has_image_ahead channels h None left out reads = tt
+
+-- of a decoder of these bytes what is read, in the file's own channels, is a file at their front
+pub file_from_image : {R : Type 0} (next : R → Option (List ℕ)) (d : DecoderState R) (bytes : List ℕ) (left : Option (List ℕ)) (out : List ℕ)
+    → IsDecoderOf next d bytes
+    → ((ahead : List ℕ) → next d.reader ≡ Some ahead → (rest : List ℕ) × (left ≡ Some rest) × IsImage d.channels ahead d.header rest out)
+    → (rest : List ℕ) × (left ≡ Some rest) × DecodesFile bytes d.header rest out
 unfolding IsDecoderOf
-file_from_image d bytes ahead rest out (split, valid, own) image =
+file_from_image next d bytes left out (ahead, told, split, valid, own) reads =
+    let (rest, is_left, image) = reads ahead told in
     let h = d.header in
     let cs = image.cs in
     let w = image.whole in
-    let P : Channels → List ℕ = λ k. output (channels_number h.channels) (channels_number k) (take (pixel_count h) (meaning cs)) in
-    decodes_file h cs bytes rest out
-    (record { valid = valid; chunks = w.takes.chunks; reaches = record { short = w.takes.short; enough = w.enough } })
-    (split ∙ ap (λ l. head h ++ l) w.takes.split ∙ sym (file_parts h cs rest)) (image.out_is ∙ ap P own)
+    let P : Channels → List ℕ = λ k. output (channels_number h.channels) (channels_number k) (take (pixel_count h) (meaning cs)) in (
+      rest,
+      is_left,
+      decodes_file h cs bytes rest out
+          (record { valid = valid; chunks = w.takes.chunks; reaches = record { short = w.takes.short; enough = w.enough } })
+          (split ∙ ap (λ l. head h ++ l) w.takes.split ∙ sym (file_parts h cs rest)) (image.out_is ∙ ap P own),
+    )
 
--- the image of a header that was read makes a decoder of these bytes
-pub decoder_of : {R : Type 0} (d : DecoderState R) (bytes ahead : List ℕ) → bytes ≡ head d.header ++ ahead → IsValid d.header
-    → d.channels ≡ d.header.channels → IsDecoderOf d bytes ahead
+-- a decoder whose header's bytes stand before what is ahead
+pub decoder_of : {R : Type 0} (next : R → Option (List ℕ)) (d : DecoderState R) (bytes ahead : List ℕ) → next d.reader ≡ Some ahead
+    → bytes ≡ head d.header ++ ahead → IsValid d.header → d.channels ≡ d.header.channels → IsDecoderOf next d bytes
 unfolding IsDecoderOf
-decoder_of d bytes ahead split valid own = (split, valid, own)
+decoder_of next d bytes ahead told split valid own = (ahead, told, split, valid, own)
 
 -- an image in three channels is the one in four without each fourth byte
-pub three_of_four : (channels : Channels) (h : Header) (bytes rest more out four : List ℕ) → channels ≡ Rgb → IsImage channels bytes h rest out
-    → IsImage Rgba bytes h more four → out ≡ without_fourth four
-three_of_four channels h bytes rest more out four is three image =
-    let f = channels_number h.channels in
-    let n = pixel_count h in
-    let one = whole_is_one n bytes image.cs three.cs more rest image.whole three.whole in
-    let P : List Chunk → List ℕ = λ cs. output f 4 (take n (meaning cs)) in
-    three.out_is ∙ ap (λ k. output f (channels_number k) (take n (meaning three.cs))) is ∙ rgb_is_without_fourth f (take n (meaning three.cs))
-    ∙ ap without_fourth (ap P (sym one.0) ∙ sym image.out_is)
+pub three_of_four : (channels own : Channels) (h k : Header) (bytes rest out four : List ℕ) → channels ≡ Rgba → own ≡ Rgb → h ≡ k
+    → HasImage channels bytes h four → IsImage own bytes k rest out → out ≡ without_fourth four
+three_of_four channels own h k bytes rest out four as_four as_three as_k image three =
+    let f = channels_number k.channels in
+    let n = pixel_count k in
+    let pixels = take n (meaning three.cs) in
+    let four_of_k : IsImage Rgba bytes k rest (output f 4 pixels) = record { cs = three.cs; whole = three.whole; out_is = refl } in
+    three.out_is ∙ ap (λ j. output f (channels_number j) pixels) as_three ∙ rgb_is_without_fourth f pixels
+    ∙ ap without_fourth (same_image channels Rgba h k bytes rest four (output f 4 pixels) as_four as_k image four_of_k)
 
 -- bytes of which an image is read aren't cut
 pub image_not_cut : (channels : Channels) (h : Header) (bytes rest out : List ℕ) → IsImage channels bytes h rest out → HasCut (pixel_count h) bytes → ⊥

@@ -5,11 +5,11 @@ use Rattle.qoi.specs.declared.types.Style.TheVariants.{Reference}
 use Rattle.std.proofs.lemmas.Result.{err_from_is_err_and}
 use Rattle.qoi.specs.Qoi.{header_of, pixel_count, header_size}
 use Rattle.qoi.specs.Verdicts.{IsWhole}
-use Rattle.qoi.specs.Decoding.{DecodesFile, RefusesBytes, least_byte_count}
+use Rattle.qoi.specs.Decoding.{AreWrong, HasCut, DecodesFile, RefusesBytes, least_byte_count}
 use Rattle.qoi.specs.DecoderState.{DecoderState}
 use Rattle.std.proofs.lemmas.List.{length-drop}
 use Rattle.qoi.proofs.decoding.ImageSize.{bounded_by}
-use Rattle.qoi.proofs.decoding.OneFile.{file_has_header, file_is_whole, decodes_behind, decoding_is_one}
+use Rattle.qoi.proofs.decoding.OneFile.{header_is_one, file_has_header, file_is_whole, decodes_behind, decoding_is_one}
 use Rattle.qoi.proofs.decode.decode_to_vec.Goals as goal
 
 pub returns-in_err-out-clause-refused : goal.returns-in_err-out-clause-refused
@@ -102,3 +102,21 @@ returns-clause-held c =
     let size = c.in_ok-out.ensures.length.0 in
     rw same (bounded_by (pixel_count d.header) (length c.in_ok-out.out.items) d.channels d.reader c.args.data.now c.in_ok-out.ensures.held
     (omega (arith, ap length accepted.2, length-drop header_size c.args.data.now)) (omega (arith, size)))
+
+pub returns-in_err-out-clause-cut : goal.returns-in_err-out-clause-cut
+returns-in_err-out-clause-cut c h read cut =
+    let d = c.in_ok-decoder.decoder in
+    let accepted = c.in_ok-decoder.ensures.accepted in
+    let p = err_from_is_err_and c.from_residual-in_err-out.result c.from_residual-in_err-out.ensures.1 in
+    let same = header_is_one c.args.data.now h d.header read accepted.0 in
+    rw (p.1, p.2) (c.in_err-out.ensures.cut (drop header_size c.args.data.now) (ap Some accepted.2)
+    (subst (λ k. HasCut (pixel_count k) (drop header_size c.args.data.now)) same cut))
+
+pub returns-in_err-out-clause-wrong : goal.returns-in_err-out-clause-wrong
+returns-in_err-out-clause-wrong c h read wrong =
+    let d = c.in_ok-decoder.decoder in
+    let accepted = c.in_ok-decoder.ensures.accepted in
+    let p = err_from_is_err_and c.from_residual-in_err-out.result c.from_residual-in_err-out.ensures.1 in
+    let same = header_is_one c.args.data.now h d.header read accepted.0 in
+    rw (p.1, p.2) (c.in_err-out.ensures.wrong (drop header_size c.args.data.now) (ap Some accepted.2)
+    (subst (λ k. AreWrong (pixel_count k) (drop header_size c.args.data.now)) same wrong))

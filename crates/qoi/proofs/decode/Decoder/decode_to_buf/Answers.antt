@@ -7,7 +7,7 @@ use Rattle.qoi.specs.declared.error.Error.TheVariants.{InvalidPadding, Unexpecte
 use Rattle.qoi.specs.Qoi.{channels_number, pixel_count}
 use Rattle.qoi.specs.Decoding.{RefusesImage}
 use Rattle.qoi.specs.DecoderState.{TakesAtMost}
-use Rattle.qoi.proofs.decoding.Ahead.{fault_ahead, file_from_image, fourth_of_image, image_not_cut, image_not_wrong, image_read_of, left_known, reads_image_of, three_of_four}
+use Rattle.qoi.proofs.decoding.Ahead.{fault_ahead, file_from_image, fourth_of_image, has_image_ahead, image_not_cut, image_not_wrong, image_read_of, left_stood_behind, read_stood_ahead, same_image, three_of_four}
 use Rattle.qoi.specs.Reading.{IsImage}
 use Rattle.qoi.proofs.decoding.RefusedBytes.{end_is_cut, padding_is_only_wrong, refused_for_cut, refused_for_wrong}
 use Rattle.qoi.proofs.decoding.ImageSize.{channels_are, image_pixels}
@@ -51,33 +51,13 @@ returns-clause-bounded g c =
     (ap (λ s. g.R.Reader.ahead s.reader) c.self.view_is) (rw pixels at within)
 
 pub returns-in_err-decode_image-clause-faults : goal.returns-in_err-decode_image-clause-faults
-returns-in_err-decode_image-clause-faults g c bytes raw rest image told room =
+returns-in_err-decode_image-clause-faults g c raw image room =
     let p = err_from_is_err_and c.from_residual.result c.from_residual.ensures.1 in
-    rw (p.1, p.2) (fault_ahead g.R.Reader.in_memory c.args.self.now _ _ _ bytes raw rest image told
+    rw (p.1, p.2) (fault_ahead g.R.Reader.in_memory g.R.Reader.ahead c.args.self.now _ _ raw image
     (refused g (goal.at.returns-in_err-decode_image-clause-faults g c).After-from_residual))
 
-pub returns-clause-left : goal.returns-clause-left
-returns-clause-left g c bytes raw rest image told =
-    let d = c.args.self.now in
-    let channels = c.as_u8-channels.ensures ∙ ap (λ s. channels_number s.channels) c.self.view_is in
-    let pixels = image_pixels d.header d.channels c.required_buf_len-size.result c.as_u8-channels.result c.args.buf.now c.required_buf_len-size.ensures.bytes
-    (omega arith) channels in
-    left_known _ rest
-    (reads_image_of g.R.Reader.ahead _ d _ _ _ _ _ bytes raw rest c.self.view_is c.as_u8-channels.ensures c.as_u8-src_channels.ensures pixels c.in_ok-decode_image.ensures.read.1 image told).1
-
-pub returns-clause-image : goal.returns-clause-image
-returns-clause-image g c bytes raw rest image told =
-    let d = c.args.self.now in
-    let channels = c.as_u8-channels.ensures ∙ ap (λ s. channels_number s.channels) c.self.view_is in
-    let size = c.required_buf_len-size.result in
-    let pixels = image_pixels d.header d.channels size c.as_u8-channels.result c.args.buf.now c.required_buf_len-size.ensures.bytes (omega arith) channels in
-    let out = c.decode_image.new.out in
-    let same : size ≡ length out = omega (arith, c.decode_image.auto.out, length-take-le size c.args.buf.now (omega arith)) in
-    ap (λ n. take n (out ++ drop size c.args.buf.now)) same ∙ take-append_seam out (drop size c.args.buf.now)
-    ∙ (reads_image_of g.R.Reader.ahead _ d _ _ _ _ _ bytes raw rest c.self.view_is c.as_u8-channels.ensures c.as_u8-src_channels.ensures pixels c.in_ok-decode_image.ensures.read.1 image told).0
-
-pub returns-clause-read : goal.returns-clause-read
-returns-clause-read g c bytes told =
+pub returns-clause-rest : goal.returns-clause-rest
+returns-clause-rest g c bytes told =
     let d = c.args.self.now in
     let channels = c.as_u8-channels.ensures ∙ ap (λ s. channels_number s.channels) c.self.view_is in
     let size = c.required_buf_len-size.result in
@@ -90,15 +70,27 @@ returns-clause-read g c bytes told =
     c.in_ok-decode_image.ensures.read.1 told in
     (r.0, r.1, subst (λ z. IsImage d.channels bytes d.header r.0 z) (sym front) r.2)
 
+pub returns-clause-read : goal.returns-clause-read
+returns-clause-read g c = has_image_ahead _ _ (g.R.Reader.ahead c.args.self.now.reader) _ _ (returns-clause-rest g c)
+
+pub returns-clause-image : goal.returns-clause-image
+returns-clause-image g c raw image = read_stood_ahead g.R.Reader.ahead c.args.self.now _ raw _ image (returns-clause-rest g c)
+
+pub returns-clause-left : goal.returns-clause-left
+returns-clause-left g c rest image = left_stood_behind g.R.Reader.ahead c.args.self.now _ rest _ image (returns-clause-rest g c)
+
 pub returns-clause-file : goal.returns-clause-file
-returns-clause-file g c bytes ahead made told =
-    let r = returns-clause-read g c ahead told in
-    (r.0, r.1, file_from_image c.args.self.now bytes ahead r.0 _ made r.2)
+returns-clause-file g c bytes made = file_from_image g.R.Reader.ahead c.args.self.now bytes _ _ made (returns-clause-rest g c)
+
+pub returns-clause-same : goal.returns-clause-same
+returns-clause-same g c channels h bytes raw image as_own as_k told =
+    let r = returns-clause-rest g c bytes told in
+    same_image channels _ h _ bytes r.0 raw _ as_own as_k image r.2
 
 pub returns-clause-rgb : goal.returns-clause-rgb
-returns-clause-rgb g c bytes four rest three image told =
-    let r = returns-clause-read g c bytes told in
-    three_of_four _ _ bytes r.0 rest _ four three r.2 image
+returns-clause-rgb g c channels h bytes four image as_four three as_k told =
+    let r = returns-clause-rest g c bytes told in
+    three_of_four channels _ h _ bytes r.0 _ four as_four three as_k image r.2
 
 pub returns-clause-opaque : goal.returns-clause-opaque
 returns-clause-opaque g c four three i below =
@@ -117,12 +109,12 @@ returns-clause-opaque g c four three i below =
 
 pub returns-clause-cut : goal.returns-clause-cut
 returns-clause-cut g c bytes told cut room =
-    let r = returns-clause-read g c bytes told in
+    let r = returns-clause-rest g c bytes told in
     image_not_cut _ _ bytes r.0 _ r.2 cut
 
 pub returns-clause-wrong : goal.returns-clause-wrong
 returns-clause-wrong g c bytes told wrong room =
-    let r = returns-clause-read g c bytes told in
+    let r = returns-clause-rest g c bytes told in
     image_not_wrong _ _ bytes r.0 _ r.2 wrong
 
 pub returns-in_err-decode_image-clause-cut : goal.returns-in_err-decode_image-clause-cut

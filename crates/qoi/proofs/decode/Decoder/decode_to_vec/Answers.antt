@@ -1,5 +1,5 @@
 -- Whole bytes in memory are not refused.
-use Rattle.std.proofs.Common.{rules, ◌≡◌, ◌≤◌, ◌++◌, length, take, drop, ap, sym, IsOk, false, true, ◌∙◌, subst, inr, arith, length-append}
+use Rattle.std.proofs.Common.{ℕ, List, rules, ◌≡◌, ◌≤◌, ◌++◌, length, take, drop, ap, sym, IsOk, false, true, ◌∙◌, subst, inr, arith, length-append}
 use Rattle.std.proofs.lemmas.List.{length-take-le}
 use Rattle.std.proofs.Math.Seq.{take-length}
 use lib.Seq.{take-append_seam}
@@ -39,9 +39,9 @@ returns-clause-length g c =
     (size ∙ counted, omega (arith, size, counted, c.required_buf_len.ensures.some, c.required_buf_len.ensures.bytes))
 
 pub returns-then-not-could_hold-clause-faults : goal.returns-then-not-could_hold-clause-faults
-returns-then-not-could_hold-clause-faults g c bytes raw rest image told =
+returns-then-not-could_hold-clause-faults g c raw image =
     let cut = c.could_hold.ensures.cut (search rules) in
-    inr (fault_ahead g.R.Reader.in_memory c.args.self.now _ _ UnexpectedBufferEnd bytes raw rest image told
+    inr (fault_ahead g.R.Reader.in_memory g.R.Reader.ahead c.args.self.now _ UnexpectedBufferEnd raw image
     (subst (λ s. RefusesImage g.R.Reader.in_memory (pixel_count s.header) (g.R.Reader.ahead s.reader)
     (g.R.Reader.ahead s.reader) UnexpectedBufferEnd) c.self.view_is (rw c.n_pixels.ensures at cut)))
 
@@ -52,13 +52,23 @@ returns-then-not-could_hold-clause-wrong g c bytes told wrong =
     (subst (λ s. RefusesImage g.R.Reader.in_memory (pixel_count s.header) (g.R.Reader.ahead s.reader)
     (g.R.Reader.ahead s.reader) UnexpectedBufferEnd) c.self.view_is (rw c.n_pixels.ensures at cut)))
 
+-- the vector's bytes are those that the buffer's call decoded
+front : (n size : ℕ) (buf after : List ℕ) → n ≡ length buf → size ≡ length buf → take n (buf ++ after) ≡ take size buf
+front n size buf after counted filled =
+    ap (λ k. take k (buf ++ after)) counted ∙ take-append_seam buf after ∙ sym (take-length buf) ∙ ap (λ k. take k buf) (sym filled)
+
 pub returns-clause-rgb : goal.returns-clause-rgb
-returns-clause-rgb g c bytes four rest three image told =
+returns-clause-rgb g c channels h bytes four image as_four three as_k told =
     let buf = c.decode_to_buf.new.buf in
-    let after = drop (length buf) c.in_ok-out.out.items in
-    let n = c.in_ok-out.out.len in
-    let size = c.in_ok-decode_to_buf.field-0 in
-    let counted : n ≡ length buf = omega (arith, c.decode_to_buf.auto.buf, c.deref_mut.ensures.len) in
-    let filled : length buf ≡ size = omega (arith, counted, c.in_ok-out.ensures.len, c.required_buf_len.ensures.bytes, c.in_ok-decode_to_buf.ensures.decoded.0) in
-    ap (λ k. take k (buf ++ after)) counted ∙ take-append_seam buf after ∙ sym (take-length buf) ∙ ap (λ k. take k buf) filled
-    ∙ c.in_ok-decode_to_buf.ensures.rgb bytes four rest three image told
+    let counted : c.in_ok-out.out.len ≡ length buf = omega (arith, c.decode_to_buf.auto.buf, c.deref_mut.ensures.len) in
+    let filled : c.in_ok-decode_to_buf.field-0 ≡ length buf =
+    omega (arith, counted, c.in_ok-out.ensures.len, c.required_buf_len.ensures.bytes, c.in_ok-decode_to_buf.ensures.decoded.0) in
+    front _ _ buf _ counted filled ∙ c.in_ok-decode_to_buf.ensures.rgb channels h bytes four image as_four three as_k told
+
+pub returns-clause-same : goal.returns-clause-same
+returns-clause-same g c channels h bytes raw image as_own as_k told =
+    let buf = c.decode_to_buf.new.buf in
+    let counted : c.in_ok-out.out.len ≡ length buf = omega (arith, c.decode_to_buf.auto.buf, c.deref_mut.ensures.len) in
+    let filled : c.in_ok-decode_to_buf.field-0 ≡ length buf =
+    omega (arith, counted, c.in_ok-out.ensures.len, c.required_buf_len.ensures.bytes, c.in_ok-decode_to_buf.ensures.decoded.0) in
+    front _ _ buf _ counted filled ∙ c.in_ok-decode_to_buf.ensures.same channels h bytes raw image as_own as_k told
