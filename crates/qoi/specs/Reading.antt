@@ -1,5 +1,5 @@
 -- What a decoder reads where the bytes are known that stand ahead of it.
-use Rattle.std.specs.Prelude.{◌≡◌, ◌⊎◌, ℕ, List, ◌++◌, take, Bool, true, false, Option, Some}
+use Rattle.std.specs.Prelude.{◌≡◌, ◌⊎◌, ℕ, List, ◌++◌, take, Bool, true, false}
 use Rattle.qoi.specs.declared.error.Error.{Error}
 use Rattle.qoi.specs.declared.error.Error.TheVariants.{UnexpectedBufferEnd, InvalidPadding}
 use Rattle.qoi.specs.declared.types.Channels.{Channels}
@@ -22,14 +22,6 @@ pub record IsImage (channels : Channels) (bytes : List ℕ) (h : Header) (rest o
 unfoldable pub HasImage : Channels → List ℕ → Header → List ℕ → Type 0
 HasImage channels bytes h out = (rest : List ℕ) × IsImage channels bytes h rest out
 
--- the image of these raw bytes, in the decoder's channels, stands ahead of it
-unfoldable pub StandsAhead : {R : Type 0} → (R → Option (List ℕ)) → DecoderState R → List ℕ → Type 0
-StandsAhead ahead d raw = (bytes : List ℕ) × (rest : List ℕ) × (ahead d.reader ≡ Some bytes) × IsImage d.channels bytes d.header rest raw
-
--- an image stands ahead of the decoder, and then the rest
-unfoldable pub StandsBefore : {R : Type 0} → (R → Option (List ℕ)) → DecoderState R → List ℕ → Type 0
-StandsBefore ahead d rest = (bytes : List ℕ) × (raw : List ℕ) × (ahead d.reader ≡ Some bytes) × IsImage d.channels bytes d.header rest raw
-
 -- what may refuse an image that stands ahead: nothing from memory, and an i/o error from a stream
 abbrev pub IsFault : Bool → Error → Type 0
 IsFault true e = ⊥
@@ -37,9 +29,8 @@ IsFault false e = IsIoError e
 
 -- The decoder is of the file at the front of the bytes: its header's bytes stand there, then comes what is ahead of the
 -- decoder, and its channels are the file's own.
-unfoldable pub IsDecoderOf : {R : Type 0} → (R → Option (List ℕ)) → DecoderState R → List ℕ → Type 0
-IsDecoderOf next d bytes = (ahead : List ℕ) × (next d.reader ≡ Some ahead) × (bytes ≡ head d.header ++ ahead) × IsValid d.header
-    × (d.channels ≡ d.header.channels)
+unfoldable pub IsDecoderOf : {R : Type 0} → DecoderState R → List ℕ → List ℕ → Type 0
+IsDecoderOf d bytes ahead = (bytes ≡ head d.header ++ ahead) × IsValid d.header × (d.channels ≡ d.header.channels)
 
 -- what refuses cut bytes: from memory their end, and an i/o error from a stream
 abbrev pub IsForCut : Bool → Error → Type 0

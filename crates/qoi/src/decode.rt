@@ -9,7 +9,7 @@ ghost use Rattle.qoi.specs.Decoding.{AreWrong, CouldHold, HasCut, least_byte_cou
 ghost use Rattle.qoi.specs.declared.types.Style.{Style};
 ghost use Rattle.qoi.specs.Encoded.{IsFileOf};
 ghost use Rattle.qoi.specs.DecoderState.{image_byte_count, DecodesImage, RefusesDecoding, TakesWithin};
-ghost use Rattle.qoi.specs.Reading.{HasImage, IsDecoderOf, IsFault, IsForCut, IsForWrong, IsImage, StandsAhead, StandsBefore};
+ghost use Rattle.qoi.specs.Reading.{HasImage, IsDecoderOf, IsFault, IsForCut, IsForWrong, IsImage};
 ghost use Rattle.qoi.specs.Raw.{without_fourth};
 
 mod deltas;
@@ -157,21 +157,13 @@ impl<'a> Decoder<Bytes<'a>> {
     pub fn new(data: &'a [u8]) -> Result<Decoder<Bytes<'a>>>
         ensures accepted { IfOk result (λ d. (header_of «data».entry.now ≡ Ok d.header)
             × (d.channels ≡ d.header.channels) × (d.reader ≡ drop header_size «data».entry.now)) }
-        // Of the file of an image, in each style, the image stands ahead; so it does where other bytes
-        // follow the file. The header is the image's.
-        ensures comes_back { (style : Style) (h : Header) (raw bytes : List ℕ)
-            → IsFileOf style h raw bytes → «data».entry.now ≡ bytes
-            → IsOkAnd result (λ d. StandsAhead Some d raw) }
-        ensures followed { (style : Style) (h : Header) (raw bytes rest : List ℕ)
-            → IsFileOf style h raw bytes → «data».entry.now ≡ bytes ++ rest
-            → IsOkAnd result (λ d. StandsAhead Some d raw) }
-        ensures before { (style : Style) (h : Header) (raw bytes rest : List ℕ)
-            → IsFileOf style h raw bytes → «data».entry.now ≡ bytes ++ rest
-            → IsOkAnd result (λ d. StandsBefore Some d rest) }
+        // The decoder is of these bytes; and where they begin with the file of an image, in each style,
+        // the header is the image's.
         ensures header { (style : Style) (h : Header) (raw bytes rest : List ℕ)
             → IsFileOf style h raw bytes → «data».entry.now ≡ bytes ++ rest
             → IsOkAnd result (λ d. d.header ≡ h) }
-        ensures made { IfOk result (λ d. IsDecoderOf Some d «data».entry.now) }
+        ensures made { IfOk result (λ d. IsDecoderOf d «data».entry.now
+            (drop header_size «data».entry.now)) }
         ensures refused { IfErr result (λ e. header_of «data».entry.now ≡ Err e) }
     {
         let mut reader = Bytes::new(data);
@@ -212,22 +204,13 @@ impl<R: Read + Drop> Decoder<R> {
             → IfOk result (λ d. header_of bytes ≡ Ok d.header) }
         ensures behind { (bytes : List ℕ) → R.remaining reader ≡ Some bytes
             → IfOk result (λ d. R.remaining d.reader ≡ Some (drop header_size bytes)) }
-        // Where they are the file of an image, in each style, the image stands ahead; so it does where
-        // other bytes follow the file. The header is the image's.
-        ensures comes_back { (style : Style) (h : Header) (raw bytes : List ℕ)
-            → IsFileOf style h raw bytes → R.remaining reader ≡ Some bytes
-            → IfOk result (λ d. StandsAhead R.remaining d raw) }
-        ensures followed { (style : Style) (h : Header) (raw bytes rest : List ℕ)
-            → IsFileOf style h raw bytes → R.remaining reader ≡ Some (bytes ++ rest)
-            → IfOk result (λ d. StandsAhead R.remaining d raw) }
-        ensures before { (style : Style) (h : Header) (raw bytes rest : List ℕ)
-            → IsFileOf style h raw bytes → R.remaining reader ≡ Some (bytes ++ rest)
-            → IfOk result (λ d. StandsBefore R.remaining d rest) }
+        // The decoder is of these bytes; and where they begin with the file of an image, in each style,
+        // the header is the image's.
         ensures header { (style : Style) (h : Header) (raw bytes rest : List ℕ)
             → IsFileOf style h raw bytes → R.remaining reader ≡ Some (bytes ++ rest)
             → IfOk result (λ d. d.header ≡ h) }
         ensures made { (bytes : List ℕ) → R.remaining reader ≡ Some bytes
-            → IfOk result (λ d. IsDecoderOf R.remaining d bytes) }
+            → IfOk result (λ d. IsDecoderOf d bytes (drop header_size bytes)) }
         ensures refused { IfErr result (λ e. (left : Option (List ℕ))
             × ReadsHeader false (R.remaining reader) left (Err e)) }
     {
@@ -337,12 +320,22 @@ impl<R: Reader> Decoder<R> {
             → R.ahead self.old.reader ≡ Some bytes
             → IsWhole (pixel_count self.old.header) bytes cs rest
             → image_byte_count self.old ≤ length buf.old → IsOk result }
-        // The image that stands ahead is decoded, and what follows it is left.
-        ensures image { (raw : List ℕ) → StandsAhead R.ahead self.old raw
+        // Of a decoder of the file of an image, in each style, the raw bytes come back; so they do where
+        // other bytes follow the file, and those are left.
+        ensures comes_back { (style : Style) (h : Header) (raw bytes ahead : List ℕ)
+            → IsFileOf style h raw bytes → IsDecoderOf self.old bytes ahead
+            → R.ahead self.old.reader ≡ Some ahead → IfOk result (λ size. take size buf.new ≡ raw) }
+        ensures followed { (style : Style) (h : Header) (raw bytes rest all ahead : List ℕ)
+            → IsFileOf style h raw bytes → IsDecoderOf self.old all ahead
+            → R.ahead self.old.reader ≡ Some ahead → all ≡ bytes ++ rest
             → IfOk result (λ size. take size buf.new ≡ raw) }
-        ensures left { (rest : List ℕ) → StandsBefore R.ahead self.old rest
+        ensures left { (style : Style) (h : Header) (raw bytes rest all ahead : List ℕ)
+            → IsFileOf style h raw bytes → IsDecoderOf self.old all ahead
+            → R.ahead self.old.reader ≡ Some ahead → all ≡ bytes ++ rest
             → OnOk result (R.ahead self.new.reader ≡ Some rest) }
-        ensures faults { (raw : List ℕ) → StandsAhead R.ahead self.old raw
+        ensures faults { (style : Style) (h : Header) (raw bytes rest all ahead : List ℕ)
+            → IsFileOf style h raw bytes → IsDecoderOf self.old all ahead
+            → R.ahead self.old.reader ≡ Some ahead → all ≡ bytes ++ rest
             → image_byte_count self.old ≤ length buf.old
             → IfErr result (IsFault R.in_memory) }
         // What was decoded stood ahead, and what follows it is left.
@@ -357,7 +350,8 @@ impl<R: Reader> Decoder<R> {
             → h ≡ self.old.header → R.ahead self.old.reader ≡ Some bytes
             → IfOk result (λ size. take size buf.new ≡ raw) }
         // Of a decoder of these bytes, in the file's own channels, it is a file at their front.
-        ensures file { (bytes : List ℕ) → IsDecoderOf R.ahead self.old bytes
+        ensures file { (bytes ahead : List ℕ) → IsDecoderOf self.old bytes ahead
+            → R.ahead self.old.reader ≡ Some ahead
             → IfOk result (λ size. (rest : List ℕ) × (R.ahead self.new.reader ≡ Some rest)
             × DecodesFile bytes self.old.header rest (take size buf.new)) }
         // In three channels it is what four are without each fourth byte; and where the file has
@@ -429,12 +423,22 @@ impl<R: Reader> Decoder<R> {
             → R.ahead self.old.reader ≡ Some bytes
             → IsWhole (pixel_count self.old.header) bytes cs rest
             → IsOkUnless result Error.OutOfMemory }
-        // The image that stands ahead is decoded, and what follows it is left.
-        ensures image { (raw : List ℕ) → StandsAhead R.ahead self.old raw
+        // Of a decoder of the file of an image, in each style, the raw bytes come back; so they do where
+        // other bytes follow the file, and those are left.
+        ensures comes_back { (style : Style) (h : Header) (raw bytes ahead : List ℕ)
+            → IsFileOf style h raw bytes → IsDecoderOf self.old bytes ahead
+            → R.ahead self.old.reader ≡ Some ahead → IfOk result (λ out. out.items ≡ raw) }
+        ensures followed { (style : Style) (h : Header) (raw bytes rest all ahead : List ℕ)
+            → IsFileOf style h raw bytes → IsDecoderOf self.old all ahead
+            → R.ahead self.old.reader ≡ Some ahead → all ≡ bytes ++ rest
             → IfOk result (λ out. out.items ≡ raw) }
-        ensures left { (rest : List ℕ) → StandsBefore R.ahead self.old rest
+        ensures left { (style : Style) (h : Header) (raw bytes rest all ahead : List ℕ)
+            → IsFileOf style h raw bytes → IsDecoderOf self.old all ahead
+            → R.ahead self.old.reader ≡ Some ahead → all ≡ bytes ++ rest
             → OnOk result (R.ahead self.new.reader ≡ Some rest) }
-        ensures faults { (raw : List ℕ) → StandsAhead R.ahead self.old raw
+        ensures faults { (style : Style) (h : Header) (raw bytes rest all ahead : List ℕ)
+            → IsFileOf style h raw bytes → IsDecoderOf self.old all ahead
+            → R.ahead self.old.reader ≡ Some ahead → all ≡ bytes ++ rest
             → IfErr result (λ e. (e ≡ Error.OutOfMemory) ⊎ IsFault R.in_memory e) }
         // What was decoded stood ahead, and what follows it is left.
         ensures read { IfSome (R.ahead self.old.reader) (λ bytes. IfOk result (λ out.
@@ -448,7 +452,8 @@ impl<R: Reader> Decoder<R> {
             → h ≡ self.old.header → R.ahead self.old.reader ≡ Some bytes
             → IfOk result (λ out. out.items ≡ raw) }
         // Of a decoder of these bytes, in the file's own channels, it is a file at their front.
-        ensures file { (bytes : List ℕ) → IsDecoderOf R.ahead self.old bytes
+        ensures file { (bytes ahead : List ℕ) → IsDecoderOf self.old bytes ahead
+            → R.ahead self.old.reader ≡ Some ahead
             → IfOk result (λ out. (rest : List ℕ) × (R.ahead self.new.reader ≡ Some rest)
             × DecodesFile bytes self.old.header rest out.items) }
         // In three channels it is what four are without each fourth byte; and where the file has

@@ -14,11 +14,11 @@ use Rattle.qoi.specs.Verdicts.{IsWhole}
 use Rattle.qoi.specs.Decoding.{AreWrong, DecodesFile, HasCut, ReadsHeader, ReadsImage, RefusesImage}
 use Rattle.qoi.specs.DecoderState.{DecoderState}
 use Rattle.qoi.specs.Encoded.{IsFileOf}
-use Rattle.qoi.specs.Reading.{HasImage, IsDecoderOf, IsFault, IsImage, StandsAhead, StandsBefore}
+use Rattle.qoi.specs.Reading.{HasImage, IsDecoderOf, IsFault, IsImage}
 use Rattle.qoi.proofs.decoding.OneFile.{decodes_file, file_parts, header_is_one}
 use Rattle.qoi.proofs.decoding.StreamVerdicts.{fourth_is_opaque, read_is_whole, rgb_is_without_fourth, whole_is_io_error}
 use Rattle.qoi.proofs.decoding.Refusals.{whole_not_refused_in}
-use Rattle.qoi.proofs.format.HeaderBytes.{header_split}
+use Rattle.qoi.proofs.format.HeaderBytes.{header_of-head, header_split}
 use Rattle.qoi.proofs.format.OneVerdict.{whole_is_one, whole_not_cut, whole_not_wrong}
 
 -- behind the header of a file stands its image, and then what follows the file
@@ -32,18 +32,6 @@ image_of_file channels k bytes h rest raw read own f =
       whole = subst (λ j. IsWhole (pixel_count j) (drop header_size bytes) f.cs rest) (sym same) f.whole;
       out_is = f.out_is ∙ ap (λ j. P j j.channels) (sym same) ∙ ap (P k) (sym own);
     }
-
--- an image stands ahead
-pub stands_ahead : {R : Type 0} (ahead : R → Option (List ℕ)) (d : DecoderState R) (bytes rest raw : List ℕ) → ahead d.reader ≡ Some bytes
-    → IsImage d.channels bytes d.header rest raw → StandsAhead ahead d raw
-unfolding StandsAhead
-stands_ahead ahead d bytes rest raw told image = (bytes, rest, told, image)
-
--- and before the rest
-pub stands_before : {R : Type 0} (ahead : R → Option (List ℕ)) (d : DecoderState R) (bytes rest raw : List ℕ) → ahead d.reader ≡ Some bytes
-    → IsImage d.channels bytes d.header rest raw → StandsBefore ahead d rest
-unfolding StandsBefore
-stands_before ahead d bytes rest raw told image = (bytes, raw, told, image)
 
 -- the file of an image, as a file
 pub file_ahead : (style : Style) (h : Header) (raw bytes rest all : List ℕ) → IsFileOf style h raw bytes → all ≡ bytes ++ rest → DecodesFile all h rest raw
@@ -69,14 +57,25 @@ header_front old (Some rest) bytes h r told =
     let after = (header_split bytes r.0 rest h split r.2 r.3).1 in
     (split ∙ ap (λ z. z ++ rest) r.4 ∙ ap (λ z. head h ++ z) after, r.5)
 
--- what refuses an image that stands ahead is a fault
-pub fault_ahead : {R : Type 0} (in_memory : Bool) (ahead : R → Option (List ℕ)) (d : DecoderState R) (new : Option (List ℕ)) (e : Error) (raw : List ℕ)
-    → StandsAhead ahead d raw → RefusesImage in_memory (pixel_count d.header) (ahead d.reader) new e → IsFault in_memory e
-unfolding StandsAhead
-fault_ahead true ahead d new e raw (bytes, rest, told, image) refused =
-    whole_not_refused_in true (pixel_count d.header) (ahead d.reader) new e bytes image.cs rest refl told image.whole refused
-fault_ahead false ahead d new e raw (bytes, rest, told, image) refused =
-    whole_is_io_error (pixel_count d.header) bytes image.cs rest new e image.whole
+-- the image that stands ahead of a decoder, at the front of whose bytes stands the file of an image
+ahead_of : {R : Type 0} (d : DecoderState R) (style : Style) (h : Header) (raw bytes rest all ahead : List ℕ)
+    → IsFileOf style h raw bytes → IsDecoderOf d all ahead → all ≡ bytes ++ rest → IsImage d.channels ahead d.header rest raw
+unfolding IsDecoderOf
+ahead_of d style h raw bytes rest all ahead f (split, valid, own) is =
+    let read : header_of all ≡ Ok d.header = ap header_of split ∙ header_of-head d.header ahead valid in
+    let image = image_of_file d.channels d.header all h rest raw read own (file_ahead style h raw bytes rest all f is) in
+    subst (λ z. IsImage d.channels z d.header rest raw) (ap (λ z. drop header_size z) split) image
+
+-- what refuses it is a fault
+pub fault_ahead : {R : Type 0} (in_memory : Bool) (next : R → Option (List ℕ)) (d : DecoderState R) (new : Option (List ℕ)) (e : Error)
+    (style : Style) (h : Header) (raw bytes rest all ahead : List ℕ) → IsFileOf style h raw bytes → IsDecoderOf d all ahead → next d.reader ≡ Some ahead
+    → all ≡ bytes ++ rest → RefusesImage in_memory (pixel_count d.header) (next d.reader) new e → IsFault in_memory e
+fault_ahead true next d new e style h raw bytes rest all ahead f made told is refused =
+    let image = ahead_of d style h raw bytes rest all ahead f made is in
+    whole_not_refused_in true (pixel_count d.header) (next d.reader) new e ahead image.cs rest refl told image.whole refused
+fault_ahead false next d new e style h raw bytes rest all ahead f made told is refused =
+    let image = ahead_of d style h raw bytes rest all ahead f made is in
+    whole_is_io_error (pixel_count d.header) ahead image.cs rest new e image.whole
     (subst (λ z. RefusesImage false (pixel_count d.header) z new e) told refused)
 
 -- what is read from known bytes is an image at their front, and what follows it is left
@@ -117,25 +116,16 @@ unfolding HasImage
 same_image channels own h k bytes more raw out as_own as_k (rest, image) other =
     (image_is_one own k bytes rest more raw out (subst (λ j. IsImage own bytes j rest raw) as_k (subst (λ j. IsImage j bytes h rest raw) as_own image)) other).0
 
--- what stands ahead was read
-pub read_stood_ahead : {R : Type 0} (ahead : R → Option (List ℕ)) (d : DecoderState R) (left : Option (List ℕ)) (raw out : List ℕ)
-    → StandsAhead ahead d raw
-    → ((bytes : List ℕ) → ahead d.reader ≡ Some bytes → (more : List ℕ) × (left ≡ Some more) × IsImage d.channels bytes d.header more out)
-    → out ≡ raw
-unfolding StandsAhead
-read_stood_ahead ahead d left raw out (bytes, rest, told, image) reads =
-    let r = reads bytes told in
-    (image_is_one d.channels d.header bytes rest r.0 raw out image r.2).0
-
--- what an image stands before is left
-pub left_stood_behind : {R : Type 0} (ahead : R → Option (List ℕ)) (d : DecoderState R) (left : Option (List ℕ)) (rest out : List ℕ)
-    → StandsBefore ahead d rest
-    → ((bytes : List ℕ) → ahead d.reader ≡ Some bytes → (more : List ℕ) × (left ≡ Some more) × IsImage d.channels bytes d.header more out)
-    → left ≡ Some rest
-unfolding StandsBefore
-left_stood_behind ahead d left rest out (bytes, raw, told, image) reads =
-    let r = reads bytes told in
-    r.1 ∙ ap Some (image_is_one d.channels d.header bytes rest r.0 raw out image r.2).1
+-- the image of the file was read, and what follows the file is left
+pub image_comes_back : {R : Type 0} (next : R → Option (List ℕ)) (d : DecoderState R) (left : Option (List ℕ)) (out : List ℕ)
+    → ((bytes : List ℕ) → next d.reader ≡ Some bytes → (more : List ℕ) × (left ≡ Some more) × IsImage d.channels bytes d.header more out)
+    → (style : Style) (h : Header) (raw bytes rest all ahead : List ℕ) → IsFileOf style h raw bytes → IsDecoderOf d all ahead
+    → next d.reader ≡ Some ahead → all ≡ bytes ++ rest → (out ≡ raw) × (left ≡ Some rest)
+image_comes_back next d left out reads style h raw bytes rest all ahead f made told is =
+    let image = ahead_of d style h raw bytes rest all ahead f made is in
+    let r = reads ahead told in
+    let one = image_is_one d.channels d.header ahead rest r.0 raw out image r.2 in
+    (one.0, r.1 ∙ ap Some one.1)
 
 -- an image is read, whether or not the bytes ahead are known
 pub has_image_ahead : (channels : Channels) (h : Header) (old left : Option (List ℕ)) (out : List ℕ)
@@ -146,12 +136,12 @@ has_image_ahead channels h (Some bytes) left out reads = let r = reads bytes ref
 has_image_ahead channels h None left out reads = tt
 
 -- of a decoder of these bytes what is read, in the file's own channels, is a file at their front
-pub file_from_image : {R : Type 0} (next : R → Option (List ℕ)) (d : DecoderState R) (bytes : List ℕ) (left : Option (List ℕ)) (out : List ℕ)
-    → IsDecoderOf next d bytes
+pub file_from_image : {R : Type 0} (next : R → Option (List ℕ)) (d : DecoderState R) (bytes ahead : List ℕ) (left : Option (List ℕ))
+    (out : List ℕ) → IsDecoderOf d bytes ahead → next d.reader ≡ Some ahead
     → ((ahead : List ℕ) → next d.reader ≡ Some ahead → (rest : List ℕ) × (left ≡ Some rest) × IsImage d.channels ahead d.header rest out)
     → (rest : List ℕ) × (left ≡ Some rest) × DecodesFile bytes d.header rest out
 unfolding IsDecoderOf
-file_from_image next d bytes left out (ahead, told, split, valid, own) reads =
+file_from_image next d bytes ahead left out (split, valid, own) told reads =
     let (rest, is_left, image) = reads ahead told in
     let h = d.header in
     let cs = image.cs in
@@ -165,10 +155,10 @@ file_from_image next d bytes left out (ahead, told, split, valid, own) reads =
     )
 
 -- a decoder whose header's bytes stand before what is ahead
-pub decoder_of : {R : Type 0} (next : R → Option (List ℕ)) (d : DecoderState R) (bytes ahead : List ℕ) → next d.reader ≡ Some ahead
-    → bytes ≡ head d.header ++ ahead → IsValid d.header → d.channels ≡ d.header.channels → IsDecoderOf next d bytes
+pub decoder_of : {R : Type 0} (d : DecoderState R) (bytes ahead : List ℕ) → bytes ≡ head d.header ++ ahead → IsValid d.header
+    → d.channels ≡ d.header.channels → IsDecoderOf d bytes ahead
 unfolding IsDecoderOf
-decoder_of next d bytes ahead told split valid own = (ahead, told, split, valid, own)
+decoder_of d bytes ahead split valid own = (split, valid, own)
 
 -- an image in three channels is the one in four without each fourth byte
 pub three_of_four : (channels own : Channels) (h k : Header) (bytes rest out four : List ℕ) → channels ≡ Rgba → own ≡ Rgb → h ≡ k

@@ -1,5 +1,5 @@
 -- Whole bytes in memory are not refused, and each image takes a bounded number of bytes.
-use Rattle.std.proofs.Common.{◌≡◌, ◌+◌, ◌*◌, ◌++◌, length, take, drop, slice_index, ap, ◌∙◌, sym, arith, subst}
+use Rattle.std.proofs.Common.{[], append-nil, ◌≡◌, ◌+◌, ◌*◌, ◌++◌, length, take, drop, slice_index, ap, ◌∙◌, sym, arith, subst}
 use Rattle.std.proofs.lemmas.List.{length-take-le}
 use Rattle.std.proofs.lemmas.Result.{err_from_is_err_and}
 use lib.Seq.{take-append_seam}
@@ -7,7 +7,7 @@ use Rattle.qoi.specs.declared.error.Error.TheVariants.{InvalidPadding, Unexpecte
 use Rattle.qoi.specs.Qoi.{channels_number, pixel_count}
 use Rattle.qoi.specs.Decoding.{RefusesImage}
 use Rattle.qoi.specs.DecoderState.{TakesAtMost}
-use Rattle.qoi.proofs.decoding.Ahead.{fault_ahead, file_from_image, fourth_of_image, has_image_ahead, image_not_cut, image_not_wrong, image_read_of, left_stood_behind, read_stood_ahead, same_image, three_of_four}
+use Rattle.qoi.proofs.decoding.Ahead.{fault_ahead, file_from_image, fourth_of_image, has_image_ahead, image_comes_back, image_not_cut, image_not_wrong, image_read_of, same_image, three_of_four}
 use Rattle.qoi.specs.Reading.{IsImage}
 use Rattle.qoi.proofs.decoding.RefusedBytes.{end_is_cut, padding_is_only_wrong, refused_for_cut, refused_for_wrong}
 use Rattle.qoi.proofs.decoding.ImageSize.{channels_are, image_pixels}
@@ -51,9 +51,9 @@ returns-clause-bounded g c =
     (ap (λ s. g.R.Reader.ahead s.reader) c.self.view_is) (rw pixels at within)
 
 pub returns-in_err-decode_image-clause-faults : goal.returns-in_err-decode_image-clause-faults
-returns-in_err-decode_image-clause-faults g c raw image room =
+returns-in_err-decode_image-clause-faults g c style h raw bytes rest all ahead f made told is room =
     let p = err_from_is_err_and c.from_residual.result c.from_residual.ensures.1 in
-    rw (p.1, p.2) (fault_ahead g.R.Reader.in_memory g.R.Reader.ahead c.args.self.now _ _ raw image
+    rw (p.1, p.2) (fault_ahead g.R.Reader.in_memory g.R.Reader.ahead c.args.self.now _ _ style h raw bytes rest all ahead f made told is
     (refused g (goal.at.returns-in_err-decode_image-clause-faults g c).After-from_residual))
 
 pub returns-clause-rest : goal.returns-clause-rest
@@ -73,14 +73,21 @@ returns-clause-rest g c bytes told =
 pub returns-clause-read : goal.returns-clause-read
 returns-clause-read g c = has_image_ahead _ _ (g.R.Reader.ahead c.args.self.now.reader) _ _ (returns-clause-rest g c)
 
-pub returns-clause-image : goal.returns-clause-image
-returns-clause-image g c raw image = read_stood_ahead g.R.Reader.ahead c.args.self.now _ raw _ image (returns-clause-rest g c)
+pub returns-clause-followed : goal.returns-clause-followed
+returns-clause-followed g c style h raw bytes rest all ahead f made told is =
+    (image_comes_back g.R.Reader.ahead c.args.self.now _ _ (returns-clause-rest g c) style h raw bytes rest all ahead f made told is).0
 
 pub returns-clause-left : goal.returns-clause-left
-returns-clause-left g c rest image = left_stood_behind g.R.Reader.ahead c.args.self.now _ rest _ image (returns-clause-rest g c)
+returns-clause-left g c style h raw bytes rest all ahead f made told is =
+    (image_comes_back g.R.Reader.ahead c.args.self.now _ _ (returns-clause-rest g c) style h raw bytes rest all ahead f made told is).1
+
+pub returns-clause-comes_back : goal.returns-clause-comes_back
+returns-clause-comes_back g c style h raw bytes ahead f made told =
+    returns-clause-followed g c style h raw bytes [] bytes ahead f made told (sym (append-nil bytes))
 
 pub returns-clause-file : goal.returns-clause-file
-returns-clause-file g c bytes made = file_from_image g.R.Reader.ahead c.args.self.now bytes _ _ made (returns-clause-rest g c)
+returns-clause-file g c bytes ahead made told =
+    file_from_image g.R.Reader.ahead c.args.self.now bytes ahead _ _ made told (returns-clause-rest g c)
 
 pub returns-clause-same : goal.returns-clause-same
 returns-clause-same g c channels h bytes raw image as_own as_k told =

@@ -1,11 +1,12 @@
 -- Whole bytes in memory are not refused.
-use Rattle.std.proofs.Common.{ℕ, List, rules, ◌≡◌, ◌≤◌, ◌++◌, length, take, drop, ap, sym, IsOk, false, true, ◌∙◌, subst, inr, arith, length-append}
+use Rattle.std.proofs.Common.{[], append-nil, ℕ, List, rules, ◌≡◌, ◌≤◌, ◌++◌, length, take, drop, ap, sym, IsOk, false, true, ◌∙◌, subst, inr, arith, length-append}
 use Rattle.std.proofs.lemmas.List.{length-take-le}
+use Rattle.std.proofs.lemmas.Result.{err_from_is_err_and}
 use Rattle.std.proofs.Math.Seq.{take-length}
 use lib.Seq.{take-append_seam}
 use Rattle.qoi.specs.declared.error.Error.TheVariants.{UnexpectedBufferEnd}
 use Rattle.qoi.specs.Qoi.{pixel_count}
-use Rattle.qoi.specs.Decoding.{RefusesImage}
+use Rattle.qoi.specs.Decoding.{DecodesFile, RefusesImage}
 use Rattle.qoi.specs.DecoderState.{image_byte_count}
 use Rattle.qoi.proofs.decoding.Ahead.{fault_ahead}
 use Rattle.qoi.proofs.decoding.RefusedBytes.{refused_for_wrong}
@@ -39,9 +40,9 @@ returns-clause-length g c =
     (size ∙ counted, omega (arith, size, counted, c.required_buf_len.ensures.some, c.required_buf_len.ensures.bytes))
 
 pub returns-then-not-could_hold-clause-faults : goal.returns-then-not-could_hold-clause-faults
-returns-then-not-could_hold-clause-faults g c raw image =
+returns-then-not-could_hold-clause-faults g c style h raw bytes rest all ahead f made told is =
     let cut = c.could_hold.ensures.cut (search rules) in
-    inr (fault_ahead g.R.Reader.in_memory g.R.Reader.ahead c.args.self.now _ UnexpectedBufferEnd raw image
+    inr (fault_ahead g.R.Reader.in_memory g.R.Reader.ahead c.args.self.now _ UnexpectedBufferEnd style h raw bytes rest all ahead f made told is
     (subst (λ s. RefusesImage g.R.Reader.in_memory (pixel_count s.header) (g.R.Reader.ahead s.reader)
     (g.R.Reader.ahead s.reader) UnexpectedBufferEnd) c.self.view_is (rw c.n_pixels.ensures at cut)))
 
@@ -72,3 +73,31 @@ returns-clause-same g c channels h bytes raw image as_own as_k told =
     let filled : c.in_ok-decode_to_buf.field-0 ≡ length buf =
     omega (arith, counted, c.in_ok-out.ensures.len, c.required_buf_len.ensures.bytes, c.in_ok-decode_to_buf.ensures.decoded.0) in
     front _ _ buf _ counted filled ∙ c.in_ok-decode_to_buf.ensures.same channels h bytes raw image as_own as_k told
+
+pub returns-clause-followed : goal.returns-clause-followed
+returns-clause-followed g c style h raw bytes rest all ahead f made told is =
+    let buf = c.decode_to_buf.new.buf in
+    let counted : c.in_ok-out.out.len ≡ length buf = omega (arith, c.decode_to_buf.auto.buf, c.deref_mut.ensures.len) in
+    let filled : c.in_ok-decode_to_buf.field-0 ≡ length buf =
+    omega (arith, counted, c.in_ok-out.ensures.len, c.required_buf_len.ensures.bytes, c.in_ok-decode_to_buf.ensures.decoded.0) in
+    front _ _ buf _ counted filled ∙ c.in_ok-decode_to_buf.ensures.followed style h raw bytes rest all ahead f made told is
+
+pub returns-in_err-decode_to_buf-clause-faults : goal.returns-in_err-decode_to_buf-clause-faults
+returns-in_err-decode_to_buf-clause-faults g c style h raw bytes rest all ahead f made told is =
+    let room : image_byte_count c.args.self.now ≤ length c.deref_mut.result.now =
+    omega (arith, c.in_ok-out.ensures.len, c.deref_mut.ensures.len, c.required_buf_len.ensures.bytes) in
+    let p = err_from_is_err_and c.from_residual-in_err-decode_to_buf.result c.from_residual-in_err-decode_to_buf.ensures.1 in
+    rw (p.1, p.2) (inr (c.in_err-decode_to_buf.ensures.faults style h raw bytes rest all ahead f made told is room))
+
+pub returns-clause-comes_back : goal.returns-clause-comes_back
+returns-clause-comes_back g c style h raw bytes ahead f made told =
+    returns-clause-followed g c style h raw bytes [] bytes ahead f made told (sym (append-nil bytes))
+
+pub returns-clause-file : goal.returns-clause-file
+returns-clause-file g c bytes ahead made told =
+    let buf = c.decode_to_buf.new.buf in
+    let counted : c.in_ok-out.out.len ≡ length buf = omega (arith, c.decode_to_buf.auto.buf, c.deref_mut.ensures.len) in
+    let filled : c.in_ok-decode_to_buf.field-0 ≡ length buf =
+    omega (arith, counted, c.in_ok-out.ensures.len, c.required_buf_len.ensures.bytes, c.in_ok-decode_to_buf.ensures.decoded.0) in
+    let file = c.in_ok-decode_to_buf.ensures.file bytes ahead made told in
+    (file.0, file.1, subst (λ z. DecodesFile bytes c.args.self.now.header file.0 z) (sym (front _ _ buf _ counted filled)) file.2)
