@@ -64,11 +64,9 @@ returns-clause-rest g c bytes told =
     let pixels = image_pixels d.header d.channels size c.as_u8-channels.result c.args.buf.now c.required_buf_len-size.ensures.bytes (omega arith) channels in
     let out = c.decode_image.new.out in
     let same : size ≡ length out = omega (arith, c.decode_image.auto.out, length-take-le size c.args.buf.now (omega arith)) in
-    let front : take size (out ++ drop size c.args.buf.now) ≡ out =
-    ap (λ n. take n (out ++ drop size c.args.buf.now)) same ∙ take-append_seam out (drop size c.args.buf.now) in
     let r = image_read_of g.R.Reader.ahead _ d _ _ _ _ _ bytes c.self.view_is c.as_u8-channels.ensures c.as_u8-src_channels.ensures pixels
     c.in_ok-decode_image.ensures.read.1 told in
-    (r.0, r.1, subst (λ z. IsImage d.channels bytes d.header r.0 z) (sym front) r.2)
+    (r.0, r.1, subst (λ z. IsImage d.channels bytes d.header r.0 z) (grind (arith, same, take-append_seam)) r.2)
 
 pub returns-clause-read : goal.returns-clause-read
 returns-clause-read g c = has_image_ahead _ _ (g.R.Reader.ahead c.args.self.now.reader) _ _ (returns-clause-rest g c)
@@ -108,11 +106,9 @@ returns-clause-opaque g c four three i below =
     let pixels = image_pixels d.header d.channels size c.as_u8-channels.result c.args.buf.now c.required_buf_len-size.ensures.bytes (omega arith) channels in
     let out = c.decode_image.new.out in
     let same : size ≡ length out = omega (arith, c.decode_image.auto.out, length-take-le size c.args.buf.now (omega arith)) in
-    let front : take size (out ++ drop size c.args.buf.now) ≡ out =
-    ap (λ n. take n (out ++ drop size c.args.buf.now)) same ∙ take-append_seam out (drop size c.args.buf.now) in
-    ap (λ z. slice_index z (4 * i + 3)) front
-    ∙ fourth_of_image _ _ _ _ _ out c.in_ok-decode_image.ensures.read.1 (file ∙ ap channels_number three) (channels ∙ ap channels_number four) i
-    (omega (arith, pixels, below))
+    subst (λ z. slice_index z (4 * i + 3) ≡ 255) (grind (arith, same, take-append_seam))
+    (fourth_of_image _ _ _ _ _ out c.in_ok-decode_image.ensures.read.1 (file ∙ ap channels_number three) (channels ∙ ap channels_number four) i
+    (omega (arith, pixels, below)))
 
 pub returns-clause-cut : goal.returns-clause-cut
 returns-clause-cut g c bytes told cut room =
