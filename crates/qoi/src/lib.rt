@@ -32,6 +32,8 @@ pub mod parts;
 mod pixel;
 mod runs;
 mod table;
+#[cfg(test)]
+mod tests;
 mod types;
 mod utils;
 

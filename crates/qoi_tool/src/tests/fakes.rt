@@ -1,10 +1,19 @@
-//! A reader and a writer in memory that end one of their calls badly, and memory that is taken. This
-//! file is the same in the tests of both crates.
+//! A reader and a writer in memory that end one of their calls badly, memory that is taken, and a file
+//! to try them on. This text is the same in the tests of both crates.
 ghost use Rattle.std.specs.Prelude.{◌≡◌, IfOk};
 
 use std::alloc::{AllocError, Global};
 use std::io;
 use std::io::{ErrorKind, Read, Write};
+
+/// The raw bytes of one pixel of three channels.
+pub const PIXEL: [u8; 3] = [0x0b, 0x79, 0xe7];
+
+/// The example `one_rgb_pixel`: the file of that pixel, written out.
+pub const ONE_RGB_PIXEL: [u8; 26] = [
+    0x71, 0x6f, 0x69, 0x66, 0, 0, 0, 1, 0, 0, 0, 1, 3, 0, 0xfe, 0x0b, 0x79, 0xe7, 0, 0, 0, 0, 0, 0,
+    0, 1,
+];
 
 /// How a bad call ends.
 #[derive(Clone, Copy)]

@@ -1,8 +1,8 @@
 //! Files of about one and two pieces of the reading, from a reader that gives uneven parts.
 use crate::tests::dec;
 use crate::tests::fakes::{NONE, Sink};
-use qoi::Error;
-use std::alloc::Global;
+use crate::tests::library::support::images::{file_of, row};
+use qoi::Channels;
 use std::io;
 use std::io::Read;
 use std::test::Fail;
@@ -42,59 +42,26 @@ impl<'a> Read for Uneven<'a> {
     }
 }
 
-// So many differences, chunks of one byte.
-fn differences(alloc: Global, count: u32) -> Result<Vec<u8>, Error> {
-    let mut chunks = Vec::new(alloc);
-    for k in 0..count {
-        chunks.push(0x40 + (k % 61) as u8)?;
-    }
-    Ok(chunks)
-}
-
-// The raw bytes of these chunks, in three channels.
-fn raw_of(alloc: Global, chunks: &[u8]) -> Result<Vec<u8>, Error> {
-    let mut raw = Vec::new(alloc);
-    let (mut r, mut g, mut b) = (0u8, 0u8, 0u8);
-    for chunk in chunks {
-        r = r.wrapping_add(chunk / 16 % 4).wrapping_sub(2);
-        g = g.wrapping_add(chunk / 4 % 4).wrapping_sub(2);
-        b = b.wrapping_add(chunk % 4).wrapping_sub(2);
-        raw.extend_from_slice(&[r, g, b])?;
-    }
-    Ok(raw)
-}
-
-// The file of a row of so many pixels, in three channels.
-fn file_of(alloc: Global, pixels: u32, chunks: &[u8]) -> Result<Vec<u8>, Error> {
-    let mut file = Vec::from_slice(alloc, b"qoif")?;
-    file.extend_from_slice(&pixels.to_be_bytes())?;
-    file.extend_from_slice(&[0, 0, 0, 1, 3, 0])?;
-    file.extend_from_slice(chunks)?;
-    file.extend_from_slice(&[0, 0, 0, 0, 0, 0, 0, 1])?;
-    Ok(file)
-}
-
-// A file is read whole, up to the last byte of its end marker, by a mebibyte a call at most.
+// A file of differences, which are chunks of one byte, is read whole, up to the last byte of its end
+// marker, by a mebibyte a call at most.
 #[test]
 fn pieces(rt: HostRuntime) -> Result<(), Fail> {
     let alloc = rt.alloc();
-    let mut chunks = differences(alloc, 2 * PIECE)?;
-    let mut raw = raw_of(alloc, &chunks)?;
-    let sizes = [
-        2 * PIECE + 3,
+    for size in [
         2 * PIECE + 1,
         2 * PIECE,
         2 * PIECE - 1,
         PIECE + 1,
         PIECE,
         PIECE - 1,
-    ];
-    for size in sizes {
+    ] {
         let pixels = size - AROUND;
-        chunks.truncate(pixels as usize);
-        raw.truncate(3 * pixels as usize);
-        let file = file_of(alloc, pixels, &chunks)?;
-        assert_eq!(rt; file.len(), size as usize);
+        let chunks = vec![in alloc; 0x7fu8; pixels as usize]?;
+        let file = file_of(alloc, row(pixels, Channels::Rgb), &chunks)?;
+        let mut raw = Vec::new(alloc);
+        for k in 1..=pixels {
+            raw.extend_from_slice(&[(k % 256) as u8; 3])?;
+        }
         let mut input = Uneven::new(&file);
         let mut output = Sink::new(alloc, usize::MAX, NONE)?;
         assert!(rt; dec(alloc, &mut input, &mut output).is_ok());

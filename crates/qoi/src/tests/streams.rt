@@ -1,0 +1,111 @@
+//! Files that are decoded from a stream, which may end one of its calls badly.
+use crate::tests::support::fakes::{Bad, End, NONE, ONE_RGB_PIXEL, PIXEL, Source};
+use crate::tests::support::{
+    assert_bytes, assert_fails, assert_header, assert_number, assert_refused,
+};
+use crate::{Channels, Decoder, Error, Header, Result};
+use std::io::{Cursor, ErrorKind};
+use std::process::Abort;
+
+// The bytes of `two_files_in_one_slice` from a reader.
+#[test]
+fn two_files_in_one_stream(rt: HostRuntime) -> Result<()> {
+    let mut bytes = [0; 35];
+    bytes[..26].copy_from_slice(&ONE_RGB_PIXEL);
+    bytes[26] = 0x55;
+    bytes[34] = 1;
+    let mut decoder = Decoder::from_stream(Cursor::new(&bytes[..]))?;
+    let mut buf = [0xaa; 5];
+    assert_number(&rt, decoder.decode_to_buf(&mut buf)?, 3);
+    assert_bytes(&rt, &buf, &[0x0b, 0x79, 0xe7, 0xaa, 0xaa]);
+    assert_number(&rt, decoder.decode_to_buf(&mut buf)?, 3);
+    assert_bytes(&rt, &buf, &[0xff, 0xff, 0xff, 0xaa, 0xaa]);
+    let third = decoder.decode_to_buf(&mut buf).err();
+    assert_fails(&rt, third, ErrorKind::UnexpectedEof);
+    assert_header(&rt, decoder.header(), &Header::default());
+    Ok(())
+}
+
+// A decoder and its clone decode the same image, each by itself. What follows the end marker is left.
+#[test]
+fn clones(rt: HostRuntime) -> Result<()> {
+    let mut bytes = [0x78; 28];
+    bytes[..26].copy_from_slice(&ONE_RGB_PIXEL);
+    let mut decoder = Decoder::from_stream(&bytes[..])?.with_channels(Channels::Rgba);
+    let mut cloned = decoder.clone()?;
+    let mut buf = [0xaa; 8];
+    assert_number(&rt, decoder.decode_to_buf(&mut buf[..4])?, 4);
+    assert_bytes(&rt, decoder.reader(), &[0x78, 0x78]);
+    assert_number(&rt, cloned.decode_to_buf(&mut buf[4..])?, 4);
+    assert_bytes(&rt, cloned.into_reader(), &[0x78, 0x78]);
+    assert_bytes(&rt, &buf, &[0x0b, 0x79, 0xe7, 0xff, 0x0b, 0x79, 0xe7, 0xff]);
+    Ok(())
+}
+
+// What ends decoding into a buffer, by a reader that is lent; the header takes fourteen calls. A
+// refusal leaves the header and the chosen channels.
+fn refusal_at(rt: &impl Abort, reader: &mut Source<'_>, call: usize) -> Option<Error> {
+    match Decoder::from_stream(reader) {
+        Ok(decoder) => {
+            assert!(rt; call > 14);
+            let mut decoder = decoder.with_channels(Channels::Rgba);
+            let refusal = decoder.decode_to_buf(&mut [0xaa; 4]).err();
+            assert_header(rt, decoder.header(), &Header::default());
+            assert!(rt; decoder.channels().is_rgba());
+            refusal
+        }
+        Err(error) => {
+            assert!(rt; call <= 14);
+            Some(error)
+        }
+    }
+}
+
+// A reader that gives a byte a call has a bad call, which is the last one. So many bytes were taken.
+fn assert_stops(rt: &impl Abort, end: End, taken: usize, kind: ErrorKind) {
+    let call = taken.saturating_add(1);
+    let mut reader = Source::new(&ONE_RGB_PIXEL, 1, Bad { call, end });
+    let refusal = refusal_at(rt, &mut reader, call);
+    assert_fails(rt, refusal, kind);
+    assert_number(rt, reader.calls, call);
+    assert_number(rt, reader.left.len().saturating_add(taken), 26);
+}
+
+// One byte a call makes 26 calls; each of them in turn ends badly, and then none of them.
+#[test]
+fn failing_reader(rt: HostRuntime) -> Result<()> {
+    let ends = [
+        (End::Fault, ErrorKind::BrokenPipe),
+        (End::Interruption, ErrorKind::Interrupted),
+        (End::NoByte, ErrorKind::UnexpectedEof),
+    ];
+    for (end, kind) in ends {
+        for taken in 0..26usize {
+            assert_stops(&rt, end, taken, kind);
+        }
+        let mut reader = Source::new(&ONE_RGB_PIXEL, 1, Bad { call: 27, end });
+        let mut buf = [0xaa; 3];
+        let mut decoder = Decoder::from_stream(&mut reader)?;
+        assert_number(&rt, decoder.decode_to_buf(&mut buf)?, 3);
+        assert_bytes(&rt, &buf, &PIXEL);
+        assert_bytes(&rt, decoder.into_reader().left, &[]);
+    }
+    Ok(())
+}
+
+// What refuses a header, by a reader that is lent.
+fn header_refusal(reader: &mut Source<'_>) -> Option<Error> {
+    Decoder::from_stream(reader).err()
+}
+
+#[test]
+fn a_refused_header_takes_fourteen_bytes(rt: HostRuntime) -> Result<()> {
+    let mut file = ONE_RGB_PIXEL;
+    file[12] = 5;
+    let mut reader = Source::new(&file, 1, NONE);
+    let refusal = header_refusal(&mut reader);
+    assert_refused(&rt, rt.alloc(), refusal, "invalid number of channels: 5")?;
+    assert_number(&rt, reader.calls, 14);
+    assert_bytes(&rt, reader.left, &file[14..]);
+    Ok(())
+}

@@ -1,0 +1,53 @@
+//! What the tests share.
+
+pub mod fakes;
+
+use crate::{Error, Header, Result};
+use std::alloc::Global;
+use std::io::ErrorKind;
+use std::process::Abort;
+
+/// What is printed for bytes that end too early.
+pub const CUT: &str = "unexpected input buffer end while decoding";
+
+/// Compares bytes.
+pub fn assert_bytes(rt: &impl Abort, found: &[u8], bytes: &[u8]) {
+    assert_eq!(rt; found, bytes);
+}
+
+/// Compares numbers.
+pub fn assert_number(rt: &impl Abort, found: usize, number: usize) {
+    assert_eq!(rt; found, number);
+}
+
+/// Compares headers.
+pub fn assert_header(rt: &impl Abort, found: &Header, header: &Header) {
+    assert_eq!(rt; *found, *header);
+}
+
+/// Compares texts.
+pub fn assert_text(rt: &impl Abort, found: &str, text: &str) {
+    assert_eq!(rt; found, text);
+}
+
+/// Compares the printed text of a refusal.
+pub fn assert_refused(
+    rt: &impl Abort,
+    alloc: Global,
+    refusal: Option<Error>,
+    text: &str,
+) -> Result<()> {
+    match refusal {
+        Some(error) => assert_text(rt, format!(in alloc; "{error}")?.as_str(), text),
+        None => assert_text(rt, "accepted", text),
+    }
+    Ok(())
+}
+
+/// Tests that the refusal is an i/o error of this kind.
+pub fn assert_fails(rt: &impl Abort, refusal: Option<Error>, kind: ErrorKind) {
+    match refusal {
+        Some(Error::IoError(error)) => assert_eq!(rt; error.kind(), kind),
+        _ => assert!(rt; false, "no i/o error, not: {kind:?}"),
+    }
+}

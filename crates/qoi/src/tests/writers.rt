@@ -1,0 +1,98 @@
+//! The library's writers, and an image that is encoded to a writer, which may end one of its calls badly.
+ghost use Rattle.std.specs.Prelude.{◌≤◌};
+
+use crate::tests::support::fakes::{Bad, End, NONE, ONE_RGB_PIXEL, PIXEL, Sink};
+use crate::tests::support::{assert_bytes, assert_fails, assert_number};
+use crate::utils::{BytesMut, GenericWriter, Writer};
+use crate::{Encoder, Result};
+use std::alloc::Global;
+use std::io::ErrorKind;
+use std::process::Abort;
+
+// Writes four bytes by the trait alone, and compares the room before and after.
+fn write_four<W: Writer>(rt: &impl Abort, writer: &mut W) -> Result<()>
+    requires { 4 ≤ W.room writer.old }
+{
+    let room = writer.capacity();
+    writer.write_one(1)?;
+    writer.write_many(&[2, 3, 4])?;
+    assert_number(rt, writer.capacity().saturating_add(4), room);
+    Ok(())
+}
+
+#[test]
+fn buffers_take_bytes(rt: HostRuntime) -> Result<()> {
+    let mut buf = [0xaa; 6];
+    let mut writer = BytesMut::new(&mut buf);
+    assert_number(&rt, writer.capacity(), 6);
+    write_four(&rt, &mut writer)?;
+    assert!(rt; writer.capacity() == 2);
+    writer.write_one(5);
+    writer.write_many(&[]);
+    assert_number(&rt, writer.capacity(), 1);
+    assert_bytes(&rt, &buf, &[1, 2, 3, 4, 5, 0xaa]);
+    Ok(())
+}
+
+#[test]
+fn writers_take_bytes(rt: HostRuntime) -> Result<()> {
+    let mut sent = Vec::from_slice(rt.alloc(), &[9])?;
+    let mut writer = GenericWriter::new(&mut sent);
+    assert_number(&rt, writer.capacity(), usize::MAX);
+    write_four(&rt, &mut writer)?;
+    assert_bytes(&rt, &sent, &[9, 1, 2, 3, 4]);
+    Ok(())
+}
+
+// Encodes the pixel to a writer, which takes all of it in so many calls.
+fn assert_sends(rt: &impl Abort, alloc: Global, most: usize, bad: Bad, calls: usize) -> Result<()> {
+    let mut writer = Sink::new(alloc, most, bad)?;
+    let encoder = Encoder::new(&PIXEL, 1, 1)?;
+    assert_number(rt, encoder.encode_to_stream(&mut writer)?, 26);
+    assert_bytes(rt, &writer.got, &ONE_RGB_PIXEL);
+    assert_number(rt, writer.calls, calls);
+    Ok(())
+}
+
+// A short file is one piece, and there is no flush; a writer may take less.
+#[test]
+fn one_piece(rt: HostRuntime) -> Result<()> {
+    assert_sends(&rt, rt.alloc(), 100, NONE, 1)?;
+    assert_sends(&rt, rt.alloc(), 3, NONE, 9)
+}
+
+// Encodes the pixel to a writer that takes a byte a call. Its bad call ends the encoding and is the last
+// one, and a beginning of the file has gone out.
+fn assert_stops(
+    rt: &impl Abort,
+    alloc: Global,
+    end: End,
+    gone: &[u8],
+    kind: ErrorKind,
+) -> Result<()> {
+    let call = gone.len().saturating_add(1);
+    let mut writer = Sink::new(alloc, 1, Bad { call, end })?;
+    let encoder = Encoder::new(&PIXEL, 1, 1)?;
+    assert_fails(rt, encoder.encode_to_stream(&mut writer).err(), kind);
+    assert_bytes(rt, &writer.got, gone);
+    assert_number(rt, writer.calls, call);
+    Ok(())
+}
+
+// One byte a call makes 26 calls; each of them in turn ends badly, and then none of them. At the fifth
+// `71 6f 69 66` went out.
+#[test]
+fn failing_writer(rt: HostRuntime) -> Result<()> {
+    let ends = [
+        (End::Fault, ErrorKind::BrokenPipe),
+        (End::Interruption, ErrorKind::Interrupted),
+        (End::NoByte, ErrorKind::WriteZero),
+    ];
+    for (end, kind) in ends {
+        for taken in 0..26usize {
+            assert_stops(&rt, rt.alloc(), end, &ONE_RGB_PIXEL[..taken], kind)?;
+        }
+        assert_sends(&rt, rt.alloc(), 1, Bad { call: 27, end }, 26)?;
+    }
+    Ok(())
+}

@@ -1,0 +1,158 @@
+//! The callers, run on a file of one pixel. Each test calls a few of them, since a test is proved in more
+//! than twice the time where it has twice the calls.
+use crate::tests::fakes::{Bad, End, ONE_RGB_PIXEL, PIXEL, Sink};
+use crate::tests::library::callers::{
+    all_images, as_long, bounded_bytes, decoded_part, encoded_part, first_byte, header_ahead,
+    keep_and_try, keep_twice, lengths, lengths_back, methods_there_and_back, near_shortest,
+    no_longer, pack, pack_and_keep, pack_and_keep_in, pack_at_once, raw_bytes, receive, send,
+    send_and_keep, shortest, space_byte, there_and_back, tight_part, tight_there_and_back,
+    two_images,
+};
+use crate::tests::library::support::{assert_bytes, assert_header, assert_number};
+use qoi::{Error, Header, Result, Style};
+
+#[test]
+fn raw_bytes_of_a_file(rt: HostRuntime) -> Result<()> {
+    let alloc = rt.alloc();
+    assert_bytes(&rt, &raw_bytes(alloc, &ONE_RGB_PIXEL)?, &PIXEL);
+    assert_bytes(&rt, &bounded_bytes(alloc, &ONE_RGB_PIXEL)?, &PIXEL);
+    assert!(rt; first_byte(alloc, &ONE_RGB_PIXEL)? == 0x0b);
+    let mut buf = [0xaa; 5];
+    assert_bytes(&rt, decoded_part(&mut buf, &ONE_RGB_PIXEL)?, &PIXEL);
+    Ok(())
+}
+
+#[test]
+fn there_and_back_again(rt: HostRuntime) -> Result<()> {
+    let alloc = rt.alloc();
+    assert_bytes(&rt, &there_and_back(alloc, &PIXEL, 1, 1)?, &PIXEL);
+    assert_bytes(&rt, &tight_there_and_back(alloc, &PIXEL, 1, 1)?, &PIXEL);
+    let back = methods_there_and_back(alloc, &PIXEL, 1, 1)?;
+    assert_bytes(&rt, &back, &PIXEL);
+    Ok(())
+}
+
+#[test]
+fn vectors(rt: HostRuntime) -> Result<()> {
+    let alloc = rt.alloc();
+    assert_bytes(&rt, &near_shortest(alloc, &PIXEL, 1, 1)?, &ONE_RGB_PIXEL);
+    assert_bytes(&rt, &shortest(alloc, &PIXEL, 1, 1)?, &ONE_RGB_PIXEL);
+    let (first, second) = keep_twice(alloc, &PIXEL, 1, 1)?;
+    assert_bytes(&rt, &first, &ONE_RGB_PIXEL);
+    assert_bytes(&rt, &second, &ONE_RGB_PIXEL);
+    assert!(rt; space_byte(alloc, &PIXEL, 1, 1)? == 0);
+    Ok(())
+}
+
+#[test]
+fn buffers(rt: HostRuntime) -> Result<()> {
+    let mut buf = [0xaa; 27];
+    assert_number(&rt, pack(&mut buf, &PIXEL, 1, 1)?, 26);
+    assert_bytes(&rt, &buf[..26], &ONE_RGB_PIXEL);
+    assert_bytes(&rt, &buf[26..], &[0xaa]);
+    let mut buf = [0xaa; 27];
+    assert_number(&rt, pack_at_once(&mut buf, &PIXEL, 1, 1)?, 26);
+    let part = encoded_part(&mut buf, &PIXEL, 1, 1)?;
+    assert_bytes(&rt, part, &ONE_RGB_PIXEL);
+    let part = tight_part(&mut buf, &PIXEL, 1, 1)?;
+    assert_bytes(&rt, part, &ONE_RGB_PIXEL);
+    Ok(())
+}
+
+#[test]
+fn buffers_and_vectors(rt: HostRuntime) -> Result<()> {
+    let alloc = rt.alloc();
+    let mut buf = [0xaa; 27];
+    let kept = pack_and_keep(alloc, &mut buf, &PIXEL, 1, 1)?;
+    assert!(rt; buf.starts_with(&kept));
+    let mut buf = [0xaa; 27];
+    let kept = pack_and_keep_in(alloc, &mut buf, &PIXEL, 1, 1, Style::Tight)?;
+    assert!(rt; buf.starts_with(&kept));
+    assert_bytes(&rt, &kept, &ONE_RGB_PIXEL);
+    Ok(())
+}
+
+#[test]
+fn writers(rt: HostRuntime) -> Result<()> {
+    let mut sent = Vec::new(rt.alloc());
+    assert_number(&rt, send(&PIXEL, 1, 1, &mut sent)?, 26);
+    assert_bytes(&rt, &sent, &ONE_RGB_PIXEL);
+    let mut sent = Vec::new(rt.alloc());
+    let kept = send_and_keep(rt.alloc(), &PIXEL, 1, 1, &mut sent)?;
+    assert_bytes(&rt, &sent, &kept);
+    Ok(())
+}
+
+#[test]
+fn writers_that_refuse(rt: HostRuntime) -> Result<()> {
+    let end = End::Fault;
+    let mut writer = Sink::new(rt.alloc(), 4, Bad { call: 3, end })?;
+    let (kept, sent) = keep_and_try(rt.alloc(), &PIXEL, 1, 1, &mut writer)?;
+    assert!(rt; sent.is_err());
+    assert_bytes(&rt, &kept, &ONE_RGB_PIXEL);
+    assert_bytes(&rt, &writer.got, &ONE_RGB_PIXEL[..8]);
+    Ok(())
+}
+
+#[test]
+fn readers(rt: HostRuntime) -> Result<()> {
+    let (header, left) = header_ahead(ONE_RGB_PIXEL.as_slice())?;
+    assert_header(&rt, &header, &Header::default());
+    assert_bytes(&rt, left, &ONE_RGB_PIXEL[14..]);
+    let (raw, left) = receive(rt.alloc(), ONE_RGB_PIXEL.as_slice())?;
+    assert_bytes(&rt, &raw, &PIXEL);
+    assert_bytes(&rt, left, &[]);
+    Ok(())
+}
+
+// Opaque black that comes back is spelled out by three more bytes than an index position, which style
+// `Tight` names.
+const BLACK: [u8; 9] = [0, 0, 0, 101, 102, 103, 0, 0, 0];
+
+#[test]
+fn styles(rt: HostRuntime) -> Result<()> {
+    let (reference, places) = as_long(rt.alloc(), &BLACK, 3, 1)?;
+    assert_number(&rt, reference.len(), 31);
+    assert_number(&rt, places.len(), 31);
+    let (other, tight) = no_longer(rt.alloc(), &BLACK, 3, 1, Style::Places)?;
+    assert_number(&rt, other.len(), 31);
+    assert_number(&rt, tight.len(), 28);
+    Ok(())
+}
+
+#[test]
+fn lengths_in_all_styles(rt: HostRuntime) -> Result<()> {
+    let mut sent = Vec::new(rt.alloc());
+    let found = lengths(&mut [0; 34], &BLACK, 3, 1, &mut sent)?;
+    assert!(rt; found == (31, 31, 28));
+    let found = lengths_back(&mut [0; 34], &BLACK, 3, 1, &mut sent)?;
+    assert!(rt; found == (31, 31, 28));
+    assert_number(&rt, sent.len(), 90);
+    Ok(())
+}
+
+#[test]
+fn many_files(rt: HostRuntime) -> Result<()> {
+    let alloc = rt.alloc();
+    let mut files = Vec::from_slice(alloc, &ONE_RGB_PIXEL)?;
+    files.extend_from_slice(&ONE_RGB_PIXEL)?;
+    let (first, second) = two_images(alloc, &files)?;
+    assert_bytes(&rt, &first, &PIXEL);
+    assert_bytes(&rt, &second, &PIXEL);
+    Ok(())
+}
+
+#[test]
+fn files_until_one_is_refused(rt: HostRuntime) -> Result<()> {
+    let alloc = rt.alloc();
+    let mut files = Vec::from_slice(alloc, &ONE_RGB_PIXEL)?;
+    files.extend_from_slice(&ONE_RGB_PIXEL)?;
+    let mut images = Vec::new(alloc);
+    all_images(alloc, &files, &mut images)?;
+    assert_number(&rt, images.len(), 2);
+    files.truncate(51);
+    let refused = all_images(alloc, &files, &mut images);
+    assert!(rt; matches!(refused, Err(Error::UnexpectedBufferEnd)));
+    assert_number(&rt, images.len(), 3);
+    Ok(())
+}

@@ -1,0 +1,58 @@
+//! Generated images, by the plain encoder: their files in each style, there and back.
+ghost use Rattle.std.specs.Prelude.{◌<◌};
+
+use crate::tests::library::support::generator::{Numbers, Rgba, drawn};
+use crate::tests::library::support::images::{Image, row};
+use qoi::{Channels, Header, Result, Style};
+use std::alloc::Global;
+use std::process::Abort;
+
+// Encodes an image in each style. In `Places` its file is as long as in `Reference`, and in `Tight` no
+// longer. Returns how many bytes shorter.
+fn assert_styles(rt: &impl Abort, alloc: Global, header: Header, pixels: &[Rgba]) -> Result<usize> {
+    let reference = Image::of(alloc, header, Style::Reference, pixels)?;
+    reference.check(rt, alloc)?;
+    let places = Image::of(alloc, header, Style::Places, pixels)?;
+    places.check(rt, alloc)?;
+    assert!(rt; places.file.len() == reference.file.len());
+    let tight = Image::of(alloc, header, Style::Tight, pixels)?;
+    tight.check(rt, alloc)?;
+    assert!(rt; tight.file.len() <= reference.file.len());
+    Ok(reference.file.len().saturating_sub(tight.file.len()))
+}
+
+// Draws images of sizes up to `most` by `most` until they have 600,000 pixels. In style `Tight` some of
+// them are shorter.
+fn assert_drawn(rt: &impl Abort, alloc: Global, channels: Channels, most: u32) -> Result<()>
+    requires { 0 < most }
+{
+    let mut numbers = Numbers::new(0x5eed5);
+    let (mut all, mut shorter) = (0usize, 0usize);
+    for _ in 0..600_000u32 {
+        if all >= 600_000 {
+            break;
+        }
+        let header = Header {
+            height: 1 + numbers.below(most),
+            ..row(1 + numbers.below(most), channels)
+        };
+        let n = header.width as usize * header.height as usize;
+        let pixels = drawn(alloc, &mut numbers, channels, n)?;
+        shorter = shorter.saturating_add(assert_styles(rt, alloc, header, &pixels)?);
+        all = all.saturating_add(n);
+    }
+    assert!(rt; all >= 600_000 && shorter > 0);
+    Ok(())
+}
+
+#[test]
+fn images_of_three_channels(rt: HostRuntime) -> Result<()> {
+    assert_drawn(&rt, rt.alloc(), Channels::Rgb, 400)?;
+    assert_drawn(&rt, rt.alloc(), Channels::Rgb, 40)
+}
+
+#[test]
+fn images_of_four_channels(rt: HostRuntime) -> Result<()> {
+    assert_drawn(&rt, rt.alloc(), Channels::Rgba, 400)?;
+    assert_drawn(&rt, rt.alloc(), Channels::Rgba, 40)
+}

@@ -1,0 +1,89 @@
+//! Drawn lists of chunks that no encoder writes, by a plain decoder.
+ghost use Rattle.std.specs.Prelude.{◌<◌};
+
+use crate::tests::fakes::{NONE, Source};
+use crate::tests::library::support::assert_bytes;
+use crate::tests::library::support::decodings::{Call, Decoding};
+use crate::tests::library::support::generator::{Numbers, Rgba};
+use crate::tests::library::support::images::{file_of, raw_of, row};
+use crate::tests::library::support::lists::{behind, list};
+use crate::tests::library::support::reference::pixels_of;
+use qoi::{Channels, Decoder, Header, Result};
+use std::alloc::Global;
+use std::process::Abort;
+
+// The raw bytes of the pixels in these channels. A file of three channels is opaque.
+fn seen_raw(alloc: Global, pixels: &[Rgba], own: Channels, channels: Channels) -> Result<Vec<u8>> {
+    let mut raw = raw_of(alloc, channels, pixels)?;
+    if own.is_rgb() && channels.is_rgba() {
+        for px in raw.chunks_exact_mut(4) {
+            if let [_, _, _, alpha] = px {
+                *alpha = 255;
+            }
+        }
+    }
+    Ok(raw)
+}
+
+// Decodes the chunks under headers of three and of four channels, into three and into four: by each call,
+// and from a stream that gives few bytes a call.
+fn assert_chunks(
+    rt: &impl Abort,
+    alloc: Global,
+    header: Header,
+    chunks: &[u8],
+    behind: &[u8],
+) -> Result<()> {
+    let n = header.width.saturating_mul(header.height);
+    let pixels = pixels_of(alloc, chunks, n)?;
+    for own in [Channels::Rgb, Channels::Rgba] {
+        let header = header.with_channels(own);
+        let mut file = file_of(alloc, header, chunks)?;
+        file.extend_from_slice(behind)?;
+        for channels in [Channels::Rgb, Channels::Rgba] {
+            let raw = seen_raw(alloc, &pixels, own, channels)?;
+            let decoding = Decoding {
+                bytes: &file,
+                header,
+                channels,
+            };
+            decoding.check(rt, alloc, &raw, behind)?;
+            let source = Source::new(&file, 3, NONE);
+            let mut short = Decoder::from_stream(source)?.with_channels(channels);
+            let found = decoding.of(rt, alloc, &mut short, Call::ToBuf)?;
+            assert_bytes(rt, &found, &raw);
+            assert_bytes(rt, short.into_reader().left, behind);
+        }
+    }
+    Ok(())
+}
+
+// Draws lists for images of sizes up to `most` by `most` until they have 400,000 pixels.
+fn assert_lists(rt: &impl Abort, alloc: Global, numbers: &mut Numbers, most: u32) -> Result<()>
+    requires { 0 < most }
+{
+    let mut all = 0u32;
+    for _ in 0..400_000u32 {
+        if all >= 400_000 {
+            break;
+        }
+        let header = Header {
+            height: 1 + numbers.below(most),
+            ..row(1 + numbers.below(most), Channels::Rgb)
+        };
+        let n = header.width.saturating_mul(header.height);
+        let chunks = list(alloc, numbers, n)?;
+        assert_chunks(rt, alloc, header, &chunks, behind(numbers))?;
+        all = all.saturating_add(n);
+    }
+    Ok(())
+}
+
+#[test]
+fn lists_of_all_kinds(rt: HostRuntime) -> Result<()> {
+    let mut numbers = Numbers::new(0xfeed);
+    for most in [6, 50, 500] {
+        assert_lists(&rt, rt.alloc(), &mut numbers, most)?;
+    }
+    Ok(())
+}

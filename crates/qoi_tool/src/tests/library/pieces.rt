@@ -1,0 +1,112 @@
+//! Files that go out in more than one piece of 4096 bytes, by the plain encoder: chunks and end
+//! marker end just before, at and just behind the end of a piece.
+use crate::tests::library::support::assert_number;
+use crate::tests::library::support::generator::{Rgba, START};
+use crate::tests::library::support::images::{Image, row};
+use qoi::Channels::{Rgb, Rgba as Four};
+use qoi::{Channels, Result, Style};
+use std::alloc::Global;
+use std::process::Abort;
+
+// What stands at the end of an image: so many times some pixels, of which the first is so far from the one
+// before it and the others repeat it. Their chunks have so many bytes. The steps are large enough that
+// no pixel comes again while it is noted.
+#[derive(Clone, Copy)]
+struct Tail {
+    channels: Channels,
+    step: [u8; 4],
+    repeats: usize,
+    bytes: usize,
+    times: usize,
+}
+
+#[rattlefmt::skip]
+const TAILS: [Tail; 7] = [
+    // Differences, lumas, RGB chunks with no repeat and with one, runs, RGBA chunks.
+    Tail { channels: Rgb, step: [1, 0, 0, 0], repeats: 0, bytes: 1, times: 50 },
+    Tail { channels: Rgb, step: [9, 8, 8, 0], repeats: 0, bytes: 2, times: 25 },
+    Tail { channels: Rgb, step: [3, 100, 7, 0], repeats: 0, bytes: 4, times: 13 },
+    Tail { channels: Rgb, step: [3, 100, 7, 0], repeats: 1, bytes: 5, times: 10 },
+    Tail { channels: Rgb, step: [3, 100, 7, 0], repeats: 620, bytes: 14, times: 1 },
+    Tail { channels: Four, step: [3, 100, 7, 0], repeats: 0, bytes: 4, times: 13 },
+    Tail { channels: Four, step: [3, 100, 7, 1], repeats: 0, bytes: 5, times: 10 },
+];
+
+// The pixels of an image so far.
+#[derive(Drop)]
+struct Drawing {
+    pixels: Vec<Rgba>,
+    last: Rgba,
+}
+
+impl Drawing {
+    // Adds a pixel that is so far from the last one, and repeats it.
+    fn add(&mut self, [dr, dg, db, da]: [u8; 4], repeats: usize) -> Result<()> {
+        let [r, g, b, a] = self.last;
+        self.last = [
+            r.wrapping_add(dr),
+            g.wrapping_add(dg),
+            b.wrapping_add(db),
+            a.wrapping_add(da),
+        ];
+        for _ in 0..repeats.saturating_add(1) {
+            self.pixels.push(self.last)?;
+        }
+        Ok(())
+    }
+}
+
+// An image whose chunks have so many bytes: RGB chunks, up to three differences, and the tail.
+fn ending(alloc: Global, tail: Tail, size: usize) -> Result<Vec<Rgba>> {
+    let mut drawing = Drawing {
+        pixels: Vec::new(alloc),
+        last: START,
+    };
+    let front = size.saturating_sub(tail.bytes.saturating_mul(tail.times));
+    for _ in 0..front / 4 {
+        drawing.add([3, 100, 7, 0], 0)?;
+    }
+    for _ in 0..front % 4 {
+        drawing.add([1, 0, 0, 0], 0)?;
+    }
+    for _ in 0..tail.times {
+        drawing.add(tail.step, tail.repeats)?;
+    }
+    Ok(drawing.pixels)
+}
+
+// How many bytes the chunks have. With header and end marker, 22 bytes, or with the header alone,
+// 14, they are one piece and up to ten bytes more or fewer, or two pieces and up to two.
+const SIZES: [(usize, usize); 3] = [(4064, 4092), (8168, 8172), (8176, 8180)];
+
+// Encodes images with each of the tails, of each of these sizes: to a buffer, a vector and writers.
+fn assert_sizes(rt: &impl Abort, alloc: Global, style: Style) -> Result<()> {
+    for tail in TAILS {
+        for (least, most) in SIZES {
+            for size in least..=most {
+                let pixels = ending(alloc, tail, size)?;
+                let header = row(pixels.len().min(10_000) as u32, tail.channels);
+                let image = Image::of(alloc, header, style, &pixels)?;
+                assert_number(rt, image.file.len(), size.saturating_add(22));
+                image.check(rt, alloc)?;
+                image.check_pieces(rt, alloc)?;
+            }
+        }
+    }
+    Ok(())
+}
+
+#[test]
+fn files_close_to_whole_pieces_reference(rt: HostRuntime) -> Result<()> {
+    assert_sizes(&rt, rt.alloc(), Style::Reference)
+}
+
+#[test]
+fn files_close_to_whole_pieces_places(rt: HostRuntime) -> Result<()> {
+    assert_sizes(&rt, rt.alloc(), Style::Places)
+}
+
+#[test]
+fn files_close_to_whole_pieces_tight(rt: HostRuntime) -> Result<()> {
+    assert_sizes(&rt, rt.alloc(), Style::Tight)
+}

@@ -1,0 +1,104 @@
+//! The stream calls over the standard library's own readers and writers.
+use crate::tests::fakes::{NONE, Source};
+use crate::tests::library::support::images::{file_of, row};
+use crate::tests::library::support::{assert_bytes, assert_number};
+use qoi::{Channels, Decoder, Encoder, Result};
+use std::alloc::Global;
+use std::io::{BufReader, BufWriter, Cursor, Read, Write};
+use std::process::Abort;
+
+// Six pixels of four channels.
+const IMAGE: [u8; 24] = [
+    11, 121, 231, 255, 11, 121, 231, 255, 12, 122, 232, 255, 18, 128, 238, 255, 1, 2, 3, 4, 11,
+    121, 231, 255,
+];
+
+// A chunk of each kind, one a pixel: RGB, a run, a difference of 1, a luma of 6, RGBA, and the index
+// position of the first pixel.
+const CHUNKS: [u8; 14] = [
+    0xfe, 11, 121, 231, 0xc0, 0x7f, 0xa6, 0x88, 0xff, 1, 2, 3, 4, 0x04,
+];
+
+// The file of the image: a header, the chunks and the end marker.
+fn file(alloc: Global) -> Result<Vec<u8>> {
+    file_of(alloc, row(6, Channels::Rgba), &CHUNKS)
+}
+
+// The file, the same chunks and end marker again, and two bytes more.
+fn two_images(alloc: Global) -> Result<Vec<u8>> {
+    let mut bytes = file(alloc)?;
+    bytes.extend_from_slice(&CHUNKS)?;
+    bytes.extend_from_slice(&[0, 0, 0, 0, 0, 0, 0, 1, 0x78, 0x79])?;
+    Ok(bytes)
+}
+
+// Decodes the first image into a buffer and the second into a vector, and reads the bytes behind it.
+fn assert_reads<R: Read + Drop>(rt: &impl Abort, alloc: Global, reader: R) -> Result<()> {
+    let mut decoder = Decoder::from_stream(reader)?;
+    let mut buf = [0xaa; 24];
+    assert_number(rt, decoder.decode_to_buf(&mut buf)?, 24);
+    assert_bytes(rt, &buf, &IMAGE);
+    assert_bytes(rt, &decoder.decode_to_vec(alloc)?, &IMAGE);
+    let mut rest = Vec::new(alloc);
+    decoder.into_reader().read_to_end(&mut rest)?;
+    assert_bytes(rt, &rest, &[0x78, 0x79]);
+    Ok(())
+}
+
+#[test]
+fn slices_and_cursors_are_read(rt: HostRuntime) -> Result<()> {
+    let bytes = two_images(rt.alloc())?;
+    assert_reads(&rt, rt.alloc(), bytes.as_slice())?;
+    assert_reads(&rt, rt.alloc(), Cursor::new(bytes.as_slice()))?;
+    assert_reads(&rt, rt.alloc(), Cursor::new(bytes))
+}
+
+// A buffering reader over a slice, and over a reader that gives a byte a call.
+#[test]
+fn buffering_readers_are_read(rt: HostRuntime) -> Result<()> {
+    let alloc = rt.alloc();
+    let bytes = two_images(alloc)?;
+    for capacity in [1, 2, 3, 5, 7, 100] {
+        let reader = BufReader::with_capacity(alloc, capacity, bytes.as_slice())?;
+        assert_reads(&rt, alloc, reader)?;
+        let source = Source::new(&bytes, 1, NONE);
+        assert_reads(
+            &rt,
+            alloc,
+            BufReader::with_capacity(alloc, capacity, source)?,
+        )?;
+    }
+    Ok(())
+}
+
+// Encodes the image to a writer, and flushes it.
+fn send<W: Write>(rt: &impl Abort, writer: &mut W) -> Result<()> {
+    let encoder = Encoder::new(&IMAGE, 6, 1)?;
+    assert_number(rt, encoder.encode_to_stream(writer)?, 36);
+    writer.flush()?;
+    Ok(())
+}
+
+#[test]
+fn vectors_and_cursors_take_the_file(rt: HostRuntime) -> Result<()> {
+    let file = file(rt.alloc())?;
+    let mut vector: Vec<u8> = Vec::new(rt.alloc());
+    send(&rt, &mut vector)?;
+    assert_bytes(&rt, &vector, &file);
+    let mut cursor: Cursor<Vec<u8>> = Cursor::new(Vec::new(rt.alloc()));
+    send(&rt, &mut cursor)?;
+    assert_bytes(&rt, cursor.get_ref(), &file);
+    Ok(())
+}
+
+#[test]
+fn buffering_writers_take_the_file(rt: HostRuntime) -> Result<()> {
+    let file = file(rt.alloc())?;
+    for capacity in [1, 2, 3, 5, 7, 100] {
+        let vector: Vec<u8> = Vec::new(rt.alloc());
+        let mut writer = BufWriter::with_capacity(rt.alloc(), capacity, vector)?;
+        send(&rt, &mut writer)?;
+        assert_bytes(&rt, writer.get_ref(), &file);
+    }
+    Ok(())
+}

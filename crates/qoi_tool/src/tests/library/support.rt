@@ -1,0 +1,56 @@
+//! What the tests of the library share.
+
+pub mod decodings;
+pub mod examples;
+pub mod generator;
+pub mod images;
+pub mod lists;
+pub mod plain;
+pub mod reference;
+
+use qoi::{Error, Header, Result};
+use std::alloc::Global;
+use std::io::ErrorKind;
+use std::process::Abort;
+
+/// Compares bytes.
+pub fn assert_bytes(rt: &impl Abort, found: &[u8], bytes: &[u8]) {
+    assert_eq!(rt; found, bytes);
+}
+
+/// Compares numbers.
+pub fn assert_number(rt: &impl Abort, found: usize, number: usize) {
+    assert_eq!(rt; found, number);
+}
+
+/// Compares headers.
+pub fn assert_header(rt: &impl Abort, found: &Header, header: &Header) {
+    assert_eq!(rt; *found, *header);
+}
+
+// Compares texts.
+fn assert_text(rt: &impl Abort, found: &str, text: &str) {
+    assert_eq!(rt; found, text);
+}
+
+/// Compares the printed text of a refusal.
+pub fn assert_refused(
+    rt: &impl Abort,
+    alloc: Global,
+    refusal: Option<Error>,
+    text: &str,
+) -> Result<()> {
+    match refusal {
+        Some(error) => assert_text(rt, format!(in alloc; "{error}")?.as_str(), text),
+        None => assert_text(rt, "accepted", text),
+    }
+    Ok(())
+}
+
+/// Tests that the refusal is an i/o error of this kind.
+pub fn assert_fails(rt: &impl Abort, refusal: Option<Error>, kind: ErrorKind) {
+    match refusal {
+        Some(Error::IoError(error)) => assert_eq!(rt; error.kind(), kind),
+        _ => assert!(rt; false, "no i/o error, not: {kind:?}"),
+    }
+}

@@ -1,0 +1,148 @@
+//! Decoding by each call from a slice and from a stream, with what the decoder is then.
+use crate::tests::library::support::{
+    assert_bytes, assert_fails, assert_header, assert_number, assert_refused,
+};
+use qoi::parts::Reader;
+use qoi::{Channels, Decoder, Header, Result, decode_to_buf, decode_to_vec};
+use std::alloc::Global;
+use std::io::ErrorKind;
+use std::process::Abort;
+
+/// What is printed for bytes that end too early.
+pub const CUT: &str = "unexpected input buffer end while decoding";
+
+// What is printed for eight bytes that aren't the end marker.
+const WRONG: &str = "invalid padding (stream end marker mismatch)";
+
+/// The call that decodes: `decode_to_buf` or `decode_to_vec`.
+#[derive(Clone, Copy, PartialEq, Eq)]
+pub enum Call {
+    ToBuf,
+    ToVec,
+}
+
+const CALLS: [Call; 2] = [Call::ToBuf, Call::ToVec];
+
+/// Bytes that begin with a file, or with a part of one and at least its header; this header, and the
+/// channels that the file is decoded into.
+#[derive(Clone, Copy)]
+pub struct Decoding<'a> {
+    pub bytes: &'a [u8],
+    pub header: Header,
+    pub channels: Channels,
+}
+
+/// What follows the first `n` bytes.
+pub fn after(bytes: &[u8], n: usize) -> &[u8] {
+    match bytes.split_at_checked(n) {
+        Some((_, rest)) => rest,
+        None => &[],
+    }
+}
+
+// Decodes into a buffer that has seven bytes more than it needs. They stay, whatever is returned.
+fn to_longer_buf<R: Reader>(
+    rt: &impl Abort,
+    alloc: Global,
+    decoder: &mut Decoder<R>,
+) -> Result<Vec<u8>> {
+    let size = decoder.required_buf_len();
+    let mut buf = vec![in alloc; 0xaau8; size.saturating_add(7)]?;
+    let decoded = decoder.decode_to_buf(&mut buf);
+    assert_bytes(rt, after(&buf, size), &[0xaa; 7]);
+    assert_number(rt, decoded?, size);
+    buf.truncate(size);
+    Ok(buf)
+}
+
+impl<'a> Decoding<'a> {
+    /// What the decoder returns. Whatever it is, header and channels are those of the decoding.
+    pub fn of<R: Reader>(
+        self,
+        rt: &impl Abort,
+        alloc: Global,
+        decoder: &mut Decoder<R>,
+        call: Call,
+    ) -> Result<Vec<u8>> {
+        let decoded = match call {
+            Call::ToBuf => to_longer_buf(rt, alloc, decoder),
+            Call::ToVec => decoder.decode_to_vec(alloc),
+        };
+        assert_header(rt, decoder.header(), &self.header);
+        assert!(rt; decoder.channels() == self.channels);
+        decoded
+    }
+
+    // What is returned for a slice, of which these bytes are left then.
+    fn of_slice(
+        self,
+        rt: &impl Abort,
+        alloc: Global,
+        call: Call,
+        left: &[u8],
+    ) -> Result<Result<Vec<u8>>> {
+        let mut decoder = Decoder::new(self.bytes)?.with_channels(self.channels);
+        let decoded = self.of(rt, alloc, &mut decoder, call);
+        assert_bytes(rt, decoder.data(), left);
+        Ok(decoded)
+    }
+
+    // What is returned for a stream, of which these bytes are left then.
+    fn of_stream(
+        self,
+        rt: &impl Abort,
+        alloc: Global,
+        call: Call,
+        left: &[u8],
+    ) -> Result<Result<Vec<u8>>> {
+        let mut decoder = Decoder::from_stream(self.bytes)?.with_channels(self.channels);
+        let decoded = self.of(rt, alloc, &mut decoder, call);
+        assert_bytes(rt, decoder.into_reader(), left);
+        Ok(decoded)
+    }
+
+    /// The image that each call gives, from a slice and from a stream. What is behind the file is left.
+    pub fn check(self, rt: &impl Abort, alloc: Global, image: &[u8], behind: &[u8]) -> Result<()> {
+        for call in CALLS {
+            let slice = self.of_slice(rt, alloc, call, behind)?;
+            assert_bytes(rt, &slice?, image);
+            let stream = self.of_stream(rt, alloc, call, behind)?;
+            assert_bytes(rt, &stream?, image);
+        }
+        Ok(())
+    }
+
+    /// The free calls give this image, in the file's own channels.
+    pub fn check_free(self, rt: &impl Abort, alloc: Global, image: &[u8]) -> Result<()> {
+        let (header, raw) = decode_to_vec(alloc, self.bytes)?;
+        assert_header(rt, &header, &self.header);
+        assert_bytes(rt, &raw, image);
+        let mut buf = vec![in alloc; 0xaau8; image.len()]?;
+        assert_header(rt, &decode_to_buf(&mut buf, self.bytes)?, &self.header);
+        assert_bytes(rt, &buf, image);
+        Ok(())
+    }
+
+    /// Both refuse a part of a file; the slice is as before, and of the stream nothing is left.
+    pub fn check_cut(self, rt: &impl Abort, alloc: Global) -> Result<()> {
+        for call in CALLS {
+            let slice = self.of_slice(rt, alloc, call, after(self.bytes, 14))?;
+            assert_refused(rt, alloc, slice.err(), CUT)?;
+            let stream = self.of_stream(rt, alloc, call, &[])?;
+            assert_fails(rt, stream.err(), ErrorKind::UnexpectedEof);
+        }
+        Ok(())
+    }
+
+    /// Both refuse other bytes than the end marker; the slice is as before, and of the stream what is
+    /// behind them is left.
+    pub fn check_wrong(self, rt: &impl Abort, alloc: Global, behind: &[u8]) -> Result<()> {
+        for call in CALLS {
+            let slice = self.of_slice(rt, alloc, call, after(self.bytes, 14))?;
+            assert_refused(rt, alloc, slice.err(), WRONG)?;
+            let stream = self.of_stream(rt, alloc, call, behind)?;
+            assert_refused(rt, alloc, stream.err(), WRONG)?;
+        }
+        Ok(())
+    }
+}

@@ -1,0 +1,316 @@
+//! The worked examples: files that the encoder writes, and files that it doesn't.
+use crate::tests::fakes::{ONE_RGB_PIXEL, PIXEL};
+use crate::tests::library::support::images::{Image, file_of, row};
+use qoi::Channels::{Rgb, Rgba};
+use qoi::Style::{Places, Reference, Tight};
+use qoi::{Channels, Header, Result, Style};
+use std::alloc::Global;
+
+/// An image of one row, and the chunks of its file in these styles.
+#[derive(Clone, Copy)]
+pub struct Written {
+    pub name: &'static str,
+    pub styles: &'static [Style],
+    pub width: u32,
+    pub channels: Channels,
+    pub chunks: &'static [u8],
+    /// The raw bytes begin with these bytes so many times.
+    pub first: &'static [u8],
+    pub times: usize,
+    /// The raw bytes behind them.
+    pub rest: &'static [u8],
+}
+
+impl Written {
+    /// The image, in a style.
+    pub fn image(&self, alloc: Global, style: Style) -> Result<Image> {
+        let header = row(self.width, self.channels);
+        let mut raw = Vec::new(alloc);
+        for _ in 0..self.times {
+            raw.extend_from_slice(self.first)?;
+        }
+        raw.extend_from_slice(self.rest)?;
+        Ok(Image {
+            header,
+            style,
+            raw,
+            file: file_of(alloc, header, self.chunks)?,
+        })
+    }
+}
+
+// A pixel of three channels, and one of four. What an example doesn't name is as here.
+const RGB: Written = Written {
+    name: "",
+    styles: &[Reference],
+    width: 1,
+    channels: Rgb,
+    chunks: &[],
+    first: &[],
+    times: 0,
+    rest: &[],
+};
+
+const RGBA: Written = Written {
+    channels: Rgba,
+    ..RGB
+};
+
+const PLACE_CHUNKS: &[u8] = &[0xff, 0x65, 0x66, 0x67, 0x68, 0xff, 1, 2, 3, 4, 0x36];
+
+const PLACE_RAW: &[u8] = &[101, 102, 103, 104, 1, 2, 3, 4, 101, 102, 103, 104];
+
+/// Three pixels of four channels, of which the last is an index position.
+pub const PLACE_RGBA: Written = Written {
+    name: "place_rgba",
+    width: 3,
+    chunks: PLACE_CHUNKS,
+    rest: PLACE_RAW,
+    ..RGBA
+};
+
+/// A repeat in style `Reference`.
+pub const REPEAT: Written = Written {
+    name: "styles",
+    width: 3,
+    chunks: &[0xfe, 0x65, 0x66, 0x67, 0xc0, 0xfe, 1, 2, 3],
+    rest: &[101, 102, 103, 101, 102, 103, 1, 2, 3],
+    ..RGB
+};
+
+/// The same in style `Places`.
+pub const REPEAT_AS_PLACE: Written = Written {
+    styles: &[Places],
+    chunks: &[0xfe, 0x65, 0x66, 0x67, 0x33, 0xfe, 1, 2, 3],
+    ..REPEAT
+};
+
+/// Opaque black that comes back, in style `Tight`.
+pub const BLACK_AS_PLACE: Written = Written {
+    name: "styles",
+    styles: &[Tight],
+    width: 3,
+    chunks: &[0xc0, 0xfe, 0x65, 0x66, 0x67, 0x35],
+    rest: &[0, 0, 0, 101, 102, 103, 0, 0, 0],
+    ..RGB
+};
+
+const BLACK: &[u8] = &[0, 0, 0, 255];
+
+const PX: &[u8] = &[101, 102, 103];
+
+/// Files that the encoder writes.
+#[rattlefmt::skip]
+pub static WRITTEN: [Written; 48] = [
+    Written { name: "one_rgba_pixel", chunks: &[0xff, 0x0b, 0x79, 0xe7, 0x37],
+        rest: &[11, 121, 231, 55], ..RGBA },
+    Written { name: "one_rgba_pixel", chunks: &[0xfe, 0x0b, 0x79, 0xe7], rest: &[11, 121, 231, 255],
+        ..RGBA },
+    Written { name: "one_black_pixel", chunks: &[0xc0], rest: &[0, 0, 0], ..RGB },
+    Written { name: "black_runs", width: 62, chunks: &[0xfd], first: &[0, 0, 0], times: 62, ..RGB },
+    Written { name: "black_runs", width: 63, chunks: &[0xfd, 0xc0], first: &[0, 0, 0], times: 63,
+        ..RGB },
+    Written { name: "black_runs", width: 64, chunks: &[0xfd, 0xc0, 0xfe, 0x0b, 0x16, 0x21],
+        first: &[0, 0, 0], times: 63, rest: &[11, 22, 33], ..RGB },
+    Written { name: "one_small_step", chunks: &[0x55], rest: &[255, 255, 255], ..RGB },
+    Written { name: "one_small_step", chunks: &[0x7f], rest: &[1, 1, 1], ..RGB },
+    Written { name: "one_small_step", chunks: &[0x40], rest: &[254, 254, 254], ..RGB },
+    Written { name: "one_small_step", chunks: &[0x9f, 0x00], rest: &[247, 255, 247], ..RGB },
+    Written { name: "one_small_step", chunks: &[0x80, 0x88], rest: &[224, 224, 224], ..RGB },
+    Written { name: "one_small_step", chunks: &[0xbf, 0xff], rest: &[38, 31, 38], ..RGB },
+    Written { name: "one_small_step", chunks: &[0xfe, 0x20, 0x20, 0x20], rest: &[32, 32, 32],
+        ..RGB },
+    Written { name: "place_rgb", width: 3, chunks: &[0xfe, 0x65, 0x66, 0x67, 0xfe, 1, 2, 3, 0x33],
+        rest: &[101, 102, 103, 1, 2, 3, 101, 102, 103], ..RGB },
+    PLACE_RGBA,
+    Written { name: "blank_first", chunks: &[0x00], rest: &[0, 0, 0, 0], ..RGBA },
+    Written { name: "black_returns_rgb", width: 3,
+        chunks: &[0xc0, 0xfe, 0x65, 0x66, 0x67, 0xfe, 0, 0, 0],
+        rest: &[0, 0, 0, 101, 102, 103, 0, 0, 0], ..RGB },
+    Written { name: "black_returns_rgba", width: 3,
+        chunks: &[0xc0, 0xff, 0x65, 0x66, 0x67, 0x68, 0xff, 0, 0, 0, 0xff],
+        rest: &[0, 0, 0, 255, 101, 102, 103, 104, 0, 0, 0, 255], ..RGBA },
+    Written { name: "black_overwritten", width: 3, chunks: &[0xc0, 0xfe, 1, 0x63, 2, 0xfe, 0, 0, 0],
+        rest: &[0, 0, 0, 1, 99, 2, 0, 0, 0], ..RGB },
+    // The first index position holds a pixel of alpha 0, and not the black one.
+    Written { name: "black_and_blank", width: 2, chunks: &[0xfe, 0x65, 0x66, 0x67, 0xfe, 0, 0, 0],
+        rest: &[101, 102, 103, 0, 0, 0], ..RGB },
+    Written { name: "blank_without_place", width: 4,
+        chunks: &[0xff, 0x40, 0, 0, 0, 0xfe, 0, 0, 0, 0xfe, 0x40, 0, 0, 0xfe, 0, 0, 0],
+        rest: &[64, 0, 0, 0, 0, 0, 0, 0, 64, 0, 0, 0, 0, 0, 0, 0], ..RGBA },
+    Written { name: "plain_runs", width: 3,
+        chunks: &[0xfe, 1, 0x63, 2, 0xfe, 0xfb, 0xfc, 0xfd, 0x40],
+        rest: &[1, 99, 2, 251, 252, 253, 249, 250, 251], ..RGB },
+    // Runs of two, at the end and within.
+    Written { name: "plain_runs", width: 4,
+        chunks: &[0xfe, 1, 0x63, 2, 0xfe, 0x0b, 0x21, 0x37, 0xc1],
+        rest: &[1, 99, 2, 11, 33, 55, 11, 33, 55, 11, 33, 55], ..RGB },
+    Written { name: "plain_runs", width: 5,
+        chunks: &[0xfe, 1, 0x63, 2, 0xfe, 0x0b, 0x21, 0x37, 0xc1, 0xfe, 1, 2, 3],
+        rest: &[1, 99, 2, 11, 33, 55, 11, 33, 55, 11, 33, 55, 1, 2, 3], ..RGB },
+    Written { name: "plain_runs", width: 4,
+        chunks: &[0xff, 1, 0x63, 2, 3, 0xff, 0x0b, 0x21, 0x37, 0x4d, 0xc1],
+        rest: &[1, 99, 2, 3, 11, 33, 55, 77, 11, 33, 55, 77, 11, 33, 55, 77], ..RGBA },
+    Written { name: "plain_runs", width: 5,
+        chunks: &[0xff, 1, 0x63, 2, 3, 0xff, 0x0b, 0x21, 0x37, 0x4d, 0xc1, 0xff, 1, 2, 3, 4],
+        rest: &[1, 99, 2, 3, 11, 33, 55, 77, 11, 33, 55, 77, 11, 33, 55, 77, 1, 2, 3, 4], ..RGBA },
+    Written { name: "black returns twice", width: 5,
+        chunks: &[0xc0, 0xfe, 0x65, 0x66, 0x67, 0xfe, 0, 0, 0, 0x33, 0x35],
+        rest: &[0, 0, 0, 101, 102, 103, 0, 0, 0, 101, 102, 103, 0, 0, 0], ..RGB },
+    Written { name: "black returns after 63", width: 65,
+        chunks: &[0xfd, 0xc0, 0xff, 0x65, 0x66, 0x67, 0x68, 0xff, 0, 0, 0, 0xff],
+        first: BLACK, times: 63, rest: &[101, 102, 103, 104, 0, 0, 0, 255], ..RGBA },
+    Written { name: "black twice", width: 2, chunks: &[0xc1], first: &[0, 0, 0], times: 2, ..RGB },
+    Written { name: "black twice", width: 2, chunks: &[0xc1], first: BLACK, times: 2, ..RGBA },
+    Written { name: "blank after a pixel", width: 2, chunks: &[0xff, 0x65, 0x66, 0x67, 0x68, 0x00],
+        rest: &[101, 102, 103, 104, 0, 0, 0, 0], ..RGBA },
+    Written { name: "black after a pixel", width: 2,
+        chunks: &[0xff, 0x65, 0x66, 0x67, 0x68, 0xff, 0, 0, 0, 0xff],
+        rest: &[101, 102, 103, 104, 0, 0, 0, 255], ..RGBA },
+    REPEAT,
+    REPEAT_AS_PLACE,
+    Written { name: "styles", styles: &[Reference, Places], width: 5,
+        chunks: &[0xfe, 0x65, 0x66, 0x67, 0xfe, 1, 2, 3, 0x33, 0xc0, 0x17],
+        rest: &[101, 102, 103, 1, 2, 3, 101, 102, 103, 101, 102, 103, 1, 2, 3], ..RGB },
+    Written { name: "one behind runs of 62", width: 65,
+        chunks: &[0xfe, 0x65, 0x66, 0x67, 0xfd, 0xc0, 0xfe, 1, 2, 3],
+        first: PX, times: 64, rest: &[1, 2, 3], ..RGB },
+    Written { name: "one behind runs of 62", styles: &[Places], width: 65,
+        chunks: &[0xfe, 0x65, 0x66, 0x67, 0xfd, 0x33, 0xfe, 1, 2, 3],
+        first: PX, times: 64, rest: &[1, 2, 3], ..RGB },
+    Written { name: "two stay a run", styles: &[Reference, Places], width: 4,
+        chunks: &[0xfe, 0x65, 0x66, 0x67, 0xc1, 0xfe, 1, 2, 3],
+        first: PX, times: 3, rest: &[1, 2, 3], ..RGB },
+    Written { name: "one at the end", styles: &[Reference, Places], width: 2,
+        chunks: &[0xfe, 0x65, 0x66, 0x67, 0xc0],
+        first: PX, times: 2, ..RGB },
+    Written { name: "one at the start", styles: &[Reference, Places], width: 2,
+        chunks: &[0xc0, 0xfe, 0x65, 0x66, 0x67],
+        rest: &[0, 0, 0, 101, 102, 103], ..RGB },
+    Written { name: "one behind its own place", styles: &[Reference, Places], width: 3,
+        chunks: &[0x00, 0xc0, 0xff, 1, 2, 3, 4],
+        rest: &[0, 0, 0, 0, 0, 0, 0, 0, 1, 2, 3, 4], ..RGBA },
+    BLACK_AS_PLACE,
+    Written { name: "black_returns_rgba", styles: &[Tight], width: 3,
+        chunks: &[0xc0, 0xff, 0x65, 0x66, 0x67, 0x68, 0x35],
+        rest: &[0, 0, 0, 255, 101, 102, 103, 104, 0, 0, 0, 255], ..RGBA },
+    Written { name: "blank_without_place", styles: &[Tight], width: 4,
+        chunks: &[0xff, 0x40, 0, 0, 0, 0x01, 0xfe, 0x40, 0, 0, 0x01],
+        rest: &[64, 0, 0, 0, 0, 0, 0, 0, 64, 0, 0, 0, 0, 0, 0, 0], ..RGBA },
+    Written { name: "black_overwritten", styles: &[Tight], width: 3,
+        chunks: &[0xc0, 0xfe, 0x01, 0x63, 0x02, 0xfe, 0, 0, 0], rest: &[0, 0, 0, 1, 99, 2, 0, 0, 0],
+        ..RGB },
+    Written { name: "black_and_blank", styles: &[Tight], width: 2,
+        chunks: &[0xfe, 0x65, 0x66, 0x67, 0xfe, 0, 0, 0],
+        rest: &[101, 102, 103, 0, 0, 0], ..RGB },
+    Written { name: "a run stays", styles: &[Tight], width: 4,
+        chunks: &[0xc0, 0xfe, 0x65, 0x66, 0x67, 0xc0, 0xfe, 1, 2, 3],
+        rest: &[0, 0, 0, 101, 102, 103, 101, 102, 103, 1, 2, 3], ..RGB },
+    // No fresh pixel stands before the run; in style `Places` it stays one.
+    Written { name: "one at the start", styles: &[Reference, Places], width: 3,
+        chunks: &[0xc0, 0xfe, 0x65, 0x66, 0x67, 0xc0],
+        rest: &[0, 0, 0, 101, 102, 103, 101, 102, 103], ..RGB },
+];
+
+/// The chunks of a file of one row that the encoder doesn't write, and its image in three and in four
+/// channels.
+#[derive(Clone, Copy)]
+pub struct Given {
+    pub name: &'static str,
+    pub width: u32,
+    pub channels: Channels,
+    pub chunks: &'static [u8],
+    pub three: &'static [u8],
+    pub four: &'static [u8],
+}
+
+impl Given {
+    /// The header.
+    pub fn header(&self) -> Header {
+        row(self.width, self.channels)
+    }
+
+    /// The file, with its image in its own channels.
+    pub fn image(&self, alloc: Global) -> Result<Image> {
+        let own = if self.channels.is_rgb() {
+            self.three
+        } else {
+            self.four
+        };
+        Ok(Image {
+            header: self.header(),
+            style: Reference,
+            raw: Vec::from_slice(alloc, own)?,
+            file: file_of(alloc, self.header(), self.chunks)?,
+        })
+    }
+}
+
+/// Files that the encoder doesn't write.
+#[rattlefmt::skip]
+pub static GIVEN: [Given; 13] = [
+    Given { name: "black_returns_rgb", width: 3, channels: Rgb,
+        chunks: &[0xc0, 0xfe, 0x65, 0x66, 0x67, 0x35],
+        three: &[0, 0, 0, 101, 102, 103, 0, 0, 0],
+        four: &[0, 0, 0, 255, 101, 102, 103, 255, 0, 0, 0, 255] },
+    // Pixels of runs are seen.
+    Given { name: "black_returns_rgba", width: 3, channels: Rgba,
+        chunks: &[0xc0, 0xff, 0x65, 0x66, 0x67, 0x68, 0x35],
+        three: &[0, 0, 0, 101, 102, 103, 0, 0, 0],
+        four: &[0, 0, 0, 255, 101, 102, 103, 104, 0, 0, 0, 255] },
+    // Position 17 was never written.
+    Given { name: "blank_without_place", width: 4, channels: Rgba,
+        chunks: &[0xff, 0x40, 0, 0, 0, 0x11, 0xfe, 0x40, 0, 0, 0x11],
+        three: &[64, 0, 0, 0, 0, 0, 64, 0, 0, 0, 0, 0],
+        four: &[64, 0, 0, 0, 0, 0, 0, 0, 64, 0, 0, 0, 0, 0, 0, 0] },
+    // The pixel from an empty position is seen.
+    Given { name: "empty_place", width: 3, channels: Rgba,
+        chunks: &[0xff, 0x40, 0, 0, 0, 0x11, 0x00],
+        three: &[0x40, 0, 0, 0, 0, 0, 0, 0, 0], four: &[0x40, 0, 0, 0, 0, 0, 0, 0, 0, 0, 0, 0] },
+    Given { name: "chunks_under_rgb_header", width: 1, channels: Rgb, chunks: &[0x11],
+        three: &[0, 0, 0], four: &[0, 0, 0, 255] },
+    Given { name: "chunks_under_rgb_header", width: 1, channels: Rgb, chunks: &[0xff, 1, 2, 3, 4],
+        three: &[1, 2, 3], four: &[1, 2, 3, 255] },
+    Given { name: "last_run", width: 4, channels: Rgb, chunks: &[0xfd],
+        three: &[0; 12], four: &[0, 0, 0, 255, 0, 0, 0, 255, 0, 0, 0, 255, 0, 0, 0, 255] },
+    Given { name: "place_rgba", width: 3, channels: Rgba, chunks: PLACE_CHUNKS,
+        three: &[101, 102, 103, 1, 2, 3, 101, 102, 103], four: PLACE_RAW },
+    Given { name: "black_and_blank", width: 2, channels: Rgb,
+        chunks: &[0xfe, 0x65, 0x66, 0x67, 0x00],
+        three: &[101, 102, 103, 0, 0, 0], four: &[101, 102, 103, 255, 0, 0, 0, 255] },
+    // Under a header of four channels the second pixel is seen to be another.
+    Given { name: "black_and_blank", width: 2, channels: Rgba,
+        chunks: &[0xfe, 0x65, 0x66, 0x67, 0x00],
+        three: &[101, 102, 103, 0, 0, 0], four: &[101, 102, 103, 255, 0, 0, 0, 0] },
+    Given { name: "alpha is kept inside", width: 3, channels: Rgb,
+        chunks: &[0xff, 1, 2, 3, 4, 0xfe, 5, 6, 7, 0x0e],
+        three: &[1, 2, 3, 5, 6, 7, 1, 2, 3], four: &[1, 2, 3, 255, 5, 6, 7, 255, 1, 2, 3, 255] },
+    Given { name: "transparent black is seen", width: 3, channels: Rgb, chunks: &[0x11, 0x6b, 0x07],
+        three: &[0, 0, 0, 0, 0, 1, 0, 0, 1], four: &[0, 0, 0, 255, 0, 0, 1, 255, 0, 0, 1, 255] },
+    // Two differences give two black pixels.
+    Given { name: "black twice", width: 2, channels: Rgb, chunks: &[0x6a, 0x6a],
+        three: &[0; 6], four: &[0, 0, 0, 255, 0, 0, 0, 255] },
+];
+
+/// The example `one_rgb_pixel`.
+pub fn one_rgb_pixel(alloc: Global) -> Result<Image> {
+    Ok(Image {
+        header: Header::default(),
+        style: Reference,
+        raw: Vec::from_slice(alloc, &PIXEL)?,
+        file: Vec::from_slice(alloc, &ONE_RGB_PIXEL)?,
+    })
+}
+
+/// All the examples that have a file.
+pub fn files(alloc: Global) -> Result<Vec<Image>> {
+    let mut images = Vec::new(alloc);
+    images.push(one_rgb_pixel(alloc)?)?;
+    for example in &WRITTEN {
+        images.push(example.image(alloc, Reference)?)?;
+    }
+    for example in &GIVEN {
+        images.push(example.image(alloc)?)?;
+    }
+    Ok(images)
+}

@@ -1,0 +1,152 @@
+//! Images that are encoded by each of the calls, and decoded back.
+use crate::tests::fakes::{Bad, End, NONE, Sink};
+use crate::tests::library::support::decodings::Decoding;
+use crate::tests::library::support::generator::Rgba;
+use crate::tests::library::support::plain::plain_chunks;
+use crate::tests::library::support::{assert_bytes, assert_fails, assert_header, assert_number};
+use qoi::{Channels, Encoder, Header, Result, Style, encode_to_buf, encode_to_vec};
+use std::alloc::Global;
+use std::io::ErrorKind;
+use std::process::Abort;
+
+/// The header of so many pixels in a row, in sRGB.
+pub fn row(width: u32, channels: Channels) -> Header {
+    Header {
+        width,
+        channels,
+        ..Header::default()
+    }
+}
+
+// The fourteen bytes of a header.
+fn header_bytes(header: Header) -> [u8; 14] {
+    let [w_3, w_2, w_1, w_0] = header.width.to_be_bytes();
+    let [h_3, h_2, h_1, h_0] = header.height.to_be_bytes();
+    let channels = if header.channels.is_rgb() { 3 } else { 4 };
+    let colorspace = if header.colorspace.is_srgb() { 0 } else { 1 };
+    [
+        0x71, 0x6f, 0x69, 0x66, w_3, w_2, w_1, w_0, h_3, h_2, h_1, h_0, channels, colorspace,
+    ]
+}
+
+/// A file: the fourteen bytes of a header, the chunks as they are given, and the end marker.
+pub fn file_of(alloc: Global, header: Header, chunks: &[u8]) -> Result<Vec<u8>> {
+    let mut file = Vec::from_slice(alloc, &header_bytes(header))?;
+    file.extend_from_slice(chunks)?;
+    file.extend_from_slice(&[0, 0, 0, 0, 0, 0, 0, 1])?;
+    Ok(file)
+}
+
+/// The raw bytes of pixels. In three channels their alpha is dropped.
+pub fn raw_of(alloc: Global, channels: Channels, pixels: &[Rgba]) -> Result<Vec<u8>> {
+    let mut raw = Vec::new(alloc);
+    for [r, g, b, a] in pixels {
+        raw.extend_from_slice(&[*r, *g, *b])?;
+        if channels.is_rgba() {
+            raw.push(*a)?;
+        }
+    }
+    Ok(raw)
+}
+
+/// An image: the header of its file, a style, its raw bytes, and its file in that style.
+#[derive(Drop)]
+pub struct Image {
+    pub header: Header,
+    pub style: Style,
+    pub raw: Vec<u8>,
+    pub file: Vec<u8>,
+}
+
+impl Image {
+    /// The image of these pixels, which are opaque where there are three channels, and the file that
+    /// the plain encoder makes of it.
+    pub fn of(alloc: Global, header: Header, style: Style, pixels: &[Rgba]) -> Result<Image> {
+        let chunks = plain_chunks(alloc, style, pixels)?;
+        Ok(Image {
+            header,
+            style,
+            raw: raw_of(alloc, header.channels, pixels)?,
+            file: file_of(alloc, header, &chunks)?,
+        })
+    }
+
+    /// Its encoder.
+    pub fn encoder(&self) -> Result<Encoder<'_>> {
+        let encoder = Encoder::new(&self.raw, self.header.width, self.header.height)?;
+        Ok(encoder.with_style(self.style))
+    }
+
+    /// Encodes the image by each of the calls, compares with its file, and decodes it back.
+    pub fn check(&self, rt: &impl Abort, alloc: Global) -> Result<()> {
+        let encoder = self.encoder()?;
+        assert_header(rt, encoder.header(), &self.header);
+        assert!(rt; encoder.style() == self.style);
+        assert_bytes(rt, &encoder.encode_to_vec(alloc)?, &self.file);
+        self.sent(rt, alloc, usize::MAX)?;
+        let mut buf = vec![in alloc; 0xaau8; encoder.required_buf_len().saturating_add(3)]?;
+        let size = encoder.encode_to_buf(&mut buf)?;
+        self.check_front(rt, size, &buf);
+        if self.style == Style::Reference {
+            self.check_free(rt, alloc)?;
+        }
+        let decoding = Decoding {
+            bytes: &self.file,
+            header: self.header,
+            channels: self.header.channels,
+        };
+        decoding.check_free(rt, alloc, &self.raw)?;
+        decoding.check(rt, alloc, &self.raw, &[])
+    }
+
+    // The file stands at the front of the buffer, and each byte behind it is as before.
+    fn check_front(&self, rt: &impl Abort, size: usize, buf: &[u8]) {
+        assert_number(rt, size, self.file.len());
+        match buf.strip_prefix(self.file.as_slice()) {
+            Some(rest) => {
+                for byte in rest {
+                    assert!(rt; *byte == 0xaa);
+                }
+            }
+            None => assert_bytes(rt, buf, &self.file),
+        }
+    }
+
+    // Encodes the image by the two free calls. The buffer has three bytes more than it needs.
+    fn check_free(&self, rt: &impl Abort, alloc: Global) -> Result<()> {
+        let (width, height) = (self.header.width, self.header.height);
+        let file = encode_to_vec(alloc, &self.raw, width, height)?;
+        assert_bytes(rt, &file, &self.file);
+        let mut buf = vec![in alloc; 0xaau8; self.header.encode_max_len().saturating_add(3)]?;
+        let size = encode_to_buf(&mut buf, &self.raw, width, height)?;
+        self.check_front(rt, size, &buf);
+        Ok(())
+    }
+
+    /// Encodes the image to a writer that takes at most so many bytes a call, and all of the file.
+    pub fn sent(&self, rt: &impl Abort, alloc: Global, most: usize) -> Result<Sink> {
+        let mut writer = Sink::new(alloc, most, NONE)?;
+        let size = self.encoder()?.encode_to_stream(&mut writer)?;
+        assert_number(rt, size, self.file.len());
+        assert_bytes(rt, &writer.got, &self.file);
+        Ok(writer)
+    }
+
+    /// Encodes the image to writers: in calls of 4096 bytes, and a last one of what is left. Each of the
+    /// calls fails once, and the pieces before it have gone out.
+    pub fn check_pieces(&self, rt: &impl Abort, alloc: Global) -> Result<()> {
+        let calls = self.file.len().div_ceil(4096);
+        assert_number(rt, self.sent(rt, alloc, usize::MAX)?.calls, calls);
+        for before in 0..calls {
+            let call = before.saturating_add(1);
+            let end = End::Fault;
+            let mut writer = Sink::new(alloc, usize::MAX, Bad { call, end })?;
+            let refusal = self.encoder()?.encode_to_stream(&mut writer).err();
+            assert_fails(rt, refusal, ErrorKind::BrokenPipe);
+            assert_number(rt, writer.calls, call);
+            assert_number(rt, writer.got.len(), before.saturating_mul(4096));
+            assert!(rt; self.file.starts_with(&writer.got));
+        }
+        Ok(())
+    }
+}

@@ -1,0 +1,58 @@
+//! Lists of chunks of seven kinds that are drawn at random, the same at each run.
+use crate::tests::library::support::generator::Numbers;
+use qoi::Result;
+use std::alloc::Global;
+
+// The next byte of a pixel: half of them are 254 to 1.
+fn byte(numbers: &mut Numbers) -> u8 {
+    let byte = numbers.byte();
+    if numbers.below(2) == 0 {
+        byte
+    } else {
+        (byte % 4).wrapping_sub(2)
+    }
+}
+
+// Adds a chunk of a kind: an index position, a difference, a luma, RGB, RGBA, a run of 1, or a longer one.
+// Returns how many pixels it gives. One of four longer runs has up to 62 of them, the others up to 10.
+fn add(numbers: &mut Numbers, chunks: &mut Vec<u8>, kind: u32) -> Result<u32> {
+    let six = numbers.below(64) as u8;
+    let (r, g, b, a) = (byte(numbers), byte(numbers), byte(numbers), byte(numbers));
+    match kind {
+        0 => chunks.push(six)?,
+        1 => chunks.push(0x40 + six)?,
+        2 => chunks.extend_from_slice(&[0x80 + six, numbers.byte()])?,
+        3 => chunks.extend_from_slice(&[0xfe, r, g, b])?,
+        4 => chunks.extend_from_slice(&[0xff, r, g, b, a])?,
+        5 => chunks.push(0xc0)?,
+        _ => {
+            let more = 1 + numbers.below(if six < 16 { 61 } else { 9 });
+            chunks.push(0xc0 + more as u8)?;
+            return Ok(1 + more);
+        }
+    }
+    Ok(1)
+}
+
+/// The next list: chunks until they give `n` pixels. A run may give more at the end.
+pub fn list(alloc: Global, numbers: &mut Numbers, n: u32) -> Result<Vec<u8>> {
+    let mut chunks = Vec::new(alloc);
+    let mut given = 0u32;
+    for _ in 0..n {
+        if given >= n {
+            break;
+        }
+        let kind = numbers.below(7);
+        given = given.saturating_add(add(numbers, &mut chunks, kind)?);
+    }
+    Ok(chunks)
+}
+
+/// What stands behind the next file: nothing, a byte, or an end marker.
+pub fn behind(numbers: &mut Numbers) -> &'static [u8] {
+    match numbers.below(3) {
+        0 => &[],
+        1 => &[0x78],
+        _ => &[0, 0, 0, 0, 0, 0, 0, 1],
+    }
+}
