@@ -82,6 +82,7 @@ impl Image {
         let encoder = self.encoder()?;
         assert_header(rt, encoder.header(), &self.header);
         assert!(rt; encoder.style() == self.style);
+        assert!(rt; encoder.channels() == self.header.channels);
         assert_bytes(rt, &encoder.encode_to_vec(alloc)?, &self.file);
         self.sent(rt, alloc, usize::MAX)?;
         let mut buf = vec![in alloc; 0xaau8; encoder.required_buf_len().saturating_add(3)]?;
