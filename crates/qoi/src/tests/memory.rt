@@ -74,20 +74,6 @@ const LARGE: [u8; 14] = [
 // As many bytes as 400,000,000 pixels need: a byte for each 62 of them, and the end marker.
 const NEEDED: usize = 6_451_613 + 8;
 
-#[test]
-fn refused_memory_comes_before_the_chunks(rt: HostRuntime) -> Result<()> {
-    let mut bytes = [0; 20];
-    bytes[..14].copy_from_slice(&LARGE);
-    let mut decoder = Decoder::from_stream(&bytes[..])?;
-    let held = take_memory(rt.alloc(), 1 << 30)?;
-    let refusal = decoder.decode_to_vec(rt.alloc()).err();
-    drop(held);
-    assert_refused(&rt, rt.alloc(), refusal, REFUSED)?;
-    assert_bytes(&rt, decoder.reader(), &[0; 6]);
-    assert_number(&rt, decoder.required_buf_len(), 1_200_000_000);
-    Ok(())
-}
-
 // A large header with so many bytes behind it, while all memory is taken: both calls refuse, and the
 // decoder is as before.
 fn assert_large(rt: &impl Abort, alloc: Global, behind: usize, text: &str) -> Result<()> {

@@ -1,8 +1,6 @@
 //! Files that are decoded from a stream, which may end one of its calls badly.
-use crate::tests::support::fakes::{Bad, End, NONE, ONE_RGB_PIXEL, PIXEL, Source};
-use crate::tests::support::{
-    assert_bytes, assert_fails, assert_header, assert_number, assert_refused,
-};
+use crate::tests::support::fakes::{Bad, End, ONE_RGB_PIXEL, PIXEL, Source};
+use crate::tests::support::{assert_bytes, assert_fails, assert_header, assert_number};
 use crate::{Channels, Decoder, Error, Header, Result};
 use std::io::{Cursor, ErrorKind};
 use std::process::Abort;
@@ -91,22 +89,5 @@ fn failing_reader(rt: HostRuntime) -> Result<()> {
         assert_bytes(&rt, &buf, &PIXEL);
         assert_bytes(&rt, decoder.into_reader().left, &[]);
     }
-    Ok(())
-}
-
-// What refuses a header, by a reader that is lent.
-fn header_refusal(reader: &mut Source<'_>) -> Option<Error> {
-    Decoder::from_stream(reader).err()
-}
-
-#[test]
-fn a_refused_header_takes_fourteen_bytes(rt: HostRuntime) -> Result<()> {
-    let mut file = ONE_RGB_PIXEL;
-    file[12] = 5;
-    let mut reader = Source::new(&file, 1, NONE);
-    let refusal = header_refusal(&mut reader);
-    assert_refused(&rt, rt.alloc(), refusal, "invalid number of channels: 5")?;
-    assert_number(&rt, reader.calls, 14);
-    assert_bytes(&rt, reader.left, &file[14..]);
     Ok(())
 }

@@ -29,13 +29,11 @@ const FRONTS: [Front; 2] = [
 
 // The pixels behind a group: the first is an RGB or RGBA chunk as well. Then come index positions,
 // a repeat behind one of them, and a repeat at the end.
-const E: Rgba = [150, 16, 160, 255];
-
-const F: Rgba = [170, 112, 180, 255];
-
-const G: Rgba = [190, 208, 201, 255];
-
-const BEHIND: [Rgba; 8] = [E, F, E, E, F, G, E, E];
+#[rattlefmt::skip]
+const BEHIND: [Rgba; 8] = [
+    [150, 16, 160, 255], [170, 112, 180, 255], [150, 16, 160, 255], [150, 16, 160, 255],
+    [170, 112, 180, 255], [190, 208, 201, 255], [150, 16, 160, 255], [150, 16, 160, 255],
+];
 
 // Some fresh pixels, so many repeats of the last one, and so many pixels behind them. Where no
 // pixel stands in front, opaque black is repeated.

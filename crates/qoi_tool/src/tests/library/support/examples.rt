@@ -61,39 +61,25 @@ const PLACE_CHUNKS: &[u8] = &[0xff, 0x65, 0x66, 0x67, 0x68, 0xff, 1, 2, 3, 4, 0x
 const PLACE_RAW: &[u8] = &[101, 102, 103, 104, 1, 2, 3, 4, 101, 102, 103, 104];
 
 /// Three pixels of four channels, of which the last is an index position.
-pub const PLACE_RGBA: Written = Written {
-    name: "place_rgba",
-    width: 3,
-    chunks: PLACE_CHUNKS,
-    rest: PLACE_RAW,
-    ..RGBA
-};
+#[rattlefmt::skip]
+pub const PLACE_RGBA: Written = Written { name: "place_rgba", width: 3, chunks: PLACE_CHUNKS,
+    rest: PLACE_RAW, ..RGBA };
 
 /// A repeat in style `Reference`.
-pub const REPEAT: Written = Written {
-    name: "styles",
-    width: 3,
+#[rattlefmt::skip]
+pub const REPEAT: Written = Written { name: "styles", width: 3,
     chunks: &[0xfe, 0x65, 0x66, 0x67, 0xc0, 0xfe, 1, 2, 3],
-    rest: &[101, 102, 103, 101, 102, 103, 1, 2, 3],
-    ..RGB
-};
+    rest: &[101, 102, 103, 101, 102, 103, 1, 2, 3], ..RGB };
 
 /// The same in style `Places`.
-pub const REPEAT_AS_PLACE: Written = Written {
-    styles: &[Places],
-    chunks: &[0xfe, 0x65, 0x66, 0x67, 0x33, 0xfe, 1, 2, 3],
-    ..REPEAT
-};
+#[rattlefmt::skip]
+pub const REPEAT_AS_PLACE: Written = Written { styles: &[Places],
+    chunks: &[0xfe, 0x65, 0x66, 0x67, 0x33, 0xfe, 1, 2, 3], ..REPEAT };
 
 /// Opaque black that comes back, in style `Tight`.
-pub const BLACK_AS_PLACE: Written = Written {
-    name: "styles",
-    styles: &[Tight],
-    width: 3,
-    chunks: &[0xc0, 0xfe, 0x65, 0x66, 0x67, 0x35],
-    rest: &[0, 0, 0, 101, 102, 103, 0, 0, 0],
-    ..RGB
-};
+#[rattlefmt::skip]
+pub const BLACK_AS_PLACE: Written = Written { name: "styles", styles: &[Tight], width: 3,
+    chunks: &[0xc0, 0xfe, 0x65, 0x66, 0x67, 0x35], rest: &[0, 0, 0, 101, 102, 103, 0, 0, 0], ..RGB };
 
 const BLACK: &[u8] = &[0, 0, 0, 255];
 
