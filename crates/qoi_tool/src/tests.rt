@@ -125,6 +125,13 @@ fn the_program(rt: HostRuntime) -> Result<(), Fail> {
     assert_writes(&rt, alloc, &["enc", "1", "1", "linear"], &PIXEL, &linear)?;
     assert_writes(&rt, alloc, &["enc", "1", "1"], &PIXEL, &file)?;
     assert_writes(&rt, alloc, &["enc", "01", "1"], &PIXEL, &file)?;
+    Ok(())
+}
+
+// The lines of the example that are refused.
+#[test]
+fn the_program_refuses(rt: HostRuntime) -> Result<(), Fail> {
+    let (alloc, file) = (rt.alloc(), ONE_RGB_PIXEL);
     let line = "qoi_tool: invalid number of channels: 5\n";
     assert_refuses(&rt, alloc, &["enc", "1", "1"], &[0; 5], 1, line)?;
     let line = "qoi_tool: invalid image dimensions: 4294967295x1\n";
@@ -163,36 +170,38 @@ fn other_words(rt: HostRuntime) -> Result<(), Fail> {
     Ok(())
 }
 
-// An image of three pixels is encoded by these words and with `linear` before the last, and comes back.
-fn assert_styled(
-    rt: &impl Abort,
-    alloc: Global,
-    example: &Written,
-    words: &[&str],
-    linear: &[&str],
-) -> Result<(), Error> {
-    let image = example.image(alloc, Style::Reference)?;
-    assert_writes(rt, alloc, words, &image.raw, &image.file)?;
-    assert_writes(rt, alloc, &["dec"], &image.file, &image.raw)?;
-    let mut file = image.file;
-    if let Some(space) = file.get_mut(13) {
-        *space = 1;
+// Words that encode the image of an example, of three pixels, and the fourteenth byte of its file.
+struct Styled {
+    words: &'static [&'static str],
+    example: Written,
+    space: u8,
+}
+
+#[rattlefmt::skip]
+static STYLED: [Styled; 5] = [
+    Styled { words: &["enc", "3", "1"], example: REPEAT, space: 0 },
+    Styled { words: &["enc", "3", "1", "places"], example: REPEAT_AS_PLACE, space: 0 },
+    Styled { words: &["enc", "3", "1", "linear", "places"], example: REPEAT_AS_PLACE, space: 1 },
+    Styled { words: &["enc", "3", "1", "tight"], example: BLACK_AS_PLACE, space: 0 },
+    Styled { words: &["enc", "3", "1", "linear", "tight"], example: BLACK_AS_PLACE, space: 1 },
+];
+
+// The image is encoded, and comes back.
+fn assert_styled(rt: &impl Abort, alloc: Global, styled: &Styled) -> Result<(), Error> {
+    let mut image = styled.example.image(alloc, Style::Reference)?;
+    if let Some(space) = image.file.get_mut(13) {
+        *space = styled.space;
     }
-    assert_writes(rt, alloc, linear, &image.raw, &file)
+    assert_writes(rt, alloc, styled.words, &image.raw, &image.file)?;
+    assert_writes(rt, alloc, &["dec"], &image.file, &image.raw)
 }
 
 // The file of each style, with its color space, and its way back.
 #[test]
 fn styles(rt: HostRuntime) -> Result<(), Fail> {
-    let alloc = rt.alloc();
-    let (words, linear) = (["enc", "3", "1"], ["enc", "3", "1", "linear"]);
-    assert_styled(&rt, alloc, &REPEAT, &words, &linear)?;
-    let words = ["enc", "3", "1", "places"];
-    let linear = ["enc", "3", "1", "linear", "places"];
-    assert_styled(&rt, alloc, &REPEAT_AS_PLACE, &words, &linear)?;
-    let words = ["enc", "3", "1", "tight"];
-    let linear = ["enc", "3", "1", "linear", "tight"];
-    assert_styled(&rt, alloc, &BLACK_AS_PLACE, &words, &linear)?;
+    for styled in &STYLED {
+        assert_styled(&rt, rt.alloc(), styled)?;
+    }
     Ok(())
 }
 
@@ -254,21 +263,6 @@ fn header_lines(rt: HostRuntime) -> Result<(), Fail> {
     let line = b"20000x20000 channels 4 colorspace linear\n";
     let header = b"qoif\0\0\x4e\x20\0\0\x4e\x20\x04\x01";
     assert_writes(&rt, alloc, &["info"], header, line)?;
-    Ok(())
-}
-
-// Bytes after the end marker are ignored; for 200,000 of them the reading's vector grows again.
-#[test]
-fn bytes_after_the_marker(rt: HostRuntime) -> Result<(), Fail> {
-    let alloc = rt.alloc();
-    for (more, most) in [(28, usize::MAX), (200_000, usize::MAX), (200_000, 999)] {
-        let mut file = Vec::from_slice(alloc, &ONE_RGB_PIXEL)?;
-        file.resize(more, 0x78)?;
-        let mut input = Source::new(&file, most, NONE);
-        let mut output = Sink::new(alloc, usize::MAX, NONE)?;
-        assert!(rt; dec(alloc, &mut input, &mut output).is_ok());
-        assert_eq!(rt; output.got.as_slice(), PIXEL.as_slice());
-    }
     Ok(())
 }
 

@@ -31,8 +31,7 @@ fn texts() -> [Text; 9] {
             printed: "invalid magic: expected 1903126886, got [1, 2, 3, 255]",
             shown: "InvalidMagic { magic: 16909311 }" },
         Text { error: Error::InvalidChannels { channels: 5 },
-            printed: "invalid number of channels: 5",
-            shown: "InvalidChannels { channels: 5 }" },
+            printed: "invalid number of channels: 5", shown: "InvalidChannels { channels: 5 }" },
         Text { error: Error::InvalidColorSpace { colorspace: 2 },
             printed: "invalid color space: 2 (expected 0 or 1)",
             shown: "InvalidColorSpace { colorspace: 2 }" },
@@ -46,11 +45,9 @@ fn texts() -> [Text; 9] {
             printed: "output buffer size too small: 5 (required: 26)",
             shown: "OutputBufferTooSmall { size: 5, required: 26 }" },
         Text { error: Error::UnexpectedBufferEnd,
-            printed: "unexpected input buffer end while decoding",
-            shown: "UnexpectedBufferEnd" },
+            printed: "unexpected input buffer end while decoding", shown: "UnexpectedBufferEnd" },
         Text { error: Error::InvalidPadding,
-            printed: "invalid padding (stream end marker mismatch)",
-            shown: "InvalidPadding" },
+            printed: "invalid padding (stream end marker mismatch)", shown: "InvalidPadding" },
         Text { error: Error::OutOfMemory, printed: "out of memory", shown: "OutOfMemory" },
     ]
 }

@@ -1,56 +1,49 @@
 //! The kinds of chunk, over many values.
 use crate::tests::library::support::images::{Image, file_of, row};
-use qoi::{Channels, Result, Style};
+use qoi::{Channels, Header, Result, Style};
 use std::alloc::Global;
 use std::process::Abort;
 
-// Encodes the raw bytes of a row to these chunks by each of the calls.
+// Encodes the raw bytes of a row to these chunks by each of the calls. Both come in two parts.
 fn assert_encodes(
     rt: &impl Abort,
     alloc: Global,
-    (width, channels): (u32, Channels),
-    raw: Vec<u8>,
-    chunks: &[u8],
+    header: Header,
+    (first, rest): (&[u8], &[u8]),
+    (chunks, last): (&[u8], &[u8]),
 ) -> Result<()> {
-    let header = row(width, channels);
+    let mut raw = Vec::from_slice(alloc, first)?;
+    raw.extend_from_slice(rest)?;
+    let mut all = Vec::from_slice(alloc, chunks)?;
+    all.extend_from_slice(last)?;
     let image = Image {
         header,
         style: Style::Reference,
         raw,
-        file: file_of(alloc, header, chunks)?,
+        file: file_of(alloc, header, &all)?,
     };
     image.check(rt, alloc)
 }
 
-// The run chunks of 1 to 124 pixels, and a chunk behind them.
-fn runs(alloc: Global, n: u8, behind: &[u8]) -> Result<Vec<u8>> {
-    let mut chunks = Vec::new(alloc);
-    if n <= 62 {
-        chunks.push(n.wrapping_add(0xbf))?;
-    } else {
-        chunks.extend_from_slice(&[0xfd, n.wrapping_add(0x81)])?;
-    }
-    chunks.extend_from_slice(behind)?;
-    Ok(chunks)
+// Opaque black so many times, and then a pixel that differs from it in each channel.
+fn assert_run(rt: &impl Abort, alloc: Global, n: u8, three: &[u8], four: &[u8]) -> Result<()> {
+    let (short, long) = ([n.wrapping_add(0xbf)], [0xfd, n.wrapping_add(0x81)]);
+    let run: &[u8] = if n <= 62 { &short } else { &long };
+    let header = row(u32::from(n) + 1, Channels::Rgb);
+    let last = [0xfe, 11, 22, 33];
+    assert_encodes(rt, alloc, header, (three, &[11, 22, 33]), (run, &last))?;
+    let header = row(u32::from(n) + 1, Channels::Rgba);
+    let last = [0xff, 11, 22, 33, 44];
+    assert_encodes(rt, alloc, header, (four, &[11, 22, 33, 44]), (run, &last))
 }
 
-// Opaque black so many times, and then a pixel that differs from it in each channel.
 #[test]
 fn runs_at_the_start(rt: HostRuntime) -> Result<()> {
     let (mut three, mut four) = (Vec::new(rt.alloc()), Vec::new(rt.alloc()));
     for n in 1..=124u8 {
         three.extend_from_slice(&[0, 0, 0])?;
-        let mut raw = three.clone()?;
-        raw.extend_from_slice(&[11, 22, 33])?;
-        let chunks = runs(rt.alloc(), n, &[0xfe, 0x0b, 0x16, 0x21])?;
-        let size = (u32::from(n) + 1, Channels::Rgb);
-        assert_encodes(&rt, rt.alloc(), size, raw, &chunks)?;
         four.extend_from_slice(&[0, 0, 0, 255])?;
-        let mut raw = four.clone()?;
-        raw.extend_from_slice(&[11, 22, 33, 44])?;
-        let chunks = runs(rt.alloc(), n, &[0xff, 0x0b, 0x16, 0x21, 0x2c])?;
-        let size = (u32::from(n) + 1, Channels::Rgba);
-        assert_encodes(&rt, rt.alloc(), size, raw, &chunks)?;
+        assert_run(&rt, rt.alloc(), n, &three, &four)?;
     }
     Ok(())
 }
@@ -65,14 +58,14 @@ fn assert_last_chunk(
     last: &[u8],
 ) -> Result<()> {
     let (x, y, z) = (r.wrapping_add(vr), g.wrapping_add(vg), b.wrapping_add(vb));
-    let raw = Vec::from_slice(alloc, &[1, 99, 2, r, g, b, x, y, z])?;
-    let mut chunks = Vec::from_slice(alloc, &[0xfe, 1, 99, 2, 0xfe, r, g, b])?;
-    chunks.extend_from_slice(last)?;
-    assert_encodes(rt, alloc, (3, Channels::Rgb), raw, &chunks)?;
-    let raw = Vec::from_slice(alloc, &[1, 99, 2, 255, r, g, b, 9, x, y, z, 9])?;
-    let mut chunks = Vec::from_slice(alloc, &[0xfe, 1, 99, 2, 0xff, r, g, b, 9])?;
-    chunks.extend_from_slice(last)?;
-    assert_encodes(rt, alloc, (3, Channels::Rgba), raw, &chunks)
+    let header = row(3, Channels::Rgb);
+    let raw = [1, 99, 2, r, g, b, x, y, z];
+    let chunks = [0xfe, 1, 99, 2, 0xfe, r, g, b];
+    assert_encodes(rt, alloc, header, (&raw, &[]), (&chunks, last))?;
+    let header = row(3, Channels::Rgba);
+    let raw = [1, 99, 2, 255, r, g, b, 9, x, y, z, 9];
+    let chunks = [0xfe, 1, 99, 2, 0xff, r, g, b, 9];
+    assert_encodes(rt, alloc, header, (&raw, &[]), (&chunks, last))
 }
 
 // Each difference but that of an equal pixel, -2 to 0 in each color.

@@ -46,13 +46,10 @@ fn assert_drawn(rt: &impl Abort, alloc: Global, channels: Channels, most: u32) -
 }
 
 #[test]
-fn images_of_three_channels(rt: HostRuntime) -> Result<()> {
-    assert_drawn(&rt, rt.alloc(), Channels::Rgb, 400)?;
-    assert_drawn(&rt, rt.alloc(), Channels::Rgb, 40)
-}
-
-#[test]
-fn images_of_four_channels(rt: HostRuntime) -> Result<()> {
-    assert_drawn(&rt, rt.alloc(), Channels::Rgba, 400)?;
-    assert_drawn(&rt, rt.alloc(), Channels::Rgba, 40)
+fn generated_images(rt: HostRuntime) -> Result<()> {
+    for channels in [Channels::Rgb, Channels::Rgba] {
+        assert_drawn(&rt, rt.alloc(), channels, 400)?;
+        assert_drawn(&rt, rt.alloc(), channels, 40)?;
+    }
+    Ok(())
 }

@@ -97,16 +97,9 @@ fn assert_sizes(rt: &impl Abort, alloc: Global, style: Style) -> Result<()> {
 }
 
 #[test]
-fn files_close_to_whole_pieces_reference(rt: HostRuntime) -> Result<()> {
-    assert_sizes(&rt, rt.alloc(), Style::Reference)
-}
-
-#[test]
-fn files_close_to_whole_pieces_places(rt: HostRuntime) -> Result<()> {
-    assert_sizes(&rt, rt.alloc(), Style::Places)
-}
-
-#[test]
-fn files_close_to_whole_pieces_tight(rt: HostRuntime) -> Result<()> {
-    assert_sizes(&rt, rt.alloc(), Style::Tight)
+fn files_close_to_whole_pieces(rt: HostRuntime) -> Result<()> {
+    for style in [Style::Reference, Style::Places, Style::Tight] {
+        assert_sizes(&rt, rt.alloc(), style)?;
+    }
+    Ok(())
 }

@@ -57,16 +57,9 @@ fn assert_quads(rt: &impl Abort, alloc: Global, style: Style) -> Result<()> {
 }
 
 #[test]
-fn short_images_reference(rt: HostRuntime) -> Result<()> {
-    assert_quads(&rt, rt.alloc(), Style::Reference)
-}
-
-#[test]
-fn short_images_places(rt: HostRuntime) -> Result<()> {
-    assert_quads(&rt, rt.alloc(), Style::Places)
-}
-
-#[test]
-fn short_images_tight(rt: HostRuntime) -> Result<()> {
-    assert_quads(&rt, rt.alloc(), Style::Tight)
+fn short_images(rt: HostRuntime) -> Result<()> {
+    for style in [Style::Reference, Style::Places, Style::Tight] {
+        assert_quads(&rt, rt.alloc(), style)?;
+    }
+    Ok(())
 }

@@ -288,15 +288,27 @@ pub fn one_rgb_pixel(alloc: Global) -> Result<Image> {
     })
 }
 
+// Adds the files that the encoder writes.
+fn add_written(alloc: Global, images: &mut Vec<Image>) -> Result<()> {
+    for example in &WRITTEN {
+        images.push(example.image(alloc, Reference)?)?;
+    }
+    Ok(())
+}
+
+// Adds the files that it doesn't.
+fn add_given(alloc: Global, images: &mut Vec<Image>) -> Result<()> {
+    for example in &GIVEN {
+        images.push(example.image(alloc)?)?;
+    }
+    Ok(())
+}
+
 /// All the examples that have a file.
 pub fn files(alloc: Global) -> Result<Vec<Image>> {
     let mut images = Vec::new(alloc);
     images.push(one_rgb_pixel(alloc)?)?;
-    for example in &WRITTEN {
-        images.push(example.image(alloc, Reference)?)?;
-    }
-    for example in &GIVEN {
-        images.push(example.image(alloc)?)?;
-    }
+    add_written(alloc, &mut images)?;
+    add_given(alloc, &mut images)?;
     Ok(images)
 }
