@@ -9,6 +9,7 @@ use crate::tests::fakes::{Bad, End, NONE, ONE_RGB_PIXEL, PIXEL, Sink, Source, ta
 use crate::tests::library::support::examples::{
     BLACK_AS_PLACE, PLACE_RGBA, REPEAT, REPEAT_AS_PLACE, Written, files,
 };
+use crate::tests::library::support::{assert_bytes, assert_number};
 use crate::{Fault, report, run};
 use qoi::{Error, Style};
 use std::alloc::Global;
@@ -57,7 +58,7 @@ fn assert_writes(
     let mut input = Source::new(bytes, usize::MAX, NONE);
     let mut output = Sink::new(alloc, usize::MAX, NONE)?;
     assert!(rt; answer(alloc, words, &mut input, &mut output).is_ok());
-    assert_eq!(rt; output.got.as_slice(), wanted);
+    assert_bytes(rt, &output.got, wanted);
     Ok(())
 }
 
@@ -75,7 +76,7 @@ fn assert_reports(
     };
     let mut err = Sink::new(alloc, usize::MAX, NONE)?;
     assert_eq!(rt; report(&fault, &mut err), status);
-    assert_eq!(rt; err.got.as_slice(), line.as_bytes());
+    assert_bytes(rt, &err.got, line.as_bytes());
     // What the writes return is ignored.
     let bad = Bad {
         call: 1,
@@ -251,8 +252,8 @@ fn header_lines(rt: HostRuntime) -> Result<(), Fail> {
         let mut input = Source::new(&ONE_RGB_PIXEL, most, NONE);
         let mut output = Sink::new(alloc, usize::MAX, NONE)?;
         assert!(rt; answer(alloc, &["info"], &mut input, &mut output).is_ok());
-        assert_eq!(rt; output.got.as_slice(), LINE);
-        assert_eq!(rt; input.left.len(), 12);
+        assert_bytes(&rt, &output.got, LINE);
+        assert_number(&rt, input.left.len(), 12);
 
         let mut input = Source::new(&ONE_RGB_PIXEL[..13], most, NONE);
         let mut output = Sink::new(alloc, usize::MAX, NONE)?;
@@ -280,13 +281,13 @@ fn failing_reader(rt: HostRuntime) -> Result<(), Fail> {
             let mut output = Sink::new(alloc, usize::MAX, NONE)?;
             let answer = dec(alloc, &mut input, &mut output);
             assert_io(&rt, alloc, answer, kind, call)?;
-            assert_eq!(rt; input.calls, call);
+            assert_number(&rt, input.calls, call);
             assert!(rt; output.got.is_empty(), "at call {call}");
         }
         let mut input = Source::new(&ONE_RGB_PIXEL, 1, Bad { call: 28, end });
         let mut output = Sink::new(alloc, usize::MAX, NONE)?;
         assert!(rt; dec(alloc, &mut input, &mut output).is_ok());
-        assert_eq!(rt; input.calls, 27);
+        assert_number(&rt, input.calls, 27);
     }
     Ok(())
 }
@@ -307,12 +308,12 @@ fn failing_writer(rt: HostRuntime) -> Result<(), Fail> {
             let mut output = Sink::new(alloc, 1, Bad { call, end })?;
             let answer = dec(alloc, &mut input, &mut output);
             assert_io(&rt, alloc, answer, kind, call)?;
-            assert_eq!(rt; output.got.as_slice(), &PIXEL[..written]);
+            assert_bytes(&rt, &output.got, &PIXEL[..written]);
         }
         let mut input = Source::new(&ONE_RGB_PIXEL, usize::MAX, NONE);
         let mut output = Sink::new(alloc, 1, Bad { call: 4, end })?;
         assert!(rt; dec(alloc, &mut input, &mut output).is_ok());
-        assert_eq!(rt; output.got.as_slice(), PIXEL.as_slice());
+        assert_bytes(&rt, &output.got, &PIXEL);
     }
     Ok(())
 }
@@ -337,8 +338,8 @@ fn assert_starved(
     };
     drop(held);
     assert_eq!(rt; found, status);
-    assert_eq!(rt; output.got.as_slice(), wanted);
-    assert_eq!(rt; err.got.as_slice(), line);
+    assert_bytes(rt, &output.got, wanted);
+    assert_bytes(rt, &err.got, line);
     Ok(())
 }
 
