@@ -1,5 +1,5 @@
 -- What a decoder reads where the bytes are known that stand ahead of it.
-use Rattle.std.specs.Prelude.{◌≡◌, ◌⊎◌, ℕ, List, ◌++◌, take, Bool, true, false}
+use Rattle.std.specs.Prelude.{◌≡◌, ◌⊎◌, ℕ, List, ◌++◌, take, Bool, true, false, Option, Some, None}
 use Rattle.qoi.specs.declared.error.Error.{Error}
 use Rattle.qoi.specs.declared.error.Error.TheVariants.{UnexpectedBufferEnd, InvalidPadding}
 use Rattle.qoi.specs.declared.types.Channels.{Channels}
@@ -21,6 +21,11 @@ pub record IsImage (channels : Channels) (bytes : List ℕ) (h : Header) (rest o
 -- on as it stands; nor are those below.
 unfoldable pub HasImage : Channels → List ℕ → Header → List ℕ → Type 0
 HasImage channels bytes h out = (rest : List ℕ) × IsImage channels bytes h rest out
+
+-- these bytes stand there, and that is known
+abbrev pub AreThere : Option (List ℕ) → List ℕ → Type 0
+AreThere (Some bytes) known = bytes ≡ known
+AreThere None known = ⊥
 
 -- what may refuse an image that stands ahead: nothing from memory, and an i/o error from a stream
 abbrev pub IsFault : Bool → Error → Type 0

@@ -9,7 +9,7 @@ ghost use Rattle.qoi.specs.Decoding.{AreWrong, CouldHold, HasCut, least_byte_cou
 ghost use Rattle.qoi.specs.declared.types.Style.{Style};
 ghost use Rattle.qoi.specs.Encoded.{IsFileOf};
 ghost use Rattle.qoi.specs.DecoderState.{image_byte_count, DecodesImage, RefusesDecoding, TakesWithin};
-ghost use Rattle.qoi.specs.Reading.{HasImage, IsDecoderOf, IsFault, IsForCut, IsForWrong, IsImage};
+ghost use Rattle.qoi.specs.Reading.{AreThere, HasImage, IsDecoderOf, IsFault, IsForCut, IsForWrong, IsImage};
 ghost use Rattle.qoi.specs.Raw.{without_fourth};
 
 mod deltas;
@@ -203,7 +203,8 @@ impl<R: Read + Drop> Decoder<R> {
         ensures read { (bytes : List ℕ) → R.remaining reader ≡ Some bytes
             → IfOk result (λ d. header_of bytes ≡ Ok d.header) }
         ensures behind { (bytes : List ℕ) → R.remaining reader ≡ Some bytes
-            → IfOk result (λ d. R.remaining d.reader ≡ Some (drop header_size bytes)) }
+            → IfOk result (λ d. (R.remaining d.reader ≡ Some (drop header_size bytes))
+            × AreThere (R.remaining d.reader) (drop header_size bytes)) }
         // The decoder is of these bytes; and where they begin with the file of an image, in each style,
         // the header is the image's.
         ensures header { (style : Style) (h : Header) (raw bytes rest : List ℕ)
@@ -324,18 +325,18 @@ impl<R: Reader> Decoder<R> {
         // other bytes follow the file, and those are left.
         ensures comes_back { (style : Style) (h : Header) (raw bytes ahead : List ℕ)
             → IsFileOf style h raw bytes → IsDecoderOf self.old bytes ahead
-            → R.ahead self.old.reader ≡ Some ahead → IfOk result (λ size. take size buf.new ≡ raw) }
+            → AreThere (R.ahead self.old.reader) ahead → IfOk result (λ size. take size buf.new ≡ raw) }
         ensures followed { (style : Style) (h : Header) (raw bytes rest all ahead : List ℕ)
             → IsFileOf style h raw bytes → IsDecoderOf self.old all ahead
-            → R.ahead self.old.reader ≡ Some ahead → all ≡ bytes ++ rest
+            → AreThere (R.ahead self.old.reader) ahead → all ≡ bytes ++ rest
             → IfOk result (λ size. take size buf.new ≡ raw) }
         ensures left { (style : Style) (h : Header) (raw bytes rest all ahead : List ℕ)
             → IsFileOf style h raw bytes → IsDecoderOf self.old all ahead
-            → R.ahead self.old.reader ≡ Some ahead → all ≡ bytes ++ rest
-            → OnOk result (R.ahead self.new.reader ≡ Some rest) }
+            → AreThere (R.ahead self.old.reader) ahead → all ≡ bytes ++ rest
+            → OnOk result (AreThere (R.ahead self.new.reader) rest) }
         ensures faults { (style : Style) (h : Header) (raw bytes rest all ahead : List ℕ)
             → IsFileOf style h raw bytes → IsDecoderOf self.old all ahead
-            → R.ahead self.old.reader ≡ Some ahead → all ≡ bytes ++ rest
+            → AreThere (R.ahead self.old.reader) ahead → all ≡ bytes ++ rest
             → image_byte_count self.old ≤ length buf.old
             → IfErr result (IsFault R.in_memory) }
         // What was decoded stood ahead, and what follows it is left.
@@ -351,7 +352,7 @@ impl<R: Reader> Decoder<R> {
             → IfOk result (λ size. take size buf.new ≡ raw) }
         // Of a decoder of these bytes, in the file's own channels, it is a file at their front.
         ensures file { (bytes ahead : List ℕ) → IsDecoderOf self.old bytes ahead
-            → R.ahead self.old.reader ≡ Some ahead
+            → AreThere (R.ahead self.old.reader) ahead
             → IfOk result (λ size. (rest : List ℕ) × (R.ahead self.new.reader ≡ Some rest)
             × DecodesFile bytes self.old.header rest (take size buf.new)) }
         // In three channels it is what four are without each fourth byte; and where the file has
@@ -427,18 +428,18 @@ impl<R: Reader> Decoder<R> {
         // other bytes follow the file, and those are left.
         ensures comes_back { (style : Style) (h : Header) (raw bytes ahead : List ℕ)
             → IsFileOf style h raw bytes → IsDecoderOf self.old bytes ahead
-            → R.ahead self.old.reader ≡ Some ahead → IfOk result (λ out. out.items ≡ raw) }
+            → AreThere (R.ahead self.old.reader) ahead → IfOk result (λ out. out.items ≡ raw) }
         ensures followed { (style : Style) (h : Header) (raw bytes rest all ahead : List ℕ)
             → IsFileOf style h raw bytes → IsDecoderOf self.old all ahead
-            → R.ahead self.old.reader ≡ Some ahead → all ≡ bytes ++ rest
+            → AreThere (R.ahead self.old.reader) ahead → all ≡ bytes ++ rest
             → IfOk result (λ out. out.items ≡ raw) }
         ensures left { (style : Style) (h : Header) (raw bytes rest all ahead : List ℕ)
             → IsFileOf style h raw bytes → IsDecoderOf self.old all ahead
-            → R.ahead self.old.reader ≡ Some ahead → all ≡ bytes ++ rest
-            → OnOk result (R.ahead self.new.reader ≡ Some rest) }
+            → AreThere (R.ahead self.old.reader) ahead → all ≡ bytes ++ rest
+            → OnOk result (AreThere (R.ahead self.new.reader) rest) }
         ensures faults { (style : Style) (h : Header) (raw bytes rest all ahead : List ℕ)
             → IsFileOf style h raw bytes → IsDecoderOf self.old all ahead
-            → R.ahead self.old.reader ≡ Some ahead → all ≡ bytes ++ rest
+            → AreThere (R.ahead self.old.reader) ahead → all ≡ bytes ++ rest
             → IfErr result (λ e. (e ≡ Error.OutOfMemory) ⊎ IsFault R.in_memory e) }
         // What was decoded stood ahead, and what follows it is left.
         ensures read { IfSome (R.ahead self.old.reader) (λ bytes. IfOk result (λ out.
@@ -453,7 +454,7 @@ impl<R: Reader> Decoder<R> {
             → IfOk result (λ out. out.items ≡ raw) }
         // Of a decoder of these bytes, in the file's own channels, it is a file at their front.
         ensures file { (bytes ahead : List ℕ) → IsDecoderOf self.old bytes ahead
-            → R.ahead self.old.reader ≡ Some ahead
+            → AreThere (R.ahead self.old.reader) ahead
             → IfOk result (λ out. (rest : List ℕ) × (R.ahead self.new.reader ≡ Some rest)
             × DecodesFile bytes self.old.header rest out.items) }
         // In three channels it is what four are without each fourth byte; and where the file has

@@ -1,5 +1,5 @@
 -- Whole bytes in memory are not refused, and each image takes a bounded number of bytes.
-use Rattle.std.proofs.Common.{[], append-nil, ◌≡◌, ◌+◌, ◌*◌, ◌++◌, length, take, drop, slice_index, ap, ◌∙◌, sym, arith, subst}
+use Rattle.std.proofs.Common.{[], append-nil, ◌≡◌, ◌+◌, ◌*◌, length, slice_index, ap, ◌∙◌, sym, arith, subst}
 use Rattle.std.proofs.lemmas.List.{length-take-le}
 use Rattle.std.proofs.lemmas.Result.{err_from_is_err_and}
 use lib.Seq.{take-append_seam}
@@ -7,7 +7,7 @@ use Rattle.qoi.specs.declared.error.Error.TheVariants.{InvalidPadding, Unexpecte
 use Rattle.qoi.specs.Qoi.{channels_number, pixel_count}
 use Rattle.qoi.specs.Decoding.{RefusesImage}
 use Rattle.qoi.specs.DecoderState.{TakesAtMost}
-use Rattle.qoi.proofs.decoding.Ahead.{fault_ahead, file_from_image, fourth_of_image, has_image_ahead, image_comes_back, image_not_cut, image_not_wrong, image_read_of, same_image, three_of_four}
+use Rattle.qoi.proofs.decoding.Ahead.{fault_ahead, file_from_image, fourth_of_image, has_image_ahead, image_comes_back, image_not_cut, image_not_wrong, image_read_of, known, there, same_image, three_of_four}
 use Rattle.qoi.specs.Reading.{IsImage}
 use Rattle.qoi.proofs.decoding.RefusedBytes.{end_is_cut, padding_is_only_wrong, refused_for_cut, refused_for_wrong}
 use Rattle.qoi.proofs.decoding.ImageSize.{channels_are, image_pixels}
@@ -51,9 +51,10 @@ returns-clause-bounded g c =
     (ap (λ s. g.R.Reader.ahead s.reader) c.self.view_is) (rw pixels at within)
 
 pub returns-in_err-decode_image-clause-faults : goal.returns-in_err-decode_image-clause-faults
-returns-in_err-decode_image-clause-faults g c style h raw bytes rest all ahead f made told is room =
+returns-in_err-decode_image-clause-faults g c style h raw bytes rest all ahead f made there_are is room =
     let p = err_from_is_err_and c.from_residual.result c.from_residual.ensures.1 in
-    rw (p.1, p.2) (fault_ahead g.R.Reader.in_memory g.R.Reader.ahead c.args.self.now _ _ style h raw bytes rest all ahead f made told is
+    rw (p.1, p.2) (fault_ahead g.R.Reader.in_memory g.R.Reader.ahead c.args.self.now _ _ style h raw bytes rest all ahead f made
+    (known (g.R.Reader.ahead c.args.self.now.reader) ahead there_are) is
     (refused g (goal.at.returns-in_err-decode_image-clause-faults g c).After-from_residual))
 
 pub returns-clause-rest : goal.returns-clause-rest
@@ -72,20 +73,22 @@ pub returns-clause-read : goal.returns-clause-read
 returns-clause-read g c = has_image_ahead _ _ (g.R.Reader.ahead c.args.self.now.reader) _ _ (returns-clause-rest g c)
 
 pub returns-clause-followed : goal.returns-clause-followed
-returns-clause-followed g c style h raw bytes rest all ahead f made told is =
-    (image_comes_back g.R.Reader.ahead c.args.self.now _ _ (returns-clause-rest g c) style h raw bytes rest all ahead f made told is).0
+returns-clause-followed g c style h raw bytes rest all ahead f made there_are is =
+    (image_comes_back g.R.Reader.ahead c.args.self.now _ _ (returns-clause-rest g c) style h raw bytes rest all ahead f made
+    (known (g.R.Reader.ahead c.args.self.now.reader) ahead there_are) is).0
 
 pub returns-clause-left : goal.returns-clause-left
-returns-clause-left g c style h raw bytes rest all ahead f made told is =
-    (image_comes_back g.R.Reader.ahead c.args.self.now _ _ (returns-clause-rest g c) style h raw bytes rest all ahead f made told is).1
+returns-clause-left g c style h raw bytes rest all ahead f made there_are is =
+    there _ rest (image_comes_back g.R.Reader.ahead c.args.self.now _ _ (returns-clause-rest g c) style h raw bytes rest all ahead f made
+    (known (g.R.Reader.ahead c.args.self.now.reader) ahead there_are) is).1
 
 pub returns-clause-comes_back : goal.returns-clause-comes_back
-returns-clause-comes_back g c style h raw bytes ahead f made told =
-    returns-clause-followed g c style h raw bytes [] bytes ahead f made told (sym (append-nil bytes))
+returns-clause-comes_back g c style h raw bytes ahead f made there_are =
+    returns-clause-followed g c style h raw bytes [] bytes ahead f made there_are (sym (append-nil bytes))
 
 pub returns-clause-file : goal.returns-clause-file
-returns-clause-file g c bytes ahead made told =
-    file_from_image g.R.Reader.ahead c.args.self.now bytes ahead _ _ made told (returns-clause-rest g c)
+returns-clause-file g c bytes ahead made there_are =
+    file_from_image g.R.Reader.ahead c.args.self.now bytes ahead _ _ made (known (g.R.Reader.ahead c.args.self.now.reader) ahead there_are) (returns-clause-rest g c)
 
 pub returns-clause-same : goal.returns-clause-same
 returns-clause-same g c channels h bytes raw image as_own as_k told =

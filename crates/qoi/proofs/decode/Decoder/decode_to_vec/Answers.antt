@@ -8,7 +8,7 @@ use Rattle.qoi.specs.declared.error.Error.TheVariants.{UnexpectedBufferEnd}
 use Rattle.qoi.specs.Qoi.{pixel_count}
 use Rattle.qoi.specs.Decoding.{DecodesFile, RefusesImage}
 use Rattle.qoi.specs.DecoderState.{image_byte_count}
-use Rattle.qoi.proofs.decoding.Ahead.{fault_ahead}
+use Rattle.qoi.proofs.decoding.Ahead.{fault_ahead, known}
 use Rattle.qoi.proofs.decoding.RefusedBytes.{refused_for_wrong}
 use Rattle.qoi.proofs.decoding.Refusals.{whole_not_refused_in}
 use Rattle.qoi.proofs.decode.Decoder.decode_to_vec.Goals as goal
@@ -42,7 +42,8 @@ returns-clause-length g c =
 pub returns-then-not-could_hold-clause-faults : goal.returns-then-not-could_hold-clause-faults
 returns-then-not-could_hold-clause-faults g c style h raw bytes rest all ahead f made told is =
     let cut = c.could_hold.ensures.cut (search rules) in
-    inr (fault_ahead g.R.Reader.in_memory g.R.Reader.ahead c.args.self.now _ UnexpectedBufferEnd style h raw bytes rest all ahead f made told is
+    inr (fault_ahead g.R.Reader.in_memory g.R.Reader.ahead c.args.self.now _ UnexpectedBufferEnd style h raw bytes rest all ahead f made
+    (known (g.R.Reader.ahead c.args.self.now.reader) ahead told) is
     (subst (λ s. RefusesImage g.R.Reader.in_memory (pixel_count s.header) (g.R.Reader.ahead s.reader)
     (g.R.Reader.ahead s.reader) UnexpectedBufferEnd) c.self.view_is (rw c.n_pixels.ensures at cut)))
 

@@ -2,11 +2,13 @@
 use Rattle.std.proofs.Common.{drop, ◌++◌, refl}
 use Rattle.qoi.specs.Qoi.{header_size}
 use Rattle.qoi.proofs.decoding.OneFile.{header_is_one}
-use Rattle.qoi.proofs.decoding.Ahead.{decoder_of, header_front, header_read_from, file_ahead}
+use Rattle.qoi.proofs.decoding.Ahead.{there, decoder_of, header_front, header_read_from, file_ahead}
 use Rattle.qoi.proofs.decode.Decoder.from_stream.Goals as goal
 
 pub returns-clause-behind : goal.returns-clause-behind
-returns-clause-behind g c bytes told = (header_read_from _ _ bytes c.in_ok-header.header c.in_ok-header.ensures told).1
+returns-clause-behind g c bytes told =
+    let left = (header_read_from _ _ bytes c.in_ok-header.header c.in_ok-header.ensures told).1 in
+    (left, there _ _ left)
 
 pub returns-clause-read : goal.returns-clause-read
 returns-clause-read g c bytes told = (header_read_from _ _ bytes c.in_ok-header.header c.in_ok-header.ensures told).0
