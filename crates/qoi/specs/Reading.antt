@@ -32,6 +32,10 @@ abbrev pub IsFault : Bool → Error → Type 0
 IsFault true e = ⊥
 IsFault false e = IsIoError e
 
+-- for this decoder the bytes are an image of these raw bytes, in its channels, and then the rest
+unfoldable pub IsImageFor : {R : Type 0} → DecoderState R → List ℕ → List ℕ → List ℕ → Type 0
+IsImageFor d bytes raw rest = IsImage d.channels bytes d.header rest raw
+
 -- The decoder is of the file at the front of the bytes: its header's bytes stand there, then comes what is ahead of the
 -- decoder, and its channels are the file's own.
 unfoldable pub IsDecoderOf : {R : Type 0} → DecoderState R → List ℕ → List ℕ → Type 0

@@ -9,7 +9,7 @@ ghost use Rattle.qoi.specs.Decoding.{AreWrong, CouldHold, HasCut, least_byte_cou
 ghost use Rattle.qoi.specs.declared.types.Style.{Style};
 ghost use Rattle.qoi.specs.Encoded.{IsFileOf};
 ghost use Rattle.qoi.specs.DecoderState.{image_byte_count, DecodesImage, RefusesDecoding, TakesWithin};
-ghost use Rattle.qoi.specs.Reading.{AreThere, HasImage, IsDecoderOf, IsFault, IsForCut, IsForWrong, IsImage};
+ghost use Rattle.qoi.specs.Reading.{AreThere, HasImage, IsDecoderOf, IsFault, IsForCut, IsForWrong, IsImage, IsImageFor};
 ghost use Rattle.qoi.specs.Raw.{without_fourth};
 
 mod deltas;
@@ -157,11 +157,20 @@ impl<'a> Decoder<Bytes<'a>> {
     pub fn new(data: &'a [u8]) -> Result<Decoder<Bytes<'a>>>
         ensures accepted { IfOk result (λ d. (header_of «data».entry.now ≡ Ok d.header)
             × (d.channels ≡ d.header.channels) × (d.reader ≡ drop header_size «data».entry.now)) }
-        // The decoder is of these bytes; and where they begin with the file of an image, in each style,
-        // the header is the image's.
-        ensures header { (style : Style) (h : Header) (raw bytes rest : List ℕ)
+        // Of the file of an image, in each style, the decoder has the header, and the image stands
+        // ahead; so it does where other bytes follow the file.
+        ensures comes_back { (h : Header) (raw : List ℕ)
+            → IsFileOf Style.Reference h raw «data».entry.now
+            → IsOkAnd result (λ d. (d.header ≡ h)
+            × IsImageFor d (drop header_size «data».entry.now) raw []) }
+        ensures comes_back_in { (style : Style) (h : Header) (raw : List ℕ)
+            → IsFileOf style h raw «data».entry.now
+            → IsOkAnd result (λ d. (d.header ≡ h)
+            × IsImageFor d (drop header_size «data».entry.now) raw []) }
+        ensures followed { (style : Style) (h : Header) (raw bytes rest : List ℕ)
             → IsFileOf style h raw bytes → «data».entry.now ≡ bytes ++ rest
-            → IsOkAnd result (λ d. d.header ≡ h) }
+            → IsOkAnd result (λ d. (d.header ≡ h)
+            × IsImageFor d (drop header_size «data».entry.now) raw rest) }
         ensures made { IfOk result (λ d. IsDecoderOf d «data».entry.now
             (drop header_size «data».entry.now)) }
         ensures refused { IfErr result (λ e. header_of «data».entry.now ≡ Err e) }
@@ -205,11 +214,18 @@ impl<R: Read + Drop> Decoder<R> {
         ensures behind { (bytes : List ℕ) → R.remaining reader ≡ Some bytes
             → IfOk result (λ d. (R.remaining d.reader ≡ Some (drop header_size bytes))
             × AreThere (R.remaining d.reader) (drop header_size bytes)) }
-        // The decoder is of these bytes; and where they begin with the file of an image, in each style,
-        // the header is the image's.
-        ensures header { (style : Style) (h : Header) (raw bytes rest : List ℕ)
+        // Where they are the file of an image, in each style, the image stands ahead; so it does where
+        // other bytes follow the file.
+        ensures comes_back { (h : Header) (raw bytes : List ℕ)
+            → IsFileOf Style.Reference h raw bytes → R.remaining reader ≡ Some bytes
+            → IfOk result (λ d. (d.header ≡ h) × IsImageFor d (drop header_size bytes) raw []) }
+        ensures comes_back_in { (style : Style) (h : Header) (raw bytes : List ℕ)
+            → IsFileOf style h raw bytes → R.remaining reader ≡ Some bytes
+            → IfOk result (λ d. (d.header ≡ h) × IsImageFor d (drop header_size bytes) raw []) }
+        ensures followed { (style : Style) (h : Header) (raw bytes rest : List ℕ)
             → IsFileOf style h raw bytes → R.remaining reader ≡ Some (bytes ++ rest)
-            → IfOk result (λ d. d.header ≡ h) }
+            → IfOk result (λ d. (d.header ≡ h)
+            × IsImageFor d (drop header_size (bytes ++ rest)) raw rest) }
         ensures made { (bytes : List ℕ) → R.remaining reader ≡ Some bytes
             → IfOk result (λ d. IsDecoderOf d bytes (drop header_size bytes)) }
         ensures refused { IfErr result (λ e. (left : Option (List ℕ))
@@ -321,23 +337,14 @@ impl<R: Reader> Decoder<R> {
             → R.ahead self.old.reader ≡ Some bytes
             → IsWhole (pixel_count self.old.header) bytes cs rest
             → image_byte_count self.old ≤ length buf.old → IsOk result }
-        // Of a decoder of the file of an image, in each style, the raw bytes come back; so they do where
-        // other bytes follow the file, and those are left.
-        ensures comes_back { (style : Style) (h : Header) (raw bytes ahead : List ℕ)
-            → IsFileOf style h raw bytes → IsDecoderOf self.old bytes ahead
-            → AreThere (R.ahead self.old.reader) ahead → IfOk result (λ size. take size buf.new ≡ raw) }
-        ensures followed { (style : Style) (h : Header) (raw bytes rest all ahead : List ℕ)
-            → IsFileOf style h raw bytes → IsDecoderOf self.old all ahead
-            → AreThere (R.ahead self.old.reader) ahead → all ≡ bytes ++ rest
-            → IfOk result (λ size. take size buf.new ≡ raw) }
-        ensures left { (style : Style) (h : Header) (raw bytes rest all ahead : List ℕ)
-            → IsFileOf style h raw bytes → IsDecoderOf self.old all ahead
-            → AreThere (R.ahead self.old.reader) ahead → all ≡ bytes ++ rest
+        // The image that stands ahead is decoded, and what follows it is left.
+        ensures image { (bytes raw rest : List ℕ) → IsImageFor self.old bytes raw rest
+            → R.ahead self.old.reader ≡ Some bytes → IfOk result (λ size. take size buf.new ≡ raw) }
+        ensures left { (bytes raw rest : List ℕ) → IsImageFor self.old bytes raw rest
+            → R.ahead self.old.reader ≡ Some bytes
             → OnOk result (AreThere (R.ahead self.new.reader) rest) }
-        ensures faults { (style : Style) (h : Header) (raw bytes rest all ahead : List ℕ)
-            → IsFileOf style h raw bytes → IsDecoderOf self.old all ahead
-            → AreThere (R.ahead self.old.reader) ahead → all ≡ bytes ++ rest
-            → image_byte_count self.old ≤ length buf.old
+        ensures faults { (bytes raw rest : List ℕ) → IsImageFor self.old bytes raw rest
+            → R.ahead self.old.reader ≡ Some bytes → image_byte_count self.old ≤ length buf.old
             → IfErr result (IsFault R.in_memory) }
         // What was decoded stood ahead, and what follows it is left.
         ensures read { IfSome (R.ahead self.old.reader) (λ bytes. IfOk result (λ size.
@@ -424,22 +431,14 @@ impl<R: Reader> Decoder<R> {
             → R.ahead self.old.reader ≡ Some bytes
             → IsWhole (pixel_count self.old.header) bytes cs rest
             → IsOkUnless result Error.OutOfMemory }
-        // Of a decoder of the file of an image, in each style, the raw bytes come back; so they do where
-        // other bytes follow the file, and those are left.
-        ensures comes_back { (style : Style) (h : Header) (raw bytes ahead : List ℕ)
-            → IsFileOf style h raw bytes → IsDecoderOf self.old bytes ahead
-            → AreThere (R.ahead self.old.reader) ahead → IfOk result (λ out. out.items ≡ raw) }
-        ensures followed { (style : Style) (h : Header) (raw bytes rest all ahead : List ℕ)
-            → IsFileOf style h raw bytes → IsDecoderOf self.old all ahead
-            → AreThere (R.ahead self.old.reader) ahead → all ≡ bytes ++ rest
-            → IfOk result (λ out. out.items ≡ raw) }
-        ensures left { (style : Style) (h : Header) (raw bytes rest all ahead : List ℕ)
-            → IsFileOf style h raw bytes → IsDecoderOf self.old all ahead
-            → AreThere (R.ahead self.old.reader) ahead → all ≡ bytes ++ rest
+        // The image that stands ahead is decoded, and what follows it is left.
+        ensures image { (bytes raw rest : List ℕ) → IsImageFor self.old bytes raw rest
+            → R.ahead self.old.reader ≡ Some bytes → IfOk result (λ out. out.items ≡ raw) }
+        ensures left { (bytes raw rest : List ℕ) → IsImageFor self.old bytes raw rest
+            → R.ahead self.old.reader ≡ Some bytes
             → OnOk result (AreThere (R.ahead self.new.reader) rest) }
-        ensures faults { (style : Style) (h : Header) (raw bytes rest all ahead : List ℕ)
-            → IsFileOf style h raw bytes → IsDecoderOf self.old all ahead
-            → AreThere (R.ahead self.old.reader) ahead → all ≡ bytes ++ rest
+        ensures faults { (bytes raw rest : List ℕ) → IsImageFor self.old bytes raw rest
+            → R.ahead self.old.reader ≡ Some bytes
             → IfErr result (λ e. (e ≡ Error.OutOfMemory) ⊎ IsFault R.in_memory e) }
         // What was decoded stood ahead, and what follows it is left.
         ensures read { IfSome (R.ahead self.old.reader) (λ bytes. IfOk result (λ out.

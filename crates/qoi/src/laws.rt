@@ -1,6 +1,5 @@
 //! Laws over the definitions.
 
 pub mod reading;
-pub mod streams;
 pub mod surface;
 pub mod writing;

@@ -14,11 +14,11 @@ use Rattle.qoi.specs.Verdicts.{IsWhole}
 use Rattle.qoi.specs.Decoding.{AreWrong, DecodesFile, HasCut, ReadsHeader, ReadsImage, RefusesImage}
 use Rattle.qoi.specs.DecoderState.{DecoderState}
 use Rattle.qoi.specs.Encoded.{IsFileOf}
-use Rattle.qoi.specs.Reading.{AreThere, HasImage, IsDecoderOf, IsFault, IsImage}
+use Rattle.qoi.specs.Reading.{AreThere, HasImage, IsDecoderOf, IsFault, IsImage, IsImageFor}
 use Rattle.qoi.proofs.decoding.OneFile.{decodes_file, file_parts, header_is_one}
 use Rattle.qoi.proofs.decoding.StreamVerdicts.{fourth_is_opaque, read_is_whole, rgb_is_without_fourth, whole_is_io_error}
 use Rattle.qoi.proofs.decoding.Refusals.{whole_not_refused_in}
-use Rattle.qoi.proofs.format.HeaderBytes.{header_of-head, header_split}
+use Rattle.qoi.proofs.format.HeaderBytes.{header_split}
 use Rattle.qoi.proofs.format.OneVerdict.{whole_is_one, whole_not_cut, whole_not_wrong}
 
 -- behind the header of a file stands its image, and then what follows the file
@@ -57,26 +57,21 @@ header_front old (Some rest) bytes h r told =
     let after = (header_split bytes r.0 rest h split r.2 r.3).1 in
     (split ∙ ap (λ z. z ++ rest) r.4 ∙ ap (λ z. head h ++ z) after, r.5)
 
--- the image that stands ahead of a decoder, at the front of whose bytes stands the file of an image
-ahead_of : {R : Type 0} (d : DecoderState R) (style : Style) (h : Header) (raw bytes rest all ahead : List ℕ)
-    → IsFileOf style h raw bytes → IsDecoderOf d all ahead → all ≡ bytes ++ rest → IsImage d.channels ahead d.header rest raw
-unfolding IsDecoderOf
-ahead_of d style h raw bytes rest all ahead f (split, valid, own) is =
-    let read : header_of all ≡ Ok d.header = ap header_of split ∙ header_of-head d.header ahead valid in
-    let image = image_of_file d.channels d.header all h rest raw read own (file_ahead style h raw bytes rest all f is) in
-    subst (λ z. IsImage d.channels z d.header rest raw) (ap (λ z. drop header_size z) split) image
+-- behind the header of a file stands its image, for the decoder of that header
+pub image_ahead : {R : Type 0} (d : DecoderState R) (bytes : List ℕ) (h : Header) (rest raw : List ℕ) → header_of bytes ≡ Ok d.header
+    → d.channels ≡ d.header.channels → DecodesFile bytes h rest raw → (d.header ≡ h) × IsImageFor d (drop header_size bytes) raw rest
+unfolding IsImageFor
+image_ahead d bytes h rest raw read own f =
+    (header_is_one bytes d.header h read f.header, image_of_file d.channels d.header bytes h rest raw read own f)
 
--- what refuses it is a fault
-pub fault_ahead : {R : Type 0} (in_memory : Bool) (next : R → Option (List ℕ)) (d : DecoderState R) (new : Option (List ℕ)) (e : Error)
-    (style : Style) (h : Header) (raw bytes rest all ahead : List ℕ) → IsFileOf style h raw bytes → IsDecoderOf d all ahead → next d.reader ≡ Some ahead
-    → all ≡ bytes ++ rest → RefusesImage in_memory (pixel_count d.header) (next d.reader) new e → IsFault in_memory e
-fault_ahead true next d new e style h raw bytes rest all ahead f made told is refused =
-    let image = ahead_of d style h raw bytes rest all ahead f made is in
-    whole_not_refused_in true (pixel_count d.header) (next d.reader) new e ahead image.cs rest refl told image.whole refused
-fault_ahead false next d new e style h raw bytes rest all ahead f made told is refused =
-    let image = ahead_of d style h raw bytes rest all ahead f made is in
-    whole_is_io_error (pixel_count d.header) ahead image.cs rest new e image.whole
-    (subst (λ z. RefusesImage false (pixel_count d.header) z new e) told refused)
+-- what refuses an image that stands ahead is a fault
+pub fault_ahead : {R : Type 0} (in_memory : Bool) (d : DecoderState R) (old new : Option (List ℕ)) (e : Error) (bytes raw rest : List ℕ)
+    → IsImageFor d bytes raw rest → old ≡ Some bytes → RefusesImage in_memory (pixel_count d.header) old new e → IsFault in_memory e
+unfolding IsImageFor
+fault_ahead true d old new e bytes raw rest image told refused =
+    whole_not_refused_in true (pixel_count d.header) old new e bytes image.cs rest refl told image.whole refused
+fault_ahead false d old new e bytes raw rest image told refused =
+    whole_is_io_error (pixel_count d.header) bytes image.cs rest new e image.whole (subst (λ z. RefusesImage false (pixel_count d.header) z new e) told refused)
 
 -- what is read from known bytes is an image at their front, and what follows it is left
 pub image_read : (channels : Channels) (h : Header) (bytes : List ℕ) (left : Option (List ℕ)) (out : List ℕ)
@@ -116,15 +111,14 @@ unfolding HasImage
 same_image channels own h k bytes more raw out as_own as_k (rest, image) other =
     (image_is_one own k bytes rest more raw out (subst (λ j. IsImage own bytes j rest raw) as_k (subst (λ j. IsImage j bytes h rest raw) as_own image)) other).0
 
--- the image of the file was read, and what follows the file is left
-pub image_comes_back : {R : Type 0} (next : R → Option (List ℕ)) (d : DecoderState R) (left : Option (List ℕ)) (out : List ℕ)
-    → ((bytes : List ℕ) → next d.reader ≡ Some bytes → (more : List ℕ) × (left ≡ Some more) × IsImage d.channels bytes d.header more out)
-    → (style : Style) (h : Header) (raw bytes rest all ahead : List ℕ) → IsFileOf style h raw bytes → IsDecoderOf d all ahead
-    → next d.reader ≡ Some ahead → all ≡ bytes ++ rest → (out ≡ raw) × (left ≡ Some rest)
-image_comes_back next d left out reads style h raw bytes rest all ahead f made told is =
-    let image = ahead_of d style h raw bytes rest all ahead f made is in
-    let r = reads ahead told in
-    let one = image_is_one d.channels d.header ahead rest r.0 raw out image r.2 in
+-- the image that stood ahead was read, and what follows it is left
+pub image_comes_back : {R : Type 0} (d : DecoderState R) (old left : Option (List ℕ)) (out : List ℕ)
+    → ((bytes : List ℕ) → old ≡ Some bytes → (more : List ℕ) × (left ≡ Some more) × IsImage d.channels bytes d.header more out)
+    → (bytes raw rest : List ℕ) → IsImageFor d bytes raw rest → old ≡ Some bytes → (out ≡ raw) × (left ≡ Some rest)
+unfolding IsImageFor
+image_comes_back d old left out reads bytes raw rest image told =
+    let r = reads bytes told in
+    let one = image_is_one d.channels d.header bytes rest r.0 raw out image r.2 in
     (one.0, r.1 ∙ ap Some one.1)
 
 -- an image is read, whether or not the bytes ahead are known

@@ -9,7 +9,7 @@ use Rattle.qoi.specs.Raw.{output, without_fourth}
 use Rattle.qoi.specs.Verdicts.{IsWhole, IsCut, IsWrong}
 use Rattle.qoi.specs.Decoding.{ReadsImage, RefusesImage, RefusesTaken, HasWrong}
 use Rattle.qoi.specs.Errors.{IsIoError}
-use Rattle.qoi.proofs.format.OneVerdict.{whole_not_cut, whole_not_wrong, cut_not_wrong}
+use Rattle.qoi.proofs.format.OneVerdict.{whole_not_wrong, cut_not_wrong}
 
 -- what was read was whole
 pub read_is_whole : (f c n : ℕ) (bytes : List ℕ) (left : Option (List ℕ)) (out : List ℕ) → ReadsImage f c n (Some bytes) left out
@@ -47,20 +47,6 @@ padding_is_wrong n bytes (Some rest) taken took (cs, eight, w) = (
   },
   refl,
 )
-
--- cut bytes are not read
-pub cut_is_not_read : (f c n : ℕ) (bytes : List ℕ) (cs : List Chunk) (part : List ℕ) (left : Option (List ℕ)) (out : List ℕ) → IsCut n bytes cs part
-    → ReadsImage f c n (Some bytes) left out → ⊥
-cut_is_not_read f c n bytes cs part left out cut r =
-    let w = read_is_whole f c n bytes left out r in
-    whole_not_cut n bytes w.0 cs w.1 part w.2 cut
-
--- wrong bytes are not read
-pub wrong_is_not_read : (f c n : ℕ) (bytes : List ℕ) (cs : List Chunk) (eight rest : List ℕ) (left : Option (List ℕ)) (out : List ℕ)
-    → IsWrong n bytes cs eight rest → ReadsImage f c n (Some bytes) left out → ⊥
-wrong_is_not_read f c n bytes cs eight rest left out wrong r =
-    let w = read_is_whole f c n bytes left out r in
-    whole_not_wrong n bytes w.0 cs w.1 eight rest w.2 wrong
 
 -- where the bytes are not wrong, a refusal is an i/o error
 only_io_error : (n : ℕ) (bytes : List ℕ) (left : Option (List ℕ)) (taken : List ℕ) (e : Error)

@@ -1,17 +1,18 @@
 //! A caller for each way of using the library, proved by the contracts of its public calls alone.
-ghost use Rattle.std.specs.Prelude.{◌≡◌, ℕ, ◌+◌, ◌*◌, ◌≤◌, ◌++◌, List, Option, Some, Ok, IfOk, OnOk, IfErr, length, drop, false};
+ghost use Rattle.std.specs.Prelude.{◌≡◌, ℕ, ◌+◌, ◌*◌, ◌≤◌, ◌++◌, List, Option, Some, Ok, IfOk, OnOk, IfErr, IsErrOf, length, drop, false};
 ghost use Rattle.std.specs.Io.KnownBytes.{Appends, Consumes};
 ghost use Rattle.qoi.specs.declared.header.Header.{Header};
 ghost use Rattle.qoi.specs.declared.types.Style.TheVariants.{Reference, Tight};
 ghost use Rattle.qoi.specs.Qoi.{channels_number, head, header_of, pixel_count, header_size, IsValid, file};
 ghost use Rattle.qoi.specs.Encoded.{IsFileOf, IsShortest, Spans, OpensBlack, image_pixels};
+ghost use Rattle.qoi.specs.Raw.{without_fourth};
 ghost use Rattle.qoi.specs.Regular.{Regular};
 ghost use Rattle.qoi.specs.writers.Writes.{AppendsBeginning};
 ghost use Rattle.qoi.specs.declared.chunk.Chunk.{Chunk};
-ghost use Rattle.qoi.specs.Decoding.{DecodesFile, ReadsHeader, ReadsImage};
+ghost use Rattle.qoi.specs.Decoding.{DecodesFile, HasCut, ReadsHeader, ReadsImage};
 
 use qoi::{
-    Decoder, Encoder, Error, Header, Style, decode_to_buf, decode_to_vec, encode_to_buf,
+    Channels, Decoder, Encoder, Error, Header, Style, decode_to_buf, decode_to_vec, encode_to_buf,
     encode_to_vec,
 };
 use std::alloc::Global;
@@ -381,4 +382,40 @@ pub fn bounded_bytes(alloc: Global, file: &[u8]) -> Result<Vec<u8>, Error>
 {
     let (_, raw) = decode_to_vec(alloc, file)?;
     Ok(raw)
+}
+
+/// Memory that is bounded first. Of a decoder whose image is small enough the raw bytes of a file, as the
+/// free call decodes them.
+pub fn at_most(alloc: Global, file: &[u8], most: usize) -> Result<Vec<u8>, Error>
+    ensures { IfOk result (λ raw. (h : Header) × (rest : List ℕ)
+        × DecodesFile file.now h rest raw.items) }
+{
+    let mut decoder = Decoder::new(file)?;
+    if decoder.required_buf_len() > most {
+        return Err(Error::OutOfMemory);
+    }
+    let raw = decoder.decode_to_vec(alloc)?;
+    Ok(raw)
+}
+
+/// Channels. What three channels are, and four of them.
+pub fn both_channels(alloc: Global, file: &[u8]) -> Result<(Vec<u8>, Vec<u8>), Error>
+    ensures { IfOk result (λ x. x.0.items ≡ without_fourth x.1.items) }
+{
+    let mut four = Decoder::new(file)?.with_channels(Channels::Rgba);
+    let mut three = Decoder::new(file)?.with_channels(Channels::Rgb);
+    let rgba = four.decode_to_vec(alloc)?;
+    let rgb = three.decode_to_vec(alloc)?;
+    Ok((rgb, rgba))
+}
+
+/// Bytes that are still to come. Where the end is missed, the bytes behind the header are cut.
+pub fn more_needed(alloc: Global, file: &[u8]) -> Result<(Header, Result<Vec<u8>, Error>), Error>
+    ensures { IfOk result (λ x. IsErrOf x.1 Error.UnexpectedBufferEnd
+        → HasCut (pixel_count x.0) (drop header_size file.now)) }
+{
+    let mut decoder = Decoder::new(file)?;
+    let header = *decoder.header();
+    let raw = decoder.decode_to_vec(alloc);
+    Ok((header, raw))
 }

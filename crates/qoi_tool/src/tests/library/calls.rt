@@ -2,11 +2,11 @@
 //! than twice the time where it has twice the calls.
 use crate::tests::fakes::{Bad, End, ONE_RGB_PIXEL, PIXEL, Sink};
 use crate::tests::library::callers::{
-    all_images, as_long, bounded_bytes, decoded_part, encoded_part, first_byte, header_ahead,
-    keep_and_try, keep_twice, lengths, lengths_back, methods_there_and_back, near_shortest,
-    no_longer, pack, pack_and_keep, pack_and_keep_in, pack_at_once, raw_bytes, receive, send,
-    send_and_keep, shortest, space_byte, there_and_back, tight_part, tight_there_and_back,
-    two_images,
+    all_images, as_long, at_most, both_channels, bounded_bytes, decoded_part, encoded_part,
+    first_byte, header_ahead, keep_and_try, keep_twice, lengths, lengths_back,
+    methods_there_and_back, more_needed, near_shortest, no_longer, pack, pack_and_keep,
+    pack_and_keep_in, pack_at_once, raw_bytes, receive, send, send_and_keep, shortest, space_byte,
+    there_and_back, tight_part, tight_there_and_back, two_images,
 };
 use crate::tests::library::support::{assert_bytes, assert_header, assert_number};
 use qoi::{Error, Header, Result, Style};
@@ -154,5 +154,19 @@ fn files_until_one_is_refused(rt: HostRuntime) -> Result<()> {
     let refused = all_images(alloc, &files, &mut images);
     assert!(rt; matches!(refused, Err(Error::UnexpectedBufferEnd)));
     assert_number(&rt, images.len(), 3);
+    Ok(())
+}
+
+#[test]
+fn channels_and_bounds(rt: HostRuntime) -> Result<()> {
+    let alloc = rt.alloc();
+    assert_bytes(&rt, &at_most(alloc, &ONE_RGB_PIXEL, 3)?, &PIXEL);
+    assert!(rt; matches!(at_most(alloc, &ONE_RGB_PIXEL, 2), Err(Error::OutOfMemory)));
+    let (rgb, rgba) = both_channels(alloc, &ONE_RGB_PIXEL)?;
+    assert_bytes(&rt, &rgb, &PIXEL);
+    assert_bytes(&rt, &rgba, &[0x0b, 0x79, 0xe7, 255]);
+    let (header, cut) = more_needed(alloc, &ONE_RGB_PIXEL[..25])?;
+    assert_number(&rt, header.n_pixels(), 1);
+    assert!(rt; matches!(cut, Err(Error::UnexpectedBufferEnd)));
     Ok(())
 }

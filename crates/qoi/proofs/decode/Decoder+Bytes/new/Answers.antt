@@ -1,9 +1,9 @@
 -- The header's bytes are the front of all, and the reader has what follows them.
-use Rattle.std.proofs.Common.{ap, drop, ◌++◌, ℕ, List, refl, sym, ◌∙◌}
+use Rattle.std.proofs.Common.{ap, drop, ◌++◌, ℕ, List, [], append-nil, refl, sym, ◌∙◌}
+use Rattle.qoi.specs.declared.types.Style.TheVariants.{Reference}
 use Rattle.qoi.specs.Qoi.{head, header_size}
 use Rattle.qoi.specs.DecoderState.{DecoderState}
-use Rattle.qoi.proofs.decoding.Ahead.{decoder_of, file_ahead}
-use Rattle.qoi.proofs.decoding.OneFile.{header_is_one}
+use Rattle.qoi.proofs.decoding.Ahead.{decoder_of, image_ahead, file_ahead}
 use Rattle.qoi.proofs.format.HeaderBytes.{header_split}
 use Rattle.qoi.proofs.decode.Decoder+Bytes.new.Goals as goal
 
@@ -13,16 +13,27 @@ returns-clause-accepted c =
     let split = header_split c.args.data.now e.0 c.decode_header.new.self c.in_ok-header.header (sym c.new-reader.ensures ∙ e.1) e.2 e.3 in
     (split.0, refl, split.1)
 
-pub returns-clause-header : goal.returns-clause-header
-returns-clause-header c style h raw bytes rest f split =
-    header_is_one c.args.data.now _ h (returns-clause-accepted c).0 (file_ahead style h raw bytes rest c.args.data.now f split).header
+pub returns-clause-followed : goal.returns-clause-followed
+returns-clause-followed c style h raw bytes rest f split =
+    let accepted = returns-clause-accepted c in
+    let d : DecoderState (List ℕ) = record { reader = c.decode_header.new.self; header = c.in_ok-header.header; channels = c.in_ok-header.header.channels } in
+    image_ahead d c.args.data.now h rest raw accepted.0 refl (file_ahead style h raw bytes rest c.args.data.now f split)
 
-pub returns-in_err-header-clause-header : goal.returns-in_err-header-clause-header
-returns-in_err-header-clause-header c style h raw bytes rest f split =
-    let read = (file_ahead style h raw bytes rest c.args.data.now f split).header in
+pub returns-clause-comes_back_in : goal.returns-clause-comes_back_in
+returns-clause-comes_back_in c style h raw f = returns-clause-followed c style h raw c.args.data.now [] f (sym (append-nil c.args.data.now))
+
+pub returns-clause-comes_back : goal.returns-clause-comes_back
+returns-clause-comes_back c h raw f = returns-clause-comes_back_in c Reference h raw f
+
+pub returns-in_err-header-clause-comes_back_in : goal.returns-in_err-header-clause-comes_back_in
+returns-in_err-header-clause-comes_back_in c style h raw f =
+    let read = (file_ahead style h raw c.args.data.now [] c.args.data.now f (sym (append-nil c.args.data.now))).header in
     let refused = c.in_err-header.ensures.1 in
     let same = c.new-reader.ensures in
     absurd cc
+
+pub returns-in_err-header-clause-comes_back : goal.returns-in_err-header-clause-comes_back
+returns-in_err-header-clause-comes_back c h raw f = returns-in_err-header-clause-comes_back_in c Reference h raw f
 
 pub returns-clause-made : goal.returns-clause-made
 returns-clause-made c =

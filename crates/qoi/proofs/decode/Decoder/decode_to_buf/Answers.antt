@@ -1,5 +1,5 @@
 -- Whole bytes in memory are not refused, and each image takes a bounded number of bytes.
-use Rattle.std.proofs.Common.{[], append-nil, ◌≡◌, ◌+◌, ◌*◌, length, slice_index, ap, ◌∙◌, sym, arith, subst}
+use Rattle.std.proofs.Common.{◌≡◌, ◌+◌, ◌*◌, length, slice_index, ap, ◌∙◌, arith, subst}
 use Rattle.std.proofs.lemmas.List.{length-take-le}
 use Rattle.std.proofs.lemmas.Result.{err_from_is_err_and}
 use lib.Seq.{take-append_seam}
@@ -51,10 +51,9 @@ returns-clause-bounded g c =
     (ap (λ s. g.R.Reader.ahead s.reader) c.self.view_is) (rw pixels at within)
 
 pub returns-in_err-decode_image-clause-faults : goal.returns-in_err-decode_image-clause-faults
-returns-in_err-decode_image-clause-faults g c style h raw bytes rest all ahead f made there_are is room =
+returns-in_err-decode_image-clause-faults g c bytes raw rest image told room =
     let p = err_from_is_err_and c.from_residual.result c.from_residual.ensures.1 in
-    rw (p.1, p.2) (fault_ahead g.R.Reader.in_memory g.R.Reader.ahead c.args.self.now _ _ style h raw bytes rest all ahead f made
-    (known (g.R.Reader.ahead c.args.self.now.reader) ahead there_are) is
+    rw (p.1, p.2) (fault_ahead g.R.Reader.in_memory c.args.self.now _ _ _ bytes raw rest image told
     (refused g (goal.at.returns-in_err-decode_image-clause-faults g c).After-from_residual))
 
 pub returns-clause-rest : goal.returns-clause-rest
@@ -72,19 +71,13 @@ returns-clause-rest g c bytes told =
 pub returns-clause-read : goal.returns-clause-read
 returns-clause-read g c = has_image_ahead _ _ (g.R.Reader.ahead c.args.self.now.reader) _ _ (returns-clause-rest g c)
 
-pub returns-clause-followed : goal.returns-clause-followed
-returns-clause-followed g c style h raw bytes rest all ahead f made there_are is =
-    (image_comes_back g.R.Reader.ahead c.args.self.now _ _ (returns-clause-rest g c) style h raw bytes rest all ahead f made
-    (known (g.R.Reader.ahead c.args.self.now.reader) ahead there_are) is).0
+pub returns-clause-image : goal.returns-clause-image
+returns-clause-image g c bytes raw rest image told =
+    (image_comes_back c.args.self.now _ _ _ (returns-clause-rest g c) bytes raw rest image told).0
 
 pub returns-clause-left : goal.returns-clause-left
-returns-clause-left g c style h raw bytes rest all ahead f made there_are is =
-    there _ rest (image_comes_back g.R.Reader.ahead c.args.self.now _ _ (returns-clause-rest g c) style h raw bytes rest all ahead f made
-    (known (g.R.Reader.ahead c.args.self.now.reader) ahead there_are) is).1
-
-pub returns-clause-comes_back : goal.returns-clause-comes_back
-returns-clause-comes_back g c style h raw bytes ahead f made there_are =
-    returns-clause-followed g c style h raw bytes [] bytes ahead f made there_are (sym (append-nil bytes))
+returns-clause-left g c bytes raw rest image told =
+    there _ rest (image_comes_back c.args.self.now _ _ _ (returns-clause-rest g c) bytes raw rest image told).1
 
 pub returns-clause-file : goal.returns-clause-file
 returns-clause-file g c bytes ahead made there_are =

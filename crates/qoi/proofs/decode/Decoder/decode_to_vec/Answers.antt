@@ -1,5 +1,5 @@
 -- Whole bytes in memory are not refused.
-use Rattle.std.proofs.Common.{[], append-nil, ℕ, List, rules, ◌≡◌, ◌≤◌, ◌++◌, length, take, drop, ap, sym, IsOk, false, true, ◌∙◌, subst, inr, arith, length-append}
+use Rattle.std.proofs.Common.{ℕ, List, rules, ◌≡◌, ◌≤◌, ◌++◌, length, take, drop, ap, sym, IsOk, false, true, ◌∙◌, subst, inr, arith, length-append}
 use Rattle.std.proofs.lemmas.List.{length-take-le}
 use Rattle.std.proofs.lemmas.Result.{err_from_is_err_and}
 use Rattle.std.proofs.Math.Seq.{take-length}
@@ -8,7 +8,7 @@ use Rattle.qoi.specs.declared.error.Error.TheVariants.{UnexpectedBufferEnd}
 use Rattle.qoi.specs.Qoi.{pixel_count}
 use Rattle.qoi.specs.Decoding.{DecodesFile, RefusesImage}
 use Rattle.qoi.specs.DecoderState.{image_byte_count}
-use Rattle.qoi.proofs.decoding.Ahead.{fault_ahead, known}
+use Rattle.qoi.proofs.decoding.Ahead.{fault_ahead}
 use Rattle.qoi.proofs.decoding.RefusedBytes.{refused_for_wrong}
 use Rattle.qoi.proofs.decoding.Refusals.{whole_not_refused_in}
 use Rattle.qoi.proofs.decode.Decoder.decode_to_vec.Goals as goal
@@ -40,10 +40,9 @@ returns-clause-length g c =
     (size ∙ counted, omega (arith, size, counted, c.required_buf_len.ensures.some, c.required_buf_len.ensures.bytes))
 
 pub returns-then-not-could_hold-clause-faults : goal.returns-then-not-could_hold-clause-faults
-returns-then-not-could_hold-clause-faults g c style h raw bytes rest all ahead f made told is =
+returns-then-not-could_hold-clause-faults g c bytes raw rest image told =
     let cut = c.could_hold.ensures.cut (search rules) in
-    inr (fault_ahead g.R.Reader.in_memory g.R.Reader.ahead c.args.self.now _ UnexpectedBufferEnd style h raw bytes rest all ahead f made
-    (known (g.R.Reader.ahead c.args.self.now.reader) ahead told) is
+    inr (fault_ahead g.R.Reader.in_memory c.args.self.now _ _ UnexpectedBufferEnd bytes raw rest image told
     (subst (λ s. RefusesImage g.R.Reader.in_memory (pixel_count s.header) (g.R.Reader.ahead s.reader)
     (g.R.Reader.ahead s.reader) UnexpectedBufferEnd) c.self.view_is (rw c.n_pixels.ensures at cut)))
 
@@ -75,24 +74,20 @@ returns-clause-same g c channels h bytes raw image as_own as_k told =
     omega (arith, counted, c.in_ok-out.ensures.len, c.required_buf_len.ensures.bytes, c.in_ok-decode_to_buf.ensures.decoded.0) in
     front _ _ buf _ counted filled ∙ c.in_ok-decode_to_buf.ensures.same channels h bytes raw image as_own as_k told
 
-pub returns-clause-followed : goal.returns-clause-followed
-returns-clause-followed g c style h raw bytes rest all ahead f made told is =
+pub returns-clause-image : goal.returns-clause-image
+returns-clause-image g c bytes raw rest image told =
     let buf = c.decode_to_buf.new.buf in
     let counted : c.in_ok-out.out.len ≡ length buf = omega (arith, c.decode_to_buf.auto.buf, c.deref_mut.ensures.len) in
     let filled : c.in_ok-decode_to_buf.field-0 ≡ length buf =
     omega (arith, counted, c.in_ok-out.ensures.len, c.required_buf_len.ensures.bytes, c.in_ok-decode_to_buf.ensures.decoded.0) in
-    front _ _ buf _ counted filled ∙ c.in_ok-decode_to_buf.ensures.followed style h raw bytes rest all ahead f made told is
+    front _ _ buf _ counted filled ∙ c.in_ok-decode_to_buf.ensures.image bytes raw rest image told
 
 pub returns-in_err-decode_to_buf-clause-faults : goal.returns-in_err-decode_to_buf-clause-faults
-returns-in_err-decode_to_buf-clause-faults g c style h raw bytes rest all ahead f made told is =
+returns-in_err-decode_to_buf-clause-faults g c bytes raw rest image told =
     let room : image_byte_count c.args.self.now ≤ length c.deref_mut.result.now =
     omega (arith, c.in_ok-out.ensures.len, c.deref_mut.ensures.len, c.required_buf_len.ensures.bytes) in
     let p = err_from_is_err_and c.from_residual-in_err-decode_to_buf.result c.from_residual-in_err-decode_to_buf.ensures.1 in
-    rw (p.1, p.2) (inr (c.in_err-decode_to_buf.ensures.faults style h raw bytes rest all ahead f made told is room))
-
-pub returns-clause-comes_back : goal.returns-clause-comes_back
-returns-clause-comes_back g c style h raw bytes ahead f made told =
-    returns-clause-followed g c style h raw bytes [] bytes ahead f made told (sym (append-nil bytes))
+    rw (p.1, p.2) (inr (c.in_err-decode_to_buf.ensures.faults bytes raw rest image told room))
 
 pub returns-clause-file : goal.returns-clause-file
 returns-clause-file g c bytes ahead made told =
