@@ -1,5 +1,6 @@
 pub mod Answers
 pub mod Faults
+pub mod Files
 pub mod Lines
 pub mod Transfers
 pub mod Words

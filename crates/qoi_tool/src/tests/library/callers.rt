@@ -1,11 +1,12 @@
 //! A caller for each way of using the library, proved by the contracts of its public calls alone.
-ghost use Rattle.std.specs.Prelude.{◌≡◌, ℕ, ◌+◌, ◌*◌, ◌≤◌, ◌++◌, List, Option, Some, Ok, IfOk, OnOk, IfErr, IsErrOf, length, drop, false};
+ghost use Rattle.std.specs.Prelude.{◌≡◌, ℕ, ◌+◌, ◌*◌, ◌≤◌, ◌++◌, List, Option, Some, Ok, IfOk, OnOk, IfErr, IsErrOf, length, map, drop, false};
 ghost use Rattle.std.specs.Io.KnownBytes.{Appends, Consumes};
 ghost use Rattle.qoi.specs.declared.header.Header.{Header};
 ghost use Rattle.qoi.specs.declared.types.Style.TheVariants.{Reference, Tight};
 ghost use Rattle.qoi.specs.Qoi.{channels_number, head, header_of, pixel_count, header_size, IsValid, file};
 ghost use Rattle.qoi.specs.Encoded.{IsFileOf, IsShortest, Spans, OpensBlack, image_pixels};
 ghost use Rattle.qoi.specs.Raw.{without_fourth};
+ghost use Rattle.qoi_tool.specs.Files.{AreFiles};
 ghost use Rattle.qoi.specs.Regular.{Regular};
 ghost use Rattle.qoi.specs.writers.Writes.{AppendsBeginning};
 ghost use Rattle.qoi.specs.declared.chunk.Chunk.{Chunk};
@@ -344,21 +345,24 @@ pub fn header_ahead<R: Read + Drop>(reader: R) -> Result<(Header, R), Error>
     Ok((*decoder.header(), decoder.into_reader()))
 }
 
-/// All files of a slice. The raw bytes of the images of files that stand one behind the other, until
-/// the slice is empty or a file is refused.
-pub fn all_images(alloc: Global, bytes: &[u8], images: &mut Vec<Vec<u8>>) -> Result<(), Error> {
+/// All files of a slice. The images of the files that stand one behind the other, to the slice's end.
+pub fn all_images(alloc: Global, bytes: &[u8]) -> Result<Vec<Vec<u8>>, Error>
+    ensures files { IfOk result (λ images.
+        AreFiles bytes.now (map (λ image. image.items) images.items)) }
+    // The bytes are files in one way at most.
+    ensures only { (all : List (List ℕ)) → AreFiles bytes.now all
+        → IfOk result (λ images. map (λ image. image.items) images.items ≡ all) }
+{
+    let mut images = Vec::new(alloc);
     let mut rest = bytes;
-    for _ in 0..bytes.len() {
-        if rest.is_empty() {
-            break;
-        }
+    while !rest.is_empty() {
         let mut decoder = Decoder::new(rest)?;
         images.push(decoder.decode_to_vec(alloc)?)?;
         // `data` borrows from the decoder: what goes on to the next turn is its length.
         let left = decoder.data().len();
         rest = &rest[rest.len() - left..];
     }
-    Ok(())
+    Ok(images)
 }
 
 /// There and back by the methods. The raw bytes come back.
