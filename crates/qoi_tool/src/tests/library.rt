@@ -10,6 +10,7 @@ mod encoder;
 mod generated;
 mod groups;
 mod hostile;
+mod lengths;
 mod pieces;
 mod quads;
 mod std_streams;
