@@ -7,7 +7,7 @@ use Rattle.qoi.specs.declared.types.ColorSpace.{ColorSpace}
 use Rattle.qoi.specs.declared.header.Header.{Header}
 use Rattle.qoi.specs.declared.chunk.Chunk.{Chunk}
 use Rattle.qoi.specs.declared.chunk.Chunk.TheVariants.{Place}
-use Rattle.qoi.specs.Qoi.{channels_number, colorspace_number, head, pixel_count, IsValid, RgbaPixel, AreChunks, bytes_of, text, Reaches, meaning, file, file_pixels, end_marker, IsFile}
+use Rattle.qoi.specs.Qoi.{channels_number, colorspace_number, head, pixel_count, IsValid, RgbaPixel, AreChunks, bytes_of, chunk_bytes, Reaches, meaning, file, file_pixels, end_marker, IsFile}
 use Rattle.qoi.specs.Raw.{IsChannels, output, HasChannels}
 use Rattle.qoi.specs.declared.types.Style.{Style}
 use Rattle.qoi.specs.declared.types.Style.TheVariants.{Reference, Places, Tight}
@@ -29,8 +29,8 @@ use Rattle.qoi.proofs.shortness.TightLists.{lower0, tight_exact}
 use Rattle.qoi.proofs.shortness.SlackSteps.{slack_most, slack_opens}
 
 -- the bytes of a file are the header's, the chunks' and the end marker's
-pub length-file : (h : Header) (cs : List Chunk) → length (file h cs) ≡ 22 + length (text cs)
-length-file h cs = omega (arith, length-append (head h) (text cs ++ end_marker), length-append (text cs) end_marker)
+pub length-file : (h : Header) (cs : List Chunk) → length (file h cs) ≡ 22 + length (chunk_bytes cs)
+length-file h cs = omega (arith, length-append (head h) (chunk_bytes cs ++ end_marker), length-append (chunk_bytes cs) end_marker)
 
 -- the greatest length is exact for a valid header
 pub max_is_exact : (h : Header) → IsValid h → max_file_len h ≡ pixel_count h * channels_number h.channels + pixel_count h + 22
@@ -46,9 +46,9 @@ four_channels Rgb = omega arith
 four_channels Rgba = omega arith
 
 -- a list that means a pixel has a byte
-text_some : (cs : List Chunk) → 0 < length (meaning cs) → 0 < length (text cs)
+text_some : (cs : List Chunk) → 0 < length (meaning cs) → 0 < length (chunk_bytes cs)
 text_some [] none = none
-text_some (c ∷ cs) some = omega (arith, length-append (bytes_of c) (text cs), length-bytes_of c)
+text_some (c ∷ cs) some = omega (arith, length-append (bytes_of c) (chunk_bytes cs), length-bytes_of c)
 
 -- another color space changes the fourteenth byte alone
 other_space : (h : Header) (space : ColorSpace) (cs : List Chunk)
@@ -63,7 +63,7 @@ pub record WritesLists (Lists : List RgbaPixel → List Chunk → Type 0) : Type
   pub one : (image : List RgbaPixel) (cs ds : List Chunk) → Lists image cs → Lists image ds → cs ≡ ds
   pub reaches : (image : List RgbaPixel) (n : ℕ) (cs : List Chunk) → Lists image cs → length image ≡ n → Reaches n cs
   pub fits : (image : List RgbaPixel) (channels n : ℕ) (cs : List Chunk) → HasChannels image channels → length image ≡ n
-      → Lists image cs → length (text cs) ≤ n * channels + n
+      → Lists image cs → length (chunk_bytes cs) ≤ n * channels + n
   pub apart : (image : List RgbaPixel) (cs front rest : List Chunk) (i : ℕ) → Lists image cs → cs ≡ front ++ Place i ∷ Place i ∷ rest → ⊥
 
 -- so do those of each style
@@ -93,11 +93,11 @@ module _ (h : Header) (raw : List ℕ) (valid : IsValid h) (size : length raw �
 
   module _ (Lists : List RgbaPixel → List Chunk → Type 0) (lists : WritesLists Lists) where
     -- the chunks that are written fit
-    list_fits : (cs : List Chunk) → Lists (image_pixels h raw) cs → length (text cs) ≤ pixel_count h * channels_number h.channels + pixel_count h
+    list_fits : (cs : List Chunk) → Lists (image_pixels h raw) cs → length (chunk_bytes cs) ≤ pixel_count h * channels_number h.channels + pixel_count h
     list_fits cs w = lists.fits (image_pixels h raw) (channels_number h.channels) (pixel_count h) cs has count w
 
     -- they have a byte
-    text_long : (cs : List Chunk) → Lists (image_pixels h raw) cs → 0 < length (text cs)
+    text_long : (cs : List Chunk) → Lists (image_pixels h raw) cs → 0 < length (chunk_bytes cs)
     text_long cs w = text_some cs (omega (arith, count, ap length (lists.means (image_pixels h raw) cs w), valid.0))
 
     -- they are those of a file
@@ -135,7 +135,7 @@ module _ (h : Header) (raw : List ℕ) (valid : IsValid h) (size : length raw �
 
   -- the chunks that are written fit
   pub text_fits : (style : Style) (cs : List Chunk) → WrittenIn style (image_pixels h raw) cs
-      → length (text cs) ≤ pixel_count h * channels_number h.channels + pixel_count h
+      → length (chunk_bytes cs) ≤ pixel_count h * channels_number h.channels + pixel_count h
   text_fits style = list_fits (WrittenIn style) (written_lists style)
 
   -- it is near the shortest
@@ -195,11 +195,11 @@ module _ (h : Header) (raw : List ℕ) (valid : IsValid h) (size : length raw �
 module _ {W : Type 0} (wrote : W → List ℕ → W → Type 0) (room : W → ℕ) (laws : WriterLaws wrote room) (h : Header) (cs : List Chunk) (start : W) where
   module _ (front : List ℕ) (is_head : front ≡ head h) where
     -- header and chunks, and then the end marker
-    file_is : file h cs ≡ (front ++ text cs) ++ end_marker
-    file_is = ap (λ z. z ++ (text cs ++ end_marker)) (sym is_head) ∙ sym (append_assoc front (text cs) end_marker)
+    file_is : file h cs ≡ (front ++ chunk_bytes cs) ++ end_marker
+    file_is = ap (λ z. z ++ (chunk_bytes cs ++ end_marker)) (sym is_head) ∙ sym (append_assoc front (chunk_bytes cs) end_marker)
 
     -- a beginning of header and chunks went
-    pub chunks_part : {now : W} → WroteSome wrote start (front ++ text cs) now → WroteSome wrote start (file h cs) now
+    pub chunks_part : {now : W} → WroteSome wrote start (front ++ chunk_bytes cs) now → WroteSome wrote start (file h cs) now
     chunks_part some = (
       some.0 ++ end_marker,
       record {
@@ -211,7 +211,7 @@ module _ {W : Type 0} (wrote : W → List ℕ → W → Type 0) (room : W → �
     )
 
     -- the end marker is kept, too
-    pub marker_kept : {now : W} {kept last : List ℕ} → WroteBut wrote start (front ++ text cs) kept now → last ≡ kept ++ end_marker
+    pub marker_kept : {now : W} {kept last : List ℕ} → WroteBut wrote start (front ++ chunk_bytes cs) kept now → last ≡ kept ++ end_marker
         → WroteBut wrote start (file h cs) last now
     marker_kept {kept = kept} w is = record {
       front = w.front;
@@ -221,7 +221,7 @@ module _ {W : Type 0} (wrote : W → List ℕ → W → Type 0) (room : W → �
 
   module _ {now : W} {last : List ℕ} (w : WroteBut wrote start (file h cs) last now) where
     -- there is room for what is kept
-    pub last_fits : 22 + length (text cs) ≤ room start → length last ≤ room now
+    pub last_fits : 22 + length (chunk_bytes cs) ≤ room start → length last ≤ room now
     last_fits enough = left_fits wrote room laws start now (file h cs) last w (omega (arith, length-file h cs))
 
     -- a beginning of it went

@@ -5,36 +5,36 @@ use Rattle.qoi.specs.declared.error.Error.{Error}
 use Rattle.qoi.specs.declared.error.Error.TheVariants.{OutputBufferTooSmall, UnexpectedBufferEnd, InvalidPadding, IoError}
 use Rattle.qoi.specs.declared.header.Header.{Header}
 use Rattle.qoi.specs.declared.chunk.Chunk.{Chunk}
-use Rattle.qoi.specs.Qoi.{header_size, run_max, AreChunks, text, Reaches, meaning, IsFile, end_marker, file, file_pixels, channels_number, head, header_of, pixel_count, IsValid}
+use Rattle.qoi.specs.Qoi.{header_size, run_max, AreChunks, chunk_bytes, Reaches, meaning, IsFile, end_marker, file, file_pixels, channels_number, head, header_of, pixel_count, IsValid}
 use Rattle.qoi.specs.Raw.{output}
-use Rattle.qoi.specs.Verdicts.{IsPartOfChunk, Takes, IsWhole, IsCut, IsWrong}
+use Rattle.qoi.specs.Verdicts.{IsPartOfChunk, HasChunks, IsWhole, IsCut, IsWrong}
 
 -- the bytes end within a chunk before n pixels are reached
 abbrev pub EndsInChunk : ℕ → List ℕ → Type 0
-EndsInChunk n bytes = (cs : List Chunk) × (part : List ℕ) × Takes n bytes cs part × (length (meaning cs) < n) × IsPartOfChunk part
+EndsInChunk n bytes = (cs : List Chunk) × (part : List ℕ) × HasChunks n bytes cs part × (length (meaning cs) < n) × IsPartOfChunk part
 
 -- chunks that reach n pixels stand before the rest, and these are their first n pixels' bytes
-pub record ReadsPixels (file channels n : ℕ) (bytes rest out : List ℕ) : Type 0 where
+pub record ReadsPixels (file_channels channels n : ℕ) (bytes rest out : List ℕ) : Type 0 where
   pub cs : List Chunk
-  pub takes : Takes n bytes cs rest
+  pub has : HasChunks n bytes cs rest
   pub reaches : Reaches n cs
-  pub out_is : out ≡ output file channels (take n (meaning cs))
+  pub out_is : out ≡ output file_channels channels (take n (meaning cs))
 
 -- chunks that reach n pixels were taken, and these are their first n pixels' bytes
-pub record StreamsPixels (file channels n : ℕ) (old new : Option (List ℕ)) (out : List ℕ) : Type 0 where
+pub record StreamsPixels (file_channels channels n : ℕ) (old new : Option (List ℕ)) (out : List ℕ) : Type 0 where
   pub cs : List Chunk
   pub chunks : AreChunks cs
   pub reaches : Reaches n cs
-  pub taken : Consumes old new (text cs)
-  pub out_is : out ≡ output file channels (take n (meaning cs))
+  pub taken : Consumes old new (chunk_bytes cs)
+  pub out_is : out ≡ output file_channels channels (take n (meaning cs))
 
 -- Chunks that reach n pixels and the end marker were taken, and these are their first n pixels' bytes.
-pub record ReadsImage (file channels n : ℕ) (old new : Option (List ℕ)) (out : List ℕ) : Type 0 where
+pub record ReadsImage (file_channels channels n : ℕ) (old new : Option (List ℕ)) (out : List ℕ) : Type 0 where
   pub cs : List Chunk
   pub chunks : AreChunks cs
   pub reaches : Reaches n cs
-  pub taken : Consumes old new (text cs ++ end_marker)
-  pub out_is : out ≡ output file channels (take n (meaning cs))
+  pub taken : Consumes old new (chunk_bytes cs ++ end_marker)
+  pub out_is : out ≡ output file_channels channels (take n (meaning cs))
 
 -- why the bytes after the chunks are refused: fewer than eight, or eight other than the end marker
 abbrev pub RefusesMarker : List ℕ → Error → Type 0
@@ -100,6 +100,14 @@ ReadsHeader in_memory old new (Ok h) = (taken : List ℕ) × Consumes old new ta
     × (taken ≡ head h) × IsValid h
 ReadsHeader true old new (Err e) = Keeps old new × IfSome old (λ bytes. header_of bytes ≡ Err e)
 ReadsHeader false old new (Err e) = (taken : List ℕ) × Consumes old new taken × RefusesHeader taken e
+
+-- the fourteen bytes of a valid header were taken from a stream
+abbrev pub TakesHeader : Option (List ℕ) → Option (List ℕ) → Header → Type 0
+TakesHeader old new h = ReadsHeader false old new (Ok h)
+
+-- why a stream's header is refused, whatever was taken
+abbrev pub RefusesStreamHeader : Option (List ℕ) → Error → Type 0
+RefusesStreamHeader old e = (new : Option (List ℕ)) × ReadsHeader false old new (Err e)
 
 -- how many bytes an image has in this many channels
 abbrev pub byte_count : Header → ℕ → ℕ

@@ -12,7 +12,7 @@ use Rattle.qoi.specs.declared.types.Style.TheVariants.{Reference, Places, Tight}
 use Rattle.qoi.specs.declared.header.Header.{Header}
 use Rattle.qoi.specs.declared.chunk.Chunk.{Chunk}
 use Rattle.qoi.specs.declared.chunk.Chunk.TheVariants.{Place}
-use Rattle.qoi.specs.Qoi.{channels_number, channels_of, colorspace_number, pixel_count, tried_header, IsValid, RgbaPixel, blank, start, AreChunks, text, Reaches, meaning, file}
+use Rattle.qoi.specs.Qoi.{channels_number, channels_of, colorspace_number, pixel_count, tried_header, IsValid, RgbaPixel, blank, start, AreChunks, chunk_bytes, Reaches, meaning, file}
 use Rattle.qoi.specs.Raw.{pixels_of}
 use Rattle.qoi.specs.Written.{Written}
 use Rattle.qoi.specs.Styles.{WrittenIn}
@@ -87,7 +87,7 @@ OpensBlack image = (rest : List RgbaPixel) × (image ≡ start ∷ rest)
 -- How short the file is. No regular chunk list of the image has fewer bytes than the floor; the file's list
 -- has at most the floor's bytes and the slack's. Where no pixel is transparent black, each list is regular.
 pub record IsNearShortest (h : Header) (raw bytes : List ℕ) : Type 0 where
-  pub floor_is_below : (others : List Chunk) → Spans h raw others → Regular others → floor (image_pixels h raw) ≤ length (text others)
+  pub floor_is_below : (others : List Chunk) → Spans h raw others → Regular others → floor (image_pixels h raw) ≤ length (chunk_bytes others)
   pub near_floor : length bytes ≤ 22 + floor (image_pixels h raw) + slack (image_pixels h raw) (channels_number h.channels)
   pub near_others : (others : List Chunk) → Spans h raw others → Regular others
       → length bytes ≤ length (file h others) + slack (image_pixels h raw) (channels_number h.channels)

@@ -206,8 +206,8 @@ bytes_of (Rgb r g b) = 254 ∷ r ∷ g ∷ b ∷ []
 bytes_of (Rgba r g b a) = 255 ∷ r ∷ g ∷ b ∷ a ∷ []
 
 -- the chunks' bytes, one after the other
-abbrev pub text : List Chunk → List ℕ
-text cs = flat_map bytes_of cs
+abbrev pub chunk_bytes : List Chunk → List ℕ
+chunk_bytes cs = flat_map bytes_of cs
 
 -- a pixel with numbers added to red, green and blue; sums wrap at 256, and alpha stays
 abbrev pub moved : RgbaPixel → ℕ → ℕ → ℕ → RgbaPixel
@@ -279,7 +279,7 @@ end_marker = 0 ∷ 0 ∷ 0 ∷ 0 ∷ 0 ∷ 0 ∷ 0 ∷ 1 ∷ []
 
 -- header, chunks and end marker
 abbrev pub file : Header → List Chunk → List ℕ
-file h cs = head h ++ (text cs ++ end_marker)
+file h cs = head h ++ (chunk_bytes cs ++ end_marker)
 
 -- a valid header, and chunks that reach its number of pixels
 pub record IsFile (h : Header) (cs : List Chunk) : Type 0 where

@@ -9,18 +9,18 @@ IsChannels n = (n ≡ 3) ⊎ (n ≡ 4)
 
 -- the channels of an output and those of a file are both 3 or 4
 abbrev pub AreChannels : ℕ → ℕ → Type 0
-AreChannels channels file = IsChannels channels × IsChannels file
+AreChannels channels file_channels = IsChannels channels × IsChannels file_channels
 
--- A pixel in this many channels, of a file with `file` channels: red, green, blue and, where there are four,
+-- A pixel in this many channels, of a file with `file_channels` channels: red, green, blue and, where there are four,
 -- alpha, which is 255 if the file has three.
 abbrev pub pixel_bytes : ℕ → ℕ → RgbaPixel → List ℕ
-pixel_bytes file channels p =
+pixel_bytes file_channels channels p =
     if channels == 3 then p.r ∷ p.g ∷ p.b ∷ []
-    else p.r ∷ p.g ∷ p.b ∷ (if file == 4 then p.a else 255) ∷ []
+    else p.r ∷ p.g ∷ p.b ∷ (if file_channels == 4 then p.a else 255) ∷ []
 
 -- the pixels' bytes, one after the other
 abbrev pub output : ℕ → ℕ → List RgbaPixel → List ℕ
-output file channels pixels = flat_map (pixel_bytes file channels) pixels
+output file_channels channels pixels = flat_map (pixel_bytes file_channels channels) pixels
 
 -- the bytes without each fourth
 abbrev pub without_fourth : List ℕ → List ℕ

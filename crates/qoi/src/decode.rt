@@ -1,11 +1,11 @@
 //! Decoding, from slices and from streams.
-ghost use Rattle.std.specs.Prelude.{◌≡◌, ℕ, ◌*◌, ◌<◌, ◌≤◌, List, [], ◌++◌, length, take, drop, Option, Some, MatchResult, ◌+◌, IfOk, IfErr, IfSome, OnOk, IsOk, IsOkAnd, IsErrAnd, IsErrOf, IsOkUnless, slice_index, ◌⊎◌, true, false, Ok, Err};
+ghost use Rattle.std.specs.Prelude.{◌≡◌, ℕ, ◌*◌, ◌<◌, ◌≤◌, List, [], ◌++◌, length, take, drop, Option, Some, MatchResult, ◌+◌, IfOk, IfErr, IfSome, OnOk, IsOk, IsTrue, IsOkAnd, IsErrAnd, IsErrOf, IsOkUnless, slice_index, ◌⊎◌, Ok, Err};
 ghost use Rattle.qoi.specs.declared.chunk.Chunk.{Chunk};
 ghost use Rattle.qoi.specs.declared.header.Header.{Header};
 ghost use Rattle.qoi.specs.declared.error.Error.{Error};
 ghost use Rattle.qoi.specs.Qoi.{header_of, pixel_count, raw_byte_count, IsFile, file, header_size};
 ghost use Rattle.qoi.specs.Verdicts.{IsWhole};
-ghost use Rattle.qoi.specs.Decoding.{AreWrong, CouldHold, HasCut, least_byte_count, ReadsHeader, RefusesFile, RefusesWholeFile, DecodesFile, file_byte_count, HasImageLength};
+ghost use Rattle.qoi.specs.Decoding.{AreWrong, CouldHold, HasCut, least_byte_count, RefusesFile, RefusesStreamHeader, TakesHeader, RefusesWholeFile, DecodesFile, file_byte_count, HasImageLength};
 ghost use Rattle.qoi.specs.declared.types.Style.{Style};
 ghost use Rattle.qoi.specs.Encoded.{IsFileOf};
 ghost use Rattle.qoi.specs.DecoderState.{image_byte_count, DecodesImage, RefusesDecoding, TakesWithin};
@@ -204,8 +204,8 @@ impl<R: Read + Drop> Decoder<R> {
     /// A decoder asks its reader for a chunk's few bytes at a time, and never for one past the end
     /// marker: wrap a file or a socket in a `BufReader`.
     pub fn from_stream(mut reader: R) -> Result<Decoder<R>>
-        ensures accepted { IfOk result (λ d. ReadsHeader false (R.remaining reader)
-            (R.remaining d.reader) (Ok d.header)
+        ensures accepted { IfOk result (λ d. TakesHeader (R.remaining reader)
+            (R.remaining d.reader) d.header
             × (d.channels ≡ d.header.channels)) }
         // Where the bytes are known that stand ahead of the reader, the header is theirs, and the
         // decoder stands behind it.
@@ -228,8 +228,7 @@ impl<R: Read + Drop> Decoder<R> {
             × IsImageFor d (drop header_size (bytes ++ rest)) raw rest) }
         ensures made { (bytes : List ℕ) → R.remaining reader ≡ Some bytes
             → IfOk result (λ d. IsDecoderOf d bytes (drop header_size bytes)) }
-        ensures refused { IfErr result (λ e. (left : Option (List ℕ))
-            × ReadsHeader false (R.remaining reader) left (Err e)) }
+        ensures refused { IfErr result (RefusesStreamHeader (R.remaining reader)) }
     {
         let header = reader.decode_header()?;
         let channels = header.channels;
@@ -333,7 +332,7 @@ impl<R: Reader> Decoder<R> {
         ensures refused { image_byte_count self.old ≤ length buf.old
             → IfErr result (RefusesDecoding R.in_memory R.ahead self.old self.new) }
         // From memory, bytes whose verdict is whole are accepted.
-        ensures accepts { R.in_memory ≡ true → (bytes rest : List ℕ) (cs : List Chunk)
+        ensures accepts { IsTrue R.in_memory → (bytes rest : List ℕ) (cs : List Chunk)
             → R.ahead self.old.reader ≡ Some bytes
             → IsWhole (pixel_count self.old.header) bytes cs rest
             → image_byte_count self.old ≤ length buf.old → IsOk result }
@@ -390,7 +389,7 @@ impl<R: Reader> Decoder<R> {
             → AreWrong (pixel_count self.old.header) bytes }
         ensures later { drop (image_byte_count self.old) buf.new
             ≡ drop (image_byte_count self.old) buf.old }
-        ensures kept { self.new ≡ record self.old { reader = self.new.reader } }
+        ensures unchanged { self.new ≡ record self.old { reader = self.new.reader } }
         // Of n pixels a call takes at most 5n + 8 bytes, also where it refuses.
         ensures bounded { TakesWithin R.ahead self.old self.new }
     {
@@ -402,9 +401,9 @@ impl<R: Reader> Decoder<R> {
             });
         }
         let channels = self.channels.as_u8();
-        let src_channels = self.header.channels.as_u8();
+        let file_channels = self.header.channels.as_u8();
         self.reader
-            .decode_image(&mut buf[..size], channels, src_channels)?;
+            .decode_image(&mut buf[..size], channels, file_channels)?;
         Ok(size)
     }
 
@@ -427,7 +426,7 @@ impl<R: Reader> Decoder<R> {
         ensures held { IfOk result (λ out.
             CouldHold R.in_memory (pixel_count self.old.header) (R.ahead self.old.reader)) }
         // From memory, bytes whose verdict is whole are accepted, unless memory runs out.
-        ensures accepts { R.in_memory ≡ true → (bytes rest : List ℕ) (cs : List Chunk)
+        ensures accepts { IsTrue R.in_memory → (bytes rest : List ℕ) (cs : List Chunk)
             → R.ahead self.old.reader ≡ Some bytes
             → IsWhole (pixel_count self.old.header) bytes cs rest
             → IsOkUnless result Error.OutOfMemory }
@@ -480,7 +479,7 @@ impl<R: Reader> Decoder<R> {
         ensures only_wrong { (bytes : List ℕ) → R.ahead self.old.reader ≡ Some bytes
             → IsErrOf result Error.InvalidPadding
             → AreWrong (pixel_count self.old.header) bytes }
-        ensures kept { self.new ≡ record self.old { reader = self.new.reader } }
+        ensures unchanged { self.new ≡ record self.old { reader = self.new.reader } }
         // Of n pixels a call takes at most 5n + 8 bytes, also where it refuses.
         ensures bounded { TakesWithin R.ahead self.old self.new }
     {

@@ -34,7 +34,7 @@ fn encode_image<W: Writer>(buf: &mut W, style: Style, header: &Header, data: &[u
     ensures written { IfOk result (λ n. (bytes : List ℕ)
         × IsFileOf style header.now «data».now bytes
         × (n ≡ length bytes) × W.wrote buf.old bytes buf.new) }
-    ensures refused { IfErr result (λ e. W.Refuses e × (bytes : List ℕ)
+    ensures refused { IfErr result (λ e. W.IsFault e × (bytes : List ℕ)
         × IsFileOf style header.now «data».now bytes × WroteSome W.wrote buf.old bytes buf.new) }
 {
     let room = buf.capacity();

@@ -225,7 +225,7 @@ impl<const N: usize> Pixel<N> {
         requires room { N + 1 ≤ W.room buf.old }
         ensures written { OnOk result ((c : Chunk) × Spells self.now px_prev.entry c
             × W.wrote buf.old (bytes_of c) buf.new) }
-        ensures refused { IfErr result (λ e. W.Refuses e × (c : Chunk)
+        ensures refused { IfErr result (λ e. W.IsFault e × (c : Chunk)
             × Spells self.now px_prev.entry c × WroteSome W.wrote buf.old (bytes_of c) buf.new) }
     {
         let quad = Quad::alone::<N>(self.packed(), px_prev.packed());

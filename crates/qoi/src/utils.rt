@@ -21,19 +21,19 @@ pub trait Writer: Sized {
     ghost room: { Self → ℕ };
 
     /// The errors that a call can return at all.
-    ghost Refuses: { Error → Type 0 };
+    ghost IsFault: { Error → Type 0 };
 
     /// Writes one byte; a refusal leaves it unwritten.
     fn write_one(&mut self, v: u8) -> Result<()>
         requires { 0 < room self.old }
         ensures written { OnOk result (wrote self.old (v ∷ []) self.new) }
-        ensures refused { IfErr result (λ e. Refuses e × wrote self.old [] self.new) };
+        ensures refused { IfErr result (λ e. IsFault e × wrote self.old [] self.new) };
 
     /// Writes all the bytes; after a refusal a beginning of them is written.
     fn write_many(&mut self, v: &[u8]) -> Result<()>
         requires { length v.now ≤ room self.old }
         ensures written { OnOk result (wrote self.old v.now self.new) }
-        ensures refused { IfErr result (λ e. Refuses e × WroteSome wrote self.old v.now self.new) };
+        ensures refused { IfErr result (λ e. IsFault e × WroteSome wrote self.old v.now self.new) };
 
     /// How many bytes can still be written.
     fn capacity(&self) -> usize
@@ -101,7 +101,7 @@ impl<'a> Writer for BytesMut<'a> {
 
     ghost room = { λ s. length (bytes_left s) };
 
-    ghost Refuses = { λ _. ⊥ };
+    ghost IsFault = { λ _. ⊥ };
 
     ghost laws = { buffer_laws };
 
@@ -153,7 +153,7 @@ impl<'a, W: Write> Writer for GenericWriter<'a, W> {
 
     ghost room = { stream_room };
 
-    ghost Refuses = { IsIoError };
+    ghost IsFault = { IsIoError };
 
     ghost laws = { stream_laws W.contents };
 

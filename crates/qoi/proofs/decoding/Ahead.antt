@@ -11,7 +11,7 @@ use Rattle.qoi.specs.declared.types.Style.{Style}
 use Rattle.qoi.specs.Qoi.{channels_number, head, header_of, header_size, IsValid, pixel_count, meaning}
 use Rattle.qoi.specs.Raw.{output, without_fourth}
 use Rattle.qoi.specs.Verdicts.{IsWhole}
-use Rattle.qoi.specs.Decoding.{AreWrong, DecodesFile, HasCut, ReadsHeader, ReadsImage, RefusesImage}
+use Rattle.qoi.specs.Decoding.{AreWrong, DecodesFile, HasCut, ReadsImage, RefusesImage, TakesHeader}
 use Rattle.qoi.specs.DecoderState.{DecoderState}
 use Rattle.qoi.specs.Encoded.{IsFileOf}
 use Rattle.qoi.specs.Reading.{AreThere, HasImage, IsDecoderOf, IsFault, IsImage, IsImageFor}
@@ -38,18 +38,18 @@ pub file_ahead : (style : Style) (h : Header) (raw bytes rest all : List ℕ) �
 file_ahead style h raw bytes rest all f split = subst (λ (z : List ℕ). DecodesFile z h rest raw) (sym split) (f.is_file.comes_back rest)
 
 -- a header that was read from a stream of known bytes is theirs, and what follows it is left
-pub header_read : (bytes : List ℕ) (left : Option (List ℕ)) (h : Header) → ReadsHeader false (Some bytes) left (Ok h)
+pub header_read : (bytes : List ℕ) (left : Option (List ℕ)) (h : Header) → TakesHeader (Some bytes) left h
     → (header_of bytes ≡ Ok h) × (left ≡ Some (drop header_size bytes))
 header_read bytes None h r = absurd r.1
 header_read bytes (Some rest) h r = let split = header_split bytes r.0 rest h r.1 r.2 r.3 in (split.0, ap Some split.1)
 
 -- the same where that the bytes are known is an equation
-pub header_read_from : (old left : Option (List ℕ)) (bytes : List ℕ) (h : Header) → ReadsHeader false old left (Ok h) → old ≡ Some bytes
+pub header_read_from : (old left : Option (List ℕ)) (bytes : List ℕ) (h : Header) → TakesHeader old left h → old ≡ Some bytes
     → (header_of bytes ≡ Ok h) × (left ≡ Some (drop header_size bytes))
-header_read_from old left bytes h r told = header_read bytes left h (subst (λ z. ReadsHeader false z left (Ok h)) told r)
+header_read_from old left bytes h r told = header_read bytes left h (subst (λ z. TakesHeader z left h) told r)
 
 -- and the header's bytes stand at their front
-pub header_front : (old left : Option (List ℕ)) (bytes : List ℕ) (h : Header) → ReadsHeader false old left (Ok h) → old ≡ Some bytes
+pub header_front : (old left : Option (List ℕ)) (bytes : List ℕ) (h : Header) → TakesHeader old left h → old ≡ Some bytes
     → (bytes ≡ head h ++ drop header_size bytes) × IsValid h
 header_front old None bytes h r told = absurd (subst (λ z. Consumes z None r.0) told r.1)
 header_front old (Some rest) bytes h r told =
@@ -144,8 +144,8 @@ file_from_image next d bytes ahead left out (split, valid, own) told reads =
       rest,
       is_left,
       decodes_file h cs bytes rest out
-          (record { valid = valid; chunks = w.takes.chunks; reaches = record { short = w.takes.short; enough = w.enough } })
-          (split ∙ ap (λ l. head h ++ l) w.takes.split ∙ sym (file_parts h cs rest)) (image.out_is ∙ ap P own),
+          (record { valid = valid; chunks = w.has.chunks; reaches = record { short = w.has.short; enough = w.enough } })
+          (split ∙ ap (λ l. head h ++ l) w.has.split ∙ sym (file_parts h cs rest)) (image.out_is ∙ ap P own),
     )
 
 -- a decoder whose header's bytes stand before what is ahead

@@ -3,8 +3,8 @@ use Rattle.std.proofs.Common.{◌≡◌, ℕ, ◌+◌, ◌*◌, ◌<◌, ◌≤�
 use Rattle.std.proofs.lemmas.List.{length-replicate}
 use Rattle.qoi.specs.declared.chunk.Chunk.{Chunk}
 use Rattle.qoi.specs.declared.chunk.Chunk.TheVariants.{Place, Diff, Luma, Run, Rgb, Rgba}
-use Rattle.qoi.specs.Qoi.{Past, AreBytes, IsChunk, AreChunks, bytes_of, text, times, pixel_of, then_chunk, then_chunks, meaning, end_marker}
-use Rattle.qoi.specs.Verdicts.{Takes, IsWhole}
+use Rattle.qoi.specs.Qoi.{Past, AreBytes, IsChunk, AreChunks, bytes_of, chunk_bytes, times, pixel_of, then_chunk, then_chunks, meaning, end_marker}
+use Rattle.qoi.specs.Verdicts.{HasChunks, IsWhole}
 use Rattle.qoi.specs.Decoding.{HasCut, least_byte_count}
 use Rattle.qoi.proofs.format.Appended.{length-bytes_of, length-meaning}
 use Rattle.qoi.proofs.format.SomeVerdict.{verdict_of}
@@ -19,7 +19,7 @@ times_most (Rgb r g b) is = omega arith
 times_most (Rgba r g b a) is = omega arith
 
 -- chunks give 62 pixels at most for each of their bytes
-pixels_most : (past : Past) (cs : List Chunk) → AreChunks cs → length (then_chunks past cs) ≤ length past + 62 * length (text cs)
+pixels_most : (past : Past) (cs : List Chunk) → AreChunks cs → length (then_chunks past cs) ≤ length past + 62 * length (chunk_bytes cs)
 pixels_most past [] chunks = omega arith
 pixels_most past (c ∷ cs) chunks =
     let more = pixels_most (then_chunk past c) cs chunks.1 in
@@ -30,21 +30,21 @@ pixels_most past (c ∷ cs) chunks =
       more,
       most,
       some,
-      length-append (bytes_of c) (text cs),
+      length-append (bytes_of c) (chunk_bytes cs),
       length-append (replicate (times c) (pixel_of past c)) past,
       length-replicate (times c) (pixel_of past c),
     )
 
 -- where chunks reach n pixels and eight bytes follow, there are as many bytes as n pixels need
-enough_bytes : (n : ℕ) (bytes : List ℕ) (cs : List Chunk) (eight rest : List ℕ) → Takes n bytes cs (eight ++ rest) → n ≤ length (meaning cs)
+enough_bytes : (n : ℕ) (bytes : List ℕ) (cs : List Chunk) (eight rest : List ℕ) → HasChunks n bytes cs (eight ++ rest) → n ≤ length (meaning cs)
     → length eight ≡ 8 → least_byte_count n ≤ length bytes
 enough_bytes n bytes cs eight rest takes enough is =
     let most = pixels_most [] cs takes.chunks in
-    omega (arith, most, enough, is, length-meaning cs, ap length takes.split, length-append (text cs) (eight ++ rest), length-append eight rest)
+    omega (arith, most, enough, is, length-meaning cs, ap length takes.split, length-append (chunk_bytes cs) (eight ++ rest), length-append eight rest)
 
 -- whole bytes are enough
 pub whole_holds : (n : ℕ) (bytes : List ℕ) (cs : List Chunk) (rest : List ℕ) → IsWhole n bytes cs rest → least_byte_count n ≤ length bytes
-whole_holds n bytes cs rest whole = enough_bytes n bytes cs end_marker rest whole.takes whole.enough refl
+whole_holds n bytes cs rest whole = enough_bytes n bytes cs end_marker rest whole.has whole.enough refl
 
 -- bytes that are too few are cut, whatever they are
 pub few_are_cut : (n : ℕ) (bytes : List ℕ) → AreBytes bytes → length bytes < least_byte_count n → HasCut n bytes
@@ -53,7 +53,7 @@ few_are_cut n bytes fits few =
       | inl whole ↦ let (cs, rest, is) = whole in let enough = whole_holds n bytes cs rest is in absurd (omega (arith, few, enough))
       | inr other ↦ elim other [
         | inl cut ↦ cut
-        | inr wrong ↦ let (cs, eight, rest, is) = wrong in let enough = enough_bytes n bytes cs eight rest is.takes is.enough is.length_is in
+        | inr wrong ↦ let (cs, eight, rest, is) = wrong in let enough = enough_bytes n bytes cs eight rest is.has is.enough is.length_is in
             absurd (omega (arith, few, enough))
       ]
     ]

@@ -2,7 +2,7 @@
 use Rattle.std.proofs.Common.{◌≡◌, ℕ, List, ◌++◌, drop, Some, refl, ap, sym, ◌∙◌, subst, Ok, append_assoc}
 use Rattle.qoi.specs.declared.header.Header.{Header}
 use Rattle.qoi.specs.declared.chunk.Chunk.{Chunk}
-use Rattle.qoi.specs.Qoi.{AreBytes, text, channels_number, head, pixel_count, header_of, IsFile, file, file_pixels, end_marker, header_size}
+use Rattle.qoi.specs.Qoi.{AreBytes, chunk_bytes, channels_number, head, pixel_count, header_of, IsFile, file, file_pixels, end_marker, header_size}
 use Rattle.qoi.specs.Raw.{output}
 use Rattle.qoi.specs.Verdicts.{IsWhole}
 use Rattle.qoi.specs.Decoding.{DecodesFile, ReadsImage}
@@ -11,20 +11,20 @@ use Rattle.qoi.proofs.format.OneVerdict.{whole_is_one}
 use Rattle.qoi.proofs.format.HeaderBytes.{header_of-head, head_from_header_of}
 
 -- a file and more bytes are header, chunks, end marker and those bytes
-pub file_parts : (h : Header) (cs : List Chunk) (rest : List ℕ) → file h cs ++ rest ≡ head h ++ (text cs ++ (end_marker ++ rest))
+pub file_parts : (h : Header) (cs : List Chunk) (rest : List ℕ) → file h cs ++ rest ≡ head h ++ (chunk_bytes cs ++ (end_marker ++ rest))
 file_parts h cs rest =
-    append_assoc (head h) (text cs ++ end_marker) rest ∙ ap (λ l. head h ++ l) (append_assoc (text cs) end_marker rest)
+    append_assoc (head h) (chunk_bytes cs ++ end_marker) rest ∙ ap (λ l. head h ++ l) (append_assoc (chunk_bytes cs) end_marker rest)
 
 -- the header of a file is read
 pub file_has_header : (h : Header) (cs : List Chunk) (bytes rest : List ℕ) → IsFile h cs → bytes ≡ file h cs ++ rest → header_of bytes ≡ Ok h
 file_has_header h cs bytes rest f e =
-    ap header_of (e ∙ file_parts h cs rest) ∙ header_of-head h (text cs ++ (end_marker ++ rest)) f.valid
+    ap header_of (e ∙ file_parts h cs rest) ∙ header_of-head h (chunk_bytes cs ++ (end_marker ++ rest)) f.valid
 
 -- what follows the header of a file is whole
 pub file_is_whole : (h : Header) (cs : List Chunk) (bytes rest : List ℕ) → IsFile h cs → bytes ≡ file h cs ++ rest
     → IsWhole (pixel_count h) (drop 14 bytes) cs rest
 file_is_whole h cs bytes rest f e = record {
-  takes = record { chunks = f.chunks; short = f.reaches.short; split = ap (λ l. drop 14 l) (e ∙ file_parts h cs rest) };
+  has = record { chunks = f.chunks; short = f.reaches.short; split = ap (λ l. drop 14 l) (e ∙ file_parts h cs rest) };
   enough = f.reaches.enough;
 }
 
@@ -33,8 +33,8 @@ pub file_from_whole : (h : Header) (cs : List Chunk) (bytes rest : List ℕ) →
     → IsWhole (pixel_count h) (drop 14 bytes) cs rest → IsFile h cs × (bytes ≡ file h cs ++ rest)
 file_from_whole h cs bytes rest fits e w =
     let front = head_from_header_of bytes h fits e in (
-      record { valid = front.1; chunks = w.takes.chunks; reaches = record { short = w.takes.short; enough = w.enough } },
-      front.0 ∙ ap (λ l. head h ++ l) w.takes.split ∙ sym (file_parts h cs rest),
+      record { valid = front.1; chunks = w.has.chunks; reaches = record { short = w.has.short; enough = w.enough } },
+      front.0 ∙ ap (λ l. head h ++ l) w.has.split ∙ sym (file_parts h cs rest),
     )
 
 -- a header is read in one way
@@ -72,9 +72,9 @@ pub decodes_read : (h : Header) (bytes rest out : List ℕ) → AreBytes bytes �
     → ReadsImage (channels_number h.channels) (channels_number h.channels) (pixel_count h) (Some (drop header_size bytes)) (Some rest) out
     → DecodesFile bytes h rest out
 decodes_read h bytes rest out fits read r =
-    let taken : drop header_size bytes ≡ text r.cs ++ (end_marker ++ rest) = r.taken ∙ append_assoc (text r.cs) end_marker rest in
+    let taken : drop header_size bytes ≡ chunk_bytes r.cs ++ (end_marker ++ rest) = r.taken ∙ append_assoc (chunk_bytes r.cs) end_marker rest in
     let whole : IsWhole (pixel_count h) (drop header_size bytes) r.cs rest = record {
-      takes = record { chunks = r.chunks; short = r.reaches.short; split = taken };
+      has = record { chunks = r.chunks; short = r.reaches.short; split = taken };
       enough = r.reaches.enough;
     } in
     let front = file_from_whole h r.cs bytes rest fits read whole in

@@ -1,7 +1,7 @@
 -- A decoder between two chunks: what it has taken, filled and seen.
 use Rattle.std.proofs.Common.{◌≡◌, ℕ, suc, ◌*◌, ◌/◌, ◌%◌, ◌<◌, ◌≤◌, inl, inr, List, [], ◌∷◌, ◌++◌, length, take, replicate, min, Option, arith, refl, sym, ap, ◌∙◌, subst, append_assoc, length-append}
 use Rattle.qoi.specs.declared.chunk.Chunk.{Chunk}
-use Rattle.qoi.specs.Qoi.{RgbaPixel, Past, AreBytes, start, AreChunks, bytes_of, text, pixel_of, times, then_chunk, then_chunks, meaning, StayBelow, Reaches}
+use Rattle.qoi.specs.Qoi.{RgbaPixel, Past, AreBytes, start, AreChunks, bytes_of, chunk_bytes, pixel_of, times, then_chunk, then_chunks, meaning, StayBelow, Reaches}
 use Rattle.std.specs.Io.KnownBytes.{Consumes}
 use Rattle.std.proofs.KnownBytes.{Consumes-trans}
 use Rattle.qoi.specs.Raw.{IsChannels, output}
@@ -12,7 +12,7 @@ use Rattle.qoi.specs.Decoding.{EndsInChunk, HasCut, ReadsPixels, StreamsPixels}
 use Rattle.qoi.proofs.format.ChunkSteps.{times_some, then_chunks-append, each_append}
 use Rattle.std.proofs.lemmas.Grind.{flat_map-append}
 use Rattle.qoi.proofs.format.SomeVerdict.{reading_of}
-use Rattle.qoi.proofs.format.Appended.{are_chunks_append, text-last, length-meaning}
+use Rattle.qoi.proofs.format.Appended.{are_chunks_append, chunk_bytes-last, length-meaning}
 use Rattle.qoi.proofs.decoding.FilledBuffer.{counts, filled_all, whole_pixels}
 use Rattle.qoi.proofs.decoding.SeenTable.{previous_copies}
 
@@ -21,7 +21,7 @@ pub record SoFar (f c n : ℕ) (Taken : List ℕ → Type 0) (now : Filling) : T
   pub cs : List Chunk
   pub chunks : AreChunks cs
   pub short : StayBelow n cs
-  pub taken : Taken (text cs)
+  pub taken : Taken (chunk_bytes cs)
   pub filled : HasFilled f c n now.out now.at (then_chunks [] cs)
   pub seen : HasSeen now (then_chunks [] cs)
   pub within : now.at ≤ length now.out
@@ -70,7 +70,7 @@ goes_on {f} {c} {n} {Taken} {Taken'} {old} {new} {bytes} is s inside g takes wit
       cs = s.cs ++ chunk ∷ [];
       chunks = are_chunks_append s.cs (chunk ∷ []) s.chunks (g.is_chunk, tt);
       short = each_append (λ past c. length past < n) [] s.cs (chunk ∷ []) s.short (fewer is s.filled inside, tt);
-      taken = subst Taken' (ap (λ z. text s.cs ++ z) g.bytes_are ∙ sym (text-last s.cs chunk)) (takes (text s.cs) s.taken);
+      taken = subst Taken' (ap (λ z. chunk_bytes s.cs ++ z) g.bytes_are ∙ sym (chunk_bytes-last s.cs chunk)) (takes (chunk_bytes s.cs) s.taken);
       filled = rw pushed filled;
       seen = rw pushed seen;
       within = within;
@@ -97,7 +97,7 @@ pub reads_pixels : {f c n : ℕ} {bytes rest : List ℕ} {now : Filling} → IsC
     → ReadsPixels f c n bytes rest now.out
 reads_pixels is s full =
     let all = reads_all is s full in
-    record { cs = s.cs; takes = record { chunks = s.chunks; short = s.short; split = s.taken }; reaches = all.0; out_is = all.1 }
+    record { cs = s.cs; has = record { chunks = s.chunks; short = s.short; split = s.taken }; reaches = all.0; out_is = all.1 }
 
 -- where there is room and fewer bytes are left than an end marker has, the bytes are cut
 pub few_left : {f c n : ℕ} {bytes rest : List ℕ} {now : Filling} → IsChannels c → SoFar f c n (SplitAt bytes rest) now → now.at < length now.out
@@ -106,14 +106,14 @@ few_left {f} {c} {n} {bytes} {rest} {now} is s inside fits few =
     let r = reading_of (suc (length rest)) n (then_chunks [] s.cs) rest (omega arith) fits in
     let all = s.cs ++ r.found in
     let pushed = then_chunks-append [] s.cs r.found in
-    let short : length r.rest ≤ length rest = omega (arith, ap length r.split, length-append (text r.found) r.rest) in (
+    let short : length r.rest ≤ length rest = omega (arith, ap length r.split, length-append (chunk_bytes r.found) r.rest) in (
       all,
       r.rest,
       record {
-        takes = record {
+        has = record {
           chunks = are_chunks_append s.cs r.found s.chunks r.chunks;
           short = each_append (λ past c. length past < n) [] s.cs r.found s.short r.short;
-          split = s.taken ∙ ap (λ z. text s.cs ++ z) r.split ∙ sym (append_assoc (text s.cs) (text r.found) r.rest)
+          split = s.taken ∙ ap (λ z. chunk_bytes s.cs ++ z) r.split ∙ sym (append_assoc (chunk_bytes s.cs) (chunk_bytes r.found) r.rest)
               ∙ ap (λ z. z ++ r.rest) (sym (flat_map-append bytes_of s.cs r.found));
         };
         ends = elim r.ends [
@@ -135,7 +135,7 @@ pub stream_ends : {f c n : ℕ} (old middle new : Option (List ℕ)) (part : Lis
     → now.at < length now.out → Consumes middle new part → IsPartOfChunk part
     → (taken : List ℕ) × Consumes old new taken × EndsInChunk n taken
 stream_ends old middle new part is s inside took is_part = (
-  text s.cs ++ part,
-  Consumes-trans old middle new (text s.cs) part s.taken took,
+  chunk_bytes s.cs ++ part,
+  Consumes-trans old middle new (chunk_bytes s.cs) part s.taken took,
   (s.cs, part, record { chunks = s.chunks; short = s.short; split = refl }, rw length-meaning (fewer is s.filled inside), is_part),
 )

@@ -13,7 +13,7 @@ use Rattle.qoi.specs.declared.chunk.Chunk.TheVariants.{Place, Diff, Run, Rgb, Rg
 use Rattle.qoi.specs.inner.Filling.{Filling, GivesChunk}
 use Rattle.qoi.proofs.format.ChunksApart.{chunks_apart}
 use Rattle.std.proofs.lemmas.Bool.{cases_lt}
-use Rattle.qoi.specs.Qoi.{AreBytes, IsChunk, AreChunks, bytes_of, text, Reaches}
+use Rattle.qoi.specs.Qoi.{AreBytes, IsChunk, AreChunks, bytes_of, chunk_bytes, Reaches}
 use Rattle.qoi.specs.Verdicts.{IsPartOfChunk}
 use Rattle.qoi.specs.Decoding.{EndsInChunk, StreamsPixels, HasCut, RefusesTaken, RefusesTakenMarker}
 use Rattle.qoi.proofs.format.PartOfChunk.{byte_and, part_luma, part_rgb, part_rgba}
@@ -92,21 +92,21 @@ rgba_ahead x _ zeros is size fits = absurd (omega arith)
 
 -- bytes that end within a chunk are cut
 pub cut_in_chunk : (n : ℕ) (taken : List ℕ) → EndsInChunk n taken → HasCut n taken
-cut_in_chunk n taken (cs, part, takes, short, is_part) = (cs, part, record { takes = takes; ends = inl (short, is_part) })
+cut_in_chunk n taken (cs, part, takes, short, is_part) = (cs, part, record { has = takes; ends = inl (short, is_part) })
 
 -- why an image is refused whose marker is refused
 refused_after : (n : ℕ) (cs : List Chunk) → AreChunks cs → Reaches n cs → (taken : List ℕ) (e : Error) → RefusesTakenMarker taken e
-    → RefusesTaken n (text cs ++ taken) e
+    → RefusesTaken n (chunk_bytes cs ++ taken) e
 refused_after n cs chunks reaches taken (IoError x) few = (
   cs,
   taken,
-  record { takes = record { chunks = chunks; short = reaches.short; split = refl }; ends = inr (reaches.enough, few) },
+  record { has = record { chunks = chunks; short = reaches.short; split = refl }; ends = inr (reaches.enough, few) },
 )
 refused_after n cs chunks reaches taken InvalidPadding (eight, other) = (
   cs,
   taken,
   record {
-    takes = record { chunks = chunks; short = reaches.short; split = ap (λ z. text cs ++ z) (sym (append-nil taken)) };
+    has = record { chunks = chunks; short = reaches.short; split = ap (λ z. chunk_bytes cs ++ z) (sym (append-nil taken)) };
     enough = reaches.enough;
     length_is = eight;
     other = other;
@@ -129,7 +129,7 @@ marker_refused f c n old now new out r s why =
     IfErr-weaker r (λ e. (taken : List ℕ) × Consumes now new taken × RefusesTakenMarker taken e)
     (λ e. (taken : List ℕ) × Consumes old new taken × RefusesTaken n taken e)
     (λ e (taken, took, refused). (
-      text s.cs ++ taken,
-      Consumes-trans old now new (text s.cs) taken s.taken took,
+      chunk_bytes s.cs ++ taken,
+      Consumes-trans old now new (chunk_bytes s.cs) taken s.taken took,
       refused_after n s.cs s.chunks s.reaches taken e refused,
     )) why

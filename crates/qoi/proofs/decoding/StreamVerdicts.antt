@@ -4,7 +4,7 @@ use Rattle.std.specs.Io.KnownBytes.{Consumes}
 use Rattle.qoi.specs.declared.error.Error.{Error}
 use Rattle.qoi.specs.declared.error.Error.TheVariants.{InvalidMagic, InvalidChannels, InvalidColorSpace, InvalidImageDimensions, InvalidImageLength, OutputBufferTooSmall, UnexpectedBufferEnd, InvalidPadding, IoError, OutOfMemory}
 use Rattle.qoi.specs.declared.chunk.Chunk.{Chunk}
-use Rattle.qoi.specs.Qoi.{RgbaPixel, text, meaning, end_marker}
+use Rattle.qoi.specs.Qoi.{RgbaPixel, chunk_bytes, meaning, end_marker}
 use Rattle.qoi.specs.Raw.{output, without_fourth}
 use Rattle.qoi.specs.Verdicts.{IsWhole, IsCut, IsWrong}
 use Rattle.qoi.specs.Decoding.{ReadsImage, RefusesImage, RefusesTaken, HasWrong}
@@ -19,7 +19,7 @@ read_is_whole f c n bytes (Some rest) out r = (
   r.cs,
   rest,
   record {
-    takes = record { chunks = r.chunks; short = r.reaches.short; split = r.taken ∙ append_assoc (text r.cs) end_marker rest };
+    has = record { chunks = r.chunks; short = r.reaches.short; split = r.taken ∙ append_assoc (chunk_bytes r.cs) end_marker rest };
     enough =
         r.reaches.enough;
   },
@@ -36,10 +36,10 @@ padding_is_wrong n bytes (Some rest) taken took (cs, eight, w) = (
   eight,
   rest,
   record {
-    takes = record {
-      chunks = w.takes.chunks;
-      short = w.takes.short;
-      split = took ∙ ap (λ z. z ++ rest) w.takes.split ∙ append_assoc (text cs) (eight ++ []) rest ∙ ap (λ z. text cs ++ (z ++ rest)) (append-nil eight);
+    has = record {
+      chunks = w.has.chunks;
+      short = w.has.short;
+      split = took ∙ ap (λ z. z ++ rest) w.has.split ∙ append_assoc (chunk_bytes cs) (eight ++ []) rest ∙ ap (λ z. chunk_bytes cs ++ (z ++ rest)) (append-nil eight);
     };
     enough = w.enough;
     length_is = w.length_is;

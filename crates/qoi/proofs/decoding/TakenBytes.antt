@@ -8,7 +8,7 @@ use Rattle.qoi.specs.Decoding.{HasCut, HasWrong, ReadsImage, RefusesImage}
 use Rattle.qoi.specs.DecoderState.{TakesAtMost}
 use Rattle.std.proofs.lemmas.List.{length-replicate}
 use Rattle.qoi.specs.declared.chunk.Chunk.{Chunk}
-use Rattle.qoi.specs.Qoi.{Past, AreChunks, bytes_of, text, times, pixel_of, then_chunk, Reaches, StayBelow, meaning, then_chunks, end_marker}
+use Rattle.qoi.specs.Qoi.{Past, AreChunks, bytes_of, chunk_bytes, times, pixel_of, then_chunk, Reaches, StayBelow, meaning, then_chunks, end_marker}
 use Rattle.qoi.proofs.format.Appended.{length-bytes_of, length-meaning}
 use Rattle.qoi.proofs.format.OneVerdict.{StayBelowAfter}
 use Rattle.qoi.proofs.format.ChunkSteps.{times_some}
@@ -18,38 +18,38 @@ pub length-then_chunk : (past : Past) (c : Chunk) → length (then_chunk past c)
 length-then_chunk past c = omega (arith, length-append (replicate (times c) (pixel_of past c)) past, length-replicate (times c) (pixel_of past c))
 
 -- each pixel takes five bytes at most
-bytes_within : (past : Past) (cs : List Chunk) → AreChunks cs → length (text cs) + 5 * length past ≤ 5 * length (then_chunks past cs)
+bytes_within : (past : Past) (cs : List Chunk) → AreChunks cs → length (chunk_bytes cs) + 5 * length past ≤ 5 * length (then_chunks past cs)
 bytes_within past [] h = omega arith
 bytes_within past (c ∷ cs) h =
     omega (
       arith,
       bytes_within (then_chunk past c) cs h.1,
-      length-append (bytes_of c) (text cs),
+      length-append (bytes_of c) (chunk_bytes cs),
       (length-bytes_of c).1,
       times_some c h.0,
       length-then_chunk past c,
     )
 
 -- the same for chunks that each stand after fewer than n pixels, whatever the last of them gives
-bytes_short : (n : ℕ) (past : Past) (cs : List Chunk) → AreChunks cs → length past ≤ n → StayBelowAfter n past cs → length (text cs) + 5 * length past ≤ 5 * n
+bytes_short : (n : ℕ) (past : Past) (cs : List Chunk) → AreChunks cs → length past ≤ n → StayBelowAfter n past cs → length (chunk_bytes cs) + 5 * length past ≤ 5 * n
 bytes_short n past [] h below short = omega arith
 bytes_short n past (c ∷ []) h below short = omega (arith, length-append (bytes_of c) [], (length-bytes_of c).1, short.0)
 bytes_short n past (c ∷ d ∷ cs) h below short =
     omega (
       arith,
       bytes_short n (then_chunk past c) (d ∷ cs) h.1 (omega (arith, short.1.0)) short.1,
-      length-append (bytes_of c) (text (d ∷ cs)),
+      length-append (bytes_of c) (chunk_bytes (d ∷ cs)),
       (length-bytes_of c).1,
       times_some c h.0,
       length-then_chunk past c,
     )
 
 -- chunks that reach n pixels have five bytes for each pixel, at most
-pub reached_within : (n : ℕ) (cs : List Chunk) → AreChunks cs → Reaches n cs → length (text cs) ≤ 5 * n
+pub reached_within : (n : ℕ) (cs : List Chunk) → AreChunks cs → Reaches n cs → length (chunk_bytes cs) ≤ 5 * n
 reached_within n cs h r = omega (arith, bytes_short n [] cs h (omega arith) r.short)
 
 -- chunks that stay below n pixels leave room for five bytes more
-pub below_within : (n : ℕ) (cs : List Chunk) → AreChunks cs → StayBelow n cs → length (meaning cs) < n → 5 + length (text cs) ≤ 5 * n
+pub below_within : (n : ℕ) (cs : List Chunk) → AreChunks cs → StayBelow n cs → length (meaning cs) < n → 5 + length (chunk_bytes cs) ≤ 5 * n
 below_within n cs h s below = omega (arith, bytes_within [] cs h, length-meaning cs)
 
 -- a part of a chunk has fewer bytes than five
@@ -62,17 +62,17 @@ cut_within n bytes (cs, part, cut) =
     elim cut.ends [
       | inl chunk ↦ omega (
         arith,
-        below_within n cs cut.takes.chunks cut.takes.short chunk.0,
+        below_within n cs cut.has.chunks cut.has.short chunk.0,
         part_within part chunk.1,
-        ap length cut.takes.split,
-        length-append (text cs) part,
+        ap length cut.has.split,
+        length-append (chunk_bytes cs) part,
       )
       | inr marker ↦ omega (
         arith,
-        reached_within n cs cut.takes.chunks (record { short = cut.takes.short; enough = marker.0 }),
+        reached_within n cs cut.has.chunks (record { short = cut.has.short; enough = marker.0 }),
         marker.1,
-        ap length cut.takes.split,
-        length-append (text cs) part,
+        ap length cut.has.split,
+        length-append (chunk_bytes cs) part,
       )
     ]
 
@@ -81,19 +81,19 @@ wrong_within : (n : ℕ) (bytes : List ℕ) → HasWrong n bytes [] → length b
 wrong_within n bytes (cs, eight, wrong) =
     omega (
       arith,
-      reached_within n cs wrong.takes.chunks (record { short = wrong.takes.short; enough = wrong.enough }),
+      reached_within n cs wrong.has.chunks (record { short = wrong.has.short; enough = wrong.enough }),
       wrong.length_is,
-      ap length wrong.takes.split,
-      length-append (text cs) (eight ++ []),
+      ap length wrong.has.split,
+      length-append (chunk_bytes cs) (eight ++ []),
       length-append eight [],
     )
 
 -- a decoded image is
 pub read_within : (f c n : ℕ) (old new : Option (List ℕ)) (out : List ℕ) → ReadsImage f c n old new out → TakesAtMost (5 * n + 8) old new
 read_within f c n old new out r = (
-  text r.cs ++ end_marker,
+  chunk_bytes r.cs ++ end_marker,
   r.taken,
-  omega (arith, reached_within n r.cs r.chunks r.reaches, length-append (text r.cs) end_marker),
+  omega (arith, reached_within n r.cs r.chunks r.reaches, length-append (chunk_bytes r.cs) end_marker),
 )
 
 -- bytes that are kept have lost none

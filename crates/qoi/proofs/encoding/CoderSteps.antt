@@ -8,7 +8,7 @@ use Rattle.qoi.specs.declared.chunk.Chunk.TheVariants.{Run}
 use Rattle.qoi.specs.declared.encode.coder.Coder.{Coder}
 use Rattle.qoi.specs.declared.types.Style.{Style}
 use Rattle.qoi.specs.declared.types.Style.TheVariants.{Reference, Places, Tight}
-use Rattle.qoi.specs.Qoi.{AreBytes, RgbaPixel, IsPixel, Past, previous, hash, IsChunk, bytes_of, text}
+use Rattle.qoi.specs.Qoi.{AreBytes, RgbaPixel, IsPixel, Past, previous, hash, IsChunk, bytes_of, chunk_bytes}
 use Rattle.qoi.specs.Runs.{runs_by}
 use Rattle.qoi.specs.Written.{WrittenBy}
 use Rattle.qoi.specs.Styles.{some_fresh, names, choice_in, in_style}
@@ -31,13 +31,13 @@ all_bytes (b ∷ bytes) h = (h 0, all_bytes bytes (λ i. tail_of i))
 pub coder_starts : (style : Style) (image : List RgbaPixel) (list : List Chunk) (front : List ℕ) (table : List RgbaPixel) (coder : Coder)
     → WrittenBy (choice_in style) image list → AllByRecursion IsPixel image
     → StateAfter style [] table coder.last → StyleAfter [] None coder.place coder.begun coder.placed
-    → CoderBetween (record { style = style; image = image; list = list; ahead = front ++ text (in_style style list) }) image table coder front
+    → CoderBetween (record { style = style; image = image; list = list; ahead = front ++ chunk_bytes (in_style style list) }) image table coder front
 coder_starts style image list front table coder written are state style_state = record {
   past = [];
   before = None;
   todo = list;
   to_write = all_to_write (choice_in style) (chooses_in style) image list written are;
-  ahead_is = ap (λ cs. front ++ text cs) (styled_whole style list);
+  ahead_is = ap (λ cs. front ++ chunk_bytes cs) (styled_whole style list);
   state = state;
   style_state = style_state;
 }
@@ -49,10 +49,10 @@ styled_none Places past before = refl
 styled_none Tight past before = refl
 
 -- the first chunks' bytes are those written next
-bytes_next : (ahead bytes next : List ℕ) (first left : List Chunk) → ahead ≡ bytes ++ text (first ++ left) → next ≡ bytes ++ text first
-    → ahead ≡ next ++ text left
+bytes_next : (ahead bytes next : List ℕ) (first left : List Chunk) → ahead ≡ bytes ++ chunk_bytes (first ++ left) → next ≡ bytes ++ chunk_bytes first
+    → ahead ≡ next ++ chunk_bytes left
 bytes_next ahead bytes next first left e n =
-    e ∙ ap (λ x. bytes ++ x) (flat_map-append bytes_of first left) ∙ sym (append_assoc bytes (text first) (text left)) ∙ ap (λ x. x ++ text left) (sym n)
+    e ∙ ap (λ x. bytes ++ x) (flat_map-append bytes_of first left) ∙ sym (append_assoc bytes (chunk_bytes first) (chunk_bytes left)) ∙ ap (λ x. x ++ chunk_bytes left) (sym n)
 
 module _ {w : Writing} {pixels : List RgbaPixel} {table : List RgbaPixel} {coder : Coder} {bytes : List ℕ} (b : CoderBetween w pixels table coder bytes) where
   -- the pixel before is the coder's last
@@ -65,7 +65,7 @@ module _ {w : Writing} {pixels : List RgbaPixel} {table : List RgbaPixel} {coder
       → pixels ≡ replicate n coder.last ++ rest
       → (slice_get rest 0 ≢ Some coder.last) ⊎ (n % 62 ≡ 0)
       → (n % 62 ≡ 1 → ((rest ≡ []) × (one ≡ Run 1)) ⊎ ((rest ≢ []) × (one ≡ rest_of_one w.style coder.begun coder.placed coder.place n)))
-      → next ≡ bytes ++ text (runs_by one n)
+      → next ≡ bytes ++ chunk_bytes (runs_by one n)
       → StateAfter w.style (replicate n (previous b.past) ++ b.past) next_table next_coder.last
       → StyleAfter (replicate n (previous b.past) ++ b.past) (last_chunk b.before (runs_by (Run 1) n)) next_coder.place next_coder.begun next_coder.placed
       → CoderBetween w rest next_table next_coder next
@@ -84,8 +84,8 @@ module _ {w : Writing} {pixels : List RgbaPixel} {table : List RgbaPixel} {coder
         todo = r.0;
         to_write = r.2;
         ahead_is = bytes_next w.ahead bytes next (runs_by one n) (styled w.style (replicate n (previous b.past) ++ b.past) (last_chunk b.before (runs_by (Run 1) n)) r.0)
-            (b.ahead_is ∙ ap (λ cs. bytes ++ text (styled w.style b.past b.before cs)) r.1
-            ∙ ap (λ cs. bytes ++ text cs) (styled_runs w.style b.past b.before n r.0 one single)) written;
+            (b.ahead_is ∙ ap (λ cs. bytes ++ chunk_bytes (styled w.style b.past b.before cs)) r.1
+            ∙ ap (λ cs. bytes ++ chunk_bytes cs) (styled_runs w.style b.past b.before n r.0 one single)) written;
         state = state;
         style_state = style_state;
       }
@@ -139,8 +139,8 @@ module _ {w : Writing} {pixels : List RgbaPixel} {table : List RgbaPixel} {coder
         todo = r.0;
         to_write = r.2;
         ahead_is = bytes_next w.ahead bytes next (c ∷ []) (styled w.style (p ∷ b.past) (Some c) r.0)
-            (b.ahead_is ∙ ap (λ cs. bytes ++ text (styled w.style b.past b.before cs)) r.1
-            ∙ ap (λ cs. bytes ++ text cs) (styled_chunk w.style b.past b.before p c r.0 (choices.no_run b.past p c choice)
+            (b.ahead_is ∙ ap (λ cs. bytes ++ chunk_bytes (styled w.style b.past b.before cs)) r.1
+            ∙ ap (λ cs. bytes ++ chunk_bytes cs) (styled_chunk w.style b.past b.before p c r.0 (choices.no_run b.past p c choice)
             (choices.gives b.past p c choice)))
             (written ∙ ap (λ x. bytes ++ x) (sym (append-nil (bytes_of c))));
         state = state;
@@ -151,13 +151,13 @@ module _ {w : Writing} {pixels : List RgbaPixel} {table : List RgbaPixel} {coder
   pub piece_given : (gone kept : List ℕ) → bytes ≡ gone ++ kept
       → (ahead : List ℕ) × (w.ahead ≡ gone ++ ahead) × CoderBetween (record w { ahead = ahead }) pixels table coder kept
   piece_given gone kept split = (
-    kept ++ text (styled w.style b.past b.before b.todo),
-    b.ahead_is ∙ ap (λ x. x ++ text (styled w.style b.past b.before b.todo)) split ∙ append_assoc gone kept (text (styled w.style b.past b.before b.todo)),
+    kept ++ chunk_bytes (styled w.style b.past b.before b.todo),
+    b.ahead_is ∙ ap (λ x. x ++ chunk_bytes (styled w.style b.past b.before b.todo)) split ∙ append_assoc gone kept (chunk_bytes (styled w.style b.past b.before b.todo)),
     record { past = b.past; before = b.before; todo = b.todo; to_write = b.to_write; ahead_is = refl; state = b.state; style_state = b.style_state },
   )
 
 -- at the end of the pixels nothing is ahead but the bytes
 pub all_given : {w : Writing} {table : List RgbaPixel} {coder : Coder} {bytes : List ℕ} → CoderBetween w [] table coder bytes → w.ahead ≡ bytes
 all_given {w} {bytes = bytes} b =
-    b.ahead_is ∙ ap (λ cs. bytes ++ text (styled w.style b.past b.before cs)) (none_todo (choice_in w.style) (chooses_in w.style) b.to_write)
-    ∙ ap (λ cs. bytes ++ text cs) (styled_none w.style b.past b.before) ∙ append-nil bytes
+    b.ahead_is ∙ ap (λ cs. bytes ++ chunk_bytes (styled w.style b.past b.before cs)) (none_todo (choice_in w.style) (chooses_in w.style) b.to_write)
+    ∙ ap (λ cs. bytes ++ chunk_bytes cs) (styled_none w.style b.past b.before) ∙ append-nil bytes

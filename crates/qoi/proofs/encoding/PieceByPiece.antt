@@ -5,7 +5,7 @@ use Rattle.std.proofs.lemmas.List.{length-take-le}
 use Rattle.qoi.specs.declared.chunk.Chunk.{Chunk}
 use Rattle.qoi.specs.declared.encode.coder.Coder.{Coder}
 use Rattle.qoi.specs.declared.types.Style.{Style}
-use Rattle.qoi.specs.Qoi.{AreBytes, RgbaPixel, text}
+use Rattle.qoi.specs.Qoi.{AreBytes, RgbaPixel, chunk_bytes}
 use Rattle.qoi.specs.Raw.{IsChannels, pixels_of}
 use Rattle.qoi.specs.Written.{WrittenBy}
 use Rattle.qoi.specs.Styles.{choice_in, in_style, WrittenIn}
@@ -27,9 +27,9 @@ module _ {W : Type 0} (wrote : W → List ℕ → W → Type 0) (room : W → �
     pub laws : WriterLaws wrote room
     pub list : List Chunk
     pub written : WrittenBy (choice_in style) (pixels_of n bytes) list
-    pub fits : length (front ++ text (in_style style list)) ≤ room start
+    pub fits : length (front ++ chunk_bytes (in_style style list)) ≤ room start
     pub ahead : List ℕ
-    pub went : WroteBut wrote start (front ++ text (in_style style list)) ahead buf
+    pub went : WroteBut wrote start (front ++ chunk_bytes (in_style style list)) ahead buf
     pub between : CoderBetween (record { style = style; image = pixels_of n bytes; list = list; ahead = ahead }) (pixels_of n rest) table coder kept
 
 module _ {W : Type 0} {wrote : W → List ℕ → W → Type 0} {room : W → ℕ} {style : Style} {n : ℕ} {bytes front : List ℕ} {start : W} where
@@ -50,9 +50,9 @@ module _ {W : Type 0} {wrote : W → List ℕ → W → Type 0} {room : W → �
         laws = laws;
         list = list.0;
         written = list.1;
-        fits = omega (arith, length-append front (text (in_style style list.0)), fits, same, enough, size, mul_comm (length bytes / n) n);
-        ahead = front ++ text (in_style style list.0);
-        went = wrote_none wrote room laws start (front ++ text (in_style style list.0));
+        fits = omega (arith, length-append front (chunk_bytes (in_style style list.0)), fits, same, enough, size, mul_comm (length bytes / n) n);
+        ahead = front ++ chunk_bytes (in_style style list.0);
+        went = wrote_none wrote room laws start (front ++ chunk_bytes (in_style style list.0));
         between = coder_starts style pixels list.0 front table coder list.1 pixels_are state style_state;
       }
 
@@ -88,7 +88,7 @@ module _ {W : Type 0} {wrote : W → List ℕ → W → Type 0} {room : W → �
       pub piece_fits : size ≤ length kept → size ≤ room buf
       piece_fits enough = omega (
         arith,
-        left_fits wrote room p.laws start buf (front ++ text (in_style style p.list)) p.ahead p.went p.fits,
+        left_fits wrote room p.laws start buf (front ++ chunk_bytes (in_style style p.list)) p.ahead p.went p.fits,
         ap length given_first.1,
         length-append (take size kept) given_first.0,
         length-take-le size kept enough,
@@ -103,7 +103,7 @@ module _ {W : Type 0} {wrote : W → List ℕ → W → Type 0} {room : W → �
         written = p.written;
         fits = p.fits;
         ahead = given_first.0;
-        went = wrote_next wrote room p.laws start buf now (front ++ text (in_style style p.list)) p.ahead
+        went = wrote_next wrote room p.laws start buf now (front ++ chunk_bytes (in_style style p.list)) p.ahead
             (take size kept) given_first.0 p.went given_first.1 went;
         between = subst (λ z. CoderBetween (record { style = style; image = pixels_of n bytes; list = p.list; ahead = given_first.0 })
             (pixels_of n rest) table coder z) (sym is) given_first.2;
@@ -111,19 +111,19 @@ module _ {W : Type 0} {wrote : W → List ℕ → W → Type 0} {room : W → �
 
       -- a beginning of them is
       pub piece_part : {now : W} → WroteSome wrote buf (take size kept) now
-          → (cs : List Chunk) × WrittenIn style (pixels_of n bytes) cs × WroteSome wrote start (front ++ text cs) now
+          → (cs : List Chunk) × WrittenIn style (pixels_of n bytes) cs × WroteSome wrote start (front ++ chunk_bytes cs) now
       piece_part {now} some = (
         in_style style p.list,
         in_list,
-        wrote_part wrote room p.laws start buf now (front ++ text (in_style style p.list)) p.ahead (take size kept) given_first.0 p.went given_first.1 some,
+        wrote_part wrote room p.laws start buf now (front ++ chunk_bytes (in_style style p.list)) p.ahead (take size kept) given_first.0 p.went given_first.1 some,
       )
 
   -- at the end all but what is kept went
   pub piece_ends : {table : List RgbaPixel} {coder : Coder} {kept : List ℕ} {buf : W} {rest : List ℕ} {table' : List RgbaPixel} {coder' : Coder} {kept' : List ℕ} (p : PieceBetween wrote room style n bytes front start rest table coder kept buf)
       → ((w : Writing) → w.style ≡ style → CoderBetween w (pixels_of n rest) table coder kept → CoderBetween w [] table' coder' kept')
-      → (cs : List Chunk) × WrittenIn style (pixels_of n bytes) cs × WroteBut wrote start (front ++ text cs) kept' buf
+      → (cs : List Chunk) × WrittenIn style (pixels_of n bytes) cs × WroteBut wrote start (front ++ chunk_bytes cs) kept' buf
   piece_ends {buf = buf} p given = (
     in_style style p.list,
     record { list = p.list; written = p.written; is = refl },
-    subst (λ z. WroteBut wrote start (front ++ text (in_style style p.list)) z buf) (all_given (given _ refl p.between)) p.went,
+    subst (λ z. WroteBut wrote start (front ++ chunk_bytes (in_style style p.list)) z buf) (all_given (given _ refl p.between)) p.went,
   )

@@ -41,7 +41,7 @@ module _ {W : Type 0} (wrote : W → List ℕ → W → Type 0) (room : W → �
   rest_given (Err e) a b next all rest w went = tt
 
   -- or a beginning of it
-  pub rest_refused : {T E : Type 0} (r : Result T E) (Refuses : E → Type 0) (a b next : W) (all rest : List ℕ) → WroteBut wrote a all rest b
-      → IfErr r (λ e. Refuses e × WroteSome wrote b rest next) → IfErr r (λ e. Refuses e × WroteSome wrote a all next)
-  rest_refused (Ok x) Refuses a b next all rest w some = tt
-  rest_refused (Err e) Refuses a b next all rest w some = (some.0, wrote_part wrote room laws a b next all rest rest [] w (sym (append-nil rest)) some.1)
+  pub rest_refused : {T E : Type 0} (r : Result T E) (IsFault : E → Type 0) (a b next : W) (all rest : List ℕ) → WroteBut wrote a all rest b
+      → IfErr r (λ e. IsFault e × WroteSome wrote b rest next) → IfErr r (λ e. IsFault e × WroteSome wrote a all next)
+  rest_refused (Ok x) IsFault a b next all rest w some = tt
+  rest_refused (Err e) IsFault a b next all rest w some = (some.0, wrote_part wrote room laws a b next all rest rest [] w (sym (append-nil rest)) some.1)

@@ -3,7 +3,7 @@ use Rattle.std.proofs.Common.{◌≡◌, ℕ, Bool, true, false, not, ◌&&◌, 
 use Rattle.std.proofs.lemmas.Bool.{and_parts, cond_both, eqb-true, eq-eqb, true≢false}
 use Rattle.qoi.specs.declared.chunk.Chunk.{Chunk}
 use Rattle.qoi.specs.declared.chunk.Chunk.TheVariants.{Place, Diff, Luma, Run, Rgb, Rgba}
-use Rattle.qoi.specs.Qoi.{RgbaPixel, Past, previous, seen, hash, IsChunk, AreChunks, bytes_of, text, then_chunk, then_chunks, Each}
+use Rattle.qoi.specs.Qoi.{RgbaPixel, Past, previous, seen, hash, IsChunk, AreChunks, bytes_of, chunk_bytes, then_chunk, then_chunks, Each}
 use Rattle.qoi.specs.Written.{IsRightAfter}
 use Rattle.qoi.specs.Regular.{NamesWritten}
 use Rattle.qoi.specs.Styles.{fresh_next, some_fresh, names, is_placed, place_for, placed_after}
@@ -67,15 +67,15 @@ placed_then past before (c ∷ cs) =
     ∙ placed_then (then_chunk past c) (Some c) cs
 
 -- in as many bytes
-pub placed_length : (past : Past) (before : Option Chunk) (cs : List Chunk) → length (text (placed_after past before cs)) ≡ length (text cs)
+pub placed_length : (past : Past) (before : Option Chunk) (cs : List Chunk) → length (chunk_bytes (placed_after past before cs)) ≡ length (chunk_bytes cs)
 placed_length past before [] = refl
 placed_length past before (c ∷ cs) =
     let one = by_place (λ c d. length (bytes_of d) ≡ length (bytes_of c)) past before c cs (λ d. refl) (λ _. refl) in
     let more = placed_length (then_chunk past c) (Some c) cs in
     omega (
       arith,
-      length-append (bytes_of (place_for past before c cs)) (text (placed_after (then_chunk past c) (Some c) cs)),
-      length-append (bytes_of c) (text cs),
+      length-append (bytes_of (place_for past before c cs)) (chunk_bytes (placed_after (then_chunk past c) (Some c) cs)),
+      length-append (bytes_of c) (chunk_bytes cs),
     )
 
 -- it is regular where the list is

@@ -9,7 +9,7 @@ use lib.Lanes.{put_chunk}
 use mir.Val.{bool_byte}
 use Rattle.qoi.specs.declared.chunk.Chunk.{Chunk}
 use Rattle.qoi.specs.declared.chunk.Chunk.TheVariants.{Run}
-use Rattle.qoi.specs.Qoi.{bytes_of, text}
+use Rattle.qoi.specs.Qoi.{bytes_of, chunk_bytes}
 use Rattle.qoi.specs.Runs.{last_by, runs_by}
 use Rattle.qoi.proofs.encoding.GroupRuns.{not_one}
 
@@ -23,7 +23,7 @@ few_by c n few =
 
 -- the run of a rest, behind the bytes before
 last_written : (c : Chunk) (one at count : ℕ) (out : List ℕ) → bytes_of c ≡ one ∷ [] → at < length out → count < 62
-    → take (at + bool_byte (nat_lt 0 count)) (set out at (if count == 1 then one else 191 + count)) ≡ take at out ++ text (last_by c count)
+    → take (at + bool_byte (nat_lt 0 count)) (set out at (if count == 1 then one else 191 + count)) ≡ take at out ++ chunk_bytes (last_by c count)
 last_written c one at zero out e l few =
     let same : at + 0 ≡ at = omega arith in
     ap (λ z. take z (set out at 191)) same ∙ take-set out at 191 ∙ sym (append-nil (take at out))
@@ -39,21 +39,21 @@ last_written c one at (suc (suc n)) out e l few =
 
 -- a group of few repeats, behind the bytes before
 pub run_written : (c : Chunk) (one at count : ℕ) (out : List ℕ) → bytes_of c ≡ one ∷ [] → at < length out → count < 62
-    → take (at + bool_byte (nat_lt 0 count)) (set out at (if count == 1 then one else 191 + count)) ≡ take at out ++ text (runs_by c count)
+    → take (at + bool_byte (nat_lt 0 count)) (set out at (if count == 1 then one else 191 + count)) ≡ take at out ++ chunk_bytes (runs_by c count)
 run_written c one at count out e l few =
-    last_written c one at count out e l few ∙ ap (λ cs. take at out ++ text cs) (sym (few_by c count few))
+    last_written c one at count out e l few ∙ ap (λ cs. take at out ++ chunk_bytes cs) (sym (few_by c count few))
 
 -- the bytes of full runs
-full_text : (k : ℕ) → text (replicate k (Run 62)) ≡ replicate k 253
+full_text : (k : ℕ) → chunk_bytes (replicate k (Run 62)) ≡ replicate k 253
 full_text zero = refl
 full_text (suc k) = ap (λ z. 253 ∷ z) (full_text k)
 
 -- the bytes of full runs and of a rest
-runs_text : (c : Chunk) (n : ℕ) → text (runs_by c n) ≡ replicate (n / 62) 253 ++ text (runs_by c (n % 62))
+runs_text : (c : Chunk) (n : ℕ) → chunk_bytes (runs_by c n) ≡ replicate (n / 62) 253 ++ chunk_bytes (runs_by c (n % 62))
 unfolding runs_by
 runs_text c n =
-    flat_map-append bytes_of (replicate (n / 62) (Run 62)) (last_by c (n % 62)) ∙ ap (λ z. z ++ text (last_by c (n % 62))) (full_text (n / 62))
-    ∙ ap (λ cs. replicate (n / 62) 253 ++ text cs) (sym (few_by c (n % 62) (omega arith)))
+    flat_map-append bytes_of (replicate (n / 62) (Run 62)) (last_by c (n % 62)) ∙ ap (λ z. z ++ chunk_bytes (last_by c (n % 62))) (full_text (n / 62))
+    ∙ ap (λ cs. replicate (n / 62) 253 ++ chunk_bytes cs) (sym (few_by c (n % 62) (omega arith)))
 
 -- the bytes after sixteen full runs are stored
 abbrev pub filled : ℕ → List ℕ → List ℕ
@@ -73,7 +73,7 @@ filled_front at k out room few =
 
 -- a group of any size, behind the bytes before
 pub runs_written : (c : Chunk) (at count : ℕ) (out new : List ℕ) → at + 17 ≤ length out → count ≤ 992
-    → new ≡ take (at + count / 62) (filled at out) ++ text (runs_by c (count % 62)) → new ≡ take at out ++ text (runs_by c count)
+    → new ≡ take (at + count / 62) (filled at out) ++ chunk_bytes (runs_by c (count % 62)) → new ≡ take at out ++ chunk_bytes (runs_by c count)
 runs_written c at count out new room few e =
-    e ∙ ap (λ z. z ++ text (runs_by c (count % 62))) (filled_front at (count / 62) out room (omega arith))
-    ∙ append_assoc (take at out) (replicate (count / 62) 253) (text (runs_by c (count % 62))) ∙ ap (λ z. take at out ++ z) (sym (runs_text c count))
+    e ∙ ap (λ z. z ++ chunk_bytes (runs_by c (count % 62))) (filled_front at (count / 62) out room (omega arith))
+    ∙ append_assoc (take at out) (replicate (count / 62) 253) (chunk_bytes (runs_by c (count % 62))) ∙ ap (λ z. take at out ++ z) (sym (runs_text c count))

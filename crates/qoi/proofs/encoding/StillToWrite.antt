@@ -12,7 +12,7 @@ use Rattle.qoi.specs.Styles.{fresh_next}
 pub use Rattle.qoi.specs.inner.CoderLoop.{StillToWrite}
 use Rattle.qoi.proofs.format.ChunkSteps.{previous_repeats, reverse-replicate}
 use Rattle.qoi.proofs.format.SamePixels.{cases_pixel}
-use Rattle.qoi.proofs.encoding.WrittenGrows.{TakesRun, all_back, written_none, full_runs, written_runs, written_fresh}
+use Rattle.qoi.proofs.encoding.WrittenGrows.{RunMayFollow, all_back, written_none, full_runs, written_runs, written_fresh}
 use Rattle.qoi.proofs.encoding.Choices.{Chooses}
 use Rattle.qoi.proofs.encoding.WrittenExists.{is_pixel_start, written_on}
 use Rattle.qoi.proofs.encoding.WrittenOnce.{unique_by}
@@ -38,27 +38,27 @@ module _ (Choice : Past → RgbaPixel → Chunk → Type 0) (choices : Chooses C
     are = are;
     done = [];
     written = written_none Choice;
-    takes_run =
+    run_may_follow =
         λ same n. (tt, tt);
     parts = refl;
   }
 
   -- the runs of a group behind a list, which a run may follow if there are repeats at all
-  group_runs : (n : ℕ) (past : Past) (cs : List Chunk) → WrittenBy Choice (reverse past) cs → (0 < n → TakesRun cs)
+  group_runs : (n : ℕ) (past : Past) (cs : List Chunk) → WrittenBy Choice (reverse past) cs → (0 < n → RunMayFollow cs)
       → WrittenBy Choice (reverse (replicate n (previous past) ++ past)) (cs ++ runs_by (Run 1) n)
   group_runs zero past cs w takes = subst (WrittenBy Choice (reverse past)) (sym (ap (λ x. cs ++ x) runs_none ∙ append-nil cs)) w
   group_runs (suc n) past cs w takes = written_runs Choice past (suc n) cs w (takes (omega arith))
 
   -- a run may follow runs that are full
-  full_take : (n : ℕ) (past : Past) (cs : List Chunk) → n % 62 ≡ 0 → WrittenBy Choice (reverse past) cs → TakesRun cs → TakesRun (cs ++ runs_by (Run 1) n)
-  full_take n past cs e w takes = subst (λ x. TakesRun (cs ++ x)) (sym (runs_full n e)) (full_runs Choice (n / 62) past (previous past) cs refl w takes).1
+  full_take : (n : ℕ) (past : Past) (cs : List Chunk) → n % 62 ≡ 0 → WrittenBy Choice (reverse past) cs → RunMayFollow cs → RunMayFollow (cs ++ runs_by (Run 1) n)
+  full_take n past cs e w takes = subst (λ x. RunMayFollow (cs ++ x)) (sym (runs_full n e)) (full_runs Choice (n / 62) past (previous past) cs refl w takes).1
 
   module _ {image : List RgbaPixel} {cs : List Chunk} {past : Past} {rest : List RgbaPixel} {todo : List Chunk}
       (w : StillToWrite Choice image cs past rest todo) where
     -- What follows the written chunks in a list of the image is what is to be written; so the first of these chunks are next.
     next : (after : Past) (more : List RgbaPixel) (new left : List Chunk) → image ≡ reverse after ++ more → IsPixel (previous after)
         → AllByRecursion IsPixel more
-        → WrittenBy Choice (reverse after) (w.done ++ new) → (slice_get more 0 ≡ Some (previous after) → TakesRun (w.done ++ new))
+        → WrittenBy Choice (reverse after) (w.done ++ new) → (slice_get more 0 ≡ Some (previous after) → RunMayFollow (w.done ++ new))
         → WrittenBy Choice (reverse after ++ more) ((w.done ++ new) ++ left)
         → (todo ≡ new ++ left) × StillToWrite Choice image cs after more left
     next after more new left split before are written takes all =
@@ -74,7 +74,7 @@ module _ (Choice : Past → RgbaPixel → Chunk → Type 0) (choices : Chooses C
             are = are;
             done = w.done ++ new;
             written = written;
-            takes_run = takes;
+            run_may_follow = takes;
             parts = w.parts ∙ ap (λ x. w.done ++ x) todo_is ∙ sym (append_assoc w.done new left);
           },
         )
@@ -128,7 +128,7 @@ module _ (Choice : Past → RgbaPixel → Chunk → Type 0) (choices : Chooses C
 
     -- the runs of the group are written
     group_written : WrittenBy Choice (reverse group) (w.done ++ runs_by (Run 1) n)
-    group_written = group_runs n past w.done w.written (λ some. w.takes_run (starts n some))
+    group_written = group_runs n past w.done w.written (λ some. w.run_may_follow (starts n some))
 
     -- the pixels behind the group are pixels, and so is the one before them
     behind_are : AllByRecursion IsPixel rest
@@ -189,7 +189,7 @@ module _ (Choice : Past → RgbaPixel → Chunk → Type 0) (choices : Chooses C
                     → (left : List Chunk) × (todo ≡ runs_by (Run 1) n ++ left) × StillToWrite Choice image cs group rest left
                 by_end (inl other) = absurd (other again)
                 by_end (inr full) =
-                    let takes = full_take n past w.done full w.written (w.takes_run (goes_on n again)) in
+                    let takes = full_take n past w.done full w.written (w.run_may_follow (goes_on n again)) in
                     let all = written_on Choice choices rest group 0 (w.done ++ runs_by (Run 1) n) group_written takes before_is behind_are in
                     let r = next w group rest (runs_by (Run 1) n) all.0 image_is before_is behind_are group_written (λ _. takes) all.1 in
                     (all.0, r.0, r.1)

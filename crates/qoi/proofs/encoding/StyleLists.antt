@@ -8,7 +8,7 @@ use Rattle.qoi.specs.declared.types.Style.{Style}
 use Rattle.qoi.specs.declared.types.Style.TheVariants.{Reference, Places, Tight}
 use Rattle.qoi.specs.Raw.{HasChannels}
 use Rattle.qoi.specs.Shortest.{floor, slack}
-use Rattle.qoi.specs.Qoi.{RgbaPixel, IsPixel, AreChunks, text, Reaches, meaning, then_chunks}
+use Rattle.qoi.specs.Qoi.{RgbaPixel, IsPixel, AreChunks, chunk_bytes, Reaches, meaning, then_chunks}
 use Rattle.qoi.specs.Written.{IsChoice, WrittenBy, Written}
 use Rattle.qoi.specs.Regular.{Regular}
 use Rattle.qoi.specs.Styles.{choice_in, in_style, placed_after, WrittenIn}
@@ -44,8 +44,8 @@ pub style_means : (style : Style) (image : List RgbaPixel) (cs : List Chunk) →
 style_means style image cs w = by_style (λ x. meaning x ≡ image) style image cs w w.written.means (ap reverse (placed_then [] None w.list) ∙ w.written.means)
 
 -- in as many bytes as before the style
-pub style_length : (style : Style) (image : List RgbaPixel) (cs : List Chunk) (w : WrittenIn style image cs) → length (text cs) ≡ length (text w.list)
-style_length style image cs w = by_style (λ x. length (text x) ≡ length (text w.list)) style image cs w refl (placed_length [] None w.list)
+pub style_length : (style : Style) (image : List RgbaPixel) (cs : List Chunk) (w : WrittenIn style image cs) → length (chunk_bytes cs) ≡ length (chunk_bytes w.list)
+style_length style image cs w = by_style (λ x. length (chunk_bytes x) ≡ length (chunk_bytes w.list)) style image cs w refl (placed_length [] None w.list)
 
 -- there is one list
 pub style_unique : (style : Style) (image : List RgbaPixel) (cs ds : List Chunk) → WrittenIn style image cs → WrittenIn style image ds → cs ≡ ds
@@ -74,17 +74,17 @@ style_regular Tight image cs other w = absurd (other refl)
 
 -- it has at most a byte a pixel more than the raw bytes
 pub style_fits : (style : Style) (image : List RgbaPixel) (channels n : ℕ) (cs : List Chunk) → HasChannels image channels → length image ≡ n
-    → WrittenIn style image cs → length (text cs) ≤ n * channels + n
+    → WrittenIn style image cs → length (chunk_bytes cs) ≤ n * channels + n
 style_fits style image channels n cs has e w = subst (λ k. k ≤ n * channels + n) (sym (style_length style image cs w))
     (fits_by (choice_in style) (chooses_in style).rgba_first image channels n w.list has e w.written)
 
 -- and at most the bytes of the floor and the slack
 pub style_upper : (style : Style) (image : List RgbaPixel) (channels : ℕ) (cs : List Chunk) → HasChannels image channels → WrittenIn style image cs
-    → length (text cs) ≤ floor image + slack image channels
+    → length (chunk_bytes cs) ≤ floor image + slack image channels
 style_upper style image channels cs has w = subst (λ k. k ≤ floor image + slack image channels) (sym (style_length style image cs w))
     (go style w.list w.written)
   where
-    go : (style : Style) (list : List Chunk) → WrittenBy (choice_in style) image list → length (text list) ≤ floor image + slack image channels
+    go : (style : Style) (list : List Chunk) → WrittenBy (choice_in style) image list → length (chunk_bytes list) ≤ floor image + slack image channels
     go Reference list v = upper image channels list has v
     go Places list v = upper image channels list has v
     go Tight list v = omega (arith, tight_exact image list v, floor0_high image)
@@ -96,6 +96,6 @@ style_some style image are =
     (in_style style list.0, record { list = list.0; written = list.1; is = refl })
 
 -- in style Places it is as long as each list of `Written`
-pub places_as_long : (image : List RgbaPixel) (cs ds : List Chunk) → Written image cs → WrittenIn Places image ds → length (text ds) ≡ length (text cs)
+pub places_as_long : (image : List RgbaPixel) (cs ds : List Chunk) → Written image cs → WrittenIn Places image ds → length (chunk_bytes ds) ≡ length (chunk_bytes cs)
 places_as_long image cs ds w v = style_length Places image ds v
-    ∙ ap (λ (x : List Chunk). length (text x)) (unique_by IsChoice chooses.only image v.list cs v.written w)
+    ∙ ap (λ (x : List Chunk). length (chunk_bytes x)) (unique_by IsChoice chooses.only image v.list cs v.written w)

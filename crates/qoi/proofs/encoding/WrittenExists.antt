@@ -13,7 +13,7 @@ use Rattle.qoi.proofs.encoding.NotedPixels.{noted_seen}
 use Rattle.qoi.proofs.encoding.Spelled.{FitsDiff, FitsLuma, plus_2, plus_8, plus_32, diff_byte, luma_byte, luma_second, diff_chunk, luma_chunk, first_diff, first_luma, first_rgb, first_rgba}
 use Rattle.qoi.specs.Styles.{is_run, names}
 use Rattle.qoi.proofs.format.ChunkSteps.{previous_repeats}
-use Rattle.qoi.proofs.encoding.WrittenGrows.{TakesRun, chunks_split, written_none, written_runs, written_fresh}
+use Rattle.qoi.proofs.encoding.WrittenGrows.{RunMayFollow, chunks_split, written_none, written_runs, written_fresh}
 use Rattle.qoi.proofs.encoding.Choices.{Chooses}
 use Rattle.qoi.proofs.encoding.WrittenOnce.{choice_unique}
 use Rattle.qoi.proofs.encoding.WrittenShape.{choice_rgba}
@@ -136,7 +136,7 @@ module _ (Choice : Past → RgbaPixel → Chunk → Type 0) (choices : Chooses C
   fresh_joined p group rest cs rs more c w = subst₂ (λ x y. WrittenBy Choice x y) (joined p p 0 group rest refl) (chunks_split cs rs more c) w
 
   -- a list that is written for the pixels before a group begins one for the image, whatever pixels follow
-  pub written_on : (rest : List RgbaPixel) (past : Past) (n : ℕ) (cs : List Chunk) → WrittenBy Choice (reverse past) cs → TakesRun cs
+  pub written_on : (rest : List RgbaPixel) (past : Past) (n : ℕ) (cs : List Chunk) → WrittenBy Choice (reverse past) cs → RunMayFollow cs
       → IsPixel (previous past) → AllByRecursion IsPixel rest
       → (more : List Chunk) × WrittenBy Choice (reverse (replicate n (previous past) ++ past) ++ rest) (cs ++ more)
   written_on [] past n cs w takes before are = (runs_by (Run 1) n, rw (append-nil (reverse (replicate n (previous past) ++ past))) (written_runs Choice past n cs w takes))

@@ -9,7 +9,7 @@ use Rattle.qoi.specs.Runs.{last_by, runs_by}
 use Rattle.qoi.specs.Written.{IsRightAfter, IsFull, RunsAreFull, WrittenBy}
 use Rattle.qoi.specs.Styles.{is_run}
 use Rattle.qoi.proofs.format.ChunkSteps.{previous_repeats, repeats_after, right_from, full_other, full_before, then_other, then_chunks-append, each_append}
-pub use Rattle.qoi.specs.inner.CoderLoop.{TakesRun}
+pub use Rattle.qoi.specs.inner.CoderLoop.{RunMayFollow}
 
 -- what holds of each of two lists holds of each of both
 pub all_append : {A : Type 0} (P : A → Type 0) (xs ys : List A) → AllByRecursion P xs → AllByRecursion P ys → AllByRecursion P (xs ++ ys)
@@ -99,16 +99,16 @@ module _ (Choice : Past → RgbaPixel → Chunk → Type 0) where
       }
 
   -- 62 repeats are written as a full run, and a run may follow
-  full_run : (past : Past) (cs : List Chunk) → WrittenBy Choice (reverse past) cs → TakesRun cs
-      → WrittenBy Choice (reverse (replicate 62 (previous past) ++ past)) (cs ++ Run 62 ∷ []) × TakesRun (cs ++ Run 62 ∷ [])
+  full_run : (past : Past) (cs : List Chunk) → WrittenBy Choice (reverse past) cs → RunMayFollow cs
+      → WrittenBy Choice (reverse (replicate 62 (previous past) ++ past)) (cs ++ Run 62 ∷ []) × RunMayFollow (cs ++ Run 62 ∷ [])
   full_run past cs w takes = (
     written_append past (replicate 62 (previous past) ++ past) cs (Run 62 ∷ []) w ((omega arith, omega arith), tt) refl (tt, tt) (takes 62),
     λ n. rw append_assoc (full_62 cs n (takes 62)),
   )
 
   -- so are as many times 62 repeats
-  pub full_runs : (m : ℕ) (past : Past) (q : RgbaPixel) (cs : List Chunk) → q ≡ previous past → WrittenBy Choice (reverse past) cs → TakesRun cs
-      → WrittenBy Choice (reverse (replicate (m * 62) q ++ past)) (cs ++ replicate m (Run 62)) × TakesRun (cs ++ replicate m (Run 62))
+  pub full_runs : (m : ℕ) (past : Past) (q : RgbaPixel) (cs : List Chunk) → q ≡ previous past → WrittenBy Choice (reverse past) cs → RunMayFollow cs
+      → WrittenBy Choice (reverse (replicate (m * 62) q ++ past)) (cs ++ replicate m (Run 62)) × RunMayFollow (cs ++ replicate m (Run 62))
   full_runs zero past q cs is w takes = rw (append-nil cs) (w, takes)
   full_runs (suc m) past q cs is w takes =
       let one = full_run past cs w takes in
@@ -119,10 +119,10 @@ module _ (Choice : Past → RgbaPixel → Chunk → Type 0) where
       let count : m * 62 + 62 ≡ suc m * 62 = omega arith in
       let pixels : replicate (m * 62) q ++ (replicate 62 q ++ past) ≡ replicate (suc m * 62) q ++ past = repeats_after (m * 62) 62 q past
       ∙ ap (λ k. replicate k q ++ past) count in
-      subst₂ (λ p c. WrittenBy Choice (reverse p) c × TakesRun c) pixels (append_assoc cs (Run 62 ∷ []) (replicate m (Run 62))) more
+      subst₂ (λ p c. WrittenBy Choice (reverse p) c × RunMayFollow c) pixels (append_assoc cs (Run 62 ∷ []) (replicate m (Run 62))) more
 
   -- the last run of a group is written
-  written_last : (k : ℕ) (past : Past) (cs : List Chunk) → k < 62 → WrittenBy Choice (reverse past) cs → TakesRun cs
+  written_last : (k : ℕ) (past : Past) (cs : List Chunk) → k < 62 → WrittenBy Choice (reverse past) cs → RunMayFollow cs
       → WrittenBy Choice (reverse (replicate k (previous past) ++ past)) (cs ++ last_by (Run 1) k)
   written_last zero past cs short w takes = rw (append-nil cs) w
   written_last (suc zero) past cs short w takes =
@@ -132,7 +132,7 @@ module _ (Choice : Past → RgbaPixel → Chunk → Type 0) where
       (takes (suc (suc k)))
 
   -- the runs of a group are written
-  pub written_runs : (past : Past) (n : ℕ) (cs : List Chunk) → WrittenBy Choice (reverse past) cs → TakesRun cs
+  pub written_runs : (past : Past) (n : ℕ) (cs : List Chunk) → WrittenBy Choice (reverse past) cs → RunMayFollow cs
       → WrittenBy Choice (reverse (replicate n (previous past) ++ past)) (cs ++ runs_by (Run 1) n)
   unfolding runs_by
   written_runs past n cs w takes =
@@ -150,12 +150,12 @@ module _ (Choice : Past → RgbaPixel → Chunk → Type 0) where
   -- a fresh pixel's chunk is written, and a run may follow
   pub written_fresh : (past : Past) (cs : List Chunk) (p : RgbaPixel) (c : Chunk) → WrittenBy Choice (reverse past) cs → p ≢ previous past → IsChunk c
       → is_run c ≡ false → pixel_of past c ≡ p → Choice past p c
-      → WrittenBy Choice (reverse (p ∷ past)) (cs ++ c ∷ []) × TakesRun (cs ++ c ∷ [])
+      → WrittenBy Choice (reverse (p ∷ past)) (cs ++ c ∷ []) × RunMayFollow (cs ++ c ∷ [])
   written_fresh past cs p c w fresh is other gives choice = (
     written_append past (p ∷ past) cs (c ∷ []) w (is, tt) (then_other past c other ∙ ap (λ x. x ∷ past) gives)
         (right_from Choice past c (record { is_fresh = rw gives fresh; is_chosen = rw gives choice }), tt) (full_front (cs ++ c ∷ []) (Run 1 ∷ []) (takes 1)),
     takes,
   )
     where
-      takes : TakesRun (cs ++ c ∷ [])
+      takes : RunMayFollow (cs ++ c ∷ [])
       takes n = rw append_assoc (full_push cs c n other w.full)

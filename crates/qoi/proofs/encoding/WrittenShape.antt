@@ -4,7 +4,7 @@ use Rattle.std.proofs.lemmas.List.{reverse-reverse, length-append, length-replic
 use Rattle.std.proofs.lemmas.Bool.{cond_both}
 use Rattle.qoi.specs.declared.chunk.Chunk.{Chunk}
 use Rattle.qoi.specs.declared.chunk.Chunk.TheVariants.{Place, Diff, Luma, Run, Rgb, Rgba}
-use Rattle.qoi.specs.Qoi.{RgbaPixel, Past, previous, start, seen, hash, IsChunk, AreChunks, bytes_of, text, pixel_of, times, then_chunk, then_chunks, meaning, Each, Reaches}
+use Rattle.qoi.specs.Qoi.{RgbaPixel, Past, previous, start, seen, hash, IsChunk, AreChunks, bytes_of, chunk_bytes, pixel_of, times, then_chunk, then_chunks, meaning, Each, Reaches}
 use Rattle.qoi.specs.Raw.{AreOpaque, HasChannels}
 use Rattle.qoi.specs.Written.{noted, IsFirst, IsChoice, IsRightAfter, WrittenBy}
 use Rattle.qoi.proofs.format.SamePixels.{cases_pixel, same_pixel}
@@ -83,19 +83,19 @@ module _ (Choice : Past → RgbaPixel → Chunk → Type 0) (rgba_first : (past 
 
   -- so have chunks
   chunks_fit : (channels : ℕ) (past : Past) (cs : List Chunk) → AreChunks cs → HasChannels (then_chunks past cs) channels → Each (IsRightAfter Choice) past cs
-      → length (text cs) ≤ length (given past cs) * channels + length (given past cs)
+      → length (chunk_bytes cs) ≤ length (given past cs) * channels + length (given past cs)
   chunks_fit channels past [] k h r = omega arith
   chunks_fit channels past (c ∷ cs) k h r =
       let one = chunk_fits channels past c k.0 (channels_before channels (then_chunk past c) cs h) r.0 in
       let more = chunks_fit channels (then_chunk past c) cs k.1 h r.1 in
       let l : length (given past (c ∷ cs)) ≡ times c + length (given (then_chunk past c) cs) = simp (length-append, length-replicate) in
-      let t : length (text (c ∷ cs)) ≡ length (bytes_of c) + length (text cs) = simp length-append in
+      let t : length (chunk_bytes (c ∷ cs)) ≡ length (bytes_of c) + length (chunk_bytes cs) = simp length-append in
       let m = add-mul (times c) (length (given (then_chunk past c) cs)) channels in
       rw (l, t) (omega arith)
 
   -- a written list has at most a byte a pixel more than the raw bytes
   pub fits_by : (image : List RgbaPixel) (channels n : ℕ) (cs : List Chunk) → HasChannels image channels → length image ≡ n → WrittenBy Choice image cs
-      → length (text cs) ≤ n * channels + n
+      → length (chunk_bytes cs) ≤ n * channels + n
   fits_by image channels n cs h e w =
       let g : length (given [] cs) ≡ n = ap length (sym (meaning_given cs) ∙ w.means) ∙ e in
       let k = chunks_fit channels [] cs w.chunks (back h) w.right in

@@ -4,7 +4,7 @@ use Rattle.std.proofs.lemmas.List.{length-reverse}
 use Rattle.std.proofs.lemmas.Grind.{flat_map-append}
 use Rattle.qoi.specs.declared.chunk.Chunk.{Chunk}
 use Rattle.qoi.specs.declared.chunk.Chunk.TheVariants.{Place, Diff, Luma, Run, Rgb, Rgba}
-use Rattle.qoi.specs.Qoi.{AreChunks, bytes_of, text, then_chunks, meaning}
+use Rattle.qoi.specs.Qoi.{AreChunks, bytes_of, chunk_bytes, then_chunks, meaning}
 
 -- a chunk has one byte to five
 pub length-bytes_of : (c : Chunk) → (0 < length (bytes_of c)) × (length (bytes_of c) ≤ 5)
@@ -21,8 +21,8 @@ are_chunks_append [] ds are all = all
 are_chunks_append (c ∷ cs) ds are all = (are.0, are_chunks_append cs ds are.1 all)
 
 -- the bytes of chunks and one more
-pub text-last : (cs : List Chunk) (c : Chunk) → text (cs ++ c ∷ []) ≡ text cs ++ bytes_of c
-text-last cs c = flat_map-append bytes_of cs (c ∷ []) ∙ ap (λ z. text cs ++ z) (append-nil (bytes_of c))
+pub chunk_bytes-last : (cs : List Chunk) (c : Chunk) → chunk_bytes (cs ++ c ∷ []) ≡ chunk_bytes cs ++ bytes_of c
+chunk_bytes-last cs c = flat_map-append bytes_of cs (c ∷ []) ∙ ap (λ z. chunk_bytes cs ++ z) (append-nil (bytes_of c))
 
 -- as many pixels are meant as stand after the chunks
 pub length-meaning : (cs : List Chunk) → length (meaning cs) ≡ length (then_chunks [] cs)

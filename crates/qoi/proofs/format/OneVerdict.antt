@@ -2,8 +2,8 @@
 use Rattle.std.proofs.Common.{◌≡◌, ℕ, ◌<◌, ◌≤◌, ◌⊎◌, inl, inr, List, [], ◌∷◌, ◌++◌, length, arith, refl, ap, sym, ◌∙◌, subst, append_assoc, length-append}
 use Rattle.std.proofs.lemmas.List.{append_cancel_left}
 use Rattle.qoi.specs.declared.chunk.Chunk.{Chunk}
-use Rattle.qoi.specs.Qoi.{Past, IsChunk, AreChunks, bytes_of, text, then_chunk, Each, then_chunks, meaning, end_marker}
-use Rattle.qoi.specs.Verdicts.{IsPartOfChunk, Takes, IsWhole, IsCut, IsWrong}
+use Rattle.qoi.specs.Qoi.{Past, IsChunk, AreChunks, bytes_of, chunk_bytes, then_chunk, Each, then_chunks, meaning, end_marker}
+use Rattle.qoi.specs.Verdicts.{IsPartOfChunk, HasChunks, IsWhole, IsCut, IsWrong}
 use Rattle.qoi.proofs.format.Appended.{length-meaning}
 use Rattle.qoi.proofs.format.ChunksApart.{chunks_apart, part_begins_none}
 
@@ -24,16 +24,16 @@ ends_without_chunk n past d x y hd short (inr part) e = part_begins_none d y hd 
 pub one_takes_after : (n : ℕ) (past : Past) (cs ds : List Chunk) (x y : List ℕ) → AreChunks cs → AreChunks ds
     → StayBelowAfter n past cs → StayBelowAfter n past ds
     → EndsChunks n (then_chunks past cs) x → EndsChunks n (then_chunks past ds) y
-    → text cs ++ x ≡ text ds ++ y → (cs ≡ ds) × (x ≡ y)
+    → chunk_bytes cs ++ x ≡ chunk_bytes ds ++ y → (cs ≡ ds) × (x ≡ y)
 one_takes_after n past [] [] x y hc hd bc bd ec ed e = (refl, e)
 one_takes_after n past [] (d ∷ ds) x y hc hd bc bd ec ed e =
-    absurd (ends_without_chunk n past d x (text ds ++ y) hd.0 bd.0 ec (e ∙ append_assoc (bytes_of d) (text ds) y))
+    absurd (ends_without_chunk n past d x (chunk_bytes ds ++ y) hd.0 bd.0 ec (e ∙ append_assoc (bytes_of d) (chunk_bytes ds) y))
 one_takes_after n past (c ∷ cs) [] x y hc hd bc bd ec ed e =
-    absurd (ends_without_chunk n past c y (text cs ++ x) hc.0 bc.0 ed (sym e ∙ append_assoc (bytes_of c) (text cs) x))
+    absurd (ends_without_chunk n past c y (chunk_bytes cs ++ x) hc.0 bc.0 ed (sym e ∙ append_assoc (bytes_of c) (chunk_bytes cs) x))
 one_takes_after n past (c ∷ cs) (d ∷ ds) x y hc hd bc bd ec ed e =
-    let f : bytes_of c ++ (text cs ++ x) ≡ bytes_of d ++ (text ds ++ y) =
-    sym (append_assoc (bytes_of c) (text cs) x) ∙ e ∙ append_assoc (bytes_of d) (text ds) y in
-    let first = chunks_apart c d (text cs ++ x) (text ds ++ y) hc.0 hd.0 f in
+    let f : bytes_of c ++ (chunk_bytes cs ++ x) ≡ bytes_of d ++ (chunk_bytes ds ++ y) =
+    sym (append_assoc (bytes_of c) (chunk_bytes cs) x) ∙ e ∙ append_assoc (bytes_of d) (chunk_bytes ds) y in
+    let first = chunks_apart c d (chunk_bytes cs ++ x) (chunk_bytes ds ++ y) hc.0 hd.0 f in
     let Below : Chunk → Type 0 = λ b. StayBelowAfter n (then_chunk past b) ds in
     let Ends : Chunk → Type 0 = λ b. EndsChunks n (then_chunks (then_chunk past b) ds) y in
     let more = one_takes_after n (then_chunk past c) cs ds x y hc.1 hd.1 bc.1 (subst Below (sym first.0) bd.1) ec (subst Ends (sym first.0) ed) first.1 in
@@ -44,7 +44,7 @@ enough_ends : (n : ℕ) (cs : List Chunk) (x : List ℕ) → n ≤ length (meani
 enough_ends n cs x h = inl (omega (arith, length-meaning cs))
 
 -- two readings of the same bytes are one
-pub one_takes : (n : ℕ) (bytes : List ℕ) (cs ds : List Chunk) (x y : List ℕ) → Takes n bytes cs x → Takes n bytes ds y
+pub one_takes : (n : ℕ) (bytes : List ℕ) (cs ds : List Chunk) (x y : List ℕ) → HasChunks n bytes cs x → HasChunks n bytes ds y
     → EndsChunks n (then_chunks [] cs) x → EndsChunks n (then_chunks [] ds) y → (cs ≡ ds) × (x ≡ y)
 one_takes n bytes cs ds x y s t ec ed =
     one_takes_after n [] cs ds x y s.chunks t.chunks s.short t.short ec ed (sym s.split ∙ t.split)
@@ -78,26 +78,26 @@ same_front (a ∷ as1) (b ∷ bs) x y h e =
 -- bytes are whole in one way
 pub whole_is_one : (n : ℕ) (bytes : List ℕ) (cs ds : List Chunk) (x y : List ℕ) → IsWhole n bytes cs x → IsWhole n bytes ds y → (cs ≡ ds) × (x ≡ y)
 whole_is_one n bytes cs ds x y s t =
-    let both = one_takes n bytes cs ds (end_marker ++ x) (end_marker ++ y) s.takes t.takes (enough_ends n cs (end_marker ++ x) s.enough)
+    let both = one_takes n bytes cs ds (end_marker ++ x) (end_marker ++ y) s.has t.has (enough_ends n cs (end_marker ++ x) s.enough)
     (enough_ends n ds (end_marker ++ y) t.enough) in
     (both.0, append_cancel_left end_marker x y both.1)
 
 -- bytes are cut in one way
 pub cut_is_one : (n : ℕ) (bytes : List ℕ) (cs ds : List Chunk) (x y : List ℕ) → IsCut n bytes cs x → IsCut n bytes ds y → (cs ≡ ds) × (x ≡ y)
-cut_is_one n bytes cs ds x y s t = one_takes n bytes cs ds x y s.takes t.takes (cut_ends n bytes cs x s) (cut_ends n bytes ds y t)
+cut_is_one n bytes cs ds x y s t = one_takes n bytes cs ds x y s.has t.has (cut_ends n bytes cs x s) (cut_ends n bytes ds y t)
 
 -- bytes are wrong in one way
 pub wrong_is_one : (n : ℕ) (bytes : List ℕ) (cs ds : List Chunk) (eight other x y : List ℕ)
     → IsWrong n bytes cs eight x → IsWrong n bytes ds other y → (cs ≡ ds) × (eight ≡ other) × (x ≡ y)
 wrong_is_one n bytes cs ds eight other x y s t =
-    let both = one_takes n bytes cs ds (eight ++ x) (other ++ y) s.takes t.takes (enough_ends n cs _ s.enough) (enough_ends n ds _ t.enough) in
+    let both = one_takes n bytes cs ds (eight ++ x) (other ++ y) s.has t.has (enough_ends n cs _ s.enough) (enough_ends n ds _ t.enough) in
     let ends = same_front eight other x y (s.length_is ∙ sym t.length_is) both.1 in
     (both.0, ends.0, ends.1)
 
 -- whole bytes aren't cut
 pub whole_not_cut : (n : ℕ) (bytes : List ℕ) (cs ds : List Chunk) (x part : List ℕ) → IsWhole n bytes cs x → IsCut n bytes ds part → ⊥
 whole_not_cut n bytes cs ds x part s t =
-    let both = one_takes n bytes cs ds (end_marker ++ x) part s.takes t.takes (enough_ends n cs (end_marker ++ x) s.enough) (cut_ends n bytes ds part t) in
+    let both = one_takes n bytes cs ds (end_marker ++ x) part s.has t.has (enough_ends n cs (end_marker ++ x) s.enough) (cut_ends n bytes ds part t) in
     let P : List Chunk → Type 0 = λ bs. n ≤ length (meaning bs) in
     let short = cut_is_short n bytes ds part t (subst P both.0 s.enough) in
     omega (arith, ap length both.1)
@@ -105,14 +105,14 @@ whole_not_cut n bytes cs ds x part s t =
 -- whole bytes aren't wrong
 pub whole_not_wrong : (n : ℕ) (bytes : List ℕ) (cs ds : List Chunk) (x eight rest : List ℕ) → IsWhole n bytes cs x → IsWrong n bytes ds eight rest → ⊥
 whole_not_wrong n bytes cs ds x eight rest s t =
-    let both = one_takes n bytes cs ds (end_marker ++ x) (eight ++ rest) s.takes t.takes (enough_ends n cs (end_marker ++ x) s.enough)
+    let both = one_takes n bytes cs ds (end_marker ++ x) (eight ++ rest) s.has t.has (enough_ends n cs (end_marker ++ x) s.enough)
     (enough_ends n ds _ t.enough) in
     t.other (sym (same_front end_marker eight x rest (sym t.length_is) both.1).0)
 
 -- cut bytes aren't wrong
 pub cut_not_wrong : (n : ℕ) (bytes : List ℕ) (cs ds : List Chunk) (part eight rest : List ℕ) → IsCut n bytes cs part → IsWrong n bytes ds eight rest → ⊥
 cut_not_wrong n bytes cs ds part eight rest s t =
-    let both = one_takes n bytes cs ds part (eight ++ rest) s.takes t.takes (cut_ends n bytes cs part s) (enough_ends n ds _ t.enough) in
+    let both = one_takes n bytes cs ds part (eight ++ rest) s.has t.has (cut_ends n bytes cs part s) (enough_ends n ds _ t.enough) in
     let P : List Chunk → Type 0 = λ bs. n ≤ length (meaning bs) in
     let short = cut_is_short n bytes cs part s (subst P (sym both.0) t.enough) in
     omega (arith, ap length both.1, length-append eight rest, t.length_is)

@@ -6,8 +6,8 @@ use Rattle.std.proofs.lemmas.Slice.Eq.{bytes_eq-Decides}
 use Rattle.std.specs.Str.{bytes_eq}
 use Rattle.qoi.specs.declared.chunk.Chunk.{Chunk}
 use Rattle.qoi.specs.declared.chunk.Chunk.TheVariants.{Place, Diff, Luma, Run, Rgb, Rgba}
-use Rattle.qoi.specs.Qoi.{AreBytes, Past, IsChunk, AreChunks, bytes_of, text, then_chunk, then_chunks, meaning, end_marker}
-use Rattle.qoi.specs.Verdicts.{IsPartOfChunk, Takes, IsWhole, IsCut, IsWrong}
+use Rattle.qoi.specs.Qoi.{AreBytes, Past, IsChunk, AreChunks, bytes_of, chunk_bytes, then_chunk, then_chunks, meaning, end_marker}
+use Rattle.qoi.specs.Verdicts.{IsPartOfChunk, HasChunks, IsWhole, IsCut, IsWrong}
 use Rattle.qoi.proofs.format.PartOfChunk.{part_empty, part_luma, part_rgb, part_rgba}
 use Rattle.qoi.proofs.format.OneVerdict.{StayBelowAfter, EndsChunks}
 use Rattle.qoi.proofs.format.Appended.{length-bytes_of, length-meaning}
@@ -83,7 +83,7 @@ pub record Reading (n : ℕ) (past : Past) (bytes : List ℕ) : Type 0 where
   pub rest : List ℕ
   pub chunks : AreChunks found
   pub short : StayBelowAfter n past found
-  pub split : bytes ≡ text found ++ rest
+  pub split : bytes ≡ chunk_bytes found ++ rest
   pub ends : EndsChunks n (then_chunks past found) rest
 
 -- reading goes on after a chunk
@@ -94,7 +94,7 @@ reading_goes_on n past bytes c more below hc e r = record {
   rest = r.rest;
   chunks = (hc, r.chunks);
   short = (below, r.short);
-  split = e ∙ ap (λ l. bytes_of c ++ l) r.split ∙ sym (append_assoc (bytes_of c) (text r.found) r.rest);
+  split = e ∙ ap (λ l. bytes_of c ++ l) r.split ∙ sym (append_assoc (bytes_of c) (chunk_bytes r.found) r.rest);
   ends = r.ends;
 }
 
@@ -123,7 +123,7 @@ HasVerdict n bytes = ((cs : List Chunk) × (rest : List ℕ) × IsWhole n bytes 
     ⊎ ((cs : List Chunk) × (eight : List ℕ) × (rest : List ℕ) × IsWrong n bytes cs eight rest))
 
 -- the verdict where n pixels are reached and eight bytes or more follow
-marker_verdict : (n : ℕ) (bytes : List ℕ) (cs : List Chunk) (eight rest : List ℕ) → Takes n bytes cs (eight ++ rest)
+marker_verdict : (n : ℕ) (bytes : List ℕ) (cs : List Chunk) (eight rest : List ℕ) → HasChunks n bytes cs (eight ++ rest)
     → n ≤ length (meaning cs) → length eight ≡ 8 → HasVerdict n bytes
 marker_verdict n bytes cs eight rest t enough h =
     let same = bytes_eq-Decides eight end_marker in
@@ -132,27 +132,27 @@ marker_verdict n bytes cs eight rest t enough h =
         cs,
         rest,
         record {
-          takes = let P : List ℕ
-              → Type 0 = λ l. Takes n bytes cs (l ++ rest) in subst P (same.0 yes_same) t;
+          has = let P : List ℕ
+              → Type 0 = λ l. HasChunks n bytes cs (l ++ rest) in subst P (same.0 yes_same) t;
           enough = enough;
         },
       )
-      | inr differs ↦ inr (inr (cs, eight, rest, record { takes = t; enough = enough; length_is = h; other = λ e. false_is_not_true (sym differs ∙ same.1 e) }))
+      | inr differs ↦ inr (inr (cs, eight, rest, record { has = t; enough = enough; length_is = h; other = λ e. false_is_not_true (sym differs ∙ same.1 e) }))
     ]
   where
     false_is_not_true : false ≡ true → ⊥
     false_is_not_true e = cc
 
 -- the verdict from a reading
-verdict_of_ends : (n : ℕ) (bytes : List ℕ) (cs : List Chunk) (rest : List ℕ) → Takes n bytes cs rest → EndsChunks n (then_chunks [] cs) rest
+verdict_of_ends : (n : ℕ) (bytes : List ℕ) (cs : List Chunk) (rest : List ℕ) → HasChunks n bytes cs rest → EndsChunks n (then_chunks [] cs) rest
     → HasVerdict n bytes
-verdict_of_ends n bytes cs rest t (inr part) = inr (inl (cs, rest, record { takes = t; ends = inl (omega (arith, length-meaning cs), part.1) }))
+verdict_of_ends n bytes cs rest t (inr part) = inr (inl (cs, rest, record { has = t; ends = inl (omega (arith, length-meaning cs), part.1) }))
 verdict_of_ends n bytes cs rest t (inl enough) =
     let above : n ≤ length (meaning cs) = omega (arith, length-meaning cs) in
     elim (cases_lt (length rest) 8) [
-      | inl few ↦ inr (inl (cs, rest, record { takes = t; ends = inr (above, few) }))
+      | inl few ↦ inr (inl (cs, rest, record { has = t; ends = inr (above, few) }))
       | inr many ↦ marker_verdict n bytes cs (take 8 rest) (drop 8 rest)
-          (let P : List ℕ → Type 0 = λ l. Takes n bytes cs l in subst P (sym (take-append-drop 8 rest)) t)
+          (let P : List ℕ → Type 0 = λ l. HasChunks n bytes cs l in subst P (sym (take-append-drop 8 rest)) t)
           above (omega (arith, length-take 8 rest))
     ]
 

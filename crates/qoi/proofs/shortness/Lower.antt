@@ -4,7 +4,7 @@ use Rattle.std.proofs.lemmas.Bool.{cond_both}
 use Rattle.std.proofs.lemmas.List.{length-append, reverse-append, reverse-reverse}
 use Rattle.qoi.specs.declared.chunk.Chunk.{Chunk}
 use Rattle.qoi.specs.declared.chunk.Chunk.TheVariants.{Place, Diff, Luma, Run, Rgb, Rgba}
-use Rattle.qoi.specs.Qoi.{RgbaPixel, Past, previous, seen, IsChunk, AreChunks, pixel_of, bytes_of, text, then_chunk, then_chunks, meaning, Each}
+use Rattle.qoi.specs.Qoi.{RgbaPixel, Past, previous, seen, IsChunk, AreChunks, pixel_of, bytes_of, chunk_bytes, then_chunk, then_chunks, meaning, Each}
 use Rattle.qoi.specs.Regular.{NamesWritten, Regular, Begins}
 use Rattle.qoi.specs.Shortest.{least, trailing_repeats, cost, total_cost, floor}
 use Rattle.qoi.proofs.format.SamePixels.{cases_pixel}
@@ -59,24 +59,24 @@ module _ (shortest : Past → RgbaPixel → ℕ) (Allowed : Past → Chunk → T
 
   -- nor than chunks
   cost_chunks : (past : Past) (cs : List Chunk) → AreChunks cs → Each Allowed past cs
-      → total_cost shortest (then_chunks past cs) ≤ total_cost shortest past + length (text cs)
+      → total_cost shortest (then_chunks past cs) ≤ total_cost shortest past + length (chunk_bytes cs)
   cost_chunks past [] k a = omega arith
   cost_chunks past (c ∷ cs) k a =
       let one = cost_chunk past c k.0 a.0 in
       let more = cost_chunks (then_chunk past c) cs k.1 a.1 in
-      let t : length (text (c ∷ cs)) ≡ length (bytes_of c) + length (text cs) = length-append (bytes_of c) (text cs) in
+      let t : length (chunk_bytes (c ∷ cs)) ≡ length (bytes_of c) + length (chunk_bytes cs) = length-append (bytes_of c) (chunk_bytes cs) in
       omega arith
 
   -- so a chunk list that is allowed has no fewer bytes than the pixels of an image that it begins with cost
   pub lower_by : (image : List RgbaPixel) (cs : List Chunk) → AreChunks cs → Each Allowed [] cs → Begins (meaning cs) image
-      → total_cost shortest (reverse image) ≤ length (text cs)
+      → total_cost shortest (reverse image) ≤ length (chunk_bytes cs)
   lower_by image cs k a (more, b) =
       let h = cost_chunks [] cs k a in
       let e : then_chunks [] cs ≡ reverse more ++ reverse image = sym (reverse-reverse (then_chunks [] cs)) ∙ ap reverse b ∙ reverse-append image more in
       let f = cost_front shortest (reverse more) (reverse image) in
-      let g : total_cost shortest (reverse more ++ reverse image) ≤ 0 + length (text cs) = rw e at h in
+      let g : total_cost shortest (reverse more ++ reverse image) ≤ 0 + length (chunk_bytes cs) = rw e at h in
       omega arith
 
 -- no regular chunk list that begins with an image has fewer bytes than the image's floor
-pub lower : (image : List RgbaPixel) (cs : List Chunk) → AreChunks cs → Regular cs → Begins (meaning cs) image → floor image ≤ length (text cs)
+pub lower : (image : List RgbaPixel) (cs : List Chunk) → AreChunks cs → Regular cs → Begins (meaning cs) image → floor image ≤ length (chunk_bytes cs)
 lower image cs k r b = lower_by least NamesWritten least_bounds image cs k r b

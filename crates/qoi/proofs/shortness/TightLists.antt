@@ -3,7 +3,7 @@ use Rattle.std.proofs.Common.{◌≡◌, ◌≢◌, ◌⊎◌, inl, inr, ℕ, �
 use Rattle.std.proofs.lemmas.Bool.{cond-true, cond-false, cond_both, and_from}
 use Rattle.qoi.specs.declared.chunk.Chunk.{Chunk}
 use Rattle.qoi.specs.declared.chunk.Chunk.TheVariants.{Place, Diff, Luma, Run, Rgb, Rgba}
-use Rattle.qoi.specs.Qoi.{RgbaPixel, Past, pixel_eq, blank, previous, seen, hash, IsChunk, AreChunks, pixel_of, bytes_of, text, then_chunk, meaning, Each}
+use Rattle.qoi.specs.Qoi.{RgbaPixel, Past, pixel_eq, blank, previous, seen, hash, IsChunk, AreChunks, pixel_of, bytes_of, chunk_bytes, then_chunk, meaning, Each}
 use Rattle.qoi.specs.Raw.{HasChannels}
 use Rattle.qoi.specs.Regular.{Begins}
 use Rattle.qoi.specs.Shortest.{least, cost, total_cost, floor}
@@ -61,7 +61,7 @@ each_allowed past [] = tt
 each_allowed past (c ∷ cs) = (tt, each_allowed (then_chunk past c) cs)
 
 -- no chunk list that begins with an image has fewer bytes than its pixels cost
-pub lower0 : (image : List RgbaPixel) (cs : List Chunk) → AreChunks cs → Begins (meaning cs) image → floor0 image ≤ length (text cs)
+pub lower0 : (image : List RgbaPixel) (cs : List Chunk) → AreChunks cs → Begins (meaning cs) image → floor0 image ≤ length (chunk_bytes cs)
 lower0 image cs k b = lower_by least0 (λ past c. Unit {0}) least0_bounds image cs k (each_allowed [] cs) b
 
 -- a fresh pixel's chunk is no longer than it costs
@@ -75,7 +75,7 @@ tight_cost past c k h o g r =
     k
 
 -- so the tight list has just as many bytes
-pub tight_exact : (image : List RgbaPixel) (cs : List Chunk) → WrittenBy IsTightChoice image cs → length (text cs) ≡ floor0 image
+pub tight_exact : (image : List RgbaPixel) (cs : List Chunk) → WrittenBy IsTightChoice image cs → length (chunk_bytes cs) ≡ floor0 image
 tight_exact image cs w =
     let u = upper_by least0 IsTightChoice (λ past. 0) (λ past p. omega arith) 4 tight_cost image cs (inl refl) w in
     let l = lower0 image cs w.chunks ([], w.means ∙ sym (append-nil image)) in

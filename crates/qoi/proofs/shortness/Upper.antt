@@ -4,7 +4,7 @@ use Rattle.std.proofs.lemmas.Bool.{false_from_ne_true}
 use Rattle.std.proofs.lemmas.List.{length-append, reverse-reverse}
 use Rattle.qoi.specs.declared.chunk.Chunk.{Chunk}
 use Rattle.qoi.specs.declared.chunk.Chunk.TheVariants.{Place, Diff, Luma, Run, Rgb, Rgba}
-use Rattle.qoi.specs.Qoi.{RgbaPixel, Past, previous, seen, hash, IsChunk, AreChunks, pixel_of, bytes_of, text, then_chunk, then_chunks, Each}
+use Rattle.qoi.specs.Qoi.{RgbaPixel, Past, previous, seen, hash, IsChunk, AreChunks, pixel_of, bytes_of, chunk_bytes, then_chunk, then_chunks, Each}
 use Rattle.qoi.specs.Raw.{HasChannels}
 use Rattle.qoi.specs.Written.{rank, noted, IsFirst, IsChoice, GivesFresh, IsRightAfter, IsFull, RunsAreFull, WrittenBy, Written}
 use Rattle.qoi.specs.Shortest.{some_diff, some_luma, some_rgb, least, trailing_repeats, total_cost, floor, slack}
@@ -141,22 +141,22 @@ module _ (shortest : Past → RgbaPixel → ℕ) (Choice : Past → RgbaPixel �
 
   -- chunks cost no more than their pixels and what is extra
   all_fit : (past : Past) (cs : List Chunk) → AreChunks cs → HasChannels (then_chunks past cs) channels → Each (IsRightAfter Choice) past cs → RunsAreFull cs
-      → Aligned past cs → length (text cs) + total_cost shortest past + extra past ≤ total_cost shortest (then_chunks past cs) + extra (then_chunks past cs)
+      → Aligned past cs → length (chunk_bytes cs) + total_cost shortest past + extra past ≤ total_cost shortest (then_chunks past cs) + extra (then_chunks past cs)
   all_fit past [] i h r f a = omega arith
   all_fit past (c ∷ cs) i h r f a =
       let one = one_fits past c cs i.0 (channels_before channels (then_chunk past c) cs h) r.0 a in
       let more = all_fit (then_chunk past c) cs i.1 h r.1 f.1 (aligned_next past c cs r.0 f.0 a) in
-      let t : length (text (c ∷ cs)) ≡ length (bytes_of c) + length (text cs) = length-append (bytes_of c) (text cs) in
+      let t : length (chunk_bytes (c ∷ cs)) ≡ length (bytes_of c) + length (chunk_bytes cs) = length-append (bytes_of c) (chunk_bytes cs) in
       omega arith
 
   -- so the written list costs no more than the pixels of its image and what is extra
   pub upper_by : (image : List RgbaPixel) (cs : List Chunk) → HasChannels image channels → WrittenBy Choice image cs
-      → length (text cs) ≤ total_cost shortest (reverse image) + extra (reverse image)
+      → length (chunk_bytes cs) ≤ total_cost shortest (reverse image) + extra (reverse image)
   upper_by image cs h w =
       let e : then_chunks [] cs ≡ reverse image = sym (reverse-reverse (then_chunks [] cs)) ∙ ap reverse w.means in
       let k : HasChannels (then_chunks [] cs) channels = rw e (back h) in
       let u = all_fit [] cs w.chunks k w.right w.full (at_start cs) in
-      let v : length (text cs) + 0 + extra [] ≤ total_cost shortest (reverse image) + extra (reverse image) = rw e at u in
+      let v : length (chunk_bytes cs) + 0 + extra [] ≤ total_cost shortest (reverse image) + extra (reverse image) = rw e at u in
       omega arith
     where
       back : HasChannels image channels → HasChannels (reverse image) channels
@@ -174,7 +174,7 @@ module _ (shortest : Past → RgbaPixel → ℕ) (Choice : Past → RgbaPixel �
 
 -- the written list has at most the bytes of the floor and the slack
 pub upper : (image : List RgbaPixel) (channels : ℕ) (cs : List Chunk) → HasChannels image channels → Written image cs
-    → length (text cs) ≤ floor image + slack image channels
+    → length (chunk_bytes cs) ≤ floor image + slack image channels
 upper image channels cs h w =
     let u = upper_by least IsChoice (slack_at channels) (slack_more channels) channels (fresh_cost channels) image cs h w in
     let s = slack_is image channels in

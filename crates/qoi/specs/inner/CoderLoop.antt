@@ -7,15 +7,15 @@ use Rattle.qoi.specs.declared.encode.coder.Coder.{Coder}
 use Rattle.qoi.specs.declared.encode.quad.Quad.{Quad}
 use Rattle.qoi.specs.declared.types.Style.{Style}
 use Rattle.qoi.specs.declared.types.Style.TheVariants.{Reference, Places, Tight}
-use Rattle.qoi.specs.Qoi.{RgbaPixel, IsPixel, Past, previous, text}
+use Rattle.qoi.specs.Qoi.{RgbaPixel, IsPixel, Past, previous, chunk_bytes}
 use Rattle.qoi.specs.Written.{RunsAreFull, WrittenBy}
 use Rattle.qoi.specs.Styles.{placed_after, choice_in}
 use Rattle.qoi.specs.inner.CoderState.{StateAfter, StyleAfter}
 use Rattle.qoi.specs.inner.Packed.{word}
 
 -- a run of any length may follow the list
-abbrev pub TakesRun : List Chunk → Type 0
-TakesRun cs = (n : ℕ) → RunsAreFull (cs ++ Run n ∷ [])
+abbrev pub RunMayFollow : List Chunk → Type 0
+RunMayFollow cs = (n : ℕ) → RunsAreFull (cs ++ Run n ∷ [])
 
 -- The list cs is written for the image. Of its pixels `past` have come, and `done` is the list that is written for
 -- them, which a run may follow if the next pixel repeats; `rest` follow. Of cs the chunks `todo` are still to be written.
@@ -26,7 +26,7 @@ pub record StillToWrite (Choice : Past → RgbaPixel → Chunk → Type 0) (imag
   pub are : AllByRecursion IsPixel rest
   pub done : List Chunk
   pub written : WrittenBy Choice (reverse past) done
-  pub takes_run : slice_get rest 0 ≡ Some (previous past) → TakesRun done
+  pub run_may_follow : slice_get rest 0 ≡ Some (previous past) → RunMayFollow done
   pub parts : cs ≡ done ++ todo
 
 -- as a style has chunks after these pixels and this chunk
@@ -50,7 +50,7 @@ pub record CoderBetween (w : Writing) (rest : List RgbaPixel) (table : List Rgba
   pub before : Option Chunk
   pub todo : List Chunk
   pub to_write : StillToWrite (choice_in w.style) w.image w.list past rest todo
-  pub ahead_is : w.ahead ≡ bytes ++ text (styled w.style past before todo)
+  pub ahead_is : w.ahead ≡ bytes ++ chunk_bytes (styled w.style past before todo)
   pub state : StateAfter w.style past table coder.last
   pub style_state : StyleAfter past before coder.place coder.begun coder.placed
 

@@ -6,10 +6,10 @@ use Rattle.qoi.specs.inner.Table.{Holds}
 use Rattle.qoi.specs.Raw.{output}
 
 -- The first `at` bytes of the buffer are those of the pixels so far, as far as they fit n pixels.
-pub record HasFilled (file channels n : ℕ) (out : List ℕ) (at : ℕ) (past : Past) : Type 0 where
+pub record HasFilled (file_channels channels n : ℕ) (out : List ℕ) (at : ℕ) (past : Past) : Type 0 where
   pub room : length out ≡ channels * n
   pub at_is : at ≡ channels * min n (length past)
-  pub same : take at out ≡ take at (output file channels (reverse past))
+  pub same : take at out ≡ take at (output file_channels channels (reverse past))
 
 -- both are numbers of bytes of whole pixels
 abbrev pub IsWholePixels : ℕ → ℕ → ℕ → Type 0
@@ -32,13 +32,13 @@ pub record HasSeen (s : Filling) (past : Past) : Type 0 where
   pub last_is : s.last ≡ previous past
 
 -- the pixels of a chunk were seen, and written behind the others
-pub record Gives (file channels : ℕ) (chunk : Chunk) (old new : Filling) : Type 0 where
+pub record Gives (file_channels channels : ℕ) (chunk : Chunk) (old new : Filling) : Type 0 where
   pub seen : (past : Past) → HasSeen old past → HasSeen new (then_chunk past chunk)
-  pub filled : (n : ℕ) (past : Past) → HasFilled file channels n old.out old.at past → HasFilled file channels n new.out new.at (replicate (times chunk) new.last ++ past)
+  pub filled : (n : ℕ) (past : Past) → HasFilled file_channels channels n old.out old.at past → HasFilled file_channels channels n new.out new.at (replicate (times chunk) new.last ++ past)
 
 -- the bytes are those of a chunk, and its pixels were seen and written
-pub record GivesChunk (file channels : ℕ) (bytes : List ℕ) (old new : Filling) : Type 0 where
+pub record GivesChunk (file_channels channels : ℕ) (bytes : List ℕ) (old new : Filling) : Type 0 where
   pub chunk : Chunk
   pub is_chunk : IsChunk chunk
   pub bytes_are : bytes ≡ bytes_of chunk
-  pub gives : Gives file channels chunk old new
+  pub gives : Gives file_channels channels chunk old new

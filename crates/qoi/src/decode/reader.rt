@@ -41,22 +41,22 @@ pub trait Reader: Sized {
     /// Reads chunks until `out` is full of pixels, and then the end marker (QOI specification 1.0,
     /// "File Format" and "Data").
     ///
-    /// `channels` are those of the output, and `src_channels` those of the file's header. The caller
+    /// `channels` are those of the output, and `file_channels` those of the file's header. The caller
     /// sees to it that `out` has a multiple of `channels` bytes.
     ///
     /// Refusals, in this order: `InvalidChannels` with `channels` where either number isn't 3 or 4,
     /// and then nothing is read; `UnexpectedBufferEnd` where the bytes end before `out` is full or
     /// within the eight bytes after the chunks, or `IoError` from a stream; `InvalidPadding` where
     /// those eight bytes aren't the end marker.
-    fn decode_image(&mut self, out: &mut [u8], channels: u8, src_channels: u8) -> Result<()>
-        requires { AreChannels channels src_channels → length out.old % channels ≡ 0 }
-        ensures read { OnOk result (AreChannels channels src_channels
-            × ReadsImage src_channels channels (length out.old / channels)
+    fn decode_image(&mut self, out: &mut [u8], channels: u8, file_channels: u8) -> Result<()>
+        requires { AreChannels channels file_channels → length out.old % channels ≡ 0 }
+        ensures read { OnOk result (AreChannels channels file_channels
+            × ReadsImage file_channels channels (length out.old / channels)
             (ahead self.old) (ahead self.new) out.new) }
-        ensures refused { AreChannels channels src_channels
+        ensures refused { AreChannels channels file_channels
             → IfErr result (RefusesImage in_memory (length out.old / channels)
             (ahead self.old) (ahead self.new)) }
-        ensures channels { (AreChannels channels src_channels → ⊥)
+        ensures channels { (AreChannels channels file_channels → ⊥)
             → (result ≡ Err (Error.InvalidChannels channels))
             × (self.new ≡ self.old) × (out.new ≡ out.old) };
 
@@ -109,8 +109,8 @@ impl<'a> Reader for Bytes<'a> {
         could_hold(self.0, n_pixels)
     }
 
-    fn decode_image(&mut self, out: &mut [u8], channels: u8, src_channels: u8) -> Result<()> {
-        self.0 = match (channels, src_channels) {
+    fn decode_image(&mut self, out: &mut [u8], channels: u8, file_channels: u8) -> Result<()> {
+        self.0 = match (channels, file_channels) {
             (3, 3) | (3, 4) => slice_image::<3, 3>(self.0, out)?,
             (4, 3) => slice_image::<4, 3>(self.0, out)?,
             (4, 4) => slice_image::<4, 4>(self.0, out)?,
@@ -137,8 +137,8 @@ impl<R: Read> Reader for R {
         true
     }
 
-    fn decode_image(&mut self, out: &mut [u8], channels: u8, src_channels: u8) -> Result<()> {
-        match (channels, src_channels) {
+    fn decode_image(&mut self, out: &mut [u8], channels: u8, file_channels: u8) -> Result<()> {
+        match (channels, file_channels) {
             (3, 3) | (3, 4) => stream_image::<R, 3, 3>(self, out),
             (4, 3) => stream_image::<R, 4, 3>(self, out),
             (4, 4) => stream_image::<R, 4, 4>(self, out),

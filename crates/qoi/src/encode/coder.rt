@@ -4,7 +4,7 @@ ghost use lib.Lanes.{mask_l, zip2};
 ghost use Rattle.std.specs.Prelude.{◌≡◌, ◌≢◌, ℕ, ◌+◌, ◌*◌, ◌/◌, ◌%◌, ◌<◌, ◌≤◌, ◌↔◌, IsTrue, nat_eq, List, [], ◌∷◌, ◌++◌, Option, None, Some, length, take, drop, replicate, slice_get, slice_index, OnOk, IfErr};
 ghost use Rattle.qoi.specs.declared.chunk.Chunk.{Chunk};
 ghost use Rattle.qoi.specs.declared.encode.piece.TheConstants.{PIECE};
-ghost use Rattle.qoi.specs.Qoi.{RgbaPixel, Past, run_max, start, previous, seen, hash, IsChunk, bytes_of, text, channels_number};
+ghost use Rattle.qoi.specs.Qoi.{RgbaPixel, Past, run_max, start, previous, seen, hash, IsChunk, bytes_of, chunk_bytes, channels_number};
 ghost use Rattle.qoi.specs.Raw.{IsChannels, pixels_of};
 ghost use Rattle.qoi.specs.Runs.{IsCount, runs_by};
 ghost use Rattle.qoi.specs.Written.{IsFirst};
@@ -476,11 +476,11 @@ fn encode_pixels<W: Writer, const N: usize>(
     requires room { piece.old.end + (length «data».now + length «data».now / N) ≤ W.room buf.old }
     ensures end { OnOk result (piece.new.end < PIECE + 32) }
     ensures written { OnOk result ((cs : List Chunk) × WrittenIn style (pixels_of N «data».now) cs
-        × WroteBut W.wrote buf.old (kept_bytes piece.old ++ text cs) (kept_bytes piece.new)
+        × WroteBut W.wrote buf.old (kept_bytes piece.old ++ chunk_bytes cs) (kept_bytes piece.new)
         buf.new) }
-    ensures refused { IfErr result (λ e. W.Refuses e × (cs : List Chunk)
+    ensures refused { IfErr result (λ e. W.IsFault e × (cs : List Chunk)
         × WrittenIn style (pixels_of N «data».now) cs
-        × WroteSome W.wrote buf.old (kept_bytes piece.old ++ text cs) buf.new) }
+        × WroteSome W.wrote buf.old (kept_bytes piece.old ++ chunk_bytes cs) buf.new) }
 {
     let mut table = Table::new();
     let mut coder = Coder::new();
@@ -510,11 +510,11 @@ pub(super) fn encode_chunks<W: Writer>(
     ensures end { OnOk result (piece.new.end < PIECE + 32) }
     ensures written { OnOk result ((cs : List Chunk)
         × WrittenIn style (pixels_of (channels_number channels) «data».now) cs
-        × WroteBut W.wrote buf.old (kept_bytes piece.old ++ text cs) (kept_bytes piece.new)
+        × WroteBut W.wrote buf.old (kept_bytes piece.old ++ chunk_bytes cs) (kept_bytes piece.new)
         buf.new) }
-    ensures refused { IfErr result (λ e. W.Refuses e × (cs : List Chunk)
+    ensures refused { IfErr result (λ e. W.IsFault e × (cs : List Chunk)
         × WrittenIn style (pixels_of (channels_number channels) «data».now) cs
-        × WroteSome W.wrote buf.old (kept_bytes piece.old ++ text cs) buf.new) }
+        × WroteSome W.wrote buf.old (kept_bytes piece.old ++ chunk_bytes cs) buf.new) }
 {
     // Each pair has a loop of its own, in which the style is known.
     match (channels, style) {

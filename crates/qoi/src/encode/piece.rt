@@ -3,7 +3,7 @@ ghost use lib.Lanes.{digits_l};
 ghost use Rattle.std.specs.Prelude.{◌≡◌, ◌+◌, ◌/◌, ◌^◌, ◌<◌, ◌≤◌, [], ◌∷◌, ◌++◌, length, take, drop, OnOk, IfErr};
 ghost use Rattle.qoi.specs.declared.chunk.Chunk.{Chunk};
 ghost use Rattle.qoi.specs.declared.encode.piece.TheConstants.{PIECE, ROOM};
-ghost use Rattle.qoi.specs.Qoi.{run_max, bytes_of, text};
+ghost use Rattle.qoi.specs.Qoi.{run_max, bytes_of, chunk_bytes};
 ghost use Rattle.qoi.specs.Raw.{IsChannels};
 ghost use Rattle.qoi.specs.Runs.{runs_by};
 ghost use Rattle.qoi.specs.writers.Writes.{WroteSome};
@@ -60,7 +60,7 @@ impl Piece {
         ensures written { OnOk result (W.wrote buf.old (take PIECE (kept_bytes self.old)) buf.new) }
         ensures kept { OnOk result (kept_bytes self.new ≡ drop PIECE (kept_bytes self.old)) }
         ensures end { OnOk result (self.new.end + PIECE ≡ self.old.end) }
-        ensures refused { IfErr result (λ e. W.Refuses e
+        ensures refused { IfErr result (λ e. W.IsFault e
             × WroteSome W.wrote buf.old (take PIECE (kept_bytes self.old)) buf.new) }
     {
         buf.write_many(&self.bytes[..PIECE])?;
@@ -73,7 +73,7 @@ impl Piece {
     pub(super) fn finish<W: Writer>(&mut self, buf: &mut W) -> Result<()>
         requires { self.old.end ≤ W.room buf.old }
         ensures written { OnOk result (W.wrote buf.old (kept_bytes self.old) buf.new) }
-        ensures refused { IfErr result (λ e. W.Refuses e
+        ensures refused { IfErr result (λ e. W.IsFault e
             × WroteSome W.wrote buf.old (kept_bytes self.old) buf.new) }
     {
         if self.end >= PIECE {
@@ -119,7 +119,7 @@ pub(super) fn put_run(out: &mut [u8], at: usize, count: usize, one: u8) -> usize
     ensures same { length out.new ≡ length out.old }
     ensures within { result ≤ at + 1 }
     ensures written { (c : Chunk) → bytes_of c ≡ one ∷ []
-        → take result out.new ≡ take at out.old ++ text (runs_by c count) }
+        → take result out.new ≡ take at out.old ++ chunk_bytes (runs_by c count) }
 {
     out[at] = pick(count == 1, one, QOI_OP_RUN - 1 + count as u8);
     at + usize::from(count > 0)
@@ -134,7 +134,7 @@ pub(super) fn put_runs(out: &mut [u8], at: usize, count: usize, one: u8) -> usiz
     ensures same { length out.new ≡ length out.old }
     ensures within { result ≤ at + count / run_max + 1 }
     ensures written { (c : Chunk) → bytes_of c ≡ one ∷ []
-        → take result out.new ≡ take at out.old ++ text (runs_by c count) }
+        → take result out.new ≡ take at out.old ++ chunk_bytes (runs_by c count) }
 {
     u8x16::splat(QOI_OP_RUN - 1 + QOI_RUN_MAX as u8).copy_to_slice(&mut out[at..at + 16]);
     put_run(out, at + count / QOI_RUN_MAX, count % QOI_RUN_MAX, one)

@@ -5,7 +5,7 @@ ghost use Rattle.qoi.specs.declared.header.Header.{Header};
 ghost use Rattle.qoi.specs.declared.types.Channels.{Channels};
 ghost use Rattle.qoi.specs.declared.types.ColorSpace.{ColorSpace};
 ghost use Rattle.qoi.specs.declared.chunk.Chunk.{Chunk};
-ghost use Rattle.qoi.specs.Qoi.{AreBytes, IsChunk, AreChunks, bytes_of, text, IsFile, file, file_pixels, head, pixel_count, IsValid, header_of, pixel, hash, Reaches, StayBelow, meaning};
+ghost use Rattle.qoi.specs.Qoi.{AreBytes, IsChunk, AreChunks, bytes_of, chunk_bytes, IsFile, file, file_pixels, head, pixel_count, IsValid, header_of, pixel, hash, Reaches, StayBelow, meaning};
 ghost use Rattle.qoi.specs.Raw.{output};
 ghost use Rattle.qoi.specs.Verdicts.{IsPartOfChunk, IsWhole, IsCut, IsWrong};
 
@@ -74,19 +74,19 @@ pub fn files_are_read()
 #[tactic(auto, using(crate::proofs::decoding::TakenBytes::reached_within, crate::proofs::decoding::TakenBytes::below_within))]
 pub fn bytes_taken()
     ensures reached { (n : ℕ) (cs : List Chunk) → AreChunks cs → Reaches n cs
-        → length (text cs) ≤ 5 * n }
+        → length (chunk_bytes cs) ≤ 5 * n }
     ensures short { (n : ℕ) (cs : List Chunk) → AreChunks cs → StayBelow n cs
-        → length (meaning cs) < n → 5 + length (text cs) ≤ 5 * n }
+        → length (meaning cs) < n → 5 + length (chunk_bytes cs) ≤ 5 * n }
 {}
 
 /// Small images and headers, computed on the definitions.
 #[tactic(auto, unfolding(crate::specs::Qoi::start, crate::specs::Qoi::blank, crate::specs::Qoi::hash, crate::specs::Qoi::after_diff, crate::specs::Qoi::after_luma))]
 pub fn worked_examples()
-    ensures rgb_text { text (Chunk.Rgb 11 121 231 ∷ []) ≡ 0xfe ∷ 0x0b ∷ 0x79 ∷ 0xe7 ∷ [] }
+    ensures rgb_bytes { chunk_bytes (Chunk.Rgb 11 121 231 ∷ []) ≡ 0xfe ∷ 0x0b ∷ 0x79 ∷ 0xe7 ∷ [] }
     ensures rgb_means { meaning (Chunk.Rgb 11 121 231 ∷ []) ≡ pixel 11 121 231 255 ∷ [] }
-    ensures run_text { text (Chunk.Run 1 ∷ []) ≡ 0xc0 ∷ [] }
+    ensures run_bytes { chunk_bytes (Chunk.Run 1 ∷ []) ≡ 0xc0 ∷ [] }
     ensures run_means { meaning (Chunk.Run 1 ∷ []) ≡ pixel 0 0 0 255 ∷ [] }
-    ensures runs_text { text (Chunk.Run 62 ∷ Chunk.Run 1 ∷ Chunk.Rgb 11 22 33 ∷ [])
+    ensures runs_bytes { chunk_bytes (Chunk.Run 62 ∷ Chunk.Run 1 ∷ Chunk.Rgb 11 22 33 ∷ [])
         ≡ 0xfd ∷ 0xc0 ∷ 0xfe ∷ 0x0b ∷ 0x16 ∷ 0x21 ∷ [] }
     ensures runs_mean { meaning (Chunk.Run 62 ∷ Chunk.Run 1 ∷ Chunk.Rgb 11 22 33 ∷ [])
         ≡ replicate 63 (pixel 0 0 0 255) ++ pixel 11 22 33 255 ∷ [] }
@@ -108,8 +108,8 @@ pub fn worked_examples()
     ensures place_means_rgba { meaning (Chunk.Rgba 101 102 103 104 ∷ Chunk.Rgba 1 2 3 4
         ∷ Chunk.Place 0x36 ∷ [])
         ≡ pixel 101 102 103 104 ∷ pixel 1 2 3 4 ∷ pixel 101 102 103 104 ∷ [] }
-    ensures place_text { text (Chunk.Rgba 101 102 103 104 ∷ Chunk.Rgba 1 2 3 4 ∷ Chunk.Place 0x36
-        ∷ [])
+    ensures place_bytes { chunk_bytes (Chunk.Rgba 101 102 103 104 ∷ Chunk.Rgba 1 2 3 4
+        ∷ Chunk.Place 0x36 ∷ [])
         ≡ 0xff ∷ 0x65 ∷ 0x66 ∷ 0x67 ∷ 0x68 ∷ 0xff ∷ 0x01 ∷ 0x02 ∷ 0x03 ∷ 0x04 ∷ 0x36 ∷ [] }
     ensures hash_black { hash (pixel 0 0 0 255) ≡ 53 }
     ensures hash_transparent_black { hash (pixel 0 0 0 0) ≡ 0 }

@@ -8,7 +8,7 @@ ghost use Rattle.qoi.specs.declared.types.ColorSpace.{ColorSpace};
 ghost use Rattle.qoi.specs.declared.types.Style.{Style};
 ghost use Rattle.qoi.specs.declared.types.Style.TheVariants.{Reference, Places, Tight};
 ghost use Rattle.qoi.specs.declared.chunk.Chunk.TheVariants.{Place, Run, Rgb, Rgba};
-ghost use Rattle.qoi.specs.Qoi.{RgbaPixel, IsPixel, Past, blank, pixel, previous, AreChunks, text, file, Reaches, meaning};
+ghost use Rattle.qoi.specs.Qoi.{RgbaPixel, IsPixel, Past, blank, pixel, previous, AreChunks, chunk_bytes, file, Reaches, meaning};
 ghost use Rattle.qoi.specs.Encoded.{max_len};
 ghost use Rattle.qoi.specs.Raw.{IsChannels, output, pixels_of, HasChannels};
 ghost use Rattle.qoi.specs.Regular.{Begins, Covers, Regular};
@@ -33,7 +33,7 @@ pub fn styles_are_written()
     ensures places { (image : List RgbaPixel) (cs : List Chunk) → Written image cs
         → WrittenIn Places image (in_style Places cs) }
     ensures as_long { (image : List RgbaPixel) (cs ds : List Chunk) → Written image cs
-        → WrittenIn Places image ds → length (text ds) ≡ length (text cs) }
+        → WrittenIn Places image ds → length (chunk_bytes ds) ≡ length (chunk_bytes cs) }
     ensures tight { (image : List RgbaPixel) (cs : List Chunk) → WrittenBy IsTightChoice image cs
         ↔ WrittenIn Tight image cs }
 {}
@@ -83,7 +83,7 @@ pub fn bytes_are_pixels()
 pub fn written_fits()
     ensures { (style : Style) (image : List RgbaPixel) (channels n : ℕ) (cs : List Chunk)
         → HasChannels image channels → length image ≡ n → WrittenIn style image cs
-        → length (text cs) ≤ n * channels + n }
+        → length (chunk_bytes cs) ≤ n * channels + n }
 {}
 
 /// The written list is a list of chunks, and its pixels are those of its image.
@@ -120,14 +120,14 @@ pub fn no_blank_is_regular()
 /// the length of its runs nor what it gives past the image matters.
 pub fn none_is_shorter()
     ensures { (image : List RgbaPixel) (cs : List Chunk) → Covers image cs → Regular cs
-        → floor image ≤ length (text cs) }
+        → floor image ≤ length (chunk_bytes cs) }
 {}
 
 /// The written list has at most the bytes of the floor and the slack.
 pub fn written_is_short()
     ensures { (style : Style) (image : List RgbaPixel) (channels : ℕ) (cs : List Chunk)
         → HasChannels image channels → WrittenIn style image cs
-        → length (text cs) ≤ floor image + slack image channels }
+        → length (chunk_bytes cs) ≤ floor image + slack image channels }
 {}
 
 /// So the written list is at most its slack longer than each regular list whose pixels begin with those of
@@ -136,16 +136,16 @@ pub fn written_is_near_shortest()
     ensures { (style : Style) (image : List RgbaPixel) (channels : ℕ) (cs others : List Chunk)
         → HasChannels image channels
         → WrittenIn style image cs → Covers image others → Regular others
-        → length (text cs) ≤ length (text others) + slack image channels }
+        → length (chunk_bytes cs) ≤ length (chunk_bytes others) + slack image channels }
 {}
 
 /// In style `Tight` transparent black may be given by an index position where no pixel was put. No
 /// chunk list at all whose pixels begin with those of an image has fewer bytes than the written list.
 pub fn tight_is_shortest()
     ensures exact { (image : List RgbaPixel) (cs : List Chunk) → WrittenIn Tight image cs
-        → length (text cs) ≡ floor0 image }
+        → length (chunk_bytes cs) ≡ floor0 image }
     ensures shortest { (image : List RgbaPixel) (cs others : List Chunk) → WrittenIn Tight image cs
-        → Covers image others → length (text cs) ≤ length (text others) }
+        → Covers image others → length (chunk_bytes cs) ≤ length (chunk_bytes others) }
     ensures floors { (image : List RgbaPixel) → floor0 image ≤ floor image }
 {}
 
@@ -199,15 +199,15 @@ pub fn slack_is_reached()
     ensures regular_rgb { Regular (Run 1 ∷ Rgb 101 102 103 ∷ Place 53 ∷ []) }
     ensures meaning_rgb { meaning (Run 1 ∷ Rgb 101 102 103 ∷ Place 53 ∷ [])
         ≡ pixel 0 0 0 255 ∷ pixel 101 102 103 255 ∷ pixel 0 0 0 255 ∷ [] }
-    ensures longer_rgb { length (text (Run 1 ∷ Rgb 101 102 103 ∷ Rgb 0 0 0 ∷ []))
-        ≡ length (text (Run 1 ∷ Rgb 101 102 103 ∷ Place 53 ∷ [])) + 3 }
+    ensures longer_rgb { length (chunk_bytes (Run 1 ∷ Rgb 101 102 103 ∷ Rgb 0 0 0 ∷ []))
+        ≡ length (chunk_bytes (Run 1 ∷ Rgb 101 102 103 ∷ Place 53 ∷ [])) + 3 }
     ensures written_rgba { Written (pixel 0 0 0 255 ∷ pixel 101 102 103 104 ∷ pixel 0 0 0 255 ∷ [])
         (Run 1 ∷ Rgba 101 102 103 104 ∷ Rgba 0 0 0 255 ∷ []) }
     ensures regular_rgba { Regular (Run 1 ∷ Rgba 101 102 103 104 ∷ Place 53 ∷ []) }
     ensures meaning_rgba { meaning (Run 1 ∷ Rgba 101 102 103 104 ∷ Place 53 ∷ [])
         ≡ pixel 0 0 0 255 ∷ pixel 101 102 103 104 ∷ pixel 0 0 0 255 ∷ [] }
-    ensures longer_rgba { length (text (Run 1 ∷ Rgba 101 102 103 104 ∷ Rgba 0 0 0 255 ∷ []))
-        ≡ length (text (Run 1 ∷ Rgba 101 102 103 104 ∷ Place 53 ∷ [])) + 4 }
+    ensures longer_rgba { length (chunk_bytes (Run 1 ∷ Rgba 101 102 103 104 ∷ Rgba 0 0 0 255 ∷ []))
+        ≡ length (chunk_bytes (Run 1 ∷ Rgba 101 102 103 104 ∷ Place 53 ∷ [])) + 4 }
 {}
 
 /// The greatest length of a file is reached: one pixel that is written in full, in three channels and in four.

@@ -18,10 +18,15 @@ fn header_of<R: Reader>(reader: &mut R) -> Result<Header> {
 }
 
 // Reads an image, by the trait alone.
-fn image_of<R: Reader>(reader: &mut R, out: &mut [u8], channels: u8, src_channels: u8) -> Result<()>
-    requires { IsChannels channels → IsChannels src_channels → length out.old % channels ≡ 0 }
+fn image_of<R: Reader>(
+    reader: &mut R,
+    out: &mut [u8],
+    channels: u8,
+    file_channels: u8,
+) -> Result<()>
+    requires { IsChannels channels → IsChannels file_channels → length out.old % channels ≡ 0 }
 {
-    reader.decode_image(out, channels, src_channels)
+    reader.decode_image(out, channels, file_channels)
 }
 
 // Reads the header and the image of one pixel.
@@ -54,16 +59,16 @@ fn assert_refuses(
     rt: &impl Abort,
     alloc: Global,
     channels: u8,
-    src_channels: u8,
+    file_channels: u8,
     text: &str,
 ) -> Result<()> {
     let mut out = [0xaa; 12];
     let mut reader = Bytes::new(&BODY);
-    let refusal = image_of(&mut reader, &mut out, channels, src_channels).err();
+    let refusal = image_of(&mut reader, &mut out, channels, file_channels).err();
     assert_refused(rt, alloc, refusal, text)?;
     assert_bytes(rt, reader.as_slice(), &BODY);
     let mut stream = BODY.as_slice();
-    let refusal = image_of(&mut stream, &mut out, channels, src_channels).err();
+    let refusal = image_of(&mut stream, &mut out, channels, file_channels).err();
     assert_refused(rt, alloc, refusal, text)?;
     assert_bytes(rt, stream, &BODY);
     assert_bytes(rt, &out, &[0xaa; 12]);

@@ -53,7 +53,7 @@ returns-clause-decoded c =
 pub returns-clause-accepts : goal.returns-clause-accepts
 returns-clause-accepts c h cs rest f split room =
     let d = c.in_ok-decoder.decoder in
-    let same : c.header.result.now ≡ d.header = c.header.ensures ∙ ap (λ (s : DecoderState (List ℕ)). s.header) c.in_ok-decode_to_buf.ensures.kept in
+    let same : c.header.result.now ≡ d.header = c.header.ensures ∙ ap (λ (s : DecoderState (List ℕ)). s.header) c.in_ok-decode_to_buf.ensures.unchanged in
     ap Ok (same ∙ header_is_one c.args.data.now d.header h c.in_ok-decoder.ensures.accepted.0 (file_has_header h cs c.args.data.now rest f split))
 
 -- the buffer is too short, or it isn't

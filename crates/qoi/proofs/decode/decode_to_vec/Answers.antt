@@ -52,7 +52,7 @@ returns-clause-decoded c =
     let d = c.in_ok-decoder.decoder in
     let accepted = c.in_ok-decoder.ensures.accepted in
     let rest = c.decode_to_vec.new.self.reader in
-    let same : c.header.result.now ≡ d.header = c.header.ensures ∙ ap (λ (s : DecoderState (List ℕ)). s.header) c.in_ok-out.ensures.kept in (
+    let same : c.header.result.now ≡ d.header = c.header.ensures ∙ ap (λ (s : DecoderState (List ℕ)). s.header) c.in_ok-out.ensures.unchanged in (
       rest,
       subst (λ (k : Header). DecodesFile c.args.data.now k rest c.in_ok-out.out.items) (sym same)
           (decodes_behind c.args.data.now d rest c.in_ok-out.out.items
@@ -98,7 +98,7 @@ pub returns-clause-held : goal.returns-clause-held
 returns-clause-held c =
     let d = c.in_ok-decoder.decoder in
     let accepted = c.in_ok-decoder.ensures.accepted in
-    let same : c.header.result.now ≡ d.header = c.header.ensures ∙ ap (λ (s : DecoderState (List ℕ)). s.header) c.in_ok-out.ensures.kept in
+    let same : c.header.result.now ≡ d.header = c.header.ensures ∙ ap (λ (s : DecoderState (List ℕ)). s.header) c.in_ok-out.ensures.unchanged in
     let size = c.in_ok-out.ensures.length.0 in
     rw same (bounded_by (pixel_count d.header) (length c.in_ok-out.out.items) d.channels d.reader c.args.data.now c.in_ok-out.ensures.held
     (omega (arith, ap length accepted.2, length-drop header_size c.args.data.now)) (omega (arith, size)))

@@ -2,7 +2,7 @@
 use Rattle.std.proofs.Common.{◌≡◌, ◌≤◌, ◌+◌, ◌++◌, length, ap, ◌∙◌, arith}
 use Rattle.std.proofs.lemmas.List.{length-take-le}
 use Rattle.std.proofs.lemmas.Result.{err_from_is_err_and}
-use Rattle.qoi.specs.Qoi.{head, file, text}
+use Rattle.qoi.specs.Qoi.{head, file, chunk_bytes}
 use Rattle.qoi.specs.writers.Writes.{WroteBut}
 use Rattle.qoi.specs.inner.Piece.{kept_bytes}
 use Rattle.qoi.proofs.FileOf.{file_of, text_fits, max_is_exact, chunks_part, marker_kept, last_fits, last_part, file_went, file_counts}
@@ -41,7 +41,7 @@ finish-requires g c =
     let w = c.in_ok-encode_chunks.ensures.written in
     let piece = c.keep-2.new.self in
     let size = length-take-le piece.end piece.bytes (omega (arith, piece.within)) in
-    let enough : 22 + length (text w.0) ≤ g.W.Writer.room c.args.buf.now =
+    let enough : 22 + length (chunk_bytes w.0) ≤ g.W.Writer.room c.args.buf.now =
     omega (arith, c.requires.room, max_is_exact h c.requires.valid, text_fits h c.args.data.now c.requires.valid c.requires.image c.args.style w.0 w.1) in
     omega (
       arith,

@@ -10,7 +10,7 @@ ghost use Rattle.qoi_tool.specs.Files.{AreFiles};
 ghost use Rattle.qoi.specs.Regular.{Regular};
 ghost use Rattle.qoi.specs.writers.Writes.{AppendsBeginning};
 ghost use Rattle.qoi.specs.declared.chunk.Chunk.{Chunk};
-ghost use Rattle.qoi.specs.Decoding.{DecodesFile, HasCut, ReadsHeader, ReadsImage};
+ghost use Rattle.qoi.specs.Decoding.{DecodesFile, HasCut, ReadsImage, TakesHeader};
 
 use qoi::{
     Channels, Decoder, Encoder, Error, Header, Style, decode_to_buf, decode_to_vec, encode_to_buf,
@@ -68,7 +68,7 @@ pub fn send<W: Write>(raw: &[u8], width: u32, height: u32, out: &mut W) -> Resul
 /// Stream in. The raw bytes of the image that stands ahead of a reader, and the reader behind it.
 pub fn receive<R: Read + Drop>(alloc: Global, reader: R) -> Result<(Vec<u8>, R), Error>
     ensures { IfOk result (λ x. (h : Header) × (middle : Option (List ℕ))
-        × ReadsHeader false (R.remaining reader) middle (Ok h)
+        × TakesHeader (R.remaining reader) middle h
         × ReadsImage (channels_number h.channels) (channels_number h.channels) (pixel_count h)
         middle (R.remaining x.1) x.0.items) }
 {

@@ -24,8 +24,8 @@ refused g c =
     let d = c.args.self.now in
     let channels : c.as_u8-channels.result ≡ channels_number d.channels =
     c.as_u8-channels.ensures ∙ ap (λ s. channels_number s.channels) c.self.view_is in
-    let file : c.as_u8-src_channels.result ≡ channels_number d.header.channels =
-    c.as_u8-src_channels.ensures ∙ ap (λ s. channels_number s.header.channels) c.self.view_is in
+    let file : c.as_u8-file_channels.result ≡ channels_number d.header.channels =
+    c.as_u8-file_channels.ensures ∙ ap (λ s. channels_number s.header.channels) c.self.view_is in
     let pixels = image_pixels d.header d.channels c.required_buf_len-size.result c.as_u8-channels.result c.args.buf.now c.required_buf_len-size.ensures.bytes
     (omega arith) channels in
     let image = c.in_err-decode_image.ensures.refused (channels_are d.channels _ channels, channels_are d.header.channels _ file) in
@@ -64,7 +64,7 @@ returns-clause-rest g c bytes told =
     let pixels = image_pixels d.header d.channels size c.as_u8-channels.result c.args.buf.now c.required_buf_len-size.ensures.bytes (omega arith) channels in
     let out = c.decode_image.new.out in
     let same : size ≡ length out = omega (arith, c.decode_image.auto.out, length-take-le size c.args.buf.now (omega arith)) in
-    let r = image_read_of g.R.Reader.ahead _ d _ _ _ _ _ bytes c.self.view_is c.as_u8-channels.ensures c.as_u8-src_channels.ensures pixels
+    let r = image_read_of g.R.Reader.ahead _ d _ _ _ _ _ bytes c.self.view_is c.as_u8-channels.ensures c.as_u8-file_channels.ensures pixels
     c.in_ok-decode_image.ensures.read.1 told in
     (r.0, r.1, subst (λ z. IsImage d.channels bytes d.header r.0 z) (grind (arith, same, take-append_seam)) r.2)
 
@@ -97,7 +97,7 @@ pub returns-clause-opaque : goal.returns-clause-opaque
 returns-clause-opaque g c four three i below =
     let d = c.args.self.now in
     let channels = c.as_u8-channels.ensures ∙ ap (λ s. channels_number s.channels) c.self.view_is in
-    let file = c.as_u8-src_channels.ensures ∙ ap (λ s. channels_number s.header.channels) c.self.view_is in
+    let file = c.as_u8-file_channels.ensures ∙ ap (λ s. channels_number s.header.channels) c.self.view_is in
     let size = c.required_buf_len-size.result in
     let pixels = image_pixels d.header d.channels size c.as_u8-channels.result c.args.buf.now c.required_buf_len-size.ensures.bytes (omega arith) channels in
     let out = c.decode_image.new.out in

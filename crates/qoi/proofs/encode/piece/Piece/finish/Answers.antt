@@ -55,5 +55,5 @@ returns g c =
     let r = c.write_many.result in
     record {
       written = rest_given g.W.Writer.wrote g.W.Writer.room laws r a b next all (kept_bytes now) but c.write_many.ensures.written;
-      refused = rest_refused g.W.Writer.wrote g.W.Writer.room laws r g.W.Writer.Refuses a b next all (kept_bytes now) but c.write_many.ensures.refused;
+      refused = rest_refused g.W.Writer.wrote g.W.Writer.room laws r g.W.Writer.IsFault a b next all (kept_bytes now) but c.write_many.ensures.refused;
     }
