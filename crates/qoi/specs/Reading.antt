@@ -22,11 +22,6 @@ pub record IsImage (channels : Channels) (bytes : List ℕ) (h : Header) (rest o
 unfoldable pub HasImage : Channels → List ℕ → Header → List ℕ → Type 0
 HasImage channels bytes h out = (rest : List ℕ) × IsImage channels bytes h rest out
 
--- these bytes stand there, and that is known
-abbrev pub AreThere : Option (List ℕ) → List ℕ → Type 0
-AreThere (Some bytes) known = bytes ≡ known
-AreThere None known = ⊥
-
 -- what may refuse an image that stands ahead: nothing from memory, and an i/o error from a stream
 abbrev pub IsFault : Bool → Error → Type 0
 IsFault true e = ⊥

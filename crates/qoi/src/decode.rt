@@ -9,7 +9,7 @@ ghost use Rattle.qoi.specs.Decoding.{AreWrong, CouldHold, HasCut, least_byte_cou
 ghost use Rattle.qoi.specs.declared.types.Style.{Style};
 ghost use Rattle.qoi.specs.Encoded.{IsFileOf};
 ghost use Rattle.qoi.specs.DecoderState.{image_byte_count, DecodesImage, RefusesDecoding, TakesWithin};
-ghost use Rattle.qoi.specs.Reading.{AreThere, HasImage, IsDecoderOf, IsFault, IsForCut, IsForWrong, IsImage, IsImageFor};
+ghost use Rattle.qoi.specs.Reading.{HasImage, IsDecoderOf, IsFault, IsForCut, IsForWrong, IsImage, IsImageFor};
 ghost use Rattle.qoi.specs.Raw.{without_fourth};
 
 mod deltas;
@@ -212,8 +212,7 @@ impl<R: Read + Drop> Decoder<R> {
         ensures read { (bytes : List ℕ) → R.remaining reader ≡ Some bytes
             → IfOk result (λ d. header_of bytes ≡ Ok d.header) }
         ensures behind { (bytes : List ℕ) → R.remaining reader ≡ Some bytes
-            → IfOk result (λ d. (R.remaining d.reader ≡ Some (drop header_size bytes))
-            × AreThere (R.remaining d.reader) (drop header_size bytes)) }
+            → IfOk result (λ d. R.remaining d.reader ≡ Some (drop header_size bytes)) }
         // Where they are the file of an image, in each style, the image stands ahead; so it does where
         // other bytes follow the file.
         ensures comes_back { (h : Header) (raw bytes : List ℕ)
@@ -341,7 +340,7 @@ impl<R: Reader> Decoder<R> {
             → R.ahead self.old.reader ≡ Some bytes → IfOk result (λ size. take size buf.new ≡ raw) }
         ensures left { (bytes raw rest : List ℕ) → IsImageFor self.old bytes raw rest
             → R.ahead self.old.reader ≡ Some bytes
-            → OnOk result (AreThere (R.ahead self.new.reader) rest) }
+            → OnOk result (R.ahead self.new.reader ≡ Some rest) }
         ensures faults { (bytes raw rest : List ℕ) → IsImageFor self.old bytes raw rest
             → R.ahead self.old.reader ≡ Some bytes → image_byte_count self.old ≤ length buf.old
             → IfErr result (IsFault R.in_memory) }
@@ -358,7 +357,7 @@ impl<R: Reader> Decoder<R> {
             → IfOk result (λ size. take size buf.new ≡ raw) }
         // Of a decoder of these bytes, in the file's own channels, it is a file at their front.
         ensures file { (bytes ahead : List ℕ) → IsDecoderOf self.old bytes ahead
-            → AreThere (R.ahead self.old.reader) ahead
+            → R.ahead self.old.reader ≡ Some ahead
             → IfOk result (λ size. (rest : List ℕ) × (R.ahead self.new.reader ≡ Some rest)
             × DecodesFile bytes self.old.header rest (take size buf.new)) }
         // In three channels it is what four are without each fourth byte; and where the file has
@@ -435,7 +434,7 @@ impl<R: Reader> Decoder<R> {
             → R.ahead self.old.reader ≡ Some bytes → IfOk result (λ out. out.items ≡ raw) }
         ensures left { (bytes raw rest : List ℕ) → IsImageFor self.old bytes raw rest
             → R.ahead self.old.reader ≡ Some bytes
-            → OnOk result (AreThere (R.ahead self.new.reader) rest) }
+            → OnOk result (R.ahead self.new.reader ≡ Some rest) }
         ensures faults { (bytes raw rest : List ℕ) → IsImageFor self.old bytes raw rest
             → R.ahead self.old.reader ≡ Some bytes
             → IfErr result (λ e. (e ≡ Error.OutOfMemory) ⊎ IsFault R.in_memory e) }
@@ -452,7 +451,7 @@ impl<R: Reader> Decoder<R> {
             → IfOk result (λ out. out.items ≡ raw) }
         // Of a decoder of these bytes, in the file's own channels, it is a file at their front.
         ensures file { (bytes ahead : List ℕ) → IsDecoderOf self.old bytes ahead
-            → AreThere (R.ahead self.old.reader) ahead
+            → R.ahead self.old.reader ≡ Some ahead
             → IfOk result (λ out. (rest : List ℕ) × (R.ahead self.new.reader ≡ Some rest)
             × DecodesFile bytes self.old.header rest out.items) }
         // In three channels it is what four are without each fourth byte; and where the file has

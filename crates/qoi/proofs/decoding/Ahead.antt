@@ -14,7 +14,7 @@ use Rattle.qoi.specs.Verdicts.{IsWhole}
 use Rattle.qoi.specs.Decoding.{AreWrong, DecodesFile, HasCut, ReadsImage, RefusesImage, TakesHeader}
 use Rattle.qoi.specs.DecoderState.{DecoderState}
 use Rattle.qoi.specs.Encoded.{IsFileOf}
-use Rattle.qoi.specs.Reading.{AreThere, HasImage, IsDecoderOf, IsFault, IsImage, IsImageFor}
+use Rattle.qoi.specs.Reading.{HasImage, IsDecoderOf, IsFault, IsImage, IsImageFor}
 use Rattle.qoi.proofs.decoding.OneFile.{decodes_file, file_parts, header_is_one}
 use Rattle.qoi.proofs.decoding.StreamVerdicts.{fourth_is_opaque, read_is_whole, rgb_is_without_fourth, whole_is_io_error}
 use Rattle.qoi.proofs.decoding.Refusals.{whole_not_refused_in}
@@ -182,12 +182,3 @@ fourth_of_image f c n old new out r three four i below =
     let pixels = take n (meaning r.cs) in
     ap (λ z. slice_index z (4 * i + 3)) (r.out_is ∙ ap (λ k. output k c pixels) three ∙ ap (λ k. output 3 k pixels) four)
     ∙ fourth_is_opaque pixels i (omega (arith, below, length-take-le n (meaning r.cs) r.reaches.enough))
-
--- bytes that are there are known by an equation
-pub known : (old : Option (List ℕ)) (bytes : List ℕ) → AreThere old bytes → old ≡ Some bytes
-known (Some x) bytes is = ap Some is
-known None bytes none = absurd none
-
--- and the other way round
-pub there : (old : Option (List ℕ)) (bytes : List ℕ) → old ≡ Some bytes → AreThere old bytes
-there old bytes is = subst (λ z. AreThere z bytes) (sym is) refl

@@ -124,12 +124,12 @@ pub fn send_and_keep<W: Write>(
     height: u32,
     out: &mut W,
 ) -> Result<Vec<u8>, Error>
-    ensures { IfOk result (λ kept. Appends (W.contents out.old) (W.contents out.new) kept.items) }
+    ensures { IfOk result (λ file. Appends (W.contents out.old) (W.contents out.new) file.items) }
 {
     let encoder = Encoder::new(raw, width, height)?;
-    let kept = encoder.encode_to_vec(alloc)?;
+    let file = encoder.encode_to_vec(alloc)?;
     encoder.encode_to_stream(out)?;
-    Ok(kept)
+    Ok(file)
 }
 
 /// Lengths of vectors. A decoded image has the bytes that its header says, and at least one pixel.
@@ -181,11 +181,11 @@ pub fn pack_and_keep(
     width: u32,
     height: u32,
 ) -> Result<Vec<u8>, Error>
-    ensures { IfOk result (λ kept. buf.new ≡ kept.items ++ drop (length kept.items) buf.old) }
+    ensures { IfOk result (λ file. buf.new ≡ file.items ++ drop (length file.items) buf.old) }
 {
-    let kept = encode_to_vec(alloc, raw, width, height)?;
+    let file = encode_to_vec(alloc, raw, width, height)?;
     encode_to_buf(buf, raw, width, height)?;
-    Ok(kept)
+    Ok(file)
 }
 
 /// A buffer and a vector, by the methods, in any style.
@@ -197,12 +197,12 @@ pub fn pack_and_keep_in(
     height: u32,
     style: Style,
 ) -> Result<Vec<u8>, Error>
-    ensures { IfOk result (λ kept. buf.new ≡ kept.items ++ drop (length kept.items) buf.old) }
+    ensures { IfOk result (λ file. buf.new ≡ file.items ++ drop (length file.items) buf.old) }
 {
     let encoder = Encoder::new(raw, width, height)?.with_style(style);
     encoder.encode_to_buf(buf)?;
-    let kept = encoder.encode_to_vec(alloc)?;
-    Ok(kept)
+    let file = encoder.encode_to_vec(alloc)?;
+    Ok(file)
 }
 
 /// Two vectors. The free call and the method give the same file.
@@ -219,8 +219,8 @@ pub fn keep_twice(
     Ok((first, second))
 }
 
-/// A writer that may refuse. The file is kept, and then sent; where the writer refuses, a beginning of
-/// what is kept went out.
+/// A writer that may refuse. The file goes to a vector, and then to the writer; where that refuses, a
+/// beginning of the file went out.
 pub fn keep_and_try<W: Write>(
     alloc: Global,
     raw: &[u8],
@@ -232,9 +232,9 @@ pub fn keep_and_try<W: Write>(
         (W.contents out.new) x.0.items)) }
 {
     let encoder = Encoder::new(raw, width, height)?;
-    let kept = encoder.encode_to_vec(alloc)?;
+    let file = encoder.encode_to_vec(alloc)?;
     let sent = encoder.encode_to_stream(out);
-    Ok((kept, sent))
+    Ok((file, sent))
 }
 
 /// Styles. In `Places` the file is as long as in `Reference`.
@@ -363,6 +363,72 @@ pub fn all_images(alloc: Global, bytes: &[u8]) -> Result<Vec<Vec<u8>>, Error>
         rest = &rest[rest.len() - left..];
     }
     Ok(images)
+}
+
+/// Two files of one slice, by two decoders: the second is made from what the first leaves.
+pub fn both_images(alloc: Global, bytes: &[u8]) -> Result<(Vec<u8>, Vec<u8>), Error>
+    ensures { IfOk result (λ x. (h : Header) × (k : Header) × (middle : List ℕ) × (rest : List ℕ)
+        × DecodesFile bytes.now h middle x.0.items × DecodesFile middle k rest x.1.items) }
+{
+    let mut first = Decoder::new(bytes)?;
+    let image = first.decode_to_vec(alloc)?;
+    let mut second = Decoder::new(first.data())?;
+    let other = second.decode_to_vec(alloc)?;
+    Ok((image, other))
+}
+
+/// Two files of one reader, by two decoders. The images of the files that stand ahead come back.
+pub fn two_frames<R: Read + Drop>(alloc: Global, reader: R) -> Result<(Vec<u8>, Vec<u8>), Error>
+    ensures { (style other : Style) (h k : Header) (raw last one two : List ℕ)
+        → IsFileOf style h raw one → IsFileOf other k last two
+        → R.remaining reader ≡ Some (one ++ two)
+        → IfOk result (λ x. (x.0.items ≡ raw) × (x.1.items ≡ last)) }
+{
+    let mut first = Decoder::from_stream(reader)?;
+    let image = first.decode_to_vec(alloc)?;
+    let mut second = Decoder::from_stream(first.into_reader())?;
+    let other = second.decode_to_vec(alloc)?;
+    Ok((image, other))
+}
+
+/// A frame store. The files of two frames go to a vector, one behind the other, and the frames come
+/// back from a reader of it.
+pub fn frame_store(
+    alloc: Global,
+    first: &[u8],
+    second: &[u8],
+    width: u32,
+    height: u32,
+) -> Result<(Vec<u8>, Vec<u8>), Error>
+    ensures { IfOk result (λ x. (x.0.items ≡ first.now) × (x.1.items ≡ second.now)) }
+{
+    let mut store = Vec::new(alloc);
+    Encoder::new(first, width, height)?.encode_to_stream(&mut store)?;
+    Encoder::new(second, width, height)?.encode_to_stream(&mut store)?;
+    two_frames(alloc, store.as_slice())
+}
+
+/// There and back through a buffer whose length is tested first. The raw bytes come back in its front.
+pub fn into_buffer<'a>(
+    alloc: Global,
+    buf: &'a mut [u8],
+    raw: &[u8],
+    width: u32,
+    height: u32,
+) -> Result<&'a [u8], Error>
+    ensures { IfOk result (λ back. back.now ≡ raw.now) }
+{
+    let file = encode_to_vec(alloc, raw, width, height)?;
+    let mut decoder = Decoder::new(&file)?;
+    let required = decoder.required_buf_len();
+    if buf.len() < required {
+        return Err(Error::OutputBufferTooSmall {
+            size: buf.len(),
+            required,
+        });
+    }
+    let size = decoder.decode_to_buf(buf)?;
+    Ok(&buf[..size])
 }
 
 /// There and back by the methods. The raw bytes come back.

@@ -2,11 +2,11 @@
 //! than twice the time where it has twice the calls.
 use crate::tests::fakes::{Bad, End, ONE_RGB_PIXEL, PIXEL, Sink};
 use crate::tests::library::callers::{
-    all_images, as_long, at_most, both_channels, bounded_bytes, decoded_part, encoded_part,
-    first_byte, header_ahead, keep_and_try, keep_twice, lengths, lengths_back,
-    methods_there_and_back, more_needed, near_shortest, no_longer, pack, pack_and_keep,
-    pack_and_keep_in, pack_at_once, raw_bytes, receive, send, send_and_keep, shortest, space_byte,
-    there_and_back, tight_part, tight_there_and_back, two_images,
+    all_images, as_long, at_most, both_channels, both_images, bounded_bytes, decoded_part,
+    encoded_part, first_byte, frame_store, header_ahead, into_buffer, keep_and_try, keep_twice,
+    lengths, lengths_back, methods_there_and_back, more_needed, near_shortest, no_longer, pack,
+    pack_and_keep, pack_and_keep_in, pack_at_once, raw_bytes, receive, send, send_and_keep,
+    shortest, space_byte, there_and_back, tight_part, tight_there_and_back, two_images,
 };
 use crate::tests::library::support::{assert_bytes, assert_header, assert_number};
 use qoi::{Error, Header, Result, Style};
@@ -63,12 +63,12 @@ fn buffers(rt: HostRuntime) -> Result<()> {
 fn buffers_and_vectors(rt: HostRuntime) -> Result<()> {
     let alloc = rt.alloc();
     let mut buf = [0xaa; 27];
-    let kept = pack_and_keep(alloc, &mut buf, &PIXEL, 1, 1)?;
-    assert!(rt; buf.starts_with(&kept));
+    let file = pack_and_keep(alloc, &mut buf, &PIXEL, 1, 1)?;
+    assert!(rt; buf.starts_with(&file));
     let mut buf = [0xaa; 27];
-    let kept = pack_and_keep_in(alloc, &mut buf, &PIXEL, 1, 1, Style::Tight)?;
-    assert!(rt; buf.starts_with(&kept));
-    assert_bytes(&rt, &kept, &ONE_RGB_PIXEL);
+    let file = pack_and_keep_in(alloc, &mut buf, &PIXEL, 1, 1, Style::Tight)?;
+    assert!(rt; buf.starts_with(&file));
+    assert_bytes(&rt, &file, &ONE_RGB_PIXEL);
     Ok(())
 }
 
@@ -78,8 +78,8 @@ fn writers(rt: HostRuntime) -> Result<()> {
     assert_number(&rt, send(&PIXEL, 1, 1, &mut sent)?, 26);
     assert_bytes(&rt, &sent, &ONE_RGB_PIXEL);
     let mut sent = Vec::new(rt.alloc());
-    let kept = send_and_keep(rt.alloc(), &PIXEL, 1, 1, &mut sent)?;
-    assert_bytes(&rt, &sent, &kept);
+    let file = send_and_keep(rt.alloc(), &PIXEL, 1, 1, &mut sent)?;
+    assert_bytes(&rt, &sent, &file);
     Ok(())
 }
 
@@ -87,9 +87,9 @@ fn writers(rt: HostRuntime) -> Result<()> {
 fn writers_that_refuse(rt: HostRuntime) -> Result<()> {
     let end = End::Fault;
     let mut writer = Sink::new(rt.alloc(), 4, Bad { call: 3, end })?;
-    let (kept, sent) = keep_and_try(rt.alloc(), &PIXEL, 1, 1, &mut writer)?;
+    let (file, sent) = keep_and_try(rt.alloc(), &PIXEL, 1, 1, &mut writer)?;
     assert!(rt; sent.is_err());
-    assert_bytes(&rt, &kept, &ONE_RGB_PIXEL);
+    assert_bytes(&rt, &file, &ONE_RGB_PIXEL);
     assert_bytes(&rt, &writer.got, &ONE_RGB_PIXEL[..8]);
     Ok(())
 }
@@ -139,6 +139,39 @@ fn many_files(rt: HostRuntime) -> Result<()> {
     let (first, second) = two_images(alloc, &files)?;
     assert_bytes(&rt, &first, &PIXEL);
     assert_bytes(&rt, &second, &PIXEL);
+    let (first, second) = both_images(alloc, &files)?;
+    assert_bytes(&rt, &first, &PIXEL);
+    assert_bytes(&rt, &second, &PIXEL);
+    Ok(())
+}
+
+#[test]
+fn frames_come_back(rt: HostRuntime) -> Result<()> {
+    let other = [1, 2, 3];
+    let (first, second) = frame_store(rt.alloc(), &PIXEL, &other, 1, 1)?;
+    assert_bytes(&rt, &first, &PIXEL);
+    assert_bytes(&rt, &second, &other);
+    Ok(())
+}
+
+#[test]
+fn into_a_buffer(rt: HostRuntime) -> Result<()> {
+    let alloc = rt.alloc();
+    assert_bytes(
+        &rt,
+        into_buffer(alloc, &mut [0xaa; 4], &PIXEL, 1, 1)?,
+        &PIXEL,
+    );
+    let short = into_buffer(alloc, &mut [0xaa; 2], &PIXEL, 1, 1).err();
+    assert!(rt;
+        matches!(
+            short,
+            Some(Error::OutputBufferTooSmall {
+                size: 2,
+                required: 3
+            })
+        )
+    );
     Ok(())
 }
 

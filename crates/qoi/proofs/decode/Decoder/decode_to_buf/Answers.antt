@@ -7,7 +7,7 @@ use Rattle.qoi.specs.declared.error.Error.TheVariants.{InvalidPadding, Unexpecte
 use Rattle.qoi.specs.Qoi.{channels_number, pixel_count}
 use Rattle.qoi.specs.Decoding.{RefusesImage}
 use Rattle.qoi.specs.DecoderState.{TakesAtMost}
-use Rattle.qoi.proofs.decoding.Ahead.{fault_ahead, file_from_image, fourth_of_image, has_image_ahead, image_comes_back, image_not_cut, image_not_wrong, image_read_of, known, there, same_image, three_of_four}
+use Rattle.qoi.proofs.decoding.Ahead.{fault_ahead, file_from_image, fourth_of_image, has_image_ahead, image_comes_back, image_not_cut, image_not_wrong, image_read_of, same_image, three_of_four}
 use Rattle.qoi.specs.Reading.{IsImage}
 use Rattle.qoi.proofs.decoding.RefusedBytes.{end_is_cut, padding_is_only_wrong, refused_for_cut, refused_for_wrong}
 use Rattle.qoi.proofs.decoding.ImageSize.{channels_are, image_pixels}
@@ -77,11 +77,11 @@ returns-clause-image g c bytes raw rest image told =
 
 pub returns-clause-left : goal.returns-clause-left
 returns-clause-left g c bytes raw rest image told =
-    there _ rest (image_comes_back c.args.self.now _ _ _ (returns-clause-rest g c) bytes raw rest image told).1
+    (image_comes_back c.args.self.now _ _ _ (returns-clause-rest g c) bytes raw rest image told).1
 
 pub returns-clause-file : goal.returns-clause-file
-returns-clause-file g c bytes ahead made there_are =
-    file_from_image g.R.Reader.ahead c.args.self.now bytes ahead _ _ made (known (g.R.Reader.ahead c.args.self.now.reader) ahead there_are) (returns-clause-rest g c)
+returns-clause-file g c bytes ahead made stand =
+    file_from_image g.R.Reader.ahead c.args.self.now bytes ahead _ _ made stand (returns-clause-rest g c)
 
 pub returns-clause-same : goal.returns-clause-same
 returns-clause-same g c channels h bytes raw image as_own as_k told =

@@ -2,13 +2,11 @@
 use Rattle.std.proofs.Common.{drop, ◌++◌, [], append-nil, refl, sym}
 use Rattle.qoi.specs.declared.types.Style.TheVariants.{Reference}
 use Rattle.qoi.specs.Qoi.{header_size}
-use Rattle.qoi.proofs.decoding.Ahead.{there, decoder_of, header_front, header_read_from, image_ahead, file_ahead}
+use Rattle.qoi.proofs.decoding.Ahead.{decoder_of, header_front, header_read_from, image_ahead, file_ahead}
 use Rattle.qoi.proofs.decode.Decoder.from_stream.Goals as goal
 
 pub returns-clause-behind : goal.returns-clause-behind
-returns-clause-behind g c bytes told =
-    let left = (header_read_from _ _ bytes c.in_ok-header.header c.in_ok-header.ensures told).1 in
-    (left, there _ _ left)
+returns-clause-behind g c bytes told = (header_read_from _ _ bytes c.in_ok-header.header c.in_ok-header.ensures told).1
 
 pub returns-clause-comes_back_in : goal.returns-clause-comes_back_in
 returns-clause-comes_back_in g c style h raw bytes f told =
