@@ -54,7 +54,17 @@ pub record CoderBetween (w : Writing) (rest : List RgbaPixel) (table : List Rgba
   pub state : StateAfter w.style past table coder.last
   pub style_state : StyleAfter past before coder.place coder.begun coder.placed
 
+-- what a coder has between two pixels: the table, what it keeps in registers, and the bytes so far
+pub record Coded : Type 0 where
+  pub table : List RgbaPixel
+  pub coder : Coder
+  pub bytes : List ℕ
+
+-- these three
+abbrev pub coded : List RgbaPixel → Coder → List ℕ → Coded
+coded table coder bytes = record { table = table; coder = coder; bytes = bytes }
+
 -- Among four pixels: those up to a lane have come.
-pub record AtLane (w : Writing) (quad : Quad) (pixels : List RgbaPixel) (lane : ℕ) (table : List RgbaPixel) (coder : Coder) (bytes : List ℕ) : Type 0 where
-  pub between : CoderBetween w (drop lane pixels) table coder bytes
-  pub last_is : lane < 4 → word coder.last ≡ slice_index quad.before lane
+pub record AtLane (w : Writing) (quad : Quad) (pixels : List RgbaPixel) (lane : ℕ) (so_far : Coded) : Type 0 where
+  pub between : CoderBetween w (drop lane pixels) so_far.table so_far.coder so_far.bytes
+  pub last_is : lane < 4 → word so_far.coder.last ≡ slice_index quad.before lane

@@ -44,7 +44,7 @@ struct Coder {
 }
 
 impl Coder {
-    ghost use Rattle.qoi.specs.inner.CoderLoop.{Writing, CoderBetween, AtLane};
+    ghost use Rattle.qoi.specs.inner.CoderLoop.{Writing, CoderBetween, AtLane, coded};
 
     // Before the first pixel: opaque black.
     fn new() -> Coder
@@ -163,8 +163,8 @@ impl Coder {
         ensures opaque { N ≡ 3 → self.new.last.a ≡ 255 }
         ensures given { (w : Writing) (pixels : List RgbaPixel) → w.style ≡ style
             → IsQuad N quad.now pixels → ((k : ℕ) → k < 4 → IsFreshLane quad.now k)
-            → AtLane w quad.now pixels 0 table.old self.old (take at out.old)
-            → AtLane w quad.now pixels 4 table.new self.new (take result out.new) }
+            → AtLane w quad.now pixels 0 (coded table.old self.old (take at out.old))
+            → AtLane w quad.now pixels 4 (coded table.new self.new (take result out.new)) }
     {
         let first = self.give::<N>(table, out, at, style, quad, 0);
         let second = self.give::<N>(table, out, first, style, quad, 1);
@@ -198,8 +198,9 @@ impl Coder {
         ensures opaque { N ≡ 3 → self.old.last.a ≡ 255 → self.new.last.a ≡ 255 }
         ensures given { (w : Writing) (pixels : List RgbaPixel) → w.style ≡ style
             → IsQuad N quad.now pixels
-            → AtLane w quad.now pixels lane table.old self.old (take at out.old)
-            → AtLane w quad.now pixels result.1 table.new self.new (take result.0 out.new) }
+            → AtLane w quad.now pixels lane (coded table.old self.old (take at out.old))
+            → AtLane w quad.now pixels result.1
+            (coded table.new self.new (take result.0 out.new)) }
     {
         if lane > 3 {
             return (at, lane);
