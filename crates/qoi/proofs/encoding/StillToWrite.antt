@@ -46,12 +46,12 @@ module _ (Choice : Past → RgbaPixel → Chunk → Type 0) (choices : Chooses C
   -- the runs of a group behind a list, which a run may follow if there are repeats at all
   group_runs : (n : ℕ) (past : Past) (cs : List Chunk) → WrittenBy Choice (reverse past) cs → (0 < n → RunMayFollow cs)
       → WrittenBy Choice (reverse (replicate n (previous past) ++ past)) (cs ++ runs_by (Run 1) n)
-  group_runs zero past cs w takes = subst (WrittenBy Choice (reverse past)) (sym (ap (λ x. cs ++ x) runs_none ∙ append-nil cs)) w
-  group_runs (suc n) past cs w takes = written_runs Choice past (suc n) cs w (takes (omega arith))
+  group_runs zero past cs w may = subst (WrittenBy Choice (reverse past)) (sym (ap (λ x. cs ++ x) runs_none ∙ append-nil cs)) w
+  group_runs (suc n) past cs w may = written_runs Choice past (suc n) cs w (may (omega arith))
 
   -- a run may follow runs that are full
   full_take : (n : ℕ) (past : Past) (cs : List Chunk) → n % 62 ≡ 0 → WrittenBy Choice (reverse past) cs → RunMayFollow cs → RunMayFollow (cs ++ runs_by (Run 1) n)
-  full_take n past cs e w takes = subst (λ x. RunMayFollow (cs ++ x)) (sym (runs_full n e)) (full_runs Choice (n / 62) past (previous past) cs refl w takes).1
+  full_take n past cs e w may = subst (λ x. RunMayFollow (cs ++ x)) (sym (runs_full n e)) (full_runs Choice (n / 62) past (previous past) cs refl w may).1
 
   module _ {image : List RgbaPixel} {cs : List Chunk} {past : Past} {rest : List RgbaPixel} {todo : List Chunk}
       (w : StillToWrite Choice image cs past rest todo) where
@@ -61,7 +61,7 @@ module _ (Choice : Past → RgbaPixel → Chunk → Type 0) (choices : Chooses C
         → WrittenBy Choice (reverse after) (w.done ++ new) → (slice_get more 0 ≡ Some (previous after) → RunMayFollow (w.done ++ new))
         → WrittenBy Choice (reverse after ++ more) ((w.done ++ new) ++ left)
         → (todo ≡ new ++ left) × StillToWrite Choice image cs after more left
-    next after more new left split before are written takes all =
+    next after more new left split before are written may all =
         let whole = subst (λ x. WrittenBy Choice image x) (append_assoc w.done new left)
         (subst (λ x. WrittenBy Choice x ((w.done ++ new) ++ left)) (sym split) all) in
         let todo_is : todo ≡ new ++ left = append_cancel_left w.done todo (new ++ left)
@@ -74,7 +74,7 @@ module _ (Choice : Past → RgbaPixel → Chunk → Type 0) (choices : Chooses C
             are = are;
             done = w.done ++ new;
             written = written;
-            run_may_follow = takes;
+            run_may_follow = may;
             parts = w.parts ∙ ap (λ x. w.done ++ x) todo_is ∙ sym (append_assoc w.done new left);
           },
         )
@@ -189,7 +189,7 @@ module _ (Choice : Past → RgbaPixel → Chunk → Type 0) (choices : Chooses C
                     → (left : List Chunk) × (todo ≡ runs_by (Run 1) n ++ left) × StillToWrite Choice image cs group rest left
                 by_end (inl other) = absurd (other again)
                 by_end (inr full) =
-                    let takes = full_take n past w.done full w.written (w.run_may_follow (goes_on n again)) in
-                    let all = written_on Choice choices rest group 0 (w.done ++ runs_by (Run 1) n) group_written takes before_is behind_are in
-                    let r = next w group rest (runs_by (Run 1) n) all.0 image_is before_is behind_are group_written (λ _. takes) all.1 in
+                    let may = full_take n past w.done full w.written (w.run_may_follow (goes_on n again)) in
+                    let all = written_on Choice choices rest group 0 (w.done ++ runs_by (Run 1) n) group_written may before_is behind_are in
+                    let r = next w group rest (runs_by (Run 1) n) all.0 image_is before_is behind_are group_written (λ _. may) all.1 in
                     (all.0, r.0, r.1)
