@@ -52,7 +52,8 @@ styled_none Tight past before = refl
 bytes_next : (ahead bytes next : List ℕ) (first left : List Chunk) → ahead ≡ bytes ++ chunk_bytes (first ++ left) → next ≡ bytes ++ chunk_bytes first
     → ahead ≡ next ++ chunk_bytes left
 bytes_next ahead bytes next first left e n =
-    e ∙ ap (λ x. bytes ++ x) (flat_map-append bytes_of first left) ∙ sym (append_assoc bytes (chunk_bytes first) (chunk_bytes left)) ∙ ap (λ x. x ++ chunk_bytes left) (sym n)
+    e ∙ ap (λ x. bytes ++ x) (flat_map-append bytes_of first left) ∙ sym (append_assoc bytes (chunk_bytes first) (chunk_bytes left))
+    ∙ ap (λ x. x ++ chunk_bytes left) (sym n)
 
 module _ {w : Writing} {pixels : List RgbaPixel} {table : List RgbaPixel} {coder : Coder} {bytes : List ℕ} (b : CoderBetween w pixels table coder bytes) where
   -- the pixel before is the coder's last
@@ -83,7 +84,8 @@ module _ {w : Writing} {pixels : List RgbaPixel} {table : List RgbaPixel} {coder
         before = last_chunk b.before (runs_by (Run 1) n);
         todo = r.0;
         to_write = r.2;
-        ahead_is = bytes_next w.ahead bytes next (runs_by one n) (styled w.style (replicate n (previous b.past) ++ b.past) (last_chunk b.before (runs_by (Run 1) n)) r.0)
+        ahead_is = bytes_next w.ahead bytes next (runs_by one n) (styled w.style (replicate n (previous b.past) ++ b.past) (last_chunk b.before
+            (runs_by (Run 1) n)) r.0)
             (b.ahead_is ∙ ap (λ cs. bytes ++ chunk_bytes (styled w.style b.past b.before cs)) r.1
             ∙ ap (λ cs. bytes ++ chunk_bytes cs) (styled_runs w.style b.past b.before n r.0 one single)) written;
         state = state;
@@ -152,7 +154,8 @@ module _ {w : Writing} {pixels : List RgbaPixel} {table : List RgbaPixel} {coder
       → (ahead : List ℕ) × (w.ahead ≡ gone ++ ahead) × CoderBetween (record w { ahead = ahead }) pixels table coder kept
   piece_given gone kept split = (
     kept ++ chunk_bytes (styled w.style b.past b.before b.todo),
-    b.ahead_is ∙ ap (λ x. x ++ chunk_bytes (styled w.style b.past b.before b.todo)) split ∙ append_assoc gone kept (chunk_bytes (styled w.style b.past b.before b.todo)),
+    b.ahead_is ∙ ap (λ x. x ++ chunk_bytes (styled w.style b.past b.before b.todo)) split
+        ∙ append_assoc gone kept (chunk_bytes (styled w.style b.past b.before b.todo)),
     record { past = b.past; before = b.before; todo = b.todo; to_write = b.to_write; ahead_is = refl; state = b.state; style_state = b.style_state },
   )
 

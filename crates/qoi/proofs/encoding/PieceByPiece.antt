@@ -115,11 +115,13 @@ module _ {W : Type 0} {wrote : W → List ℕ → W → Type 0} {room : W → �
       piece_part {now} some = (
         in_style style p.list,
         in_list,
-        wrote_part wrote room p.laws start buf now (front ++ chunk_bytes (in_style style p.list)) p.ahead (take size kept) given_first.0 p.went given_first.1 some,
+        wrote_part wrote room p.laws start buf now (front ++ chunk_bytes (in_style style p.list)) p.ahead (take size kept) given_first.0 p.went
+            given_first.1 some,
       )
 
   -- at the end all but what is kept went
-  pub piece_ends : {table : List RgbaPixel} {coder : Coder} {kept : List ℕ} {buf : W} {rest : List ℕ} {table' : List RgbaPixel} {coder' : Coder} {kept' : List ℕ} (p : PieceBetween wrote room style n bytes front start rest table coder kept buf)
+  pub piece_ends : {table : List RgbaPixel} {coder : Coder} {kept : List ℕ} {buf : W} {rest : List ℕ} {table' : List RgbaPixel} {coder' : Coder}
+      {kept' : List ℕ} (p : PieceBetween wrote room style n bytes front start rest table coder kept buf)
       → ((w : Writing) → w.style ≡ style → CoderBetween w (pixels_of n rest) table coder kept → CoderBetween w [] table' coder' kept')
       → (cs : List Chunk) × WrittenIn style (pixels_of n bytes) cs × WroteBut wrote start (front ++ chunk_bytes cs) kept' buf
   piece_ends {buf = buf} p given = (

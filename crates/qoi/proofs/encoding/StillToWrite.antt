@@ -50,7 +50,8 @@ module _ (Choice : Past → RgbaPixel → Chunk → Type 0) (choices : Chooses C
   group_runs (suc n) past cs w may = written_runs Choice past (suc n) cs w (may (omega arith))
 
   -- a run may follow runs that are full
-  full_take : (n : ℕ) (past : Past) (cs : List Chunk) → n % 62 ≡ 0 → WrittenBy Choice (reverse past) cs → RunMayFollow cs → RunMayFollow (cs ++ runs_by (Run 1) n)
+  full_take : (n : ℕ) (past : Past) (cs : List Chunk) → n % 62 ≡ 0 → WrittenBy Choice (reverse past) cs → RunMayFollow cs
+      → RunMayFollow (cs ++ runs_by (Run 1) n)
   full_take n past cs e w may = subst (λ x. RunMayFollow (cs ++ x)) (sym (runs_full n e)) (full_runs Choice (n / 62) past (previous past) cs refl w may).1
 
   module _ {image : List RgbaPixel} {cs : List Chunk} {past : Past} {rest : List RgbaPixel} {todo : List Chunk}
@@ -148,7 +149,8 @@ module _ (Choice : Past → RgbaPixel → Chunk → Type 0) (choices : Chooses C
         → (left : List Chunk) × (todo ≡ runs_by (Run 1) n ++ left) × StillToWrite Choice image cs group rest left
     runs_next ends = by_rest rest refl
       where
-        by_rest : (pixels : List RgbaPixel) → rest ≡ pixels → (left : List Chunk) × (todo ≡ runs_by (Run 1) n ++ left) × StillToWrite Choice image cs group rest left
+        by_rest : (pixels : List RgbaPixel) → rest ≡ pixels → (left : List Chunk) × (todo ≡ runs_by (Run 1) n ++ left)
+            × StillToWrite Choice image cs group rest left
         by_rest [] none =
             let other : slice_get rest 0 ≢ Some (previous past) = λ e.
             absurd (let no : slice_get {X = RgbaPixel} [] 0 ≡ Some (previous past) = sym (ap (λ x. slice_get x 0) none) ∙ e in cc) in
@@ -164,7 +166,8 @@ module _ (Choice : Past → RgbaPixel → Chunk → Type 0) (choices : Chooses C
             first : slice_get rest 0 ≡ Some p
             first = ap (λ x. slice_get x 0) ahead
 
-            by_next : (p ≡ previous past) ⊎ (p ≢ previous past) → (left : List Chunk) × (todo ≡ runs_by (Run 1) n ++ left) × StillToWrite Choice image cs group rest left
+            by_next : (p ≡ previous past) ⊎ (p ≢ previous past) → (left : List Chunk) × (todo ≡ runs_by (Run 1) n ++ left)
+                × StillToWrite Choice image cs group rest left
             by_next (inr other) =
                 let differs : p ≢ previous group = λ e. other (e ∙ previous_repeats n past) in
                 let c = choices.some group p before_is are.0 differs in

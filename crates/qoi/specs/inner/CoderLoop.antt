@@ -19,7 +19,8 @@ RunMayFollow cs = (n : ℕ) → RunsAreFull (cs ++ Run n ∷ [])
 
 -- The list cs is written for the image. Of its pixels `past` have come, and `done` is the list that is written for
 -- them, which a run may follow if the next pixel repeats; `rest` follow. Of cs the chunks `todo` are still to be written.
-pub record StillToWrite (Choice : Past → RgbaPixel → Chunk → Type 0) (image : List RgbaPixel) (cs : List Chunk) (past : Past) (rest : List RgbaPixel) (todo : List Chunk) : Type 0 where
+pub record StillToWrite (Choice : Past → RgbaPixel → Chunk → Type 0) (image : List RgbaPixel) (cs : List Chunk) (past : Past)
+    (rest : List RgbaPixel) (todo : List Chunk) : Type 0 where
   pub whole : WrittenBy Choice image cs
   pub split : image ≡ reverse past ++ rest
   pub before : IsPixel (previous past)
