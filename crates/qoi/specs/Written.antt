@@ -13,7 +13,7 @@ fresh (p ∷ past) = if pixel_eq p (previous past) then fresh past else p ∷ fr
 abbrev pub noted : Past → ℕ → RgbaPixel
 noted past i = seen (fresh past) i
 
--- the order in which the chunks that spell a pixel out are tried; places and runs are none of them
+-- the order in which the chunks that spell a pixel out are tried; index positions and runs are none of them
 abbrev pub rank : Chunk → ℕ
 rank (Diff d) = 1
 rank (Luma d e) = 2

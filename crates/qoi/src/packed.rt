@@ -176,8 +176,8 @@ impl Packed {
         u64::from(self.0)
     }
 
-    /// Sixteen bytes of the pixel written sixteen times in `N` channels, the `PART`th of the `N`
-    /// parts.
+    /// The `PART`th sixteen of the bytes that the pixel has when it is written sixteen times in `N`
+    /// channels.
     #[inline(always)]
     pub(crate) fn block<const N: usize, const PART: usize>(self) -> u8x16
         requires channels { IsChannels N }

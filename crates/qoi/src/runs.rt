@@ -21,8 +21,8 @@ pub fn repeats<const N: usize>(data: &[u8], px: Pixel<N>) -> usize
     repeats_of::<N>(data, px.packed())
 }
 
-/// How many of four pixels repeat the one before a lane, from this lane on. A bit for each of the four says
-/// whether it repeats the one before it.
+/// How many of four pixels, from a lane on, repeat the pixel before that lane. A bit for each of the four
+/// says whether it repeats the one before it.
 #[inline(always)]
 pub(crate) fn repeats_in_quad(bits: u64, lane: usize) -> usize
     requires within { bits < 16 }

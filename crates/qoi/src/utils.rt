@@ -8,7 +8,7 @@ use crate::error::{Error, Result};
 use std::io;
 use std::io::{ErrorKind, Write};
 
-/// A place that takes bytes, one after the other.
+/// What bytes are written to, one after the other.
 ///
 /// A caller sees to it that the capacity suffices.
 pub trait Writer: Sized {
@@ -20,7 +20,7 @@ pub trait Writer: Sized {
     /// How many bytes can still be written.
     ghost room: { Self → ℕ };
 
-    /// The errors that a call can return at all.
+    /// What a refusal can be.
     ghost IsFault: { Error → Type 0 };
 
     /// Writes one byte; a refusal leaves it unwritten.

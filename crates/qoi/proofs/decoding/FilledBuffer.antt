@@ -20,7 +20,7 @@ pub pixel_room : (c at len : ℕ) → IsChannels c → at % c ≡ 0 → len % c 
 pixel_room c at len (inl e) = subst (λ k. at % k ≡ 0 → len % k ≡ 0 → at < len → at + k ≤ len) (sym e) (λ p q h. omega arith)
 pixel_room c at len (inr e) = subst (λ k. at % k ≡ 0 → len % k ≡ 0 → at < len → at + k ≤ len) (sym e) (λ p q h. omega arith)
 
--- the place after a whole pixel
+-- the offset after a whole pixel
 pub pixel_end : (c at : ℕ) → IsChannels c → at % c ≡ 0 → (at + c) % c ≡ 0
 pixel_end c at (inl e) = subst (λ k. at % k ≡ 0 → (at + k) % k ≡ 0) (sym e) (λ p. omega arith)
 pixel_end c at (inr e) = subst (λ k. at % k ≡ 0 → (at + k) % k ≡ 0) (sym e) (λ p. omega arith)
@@ -56,7 +56,7 @@ take-output f c (suc n) (p ∷ ps) is h =
 pub take_whole : {A : Type 0} (n : ℕ) (xs : List A) → length xs ≡ n → take n xs ≡ xs
 take_whole n xs e = rw (← e) (take-length xs)
 
--- where there is room, the place is after the pixels so far
+-- where there is room, the offset is after the pixels so far
 pub record Counts (c n l k at len : ℕ) : Type 0 where
   pub below : l < n
   pub now : at ≡ c * l
@@ -80,7 +80,7 @@ full_counts c n l at len (inr e) = subst (λ k. len ≡ k * n → at ≡ k * min
 output-append : (f c : ℕ) (more past : Past) → output f c (reverse (more ++ past)) ≡ output f c (reverse past) ++ output f c (reverse more)
 output-append f c more past = ap (output f c) (reverse-append more past) ∙ flat_map-append (pixel_bytes f c) (reverse past) (reverse more)
 
--- pixels written at the place after the others, whatever stands behind them
+-- pixels written at the offset after the others, whatever stands behind them
 filled_list : (f c n : ℕ) (out new : List ℕ) (at : ℕ) (past : Past) (ps : List RgbaPixel) → IsChannels c → at < length out → at + c * length ps ≤ length out
     → length new ≡ length out → take (at + c * length ps) new ≡ take at out ++ output f c ps
     → HasFilled f c n (upto out at) past → HasFilled f c n (upto new (at + c * length ps)) (reverse ps ++ past)
@@ -172,7 +172,7 @@ two_blocks c at done count len (inr e) = subst (λ d. done < count → at + d * 
       more = omega arith;
     })
 
--- the place after some pixels and then more of them
+-- the offset after some pixels and then more of them
 pub after_both : (c at m k : ℕ) → IsChannels c → at + c * m + c * k ≡ at + c * (m + k)
 after_both c at m k (inl e) = subst (λ d. at + d * m + d * k ≡ at + d * (m + k)) (sym e) (omega arith)
 after_both c at m k (inr e) = subst (λ d. at + d * m + d * k ≡ at + d * (m + k)) (sym e) (omega arith)

@@ -77,7 +77,7 @@ repeats_block n bytes rest after p count is w room behind block = record {
     sums n (inr e) = subst (λ k. length after + k * 16 ≡ length rest → k * count + length rest ≡ length bytes
         → k * (count + 16) + length after ≡ length bytes) (sym e) (λ a b. omega arith)
 
--- the member at a place is the first behind as many
+-- the member at an index is the first behind as many
 nth_first : (k : ℕ) (xs : List RgbaPixel) → slice_get xs k ≡ slice_get (drop k xs) 0
 nth_first zero xs = refl
 nth_first (suc k) [] = refl

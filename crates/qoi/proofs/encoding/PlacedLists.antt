@@ -31,7 +31,7 @@ seen_last : (past : Past) → some_fresh past ≡ true → seen past (hash (prev
 seen_last [] e = absurd (true≢false (sym e))
 seen_last (p ∷ past) e = seen_same past p (hash p) refl
 
--- what holds of a chunk, and of the position of the last pixel where a single run stands, holds of the chunk's place
+-- what holds of a chunk, and of the position of the last pixel where a single run stands, holds of the chunk that stands for it
 by_place : (P : Chunk → Chunk → Type 0) (past : Past) (before : Option Chunk) (c : Chunk) (cs : List Chunk)
     → ((d : Chunk) → P d d)
     → (seen past (hash (previous past)) ≡ previous past → P (Run 1) (Place (hash (previous past))))

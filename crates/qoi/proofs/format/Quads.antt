@@ -148,7 +148,7 @@ places_lanes xs e f =
     (bytes_of_lanes 4 xs e f)
     ∙ places_words xs e
 
--- green's step in the places of red and blue
+-- green's step, in the bytes of red and of blue
 green_lane : (x : ℕ) → (bit_and (x / 2 ^ 8) 255 + bit_and (x / 2 ^ 8) 255 * 2 ^ 16 % 2 ^ 32) % 2 ^ 32 ≡ green_twice x
 green_lane x = ap (λ g. (g + g * 2 ^ 16 % 2 ^ 32) % 2 ^ 32) (and_mask (x / 2 ^ 8) 8) ∙ omega arith
 

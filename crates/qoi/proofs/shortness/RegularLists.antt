@@ -14,7 +14,7 @@ use Rattle.qoi.proofs.encoding.NotedPixels.{seen_same, seen_other}
 use Rattle.qoi.proofs.format.ChunkSteps.{given, then_chunks_given}
 use Rattle.qoi.proofs.encoding.WrittenGrows.{all_back, all_reverse}
 
--- a place chunk that is chosen names the index position of its pixel
+-- an index chunk that is chosen names the index position of its pixel
 place_named : (past : Past) (i : ℕ) → IsChoice past (seen past i) (Place i) → hash (seen past i) ≡ i
 place_named past i w = elim (cases_pixel (noted past (hash (seen past i))) (seen past i)) as (λ _. hash (seen past i) ≡ i) [
   | inl e ↦ let s = w.place e in cc

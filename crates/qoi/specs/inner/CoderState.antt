@@ -27,7 +27,7 @@ pub record StyleAfter (past : Past) (before : Option Chunk) (place : ℕ) (begun
   pub begun_is : begun ≡ some_fresh past
   pub placed_is : placed ≡ names before (hash (previous past))
 
--- the chunk of a rest of 1 of a group of n repeats of the pixel of this place, where a fresh pixel follows
+-- the chunk of a rest of 1 of a group of n repeats of the pixel of this index position, where a fresh pixel follows
 abbrev pub rest_of_one : Style → Bool → Bool → ℕ → ℕ → Chunk
 rest_of_one Reference begun placed place n = Run 1
 rest_of_one Tight begun placed place n = Run 1

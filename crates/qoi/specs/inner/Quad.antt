@@ -28,7 +28,7 @@ diff_word s = word (diff_steps (pixel_of_word s))
 abbrev pub luma_word : ℕ → ℕ
 luma_word s = word (luma_steps (pixel_of_word s))
 
--- green's step in the places of red and blue
+-- green's step, in the bytes of red and of blue
 abbrev pub green_twice : ℕ → ℕ
 green_twice s = s / 2 ^ 8 % 2 ^ 8 * 0x10001
 
@@ -99,7 +99,7 @@ pub record IsSpelled (p q number count : ℕ) (c : Chunk) : Type 0 where
   pub bytes : HasBytes (p / 2 ^ 24) number count c
   pub first : (past : Past) → IsPixel (previous past) → previous past ≡ pixel_of_word q → IsFirst past (pixel_of_word p) c
 
--- n numbers from the one at this place on are those beside them, and no more
+-- n numbers from this lane on are those beside them, and no more
 pub record IsRun (xs ys : List ℕ) (at n : ℕ) : Type 0 where
   pub within : at + n ≤ 4
   pub same : (k : ℕ) → at ≤ k → k < at + n → slice_index xs k ≡ slice_index ys k

@@ -192,8 +192,8 @@ pub(super) struct Given {
     pub(super) at: usize,
 }
 
-// Gives the pixels of the chunk that the bytes begin with. Eight bytes have any chunk whole, and a byte
-// after a short one.
+// Gives the pixels of the first chunk of the bytes. Any chunk is whole in eight bytes, and behind a short
+// one there is a byte more, which is read with it.
 #[inline(always)]
 pub(super) fn give_first<const N: usize, const F: usize>(
     table: &mut Table,

@@ -74,8 +74,8 @@ impl Coder {
         }
     }
 
-    // So many repeats of the last pixel came. In style `Tight` they are put at its index position, too,
-    // which tells only of those that open the image: any other pixel stands there already.
+    // Takes in that many repeats of the last pixel. In style `Tight` they are put at its index position, too,
+    // which matters for those that open the image alone: any other pixel stands there already.
     #[inline(always)]
     fn repeat(&mut self, table: &mut Table, style: Style, count: usize)
         ensures last { self.new.last ≡ self.old.last }
@@ -94,9 +94,9 @@ impl Coder {
         self.placed = self.placed & (count == 0);
     }
 
-    // Writes the chunk of a fresh pixel of the four, as the style has it: its index position if it stands
-    // there, or else mostly the first chunk that spells it out. It then stands there, and is the last pixel.
-    // Returns where the chunk ends.
+    // Writes the chunk of a fresh pixel of the four, as the style has it: its index position where the pixel
+    // stands there, else mostly the first chunk that spells it out. The pixel then stands there, and is the
+    // last one. Returns where the chunk ends.
     #[inline(always)]
     fn give<const N: usize>(
         &mut self,
@@ -431,9 +431,9 @@ impl Coder {
     }
 }
 
-// How the style has a fresh pixel given that doesn't stand at its index position: by the first chunk
-// that spells it out, but in style `Tight` transparent black by the least position where no pixel was
-// put, if there is one. The chunk is a number that has its bytes, and how many these are.
+// The chunk of a fresh pixel that doesn't stand at its index position: the first one that spells it out;
+// in style `Tight` transparent black is given by the least position where no pixel was put, if there is
+// one. Returns a number that has the chunk's bytes, and how many these are.
 #[inline(always)]
 fn spelled_or_blank(
     table: &Table,

@@ -122,7 +122,7 @@ fn diff_steps(steps: u32x4) -> u32x4
     u32x4::from_le_bytes(steps.to_le_bytes() + u32x4::splat(0x0002_0202).to_le_bytes())
 }
 
-// Green's steps in the places of red and blue.
+// Green's steps, in the bytes of red and of blue.
 #[inline(always)]
 fn greens(steps: u32x4) -> u32x4
     ensures lanes { result ≡ map green_twice steps }

@@ -57,7 +57,7 @@ pub fn places_examples()
         ≡ Place 0 ∷ Run 1 ∷ Rgba 1 2 3 4 ∷ [] }
 {}
 
-/// Two neighbouring place chunks of a written list never name the same index position.
+/// Two neighbouring chunks of a written list never name the same index position.
 pub fn written_is_apart()
     ensures { (style : Style) (image : List RgbaPixel) (cs front rest : List Chunk) (i : ℕ)
         → WrittenIn style image cs → cs ≢ front ++ Place i ∷ Place i ∷ rest }

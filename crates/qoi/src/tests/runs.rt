@@ -108,7 +108,7 @@ fn assert_all_counted<const N: usize>(rt: &impl Abort, alloc: Global, px: [u8; N
     Ok(())
 }
 
-// Turns over a bit of the byte at this place.
+// Turns over a bit of the byte at this index.
 fn turn(data: &mut [u8], place: usize, bit: u8) {
     if let Some(byte) = data.get_mut(place) {
         *byte ^= bit;

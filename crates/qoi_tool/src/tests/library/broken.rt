@@ -116,7 +116,7 @@ fn largest_image(rt: HostRuntime) -> Result<()> {
     assert_too_small(&rt, rt.alloc(), bytes, &mut [], text)
 }
 
-// A run that gives more pixels than are left is cut; a chunk after it stands in the marker's place.
+// A run that gives more pixels than are left is cut; a chunk after it stands where the marker should.
 #[test]
 fn last_run(rt: HostRuntime) -> Result<()> {
     for (width, chunks) in [(1, &[0xc0, 0xc0][..]), (100, &[0xfd, 0xfd, 0xfd])] {

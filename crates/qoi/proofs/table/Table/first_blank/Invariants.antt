@@ -1,4 +1,4 @@
--- The first is none of those before the place.
+-- The first is none of those before this position.
 use Rattle.std.proofs.Common.{◌≡◌, ◌-◌}
 use Rattle.qoi.specs.Qoi.{Past}
 use Rattle.qoi.specs.inner.Table.{Holds, first_blank}
