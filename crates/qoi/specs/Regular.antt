@@ -19,6 +19,6 @@ Regular cs = Each NamesWritten [] cs
 abbrev pub Begins : List RgbaPixel → List RgbaPixel → Type 0
 Begins pixels image = (more : List RgbaPixel) × (pixels ≡ image ++ more)
 
--- chunks whose pixels begin with those of the image
+-- chunks whose pixels are those of the image, and then perhaps others
 abbrev pub Covers : List RgbaPixel → List Chunk → Type 0
 Covers image cs = AreChunks cs × Begins (meaning cs) image
