@@ -7,7 +7,7 @@ use Rattle.std.proofs.lemmas.Bool.{cases_lt}
 use Rattle.std.proofs.lemmas.Grind.{flat_map-append}
 use Rattle.qoi.specs.Qoi.{RgbaPixel, Past}
 use Rattle.qoi.specs.Raw.{IsChannels, pixel_bytes, output}
-use Rattle.qoi.specs.inner.Filling.{HasFilled}
+use Rattle.qoi.specs.inner.Filling.{Buffer, upto, HasFilled}
 use Rattle.qoi.proofs.format.ChunkSteps.{repeats_after, reverse-replicate}
 
 -- there are channels
@@ -83,7 +83,7 @@ output-append f c more past = ap (output f c) (reverse-append more past) ∙ fla
 -- pixels written at the place after the others, whatever stands behind them
 filled_list : (f c n : ℕ) (out new : List ℕ) (at : ℕ) (past : Past) (ps : List RgbaPixel) → IsChannels c → at < length out → at + c * length ps ≤ length out
     → length new ≡ length out → take (at + c * length ps) new ≡ take at out ++ output f c ps
-    → HasFilled f c n out at past → HasFilled f c n new (at + c * length ps) (reverse ps ++ past)
+    → HasFilled f c n (upto out at) past → HasFilled f c n (upto new (at + c * length ps)) (reverse ps ++ past)
 filled_list f c n out new at past ps is inside fits size e h =
     let place = counts c n (length past) (length ps) at (length out) is h.room h.at_is inside fits in
     let bytes = output f c ps in
@@ -111,15 +111,15 @@ pixel_written f c out new at p e =
 -- and the buffer is filled with it too
 pub filled_more : (f c n : ℕ) (out new : List ℕ) (at : ℕ) (past : Past) (p : RgbaPixel) → IsChannels c → at < length out → at + c ≤ length out
     → length new ≡ length out → take (at + c) new ≡ take at out ++ pixel_bytes f c p
-    → HasFilled f c n out at past → HasFilled f c n new (at + c) (p ∷ past)
+    → HasFilled f c n (upto out at) past → HasFilled f c n (upto new (at + c)) (p ∷ past)
 filled_more f c n out new at past p is inside room size e h =
     let one : c * 1 ≡ c = omega arith in
-    subst (λ k. HasFilled f c n new (at + k) (p ∷ past)) one
+    subst (λ k. HasFilled f c n (upto new (at + k)) (p ∷ past)) one
     (filled_list f c n out new at past (p ∷ []) is inside (rw one room) size (pixel_written f c out new at p e) h)
 
 -- where the buffer is full, further pixels change nothing
-pub filled_full : (f c n : ℕ) (out : List ℕ) (at : ℕ) (past more : Past) → IsChannels c → HasFilled f c n out at past → length out ≤ at
-    → HasFilled f c n out at (more ++ past)
+pub filled_full : (f c n : ℕ) (out : List ℕ) (at : ℕ) (past more : Past) → IsChannels c → HasFilled f c n (upto out at) past → length out ≤ at
+    → HasFilled f c n (upto out at) (more ++ past)
 filled_full f c n out at past more is h full =
     let place = full_counts c n (length past) at (length out) is h.room h.at_is full in
     let size = length-append more past in
@@ -181,20 +181,20 @@ after_both c at m k (inr e) = subst (λ d. at + d * m + d * k ≡ at + d * (m + 
 pub filled_copies : (f c n k : ℕ) (out new : List ℕ) (at done : ℕ) (p : RgbaPixel) (past : Past) → IsChannels c → at + c * done < length out
     → at + c * done + c * k ≤ length out → length new ≡ length out
     → take (at + c * done + c * k) new ≡ take (at + c * done) out ++ output f c (replicate k p)
-    → HasFilled f c n out (at + c * done) (replicate done p ++ past) → HasFilled f c n new (at + c * (done + k)) (replicate (done + k) p ++ past)
+    → HasFilled f c n (upto out (at + c * done)) (replicate done p ++ past) → HasFilled f c n (upto new (at + c * (done + k))) (replicate (done + k) p ++ past)
 filled_copies f c n k out new at done p past is inside fits size e h =
     let many : length (replicate k p) ≡ k = length-replicate k p in
     let listed = filled_list f c n out new (at + c * done) (replicate done p ++ past) (replicate k p) is inside (rw many fits) size (rw many e) h in
     let copies = repeats_after k done p past ∙ ap (λ m. replicate m p ++ past) (plus_comm k done) in
-    subst (λ m. HasFilled f c n new m (replicate (done + k) p ++ past)) (after_both c at done k is) (rw (many, reverse-replicate k p, copies) at listed)
+    subst (λ m. HasFilled f c n (upto new m) (replicate (done + k) p ++ past)) (after_both c at done k is) (rw (many, reverse-replicate k p, copies) at listed)
   where
     plus_comm : (a b : ℕ) → a + b ≡ b + a
     plus_comm a b = omega arith
 
 -- fewer of the copies are written too
 pub filled_fewer : (f c n : ℕ) (old out : List ℕ) (at done count : ℕ) (p : RgbaPixel) (past : Past) → IsChannels c → count ≤ done → length out ≡ length old
-    → at + c * count ≤ length old → HasFilled f c n old at past
-    → HasFilled f c n out (at + c * done) (replicate done p ++ past) → HasFilled f c n out (at + c * count) (replicate count p ++ past)
+    → at + c * count ≤ length old → HasFilled f c n (upto old at) past
+    → HasFilled f c n (upto out (at + c * done)) (replicate done p ++ past) → HasFilled f c n (upto out (at + c * count)) (replicate count p ++ past)
 filled_fewer f c n old out at done count p past is le size fits start h =
     let few = replicate count p ++ past in
     let end = at + c * count in
@@ -235,18 +235,21 @@ copies_end c at count len (inr e) = subst (λ k. len % k ≡ 0 → at % k ≡ 0 
 
 -- after those of `count` copies that there is room for, the others change nothing
 pub filled_end : (f c n : ℕ) (out : List ℕ) (at all count : ℕ) (p : RgbaPixel) (past : Past) → IsChannels c → all ≤ count → (all ≡ count) ⊎ (length out ≤ at)
-    → HasFilled f c n out at (replicate all p ++ past) → HasFilled f c n out at (replicate count p ++ past)
-filled_end f c n out at all count p past is le (inl e) h = subst (λ k. HasFilled f c n out at (replicate k p ++ past)) e h
+    → HasFilled f c n (upto out at) (replicate all p ++ past) → HasFilled f c n (upto out at) (replicate count p ++ past)
+filled_end f c n out at all count p past is le (inl e) h = subst (λ k. HasFilled f c n (upto out at) (replicate k p ++ past)) e h
 filled_end f c n out at all count p past is le (inr full) h =
     let sum : count - all + all ≡ count = omega arith in
-    subst (λ z. HasFilled f c n out at z) (repeats_after (count - all) all p past ∙ ap (λ k. replicate k p ++ past) sum)
+    subst (λ z. HasFilled f c n (upto out at) z) (repeats_after (count - all) all p past ∙ ap (λ k. replicate k p ++ past) sum)
     (filled_full f c n out at (replicate all p ++ past) (replicate (count - all) p) is h full)
 
 -- where the buffer is full it has the bytes of the first n pixels
-pub filled_all : (f c n : ℕ) (out : List ℕ) (at : ℕ) (past : Past) → IsChannels c → HasFilled f c n out at past → length out ≤ at
-    → (n ≤ length past) × (out ≡ output f c (take n (reverse past)))
-filled_all f c n out at past is h full =
-    let place = full_counts c n (length past) at (length out) is h.room h.at_is full in
+pub filled_all : (f c n : ℕ) (b : Buffer) (past : Past) → IsChannels c → HasFilled f c n b past → length b.out ≤ b.at
+    → (n ≤ length past) × (b.out ≡ output f c (take n (reverse past)))
+filled_all f c n b past is h full =
+    let place = full_counts c n (length past) b.at (length b.out) is h.room h.at_is full in
     let enough : n ≤ length (reverse past) = omega (arith, place.0, length-reverse past) in
-    let at_all : at ≡ c * n = place.1 ∙ h.room in
-    (place.0, sym (take_whole at out (sym place.1)) ∙ h.same ∙ ap (λ k. take k (output f c (reverse past))) at_all ∙ take-output f c n (reverse past) is enough)
+    let at_all : b.at ≡ c * n = place.1 ∙ h.room in (
+      place.0,
+      sym (take_whole b.at b.out (sym place.1)) ∙ h.same ∙ ap (λ k. take k (output f c (reverse past))) at_all
+          ∙ take-output f c n (reverse past) is enough,
+    )

@@ -41,7 +41,7 @@ front_5 (a ∷ b ∷ c ∷ d ∷ e ∷ bytes) l = refl
 pub record GivesOnce (f c : ℕ) (p : RgbaPixel) (old new : Filling) : Type 0 where
   pub last_is : new.last ≡ p
   pub table : (past : Past) → Holds old.table past → Holds new.table (p ∷ past)
-  pub filled : (n : ℕ) (past : Past) → HasFilled f c n old.out old.at past → HasFilled f c n new.out new.at (p ∷ past)
+  pub filled : (n : ℕ) (past : Past) → HasFilled f c n old.buffer past → HasFilled f c n new.buffer (p ∷ past)
 
 -- the pixel of a chunk that gives it once
 pub gives_once : {f c : ℕ} {p : RgbaPixel} {old new : Filling} (chunk : Chunk) → times chunk ≡ 1 → ((past : Past) → HasSeen old past → p ≡ pixel_of past chunk)
@@ -98,7 +98,7 @@ gives_short bytes b e taken long first second low byte one two again px g =
 -- a run of any length
 pub gives_run : {f c : ℕ} {old new : Filling} (bytes : List ℕ) (n : ℕ) → 1 ≤ length bytes → get_or bytes 0 0 ≡ 191 + n → 0 < n → n ≤ 62 → new.last ≡ old.last
     → ((past : Past) → Holds old.table past → Holds new.table (replicate n old.last ++ past))
-    → ((m : ℕ) (past : Past) → HasFilled f c m old.out old.at past → HasFilled f c m new.out new.at (replicate n old.last ++ past))
+    → ((m : ℕ) (past : Past) → HasFilled f c m old.buffer past → HasFilled f c m new.buffer (replicate n old.last ++ past))
     → GivesChunk f c (take 1 bytes) old new
 gives_run bytes n long first some most same sees fills = record {
   chunk = Run n;

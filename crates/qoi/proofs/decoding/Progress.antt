@@ -5,7 +5,7 @@ use Rattle.qoi.specs.Qoi.{RgbaPixel, Past, AreBytes, start, AreChunks, bytes_of,
 use Rattle.std.specs.Io.KnownBytes.{Consumes}
 use Rattle.std.proofs.KnownBytes.{Consumes-trans}
 use Rattle.qoi.specs.Raw.{IsChannels, output}
-use Rattle.qoi.specs.inner.Filling.{Filling, filling, HasFilled, HasSeen, GivesChunk}
+use Rattle.qoi.specs.inner.Filling.{Buffer, Filling, filling, HasFilled, HasSeen, GivesChunk}
 use Rattle.qoi.specs.inner.Table.{Holds}
 use Rattle.qoi.specs.Verdicts.{IsPartOfChunk}
 use Rattle.qoi.specs.Decoding.{EndsInChunk, HasCut, ReadsPixels, StreamsPixels}
@@ -22,15 +22,15 @@ pub record SoFar (f c n : ℕ) (Taken : List ℕ → Type 0) (now : Filling) : T
   pub chunks : AreChunks cs
   pub short : StayBelow n cs
   pub taken : Taken (chunk_bytes cs)
-  pub filled : HasFilled f c n now.out now.at (then_chunks [] cs)
+  pub filled : HasFilled f c n now.buffer (then_chunks [] cs)
   pub seen : HasSeen now (then_chunks [] cs)
-  pub within : now.at ≤ length now.out
-  pub whole : now.at % c ≡ 0
+  pub within : now.buffer.at ≤ length now.buffer.out
+  pub whole : now.buffer.at % c ≡ 0
 
 -- fewer than n pixels were given, where there is room for more
-pub fewer : {f c n : ℕ} {out : List ℕ} {at : ℕ} {past : Past} → IsChannels c → HasFilled f c n out at past → at < length out → length past < n
-fewer {c = c} {n = n} {out = out} {at = at} {past = past} is h inside =
-    (counts c n (length past) 0 at (length out) is h.room h.at_is inside (omega arith)).below
+pub fewer : {f c n : ℕ} {b : Buffer} {past : Past} → IsChannels c → HasFilled f c n b past → b.at < length b.out → length past < n
+fewer {c = c} {n = n} {b = b} {past = past} is h inside =
+    (counts c n (length past) 0 b.at (length b.out) is h.room h.at_is inside (omega arith)).below
 
 -- before the first chunk
 pub start_so_far : (f c : ℕ) (Taken : List ℕ → Type 0) (table : List RgbaPixel) (last : RgbaPixel) (out : List ℕ) → IsChannels c → length out % c ≡ 0
@@ -56,16 +56,16 @@ start_so_far f c Taken table last out is whole blank opaque none_taken = record 
 
 -- one more chunk, its pixels written and seen
 pub goes_on : {f c n : ℕ} {Taken Taken' : List ℕ → Type 0} {old new : Filling} {bytes : List ℕ} → IsChannels c → SoFar f c n Taken old
-    → old.at < length old.out → GivesChunk f c bytes old new
-    → ((before : List ℕ) → Taken before → Taken' (before ++ bytes)) → new.at ≤ length new.out → new.at % c ≡ 0 → SoFar f c n Taken' new
+    → old.buffer.at < length old.buffer.out → GivesChunk f c bytes old new
+    → ((before : List ℕ) → Taken before → Taken' (before ++ bytes)) → new.buffer.at ≤ length new.buffer.out → new.buffer.at % c ≡ 0 → SoFar f c n Taken' new
 goes_on {f} {c} {n} {Taken} {Taken'} {old} {new} {bytes} is s inside g takes within whole =
     let chunk = g.chunk in
     let past = then_chunks [] s.cs in
     let pushed = then_chunks-append [] s.cs (chunk ∷ []) in
     let seen = g.gives.seen past s.seen in
     let pixel_is : new.last ≡ pixel_of past chunk = seen.last_is ∙ previous_copies (times chunk) (pixel_of past chunk) past (times_some chunk g.is_chunk) in
-    let filled : HasFilled f c n new.out new.at (then_chunk past chunk) =
-    subst (λ p. HasFilled f c n new.out new.at (replicate (times chunk) p ++ past)) pixel_is (g.gives.filled n past s.filled) in
+    let filled : HasFilled f c n new.buffer (then_chunk past chunk) =
+    subst (λ p. HasFilled f c n new.buffer (replicate (times chunk) p ++ past)) pixel_is (g.gives.filled n past s.filled) in
     record {
       cs = s.cs ++ chunk ∷ [];
       chunks = are_chunks_append s.cs (chunk ∷ []) s.chunks (g.is_chunk, tt);
@@ -78,10 +78,10 @@ goes_on {f} {c} {n} {Taken} {Taken'} {old} {new} {bytes} is s inside g takes wit
     }
 
 -- where the buffer is full, the chunks reach n pixels, and these are the first n
-pub reads_all : {f c n : ℕ} {Taken : List ℕ → Type 0} {now : Filling} → IsChannels c → (s : SoFar f c n Taken now) → length now.out ≤ now.at
-    → Reaches n s.cs × (now.out ≡ output f c (take n (meaning s.cs)))
+pub reads_all : {f c n : ℕ} {Taken : List ℕ → Type 0} {now : Filling} → IsChannels c → (s : SoFar f c n Taken now) → length now.buffer.out ≤ now.buffer.at
+    → Reaches n s.cs × (now.buffer.out ≡ output f c (take n (meaning s.cs)))
 reads_all {f} {c} {n} {Taken} {now} is s full =
-    let all = filled_all f c n now.out now.at (then_chunks [] s.cs) is s.filled full in
+    let all = filled_all f c n now.buffer (then_chunks [] s.cs) is s.filled full in
     (record { short = s.short; enough = rw length-meaning all.0 }, all.1)
 
 -- the bytes of a slice that are taken, and those after them
@@ -93,14 +93,14 @@ pub split_more : (bytes rest after more : List ℕ) → rest ≡ more ++ after �
 split_more bytes rest after more e taken split = split ∙ ap (λ z. taken ++ z) e ∙ sym (append_assoc taken more after)
 
 -- the chunks of a slice whose pixels fill the buffer
-pub reads_pixels : {f c n : ℕ} {bytes rest : List ℕ} {now : Filling} → IsChannels c → SoFar f c n (SplitAt bytes rest) now → length now.out ≤ now.at
-    → ReadsPixels f c n bytes rest now.out
+pub reads_pixels : {f c n : ℕ} {bytes rest : List ℕ} {now : Filling} → IsChannels c → SoFar f c n (SplitAt bytes rest) now → length now.buffer.out ≤ now.buffer.at
+    → ReadsPixels f c n bytes rest now.buffer.out
 reads_pixels is s full =
     let all = reads_all is s full in
     record { cs = s.cs; has = record { chunks = s.chunks; short = s.short; split = s.taken }; reaches = all.0; out_is = all.1 }
 
 -- where there is room and fewer bytes are left than an end marker has, the bytes are cut
-pub few_left : {f c n : ℕ} {bytes rest : List ℕ} {now : Filling} → IsChannels c → SoFar f c n (SplitAt bytes rest) now → now.at < length now.out
+pub few_left : {f c n : ℕ} {bytes rest : List ℕ} {now : Filling} → IsChannels c → SoFar f c n (SplitAt bytes rest) now → now.buffer.at < length now.buffer.out
     → AreBytes rest → length rest < 8 → HasCut n bytes
 few_left {f} {c} {n} {bytes} {rest} {now} is s inside fits few =
     let r = reading_of (suc (length rest)) n (then_chunks [] s.cs) rest (omega arith) fits in
@@ -124,15 +124,15 @@ few_left {f} {c} {n} {bytes} {rest} {now} is s inside fits few =
     )
 
 -- the chunks of a stream whose pixels fill the buffer
-pub streams_pixels : {f c n : ℕ} {old new : Option (List ℕ)} {now : Filling} → IsChannels c → SoFar f c n (Consumes old new) now → length now.out ≤ now.at
-    → StreamsPixels f c n old new now.out
+pub streams_pixels : {f c n : ℕ} {old new : Option (List ℕ)} {now : Filling} → IsChannels c → SoFar f c n (Consumes old new) now → length now.buffer.out ≤ now.buffer.at
+    → StreamsPixels f c n old new now.buffer.out
 streams_pixels is s full =
     let all = reads_all is s full in
     record { cs = s.cs; chunks = s.chunks; reaches = all.0; taken = s.taken; out_is = all.1 }
 
 -- where a stream gives no whole chunk, what was taken ends within a chunk
 pub stream_ends : {f c n : ℕ} (old middle new : Option (List ℕ)) (part : List ℕ) {now : Filling} → IsChannels c → SoFar f c n (Consumes old middle) now
-    → now.at < length now.out → Consumes middle new part → IsPartOfChunk part
+    → now.buffer.at < length now.buffer.out → Consumes middle new part → IsPartOfChunk part
     → (taken : List ℕ) × Consumes old new taken × EndsInChunk n taken
 stream_ends old middle new part is s inside took is_part = (
   chunk_bytes s.cs ++ part,

@@ -2,7 +2,7 @@
 ghost use Rattle.std.specs.Prelude.{◌≡◌, ℕ, ◌+◌, ◌*◌, ◌/◌, ◌%◌, ◌<◌, ◌≤◌, [], ◌∷◌, ◌++◌, length, take, drop, replicate, nat_le, nat_lt, ◌&&◌};
 ghost use Rattle.qoi.specs.Qoi.{Past, run_max, seen, after_diff, after_luma};
 ghost use Rattle.qoi.specs.Raw.{IsChannels, pixel_bytes, output};
-ghost use Rattle.qoi.specs.inner.Filling.{HasFilled, IsWholePixels, GivesChunk, filling};
+ghost use Rattle.qoi.specs.inner.Filling.{upto, HasFilled, IsWholePixels, GivesChunk, filling};
 ghost use Rattle.qoi.specs.inner.Table.{Holds};
 
 use crate::consts::{QOI_OP_DIFF, QOI_OP_RGB, QOI_OP_RGBA, QOI_OP_RUN};
@@ -81,8 +81,8 @@ fn write_block<const N: usize, const F: usize>(out: &mut [u8], at: usize, px: Pa
 fn fill_blocks<const N: usize, const F: usize>(out: &mut [u8], at: usize, px: Packed, count: usize)
     requires channels { IsChannels N }
     requires room { at + N * count + 32 ≤ length out.old }
-    ensures { (n : ℕ) (past : Past) → HasFilled F N n out.old at past
-        → HasFilled F N n out.new (at + N * count) (replicate count px ++ past) }
+    ensures { (n : ℕ) (past : Past) → HasFilled F N n (upto out.old at) past
+        → HasFilled F N n (upto out.new (at + N * count)) (replicate count px ++ past) }
 {
     let mut done = 0;
     while done < count {
@@ -97,8 +97,8 @@ fn fill_blocks<const N: usize, const F: usize>(out: &mut [u8], at: usize, px: Pa
 fn fill_pixels<const N: usize, const F: usize>(out: &mut [u8], at: usize, px: Packed, count: usize)
     requires channels { IsChannels N }
     requires room { at + N * count ≤ length out.old }
-    ensures { (n : ℕ) (past : Past) → HasFilled F N n out.old at past
-        → HasFilled F N n out.new (at + N * count) (replicate count px ++ past) }
+    ensures { (n : ℕ) (past : Past) → HasFilled F N n (upto out.old at) past
+        → HasFilled F N n (upto out.new (at + N * count)) (replicate count px ++ past) }
 {
     let mut done = 0;
     while done < count {
@@ -119,8 +119,8 @@ fn fill<const N: usize, const F: usize>(
     requires whole { IsWholePixels N (length out.old) at }
     requires within { at ≤ length out.old }
     requires short { count ≤ run_max }
-    ensures filled { (n : ℕ) (past : Past) → HasFilled F N n out.old at past
-        → HasFilled F N n out.new result (replicate count px ++ past) }
+    ensures filled { (n : ℕ) (past : Past) → HasFilled F N n (upto out.old at) past
+        → HasFilled F N n (upto out.new result) (replicate count px ++ past) }
     ensures whole { result % N ≡ 0 }
     ensures within { (at ≤ result) × (result ≤ length out.new) }
     ensures further { at < length out.old → 0 < count → at < result }
@@ -146,8 +146,8 @@ fn give_pixel<const N: usize, const F: usize>(
     requires whole { IsWholePixels N (length out.old) at }
     requires inside { at < length out.old }
     ensures table { (past : Past) → Holds table.old past → Holds table.new (px ∷ past) }
-    ensures filled { (n : ℕ) (past : Past) → HasFilled F N n out.old at past
-        → HasFilled F N n out.new result (px ∷ past) }
+    ensures filled { (n : ℕ) (past : Past) → HasFilled F N n (upto out.old at) past
+        → HasFilled F N n (upto out.new result) (px ∷ past) }
     ensures whole { result % N ≡ 0 }
     ensures within { (at < result) × (result ≤ length out.new) }
 {
@@ -173,8 +173,8 @@ fn give_run<const N: usize, const F: usize>(
     requires some { (0 < count) × (count ≤ run_max) }
     ensures table { (past : Past) → Holds table.old past
         → Holds table.new (replicate count last ++ past) }
-    ensures filled { (n : ℕ) (past : Past) → HasFilled F N n out.old at past
-        → HasFilled F N n out.new result (replicate count last ++ past) }
+    ensures filled { (n : ℕ) (past : Past) → HasFilled F N n (upto out.old at) past
+        → HasFilled F N n (upto out.new result) (replicate count last ++ past) }
     ensures whole { result % N ≡ 0 }
     ensures within { (at < result) × (result ≤ length out.new) }
 {

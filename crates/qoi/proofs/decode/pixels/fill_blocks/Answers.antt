@@ -1,6 +1,6 @@
 -- Two blocks more at each turn, and the copies that were asked for are among those that are written.
 use Rattle.std.proofs.Common.{◌≡◌, ◌+◌, ◌*◌, ◌/◌, length, arith, subst, ◌++◌, replicate}
-use Rattle.qoi.specs.inner.Filling.{HasFilled}
+use Rattle.qoi.specs.inner.Filling.{upto, HasFilled}
 use Rattle.qoi.proofs.decoding.FilledBuffer.{two_blocks, filled_copies, filled_fewer}
 use Rattle.qoi.proofs.decode.pixels.fill_blocks.Goals as goal
 
@@ -15,7 +15,7 @@ loop-done-preserved g c =
       room.more,
       λ n past h. let once =
           filled_copies _ _ n k out c.write_block.new.out c.args.at done c.args.px past c.requires.channels room.first.inside room.first.fits c.write_block.auto.out c.write_block.ensures (c.loop-done.invariant.1 n past h) in
-          subst (λ m. HasFilled g.row.F g.row.N n c.write_block-in-loop-done.new.out (c.args.at + g.row.N * m) (replicate m c.args.px ++ past)) sum
+          subst (λ m. HasFilled g.row.F g.row.N n (upto c.write_block-in-loop-done.new.out (c.args.at + g.row.N * m)) (replicate m c.args.px ++ past)) sum
           (filled_copies _ _ n k c.write_block.new.out _ c.args.at (done + k) c.args.px past c.requires.channels
           (omega (arith, room.second.inside, c.write_block.auto.out))
           (omega (arith, room.second.fits, c.write_block.auto.out)) c.write_block-in-loop-done.auto.out c.write_block-in-loop-done.ensures once),
