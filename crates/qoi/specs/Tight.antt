@@ -8,10 +8,10 @@ use Rattle.qoi.specs.Written.{IsFirst}
 use Rattle.qoi.specs.Shortest.{least, total_cost}
 
 -- the first pixel, and each that differs from the pixel before it
-abbrev pub kept : Past → Past
-kept [] = []
-kept (p ∷ []) = p ∷ []
-kept (p ∷ q ∷ past) = if pixel_eq p q then kept (q ∷ past) else p ∷ kept (q ∷ past)
+abbrev pub first_and_fresh : Past → Past
+first_and_fresh [] = []
+first_and_fresh (p ∷ []) = p ∷ []
+first_and_fresh (p ∷ q ∷ past) = if pixel_eq p q then first_and_fresh (q ∷ past) else p ∷ first_and_fresh (q ∷ past)
 
 -- no pixel was put at the index position, so that it holds transparent black
 abbrev pub is_unseen : Past → ℕ → Bool
@@ -21,12 +21,12 @@ is_unseen past i = not (list_any (λ p. hash p == i) past)
 unfoldable pub least_unseen : Past → Option ℕ
 least_unseen past = find (is_unseen past) (range_with_len 0 positions)
 
--- How a fresh pixel is given: by its index position if it is kept there; else transparent black by the least position
+-- How a fresh pixel is given: by its index position if it is seen there; else transparent black by the least position
 -- where no pixel was put, if there is one; else by the first chunk that spells it out.
 pub record IsTightChoice (past : Past) (p : RgbaPixel) (c : Chunk) : Type 0 where
-  pub place : seen (kept past) (hash p) ≡ p → c ≡ Place (hash p)
-  pub unseen : seen (kept past) (hash p) ≢ p → p ≡ blank → MatchOption (least_unseen past) (IsFirst past p c) (λ i. c ≡ Place i)
-  pub spelled : seen (kept past) (hash p) ≢ p → p ≢ blank → IsFirst past p c
+  pub place : seen past (hash p) ≡ p → c ≡ Place (hash p)
+  pub unseen : seen past (hash p) ≢ p → p ≡ blank → MatchOption (least_unseen past) (IsFirst past p c) (λ i. c ≡ Place i)
+  pub spelled : seen past (hash p) ≢ p → p ≢ blank → IsFirst past p c
 
 -- the bytes of the shortest chunk that gives the fresh pixel p, where any index position may be named
 unfoldable pub least0 : Past → RgbaPixel → ℕ

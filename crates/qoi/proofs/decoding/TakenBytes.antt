@@ -96,7 +96,7 @@ read_within f c n old new out r = (
   omega (arith, reached_within n r.cs r.chunks r.reaches, length-append (chunk_bytes r.cs) end_marker),
 )
 
--- bytes that are kept have lost none
+-- of unchanged bytes none were consumed
 keeps_all : (old new : Option (List ℕ)) → Keeps old new → Consumes old new []
 keeps_all None new k = tt
 keeps_all (Some xs) None k = absurd k

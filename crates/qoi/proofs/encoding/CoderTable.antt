@@ -16,16 +16,14 @@ use Rattle.qoi.proofs.format.SamePixels.{hash_below}
 use Rattle.qoi.proofs.decoding.SeenTable.{holds_copies, previous_copies}
 use Rattle.qoi.proofs.encoding.SpelledLanes.{place_bytes}
 use Rattle.qoi.proofs.encoding.NotedPixels.{fresh_repeat, fresh_more}
-use Rattle.qoi.proofs.encoding.TightChoice.{seen_kept, tight_no_place}
+use Rattle.qoi.proofs.encoding.TightChoice.{tight_no_place}
 use Rattle.qoi.proofs.encoding.WrittenExists.{spells_no_place}
 
 -- a fresh pixel that stands at its index position is given by it
 place_chosen : (style : Style) (past : Past) (p : RgbaPixel) → seen (held_in style past) (hash p) ≡ p → choice_in style past p (Place (hash p))
 place_chosen Reference past p is = record { place = λ _. refl; spelled = λ other. absurd (other is) }
 place_chosen Places past p is = record { place = λ _. refl; spelled = λ other. absurd (other is) }
-place_chosen Tight past p is =
-    let kept_there = seen_kept past (hash p) ∙ is in
-    record { place = λ _. refl; unseen = λ other. absurd (other kept_there); spelled = λ other. absurd (other kept_there) }
+place_chosen Tight past p is = record { place = λ _. refl; unseen = λ other. absurd (other is); spelled = λ other. absurd (other is) }
 
 -- any other is spelled out where index positions of fresh pixels alone are named
 pub spelled_out : (style : Style) (past : Past) (p : RgbaPixel) (c : Chunk) → (style ≡ Reference) ⊎ (style ≡ Places) → IsFirst past p c
@@ -66,7 +64,7 @@ module _ (style : Style) (past : Past) (px at : RgbaPixel) (i : ℕ) (place : i 
       let o = other (not_there test) in
       (o.0, o.1, o.2, o.3, sym (other_place style past px o.0 (not_there test) o.3))
 
-  -- so it is kept
+  -- so it is in the coder
   pub style_put : (same : Bool) (c : Chunk) → px ≢ previous past → same ≡ names (Some c) (hash px) → StyleAfter (px ∷ past) (Some c) i true same
   style_put same c differs named = record { place_is = place; begun_is = sym (ap has_pixel (fresh_more past px differs)); placed_is = named }
 

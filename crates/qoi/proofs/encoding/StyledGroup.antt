@@ -161,7 +161,7 @@ pub runs_name_none : (n : ℕ) (before : Option Chunk) (i : ℕ) → 0 < n → n
 unfolding runs_by
 runs_name_none n before i some = ap (λ b. names b i) (last_fulls (n / 62) before (last_by (Run 1) (n % 62))) ∙ rest_names_none (n / 62) (n % 62) before i (omega arith)
 
--- so it is kept of repeats
+-- so it is after repeats
 pub style_repeats : (n : ℕ) (past : Past) (before : Option Chunk) (place : ℕ) (begun placed : Bool) → StyleAfter past before place begun placed
     → StyleAfter (replicate n (previous past) ++ past) (last_chunk before (runs_by (Run 1) n)) place begun (placed && nat_eq n 0)
 style_repeats zero past before place begun placed s = record {

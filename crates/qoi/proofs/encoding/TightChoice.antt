@@ -7,7 +7,7 @@ use Rattle.qoi.specs.declared.chunk.Chunk.TheVariants.{Place, Rgba}
 use Rattle.qoi.specs.Qoi.{RgbaPixel, IsPixel, Past, pixel_eq, blank, positions, previous, seen, hash, IsChunk, pixel_of}
 use Rattle.qoi.specs.Written.{IsFirst}
 use Rattle.qoi.specs.Styles.{is_run, names}
-use Rattle.qoi.specs.Tight.{kept, is_unseen, least_unseen, IsTightChoice}
+use Rattle.qoi.specs.Tight.{first_and_fresh, is_unseen, least_unseen, IsTightChoice}
 use Rattle.qoi.specs.inner.Table.{first_blank}
 use Rattle.qoi.proofs.format.SamePixels.{cases_pixel, hash_below, pixel_eq-from, pixel_eq-ne}
 use Rattle.qoi.proofs.encoding.NotedPixels.{seen_same, seen_other}
@@ -15,13 +15,13 @@ use Rattle.qoi.proofs.encoding.Choices.{Chooses}
 use Rattle.qoi.proofs.encoding.WrittenExists.{first_some, spells_other, spells_no_place}
 use Rattle.qoi.proofs.encoding.WrittenOnce.{first_unique}
 
--- what is kept at an index position is what is seen there
-pub seen_kept : (past : Past) (i : ℕ) → seen (kept past) i ≡ seen past i
-seen_kept [] i = refl
-seen_kept (p ∷ []) i = refl
-seen_kept (p ∷ q ∷ past) i = go (seen_kept (q ∷ past) i) (cases_pixel p q) (cases_eq (hash p) i)
+-- repeats that are put change nothing that an index position holds
+pub seen_first_and_fresh : (past : Past) (i : ℕ) → seen (first_and_fresh past) i ≡ seen past i
+seen_first_and_fresh [] i = refl
+seen_first_and_fresh (p ∷ []) i = refl
+seen_first_and_fresh (p ∷ q ∷ past) i = go (seen_first_and_fresh (q ∷ past) i) (cases_pixel p q) (cases_eq (hash p) i)
   where
-    go : seen (kept (q ∷ past)) i ≡ seen (q ∷ past) i → (p ≡ q) ⊎ (p ≢ q) → (hash p ≡ i) ⊎ (hash p ≢ i) → seen (kept (p ∷ q ∷ past)) i ≡ seen (p ∷ q ∷ past) i
+    go : seen (first_and_fresh (q ∷ past)) i ≡ seen (q ∷ past) i → (p ≡ q) ⊎ (p ≢ q) → (hash p ≡ i) ⊎ (hash p ≢ i) → seen (first_and_fresh (p ∷ q ∷ past)) i ≡ seen (p ∷ q ∷ past) i
     go before (inl e) (inl h) =
         ap (λ x. seen x i) (cond-true (pixel_eq p q) _ _ (pixel_eq-from p q e))
         ∙ before ∙ seen_same past q i (ap hash (sym e) ∙ h) ∙ sym e ∙ sym (seen_same (q ∷ past) p i h)
@@ -30,10 +30,10 @@ seen_kept (p ∷ q ∷ past) i = go (seen_kept (q ∷ past) i) (cases_pixel p q)
         ∙ before ∙ sym (seen_other (q ∷ past) p i n)
     go before (inr d) (inl h) =
         ap (λ x. seen x i) (cond-false (pixel_eq p q) _ _ (pixel_eq-ne p q d))
-        ∙ seen_same (kept (q ∷ past)) p i h ∙ sym (seen_same (q ∷ past) p i h)
+        ∙ seen_same (first_and_fresh (q ∷ past)) p i h ∙ sym (seen_same (q ∷ past) p i h)
     go before (inr d) (inr n) =
         ap (λ x. seen x i) (cond-false (pixel_eq p q) _ _ (pixel_eq-ne p q d))
-        ∙ seen_other (kept (q ∷ past)) p i n ∙ before ∙ sym (seen_other (q ∷ past) p i n)
+        ∙ seen_other (first_and_fresh (q ∷ past)) p i n ∙ before ∙ sym (seen_other (q ∷ past) p i n)
 
 -- where no pixel was put transparent black is seen
 pub unseen_blank : (past : Past) (i : ℕ) → is_unseen past i ≡ true → seen past i ≡ blank
@@ -90,12 +90,12 @@ pub unseen_some : (past : Past) (i : ℕ) → i < positions → is_unseen past i
 unfolding least_unseen
 unseen_some past i l e = some_found (is_unseen past) 0 64 i (omega arith) l e
 
--- a pixel is kept at its index position; or not, and it is transparent black; or neither
-cases_tight : (past : Past) (p : RgbaPixel) (Goal : Type 0) → (seen (kept past) (hash p) ≡ p → Goal) → (seen (kept past) (hash p) ≢ p → p ≡ blank → Goal)
-    → (seen (kept past) (hash p) ≢ p → p ≢ blank → Goal) → Goal
-cases_tight past p Goal f g h = go (cases_pixel (seen (kept past) (hash p)) p) (cases_pixel p blank)
+-- a pixel is seen at its index position; or not, and it is transparent black; or neither
+cases_tight : (past : Past) (p : RgbaPixel) (Goal : Type 0) → (seen past (hash p) ≡ p → Goal) → (seen past (hash p) ≢ p → p ≡ blank → Goal)
+    → (seen past (hash p) ≢ p → p ≢ blank → Goal) → Goal
+cases_tight past p Goal f g h = go (cases_pixel (seen past (hash p)) p) (cases_pixel p blank)
   where
-    go : (seen (kept past) (hash p) ≡ p) ⊎ (seen (kept past) (hash p) ≢ p) → (p ≡ blank) ⊎ (p ≢ blank) → Goal
+    go : (seen past (hash p) ≡ p) ⊎ (seen past (hash p) ≢ p) → (p ≡ blank) ⊎ (p ≢ blank) → Goal
     go (inl is) b = f is
     go (inr n) (inl b) = g n b
     go (inr n) (inr b) = h n b
@@ -110,7 +110,7 @@ tight_some past p before is =
     let f = first_some past p before is in
     (f.0, f.1, record { place = λ e. absurd (n e); unseen = λ _ e. absurd (b e); spelled = λ _ _. f.2 }))
   where
-    blank_some : seen (kept past) (hash p) ≢ p → p ≡ blank → (o : Option ℕ) → least_unseen past ≡ o → (c : Chunk) × IsChunk c × IsTightChoice past p c
+    blank_some : seen past (hash p) ≢ p → p ≡ blank → (o : Option ℕ) → least_unseen past ≡ o → (c : Chunk) × IsChunk c × IsTightChoice past p c
     blank_some n b None e =
         let f = first_some past p before is in (
           f.0,
@@ -134,7 +134,7 @@ tight_some past p before is =
           },
         )
 
--- what holds of the chunk that is kept at its position, of an unseen position for transparent black, and of the first
+-- what holds of the index position where the pixel is seen, of an unseen position for transparent black, and of the first
 -- chunk holds of the choice
 pub by_tight : (P : Past → RgbaPixel → Chunk → Type 0) (past : Past) (p : RgbaPixel) (c : Chunk) → IsTightChoice past p c
     → (seen past (hash p) ≡ p → P past p (Place (hash p)))
@@ -143,16 +143,16 @@ pub by_tight : (P : Past → RgbaPixel → Chunk → Type 0) (past : Past) (p : 
     → P past p c
 by_tight P past p c w f g h =
     cases_tight past p (P past p c)
-    (λ e. subst (P past p) (sym (w.place e)) (f (sym (seen_kept past (hash p)) ∙ e)))
+    (λ e. subst (P past p) (sym (w.place e)) (f e))
     (λ n b. go n b (least_unseen past) refl (w.unseen n b))
-    (λ n b. h (λ e. n (seen_kept past (hash p) ∙ e)) (λ e. absurd (b e)) (w.spelled n b))
+    (λ n b. h n (λ e. absurd (b e)) (w.spelled n b))
   where
-    go : seen (kept past) (hash p) ≢ p → p ≡ blank → (o : Option ℕ) → least_unseen past ≡ o
+    go : seen past (hash p) ≢ p → p ≡ blank → (o : Option ℕ) → least_unseen past ≡ o
         → MatchOption (least_unseen past) (IsFirst past p c) (λ i. c ≡ Place i) → P past p c
-    go n b None e m = h (λ x. n (seen_kept past (hash p) ∙ x)) (λ _. e) (subst (λ o. MatchOption o (IsFirst past p c) (λ i. c ≡ Place i)) e m)
+    go n b None e m = h n (λ _. e) (subst (λ o. MatchOption o (IsFirst past p c) (λ i. c ≡ Place i)) e m)
     go n b (Some i) e m =
         let is : c ≡ Place i = subst (λ o. MatchOption o (IsFirst past p c) (λ i. c ≡ Place i)) e m in
-        subst (P past p) (sym is) (g i (λ x. n (seen_kept past (hash p) ∙ x)) b e)
+        subst (P past p) (sym is) (g i n b e)
 
 -- a pixel that isn't seen at its index position isn't given by it
 pub tight_no_place : (past : Past) (p : RgbaPixel) (c : Chunk) → seen past (hash p) ≢ p → IsTightChoice past p c → names (Some c) (hash p) ≡ false
@@ -182,7 +182,7 @@ first_unseen past differs = λ i. find (λ j. blank_unseen past j differs i) (ra
 -- it is the choice for transparent black that isn't seen at its position
 pub blank_chosen : (past : Past) (p : RgbaPixel) (i : ℕ) → p ≡ blank → seen past (hash p) ≢ p → Some i ≡ first_blank past → IsTightChoice past p (Place i)
 blank_chosen past p i b differs found = record {
-  place = λ e. absurd (differs (sym (seen_kept past (hash p)) ∙ e));
+  place = λ e. absurd (differs e);
   unseen = λ _ _. subst (λ o. MatchOption o (IsFirst past p (Place i)) (λ j. Place i ≡ Place j))
       (found ∙ first_unseen past (λ e. differs (ap (λ q. seen past (hash q)) b ∙ e ∙ sym b))) refl;
   spelled = λ _ n. absurd (n b);
@@ -192,7 +192,7 @@ blank_chosen past p i b differs found = record {
 pub spelled_chosen : (past : Past) (p : RgbaPixel) (c : Chunk) → seen past (hash p) ≢ p → (p ≡ blank → None ≡ first_blank past) → IsFirst past p c
     → IsTightChoice past p c
 spelled_chosen past p c differs none f = record {
-  place = λ e. absurd (differs (sym (seen_kept past (hash p)) ∙ e));
+  place = λ e. absurd (differs e);
   unseen = λ _ b. subst (λ o. MatchOption o (IsFirst past p c) (λ j. c ≡ Place j))
       (none b ∙ first_unseen past (λ e. differs (ap (λ q. seen past (hash q)) b ∙ e ∙ sym b))) f;
   spelled = λ _ _. f;

@@ -8,12 +8,12 @@ ghost use Rattle.qoi.specs.declared.types.ColorSpace.{ColorSpace};
 ghost use Rattle.qoi.specs.declared.types.Style.{Style};
 ghost use Rattle.qoi.specs.declared.types.Style.TheVariants.{Reference, Places, Tight};
 ghost use Rattle.qoi.specs.declared.chunk.Chunk.TheVariants.{Place, Run, Rgb, Rgba};
-ghost use Rattle.qoi.specs.Qoi.{RgbaPixel, IsPixel, Past, blank, pixel, previous, AreChunks, chunk_bytes, file, Reaches, meaning};
+ghost use Rattle.qoi.specs.Qoi.{RgbaPixel, IsPixel, Past, blank, pixel, previous, seen, AreChunks, chunk_bytes, file, Reaches, meaning};
 ghost use Rattle.qoi.specs.Encoded.{max_len};
 ghost use Rattle.qoi.specs.Raw.{IsChannels, output, pixels_of, HasChannels};
 ghost use Rattle.qoi.specs.Regular.{Begins, Covers, Regular};
 ghost use Rattle.qoi.specs.Shortest.{floor, trailing_repeats, slack, total_cost};
-ghost use Rattle.qoi.specs.Tight.{IsTightChoice, floor0};
+ghost use Rattle.qoi.specs.Tight.{first_and_fresh, IsTightChoice, floor0};
 ghost use Rattle.qoi.specs.Written.{WrittenBy, Written};
 ghost use Rattle.qoi.specs.Styles.{in_style, WrittenIn};
 
@@ -137,6 +137,12 @@ pub fn written_is_near_shortest()
         → HasChannels image channels
         → WrittenIn style image cs → Covers image others → Regular others
         → length (chunk_bytes cs) ≤ length (chunk_bytes others) + slack image channels }
+{}
+
+/// An index position holds the same whether every pixel is put at its position, or only the first one and
+/// each that differs from the pixel before it.
+pub fn repeats_put_nothing()
+    ensures { (past : Past) (i : ℕ) → seen (first_and_fresh past) i ≡ seen past i }
 {}
 
 /// In style `Tight` transparent black may be given by an index position where no pixel was put. No

@@ -30,14 +30,14 @@ returns-in_err-pixels-clause-refused g c =
     let same = c.with_channels-decoder.ensures in
     let read = subst (λ (z : List ℕ). header_of z ≡ Ok d.header) c.deref.ensures.value accepted.0 in
     let after = ap (λ (z : DecoderState (List ℕ)). z.reader) same ∙ accepted.2 ∙ ap (drop header_size) c.deref.ensures.value in
-    let kept = Keeps-refl (g.W.Write.contents c.args.output.now) in
-    rw (p.1, p.2) (⊎_elim (λ none. inr (inl (subst IsOutside (sym none) tt, kept)))
+    let unwritten = Keeps-refl (g.W.Write.contents c.args.output.now) in
+    rw (p.1, p.2) (⊎_elim (λ none. inr (inl (subst IsOutside (sym none) tt, unwritten)))
     (λ r. inl (
       c.in_ok-file.file.items,
       c.in_ok-file.ensures.read,
       refused_bytes c.in_ok-file.file.items d.header chosen.header chosen.reader c.in_err-pixels.field-0.0 read
           (ap (λ (z : DecoderState (List ℕ)). z.header) same) after r.1,
-      kept,
+      unwritten,
     ))
     c.in_err-pixels.ensures.refused)
 

@@ -26,9 +26,9 @@ returns-in_err-encode_chunks-clause-refused g c =
     )
 
 -- all of the file went but what is kept
-kept : (g : Over) (c : After-keep-2 g) → WroteBut g.W.Writer.wrote c.args.buf.now (file c.args.header.now c.in_ok-encode_chunks.ensures.written.0)
+all_but_kept : (g : Over) (c : After-keep-2 g) → WroteBut g.W.Writer.wrote c.args.buf.now (file c.args.header.now c.in_ok-encode_chunks.ensures.written.0)
     (kept_bytes c.keep-2.new.self) c.encode_chunks.new.buf
-kept g c =
+all_but_kept g c =
     let w = c.in_ok-encode_chunks.ensures.written in
     let front : kept_bytes c.keep.new.self ≡ head c.args.header.now = c.keep.ensures.kept ∙ ap (λ z. z ++ c.encode.result) c.new-piece.ensures
     ∙ c.encode.ensures in
@@ -47,7 +47,7 @@ finish-requires g c =
       arith,
       size,
       last_fits g.W.Writer.wrote g.W.Writer.room g.met.W.Writer.laws h w.0 c.args.buf.now
-          (kept g (goal.at.finish-requires g c).After-keep-2) enough,
+          (all_but_kept g (goal.at.finish-requires g c).After-keep-2) enough,
     )
 
 pub returns-in_err-finish-clause-refused : goal.returns-in_err-finish-clause-refused
@@ -62,14 +62,14 @@ returns-in_err-finish-clause-refused g c =
       file h w.0,
       theirs,
       last_part g.W.Writer.wrote g.W.Writer.room g.met.W.Writer.laws h w.0 c.args.buf.now
-          (kept g (goal.at.returns-in_err-finish-clause-refused g c).After-keep-2) r.1,
+          (all_but_kept g (goal.at.returns-in_err-finish-clause-refused g c).After-keep-2) r.1,
     )
 
 pub returns-clause-written : goal.returns-clause-written
 returns-clause-written g c =
     let h = c.args.header.now in
     let w = c.in_ok-encode_chunks.ensures.written in
-    let all = kept g (goal.at.returns-clause-written g c).After-keep-2 in
+    let all = all_but_kept g (goal.at.returns-clause-written g c).After-keep-2 in
     let went = c.in_ok-finish.ensures.written in
     let theirs = file_of h c.args.data.now c.requires.valid c.requires.image c.args.style w.0 w.1 in
     let counted = file_counts g.W.Writer.wrote g.W.Writer.room g.met.W.Writer.laws h w.0 c.args.buf.now all went in (

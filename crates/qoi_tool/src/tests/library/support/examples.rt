@@ -268,7 +268,7 @@ pub static GIVEN: [Given; 13] = [
     Given { name: "black_and_blank", width: 2, channels: Rgba,
         chunks: &[0xfe, 0x65, 0x66, 0x67, 0x00],
         three: &[101, 102, 103, 0, 0, 0], four: &[101, 102, 103, 255, 0, 0, 0, 0] },
-    Given { name: "alpha is kept inside", width: 3, channels: Rgb,
+    Given { name: "alpha stays inside", width: 3, channels: Rgb,
         chunks: &[0xff, 1, 2, 3, 4, 0xfe, 5, 6, 7, 0x0e],
         three: &[1, 2, 3, 5, 6, 7, 1, 2, 3], four: &[1, 2, 3, 255, 5, 6, 7, 255, 1, 2, 3, 255] },
     Given { name: "transparent black is seen", width: 3, channels: Rgb, chunks: &[0x11, 0x6b, 0x07],
