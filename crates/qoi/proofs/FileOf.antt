@@ -145,23 +145,23 @@ module _ (h : Header) (raw : List ℕ) (valid : IsValid h) (size : length raw �
       let most = style_upper style image (channels_number h.channels) cs has w in
       let size_is = length-file h cs in
       record {
-        floor_is_below = λ others s regular. lower image others s.chunks regular s.begins;
+        floor_is_below = λ others s regular. lower image others s.covers.0 regular s.covers.1;
         near_floor = omega arith;
-        near_others = λ others s regular. omega (arith, lower image others s.chunks regular s.begins, length-file h others);
+        near_others = λ others s regular. omega (arith, lower image others s.covers.0 regular s.covers.1, length-file h others);
         four_at_most = λ others s regular. omega (
           arith,
-          lower image others s.chunks regular s.begins,
+          lower image others s.covers.0 regular s.covers.1,
           length-file h others,
           slack_most image (channels_number h.channels),
           four_channels h.channels,
         );
         none_shorter = λ other others s regular. omega (
           arith,
-          lower image others s.chunks regular s.begins,
+          lower image others s.covers.0 regular s.covers.1,
           length-file h others,
           slack_opens image (channels_number h.channels) other,
         );
-        all_regular = λ no_blank others s. no_blank_regular image others (subst (λ n. Reaches n others) (sym count) s.reaches) s.begins no_blank;
+        all_regular = λ no_blank others s. no_blank_regular image others (subst (λ n. Reaches n others) (sym count) s.reaches) s.covers.1 no_blank;
       }
 
   -- but in style Tight the list is regular, and as long as that of `Written`
@@ -181,7 +181,7 @@ module _ (h : Header) (raw : List ℕ) (valid : IsValid h) (size : length raw �
   short_in Tight cs w =
       let size_is = length-file h cs in
       let exact = style_length Tight (image_pixels h raw) cs w ∙ tight_exact (image_pixels h raw) w.list w.written in
-      record { floor0_is = omega arith; shortest = λ others s. omega (arith, lower0 (image_pixels h raw) others s.chunks s.begins, length-file h others) }
+      record { floor0_is = omega arith; shortest = λ others s. omega (arith, lower0 (image_pixels h raw) others s.covers.0 s.covers.1, length-file h others) }
 
   -- all of it
   pub file_of : (style : Style) (cs : List Chunk) → WrittenIn style (image_pixels h raw) cs → IsFileOf style h raw (file h cs)
@@ -243,9 +243,8 @@ file_spans style h raw bytes f =
     let image = image_pixels h raw in
     let e = f.is_file.encoded in
     record {
-      chunks = style_chunks style image e.cs e.written;
+      covers = (style_chunks style image e.cs e.written, [], style_means style image e.cs e.written ∙ sym (append-nil image));
       reaches = style_reaches style image (pixel_count h) e.cs e.written (count h raw f.is_file.valid f.is_file.size);
-      begins = ([], style_means style image e.cs e.written ∙ sym (append-nil image));
     }
 
 -- so in no style is the file shorter than the least number of bytes

@@ -12,12 +12,12 @@ use Rattle.qoi.specs.declared.types.Style.TheVariants.{Reference, Places, Tight}
 use Rattle.qoi.specs.declared.header.Header.{Header}
 use Rattle.qoi.specs.declared.chunk.Chunk.{Chunk}
 use Rattle.qoi.specs.declared.chunk.Chunk.TheVariants.{Place}
-use Rattle.qoi.specs.Qoi.{channels_number, channels_of, colorspace_number, pixel_count, tried_header, IsValid, RgbaPixel, blank, start, AreChunks, chunk_bytes, Reaches, meaning, file}
+use Rattle.qoi.specs.Qoi.{channels_number, channels_of, colorspace_number, pixel_count, tried_header, IsValid, RgbaPixel, blank, start, chunk_bytes, Reaches, file}
 use Rattle.qoi.specs.Raw.{pixels_of}
 use Rattle.qoi.specs.Written.{Written}
 use Rattle.qoi.specs.Styles.{WrittenIn}
 use Rattle.qoi.specs.Tight.{floor0}
-use Rattle.qoi.specs.Regular.{Regular, Begins}
+use Rattle.qoi.specs.Regular.{Regular, Covers}
 use Rattle.qoi.specs.Shortest.{floor, slack}
 use Rattle.qoi.specs.Decoding.{DecodesFile, file_byte_count}
 
@@ -74,11 +74,10 @@ pub record IsFileBy (Lists : List RgbaPixel → List Chunk → Type 0) (h : Head
       → others ≡ slice_set bytes 13 (colorspace_number space)
   pub apart : (cs front rest : List Chunk) (i : ℕ) → Lists (image_pixels h raw) cs → cs ≢ front ++ Place i ∷ Place i ∷ rest
 
--- the chunks' pixels are those of the image, and then perhaps others
+-- the chunks cover the image: with the last of them, and not before
 pub record Spans (h : Header) (raw : List ℕ) (cs : List Chunk) : Type 0 where
-  pub chunks : AreChunks cs
+  pub covers : Covers (image_pixels h raw) cs
   pub reaches : Reaches (pixel_count h) cs
-  pub begins : Begins (meaning cs) (image_pixels h raw)
 
 -- the first pixel is opaque black
 abbrev pub OpensBlack : List RgbaPixel → Type 0
