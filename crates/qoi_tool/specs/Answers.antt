@@ -12,8 +12,9 @@ use Rattle.qoi_tool.specs.declared.Fault.{Fault}
 use Rattle.qoi_tool.specs.declared.Fault.TheVariants.{Usage, Image}
 use Rattle.qoi_tool.specs.Lines.{header_line}
 use Rattle.qoi_tool.specs.Words.{Asks, IsUsage}
-use Rattle.qoi_tool.specs.Transfers.{TakesAll, TakesCount, TakesFewer, WritesBeginning, IsOutside}
+use Rattle.qoi_tool.specs.Transfers.{TakesAll, TakesCount, TakesFewer, IsOutside}
 use Rattle.qoi.specs.Errors.{IsIoError}
+use Rattle.qoi.specs.writers.Writes.{AppendsBeginning}
 
 -- what a command takes of its input: the bytes of a header, or all
 abbrev pub Takes : Command → Option (List ℕ) → Option (List ℕ) → List ℕ → Type 0
@@ -61,7 +62,7 @@ abbrev pub Stops : Command → Option (List ℕ) → Option (List ℕ) → Optio
 Stops command in_old in_new out_old out_new e =
     ((input : List ℕ) × Takes command in_old in_new input × Refuses command input e × Keeps out_old out_new)
     ⊎ ((StopsEarly command in_old in_new e × Keeps out_old out_new)
-    ⊎ (IsIoError e × ((input : List ℕ) × (out : List ℕ) × Takes command in_old in_new input × Writes command input out × WritesBeginning out_old out_new out)))
+    ⊎ (IsIoError e × ((input : List ℕ) × (out : List ℕ) × Takes command in_old in_new input × Writes command input out × AppendsBeginning out_old out_new out)))
 
 -- what a fault says
 abbrev pub StopsAt : List (List ℕ) → Option (List ℕ) → Option (List ℕ) → Option (List ℕ) → Option (List ℕ) → Fault → Type 0

@@ -1,6 +1,6 @@
 -- What reading all of an input and writing to an output do to the bytes that are known.
-use Rattle.std.specs.Prelude.{◌≡◌, ℕ, ◌<◌, List, ◌++◌, length, Option}
-use Rattle.std.specs.Io.KnownBytes.{Appends, Consumes, IsAtEnd}
+use Rattle.std.specs.Prelude.{◌≡◌, ℕ, ◌<◌, List, length, Option}
+use Rattle.std.specs.Io.KnownBytes.{Consumes, IsAtEnd}
 use Rattle.qoi.specs.declared.error.Error.{Error}
 use Rattle.qoi.specs.declared.error.Error.TheVariants.{IoError, OutOfMemory}
 
@@ -15,10 +15,6 @@ TakesCount count old new bytes = Consumes old new bytes × (length bytes ≡ cou
 -- fewer bytes were taken
 abbrev pub TakesFewer : ℕ → Option (List ℕ) → Option (List ℕ) → Type 0
 TakesFewer count old new = (taken : List ℕ) × Consumes old new taken × (length taken < count)
-
--- a beginning of the bytes was written
-abbrev pub WritesBeginning : Option (List ℕ) → Option (List ℕ) → List ℕ → Type 0
-WritesBeginning old new bytes = (front : List ℕ) × (rest : List ℕ) × (bytes ≡ front ++ rest) × Appends old new front
 
 -- an i/o error, or want of memory
 abbrev pub IsOutside : Error → Type 0

@@ -2,7 +2,7 @@
 ghost use Rattle.std.specs.Prelude.{◌≡◌, ◌≤◌, List, length, take, Some, OnOk, IfOk, IfErr};
 ghost use Rattle.std.specs.Io.KnownBytes.{Appends};
 ghost use Rattle.qoi_tool.specs.Lines.{header_line};
-ghost use Rattle.qoi_tool.specs.Transfers.{WritesBeginning};
+ghost use Rattle.qoi.specs.writers.Writes.{AppendsBeginning};
 ghost use Rattle.qoi.specs.Errors.{IsIoError};
 
 use crate::transfer::write_all;
@@ -42,7 +42,7 @@ pub fn write_line<W: Write>(output: &mut W, header: &Header) -> Result<(), Error
     ensures written { OnOk result (Appends (W.contents output.old) (W.contents output.new)
         (header_line header.now)) }
     ensures failed { IfErr result (λ e. IsIoError e
-        × WritesBeginning (W.contents output.old) (W.contents output.new)
+        × AppendsBeginning (W.contents output.old) (W.contents output.new)
         (header_line header.now)) }
 {
     let line = line_of(header)?;

@@ -1,8 +1,9 @@
 //! Reading an input to its end or into a buffer, and writing all of an output.
 ghost use Rattle.std.specs.Prelude.{◌≡◌, ℕ, ◌+◌, ◌<◌, ◌≤◌, List, length, Option, Ok, OnOk, OnErr, IfOk, IfErr, take};
 ghost use Rattle.std.specs.Io.KnownBytes.{Appends, Consumes, IsAtEnd, Keeps};
-ghost use Rattle.qoi_tool.specs.Transfers.{TakesAll, TakesFewer, WritesBeginning, IsOutside};
+ghost use Rattle.qoi_tool.specs.Transfers.{TakesAll, TakesFewer, IsOutside};
 ghost use Rattle.qoi.specs.Errors.{IsIoError};
+ghost use Rattle.qoi.specs.writers.Writes.{AppendsBeginning};
 
 use qoi::Error;
 use std::alloc::Global;
@@ -79,7 +80,7 @@ pub fn write_all<W: Write>(output: &mut W, bytes: &[u8]) -> Result<(), Error>
     ensures written { OnOk result (Appends (W.contents output.old)
         (W.contents output.new) bytes.now) }
     ensures failed { IfErr result (λ e. IsIoError e
-        × WritesBeginning (W.contents output.old) (W.contents output.new) bytes.now) }
+        × AppendsBeginning (W.contents output.old) (W.contents output.new) bytes.now) }
 {
     let mut rest = bytes;
     while !rest.is_empty() {

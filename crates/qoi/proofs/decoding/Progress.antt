@@ -23,7 +23,7 @@ pub record SoFar (f c n : ℕ) (Taken : List ℕ → Type 0) (now : Filling) : T
   pub short : StayBelow n cs
   pub taken : Taken (chunk_bytes cs)
   pub filled : HasFilled f c n now.buffer (then_chunks [] cs)
-  pub seen : HasSeen now (then_chunks [] cs)
+  pub has_seen : HasSeen now (then_chunks [] cs)
   pub within : now.buffer.at ≤ length now.buffer.out
   pub whole : now.buffer.at % c ≡ 0
 
@@ -41,7 +41,7 @@ start_so_far f c Taken table last out is whole blank opaque none_taken = record 
   short = tt;
   taken = none_taken;
   filled = record { room = whole_pixels c (length out) is whole; at_is = none c is; same = refl };
-  seen = record { table_is = blank; last_is = opaque };
+  has_seen = record { table_is = blank; last_is = opaque };
   within = omega arith;
   whole = zero_whole c is;
 }
@@ -62,8 +62,8 @@ goes_on {f} {c} {n} {Taken} {Taken'} {old} {new} {bytes} is s inside g takes wit
     let chunk = g.chunk in
     let past = then_chunks [] s.cs in
     let pushed = then_chunks-append [] s.cs (chunk ∷ []) in
-    let seen = g.gives.seen past s.seen in
-    let pixel_is : new.last ≡ pixel_of past chunk = seen.last_is ∙ previous_copies (times chunk) (pixel_of past chunk) past (times_some chunk g.is_chunk) in
+    let has_seen = g.gives.has_seen past s.has_seen in
+    let pixel_is : new.last ≡ pixel_of past chunk = has_seen.last_is ∙ previous_copies (times chunk) (pixel_of past chunk) past (times_some chunk g.is_chunk) in
     let filled : HasFilled f c n new.buffer (then_chunk past chunk) =
     subst (λ p. HasFilled f c n new.buffer (replicate (times chunk) p ++ past)) pixel_is (g.gives.filled n past s.filled) in
     record {
@@ -72,7 +72,7 @@ goes_on {f} {c} {n} {Taken} {Taken'} {old} {new} {bytes} is s inside g takes wit
       short = each_append (λ past c. length past < n) [] s.cs (chunk ∷ []) s.short (fewer is s.filled inside, tt);
       taken = subst Taken' (ap (λ z. chunk_bytes s.cs ++ z) g.bytes_are ∙ sym (chunk_bytes-last s.cs chunk)) (takes (chunk_bytes s.cs) s.taken);
       filled = rw pushed filled;
-      seen = rw pushed seen;
+      has_seen = rw pushed has_seen;
       within = within;
       whole = whole;
     }

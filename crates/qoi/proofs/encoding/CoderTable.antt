@@ -79,7 +79,7 @@ state_none style table last holds is = record { table_is = go style; last_is = i
 
 -- a fresh pixel is put at its index position
 pub state_put : (style : Style) (past : Past) (old table : List RgbaPixel) (last px : RgbaPixel) → px ≢ previous past → StateAfter style past old last
-    → ((seen : Past) → Holds old seen → Holds table (px ∷ seen)) → StateAfter style (px ∷ past) table px
+    → ((held : Past) → Holds old held → Holds table (px ∷ held)) → StateAfter style (px ∷ past) table px
 state_put style past old table last px differs s puts = record { table_is = go style (puts (held_in style past) s.table_is); last_is = refl }
   where
     go : (style : Style) → Holds table (px ∷ held_in style past) → Holds table (held_in style (px ∷ past))
@@ -112,14 +112,14 @@ state_unput style n past table last (inr is) s = rw is (record {
 
 -- repeats that are put, in style Tight
 pub state_put_again : (n : ℕ) (past : Past) (old table : List RgbaPixel) (last : RgbaPixel) → 0 < n → StateAfter Tight past old last
-    → ((seen : Past) → Holds old seen → Holds table (last ∷ seen)) → StateAfter Tight (replicate n (previous past) ++ past) table last
+    → ((held : Past) → Holds old held → Holds table (last ∷ held)) → StateAfter Tight (replicate n (previous past) ++ past) table last
 state_put_again n past old table last some s puts =
     let once = subst (λ p. Holds table (p ∷ past)) s.last_is (puts past s.table_is) in
     record { table_is = holds_copies table (previous past) past n some once; last_is = s.last_is ∙ sym (previous_copies n (previous past) past some) }
 
 -- repeats that are put if there are any
 pub state_put_some : (n : ℕ) (past : Past) (old table : List RgbaPixel) (last : RgbaPixel)
-    → (IsTrue (nat_lt 0 n) → (seen : Past) → Holds old seen → Holds table (last ∷ seen)) → (IsFalse (nat_lt 0 n) → table ≡ old)
+    → (IsTrue (nat_lt 0 n) → (held : Past) → Holds old held → Holds table (last ∷ held)) → (IsFalse (nat_lt 0 n) → table ≡ old)
     → StateAfter Tight past old last → StateAfter Tight (replicate n (previous past) ++ past) table last
 state_put_some zero past old table last puts stays s = subst (λ t. StateAfter Tight past t last) (sym (stays refl)) s
 state_put_some (suc n) past old table last puts stays s = state_put_again (suc n) past old table last (omega arith) s (puts (lt-ltb 0 (suc n) (omega arith)))

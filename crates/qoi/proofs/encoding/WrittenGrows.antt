@@ -101,17 +101,17 @@ module _ (Choice : Past → RgbaPixel → Chunk → Type 0) where
   -- 62 repeats are written as a full run, and a run may follow
   full_run : (past : Past) (cs : List Chunk) → WrittenBy Choice (reverse past) cs → RunMayFollow cs
       → WrittenBy Choice (reverse (replicate 62 (previous past) ++ past)) (cs ++ Run 62 ∷ []) × RunMayFollow (cs ++ Run 62 ∷ [])
-  full_run past cs w takes = (
-    written_append past (replicate 62 (previous past) ++ past) cs (Run 62 ∷ []) w ((omega arith, omega arith), tt) refl (tt, tt) (takes 62),
-    λ n. rw append_assoc (full_62 cs n (takes 62)),
+  full_run past cs w may = (
+    written_append past (replicate 62 (previous past) ++ past) cs (Run 62 ∷ []) w ((omega arith, omega arith), tt) refl (tt, tt) (may 62),
+    λ n. rw append_assoc (full_62 cs n (may 62)),
   )
 
   -- so are as many times 62 repeats
   pub full_runs : (m : ℕ) (past : Past) (q : RgbaPixel) (cs : List Chunk) → q ≡ previous past → WrittenBy Choice (reverse past) cs → RunMayFollow cs
       → WrittenBy Choice (reverse (replicate (m * 62) q ++ past)) (cs ++ replicate m (Run 62)) × RunMayFollow (cs ++ replicate m (Run 62))
-  full_runs zero past q cs is w takes = rw (append-nil cs) (w, takes)
-  full_runs (suc m) past q cs is w takes =
-      let one = full_run past cs w takes in
+  full_runs zero past q cs is w may = rw (append-nil cs) (w, may)
+  full_runs (suc m) past q cs is w may =
+      let one = full_run past cs w may in
       let first : WrittenBy Choice (reverse (replicate 62 q ++ past)) (cs ++ Run 62 ∷ []) =
       subst (λ p. WrittenBy Choice (reverse (replicate 62 p ++ past)) (cs ++ Run 62 ∷ [])) (sym is) one.0 in
       let again : q ≡ previous (replicate 62 q ++ past) = refl in
@@ -124,21 +124,21 @@ module _ (Choice : Past → RgbaPixel → Chunk → Type 0) where
   -- the last run of a group is written
   written_last : (k : ℕ) (past : Past) (cs : List Chunk) → k < 62 → WrittenBy Choice (reverse past) cs → RunMayFollow cs
       → WrittenBy Choice (reverse (replicate k (previous past) ++ past)) (cs ++ last_by (Run 1) k)
-  written_last zero past cs short w takes = rw (append-nil cs) w
-  written_last (suc zero) past cs short w takes =
-      written_append past (previous past ∷ past) cs (Run 1 ∷ []) w ((omega arith, omega arith), tt) refl (tt, tt) (takes 1)
-  written_last (suc (suc k)) past cs short w takes =
+  written_last zero past cs short w may = rw (append-nil cs) w
+  written_last (suc zero) past cs short w may =
+      written_append past (previous past ∷ past) cs (Run 1 ∷ []) w ((omega arith, omega arith), tt) refl (tt, tt) (may 1)
+  written_last (suc (suc k)) past cs short w may =
       written_append past (replicate (suc (suc k)) (previous past) ++ past) cs (Run (suc (suc k)) ∷ []) w ((omega arith, omega arith), tt) refl (tt, tt)
-      (takes (suc (suc k)))
+      (may (suc (suc k)))
 
   -- the runs of a group are written
   pub written_runs : (past : Past) (n : ℕ) (cs : List Chunk) → WrittenBy Choice (reverse past) cs → RunMayFollow cs
       → WrittenBy Choice (reverse (replicate n (previous past) ++ past)) (cs ++ runs_by (Run 1) n)
   unfolding runs_by
-  written_runs past n cs w takes =
+  written_runs past n cs w may =
       let q = previous past in
       let many = n / 62 * 62 in
-      let fulls = full_runs (n / 62) past q cs refl w takes in
+      let fulls = full_runs (n / 62) past q cs refl w may in
       let short : n % 62 < 62 = omega arith in
       let all = written_last (n % 62) (replicate many q ++ past) (cs ++ replicate (n / 62) (Run 62)) short fulls.0 fulls.1 in
       let count : n % 62 + many ≡ n = omega arith in
@@ -153,9 +153,9 @@ module _ (Choice : Past → RgbaPixel → Chunk → Type 0) where
       → WrittenBy Choice (reverse (p ∷ past)) (cs ++ c ∷ []) × RunMayFollow (cs ++ c ∷ [])
   written_fresh past cs p c w fresh is other gives choice = (
     written_append past (p ∷ past) cs (c ∷ []) w (is, tt) (then_other past c other ∙ ap (λ x. x ∷ past) gives)
-        (right_from Choice past c (record { is_fresh = rw gives fresh; is_chosen = rw gives choice }), tt) (full_front (cs ++ c ∷ []) (Run 1 ∷ []) (takes 1)),
-    takes,
+        (right_from Choice past c (record { is_fresh = rw gives fresh; is_chosen = rw gives choice }), tt) (full_front (cs ++ c ∷ []) (Run 1 ∷ []) (may 1)),
+    may,
   )
     where
-      takes : RunMayFollow (cs ++ c ∷ [])
-      takes n = rw append_assoc (full_push cs c n other w.full)
+      may : RunMayFollow (cs ++ c ∷ [])
+      may n = rw append_assoc (full_push cs c n other w.full)
