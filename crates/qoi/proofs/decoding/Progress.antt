@@ -93,7 +93,8 @@ pub split_more : (bytes rest after more : List ℕ) → rest ≡ more ++ after �
 split_more bytes rest after more e taken split = split ∙ ap (λ z. taken ++ z) e ∙ sym (append_assoc taken more after)
 
 -- the chunks of a slice whose pixels fill the buffer
-pub reads_pixels : {f c n : ℕ} {bytes rest : List ℕ} {now : Filling} → IsChannels c → SoFar f c n (SplitAt bytes rest) now → length now.buffer.out ≤ now.buffer.at
+pub reads_pixels : {f c n : ℕ} {bytes rest : List ℕ} {now : Filling} → IsChannels c → SoFar f c n (SplitAt bytes rest) now
+    → length now.buffer.out ≤ now.buffer.at
     → ReadsPixels f c n bytes rest now.buffer.out
 reads_pixels is s full =
     let all = reads_all is s full in
@@ -124,7 +125,8 @@ few_left {f} {c} {n} {bytes} {rest} {now} is s inside fits few =
     )
 
 -- the chunks of a stream whose pixels fill the buffer
-pub streams_pixels : {f c n : ℕ} {old new : Option (List ℕ)} {now : Filling} → IsChannels c → SoFar f c n (Consumes old new) now → length now.buffer.out ≤ now.buffer.at
+pub streams_pixels : {f c n : ℕ} {old new : Option (List ℕ)} {now : Filling} → IsChannels c → SoFar f c n (Consumes old new) now
+    → length now.buffer.out ≤ now.buffer.at
     → StreamsPixels f c n old new now.buffer.out
 streams_pixels is s full =
     let all = reads_all is s full in

@@ -39,7 +39,8 @@ padding_is_wrong n bytes (Some rest) taken took (cs, eight, w) = (
     has = record {
       chunks = w.has.chunks;
       short = w.has.short;
-      split = took ∙ ap (λ z. z ++ rest) w.has.split ∙ append_assoc (chunk_bytes cs) (eight ++ []) rest ∙ ap (λ z. chunk_bytes cs ++ (z ++ rest)) (append-nil eight);
+      split = took ∙ ap (λ z. z ++ rest) w.has.split ∙ append_assoc (chunk_bytes cs) (eight ++ []) rest
+          ∙ ap (λ z. chunk_bytes cs ++ (z ++ rest)) (append-nil eight);
     };
     enough = w.enough;
     length_is = w.length_is;

@@ -31,7 +31,8 @@ bytes_within past (c ∷ cs) h =
     )
 
 -- the same for chunks that each stand after fewer than n pixels, whatever the last of them gives
-bytes_short : (n : ℕ) (past : Past) (cs : List Chunk) → AreChunks cs → length past ≤ n → StayBelowAfter n past cs → length (chunk_bytes cs) + 5 * length past ≤ 5 * n
+bytes_short : (n : ℕ) (past : Past) (cs : List Chunk) → AreChunks cs → length past ≤ n → StayBelowAfter n past cs
+    → length (chunk_bytes cs) + 5 * length past ≤ 5 * n
 bytes_short n past [] h below short = omega arith
 bytes_short n past (c ∷ []) h below short = omega (arith, length-append (bytes_of c) [], (length-bytes_of c).1, short.0)
 bytes_short n past (c ∷ d ∷ cs) h below short =

@@ -31,7 +31,8 @@ all_bytes (b ∷ bytes) h = (h 0, all_bytes bytes (λ i. tail_of i))
 pub coder_starts : (style : Style) (image : List RgbaPixel) (list : List Chunk) (front : List ℕ) (table : List RgbaPixel) (coder : Coder)
     → WrittenBy (choice_in style) image list → AllByRecursion IsPixel image
     → StateAfter style [] table coder.last → StyleAfter [] None coder.place coder.begun coder.placed
-    → CoderBetween (record { list = record { style = style; image = image; cs = list }; ahead = front ++ chunk_bytes (in_style style list) }) image table coder front
+    → CoderBetween (record { list = record { style = style; image = image; cs = list }; ahead = front ++ chunk_bytes (in_style style list) })
+    image table coder front
 coder_starts style image list front table coder written are state style_state = record {
   past = [];
   before = None;
@@ -52,7 +53,8 @@ styled_none Tight past before = refl
 bytes_next : (ahead bytes next : List ℕ) (first left : List Chunk) → ahead ≡ bytes ++ chunk_bytes (first ++ left) → next ≡ bytes ++ chunk_bytes first
     → ahead ≡ next ++ chunk_bytes left
 bytes_next ahead bytes next first left e n =
-    e ∙ ap (λ x. bytes ++ x) (flat_map-append bytes_of first left) ∙ sym (append_assoc bytes (chunk_bytes first) (chunk_bytes left)) ∙ ap (λ x. x ++ chunk_bytes left) (sym n)
+    e ∙ ap (λ x. bytes ++ x) (flat_map-append bytes_of first left) ∙ sym (append_assoc bytes (chunk_bytes first) (chunk_bytes left))
+    ∙ ap (λ x. x ++ chunk_bytes left) (sym n)
 
 module _ {w : Writing} {pixels : List RgbaPixel} {table : List RgbaPixel} {coder : Coder} {bytes : List ℕ} (b : CoderBetween w pixels table coder bytes) where
   -- the pixel before is the coder's last
@@ -83,7 +85,8 @@ module _ {w : Writing} {pixels : List RgbaPixel} {table : List RgbaPixel} {coder
         before = last_chunk b.before (runs_by (Run 1) n);
         todo = r.0;
         to_write = r.2;
-        ahead_is = bytes_next w.ahead bytes next (runs_by one n) (styled w.list.style (replicate n (previous b.past) ++ b.past) (last_chunk b.before (runs_by (Run 1) n)) r.0)
+        ahead_is = bytes_next w.ahead bytes next (runs_by one n)
+            (styled w.list.style (replicate n (previous b.past) ++ b.past) (last_chunk b.before (runs_by (Run 1) n)) r.0)
             (b.ahead_is ∙ ap (λ cs. bytes ++ chunk_bytes (styled w.list.style b.past b.before cs)) r.1
             ∙ ap (λ cs. bytes ++ chunk_bytes cs) (styled_runs w.list.style b.past b.before n r.0 one single)) written;
         state = state;
@@ -152,7 +155,8 @@ module _ {w : Writing} {pixels : List RgbaPixel} {table : List RgbaPixel} {coder
       → (ahead : List ℕ) × (w.ahead ≡ gone ++ ahead) × CoderBetween (record w { ahead = ahead }) pixels table coder kept
   piece_given gone kept split = (
     kept ++ chunk_bytes (styled w.list.style b.past b.before b.todo),
-    b.ahead_is ∙ ap (λ x. x ++ chunk_bytes (styled w.list.style b.past b.before b.todo)) split ∙ append_assoc gone kept (chunk_bytes (styled w.list.style b.past b.before b.todo)),
+    b.ahead_is ∙ ap (λ x. x ++ chunk_bytes (styled w.list.style b.past b.before b.todo)) split
+        ∙ append_assoc gone kept (chunk_bytes (styled w.list.style b.past b.before b.todo)),
     record { past = b.past; before = b.before; todo = b.todo; to_write = b.to_write; ahead_is = refl; state = b.state; style_state = b.style_state },
   )
 

@@ -57,7 +57,8 @@ module _ (l : ImageList) where
   group_runs (suc n) past cs w may = written_runs Choice past (suc n) cs w (may (omega arith))
 
   -- a run may follow runs that are full
-  full_take : (n : ℕ) (past : Past) (cs : List Chunk) → n % 62 ≡ 0 → WrittenBy Choice (reverse past) cs → RunMayFollow cs → RunMayFollow (cs ++ runs_by (Run 1) n)
+  full_take : (n : ℕ) (past : Past) (cs : List Chunk) → n % 62 ≡ 0 → WrittenBy Choice (reverse past) cs → RunMayFollow cs
+      → RunMayFollow (cs ++ runs_by (Run 1) n)
   full_take n past cs e w may = subst (λ x. RunMayFollow (cs ++ x)) (sym (runs_full n e)) (full_runs Choice (n / 62) past (previous past) cs refl w may).1
 
   module _ {past : Past} {rest : List RgbaPixel} {todo : List Chunk}

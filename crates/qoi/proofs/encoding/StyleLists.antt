@@ -44,7 +44,8 @@ pub style_means : (style : Style) (image : List RgbaPixel) (cs : List Chunk) →
 style_means style image cs w = by_style (λ x. meaning x ≡ image) style image cs w w.written.means (ap reverse (placed_then [] None w.list) ∙ w.written.means)
 
 -- in as many bytes as before the style
-pub style_length : (style : Style) (image : List RgbaPixel) (cs : List Chunk) (w : WrittenIn style image cs) → length (chunk_bytes cs) ≡ length (chunk_bytes w.list)
+pub style_length : (style : Style) (image : List RgbaPixel) (cs : List Chunk) (w : WrittenIn style image cs)
+    → length (chunk_bytes cs) ≡ length (chunk_bytes w.list)
 style_length style image cs w = by_style (λ x. length (chunk_bytes x) ≡ length (chunk_bytes w.list)) style image cs w refl (placed_length [] None w.list)
 
 -- there is one list
@@ -96,6 +97,7 @@ style_some style image are =
     (in_style style list.0, record { list = list.0; written = list.1; is = refl })
 
 -- in style Places it is as long as each list of `Written`
-pub places_as_long : (image : List RgbaPixel) (cs ds : List Chunk) → Written image cs → WrittenIn Places image ds → length (chunk_bytes ds) ≡ length (chunk_bytes cs)
+pub places_as_long : (image : List RgbaPixel) (cs ds : List Chunk) → Written image cs → WrittenIn Places image ds
+    → length (chunk_bytes ds) ≡ length (chunk_bytes cs)
 places_as_long image cs ds w v = style_length Places image ds v
     ∙ ap (λ (x : List Chunk). length (chunk_bytes x)) (unique_by IsChoice chooses.only image v.list cs v.written w)

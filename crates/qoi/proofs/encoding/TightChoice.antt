@@ -21,7 +21,8 @@ seen_first_and_fresh [] i = refl
 seen_first_and_fresh (p ∷ []) i = refl
 seen_first_and_fresh (p ∷ q ∷ past) i = go (seen_first_and_fresh (q ∷ past) i) (cases_pixel p q) (cases_eq (hash p) i)
   where
-    go : seen (first_and_fresh (q ∷ past)) i ≡ seen (q ∷ past) i → (p ≡ q) ⊎ (p ≢ q) → (hash p ≡ i) ⊎ (hash p ≢ i) → seen (first_and_fresh (p ∷ q ∷ past)) i ≡ seen (p ∷ q ∷ past) i
+    go : seen (first_and_fresh (q ∷ past)) i ≡ seen (q ∷ past) i → (p ≡ q) ⊎ (p ≢ q) → (hash p ≡ i) ⊎ (hash p ≢ i)
+        → seen (first_and_fresh (p ∷ q ∷ past)) i ≡ seen (p ∷ q ∷ past) i
     go before (inl e) (inl h) =
         ap (λ x. seen x i) (cond-true (pixel_eq p q) _ _ (pixel_eq-from p q e))
         ∙ before ∙ seen_same past q i (ap hash (sym e) ∙ h) ∙ sym e ∙ sym (seen_same (q ∷ past) p i h)

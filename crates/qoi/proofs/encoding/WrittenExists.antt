@@ -139,7 +139,8 @@ module _ (Choice : Past → RgbaPixel → Chunk → Type 0) (choices : Chooses C
   pub written_on : (rest : List RgbaPixel) (past : Past) (n : ℕ) (cs : List Chunk) → WrittenBy Choice (reverse past) cs → RunMayFollow cs
       → IsPixel (previous past) → AllByRecursion IsPixel rest
       → (more : List Chunk) × WrittenBy Choice (reverse (replicate n (previous past) ++ past) ++ rest) (cs ++ more)
-  written_on [] past n cs w may before are = (runs_by (Run 1) n, rw (append-nil (reverse (replicate n (previous past) ++ past))) (written_runs Choice past n cs w may))
+  written_on [] past n cs w may before are =
+      (runs_by (Run 1) n, rw (append-nil (reverse (replicate n (previous past) ++ past))) (written_runs Choice past n cs w may))
   written_on (p ∷ rest) past n cs w may before are =
       elim (cases_pixel p (previous past)) as (λ _. (more : List Chunk)
       × WrittenBy Choice (reverse (replicate n (previous past) ++ past) ++ p ∷ rest) (cs ++ more)) [
@@ -151,7 +152,8 @@ module _ (Choice : Past → RgbaPixel → Chunk → Type 0) (choices : Chooses C
             let same : previous group ≡ previous past = previous_repeats n past in
             let differs : p ≢ previous group = λ e. fresh (e ∙ same) in
             let c = choices.some group p (subst IsPixel (sym same) before) are.0 differs in
-            let next = written_fresh Choice group (cs ++ runs_by (Run 1) n) p c.0 (written_runs Choice past n cs w may) differs c.1 (choices.no_run group p c.0 c.2)
+            let next = written_fresh Choice group (cs ++ runs_by (Run 1) n) p c.0 (written_runs Choice past n cs w may) differs c.1
+            (choices.no_run group p c.0 c.2)
             (choices.gives group p c.0 c.2) c.2 in
             let all = written_on rest (p ∷ group) 0 ((cs ++ runs_by (Run 1) n) ++ c.0 ∷ []) next.0 next.1 are.0 are.1 in
             (runs_by (Run 1) n ++ c.0 ∷ all.0, fresh_joined p group rest cs (runs_by (Run 1) n) all.0 c.0 all.1)

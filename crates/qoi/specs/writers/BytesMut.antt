@@ -32,7 +32,8 @@ buffer_laws = record {
     same_buffer = q.same_buffer ∙ p.same_buffer;
     fits = omega (arith, p.fits, q.fits, ap length p.left, length-drop (length xs) (bytes_left a), length-append xs ys);
     written = q.written ∙ ap (λ z. z ++ ys) p.written ∙ append_assoc (written_bytes a) xs ys;
-    left = q.left ∙ ap (drop (length ys)) p.left ∙ drop-drop (length ys) (length xs) (bytes_left a) ∙ ap (λ n. drop n (bytes_left a)) (sym (length-append xs ys));
+    left = q.left ∙ ap (drop (length ys)) p.left ∙ drop-drop (length ys) (length xs) (bytes_left a)
+        ∙ ap (λ n. drop n (bytes_left a)) (sym (length-append xs ys));
   };
   counts = λ a b bytes p. omega (arith, p.fits, ap length p.left, length-drop (length bytes) (bytes_left a));
 }

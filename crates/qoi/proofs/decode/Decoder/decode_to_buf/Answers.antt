@@ -81,7 +81,8 @@ returns-clause-left g c bytes raw rest image told =
 
 pub returns-clause-file : goal.returns-clause-file
 returns-clause-file g c bytes ahead made there_are =
-    file_from_image g.R.Reader.ahead c.args.self.now bytes ahead _ _ made (known (g.R.Reader.ahead c.args.self.now.reader) ahead there_are) (returns-clause-rest g c)
+    file_from_image g.R.Reader.ahead c.args.self.now bytes ahead _ _ made
+    (known (g.R.Reader.ahead c.args.self.now.reader) ahead there_are) (returns-clause-rest g c)
 
 pub returns-clause-same : goal.returns-clause-same
 returns-clause-same g c channels h bytes raw image as_own as_k told =
