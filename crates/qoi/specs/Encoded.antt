@@ -74,7 +74,7 @@ pub record IsFileBy (Lists : List RgbaPixel → List Chunk → Type 0) (h : Head
       → others ≡ slice_set bytes 13 (colorspace_number space)
   pub apart : (cs front rest : List Chunk) (i : ℕ) → Lists (image_pixels h raw) cs → cs ≢ front ++ Place i ∷ Place i ∷ rest
 
--- the chunks cover the image of these raw bytes, and reach its pixels
+-- the chunks cover the image of these raw bytes, and the last of them, not one before, reaches its last pixel
 pub record Spans (h : Header) (raw : List ℕ) (cs : List Chunk) : Type 0 where
   pub covers : Covers (image_pixels h raw) cs
   pub reaches : Reaches (pixel_count h) cs

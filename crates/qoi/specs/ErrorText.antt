@@ -16,8 +16,8 @@ byte_text n i = decimal (slice_index (to_be_bytes w32 n) i)
 
 -- four bytes, the highest one first, as a list in brackets
 abbrev pub bytes_text : ℕ → List ℕ
-bytes_text n = codes "[" ++ (byte_text n 0 ++ (codes ", " ++ (byte_text n 1 ++ (codes ", " ++ (byte_text n 2 ++ (codes ", " ++ (byte_text n 3 ++
-    codes "]")))))))
+bytes_text n = codes "[" ++ (byte_text n 0 ++ (codes ", " ++ (byte_text n 1
+    ++ (codes ", " ++ (byte_text n 2 ++ (codes ", " ++ (byte_text n 3 ++ codes "]")))))))
 
 -- The text of an error, but for the words of an i/o error, which are the library's own.
 abbrev pub printed : Error → Option (List ℕ)

@@ -2,8 +2,8 @@
 ghost use Rattle.std.specs.Prelude.{◌≡◌, ℕ, ◌+◌, ◌<◌, ◌≤◌, List, length, Option, Ok, OnOk, OnErr, IfOk, IfErr, take};
 ghost use Rattle.std.specs.Io.KnownBytes.{Appends, Consumes, IsAtEnd, Keeps};
 ghost use Rattle.qoi_tool.specs.Transfers.{TakesAll, TakesFewer, IsOutside};
-ghost use Rattle.qoi.specs.writers.Writes.{AppendsBeginning};
 ghost use Rattle.qoi.specs.Errors.{IsIoError};
+ghost use Rattle.qoi.specs.writers.Writes.{AppendsBeginning};
 
 use qoi::Error;
 use std::alloc::Global;

@@ -47,7 +47,7 @@ pub record GivesOnce (f c : ℕ) (p : RgbaPixel) (old new : Filling) : Type 0 wh
 pub gives_once : {f c : ℕ} {p : RgbaPixel} {old new : Filling} (chunk : Chunk) → times chunk ≡ 1 → ((past : Past) → HasSeen old past → p ≡ pixel_of past chunk)
     → GivesOnce f c p old new → Gives f c chunk old new
 gives_once {f} {c} {p} {old} {new} chunk one is g = record {
-  sees = λ past h. rw (one, ← is past h) (record { table_is = g.table past h.table_is; last_is = g.last_is });
+  has_seen = λ past h. rw (one, ← is past h) (record { table_is = g.table past h.table_is; last_is = g.last_is });
   filled = λ n past h. rw (one, g.last_is) (g.filled n past h);
 }
 
@@ -105,7 +105,7 @@ gives_run bytes n long first some most same sees fills = record {
   is_chunk = (some, most);
   bytes_are = front_1 bytes long ∙ ap (λ x. x ∷ []) first;
   gives = record {
-    sees = λ past h. record {
+    has_seen = λ past h. record {
       table_is = rw (← h.last_is) (sees past h.table_is);
       last_is = same ∙ h.last_is
           ∙ sym (previous_copies n (previous past) past some);

@@ -62,8 +62,8 @@ goes_on {f} {c} {n} {Taken} {Taken'} {old} {new} {bytes} is s inside g takes wit
     let chunk = g.chunk in
     let past = then_chunks [] s.cs in
     let pushed = then_chunks-append [] s.cs (chunk ∷ []) in
-    let still = g.gives.sees past s.has_seen in
-    let pixel_is : new.last ≡ pixel_of past chunk = still.last_is ∙ previous_copies (times chunk) (pixel_of past chunk) past (times_some chunk g.is_chunk) in
+    let has_seen = g.gives.has_seen past s.has_seen in
+    let pixel_is : new.last ≡ pixel_of past chunk = has_seen.last_is ∙ previous_copies (times chunk) (pixel_of past chunk) past (times_some chunk g.is_chunk) in
     let filled : HasFilled f c n new.buffer (then_chunk past chunk) =
     subst (λ p. HasFilled f c n new.buffer (replicate (times chunk) p ++ past)) pixel_is (g.gives.filled n past s.filled) in
     record {
@@ -72,7 +72,7 @@ goes_on {f} {c} {n} {Taken} {Taken'} {old} {new} {bytes} is s inside g takes wit
       short = each_append (λ past c. length past < n) [] s.cs (chunk ∷ []) s.short (fewer is s.filled inside, tt);
       taken = subst Taken' (ap (λ z. chunk_bytes s.cs ++ z) g.bytes_are ∙ sym (chunk_bytes-last s.cs chunk)) (takes (chunk_bytes s.cs) s.taken);
       filled = rw pushed filled;
-      has_seen = rw pushed still;
+      has_seen = rw pushed has_seen;
       within = within;
       whole = whole;
     }

@@ -31,12 +31,13 @@ all_bytes (b ∷ bytes) h = (h 0, all_bytes bytes (λ i. tail_of i))
 pub coder_starts : (style : Style) (image : List RgbaPixel) (list : List Chunk) (front : List ℕ) (table : List RgbaPixel) (coder : Coder)
     → WrittenBy (choice_in style) image list → AllByRecursion IsPixel image
     → StateAfter style [] table coder.last → StyleAfter [] None coder.place coder.begun coder.placed
-    → CoderBetween (record { style = style; image = image; list = list; ahead = front ++ chunk_bytes (in_style style list) }) image table coder front
+    → CoderBetween (record { list = record { style = style; image = image; cs = list }; ahead = front ++ chunk_bytes (in_style style list) })
+    image table coder front
 coder_starts style image list front table coder written are state style_state = record {
   past = [];
   before = None;
   todo = list;
-  to_write = all_to_write (choice_in style) (chooses_in style) image list written are;
+  to_write = all_to_write (record { style = style; image = image; cs = list }) written are;
   ahead_is = ap (λ cs. front ++ chunk_bytes cs) (styled_whole style list);
   state = state;
   style_state = style_state;
@@ -65,84 +66,84 @@ module _ {w : Writing} {pixels : List RgbaPixel} {table : List RgbaPixel} {coder
   pub runs_given : (n : ℕ) (rest : List RgbaPixel) (one : Chunk) {next_table : List RgbaPixel} {next_coder : Coder} {next : List ℕ}
       → pixels ≡ replicate n coder.last ++ rest
       → (slice_get rest 0 ≢ Some coder.last) ⊎ (n % 62 ≡ 0)
-      → (n % 62 ≡ 1 → ((rest ≡ []) × (one ≡ Run 1)) ⊎ ((rest ≢ []) × (one ≡ rest_of_one w.style coder.begun coder.placed coder.place n)))
+      → (n % 62 ≡ 1 → ((rest ≡ []) × (one ≡ Run 1)) ⊎ ((rest ≢ []) × (one ≡ rest_of_one w.list.style coder.begun coder.placed coder.place n)))
       → next ≡ bytes ++ chunk_bytes (runs_by one n)
-      → StateAfter w.style (replicate n (previous b.past) ++ b.past) next_table next_coder.last
+      → StateAfter w.list.style (replicate n (previous b.past) ++ b.past) next_table next_coder.last
       → StyleAfter (replicate n (previous b.past) ++ b.past) (last_chunk b.before (runs_by (Run 1) n)) next_coder.place next_coder.begun next_coder.placed
       → CoderBetween w rest next_table next_coder next
   runs_given n rest one {next_table} {next_coder} {next} split ends one_is written state style_state =
       let ahead : pixels ≡ replicate n (previous b.past) ++ rest = split ∙ ap (λ p. replicate n p ++ rest) b.state.last_is in
-      let start = subst (λ x. StillToWrite (choice_in w.style) w.image w.list b.past x b.todo) ahead b.to_write in
+      let start = subst (λ x. StillToWrite w.list b.past x b.todo) ahead b.to_write in
       let stops : (slice_get rest 0 ≢ Some (previous b.past)) ⊎ (n % 62 ≡ 0) = elim ends [
         | inl other ↦ inl (λ e. other (e ∙ ap (λ p. Some p) last_before))
         | inr full ↦ inr full
       ] in
-      let r = runs_next (choice_in w.style) (chooses_in w.style) n rest start stops in
+      let r = runs_next w.list n rest start stops in
       let single = λ (e : n % 62 ≡ 1). single_is e r.0 r.2 in
       record {
         past = replicate n (previous b.past) ++ b.past;
         before = last_chunk b.before (runs_by (Run 1) n);
         todo = r.0;
         to_write = r.2;
-        ahead_is = bytes_next w.ahead bytes next (runs_by one n) (styled w.style (replicate n (previous b.past) ++ b.past) (last_chunk b.before
-            (runs_by (Run 1) n)) r.0)
-            (b.ahead_is ∙ ap (λ cs. bytes ++ chunk_bytes (styled w.style b.past b.before cs)) r.1
-            ∙ ap (λ cs. bytes ++ chunk_bytes cs) (styled_runs w.style b.past b.before n r.0 one single)) written;
+        ahead_is = bytes_next w.ahead bytes next (runs_by one n)
+            (styled w.list.style (replicate n (previous b.past) ++ b.past) (last_chunk b.before (runs_by (Run 1) n)) r.0)
+            (b.ahead_is ∙ ap (λ cs. bytes ++ chunk_bytes (styled w.list.style b.past b.before cs)) r.1
+            ∙ ap (λ cs. bytes ++ chunk_bytes cs) (styled_runs w.list.style b.past b.before n r.0 one single)) written;
         state = state;
         style_state = style_state;
       }
     where
       -- a rest of 1 stands at the end or before a fresh pixel
-      single_is : n % 62 ≡ 1 → (left : List Chunk) → StillToWrite (choice_in w.style) w.image w.list (replicate n (previous b.past) ++ b.past) rest left
-          → WritesOne w.style b.past b.before n left one
+      single_is : n % 62 ≡ 1 → (left : List Chunk) → StillToWrite w.list (replicate n (previous b.past) ++ b.past) rest left
+          → WritesOne w.list.style b.past b.before n left one
       single_is e left still = by_one (one_is e) ends
         where
-          style_is : rest_of_one w.style coder.begun coder.placed coder.place n ≡ rest_of_one w.style (some_fresh b.past)
+          style_is : rest_of_one w.list.style coder.begun coder.placed coder.place n ≡ rest_of_one w.list.style (some_fresh b.past)
               (names b.before (hash (previous b.past))) (hash (previous b.past)) n
-          style_is = λ i. rest_of_one w.style (b.style_state.begun_is i) (b.style_state.placed_is i) (b.style_state.place_is i) n
+          style_is = λ i. rest_of_one w.list.style (b.style_state.begun_is i) (b.style_state.placed_is i) (b.style_state.place_is i) n
 
           other_first : (slice_get rest 0 ≢ Some coder.last) ⊎ (n % 62 ≡ 0) → slice_get rest 0 ≢ Some coder.last
           other_first (inl other) = other
           other_first (inr full) = absurd (let no : 1 ≡ 0 = sym e ∙ full in cc)
 
-          by_one : ((rest ≡ []) × (one ≡ Run 1)) ⊎ ((rest ≢ []) × (one ≡ rest_of_one w.style coder.begun coder.placed coder.place n))
-              → (slice_get rest 0 ≢ Some coder.last) ⊎ (n % 62 ≡ 0) → WritesOne w.style b.past b.before n left one
+          by_one : ((rest ≡ []) × (one ≡ Run 1)) ⊎ ((rest ≢ []) × (one ≡ rest_of_one w.list.style coder.begun coder.placed coder.place n))
+              → (slice_get rest 0 ≢ Some coder.last) ⊎ (n % 62 ≡ 0) → WritesOne w.list.style b.past b.before n left one
           by_one (inl (none, is)) stops = inl (
-            none_todo (choice_in w.style) (chooses_in w.style)
-                (subst (λ x. StillToWrite (choice_in w.style) w.image w.list (replicate n (previous b.past) ++ b.past) x left) none still),
+            none_todo w.list
+                (subst (λ x. StillToWrite w.list (replicate n (previous b.past) ++ b.past) x left) none still),
             is,
           )
           by_one (inr (some, is)) stops = by_rest rest refl
             where
-              by_rest : (more : List RgbaPixel) → rest ≡ more → WritesOne w.style b.past b.before n left one
+              by_rest : (more : List RgbaPixel) → rest ≡ more → WritesOne w.list.style b.past b.before n left one
               by_rest [] none = absurd (some none)
               by_rest (p ∷ more) ahead =
                   let differs : p ≢ previous (replicate n (previous b.past) ++ b.past) = λ e.
                   other_first stops (ap (λ x. slice_get x 0) ahead ∙ ap (λ q. Some q) (e ∙ previous_repeats n b.past ∙ last_before)) in
                   inr (
-                    fresh_todo (choice_in w.style) (chooses_in w.style) p more
-                        (subst (λ x. StillToWrite (choice_in w.style) w.image w.list (replicate n (previous b.past) ++ b.past) x left) ahead still) differs,
+                    fresh_todo w.list p more
+                        (subst (λ x. StillToWrite w.list (replicate n (previous b.past) ++ b.past) x left) ahead still) differs,
                     is
                         ∙ style_is,
                   )
 
   -- The chunk of a fresh pixel is written.
   pub chunk_given : (p : RgbaPixel) (rest : List RgbaPixel) (c : Chunk) {next_table : List RgbaPixel} {next_coder : Coder} {next : List ℕ} → pixels ≡ p ∷ rest
-      → p ≢ coder.last → IsChunk c → choice_in w.style b.past p c
-      → next ≡ bytes ++ bytes_of c → StateAfter w.style (p ∷ b.past) next_table next_coder.last
+      → p ≢ coder.last → IsChunk c → choice_in w.list.style b.past p c
+      → next ≡ bytes ++ bytes_of c → StateAfter w.list.style (p ∷ b.past) next_table next_coder.last
       → StyleAfter (p ∷ b.past) (Some c) next_coder.place next_coder.begun next_coder.placed
       → CoderBetween w rest next_table next_coder next
   chunk_given p rest c {next_table} {next_coder} {next} ahead differs is choice written state style_state =
-      let choices = chooses_in w.style in
-      let r = chunk_next (choice_in w.style) choices b.to_write p rest c ahead (λ e. differs (e ∙ last_before)) is choice in
+      let choices = chooses_in w.list.style in
+      let r = chunk_next w.list b.to_write p rest c ahead (λ e. differs (e ∙ last_before)) is choice in
       record {
         past = p ∷ b.past;
         before = Some c;
         todo = r.0;
         to_write = r.2;
-        ahead_is = bytes_next w.ahead bytes next (c ∷ []) (styled w.style (p ∷ b.past) (Some c) r.0)
-            (b.ahead_is ∙ ap (λ cs. bytes ++ chunk_bytes (styled w.style b.past b.before cs)) r.1
-            ∙ ap (λ cs. bytes ++ chunk_bytes cs) (styled_chunk w.style b.past b.before p c r.0 (choices.no_run b.past p c choice)
+        ahead_is = bytes_next w.ahead bytes next (c ∷ []) (styled w.list.style (p ∷ b.past) (Some c) r.0)
+            (b.ahead_is ∙ ap (λ cs. bytes ++ chunk_bytes (styled w.list.style b.past b.before cs)) r.1
+            ∙ ap (λ cs. bytes ++ chunk_bytes cs) (styled_chunk w.list.style b.past b.before p c r.0 (choices.no_run b.past p c choice)
             (choices.gives b.past p c choice)))
             (written ∙ ap (λ x. bytes ++ x) (sym (append-nil (bytes_of c))));
         state = state;
@@ -153,14 +154,14 @@ module _ {w : Writing} {pixels : List RgbaPixel} {table : List RgbaPixel} {coder
   pub piece_given : (gone kept : List ℕ) → bytes ≡ gone ++ kept
       → (ahead : List ℕ) × (w.ahead ≡ gone ++ ahead) × CoderBetween (record w { ahead = ahead }) pixels table coder kept
   piece_given gone kept split = (
-    kept ++ chunk_bytes (styled w.style b.past b.before b.todo),
-    b.ahead_is ∙ ap (λ x. x ++ chunk_bytes (styled w.style b.past b.before b.todo)) split
-        ∙ append_assoc gone kept (chunk_bytes (styled w.style b.past b.before b.todo)),
+    kept ++ chunk_bytes (styled w.list.style b.past b.before b.todo),
+    b.ahead_is ∙ ap (λ x. x ++ chunk_bytes (styled w.list.style b.past b.before b.todo)) split
+        ∙ append_assoc gone kept (chunk_bytes (styled w.list.style b.past b.before b.todo)),
     record { past = b.past; before = b.before; todo = b.todo; to_write = b.to_write; ahead_is = refl; state = b.state; style_state = b.style_state },
   )
 
 -- at the end of the pixels nothing is ahead but the bytes
 pub all_given : {w : Writing} {table : List RgbaPixel} {coder : Coder} {bytes : List ℕ} → CoderBetween w [] table coder bytes → w.ahead ≡ bytes
 all_given {w} {bytes = bytes} b =
-    b.ahead_is ∙ ap (λ cs. bytes ++ chunk_bytes (styled w.style b.past b.before cs)) (none_todo (choice_in w.style) (chooses_in w.style) b.to_write)
-    ∙ ap (λ cs. bytes ++ chunk_bytes cs) (styled_none w.style b.past b.before) ∙ append-nil bytes
+    b.ahead_is ∙ ap (λ cs. bytes ++ chunk_bytes (styled w.list.style b.past b.before cs)) (none_todo w.list b.to_write)
+    ∙ ap (λ cs. bytes ++ chunk_bytes cs) (styled_none w.list.style b.past b.before) ∙ append-nil bytes

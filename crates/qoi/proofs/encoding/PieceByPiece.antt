@@ -30,7 +30,8 @@ module _ {W : Type 0} (wrote : W → List ℕ → W → Type 0) (room : W → �
     pub fits : length (front ++ chunk_bytes (in_style style list)) ≤ room start
     pub ahead : List ℕ
     pub went : WroteBut wrote start (front ++ chunk_bytes (in_style style list)) ahead buf
-    pub between : CoderBetween (record { style = style; image = pixels_of n bytes; list = list; ahead = ahead }) (pixels_of n rest) table coder kept
+    pub between : CoderBetween (record { list = record { style = style; image = pixels_of n bytes; cs = list }; ahead = ahead })
+        (pixels_of n rest) table coder kept
 
 module _ {W : Type 0} {wrote : W → List ℕ → W → Type 0} {room : W → ℕ} {style : Style} {n : ℕ} {bytes front : List ℕ} {start : W} where
   -- before the first pixel
@@ -60,7 +61,7 @@ module _ {W : Type 0} {wrote : W → List ℕ → W → Type 0} {room : W → �
       (p : PieceBetween wrote room style n bytes front start rest table coder kept buf) where
     -- the coder went on
     pub piece_filled : {rest' : List ℕ} {table' : List RgbaPixel} {coder' : Coder} {kept' : List ℕ}
-        → ((w : Writing) → w.style ≡ style → CoderBetween w (pixels_of n rest) table coder kept → CoderBetween w (pixels_of n rest') table' coder' kept')
+        → ((w : Writing) → w.list.style ≡ style → CoderBetween w (pixels_of n rest) table coder kept → CoderBetween w (pixels_of n rest') table' coder' kept')
         → PieceBetween wrote room style n bytes front start rest' table' coder' kept' buf
     piece_filled given = record {
       laws = p.laws;
@@ -81,7 +82,8 @@ module _ {W : Type 0} {wrote : W → List ℕ → W → Type 0} {room : W → �
     module _ (size : ℕ) where
       -- the first so many bytes and the others
       abbrev given_first : (ahead : List ℕ) × (p.ahead ≡ take size kept ++ ahead)
-          × CoderBetween (record { style = style; image = pixels_of n bytes; list = p.list; ahead = ahead }) (pixels_of n rest) table coder (drop size kept)
+          × CoderBetween (record { list = record { style = style; image = pixels_of n bytes; cs = p.list }; ahead = ahead })
+          (pixels_of n rest) table coder (drop size kept)
       given_first = piece_given p.between (take size kept) (drop size kept) (sym (take-append-drop size kept))
 
       -- there is room for them
@@ -105,7 +107,7 @@ module _ {W : Type 0} {wrote : W → List ℕ → W → Type 0} {room : W → �
         ahead = given_first.0;
         went = wrote_next wrote room p.laws start buf now (front ++ chunk_bytes (in_style style p.list)) p.ahead
             (take size kept) given_first.0 p.went given_first.1 went;
-        between = subst (λ z. CoderBetween (record { style = style; image = pixels_of n bytes; list = p.list; ahead = given_first.0 })
+        between = subst (λ z. CoderBetween (record { list = record { style = style; image = pixels_of n bytes; cs = p.list }; ahead = given_first.0 })
             (pixels_of n rest) table coder z) (sym is) given_first.2;
       }
 
@@ -115,14 +117,15 @@ module _ {W : Type 0} {wrote : W → List ℕ → W → Type 0} {room : W → �
       piece_part {now} some = (
         in_style style p.list,
         in_list,
-        wrote_part wrote room p.laws start buf now (front ++ chunk_bytes (in_style style p.list)) p.ahead (take size kept) given_first.0 p.went
-            given_first.1 some,
+        wrote_part wrote room p.laws start buf now (front ++ chunk_bytes (in_style style p.list))
+            p.ahead (take size kept) given_first.0 p.went given_first.1 some,
       )
 
   -- at the end all but what is kept went
-  pub piece_ends : {table : List RgbaPixel} {coder : Coder} {kept : List ℕ} {buf : W} {rest : List ℕ} {table' : List RgbaPixel} {coder' : Coder}
-      {kept' : List ℕ} (p : PieceBetween wrote room style n bytes front start rest table coder kept buf)
-      → ((w : Writing) → w.style ≡ style → CoderBetween w (pixels_of n rest) table coder kept → CoderBetween w [] table' coder' kept')
+  pub piece_ends : {table : List RgbaPixel} {coder : Coder} {kept : List ℕ} {buf : W}
+      {rest : List ℕ} {table' : List RgbaPixel} {coder' : Coder} {kept' : List ℕ}
+      (p : PieceBetween wrote room style n bytes front start rest table coder kept buf)
+      → ((w : Writing) → w.list.style ≡ style → CoderBetween w (pixels_of n rest) table coder kept → CoderBetween w [] table' coder' kept')
       → (cs : List Chunk) × WrittenIn style (pixels_of n bytes) cs × WroteBut wrote start (front ++ chunk_bytes cs) kept' buf
   piece_ends {buf = buf} p given = (
     in_style style p.list,

@@ -9,7 +9,7 @@ use Rattle.qoi.specs.Qoi.{AreBytes, RgbaPixel, IsPixel}
 use Rattle.qoi.specs.Raw.{IsChannels, pixels_of}
 use Rattle.qoi.specs.inner.Packed.{word, pixel_of_word}
 use Rattle.qoi.specs.inner.Quad.{IsSpelled, AreFourAfter, IsQuad, IsFreshLane}
-use Rattle.qoi.specs.inner.CoderLoop.{Writing, CoderBetween, AtLane, coded}
+use Rattle.qoi.specs.inner.CoderLoop.{Writing, CoderBetween, in_four, AtLane}
 use Rattle.qoi.proofs.format.RawPixels.{pixels_of_are}
 use Rattle.qoi.proofs.encoding.CoderSteps.{all_bytes}
 use Rattle.qoi.proofs.format.LaneRuns.{none_agree}
@@ -27,7 +27,7 @@ module _ {n : ℕ} {quad : Quad} {pixels : List RgbaPixel} (is : IsQuad n quad p
 
   -- behind a lane's pixel the coder stands at the next lane
   pub lane_after : {w : Writing} {table : List RgbaPixel} {coder : Coder} {bytes : List ℕ} → coder.last ≡ pixel_of_word (slice_index quad.pixels k)
-      → CoderBetween w (drop (suc k) pixels) table coder bytes → AtLane w quad pixels (suc k) (coded table coder bytes)
+      → CoderBetween w (drop (suc k) pixels) table coder bytes → AtLane (in_four w quad pixels) (suc k) table coder bytes
   lane_after last_is between = record {
     between = between;
     last_is = λ l. (let here : k ≡ k + 0 = omega arith in
@@ -38,12 +38,12 @@ module _ {n : ℕ} {quad : Quad} {pixels : List RgbaPixel} (is : IsQuad n quad p
 
   -- a fresh lane
   pub lane_step : {w : Writing} {table next_table : List RgbaPixel} {coder next_coder : Coder} {bytes next : List ℕ} → IsFreshLane quad k
-      → AtLane w quad pixels k (coded table coder bytes) → next_coder.last ≡ pixel_of_word (slice_index quad.pixels k)
+      → AtLane (in_four w quad pixels) k table coder bytes → next_coder.last ≡ pixel_of_word (slice_index quad.pixels k)
       → ((q : ℕ) (c : Chunk) (rest : List RgbaPixel) → IsSpelled (slice_index quad.pixels k) q (slice_index quad.numbers k) (slice_index quad.sizes k) c
       → coder.last ≡ pixel_of_word q
       → pixel_of_word (slice_index quad.pixels k) ≢ pixel_of_word q → CoderBetween w (pixel_of_word (slice_index quad.pixels k) ∷ rest) table coder bytes
       → CoderBetween w rest next_table next_coder next)
-      → AtLane w quad pixels (suc k) (coded next_table next_coder next)
+      → AtLane (in_four w quad pixels) (suc k) next_table next_coder next
   lane_step {w} {table} {next_table} {coder} {next_coder} {bytes} {next} fresh start last_is given =
       let s = is.spelled k lt in
       let b = start.between in
@@ -76,7 +76,7 @@ quad_is {quad = quad} last pixels cur prev four is qc qp spelled = record {
 -- before the first lane
 pub quad_starts : {w : Writing} {quad : Quad} {pixels : List RgbaPixel} {table : List RgbaPixel} {coder : Coder} {bytes prev : List ℕ} (cur : List ℕ)
     → CoderBetween w pixels table coder bytes → prev ≡ word coder.last ∷ take 3 cur → quad.before ≡ prev
-    → AtLane w quad pixels 0 (coded table coder bytes)
+    → AtLane (in_four w quad pixels) 0 table coder bytes
 quad_starts cur b pe qp = record { between = b; last_is = λ lt. sym (ap (λ xs. slice_index xs 0) (qp ∙ pe)) }
 
 -- where no lane repeats the one before, each is fresh

@@ -8,12 +8,13 @@ use Rattle.qoi.specs.declared.chunk.Chunk.TheVariants.{Run}
 use Rattle.qoi.specs.Qoi.{RgbaPixel, IsPixel, Past, previous, IsChunk}
 use Rattle.qoi.specs.Runs.{last_by, runs_by}
 use Rattle.qoi.specs.Written.{WrittenBy}
-use Rattle.qoi.specs.Styles.{fresh_next}
-pub use Rattle.qoi.specs.inner.CoderLoop.{StillToWrite}
+use Rattle.qoi.specs.Styles.{fresh_next, choice_in}
+pub use Rattle.qoi.specs.inner.CoderLoop.{ImageList, StillToWrite}
 use Rattle.qoi.proofs.format.ChunkSteps.{previous_repeats, reverse-replicate}
 use Rattle.qoi.proofs.format.SamePixels.{cases_pixel}
 use Rattle.qoi.proofs.encoding.WrittenGrows.{RunMayFollow, all_back, written_none, full_runs, written_runs, written_fresh}
 use Rattle.qoi.proofs.encoding.Choices.{Chooses}
+use Rattle.qoi.proofs.encoding.StyleLists.{chooses_in}
 use Rattle.qoi.proofs.encoding.WrittenExists.{is_pixel_start, written_on}
 use Rattle.qoi.proofs.encoding.WrittenOnce.{unique_by}
 
@@ -27,11 +28,17 @@ runs_full : (n : ℕ) → n % 62 ≡ 0 → runs_by (Run 1) n ≡ replicate (n / 
 unfolding runs_by
 runs_full n e = ap (λ r. replicate (n / 62) (Run 62) ++ last_by (Run 1) r) e ∙ append-nil (replicate (n / 62) (Run 62))
 
-module _ (Choice : Past → RgbaPixel → Chunk → Type 0) (choices : Chooses Choice) where
+module _ (l : ImageList) where
+  -- how a fresh pixel is given in the style
+  abbrev Choice : Past → RgbaPixel → Chunk → Type 0
+  Choice = choice_in l.style
+
+  abbrev choices : Chooses (choice_in l.style)
+  choices = chooses_in l.style
+
   -- before the first pixel all is still to be written
-  pub all_to_write : (image : List RgbaPixel) (cs : List Chunk) → WrittenBy Choice image cs → AllByRecursion IsPixel image
-      → StillToWrite Choice image cs [] image cs
-  all_to_write image cs w are = record {
+  pub all_to_write : WrittenBy Choice l.image l.cs → AllByRecursion IsPixel l.image → StillToWrite l [] l.image l.cs
+  all_to_write w are = record {
     whole = w;
     split = refl;
     before = is_pixel_start;
@@ -54,19 +61,19 @@ module _ (Choice : Past → RgbaPixel → Chunk → Type 0) (choices : Chooses C
       → RunMayFollow (cs ++ runs_by (Run 1) n)
   full_take n past cs e w may = subst (λ x. RunMayFollow (cs ++ x)) (sym (runs_full n e)) (full_runs Choice (n / 62) past (previous past) cs refl w may).1
 
-  module _ {image : List RgbaPixel} {cs : List Chunk} {past : Past} {rest : List RgbaPixel} {todo : List Chunk}
-      (w : StillToWrite Choice image cs past rest todo) where
+  module _ {past : Past} {rest : List RgbaPixel} {todo : List Chunk}
+      (w : StillToWrite l past rest todo) where
     -- What follows the written chunks in a list of the image is what is to be written; so the first of these chunks are next.
-    next : (after : Past) (more : List RgbaPixel) (new left : List Chunk) → image ≡ reverse after ++ more → IsPixel (previous after)
+    next : (after : Past) (more : List RgbaPixel) (new left : List Chunk) → l.image ≡ reverse after ++ more → IsPixel (previous after)
         → AllByRecursion IsPixel more
         → WrittenBy Choice (reverse after) (w.done ++ new) → (slice_get more 0 ≡ Some (previous after) → RunMayFollow (w.done ++ new))
         → WrittenBy Choice (reverse after ++ more) ((w.done ++ new) ++ left)
-        → (todo ≡ new ++ left) × StillToWrite Choice image cs after more left
+        → (todo ≡ new ++ left) × StillToWrite l after more left
     next after more new left split before are written may all =
-        let whole = subst (λ x. WrittenBy Choice image x) (append_assoc w.done new left)
+        let whole = subst (λ x. WrittenBy Choice l.image x) (append_assoc w.done new left)
         (subst (λ x. WrittenBy Choice x ((w.done ++ new) ++ left)) (sym split) all) in
         let todo_is : todo ≡ new ++ left = append_cancel_left w.done todo (new ++ left)
-        (sym w.parts ∙ unique_by Choice choices.only image cs (w.done ++ (new ++ left)) w.whole whole) in (
+        (sym w.parts ∙ unique_by Choice choices.only l.image l.cs (w.done ++ (new ++ left)) w.whole whole) in (
           todo_is,
           record {
             whole = w.whole;
@@ -82,38 +89,38 @@ module _ (Choice : Past → RgbaPixel → Chunk → Type 0) (choices : Chooses C
 
     -- the chunk of a fresh pixel is next
     pub chunk_next : (p : RgbaPixel) (more : List RgbaPixel) (c : Chunk) → rest ≡ p ∷ more → p ≢ previous past → IsChunk c → Choice past p c
-        → (left : List Chunk) × (todo ≡ c ∷ left) × StillToWrite Choice image cs (p ∷ past) more left
+        → (left : List Chunk) × (todo ≡ c ∷ left) × StillToWrite l (p ∷ past) more left
     chunk_next p more c ahead fresh is choice =
         let are : AllByRecursion IsPixel (p ∷ more) = subst (λ x. AllByRecursion IsPixel x) ahead w.are in
         let one = written_fresh Choice past w.done p c w.written fresh is (choices.no_run past p c choice) (choices.gives past p c choice) choice in
-        let split : image ≡ reverse (p ∷ past) ++ more = w.split ∙ ap (λ x. reverse past ++ x) ahead
+        let split : l.image ≡ reverse (p ∷ past) ++ more = w.split ∙ ap (λ x. reverse past ++ x) ahead
         ∙ sym (ap (λ x. x ++ more) (reverse-append (p ∷ []) past) ∙ append_assoc (reverse past) (p ∷ []) more) in
         let all = written_on Choice choices more (p ∷ past) 0 (w.done ++ c ∷ []) one.0 one.1 are.0 are.1 in
         let r = next (p ∷ past) more (c ∷ []) all.0 split are.0 are.1 one.0 (λ same. one.1) all.1 in
         (all.0, r.0, r.1)
 
   -- before a fresh pixel its chunk is next, which is no run
-  pub fresh_todo : {image : List RgbaPixel} {cs : List Chunk} {past : Past} {todo : List Chunk} (p : RgbaPixel) (more : List RgbaPixel)
-      → StillToWrite Choice image cs past (p ∷ more) todo → p ≢ previous past → fresh_next todo ≡ true
+  pub fresh_todo : {past : Past} {todo : List Chunk} (p : RgbaPixel) (more : List RgbaPixel)
+      → StillToWrite l past (p ∷ more) todo → p ≢ previous past → fresh_next todo ≡ true
   fresh_todo {past = past} p more w differs =
       let c = choices.some past p w.before w.are.0 differs in
       let r = chunk_next w p more c.0 refl differs c.1 c.2 in
       ap fresh_next r.1 ∙ ap not (choices.no_run past p c.0 c.2)
 
   -- at the end nothing is
-  pub none_todo : {image : List RgbaPixel} {cs : List Chunk} {past : Past} {todo : List Chunk} → StillToWrite Choice image cs past [] todo → todo ≡ []
-  none_todo {image} {cs} {past} {todo} w =
+  pub none_todo : {past : Past} {todo : List Chunk} → StillToWrite l past [] todo → todo ≡ []
+  none_todo {past} {todo} w =
       let all = subst (λ x. WrittenBy Choice x w.done) (sym (w.split ∙ append-nil (reverse past))) w.written in
-      append_cancel_left w.done todo [] (sym w.parts ∙ unique_by Choice choices.only image cs w.done w.whole all ∙ sym (append-nil w.done))
+      append_cancel_left w.done todo [] (sym w.parts ∙ unique_by Choice choices.only l.image l.cs w.done w.whole all ∙ sym (append-nil w.done))
 
-  module _ {image : List RgbaPixel} {cs : List Chunk} {past : Past} {todo : List Chunk} (n : ℕ) (rest : List RgbaPixel)
-      (w : StillToWrite Choice image cs past (replicate n (previous past) ++ rest) todo) where
+  module _ {past : Past} {todo : List Chunk} (n : ℕ) (rest : List RgbaPixel)
+      (w : StillToWrite l past (replicate n (previous past) ++ rest) todo) where
     -- the pixels up to the end of the group
     abbrev group : Past
     group = replicate n (previous past) ++ past
 
     -- the group belongs to the pixels that have come
-    image_is : image ≡ reverse group ++ rest
+    image_is : l.image ≡ reverse group ++ rest
     image_is =
         w.split
         ∙ sym (append_assoc (reverse past) (replicate n (previous past)) rest)
@@ -140,17 +147,16 @@ module _ (Choice : Past → RgbaPixel → Chunk → Type 0) (choices : Chooses C
 
     -- behind the group, where no repeat of it is next
     ended : (left : List Chunk) → (slice_get rest 0 ≢ Some (previous past)) → WrittenBy Choice (reverse group ++ rest) ((w.done ++ runs_by (Run 1) n) ++ left)
-        → (todo ≡ runs_by (Run 1) n ++ left) × StillToWrite Choice image cs group rest left
+        → (todo ≡ runs_by (Run 1) n ++ left) × StillToWrite l group rest left
     ended left other all = next w group rest (runs_by (Run 1) n) left image_is before_is behind_are group_written
         (λ same. absurd (other (same ∙ ap (λ p. Some p) (previous_repeats n past)))) all
 
     -- The runs of a group are next, where no further repeat follows or they are full.
     pub runs_next : (slice_get rest 0 ≢ Some (previous past)) ⊎ (n % 62 ≡ 0)
-        → (left : List Chunk) × (todo ≡ runs_by (Run 1) n ++ left) × StillToWrite Choice image cs group rest left
+        → (left : List Chunk) × (todo ≡ runs_by (Run 1) n ++ left) × StillToWrite l group rest left
     runs_next ends = by_rest rest refl
       where
-        by_rest : (pixels : List RgbaPixel) → rest ≡ pixels → (left : List Chunk) × (todo ≡ runs_by (Run 1) n ++ left)
-            × StillToWrite Choice image cs group rest left
+        by_rest : (pixels : List RgbaPixel) → rest ≡ pixels → (left : List Chunk) × (todo ≡ runs_by (Run 1) n ++ left) × StillToWrite l group rest left
         by_rest [] none =
             let other : slice_get rest 0 ≢ Some (previous past) = λ e.
             absurd (let no : slice_get {X = RgbaPixel} [] 0 ≡ Some (previous past) = sym (ap (λ x. slice_get x 0) none) ∙ e in cc) in
@@ -166,8 +172,7 @@ module _ (Choice : Past → RgbaPixel → Chunk → Type 0) (choices : Chooses C
             first : slice_get rest 0 ≡ Some p
             first = ap (λ x. slice_get x 0) ahead
 
-            by_next : (p ≡ previous past) ⊎ (p ≢ previous past) → (left : List Chunk) × (todo ≡ runs_by (Run 1) n ++ left)
-                × StillToWrite Choice image cs group rest left
+            by_next : (p ≡ previous past) ⊎ (p ≢ previous past) → (left : List Chunk) × (todo ≡ runs_by (Run 1) n ++ left) × StillToWrite l group rest left
             by_next (inr other) =
                 let differs : p ≢ previous group = λ e. other (e ∙ previous_repeats n past) in
                 let c = choices.some group p before_is are.0 differs in
@@ -189,7 +194,7 @@ module _ (Choice : Past → RgbaPixel → Chunk → Type 0) (choices : Chooses C
                 again = first ∙ ap (λ q. Some q) same
 
                 by_end : (slice_get rest 0 ≢ Some (previous past)) ⊎ (n % 62 ≡ 0)
-                    → (left : List Chunk) × (todo ≡ runs_by (Run 1) n ++ left) × StillToWrite Choice image cs group rest left
+                    → (left : List Chunk) × (todo ≡ runs_by (Run 1) n ++ left) × StillToWrite l group rest left
                 by_end (inl other) = absurd (other again)
                 by_end (inr full) =
                     let may = full_take n past w.done full w.written (w.run_may_follow (goes_on n again)) in

@@ -98,8 +98,8 @@ WritesOne style past before n left one =
 -- the rest of a group behind its full runs
 rest_stays : (r : ℕ) (past : Past) (before : Option Chunk) (left : List Chunk) (one : Chunk)
     → (r ≡ 1 → ((left ≡ []) × (one ≡ Run 1)) ⊎ ((fresh_next left ≡ true) × (one ≡ single past before)))
-    → placed_after past before (last_by (Run 1) r ++ left) ≡ last_by one r ++ placed_after (replicate r (previous past) ++ past)
-    (last_chunk before (last_by (Run 1) r)) left
+    → placed_after past before (last_by (Run 1) r ++ left)
+    ≡ last_by one r ++ placed_after (replicate r (previous past) ++ past) (last_chunk before (last_by (Run 1) r)) left
 rest_stays zero past before left one is = refl
 rest_stays (suc (suc r)) past before left one is = ap (λ x. x ∷ placed_after (replicate (suc (suc r)) (previous past) ++ past)
     (Some (Run (suc (suc r)))) left) (long_stays r past before left)
@@ -115,8 +115,8 @@ rest_stays (suc zero) past before left one is = go (is refl)
 -- the chunks of a group of repeats, and what follows them
 pub styled_runs : (style : Style) (past : Past) (before : Option Chunk) (n : ℕ) (left : List Chunk) (one : Chunk)
     → (n % 62 ≡ 1 → WritesOne style past before n left one)
-    → styled style past before (runs_by (Run 1) n ++ left) ≡ runs_by one n ++ styled style (replicate n (previous past) ++ past)
-    (last_chunk before (runs_by (Run 1) n)) left
+    → styled style past before (runs_by (Run 1) n ++ left)
+    ≡ runs_by one n ++ styled style (replicate n (previous past) ++ past) (last_chunk before (runs_by (Run 1) n)) left
 unfolding runs_by
 styled_runs Reference past before n left one is = ap (λ x. x ++ left) (plain n one (λ e. elim (is e) [ inl p ↦ p.1 | inr p ↦ p.1 ]))
 styled_runs Tight past before n left one is = ap (λ x. x ++ left) (plain n one (λ e. elim (is e) [ inl p ↦ p.1 | inr p ↦ p.1 ]))
@@ -161,7 +161,8 @@ rest_names_none k (suc (suc r)) before i some = refl
 
 pub runs_name_none : (n : ℕ) (before : Option Chunk) (i : ℕ) → 0 < n → names (last_chunk before (runs_by (Run 1) n)) i ≡ false
 unfolding runs_by
-runs_name_none n before i some = ap (λ b. names b i) (last_fulls (n / 62) before (last_by (Run 1) (n % 62)))
+runs_name_none n before i some =
+    ap (λ b. names b i) (last_fulls (n / 62) before (last_by (Run 1) (n % 62)))
     ∙ rest_names_none (n / 62) (n % 62) before i (omega arith)
 
 -- so it is after repeats

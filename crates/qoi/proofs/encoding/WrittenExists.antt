@@ -139,11 +139,8 @@ module _ (Choice : Past → RgbaPixel → Chunk → Type 0) (choices : Chooses C
   pub written_on : (rest : List RgbaPixel) (past : Past) (n : ℕ) (cs : List Chunk) → WrittenBy Choice (reverse past) cs → RunMayFollow cs
       → IsPixel (previous past) → AllByRecursion IsPixel rest
       → (more : List Chunk) × WrittenBy Choice (reverse (replicate n (previous past) ++ past) ++ rest) (cs ++ more)
-  written_on [] past n cs w may before are = (
-    runs_by (Run 1) n,
-    rw (append-nil (reverse (replicate n (previous past) ++ past))) (written_runs
-        Choice past n cs w may),
-  )
+  written_on [] past n cs w may before are =
+      (runs_by (Run 1) n, rw (append-nil (reverse (replicate n (previous past) ++ past))) (written_runs Choice past n cs w may))
   written_on (p ∷ rest) past n cs w may before are =
       elim (cases_pixel p (previous past)) as (λ _. (more : List Chunk)
       × WrittenBy Choice (reverse (replicate n (previous past) ++ past) ++ p ∷ rest) (cs ++ more)) [

@@ -17,8 +17,8 @@ digits_of (x ∷ bytes) fit =
 pub first_part : (c part : ℕ) (p : RgbaPixel) (w rgb : ℕ) → c ≡ 3 → part ≡ 0 → w ≡ word p → rgb ≡ w % 2 ^ 24 → IsPixel p
     → digits_l 256 16
     (number_l (2 ^ 64)
-    ((rgb + rgb * 2 ^ 24 % 2 ^ 64 + rgb * 2 ^ 48 % 2 ^ 64) ∷ (rgb / 2 ^ 16 + rgb * 2 ^ 8 % 2 ^ 64 + rgb * 2 ^ 32 % 2 ^ 64 + rgb * 2 ^ 56 % 2 ^
-    64) ∷ [])) ≡ take 16 (drop (16 * part) (output c c (replicate 16 p)))
+    ((rgb + rgb * 2 ^ 24 % 2 ^ 64 + rgb * 2 ^ 48 % 2 ^ 64) ∷ (rgb / 2 ^ 16 + rgb * 2 ^ 8 % 2 ^ 64 + rgb * 2 ^ 32 % 2 ^ 64 + rgb * 2 ^ 56 % 2 ^ 64) ∷ []))
+    ≡ take 16 (drop (16 * part) (output c c (replicate 16 p)))
 first_part c part p w rgb is at e low h =
     let bytes = p.r ∷ p.g ∷ p.b ∷ p.r ∷ p.g ∷ p.b ∷ p.r ∷ p.g ∷ p.b ∷ p.r ∷ p.g ∷ p.b ∷ p.r ∷ p.g ∷ p.b ∷ p.r ∷ [] in
     let number : number_l (2 ^ 64)
@@ -44,13 +44,14 @@ second_part c part p w rgb is at e low h =
 pub third_part : (c part : ℕ) (p : RgbaPixel) (w rgb : ℕ) → c ≡ 3 → part ≡ 2 → w ≡ word p → rgb ≡ w % 2 ^ 24 → IsPixel p
     → digits_l 256 16
     (number_l (2 ^ 64)
-    ((rgb / 2 ^ 16 + rgb * 2 ^ 8 % 2 ^ 64 + rgb * 2 ^ 32 % 2 ^ 64 + rgb * 2 ^ 56 % 2 ^ 64) ∷
-    (rgb / 2 ^ 8 + rgb * 2 ^ 16 % 2 ^ 64 + rgb * 2 ^ 40 % 2 ^ 64) ∷ [])) ≡ take 16 (drop (16 * part) (output c c (replicate 16 p)))
+    ((rgb / 2 ^ 16 + rgb * 2 ^ 8 % 2 ^ 64 + rgb * 2 ^ 32 % 2 ^ 64 + rgb * 2 ^ 56 % 2 ^ 64)
+    ∷ (rgb / 2 ^ 8 + rgb * 2 ^ 16 % 2 ^ 64 + rgb * 2 ^ 40 % 2 ^ 64) ∷ []))
+    ≡ take 16 (drop (16 * part) (output c c (replicate 16 p)))
 third_part c part p w rgb is at e low h =
     let bytes = p.b ∷ p.r ∷ p.g ∷ p.b ∷ p.r ∷ p.g ∷ p.b ∷ p.r ∷ p.g ∷ p.b ∷ p.r ∷ p.g ∷ p.b ∷ p.r ∷ p.g ∷ p.b ∷ [] in
     let number : number_l (2 ^ 64)
-    ((rgb / 2 ^ 16 + rgb * 2 ^ 8 % 2 ^ 64 + rgb * 2 ^ 32 % 2 ^ 64 + rgb * 2 ^ 56 % 2 ^ 64) ∷
-    (rgb / 2 ^ 8 + rgb * 2 ^ 16 % 2 ^ 64 + rgb * 2 ^ 40 % 2 ^ 64) ∷ []) ≡ number_l 256 bytes = omega (arith, low, e, h.r, h.g, h.b, h.a) in
+    ((rgb / 2 ^ 16 + rgb * 2 ^ 8 % 2 ^ 64 + rgb * 2 ^ 32 % 2 ^ 64 + rgb * 2 ^ 56 % 2 ^ 64) ∷ (rgb / 2 ^ 8 + rgb * 2 ^ 16 % 2 ^ 64 + rgb * 2 ^ 40 % 2 ^ 64) ∷ [])
+    ≡ number_l 256 bytes = omega (arith, low, e, h.r, h.g, h.b, h.a) in
     rw (is, at) (ap (digits_l 256 16) number ∙ digits_of bytes
     (h.b, (h.r, (h.g, (h.b, (h.r, (h.g, (h.b, (h.r, (h.g, (h.b, (h.r, (h.g, (h.b, (h.r, (h.g, (h.b, tt)))))))))))))))))
 

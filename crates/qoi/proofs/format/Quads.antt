@@ -172,8 +172,8 @@ luma_step_words : (xs gs : List ℕ) → length xs ≡ 4 → Each1 (Fits w32) xs
     → words_in (zip2 less (widened xs) (bytes_in gs)) ≡ map luma_word xs
 luma_step_words (x ∷ y ∷ z ∷ w ∷ []) gs e f h =
     ap (λ gs. words_in (zip2 less (widened (x ∷ y ∷ z ∷ w ∷ [])) (bytes_in gs))) h
-    ∙ (λ i. luma_step_lane x _ f.0.fits refl i ∷ luma_step_lane y _ f.1.0.fits refl i ∷ luma_step_lane z _ f.1.1.0.fits refl i ∷ luma_step_lane w
-    _ f.1.1.1.0.fits refl i ∷ [])
+    ∙ (λ i. luma_step_lane x _ f.0.fits refl i ∷ luma_step_lane y _ f.1.0.fits refl i ∷ luma_step_lane z _ f.1.1.0.fits refl i
+    ∷ luma_step_lane w _ f.1.1.1.0.fits refl i ∷ [])
 luma_step_words _ gs e f h = absurd (omega arith)
 
 long_luma : (xs gs : List ℕ) → length xs ≡ 4 → length gs ≡ 4 → length (zip2 less (widened xs) (bytes_in gs)) ≡ 16

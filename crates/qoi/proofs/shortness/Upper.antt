@@ -141,8 +141,8 @@ module _ (shortest : Past → RgbaPixel → ℕ) (Choice : Past → RgbaPixel �
 
   -- chunks cost no more than their pixels and what is extra
   all_fit : (past : Past) (cs : List Chunk) → AreChunks cs → HasChannels (then_chunks past cs) channels → Each (IsRightAfter Choice) past cs → RunsAreFull cs
-      → Aligned past cs → length (chunk_bytes cs) + total_cost shortest past + extra past ≤ total_cost shortest (then_chunks past cs) + extra
-      (then_chunks past cs)
+      → Aligned past cs
+      → length (chunk_bytes cs) + total_cost shortest past + extra past ≤ total_cost shortest (then_chunks past cs) + extra (then_chunks past cs)
   all_fit past [] i h r f a = omega arith
   all_fit past (c ∷ cs) i h r f a =
       let one = one_fits past c cs i.0 (channels_before channels (then_chunk past c) cs h) r.0 a in

@@ -41,7 +41,7 @@ pub record HasSeen (s : Filling) (past : Past) : Type 0 where
 
 -- the pixels of a chunk were seen, and written behind the others
 pub record Gives (file_channels channels : ℕ) (chunk : Chunk) (old new : Filling) : Type 0 where
-  pub sees : (past : Past) → HasSeen old past → HasSeen new (then_chunk past chunk)
+  pub has_seen : (past : Past) → HasSeen old past → HasSeen new (then_chunk past chunk)
   pub filled : (n : ℕ) (past : Past) → HasFilled file_channels channels n old.buffer past
       → HasFilled file_channels channels n new.buffer (replicate (times chunk) new.last ++ past)
 

@@ -137,5 +137,5 @@ pub record IsQuad (n : ℕ) (quad : Quad) (pixels : List RgbaPixel) : Type 0 whe
   pub last : ℕ
   pub small : last < 2 ^ 32
   pub before_are : quad.before ≡ last ∷ take 3 quad.pixels
-  pub spelled : (k : ℕ) → k < 4 → (c : Chunk) × IsSpelled (slice_index quad.pixels k) (slice_index quad.before k) (slice_index quad.numbers k)
-      (slice_index quad.sizes k) c
+  pub spelled : (k : ℕ) → k < 4 → (c : Chunk)
+      × IsSpelled (slice_index quad.pixels k) (slice_index quad.before k) (slice_index quad.numbers k) (slice_index quad.sizes k) c

@@ -44,7 +44,7 @@ struct Coder {
 }
 
 impl Coder {
-    ghost use Rattle.qoi.specs.inner.CoderLoop.{Writing, CoderBetween, AtLane, coded};
+    ghost use Rattle.qoi.specs.inner.CoderLoop.{Writing, CoderBetween, in_four, AtLane};
 
     // Before the first pixel: opaque black.
     fn new() -> Coder
@@ -115,7 +115,8 @@ impl Coder {
         ensures within { result ≤ at + 5 }
         ensures last { self.new.last ≡ pixel_of_word (slice_index quad.now.pixels lane) }
         ensures opaque { N ≡ 3 → self.new.last.a ≡ 255 }
-        ensures given { (w : Writing) (q : ℕ) (c : Chunk) (rest : List RgbaPixel) → w.style ≡ style
+        ensures given { (w : Writing) (q : ℕ) (c : Chunk) (rest : List RgbaPixel)
+            → w.list.style ≡ style
             → IsSpelled (slice_index quad.now.pixels lane) q (slice_index quad.now.numbers lane)
             (slice_index quad.now.sizes lane) c → self.old.last ≡ pixel_of_word q
             → pixel_of_word (slice_index quad.now.pixels lane) ≢ pixel_of_word q
@@ -161,10 +162,10 @@ impl Coder {
         ensures same { length out.new ≡ length out.old }
         ensures within { result ≤ at + 20 }
         ensures opaque { N ≡ 3 → self.new.last.a ≡ 255 }
-        ensures given { (w : Writing) (pixels : List RgbaPixel) → w.style ≡ style
+        ensures given { (w : Writing) (pixels : List RgbaPixel) → w.list.style ≡ style
             → IsQuad N quad.now pixels → ((k : ℕ) → k < 4 → IsFreshLane quad.now k)
-            → AtLane w quad.now pixels 0 (coded table.old self.old (take at out.old))
-            → AtLane w quad.now pixels 4 (coded table.new self.new (take result out.new)) }
+            → AtLane (in_four w quad.now pixels) 0 table.old self.old (take at out.old)
+            → AtLane (in_four w quad.now pixels) 4 table.new self.new (take result out.new) }
     {
         let first = self.give::<N>(table, out, at, style, quad, 0);
         let second = self.give::<N>(table, out, first, style, quad, 1);
@@ -196,11 +197,11 @@ impl Coder {
         ensures lanes { (lane ≤ result.1) × (result.1 ≤ 4) }
         ensures some { lane ≡ 0 → repeating < 15 → 0 < result.1 }
         ensures opaque { N ≡ 3 → self.old.last.a ≡ 255 → self.new.last.a ≡ 255 }
-        ensures given { (w : Writing) (pixels : List RgbaPixel) → w.style ≡ style
+        ensures given { (w : Writing) (pixels : List RgbaPixel) → w.list.style ≡ style
             → IsQuad N quad.now pixels
-            → AtLane w quad.now pixels lane (coded table.old self.old (take at out.old))
-            → AtLane w quad.now pixels result.1
-            (coded table.new self.new (take result.0 out.new)) }
+            → AtLane (in_four w quad.now pixels) lane table.old self.old (take at out.old)
+            → AtLane (in_four w quad.now pixels) result.1 table.new self.new
+            (take result.0 out.new) }
     {
         if lane > 3 {
             return (at, lane);
@@ -239,7 +240,7 @@ impl Coder {
         ensures counted { length «data».now < 16
             → IsCount self.old.last (pixels_of N «data».now) result.1 }
         ensures some { slice_get (pixels_of N «data».now) 0 ≡ Some self.old.last → 0 < result.1 }
-        ensures given { (w : Writing) → w.style ≡ style
+        ensures given { (w : Writing) → w.list.style ≡ style
             → CoderBetween w (pixels_of N «data».now) table.old self.old (take at out.old)
             → CoderBetween w (pixels_of N (drop (N * result.1) «data».now)) table.new self.new
             (take result.0 out.new) }
@@ -280,7 +281,7 @@ impl Coder {
         ensures within { result.0 ≤ at + 20 }
         ensures lanes { (0 < result.1) × (result.1 ≤ 4) }
         ensures opaque { N ≡ 3 → self.old.last.a ≡ 255 → self.new.last.a ≡ 255 }
-        ensures given { (w : Writing) (pixels : List RgbaPixel) → w.style ≡ style
+        ensures given { (w : Writing) (pixels : List RgbaPixel) → w.list.style ≡ style
             → AreFourAfter self.old.last pixels cur prev
             → CoderBetween w pixels table.old self.old (take at out.old)
             → CoderBetween w (drop result.1 pixels) table.new self.new (take result.0 out.new) }
@@ -316,7 +317,7 @@ impl Coder {
         ensures inside { N * result.1 ≤ length «data».now }
         ensures some { 0 < result.1 }
         ensures opaque { N ≡ 3 → self.new.last.a ≡ 255 }
-        ensures given { (w : Writing) → w.style ≡ style
+        ensures given { (w : Writing) → w.list.style ≡ style
             → CoderBetween w (pixels_of N «data».now) table.old self.old (take at out.old)
             → CoderBetween w (pixels_of N (drop (N * result.1) «data».now)) table.new self.new
             (take result.0 out.new) }
@@ -349,7 +350,7 @@ impl Coder {
         ensures some { PIECE ≤ piece.new.end → length result.now < length «data».entry.now }
         ensures whole { length result.now % N ≡ 0 }
         ensures opaque { N ≡ 3 → self.new.last.a ≡ 255 }
-        ensures given { (w : Writing) → w.style ≡ style
+        ensures given { (w : Writing) → w.list.style ≡ style
             → CoderBetween w (pixels_of N «data».entry.now) table.old self.old
             (kept_bytes piece.old)
             → CoderBetween w (pixels_of N result.now) table.new self.new (kept_bytes piece.new) }
@@ -387,7 +388,7 @@ impl Coder {
         ensures inside { N * result.1 ≤ length «data».now }
         ensures some { 0 < result.1 }
         ensures opaque { N ≡ 3 → self.new.last.a ≡ 255 }
-        ensures given { (w : Writing) → w.style ≡ style
+        ensures given { (w : Writing) → w.list.style ≡ style
             → CoderBetween w (pixels_of N «data».now) table.old self.old (take at out.old)
             → CoderBetween w (pixels_of N (drop (N * result.1) «data».now)) table.new self.new
             (take result.0 out.new) }
@@ -415,7 +416,7 @@ impl Coder {
         requires opaque { N ≡ 3 → self.old.last.a ≡ 255 }
         requires room { piece.old.end < PIECE }
         ensures end { piece.new.end < PIECE + 32 }
-        ensures given { (w : Writing) → w.style ≡ style
+        ensures given { (w : Writing) → w.list.style ≡ style
             → CoderBetween w (pixels_of N «data».now) table.old self.old (kept_bytes piece.old)
             → CoderBetween w [] table.new self.new (kept_bytes piece.new) }
     {

@@ -7,8 +7,8 @@ use Rattle.qoi.specs.declared.header.Header.{Header}
 use Rattle.qoi.specs.Qoi.{channels_number, header_of, pixel_count, header_size}
 use Rattle.qoi.specs.DecoderState.{DecoderState}
 use Rattle.qoi.specs.Decoding.{ReadsImage, RefusesBytes, RefusesWholeFile}
-use Rattle.qoi_tool.specs.Transfers.{IsOutside}
 use Rattle.qoi.specs.writers.Writes.{AppendsBeginning}
+use Rattle.qoi_tool.specs.Transfers.{IsOutside}
 use Rattle.qoi_tool.proofs.decode_into.Goals as goal
 
 -- a file is refused for the bytes after its header

@@ -14,8 +14,8 @@ loop-done-preserved g c =
     let sum : done + k + k ≡ done + 2 * k = omega arith in (
       room.more,
       λ n past h. let once =
-          filled_copies _ _ n k out c.write_block.new.out c.args.at done c.args.px past c.requires.channels room.first.inside room.first.fits
-          c.write_block.auto.out c.write_block.ensures (c.loop-done.invariant.1 n past h) in
+          filled_copies _ _ n k out c.write_block.new.out c.args.at done c.args.px past c.requires.channels room.first.inside
+          room.first.fits c.write_block.auto.out c.write_block.ensures (c.loop-done.invariant.1 n past h) in
           subst (λ m. HasFilled g.row.F g.row.N n (upto c.write_block-in-loop-done.new.out (c.args.at + g.row.N * m)) (replicate m c.args.px ++ past)) sum
           (filled_copies _ _ n k c.write_block.new.out _ c.args.at (done + k) c.args.px past c.requires.channels
           (omega (arith, room.second.inside, c.write_block.auto.out))

@@ -73,8 +73,8 @@ returns-in_ok-b2-in-128-to-191-clause-read g c =
       b1 ∷ b2 ∷ [],
       Consumes-trans _ _ _ (b1 ∷ []) (b2 ∷ []) c.in_ok-b1.ensures.read c.in_ok-b2-in-128-to-191.ensures.read,
       gives_taken {old = filling c.args.table.now c.args.last c.args.out.now c.args.at} {new =
-          filling c.give_first-in-128-to-191.new.table c.give_first-in-128-to-191.result.last c.give_first-in-128-to-191.new.out
-          c.give_first-in-128-to-191.result.at} _ _ _
+          filling c.give_first-in-128-to-191.new.table c.give_first-in-128-to-191.result.last
+          c.give_first-in-128-to-191.new.out c.give_first-in-128-to-191.result.at} _ _ _
           (Luma b1 b2, 0 ∷ 0 ∷ 0 ∷ 0 ∷ 0 ∷ 0 ∷ [], (omega arith, omega arith, omega arith), refl, refl) c.give_first-in-128-to-191.ensures.gives,
     )
 

@@ -9,14 +9,16 @@ fulls-requires-clause-opaque g c = λ three. found_keep c.args.cur c.args.prev c
 
 pub returns-clause-words : goal.returns-clause-words
 returns-clause-words g c =
-    numbers_chosen c.args.cur c.args.prev c.steps-steps.result c.diff_steps-for_diff.result c.luma_steps-for_luma.result c.fits-cur.0
-    c.fits-prev.0 c.steps-steps.ensures.lanes c.diff_steps-for_diff.ensures.lanes c.luma_steps-for_luma.ensures.lanes
+    numbers_chosen c.args.cur c.args.prev c.steps-steps.result c.diff_steps-for_diff.result c.luma_steps-for_luma.result
+    c.fits-cur.0 c.fits-prev.0 c.steps-steps.ensures.lanes c.diff_steps-for_diff.ensures.lanes
+    c.luma_steps-for_luma.ensures.lanes
     c.diffs.result c.lumas.result c.fulls.result.0 c.diffs.ensures.lanes c.lumas.ensures.lanes c.fulls.ensures.words
 
 pub returns-clause-counts : goal.returns-clause-counts
 returns-clause-counts g c =
-    counts_chosen c.args.cur c.args.prev c.steps-steps.result c.diff_steps-for_diff.result c.luma_steps-for_luma.result c.fits-cur.0
-    c.fits-prev.0 c.steps-steps.ensures.lanes c.diff_steps-for_diff.ensures.lanes c.luma_steps-for_luma.ensures.lanes
+    counts_chosen c.args.cur c.args.prev c.steps-steps.result c.diff_steps-for_diff.result c.luma_steps-for_luma.result
+    c.fits-cur.0 c.fits-prev.0 c.steps-steps.ensures.lanes c.diff_steps-for_diff.ensures.lanes
+    c.luma_steps-for_luma.ensures.lanes
     c.fulls.result.1 c.fulls.ensures.counts
 
 pub returns-clause-lanes : goal.returns-clause-lanes

@@ -13,7 +13,7 @@ invariant-loop-end g l = record {
   some : PIECE ≤ l.end → length l.rest < length l.data;
   whole : length l.rest % g.row.N ≡ 0;
   opaque : g.row.N ≡ 3 → l.self.last.a ≡ 255;
-  given : (w : Writing) → w.style ≡ l.style → CoderBetween w (pixels_of g.row.N l.data) l.initial.table l.initial.self
+  given : (w : Writing) → w.list.style ≡ l.style → CoderBetween w (pixels_of g.row.N l.data) l.initial.table l.initial.self
       (take l.initial.piece.end l.initial.piece.bytes)
       → CoderBetween w (pixels_of g.row.N l.rest) l.table l.self (take l.end l.piece.bytes);
 }

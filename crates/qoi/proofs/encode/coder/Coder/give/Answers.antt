@@ -50,8 +50,8 @@ returns-clause-given g c w q chunk rest same_style spelled last_is differs b =
     let there = test_there style past p c.at.result i at_place held same c.is_same-placed.ensures in
     let other = λ (n : seen (held_in style past) (hash p) ≢ p).
     c.spelled_or_blank-number.ensures.choice past alpha chunk state.table_is there spelled.chunk spelled.bytes first n in
-    let d = fresh_chosen style past p c.at.result i at_place held same alpha c.spelled_or_blank-number.result.0
-    c.spelled_or_blank-number.result.1 c.is_same-placed.ensures other in
+    let d = fresh_chosen style past p c.at.result i at_place held same alpha
+    c.spelled_or_blank-number.result.0 c.spelled_or_blank-number.result.1 c.is_same-placed.ensures other in
     let fresh : p ≢ c.args.self.now.last = λ e. differs (sym p_is ∙ e ∙ last_is) in
     let number_is = c.pick-number.ensures ∙ ap (λ n. if same then n else c.spelled_or_blank-number.result.0) c.from.ensures in
     let bytes = c.put_chunk.ensures.written ∙ (λ j. take c.args.at c.args.out.now ++ take (c.pick.ensures j) (digits_l 256 4 (number_is j) ++ alpha ∷ []))

@@ -6,7 +6,7 @@ use Rattle.qoi.specs.inner.Quad.{IsRun}
 use Rattle.std.proofs.lemmas.List.{drop-drop}
 use Rattle.qoi.specs.Runs.{IsCount}
 use Rattle.qoi.specs.inner.CoderState.{StateAfter, rest_of_one}
-use Rattle.qoi.specs.inner.CoderLoop.{AtLane, coded}
+use Rattle.qoi.specs.inner.CoderLoop.{in_four, AtLane}
 use Rattle.qoi.specs.inner.Packed.{pixel_of_word}
 use Rattle.qoi.proofs.format.LaneRuns.{all_agree}
 use Rattle.qoi.proofs.encoding.CoderSteps.{runs_given}
@@ -51,7 +51,7 @@ returns-clause-given g c w pixels style_is is start =
     let style = c.args.style in
     let coder = c.args.self.now in
     let one = rest_of_one style coder.begun coder.placed coder.place n in
-    let one_is : one ≡ rest_of_one w.style coder.begun coder.placed coder.place n =
+    let one_is : one ≡ rest_of_one w.list.style coder.begun coder.placed coder.place n =
     ap (λ s. rest_of_one s coder.begun coder.placed coder.place n) (sym style_is) in
     let held = c.repeat.ensures.state b.past (subst (λ s. StateAfter s b.past c.args.table.now last) style_is b.state) in
     let runs_done = runs_given b n (p ∷ more) one {next_table = c.repeat.new.table} {next_coder = c.repeat.new.self} split (inl other)
@@ -67,5 +67,5 @@ returns-clause-given g c w pixels style_is is start =
     let s = is.spelled k short in
     let done = c.give-end.ensures.given w q s.0 more style_is s.1 still differs runs_done in
     let next : suc k ≡ lane + n + 1 = omega arith in
-    subst (λ j. AtLane w c.args.quad.now pixels j (coded c.give-end.new.table c.give-end.new.self (take c.give-end.result c.give-end.new.out))) next
+    subst (λ j. AtLane (in_four w c.args.quad.now pixels) j c.give-end.new.table c.give-end.new.self (take c.give-end.result c.give-end.new.out)) next
     (lane_after is k short c.give-end.ensures.last done)

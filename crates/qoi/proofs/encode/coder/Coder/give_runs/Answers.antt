@@ -48,7 +48,7 @@ returns-clause-given g c w style_is b =
     let ends : (slice_get rest 0 ≢ Some coder.last) ⊎ (n % 62 ≡ 0) =
     elim group.ends as (λ _. (slice_get rest 0 ≢ Some coder.last) ⊎ (n % 62 ≡ 0)) [ inl other ↦ inl other | inr e ↦ inr (full e) ] in
     let one : (one : Chunk) × (bytes_of one ≡ c.if-is_empty.one ∷ [])
-    × (((rest ≡ []) × (one ≡ Run 1)) ⊎ ((rest ≢ []) × (one ≡ rest_of_one w.style coder.begun coder.placed coder.place n)))
+    × (((rest ≡ []) × (one ≡ Run 1)) ⊎ ((rest ≢ []) × (one ≡ rest_of_one w.list.style coder.begun coder.placed coder.place n)))
     = elim c.if-is_empty.branch [
       | then-is_empty x ↦ (
         Run 1,
@@ -61,7 +61,7 @@ returns-clause-given g c w style_is b =
         ),
       )
       | else-is_empty x ↦ (
-        rest_of_one w.style coder.begun coder.placed coder.place n,
+        rest_of_one w.list.style coder.begun coder.placed coder.place n,
         ap (λ s. bytes_of (rest_of_one s coder.begun coder.placed coder.place n)) style_is ∙ x.rest_of_one-one.ensures
             ∙ ap (λ z. z ∷ []) (sym x.one-is),
         inr (
