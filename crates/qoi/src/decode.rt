@@ -3,7 +3,7 @@ ghost use Rattle.std.specs.Prelude.{◌≡◌, ℕ, ◌*◌, ◌<◌, ◌≤◌,
 ghost use Rattle.qoi.specs.declared.chunk.Chunk.{Chunk};
 ghost use Rattle.qoi.specs.declared.header.Header.{Header};
 ghost use Rattle.qoi.specs.declared.error.Error.{Error};
-ghost use Rattle.qoi.specs.Qoi.{header_of, pixel_count, raw_byte_count, IsFile, file, header_size};
+ghost use Rattle.qoi.specs.Qoi.{header_of, pixel_count, raw_byte_count, IsFile, file, header_size, run_max};
 ghost use Rattle.qoi.specs.Verdicts.{IsWhole};
 ghost use Rattle.qoi.specs.Decoding.{AreWrong, CouldHold, HasCut, least_byte_count, RefusesFile, RefusesStreamHeader, TakesHeader, RefusesWholeFile, DecodesFile, file_byte_count, HasImageLength};
 ghost use Rattle.qoi.specs.declared.types.Style.{Style};
@@ -93,8 +93,8 @@ pub fn decode_to_vec(alloc: Global, data: &[u8]) -> Result<(Header, Vec<u8>)>
         ⊎ ((e ≡ Error.OutOfMemory) × (h : Header) × (header_of «data».now ≡ Ok h)
         × (least_byte_count (pixel_count h) ≤ length (drop header_size «data».now)))) }
     // So the vector has at most 62 pixels for each byte of the slice.
-    ensures held { IfOk result (λ x. (pixel_count x.0 ≤ 62 * length «data».now)
-        × (length x.1.items ≤ 248 * length «data».now)) }
+    ensures held { IfOk result (λ x. (pixel_count x.0 ≤ run_max * length «data».now)
+        × (length x.1.items ≤ 4 * run_max * length «data».now)) }
     // Files are accepted, whatever follows them, unless memory runs out.
     ensures accepts { (h : Header) (cs : List Chunk) (rest : List ℕ) → IsFile h cs
         → «data».now ≡ file h cs ++ rest

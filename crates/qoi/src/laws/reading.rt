@@ -5,7 +5,7 @@ ghost use Rattle.qoi.specs.declared.header.Header.{Header};
 ghost use Rattle.qoi.specs.declared.types.Channels.{Channels};
 ghost use Rattle.qoi.specs.declared.types.ColorSpace.{ColorSpace};
 ghost use Rattle.qoi.specs.declared.chunk.Chunk.{Chunk};
-ghost use Rattle.qoi.specs.Qoi.{AreBytes, IsChunk, AreChunks, bytes_of, chunk_bytes, IsFile, file, file_pixels, head, pixel_count, IsValid, header_of, pixel, hash, Reaches, StayBelow, meaning};
+ghost use Rattle.qoi.specs.Qoi.{AreBytes, IsChunk, AreChunks, bytes_of, chunk_bytes, IsFile, file, file_pixels, head, pixel_count, IsValid, header_of, pixel, hash, Reaches, StayBelow, meaning, header_size};
 ghost use Rattle.qoi.specs.Raw.{output};
 ghost use Rattle.qoi.specs.Verdicts.{IsPartOfChunk, IsWhole, IsCut, IsWrong};
 
@@ -45,10 +45,10 @@ pub fn verdict_is_some()
 /// A valid header's fourteen bytes are read as it, whatever follows them; and bytes that are read as a
 /// header are its own, and it is valid.
 pub fn header_both_ways()
-    ensures size { (h : Header) → length (head h) ≡ 14 }
+    ensures size { (h : Header) → length (head h) ≡ header_size }
     ensures read { (h : Header) (rest : List ℕ) → IsValid h → header_of (head h ++ rest) ≡ Ok h }
     ensures only { (bytes : List ℕ) (h : Header) → AreBytes bytes → header_of bytes ≡ Ok h
-        → (bytes ≡ head h ++ drop 14 bytes) × IsValid h }
+        → (bytes ≡ head h ++ drop header_size bytes) × IsValid h }
 {}
 
 /// No file begins another: the same bytes are one file and what follows it.
@@ -62,10 +62,10 @@ pub fn no_file_begins_another()
 pub fn files_are_read()
     ensures read { (h : Header) (cs : List Chunk) (bytes rest : List ℕ) → IsFile h cs
         → bytes ≡ file h cs ++ rest
-        → (header_of bytes ≡ Ok h) × IsWhole (pixel_count h) (drop 14 bytes) cs rest }
+        → (header_of bytes ≡ Ok h) × IsWhole (pixel_count h) (drop header_size bytes) cs rest }
     ensures only { (h : Header) (cs : List Chunk) (bytes rest : List ℕ) → AreBytes bytes
         → header_of bytes ≡ Ok h
-        → IsWhole (pixel_count h) (drop 14 bytes) cs rest → IsFile h cs
+        → IsWhole (pixel_count h) (drop header_size bytes) cs rest → IsFile h cs
         × (bytes ≡ file h cs ++ rest) }
 {}
 
