@@ -13,14 +13,14 @@ use Rattle.qoi.specs.Verdicts.{IsPartOfChunk, HasChunks, IsWhole, IsCut, IsWrong
 abbrev pub EndsInChunk : ℕ → List ℕ → Type 0
 EndsInChunk n bytes = (cs : List Chunk) × (part : List ℕ) × HasChunks n bytes cs part × (length (meaning cs) < n) × IsPartOfChunk part
 
--- chunks that reach n pixels stand before the rest, and these are their first n pixels' bytes
+-- chunks that reach n pixels stand before the rest, and `out` are the bytes of their first n pixels
 pub record ReadsPixels (file_channels channels n : ℕ) (bytes rest out : List ℕ) : Type 0 where
   pub cs : List Chunk
   pub has : HasChunks n bytes cs rest
   pub reaches : Reaches n cs
   pub out_is : out ≡ output file_channels channels (take n (meaning cs))
 
--- chunks that reach n pixels were taken, and these are their first n pixels' bytes
+-- chunks that reach n pixels were taken, and `out` are the bytes of their first n pixels
 pub record StreamsPixels (file_channels channels n : ℕ) (old new : Option (List ℕ)) (out : List ℕ) : Type 0 where
   pub cs : List Chunk
   pub chunks : AreChunks cs
@@ -28,7 +28,7 @@ pub record StreamsPixels (file_channels channels n : ℕ) (old new : Option (Lis
   pub taken : Consumes old new (chunk_bytes cs)
   pub out_is : out ≡ output file_channels channels (take n (meaning cs))
 
--- Chunks that reach n pixels and the end marker were taken, and these are their first n pixels' bytes.
+-- Chunks that reach n pixels and the end marker were taken, and `out` are the bytes of their first n pixels.
 pub record ReadsImage (file_channels channels n : ℕ) (old new : Option (List ℕ)) (out : List ℕ) : Type 0 where
   pub cs : List Chunk
   pub chunks : AreChunks cs
@@ -46,11 +46,11 @@ RefusesMarker bytes _ = ⊥
 abbrev pub HasCut : ℕ → List ℕ → Type 0
 HasCut n bytes = (cs : List Chunk) × (part : List ℕ) × IsCut n bytes cs part
 
--- the bytes have other eight bytes than the end marker
+-- the bytes are wrong, and the rest follows the eight bytes
 abbrev pub HasWrong : ℕ → List ℕ → List ℕ → Type 0
 HasWrong n bytes rest = (cs : List Chunk) × (eight : List ℕ) × IsWrong n bytes cs eight rest
 
--- the bytes have such eight bytes, whatever follows them
+-- the bytes are wrong
 abbrev pub AreWrong : ℕ → List ℕ → Type 0
 AreWrong n bytes = (rest : List ℕ) × HasWrong n bytes rest
 
@@ -77,7 +77,7 @@ RefusesTakenMarker taken _ = ⊥
 abbrev pub least_byte_count : ℕ → ℕ
 least_byte_count n = (n + 61) / run_max + 8
 
--- the bytes that stand ahead are enough for n pixels, or may be: nobody knows what a stream has ahead
+-- in memory the bytes ahead are enough for n pixels; of a stream it always holds, since nobody knows what it has ahead
 abbrev pub CouldHold : Bool → ℕ → Option (List ℕ) → Type 0
 CouldHold true n (Some bytes) = least_byte_count n ≤ length bytes
 CouldHold in_memory n ahead = Unit {0}
@@ -105,7 +105,7 @@ ReadsHeader false old new (Err e) = (taken : List ℕ) × Consumes old new taken
 abbrev pub TakesHeader : Option (List ℕ) → Option (List ℕ) → Header → Type 0
 TakesHeader old new h = ReadsHeader false old new (Ok h)
 
--- why a stream's header is refused, whatever was taken
+-- why a stream's header is refused, for some bytes that were taken
 abbrev pub RefusesStreamHeader : Option (List ℕ) → Error → Type 0
 RefusesStreamHeader old e = (new : Option (List ℕ)) × ReadsHeader false old new (Err e)
 

@@ -38,7 +38,7 @@ abbrev pub with_number : Header → Result Channels Error → Result Header Erro
 with_number h (Err e) = Err e
 with_number h (Ok channels) = Ok (record h { channels = channels })
 
--- the channels of raw bytes, or the refusal of their number
+-- the header with the channels that the raw bytes have, or its first refusal
 abbrev pub measured : List ℕ → Result Header Error → Result Header Error
 measured raw (Err e) = Err e
 measured raw (Ok h) =
@@ -46,7 +46,7 @@ measured raw (Ok h) =
     else Err (InvalidImageLength (length raw) h.width h.height)
 
 -- The header of an image of raw bytes, or the first refusal: the dimensions, the length, the number of channels,
--- which is cut at 255.
+-- which is 255 at most.
 abbrev pub image_header : List ℕ → ℕ → ℕ → Result Header Error
 image_header raw width height = measured raw (tried_header width height Rgb Srgb)
 
@@ -60,8 +60,9 @@ pub record IsEncoded (Lists : List RgbaPixel → List Chunk → Type 0) (h : Hea
   pub written : Lists (image_pixels h raw) cs
   pub bytes_are : bytes ≡ file h cs
 
--- The file of the image, whatever lists are written: a valid header and as many raw bytes as it says; there is one
--- file, it fits, it comes back whatever follows it, and no two neighbours of its list name one index position.
+-- The file of the image, where `Lists` says which lists are written for an image: a valid header and as many raw bytes
+-- as it says; there is one file, it fits, it comes back whatever follows it, and no two neighbours of its list name one
+-- index position.
 pub record IsFileBy (Lists : List RgbaPixel → List Chunk → Type 0) (h : Header) (raw bytes : List ℕ) : Type 0 where
   pub valid : IsValid h
   pub size : length raw ≡ file_byte_count h

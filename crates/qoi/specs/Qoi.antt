@@ -61,7 +61,7 @@ head h = magic_bytes ++ to_be_bytes w32 h.width ++ to_be_bytes w32 h.height ++ c
 abbrev pub pixel_count : Header → ℕ
 pixel_count h = h.width * h.height
 
--- the raw bytes of an image, or the greatest usize if that is less
+-- how many raw bytes an image has, or the greatest usize if that is less
 abbrev pub raw_byte_count : Header → ℕ
 raw_byte_count h = min (pixel_count h * channels_number h.channels) (2 ^ 64 - 1)
 
@@ -84,14 +84,14 @@ tried_header width height channels colorspace =
 abbrev pub number_at : List ℕ → ℕ → ℕ
 number_at bytes i = from_be_bytes w32 (take 4 (drop i bytes))
 
--- the magic, and then the dimensions
+-- the header with these channels and color space, or the refusal of the magic or the dimensions
 abbrev pub checked_header : List ℕ → Channels → ColorSpace → Result Header Error
 checked_header bytes channels colorspace =
     if number_at bytes 0 == magic_number
     then tried_header (number_at bytes 4) (number_at bytes 8) channels colorspace
     else Err (InvalidMagic (number_at bytes 0))
 
--- the color space, and then the rest
+-- the header with these channels, or the first refusal from the channels on
 abbrev pub with_channels_read : List ℕ → Result Channels Error → Result Header Error
 with_channels_read bytes (Err e) = Err e
 with_channels_read bytes (Ok channels) = with_colorspace_read channels (colorspace_of (slice_index bytes 13))
@@ -172,9 +172,11 @@ seen (p ∷ past) i = if hash p == i then p else seen past i
 abbrev pub diff_tag : ℕ
 diff_tag = 0x40
 
+-- a luma's
 abbrev pub luma_tag : ℕ
 luma_tag = 0x80
 
+-- a run's
 abbrev pub run_tag : ℕ
 run_tag = 0xc0
 
@@ -192,7 +194,7 @@ IsChunk (Run n) = (0 < n) × (n ≤ run_max)
 IsChunk (Rgb r g b) = (r < 256) × (g < 256) × (b < 256)
 IsChunk (Rgba r g b a) = (r < 256) × (g < 256) × (b < 256) × (a < 256)
 
--- so it is of each chunk of a list
+-- each chunk of the list has such numbers
 abbrev pub AreChunks : List Chunk → Type 0
 AreChunks cs = AllByRecursion IsChunk cs
 
@@ -287,6 +289,6 @@ pub record IsFile (h : Header) (cs : List Chunk) : Type 0 where
   pub chunks : AreChunks cs
   pub reaches : Reaches (pixel_count h) cs
 
--- the file's pixels; what a last run gives past them is cut
+-- the file's pixels; what a last run gives past them is dropped
 abbrev pub file_pixels : Header → List Chunk → List RgbaPixel
 file_pixels h cs = take (pixel_count h) (meaning cs)

@@ -17,8 +17,8 @@ pub record IsImage (channels : Channels) (bytes : List ℕ) (h : Header) (rest o
   pub whole : IsWhole (pixel_count h) bytes cs rest
   pub out_is : out ≡ output (channels_number h.channels) (channels_number channels) (take (pixel_count h) (meaning cs))
 
--- An image of these raw bytes stands at the front of the bytes. The word is no abbreviation, so that a search passes it
--- on as it stands; nor are those below.
+-- The bytes begin with the image of this header, whose bytes in these channels are `out`. It is no abbreviation, so that a
+-- search passes it on whole; nor are IsImageFor and IsDecoderOf.
 unfoldable pub HasImage : Channels → List ℕ → Header → List ℕ → Type 0
 HasImage channels bytes h out = (rest : List ℕ) × IsImage channels bytes h rest out
 
@@ -36,12 +36,12 @@ IsImageFor d bytes raw rest = IsImage d.channels bytes d.header rest raw
 unfoldable pub IsDecoderOf : {R : Type 0} → DecoderState R → List ℕ → List ℕ → Type 0
 IsDecoderOf d bytes ahead = (bytes ≡ head d.header ++ ahead) × IsValid d.header × (d.channels ≡ d.header.channels)
 
--- what refuses cut bytes: from memory their end, and an i/o error from a stream
+-- the error of cut bytes: UnexpectedBufferEnd in memory, and an i/o error from a stream
 abbrev pub IsForCut : Bool → Error → Type 0
 IsForCut true e = e ≡ UnexpectedBufferEnd
 IsForCut false e = IsIoError e
 
--- what refuses wrong bytes: their padding, and from a stream that, or an i/o error
+-- the error of wrong bytes: InvalidPadding, and from a stream that, or an i/o error
 abbrev pub IsForWrong : Bool → Error → Type 0
 IsForWrong true e = e ≡ InvalidPadding
 IsForWrong false e = (e ≡ InvalidPadding) ⊎ IsIoError e

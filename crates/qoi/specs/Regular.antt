@@ -11,7 +11,7 @@ abbrev pub NamesWritten : Past → Chunk → Type 0
 NamesWritten past (Place i) = hash (seen past i) ≡ i
 NamesWritten past _ = Unit {0}
 
--- so it is throughout the list
+-- each chunk of the list names so
 abbrev pub Regular : List Chunk → Type 0
 Regular cs = Each NamesWritten [] cs
 

@@ -21,7 +21,7 @@ some_luma q p = some_below 64 (λ d. some_below 256 (λ e. pixel_eq (after_luma 
 unfoldable pub some_rgb : RgbaPixel → RgbaPixel → Bool
 some_rgb q p = p.a == q.a
 
--- the bytes of the shortest chunk that gives the fresh pixel p, where a chunk list is regular
+-- how many bytes the shortest chunk has that gives the fresh pixel p, where a chunk list is regular
 unfoldable pub least : Past → RgbaPixel → ℕ
 least past p =
     if pixel_eq (seen past (hash p)) p || some_diff (previous past) p then 1

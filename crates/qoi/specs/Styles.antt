@@ -37,12 +37,12 @@ names _ _ = false
 abbrev pub is_placed : Past → Option Chunk → ℕ → List Chunk → Bool
 is_placed past before n cs = n == 1 && fresh_next cs && some_fresh past && not (names before (hash (previous past)))
 
--- such a run's chunk, and each other chunk as it is
+-- what Places writes for a chunk: the index position for such a run, else the chunk
 abbrev pub place_for : Past → Option Chunk → Chunk → List Chunk → Chunk
 place_for past before (Run n) cs = if is_placed past before n cs then Place (hash (previous past)) else Run n
 place_for past before c cs = c
 
--- so it is for each chunk of a list, after these pixels and after the chunk before it, if there is one
+-- place_for of each chunk of a list, after these pixels and after the chunk before it, if there is one
 abbrev pub placed_after : Past → Option Chunk → List Chunk → List Chunk
 placed_after past before [] = []
 placed_after past before (c ∷ cs) = place_for past before c cs ∷ placed_after (then_chunk past c) (Some c) cs
@@ -53,7 +53,7 @@ choice_in Reference = IsChoice
 choice_in Places = IsChoice
 choice_in Tight = IsTightChoice
 
--- the list of these choices, as a style has it
+-- what a style makes of the list of its choices
 abbrev pub in_style : Style → List Chunk → List Chunk
 in_style Reference cs = cs
 in_style Places cs = placed_after [] None cs

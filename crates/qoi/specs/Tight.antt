@@ -28,7 +28,7 @@ pub record IsTightChoice (past : Past) (p : RgbaPixel) (c : Chunk) : Type 0 wher
   pub unseen : seen past (hash p) ≢ p → p ≡ blank → MatchOption (least_unseen past) (IsFirst past p c) (λ i. c ≡ Place i)
   pub spelled : seen past (hash p) ≢ p → p ≢ blank → IsFirst past p c
 
--- the bytes of the shortest chunk that gives the fresh pixel p, where any index position may be named
+-- how many bytes the shortest chunk has that gives the fresh pixel p, where any index position may be named
 unfoldable pub least0 : Past → RgbaPixel → ℕ
 least0 past p = if pixel_eq p blank && is_some (least_unseen past) then 1 else least past p
 

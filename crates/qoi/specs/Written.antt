@@ -33,12 +33,12 @@ pub record IsChoice (past : Past) (p : RgbaPixel) (c : Chunk) : Type 0 where
   pub place : noted past (hash p) ≡ p → c ≡ Place (hash p)
   pub spelled : noted past (hash p) ≢ p → IsFirst past p c
 
--- a chunk other than a run gives a fresh pixel, by the choice; so each repeat is given by a run
+-- the chunk gives a fresh pixel, and is one that `Choice` allows for it
 pub record GivesFresh (Choice : Past → RgbaPixel → Chunk → Type 0) (past : Past) (c : Chunk) : Type 0 where
   pub is_fresh : pixel_of past c ≢ previous past
   pub is_chosen : Choice past (pixel_of past c) c
 
--- runs are free, and each other chunk gives a fresh pixel, by the choice
+-- a run may stand anywhere, and each other chunk gives a fresh pixel by the choice; so each repeat is given by a run
 abbrev pub IsRightAfter : (Past → RgbaPixel → Chunk → Type 0) → Past → Chunk → Type 0
 IsRightAfter Choice past (Run n) = Unit {0}
 IsRightAfter Choice past c = GivesFresh Choice past c
@@ -48,7 +48,7 @@ abbrev pub IsFull : Chunk → List Chunk → Type 0
 IsFull (Run m) (Run n ∷ cs) = m ≡ run_max
 IsFull _ _ = Unit {0}
 
--- so it is throughout the list
+-- each run of the list that stands directly before a run has length 62
 abbrev pub RunsAreFull : List Chunk → Type 0
 RunsAreFull [] = Unit {0}
 RunsAreFull (c ∷ cs) = IsFull c cs × RunsAreFull cs

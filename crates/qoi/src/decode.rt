@@ -67,7 +67,7 @@ pub fn decode_to_buf(buf: &mut [u8], data: &[u8]) -> Result<Header>
         → IsFileOf style h raw bytes → «data».now ≡ bytes ++ rest
         → length raw ≤ length buf.old → (result ≡ Ok h) × (take (length raw) buf.new ≡ raw) }
     ensures room { IfOk result (λ h. raw_byte_count h ≤ length buf.old) }
-    // Behind a header cut bytes are refused for their end, and wrong ones for their padding.
+    // After a valid header cut bytes give `UnexpectedBufferEnd`, and wrong ones `InvalidPadding`.
     ensures cut { (h : Header) → header_of «data».now ≡ Ok h
         → HasCut (pixel_count h) (drop header_size «data».now)
         → file_byte_count h ≤ length buf.old → result ≡ Err Error.UnexpectedBufferEnd }
@@ -109,7 +109,7 @@ pub fn decode_to_vec(alloc: Global, data: &[u8]) -> Result<(Header, Vec<u8>)>
     ensures followed { (style : Style) (h : Header) (raw bytes rest : List ℕ)
         → IsFileOf style h raw bytes → «data».now ≡ bytes ++ rest
         → MatchResult result (λ x. (x.0 ≡ h) × (x.1.items ≡ raw)) (λ e. e ≡ Error.OutOfMemory) }
-    // Behind a header cut bytes are refused for their end, and wrong ones for their padding, unless
+    // After a valid header cut bytes give `UnexpectedBufferEnd`, and wrong ones `InvalidPadding`, unless
     // memory runs out.
     ensures cut { (h : Header) → header_of «data».now ≡ Ok h
         → HasCut (pixel_count h) (drop header_size «data».now)
@@ -157,8 +157,8 @@ impl<'a> Decoder<Bytes<'a>> {
     pub fn new(data: &'a [u8]) -> Result<Decoder<Bytes<'a>>>
         ensures accepted { IfOk result (λ d. (header_of «data».entry.now ≡ Ok d.header)
             × (d.channels ≡ d.header.channels) × (d.reader ≡ drop header_size «data».entry.now)) }
-        // Of the file of an image, in each style, the decoder has the header, and the image stands
-        // ahead; so it does where other bytes follow the file.
+        // Of the file of an image, in each style and with any bytes after it, the decoder has the header,
+        // and the bytes after the header are the image, and then the rest.
         ensures comes_back { (h : Header) (raw : List ℕ)
             → IsFileOf Style.Reference h raw «data».entry.now
             → IsOkAnd result (λ d. (d.header ≡ h)
@@ -207,14 +207,14 @@ impl<R: Read + Drop> Decoder<R> {
         ensures accepted { IfOk result (λ d. TakesHeader (R.remaining reader)
             (R.remaining d.reader) d.header
             × (d.channels ≡ d.header.channels)) }
-        // Where the bytes are known that stand ahead of the reader, the header is theirs, and the
-        // decoder stands behind it.
+        // Where the bytes ahead of the reader are known, the header is theirs, and what follows it is left.
+        // (`R.ahead`, of which the methods speak, is `R.remaining` of a stream.)
         ensures read { (bytes : List ℕ) → R.remaining reader ≡ Some bytes
             → IfOk result (λ d. header_of bytes ≡ Ok d.header) }
         ensures behind { (bytes : List ℕ) → R.remaining reader ≡ Some bytes
             → IfOk result (λ d. R.remaining d.reader ≡ Some (drop header_size bytes)) }
-        // Where they are the file of an image, in each style, the image stands ahead; so it does where
-        // other bytes follow the file.
+        // Where they are the file of an image, in each style and with any bytes after it, the bytes after
+        // the header are the image, and then the rest.
         ensures comes_back { (h : Header) (raw bytes : List ℕ)
             → IsFileOf Style.Reference h raw bytes → R.remaining reader ≡ Some bytes
             → IfOk result (λ d. (d.header ≡ h) × IsImageFor d (drop header_size bytes) raw []) }
@@ -314,9 +314,9 @@ impl<R: Reader> Decoder<R> {
     /// Refusals, in this order: `OutputBufferTooSmall` where the buffer is shorter than
     /// `required_buf_len`, and then nothing was read or written; `UnexpectedBufferEnd` where the
     /// bytes end before the image does or within the eight bytes after the chunks; `InvalidPadding`
-    /// where those eight bytes aren't the end marker. A run that gives more pixels than are left is
-    /// cut (QOI specification 1.0, "File Format" and "Data"). From a stream an early end is `IoError`
-    /// in place of `UnexpectedBufferEnd`, and so is a fault of the reader.
+    /// where those eight bytes aren't the end marker (QOI specification 1.0, "File Format" and "Data").
+    /// From a stream an early end is `IoError` instead of `UnexpectedBufferEnd`, and so is a fault of
+    /// the reader. A run that gives more pixels than are left is no refusal: the others are dropped.
     ///
     /// After a refusal the header and the channels are as before. So are the bytes ahead in a slice;
     /// a reader stands behind the bytes that were read. The first `required_buf_len` bytes of the
@@ -328,6 +328,8 @@ impl<R: Reader> Decoder<R> {
             × (self.new ≡ self.old) × (buf.new ≡ buf.old) }
         ensures decoded { IfOk result (λ size. (size ≡ image_byte_count self.old)
             × DecodesImage R.ahead self.old self.new (take size buf.new)) }
+        // In memory nothing is taken, and the bytes ahead are cut or wrong; of a stream those that were
+        // taken are.
         ensures refused { image_byte_count self.old ≤ length buf.old
             → IfErr result (RefusesDecoding R.in_memory R.ahead self.old self.new) }
         // From memory, bytes whose verdict is whole are accepted.
@@ -355,13 +357,14 @@ impl<R: Reader> Decoder<R> {
             → HasImage channels bytes h raw → channels ≡ self.old.channels
             → h ≡ self.old.header → R.ahead self.old.reader ≡ Some bytes
             → IfOk result (λ size. take size buf.new ≡ raw) }
-        // Of a decoder of these bytes, in the file's own channels, it is a file at their front.
+        // Where the decoder was made from these bytes and has the file's own channels, a file stands at their
+        // front, and this is its image.
         ensures file { (bytes ahead : List ℕ) → IsDecoderOf self.old bytes ahead
             → R.ahead self.old.reader ≡ Some ahead
             → IfOk result (λ size. (rest : List ℕ) × (R.ahead self.new.reader ≡ Some rest)
             × DecodesFile bytes self.old.header rest (take size buf.new)) }
-        // In three channels it is what four are without each fourth byte; and where the file has
-        // three, each fourth byte of four is 255.
+        // The output in three channels is that in four without each fourth byte; of a file of three
+        // channels each fourth byte of the output in four is 255.
         ensures rgb { (channels : Channels) (h : Header) (bytes four : List ℕ)
             → HasImage channels bytes h four → channels ≡ Channels.Rgba
             → self.old.channels ≡ Channels.Rgb → h ≡ self.old.header
@@ -370,8 +373,8 @@ impl<R: Reader> Decoder<R> {
         ensures opaque { self.old.channels ≡ Channels.Rgba → self.old.header.channels ≡ Channels.Rgb
             → IfOk result (λ size. (i : ℕ) → i < pixel_count self.old.header
             → slice_index (take size buf.new) (4 * i + 3) ≡ 255) }
-        // Cut bytes and wrong ones are refused; and only those are refused for their end and their
-        // padding.
+        // Cut bytes and wrong ones are refused; `UnexpectedBufferEnd` means that they were cut, and
+        // `InvalidPadding` that they were wrong.
         ensures cut { (bytes : List ℕ) → R.ahead self.old.reader ≡ Some bytes
             → HasCut (pixel_count self.old.header) bytes
             → image_byte_count self.old ≤ length buf.old
@@ -389,7 +392,7 @@ impl<R: Reader> Decoder<R> {
         ensures later { drop (image_byte_count self.old) buf.new
             ≡ drop (image_byte_count self.old) buf.old }
         ensures unchanged { self.new ≡ record self.old { reader = self.new.reader } }
-        // Of n pixels a call takes at most 5n + 8 bytes, also where it refuses.
+        // For an image of n pixels a call takes at most 5n + 8 bytes, also where it refuses.
         ensures bounded { TakesWithin R.ahead self.old self.new }
     {
         let size = self.required_buf_len();
@@ -449,13 +452,14 @@ impl<R: Reader> Decoder<R> {
             → HasImage channels bytes h raw → channels ≡ self.old.channels
             → h ≡ self.old.header → R.ahead self.old.reader ≡ Some bytes
             → IfOk result (λ out. out.items ≡ raw) }
-        // Of a decoder of these bytes, in the file's own channels, it is a file at their front.
+        // Where the decoder was made from these bytes and has the file's own channels, a file stands at their
+        // front, and this is its image.
         ensures file { (bytes ahead : List ℕ) → IsDecoderOf self.old bytes ahead
             → R.ahead self.old.reader ≡ Some ahead
             → IfOk result (λ out. (rest : List ℕ) × (R.ahead self.new.reader ≡ Some rest)
             × DecodesFile bytes self.old.header rest out.items) }
-        // In three channels it is what four are without each fourth byte; and where the file has
-        // three, each fourth byte of four is 255.
+        // The output in three channels is that in four without each fourth byte; of a file of three
+        // channels each fourth byte of the output in four is 255.
         ensures rgb { (channels : Channels) (h : Header) (bytes four : List ℕ)
             → HasImage channels bytes h four → channels ≡ Channels.Rgba
             → self.old.channels ≡ Channels.Rgb → h ≡ self.old.header
@@ -464,8 +468,8 @@ impl<R: Reader> Decoder<R> {
         ensures opaque { self.old.channels ≡ Channels.Rgba → self.old.header.channels ≡ Channels.Rgb
             → IfOk result (λ out. (i : ℕ) → i < pixel_count self.old.header
             → slice_index out.items (4 * i + 3) ≡ 255) }
-        // Cut bytes and wrong ones are refused; and only those are refused for their end and their
-        // padding.
+        // Cut bytes and wrong ones are refused; `UnexpectedBufferEnd` means that they were cut, and
+        // `InvalidPadding` that they were wrong.
         ensures cut { (bytes : List ℕ) → R.ahead self.old.reader ≡ Some bytes
             → HasCut (pixel_count self.old.header) bytes
             → IsErrAnd result (λ e. (e ≡ Error.OutOfMemory) ⊎ IsForCut R.in_memory e) }
@@ -479,7 +483,7 @@ impl<R: Reader> Decoder<R> {
             → IsErrOf result Error.InvalidPadding
             → AreWrong (pixel_count self.old.header) bytes }
         ensures unchanged { self.new ≡ record self.old { reader = self.new.reader } }
-        // Of n pixels a call takes at most 5n + 8 bytes, also where it refuses.
+        // For an image of n pixels a call takes at most 5n + 8 bytes, also where it refuses.
         ensures bounded { TakesWithin R.ahead self.old self.new }
     {
         if !self.reader.could_hold(self.header.n_pixels()) {

@@ -133,7 +133,7 @@ impl<'a> Encoder<'a> {
     ///
     /// Refusals, in this order: `InvalidImageDimensions` where width times height is 0 or above
     /// 400,000,000; `InvalidImageLength` where the bytes aren't the same number for each pixel;
-    /// `InvalidChannels` where that number, cut at 255, isn't 3 or 4.
+    /// `InvalidChannels` where that number isn't 3 or 4, with the number, or 255 if it is greater.
     pub fn new(data: &'a [u8], width: u32, height: u32) -> Result<Encoder<'a>>
         ensures accepted { IfOk result (λ e.
             (image_header «data».entry.now width height ≡ Ok e.header)

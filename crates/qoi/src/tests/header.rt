@@ -1,8 +1,8 @@
 //! Headers that are read, made and refused, and lengths.
 use crate::tests::support::{CUT, assert_header, assert_number, assert_refused};
 use crate::{
-    Channels, ColorSpace, Encoder, Error, Header, Result, decode_header, encode_max_len,
-    encode_to_buf, encode_to_vec,
+    Channels, ColorSpace, Encoder, Header, Result, decode_header, encode_max_len, encode_to_buf,
+    encode_to_vec,
 };
 use std::alloc::Global;
 use std::process::Abort;
@@ -72,9 +72,12 @@ fn header_refusals(rt: HostRuntime) -> Result<()> {
     for unfit in &UNFIT {
         unfit.check(&rt, rt.alloc())?;
     }
-    for (width, height) in [(400_000_001, 1), (0, 5), (u32::MAX, u32::MAX)] {
+    for (width, height, text) in [
+        (400_000_001, 1, "invalid image dimensions: 400000001x1"),
+        (0, 5, "invalid image dimensions: 0x5"),
+    ] {
         let made = Header::try_new(width, height, Channels::Rgba, ColorSpace::Linear);
-        assert!(rt; matches!(made, Err(Error::InvalidImageDimensions { .. })));
+        assert_refused(&rt, rt.alloc(), made.err(), text)?;
     }
     Ok(())
 }

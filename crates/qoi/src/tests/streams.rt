@@ -1,6 +1,8 @@
 //! Files that are decoded from a stream, which may end one of its calls badly.
-use crate::tests::support::fakes::{Bad, End, ONE_RGB_PIXEL, PIXEL, Source};
-use crate::tests::support::{assert_bytes, assert_fails, assert_header, assert_number};
+use crate::tests::support::fakes::{Bad, End, NONE, ONE_RGB_PIXEL, PIXEL, Source};
+use crate::tests::support::{
+    assert_bytes, assert_fails, assert_header, assert_number, assert_refused,
+};
 use crate::{Channels, Decoder, Error, Header, Result};
 use std::io::{Cursor, ErrorKind};
 use std::process::Abort;
@@ -29,15 +31,34 @@ fn two_files_in_one_stream(rt: HostRuntime) -> Result<()> {
 fn clones(rt: HostRuntime) -> Result<()> {
     let mut bytes = [0x78; 28];
     bytes[..26].copy_from_slice(&ONE_RGB_PIXEL);
-    let mut decoder = Decoder::from_stream(&bytes[..])?.with_channels(Channels::Rgba);
+    bytes[27] = 0x79;
+    let mut decoder = Decoder::from_stream(&bytes[..])?;
     let mut cloned = decoder.clone()?;
-    let (mut one, mut other) = ([0xaa; 4], [0xaa; 4]);
-    assert_number(&rt, decoder.decode_to_buf(&mut one)?, 4);
-    assert_bytes(&rt, decoder.reader(), &[0x78, 0x78]);
-    assert_number(&rt, cloned.decode_to_buf(&mut other)?, 4);
-    assert_bytes(&rt, cloned.into_reader(), &[0x78, 0x78]);
-    assert_bytes(&rt, &one, &[0x0b, 0x79, 0xe7, 0xff]);
-    assert_bytes(&rt, &other, &one);
+    let (mut one, mut other) = ([0xaa; 3], [0xaa; 3]);
+    assert_number(&rt, decoder.decode_to_buf(&mut one)?, 3);
+    assert_bytes(&rt, decoder.reader(), &[0x78, 0x79]);
+    assert_number(&rt, cloned.decode_to_buf(&mut other)?, 3);
+    assert_bytes(&rt, cloned.into_reader(), &[0x78, 0x79]);
+    assert_bytes(&rt, &one, &PIXEL);
+    assert_bytes(&rt, &other, &PIXEL);
+    Ok(())
+}
+
+// What refuses a header, by a reader that is lent.
+fn header_refusal(reader: &mut Source<'_>) -> Option<Error> {
+    Decoder::from_stream(reader).err()
+}
+
+// A header that is refused takes fourteen bytes.
+#[test]
+fn refused_header(rt: HostRuntime) -> Result<()> {
+    let mut file = ONE_RGB_PIXEL;
+    file[12] = 5;
+    let mut reader = Source::new(&file, 1, NONE);
+    let refusal = header_refusal(&mut reader);
+    assert_refused(&rt, rt.alloc(), refusal, "invalid number of channels: 5")?;
+    assert_number(&rt, reader.calls, 14);
+    assert_bytes(&rt, reader.left, &file[14..]);
     Ok(())
 }
 
