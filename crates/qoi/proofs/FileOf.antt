@@ -13,7 +13,7 @@ use Rattle.qoi.specs.declared.types.Style.{Style}
 use Rattle.qoi.specs.declared.types.Style.TheVariants.{Reference, Places, Tight}
 use Rattle.qoi.specs.Written.{Written}
 use Rattle.qoi.specs.Styles.{WrittenIn}
-use Rattle.qoi.specs.Decoding.{file_byte_count, DecodesFile}
+use Rattle.qoi.specs.Decoding.{image_byte_count, DecodesFile}
 use Rattle.qoi.specs.Encoded.{max_file_len, image_pixels, Spans, IsShortest, IsNearShortest, IsFileBy, IsAsReference, IsShortIn, IsFileOf}
 use Rattle.qoi.proofs.format.Appended.{length-bytes_of}
 use Rattle.qoi.proofs.decoding.FilledBuffer.{take_whole}
@@ -77,7 +77,7 @@ written_lists style = record {
   apart = style_apart style;
 }
 
-module _ (h : Header) (raw : List ℕ) (valid : IsValid h) (size : length raw ≡ file_byte_count h) where
+module _ (h : Header) (raw : List ℕ) (valid : IsValid h) (size : length raw ≡ image_byte_count h) where
   channels : IsChannels (channels_number h.channels)
   channels = channels_are h.channels (channels_number h.channels) refl
 
@@ -188,7 +188,7 @@ module _ (h : Header) (raw : List ℕ) (valid : IsValid h) (size : length raw �
   file_of style cs w = record {
     is_file = file_by (WrittenIn style) (written_lists style) cs w;
     near_shortest = near style cs w;
-    short = short_in style cs w;
+    shortness = short_in style cs w;
   }
 
 -- A file of which all went to a writer but the bytes that are kept.

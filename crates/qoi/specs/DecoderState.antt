@@ -4,7 +4,7 @@ use Rattle.std.specs.Io.KnownBytes.{Consumes}
 use Rattle.qoi.specs.declared.error.Error.{Error}
 use Rattle.qoi.specs.declared.types.Channels.{Channels}
 use Rattle.qoi.specs.declared.header.Header.{Header}
-use Rattle.qoi.specs.Qoi.{channels_number, pixel_count}
+use Rattle.qoi.specs.Qoi.{channels_number, pixel_count, marker_size}
 use Rattle.qoi.specs.Decoding.{byte_count, ReadsImage, RefusesImage}
 
 -- the reader as it stands, the header of the file, and the channels of the output
@@ -14,8 +14,8 @@ pub record DecoderState (R : Type 0) : Type 0 where
   pub channels : Channels
 
 -- how many bytes the decoded image has
-abbrev pub image_byte_count : {R : Type 0} → DecoderState R → ℕ
-image_byte_count d = byte_count d.header (channels_number d.channels)
+abbrev pub output_byte_count : {R : Type 0} → DecoderState R → ℕ
+output_byte_count d = byte_count d.header (channels_number d.channels)
 
 -- An image was decoded from the bytes ahead, by the header, into the channels of the output.
 abbrev pub DecodesImage : {R : Type 0} → (R → Option (List ℕ)) → DecoderState R → DecoderState R → List ℕ → Type 0
@@ -32,4 +32,4 @@ TakesAtMost most old new = (taken : List ℕ) × Consumes old new taken × (leng
 
 -- at most five bytes for each pixel and eight more were taken from the bytes ahead
 abbrev pub TakesWithin : {R : Type 0} → (R → Option (List ℕ)) → DecoderState R → DecoderState R → Type 0
-TakesWithin ahead old new = TakesAtMost (5 * pixel_count old.header + 8) (ahead old.reader) (ahead new.reader)
+TakesWithin ahead old new = TakesAtMost (5 * pixel_count old.header + marker_size) (ahead old.reader) (ahead new.reader)

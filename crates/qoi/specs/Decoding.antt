@@ -1,11 +1,11 @@
 -- What decoding an image returns and takes, and what its refusals say.
-use Rattle.std.specs.Prelude.{◌≡◌, ◌≢◌, ℕ, ◌+◌, ◌/◌, ◌*◌, ◌<◌, ◌≤◌, ◌⊎◌, List, [], ◌++◌, length, take, drop, Bool, true, false, Option, Some, Result, Ok, Err, IfSome}
+use Rattle.std.specs.Prelude.{◌≡◌, ◌≢◌, ℕ, ◌+◌, ◌-◌, ◌/◌, ◌*◌, ◌<◌, ◌≤◌, ◌⊎◌, List, [], ◌++◌, length, take, drop, Bool, true, false, Option, Some, Result, Ok, Err, IfSome}
 use Rattle.std.specs.Io.KnownBytes.{Consumes, Keeps}
 use Rattle.qoi.specs.declared.error.Error.{Error}
 use Rattle.qoi.specs.declared.error.Error.TheVariants.{OutputBufferTooSmall, UnexpectedBufferEnd, InvalidPadding, IoError}
 use Rattle.qoi.specs.declared.header.Header.{Header}
 use Rattle.qoi.specs.declared.chunk.Chunk.{Chunk}
-use Rattle.qoi.specs.Qoi.{header_size, run_max, AreChunks, chunk_bytes, Reaches, meaning, IsFile, end_marker, file, file_pixels, channels_number, head, header_of, pixel_count, IsValid}
+use Rattle.qoi.specs.Qoi.{header_size, run_max, AreChunks, chunk_bytes, Reaches, meaning, IsFile, marker_size, end_marker, file, file_pixels, channels_number, head, header_of, pixel_count, IsValid}
 use Rattle.qoi.specs.Raw.{output}
 use Rattle.qoi.specs.Verdicts.{IsPartOfChunk, HasChunks, IsWhole, IsCut, IsWrong}
 
@@ -38,13 +38,13 @@ pub record ReadsImage (file_channels channels n : ℕ) (old new : Option (List �
 
 -- why the bytes after the chunks are refused: fewer than eight, or eight other than the end marker
 abbrev pub RefusesMarker : List ℕ → Error → Type 0
-RefusesMarker bytes UnexpectedBufferEnd = length bytes < 8
-RefusesMarker bytes InvalidPadding = (eight : List ℕ) × (rest : List ℕ) × (length eight ≡ 8) × (eight ≢ end_marker) × (bytes ≡ eight ++ rest)
+RefusesMarker bytes UnexpectedBufferEnd = length bytes < marker_size
+RefusesMarker bytes InvalidPadding = (eight : List ℕ) × (rest : List ℕ) × (length eight ≡ marker_size) × (eight ≢ end_marker) × (bytes ≡ eight ++ rest)
 RefusesMarker bytes _ = ⊥
 
 -- the bytes are cut
-abbrev pub HasCut : ℕ → List ℕ → Type 0
-HasCut n bytes = (cs : List Chunk) × (part : List ℕ) × IsCut n bytes cs part
+abbrev pub AreCut : ℕ → List ℕ → Type 0
+AreCut n bytes = (cs : List Chunk) × (part : List ℕ) × IsCut n bytes cs part
 
 -- the bytes are wrong, and the rest follows the eight bytes
 abbrev pub HasWrong : ℕ → List ℕ → List ℕ → Type 0
@@ -56,26 +56,26 @@ AreWrong n bytes = (rest : List ℕ) × HasWrong n bytes rest
 
 -- why bytes in memory are refused: cut is UnexpectedBufferEnd, and wrong is InvalidPadding
 abbrev pub RefusesBytes : ℕ → List ℕ → Error → Type 0
-RefusesBytes n bytes UnexpectedBufferEnd = HasCut n bytes
+RefusesBytes n bytes UnexpectedBufferEnd = AreCut n bytes
 RefusesBytes n bytes InvalidPadding = AreWrong n bytes
 RefusesBytes n bytes _ = ⊥
 
 -- why a stream is refused, by the bytes that were taken
 abbrev pub RefusesTaken : ℕ → List ℕ → Error → Type 0
-RefusesTaken n taken (IoError e) = HasCut n taken
+RefusesTaken n taken (IoError e) = AreCut n taken
 RefusesTaken n taken InvalidPadding = HasWrong n taken []
 RefusesTaken n taken _ = ⊥
 
 -- why the bytes after a stream's chunks are refused, by those that were taken
 abbrev pub RefusesTakenMarker : List ℕ → Error → Type 0
-RefusesTakenMarker taken (IoError e) = length taken < 8
-RefusesTakenMarker taken InvalidPadding = (length taken ≡ 8) × (taken ≢ end_marker)
+RefusesTakenMarker taken (IoError e) = length taken < marker_size
+RefusesTakenMarker taken InvalidPadding = (length taken ≡ marker_size) × (taken ≢ end_marker)
 RefusesTakenMarker taken _ = ⊥
 
 -- how many bytes the chunks of n pixels and the end marker have at least: a chunk has a byte or more, and gives 62
 -- pixels at most
 abbrev pub least_byte_count : ℕ → ℕ
-least_byte_count n = (n + 61) / run_max + 8
+least_byte_count n = (n + (run_max - 1)) / run_max + marker_size
 
 -- in memory the bytes ahead are enough for n pixels; of a stream it always holds, since nobody knows what it has ahead
 abbrev pub CouldHold : Bool → ℕ → Option (List ℕ) → Type 0
@@ -114,8 +114,8 @@ abbrev pub byte_count : Header → ℕ → ℕ
 byte_count h channels = pixel_count h * channels
 
 -- how many bytes a file's image has in its own channels
-abbrev pub file_byte_count : Header → ℕ
-file_byte_count h = byte_count h (channels_number h.channels)
+abbrev pub image_byte_count : Header → ℕ
+image_byte_count h = byte_count h (channels_number h.channels)
 
 -- an image's bytes are so many, and at least those of one pixel
 abbrev pub HasImageLength : ℕ → List ℕ → Type 0
@@ -140,8 +140,8 @@ RefusesBuffer size required e = (size < required) × (e ≡ OutputBufferTooSmall
 abbrev pub RefusesFile : ℕ → List ℕ → Error → Type 0
 RefusesFile size bytes e = (header_of bytes ≡ Err e)
     ⊎ ((h : Header) × (header_of bytes ≡ Ok h)
-    × (RefusesBuffer size (file_byte_count h) e
-    ⊎ ((file_byte_count h ≤ size) × RefusesBytes (pixel_count h) (drop header_size bytes) e)))
+    × (RefusesBuffer size (image_byte_count h) e
+    ⊎ ((image_byte_count h ≤ size) × RefusesBytes (pixel_count h) (drop header_size bytes) e)))
 
 -- why a file is not decoded, where the buffer is long enough: the header, then the image
 abbrev pub RefusesWholeFile : List ℕ → Error → Type 0

@@ -12,18 +12,18 @@ use Rattle.qoi.specs.declared.types.Style.TheVariants.{Reference, Places, Tight}
 use Rattle.qoi.specs.declared.header.Header.{Header}
 use Rattle.qoi.specs.declared.chunk.Chunk.{Chunk}
 use Rattle.qoi.specs.declared.chunk.Chunk.TheVariants.{Place}
-use Rattle.qoi.specs.Qoi.{channels_number, channels_of, colorspace_number, pixel_count, tried_header, IsValid, RgbaPixel, blank, start, chunk_bytes, Reaches, file}
+use Rattle.qoi.specs.Qoi.{header_size, marker_size, channels_number, channels_of, colorspace_number, pixel_count, tried_header, IsValid, RgbaPixel, blank, start, chunk_bytes, Reaches, file}
 use Rattle.qoi.specs.Raw.{pixels_of}
 use Rattle.qoi.specs.Written.{Written}
 use Rattle.qoi.specs.Styles.{WrittenIn}
 use Rattle.qoi.specs.Tight.{floor0}
 use Rattle.qoi.specs.Regular.{Regular, Covers}
 use Rattle.qoi.specs.Shortest.{floor, slack}
-use Rattle.qoi.specs.Decoding.{DecodesFile, file_byte_count}
+use Rattle.qoi.specs.Decoding.{DecodesFile, image_byte_count}
 
 -- the most bytes that the file of an image of this size has, or the greatest usize if that is less
 abbrev pub max_len : ℕ → ℕ → ℕ → ℕ
-max_len width height channels = min (14 + width * height * channels + width * height + 8) (2 ^ 64 - 1)
+max_len width height channels = min (header_size + width * height * channels + width * height + marker_size) (2 ^ 64 - 1)
 
 -- the same for the image of a header
 abbrev pub max_file_len : Header → ℕ
@@ -31,7 +31,7 @@ max_file_len h = max_len h.width h.height (channels_number h.channels)
 
 -- a length that a file with this header can have: header, a byte and end marker at least, and the greatest length at most
 abbrev pub IsFileLength : Header → ℕ → Type 0
-IsFileLength h n = (23 ≤ n) × (n ≤ max_file_len h)
+IsFileLength h n = (header_size + 1 + marker_size ≤ n) × (n ≤ max_file_len h)
 
 -- a header with these channels, or their refusal
 abbrev pub with_number : Header → Result Channels Error → Result Header Error
@@ -65,11 +65,11 @@ pub record IsEncoded (Lists : List RgbaPixel → List Chunk → Type 0) (h : Hea
 -- index position.
 pub record IsFileBy (Lists : List RgbaPixel → List Chunk → Type 0) (h : Header) (raw bytes : List ℕ) : Type 0 where
   pub valid : IsValid h
-  pub size : length raw ≡ file_byte_count h
+  pub size : length raw ≡ image_byte_count h
   pub encoded : IsEncoded Lists h raw bytes
   pub only : (others : List ℕ) → IsEncoded Lists h raw others → others ≡ bytes
   pub fits : length bytes ≤ max_file_len h
-  pub long : 23 ≤ length bytes
+  pub long : header_size + 1 + marker_size ≤ length bytes
   pub comes_back : (rest : List ℕ) → DecodesFile (bytes ++ rest) h rest raw
   pub color_space : (space : ColorSpace) (others : List ℕ) → IsEncoded Lists (record h { colorspace = space }) raw others
       → others ≡ slice_set bytes 13 (colorspace_number space)
@@ -88,7 +88,7 @@ OpensBlack image = (rest : List RgbaPixel) × (image ≡ start ∷ rest)
 -- has at most the floor's bytes and the slack's. Where no pixel is transparent black, each list is regular.
 pub record IsNearShortest (h : Header) (raw bytes : List ℕ) : Type 0 where
   pub floor_is_below : (others : List Chunk) → Spans h raw others → Regular others → floor (image_pixels h raw) ≤ length (chunk_bytes others)
-  pub near_floor : length bytes ≤ 22 + floor (image_pixels h raw) + slack (image_pixels h raw) (channels_number h.channels)
+  pub near_floor : length bytes ≤ header_size + marker_size + floor (image_pixels h raw) + slack (image_pixels h raw) (channels_number h.channels)
   pub near_others : (others : List Chunk) → Spans h raw others → Regular others
       → length bytes ≤ length (file h others) + slack (image_pixels h raw) (channels_number h.channels)
   -- no regular list is over four bytes shorter, and none is shorter at all unless the image opens opaque black
@@ -107,7 +107,7 @@ pub record IsAsReference (style : Style) (h : Header) (raw bytes : List ℕ) : T
 -- Style Tight: the number of bytes is the least. Header and end marker have 22, the chunks those of the floor where any
 -- index position may be named, and no list of the image at all, regular or not, makes a shorter file.
 pub record IsShortest (h : Header) (raw : List ℕ) (n : ℕ) : Type 0 where
-  pub floor0_is : n ≡ 22 + floor0 (image_pixels h raw)
+  pub floor0_is : n ≡ header_size + marker_size + floor0 (image_pixels h raw)
   pub shortest : (others : List Chunk) → Spans h raw others → n ≤ length (file h others)
 
 -- how short the file is in a style
@@ -120,7 +120,7 @@ IsShortIn Tight h raw bytes = IsShortest h raw (length bytes)
 pub record IsFileOf (style : Style) (h : Header) (raw bytes : List ℕ) : Type 0 where
   pub is_file : IsFileBy (WrittenIn style) h raw bytes
   pub near_shortest : IsNearShortest h raw bytes
-  pub short : IsShortIn style h raw bytes
+  pub shortness : IsShortIn style h raw bytes
 
 -- the file that the free calls write for raw bytes of this size: with the header that is found for them, in style Reference
 abbrev pub IsFileFor : List ℕ → ℕ → ℕ → List ℕ → Type 0

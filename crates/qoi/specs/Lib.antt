@@ -7,17 +7,18 @@ pub mod Verdicts
 pub mod Decoding
 pub mod DecoderState
 pub mod Reading
--- What is written, and the file of an image.
+-- The list that is written.
 pub mod Runs
 pub mod Written
-pub mod Styles
 pub mod Spelling
-pub mod Encoded
-pub mod EncoderState
--- How short it is.
+-- How short a list is.
 pub mod Regular
 pub mod Shortest
 pub mod Tight
+-- The list of each style, and the file of an image.
+pub mod Styles
+pub mod Encoded
+pub mod EncoderState
 -- Errors and their texts.
 pub mod Errors
 pub mod ErrorText

@@ -62,8 +62,8 @@ abbrev pub pixel_count : Header → ℕ
 pixel_count h = h.width * h.height
 
 -- how many raw bytes an image has, or the greatest usize if that is less
-abbrev pub raw_byte_count : Header → ℕ
-raw_byte_count h = min (pixel_count h * channels_number h.channels) (2 ^ 64 - 1)
+abbrev pub capped_byte_count : Header → ℕ
+capped_byte_count h = min (pixel_count h * channels_number h.channels) (2 ^ 64 - 1)
 
 -- one pixel of three channels in sRGB
 abbrev pub default_header : Header
@@ -270,10 +270,14 @@ StayBelow n cs = Each (λ past c. length past < n) [] cs
 
 -- the chunks reach n pixels: with the last of them, and not before
 pub record Reaches (n : ℕ) (cs : List Chunk) : Type 0 where
-  pub short : StayBelow n cs
+  pub stays_below : StayBelow n cs
   pub enough : n ≤ length (meaning cs)
 
 -- Files ("File Format" and "Data")
+
+-- how many bytes the end marker has
+abbrev pub marker_size : ℕ
+marker_size = 8
 
 -- the eight bytes that end a file
 abbrev pub end_marker : List ℕ

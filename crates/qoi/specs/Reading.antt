@@ -29,7 +29,7 @@ IsFault false e = IsIoError e
 
 -- for this decoder the bytes are an image of these raw bytes, in its channels, and then the rest
 unfoldable pub IsImageFor : {R : Type 0} → DecoderState R → List ℕ → List ℕ → List ℕ → Type 0
-IsImageFor d bytes raw rest = IsImage d.channels bytes d.header rest raw
+IsImageFor d bytes rest raw = IsImage d.channels bytes d.header rest raw
 
 -- The decoder is of the file at the front of the bytes: its header's bytes stand there, then comes what is ahead of the
 -- decoder, and its channels are the file's own.

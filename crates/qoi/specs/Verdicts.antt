@@ -2,7 +2,7 @@
 -- (QOI specification 1.0, "File Format" and "Data").
 use Rattle.std.specs.Prelude.{◌≡◌, ◌≢◌, ℕ, ◌<◌, ◌≤◌, ◌⊎◌, List, ◌∷◌, ◌++◌, length}
 use Rattle.qoi.specs.declared.chunk.Chunk.{Chunk}
-use Rattle.qoi.specs.Qoi.{IsChunk, AreChunks, bytes_of, chunk_bytes, StayBelow, meaning, end_marker}
+use Rattle.qoi.specs.Qoi.{IsChunk, AreChunks, bytes_of, chunk_bytes, StayBelow, meaning, marker_size, end_marker}
 
 -- a beginning of a chunk's bytes, at least one byte short of the whole; it may be empty
 abbrev pub IsPartOfChunk : List ℕ → Type 0
@@ -11,7 +11,7 @@ IsPartOfChunk bytes = (c : Chunk) × (next : ℕ) × (more : List ℕ) × IsChun
 -- the bytes are those of the chunks, each with fewer than n pixels before it, and then the rest
 pub record HasChunks (n : ℕ) (bytes : List ℕ) (cs : List Chunk) (rest : List ℕ) : Type 0 where
   pub chunks : AreChunks cs
-  pub short : StayBelow n cs
+  pub stays_below : StayBelow n cs
   pub split : bytes ≡ chunk_bytes cs ++ rest
 
 -- whole: the chunks reach n pixels, and the end marker follows, and then any bytes
@@ -22,11 +22,11 @@ pub record IsWhole (n : ℕ) (bytes : List ℕ) (cs : List Chunk) (rest : List �
 -- cut: the bytes end within a chunk before n pixels are reached, or within the eight bytes after the chunks
 pub record IsCut (n : ℕ) (bytes : List ℕ) (cs : List Chunk) (part : List ℕ) : Type 0 where
   pub has : HasChunks n bytes cs part
-  pub ends : ((length (meaning cs) < n) × IsPartOfChunk part) ⊎ ((n ≤ length (meaning cs)) × (length part < 8))
+  pub ends : ((length (meaning cs) < n) × IsPartOfChunk part) ⊎ ((n ≤ length (meaning cs)) × (length part < marker_size))
 
 -- wrong: the chunks reach n pixels, and eight bytes other than the end marker follow, and then any bytes
 pub record IsWrong (n : ℕ) (bytes : List ℕ) (cs : List Chunk) (eight rest : List ℕ) : Type 0 where
   pub has : HasChunks n bytes cs (eight ++ rest)
   pub enough : n ≤ length (meaning cs)
-  pub length_is : length eight ≡ 8
+  pub length_is : length eight ≡ marker_size
   pub other : eight ≢ end_marker

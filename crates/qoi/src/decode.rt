@@ -3,12 +3,12 @@ ghost use Rattle.std.specs.Prelude.{◌≡◌, ℕ, ◌*◌, ◌<◌, ◌≤◌,
 ghost use Rattle.qoi.specs.declared.chunk.Chunk.{Chunk};
 ghost use Rattle.qoi.specs.declared.header.Header.{Header};
 ghost use Rattle.qoi.specs.declared.error.Error.{Error};
-ghost use Rattle.qoi.specs.Qoi.{header_of, pixel_count, raw_byte_count, IsFile, file, header_size, run_max};
+ghost use Rattle.qoi.specs.Qoi.{header_of, pixel_count, capped_byte_count, IsFile, file, header_size, run_max};
 ghost use Rattle.qoi.specs.Verdicts.{IsWhole};
-ghost use Rattle.qoi.specs.Decoding.{AreWrong, CouldHold, HasCut, least_byte_count, RefusesFile, RefusesStreamHeader, TakesHeader, RefusesWholeFile, DecodesFile, file_byte_count, HasImageLength};
+ghost use Rattle.qoi.specs.Decoding.{AreWrong, CouldHold, AreCut, least_byte_count, RefusesFile, RefusesStreamHeader, TakesHeader, RefusesWholeFile, DecodesFile, image_byte_count, HasImageLength};
 ghost use Rattle.qoi.specs.declared.types.Style.{Style};
 ghost use Rattle.qoi.specs.Encoded.{IsFileOf};
-ghost use Rattle.qoi.specs.DecoderState.{image_byte_count, DecodesImage, RefusesDecoding, TakesWithin};
+ghost use Rattle.qoi.specs.DecoderState.{output_byte_count, DecodesImage, RefusesDecoding, TakesWithin};
 ghost use Rattle.qoi.specs.Reading.{HasImage, IsDecoderOf, IsFault, IsForCut, IsForWrong, IsImage, IsImageFor};
 ghost use Rattle.qoi.specs.Raw.{without_fourth};
 
@@ -44,17 +44,17 @@ pub fn decode_header(data: &[u8]) -> Result<Header>
 /// are as before.
 pub fn decode_to_buf(buf: &mut [u8], data: &[u8]) -> Result<Header>
     ensures decoded { IfOk result (λ h. (rest : List ℕ)
-        × DecodesFile «data».now h rest (take (file_byte_count h) buf.new)) }
+        × DecodesFile «data».now h rest (take (image_byte_count h) buf.new)) }
     ensures refused { IfErr result (RefusesFile (length buf.old) «data».now) }
     // Files are accepted, whatever follows them.
     ensures accepts { (h : Header) (cs : List Chunk) (rest : List ℕ) → IsFile h cs
         → «data».now ≡ file h cs ++ rest
-        → file_byte_count h ≤ length buf.old → result ≡ Ok h }
+        → image_byte_count h ≤ length buf.old → result ≡ Ok h }
     ensures later { (h : Header) → header_of «data».now ≡ Ok h
-        → drop (file_byte_count h) buf.new ≡ drop (file_byte_count h) buf.old }
+        → drop (image_byte_count h) buf.new ≡ drop (image_byte_count h) buf.old }
     ensures untouched { (e : Error) → header_of «data».now ≡ Err e → buf.new ≡ buf.old }
-    ensures short { (h : Header) → header_of «data».now ≡ Ok h → length buf.old < file_byte_count h
-        → (result ≡ Err (Error.OutputBufferTooSmall (length buf.old) (file_byte_count h)))
+    ensures short { (h : Header) → header_of «data».now ≡ Ok h → length buf.old < image_byte_count h
+        → (result ≡ Err (Error.OutputBufferTooSmall (length buf.old) (image_byte_count h)))
         × (buf.new ≡ buf.old) }
     // The file of an image, in each style, gives its header and its raw bytes, where the buffer is
     // long enough; so it does where other bytes follow it.
@@ -66,14 +66,14 @@ pub fn decode_to_buf(buf: &mut [u8], data: &[u8]) -> Result<Header>
     ensures followed { (style : Style) (h : Header) (raw bytes rest : List ℕ)
         → IsFileOf style h raw bytes → «data».now ≡ bytes ++ rest
         → length raw ≤ length buf.old → (result ≡ Ok h) × (take (length raw) buf.new ≡ raw) }
-    ensures room { IfOk result (λ h. raw_byte_count h ≤ length buf.old) }
+    ensures room { IfOk result (λ h. capped_byte_count h ≤ length buf.old) }
     // After a valid header cut bytes give `UnexpectedBufferEnd`, and wrong ones `InvalidPadding`.
     ensures cut { (h : Header) → header_of «data».now ≡ Ok h
-        → HasCut (pixel_count h) (drop header_size «data».now)
-        → file_byte_count h ≤ length buf.old → result ≡ Err Error.UnexpectedBufferEnd }
+        → AreCut (pixel_count h) (drop header_size «data».now)
+        → image_byte_count h ≤ length buf.old → result ≡ Err Error.UnexpectedBufferEnd }
     ensures wrong { (h : Header) → header_of «data».now ≡ Ok h
         → AreWrong (pixel_count h) (drop header_size «data».now)
-        → file_byte_count h ≤ length buf.old → result ≡ Err Error.InvalidPadding }
+        → image_byte_count h ≤ length buf.old → result ≡ Err Error.InvalidPadding }
 {
     let mut decoder = Decoder::new(data)?;
     decoder.decode_to_buf(buf)?;
@@ -88,12 +88,12 @@ pub fn decode_to_buf(buf: &mut [u8], data: &[u8]) -> Result<Header>
 pub fn decode_to_vec(alloc: Global, data: &[u8]) -> Result<(Header, Vec<u8>)>
     ensures decoded { IfOk result (λ x. (rest : List ℕ)
         × DecodesFile «data».now x.0 rest x.1.items) }
-    ensures length { IfOk result (λ x. HasImageLength (raw_byte_count x.0) x.1.items) }
+    ensures length { IfOk result (λ x. HasImageLength (capped_byte_count x.0) x.1.items) }
     ensures refused { IfErr result (λ e. RefusesWholeFile «data».now e
         ⊎ ((e ≡ Error.OutOfMemory) × (h : Header) × (header_of «data».now ≡ Ok h)
         × (least_byte_count (pixel_count h) ≤ length (drop header_size «data».now)))) }
     // So the vector has at most 62 pixels for each byte of the slice.
-    ensures held { IfOk result (λ x. (pixel_count x.0 ≤ run_max * length «data».now)
+    ensures per_byte { IfOk result (λ x. (pixel_count x.0 ≤ run_max * length «data».now)
         × (length x.1.items ≤ 4 * run_max * length «data».now)) }
     // Files are accepted, whatever follows them, unless memory runs out.
     ensures accepts { (h : Header) (cs : List Chunk) (rest : List ℕ) → IsFile h cs
@@ -112,7 +112,7 @@ pub fn decode_to_vec(alloc: Global, data: &[u8]) -> Result<(Header, Vec<u8>)>
     // After a valid header cut bytes give `UnexpectedBufferEnd`, and wrong ones `InvalidPadding`, unless
     // memory runs out.
     ensures cut { (h : Header) → header_of «data».now ≡ Ok h
-        → HasCut (pixel_count h) (drop header_size «data».now)
+        → AreCut (pixel_count h) (drop header_size «data».now)
         → IsErrAnd result (λ e. (e ≡ Error.OutOfMemory) ⊎ (e ≡ Error.UnexpectedBufferEnd)) }
     ensures wrong { (h : Header) → header_of «data».now ≡ Ok h
         → AreWrong (pixel_count h) (drop header_size «data».now)
@@ -162,15 +162,15 @@ impl<'a> Decoder<Bytes<'a>> {
         ensures comes_back { (h : Header) (raw : List ℕ)
             → IsFileOf Style.Reference h raw «data».entry.now
             → IsOkAnd result (λ d. (d.header ≡ h)
-            × IsImageFor d (drop header_size «data».entry.now) raw []) }
+            × IsImageFor d (drop header_size «data».entry.now) [] raw) }
         ensures comes_back_in { (style : Style) (h : Header) (raw : List ℕ)
             → IsFileOf style h raw «data».entry.now
             → IsOkAnd result (λ d. (d.header ≡ h)
-            × IsImageFor d (drop header_size «data».entry.now) raw []) }
+            × IsImageFor d (drop header_size «data».entry.now) [] raw) }
         ensures followed { (style : Style) (h : Header) (raw bytes rest : List ℕ)
             → IsFileOf style h raw bytes → «data».entry.now ≡ bytes ++ rest
             → IsOkAnd result (λ d. (d.header ≡ h)
-            × IsImageFor d (drop header_size «data».entry.now) raw rest) }
+            × IsImageFor d (drop header_size «data».entry.now) rest raw) }
         ensures made { IfOk result (λ d. IsDecoderOf d «data».entry.now
             (drop header_size «data».entry.now)) }
         ensures refused { IfErr result (λ e. header_of «data».entry.now ≡ Err e) }
@@ -217,14 +217,14 @@ impl<R: Read + Drop> Decoder<R> {
         // the header are the image, and then the rest.
         ensures comes_back { (h : Header) (raw bytes : List ℕ)
             → IsFileOf Style.Reference h raw bytes → R.remaining reader ≡ Some bytes
-            → IfOk result (λ d. (d.header ≡ h) × IsImageFor d (drop header_size bytes) raw []) }
+            → IfOk result (λ d. (d.header ≡ h) × IsImageFor d (drop header_size bytes) [] raw) }
         ensures comes_back_in { (style : Style) (h : Header) (raw bytes : List ℕ)
             → IsFileOf style h raw bytes → R.remaining reader ≡ Some bytes
-            → IfOk result (λ d. (d.header ≡ h) × IsImageFor d (drop header_size bytes) raw []) }
+            → IfOk result (λ d. (d.header ≡ h) × IsImageFor d (drop header_size bytes) [] raw) }
         ensures followed { (style : Style) (h : Header) (raw bytes rest : List ℕ)
             → IsFileOf style h raw bytes → R.remaining reader ≡ Some (bytes ++ rest)
             → IfOk result (λ d. (d.header ≡ h)
-            × IsImageFor d (drop header_size (bytes ++ rest)) raw rest) }
+            × IsImageFor d (drop header_size (bytes ++ rest)) rest raw) }
         ensures made { (bytes : List ℕ) → R.remaining reader ≡ Some bytes
             → IfOk result (λ d. IsDecoderOf d bytes (drop header_size bytes)) }
         ensures refused { IfErr result (RefusesStreamHeader (R.remaining reader)) }
@@ -303,7 +303,7 @@ impl<R: Reader> Decoder<R> {
 
     /// How many bytes the decoded image has: pixels times channels of the output.
     pub fn required_buf_len(&self) -> usize
-        ensures bytes { result ≡ image_byte_count self.now }
+        ensures bytes { result ≡ output_byte_count self.now }
         ensures some { 3 ≤ result }
     {
         self.header.n_pixels() * self.channels.as_u8() as usize
@@ -322,29 +322,29 @@ impl<R: Reader> Decoder<R> {
     /// a reader stands behind the bytes that were read. The first `required_buf_len` bytes of the
     /// buffer may then be overwritten; later bytes never are.
     pub fn decode_to_buf(&mut self, buf: &mut [u8]) -> Result<usize>
-        ensures short { length buf.old < image_byte_count self.old
+        ensures short { length buf.old < output_byte_count self.old
             → IsErrOf result
-            (Error.OutputBufferTooSmall (length buf.old) (image_byte_count self.old))
+            (Error.OutputBufferTooSmall (length buf.old) (output_byte_count self.old))
             × (self.new ≡ self.old) × (buf.new ≡ buf.old) }
-        ensures decoded { IfOk result (λ size. (size ≡ image_byte_count self.old)
+        ensures decoded { IfOk result (λ size. (size ≡ output_byte_count self.old)
             × DecodesImage R.ahead self.old self.new (take size buf.new)) }
         // In memory nothing is taken, and the bytes ahead are cut or wrong; of a stream those that were
         // taken are.
-        ensures refused { image_byte_count self.old ≤ length buf.old
+        ensures refused { output_byte_count self.old ≤ length buf.old
             → IfErr result (RefusesDecoding R.in_memory R.ahead self.old self.new) }
         // From memory, bytes whose verdict is whole are accepted.
         ensures accepts { IsTrue R.in_memory → (bytes rest : List ℕ) (cs : List Chunk)
             → R.ahead self.old.reader ≡ Some bytes
             → IsWhole (pixel_count self.old.header) bytes cs rest
-            → image_byte_count self.old ≤ length buf.old → IsOk result }
+            → output_byte_count self.old ≤ length buf.old → IsOk result }
         // The image that stands ahead is decoded, and what follows it is left.
-        ensures image { (bytes raw rest : List ℕ) → IsImageFor self.old bytes raw rest
+        ensures image { (bytes rest raw : List ℕ) → IsImageFor self.old bytes rest raw
             → R.ahead self.old.reader ≡ Some bytes → IfOk result (λ size. take size buf.new ≡ raw) }
-        ensures left { (bytes raw rest : List ℕ) → IsImageFor self.old bytes raw rest
+        ensures left { (bytes rest raw : List ℕ) → IsImageFor self.old bytes rest raw
             → R.ahead self.old.reader ≡ Some bytes
             → OnOk result (R.ahead self.new.reader ≡ Some rest) }
-        ensures faults { (bytes raw rest : List ℕ) → IsImageFor self.old bytes raw rest
-            → R.ahead self.old.reader ≡ Some bytes → image_byte_count self.old ≤ length buf.old
+        ensures faults { (bytes rest raw : List ℕ) → IsImageFor self.old bytes rest raw
+            → R.ahead self.old.reader ≡ Some bytes → output_byte_count self.old ≤ length buf.old
             → IfErr result (IsFault R.in_memory) }
         // What was decoded stood ahead, and what follows it is left.
         ensures read { IfSome (R.ahead self.old.reader) (λ bytes. IfOk result (λ size.
@@ -376,21 +376,21 @@ impl<R: Reader> Decoder<R> {
         // Cut bytes and wrong ones are refused; `UnexpectedBufferEnd` means that they were cut, and
         // `InvalidPadding` that they were wrong.
         ensures cut { (bytes : List ℕ) → R.ahead self.old.reader ≡ Some bytes
-            → HasCut (pixel_count self.old.header) bytes
-            → image_byte_count self.old ≤ length buf.old
+            → AreCut (pixel_count self.old.header) bytes
+            → output_byte_count self.old ≤ length buf.old
             → IsErrAnd result (IsForCut R.in_memory) }
         ensures wrong { (bytes : List ℕ) → R.ahead self.old.reader ≡ Some bytes
             → AreWrong (pixel_count self.old.header) bytes
-            → image_byte_count self.old ≤ length buf.old
+            → output_byte_count self.old ≤ length buf.old
             → IsErrAnd result (IsForWrong R.in_memory) }
         ensures only_cut { (bytes : List ℕ) → R.ahead self.old.reader ≡ Some bytes
             → IsErrOf result Error.UnexpectedBufferEnd
-            → HasCut (pixel_count self.old.header) bytes }
+            → AreCut (pixel_count self.old.header) bytes }
         ensures only_wrong { (bytes : List ℕ) → R.ahead self.old.reader ≡ Some bytes
             → IsErrOf result Error.InvalidPadding
             → AreWrong (pixel_count self.old.header) bytes }
-        ensures later { drop (image_byte_count self.old) buf.new
-            ≡ drop (image_byte_count self.old) buf.old }
+        ensures later { drop (output_byte_count self.old) buf.new
+            ≡ drop (output_byte_count self.old) buf.old }
         ensures unchanged { self.new ≡ record self.old { reader = self.new.reader } }
         // For an image of n pixels a call takes at most 5n + 8 bytes, also where it refuses.
         ensures bounded { TakesWithin R.ahead self.old self.new }
@@ -418,14 +418,14 @@ impl<R: Reader> Decoder<R> {
     /// each 62 pixels take a byte at least, and the end marker has eight.
     pub fn decode_to_vec(&mut self, alloc: Global) -> Result<Vec<u8>>
         ensures decoded { IfOk result (λ out. DecodesImage R.ahead self.old self.new out.items) }
-        ensures length { IfOk result (λ out. HasImageLength (image_byte_count self.old) out.items) }
+        ensures length { IfOk result (λ out. HasImageLength (output_byte_count self.old) out.items) }
         ensures refused { IfErr result (λ e. (e ≡ Error.OutOfMemory)
             ⊎ RefusesDecoding R.in_memory R.ahead self.old self.new e) }
         ensures no_memory { IsErrOf result Error.OutOfMemory → self.new ≡ self.old }
         // Memory is asked for only where the bytes ahead could hold the image.
-        ensures holds { IsErrOf result Error.OutOfMemory
+        ensures asked { IsErrOf result Error.OutOfMemory
             → CouldHold R.in_memory (pixel_count self.old.header) (R.ahead self.old.reader) }
-        ensures held { IfOk result (λ out.
+        ensures could_hold { IfOk result (λ out.
             CouldHold R.in_memory (pixel_count self.old.header) (R.ahead self.old.reader)) }
         // From memory, bytes whose verdict is whole are accepted, unless memory runs out.
         ensures accepts { IsTrue R.in_memory → (bytes rest : List ℕ) (cs : List Chunk)
@@ -433,12 +433,12 @@ impl<R: Reader> Decoder<R> {
             → IsWhole (pixel_count self.old.header) bytes cs rest
             → IsOkUnless result Error.OutOfMemory }
         // The image that stands ahead is decoded, and what follows it is left.
-        ensures image { (bytes raw rest : List ℕ) → IsImageFor self.old bytes raw rest
+        ensures image { (bytes rest raw : List ℕ) → IsImageFor self.old bytes rest raw
             → R.ahead self.old.reader ≡ Some bytes → IfOk result (λ out. out.items ≡ raw) }
-        ensures left { (bytes raw rest : List ℕ) → IsImageFor self.old bytes raw rest
+        ensures left { (bytes rest raw : List ℕ) → IsImageFor self.old bytes rest raw
             → R.ahead self.old.reader ≡ Some bytes
             → OnOk result (R.ahead self.new.reader ≡ Some rest) }
-        ensures faults { (bytes raw rest : List ℕ) → IsImageFor self.old bytes raw rest
+        ensures faults { (bytes rest raw : List ℕ) → IsImageFor self.old bytes rest raw
             → R.ahead self.old.reader ≡ Some bytes
             → IfErr result (λ e. (e ≡ Error.OutOfMemory) ⊎ IsFault R.in_memory e) }
         // What was decoded stood ahead, and what follows it is left.
@@ -471,14 +471,14 @@ impl<R: Reader> Decoder<R> {
         // Cut bytes and wrong ones are refused; `UnexpectedBufferEnd` means that they were cut, and
         // `InvalidPadding` that they were wrong.
         ensures cut { (bytes : List ℕ) → R.ahead self.old.reader ≡ Some bytes
-            → HasCut (pixel_count self.old.header) bytes
+            → AreCut (pixel_count self.old.header) bytes
             → IsErrAnd result (λ e. (e ≡ Error.OutOfMemory) ⊎ IsForCut R.in_memory e) }
         ensures wrong { (bytes : List ℕ) → R.ahead self.old.reader ≡ Some bytes
             → AreWrong (pixel_count self.old.header) bytes
             → IsErrAnd result (λ e. (e ≡ Error.OutOfMemory) ⊎ IsForWrong R.in_memory e) }
         ensures only_cut { (bytes : List ℕ) → R.ahead self.old.reader ≡ Some bytes
             → IsErrOf result Error.UnexpectedBufferEnd
-            → HasCut (pixel_count self.old.header) bytes }
+            → AreCut (pixel_count self.old.header) bytes }
         ensures only_wrong { (bytes : List ℕ) → R.ahead self.old.reader ≡ Some bytes
             → IsErrOf result Error.InvalidPadding
             → AreWrong (pixel_count self.old.header) bytes }

@@ -6,7 +6,7 @@ ghost use Rattle.qoi.specs.declared.error.Error.{Error};
 ghost use Rattle.qoi.specs.declared.types.Style.{Style};
 ghost use Rattle.qoi.specs.declared.types.Style.TheVariants.{Reference, Places, Tight};
 ghost use Rattle.qoi.specs.Qoi.{IsValid};
-ghost use Rattle.qoi.specs.Decoding.{file_byte_count};
+ghost use Rattle.qoi.specs.Decoding.{image_byte_count};
 ghost use Rattle.qoi.specs.Encoded.{max_len, max_file_len, image_header, IsFileLength, IsFileOf, IsFileFor, IsShortest};
 ghost use Rattle.qoi.specs.Errors.{IsIoError};
 ghost use Rattle.qoi.specs.writers.Writes.{AppendsBeginning, WroteSome};
@@ -29,7 +29,7 @@ use std::marker::Model;
 // Writes the file of an image, and returns how many bytes it has.
 fn encode_image<W: Writer>(buf: &mut W, style: Style, header: &Header, data: &[u8]) -> Result<usize>
     requires valid { IsValid header.now }
-    requires image { length «data».now ≡ file_byte_count header.now }
+    requires image { length «data».now ≡ image_byte_count header.now }
     requires room { max_file_len header.now ≤ W.room buf.old }
     ensures written { IfOk result (λ n. (bytes : List ℕ)
         × IsFileOf style header.now «data».now bytes
@@ -62,7 +62,7 @@ pub fn encode_max_len(width: u32, height: u32, channels: u8) -> usize
 ///
 /// The refusals are those of `Encoder::new` and then of its `encode_to_buf`.
 pub fn encode_to_buf(buf: &mut [u8], data: &[u8], width: u32, height: u32) -> Result<usize>
-    ensures image { (e : Error) → image_header «data».now width height ≡ Err e → (result ≡ Err e)
+    ensures refused { (e : Error) → image_header «data».now width height ≡ Err e → (result ≡ Err e)
         × (buf.new ≡ buf.old) }
     ensures short { (h : Header) → image_header «data».now width height ≡ Ok h
         → length buf.old < max_file_len h
@@ -117,13 +117,13 @@ impl<'a> Model for Encoder<'a> {
     ghost use Rattle.std.specs.Prelude.{◌≡◌, length};
     ghost use Rattle.qoi.specs.EncoderState.{EncoderState};
     ghost use Rattle.qoi.specs.Qoi.{IsValid};
-    ghost use Rattle.qoi.specs.Decoding.{file_byte_count};
+    ghost use Rattle.qoi.specs.Decoding.{image_byte_count};
 
     ghost Value = { EncoderState };
 
     ghost view = { λ e. record { raw = e.«data».now; header = e.header; style = e.style } };
 
-    ghost invariant = { λ e. IsValid e.header × (length e.«data».now ≡ file_byte_count e.header) };
+    ghost invariant = { λ e. IsValid e.header × (length e.«data».now ≡ image_byte_count e.header) };
 }
 
 impl<'a> Encoder<'a> {

@@ -40,7 +40,7 @@ impl Default for Header {
 }
 
 impl Header {
-    ghost use Rattle.qoi.specs.Qoi.{head, header_of, tried_header, pixel_count, raw_byte_count, header_size, IsValid};
+    ghost use Rattle.qoi.specs.Qoi.{head, header_of, tried_header, pixel_count, capped_byte_count, header_size, IsValid};
     ghost use Rattle.qoi.specs.Encoded.{max_file_len};
 
     /// A header of these fields; `InvalidImageDimensions` where width times height is 0 or
@@ -142,7 +142,7 @@ impl Header {
     /// The raw bytes of such an image, width times height times channels, or the greatest `usize` if
     /// that is less.
     pub fn n_bytes(&self) -> usize
-        ensures { result ≡ raw_byte_count self.now }
+        ensures { result ≡ capped_byte_count self.now }
     {
         self.n_pixels()
             .saturating_mul(usize::from(self.channels.as_u8()))

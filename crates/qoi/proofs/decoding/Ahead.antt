@@ -11,7 +11,7 @@ use Rattle.qoi.specs.declared.types.Style.{Style}
 use Rattle.qoi.specs.Qoi.{channels_number, head, header_of, header_size, IsValid, pixel_count, meaning}
 use Rattle.qoi.specs.Raw.{output, without_fourth}
 use Rattle.qoi.specs.Verdicts.{IsWhole}
-use Rattle.qoi.specs.Decoding.{AreWrong, DecodesFile, HasCut, ReadsImage, RefusesImage, TakesHeader}
+use Rattle.qoi.specs.Decoding.{AreWrong, DecodesFile, AreCut, ReadsImage, RefusesImage, TakesHeader}
 use Rattle.qoi.specs.DecoderState.{DecoderState}
 use Rattle.qoi.specs.Encoded.{IsFileOf}
 use Rattle.qoi.specs.Reading.{HasImage, IsDecoderOf, IsFault, IsImage, IsImageFor}
@@ -59,18 +59,18 @@ header_front old (Some rest) bytes h r told =
 
 -- behind the header of a file stands its image, for the decoder of that header
 pub image_ahead : {R : Type 0} (d : DecoderState R) (bytes : List ℕ) (h : Header) (rest raw : List ℕ) → header_of bytes ≡ Ok d.header
-    → d.channels ≡ d.header.channels → DecodesFile bytes h rest raw → (d.header ≡ h) × IsImageFor d (drop header_size bytes) raw rest
+    → d.channels ≡ d.header.channels → DecodesFile bytes h rest raw → (d.header ≡ h) × IsImageFor d (drop header_size bytes) rest raw
 unfolding IsImageFor
 image_ahead d bytes h rest raw read own f =
     (header_is_one bytes d.header h read f.header, image_of_file d.channels d.header bytes h rest raw read own f)
 
 -- what refuses an image that stands ahead is a fault
-pub fault_ahead : {R : Type 0} (in_memory : Bool) (d : DecoderState R) (old new : Option (List ℕ)) (e : Error) (bytes raw rest : List ℕ)
-    → IsImageFor d bytes raw rest → old ≡ Some bytes → RefusesImage in_memory (pixel_count d.header) old new e → IsFault in_memory e
+pub fault_ahead : {R : Type 0} (in_memory : Bool) (d : DecoderState R) (old new : Option (List ℕ)) (e : Error) (bytes rest raw : List ℕ)
+    → IsImageFor d bytes rest raw → old ≡ Some bytes → RefusesImage in_memory (pixel_count d.header) old new e → IsFault in_memory e
 unfolding IsImageFor
-fault_ahead true d old new e bytes raw rest image told refused =
+fault_ahead true d old new e bytes rest raw image told refused =
     whole_not_refused_in true (pixel_count d.header) old new e bytes image.cs rest refl told image.whole refused
-fault_ahead false d old new e bytes raw rest image told refused =
+fault_ahead false d old new e bytes rest raw image told refused =
     whole_is_io_error (pixel_count d.header) bytes image.cs rest new e image.whole (subst (λ z. RefusesImage false (pixel_count d.header) z new e) told refused)
 
 -- what is read from known bytes is an image at their front, and what follows it is left
@@ -114,9 +114,9 @@ same_image channels own h k bytes more raw out as_own as_k (rest, image) other =
 -- the image that stood ahead was read, and what follows it is left
 pub image_comes_back : {R : Type 0} (d : DecoderState R) (old left : Option (List ℕ)) (out : List ℕ)
     → ((bytes : List ℕ) → old ≡ Some bytes → (more : List ℕ) × (left ≡ Some more) × IsImage d.channels bytes d.header more out)
-    → (bytes raw rest : List ℕ) → IsImageFor d bytes raw rest → old ≡ Some bytes → (out ≡ raw) × (left ≡ Some rest)
+    → (bytes rest raw : List ℕ) → IsImageFor d bytes rest raw → old ≡ Some bytes → (out ≡ raw) × (left ≡ Some rest)
 unfolding IsImageFor
-image_comes_back d old left out reads bytes raw rest image told =
+image_comes_back d old left out reads bytes rest raw image told =
     let r = reads bytes told in
     let one = image_is_one d.channels d.header bytes rest r.0 raw out image r.2 in
     (one.0, r.1 ∙ ap Some one.1)
@@ -144,7 +144,7 @@ file_from_image next d bytes ahead left out (split, valid, own) told reads =
       rest,
       is_left,
       decodes_file h cs bytes rest out
-          (record { valid = valid; chunks = w.has.chunks; reaches = record { short = w.has.short; enough = w.enough } })
+          (record { valid = valid; chunks = w.has.chunks; reaches = record { stays_below = w.has.stays_below; enough = w.enough } })
           (split ∙ ap (λ l. head h ++ l) w.has.split ∙ sym (file_parts h cs rest)) (image.out_is ∙ ap P own),
     )
 
@@ -166,7 +166,7 @@ three_of_four channels own h k bytes rest out four as_four as_three as_k image t
     ∙ ap without_fourth (same_image channels Rgba h k bytes rest four (output f 4 pixels) as_four as_k image four_of_k)
 
 -- bytes of which an image is read aren't cut
-pub image_not_cut : (channels : Channels) (h : Header) (bytes rest out : List ℕ) → IsImage channels bytes h rest out → HasCut (pixel_count h) bytes → ⊥
+pub image_not_cut : (channels : Channels) (h : Header) (bytes rest out : List ℕ) → IsImage channels bytes h rest out → AreCut (pixel_count h) bytes → ⊥
 image_not_cut channels h bytes rest out image (cs, part, cut) = whole_not_cut (pixel_count h) bytes image.cs cs rest part image.whole cut
 
 -- nor are they wrong

@@ -5,7 +5,7 @@ use Rattle.qoi.specs.declared.chunk.Chunk.{Chunk}
 use Rattle.qoi.specs.declared.chunk.Chunk.TheVariants.{Place, Diff, Luma, Run, Rgb, Rgba}
 use Rattle.qoi.specs.Qoi.{Past, AreBytes, IsChunk, AreChunks, bytes_of, chunk_bytes, times, pixel_of, then_chunk, then_chunks, meaning, end_marker}
 use Rattle.qoi.specs.Verdicts.{HasChunks, IsWhole}
-use Rattle.qoi.specs.Decoding.{HasCut, least_byte_count}
+use Rattle.qoi.specs.Decoding.{AreCut, least_byte_count}
 use Rattle.qoi.proofs.format.Appended.{length-bytes_of, length-meaning}
 use Rattle.qoi.proofs.format.SomeVerdict.{verdict_of}
 
@@ -47,7 +47,7 @@ pub whole_holds : (n : ℕ) (bytes : List ℕ) (cs : List Chunk) (rest : List �
 whole_holds n bytes cs rest whole = enough_bytes n bytes cs end_marker rest whole.has whole.enough refl
 
 -- bytes that are too few are cut, whatever they are
-pub few_are_cut : (n : ℕ) (bytes : List ℕ) → AreBytes bytes → length bytes < least_byte_count n → HasCut n bytes
+pub few_are_cut : (n : ℕ) (bytes : List ℕ) → AreBytes bytes → length bytes < least_byte_count n → AreCut n bytes
 few_are_cut n bytes fits few =
     elim (verdict_of n bytes fits) [
       | inl whole ↦ let (cs, rest, is) = whole in let enough = whole_holds n bytes cs rest is in absurd (omega (arith, few, enough))

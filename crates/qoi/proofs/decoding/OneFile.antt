@@ -24,7 +24,7 @@ file_has_header h cs bytes rest f e =
 pub file_is_whole : (h : Header) (cs : List Chunk) (bytes rest : List ℕ) → IsFile h cs → bytes ≡ file h cs ++ rest
     → IsWhole (pixel_count h) (drop 14 bytes) cs rest
 file_is_whole h cs bytes rest f e = record {
-  has = record { chunks = f.chunks; short = f.reaches.short; split = ap (λ l. drop 14 l) (e ∙ file_parts h cs rest) };
+  has = record { chunks = f.chunks; stays_below = f.reaches.stays_below; split = ap (λ l. drop 14 l) (e ∙ file_parts h cs rest) };
   enough = f.reaches.enough;
 }
 
@@ -33,7 +33,7 @@ pub file_from_whole : (h : Header) (cs : List Chunk) (bytes rest : List ℕ) →
     → IsWhole (pixel_count h) (drop 14 bytes) cs rest → IsFile h cs × (bytes ≡ file h cs ++ rest)
 file_from_whole h cs bytes rest fits e w =
     let front = head_from_header_of bytes h fits e in (
-      record { valid = front.1; chunks = w.has.chunks; reaches = record { short = w.has.short; enough = w.enough } },
+      record { valid = front.1; chunks = w.has.chunks; reaches = record { stays_below = w.has.stays_below; enough = w.enough } },
       front.0 ∙ ap (λ l. head h ++ l) w.has.split ∙ sym (file_parts h cs rest),
     )
 
@@ -74,7 +74,7 @@ pub decodes_read : (h : Header) (bytes rest out : List ℕ) → AreBytes bytes �
 decodes_read h bytes rest out fits read r =
     let taken : drop header_size bytes ≡ chunk_bytes r.cs ++ (end_marker ++ rest) = r.taken ∙ append_assoc (chunk_bytes r.cs) end_marker rest in
     let whole : IsWhole (pixel_count h) (drop header_size bytes) r.cs rest = record {
-      has = record { chunks = r.chunks; short = r.reaches.short; split = taken };
+      has = record { chunks = r.chunks; stays_below = r.reaches.stays_below; split = taken };
       enough = r.reaches.enough;
     } in
     let front = file_from_whole h r.cs bytes rest fits read whole in

@@ -8,7 +8,7 @@ use Rattle.qoi.specs.Raw.{IsChannels, output}
 use Rattle.qoi.specs.inner.Filling.{Buffer, Filling, filling, HasFilled, HasSeen, GivesChunk}
 use Rattle.qoi.specs.inner.Table.{Holds}
 use Rattle.qoi.specs.Verdicts.{IsPartOfChunk}
-use Rattle.qoi.specs.Decoding.{EndsInChunk, HasCut, ReadsPixels, StreamsPixels}
+use Rattle.qoi.specs.Decoding.{EndsInChunk, AreCut, ReadsPixels, StreamsPixels}
 use Rattle.qoi.proofs.format.ChunkSteps.{times_some, then_chunks-append, each_append}
 use Rattle.std.proofs.lemmas.Grind.{flat_map-append}
 use Rattle.qoi.proofs.format.SomeVerdict.{reading_of}
@@ -20,7 +20,7 @@ use Rattle.qoi.proofs.decoding.SeenTable.{previous_copies}
 pub record SoFar (f c n : ℕ) (Taken : List ℕ → Type 0) (now : Filling) : Type 0 where
   pub cs : List Chunk
   pub chunks : AreChunks cs
-  pub short : StayBelow n cs
+  pub stays_below : StayBelow n cs
   pub taken : Taken (chunk_bytes cs)
   pub filled : HasFilled f c n now.buffer (then_chunks [] cs)
   pub has_seen : HasSeen now (then_chunks [] cs)
@@ -38,7 +38,7 @@ pub start_so_far : (f c : ℕ) (Taken : List ℕ → Type 0) (table : List RgbaP
 start_so_far f c Taken table last out is whole blank opaque none_taken = record {
   cs = [];
   chunks = tt;
-  short = tt;
+  stays_below = tt;
   taken = none_taken;
   filled = record { room = whole_pixels c (length out) is whole; at_is = none c is; same = refl };
   has_seen = record { table_is = blank; last_is = opaque };
@@ -69,7 +69,7 @@ goes_on {f} {c} {n} {Taken} {Taken'} {old} {new} {bytes} is s inside g takes wit
     record {
       cs = s.cs ++ chunk ∷ [];
       chunks = are_chunks_append s.cs (chunk ∷ []) s.chunks (g.is_chunk, tt);
-      short = each_append (λ past c. length past < n) [] s.cs (chunk ∷ []) s.short (fewer is s.filled inside, tt);
+      stays_below = each_append (λ past c. length past < n) [] s.cs (chunk ∷ []) s.stays_below (fewer is s.filled inside, tt);
       taken = subst Taken' (ap (λ z. chunk_bytes s.cs ++ z) g.bytes_are ∙ sym (chunk_bytes-last s.cs chunk)) (takes (chunk_bytes s.cs) s.taken);
       filled = rw pushed filled;
       has_seen = rw pushed has_seen;
@@ -82,7 +82,7 @@ pub reads_all : {f c n : ℕ} {Taken : List ℕ → Type 0} {now : Filling} → 
     → Reaches n s.cs × (now.buffer.out ≡ output f c (take n (meaning s.cs)))
 reads_all {f} {c} {n} {Taken} {now} is s full =
     let all = filled_all f c n now.buffer (then_chunks [] s.cs) is s.filled full in
-    (record { short = s.short; enough = rw length-meaning all.0 }, all.1)
+    (record { stays_below = s.stays_below; enough = rw length-meaning all.0 }, all.1)
 
 -- the bytes of a slice that are taken, and those after them
 abbrev pub SplitAt : List ℕ → List ℕ → List ℕ → Type 0
@@ -98,11 +98,11 @@ pub reads_pixels : {f c n : ℕ} {bytes rest : List ℕ} {now : Filling} → IsC
     → ReadsPixels f c n bytes rest now.buffer.out
 reads_pixels is s full =
     let all = reads_all is s full in
-    record { cs = s.cs; has = record { chunks = s.chunks; short = s.short; split = s.taken }; reaches = all.0; out_is = all.1 }
+    record { cs = s.cs; has = record { chunks = s.chunks; stays_below = s.stays_below; split = s.taken }; reaches = all.0; out_is = all.1 }
 
 -- where there is room and fewer bytes are left than an end marker has, the bytes are cut
 pub few_left : {f c n : ℕ} {bytes rest : List ℕ} {now : Filling} → IsChannels c → SoFar f c n (SplitAt bytes rest) now → now.buffer.at < length now.buffer.out
-    → AreBytes rest → length rest < 8 → HasCut n bytes
+    → AreBytes rest → length rest < 8 → AreCut n bytes
 few_left {f} {c} {n} {bytes} {rest} {now} is s inside fits few =
     let r = reading_of (suc (length rest)) n (then_chunks [] s.cs) rest (omega arith) fits in
     let all = s.cs ++ r.found in
@@ -113,7 +113,7 @@ few_left {f} {c} {n} {bytes} {rest} {now} is s inside fits few =
       record {
         has = record {
           chunks = are_chunks_append s.cs r.found s.chunks r.chunks;
-          short = each_append (λ past c. length past < n) [] s.cs r.found s.short r.short;
+          stays_below = each_append (λ past c. length past < n) [] s.cs r.found s.stays_below r.stays_below;
           split = s.taken ∙ ap (λ z. chunk_bytes s.cs ++ z) r.split ∙ sym (append_assoc (chunk_bytes s.cs) (chunk_bytes r.found) r.rest)
               ∙ ap (λ z. z ++ r.rest) (sym (flat_map-append bytes_of s.cs r.found));
         };
@@ -139,5 +139,5 @@ pub stream_ends : {f c n : ℕ} (old middle new : Option (List ℕ)) (part : Lis
 stream_ends old middle new part is s inside took is_part = (
   chunk_bytes s.cs ++ part,
   Consumes-trans old middle new (chunk_bytes s.cs) part s.taken took,
-  (s.cs, part, record { chunks = s.chunks; short = s.short; split = refl }, rw length-meaning (fewer is s.filled inside), is_part),
+  (s.cs, part, record { chunks = s.chunks; stays_below = s.stays_below; split = refl }, rw length-meaning (fewer is s.filled inside), is_part),
 )

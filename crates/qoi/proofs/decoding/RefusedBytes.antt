@@ -2,13 +2,13 @@
 use Rattle.std.proofs.Common.{◌≡◌, ℕ, List, Bool, true, false, Option, Some, inl, inr, refl, subst}
 use Rattle.qoi.specs.declared.error.Error.{Error}
 use Rattle.qoi.specs.declared.error.Error.TheVariants.{InvalidMagic, InvalidChannels, InvalidColorSpace, InvalidImageDimensions, InvalidImageLength, OutputBufferTooSmall, UnexpectedBufferEnd, InvalidPadding, IoError, OutOfMemory}
-use Rattle.qoi.specs.Decoding.{AreWrong, HasCut, RefusesBytes, RefusesImage, RefusesTaken}
+use Rattle.qoi.specs.Decoding.{AreWrong, AreCut, RefusesBytes, RefusesImage, RefusesTaken}
 use Rattle.qoi.specs.Reading.{IsForCut, IsForWrong}
 use Rattle.qoi.proofs.decoding.StreamVerdicts.{cut_is_io_error, padding_is_wrong}
 use Rattle.qoi.proofs.format.OneVerdict.{cut_not_wrong}
 
 -- cut bytes in memory are refused for their end
-cut_in_memory : (n : ℕ) (bytes : List ℕ) (e : Error) → HasCut n bytes → RefusesBytes n bytes e → e ≡ UnexpectedBufferEnd
+cut_in_memory : (n : ℕ) (bytes : List ℕ) (e : Error) → AreCut n bytes → RefusesBytes n bytes e → e ≡ UnexpectedBufferEnd
 cut_in_memory n bytes UnexpectedBufferEnd cut why = refl
 cut_in_memory n bytes InvalidPadding (cs, part, cut) (rest, (ds, eight, wrong)) = absurd (cut_not_wrong n bytes cs ds part eight rest cut wrong)
 cut_in_memory n bytes (InvalidMagic m) cut none = absurd none
@@ -47,7 +47,7 @@ padding_or_io n taken UnexpectedBufferEnd none = absurd none
 padding_or_io n taken OutOfMemory none = absurd none
 
 -- what refuses cut bytes
-pub refused_for_cut : (in_memory : Bool) (n : ℕ) (old new : Option (List ℕ)) (e : Error) (bytes : List ℕ) → old ≡ Some bytes → HasCut n bytes
+pub refused_for_cut : (in_memory : Bool) (n : ℕ) (old new : Option (List ℕ)) (e : Error) (bytes : List ℕ) → old ≡ Some bytes → AreCut n bytes
     → RefusesImage in_memory n old new e → IsForCut in_memory e
 refused_for_cut true n old new e bytes told cut refused =
     cut_in_memory n bytes e cut (subst (λ z. RefusesImage true n z new e) told refused).1
@@ -62,13 +62,13 @@ refused_for_wrong true n old new e bytes told wrong refused =
 refused_for_wrong false n old new e bytes told wrong (taken, took, why) = padding_or_io n taken e why
 
 -- only cut bytes are refused for their end
-ended : (in_memory : Bool) (n : ℕ) (new : Option (List ℕ)) (bytes : List ℕ) → RefusesImage in_memory n (Some bytes) new UnexpectedBufferEnd → HasCut n bytes
+ended : (in_memory : Bool) (n : ℕ) (new : Option (List ℕ)) (bytes : List ℕ) → RefusesImage in_memory n (Some bytes) new UnexpectedBufferEnd → AreCut n bytes
 ended true n new bytes refused = refused.1
 ended false n new bytes (taken, took, none) = absurd none
 
 -- the same where the bytes and the error are known by equations
 pub end_is_cut : (in_memory : Bool) (n : ℕ) (old new : Option (List ℕ)) (e : Error) (bytes : List ℕ) → old ≡ Some bytes → e ≡ UnexpectedBufferEnd
-    → RefusesImage in_memory n old new e → HasCut n bytes
+    → RefusesImage in_memory n old new e → AreCut n bytes
 end_is_cut in_memory n old new e bytes told is refused =
     ended in_memory n new bytes (subst (λ x. RefusesImage in_memory n (Some bytes) new x) is
     (subst (λ z. RefusesImage in_memory n z new e) told refused))

@@ -15,7 +15,7 @@ use Rattle.qoi.proofs.format.ChunksApart.{chunks_apart}
 use Rattle.std.proofs.lemmas.Bool.{cases_lt}
 use Rattle.qoi.specs.Qoi.{AreBytes, IsChunk, AreChunks, bytes_of, chunk_bytes, Reaches}
 use Rattle.qoi.specs.Verdicts.{IsPartOfChunk}
-use Rattle.qoi.specs.Decoding.{EndsInChunk, StreamsPixels, HasCut, RefusesTaken, RefusesTakenMarker}
+use Rattle.qoi.specs.Decoding.{EndsInChunk, StreamsPixels, AreCut, RefusesTaken, RefusesTakenMarker}
 use Rattle.qoi.proofs.format.PartOfChunk.{byte_and, part_luma, part_rgb, part_rgba}
 
 -- the front of a buffer after a read behind what was filled
@@ -91,7 +91,7 @@ rgba_ahead x (r ∷ g ∷ b ∷ a ∷ []) zeros is size fits = (Rgba r g b a, ze
 rgba_ahead x _ zeros is size fits = absurd (omega arith)
 
 -- bytes that end within a chunk are cut
-pub cut_in_chunk : (n : ℕ) (taken : List ℕ) → EndsInChunk n taken → HasCut n taken
+pub cut_in_chunk : (n : ℕ) (taken : List ℕ) → EndsInChunk n taken → AreCut n taken
 cut_in_chunk n taken (cs, part, takes, short, is_part) = (cs, part, record { has = takes; ends = inl (short, is_part) })
 
 -- why an image is refused whose marker is refused
@@ -100,13 +100,13 @@ refused_after : (n : ℕ) (cs : List Chunk) → AreChunks cs → Reaches n cs �
 refused_after n cs chunks reaches taken (IoError x) few = (
   cs,
   taken,
-  record { has = record { chunks = chunks; short = reaches.short; split = refl }; ends = inr (reaches.enough, few) },
+  record { has = record { chunks = chunks; stays_below = reaches.stays_below; split = refl }; ends = inr (reaches.enough, few) },
 )
 refused_after n cs chunks reaches taken InvalidPadding (eight, other) = (
   cs,
   taken,
   record {
-    has = record { chunks = chunks; short = reaches.short; split = ap (λ z. chunk_bytes cs ++ z) (sym (append-nil taken)) };
+    has = record { chunks = chunks; stays_below = reaches.stays_below; split = ap (λ z. chunk_bytes cs ++ z) (sym (append-nil taken)) };
     enough = reaches.enough;
     length_is = eight;
     other = other;

@@ -19,7 +19,7 @@ read_is_whole f c n bytes (Some rest) out r = (
   r.cs,
   rest,
   record {
-    has = record { chunks = r.chunks; short = r.reaches.short; split = r.taken ∙ append_assoc (chunk_bytes r.cs) end_marker rest };
+    has = record { chunks = r.chunks; stays_below = r.reaches.stays_below; split = r.taken ∙ append_assoc (chunk_bytes r.cs) end_marker rest };
     enough =
         r.reaches.enough;
   },
@@ -38,7 +38,7 @@ padding_is_wrong n bytes (Some rest) taken took (cs, eight, w) = (
   record {
     has = record {
       chunks = w.has.chunks;
-      short = w.has.short;
+      stays_below = w.has.stays_below;
       split = took ∙ ap (λ z. z ++ rest) w.has.split ∙ append_assoc (chunk_bytes cs) (eight ++ []) rest
           ∙ ap (λ z. chunk_bytes cs ++ (z ++ rest)) (append-nil eight);
     };

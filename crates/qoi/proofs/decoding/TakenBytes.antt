@@ -4,7 +4,7 @@ use Rattle.std.specs.Io.KnownBytes.{Consumes, Keeps}
 use Rattle.qoi.specs.declared.error.Error.{Error}
 use Rattle.qoi.specs.declared.error.Error.TheVariants.{InvalidMagic, InvalidChannels, InvalidColorSpace, InvalidImageDimensions, InvalidImageLength, OutputBufferTooSmall, UnexpectedBufferEnd, InvalidPadding, IoError, OutOfMemory}
 use Rattle.qoi.specs.Verdicts.{IsPartOfChunk}
-use Rattle.qoi.specs.Decoding.{HasCut, HasWrong, ReadsImage, RefusesImage}
+use Rattle.qoi.specs.Decoding.{AreCut, HasWrong, ReadsImage, RefusesImage}
 use Rattle.qoi.specs.DecoderState.{TakesAtMost}
 use Rattle.std.proofs.lemmas.List.{length-replicate}
 use Rattle.qoi.specs.declared.chunk.Chunk.{Chunk}
@@ -47,7 +47,7 @@ bytes_short n past (c ∷ d ∷ cs) h below short =
 
 -- chunks that reach n pixels have five bytes for each pixel, at most
 pub reached_within : (n : ℕ) (cs : List Chunk) → AreChunks cs → Reaches n cs → length (chunk_bytes cs) ≤ 5 * n
-reached_within n cs h r = omega (arith, bytes_short n [] cs h (omega arith) r.short)
+reached_within n cs h r = omega (arith, bytes_short n [] cs h (omega arith) r.stays_below)
 
 -- chunks that stay below n pixels leave room for five bytes more
 pub below_within : (n : ℕ) (cs : List Chunk) → AreChunks cs → StayBelow n cs → length (meaning cs) < n → 5 + length (chunk_bytes cs) ≤ 5 * n
@@ -58,19 +58,19 @@ part_within : (part : List ℕ) → IsPartOfChunk part → length part ≤ 4
 part_within part (c, next, more, is, e) = omega (arith, (length-bytes_of c).1, ap length e, length-append part (next ∷ more))
 
 -- cut bytes are within the bound
-cut_within : (n : ℕ) (bytes : List ℕ) → HasCut n bytes → length bytes ≤ 5 * n + 8
+cut_within : (n : ℕ) (bytes : List ℕ) → AreCut n bytes → length bytes ≤ 5 * n + 8
 cut_within n bytes (cs, part, cut) =
     elim cut.ends [
       | inl chunk ↦ omega (
         arith,
-        below_within n cs cut.has.chunks cut.has.short chunk.0,
+        below_within n cs cut.has.chunks cut.has.stays_below chunk.0,
         part_within part chunk.1,
         ap length cut.has.split,
         length-append (chunk_bytes cs) part,
       )
       | inr marker ↦ omega (
         arith,
-        reached_within n cs cut.has.chunks (record { short = cut.has.short; enough = marker.0 }),
+        reached_within n cs cut.has.chunks (record { stays_below = cut.has.stays_below; enough = marker.0 }),
         marker.1,
         ap length cut.has.split,
         length-append (chunk_bytes cs) part,
@@ -82,7 +82,7 @@ wrong_within : (n : ℕ) (bytes : List ℕ) → HasWrong n bytes [] → length b
 wrong_within n bytes (cs, eight, wrong) =
     omega (
       arith,
-      reached_within n cs wrong.has.chunks (record { short = wrong.has.short; enough = wrong.enough }),
+      reached_within n cs wrong.has.chunks (record { stays_below = wrong.has.stays_below; enough = wrong.enough }),
       wrong.length_is,
       ap length wrong.has.split,
       length-append (chunk_bytes cs) (eight ++ []),

@@ -57,7 +57,7 @@ style_unique style image cs ds w v = w.is ∙ ap (in_style style) (unique_by (ch
 pub style_reaches : (style : Style) (image : List RgbaPixel) (n : ℕ) (cs : List Chunk) → WrittenIn style image cs → length image ≡ n → Reaches n cs
 style_reaches style image n cs w e =
     let m : length (meaning cs) ≡ n = ap length (style_means style image cs w) ∙ e in
-    record { short = stay_below [] cs n (style_chunks style image cs w) (sym (length-reverse (then_chunks [] cs)) ∙ m); enough = rw m (omega arith) }
+    record { stays_below = stay_below [] cs n (style_chunks style image cs w) (sym (length-reverse (then_chunks [] cs)) ∙ m); enough = rw m (omega arith) }
 
 -- two neighbours never name one index position
 pub style_apart : (style : Style) (image : List RgbaPixel) (cs front rest : List Chunk) (i : ℕ) → WrittenIn style image cs

@@ -42,7 +42,7 @@ pub reaches_by : (Choice : Past → RgbaPixel → Chunk → Type 0) (image : Lis
 reaches_by Choice image n cs w e =
     let m : length (meaning cs) ≡ n = ap length w.means ∙ e in
     let l : length (meaning cs) ≡ length (then_chunks [] cs) = length-reverse (then_chunks [] cs) in
-    record { short = stay_below [] cs n w.chunks (omega arith); enough = omega arith }
+    record { stays_below = stay_below [] cs n w.chunks (omega arith); enough = omega arith }
 
 -- the pixel before the next one is opaque, where all are
 opaque_previous : (past : Past) → AreOpaque past → (previous past).a ≡ 255

@@ -47,7 +47,7 @@ enough_ends n cs x h = inl (omega (arith, length-meaning cs))
 pub one_takes : (n : ℕ) (bytes : List ℕ) (cs ds : List Chunk) (x y : List ℕ) → HasChunks n bytes cs x → HasChunks n bytes ds y
     → EndsChunks n (then_chunks [] cs) x → EndsChunks n (then_chunks [] ds) y → (cs ≡ ds) × (x ≡ y)
 one_takes n bytes cs ds x y s t ec ed =
-    one_takes_after n [] cs ds x y s.chunks t.chunks s.short t.short ec ed (sym s.split ∙ t.split)
+    one_takes_after n [] cs ds x y s.chunks t.chunks s.stays_below t.stays_below ec ed (sym s.split ∙ t.split)
 
 -- reading of cut bytes ends where they end
 pub cut_ends : (n : ℕ) (bytes : List ℕ) (cs : List Chunk) (x : List ℕ) → IsCut n bytes cs x → EndsChunks n (then_chunks [] cs) x

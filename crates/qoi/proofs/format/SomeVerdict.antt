@@ -82,7 +82,7 @@ pub record Reading (n : ℕ) (past : Past) (bytes : List ℕ) : Type 0 where
   pub found : List Chunk
   pub rest : List ℕ
   pub chunks : AreChunks found
-  pub short : StayBelowAfter n past found
+  pub stays_below : StayBelowAfter n past found
   pub split : bytes ≡ chunk_bytes found ++ rest
   pub ends : EndsChunks n (then_chunks past found) rest
 
@@ -93,14 +93,14 @@ reading_goes_on n past bytes c more below hc e r = record {
   found = c ∷ r.found;
   rest = r.rest;
   chunks = (hc, r.chunks);
-  short = (below, r.short);
+  stays_below = (below, r.stays_below);
   split = e ∙ ap (λ l. bytes_of c ++ l) r.split ∙ sym (append_assoc (bytes_of c) (chunk_bytes r.found) r.rest);
   ends = r.ends;
 }
 
 -- reading ends at once
 reading_ends : (n : ℕ) (past : Past) (bytes : List ℕ) → EndsChunks n past bytes → Reading n past bytes
-reading_ends n past bytes h = record { found = []; rest = bytes; chunks = tt; short = tt; split = refl; ends = h }
+reading_ends n past bytes h = record { found = []; rest = bytes; chunks = tt; stays_below = tt; split = refl; ends = h }
 
 -- reading ends, since each chunk takes a byte or more
 pub reading_of : (fuel n : ℕ) (past : Past) (bytes : List ℕ) → length bytes < fuel → AreBytes bytes → Reading n past bytes
@@ -160,4 +160,4 @@ verdict_of_ends n bytes cs rest t (inl enough) =
 pub verdict_of : (n : ℕ) (bytes : List ℕ) → AreBytes bytes → HasVerdict n bytes
 verdict_of n bytes fits =
     let r = reading_of (suc (length bytes)) n [] bytes (omega arith) fits in
-    verdict_of_ends n bytes r.found r.rest (record { chunks = r.chunks; short = r.short; split = r.split }) r.ends
+    verdict_of_ends n bytes r.found r.rest (record { chunks = r.chunks; stays_below = r.stays_below; split = r.split }) r.ends

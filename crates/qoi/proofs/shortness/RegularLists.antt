@@ -86,7 +86,7 @@ pub no_blank_regular : (image : List RgbaPixel) (cs : List Chunk) → Reaches (l
 no_blank_regular image cs r (more, b) h =
     let e : then_chunks [] cs ≡ reverse more ++ reverse image = sym (reverse-reverse (then_chunks [] cs)) ∙ ap reverse b ∙ reverse-append image more in
     let l : length image ≡ length (reverse image) = sym (length-reverse image) in
-    all_named [] cs (reverse more) (reverse image) e (subst (λ n. Each (λ past c. length past < n) [] cs) l r.short) (all_reverse (λ p. p ≢ blank) image h)
+    all_named [] cs (reverse more) (reverse image) e (subst (λ n. Each (λ past c. length past < n) [] cs) l r.stays_below) (all_reverse (λ p. p ≢ blank) image h)
 
 -- what follows from P holds of each of a list where P does
 all_map : {A : Type 0} (P Q : A → Type 0) → ((x : A) → P x → Q x) → (xs : List A) → AllByRecursion P xs → AllByRecursion Q xs

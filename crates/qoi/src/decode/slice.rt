@@ -2,7 +2,7 @@
 ghost use Rattle.std.specs.Prelude.{◌≡◌, ◌↔◌, ◌≤◌, IsTrue, IsFalse, ℕ, ◌/◌, ◌%◌, ◌++◌, length, Some, MatchOption, IfOk, IfErr};
 ghost use Rattle.qoi.specs.Raw.{IsChannels};
 ghost use Rattle.qoi.specs.Qoi.{end_marker};
-ghost use Rattle.qoi.specs.Decoding.{HasCut, least_byte_count, ReadsPixels, ReadsImage, RefusesMarker, RefusesBytes};
+ghost use Rattle.qoi.specs.Decoding.{AreCut, least_byte_count, ReadsPixels, ReadsImage, RefusesMarker, RefusesBytes};
 
 use crate::consts::{QOI_PADDING, QOI_PADDING_SIZE, QOI_RUN_MAX};
 use crate::decode::pixels::give_first;
@@ -15,7 +15,7 @@ use crate::table::Table;
 #[tactic(auto, using(crate::proofs::decoding::LeastBytes::few_are_cut))]
 pub(super) fn could_hold(data: &[u8], n_pixels: usize) -> bool
     ensures holds { IsTrue result ↔ (least_byte_count n_pixels ≤ length «data».now) }
-    ensures cut { IsFalse result → HasCut n_pixels «data».now }
+    ensures cut { IsFalse result → AreCut n_pixels «data».now }
 {
     data.len() >= n_pixels.div_ceil(QOI_RUN_MAX) + QOI_PADDING_SIZE
 }
@@ -28,7 +28,7 @@ fn slice_chunks<'a, const N: usize, const F: usize>(
 ) -> Option<&'a [u8]>
     requires channels { IsChannels N }
     requires whole { length out.old % N ≡ 0 }
-    ensures { MatchOption result (HasCut (length out.old / N) «data».entry.now)
+    ensures { MatchOption result (AreCut (length out.old / N) «data».entry.now)
         (λ rest. ReadsPixels F N (length out.old / N) «data».entry.now rest.now out.new) }
 {
     let mut table = Table::new();

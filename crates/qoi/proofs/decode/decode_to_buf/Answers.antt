@@ -5,7 +5,7 @@ use Rattle.qoi.specs.declared.header.Header.{Header}
 use Rattle.qoi.specs.declared.types.Style.TheVariants.{Reference}
 use Rattle.qoi.specs.Qoi.{channels_number, header_of, pixel_count, header_size}
 use Rattle.qoi.specs.Verdicts.{IsWhole}
-use Rattle.qoi.specs.Decoding.{AreWrong, HasCut, RefusesBuffer, RefusesBytes, DecodesFile, ReadsImage, file_byte_count, byte_count}
+use Rattle.qoi.specs.Decoding.{AreWrong, AreCut, RefusesBuffer, RefusesBytes, DecodesFile, ReadsImage, image_byte_count, byte_count}
 use Rattle.qoi.specs.DecoderState.{DecoderState}
 use Rattle.qoi.proofs.decoding.OneFile.{file_has_header, file_is_whole, header_is_one, decodes_behind, decoding_is_one}
 use Rattle.qoi.specs.declared.types.Style.{Style}
@@ -20,8 +20,8 @@ returns-in_err-decode_to_buf-clause-accepts c h cs rest f split room =
     let d = c.in_ok-decoder.decoder in
     let accepted = c.in_ok-decoder.ensures.accepted in
     let same : h ≡ d.header = cc in
-    let size : file_byte_count h ≡ byte_count d.header (channels_number d.channels) =
-    ap file_byte_count same ∙ ap (λ k. byte_count d.header (channels_number k)) (sym accepted.1) in
+    let size : image_byte_count h ≡ byte_count d.header (channels_number d.channels) =
+    ap image_byte_count same ∙ ap (λ k. byte_count d.header (channels_number k)) (sym accepted.1) in
     let ok = c.decode_to_buf.ensures.accepts refl (drop header_size c.args.data.now) rest cs (ap Some accepted.2)
     (subst (λ k. IsWhole (pixel_count k) (drop header_size c.args.data.now) cs rest) same whole) (subst (λ k. k ≤ length c.args.buf.now) size room) in
     let no : false ≡ true = subst IsOk c.in_err-decode_to_buf.was ok in
@@ -41,12 +41,12 @@ returns-clause-decoded c =
     let decoded = c.in_ok-decode_to_buf.ensures.decoded in
     let buf = c.decode_to_buf.new.buf in
     let same : d.header ≡ c.header.result.now = cc in
-    let size : c.in_ok-decode_to_buf.field-0 ≡ file_byte_count d.header = decoded.0 ∙ ap (λ k. byte_count d.header (channels_number k)) accepted.1 in
+    let size : c.in_ok-decode_to_buf.field-0 ≡ image_byte_count d.header = decoded.0 ∙ ap (λ k. byte_count d.header (channels_number k)) accepted.1 in
     let image = subst (λ z. ReadsImage (channels_number d.header.channels) (channels_number d.channels) (pixel_count d.header) (Some d.reader) (Some rest)
     (take z buf)) size decoded.1 in (
       rest,
-      subst (λ (k : Header). DecodesFile c.args.data.now k rest (take (file_byte_count k) buf)) same
-          (decodes_behind c.args.data.now d rest (take (file_byte_count d.header) buf)
+      subst (λ (k : Header). DecodesFile c.args.data.now k rest (take (image_byte_count k) buf)) same
+          (decodes_behind c.args.data.now d rest (take (image_byte_count d.header) buf)
           (λ i. omega (arith, c.type_inv.data i)) accepted.0 accepted.1 accepted.2 image),
     )
 
@@ -78,9 +78,9 @@ returns-clause-followed c style h raw bytes rest f split room =
     let decoded = returns-clause-decoded c in
     let buf = c.decode_to_buf.new.buf in
     let k = c.header.result.now in
-    let one = decoding_is_one c.args.data.now h k rest decoded.0 raw (take (file_byte_count k) buf) d decoded.1 in (
+    let one = decoding_is_one c.args.data.now h k rest decoded.0 raw (take (image_byte_count k) buf) d decoded.1 in (
       ap Ok one.0,
-      ap (λ n. take n buf) (f.is_file.size ∙ ap file_byte_count (sym one.0)) ∙ one.1,
+      ap (λ n. take n buf) (f.is_file.size ∙ ap image_byte_count (sym one.0)) ∙ one.1,
     )
 
 pub returns-in_err-decode_to_buf-clause-comes_back_in : goal.returns-in_err-decode_to_buf-clause-comes_back_in
@@ -111,10 +111,10 @@ returns-in_err-decode_to_buf-clause-cut c h read cut room =
     let accepted = c.in_ok-decoder.ensures.accepted in
     let p = err_from_is_err_and c.from_residual-in_err-decode_to_buf.result c.from_residual-in_err-decode_to_buf.ensures.1 in
     let same = header_is_one c.args.data.now h d.header read accepted.0 in
-    let size : file_byte_count h ≡ byte_count d.header (channels_number d.channels) =
-    ap file_byte_count same ∙ ap (λ k. byte_count d.header (channels_number k)) (sym accepted.1) in
+    let size : image_byte_count h ≡ byte_count d.header (channels_number d.channels) =
+    ap image_byte_count same ∙ ap (λ k. byte_count d.header (channels_number k)) (sym accepted.1) in
     let refused = c.in_err-decode_to_buf.ensures.cut (drop header_size c.args.data.now) (ap Some accepted.2)
-    (subst (λ k. HasCut (pixel_count k) (drop header_size c.args.data.now)) same cut) (subst (λ k. k ≤ length c.args.buf.now) size room) in
+    (subst (λ k. AreCut (pixel_count k) (drop header_size c.args.data.now)) same cut) (subst (λ k. k ≤ length c.args.buf.now) size room) in
     p.1 ∙ ap Err (p.2 ∙ refused)
 
 pub returns-in_err-decode_to_buf-clause-wrong : goal.returns-in_err-decode_to_buf-clause-wrong
@@ -123,8 +123,8 @@ returns-in_err-decode_to_buf-clause-wrong c h read wrong room =
     let accepted = c.in_ok-decoder.ensures.accepted in
     let p = err_from_is_err_and c.from_residual-in_err-decode_to_buf.result c.from_residual-in_err-decode_to_buf.ensures.1 in
     let same = header_is_one c.args.data.now h d.header read accepted.0 in
-    let size : file_byte_count h ≡ byte_count d.header (channels_number d.channels) =
-    ap file_byte_count same ∙ ap (λ k. byte_count d.header (channels_number k)) (sym accepted.1) in
+    let size : image_byte_count h ≡ byte_count d.header (channels_number d.channels) =
+    ap image_byte_count same ∙ ap (λ k. byte_count d.header (channels_number k)) (sym accepted.1) in
     let refused = c.in_err-decode_to_buf.ensures.wrong (drop header_size c.args.data.now) (ap Some accepted.2)
     (subst (λ k. AreWrong (pixel_count k) (drop header_size c.args.data.now)) same wrong) (subst (λ k. k ≤ length c.args.buf.now) size room) in
     p.1 ∙ ap Err (p.2 ∙ refused)
@@ -134,11 +134,11 @@ returns-in_err-decode_to_buf-clause-refused c =
     let d = c.in_ok-decoder.decoder in
     let accepted = c.in_ok-decoder.ensures.accepted in
     let p = err_from_is_err_and c.from_residual-in_err-decode_to_buf.result c.from_residual-in_err-decode_to_buf.ensures.1 in
-    let size : byte_count d.header (channels_number d.channels) ≡ file_byte_count d.header = ap (λ k. byte_count d.header (channels_number k)) accepted.1 in
+    let size : byte_count d.header (channels_number d.channels) ≡ image_byte_count d.header = ap (λ k. byte_count d.header (channels_number k)) accepted.1 in
     let n = length c.args.buf.now in
-    let less : n < file_byte_count d.header → RefusesBuffer n (file_byte_count d.header) c.in_err-decode_to_buf.field-0.0 =
+    let less : n < image_byte_count d.header → RefusesBuffer n (image_byte_count d.header) c.in_err-decode_to_buf.field-0.0 =
     (λ short. let e = (c.in_err-decode_to_buf.ensures.short (subst (λ k. n < k) (sym size) short)).0 in (short, cc)) in
-    let enough : file_byte_count d.header ≤ n → RefusesBytes (pixel_count d.header) (drop header_size c.args.data.now) c.in_err-decode_to_buf.field-0.0 =
+    let enough : image_byte_count d.header ≤ n → RefusesBytes (pixel_count d.header) (drop header_size c.args.data.now) c.in_err-decode_to_buf.field-0.0 =
     (λ room. subst (λ z. RefusesBytes (pixel_count d.header) z c.in_err-decode_to_buf.field-0.0) accepted.2
     (c.in_err-decode_to_buf.ensures.refused (subst (λ k. k ≤ n) (sym size) room)).1) in
-    rw (p.1, p.2) (inr (d.header, accepted.0, by_size n (file_byte_count d.header) _ _ less enough))
+    rw (p.1, p.2) (inr (d.header, accepted.0, by_size n (image_byte_count d.header) _ _ less enough))

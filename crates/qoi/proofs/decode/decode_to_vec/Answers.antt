@@ -5,7 +5,7 @@ use Rattle.qoi.specs.declared.types.Style.TheVariants.{Reference}
 use Rattle.std.proofs.lemmas.Result.{err_from_is_err_and}
 use Rattle.qoi.specs.Qoi.{header_of, pixel_count, header_size}
 use Rattle.qoi.specs.Verdicts.{IsWhole}
-use Rattle.qoi.specs.Decoding.{AreWrong, HasCut, DecodesFile, RefusesBytes, least_byte_count}
+use Rattle.qoi.specs.Decoding.{AreWrong, AreCut, DecodesFile, RefusesBytes, least_byte_count}
 use Rattle.qoi.specs.DecoderState.{DecoderState}
 use Rattle.std.proofs.lemmas.List.{length-drop}
 use Rattle.qoi.proofs.decoding.ImageSize.{bounded_by}
@@ -21,7 +21,7 @@ returns-in_err-out-clause-refused c =
       none,
       d.header,
       accepted.0,
-      subst (λ z. least_byte_count (pixel_count d.header) ≤ length z) accepted.2 (c.in_err-out.ensures.holds (ap Err none)),
+      subst (λ z. least_byte_count (pixel_count d.header) ≤ length z) accepted.2 (c.in_err-out.ensures.asked (ap Err none)),
     ))
     (λ r. inl (inr (
       d.header,
@@ -94,13 +94,13 @@ returns-in_err-decoder-clause-comes_back_in c style h raw f =
 pub returns-in_err-decoder-clause-comes_back : goal.returns-in_err-decoder-clause-comes_back
 returns-in_err-decoder-clause-comes_back c h raw f = returns-in_err-decoder-clause-comes_back_in c Reference h raw f
 
-pub returns-clause-held : goal.returns-clause-held
-returns-clause-held c =
+pub returns-clause-per_byte : goal.returns-clause-per_byte
+returns-clause-per_byte c =
     let d = c.in_ok-decoder.decoder in
     let accepted = c.in_ok-decoder.ensures.accepted in
     let same : c.header.result.now ≡ d.header = c.header.ensures ∙ ap (λ (s : DecoderState (List ℕ)). s.header) c.in_ok-out.ensures.unchanged in
     let size = c.in_ok-out.ensures.length.0 in
-    rw same (bounded_by (pixel_count d.header) (length c.in_ok-out.out.items) d.channels d.reader c.args.data.now c.in_ok-out.ensures.held
+    rw same (bounded_by (pixel_count d.header) (length c.in_ok-out.out.items) d.channels d.reader c.args.data.now c.in_ok-out.ensures.could_hold
     (omega (arith, ap length accepted.2, length-drop header_size c.args.data.now)) (omega (arith, size)))
 
 pub returns-in_err-out-clause-cut : goal.returns-in_err-out-clause-cut
@@ -110,7 +110,7 @@ returns-in_err-out-clause-cut c h read cut =
     let p = err_from_is_err_and c.from_residual-in_err-out.result c.from_residual-in_err-out.ensures.1 in
     let same = header_is_one c.args.data.now h d.header read accepted.0 in
     rw (p.1, p.2) (c.in_err-out.ensures.cut (drop header_size c.args.data.now) (ap Some accepted.2)
-    (subst (λ k. HasCut (pixel_count k) (drop header_size c.args.data.now)) same cut))
+    (subst (λ k. AreCut (pixel_count k) (drop header_size c.args.data.now)) same cut))
 
 pub returns-in_err-out-clause-wrong : goal.returns-in_err-out-clause-wrong
 returns-in_err-out-clause-wrong c h read wrong =

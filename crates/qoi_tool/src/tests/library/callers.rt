@@ -10,7 +10,7 @@ ghost use Rattle.qoi_tool.specs.Files.{AreFiles};
 ghost use Rattle.qoi.specs.Regular.{Regular};
 ghost use Rattle.qoi.specs.writers.Writes.{AppendsBeginning};
 ghost use Rattle.qoi.specs.declared.chunk.Chunk.{Chunk};
-ghost use Rattle.qoi.specs.Decoding.{DecodesFile, HasCut, ReadsImage, TakesHeader};
+ghost use Rattle.qoi.specs.Decoding.{DecodesFile, AreCut, ReadsImage, TakesHeader};
 
 use qoi::{
     Channels, Decoder, Encoder, Error, Header, Style, decode_to_buf, decode_to_vec, encode_to_buf,
@@ -482,7 +482,7 @@ pub fn both_channels(alloc: Global, file: &[u8]) -> Result<(Vec<u8>, Vec<u8>), E
 /// Bytes that are still to come. Where the end is missed, the bytes behind the header are cut.
 pub fn more_needed(alloc: Global, file: &[u8]) -> Result<(Header, Result<Vec<u8>, Error>), Error>
     ensures { IfOk result (λ x. IsErrOf x.1 Error.UnexpectedBufferEnd
-        → HasCut (pixel_count x.0) (drop header_size file.now)) }
+        → AreCut (pixel_count x.0) (drop header_size file.now)) }
 {
     let mut decoder = Decoder::new(file)?;
     let header = *decoder.header();

@@ -51,9 +51,9 @@ returns-clause-bounded g c =
     (ap (λ s. g.R.Reader.ahead s.reader) c.self.view_is) (rw pixels at within)
 
 pub returns-in_err-decode_image-clause-faults : goal.returns-in_err-decode_image-clause-faults
-returns-in_err-decode_image-clause-faults g c bytes raw rest image told room =
+returns-in_err-decode_image-clause-faults g c bytes rest raw image told room =
     let p = err_from_is_err_and c.from_residual.result c.from_residual.ensures.1 in
-    rw (p.1, p.2) (fault_ahead g.R.Reader.in_memory c.args.self.now _ _ _ bytes raw rest image told
+    rw (p.1, p.2) (fault_ahead g.R.Reader.in_memory c.args.self.now _ _ _ bytes rest raw image told
     (refused g (goal.at.returns-in_err-decode_image-clause-faults g c).After-from_residual))
 
 pub returns-clause-rest : goal.returns-clause-rest
@@ -72,12 +72,12 @@ pub returns-clause-read : goal.returns-clause-read
 returns-clause-read g c = has_image_ahead _ _ (g.R.Reader.ahead c.args.self.now.reader) _ _ (returns-clause-rest g c)
 
 pub returns-clause-image : goal.returns-clause-image
-returns-clause-image g c bytes raw rest image told =
-    (image_comes_back c.args.self.now _ _ _ (returns-clause-rest g c) bytes raw rest image told).0
+returns-clause-image g c bytes rest raw image told =
+    (image_comes_back c.args.self.now _ _ _ (returns-clause-rest g c) bytes rest raw image told).0
 
 pub returns-clause-left : goal.returns-clause-left
-returns-clause-left g c bytes raw rest image told =
-    (image_comes_back c.args.self.now _ _ _ (returns-clause-rest g c) bytes raw rest image told).1
+returns-clause-left g c bytes rest raw image told =
+    (image_comes_back c.args.self.now _ _ _ (returns-clause-rest g c) bytes rest raw image told).1
 
 pub returns-clause-file : goal.returns-clause-file
 returns-clause-file g c bytes ahead made stand =

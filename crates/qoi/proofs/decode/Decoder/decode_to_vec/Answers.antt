@@ -7,7 +7,7 @@ use lib.Seq.{take-append_seam}
 use Rattle.qoi.specs.declared.error.Error.TheVariants.{UnexpectedBufferEnd}
 use Rattle.qoi.specs.Qoi.{pixel_count}
 use Rattle.qoi.specs.Decoding.{DecodesFile, RefusesImage}
-use Rattle.qoi.specs.DecoderState.{image_byte_count}
+use Rattle.qoi.specs.DecoderState.{output_byte_count}
 use Rattle.qoi.proofs.decoding.Ahead.{fault_ahead}
 use Rattle.qoi.proofs.decoding.RefusedBytes.{refused_for_wrong}
 use Rattle.qoi.proofs.decoding.Refusals.{whole_not_refused_in}
@@ -22,7 +22,7 @@ returns-then-not-could_hold-clause-accepts g c memory bytes rest cs told whole =
 
 pub returns-in_err-decode_to_buf-clause-accepts : goal.returns-in_err-decode_to_buf-clause-accepts
 returns-in_err-decode_to_buf-clause-accepts g c memory bytes rest cs told whole =
-    let room : image_byte_count c.args.self.now ≤ length c.deref_mut.result.now =
+    let room : output_byte_count c.args.self.now ≤ length c.deref_mut.result.now =
     omega (arith, c.in_ok-out.ensures.len, c.deref_mut.ensures.len, c.required_buf_len.ensures.bytes) in
     let ok = c.decode_to_buf.ensures.accepts memory bytes rest cs told whole room in
     let no : false ≡ true = subst IsOk c.in_err-decode_to_buf.was ok in
@@ -33,16 +33,16 @@ returns-clause-length g c =
     let buf = c.decode_to_buf.new.buf in
     let items = c.in_ok-out.out.items in
     let n = c.in_ok-out.out.len in
-    let counted : n ≡ image_byte_count c.args.self.now = omega (arith, c.in_ok-out.ensures.len, c.required_buf_len.ensures.bytes) in
+    let counted : n ≡ output_byte_count c.args.self.now = omega (arith, c.in_ok-out.ensures.len, c.required_buf_len.ensures.bytes) in
     let within : n ≤ length (buf ++ drop (length buf) items) =
     omega (arith, length-append buf (drop (length buf) items), c.decode_to_buf.auto.buf, c.deref_mut.ensures.len) in
     let size = length-take-le n (buf ++ drop (length buf) items) within in
     (size ∙ counted, omega (arith, size, counted, c.required_buf_len.ensures.some, c.required_buf_len.ensures.bytes))
 
 pub returns-then-not-could_hold-clause-faults : goal.returns-then-not-could_hold-clause-faults
-returns-then-not-could_hold-clause-faults g c bytes raw rest image told =
+returns-then-not-could_hold-clause-faults g c bytes rest raw image told =
     let cut = c.could_hold.ensures.cut (search rules) in
-    inr (fault_ahead g.R.Reader.in_memory c.args.self.now _ _ UnexpectedBufferEnd bytes raw rest image told
+    inr (fault_ahead g.R.Reader.in_memory c.args.self.now _ _ UnexpectedBufferEnd bytes rest raw image told
     (subst (λ s. RefusesImage g.R.Reader.in_memory (pixel_count s.header) (g.R.Reader.ahead s.reader)
     (g.R.Reader.ahead s.reader) UnexpectedBufferEnd) c.self.view_is (rw c.n_pixels.ensures at cut)))
 
@@ -75,19 +75,19 @@ returns-clause-same g c channels h bytes raw image as_own as_k told =
     front _ _ buf _ counted filled ∙ c.in_ok-decode_to_buf.ensures.same channels h bytes raw image as_own as_k told
 
 pub returns-clause-image : goal.returns-clause-image
-returns-clause-image g c bytes raw rest image told =
+returns-clause-image g c bytes rest raw image told =
     let buf = c.decode_to_buf.new.buf in
     let counted : c.in_ok-out.out.len ≡ length buf = omega (arith, c.decode_to_buf.auto.buf, c.deref_mut.ensures.len) in
     let filled : c.in_ok-decode_to_buf.field-0 ≡ length buf =
     omega (arith, counted, c.in_ok-out.ensures.len, c.required_buf_len.ensures.bytes, c.in_ok-decode_to_buf.ensures.decoded.0) in
-    front _ _ buf _ counted filled ∙ c.in_ok-decode_to_buf.ensures.image bytes raw rest image told
+    front _ _ buf _ counted filled ∙ c.in_ok-decode_to_buf.ensures.image bytes rest raw image told
 
 pub returns-in_err-decode_to_buf-clause-faults : goal.returns-in_err-decode_to_buf-clause-faults
-returns-in_err-decode_to_buf-clause-faults g c bytes raw rest image told =
-    let room : image_byte_count c.args.self.now ≤ length c.deref_mut.result.now =
+returns-in_err-decode_to_buf-clause-faults g c bytes rest raw image told =
+    let room : output_byte_count c.args.self.now ≤ length c.deref_mut.result.now =
     omega (arith, c.in_ok-out.ensures.len, c.deref_mut.ensures.len, c.required_buf_len.ensures.bytes) in
     let p = err_from_is_err_and c.from_residual-in_err-decode_to_buf.result c.from_residual-in_err-decode_to_buf.ensures.1 in
-    rw (p.1, p.2) (inr (c.in_err-decode_to_buf.ensures.faults bytes raw rest image told room))
+    rw (p.1, p.2) (inr (c.in_err-decode_to_buf.ensures.faults bytes rest raw image told room))
 
 pub returns-clause-file : goal.returns-clause-file
 returns-clause-file g c bytes ahead made told =

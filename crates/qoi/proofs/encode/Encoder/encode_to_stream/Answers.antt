@@ -55,4 +55,4 @@ returns-clause-no_longer g c e style bytes f =
     let w = c.in_ok-n.ensures.written in
     let own = subst (λ (s : EncoderState). IsFileOf s.style s.header s.raw w.0) c.self.view_is w.1 in
     let tight = subst (λ style. IsFileOf style c.args.self.now.header c.args.self.now.raw w.0) e own in
-    rw w.2 (shortest_is_least style c.args.self.now.header c.args.self.now.raw bytes (length w.0) tight.short f)
+    rw w.2 (shortest_is_least style c.args.self.now.header c.args.self.now.raw bytes (length w.0) tight.shortness f)

@@ -11,4 +11,4 @@ returns c =
     let (h, header, encoded) = c.in_ok-file.ensures.encoded in
     let file = subst (IsFileOf Reference h raw) (sym c.deref.ensures.value) encoded in
     let back = c.in_ok-decoder.ensures.comes_back h raw file in
-    c.in_ok-size.ensures.image (drop header_size c.deref.result.now) raw [] back.1 (ap Some c.in_ok-decoder.ensures.accepted.2)
+    c.in_ok-size.ensures.image (drop header_size c.deref.result.now) [] raw back.1 (ap Some c.in_ok-decoder.ensures.accepted.2)
