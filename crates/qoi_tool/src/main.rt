@@ -186,10 +186,14 @@ fn words_of(rt: &HostRuntime) -> Result<Vec<String>, Error>
     }
 }
 
-// Does what the program was called for, with its arguments, standard input and standard output.
+// Does what the program was called for, with its arguments, standard input and standard output, and
+// flushes the output.
 fn run_here(rt: &HostRuntime) -> Result<(), Fault> {
     let words = words_of(rt)?;
-    run(rt.alloc(), &words, &mut rt.stdin(), &mut rt.stdout())
+    let mut output = rt.stdout();
+    run(rt.alloc(), &words, &mut rt.stdin(), &mut output)?;
+    output.flush().map_err(Error::IoError)?;
+    Ok(())
 }
 
 fn main(rt: HostRuntime) -> ExitCode {
