@@ -7,20 +7,20 @@ use Rattle.qoi.specs.declared.types.ColorSpace.{ColorSpace}
 use Rattle.qoi.specs.declared.header.Header.{Header}
 use Rattle.qoi.specs.declared.chunk.Chunk.{Chunk}
 use Rattle.qoi.specs.declared.chunk.Chunk.TheVariants.{Place}
-use Rattle.qoi.specs.Qoi.{channels_number, colorspace_number, head, pixel_count, IsValid, RgbaPixel, AreChunks, bytes_of, chunk_bytes, Reaches, meaning, file, file_pixels, end_marker, IsFile}
-use Rattle.qoi.specs.Raw.{IsChannels, output, HasChannels}
+use Rattle.qoi.specs.Qoi.{channels_number, colorspace_number, header_bytes, pixel_count, IsValid, RgbaPixel, AreChunks, bytes_of, chunk_bytes, Reaches, meaning, file, file_pixels, end_marker, IsFile}
+use Rattle.qoi.specs.Raw.{IsChannels, output, HasChannels, image_byte_count}
 use Rattle.qoi.specs.declared.types.Style.{Style}
 use Rattle.qoi.specs.declared.types.Style.TheVariants.{Reference, Places, Tight}
 use Rattle.qoi.specs.Written.{Written}
 use Rattle.qoi.specs.Styles.{WrittenIn}
-use Rattle.qoi.specs.Decoding.{image_byte_count, DecodesFile}
+use Rattle.qoi.specs.Decoding.{DecodesFile}
 use Rattle.qoi.specs.Encoded.{max_file_len, image_pixels, Spans, IsShortest, IsNearShortest, IsFileBy, IsAsReference, IsShortIn, IsFileOf}
 use Rattle.qoi.proofs.format.Appended.{length-bytes_of}
 use Rattle.qoi.proofs.decoding.FilledBuffer.{take_whole}
 use Rattle.qoi.proofs.decoding.ImageSize.{channels_are}
 use Rattle.qoi.proofs.decoding.OneFile.{decodes_file}
 use Rattle.qoi.proofs.format.RawPixels.{pixels_of_have, length-pixels_of, output-pixels_of}
-use Rattle.qoi.specs.writers.Writes.{WriterLaws, WroteBut, WroteSome}
+use Rattle.qoi.specs.writers.Writes.{WriterLaws, WroteBut, WroteBeginning}
 use Rattle.qoi.proofs.encoding.WriterProgress.{wrote_next, wrote_part, wrote_all, left_fits}
 use Rattle.qoi.proofs.encoding.StyleLists.{style_chunks, style_means, style_unique, style_reaches, style_fits, style_length, style_apart, style_regular, style_upper, places_as_long}
 use Rattle.qoi.proofs.shortness.RegularLists.{no_blank_regular}
@@ -30,7 +30,7 @@ use Rattle.qoi.proofs.shortness.SlackSteps.{slack_most, slack_opens}
 
 -- the bytes of a file are the header's, the chunks' and the end marker's
 pub length-file : (h : Header) (cs : List Chunk) → length (file h cs) ≡ 22 + length (chunk_bytes cs)
-length-file h cs = omega (arith, length-append (head h) (chunk_bytes cs ++ end_marker), length-append (chunk_bytes cs) end_marker)
+length-file h cs = omega (arith, length-append (header_bytes h) (chunk_bytes cs ++ end_marker), length-append (chunk_bytes cs) end_marker)
 
 -- the greatest length is exact for a valid header
 pub max_is_exact : (h : Header) → IsValid h → max_file_len h ≡ pixel_count h * channels_number h.channels + pixel_count h + 22
@@ -193,13 +193,13 @@ module _ (h : Header) (raw : List ℕ) (valid : IsValid h) (size : length raw �
 
 -- A file of which all went to a writer but the bytes that are kept.
 module _ {W : Type 0} (wrote : W → List ℕ → W → Type 0) (room : W → ℕ) (laws : WriterLaws wrote room) (h : Header) (cs : List Chunk) (start : W) where
-  module _ (front : List ℕ) (is_head : front ≡ head h) where
+  module _ (front : List ℕ) (is_head : front ≡ header_bytes h) where
     -- header and chunks, and then the end marker
     file_is : file h cs ≡ (front ++ chunk_bytes cs) ++ end_marker
     file_is = ap (λ z. z ++ (chunk_bytes cs ++ end_marker)) (sym is_head) ∙ sym (append_assoc front (chunk_bytes cs) end_marker)
 
     -- a beginning of header and chunks went
-    pub chunks_part : {now : W} → WroteSome wrote start (front ++ chunk_bytes cs) now → WroteSome wrote start (file h cs) now
+    pub chunks_part : {now : W} → WroteBeginning wrote start (front ++ chunk_bytes cs) now → WroteBeginning wrote start (file h cs) now
     chunks_part some = (
       some.0 ++ end_marker,
       record {
@@ -225,7 +225,7 @@ module _ {W : Type 0} (wrote : W → List ℕ → W → Type 0) (room : W → �
     last_fits enough = left_fits wrote room laws start now (file h cs) last w (omega (arith, length-file h cs))
 
     -- a beginning of it went
-    pub last_part : {next : W} → WroteSome wrote now last next → WroteSome wrote start (file h cs) next
+    pub last_part : {next : W} → WroteBeginning wrote now last next → WroteBeginning wrote start (file h cs) next
     last_part {next} some = wrote_part wrote room laws start now next (file h cs) last last [] w (sym (append-nil last)) some
 
     -- all of the file went

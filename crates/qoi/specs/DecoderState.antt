@@ -4,8 +4,9 @@ use Rattle.std.specs.Io.KnownBytes.{Consumes}
 use Rattle.qoi.specs.declared.error.Error.{Error}
 use Rattle.qoi.specs.declared.types.Channels.{Channels}
 use Rattle.qoi.specs.declared.header.Header.{Header}
-use Rattle.qoi.specs.Qoi.{channels_number, pixel_count, marker_size}
-use Rattle.qoi.specs.Decoding.{byte_count, ReadsImage, RefusesImage}
+use Rattle.qoi.specs.Qoi.{channels_number, pixel_count, chunk_max, marker_size}
+use Rattle.qoi.specs.Decoding.{ReadsImage, RefusesImage}
+use Rattle.qoi.specs.Raw.{byte_count}
 
 -- the reader as it stands, the header of the file, and the channels of the output
 pub record DecoderState (R : Type 0) : Type 0 where
@@ -30,6 +31,6 @@ RefusesDecoding in_memory ahead old new e = RefusesImage in_memory (pixel_count 
 abbrev pub TakesAtMost : ℕ → Option (List ℕ) → Option (List ℕ) → Type 0
 TakesAtMost most old new = (taken : List ℕ) × Consumes old new taken × (length taken ≤ most)
 
--- at most five bytes for each pixel and eight more were taken from the bytes ahead
+-- at most five bytes for each pixel, and the end marker's eight, were taken from the bytes ahead
 abbrev pub TakesWithin : {R : Type 0} → (R → Option (List ℕ)) → DecoderState R → DecoderState R → Type 0
-TakesWithin ahead old new = TakesAtMost (5 * pixel_count old.header + marker_size) (ahead old.reader) (ahead new.reader)
+TakesWithin ahead old new = TakesAtMost (chunk_max * pixel_count old.header + marker_size) (ahead old.reader) (ahead new.reader)

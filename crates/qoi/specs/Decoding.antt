@@ -1,17 +1,13 @@
 -- What decoding an image returns and takes, and what its refusals say.
-use Rattle.std.specs.Prelude.{◌≡◌, ◌≢◌, ℕ, ◌+◌, ◌-◌, ◌/◌, ◌*◌, ◌<◌, ◌≤◌, ◌⊎◌, List, [], ◌++◌, length, take, drop, Bool, true, false, Option, Some, Result, Ok, Err, IfSome}
+use Rattle.std.specs.Prelude.{◌≡◌, ◌≢◌, ℕ, ◌+◌, ◌-◌, ◌/◌, ◌<◌, ◌≤◌, ◌⊎◌, List, [], ◌++◌, length, take, drop, Bool, true, false, Option, Some, Result, Ok, Err, IfSome}
 use Rattle.std.specs.Io.KnownBytes.{Consumes, Keeps}
 use Rattle.qoi.specs.declared.error.Error.{Error}
 use Rattle.qoi.specs.declared.error.Error.TheVariants.{OutputBufferTooSmall, UnexpectedBufferEnd, InvalidPadding, IoError}
 use Rattle.qoi.specs.declared.header.Header.{Header}
 use Rattle.qoi.specs.declared.chunk.Chunk.{Chunk}
-use Rattle.qoi.specs.Qoi.{header_size, run_max, AreChunks, chunk_bytes, Reaches, meaning, IsFile, marker_size, end_marker, file, file_pixels, channels_number, head, header_of, pixel_count, IsValid}
-use Rattle.qoi.specs.Raw.{output}
-use Rattle.qoi.specs.Verdicts.{IsPartOfChunk, HasChunks, IsWhole, IsCut, IsWrong}
-
--- the bytes end within a chunk before n pixels are reached
-abbrev pub EndsInChunk : ℕ → List ℕ → Type 0
-EndsInChunk n bytes = (cs : List Chunk) × (part : List ℕ) × HasChunks n bytes cs part × (length (meaning cs) < n) × IsPartOfChunk part
+use Rattle.qoi.specs.Qoi.{header_size, run_max, AreChunks, chunk_bytes, Reaches, meaning, IsFile, marker_size, end_marker, file, file_pixels, channels_number, header_bytes, header_of, pixel_count, IsValid}
+use Rattle.qoi.specs.Raw.{output, image_byte_count}
+use Rattle.qoi.specs.Verdicts.{HasChunks, IsWhole, AreCut, AreWrong, AreWrongThen}
 
 -- chunks that reach n pixels stand before the rest, and `out` are the bytes of their first n pixels
 pub record ReadsPixels (file_channels channels n : ℕ) (bytes rest out : List ℕ) : Type 0 where
@@ -28,7 +24,7 @@ pub record StreamsPixels (file_channels channels n : ℕ) (old new : Option (Lis
   pub taken : Consumes old new (chunk_bytes cs)
   pub out_is : out ≡ output file_channels channels (take n (meaning cs))
 
--- Chunks that reach n pixels and the end marker were taken, and `out` are the bytes of their first n pixels.
+-- chunks that reach n pixels were taken, and then the end marker, and `out` are the bytes of their first n pixels
 pub record ReadsImage (file_channels channels n : ℕ) (old new : Option (List ℕ)) (out : List ℕ) : Type 0 where
   pub cs : List Chunk
   pub chunks : AreChunks cs
@@ -42,18 +38,6 @@ RefusesMarker bytes UnexpectedBufferEnd = length bytes < marker_size
 RefusesMarker bytes InvalidPadding = (eight : List ℕ) × (rest : List ℕ) × (length eight ≡ marker_size) × (eight ≢ end_marker) × (bytes ≡ eight ++ rest)
 RefusesMarker bytes _ = ⊥
 
--- the bytes are cut
-abbrev pub AreCut : ℕ → List ℕ → Type 0
-AreCut n bytes = (cs : List Chunk) × (part : List ℕ) × IsCut n bytes cs part
-
--- the bytes are wrong, and the rest follows the eight bytes
-abbrev pub HasWrong : ℕ → List ℕ → List ℕ → Type 0
-HasWrong n bytes rest = (cs : List Chunk) × (eight : List ℕ) × IsWrong n bytes cs eight rest
-
--- the bytes are wrong
-abbrev pub AreWrong : ℕ → List ℕ → Type 0
-AreWrong n bytes = (rest : List ℕ) × HasWrong n bytes rest
-
 -- why bytes in memory are refused: cut is UnexpectedBufferEnd, and wrong is InvalidPadding
 abbrev pub RefusesBytes : ℕ → List ℕ → Error → Type 0
 RefusesBytes n bytes UnexpectedBufferEnd = AreCut n bytes
@@ -63,7 +47,7 @@ RefusesBytes n bytes _ = ⊥
 -- why a stream is refused, by the bytes that were taken
 abbrev pub RefusesTaken : ℕ → List ℕ → Error → Type 0
 RefusesTaken n taken (IoError e) = AreCut n taken
-RefusesTaken n taken InvalidPadding = HasWrong n taken []
+RefusesTaken n taken InvalidPadding = AreWrongThen n taken []
 RefusesTaken n taken _ = ⊥
 
 -- why the bytes after a stream's chunks are refused, by those that were taken
@@ -77,7 +61,7 @@ RefusesTakenMarker taken _ = ⊥
 abbrev pub least_byte_count : ℕ → ℕ
 least_byte_count n = (n + (run_max - 1)) / run_max + marker_size
 
--- in memory the bytes ahead are enough for n pixels; of a stream it always holds, since nobody knows what it has ahead
+-- in memory the bytes ahead are enough for n pixels; for a stream it is always so, since nobody knows what it has ahead
 abbrev pub CouldHold : Bool → ℕ → Option (List ℕ) → Type 0
 CouldHold true n (Some bytes) = least_byte_count n ≤ length bytes
 CouldHold in_memory n ahead = Unit {0}
@@ -88,38 +72,27 @@ abbrev pub RefusesImage : Bool → ℕ → Option (List ℕ) → Option (List �
 RefusesImage true n old new e = Keeps old new × IfSome old (λ bytes. RefusesBytes n bytes e)
 RefusesImage false n old new e = (taken : List ℕ) × Consumes old new taken × RefusesTaken n taken e
 
--- why a stream's header is refused: fewer than fourteen bytes came, or the fourteen that were taken are refused
-abbrev pub RefusesHeader : List ℕ → Error → Type 0
-RefusesHeader taken (IoError e) = length taken < header_size
-RefusesHeader taken e = (length taken ≡ header_size) × (header_of taken ≡ Err e)
+-- why a stream's header is refused, by the bytes that were taken: fewer than fourteen, or fourteen that are refused
+abbrev pub RefusesTakenHeader : List ℕ → Error → Type 0
+RefusesTakenHeader taken (IoError e) = length taken < header_size
+RefusesTakenHeader taken e = (length taken ≡ header_size) × (header_of taken ≡ Err e)
 
--- What reading a header returns and takes: the fourteen bytes of a valid header, or a refusal, which is the verdict
--- on the bytes. In memory a refusal takes nothing, and is the verdict on the bytes ahead.
+-- What reading a header returns and takes. A success takes the fourteen bytes of a valid header. In memory a refusal
+-- takes nothing, and is the verdict on the bytes ahead; on a stream it is that on the fourteen that were taken, or an
+-- i/o error after fewer.
 abbrev pub ReadsHeader : Bool → Option (List ℕ) → Option (List ℕ) → Result Header Error → Type 0
 ReadsHeader in_memory old new (Ok h) = (taken : List ℕ) × Consumes old new taken × (length taken ≡ header_size) × (header_of taken ≡ Ok h)
-    × (taken ≡ head h) × IsValid h
+    × (taken ≡ header_bytes h) × IsValid h
 ReadsHeader true old new (Err e) = Keeps old new × IfSome old (λ bytes. header_of bytes ≡ Err e)
-ReadsHeader false old new (Err e) = (taken : List ℕ) × Consumes old new taken × RefusesHeader taken e
+ReadsHeader false old new (Err e) = (taken : List ℕ) × Consumes old new taken × RefusesTakenHeader taken e
 
 -- the fourteen bytes of a valid header were taken from a stream
 abbrev pub TakesHeader : Option (List ℕ) → Option (List ℕ) → Header → Type 0
 TakesHeader old new h = ReadsHeader false old new (Ok h)
 
--- why a stream's header is refused, for some bytes that were taken
+-- a stream's header was refused so, whatever was taken
 abbrev pub RefusesStreamHeader : Option (List ℕ) → Error → Type 0
 RefusesStreamHeader old e = (new : Option (List ℕ)) × ReadsHeader false old new (Err e)
-
--- how many bytes an image has in this many channels
-abbrev pub byte_count : Header → ℕ → ℕ
-byte_count h channels = pixel_count h * channels
-
--- how many bytes a file's image has in its own channels
-abbrev pub image_byte_count : Header → ℕ
-image_byte_count h = byte_count h (channels_number h.channels)
-
--- an image's bytes are so many, and at least those of one pixel
-abbrev pub HasImageLength : ℕ → List ℕ → Type 0
-HasImageLength n bytes = (length bytes ≡ n) × (3 ≤ length bytes)
 
 -- The bytes are a file with this header and then the rest, and these are its pixels in the file's channels. The
 -- bytes begin with no other file, so what follows never changes the reading.
@@ -136,14 +109,14 @@ pub record DecodesFile (bytes : List ℕ) (h : Header) (rest out : List ℕ) : T
 abbrev pub RefusesBuffer : ℕ → ℕ → Error → Type 0
 RefusesBuffer size required e = (size < required) × (e ≡ OutputBufferTooSmall size required)
 
--- Why a file is not decoded into a buffer of this size: the header, then the buffer, then the image.
-abbrev pub RefusesFile : ℕ → List ℕ → Error → Type 0
-RefusesFile size bytes e = (header_of bytes ≡ Err e)
+-- why a file is not decoded into a buffer of this size: the header, then the buffer, then the image
+abbrev pub RefusesFileInto : ℕ → List ℕ → Error → Type 0
+RefusesFileInto size bytes e = (header_of bytes ≡ Err e)
     ⊎ ((h : Header) × (header_of bytes ≡ Ok h)
     × (RefusesBuffer size (image_byte_count h) e
     ⊎ ((image_byte_count h ≤ size) × RefusesBytes (pixel_count h) (drop header_size bytes) e)))
 
 -- why a file is not decoded, where the buffer is long enough: the header, then the image
-abbrev pub RefusesWholeFile : List ℕ → Error → Type 0
-RefusesWholeFile bytes e = (header_of bytes ≡ Err e)
+abbrev pub RefusesFile : List ℕ → Error → Type 0
+RefusesFile bytes e = (header_of bytes ≡ Err e)
     ⊎ ((h : Header) × (header_of bytes ≡ Ok h) × RefusesBytes (pixel_count h) (drop header_size bytes) e)

@@ -13,13 +13,13 @@ use Rattle.qoi.specs.declared.header.Header.{Header}
 use Rattle.qoi.specs.declared.chunk.Chunk.{Chunk}
 use Rattle.qoi.specs.declared.chunk.Chunk.TheVariants.{Place}
 use Rattle.qoi.specs.Qoi.{header_size, marker_size, channels_number, channels_of, colorspace_number, pixel_count, tried_header, IsValid, RgbaPixel, blank, start, chunk_bytes, Reaches, file}
-use Rattle.qoi.specs.Raw.{pixels_of}
+use Rattle.qoi.specs.Raw.{pixels_of, image_byte_count}
 use Rattle.qoi.specs.Written.{Written}
 use Rattle.qoi.specs.Styles.{WrittenIn}
 use Rattle.qoi.specs.Tight.{floor0}
 use Rattle.qoi.specs.Regular.{Regular, Covers}
 use Rattle.qoi.specs.Shortest.{floor, slack}
-use Rattle.qoi.specs.Decoding.{DecodesFile, image_byte_count}
+use Rattle.qoi.specs.Decoding.{DecodesFile}
 
 -- the most bytes that the file of an image of this size has, or the greatest usize if that is less
 abbrev pub max_len : ℕ → ℕ → ℕ → ℕ
@@ -46,7 +46,7 @@ measured raw (Ok h) =
     else Err (InvalidImageLength (length raw) h.width h.height)
 
 -- The header of an image of raw bytes, or the first refusal: the dimensions, the length, the number of channels,
--- which is 255 at most.
+-- given as 255 where it is greater.
 abbrev pub image_header : List ℕ → ℕ → ℕ → Result Header Error
 image_header raw width height = measured raw (tried_header width height Rgb Srgb)
 
@@ -91,7 +91,7 @@ pub record IsNearShortest (h : Header) (raw bytes : List ℕ) : Type 0 where
   pub near_floor : length bytes ≤ header_size + marker_size + floor (image_pixels h raw) + slack (image_pixels h raw) (channels_number h.channels)
   pub near_others : (others : List Chunk) → Spans h raw others → Regular others
       → length bytes ≤ length (file h others) + slack (image_pixels h raw) (channels_number h.channels)
-  -- no regular list is over four bytes shorter, and none is shorter at all unless the image opens opaque black
+  -- no regular list is over four bytes shorter, and none is shorter at all unless the image opens with opaque black
   pub four_at_most : (others : List Chunk) → Spans h raw others → Regular others → length bytes ≤ length (file h others) + 4
   pub none_shorter : (OpensBlack (image_pixels h raw) → ⊥) → (others : List Chunk) → Spans h raw others → Regular others
       → length bytes ≤ length (file h others)
@@ -116,7 +116,8 @@ IsShortIn Reference h raw bytes = IsAsReference Reference h raw bytes
 IsShortIn Places h raw bytes = IsAsReference Places h raw bytes
 IsShortIn Tight h raw bytes = IsShortest h raw (length bytes)
 
--- The file of the image in a style: it is near the shortest, and in style Tight the shortest.
+-- The file of the image in a style: no regular list makes it shorter by more than the slack, and it is as short as
+-- `IsShortIn` says.
 pub record IsFileOf (style : Style) (h : Header) (raw bytes : List ℕ) : Type 0 where
   pub is_file : IsFileBy (WrittenIn style) h raw bytes
   pub near_shortest : IsNearShortest h raw bytes

@@ -1,5 +1,5 @@
 -- The format QOI, in the order of its specification 1.0: header, pixels, chunks, what a list of chunks means, files.
-use Rattle.std.specs.Prelude.{ℕ, ◌+◌, ◌*◌, ◌/◌, ◌%◌, ◌-◌, ◌^◌, ◌<◌, ◌≤◌, List, [], ◌∷◌, ◌++◌, length, take, drop, reverse, replicate, min, slice_index, slice_index_or, Bool, nat_lt, nat_le, ◌==◌, ◌&&◌, if◌then◌else◌, Result, Ok, Err}
+use Rattle.std.specs.Prelude.{ℕ, ◌+◌, ◌*◌, ◌/◌, ◌%◌, ◌-◌, ◌<◌, ◌≤◌, List, [], ◌∷◌, ◌++◌, length, take, drop, reverse, replicate, slice_index, slice_index_or, Bool, nat_lt, nat_le, ◌==◌, ◌&&◌, if◌then◌else◌, Result, Ok, Err}
 use Rattle.std.specs.Int.{w32, to_be_bytes, from_be_bytes}
 use Rattle.std.specs.List.{flat_map, AllByRecursion}
 use Rattle.qoi.specs.declared.error.Error.{Error}
@@ -54,16 +54,12 @@ colorspace_of n =
     if n == 0 then Ok Srgb else if n == 1 then Ok Linear else Err (InvalidColorSpace n)
 
 -- the header's fourteen bytes
-abbrev pub head : Header → List ℕ
-head h = magic_bytes ++ to_be_bytes w32 h.width ++ to_be_bytes w32 h.height ++ channels_number h.channels ∷ colorspace_number h.colorspace ∷ []
+abbrev pub header_bytes : Header → List ℕ
+header_bytes h = magic_bytes ++ to_be_bytes w32 h.width ++ to_be_bytes w32 h.height ++ channels_number h.channels ∷ colorspace_number h.colorspace ∷ []
 
 -- width times height
 abbrev pub pixel_count : Header → ℕ
 pixel_count h = h.width * h.height
-
--- how many raw bytes an image has, or the greatest usize if that is less
-abbrev pub capped_byte_count : Header → ℕ
-capped_byte_count h = min (pixel_count h * channels_number h.channels) (2 ^ 64 - 1)
 
 -- one pixel of three channels in sRGB
 abbrev pub default_header : Header
@@ -167,18 +163,29 @@ seen (p ∷ past) i = if hash p == i then p else seen past i
 
 -- Chunks ("Chunks")
 
--- the two high bits of a difference's, a luma's and a run's first byte, the six low ones being 0; an index
--- position's are 0
+-- a difference's byte with its six low bits 0: its two high bits are 01, and an index position's are 00
 abbrev pub diff_tag : ℕ
 diff_tag = 0x40
 
--- a luma's
+-- a luma's first byte with its six low bits 0: its two high bits are 10
 abbrev pub luma_tag : ℕ
 luma_tag = 0x80
 
--- a run's
+-- a run's byte with its six low bits 0: its two high bits are 11
 abbrev pub run_tag : ℕ
 run_tag = 0xc0
+
+-- the first byte of red, green and blue in full
+abbrev pub rgb_tag : ℕ
+rgb_tag = 254
+
+-- the first byte of red, green, blue and alpha in full
+abbrev pub rgba_tag : ℕ
+rgba_tag = 255
+
+-- how many bytes the longest chunk has
+abbrev pub chunk_max : ℕ
+chunk_max = 5
 
 -- the longest run of one chunk
 abbrev pub run_max : ℕ
@@ -204,8 +211,8 @@ bytes_of (Place i) = i ∷ []
 bytes_of (Diff d) = d ∷ []
 bytes_of (Luma d e) = d ∷ e ∷ []
 bytes_of (Run n) = (run_tag - 1 + n) ∷ []
-bytes_of (Rgb r g b) = 254 ∷ r ∷ g ∷ b ∷ []
-bytes_of (Rgba r g b a) = 255 ∷ r ∷ g ∷ b ∷ a ∷ []
+bytes_of (Rgb r g b) = rgb_tag ∷ r ∷ g ∷ b ∷ []
+bytes_of (Rgba r g b a) = rgba_tag ∷ r ∷ g ∷ b ∷ a ∷ []
 
 -- the chunks' bytes, one after the other
 abbrev pub chunk_bytes : List Chunk → List ℕ
@@ -285,7 +292,7 @@ end_marker = 0 ∷ 0 ∷ 0 ∷ 0 ∷ 0 ∷ 0 ∷ 0 ∷ 1 ∷ []
 
 -- header, chunks and end marker
 abbrev pub file : Header → List Chunk → List ℕ
-file h cs = head h ++ (chunk_bytes cs ++ end_marker)
+file h cs = header_bytes h ++ (chunk_bytes cs ++ end_marker)
 
 -- a valid header, and chunks that reach its number of pixels
 pub record IsFile (h : Header) (cs : List Chunk) : Type 0 where

@@ -1,15 +1,16 @@
 -- Raw bytes and pixels, both ways: what a decoder gives and what an encoder is given.
-use Rattle.std.specs.Prelude.{ℕ, List, [], ◌∷◌, ◌⊎◌, ◌≡◌, ◌==◌, if◌then◌else◌}
+use Rattle.std.specs.Prelude.{ℕ, ◌*◌, ◌-◌, ◌^◌, ◌≤◌, min, List, [], ◌∷◌, length, ◌⊎◌, ◌≡◌, ◌==◌, if◌then◌else◌}
 use Rattle.std.specs.List.{flat_map, AllByRecursion}
-use Rattle.qoi.specs.Qoi.{RgbaPixel, pixel}
+use Rattle.qoi.specs.declared.header.Header.{Header}
+use Rattle.qoi.specs.Qoi.{RgbaPixel, pixel, channels_number, pixel_count}
 
 -- a number of channels that the format has
 abbrev pub IsChannels : ℕ → Type 0
 IsChannels n = (n ≡ 3) ⊎ (n ≡ 4)
 
--- the channels of an output and those of a file are both 3 or 4
+-- the channels of a file and those of an output are both 3 or 4
 abbrev pub AreChannels : ℕ → ℕ → Type 0
-AreChannels channels file_channels = IsChannels channels × IsChannels file_channels
+AreChannels file_channels channels = IsChannels file_channels × IsChannels channels
 
 -- A pixel in this many channels, of a file with `file_channels` channels: red, green, blue and, where there are four,
 -- alpha, which is 255 if the file has three.
@@ -40,6 +41,22 @@ pixels_of_4 _ = []
 -- the pixels of raw bytes, three or four bytes a pixel
 abbrev pub pixels_of : ℕ → List ℕ → List RgbaPixel
 pixels_of channels bytes = if channels == 3 then pixels_of_3 bytes else pixels_of_4 bytes
+
+-- how many bytes an image has in this many channels
+abbrev pub byte_count : Header → ℕ → ℕ
+byte_count h channels = pixel_count h * channels
+
+-- the same in the file's own channels
+abbrev pub image_byte_count : Header → ℕ
+image_byte_count h = byte_count h (channels_number h.channels)
+
+-- an image's bytes are so many, and at least those of one pixel
+abbrev pub HasImageLength : ℕ → List ℕ → Type 0
+HasImageLength n bytes = (length bytes ≡ n) × (3 ≤ length bytes)
+
+-- the same, or the greatest usize if that is less; of a valid header it never is
+abbrev pub capped_byte_count : Header → ℕ
+capped_byte_count h = min (pixel_count h * channels_number h.channels) (2 ^ 64 - 1)
 
 -- every pixel is opaque
 abbrev pub AreOpaque : List RgbaPixel → Type 0

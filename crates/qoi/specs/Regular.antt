@@ -7,13 +7,13 @@ use Rattle.qoi.specs.Qoi.{RgbaPixel, Past, seen, hash, AreChunks, meaning, Each}
 
 -- an index position that is named holds a pixel whose position it is; so one where no pixel was put is named
 -- only if it is position 0
-abbrev pub NamesWritten : Past → Chunk → Type 0
-NamesWritten past (Place i) = hash (seen past i) ≡ i
-NamesWritten past _ = Unit {0}
+abbrev pub NamesPixelThere : Past → Chunk → Type 0
+NamesPixelThere past (Place i) = hash (seen past i) ≡ i
+NamesPixelThere past _ = Unit {0}
 
 -- each chunk of the list names so
 abbrev pub Regular : List Chunk → Type 0
-Regular cs = Each NamesWritten [] cs
+Regular cs = Each NamesPixelThere [] cs
 
 -- the pixels begin with those of the image
 abbrev pub Begins : List RgbaPixel → List RgbaPixel → Type 0

@@ -19,7 +19,8 @@ pub record IsWhole (n : ℕ) (bytes : List ℕ) (cs : List Chunk) (rest : List �
   pub has : HasChunks n bytes cs (end_marker ++ rest)
   pub enough : n ≤ length (meaning cs)
 
--- cut: the bytes end within a chunk before n pixels are reached, or within the eight bytes after the chunks
+-- cut: the bytes end before a further chunk is whole and before n pixels are reached, or within the eight bytes after
+-- the chunks
 pub record IsCut (n : ℕ) (bytes : List ℕ) (cs : List Chunk) (part : List ℕ) : Type 0 where
   pub has : HasChunks n bytes cs part
   pub ends : ((length (meaning cs) < n) × IsPartOfChunk part) ⊎ ((n ≤ length (meaning cs)) × (length part < marker_size))
@@ -30,3 +31,19 @@ pub record IsWrong (n : ℕ) (bytes : List ℕ) (cs : List Chunk) (eight rest : 
   pub enough : n ≤ length (meaning cs)
   pub length_is : length eight ≡ marker_size
   pub other : eight ≢ end_marker
+
+-- the bytes are cut
+abbrev pub AreCut : ℕ → List ℕ → Type 0
+AreCut n bytes = (cs : List Chunk) × (part : List ℕ) × IsCut n bytes cs part
+
+-- the bytes are wrong, and the rest follows the eight bytes that aren't the end marker
+abbrev pub AreWrongThen : ℕ → List ℕ → List ℕ → Type 0
+AreWrongThen n bytes rest = (cs : List Chunk) × (eight : List ℕ) × IsWrong n bytes cs eight rest
+
+-- the bytes are wrong
+abbrev pub AreWrong : ℕ → List ℕ → Type 0
+AreWrong n bytes = (rest : List ℕ) × AreWrongThen n bytes rest
+
+-- the bytes end before a further chunk is whole, and before n pixels are reached
+abbrev pub EndsInChunk : ℕ → List ℕ → Type 0
+EndsInChunk n bytes = (cs : List Chunk) × (part : List ℕ) × HasChunks n bytes cs part × (length (meaning cs) < n) × IsPartOfChunk part

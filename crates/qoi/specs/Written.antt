@@ -39,26 +39,26 @@ pub record GivesFresh (Choice : Past → RgbaPixel → Chunk → Type 0) (past :
   pub is_chosen : Choice past (pixel_of past c) c
 
 -- a run may stand anywhere, and each other chunk gives a fresh pixel by the choice; so each repeat is given by a run
-abbrev pub IsRightAfter : (Past → RgbaPixel → Chunk → Type 0) → Past → Chunk → Type 0
-IsRightAfter Choice past (Run n) = Unit {0}
-IsRightAfter Choice past c = GivesFresh Choice past c
+abbrev pub IsAllowedAfter : (Past → RgbaPixel → Chunk → Type 0) → Past → Chunk → Type 0
+IsAllowedAfter Choice past (Run n) = Unit {0}
+IsAllowedAfter Choice past c = GivesFresh Choice past c
 
 -- a run directly before a run has length 62
-abbrev pub IsFull : Chunk → List Chunk → Type 0
-IsFull (Run m) (Run n ∷ cs) = m ≡ run_max
-IsFull _ _ = Unit {0}
+abbrev pub IsFullBefore : Chunk → List Chunk → Type 0
+IsFullBefore (Run m) (Run n ∷ cs) = m ≡ run_max
+IsFullBefore _ _ = Unit {0}
 
 -- each run of the list that stands directly before a run has length 62
-abbrev pub RunsAreFull : List Chunk → Type 0
-RunsAreFull [] = Unit {0}
-RunsAreFull (c ∷ cs) = IsFull c cs × RunsAreFull cs
+abbrev pub RunsFollowFull : List Chunk → Type 0
+RunsFollowFull [] = Unit {0}
+RunsFollowFull (c ∷ cs) = IsFullBefore c cs × RunsFollowFull cs
 
 -- a chunk list that means the image, with this choice of a chunk for each fresh pixel
 pub record WrittenBy (Choice : Past → RgbaPixel → Chunk → Type 0) (image : List RgbaPixel) (cs : List Chunk) : Type 0 where
   pub chunks : AreChunks cs
   pub means : meaning cs ≡ image
-  pub right : Each (IsRightAfter Choice) [] cs
-  pub full : RunsAreFull cs
+  pub allowed : Each (IsAllowedAfter Choice) [] cs
+  pub full : RunsFollowFull cs
 
 -- the chunk list that is written for an image
 abbrev pub Written : List RgbaPixel → List Chunk → Type 0

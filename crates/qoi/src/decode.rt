@@ -3,14 +3,15 @@ ghost use Rattle.std.specs.Prelude.{◌≡◌, ℕ, ◌*◌, ◌<◌, ◌≤◌,
 ghost use Rattle.qoi.specs.declared.chunk.Chunk.{Chunk};
 ghost use Rattle.qoi.specs.declared.header.Header.{Header};
 ghost use Rattle.qoi.specs.declared.error.Error.{Error};
-ghost use Rattle.qoi.specs.Qoi.{header_of, pixel_count, capped_byte_count, IsFile, file, header_size, run_max};
-ghost use Rattle.qoi.specs.Verdicts.{IsWhole};
-ghost use Rattle.qoi.specs.Decoding.{AreWrong, CouldHold, AreCut, least_byte_count, RefusesFile, RefusesStreamHeader, TakesHeader, RefusesWholeFile, DecodesFile, image_byte_count, HasImageLength};
+ghost use Rattle.qoi.specs.Qoi.{header_of, pixel_count, IsFile, file, header_size, run_max};
+ghost use Rattle.qoi.specs.Verdicts.{IsWhole, AreWrong, AreCut};
+ghost use Rattle.qoi.specs.Decoding.{CouldHold, least_byte_count, RefusesFileInto, RefusesStreamHeader, TakesHeader, RefusesFile, DecodesFile};
 ghost use Rattle.qoi.specs.declared.types.Style.{Style};
 ghost use Rattle.qoi.specs.Encoded.{IsFileOf};
 ghost use Rattle.qoi.specs.DecoderState.{output_byte_count, DecodesImage, RefusesDecoding, TakesWithin};
-ghost use Rattle.qoi.specs.Reading.{HasImage, IsDecoderOf, IsFault, IsForCut, IsForWrong, IsImage, IsImageFor};
-ghost use Rattle.qoi.specs.Raw.{without_fourth};
+ghost use Rattle.qoi.specs.Reading.{HasImage, IsDecoderOf, IsImage, IsImageFor};
+ghost use Rattle.qoi.specs.Errors.{IsReaderFault, IsErrorOfCut, IsErrorOfWrong};
+ghost use Rattle.qoi.specs.Raw.{without_fourth, capped_byte_count, image_byte_count, HasImageLength};
 
 mod deltas;
 mod pixels;
@@ -45,7 +46,7 @@ pub fn decode_header(data: &[u8]) -> Result<Header>
 pub fn decode_to_buf(buf: &mut [u8], data: &[u8]) -> Result<Header>
     ensures decoded { IfOk result (λ h. (rest : List ℕ)
         × DecodesFile «data».now h rest (take (image_byte_count h) buf.new)) }
-    ensures refused { IfErr result (RefusesFile (length buf.old) «data».now) }
+    ensures refused { IfErr result (RefusesFileInto (length buf.old) «data».now) }
     // Files are accepted, whatever follows them.
     ensures accepts { (h : Header) (cs : List Chunk) (rest : List ℕ) → IsFile h cs
         → «data».now ≡ file h cs ++ rest
@@ -66,6 +67,7 @@ pub fn decode_to_buf(buf: &mut [u8], data: &[u8]) -> Result<Header>
     ensures followed { (style : Style) (h : Header) (raw bytes rest : List ℕ)
         → IsFileOf style h raw bytes → «data».now ≡ bytes ++ rest
         → length raw ≤ length buf.old → (result ≡ Ok h) × (take (length raw) buf.new ≡ raw) }
+    // `capped_byte_count` is what `n_bytes` returns; of a valid header it is `image_byte_count`.
     ensures room { IfOk result (λ h. capped_byte_count h ≤ length buf.old) }
     // After a valid header cut bytes give `UnexpectedBufferEnd`, and wrong ones `InvalidPadding`.
     ensures cut { (h : Header) → header_of «data».now ≡ Ok h
@@ -83,13 +85,13 @@ pub fn decode_to_buf(buf: &mut [u8], data: &[u8]) -> Result<Header>
 /// Decodes a file into a vector, in the file's own channels, and returns its header too.
 ///
 /// The refusals are those of `Decoder::new` and then of its `decode_to_vec`; so memory is asked for
-/// only where the header is good and the bytes behind it could hold such an image: at most 62 pixels
-/// for each byte of the slice, and so 248 bytes. The vector has `n_bytes` of the header.
+/// only where the header is valid and the bytes behind it could hold such an image: for each byte of
+/// the slice at most 62 pixels, which are 248 bytes. The vector has the header's `n_bytes`.
 pub fn decode_to_vec(alloc: Global, data: &[u8]) -> Result<(Header, Vec<u8>)>
     ensures decoded { IfOk result (λ x. (rest : List ℕ)
         × DecodesFile «data».now x.0 rest x.1.items) }
     ensures length { IfOk result (λ x. HasImageLength (capped_byte_count x.0) x.1.items) }
-    ensures refused { IfErr result (λ e. RefusesWholeFile «data».now e
+    ensures refused { IfErr result (λ e. RefusesFile «data».now e
         ⊎ ((e ≡ Error.OutOfMemory) × (h : Header) × (header_of «data».now ≡ Ok h)
         × (least_byte_count (pixel_count h) ≤ length (drop header_size «data».now)))) }
     // So the vector has at most 62 pixels for each byte of the slice.
@@ -267,7 +269,7 @@ impl<R: Reader> Decoder<R> {
     }
 
     /// A second decoder with the same header and channels, whose reader is a clone of this one's
-    /// reader. Where each clone of the reader equals it, as of a slice, the decoders are equal.
+    /// reader. Where each clone of the reader equals it, as of a `&[u8]`, the decoders are equal.
     ///
     /// `OutOfMemory` where the reader's clone finds no memory.
     pub fn clone(&self) -> Result<Decoder<R>>
@@ -328,8 +330,8 @@ impl<R: Reader> Decoder<R> {
             × (self.new ≡ self.old) × (buf.new ≡ buf.old) }
         ensures decoded { IfOk result (λ size. (size ≡ output_byte_count self.old)
             × DecodesImage R.ahead self.old self.new (take size buf.new)) }
-        // In memory nothing is taken, and the bytes ahead are cut or wrong; of a stream those that were
-        // taken are.
+        // In memory nothing is taken, and the bytes ahead are cut or wrong; on a stream those that were
+        // taken are cut or wrong.
         ensures refused { output_byte_count self.old ≤ length buf.old
             → IfErr result (RefusesDecoding R.in_memory R.ahead self.old self.new) }
         // From memory, bytes whose verdict is whole are accepted.
@@ -343,26 +345,28 @@ impl<R: Reader> Decoder<R> {
         ensures left { (bytes rest raw : List ℕ) → IsImageFor self.old bytes rest raw
             → R.ahead self.old.reader ≡ Some bytes
             → OnOk result (R.ahead self.new.reader ≡ Some rest) }
+        // Only a fault of the reader refuses it.
         ensures faults { (bytes rest raw : List ℕ) → IsImageFor self.old bytes rest raw
             → R.ahead self.old.reader ≡ Some bytes → output_byte_count self.old ≤ length buf.old
-            → IfErr result (IsFault R.in_memory) }
+            → IfErr result (IsReaderFault R.in_memory) }
         // What was decoded stood ahead, and what follows it is left.
         ensures read { IfSome (R.ahead self.old.reader) (λ bytes. IfOk result (λ size.
             HasImage self.old.channels bytes self.old.header (take size buf.new))) }
         ensures rest { (bytes : List ℕ) → R.ahead self.old.reader ≡ Some bytes
             → IfOk result (λ size. (rest : List ℕ) × (R.ahead self.new.reader ≡ Some rest)
             × IsImage self.old.channels bytes self.old.header rest (take size buf.new)) }
-        // The same bytes are the same image, from whatever reader.
+        // Where these bytes are an image by this header and in these channels, for whatever reader that was
+        // found, this is it.
         ensures same { (channels : Channels) (h : Header) (bytes raw : List ℕ)
             → HasImage channels bytes h raw → channels ≡ self.old.channels
             → h ≡ self.old.header → R.ahead self.old.reader ≡ Some bytes
             → IfOk result (λ size. take size buf.new ≡ raw) }
         // Where the decoder was made from these bytes and has the file's own channels, a file stands at their
         // front, and this is its image.
-        ensures file { (bytes ahead : List ℕ) → IsDecoderOf self.old bytes ahead
+        ensures file { (source ahead : List ℕ) → IsDecoderOf self.old source ahead
             → R.ahead self.old.reader ≡ Some ahead
             → IfOk result (λ size. (rest : List ℕ) × (R.ahead self.new.reader ≡ Some rest)
-            × DecodesFile bytes self.old.header rest (take size buf.new)) }
+            × DecodesFile source self.old.header rest (take size buf.new)) }
         // The output in three channels is that in four without each fourth byte; of a file of three
         // channels each fourth byte of the output in four is 255.
         ensures rgb { (channels : Channels) (h : Header) (bytes four : List ℕ)
@@ -378,11 +382,11 @@ impl<R: Reader> Decoder<R> {
         ensures cut { (bytes : List ℕ) → R.ahead self.old.reader ≡ Some bytes
             → AreCut (pixel_count self.old.header) bytes
             → output_byte_count self.old ≤ length buf.old
-            → IsErrAnd result (IsForCut R.in_memory) }
+            → IsErrAnd result (IsErrorOfCut R.in_memory) }
         ensures wrong { (bytes : List ℕ) → R.ahead self.old.reader ≡ Some bytes
             → AreWrong (pixel_count self.old.header) bytes
             → output_byte_count self.old ≤ length buf.old
-            → IsErrAnd result (IsForWrong R.in_memory) }
+            → IsErrAnd result (IsErrorOfWrong R.in_memory) }
         ensures only_cut { (bytes : List ℕ) → R.ahead self.old.reader ≡ Some bytes
             → IsErrOf result Error.UnexpectedBufferEnd
             → AreCut (pixel_count self.old.header) bytes }
@@ -413,7 +417,7 @@ impl<R: Reader> Decoder<R> {
     ///
     /// `OutOfMemory` where the vector's memory isn't found; it is taken before a chunk is read, so
     /// that the decoder is then unchanged. The other refusals are those of `decode_to_buf` but for
-    /// `OutputBufferTooSmall`, with what they leave. Where the bytes ahead are in memory, and too few
+    /// `OutputBufferTooSmall`, and leave the same. Where the bytes ahead are in memory, and too few
     /// for so many pixels whatever they are, `UnexpectedBufferEnd` comes before memory is asked for:
     /// each 62 pixels take a byte at least, and the end marker has eight.
     pub fn decode_to_vec(&mut self, alloc: Global) -> Result<Vec<u8>>
@@ -422,7 +426,7 @@ impl<R: Reader> Decoder<R> {
         ensures refused { IfErr result (λ e. (e ≡ Error.OutOfMemory)
             ⊎ RefusesDecoding R.in_memory R.ahead self.old self.new e) }
         ensures no_memory { IsErrOf result Error.OutOfMemory → self.new ≡ self.old }
-        // Memory is asked for only where the bytes ahead could hold the image.
+        // `OutOfMemory` and a success come only where the bytes ahead could hold the image.
         ensures asked { IsErrOf result Error.OutOfMemory
             → CouldHold R.in_memory (pixel_count self.old.header) (R.ahead self.old.reader) }
         ensures could_hold { IfOk result (λ out.
@@ -438,26 +442,28 @@ impl<R: Reader> Decoder<R> {
         ensures left { (bytes rest raw : List ℕ) → IsImageFor self.old bytes rest raw
             → R.ahead self.old.reader ≡ Some bytes
             → OnOk result (R.ahead self.new.reader ≡ Some rest) }
+        // Only a fault of the reader refuses it.
         ensures faults { (bytes rest raw : List ℕ) → IsImageFor self.old bytes rest raw
             → R.ahead self.old.reader ≡ Some bytes
-            → IfErr result (λ e. (e ≡ Error.OutOfMemory) ⊎ IsFault R.in_memory e) }
+            → IfErr result (λ e. (e ≡ Error.OutOfMemory) ⊎ IsReaderFault R.in_memory e) }
         // What was decoded stood ahead, and what follows it is left.
         ensures read { IfSome (R.ahead self.old.reader) (λ bytes. IfOk result (λ out.
             HasImage self.old.channels bytes self.old.header out.items)) }
         ensures rest { (bytes : List ℕ) → R.ahead self.old.reader ≡ Some bytes
             → IfOk result (λ out. (rest : List ℕ) × (R.ahead self.new.reader ≡ Some rest)
             × IsImage self.old.channels bytes self.old.header rest out.items) }
-        // The same bytes are the same image, from whatever reader.
+        // Where these bytes are an image by this header and in these channels, for whatever reader that was
+        // found, this is it.
         ensures same { (channels : Channels) (h : Header) (bytes raw : List ℕ)
             → HasImage channels bytes h raw → channels ≡ self.old.channels
             → h ≡ self.old.header → R.ahead self.old.reader ≡ Some bytes
             → IfOk result (λ out. out.items ≡ raw) }
         // Where the decoder was made from these bytes and has the file's own channels, a file stands at their
         // front, and this is its image.
-        ensures file { (bytes ahead : List ℕ) → IsDecoderOf self.old bytes ahead
+        ensures file { (source ahead : List ℕ) → IsDecoderOf self.old source ahead
             → R.ahead self.old.reader ≡ Some ahead
             → IfOk result (λ out. (rest : List ℕ) × (R.ahead self.new.reader ≡ Some rest)
-            × DecodesFile bytes self.old.header rest out.items) }
+            × DecodesFile source self.old.header rest out.items) }
         // The output in three channels is that in four without each fourth byte; of a file of three
         // channels each fourth byte of the output in four is 255.
         ensures rgb { (channels : Channels) (h : Header) (bytes four : List ℕ)
@@ -472,10 +478,10 @@ impl<R: Reader> Decoder<R> {
         // `InvalidPadding` that they were wrong.
         ensures cut { (bytes : List ℕ) → R.ahead self.old.reader ≡ Some bytes
             → AreCut (pixel_count self.old.header) bytes
-            → IsErrAnd result (λ e. (e ≡ Error.OutOfMemory) ⊎ IsForCut R.in_memory e) }
+            → IsErrAnd result (λ e. (e ≡ Error.OutOfMemory) ⊎ IsErrorOfCut R.in_memory e) }
         ensures wrong { (bytes : List ℕ) → R.ahead self.old.reader ≡ Some bytes
             → AreWrong (pixel_count self.old.header) bytes
-            → IsErrAnd result (λ e. (e ≡ Error.OutOfMemory) ⊎ IsForWrong R.in_memory e) }
+            → IsErrAnd result (λ e. (e ≡ Error.OutOfMemory) ⊎ IsErrorOfWrong R.in_memory e) }
         ensures only_cut { (bytes : List ℕ) → R.ahead self.old.reader ≡ Some bytes
             → IsErrOf result Error.UnexpectedBufferEnd
             → AreCut (pixel_count self.old.header) bytes }

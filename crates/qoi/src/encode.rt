@@ -6,10 +6,10 @@ ghost use Rattle.qoi.specs.declared.error.Error.{Error};
 ghost use Rattle.qoi.specs.declared.types.Style.{Style};
 ghost use Rattle.qoi.specs.declared.types.Style.TheVariants.{Reference, Places, Tight};
 ghost use Rattle.qoi.specs.Qoi.{IsValid};
-ghost use Rattle.qoi.specs.Decoding.{image_byte_count};
+ghost use Rattle.qoi.specs.Raw.{image_byte_count};
 ghost use Rattle.qoi.specs.Encoded.{max_len, max_file_len, image_header, IsFileLength, IsFileOf, IsFileFor, IsShortest};
 ghost use Rattle.qoi.specs.Errors.{IsIoError};
-ghost use Rattle.qoi.specs.writers.Writes.{AppendsBeginning, WroteSome};
+ghost use Rattle.qoi.specs.writers.Writes.{AppendsBeginning, WroteBeginning};
 
 mod coder;
 pub(crate) mod piece;
@@ -35,7 +35,7 @@ fn encode_image<W: Writer>(buf: &mut W, style: Style, header: &Header, data: &[u
         × IsFileOf style header.now «data».now bytes
         × (n ≡ length bytes) × W.wrote buf.old bytes buf.new) }
     ensures refused { IfErr result (λ e. W.IsFault e × (bytes : List ℕ)
-        × IsFileOf style header.now «data».now bytes × WroteSome W.wrote buf.old bytes buf.new) }
+        × IsFileOf style header.now «data».now bytes × WroteBeginning W.wrote buf.old bytes buf.new) }
 {
     let room = buf.capacity();
     let mut piece = Piece::new();
@@ -49,16 +49,16 @@ fn encode_image<W: Writer>(buf: &mut W, style: Style, header: &Header, data: &[u
 /// The most bytes that the file of an image has, or the greatest `usize` if that is less: header,
 /// end marker, and for each pixel its channels and one byte more.
 ///
-/// The size is in pixels. In three and in four channels a single pixel that no shorter chunk gives
-/// reaches this number.
+/// `width` and `height` are in pixels. In three and in four channels a single pixel that no shorter
+/// chunk gives reaches this number.
 pub fn encode_max_len(width: u32, height: u32, channels: u8) -> usize
     ensures { result ≡ max_len width height channels }
 {
     max_file_size(width, height, channels)
 }
 
-/// Encodes raw bytes into the front of the buffer, with color space `Srgb`, and returns how many
-/// bytes the file has. The size is in pixels.
+/// Encodes raw bytes into the front of the buffer, with color space `Srgb` and in style `Reference`,
+/// and returns how many bytes the file has. `width` and `height` are in pixels.
 ///
 /// The refusals are those of `Encoder::new` and then of its `encode_to_buf`.
 pub fn encode_to_buf(buf: &mut [u8], data: &[u8], width: u32, height: u32) -> Result<usize>
@@ -84,8 +84,8 @@ pub fn encode_to_buf(buf: &mut [u8], data: &[u8], width: u32, height: u32) -> Re
     Encoder::new(data, width, height)?.encode_to_buf(buf)
 }
 
-/// Encodes raw bytes into a new vector, which has exactly the file, with color space `Srgb`. The
-/// size is in pixels.
+/// Encodes raw bytes into a new vector, which has exactly the file, with color space `Srgb` and in
+/// style `Reference`. `width` and `height` are in pixels.
 ///
 /// The refusals are those of `Encoder::new` and then of its `encode_to_vec`.
 pub fn encode_to_vec(alloc: Global, data: &[u8], width: u32, height: u32) -> Result<Vec<u8>>
@@ -117,7 +117,7 @@ impl<'a> Model for Encoder<'a> {
     ghost use Rattle.std.specs.Prelude.{◌≡◌, length};
     ghost use Rattle.qoi.specs.EncoderState.{EncoderState};
     ghost use Rattle.qoi.specs.Qoi.{IsValid};
-    ghost use Rattle.qoi.specs.Decoding.{image_byte_count};
+    ghost use Rattle.qoi.specs.Raw.{image_byte_count};
 
     ghost Value = { EncoderState };
 
@@ -132,8 +132,9 @@ impl<'a> Encoder<'a> {
     /// style `Reference`.
     ///
     /// Refusals, in this order: `InvalidImageDimensions` where width times height is 0 or above
-    /// 400,000,000; `InvalidImageLength` where the bytes aren't the same number for each pixel;
-    /// `InvalidChannels` where that number isn't 3 or 4, with the number, or 255 if it is greater.
+    /// 400,000,000; `InvalidImageLength` where the number of bytes isn't a multiple of the
+    /// number of pixels; `InvalidChannels` where it isn't 3 or 4 for each pixel, with what it is, or
+    /// 255 where it is greater.
     pub fn new(data: &'a [u8], width: u32, height: u32) -> Result<Encoder<'a>>
         ensures accepted { IfOk result (λ e.
             (image_header «data».entry.now width height ≡ Ok e.header)
@@ -229,7 +230,7 @@ impl<'a> Encoder<'a> {
         // Any bytes that are the file of the image are those that were written.
         ensures same { (bytes : List ℕ) → IsFileOf self.now.style self.now.header self.now.raw bytes
             → IfOk result (λ n. (n ≡ length bytes) × (buf.new ≡ bytes ++ drop n buf.old)) }
-        // No list of chunks of the image, regular or not, makes a shorter file.
+        // In style `Tight` no list of chunks of the image, regular or not, makes a shorter file.
         ensures shortest { self.now.style ≡ Tight
             → IfOk result (IsShortest self.now.header self.now.raw) }
         // In style `Places` the file is as long as in `Reference`.
@@ -264,7 +265,7 @@ impl<'a> Encoder<'a> {
         // Any bytes that are the file of the image are those of the vector.
         ensures same { (bytes : List ℕ) → IsFileOf self.now.style self.now.header self.now.raw bytes
             → IfOk result (λ v. v.items ≡ bytes) }
-        // No list of chunks of the image, regular or not, makes a shorter file.
+        // In style `Tight` no list of chunks of the image, regular or not, makes a shorter file.
         ensures shortest { self.now.style ≡ Tight
             → IfOk result (λ v. IsShortest self.now.header self.now.raw (length v.items)) }
         // In style `Places` the file is as long as in `Reference`.
@@ -299,7 +300,7 @@ impl<'a> Encoder<'a> {
             → MatchResult result (λ n. (n ≡ length bytes)
             × Appends (W.contents writer.old) (W.contents writer.new) bytes)
             (λ _. AppendsBeginning (W.contents writer.old) (W.contents writer.new) bytes) }
-        // No list of chunks of the image, regular or not, makes a shorter file.
+        // In style `Tight` no list of chunks of the image, regular or not, makes a shorter file.
         ensures shortest { self.now.style ≡ Tight
             → IfOk result (IsShortest self.now.header self.now.raw) }
         // In style `Places` the file is as long as in `Reference`.

@@ -23,7 +23,7 @@ pub enum Error {
         width: u32,
         height: u32,
     },
-    /// The raw bytes, `size` of them, aren't the same number of bytes for each pixel.
+    /// The number of raw bytes, `size`, isn't a multiple of the number of pixels.
     InvalidImageLength {
         size: usize,
         width: u32,

@@ -40,7 +40,8 @@ impl Default for Header {
 }
 
 impl Header {
-    ghost use Rattle.qoi.specs.Qoi.{head, header_of, tried_header, pixel_count, capped_byte_count, header_size, IsValid};
+    ghost use Rattle.qoi.specs.Qoi.{header_bytes, header_of, tried_header, pixel_count, header_size, IsValid};
+    ghost use Rattle.qoi.specs.Raw.{capped_byte_count};
     ghost use Rattle.qoi.specs.Encoded.{max_file_len};
 
     /// A header of these fields; `InvalidImageDimensions` where width times height is 0 or
@@ -67,7 +68,7 @@ impl Header {
 
     // The fourteen bytes of the header.
     pub(crate) fn encode(&self) -> [u8; QOI_HEADER_SIZE]
-        ensures { result ≡ head self.now }
+        ensures { result ≡ header_bytes self.now }
     {
         let [m0, m1, m2, m3] = QOI_MAGIC.to_be_bytes();
         let [w0, w1, w2, w3] = self.width.to_be_bytes();
@@ -83,7 +84,7 @@ impl Header {
     // color space, the magic, the dimensions.
     pub(crate) fn decode(bytes: &[u8]) -> Result<Header>
         ensures read { result ≡ header_of bytes.now }
-        ensures own { IfOk result (λ h. (take header_size bytes.now ≡ head h) × IsValid h) }
+        ensures own { IfOk result (λ h. (take header_size bytes.now ≡ header_bytes h) × IsValid h) }
     {
         let [
             m0,

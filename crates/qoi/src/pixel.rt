@@ -3,8 +3,8 @@
 ghost use Rattle.std.specs.Prelude.{◌≡◌, ◌+◌, ◌<◌, ◌≤◌, OnOk, IfErr, ℕ, List, [], ◌∷◌, ◌++◌, length, take, drop, replicate, slice_index, slice_index_or};
 ghost use Rattle.qoi.specs.declared.chunk.Chunk.{Chunk};
 ghost use Rattle.qoi.specs.Spelling.{Spells};
-ghost use Rattle.qoi.specs.writers.Writes.{WroteSome};
-ghost use Rattle.qoi.specs.Qoi.{bytes_of, rgba, hash, after_diff, after_luma, moved};
+ghost use Rattle.qoi.specs.writers.Writes.{WroteBeginning};
+ghost use Rattle.qoi.specs.Qoi.{bytes_of, rgba, hash, positions, after_diff, after_luma, moved};
 ghost use Rattle.qoi.specs.Raw.{IsChannels};
 
 use crate::encode::piece::put_chunk;
@@ -185,7 +185,7 @@ impl<const N: usize> Pixel<N> {
     pub fn a_or(self, value: u8) -> u8
         requires { IsChannels N }
         ensures alpha { result ≡ slice_index_or self.entry 3 value }
-        ensures opaque { N ≡ 3 → result ≡ value }
+        ensures without_alpha { N ≡ 3 → result ≡ value }
     {
         if N == 4 { self.0[3] } else { value }
     }
@@ -209,7 +209,7 @@ impl<const N: usize> Pixel<N> {
     pub fn hash_index(self) -> u8
         requires { IsChannels N }
         ensures position { result ≡ hash (rgba self.entry) }
-        ensures within { result < 64 }
+        ensures within { result < positions }
     {
         self.packed().spread().hash_index()
     }
@@ -226,7 +226,7 @@ impl<const N: usize> Pixel<N> {
         ensures written { OnOk result ((c : Chunk) × Spells self.now px_prev.entry c
             × W.wrote buf.old (bytes_of c) buf.new) }
         ensures refused { IfErr result (λ e. W.IsFault e × (c : Chunk)
-            × Spells self.now px_prev.entry c × WroteSome W.wrote buf.old (bytes_of c) buf.new) }
+            × Spells self.now px_prev.entry c × WroteBeginning W.wrote buf.old (bytes_of c) buf.new) }
     {
         let quad = Quad::alone::<N>(self.packed(), px_prev.packed());
         let mut bytes = [0; 8];

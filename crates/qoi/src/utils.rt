@@ -1,6 +1,6 @@
 //! Where the encoder writes.
 ghost use Rattle.std.specs.Prelude.{◌≡◌, ℕ, ◌+◌, ◌<◌, ◌≤◌, List, [], ◌∷◌, length, OnOk, IfErr};
-ghost use Rattle.qoi.specs.writers.Writes.{WriterLaws, WroteSome};
+ghost use Rattle.qoi.specs.writers.Writes.{WriterLaws, WroteBeginning};
 ghost use Rattle.qoi.specs.writers.Behind.{StandsBehind};
 ghost use Rattle.qoi.specs.Errors.{IsIoError};
 
@@ -33,7 +33,7 @@ pub trait Writer: Sized {
     fn write_many(&mut self, v: &[u8]) -> Result<()>
         requires { length v.now ≤ room self.old }
         ensures written { OnOk result (wrote self.old v.now self.new) }
-        ensures refused { IfErr result (λ e. IsFault e × WroteSome wrote self.old v.now self.new) };
+        ensures refused { IfErr result (λ e. IsFault e × WroteBeginning wrote self.old v.now self.new) };
 
     /// How many bytes can still be written.
     fn capacity(&self) -> usize

@@ -3,7 +3,7 @@ use Rattle.std.proofs.Common.{◌≡◌, ◌+◌, ◌-◌, ◌<◌, ℕ, List, [
 use Rattle.std.proofs.lemmas.List.{map-append, append_assoc, length-append, take_rest}
 use Rattle.std.proofs.lemmas.List.Prefix.{end_rest}
 use Rattle.qoi.specs.declared.header.Header.{Header}
-use Rattle.qoi.specs.Qoi.{head, chunk_bytes, end_marker, file}
+use Rattle.qoi.specs.Qoi.{header_bytes, chunk_bytes, end_marker, file}
 use Rattle.qoi.specs.Decoding.{DecodesFile}
 use Rattle.qoi.proofs.decoding.OneFile.{decoding_is_one}
 use Rattle.qoi_tool.specs.Files.{AreFiles}
@@ -12,7 +12,8 @@ use Rattle.qoi_tool.specs.Files.{AreFiles}
 pub rest_is_shorter : (bytes : List ℕ) (h : Header) (rest raw : List ℕ) → DecodesFile bytes h rest raw → length rest < length bytes
 rest_is_shorter bytes h rest raw d =
     let all : length bytes ≡ length (file h d.cs) + length rest = ap length d.split ∙ length-append (file h d.cs) rest in
-    let front : length (file h d.cs) ≡ length (head h) + length (chunk_bytes d.cs ++ end_marker) = length-append (head h) (chunk_bytes d.cs ++ end_marker) in
+    let front : length (file h d.cs) ≡ length (header_bytes h) + length (chunk_bytes d.cs ++ end_marker) =
+    length-append (header_bytes h) (chunk_bytes d.cs ++ end_marker) in
     let marked : length (chunk_bytes d.cs ++ end_marker) ≡ length (chunk_bytes d.cs) + 8 = length-append (chunk_bytes d.cs) end_marker in
     omega (arith, all, front, marked)
 

@@ -4,7 +4,7 @@ use Rattle.std.specs.Io.KnownBytes.{Appends, Keeps}
 use Rattle.qoi.specs.declared.error.Error.{Error}
 use Rattle.qoi.specs.declared.header.Header.{Header}
 use Rattle.qoi.specs.Qoi.{channels_number, header_of, pixel_count, header_size}
-use Rattle.qoi.specs.Decoding.{DecodesFile, ReadsImage, RefusesWholeFile}
+use Rattle.qoi.specs.Decoding.{DecodesFile, ReadsImage, RefusesFile}
 use Rattle.qoi.specs.Encoded.{image_header, IsFileOf}
 use Rattle.qoi_tool.specs.declared.command.Command.{Command}
 use Rattle.qoi_tool.specs.declared.command.Command.TheVariants.{Decode, DecodeInto, Encode, Info}
@@ -12,7 +12,7 @@ use Rattle.qoi_tool.specs.declared.Fault.{Fault}
 use Rattle.qoi_tool.specs.declared.Fault.TheVariants.{Usage, Image}
 use Rattle.qoi_tool.specs.Lines.{header_line}
 use Rattle.qoi_tool.specs.Words.{Asks, IsUsage}
-use Rattle.qoi_tool.specs.Transfers.{TakesAll, TakesCount, TakesFewer, IsOutside}
+use Rattle.qoi_tool.specs.Transfers.{TakesAll, TakesCount, TakesFewer, IsIoOrMemory}
 use Rattle.qoi.specs.Errors.{IsIoError}
 use Rattle.qoi.specs.writers.Writes.{AppendsBeginning}
 
@@ -34,16 +34,17 @@ Writes Info input out = (h : Header) × (header_of input ≡ Ok h) × (out ≡ h
 
 -- why the library refuses an input
 abbrev pub Refuses : Command → List ℕ → Error → Type 0
-Refuses Decode input e = RefusesWholeFile input e
-Refuses (DecodeInto channels) input e = RefusesWholeFile input e
+Refuses Decode input e = RefusesFile input e
+Refuses (DecodeInto channels) input e = RefusesFile input e
 Refuses (Encode width height space style) input e = image_header input width height ≡ Err e
 Refuses Info input e = header_of input ≡ Err e
 
--- why a command stops before its answer is known: `info` takes no memory, and fewer bytes than a header has
+-- how a command stops before its answer is known: by an i/o error or for want of memory; `info`, which asks for no
+-- memory, by an i/o error after fewer bytes than a header has
 abbrev pub StopsEarly : Command → Option (List ℕ) → Option (List ℕ) → Error → Type 0
-StopsEarly Decode old new e = IsOutside e
-StopsEarly (DecodeInto channels) old new e = IsOutside e
-StopsEarly (Encode w h space style) old new e = IsOutside e
+StopsEarly Decode old new e = IsIoOrMemory e
+StopsEarly (DecodeInto channels) old new e = IsIoOrMemory e
+StopsEarly (Encode w h space style) old new e = IsIoOrMemory e
 StopsEarly Info old new e = IsIoError e × TakesFewer header_size old new
 
 -- the input was taken, and the command's answer was written
@@ -64,7 +65,8 @@ Stops command in_old in_new out_old out_new e =
     ⊎ ((StopsEarly command in_old in_new e × Keeps out_old out_new)
     ⊎ (IsIoError e × ((input : List ℕ) × (out : List ℕ) × Takes command in_old in_new input × Writes command input out × AppendsBeginning out_old out_new out)))
 
--- what a fault says
+-- Why the words weren't answered: they ask for no command, and nothing was read or written; or the command that they
+-- ask for stopped.
 abbrev pub StopsAt : List (List ℕ) → Option (List ℕ) → Option (List ℕ) → Option (List ℕ) → Option (List ℕ) → Fault → Type 0
 StopsAt words in_old in_new out_old out_new Usage = IsUsage words × Keeps in_old in_new × Keeps out_old out_new
 StopsAt words in_old in_new out_old out_new (Image e) = (command : Command) × Asks words command × Stops command in_old in_new out_old out_new e

@@ -12,7 +12,7 @@ ghost use Rattle.qoi_tool.specs.declared.Fault.{Fault};
 ghost use Rattle.qoi_tool.specs.declared.command.Command.TheVariants.{Decode, DecodeInto, Encode, Info};
 ghost use Rattle.qoi_tool.specs.Words.{IsUsage};
 ghost use Rattle.qoi_tool.specs.Faults.{status_of};
-ghost use Rattle.qoi_tool.specs.Transfers.{IsOutside};
+ghost use Rattle.qoi_tool.specs.Transfers.{IsIoOrMemory};
 ghost use Rattle.qoi_tool.specs.Answers.{Finishes, StopsAt, Stops, Does};
 
 use crate::command::{Command, command_of};
@@ -50,8 +50,8 @@ impl From<Error> for Fault {
 /// Does what the words ask for, from the input to the output; `words` has no program name.
 ///
 /// Refusals come in this order: `Usage` where the words aren't those of a command; a fault of the
-/// input or a refused growth while it is read; the library's; a fault of the output. Nothing is
-/// written before the writing, and after a fault of the output a beginning of it was written.
+/// input, or want of memory while it is read; a refusal of the library; a fault of the output. Until
+/// the answer is known nothing is written; after a fault of the output a beginning of it was.
 pub fn run<R: Read, W: Write>(
     alloc: Global,
     words: &[String],
@@ -177,7 +177,7 @@ pub fn report<W: Write>(fault: &Fault, err: &mut W) -> u8
 
 // The arguments after the program's name.
 fn words_of(rt: &HostRuntime) -> Result<Vec<String>, Error>
-    ensures { IfErr result IsOutside }
+    ensures { IfErr result IsIoOrMemory }
 {
     match env::args(rt) {
         Ok(args) => Ok(args.skip(1).collect(rt.alloc())?),

@@ -1,7 +1,7 @@
 //! Reading an input to its end or into a buffer, and writing all of an output.
 ghost use Rattle.std.specs.Prelude.{◌≡◌, ℕ, ◌+◌, ◌<◌, ◌≤◌, List, length, Option, Ok, OnOk, OnErr, IfOk, IfErr, take};
 ghost use Rattle.std.specs.Io.KnownBytes.{Appends, Consumes, IsAtEnd, Keeps};
-ghost use Rattle.qoi_tool.specs.Transfers.{TakesAll, TakesFewer, IsOutside};
+ghost use Rattle.qoi_tool.specs.Transfers.{TakesAll, TakesFewer, IsIoOrMemory};
 ghost use Rattle.qoi.specs.Errors.{IsIoError};
 ghost use Rattle.qoi.specs.writers.Writes.{AppendsBeginning};
 
@@ -16,12 +16,12 @@ const LEAST: usize = 65_536;
 // The most that it grows by at a time, since all of that is filled with zeros before it is read into.
 const PIECE: usize = 1_048_576;
 
-/// All the bytes that the reader gives until a read gives none. Other than the standard library's, it
+/// All the bytes that the reader gives until a read gives none. Unlike the standard library's, it
 /// doesn't try again after an interruption, which is a fault.
 pub fn read_to_end<R: Read>(alloc: Global, input: &mut R) -> Result<Vec<u8>, Error>
     ensures read { IfOk result (λ v. TakesAll (R.remaining input.old)
         (R.remaining input.new) v.items) }
-    ensures failed { IfErr result IsOutside }
+    ensures failed { IfErr result IsIoOrMemory }
 {
     let mut bytes = Vec::new(alloc);
     let mut filled = 0;
@@ -39,7 +39,7 @@ pub fn read_to_end<R: Read>(alloc: Global, input: &mut R) -> Result<Vec<u8>, Err
 }
 
 /// Fills the buffer, and reads no byte past it; an early end is an `IoError` of kind
-/// `UnexpectedEof`. Other than in the standard library's, an interruption is a fault.
+/// `UnexpectedEof`. Unlike in the standard library's, an interruption is a fault.
 pub fn read_exact<R: Read>(input: &mut R, buf: &mut [u8]) -> Result<(), Error>
     ensures read { OnOk result (Consumes (R.remaining input.old) (R.remaining input.new) buf.new) }
     ensures failed { IfErr result (λ e. IsIoError e
@@ -74,7 +74,7 @@ fn read_after<R: Read>(input: &mut R, buf: &mut [u8], filled: usize) -> io::Resu
     Ok(count)
 }
 
-/// Writes all the bytes; after a fault a beginning of them was written. Other than in the standard
+/// Writes all the bytes; after a fault a beginning of them was written. Unlike in the standard
 /// library's, an interruption is a fault.
 pub fn write_all<W: Write>(output: &mut W, bytes: &[u8]) -> Result<(), Error>
     ensures written { OnOk result (Appends (W.contents output.old)

@@ -8,13 +8,14 @@ use Rattle.qoi.specs.declared.types.Channels.{Channels}
 use Rattle.qoi.specs.declared.types.Channels.TheVariants.{Rgb, Rgba}
 use Rattle.qoi.specs.declared.chunk.Chunk.{Chunk}
 use Rattle.qoi.specs.declared.types.Style.{Style}
-use Rattle.qoi.specs.Qoi.{channels_number, head, header_of, header_size, IsValid, pixel_count, meaning}
+use Rattle.qoi.specs.Qoi.{channels_number, header_bytes, header_of, header_size, IsValid, pixel_count, meaning}
 use Rattle.qoi.specs.Raw.{output, without_fourth}
-use Rattle.qoi.specs.Verdicts.{IsWhole}
-use Rattle.qoi.specs.Decoding.{AreWrong, DecodesFile, AreCut, ReadsImage, RefusesImage, TakesHeader}
+use Rattle.qoi.specs.Verdicts.{IsWhole, AreWrong, AreCut}
+use Rattle.qoi.specs.Decoding.{DecodesFile, ReadsImage, RefusesImage, TakesHeader}
 use Rattle.qoi.specs.DecoderState.{DecoderState}
 use Rattle.qoi.specs.Encoded.{IsFileOf}
-use Rattle.qoi.specs.Reading.{HasImage, IsDecoderOf, IsFault, IsImage, IsImageFor}
+use Rattle.qoi.specs.Reading.{HasImage, IsDecoderOf, IsImage, IsImageFor}
+use Rattle.qoi.specs.Errors.{IsReaderFault}
 use Rattle.qoi.proofs.decoding.OneFile.{decodes_file, file_parts, header_is_one}
 use Rattle.qoi.proofs.decoding.StreamVerdicts.{fourth_is_opaque, read_is_whole, rgb_is_without_fourth, whole_is_io_error}
 use Rattle.qoi.proofs.decoding.Refusals.{whole_not_refused_in}
@@ -50,12 +51,12 @@ header_read_from old left bytes h r told = header_read bytes left h (subst (λ z
 
 -- and the header's bytes stand at their front
 pub header_front : (old left : Option (List ℕ)) (bytes : List ℕ) (h : Header) → TakesHeader old left h → old ≡ Some bytes
-    → (bytes ≡ head h ++ drop header_size bytes) × IsValid h
+    → (bytes ≡ header_bytes h ++ drop header_size bytes) × IsValid h
 header_front old None bytes h r told = absurd (subst (λ z. Consumes z None r.0) told r.1)
 header_front old (Some rest) bytes h r told =
     let split : bytes ≡ r.0 ++ rest = subst (λ z. Consumes z (Some rest) r.0) told r.1 in
     let after = (header_split bytes r.0 rest h split r.2 r.3).1 in
-    (split ∙ ap (λ z. z ++ rest) r.4 ∙ ap (λ z. head h ++ z) after, r.5)
+    (split ∙ ap (λ z. z ++ rest) r.4 ∙ ap (λ z. header_bytes h ++ z) after, r.5)
 
 -- behind the header of a file stands its image, for the decoder of that header
 pub image_ahead : {R : Type 0} (d : DecoderState R) (bytes : List ℕ) (h : Header) (rest raw : List ℕ) → header_of bytes ≡ Ok d.header
@@ -66,7 +67,7 @@ image_ahead d bytes h rest raw read own f =
 
 -- what refuses an image that stands ahead is a fault
 pub fault_ahead : {R : Type 0} (in_memory : Bool) (d : DecoderState R) (old new : Option (List ℕ)) (e : Error) (bytes rest raw : List ℕ)
-    → IsImageFor d bytes rest raw → old ≡ Some bytes → RefusesImage in_memory (pixel_count d.header) old new e → IsFault in_memory e
+    → IsImageFor d bytes rest raw → old ≡ Some bytes → RefusesImage in_memory (pixel_count d.header) old new e → IsReaderFault in_memory e
 unfolding IsImageFor
 fault_ahead true d old new e bytes rest raw image told refused =
     whole_not_refused_in true (pixel_count d.header) old new e bytes image.cs rest refl told image.whole refused
@@ -145,11 +146,11 @@ file_from_image next d bytes ahead left out (split, valid, own) told reads =
       is_left,
       decodes_file h cs bytes rest out
           (record { valid = valid; chunks = w.has.chunks; reaches = record { stays_below = w.has.stays_below; enough = w.enough } })
-          (split ∙ ap (λ l. head h ++ l) w.has.split ∙ sym (file_parts h cs rest)) (image.out_is ∙ ap P own),
+          (split ∙ ap (λ l. header_bytes h ++ l) w.has.split ∙ sym (file_parts h cs rest)) (image.out_is ∙ ap P own),
     )
 
 -- a decoder whose header's bytes stand before what is ahead
-pub decoder_of : {R : Type 0} (d : DecoderState R) (bytes ahead : List ℕ) → bytes ≡ head d.header ++ ahead → IsValid d.header
+pub decoder_of : {R : Type 0} (d : DecoderState R) (bytes ahead : List ℕ) → bytes ≡ header_bytes d.header ++ ahead → IsValid d.header
     → d.channels ≡ d.header.channels → IsDecoderOf d bytes ahead
 unfolding IsDecoderOf
 decoder_of d bytes ahead split valid own = (split, valid, own)

@@ -5,8 +5,8 @@ use Rattle.qoi.specs.declared.types.Channels.{Channels}
 use Rattle.qoi.specs.declared.types.Channels.TheVariants.{Rgb, Rgba}
 use Rattle.qoi.specs.declared.header.Header.{Header}
 use Rattle.qoi.specs.Qoi.{channels_number, pixel_count}
-use Rattle.qoi.specs.Raw.{IsChannels}
-use Rattle.qoi.specs.Decoding.{byte_count, least_byte_count}
+use Rattle.qoi.specs.Raw.{IsChannels, byte_count}
+use Rattle.qoi.specs.Decoding.{least_byte_count}
 
 -- there are three or four channels
 pub channels_are : (c : Channels) (n : ℕ) → n ≡ channels_number c → IsChannels n

@@ -4,8 +4,8 @@ use Rattle.std.proofs.lemmas.List.{length-replicate}
 use Rattle.qoi.specs.declared.chunk.Chunk.{Chunk}
 use Rattle.qoi.specs.declared.chunk.Chunk.TheVariants.{Place, Diff, Luma, Run, Rgb, Rgba}
 use Rattle.qoi.specs.Qoi.{Past, AreBytes, IsChunk, AreChunks, bytes_of, chunk_bytes, times, pixel_of, then_chunk, then_chunks, meaning, end_marker}
-use Rattle.qoi.specs.Verdicts.{HasChunks, IsWhole}
-use Rattle.qoi.specs.Decoding.{AreCut, least_byte_count}
+use Rattle.qoi.specs.Verdicts.{HasChunks, IsWhole, AreCut}
+use Rattle.qoi.specs.Decoding.{least_byte_count}
 use Rattle.qoi.proofs.format.Appended.{length-bytes_of, length-meaning}
 use Rattle.qoi.proofs.format.SomeVerdict.{verdict_of}
 

@@ -2,7 +2,7 @@
 use Rattle.std.proofs.Common.{◌≡◌, ℕ, List, ◌++◌, drop, Some, refl, ap, sym, ◌∙◌, subst, Ok, append_assoc}
 use Rattle.qoi.specs.declared.header.Header.{Header}
 use Rattle.qoi.specs.declared.chunk.Chunk.{Chunk}
-use Rattle.qoi.specs.Qoi.{AreBytes, chunk_bytes, channels_number, head, pixel_count, header_of, IsFile, file, file_pixels, end_marker, header_size}
+use Rattle.qoi.specs.Qoi.{AreBytes, chunk_bytes, channels_number, header_bytes, pixel_count, header_of, IsFile, file, file_pixels, end_marker, header_size}
 use Rattle.qoi.specs.Raw.{output}
 use Rattle.qoi.specs.Verdicts.{IsWhole}
 use Rattle.qoi.specs.Decoding.{DecodesFile, ReadsImage}
@@ -11,9 +11,9 @@ use Rattle.qoi.proofs.format.OneVerdict.{whole_is_one}
 use Rattle.qoi.proofs.format.HeaderBytes.{header_of-head, head_from_header_of}
 
 -- a file and more bytes are header, chunks, end marker and those bytes
-pub file_parts : (h : Header) (cs : List Chunk) (rest : List ℕ) → file h cs ++ rest ≡ head h ++ (chunk_bytes cs ++ (end_marker ++ rest))
+pub file_parts : (h : Header) (cs : List Chunk) (rest : List ℕ) → file h cs ++ rest ≡ header_bytes h ++ (chunk_bytes cs ++ (end_marker ++ rest))
 file_parts h cs rest =
-    append_assoc (head h) (chunk_bytes cs ++ end_marker) rest ∙ ap (λ l. head h ++ l) (append_assoc (chunk_bytes cs) end_marker rest)
+    append_assoc (header_bytes h) (chunk_bytes cs ++ end_marker) rest ∙ ap (λ l. header_bytes h ++ l) (append_assoc (chunk_bytes cs) end_marker rest)
 
 -- the header of a file is read
 pub file_has_header : (h : Header) (cs : List Chunk) (bytes rest : List ℕ) → IsFile h cs → bytes ≡ file h cs ++ rest → header_of bytes ≡ Ok h
@@ -34,7 +34,7 @@ pub file_from_whole : (h : Header) (cs : List Chunk) (bytes rest : List ℕ) →
 file_from_whole h cs bytes rest fits e w =
     let front = head_from_header_of bytes h fits e in (
       record { valid = front.1; chunks = w.has.chunks; reaches = record { stays_below = w.has.stays_below; enough = w.enough } },
-      front.0 ∙ ap (λ l. head h ++ l) w.has.split ∙ sym (file_parts h cs rest),
+      front.0 ∙ ap (λ l. header_bytes h ++ l) w.has.split ∙ sym (file_parts h cs rest),
     )
 
 -- a header is read in one way

@@ -7,8 +7,8 @@ use Rattle.std.proofs.KnownBytes.{Consumes-trans}
 use Rattle.qoi.specs.Raw.{IsChannels, output}
 use Rattle.qoi.specs.inner.Filling.{Buffer, Filling, filling, HasFilled, HasSeen, GivesChunk}
 use Rattle.qoi.specs.inner.Table.{Holds}
-use Rattle.qoi.specs.Verdicts.{IsPartOfChunk}
-use Rattle.qoi.specs.Decoding.{EndsInChunk, AreCut, ReadsPixels, StreamsPixels}
+use Rattle.qoi.specs.Verdicts.{IsPartOfChunk, EndsInChunk, AreCut}
+use Rattle.qoi.specs.Decoding.{ReadsPixels, StreamsPixels}
 use Rattle.qoi.proofs.format.ChunkSteps.{times_some, then_chunks-append, each_append}
 use Rattle.std.proofs.lemmas.Grind.{flat_map-append}
 use Rattle.qoi.proofs.format.SomeVerdict.{reading_of}

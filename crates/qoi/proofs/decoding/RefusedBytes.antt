@@ -2,8 +2,9 @@
 use Rattle.std.proofs.Common.{◌≡◌, ℕ, List, Bool, true, false, Option, Some, inl, inr, refl, subst}
 use Rattle.qoi.specs.declared.error.Error.{Error}
 use Rattle.qoi.specs.declared.error.Error.TheVariants.{InvalidMagic, InvalidChannels, InvalidColorSpace, InvalidImageDimensions, InvalidImageLength, OutputBufferTooSmall, UnexpectedBufferEnd, InvalidPadding, IoError, OutOfMemory}
-use Rattle.qoi.specs.Decoding.{AreWrong, AreCut, RefusesBytes, RefusesImage, RefusesTaken}
-use Rattle.qoi.specs.Reading.{IsForCut, IsForWrong}
+use Rattle.qoi.specs.Decoding.{RefusesBytes, RefusesImage, RefusesTaken}
+use Rattle.qoi.specs.Verdicts.{AreWrong, AreCut}
+use Rattle.qoi.specs.Errors.{IsErrorOfCut, IsErrorOfWrong}
 use Rattle.qoi.proofs.decoding.StreamVerdicts.{cut_is_io_error, padding_is_wrong}
 use Rattle.qoi.proofs.format.OneVerdict.{cut_not_wrong}
 
@@ -34,7 +35,7 @@ wrong_in_memory n bytes (IoError i) wrong none = absurd none
 wrong_in_memory n bytes OutOfMemory wrong none = absurd none
 
 -- a stream is refused for its padding or with an i/o error
-padding_or_io : (n : ℕ) (taken : List ℕ) (e : Error) → RefusesTaken n taken e → IsForWrong false e
+padding_or_io : (n : ℕ) (taken : List ℕ) (e : Error) → RefusesTaken n taken e → IsErrorOfWrong false e
 padding_or_io n taken (IoError x) why = inr tt
 padding_or_io n taken InvalidPadding why = inl refl
 padding_or_io n taken (InvalidMagic m) none = absurd none
@@ -48,7 +49,7 @@ padding_or_io n taken OutOfMemory none = absurd none
 
 -- what refuses cut bytes
 pub refused_for_cut : (in_memory : Bool) (n : ℕ) (old new : Option (List ℕ)) (e : Error) (bytes : List ℕ) → old ≡ Some bytes → AreCut n bytes
-    → RefusesImage in_memory n old new e → IsForCut in_memory e
+    → RefusesImage in_memory n old new e → IsErrorOfCut in_memory e
 refused_for_cut true n old new e bytes told cut refused =
     cut_in_memory n bytes e cut (subst (λ z. RefusesImage true n z new e) told refused).1
 refused_for_cut false n old new e bytes told (cs, part, cut) refused =
@@ -56,7 +57,7 @@ refused_for_cut false n old new e bytes told (cs, part, cut) refused =
 
 -- what refuses wrong bytes
 pub refused_for_wrong : (in_memory : Bool) (n : ℕ) (old new : Option (List ℕ)) (e : Error) (bytes : List ℕ) → old ≡ Some bytes
-    → AreWrong n bytes → RefusesImage in_memory n old new e → IsForWrong in_memory e
+    → AreWrong n bytes → RefusesImage in_memory n old new e → IsErrorOfWrong in_memory e
 refused_for_wrong true n old new e bytes told wrong refused =
     wrong_in_memory n bytes e wrong (subst (λ z. RefusesImage true n z new e) told refused).1
 refused_for_wrong false n old new e bytes told wrong (taken, took, why) = padding_or_io n taken e why

@@ -14,8 +14,8 @@ use Rattle.qoi.specs.inner.Filling.{Filling, GivesChunk}
 use Rattle.qoi.proofs.format.ChunksApart.{chunks_apart}
 use Rattle.std.proofs.lemmas.Bool.{cases_lt}
 use Rattle.qoi.specs.Qoi.{AreBytes, IsChunk, AreChunks, bytes_of, chunk_bytes, Reaches}
-use Rattle.qoi.specs.Verdicts.{IsPartOfChunk}
-use Rattle.qoi.specs.Decoding.{EndsInChunk, StreamsPixels, AreCut, RefusesTaken, RefusesTakenMarker}
+use Rattle.qoi.specs.Verdicts.{IsPartOfChunk, EndsInChunk, AreCut}
+use Rattle.qoi.specs.Decoding.{StreamsPixels, RefusesTaken, RefusesTakenMarker}
 use Rattle.qoi.proofs.format.PartOfChunk.{byte_and, part_luma, part_rgb, part_rgba}
 
 -- the front of a buffer after a read behind what was filled

@@ -6,8 +6,8 @@ use Rattle.qoi.specs.declared.error.Error.TheVariants.{InvalidMagic, InvalidChan
 use Rattle.qoi.specs.declared.chunk.Chunk.{Chunk}
 use Rattle.qoi.specs.Qoi.{RgbaPixel, chunk_bytes, meaning, end_marker}
 use Rattle.qoi.specs.Raw.{output, without_fourth}
-use Rattle.qoi.specs.Verdicts.{IsWhole, IsCut, IsWrong}
-use Rattle.qoi.specs.Decoding.{ReadsImage, RefusesImage, RefusesTaken, HasWrong}
+use Rattle.qoi.specs.Verdicts.{IsWhole, IsCut, IsWrong, AreWrongThen}
+use Rattle.qoi.specs.Decoding.{ReadsImage, RefusesImage, RefusesTaken}
 use Rattle.qoi.specs.Errors.{IsIoError}
 use Rattle.qoi.proofs.format.OneVerdict.{whole_not_wrong, cut_not_wrong}
 
@@ -28,7 +28,7 @@ read_is_whole f c n bytes (Some rest) out r = (
 )
 
 -- what was refused for its padding was wrong
-pub padding_is_wrong : (n : ℕ) (bytes : List ℕ) (left : Option (List ℕ)) (taken : List ℕ) → Consumes (Some bytes) left taken → HasWrong n taken []
+pub padding_is_wrong : (n : ℕ) (bytes : List ℕ) (left : Option (List ℕ)) (taken : List ℕ) → Consumes (Some bytes) left taken → AreWrongThen n taken []
     → (cs : List Chunk) × (eight : List ℕ) × (rest : List ℕ) × IsWrong n bytes cs eight rest × (left ≡ Some rest)
 padding_is_wrong n bytes None taken took wrong = absurd took
 padding_is_wrong n bytes (Some rest) taken took (cs, eight, w) = (

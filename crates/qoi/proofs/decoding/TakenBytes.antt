@@ -3,8 +3,8 @@ use Rattle.std.proofs.Common.{◌≡◌, inl, inr, ℕ, ◌+◌, ◌*◌, ◌<�
 use Rattle.std.specs.Io.KnownBytes.{Consumes, Keeps}
 use Rattle.qoi.specs.declared.error.Error.{Error}
 use Rattle.qoi.specs.declared.error.Error.TheVariants.{InvalidMagic, InvalidChannels, InvalidColorSpace, InvalidImageDimensions, InvalidImageLength, OutputBufferTooSmall, UnexpectedBufferEnd, InvalidPadding, IoError, OutOfMemory}
-use Rattle.qoi.specs.Verdicts.{IsPartOfChunk}
-use Rattle.qoi.specs.Decoding.{AreCut, HasWrong, ReadsImage, RefusesImage}
+use Rattle.qoi.specs.Verdicts.{IsPartOfChunk, AreCut, AreWrongThen}
+use Rattle.qoi.specs.Decoding.{ReadsImage, RefusesImage}
 use Rattle.qoi.specs.DecoderState.{TakesAtMost}
 use Rattle.std.proofs.lemmas.List.{length-replicate}
 use Rattle.qoi.specs.declared.chunk.Chunk.{Chunk}
@@ -78,7 +78,7 @@ cut_within n bytes (cs, part, cut) =
     ]
 
 -- so are wrong ones with nothing behind the eight bytes
-wrong_within : (n : ℕ) (bytes : List ℕ) → HasWrong n bytes [] → length bytes ≤ 5 * n + 8
+wrong_within : (n : ℕ) (bytes : List ℕ) → AreWrongThen n bytes [] → length bytes ≤ 5 * n + 8
 wrong_within n bytes (cs, eight, wrong) =
     omega (
       arith,

@@ -9,7 +9,7 @@ use Rattle.qoi.specs.Qoi.{AreBytes, RgbaPixel, chunk_bytes}
 use Rattle.qoi.specs.Raw.{IsChannels, pixels_of}
 use Rattle.qoi.specs.Written.{WrittenBy}
 use Rattle.qoi.specs.Styles.{choice_in, in_style, WrittenIn}
-use Rattle.qoi.specs.writers.Writes.{WriterLaws, WroteBut, WroteSome}
+use Rattle.qoi.specs.writers.Writes.{WriterLaws, WroteBut, WroteBeginning}
 use Rattle.qoi.specs.inner.CoderState.{StateAfter, StyleAfter}
 use Rattle.qoi.specs.inner.CoderLoop.{Writing, CoderBetween}
 use Rattle.qoi.proofs.decoding.FilledBuffer.{whole_pixels}
@@ -112,8 +112,8 @@ module _ {W : Type 0} {wrote : W → List ℕ → W → Type 0} {room : W → �
       }
 
       -- a beginning of them is
-      pub piece_part : {now : W} → WroteSome wrote buf (take size kept) now
-          → (cs : List Chunk) × WrittenIn style (pixels_of n bytes) cs × WroteSome wrote start (front ++ chunk_bytes cs) now
+      pub piece_part : {now : W} → WroteBeginning wrote buf (take size kept) now
+          → (cs : List Chunk) × WrittenIn style (pixels_of n bytes) cs × WroteBeginning wrote start (front ++ chunk_bytes cs) now
       piece_part {now} some = (
         in_style style p.list,
         in_list,

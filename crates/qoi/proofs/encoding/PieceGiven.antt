@@ -5,7 +5,7 @@ use Rattle.std.proofs.lemmas.List.{drop-take, length-drop, take-append-le}
 use Rattle.std.proofs.lemmas.List.Edits.{paste_all}
 use Rattle.qoi.specs.declared.encode.piece.Piece.{Piece}
 use Rattle.qoi.specs.inner.Piece.{kept_bytes}
-use Rattle.qoi.specs.writers.Writes.{WriterLaws, WroteBut, WroteSome}
+use Rattle.qoi.specs.writers.Writes.{WriterLaws, WroteBut, WroteBeginning}
 use Rattle.qoi.proofs.encoding.WriterProgress.{wrote_none, wrote_next, wrote_part, wrote_all}
 
 -- the bytes behind a full piece, copied to the front
@@ -42,6 +42,6 @@ module _ {W : Type 0} (wrote : W → List ℕ → W → Type 0) (room : W → �
 
   -- or a beginning of it
   pub rest_refused : {T E : Type 0} (r : Result T E) (IsFault : E → Type 0) (a b next : W) (all rest : List ℕ) → WroteBut wrote a all rest b
-      → IfErr r (λ e. IsFault e × WroteSome wrote b rest next) → IfErr r (λ e. IsFault e × WroteSome wrote a all next)
+      → IfErr r (λ e. IsFault e × WroteBeginning wrote b rest next) → IfErr r (λ e. IsFault e × WroteBeginning wrote a all next)
   rest_refused (Ok x) IsFault a b next all rest w some = tt
   rest_refused (Err e) IsFault a b next all rest w some = (some.0, wrote_part wrote room laws a b next all rest rest [] w (sym (append-nil rest)) some.1)

@@ -4,8 +4,8 @@ use Rattle.std.proofs.lemmas.Bool.{and_parts, cond_both, eqb-true, eq-eqb, true�
 use Rattle.qoi.specs.declared.chunk.Chunk.{Chunk}
 use Rattle.qoi.specs.declared.chunk.Chunk.TheVariants.{Place, Diff, Luma, Run, Rgb, Rgba}
 use Rattle.qoi.specs.Qoi.{RgbaPixel, Past, previous, seen, hash, IsChunk, AreChunks, bytes_of, chunk_bytes, then_chunk, then_chunks, Each}
-use Rattle.qoi.specs.Written.{IsRightAfter}
-use Rattle.qoi.specs.Regular.{NamesWritten}
+use Rattle.qoi.specs.Written.{IsAllowedAfter}
+use Rattle.qoi.specs.Regular.{NamesPixelThere}
 use Rattle.qoi.specs.Styles.{fresh_next, some_fresh, names, is_placed, place_for, placed_after}
 use Rattle.qoi.proofs.format.SamePixels.{hash_below}
 use Rattle.qoi.proofs.encoding.NotedPixels.{seen_same}
@@ -79,11 +79,12 @@ placed_length past before (c ∷ cs) =
     )
 
 -- it is regular where the list is
-pub placed_regular : (past : Past) (before : Option Chunk) (cs : List Chunk) → Each NamesWritten past cs → Each NamesWritten past (placed_after past before cs)
+pub placed_regular : (past : Past) (before : Option Chunk) (cs : List Chunk) → Each NamesPixelThere past cs
+    → Each NamesPixelThere past (placed_after past before cs)
 placed_regular past before [] h = tt
 placed_regular past before (c ∷ cs) h = (
-  by_place (λ c d. NamesWritten past c → NamesWritten past d) past before c cs (λ d k. k) (λ e _. ap hash e) h.0,
-  subst (λ x. Each NamesWritten x (placed_after (then_chunk past c) (Some c) cs)) (sym (same_pixels past before c cs))
+  by_place (λ c d. NamesPixelThere past c → NamesPixelThere past d) past before c cs (λ d k. k) (λ e _. ap hash e) h.0,
+  subst (λ x. Each NamesPixelThere x (placed_after (then_chunk past c) (Some c) cs)) (sym (same_pixels past before c cs))
       (placed_regular (then_chunk past c) (Some c) cs h.1),
 )
 
@@ -123,7 +124,7 @@ repeated past n i one at = rw one (seen_same past (previous past) i at)
 
 -- two neighbours aren't given by one index position
 apart_first : (Choice : Past → RgbaPixel → Chunk → Type 0) (past : Past) (before : Option Chunk) (c d : Chunk) (cs : List Chunk) (i : ℕ)
-    → IsRightAfter Choice (then_chunk past c) d → Named past before (d ∷ cs) i c → Named (then_chunk past c) (Some c) cs i d → ⊥
+    → IsAllowedAfter Choice (then_chunk past c) d → Named past before (d ∷ cs) i c → Named (then_chunk past c) (Some c) cs i d → ⊥
 apart_first Choice past before (Place j) (Place k) cs i right e f = right.is_fresh (ap (λ x. seen (seen past j ∷ past) x) (f ∙ sym e) ∙ seen_again past j)
 apart_first Choice past before (Place j) (Run n) cs i right e f = same_names i j _ e f.1 f.0.other
 apart_first Choice past before (Run n) (Place k) cs i right e f =
@@ -144,7 +145,7 @@ apart_first Choice past before (Rgba x y z w) d cs i right e f = e
 
 -- so it is throughout the list
 pub placed_apart : (Choice : Past → RgbaPixel → Chunk → Type 0) (past : Past) (before : Option Chunk) (cs front rest : List Chunk) (i : ℕ)
-    → Each (IsRightAfter Choice) past cs → placed_after past before cs ≡ front ++ Place i ∷ Place i ∷ rest → ⊥
+    → Each (IsAllowedAfter Choice) past cs → placed_after past before cs ≡ front ++ Place i ∷ Place i ∷ rest → ⊥
 placed_apart Choice past before [] [] rest i right e = absurd (let x = e in cc)
 placed_apart Choice past before [] (x ∷ front) rest i right e = absurd (let x = e in cc)
 placed_apart Choice past before (c ∷ cs) (x ∷ front) rest i right e =

@@ -64,7 +64,7 @@ pub style_apart : (style : Style) (image : List RgbaPixel) (cs front rest : List
     → cs ≡ front ++ Place i ∷ Place i ∷ rest → ⊥
 style_apart style image cs front rest i w e = by_style (λ x. x ≡ front ++ Place i ∷ Place i ∷ rest → ⊥) style image cs w
     (apart_by (choice_in style) image w.list front rest i w.written)
-    (placed_apart (choice_in style) [] None w.list front rest i w.written.right)
+    (placed_apart (choice_in style) [] None w.list front rest i w.written.allowed)
     e
 
 -- it is regular, but in style Tight

@@ -1,6 +1,6 @@
 -- A writer that writes the next part of what is left.
 use Rattle.std.proofs.Common.{◌≡◌, ℕ, ◌≤◌, List, [], ◌++◌, length, refl, sym, ap, ◌∙◌, subst, append_assoc, append-nil, length-append, arith}
-use Rattle.qoi.specs.writers.Writes.{WriterLaws, WroteBut, WroteSome}
+use Rattle.qoi.specs.writers.Writes.{WriterLaws, WroteBut, WroteBeginning}
 
 module _ {W : Type 0} (wrote : W → List ℕ → W → Type 0) (room : W → ℕ) (laws : WriterLaws wrote room) where
   -- nothing was written yet
@@ -18,7 +18,7 @@ module _ {W : Type 0} (wrote : W → List ℕ → W → Type 0) (room : W → �
 
   -- a beginning of the next part was written
   pub wrote_part : (start now next : W) (all rest piece more : List ℕ) → WroteBut wrote start all rest now → rest ≡ piece ++ more
-      → WroteSome wrote now piece next → WroteSome wrote start all next
+      → WroteBeginning wrote now piece next → WroteBeginning wrote start all next
   wrote_part start now next all rest piece more w e some =
       let part = some.1 in (
         some.0 ++ more,

@@ -6,7 +6,7 @@ use Rattle.qoi.specs.declared.chunk.Chunk.{Chunk}
 use Rattle.qoi.specs.declared.chunk.Chunk.TheVariants.{Place, Diff, Luma, Run, Rgb, Rgba}
 use Rattle.qoi.specs.Qoi.{RgbaPixel, Past, previous, IsChunk, AreChunks, pixel_of, then_chunks, Each}
 use Rattle.qoi.specs.Runs.{last_by, runs_by}
-use Rattle.qoi.specs.Written.{IsRightAfter, IsFull, RunsAreFull, WrittenBy}
+use Rattle.qoi.specs.Written.{IsAllowedAfter, IsFullBefore, RunsFollowFull, WrittenBy}
 use Rattle.qoi.specs.Styles.{is_run}
 use Rattle.qoi.proofs.format.ChunkSteps.{previous_repeats, repeats_after, right_from, full_other, full_before, then_other, then_chunks-append, each_append}
 pub use Rattle.qoi.specs.inner.CoderLoop.{RunMayFollow}
@@ -32,11 +32,11 @@ all_reverse P [] h = tt
 all_reverse P (x ∷ xs) h = rw (reverse-append (x ∷ []) xs) (all_append P (reverse xs) (x ∷ []) (all_reverse P xs h.1) (h.0, tt))
 
 -- the list without a run at its end
-full_front : (cs ds : List Chunk) → RunsAreFull (cs ++ ds) → RunsAreFull cs
+full_front : (cs ds : List Chunk) → RunsFollowFull (cs ++ ds) → RunsFollowFull cs
 full_front [] ds h = tt
 full_front (c ∷ []) ds h = (alone c, tt)
   where
-    alone : (c : Chunk) → IsFull c []
+    alone : (c : Chunk) → IsFullBefore c []
     alone (Run n) = tt
     alone (Place i) = tt
     alone (Diff i) = tt
@@ -45,31 +45,31 @@ full_front (c ∷ []) ds h = (alone c, tt)
     alone (Rgba x y b a) = tt
 full_front (c ∷ d ∷ cs) ds h = (same c d h.0, full_front (d ∷ cs) ds h.1)
   where
-    same : (c d : Chunk) → IsFull c (d ∷ (cs ++ ds)) → IsFull c (d ∷ cs)
+    same : (c d : Chunk) → IsFullBefore c (d ∷ (cs ++ ds)) → IsFullBefore c (d ∷ cs)
     same (Run m) (Run n) h = h
     same c d h = tt
 
 -- the list with a chunk other than a run at its end, and then any run
-full_push : (cs : List Chunk) (c : Chunk) (n : ℕ) → is_run c ≡ false → RunsAreFull cs → RunsAreFull (cs ++ c ∷ Run n ∷ [])
+full_push : (cs : List Chunk) (c : Chunk) (n : ℕ) → is_run c ≡ false → RunsFollowFull cs → RunsFollowFull (cs ++ c ∷ Run n ∷ [])
 full_push [] c n o h = (full_other c _ o, (tt, tt))
 full_push (d ∷ []) c n o h = (full_before d c _ o, (full_other c _ o, (tt, tt)))
 full_push (d ∷ e ∷ cs) c n o h = (same d e h.0, full_push (e ∷ cs) c n o h.1)
   where
-    same : (d e : Chunk) → IsFull d (e ∷ cs) → IsFull d (e ∷ (cs ++ c ∷ Run n ∷ []))
+    same : (d e : Chunk) → IsFullBefore d (e ∷ cs) → IsFullBefore d (e ∷ (cs ++ c ∷ Run n ∷ []))
     same (Run m) (Run n) h = h
     same d e h = tt
 
 -- the list with a full run at its end, and then any run
-full_62 : (cs : List Chunk) (n : ℕ) → RunsAreFull (cs ++ Run 62 ∷ []) → RunsAreFull (cs ++ Run 62 ∷ Run n ∷ [])
+full_62 : (cs : List Chunk) (n : ℕ) → RunsFollowFull (cs ++ Run 62 ∷ []) → RunsFollowFull (cs ++ Run 62 ∷ Run n ∷ [])
 full_62 [] n h = (refl, (tt, tt))
 full_62 (d ∷ []) n h = (same d h.0, (refl, (tt, tt)))
   where
-    same : (d : Chunk) → IsFull d (Run 62 ∷ []) → IsFull d (Run 62 ∷ Run n ∷ [])
+    same : (d : Chunk) → IsFullBefore d (Run 62 ∷ []) → IsFullBefore d (Run 62 ∷ Run n ∷ [])
     same (Run m) h = h
     same d h = tt
 full_62 (d ∷ e ∷ cs) n h = (same d e h.0, full_62 (e ∷ cs) n h.1)
   where
-    same : (d e : Chunk) → IsFull d (e ∷ (cs ++ Run 62 ∷ [])) → IsFull d (e ∷ (cs ++ Run 62 ∷ Run n ∷ []))
+    same : (d e : Chunk) → IsFullBefore d (e ∷ (cs ++ Run 62 ∷ [])) → IsFullBefore d (e ∷ (cs ++ Run 62 ∷ Run n ∷ []))
     same (Run m) (Run n) h = h
     same d e h = tt
 
@@ -80,7 +80,7 @@ chunks_split a b d c = append_assoc (a ++ b) (c ∷ []) d ∙ append_assoc a b (
 module _ (Choice : Past → RgbaPixel → Chunk → Type 0) where
   -- nothing is written for no pixel
   pub written_none : WrittenBy Choice [] []
-  written_none = record { chunks = tt; means = refl; right = tt; full = tt }
+  written_none = record { chunks = tt; means = refl; allowed = tt; full = tt }
 
   -- the pixels after a list that is written for them
   then_written : (past : Past) (cs : List Chunk) → WrittenBy Choice (reverse past) cs → then_chunks [] cs ≡ past
@@ -88,13 +88,13 @@ module _ (Choice : Past → RgbaPixel → Chunk → Type 0) where
 
   -- more chunks are written at its end
   written_append : (past after : Past) (cs ds : List Chunk) → WrittenBy Choice (reverse past) cs → AreChunks ds → then_chunks past ds ≡ after
-      → Each (IsRightAfter Choice) past ds → RunsAreFull (cs ++ ds) → WrittenBy Choice (reverse after) (cs ++ ds)
+      → Each (IsAllowedAfter Choice) past ds → RunsFollowFull (cs ++ ds) → WrittenBy Choice (reverse after) (cs ++ ds)
   written_append past after cs ds w are means right full =
       let before : then_chunks [] cs ≡ past = then_written past cs w in
       record {
         chunks = all_append IsChunk cs ds w.chunks are;
         means = ap reverse (then_chunks-append [] cs ds ∙ ap (λ x. then_chunks x ds) before ∙ means);
-        right = each_append (IsRightAfter Choice) [] cs ds w.right (subst (λ x. Each (IsRightAfter Choice) x ds) (sym before) right);
+        allowed = each_append (IsAllowedAfter Choice) [] cs ds w.allowed (subst (λ x. Each (IsAllowedAfter Choice) x ds) (sym before) right);
         full = full;
       }
 

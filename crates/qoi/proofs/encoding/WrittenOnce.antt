@@ -4,7 +4,7 @@ use Rattle.std.proofs.lemmas.List.{append_cancel_left, length-replicate, length-
 use Rattle.qoi.specs.declared.chunk.Chunk.{Chunk}
 use Rattle.qoi.specs.declared.chunk.Chunk.TheVariants.{Place, Diff, Luma, Run, Rgb, Rgba}
 use Rattle.qoi.specs.Qoi.{RgbaPixel, Past, previous, hash, IsChunk, AreChunks, pixel_of, times, then_chunk, after_diff, after_luma, Each}
-use Rattle.qoi.specs.Written.{noted, rank, IsFirst, IsChoice, GivesFresh, IsRightAfter, IsFull, RunsAreFull, WrittenBy}
+use Rattle.qoi.specs.Written.{noted, rank, IsFirst, IsChoice, GivesFresh, IsAllowedAfter, IsFullBefore, RunsFollowFull, WrittenBy}
 use Rattle.qoi.proofs.format.SamePixels.{cases_pixel}
 use Rattle.qoi.specs.Styles.{is_run}
 use Rattle.qoi.proofs.format.ChunkSteps.{cases_run, times_other, right_other, times_some, given, meaning_given}
@@ -79,7 +79,7 @@ same_rest a b x y e = cc
 module _ (Choice : Past → RgbaPixel → Chunk → Type 0) where
   -- what follows a run that isn't full is no repeat
   follows_run : (past : Past) (m : ℕ) (cs : List Chunk) (more : List RgbaPixel) → 0 < m → m < 62 → AreChunks cs
-      → Each (IsRightAfter Choice) (then_chunk past (Run m)) cs → IsFull (Run m) cs → given (then_chunk past (Run m)) cs ≡ previous past ∷ more → ⊥
+      → Each (IsAllowedAfter Choice) (then_chunk past (Run m)) cs → IsFullBefore (Run m) cs → given (then_chunk past (Run m)) cs ≡ previous past ∷ more → ⊥
   follows_run past zero cs more h l a r f e = absurd (omega arith)
   follows_run past (suc m) [] more h l a r f e = absurd (cc)
   follows_run past (suc m) (Run n ∷ cs) more h l a r f e = absurd (omega arith)
@@ -91,8 +91,8 @@ module _ (Choice : Past → RgbaPixel → Chunk → Type 0) where
 
   -- so of two lists that give the same neither begins with the longer run
   no_longer : (past : Past) (m k : ℕ) (cs : List Chunk) (more : List RgbaPixel) → 0 < m → m + suc k ≤ 62 → AreChunks cs
-      → Each (IsRightAfter Choice) (then_chunk past (Run m)) cs → IsFull (Run m) cs → given past (Run m ∷ cs) ≡ replicate (m + suc k) (previous past) ++ more
-      → ⊥
+      → Each (IsAllowedAfter Choice) (then_chunk past (Run m)) cs → IsFullBefore (Run m) cs
+      → given past (Run m ∷ cs) ≡ replicate (m + suc k) (previous past) ++ more → ⊥
   no_longer past m k cs more h l a r f e =
       let s : replicate m (previous past) ++ given (then_chunk past (Run m)) cs ≡ replicate m (previous past) ++ (replicate (suc k) (previous past) ++ more)
       = e ∙ ap (λ x. x ++ more) (sym (replicate-append-replicate m (suc k) (previous past)))
@@ -100,8 +100,8 @@ module _ (Choice : Past → RgbaPixel → Chunk → Type 0) where
       follows_run past m cs (replicate k (previous past) ++ more) h (omega arith) a r f (append_cancel_left _ _ _ s)
 
   -- of two lists that give the same neither begins with a run longer by any length
-  not_longer : (past : Past) (m n : ℕ) (cs ds : List Chunk) → 0 < m → n ≤ 62 → AreChunks cs → Each (IsRightAfter Choice) (then_chunk past (Run m)) cs
-      → IsFull (Run m) cs → given past (Run m ∷ cs) ≡ given past (Run n ∷ ds) → m < n → ⊥
+  not_longer : (past : Past) (m n : ℕ) (cs ds : List Chunk) → 0 < m → n ≤ 62 → AreChunks cs → Each (IsAllowedAfter Choice) (then_chunk past (Run m)) cs
+      → IsFullBefore (Run m) cs → given past (Run m ∷ cs) ≡ given past (Run n ∷ ds) → m < n → ⊥
   not_longer past m n cs ds h l a r f e less =
       let k : n ≡ m + suc (n - suc m) = omega arith in
       no_longer past m (n - suc m) cs (given (then_chunk past (Run n)) ds) h (omega arith) a r f
@@ -110,7 +110,7 @@ module _ (Choice : Past → RgbaPixel → Chunk → Type 0) where
   -- two lists that give the same begin alike
   same_head : (unique : (past : Past) (p : RgbaPixel) (c d : Chunk) → IsChunk c → IsChunk d → Choice past p c → Choice past p d → c ≡ d)
       → (past : Past) (c : Chunk) (cs : List Chunk) (d : Chunk) (ds : List Chunk) → AreChunks (c ∷ cs) → AreChunks (d ∷ ds)
-      → Each (IsRightAfter Choice) past (c ∷ cs) → Each (IsRightAfter Choice) past (d ∷ ds) → RunsAreFull (c ∷ cs) → RunsAreFull (d ∷ ds)
+      → Each (IsAllowedAfter Choice) past (c ∷ cs) → Each (IsAllowedAfter Choice) past (d ∷ ds) → RunsFollowFull (c ∷ cs) → RunsFollowFull (d ∷ ds)
       → given past (c ∷ cs) ≡ given past (d ∷ ds) → c ≡ d
   same_head unique past c cs d ds ac ad rc rd fc fd e = go c d (cases_run c) (cases_run d) ac ad rc rd fc fd e
     where
@@ -119,8 +119,8 @@ module _ (Choice : Past → RgbaPixel → Chunk → Type 0) where
       run_first zero x xs ys i h g e = absurd (omega arith)
       run_first (suc n) x xs ys i h g e = g.is_fresh (sym (same_first _ _ _ _ (e ∙ given_other past x xs h)))
 
-      runs : (m n : ℕ) → AreChunks (Run m ∷ cs) → AreChunks (Run n ∷ ds) → Each (IsRightAfter Choice) past (Run m ∷ cs)
-          → Each (IsRightAfter Choice) past (Run n ∷ ds) → RunsAreFull (Run m ∷ cs) → RunsAreFull (Run n ∷ ds)
+      runs : (m n : ℕ) → AreChunks (Run m ∷ cs) → AreChunks (Run n ∷ ds) → Each (IsAllowedAfter Choice) past (Run m ∷ cs)
+          → Each (IsAllowedAfter Choice) past (Run n ∷ ds) → RunsFollowFull (Run m ∷ cs) → RunsFollowFull (Run n ∷ ds)
           → given past (Run m ∷ cs) ≡ given past (Run n ∷ ds) → m ≡ n
       runs m n ac ad rc rd fc fd e =
           let up = not_longer past m n cs ds ac.0.0 ad.0.1 ac.1 rc.1 fc.0 e in
@@ -128,8 +128,8 @@ module _ (Choice : Past → RgbaPixel → Chunk → Type 0) where
           grind (arith, up, down)
 
       go : (c d : Chunk) → ((n : ℕ) × (c ≡ Run n)) ⊎ (is_run c ≡ false) → ((n : ℕ) × (d ≡ Run n)) ⊎ (is_run d ≡ false) → AreChunks (c ∷ cs)
-          → AreChunks (d ∷ ds) → Each (IsRightAfter Choice) past (c ∷ cs) → Each (IsRightAfter Choice) past (d ∷ ds) → RunsAreFull (c ∷ cs)
-          → RunsAreFull (d ∷ ds) → given past (c ∷ cs) ≡ given past (d ∷ ds) → c ≡ d
+          → AreChunks (d ∷ ds) → Each (IsAllowedAfter Choice) past (c ∷ cs) → Each (IsAllowedAfter Choice) past (d ∷ ds) → RunsFollowFull (c ∷ cs)
+          → RunsFollowFull (d ∷ ds) → given past (c ∷ cs) ≡ given past (d ∷ ds) → c ≡ d
       go c d (inl (m, is)) (inl (n, too)) ac ad rc rd fc fd e =
           is ∙ ap (λ (x : ℕ). Run x) (runs m n (rw is at ac) (rw too at ad) (rw is at rc) (rw too at rd) (rw is at fc) (rw too at fd) (rw (is, too) at e))
           ∙ sym too
@@ -143,8 +143,8 @@ module _ (Choice : Past → RgbaPixel → Chunk → Type 0) where
 
   -- two lists that give the same are the same
   same_given : (unique : (past : Past) (p : RgbaPixel) (c d : Chunk) → IsChunk c → IsChunk d → Choice past p c → Choice past p d → c ≡ d)
-      → (past : Past) (cs ds : List Chunk) → AreChunks cs → AreChunks ds → Each (IsRightAfter Choice) past cs → Each (IsRightAfter Choice) past ds
-      → RunsAreFull cs → RunsAreFull ds → given past cs ≡ given past ds → cs ≡ ds
+      → (past : Past) (cs ds : List Chunk) → AreChunks cs → AreChunks ds → Each (IsAllowedAfter Choice) past cs → Each (IsAllowedAfter Choice) past ds
+      → RunsFollowFull cs → RunsFollowFull ds → given past cs ≡ given past ds → cs ≡ ds
   same_given unique past [] [] ac ad rc rd fc fd e = refl
   same_given unique past [] (d ∷ ds) ac ad rc rd fc fd e = absurd (given_some past d ds ad.0 (sym e))
   same_given unique past (c ∷ cs) [] ac ad rc rd fc fd e = absurd (given_some past c cs ac.0 e)
@@ -152,7 +152,7 @@ module _ (Choice : Past → RgbaPixel → Chunk → Type 0) where
       let h : c ≡ d = same_head unique past c cs d ds ac ad rc rd fc fd e in
       let g : given (then_chunk past c) cs ≡ given (then_chunk past c) ds =
       append_cancel_left (replicate (times c) (pixel_of past c)) _ _ (e ∙ ap (λ (x : Chunk). given past (x ∷ ds)) (sym h)) in
-      let r : Each (IsRightAfter Choice) (then_chunk past c) ds = rw (← h) at rd.1 in
+      let r : Each (IsAllowedAfter Choice) (then_chunk past c) ds = rw (← h) at rd.1 in
       let s : cs ≡ ds = same_given unique (then_chunk past c) cs ds ac.1 ad.1 rc.1 r fc.1 fd.1 g in
       cc
 
@@ -160,7 +160,7 @@ module _ (Choice : Past → RgbaPixel → Chunk → Type 0) where
   pub unique_by : (unique : (past : Past) (p : RgbaPixel) (c d : Chunk) → IsChunk c → IsChunk d → Choice past p c → Choice past p d → c ≡ d)
       → (image : List RgbaPixel) (cs ds : List Chunk) → WrittenBy Choice image cs → WrittenBy Choice image ds → cs ≡ ds
   unique_by unique image cs ds w v =
-      same_given unique [] cs ds w.chunks v.chunks w.right v.right w.full v.full
+      same_given unique [] cs ds w.chunks v.chunks w.allowed v.allowed w.full v.full
       (sym (meaning_given cs) ∙ w.means ∙ sym v.means ∙ meaning_given ds)
 
 -- the choice of a fresh pixel's chunk is of one chunk

@@ -6,7 +6,7 @@ use Rattle.qoi.specs.declared.chunk.Chunk.{Chunk}
 use Rattle.qoi.specs.declared.chunk.Chunk.TheVariants.{Place, Diff, Luma, Run, Rgb, Rgba}
 use Rattle.qoi.specs.Qoi.{RgbaPixel, Past, previous, start, seen, hash, IsChunk, AreChunks, bytes_of, chunk_bytes, pixel_of, times, then_chunk, then_chunks, meaning, Each, Reaches}
 use Rattle.qoi.specs.Raw.{AreOpaque, HasChannels}
-use Rattle.qoi.specs.Written.{noted, IsFirst, IsChoice, IsRightAfter, WrittenBy}
+use Rattle.qoi.specs.Written.{noted, IsFirst, IsChoice, IsAllowedAfter, WrittenBy}
 use Rattle.qoi.proofs.format.SamePixels.{cases_pixel, same_pixel}
 use Rattle.qoi.proofs.format.ChunkSteps.{times_some, then_chunks_given, length-then_chunks, given, meaning_given, each_back}
 use Rattle.qoi.proofs.encoding.WrittenGrows.{all_back, all_reverse}
@@ -19,8 +19,8 @@ seen_again past i = cond_both (eqb (hash (seen past i)) i) (seen past i) (seen p
 pub apart_by : (Choice : Past → RgbaPixel → Chunk → Type 0) (image : List RgbaPixel) (cs front rest : List Chunk) (i : ℕ) → WrittenBy Choice image cs
     → cs ≡ front ++ Place i ∷ Place i ∷ rest → ⊥
 apart_by Choice image cs front rest i w e =
-    let r : Each (IsRightAfter Choice) [] (front ++ Place i ∷ Place i ∷ rest) = rw e at w.right in
-    let s = each_back (IsRightAfter Choice) [] front (Place i ∷ Place i ∷ rest) r in
+    let r : Each (IsAllowedAfter Choice) [] (front ++ Place i ∷ Place i ∷ rest) = rw e at w.allowed in
+    let s = each_back (IsAllowedAfter Choice) [] front (Place i ∷ Place i ∷ rest) r in
     s.1.0.is_fresh (seen_again (then_chunks [] front) i)
 
 -- there are at least as many pixels after chunks
@@ -68,7 +68,7 @@ channels_before channels past cs (inr (e, h)) = inr (e, opaque_before past cs h)
 module _ (Choice : Past → RgbaPixel → Chunk → Type 0) (rgba_first : (past : Past) (r g b a : ℕ) → Choice past (pixel_of past (Rgba r g b a)) (Rgba r g b a)
     → IsFirst past (pixel_of past (Rgba r g b a)) (Rgba r g b a)) where
   -- a chunk has at most a byte more than its pixels' raw bytes, for each of them
-  pub chunk_fits : (channels : ℕ) (past : Past) (c : Chunk) → IsChunk c → HasChannels (then_chunk past c) channels → IsRightAfter Choice past c
+  pub chunk_fits : (channels : ℕ) (past : Past) (c : Chunk) → IsChunk c → HasChannels (then_chunk past c) channels → IsAllowedAfter Choice past c
       → length (bytes_of c) ≤ times c * channels + times c
   chunk_fits channels past (Place i) k h r = omega arith
   chunk_fits channels past (Diff d) k h r = omega arith
@@ -82,7 +82,7 @@ module _ (Choice : Past → RgbaPixel → Chunk → Type 0) (rgba_first : (past 
       absurd (no_rgba past x y z w k (s.1.0 ∙ sym (opaque_previous past s.1.1)) (rgba_first past x y z w r.is_chosen))
 
   -- so have chunks
-  chunks_fit : (channels : ℕ) (past : Past) (cs : List Chunk) → AreChunks cs → HasChannels (then_chunks past cs) channels → Each (IsRightAfter Choice) past cs
+  chunks_fit : (channels : ℕ) (past : Past) (cs : List Chunk) → AreChunks cs → HasChannels (then_chunks past cs) channels → Each (IsAllowedAfter Choice) past cs
       → length (chunk_bytes cs) ≤ length (given past cs) * channels + length (given past cs)
   chunks_fit channels past [] k h r = omega arith
   chunks_fit channels past (c ∷ cs) k h r =
@@ -98,7 +98,7 @@ module _ (Choice : Past → RgbaPixel → Chunk → Type 0) (rgba_first : (past 
       → length (chunk_bytes cs) ≤ n * channels + n
   fits_by image channels n cs h e w =
       let g : length (given [] cs) ≡ n = ap length (sym (meaning_given cs) ∙ w.means) ∙ e in
-      let k = chunks_fit channels [] cs w.chunks (back h) w.right in
+      let k = chunks_fit channels [] cs w.chunks (back h) w.allowed in
       rw g at k
     where
       past_is : reverse image ≡ then_chunks [] cs

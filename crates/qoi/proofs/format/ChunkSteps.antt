@@ -5,7 +5,7 @@ use Rattle.std.proofs.lemmas.Bool.{true≢false}
 use Rattle.qoi.specs.declared.chunk.Chunk.{Chunk}
 use Rattle.qoi.specs.declared.chunk.Chunk.TheVariants.{Place, Diff, Luma, Run, Rgb, Rgba}
 use Rattle.qoi.specs.Qoi.{RgbaPixel, Past, previous, IsChunk, pixel_of, times, then_chunk, then_chunks, meaning, Each}
-use Rattle.qoi.specs.Written.{GivesFresh, IsRightAfter, IsFull}
+use Rattle.qoi.specs.Written.{GivesFresh, IsAllowedAfter, IsFullBefore}
 use Rattle.qoi.specs.Styles.{is_run}
 
 -- a chunk is a run or not
@@ -27,7 +27,7 @@ times_other (Rgb r g b) h = refl
 times_other (Rgba r g b a) h = refl
 
 -- a chunk other than a run gives a fresh pixel
-pub right_other : (Choice : Past → RgbaPixel → Chunk → Type 0) (past : Past) (c : Chunk) → is_run c ≡ false → IsRightAfter Choice past c
+pub right_other : (Choice : Past → RgbaPixel → Chunk → Type 0) (past : Past) (c : Chunk) → is_run c ≡ false → IsAllowedAfter Choice past c
     → GivesFresh Choice past c
 right_other Choice past (Run n) h r = absurd (true≢false h)
 right_other Choice past (Place i) h r = r
@@ -37,7 +37,7 @@ right_other Choice past (Rgb x g b) h r = r
 right_other Choice past (Rgba x g b a) h r = r
 
 -- and it is right where it does
-pub right_from : (Choice : Past → RgbaPixel → Chunk → Type 0) (past : Past) (c : Chunk) → GivesFresh Choice past c → IsRightAfter Choice past c
+pub right_from : (Choice : Past → RgbaPixel → Chunk → Type 0) (past : Past) (c : Chunk) → GivesFresh Choice past c → IsAllowedAfter Choice past c
 right_from Choice past (Run n) g = tt
 right_from Choice past (Place i) g = g
 right_from Choice past (Diff d) g = g
@@ -46,7 +46,7 @@ right_from Choice past (Rgb x y b) g = g
 right_from Choice past (Rgba x y b a) g = g
 
 -- anything may follow a chunk other than a run
-pub full_other : (c : Chunk) (cs : List Chunk) → is_run c ≡ false → IsFull c cs
+pub full_other : (c : Chunk) (cs : List Chunk) → is_run c ≡ false → IsFullBefore c cs
 full_other (Run n) cs h = absurd (true≢false h)
 full_other (Place i) cs h = tt
 full_other (Diff d) cs h = tt
@@ -55,7 +55,7 @@ full_other (Rgb x y b) cs h = tt
 full_other (Rgba x y b a) cs h = tt
 
 -- a chunk other than a run may follow any chunk
-pub full_before : (c d : Chunk) (cs : List Chunk) → is_run d ≡ false → IsFull c (d ∷ cs)
+pub full_before : (c d : Chunk) (cs : List Chunk) → is_run d ≡ false → IsFullBefore c (d ∷ cs)
 full_before (Run n) (Run m) cs h = absurd (true≢false h)
 full_before (Run n) (Place i) cs h = tt
 full_before (Run n) (Diff i) cs h = tt

@@ -15,7 +15,7 @@ use Rattle.qoi.specs.declared.types.Channels.TheVariants.{Rgb, Rgba}
 use Rattle.qoi.specs.declared.types.ColorSpace.{ColorSpace}
 use Rattle.qoi.specs.declared.types.ColorSpace.TheVariants.{Srgb, Linear}
 use Rattle.qoi.specs.declared.header.Header.{Header}
-use Rattle.qoi.specs.Qoi.{magic_number, pixels_max, channels_number, channels_of, colorspace_number, colorspace_of, AreBytes, head, pixel_count, IsValid, tried_header, number_at, checked_header, with_channels_read, header_of}
+use Rattle.qoi.specs.Qoi.{magic_number, pixels_max, channels_number, channels_of, colorspace_number, colorspace_of, AreBytes, header_bytes, pixel_count, IsValid, tried_header, number_at, checked_header, with_channels_read, header_of}
 
 -- the number of channels is read back
 channels_back : (c : Channels) → channels_of (channels_number c) ≡ Ok c
@@ -36,7 +36,7 @@ colorspace_from : (n : ℕ) (s : ColorSpace) → colorspace_of n ≡ Ok s → n 
 colorspace_from n s e = grind (arith)
 
 -- fourteen bytes
-pub length-head : (h : Header) → length (head h) ≡ 14
+pub length-head : (h : Header) → length (header_bytes h) ≡ 14
 length-head h = refl
 
 -- what bytes say whose verdict is a header
@@ -69,11 +69,11 @@ factor_below a (suc b) low high =
     omega arith
 
 -- a valid header's bytes say it
-pub says_head : (h : Header) (rest : List ℕ) → IsValid h → SaysHeader (head h ++ rest) h
+pub says_head : (h : Header) (rest : List ℕ) → IsValid h → SaysHeader (header_bytes h ++ rest) h
 says_head h rest v =
     let turned = mul_comm h.width h.height in
     record {
-      long = omega (arith, length-append (head h) rest, length-head h);
+      long = omega (arith, length-append (header_bytes h) rest, length-head h);
       channels = channels_back h.channels;
       colorspace = colorspace_back h.colorspace;
       magic = refl;
@@ -83,8 +83,8 @@ says_head h rest v =
     }
 
 -- a valid header's bytes are read as it, whatever follows them
-pub header_of-head : (h : Header) (rest : List ℕ) → IsValid h → header_of (head h ++ rest) ≡ Ok h
-header_of-head h rest v = header_from_says (head h ++ rest) h (says_head h rest v)
+pub header_of-head : (h : Header) (rest : List ℕ) → IsValid h → header_of (header_bytes h ++ rest) ≡ Ok h
+header_of-head h rest v = header_from_says (header_bytes h ++ rest) h (says_head h rest v)
 
 -- a test that guards against a refusal has passed
 guard_true : {A E : Type 0} (b : Bool) (r : Result A E) (refusal : E) (x : A) → cond b r (Err refusal) ≡ Ok x → (b ≡ true) × (r ≡ Ok x)
@@ -153,7 +153,7 @@ four_bytes a b c d ha hb hc hd (suc (suc (suc zero))) = hd
 four_bytes a b c d ha hb hc hd (suc (suc (suc (suc i)))) = omega arith
 
 -- bytes that say a header are its own, and then the rest
-pub head_from_says : (bytes : List ℕ) (h : Header) → AreBytes bytes → SaysHeader bytes h → bytes ≡ head h ++ drop 14 bytes
+pub head_from_says : (bytes : List ℕ) (h : Header) → AreBytes bytes → SaysHeader bytes h → bytes ≡ header_bytes h ++ drop 14 bytes
 head_from_says (m0 ∷ m1 ∷ m2 ∷ m3 ∷ w0 ∷ w1 ∷ w2 ∷ w3 ∷ h0 ∷ h1 ∷ h2 ∷ h3 ∷ c ∷ s ∷ rest) h fits says =
     let m : to_be_bytes w32 magic_number ≡ m0 ∷ m1 ∷ m2 ∷ m3 ∷ [] =
     be_bytes_4 (m0 ∷ m1 ∷ m2 ∷ m3 ∷ []) magic_number refl (four_bytes m0 m1 m2 m3 (fits 0) (fits 1) (fits 2) (fits 3)) (sym says.magic) in
@@ -167,13 +167,13 @@ head_from_says (m0 ∷ m1 ∷ m2 ∷ m3 ∷ w0 ∷ w1 ∷ w2 ∷ w3 ∷ h0 ∷ h
 head_from_says bytes h fits says = let long = says.long in absurd (omega arith)
 
 -- bytes that are read as a header are its own, and then the rest; and the header is valid
-pub head_from_header_of : (bytes : List ℕ) (h : Header) → AreBytes bytes → header_of bytes ≡ Ok h → (bytes ≡ head h ++ drop 14 bytes) × IsValid h
+pub head_from_header_of : (bytes : List ℕ) (h : Header) → AreBytes bytes → header_of bytes ≡ Ok h → (bytes ≡ header_bytes h ++ drop 14 bytes) × IsValid h
 head_from_header_of bytes h fits e =
     let says = says_from bytes h e in
     (head_from_says bytes h fits says, says.valid)
 
 -- the first fourteen of bytes that are read as a header are its own
-pub own_header : (bytes : List ℕ) (r : Result Header Error) → AreBytes bytes → r ≡ header_of bytes → IfOk r (λ h. (take 14 bytes ≡ head h) × IsValid h)
+pub own_header : (bytes : List ℕ) (r : Result Header Error) → AreBytes bytes → r ≡ header_of bytes → IfOk r (λ h. (take 14 bytes ≡ header_bytes h) × IsValid h)
 own_header bytes (Ok h) fits e =
     let own = head_from_header_of bytes h fits (sym e) in
     (ap (take 14) own.0, own.1)
@@ -181,7 +181,7 @@ own_header bytes (Err x) fits e = tt
 
 -- what was read of a stream where fourteen bytes came
 pub stream_header : (old new : Option (List ℕ)) (bytes : List ℕ) (r : Result Header Error) → length bytes ≡ 14 → Consumes old new bytes → r ≡ header_of bytes
-    → IfOk r (λ h. (take 14 bytes ≡ head h) × IsValid h) → ReadsHeader false old new r
+    → IfOk r (λ h. (take 14 bytes ≡ header_bytes h) × IsValid h) → ReadsHeader false old new r
 stream_header old new bytes (Ok h) size came e own = (bytes, came, size, sym e, sym (take_whole 14 bytes size) ∙ own.0, own.1)
 stream_header old new bytes (Err UnexpectedBufferEnd) size came e own = (bytes, came, (size, sym e))
 stream_header old new bytes (Err InvalidPadding) size came e own = (bytes, came, (size, sym e))

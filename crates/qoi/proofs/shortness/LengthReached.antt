@@ -11,7 +11,7 @@ unfolding start blank hash pixel_eq
 one_rgb = record {
   chunks = ((omega arith, omega arith, omega arith), tt);
   means = refl;
-  right = (
+  allowed = (
     record {
       is_fresh = red_differs _ _ (λ e. absurd (omega arith));
       is_chosen = chosen_rgb [] (pixel 11 121 231 255) (record { r = omega arith; g = omega arith; b = omega arith; a = omega arith })
@@ -28,7 +28,7 @@ unfolding start blank hash pixel_eq
 one_rgba = record {
   chunks = ((omega arith, omega arith, omega arith, omega arith), tt);
   means = refl;
-  right = (
+  allowed = (
     record {
       is_fresh = red_differs _ _ (λ e. absurd (omega arith));
       is_chosen = chosen_rgba [] (pixel 11 121 231 55) (red_differs _ _ (λ e. absurd (omega arith))) (λ e. absurd (omega arith));

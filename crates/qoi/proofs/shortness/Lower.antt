@@ -5,7 +5,7 @@ use Rattle.std.proofs.lemmas.List.{length-append, reverse-append, reverse-revers
 use Rattle.qoi.specs.declared.chunk.Chunk.{Chunk}
 use Rattle.qoi.specs.declared.chunk.Chunk.TheVariants.{Place, Diff, Luma, Run, Rgb, Rgba}
 use Rattle.qoi.specs.Qoi.{RgbaPixel, Past, previous, seen, IsChunk, AreChunks, pixel_of, bytes_of, chunk_bytes, then_chunk, then_chunks, meaning, Each}
-use Rattle.qoi.specs.Regular.{NamesWritten, Regular, Begins}
+use Rattle.qoi.specs.Regular.{NamesPixelThere, Regular, Begins}
 use Rattle.qoi.specs.Shortest.{least, trailing_repeats, cost, total_cost, floor}
 use Rattle.qoi.proofs.format.SamePixels.{cases_pixel}
 use Rattle.qoi.specs.Styles.{is_run}
@@ -13,7 +13,7 @@ use Rattle.qoi.proofs.format.ChunkSteps.{cases_run, then_other}
 use Rattle.qoi.proofs.shortness.Costs.{some_diff-from, some_luma-from, some_rgb-from, least_seen, least_diff, least_luma, least_rgb, least_high, cost_fresh, cost_repeat, cost_run}
 
 -- a chunk other than a run is no shorter than the least of its pixel
-pub least_bounds : (past : Past) (c : Chunk) → IsChunk c → NamesWritten past c → is_run c ≡ false → least past (pixel_of past c) ≤ length (bytes_of c)
+pub least_bounds : (past : Past) (c : Chunk) → IsChunk c → NamesPixelThere past c → is_run c ≡ false → least past (pixel_of past c) ≤ length (bytes_of c)
 least_bounds past (Place i) k r o = least_seen past (seen past i) (ap (seen past) r)
 least_bounds past (Diff d) k r o = least_diff past _ (some_diff-from (previous past) _ d k refl)
 least_bounds past (Luma d e) k r o = least_luma past _ (some_luma-from (previous past) _ d e k refl)
@@ -79,4 +79,4 @@ module _ (shortest : Past → RgbaPixel → ℕ) (Allowed : Past → Chunk → T
 
 -- no regular chunk list that begins with an image has fewer bytes than the image's floor
 pub lower : (image : List RgbaPixel) (cs : List Chunk) → AreChunks cs → Regular cs → Begins (meaning cs) image → floor image ≤ length (chunk_bytes cs)
-lower image cs k r b = lower_by least NamesWritten least_bounds image cs k r b
+lower image cs k r b = lower_by least NamesPixelThere least_bounds image cs k r b

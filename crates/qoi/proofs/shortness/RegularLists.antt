@@ -6,9 +6,9 @@ use Rattle.std.proofs.lemmas.List.{length-append, length-reverse, reverse-append
 use Rattle.qoi.specs.declared.chunk.Chunk.{Chunk}
 use Rattle.qoi.specs.declared.chunk.Chunk.TheVariants.{Place, Diff, Luma, Run, Rgb, Rgba}
 use Rattle.qoi.specs.Qoi.{RgbaPixel, Past, blank, seen, hash, then_chunk, then_chunks, meaning, Each, Reaches}
-use Rattle.qoi.specs.Written.{noted, IsChoice, IsRightAfter, Written}
+use Rattle.qoi.specs.Written.{noted, IsChoice, IsAllowedAfter, Written}
 use Rattle.qoi.specs.Raw.{HasChannels}
-use Rattle.qoi.specs.Regular.{NamesWritten, Regular, Begins}
+use Rattle.qoi.specs.Regular.{NamesPixelThere, Regular, Begins}
 use Rattle.qoi.proofs.format.SamePixels.{cases_pixel}
 use Rattle.qoi.proofs.encoding.NotedPixels.{seen_same, seen_other}
 use Rattle.qoi.proofs.format.ChunkSteps.{given, then_chunks_given}
@@ -22,7 +22,7 @@ place_named past i w = elim (cases_pixel (noted past (hash (seen past i))) (seen
 ]
 
 -- a chunk that is right names an index position that was written
-right_named : (past : Past) (c : Chunk) → IsRightAfter IsChoice past c → NamesWritten past c
+right_named : (past : Past) (c : Chunk) → IsAllowedAfter IsChoice past c → NamesPixelThere past c
 right_named past (Place i) r = place_named past i r.is_chosen
 right_named past (Diff d) r = tt
 right_named past (Luma d e) r = tt
@@ -37,7 +37,7 @@ each_map P Q f past (c ∷ cs) h = (f past c h.0, each_map P Q f (then_chunk pas
 
 -- the written list is regular
 pub written_regular : (image : List RgbaPixel) (cs : List Chunk) → Written image cs → Regular cs
-written_regular image cs w = each_map (IsRightAfter IsChoice) NamesWritten right_named [] cs w.right
+written_regular image cs w = each_map (IsAllowedAfter IsChoice) NamesPixelThere right_named [] cs w.allowed
 
 -- what is seen at an index position is transparent black or has that position
 seen_blank_or : (past : Past) (i : ℕ) → (seen past i ≡ blank) ⊎ (hash (seen past i) ≡ i)
@@ -60,7 +60,7 @@ suffix_all P (x ∷ xs) ys (u ∷ us) vs e l h = suffix_all P xs ys us vs (rest 
 
 -- an index position that is named before the end of an image without transparent black was written
 named_within : (past : Past) (c : Chunk) (cs : List Chunk) (us vs : List RgbaPixel) → then_chunks (then_chunk past c) cs ≡ us ++ vs → length past < length vs
-    → AllByRecursion (λ p. p ≢ blank) vs → NamesWritten past c
+    → AllByRecursion (λ p. p ≢ blank) vs → NamesPixelThere past c
 named_within past (Place i) cs us vs e l h =
     let s = suffix_all (λ p. p ≢ blank) (reverse (given (seen past i ∷ past) cs)) (seen past i ∷ past) us vs
     (sym (then_chunks_given (seen past i ∷ past) cs) ∙ e) (omega arith) h in
@@ -76,7 +76,7 @@ named_within past (Rgba x y z w) cs us vs e l h = tt
 
 -- so are all that chunks name
 all_named : (past : Past) (cs : List Chunk) (us vs : List RgbaPixel) → then_chunks past cs ≡ us ++ vs → Each (λ past c. length past < length vs) past cs
-    → AllByRecursion (λ p. p ≢ blank) vs → Each NamesWritten past cs
+    → AllByRecursion (λ p. p ≢ blank) vs → Each NamesPixelThere past cs
 all_named past [] us vs e l h = tt
 all_named past (c ∷ cs) us vs e l h = (named_within past c cs us vs e l.0 h, all_named (then_chunk past c) cs us vs e l.1 h)
 
@@ -86,7 +86,8 @@ pub no_blank_regular : (image : List RgbaPixel) (cs : List Chunk) → Reaches (l
 no_blank_regular image cs r (more, b) h =
     let e : then_chunks [] cs ≡ reverse more ++ reverse image = sym (reverse-reverse (then_chunks [] cs)) ∙ ap reverse b ∙ reverse-append image more in
     let l : length image ≡ length (reverse image) = sym (length-reverse image) in
-    all_named [] cs (reverse more) (reverse image) e (subst (λ n. Each (λ past c. length past < n) [] cs) l r.stays_below) (all_reverse (λ p. p ≢ blank) image h)
+    all_named [] cs (reverse more) (reverse image) e (subst (λ n. Each (λ past c. length past < n) [] cs) l r.stays_below)
+    (all_reverse (λ p. p ≢ blank) image h)
 
 -- what follows from P holds of each of a list where P does
 all_map : {A : Type 0} (P Q : A → Type 0) → ((x : A) → P x → Q x) → (xs : List A) → AllByRecursion P xs → AllByRecursion Q xs

@@ -28,7 +28,7 @@ unfolding start blank hash pixel_eq
 written_rgb = record {
   chunks = ((omega arith, omega arith), ((omega arith, omega arith, omega arith), ((omega arith, omega arith, omega arith), tt)));
   means = refl;
-  right = (
+  allowed = (
     tt,
     (
       record {
@@ -56,7 +56,7 @@ unfolding start blank hash pixel_eq
 written_rgba = record {
   chunks = ((omega arith, omega arith), ((omega arith, omega arith, omega arith, omega arith), ((omega arith, omega arith, omega arith, omega arith), tt)));
   means = refl;
-  right = (
+  allowed = (
     tt,
     (
       record {

@@ -7,7 +7,7 @@ use Rattle.qoi.specs.Qoi.{RgbaPixel, Past, pixel_eq, blank, previous, seen, hash
 use Rattle.qoi.specs.Raw.{HasChannels}
 use Rattle.qoi.specs.Regular.{Begins}
 use Rattle.qoi.specs.Shortest.{least, cost, total_cost, floor}
-use Rattle.qoi.specs.Written.{GivesFresh, IsRightAfter, WrittenBy}
+use Rattle.qoi.specs.Written.{GivesFresh, IsAllowedAfter, WrittenBy}
 use Rattle.qoi.specs.Styles.{is_run}
 use Rattle.qoi.specs.Tight.{is_unseen, least_unseen, IsTightChoice, least0, floor0}
 use Rattle.qoi.proofs.format.SamePixels.{cases_pixel, pixel_eq-from, pixel_eq-ne}
@@ -66,7 +66,7 @@ lower0 image cs k b = lower_by least0 (λ past c. Unit {0}) least0_bounds image 
 
 -- a fresh pixel's chunk is no longer than it costs
 tight_cost : (past : Past) (c : Chunk) → IsChunk c → HasChannels (then_chunk past c) 4 → is_run c ≡ false → GivesFresh IsTightChoice past c
-    → IsRightAfter IsTightChoice past c → length (bytes_of c) + 0 ≤ least0 past (pixel_of past c) + 0
+    → IsAllowedAfter IsTightChoice past c → length (bytes_of c) + 0 ≤ least0 past (pixel_of past c) + 0
 tight_cost past c k h o g r =
     by_tight (λ past p c. IsChunk c → length (bytes_of c) + 0 ≤ least0 past p + 0) past (pixel_of past c) c g.is_chosen
     (λ e _. let l = least0_low past (pixel_of past c) in omega arith)

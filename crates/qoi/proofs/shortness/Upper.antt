@@ -6,7 +6,7 @@ use Rattle.qoi.specs.declared.chunk.Chunk.{Chunk}
 use Rattle.qoi.specs.declared.chunk.Chunk.TheVariants.{Place, Diff, Luma, Run, Rgb, Rgba}
 use Rattle.qoi.specs.Qoi.{RgbaPixel, Past, previous, seen, hash, IsChunk, AreChunks, pixel_of, bytes_of, chunk_bytes, then_chunk, then_chunks, Each}
 use Rattle.qoi.specs.Raw.{HasChannels}
-use Rattle.qoi.specs.Written.{rank, noted, IsFirst, IsChoice, GivesFresh, IsRightAfter, IsFull, RunsAreFull, WrittenBy, Written}
+use Rattle.qoi.specs.Written.{rank, noted, IsFirst, IsChoice, GivesFresh, IsAllowedAfter, IsFullBefore, RunsFollowFull, WrittenBy, Written}
 use Rattle.qoi.specs.Shortest.{some_diff, some_luma, some_rgb, least, trailing_repeats, total_cost, floor, slack}
 use Rattle.qoi.proofs.format.SamePixels.{cases_pixel, same_pixel}
 use Rattle.qoi.specs.Styles.{is_run}
@@ -50,7 +50,7 @@ first_least past p c i f n = let s = f.spells in absurd (omega arith)
 
 -- a fresh pixel's chosen chunk is no longer than the least, but for what the slack grows by
 fresh_cost : (channels : ℕ) (past : Past) (c : Chunk) → IsChunk c → HasChannels (then_chunk past c) channels → is_run c ≡ false → GivesFresh IsChoice past c
-    → IsRightAfter IsChoice past c → length (bytes_of c) + slack_at channels past ≤ least past (pixel_of past c) + slack_at channels (pixel_of past c ∷ past)
+    → IsAllowedAfter IsChoice past c → length (bytes_of c) + slack_at channels past ≤ least past (pixel_of past c) + slack_at channels (pixel_of past c ∷ past)
 fresh_cost channels past c i h o g r = go (cases_pixel (noted past (hash (pixel_of past c))) (pixel_of past c))
     (cases_pixel (seen past (hash (pixel_of past c))) (pixel_of past c))
   where
@@ -87,7 +87,7 @@ Aligned past _ = Unit {0}
 module _ (shortest : Past → RgbaPixel → ℕ) (Choice : Past → RgbaPixel → Chunk → Type 0) (extra : Past → ℕ)
     (extra_more : (past : Past) (p : RgbaPixel) → extra past ≤ extra (p ∷ past)) (channels : ℕ)
     (fresh_fits : (past : Past) (c : Chunk) → IsChunk c → HasChannels (then_chunk past c) channels → is_run c ≡ false → GivesFresh Choice past c
-    → IsRightAfter Choice past c → length (bytes_of c) + extra past ≤ shortest past (pixel_of past c) + extra (pixel_of past c ∷ past)) where
+    → IsAllowedAfter Choice past c → length (bytes_of c) + extra past ≤ shortest past (pixel_of past c) + extra (pixel_of past c ∷ past)) where
   -- what is extra only grows in a run
   extra_run : (past : Past) (p : RgbaPixel) (k : ℕ) → extra past ≤ extra (replicate k p ++ past)
   extra_run past p zero = omega arith
@@ -105,7 +105,7 @@ module _ (shortest : Past → RgbaPixel → ℕ) (Choice : Past → RgbaPixel �
       omega arith
 
   -- any other chunk costs no more than its pixel and what is extra
-  other_fits : (past : Past) (c : Chunk) → IsChunk c → HasChannels (then_chunk past c) channels → is_run c ≡ false → IsRightAfter Choice past c
+  other_fits : (past : Past) (c : Chunk) → IsChunk c → HasChannels (then_chunk past c) channels → is_run c ≡ false → IsAllowedAfter Choice past c
       → length (bytes_of c) + total_cost shortest past + extra past ≤ total_cost shortest (then_chunk past c) + extra (then_chunk past c)
   other_fits past c i h o r =
       let g = right_other Choice past c o r in
@@ -114,7 +114,7 @@ module _ (shortest : Past → RgbaPixel → ℕ) (Choice : Past → RgbaPixel �
       rw (then_other past c o) (omega arith)
 
   -- a chunk costs no more than its pixels and what is extra
-  one_fits : (past : Past) (c : Chunk) (cs : List Chunk) → IsChunk c → HasChannels (then_chunk past c) channels → IsRightAfter Choice past c
+  one_fits : (past : Past) (c : Chunk) (cs : List Chunk) → IsChunk c → HasChannels (then_chunk past c) channels → IsAllowedAfter Choice past c
       → Aligned past (c ∷ cs) → length (bytes_of c) + total_cost shortest past + extra past ≤ total_cost shortest (then_chunk past c) + extra
       (then_chunk past c)
   one_fits past (Run n) cs i h r a = run_fits past n i.0 a
@@ -125,7 +125,8 @@ module _ (shortest : Past → RgbaPixel → ℕ) (Choice : Past → RgbaPixel �
   one_fits past (Rgba x y z w) cs i h r a = other_fits past (Rgba x y z w) i h refl r
 
   -- the next run begins at a multiple of 62 repeats
-  aligned_next : (past : Past) (c : Chunk) (cs : List Chunk) → IsRightAfter Choice past c → IsFull c cs → Aligned past (c ∷ cs) → Aligned (then_chunk past c) cs
+  aligned_next : (past : Past) (c : Chunk) (cs : List Chunk) → IsAllowedAfter Choice past c → IsFullBefore c cs → Aligned past (c ∷ cs)
+      → Aligned (then_chunk past c) cs
   aligned_next past c [] r f a = tt
   aligned_next past (Run m) (Run n ∷ cs) r f a = let e = repeats_run past m in omega arith
   aligned_next past (Place j) (Run n ∷ cs) r f a = let e = repeats_fresh past _ r.is_fresh in omega arith
@@ -140,8 +141,8 @@ module _ (shortest : Past → RgbaPixel → ℕ) (Choice : Past → RgbaPixel �
   aligned_next past c (Rgba x y z w ∷ cs) r f a = tt
 
   -- chunks cost no more than their pixels and what is extra
-  all_fit : (past : Past) (cs : List Chunk) → AreChunks cs → HasChannels (then_chunks past cs) channels → Each (IsRightAfter Choice) past cs → RunsAreFull cs
-      → Aligned past cs
+  all_fit : (past : Past) (cs : List Chunk) → AreChunks cs → HasChannels (then_chunks past cs) channels → Each (IsAllowedAfter Choice) past cs
+      → RunsFollowFull cs → Aligned past cs
       → length (chunk_bytes cs) + total_cost shortest past + extra past ≤ total_cost shortest (then_chunks past cs) + extra (then_chunks past cs)
   all_fit past [] i h r f a = omega arith
   all_fit past (c ∷ cs) i h r f a =
@@ -156,7 +157,7 @@ module _ (shortest : Past → RgbaPixel → ℕ) (Choice : Past → RgbaPixel �
   upper_by image cs h w =
       let e : then_chunks [] cs ≡ reverse image = sym (reverse-reverse (then_chunks [] cs)) ∙ ap reverse w.means in
       let k : HasChannels (then_chunks [] cs) channels = rw e (back h) in
-      let u = all_fit [] cs w.chunks k w.right w.full (at_start cs) in
+      let u = all_fit [] cs w.chunks k w.allowed w.full (at_start cs) in
       let v : length (chunk_bytes cs) + 0 + extra [] ≤ total_cost shortest (reverse image) + extra (reverse image) = rw e at u in
       omega arith
     where

@@ -8,14 +8,14 @@ use Rattle.qoi.specs.declared.encode.quad.Quad.{Quad}
 use Rattle.qoi.specs.declared.types.Style.{Style}
 use Rattle.qoi.specs.declared.types.Style.TheVariants.{Reference, Places, Tight}
 use Rattle.qoi.specs.Qoi.{RgbaPixel, IsPixel, Past, previous, chunk_bytes}
-use Rattle.qoi.specs.Written.{RunsAreFull, WrittenBy}
+use Rattle.qoi.specs.Written.{RunsFollowFull, WrittenBy}
 use Rattle.qoi.specs.Styles.{placed_after, choice_in}
 use Rattle.qoi.specs.inner.CoderState.{StateAfter, StyleAfter}
 use Rattle.qoi.specs.inner.Packed.{word}
 
 -- a run of any length may follow the list
 abbrev pub RunMayFollow : List Chunk → Type 0
-RunMayFollow cs = (n : ℕ) → RunsAreFull (cs ++ Run n ∷ [])
+RunMayFollow cs = (n : ℕ) → RunsFollowFull (cs ++ Run n ∷ [])
 
 -- an image, a style, and a list of chunks for it
 pub record ImageList : Type 0 where

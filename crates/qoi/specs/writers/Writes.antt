@@ -18,8 +18,8 @@ pub record WroteBut {W : Type 0} (wrote : W → List ℕ → W → Type 0) (a : 
   pub went : wrote a front b
 
 -- a beginning of the bytes was written
-abbrev pub WroteSome : {W : Type 0} → (W → List ℕ → W → Type 0) → W → List ℕ → W → Type 0
-WroteSome wrote a bytes b = (rest : List ℕ) × WroteBut wrote a bytes rest b
+abbrev pub WroteBeginning : {W : Type 0} → (W → List ℕ → W → Type 0) → W → List ℕ → W → Type 0
+WroteBeginning wrote a bytes b = (rest : List ℕ) × WroteBut wrote a bytes rest b
 
 -- the bytes that are known grew by a beginning of these
 abbrev pub AppendsBeginning : Option (List ℕ) → Option (List ℕ) → List ℕ → Type 0

@@ -49,14 +49,14 @@ pub trait Reader: Sized {
     /// within the eight bytes after the chunks, or `IoError` from a stream; `InvalidPadding` where
     /// those eight bytes aren't the end marker.
     fn decode_image(&mut self, out: &mut [u8], channels: u8, file_channels: u8) -> Result<()>
-        requires { AreChannels channels file_channels → length out.old % channels ≡ 0 }
-        ensures read { OnOk result (AreChannels channels file_channels
+        requires { AreChannels file_channels channels → length out.old % channels ≡ 0 }
+        ensures read { OnOk result (AreChannels file_channels channels
             × ReadsImage file_channels channels (length out.old / channels)
             (ahead self.old) (ahead self.new) out.new) }
-        ensures refused { AreChannels channels file_channels
+        ensures refused { AreChannels file_channels channels
             → IfErr result (RefusesImage in_memory (length out.old / channels)
             (ahead self.old) (ahead self.new)) }
-        ensures channels { (AreChannels channels file_channels → ⊥)
+        ensures channels { (AreChannels file_channels channels → ⊥)
             → (result ≡ Err (Error.InvalidChannels channels))
             × (self.new ≡ self.old) × (out.new ≡ out.old) };
 

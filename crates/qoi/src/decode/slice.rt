@@ -2,7 +2,8 @@
 ghost use Rattle.std.specs.Prelude.{◌≡◌, ◌↔◌, ◌≤◌, IsTrue, IsFalse, ℕ, ◌/◌, ◌%◌, ◌++◌, length, Some, MatchOption, IfOk, IfErr};
 ghost use Rattle.qoi.specs.Raw.{IsChannels};
 ghost use Rattle.qoi.specs.Qoi.{end_marker};
-ghost use Rattle.qoi.specs.Decoding.{AreCut, least_byte_count, ReadsPixels, ReadsImage, RefusesMarker, RefusesBytes};
+ghost use Rattle.qoi.specs.Decoding.{least_byte_count, ReadsPixels, ReadsImage, RefusesMarker, RefusesBytes};
+ghost use Rattle.qoi.specs.Verdicts.{AreCut};
 
 use crate::consts::{QOI_PADDING, QOI_PADDING_SIZE, QOI_RUN_MAX};
 use crate::decode::pixels::give_first;

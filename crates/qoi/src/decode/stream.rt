@@ -3,8 +3,8 @@ ghost use Rattle.std.specs.Prelude.{◌≡◌, ℕ, ◌/◌, ◌%◌, ◌<◌, �
 ghost use Rattle.std.specs.Io.KnownBytes.{Consumes};
 ghost use Rattle.qoi.specs.Qoi.{AreBytes, end_marker};
 ghost use Rattle.qoi.specs.Raw.{IsChannels};
-ghost use Rattle.qoi.specs.Verdicts.{IsPartOfChunk};
-ghost use Rattle.qoi.specs.Decoding.{EndsInChunk, StreamsPixels, ReadsImage, RefusesTaken, RefusesTakenMarker};
+ghost use Rattle.qoi.specs.Verdicts.{IsPartOfChunk, EndsInChunk};
+ghost use Rattle.qoi.specs.Decoding.{StreamsPixels, ReadsImage, RefusesTaken, RefusesTakenMarker};
 ghost use Rattle.qoi.specs.inner.Filling.{IsWholePixels, GivesChunk, filling};
 ghost use Rattle.qoi.specs.inner.Taken.{HasTaken};
 
@@ -23,8 +23,8 @@ fn ended() -> io::Error {
     io::Error::new(ErrorKind::UnexpectedEof, "the stream ended within a file")
 }
 
-// Fills the buffer from a stream, and asks for no byte past it. Other than in the standard library's,
-// an interruption is a fault; so is the end of the stream.
+// Fills the buffer from a stream, and asks for no byte past it. Unlike in the standard library's, an
+// interruption is a fault; so is the end of the stream.
 pub(super) fn read_exact<R: Read>(reader: &mut R, buf: &mut [u8]) -> io::Result<()>
     ensures read { OnOk result
         (Consumes (R.remaining reader.old) (R.remaining reader.new) buf.new) }

@@ -9,7 +9,7 @@ ghost use Rattle.qoi.specs.Raw.{IsChannels, pixels_of};
 ghost use Rattle.qoi.specs.Runs.{IsCount, runs_by};
 ghost use Rattle.qoi.specs.Written.{IsFirst};
 ghost use Rattle.qoi.specs.Styles.{choice_in, WrittenIn};
-ghost use Rattle.qoi.specs.writers.Writes.{WroteBut, WroteSome};
+ghost use Rattle.qoi.specs.writers.Writes.{WroteBut, WroteBeginning};
 ghost use Rattle.qoi.specs.inner.Packed.{pixel_of_word};
 ghost use Rattle.qoi.specs.inner.Piece.{kept_bytes};
 ghost use Rattle.qoi.specs.inner.Quad.{HasBytes, IsSpelled, AreOpaqueWords, SameAlpha, AreFourAfter, QuadFits, IsQuad, IsFreshLane};
@@ -482,7 +482,7 @@ fn encode_pixels<W: Writer, const N: usize>(
         buf.new) }
     ensures refused { IfErr result (λ e. W.IsFault e × (cs : List Chunk)
         × WrittenIn style (pixels_of N «data».now) cs
-        × WroteSome W.wrote buf.old (kept_bytes piece.old ++ chunk_bytes cs) buf.new) }
+        × WroteBeginning W.wrote buf.old (kept_bytes piece.old ++ chunk_bytes cs) buf.new) }
 {
     let mut table = Table::new();
     let mut coder = Coder::new();
@@ -516,7 +516,7 @@ pub(super) fn encode_chunks<W: Writer>(
         buf.new) }
     ensures refused { IfErr result (λ e. W.IsFault e × (cs : List Chunk)
         × WrittenIn style (pixels_of (channels_number channels) «data».now) cs
-        × WroteSome W.wrote buf.old (kept_bytes piece.old ++ chunk_bytes cs) buf.new) }
+        × WroteBeginning W.wrote buf.old (kept_bytes piece.old ++ chunk_bytes cs) buf.new) }
 {
     // Each pair has a loop of its own, in which the style is known.
     match (channels, style) {

@@ -6,7 +6,7 @@ ghost use Rattle.qoi.specs.declared.encode.piece.TheConstants.{PIECE, ROOM};
 ghost use Rattle.qoi.specs.Qoi.{run_max, bytes_of, chunk_bytes};
 ghost use Rattle.qoi.specs.Raw.{IsChannels};
 ghost use Rattle.qoi.specs.Runs.{runs_by};
-ghost use Rattle.qoi.specs.writers.Writes.{WroteSome};
+ghost use Rattle.qoi.specs.writers.Writes.{WroteBeginning};
 
 use crate::consts::{QOI_OP_RUN, QOI_RUN_MAX};
 use crate::error::Result;
@@ -61,7 +61,7 @@ impl Piece {
         ensures kept { OnOk result (kept_bytes self.new ≡ drop PIECE (kept_bytes self.old)) }
         ensures end { OnOk result (self.new.end + PIECE ≡ self.old.end) }
         ensures refused { IfErr result (λ e. W.IsFault e
-            × WroteSome W.wrote buf.old (take PIECE (kept_bytes self.old)) buf.new) }
+            × WroteBeginning W.wrote buf.old (take PIECE (kept_bytes self.old)) buf.new) }
     {
         buf.write_many(&self.bytes[..PIECE])?;
         self.bytes.copy_within(PIECE..ROOM, 0);
@@ -74,7 +74,7 @@ impl Piece {
         requires { self.old.end ≤ W.room buf.old }
         ensures written { OnOk result (W.wrote buf.old (kept_bytes self.old) buf.new) }
         ensures refused { IfErr result (λ e. W.IsFault e
-            × WroteSome W.wrote buf.old (kept_bytes self.old) buf.new) }
+            × WroteBeginning W.wrote buf.old (kept_bytes self.old) buf.new) }
     {
         if self.end >= PIECE {
             self.give(buf)?;

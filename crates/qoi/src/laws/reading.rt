@@ -5,7 +5,7 @@ ghost use Rattle.qoi.specs.declared.header.Header.{Header};
 ghost use Rattle.qoi.specs.declared.types.Channels.{Channels};
 ghost use Rattle.qoi.specs.declared.types.ColorSpace.{ColorSpace};
 ghost use Rattle.qoi.specs.declared.chunk.Chunk.{Chunk};
-ghost use Rattle.qoi.specs.Qoi.{AreBytes, IsChunk, AreChunks, bytes_of, chunk_bytes, IsFile, file, file_pixels, head, pixel_count, IsValid, header_of, pixel, hash, Reaches, StayBelow, meaning, header_size};
+ghost use Rattle.qoi.specs.Qoi.{AreBytes, IsChunk, AreChunks, bytes_of, chunk_bytes, IsFile, file, file_pixels, header_bytes, pixel_count, IsValid, header_of, pixel, hash, Reaches, StayBelow, meaning, header_size};
 ghost use Rattle.qoi.specs.Raw.{output};
 ghost use Rattle.qoi.specs.Verdicts.{IsPartOfChunk, IsWhole, IsCut, IsWrong};
 
@@ -45,10 +45,10 @@ pub fn verdict_is_some()
 /// A valid header's fourteen bytes are read as it, whatever follows them; and bytes that are read as a
 /// header are its own, and it is valid.
 pub fn header_both_ways()
-    ensures size { (h : Header) → length (head h) ≡ header_size }
-    ensures read { (h : Header) (rest : List ℕ) → IsValid h → header_of (head h ++ rest) ≡ Ok h }
+    ensures size { (h : Header) → length (header_bytes h) ≡ header_size }
+    ensures read { (h : Header) (rest : List ℕ) → IsValid h → header_of (header_bytes h ++ rest) ≡ Ok h }
     ensures only { (bytes : List ℕ) (h : Header) → AreBytes bytes → header_of bytes ≡ Ok h
-        → (bytes ≡ head h ++ drop header_size bytes) × IsValid h }
+        → (bytes ≡ header_bytes h ++ drop header_size bytes) × IsValid h }
 {}
 
 /// No file begins another: the same bytes are one file and what follows it.
@@ -171,7 +171,7 @@ pub fn worked_examples()
     ensures four_as_four { output 4 4 (pixel 1 2 3 4 ∷ []) ≡ 1 ∷ 2 ∷ 3 ∷ 4 ∷ [] }
     ensures four_as_three { output 4 3 (pixel 1 2 3 4 ∷ []) ≡ 1 ∷ 2 ∷ 3 ∷ [] }
     ensures long_run_reaches { Reaches 4 (Chunk.Run 62 ∷ []) }
-    ensures long_run_is_cut { file_pixels
+    ensures long_run_is_shortened { file_pixels
         (record { width = 2; height = 2; channels = Channels.Rgb; colorspace = ColorSpace.Srgb })
         (Chunk.Run 62 ∷ [])
         ≡ pixel 0 0 0 255 ∷ pixel 0 0 0 255 ∷ pixel 0 0 0 255 ∷ pixel 0 0 0 255 ∷ [] }

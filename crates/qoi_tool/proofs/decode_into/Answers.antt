@@ -6,14 +6,14 @@ use Rattle.qoi.specs.declared.error.Error.{Error}
 use Rattle.qoi.specs.declared.header.Header.{Header}
 use Rattle.qoi.specs.Qoi.{channels_number, header_of, pixel_count, header_size}
 use Rattle.qoi.specs.DecoderState.{DecoderState}
-use Rattle.qoi.specs.Decoding.{ReadsImage, RefusesBytes, RefusesWholeFile}
+use Rattle.qoi.specs.Decoding.{ReadsImage, RefusesBytes, RefusesFile}
 use Rattle.qoi.specs.writers.Writes.{AppendsBeginning}
-use Rattle.qoi_tool.specs.Transfers.{IsOutside}
+use Rattle.qoi_tool.specs.Transfers.{IsIoOrMemory}
 use Rattle.qoi_tool.proofs.decode_into.Goals as goal
 
 -- a file is refused for the bytes after its header
 refused_bytes : (input : List ℕ) (h k : Header) (bytes : List ℕ) (e : Error) → header_of input ≡ Ok h → k ≡ h → bytes ≡ drop header_size input
-    → RefusesBytes (pixel_count k) bytes e → RefusesWholeFile input e
+    → RefusesBytes (pixel_count k) bytes e → RefusesFile input e
 refused_bytes input h k bytes e read same after r =
     inr (
       h,
@@ -32,7 +32,7 @@ returns-in_err-pixels-clause-refused g c =
     let read = subst (λ (z : List ℕ). header_of z ≡ Ok d.header) c.deref.ensures.value accepted.0 in
     let after = ap (λ (z : DecoderState (List ℕ)). z.reader) same ∙ accepted.2 ∙ ap (drop header_size) c.deref.ensures.value in
     let unwritten = Keeps-refl (g.W.Write.contents c.args.output.now) in
-    rw (p.1, p.2) (⊎_elim (λ none. inr (inl (subst IsOutside (sym none) tt, unwritten)))
+    rw (p.1, p.2) (⊎_elim (λ none. inr (inl (subst IsIoOrMemory (sym none) tt, unwritten)))
     (λ r. inl (
       c.in_ok-file.file.items,
       c.in_ok-file.ensures.read,

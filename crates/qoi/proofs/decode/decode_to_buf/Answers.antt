@@ -4,8 +4,9 @@ use Rattle.std.proofs.lemmas.Bool.{cases_lt}
 use Rattle.qoi.specs.declared.header.Header.{Header}
 use Rattle.qoi.specs.declared.types.Style.TheVariants.{Reference}
 use Rattle.qoi.specs.Qoi.{channels_number, header_of, pixel_count, header_size}
-use Rattle.qoi.specs.Verdicts.{IsWhole}
-use Rattle.qoi.specs.Decoding.{AreWrong, AreCut, RefusesBuffer, RefusesBytes, DecodesFile, ReadsImage, image_byte_count, byte_count}
+use Rattle.qoi.specs.Verdicts.{IsWhole, AreWrong, AreCut}
+use Rattle.qoi.specs.Decoding.{RefusesBuffer, RefusesBytes, DecodesFile, ReadsImage}
+use Rattle.qoi.specs.Raw.{image_byte_count, byte_count}
 use Rattle.qoi.specs.DecoderState.{DecoderState}
 use Rattle.qoi.proofs.decoding.OneFile.{file_has_header, file_is_whole, header_is_one, decodes_behind, decoding_is_one}
 use Rattle.qoi.specs.declared.types.Style.{Style}

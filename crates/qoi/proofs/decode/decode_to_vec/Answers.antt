@@ -4,8 +4,8 @@ use Rattle.qoi.specs.declared.header.Header.{Header}
 use Rattle.qoi.specs.declared.types.Style.TheVariants.{Reference}
 use Rattle.std.proofs.lemmas.Result.{err_from_is_err_and}
 use Rattle.qoi.specs.Qoi.{header_of, pixel_count, header_size}
-use Rattle.qoi.specs.Verdicts.{IsWhole}
-use Rattle.qoi.specs.Decoding.{AreWrong, AreCut, DecodesFile, RefusesBytes, least_byte_count}
+use Rattle.qoi.specs.Verdicts.{IsWhole, AreWrong, AreCut}
+use Rattle.qoi.specs.Decoding.{DecodesFile, RefusesBytes, least_byte_count}
 use Rattle.qoi.specs.DecoderState.{DecoderState}
 use Rattle.std.proofs.lemmas.List.{length-drop}
 use Rattle.qoi.proofs.decoding.ImageSize.{bounded_by}

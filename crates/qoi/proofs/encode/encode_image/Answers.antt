@@ -2,7 +2,7 @@
 use Rattle.std.proofs.Common.{◌≡◌, ◌≤◌, ◌+◌, ◌++◌, length, ap, ◌∙◌, arith}
 use Rattle.std.proofs.lemmas.List.{length-take-le}
 use Rattle.std.proofs.lemmas.Result.{err_from_is_err_and}
-use Rattle.qoi.specs.Qoi.{head, file, chunk_bytes}
+use Rattle.qoi.specs.Qoi.{header_bytes, file, chunk_bytes}
 use Rattle.qoi.specs.writers.Writes.{WroteBut}
 use Rattle.qoi.specs.inner.Piece.{kept_bytes}
 use Rattle.qoi.proofs.FileOf.{file_of, text_fits, max_is_exact, chunks_part, marker_kept, last_fits, last_part, file_went, file_counts}
@@ -16,7 +16,7 @@ returns-in_err-encode_chunks-clause-refused g c =
     let e = err_from_is_err_and c.from_residual.result c.from_residual.ensures.1 in
     let r = c.in_err-encode_chunks.ensures.refused in
     let theirs = file_of h c.args.data.now c.requires.valid c.requires.image c.args.style r.1 r.2 in
-    let front : kept_bytes c.keep.new.self ≡ head h = c.keep.ensures.kept ∙ ap (λ z. z ++ c.encode.result) c.new-piece.ensures ∙ c.encode.ensures in
+    let front : kept_bytes c.keep.new.self ≡ header_bytes h = c.keep.ensures.kept ∙ ap (λ z. z ++ c.encode.result) c.new-piece.ensures ∙ c.encode.ensures in
     rw (e.1, e.2) (
       r.0,
       file h r.1,
@@ -30,7 +30,7 @@ all_but_kept : (g : Over) (c : After-keep-2 g) → WroteBut g.W.Writer.wrote c.a
     (kept_bytes c.keep-2.new.self) c.encode_chunks.new.buf
 all_but_kept g c =
     let w = c.in_ok-encode_chunks.ensures.written in
-    let front : kept_bytes c.keep.new.self ≡ head c.args.header.now = c.keep.ensures.kept ∙ ap (λ z. z ++ c.encode.result) c.new-piece.ensures
+    let front : kept_bytes c.keep.new.self ≡ header_bytes c.args.header.now = c.keep.ensures.kept ∙ ap (λ z. z ++ c.encode.result) c.new-piece.ensures
     ∙ c.encode.ensures in
     marker_kept g.W.Writer.wrote g.W.Writer.room g.met.W.Writer.laws c.args.header.now w.0 c.args.buf.now
     (kept_bytes c.keep.new.self) front w.2 c.keep-2.ensures.kept

@@ -3,14 +3,15 @@ ghost use Rattle.std.specs.Prelude.{◌≡◌, ℕ, ◌+◌, ◌*◌, ◌≤◌,
 ghost use Rattle.std.specs.Io.KnownBytes.{Appends, Consumes};
 ghost use Rattle.qoi.specs.declared.header.Header.{Header};
 ghost use Rattle.qoi.specs.declared.types.Style.TheVariants.{Reference, Tight};
-ghost use Rattle.qoi.specs.Qoi.{channels_number, head, header_of, pixel_count, header_size, IsValid, file};
+ghost use Rattle.qoi.specs.Qoi.{channels_number, header_bytes, header_of, pixel_count, header_size, IsValid, file};
 ghost use Rattle.qoi.specs.Encoded.{IsFileOf, IsShortest, Spans, OpensBlack, image_pixels};
 ghost use Rattle.qoi.specs.Raw.{without_fourth};
 ghost use Rattle.qoi_tool.specs.Files.{AreFiles};
 ghost use Rattle.qoi.specs.Regular.{Regular};
 ghost use Rattle.qoi.specs.writers.Writes.{AppendsBeginning};
 ghost use Rattle.qoi.specs.declared.chunk.Chunk.{Chunk};
-ghost use Rattle.qoi.specs.Decoding.{DecodesFile, AreCut, ReadsImage, TakesHeader};
+ghost use Rattle.qoi.specs.Decoding.{DecodesFile, ReadsImage, TakesHeader};
+ghost use Rattle.qoi.specs.Verdicts.{AreCut};
 
 use qoi::{
     Channels, Decoder, Encoder, Error, Header, Style, decode_to_buf, decode_to_vec, encode_to_buf,
@@ -339,7 +340,7 @@ pub fn shortest(alloc: Global, raw: &[u8], width: u32, height: u32) -> Result<Ve
 /// A stream's header. The bytes that were taken of a reader are those of a valid header.
 pub fn header_ahead<R: Read + Drop>(reader: R) -> Result<(Header, R), Error>
     ensures { IfOk result (λ x. IsValid x.0
-        × Consumes (R.remaining reader) (R.remaining x.1) (head x.0)) }
+        × Consumes (R.remaining reader) (R.remaining x.1) (header_bytes x.0)) }
 {
     let decoder = Decoder::from_stream(reader)?;
     Ok((*decoder.header(), decoder.into_reader()))

@@ -1,7 +1,7 @@
 -- The header's bytes are the front of all, and the reader has what follows them.
 use Rattle.std.proofs.Common.{ap, drop, ◌++◌, ℕ, List, [], append-nil, refl, sym, ◌∙◌}
 use Rattle.qoi.specs.declared.types.Style.TheVariants.{Reference}
-use Rattle.qoi.specs.Qoi.{head, header_size}
+use Rattle.qoi.specs.Qoi.{header_bytes, header_size}
 use Rattle.qoi.specs.DecoderState.{DecoderState}
 use Rattle.qoi.proofs.decoding.Ahead.{decoder_of, image_ahead, file_ahead}
 use Rattle.qoi.proofs.format.HeaderBytes.{header_split}
@@ -42,4 +42,4 @@ returns-clause-made c =
     let d : DecoderState (List ℕ) = record { reader = c.decode_header.new.self; header = c.in_ok-header.header; channels = c.in_ok-header.header.channels } in
     let split = sym c.new-reader.ensures ∙ e.1 in
     decoder_of d c.args.data.now (drop header_size c.args.data.now)
-    (split ∙ ap (λ z. z ++ c.decode_header.new.self) e.4 ∙ ap (λ z. head d.header ++ z) accepted.2) e.5 refl
+    (split ∙ ap (λ z. z ++ c.decode_header.new.self) e.4 ∙ ap (λ z. header_bytes d.header ++ z) accepted.2) e.5 refl

@@ -28,7 +28,7 @@ refused g c =
     c.as_u8-file_channels.ensures ∙ ap (λ s. channels_number s.header.channels) c.self.view_is in
     let pixels = image_pixels d.header d.channels c.required_buf_len-size.result c.as_u8-channels.result c.args.buf.now c.required_buf_len-size.ensures.bytes
     (omega arith) channels in
-    let image = c.in_err-decode_image.ensures.refused (channels_are d.channels _ channels, channels_are d.header.channels _ file) in
+    let image = c.in_err-decode_image.ensures.refused (channels_are d.header.channels _ file, channels_are d.channels _ channels) in
     subst (λ old. RefusesImage g.R.Reader.in_memory (pixel_count d.header) old (g.R.Reader.ahead c.decode_image.new.self) c.in_err-decode_image.field-0.0)
     (ap (λ s. g.R.Reader.ahead s.reader) c.self.view_is) (rw pixels at image)
 

@@ -2,7 +2,7 @@
 use Rattle.std.proofs.Common.{sym, subst}
 use Rattle.std.proofs.lemmas.List.{take-take}
 use Rattle.std.proofs.lemmas.Result.{err_from_is_err_and}
-use Rattle.qoi.specs.writers.Writes.{WroteSome}
+use Rattle.qoi.specs.writers.Writes.{WroteBeginning}
 use Rattle.qoi.proofs.encoding.PieceGiven.{moved_front}
 use Rattle.qoi.proofs.encode.piece.Piece.give.Goals as goal
 
@@ -11,7 +11,10 @@ returns-in_err-write_many-clause-refused g c =
     let p = err_from_is_err_and c.from_residual.result c.from_residual.ensures.1 in
     let r = c.in_err-write_many.ensures.refused in
     let s = c.args.self.now in
-    rw (p.1, p.2) (r.0, subst (λ z. WroteSome g.W.Writer.wrote c.args.buf.now z c.write_many.new.self) (sym (take-take 4096 s.end s.bytes c.requires.full)) r.1)
+    rw (p.1, p.2) (
+      r.0,
+      subst (λ z. WroteBeginning g.W.Writer.wrote c.args.buf.now z c.write_many.new.self) (sym (take-take 4096 s.end s.bytes c.requires.full)) r.1,
+    )
 
 pub returns-clause-written : goal.returns-clause-written
 returns-clause-written g c =
