@@ -12,7 +12,7 @@ use Rattle.qoi.specs.declared.types.Style.TheVariants.{Reference, Places, Tight}
 use Rattle.qoi.specs.declared.header.Header.{Header}
 use Rattle.qoi.specs.declared.chunk.Chunk.{Chunk}
 use Rattle.qoi.specs.declared.chunk.Chunk.TheVariants.{Place}
-use Rattle.qoi.specs.Qoi.{header_size, marker_size, channels_number, channels_of, colorspace_number, pixel_count, tried_header, IsValid, RgbaPixel, blank, start, chunk_bytes, Reaches, file}
+use Rattle.qoi.specs.Qoi.{header_size, marker_size, colorspace_at, channels_number, channels_of, colorspace_number, pixel_count, tried_header, IsValid, RgbaPixel, blank, start, chunk_bytes, Reaches, file}
 use Rattle.qoi.specs.Raw.{pixels_of, image_byte_count}
 use Rattle.qoi.specs.Written.{Written}
 use Rattle.qoi.specs.Styles.{WrittenIn}
@@ -72,7 +72,7 @@ pub record IsFileBy (Lists : List RgbaPixel → List Chunk → Type 0) (h : Head
   pub long : header_size + 1 + marker_size ≤ length bytes
   pub comes_back : (rest : List ℕ) → DecodesFile (bytes ++ rest) h rest raw
   pub color_space : (space : ColorSpace) (others : List ℕ) → IsEncoded Lists (record h { colorspace = space }) raw others
-      → others ≡ slice_set bytes 13 (colorspace_number space)
+      → others ≡ slice_set bytes colorspace_at (colorspace_number space)
   pub apart : (cs front rest : List Chunk) (i : ℕ) → Lists (image_pixels h raw) cs → cs ≢ front ++ Place i ∷ Place i ∷ rest
 
 -- the chunks cover the image of these raw bytes, and the last of them, not one before, reaches its last pixel

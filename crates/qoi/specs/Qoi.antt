@@ -22,6 +22,14 @@ AreBytes bytes = (i : ℕ) → slice_index bytes i < 256
 abbrev pub header_size : ℕ
 header_size = 14
 
+-- where a header has its number of channels
+abbrev pub channels_at : ℕ
+channels_at = 12
+
+-- where a header has its color space's number
+abbrev pub colorspace_at : ℕ
+colorspace_at = 13
+
 -- the text qoif
 abbrev pub magic_bytes : List ℕ
 magic_bytes = 0x71 ∷ 0x6f ∷ 0x69 ∷ 0x66 ∷ []
@@ -90,7 +98,7 @@ checked_header bytes channels colorspace =
 -- the header with these channels, or the first refusal from the channels on
 abbrev pub with_channels_read : List ℕ → Result Channels Error → Result Header Error
 with_channels_read bytes (Err e) = Err e
-with_channels_read bytes (Ok channels) = with_colorspace_read channels (colorspace_of (slice_index bytes 13))
+with_channels_read bytes (Ok channels) = with_colorspace_read channels (colorspace_of (slice_index bytes colorspace_at))
   where
     with_colorspace_read : Channels → Result ColorSpace Error → Result Header Error
     with_colorspace_read channels (Err e) = Err e
@@ -101,7 +109,7 @@ with_channels_read bytes (Ok channels) = with_colorspace_read channels (colorspa
 abbrev pub header_of : List ℕ → Result Header Error
 header_of bytes =
     if nat_lt (length bytes) header_size then Err UnexpectedBufferEnd
-    else with_channels_read bytes (channels_of (slice_index bytes 12))
+    else with_channels_read bytes (channels_of (slice_index bytes channels_at))
 
 -- Pixels, and what an index position holds ("Chunks": the running array of 64 previously seen pixels)
 
@@ -234,13 +242,13 @@ unfoldable pub after_luma : RgbaPixel → ℕ → ℕ → RgbaPixel
 after_luma q d e = moved q (d % 64 + e / 16 + 216) (d % 64 + 224) (d % 64 + e % 16 + 216)
 
 -- the pixel that a chunk gives after these pixels; alpha stays, but for Rgba
-abbrev pub pixel_of : Past → Chunk → RgbaPixel
-pixel_of past (Place i) = seen past i
-pixel_of past (Diff d) = after_diff (previous past) d
-pixel_of past (Luma d e) = after_luma (previous past) d e
-pixel_of past (Run n) = previous past
-pixel_of past (Rgb r g b) = pixel r g b (previous past).a
-pixel_of past (Rgba r g b a) = pixel r g b a
+abbrev pub pixel_after : Past → Chunk → RgbaPixel
+pixel_after past (Place i) = seen past i
+pixel_after past (Diff d) = after_diff (previous past) d
+pixel_after past (Luma d e) = after_luma (previous past) d e
+pixel_after past (Run n) = previous past
+pixel_after past (Rgb r g b) = pixel r g b (previous past).a
+pixel_after past (Rgba r g b a) = pixel r g b a
 
 -- how many times a chunk gives its pixel: once, but for a run
 abbrev pub times : Chunk → ℕ
@@ -253,7 +261,7 @@ times (Rgba r g b a) = 1
 
 -- the pixels after a chunk
 abbrev pub then_chunk : Past → Chunk → Past
-then_chunk past c = replicate (times c) (pixel_of past c) ++ past
+then_chunk past c = replicate (times c) (pixel_after past c) ++ past
 
 -- What a list of chunks means ("Chunks" and "Data")
 

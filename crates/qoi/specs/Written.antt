@@ -2,7 +2,7 @@
 use Rattle.std.specs.Prelude.{◌≡◌, ◌≢◌, ℕ, ◌<◌, ◌≤◌, List, [], ◌∷◌, if◌then◌else◌}
 use Rattle.qoi.specs.declared.chunk.Chunk.{Chunk}
 use Rattle.qoi.specs.declared.chunk.Chunk.TheVariants.{Place, Diff, Luma, Run, Rgb, Rgba}
-use Rattle.qoi.specs.Qoi.{RgbaPixel, Past, pixel_eq, previous, seen, hash, IsChunk, AreChunks, run_max, pixel_of, meaning, Each}
+use Rattle.qoi.specs.Qoi.{RgbaPixel, Past, pixel_eq, previous, seen, hash, IsChunk, AreChunks, run_max, pixel_after, meaning, Each}
 
 -- the fresh pixels: those that differ from the pixel before them
 abbrev pub fresh : Past → Past
@@ -25,8 +25,8 @@ rank (Run n) = 0
 -- the chunk is the first of Diff, Luma, Rgb and Rgba that gives the pixel
 pub record IsFirst (past : Past) (p : RgbaPixel) (c : Chunk) : Type 0 where
   pub spells : 0 < rank c
-  pub gives : pixel_of past c ≡ p
-  pub first : (d : Chunk) → IsChunk d → 0 < rank d → pixel_of past d ≡ p → rank c ≤ rank d
+  pub gives : pixel_after past c ≡ p
+  pub first : (d : Chunk) → IsChunk d → 0 < rank d → pixel_after past d ≡ p → rank c ≤ rank d
 
 -- how a fresh pixel is given: by its index position if it is noted there, else by the first chunk that spells it out
 pub record IsChoice (past : Past) (p : RgbaPixel) (c : Chunk) : Type 0 where
@@ -35,8 +35,8 @@ pub record IsChoice (past : Past) (p : RgbaPixel) (c : Chunk) : Type 0 where
 
 -- the chunk gives a fresh pixel, and is one that `Choice` allows for it
 pub record GivesFresh (Choice : Past → RgbaPixel → Chunk → Type 0) (past : Past) (c : Chunk) : Type 0 where
-  pub is_fresh : pixel_of past c ≢ previous past
-  pub is_chosen : Choice past (pixel_of past c) c
+  pub is_fresh : pixel_after past c ≢ previous past
+  pub is_chosen : Choice past (pixel_after past c) c
 
 -- a run may stand anywhere, and each other chunk gives a fresh pixel by the choice; so each repeat is given by a run
 abbrev pub IsAllowedAfter : (Past → RgbaPixel → Chunk → Type 0) → Past → Chunk → Type 0

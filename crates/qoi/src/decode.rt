@@ -422,7 +422,8 @@ impl<R: Reader> Decoder<R> {
     /// each 62 pixels take a byte at least, and the end marker has eight.
     pub fn decode_to_vec(&mut self, alloc: Global) -> Result<Vec<u8>>
         ensures decoded { IfOk result (λ out. DecodesImage R.ahead self.old self.new out.items) }
-        ensures length { IfOk result (λ out. HasImageLength (output_byte_count self.old) out.items) }
+        ensures length { IfOk result (λ out.
+            HasImageLength (output_byte_count self.old) out.items) }
         ensures refused { IfErr result (λ e. (e ≡ Error.OutOfMemory)
             ⊎ RefusesDecoding R.in_memory R.ahead self.old self.new e) }
         ensures no_memory { IsErrOf result Error.OutOfMemory → self.new ≡ self.old }

@@ -3,7 +3,7 @@ use Rattle.std.proofs.Common.{◌≡◌, ℕ, ◌+◌, ◌<◌, ◌≤◌, inl, 
 use Rattle.std.proofs.lemmas.Bool.{cases_lt}
 use Rattle.qoi.specs.declared.chunk.Chunk.{Chunk}
 use Rattle.qoi.specs.declared.chunk.Chunk.TheVariants.{Place, Diff, Luma, Run}
-use Rattle.qoi.specs.Qoi.{RgbaPixel, Past, previous, seen, after_diff, after_luma, times, pixel_of}
+use Rattle.qoi.specs.Qoi.{RgbaPixel, Past, previous, seen, after_diff, after_luma, times, pixel_after}
 use Rattle.qoi.specs.inner.Filling.{Filling, HasSeen, HasFilled, Gives, GivesChunk}
 use Rattle.qoi.specs.inner.Table.{Holds}
 use Rattle.qoi.proofs.decoding.SeenTable.{previous_copies}
@@ -44,7 +44,7 @@ pub record GivesOnce (f c : ℕ) (p : RgbaPixel) (old new : Filling) : Type 0 wh
   pub filled : (n : ℕ) (past : Past) → HasFilled f c n old.buffer past → HasFilled f c n new.buffer (p ∷ past)
 
 -- the pixel of a chunk that gives it once
-pub gives_once : {f c : ℕ} {p : RgbaPixel} {old new : Filling} (chunk : Chunk) → times chunk ≡ 1 → ((past : Past) → HasSeen old past → p ≡ pixel_of past chunk)
+pub gives_once : {f c : ℕ} {p : RgbaPixel} {old new : Filling} (chunk : Chunk) → times chunk ≡ 1 → ((past : Past) → HasSeen old past → p ≡ pixel_after past chunk)
     → GivesOnce f c p old new → Gives f c chunk old new
 gives_once {f} {c} {p} {old} {new} chunk one is g = record {
   has_seen = λ past h. rw (one, ← is past h) (record { table_is = g.table past h.table_is; last_is = g.last_is });

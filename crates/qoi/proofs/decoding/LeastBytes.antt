@@ -3,7 +3,7 @@ use Rattle.std.proofs.Common.{◌≡◌, ℕ, ◌+◌, ◌*◌, ◌<◌, ◌≤�
 use Rattle.std.proofs.lemmas.List.{length-replicate}
 use Rattle.qoi.specs.declared.chunk.Chunk.{Chunk}
 use Rattle.qoi.specs.declared.chunk.Chunk.TheVariants.{Place, Diff, Luma, Run, Rgb, Rgba}
-use Rattle.qoi.specs.Qoi.{Past, AreBytes, IsChunk, AreChunks, bytes_of, chunk_bytes, times, pixel_of, then_chunk, then_chunks, meaning, end_marker}
+use Rattle.qoi.specs.Qoi.{Past, AreBytes, IsChunk, AreChunks, bytes_of, chunk_bytes, times, pixel_after, then_chunk, then_chunks, meaning, end_marker}
 use Rattle.qoi.specs.Verdicts.{HasChunks, IsWhole, AreCut}
 use Rattle.qoi.specs.Decoding.{least_byte_count}
 use Rattle.qoi.proofs.format.Appended.{length-bytes_of, length-meaning}
@@ -31,8 +31,8 @@ pixels_most past (c ∷ cs) chunks =
       most,
       some,
       length-append (bytes_of c) (chunk_bytes cs),
-      length-append (replicate (times c) (pixel_of past c)) past,
-      length-replicate (times c) (pixel_of past c),
+      length-append (replicate (times c) (pixel_after past c)) past,
+      length-replicate (times c) (pixel_after past c),
     )
 
 -- where chunks reach n pixels and eight bytes follow, there are as many bytes as n pixels need

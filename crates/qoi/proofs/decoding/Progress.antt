@@ -1,7 +1,7 @@
 -- A decoder between two chunks: what it has taken, filled and seen.
 use Rattle.std.proofs.Common.{◌≡◌, ℕ, suc, ◌*◌, ◌/◌, ◌%◌, ◌<◌, ◌≤◌, inl, inr, List, [], ◌∷◌, ◌++◌, length, take, replicate, min, Option, arith, refl, sym, ap, ◌∙◌, subst, append_assoc, length-append}
 use Rattle.qoi.specs.declared.chunk.Chunk.{Chunk}
-use Rattle.qoi.specs.Qoi.{RgbaPixel, Past, AreBytes, start, AreChunks, bytes_of, chunk_bytes, pixel_of, times, then_chunk, then_chunks, meaning, StayBelow, Reaches}
+use Rattle.qoi.specs.Qoi.{RgbaPixel, Past, AreBytes, start, AreChunks, bytes_of, chunk_bytes, pixel_after, times, then_chunk, then_chunks, meaning, StayBelow, Reaches}
 use Rattle.std.specs.Io.KnownBytes.{Consumes}
 use Rattle.std.proofs.KnownBytes.{Consumes-trans}
 use Rattle.qoi.specs.Raw.{IsChannels, output}
@@ -63,7 +63,7 @@ goes_on {f} {c} {n} {Taken} {Taken'} {old} {new} {bytes} is s inside g takes wit
     let past = then_chunks [] s.cs in
     let pushed = then_chunks-append [] s.cs (chunk ∷ []) in
     let has_seen = g.gives.has_seen past s.has_seen in
-    let pixel_is : new.last ≡ pixel_of past chunk = has_seen.last_is ∙ previous_copies (times chunk) (pixel_of past chunk) past (times_some chunk g.is_chunk) in
+    let pixel_is : new.last ≡ pixel_after past chunk = has_seen.last_is ∙ previous_copies (times chunk) (pixel_after past chunk) past (times_some chunk g.is_chunk) in
     let filled : HasFilled f c n new.buffer (then_chunk past chunk) =
     subst (λ p. HasFilled f c n new.buffer (replicate (times chunk) p ++ past)) pixel_is (g.gives.filled n past s.filled) in
     record {

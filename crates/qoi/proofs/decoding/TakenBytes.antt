@@ -8,14 +8,14 @@ use Rattle.qoi.specs.Decoding.{ReadsImage, RefusesImage}
 use Rattle.qoi.specs.DecoderState.{TakesAtMost}
 use Rattle.std.proofs.lemmas.List.{length-replicate}
 use Rattle.qoi.specs.declared.chunk.Chunk.{Chunk}
-use Rattle.qoi.specs.Qoi.{Past, AreChunks, bytes_of, chunk_bytes, times, pixel_of, then_chunk, Reaches, StayBelow, meaning, then_chunks, end_marker}
+use Rattle.qoi.specs.Qoi.{Past, AreChunks, bytes_of, chunk_bytes, times, pixel_after, then_chunk, Reaches, StayBelow, meaning, then_chunks, end_marker}
 use Rattle.qoi.proofs.format.Appended.{length-bytes_of, length-meaning}
 use Rattle.qoi.proofs.format.OneVerdict.{StayBelowAfter}
 use Rattle.qoi.proofs.format.ChunkSteps.{times_some}
 
 -- the pixels after a chunk are those before it and its own
 pub length-then_chunk : (past : Past) (c : Chunk) → length (then_chunk past c) ≡ times c + length past
-length-then_chunk past c = omega (arith, length-append (replicate (times c) (pixel_of past c)) past, length-replicate (times c) (pixel_of past c))
+length-then_chunk past c = omega (arith, length-append (replicate (times c) (pixel_after past c)) past, length-replicate (times c) (pixel_after past c))
 
 -- each pixel takes five bytes at most
 bytes_within : (past : Past) (cs : List Chunk) → AreChunks cs → length (chunk_bytes cs) + 5 * length past ≤ 5 * length (then_chunks past cs)

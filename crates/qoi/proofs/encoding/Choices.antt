@@ -2,7 +2,7 @@
 use Rattle.std.proofs.Common.{◌≡◌, ◌≢◌, ℕ, false}
 use Rattle.qoi.specs.declared.chunk.Chunk.{Chunk}
 use Rattle.qoi.specs.declared.chunk.Chunk.TheVariants.{Rgba}
-use Rattle.qoi.specs.Qoi.{RgbaPixel, IsPixel, Past, previous, IsChunk, pixel_of}
+use Rattle.qoi.specs.Qoi.{RgbaPixel, IsPixel, Past, previous, IsChunk, pixel_after}
 use Rattle.qoi.specs.Written.{IsFirst}
 use Rattle.qoi.specs.Styles.{is_run}
 
@@ -12,6 +12,6 @@ pub record Chooses (Choice : Past → RgbaPixel → Chunk → Type 0) : Type 0 w
   pub some : (past : Past) (p : RgbaPixel) → IsPixel (previous past) → IsPixel p → p ≢ previous past → (c : Chunk) × IsChunk c × Choice past p c
   pub only : (past : Past) (p : RgbaPixel) (c d : Chunk) → IsChunk c → IsChunk d → Choice past p c → Choice past p d → c ≡ d
   pub no_run : (past : Past) (p : RgbaPixel) (c : Chunk) → Choice past p c → is_run c ≡ false
-  pub gives : (past : Past) (p : RgbaPixel) (c : Chunk) → Choice past p c → pixel_of past c ≡ p
-  pub rgba_first : (past : Past) (r g b a : ℕ) → Choice past (pixel_of past (Rgba r g b a)) (Rgba r g b a)
-      → IsFirst past (pixel_of past (Rgba r g b a)) (Rgba r g b a)
+  pub gives : (past : Past) (p : RgbaPixel) (c : Chunk) → Choice past p c → pixel_after past c ≡ p
+  pub rgba_first : (past : Past) (r g b a : ℕ) → Choice past (pixel_after past (Rgba r g b a)) (Rgba r g b a)
+      → IsFirst past (pixel_after past (Rgba r g b a)) (Rgba r g b a)

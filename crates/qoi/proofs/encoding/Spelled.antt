@@ -3,7 +3,7 @@ use Rattle.std.proofs.Common.{◌≡◌, ◌≢◌, ⊎_elim, ℕ, ◌+◌, ◌-
 use Rattle.std.proofs.lemmas.Bool.{cases_lt}
 use Rattle.qoi.specs.declared.chunk.Chunk.{Chunk}
 use Rattle.qoi.specs.declared.chunk.Chunk.TheVariants.{Place, Diff, Luma, Run, Rgb, Rgba}
-use Rattle.qoi.specs.Qoi.{RgbaPixel, IsPixel, Past, previous, IsChunk, pixel_of, after_diff, after_luma}
+use Rattle.qoi.specs.Qoi.{RgbaPixel, IsPixel, Past, previous, IsChunk, pixel_after, after_diff, after_luma}
 use Rattle.qoi.specs.Written.{rank, IsFirst}
 use Rattle.qoi.proofs.format.SamePixels.{same_pixel}
 
@@ -129,7 +129,7 @@ fits_from_luma q p d e iq he s =
     }
 
 -- Diff, Luma and Rgb keep alpha
-alpha_stays : (past : Past) (p : RgbaPixel) (c : Chunk) → 0 < rank c → rank c < 4 → pixel_of past c ≡ p → p.a ≡ (previous past).a
+alpha_stays : (past : Past) (p : RgbaPixel) (c : Chunk) → 0 < rank c → rank c < 4 → pixel_after past c ≡ p → p.a ≡ (previous past).a
 unfolding after_diff after_luma
 alpha_stays past p (Diff d) h l e = sym (ap (λ x. x.a) e)
 alpha_stays past p (Luma d d2) h l e = sym (ap (λ x. x.a) e)
@@ -162,7 +162,7 @@ first_luma past p iq ip alpha unfit f = record {
   first = least;
 }
   where
-    least : (d : Chunk) → IsChunk d → 0 < rank d → pixel_of past d ≡ p → 2 ≤ rank d
+    least : (d : Chunk) → IsChunk d → 0 < rank d → pixel_after past d ≡ p → 2 ≤ rank d
     least (Diff d) i s e = absurd (unfit (fits_from_diff (previous past) p d iq e))
     least (Place j) i s e = absurd (omega arith)
     least (Run n) i s e = absurd (omega arith)
@@ -179,7 +179,7 @@ first_rgb past p iq alpha unfit wide = record {
   first = least;
 }
   where
-    least : (d : Chunk) → IsChunk d → 0 < rank d → pixel_of past d ≡ p → 3 ≤ rank d
+    least : (d : Chunk) → IsChunk d → 0 < rank d → pixel_after past d ≡ p → 3 ≤ rank d
     least (Diff d) i s e = absurd (unfit (fits_from_diff (previous past) p d iq e))
     least (Place j) i s e = absurd (omega arith)
     least (Run n) i s e = absurd (omega arith)

@@ -5,7 +5,7 @@ use Rattle.qoi.specs.declared.chunk.Chunk.{Chunk}
 use Rattle.qoi.specs.declared.chunk.Chunk.TheVariants.{Place, Diff, Luma, Run, Rgb, Rgba}
 use Rattle.qoi.specs.declared.types.Style.{Style}
 use Rattle.qoi.specs.declared.types.Style.TheVariants.{Reference, Places, Tight}
-use Rattle.qoi.specs.Qoi.{RgbaPixel, Past, previous, hash, pixel_of, then_chunk}
+use Rattle.qoi.specs.Qoi.{RgbaPixel, Past, previous, hash, pixel_after, then_chunk}
 use Rattle.qoi.specs.Runs.{last_by, runs_by}
 use Rattle.qoi.specs.Styles.{is_run, fresh_next, has_pixel, some_fresh, names, place_for, placed_after, in_style}
 use Rattle.qoi.specs.inner.CoderState.{StyleAfter, rest_of_one, last_chunk}
@@ -144,7 +144,7 @@ styled_runs Places past before n left one is =
 
 -- the chunk of a fresh pixel, and what follows it
 pub styled_chunk : (style : Style) (past : Past) (before : Option Chunk) (p : RgbaPixel) (c : Chunk) (left : List Chunk) → is_run c ≡ false
-    → pixel_of past c ≡ p
+    → pixel_after past c ≡ p
     → styled style past before (c ∷ left) ≡ c ∷ styled style (p ∷ past) (Some c) left
 styled_chunk Reference past before p c left other gives = refl
 styled_chunk Tight past before p c left other gives = refl

@@ -4,7 +4,7 @@ use Rattle.std.specs.List.{find, list_any, range_with_len}
 use Rattle.std.proofs.lemmas.Bool.{cases_eq, cond-true, cond-false, ne_eqb, true≢false, or_parts}
 use Rattle.qoi.specs.declared.chunk.Chunk.{Chunk}
 use Rattle.qoi.specs.declared.chunk.Chunk.TheVariants.{Place, Rgba}
-use Rattle.qoi.specs.Qoi.{RgbaPixel, IsPixel, Past, pixel_eq, blank, positions, previous, seen, hash, IsChunk, pixel_of}
+use Rattle.qoi.specs.Qoi.{RgbaPixel, IsPixel, Past, pixel_eq, blank, positions, previous, seen, hash, IsChunk, pixel_after}
 use Rattle.qoi.specs.Written.{IsFirst}
 use Rattle.qoi.specs.Styles.{is_run, names}
 use Rattle.qoi.specs.Tight.{first_and_fresh, is_unseen, least_unseen, IsTightChoice}
@@ -212,8 +212,8 @@ tight_unique past p c d ic id w v =
     go (Some i) f g = f ∙ sym g
 
 -- it gives the pixel
-tight_gives : (past : Past) (p : RgbaPixel) (c : Chunk) → IsTightChoice past p c → pixel_of past c ≡ p
-tight_gives past p c w = by_tight (λ past p c. pixel_of past c ≡ p) past p c w (λ e. e) (λ i n b e. unseen_blank past i (unseen_found past i e).0 ∙ sym b)
+tight_gives : (past : Past) (p : RgbaPixel) (c : Chunk) → IsTightChoice past p c → pixel_after past c ≡ p
+tight_gives past p c w = by_tight (λ past p c. pixel_after past c ≡ p) past p c w (λ e. e) (λ i n b e. unseen_blank past i (unseen_found past i e).0 ∙ sym b)
     (λ n o f. f.gives)
 
 -- the tight choice has what a choice has to offer
@@ -230,7 +230,7 @@ tight_chooses = record {
     is_rgba (Rgba r g b a) = true
     is_rgba _ = false
 
-    rgba : (past : Past) (r g b a : ℕ) → IsTightChoice past (pixel_of past (Rgba r g b a)) (Rgba r g b a)
-        → IsFirst past (pixel_of past (Rgba r g b a)) (Rgba r g b a)
+    rgba : (past : Past) (r g b a : ℕ) → IsTightChoice past (pixel_after past (Rgba r g b a)) (Rgba r g b a)
+        → IsFirst past (pixel_after past (Rgba r g b a)) (Rgba r g b a)
     rgba past r g b a w = by_tight (λ past p c. is_rgba c ≡ true → IsFirst past p c) past _ _ w (λ _ x. absurd (true≢false (sym x)))
         (λ i n b e x. absurd (true≢false (sym x))) (λ n o f _. f) refl

@@ -5,7 +5,7 @@ use Rattle.std.proofs.lemmas.Bool.{cases_lt, cases_eq}
 use Rattle.std.specs.List.{AllByRecursion}
 use Rattle.qoi.specs.declared.chunk.Chunk.{Chunk}
 use Rattle.qoi.specs.declared.chunk.Chunk.TheVariants.{Place, Diff, Luma, Run, Rgb, Rgba}
-use Rattle.qoi.specs.Qoi.{RgbaPixel, IsPixel, Past, previous, start, hash, IsChunk, pixel_of}
+use Rattle.qoi.specs.Qoi.{RgbaPixel, IsPixel, Past, previous, start, hash, IsChunk, pixel_after}
 use Rattle.qoi.specs.Runs.{runs_by}
 use Rattle.qoi.specs.Written.{noted, rank, IsFirst, IsChoice, WrittenBy}
 use Rattle.qoi.proofs.format.SamePixels.{cases_pixel, hash_below}
@@ -98,8 +98,8 @@ spells_no_place (Rgb r g b) i h = refl
 spells_no_place (Rgba r g b a) i h = refl
 
 -- the chosen chunk of a fresh pixel gives it
-choice_gives : (past : Past) (p : RgbaPixel) (c : Chunk) → IsChoice past p c → pixel_of past c ≡ p
-choice_gives past p c w = elim (cases_pixel (noted past (hash p)) p) as (λ _. pixel_of past c ≡ p) [
+choice_gives : (past : Past) (p : RgbaPixel) (c : Chunk) → IsChoice past p c → pixel_after past c ≡ p
+choice_gives past p c w = elim (cases_pixel (noted past (hash p)) p) as (λ _. pixel_after past c ≡ p) [
   | inl is ↦ rw (w.place is) (noted_seen past p is)
   | inr other ↦ (w.spelled other).gives
 ]

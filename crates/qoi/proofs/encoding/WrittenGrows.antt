@@ -4,7 +4,7 @@ use Rattle.std.proofs.lemmas.List.{reverse-append, reverse-reverse}
 use Rattle.std.specs.List.{AllByRecursion}
 use Rattle.qoi.specs.declared.chunk.Chunk.{Chunk}
 use Rattle.qoi.specs.declared.chunk.Chunk.TheVariants.{Place, Diff, Luma, Run, Rgb, Rgba}
-use Rattle.qoi.specs.Qoi.{RgbaPixel, Past, previous, IsChunk, AreChunks, pixel_of, then_chunks, Each}
+use Rattle.qoi.specs.Qoi.{RgbaPixel, Past, previous, IsChunk, AreChunks, pixel_after, then_chunks, Each}
 use Rattle.qoi.specs.Runs.{last_by, runs_by}
 use Rattle.qoi.specs.Written.{IsAllowedAfter, IsFullBefore, RunsFollowFull, WrittenBy}
 use Rattle.qoi.specs.Styles.{is_run}
@@ -149,7 +149,7 @@ module _ (Choice : Past → RgbaPixel → Chunk → Type 0) where
 
   -- a fresh pixel's chunk is written, and a run may follow
   pub written_fresh : (past : Past) (cs : List Chunk) (p : RgbaPixel) (c : Chunk) → WrittenBy Choice (reverse past) cs → p ≢ previous past → IsChunk c
-      → is_run c ≡ false → pixel_of past c ≡ p → Choice past p c
+      → is_run c ≡ false → pixel_after past c ≡ p → Choice past p c
       → WrittenBy Choice (reverse (p ∷ past)) (cs ++ c ∷ []) × RunMayFollow (cs ++ c ∷ [])
   written_fresh past cs p c w fresh is other gives choice = (
     written_append past (p ∷ past) cs (c ∷ []) w (is, tt) (then_other past c other ∙ ap (λ x. x ∷ past) gives)

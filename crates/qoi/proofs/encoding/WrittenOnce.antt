@@ -3,7 +3,7 @@ use Rattle.std.proofs.Common.{◌≡◌, ◌⊎◌, inl, inr, ℕ, zero, suc, �
 use Rattle.std.proofs.lemmas.List.{append_cancel_left, length-replicate, length-append, replicate-append-replicate}
 use Rattle.qoi.specs.declared.chunk.Chunk.{Chunk}
 use Rattle.qoi.specs.declared.chunk.Chunk.TheVariants.{Place, Diff, Luma, Run, Rgb, Rgba}
-use Rattle.qoi.specs.Qoi.{RgbaPixel, Past, previous, hash, IsChunk, AreChunks, pixel_of, times, then_chunk, after_diff, after_luma, Each}
+use Rattle.qoi.specs.Qoi.{RgbaPixel, Past, previous, hash, IsChunk, AreChunks, pixel_after, times, then_chunk, after_diff, after_luma, Each}
 use Rattle.qoi.specs.Written.{noted, rank, IsFirst, IsChoice, GivesFresh, IsAllowedAfter, IsFullBefore, RunsFollowFull, WrittenBy}
 use Rattle.qoi.proofs.format.SamePixels.{cases_pixel}
 use Rattle.qoi.specs.Styles.{is_run}
@@ -33,7 +33,7 @@ luma_unique q d e x y c k s =
 
 -- of one kind only one chunk gives a pixel
 same_kind : (past : Past) (p : RgbaPixel) (c d : Chunk) → IsChunk c → IsChunk d → 0 < rank c → 0 < rank d → rank c ≤ rank d → rank d ≤ rank c
-    → pixel_of past c ≡ p → pixel_of past d ≡ p → c ≡ d
+    → pixel_after past c ≡ p → pixel_after past d ≡ p → c ≡ d
 same_kind past p (Diff d) (Diff e) ic id rc rd l g s t = ap (λ (n : ℕ). Diff n) (diff_unique (previous past) d e ic.0 ic.1 id.0 id.1 (s ∙ sym t))
 same_kind past p (Luma d e) (Luma x y) ic id rc rd l g s t = luma_unique (previous past) d e x y ic id (s ∙ sym t)
 same_kind past p (Rgb r g b) (Rgb x y z) ic id rc rd l h s t =
@@ -65,7 +65,7 @@ given_some past c cs h e =
     omega arith
 
 -- the first pixel that a chunk other than a run gives
-given_other : (past : Past) (c : Chunk) (cs : List Chunk) → is_run c ≡ false → given past (c ∷ cs) ≡ pixel_of past c ∷ given (then_chunk past c) cs
+given_other : (past : Past) (c : Chunk) (cs : List Chunk) → is_run c ≡ false → given past (c ∷ cs) ≡ pixel_after past c ∷ given (then_chunk past c) cs
 given_other past c cs h = rw (times_other c h) refl
 
 -- the first pixels of equal lists are equal
@@ -136,10 +136,10 @@ module _ (Choice : Past → RgbaPixel → Chunk → Type 0) where
       go c d (inl (m, is)) (inr o) ac ad rc rd fc fd e = absurd (run_first m d ds cs (rw is at ac.0) o (right_other Choice past d o rd.0) (rw is at e))
       go c d (inr o) (inl (n, is)) ac ad rc rd fc fd e = absurd (run_first n c cs ds (rw is at ad.0) o (right_other Choice past c o rc.0) (rw is at (sym e)))
       go c d (inr o) (inr p) ac ad rc rd fc fd e =
-          let s : pixel_of past c ≡ pixel_of past d = same_first _ _ _ _ (sym (given_other past c cs o) ∙ e ∙ given_other past d ds p) in
+          let s : pixel_after past c ≡ pixel_after past d = same_first _ _ _ _ (sym (given_other past c cs o) ∙ e ∙ given_other past d ds p) in
           let x = (right_other Choice past c o rc.0).is_chosen in
           let y = (right_other Choice past d p rd.0).is_chosen in
-          unique past (pixel_of past d) c d ac.0 ad.0 (rw s at x) y
+          unique past (pixel_after past d) c d ac.0 ad.0 (rw s at x) y
 
   -- two lists that give the same are the same
   same_given : (unique : (past : Past) (p : RgbaPixel) (c d : Chunk) → IsChunk c → IsChunk d → Choice past p c → Choice past p d → c ≡ d)
@@ -151,7 +151,7 @@ module _ (Choice : Past → RgbaPixel → Chunk → Type 0) where
   same_given unique past (c ∷ cs) (d ∷ ds) ac ad rc rd fc fd e =
       let h : c ≡ d = same_head unique past c cs d ds ac ad rc rd fc fd e in
       let g : given (then_chunk past c) cs ≡ given (then_chunk past c) ds =
-      append_cancel_left (replicate (times c) (pixel_of past c)) _ _ (e ∙ ap (λ (x : Chunk). given past (x ∷ ds)) (sym h)) in
+      append_cancel_left (replicate (times c) (pixel_after past c)) _ _ (e ∙ ap (λ (x : Chunk). given past (x ∷ ds)) (sym h)) in
       let r : Each (IsAllowedAfter Choice) (then_chunk past c) ds = rw (← h) at rd.1 in
       let s : cs ≡ ds = same_given unique (then_chunk past c) cs ds ac.1 ad.1 rc.1 r fc.1 fd.1 g in
       cc

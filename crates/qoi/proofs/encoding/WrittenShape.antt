@@ -4,7 +4,7 @@ use Rattle.std.proofs.lemmas.List.{reverse-reverse, length-append, length-replic
 use Rattle.std.proofs.lemmas.Bool.{cond_both}
 use Rattle.qoi.specs.declared.chunk.Chunk.{Chunk}
 use Rattle.qoi.specs.declared.chunk.Chunk.TheVariants.{Place, Diff, Luma, Run, Rgb, Rgba}
-use Rattle.qoi.specs.Qoi.{RgbaPixel, Past, previous, start, seen, hash, IsChunk, AreChunks, bytes_of, chunk_bytes, pixel_of, times, then_chunk, then_chunks, meaning, Each, Reaches}
+use Rattle.qoi.specs.Qoi.{RgbaPixel, Past, previous, start, seen, hash, IsChunk, AreChunks, bytes_of, chunk_bytes, pixel_after, times, then_chunk, then_chunks, meaning, Each, Reaches}
 use Rattle.qoi.specs.Raw.{AreOpaque, HasChannels}
 use Rattle.qoi.specs.Written.{noted, IsFirst, IsChoice, IsAllowedAfter, WrittenBy}
 use Rattle.qoi.proofs.format.SamePixels.{cases_pixel, same_pixel}
@@ -55,7 +55,7 @@ opaque_before : (past : Past) (cs : List Chunk) → AreOpaque (then_chunks past 
 opaque_before past cs h = all_back (λ p. p.a ≡ 255) (reverse (given past cs)) past (rw (then_chunks_given past cs) at h)
 
 -- where alpha stays, a pixel isn't spelled out by an Rgba
-no_rgba : (past : Past) (r g b a : ℕ) → IsChunk (Rgba r g b a) → a ≡ (previous past).a → IsFirst past (pixel_of past (Rgba r g b a)) (Rgba r g b a) → ⊥
+no_rgba : (past : Past) (r g b a : ℕ) → IsChunk (Rgba r g b a) → a ≡ (previous past).a → IsFirst past (pixel_after past (Rgba r g b a)) (Rgba r g b a) → ⊥
 no_rgba past r g b a i e f =
     let l = f.first (Rgb r g b) (i.0, i.1, i.2) (omega arith) (same_pixel _ _ refl refl refl (sym e)) in
     omega arith
@@ -65,8 +65,8 @@ pub channels_before : (channels : ℕ) (past : Past) (cs : List Chunk) → HasCh
 channels_before channels past cs (inl e) = inl e
 channels_before channels past cs (inr (e, h)) = inr (e, opaque_before past cs h)
 
-module _ (Choice : Past → RgbaPixel → Chunk → Type 0) (rgba_first : (past : Past) (r g b a : ℕ) → Choice past (pixel_of past (Rgba r g b a)) (Rgba r g b a)
-    → IsFirst past (pixel_of past (Rgba r g b a)) (Rgba r g b a)) where
+module _ (Choice : Past → RgbaPixel → Chunk → Type 0) (rgba_first : (past : Past) (r g b a : ℕ) → Choice past (pixel_after past (Rgba r g b a)) (Rgba r g b a)
+    → IsFirst past (pixel_after past (Rgba r g b a)) (Rgba r g b a)) where
   -- a chunk has at most a byte more than its pixels' raw bytes, for each of them
   pub chunk_fits : (channels : ℕ) (past : Past) (c : Chunk) → IsChunk c → HasChannels (then_chunk past c) channels → IsAllowedAfter Choice past c
       → length (bytes_of c) ≤ times c * channels + times c
@@ -109,10 +109,10 @@ module _ (Choice : Past → RgbaPixel → Chunk → Type 0) (rgba_first : (past 
       back (inr s) = inr (s.0, rw past_is at (all_reverse (λ p. p.a ≡ 255) image s.1))
 
 -- an Rgba that is chosen is the first that spells its pixel out
-pub choice_rgba : (past : Past) (r g b a : ℕ) → IsChoice past (pixel_of past (Rgba r g b a)) (Rgba r g b a)
-    → IsFirst past (pixel_of past (Rgba r g b a)) (Rgba r g b a)
-choice_rgba past r g b a w = elim (cases_pixel (noted past (hash (pixel_of past (Rgba r g b a)))) (pixel_of past (Rgba r g b a))) as
-    (λ _. IsFirst past (pixel_of past (Rgba r g b a)) (Rgba r g b a)) [
+pub choice_rgba : (past : Past) (r g b a : ℕ) → IsChoice past (pixel_after past (Rgba r g b a)) (Rgba r g b a)
+    → IsFirst past (pixel_after past (Rgba r g b a)) (Rgba r g b a)
+choice_rgba past r g b a w = elim (cases_pixel (noted past (hash (pixel_after past (Rgba r g b a)))) (pixel_after past (Rgba r g b a))) as
+    (λ _. IsFirst past (pixel_after past (Rgba r g b a)) (Rgba r g b a)) [
       | inl is ↦ absurd (let e = w.place is in cc)
       | inr n ↦ w.spelled n
     ]

@@ -4,7 +4,7 @@ use Rattle.std.proofs.lemmas.List.{reverse-reverse, reverse-append, length-appen
 use Rattle.std.proofs.lemmas.Bool.{true≢false}
 use Rattle.qoi.specs.declared.chunk.Chunk.{Chunk}
 use Rattle.qoi.specs.declared.chunk.Chunk.TheVariants.{Place, Diff, Luma, Run, Rgb, Rgba}
-use Rattle.qoi.specs.Qoi.{RgbaPixel, Past, previous, IsChunk, pixel_of, times, then_chunk, then_chunks, meaning, Each}
+use Rattle.qoi.specs.Qoi.{RgbaPixel, Past, previous, IsChunk, pixel_after, times, then_chunk, then_chunks, meaning, Each}
 use Rattle.qoi.specs.Written.{GivesFresh, IsAllowedAfter, IsFullBefore}
 use Rattle.qoi.specs.Styles.{is_run}
 
@@ -83,13 +83,13 @@ previous_repeats zero past = refl
 previous_repeats (suc n) past = refl
 
 -- what stands after a chunk other than a run
-pub then_other : (past : Past) (c : Chunk) → is_run c ≡ false → then_chunk past c ≡ pixel_of past c ∷ past
+pub then_other : (past : Past) (c : Chunk) → is_run c ≡ false → then_chunk past c ≡ pixel_after past c ∷ past
 then_other past c h = rw (times_other c h) refl
 
 -- the pixels that the chunks give after these, in order
 abbrev pub given : Past → List Chunk → List RgbaPixel
 given past [] = []
-given past (c ∷ cs) = replicate (times c) (pixel_of past c) ++ given (then_chunk past c) cs
+given past (c ∷ cs) = replicate (times c) (pixel_after past c) ++ given (then_chunk past c) cs
 
 -- one pixel many times is the same in reverse
 pub reverse-replicate : {A : Type 0} (n : ℕ) (a : A) → reverse (replicate n a) ≡ replicate n a

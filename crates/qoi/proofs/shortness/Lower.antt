@@ -4,7 +4,7 @@ use Rattle.std.proofs.lemmas.Bool.{cond_both}
 use Rattle.std.proofs.lemmas.List.{length-append, reverse-append, reverse-reverse}
 use Rattle.qoi.specs.declared.chunk.Chunk.{Chunk}
 use Rattle.qoi.specs.declared.chunk.Chunk.TheVariants.{Place, Diff, Luma, Run, Rgb, Rgba}
-use Rattle.qoi.specs.Qoi.{RgbaPixel, Past, previous, seen, IsChunk, AreChunks, pixel_of, bytes_of, chunk_bytes, then_chunk, then_chunks, meaning, Each}
+use Rattle.qoi.specs.Qoi.{RgbaPixel, Past, previous, seen, IsChunk, AreChunks, pixel_after, bytes_of, chunk_bytes, then_chunk, then_chunks, meaning, Each}
 use Rattle.qoi.specs.Regular.{NamesPixelThere, Regular, Begins}
 use Rattle.qoi.specs.Shortest.{least, trailing_repeats, cost, total_cost, floor}
 use Rattle.qoi.proofs.format.SamePixels.{cases_pixel}
@@ -13,13 +13,13 @@ use Rattle.qoi.proofs.format.ChunkSteps.{cases_run, then_other}
 use Rattle.qoi.proofs.shortness.Costs.{some_diff-from, some_luma-from, some_rgb-from, least_seen, least_diff, least_luma, least_rgb, least_high, cost_fresh, cost_repeat, cost_run}
 
 -- a chunk other than a run is no shorter than the least of its pixel
-pub least_bounds : (past : Past) (c : Chunk) → IsChunk c → NamesPixelThere past c → is_run c ≡ false → least past (pixel_of past c) ≤ length (bytes_of c)
+pub least_bounds : (past : Past) (c : Chunk) → IsChunk c → NamesPixelThere past c → is_run c ≡ false → least past (pixel_after past c) ≤ length (bytes_of c)
 least_bounds past (Place i) k r o = least_seen past (seen past i) (ap (seen past) r)
 least_bounds past (Diff d) k r o = least_diff past _ (some_diff-from (previous past) _ d k refl)
 least_bounds past (Luma d e) k r o = least_luma past _ (some_luma-from (previous past) _ d e k refl)
 least_bounds past (Run n) k r o = absurd (cc)
 least_bounds past (Rgb x y z) k r o = least_rgb past _ (some_rgb-from (previous past) _ refl)
-least_bounds past (Rgba x y z w) k r o = least_high past (pixel_of past (Rgba x y z w))
+least_bounds past (Rgba x y z w) k r o = least_high past (pixel_after past (Rgba x y z w))
 
 -- a chunk has some bytes
 pub bytes_some : (c : Chunk) → 0 < length (bytes_of c)
@@ -36,13 +36,13 @@ cost_front shortest [] past = omega arith
 cost_front shortest (p ∷ more) past = let h = cost_front shortest more past in omega arith
 
 module _ (shortest : Past → RgbaPixel → ℕ) (Allowed : Past → Chunk → Type 0)
-    (bounds : (past : Past) (c : Chunk) → IsChunk c → Allowed past c → is_run c ≡ false → shortest past (pixel_of past c) ≤ length (bytes_of c)) where
+    (bounds : (past : Past) (c : Chunk) → IsChunk c → Allowed past c → is_run c ≡ false → shortest past (pixel_after past c) ≤ length (bytes_of c)) where
   -- a pixel costs no more than a chunk that gives it
-  cost_other : (past : Past) (c : Chunk) → IsChunk c → Allowed past c → is_run c ≡ false → cost shortest past (pixel_of past c) ≤ length (bytes_of c)
-  cost_other past c k a o = elim (cases_pixel (pixel_of past c) (previous past)) as (λ _. cost shortest past (pixel_of past c) ≤ length (bytes_of c)) [
-    | inl e ↦ rw (cost_repeat shortest past (pixel_of past c) e)
+  cost_other : (past : Past) (c : Chunk) → IsChunk c → Allowed past c → is_run c ≡ false → cost shortest past (pixel_after past c) ≤ length (bytes_of c)
+  cost_other past c k a o = elim (cases_pixel (pixel_after past c) (previous past)) as (λ _. cost shortest past (pixel_after past c) ≤ length (bytes_of c)) [
+    | inl e ↦ rw (cost_repeat shortest past (pixel_after past c) e)
         (cond_both (eqb (trailing_repeats past % 62) 0) 1 0 (λ x. x ≤ length (bytes_of c)) (λ _. bytes_some c) (λ _. omega arith))
-    | inr n ↦ rw (cost_fresh shortest past (pixel_of past c) n) (bounds past c k a o)
+    | inr n ↦ rw (cost_fresh shortest past (pixel_after past c) n) (bounds past c k a o)
   ]
 
   -- the pixels that a chunk gives cost no more than it

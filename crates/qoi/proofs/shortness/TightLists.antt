@@ -3,7 +3,7 @@ use Rattle.std.proofs.Common.{◌≡◌, ◌≢◌, ◌⊎◌, inl, inr, ℕ, �
 use Rattle.std.proofs.lemmas.Bool.{cond-true, cond-false, cond_both, and_from}
 use Rattle.qoi.specs.declared.chunk.Chunk.{Chunk}
 use Rattle.qoi.specs.declared.chunk.Chunk.TheVariants.{Place, Diff, Luma, Run, Rgb, Rgba}
-use Rattle.qoi.specs.Qoi.{RgbaPixel, Past, pixel_eq, blank, previous, seen, hash, IsChunk, AreChunks, pixel_of, bytes_of, chunk_bytes, then_chunk, meaning, Each}
+use Rattle.qoi.specs.Qoi.{RgbaPixel, Past, pixel_eq, blank, previous, seen, hash, IsChunk, AreChunks, pixel_after, bytes_of, chunk_bytes, then_chunk, meaning, Each}
 use Rattle.qoi.specs.Raw.{HasChannels}
 use Rattle.qoi.specs.Regular.{Begins}
 use Rattle.qoi.specs.Shortest.{least, cost, total_cost, floor}
@@ -42,17 +42,17 @@ least0_same past p other = go (cases_pixel p blank)
     go (inr n) = cond-false _ 1 (least past p) (ap (λ t. t && is_some (least_unseen past)) (pixel_eq-ne p blank n))
 
 -- a chunk other than a run is no shorter than its pixel costs
-least0_bounds : (past : Past) (c : Chunk) → IsChunk c → Unit {0} → is_run c ≡ false → least0 past (pixel_of past c) ≤ length (bytes_of c)
+least0_bounds : (past : Past) (c : Chunk) → IsChunk c → Unit {0} → is_run c ≡ false → least0 past (pixel_after past c) ≤ length (bytes_of c)
 least0_bounds past (Place i) k _ o = go (unseen_or past i)
   where
     go : (is_unseen past i ≡ true) ⊎ (hash (seen past i) ≡ i) → least0 past (seen past i) ≤ 1
     go (inl e) = let h = least0_unseen past (seen past i) (unseen_blank past i e) (unseen_some past i k e) in omega arith
     go (inr h) = let a = least0_high past (seen past i) in let b = least_seen past (seen past i) (ap (seen past) h) in omega arith
-least0_bounds past (Diff d) k _ o = let a = least0_high past (pixel_of past (Diff d)) in let b = least_bounds past (Diff d) k tt o in omega arith
-least0_bounds past (Luma d e) k _ o = let a = least0_high past (pixel_of past (Luma d e)) in let b = least_bounds past (Luma d e) k tt o in omega arith
+least0_bounds past (Diff d) k _ o = let a = least0_high past (pixel_after past (Diff d)) in let b = least_bounds past (Diff d) k tt o in omega arith
+least0_bounds past (Luma d e) k _ o = let a = least0_high past (pixel_after past (Luma d e)) in let b = least_bounds past (Luma d e) k tt o in omega arith
 least0_bounds past (Run n) k _ o = absurd (let x = o in cc)
-least0_bounds past (Rgb x y z) k _ o = let a = least0_high past (pixel_of past (Rgb x y z)) in let b = least_bounds past (Rgb x y z) k tt o in omega arith
-least0_bounds past (Rgba x y z w) k _ o = let a = least0_high past (pixel_of past (Rgba x y z w)) in let b = least_bounds past (Rgba x y z w) k tt o in
+least0_bounds past (Rgb x y z) k _ o = let a = least0_high past (pixel_after past (Rgb x y z)) in let b = least_bounds past (Rgb x y z) k tt o in omega arith
+least0_bounds past (Rgba x y z w) k _ o = let a = least0_high past (pixel_after past (Rgba x y z w)) in let b = least_bounds past (Rgba x y z w) k tt o in
     omega arith
 
 -- each list is allowed
@@ -66,12 +66,12 @@ lower0 image cs k b = lower_by least0 (λ past c. Unit {0}) least0_bounds image 
 
 -- a fresh pixel's chunk is no longer than it costs
 tight_cost : (past : Past) (c : Chunk) → IsChunk c → HasChannels (then_chunk past c) 4 → is_run c ≡ false → GivesFresh IsTightChoice past c
-    → IsAllowedAfter IsTightChoice past c → length (bytes_of c) + 0 ≤ least0 past (pixel_of past c) + 0
+    → IsAllowedAfter IsTightChoice past c → length (bytes_of c) + 0 ≤ least0 past (pixel_after past c) + 0
 tight_cost past c k h o g r =
-    by_tight (λ past p c. IsChunk c → length (bytes_of c) + 0 ≤ least0 past p + 0) past (pixel_of past c) c g.is_chosen
-    (λ e _. let l = least0_low past (pixel_of past c) in omega arith)
-    (λ i n b e _. let l = least0_low past (pixel_of past c) in omega arith)
-    (λ n other f i. let l = first_least past (pixel_of past c) c i f n in let s = least0_same past (pixel_of past c) other in omega arith)
+    by_tight (λ past p c. IsChunk c → length (bytes_of c) + 0 ≤ least0 past p + 0) past (pixel_after past c) c g.is_chosen
+    (λ e _. let l = least0_low past (pixel_after past c) in omega arith)
+    (λ i n b e _. let l = least0_low past (pixel_after past c) in omega arith)
+    (λ n other f i. let l = first_least past (pixel_after past c) c i f n in let s = least0_same past (pixel_after past c) other in omega arith)
     k
 
 -- so the tight list has just as many bytes

@@ -4,7 +4,7 @@ use Rattle.std.proofs.lemmas.Bool.{false_from_ne_true}
 use Rattle.std.proofs.lemmas.List.{length-append, reverse-reverse}
 use Rattle.qoi.specs.declared.chunk.Chunk.{Chunk}
 use Rattle.qoi.specs.declared.chunk.Chunk.TheVariants.{Place, Diff, Luma, Run, Rgb, Rgba}
-use Rattle.qoi.specs.Qoi.{RgbaPixel, Past, previous, seen, hash, IsChunk, AreChunks, pixel_of, bytes_of, chunk_bytes, then_chunk, then_chunks, Each}
+use Rattle.qoi.specs.Qoi.{RgbaPixel, Past, previous, seen, hash, IsChunk, AreChunks, pixel_after, bytes_of, chunk_bytes, then_chunk, then_chunks, Each}
 use Rattle.qoi.specs.Raw.{HasChannels}
 use Rattle.qoi.specs.Written.{rank, noted, IsFirst, IsChoice, GivesFresh, IsAllowedAfter, IsFullBefore, RunsFollowFull, WrittenBy, Written}
 use Rattle.qoi.specs.Shortest.{some_diff, some_luma, some_rgb, least, trailing_repeats, total_cost, floor, slack}
@@ -50,32 +50,32 @@ first_least past p c i f n = let s = f.spells in absurd (omega arith)
 
 -- a fresh pixel's chosen chunk is no longer than the least, but for what the slack grows by
 fresh_cost : (channels : ℕ) (past : Past) (c : Chunk) → IsChunk c → HasChannels (then_chunk past c) channels → is_run c ≡ false → GivesFresh IsChoice past c
-    → IsAllowedAfter IsChoice past c → length (bytes_of c) + slack_at channels past ≤ least past (pixel_of past c) + slack_at channels (pixel_of past c ∷ past)
-fresh_cost channels past c i h o g r = go (cases_pixel (noted past (hash (pixel_of past c))) (pixel_of past c))
-    (cases_pixel (seen past (hash (pixel_of past c))) (pixel_of past c))
+    → IsAllowedAfter IsChoice past c → length (bytes_of c) + slack_at channels past ≤ least past (pixel_after past c) + slack_at channels (pixel_after past c ∷ past)
+fresh_cost channels past c i h o g r = go (cases_pixel (noted past (hash (pixel_after past c))) (pixel_after past c))
+    (cases_pixel (seen past (hash (pixel_after past c))) (pixel_after past c))
   where
-    low : 1 ≤ least past (pixel_of past c)
-    low = least_low past (pixel_of past c)
+    low : 1 ≤ least past (pixel_after past c)
+    low = least_low past (pixel_after past c)
 
-    grows : slack_at channels past ≤ slack_at channels (pixel_of past c ∷ past)
-    grows = slack_more channels past (pixel_of past c)
+    grows : slack_at channels past ≤ slack_at channels (pixel_after past c ∷ past)
+    grows = slack_more channels past (pixel_after past c)
 
     one : (d : Chunk) (j : ℕ) → d ≡ Place j → length (bytes_of d) ≡ 1
     one d j e = rw e refl
 
-    go : (noted past (hash (pixel_of past c)) ≡ pixel_of past c) ⊎ (noted past (hash (pixel_of past c)) ≢ pixel_of past c)
-        → (seen past (hash (pixel_of past c)) ≡ pixel_of past c) ⊎ (seen past (hash (pixel_of past c)) ≢ pixel_of past c)
-        → length (bytes_of c) + slack_at channels past ≤ least past (pixel_of past c) + slack_at channels (pixel_of past c ∷ past)
+    go : (noted past (hash (pixel_after past c)) ≡ pixel_after past c) ⊎ (noted past (hash (pixel_after past c)) ≢ pixel_after past c)
+        → (seen past (hash (pixel_after past c)) ≡ pixel_after past c) ⊎ (seen past (hash (pixel_after past c)) ≢ pixel_after past c)
+        → length (bytes_of c) + slack_at channels past ≤ least past (pixel_after past c) + slack_at channels (pixel_after past c ∷ past)
     go (inl e) s = let l = one c _ (g.is_chosen.place e) in let a = low in let b = grows in omega arith
     go (inr n) (inl s) =
-        let x = slack_grows channels past (pixel_of past c) g.is_fresh n s in
+        let x = slack_grows channels past (pixel_after past c) g.is_fresh n s in
         let f = chunk_fits IsChoice choice_rgba channels past c i h r in
         let t = times_other c o in
         let f1 : length (bytes_of c) ≤ 1 * channels + 1 = rw t at f in
         let a = low in
         omega arith
     go (inr n) (inr u) =
-        let f = first_least past (pixel_of past c) c i (g.is_chosen.spelled n) u in
+        let f = first_least past (pixel_after past c) c i (g.is_chosen.spelled n) u in
         let b = grows in
         omega arith
 
@@ -87,7 +87,7 @@ Aligned past _ = Unit {0}
 module _ (shortest : Past → RgbaPixel → ℕ) (Choice : Past → RgbaPixel → Chunk → Type 0) (extra : Past → ℕ)
     (extra_more : (past : Past) (p : RgbaPixel) → extra past ≤ extra (p ∷ past)) (channels : ℕ)
     (fresh_fits : (past : Past) (c : Chunk) → IsChunk c → HasChannels (then_chunk past c) channels → is_run c ≡ false → GivesFresh Choice past c
-    → IsAllowedAfter Choice past c → length (bytes_of c) + extra past ≤ shortest past (pixel_of past c) + extra (pixel_of past c ∷ past)) where
+    → IsAllowedAfter Choice past c → length (bytes_of c) + extra past ≤ shortest past (pixel_after past c) + extra (pixel_after past c ∷ past)) where
   -- what is extra only grows in a run
   extra_run : (past : Past) (p : RgbaPixel) (k : ℕ) → extra past ≤ extra (replicate k p ++ past)
   extra_run past p zero = omega arith
@@ -110,7 +110,7 @@ module _ (shortest : Past → RgbaPixel → ℕ) (Choice : Past → RgbaPixel �
   other_fits past c i h o r =
       let g = right_other Choice past c o r in
       let f = fresh_fits past c i h o g r in
-      let e = cost_fresh shortest past (pixel_of past c) g.is_fresh in
+      let e = cost_fresh shortest past (pixel_after past c) g.is_fresh in
       rw (then_other past c o) (omega arith)
 
   -- a chunk costs no more than its pixels and what is extra

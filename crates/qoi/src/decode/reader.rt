@@ -61,7 +61,7 @@ pub trait Reader: Sized {
             × (self.new ≡ self.old) × (out.new ≡ out.old) };
 
     /// The bytes of a reader in memory are stated.
-    ghost told: { (reader : Self) → in_memory ≡ true → IsSome (ahead reader) };
+    ghost stated: { (reader : Self) → in_memory ≡ true → IsSome (ahead reader) };
 }
 
 /// Bytes in memory, from which decoding takes at the front. A contract sees the bytes that are left.
@@ -97,7 +97,7 @@ impl<'a> Reader for Bytes<'a> {
 
     ghost in_memory = { true };
 
-    ghost told = { λ _ _. refl };
+    ghost stated = { λ _ _. refl };
 
     fn decode_header(&mut self) -> Result<Header> {
         let header = Header::decode(self.0)?;
@@ -125,7 +125,7 @@ impl<R: Read> Reader for R {
 
     ghost in_memory = { false };
 
-    ghost told = { λ _ no. cc no };
+    ghost stated = { λ _ no. cc no };
 
     fn decode_header(&mut self) -> Result<Header> {
         let mut bytes = [0; QOI_HEADER_SIZE];

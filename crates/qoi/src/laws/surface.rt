@@ -8,7 +8,7 @@ ghost use Rattle.qoi.specs.declared.types.Channels.{Channels};
 ghost use Rattle.qoi.specs.declared.types.ColorSpace.{ColorSpace};
 ghost use Rattle.qoi.specs.declared.types.Style.{Style};
 ghost use Rattle.qoi.specs.declared.chunk.Chunk.{Chunk};
-ghost use Rattle.qoi.specs.Qoi.{pixel_of, Past, previous, rgba, channels_number, colorspace_number};
+ghost use Rattle.qoi.specs.Qoi.{pixel_after, Past, previous, rgba, channels_number, colorspace_number};
 ghost use Rattle.qoi.specs.Raw.{IsChannels};
 
 use crate::chunk::Chunk;
@@ -98,9 +98,9 @@ pub fn chunks_compare()
 pub fn pixels_follow_chunks()
     ensures rgb_chunk { (px : List ℕ) (past : Past) (r g b : ℕ) → IsChannels (length px)
         → previous past ≡ rgba px
-        → rgba (r ∷ g ∷ b ∷ drop 3 px) ≡ pixel_of past (Chunk.Rgb r g b) }
+        → rgba (r ∷ g ∷ b ∷ drop 3 px) ≡ pixel_after past (Chunk.Rgb r g b) }
     ensures rgba_chunk { (past : Past) (r g b a : ℕ)
-        → rgba (take 4 (r ∷ g ∷ b ∷ a ∷ [])) ≡ pixel_of past (Chunk.Rgba r g b a) }
+        → rgba (take 4 (r ∷ g ∷ b ∷ a ∷ [])) ≡ pixel_after past (Chunk.Rgba r g b a) }
     ensures opaque { (px : List ℕ) → IsChannels (length px)
         → rgba (take 4 (px ++ 255 ∷ [])) ≡ rgba px }
 {}

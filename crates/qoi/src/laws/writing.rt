@@ -1,6 +1,6 @@
 //! Laws of the chunk list that is written for an image. They compute whole images and files, so they
 //! import types and variants beside the definitions.
-ghost use Rattle.std.specs.Prelude.{◌≡◌, ◌≢◌, ◌↔◌, ℕ, ◌+◌, ◌*◌, ◌/◌, ◌<◌, ◌≤◌, List, [], ◌∷◌, ◌++◌, length, replicate};
+ghost use Rattle.std.specs.Prelude.{◌≡◌, ◌≢◌, ◌↔◌, ℕ, ◌+◌, ◌-◌, ◌*◌, ◌/◌, ◌<◌, ◌≤◌, List, [], ◌∷◌, ◌++◌, length, replicate};
 ghost use Rattle.std.specs.List.{AllByRecursion};
 ghost use Rattle.qoi.specs.declared.chunk.Chunk.{Chunk};
 ghost use Rattle.qoi.specs.declared.types.Channels.{Channels};
@@ -8,7 +8,7 @@ ghost use Rattle.qoi.specs.declared.types.ColorSpace.{ColorSpace};
 ghost use Rattle.qoi.specs.declared.types.Style.{Style};
 ghost use Rattle.qoi.specs.declared.types.Style.TheVariants.{Reference, Places, Tight};
 ghost use Rattle.qoi.specs.declared.chunk.Chunk.TheVariants.{Place, Run, Rgb, Rgba};
-ghost use Rattle.qoi.specs.Qoi.{RgbaPixel, IsPixel, Past, blank, pixel, previous, seen, AreChunks, chunk_bytes, file, Reaches, meaning};
+ghost use Rattle.qoi.specs.Qoi.{RgbaPixel, IsPixel, Past, run_max, blank, pixel, previous, seen, AreChunks, chunk_bytes, file, Reaches, meaning};
 ghost use Rattle.qoi.specs.Encoded.{max_len};
 ghost use Rattle.qoi.specs.Raw.{IsChannels, output, pixels_of, HasChannels};
 ghost use Rattle.qoi.specs.Regular.{Begins, Covers, Regular};
@@ -171,7 +171,7 @@ pub fn tight_examples()
 pub fn group_cost()
     ensures { (shortest : Past → RgbaPixel → ℕ) (past : Past) (n : ℕ) → trailing_repeats past ≡ 0
         → total_cost shortest (replicate n (previous past) ++ past)
-        ≡ total_cost shortest past + (n + 61) / 62 }
+        ≡ total_cost shortest past + (n + (run_max - 1)) / run_max }
 {}
 
 /// The floor and the slack of a few images.
