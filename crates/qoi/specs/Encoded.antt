@@ -29,7 +29,7 @@ max_len width height channels = min (header_size + width * height * channels + w
 abbrev pub max_file_len : Header → ℕ
 max_file_len h = max_len h.width h.height (channels_number h.channels)
 
--- a length that a file with this header can have: header, a byte and end marker at least, and the greatest length at most
+-- n is at least the bytes of header, one chunk byte and end marker, and at most `max_file_len`
 abbrev pub IsFileLength : Header → ℕ → Type 0
 IsFileLength h n = (header_size + 1 + marker_size ≤ n) × (n ≤ max_file_len h)
 
@@ -60,8 +60,9 @@ pub record IsEncoded (Lists : List RgbaPixel → List Chunk → Type 0) (h : Hea
   pub written : Lists (image_pixels h raw) cs
   pub bytes_are : bytes ≡ file h cs
 
--- The file of the image, where `Lists` says which lists are written for an image: a valid header and as many raw bytes
--- as it says; there is one file, it fits, it comes back whatever follows it, and no two neighbours of its list name one
+-- The file of the image, where `Lists` says which lists are written for an image: the header is valid, and there are as
+-- many raw bytes as it says; there is one file, of at least 23 bytes and at most `max_file_len`; it comes back whatever
+-- follows it; another color space changes its one byte alone; and no two neighbouring chunks of its list name the same
 -- index position.
 pub record IsFileBy (Lists : List RgbaPixel → List Chunk → Type 0) (h : Header) (raw bytes : List ℕ) : Type 0 where
   pub valid : IsValid h

@@ -3,7 +3,7 @@ use Rattle.std.specs.Prelude.{◌≡◌, ◌⊎◌, Bool, true, false}
 use Rattle.qoi.specs.declared.error.Error.{Error}
 use Rattle.qoi.specs.declared.error.Error.TheVariants.{UnexpectedBufferEnd, InvalidPadding, IoError}
 
--- a fault of the reader or the writer
+-- an i/o error: a fault of the reader or the writer, an early end, or a write that took no byte
 abbrev pub IsIoError : Error → Type 0
 IsIoError (IoError e) = Unit {0}
 IsIoError _ = ⊥

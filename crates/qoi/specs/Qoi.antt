@@ -164,7 +164,7 @@ abbrev pub previous : Past → RgbaPixel
 previous [] = start
 previous (p ∷ past) = p
 
--- what an index position holds: the last pixel seen whose position it is
+-- what an index position holds: the last pixel seen whose position it is, or transparent black where there is none
 abbrev pub seen : Past → ℕ → RgbaPixel
 seen [] i = blank
 seen (p ∷ past) i = if hash p == i then p else seen past i

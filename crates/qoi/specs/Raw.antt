@@ -50,11 +50,11 @@ byte_count h channels = pixel_count h * channels
 abbrev pub image_byte_count : Header → ℕ
 image_byte_count h = byte_count h (channels_number h.channels)
 
--- an image's bytes are so many, and at least those of one pixel
+-- there are n bytes, and at least three
 abbrev pub HasImageLength : ℕ → List ℕ → Type 0
 HasImageLength n bytes = (length bytes ≡ n) × (3 ≤ length bytes)
 
--- the same, or the greatest usize if that is less; of a valid header it never is
+-- `image_byte_count`, or the greatest usize if that is less; of a valid header it never is
 abbrev pub capped_byte_count : Header → ℕ
 capped_byte_count h = min (pixel_count h * channels_number h.channels) (2 ^ 64 - 1)
 

@@ -8,7 +8,8 @@ use Rattle.qoi.specs.Raw.{output}
 use Rattle.qoi.specs.Verdicts.{IsWhole}
 use Rattle.qoi.specs.DecoderState.{DecoderState}
 
--- the bytes are whole for the header, then comes the rest, and these are the pixels in the channels
+-- the bytes are chunks that reach the header's pixels, the end marker and then the rest, and `out` are these pixels in
+-- the channels
 pub record IsImage (channels : Channels) (bytes : List ℕ) (h : Header) (rest out : List ℕ) : Type 0 where
   pub cs : List Chunk
   pub whole : IsWhole (pixel_count h) bytes cs rest
@@ -19,8 +20,8 @@ pub record IsImage (channels : Channels) (bytes : List ℕ) (h : Header) (rest o
 unfoldable pub HasImage : Channels → List ℕ → Header → List ℕ → Type 0
 HasImage channels bytes h out = (rest : List ℕ) × IsImage channels bytes h rest out
 
--- the bytes are whole for the decoder's header, then comes the rest, and the raw bytes are the pixels in the decoder's
--- channels
+-- the bytes are chunks that reach the pixels of the decoder's header, the end marker and then the rest, and `raw` are
+-- these pixels in the decoder's channels
 unfoldable pub IsImageFor : {R : Type 0} → DecoderState R → List ℕ → List ℕ → List ℕ → Type 0
 IsImageFor d bytes rest raw = IsImage d.channels bytes d.header rest raw
 

@@ -32,8 +32,8 @@ abbrev pub names : Option Chunk → ℕ → Bool
 names (Some (Place j)) i = j == i
 names _ _ = false
 
--- A run of n is given by the index position of its pixel if n is 1, a fresh pixel comes next, one stands before it, and
--- the chunk before it isn't that position.
+-- A run of n is given by the index position of its pixel if n is 1, a fresh pixel comes next, one stands somewhere before
+-- it, and the chunk before it isn't that position.
 abbrev pub is_placed : Past → Option Chunk → ℕ → List Chunk → Bool
 is_placed past before n cs = n == 1 && fresh_next cs && some_fresh past && not (names before (hash (previous past)))
 

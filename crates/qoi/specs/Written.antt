@@ -9,7 +9,8 @@ abbrev pub fresh : Past → Past
 fresh [] = []
 fresh (p ∷ past) = if pixel_eq p (previous past) then fresh past else p ∷ fresh past
 
--- what is noted at an index position: the last fresh pixel whose position it is
+-- what is noted at an index position: the last fresh pixel whose position it is, or transparent black where there is
+-- none
 abbrev pub noted : Past → ℕ → RgbaPixel
 noted past i = seen (fresh past) i
 

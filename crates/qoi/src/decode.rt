@@ -67,7 +67,8 @@ pub fn decode_to_buf(buf: &mut [u8], data: &[u8]) -> Result<Header>
     ensures followed { (style : Style) (h : Header) (raw bytes rest : List ℕ)
         → IsFileOf style h raw bytes → «data».now ≡ bytes ++ rest
         → length raw ≤ length buf.old → (result ≡ Ok h) × (take (length raw) buf.new ≡ raw) }
-    // `capped_byte_count` is what `n_bytes` returns; of a valid header it is `image_byte_count`.
+    // After a success the buffer has at least the header's `n_bytes`, which is `capped_byte_count`; of a valid
+    // header that is `image_byte_count`.
     ensures room { IfOk result (λ h. capped_byte_count h ≤ length buf.old) }
     // After a valid header cut bytes give `UnexpectedBufferEnd`, and wrong ones `InvalidPadding`.
     ensures cut { (h : Header) → header_of «data».now ≡ Ok h
@@ -94,7 +95,7 @@ pub fn decode_to_vec(alloc: Global, data: &[u8]) -> Result<(Header, Vec<u8>)>
     ensures refused { IfErr result (λ e. RefusesFile «data».now e
         ⊎ ((e ≡ Error.OutOfMemory) × (h : Header) × (header_of «data».now ≡ Ok h)
         × (least_byte_count (pixel_count h) ≤ length (drop header_size «data».now)))) }
-    // So the vector has at most 62 pixels for each byte of the slice.
+    // The image has at most 62 pixels, and the vector 248 bytes, for each byte of the slice.
     ensures per_byte { IfOk result (λ x. (pixel_count x.0 ≤ run_max * length «data».now)
         × (length x.1.items ≤ 4 * run_max * length «data».now)) }
     // Files are accepted, whatever follows them, unless memory runs out.
@@ -345,7 +346,7 @@ impl<R: Reader> Decoder<R> {
         ensures left { (bytes rest raw : List ℕ) → IsImageFor self.old bytes rest raw
             → R.ahead self.old.reader ≡ Some bytes
             → OnOk result (R.ahead self.new.reader ≡ Some rest) }
-        // Only a fault of the reader refuses it.
+        // Only a fault of the reader refuses it, where the buffer is long enough; in memory nothing does.
         ensures faults { (bytes rest raw : List ℕ) → IsImageFor self.old bytes rest raw
             → R.ahead self.old.reader ≡ Some bytes → output_byte_count self.old ≤ length buf.old
             → IfErr result (IsReaderFault R.in_memory) }
@@ -355,8 +356,8 @@ impl<R: Reader> Decoder<R> {
         ensures rest { (bytes : List ℕ) → R.ahead self.old.reader ≡ Some bytes
             → IfOk result (λ size. (rest : List ℕ) × (R.ahead self.new.reader ≡ Some rest)
             × IsImage self.old.channels bytes self.old.header rest (take size buf.new)) }
-        // Where these bytes are an image by this header and in these channels, for whatever reader that was
-        // found, this is it.
+        // Where the bytes ahead begin with an image by this header and in these channels, as `read` of another
+        // decoder may say, a success decodes that image.
         ensures same { (channels : Channels) (h : Header) (bytes raw : List ℕ)
             → HasImage channels bytes h raw → channels ≡ self.old.channels
             → h ≡ self.old.header → R.ahead self.old.reader ≡ Some bytes
@@ -417,7 +418,7 @@ impl<R: Reader> Decoder<R> {
     ///
     /// `OutOfMemory` where the vector's memory isn't found; it is taken before a chunk is read, so
     /// that the decoder is then unchanged. The other refusals are those of `decode_to_buf` but for
-    /// `OutputBufferTooSmall`, and leave the same. Where the bytes ahead are in memory, and too few
+    /// `OutputBufferTooSmall`, and leave the decoder as those do. Where the bytes ahead are in memory, and too few
     /// for so many pixels whatever they are, `UnexpectedBufferEnd` comes before memory is asked for:
     /// each 62 pixels take a byte at least, and the end marker has eight.
     pub fn decode_to_vec(&mut self, alloc: Global) -> Result<Vec<u8>>
@@ -443,7 +444,7 @@ impl<R: Reader> Decoder<R> {
         ensures left { (bytes rest raw : List ℕ) → IsImageFor self.old bytes rest raw
             → R.ahead self.old.reader ≡ Some bytes
             → OnOk result (R.ahead self.new.reader ≡ Some rest) }
-        // Only a fault of the reader refuses it.
+        // Only want of memory and a fault of the reader refuse it; in memory only want of memory does.
         ensures faults { (bytes rest raw : List ℕ) → IsImageFor self.old bytes rest raw
             → R.ahead self.old.reader ≡ Some bytes
             → IfErr result (λ e. (e ≡ Error.OutOfMemory) ⊎ IsReaderFault R.in_memory e) }
@@ -453,8 +454,8 @@ impl<R: Reader> Decoder<R> {
         ensures rest { (bytes : List ℕ) → R.ahead self.old.reader ≡ Some bytes
             → IfOk result (λ out. (rest : List ℕ) × (R.ahead self.new.reader ≡ Some rest)
             × IsImage self.old.channels bytes self.old.header rest out.items) }
-        // Where these bytes are an image by this header and in these channels, for whatever reader that was
-        // found, this is it.
+        // Where the bytes ahead begin with an image by this header and in these channels, as `read` of another
+        // decoder may say, a success decodes that image.
         ensures same { (channels : Channels) (h : Header) (bytes raw : List ℕ)
             → HasImage channels bytes h raw → channels ≡ self.old.channels
             → h ≡ self.old.header → R.ahead self.old.reader ≡ Some bytes

@@ -140,8 +140,8 @@ impl Header {
         self.width as usize * self.height as usize
     }
 
-    /// The raw bytes of such an image, width times height times channels, or the greatest `usize` if
-    /// that is less.
+    /// How many raw bytes such an image has: width times height times channels, or the greatest `usize`
+    /// if that is less.
     pub fn n_bytes(&self) -> usize
         ensures { result ≡ capped_byte_count self.now }
     {

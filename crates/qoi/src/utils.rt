@@ -39,6 +39,8 @@ pub trait Writer: Sized {
     fn capacity(&self) -> usize
         ensures { result ≡ room self.now };
 
+    /// Nothing written relates a writer to itself, two writings compose, and the room falls by the number
+    /// of bytes.
     ghost laws: { WriterLaws wrote room };
 }
 

@@ -51,7 +51,7 @@ impl From<Error> for Fault {
 ///
 /// Refusals come in this order: `Usage` where the words aren't those of a command; a fault of the
 /// input, or want of memory while it is read; a refusal of the library; a fault of the output. Until
-/// the answer is known nothing is written; after a fault of the output a beginning of it was.
+/// the answer is known nothing is written; after a fault of the output a beginning of the answer was.
 pub fn run<R: Read, W: Write>(
     alloc: Global,
     words: &[String],

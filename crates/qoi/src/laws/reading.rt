@@ -43,7 +43,7 @@ pub fn verdict_is_some()
 {}
 
 /// A valid header's fourteen bytes are read as it, whatever follows them; and bytes that are read as a
-/// header are its own, and it is valid.
+/// header begin with its own, and it is valid.
 pub fn header_both_ways()
     ensures size { (h : Header) → length (header_bytes h) ≡ header_size }
     ensures read { (h : Header) (rest : List ℕ) → IsValid h → header_of (header_bytes h ++ rest) ≡ Ok h }
