@@ -35,7 +35,8 @@ fn encode_image<W: Writer>(buf: &mut W, style: Style, header: &Header, data: &[u
         × IsFileOf style header.now «data».now bytes
         × (n ≡ length bytes) × W.wrote buf.old bytes buf.new) }
     ensures refused { IfErr result (λ e. W.IsFault e × (bytes : List ℕ)
-        × IsFileOf style header.now «data».now bytes × WroteBeginning W.wrote buf.old bytes buf.new) }
+        × IsFileOf style header.now «data».now bytes
+        × WroteBeginning W.wrote buf.old bytes buf.new) }
 {
     let room = buf.capacity();
     let mut piece = Piece::new();

@@ -226,7 +226,8 @@ impl<const N: usize> Pixel<N> {
         ensures written { OnOk result ((c : Chunk) × Spells self.now px_prev.entry c
             × W.wrote buf.old (bytes_of c) buf.new) }
         ensures refused { IfErr result (λ e. W.IsFault e × (c : Chunk)
-            × Spells self.now px_prev.entry c × WroteBeginning W.wrote buf.old (bytes_of c) buf.new) }
+            × Spells self.now px_prev.entry c
+            × WroteBeginning W.wrote buf.old (bytes_of c) buf.new) }
     {
         let quad = Quad::alone::<N>(self.packed(), px_prev.packed());
         let mut bytes = [0; 8];

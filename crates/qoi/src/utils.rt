@@ -33,7 +33,8 @@ pub trait Writer: Sized {
     fn write_many(&mut self, v: &[u8]) -> Result<()>
         requires { length v.now ≤ room self.old }
         ensures written { OnOk result (wrote self.old v.now self.new) }
-        ensures refused { IfErr result (λ e. IsFault e × WroteBeginning wrote self.old v.now self.new) };
+        ensures refused { IfErr result (λ e. IsFault e
+            × WroteBeginning wrote self.old v.now self.new) };
 
     /// How many bytes can still be written.
     fn capacity(&self) -> usize

@@ -46,7 +46,8 @@ pub fn verdict_is_some()
 /// header begin with its own, and it is valid.
 pub fn header_both_ways()
     ensures size { (h : Header) → length (header_bytes h) ≡ header_size }
-    ensures read { (h : Header) (rest : List ℕ) → IsValid h → header_of (header_bytes h ++ rest) ≡ Ok h }
+    ensures read { (h : Header) (rest : List ℕ) → IsValid h
+        → header_of (header_bytes h ++ rest) ≡ Ok h }
     ensures only { (bytes : List ℕ) (h : Header) → AreBytes bytes → header_of bytes ≡ Ok h
         → (bytes ≡ header_bytes h ++ drop header_size bytes) × IsValid h }
 {}
