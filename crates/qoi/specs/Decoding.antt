@@ -90,7 +90,8 @@ ReadsHeader false old new (Err e) = (taken : List ℕ) × Consumes old new taken
 abbrev pub TakesHeader : Option (List ℕ) → Option (List ℕ) → Header → Type 0
 TakesHeader old new h = ReadsHeader false old new (Ok h)
 
--- a stream's header was refused so, by some bytes that were taken; what is left of the stream isn't said
+-- why a stream's header is refused: fourteen bytes were taken, whose verdict is e; or fewer were, and e is an i/o error.
+-- What is left of the stream isn't said.
 abbrev pub RefusesStreamHeader : Option (List ℕ) → Error → Type 0
 RefusesStreamHeader old e = (new : Option (List ℕ)) × ReadsHeader false old new (Err e)
 

@@ -340,7 +340,7 @@ impl<R: Reader> Decoder<R> {
             → R.ahead self.old.reader ≡ Some bytes
             → IsWhole (pixel_count self.old.header) bytes cs rest
             → output_byte_count self.old ≤ length buf.old → IsOk result }
-        // The image that stands ahead is decoded, and what follows it is left.
+        // Where the bytes ahead are an image and then a rest, a success gives the image and leaves the rest.
         ensures image { (bytes rest raw : List ℕ) → IsImageFor self.old bytes rest raw
             → R.ahead self.old.reader ≡ Some bytes → IfOk result (λ size. take size buf.new ≡ raw) }
         ensures left { (bytes rest raw : List ℕ) → IsImageFor self.old bytes rest raw
@@ -438,7 +438,7 @@ impl<R: Reader> Decoder<R> {
             → R.ahead self.old.reader ≡ Some bytes
             → IsWhole (pixel_count self.old.header) bytes cs rest
             → IsOkUnless result Error.OutOfMemory }
-        // The image that stands ahead is decoded, and what follows it is left.
+        // Where the bytes ahead are an image and then a rest, a success gives the image and leaves the rest.
         ensures image { (bytes rest raw : List ℕ) → IsImageFor self.old bytes rest raw
             → R.ahead self.old.reader ≡ Some bytes → IfOk result (λ out. out.items ≡ raw) }
         ensures left { (bytes rest raw : List ℕ) → IsImageFor self.old bytes rest raw

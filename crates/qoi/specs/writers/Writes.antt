@@ -17,7 +17,7 @@ pub record WroteBut {W : Type 0} (wrote : W → List ℕ → W → Type 0) (a : 
   pub split : bytes ≡ front ++ rest
   pub went : wrote a front b
 
--- a beginning of the bytes was written
+-- a beginning of the bytes was written, perhaps none of them or all
 abbrev pub WroteBeginning : {W : Type 0} → (W → List ℕ → W → Type 0) → W → List ℕ → W → Type 0
 WroteBeginning wrote a bytes b = (rest : List ℕ) × WroteBut wrote a bytes rest b
 
