@@ -17,7 +17,8 @@ struct Alphabet {
 #[rattlefmt::skip]
 const ALPHABETS: [Alphabet; 6] = [
     // From the first to the second is a difference, back a luma.
-    Alphabet { channels: Rgb, pixels: [[100, 100, 100, 255], [101, 98, 101, 255], [200, 10, 31, 255]] },
+    Alphabet { channels: Rgb,
+        pixels: [[100, 100, 100, 255], [101, 98, 101, 255], [200, 10, 31, 255]] },
     // From the first to the second alpha changes, to the third it stays.
     Alphabet { channels: Four, pixels: [[10, 20, 30, 40], [10, 20, 30, 104], [11, 20, 30, 40]] },
     // Opaque black, which stands before the first pixel, at the position that it shares.

@@ -79,7 +79,8 @@ pub const REPEAT_AS_PLACE: Written = Written { styles: &[Places],
 /// Opaque black that comes back, in style `Tight`.
 #[rattlefmt::skip]
 pub const BLACK_AS_PLACE: Written = Written { name: "styles", styles: &[Tight], width: 3,
-    chunks: &[0xc0, 0xfe, 0x65, 0x66, 0x67, 0x35], rest: &[0, 0, 0, 101, 102, 103, 0, 0, 0], ..RGB };
+    chunks: &[0xc0, 0xfe, 0x65, 0x66, 0x67, 0x35],
+    rest: &[0, 0, 0, 101, 102, 103, 0, 0, 0], ..RGB };
 
 const BLACK: &[u8] = &[0, 0, 0, 255];
 
