@@ -97,11 +97,11 @@ fn assert_all_counted<const N: usize>(rt: &impl Abort, alloc: Global, px: [u8; N
         data.truncate(length);
         assert_number(rt, data.len(), length);
         assert_counted(rt, &data, px);
-        for place in 0..length {
+        for at in 0..length {
             for bit in [1u8, 2, 4, 8, 16, 32, 64, 128] {
-                turn(&mut data, place, bit);
+                turn(&mut data, at, bit);
                 assert_counted(rt, &data, px);
-                turn(&mut data, place, bit);
+                turn(&mut data, at, bit);
             }
         }
     }
@@ -109,8 +109,8 @@ fn assert_all_counted<const N: usize>(rt: &impl Abort, alloc: Global, px: [u8; N
 }
 
 // Turns over a bit of the byte at this index.
-fn turn(data: &mut [u8], place: usize, bit: u8) {
-    if let Some(byte) = data.get_mut(place) {
+fn turn(data: &mut [u8], at: usize, bit: u8) {
+    if let Some(byte) = data.get_mut(at) {
         *byte ^= bit;
     }
 }
