@@ -61,7 +61,7 @@ RefusesTakenMarker taken _ = ⊥
 abbrev pub least_byte_count : ℕ → ℕ
 least_byte_count n = (n + (run_max - 1)) / run_max + marker_size
 
--- in memory the bytes ahead are enough for n pixels; for a stream it is always so, since nobody knows what it has ahead
+-- in memory the bytes ahead are enough for n pixels; on a stream it always holds, since it can't be asked
 abbrev pub CouldHold : Bool → ℕ → Option (List ℕ) → Type 0
 CouldHold true n (Some bytes) = least_byte_count n ≤ length bytes
 CouldHold in_memory n ahead = Unit {0}
@@ -78,8 +78,8 @@ RefusesTakenHeader taken (IoError e) = length taken < header_size
 RefusesTakenHeader taken e = (length taken ≡ header_size) × (header_of taken ≡ Err e)
 
 -- What reading a header returns and takes. A success takes the fourteen bytes of a valid header. In memory a refusal
--- takes nothing, and is the verdict on the bytes ahead; on a stream it is that on the fourteen that were taken, or an
--- i/o error after fewer.
+-- takes nothing, and is that of `header_of` on the bytes ahead; on a stream it is that of `header_of` on the fourteen
+-- that were taken, or an i/o error after fewer.
 abbrev pub ReadsHeader : Bool → Option (List ℕ) → Option (List ℕ) → Result Header Error → Type 0
 ReadsHeader in_memory old new (Ok h) = (taken : List ℕ) × Consumes old new taken × (length taken ≡ header_size) × (header_of taken ≡ Ok h)
     × (taken ≡ header_bytes h) × IsValid h
@@ -90,8 +90,8 @@ ReadsHeader false old new (Err e) = (taken : List ℕ) × Consumes old new taken
 abbrev pub TakesHeader : Option (List ℕ) → Option (List ℕ) → Header → Type 0
 TakesHeader old new h = ReadsHeader false old new (Ok h)
 
--- why a stream's header is refused: fourteen bytes were taken, whose verdict is e; or fewer were, and e is an i/o error.
--- What is left of the stream isn't said.
+-- why a stream's header is refused: `header_of` refuses the fourteen bytes at its front with e; or fewer came, and e is
+-- an i/o error. How the stream is left isn't said.
 abbrev pub RefusesStreamHeader : Option (List ℕ) → Error → Type 0
 RefusesStreamHeader old e = (new : Option (List ℕ)) × ReadsHeader false old new (Err e)
 
@@ -117,7 +117,7 @@ RefusesFileInto size bytes e = (header_of bytes ≡ Err e)
     × (RefusesBuffer size (image_byte_count h) e
     ⊎ ((image_byte_count h ≤ size) × RefusesBytes (pixel_count h) (drop header_size bytes) e)))
 
--- why a file is not decoded, where the buffer is long enough: the header, then the image
+-- why a file is not decoded, where no buffer is given: the header, then the image
 abbrev pub RefusesFile : List ℕ → Error → Type 0
 RefusesFile bytes e = (header_of bytes ≡ Err e)
     ⊎ ((h : Header) × (header_of bytes ≡ Ok h) × RefusesBytes (pixel_count h) (drop header_size bytes) e)

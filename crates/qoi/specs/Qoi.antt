@@ -104,7 +104,7 @@ with_channels_read bytes (Ok channels) = with_colorspace_read channels (colorspa
     with_colorspace_read channels (Err e) = Err e
     with_colorspace_read channels (Ok colorspace) = checked_header bytes channels colorspace
 
--- The verdict on the bytes of a header, the first of: length, channels, color space, magic, dimensions.
+-- The header that the bytes begin with, or the first refusal by: length, channels, color space, magic, dimensions.
 -- What follows the fourteen bytes doesn't matter.
 abbrev pub header_of : List ℕ → Result Header Error
 header_of bytes =

@@ -19,8 +19,8 @@ pub record IsWhole (n : ℕ) (bytes : List ℕ) (cs : List Chunk) (rest : List �
   pub has : HasChunks n bytes cs (end_marker ++ rest)
   pub enough : n ≤ length (meaning cs)
 
--- cut: the bytes end before a further chunk is whole and before n pixels are reached, or within the eight bytes after
--- the chunks
+-- cut: the chunks give fewer than n pixels, and no whole chunk follows; or they reach n pixels, and fewer than eight
+-- bytes follow
 pub record IsCut (n : ℕ) (bytes : List ℕ) (cs : List Chunk) (part : List ℕ) : Type 0 where
   pub has : HasChunks n bytes cs part
   pub ends : ((length (meaning cs) < n) × IsPartOfChunk part) ⊎ ((n ≤ length (meaning cs)) × (length part < marker_size))
@@ -32,7 +32,7 @@ pub record IsWrong (n : ℕ) (bytes : List ℕ) (cs : List Chunk) (eight rest : 
   pub length_is : length eight ≡ marker_size
   pub other : eight ≢ end_marker
 
--- the bytes are cut
+-- cut: the bytes end before n pixels, between chunks or inside one, or within the eight bytes after them
 abbrev pub AreCut : ℕ → List ℕ → Type 0
 AreCut n bytes = (cs : List Chunk) × (part : List ℕ) × IsCut n bytes cs part
 
@@ -40,10 +40,10 @@ AreCut n bytes = (cs : List Chunk) × (part : List ℕ) × IsCut n bytes cs part
 abbrev pub AreWrongThen : ℕ → List ℕ → List ℕ → Type 0
 AreWrongThen n bytes rest = (cs : List Chunk) × (eight : List ℕ) × IsWrong n bytes cs eight rest
 
--- the bytes are wrong
+-- wrong: chunks reach n pixels, eight bytes other than the end marker follow, and then any bytes
 abbrev pub AreWrong : ℕ → List ℕ → Type 0
 AreWrong n bytes = (rest : List ℕ) × AreWrongThen n bytes rest
 
--- the bytes end before a further chunk is whole, and before n pixels are reached
+-- some chunks give fewer than n pixels, and no whole chunk follows
 abbrev pub EndsInChunk : ℕ → List ℕ → Type 0
 EndsInChunk n bytes = (cs : List Chunk) × (part : List ℕ) × HasChunks n bytes cs part × (length (meaning cs) < n) × IsPartOfChunk part

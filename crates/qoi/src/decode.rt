@@ -70,7 +70,8 @@ pub fn decode_to_buf(buf: &mut [u8], data: &[u8]) -> Result<Header>
     // After a success the buffer has at least the header's `n_bytes`, which is `capped_byte_count`; of a valid
     // header that is `image_byte_count`.
     ensures room { IfOk result (λ h. capped_byte_count h ≤ length buf.old) }
-    // After a valid header cut bytes give `UnexpectedBufferEnd`, and wrong ones `InvalidPadding`.
+    // After a valid header, and where the buffer is long enough, cut bytes give `UnexpectedBufferEnd`, and
+    // wrong ones `InvalidPadding`.
     ensures cut { (h : Header) → header_of «data».now ≡ Ok h
         → AreCut (pixel_count h) (drop header_size «data».now)
         → image_byte_count h ≤ length buf.old → result ≡ Err Error.UnexpectedBufferEnd }
@@ -201,8 +202,7 @@ impl<R: Read + Drop> Decoder<R> {
     /// fourteen bytes are read and no more. The channels are the header's.
     ///
     /// Refusals, in this order: `IoError` where the fourteen bytes don't come, and then those of
-    /// `decode_header` on them. The reader is dropped then, so that the contract can't say what was
-    /// taken of it.
+    /// `decode_header` on them. The reader is dropped then, so no contract can say where it stood.
     ///
     /// A decoder asks its reader for a chunk's few bytes at a time, and never for one past the end
     /// marker: wrap a file or a socket in a `BufReader`.
@@ -335,7 +335,7 @@ impl<R: Reader> Decoder<R> {
         // taken are cut or wrong.
         ensures refused { output_byte_count self.old ≤ length buf.old
             → IfErr result (RefusesDecoding R.in_memory R.ahead self.old self.new) }
-        // From memory, bytes whose verdict is whole are accepted.
+        // From memory, whole bytes are accepted, where the buffer is long enough.
         ensures accepts { IsTrue R.in_memory → (bytes rest : List ℕ) (cs : List Chunk)
             → R.ahead self.old.reader ≡ Some bytes
             → IsWhole (pixel_count self.old.header) bytes cs rest
@@ -428,12 +428,13 @@ impl<R: Reader> Decoder<R> {
         ensures refused { IfErr result (λ e. (e ≡ Error.OutOfMemory)
             ⊎ RefusesDecoding R.in_memory R.ahead self.old self.new e) }
         ensures no_memory { IsErrOf result Error.OutOfMemory → self.new ≡ self.old }
-        // `OutOfMemory` and a success come only where the bytes ahead could hold the image.
+        // `OutOfMemory` and a success come only where the bytes ahead could hold the image; on a stream this
+        // says nothing.
         ensures asked { IsErrOf result Error.OutOfMemory
             → CouldHold R.in_memory (pixel_count self.old.header) (R.ahead self.old.reader) }
         ensures could_hold { IfOk result (λ out.
             CouldHold R.in_memory (pixel_count self.old.header) (R.ahead self.old.reader)) }
-        // From memory, bytes whose verdict is whole are accepted, unless memory runs out.
+        // From memory, whole bytes are accepted, unless memory runs out.
         ensures accepts { IsTrue R.in_memory → (bytes rest : List ℕ) (cs : List Chunk)
             → R.ahead self.old.reader ≡ Some bytes
             → IsWhole (pixel_count self.old.header) bytes cs rest

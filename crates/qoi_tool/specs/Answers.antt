@@ -1,10 +1,11 @@
 -- The answer of the program to its words and to the bytes of its input.
-use Rattle.std.specs.Prelude.{◌≡◌, ℕ, ◌⊎◌, List, Option, Some, drop, Ok, Err}
+use Rattle.std.specs.Prelude.{◌≡◌, ℕ, ◌⊎◌, List, Option, drop, Ok, Err}
 use Rattle.std.specs.Io.KnownBytes.{Appends, Keeps}
 use Rattle.qoi.specs.declared.error.Error.{Error}
 use Rattle.qoi.specs.declared.header.Header.{Header}
-use Rattle.qoi.specs.Qoi.{channels_number, header_of, pixel_count, header_size}
-use Rattle.qoi.specs.Decoding.{DecodesFile, ReadsImage, RefusesFile}
+use Rattle.qoi.specs.Qoi.{header_of, header_size}
+use Rattle.qoi.specs.Decoding.{DecodesFile, RefusesFile}
+use Rattle.qoi.specs.Reading.{IsImage}
 use Rattle.qoi.specs.Encoded.{image_header, IsFileOf}
 use Rattle.qoi_tool.specs.declared.command.Command.{Command}
 use Rattle.qoi_tool.specs.declared.command.Command.TheVariants.{Decode, DecodeInto, Encode, Info}
@@ -27,7 +28,7 @@ Takes Info old new input = TakesCount header_size old new input
 abbrev pub Writes : Command → List ℕ → List ℕ → Type 0
 Writes Decode input out = (h : Header) × (rest : List ℕ) × DecodesFile input h rest out
 Writes (DecodeInto channels) input out = (h : Header) × (rest : List ℕ) × (header_of input ≡ Ok h)
-    × ReadsImage (channels_number h.channels) (channels_number channels) (pixel_count h) (Some (drop header_size input)) (Some rest) out
+    × IsImage channels (drop header_size input) h rest out
 Writes (Encode width height space style) input out = (h : Header) × (image_header input width height ≡ Ok h)
     × IsFileOf style (record h { colorspace = space }) input out
 Writes Info input out = (h : Header) × (header_of input ≡ Ok h) × (out ≡ header_line h)
@@ -56,9 +57,9 @@ Does command in_old in_new out_old out_new =
 abbrev pub Finishes : List (List ℕ) → Option (List ℕ) → Option (List ℕ) → Option (List ℕ) → Option (List ℕ) → Type 0
 Finishes words in_old in_new out_old out_new = (command : Command) × Asks words command × Does command in_old in_new out_old out_new
 
--- The input was taken and the library refused it, and nothing was written; or the command stopped by a fault of the
--- input or by want of memory, and nothing was written; or writing stopped by a fault, and a beginning of the answer
--- was written.
+-- The input was taken and the library refused it, and nothing was written; or an i/o error or want of memory came
+-- before the answer was known, and nothing was written; or writing stopped by an i/o error, and a beginning of the
+-- answer was written.
 abbrev pub Stops : Command → Option (List ℕ) → Option (List ℕ) → Option (List ℕ) → Option (List ℕ) → Error → Type 0
 Stops command in_old in_new out_old out_new e =
     ((input : List ℕ) × Takes command in_old in_new input × Refuses command input e × Keeps out_old out_new)

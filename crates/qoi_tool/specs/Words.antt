@@ -1,4 +1,4 @@
--- The words of the commands.
+-- The words of the commands, each as the bytes of its text (`string_bytes`).
 use Rattle.std.specs.Prelude.{◌≡◌, ℕ, ◌≤◌, List, [], ◌∷◌, ◌++◌, codes}
 use Rattle.std.specs.Str.Parse.{IsNumeral, digits_value}
 use Rattle.qoi.specs.declared.types.Channels.{Channels}

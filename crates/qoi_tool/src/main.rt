@@ -50,8 +50,9 @@ impl From<Error> for Fault {
 /// Does what the words ask for, from the input to the output; `words` has no program name.
 ///
 /// Refusals come in this order: `Usage` where the words aren't those of a command; a fault of the
-/// input, or want of memory while it is read; a refusal of the library; a fault of the output. Until
-/// the answer is known nothing is written; after a fault of the output a beginning of the answer was.
+/// input, or want of memory for it; a refusal of the library, or want of memory for the image; a fault
+/// of the output. Until the answer is known nothing is written; after a fault of the output a beginning
+/// of the answer was.
 pub fn run<R: Read, W: Write>(
     alloc: Global,
     words: &[String],
@@ -187,7 +188,7 @@ fn words_of(rt: &HostRuntime) -> Result<Vec<String>, Error>
 }
 
 // Does what the program was called for, with its arguments, standard input and standard output, and
-// flushes the output.
+// flushes the output. It has no clause: the contracts of the real streams state no bytes.
 fn run_here(rt: &HostRuntime) -> Result<(), Fault> {
     let words = words_of(rt)?;
     let mut output = rt.stdout();

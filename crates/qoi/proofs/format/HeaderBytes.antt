@@ -39,7 +39,7 @@ colorspace_from n s e = grind (arith)
 pub length-head : (h : Header) → length (header_bytes h) ≡ 14
 length-head h = refl
 
--- what bytes say whose verdict is a header
+-- what bytes say that begin with a header
 pub record SaysHeader (bytes : List ℕ) (h : Header) : Type 0 where
   pub long : 14 ≤ length bytes
   pub channels : channels_of (slice_index bytes 12) ≡ Ok h.channels

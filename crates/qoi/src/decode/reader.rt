@@ -30,13 +30,13 @@ pub trait Reader: Sized {
 
     /// Whether the bytes ahead could hold the chunks of an image of so many pixels, and the end marker.
     ///
-    /// In memory they couldn't where they are fewer than the eight of the end marker and one for each
-    /// 62 pixels or part of them, since the longest run has 62; they are cut then, whatever they are. A
-    /// stream always could, since nobody knows what it has ahead.
+    /// In memory: whether they are at least `n_pixels` / 62, rounded up, and 8, since the longest run
+    /// has 62 pixels and the end marker eight bytes. Fewer are cut, whatever they are. On a stream:
+    /// always, since it can't be asked how many it has.
     fn could_hold(&self, n_pixels: usize) -> bool
         ensures holds { IsTrue result ↔ CouldHold in_memory n_pixels (ahead self.now) }
-        // Where it returns false, the bytes are in memory and cut: to refuse them with `UnexpectedBufferEnd`
-        // and to take nothing, so that the same bytes stand ahead, is right.
+        // Where it returns false, a caller may refuse with `UnexpectedBufferEnd` and take nothing: the bytes are in
+        // memory and cut.
         ensures cut { IsFalse result → RefusesImage in_memory n_pixels
             (ahead self.now) (ahead self.now) Error.UnexpectedBufferEnd };
 

@@ -1,13 +1,18 @@
 -- What the decoder refuses is what the file is refused for.
-use Rattle.std.proofs.Common.{◌≡◌, ℕ, List, drop, Ok, Some, sym, ap, ◌∙◌, subst, inl, inr, ⊎_elim}
+use Rattle.std.proofs.Common.{◌≡◌, refl, ℕ, List, drop, Ok, sym, ap, ◌∙◌, subst, inl, inr, ⊎_elim}
 use Rattle.std.proofs.lemmas.Result.{err_from_is_err_and}
 use Rattle.std.proofs.KnownBytes.{Keeps-refl}
+use Rattle.std.specs.Io.KnownBytes.{Appends}
 use Rattle.qoi.specs.declared.error.Error.{Error}
+use Rattle.qoi.specs.declared.types.Channels.{Channels}
 use Rattle.qoi.specs.declared.header.Header.{Header}
-use Rattle.qoi.specs.Qoi.{channels_number, header_of, pixel_count, header_size}
+use Rattle.qoi.specs.Qoi.{header_of, pixel_count, header_size}
 use Rattle.qoi.specs.DecoderState.{DecoderState}
-use Rattle.qoi.specs.Decoding.{ReadsImage, RefusesBytes, RefusesFile}
+use Rattle.qoi.specs.Decoding.{RefusesBytes, RefusesFile}
+use Rattle.qoi.specs.Reading.{IsImage}
 use Rattle.qoi.specs.writers.Writes.{AppendsBeginning}
+use Rattle.qoi_tool.specs.declared.command.Command.TheVariants.{DecodeInto}
+use Rattle.qoi_tool.specs.Answers.{Writes}
 use Rattle.qoi_tool.specs.Transfers.{IsIoOrMemory}
 use Rattle.qoi_tool.proofs.decode_into.Goals as goal
 
@@ -42,27 +47,51 @@ returns-in_err-pixels-clause-refused g c =
     ))
     c.in_err-pixels.ensures.refused)
 
+-- the image that was decoded behind a header is what these channels' answer has
+answer_of : (input : List ℕ) (channels : Channels) (d chosen : DecoderState (List ℕ)) (bytes rest out : List ℕ) → bytes ≡ input
+    → header_of bytes ≡ Ok d.header → d.reader ≡ drop header_size bytes → chosen ≡ record d { channels = channels }
+    → IsImage chosen.channels chosen.reader chosen.header rest out → Writes (DecodeInto channels) input out
+answer_of input channels d chosen bytes rest out same read after chosen_is image =
+    let image_is = subst (λ (z : DecoderState (List ℕ)). IsImage z.channels z.reader z.header rest out) chosen_is image in (
+      d.header,
+      rest,
+      subst (λ (z : List ℕ). header_of z ≡ Ok d.header) same read,
+      subst (λ (z : List ℕ). IsImage channels z d.header rest out) (after ∙ ap (drop header_size) same) image_is,
+    )
+
+pub returns-clause-done : goal.returns-clause-done
+returns-clause-done g c =
+    let d = c.in_ok-new.field-0 in
+    let chosen = c.with_channels-decoder.result in
+    let accepted = c.in_ok-new.ensures.accepted in
+    let input = c.in_ok-file.file.items in
+    let out = c.in_ok-pixels.pixels.items in
+    let r = c.in_ok-pixels.ensures.rest chosen.reader refl in (
+      input,
+      out,
+      c.in_ok-file.ensures.read,
+      answer_of input c.args.channels d chosen c.deref.result.now r.0 out c.deref.ensures.value accepted.0 accepted.2 c.with_channels-decoder.ensures r.2,
+      subst (Appends _ _) c.deref-2.ensures.value c.in_ok-write_all.ensures.written,
+    )
+
 -- where writing failed, the image was decoded
 pub returns-in_err-write_all-clause-refused : goal.returns-in_err-write_all-clause-refused
 returns-in_err-write_all-clause-refused g c =
     let p = err_from_is_err_and c.from_residual-in_err-write_all.result c.from_residual-in_err-write_all.ensures.1 in
     let d = c.in_ok-new.field-0 in
+    let chosen = c.with_channels-decoder.result in
     let accepted = c.in_ok-new.ensures.accepted in
-    let read = subst (λ (z : List ℕ). header_of z ≡ Ok d.header) c.deref.ensures.value accepted.0 in
-    let rest = c.decode_to_vec.new.self.reader in
+    let input = c.in_ok-file.file.items in
     let out = c.in_ok-pixels.pixels.items in
-    let decoded = subst (λ (z : DecoderState (List ℕ)). ReadsImage (channels_number z.header.channels) (channels_number z.channels) (pixel_count z.header)
-    (Some z.reader) (Some rest) out) c.with_channels-decoder.ensures c.in_ok-pixels.ensures.decoded in
-    let whole = subst (λ (z : List ℕ). ReadsImage (channels_number d.header.channels) (channels_number c.args.channels) (pixel_count d.header) (Some z)
-    (Some rest) out) (accepted.2 ∙ ap (drop header_size) c.deref.ensures.value) decoded in
+    let r = c.in_ok-pixels.ensures.rest chosen.reader refl in
     let failed = c.in_err-write_all.ensures.failed in
     rw (p.1, p.2) (inr (inr (
       failed.0,
       (
-        c.in_ok-file.file.items,
+        input,
         out,
         c.in_ok-file.ensures.read,
-        (d.header, rest, read, whole),
+        answer_of input c.args.channels d chosen c.deref.result.now r.0 out c.deref.ensures.value accepted.0 accepted.2 c.with_channels-decoder.ensures r.2,
         subst (AppendsBeginning _ _) c.deref-2.ensures.value failed.1,
       ),
     )))

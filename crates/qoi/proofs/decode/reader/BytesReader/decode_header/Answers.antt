@@ -1,4 +1,4 @@
--- The fourteen bytes at the front have the verdict of all the bytes.
+-- `header_of` says of the fourteen bytes at the front what it says of all bytes.
 use Rattle.std.proofs.Common.{◌≡◌, ◌-◌, Ok, ◌++◌, length, take, drop, sym, ap, ◌∙◌, take-append-drop}
 use Rattle.std.proofs.lemmas.List.{length-drop}
 use Rattle.qoi.proofs.decoding.FilledBuffer.{take_whole}
