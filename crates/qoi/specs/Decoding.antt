@@ -61,7 +61,7 @@ RefusesTakenMarker taken _ = ⊥
 abbrev pub least_byte_count : ℕ → ℕ
 least_byte_count n = (n + (run_max - 1)) / run_max + marker_size
 
--- in memory the bytes ahead are enough for n pixels; on a stream it always holds, since it can't be asked
+-- in memory at least the fewest bytes stand ahead that n pixels and the end marker take; on a stream it always holds
 abbrev pub CouldHold : Bool → ℕ → Option (List ℕ) → Type 0
 CouldHold true n (Some bytes) = least_byte_count n ≤ length bytes
 CouldHold in_memory n ahead = Unit {0}
@@ -90,8 +90,8 @@ ReadsHeader false old new (Err e) = (taken : List ℕ) × Consumes old new taken
 abbrev pub TakesHeader : Option (List ℕ) → Option (List ℕ) → Header → Type 0
 TakesHeader old new h = ReadsHeader false old new (Ok h)
 
--- why a stream's header is refused: `header_of` refuses the fourteen bytes at its front with e; or fewer came, and e is
--- an i/o error. How the stream is left isn't said.
+-- why a stream's header is refused: `header_of` refuses the fourteen bytes at its front with e, or e is an i/o error.
+-- How the stream is left isn't said.
 abbrev pub RefusesStreamHeader : Option (List ℕ) → Error → Type 0
 RefusesStreamHeader old e = (new : Option (List ℕ)) × ReadsHeader false old new (Err e)
 
@@ -110,14 +110,16 @@ pub record DecodesFile (bytes : List ℕ) (h : Header) (rest out : List ℕ) : T
 abbrev pub RefusesBuffer : ℕ → ℕ → Error → Type 0
 RefusesBuffer size required e = (size < required) × (e ≡ OutputBufferTooSmall size required)
 
--- why a file is not decoded into a buffer of this size: the header, then the buffer, then the image
+-- why bytes are not decoded into a buffer of this size: e is the refusal of their header; or the buffer is too short for
+-- the image; or it is long enough, and the bytes after the header are cut or wrong
 abbrev pub RefusesFileInto : ℕ → List ℕ → Error → Type 0
 RefusesFileInto size bytes e = (header_of bytes ≡ Err e)
     ⊎ ((h : Header) × (header_of bytes ≡ Ok h)
     × (RefusesBuffer size (image_byte_count h) e
     ⊎ ((image_byte_count h ≤ size) × RefusesBytes (pixel_count h) (drop header_size bytes) e)))
 
--- why a file is not decoded, where no buffer is given: the header, then the image
+-- why bytes are not decoded where no buffer is given: e is the refusal of their header; or the bytes after a header are
+-- cut or wrong
 abbrev pub RefusesFile : List ℕ → Error → Type 0
 RefusesFile bytes e = (header_of bytes ≡ Err e)
     ⊎ ((h : Header) × (header_of bytes ≡ Ok h) × RefusesBytes (pixel_count h) (drop header_size bytes) e)

@@ -19,8 +19,8 @@ pub record IsWhole (n : ℕ) (bytes : List ℕ) (cs : List Chunk) (rest : List �
   pub has : HasChunks n bytes cs (end_marker ++ rest)
   pub enough : n ≤ length (meaning cs)
 
--- cut: the chunks give fewer than n pixels, and no whole chunk follows; or they reach n pixels, and fewer than eight
--- bytes follow
+-- cut: the chunks give fewer than n pixels, and only a part of a chunk follows, perhaps none of it; or they reach n
+-- pixels, and fewer than eight bytes follow
 pub record IsCut (n : ℕ) (bytes : List ℕ) (cs : List Chunk) (part : List ℕ) : Type 0 where
   pub has : HasChunks n bytes cs part
   pub ends : ((length (meaning cs) < n) × IsPartOfChunk part) ⊎ ((n ≤ length (meaning cs)) × (length part < marker_size))
@@ -44,6 +44,6 @@ AreWrongThen n bytes rest = (cs : List Chunk) × (eight : List ℕ) × IsWrong n
 abbrev pub AreWrong : ℕ → List ℕ → Type 0
 AreWrong n bytes = (rest : List ℕ) × AreWrongThen n bytes rest
 
--- some chunks give fewer than n pixels, and no whole chunk follows
-abbrev pub EndsInChunk : ℕ → List ℕ → Type 0
-EndsInChunk n bytes = (cs : List Chunk) × (part : List ℕ) × HasChunks n bytes cs part × (length (meaning cs) < n) × IsPartOfChunk part
+-- cut before n pixels, between chunks or inside one
+abbrev pub EndsBefore : ℕ → List ℕ → Type 0
+EndsBefore n bytes = (cs : List Chunk) × (part : List ℕ) × HasChunks n bytes cs part × (length (meaning cs) < n) × IsPartOfChunk part

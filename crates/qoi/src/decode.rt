@@ -204,7 +204,7 @@ impl<R: Read + Drop> Decoder<R> {
     /// Refusals, in this order: `IoError` where the fourteen bytes don't come, and then those of
     /// `decode_header` on them. The reader is dropped then, so no contract can say where it stood.
     ///
-    /// A decoder asks its reader for a chunk's few bytes at a time, and never for one past the end
+    /// A decoder asks its reader for a chunk's few bytes at a time, and never for a byte past the end
     /// marker: wrap a file or a socket in a `BufReader`.
     pub fn from_stream(mut reader: R) -> Result<Decoder<R>>
         ensures accepted { IfOk result (λ d. TakesHeader (R.remaining reader)
@@ -378,8 +378,9 @@ impl<R: Reader> Decoder<R> {
         ensures opaque { self.old.channels ≡ Channels.Rgba → self.old.header.channels ≡ Channels.Rgb
             → IfOk result (λ size. (i : ℕ) → i < pixel_count self.old.header
             → slice_index (take size buf.new) (4 * i + 3) ≡ 255) }
-        // Cut bytes and wrong ones are refused; `UnexpectedBufferEnd` means that they were cut, and
-        // `InvalidPadding` that they were wrong.
+        // Where the buffer is long enough, cut bytes are refused with `UnexpectedBufferEnd`, on a stream with
+        // `IoError`, and wrong ones with `InvalidPadding`, on a stream with that or `IoError`.
+        // `UnexpectedBufferEnd` means that they were cut, and `InvalidPadding` that they were wrong.
         ensures cut { (bytes : List ℕ) → R.ahead self.old.reader ≡ Some bytes
             → AreCut (pixel_count self.old.header) bytes
             → output_byte_count self.old ≤ length buf.old
@@ -477,8 +478,9 @@ impl<R: Reader> Decoder<R> {
         ensures opaque { self.old.channels ≡ Channels.Rgba → self.old.header.channels ≡ Channels.Rgb
             → IfOk result (λ out. (i : ℕ) → i < pixel_count self.old.header
             → slice_index out.items (4 * i + 3) ≡ 255) }
-        // Cut bytes and wrong ones are refused; `UnexpectedBufferEnd` means that they were cut, and
-        // `InvalidPadding` that they were wrong.
+        // Unless memory runs out, cut bytes are refused with `UnexpectedBufferEnd`, on a stream with `IoError`,
+        // and wrong ones with `InvalidPadding`, on a stream with that or `IoError`. `UnexpectedBufferEnd`
+        // means that they were cut, and `InvalidPadding` that they were wrong.
         ensures cut { (bytes : List ℕ) → R.ahead self.old.reader ≡ Some bytes
             → AreCut (pixel_count self.old.header) bytes
             → IsErrAnd result (λ e. (e ≡ Error.OutOfMemory) ⊎ IsErrorOfCut R.in_memory e) }

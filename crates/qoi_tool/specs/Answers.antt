@@ -40,7 +40,7 @@ Refuses (DecodeInto channels) input e = RefusesFile input e
 Refuses (Encode width height space style) input e = image_header input width height ≡ Err e
 Refuses Info input e = header_of input ≡ Err e
 
--- how a command stops before its answer is known: by an i/o error or for want of memory; `info`, which asks for no
+-- how a command stops that the library doesn't refuse: by an i/o error or for want of memory; `info`, which asks for no
 -- memory, by an i/o error after fewer bytes than a header has
 abbrev pub StopsEarly : Command → Option (List ℕ) → Option (List ℕ) → Error → Type 0
 StopsEarly Decode old new e = IsIoOrMemory e
@@ -57,9 +57,8 @@ Does command in_old in_new out_old out_new =
 abbrev pub Finishes : List (List ℕ) → Option (List ℕ) → Option (List ℕ) → Option (List ℕ) → Option (List ℕ) → Type 0
 Finishes words in_old in_new out_old out_new = (command : Command) × Asks words command × Does command in_old in_new out_old out_new
 
--- The input was taken and the library refused it, and nothing was written; or an i/o error or want of memory came
--- before the answer was known, and nothing was written; or writing stopped by an i/o error, and a beginning of the
--- answer was written.
+-- The input was taken and the library refused it, and nothing was written; or an i/o error or want of memory came, and
+-- nothing was written; or writing stopped by an i/o error, and a beginning of the answer was written.
 abbrev pub Stops : Command → Option (List ℕ) → Option (List ℕ) → Option (List ℕ) → Option (List ℕ) → Error → Type 0
 Stops command in_old in_new out_old out_new e =
     ((input : List ℕ) × Takes command in_old in_new input × Refuses command input e × Keeps out_old out_new)

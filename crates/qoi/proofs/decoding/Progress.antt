@@ -7,7 +7,7 @@ use Rattle.std.proofs.KnownBytes.{Consumes-trans}
 use Rattle.qoi.specs.Raw.{IsChannels, output}
 use Rattle.qoi.specs.inner.Filling.{Buffer, Filling, filling, HasFilled, HasSeen, GivesChunk}
 use Rattle.qoi.specs.inner.Table.{Holds}
-use Rattle.qoi.specs.Verdicts.{IsPartOfChunk, EndsInChunk, AreCut}
+use Rattle.qoi.specs.Verdicts.{IsPartOfChunk, EndsBefore, AreCut}
 use Rattle.qoi.specs.Decoding.{ReadsPixels, StreamsPixels}
 use Rattle.qoi.proofs.format.ChunkSteps.{times_some, then_chunks-append, each_append}
 use Rattle.std.proofs.lemmas.Grind.{flat_map-append}
@@ -135,7 +135,7 @@ streams_pixels is s full =
 -- where a stream gives no whole chunk, what was taken ends within a chunk
 pub stream_ends : {f c n : ℕ} (old middle new : Option (List ℕ)) (part : List ℕ) {now : Filling} → IsChannels c → SoFar f c n (Consumes old middle) now
     → now.buffer.at < length now.buffer.out → Consumes middle new part → IsPartOfChunk part
-    → (taken : List ℕ) × Consumes old new taken × EndsInChunk n taken
+    → (taken : List ℕ) × Consumes old new taken × EndsBefore n taken
 stream_ends old middle new part is s inside took is_part = (
   chunk_bytes s.cs ++ part,
   Consumes-trans old middle new (chunk_bytes s.cs) part s.taken took,

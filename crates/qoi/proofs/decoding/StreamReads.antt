@@ -14,7 +14,7 @@ use Rattle.qoi.specs.inner.Filling.{Filling, GivesChunk}
 use Rattle.qoi.proofs.format.ChunksApart.{chunks_apart}
 use Rattle.std.proofs.lemmas.Bool.{cases_lt}
 use Rattle.qoi.specs.Qoi.{AreBytes, IsChunk, AreChunks, bytes_of, chunk_bytes, Reaches}
-use Rattle.qoi.specs.Verdicts.{IsPartOfChunk, EndsInChunk, AreCut}
+use Rattle.qoi.specs.Verdicts.{IsPartOfChunk, EndsBefore, AreCut}
 use Rattle.qoi.specs.Decoding.{StreamsPixels, RefusesTaken, RefusesTakenMarker}
 use Rattle.qoi.proofs.format.PartOfChunk.{byte_and, part_luma, part_rgb, part_rgba}
 
@@ -90,9 +90,9 @@ pub rgba_ahead : (b : ℕ) (more zeros : List ℕ) → b ≡ 255 → length more
 rgba_ahead x (r ∷ g ∷ b ∷ a ∷ []) zeros is size fits = (Rgba r g b a, zeros, (fits 0, fits 1, fits 2, fits 3), rw is refl, rw is refl)
 rgba_ahead x _ zeros is size fits = absurd (omega arith)
 
--- bytes that end within a chunk are cut
-pub cut_in_chunk : (n : ℕ) (taken : List ℕ) → EndsInChunk n taken → AreCut n taken
-cut_in_chunk n taken (cs, part, takes, short, is_part) = (cs, part, record { has = takes; ends = inl (short, is_part) })
+-- bytes that end before n pixels are cut
+pub cut_before : (n : ℕ) (taken : List ℕ) → EndsBefore n taken → AreCut n taken
+cut_before n taken (cs, part, takes, short, is_part) = (cs, part, record { has = takes; ends = inl (short, is_part) })
 
 -- why an image is refused whose marker is refused
 refused_after : (n : ℕ) (cs : List Chunk) → AreChunks cs → Reaches n cs → (taken : List ℕ) (e : Error) → RefusesTakenMarker taken e

@@ -30,7 +30,7 @@ pub trait Reader: Sized {
 
     /// Whether the bytes ahead could hold the chunks of an image of so many pixels, and the end marker.
     ///
-    /// In memory: whether they are at least `n_pixels` / 62, rounded up, and 8, since the longest run
+    /// In memory: whether they are at least `n_pixels` / 62, rounded up, plus 8, since the longest run
     /// has 62 pixels and the end marker eight bytes. Fewer are cut, whatever they are. On a stream:
     /// always, since it can't be asked how many it has.
     fn could_hold(&self, n_pixels: usize) -> bool

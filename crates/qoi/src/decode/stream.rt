@@ -3,7 +3,7 @@ ghost use Rattle.std.specs.Prelude.{◌≡◌, ℕ, ◌/◌, ◌%◌, ◌<◌, �
 ghost use Rattle.std.specs.Io.KnownBytes.{Consumes};
 ghost use Rattle.qoi.specs.Qoi.{AreBytes, end_marker};
 ghost use Rattle.qoi.specs.Raw.{IsChannels};
-ghost use Rattle.qoi.specs.Verdicts.{IsPartOfChunk, EndsInChunk};
+ghost use Rattle.qoi.specs.Verdicts.{IsPartOfChunk, EndsBefore};
 ghost use Rattle.qoi.specs.Decoding.{StreamsPixels, ReadsImage, RefusesTaken, RefusesTakenMarker};
 ghost use Rattle.qoi.specs.inner.Filling.{IsWholePixels, GivesChunk, filling};
 ghost use Rattle.qoi.specs.inner.Taken.{HasTaken};
@@ -112,7 +112,7 @@ fn stream_chunks<R: Read, const N: usize, const F: usize>(
     ensures read { OnOk result (StreamsPixels F N (length out.old / N)
         (R.remaining reader.old) (R.remaining reader.new) out.new) }
     ensures failed { OnErr result (HasTaken (R.remaining reader.old) (R.remaining reader.new)
-        (EndsInChunk (length out.old / N))) }
+        (EndsBefore (length out.old / N))) }
 {
     let mut table = Table::new();
     let mut last = Spread::start();
