@@ -5,7 +5,7 @@ ghost use Rattle.qoi.specs.declared.header.Header.{Header};
 ghost use Rattle.qoi.specs.declared.error.Error.{Error};
 ghost use Rattle.qoi.specs.Qoi.{header_of, pixel_count, IsFile, file, header_size, run_max};
 ghost use Rattle.qoi.specs.Verdicts.{IsWhole, AreWrong, AreCut};
-ghost use Rattle.qoi.specs.Decoding.{CouldHold, least_byte_count, RefusesFileInto, RefusesStreamHeader, TakesHeader, RefusesFile, DecodesFile};
+ghost use Rattle.qoi.specs.Decoding.{CouldHold, RefusesFileInto, RefusesStreamHeader, TakesHeader, RefusesFile, DecodesFile};
 ghost use Rattle.qoi.specs.declared.types.Style.{Style};
 ghost use Rattle.qoi.specs.Encoded.{IsFileOf};
 ghost use Rattle.qoi.specs.DecoderState.{output_byte_count, DecodesImage, RefusesDecoding, TakesWithin};
@@ -86,16 +86,15 @@ pub fn decode_to_buf(buf: &mut [u8], data: &[u8]) -> Result<Header>
 
 /// Decodes a file into a vector, in the file's own channels, and returns its header too.
 ///
-/// The refusals are those of `Decoder::new` and then of its `decode_to_vec`; so memory is asked for
-/// only where the header is valid and the bytes behind it could hold such an image: for each byte of
-/// the slice at most 62 pixels, which are 248 bytes. The vector has the header's `n_bytes`.
+/// The refusals are those of `Decoder::new` and then of its `decode_to_vec`: those of the header,
+/// `OutOfMemory`, and those of the chunks and the end marker. The vector has the header's `n_bytes`,
+/// which are at most 248 for each byte of the slice; no more memory than that is written.
 pub fn decode_to_vec(alloc: Global, data: &[u8]) -> Result<(Header, Vec<u8>)>
     ensures decoded { IfOk result (λ x. (rest : List ℕ)
         × DecodesFile «data».now x.0 rest x.1.items) }
     ensures length { IfOk result (λ x. HasImageLength (capped_byte_count x.0) x.1.items) }
     ensures refused { IfErr result (λ e. RefusesFile «data».now e
-        ⊎ ((e ≡ Error.OutOfMemory) × (h : Header) × (header_of «data».now ≡ Ok h)
-        × (least_byte_count (pixel_count h) ≤ length (drop header_size «data».now)))) }
+        ⊎ ((e ≡ Error.OutOfMemory) × (h : Header) × (header_of «data».now ≡ Ok h))) }
     // The image has at most 62 pixels, and the vector 248 bytes, for each byte of the slice.
     ensures per_byte { IfOk result (λ x. (pixel_count x.0 ≤ run_max * length «data».now)
         × (length x.1.items ≤ 4 * run_max * length «data».now)) }
@@ -417,11 +416,14 @@ impl<R: Reader> Decoder<R> {
 
     /// Decodes an image into a new vector, exactly as long as `required_buf_len`.
     ///
-    /// `OutOfMemory` where the vector's memory isn't found; it is taken before a chunk is read, so
-    /// that the decoder is then unchanged. The other refusals are those of `decode_to_buf` but for
-    /// `OutputBufferTooSmall`, and leave the decoder as those do. Where the bytes ahead are in memory, and too few
-    /// for so many pixels whatever they are, `UnexpectedBufferEnd` comes before memory is asked for:
-    /// each 62 pixels take a byte at least, and the end marker has eight.
+    /// Refusals, in this order: `OutOfMemory` if the vector's room isn't found, and then nothing was
+    /// read and the decoder is unchanged; those of `decode_to_buf` but for `OutputBufferTooSmall`,
+    /// which leave the decoder as that does.
+    ///
+    /// The room is asked for as the header says, and costs address space alone until it is written.
+    /// It is written once the bytes ahead could hold so many pixels: bytes in memory that are too few,
+    /// whatever they are, are `UnexpectedBufferEnd` before that. (Each 62 pixels take a byte at least,
+    /// and the end marker has eight.) A stream can't be asked how many bytes it has.
     pub fn decode_to_vec(&mut self, alloc: Global) -> Result<Vec<u8>>
         ensures decoded { IfOk result (λ out. DecodesImage R.ahead self.old self.new out.items) }
         ensures length { IfOk result (λ out.
@@ -429,10 +431,7 @@ impl<R: Reader> Decoder<R> {
         ensures refused { IfErr result (λ e. (e ≡ Error.OutOfMemory)
             ⊎ RefusesDecoding R.in_memory R.ahead self.old self.new e) }
         ensures no_memory { IsErrOf result Error.OutOfMemory → self.new ≡ self.old }
-        // `OutOfMemory` and a success come only where the bytes ahead could hold the image; on a stream this
-        // says nothing.
-        ensures asked { IsErrOf result Error.OutOfMemory
-            → CouldHold R.in_memory (pixel_count self.old.header) (R.ahead self.old.reader) }
+        // A success comes only if the bytes ahead could hold the image; of a stream this says nothing.
         ensures could_hold { IfOk result (λ out.
             CouldHold R.in_memory (pixel_count self.old.header) (R.ahead self.old.reader)) }
         // From memory, whole bytes are accepted, unless memory runs out.
@@ -497,10 +496,12 @@ impl<R: Reader> Decoder<R> {
         // For an image of n pixels a call takes at most 5n + 8 bytes, also where it refuses.
         ensures bounded { TakesWithin R.ahead self.old self.new }
     {
+        let size = self.required_buf_len();
+        let mut out = Vec::with_capacity(alloc, size)?;
         if !self.reader.could_hold(self.header.n_pixels()) {
             return Err(Error::UnexpectedBufferEnd);
         }
-        let mut out = vec![in alloc; 0u8; self.required_buf_len()]?;
+        out.resize(size, 0)?;
         self.decode_to_buf(&mut out)?;
         Ok(out)
     }

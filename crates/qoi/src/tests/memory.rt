@@ -3,8 +3,8 @@ use crate::decode::Reader;
 use crate::tests::support::fakes::{ONE_RGB_PIXEL, PIXEL, take_memory};
 use crate::tests::support::{CUT, assert_bytes, assert_header, assert_number, assert_refused};
 use crate::{
-    Decoder, Encoder, Error, Header, Result, decode_header, decode_to_buf, decode_to_vec,
-    encode_to_buf, encode_to_vec,
+    Channels, ColorSpace, Decoder, Encoder, Error, Header, Result, decode_header, decode_to_buf,
+    decode_to_vec, encode_to_buf, encode_to_vec,
 };
 use std::alloc::{AllocError, Global};
 use std::io::Cursor;
@@ -74,28 +74,48 @@ const LARGE: [u8; 14] = [
 // As many bytes as 400,000,000 pixels need: a byte for each 62 of them, and the end marker.
 const NEEDED: usize = 6_451_613 + 8;
 
-// A large header with so many bytes behind it, while all memory is taken: both calls refuse, and the
-// decoder is as before.
-fn assert_large(rt: &impl Abort, alloc: Global, behind: usize, text: &str) -> Result<()> {
+// Both calls refuse a large header with so many bytes after it, and the decoder is as before. While
+// memory is `taken`, the first allocation is refused.
+fn assert_large(
+    rt: &impl Abort,
+    alloc: Global,
+    after: usize,
+    taken: bool,
+    text: &str,
+) -> Result<()> {
     let mut file = Vec::from_slice(alloc, &LARGE)?;
-    file.resize(behind.saturating_add(14), 0)?;
+    file.resize(after.saturating_add(14), 0)?;
     let mut decoder = Decoder::new(&file)?;
-    let held = take_memory(alloc, 2)?;
+    let held = if taken {
+        take_memory(alloc, 2)?
+    } else {
+        Vec::new(alloc)
+    };
     let method = decoder.decode_to_vec(alloc).err();
     let free = decode_to_vec(alloc, &file).err();
     drop(held);
     assert_refused(rt, alloc, method, text)?;
     assert_refused(rt, alloc, free, text)?;
-    assert_number(rt, decoder.data().len(), behind);
+    assert_number(rt, decoder.data().len(), after);
+    let header = Header::try_new(20000, 20000, Channels::Rgb, ColorSpace::Srgb)?;
+    assert_header(rt, decoder.header(), &header);
     Ok(())
 }
 
 #[test]
-fn too_few_bytes_ask_for_no_memory(rt: HostRuntime) -> Result<()> {
-    for behind in [0, 1, NEEDED - 1] {
-        assert_large(&rt, rt.alloc(), behind, CUT)?;
+fn want_of_memory_comes_before_a_cut(rt: HostRuntime) -> Result<()> {
+    for after in [0, 1, NEEDED - 1, NEEDED] {
+        assert_large(&rt, rt.alloc(), after, true, REFUSED)?;
     }
-    assert_large(&rt, rt.alloc(), NEEDED, REFUSED)
+    Ok(())
+}
+
+#[test]
+fn too_few_bytes_are_cut(rt: HostRuntime) -> Result<()> {
+    for after in [0, 1, NEEDED - 1] {
+        assert_large(&rt, rt.alloc(), after, false, CUT)?;
+    }
+    Ok(())
 }
 
 // Encodes the pixel by the calls that take no memory.

@@ -5,7 +5,7 @@ use Rattle.qoi.specs.declared.types.Style.TheVariants.{Reference}
 use Rattle.std.proofs.lemmas.Result.{err_from_is_err_and}
 use Rattle.qoi.specs.Qoi.{header_of, pixel_count, header_size}
 use Rattle.qoi.specs.Verdicts.{IsWhole, AreWrong, AreCut}
-use Rattle.qoi.specs.Decoding.{DecodesFile, RefusesBytes, least_byte_count}
+use Rattle.qoi.specs.Decoding.{DecodesFile, RefusesBytes}
 use Rattle.qoi.specs.DecoderState.{DecoderState}
 use Rattle.std.proofs.lemmas.List.{length-drop}
 use Rattle.qoi.proofs.decoding.ImageSize.{bounded_by}
@@ -21,7 +21,6 @@ returns-in_err-out-clause-refused c =
       none,
       d.header,
       accepted.0,
-      subst (λ z. least_byte_count (pixel_count d.header) ≤ length z) accepted.2 (c.in_err-out.ensures.asked (ap Err none)),
     ))
     (λ r. inl (inr (
       d.header,

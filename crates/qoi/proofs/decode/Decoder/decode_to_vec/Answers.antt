@@ -1,5 +1,5 @@
 -- Whole bytes in memory are not refused.
-use Rattle.std.proofs.Common.{ℕ, List, rules, ◌≡◌, ◌≤◌, ◌++◌, length, take, drop, ap, sym, IsOk, false, true, ◌∙◌, subst, inr, arith, length-append}
+use Rattle.std.proofs.Common.{◌+◌, ◌*◌, slice_index, rules, ◌≡◌, ◌≤◌, ◌++◌, length, take, drop, ap, sym, IsOk, false, true, ◌∙◌, subst, inr, arith, length-append}
 use Rattle.std.proofs.lemmas.List.{length-take-le}
 use Rattle.std.proofs.lemmas.Result.{err_from_is_err_and}
 use Rattle.std.proofs.Math.Seq.{take-length}
@@ -11,6 +11,8 @@ use Rattle.qoi.specs.DecoderState.{output_byte_count}
 use Rattle.qoi.proofs.decoding.Ahead.{fault_ahead}
 use Rattle.qoi.proofs.decoding.RefusedBytes.{refused_for_wrong}
 use Rattle.qoi.proofs.decoding.Refusals.{whole_not_refused_in}
+use Rattle.qoi.specs.Reading.{IsImage}
+use Rattle.qoi.proofs.decode.Decoder.decode_to_vec.Given.{Over}
 use Rattle.qoi.proofs.decode.Decoder.decode_to_vec.Goals as goal
 
 pub returns-then-not-could_hold-clause-accepts : goal.returns-then-not-could_hold-clause-accepts
@@ -23,21 +25,34 @@ returns-then-not-could_hold-clause-accepts g c memory bytes rest cs told whole =
 pub returns-in_err-decode_to_buf-clause-accepts : goal.returns-in_err-decode_to_buf-clause-accepts
 returns-in_err-decode_to_buf-clause-accepts g c memory bytes rest cs told whole =
     let room : output_byte_count c.args.self.now ≤ length c.deref_mut.result.now =
-    omega (arith, c.in_ok-out.ensures.len, c.deref_mut.ensures.len, c.required_buf_len.ensures.bytes) in
+    omega (arith, c.in_ok-resize.ensures.len, c.deref_mut.ensures.len, c.required_buf_len-size.ensures.bytes) in
     let ok = c.decode_to_buf.ensures.accepts memory bytes rest cs told whole room in
     let no : false ≡ true = subst IsOk c.in_err-decode_to_buf.was ok in
     cc
 
+-- the vector is as long as the buffer that it lent, which is full
+counted : (g : Over) (c : goal.In_ok-decode_to_buf g) → (c.resize.new.self.len ≡ length c.decode_to_buf.new.buf)
+    × (c.in_ok-decode_to_buf.field-0 ≡ length c.decode_to_buf.new.buf)
+counted g c =
+    let size = c.in_ok-resize.ensures.len in
+    let lent : c.resize.new.self.len ≡ length c.decode_to_buf.new.buf = omega (arith, c.decode_to_buf.auto.buf, c.deref_mut.ensures.len) in
+    (lent, omega (arith, lent, size, c.required_buf_len-size.ensures.bytes, c.in_ok-decode_to_buf.ensures.decoded.0))
+
+-- the vector's bytes are those that the buffer's call decoded
+decoded_bytes : (g : Over) (c : goal.In_ok-decode_to_buf g) → take c.resize.new.self.len
+    (c.decode_to_buf.new.buf ++ drop (length c.decode_to_buf.new.buf) c.resize.new.self.items) ≡ take c.in_ok-decode_to_buf.field-0 c.decode_to_buf.new.buf
+decoded_bytes g c =
+    let buf = c.decode_to_buf.new.buf in
+    let after = drop (length buf) c.resize.new.self.items in
+    let e = counted g c in
+    ap (λ k. take k (buf ++ after)) e.0 ∙ take-append_seam buf after ∙ sym (take-length buf) ∙ ap (λ k. take k buf) (sym e.1)
+
 pub returns-clause-length : goal.returns-clause-length
 returns-clause-length g c =
-    let buf = c.decode_to_buf.new.buf in
-    let items = c.in_ok-out.out.items in
-    let n = c.in_ok-out.out.len in
-    let counted : n ≡ output_byte_count c.args.self.now = omega (arith, c.in_ok-out.ensures.len, c.required_buf_len.ensures.bytes) in
-    let within : n ≤ length (buf ++ drop (length buf) items) =
-    omega (arith, length-append buf (drop (length buf) items), c.decode_to_buf.auto.buf, c.deref_mut.ensures.len) in
-    let size = length-take-le n (buf ++ drop (length buf) items) within in
-    (size ∙ counted, omega (arith, size, counted, c.required_buf_len.ensures.some, c.required_buf_len.ensures.bytes))
+    let e = counted g c in
+    let size = ap length (decoded_bytes g c) ∙ length-take-le c.in_ok-decode_to_buf.field-0 c.decode_to_buf.new.buf (omega (arith, e.1)) in
+    let asked = c.in_ok-decode_to_buf.ensures.decoded.0 in
+    (size ∙ asked, omega (arith, size, asked, c.required_buf_len-size.ensures.some, c.required_buf_len-size.ensures.bytes))
 
 pub returns-then-not-could_hold-clause-faults : goal.returns-then-not-could_hold-clause-faults
 returns-then-not-could_hold-clause-faults g c bytes rest raw image told =
@@ -53,47 +68,35 @@ returns-then-not-could_hold-clause-wrong g c bytes told wrong =
     (subst (λ s. RefusesImage g.R.Reader.in_memory (pixel_count s.header) (g.R.Reader.ahead s.reader)
     (g.R.Reader.ahead s.reader) UnexpectedBufferEnd) c.self.view_is (rw c.n_pixels.ensures at cut)))
 
--- the vector's bytes are those that the buffer's call decoded
-front : (n size : ℕ) (buf after : List ℕ) → n ≡ length buf → size ≡ length buf → take n (buf ++ after) ≡ take size buf
-front n size buf after counted filled =
-    ap (λ k. take k (buf ++ after)) counted ∙ take-append_seam buf after ∙ sym (take-length buf) ∙ ap (λ k. take k buf) (sym filled)
-
 pub returns-clause-rgb : goal.returns-clause-rgb
 returns-clause-rgb g c channels h bytes four image as_four three as_k told =
-    let buf = c.decode_to_buf.new.buf in
-    let counted : c.in_ok-out.out.len ≡ length buf = omega (arith, c.decode_to_buf.auto.buf, c.deref_mut.ensures.len) in
-    let filled : c.in_ok-decode_to_buf.field-0 ≡ length buf =
-    omega (arith, counted, c.in_ok-out.ensures.len, c.required_buf_len.ensures.bytes, c.in_ok-decode_to_buf.ensures.decoded.0) in
-    front _ _ buf _ counted filled ∙ c.in_ok-decode_to_buf.ensures.rgb channels h bytes four image as_four three as_k told
+    decoded_bytes g c ∙ c.in_ok-decode_to_buf.ensures.rgb channels h bytes four image as_four three as_k told
 
 pub returns-clause-same : goal.returns-clause-same
 returns-clause-same g c channels h bytes raw image as_own as_k told =
-    let buf = c.decode_to_buf.new.buf in
-    let counted : c.in_ok-out.out.len ≡ length buf = omega (arith, c.decode_to_buf.auto.buf, c.deref_mut.ensures.len) in
-    let filled : c.in_ok-decode_to_buf.field-0 ≡ length buf =
-    omega (arith, counted, c.in_ok-out.ensures.len, c.required_buf_len.ensures.bytes, c.in_ok-decode_to_buf.ensures.decoded.0) in
-    front _ _ buf _ counted filled ∙ c.in_ok-decode_to_buf.ensures.same channels h bytes raw image as_own as_k told
+    decoded_bytes g c ∙ c.in_ok-decode_to_buf.ensures.same channels h bytes raw image as_own as_k told
 
 pub returns-clause-image : goal.returns-clause-image
-returns-clause-image g c bytes rest raw image told =
-    let buf = c.decode_to_buf.new.buf in
-    let counted : c.in_ok-out.out.len ≡ length buf = omega (arith, c.decode_to_buf.auto.buf, c.deref_mut.ensures.len) in
-    let filled : c.in_ok-decode_to_buf.field-0 ≡ length buf =
-    omega (arith, counted, c.in_ok-out.ensures.len, c.required_buf_len.ensures.bytes, c.in_ok-decode_to_buf.ensures.decoded.0) in
-    front _ _ buf _ counted filled ∙ c.in_ok-decode_to_buf.ensures.image bytes rest raw image told
+returns-clause-image g c bytes rest raw image told = decoded_bytes g c ∙ c.in_ok-decode_to_buf.ensures.image bytes rest raw image told
+
+pub returns-clause-rest : goal.returns-clause-rest
+returns-clause-rest g c bytes told =
+    let d = c.args.self.now in
+    let read = c.in_ok-decode_to_buf.ensures.rest bytes told in
+    (read.0, read.1, subst (λ z. IsImage d.channels bytes d.header read.0 z) (sym (decoded_bytes g c)) read.2)
+
+pub returns-clause-file : goal.returns-clause-file
+returns-clause-file g c bytes ahead made told =
+    let file = c.in_ok-decode_to_buf.ensures.file bytes ahead made told in
+    (file.0, file.1, subst (λ z. DecodesFile bytes c.args.self.now.header file.0 z) (sym (decoded_bytes g c)) file.2)
+
+pub returns-clause-opaque : goal.returns-clause-opaque
+returns-clause-opaque g c four three i inside =
+    ap (λ z. slice_index z (4 * i + 3)) (decoded_bytes g c) ∙ c.in_ok-decode_to_buf.ensures.opaque four three i inside
 
 pub returns-in_err-decode_to_buf-clause-faults : goal.returns-in_err-decode_to_buf-clause-faults
 returns-in_err-decode_to_buf-clause-faults g c bytes rest raw image told =
     let room : output_byte_count c.args.self.now ≤ length c.deref_mut.result.now =
-    omega (arith, c.in_ok-out.ensures.len, c.deref_mut.ensures.len, c.required_buf_len.ensures.bytes) in
+    omega (arith, c.in_ok-resize.ensures.len, c.deref_mut.ensures.len, c.required_buf_len-size.ensures.bytes) in
     let p = err_from_is_err_and c.from_residual-in_err-decode_to_buf.result c.from_residual-in_err-decode_to_buf.ensures.1 in
     rw (p.1, p.2) (inr (c.in_err-decode_to_buf.ensures.faults bytes rest raw image told room))
-
-pub returns-clause-file : goal.returns-clause-file
-returns-clause-file g c bytes ahead made told =
-    let buf = c.decode_to_buf.new.buf in
-    let counted : c.in_ok-out.out.len ≡ length buf = omega (arith, c.decode_to_buf.auto.buf, c.deref_mut.ensures.len) in
-    let filled : c.in_ok-decode_to_buf.field-0 ≡ length buf =
-    omega (arith, counted, c.in_ok-out.ensures.len, c.required_buf_len.ensures.bytes, c.in_ok-decode_to_buf.ensures.decoded.0) in
-    let file = c.in_ok-decode_to_buf.ensures.file bytes ahead made told in
-    (file.0, file.1, subst (λ z. DecodesFile bytes c.args.self.now.header file.0 z) (sym (front _ _ buf _ counted filled)) file.2)
