@@ -1,7 +1,7 @@
 -- Lemmas on decoding.
 pub mod Ahead
 pub mod Blocks
-pub mod Deltas
+pub mod FastSteps
 pub mod FilledBuffer
 pub mod FirstChunk
 pub mod ImageSize

@@ -2,6 +2,8 @@
 pub mod Appended
 pub mod ChunkSteps
 pub mod ChunksApart
+pub mod Entries
+pub mod HashedPixels
 pub mod HeaderBytes
 pub mod Lanes
 pub mod LaneRuns

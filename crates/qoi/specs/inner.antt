@@ -2,6 +2,7 @@
 pub mod CoderState
 pub mod CoderLoop
 pub mod Filling
+pub mod Hashed
 pub mod Packed
 pub mod Piece
 pub mod Quad

@@ -13,7 +13,7 @@ ghost use Rattle.qoi.specs.Reading.{HasImage, IsDecoderOf, IsImage, IsImageFor};
 ghost use Rattle.qoi.specs.Errors.{IsReaderFault, IsErrorOfCut, IsErrorOfWrong};
 ghost use Rattle.qoi.specs.Raw.{without_fourth, capped_byte_count, image_byte_count, HasImageLength};
 
-mod deltas;
+mod fast;
 mod pixels;
 mod reader;
 mod slice;

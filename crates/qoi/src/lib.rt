@@ -23,6 +23,7 @@ pub mod consts;
 mod decode;
 mod encode;
 mod error;
+mod hashed;
 mod header;
 #[doc(hidden)]
 pub mod laws;
@@ -31,6 +32,7 @@ mod packed;
 pub mod parts;
 mod pixel;
 mod runs;
+mod steps;
 mod table;
 #[cfg(test)]
 mod tests;

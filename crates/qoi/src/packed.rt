@@ -1,18 +1,12 @@
-//! Pixels as single numbers: packed into 32 bits, and spread over 64.
+//! Pixels as single numbers of 32 bits.
 ghost use Rattle.std.specs.Prelude.{◌≡◌, ◌↔◌, ◌+◌, ◌*◌, ◌%◌, ◌^◌, ◌<◌, ◌≤◌, ℕ, [], ◌∷◌, length, take, drop, replicate, IsTrue, if◌then◌else◌};
-ghost use Rattle.qoi.specs.Qoi.{IsPixel, pixel, rgba, start, blank, hash, moved};
+ghost use Rattle.qoi.specs.Qoi.{IsPixel, pixel, rgba, start, blank, hash};
 ghost use Rattle.qoi.specs.Raw.{IsChannels, output};
-ghost use Rattle.qoi.specs.inner.Packed.{word, pixel_of_word, lanes, spread};
+ghost use Rattle.qoi.specs.inner.Packed.{word, pixel_of_word};
 
+use crate::hashed::Hashed;
 use std::marker::Model;
 use std::simd::{Simd, u8x4, u8x16, u64x2};
-
-// The lanes of a spread pixel: all its bits but the free ones.
-const LANES: u64 = 0xff00_ff00_00ff_00ff;
-
-// (3 * 2^56 + 7 * 2^40 + 5 * 2^16 + 11) * 4: the six highest bits of its product with a spread pixel
-// are the six lowest ones of 3 r + 5 g + 7 b + 11 a.
-const HASH_FACTOR: u64 = 0x0c00_1c00_0014_002c;
 
 /// A pixel in 32 bits: red in the lowest byte, then green, blue and alpha.
 ///
@@ -33,30 +27,6 @@ impl Model for Packed {
     ghost invariant = { λ p. p.0 ≡ word (pixel_of_word p.0) };
 
     ghost inverse = { λ p. record { 0 = word p } };
-
-    ghost inverse_ok = { λ p h i. record { 0 = sym h i } };
-}
-
-/// A pixel in 64 bits: red, blue and green from bits 0, 16 and 40 on, each with free bits above it,
-/// and alpha in the highest byte.
-///
-/// A contract sees the pixel.
-#[derive(Clone, Copy)]
-pub(crate) struct Spread(u64);
-
-impl Model for Spread {
-    ghost use Rattle.std.specs.Prelude.{◌≡◌};
-    ghost use Rattle.std.proofs.Common.{sym};
-    ghost use Rattle.qoi.specs.Qoi.{RgbaPixel};
-    ghost use Rattle.qoi.specs.inner.Packed.{spread, pixel_of_spread};
-
-    ghost Value = { RgbaPixel };
-
-    ghost view = { λ p. pixel_of_spread p.0 };
-
-    ghost invariant = { λ p. p.0 ≡ spread (pixel_of_spread p.0) };
-
-    ghost inverse = { λ p. record { 0 = spread p } };
 
     ghost inverse_ok = { λ p h i. record { 0 = sym h i } };
 }
@@ -210,14 +180,12 @@ impl Packed {
         self.0 == other.0
     }
 
-    /// The same pixel, spread.
-    #[inline(always)]
-    #[tactic(auto, using(crate::proofs::format::PackedPixels::masked_same, crate::proofs::format::PackedPixels::masked_is_spread, crate::proofs::format::PackedPixels::word_twice))]
-    pub(crate) fn spread(self) -> Spread
-        ensures { result ≡ self }
+    /// The index position of the pixel, 0 to 63 (QOI specification 1.0, "Chunks").
+    pub(crate) fn hash_index(self) -> u8
+        ensures position { result ≡ hash self }
+        ensures within { result < 64 }
     {
-        let word = u64::from(self.0);
-        Spread((word + (word << 32)) & LANES)
+        Hashed::new(self.r(), self.g(), self.b(), self.a()).position() as u8
     }
 
     /// Opaque black, the pixel before the first one.
@@ -226,65 +194,6 @@ impl Packed {
         ensures { result ≡ start }
     {
         Packed(0xff00_0000)
-    }
-}
-
-impl Spread {
-    /// Opaque black, the pixel before the first one.
-    #[tactic(auto, unfolding(crate::specs::Qoi::start))]
-    pub(crate) fn start() -> Spread
-        ensures { result ≡ start }
-    {
-        Spread(0xff00_0000_0000_0000)
-    }
-
-    /// A pixel of four channels.
-    #[inline(always)]
-    pub(crate) fn new(r: u8, g: u8, b: u8, a: u8) -> Spread
-        ensures { result ≡ pixel r g b a }
-    {
-        let (r, g, b, a) = (u64::from(r), u64::from(g), u64::from(b), u64::from(a));
-        Spread(r + (b << 16) + (g << 40) + (a << 56))
-    }
-
-    /// The same pixel, packed.
-    #[inline(always)]
-    pub(crate) fn packed(self) -> Packed
-        ensures { result ≡ self }
-    {
-        Packed((self.0.wrapping_add(self.0 >> 32) % 0x1_0000_0000) as u32)
-    }
-
-    /// The index position of the pixel, 0 to 63 (QOI specification 1.0, "Chunks").
-    #[inline(always)]
-    #[tactic(auto, unfolding(crate::specs::Qoi::hash))]
-    pub(crate) fn hash_index(self) -> u8
-        ensures position { result ≡ hash self }
-        ensures within { result < 64 }
-    {
-        (self.0.wrapping_mul(HASH_FACTOR) >> 58) as u8
-    }
-
-    /// The pixel with numbers added to red, green and blue, which stand in their lanes; sums wrap
-    /// at 256.
-    #[inline(always)]
-    #[tactic(auto, using(crate::proofs::format::PackedPixels::masked_same, crate::proofs::format::PackedPixels::masked_is_spread, crate::proofs::format::PackedPixels::lanes_added))]
-    pub(crate) fn moved(self, by: u64) -> Spread
-        requires { by < 2 ^ 52 }
-        ensures moved { (r g b : ℕ) → r ≤ 1000 → g ≤ 1000 → b ≤ 1000 → by ≡ lanes r g b
-            → result ≡ moved self r g b }
-        ensures nothing { by ≡ 0 → result ≡ self }
-    {
-        Spread((self.0 + by) & LANES)
-    }
-
-    /// The pixel with its own alpha and other red, green and blue.
-    #[inline(always)]
-    pub(crate) fn with_rgb(self, r: u8, g: u8, b: u8) -> Spread
-        ensures { result ≡ pixel r g b self.a }
-    {
-        let (r, g, b) = (u64::from(r), u64::from(g), u64::from(b));
-        Spread(r + (b << 16) + (g << 40) + (self.0 >> 56 << 56))
     }
 }
 

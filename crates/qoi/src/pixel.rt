@@ -211,7 +211,7 @@ impl<const N: usize> Pixel<N> {
         ensures position { result ≡ hash (rgba self.entry) }
         ensures within { result < positions }
     {
-        self.packed().spread().hash_index()
+        self.packed().hash_index()
     }
 
     /// Writes the first of a difference, a luma, an RGB and an RGBA chunk that gives this pixel

@@ -1,9 +1,11 @@
 //! The 64 index positions and the pixels that they hold (QOI specification 1.0, "Chunks": the running
 //! array of previously seen pixels).
-ghost use Rattle.std.specs.Prelude.{◌≡◌, ◌<◌, [], ◌∷◌, IfSome, IsTrue, IsFalse};
+ghost use Rattle.std.specs.Prelude.{◌≡◌, ◌<◌, ◌≤◌, [], ◌∷◌, IfSome, IsTrue, IsFalse};
 ghost use Rattle.qoi.specs.Qoi.{Past, positions, hash, seen};
+ghost use Rattle.qoi.specs.inner.Hashed.{pixel_of_lanes, HoldsSeen};
 ghost use Rattle.qoi.specs.inner.Table.{Holds, first_blank};
 
+use crate::hashed::Hashed;
 use crate::packed::{Packed, pick};
 use std::marker::Model;
 
@@ -79,5 +81,57 @@ impl Table {
             place += 1;
         }
         None
+    }
+}
+
+/// The pixels that the 64 index positions hold, as the decoders keep them: by a chunk's first byte, with
+/// 0 for each that isn't an index position.
+///
+/// A contract sees the list of the numbers.
+#[derive(Drop)]
+pub(crate) struct HashedTable {
+    numbers: [Hashed; 256],
+}
+
+impl Model for HashedTable {
+    ghost use Rattle.std.specs.Prelude.{◌≡◌, ◌≤◌, ℕ, List, length, slice_index};
+    ghost use Rattle.qoi.specs.Qoi.{positions};
+
+    ghost Value = { List ℕ };
+
+    ghost view = { λ t. t.numbers };
+
+    ghost invariant = { λ t. (length t.numbers ≡ 256)
+        × ((i : ℕ) → positions ≤ i → slice_index t.numbers i ≡ 0) };
+}
+
+impl HashedTable {
+    /// Transparent black at each index position.
+    pub(crate) fn new() -> HashedTable
+        ensures { HoldsSeen result [] }
+    {
+        HashedTable {
+            numbers: [Hashed::blank(); 256],
+        }
+    }
+
+    /// What the index position holds that a chunk's first byte names, or 0 for another chunk.
+    #[inline(always)]
+    pub(crate) fn at(&self, b1: usize) -> Hashed
+        requires { b1 < 256 }
+        ensures place { b1 < positions → (past : Past) → HoldsSeen self.now past
+            → pixel_of_lanes result ≡ seen past b1 }
+        ensures none { positions ≤ b1 → result ≡ 0 }
+    {
+        self.numbers[b1]
+    }
+
+    /// Puts a pixel at its index position.
+    #[inline(always)]
+    pub(crate) fn put(&mut self, px: Hashed)
+        ensures { (past : Past) → HoldsSeen self.old past
+            → HoldsSeen self.new (pixel_of_lanes px ∷ past) }
+    {
+        self.numbers[px.position()] = px;
     }
 }

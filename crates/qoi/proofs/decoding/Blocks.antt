@@ -1,13 +1,16 @@
 -- Sixteen bytes at a time.
-use Rattle.std.proofs.Common.{◌≡◌, ◌≢◌, ◌⊎◌, [], ◌∷◌, rules, ℕ, ◌+◌, ◌-◌, ◌*◌, ◌/◌, ◌≤◌, inl, inr, List, ◌++◌, length, take, drop, replicate, arith, refl, sym, ap, ◌∙◌, subst}
-use Rattle.std.proofs.lemmas.List.{take-take, length-take-le, length-drop}
+use Rattle.std.proofs.Common.{◌≡◌, [], ◌∷◌, ℕ, ◌+◌, ◌-◌, ◌*◌, ◌/◌, ◌≤◌, inl, inr, List, ◌++◌, length, take, drop, replicate, arith, refl, sym, ap, ◌∙◌, subst, append-nil, append_assoc}
+use Rattle.std.proofs.lemmas.List.{take-take, length-take-le, length-drop, length-replicate, take-replicate, replicate-append-replicate}
+use Rattle.std.proofs.lemmas.Grind.{flat_map-append}
 use Rattle.std.proofs.Math.Seq.{take-append-add}
 use Rattle.std.proofs.lemmas.Simd.{put_chunk_whole}
 use Rattle.std.proofs.lemmas.Slice.{take-put_mid}
 use borrow.Rule.Slice.PartMut.{put_mid}
 use lib.Lanes.{put_chunk}
-use Rattle.qoi.specs.Qoi.{RgbaPixel, pixel}
+use Rattle.qoi.specs.Qoi.{RgbaPixel}
 use Rattle.qoi.specs.Raw.{IsChannels, pixel_bytes, output}
+use Rattle.qoi.specs.inner.Filling.{upto, HasWritten}
+use Rattle.qoi.proofs.decoding.FilledBuffer.{take-output}
 
 -- the whole pixels of a block
 whole_of : (f c : ℕ) (p : RgbaPixel) (bytes : List ℕ) → IsChannels c → bytes ≡ take 16 (output f c (replicate 6 p))
@@ -19,8 +22,8 @@ whole_of f c p bytes (inr is) = subst (λ d. bytes ≡ take 16 (output f d (repl
     → (take (d * (16 / d)) bytes ≡ output f d (replicate (16 / d) p)) × (d * (16 / d) ≤ 16) × (length bytes ≡ 16)) (sym is)
     (λ e. rw e (refl, omega arith, refl))
 
--- the front of a piece that was written stands behind what was written before
-pub front_written : (at size c : ℕ) (out piece : List ℕ) → length piece ≡ size → at + size ≤ length out → c ≤ size
+-- the front of a piece that was written stands after what was written before
+front_written : (at size c : ℕ) (out piece : List ℕ) → length piece ≡ size → at + size ≤ length out → c ≤ size
     → take (at + c) (put_mid at (at + size - at) out piece) ≡ take at out ++ take c piece
 front_written at size c out piece is room within =
     let new = put_mid at (at + size - at) out piece in
@@ -29,11 +32,11 @@ front_written at size c out piece is room within =
     sym (take-take (at + c) (at + size) new (omega arith)) ∙ ap (take (at + c)) all ∙ ap (λ n. take (n + c) (take at out ++ piece)) (sym front)
     ∙ take-append-add (take at out) piece c
 
--- a block's whole pixels stand behind what was written before
-pub block_written : (f c : ℕ) (p : RgbaPixel) (out bytes : List ℕ) (at : ℕ) → IsChannels c → at + 16 ≤ length out → bytes ≡ take 16 (output f c (replicate 6 p))
+-- the whole pixels of a block stand after what was written before
+whole_written : (f c : ℕ) (p : RgbaPixel) (out bytes : List ℕ) (at : ℕ) → IsChannels c → at + 16 ≤ length out → bytes ≡ take 16 (output f c (replicate 6 p))
     → take (at + c * (16 / c)) (put_mid at (at + 16 - at) out (put_chunk 0 (take (at + 16 - at) (drop at out)) bytes)) ≡ take at out ++ output f c
     (replicate (16 / c) p)
-block_written f c p out bytes at is room e =
+whole_written f c p out bytes at is room e =
     let whole = whole_of f c p bytes is e in
     let size : at + 16 - at ≡ 16 = omega arith in
     let part = take (at + 16 - at) (drop at out) in
@@ -48,17 +51,97 @@ block_written f c p out bytes at is room e =
     front_written at 16 (c * (16 / c)) out (put_chunk 0 part bytes) (ap length put ∙ whole.2) room whole.1
     ∙ ap (λ z. take at out ++ take (c * (16 / c)) z) put ∙ ap (λ z. take at out ++ z) whole.0
 
--- the bytes of a pixel of the file, of its own alpha or opaque
-pixel_front : (f c : ℕ) (p q : RgbaPixel) → IsChannels c → (f ≡ 4) × (q ≡ p) ⊎ ((f ≢ 4) × (q ≡ pixel p.r p.g p.b 255))
-    → take c (q.r ∷ q.g ∷ q.b ∷ q.a ∷ []) ≡ pixel_bytes f c p
-pixel_front f c p q (inl is) (inl (four, same)) = rw (is, same) refl
-pixel_front f c p q (inl is) (inr (three, same)) = rw (is, same) refl
-pixel_front f c p q (inr is) (inl (four, same)) = rw (is, same, four) refl
-pixel_front f c p q (inr is) (inr (three, same)) = rw (is, same) (ap (λ a. p.r ∷ p.g ∷ p.b ∷ a ∷ []) (sym (search rules)))
+-- copies of a pixel were written, and then more of them
+pub written_copies : {f c : ℕ} {old mid new : List ℕ} (p : RgbaPixel) (at j k n : ℕ) → IsChannels c → n ≡ j + k
+    → HasWritten f c (upto old at) (upto mid (at + c * j)) (replicate j p)
+    → HasWritten f c (upto mid (at + c * j)) (upto new (at + c * j + c * k)) (replicate k p) → HasWritten f c (upto old at) (upto new (at + c * n)) (replicate n p)
+written_copies {f} {c} {old} {mid} {new} p at j k n is sum first more =
+    let end : at + c * j + c * k ≡ at + c * n = after_both c at j k n is sum in
+    let bytes : output f c (replicate j p) ++ output f c (replicate k p) ≡ output f c (replicate n p) =
+    sym (flat_map-append (pixel_bytes f c) (replicate j p) (replicate k p)) ∙ ap (output f c) (replicate-append-replicate j k p ∙ ap (λ m. replicate m p) (sym sum)) in
+    record {
+      at_is = ap (λ m. at + c * m) (sym (length-replicate n p));
+      same = ap (λ m. take m new) (sym end) ∙ more.same ∙ ap (λ z. z ++ output f c (replicate k p)) first.same
+          ∙ append_assoc (take at old) (output f c (replicate j p)) (output f c (replicate k p)) ∙ ap (λ z. take at old ++ z) bytes;
+    }
+  where
+    after_both : (c at j k n : ℕ) → IsChannels c → n ≡ j + k → at + c * j + c * k ≡ at + c * n
+    after_both c at j k n (inl e) = subst (λ d. n ≡ j + k → at + d * j + d * k ≡ at + d * n) (sym e) (λ sum. omega arith)
+    after_both c at j k n (inr e) = subst (λ d. n ≡ j + k → at + d * j + d * k ≡ at + d * n) (sym e) (λ sum. omega arith)
 
--- a pixel's bytes stand behind what was written before, where four bytes were written
-pub four_written : (f c : ℕ) (p q : RgbaPixel) (out : List ℕ) (at : ℕ) → IsChannels c → at + 4 ≤ length out
-    → (f ≡ 4) × (q ≡ p) ⊎ ((f ≢ 4) × (q ≡ pixel p.r p.g p.b 255))
-    → take (at + c) (put_mid at (at + 4 - at) out (q.r ∷ q.g ∷ q.b ∷ q.a ∷ [])) ≡ take at out ++ pixel_bytes f c p
-four_written f c p q out at is room which =
-    front_written at 4 c out (q.r ∷ q.g ∷ q.b ∷ q.a ∷ []) refl room (omega (arith, is)) ∙ ap (λ z. take at out ++ z) (pixel_front f c p q is which)
+-- fewer of the copies were written too
+written_fewer : {f c : ℕ} {old new : List ℕ} (p : RgbaPixel) (at most count : ℕ) → IsChannels c → count ≤ most → at ≤ length old
+    → HasWritten f c (upto old at) (upto new (at + c * most)) (replicate most p) → HasWritten f c (upto old at) (upto new (at + c * count)) (replicate count p)
+written_fewer {f} {c} {old} {new} p at most count is le within all =
+    let bytes = output f c (replicate most p) in
+    let front : length (take at old) ≡ at = length-take-le at old within in
+    record {
+      at_is = ap (λ m. at + c * m) (sym (length-replicate count p));
+      same = sym (take-take (at + c * count) (at + c * most) new (ends c at count most is le)) ∙ ap (take (at + c * count)) all.same
+          ∙ ap (λ n. take (n + c * count) (take at old ++ bytes)) (sym front) ∙ take-append-add (take at old) bytes (c * count)
+          ∙ ap (λ z. take at old ++ z) (take-output f c count (replicate most p) is (omega (arith, le, length-replicate most p))
+          ∙ ap (output f c) (take-replicate count most p le));
+    }
+  where
+    ends : (c at count most : ℕ) → IsChannels c → count ≤ most → at + c * count ≤ at + c * most
+    ends c at count most (inl e) = subst (λ d. count ≤ most → at + d * count ≤ at + d * most) (sym e) (λ le. omega arith)
+    ends c at count most (inr e) = subst (λ d. count ≤ most → at + d * count ≤ at + d * most) (sym e) (λ le. omega arith)
+
+-- copies of a pixel, as many as a block has room for
+pub block_written : (f c : ℕ) (p : RgbaPixel) (out bytes : List ℕ) (at count : ℕ) → IsChannels c → at + 16 ≤ length out
+    → bytes ≡ take 16 (output f c (replicate 6 p)) → count ≤ 16 / c
+    → HasWritten f c (upto out at) (upto (put_mid at (at + 16 - at) out (put_chunk 0 (take (at + 16 - at) (drop at out)) bytes)) (at + c * count)) (replicate count p)
+block_written f c p out bytes at count is room e le =
+    written_fewer p at (16 / c) count is le (omega arith) (record {
+      at_is = ap (λ m. at + c * m) (sym (length-replicate (16 / c) p));
+      same = whole_written f c p out bytes at is room e;
+    })
+
+-- a pixel alone
+pub pixel_written : (f c : ℕ) (p : RgbaPixel) (out bytes : List ℕ) (at : ℕ) → IsChannels c → at + c ≤ length out
+    → bytes ≡ take 16 (output f c (replicate 6 p))
+    → HasWritten f c (upto out at) (upto (put_mid at (at + c - at) out (take c bytes)) (at + c)) (p ∷ [])
+pixel_written f c p out bytes at is room e =
+    let piece = one_of f c p bytes is e in
+    record {
+      at_is = one c at;
+      same = front_written at c c out (take c bytes) piece.1 room (omega arith) ∙ ap (λ z. take at out ++ z) (piece.2 ∙ piece.0 ∙ sym (append-nil (pixel_bytes f c p)));
+    }
+  where
+    one : (c at : ℕ) → at + c ≡ at + c * 1
+    one c at = omega arith
+
+    one_of : (f c : ℕ) (p : RgbaPixel) (bytes : List ℕ) → IsChannels c → bytes ≡ take 16 (output f c (replicate 6 p))
+        → (take c bytes ≡ pixel_bytes f c p) × (length (take c bytes) ≡ c) × (take c (take c bytes) ≡ take c bytes)
+    one_of f c p bytes (inl is) = subst (λ d. bytes ≡ take 16 (output f d (replicate 6 p))
+        → (take d bytes ≡ pixel_bytes f d p) × (length (take d bytes) ≡ d) × (take d (take d bytes) ≡ take d bytes)) (sym is)
+        (λ e. rw e (refl, refl, refl))
+    one_of f c p bytes (inr is) = subst (λ d. bytes ≡ take 16 (output f d (replicate 6 p))
+        → (take d bytes ≡ pixel_bytes f d p) × (length (take d bytes) ≡ d) × (take d (take d bytes) ≡ take d bytes)) (sym is)
+        (λ e. rw e (refl, refl, refl))
+
+-- no copies
+pub written_none : (f c : ℕ) (old : List ℕ) (at : ℕ) (p : RgbaPixel) → HasWritten f c (upto old at) (upto old (at + c * 0)) (replicate 0 p)
+written_none f c old at p = record { at_is = refl; same = let none : at + c * 0 ≡ at = omega arith in rw none (sym (append-nil (take at old))) }
+
+-- one of them
+pub written_one : {f c : ℕ} {old new : List ℕ} (p : RgbaPixel) (at : ℕ) → HasWritten f c (upto old at) (upto new (at + c)) (p ∷ [])
+    → HasWritten f c (upto old at) (upto new (at + c * 1)) (replicate 1 p)
+written_one {c = c} p at w = let one : at + c * 1 ≡ at + c = omega arith in rw one w
+
+-- four times some copies, one after the other; so any number of them up to all
+pub four_written : {f c : ℕ} {o0 o1 o2 o3 o4 : List ℕ} (p : RgbaPixel) (at k count : ℕ) → IsChannels c → at ≤ length o0 → count ≤ 4 * k
+    → HasWritten f c (upto o0 at) (upto o1 (at + c * k)) (replicate k p)
+    → HasWritten f c (upto o1 (at + c * k)) (upto o2 (at + c * k + c * k)) (replicate k p)
+    → HasWritten f c (upto o2 (at + c * (2 * k))) (upto o3 (at + c * (2 * k) + c * k)) (replicate k p)
+    → HasWritten f c (upto o3 (at + c * (3 * k))) (upto o4 (at + c * (3 * k) + c * k)) (replicate k p)
+    → HasWritten f c (upto o0 at) (upto o4 (at + c * count)) (replicate count p)
+four_written p at k count is within le w1 w2 w3 w4 =
+    let two = written_copies p at k k (2 * k) is (omega arith) w1 w2 in
+    let three = written_copies p at (2 * k) k (3 * k) is (omega arith) two w3 in
+    written_fewer p at (4 * k) count is le within (written_copies p at (3 * k) k (4 * k) is (omega arith) three w4)
+
+-- sixteen blocks have room for the longest run
+pub blocks_enough : (c count : ℕ) → IsChannels c → count ≤ 62 → count ≤ 4 * (4 * (16 / c))
+blocks_enough c count (inl e) = subst (λ d. count ≤ 62 → count ≤ 4 * (4 * (16 / d))) (sym e) (λ le. omega arith)
+blocks_enough c count (inr e) = subst (λ d. count ≤ 62 → count ≤ 4 * (4 * (16 / d))) (sym e) (λ le. omega arith)

@@ -1,13 +1,13 @@
 -- A buffer that is filled with pixels, one after the other.
-use Rattle.std.proofs.Common.{◌≡◌, ℕ, zero, suc, ◌+◌, ◌-◌, ◌*◌, ◌/◌, ◌%◌, ◌<◌, ◌≤◌, ◌⊎◌, inl, inr, List, [], ◌∷◌, ◌++◌, length, take, reverse, replicate, min, arith, refl, sym, ap, ◌∙◌, subst, append-nil, length-append}
-use Rattle.std.proofs.lemmas.List.{take-take, length-reverse, reverse-append, take-append-le, length-replicate, reverse-reverse}
+use Rattle.std.proofs.Common.{◌≡◌, ℕ, zero, suc, ◌+◌, ◌-◌, ◌*◌, ◌/◌, ◌%◌, ◌<◌, ◌≤◌, ◌⊎◌, inl, inr, List, [], ◌∷◌, ◌++◌, length, take, reverse, replicate, min, arith, refl, sym, ap, ◌∙◌, subst, length-append}
+use Rattle.std.proofs.lemmas.List.{length-reverse, reverse-append, take-append-le, length-replicate, reverse-reverse}
 use Rattle.std.proofs.Math.Seq.{take-length, take-append-add}
 use Rattle.std.proofs.Math.Nat.{mul-suc}
 use Rattle.std.proofs.lemmas.Bool.{cases_lt}
 use Rattle.std.proofs.lemmas.Grind.{flat_map-append}
 use Rattle.qoi.specs.Qoi.{RgbaPixel, Past}
 use Rattle.qoi.specs.Raw.{IsChannels, pixel_bytes, output}
-use Rattle.qoi.specs.inner.Filling.{Buffer, upto, HasFilled}
+use Rattle.qoi.specs.inner.Filling.{Buffer, upto, HasWritten, HasFilled}
 use Rattle.qoi.proofs.format.ChunkSteps.{repeats_after, reverse-replicate}
 
 -- there are channels
@@ -80,7 +80,7 @@ full_counts c n l at len (inr e) = subst (λ k. len ≡ k * n → at ≡ k * min
 output-append : (f c : ℕ) (more past : Past) → output f c (reverse (more ++ past)) ≡ output f c (reverse past) ++ output f c (reverse more)
 output-append f c more past = ap (output f c) (reverse-append more past) ∙ flat_map-append (pixel_bytes f c) (reverse past) (reverse more)
 
--- pixels written at the offset after the others, whatever stands behind them
+-- pixels written at the offset after the others, whatever stands after them
 filled_list : (f c n : ℕ) (out new : List ℕ) (at : ℕ) (past : Past) (ps : List RgbaPixel) → IsChannels c → at < length out → at + c * length ps ≤ length out
     → length new ≡ length out → take (at + c * length ps) new ≡ take at out ++ output f c ps
     → HasFilled f c n (upto out at) past → HasFilled f c n (upto new (at + c * length ps)) (reverse ps ++ past)
@@ -99,23 +99,6 @@ filled_list f c n out new at past ps is inside fits size e h =
           ∙ sym (ap (take end) (output-append f c (reverse ps) past ∙ ap (λ z. so_far ++ output f c z) (reverse-reverse ps))
           ∙ take_whole end (so_far ++ bytes) all);
     }
-
--- a pixel alone is written
-pub pixel_written : (f c : ℕ) (out new : List ℕ) (at : ℕ) (p : RgbaPixel) → take (at + c) new ≡ take at out ++ pixel_bytes f c p
-    → take (at + c * 1) new ≡ take at out ++ output f c (replicate 1 p)
-pixel_written f c out new at p e =
-    let one : c * 1 ≡ c = omega arith in
-    let bytes : output f c (replicate 1 p) ≡ pixel_bytes f c p = append-nil (pixel_bytes f c p) in
-    rw (one, bytes) e
-
--- and the buffer is filled with it too
-pub filled_more : (f c n : ℕ) (out new : List ℕ) (at : ℕ) (past : Past) (p : RgbaPixel) → IsChannels c → at < length out → at + c ≤ length out
-    → length new ≡ length out → take (at + c) new ≡ take at out ++ pixel_bytes f c p
-    → HasFilled f c n (upto out at) past → HasFilled f c n (upto new (at + c)) (p ∷ past)
-filled_more f c n out new at past p is inside room size e h =
-    let one : c * 1 ≡ c = omega arith in
-    subst (λ k. HasFilled f c n (upto new (at + k)) (p ∷ past)) one
-    (filled_list f c n out new at past (p ∷ []) is inside (rw one room) size (pixel_written f c out new at p e) h)
 
 -- where the buffer is full, further pixels change nothing
 pub filled_full : (f c n : ℕ) (out : List ℕ) (at : ℕ) (past more : Past) → IsChannels c → HasFilled f c n (upto out at) past → length out ≤ at
@@ -143,85 +126,24 @@ room_after c at done k all len (inl e) = subst (λ d. done + k ≤ all → at + 
 room_after c at done k all len (inr e) = subst (λ d. done + k ≤ all → at + d * all ≤ len → (at + d * done + d * k ≤ len) × (0 < k → at + d * done < len))
     (sym e) (λ p q. (omega arith, λ r. omega arith))
 
--- a block of sixteen bytes has room, and so have its whole pixels
-pub record BlockRoom (c at done len : ℕ) : Type 0 where
-  pub inside : at + c * done < len
-  pub fits : at + c * done + c * (16 / c) ≤ len
-  pub block : at + c * done + 16 ≤ len
+-- copies of a pixel that were written fill the buffer
+pub filled_copies : (f c n : ℕ) (out new : List ℕ) (at count : ℕ) (p : RgbaPixel) (past : Past) → IsChannels c → at < length out
+    → at + c * count ≤ length out → length new ≡ length out → HasWritten f c (upto out at) (upto new (at + c * count)) (replicate count p)
+    → HasFilled f c n (upto out at) past → HasFilled f c n (upto new (at + c * count)) (replicate count p ++ past)
+filled_copies f c n out new at count p past is inside fits size w h =
+    let many : length (replicate count p) ≡ count = length-replicate count p in
+    let listed = filled_list f c n out new at past (replicate count p) is inside (rw many fits) size (rw many w.same) h in
+    rw (many, reverse-replicate count p) at listed
 
--- two blocks, one behind the other, of which the first begins within the copies
-pub record TwoBlocks (c at done count len : ℕ) : Type 0 where
-  pub first : BlockRoom c at done len
-  pub second : BlockRoom c at (done + 16 / c) len
-  pub more : done + 2 * (16 / c) ≤ count + 9
+-- the room that the blocks of any run have is enough for its pixels
+pub run_fits : (c at count len : ℕ) → IsChannels c → count ≤ 62 → at + 256 ≤ len → at + c * count ≤ len
+run_fits c at count len (inl e) = subst (λ d. count ≤ 62 → at + 256 ≤ len → at + d * count ≤ len) (sym e) (λ p q. omega arith)
+run_fits c at count len (inr e) = subst (λ d. count ≤ 62 → at + 256 ≤ len → at + d * count ≤ len) (sym e) (λ p q. omega arith)
 
--- they have room where thirty-two bytes have room behind the copies
-pub two_blocks : (c at done count len : ℕ) → IsChannels c → done < count → at + c * count + 32 ≤ len → TwoBlocks c at done count len
-two_blocks c at done count len (inl e) = subst (λ d. done < count → at + d * count + 32 ≤ len → TwoBlocks d at done count len) (sym e)
-    (λ p q. record {
-      first = record { inside = omega arith; fits = omega arith; block = omega arith };
-      second =
-          record { inside = omega arith; fits = omega arith; block = omega arith };
-      more = omega arith;
-    })
-two_blocks c at done count len (inr e) = subst (λ d. done < count → at + d * count + 32 ≤ len → TwoBlocks d at done count len) (sym e)
-    (λ p q. record {
-      first = record { inside = omega arith; fits = omega arith; block = omega arith };
-      second =
-          record { inside = omega arith; fits = omega arith; block = omega arith };
-      more = omega arith;
-    })
-
--- the offset after some pixels and then more of them
-pub after_both : (c at m k : ℕ) → IsChannels c → at + c * m + c * k ≡ at + c * (m + k)
-after_both c at m k (inl e) = subst (λ d. at + d * m + d * k ≡ at + d * (m + k)) (sym e) (omega arith)
-after_both c at m k (inr e) = subst (λ d. at + d * m + d * k ≡ at + d * (m + k)) (sym e) (omega arith)
-
--- k more copies of a pixel
-pub filled_copies : (f c n k : ℕ) (out new : List ℕ) (at done : ℕ) (p : RgbaPixel) (past : Past) → IsChannels c → at + c * done < length out
-    → at + c * done + c * k ≤ length out → length new ≡ length out
-    → take (at + c * done + c * k) new ≡ take (at + c * done) out ++ output f c (replicate k p)
-    → HasFilled f c n (upto out (at + c * done)) (replicate done p ++ past) → HasFilled f c n (upto new (at + c * (done + k))) (replicate (done + k) p ++ past)
-filled_copies f c n k out new at done p past is inside fits size e h =
-    let many : length (replicate k p) ≡ k = length-replicate k p in
-    let listed = filled_list f c n out new (at + c * done) (replicate done p ++ past) (replicate k p) is inside (rw many fits) size (rw many e) h in
-    let copies = repeats_after k done p past ∙ ap (λ m. replicate m p ++ past) (plus_comm k done) in
-    subst (λ m. HasFilled f c n (upto new m) (replicate (done + k) p ++ past)) (after_both c at done k is) (rw (many, reverse-replicate k p, copies) at listed)
-  where
-    plus_comm : (a b : ℕ) → a + b ≡ b + a
-    plus_comm a b = omega arith
-
--- fewer of the copies are written too
-pub filled_fewer : (f c n : ℕ) (old out : List ℕ) (at done count : ℕ) (p : RgbaPixel) (past : Past) → IsChannels c → count ≤ done → length out ≡ length old
-    → at + c * count ≤ length old → HasFilled f c n (upto old at) past
-    → HasFilled f c n (upto out (at + c * done)) (replicate done p ++ past) → HasFilled f c n (upto out (at + c * count)) (replicate count p ++ past)
-filled_fewer f c n old out at done count p past is le size fits start h =
-    let few = replicate count p ++ past in
-    let end = at + c * count in
-    let many : length few ≡ count + length past = length-append (replicate count p) past ∙ ap (λ k. k + length past) (length-replicate count p) in
-    let place = ends c n (length past) count done at (length old) is le start.room start.at_is fits in
-    let sum : done - count + count ≡ done = omega arith in
-    let parts : replicate done p ++ past ≡ replicate (done - count) p ++ few =
-    sym (repeats_after (done - count) count p past ∙ ap (λ k. replicate k p ++ past) sum) in
-    let within : end ≤ length (output f c (reverse few)) = omega
-    (arith, place.1, ap (λ k. c * k) many, length-output f c (reverse few) is, ap (λ k. c * k) (length-reverse few)) in
-    record {
-      room = h.room;
-      at_is = place.0 ∙ ap (λ k. c * min n k) (sym many);
-      same = sym (take-take end (at + c * done) out place.2) ∙ ap (take end) h.same
-          ∙ take-take end (at + c * done) (output f c (reverse (replicate done p ++ past))) place.2
-          ∙ ap (λ q. take end (output f c (reverse q))) parts ∙ ap (take end) (output-append f c (replicate (done - count) p) few)
-          ∙ take-append-le end (output f c (reverse few)) (output f c (reverse (replicate (done - count) p))) within;
-    }
-  where
-    ends : (c n l count done at len : ℕ) → IsChannels c → count ≤ done → len ≡ c * n → at ≡ c * min n l → at + c * count ≤ len
-        → (at + c * count ≡ c * min n (count + l)) × (at + c * count ≤ c * (count + l)) × (at + c * count ≤ at + c * done)
-    ends c n l count done at len (inl e) = subst (λ k. count ≤ done → len ≡ k * n → at ≡ k * min n l → at + k * count ≤ len
-        → (at + k * count ≡ k * min n (count + l)) × (at + k * count ≤ k * (count + l)) × (at + k * count ≤ at + k * done)) (sym e)
-        (λ d p q r. (omega arith, omega arith, omega arith))
-    ends c n l count done at len (inr e) = subst (λ k. count ≤ done → len ≡ k * n → at ≡ k * min n l → at + k * count ≤ len
-        → (at + k * count ≡ k * min n (count + l)) × (at + k * count ≤ k * (count + l)) × (at + k * count ≤ at + k * done)) (sym e)
-        (λ d p q r. (omega arith, omega arith, omega arith))
+-- as many copies as there is room for have room
+pub copies_fit : (c at count len : ℕ) → IsChannels c → at ≤ len → at + c * min count ((len - at) / c) ≤ len
+copies_fit c at count len (inl e) = subst (λ d. at ≤ len → at + d * min count ((len - at) / d) ≤ len) (sym e) (λ p. omega arith)
+copies_fit c at count len (inr e) = subst (λ d. at ≤ len → at + d * min count ((len - at) / d) ≤ len) (sym e) (λ p. omega arith)
 
 -- the copies that there is room for are all, or they end where the buffer does
 pub copies_end : (c at count len : ℕ) → IsChannels c → len % c ≡ 0 → at % c ≡ 0 → at ≤ len

@@ -1,12 +1,11 @@
 -- A decoder between two chunks: what it has taken, filled and seen.
-use Rattle.std.proofs.Common.{◌≡◌, ℕ, suc, ◌*◌, ◌/◌, ◌%◌, ◌<◌, ◌≤◌, inl, inr, List, [], ◌∷◌, ◌++◌, length, take, replicate, min, Option, arith, refl, sym, ap, ◌∙◌, subst, append_assoc, length-append}
-use Rattle.qoi.specs.declared.chunk.Chunk.{Chunk}
-use Rattle.qoi.specs.Qoi.{RgbaPixel, Past, AreBytes, start, AreChunks, bytes_of, chunk_bytes, pixel_after, times, then_chunk, then_chunks, meaning, StayBelow, Reaches}
+use Rattle.std.proofs.Common.{◌≡◌, ℕ, suc, ◌*◌, ◌/◌, ◌%◌, ◌<◌, ◌≤◌, inl, inr, List, [], ◌∷◌, ◌++◌, length, take, drop, replicate, min, Option, arith, refl, sym, ap, ◌∙◌, subst, append_assoc, length-append, take-append-drop}
+use Rattle.qoi.specs.Qoi.{Past, AreBytes, start, bytes_of, chunk_bytes, pixel_after, times, then_chunk, then_chunks, meaning, Reaches}
 use Rattle.std.specs.Io.KnownBytes.{Consumes}
 use Rattle.std.proofs.KnownBytes.{Consumes-trans}
 use Rattle.qoi.specs.Raw.{IsChannels, output}
-use Rattle.qoi.specs.inner.Filling.{Buffer, Filling, filling, HasFilled, HasSeen, GivesChunk}
-use Rattle.qoi.specs.inner.Table.{Holds}
+use Rattle.qoi.specs.inner.Filling.{Buffer, Filling, filling, HasFilled, GivesChunk, DecoderBetween, IsFront}
+use Rattle.qoi.specs.inner.Hashed.{pixel_of_lanes, HoldsSeen}
 use Rattle.qoi.specs.Verdicts.{IsPartOfChunk, EndsBefore, AreCut}
 use Rattle.qoi.specs.Decoding.{ReadsPixels, StreamsPixels}
 use Rattle.qoi.proofs.format.ChunkSteps.{times_some, then_chunks-append, each_append}
@@ -16,26 +15,15 @@ use Rattle.qoi.proofs.format.Appended.{are_chunks_append, chunk_bytes-last, leng
 use Rattle.qoi.proofs.decoding.FilledBuffer.{counts, filled_all, whole_pixels}
 use Rattle.qoi.proofs.decoding.SeenTable.{previous_copies}
 
--- Chunks were taken, their pixels were written and seen. `Taken` says which bytes were taken.
-pub record SoFar (f c n : ℕ) (Taken : List ℕ → Type 0) (now : Filling) : Type 0 where
-  pub cs : List Chunk
-  pub chunks : AreChunks cs
-  pub stays_below : StayBelow n cs
-  pub taken : Taken (chunk_bytes cs)
-  pub filled : HasFilled f c n now.buffer (then_chunks [] cs)
-  pub has_seen : HasSeen now (then_chunks [] cs)
-  pub within : now.buffer.at ≤ length now.buffer.out
-  pub whole : now.buffer.at % c ≡ 0
-
 -- fewer than n pixels were given, where there is room for more
 pub fewer : {f c n : ℕ} {b : Buffer} {past : Past} → IsChannels c → HasFilled f c n b past → b.at < length b.out → length past < n
 fewer {c = c} {n = n} {b = b} {past = past} is h inside =
     (counts c n (length past) 0 b.at (length b.out) is h.room h.at_is inside (omega arith)).below
 
 -- before the first chunk
-pub start_so_far : (f c : ℕ) (Taken : List ℕ → Type 0) (table : List RgbaPixel) (last : RgbaPixel) (out : List ℕ) → IsChannels c → length out % c ≡ 0
-    → Holds table [] → last ≡ start → Taken [] → SoFar f c (length out / c) Taken (filling table last out 0)
-start_so_far f c Taken table last out is whole blank opaque none_taken = record {
+pub start_between : (f c : ℕ) (Taken : List ℕ → Type 0) (table : List ℕ) (last : ℕ) (out : List ℕ) → IsChannels c → length out % c ≡ 0
+    → HoldsSeen table [] → pixel_of_lanes last ≡ start → Taken [] → DecoderBetween f c (length out / c) Taken (filling table last out 0)
+start_between f c Taken table last out is whole blank opaque none_taken = record {
   cs = [];
   chunks = tt;
   stays_below = tt;
@@ -55,15 +43,15 @@ start_so_far f c Taken table last out is whole blank opaque none_taken = record 
     zero_whole c (inr e) = subst (λ k. 0 % k ≡ 0) (sym e) refl
 
 -- one more chunk, its pixels written and seen
-pub goes_on : {f c n : ℕ} {Taken Taken' : List ℕ → Type 0} {old new : Filling} {bytes : List ℕ} → IsChannels c → SoFar f c n Taken old
+pub goes_on : {f c n : ℕ} {Taken Taken' : List ℕ → Type 0} {old new : Filling} {bytes : List ℕ} → IsChannels c → DecoderBetween f c n Taken old
     → old.buffer.at < length old.buffer.out → GivesChunk f c bytes old new
-    → ((before : List ℕ) → Taken before → Taken' (before ++ bytes)) → new.buffer.at ≤ length new.buffer.out → new.buffer.at % c ≡ 0 → SoFar f c n Taken' new
+    → ((before : List ℕ) → Taken before → Taken' (before ++ bytes)) → new.buffer.at ≤ length new.buffer.out → new.buffer.at % c ≡ 0 → DecoderBetween f c n Taken' new
 goes_on {f} {c} {n} {Taken} {Taken'} {old} {new} {bytes} is s inside g takes within whole =
     let chunk = g.chunk in
     let past = then_chunks [] s.cs in
     let pushed = then_chunks-append [] s.cs (chunk ∷ []) in
     let has_seen = g.gives.has_seen past s.has_seen in
-    let pixel_is : new.last ≡ pixel_after past chunk = has_seen.last_is ∙ previous_copies (times chunk) (pixel_after past chunk) past (times_some chunk g.is_chunk) in
+    let pixel_is : pixel_of_lanes new.last ≡ pixel_after past chunk = has_seen.last_is ∙ previous_copies (times chunk) (pixel_after past chunk) past (times_some chunk g.is_chunk) in
     let filled : HasFilled f c n new.buffer (then_chunk past chunk) =
     subst (λ p. HasFilled f c n new.buffer (replicate (times chunk) p ++ past)) pixel_is (g.gives.filled n past s.filled) in
     record {
@@ -78,7 +66,7 @@ goes_on {f} {c} {n} {Taken} {Taken'} {old} {new} {bytes} is s inside g takes wit
     }
 
 -- where the buffer is full, the chunks reach n pixels, and these are the first n
-pub reads_all : {f c n : ℕ} {Taken : List ℕ → Type 0} {now : Filling} → IsChannels c → (s : SoFar f c n Taken now) → length now.buffer.out ≤ now.buffer.at
+pub reads_all : {f c n : ℕ} {Taken : List ℕ → Type 0} {now : Filling} → IsChannels c → (s : DecoderBetween f c n Taken now) → length now.buffer.out ≤ now.buffer.at
     → Reaches n s.cs × (now.buffer.out ≡ output f c (take n (meaning s.cs)))
 reads_all {f} {c} {n} {Taken} {now} is s full =
     let all = filled_all f c n now.buffer (then_chunks [] s.cs) is s.filled full in
@@ -88,12 +76,26 @@ reads_all {f} {c} {n} {Taken} {now} is s full =
 abbrev pub SplitAt : List ℕ → List ℕ → List ℕ → Type 0
 SplitAt bytes rest taken = bytes ≡ taken ++ rest
 
+-- where the bytes at the front were taken, the others are left
+pub split_front : {f c n : ℕ} {bytes rest : List ℕ} {now : Filling} (size : ℕ) → rest ≡ drop size bytes → DecoderBetween f c n (IsFront bytes size) now
+    → DecoderBetween f c n (SplitAt bytes rest) now
+split_front {bytes = bytes} size left s = record {
+  cs = s.cs;
+  chunks = s.chunks;
+  stays_below = s.stays_below;
+  taken = sym (take-append-drop size bytes) ∙ ap (λ z. z ++ drop size bytes) (sym s.taken) ∙ ap (λ z. chunk_bytes s.cs ++ z) (sym left);
+  filled = s.filled;
+  has_seen = s.has_seen;
+  within = s.within;
+  whole = s.whole;
+}
+
 -- more of a slice
 pub split_more : (bytes rest after more : List ℕ) → rest ≡ more ++ after → (taken : List ℕ) → SplitAt bytes rest taken → SplitAt bytes after (taken ++ more)
 split_more bytes rest after more e taken split = split ∙ ap (λ z. taken ++ z) e ∙ sym (append_assoc taken more after)
 
 -- the chunks of a slice whose pixels fill the buffer
-pub reads_pixels : {f c n : ℕ} {bytes rest : List ℕ} {now : Filling} → IsChannels c → SoFar f c n (SplitAt bytes rest) now
+pub reads_pixels : {f c n : ℕ} {bytes rest : List ℕ} {now : Filling} → IsChannels c → DecoderBetween f c n (SplitAt bytes rest) now
     → length now.buffer.out ≤ now.buffer.at
     → ReadsPixels f c n bytes rest now.buffer.out
 reads_pixels is s full =
@@ -101,7 +103,7 @@ reads_pixels is s full =
     record { cs = s.cs; has = record { chunks = s.chunks; stays_below = s.stays_below; split = s.taken }; reaches = all.0; out_is = all.1 }
 
 -- where there is room and fewer bytes are left than an end marker has, the bytes are cut
-pub few_left : {f c n : ℕ} {bytes rest : List ℕ} {now : Filling} → IsChannels c → SoFar f c n (SplitAt bytes rest) now → now.buffer.at < length now.buffer.out
+pub few_left : {f c n : ℕ} {bytes rest : List ℕ} {now : Filling} → IsChannels c → DecoderBetween f c n (SplitAt bytes rest) now → now.buffer.at < length now.buffer.out
     → AreBytes rest → length rest < 8 → AreCut n bytes
 few_left {f} {c} {n} {bytes} {rest} {now} is s inside fits few =
     let r = reading_of (suc (length rest)) n (then_chunks [] s.cs) rest (omega arith) fits in
@@ -125,7 +127,7 @@ few_left {f} {c} {n} {bytes} {rest} {now} is s inside fits few =
     )
 
 -- the chunks of a stream whose pixels fill the buffer
-pub streams_pixels : {f c n : ℕ} {old new : Option (List ℕ)} {now : Filling} → IsChannels c → SoFar f c n (Consumes old new) now
+pub streams_pixels : {f c n : ℕ} {old new : Option (List ℕ)} {now : Filling} → IsChannels c → DecoderBetween f c n (Consumes old new) now
     → length now.buffer.out ≤ now.buffer.at
     → StreamsPixels f c n old new now.buffer.out
 streams_pixels is s full =
@@ -133,7 +135,7 @@ streams_pixels is s full =
     record { cs = s.cs; chunks = s.chunks; reaches = all.0; taken = s.taken; out_is = all.1 }
 
 -- where a stream gives no whole chunk, what was taken ends within a chunk
-pub stream_ends : {f c n : ℕ} (old middle new : Option (List ℕ)) (part : List ℕ) {now : Filling} → IsChannels c → SoFar f c n (Consumes old middle) now
+pub stream_ends : {f c n : ℕ} (old middle new : Option (List ℕ)) (part : List ℕ) {now : Filling} → IsChannels c → DecoderBetween f c n (Consumes old middle) now
     → now.buffer.at < length now.buffer.out → Consumes middle new part → IsPartOfChunk part
     → (taken : List ℕ) × Consumes old new taken × EndsBefore n taken
 stream_ends old middle new part is s inside took is_part = (

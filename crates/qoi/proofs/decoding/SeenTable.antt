@@ -3,6 +3,7 @@ use Rattle.std.proofs.Common.{◌≡◌, inl, inr, ℕ, zero, suc, ◌<◌, Bool
 use Rattle.qoi.specs.declared.chunk.Chunk.{Chunk}
 use Rattle.qoi.specs.declared.chunk.Chunk.TheVariants.{Run}
 use Rattle.qoi.specs.Qoi.{RgbaPixel, Past, previous, seen, hash, times}
+use Rattle.qoi.specs.inner.Hashed.{HoldsSeen}
 use Rattle.qoi.specs.inner.Table.{Holds}
 use Rattle.qoi.proofs.format.ChunkSteps.{cases_run, times_other}
 
@@ -32,3 +33,8 @@ previous_copies (suc n) p past h = refl
 -- the table after a pixel, put once, is that after some copies of it
 pub holds_copies : (table : List RgbaPixel) (p : RgbaPixel) (past : Past) (n : ℕ) → 0 < n → Holds table (p ∷ past) → Holds table (replicate n p ++ past)
 holds_copies table p past n some h i l = h i l ∙ ap Some (sym (seen_copies n p past i some))
+
+-- and so are the decoder's numbers
+pub holds_seen_copies : (numbers : List ℕ) (p : RgbaPixel) (past : Past) (n : ℕ) → 0 < n → HoldsSeen numbers (p ∷ past)
+    → HoldsSeen numbers (replicate n p ++ past)
+holds_seen_copies numbers p past n some h i l = h i l ∙ sym (seen_copies n p past i some)

@@ -1,8 +1,9 @@
 -- A buffer that is filled with pixels, and the state of a decoder between two chunks.
-use Rattle.std.specs.Prelude.{◌≡◌, ℕ, ◌*◌, ◌%◌, List, ◌++◌, length, take, reverse, replicate, min}
+use Rattle.std.specs.Prelude.{◌≡◌, ℕ, ◌*◌, ◌%◌, ◌+◌, ◌≤◌, List, [], ◌++◌, length, take, reverse, replicate, min, slice_index}
 use Rattle.qoi.specs.declared.chunk.Chunk.{Chunk}
-use Rattle.qoi.specs.Qoi.{RgbaPixel, Past, previous, IsChunk, bytes_of, times, then_chunk}
-use Rattle.qoi.specs.inner.Table.{Holds}
+use Rattle.qoi.specs.declared.decode.fast.Progress.{Progress}
+use Rattle.qoi.specs.Qoi.{RgbaPixel, Past, previous, IsChunk, AreChunks, bytes_of, chunk_bytes, times, then_chunk, then_chunks, StayBelow}
+use Rattle.qoi.specs.inner.Hashed.{pixel_of_lanes, HoldsSeen}
 use Rattle.qoi.specs.Raw.{output}
 
 -- a buffer, and how many of its bytes are written
@@ -10,9 +11,14 @@ pub record Buffer : Type 0 where
   pub out : List ℕ
   pub at : ℕ
 
--- these two
+-- the buffer, of which so many bytes are written
 abbrev pub upto : List ℕ → ℕ → Buffer
 upto out at = record { out = out; at = at }
+
+-- the bytes of these pixels were written after those that were written before
+pub record HasWritten (file_channels channels : ℕ) (old new : Buffer) (pixels : List RgbaPixel) : Type 0 where
+  pub at_is : new.at ≡ old.at + channels * length pixels
+  pub same : take new.at new.out ≡ take old.at old.out ++ output file_channels channels pixels
 
 -- The buffer has room for n pixels, and what is written of it are the pixels so far, as far as they fit.
 pub record HasFilled (file_channels channels n : ℕ) (b : Buffer) (past : Past) : Type 0 where
@@ -24,26 +30,26 @@ pub record HasFilled (file_channels channels n : ℕ) (b : Buffer) (past : Past)
 abbrev pub IsWholePixels : ℕ → ℕ → ℕ → Type 0
 IsWholePixels channels size at = (size % channels ≡ 0) × (at % channels ≡ 0)
 
--- what a decoder keeps between two chunks: the table, the last pixel, and the output
+-- what a decoder has between two chunks: the numbers of the index positions and of the last pixel, and the output
 pub record Filling : Type 0 where
-  pub table : List RgbaPixel
-  pub last : RgbaPixel
+  pub table : List ℕ
+  pub last : ℕ
   pub buffer : Buffer
 
 -- the table, the last pixel, the output, and how many bytes of it are written
-abbrev pub filling : List RgbaPixel → RgbaPixel → List ℕ → ℕ → Filling
+abbrev pub filling : List ℕ → ℕ → List ℕ → ℕ → Filling
 filling table last out at = record { table = table; last = last; buffer = upto out at }
 
 -- the table of all of these pixels, and the last of them
 pub record HasSeen (s : Filling) (past : Past) : Type 0 where
-  pub table_is : Holds s.table past
-  pub last_is : s.last ≡ previous past
+  pub table_is : HoldsSeen s.table past
+  pub last_is : pixel_of_lanes s.last ≡ previous past
 
--- the pixels of a chunk were seen, and written behind the others
+-- the pixels of a chunk were seen, and written after the others
 pub record Gives (file_channels channels : ℕ) (chunk : Chunk) (old new : Filling) : Type 0 where
   pub has_seen : (past : Past) → HasSeen old past → HasSeen new (then_chunk past chunk)
   pub filled : (n : ℕ) (past : Past) → HasFilled file_channels channels n old.buffer past
-      → HasFilled file_channels channels n new.buffer (replicate (times chunk) new.last ++ past)
+      → HasFilled file_channels channels n new.buffer (replicate (times chunk) (pixel_of_lanes new.last) ++ past)
 
 -- the bytes are those of a chunk, and its pixels were seen and written
 pub record GivesChunk (file_channels channels : ℕ) (bytes : List ℕ) (old new : Filling) : Type 0 where
@@ -51,3 +57,23 @@ pub record GivesChunk (file_channels channels : ℕ) (bytes : List ℕ) (old new
   pub is_chunk : IsChunk chunk
   pub bytes_are : bytes ≡ bytes_of chunk
   pub gives : Gives file_channels channels chunk old new
+
+-- Chunks were taken, their pixels were seen and written. `Taken` says which bytes were taken.
+pub record DecoderBetween (file_channels channels n : ℕ) (Taken : List ℕ → Type 0) (now : Filling) : Type 0 where
+  pub cs : List Chunk
+  pub chunks : AreChunks cs
+  pub stays_below : StayBelow n cs
+  pub taken : Taken (chunk_bytes cs)
+  pub filled : HasFilled file_channels channels n now.buffer (then_chunks [] cs)
+  pub has_seen : HasSeen now (then_chunks [] cs)
+  pub within : now.buffer.at ≤ length now.buffer.out
+  pub whole : now.buffer.at % channels ≡ 0
+
+-- so many bytes at the front were taken
+abbrev pub IsFront : List ℕ → ℕ → List ℕ → Type 0
+IsFront bytes size taken = taken ≡ take size bytes
+
+-- the same of a decoder from these bytes, which also has the byte that comes next
+pub record FastBetween (file_channels channels n : ℕ) (bytes : List ℕ) (now : Progress) (table out : List ℕ) : Type 0 where
+  pub between : DecoderBetween file_channels channels n (IsFront bytes now.taken) (filling table now.last out now.written)
+  pub next_is : now.next ≡ slice_index bytes now.taken

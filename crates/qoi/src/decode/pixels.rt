@@ -1,104 +1,88 @@
 //! What both loops put into the output: the pixels of chunks.
-ghost use Rattle.std.specs.Prelude.{◌≡◌, ℕ, ◌+◌, ◌*◌, ◌/◌, ◌%◌, ◌<◌, ◌≤◌, [], ◌∷◌, ◌++◌, length, take, drop, replicate, nat_le, nat_lt, ◌&&◌};
-ghost use Rattle.qoi.specs.Qoi.{Past, run_max, seen, after_diff, after_luma};
-ghost use Rattle.qoi.specs.Raw.{IsChannels, pixel_bytes, output};
-ghost use Rattle.qoi.specs.inner.Filling.{upto, HasFilled, IsWholePixels, GivesChunk, filling};
-ghost use Rattle.qoi.specs.inner.Table.{Holds};
+ghost use Rattle.std.specs.Prelude.{◌≡◌, ℕ, ◌+◌, ◌*◌, ◌/◌, ◌%◌, ◌-◌, ◌<◌, ◌≤◌, [], ◌∷◌, ◌++◌, length, take, replicate, nat_le, nat_lt, ◌&&◌};
+ghost use Rattle.qoi.specs.Qoi.{Past, run_max, luma_tag, run_tag, rgb_tag};
+ghost use Rattle.qoi.specs.declared.decode.pixels.TheConstants.{RUN_ROOM};
+ghost use Rattle.qoi.specs.Raw.{IsChannels};
+ghost use Rattle.qoi.specs.inner.Filling.{upto, HasWritten, HasFilled, IsWholePixels, GivesChunk, filling};
+ghost use Rattle.qoi.specs.inner.Hashed.{pixel_of_lanes};
 
-use crate::consts::{QOI_OP_DIFF, QOI_OP_RGB, QOI_OP_RGBA, QOI_OP_RUN};
-use crate::decode::deltas::{delta, nibbles};
-use crate::packed::{Packed, Spread, pick};
-use crate::table::Table;
-use std::simd::u8x16;
+use crate::chunk::QOI_OP_RUN_END;
+use crate::consts::{QOI_OP_LUMA, QOI_OP_RGB, QOI_OP_RGBA, QOI_OP_RUN};
+use crate::hashed::Hashed;
+use crate::table::HashedTable;
 
-// The pixel of a chunk that is an index position, a difference, a luma or a run of 1, by its first byte
-// and the one after it, which only a luma has. All of them are found without a jump.
+/// The bytes of room in which the blocks of any run may be written: sixteen blocks of sixteen bytes.
+pub(super) const RUN_ROOM: usize = 256;
+
+// Writes a pixel at `at` in `N` channels, of a file of `F` channels.
 #[inline(always)]
-fn short_pixel(table: &Table, last: Spread, b1: u8, b2: u8) -> Spread
-    requires { b1 ≤ 192 }
-    ensures place { b1 < 64 → (past : Past) → Holds table.now past → result ≡ seen past b1 }
-    ensures diff { 64 ≤ b1 → b1 < 128 → result ≡ after_diff last b1 }
-    ensures luma { 128 ≤ b1 → b1 < 192 → result ≡ after_luma last b1 b2 }
-    ensures run { b1 ≡ 192 → result ≡ last }
-{
-    let more = pick(is_luma(b1), nibbles(b2), 0);
-    let moved = last.moved(delta(b1) + more);
-    let held = table.at(b1 % 64).spread();
-    pick(b1 < QOI_OP_DIFF, held, moved)
-}
-
-// Whether a chunk with this first byte is a luma.
-#[inline(always)]
-fn is_luma(b1: u8) -> bool
-    ensures { result ≡ (nat_le 128 b1 && nat_lt b1 192) }
-{
-    b1 / 64 == 2
-}
-
-// Writes a pixel at `at` in `N` channels, of a file of `F` channels. Where there is room for it, a byte
-// more is written behind three, and written again later.
-#[inline(always)]
-fn write_pixel<const N: usize, const F: usize>(out: &mut [u8], at: usize, px: Packed)
+fn write_pixel<const N: usize, const F: usize>(out: &mut [u8], at: usize, px: Hashed)
     requires channels { IsChannels N }
     requires room { at + N ≤ length out.old }
-    ensures { take (at + N) out.new ≡ take at out.old ++ pixel_bytes F N px }
+    ensures { HasWritten F N (upto out.old at) (upto out.new (at + N)) (pixel_of_lanes px ∷ []) }
 {
-    let px = if F == 4 { px } else { px.opaque() };
-    let four = px.bytes();
-    if at + 4 <= out.len() {
-        out[at..at + 4].copy_from_slice(&four);
-    } else {
-        out[at..at + 3].copy_from_slice(&four[..3]);
-    }
+    let bytes = px.block::<N, F>().to_array();
+    out[at..at + N].copy_from_slice(&bytes[..N]);
 }
 
-// The first sixteen bytes of a pixel that is written again and again.
+/// Writes a block of sixteen bytes at `at`: the pixel as often as it has room there, and what is left
+/// over, which is written again later.
 #[inline(always)]
-fn block<const N: usize, const F: usize>(px: Packed) -> u8x16
-    requires { IsChannels N }
-    ensures { result ≡ take 16 (output F N (replicate 6 px)) }
-{
-    if F == 4 {
-        return px.block::<N, 0>();
-    }
-    px.opaque().block::<N, 0>()
-}
-
-// Writes a block at `at`: a pixel as often as it has room there, and what is left over.
-#[inline(always)]
-fn write_block<const N: usize, const F: usize>(out: &mut [u8], at: usize, px: Packed)
+pub(super) fn write_block<const N: usize, const F: usize>(out: &mut [u8], at: usize, px: Hashed)
     requires channels { IsChannels N }
     requires room { at + 16 ≤ length out.old }
-    ensures { take (at + N * (16 / N)) out.new
-        ≡ take at out.old ++ output F N (replicate (16 / N) px) }
+    ensures { (count : ℕ) → count ≤ 16 / N → HasWritten F N (upto out.old at)
+        (upto out.new (at + N * count)) (replicate count (pixel_of_lanes px)) }
 {
-    block::<N, F>(px).copy_to_slice(&mut out[at..at + 16]);
+    px.block::<N, F>().copy_to_slice(&mut out[at..at + 16]);
 }
 
-// Writes a pixel `count` times from `at` on, by two blocks at a time; what the last two write past them
-// is written again later.
+// Writes four blocks, one after the other.
 #[inline(always)]
-fn fill_blocks<const N: usize, const F: usize>(out: &mut [u8], at: usize, px: Packed, count: usize)
+fn write_four_blocks<const N: usize, const F: usize>(out: &mut [u8], at: usize, px: Hashed)
     requires channels { IsChannels N }
-    requires room { at + N * count + 32 ≤ length out.old }
-    ensures { (n : ℕ) (past : Past) → HasFilled F N n (upto out.old at) past
-        → HasFilled F N n (upto out.new (at + N * count)) (replicate count px ++ past) }
+    requires room { at + 64 ≤ length out.old }
+    ensures { (count : ℕ) → count ≤ 4 * (16 / N) → HasWritten F N (upto out.old at)
+        (upto out.new (at + N * count)) (replicate count (pixel_of_lanes px)) }
 {
-    let mut done = 0;
-    while done < count {
-        write_block::<N, F>(out, at + N * done, px);
-        write_block::<N, F>(out, at + N * (done + 16 / N), px);
-        done += 2 * (16 / N);
+    let one = 16 / N;
+    write_block::<N, F>(out, at, px);
+    write_block::<N, F>(out, at + N * one, px);
+    write_block::<N, F>(out, at + N * (2 * one), px);
+    write_block::<N, F>(out, at + N * (3 * one), px);
+}
+
+/// Writes a pixel `count` times from `at` on: four blocks, and if that isn't all, as many as any run has.
+/// What goes past them is written again later.
+#[inline(always)]
+pub(super) fn write_run<const N: usize, const F: usize>(
+    out: &mut [u8],
+    at: usize,
+    px: Hashed,
+    count: usize,
+)
+    requires channels { IsChannels N }
+    requires room { at + RUN_ROOM ≤ length out.old }
+    requires short { count ≤ run_max }
+    ensures { HasWritten F N (upto out.old at)
+        (upto out.new (at + N * count)) (replicate count (pixel_of_lanes px)) }
+{
+    let four = 4 * (16 / N);
+    write_four_blocks::<N, F>(out, at, px);
+    if count > four {
+        write_four_blocks::<N, F>(out, at + N * four, px);
+        write_four_blocks::<N, F>(out, at + N * (2 * four), px);
+        write_four_blocks::<N, F>(out, at + N * (3 * four), px);
     }
 }
 
 // Writes a pixel `count` times from `at` on, one by one.
 #[inline(always)]
-fn fill_pixels<const N: usize, const F: usize>(out: &mut [u8], at: usize, px: Packed, count: usize)
+fn write_pixels<const N: usize, const F: usize>(out: &mut [u8], at: usize, px: Hashed, count: usize)
     requires channels { IsChannels N }
     requires room { at + N * count ≤ length out.old }
-    ensures { (n : ℕ) (past : Past) → HasFilled F N n (upto out.old at) past
-        → HasFilled F N n (upto out.new (at + N * count)) (replicate count px ++ past) }
+    ensures { HasWritten F N (upto out.old at)
+        (upto out.new (at + N * count)) (replicate count (pixel_of_lanes px)) }
 {
     let mut done = 0;
     while done < count {
@@ -112,92 +96,67 @@ fn fill_pixels<const N: usize, const F: usize>(out: &mut [u8], at: usize, px: Pa
 fn fill<const N: usize, const F: usize>(
     out: &mut [u8],
     at: usize,
-    px: Packed,
+    px: Hashed,
     count: usize,
-) -> usize
-    requires channels { IsChannels N }
-    requires whole { IsWholePixels N (length out.old) at }
-    requires within { at ≤ length out.old }
-    requires short { count ≤ run_max }
-    ensures filled { (n : ℕ) (past : Past) → HasFilled F N n (upto out.old at) past
-        → HasFilled F N n (upto out.new result) (replicate count px ++ past) }
-    ensures whole { result % N ≡ 0 }
-    ensures within { (at ≤ result) × (result ≤ length out.new) }
-    ensures further { at < length out.old → 0 < count → at < result }
-{
-    if N * count + 32 <= out.len() - at {
-        fill_blocks::<N, F>(out, at, px, count);
-        return at + N * count;
-    }
-    let all = count.min((out.len() - at) / N);
-    fill_pixels::<N, F>(out, at, px, all);
-    at + N * all
-}
-
-// Puts a pixel at its index position, writes it at `at`, and returns where the output stopped.
-#[inline(always)]
-fn give_pixel<const N: usize, const F: usize>(
-    table: &mut Table,
-    px: Spread,
-    out: &mut [u8],
-    at: usize,
-) -> usize
-    requires channels { IsChannels N }
-    requires whole { IsWholePixels N (length out.old) at }
-    requires inside { at < length out.old }
-    ensures table { (past : Past) → Holds table.old past → Holds table.new (px ∷ past) }
-    ensures filled { (n : ℕ) (past : Past) → HasFilled F N n (upto out.old at) past
-        → HasFilled F N n (upto out.new result) (px ∷ past) }
-    ensures whole { result % N ≡ 0 }
-    ensures within { (at < result) × (result ≤ length out.new) }
-{
-    let packed = px.packed();
-    table.put(px.hash_index(), packed);
-    write_pixel::<N, F>(out, at, packed);
-    at + N
-}
-
-// Gives the last pixel again, `count` times, and as far as there is room, and returns where the output
-// stopped.
-#[inline(always)]
-fn give_run<const N: usize, const F: usize>(
-    table: &mut Table,
-    last: Spread,
-    count: usize,
-    out: &mut [u8],
-    at: usize,
 ) -> usize
     requires channels { IsChannels N }
     requires whole { IsWholePixels N (length out.old) at }
     requires inside { at < length out.old }
     requires some { (0 < count) × (count ≤ run_max) }
-    ensures table { (past : Past) → Holds table.old past
-        → Holds table.new (replicate count last ++ past) }
     ensures filled { (n : ℕ) (past : Past) → HasFilled F N n (upto out.old at) past
-        → HasFilled F N n (upto out.new result) (replicate count last ++ past) }
+        → HasFilled F N n (upto out.new result) (replicate count (pixel_of_lanes px) ++ past) }
     ensures whole { result % N ≡ 0 }
     ensures within { (at < result) × (result ≤ length out.new) }
 {
-    let packed = last.packed();
-    table.put(last.hash_index(), packed);
-    fill::<N, F>(out, at, packed, count)
+    if RUN_ROOM <= out.len() - at {
+        if count <= 16 / N {
+            write_block::<N, F>(out, at, px);
+        } else {
+            write_run::<N, F>(out, at, px, count);
+        }
+        return at + N * count;
+    }
+    let all = count.min((out.len() - at) / N);
+    write_pixels::<N, F>(out, at, px, all);
+    at + N * all
 }
 
-// What a chunk leaves: how many bytes it has, the pixel that is the last one then, and where the output
-// stopped.
+/// Whether a chunk with this first byte is a luma.
+#[inline(always)]
+pub(super) fn is_luma(b1: u32) -> bool
+    ensures { result ≡ (nat_le luma_tag b1 && nat_lt b1 run_tag) }
+{
+    b1.wrapping_sub(QOI_OP_LUMA as u32) < 64
+}
+
+// How many pixels a chunk has, by its first byte.
+#[inline(always)]
+fn pixel_count(b1: u8) -> usize
+    ensures run { run_tag ≤ b1 → b1 < rgb_tag → result + (run_tag - 1) ≡ b1 }
+    ensures one { b1 < run_tag → result ≡ 1 }
+    ensures full { rgb_tag ≤ b1 → result ≡ 1 }
+{
+    match b1 {
+        QOI_OP_RUN..=QOI_OP_RUN_END => (b1 - (QOI_OP_RUN - 1)) as usize,
+        _ => 1,
+    }
+}
+
+/// What a chunk leaves: how many bytes it has, the pixel that is the last one then, and where the output
+/// stopped.
 #[derive(Clone, Copy)]
 pub(super) struct Given {
     pub(super) taken: usize,
-    pub(super) last: Spread,
+    pub(super) last: Hashed,
     pub(super) at: usize,
 }
 
-// Gives the pixels of the first chunk of the bytes. Any chunk is whole in eight bytes, and behind a short
-// one there is a byte more, which is read with it.
+/// Gives the pixels of the first chunk of the bytes, with every test. Any chunk is whole in eight bytes,
+/// and after a short one there is a byte more, which is read with it.
 #[inline(always)]
 pub(super) fn give_first<const N: usize, const F: usize>(
-    table: &mut Table,
-    last: Spread,
+    table: &mut HashedTable,
+    last: Hashed,
     bytes: &[u8],
     out: &mut [u8],
     at: usize,
@@ -214,35 +173,19 @@ pub(super) fn give_first<const N: usize, const F: usize>(
     ensures within { (at < result.at) × (result.at ≤ length out.new) }
 {
     let b1 = bytes[0];
-    match b1 {
-        0..=QOI_OP_RUN => {
-            let px = short_pixel(table, last, b1, bytes[1]);
-            Given {
-                taken: 1 + usize::from(is_luma(b1)),
-                last: px,
-                at: give_pixel::<N, F>(table, px, out, at),
-            }
+    let (last, taken) = match b1 {
+        QOI_OP_RGB => (last.after_full(bytes), 4),
+        QOI_OP_RGBA => (last.after_full(bytes), 5),
+        _ => {
+            let held = table.at(b1 as usize);
+            let size = 1 + usize::from(is_luma(u32::from(b1)));
+            (last.after_short(held, b1 as usize, bytes[1]), size)
         }
-        QOI_OP_RGB => {
-            let px = last.with_rgb(bytes[1], bytes[2], bytes[3]);
-            Given {
-                taken: 4,
-                last: px,
-                at: give_pixel::<N, F>(table, px, out, at),
-            }
-        }
-        QOI_OP_RGBA => {
-            let px = Spread::new(bytes[1], bytes[2], bytes[3], bytes[4]);
-            Given {
-                taken: 5,
-                last: px,
-                at: give_pixel::<N, F>(table, px, out, at),
-            }
-        }
-        _ => Given {
-            taken: 1,
-            last,
-            at: give_run::<N, F>(table, last, (b1 - (QOI_OP_RUN - 1)) as usize, out, at),
-        },
+    };
+    table.put(last);
+    Given {
+        taken,
+        last,
+        at: fill::<N, F>(out, at, last, pixel_count(b1)),
     }
 }

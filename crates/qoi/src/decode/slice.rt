@@ -4,12 +4,13 @@ ghost use Rattle.qoi.specs.Raw.{IsChannels};
 ghost use Rattle.qoi.specs.Qoi.{end_marker};
 ghost use Rattle.qoi.specs.Decoding.{least_byte_count, ReadsPixels, ReadsImage, RefusesMarker, RefusesBytes};
 ghost use Rattle.qoi.specs.Verdicts.{AreCut};
+ghost use Rattle.qoi.specs.inner.Filling.{IsFront, filling, DecoderBetween};
 
 use crate::consts::{QOI_PADDING, QOI_PADDING_SIZE, QOI_RUN_MAX};
+use crate::decode::fast::Progress;
 use crate::decode::pixels::give_first;
 use crate::error::{Error, Result};
-use crate::packed::Spread;
-use crate::table::Table;
+use crate::table::HashedTable;
 
 // Whether the bytes could hold the chunks of so many pixels, of which each gives 62 at most, and the end
 // marker. Otherwise they are cut, whatever they are.
@@ -21,8 +22,40 @@ pub(super) fn could_hold(data: &[u8], n_pixels: usize) -> bool
     data.len() >= n_pixels.div_ceil(QOI_RUN_MAX) + QOI_PADDING_SIZE
 }
 
-// Decodes chunks until `out` is full, and gives the bytes after them. Where fewer than eight bytes are
-// left before that, the file is cut, since its end marker alone has eight.
+// Decodes chunks one by one, with every test, until `out` is full, and returns the bytes after them. Where
+// fewer than eight bytes are left before that, the file is cut, since its end marker alone has eight.
+#[inline(never)]
+fn last_chunks<'a, const N: usize, const F: usize>(
+    table: &mut HashedTable,
+    start: Progress,
+    data: &'a [u8],
+    out: &mut [u8],
+) -> Option<&'a [u8]>
+    requires channels { IsChannels N }
+    requires between { DecoderBetween F N (length out.old / N) (IsFront «data».now start.taken)
+        (filling table.old start.last out.old start.written) }
+    requires within { start.taken ≤ length «data».now }
+    requires whole { length out.old % N ≡ 0 }
+    ensures { MatchOption result (AreCut (length out.old / N) «data».entry.now)
+        (λ rest. ReadsPixels F N (length out.old / N) «data».entry.now rest.now out.new) }
+{
+    let mut last = start.last;
+    let (_, mut rest) = data.split_at(start.taken);
+    let mut at = start.written;
+    while at < out.len() {
+        if rest.len() < QOI_PADDING_SIZE {
+            return None;
+        }
+        let given = give_first::<N, F>(table, last, rest, out, at);
+        let (_, after) = rest.split_at(given.taken);
+        rest = after;
+        last = given.last;
+        at = given.at;
+    }
+    Some(rest)
+}
+
+// Decodes chunks until `out` is full, and returns the bytes after them.
 fn slice_chunks<'a, const N: usize, const F: usize>(
     data: &'a [u8],
     out: &mut [u8],
@@ -32,21 +65,9 @@ fn slice_chunks<'a, const N: usize, const F: usize>(
     ensures { MatchOption result (AreCut (length out.old / N) «data».entry.now)
         (λ rest. ReadsPixels F N (length out.old / N) «data».entry.now rest.now out.new) }
 {
-    let mut table = Table::new();
-    let mut last = Spread::start();
-    let mut rest = data;
-    let mut at = 0;
-    while at < out.len() {
-        if rest.len() < QOI_PADDING_SIZE {
-            return None;
-        }
-        let given = give_first::<N, F>(&mut table, last, rest, out, at);
-        let (_, after) = rest.split_at(given.taken);
-        rest = after;
-        last = given.last;
-        at = given.at;
-    }
-    Some(rest)
+    let mut table = HashedTable::new();
+    let now = Progress::fast_chunks::<N, F>(&mut table, data, out);
+    last_chunks::<N, F>(&mut table, now, data, out)
 }
 
 // The bytes after the end marker.

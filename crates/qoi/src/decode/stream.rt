@@ -12,8 +12,8 @@ use crate::chunk::QOI_OP_LUMA_END;
 use crate::consts::{QOI_OP_LUMA, QOI_OP_RGB, QOI_OP_RGBA, QOI_PADDING, QOI_PADDING_SIZE};
 use crate::decode::pixels::{Given, give_first};
 use crate::error::{Error, Result};
-use crate::packed::Spread;
-use crate::table::Table;
+use crate::hashed::Hashed;
+use crate::table::HashedTable;
 use std::io;
 use std::io::{ErrorKind, Read};
 
@@ -63,8 +63,8 @@ fn read_one<R: Read>(reader: &mut R) -> io::Result<u8>
 #[inline(always)]
 fn next_chunk<R: Read, const N: usize, const F: usize>(
     reader: &mut R,
-    table: &mut Table,
-    last: Spread,
+    table: &mut HashedTable,
+    last: Hashed,
     out: &mut [u8],
     at: usize,
 ) -> io::Result<Given>
@@ -114,8 +114,8 @@ fn stream_chunks<R: Read, const N: usize, const F: usize>(
     ensures failed { OnErr result (HasTaken (R.remaining reader.old) (R.remaining reader.new)
         (EndsBefore (length out.old / N))) }
 {
-    let mut table = Table::new();
-    let mut last = Spread::start();
+    let mut table = HashedTable::new();
+    let mut last = Hashed::start();
     let mut at = 0;
     while at < out.len() {
         let given = next_chunk::<R, N, F>(reader, &mut table, last, out, at)?;

@@ -52,7 +52,7 @@ impl Coder {
         ensures style { StyleAfter [] None result.place result.begun result.placed }
     {
         let last = Packed::start();
-        let place = last.spread().hash_index();
+        let place = last.hash_index();
         Coder {
             last,
             place,

@@ -1,6 +1,6 @@
--- The whole pixels of a block are written.
+-- The copies that are asked for are among those of the block.
 use Rattle.qoi.proofs.decoding.Blocks.{block_written}
 use Rattle.qoi.proofs.decode.pixels.write_block.Goals as goal
 
 pub returns : goal.returns
-returns g c = block_written g.row.F g.row.N c.args.px c.args.out.now _ c.args.at c.requires.channels c.requires.room c.block.ensures
+returns g c count le = block_written g.row.F g.row.N _ c.args.out.now _ c.args.at count c.requires.channels c.requires.room c.block.ensures le

@@ -2,7 +2,7 @@
 use Rattle.std.proofs.KnownBytes.{Consumes-nil, Consumes-trans}
 use Rattle.qoi.proofs.Results.{on_err}
 use Rattle.qoi.specs.inner.Filling.{filling}
-use Rattle.qoi.proofs.decoding.Progress.{start_so_far, goes_on, streams_pixels, stream_ends}
+use Rattle.qoi.proofs.decoding.Progress.{start_between, goes_on, streams_pixels, stream_ends}
 use Rattle.qoi.proofs.decode.stream.stream_chunks.Goals as goal
 
 pub returns-in_err-given-clause-failed : goal.returns-in_err-given-clause-failed
@@ -11,7 +11,7 @@ returns-in_err-given-clause-failed g c =
     on_err _ (stream_ends _ _ _ f.0 c.requires.channels c.loop-at.invariant c.loop-at-test.true f.1 f.2)
 
 pub loop-at-init : goal.loop-at-init
-loop-at-init g c = start_so_far g.row.F g.row.N _ _ _ c.args.out.now c.requires.channels c.requires.whole c.new-table.ensures c.start-last.ensures
+loop-at-init g c = start_between g.row.F g.row.N _ _ _ c.args.out.now c.requires.channels c.requires.whole c.new-table.ensures c.start-last.ensures
     (Consumes-nil _)
 
 pub loop-at-preserved : goal.loop-at-preserved

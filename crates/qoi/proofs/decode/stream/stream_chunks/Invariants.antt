@@ -2,12 +2,12 @@
 use Rattle.std.proofs.Common.{◌-◌, ◌/◌, length}
 use Rattle.std.specs.Io.KnownBytes.{Consumes}
 use Rattle.qoi.specs.inner.Filling.{filling}
-use Rattle.qoi.proofs.decoding.Progress.{SoFar}
+use Rattle.qoi.specs.inner.Filling.{DecoderBetween}
 use Rattle.qoi.proofs.decode.stream.stream_chunks.Given as goal
 
 abbrev pub invariant-loop-at : goal.invariant-loop-at
 invariant-loop-at g l =
-    SoFar g.row.F g.row.N (length l.initial.out / g.row.N) (Consumes (g.R.Read.remaining l.initial.reader) (g.R.Read.remaining l.reader))
+    DecoderBetween g.row.F g.row.N (length l.initial.out / g.row.N) (Consumes (g.R.Read.remaining l.initial.reader) (g.R.Read.remaining l.reader))
     (filling l.table l.last l.out l.at)
 
 abbrev pub decreases-loop-at : goal.decreases-loop-at

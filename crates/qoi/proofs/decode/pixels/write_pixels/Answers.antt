@@ -1,0 +1,20 @@
+-- One copy more at each turn.
+use Rattle.std.proofs.Common.{◌≡◌, ◌+◌, ◌*◌, arith}
+use Rattle.qoi.specs.inner.Hashed.{pixel_of_lanes}
+use Rattle.qoi.proofs.decoding.Blocks.{written_none, written_one, written_copies}
+use Rattle.qoi.proofs.decode.pixels.write_pixels.Goals as goal
+
+pub loop-done-init : goal.loop-done-init
+loop-done-init g c = (omega arith, written_none g.row.F g.row.N c.args.out.now c.args.at (pixel_of_lanes c.args.px))
+
+pub loop-done-preserved : goal.loop-done-preserved
+loop-done-preserved g c =
+    let done = c.loop-done.done in (
+      omega (arith, c.loop-done-test.true),
+      written_copies _ c.args.at done 1 (done + 1) c.requires.channels (omega arith) c.loop-done.invariant.1 (written_one _ (c.args.at + g.row.N * done) c.write_pixel.ensures),
+    )
+
+pub returns : goal.returns
+returns g c =
+    let all : c.loop-done.done ≡ c.args.count = omega (arith, c.loop-done.invariant.0, c.loop-done-test.false) in
+    rw (← all) c.loop-done.invariant.1

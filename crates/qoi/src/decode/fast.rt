@@ -1,0 +1,214 @@
+//! The loop over the chunks in a slice while there is room ahead for four of them, whose ends need then be
+//! tested once.
+ghost use Rattle.std.specs.Prelude.{◌≡◌, ◌↔◌, IsTrue, ℕ, ◌+◌, ◌-◌, ◌/◌, ◌%◌, ◌<◌, ◌≤◌, [], length};
+ghost use Rattle.qoi.specs.Qoi.{run_tag, rgb_tag};
+ghost use Rattle.qoi.specs.Raw.{IsChannels};
+ghost use Rattle.qoi.specs.declared.decode.pixels.TheConstants.{RUN_ROOM};
+ghost use Rattle.qoi.specs.inner.Hashed.{HoldsSeen};
+
+use crate::consts::{QOI_OP_RGB, QOI_OP_RGBA, QOI_OP_RUN};
+use crate::decode::pixels::{RUN_ROOM, is_luma, write_block, write_run};
+use crate::hashed::Hashed;
+use crate::packed::pick;
+use crate::steps::advance;
+use crate::table::HashedTable;
+
+// Bytes of four short chunks, of which each has two at most, of an RGBA chunk and of the byte after it.
+const INPUT_ROOM: usize = 14;
+
+// Bytes of room for the blocks of four short chunks and of a full one.
+const OUTPUT_ROOM: usize = 80;
+
+/// What a decoder has between two chunks: the last pixel, how many bytes are taken and written, and the
+/// byte that comes next.
+#[derive(Clone, Copy)]
+pub(super) struct Progress {
+    pub(super) last: Hashed,
+    pub(super) taken: usize,
+    pub(super) written: usize,
+    pub(super) next: u32,
+}
+
+// Whether a chunk with this first byte is short: an index position, a difference, a luma, or a run that a
+// block of sixteen bytes holds.
+#[inline(always)]
+fn is_short<const N: usize>(b1: u32) -> bool
+    requires { IsChannels N }
+    ensures { IsTrue result ↔ (b1 ≤ run_tag - 1 + 16 / N) }
+{
+    b1 <= (QOI_OP_RUN as u32 - 1) + (16 / N) as u32
+}
+
+impl Progress {
+    ghost use Rattle.qoi.specs.inner.Filling.{IsFront, filling, DecoderBetween, FastBetween};
+
+    // Decodes a short chunk, without a jump. Its block of output is written whole, and what goes past its
+    // pixels is written again later.
+    #[inline(always)]
+    fn short_chunk<const N: usize, const F: usize>(
+        self,
+        table: &mut HashedTable,
+        bytes: &[u8],
+        out: &mut [u8],
+    ) -> Progress
+        requires channels { IsChannels N }
+        requires input { self.taken + 3 ≤ length bytes.now }
+        requires room { self.written + 16 ≤ length out.old }
+        requires short { self.next ≤ run_tag - 1 + 16 / N }
+        ensures between { (n : ℕ) → FastBetween F N n bytes.now self table.old out.old
+            → FastBetween F N n bytes.now result table.new out.new }
+        ensures taken { (self.taken < result.taken) × (result.taken ≤ self.taken + 2) }
+        ensures written { result.written ≤ self.written + 16 }
+        ensures byte { result.next < 256 }
+    {
+        let b1 = self.next as usize;
+        let (one, two) = (bytes[self.taken + 1], bytes[self.taken + 2]);
+        let last = self.last.after_short(table.at(b1), b1, one);
+        table.put(last);
+        write_block::<N, F>(out, self.written, last);
+        let luma = is_luma(self.next);
+        Progress {
+            last,
+            taken: self.taken + 1 + usize::from(luma),
+            written: self.written + advance::<N>(b1),
+            next: u32::from(pick(luma, two, one)),
+        }
+    }
+
+    // Decodes short chunks, as many as come one after the other, but four at most.
+    #[inline(always)]
+    fn short_chunks<const N: usize, const F: usize>(
+        self,
+        table: &mut HashedTable,
+        bytes: &[u8],
+        out: &mut [u8],
+    ) -> Progress
+        requires channels { IsChannels N }
+        requires input { self.taken + 9 ≤ length bytes.now }
+        requires room { self.written + 64 ≤ length out.old }
+        requires byte { self.next < 256 }
+        ensures between { (n : ℕ) → FastBetween F N n bytes.now self table.old out.old
+            → FastBetween F N n bytes.now result table.new out.new }
+        ensures taken { (self.taken ≤ result.taken) × (result.taken ≤ self.taken + 8) }
+        ensures some { result.next ≤ run_tag - 1 + 16 / N → self.taken < result.taken }
+        ensures written { result.written ≤ self.written + 64 }
+        ensures byte { result.next < 256 }
+    {
+        if !is_short::<N>(self.next) {
+            return self;
+        }
+        let one = self.short_chunk::<N, F>(table, bytes, out);
+        if !is_short::<N>(one.next) {
+            return one;
+        }
+        let two = one.short_chunk::<N, F>(table, bytes, out);
+        if !is_short::<N>(two.next) {
+            return two;
+        }
+        let three = two.short_chunk::<N, F>(table, bytes, out);
+        if !is_short::<N>(three.next) {
+            return three;
+        }
+        three.short_chunk::<N, F>(table, bytes, out)
+    }
+
+    // Decodes an RGB or RGBA chunk.
+    #[inline(always)]
+    fn full_chunk<const N: usize, const F: usize>(
+        self,
+        table: &mut HashedTable,
+        bytes: &[u8],
+        out: &mut [u8],
+    ) -> Progress
+        requires channels { IsChannels N }
+        requires input { self.taken + 6 ≤ length bytes.now }
+        requires room { self.written + 16 ≤ length out.old }
+        requires full { (rgb_tag ≤ self.next) × (self.next < 256) }
+        ensures between { (n : ℕ) → FastBetween F N n bytes.now self table.old out.old
+            → FastBetween F N n bytes.now result table.new out.new }
+        ensures taken { (self.taken < result.taken) × (result.taken ≤ self.taken + 5) }
+        ensures byte { result.next < 256 }
+    {
+        let last = self.last.after_full(&bytes[self.taken..]);
+        table.put(last);
+        write_block::<N, F>(out, self.written, last);
+        let taken = self.taken + 4 + usize::from(self.next == QOI_OP_RGBA as u32);
+        Progress {
+            last,
+            taken,
+            written: self.written + N,
+            next: u32::from(bytes[taken]),
+        }
+    }
+
+    // Decodes a run that a block doesn't hold.
+    #[inline(always)]
+    fn long_run<const N: usize, const F: usize>(
+        self,
+        table: &mut HashedTable,
+        bytes: &[u8],
+        out: &mut [u8],
+    ) -> Progress
+        requires channels { IsChannels N }
+        requires input { self.taken + 2 ≤ length bytes.now }
+        requires room { self.written + RUN_ROOM ≤ length out.old }
+        requires run { (run_tag ≤ self.next) × (self.next < rgb_tag) }
+        ensures between { (n : ℕ) → FastBetween F N n bytes.now self table.old out.old
+            → FastBetween F N n bytes.now result table.new out.new }
+        ensures taken { result.taken ≡ self.taken + 1 }
+        ensures byte { result.next < 256 }
+    {
+        let count = (self.next - (QOI_OP_RUN as u32 - 1)) as usize;
+        table.put(self.last);
+        write_run::<N, F>(out, self.written, self.last, count);
+        Progress {
+            last: self.last,
+            taken: self.taken + 1,
+            written: self.written + N * count,
+            next: u32::from(bytes[self.taken + 1]),
+        }
+    }
+
+    /// Decodes chunks while there is room ahead, and returns where it stopped. What is left goes chunk by
+    /// chunk, with every test.
+    #[inline(always)]
+    pub(super) fn fast_chunks<const N: usize, const F: usize>(
+        table: &mut HashedTable,
+        bytes: &[u8],
+        out: &mut [u8],
+    ) -> Progress
+        requires channels { IsChannels N }
+        requires whole { length out.old % N ≡ 0 }
+        requires none { HoldsSeen table.old [] }
+        ensures between { DecoderBetween F N (length out.old / N) (IsFront bytes.now result.taken)
+            (filling table.new result.last out.new result.written) }
+        ensures within { result.taken ≤ length bytes.now }
+    {
+        let mut now = Progress {
+            last: Hashed::start(),
+            taken: 0,
+            written: 0,
+            next: 0,
+        };
+        if bytes.len() < INPUT_ROOM || out.len() < OUTPUT_ROOM {
+            return now;
+        }
+        now.next = u32::from(bytes[0]);
+        let far = bytes.len() - INPUT_ROOM;
+        let top = out.len() - OUTPUT_ROOM;
+        while now.taken <= far && now.written <= top {
+            now = now.short_chunks::<N, F>(table, bytes, out);
+            if is_short::<N>(now.next) {
+                continue;
+            }
+            if now.next >= QOI_OP_RGB as u32 {
+                now = now.full_chunk::<N, F>(table, bytes, out);
+            } else if RUN_ROOM <= out.len() - now.written {
+                now = now.long_run::<N, F>(table, bytes, out);
+            } else {
+                break;
+            }
+        }
+        now
+    }
+}
