@@ -23,7 +23,7 @@ use Rattle.qoi.proofs.format.HeaderBytes.{header_split}
 use Rattle.qoi.proofs.format.OneVerdict.{whole_is_one, whole_not_cut, whole_not_wrong}
 
 -- behind the header of a file stands its image, and then what follows the file
-pub image_of_file : (channels : Channels) (k : Header) (bytes : List ℕ) (h : Header) (rest raw : List ℕ)
+image_of_file : (channels : Channels) (k : Header) (bytes : List ℕ) (h : Header) (rest raw : List ℕ)
     → header_of bytes ≡ Ok k → channels ≡ k.channels → DecodesFile bytes h rest raw → IsImage channels (drop header_size bytes) k rest raw
 image_of_file channels k bytes h rest raw read own f =
     let same : k ≡ h = header_is_one bytes k h read f.header in
@@ -39,7 +39,7 @@ pub file_ahead : (style : Style) (h : Header) (raw bytes rest all : List ℕ) �
 file_ahead style h raw bytes rest all f split = subst (λ (z : List ℕ). DecodesFile z h rest raw) (sym split) (f.is_file.comes_back rest)
 
 -- a header that was read from a stream of known bytes is theirs, and what follows it is left
-pub header_read : (bytes : List ℕ) (left : Option (List ℕ)) (h : Header) → TakesHeader (Some bytes) left h
+header_read : (bytes : List ℕ) (left : Option (List ℕ)) (h : Header) → TakesHeader (Some bytes) left h
     → (header_of bytes ≡ Ok h) × (left ≡ Some (drop header_size bytes))
 header_read bytes None h r = absurd r.1
 header_read bytes (Some rest) h r = let split = header_split bytes r.0 rest h r.1 r.2 r.3 in (split.0, ap Some split.1)
@@ -75,7 +75,7 @@ fault_ahead false d old new e bytes rest raw image told refused =
     whole_is_io_error (pixel_count d.header) bytes image.cs rest new e image.whole (subst (λ z. RefusesImage false (pixel_count d.header) z new e) told refused)
 
 -- what is read from known bytes is an image at their front, and what follows it is left
-pub image_read : (channels : Channels) (h : Header) (bytes : List ℕ) (left : Option (List ℕ)) (out : List ℕ)
+image_read : (channels : Channels) (h : Header) (bytes : List ℕ) (left : Option (List ℕ)) (out : List ℕ)
     → ReadsImage (channels_number h.channels) (channels_number channels) (pixel_count h) (Some bytes) left out
     → (rest : List ℕ) × (left ≡ Some rest) × IsImage channels bytes h rest out
 image_read channels h bytes left out r =
@@ -97,7 +97,7 @@ image_read_of {R} ahead s d left f c n out bytes same channels file pixels r tol
     image_read d.channels d.header bytes left out (subst Q told (subst P same (rw (sym file, sym channels, sym pixels) r)))
 
 -- bytes are one image
-pub image_is_one : (channels : Channels) (h : Header) (bytes rest more raw out : List ℕ) → IsImage channels bytes h rest raw
+image_is_one : (channels : Channels) (h : Header) (bytes rest more raw out : List ℕ) → IsImage channels bytes h rest raw
     → IsImage channels bytes h more out → (out ≡ raw) × (more ≡ rest)
 image_is_one channels h bytes rest more raw out image other =
     let n = pixel_count h in

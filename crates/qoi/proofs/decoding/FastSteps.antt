@@ -6,10 +6,10 @@ use mir.Val.{bool_byte}
 use Rattle.qoi.specs.declared.decode.fast.Progress.{Progress}
 use Rattle.qoi.specs.Qoi.{Past}
 use Rattle.qoi.specs.Raw.{IsChannels}
-use Rattle.qoi.specs.inner.Filling.{upto, filling, HasWritten, GivesChunk, FastBetween}
+use Rattle.qoi.specs.inner.Filling.{upto, filling, HasWritten, DecodesChunk, FastBetween}
 use Rattle.qoi.specs.inner.Hashed.{pixel_of_lanes, HoldsSeen}
 use Rattle.qoi.proofs.decoding.FilledBuffer.{filled_copies}
-use Rattle.qoi.proofs.decoding.FirstChunk.{GivesCopies}
+use Rattle.qoi.proofs.decoding.FirstChunk.{PutsCopies}
 use Rattle.qoi.proofs.decoding.Progress.{goes_on}
 
 -- how many pixels a short chunk has, by its first byte and by how many bytes the output goes on
@@ -74,11 +74,11 @@ next_byte true bytes taken size next s e = let at : taken + 1 + size ≡ taken +
 next_byte false bytes taken size next s e = let at : taken + 1 + size ≡ taken + 1 = omega (arith, s) in rw at e
 
 -- copies of a pixel that was put at its index position
-pub copies_given : {f c : ℕ} {table table' out out' : List ℕ} (last last' at count : ℕ) → IsChannels c → at < length out → at + c * count ≤ length out
+pub copies_put : {f c : ℕ} {table table' out out' : List ℕ} (last last' at count : ℕ) → IsChannels c → at < length out → at + c * count ≤ length out
     → length out' ≡ length out → ((past : Past) → HoldsSeen table past → HoldsSeen table' (pixel_of_lanes last' ∷ past))
     → HasWritten f c (upto out at) (upto out' (at + c * count)) (replicate count (pixel_of_lanes last'))
-    → GivesCopies f c (pixel_of_lanes last') count (filling table last out at) (filling table' last' out' (at + c * count))
-copies_given {f} {c} {table} {table'} {out} {out'} last last' at count is inside fits size put written = record {
+    → PutsCopies f c (pixel_of_lanes last') count (filling table last out at) (filling table' last' out' (at + c * count))
+copies_put {f} {c} {table} {table'} {out} {out'} last last' at count is inside fits size put written = record {
   last_is = refl;
   table = put;
   filled = λ n past h. filled_copies f c n out out' at count (pixel_of_lanes last') past is inside fits size written h;
@@ -87,10 +87,10 @@ copies_given {f} {c} {table} {table'} {out} {out'} last last' at count is inside
 -- a chunk more was taken
 pub fast_step : {f c n : ℕ} {bytes table table' out out' : List ℕ} (now new : Progress) (k : ℕ) → IsChannels c → FastBetween f c n bytes now table out
     → now.written < length out → new.taken ≡ now.taken + k
-    → GivesChunk f c (take k (drop now.taken bytes)) (filling table now.last out now.written) (filling table' new.last out' new.written)
+    → DecodesChunk f c (take k (drop now.taken bytes)) (filling table now.last out now.written) (filling table' new.last out' new.written)
     → new.written ≤ length out' → new.written % c ≡ 0 → new.next ≡ get_or bytes new.taken 0 → FastBetween f c n bytes new table' out'
-fast_step {f} {c} {n} {bytes} {table} {table'} {out} {out'} now new k is h inside taken gives within whole next = record {
-  between = goes_on {old = filling table now.last out now.written} {new = filling table' new.last out' new.written} is h.between inside gives
+fast_step {f} {c} {n} {bytes} {table} {table'} {out} {out'} now new k is h inside taken decodes within whole next = record {
+  between = goes_on {old = filling table now.last out now.written} {new = filling table' new.last out' new.written} is h.between inside decodes
       (λ before front. ap (λ z. z ++ take k (drop now.taken bytes)) front ∙ sym (take-add now.taken k bytes) ∙ ap (λ m. take m bytes) (sym taken)) within whole;
   next_is = next;
 }

@@ -10,33 +10,18 @@ use Rattle.qoi.specs.Raw.{IsChannels, pixel_bytes, output}
 use Rattle.qoi.specs.inner.Filling.{Buffer, upto, HasWritten, HasFilled}
 use Rattle.qoi.proofs.format.ChunkSteps.{repeats_after, reverse-replicate}
 
--- there are channels
-pub channels_above : (c : ℕ) → IsChannels c → 0 < c
-channels_above c (inl e) = omega arith
-channels_above c (inr e) = omega arith
-
--- room for a whole pixel, where there is any
-pub pixel_room : (c at len : ℕ) → IsChannels c → at % c ≡ 0 → len % c ≡ 0 → at < len → at + c ≤ len
-pixel_room c at len (inl e) = subst (λ k. at % k ≡ 0 → len % k ≡ 0 → at < len → at + k ≤ len) (sym e) (λ p q h. omega arith)
-pixel_room c at len (inr e) = subst (λ k. at % k ≡ 0 → len % k ≡ 0 → at < len → at + k ≤ len) (sym e) (λ p q h. omega arith)
-
--- the offset after a whole pixel
-pub pixel_end : (c at : ℕ) → IsChannels c → at % c ≡ 0 → (at + c) % c ≡ 0
-pixel_end c at (inl e) = subst (λ k. at % k ≡ 0 → (at + k) % k ≡ 0) (sym e) (λ p. omega arith)
-pixel_end c at (inr e) = subst (λ k. at % k ≡ 0 → (at + k) % k ≡ 0) (sym e) (λ p. omega arith)
-
 -- as many whole pixels as bytes for them
 pub whole_pixels : (c len : ℕ) → IsChannels c → len % c ≡ 0 → len ≡ c * (len / c)
 whole_pixels c len (inl e) = subst (λ k. len % k ≡ 0 → len ≡ k * (len / k)) (sym e) (λ p. omega arith)
 whole_pixels c len (inr e) = subst (λ k. len % k ≡ 0 → len ≡ k * (len / k)) (sym e) (λ p. omega arith)
 
 -- a pixel has as many bytes as channels
-pub length-pixel_bytes : (f c : ℕ) (p : RgbaPixel) → IsChannels c → length (pixel_bytes f c p) ≡ c
+length-pixel_bytes : (f c : ℕ) (p : RgbaPixel) → IsChannels c → length (pixel_bytes f c p) ≡ c
 length-pixel_bytes f c p (inl e) = rw e refl
 length-pixel_bytes f c p (inr e) = rw e refl
 
 -- c bytes a pixel
-pub length-output : (f c : ℕ) (ps : List RgbaPixel) → IsChannels c → length (output f c ps) ≡ c * length ps
+length-output : (f c : ℕ) (ps : List RgbaPixel) → IsChannels c → length (output f c ps) ≡ c * length ps
 length-output f c [] is = omega arith
 length-output f c (p ∷ ps) is =
     let e = length-append (pixel_bytes f c p) (output f c ps) in
@@ -70,7 +55,7 @@ counts c n l k at len (inr e) = subst (λ m. len ≡ m * n → at ≡ m * min n 
     (λ p q h r. record { below = omega arith; now = omega arith; next = omega arith })
 
 -- where there is none, the pixels so far are enough
-pub full_counts : (c n l at len : ℕ) → IsChannels c → len ≡ c * n → at ≡ c * min n l → len ≤ at → (n ≤ l) × (at ≡ len)
+full_counts : (c n l at len : ℕ) → IsChannels c → len ≡ c * n → at ≡ c * min n l → len ≤ at → (n ≤ l) × (at ≡ len)
 full_counts c n l at len (inl e) = subst (λ k. len ≡ k * n → at ≡ k * min n l → len ≤ at → (n ≤ l) × (at ≡ len)) (sym e)
     (λ p q h. (omega arith, omega arith))
 full_counts c n l at len (inr e) = subst (λ k. len ≡ k * n → at ≡ k * min n l → len ≤ at → (n ≤ l) × (at ≡ len)) (sym e)
@@ -101,7 +86,7 @@ filled_list f c n out new at past ps is inside fits size e h =
     }
 
 -- where the buffer is full, further pixels change nothing
-pub filled_full : (f c n : ℕ) (out : List ℕ) (at : ℕ) (past more : Past) → IsChannels c → HasFilled f c n (upto out at) past → length out ≤ at
+filled_full : (f c n : ℕ) (out : List ℕ) (at : ℕ) (past more : Past) → IsChannels c → HasFilled f c n (upto out at) past → length out ≤ at
     → HasFilled f c n (upto out at) (more ++ past)
 filled_full f c n out at past more is h full =
     let place = full_counts c n (length past) at (length out) is h.room h.at_is full in
@@ -118,13 +103,6 @@ filled_full f c n out at past more is h full =
     long_enough : (c n l at len size : ℕ) → IsChannels c → len ≡ c * n → at ≡ c * min n l → len ≤ at → size ≡ c * l → at ≤ size
     long_enough c n l at len size (inl e) = subst (λ k. len ≡ k * n → at ≡ k * min n l → len ≤ at → size ≡ k * l → at ≤ size) (sym e) (λ p q h s. omega arith)
     long_enough c n l at len size (inr e) = subst (λ k. len ≡ k * n → at ≡ k * min n l → len ≤ at → size ≡ k * l → at ≤ size) (sym e) (λ p q h s. omega arith)
-
--- where the room is for all of them, it is for k pixels after some
-pub room_after : (c at done k all len : ℕ) → IsChannels c → done + k ≤ all → at + c * all ≤ len → (at + c * done + c * k ≤ len) × (0 < k → at + c * done < len)
-room_after c at done k all len (inl e) = subst (λ d. done + k ≤ all → at + d * all ≤ len → (at + d * done + d * k ≤ len) × (0 < k → at + d * done < len))
-    (sym e) (λ p q. (omega arith, λ r. omega arith))
-room_after c at done k all len (inr e) = subst (λ d. done + k ≤ all → at + d * all ≤ len → (at + d * done + d * k ≤ len) × (0 < k → at + d * done < len))
-    (sym e) (λ p q. (omega arith, λ r. omega arith))
 
 -- copies of a pixel that were written fill the buffer
 pub filled_copies : (f c n : ℕ) (out new : List ℕ) (at count : ℕ) (p : RgbaPixel) (past : Past) → IsChannels c → at < length out

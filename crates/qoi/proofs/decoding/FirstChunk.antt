@@ -4,7 +4,7 @@ use Rattle.std.proofs.lemmas.Bool.{cases_lt}
 use Rattle.qoi.specs.declared.chunk.Chunk.{Chunk}
 use Rattle.qoi.specs.declared.chunk.Chunk.TheVariants.{Place, Diff, Luma, Run, Rgb, Rgba}
 use Rattle.qoi.specs.Qoi.{RgbaPixel, Past, AreBytes, IsChunk, pixel, seen, after_diff, after_luma, times, pixel_after}
-use Rattle.qoi.specs.inner.Filling.{Filling, HasSeen, HasFilled, Gives, GivesChunk}
+use Rattle.qoi.specs.inner.Filling.{Filling, HasSeen, HasFilled, Decodes, DecodesChunk}
 use Rattle.qoi.specs.inner.Hashed.{pixel_of_lanes, HoldsSeen}
 use Rattle.qoi.proofs.format.ChunkSteps.{times_some}
 use Rattle.qoi.proofs.decoding.SeenTable.{holds_seen_copies, previous_copies}
@@ -39,15 +39,15 @@ front_5 (a ∷ b ∷ c ∷ d ∷ []) l = absurd (omega arith)
 front_5 (a ∷ b ∷ c ∷ d ∷ e ∷ bytes) l = refl
 
 -- a pixel was put at its index position, and written so many times
-pub record GivesCopies (f c : ℕ) (p : RgbaPixel) (count : ℕ) (old new : Filling) : Type 0 where
+pub record PutsCopies (f c : ℕ) (p : RgbaPixel) (count : ℕ) (old new : Filling) : Type 0 where
   pub last_is : pixel_of_lanes new.last ≡ p
   pub table : (past : Past) → HoldsSeen old.table past → HoldsSeen new.table (p ∷ past)
   pub filled : (n : ℕ) (past : Past) → HasFilled f c n old.buffer past → HasFilled f c n new.buffer (replicate count p ++ past)
 
 -- the pixels of a chunk
-pub gives_copies : {f c count : ℕ} {p : RgbaPixel} {old new : Filling} (chunk : Chunk) → IsChunk chunk → times chunk ≡ count
-    → ((past : Past) → HasSeen old past → p ≡ pixel_after past chunk) → GivesCopies f c p count old new → Gives f c chunk old new
-gives_copies {f} {c} {count} {p} {old} {new} chunk is many same g = record {
+decodes_copies : {f c count : ℕ} {p : RgbaPixel} {old new : Filling} (chunk : Chunk) → IsChunk chunk → times chunk ≡ count
+    → ((past : Past) → HasSeen old past → p ≡ pixel_after past chunk) → PutsCopies f c p count old new → Decodes f c chunk old new
+decodes_copies {f} {c} {count} {p} {old} {new} chunk is many same g = record {
   has_seen = λ past h. rw (← same past h) (record {
     table_is = holds_seen_copies new.table p past (times chunk) (times_some chunk is) (g.table past h.table_is);
     last_is = g.last_is ∙ sym (previous_copies (times chunk) p past (times_some chunk is));
@@ -71,73 +71,73 @@ pub record HasSize (b taken count : ℕ) : Type 0 where
   pub often : 192 ≤ b → count + 191 ≡ b
 
 -- a run
-pub gives_run : {f c : ℕ} {old new : Filling} (bytes : List ℕ) (count : ℕ) → 1 ≤ length bytes → get_or bytes 0 0 ≡ count + 191 → 0 < count → count ≤ 62
-    → GivesCopies f c (pixel_of_lanes old.last) count old new → GivesChunk f c (take 1 bytes) old new
-gives_run bytes count long first some most g = record {
+pub decodes_run : {f c : ℕ} {old new : Filling} (bytes : List ℕ) (count : ℕ) → 1 ≤ length bytes → get_or bytes 0 0 ≡ count + 191 → 0 < count → count ≤ 62
+    → PutsCopies f c (pixel_of_lanes old.last) count old new → DecodesChunk f c (take 1 bytes) old new
+decodes_run bytes count long first some most g = record {
   chunk = Run count;
   is_chunk = (some, most);
   bytes_are = front_1 bytes long ∙ ap (λ x. x ∷ []) (first ∙ omega arith);
-  gives = gives_copies (Run count) (some, most) refl (λ past h. h.last_is) g;
+  decodes = decodes_copies (Run count) (some, most) refl (λ past h. h.last_is) g;
 }
 
 -- an index position, a difference, a luma or a run, of which a luma alone has a second byte
-pub gives_short : {f c : ℕ} {p : RgbaPixel} {old new : Filling} (bytes : List ℕ) (b e taken count : ℕ) → 2 ≤ length bytes → b ≡ get_or bytes 0 0
+pub decodes_short : {f c : ℕ} {p : RgbaPixel} {old new : Filling} (bytes : List ℕ) (b e taken count : ℕ) → 2 ≤ length bytes → b ≡ get_or bytes 0 0
     → e ≡ get_or bytes 1 0 → b < 254 → e < 256 → HasSize b taken count
-    → IsShortPixel b e old p → GivesCopies f c p count old new → GivesChunk f c (take taken bytes) old new
-gives_short bytes b e taken count long first second low byte size px g =
+    → IsShortPixel b e old p → PutsCopies f c p count old new → DecodesChunk f c (take taken bytes) old new
+decodes_short bytes b e taken count long first second low byte size px g =
     elim (cases_lt b 64) [
       | inl place ↦ record {
         chunk = Place b;
         is_chunk = place;
         bytes_are = rw (size.one (omega arith), first) (front_1 bytes (omega arith));
-        gives = gives_copies (Place b) place (sym (size.once (omega arith))) (λ past h. px.place place past h.table_is) g;
+        decodes = decodes_copies (Place b) place (sym (size.once (omega arith))) (λ past h. px.place place past h.table_is) g;
       }
       | inr other ↦ elim (cases_lt b 128) [
         | inl diff ↦ record {
           chunk = Diff b;
           is_chunk = (other, diff);
           bytes_are = rw (size.one (omega arith), first) (front_1 bytes (omega arith));
-          gives = gives_copies (Diff b) (other, diff) (sym (size.once (omega arith))) (λ past h. px.diff other diff ∙ ap (λ q. after_diff q b) h.last_is) g;
+          decodes = decodes_copies (Diff b) (other, diff) (sym (size.once (omega arith))) (λ past h. px.diff other diff ∙ ap (λ q. after_diff q b) h.last_is) g;
         }
         | inr high ↦ elim (cases_lt b 192) [
           | inl luma ↦ record {
             chunk = Luma b e;
             is_chunk = (high, luma, byte);
             bytes_are = rw (size.luma high luma, first, second) (front_2 bytes long);
-            gives = gives_copies (Luma b e) (high, luma, byte) (sym (size.once luma)) (λ past h. px.luma high luma ∙ ap (λ q. after_luma q b e) h.last_is) g;
+            decodes = decodes_copies (Luma b e) (high, luma, byte) (sym (size.once luma)) (λ past h. px.luma high luma ∙ ap (λ q. after_luma q b e) h.last_is) g;
           }
           | inr run ↦
               let n = size.often run in
-              rw (size.run run) (gives_run bytes count (omega arith) (sym first ∙ sym n) (omega (arith, n)) (omega (arith, n))
+              rw (size.run run) (decodes_run bytes count (omega arith) (sym first ∙ sym n) (omega (arith, n)) (omega (arith, n))
               (record { last_is = g.last_is ∙ px.run run; table = λ past h. rw (← px.run run) (g.table past h); filled = λ m past h. rw (← px.run run) (g.filled m past h) }))
         ]
       ]
     ]
 
 -- an RGB chunk, whose pixel keeps alpha
-pub gives_rgb : {f c : ℕ} {p : RgbaPixel} {old new : Filling} (bytes : List ℕ) → 4 ≤ length bytes → AreBytes bytes → get_or bytes 0 0 ≡ 254
+pub decodes_rgb : {f c : ℕ} {p : RgbaPixel} {old new : Filling} (bytes : List ℕ) → 4 ≤ length bytes → AreBytes bytes → get_or bytes 0 0 ≡ 254
     → p ≡ pixel (get_or bytes 1 0) (get_or bytes 2 0) (get_or bytes 3 0) (pixel_of_lanes old.last).a
-    → GivesCopies f c p 1 old new → GivesChunk f c (take 4 bytes) old new
-gives_rgb {p = p} {old = old} bytes long fits first px g =
+    → PutsCopies f c p 1 old new → DecodesChunk f c (take 4 bytes) old new
+decodes_rgb {p = p} {old = old} bytes long fits first px g =
     let chunk = Rgb (get_or bytes 1 0) (get_or bytes 2 0) (get_or bytes 3 0) in
     let is : IsChunk chunk = (fits 1, fits 2, fits 3) in
     record {
       chunk = chunk;
       is_chunk = is;
       bytes_are = rw (← first) (front_4 bytes long);
-      gives = gives_copies chunk is refl (λ past h. px ∙ ap (λ (q : RgbaPixel). pixel (get_or bytes 1 0) (get_or bytes 2 0) (get_or bytes 3 0) q.a) h.last_is) g;
+      decodes = decodes_copies chunk is refl (λ past h. px ∙ ap (λ (q : RgbaPixel). pixel (get_or bytes 1 0) (get_or bytes 2 0) (get_or bytes 3 0) q.a) h.last_is) g;
     }
 
 -- an RGBA chunk
-pub gives_rgba : {f c : ℕ} {p : RgbaPixel} {old new : Filling} (bytes : List ℕ) → 5 ≤ length bytes → AreBytes bytes → get_or bytes 0 0 ≡ 255
+pub decodes_rgba : {f c : ℕ} {p : RgbaPixel} {old new : Filling} (bytes : List ℕ) → 5 ≤ length bytes → AreBytes bytes → get_or bytes 0 0 ≡ 255
     → p ≡ pixel (get_or bytes 1 0) (get_or bytes 2 0) (get_or bytes 3 0) (get_or bytes 4 0)
-    → GivesCopies f c p 1 old new → GivesChunk f c (take 5 bytes) old new
-gives_rgba bytes long fits first px g =
+    → PutsCopies f c p 1 old new → DecodesChunk f c (take 5 bytes) old new
+decodes_rgba bytes long fits first px g =
     let chunk = Rgba (get_or bytes 1 0) (get_or bytes 2 0) (get_or bytes 3 0) (get_or bytes 4 0) in
     let is : IsChunk chunk = (fits 1, fits 2, fits 3, fits 4) in
     record {
       chunk = chunk;
       is_chunk = is;
       bytes_are = rw (← first) (front_5 bytes long);
-      gives = gives_copies chunk is refl (λ past h. px) g;
+      decodes = decodes_copies chunk is refl (λ past h. px) g;
     }

@@ -68,7 +68,7 @@ decodes_file h cs bytes rest out f split out_is = record {
 }
 
 -- a header and the image that is read behind it are a file
-pub decodes_read : (h : Header) (bytes rest out : List ℕ) → AreBytes bytes → header_of bytes ≡ Ok h
+decodes_read : (h : Header) (bytes rest out : List ℕ) → AreBytes bytes → header_of bytes ≡ Ok h
     → ReadsImage (channels_number h.channels) (channels_number h.channels) (pixel_count h) (Some (drop header_size bytes)) (Some rest) out
     → DecodesFile bytes h rest out
 decodes_read h bytes rest out fits read r =

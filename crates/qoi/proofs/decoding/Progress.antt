@@ -4,7 +4,7 @@ use Rattle.qoi.specs.Qoi.{Past, AreBytes, start, bytes_of, chunk_bytes, pixel_af
 use Rattle.std.specs.Io.KnownBytes.{Consumes}
 use Rattle.std.proofs.KnownBytes.{Consumes-trans}
 use Rattle.qoi.specs.Raw.{IsChannels, output}
-use Rattle.qoi.specs.inner.Filling.{Buffer, Filling, filling, HasFilled, GivesChunk, DecoderBetween, IsFront}
+use Rattle.qoi.specs.inner.Filling.{Buffer, Filling, filling, HasFilled, DecodesChunk, DecoderBetween, IsFront}
 use Rattle.qoi.specs.inner.Hashed.{pixel_of_lanes, HoldsSeen}
 use Rattle.qoi.specs.Verdicts.{IsPartOfChunk, EndsBefore, AreCut}
 use Rattle.qoi.specs.Decoding.{ReadsPixels, StreamsPixels}
@@ -15,7 +15,7 @@ use Rattle.qoi.proofs.format.Appended.{are_chunks_append, chunk_bytes-last, leng
 use Rattle.qoi.proofs.decoding.FilledBuffer.{counts, filled_all, whole_pixels}
 use Rattle.qoi.proofs.decoding.SeenTable.{previous_copies}
 
--- fewer than n pixels were given, where there is room for more
+-- fewer than n pixels were decoded, where there is room for more
 pub fewer : {f c n : ℕ} {b : Buffer} {past : Past} → IsChannels c → HasFilled f c n b past → b.at < length b.out → length past < n
 fewer {c = c} {n = n} {b = b} {past = past} is h inside =
     (counts c n (length past) 0 b.at (length b.out) is h.room h.at_is inside (omega arith)).below
@@ -44,16 +44,16 @@ start_between f c Taken table last out is whole blank opaque none_taken = record
 
 -- one more chunk, its pixels written and seen
 pub goes_on : {f c n : ℕ} {Taken Taken' : List ℕ → Type 0} {old new : Filling} {bytes : List ℕ} → IsChannels c → DecoderBetween f c n Taken old
-    → old.buffer.at < length old.buffer.out → GivesChunk f c bytes old new
+    → old.buffer.at < length old.buffer.out → DecodesChunk f c bytes old new
     → ((before : List ℕ) → Taken before → Taken' (before ++ bytes)) → new.buffer.at ≤ length new.buffer.out → new.buffer.at % c ≡ 0 → DecoderBetween f c n Taken' new
 goes_on {f} {c} {n} {Taken} {Taken'} {old} {new} {bytes} is s inside g takes within whole =
     let chunk = g.chunk in
     let past = then_chunks [] s.cs in
     let pushed = then_chunks-append [] s.cs (chunk ∷ []) in
-    let has_seen = g.gives.has_seen past s.has_seen in
+    let has_seen = g.decodes.has_seen past s.has_seen in
     let pixel_is : pixel_of_lanes new.last ≡ pixel_after past chunk = has_seen.last_is ∙ previous_copies (times chunk) (pixel_after past chunk) past (times_some chunk g.is_chunk) in
     let filled : HasFilled f c n new.buffer (then_chunk past chunk) =
-    subst (λ p. HasFilled f c n new.buffer (replicate (times chunk) p ++ past)) pixel_is (g.gives.filled n past s.filled) in
+    subst (λ p. HasFilled f c n new.buffer (replicate (times chunk) p ++ past)) pixel_is (g.decodes.filled n past s.filled) in
     record {
       cs = s.cs ++ chunk ∷ [];
       chunks = are_chunks_append s.cs (chunk ∷ []) s.chunks (g.is_chunk, tt);
@@ -66,7 +66,7 @@ goes_on {f} {c} {n} {Taken} {Taken'} {old} {new} {bytes} is s inside g takes wit
     }
 
 -- where the buffer is full, the chunks reach n pixels, and these are the first n
-pub reads_all : {f c n : ℕ} {Taken : List ℕ → Type 0} {now : Filling} → IsChannels c → (s : DecoderBetween f c n Taken now) → length now.buffer.out ≤ now.buffer.at
+reads_all : {f c n : ℕ} {Taken : List ℕ → Type 0} {now : Filling} → IsChannels c → (s : DecoderBetween f c n Taken now) → length now.buffer.out ≤ now.buffer.at
     → Reaches n s.cs × (now.buffer.out ≡ output f c (take n (meaning s.cs)))
 reads_all {f} {c} {n} {Taken} {now} is s full =
     let all = filled_all f c n now.buffer (then_chunks [] s.cs) is s.filled full in

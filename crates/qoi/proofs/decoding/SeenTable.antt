@@ -1,22 +1,11 @@
 -- What a decoder keeps from chunk to chunk.
-use Rattle.std.proofs.Common.{◌≡◌, inl, inr, ℕ, zero, suc, ◌<◌, Bool, true, false, List, ◌∷◌, ◌++◌, replicate, cond, eqb, Some, arith, refl, sym, ap, ◌∙◌}
-use Rattle.qoi.specs.declared.chunk.Chunk.{Chunk}
-use Rattle.qoi.specs.declared.chunk.Chunk.TheVariants.{Run}
-use Rattle.qoi.specs.Qoi.{RgbaPixel, Past, previous, seen, hash, times}
+use Rattle.std.proofs.Common.{◌≡◌, ℕ, zero, suc, ◌<◌, Bool, true, false, List, ◌∷◌, ◌++◌, replicate, cond, eqb, Some, arith, refl, sym, ap, ◌∙◌}
+use Rattle.qoi.specs.Qoi.{RgbaPixel, Past, previous, seen, hash}
 use Rattle.qoi.specs.inner.Hashed.{HoldsSeen}
 use Rattle.qoi.specs.inner.Table.{Holds}
-use Rattle.qoi.proofs.format.ChunkSteps.{cases_run, times_other}
-
--- a chunk other than a run gives one pixel
-pub times_once : (c : Chunk) → ((n : ℕ) → c ≡ Run n → ⊥) → times c ≡ 1
-times_once c other =
-    elim (cases_run c) [
-      | inl run ↦ absurd (other run.0 run.1)
-      | inr h ↦ times_other c h
-    ]
 
 -- what an index position holds after a pixel came some times
-pub seen_copies : (n : ℕ) (p : RgbaPixel) (past : Past) (i : ℕ) → 0 < n → seen (replicate n p ++ past) i ≡ cond (eqb (hash p) i) p (seen past i)
+seen_copies : (n : ℕ) (p : RgbaPixel) (past : Past) (i : ℕ) → 0 < n → seen (replicate n p ++ past) i ≡ cond (eqb (hash p) i) p (seen past i)
 seen_copies zero p past i h = absurd (omega arith)
 seen_copies (suc zero) p past i h = refl
 seen_copies (suc (suc n)) p past i h = rw (seen_copies (suc n) p past i (omega arith)) (twice (eqb (hash p) i))

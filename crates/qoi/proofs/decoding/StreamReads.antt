@@ -10,7 +10,7 @@ use Rattle.qoi.specs.declared.error.Error.{Error}
 use Rattle.qoi.specs.declared.error.Error.TheVariants.{InvalidMagic, InvalidChannels, InvalidColorSpace, InvalidImageDimensions, InvalidImageLength, OutputBufferTooSmall, UnexpectedBufferEnd, InvalidPadding, IoError, OutOfMemory}
 use Rattle.qoi.specs.declared.chunk.Chunk.{Chunk}
 use Rattle.qoi.specs.declared.chunk.Chunk.TheVariants.{Place, Diff, Run, Rgb, Rgba}
-use Rattle.qoi.specs.inner.Filling.{Filling, GivesChunk}
+use Rattle.qoi.specs.inner.Filling.{Filling, DecodesChunk}
 use Rattle.qoi.proofs.format.ChunksApart.{chunks_apart}
 use Rattle.std.proofs.lemmas.Bool.{cases_lt}
 use Rattle.qoi.specs.Qoi.{AreBytes, IsChunk, AreChunks, bytes_of, chunk_bytes, Reaches}
@@ -54,13 +54,13 @@ part_read_rgba b more fits h is few = part_rgba (b ∷ more) (byte_and b more fi
 abbrev pub IsChunkAhead : List ℕ → List ℕ → Type 0
 IsChunkAhead bytes taken = (c : Chunk) × (rest : List ℕ) × IsChunk c × (taken ≡ bytes_of c) × (bytes ≡ bytes_of c ++ rest)
 
--- of such bytes the chunk was given that was taken
-pub gives_taken : {f c : ℕ} {old new : Filling} (bytes : List ℕ) (size : ℕ) (taken : List ℕ) → IsChunkAhead bytes taken
-    → GivesChunk f c (take size bytes) old new → GivesChunk f c taken old new
-gives_taken bytes size taken (c, more, is_chunk, taken_is, bytes_are) first =
+-- of such bytes the chunk was decoded that was taken
+pub decodes_taken : {f c : ℕ} {old new : Filling} (bytes : List ℕ) (size : ℕ) (taken : List ℕ) → IsChunkAhead bytes taken
+    → DecodesChunk f c (take size bytes) old new → DecodesChunk f c taken old new
+decodes_taken bytes size taken (c, more, is_chunk, taken_is, bytes_are) first =
     let split = sym (take-append-drop size bytes) ∙ ap (λ z. z ++ drop size bytes) first.bytes_are in
     let same = chunks_apart c first.chunk more (drop size bytes) is_chunk first.is_chunk (sym bytes_are ∙ split) in
-    record { chunk = first.chunk; is_chunk = first.is_chunk; bytes_are = taken_is ∙ ap bytes_of same.0; gives = first.gives }
+    record { chunk = first.chunk; is_chunk = first.is_chunk; bytes_are = taken_is ∙ ap bytes_of same.0; decodes = first.decodes }
 
 -- an index position's, a difference's and a run's byte are a chunk of their own
 pub alone_ahead : (b : ℕ) (zeros : List ℕ) → (b < 128) ⊎ ((192 ≤ b) × (b < 254)) → IsChunkAhead (b ∷ zeros) (b ∷ [])

@@ -14,7 +14,7 @@ use Rattle.qoi.proofs.format.OneVerdict.{StayBelowAfter}
 use Rattle.qoi.proofs.format.ChunkSteps.{times_some}
 
 -- the pixels after a chunk are those before it and its own
-pub length-then_chunk : (past : Past) (c : Chunk) → length (then_chunk past c) ≡ times c + length past
+length-then_chunk : (past : Past) (c : Chunk) → length (then_chunk past c) ≡ times c + length past
 length-then_chunk past c = omega (arith, length-append (replicate (times c) (pixel_after past c)) past, length-replicate (times c) (pixel_after past c))
 
 -- each pixel takes five bytes at most

@@ -56,7 +56,7 @@ tried_valid h v =
     (and_from _ _ (le-leb 1 (h.width * h.height) v.0) (le-leb (h.width * h.height) pixels_max v.1))
 
 -- bytes that say a header are read as it
-pub header_from_says : (bytes : List ℕ) (h : Header) → SaysHeader bytes h → header_of bytes ≡ Ok h
+header_from_says : (bytes : List ℕ) (h : Header) → SaysHeader bytes h → header_of bytes ≡ Ok h
 header_from_says bytes h s =
     rw (le-ltb (length bytes) 14 s.long, s.channels, s.colorspace, s.magic, s.width, s.height) (tried_valid h s.valid)
 
@@ -69,7 +69,7 @@ factor_below a (suc b) low high =
     omega arith
 
 -- a valid header's bytes say it
-pub says_head : (h : Header) (rest : List ℕ) → IsValid h → SaysHeader (header_bytes h ++ rest) h
+says_head : (h : Header) (rest : List ℕ) → IsValid h → SaysHeader (header_bytes h ++ rest) h
 says_head h rest v =
     let turned = mul_comm h.width h.height in
     record {
@@ -118,7 +118,7 @@ rest_from bytes c s h e =
     }
 
 -- bytes that are read as a header say it
-pub says_from : (bytes : List ℕ) (h : Header) → header_of bytes ≡ Ok h → SaysHeader bytes h
+says_from : (bytes : List ℕ) (h : Header) → header_of bytes ≡ Ok h → SaysHeader bytes h
 says_from bytes h e =
     let long = guard_false (nat_lt (length bytes) 14) (with_channels_read bytes (channels_of (slice_index bytes 12))) UnexpectedBufferEnd h e in
     with_channels (channels_of (slice_index bytes 12)) refl (ltb-false (length bytes) 14 long.0) long.1
@@ -153,7 +153,7 @@ four_bytes a b c d ha hb hc hd (suc (suc (suc zero))) = hd
 four_bytes a b c d ha hb hc hd (suc (suc (suc (suc i)))) = omega arith
 
 -- bytes that say a header are its own, and then the rest
-pub head_from_says : (bytes : List ℕ) (h : Header) → AreBytes bytes → SaysHeader bytes h → bytes ≡ header_bytes h ++ drop 14 bytes
+head_from_says : (bytes : List ℕ) (h : Header) → AreBytes bytes → SaysHeader bytes h → bytes ≡ header_bytes h ++ drop 14 bytes
 head_from_says (m0 ∷ m1 ∷ m2 ∷ m3 ∷ w0 ∷ w1 ∷ w2 ∷ w3 ∷ h0 ∷ h1 ∷ h2 ∷ h3 ∷ c ∷ s ∷ rest) h fits says =
     let m : to_be_bytes w32 magic_number ≡ m0 ∷ m1 ∷ m2 ∷ m3 ∷ [] =
     be_bytes_4 (m0 ∷ m1 ∷ m2 ∷ m3 ∷ []) magic_number refl (four_bytes m0 m1 m2 m3 (fits 0) (fits 1) (fits 2) (fits 3)) (sym says.magic) in

@@ -29,7 +29,7 @@ halved true m = omega arith
 halved false m = omega arith
 
 -- the bits from a lane on
-pub bits_from : (at : ℕ) (xs ys : List ℕ) → length xs ≡ length ys → at ≤ length xs
+bits_from : (at : ℕ) (xs ys : List ℕ) → length xs ≡ length ys → at ≤ length xs
     → mask_l (zip2 eqb xs ys) / 2 ^ at ≡ mask_l (zip2 eqb (drop at xs) (drop at ys))
 bits_from zero xs ys e l = omega arith
 bits_from (suc at) [] ys e l = absurd (omega arith)
@@ -54,7 +54,7 @@ clear_step k true m n c l h f =
     ∙ omega (arith, f (omega (arith, pow-suc 2 k)) (omega (arith, pow-suc 2 k)))
 clear_step k false m n c l h f = odd_under n (count_trailing_zeros k (n / 2)) (omega (arith, pow-suc 2 k))
 
-pub first_clear : (k : ℕ) (xs ys : List ℕ) (n : ℕ) → length xs ≡ length ys → mask_l (zip2 eqb xs ys) + 1 < 2 ^ k → n ≡ 2 ^ k - 1 - mask_l (zip2 eqb xs ys)
+first_clear : (k : ℕ) (xs ys : List ℕ) (n : ℕ) → length xs ≡ length ys → mask_l (zip2 eqb xs ys) + 1 < 2 ^ k → n ≡ 2 ^ k - 1 - mask_l (zip2 eqb xs ys)
     → count_trailing_zeros k n ≡ common_prefix_len eqb xs ys
 unfolding count_trailing_zeros
 first_clear zero xs ys n e l h = absurd (omega arith)
@@ -86,7 +86,7 @@ prefix (x ∷ xs) (y ∷ ys) e = go (eqb x y) refl (prefix xs ys (omega arith))
         }
     go false e p = record { within = omega arith; same = λ k l. absurd (omega arith); stops = λ l. eqb-false x y e }
 
-pub run_of : (xs ys : List ℕ) (at n : ℕ) → length xs ≡ 4 → length ys ≡ 4 → at < 4 → n ≡ common_prefix_len eqb (drop at xs) (drop at ys) → IsRun xs ys at n
+run_of : (xs ys : List ℕ) (at n : ℕ) → length xs ≡ 4 → length ys ≡ 4 → at < 4 → n ≡ common_prefix_len eqb (drop at xs) (drop at ys) → IsRun xs ys at n
 run_of xs ys at n e g l h =
     let p = subst (IsPrefix (drop at xs) (drop at ys)) (sym h) (prefix (drop at xs) (drop at ys) (omega (arith, length-drop at xs, length-drop at ys))) in
     record {

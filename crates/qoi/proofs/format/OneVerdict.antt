@@ -21,7 +21,7 @@ ends_without_chunk n past d x y hd short (inl enough) e = omega arith
 ends_without_chunk n past d x y hd short (inr part) e = part_begins_none d y hd (subst IsPartOfChunk e part.1)
 
 -- from any pixels on, two readings of the same bytes are one
-pub one_takes_after : (n : ℕ) (past : Past) (cs ds : List Chunk) (x y : List ℕ) → AreChunks cs → AreChunks ds
+one_takes_after : (n : ℕ) (past : Past) (cs ds : List Chunk) (x y : List ℕ) → AreChunks cs → AreChunks ds
     → StayBelowAfter n past cs → StayBelowAfter n past ds
     → EndsChunks n (then_chunks past cs) x → EndsChunks n (then_chunks past ds) y
     → chunk_bytes cs ++ x ≡ chunk_bytes ds ++ y → (cs ≡ ds) × (x ≡ y)
@@ -44,13 +44,13 @@ enough_ends : (n : ℕ) (cs : List Chunk) (x : List ℕ) → n ≤ length (meani
 enough_ends n cs x h = inl (omega (arith, length-meaning cs))
 
 -- two readings of the same bytes are one
-pub one_takes : (n : ℕ) (bytes : List ℕ) (cs ds : List Chunk) (x y : List ℕ) → HasChunks n bytes cs x → HasChunks n bytes ds y
+one_takes : (n : ℕ) (bytes : List ℕ) (cs ds : List Chunk) (x y : List ℕ) → HasChunks n bytes cs x → HasChunks n bytes ds y
     → EndsChunks n (then_chunks [] cs) x → EndsChunks n (then_chunks [] ds) y → (cs ≡ ds) × (x ≡ y)
 one_takes n bytes cs ds x y s t ec ed =
     one_takes_after n [] cs ds x y s.chunks t.chunks s.stays_below t.stays_below ec ed (sym s.split ∙ t.split)
 
 -- reading of cut bytes ends where they end
-pub cut_ends : (n : ℕ) (bytes : List ℕ) (cs : List Chunk) (x : List ℕ) → IsCut n bytes cs x → EndsChunks n (then_chunks [] cs) x
+cut_ends : (n : ℕ) (bytes : List ℕ) (cs : List Chunk) (x : List ℕ) → IsCut n bytes cs x → EndsChunks n (then_chunks [] cs) x
 cut_ends n bytes cs x h = ends n cs x h.ends
   where
     ends : (n : ℕ) (cs : List Chunk) (x : List ℕ) → ((length (meaning cs) < n) × IsPartOfChunk x) ⊎ ((n ≤ length (meaning cs)) × (length x < 8))
@@ -59,7 +59,7 @@ cut_ends n bytes cs x h = ends n cs x h.ends
     ends n cs x (inr (enough, part)) = enough_ends n cs x enough
 
 -- cut bytes whose chunks reach n pixels have fewer than eight bytes after them
-pub cut_is_short : (n : ℕ) (bytes : List ℕ) (cs : List Chunk) (x : List ℕ) → IsCut n bytes cs x → n ≤ length (meaning cs) → length x < 8
+cut_is_short : (n : ℕ) (bytes : List ℕ) (cs : List Chunk) (x : List ℕ) → IsCut n bytes cs x → n ≤ length (meaning cs) → length x < 8
 cut_is_short n bytes cs x h enough = short h.ends
   where
     short : ((length (meaning cs) < n) × IsPartOfChunk x) ⊎ ((n ≤ length (meaning cs)) × (length x < 8)) → length x < 8
@@ -67,7 +67,7 @@ cut_is_short n bytes cs x h enough = short h.ends
     short (inr (above, part)) = part
 
 -- lists of one length that begin the same bytes are one, and so is what follows
-pub same_front : (a b x y : List ℕ) → length a ≡ length b → a ++ x ≡ b ++ y → (a ≡ b) × (x ≡ y)
+same_front : (a b x y : List ℕ) → length a ≡ length b → a ++ x ≡ b ++ y → (a ≡ b) × (x ≡ y)
 same_front [] [] x y h e = (refl, e)
 same_front [] (b ∷ bs) x y h e = absurd (omega arith)
 same_front (a ∷ «as») [] x y h e = absurd (omega arith)

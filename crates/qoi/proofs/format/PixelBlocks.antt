@@ -6,7 +6,7 @@ use Rattle.qoi.specs.Raw.{output}
 use Rattle.qoi.specs.inner.Packed.{word}
 
 -- the digits of bytes' number are the bytes
-pub digits_of : (bytes : List ℕ) → Each1 (λ x. x < 256) bytes → digits_l 256 (length bytes) (number_l 256 bytes) ≡ bytes
+digits_of : (bytes : List ℕ) → Each1 (λ x. x < 256) bytes → digits_l 256 (length bytes) (number_l 256 bytes) ≡ bytes
 digits_of [] fit = refl
 digits_of (x ∷ bytes) fit =
     let low : (x + 256 * number_l 256 bytes) % 256 ≡ x = omega (arith, fit.0) in

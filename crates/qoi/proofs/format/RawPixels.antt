@@ -27,7 +27,7 @@ pixels_of_are channels bytes (inl e) h = rw e (pixels_3 bytes h)
 pixels_of_are channels bytes (inr e) h = rw e (pixels_4 bytes h)
 
 -- three bytes each: they are opaque
-pub opaque_3 : (bytes : List ℕ) → AreOpaque (pixels_of_3 bytes)
+opaque_3 : (bytes : List ℕ) → AreOpaque (pixels_of_3 bytes)
 opaque_3 [] = tt
 opaque_3 (r ∷ []) = tt
 opaque_3 (r ∷ g ∷ []) = tt
@@ -108,7 +108,7 @@ one_4 bytes e =
     rw is refl
 
 -- the pixel of as many bytes as there are channels
-pub pixels_of-one : (channels : ℕ) (bytes : List ℕ) → IsChannels channels → length bytes ≡ channels → pixels_of channels bytes ≡ rgba bytes ∷ []
+pixels_of-one : (channels : ℕ) (bytes : List ℕ) → IsChannels channels → length bytes ≡ channels → pixels_of channels bytes ≡ rgba bytes ∷ []
 pixels_of-one channels bytes (inl e) h = rw e (one_3 bytes (h ∙ e))
 pixels_of-one channels bytes (inr e) h = rw e (one_4 bytes (h ∙ e))
 

@@ -52,7 +52,7 @@ run_front b bytes low high =
     inl (Run (b - 191), bytes, (omega arith, omega arith), ap (λ x. x ∷ bytes) n)
 
 -- bytes whose first byte is neither that of an index position nor that of a difference
-pub high_front : (b : ℕ) (bytes : List ℕ) → AreBytes (b ∷ bytes) → 128 ≤ b → BeginsWithChunk (b ∷ bytes) ⊎ IsPartOfChunk (b ∷ bytes)
+high_front : (b : ℕ) (bytes : List ℕ) → AreBytes (b ∷ bytes) → 128 ≤ b → BeginsWithChunk (b ∷ bytes) ⊎ IsPartOfChunk (b ∷ bytes)
 high_front b bytes fits low =
     elim (cases_lt b 192) [
       | inl h ↦ luma_front b bytes fits low h

@@ -178,7 +178,7 @@ unfolding cost
 cost_repeat shortest past p e = cond-true (pixel_eq p (previous past)) _ _ (pixel_eq-from p (previous past) e)
 
 -- a repeat is one more
-pub repeats_more : (past : Past) (p : RgbaPixel) → p ≡ previous past → trailing_repeats (p ∷ past) ≡ suc (trailing_repeats past)
+repeats_more : (past : Past) (p : RgbaPixel) → p ≡ previous past → trailing_repeats (p ∷ past) ≡ suc (trailing_repeats past)
 repeats_more past p e = cond-true (pixel_eq p (previous past)) _ _ (pixel_eq-from p (previous past) e)
 
 -- after a fresh pixel there are none

@@ -22,7 +22,7 @@ least_bounds past (Rgb x y z) k r o = least_rgb past _ (some_rgb-from (previous 
 least_bounds past (Rgba x y z w) k r o = least_high past (pixel_after past (Rgba x y z w))
 
 -- a chunk has some bytes
-pub bytes_some : (c : Chunk) → 0 < length (bytes_of c)
+bytes_some : (c : Chunk) → 0 < length (bytes_of c)
 bytes_some (Place i) = omega arith
 bytes_some (Diff d) = omega arith
 bytes_some (Luma d e) = omega arith
@@ -31,7 +31,7 @@ bytes_some (Rgb x y z) = omega arith
 bytes_some (Rgba x y z w) = omega arith
 
 -- the pixels of a beginning cost no more
-pub cost_front : (shortest : Past → RgbaPixel → ℕ) (more past : Past) → total_cost shortest past ≤ total_cost shortest (more ++ past)
+cost_front : (shortest : Past → RgbaPixel → ℕ) (more past : Past) → total_cost shortest past ≤ total_cost shortest (more ++ past)
 cost_front shortest [] past = omega arith
 cost_front shortest (p ∷ more) past = let h = cost_front shortest more past in omega arith
 

@@ -19,7 +19,7 @@ pub red_differs : (p q : RgbaPixel) → p.r ≢ q.r → p ≢ q
 red_differs p q n e = n (ap (λ x. x.r) e)
 
 -- different alphas do
-pub alpha_differs : (p q : RgbaPixel) → p.a ≢ q.a → p ≢ q
+alpha_differs : (p q : RgbaPixel) → p.a ≢ q.a → p ≢ q
 alpha_differs p q n e = n (ap (λ x. x.a) e)
 
 -- the list that is written for black, a color, and black, in three channels

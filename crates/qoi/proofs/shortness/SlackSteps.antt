@@ -73,7 +73,7 @@ slack_more n past p = elim (cases_Bool (opens past && is_start (first_at past)))
     ]
 
 -- the slack only grows in a run
-pub slack_run : (n : ℕ) (past : Past) (p : RgbaPixel) (k : ℕ) → slack_at n past ≤ slack_at n (replicate k p ++ past)
+slack_run : (n : ℕ) (past : Past) (p : RgbaPixel) (k : ℕ) → slack_at n past ≤ slack_at n (replicate k p ++ past)
 slack_run n past p zero = omega arith
 slack_run n past p (suc k) =
     let h = slack_run n past p k in
@@ -101,7 +101,7 @@ first_at-other past p n other h =
     ∙ cond-false (eqb (hash p) (hash start)) (Some p) None (ne_eqb _ _ other)
 
 -- the seen pixel is the noted one, or they differ
-pub noted_or_differs : (past : Past) (i : ℕ) → (seen past i ≡ noted past i) ⊎ Differs past i
+noted_or_differs : (past : Past) (i : ℕ) → (seen past i ≡ noted past i) ⊎ Differs past i
 noted_or_differs [] i = inl refl
 noted_or_differs (q ∷ past) i = go past (cases_pixel q (previous past)) (cases_eq (hash q) i) (noted_or_differs past i)
   where

@@ -46,17 +46,17 @@ pub record HasSeen (s : Filling) (past : Past) : Type 0 where
   pub last_is : pixel_of_lanes s.last ≡ previous past
 
 -- the pixels of a chunk were seen, and written after the others
-pub record Gives (file_channels channels : ℕ) (chunk : Chunk) (old new : Filling) : Type 0 where
+pub record Decodes (file_channels channels : ℕ) (chunk : Chunk) (old new : Filling) : Type 0 where
   pub has_seen : (past : Past) → HasSeen old past → HasSeen new (then_chunk past chunk)
   pub filled : (n : ℕ) (past : Past) → HasFilled file_channels channels n old.buffer past
       → HasFilled file_channels channels n new.buffer (replicate (times chunk) (pixel_of_lanes new.last) ++ past)
 
 -- the bytes are those of a chunk, and its pixels were seen and written
-pub record GivesChunk (file_channels channels : ℕ) (bytes : List ℕ) (old new : Filling) : Type 0 where
+pub record DecodesChunk (file_channels channels : ℕ) (bytes : List ℕ) (old new : Filling) : Type 0 where
   pub chunk : Chunk
   pub is_chunk : IsChunk chunk
   pub bytes_are : bytes ≡ bytes_of chunk
-  pub gives : Gives file_channels channels chunk old new
+  pub decodes : Decodes file_channels channels chunk old new
 
 -- Chunks were taken, their pixels were seen and written. `Taken` says which bytes were taken.
 pub record DecoderBetween (file_channels channels n : ℕ) (Taken : List ℕ → Type 0) (now : Filling) : Type 0 where

@@ -3,7 +3,7 @@ ghost use Rattle.std.specs.Prelude.{◌≡◌, ℕ, ◌+◌, ◌*◌, ◌/◌, �
 ghost use Rattle.qoi.specs.Qoi.{Past, run_max, luma_tag, run_tag, rgb_tag};
 ghost use Rattle.qoi.specs.declared.decode.pixels.TheConstants.{RUN_ROOM};
 ghost use Rattle.qoi.specs.Raw.{IsChannels};
-ghost use Rattle.qoi.specs.inner.Filling.{upto, HasWritten, HasFilled, IsWholePixels, GivesChunk, filling};
+ghost use Rattle.qoi.specs.inner.Filling.{upto, HasWritten, HasFilled, IsWholePixels, DecodesChunk, filling};
 ghost use Rattle.qoi.specs.inner.Hashed.{pixel_of_lanes};
 
 use crate::chunk::QOI_OP_RUN_END;
@@ -145,28 +145,28 @@ fn pixel_count(b1: u8) -> usize
 /// What a chunk leaves: how many bytes it has, the pixel that is the last one then, and where the output
 /// stopped.
 #[derive(Clone, Copy)]
-pub(super) struct Given {
+pub(super) struct Decoded {
     pub(super) taken: usize,
     pub(super) last: Hashed,
     pub(super) at: usize,
 }
 
-/// Gives the pixels of the first chunk of the bytes, with every test. Any chunk is whole in eight bytes,
+/// Decodes the first chunk of the bytes, with every test. Any chunk is whole in eight bytes,
 /// and after a short one there is a byte more, which is read with it.
 #[inline(always)]
-pub(super) fn give_first<const N: usize, const F: usize>(
+pub(super) fn decode_chunk<const N: usize, const F: usize>(
     table: &mut HashedTable,
     last: Hashed,
     bytes: &[u8],
     out: &mut [u8],
     at: usize,
-) -> Given
+) -> Decoded
     requires channels { IsChannels N }
     requires long { 8 ≤ length bytes.now }
     requires whole { IsWholePixels N (length out.old) at }
     requires inside { at < length out.old }
     ensures taken { result.taken ≤ length bytes.now }
-    ensures gives { GivesChunk F N (take result.taken bytes.now)
+    ensures decodes { DecodesChunk F N (take result.taken bytes.now)
         (filling table.old last out.old at)
         (filling table.new result.last out.new result.at) }
     ensures whole { result.at % N ≡ 0 }
@@ -183,7 +183,7 @@ pub(super) fn give_first<const N: usize, const F: usize>(
         }
     };
     table.put(last);
-    Given {
+    Decoded {
         taken,
         last,
         at: fill::<N, F>(out, at, last, pixel_count(b1)),

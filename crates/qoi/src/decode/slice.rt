@@ -8,7 +8,7 @@ ghost use Rattle.qoi.specs.inner.Filling.{IsFront, filling, DecoderBetween};
 
 use crate::consts::{QOI_PADDING, QOI_PADDING_SIZE, QOI_RUN_MAX};
 use crate::decode::fast::Progress;
-use crate::decode::pixels::give_first;
+use crate::decode::pixels::decode_chunk;
 use crate::error::{Error, Result};
 use crate::table::HashedTable;
 
@@ -46,11 +46,11 @@ fn last_chunks<'a, const N: usize, const F: usize>(
         if rest.len() < QOI_PADDING_SIZE {
             return None;
         }
-        let given = give_first::<N, F>(table, last, rest, out, at);
-        let (_, after) = rest.split_at(given.taken);
+        let decoded = decode_chunk::<N, F>(table, last, rest, out, at);
+        let (_, after) = rest.split_at(decoded.taken);
         rest = after;
-        last = given.last;
-        at = given.at;
+        last = decoded.last;
+        at = decoded.at;
     }
     Some(rest)
 }
@@ -85,7 +85,7 @@ fn slice_marker(data: &[u8]) -> Result<&[u8]>
     Ok(rest)
 }
 
-// Decodes chunks and the end marker, and gives the bytes after them.
+// Decodes chunks and the end marker, and returns the bytes after them.
 pub(super) fn slice_image<'a, const N: usize, const F: usize>(
     data: &'a [u8],
     out: &mut [u8],

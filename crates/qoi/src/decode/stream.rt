@@ -5,12 +5,12 @@ ghost use Rattle.qoi.specs.Qoi.{AreBytes, end_marker};
 ghost use Rattle.qoi.specs.Raw.{IsChannels};
 ghost use Rattle.qoi.specs.Verdicts.{IsPartOfChunk, EndsBefore};
 ghost use Rattle.qoi.specs.Decoding.{StreamsPixels, ReadsImage, RefusesTaken, RefusesTakenMarker};
-ghost use Rattle.qoi.specs.inner.Filling.{IsWholePixels, GivesChunk, filling};
+ghost use Rattle.qoi.specs.inner.Filling.{IsWholePixels, DecodesChunk, filling};
 ghost use Rattle.qoi.specs.inner.Taken.{HasTaken};
 
 use crate::chunk::QOI_OP_LUMA_END;
 use crate::consts::{QOI_OP_LUMA, QOI_OP_RGB, QOI_OP_RGBA, QOI_PADDING, QOI_PADDING_SIZE};
-use crate::decode::pixels::{Given, give_first};
+use crate::decode::pixels::{Decoded, decode_chunk};
 use crate::error::{Error, Result};
 use crate::hashed::Hashed;
 use crate::table::HashedTable;
@@ -59,7 +59,7 @@ fn read_one<R: Read>(reader: &mut R) -> io::Result<u8>
     Ok(one[0])
 }
 
-// Reads one chunk from a stream, and no byte past it, and gives its pixels.
+// Reads one chunk from a stream, and no byte past it, and decodes it.
 #[inline(always)]
 fn next_chunk<R: Read, const N: usize, const F: usize>(
     reader: &mut R,
@@ -67,16 +67,16 @@ fn next_chunk<R: Read, const N: usize, const F: usize>(
     last: Hashed,
     out: &mut [u8],
     at: usize,
-) -> io::Result<Given>
+) -> io::Result<Decoded>
     requires channels { IsChannels N }
     requires whole { IsWholePixels N (length out.old) at }
     requires inside { at < length out.old }
-    ensures read { IfOk result (λ given.
+    ensures read { IfOk result (λ decoded.
         HasTaken (R.remaining reader.old) (R.remaining reader.new)
-        (λ taken. GivesChunk F N taken (filling table.old last out.old at)
-        (filling table.new given.last out.new given.at))) }
-    ensures whole { IfOk result (λ given. given.at % N ≡ 0) }
-    ensures within { IfOk result (λ given. (at < given.at) × (given.at ≤ length out.new)) }
+        (λ taken. DecodesChunk F N taken (filling table.old last out.old at)
+        (filling table.new decoded.last out.new decoded.at))) }
+    ensures whole { IfOk result (λ decoded. decoded.at % N ≡ 0) }
+    ensures within { IfOk result (λ decoded. (at < decoded.at) × (decoded.at ≤ length out.new)) }
     ensures failed { OnErr result (HasTaken (R.remaining reader.old) (R.remaining reader.new)
         IsPartOfChunk) }
 {
@@ -84,21 +84,21 @@ fn next_chunk<R: Read, const N: usize, const F: usize>(
     match b1 {
         QOI_OP_LUMA..=QOI_OP_LUMA_END => {
             let b2 = read_one(reader)?;
-            Ok(give_first::<N, F>(table, last, &[b1, b2, 0, 0, 0, 0, 0, 0], out, at))
+            Ok(decode_chunk::<N, F>(table, last, &[b1, b2, 0, 0, 0, 0, 0, 0], out, at))
         }
         QOI_OP_RGB => {
             let mut more = [0, 0, 0];
             read_exact(reader, &mut more)?;
             let bytes = [b1, more[0], more[1], more[2], 0, 0, 0, 0];
-            Ok(give_first::<N, F>(table, last, &bytes, out, at))
+            Ok(decode_chunk::<N, F>(table, last, &bytes, out, at))
         }
         QOI_OP_RGBA => {
             let mut more = [0, 0, 0, 0];
             read_exact(reader, &mut more)?;
             let bytes = [b1, more[0], more[1], more[2], more[3], 0, 0, 0];
-            Ok(give_first::<N, F>(table, last, &bytes, out, at))
+            Ok(decode_chunk::<N, F>(table, last, &bytes, out, at))
         }
-        _ => Ok(give_first::<N, F>(table, last, &[b1, 0, 0, 0, 0, 0, 0, 0], out, at)),
+        _ => Ok(decode_chunk::<N, F>(table, last, &[b1, 0, 0, 0, 0, 0, 0, 0], out, at)),
     }
 }
 
@@ -118,9 +118,9 @@ fn stream_chunks<R: Read, const N: usize, const F: usize>(
     let mut last = Hashed::start();
     let mut at = 0;
     while at < out.len() {
-        let given = next_chunk::<R, N, F>(reader, &mut table, last, out, at)?;
-        last = given.last;
-        at = given.at;
+        let decoded = next_chunk::<R, N, F>(reader, &mut table, last, out, at)?;
+        last = decoded.last;
+        at = decoded.at;
     }
     Ok(())
 }

@@ -12,13 +12,13 @@ loop-at-init g c = split_front c.args.start.taken c.split_at.ensures.back c.requ
 pub loop-at-preserved : goal.loop-at-preserved
 loop-at-preserved g c =
     let rest = c.loop-at.rest.now in
-    let taken = c.give_first-given.result.taken in
-    let given = c.give_first-given.result in
+    let taken = c.decode_chunk-decoded.result.taken in
+    let decoded = c.decode_chunk-decoded.result in
     goes_on {old = filling c.loop-at.table c.loop-at.last c.loop-at.out c.loop-at.at} {new =
-    filling c.give_first-given.new.table given.last c.give_first-given.new.out given.at}
-    c.requires.channels c.loop-at.invariant c.loop-at-test.true c.give_first-given.ensures.gives
+    filling c.decode_chunk-decoded.new.table decoded.last c.decode_chunk-decoded.new.out decoded.at}
+    c.requires.channels c.loop-at.invariant c.loop-at-test.true c.decode_chunk-decoded.ensures.decodes
     (split_more c.args.data.now rest _ (take taken rest) (sym (take-append-drop taken rest) ∙ ap (λ z. take taken rest ++ z) (sym c.split_at-in-loop-at.ensures.back)))
-    c.give_first-given.ensures.within.1 c.give_first-given.ensures.whole
+    c.decode_chunk-decoded.ensures.within.1 c.decode_chunk-decoded.ensures.whole
 
 pub returns : goal.returns
 returns g c =

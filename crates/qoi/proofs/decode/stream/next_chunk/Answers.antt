@@ -7,7 +7,7 @@ use Rattle.qoi.specs.inner.Filling.{filling}
 use Rattle.std.proofs.KnownBytes.{Consumes-trans}
 use Rattle.qoi.proofs.format.PartOfChunk.{part_empty}
 use Rattle.qoi.proofs.Results.{on_err}
-use Rattle.qoi.proofs.decoding.StreamReads.{part_read_luma, part_read_rgb, part_read_rgba, gives_taken, alone_ahead, rgb_ahead, rgba_ahead}
+use Rattle.qoi.proofs.decoding.StreamReads.{part_read_luma, part_read_rgb, part_read_rgba, decodes_taken, alone_ahead, rgb_ahead, rgba_ahead}
 use Rattle.qoi.proofs.decode.stream.next_chunk.Goals.{in_default-via-then-b1-lt128, in_default-via-else-b1-lt128+else-b1-lt192}
 use Rattle.qoi.proofs.decode.stream.next_chunk.Goals as goal
 
@@ -50,9 +50,9 @@ returns-in_ok-read_exact-in-254-clause-read g c =
     let more = c.read_exact.new.buf in (
       c.in_ok-b1.b1 ∷ more,
       Consumes-trans _ _ _ (c.in_ok-b1.b1 ∷ []) more c.in_ok-b1.ensures.read c.in_ok-read_exact-in-254.ensures.read,
-      gives_taken {old = filling c.args.table.now c.args.last c.args.out.now c.args.at} {new =
-          filling c.give_first.new.table c.give_first.result.last c.give_first.new.out c.give_first.result.at} _ _ _
-          (rgb_ahead c.in_ok-b1.b1 more (0 ∷ 0 ∷ 0 ∷ 0 ∷ []) c.in-254.is c.read_exact.auto.buf c.read_exact.ensures.bytes) c.give_first.ensures.gives,
+      decodes_taken {old = filling c.args.table.now c.args.last c.args.out.now c.args.at} {new =
+          filling c.decode_chunk.new.table c.decode_chunk.result.last c.decode_chunk.new.out c.decode_chunk.result.at} _ _ _
+          (rgb_ahead c.in_ok-b1.b1 more (0 ∷ 0 ∷ 0 ∷ 0 ∷ []) c.in-254.is c.read_exact.auto.buf c.read_exact.ensures.bytes) c.decode_chunk.ensures.decodes,
     )
 
 pub returns-in_ok-read_exact-in-255-clause-read : goal.returns-in_ok-read_exact-in-255-clause-read
@@ -60,10 +60,10 @@ returns-in_ok-read_exact-in-255-clause-read g c =
     let more = c.read_exact-in-255.new.buf in (
       c.in_ok-b1.b1 ∷ more,
       Consumes-trans _ _ _ (c.in_ok-b1.b1 ∷ []) more c.in_ok-b1.ensures.read c.in_ok-read_exact-in-255.ensures.read,
-      gives_taken {old = filling c.args.table.now c.args.last c.args.out.now c.args.at} {new =
-          filling c.give_first-in-255.new.table c.give_first-in-255.result.last c.give_first-in-255.new.out c.give_first-in-255.result.at} _ _ _
+      decodes_taken {old = filling c.args.table.now c.args.last c.args.out.now c.args.at} {new =
+          filling c.decode_chunk-in-255.new.table c.decode_chunk-in-255.result.last c.decode_chunk-in-255.new.out c.decode_chunk-in-255.result.at} _ _ _
           (rgba_ahead c.in_ok-b1.b1 more
-          (0 ∷ 0 ∷ 0 ∷ []) c.in-255.is c.read_exact-in-255.auto.buf c.read_exact-in-255.ensures.bytes) c.give_first-in-255.ensures.gives,
+          (0 ∷ 0 ∷ 0 ∷ []) c.in-255.is c.read_exact-in-255.auto.buf c.read_exact-in-255.ensures.bytes) c.decode_chunk-in-255.ensures.decodes,
     )
 
 pub returns-in_ok-b2-in-128-to-191-clause-read : goal.returns-in_ok-b2-in-128-to-191-clause-read
@@ -72,10 +72,10 @@ returns-in_ok-b2-in-128-to-191-clause-read g c =
     let b2 = c.in_ok-b2-in-128-to-191.b2 in (
       b1 ∷ b2 ∷ [],
       Consumes-trans _ _ _ (b1 ∷ []) (b2 ∷ []) c.in_ok-b1.ensures.read c.in_ok-b2-in-128-to-191.ensures.read,
-      gives_taken {old = filling c.args.table.now c.args.last c.args.out.now c.args.at} {new =
-          filling c.give_first-in-128-to-191.new.table c.give_first-in-128-to-191.result.last
-          c.give_first-in-128-to-191.new.out c.give_first-in-128-to-191.result.at} _ _ _
-          (Luma b1 b2, 0 ∷ 0 ∷ 0 ∷ 0 ∷ 0 ∷ 0 ∷ [], (omega arith, omega arith, omega arith), refl, refl) c.give_first-in-128-to-191.ensures.gives,
+      decodes_taken {old = filling c.args.table.now c.args.last c.args.out.now c.args.at} {new =
+          filling c.decode_chunk-in-128-to-191.new.table c.decode_chunk-in-128-to-191.result.last
+          c.decode_chunk-in-128-to-191.new.out c.decode_chunk-in-128-to-191.result.at} _ _ _
+          (Luma b1 b2, 0 ∷ 0 ∷ 0 ∷ 0 ∷ 0 ∷ 0 ∷ [], (omega arith, omega arith, omega arith), refl, refl) c.decode_chunk-in-128-to-191.ensures.decodes,
     )
 
 pub returns-in_default-clause-read : goal.returns-in_default-clause-read
@@ -86,7 +86,7 @@ returns-in_default-clause-read g c =
     ] in (
       c.in_ok-b1.b1 ∷ [],
       c.in_ok-b1.ensures.read,
-      gives_taken {old = filling c.args.table.now c.args.last c.args.out.now c.args.at} {new =
-          filling c.give_first-in_default.new.table c.give_first-in_default.result.last c.give_first-in_default.new.out c.give_first-in_default.result.at} _ _ _
-          (alone_ahead c.in_ok-b1.b1 (0 ∷ 0 ∷ 0 ∷ 0 ∷ 0 ∷ 0 ∷ 0 ∷ []) alone) c.give_first-in_default.ensures.gives,
+      decodes_taken {old = filling c.args.table.now c.args.last c.args.out.now c.args.at} {new =
+          filling c.decode_chunk-in_default.new.table c.decode_chunk-in_default.result.last c.decode_chunk-in_default.new.out c.decode_chunk-in_default.result.at} _ _ _
+          (alone_ahead c.in_ok-b1.b1 (0 ∷ 0 ∷ 0 ∷ 0 ∷ 0 ∷ 0 ∷ 0 ∷ []) alone) c.decode_chunk-in_default.ensures.decodes,
     )

@@ -5,9 +5,9 @@ use Rattle.qoi.specs.inner.Filling.{filling}
 use Rattle.qoi.proofs.decoding.Progress.{start_between, goes_on, streams_pixels, stream_ends}
 use Rattle.qoi.proofs.decode.stream.stream_chunks.Goals as goal
 
-pub returns-in_err-given-clause-failed : goal.returns-in_err-given-clause-failed
-returns-in_err-given-clause-failed g c =
-    let f = c.in_err-given.ensures.failed in
+pub returns-in_err-decoded-clause-failed : goal.returns-in_err-decoded-clause-failed
+returns-in_err-decoded-clause-failed g c =
+    let f = c.in_err-decoded.ensures.failed in
     on_err _ (stream_ends _ _ _ f.0 c.requires.channels c.loop-at.invariant c.loop-at-test.true f.1 f.2)
 
 pub loop-at-init : goal.loop-at-init
@@ -16,11 +16,11 @@ loop-at-init g c = start_between g.row.F g.row.N _ _ _ c.args.out.now c.requires
 
 pub loop-at-preserved : goal.loop-at-preserved
 loop-at-preserved g c =
-    let (taken, took, given) = c.in_ok-given.ensures.read in
-    let to = c.in_ok-given.given in
+    let (taken, took, decoded) = c.in_ok-decoded.ensures.read in
+    let to = c.in_ok-decoded.decoded in
     goes_on {old = filling c.loop-at.table c.loop-at.last c.loop-at.out c.loop-at.at} {new = filling c.next_chunk.new.table to.last c.next_chunk.new.out to.at}
-    c.requires.channels c.loop-at.invariant c.loop-at-test.true given (λ before so_far. Consumes-trans _ _ _ before _ so_far took)
-    c.in_ok-given.ensures.within.1 c.in_ok-given.ensures.whole
+    c.requires.channels c.loop-at.invariant c.loop-at-test.true decoded (λ before so_far. Consumes-trans _ _ _ before _ so_far took)
+    c.in_ok-decoded.ensures.within.1 c.in_ok-decoded.ensures.whole
 
 pub returns-clause-read : goal.returns-clause-read
 returns-clause-read g c =

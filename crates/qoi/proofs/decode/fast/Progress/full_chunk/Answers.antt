@@ -7,8 +7,8 @@ use Rattle.qoi.specs.declared.decode.fast.Progress.{Progress}
 use Rattle.qoi.specs.Qoi.{AreBytes}
 use Rattle.qoi.specs.inner.Filling.{FastBetween}
 use Rattle.qoi.proofs.decoding.FilledBuffer.{take_whole}
-use Rattle.qoi.proofs.decoding.FirstChunk.{gives_rgb, gives_rgba}
-use Rattle.qoi.proofs.decoding.FastSteps.{one_in_block, after_block, copies_given, fast_step}
+use Rattle.qoi.proofs.decoding.FirstChunk.{decodes_rgb, decodes_rgba}
+use Rattle.qoi.proofs.decoding.FastSteps.{one_in_block, after_block, copies_put, fast_step}
 use Rattle.qoi.proofs.decode.fast.Progress.full_chunk.Goals as goal
 
 pub returns-clause-between : goal.returns-clause-between
@@ -35,13 +35,13 @@ returns-clause-between g c n h =
       | inl rgb ↦
           let is_rgb : get_or rest 0 0 ≡ 254 = omega (arith, first, rgb, c.requires.full) in
           let four : new.taken ≡ now.taken + 4 = grind (arith, nat_tests) in
-          let gives = gives_rgb rest (omega (arith, long)) fits is_rgb (pixel.rgb is_rgb)
-          (copies_given now.last last now.written 1 is inside after.fits c.write_block.auto.out c.put.ensures (c.write_block.ensures 1 one.1)) in
-          fast_step now new 4 is h inside four gives (rw c.write_block.auto.out after.fits) after.whole c.from-2.ensures
+          let decodes = decodes_rgb rest (omega (arith, long)) fits is_rgb (pixel.rgb is_rgb)
+          (copies_put now.last last now.written 1 is inside after.fits c.write_block.auto.out c.put.ensures (c.write_block.ensures 1 one.1)) in
+          fast_step now new 4 is h inside four decodes (rw c.write_block.auto.out after.fits) after.whole c.from-2.ensures
       | inr rgba ↦
           let is_rgba : get_or rest 0 0 ≡ 255 = omega (arith, first, rgba, c.requires.full) in
           let five : new.taken ≡ now.taken + 5 = grind (arith, nat_tests) in
-          let gives = gives_rgba rest long fits is_rgba (pixel.rgba is_rgba)
-          (copies_given now.last last now.written 1 is inside after.fits c.write_block.auto.out c.put.ensures (c.write_block.ensures 1 one.1)) in
-          fast_step now new 5 is h inside five gives (rw c.write_block.auto.out after.fits) after.whole c.from-2.ensures
+          let decodes = decodes_rgba rest long fits is_rgba (pixel.rgba is_rgba)
+          (copies_put now.last last now.written 1 is inside after.fits c.write_block.auto.out c.put.ensures (c.write_block.ensures 1 one.1)) in
+          fast_step now new 5 is h inside five decodes (rw c.write_block.auto.out after.fits) after.whole c.from-2.ensures
     ])

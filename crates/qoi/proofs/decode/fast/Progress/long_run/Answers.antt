@@ -2,8 +2,8 @@
 use Rattle.std.proofs.Common.{◌≡◌, ◌+◌, ◌-◌, ◌*◌, ◌<◌, ◌≤◌, drop, length, get_or, arith, refl, sym, ap, ◌∙◌}
 use Rattle.std.proofs.lemmas.List.{get_or-drop, length-drop}
 use Rattle.qoi.specs.declared.decode.fast.Progress.{Progress}
-use Rattle.qoi.proofs.decoding.FirstChunk.{gives_run}
-use Rattle.qoi.proofs.decoding.FastSteps.{after_run, copies_given, fast_step}
+use Rattle.qoi.proofs.decoding.FirstChunk.{decodes_run}
+use Rattle.qoi.proofs.decoding.FastSteps.{after_run, copies_put, fast_step}
 use Rattle.qoi.proofs.decode.fast.Progress.long_run.Goals as goal
 
 pub returns-clause-between : goal.returns-clause-between
@@ -21,7 +21,7 @@ returns-clause-between g c n h =
     let long : 1 ≤ length rest = omega (arith, c.requires.input, length-drop now.taken bytes) in
     let some : 0 < count = omega (arith, c.requires.run) in
     let often : count + 191 ≡ now.next = omega (arith, c.requires.run) in
-    let copies = copies_given now.last now.last now.written count is inside after.fits c.write_run.auto.out c.put.ensures c.write_run.ensures in
-    let gives = gives_run rest count long (sym first ∙ sym often) some most copies in
+    let copies = copies_put now.last now.last now.written count is inside after.fits c.write_run.auto.out c.put.ensures c.write_run.ensures in
+    let decodes = decodes_run rest count long (sym first ∙ sym often) some most copies in
     let new : Progress = record { last = now.last; taken = now.taken + 1; written = now.written + g.row.N * count; next = _ } in
-    fast_step now new 1 is h inside refl gives (rw c.write_run.auto.out after.fits) after.whole c.from.ensures
+    fast_step now new 1 is h inside refl decodes (rw c.write_run.auto.out after.fits) after.whole c.from.ensures

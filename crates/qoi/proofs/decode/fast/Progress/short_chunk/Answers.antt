@@ -5,8 +5,8 @@ use Rattle.std.proofs.lemmas.Bool.Decides.{nat_tests}
 use Rattle.qoi.specs.declared.decode.fast.Progress.{Progress}
 use Rattle.qoi.specs.inner.Filling.{FastBetween}
 use Rattle.qoi.specs.inner.Hashed.{pixel_of_lanes}
-use Rattle.qoi.proofs.decoding.FirstChunk.{HasSize, gives_short}
-use Rattle.qoi.proofs.decoding.FastSteps.{short_count, after_block, next_byte, copies_given, fast_step}
+use Rattle.qoi.proofs.decoding.FirstChunk.{HasSize, decodes_short}
+use Rattle.qoi.proofs.decoding.FastSteps.{short_count, after_block, next_byte, copies_put, fast_step}
 use Rattle.qoi.proofs.decode.fast.Progress.short_chunk.Goals as goal
 
 pub returns-clause-between : goal.returns-clause-between
@@ -33,8 +33,8 @@ returns-clause-between g c n h =
     } in
     let byte : get_or bytes (now.taken + 1) 0 < 256 = omega (arith, c.type_inv.bytes (now.taken + 1)) in
     let on : now.taken + 1 + c.from.result ≡ now.taken + (1 + c.from.result) = omega arith in
-    let copies = copies_given now.last last now.written s.count is inside after.fits c.write_block.auto.out c.put.ensures (c.write_block.ensures s.count s.fits) in
-    let gives = gives_short rest now.next (get_or bytes (now.taken + 1) 0) (1 + c.from.result) s.count long first (sym (get_or-drop now.taken bytes 1 0)) s.low byte size
+    let copies = copies_put now.last last now.written s.count is inside after.fits c.write_block.auto.out c.put.ensures (c.write_block.ensures s.count s.fits) in
+    let decodes = decodes_short rest now.next (get_or bytes (now.taken + 1) 0) (1 + c.from.result) s.count long first (sym (get_or-drop now.taken bytes 1 0)) s.low byte size
     (record {
       place = λ l past h. ap pixel_of_lanes (c.after_short-last.ensures.place l) ∙ c.at.ensures.place l past h;
       diff = c.after_short-last.ensures.diff;
@@ -44,4 +44,4 @@ returns-clause-between g c n h =
     let next = next_byte c.is_luma-luma.result bytes now.taken c.from.result c.from-2.result from (c.from-2.ensures ∙ c.pick.ensures) in
     let new : ℕ → Progress = λ size. record { last = last; taken = now.taken + 1 + c.from.result; written = now.written + size; next = c.from-2.result } in
     subst (λ size. FastBetween g.row.F g.row.N n bytes (new size) c.put.new.self c.write_block.new.out) (sym s.size_is)
-    (fast_step now (new (g.row.N * s.count)) (1 + c.from.result) is h inside on gives (rw c.write_block.auto.out after.fits) after.whole next)
+    (fast_step now (new (g.row.N * s.count)) (1 + c.from.result) is h inside on decodes (rw c.write_block.auto.out after.fits) after.whole next)

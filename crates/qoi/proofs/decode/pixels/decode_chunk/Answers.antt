@@ -4,31 +4,31 @@ use Rattle.qoi.specs.Qoi.{AreBytes}
 use Rattle.qoi.specs.inner.Hashed.{pixel_of_lanes}
 use Rattle.std.proofs.lemmas.Bool.Decides.{nat_tests}
 use Rattle.qoi.specs.inner.Filling.{filling}
-use Rattle.qoi.proofs.decoding.FirstChunk.{GivesCopies, gives_short, gives_rgb, gives_rgba}
-use Rattle.qoi.proofs.decode.pixels.give_first.Goals.{in-254, in-255, in_default}
-use Rattle.qoi.proofs.decode.pixels.give_first.Goals as goal
+use Rattle.qoi.proofs.decoding.FirstChunk.{PutsCopies, decodes_short, decodes_rgb, decodes_rgba}
+use Rattle.qoi.proofs.decode.pixels.decode_chunk.Goals.{in-254, in-255, in_default}
+use Rattle.qoi.proofs.decode.pixels.decode_chunk.Goals as goal
 
-pub returns-clause-gives : goal.returns-clause-gives
-returns-clause-gives g c =
+pub returns-clause-decodes : goal.returns-clause-decodes
+returns-clause-decodes g c =
     let bytes = c.args.bytes.now in
     let old = filling c.args.table.now c.args.last c.args.out.now c.args.at in
     let new = filling c.put.new.self c.match-b1.last.0 c.fill.new.out c.fill.result in
     let first = get_or bytes 0 0 in
     let fits : AreBytes bytes = λ i. omega (arith, c.type_inv.bytes i) in
-    let copies : GivesCopies g.row.F g.row.N _ c.pixel_count.result old new = record { last_is = refl; table = c.put.ensures; filled = c.fill.ensures.filled } in
+    let copies : PutsCopies g.row.F g.row.N _ c.pixel_count.result old new = record { last_is = refl; table = c.put.ensures; filled = c.fill.ensures.filled } in
     elim c.match-b1.branch [
       | in-254 w ↦
           let taken : c.match-b1.last.1 ≡ 4 = search rules in
           let px : c.match-b1.last.0 ≡ w.after_full.result = search rules in
           let once : c.pixel_count.result ≡ 1 = c.pixel_count.ensures.full (omega (arith, w.in-254.is)) in
-          rw taken (gives_rgb {old = old} {new = new} bytes (omega (arith, c.requires.long)) fits w.in-254.is (ap pixel_of_lanes px ∙ w.after_full.ensures.rgb w.in-254.is)
-          (subst (λ k. GivesCopies g.row.F g.row.N (pixel_of_lanes c.match-b1.last.0) k old new) once copies))
+          rw taken (decodes_rgb {old = old} {new = new} bytes (omega (arith, c.requires.long)) fits w.in-254.is (ap pixel_of_lanes px ∙ w.after_full.ensures.rgb w.in-254.is)
+          (subst (λ k. PutsCopies g.row.F g.row.N (pixel_of_lanes c.match-b1.last.0) k old new) once copies))
       | in-255 w ↦
           let taken : c.match-b1.last.1 ≡ 5 = search rules in
           let px : c.match-b1.last.0 ≡ w.after_full-in-255.result = search rules in
           let once : c.pixel_count.result ≡ 1 = c.pixel_count.ensures.full (omega (arith, w.in-255.is)) in
-          rw taken (gives_rgba {old = old} {new = new} bytes (omega (arith, c.requires.long)) fits w.in-255.is (ap pixel_of_lanes px ∙ w.after_full-in-255.ensures.rgba w.in-255.is)
-          (subst (λ k. GivesCopies g.row.F g.row.N (pixel_of_lanes c.match-b1.last.0) k old new) once copies))
+          rw taken (decodes_rgba {old = old} {new = new} bytes (omega (arith, c.requires.long)) fits w.in-255.is (ap pixel_of_lanes px ∙ w.after_full-in-255.ensures.rgba w.in-255.is)
+          (subst (λ k. PutsCopies g.row.F g.row.N (pixel_of_lanes c.match-b1.last.0) k old new) once copies))
       | in_default w ↦
           let taken : c.match-b1.last.1 ≡ w.from-size.result + 1 = search rules in
           let px : c.match-b1.last.0 ≡ w.after_short.result = search rules in
@@ -36,7 +36,7 @@ returns-clause-gives g c =
           let from = w.from.ensures in
           let size = w.from-size.ensures in
           let below : first < 254 = search rules in
-          gives_short {old = old} {new = new} bytes first (get_or bytes 1 0) c.match-b1.last.1 c.pixel_count.result (omega (arith, c.requires.long)) refl refl below (fits 1)
+          decodes_short {old = old} {new = new} bytes first (get_or bytes 1 0) c.match-b1.last.1 c.pixel_count.result (omega (arith, c.requires.long)) refl refl below (fits 1)
           (record {
             one = λ l. grind (arith, nat_tests);
             luma = λ l h. grind (arith, nat_tests);
