@@ -2,9 +2,8 @@
 pub mod CoderState
 pub mod CoderLoop
 pub mod Filling
+pub mod Lanes
 pub mod Packed
 pub mod Piece
-pub mod Quad
-pub mod Steps
 pub mod Table
 pub mod Taken

@@ -4,4 +4,4 @@ use Rattle.qoi.specs.declared.encode.piece.Piece.{Piece}
 
 -- the bytes that are kept
 abbrev pub kept_bytes : Piece → List ℕ
-kept_bytes s = take s.end s.bytes
+kept_bytes s = take s.end s.bytes.now

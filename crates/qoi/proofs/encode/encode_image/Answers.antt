@@ -40,7 +40,7 @@ finish-requires g c =
     let h = c.args.header.now in
     let w = c.in_ok-encode_chunks.ensures.written in
     let piece = c.keep-2.new.self in
-    let size = length-take-le piece.end piece.bytes (omega (arith, piece.within)) in
+    let size = length-take-le piece.end piece.bytes.now (omega (arith, piece.within, piece.room)) in
     let enough : 22 + length (chunk_bytes w.0) ≤ g.W.Writer.room c.args.buf.now =
     omega (arith, c.requires.room, max_is_exact h c.requires.valid, text_fits h c.args.data.now c.requires.valid c.requires.image c.args.style w.0 w.1) in
     omega (

@@ -1,14 +1,24 @@
--- Four pixels at a time, packed as single numbers.
-use Rattle.std.specs.Prelude.{◌≡◌, ◌≢◌, ◌≤◌, ℕ, ◌<◌, nat_eq, take, map, ◌++◌, if◌then◌else◌, slice_index, length, List, [], ◌∷◌, ◌+◌, ◌*◌, ◌/◌, ◌%◌, ◌^◌}
+-- Four packed pixels in the lanes of a vector: what the encoder computes of each, beside the pixel before it.
+use Rattle.std.specs.Prelude.{◌≡◌, ◌≢◌, ◌≤◌, ℕ, ◌<◌, nat_eq, take, map, ◌++◌, if◌then◌else◌, slice_index, length, List, [], ◌∷◌, ◌+◌, ◌-◌, ◌*◌, ◌/◌, ◌%◌, ◌^◌}
+use Rattle.std.specs.List.{AllByRecursion}
 use Rattle.std.specs.Int.Bits.{bit_and}
 use lib.Lanes.{digits_l}
 use Rattle.qoi.specs.declared.chunk.Chunk.{Chunk}
-use Rattle.std.specs.List.{AllByRecursion}
-use Rattle.qoi.specs.declared.encode.quad.Quad.{Quad}
-use Rattle.qoi.specs.Qoi.{RgbaPixel, Past, IsPixel, previous, hash, IsChunk, bytes_of}
+use Rattle.qoi.specs.Qoi.{RgbaPixel, Past, IsPixel, pixel, moved, previous, hash, IsChunk, bytes_of}
 use Rattle.qoi.specs.Written.{IsFirst}
 use Rattle.qoi.specs.inner.Packed.{word, pixel_of_word}
-use Rattle.qoi.specs.inner.Steps.{steps, diff_steps, luma_steps}
+
+-- what is added to q's channels for p's; it wraps at 256
+abbrev pub steps : RgbaPixel → RgbaPixel → RgbaPixel
+steps q p = pixel ((p.r + (256 - q.r)) % 256) ((p.g + (256 - q.g)) % 256) ((p.b + (256 - q.b)) % 256) ((p.a + (256 - q.a)) % 256)
+
+-- as a Diff has them
+abbrev pub diff_steps : RgbaPixel → RgbaPixel
+diff_steps s = moved s 2 2 2
+
+-- as a Luma has them
+abbrev pub luma_steps : RgbaPixel → RgbaPixel
+luma_steps s = pixel ((s.r + (264 - s.g)) % 256) ((s.g + 32) % 256) ((s.b + (264 - s.g)) % 256) s.a
 
 -- a function of each number and the one beside it
 abbrev pub stepped : (ℕ → ℕ → ℕ) → List ℕ → List ℕ → List ℕ
@@ -109,33 +119,18 @@ pub record IsRun (xs ys : List ℕ) (at n : ℕ) : Type 0 where
 abbrev pub AreOpaqueWords : List ℕ → Type 0
 AreOpaqueWords words = (k : ℕ) → k < 4 → slice_index words k / 2 ^ 24 ≡ 255
 
--- There are four, of three channels they are opaque, the chunks have at most a byte more than the pixels, and the index
--- positions are those of the pixels.
-pub record QuadFits (n : ℕ) (quad : Quad) : Type 0 where
-  pub four : length quad.pixels ≡ 4
-  pub four_before : length quad.before ≡ 4
-  pub opaque : n ≡ 3 → AreOpaqueWords quad.pixels
-  pub few : (k : ℕ) → k < 4 → slice_index quad.sizes k ≤ n + 1
-  pub places_are : quad.places ≡ map (λ w. hash (pixel_of_word w)) quad.pixels
+-- four numbers of 32 bits
+abbrev pub AreFour : List ℕ → Type 0
+AreFour words = (length words ≡ 4) × ((k : ℕ) → slice_index words k < 2 ^ 32)
 
--- the pixel of a lane differs from the one before it
-abbrev pub IsFreshLane : Quad → ℕ → Type 0
-IsFreshLane quad k = slice_index quad.pixels k ≢ slice_index quad.before k
+-- the index positions of packed pixels
+abbrev pub places_of : List ℕ → List ℕ
+places_of words = map (λ w. hash (pixel_of_word w)) words
 
--- the lanes are the first four of these pixels, and the ones before them, of which the last pixel is the first
+-- the lanes are the first four of these pixels, and the ones before them, of which `last` is the first
 pub record AreFourAfter (last : RgbaPixel) (pixels : List RgbaPixel) (cur prev : List ℕ) : Type 0 where
+  pub last_is : IsPixel last
   pub long : 4 ≤ length pixels
   pub are : AllByRecursion IsPixel pixels
   pub pixels_are : cur ≡ map word (take 4 pixels)
   pub before_are : prev ≡ word last ∷ take 3 cur
-
--- the four are the first of these pixels, after the last one
-pub record IsQuad (n : ℕ) (quad : Quad) (pixels : List RgbaPixel) : Type 0 where
-  pub long : 4 ≤ length pixels
-  pub are : AllByRecursion IsPixel pixels
-  pub pixels_are : quad.pixels ≡ map word (take 4 pixels)
-  pub last : ℕ
-  pub small : last < 2 ^ 32
-  pub before_are : quad.before ≡ last ∷ take 3 quad.pixels
-  pub spelled : (k : ℕ) → k < 4 → (c : Chunk)
-      × IsSpelled (slice_index quad.pixels k) (slice_index quad.before k) (slice_index quad.numbers k) (slice_index quad.sizes k) c

@@ -1,4 +1,4 @@
--- Kept bytes that a writer is given: a full piece, and then those behind it.
+-- Kept bytes that are sent to a writer: a full piece, and then those behind it.
 use Rattle.std.proofs.Common.{◌≡◌, ℕ, ◌+◌, ◌-◌, ◌≤◌, List, [], ◌++◌, length, take, drop, Result, Ok, Err, OnOk, IfErr, sym, ap, ◌∙◌, subst, append-nil, take-append-drop, arith}
 use Rattle.std.specs.List.{copy_within}
 use Rattle.std.proofs.lemmas.List.{drop-take, length-drop, take-append-le}
@@ -18,27 +18,27 @@ moved_front xs piece room end size full within =
     ∙ sym (drop-take piece (end - piece) xs) ∙ ap (λ n. drop piece (take n xs)) (omega arith)
 
 module _ {W : Type 0} (wrote : W → List ℕ → W → Type 0) (room : W → ℕ) (laws : WriterLaws wrote room) where
-  -- the kept bytes were given as far as a full piece
-  pub given_but : (a b next : W) (old new now : Piece) (piece : ℕ) → now ≡ new → next ≡ b
+  -- the kept bytes were sent as far as a full piece
+  pub sent_but : (a b next : W) (old new now : Piece) (piece : ℕ) → now ≡ new → next ≡ b
       → wrote a (take piece (kept_bytes old)) b → kept_bytes new ≡ drop piece (kept_bytes old) → WroteBut wrote a (kept_bytes old) (kept_bytes now) next
-  given_but a b next old new now piece is same went kept = record {
+  sent_but a b next old new now piece is same went kept = record {
     front = take piece (kept_bytes old);
     split = sym (take-append-drop piece (kept_bytes old)) ∙ ap (λ z. take piece (kept_bytes old) ++ z) (sym (ap kept_bytes is ∙ kept));
     went = subst (wrote a (take piece (kept_bytes old))) (sym same) went;
   }
 
-  -- none of them was given
+  -- none of them was sent
   pub none_but : (a next : W) (old now : Piece) → now ≡ old → next ≡ a → WroteBut wrote a (kept_bytes old) (kept_bytes now) next
   none_but a next old now is same =
       subst (λ s. WroteBut wrote a (kept_bytes old) (kept_bytes s) next) (sym is)
       (subst (λ w. WroteBut wrote a (kept_bytes old) (kept_bytes old) w) (sym same) (wrote_none wrote room laws a (kept_bytes old)))
 
-  -- then the rest was given
-  pub rest_given : {T E : Type 0} (r : Result T E) (a b next : W) (all rest : List ℕ) → WroteBut wrote a all rest b → OnOk r (wrote b rest next)
+  -- then the rest was sent
+  pub rest_sent : {T E : Type 0} (r : Result T E) (a b next : W) (all rest : List ℕ) → WroteBut wrote a all rest b → OnOk r (wrote b rest next)
       → OnOk r (wrote a all next)
-  rest_given (Ok x) a b next all rest w went =
+  rest_sent (Ok x) a b next all rest w went =
       wrote_all wrote room laws a next all (wrote_next wrote room laws a b next all rest rest [] w (sym (append-nil rest)) went)
-  rest_given (Err e) a b next all rest w went = tt
+  rest_sent (Err e) a b next all rest w went = tt
 
   -- or a beginning of it
   pub rest_refused : {T E : Type 0} (r : Result T E) (IsFault : E → Type 0) (a b next : W) (all rest : List ℕ) → WroteBut wrote a all rest b
