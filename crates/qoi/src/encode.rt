@@ -11,12 +11,13 @@ ghost use Rattle.qoi.specs.Encoded.{max_len, max_file_len, image_header, IsFileL
 ghost use Rattle.qoi.specs.Errors.{IsIoError};
 ghost use Rattle.qoi.specs.writers.Writes.{AppendsBeginning, WroteBeginning};
 
+mod chunks;
 mod coder;
 pub(crate) mod piece;
 pub(crate) mod quad;
 
 use crate::consts::QOI_PADDING;
-use crate::encode::coder::encode_chunks;
+use crate::encode::chunks::encode_chunks;
 use crate::encode::piece::{Piece, ROOM};
 use crate::error::{Error, Result};
 use crate::header::{Header, max_file_size};

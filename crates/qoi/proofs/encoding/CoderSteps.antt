@@ -11,13 +11,13 @@ use Rattle.qoi.specs.declared.types.Style.TheVariants.{Reference, Places, Tight}
 use Rattle.qoi.specs.Qoi.{AreBytes, RgbaPixel, IsPixel, Past, previous, hash, IsChunk, bytes_of, chunk_bytes}
 use Rattle.qoi.specs.Runs.{runs_by}
 use Rattle.qoi.specs.Written.{WrittenBy}
-use Rattle.qoi.specs.Styles.{some_fresh, names, choice_in, in_style}
+use Rattle.qoi.specs.Styles.{some_fresh, names, choice_in, styled, in_style}
 use Rattle.qoi.specs.inner.CoderState.{rest_of_one, last_chunk}
-use Rattle.qoi.specs.inner.CoderLoop.{StillToWrite, styled, Writing, CoderAfter, single, CoderBetween}
+use Rattle.qoi.specs.inner.CoderLoop.{StillToWrite, Writing, CoderAfter, single, CoderBetween}
 use Rattle.qoi.proofs.format.ChunkSteps.{previous_repeats}
 use Rattle.qoi.proofs.encoding.StillToWrite.{all_to_write, chunk_next, fresh_todo, none_todo, runs_next}
 use Rattle.qoi.proofs.encoding.StyleLists.{chooses_in}
-use Rattle.qoi.proofs.encoding.StyledGroup.{WritesOne, styled_whole, styled_runs, styled_chunk}
+use Rattle.qoi.proofs.encoding.StyledGroup.{WritesOne, styled_runs, styled_chunk}
 
 -- bytes by recursion
 pub all_bytes : (bytes : List ℕ) → AreBytes bytes → AllByRecursion (λ b. b < 256) bytes
@@ -38,7 +38,7 @@ coder_starts style image list front table coder written are style_is state = rec
   before = None;
   todo = list;
   to_write = all_to_write (record { style = style; image = image; cs = list }) written are;
-  ahead_is = ap (λ cs. front ++ chunk_bytes cs) (styled_whole style list);
+  ahead_is = refl;
   state = state;
 }
 

@@ -1,5 +1,5 @@
 -- Among four pixels: from a fresh one to the next lane.
-use Rattle.std.proofs.Common.{◌≡◌, ◌≢◌, ℕ, suc, ◌*◌, ◌<◌, ◌≤◌, nat_eq, inl, inr, Some, List, [], ◌∷◌, length, map, take, drop, slice_index, sym, ap, ◌∙◌, arith, subst}
+use Rattle.std.proofs.Common.{◌≡◌, ◌≢◌, ℕ, suc, ◌*◌, ◌<◌, ◌≤◌, nat_eq, Some, List, [], ◌∷◌, length, map, take, drop, slice_index, sym, ap, ◌∙◌, arith, subst}
 use Rattle.std.specs.List.{slice_get}
 use lib.Lanes.{mask_l, zip2}
 use Rattle.qoi.specs.declared.encode.coder.Coder.{Coder}
@@ -12,6 +12,7 @@ use Rattle.qoi.specs.inner.CoderLoop.{Writing, CoderBetween, lane_pixel, before_
 use Rattle.qoi.proofs.format.RawPixels.{pixels_of_are}
 use Rattle.qoi.proofs.encoding.CoderSteps.{all_bytes}
 use Rattle.qoi.proofs.format.LaneRuns.{none_agree}
+use Rattle.qoi.proofs.encoding.GroupRuns.{by_channels}
 use Rattle.qoi.proofs.encoding.SpelledLanes.{unpacked}
 use Rattle.qoi.proofs.encoding.QuadGroups.{differ, lane_ahead}
 use Rattle.qoi.proofs.encoding.QuadLoop.{long_pixels, next_before}
@@ -68,8 +69,7 @@ first_same {last = last} {pixels = p ∷ pixels} four e =
 
 -- lanes within bytes
 pub few_lanes : (n r len : ℕ) → IsChannels n → r ≤ 4 → 16 ≤ len → n * r ≤ len
-few_lanes n r len (inl e) few long = subst (λ k. k * r ≤ len) (sym e) (omega arith)
-few_lanes n r len (inr e) few long = subst (λ k. k * r ≤ len) (sym e) (omega arith)
+few_lanes n r len is few long = by_channels (λ k. k * r ≤ len) is (omega arith) (omega arith)
 
 -- four pixels that were read from bytes
 pub four_read : (n : ℕ) (bytes : List ℕ) (last : RgbaPixel) (number : ℕ) (cur prev : List ℕ) → IsChannels n → AreBytes bytes → 16 ≤ length bytes

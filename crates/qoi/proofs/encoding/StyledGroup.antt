@@ -1,5 +1,5 @@
 -- What a style makes of the next chunks of a written list: those of a group of repeats, and of the fresh pixel behind it.
-use Rattle.std.proofs.Common.{◌≡◌, ℕ, zero, suc, ◌+◌, ◌*◌, ◌/◌, ◌%◌, true, false, not, Bool, ◌&&◌, nat_eq, nat_lt, ◌<◌, ◌⊎◌, inl, inr, if◌then◌else◌, List, [], ◌∷◌, ◌++◌, replicate, Option, None, Some, refl, sym, ap, ◌∙◌, arith, append_assoc}
+use Rattle.std.proofs.Common.{◌≡◌, ℕ, zero, suc, ◌+◌, ◌*◌, ◌/◌, ◌%◌, true, false, not, Bool, ◌&&◌, nat_eq, nat_lt, ◌<◌, ◌⊎◌, inl, inr, if◌then◌else◌, List, [], ◌∷◌, ◌++◌, replicate, Option, Some, refl, sym, ap, ◌∙◌, arith, append_assoc}
 use Rattle.std.proofs.lemmas.Bool.{lt-ltb, ne_eqb}
 use Rattle.qoi.specs.declared.chunk.Chunk.{Chunk}
 use Rattle.qoi.specs.declared.chunk.Chunk.TheVariants.{Place, Diff, Luma, Run, Rgb, Rgba}
@@ -7,19 +7,12 @@ use Rattle.qoi.specs.declared.types.Style.{Style}
 use Rattle.qoi.specs.declared.types.Style.TheVariants.{Reference, Places, Tight}
 use Rattle.qoi.specs.Qoi.{RgbaPixel, Past, previous, hash, pixel_after, then_chunk}
 use Rattle.qoi.specs.Runs.{last_by, runs_by}
-use Rattle.qoi.specs.Styles.{is_run, fresh_next, has_pixel, some_fresh, names, place_for, placed_after, in_style}
+use Rattle.qoi.specs.Styles.{is_run, fresh_next, has_pixel, some_fresh, names, place_for, placed_after, styled}
 use Rattle.qoi.specs.inner.CoderState.{rest_of_one, last_chunk}
-use Rattle.qoi.specs.inner.CoderLoop.{styled}
 use Rattle.qoi.proofs.format.ChunkSteps.{previous_repeats, repeats_after, then_other}
 use Rattle.qoi.proofs.encoding.CoderTable.{fresh_repeats}
 use Rattle.qoi.proofs.encoding.GroupRuns.{not_one}
 use Rattle.qoi.proofs.encoding.StillToWrite.{runs_none}
-
--- before the first pixel that is the whole list
-pub styled_whole : (style : Style) (cs : List Chunk) → in_style style cs ≡ styled style [] None cs
-styled_whole Reference cs = refl
-styled_whole Places cs = refl
-styled_whole Tight cs = refl
 
 -- the chunk before the rest of a group that has so many runs of 62
 abbrev before_rest : Option Chunk → ℕ → Option Chunk

@@ -4,15 +4,17 @@ use Rattle.std.specs.List.{AllByRecursion}
 use Rattle.qoi.specs.declared.chunk.Chunk.{Chunk}
 use Rattle.qoi.specs.declared.chunk.Chunk.TheVariants.{Run}
 use Rattle.qoi.specs.declared.encode.coder.Coder.{Coder}
+use Rattle.qoi.specs.declared.encode.piece.Piece.{Piece}
 use Rattle.qoi.specs.declared.encode.quad.Quad.{Quad}
 use Rattle.qoi.specs.declared.types.Style.{Style}
-use Rattle.qoi.specs.declared.types.Style.TheVariants.{Reference, Places, Tight}
 use Rattle.qoi.specs.Qoi.{RgbaPixel, IsPixel, Past, previous, hash, chunk_bytes}
+use Rattle.qoi.specs.Raw.{pixels_of}
 use Rattle.qoi.specs.Written.{RunsFollowFull, WrittenBy}
-use Rattle.qoi.specs.Styles.{some_fresh, names, placed_after, choice_in}
+use Rattle.qoi.specs.Styles.{some_fresh, names, choice_in, styled}
 use Rattle.qoi.specs.inner.CoderState.{held_in, rest_of_one}
 use Rattle.qoi.specs.inner.Lanes.{AreFourAfter}
 use Rattle.qoi.specs.inner.Packed.{pixel_of_word}
+use Rattle.qoi.specs.inner.Piece.{kept_bytes}
 use Rattle.qoi.specs.inner.Table.{Holds}
 
 -- a run of any length may follow the list
@@ -36,12 +38,6 @@ pub record StillToWrite (l : ImageList) (past : Past) (rest : List RgbaPixel) (t
   pub written : WrittenBy (choice_in l.style) (reverse past) done
   pub run_may_follow : slice_get rest 0 ≡ Some (previous past) → RunMayFollow done
   pub parts : l.cs ≡ done ++ todo
-
--- as a style has chunks after these pixels and this chunk
-abbrev pub styled : Style → Past → Option Chunk → List Chunk → List Chunk
-styled Reference past before cs = cs
-styled Places past before cs = placed_after past before cs
-styled Tight past before cs = cs
 
 -- A list that is written for an image in a style, and the bytes that didn't go to a writer yet: those that are kept, and
 -- behind them those of the chunks that are still to be written.
@@ -71,6 +67,10 @@ pub record CoderBetween {N : ℕ} (w : Writing) (rest : List RgbaPixel) (table :
   pub to_write : StillToWrite w.list past rest todo
   pub ahead_is : w.ahead ≡ kept ++ chunk_bytes (styled w.list.style past before todo)
   pub state : CoderAfter past before table coder
+
+-- the same where the pixels of these raw bytes still come, and a piece keeps the bytes
+abbrev pub BytesBetween : {N : ℕ} → Writing → List ℕ → List RgbaPixel → Coder N → Piece → Type 0
+BytesBetween {N} w bytes table coder piece = CoderBetween w (pixels_of N bytes) table coder (kept_bytes piece)
 
 -- the pixel of a lane, and the one before it
 abbrev pub lane_pixel : {N : ℕ} → Quad N → ℕ → RgbaPixel

@@ -1,16 +1,14 @@
-//! The coder: the chunks of an image's pixels, four pixels at a time (QOI specification 1.0, "Data" and
-//! "Chunks").
+//! The coder: pixels to chunks, four pixels at a time (QOI specification 1.0, "Data" and "Chunks").
 ghost use lib.Lanes.{mask_l, zip2};
-ghost use Rattle.std.specs.Prelude.{◌≡◌, ◌≢◌, ℕ, ◌+◌, ◌*◌, ◌/◌, ◌%◌, ◌<◌, ◌≤◌, ◌↔◌, IsTrue, nat_eq, List, [], ◌∷◌, ◌++◌, Option, None, Some, length, drop, replicate, slice_get, slice_index, OnOk, IfErr};
+ghost use Rattle.std.specs.Prelude.{◌≡◌, ◌≢◌, ℕ, ◌+◌, ◌*◌, ◌/◌, ◌%◌, ◌<◌, ◌≤◌, ◌↔◌, IsTrue, nat_eq, List, [], ◌∷◌, ◌++◌, Option, None, Some, length, drop, replicate, slice_get, slice_index};
 ghost use Rattle.qoi.specs.declared.chunk.Chunk.{Chunk};
 ghost use Rattle.qoi.specs.declared.encode.piece.TheConstants.{PIECE, ROOM, RUNS_MAX, REPEATS_MAX};
 ghost use Rattle.qoi.specs.declared.encode.quad.TheConstants.{READ};
-ghost use Rattle.qoi.specs.Qoi.{RgbaPixel, Past, run_max, chunk_max, previous, seen, hash, IsChunk, bytes_of, chunk_bytes, channels_number};
+ghost use Rattle.qoi.specs.Qoi.{RgbaPixel, Past, run_max, chunk_max, previous, seen, hash, IsChunk, bytes_of};
 ghost use Rattle.qoi.specs.Raw.{IsChannels, IsChannels-prop, pixels_of};
 ghost use Rattle.qoi.specs.Runs.{IsCount, runs_by};
 ghost use Rattle.qoi.specs.Written.{IsFirst};
-ghost use Rattle.qoi.specs.Styles.{choice_in, WrittenIn};
-ghost use Rattle.qoi.specs.writers.Writes.{WroteBut, WroteBeginning};
+ghost use Rattle.qoi.specs.Styles.{choice_in};
 ghost use Rattle.qoi.specs.inner.CoderState.{held_in, last_chunk};
 ghost use Rattle.qoi.specs.inner.Lanes.{HasBytes, AreOpaqueWords, SameAlpha, AreFourAfter};
 ghost use Rattle.qoi.specs.inner.Piece.{kept_bytes};
@@ -19,19 +17,18 @@ ghost use Rattle.qoi.specs.inner.Table.{Holds};
 use crate::consts::QOI_OP_RUN;
 use crate::encode::piece::{Piece, REPEATS_MAX};
 use crate::encode::quad::{Quad, READ, before, four, repeating};
-use crate::error::Result;
 use crate::packed::{Packed, pick};
 use crate::runs::{repeats_in_quad, repeats_of};
 use crate::table::Table;
-use crate::types::{Channels, Style};
-use crate::utils::{Writer, skip};
+use crate::types::Style::{self, Places, Reference, Tight};
+use crate::utils::skip;
 use std::simd::u32x4;
 
-// The style; the last pixel and its index position; whether a fresh pixel came, and whether the chunk of the
-// last one names its index position. The table of the 64 positions stands beside it: the processor keeps
-// these in registers. Pixels of three channels are opaque.
+/// The style; the last pixel and its index position; whether a fresh pixel came, and whether the chunk of
+/// the last one names its index position. The table of the 64 positions stands beside it: the processor
+/// keeps these in registers. Pixels of three channels are opaque.
 #[derive(Drop)]
-struct Coder<const N: usize> {
+pub(super) struct Coder<const N: usize> {
     style: Style,
     last: Packed,
     place: u8,
@@ -43,10 +40,10 @@ struct Coder<const N: usize> {
 }
 
 impl<const N: usize> Coder<N> {
-    ghost use Rattle.qoi.specs.inner.CoderLoop.{CoderAfter, single, Writing, CoderBetween, lane_pixel, before_lane, in_four, AtLane};
+    ghost use Rattle.qoi.specs.inner.CoderLoop.{CoderAfter, single, Writing, CoderBetween, BytesBetween, lane_pixel, before_lane, in_four, AtLane};
 
-    // Before the first pixel: opaque black.
-    fn new(style: Style) -> Coder<N>
+    /// Before the first pixel: opaque black.
+    pub(super) fn new(style: Style) -> Coder<N>
         requires { IsChannels N }
         ensures style { result.style ≡ style }
         ensures state { (table : List RgbaPixel) → Holds table [] → CoderAfter [] None table result }
@@ -69,8 +66,8 @@ impl<const N: usize> Coder<N> {
     {
         let named = self.begun & ((count > 1) | !self.placed);
         match self.style {
-            Style::Reference | Style::Tight => QOI_OP_RUN,
-            Style::Places => pick(named, self.place, QOI_OP_RUN),
+            Reference | Tight => QOI_OP_RUN,
+            Places => pick(named, self.place, QOI_OP_RUN),
         }
     }
 
@@ -85,8 +82,8 @@ impl<const N: usize> Coder<N> {
             (last_chunk before (runs_by (Chunk.Run 1) count)) table.new self.new }
     {
         match self.style {
-            Style::Reference | Style::Places => {}
-            Style::Tight => table.put_if(count > 0, self.place, self.last),
+            Reference | Places => {}
+            Tight => table.put_if(count > 0, self.place, self.last),
         }
         self.placed = self.placed & (count == 0);
     }
@@ -113,8 +110,8 @@ impl<const N: usize> Coder<N> {
             × choice_in self.now.style past px d }
     {
         match self.style {
-            Style::Reference | Style::Places => (number, size),
-            Style::Tight => {
+            Reference | Places => (number, size),
+            Tight => {
                 if px.is_same(Packed::blank()) & !placed {
                     if let Some(place) = table.first_blank() {
                         return (u32::from(place), 1);
@@ -260,10 +257,8 @@ impl<const N: usize> Coder<N> {
         ensures counted { length «data».now < READ
             → IsCount self.old.last (pixels_of N «data».now) result }
         ensures some { slice_get (pixels_of N «data».now) 0 ≡ Some self.old.last → 0 < result }
-        ensures written { (w : Writing)
-            → CoderBetween w (pixels_of N «data».now) table.old self.old (kept_bytes piece.old)
-            → CoderBetween w (pixels_of N (drop (N * result) «data».now)) table.new self.new
-            (kept_bytes piece.new) }
+        ensures written { (w : Writing) → BytesBetween w «data».now table.old self.old piece.old
+            → BytesBetween w (drop (N * result) «data».now) table.new self.new piece.new }
     {
         let (near, _) = data.split_at(data.len().min(N * REPEATS_MAX));
         let count = repeats_of::<N>(near, self.last);
@@ -287,10 +282,8 @@ impl<const N: usize> Coder<N> {
         ensures end { piece.new.end ≤ piece.old.end + 4 * chunk_max }
         ensures inside { N * result ≤ length «data».now }
         ensures some { 0 < result }
-        ensures written { (w : Writing)
-            → CoderBetween w (pixels_of N «data».now) table.old self.old (kept_bytes piece.old)
-            → CoderBetween w (pixels_of N (drop (N * result) «data».now)) table.new self.new
-            (kept_bytes piece.new) }
+        ensures written { (w : Writing) → BytesBetween w «data».now table.old self.old piece.old
+            → BytesBetween w (drop (N * result) «data».now) table.new self.new piece.new }
     {
         let cur = four::<N>(data);
         let prev = before(self.last.number(), cur);
@@ -301,9 +294,14 @@ impl<const N: usize> Coder<N> {
         self.write_lanes(table, piece, cur, prev, bits)
     }
 
-    // Writes pixels until the piece is full or fewer than sixteen bytes are left, and returns what is left.
+    /// Writes pixels until the piece is full or fewer than sixteen bytes are left, and returns what is left.
     #[inline(always)]
-    fn fill<'a>(&mut self, table: &mut Table, piece: &mut Piece, data: &'a [u8]) -> &'a [u8]
+    pub(super) fn fill<'a>(
+        &mut self,
+        table: &mut Table,
+        piece: &mut Piece,
+        data: &'a [u8],
+    ) -> &'a [u8]
         requires whole { length «data».now % N ≡ 0 }
         requires room { piece.old.end < PIECE }
         ensures end { piece.new.end < PIECE + 4 * chunk_max }
@@ -311,9 +309,8 @@ impl<const N: usize> Coder<N> {
         ensures some { PIECE ≤ piece.new.end → length result.now < length «data».entry.now }
         ensures whole { length result.now % N ≡ 0 }
         ensures written { (w : Writing)
-            → CoderBetween w (pixels_of N «data».entry.now) table.old self.old
-            (kept_bytes piece.old)
-            → CoderBetween w (pixels_of N result.now) table.new self.new (kept_bytes piece.new) }
+            → BytesBetween w «data».entry.now table.old self.old piece.old
+            → BytesBetween w result.now table.new self.new piece.new }
     {
         let mut rest = data;
         while !piece.is_full() && rest.len() >= READ {
@@ -325,6 +322,7 @@ impl<const N: usize> Coder<N> {
 
     // Writes the repeats at the front of the last pixels and the fresh pixel behind them, if there is one, and
     // returns how many pixels these are.
+    #[inline(always)]
     fn write_next(&mut self, table: &mut Table, piece: &mut Piece, data: &[u8]) -> usize
         requires whole { length «data».now % N ≡ 0 }
         requires some { 0 < length «data».now }
@@ -333,10 +331,8 @@ impl<const N: usize> Coder<N> {
         ensures end { piece.new.end ≤ piece.old.end + 2 * (N * result) }
         ensures inside { N * result ≤ length «data».now }
         ensures some { 0 < result }
-        ensures written { (w : Writing)
-            → CoderBetween w (pixels_of N «data».now) table.old self.old (kept_bytes piece.old)
-            → CoderBetween w (pixels_of N (drop (N * result) «data».now)) table.new self.new
-            (kept_bytes piece.new) }
+        ensures written { (w : Writing) → BytesBetween w «data».now table.old self.old piece.old
+            → BytesBetween w (drop (N * result) «data».now) table.new self.new piece.new }
     {
         let count = self.write_runs(table, piece, data);
         let behind = skip(data, N * count);
@@ -348,14 +344,14 @@ impl<const N: usize> Coder<N> {
         count + 1
     }
 
-    // Writes the last pixels: fewer than sixteen bytes.
-    fn write_last(&mut self, table: &mut Table, piece: &mut Piece, data: &[u8])
+    /// Writes the last pixels: fewer than sixteen bytes.
+    #[inline(always)]
+    pub(super) fn write_last(&mut self, table: &mut Table, piece: &mut Piece, data: &[u8])
         requires whole { length «data».now % N ≡ 0 }
         requires few { length «data».now < READ }
         requires room { piece.old.end < PIECE }
         ensures end { piece.new.end < PIECE + 2 * READ }
-        ensures written { (w : Writing)
-            → CoderBetween w (pixels_of N «data».now) table.old self.old (kept_bytes piece.old)
+        ensures written { (w : Writing) → BytesBetween w «data».now table.old self.old piece.old
             → CoderBetween w [] table.new self.new (kept_bytes piece.new) }
     {
         let mut rest = data;
@@ -364,76 +360,4 @@ impl<const N: usize> Coder<N> {
             rest = skip(rest, N * count);
         }
     }
-}
-
-// Keeps the chunks of an image's raw bytes, `N` bytes a pixel, and sends the writer each full piece.
-#[inline(always)]
-fn encode_pixels<W: Writer, const N: usize>(
-    buf: &mut W,
-    piece: &mut Piece,
-    style: Style,
-    data: &[u8],
-) -> Result<()>
-    requires channels { IsChannels N }
-    requires whole { length «data».now % N ≡ 0 }
-    requires begun { piece.old.end < PIECE }
-    requires room { piece.old.end + (length «data».now + length «data».now / N) ≤ W.room buf.old }
-    ensures end { OnOk result (piece.new.end < PIECE + 2 * READ) }
-    ensures written { OnOk result ((cs : List Chunk) × WrittenIn style (pixels_of N «data».now) cs
-        × WroteBut W.wrote buf.old (kept_bytes piece.old ++ chunk_bytes cs) (kept_bytes piece.new)
-        buf.new) }
-    ensures refused { IfErr result (λ e. W.IsFault e × (cs : List Chunk)
-        × WrittenIn style (pixels_of N «data».now) cs
-        × WroteBeginning W.wrote buf.old (kept_bytes piece.old ++ chunk_bytes cs) buf.new) }
-{
-    let mut table = Table::new();
-    let mut coder = Coder::<N>::new(style);
-    let mut rest = data;
-    loop {
-        rest = coder.fill(&mut table, piece, rest);
-        if !piece.is_full() {
-            coder.write_last(&mut table, piece, rest);
-            return Ok(());
-        }
-        piece.send(buf)?;
-    }
-}
-
-// Keeps the chunks of an image's raw bytes, of this many channels, and sends the writer each full piece.
-pub(super) fn encode_chunks<W: Writer>(
-    buf: &mut W,
-    piece: &mut Piece,
-    style: Style,
-    channels: Channels,
-    data: &[u8],
-) -> Result<()>
-    requires whole { length «data».now % channels_number channels ≡ 0 }
-    requires begun { piece.old.end < PIECE }
-    requires room { piece.old.end
-        + (length «data».now + length «data».now / channels_number channels) ≤ W.room buf.old }
-    ensures end { OnOk result (piece.new.end < PIECE + 2 * READ) }
-    ensures written { OnOk result ((cs : List Chunk)
-        × WrittenIn style (pixels_of (channels_number channels) «data».now) cs
-        × WroteBut W.wrote buf.old (kept_bytes piece.old ++ chunk_bytes cs) (kept_bytes piece.new)
-        buf.new) }
-    ensures refused { IfErr result (λ e. W.IsFault e × (cs : List Chunk)
-        × WrittenIn style (pixels_of (channels_number channels) «data».now) cs
-        × WroteBeginning W.wrote buf.old (kept_bytes piece.old ++ chunk_bytes cs) buf.new) }
-{
-    // Each pair has a loop of its own, in which the style is known.
-    match (channels, style) {
-        (Channels::Rgba, Style::Reference) => {
-            encode_pixels::<W, 4>(buf, piece, Style::Reference, data)?;
-        }
-        (Channels::Rgba, Style::Places) => {
-            encode_pixels::<W, 4>(buf, piece, Style::Places, data)?;
-        }
-        (Channels::Rgba, Style::Tight) => encode_pixels::<W, 4>(buf, piece, Style::Tight, data)?,
-        (Channels::Rgb, Style::Reference) => {
-            encode_pixels::<W, 3>(buf, piece, Style::Reference, data)?;
-        }
-        (Channels::Rgb, Style::Places) => encode_pixels::<W, 3>(buf, piece, Style::Places, data)?,
-        (Channels::Rgb, Style::Tight) => encode_pixels::<W, 3>(buf, piece, Style::Tight, data)?,
-    }
-    Ok(())
 }

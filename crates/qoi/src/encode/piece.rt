@@ -130,6 +130,7 @@ impl<'a> Piece<'a> {
     }
 
     /// Sends all the bytes to a writer: a full piece, if there is one, and then the others.
+    #[inline(always)]
     pub(super) fn finish<W: Writer>(&mut self, buf: &mut W) -> Result<()>
         requires { self.old.end ≤ W.room buf.old }
         ensures written { OnOk result (W.wrote buf.old (kept_bytes self.old) buf.new) }

@@ -3,7 +3,7 @@ use Rattle.std.proofs.Common.{◌≡◌, ◌%◌, ◌<◌, length}
 use Rattle.qoi.specs.declared.encode.piece.TheConstants.{PIECE}
 use Rattle.qoi.specs.inner.Piece.{kept_bytes}
 use Rattle.qoi.proofs.encoding.PieceByPiece.{PieceBetween}
-use Rattle.qoi.proofs.encode.coder.encode_pixels.Given as goal
+use Rattle.qoi.proofs.encode.chunks.encode_pixels.Given as goal
 
 abbrev pub invariant-loop-coder : goal.invariant-loop-coder
 invariant-loop-coder g l = record {

@@ -4,7 +4,7 @@ use Rattle.std.proofs.lemmas.List.{length-take-le}
 use Rattle.std.proofs.lemmas.Result.{err_from_is_err_and}
 use Rattle.qoi.specs.declared.encode.piece.TheConstants.{PIECE}
 use Rattle.qoi.proofs.encoding.PieceByPiece.{piece_starts, piece_filled, piece_fits, piece_went, piece_part, piece_ends}
-use Rattle.qoi.proofs.encode.coder.encode_pixels.Goals as goal
+use Rattle.qoi.proofs.encode.chunks.encode_pixels.Goals as goal
 
 pub loop-coder-init : goal.loop-coder-init
 loop-coder-init g c =
@@ -39,4 +39,4 @@ returns-in_err-send-clause-refused g c =
     let e = err_from_is_err_and c.from_residual.result c.from_residual.ensures.1 in
     let r = c.in_err-send.ensures.refused in
     let part = piece_part (piece_filled c.loop-coder.invariant.state c.fill-rest.ensures.written) PIECE r.1 in
-    rw (e.1, e.2) (r.0, part.0, part.1, part.2)
+    rw (e.1, e.2) (r.0, part)
