@@ -88,18 +88,11 @@ impl<const N: usize> Coder<N> {
         self.placed = self.placed & (count == 0);
     }
 
-    // The chunk of a fresh pixel that doesn't stand at its index position: the first one that spells it out;
-    // in style `Tight` transparent black is given by the least position where no pixel was put, if there is
-    // one. Returns a number that has the chunk's bytes, and how many these are.
+    // The chunk of a fresh pixel that doesn't stand at its index position: the first one that spells it out,
+    // but in style `Tight`, of transparent black, the least position where no pixel was put, if there is one.
+    // Returns a number that has the chunk's bytes, and how many these are.
     #[inline(always)]
-    fn spelled_or_blank(
-        &self,
-        table: &Table,
-        px: Packed,
-        placed: bool,
-        number: u32,
-        size: u32,
-    ) -> (u32, u32)
+    fn spelled(&self, table: &Table, px: Packed, placed: bool, number: u32, size: u32) -> (u32, u32)
         ensures few { (n : ℕ) → 1 ≤ n → size ≤ n → result.1 ≤ n }
         ensures choice { (past : Past) (alpha : ℕ) (c : Chunk)
             → Holds table.now (held_in self.now.style past)
@@ -140,13 +133,7 @@ impl<const N: usize> Coder<N> {
         let px = Packed::of_number(quad.pixels[lane]);
         let place = (quad.places[lane] % 256) as u8;
         let placed = table.at(place).is_same(px);
-        let (number, size) = self.spelled_or_blank(
-            table,
-            px,
-            placed,
-            quad.numbers[lane],
-            quad.sizes[lane],
-        );
+        let (number, size) = self.spelled(table, px, placed, quad.numbers[lane], quad.sizes[lane]);
         table.put(place, px);
         *self = Coder {
             style: self.style,

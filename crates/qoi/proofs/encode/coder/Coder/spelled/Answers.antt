@@ -6,7 +6,7 @@ use Rattle.qoi.specs.Qoi.{seen, hash, blank}
 use Rattle.qoi.proofs.encoding.CoderTable.{spelled_out}
 use Rattle.qoi.proofs.encoding.SpelledLanes.{place_bytes}
 use Rattle.qoi.proofs.encoding.TightChoice.{blank_chosen, spelled_chosen}
-use Rattle.qoi.proofs.encode.coder.Coder.spelled_or_blank.Goals as goal
+use Rattle.qoi.proofs.encode.coder.Coder.spelled.Goals as goal
 
 pub returns-in-Reference-clause-choice : goal.returns-in-Reference-clause-choice
 returns-in-Reference-clause-choice g c = λ past alpha chunk holds test is bytes first differs.
