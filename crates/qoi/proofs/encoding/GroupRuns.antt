@@ -38,8 +38,8 @@ pub first_of : (n : ℕ) (rest front after : List ℕ) → IsChannels n → rest
 first_of n rest front after is split size = ap (λ x. slice_get x 0) (ap (pixels_of n) split ∙ pixels_of-next n front after is size)
 
 -- equal where both are there
-pub some_same : (a b : RgbaPixel) → Some a ≡ Some b → a ≡ b
-some_same a b e = cc
+pub some_same : {a b : RgbaPixel} → Some a ≡ Some b → a ≡ b
+some_same e = cc
 
 -- so many pixels that are p, and then others
 pub count_of : (p : RgbaPixel) (pixels rest : List RgbaPixel) (n : ℕ) → pixels ≡ replicate n p ++ rest → slice_get rest 0 ≢ Some p → IsCount p pixels n
@@ -112,7 +112,7 @@ pub record Group (n : ℕ) (bytes : List ℕ) (q : RgbaPixel) (count : ℕ) : Ty
   pub whole : length (drop (n * count) bytes) % n ≡ 0
 
 -- counted repeats are a group
-pub group_of : (n : ℕ) (bytes : List ℕ) (q : RgbaPixel) (count : ℕ) → IsChannels n → length bytes % n ≡ 0 → IsCount q (pixels_of n bytes) count
+group_of : (n : ℕ) (bytes : List ℕ) (q : RgbaPixel) (count : ℕ) → IsChannels n → length bytes % n ≡ 0 → IsCount q (pixels_of n bytes) count
     → Group n bytes q count
 group_of n bytes q count is whole w = record {
   within = inside;

@@ -7,6 +7,7 @@ use Rattle.qoi.specs.Qoi.{RgbaPixel, IsPixel, blank, hash}
 use Rattle.qoi.specs.Runs.{IsCount}
 use Rattle.qoi.specs.inner.Packed.{word, pixel_of_word}
 use Rattle.qoi.specs.inner.Lanes.{AreFourAfter, IsRun}
+use Rattle.qoi.proofs.encoding.GroupRuns.{some_same}
 use Rattle.qoi.proofs.encoding.SpelledLanes.{unpacked}
 use Rattle.qoi.proofs.encoding.QuadLoop.{next_before}
 
@@ -18,7 +19,7 @@ place_lane (x ∷ xs) zero = refl
 place_lane (x ∷ xs) (suc k) = place_lane xs k
 
 -- a pixel packed has 32 bits
-pub word_below : (p : RgbaPixel) → IsPixel p → word p < 2 ^ 32
+word_below : (p : RgbaPixel) → IsPixel p → word p < 2 ^ 32
 word_below p i = omega (arith, i.r, i.g, i.b, i.a)
 
 -- a number packed again
@@ -34,9 +35,6 @@ run_count w (p ∷ ps) zero l are few same stops = record {
   same = refl;
   other = λ e. stops (let is : p ≡ pixel_of_word w = some_same e in ap word is ∙ packed w l);
 }
-  where
-    some_same : {a b : RgbaPixel} → Some a ≡ Some b → a ≡ b
-    some_same e = cc
 run_count w (p ∷ ps) (suc n) l are few same stops =
     let e : word p ≡ w = same 0 (omega arith) in
     let is : p ≡ pixel_of_word w = sym (unpacked p are.0) ∙ ap pixel_of_word e in
