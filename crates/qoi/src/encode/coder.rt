@@ -46,7 +46,7 @@ impl<const N: usize> Coder<N> {
     pub(super) fn new(style: Style) -> Coder<N>
         requires { IsChannels N }
         ensures style { result.style ≡ style }
-        ensures state { (table : List RgbaPixel) → Holds table [] → CoderAfter [] None table result }
+        ensures state { (t : List RgbaPixel) → Holds t [] → CoderAfter [] None t result }
     {
         let last = Packed::start();
         let place = last.spread().hash_index();

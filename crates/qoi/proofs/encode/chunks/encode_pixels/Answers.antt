@@ -25,7 +25,8 @@ pub send-requires-clause-room : goal.send-requires-clause-room
 send-requires-clause-room g c =
     let piece = c.fill-rest.new.piece in
     let size = length-take-le piece.end piece.bytes.now (omega (arith, piece.within, piece.room)) in
-    piece_fits (piece_filled c.loop-coder.invariant.state c.fill-rest.ensures.written) PIECE (omega (arith, size, c.is_full.ensures.full c.if-not-is_full.false))
+    piece_fits (piece_filled c.loop-coder.invariant.state c.fill-rest.ensures.written) PIECE
+    (omega (arith, size, c.is_full.ensures.full c.if-not-is_full.false))
 
 pub loop-coder-preserved : goal.loop-coder-preserved
 loop-coder-preserved g c = record {

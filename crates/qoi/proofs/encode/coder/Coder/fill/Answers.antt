@@ -1,9 +1,7 @@
 -- A turn further.
 use Rattle.std.proofs.Common.{◌≡◌, ◌-◌, ◌*◌, ◌%◌, length, drop, sym, ap, ◌∙◌, arith, subst}
 use Rattle.std.proofs.lemmas.List.{length-drop}
-use Rattle.qoi.specs.Raw.{pixels_of}
-use Rattle.qoi.specs.inner.CoderLoop.{CoderBetween}
-use Rattle.qoi.specs.inner.Piece.{kept_bytes}
+use Rattle.qoi.specs.inner.CoderLoop.{BytesBetween}
 use Rattle.qoi.proofs.encoding.GroupRuns.{whole_rest, some_bytes}
 use Rattle.qoi.proofs.encode.coder.Coder.fill.Goals as goal
 
@@ -21,6 +19,6 @@ loop-self-preserved g c =
       left = omega (arith, i.left, size);
       some = λ _. omega (arith, i.left, c.write_quad-count.ensures.inside, size, some);
       whole = ap (λ m. m % g.row.N) size ∙ whole_rest g.row.N k (length rest) channels i.whole c.write_quad-count.ensures.inside;
-      written = λ w b. subst (λ xs. CoderBetween w (pixels_of g.row.N xs) c.write_quad-count.new.table c.write_quad-count.new.self (kept_bytes c.write_quad-count.new.piece)) (sym back)
+      written = λ w b. subst (λ xs. BytesBetween w xs c.write_quad-count.new.table c.write_quad-count.new.self c.write_quad-count.new.piece) (sym back)
           (c.write_quad-count.ensures.written w (i.written w b));
     }

@@ -20,7 +20,8 @@ returns-clause-state g c past before s =
         | in-Reference w ↦ subst (λ t. Holds t (held_in style pixels)) (sym w.table-is)
             (repeats_unput style n past c.args.table.now w.in-Reference.is s.table_is)
         | in-Tight w ↦ (let held = rw w.in-Tight.is at s.table_is in
-            let puts : IsTrue (nat_lt 0 n) → (held : Past) → Holds c.args.table.now held → Holds w.put_if.new.self (previous past ∷ held) = λ t held h. subst (λ p. Holds w.put_if.new.self (p ∷ held)) s.last_is (w.put_if.ensures.puts t held h) in
+            let puts : IsTrue (nat_lt 0 n) → (held : Past) → Holds c.args.table.now held → Holds w.put_if.new.self (previous past ∷ held)
+            = λ t held h. subst (λ p. Holds w.put_if.new.self (p ∷ held)) s.last_is (w.put_if.ensures.puts t held h) in
             subst (λ t. Holds t (held_in style pixels)) (sym w.table-is)
             (rw w.in-Tight.is (repeats_put n past c.args.table.now w.put_if.new.self puts w.put_if.ensures.stays held)))
       ];

@@ -1,9 +1,7 @@
 -- A group further.
 use Rattle.std.proofs.Common.{◌≡◌, ◌-◌, ◌*◌, ◌%◌, length, drop, sym, ap, ◌∙◌, arith, subst}
 use Rattle.std.proofs.lemmas.List.{length-drop}
-use Rattle.qoi.specs.Raw.{pixels_of}
-use Rattle.qoi.specs.inner.CoderLoop.{CoderBetween}
-use Rattle.qoi.specs.inner.Piece.{kept_bytes}
+use Rattle.qoi.specs.inner.CoderLoop.{BytesBetween}
 use Rattle.qoi.proofs.encoding.GroupRuns.{whole_rest, some_bytes}
 use Rattle.qoi.proofs.encode.coder.Coder.write_last.Goals as goal
 
@@ -20,6 +18,6 @@ loop-rest-preserved g c =
       end = omega (arith, c.write_next-count.ensures.end, c.write_next-count.ensures.inside, i.end);
       left = omega (arith, i.left, size);
       whole = ap (λ m. m % g.row.N) size ∙ whole_rest g.row.N k (length rest) channels i.whole c.write_next-count.ensures.inside;
-      written = λ w b. subst (λ xs. CoderBetween w (pixels_of g.row.N xs) c.write_next-count.new.table c.write_next-count.new.self (kept_bytes c.write_next-count.new.piece)) (sym back)
+      written = λ w b. subst (λ xs. BytesBetween w xs c.write_next-count.new.table c.write_next-count.new.self c.write_next-count.new.piece) (sym back)
           (c.write_next-count.ensures.written w (i.written w b));
     }

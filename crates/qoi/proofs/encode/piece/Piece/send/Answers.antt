@@ -19,7 +19,8 @@ returns-in_err-send_front-clause-refused g c =
 pub returns-clause-written : goal.returns-clause-written
 returns-clause-written g c =
     let s = c.args.self.now in
-    subst (λ z. g.W.Writer.wrote c.args.buf.now z c.send_front.new.buf) (sym (take-take 4096 s.end s.bytes.now c.requires.full)) c.in_ok-send_front.ensures.written
+    subst (λ z. g.W.Writer.wrote c.args.buf.now z c.send_front.new.buf) (sym (take-take 4096 s.end s.bytes.now c.requires.full))
+    c.in_ok-send_front.ensures.written
 
 pub returns-clause-kept : goal.returns-clause-kept
 returns-clause-kept g c =
