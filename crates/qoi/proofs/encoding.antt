@@ -6,7 +6,7 @@ pub mod CoderTable
 pub mod GroupRuns
 pub mod NotedPixels
 pub mod PieceByPiece
-pub mod PieceGiven
+pub mod PieceSent
 pub mod PixelBlock
 pub mod PlacedLists
 pub mod Spelled

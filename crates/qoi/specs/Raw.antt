@@ -1,12 +1,21 @@
 -- Raw bytes and pixels, both ways: what a decoder gives and what an encoder is given.
 use Rattle.std.specs.Prelude.{ℕ, ◌*◌, ◌-◌, ◌^◌, ◌≤◌, min, List, [], ◌∷◌, length, ◌⊎◌, ◌≡◌, ◌==◌, if◌then◌else◌}
 use Rattle.std.specs.List.{flat_map, AllByRecursion}
+use Rattle.std.proofs.Common.{inl, inr, ap, arith}
+use native.Mathlib.Nat.{ℕ_set}
 use Rattle.qoi.specs.declared.header.Header.{Header}
 use Rattle.qoi.specs.Qoi.{RgbaPixel, pixel, channels_number, pixel_count}
 
 -- a number of channels that the format has
 abbrev pub IsChannels : ℕ → Type 0
 IsChannels n = (n ≡ 3) ⊎ (n ≡ 4)
+
+-- which it has in one way alone
+pub IsChannels-prop : (n : ℕ) → IsProp (IsChannels n)
+IsChannels-prop n (inl a) (inl b) = ap inl (ℕ_set n 3 a b)
+IsChannels-prop n (inl a) (inr b) = absurd (omega arith)
+IsChannels-prop n (inr a) (inl b) = absurd (omega arith)
+IsChannels-prop n (inr a) (inr b) = ap inr (ℕ_set n 4 a b)
 
 -- the channels of a file and those of an output are both 3 or 4
 abbrev pub AreChannels : ℕ → ℕ → Type 0

@@ -53,11 +53,15 @@ choice_in Reference = IsChoice
 choice_in Places = IsChoice
 choice_in Tight = IsTightChoice
 
--- what a style makes of the list of its choices
+-- as a style has chunks of the list of its choices, after these pixels and after the chunk before it, if there is one
+abbrev pub styled : Style → Past → Option Chunk → List Chunk → List Chunk
+styled Reference past before cs = cs
+styled Places past before cs = placed_after past before cs
+styled Tight past before cs = cs
+
+-- what a style makes of that list
 abbrev pub in_style : Style → List Chunk → List Chunk
-in_style Reference cs = cs
-in_style Places cs = placed_after [] None cs
-in_style Tight cs = cs
+in_style style cs = styled style [] None cs
 
 -- the chunk list that is written for an image in a style
 pub record WrittenIn (style : Style) (image : List RgbaPixel) (cs : List Chunk) : Type 0 where

@@ -3,9 +3,8 @@ pub mod CoderState
 pub mod CoderLoop
 pub mod Filling
 pub mod Hashed
+pub mod Lanes
 pub mod Packed
 pub mod Piece
-pub mod Quad
-pub mod Steps
 pub mod Table
 pub mod Taken

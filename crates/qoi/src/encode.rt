@@ -11,13 +11,14 @@ ghost use Rattle.qoi.specs.Encoded.{max_len, max_file_len, image_header, IsFileL
 ghost use Rattle.qoi.specs.Errors.{IsIoError};
 ghost use Rattle.qoi.specs.writers.Writes.{AppendsBeginning, WroteBeginning};
 
+mod chunks;
 mod coder;
 pub(crate) mod piece;
 pub(crate) mod quad;
 
 use crate::consts::QOI_PADDING;
-use crate::encode::coder::encode_chunks;
-use crate::encode::piece::Piece;
+use crate::encode::chunks::encode_chunks;
+use crate::encode::piece::{Piece, ROOM};
 use crate::error::{Error, Result};
 use crate::header::{Header, max_file_size};
 use crate::types::{Channels, ColorSpace, Style};
@@ -39,7 +40,8 @@ fn encode_image<W: Writer>(buf: &mut W, style: Style, header: &Header, data: &[u
         × WroteBeginning W.wrote buf.old bytes buf.new) }
 {
     let room = buf.capacity();
-    let mut piece = Piece::new();
+    let mut bytes = [0; ROOM];
+    let mut piece = Piece::new(&mut bytes);
     piece.keep(&header.encode());
     encode_chunks(buf, &mut piece, style, header.channels, data)?;
     piece.keep(&QOI_PADDING);

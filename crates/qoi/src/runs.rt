@@ -4,9 +4,8 @@ ghost use Rattle.std.specs.Prelude.{ℕ, List, nat_eq, slice_index, ◌≡◌, �
 ghost use Rattle.qoi.specs.Qoi.{RgbaPixel, rgba};
 ghost use Rattle.qoi.specs.Raw.{IsChannels, output, pixels_of};
 ghost use Rattle.qoi.specs.Runs.{IsCount};
-ghost use Rattle.qoi.specs.declared.encode.quad.Quad.{Quad};
 ghost use Rattle.qoi.specs.inner.Packed.{pixel_of_word};
-ghost use Rattle.qoi.specs.inner.Quad.{IsQuad, IsRun};
+ghost use Rattle.qoi.specs.inner.Lanes.{AreFourAfter, IsRun};
 
 use crate::packed::Packed;
 use crate::pixel::Pixel;
@@ -27,9 +26,10 @@ pub fn repeats<const N: usize>(data: &[u8], px: Pixel<N>) -> usize
 pub(crate) fn repeats_in_quad(bits: u64, lane: usize) -> usize
     requires within { bits < 16 }
     requires lane { lane < 4 }
-    ensures counted { (n : ℕ) (quad : Quad) (pixels : List RgbaPixel) → IsQuad n quad pixels
-        → bits ≡ mask_l (zip2 nat_eq quad.pixels quad.before) → lane + result < 4
-        → IsCount (pixel_of_word (slice_index quad.before lane)) (drop lane pixels) result }
+    ensures counted { (last : RgbaPixel) (pixels : List RgbaPixel) (cur prev : List ℕ)
+        → AreFourAfter last pixels cur prev → bits ≡ mask_l (zip2 nat_eq cur prev)
+        → lane + result < 4
+        → IsCount (pixel_of_word (slice_index prev lane)) (drop lane pixels) result }
     ensures run { (cur prev : List ℕ) → length cur ≡ 4 → length prev ≡ 4
         → bits ≡ mask_l (zip2 nat_eq cur prev) → IsRun cur prev lane result }
 {

@@ -1,5 +1,5 @@
 //! Where the encoder writes.
-ghost use Rattle.std.specs.Prelude.{◌≡◌, ℕ, ◌+◌, ◌<◌, ◌≤◌, List, [], ◌∷◌, length, OnOk, IfErr};
+ghost use Rattle.std.specs.Prelude.{◌≡◌, ℕ, ◌+◌, ◌<◌, ◌≤◌, List, [], ◌∷◌, length, drop, OnOk, IfErr};
 ghost use Rattle.qoi.specs.writers.Writes.{WriterLaws, WroteBeginning};
 ghost use Rattle.qoi.specs.writers.Behind.{StandsBehind};
 ghost use Rattle.qoi.specs.Errors.{IsIoError};
@@ -95,6 +95,16 @@ pub(crate) fn copy_behind(buf: &mut [u8], written: usize, v: &[u8]) -> usize
     let end = written + v.len();
     buf[written..end].copy_from_slice(v);
     end
+}
+
+/// The bytes behind the first `n`.
+#[inline(always)]
+pub(crate) fn skip(bytes: &[u8], n: usize) -> &[u8]
+    requires { n ≤ length bytes.now }
+    ensures { result.now ≡ drop n bytes.entry.now }
+{
+    let (_, rest) = bytes.split_at(n);
+    rest
 }
 
 impl<'a> Writer for BytesMut<'a> {

@@ -1,6 +1,6 @@
 -- The coder's loop from one state to the next: over the repeats of a group, over a fresh pixel, and over a piece that is
--- given away.
-use Rattle.std.proofs.Common.{◌≡◌, ◌≢◌, ◌⊎◌, inl, inr, ℕ, suc, ◌%◌, ◌<◌, List, [], ◌∷◌, ◌++◌, get_or, replicate, None, Some, refl, sym, ap, ◌∙◌, subst, append-nil, append_assoc}
+-- sent.
+use Rattle.std.proofs.Common.{◌≡◌, ◌≢◌, ◌⊎◌, inl, inr, ℕ, suc, ◌%◌, ◌<◌, List, [], ◌∷◌, ◌++◌, get_or, replicate, Option, None, Some, refl, sym, ap, ◌∙◌, subst, append-nil, append_assoc}
 use Rattle.std.specs.List.{AllByRecursion, slice_get}
 use Rattle.std.proofs.lemmas.Grind.{flat_map-append}
 use Rattle.qoi.specs.declared.chunk.Chunk.{Chunk}
@@ -11,13 +11,13 @@ use Rattle.qoi.specs.declared.types.Style.TheVariants.{Reference, Places, Tight}
 use Rattle.qoi.specs.Qoi.{AreBytes, RgbaPixel, IsPixel, Past, previous, hash, IsChunk, bytes_of, chunk_bytes}
 use Rattle.qoi.specs.Runs.{runs_by}
 use Rattle.qoi.specs.Written.{WrittenBy}
-use Rattle.qoi.specs.Styles.{some_fresh, names, choice_in, in_style}
-use Rattle.qoi.specs.inner.CoderState.{StateAfter, StyleAfter, rest_of_one, last_chunk}
-use Rattle.qoi.specs.inner.CoderLoop.{StillToWrite, styled, Writing, CoderBetween}
+use Rattle.qoi.specs.Styles.{some_fresh, names, choice_in, styled, in_style}
+use Rattle.qoi.specs.inner.CoderState.{rest_of_one, last_chunk}
+use Rattle.qoi.specs.inner.CoderLoop.{StillToWrite, Writing, CoderAfter, single, CoderBetween}
 use Rattle.qoi.proofs.format.ChunkSteps.{previous_repeats}
 use Rattle.qoi.proofs.encoding.StillToWrite.{all_to_write, chunk_next, fresh_todo, none_todo, runs_next}
 use Rattle.qoi.proofs.encoding.StyleLists.{chooses_in}
-use Rattle.qoi.proofs.encoding.StyledGroup.{WritesOne, styled_whole, styled_runs, styled_chunk}
+use Rattle.qoi.proofs.encoding.StyledGroup.{WritesOne, styled_runs, styled_chunk}
 
 -- bytes by recursion
 pub all_bytes : (bytes : List ℕ) → AreBytes bytes → AllByRecursion (λ b. b < 256) bytes
@@ -28,19 +28,18 @@ all_bytes (b ∷ bytes) h = (h 0, all_bytes bytes (λ i. tail_of i))
     tail_of i = h (suc i)
 
 -- before the first pixel, behind bytes that stand in front of the chunks
-pub coder_starts : (style : Style) (image : List RgbaPixel) (list : List Chunk) (front : List ℕ) (table : List RgbaPixel) (coder : Coder)
-    → WrittenBy (choice_in style) image list → AllByRecursion IsPixel image
-    → StateAfter style [] table coder.last → StyleAfter [] None coder.place coder.begun coder.placed
+pub coder_starts : {N : ℕ} (style : Style) (image : List RgbaPixel) (list : List Chunk) (front : List ℕ) (table : List RgbaPixel) (coder : Coder N)
+    → WrittenBy (choice_in style) image list → AllByRecursion IsPixel image → coder.style ≡ style → CoderAfter [] None table coder
     → CoderBetween (record { list = record { style = style; image = image; cs = list }; ahead = front ++ chunk_bytes (in_style style list) })
     image table coder front
-coder_starts style image list front table coder written are state style_state = record {
+coder_starts style image list front table coder written are style_is state = record {
+  style_is = style_is;
   past = [];
   before = None;
   todo = list;
   to_write = all_to_write (record { style = style; image = image; cs = list }) written are;
-  ahead_is = ap (λ cs. front ++ chunk_bytes cs) (styled_whole style list);
+  ahead_is = refl;
   state = state;
-  style_state = style_state;
 }
 
 -- nothing is styled where there is nothing
@@ -56,22 +55,23 @@ bytes_next ahead bytes next first left e n =
     e ∙ ap (λ x. bytes ++ x) (flat_map-append bytes_of first left) ∙ sym (append_assoc bytes (chunk_bytes first) (chunk_bytes left))
     ∙ ap (λ x. x ++ chunk_bytes left) (sym n)
 
-module _ {w : Writing} {pixels : List RgbaPixel} {table : List RgbaPixel} {coder : Coder} {bytes : List ℕ} (b : CoderBetween w pixels table coder bytes) where
+module _ {N : ℕ} {w : Writing} {pixels : List RgbaPixel} {table : List RgbaPixel} {coder : Coder N} {bytes : List ℕ}
+    (b : CoderBetween w pixels table coder bytes) where
   -- the pixel before is the coder's last
-  pub last_before : previous b.past ≡ coder.last
+  last_before : previous b.past ≡ coder.last
   last_before = sym b.state.last_is
 
   -- The runs of a group are written. A rest of 1 is written by the chunk `one`: at the end a run, and before a fresh pixel
   -- as the style has it.
-  pub runs_given : (n : ℕ) (rest : List RgbaPixel) (one : Chunk) {next_table : List RgbaPixel} {next_coder : Coder} {next : List ℕ}
+  pub group_written : (n : ℕ) (rest : List RgbaPixel) (one : Chunk) {next_table : List RgbaPixel} {next_coder : Coder N} {next : List ℕ}
       → pixels ≡ replicate n coder.last ++ rest
       → (slice_get rest 0 ≢ Some coder.last) ⊎ (n % 62 ≡ 0)
-      → (n % 62 ≡ 1 → ((rest ≡ []) × (one ≡ Run 1)) ⊎ ((rest ≢ []) × (one ≡ rest_of_one w.list.style coder.begun coder.placed coder.place n)))
-      → next ≡ bytes ++ chunk_bytes (runs_by one n)
-      → StateAfter w.list.style (replicate n (previous b.past) ++ b.past) next_table next_coder.last
-      → StyleAfter (replicate n (previous b.past) ++ b.past) (last_chunk b.before (runs_by (Run 1) n)) next_coder.place next_coder.begun next_coder.placed
+      → (n % 62 ≡ 1 → ((rest ≡ []) × (one ≡ Run 1)) ⊎ ((rest ≢ []) × (one ≡ single coder n)))
+      → next ≡ bytes ++ chunk_bytes (runs_by one n) → next_coder.style ≡ coder.style
+      → ((past : Past) (before : Option Chunk) → CoderAfter past before table coder
+      → CoderAfter (replicate n (previous past) ++ past) (last_chunk before (runs_by (Run 1) n)) next_table next_coder)
       → CoderBetween w rest next_table next_coder next
-  runs_given n rest one {next_table} {next_coder} {next} split ends one_is written state style_state =
+  group_written n rest one {next_table} {next_coder} {next} split ends one_is written same state =
       let ahead : pixels ≡ replicate n (previous b.past) ++ rest = split ∙ ap (λ p. replicate n p ++ rest) b.state.last_is in
       let start = subst (λ x. StillToWrite w.list b.past x b.todo) ahead b.to_write in
       let stops : (slice_get rest 0 ≢ Some (previous b.past)) ⊎ (n % 62 ≡ 0) = elim ends [
@@ -79,8 +79,9 @@ module _ {w : Writing} {pixels : List RgbaPixel} {table : List RgbaPixel} {coder
         | inr full ↦ inr full
       ] in
       let r = runs_next w.list n rest start stops in
-      let single = λ (e : n % 62 ≡ 1). single_is e r.0 r.2 in
+      let by_one = λ (e : n % 62 ≡ 1). writes_one e r.0 r.2 in
       record {
+        style_is = same ∙ b.style_is;
         past = replicate n (previous b.past) ++ b.past;
         before = last_chunk b.before (runs_by (Run 1) n);
         todo = r.0;
@@ -88,55 +89,52 @@ module _ {w : Writing} {pixels : List RgbaPixel} {table : List RgbaPixel} {coder
         ahead_is = bytes_next w.ahead bytes next (runs_by one n)
             (styled w.list.style (replicate n (previous b.past) ++ b.past) (last_chunk b.before (runs_by (Run 1) n)) r.0)
             (b.ahead_is ∙ ap (λ cs. bytes ++ chunk_bytes (styled w.list.style b.past b.before cs)) r.1
-            ∙ ap (λ cs. bytes ++ chunk_bytes cs) (styled_runs w.list.style b.past b.before n r.0 one single)) written;
-        state = state;
-        style_state = style_state;
+            ∙ ap (λ cs. bytes ++ chunk_bytes cs) (styled_runs w.list.style b.past b.before n r.0 one by_one)) written;
+        state = state b.past b.before b.state;
       }
     where
       -- a rest of 1 stands at the end or before a fresh pixel
-      single_is : n % 62 ≡ 1 → (left : List Chunk) → StillToWrite w.list (replicate n (previous b.past) ++ b.past) rest left
+      writes_one : n % 62 ≡ 1 → (left : List Chunk) → StillToWrite w.list (replicate n (previous b.past) ++ b.past) rest left
           → WritesOne w.list.style b.past b.before n left one
-      single_is e left still = by_one (one_is e) ends
+      writes_one e left still = by_rest (one_is e) ends
         where
-          style_is : rest_of_one w.list.style coder.begun coder.placed coder.place n ≡ rest_of_one w.list.style (some_fresh b.past)
-              (names b.before (hash (previous b.past))) (hash (previous b.past)) n
-          style_is = λ i. rest_of_one w.list.style (b.style_state.begun_is i) (b.style_state.placed_is i) (b.style_state.place_is i) n
+          single_is : single coder n ≡ rest_of_one w.list.style (some_fresh b.past) (names b.before (hash (previous b.past))) (hash (previous b.past)) n
+          single_is =
+              let place = coder.within ∙ ap hash b.state.last_is in
+              λ i. rest_of_one (b.style_is i) (b.state.begun_is i) (b.state.placed_is i) (place i) n
 
           other_first : (slice_get rest 0 ≢ Some coder.last) ⊎ (n % 62 ≡ 0) → slice_get rest 0 ≢ Some coder.last
           other_first (inl other) = other
           other_first (inr full) = absurd (let no : 1 ≡ 0 = sym e ∙ full in cc)
 
-          by_one : ((rest ≡ []) × (one ≡ Run 1)) ⊎ ((rest ≢ []) × (one ≡ rest_of_one w.list.style coder.begun coder.placed coder.place n))
+          by_rest : ((rest ≡ []) × (one ≡ Run 1)) ⊎ ((rest ≢ []) × (one ≡ single coder n))
               → (slice_get rest 0 ≢ Some coder.last) ⊎ (n % 62 ≡ 0) → WritesOne w.list.style b.past b.before n left one
-          by_one (inl (none, is)) stops = inl (
-            none_todo w.list
-                (subst (λ x. StillToWrite w.list (replicate n (previous b.past) ++ b.past) x left) none still),
+          by_rest (inl (none, is)) stops = inl (
+            none_todo w.list (subst (λ x. StillToWrite w.list (replicate n (previous b.past) ++ b.past) x left) none still),
             is,
           )
-          by_one (inr (some, is)) stops = by_rest rest refl
+          by_rest (inr (some, is)) stops = by_first rest refl
             where
-              by_rest : (more : List RgbaPixel) → rest ≡ more → WritesOne w.list.style b.past b.before n left one
-              by_rest [] none = absurd (some none)
-              by_rest (p ∷ more) ahead =
+              by_first : (more : List RgbaPixel) → rest ≡ more → WritesOne w.list.style b.past b.before n left one
+              by_first [] none = absurd (some none)
+              by_first (p ∷ more) ahead =
                   let differs : p ≢ previous (replicate n (previous b.past) ++ b.past) = λ e.
                   other_first stops (ap (λ x. slice_get x 0) ahead ∙ ap (λ q. Some q) (e ∙ previous_repeats n b.past ∙ last_before)) in
                   inr (
                     fresh_todo w.list p more
                         (subst (λ x. StillToWrite w.list (replicate n (previous b.past) ++ b.past) x left) ahead still) differs,
-                    is
-                        ∙ style_is,
+                    is ∙ single_is,
                   )
 
   -- The chunk of a fresh pixel is written.
-  pub chunk_given : (p : RgbaPixel) (rest : List RgbaPixel) (c : Chunk) {next_table : List RgbaPixel} {next_coder : Coder} {next : List ℕ} → pixels ≡ p ∷ rest
-      → p ≢ coder.last → IsChunk c → choice_in w.list.style b.past p c
-      → next ≡ bytes ++ bytes_of c → StateAfter w.list.style (p ∷ b.past) next_table next_coder.last
-      → StyleAfter (p ∷ b.past) (Some c) next_coder.place next_coder.begun next_coder.placed
-      → CoderBetween w rest next_table next_coder next
-  chunk_given p rest c {next_table} {next_coder} {next} ahead differs is choice written state style_state =
+  pub fresh_written : (p : RgbaPixel) (rest : List RgbaPixel) (c : Chunk) {next_table : List RgbaPixel} {next_coder : Coder N} {next : List ℕ}
+      → pixels ≡ p ∷ rest → p ≢ coder.last → IsChunk c → choice_in w.list.style b.past p c → next ≡ bytes ++ bytes_of c
+      → next_coder.style ≡ coder.style → CoderAfter (p ∷ b.past) (Some c) next_table next_coder → CoderBetween w rest next_table next_coder next
+  fresh_written p rest c {next_table} {next_coder} {next} ahead differs is choice written same state =
       let choices = chooses_in w.list.style in
       let r = chunk_next w.list b.to_write p rest c ahead (λ e. differs (e ∙ last_before)) is choice in
       record {
+        style_is = same ∙ b.style_is;
         past = p ∷ b.past;
         before = Some c;
         todo = r.0;
@@ -147,21 +145,20 @@ module _ {w : Writing} {pixels : List RgbaPixel} {table : List RgbaPixel} {coder
             (choices.gives b.past p c choice)))
             (written ∙ ap (λ x. bytes ++ x) (sym (append-nil (bytes_of c))));
         state = state;
-        style_state = style_state;
       }
 
-  -- The first bytes are given away, and the others are kept.
-  pub piece_given : (gone kept : List ℕ) → bytes ≡ gone ++ kept
+  -- The first bytes are sent, and the others are kept.
+  pub front_sent : (gone kept : List ℕ) → bytes ≡ gone ++ kept
       → (ahead : List ℕ) × (w.ahead ≡ gone ++ ahead) × CoderBetween (record w { ahead = ahead }) pixels table coder kept
-  piece_given gone kept split = (
+  front_sent gone kept split = (
     kept ++ chunk_bytes (styled w.list.style b.past b.before b.todo),
     b.ahead_is ∙ ap (λ x. x ++ chunk_bytes (styled w.list.style b.past b.before b.todo)) split
         ∙ append_assoc gone kept (chunk_bytes (styled w.list.style b.past b.before b.todo)),
-    record { past = b.past; before = b.before; todo = b.todo; to_write = b.to_write; ahead_is = refl; state = b.state; style_state = b.style_state },
+    record { style_is = b.style_is; past = b.past; before = b.before; todo = b.todo; to_write = b.to_write; ahead_is = refl; state = b.state },
   )
 
 -- at the end of the pixels nothing is ahead but the bytes
-pub all_given : {w : Writing} {table : List RgbaPixel} {coder : Coder} {bytes : List ℕ} → CoderBetween w [] table coder bytes → w.ahead ≡ bytes
-all_given {w} {bytes = bytes} b =
+pub all_written : {N : ℕ} {w : Writing} {table : List RgbaPixel} {coder : Coder N} {bytes : List ℕ} → CoderBetween w [] table coder bytes → w.ahead ≡ bytes
+all_written {w = w} {bytes = bytes} b =
     b.ahead_is ∙ ap (λ cs. bytes ++ chunk_bytes (styled w.list.style b.past b.before cs)) (none_todo w.list b.to_write)
     ∙ ap (λ cs. bytes ++ chunk_bytes cs) (styled_none w.list.style b.past b.before) ∙ append-nil bytes

@@ -5,15 +5,15 @@ use Rattle.qoi.specs.declared.chunk.Chunk.{Chunk}
 use Rattle.qoi.specs.declared.chunk.Chunk.TheVariants.{Place}
 use Rattle.qoi.specs.declared.types.Style.{Style}
 use Rattle.qoi.specs.declared.types.Style.TheVariants.{Reference, Places, Tight}
-use Rattle.qoi.specs.Qoi.{RgbaPixel, Past, start, previous, hash, IsChunk, seen}
+use Rattle.qoi.specs.Qoi.{RgbaPixel, Past, previous, hash, IsChunk, seen}
 use Rattle.qoi.specs.inner.Table.{Holds}
-use Rattle.qoi.specs.inner.Quad.{HasBytes}
+use Rattle.qoi.specs.inner.Lanes.{HasBytes}
 use Rattle.qoi.specs.Written.{fresh, IsFirst}
-use Rattle.qoi.specs.Styles.{has_pixel, names, choice_in}
-use Rattle.qoi.specs.inner.CoderState.{held_in, StateAfter, StyleAfter}
+use Rattle.qoi.specs.Styles.{names, choice_in}
+use Rattle.qoi.specs.inner.CoderState.{held_in}
 use Rattle.qoi.proofs.format.ChunkSteps.{previous_repeats}
 use Rattle.qoi.proofs.format.SamePixels.{hash_below}
-use Rattle.qoi.proofs.decoding.SeenTable.{holds_copies, previous_copies}
+use Rattle.qoi.proofs.decoding.SeenTable.{holds_copies}
 use Rattle.qoi.proofs.encoding.SpelledLanes.{place_bytes}
 use Rattle.qoi.proofs.encoding.NotedPixels.{fresh_repeat, fresh_more}
 use Rattle.qoi.proofs.encoding.TightChoice.{tight_no_place}
@@ -64,23 +64,16 @@ module _ (style : Style) (past : Past) (px at : RgbaPixel) (i : ℕ) (place : i 
       let o = other (not_there test) in
       (o.0, o.1, o.2, o.3, sym (other_place style past px o.0 (not_there test) o.3))
 
-  -- so it is in the coder
-  pub style_put : (same : Bool) (c : Chunk) → px ≢ previous past → same ≡ names (Some c) (hash px) → StyleAfter (px ∷ past) (Some c) i true same
-  style_put same c differs named = record { place_is = place; begun_is = sym (ap has_pixel (fresh_more past px differs)); placed_is = named }
-
 -- before the first pixel none is put
-pub state_none : (style : Style) (table : List RgbaPixel) (last : RgbaPixel) → Holds table [] → last ≡ start → StateAfter style [] table last
-state_none style table last holds is = record { table_is = go style; last_is = is }
-  where
-    go : (style : Style) → Holds table (held_in style [])
-    go Reference = holds
-    go Places = holds
-    go Tight = holds
+pub none_held : (style : Style) (table : List RgbaPixel) → Holds table [] → Holds table (held_in style [])
+none_held Reference table holds = holds
+none_held Places table holds = holds
+none_held Tight table holds = holds
 
 -- a fresh pixel is put at its index position
-pub state_put : (style : Style) (past : Past) (old table : List RgbaPixel) (last px : RgbaPixel) → px ≢ previous past → StateAfter style past old last
-    → ((held : Past) → Holds old held → Holds table (px ∷ held)) → StateAfter style (px ∷ past) table px
-state_put style past old table last px differs s puts = record { table_is = go style (puts (held_in style past) s.table_is); last_is = refl }
+pub fresh_held : (style : Style) (past : Past) (old table : List RgbaPixel) (px : RgbaPixel) → px ≢ previous past → Holds old (held_in style past)
+    → ((held : Past) → Holds old held → Holds table (px ∷ held)) → Holds table (held_in style (px ∷ past))
+fresh_held style past old table px differs s puts = go style (puts (held_in style past) s)
   where
     go : (style : Style) → Holds table (px ∷ held_in style past) → Holds table (held_in style (px ∷ past))
     go Reference h = subst (λ x. Holds table x) (sym (fresh_more past px differs)) h
@@ -92,34 +85,17 @@ pub fresh_repeats : (k : ℕ) (past : Past) → fresh (replicate k (previous pas
 fresh_repeats zero past = refl
 fresh_repeats (suc k) past = fresh_repeat (replicate k (previous past) ++ past) (previous past) (sym (previous_repeats k past)) ∙ fresh_repeats k past
 
--- repeats change nothing of it
-repeats_stay : (n : ℕ) (past : Past) (table : List RgbaPixel) → Holds table (fresh past) → Holds table (fresh (replicate n (previous past) ++ past))
-repeats_stay n past table holds = subst (λ x. Holds table x) (sym (fresh_repeats n past)) holds
-
 -- repeats that aren't put, where the fresh pixels alone are
-pub state_unput : (style : Style) (n : ℕ) (past : Past) (table : List RgbaPixel) (last : RgbaPixel) → (style ≡ Reference) ⊎ (style ≡ Places)
-    → StateAfter style past table last → StateAfter style (replicate n (previous past) ++ past) table last
-state_unput style n past table last (inl is) s = rw is (record {
-  table_is = repeats_stay n past table (rw is at s.table_is);
-  last_is = s.last_is
-      ∙ sym (previous_repeats n past);
-})
-state_unput style n past table last (inr is) s = rw is (record {
-  table_is = repeats_stay n past table (rw is at s.table_is);
-  last_is = s.last_is
-      ∙ sym (previous_repeats n past);
-})
+pub repeats_unput : (style : Style) (n : ℕ) (past : Past) (table : List RgbaPixel) → (style ≡ Reference) ⊎ (style ≡ Places)
+    → Holds table (held_in style past) → Holds table (held_in style (replicate n (previous past) ++ past))
+repeats_unput style n past table (inl is) s = rw (is, fresh_repeats n past) (rw is at s)
+repeats_unput style n past table (inr is) s = rw (is, fresh_repeats n past) (rw is at s)
 
--- repeats that are put, in style Tight
-pub state_put_again : (n : ℕ) (past : Past) (old table : List RgbaPixel) (last : RgbaPixel) → 0 < n → StateAfter Tight past old last
-    → ((held : Past) → Holds old held → Holds table (last ∷ held)) → StateAfter Tight (replicate n (previous past) ++ past) table last
-state_put_again n past old table last some s puts =
-    let once = subst (λ p. Holds table (p ∷ past)) s.last_is (puts past s.table_is) in
-    record { table_is = holds_copies table (previous past) past n some once; last_is = s.last_is ∙ sym (previous_copies n (previous past) past some) }
-
--- repeats that are put if there are any
-pub state_put_some : (n : ℕ) (past : Past) (old table : List RgbaPixel) (last : RgbaPixel)
-    → (IsTrue (nat_lt 0 n) → (held : Past) → Holds old held → Holds table (last ∷ held)) → (IsFalse (nat_lt 0 n) → table ≡ old)
-    → StateAfter Tight past old last → StateAfter Tight (replicate n (previous past) ++ past) table last
-state_put_some zero past old table last puts stays s = subst (λ t. StateAfter Tight past t last) (sym (stays refl)) s
-state_put_some (suc n) past old table last puts stays s = state_put_again (suc n) past old table last (omega arith) s (puts (lt-ltb 0 (suc n) (omega arith)))
+-- repeats that are put, if there are any, in style Tight
+pub repeats_put : (n : ℕ) (past : Past) (old table : List RgbaPixel)
+    → (IsTrue (nat_lt 0 n) → (held : Past) → Holds old held → Holds table (previous past ∷ held)) → (IsFalse (nat_lt 0 n) → table ≡ old)
+    → Holds old past → Holds table (replicate n (previous past) ++ past)
+repeats_put zero past old table puts stays s = subst (λ t. Holds t past) (sym (stays refl)) s
+repeats_put (suc n) past old table puts stays s =
+    let some : 0 < suc n = omega arith in
+    holds_copies table (previous past) past (suc n) some (puts (lt-ltb 0 (suc n) some) past s)

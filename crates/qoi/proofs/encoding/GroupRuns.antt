@@ -11,6 +11,11 @@ use Rattle.qoi.proofs.decoding.FilledBuffer.{whole_pixels}
 use Rattle.qoi.proofs.format.ChunkSteps.{repeats_after}
 use Rattle.qoi.proofs.format.RawPixels.{length-pixels_of, pixels_of-append, pixels_of-next}
 
+-- what holds of three channels and of four
+pub by_channels : {n : ℕ} (P : ℕ → Type 0) → IsChannels n → P 3 → P 4 → P n
+by_channels P (inl e) three four = subst P (sym e) three
+by_channels P (inr e) three four = subst P (sym e) four
+
 -- two and more aren't one
 pub not_one : (n : ℕ) → (suc (suc n) == 1) ≡ false
 not_one n = ne_eqb (suc (suc n)) 1 (λ e. omega arith)
@@ -33,8 +38,8 @@ pub first_of : (n : ℕ) (rest front after : List ℕ) → IsChannels n → rest
 first_of n rest front after is split size = ap (λ x. slice_get x 0) (ap (pixels_of n) split ∙ pixels_of-next n front after is size)
 
 -- equal where both are there
-pub some_same : (a b : RgbaPixel) → Some a ≡ Some b → a ≡ b
-some_same a b e = cc
+pub some_same : {a b : RgbaPixel} → Some a ≡ Some b → a ≡ b
+some_same e = cc
 
 -- so many pixels that are p, and then others
 pub count_of : (p : RgbaPixel) (pixels rest : List RgbaPixel) (n : ℕ) → pixels ≡ replicate n p ++ rest → slice_get rest 0 ≢ Some p → IsCount p pixels n
@@ -57,8 +62,7 @@ pub record RepeatsSoFar (n : ℕ) (bytes rest : List ℕ) (p : RgbaPixel) (count
 
 -- no more pixels than bytes
 pub counted_within : (n count more len : ℕ) → IsChannels n → n * count + more ≡ len → count + more ≤ len
-counted_within n count more len (inl e) = subst (λ k. k * count + more ≡ len → count + more ≤ len) (sym e) (λ s. omega arith)
-counted_within n count more len (inr e) = subst (λ k. k * count + more ≡ len → count + more ≤ len) (sym e) (λ s. omega arith)
+counted_within n count more len is = by_channels (λ k. k * count + more ≡ len → count + more ≤ len) is (λ s. omega arith) (λ s. omega arith)
 
 -- sixteen pixels more are p
 pub repeats_block : (n : ℕ) (bytes rest after : List ℕ) (p : RgbaPixel) (count : ℕ) → IsChannels n → RepeatsSoFar n bytes rest p count → n * 16 ≤ length rest
@@ -72,10 +76,8 @@ repeats_block n bytes rest after p count is w room behind block = record {
   where
     sums : (n : ℕ) → IsChannels n → length after + n * 16 ≡ length rest → n * count + length rest ≡ length bytes
         → n * (count + 16) + length after ≡ length bytes
-    sums n (inl e) = subst (λ k. length after + k * 16 ≡ length rest → k * count + length rest ≡ length bytes
-        → k * (count + 16) + length after ≡ length bytes) (sym e) (λ a b. omega arith)
-    sums n (inr e) = subst (λ k. length after + k * 16 ≡ length rest → k * count + length rest ≡ length bytes
-        → k * (count + 16) + length after ≡ length bytes) (sym e) (λ a b. omega arith)
+    sums n is = by_channels (λ k. length after + k * 16 ≡ length rest → k * count + length rest ≡ length bytes
+        → k * (count + 16) + length after ≡ length bytes) is (λ a b. omega arith) (λ a b. omega arith)
 
 -- the member at an index is the first behind as many
 nth_first : (k : ℕ) (xs : List RgbaPixel) → slice_get xs k ≡ slice_get (drop k xs) 0
@@ -89,6 +91,19 @@ pub counted_on : (p : RgbaPixel) (pixels rest : List RgbaPixel) (n more : ℕ) �
 counted_on p pixels rest n more e w = count_of p pixels (drop more rest) (n + more)
     (e ∙ ap (λ x. replicate n p ++ x) w.same ∙ repeats_after n more p (drop more rest)) (λ same. w.other (nth_first more rest ∙ same))
 
+-- the rest is whole, too
+pub whole_rest : (n count len : ℕ) → IsChannels n → len % n ≡ 0 → n * count ≤ len → (len - n * count) % n ≡ 0
+whole_rest n count len is = by_channels (λ k. len % k ≡ 0 → k * count ≤ len → (len - k * count) % k ≡ 0) is (λ a b. omega arith) (λ a b. omega arith)
+
+-- pixels behind others are those of the bytes behind theirs
+pub pixels_drop : (n k : ℕ) (bytes : List ℕ) → IsChannels n → n * k ≤ length bytes → drop k (pixels_of n bytes) ≡ pixels_of n (drop (n * k) bytes)
+pixels_drop n k bytes is inside =
+    let size : length (take (n * k) bytes) ≡ n * k = length-take-le (n * k) bytes inside in
+    ap (λ x. drop k (pixels_of n x)) (sym (take-append-drop (n * k) bytes))
+    ∙ ap (drop k) (pixels_of-append n k (take (n * k) bytes) (drop (n * k) bytes) is size)
+    ∙ ap (λ j. drop j (pixels_of n (take (n * k) bytes) ++ pixels_of n (drop (n * k) bytes))) (sym (length-pixels_of n k (take (n * k) bytes) is size))
+    ∙ drop-append_seam (pixels_of n (take (n * k) bytes)) (pixels_of n (drop (n * k) bytes))
+
 -- The pixels of the bytes are so many of q, and then those of the bytes behind them, of which the first is another.
 pub record Group (n : ℕ) (bytes : List ℕ) (q : RgbaPixel) (count : ℕ) : Type 0 where
   pub within : n * count ≤ length bytes
@@ -97,13 +112,13 @@ pub record Group (n : ℕ) (bytes : List ℕ) (q : RgbaPixel) (count : ℕ) : Ty
   pub whole : length (drop (n * count) bytes) % n ≡ 0
 
 -- counted repeats are a group
-pub group_of : (n : ℕ) (bytes : List ℕ) (q : RgbaPixel) (count : ℕ) → IsChannels n → length bytes % n ≡ 0 → IsCount q (pixels_of n bytes) count
+group_of : (n : ℕ) (bytes : List ℕ) (q : RgbaPixel) (count : ℕ) → IsChannels n → length bytes % n ≡ 0 → IsCount q (pixels_of n bytes) count
     → Group n bytes q count
 group_of n bytes q count is whole w = record {
   within = inside;
   pixels = w.same ∙ ap (λ x. replicate count q ++ x) behind;
   other = λ e. w.other (nth_first count (pixels_of n bytes) ∙ ap (λ x. slice_get x 0) behind ∙ e);
-  whole = rw length-drop (still is);
+  whole = rw length-drop (whole_rest n count (length bytes) is whole inside);
 }
   where
     size : length bytes ≡ n * (length bytes / n)
@@ -119,40 +134,10 @@ group_of n bytes q count is whole w = record {
     )
 
     inside : n * count ≤ length bytes
-    inside = by_channels is
-      where
-        by_channels : IsChannels n → n * count ≤ length bytes
-        by_channels (inl e) = let m = enough in subst (λ k. count ≤ length bytes / k → k * count ≤ length bytes) (sym e) (λ h. omega arith) m
-        by_channels (inr e) = let m = enough in subst (λ k. count ≤ length bytes / k → k * count ≤ length bytes) (sym e) (λ h. omega arith) m
-
-    front : List ℕ
-    front = take (n * count) bytes
-
-    length_front : length (take (n * count) bytes) ≡ n * count
-    length_front = length-take-le (n * count) bytes inside
+    inside = by_channels (λ k. count ≤ length bytes / k → k * count ≤ length bytes) is (λ h. omega arith) (λ h. omega arith) enough
 
     behind : drop count (pixels_of n bytes) ≡ pixels_of n (drop (n * count) bytes)
-    behind =
-        ap (λ x. drop count (pixels_of n x)) (sym (take-append-drop (n * count) bytes))
-        ∙ ap (drop count) (pixels_of-append n count (take (n * count) bytes) (drop (n * count) bytes) is length_front)
-        ∙ ap (λ k. drop k (pixels_of n (take (n * count) bytes) ++ pixels_of n (drop (n * count) bytes)))
-        (sym (length-pixels_of n count (take (n * count) bytes) is length_front))
-        ∙ drop-append_seam (pixels_of n (take (n * count) bytes)) (pixels_of n (drop (n * count) bytes))
-
-    still : IsChannels n → (length bytes - n * count) % n ≡ 0
-    still (inl e) = let m = whole in let h = inside in subst (λ k. length bytes % k ≡ 0 → k * count ≤ length bytes → (length bytes - k * count) % k ≡ 0)
-        (sym e) (λ a b. omega arith) m h
-    still (inr e) = let m = whole in let h = inside in subst (λ k. length bytes % k ≡ 0 → k * count ≤ length bytes → (length bytes - k * count) % k ≡ 0)
-        (sym e) (λ a b. omega arith) m h
-
--- pixels behind others are those of the bytes behind theirs
-pub pixels_drop : (n k : ℕ) (bytes : List ℕ) → IsChannels n → n * k ≤ length bytes → drop k (pixels_of n bytes) ≡ pixels_of n (drop (n * k) bytes)
-pixels_drop n k bytes is inside =
-    let size : length (take (n * k) bytes) ≡ n * k = length-take-le (n * k) bytes inside in
-    ap (λ x. drop k (pixels_of n x)) (sym (take-append-drop (n * k) bytes))
-    ∙ ap (drop k) (pixels_of-append n k (take (n * k) bytes) (drop (n * k) bytes) is size)
-    ∙ ap (λ j. drop j (pixels_of n (take (n * k) bytes) ++ pixels_of n (drop (n * k) bytes))) (sym (length-pixels_of n k (take (n * k) bytes) is size))
-    ∙ drop-append_seam (pixels_of n (take (n * k) bytes)) (pixels_of n (drop (n * k) bytes))
+    behind = pixels_drop n count bytes is inside
 
 -- bytes of whole pixels have a pixel, if there are any
 pub some_pixels : (n : ℕ) (bytes : List ℕ) → IsChannels n → length bytes % n ≡ 0 → 0 < length bytes → pixels_of n bytes ≢ []
@@ -163,8 +148,7 @@ some_pixels n bytes is whole some none =
     no_bytes n (length bytes) is some (omega (arith, count)) size
   where
     no_bytes : (n len : ℕ) → IsChannels n → 0 < len → len / n ≡ 0 → len ≡ n * (len / n) → ⊥
-    no_bytes n len (inl e) some none size = let h = some in subst (λ k. len / k ≡ 0 → len ≡ k * (len / k) → ⊥) (sym e) (λ a b. omega arith) none size
-    no_bytes n len (inr e) some none size = let h = some in subst (λ k. len / k ≡ 0 → len ≡ k * (len / k) → ⊥) (sym e) (λ a b. omega arith) none size
+    no_bytes n len is some = by_channels (λ k. len / k ≡ 0 → len ≡ k * (len / k) → ⊥) is (λ a b. omega (arith, some)) (λ a b. omega (arith, some))
 
 -- The repeats at the front of bytes, of which some are looked at: they stand ahead, and another pixel, or none, is behind
 -- them, or as many were found as were looked at.
@@ -175,22 +159,14 @@ pub record NearGroup (n : ℕ) (bytes : List ℕ) (q : RgbaPixel) (most count : 
   pub ends : (slice_get (pixels_of n (drop (n * count) bytes)) 0 ≢ Some q) ⊎ (count ≡ most)
   pub whole : length (drop (n * count) bytes) % n ≡ 0
 
--- the rest is whole, too
-pub whole_rest : (n count len : ℕ) → IsChannels n → len % n ≡ 0 → n * count ≤ len → (len - n * count) % n ≡ 0
-whole_rest n count len (inl e) whole inside = subst (λ k. len % k ≡ 0 → k * count ≤ len → (len - k * count) % k ≡ 0) (sym e) (λ a b. omega arith) whole inside
-whole_rest n count len (inr e) whole inside = subst (λ k. len % k ≡ 0 → k * count ≤ len → (len - k * count) % k ≡ 0) (sym e) (λ a b. omega arith) whole inside
-
 few_of : (n count most : ℕ) → IsChannels n → n * count ≤ n * most → count ≤ most
-few_of n count most (inl e) l = subst (λ k. k * count ≤ k * most → count ≤ most) (sym e) (λ a. omega arith) l
-few_of n count most (inr e) l = subst (λ k. k * count ≤ k * most → count ≤ most) (sym e) (λ a. omega arith) l
+few_of n count most is = by_channels (λ k. k * count ≤ k * most → count ≤ most) is (λ a. omega arith) (λ a. omega arith)
 
 whole_times : (n k : ℕ) → IsChannels n → n * k % n ≡ 0
-whole_times n k (inl e) = subst (λ j. j * k % j ≡ 0) (sym e) (omega arith)
-whole_times n k (inr e) = subst (λ j. j * k % j ≡ 0) (sym e) (omega arith)
+whole_times n k is = by_channels (λ j. j * k % j ≡ 0) is (omega arith) (omega arith)
 
 times_rest : (n most count : ℕ) → IsChannels n → count ≤ most → n * most - n * count ≡ n * (most - count)
-times_rest n most count (inl e) l = subst (λ j. j * most - j * count ≡ j * (most - count)) (sym e) (omega arith)
-times_rest n most count (inr e) l = subst (λ j. j * most - j * count ≡ j * (most - count)) (sym e) (omega arith)
+times_rest n most count is l = by_channels (λ j. j * most - j * count ≡ j * (most - count)) is (omega arith) (omega arith)
 
 pub near_group : (n : ℕ) (bytes : List ℕ) (q : RgbaPixel) (most count m : ℕ) → IsChannels n → length bytes % n ≡ 0 → m ≡ min (length bytes) (n * most)
     → IsCount q (pixels_of n (take m bytes)) count → NearGroup n bytes q most count
@@ -235,13 +211,12 @@ near_group n bytes q most count m is whole m_is counted = go (cases_lt (n * most
 
 -- pixels have bytes
 pub some_bytes : (n k : ℕ) → IsChannels n → 0 < k → 0 < n * k
-some_bytes n k (inl e) some = subst (λ j. 0 < j * k) (sym e) (omega arith)
-some_bytes n k (inr e) some = subst (λ j. 0 < j * k) (sym e) (omega arith)
+some_bytes n k is some = by_channels (λ j. 0 < j * k) is (omega arith) (omega arith)
 
 -- the bytes behind a pixel that is behind others
 pub drop_next : (n k : ℕ) (bytes : List ℕ) → IsChannels n → drop n (drop (n * k) bytes) ≡ drop (n * (k + 1)) bytes
-drop_next n k bytes (inl e) = drop-drop n (n * k) bytes ∙ ap (λ j. drop j bytes) (subst (λ j. j * k + j ≡ j * (k + 1)) (sym e) (omega arith))
-drop_next n k bytes (inr e) = drop-drop n (n * k) bytes ∙ ap (λ j. drop j bytes) (subst (λ j. j * k + j ≡ j * (k + 1)) (sym e) (omega arith))
+drop_next n k bytes is = drop-drop n (n * k) bytes
+    ∙ ap (λ j. drop j bytes) (by_channels (λ j. j * k + j ≡ j * (k + 1)) is (omega arith) (omega arith))
 
 -- the first pixel of whole bytes, and those behind it
 pub pixel_ahead : (n : ℕ) (bytes : List ℕ) → IsChannels n → length bytes % n ≡ 0 → 0 < length bytes
@@ -250,5 +225,4 @@ pixel_ahead n bytes is whole some = ap (pixels_of n) (sym (take-append-drop n by
     ∙ pixels_of-next n (take n bytes) (drop n bytes) is (length-take-le n bytes (enough n (length bytes) is whole some))
   where
     enough : (n len : ℕ) → IsChannels n → len % n ≡ 0 → 0 < len → n ≤ len
-    enough n len (inl e) whole some = subst (λ k. len % k ≡ 0 → k ≤ len) (sym e) (λ a. omega arith) whole
-    enough n len (inr e) whole some = subst (λ k. len % k ≡ 0 → k ≤ len) (sym e) (λ a. omega arith) whole
+    enough n len is whole some = by_channels (λ k. len % k ≡ 0 → k ≤ len) is (λ a. omega arith) (λ a. omega arith) whole

@@ -5,7 +5,7 @@ use Rattle.std.proofs.lemmas.List.{get_or-take, length-take-le, length-map}
 use Rattle.qoi.specs.Qoi.{AreBytes, RgbaPixel, IsPixel}
 use Rattle.qoi.specs.Raw.{IsChannels, pixels_of, pixels_of_3, pixels_of_4}
 use Rattle.qoi.specs.inner.Packed.{word}
-use Rattle.qoi.specs.inner.Quad.{SameAlpha, AreOpaqueWords}
+use Rattle.qoi.specs.inner.Lanes.{SameAlpha, AreOpaqueWords, AreFourAfter}
 
 -- enough bytes have four pixels
 three_long : (bytes : List ℕ) → 16 ≤ length bytes → 4 ≤ length (pixels_of_3 bytes)
@@ -52,29 +52,27 @@ all_take zero ps a = tt
 all_take (suc n) [] a = tt
 all_take (suc n) (p ∷ ps) a = (a.0, all_take n ps a.1)
 
-module _ (pixels : List RgbaPixel) (last : ℕ) (cur prev : List ℕ) (long : 4 ≤ length pixels) (are : AllByRecursion IsPixel pixels)
-    (ce : cur ≡ map word (take 4 pixels)) (pe : prev ≡ last ∷ take 3 cur) where
+-- of four pixels after the ones before them
+module _ {last : RgbaPixel} {pixels : List RgbaPixel} {cur prev : List ℕ} (are : AreFourAfter last pixels cur prev) where
   pub cur_length : length cur ≡ 4
-  cur_length = ap length ce ∙ length-map (take 4 pixels) word ∙ length-take-le 4 pixels long
+  cur_length = ap length are.pixels_are ∙ length-map (take 4 pixels) word ∙ length-take-le 4 pixels are.long
 
   pub prev_length : length prev ≡ 4
-  prev_length = ap length pe ∙ omega (arith, length-take-le 3 cur (omega (arith, cur_length)))
+  prev_length = ap length are.before_are ∙ omega (arith, length-take-le 3 cur (omega (arith, cur_length)))
 
   pub cur_below : (k : ℕ) → slice_index cur k < 2 ^ 32
-  cur_below k = subst (λ xs. slice_index xs k < 2 ^ 32) (sym ce) (words_below (take 4 pixels) k (all_take 4 pixels are))
+  cur_below k = subst (λ xs. slice_index xs k < 2 ^ 32) (sym are.pixels_are) (words_below (take 4 pixels) k (all_take 4 pixels are.are))
 
-  pub prev_below : (k : ℕ) → k < 4 → last < 2 ^ 32 → slice_index prev k < 2 ^ 32
-  prev_below k lt l = subst (λ xs. slice_index xs k < 2 ^ 32) (sym pe) (go k lt)
+  pub prev_below : (k : ℕ) → k < 4 → slice_index prev k < 2 ^ 32
+  prev_below k lt = subst (λ xs. slice_index xs k < 2 ^ 32) (sym are.before_are) (go k lt)
     where
-      go : (k : ℕ) → k < 4 → slice_index (last ∷ take 3 cur) k < 2 ^ 32
-      go zero lt = l
+      go : (k : ℕ) → k < 4 → slice_index (word last ∷ take 3 cur) k < 2 ^ 32
+      go zero lt = let i = are.last_is in omega (arith, i.r, i.g, i.b, i.a)
       go (suc k) lt = rw (get_or-take 3 cur k 0 (omega arith)) (cur_below k)
 
--- the last pixel of a group is that before the next lane
-pub px_next : (cur : List ℕ) (last lane n : ℕ) → lane + (n + 1) < 4 → slice_index cur (lane + n) ≡ slice_index (last ∷ take 3 cur) (lane + (n + 1))
-px_next cur last lane n l =
-    let next : suc (lane + n) ≡ lane + (n + 1) = omega arith in
-    sym (get_or-take 3 cur (lane + n) 0 (omega arith)) ∙ ap (slice_index (last ∷ take 3 cur)) next
+  -- the pixel of a lane is that before the next lane
+  pub next_before : (k : ℕ) → suc k < 4 → slice_index prev (suc k) ≡ slice_index cur k
+  next_before k lt = ap (λ ws. slice_index ws (suc k)) are.before_are ∙ get_or-take 3 cur k 0 (omega arith)
 
 -- of three channels the lanes are opaque
 opaque_three : (bytes : List ℕ) → AreBytes bytes → 16 ≤ length bytes → AreOpaqueWords (map word (take 4 (pixels_of_3 bytes)))

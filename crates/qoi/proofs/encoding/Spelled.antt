@@ -85,7 +85,7 @@ luma_bits q p f = bits _ _ _ f.r f.g f.b
     bits r g b hr hg hb = (omega arith, omega arith, omega arith)
 
 -- where the differences fit, the Diff gives the pixel
-pub diff_gives : (q p : RgbaPixel) → IsPixel q → IsPixel p → p.a ≡ q.a → FitsDiff q p → after_diff q (diff_byte q p) ≡ p
+diff_gives : (q p : RgbaPixel) → IsPixel q → IsPixel p → p.a ≡ q.a → FitsDiff q p → after_diff q (diff_byte q p) ≡ p
 unfolding after_diff
 diff_gives q p iq ip alpha f =
     let k = diff_bits q p f in
@@ -96,7 +96,7 @@ diff_gives q p iq ip alpha f =
     (sym alpha)
 
 -- where the differences fit, the Luma gives the pixel
-pub luma_gives : (q p : RgbaPixel) → IsPixel q → IsPixel p → p.a ≡ q.a → FitsLuma q p → after_luma q (luma_byte q p) (luma_second q p) ≡ p
+luma_gives : (q p : RgbaPixel) → IsPixel q → IsPixel p → p.a ≡ q.a → FitsLuma q p → after_luma q (luma_byte q p) (luma_second q p) ≡ p
 unfolding after_luma
 luma_gives q p iq ip alpha f =
     let k = luma_bits q p f in
@@ -107,7 +107,7 @@ luma_gives q p iq ip alpha f =
     (sym alpha)
 
 -- where a Diff gives the pixel, the differences fit
-pub fits_from_diff : (q p : RgbaPixel) (d : ℕ) → IsPixel q → after_diff q d ≡ p → FitsDiff q p
+fits_from_diff : (q p : RgbaPixel) (d : ℕ) → IsPixel q → after_diff q d ≡ p → FitsDiff q p
 unfolding after_diff
 fits_from_diff q p d iq e = record {
   r = diff_fits p.r q.r (d / 16 % 4) iq.r (omega arith) (ap (λ x. x.r) e);
@@ -116,7 +116,7 @@ fits_from_diff q p d iq e = record {
 }
 
 -- where a Luma gives the pixel, the differences fit
-pub fits_from_luma : (q p : RgbaPixel) (d e : ℕ) → IsPixel q → e < 256 → after_luma q d e ≡ p → FitsLuma q p
+fits_from_luma : (q p : RgbaPixel) (d e : ℕ) → IsPixel q → e < 256 → after_luma q d e ≡ p → FitsLuma q p
 unfolding after_luma
 fits_from_luma q p d e iq he s =
     let r = ap (λ x. x.r) s in

@@ -1,13 +1,13 @@
 -- The first chunk that spells a pixel out, as the lanes of a vector find it.
-use Rattle.std.proofs.Common.{◌≡◌, ◌↔◌, ℕ, zero, suc, ◌+◌, ◌*◌, ◌/◌, ◌%◌, ◌^◌, ◌<◌, ◌≤◌, Bool, true, false, inl, inr, cond, eqb, eqb-true, eq-eqb, IsTrue, List, [], ◌∷◌, ◌++◌, length, take, slice_index, refl, sym, ap, ◌∙◌, arith, bit_and, Fits, w32, subst}
+use Rattle.std.proofs.Common.{◌≡◌, ◌↔◌, ℕ, zero, suc, ◌+◌, ◌*◌, ◌/◌, ◌%◌, ◌^◌, ◌<◌, ◌≤◌, Bool, true, false, inl, inr, cond, eqb, eqb-true, eq-eqb, IsTrue, List, [], ◌∷◌, ◌++◌, length, take, slice_index, refl, sym, ap, ◌∙◌, arith, bit_and, Fits, w32}
 use Rattle.std.proofs.lemmas.Nat.{and_mask, and_block}
 use lib.Lanes.{Each1, digits_l}
 use Rattle.qoi.specs.declared.chunk.Chunk.{Chunk}
 use Rattle.qoi.specs.Qoi.{RgbaPixel, IsPixel, IsChunk, bytes_of}
 use Rattle.qoi.specs.Raw.{IsChannels}
 use Rattle.qoi.specs.inner.Packed.{word, pixel_of_word}
-use Rattle.qoi.specs.inner.Steps.{steps, diff_steps, luma_steps}
-use Rattle.qoi.specs.inner.Quad.{stepped, step_word, diff_word, luma_word, plus_32, diff_number, luma_number, rgb_number, spelled_number, spelled_count, SameAlpha, IsSpelled}
+use Rattle.qoi.specs.declared.encode.quad.Quad.{Quad}
+use Rattle.qoi.specs.inner.Lanes.{steps, diff_steps, luma_steps, stepped, step_word, diff_word, luma_word, plus_32, diff_number, luma_number, rgb_number, spelled_number, spelled_count, SameAlpha, IsSpelled}
 use Rattle.qoi.proofs.format.SamePixels.{same_pixel}
 use Rattle.qoi.proofs.encoding.SpelledSteps.{diff_bits, luma_bits, spelled, spelled_first}
 
@@ -210,18 +210,19 @@ lane_fits [] k f = omega arith
 lane_fits (x ∷ xs) zero f = f.0.fits
 lane_fits (x ∷ xs) (suc k) f = lane_fits xs k f.1
 
-pub lanes_spelled : (cur prev numbers counts : List ℕ) → length cur ≡ 4 → length prev ≡ 4 → Each1 (Fits w32) cur → Each1 (Fits w32) prev
-    → numbers ≡ stepped spelled_number cur prev → counts ≡ stepped spelled_count cur prev
-    → (k : ℕ) → k < 4 → (c : Chunk) × IsSpelled (slice_index cur k) (slice_index prev k) (slice_index numbers k) (slice_index counts k) c
-lanes_spelled cur prev numbers counts e g f h ne ce k lt =
-    let p = slice_index cur k in
-    let q = slice_index prev k in
-    let n : slice_index numbers k ≡ spelled_number p q = ap (λ xs. slice_index xs k) ne ∙ stepped_at spelled_number cur prev k (omega arith) (omega arith) in
-    let m : slice_index counts k ≡ spelled_count p q = ap (λ xs. slice_index xs k) ce ∙ stepped_at spelled_count cur prev k (omega arith) (omega arith) in
-    let lp = lane_fits cur k f in
-    let lq = lane_fits prev k h in
-    let c : Chunk = chunk_of_lanes p q lp lq in
-    (c, subst (λ n. IsSpelled p q n (slice_index counts k) c) (sym n) (subst (λ m. IsSpelled p q (spelled_number p q) m c) (sym m) (spelled_lane p q lp lq)))
+-- the chunk that spells out a lane of four
+pub quad_spelled : {N : ℕ} (quad : Quad N) (k : ℕ) → k < 4
+    → (c : Chunk) × IsSpelled (slice_index quad.pixels k) (slice_index quad.before k) (slice_index quad.numbers k) (slice_index quad.sizes k) c
+quad_spelled quad k lt =
+    let p = slice_index quad.pixels k in
+    let q = slice_index quad.before k in
+    let l : k < length quad.pixels = omega (arith, quad.four.0) in
+    let m : k < length quad.before = omega (arith, quad.four_before.0) in
+    let number = ap (λ xs. slice_index xs k) quad.numbers_are ∙ stepped_at spelled_number quad.pixels quad.before k l m in
+    let size = ap (λ xs. slice_index xs k) quad.sizes_are ∙ stepped_at spelled_count quad.pixels quad.before k l m in
+    let lp = quad.four.1 k in
+    let lq = quad.four_before.1 k in
+    (chunk_of_lanes p q lp lq, rw (number, size) (spelled_lane p q lp lq))
 
 -- how many bytes there are
 count_few : (d l k : Bool) → cond d 1 (cond l 2 (plus_32 4 (cond k 0 1))) ≤ 5
@@ -240,8 +241,8 @@ few_bytes : (p q : ℕ) → spelled_count p q ≤ 5
 few_bytes p q = let s = step_word p q in count_few (eqb (bit_and (diff_word s) 0xfffcfcfc) 0) (eqb (bit_and (luma_word s) 0xfff0c0f0) 0)
     (eqb (bit_and s 0xff000000) 0)
 
-kept_bytes : (p q : ℕ) → p < 2 ^ 32 → q < 2 ^ 32 → p / 2 ^ 24 ≡ q / 2 ^ 24 → spelled_count p q ≤ 4
-kept_bytes p q lp lq e =
+same_alpha_few : (p q : ℕ) → p < 2 ^ 32 → q < 2 ^ 32 → p / 2 ^ 24 ≡ q / 2 ^ 24 → spelled_count p q ≤ 4
+same_alpha_few p q lp lq e =
     let s = step_word p q in
     let is_s = steps_pixel (pixel_of_word q) (pixel_of_word p) in
     let zero : (steps (pixel_of_word q) (pixel_of_word p)).a ≡ 0 = omega arith in
@@ -261,7 +262,7 @@ counts_few n cur prev counts is e g f h same ce k lt =
     let m : slice_index counts k ≡ spelled_count (slice_index cur k) (slice_index prev k) = ap (λ xs. slice_index xs k) ce
     ∙ stepped_at spelled_count cur prev k (omega arith) (omega arith) in
     elim is [
-      | inl three ↦ (let few = kept_bytes (slice_index cur k) (slice_index prev k) (lane_fits cur k f) (lane_fits prev k h)
+      | inl three ↦ (let few = same_alpha_few (slice_index cur k) (slice_index prev k) (lane_fits cur k f) (lane_fits prev k h)
           (same_at cur prev k (omega arith) (omega arith) (same three)) in omega arith)
       | inr four ↦ (let few = few_bytes (slice_index cur k) (slice_index prev k) in omega arith)
     ]

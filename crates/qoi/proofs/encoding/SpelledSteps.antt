@@ -4,7 +4,7 @@ use Rattle.qoi.specs.declared.chunk.Chunk.{Chunk}
 use Rattle.qoi.specs.declared.chunk.Chunk.TheVariants.{Diff, Luma, Rgb, Rgba}
 use Rattle.qoi.specs.Qoi.{RgbaPixel, pixel, IsPixel, Past, previous, diff_tag, luma_tag}
 use Rattle.qoi.specs.Written.{IsFirst}
-use Rattle.qoi.specs.inner.Steps.{steps, diff_steps, luma_steps}
+use Rattle.qoi.specs.inner.Lanes.{steps, diff_steps, luma_steps}
 use Rattle.qoi.proofs.format.SamePixels.{same_pixel}
 use Rattle.qoi.proofs.encoding.Spelled.{plus_2, plus_32, plus_8, FitsDiff, FitsLuma, first_diff, first_luma, first_rgb, first_rgba}
 

@@ -10,6 +10,7 @@ use Rattle.qoi.specs.Runs.{last_by, runs_by}
 use Rattle.qoi.specs.Written.{WrittenBy}
 use Rattle.qoi.specs.Styles.{fresh_next, choice_in}
 pub use Rattle.qoi.specs.inner.CoderLoop.{ImageList, StillToWrite}
+use Rattle.qoi.proofs.encoding.GroupRuns.{some_same}
 use Rattle.qoi.proofs.format.ChunkSteps.{previous_repeats, reverse-replicate}
 use Rattle.qoi.proofs.format.SamePixels.{cases_pixel}
 use Rattle.qoi.proofs.encoding.WrittenGrows.{RunMayFollow, all_back, written_none, full_runs, written_runs, written_fresh}
@@ -185,9 +186,6 @@ module _ (l : ImageList) where
                 (subst (WrittenBy Choice (reverse (p ∷ group) ++ more)) (append_assoc (w.done ++ runs_by (Run 1) n) (c.0 ∷ []) all.0) all.1) in
                 let r = ended (c.0 ∷ all.0) (λ e. other (some_same (sym first ∙ e))) list in
                 (c.0 ∷ all.0, r.0, r.1)
-              where
-                some_same : {a b : RgbaPixel} → Some a ≡ Some b → a ≡ b
-                some_same e = cc
             by_next (inl same) = by_end ends
               where
                 again : slice_get rest 0 ≡ Some (previous past)

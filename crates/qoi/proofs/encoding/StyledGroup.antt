@@ -1,5 +1,5 @@
 -- What a style makes of the next chunks of a written list: those of a group of repeats, and of the fresh pixel behind it.
-use Rattle.std.proofs.Common.{◌≡◌, ℕ, zero, suc, ◌+◌, ◌*◌, ◌/◌, ◌%◌, true, false, not, Bool, ◌&&◌, nat_eq, nat_lt, ◌<◌, ◌⊎◌, inl, inr, if◌then◌else◌, List, [], ◌∷◌, ◌++◌, replicate, Option, None, Some, refl, sym, ap, ◌∙◌, arith, append_assoc}
+use Rattle.std.proofs.Common.{◌≡◌, ℕ, zero, suc, ◌+◌, ◌*◌, ◌/◌, ◌%◌, true, false, not, Bool, ◌&&◌, nat_eq, nat_lt, ◌<◌, ◌⊎◌, inl, inr, if◌then◌else◌, List, [], ◌∷◌, ◌++◌, replicate, Option, Some, refl, sym, ap, ◌∙◌, arith, append_assoc}
 use Rattle.std.proofs.lemmas.Bool.{lt-ltb, ne_eqb}
 use Rattle.qoi.specs.declared.chunk.Chunk.{Chunk}
 use Rattle.qoi.specs.declared.chunk.Chunk.TheVariants.{Place, Diff, Luma, Run, Rgb, Rgba}
@@ -7,19 +7,12 @@ use Rattle.qoi.specs.declared.types.Style.{Style}
 use Rattle.qoi.specs.declared.types.Style.TheVariants.{Reference, Places, Tight}
 use Rattle.qoi.specs.Qoi.{RgbaPixel, Past, previous, hash, pixel_after, then_chunk}
 use Rattle.qoi.specs.Runs.{last_by, runs_by}
-use Rattle.qoi.specs.Styles.{is_run, fresh_next, has_pixel, some_fresh, names, place_for, placed_after, in_style}
-use Rattle.qoi.specs.inner.CoderState.{StyleAfter, rest_of_one, last_chunk}
-use Rattle.qoi.specs.inner.CoderLoop.{styled}
+use Rattle.qoi.specs.Styles.{is_run, fresh_next, has_pixel, some_fresh, names, place_for, placed_after, styled}
+use Rattle.qoi.specs.inner.CoderState.{rest_of_one, last_chunk}
 use Rattle.qoi.proofs.format.ChunkSteps.{previous_repeats, repeats_after, then_other}
 use Rattle.qoi.proofs.encoding.CoderTable.{fresh_repeats}
 use Rattle.qoi.proofs.encoding.GroupRuns.{not_one}
 use Rattle.qoi.proofs.encoding.StillToWrite.{runs_none}
-
--- before the first pixel that is the whole list
-pub styled_whole : (style : Style) (cs : List Chunk) → in_style style cs ≡ styled style [] None cs
-styled_whole Reference cs = refl
-styled_whole Places cs = refl
-styled_whole Tight cs = refl
 
 -- the chunk before the rest of a group that has so many runs of 62
 abbrev before_rest : Option Chunk → ℕ → Option Chunk
@@ -159,31 +152,22 @@ rest_names_none (suc k) zero before i some = refl
 rest_names_none k (suc zero) before i some = refl
 rest_names_none k (suc (suc r)) before i some = refl
 
-pub runs_name_none : (n : ℕ) (before : Option Chunk) (i : ℕ) → 0 < n → names (last_chunk before (runs_by (Run 1) n)) i ≡ false
+runs_name_none : (n : ℕ) (before : Option Chunk) (i : ℕ) → 0 < n → names (last_chunk before (runs_by (Run 1) n)) i ≡ false
 unfolding runs_by
 runs_name_none n before i some =
     ap (λ b. names b i) (last_fulls (n / 62) before (last_by (Run 1) (n % 62)))
     ∙ rest_names_none (n / 62) (n % 62) before i (omega arith)
 
--- so it is after repeats
-pub style_repeats : (n : ℕ) (past : Past) (before : Option Chunk) (place : ℕ) (begun placed : Bool) → StyleAfter past before place begun placed
-    → StyleAfter (replicate n (previous past) ++ past) (last_chunk before (runs_by (Run 1) n)) place begun (placed && nat_eq n 0)
-style_repeats zero past before place begun placed s = record {
-  place_is = s.place_is;
-  begun_is = s.begun_is;
-  placed_is = and_true placed ∙ s.placed_is ∙ ap (λ cs. names (last_chunk before cs) (hash (previous past))) (sym runs_none);
-}
+-- whether the last chunk names the pixel's index position, after repeats
+pub placed_repeats : (n : ℕ) (past : Past) (before : Option Chunk) (placed : Bool) → placed ≡ names before (hash (previous past))
+    → placed && nat_eq n 0 ≡ names (last_chunk before (runs_by (Run 1) n)) (hash (previous (replicate n (previous past) ++ past)))
+placed_repeats zero past before placed is = and_true placed ∙ is ∙ ap (λ cs. names (last_chunk before cs) (hash (previous past))) (sym runs_none)
   where
     and_true : (b : Bool) → b && true ≡ b
     and_true true = refl
     and_true false = refl
-style_repeats (suc n) past before place begun placed s =
-    let same = previous_repeats (suc n) past in
-    record {
-      place_is = s.place_is ∙ ap hash (sym same);
-      begun_is = s.begun_is ∙ sym (ap has_pixel (fresh_repeats (suc n) past));
-      placed_is = ap (λ b. placed && b) (ne_eqb (suc n) 0 (λ e. omega arith)) ∙ and_false placed ∙ sym (runs_name_none (suc n) before _ (omega arith));
-    }
+placed_repeats (suc n) past before placed is =
+    ap (λ b. placed && b) (ne_eqb (suc n) 0 (λ e. omega arith)) ∙ and_false placed ∙ sym (runs_name_none (suc n) before _ (omega arith))
   where
     and_false : (b : Bool) → b && false ≡ false
     and_false true = refl

@@ -82,7 +82,7 @@ some_found test a (suc n) i l u e = go (λ m. some_found test (a + 1) n i m (ome
     go on false t (inr h) = on (omega arith)
 
 -- the least index position where no pixel was put is one
-pub unseen_found : (past : Past) (i : ℕ) → least_unseen past ≡ Some i → (is_unseen past i ≡ true) × (i < positions)
+unseen_found : (past : Past) (i : ℕ) → least_unseen past ≡ Some i → (is_unseen past i ≡ true) × (i < positions)
 unfolding least_unseen
 unseen_found past i e = found (is_unseen past) 0 64 i e
 

@@ -24,12 +24,12 @@ unfolding start
 is_pixel_start = record { r = omega arith; g = omega arith; b = omega arith; a = omega arith }
 
 -- the pixel before the next one is a pixel
-pub is_pixel_previous : (past : Past) → AllByRecursion IsPixel past → IsPixel (previous past)
+is_pixel_previous : (past : Past) → AllByRecursion IsPixel past → IsPixel (previous past)
 is_pixel_previous [] h = is_pixel_start
 is_pixel_previous (p ∷ past) h = h.0
 
 -- the differences fit a Diff or not
-pub cases_diff : (q p : RgbaPixel) → FitsDiff q p ⊎ (FitsDiff q p → ⊥)
+cases_diff : (q p : RgbaPixel) → FitsDiff q p ⊎ (FitsDiff q p → ⊥)
 cases_diff q p =
     elim (cases_lt (plus_2 p.r q.r) 4) as (λ _. FitsDiff q p ⊎ (FitsDiff q p → ⊥)) [
       | inr high ↦ inr (λ f. let x = f.r in absurd (omega arith))
@@ -43,7 +43,7 @@ cases_diff q p =
     ]
 
 -- the differences fit a Luma or not
-pub cases_luma : (q p : RgbaPixel) → FitsLuma q p ⊎ (FitsLuma q p → ⊥)
+cases_luma : (q p : RgbaPixel) → FitsLuma q p ⊎ (FitsLuma q p → ⊥)
 cases_luma q p =
     elim (cases_lt (plus_8 p.r q.r p.g q.g) 16) as (λ _. FitsLuma q p ⊎ (FitsLuma q p → ⊥)) [
       | inr high ↦ inr (λ f. let x = f.r in absurd (omega arith))
@@ -72,7 +72,7 @@ first_some past p iq ip = go (cases_eq p.a (previous past).a) (cases_diff (previ
     go (inl alpha) (inr unfit) (inr wide) = (Rgb p.r p.g p.b, (ip.r, ip.g, ip.b), first_rgb past p iq alpha unfit wide)
 
 -- some chunk is chosen for a fresh pixel
-pub choice_some : (past : Past) (p : RgbaPixel) → IsPixel (previous past) → IsPixel p → (c : Chunk) × IsChunk c × IsChoice past p c
+choice_some : (past : Past) (p : RgbaPixel) → IsPixel (previous past) → IsPixel p → (c : Chunk) × IsChunk c × IsChoice past p c
 choice_some past p iq ip =
     elim (cases_pixel (noted past (hash p)) p) as (λ _. (c : Chunk) × IsChunk c × IsChoice past p c) [
       | inl is ↦ (Place (hash p), hash_below p, record { place = λ _. refl; spelled = λ n. absurd (n is) })

@@ -10,7 +10,7 @@ use Rattle.qoi.specs.Styles.{is_run}
 use Rattle.qoi.proofs.format.ChunkSteps.{cases_run, times_other, right_other, times_some, given, meaning_given}
 
 -- two differences that give one pixel are one
-pub diff_unique : (q : RgbaPixel) (d e : ℕ) → 64 ≤ d → d < 128 → 64 ≤ e → e < 128 → after_diff q d ≡ after_diff q e → d ≡ e
+diff_unique : (q : RgbaPixel) (d e : ℕ) → 64 ≤ d → d < 128 → 64 ≤ e → e < 128 → after_diff q d ≡ after_diff q e → d ≡ e
 unfolding after_diff
 diff_unique q d e dl dh el eh s =
     let r = ap (λ p. p.r) s in
@@ -19,7 +19,7 @@ diff_unique q d e dl dh el eh s =
     omega arith
 
 -- two lumas that give one pixel are one
-pub luma_unique : (q : RgbaPixel) (d e x y : ℕ) → IsChunk (Luma d e) → IsChunk (Luma x y) → after_luma q d e ≡ after_luma q x y → Luma d e ≡ Luma x y
+luma_unique : (q : RgbaPixel) (d e x y : ℕ) → IsChunk (Luma d e) → IsChunk (Luma x y) → after_luma q d e ≡ after_luma q x y → Luma d e ≡ Luma x y
 unfolding after_luma
 luma_unique q d e x y c k s =
     let r = ap (λ p. p.r) s in

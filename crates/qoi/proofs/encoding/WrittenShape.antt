@@ -24,7 +24,7 @@ apart_by Choice image cs front rest i w e =
     s.1.0.is_fresh (seen_again (then_chunks [] front) i)
 
 -- there are at least as many pixels after chunks
-pub length_grows : (past : Past) (cs : List Chunk) → length past ≤ length (then_chunks past cs)
+length_grows : (past : Past) (cs : List Chunk) → length past ≤ length (then_chunks past cs)
 length_grows past cs = let l = length-then_chunks past cs in omega arith
 
 -- before each chunk there are fewer pixels than at the end
@@ -37,7 +37,7 @@ stay_below past (c ∷ cs) n a e =
     (omega arith, stay_below (then_chunk past c) cs n a.1 e)
 
 -- a written list reaches its pixels
-pub reaches_by : (Choice : Past → RgbaPixel → Chunk → Type 0) (image : List RgbaPixel) (n : ℕ) (cs : List Chunk) → WrittenBy Choice image cs
+reaches_by : (Choice : Past → RgbaPixel → Chunk → Type 0) (image : List RgbaPixel) (n : ℕ) (cs : List Chunk) → WrittenBy Choice image cs
     → length image ≡ n → Reaches n cs
 reaches_by Choice image n cs w e =
     let m : length (meaning cs) ≡ n = ap length w.means ∙ e in

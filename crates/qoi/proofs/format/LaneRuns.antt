@@ -8,7 +8,7 @@ use Rattle.std.proofs.lemmas.Nat.{shr-shr, shr_le}
 use Rattle.std.proofs.lemmas.Simd.{tops_compared, mask_l-mod, mask_l-lt, length-zip2}
 use lib.Count.{count_trailing_zeros, under}
 use lib.Lanes.{zip2, mask_l, top}
-use Rattle.qoi.specs.inner.Quad.{IsRun}
+use Rattle.qoi.specs.inner.Lanes.{IsRun}
 
 -- the bits of four lanes
 pub agree_bits : (xs ys : List ℕ) → length xs ≡ 4 → length ys ≡ 4

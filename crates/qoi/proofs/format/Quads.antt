@@ -7,7 +7,7 @@ use lib.Lanes.{Each1, zip2, pick_l, sel_l, top, number_l, digits_l, dots}
 use Rattle.qoi.specs.Qoi.{AreBytes, hash}
 use Rattle.qoi.specs.Raw.{pixels_of, pixels_of_3, pixels_of_4}
 use Rattle.qoi.specs.inner.Packed.{word, pixel_of_word}
-use Rattle.qoi.specs.inner.Quad.{stepped, step_word, diff_word, luma_word, green_twice, plus_32, up, down, diff_number, luma_number, rgb_number, changes, full_number, full_count, KeepAlpha, spelled_number, spelled_count, SameAlpha}
+use Rattle.qoi.specs.inner.Lanes.{stepped, step_word, diff_word, luma_word, green_twice, plus_32, up, down, diff_number, luma_number, rgb_number, changes, full_number, full_count, KeepAlpha, spelled_number, spelled_count, SameAlpha}
 
 -- four times as many
 abbrev pub fourfold : ℕ → ℕ

@@ -4,14 +4,18 @@ use Rattle.std.specs.List.{AllByRecursion}
 use Rattle.qoi.specs.declared.chunk.Chunk.{Chunk}
 use Rattle.qoi.specs.declared.chunk.Chunk.TheVariants.{Run}
 use Rattle.qoi.specs.declared.encode.coder.Coder.{Coder}
+use Rattle.qoi.specs.declared.encode.piece.Piece.{Piece}
 use Rattle.qoi.specs.declared.encode.quad.Quad.{Quad}
 use Rattle.qoi.specs.declared.types.Style.{Style}
-use Rattle.qoi.specs.declared.types.Style.TheVariants.{Reference, Places, Tight}
-use Rattle.qoi.specs.Qoi.{RgbaPixel, IsPixel, Past, previous, chunk_bytes}
+use Rattle.qoi.specs.Qoi.{RgbaPixel, IsPixel, Past, previous, hash, chunk_bytes}
+use Rattle.qoi.specs.Raw.{pixels_of}
 use Rattle.qoi.specs.Written.{RunsFollowFull, WrittenBy}
-use Rattle.qoi.specs.Styles.{placed_after, choice_in}
-use Rattle.qoi.specs.inner.CoderState.{StateAfter, StyleAfter}
-use Rattle.qoi.specs.inner.Packed.{word}
+use Rattle.qoi.specs.Styles.{some_fresh, names, choice_in, styled}
+use Rattle.qoi.specs.inner.CoderState.{held_in, rest_of_one}
+use Rattle.qoi.specs.inner.Lanes.{AreFourAfter}
+use Rattle.qoi.specs.inner.Packed.{pixel_of_word}
+use Rattle.qoi.specs.inner.Piece.{kept_bytes}
+use Rattle.qoi.specs.inner.Table.{Holds}
 
 -- a run of any length may follow the list
 abbrev pub RunMayFollow : List Chunk → Type 0
@@ -35,40 +39,59 @@ pub record StillToWrite (l : ImageList) (past : Past) (rest : List RgbaPixel) (t
   pub run_may_follow : slice_get rest 0 ≡ Some (previous past) → RunMayFollow done
   pub parts : l.cs ≡ done ++ todo
 
--- as a style has chunks after these pixels and this chunk
-abbrev pub styled : Style → Past → Option Chunk → List Chunk → List Chunk
-styled Reference past before cs = cs
-styled Places past before cs = placed_after past before cs
-styled Tight past before cs = cs
-
 -- A list that is written for an image in a style, and the bytes that didn't go to a writer yet: those that are kept, and
 -- behind them those of the chunks that are still to be written.
 pub record Writing : Type 0 where
   pub list : ImageList
   pub ahead : List ℕ
 
+-- What a coder and its table keep after these pixels and this chunk: the pixels that the style puts at their positions, the
+-- last pixel, whether a fresh one came, and whether the chunk names the last pixel's position.
+pub record CoderAfter {N : ℕ} (past : Past) (before : Option Chunk) (table : List RgbaPixel) (coder : Coder N) : Type 0 where
+  pub table_is : Holds table (held_in coder.style past)
+  pub last_is : coder.last ≡ previous past
+  pub begun_is : coder.begun ≡ some_fresh past
+  pub placed_is : coder.placed ≡ names before (hash (previous past))
+
+-- the chunk of a rest of 1 of a group of n repeats of the coder's last pixel, where a fresh pixel follows
+abbrev pub single : {N : ℕ} → Coder N → ℕ → Chunk
+single coder n = rest_of_one coder.style coder.begun coder.placed coder.place n
+
 -- Between two pixels: the pixels `rest` still come, and the bytes ahead are those that are kept and those of the chunks
 -- that are still to be written, as the style has them.
-pub record CoderBetween (w : Writing) (rest : List RgbaPixel) (table : List RgbaPixel) (coder : Coder) (bytes : List ℕ) : Type 0 where
+pub record CoderBetween {N : ℕ} (w : Writing) (rest : List RgbaPixel) (table : List RgbaPixel) (coder : Coder N) (kept : List ℕ) : Type 0 where
+  pub style_is : coder.style ≡ w.list.style
   pub past : Past
   pub before : Option Chunk
   pub todo : List Chunk
   pub to_write : StillToWrite w.list past rest todo
-  pub ahead_is : w.ahead ≡ bytes ++ chunk_bytes (styled w.list.style past before todo)
-  pub state : StateAfter w.list.style past table coder.last
-  pub style_state : StyleAfter past before coder.place coder.begun coder.placed
+  pub ahead_is : w.ahead ≡ kept ++ chunk_bytes (styled w.list.style past before todo)
+  pub state : CoderAfter past before table coder
+
+-- the same where the pixels of these raw bytes still come, and a piece keeps the bytes
+abbrev pub BytesBetween : {N : ℕ} → Writing → List ℕ → List RgbaPixel → Coder N → Piece → Type 0
+BytesBetween {N} w bytes table coder piece = CoderBetween w (pixels_of N bytes) table coder (kept_bytes piece)
+
+-- the pixel of a lane, and the one before it
+abbrev pub lane_pixel : {N : ℕ} → Quad N → ℕ → RgbaPixel
+lane_pixel quad k = pixel_of_word (slice_index quad.pixels k)
+
+abbrev pub before_lane : {N : ℕ} → Quad N → ℕ → RgbaPixel
+before_lane quad k = pixel_of_word (slice_index quad.before k)
 
 -- what stays the same among four pixels: the list that is written, the four, and the pixels that they open
-pub record InFour : Type 0 where
+pub record InFour (N : ℕ) : Type 0 where
   pub writing : Writing
-  pub quad : Quad
+  pub quad : Quad N
   pub pixels : List RgbaPixel
 
 -- these three
-abbrev pub in_four : Writing → Quad → List RgbaPixel → InFour
+abbrev pub in_four : {N : ℕ} → Writing → Quad N → List RgbaPixel → InFour N
 in_four w quad pixels = record { writing = w; quad = quad; pixels = pixels }
 
--- Among four pixels: those up to a lane have come.
-pub record AtLane (four : InFour) (lane : ℕ) (table : List RgbaPixel) (coder : Coder) (bytes : List ℕ) : Type 0 where
-  pub between : CoderBetween four.writing (drop lane four.pixels) table coder bytes
-  pub last_is : lane < 4 → word coder.last ≡ slice_index four.quad.before lane
+-- Among four pixels, of which the first follows `first`: those up to a lane have come.
+pub record AtLane {N : ℕ} (four : InFour N) (lane : ℕ) (table : List RgbaPixel) (coder : Coder N) (kept : List ℕ) : Type 0 where
+  pub first : RgbaPixel
+  pub are : AreFourAfter first four.pixels four.quad.pixels four.quad.before
+  pub between : CoderBetween four.writing (drop lane four.pixels) table coder kept
+  pub last_is : lane < 4 → coder.last ≡ before_lane four.quad lane

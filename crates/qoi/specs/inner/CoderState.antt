@@ -1,31 +1,17 @@
--- What a coder keeps between two pixels.
-use Rattle.std.specs.Prelude.{◌≡◌, ℕ, Bool, not, ◌&&◌, ◌||◌, nat_lt, if◌then◌else◌, List, [], ◌∷◌, Option, Some}
+-- What a style asks of a coder.
+use Rattle.std.specs.Prelude.{ℕ, Bool, not, ◌&&◌, ◌||◌, nat_lt, if◌then◌else◌, List, [], ◌∷◌, Option, Some}
 use Rattle.qoi.specs.declared.chunk.Chunk.{Chunk}
 use Rattle.qoi.specs.declared.chunk.Chunk.TheVariants.{Place, Run}
 use Rattle.qoi.specs.declared.types.Style.{Style}
 use Rattle.qoi.specs.declared.types.Style.TheVariants.{Reference, Places, Tight}
-use Rattle.qoi.specs.Qoi.{RgbaPixel, Past, previous, hash}
+use Rattle.qoi.specs.Qoi.{Past}
 use Rattle.qoi.specs.Written.{fresh}
-use Rattle.qoi.specs.Styles.{some_fresh, names}
-use Rattle.qoi.specs.inner.Table.{Holds}
 
 -- the pixels that a coder puts at their index positions: the fresh ones, and in style Tight all of them
 abbrev pub held_in : Style → Past → Past
 held_in Reference past = fresh past
 held_in Places past = fresh past
 held_in Tight past = past
-
--- what a coder keeps after these pixels: the table of those that it puts there, and the last pixel
-pub record StateAfter (style : Style) (past : Past) (table : List RgbaPixel) (last : RgbaPixel) : Type 0 where
-  pub table_is : Holds table (held_in style past)
-  pub last_is : last ≡ previous past
-
--- what a coder keeps for a style after these pixels and this chunk: the last pixel's index position, whether a fresh
--- pixel came, and whether the chunk names that position
-pub record StyleAfter (past : Past) (before : Option Chunk) (place : ℕ) (begun placed : Bool) : Type 0 where
-  pub place_is : place ≡ hash (previous past)
-  pub begun_is : begun ≡ some_fresh past
-  pub placed_is : placed ≡ names before (hash (previous past))
 
 -- the chunk of a rest of 1 of a group of n repeats of the pixel of this index position, where a fresh pixel follows
 abbrev pub rest_of_one : Style → Bool → Bool → ℕ → ℕ → Chunk

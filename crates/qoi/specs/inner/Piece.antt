@@ -1,7 +1,21 @@
 -- The bytes of a file that are kept before they go to a writer.
-use Rattle.std.specs.Prelude.{ℕ, List, take}
+use Rattle.std.specs.Prelude.{ℕ, List, ◌++◌, take}
+use Rattle.qoi.specs.declared.chunk.Chunk.{Chunk}
 use Rattle.qoi.specs.declared.encode.piece.Piece.{Piece}
+use Rattle.qoi.specs.declared.types.Style.{Style}
+use Rattle.qoi.specs.Qoi.{RgbaPixel, chunk_bytes}
+use Rattle.qoi.specs.Styles.{WrittenIn}
+use Rattle.qoi.specs.writers.Writes.{WroteBut, WroteBeginning}
 
 -- the bytes that are kept
 abbrev pub kept_bytes : Piece → List ℕ
-kept_bytes s = take s.end s.bytes
+kept_bytes s = take s.end s.bytes.now
+
+-- The chunks of an image in a style were written behind the bytes that were kept, but for those that are kept then.
+abbrev pub WroteChunks : {W : Type 0} → (W → List ℕ → W → Type 0) → Style → List RgbaPixel → W → Piece → W → Piece → Type 0
+WroteChunks wrote style image a old b new = (cs : List Chunk) × WrittenIn style image cs
+    × WroteBut wrote a (kept_bytes old ++ chunk_bytes cs) (kept_bytes new) b
+
+-- a beginning of all these was
+abbrev pub BeganChunks : {W : Type 0} → (W → List ℕ → W → Type 0) → Style → List RgbaPixel → W → Piece → W → Type 0
+BeganChunks wrote style image a old b = (cs : List Chunk) × WrittenIn style image cs × WroteBeginning wrote a (kept_bytes old ++ chunk_bytes cs) b

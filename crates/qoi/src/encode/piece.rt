@@ -1,9 +1,10 @@
 //! The bytes of a file that are kept before they go to a writer.
 ghost use lib.Lanes.{digits_l};
-ghost use Rattle.std.specs.Prelude.{◌≡◌, ◌+◌, ◌/◌, ◌^◌, ◌<◌, ◌≤◌, [], ◌∷◌, ◌++◌, length, take, drop, OnOk, IfErr};
+ghost use Rattle.std.specs.Prelude.{◌≡◌, ◌+◌, ◌*◌, ◌/◌, ◌^◌, ◌<◌, ◌≤◌, [], ◌∷◌, ◌++◌, length, take, drop, IsTrue, IsFalse, OnOk, IfErr};
+ghost use Rattle.std.specs.List.{copy_within};
 ghost use Rattle.qoi.specs.declared.chunk.Chunk.{Chunk};
-ghost use Rattle.qoi.specs.declared.encode.piece.TheConstants.{PIECE, ROOM};
-ghost use Rattle.qoi.specs.Qoi.{run_max, bytes_of, chunk_bytes};
+ghost use Rattle.qoi.specs.declared.encode.piece.TheConstants.{PIECE, ROOM, RUNS_MAX, REPEATS_MAX};
+ghost use Rattle.qoi.specs.Qoi.{run_max, chunk_max, bytes_of, chunk_bytes};
 ghost use Rattle.qoi.specs.Raw.{IsChannels};
 ghost use Rattle.qoi.specs.Runs.{runs_by};
 ghost use Rattle.qoi.specs.writers.Writes.{WroteBeginning};
@@ -14,32 +15,49 @@ use crate::packed::pick;
 use crate::utils::{Writer, copy_behind};
 use std::simd::prelude::*;
 
-/// How many bytes a writer is given at once; the last ones may be fewer.
+/// How many bytes a writer is sent at once; the last ones may be fewer.
 pub(super) const PIECE: usize = 4096;
 
-// The room that bytes are kept in: what is stored may go past a full piece.
-const ROOM: usize = 4224;
+/// The room that bytes are kept in: a full piece, what goes past it (the chunks of four pixels, or those of
+/// the last pixels and the end marker), and what is stored behind that.
+pub(super) const ROOM: usize = PIECE + 128;
 
-/// Bytes that are kept: the first `end` ones. Those behind them mean nothing.
+/// The most runs that are kept at a time, which are stored at once, and the repeats that they give.
+pub(super) const RUNS_MAX: usize = 16;
+
+pub(super) const REPEATS_MAX: usize = RUNS_MAX * QOI_RUN_MAX;
+
+/// Bytes that are kept: the first `end` ones of a room. Those behind them mean nothing.
 #[derive(Drop)]
-pub(super) struct Piece {
-    pub(super) bytes: [u8; ROOM],
+pub(super) struct Piece<'a> {
+    bytes: &'a mut [u8],
     pub(super) end: usize,
-    ghost within: { (end ≤ ROOM) × (length bytes ≡ ROOM) },
+    ghost within: { end ≤ ROOM },
+    ghost room: { length bytes.now ≡ ROOM },
 }
 
-impl Piece {
+impl<'a> Piece<'a> {
     ghost use Rattle.qoi.specs.inner.Piece.{kept_bytes};
 
-    /// No bytes.
+    /// No bytes, in this room.
     #[inline(always)]
-    pub(super) fn new() -> Piece
+    pub(super) fn new(room: &'a mut [u8]) -> Piece<'a>
+        requires { length room.old ≡ ROOM }
         ensures { kept_bytes result ≡ [] }
     {
         Piece {
-            bytes: [0; ROOM],
+            bytes: room,
             end: 0,
         }
+    }
+
+    /// Whether there are enough bytes for a full piece.
+    #[inline(always)]
+    pub(super) fn is_full(&self) -> bool
+        ensures full { IsTrue result → PIECE ≤ self.now.end }
+        ensures room { IsFalse result → self.now.end < PIECE }
+    {
+        self.end >= PIECE
     }
 
     /// Keeps bytes behind those before.
@@ -49,12 +67,55 @@ impl Piece {
         ensures kept { kept_bytes self.new ≡ kept_bytes self.old ++ v.now }
         ensures end { self.new.end ≡ self.old.end + length v.now }
     {
-        self.end = copy_behind(&mut self.bytes, self.end, v);
+        self.end = copy_behind(self.bytes, self.end, v);
     }
 
-    /// Gives a writer a full piece; the bytes behind it are kept.
-    #[inline(never)]
-    pub(super) fn give<W: Writer>(&mut self, buf: &mut W) -> Result<()>
+    /// Keeps a chunk of `size` bytes: the lowest ones of the number and, if there is a fifth, the pixel's
+    /// alpha.
+    #[inline(always)]
+    pub(super) fn keep_chunk<const N: usize>(&mut self, px: u32, number: u32, size: u32)
+        requires channels { IsChannels N }
+        requires room { self.old.end + chunk_max ≤ ROOM }
+        requires few { size ≤ N + 1 }
+        ensures kept { kept_bytes self.new
+            ≡ kept_bytes self.old ++ take size (digits_l 256 4 number ++ (px / 2 ^ 24) ∷ []) }
+        ensures end { self.new.end ≡ self.old.end + size }
+    {
+        self.end = put_chunk::<N>(self.bytes, self.end, px, number, size);
+    }
+
+    /// Keeps the run of fewer than 62 repeats, that of a single one as the byte `one`.
+    #[inline(always)]
+    pub(super) fn keep_run(&mut self, count: usize, one: u8)
+        requires room { self.old.end < ROOM }
+        requires few { count < run_max }
+        ensures kept { (c : Chunk) → bytes_of c ≡ one ∷ []
+            → kept_bytes self.new ≡ kept_bytes self.old ++ chunk_bytes (runs_by c count) }
+        ensures end { self.new.end ≤ self.old.end + 1 }
+    {
+        self.bytes[self.end] = pick(count == 1, one, QOI_OP_RUN - 1 + count as u8);
+        self.end += usize::from(count > 0);
+    }
+
+    /// Keeps the runs of at most 992 repeats, a rest of 1 as the byte `one`.
+    #[inline(always)]
+    pub(super) fn keep_runs(&mut self, count: usize, one: u8)
+        requires room { self.old.end + RUNS_MAX < ROOM }
+        requires few { count ≤ REPEATS_MAX }
+        ensures kept { (c : Chunk) → bytes_of c ≡ one ∷ []
+            → kept_bytes self.new ≡ kept_bytes self.old ++ chunk_bytes (runs_by c count) }
+        ensures end { self.new.end ≤ self.old.end + count / run_max + 1 }
+    {
+        u8x16::splat(QOI_OP_RUN - 1 + QOI_RUN_MAX as u8).copy_to_slice(
+            &mut self.bytes[self.end..self.end + RUNS_MAX],
+        );
+        self.end += count / QOI_RUN_MAX;
+        self.keep_run(count % QOI_RUN_MAX, one);
+    }
+
+    /// Sends a full piece to a writer; the bytes behind it are kept.
+    #[inline(always)]
+    pub(super) fn send<W: Writer>(&mut self, buf: &mut W) -> Result<()>
         requires full { PIECE ≤ self.old.end }
         requires room { PIECE ≤ W.room buf.old }
         ensures written { OnOk result (W.wrote buf.old (take PIECE (kept_bytes self.old)) buf.new) }
@@ -63,24 +124,39 @@ impl Piece {
         ensures refused { IfErr result (λ e. W.IsFault e
             × WroteBeginning W.wrote buf.old (take PIECE (kept_bytes self.old)) buf.new) }
     {
-        buf.write_many(&self.bytes[..PIECE])?;
-        self.bytes.copy_within(PIECE..ROOM, 0);
+        send_front(buf, self.bytes)?;
         self.end -= PIECE;
         Ok(())
     }
 
-    /// Gives a writer all the bytes: a full piece, if there is one, and then the others.
+    /// Sends all the bytes to a writer: a full piece, if there is one, and then the others.
+    #[inline(always)]
     pub(super) fn finish<W: Writer>(&mut self, buf: &mut W) -> Result<()>
         requires { self.old.end ≤ W.room buf.old }
         ensures written { OnOk result (W.wrote buf.old (kept_bytes self.old) buf.new) }
         ensures refused { IfErr result (λ e. W.IsFault e
             × WroteBeginning W.wrote buf.old (kept_bytes self.old) buf.new) }
     {
-        if self.end >= PIECE {
-            self.give(buf)?;
+        if self.is_full() {
+            self.send(buf)?;
         }
         buf.write_many(&self.bytes[..self.end])
     }
+}
+
+// Sends a full piece, and moves the bytes behind it to the front.
+#[inline(never)]
+fn send_front<W: Writer>(buf: &mut W, bytes: &mut [u8]) -> Result<()>
+    requires size { length bytes.old ≡ ROOM }
+    requires room { PIECE ≤ W.room buf.old }
+    ensures written { OnOk result (W.wrote buf.old (take PIECE bytes.old) buf.new) }
+    ensures moved { OnOk result (bytes.new ≡ copy_within bytes.old PIECE ROOM 0) }
+    ensures refused { IfErr result (λ e. W.IsFault e
+        × WroteBeginning W.wrote buf.old (take PIECE bytes.old) buf.new) }
+{
+    buf.write_many(&bytes[..PIECE])?;
+    bytes.copy_within(PIECE..ROOM, 0);
+    Ok(())
 }
 
 /// Stores a chunk behind the first `at` bytes, and returns where it ends. It has `size` bytes: the lowest
@@ -94,9 +170,8 @@ pub(crate) fn put_chunk<const N: usize>(
     size: u32,
 ) -> usize
     requires channels { IsChannels N }
-    requires room { at + 8 ≤ length out.old }
+    requires room { at + chunk_max ≤ length out.old }
     requires few { size ≤ N + 1 }
-    ensures same { length out.new ≡ length out.old }
     ensures end { result ≡ at + size }
     ensures written { take result out.new
         ≡ take at out.old ++ take size (digits_l 256 4 number ++ (px / 2 ^ 24) ∷ []) }
@@ -108,34 +183,4 @@ pub(crate) fn put_chunk<const N: usize>(
         out[at + 4] = (px / 0x100_0000) as u8;
     }
     at + size as usize
-}
-
-/// Stores the run of a group of fewer than 62 repeats behind the first `at` bytes, that of a single one as
-/// the byte `one`, and returns where it ends. One byte is stored in any case.
-#[inline(always)]
-pub(super) fn put_run(out: &mut [u8], at: usize, count: usize, one: u8) -> usize
-    requires room { at < length out.old }
-    requires few { count < run_max }
-    ensures same { length out.new ≡ length out.old }
-    ensures within { result ≤ at + 1 }
-    ensures written { (c : Chunk) → bytes_of c ≡ one ∷ []
-        → take result out.new ≡ take at out.old ++ chunk_bytes (runs_by c count) }
-{
-    out[at] = pick(count == 1, one, QOI_OP_RUN - 1 + count as u8);
-    at + usize::from(count > 0)
-}
-
-/// Stores the runs of a group of at most 992 repeats behind the first `at` bytes, a rest of 1 as the byte
-/// `one`, and returns where they end. Bytes behind them may change.
-#[inline(always)]
-pub(super) fn put_runs(out: &mut [u8], at: usize, count: usize, one: u8) -> usize
-    requires room { at + 17 ≤ length out.old }
-    requires few { count ≤ 992 }
-    ensures same { length out.new ≡ length out.old }
-    ensures within { result ≤ at + count / run_max + 1 }
-    ensures written { (c : Chunk) → bytes_of c ≡ one ∷ []
-        → take result out.new ≡ take at out.old ++ chunk_bytes (runs_by c count) }
-{
-    u8x16::splat(QOI_OP_RUN - 1 + QOI_RUN_MAX as u8).copy_to_slice(&mut out[at..at + 16]);
-    put_run(out, at + count / QOI_RUN_MAX, count % QOI_RUN_MAX, one)
 }

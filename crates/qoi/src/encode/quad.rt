@@ -3,39 +3,45 @@
 ghost use lib.Lanes.{mask_l, zip2};
 ghost use Rattle.std.specs.Prelude.{◌≡◌, nat_eq, ◌∷◌, ◌+◌, ◌<◌, ◌≤◌, ℕ, length, take, map, slice_index};
 ghost use Rattle.qoi.specs.declared.chunk.Chunk.{Chunk};
-ghost use Rattle.qoi.specs.Qoi.{hash};
+ghost use Rattle.qoi.specs.declared.encode.quad.TheConstants.{READ};
 ghost use Rattle.qoi.specs.Raw.{IsChannels, pixels_of};
-ghost use Rattle.qoi.specs.inner.Packed.{word, pixel_of_word};
-ghost use Rattle.qoi.specs.inner.Quad.{stepped, step_word, diff_word, luma_word, green_twice, diff_number, luma_number, rgb_number, full_number, full_count, KeepAlpha, spelled_number, spelled_count, SameAlpha, IsSpelled, AreOpaqueWords, QuadFits};
+ghost use Rattle.qoi.specs.inner.Packed.{word};
+ghost use Rattle.qoi.specs.inner.Lanes.{stepped, step_word, diff_word, luma_word, green_twice, diff_number, luma_number, rgb_number, full_number, full_count, KeepAlpha, spelled_number, spelled_count, SameAlpha, IsSpelled, AreOpaqueWords, AreFour, places_of};
 
 use crate::packed::Packed;
 use std::simd::prelude::*;
+
+/// How many bytes are read for four pixels: those of four channels.
+pub(super) const READ: usize = 16;
 
 /// Four pixels and the ones before them, packed; their index positions; and the chunks that spell them out:
 /// a number whose lowest bytes are the chunk's, and how many bytes the chunk has. The fifth byte, of an
 /// RGBA, isn't in the number: it is the pixel's alpha.
 #[derive(Drop)]
-pub(crate) struct Quad {
+pub(crate) struct Quad<const N: usize> {
     pub(crate) pixels: [u32; 4],
     pub(crate) places: [u32; 4],
     pub(crate) numbers: [u32; 4],
     pub(crate) sizes: [u32; 4],
     pub(crate) before: u32x4,
+    ghost four: { AreFour pixels },
+    ghost four_before: { AreFour before },
+    ghost opaque: { N ≡ 3 → AreOpaqueWords pixels },
+    ghost places_are: { places ≡ places_of pixels },
+    ghost numbers_are: { numbers ≡ stepped spelled_number pixels before },
+    ghost sizes_are: { sizes ≡ stepped spelled_count pixels before },
+    ghost few: { (k : ℕ) → k < 4 → slice_index sizes k ≤ N + 1 },
 }
 
-impl Quad {
+impl<const N: usize> Quad<N> {
     /// Four pixels after the ones before them.
     #[inline(always)]
-    pub(super) fn new<const N: usize>(cur: u32x4, prev: u32x4) -> Quad
+    pub(super) fn new(cur: u32x4, prev: u32x4) -> Quad<N>
         requires channels { IsChannels N }
         requires opaque { N ≡ 3 → AreOpaqueWords cur }
         requires same_alpha { N ≡ 3 → SameAlpha cur prev }
         ensures pixels { result.pixels ≡ cur }
         ensures before { result.before ≡ prev }
-        ensures fits { QuadFits N result }
-        ensures spelled { (k : ℕ) → k < 4 → (c : Chunk)
-            × IsSpelled (slice_index cur k) (slice_index prev k) (slice_index result.numbers k)
-            (slice_index result.sizes k) c }
     {
         let (numbers, sizes) = spell::<N>(cur, prev);
         Quad {
@@ -49,16 +55,16 @@ impl Quad {
 
     /// One pixel after the one before it, four times.
     #[inline(always)]
-    pub(crate) fn alone<const N: usize>(px: Packed, last: Packed) -> Quad
+    pub(crate) fn alone(px: Packed, last: Packed) -> Quad<N>
         requires channels { IsChannels N }
         requires opaque { N ≡ 3 → px.a ≡ 255 }
         requires same_alpha { N ≡ 3 → px.a ≡ last.a }
         ensures pixel { slice_index result.pixels 0 ≡ word px }
-        ensures fits { QuadFits N result }
+        ensures before { slice_index result.before 0 ≡ word last }
         ensures spelled { (c : Chunk) × IsSpelled (word px) (word last)
             (slice_index result.numbers 0) (slice_index result.sizes 0) c }
     {
-        Quad::new::<N>(u32x4::splat(px.number()), u32x4::splat(last.number()))
+        Quad::new(u32x4::splat(px.number()), u32x4::splat(last.number()))
     }
 }
 
@@ -66,7 +72,7 @@ impl Quad {
 #[inline(always)]
 pub(super) fn four<const N: usize>(bytes: &[u8]) -> u32x4
     requires channels { IsChannels N }
-    requires enough { 16 ≤ length bytes.now }
+    requires enough { READ ≤ length bytes.now }
     ensures lanes { result ≡ map word (take 4 (pixels_of N bytes.now)) }
 {
     let v = u8x16::from_slice(bytes);
@@ -100,7 +106,7 @@ pub(super) fn repeating(cur: u32x4, prev: u32x4) -> u64
 // The index positions of pixels.
 #[inline(always)]
 fn places(cur: u32x4) -> u32x4
-    ensures lanes { result ≡ map (λ w. hash (pixel_of_word w)) cur }
+    ensures lanes { result ≡ places_of cur }
 {
     let weights = u32x4::splat(0x0b07_0503).to_le_bytes();
     cur.to_le_bytes().dot4(weights) & u32x4::splat(63)
@@ -197,9 +203,6 @@ fn spell<const N: usize>(cur: u32x4, prev: u32x4) -> (u32x4, u32x4)
     ensures words { result.0 ≡ stepped spelled_number cur prev }
     ensures counts { result.1 ≡ stepped spelled_count cur prev }
     ensures few { (k : ℕ) → k < 4 → slice_index result.1 k ≤ N + 1 }
-    ensures lanes { (k : ℕ) → k < 4 → (c : Chunk)
-        × IsSpelled (slice_index cur k) (slice_index prev k) (slice_index result.0 k)
-        (slice_index result.1 k) c }
 {
     let steps = steps(cur, prev);
     let for_diff = diff_steps(steps);

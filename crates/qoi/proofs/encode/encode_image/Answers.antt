@@ -15,14 +15,14 @@ returns-in_err-encode_chunks-clause-refused g c =
     let h = c.args.header.now in
     let e = err_from_is_err_and c.from_residual.result c.from_residual.ensures.1 in
     let r = c.in_err-encode_chunks.ensures.refused in
-    let theirs = file_of h c.args.data.now c.requires.valid c.requires.image c.args.style r.1 r.2 in
+    let theirs = file_of h c.args.data.now c.requires.valid c.requires.image c.args.style r.1.0 r.1.1 in
     let front : kept_bytes c.keep.new.self ≡ header_bytes h = c.keep.ensures.kept ∙ ap (λ z. z ++ c.encode.result) c.new-piece.ensures ∙ c.encode.ensures in
     rw (e.1, e.2) (
       r.0,
-      file h r.1,
+      file h r.1.0,
       theirs,
-      chunks_part g.W.Writer.wrote g.W.Writer.room g.met.W.Writer.laws h r.1 c.args.buf.now
-          (kept_bytes c.keep.new.self) front r.3,
+      chunks_part g.W.Writer.wrote g.W.Writer.room g.met.W.Writer.laws h r.1.0 c.args.buf.now
+          (kept_bytes c.keep.new.self) front r.1.2,
     )
 
 -- all of the file went but what is kept
@@ -40,7 +40,7 @@ finish-requires g c =
     let h = c.args.header.now in
     let w = c.in_ok-encode_chunks.ensures.written in
     let piece = c.keep-2.new.self in
-    let size = length-take-le piece.end piece.bytes (omega (arith, piece.within)) in
+    let size = length-take-le piece.end piece.bytes.now (omega (arith, piece.within, piece.room)) in
     let enough : 22 + length (chunk_bytes w.0) ≤ g.W.Writer.room c.args.buf.now =
     omega (arith, c.requires.room, max_is_exact h c.requires.valid, text_fits h c.args.data.now c.requires.valid c.requires.image c.args.style w.0 w.1) in
     omega (

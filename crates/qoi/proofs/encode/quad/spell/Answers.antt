@@ -1,6 +1,6 @@
 -- The choices of the lanes.
 use Rattle.qoi.proofs.format.Quads.{found_keep, numbers_chosen, counts_chosen}
-use Rattle.qoi.proofs.encoding.SpelledLanes.{lanes_spelled, counts_few}
+use Rattle.qoi.proofs.encoding.SpelledLanes.{counts_few}
 use Rattle.qoi.proofs.encode.quad.spell.Goals as goal
 
 pub fulls-requires-clause-opaque : goal.fulls-requires-clause-opaque
@@ -20,10 +20,6 @@ returns-clause-counts g c =
     c.fits-cur.0 c.fits-prev.0 c.steps-steps.ensures.lanes c.diff_steps-for_diff.ensures.lanes
     c.luma_steps-for_luma.ensures.lanes
     c.fulls.result.1 c.fulls.ensures.counts
-
-pub returns-clause-lanes : goal.returns-clause-lanes
-returns-clause-lanes g c = lanes_spelled c.args.cur c.args.prev _ _ c.fits-cur.0 c.fits-prev.0 c.fits-cur.1 c.fits-prev.1 (returns-clause-words g c)
-    (returns-clause-counts g c)
 
 pub returns-clause-few : goal.returns-clause-few
 returns-clause-few g c =

@@ -1,27 +1,24 @@
 -- A turn further.
-use Rattle.std.proofs.Common.{◌≡◌, ◌-◌, ◌*◌, ◌%◌, length, take, drop, sym, ap, ◌∙◌, arith, subst}
+use Rattle.std.proofs.Common.{◌≡◌, ◌-◌, ◌*◌, ◌%◌, length, drop, sym, ap, ◌∙◌, arith, subst}
 use Rattle.std.proofs.lemmas.List.{length-drop}
-use Rattle.qoi.specs.Raw.{pixels_of}
-use Rattle.qoi.specs.inner.CoderLoop.{CoderBetween}
+use Rattle.qoi.specs.inner.CoderLoop.{BytesBetween}
 use Rattle.qoi.proofs.encoding.GroupRuns.{whole_rest, some_bytes}
 use Rattle.qoi.proofs.encode.coder.Coder.fill.Goals as goal
 
-pub loop-end-preserved : goal.loop-end-preserved
-loop-end-preserved g c =
-    let rest = c.loop-end.rest.now in
-    let after = c.split_at.result.1.now in
-    let k = c.give_quad-next.result.1 in
-    let i = c.loop-end.invariant in
-    let back : after ≡ drop (g.row.N * k) rest = c.split_at.ensures.back in
-    let size : length after ≡ length rest - g.row.N * k = ap length back ∙ length-drop (g.row.N * k) rest in
-    let some = some_bytes g.row.N k c.requires.channels c.give_quad-next.ensures.some in
+pub loop-self-preserved : goal.loop-self-preserved
+loop-self-preserved g c =
+    let rest = c.loop-self.rest.now in
+    let k = c.write_quad-count.result in
+    let i = c.loop-self.invariant in
+    let channels = c.args.self.now.channels in
+    let back : c.skip-rest.result.now ≡ drop (g.row.N * k) rest = c.skip-rest.ensures in
+    let size : length c.skip-rest.result.now ≡ length rest - g.row.N * k = ap length back ∙ length-drop (g.row.N * k) rest in
+    let some = some_bytes g.row.N k channels c.write_quad-count.ensures.some in
     record {
-      end = omega (arith, c.give_quad-next.ensures.within, c.give_quad-next.ensures.inside, c.loop-end-test.true);
-      size = c.give_quad-next.ensures.same ∙ i.size;
-      left = omega (arith, i.left);
-      some = λ _. omega (arith, i.left, c.give_quad-next.ensures.inside);
-      whole = ap (λ m. m % g.row.N) size ∙ whole_rest g.row.N k (length rest) c.requires.channels i.whole c.give_quad-next.ensures.inside;
-      opaque = c.give_quad-next.ensures.opaque;
-      given = λ w e b. subst (λ xs. CoderBetween w (pixels_of g.row.N xs) c.give_quad-next.new.table c.give_quad-next.new.self
-          (take c.give_quad-next.result.0 c.give_quad-next.new.out)) (sym back) (c.give_quad-next.ensures.given w e (i.given w e b));
+      end = omega (arith, c.write_quad-count.ensures.end, c.is_full.ensures.room c.loop-self-test.true);
+      left = omega (arith, i.left, size);
+      some = λ _. omega (arith, i.left, c.write_quad-count.ensures.inside, size, some);
+      whole = ap (λ m. m % g.row.N) size ∙ whole_rest g.row.N k (length rest) channels i.whole c.write_quad-count.ensures.inside;
+      written = λ w b. subst (λ xs. BytesBetween w xs c.write_quad-count.new.table c.write_quad-count.new.self c.write_quad-count.new.piece) (sym back)
+          (c.write_quad-count.ensures.written w (i.written w b));
     }

@@ -1,12 +1,21 @@
 -- The state before the first pixel.
-use Rattle.std.proofs.Common.{refl, ap, ◌∙◌}
-use Rattle.qoi.specs.Qoi.{hash}
+use Rattle.std.proofs.Common.{refl, ap}
+use Rattle.qoi.specs.Qoi.{start}
+use Rattle.qoi.proofs.encoding.CoderTable.{none_held}
 use Rattle.qoi.proofs.encode.coder.Coder.new.Goals as goal
 
-pub returns-clause-style : goal.returns-clause-style
-returns-clause-style c = record {
-  place_is = c.hash_index-place.ensures.position
-      ∙ ap hash c.start-last.ensures;
+pub returns-clause-state : goal.returns-clause-state
+returns-clause-state g c table holds = record {
+  table_is = none_held c.args.style table holds;
+  last_is = c.start-last.ensures;
   begun_is = refl;
   placed_is = refl;
+}
+
+pub invariant_of-result : goal.invariant_of-result
+unfolding start
+invariant_of-result g c = record {
+  channels = c.requires;
+  opaque = λ _. ap (λ p. p.a) c.start-last.ensures;
+  within = c.hash_index-place.ensures.position;
 }

@@ -1,22 +1,31 @@
 -- Repeats are put once, or not at all.
-use Rattle.std.proofs.Common.{◌++◌, replicate, sym, subst}
-use Rattle.qoi.specs.declared.types.Style.TheVariants.{Tight}
-use Rattle.qoi.specs.Qoi.{previous}
-use Rattle.qoi.specs.inner.CoderState.{StateAfter}
-use Rattle.qoi.proofs.encoding.CoderTable.{state_unput, state_put_some}
-use Rattle.qoi.proofs.encoding.StyledGroup.{style_repeats}
+use Rattle.std.proofs.Common.{IsTrue, nat_lt, ◌∷◌, ◌++◌, replicate, sym, ap, ◌∙◌, subst}
+use Rattle.qoi.specs.Qoi.{Past, previous}
+use Rattle.qoi.specs.Styles.{has_pixel}
+use Rattle.qoi.specs.inner.CoderState.{held_in}
+use Rattle.qoi.specs.inner.Table.{Holds}
+use Rattle.qoi.proofs.format.ChunkSteps.{previous_repeats}
+use Rattle.qoi.proofs.encoding.CoderTable.{fresh_repeats, repeats_unput, repeats_put}
+use Rattle.qoi.proofs.encoding.StyledGroup.{placed_repeats}
 use Rattle.qoi.proofs.encode.coder.Coder.repeat.Goals as goal
 use Rattle.qoi.proofs.encode.coder.Coder.repeat.Goals.{in-Reference, in-Tight}
 
 pub returns-clause-state : goal.returns-clause-state
-returns-clause-state c past s = elim c.match-style.branch [
-  | in-Reference w ↦ subst (λ t. StateAfter c.args.style (replicate c.args.count (previous past) ++ past) t c.args.self.now.last) (sym w.table-is)
-      (state_unput c.args.style c.args.count past c.args.table.now c.args.self.now.last w.in-Reference.is s)
-  | in-Tight w ↦ (let tight : StateAfter Tight past c.args.table.now c.args.self.now.last = rw w.in-Tight.is at s in
-      subst (λ t. StateAfter c.args.style (replicate c.args.count (previous past) ++ past) t c.args.self.now.last) (sym w.table-is)
-      (rw w.in-Tight.is
-      (state_put_some c.args.count past c.args.table.now w.put_if.new.self c.args.self.now.last w.put_if.ensures.puts w.put_if.ensures.stays tight)))
-]
-
-pub returns-clause-style : goal.returns-clause-style
-returns-clause-style c past before s = style_repeats c.args.count past before _ _ _ s
+returns-clause-state g c past before s =
+    let n = c.args.count in
+    let style = c.args.self.now.style in
+    let pixels = replicate n (previous past) ++ past in
+    record {
+      table_is = elim c.match-self.branch [
+        | in-Reference w ↦ subst (λ t. Holds t (held_in style pixels)) (sym w.table-is)
+            (repeats_unput style n past c.args.table.now w.in-Reference.is s.table_is)
+        | in-Tight w ↦ (let held = rw w.in-Tight.is at s.table_is in
+            let puts : IsTrue (nat_lt 0 n) → (held : Past) → Holds c.args.table.now held → Holds w.put_if.new.self (previous past ∷ held)
+            = λ t held h. subst (λ p. Holds w.put_if.new.self (p ∷ held)) s.last_is (w.put_if.ensures.puts t held h) in
+            subst (λ t. Holds t (held_in style pixels)) (sym w.table-is)
+            (rw w.in-Tight.is (repeats_put n past c.args.table.now w.put_if.new.self puts w.put_if.ensures.stays held)))
+      ];
+      last_is = s.last_is ∙ sym (previous_repeats n past);
+      begun_is = s.begun_is ∙ sym (ap has_pixel (fresh_repeats n past));
+      placed_is = placed_repeats n past before c.args.self.now.placed s.placed_is;
+    }

@@ -1,0 +1,43 @@
+-- A piece at a time.
+use Rattle.std.proofs.Common.{arith}
+use Rattle.std.proofs.lemmas.List.{length-take-le}
+use Rattle.std.proofs.lemmas.Result.{err_from_is_err_and}
+use Rattle.qoi.specs.declared.encode.piece.TheConstants.{PIECE}
+use Rattle.qoi.proofs.encoding.PieceByPiece.{piece_starts, piece_filled, piece_fits, piece_went, piece_part, piece_ends}
+use Rattle.qoi.proofs.encode.chunks.encode_pixels.Goals as goal
+
+pub loop-coder-init : goal.loop-coder-init
+loop-coder-init g c =
+    let new = c.new-coder.ensures in
+    let piece = c.args.piece.now in
+    let size = length-take-le piece.end piece.bytes.now (omega (arith, c.requires.begun, piece.room)) in
+    record {
+      end = c.requires.begun;
+      whole = c.requires.whole;
+      state = piece_starts g.met.W.Writer.laws c.requires.channels (λ i. omega (arith, c.type_inv.data i)) c.requires.whole
+          (omega (arith, size, c.requires.room)) new.style (new.state c.new-table.result c.new-table.ensures);
+    }
+
+pub returns-then-not-is_full-clause-written : goal.returns-then-not-is_full-clause-written
+returns-then-not-is_full-clause-written g c = piece_ends (piece_filled c.loop-coder.invariant.state c.fill-rest.ensures.written) c.write_last.ensures.written
+
+pub send-requires-clause-room : goal.send-requires-clause-room
+send-requires-clause-room g c =
+    let piece = c.fill-rest.new.piece in
+    let size = length-take-le piece.end piece.bytes.now (omega (arith, piece.within, piece.room)) in
+    piece_fits (piece_filled c.loop-coder.invariant.state c.fill-rest.ensures.written) PIECE
+    (omega (arith, size, c.is_full.ensures.full c.if-not-is_full.false))
+
+pub loop-coder-preserved : goal.loop-coder-preserved
+loop-coder-preserved g c = record {
+  end = omega (arith, c.in_ok-send.ensures.end, c.fill-rest.ensures.end);
+  whole = c.fill-rest.ensures.whole;
+  state = piece_went (piece_filled c.loop-coder.invariant.state c.fill-rest.ensures.written) PIECE c.in_ok-send.ensures.written c.in_ok-send.ensures.kept;
+}
+
+pub returns-in_err-send-clause-refused : goal.returns-in_err-send-clause-refused
+returns-in_err-send-clause-refused g c =
+    let e = err_from_is_err_and c.from_residual.result c.from_residual.ensures.1 in
+    let r = c.in_err-send.ensures.refused in
+    let part = piece_part (piece_filled c.loop-coder.invariant.state c.fill-rest.ensures.written) PIECE r.1 in
+    rw (e.1, e.2) (r.0, part)

@@ -1,0 +1,17 @@
+-- The coder stands between two pixels, and the piece isn't full.
+use Rattle.std.proofs.Common.{◌≡◌, ◌%◌, ◌<◌, length}
+use Rattle.qoi.specs.declared.encode.piece.TheConstants.{PIECE}
+use Rattle.qoi.specs.inner.Piece.{kept_bytes}
+use Rattle.qoi.proofs.encoding.PieceByPiece.{PieceBetween}
+use Rattle.qoi.proofs.encode.chunks.encode_pixels.Given as goal
+
+abbrev pub invariant-loop-coder : goal.invariant-loop-coder
+invariant-loop-coder g l = record {
+  end : l.piece.end < PIECE;
+  whole : length l.rest % g.row.N ≡ 0;
+  state : PieceBetween g.W.Writer.wrote g.W.Writer.room l.fn.style g.row.N l.data
+      (kept_bytes l.initial.piece) l.initial.buf l.rest l.table l.coder (kept_bytes l.piece) l.buf;
+}
+
+abbrev pub decreases-loop-coder : goal.decreases-loop-coder
+decreases-loop-coder g l = length l.rest

@@ -1,0 +1,28 @@
+-- A full piece was sent, and the bytes behind it stand at the front.
+use Rattle.std.proofs.Common.{sym, subst}
+use Rattle.std.proofs.lemmas.List.{take-take}
+use Rattle.std.proofs.lemmas.Result.{err_from_is_err_and}
+use Rattle.qoi.specs.writers.Writes.{WroteBeginning}
+use Rattle.qoi.proofs.encoding.PieceSent.{moved_front}
+use Rattle.qoi.proofs.encode.piece.Piece.send.Goals as goal
+
+pub returns-in_err-send_front-clause-refused : goal.returns-in_err-send_front-clause-refused
+returns-in_err-send_front-clause-refused g c =
+    let p = err_from_is_err_and c.from_residual.result c.from_residual.ensures.1 in
+    let r = c.in_err-send_front.ensures.refused in
+    let s = c.args.self.now in
+    rw (p.1, p.2) (
+      r.0,
+      subst (λ z. WroteBeginning g.W.Writer.wrote c.args.buf.now z c.send_front.new.buf) (sym (take-take 4096 s.end s.bytes.now c.requires.full)) r.1,
+    )
+
+pub returns-clause-written : goal.returns-clause-written
+returns-clause-written g c =
+    let s = c.args.self.now in
+    subst (λ z. g.W.Writer.wrote c.args.buf.now z c.send_front.new.buf) (sym (take-take 4096 s.end s.bytes.now c.requires.full))
+    c.in_ok-send_front.ensures.written
+
+pub returns-clause-kept : goal.returns-clause-kept
+returns-clause-kept g c =
+    let s = c.args.self.now in
+    rw c.in_ok-send_front.ensures.moved (moved_front s.bytes.now 4096 4224 s.end s.room c.requires.full s.within)

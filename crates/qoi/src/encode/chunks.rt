@@ -1,0 +1,75 @@
+//! The chunks of an image, through a piece to a writer (QOI specification 1.0, "Data").
+ghost use Rattle.std.specs.Prelude.{◌≡◌, ◌+◌, ◌*◌, ◌/◌, ◌%◌, ◌<◌, ◌≤◌, length, OnOk, IfErr};
+ghost use Rattle.qoi.specs.declared.encode.piece.TheConstants.{PIECE};
+ghost use Rattle.qoi.specs.declared.encode.quad.TheConstants.{READ};
+ghost use Rattle.qoi.specs.Qoi.{channels_number};
+ghost use Rattle.qoi.specs.Raw.{IsChannels, pixels_of};
+ghost use Rattle.qoi.specs.inner.Piece.{WroteChunks, BeganChunks};
+
+use crate::encode::coder::Coder;
+use crate::encode::piece::Piece;
+use crate::error::Result;
+use crate::table::Table;
+use crate::types::Channels::{self, Rgb, Rgba};
+use crate::types::Style::{self, Places, Reference, Tight};
+use crate::utils::Writer;
+
+// Keeps the chunks of an image's raw bytes, `N` bytes a pixel, and sends the writer each full piece.
+#[inline(always)]
+fn encode_pixels<W: Writer, const N: usize>(
+    buf: &mut W,
+    piece: &mut Piece,
+    style: Style,
+    data: &[u8],
+) -> Result<()>
+    requires channels { IsChannels N }
+    requires whole { length «data».now % N ≡ 0 }
+    requires begun { piece.old.end < PIECE }
+    requires room { piece.old.end + (length «data».now + length «data».now / N) ≤ W.room buf.old }
+    ensures end { OnOk result (piece.new.end < PIECE + 2 * READ) }
+    ensures written { OnOk result (WroteChunks W.wrote style (pixels_of N «data».now)
+        buf.old piece.old buf.new piece.new) }
+    ensures refused { IfErr result (λ e. W.IsFault e
+        × BeganChunks W.wrote style (pixels_of N «data».now) buf.old piece.old buf.new) }
+{
+    let mut table = Table::new();
+    let mut coder = Coder::<N>::new(style);
+    let mut rest = data;
+    loop {
+        rest = coder.fill(&mut table, piece, rest);
+        if !piece.is_full() {
+            coder.write_last(&mut table, piece, rest);
+            return Ok(());
+        }
+        piece.send(buf)?;
+    }
+}
+
+/// Keeps the chunks of an image's raw bytes, of this many channels, and sends the writer each full piece.
+pub(super) fn encode_chunks<W: Writer>(
+    buf: &mut W,
+    piece: &mut Piece,
+    style: Style,
+    channels: Channels,
+    data: &[u8],
+) -> Result<()>
+    requires whole { length «data».now % channels_number channels ≡ 0 }
+    requires begun { piece.old.end < PIECE }
+    requires room { piece.old.end
+        + (length «data».now + length «data».now / channels_number channels) ≤ W.room buf.old }
+    ensures end { OnOk result (piece.new.end < PIECE + 2 * READ) }
+    ensures written { OnOk result (WroteChunks W.wrote style
+        (pixels_of (channels_number channels) «data».now) buf.old piece.old buf.new piece.new) }
+    ensures refused { IfErr result (λ e. W.IsFault e × BeganChunks W.wrote style
+        (pixels_of (channels_number channels) «data».now) buf.old piece.old buf.new) }
+{
+    // Each pair has a loop of its own, in which the style is known.
+    match (channels, style) {
+        (Rgb, Reference) => encode_pixels::<W, 3>(buf, piece, Reference, data),
+        (Rgb, Places) => encode_pixels::<W, 3>(buf, piece, Places, data),
+        (Rgb, Tight) => encode_pixels::<W, 3>(buf, piece, Tight, data),
+        (Rgba, Reference) => encode_pixels::<W, 4>(buf, piece, Reference, data),
+        (Rgba, Places) => encode_pixels::<W, 4>(buf, piece, Places, data),
+        (Rgba, Tight) => encode_pixels::<W, 4>(buf, piece, Tight, data),
+    }
+}
