@@ -1,6 +1,7 @@
 //! The library as any crate sees it, by its public calls alone and on whole files: the worked examples,
 //! proved callers, drawn images and files, broken files, and the standard library's readers and writers.
 
+mod borders;
 mod broken;
 mod callers;
 mod calls;

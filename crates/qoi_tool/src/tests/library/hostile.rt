@@ -4,26 +4,13 @@ ghost use Rattle.std.specs.Prelude.{◌<◌};
 use crate::tests::fakes::{NONE, Source};
 use crate::tests::library::support::assert_bytes;
 use crate::tests::library::support::decodings::{Call, Decoding};
-use crate::tests::library::support::generator::{Numbers, Rgba};
-use crate::tests::library::support::images::{file_of, raw_of, row};
+use crate::tests::library::support::generator::Numbers;
+use crate::tests::library::support::images::{file_of, row, seen_raw};
 use crate::tests::library::support::lists::{behind, list};
 use crate::tests::library::support::reference::pixels_of;
 use qoi::{Channels, Decoder, Header, Result};
 use std::alloc::Global;
 use std::process::Abort;
-
-// The raw bytes of the pixels in these channels. A file of three channels is opaque.
-fn seen_raw(alloc: Global, pixels: &[Rgba], own: Channels, channels: Channels) -> Result<Vec<u8>> {
-    let mut raw = raw_of(alloc, channels, pixels)?;
-    if own.is_rgb() && channels.is_rgba() {
-        for px in raw.chunks_exact_mut(4) {
-            if let [_, _, _, alpha] = px {
-                *alpha = 255;
-            }
-        }
-    }
-    Ok(raw)
-}
 
 // Decodes the chunks under headers of three and of four channels, into three and into four: by each call,
 // and from a stream that gives few bytes a call.

@@ -49,6 +49,24 @@ pub fn raw_of(alloc: Global, channels: Channels, pixels: &[Rgba]) -> Result<Vec<
     Ok(raw)
 }
 
+/// The raw bytes in these channels of the pixels of a file, which is opaque where its own channels are three.
+pub fn seen_raw(
+    alloc: Global,
+    pixels: &[Rgba],
+    own: Channels,
+    channels: Channels,
+) -> Result<Vec<u8>> {
+    let mut raw = raw_of(alloc, channels, pixels)?;
+    if own.is_rgb() && channels.is_rgba() {
+        for px in raw.chunks_exact_mut(4) {
+            if let [_, _, _, alpha] = px {
+                *alpha = 255;
+            }
+        }
+    }
+    Ok(raw)
+}
+
 /// An image: the header of its file, a style, its raw bytes, and its file in that style.
 #[derive(Drop)]
 pub struct Image {

@@ -1,4 +1,4 @@
-//! Lists of chunks of seven kinds that are drawn at random, the same at each run.
+//! Lists of chunks that are drawn at random, the same at each run.
 use crate::tests::library::support::generator::Numbers;
 use qoi::Result;
 use std::alloc::Global;
@@ -13,9 +13,10 @@ fn byte(numbers: &mut Numbers) -> u8 {
     }
 }
 
-// Adds a chunk of a kind: an index position, a difference, a luma, RGB, RGBA, a run of 1, or a longer one.
-// Returns how many pixels it gives. One of four longer runs has up to 62 of them, the others up to 10.
-fn add(numbers: &mut Numbers, chunks: &mut Vec<u8>, kind: u32) -> Result<u32> {
+/// Adds a chunk of a kind: an index position, a difference, a luma, RGB, RGBA, a run of 1, a longer one, or
+/// one of up to 6. Returns how many pixels it gives. One of four longer runs has up to 62 of them, the
+/// others up to 10.
+pub fn add(numbers: &mut Numbers, chunks: &mut Vec<u8>, kind: u32) -> Result<u32> {
     let six = numbers.below(64) as u8;
     let (r, g, b, a) = (byte(numbers), byte(numbers), byte(numbers), byte(numbers));
     match kind {
@@ -26,7 +27,10 @@ fn add(numbers: &mut Numbers, chunks: &mut Vec<u8>, kind: u32) -> Result<u32> {
         4 => chunks.extend_from_slice(&[0xff, r, g, b, a])?,
         5 => chunks.push(0xc0)?,
         _ => {
-            let more = 1 + numbers.below(if six < 16 { 61 } else { 9 });
+            let more = match kind {
+                6 => 1 + numbers.below(if six < 16 { 61 } else { 9 }),
+                _ => numbers.below(6),
+            };
             chunks.push(0xc0 + more as u8)?;
             return Ok(1 + more);
         }
@@ -34,7 +38,7 @@ fn add(numbers: &mut Numbers, chunks: &mut Vec<u8>, kind: u32) -> Result<u32> {
     Ok(1)
 }
 
-/// The next list: chunks until they give `n` pixels. A run may give more at the end.
+/// The next list: chunks of the first seven kinds until they give `n` pixels. A run may give more at the end.
 pub fn list(alloc: Global, numbers: &mut Numbers, n: u32) -> Result<Vec<u8>> {
     let mut chunks = Vec::new(alloc);
     let mut given = 0u32;

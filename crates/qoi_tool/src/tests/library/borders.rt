@@ -1,0 +1,176 @@
+//! Drawn lists that end a few bytes and pixels after a whole number of fours of chunks, by a plain decoder:
+//! followed by a few bytes, and cut. So a loop that takes four chunks at a time meets both ends.
+use crate::tests::library::support::decodings::Decoding;
+use crate::tests::library::support::generator::Numbers;
+use crate::tests::library::support::images::{file_of, row, seen_raw};
+use crate::tests::library::support::lists::add;
+use crate::tests::library::support::reference::pixels_of;
+use qoi::{Channels, Result};
+use std::alloc::Global;
+use std::process::Abort;
+
+// The kinds of chunk that a list is drawn from, as `add` numbers them.
+#[rattlefmt::skip]
+const KINDS: [[u32; 8]; 6] = [
+    // Each kind; index positions, differences and lumas; with runs of up to 6; lumas, RGB and RGBA.
+    [0, 1, 2, 3, 4, 5, 6, 7],
+    [0, 0, 0, 1, 1, 2, 2, 2],
+    [0, 0, 1, 1, 2, 2, 7, 7],
+    [2, 2, 3, 3, 3, 4, 4, 4],
+    // Runs; seldom a longer run.
+    [5, 6, 6, 6, 6, 7, 7, 7],
+    [0, 1, 1, 2, 2, 3, 5, 6],
+];
+
+// What follows a file: bytes that begin with chunks.
+const BEHIND: [u8; 20] = [
+    0xfd, 0xff, 1, 2, 3, 4, 0xfe, 5, 6, 7, 0x9f, 0x33, 0x6b, 0x35, 0xc0, 0, 0, 0, 0, 1,
+];
+
+// Decodes a file that 0 to 20 bytes follow, and refuses it without its last 1 to 20 bytes.
+fn assert_ends(rt: &impl Abort, alloc: Global, file: Decoding<'_>, raw: &[u8]) -> Result<()> {
+    for more in 0..=20usize {
+        let mut bytes = Vec::from_slice(alloc, file.bytes)?;
+        let behind = &BEHIND[..more];
+        bytes.extend_from_slice(behind)?;
+        let decoding = Decoding {
+            bytes: &bytes,
+            ..file
+        };
+        decoding.check(rt, alloc, raw, behind)?;
+    }
+    let size = file.bytes.len();
+    for less in 1..=20usize {
+        let bytes = &file.bytes[..size.saturating_sub(less)];
+        if bytes.len() >= 14 {
+            Decoding { bytes, ..file }.check_cut(rt, alloc)?;
+        }
+    }
+    Ok(())
+}
+
+// Chunks, and how many pixels they give.
+#[derive(Drop)]
+struct Drawing {
+    kinds: [u32; 8],
+    chunks: Vec<u8>,
+    given: u32,
+}
+
+impl Drawing {
+    // So many fours of chunks.
+    fn of(alloc: Global, numbers: &mut Numbers, kinds: [u32; 8], fours: u32) -> Result<Drawing> {
+        let mut drawing = Drawing {
+            kinds,
+            chunks: Vec::new(alloc),
+            given: 0,
+        };
+        for _ in 0..fours.saturating_mul(4) {
+            drawing.add(numbers, 5)?;
+        }
+        Ok(drawing)
+    }
+
+    // Adds a chunk. If the one that is drawn has more bytes than there is room, it is a difference.
+    fn add(&mut self, numbers: &mut Numbers, room: usize) -> Result<()> {
+        let drawn = self.kinds[numbers.below(8) as usize];
+        let size = match drawn {
+            2 => 2,
+            3 => 4,
+            4 => 5,
+            _ => 1,
+        };
+        let kind = if size <= room { drawn } else { 1 };
+        let given = add(numbers, &mut self.chunks, kind)?;
+        self.given = self.given.saturating_add(given);
+        Ok(())
+    }
+
+    // The file of the first `n` pixels, under headers of three and of four channels, into three and four.
+    fn check(&self, rt: &impl Abort, alloc: Global, n: u32) -> Result<()> {
+        let pixels = pixels_of(alloc, &self.chunks, n)?;
+        for own in [Channels::Rgb, Channels::Rgba] {
+            let header = row(n, own);
+            let file = file_of(alloc, header, &self.chunks)?;
+            for channels in [Channels::Rgb, Channels::Rgba] {
+                let raw = seen_raw(alloc, &pixels, own, channels)?;
+                let decoding = Decoding {
+                    bytes: &file,
+                    header,
+                    channels,
+                };
+                assert_ends(rt, alloc, decoding, &raw)?;
+            }
+        }
+        Ok(())
+    }
+}
+
+// The last chunks have 0 to 20 bytes.
+fn assert_input_tails(
+    rt: &impl Abort,
+    alloc: Global,
+    numbers: &mut Numbers,
+    kinds: [u32; 8],
+    fours: u32,
+) -> Result<()> {
+    for size in 0..=20usize {
+        let mut drawing = Drawing::of(alloc, numbers, kinds, fours)?;
+        let end = drawing.chunks.len().saturating_add(size);
+        for _ in 0..size {
+            let room = end.saturating_sub(drawing.chunks.len());
+            if room > 0 {
+                drawing.add(numbers, room)?;
+            }
+        }
+        if drawing.given > 0 {
+            drawing.check(rt, alloc, drawing.given)?;
+        }
+    }
+    Ok(())
+}
+
+// The last chunks give 0 to 90 pixels; a last run may give more.
+fn assert_output_tails(
+    rt: &impl Abort,
+    alloc: Global,
+    numbers: &mut Numbers,
+    kinds: [u32; 8],
+    fours: u32,
+) -> Result<()> {
+    for more in 0..=90u32 {
+        let mut drawing = Drawing::of(alloc, numbers, kinds, fours)?;
+        let n = drawing.given.saturating_add(more);
+        for _ in 0..more {
+            if drawing.given < n {
+                drawing.add(numbers, 5)?;
+            }
+        }
+        if n > 0 {
+            drawing.check(rt, alloc, n)?;
+        }
+    }
+    Ok(())
+}
+
+#[test]
+fn ends_of_input(rt: HostRuntime) -> Result<()> {
+    let mut numbers = Numbers::new(0xb0bde2);
+    for kinds in KINDS {
+        for fours in [0, 1, 2, 5] {
+            assert_input_tails(&rt, rt.alloc(), &mut numbers, kinds, fours)?;
+        }
+    }
+    Ok(())
+}
+
+#[test]
+fn ends_of_output(rt: HostRuntime) -> Result<()> {
+    let mut numbers = Numbers::new(0xe4de4d);
+    for kinds in KINDS {
+        for fours in [0, 1, 5] {
+            assert_output_tails(&rt, rt.alloc(), &mut numbers, kinds, fours)?;
+        }
+    }
+    Ok(())
+}
