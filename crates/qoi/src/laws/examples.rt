@@ -5,7 +5,7 @@ ghost use Rattle.qoi.specs.declared.header.Header.{Header};
 ghost use Rattle.qoi.specs.declared.types.Channels.{Channels};
 ghost use Rattle.qoi.specs.declared.types.ColorSpace.{ColorSpace};
 ghost use Rattle.qoi.specs.declared.chunk.Chunk.TheVariants.{Place, Diff, Luma, Run, Rgb, Rgba};
-ghost use Rattle.qoi.specs.Qoi.{AreBytes, IsChunk, bytes_of, chunk_max, default_header, end_marker, marker_size, pixel, rgba};
+ghost use Rattle.qoi.specs.Qoi.{AreBytes, IsChunk, bytes_of, chunk_max, default_header, end_marker, header_bytes, IsValid, marker_size, pixel, rgba};
 ghost use Rattle.qoi.specs.Errors.{IsIoError, IsReaderFault, IsErrorOfCut, IsErrorOfWrong};
 ghost use Rattle.qoi.specs.Raw.{IsChannels, without_fourth, pixels_of, byte_count, image_byte_count, HasImageLength, capped_byte_count, AreOpaque, HasChannels};
 ghost use Rattle.qoi.specs.Verdicts.{IsPartOfChunk, IsWhole, IsCut, IsWrong};
@@ -80,6 +80,16 @@ pub fn size_examples()
     ensures default_height { default_header.height ≡ 1 }
     ensures default_channels { default_header.channels ≡ Channels.Rgb }
     ensures default_colorspace { default_header.colorspace ≡ ColorSpace.Srgb }
+    ensures header_fields { header_bytes (record {
+      width = 258;
+      height = 3;
+      channels = Channels.Rgba;
+      colorspace = ColorSpace.Linear;
+    }) ≡ 0x71 ∷ 0x6f ∷ 0x69 ∷ 0x66 ∷ 0 ∷ 0 ∷ 1 ∷ 2 ∷ 0 ∷ 0 ∷ 0 ∷ 3 ∷ 4 ∷ 1 ∷ [] }
+    ensures one_pixel_is_valid { IsValid default_header }
+    ensures no_pixel_is_not { IsValid (record default_header { height = 0 }) → ⊥ }
+    ensures most_pixels_are_valid { IsValid (record default_header { width = 400000000 }) }
+    ensures one_more_is_not { IsValid (record default_header { width = 400000001 }) → ⊥ }
     ensures bytes_in_four { byte_count (record {
       width = 2;
       height = 3;
