@@ -1,5 +1,5 @@
 //! Small examples of the definitions of the program, computed.
-ghost use Rattle.std.specs.Prelude.{◌≡◌, ℕ, ◌++◌, List, [], ◌∷◌, codes};
+ghost use Rattle.std.specs.Prelude.{◌≡◌, ℕ, ◌++◌, List, [], ◌∷◌, codes, Some};
 ghost use Rattle.qoi.specs.declared.error.Error.{Error};
 ghost use Rattle.qoi.specs.declared.types.Channels.{Channels};
 ghost use Rattle.qoi.specs.declared.types.ColorSpace.{ColorSpace};
@@ -8,7 +8,7 @@ ghost use Rattle.qoi_tool.specs.declared.command.Command.TheVariants.{Decode, De
 ghost use Rattle.qoi_tool.specs.declared.Fault.{Fault};
 ghost use Rattle.qoi_tool.specs.Words.{Asks, IsUsage, IsSide};
 ghost use Rattle.qoi_tool.specs.Lines.{header_line};
-ghost use Rattle.qoi_tool.specs.Faults.{status_of};
+ghost use Rattle.qoi_tool.specs.Faults.{status_of, fault_line};
 
 /// What words ask for.
 pub fn word_examples()
@@ -31,7 +31,7 @@ pub fn word_examples()
     ensures no_sign { (n : ℕ) → IsSide (codes "+1") n → ⊥ }
 {}
 
-/// The line of a header, and the status after a fault.
+/// The line of a header, and the status and the line of a fault.
 pub fn line_examples()
     ensures one_pixel { header_line (record {
       width = 1;
@@ -47,4 +47,8 @@ pub fn line_examples()
     }) ≡ codes "20000x10 channels 4 colorspace linear" ++ 10 ∷ [] }
     ensures usage { status_of Fault.Usage ≡ 2 }
     ensures image { (e : Error) → status_of (Fault.Image e) ≡ 1 }
+    ensures usage_line { fault_line Fault.Usage ≡ Some (codes
+        "usage: qoi_tool dec [rgb|rgba] | enc W H [linear] [places|tight] | info" ++ 10 ∷ []) }
+    ensures error_line { fault_line (Fault.Image (Error.InvalidChannels 5))
+        ≡ Some (codes "qoi_tool: invalid number of channels: 5" ++ 10 ∷ []) }
 {}

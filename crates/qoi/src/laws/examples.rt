@@ -186,6 +186,7 @@ pub fn verdict_examples()
         (7 ∷ []) }
     ensures cut_in_marker { IsCut 1 (0xc0 ∷ replicate 7 0) (Run 1 ∷ []) (replicate 7 0) }
     ensures cut_in_chunk { IsCut 2 (0xc0 ∷ 0xfe ∷ 1 ∷ 2 ∷ []) (Run 1 ∷ []) (0xfe ∷ 1 ∷ 2 ∷ []) }
+    ensures eight_are_not_cut { IsCut 1 (0xc0 ∷ replicate 8 0) (Run 1 ∷ []) (replicate 8 0) → ⊥ }
     ensures wrong { IsWrong 1 (0xc0 ∷ replicate 8 0 ++ 7 ∷ []) (Run 1 ∷ []) (replicate 8 0)
         (7 ∷ []) }
     ensures refuses_cut { RefusesBytes 1 [] Error.UnexpectedBufferEnd }

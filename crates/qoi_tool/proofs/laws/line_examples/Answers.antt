@@ -10,3 +10,7 @@ returns-clause-one_pixel c = refl
 pub returns-clause-linear : goal.returns-clause-linear
 unfolding digits
 returns-clause-linear c = refl
+
+pub returns-clause-error_line : goal.returns-clause-error_line
+unfolding digits
+returns-clause-error_line c = refl
