@@ -37,7 +37,8 @@ fn assert_library(
     Ok(file)
 }
 
-// The program writes the image's file, and its raw bytes.
+// The program writes the image's file, and its raw bytes, to a writer that takes a byte less than a piece
+// at once.
 fn assert_program(
     rt: &impl Abort,
     alloc: Global,
@@ -46,11 +47,11 @@ fn assert_program(
     file: &[u8],
 ) -> std::result::Result<(), Fail> {
     let mut input = Source::new(raw, usize::MAX, NONE);
-    let mut output = Sink::new(alloc, usize::MAX, NONE)?;
+    let mut output = Sink::new(alloc, 4095, NONE)?;
     assert!(rt; answer(alloc, words, &mut input, &mut output).is_ok());
     assert!(rt; output.got.as_slice() == file);
     let mut input = Source::new(file, usize::MAX, NONE);
-    let mut output = Sink::new(alloc, usize::MAX, NONE)?;
+    let mut output = Sink::new(alloc, 4095, NONE)?;
     assert!(rt; dec(alloc, &mut input, &mut output).is_ok());
     assert!(rt; output.got.as_slice() == raw);
     Ok(())
