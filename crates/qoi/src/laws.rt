@@ -1,5 +1,6 @@
 //! Laws over the definitions.
 
+pub mod examples;
 pub mod reading;
 pub mod surface;
 pub mod writing;

@@ -1,5 +1,6 @@
 //! The line that tells what a header says.
-ghost use Rattle.std.specs.Prelude.{◌≡◌, ◌≤◌, List, length, take, Some, OnOk, IfOk, IfErr};
+ghost use Rattle.std.specs.Prelude.{◌≡◌, ◌+◌, ◌≤◌, ◌++◌, List, length, drop, Some, OnOk, IfErr};
+ghost use Rattle.std.specs.Fmt.{decimal};
 ghost use Rattle.std.specs.Io.KnownBytes.{Appends};
 ghost use Rattle.qoi_tool.specs.Lines.{header_line};
 ghost use Rattle.qoi.specs.writers.Writes.{AppendsBeginning};
@@ -7,33 +8,55 @@ ghost use Rattle.qoi.specs.Errors.{IsIoError};
 
 use crate::transfer::write_all;
 use qoi::{Error, Header};
-use std::io;
 use std::io::Write;
 
 // Room for a line: it has at most 51 bytes.
 const ROOM: usize = 64;
 
-// A line that is being made, in a buffer of fixed length.
+// A line that is made from its end: the bytes from `start` on.
 #[derive(Drop)]
 struct Line {
     bytes: [u8; ROOM],
-    filled: usize,
-    ghost within: { filled ≤ length bytes },
+    start: usize,
+    ghost within: { start ≤ length bytes },
 }
 
-impl Write for Line {
-    ghost contents = { λ line. Some (take line.filled line.bytes) };
-
-    fn write(&mut self, buf: &[u8]) -> io::Result<usize> {
-        let count = buf.len().min(self.bytes.len() - self.filled);
-        let end = self.filled + count;
-        self.bytes[self.filled..end].copy_from_slice(&buf[..count]);
-        self.filled = end;
-        Ok(count)
+impl Line {
+    // The bytes of the line.
+    fn as_slice(&self) -> &[u8]
+        ensures { result.now ≡ drop self.now.start self.now.bytes }
+    {
+        &self.bytes[self.start..]
     }
 
-    fn flush(&mut self) -> io::Result<()> {
-        Ok(())
+    // Puts a text before the line.
+    fn put(&mut self, text: &[u8])
+        requires { length text.now ≤ self.old.start }
+        ensures text { drop self.new.start self.new.bytes
+            ≡ text.now ++ drop self.old.start self.old.bytes }
+        ensures start { self.new.start + length text.now ≡ self.old.start }
+        ensures size { length self.new.bytes ≡ length self.old.bytes }
+    {
+        let start = self.start - text.len();
+        self.bytes[start..self.start].copy_from_slice(text);
+        self.start = start;
+    }
+
+    // Puts a number before the line, in decimal digits, of which there are ten at most.
+    fn put_number(&mut self, n: u32)
+        requires { 10 ≤ self.old.start }
+        ensures text { drop self.new.start self.new.bytes
+            ≡ decimal n ++ drop self.old.start self.old.bytes }
+        ensures start { self.old.start ≤ self.new.start + 10 }
+    {
+        let mut rest = n;
+        loop {
+            self.put(&[b'0' + (rest % 10) as u8]);
+            rest /= 10;
+            if rest == 0 {
+                return;
+            }
+        }
     }
 }
 
@@ -45,29 +68,28 @@ pub fn write_line<W: Write>(output: &mut W, header: &Header) -> Result<(), Error
         × AppendsBeginning (W.contents output.old) (W.contents output.new)
         (header_line header.now)) }
 {
-    let line = line_of(header)?;
-    write_all(output, &line.bytes[..line.filled])
+    let line = line_of(header);
+    write_all(output, line.as_slice())
 }
 
 // The line of a header.
-fn line_of(header: &Header) -> io::Result<Line>
-    ensures { IfOk result (λ line. take line.filled line.bytes ≡ header_line header.now) }
+fn line_of(header: &Header) -> Line
+    ensures { drop result.start result.bytes ≡ header_line header.now }
 {
     let mut line = Line {
-        bytes: [0; ROOM],
-        filled: 0,
+        bytes: [b'\n'; ROOM],
+        start: ROOM - 1,
     };
-    let width = header.width;
-    let height = header.height;
-    let channels = header.channels.as_u8();
-    let space = if header.colorspace.is_linear() {
-        "linear"
+    line.put(if header.colorspace.is_linear() {
+        b"linear"
     } else {
-        "srgb"
-    };
-    writeln!(
-        line,
-        "{width}x{height} channels {channels} colorspace {space}"
-    )?;
-    Ok(line)
+        b"srgb"
+    });
+    line.put(b" colorspace ");
+    line.put_number(u32::from(header.channels.as_u8()));
+    line.put(b" channels ");
+    line.put_number(header.height);
+    line.put(b"x");
+    line.put_number(header.width);
+    line
 }

@@ -3,19 +3,23 @@
 #![tactic(auto)]
 
 mod command;
+mod fault_line;
+mod laws;
 mod line;
 mod transfer;
 
-ghost use Rattle.std.specs.Prelude.{◌≡◌, ℕ, List, OnOk, IfErr, Err, map};
+ghost use Rattle.std.specs.Prelude.{◌≡◌, ℕ, List, OnOk, IfErr, IfSome, Err, map};
 ghost use Rattle.std.specs.String.{string_bytes};
 ghost use Rattle.qoi_tool.specs.declared.Fault.{Fault};
 ghost use Rattle.qoi_tool.specs.declared.command.Command.TheVariants.{Decode, DecodeInto, Encode, Info};
 ghost use Rattle.qoi_tool.specs.Words.{IsUsage};
-ghost use Rattle.qoi_tool.specs.Faults.{status_of};
+ghost use Rattle.qoi_tool.specs.Faults.{status_of, fault_line};
+ghost use Rattle.qoi.specs.writers.Writes.{AppendsBeginning};
 ghost use Rattle.qoi_tool.specs.Transfers.{IsIoOrMemory};
 ghost use Rattle.qoi_tool.specs.Answers.{Finishes, StopsAt, Stops, Does};
 
 use crate::command::{Command, command_of};
+use crate::fault_line::write_fault;
 use crate::line::write_line;
 use crate::transfer::{read_exact, read_to_end, write_all};
 use qoi::{Channels, ColorSpace, Decoder, Encoder, Error, Style, decode_header, decode_to_vec};
@@ -157,22 +161,17 @@ fn info<R: Read, W: Write>(input: &mut R, output: &mut W) -> Result<(), Error>
 }
 
 /// Writes the line of a fault, and returns the status of the program: 1 for `Image`, 2 for `Usage`.
-/// What its writes return is ignored.
+/// What its writes return is ignored; so where they fail, a beginning of the line was written. Nothing is
+/// promised of an i/o error's own words.
 pub fn report<W: Write>(fault: &Fault, err: &mut W) -> u8
-    ensures { result ≡ status_of fault.now }
+    ensures status { result ≡ status_of fault.now }
+    ensures line { IfSome (fault_line fault.now)
+        (AppendsBeginning (W.contents err.old) (W.contents err.new)) }
 {
+    let _ = write_fault(err, fault);
     match fault {
-        Fault::Usage => {
-            let _ = writeln!(
-                err,
-                "usage: qoi_tool dec [rgb|rgba] | enc W H [linear] [places|tight] | info"
-            );
-            2
-        }
-        Fault::Image(error) => {
-            let _ = writeln!(err, "qoi_tool: {error}");
-            1
-        }
+        Fault::Usage => 2,
+        Fault::Image(_) => 1,
     }
 }
 

@@ -2,6 +2,7 @@
 //! program sees it.
 
 mod fakes;
+mod large;
 mod library;
 mod pieces;
 
@@ -274,6 +275,8 @@ fn failing_reader(rt: HostRuntime) -> Result<(), Fail> {
     let ends = [
         (End::Fault, ErrorKind::BrokenPipe),
         (End::Interruption, ErrorKind::Interrupted),
+        (End::Late, ErrorKind::TimedOut),
+        (End::Named, ErrorKind::Other),
     ];
     for (end, kind) in ends {
         for call in 1..28usize {
@@ -292,6 +295,31 @@ fn failing_reader(rt: HostRuntime) -> Result<(), Fail> {
     Ok(())
 }
 
+// The own words of the input's fault and of the output's stand in the line.
+#[test]
+fn own_words(rt: HostRuntime) -> Result<(), Fail> {
+    let alloc = rt.alloc();
+    let (bad, line) = (
+        Bad {
+            call: 1,
+            end: End::Named,
+        },
+        "qoi_tool: i/o error: x\n",
+    );
+    let commands: [&[&str]; 3] = [&["dec"], &["dec", "rgba"], &["info"]];
+    for words in commands {
+        let mut input = Source::new(&ONE_RGB_PIXEL, usize::MAX, bad);
+        let mut output = Sink::new(alloc, usize::MAX, NONE)?;
+        let refused = answer(alloc, words, &mut input, &mut output);
+        assert_reports(&rt, alloc, refused, 1, line)?;
+        let mut input = Source::new(&ONE_RGB_PIXEL, usize::MAX, NONE);
+        let mut output = Sink::new(alloc, usize::MAX, bad)?;
+        let refused = answer(alloc, words, &mut input, &mut output);
+        assert_reports(&rt, alloc, refused, 1, line)?;
+    }
+    Ok(())
+}
+
 // The writer takes a byte a call, and three calls take all.
 #[test]
 fn failing_writer(rt: HostRuntime) -> Result<(), Fail> {
@@ -299,6 +327,8 @@ fn failing_writer(rt: HostRuntime) -> Result<(), Fail> {
     let ends = [
         (End::Fault, ErrorKind::BrokenPipe),
         (End::Interruption, ErrorKind::Interrupted),
+        (End::Late, ErrorKind::TimedOut),
+        (End::Named, ErrorKind::Other),
         (End::NoByte, ErrorKind::WriteZero),
     ];
     for (end, kind) in ends {

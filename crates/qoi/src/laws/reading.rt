@@ -5,9 +5,10 @@ ghost use Rattle.qoi.specs.declared.header.Header.{Header};
 ghost use Rattle.qoi.specs.declared.types.Channels.{Channels};
 ghost use Rattle.qoi.specs.declared.types.ColorSpace.{ColorSpace};
 ghost use Rattle.qoi.specs.declared.chunk.Chunk.{Chunk};
-ghost use Rattle.qoi.specs.Qoi.{AreBytes, IsChunk, AreChunks, bytes_of, chunk_bytes, IsFile, file, file_pixels, header_bytes, pixel_count, IsValid, header_of, pixel, hash, Reaches, StayBelow, meaning, header_size};
+ghost use Rattle.qoi.specs.Qoi.{AreBytes, IsChunk, AreChunks, bytes_of, chunk_bytes, IsFile, file, file_pixels, header_bytes, pixel_count, IsValid, header_of, pixel, hash, Reaches, StayBelow, meaning, header_size, channels_number};
 ghost use Rattle.qoi.specs.Raw.{output};
 ghost use Rattle.qoi.specs.Verdicts.{IsPartOfChunk, IsWhole, IsCut, IsWrong};
+ghost use Rattle.qoi.specs.Decoding.{DecodesFile};
 
 /// No chunk's bytes begin another's, and a part of a chunk begins with no whole chunk.
 pub fn chunks_are_apart()
@@ -59,7 +60,7 @@ pub fn no_file_begins_another()
 {}
 
 /// A file's header is read, and what follows the header is whole; and bytes with a header and whole
-/// chunks after it are a file and what follows it.
+/// chunks after it are a file and what follows it. Its pixels in its own channels are what is decoded.
 pub fn files_are_read()
     ensures read { (h : Header) (cs : List Chunk) (bytes rest : List ℕ) → IsFile h cs
         → bytes ≡ file h cs ++ rest
@@ -68,6 +69,10 @@ pub fn files_are_read()
         → header_of bytes ≡ Ok h
         → IsWhole (pixel_count h) (drop header_size bytes) cs rest → IsFile h cs
         × (bytes ≡ file h cs ++ rest) }
+    ensures decoded { (h : Header) (cs : List Chunk) (bytes rest : List ℕ) → IsFile h cs
+        → bytes ≡ file h cs ++ rest
+        → DecodesFile bytes h rest
+        (output (channels_number h.channels) (channels_number h.channels) (file_pixels h cs)) }
 {}
 
 /// An image of n pixels takes five bytes for each pixel at most; and where chunks stop short of
@@ -94,6 +99,14 @@ pub fn worked_examples()
     ensures diff_one_less { meaning (Chunk.Diff 0x55 ∷ []) ≡ pixel 255 255 255 255 ∷ [] }
     ensures diff_one_more { meaning (Chunk.Diff 0x7f ∷ []) ≡ pixel 1 1 1 255 ∷ [] }
     ensures diff_two_less { meaning (Chunk.Diff 0x40 ∷ []) ≡ pixel 254 254 254 255 ∷ [] }
+    ensures diff_by_color { meaning (Chunk.Diff 0x47 ∷ []) ≡ pixel 254 255 1 255 ∷ [] }
+    ensures luma_by_color { meaning (Chunk.Luma 0xa0 0x7b ∷ []) ≡ pixel 255 0 3 255 ∷ [] }
+    ensures diff_is_added { meaning (Chunk.Rgba 10 20 30 40 ∷ Chunk.Diff 0x47 ∷ [])
+        ≡ pixel 10 20 30 40 ∷ pixel 8 19 31 40 ∷ [] }
+    ensures luma_is_added { meaning (Chunk.Rgba 10 20 30 40 ∷ Chunk.Luma 0xa0 0x7b ∷ [])
+        ≡ pixel 10 20 30 40 ∷ pixel 9 20 33 40 ∷ [] }
+    ensures rgb_keeps_alpha { meaning (Chunk.Rgba 1 2 3 4 ∷ Chunk.Rgb 5 6 7 ∷ [])
+        ≡ pixel 1 2 3 4 ∷ pixel 5 6 7 4 ∷ [] }
     ensures luma_wraps { meaning (Chunk.Luma 0x9f 0 ∷ []) ≡ pixel 247 255 247 255 ∷ [] }
     ensures luma_least { meaning (Chunk.Luma 0x80 0x88 ∷ []) ≡ pixel 224 224 224 255 ∷ [] }
     ensures luma_greatest { meaning (Chunk.Luma 0xbf 0xff ∷ []) ≡ pixel 38 31 38 255 ∷ [] }
@@ -106,6 +119,9 @@ pub fn worked_examples()
     ensures empty_place_is_seen { meaning (Chunk.Rgba 64 0 0 0 ∷ Chunk.Place 0x11 ∷ Chunk.Place 0
         ∷ [])
         ≡ pixel 64 0 0 0 ∷ pixel 0 0 0 0 ∷ pixel 0 0 0 0 ∷ [] }
+    ensures last_seen_is_held { meaning (Chunk.Run 1 ∷ Chunk.Rgb 1 99 2 ∷ Chunk.Rgb 1 2 3
+        ∷ Chunk.Place 53 ∷ [])
+        ≡ pixel 0 0 0 255 ∷ pixel 1 99 2 255 ∷ pixel 1 2 3 255 ∷ pixel 1 99 2 255 ∷ [] }
     ensures place_means_rgba { meaning (Chunk.Rgba 101 102 103 104 ∷ Chunk.Rgba 1 2 3 4
         ∷ Chunk.Place 0x36 ∷ [])
         ≡ pixel 101 102 103 104 ∷ pixel 1 2 3 4 ∷ pixel 101 102 103 104 ∷ [] }
@@ -143,6 +159,20 @@ pub fn worked_examples()
     ensures channels_before_magic { header_of (0x71 ∷ 0x6f ∷ 0x69 ∷ 0x67 ∷ 0x00 ∷ 0x00 ∷ 0x00 ∷ 0x01
         ∷ 0x00 ∷ 0x00 ∷ 0x00 ∷ 0x01 ∷ 0x05 ∷ 0x00 ∷ [])
         ≡ Err (Error.InvalidChannels 5) }
+    ensures channels_before_color_space { header_of (0x71 ∷ 0x6f ∷ 0x69 ∷ 0x66 ∷ 0x00 ∷ 0x00 ∷ 0x00
+        ∷ 0x01 ∷ 0x00 ∷ 0x00 ∷ 0x00 ∷ 0x01 ∷ 0x05 ∷ 0x02 ∷ [])
+        ≡ Err (Error.InvalidChannels 5) }
+    ensures most_pixels { header_of (0x71 ∷ 0x6f ∷ 0x69 ∷ 0x66 ∷ 0x17 ∷ 0xd7 ∷ 0x84 ∷ 0x00 ∷ 0x00
+        ∷ 0x00 ∷ 0x00 ∷ 0x01 ∷ 0x03 ∷ 0x00 ∷ [])
+        ≡ Ok (record {
+          width = 400000000;
+          height = 1;
+          channels = Channels.Rgb;
+          colorspace = ColorSpace.Srgb;
+        }) }
+    ensures one_pixel_too_many { header_of (0x71 ∷ 0x6f ∷ 0x69 ∷ 0x66 ∷ 0x17 ∷ 0xd7 ∷ 0x84 ∷ 0x01
+        ∷ 0x00 ∷ 0x00 ∷ 0x00 ∷ 0x01 ∷ 0x03 ∷ 0x00 ∷ [])
+        ≡ Err (Error.InvalidImageDimensions 400000001 1) }
     ensures magic_before_dimensions { header_of (0x71 ∷ 0x6f ∷ 0x69 ∷ 0x67 ∷ 0x00 ∷ 0x00 ∷ 0x00
         ∷ 0x00 ∷ 0x00 ∷ 0x00 ∷ 0x00 ∷ 0x01 ∷ 0x03 ∷ 0x00 ∷ [])
         ≡ Err (Error.InvalidMagic 1903126887) }
@@ -176,5 +206,6 @@ pub fn worked_examples()
         (record { width = 2; height = 2; channels = Channels.Rgb; colorspace = ColorSpace.Srgb })
         (Chunk.Run 62 ∷ [])
         ≡ pixel 0 0 0 255 ∷ pixel 0 0 0 255 ∷ pixel 0 0 0 255 ∷ pixel 0 0 0 255 ∷ [] }
+    ensures too_few_pixels { Reaches 2 (Chunk.Run 1 ∷ []) → ⊥ }
     ensures no_chunk_past_the_end { Reaches 1 (Chunk.Run 1 ∷ Chunk.Run 1 ∷ []) → ⊥ }
 {}

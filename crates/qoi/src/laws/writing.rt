@@ -1,7 +1,7 @@
 //! Laws of the chunk list that is written for an image. They compute whole images and files, so they
 //! import types and variants beside the definitions.
-ghost use Rattle.std.specs.Prelude.{◌≡◌, ◌≢◌, ◌↔◌, ℕ, ◌+◌, ◌-◌, ◌*◌, ◌/◌, ◌<◌, ◌≤◌, List, [], ◌∷◌, ◌++◌, length, replicate};
-ghost use Rattle.std.specs.List.{AllByRecursion};
+ghost use Rattle.std.specs.Prelude.{◌≡◌, ◌≢◌, ◌↔◌, ℕ, ◌+◌, ◌-◌, ◌*◌, ◌/◌, ◌<◌, ◌≤◌, List, [], ◌∷◌, ◌++◌, length, replicate, map, None, Some};
+ghost use Rattle.std.specs.List.{AllByRecursion, range_with_len};
 ghost use Rattle.qoi.specs.declared.chunk.Chunk.{Chunk};
 ghost use Rattle.qoi.specs.declared.types.Channels.{Channels};
 ghost use Rattle.qoi.specs.declared.types.ColorSpace.{ColorSpace};
@@ -13,7 +13,7 @@ ghost use Rattle.qoi.specs.Encoded.{max_len};
 ghost use Rattle.qoi.specs.Raw.{IsChannels, output, pixels_of, HasChannels};
 ghost use Rattle.qoi.specs.Regular.{Begins, Covers, Regular};
 ghost use Rattle.qoi.specs.Shortest.{floor, trailing_repeats, slack, total_cost};
-ghost use Rattle.qoi.specs.Tight.{first_and_fresh, IsTightChoice, floor0};
+ghost use Rattle.qoi.specs.Tight.{first_and_fresh, IsTightChoice, floor0, least_unseen};
 ghost use Rattle.qoi.specs.Written.{WrittenBy, Written};
 ghost use Rattle.qoi.specs.Styles.{in_style, WrittenIn};
 
@@ -49,6 +49,8 @@ pub fn places_examples()
         ≡ Rgb 101 102 103 ∷ Run 62 ∷ Place 51 ∷ Rgb 1 2 3 ∷ [] }
     ensures two { in_style Places (Rgb 101 102 103 ∷ Run 2 ∷ Rgb 1 2 3 ∷ [])
         ≡ Rgb 101 102 103 ∷ Run 2 ∷ Rgb 1 2 3 ∷ [] }
+    ensures behind_repeats { in_style Places (Run 62 ∷ Run 1 ∷ Rgb 101 102 103 ∷ [])
+        ≡ Run 62 ∷ Run 1 ∷ Rgb 101 102 103 ∷ [] }
     ensures at_the_end { in_style Places (Rgb 101 102 103 ∷ Run 1 ∷ [])
         ≡ Rgb 101 102 103 ∷ Run 1 ∷ [] }
     ensures at_the_start { in_style Places (Run 1 ∷ Rgb 101 102 103 ∷ [])
@@ -165,6 +167,10 @@ pub fn tight_examples()
         ≡ 9 }
     ensures blank_without_place { floor0 (pixel 64 0 0 0 ∷ pixel 0 0 0 0 ∷ pixel 64 0 0 0
         ∷ pixel 0 0 0 0 ∷ []) ≡ 11 }
+    ensures first_unseen { least_unseen [] ≡ Some 0 }
+    ensures next_unseen { least_unseen (pixel 64 0 0 0 ∷ []) ≡ Some 1 }
+    ensures last_unseen { least_unseen (map (λ r. pixel r 0 0 0) (range_with_len 0 63)) ≡ Some 61 }
+    ensures none_unseen { least_unseen (map (λ r. pixel r 0 0 0) (range_with_len 0 64)) ≡ None }
 {}
 
 /// In a floor a group of repeats costs a byte for each 62 of them, rounded up.
@@ -193,6 +199,7 @@ pub fn shortest_examples()
         ∷ pixel 0 0 0 255 ∷ []) 3 ≡ 3 }
     ensures slack_black_returns_rgba { slack (pixel 0 0 0 255 ∷ pixel 101 102 103 104
         ∷ pixel 0 0 0 255 ∷ []) 4 ≡ 4 }
+    ensures slack_opens_with_color { slack (pixel 101 102 103 255 ∷ pixel 0 0 0 255 ∷ []) 3 ≡ 0 }
     ensures slack_black_overwritten { slack (pixel 0 0 0 255 ∷ pixel 1 99 2 255 ∷ pixel 0 0 0 255
         ∷ []) 3 ≡ 0 }
 {}

@@ -83,7 +83,9 @@ fn types_are_shown(rt: HostRuntime) -> Result<()> {
     let alloc = rt.alloc();
     assert_shows(&rt, alloc, &Channels::Rgba, "Rgba")?;
     assert_shows(&rt, alloc, &ColorSpace::Linear, "Linear")?;
+    assert_shows(&rt, alloc, &Style::Reference, "Reference")?;
     assert_shows(&rt, alloc, &Style::Places, "Places")?;
+    assert_shows(&rt, alloc, &Style::Tight, "Tight")?;
     let text = "Header { width: 1, height: 1, channels: Rgb, colorspace: Srgb }";
     assert_shows(&rt, alloc, &Header::default(), text)?;
     assert_shows(&rt, alloc, &Pixel::<3>::new(), "Pixel([0, 0, 0])")?;

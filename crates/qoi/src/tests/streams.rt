@@ -97,6 +97,8 @@ fn failing_reader(rt: HostRuntime) -> Result<()> {
     let ends = [
         (End::Fault, ErrorKind::BrokenPipe),
         (End::Interruption, ErrorKind::Interrupted),
+        (End::Late, ErrorKind::TimedOut),
+        (End::Named, ErrorKind::Other),
         (End::NoByte, ErrorKind::UnexpectedEof),
     ];
     for (end, kind) in ends {
@@ -109,6 +111,18 @@ fn failing_reader(rt: HostRuntime) -> Result<()> {
         assert_number(&rt, decoder.decode_to_buf(&mut buf)?, 3);
         assert_bytes(&rt, &buf, &PIXEL);
         assert_bytes(&rt, decoder.into_reader().left, &[]);
+    }
+    Ok(())
+}
+
+// A reader's own words are printed: at the header, at a chunk and at the end marker.
+#[test]
+fn own_words(rt: HostRuntime) -> Result<()> {
+    for call in [1, 14, 15, 18, 19, 26] {
+        let end = End::Named;
+        let mut reader = Source::new(&ONE_RGB_PIXEL, 1, Bad { call, end });
+        let refusal = refusal_at(&rt, &mut reader, call);
+        assert_refused(&rt, rt.alloc(), refusal, "i/o error: x")?;
     }
     Ok(())
 }

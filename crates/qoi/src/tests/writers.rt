@@ -2,7 +2,7 @@
 ghost use Rattle.std.specs.Prelude.{◌≤◌};
 
 use crate::tests::support::fakes::{Bad, End, NONE, ONE_RGB_PIXEL, PIXEL, Sink};
-use crate::tests::support::{assert_bytes, assert_fails, assert_number};
+use crate::tests::support::{assert_bytes, assert_fails, assert_number, assert_refused};
 use crate::utils::{BytesMut, GenericWriter, Writer};
 use crate::{Encoder, Result};
 use std::alloc::Global;
@@ -86,6 +86,8 @@ fn failing_writer(rt: HostRuntime) -> Result<()> {
     let ends = [
         (End::Fault, ErrorKind::BrokenPipe),
         (End::Interruption, ErrorKind::Interrupted),
+        (End::Late, ErrorKind::TimedOut),
+        (End::Named, ErrorKind::Other),
         (End::NoByte, ErrorKind::WriteZero),
     ];
     for (end, kind) in ends {
@@ -95,4 +97,13 @@ fn failing_writer(rt: HostRuntime) -> Result<()> {
         assert_sends(&rt, rt.alloc(), 1, Bad { call: 27, end }, 26)?;
     }
     Ok(())
+}
+
+// A writer's own words are printed.
+#[test]
+fn own_words(rt: HostRuntime) -> Result<()> {
+    let end = End::Named;
+    let mut writer = Sink::new(rt.alloc(), 1, Bad { call: 5, end })?;
+    let refusal = Encoder::new(&PIXEL, 1, 1)?.encode_to_stream(&mut writer);
+    assert_refused(&rt, rt.alloc(), refusal.err(), "i/o error: x")
 }

@@ -22,6 +22,10 @@ pub enum End {
     Fault,
     /// An interruption.
     Interruption,
+    /// Nothing came in time.
+    Late,
+    /// A fault whose own text is `x`.
+    Named,
     /// No byte, and no error.
     NoByte,
 }
@@ -46,6 +50,8 @@ fn ended(end: End) -> io::Result<usize>
     match end {
         End::Fault => Err(io::Error::from(ErrorKind::BrokenPipe)),
         End::Interruption => Err(io::Error::from(ErrorKind::Interrupted)),
+        End::Late => Err(io::Error::from(ErrorKind::TimedOut)),
+        End::Named => Err(io::Error::new(ErrorKind::Other, "x")),
         End::NoByte => Ok(0),
     }
 }

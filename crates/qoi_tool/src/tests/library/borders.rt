@@ -1,5 +1,6 @@
-//! Drawn lists that end a few bytes and pixels after a whole number of fours of chunks, by a plain decoder:
-//! followed by a few bytes, and cut. So a loop that takes four chunks at a time meets both ends.
+//! Drawn lists that end a few bytes and pixels after a whole number of fours of chunks, by a plain
+//! decoder: followed by a few bytes, and cut. So a loop that takes four chunks at a time meets both
+//! ends.
 use crate::tests::library::support::decodings::Decoding;
 use crate::tests::library::support::generator::Numbers;
 use crate::tests::library::support::images::{file_of, row, seen_raw};
@@ -86,7 +87,8 @@ impl Drawing {
         Ok(())
     }
 
-    // The file of the first `n` pixels, under headers of three and of four channels, into three and four.
+    // The file of the first `n` pixels, under headers of three and of four channels, into three and
+    // four.
     fn check(&self, rt: &impl Abort, alloc: Global, n: u32) -> Result<()> {
         let pixels = pixels_of(alloc, &self.chunks, n)?;
         for own in [Channels::Rgb, Channels::Rgba] {

@@ -103,3 +103,18 @@ fn files_close_to_whole_pieces(rt: HostRuntime) -> Result<()> {
     }
     Ok(())
 }
+
+// A writer that takes a byte less than a piece at once, or a byte more, gets the whole file.
+#[test]
+fn writers_of_about_a_piece(rt: HostRuntime) -> Result<()> {
+    let [tail, ..] = TAILS;
+    for size in [4074, 4075, 8170] {
+        let pixels = ending(rt.alloc(), tail, size)?;
+        let header = row(pixels.len().min(10_000) as u32, tail.channels);
+        let image = Image::of(rt.alloc(), header, Style::Reference, &pixels)?;
+        for most in [4095, 4097] {
+            image.sent(&rt, rt.alloc(), most)?;
+        }
+    }
+    Ok(())
+}

@@ -1,5 +1,6 @@
 -- By the lemmas on a file's header and what follows it.
-use Rattle.qoi.proofs.decoding.OneFile.{file_has_header, file_is_whole, file_from_whole}
+use Rattle.std.proofs.Common.{refl}
+use Rattle.qoi.proofs.decoding.OneFile.{file_has_header, file_is_whole, file_from_whole, decodes_file}
 use Rattle.qoi.proofs.laws.reading.files_are_read.Goals as goal
 
 pub returns-clause-read : goal.returns-clause-read
@@ -7,3 +8,6 @@ returns-clause-read c = λ h cs bytes rest f e. (file_has_header h cs bytes rest
 
 pub returns-clause-only : goal.returns-clause-only
 returns-clause-only c = file_from_whole
+
+pub returns-clause-decoded : goal.returns-clause-decoded
+returns-clause-decoded c = λ h cs bytes rest f e. decodes_file h cs bytes rest _ f e refl

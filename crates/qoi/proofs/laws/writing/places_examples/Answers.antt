@@ -30,3 +30,7 @@ returns-clause-at_the_start c = refl
 pub returns-clause-blank : goal.returns-clause-blank
 unfolding pixel_eq start blank hash after_diff after_luma
 returns-clause-blank c = refl
+
+pub returns-clause-behind_repeats : goal.returns-clause-behind_repeats
+unfolding pixel_eq start blank hash after_diff after_luma
+returns-clause-behind_repeats c = refl

@@ -43,3 +43,7 @@ returns-clause-slack_black_returns_rgba c = refl
 pub returns-clause-slack_black_overwritten : goal.returns-clause-slack_black_overwritten
 unfolding pixel_eq start blank hash after_diff after_luma some_diff some_luma some_rgb least cost slack
 returns-clause-slack_black_overwritten c = refl
+
+pub returns-clause-slack_opens_with_color : goal.returns-clause-slack_opens_with_color
+unfolding pixel_eq start blank hash after_diff after_luma some_diff some_luma some_rgb least cost slack
+returns-clause-slack_opens_with_color c = refl

@@ -20,3 +20,19 @@ returns-clause-black_overwritten c = refl
 pub returns-clause-blank_without_place : goal.returns-clause-blank_without_place
 unfolding pixel_eq start blank hash after_diff after_luma some_diff some_luma some_rgb least cost least_unseen least0
 returns-clause-blank_without_place c = refl
+
+pub returns-clause-first_unseen : goal.returns-clause-first_unseen
+unfolding hash least_unseen
+returns-clause-first_unseen c = refl
+
+pub returns-clause-next_unseen : goal.returns-clause-next_unseen
+unfolding hash least_unseen
+returns-clause-next_unseen c = refl
+
+pub returns-clause-last_unseen : goal.returns-clause-last_unseen
+unfolding hash least_unseen
+returns-clause-last_unseen c = refl
+
+pub returns-clause-none_unseen : goal.returns-clause-none_unseen
+unfolding hash least_unseen
+returns-clause-none_unseen c = refl

@@ -49,7 +49,8 @@ pub fn raw_of(alloc: Global, channels: Channels, pixels: &[Rgba]) -> Result<Vec<
     Ok(raw)
 }
 
-/// The raw bytes in these channels of the pixels of a file, which is opaque where its own channels are three.
+/// The raw bytes in these channels of the pixels of a file, which is opaque where its own channels are
+/// three.
 pub fn seen_raw(
     alloc: Global,
     pixels: &[Rgba],

@@ -1,0 +1,49 @@
+-- Each is put together from its chunks.
+use Rattle.std.proofs.Common.{◌≡◌, ◌≢◌, [], ◌∷◌, replicate, slice_index, refl, ap, arith, inl}
+use Rattle.qoi.specs.declared.error.Error.TheVariants.{IoError}
+use Rattle.qoi.specs.declared.chunk.Chunk.TheVariants.{Run, Rgb}
+use Rattle.qoi.specs.Qoi.{end_marker}
+use Rattle.qoi.specs.Verdicts.{IsCut, IsWrong}
+use Rattle.qoi.proofs.laws.examples.verdict_examples.Goals as goal
+
+-- eight zeros aren't the end marker
+zeros : replicate 8 0 ≢ end_marker
+zeros e = let last : 0 ≡ 1 = ap (λ bytes. slice_index bytes 7) e in absurd (omega (arith, last))
+
+-- no byte is cut before the first pixel
+nothing : IsCut 1 [] [] []
+nothing = record {
+  has = record { chunks = tt; stays_below = tt; split = refl };
+  ends = inl (omega arith, (Run 1, 0xc0, [], (omega arith, omega arith), refl));
+}
+
+-- eight zeros after the first pixel are wrong
+eight : IsWrong 1 (0xc0 ∷ replicate 8 0) (Run 1 ∷ []) (replicate 8 0) []
+eight = record {
+  has = record { chunks = ((omega arith, omega arith), tt); stays_below = (omega arith, tt); split = refl };
+  enough = omega arith;
+  length_is = refl;
+  other = zeros;
+}
+
+pub returns-clause-cut_in_chunk : goal.returns-clause-cut_in_chunk
+returns-clause-cut_in_chunk c = record {
+  has = record { chunks = ((omega arith, omega arith), tt); stays_below = (omega arith, tt); split = refl };
+  ends = inl (omega arith, (Rgb 1 2 3, 3, [], (omega arith, omega arith, omega arith), refl));
+}
+
+pub returns-clause-refuses_cut : goal.returns-clause-refuses_cut
+returns-clause-refuses_cut c = ([], [], nothing)
+
+pub returns-clause-refuses_wrong : goal.returns-clause-refuses_wrong
+returns-clause-refuses_wrong c = ([], (Run 1 ∷ [], replicate 8 0, eight))
+
+pub returns-clause-taken_cut : goal.returns-clause-taken_cut
+returns-clause-taken_cut c (IoError i) is = ([], [], nothing)
+returns-clause-taken_cut c _ is = absurd is
+
+pub returns-clause-taken_wrong : goal.returns-clause-taken_wrong
+returns-clause-taken_wrong c = (Run 1 ∷ [], replicate 8 0, eight)
+
+pub returns-clause-marker_wrong : goal.returns-clause-marker_wrong
+returns-clause-marker_wrong c = (replicate 8 0, 7 ∷ [], refl, zeros, refl)

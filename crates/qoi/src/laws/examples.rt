@@ -1,0 +1,248 @@
+//! Small examples of definitions, computed, for the numbers, orders and sides that no other law tells.
+ghost use Rattle.std.specs.Prelude.{◌≡◌, ℕ, ◌++◌, List, [], ◌∷◌, length, Option, replicate, codes, Ok, Err, None, Some, true, false};
+ghost use Rattle.qoi.specs.declared.error.Error.{Error};
+ghost use Rattle.qoi.specs.declared.header.Header.{Header};
+ghost use Rattle.qoi.specs.declared.types.Channels.{Channels};
+ghost use Rattle.qoi.specs.declared.types.ColorSpace.{ColorSpace};
+ghost use Rattle.qoi.specs.declared.chunk.Chunk.TheVariants.{Place, Diff, Luma, Run, Rgb, Rgba};
+ghost use Rattle.qoi.specs.Qoi.{AreBytes, IsChunk, bytes_of, chunk_max, default_header, end_marker, header_bytes, IsValid, marker_size, pixel, rgba};
+ghost use Rattle.qoi.specs.Errors.{IsIoError, IsReaderFault, IsErrorOfCut, IsErrorOfWrong};
+ghost use Rattle.qoi.specs.Raw.{IsChannels, without_fourth, pixels_of, byte_count, image_byte_count, HasImageLength, capped_byte_count, AreOpaque, HasChannels};
+ghost use Rattle.qoi.specs.Verdicts.{IsPartOfChunk, IsWhole, IsCut, IsWrong};
+ghost use Rattle.qoi.specs.Decoding.{least_byte_count, CouldHold, RefusesBuffer, RefusesMarker, RefusesBytes, RefusesTaken, RefusesTakenMarker, RefusesTakenHeader};
+ghost use Rattle.qoi.specs.DecoderState.{DecoderState, output_byte_count, TakesWithin};
+ghost use Rattle.qoi.specs.Runs.{IsCount};
+ghost use Rattle.qoi.specs.Written.{fresh, noted};
+ghost use Rattle.qoi.specs.writers.Behind.{StandsBehind};
+ghost use Rattle.qoi.specs.writers.Writes.{AppendsBeginning};
+ghost use Rattle.qoi.specs.Encoded.{max_len, IsFileLength, image_header, OpensBlack};
+ghost use Rattle.qoi.specs.Regular.{Regular};
+ghost use Rattle.qoi.specs.ErrorText.{size_text, bytes_text, printed};
+
+/// The least and the greatest numbers that bytes and chunks may have, and how many bytes there are at most.
+pub fn chunk_examples()
+    ensures bytes { AreBytes (0 ∷ 255 ∷ []) }
+    ensures no_byte { AreBytes (256 ∷ []) → ⊥ }
+    ensures greatest_place { IsChunk (Place 63) }
+    ensures no_place { IsChunk (Place 64) → ⊥ }
+    ensures least_diff { IsChunk (Diff 0x40) }
+    ensures greatest_diff { IsChunk (Diff 0x7f) }
+    ensures no_diff { IsChunk (Diff 0x3f) → ⊥ }
+    ensures no_diff_above { IsChunk (Diff 0x80) → ⊥ }
+    ensures least_luma { IsChunk (Luma 0x80 0) }
+    ensures greatest_luma { IsChunk (Luma 0xbf 255) }
+    ensures no_luma { IsChunk (Luma 0x7f 0) → ⊥ }
+    ensures no_luma_above { IsChunk (Luma 0xc0 0) → ⊥ }
+    ensures no_second_byte { IsChunk (Luma 0x80 256) → ⊥ }
+    ensures least_run { IsChunk (Run 1) }
+    ensures greatest_run { IsChunk (Run 62) }
+    ensures no_run { IsChunk (Run 0) → ⊥ }
+    ensures no_run_above { IsChunk (Run 63) → ⊥ }
+    ensures greatest_rgb { IsChunk (Rgb 255 255 255) }
+    ensures no_red { IsChunk (Rgb 256 0 0) → ⊥ }
+    ensures no_green { IsChunk (Rgb 0 256 0) → ⊥ }
+    ensures no_blue { IsChunk (Rgb 0 0 256) → ⊥ }
+    ensures greatest_rgba { IsChunk (Rgba 255 255 255 255) }
+    ensures no_alpha { IsChunk (Rgba 0 0 0 256) → ⊥ }
+    ensures longest_chunk { length (bytes_of (Rgba 1 2 3 4)) ≡ chunk_max }
+    ensures marker_length { length end_marker ≡ marker_size }
+    ensures named_there { Regular (Place 0 ∷ []) }
+    ensures named_elsewhere { Regular (Place 1 ∷ []) → ⊥ }
+{}
+
+/// Raw bytes and their pixels.
+pub fn raw_examples()
+    ensures opaque_pixel { rgba (1 ∷ 2 ∷ 3 ∷ []) ≡ pixel 1 2 3 255 }
+    ensures whole_pixel { rgba (1 ∷ 2 ∷ 3 ∷ 4 ∷ []) ≡ pixel 1 2 3 4 }
+    ensures pixels_of_three { pixels_of 3 (1 ∷ 2 ∷ 3 ∷ 4 ∷ 5 ∷ 6 ∷ 7 ∷ [])
+        ≡ pixel 1 2 3 255 ∷ pixel 4 5 6 255 ∷ [] }
+    ensures pixels_of_four { pixels_of 4 (1 ∷ 2 ∷ 3 ∷ 4 ∷ 5 ∷ 6 ∷ 7 ∷ 8 ∷ [])
+        ≡ pixel 1 2 3 4 ∷ pixel 5 6 7 8 ∷ [] }
+    ensures fourths { without_fourth (1 ∷ 2 ∷ 3 ∷ 4 ∷ 5 ∷ 6 ∷ 7 ∷ 8 ∷ [])
+        ≡ 1 ∷ 2 ∷ 3 ∷ 5 ∷ 6 ∷ 7 ∷ [] }
+    ensures three_channels { IsChannels 3 }
+    ensures four_channels { IsChannels 4 }
+    ensures two_channels { IsChannels 2 → ⊥ }
+    ensures five_channels { IsChannels 5 → ⊥ }
+    ensures opaque { AreOpaque (pixel 1 2 3 255 ∷ []) }
+    ensures not_opaque { AreOpaque (pixel 1 2 3 254 ∷ []) → ⊥ }
+    ensures has_four { HasChannels (pixel 1 2 3 4 ∷ []) 4 }
+    ensures has_three { HasChannels (pixel 1 2 3 255 ∷ []) 3 }
+    ensures has_not_three { HasChannels (pixel 1 2 3 4 ∷ []) 3 → ⊥ }
+    ensures length_is { HasImageLength 3 (1 ∷ 2 ∷ 3 ∷ []) }
+    ensures length_is_not { HasImageLength 4 (1 ∷ 2 ∷ 3 ∷ []) → ⊥ }
+    ensures length_is_less { HasImageLength 2 (1 ∷ 2 ∷ []) → ⊥ }
+{}
+
+/// Numbers of bytes, and the headers of images.
+pub fn size_examples()
+    ensures default_width { default_header.width ≡ 1 }
+    ensures default_height { default_header.height ≡ 1 }
+    ensures default_channels { default_header.channels ≡ Channels.Rgb }
+    ensures default_colorspace { default_header.colorspace ≡ ColorSpace.Srgb }
+    ensures header_fields { header_bytes (record {
+      width = 258;
+      height = 3;
+      channels = Channels.Rgba;
+      colorspace = ColorSpace.Linear;
+    }) ≡ 0x71 ∷ 0x6f ∷ 0x69 ∷ 0x66 ∷ 0 ∷ 0 ∷ 1 ∷ 2 ∷ 0 ∷ 0 ∷ 0 ∷ 3 ∷ 4 ∷ 1 ∷ [] }
+    ensures one_pixel_is_valid { IsValid default_header }
+    ensures no_pixel_is_not { IsValid (record default_header { height = 0 }) → ⊥ }
+    ensures most_pixels_are_valid { IsValid (record default_header { width = 400000000 }) }
+    ensures one_more_is_not { IsValid (record default_header { width = 400000001 }) → ⊥ }
+    ensures bytes_in_four { byte_count (record {
+      width = 2;
+      height = 3;
+      channels = Channels.Rgb;
+      colorspace = ColorSpace.Srgb;
+    }) 4 ≡ 24 }
+    ensures image_bytes { image_byte_count (record {
+      width = 2;
+      height = 3;
+      channels = Channels.Rgb;
+      colorspace = ColorSpace.Srgb;
+    }) ≡ 18 }
+    ensures capped_bytes { capped_byte_count (record {
+      width = 4294967295;
+      height = 4294967295;
+      channels = Channels.Rgba;
+      colorspace = ColorSpace.Srgb;
+    }) ≡ 18446744073709551615 }
+    ensures uncapped_bytes { capped_byte_count (record {
+      width = 2;
+      height = 3;
+      channels = Channels.Rgb;
+      colorspace = ColorSpace.Srgb;
+    }) ≡ 18 }
+    ensures longest_file { max_len 2 3 4 ≡ 52 }
+    ensures capped_file { max_len 4294967295 4294967295 4 ≡ 18446744073709551615 }
+    ensures shortest_file { IsFileLength default_header 23 }
+    ensures too_short_file { IsFileLength default_header 22 → ⊥ }
+    ensures longest_of_one { IsFileLength default_header 26 }
+    ensures too_long_file { IsFileLength default_header 27 → ⊥ }
+    ensures least_of_one_run { least_byte_count 62 ≡ 9 }
+    ensures least_of_two_runs { least_byte_count 63 ≡ 10 }
+    ensures could_hold { CouldHold true 62 (Some (replicate 9 0)) }
+    ensures could_not_hold { CouldHold true 63 (Some (replicate 9 0)) → ⊥ }
+    ensures stream_could_hold { CouldHold false 63 (Some []) }
+    ensures buffer_too_small { RefusesBuffer 2 3 (Error.OutputBufferTooSmall 2 3) }
+    ensures buffer_is_enough { RefusesBuffer 3 3 (Error.OutputBufferTooSmall 3 3) → ⊥ }
+{}
+
+/// The headers of raw bytes, and images that open with opaque black.
+pub fn image_examples()
+    ensures three_bytes_a_pixel { image_header (replicate 6 0) 2 1 ≡ Ok (record {
+      width = 2;
+      height = 1;
+      channels = Channels.Rgb;
+      colorspace = ColorSpace.Srgb;
+    }) }
+    ensures four_bytes_a_pixel { image_header (replicate 8 0) 1 2 ≡ Ok (record {
+      width = 1;
+      height = 2;
+      channels = Channels.Rgba;
+      colorspace = ColorSpace.Srgb;
+    }) }
+    ensures no_whole_number { image_header (replicate 7 0) 2 1
+        ≡ Err (Error.InvalidImageLength 7 2 1) }
+    ensures five_bytes { image_header (replicate 5 0) 1 1 ≡ Err (Error.InvalidChannels 5) }
+    ensures capped_channels { image_header (replicate 300 0) 1 1 ≡ Err (Error.InvalidChannels 255) }
+    ensures uncapped_channels { image_header (replicate 254 0) 1 1
+        ≡ Err (Error.InvalidChannels 254) }
+    ensures dimensions_first { image_header (replicate 7 0) 0 5
+        ≡ Err (Error.InvalidImageDimensions 0 5) }
+    ensures opens_black { OpensBlack (pixel 0 0 0 255 ∷ pixel 1 2 3 255 ∷ []) }
+    ensures opens_with_color { OpensBlack (pixel 1 2 3 255 ∷ pixel 0 0 0 255 ∷ []) → ⊥ }
+    ensures opens_transparent { OpensBlack (pixel 0 0 0 0 ∷ []) → ⊥ }
+    ensures no_pixel { OpensBlack [] → ⊥ }
+{}
+
+/// What errors print.
+pub fn text_examples()
+    ensures size { size_text 1 2 ≡ codes "1x2" }
+    ensures four_bytes { bytes_text 0x010203ff ≡ codes "[1, 2, 3, 255]" }
+    ensures magic { printed (Error.InvalidMagic 1903126887)
+        ≡ Some (codes "invalid magic: expected 1903126886, got [113, 111, 105, 103]") }
+    ensures channels { printed (Error.InvalidChannels 5)
+        ≡ Some (codes "invalid number of channels: 5") }
+    ensures color_space { printed (Error.InvalidColorSpace 2)
+        ≡ Some (codes "invalid color space: 2 (expected 0 or 1)") }
+    ensures dimensions { printed (Error.InvalidImageDimensions 0 5)
+        ≡ Some (codes "invalid image dimensions: 0x5") }
+    ensures image_length { printed (Error.InvalidImageLength 7 2 1)
+        ≡ Some (codes "invalid image length: 7 bytes for 2x1") }
+    ensures buffer { printed (Error.OutputBufferTooSmall 25 26)
+        ≡ Some (codes "output buffer size too small: 25 (required: 26)") }
+    ensures buffer_end { printed Error.UnexpectedBufferEnd
+        ≡ Some (codes "unexpected input buffer end while decoding") }
+    ensures padding { printed Error.InvalidPadding
+        ≡ Some (codes "invalid padding (stream end marker mismatch)") }
+    ensures memory { printed Error.OutOfMemory ≡ Some (codes "out of memory") }
+{}
+
+/// Bytes after a header, and what refuses them: where an image has one pixel, a run of 1 and the end marker.
+pub fn verdict_examples()
+    ensures whole { IsWhole 1 (0xc0 ∷ 0 ∷ 0 ∷ 0 ∷ 0 ∷ 0 ∷ 0 ∷ 0 ∷ 1 ∷ 7 ∷ []) (Run 1 ∷ [])
+        (7 ∷ []) }
+    ensures cut_in_marker { IsCut 1 (0xc0 ∷ replicate 7 0) (Run 1 ∷ []) (replicate 7 0) }
+    ensures cut_in_chunk { IsCut 2 (0xc0 ∷ 0xfe ∷ 1 ∷ 2 ∷ []) (Run 1 ∷ []) (0xfe ∷ 1 ∷ 2 ∷ []) }
+    ensures eight_are_not_cut { IsCut 1 (0xc0 ∷ replicate 8 0) (Run 1 ∷ []) (replicate 8 0) → ⊥ }
+    ensures wrong { IsWrong 1 (0xc0 ∷ replicate 8 0 ++ 7 ∷ []) (Run 1 ∷ []) (replicate 8 0)
+        (7 ∷ []) }
+    ensures refuses_cut { RefusesBytes 1 [] Error.UnexpectedBufferEnd }
+    ensures refuses_wrong { RefusesBytes 1 (0xc0 ∷ replicate 8 0) Error.InvalidPadding }
+    ensures refuses_no_other { RefusesBytes 1 [] Error.OutOfMemory → ⊥ }
+    ensures taken_cut { (e : Error) → IsIoError e → RefusesTaken 1 [] e }
+    ensures taken_wrong { RefusesTaken 1 (0xc0 ∷ replicate 8 0) Error.InvalidPadding }
+    ensures marker_cut { RefusesMarker (replicate 7 0) Error.UnexpectedBufferEnd }
+    ensures marker_not_cut { RefusesMarker (replicate 8 0) Error.UnexpectedBufferEnd → ⊥ }
+    ensures marker_wrong { RefusesMarker (replicate 8 0 ++ 7 ∷ []) Error.InvalidPadding }
+    ensures taken_marker_cut { (e : Error) → IsIoError e → RefusesTakenMarker (replicate 7 0) e }
+    ensures taken_marker_wrong { RefusesTakenMarker (replicate 8 0) Error.InvalidPadding }
+    ensures taken_header_cut { (e : Error) → IsIoError e → RefusesTakenHeader (replicate 13 0) e }
+    ensures taken_header { RefusesTakenHeader (replicate 14 0) (Error.InvalidChannels 0) }
+{}
+
+/// Which errors are those of a fault, of cut bytes and of wrong ones, in memory (`true`) and on a stream.
+pub fn error_examples()
+    ensures other { IsIoError Error.OutOfMemory → ⊥ }
+    ensures fault_in_memory { (e : Error) → IsReaderFault true e → ⊥ }
+    ensures fault { (e : Error) → IsIoError e → IsReaderFault false e }
+    ensures cut_in_memory { IsErrorOfCut true Error.UnexpectedBufferEnd }
+    ensures not_cut_in_memory { IsErrorOfCut true Error.InvalidPadding → ⊥ }
+    ensures cut { (e : Error) → IsIoError e → IsErrorOfCut false e }
+    ensures not_cut { IsErrorOfCut false Error.UnexpectedBufferEnd → ⊥ }
+    ensures wrong_in_memory { IsErrorOfWrong true Error.InvalidPadding }
+    ensures not_wrong_in_memory { IsErrorOfWrong true Error.UnexpectedBufferEnd → ⊥ }
+    ensures wrong { IsErrorOfWrong false Error.InvalidPadding }
+    ensures wrong_or_fault { (e : Error) → IsIoError e → IsErrorOfWrong false e }
+    ensures not_wrong { IsErrorOfWrong false Error.UnexpectedBufferEnd → ⊥ }
+{}
+
+/// How many bytes a decoder gives and takes for one pixel.
+pub fn decoder_examples()
+    ensures four { (reader : ℕ) → output_byte_count (record {
+      reader = reader;
+      header = default_header;
+      channels = Channels.Rgba;
+    }) ≡ 4 }
+    ensures within { TakesWithin (λ bytes. bytes)
+        (record { reader = Some (replicate 13 0); header = default_header; channels = Channels.Rgb })
+        (record { reader = Some []; header = default_header; channels = Channels.Rgb }) }
+    ensures beyond { TakesWithin (λ bytes. bytes)
+        (record { reader = Some (replicate 14 0); header = default_header; channels = Channels.Rgb })
+        (record { reader = Some []; header = default_header; channels = Channels.Rgb }) → ⊥ }
+{}
+
+/// Repeats and fresh pixels, and bytes that are written behind others.
+pub fn writing_examples()
+    ensures count { IsCount (pixel 1 2 3 4) (pixel 1 2 3 4 ∷ pixel 1 2 3 4 ∷ pixel 1 2 3 5 ∷ []) 2 }
+    ensures count_to_the_end { IsCount (pixel 1 2 3 4) (pixel 1 2 3 4 ∷ []) 1 }
+    ensures fresh_pixels { fresh (pixel 1 2 3 255 ∷ pixel 1 2 3 255 ∷ pixel 0 0 0 255 ∷ [])
+        ≡ pixel 1 2 3 255 ∷ [] }
+    ensures repeat_is_not_noted { noted (pixel 0 0 0 255 ∷ []) 53 ≡ pixel 0 0 0 0 }
+    ensures fresh_is_noted { noted (pixel 1 99 2 255 ∷ []) 53 ≡ pixel 1 99 2 255 }
+    ensures stands_behind { StandsBehind (1 ∷ 2 ∷ 3 ∷ 4 ∷ []) 1 (9 ∷ 8 ∷ [])
+        (1 ∷ 9 ∷ 8 ∷ 4 ∷ []) 3 }
+    ensures beginning { AppendsBeginning (Some (1 ∷ [])) (Some (1 ∷ 2 ∷ [])) (2 ∷ 3 ∷ []) }
+{}
