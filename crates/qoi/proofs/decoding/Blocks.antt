@@ -10,16 +10,13 @@ use lib.Lanes.{put_chunk}
 use Rattle.qoi.specs.Qoi.{RgbaPixel}
 use Rattle.qoi.specs.Raw.{IsChannels, pixel_bytes, output}
 use Rattle.qoi.specs.inner.Filling.{upto, HasWritten}
-use Rattle.qoi.proofs.decoding.FilledBuffer.{take-output}
+use Rattle.qoi.proofs.decoding.FilledBuffer.{by_channels, take-output}
 
 -- the whole pixels of a block
 whole_of : (f c : ℕ) (p : RgbaPixel) (bytes : List ℕ) → IsChannels c → bytes ≡ take 16 (output f c (replicate 6 p))
     → (take (c * (16 / c)) bytes ≡ output f c (replicate (16 / c) p)) × (c * (16 / c) ≤ 16) × (length bytes ≡ 16)
-whole_of f c p bytes (inl is) = subst (λ d. bytes ≡ take 16 (output f d (replicate 6 p))
-    → (take (d * (16 / d)) bytes ≡ output f d (replicate (16 / d) p)) × (d * (16 / d) ≤ 16) × (length bytes ≡ 16)) (sym is)
-    (λ e. rw e (refl, omega arith, refl))
-whole_of f c p bytes (inr is) = subst (λ d. bytes ≡ take 16 (output f d (replicate 6 p))
-    → (take (d * (16 / d)) bytes ≡ output f d (replicate (16 / d) p)) × (d * (16 / d) ≤ 16) × (length bytes ≡ 16)) (sym is)
+whole_of f c p bytes is = by_channels (λ d. bytes ≡ take 16 (output f d (replicate 6 p))
+    → (take (d * (16 / d)) bytes ≡ output f d (replicate (16 / d) p)) × (d * (16 / d) ≤ 16) × (length bytes ≡ 16)) is (λ e. rw e (refl, omega arith, refl))
     (λ e. rw e (refl, omega arith, refl))
 
 -- the front of a piece that was written stands after what was written before
@@ -66,8 +63,8 @@ written_copies {f} {c} {old} {mid} {new} p at j k n is sum first more =
     }
   where
     after_both : (c at j k n : ℕ) → IsChannels c → n ≡ j + k → at + c * j + c * k ≡ at + c * n
-    after_both c at j k n (inl e) = subst (λ d. n ≡ j + k → at + d * j + d * k ≡ at + d * n) (sym e) (λ sum. omega arith)
-    after_both c at j k n (inr e) = subst (λ d. n ≡ j + k → at + d * j + d * k ≡ at + d * n) (sym e) (λ sum. omega arith)
+    after_both c at j k n is = by_channels (λ d. n ≡ j + k → at + d * j + d * k ≡ at + d * n) is (λ sum. omega arith)
+        (λ sum. omega arith)
 
 -- fewer of the copies were written too
 written_fewer : {f c : ℕ} {old new : List ℕ} (p : RgbaPixel) (at most count : ℕ) → IsChannels c → count ≤ most → at ≤ length old
@@ -84,8 +81,8 @@ written_fewer {f} {c} {old} {new} p at most count is le within all =
     }
   where
     ends : (c at count most : ℕ) → IsChannels c → count ≤ most → at + c * count ≤ at + c * most
-    ends c at count most (inl e) = subst (λ d. count ≤ most → at + d * count ≤ at + d * most) (sym e) (λ le. omega arith)
-    ends c at count most (inr e) = subst (λ d. count ≤ most → at + d * count ≤ at + d * most) (sym e) (λ le. omega arith)
+    ends c at count most is = by_channels (λ d. count ≤ most → at + d * count ≤ at + d * most) is (λ le. omega arith)
+        (λ le. omega arith)
 
 -- copies of a pixel, as many as a block has room for
 pub block_written : (f c : ℕ) (p : RgbaPixel) (out bytes : List ℕ) (at count : ℕ) → IsChannels c → at + 16 ≤ length out
@@ -113,11 +110,8 @@ pixel_written f c p out bytes at is room e =
 
     one_of : (f c : ℕ) (p : RgbaPixel) (bytes : List ℕ) → IsChannels c → bytes ≡ take 16 (output f c (replicate 6 p))
         → (take c bytes ≡ pixel_bytes f c p) × (length (take c bytes) ≡ c) × (take c (take c bytes) ≡ take c bytes)
-    one_of f c p bytes (inl is) = subst (λ d. bytes ≡ take 16 (output f d (replicate 6 p))
-        → (take d bytes ≡ pixel_bytes f d p) × (length (take d bytes) ≡ d) × (take d (take d bytes) ≡ take d bytes)) (sym is)
-        (λ e. rw e (refl, refl, refl))
-    one_of f c p bytes (inr is) = subst (λ d. bytes ≡ take 16 (output f d (replicate 6 p))
-        → (take d bytes ≡ pixel_bytes f d p) × (length (take d bytes) ≡ d) × (take d (take d bytes) ≡ take d bytes)) (sym is)
+    one_of f c p bytes is = by_channels (λ d. bytes ≡ take 16 (output f d (replicate 6 p))
+        → (take d bytes ≡ pixel_bytes f d p) × (length (take d bytes) ≡ d) × (take d (take d bytes) ≡ take d bytes)) is (λ e. rw e (refl, refl, refl))
         (λ e. rw e (refl, refl, refl))
 
 -- no copies

@@ -8,7 +8,7 @@ use Rattle.qoi.specs.Qoi.{Past}
 use Rattle.qoi.specs.Raw.{IsChannels}
 use Rattle.qoi.specs.inner.Filling.{upto, filling, HasWritten, DecodesChunk, FastBetween}
 use Rattle.qoi.specs.inner.Hashed.{pixel_of_lanes, HoldsSeen}
-use Rattle.qoi.proofs.decoding.FilledBuffer.{filled_copies}
+use Rattle.qoi.proofs.decoding.FilledBuffer.{by_channels, filled_copies}
 use Rattle.qoi.proofs.decoding.FirstChunk.{PutsCopies}
 use Rattle.qoi.proofs.decoding.Progress.{goes_on}
 
@@ -55,17 +55,13 @@ pub record After (c at count len : ℕ) : Type 0 where
 
 -- so it is after as many pixels as a block holds
 pub after_block : (c at count len : ℕ) → IsChannels c → at % c ≡ 0 → count ≤ 16 / c → at + 16 ≤ len → After c at count len
-after_block c at count len (inl is) =
-    subst (λ d. at % d ≡ 0 → count ≤ 16 / d → at + 16 ≤ len → After d at count len) (sym is) (λ p q r. record { fits = omega arith; whole = omega arith })
-after_block c at count len (inr is) =
-    subst (λ d. at % d ≡ 0 → count ≤ 16 / d → at + 16 ≤ len → After d at count len) (sym is) (λ p q r. record { fits = omega arith; whole = omega arith })
+after_block c at count len is = by_channels (λ d. at % d ≡ 0 → count ≤ 16 / d → at + 16 ≤ len → After d at count len) is (λ p q r. record { fits = omega arith; whole = omega arith })
+    (λ p q r. record { fits = omega arith; whole = omega arith })
 
 -- and after any run
 pub after_run : (c at count len : ℕ) → IsChannels c → at % c ≡ 0 → count ≤ 62 → at + 256 ≤ len → After c at count len
-after_run c at count len (inl is) =
-    subst (λ d. at % d ≡ 0 → count ≤ 62 → at + 256 ≤ len → After d at count len) (sym is) (λ p q r. record { fits = omega arith; whole = omega arith })
-after_run c at count len (inr is) =
-    subst (λ d. at % d ≡ 0 → count ≤ 62 → at + 256 ≤ len → After d at count len) (sym is) (λ p q r. record { fits = omega arith; whole = omega arith })
+after_run c at count len is = by_channels (λ d. at % d ≡ 0 → count ≤ 62 → at + 256 ≤ len → After d at count len) is (λ p q r. record { fits = omega arith; whole = omega arith })
+    (λ p q r. record { fits = omega arith; whole = omega arith })
 
 -- the byte after a luma is the second one, and after another short chunk the first
 pub next_byte : (luma : Bool) (bytes : List ℕ) (taken size next : ℕ) → size ≡ bool_byte luma

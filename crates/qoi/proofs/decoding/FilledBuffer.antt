@@ -10,10 +10,15 @@ use Rattle.qoi.specs.Raw.{IsChannels, pixel_bytes, output}
 use Rattle.qoi.specs.inner.Filling.{Buffer, upto, HasWritten, HasFilled}
 use Rattle.qoi.proofs.format.ChunkSteps.{repeats_after, reverse-replicate}
 
+-- what holds of three channels and of four
+pub by_channels : {n : ℕ} (P : ℕ → Type 0) → IsChannels n → P 3 → P 4 → P n
+by_channels P (inl e) three four = subst P (sym e) three
+by_channels P (inr e) three four = subst P (sym e) four
+
 -- as many whole pixels as bytes for them
 pub whole_pixels : (c len : ℕ) → IsChannels c → len % c ≡ 0 → len ≡ c * (len / c)
-whole_pixels c len (inl e) = subst (λ k. len % k ≡ 0 → len ≡ k * (len / k)) (sym e) (λ p. omega arith)
-whole_pixels c len (inr e) = subst (λ k. len % k ≡ 0 → len ≡ k * (len / k)) (sym e) (λ p. omega arith)
+whole_pixels c len is = by_channels (λ k. len % k ≡ 0 → len ≡ k * (len / k)) is (λ p. omega arith)
+    (λ p. omega arith)
 
 -- a pixel has as many bytes as channels
 length-pixel_bytes : (f c : ℕ) (p : RgbaPixel) → IsChannels c → length (pixel_bytes f c p) ≡ c
@@ -49,16 +54,12 @@ pub record Counts (c n l k at len : ℕ) : Type 0 where
 
 -- where the buffer stands and how many pixels came count alike, also after k more that fit
 pub counts : (c n l k at len : ℕ) → IsChannels c → len ≡ c * n → at ≡ c * min n l → at < len → at + c * k ≤ len → Counts c n l k at len
-counts c n l k at len (inl e) = subst (λ m. len ≡ m * n → at ≡ m * min n l → at < len → at + m * k ≤ len → Counts m n l k at len) (sym e)
-    (λ p q h r. record { below = omega arith; now = omega arith; next = omega arith })
-counts c n l k at len (inr e) = subst (λ m. len ≡ m * n → at ≡ m * min n l → at < len → at + m * k ≤ len → Counts m n l k at len) (sym e)
+counts c n l k at len is = by_channels (λ m. len ≡ m * n → at ≡ m * min n l → at < len → at + m * k ≤ len → Counts m n l k at len) is (λ p q h r. record { below = omega arith; now = omega arith; next = omega arith })
     (λ p q h r. record { below = omega arith; now = omega arith; next = omega arith })
 
 -- where there is none, the pixels so far are enough
 full_counts : (c n l at len : ℕ) → IsChannels c → len ≡ c * n → at ≡ c * min n l → len ≤ at → (n ≤ l) × (at ≡ len)
-full_counts c n l at len (inl e) = subst (λ k. len ≡ k * n → at ≡ k * min n l → len ≤ at → (n ≤ l) × (at ≡ len)) (sym e)
-    (λ p q h. (omega arith, omega arith))
-full_counts c n l at len (inr e) = subst (λ k. len ≡ k * n → at ≡ k * min n l → len ≤ at → (n ≤ l) × (at ≡ len)) (sym e)
+full_counts c n l at len is = by_channels (λ k. len ≡ k * n → at ≡ k * min n l → len ≤ at → (n ≤ l) × (at ≡ len)) is (λ p q h. (omega arith, omega arith))
     (λ p q h. (omega arith, omega arith))
 
 -- the bytes of pixels and of those before them
@@ -70,16 +71,16 @@ filled_list : (f c n : ℕ) (out new : List ℕ) (at : ℕ) (past : Past) (ps : 
     → length new ≡ length out → take (at + c * length ps) new ≡ take at out ++ output f c ps
     → HasFilled f c n (upto out at) past → HasFilled f c n (upto new (at + c * length ps)) (reverse ps ++ past)
 filled_list f c n out new at past ps is inside fits size e h =
-    let place = counts c n (length past) (length ps) at (length out) is h.room h.at_is inside fits in
+    let at_now = counts c n (length past) (length ps) at (length out) is h.room h.at_is inside fits in
     let bytes = output f c ps in
     let so_far = output f c (reverse past) in
     let end = at + c * length ps in
     let some : length bytes ≡ c * length ps = length-output f c ps is in
-    let many : length so_far ≡ at = length-output f c (reverse past) is ∙ ap (λ k. c * k) (length-reverse past) ∙ sym place.now in
+    let many : length so_far ≡ at = length-output f c (reverse past) is ∙ ap (λ k. c * k) (length-reverse past) ∙ sym at_now.now in
     let all : length (so_far ++ bytes) ≡ end = omega (arith, length-append so_far bytes) in
     record {
       room = size ∙ h.room;
-      at_is = place.next ∙ ap (λ k. c * min n k) (sym (length-append (reverse ps) past ∙ ap (λ k. k + length past) (length-reverse ps)));
+      at_is = at_now.next ∙ ap (λ k. c * min n k) (sym (length-append (reverse ps) past ∙ ap (λ k. k + length past) (length-reverse ps)));
       same = e ∙ ap (λ z. z ++ bytes) (h.same ∙ take_whole at so_far many)
           ∙ sym (ap (take end) (output-append f c (reverse ps) past ∙ ap (λ z. so_far ++ output f c z) (reverse-reverse ps))
           ∙ take_whole end (so_far ++ bytes) all);
@@ -89,9 +90,9 @@ filled_list f c n out new at past ps is inside fits size e h =
 filled_full : (f c n : ℕ) (out : List ℕ) (at : ℕ) (past more : Past) → IsChannels c → HasFilled f c n (upto out at) past → length out ≤ at
     → HasFilled f c n (upto out at) (more ++ past)
 filled_full f c n out at past more is h full =
-    let place = full_counts c n (length past) at (length out) is h.room h.at_is full in
+    let all = full_counts c n (length past) at (length out) is h.room h.at_is full in
     let size = length-append more past in
-    let min_is : min n (length (more ++ past)) ≡ min n (length past) = omega (arith, size, place.0) in
+    let min_is : min n (length (more ++ past)) ≡ min n (length past) = omega (arith, size, all.0) in
     record {
       room = h.room;
       at_is = h.at_is ∙ ap (λ k. c * k) (sym min_is);
@@ -101,8 +102,8 @@ filled_full f c n out at past more is h full =
     }
   where
     long_enough : (c n l at len size : ℕ) → IsChannels c → len ≡ c * n → at ≡ c * min n l → len ≤ at → size ≡ c * l → at ≤ size
-    long_enough c n l at len size (inl e) = subst (λ k. len ≡ k * n → at ≡ k * min n l → len ≤ at → size ≡ k * l → at ≤ size) (sym e) (λ p q h s. omega arith)
-    long_enough c n l at len size (inr e) = subst (λ k. len ≡ k * n → at ≡ k * min n l → len ≤ at → size ≡ k * l → at ≤ size) (sym e) (λ p q h s. omega arith)
+    long_enough c n l at len size is = by_channels (λ k. len ≡ k * n → at ≡ k * min n l → len ≤ at → size ≡ k * l → at ≤ size) is (λ p q h s. omega arith)
+        (λ p q h s. omega arith)
 
 -- copies of a pixel that were written fill the buffer
 pub filled_copies : (f c n : ℕ) (out new : List ℕ) (at count : ℕ) (p : RgbaPixel) (past : Past) → IsChannels c → at < length out
@@ -115,22 +116,19 @@ filled_copies f c n out new at count p past is inside fits size w h =
 
 -- the room that the blocks of any run have is enough for its pixels
 pub run_fits : (c at count len : ℕ) → IsChannels c → count ≤ 62 → at + 256 ≤ len → at + c * count ≤ len
-run_fits c at count len (inl e) = subst (λ d. count ≤ 62 → at + 256 ≤ len → at + d * count ≤ len) (sym e) (λ p q. omega arith)
-run_fits c at count len (inr e) = subst (λ d. count ≤ 62 → at + 256 ≤ len → at + d * count ≤ len) (sym e) (λ p q. omega arith)
+run_fits c at count len is = by_channels (λ d. count ≤ 62 → at + 256 ≤ len → at + d * count ≤ len) is (λ p q. omega arith)
+    (λ p q. omega arith)
 
 -- as many copies as there is room for have room
 pub copies_fit : (c at count len : ℕ) → IsChannels c → at ≤ len → at + c * min count ((len - at) / c) ≤ len
-copies_fit c at count len (inl e) = subst (λ d. at ≤ len → at + d * min count ((len - at) / d) ≤ len) (sym e) (λ p. omega arith)
-copies_fit c at count len (inr e) = subst (λ d. at ≤ len → at + d * min count ((len - at) / d) ≤ len) (sym e) (λ p. omega arith)
+copies_fit c at count len is = by_channels (λ d. at ≤ len → at + d * min count ((len - at) / d) ≤ len) is (λ p. omega arith)
+    (λ p. omega arith)
 
 -- the copies that there is room for are all, or they end where the buffer does
 pub copies_end : (c at count len : ℕ) → IsChannels c → len % c ≡ 0 → at % c ≡ 0 → at ≤ len
     → (min count ((len - at) / c) ≡ count) ⊎ (len ≤ at + c * min count ((len - at) / c))
-copies_end c at count len (inl e) = subst (λ k. len % k ≡ 0 → at % k ≡ 0 → at ≤ len
-    → (min count ((len - at) / k) ≡ count) ⊎ (len ≤ at + k * min count ((len - at) / k))) (sym e)
-    (λ p q l. elim (cases_lt ((len - at) / 3) count) [ inl few ↦ inr (omega arith) | inr all ↦ inl (omega arith) ])
-copies_end c at count len (inr e) = subst (λ k. len % k ≡ 0 → at % k ≡ 0 → at ≤ len
-    → (min count ((len - at) / k) ≡ count) ⊎ (len ≤ at + k * min count ((len - at) / k))) (sym e)
+copies_end c at count len is = by_channels (λ k. len % k ≡ 0 → at % k ≡ 0 → at ≤ len
+    → (min count ((len - at) / k) ≡ count) ⊎ (len ≤ at + k * min count ((len - at) / k))) is (λ p q l. elim (cases_lt ((len - at) / 3) count) [ inl few ↦ inr (omega arith) | inr all ↦ inl (omega arith) ])
     (λ p q l. elim (cases_lt ((len - at) / 4) count) [ inl few ↦ inr (omega arith) | inr all ↦ inl (omega arith) ])
 
 -- after those of `count` copies that there is room for, the others change nothing
@@ -146,10 +144,10 @@ filled_end f c n out at all count p past is le (inr full) h =
 pub filled_all : (f c n : ℕ) (b : Buffer) (past : Past) → IsChannels c → HasFilled f c n b past → length b.out ≤ b.at
     → (n ≤ length past) × (b.out ≡ output f c (take n (reverse past)))
 filled_all f c n b past is h full =
-    let place = full_counts c n (length past) b.at (length b.out) is h.room h.at_is full in
-    let enough : n ≤ length (reverse past) = omega (arith, place.0, length-reverse past) in
-    let at_all : b.at ≡ c * n = place.1 ∙ h.room in (
-      place.0,
-      sym (take_whole b.at b.out (sym place.1)) ∙ h.same ∙ ap (λ k. take k (output f c (reverse past))) at_all
+    let all = full_counts c n (length past) b.at (length b.out) is h.room h.at_is full in
+    let enough : n ≤ length (reverse past) = omega (arith, all.0, length-reverse past) in
+    let at_all : b.at ≡ c * n = all.1 ∙ h.room in (
+      all.0,
+      sym (take_whole b.at b.out (sym all.1)) ∙ h.same ∙ ap (λ k. take k (output f c (reverse past))) at_all
           ∙ take-output f c n (reverse past) is enough,
     )

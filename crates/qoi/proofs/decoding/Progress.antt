@@ -12,7 +12,7 @@ use Rattle.qoi.proofs.format.ChunkSteps.{times_some, then_chunks-append, each_ap
 use Rattle.std.proofs.lemmas.Grind.{flat_map-append}
 use Rattle.qoi.proofs.format.SomeVerdict.{reading_of}
 use Rattle.qoi.proofs.format.Appended.{are_chunks_append, chunk_bytes-last, length-meaning}
-use Rattle.qoi.proofs.decoding.FilledBuffer.{counts, filled_all, whole_pixels}
+use Rattle.qoi.proofs.decoding.FilledBuffer.{by_channels, counts, filled_all, whole_pixels}
 use Rattle.qoi.proofs.decoding.SeenTable.{previous_copies}
 
 -- fewer than n pixels were decoded, where there is room for more
@@ -35,8 +35,8 @@ start_between f c Taken table last out is whole blank opaque none_taken = record
 }
   where
     none : (c : ℕ) → IsChannels c → 0 ≡ c * min (length out / c) 0
-    none c (inl e) = subst (λ k. 0 ≡ k * min (length out / k) 0) (sym e) (omega arith)
-    none c (inr e) = subst (λ k. 0 ≡ k * min (length out / k) 0) (sym e) (omega arith)
+    none c is = by_channels (λ k. 0 ≡ k * min (length out / k) 0) is (omega arith)
+        (omega arith)
 
     zero_whole : (c : ℕ) → IsChannels c → 0 % c ≡ 0
     zero_whole c (inl e) = subst (λ k. 0 % k ≡ 0) (sym e) refl

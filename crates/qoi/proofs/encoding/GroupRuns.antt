@@ -7,14 +7,9 @@ use Rattle.std.specs.List.{slice_get}
 use Rattle.qoi.specs.Qoi.{RgbaPixel, rgba}
 use Rattle.qoi.specs.Raw.{IsChannels, pixels_of}
 use Rattle.qoi.specs.Runs.{IsCount}
-use Rattle.qoi.proofs.decoding.FilledBuffer.{whole_pixels}
+use Rattle.qoi.proofs.decoding.FilledBuffer.{by_channels, whole_pixels}
 use Rattle.qoi.proofs.format.ChunkSteps.{repeats_after}
 use Rattle.qoi.proofs.format.RawPixels.{length-pixels_of, pixels_of-append, pixels_of-next}
-
--- what holds of three channels and of four
-pub by_channels : {n : ℕ} (P : ℕ → Type 0) → IsChannels n → P 3 → P 4 → P n
-by_channels P (inl e) three four = subst P (sym e) three
-by_channels P (inr e) three four = subst P (sym e) four
 
 -- two and more aren't one
 pub not_one : (n : ℕ) → (suc (suc n) == 1) ≡ false
