@@ -227,10 +227,18 @@ pub fn decoder_examples()
       channels = Channels.Rgba;
     }) ≡ 4 }
     ensures within { TakesWithin (λ bytes. bytes)
-        (record { reader = Some (replicate 13 0); header = default_header; channels = Channels.Rgb })
+        (record {
+          reader = Some (replicate 13 0);
+          header = default_header;
+          channels = Channels.Rgb;
+        })
         (record { reader = Some []; header = default_header; channels = Channels.Rgb }) }
     ensures beyond { TakesWithin (λ bytes. bytes)
-        (record { reader = Some (replicate 14 0); header = default_header; channels = Channels.Rgb })
+        (record {
+          reader = Some (replicate 14 0);
+          header = default_header;
+          channels = Channels.Rgb;
+        })
         (record { reader = Some []; header = default_header; channels = Channels.Rgb }) → ⊥ }
 {}
 
