@@ -119,6 +119,11 @@ pub run_fits : (c at count len : ℕ) → IsChannels c → count ≤ 62 → at +
 run_fits c at count len is = by_channels (λ d. count ≤ 62 → at + 256 ≤ len → at + d * count ≤ len) is (λ p q. omega arith)
     (λ p q. omega arith)
 
+-- the copies that a block holds fit where it does
+pub block_fits : (c at count len : ℕ) → IsChannels c → count ≤ 16 / c → at + 16 ≤ len → at + c * count ≤ len
+block_fits c at count len is = by_channels (λ d. count ≤ 16 / d → at + 16 ≤ len → at + d * count ≤ len) is (λ p q. omega arith)
+    (λ p q. omega arith)
+
 -- as many copies as there is room for have room
 pub copies_fit : (c at count len : ℕ) → IsChannels c → at ≤ len → at + c * min count ((len - at) / c) ≤ len
 copies_fit c at count len is = by_channels (λ d. at ≤ len → at + d * min count ((len - at) / d) ≤ len) is (λ p. omega arith)

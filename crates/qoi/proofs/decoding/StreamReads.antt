@@ -38,6 +38,12 @@ bytes_take (suc n) [] h i = omega arith
 bytes_take (suc n) (b ∷ bytes) h zero = h 0
 bytes_take (suc n) (b ∷ bytes) h (suc i) = bytes_take n bytes (λ j. h (suc j)) i
 
+-- bytes and bytes are bytes
+pub bytes_append : (xs ys : List ℕ) → AreBytes xs → AreBytes ys → AreBytes (xs ++ ys)
+bytes_append [] ys h k i = k i
+bytes_append (x ∷ xs) ys h k zero = h 0
+bytes_append (x ∷ xs) ys h k (suc i) = bytes_append xs ys (λ j. h (suc j)) k i
+
 -- the first byte of a luma is a part of it
 pub part_read_luma : (b : ℕ) → b < 256 → 128 ≤ b → b < 192 → IsPartOfChunk (b ∷ [])
 part_read_luma b fits low high = part_luma (b ∷ []) (byte_and b [] fits (λ i. omega arith)) (omega arith) low high

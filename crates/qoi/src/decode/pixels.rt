@@ -108,15 +108,17 @@ fn fill<const N: usize, const F: usize>(
     ensures whole { result % N ≡ 0 }
     ensures within { (at < result) × (result ≤ length out.new) }
 {
-    if RUN_ROOM <= out.len() - at {
-        if count <= 16 / N {
+    let room = out.len() - at;
+    if count <= 16 / N {
+        if 16 <= room {
             write_block::<N, F>(out, at, px);
-        } else {
-            write_run::<N, F>(out, at, px, count);
+            return at + N * count;
         }
+    } else if RUN_ROOM <= room {
+        write_run::<N, F>(out, at, px, count);
         return at + N * count;
     }
-    let all = count.min((out.len() - at) / N);
+    let all = count.min(room / N);
     write_pixels::<N, F>(out, at, px, all);
     at + N * all
 }

@@ -8,9 +8,8 @@ ghost use Rattle.qoi.specs.Decoding.{StreamsPixels, ReadsImage, RefusesTaken, Re
 ghost use Rattle.qoi.specs.inner.Filling.{IsWholePixels, DecodesChunk, filling};
 ghost use Rattle.qoi.specs.inner.Taken.{HasTaken};
 
-use crate::chunk::QOI_OP_LUMA_END;
-use crate::consts::{QOI_OP_LUMA, QOI_OP_RGB, QOI_OP_RGBA, QOI_PADDING, QOI_PADDING_SIZE};
-use crate::decode::pixels::{Decoded, decode_chunk};
+use crate::consts::{QOI_OP_RGB, QOI_OP_RGBA, QOI_PADDING, QOI_PADDING_SIZE};
+use crate::decode::pixels::{Decoded, decode_chunk, is_luma};
 use crate::error::{Error, Result};
 use crate::hashed::Hashed;
 use crate::table::HashedTable;
@@ -23,9 +22,11 @@ fn ended() -> io::Error {
     io::Error::new(ErrorKind::UnexpectedEof, "the stream ended within a file")
 }
 
-// Fills the buffer from a stream, and asks for no byte past it. Unlike in the standard library's, an
+// Fills the buffer from a stream by as many reads as it takes, and asks for no byte past it. An
 // interruption is a fault; so is the end of the stream.
-pub(super) fn read_exact<R: Read>(reader: &mut R, buf: &mut [u8]) -> io::Result<()>
+#[cold]
+#[inline(never)]
+fn read_rest<R: Read>(reader: &mut R, buf: &mut [u8]) -> io::Result<()>
     ensures read { OnOk result
         (Consumes (R.remaining reader.old) (R.remaining reader.new) buf.new) }
     ensures failed { OnErr result (HasTaken (R.remaining reader.old) (R.remaining reader.new)
@@ -41,6 +42,29 @@ pub(super) fn read_exact<R: Read>(reader: &mut R, buf: &mut [u8]) -> io::Result<
         filled += count;
     }
     Ok(())
+}
+
+// Fills the buffer from a stream, and asks for no byte past it. Unlike in the standard library's, an
+// interruption is a fault; so is the end of the stream. The first read mostly returns all.
+#[inline(always)]
+pub(super) fn read_exact<R: Read>(reader: &mut R, buf: &mut [u8]) -> io::Result<()>
+    ensures read { OnOk result
+        (Consumes (R.remaining reader.old) (R.remaining reader.new) buf.new) }
+    ensures failed { OnErr result (HasTaken (R.remaining reader.old) (R.remaining reader.new)
+        (λ taken. (length taken < length buf.old) × AreBytes taken)) }
+    ensures bytes { AreBytes buf.new }
+{
+    if buf.is_empty() {
+        return Ok(());
+    }
+    let count = reader.read(buf)?;
+    if count == buf.len() {
+        return Ok(());
+    }
+    if count == 0 {
+        return Err(ended());
+    }
+    read_rest(reader, &mut buf[count..])
 }
 
 // Reads a byte from a stream.
@@ -82,10 +106,6 @@ fn next_chunk<R: Read, const N: usize, const F: usize>(
 {
     let b1 = read_one(reader)?;
     match b1 {
-        QOI_OP_LUMA..=QOI_OP_LUMA_END => {
-            let b2 = read_one(reader)?;
-            Ok(decode_chunk::<N, F>(table, last, &[b1, b2, 0, 0, 0, 0, 0, 0], out, at))
-        }
         QOI_OP_RGB => {
             let mut more = [0, 0, 0];
             read_exact(reader, &mut more)?;
@@ -98,7 +118,14 @@ fn next_chunk<R: Read, const N: usize, const F: usize>(
             let bytes = [b1, more[0], more[1], more[2], more[3], 0, 0, 0];
             Ok(decode_chunk::<N, F>(table, last, &bytes, out, at))
         }
-        _ => Ok(decode_chunk::<N, F>(table, last, &[b1, 0, 0, 0, 0, 0, 0, 0], out, at)),
+        _ => {
+            let b2 = if is_luma(u32::from(b1)) {
+                read_one(reader)?
+            } else {
+                0
+            };
+            Ok(decode_chunk::<N, F>(table, last, &[b1, b2, 0, 0, 0, 0, 0, 0], out, at))
+        }
     }
 }
 

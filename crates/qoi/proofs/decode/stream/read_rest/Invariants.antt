@@ -2,7 +2,7 @@
 use Rattle.std.proofs.Common.{◌-◌, ◌≤◌, length, take}
 use Rattle.std.specs.Io.KnownBytes.{Consumes}
 use Rattle.qoi.specs.Qoi.{AreBytes}
-use Rattle.qoi.proofs.decode.stream.read_exact.Given as goal
+use Rattle.qoi.proofs.decode.stream.read_rest.Given as goal
 
 abbrev pub invariant-loop-filled : goal.invariant-loop-filled
 invariant-loop-filled g l =
