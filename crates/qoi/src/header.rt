@@ -163,6 +163,6 @@ pub(crate) fn max_file_size(width: u32, height: u32, channels: u8) -> usize
 {
     let n_pixels = width as usize * height as usize;
     n_pixels
-        .saturating_mul(channels as usize + 1)
+        .saturating_mul(usize::from(channels) + 1)
         .saturating_add(QOI_HEADER_SIZE + QOI_PADDING_SIZE)
 }

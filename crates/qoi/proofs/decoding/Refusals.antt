@@ -11,14 +11,7 @@ use Rattle.qoi.proofs.format.OneVerdict.{whole_not_cut, whole_not_wrong}
 whole_not_refused : (n : ℕ) (bytes : List ℕ) (cs : List Chunk) (rest : List ℕ) (e : Error) → IsWhole n bytes cs rest → RefusesBytes n bytes e → ⊥
 whole_not_refused n bytes cs rest UnexpectedBufferEnd whole (ds, part, cut) = whole_not_cut n bytes cs ds rest part whole cut
 whole_not_refused n bytes cs rest InvalidPadding whole (after, wrong) = whole_not_wrong n bytes cs wrong.0 rest wrong.1 after whole wrong.2
-whole_not_refused n bytes cs rest (InvalidMagic m) whole no_reason = no_reason
-whole_not_refused n bytes cs rest (InvalidChannels k) whole no_reason = no_reason
-whole_not_refused n bytes cs rest (InvalidColorSpace k) whole no_reason = no_reason
-whole_not_refused n bytes cs rest (InvalidImageDimensions w h) whole no_reason = no_reason
-whole_not_refused n bytes cs rest (InvalidImageLength s w h) whole no_reason = no_reason
-whole_not_refused n bytes cs rest (OutputBufferTooSmall s r) whole no_reason = no_reason
-whole_not_refused n bytes cs rest (IoError i) whole no_reason = no_reason
-whole_not_refused n bytes cs rest OutOfMemory whole no_reason = no_reason
+whole_not_refused n bytes cs rest _ whole no_reason = no_reason
 
 -- the same for a refusal of a reader whose bytes stand in memory
 pub whole_not_refused_in : (in_memory : Bool) (n : ℕ) (old new : Option (List ℕ)) (e : Error) (bytes : List ℕ) (cs : List Chunk) (rest : List ℕ)

@@ -112,14 +112,7 @@ refused_after n cs chunks reaches taken InvalidPadding (eight, other) = (
     other = other;
   },
 )
-refused_after n cs chunks reaches taken (InvalidMagic m) none = none
-refused_after n cs chunks reaches taken (InvalidChannels k) none = none
-refused_after n cs chunks reaches taken (InvalidColorSpace k) none = none
-refused_after n cs chunks reaches taken (InvalidImageDimensions w h) none = none
-refused_after n cs chunks reaches taken (InvalidImageLength z w h) none = none
-refused_after n cs chunks reaches taken (OutputBufferTooSmall z r) none = none
-refused_after n cs chunks reaches taken UnexpectedBufferEnd none = none
-refused_after n cs chunks reaches taken OutOfMemory none = none
+refused_after n cs chunks reaches taken _ none = none
 
 -- what was taken where the marker was refused
 pub marker_refused : {T : Type 0} (f c n : ℕ) (old now new : Option (List ℕ)) (out : List ℕ) (r : Result T Error) → StreamsPixels f c n old now out

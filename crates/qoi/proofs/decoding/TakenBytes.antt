@@ -108,11 +108,4 @@ pub refused_within : (in_memory : Bool) (n : ℕ) (old new : Option (List ℕ)) 
 refused_within true n old new e r = ([], keeps_all old new r.0, omega arith)
 refused_within false n old new (IoError x) (taken, took, why) = (taken, took, cut_within n taken why)
 refused_within false n old new InvalidPadding (taken, took, why) = (taken, took, wrong_within n taken why)
-refused_within false n old new (InvalidMagic x) (taken, took, why) = absurd why
-refused_within false n old new (InvalidChannels x) (taken, took, why) = absurd why
-refused_within false n old new (InvalidColorSpace x) (taken, took, why) = absurd why
-refused_within false n old new (InvalidImageDimensions x y) (taken, took, why) = absurd why
-refused_within false n old new (InvalidImageLength x y z) (taken, took, why) = absurd why
-refused_within false n old new (OutputBufferTooSmall x y) (taken, took, why) = absurd why
-refused_within false n old new UnexpectedBufferEnd (taken, took, why) = absurd why
-refused_within false n old new OutOfMemory (taken, took, why) = absurd why
+refused_within false n old new _ (taken, took, why) = absurd why

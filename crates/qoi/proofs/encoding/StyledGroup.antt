@@ -47,11 +47,7 @@ long_stays r past before cs = ap (λ t. if t && fresh_next cs && some_fresh past
 -- a chunk other than a run stays
 other_stays : (past : Past) (before : Option Chunk) (c : Chunk) (cs : List Chunk) → is_run c ≡ false → place_for past before c cs ≡ c
 other_stays past before (Run n) cs e = absurd (let x = e in cc)
-other_stays past before (Place i) cs e = refl
-other_stays past before (Diff d) cs e = refl
-other_stays past before (Luma d f) cs e = refl
-other_stays past before (Rgb r g b) cs e = refl
-other_stays past before (Rgba r g b a) cs e = refl
+other_stays past before c cs e = refl
 
 -- a rest before a chunk other than a run
 abbrev single : Past → Option Chunk → Chunk

@@ -12,7 +12,8 @@ use Rattle.qoi.specs.inner.Table.{first_blank}
 use Rattle.qoi.proofs.format.SamePixels.{cases_pixel, hash_below, pixel_eq-from, pixel_eq-ne}
 use Rattle.qoi.proofs.encoding.NotedPixels.{seen_same, seen_other}
 use Rattle.qoi.proofs.encoding.Choices.{Chooses}
-use Rattle.qoi.proofs.encoding.WrittenExists.{first_some, spells_other, spells_no_place}
+use Rattle.qoi.proofs.encoding.Spelled.{first_some}
+use Rattle.qoi.proofs.encoding.WrittenExists.{spells_other, spells_no_place}
 use Rattle.qoi.proofs.encoding.WrittenOnce.{first_unique}
 
 -- repeats that are put change nothing that an index position holds

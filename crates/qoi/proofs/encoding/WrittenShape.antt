@@ -36,14 +36,6 @@ stay_below past (c ∷ cs) n a e =
     let l : length (then_chunk past c) ≡ times c + length past = simp (length-append, length-replicate) in
     (omega arith, stay_below (then_chunk past c) cs n a.1 e)
 
--- a written list reaches its pixels
-reaches_by : (Choice : Past → RgbaPixel → Chunk → Type 0) (image : List RgbaPixel) (n : ℕ) (cs : List Chunk) → WrittenBy Choice image cs
-    → length image ≡ n → Reaches n cs
-reaches_by Choice image n cs w e =
-    let m : length (meaning cs) ≡ n = ap length w.means ∙ e in
-    let l : length (meaning cs) ≡ length (then_chunks [] cs) = length-reverse (then_chunks [] cs) in
-    record { stays_below = stay_below [] cs n w.chunks (omega arith); enough = omega arith }
-
 -- the pixel before the next one is opaque, where all are
 opaque_previous : (past : Past) → AreOpaque past → (previous past).a ≡ 255
 unfolding start

@@ -7,18 +7,13 @@ use Rattle.qoi.specs.Raw.{IsChannels, output, pixels_of_3, pixels_of_4, pixels_o
 
 -- three bytes each: they are pixels
 pixels_3 : (bytes : List ℕ) → AllByRecursion (λ b. b < 256) bytes → AllByRecursion IsPixel (pixels_of_3 bytes)
-pixels_3 [] h = tt
-pixels_3 (r ∷ []) h = tt
-pixels_3 (r ∷ g ∷ []) h = tt
 pixels_3 (r ∷ g ∷ b ∷ bytes) h = (record { r = h.0; g = h.1.0; b = h.1.1.0; a = omega arith }, pixels_3 bytes h.1.1.1)
+pixels_3 _ h = tt
 
 -- four bytes each: they are pixels
 pixels_4 : (bytes : List ℕ) → AllByRecursion (λ b. b < 256) bytes → AllByRecursion IsPixel (pixels_of_4 bytes)
-pixels_4 [] h = tt
-pixels_4 (r ∷ []) h = tt
-pixels_4 (r ∷ g ∷ []) h = tt
-pixels_4 (r ∷ g ∷ b ∷ []) h = tt
 pixels_4 (r ∷ g ∷ b ∷ a ∷ bytes) h = (record { r = h.0; g = h.1.0; b = h.1.1.0; a = h.1.1.1.0 }, pixels_4 bytes h.1.1.1.1)
+pixels_4 _ h = tt
 
 -- they are pixels
 pub pixels_of_are : (channels : ℕ) (bytes : List ℕ) → IsChannels channels → AllByRecursion (λ b. b < 256) bytes
@@ -28,10 +23,8 @@ pixels_of_are channels bytes (inr e) h = rw e (pixels_4 bytes h)
 
 -- three bytes each: they are opaque
 opaque_3 : (bytes : List ℕ) → AreOpaque (pixels_of_3 bytes)
-opaque_3 [] = tt
-opaque_3 (r ∷ []) = tt
-opaque_3 (r ∷ g ∷ []) = tt
 opaque_3 (r ∷ g ∷ b ∷ bytes) = (refl, opaque_3 bytes)
+opaque_3 _ = tt
 
 -- they have as many channels as a pixel has bytes
 pub pixels_of_have : (channels : ℕ) (bytes : List ℕ) → IsChannels channels → HasChannels (pixels_of channels bytes) channels

@@ -25,15 +25,10 @@ pub record Four (xs : List ℕ) : Type 0 where
 
 -- so it is where there are three or more
 pub three : (xs : List ℕ) → 3 ≤ length xs → Three xs
-three [] h = absurd (omega arith)
-three (r ∷ []) h = absurd (omega arith)
-three (r ∷ g ∷ []) h = absurd (omega arith)
 three (r ∷ g ∷ b ∷ rest) h = record { r = r; g = g; b = b; rest = rest; is = refl }
+three _ h = absurd (omega arith)
 
 -- so it is where there are four or more
 pub four : (xs : List ℕ) → 4 ≤ length xs → Four xs
-four [] h = absurd (omega arith)
-four (r ∷ []) h = absurd (omega arith)
-four (r ∷ g ∷ []) h = absurd (omega arith)
-four (r ∷ g ∷ b ∷ []) h = absurd (omega arith)
 four (r ∷ g ∷ b ∷ a ∷ rest) h = record { r = r; g = g; b = b; a = a; rest = rest; is = refl }
+four _ h = absurd (omega arith)

@@ -2,7 +2,7 @@
 use Rattle.std.proofs.Common.{◌≡◌, ◌≢◌, ◌⊎◌, inl, inr, ℕ, zero, suc, ◌+◌, ◌≤◌, Bool, true, false, ◌&&◌, cond, eqb, List, [], ◌∷◌, ◌++◌, reverse, replicate, Option, None, Some, slice_get, refl, sym, ap, ◌∙◌, arith}
 use Rattle.std.specs.List.{find}
 use Rattle.std.specs.Option.{option_or}
-use Rattle.std.proofs.lemmas.Bool.{cond_both, cond-true, cond-false, and_parts, and_from, and_right, true≢false, cases_Bool, eq-eqb, ne_eqb, cases_eq}
+use Rattle.std.proofs.lemmas.Bool.{cond_both, cond-true, cond-false, and_parts, and_from, and_right, true≢false, cases_Bool, eq-eqb, ne_eqb, cases_eq, false_from_ne_true}
 use Rattle.std.proofs.lemmas.List.{reverse-append, reverse-reverse}
 use Rattle.std.proofs.lemmas.List.Folds.{find-append}
 use Rattle.qoi.specs.Qoi.{RgbaPixel, Past, start, previous, seen, hash}
@@ -28,11 +28,6 @@ slack_at n past = cond (opens past && is_start (first_at past)) n 0
 pub slack_is : (image : List RgbaPixel) (n : ℕ) → slack image n ≡ slack_at n (reverse image)
 unfolding slack slack_at
 slack_is image n = rw (reverse-reverse image) refl
-
--- at the start there is none
-pub slack_none : (n : ℕ) → slack_at n [] ≡ 0
-unfolding slack_at
-slack_none n = refl
 
 -- a list that begins with opaque black still does with more pixels
 opens_list : (xs ys : List RgbaPixel) → is_start (slice_get xs 0) ≡ true → is_start (slice_get (xs ++ ys) 0) ≡ true
@@ -71,14 +66,6 @@ slack_more n past p = elim (cases_Bool (opens past && is_start (first_at past)))
           (λ _. omega arith))
       | inr e ↦ rw e (omega arith)
     ]
-
--- the slack only grows in a run
-slack_run : (n : ℕ) (past : Past) (p : RgbaPixel) (k : ℕ) → slack_at n past ≤ slack_at n (replicate k p ++ past)
-slack_run n past p zero = omega arith
-slack_run n past p (suc k) =
-    let h = slack_run n past p k in
-    let m = slack_more n (replicate k p ++ past) p in
-    omega arith
 
 -- Where what is seen and what is noted at an index position differ: it is that of opaque black, with which
 -- the image opens and which is seen there, and no fresh pixel so far has it.
@@ -186,7 +173,4 @@ slack_most image n =
 -- there is none where the image doesn't open with opaque black
 pub slack_opens : (image : List RgbaPixel) (n : ℕ) → (OpensBlack image → ⊥) → slack image n ≡ 0
 unfolding slack
-slack_opens [] n closed = refl
-slack_opens (p ∷ image) n closed =
-    let other : is_start (slice_get (p ∷ image) 0) ≡ false = pixel_eq-ne p start (λ e. closed (image, ap (λ q. q ∷ image) e)) in
-    rw other refl
+slack_opens image n closed = rw (false_from_ne_true (is_start (slice_get image 0)) closed) refl

@@ -40,7 +40,7 @@ pub record StillToWrite (l : ImageList) (past : Past) (rest : List RgbaPixel) (t
   pub parts : l.cs ≡ done ++ todo
 
 -- A list that is written for an image in a style, and the bytes that didn't go to a writer yet: those that are kept, and
--- behind them those of the chunks that are still to be written.
+-- after them those of the chunks that are still to be written.
 pub record Writing : Type 0 where
   pub list : ImageList
   pub ahead : List ℕ

@@ -111,6 +111,7 @@ pub fn written_is_regular()
 
 /// Where no pixel of an image is transparent black, as in an image of three channels, each list that reaches
 /// its pixels and begins with them is regular.
+#[tactic(auto, using(crate::proofs::shortness::RegularLists::no_blank_regular, crate::proofs::shortness::RegularLists::opaque_regular))]
 pub fn no_blank_is_regular()
     ensures no_blank { (image : List RgbaPixel) (cs : List Chunk) → Reaches (length image) cs
         → Begins (meaning cs) image → AllByRecursion (λ p. p ≢ blank) image → Regular cs }
@@ -120,6 +121,7 @@ pub fn no_blank_is_regular()
 
 /// No regular list whose pixels begin with those of an image has fewer bytes than the image's floor. Neither
 /// the length of its runs nor what it gives past the image matters.
+#[tactic(auto, using(crate::proofs::shortness::Lower::lower))]
 pub fn none_is_shorter()
     ensures { (image : List RgbaPixel) (cs : List Chunk) → Covers image cs → Regular cs
         → floor image ≤ length (chunk_bytes cs) }
@@ -143,6 +145,7 @@ pub fn written_is_near_shortest()
 
 /// An index position holds the same whether every pixel is put at its position, or only the first one and
 /// each that differs from the pixel before it.
+#[tactic(auto, using(crate::proofs::encoding::TightChoice::seen_first_and_fresh))]
 pub fn repeats_put_nothing()
     ensures { (past : Past) (i : ℕ) → seen (first_and_fresh past) i ≡ seen past i }
 {}
