@@ -22,10 +22,6 @@ none_of_few n (a ∷ b ∷ c ∷ d ∷ rest) (inr e) h = absurd (omega arith)
 none_of_few n _ (inl e) h = rw e refl
 none_of_few n _ (inr e) h = rw e refl
 
--- equal where both are there
-pub some_same : {a b : RgbaPixel} → Some a ≡ Some b → a ≡ b
-some_same e = cc
-
 -- so many pixels that are p, and then others
 pub count_of : (p : RgbaPixel) (pixels rest : List RgbaPixel) (n : ℕ) → pixels ≡ replicate n p ++ rest → slice_get rest 0 ≢ Some p → IsCount p pixels n
 count_of p pixels rest n e other = record {

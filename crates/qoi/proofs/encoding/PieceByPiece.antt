@@ -65,7 +65,7 @@ module _ {W : Type 0} {wrote : W → List ℕ → W → Type 0} {room : W → �
         written = list.1;
         fits = omega (arith, length-append s.front (chunk_bytes (in_style s.style list.0)), fits, same, enough, size, mul_comm (length s.raw / n) n);
         ahead = all_of s list.0;
-        went = wrote_none wrote room laws s.start (all_of s list.0);
+        went = wrote_none laws s.start (all_of s list.0);
         between = coder_starts s.style pixels list.0 s.front table coder list.1 pixels_are style_is state;
       }
 
@@ -105,7 +105,7 @@ module _ {W : Type 0} {wrote : W → List ℕ → W → Type 0} {room : W → �
       pub piece_fits : size ≤ length kept → size ≤ room buf
       piece_fits enough = omega (
         arith,
-        left_fits wrote room p.laws s.start buf (all_of s p.list) p.ahead p.went p.fits,
+        left_fits p.laws s.start buf (all_of s p.list) p.ahead p.went p.fits,
         ap length sent_first.1,
         length-append (take size kept) sent_first.0,
         length-take-le size kept enough,
@@ -120,7 +120,7 @@ module _ {W : Type 0} {wrote : W → List ℕ → W → Type 0} {room : W → �
         written = p.written;
         fits = p.fits;
         ahead = sent_first.0;
-        went = wrote_next wrote room p.laws s.start buf now (all_of s p.list) p.ahead (take size kept) sent_first.0 p.went sent_first.1 went;
+        went = wrote_next p.laws s.start buf now (all_of s p.list) p.ahead (take size kept) sent_first.0 p.went sent_first.1 went;
         between = subst (CoderBetween (writing n s p.list sent_first.0) (pixels_of n rest) table coder) (sym is) sent_first.2;
       }
 
@@ -130,5 +130,5 @@ module _ {W : Type 0} {wrote : W → List ℕ → W → Type 0} {room : W → �
       piece_part {now} some = (
         in_style s.style p.list,
         record { list = p.list; written = p.written; is = refl },
-        wrote_part wrote room p.laws s.start buf now (all_of s p.list) p.ahead (take size kept) sent_first.0 p.went sent_first.1 some,
+        wrote_part p.laws s.start buf now (all_of s p.list) p.ahead (take size kept) sent_first.0 p.went sent_first.1 some,
       )

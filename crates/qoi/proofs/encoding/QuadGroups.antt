@@ -3,28 +3,22 @@ use Rattle.std.proofs.Common.{get_or, ◌≡◌, ◌≢◌, ℕ, zero, suc, ◌+
 use Rattle.std.specs.List.{AllByRecursion, slice_get}
 use Rattle.std.proofs.lemmas.List.{get_or-take, get_or-drop, length-drop, take-append-drop, take-map, drop-map}
 use Rattle.std.proofs.Math.Seq.{drop-cons}
+use Rattle.std.proofs.lemmas.Option.{same_Some}
 use Rattle.qoi.specs.Qoi.{RgbaPixel, IsPixel, blank, hash}
 use Rattle.qoi.specs.Runs.{IsCount}
 use Rattle.qoi.specs.inner.Packed.{word, pixel_of_word}
 use Rattle.qoi.specs.inner.Lanes.{AreFourAfter, IsRun}
-use Rattle.qoi.proofs.encoding.GroupRuns.{some_same, nth_first}
+use Rattle.qoi.proofs.encoding.GroupRuns.{nth_first}
 use Rattle.qoi.proofs.encoding.WrittenGrows.{all_back}
 use Rattle.qoi.proofs.encoding.SpelledLanes.{unpacked}
 use Rattle.qoi.proofs.encoding.QuadLoop.{next_before}
-
--- the index position of a lane's pixel
-pub place_lane : (xs : List ℕ) (k : ℕ) → slice_index (map (λ w. hash (pixel_of_word w)) xs) k ≡ hash (pixel_of_word (slice_index xs k))
-unfolding hash
-place_lane [] k = refl
-place_lane (x ∷ xs) zero = refl
-place_lane (x ∷ xs) (suc k) = place_lane xs k
 
 -- a pixel packed has 32 bits
 word_below : (p : RgbaPixel) → IsPixel p → word p < 2 ^ 32
 word_below p i = omega (arith, i.r, i.g, i.b, i.a)
 
 -- a number packed again
-pub packed : (w : ℕ) → w < 2 ^ 32 → word (pixel_of_word w) ≡ w
+packed : (w : ℕ) → w < 2 ^ 32 → word (pixel_of_word w) ≡ w
 packed w l = omega arith
 
 -- numbers that repeat are pixels that repeat
@@ -34,7 +28,7 @@ run_count : (w : ℕ) (ps : List RgbaPixel) (n : ℕ) → w < 2 ^ 32 → AllByRe
 run_count w [] n l are few same stops = absurd (omega arith)
 run_count w (p ∷ ps) zero l are few same stops = record {
   same = refl;
-  other = λ e. stops (let is : p ≡ pixel_of_word w = some_same e in ap word is ∙ packed w l);
+  other = λ e. stops (let is : p ≡ pixel_of_word w = same_Some _ _ e in ap word is ∙ packed w l);
 }
 run_count w (p ∷ ps) (suc n) l are few same stops =
     let e : word p ≡ w = same 0 (omega arith) in

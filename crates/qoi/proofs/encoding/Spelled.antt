@@ -1,6 +1,6 @@
 -- The first chunk that spells a pixel out, by the steps that an encoder computes.
 use Rattle.std.proofs.Common.{◌≡◌, ◌≢◌, ◌↔◌, ⊎_elim, ℕ, ◌+◌, ◌-◌, ◌*◌, ◌/◌, ◌%◌, ◌<◌, ◌≤◌, Bool, true, false, IsTrue, if◌then◌else◌, ◌==◌, eqb-true, eq-eqb, refl, sym, ap, ◌∙◌, arith}
-use Rattle.std.proofs.lemmas.Bool.{cases_lt}
+use Rattle.std.proofs.lemmas.Bool.{cases_lt, true≢false}
 use Rattle.qoi.specs.declared.chunk.Chunk.{Chunk}
 use Rattle.qoi.specs.declared.chunk.Chunk.TheVariants.{Place, Diff, Luma, Run, Rgb, Rgba}
 use Rattle.qoi.specs.Qoi.{RgbaPixel, pixel, pixel_eq, IsPixel, Past, previous, diff_tag, luma_tag, IsChunk, pixel_after, after_diff, after_luma}
@@ -73,10 +73,6 @@ green_fits x y k hy hk e = omega arith
 luma_fits : (x y u v k l : ℕ) → y < 256 → v < 256 → k < 64 → l < 16 → (v + (k + 224)) % 256 ≡ u → (y + (k + l + 216)) % 256 ≡ x
     → (added x y + (264 - added u v)) % 256 % 16 ≡ (added x y + (264 - added u v)) % 256
 luma_fits x y u v k l hy hv hk hl e f = omega arith
-
--- false isn't true
-false_true : false ≡ true → ⊥
-false_true e = cc
 
 -- a Diff's byte holds its bits
 in_diff : (r g b : ℕ) → r < 4 → g < 4 → b < 4 → ((64 + r * 16 + g * 4 + b) / 16 % 4 ≡ r) × ((64 + r * 16 + g * 4 + b) / 4 % 4 ≡ g)
@@ -173,9 +169,9 @@ module _ (past : Past) (p : RgbaPixel) (iq : IsPixel (previous past)) (ip : IsPi
       → IsFirst past p (spelled is_diff is_luma keeps (diff_bits (diff_steps (steps q p))) (luma_bits (luma_steps (steps q p))) p)
   spelled_first true is_luma keeps d l k = record { spells = omega arith; gives = diff_gives (d.0 refl); first = λ c i s e. s }
   spelled_first false true keeps d l k =
-      record { spells = omega arith; gives = luma_gives (l.0 refl); first = λ c i s e. not_diff (λ f. false_true (d.1 f)) c s e }
-  spelled_first false false true d l k = first_rgb (alpha_same (sym (k.0 refl))) (λ f. false_true (d.1 f)) (λ f. false_true (l.1 f))
-  spelled_first false false false d l k = first_rgba past p (λ same. false_true (k.1 (alpha_step same)))
+      record { spells = omega arith; gives = luma_gives (l.0 refl); first = λ c i s e. not_diff (λ f. true≢false (sym (d.1 f))) c s e }
+  spelled_first false false true d l k = first_rgb (alpha_same (sym (k.0 refl))) (λ f. true≢false (sym (d.1 f))) (λ f. true≢false (sym (l.1 f)))
+  spelled_first false false false d l k = first_rgba past p (λ same. true≢false (sym (k.1 (alpha_step same))))
 
   -- some chunk is
   pub first_some : (c : Chunk) × IsChunk c × IsFirst past p c

@@ -8,7 +8,7 @@ use Rattle.qoi.specs.declared.types.Style.TheVariants.{Reference, Places, Tight}
 use Rattle.qoi.specs.Qoi.{RgbaPixel, Past, previous, hash, pixel_after, then_chunk}
 use Rattle.qoi.specs.Runs.{last_by, runs_by}
 use Rattle.qoi.specs.Styles.{is_run, fresh_next, has_pixel, some_fresh, names, place_for, placed_after, styled}
-use Rattle.qoi.specs.inner.CoderState.{rest_of_one, last_chunk}
+use Rattle.qoi.specs.inner.CoderState.{single_chunk, last_chunk}
 use Rattle.qoi.proofs.format.ChunkSteps.{previous_repeats, repeats_after, then_other}
 use Rattle.qoi.proofs.encoding.CoderTable.{fresh_repeats}
 use Rattle.qoi.proofs.encoding.GroupRuns.{not_one}
@@ -54,7 +54,7 @@ abbrev single : Past → Option Chunk → Chunk
 single past before = if some_fresh past && not (names before (hash (previous past))) then Place (hash (previous past)) else Run 1
 
 -- how the rest of a group of n is written, where it is single
-single_is : (past : Past) (before : Option Chunk) (k : ℕ) → single (replicate (62 * k) (previous past) ++ past) (before_rest before k) ≡ rest_of_one Places
+single_is : (past : Past) (before : Option Chunk) (k : ℕ) → single (replicate (62 * k) (previous past) ++ past) (before_rest before k) ≡ single_chunk Places
     (some_fresh past) (names before (hash (previous past))) (hash (previous past)) (62 * k + 1)
 single_is past before zero = refl
 single_is past before (suc k) =
@@ -78,11 +78,11 @@ last_fulls : (k : ℕ) (before : Option Chunk) (cs : List Chunk) → last_chunk 
 last_fulls zero before cs = refl
 last_fulls (suc k) before cs = last_fulls k (Some (Run 62)) cs ∙ ap (λ b. last_chunk b cs) (behind_full k)
 
--- How a rest of 1 is written before these chunks: at the end by a run, and before a fresh pixel as the style has it.
+-- How a single repeat that is left of a group is written before these chunks: at the end by a run, and before a fresh pixel as the style has it.
 abbrev pub WritesOne : Style → Past → Option Chunk → ℕ → List Chunk → Chunk → Type 0
 WritesOne style past before n left one =
     ((left ≡ []) × (one ≡ Run 1)) ⊎ ((fresh_next left ≡ true)
-    × (one ≡ rest_of_one style (some_fresh past) (names before (hash (previous past))) (hash (previous past)) n))
+    × (one ≡ single_chunk style (some_fresh past) (names before (hash (previous past))) (hash (previous past)) n))
 
 -- the rest of a group behind its full runs
 rest_stays : (r : ℕ) (past : Past) (before : Option Chunk) (left : List Chunk) (one : Chunk)
@@ -122,7 +122,7 @@ styled_runs Places past before n left one is =
     = λ e. (let whole : 62 * k + 1 ≡ n = omega arith in
     elim (is e) [
       | inl p ↦ inl p
-      | inr p ↦ inr (p.0, p.1 ∙ ap (rest_of_one Places (some_fresh past) (names before (hash q)) (hash q)) (sym whole) ∙ sym (single_is past before k))
+      | inr p ↦ inr (p.0, p.1 ∙ ap (single_chunk Places (some_fresh past) (names before (hash q)) (hash q)) (sym whole) ∙ sym (single_is past before k))
     ]) in
     ap (λ x. placed_after past before x) (append_assoc (replicate k (Run 62)) (last_by (Run 1) r) left)
     ∙ full_stay k past before (last_by (Run 1) r ++ left)

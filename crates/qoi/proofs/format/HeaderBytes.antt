@@ -40,7 +40,7 @@ pub length-head : (h : Header) → length (header_bytes h) ≡ 14
 length-head h = refl
 
 -- what bytes say that begin with a header
-pub record SaysHeader (bytes : List ℕ) (h : Header) : Type 0 where
+record SaysHeader (bytes : List ℕ) (h : Header) : Type 0 where
   pub long : 14 ≤ length bytes
   pub channels : channels_of (slice_index bytes 12) ≡ Ok h.channels
   pub colorspace : colorspace_of (slice_index bytes 13) ≡ Ok h.colorspace

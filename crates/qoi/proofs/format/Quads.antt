@@ -10,21 +10,21 @@ use Rattle.qoi.specs.inner.Packed.{word, pixel_of_word}
 use Rattle.qoi.specs.inner.Lanes.{step_word, diff_word, luma_word, green_twice, plus_32, up, down, diff_number, luma_number, rgb_number, changes, full_number, full_count, KeepAlpha, spelled_number, spelled_count, SameAlpha}
 
 -- four times as many
-abbrev pub fourfold : ℕ → ℕ
+abbrev fourfold : ℕ → ℕ
 fourfold zero = 0
 fourfold (suc n) = suc (suc (suc (suc (fourfold n))))
 
 -- the bytes of numbers of 32 bits, the lowest first
-abbrev pub bytes_in : List ℕ → List ℕ
+abbrev bytes_in : List ℕ → List ℕ
 bytes_in [] = []
 bytes_in (x ∷ xs) = (x % 2 ^ 8) ∷ (x / 2 ^ 8 % 2 ^ 8) ∷ (x / 2 ^ 16 % 2 ^ 8) ∷ (x / 2 ^ 24) ∷ bytes_in xs
 
 -- the number of four bytes
-abbrev pub of_four : ℕ → ℕ → ℕ → ℕ → ℕ
+abbrev of_four : ℕ → ℕ → ℕ → ℕ → ℕ
 of_four a b c d = a + b * 2 ^ 8 + c * 2 ^ 16 + d * 2 ^ 24
 
 -- the numbers that each four bytes make
-abbrev pub words_in : List ℕ → List ℕ
+abbrev words_in : List ℕ → List ℕ
 words_in (a ∷ b ∷ c ∷ d ∷ bytes) = of_four a b c d ∷ words_in bytes
 words_in _ = []
 
@@ -45,7 +45,7 @@ above_bytes : (x r : ℕ) → x < 2 ^ 32 → (x + 4294967296 * r) / 256 / 256 / 
 above_bytes x r l = omega arith
 
 -- lanes of 32 bits, as bytes
-pub bytes_of_lanes : (n : ℕ) (xs : List ℕ) → length xs ≡ n → Each1 (Fits w32) xs → digits_l 256 (fourfold n) (number_l 4294967296 xs) ≡ bytes_in xs
+bytes_of_lanes : (n : ℕ) (xs : List ℕ) → length xs ≡ n → Each1 (Fits w32) xs → digits_l 256 (fourfold n) (number_l 4294967296 xs) ≡ bytes_in xs
 bytes_of_lanes zero [] e f = refl
 bytes_of_lanes zero (x ∷ xs) e f = absurd (omega arith)
 bytes_of_lanes (suc n) [] e f = absurd (omega arith)
@@ -63,7 +63,7 @@ above_lane : (a b c d r : ℕ) → a < 256 → b < 256 → c < 256 → d < 256 �
 above_lane a b c d r la lb lc ld = omega arith
 
 -- bytes, as lanes of 32 bits
-pub lanes_of_bytes : (n : ℕ) (bs : List ℕ) → length bs ≡ fourfold n → Each1 (λ b. b < 256) bs → digits_l 4294967296 n (number_l 256 bs) ≡ words_in bs
+lanes_of_bytes : (n : ℕ) (bs : List ℕ) → length bs ≡ fourfold n → Each1 (λ b. b < 256) bs → digits_l 4294967296 n (number_l 256 bs) ≡ words_in bs
 lanes_of_bytes zero [] e f = refl
 lanes_of_bytes zero (b ∷ bs) e f = absurd (omega arith)
 lanes_of_bytes (suc n) (a ∷ b ∷ c ∷ d ∷ bs) e f =
@@ -73,11 +73,11 @@ lanes_of_bytes (suc n) (a ∷ b ∷ c ∷ d ∷ bs) e f =
 lanes_of_bytes (suc n) _ e f = absurd (omega arith)
 
 -- what is added to each byte of y for that of x
-abbrev pub less : ℕ → ℕ → ℕ
+abbrev less : ℕ → ℕ → ℕ
 less a b = (a + (256 - b)) % 256
 
 -- and the sum of two bytes
-abbrev pub plus : ℕ → ℕ → ℕ
+abbrev plus : ℕ → ℕ → ℕ
 plus a b = (a + b) % 256
 
 -- the differences of bytes, as lanes
@@ -212,7 +212,7 @@ four_of_4 n bytes e h l =
     ∙ sym (ap (λ n. map word (take 4 (pixels_of n bytes))) e)
 
 -- bytes and alphas between them
-abbrev pub opaque_bytes : List ℕ → List ℕ
+abbrev opaque_bytes : List ℕ → List ℕ
 opaque_bytes v = pick_l 0 (v ++ replicate 16 255) (0 ∷ 1 ∷ 2 ∷ 16 ∷ 3 ∷ 4 ∷ 5 ∷ 16 ∷ 6 ∷ 7 ∷ 8 ∷ 16 ∷ 9 ∷ 10 ∷ 11 ∷ 16 ∷ [])
 
 words_of_3 : (bytes : List ℕ) → AreBytes bytes → 16 ≤ length bytes
@@ -251,10 +251,10 @@ one_lane : (b : Bool) → ◌≡◌ {A = ℕ} (cond (top 31 (cond (not b) 429496
 one_lane true = refl
 one_lane false = refl
 
-abbrev pub same : ℕ → ℕ → ℕ
+abbrev same : ℕ → ℕ → ℕ
 same a b = cond (eqb a b) 4294967295 0
 
-abbrev pub other : ℕ → ℕ → ℕ
+abbrev other : ℕ → ℕ → ℕ
 other a b = cond (not (eqb a b)) 4294967295 0
 
 -- where alpha's step isn't 0

@@ -13,11 +13,11 @@ use Rattle.qoi.proofs.format.SamePixels.{cases_pixel, pixel_eq-same, pixel_eq-fr
 use Rattle.qoi.proofs.encoding.NotedPixels.{fresh_repeat, fresh_more, noted_repeat, noted_fresh, seen_same, seen_other}
 
 -- the image so far opens with opaque black
-abbrev pub opens : Past → Bool
+abbrev opens : Past → Bool
 opens past = is_start (slice_get (reverse past) 0)
 
 -- the first fresh pixel so far at the index position of opaque black
-abbrev pub first_at : Past → Option RgbaPixel
+abbrev first_at : Past → Option RgbaPixel
 first_at past = find (λ p. eqb (hash p) (hash start)) (reverse (fresh past))
 
 -- the slack of the image so far
@@ -69,7 +69,7 @@ slack_more n past p = elim (cases_Bool (opens past && is_start (first_at past)))
 
 -- Where what is seen and what is noted at an index position differ: it is that of opaque black, with which
 -- the image opens and which is seen there, and no fresh pixel so far has it.
-pub record Differs (past : Past) (i : ℕ) : Type 0 where
+record Differs (past : Past) (i : ℕ) : Type 0 where
   pub place : i ≡ hash start
   pub opened : opens past ≡ true
   pub nothing : first_at past ≡ None

@@ -65,7 +65,7 @@ impl<const N: usize> Coder<N> {
     // one is left and a fresh pixel follows, this is its byte: a run of 1, or in style `Places` the
     // index position, if a fresh pixel came and the chunk before isn't that position.
     #[inline(always)]
-    fn rest_of_one(&self, count: usize) -> u8
+    fn single_repeat(&self, count: usize) -> u8
         ensures { bytes_of (single self.now count) ≡ result ∷ [] }
     {
         let named = self.begun & ((count > 1) | !self.placed);
@@ -198,7 +198,7 @@ impl<const N: usize> Coder<N> {
         if lane + count > 3 {
             return lane;
         }
-        let one = self.rest_of_one(count);
+        let one = self.single_repeat(count);
         piece.keep_run(count, one);
         self.repeat(table, count);
         self.write_fresh(table, piece, quad, lane + count);
@@ -260,7 +260,7 @@ impl<const N: usize> Coder<N> {
         let one = if N * count == data.len() {
             QOI_OP_RUN
         } else {
-            self.rest_of_one(count)
+            self.single_repeat(count)
         };
         piece.keep_runs(count, one);
         self.repeat(table, count);

@@ -151,7 +151,7 @@ fn luma_steps(steps: u32x4) -> u32x4
     u32x4::from_le_bytes(steps.to_le_bytes() + u32x4::splat(0x0008_2008).to_le_bytes() - gg)
 }
 
-// Numbers whose lowest bytes are the difference chunks of these steps.
+// Numbers whose lowest byte is the difference chunk of these steps.
 #[inline(always)]
 fn diffs(steps: u32x4) -> u32x4
     ensures lanes { result ≡ map diff_number steps }
@@ -178,8 +178,8 @@ fn rgbs(cur: u32x4) -> u32x4
     (cur << u32x4::splat(8)) + u32x4::splat(0xfe)
 }
 
-// The same with RGBA chunks but for their last byte, alpha, where alpha's step isn't 0; and how
-// many bytes a chunk has.
+// Numbers whose bytes are the RGB chunks of the pixels, or where alpha's step isn't 0 the first four
+// bytes of the RGBA chunks; and how many bytes each chunk has.
 #[inline(always)]
 fn fulls<const N: usize>(cur: u32x4, steps: u32x4) -> (u32x4, u32x4)
     requires channels { IsChannels N }
@@ -199,9 +199,9 @@ fn fulls<const N: usize>(cur: u32x4, steps: u32x4) -> (u32x4, u32x4)
     (word + one, count + one)
 }
 
-// The first chunks of a difference, a luma, an RGB and an RGBA that give the pixels after the ones
-// before them: numbers whose lowest bytes are a chunk's, but for the alpha of an RGBA, and how many
-// bytes it has.
+// The chunk that spells out each pixel after the one before it: the first of difference, luma, RGB
+// and RGBA that gives it. It is a number whose lowest bytes are the chunk's, but for the alpha of an
+// RGBA, and how many bytes the chunk has.
 #[inline(always)]
 fn spell<const N: usize>(cur: u32x4, prev: u32x4) -> (u32x4, u32x4)
     requires channels { IsChannels N }
