@@ -1,5 +1,5 @@
 -- What was read from a stream, piece after piece.
-use Rattle.std.proofs.Common.{◌≡◌, ℕ, zero, suc, ◌+◌, ◌<◌, ◌≤◌, ◌-◌, ◌⊎◌, inl, inr, List, [], ◌∷◌, ◌++◌, length, get_or, take, drop, take-append-drop, Option, Result, IfErr, arith, refl, sym, ap, ◌∙◌, append-nil}
+use Rattle.std.proofs.Common.{◌≡◌, ℕ, zero, suc, ◌+◌, ◌<◌, ◌≤◌, ◌-◌, ◌⊎◌, inl, inr, List, [], ◌∷◌, ◌++◌, length, get_or, take, drop, take-append-drop, Option, Result, IfErr, arith, refl, sym, ap, ◌∙◌, subst, append-nil}
 use Rattle.std.proofs.lemmas.List.{take-append-le, length-take-le}
 use Rattle.std.proofs.Math.Seq.{take-append-add}
 use Rattle.std.specs.Io.KnownBytes.{Consumes}
@@ -123,6 +123,6 @@ marker_refused f c n old now new out r s why =
     (λ e. (taken : List ℕ) × Consumes old new taken × RefusesTaken n taken e)
     (λ e (taken, took, refused). (
       chunk_bytes s.cs ++ taken,
-      Consumes-trans old now new (chunk_bytes s.cs) taken s.taken took,
+      Consumes-trans old now new (chunk_bytes s.cs) taken (subst (Consumes old now) (append-nil (chunk_bytes s.cs)) s.taken) took,
       refused_after n s.cs s.chunks s.reaches taken e refused,
     )) why
