@@ -24,11 +24,11 @@ pub record TakesPixels (tail : List ℕ) (file_channels channels n : ℕ) (old n
   pub taken : Consumes old new (chunk_bytes cs ++ tail)
   pub out_is : out ≡ output file_channels channels (take n (meaning cs))
 
--- nothing more was taken
+-- the same where nothing else was taken
 abbrev pub StreamsPixels : ℕ → ℕ → ℕ → Option (List ℕ) → Option (List ℕ) → List ℕ → Type 0
 StreamsPixels = TakesPixels []
 
--- the end marker was
+-- the same where the end marker was taken after them
 abbrev pub ReadsImage : ℕ → ℕ → ℕ → Option (List ℕ) → Option (List ℕ) → List ℕ → Type 0
 ReadsImage = TakesPixels end_marker
 

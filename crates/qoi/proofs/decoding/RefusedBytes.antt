@@ -1,7 +1,7 @@
 -- What refuses known bytes that stand ahead of a decoder, by what they are.
 use Rattle.std.proofs.Common.{◌≡◌, ℕ, List, Bool, true, false, Option, Some, inl, inr, refl, subst}
 use Rattle.qoi.specs.declared.error.Error.{Error}
-use Rattle.qoi.specs.declared.error.Error.TheVariants.{InvalidMagic, InvalidChannels, InvalidColorSpace, InvalidImageDimensions, InvalidImageLength, OutputBufferTooSmall, UnexpectedBufferEnd, InvalidPadding, IoError, OutOfMemory}
+use Rattle.qoi.specs.declared.error.Error.TheVariants.{UnexpectedBufferEnd, InvalidPadding, IoError}
 use Rattle.qoi.specs.Decoding.{RefusesBytes, RefusesImage, RefusesTaken}
 use Rattle.qoi.specs.Verdicts.{AreWrong, AreCut}
 use Rattle.qoi.specs.Errors.{IsErrorOfCut, IsErrorOfWrong}

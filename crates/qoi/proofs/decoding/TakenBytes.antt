@@ -2,7 +2,7 @@
 use Rattle.std.proofs.Common.{◌≡◌, inl, inr, ℕ, ◌+◌, ◌*◌, ◌<◌, ◌≤◌, List, [], ◌∷◌, ◌++◌, length, replicate, Bool, true, false, Option, Some, None, sym, ap, arith, length-append}
 use Rattle.std.specs.Io.KnownBytes.{Consumes, Keeps}
 use Rattle.qoi.specs.declared.error.Error.{Error}
-use Rattle.qoi.specs.declared.error.Error.TheVariants.{InvalidMagic, InvalidChannels, InvalidColorSpace, InvalidImageDimensions, InvalidImageLength, OutputBufferTooSmall, UnexpectedBufferEnd, InvalidPadding, IoError, OutOfMemory}
+use Rattle.qoi.specs.declared.error.Error.TheVariants.{InvalidPadding, IoError}
 use Rattle.qoi.specs.Verdicts.{IsPartOfChunk, AreCut, AreWrongThen}
 use Rattle.qoi.specs.Decoding.{ReadsImage, RefusesImage}
 use Rattle.qoi.specs.DecoderState.{TakesAtMost}

@@ -4,7 +4,7 @@ use Rattle.std.specs.List.{AllByRecursion, slice_get}
 use Rattle.std.proofs.lemmas.List.{get_or-take, get_or-drop, length-drop, take-append-drop, take-map, drop-map}
 use Rattle.std.proofs.Math.Seq.{drop-cons}
 use Rattle.std.proofs.lemmas.Option.{same_Some}
-use Rattle.qoi.specs.Qoi.{RgbaPixel, IsPixel, blank, hash}
+use Rattle.qoi.specs.Qoi.{RgbaPixel, IsPixel, blank}
 use Rattle.qoi.specs.Runs.{IsCount}
 use Rattle.qoi.specs.inner.Packed.{word, pixel_of_word}
 use Rattle.qoi.specs.inner.Lanes.{AreFourAfter, IsRun}

@@ -1,10 +1,10 @@
 -- The first chunk that spells a pixel out, as the lanes of a vector find it.
-use Rattle.std.proofs.Common.{◌≡◌, ◌↔◌, ℕ, zero, suc, ◌+◌, ◌*◌, ◌/◌, ◌%◌, ◌^◌, ◌<◌, ◌≤◌, Bool, true, false, inl, inr, cond, eqb, eqb-true, eq-eqb, IsTrue, List, [], ◌∷◌, ◌++◌, length, take, slice_index, refl, sym, ap, ◌∙◌, arith, subst, bit_and, Fits, w32}
+use Rattle.std.proofs.Common.{◌≡◌, ◌↔◌, ℕ, zero, suc, ◌+◌, ◌*◌, ◌/◌, ◌%◌, ◌^◌, ◌<◌, ◌≤◌, Bool, true, false, inl, inr, cond, eqb, eqb-true, eq-eqb, IsTrue, List, [], ◌∷◌, ◌++◌, length, take, slice_index, refl, ap, ◌∙◌, arith, subst, bit_and, Fits, w32}
 use Rattle.std.proofs.lemmas.Nat.{and_mask, and_block}
 use Rattle.std.proofs.lemmas.Simd.{get_or-zip2, Each1-get_or}
 use lib.Lanes.{Each1, zip2, digits_l}
 use Rattle.qoi.specs.declared.chunk.Chunk.{Chunk}
-use Rattle.qoi.specs.Qoi.{RgbaPixel, IsPixel, IsChunk, bytes_of}
+use Rattle.qoi.specs.Qoi.{RgbaPixel, IsPixel, bytes_of}
 use Rattle.qoi.specs.Raw.{IsChannels}
 use Rattle.qoi.specs.Written.{IsFirst}
 use Rattle.qoi.specs.inner.Packed.{word, pixel_of_word}

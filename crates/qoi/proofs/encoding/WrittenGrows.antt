@@ -3,7 +3,7 @@ use Rattle.std.proofs.Common.{◌≡◌, ◌≢◌, ℕ, zero, suc, ◌+◌, ◌
 use Rattle.std.proofs.lemmas.List.{reverse-append, reverse-reverse}
 use Rattle.std.specs.List.{AllByRecursion}
 use Rattle.qoi.specs.declared.chunk.Chunk.{Chunk}
-use Rattle.qoi.specs.declared.chunk.Chunk.TheVariants.{Place, Diff, Luma, Run, Rgb, Rgba}
+use Rattle.qoi.specs.declared.chunk.Chunk.TheVariants.{Run}
 use Rattle.qoi.specs.Qoi.{RgbaPixel, Past, previous, IsChunk, AreChunks, pixel_after, then_chunks, Each}
 use Rattle.qoi.specs.Runs.{last_by, runs_by}
 use Rattle.qoi.specs.Written.{IsAllowedAfter, IsFullBefore, RunsFollowFull, WrittenBy}

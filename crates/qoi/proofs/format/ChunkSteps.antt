@@ -3,7 +3,7 @@ use Rattle.std.proofs.Common.{◌≡◌, ◌⊎◌, inl, inr, ℕ, zero, suc, �
 use Rattle.std.proofs.lemmas.List.{reverse-reverse, reverse-append, length-append, length-reverse, replicate-append-replicate}
 use Rattle.std.proofs.lemmas.Bool.{true≢false}
 use Rattle.qoi.specs.declared.chunk.Chunk.{Chunk}
-use Rattle.qoi.specs.declared.chunk.Chunk.TheVariants.{Place, Diff, Luma, Run, Rgb, Rgba}
+use Rattle.qoi.specs.declared.chunk.Chunk.TheVariants.{Run}
 use Rattle.qoi.specs.Qoi.{RgbaPixel, Past, previous, IsChunk, pixel_after, times, then_chunk, then_chunks, meaning, Each}
 use Rattle.qoi.specs.Written.{GivesFresh, IsAllowedAfter, IsFullBefore}
 use Rattle.qoi.specs.Styles.{is_run}

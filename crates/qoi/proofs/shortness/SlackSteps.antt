@@ -1,5 +1,5 @@
 -- Where the seen and the noted pixel differ, and how the slack grows there.
-use Rattle.std.proofs.Common.{◌≡◌, ◌≢◌, ◌⊎◌, inl, inr, ℕ, zero, suc, ◌+◌, ◌≤◌, Bool, true, false, ◌&&◌, cond, eqb, List, [], ◌∷◌, ◌++◌, reverse, replicate, Option, None, Some, slice_get, refl, sym, ap, ◌∙◌, arith}
+use Rattle.std.proofs.Common.{◌≡◌, ◌≢◌, ◌⊎◌, inl, inr, ℕ, ◌+◌, ◌≤◌, Bool, true, ◌&&◌, cond, eqb, List, [], ◌∷◌, ◌++◌, reverse, Option, None, Some, slice_get, refl, sym, ap, ◌∙◌, arith}
 use Rattle.std.specs.List.{find}
 use Rattle.std.specs.Option.{option_or}
 use Rattle.std.proofs.lemmas.Bool.{cond_both, cond-true, cond-false, and_parts, and_from, and_right, true≢false, cases_Bool, eq-eqb, ne_eqb, cases_eq, false_from_ne_true}
@@ -9,7 +9,7 @@ use Rattle.qoi.specs.Qoi.{RgbaPixel, Past, start, previous, seen, hash}
 use Rattle.qoi.specs.Written.{fresh, noted}
 use Rattle.qoi.specs.Shortest.{is_start, slack}
 use Rattle.qoi.specs.Encoded.{OpensBlack}
-use Rattle.qoi.proofs.format.SamePixels.{cases_pixel, pixel_eq-same, pixel_eq-from, pixel_eq-ne}
+use Rattle.qoi.proofs.format.SamePixels.{cases_pixel, pixel_eq-same, pixel_eq-from}
 use Rattle.qoi.proofs.encoding.NotedPixels.{fresh_repeat, fresh_more, noted_repeat, noted_fresh, seen_same, seen_other}
 
 -- the image so far opens with opaque black
