@@ -75,9 +75,8 @@ impl<const N: usize> Coder<N> {
         }
     }
 
-    // Notes that `count` repeats of the last pixel were written. In style `Tight` they are put at
-    // its index position, too, which matters only for those that open the image: any other pixel
-    // stands there already.
+    // Notes that `count` repeats of the last pixel were written. Style `Tight` puts them at its
+    // index position, too, which matters only at the start: later the pixel stands there already.
     #[inline(always)]
     fn repeat(&mut self, table: &mut Table, count: usize)
         ensures same { (self.new.last ≡ self.old.last) × (self.new.style ≡ self.old.style) }
@@ -93,10 +92,9 @@ impl<const N: usize> Coder<N> {
         self.placed = self.placed & (count == 0);
     }
 
-    // The chunk of a fresh pixel that doesn't stand at its index position, as a number that has its
-    // bytes and as how many these are. It is the one that is passed, the first that spells the
-    // pixel out; but in style `Tight`, of transparent black, the least position where no pixel was
-    // put, if there is one.
+    // The chunk of a fresh pixel that doesn't stand at its index position: a number that has its
+    // bytes, and how many. It is the one passed, the first that spells the pixel out; but in style
+    // `Tight`, of transparent black, the least position where no pixel was put, if there is one.
     #[inline(always)]
     fn spelled(&self, table: &Table, px: Packed, placed: bool, number: u32, size: u32) -> (u32, u32)
         ensures few { (n : ℕ) → 1 ≤ n → size ≤ n → result.1 ≤ n }
@@ -239,8 +237,7 @@ impl<const N: usize> Coder<N> {
         self.write_group(table, piece, &quad, bits, lane)
     }
 
-    // Writes the runs of the repeats at the front, 992 at most, and returns how many repeats these
-    // are. There may be none.
+    // Writes the runs of the repeats at the front, none or up to 992, and returns how many repeats.
     #[inline(always)]
     fn write_runs(&mut self, table: &mut Table, piece: &mut Piece, data: &[u8]) -> usize
         requires whole { length «data».now % N ≡ 0 }
