@@ -29,7 +29,7 @@ use Rattle.qoi.proofs.shortness.TightLists.{lower0, tight_exact}
 use Rattle.qoi.proofs.shortness.SlackSteps.{slack_most, slack_opens}
 
 -- the bytes of a file are the header's, the chunks' and the end marker's
-pub length-file : (h : Header) (cs : List Chunk) → length (file h cs) ≡ 22 + length (chunk_bytes cs)
+length-file : (h : Header) (cs : List Chunk) → length (file h cs) ≡ 22 + length (chunk_bytes cs)
 length-file h cs = omega (arith, length-append (header_bytes h) (chunk_bytes cs ++ end_marker), length-append (chunk_bytes cs) end_marker)
 
 -- the greatest length is exact for a valid header
@@ -67,7 +67,7 @@ pub record WritesLists (Lists : List RgbaPixel → List Chunk → Type 0) : Type
   pub apart : (image : List RgbaPixel) (cs front rest : List Chunk) (i : ℕ) → Lists image cs → cs ≡ front ++ Place i ∷ Place i ∷ rest → ⊥
 
 -- so do those of each style
-pub written_lists : (style : Style) → WritesLists (WrittenIn style)
+written_lists : (style : Style) → WritesLists (WrittenIn style)
 written_lists style = record {
   chunks = style_chunks style;
   means = style_means style;
@@ -192,7 +192,7 @@ module _ (h : Header) (raw : List ℕ) (valid : IsValid h) (size : length raw �
   }
 
 -- A file of which all went to a writer but the bytes that are kept.
-module _ {W : Type 0} (wrote : W → List ℕ → W → Type 0) (room : W → ℕ) (laws : WriterLaws wrote room) (h : Header) (cs : List Chunk) (start : W) where
+module _ {W : Type 0} {wrote : W → List ℕ → W → Type 0} {room : W → ℕ} (laws : WriterLaws wrote room) (h : Header) (cs : List Chunk) (start : W) where
   module _ (front : List ℕ) (is_head : front ≡ header_bytes h) where
     -- header and chunks, and then the end marker
     file_is : file h cs ≡ (front ++ chunk_bytes cs) ++ end_marker
@@ -222,16 +222,16 @@ module _ {W : Type 0} (wrote : W → List ℕ → W → Type 0) (room : W → �
   module _ {now : W} {last : List ℕ} (w : WroteBut wrote start (file h cs) last now) where
     -- there is room for what is kept
     pub last_fits : 22 + length (chunk_bytes cs) ≤ room start → length last ≤ room now
-    last_fits enough = left_fits wrote room laws start now (file h cs) last w (omega (arith, length-file h cs))
+    last_fits enough = left_fits laws start now (file h cs) last w (omega (arith, length-file h cs))
 
     -- a beginning of it went
     pub last_part : {next : W} → WroteBeginning wrote now last next → WroteBeginning wrote start (file h cs) next
-    last_part {next} some = wrote_part wrote room laws start now next (file h cs) last last [] w (sym (append-nil last)) some
+    last_part {next} some = wrote_part laws start now next (file h cs) last last [] w (sym (append-nil last)) some
 
     -- all of the file went
     pub file_went : {next : W} → wrote now last next → wrote start (file h cs) next
-    file_went {next} went = wrote_all wrote room laws start next (file h cs)
-        (wrote_next wrote room laws start now next (file h cs) last last [] w (sym (append-nil last)) went)
+    file_went {next} went = wrote_all laws start next (file h cs)
+        (wrote_next laws start now next (file h cs) last last [] w (sym (append-nil last)) went)
 
     -- as many bytes as the room fell by
     pub file_counts : {next : W} → wrote now last next → room start - room next ≡ length (file h cs)

@@ -16,6 +16,5 @@ pub mod Quads
 pub mod RawPixels
 pub mod SamePixels
 pub mod SetLast
-pub mod ShortLists
 pub mod SomeVerdict
 pub mod TableHolds

@@ -1,11 +1,10 @@
 -- What a contract sees of a decoder.
 use Rattle.std.specs.Prelude.{ℕ, ◌+◌, ◌*◌, ◌≤◌, List, Option, Bool, length}
-use Rattle.std.specs.Io.KnownBytes.{Consumes}
 use Rattle.qoi.specs.declared.error.Error.{Error}
 use Rattle.qoi.specs.declared.types.Channels.{Channels}
 use Rattle.qoi.specs.declared.header.Header.{Header}
 use Rattle.qoi.specs.Qoi.{channels_number, pixel_count, chunk_max, marker_size}
-use Rattle.qoi.specs.Decoding.{ReadsImage, RefusesImage}
+use Rattle.qoi.specs.Decoding.{HasTaken, ReadsImage, RefusesImage}
 use Rattle.qoi.specs.Raw.{byte_count}
 
 -- the reader as it stands, the header of the file, and the channels of the output
@@ -29,7 +28,7 @@ RefusesDecoding in_memory ahead old new e = RefusesImage in_memory (pixel_count 
 
 -- at most so many bytes were taken
 abbrev pub TakesAtMost : ℕ → Option (List ℕ) → Option (List ℕ) → Type 0
-TakesAtMost most old new = (taken : List ℕ) × Consumes old new taken × (length taken ≤ most)
+TakesAtMost most old new = HasTaken old new (λ taken. length taken ≤ most)
 
 -- at most five bytes for each pixel, and the end marker's eight, were taken from the bytes ahead
 abbrev pub TakesWithin : {R : Type 0} → (R → Option (List ℕ)) → DecoderState R → DecoderState R → Type 0

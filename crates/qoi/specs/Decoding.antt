@@ -16,21 +16,25 @@ pub record ReadsPixels (file_channels channels n : ℕ) (bytes rest out : List �
   pub reaches : Reaches n cs
   pub out_is : out ≡ output file_channels channels (take n (meaning cs))
 
--- chunks that reach n pixels were taken, and `out` are the bytes of their first n pixels
-pub record StreamsPixels (file_channels channels n : ℕ) (old new : Option (List ℕ)) (out : List ℕ) : Type 0 where
+-- chunks that reach n pixels were taken, and then `tail`, and `out` are the bytes of their first n pixels
+pub record TakesPixels (tail : List ℕ) (file_channels channels n : ℕ) (old new : Option (List ℕ)) (out : List ℕ) : Type 0 where
   pub cs : List Chunk
   pub chunks : AreChunks cs
   pub reaches : Reaches n cs
-  pub taken : Consumes old new (chunk_bytes cs)
+  pub taken : Consumes old new (chunk_bytes cs ++ tail)
   pub out_is : out ≡ output file_channels channels (take n (meaning cs))
 
--- chunks that reach n pixels were taken, and then the end marker, and `out` are the bytes of their first n pixels
-pub record ReadsImage (file_channels channels n : ℕ) (old new : Option (List ℕ)) (out : List ℕ) : Type 0 where
-  pub cs : List Chunk
-  pub chunks : AreChunks cs
-  pub reaches : Reaches n cs
-  pub taken : Consumes old new (chunk_bytes cs ++ end_marker)
-  pub out_is : out ≡ output file_channels channels (take n (meaning cs))
+-- the same where nothing else was taken
+abbrev pub StreamsPixels : ℕ → ℕ → ℕ → Option (List ℕ) → Option (List ℕ) → List ℕ → Type 0
+StreamsPixels = TakesPixels []
+
+-- the same where the end marker was taken after them
+abbrev pub ReadsImage : ℕ → ℕ → ℕ → Option (List ℕ) → Option (List ℕ) → List ℕ → Type 0
+ReadsImage = TakesPixels end_marker
+
+-- bytes were taken, of which P holds
+abbrev pub HasTaken : Option (List ℕ) → Option (List ℕ) → (List ℕ → Type 0) → Type 0
+HasTaken old new P = (taken : List ℕ) × Consumes old new taken × P taken
 
 -- why the bytes after the chunks are refused: fewer than eight, or eight other than the end marker
 abbrev pub RefusesMarker : List ℕ → Error → Type 0
@@ -70,7 +74,7 @@ CouldHold in_memory n ahead = Unit {0}
 -- were taken are cut, or they are wrong and end with the eight bytes.
 abbrev pub RefusesImage : Bool → ℕ → Option (List ℕ) → Option (List ℕ) → Error → Type 0
 RefusesImage true n old new e = Keeps old new × IfSome old (λ bytes. RefusesBytes n bytes e)
-RefusesImage false n old new e = (taken : List ℕ) × Consumes old new taken × RefusesTaken n taken e
+RefusesImage false n old new e = HasTaken old new (λ taken. RefusesTaken n taken e)
 
 -- why a stream's header is refused, by the bytes that were taken: fewer than fourteen, or fourteen that are refused
 abbrev pub RefusesTakenHeader : List ℕ → Error → Type 0
@@ -84,7 +88,7 @@ abbrev pub ReadsHeader : Bool → Option (List ℕ) → Option (List ℕ) → Re
 ReadsHeader in_memory old new (Ok h) = (taken : List ℕ) × Consumes old new taken × (length taken ≡ header_size) × (header_of taken ≡ Ok h)
     × (taken ≡ header_bytes h) × IsValid h
 ReadsHeader true old new (Err e) = Keeps old new × IfSome old (λ bytes. header_of bytes ≡ Err e)
-ReadsHeader false old new (Err e) = (taken : List ℕ) × Consumes old new taken × RefusesTakenHeader taken e
+ReadsHeader false old new (Err e) = HasTaken old new (λ taken. RefusesTakenHeader taken e)
 
 -- the fourteen bytes of a valid header were taken from a stream
 abbrev pub TakesHeader : Option (List ℕ) → Option (List ℕ) → Header → Type 0

@@ -1,5 +1,5 @@
 -- The file of an image (QOI specification 1.0, "File Format" and "Data").
-use Rattle.std.specs.Prelude.{◌≡◌, ◌≢◌, ℕ, ◌+◌, ◌-◌, ◌*◌, ◌/◌, ◌%◌, ◌^◌, ◌≤◌, List, ◌∷◌, ◌++◌, length, min, slice_set, Result, Ok, Err, ◌==◌, if◌then◌else◌}
+use Rattle.std.specs.Prelude.{◌≡◌, ◌≢◌, ℕ, ◌+◌, ◌-◌, ◌*◌, ◌/◌, ◌%◌, ◌^◌, ◌≤◌, List, ◌∷◌, ◌++◌, length, min, slice_get, slice_set, IsTrue, Result, Ok, Err, ◌==◌, if◌then◌else◌}
 use Rattle.std.specs.List.{AllByRecursion}
 use Rattle.qoi.specs.declared.error.Error.{Error}
 use Rattle.qoi.specs.declared.error.Error.TheVariants.{InvalidImageLength}
@@ -12,13 +12,13 @@ use Rattle.qoi.specs.declared.types.Style.TheVariants.{Reference, Places, Tight}
 use Rattle.qoi.specs.declared.header.Header.{Header}
 use Rattle.qoi.specs.declared.chunk.Chunk.{Chunk}
 use Rattle.qoi.specs.declared.chunk.Chunk.TheVariants.{Place}
-use Rattle.qoi.specs.Qoi.{header_size, marker_size, colorspace_at, channels_number, channels_of, colorspace_number, pixel_count, tried_header, IsValid, RgbaPixel, blank, start, chunk_bytes, Reaches, file}
+use Rattle.qoi.specs.Qoi.{header_size, marker_size, colorspace_at, channels_number, channels_of, colorspace_number, pixel_count, tried_header, IsValid, RgbaPixel, blank, chunk_bytes, Reaches, file}
 use Rattle.qoi.specs.Raw.{pixels_of, image_byte_count}
 use Rattle.qoi.specs.Written.{Written}
 use Rattle.qoi.specs.Styles.{WrittenIn}
 use Rattle.qoi.specs.Tight.{floor0}
 use Rattle.qoi.specs.Regular.{Regular, Covers}
-use Rattle.qoi.specs.Shortest.{floor, slack}
+use Rattle.qoi.specs.Shortest.{floor, is_start, slack}
 use Rattle.qoi.specs.Decoding.{DecodesFile}
 
 -- the most bytes that the file of an image of this size has, or the greatest usize if that is less
@@ -33,22 +33,20 @@ max_file_len h = max_len h.width h.height (channels_number h.channels)
 abbrev pub IsFileLength : Header → ℕ → Type 0
 IsFileLength h n = (header_size + 1 + marker_size ≤ n) × (n ≤ max_file_len h)
 
--- a header with these channels, or their refusal
-abbrev pub with_number : Header → Result Channels Error → Result Header Error
-with_number h (Err e) = Err e
-with_number h (Ok channels) = Ok (record h { channels = channels })
-
--- the header with the channels that the raw bytes have, or its first refusal
-abbrev pub measured : List ℕ → Result Header Error → Result Header Error
-measured raw (Err e) = Err e
-measured raw (Ok h) =
-    if length raw % pixel_count h == 0 then with_number h (channels_of (min (length raw / pixel_count h) 255))
-    else Err (InvalidImageLength (length raw) h.width h.height)
-
 -- The header of an image of raw bytes, or the first refusal: the dimensions, the length, the number of channels,
 -- given as 255 where it is greater.
 abbrev pub image_header : List ℕ → ℕ → ℕ → Result Header Error
-image_header raw width height = measured raw (tried_header width height Rgb Srgb)
+image_header raw width height = measured (tried_header width height Rgb Srgb)
+  where
+    with_number : Header → Result Channels Error → Result Header Error
+    with_number h (Err e) = Err e
+    with_number h (Ok channels) = Ok (record h { channels = channels })
+
+    measured : Result Header Error → Result Header Error
+    measured (Err e) = Err e
+    measured (Ok h) =
+        if length raw % pixel_count h == 0 then with_number h (channels_of (min (length raw / pixel_count h) 255))
+        else Err (InvalidImageLength (length raw) h.width h.height)
 
 -- the pixels of an image's raw bytes
 abbrev pub image_pixels : Header → List ℕ → List RgbaPixel
@@ -83,7 +81,7 @@ pub record Spans (h : Header) (raw : List ℕ) (cs : List Chunk) : Type 0 where
 
 -- the first pixel is opaque black
 abbrev pub OpensBlack : List RgbaPixel → Type 0
-OpensBlack image = (rest : List RgbaPixel) × (image ≡ start ∷ rest)
+OpensBlack image = IsTrue (is_start (slice_get image 0))
 
 -- How short the file is. No regular chunk list of the image has fewer bytes than the floor; the file's list
 -- has at most the floor's bytes and the slack's. Where no pixel is transparent black, each list is regular.

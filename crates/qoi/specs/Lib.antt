@@ -10,7 +10,6 @@ pub mod Reading
 -- The list that is written.
 pub mod Runs
 pub mod Written
-pub mod Spelling
 -- How short a list is.
 pub mod Regular
 pub mod Shortest

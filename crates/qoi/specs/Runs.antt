@@ -16,6 +16,7 @@ last_by one zero = []
 last_by one (suc zero) = one ∷ []
 last_by one (suc (suc n)) = Run (suc (suc n)) ∷ []
 
--- the chunks of a group of so many repeats: runs of 62, and a run of the rest, but a rest of 1 by the chunk `one`
+-- the chunks of a group of so many repeats: runs of 62, and a run of those that are left; a single one that is left is
+-- given by the chunk `one`
 unfoldable pub runs_by : Chunk → ℕ → List Chunk
 runs_by one n = replicate (n / run_max) (Run run_max) ++ last_by one (n % run_max)

@@ -2,7 +2,7 @@
 use Rattle.std.specs.Prelude.{◌≡◌, ◌≢◌, ℕ, ◌<◌, ◌≤◌, List, [], ◌∷◌, if◌then◌else◌}
 use Rattle.qoi.specs.declared.chunk.Chunk.{Chunk}
 use Rattle.qoi.specs.declared.chunk.Chunk.TheVariants.{Place, Diff, Luma, Run, Rgb, Rgba}
-use Rattle.qoi.specs.Qoi.{RgbaPixel, Past, pixel_eq, previous, seen, hash, IsChunk, AreChunks, run_max, pixel_after, meaning, Each}
+use Rattle.qoi.specs.Qoi.{RgbaPixel, IsPixel, Past, rgba, pixel_eq, previous, seen, hash, IsChunk, AreChunks, run_max, pixel_after, meaning, Each}
 
 -- the fresh pixels: those that differ from the pixel before them
 abbrev pub fresh : Past → Past
@@ -28,6 +28,11 @@ pub record IsFirst (past : Past) (p : RgbaPixel) (c : Chunk) : Type 0 where
   pub spells : 0 < rank c
   pub gives : pixel_after past c ≡ p
   pub first : (d : Chunk) → IsChunk d → 0 < rank d → pixel_after past d ≡ p → rank c ≤ rank d
+
+-- the first of Diff, Luma, Rgb and Rgba that gives a pixel after another, both as bytes
+pub record Spells (pixel before : List ℕ) (c : Chunk) : Type 0 where
+  pub chunk : IsChunk c
+  pub first : (past : Past) → IsPixel (previous past) → previous past ≡ rgba before → IsFirst past (rgba pixel) c
 
 -- how a fresh pixel is given: by its index position if it is noted there, else by the first chunk that spells it out
 pub record IsChoice (past : Past) (p : RgbaPixel) (c : Chunk) : Type 0 where

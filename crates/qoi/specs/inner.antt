@@ -7,4 +7,3 @@ pub mod Lanes
 pub mod Packed
 pub mod Piece
 pub mod Table
-pub mod Taken

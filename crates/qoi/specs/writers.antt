@@ -1,5 +1,4 @@
 -- What a writer's calls promise, and the writers' words.
-pub mod Behind
 pub mod BytesMut
 pub mod GenericWriter
 pub mod Writes

@@ -140,8 +140,8 @@ impl Header {
         self.width as usize * self.height as usize
     }
 
-    /// How many raw bytes such an image has: width times height times channels, or the greatest `usize`
-    /// if that is less.
+    /// How many raw bytes such an image has: width times height times channels, or the greatest
+    /// `usize` if that is less.
     pub fn n_bytes(&self) -> usize
         ensures { result ≡ capped_byte_count self.now }
     {
@@ -157,12 +157,13 @@ impl Header {
     }
 }
 
-// The most bytes that the file of an image of this size has, or the greatest `usize` if that is less.
+// The most bytes that the file of an image of this size has, or the greatest `usize` if that is
+// less.
 pub(crate) fn max_file_size(width: u32, height: u32, channels: u8) -> usize
     ensures { result ≡ max_len width height channels }
 {
     let n_pixels = width as usize * height as usize;
     n_pixels
-        .saturating_mul(channels as usize + 1)
+        .saturating_mul(usize::from(channels) + 1)
         .saturating_add(QOI_HEADER_SIZE + QOI_PADDING_SIZE)
 }

@@ -9,6 +9,7 @@ ghost use Rattle.qoi.specs.inner.Lanes.{AreFourAfter, IsRun};
 
 use crate::packed::Packed;
 use crate::pixel::Pixel;
+use crate::utils::skip;
 use std::simd::u8x16;
 
 /// How many whole pixels at the front of `data` equal `px`.
@@ -20,8 +21,8 @@ pub fn repeats<const N: usize>(data: &[u8], px: Pixel<N>) -> usize
     repeats_of::<N>(data, px.packed())
 }
 
-/// How many of four pixels, from a lane on, repeat the pixel before that lane. A bit for each of the four
-/// says whether it repeats the one before it.
+/// How many of four pixels, from a lane on, repeat the pixel before that lane. A bit for each of
+/// the four says whether it repeats the one before it.
 #[inline(always)]
 pub(crate) fn repeats_in_quad(bits: u64, lane: usize) -> usize
     requires within { bits < 16 }
@@ -36,8 +37,8 @@ pub(crate) fn repeats_in_quad(bits: u64, lane: usize) -> usize
     (!(bits >> lane as u32)).trailing_zeros() as usize
 }
 
-/// How many whole pixels at the front of `data` equal `px`: counted by blocks of sixteen pixels, and then
-/// pixel by pixel.
+/// How many whole pixels at the front of `data` equal `px`: counted by blocks of sixteen pixels,
+/// and then pixel by pixel.
 #[inline(never)]
 pub(crate) fn repeats_of<const N: usize>(data: &[u8], px: Packed) -> usize
     requires channels { IsChannels N }
@@ -49,7 +50,7 @@ pub(crate) fn repeats_of<const N: usize>(data: &[u8], px: Packed) -> usize
     blocks + count_pixels::<N>(rest, px)
 }
 
-// How many pixels the blocks of sixteen have that are `px` throughout, and the bytes behind them.
+// How many pixels the blocks of sixteen have that are `px` throughout, and the bytes after them.
 #[inline(always)]
 fn count_blocks<'a, const N: usize>(data: &'a [u8], px: Packed) -> (usize, &'a [u8])
     requires channels { IsChannels N }
@@ -61,8 +62,7 @@ fn count_blocks<'a, const N: usize>(data: &'a [u8], px: Packed) -> (usize, &'a [
     let mut count = 0;
     let mut rest = data;
     while rest.len() >= N * 16 && is_block::<N>(rest, px) {
-        let (_, after) = rest.split_at(N * 16);
-        rest = after;
+        rest = skip(rest, N * 16);
         count += 16;
     }
     (count, rest)
@@ -78,8 +78,7 @@ fn count_pixels<const N: usize>(data: &[u8], px: Packed) -> usize
     let mut count = 0;
     let mut rest = data;
     while begins_with::<N>(rest, px) {
-        let (_, after) = rest.split_at(N);
-        rest = after;
+        rest = skip(rest, N);
         count += 1;
     }
     count
@@ -124,6 +123,6 @@ fn is_part<const N: usize, const PART: usize>(bytes: &[u8], px: Packed) -> bool
     ensures { IsTrue result → take 16 (drop (16 * PART) bytes.now)
         ≡ take 16 (drop (16 * PART) (output N N (replicate 16 px))) }
 {
-    let (_, part) = bytes.split_at(16 * PART);
+    let part = skip(bytes, 16 * PART);
     u8x16::from_slice(part) == px.block::<N, PART>()
 }

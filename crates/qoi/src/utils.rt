@@ -1,7 +1,6 @@
 //! Where the encoder writes.
 ghost use Rattle.std.specs.Prelude.{◌≡◌, ℕ, ◌+◌, ◌<◌, ◌≤◌, List, [], ◌∷◌, length, drop, OnOk, IfErr};
-ghost use Rattle.qoi.specs.writers.Writes.{WriterLaws, WroteBeginning};
-ghost use Rattle.qoi.specs.writers.Behind.{StandsBehind};
+ghost use Rattle.qoi.specs.writers.Writes.{StandsBehind, WriterLaws, WroteBeginning};
 ghost use Rattle.qoi.specs.Errors.{IsIoError};
 
 use crate::error::{Error, Result};
@@ -40,8 +39,8 @@ pub trait Writer: Sized {
     fn capacity(&self) -> usize
         ensures { result ≡ room self.now };
 
-    /// Nothing written relates a writer to itself, two writings compose, and the room falls by the number
-    /// of bytes.
+    /// Nothing written relates a writer to itself, two writings compose, and the room falls by the
+    /// number of bytes.
     ghost laws: { WriterLaws wrote room };
 }
 
@@ -86,7 +85,7 @@ impl<'a> BytesMut<'a> {
     }
 }
 
-// Writes bytes behind the first `written` ones of a buffer, and returns where they end.
+// Writes bytes after the first `written` ones of a buffer, and returns where they end.
 #[inline(always)]
 pub(crate) fn copy_behind(buf: &mut [u8], written: usize, v: &[u8]) -> usize
     requires { written + length v.now ≤ length buf.old }
@@ -97,7 +96,7 @@ pub(crate) fn copy_behind(buf: &mut [u8], written: usize, v: &[u8]) -> usize
     end
 }
 
-/// The bytes behind the first `n`.
+/// The bytes after the first `n`.
 #[inline(always)]
 pub(crate) fn skip(bytes: &[u8], n: usize) -> &[u8]
     requires { n ≤ length bytes.now }
@@ -170,8 +169,8 @@ impl<'a, W: Write> Writer for GenericWriter<'a, W> {
 
     ghost laws = { stream_laws W.contents };
 
-    /// Writes by one call of `write`. A write that takes no byte is a fault of kind `WriteZero`, and
-    /// an interruption is a fault.
+    /// Writes by one call of `write`. A write that takes no byte is a fault of kind `WriteZero`,
+    /// and an interruption is a fault.
     fn write_one(&mut self, v: u8) -> Result<()> {
         if self.writer.write(&[v])? == 0 {
             return Err(no_byte_taken());
@@ -190,7 +189,7 @@ impl<'a, W: Write> Writer for GenericWriter<'a, W> {
                 return Err(no_byte_taken());
             }
             self.room -= count;
-            rest = &rest[count..];
+            rest = skip(rest, count);
         }
         Ok(())
     }

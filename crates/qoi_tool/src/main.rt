@@ -22,14 +22,12 @@ use crate::command::{Command, command_of};
 use crate::fault_line::write_fault;
 use crate::line::write_line;
 use crate::transfer::{read_exact, read_to_end, write_all};
+use qoi::consts::QOI_HEADER_SIZE;
 use qoi::{Channels, ColorSpace, Decoder, Encoder, Error, Style, decode_header, decode_to_vec};
 use std::alloc::Global;
 use std::io::{ErrorKind, Read, Write};
 use std::process::ExitCode;
 use std::{env, io};
-
-// How many bytes a header has.
-const HEADER_SIZE: usize = 14;
 
 /// Why the program ends without having done its work.
 #[derive(Debug, Drop)]
@@ -154,7 +152,7 @@ fn info<R: Read, W: Write>(input: &mut R, output: &mut W) -> Result<(), Error>
         (R.remaining input.old) (R.remaining input.new) (W.contents output.old)
         (W.contents output.new)) }
 {
-    let mut bytes = [0; HEADER_SIZE];
+    let mut bytes = [0; QOI_HEADER_SIZE];
     read_exact(input, &mut bytes)?;
     let header = decode_header(&bytes)?;
     write_line(output, &header)

@@ -14,7 +14,7 @@ use std::io::{ErrorKind, Read, Write};
 const LEAST: usize = 65_536;
 
 // The most that it grows by at a time, since all of that is filled with zeros before it is read into.
-const PIECE: usize = 1_048_576;
+const MOST: usize = 1_048_576;
 
 /// All the bytes that the reader gives until a read gives none. Unlike the standard library's, it
 /// doesn't try again after an interruption, which is a fault.
@@ -27,7 +27,7 @@ pub fn read_to_end<R: Read>(alloc: Global, input: &mut R) -> Result<Vec<u8>, Err
     let mut filled = 0;
     loop {
         if filled == bytes.len() {
-            bytes.resize(filled.saturating_add(filled.clamp(LEAST, PIECE)), 0)?;
+            bytes.resize(filled.saturating_add(filled.clamp(LEAST, MOST)), 0)?;
         }
         let count = read_after(input, &mut bytes, filled)?;
         if count == 0 {

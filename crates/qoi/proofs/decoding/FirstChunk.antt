@@ -16,27 +16,19 @@ front_1 (a ∷ bytes) l = refl
 
 -- the first two
 front_2 : (bytes : List ℕ) → 2 ≤ length bytes → take 2 bytes ≡ get_or bytes 0 0 ∷ get_or bytes 1 0 ∷ []
-front_2 [] l = absurd (omega arith)
-front_2 (a ∷ []) l = absurd (omega arith)
 front_2 (a ∷ b ∷ bytes) l = refl
+front_2 _ l = absurd (omega arith)
 
 -- the first four
 front_4 : (bytes : List ℕ) → 4 ≤ length bytes → take 4 bytes ≡ get_or bytes 0 0 ∷ get_or bytes 1 0 ∷ get_or bytes 2 0 ∷ get_or bytes 3 0 ∷ []
-front_4 [] l = absurd (omega arith)
-front_4 (a ∷ []) l = absurd (omega arith)
-front_4 (a ∷ b ∷ []) l = absurd (omega arith)
-front_4 (a ∷ b ∷ c ∷ []) l = absurd (omega arith)
 front_4 (a ∷ b ∷ c ∷ d ∷ bytes) l = refl
+front_4 _ l = absurd (omega arith)
 
 -- the first five
 front_5 : (bytes : List ℕ) → 5 ≤ length bytes → take 5 bytes
     ≡ get_or bytes 0 0 ∷ get_or bytes 1 0 ∷ get_or bytes 2 0 ∷ get_or bytes 3 0 ∷ get_or bytes 4 0 ∷ []
-front_5 [] l = absurd (omega arith)
-front_5 (a ∷ []) l = absurd (omega arith)
-front_5 (a ∷ b ∷ []) l = absurd (omega arith)
-front_5 (a ∷ b ∷ c ∷ []) l = absurd (omega arith)
-front_5 (a ∷ b ∷ c ∷ d ∷ []) l = absurd (omega arith)
 front_5 (a ∷ b ∷ c ∷ d ∷ e ∷ bytes) l = refl
+front_5 _ l = absurd (omega arith)
 
 -- a pixel was put at its index position, and written so many times
 pub record PutsCopies (f c : ℕ) (p : RgbaPixel) (count : ℕ) (old new : Filling) : Type 0 where

@@ -2,7 +2,7 @@
 use Rattle.std.proofs.Common.{◌≡◌, ℕ, ◌+◌, ◌*◌, ◌<◌, ◌≤◌, inl, inr, List, [], ◌∷◌, ◌++◌, length, replicate, arith, refl, ap, length-append}
 use Rattle.std.proofs.lemmas.List.{length-replicate}
 use Rattle.qoi.specs.declared.chunk.Chunk.{Chunk}
-use Rattle.qoi.specs.declared.chunk.Chunk.TheVariants.{Place, Diff, Luma, Run, Rgb, Rgba}
+use Rattle.qoi.specs.declared.chunk.Chunk.TheVariants.{Run}
 use Rattle.qoi.specs.Qoi.{Past, AreBytes, IsChunk, AreChunks, bytes_of, chunk_bytes, times, pixel_after, then_chunk, then_chunks, meaning, end_marker}
 use Rattle.qoi.specs.Verdicts.{HasChunks, IsWhole, AreCut}
 use Rattle.qoi.specs.Decoding.{least_byte_count}
@@ -11,12 +11,8 @@ use Rattle.qoi.proofs.format.SomeVerdict.{verdict_of}
 
 -- a chunk gives 62 pixels at most
 times_most : (c : Chunk) → IsChunk c → times c ≤ 62
-times_most (Place i) is = omega arith
-times_most (Diff d) is = omega arith
-times_most (Luma d e) is = omega arith
 times_most (Run n) is = is.1
-times_most (Rgb r g b) is = omega arith
-times_most (Rgba r g b a) is = omega arith
+times_most c is = omega arith
 
 -- chunks give 62 pixels at most for each of their bytes
 pixels_most : (past : Past) (cs : List Chunk) → AreChunks cs → length (then_chunks past cs) ≤ length past + 62 * length (chunk_bytes cs)

@@ -1,5 +1,5 @@
 -- A decoder between two chunks: what it has taken, filled and seen.
-use Rattle.std.proofs.Common.{◌≡◌, ℕ, suc, ◌*◌, ◌/◌, ◌%◌, ◌<◌, ◌≤◌, inl, inr, List, [], ◌∷◌, ◌++◌, length, take, drop, replicate, min, Option, arith, refl, sym, ap, ◌∙◌, subst, append_assoc, length-append, take-append-drop}
+use Rattle.std.proofs.Common.{◌≡◌, ℕ, suc, ◌*◌, ◌/◌, ◌%◌, ◌<◌, ◌≤◌, inl, inr, List, [], ◌∷◌, ◌++◌, length, take, drop, replicate, min, Option, arith, refl, sym, ap, ◌∙◌, subst, append_assoc, append-nil, length-append, take-append-drop}
 use Rattle.qoi.specs.Qoi.{Past, AreBytes, start, bytes_of, chunk_bytes, pixel_after, times, then_chunk, then_chunks, meaning, Reaches}
 use Rattle.std.specs.Io.KnownBytes.{Consumes}
 use Rattle.std.proofs.KnownBytes.{Consumes-trans}
@@ -132,7 +132,7 @@ pub streams_pixels : {f c n : ℕ} {old new : Option (List ℕ)} {now : Filling}
     → StreamsPixels f c n old new now.buffer.out
 streams_pixels is s full =
     let all = reads_all is s full in
-    record { cs = s.cs; chunks = s.chunks; reaches = all.0; taken = s.taken; out_is = all.1 }
+    record { cs = s.cs; chunks = s.chunks; reaches = all.0; taken = subst (Consumes _ _) (sym (append-nil (chunk_bytes s.cs))) s.taken; out_is = all.1 }
 
 -- where a stream gives no whole chunk, what was taken ends within a chunk
 pub stream_ends : {f c n : ℕ} (old middle new : Option (List ℕ)) (part : List ℕ) {now : Filling} → IsChannels c → DecoderBetween f c n (Consumes old middle) now

@@ -1,7 +1,7 @@
 -- What refusals exclude.
 use Rattle.std.proofs.Common.{◌≡◌, ℕ, List, Bool, true, false, Option, Some, None, subst}
 use Rattle.qoi.specs.declared.error.Error.{Error}
-use Rattle.qoi.specs.declared.error.Error.TheVariants.{InvalidMagic, InvalidChannels, InvalidColorSpace, InvalidImageDimensions, InvalidImageLength, OutputBufferTooSmall, UnexpectedBufferEnd, InvalidPadding, IoError, OutOfMemory}
+use Rattle.qoi.specs.declared.error.Error.TheVariants.{UnexpectedBufferEnd, InvalidPadding}
 use Rattle.qoi.specs.declared.chunk.Chunk.{Chunk}
 use Rattle.qoi.specs.Verdicts.{IsWhole}
 use Rattle.qoi.specs.Decoding.{RefusesBytes, RefusesImage}
@@ -11,14 +11,7 @@ use Rattle.qoi.proofs.format.OneVerdict.{whole_not_cut, whole_not_wrong}
 whole_not_refused : (n : ℕ) (bytes : List ℕ) (cs : List Chunk) (rest : List ℕ) (e : Error) → IsWhole n bytes cs rest → RefusesBytes n bytes e → ⊥
 whole_not_refused n bytes cs rest UnexpectedBufferEnd whole (ds, part, cut) = whole_not_cut n bytes cs ds rest part whole cut
 whole_not_refused n bytes cs rest InvalidPadding whole (after, wrong) = whole_not_wrong n bytes cs wrong.0 rest wrong.1 after whole wrong.2
-whole_not_refused n bytes cs rest (InvalidMagic m) whole no_reason = no_reason
-whole_not_refused n bytes cs rest (InvalidChannels k) whole no_reason = no_reason
-whole_not_refused n bytes cs rest (InvalidColorSpace k) whole no_reason = no_reason
-whole_not_refused n bytes cs rest (InvalidImageDimensions w h) whole no_reason = no_reason
-whole_not_refused n bytes cs rest (InvalidImageLength s w h) whole no_reason = no_reason
-whole_not_refused n bytes cs rest (OutputBufferTooSmall s r) whole no_reason = no_reason
-whole_not_refused n bytes cs rest (IoError i) whole no_reason = no_reason
-whole_not_refused n bytes cs rest OutOfMemory whole no_reason = no_reason
+whole_not_refused n bytes cs rest _ whole no_reason = no_reason
 
 -- the same for a refusal of a reader whose bytes stand in memory
 pub whole_not_refused_in : (in_memory : Bool) (n : ℕ) (old new : Option (List ℕ)) (e : Error) (bytes : List ℕ) (cs : List Chunk) (rest : List ℕ)

@@ -1,7 +1,7 @@
 -- What refuses known bytes that stand ahead of a decoder, by what they are.
 use Rattle.std.proofs.Common.{◌≡◌, ℕ, List, Bool, true, false, Option, Some, inl, inr, refl, subst}
 use Rattle.qoi.specs.declared.error.Error.{Error}
-use Rattle.qoi.specs.declared.error.Error.TheVariants.{InvalidMagic, InvalidChannels, InvalidColorSpace, InvalidImageDimensions, InvalidImageLength, OutputBufferTooSmall, UnexpectedBufferEnd, InvalidPadding, IoError, OutOfMemory}
+use Rattle.qoi.specs.declared.error.Error.TheVariants.{UnexpectedBufferEnd, InvalidPadding, IoError}
 use Rattle.qoi.specs.Decoding.{RefusesBytes, RefusesImage, RefusesTaken}
 use Rattle.qoi.specs.Verdicts.{AreWrong, AreCut}
 use Rattle.qoi.specs.Errors.{IsErrorOfCut, IsErrorOfWrong}
@@ -12,40 +12,19 @@ use Rattle.qoi.proofs.format.OneVerdict.{cut_not_wrong}
 cut_in_memory : (n : ℕ) (bytes : List ℕ) (e : Error) → AreCut n bytes → RefusesBytes n bytes e → e ≡ UnexpectedBufferEnd
 cut_in_memory n bytes UnexpectedBufferEnd cut why = refl
 cut_in_memory n bytes InvalidPadding (cs, part, cut) (rest, (ds, eight, wrong)) = absurd (cut_not_wrong n bytes cs ds part eight rest cut wrong)
-cut_in_memory n bytes (InvalidMagic m) cut none = absurd none
-cut_in_memory n bytes (InvalidChannels k) cut none = absurd none
-cut_in_memory n bytes (InvalidColorSpace k) cut none = absurd none
-cut_in_memory n bytes (InvalidImageDimensions w h) cut none = absurd none
-cut_in_memory n bytes (InvalidImageLength s w h) cut none = absurd none
-cut_in_memory n bytes (OutputBufferTooSmall s r) cut none = absurd none
-cut_in_memory n bytes (IoError i) cut none = absurd none
-cut_in_memory n bytes OutOfMemory cut none = absurd none
+cut_in_memory n bytes _ cut none = absurd none
 
 -- wrong bytes in memory are refused for their padding
 wrong_in_memory : (n : ℕ) (bytes : List ℕ) (e : Error) → AreWrong n bytes → RefusesBytes n bytes e → e ≡ InvalidPadding
 wrong_in_memory n bytes InvalidPadding wrong why = refl
 wrong_in_memory n bytes UnexpectedBufferEnd (rest, (ds, eight, wrong)) (cs, part, cut) = absurd (cut_not_wrong n bytes cs ds part eight rest cut wrong)
-wrong_in_memory n bytes (InvalidMagic m) wrong none = absurd none
-wrong_in_memory n bytes (InvalidChannels k) wrong none = absurd none
-wrong_in_memory n bytes (InvalidColorSpace k) wrong none = absurd none
-wrong_in_memory n bytes (InvalidImageDimensions w h) wrong none = absurd none
-wrong_in_memory n bytes (InvalidImageLength s w h) wrong none = absurd none
-wrong_in_memory n bytes (OutputBufferTooSmall s r) wrong none = absurd none
-wrong_in_memory n bytes (IoError i) wrong none = absurd none
-wrong_in_memory n bytes OutOfMemory wrong none = absurd none
+wrong_in_memory n bytes _ wrong none = absurd none
 
 -- a stream is refused for its padding or with an i/o error
 padding_or_io : (n : ℕ) (taken : List ℕ) (e : Error) → RefusesTaken n taken e → IsErrorOfWrong false e
 padding_or_io n taken (IoError x) why = inr tt
 padding_or_io n taken InvalidPadding why = inl refl
-padding_or_io n taken (InvalidMagic m) none = absurd none
-padding_or_io n taken (InvalidChannels k) none = absurd none
-padding_or_io n taken (InvalidColorSpace k) none = absurd none
-padding_or_io n taken (InvalidImageDimensions w h) none = absurd none
-padding_or_io n taken (InvalidImageLength z w h) none = absurd none
-padding_or_io n taken (OutputBufferTooSmall z r) none = absurd none
-padding_or_io n taken UnexpectedBufferEnd none = absurd none
-padding_or_io n taken OutOfMemory none = absurd none
+padding_or_io n taken _ none = absurd none
 
 -- what refuses cut bytes
 pub refused_for_cut : (in_memory : Bool) (n : ℕ) (old new : Option (List ℕ)) (e : Error) (bytes : List ℕ) → old ≡ Some bytes → AreCut n bytes

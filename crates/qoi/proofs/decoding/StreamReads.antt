@@ -1,5 +1,5 @@
 -- What was read from a stream, piece after piece.
-use Rattle.std.proofs.Common.{◌≡◌, ℕ, zero, suc, ◌+◌, ◌<◌, ◌≤◌, ◌-◌, ◌⊎◌, inl, inr, List, [], ◌∷◌, ◌++◌, length, get_or, take, drop, take-append-drop, Option, Result, IfErr, arith, refl, sym, ap, ◌∙◌, append-nil}
+use Rattle.std.proofs.Common.{◌≡◌, ℕ, zero, suc, ◌+◌, ◌<◌, ◌≤◌, ◌-◌, ◌⊎◌, inl, inr, List, [], ◌∷◌, ◌++◌, length, get_or, take, drop, take-append-drop, Option, Result, IfErr, arith, refl, sym, ap, ◌∙◌, subst, append-nil}
 use Rattle.std.proofs.lemmas.List.{take-append-le, length-take-le}
 use Rattle.std.proofs.Math.Seq.{take-append-add}
 use Rattle.std.specs.Io.KnownBytes.{Consumes}
@@ -7,7 +7,7 @@ use Rattle.std.proofs.KnownBytes.{Consumes-trans}
 use Rattle.std.proofs.lemmas.Result.{IfErr-weaker}
 use borrow.Rule.Slice.PartMut.{put_mid, post_of}
 use Rattle.qoi.specs.declared.error.Error.{Error}
-use Rattle.qoi.specs.declared.error.Error.TheVariants.{InvalidMagic, InvalidChannels, InvalidColorSpace, InvalidImageDimensions, InvalidImageLength, OutputBufferTooSmall, UnexpectedBufferEnd, InvalidPadding, IoError, OutOfMemory}
+use Rattle.qoi.specs.declared.error.Error.TheVariants.{InvalidPadding, IoError}
 use Rattle.qoi.specs.declared.chunk.Chunk.{Chunk}
 use Rattle.qoi.specs.declared.chunk.Chunk.TheVariants.{Place, Diff, Run, Rgb, Rgba}
 use Rattle.qoi.specs.inner.Filling.{Filling, DecodesChunk}
@@ -118,14 +118,7 @@ refused_after n cs chunks reaches taken InvalidPadding (eight, other) = (
     other = other;
   },
 )
-refused_after n cs chunks reaches taken (InvalidMagic m) none = none
-refused_after n cs chunks reaches taken (InvalidChannels k) none = none
-refused_after n cs chunks reaches taken (InvalidColorSpace k) none = none
-refused_after n cs chunks reaches taken (InvalidImageDimensions w h) none = none
-refused_after n cs chunks reaches taken (InvalidImageLength z w h) none = none
-refused_after n cs chunks reaches taken (OutputBufferTooSmall z r) none = none
-refused_after n cs chunks reaches taken UnexpectedBufferEnd none = none
-refused_after n cs chunks reaches taken OutOfMemory none = none
+refused_after n cs chunks reaches taken _ none = none
 
 -- what was taken where the marker was refused
 pub marker_refused : {T : Type 0} (f c n : ℕ) (old now new : Option (List ℕ)) (out : List ℕ) (r : Result T Error) → StreamsPixels f c n old now out
@@ -136,6 +129,6 @@ marker_refused f c n old now new out r s why =
     (λ e. (taken : List ℕ) × Consumes old new taken × RefusesTaken n taken e)
     (λ e (taken, took, refused). (
       chunk_bytes s.cs ++ taken,
-      Consumes-trans old now new (chunk_bytes s.cs) taken s.taken took,
+      Consumes-trans old now new (chunk_bytes s.cs) taken (subst (Consumes old now) (append-nil (chunk_bytes s.cs)) s.taken) took,
       refused_after n s.cs s.chunks s.reaches taken e refused,
     )) why

@@ -2,7 +2,7 @@
 use Rattle.std.proofs.Common.{◌≡◌, ℕ, zero, suc, ◌+◌, ◌*◌, ◌<◌, List, [], ◌∷◌, ◌++◌, length, take, Option, Some, None, false, arith, refl, ap, ◌∙◌, append_assoc, append-nil, slice_index}
 use Rattle.std.specs.Io.KnownBytes.{Consumes}
 use Rattle.qoi.specs.declared.error.Error.{Error}
-use Rattle.qoi.specs.declared.error.Error.TheVariants.{InvalidMagic, InvalidChannels, InvalidColorSpace, InvalidImageDimensions, InvalidImageLength, OutputBufferTooSmall, UnexpectedBufferEnd, InvalidPadding, IoError, OutOfMemory}
+use Rattle.qoi.specs.declared.error.Error.TheVariants.{InvalidPadding, IoError}
 use Rattle.qoi.specs.declared.chunk.Chunk.{Chunk}
 use Rattle.qoi.specs.Qoi.{RgbaPixel, chunk_bytes, meaning, end_marker}
 use Rattle.qoi.specs.Raw.{output, without_fourth}
@@ -55,14 +55,7 @@ only_io_error : (n : ℕ) (bytes : List ℕ) (left : Option (List ℕ)) (taken :
     → RefusesTaken n taken e → IsIoError e
 only_io_error n bytes left taken (IoError x) not_wrong took why = tt
 only_io_error n bytes left taken InvalidPadding not_wrong took why = let w = padding_is_wrong n bytes left taken took why in not_wrong w.0 w.1 w.2 w.3
-only_io_error n bytes left taken (InvalidMagic m) not_wrong took none = none
-only_io_error n bytes left taken (InvalidChannels k) not_wrong took none = none
-only_io_error n bytes left taken (InvalidColorSpace k) not_wrong took none = none
-only_io_error n bytes left taken (InvalidImageDimensions w h) not_wrong took none = none
-only_io_error n bytes left taken (InvalidImageLength z w h) not_wrong took none = none
-only_io_error n bytes left taken (OutputBufferTooSmall z r) not_wrong took none = none
-only_io_error n bytes left taken UnexpectedBufferEnd not_wrong took none = none
-only_io_error n bytes left taken OutOfMemory not_wrong took none = none
+only_io_error n bytes left taken _ not_wrong took none = none
 
 -- cut bytes are refused with an i/o error
 pub cut_is_io_error : (n : ℕ) (bytes : List ℕ) (cs : List Chunk) (part : List ℕ) (left : Option (List ℕ)) (e : Error) → IsCut n bytes cs part

@@ -2,7 +2,7 @@
 use Rattle.std.proofs.Common.{◌≡◌, inl, inr, ℕ, ◌+◌, ◌*◌, ◌<◌, ◌≤◌, List, [], ◌∷◌, ◌++◌, length, replicate, Bool, true, false, Option, Some, None, sym, ap, arith, length-append}
 use Rattle.std.specs.Io.KnownBytes.{Consumes, Keeps}
 use Rattle.qoi.specs.declared.error.Error.{Error}
-use Rattle.qoi.specs.declared.error.Error.TheVariants.{InvalidMagic, InvalidChannels, InvalidColorSpace, InvalidImageDimensions, InvalidImageLength, OutputBufferTooSmall, UnexpectedBufferEnd, InvalidPadding, IoError, OutOfMemory}
+use Rattle.qoi.specs.declared.error.Error.TheVariants.{InvalidPadding, IoError}
 use Rattle.qoi.specs.Verdicts.{IsPartOfChunk, AreCut, AreWrongThen}
 use Rattle.qoi.specs.Decoding.{ReadsImage, RefusesImage}
 use Rattle.qoi.specs.DecoderState.{TakesAtMost}
@@ -108,11 +108,4 @@ pub refused_within : (in_memory : Bool) (n : ℕ) (old new : Option (List ℕ)) 
 refused_within true n old new e r = ([], keeps_all old new r.0, omega arith)
 refused_within false n old new (IoError x) (taken, took, why) = (taken, took, cut_within n taken why)
 refused_within false n old new InvalidPadding (taken, took, why) = (taken, took, wrong_within n taken why)
-refused_within false n old new (InvalidMagic x) (taken, took, why) = absurd why
-refused_within false n old new (InvalidChannels x) (taken, took, why) = absurd why
-refused_within false n old new (InvalidColorSpace x) (taken, took, why) = absurd why
-refused_within false n old new (InvalidImageDimensions x y) (taken, took, why) = absurd why
-refused_within false n old new (InvalidImageLength x y z) (taken, took, why) = absurd why
-refused_within false n old new (OutputBufferTooSmall x y) (taken, took, why) = absurd why
-refused_within false n old new UnexpectedBufferEnd (taken, took, why) = absurd why
-refused_within false n old new OutOfMemory (taken, took, why) = absurd why
+refused_within false n old new _ (taken, took, why) = absurd why

@@ -12,7 +12,7 @@ use Rattle.qoi.specs.Qoi.{AreBytes, RgbaPixel, IsPixel, Past, previous, hash, Is
 use Rattle.qoi.specs.Runs.{runs_by}
 use Rattle.qoi.specs.Written.{WrittenBy}
 use Rattle.qoi.specs.Styles.{some_fresh, names, choice_in, styled, in_style}
-use Rattle.qoi.specs.inner.CoderState.{rest_of_one, last_chunk}
+use Rattle.qoi.specs.inner.CoderState.{single_chunk, last_chunk}
 use Rattle.qoi.specs.inner.CoderLoop.{StillToWrite, Writing, CoderAfter, single, CoderBetween}
 use Rattle.qoi.proofs.format.ChunkSteps.{previous_repeats}
 use Rattle.qoi.proofs.encoding.StillToWrite.{all_to_write, chunk_next, fresh_todo, none_todo, runs_next}
@@ -61,7 +61,7 @@ module _ {N : ℕ} {w : Writing} {pixels : List RgbaPixel} {table : List RgbaPix
   last_before : previous b.past ≡ coder.last
   last_before = sym b.state.last_is
 
-  -- The runs of a group are written. A rest of 1 is written by the chunk `one`: at the end a run, and before a fresh pixel
+  -- The runs of a group are written. A single repeat that is left is written by the chunk `one`: at the end a run, and before a fresh pixel
   -- as the style has it.
   pub group_written : (n : ℕ) (rest : List RgbaPixel) (one : Chunk) {next_table : List RgbaPixel} {next_coder : Coder N} {next : List ℕ}
       → pixels ≡ replicate n coder.last ++ rest
@@ -93,15 +93,15 @@ module _ {N : ℕ} {w : Writing} {pixels : List RgbaPixel} {table : List RgbaPix
         state = state b.past b.before b.state;
       }
     where
-      -- a rest of 1 stands at the end or before a fresh pixel
+      -- a single repeat that is left stands at the end or before a fresh pixel
       writes_one : n % 62 ≡ 1 → (left : List Chunk) → StillToWrite w.list (replicate n (previous b.past) ++ b.past) rest left
           → WritesOne w.list.style b.past b.before n left one
       writes_one e left still = by_rest (one_is e) ends
         where
-          single_is : single coder n ≡ rest_of_one w.list.style (some_fresh b.past) (names b.before (hash (previous b.past))) (hash (previous b.past)) n
+          single_is : single coder n ≡ single_chunk w.list.style (some_fresh b.past) (names b.before (hash (previous b.past))) (hash (previous b.past)) n
           single_is =
               let place = coder.within ∙ ap hash b.state.last_is in
-              λ i. rest_of_one (b.style_is i) (b.state.begun_is i) (b.state.placed_is i) (place i) n
+              λ i. single_chunk (b.style_is i) (b.state.begun_is i) (b.state.placed_is i) (place i) n
 
           other_first : (slice_get rest 0 ≢ Some coder.last) ⊎ (n % 62 ≡ 0) → slice_get rest 0 ≢ Some coder.last
           other_first (inl other) = other

@@ -17,24 +17,10 @@ not_one n = ne_eqb (suc (suc n)) 1 (λ e. omega arith)
 
 -- bytes of less than a pixel have no pixel
 pub none_of_few : (n : ℕ) (rest : List ℕ) → IsChannels n → length rest < n → pixels_of n rest ≡ []
-none_of_few n [] (inl e) h = rw e refl
-none_of_few n (a ∷ []) (inl e) h = rw e refl
-none_of_few n (a ∷ b ∷ []) (inl e) h = rw e refl
 none_of_few n (a ∷ b ∷ c ∷ rest) (inl e) h = absurd (omega arith)
-none_of_few n [] (inr e) h = rw e refl
-none_of_few n (a ∷ []) (inr e) h = rw e refl
-none_of_few n (a ∷ b ∷ []) (inr e) h = rw e refl
-none_of_few n (a ∷ b ∷ c ∷ []) (inr e) h = rw e refl
 none_of_few n (a ∷ b ∷ c ∷ d ∷ rest) (inr e) h = absurd (omega arith)
-
--- the first pixel of bytes
-pub first_of : (n : ℕ) (rest front after : List ℕ) → IsChannels n → rest ≡ front ++ after → length front ≡ n
-    → slice_get (pixels_of n rest) 0 ≡ Some (rgba front)
-first_of n rest front after is split size = ap (λ x. slice_get x 0) (ap (pixels_of n) split ∙ pixels_of-next n front after is size)
-
--- equal where both are there
-pub some_same : {a b : RgbaPixel} → Some a ≡ Some b → a ≡ b
-some_same e = cc
+none_of_few n _ (inl e) h = rw e refl
+none_of_few n _ (inr e) h = rw e refl
 
 -- so many pixels that are p, and then others
 pub count_of : (p : RgbaPixel) (pixels rest : List RgbaPixel) (n : ℕ) → pixels ≡ replicate n p ++ rest → slice_get rest 0 ≢ Some p → IsCount p pixels n
@@ -75,7 +61,7 @@ repeats_block n bytes rest after p count is w room behind block = record {
         → k * (count + 16) + length after ≡ length bytes) is (λ a b. omega arith) (λ a b. omega arith)
 
 -- the member at an index is the first behind as many
-nth_first : (k : ℕ) (xs : List RgbaPixel) → slice_get xs k ≡ slice_get (drop k xs) 0
+pub nth_first : (k : ℕ) (xs : List RgbaPixel) → slice_get xs k ≡ slice_get (drop k xs) 0
 nth_first zero xs = refl
 nth_first (suc k) [] = refl
 nth_first (suc k) (x ∷ xs) = nth_first k xs
@@ -100,7 +86,7 @@ pixels_drop n k bytes is inside =
     ∙ drop-append_seam (pixels_of n (take (n * k) bytes)) (pixels_of n (drop (n * k) bytes))
 
 -- The pixels of the bytes are so many of q, and then those of the bytes behind them, of which the first is another.
-pub record Group (n : ℕ) (bytes : List ℕ) (q : RgbaPixel) (count : ℕ) : Type 0 where
+record Group (n : ℕ) (bytes : List ℕ) (q : RgbaPixel) (count : ℕ) : Type 0 where
   pub within : n * count ≤ length bytes
   pub pixels : pixels_of n bytes ≡ replicate count q ++ pixels_of n (drop (n * count) bytes)
   pub other : slice_get (pixels_of n (drop (n * count) bytes)) 0 ≢ Some q

@@ -17,7 +17,7 @@ moved_front xs piece room end size full within =
     ∙ take-append-le (end - piece) (drop piece xs) (drop (0 + (room - piece)) xs) (omega arith)
     ∙ sym (drop-take piece (end - piece) xs) ∙ ap (λ n. drop piece (take n xs)) (omega arith)
 
-module _ {W : Type 0} (wrote : W → List ℕ → W → Type 0) (room : W → ℕ) (laws : WriterLaws wrote room) where
+module _ {W : Type 0} {wrote : W → List ℕ → W → Type 0} {room : W → ℕ} (laws : WriterLaws wrote room) where
   -- the kept bytes were sent as far as a full piece
   pub sent_but : (a b next : W) (old new now : Piece) (piece : ℕ) → now ≡ new → next ≡ b
       → wrote a (take piece (kept_bytes old)) b → kept_bytes new ≡ drop piece (kept_bytes old) → WroteBut wrote a (kept_bytes old) (kept_bytes now) next
@@ -31,17 +31,17 @@ module _ {W : Type 0} (wrote : W → List ℕ → W → Type 0) (room : W → �
   pub none_but : (a next : W) (old now : Piece) → now ≡ old → next ≡ a → WroteBut wrote a (kept_bytes old) (kept_bytes now) next
   none_but a next old now is same =
       subst (λ s. WroteBut wrote a (kept_bytes old) (kept_bytes s) next) (sym is)
-      (subst (λ w. WroteBut wrote a (kept_bytes old) (kept_bytes old) w) (sym same) (wrote_none wrote room laws a (kept_bytes old)))
+      (subst (λ w. WroteBut wrote a (kept_bytes old) (kept_bytes old) w) (sym same) (wrote_none laws a (kept_bytes old)))
 
   -- then the rest was sent
   pub rest_sent : {T E : Type 0} (r : Result T E) (a b next : W) (all rest : List ℕ) → WroteBut wrote a all rest b → OnOk r (wrote b rest next)
       → OnOk r (wrote a all next)
   rest_sent (Ok x) a b next all rest w went =
-      wrote_all wrote room laws a next all (wrote_next wrote room laws a b next all rest rest [] w (sym (append-nil rest)) went)
+      wrote_all laws a next all (wrote_next laws a b next all rest rest [] w (sym (append-nil rest)) went)
   rest_sent (Err e) a b next all rest w went = tt
 
   -- or a beginning of it
   pub rest_refused : {T E : Type 0} (r : Result T E) (IsFault : E → Type 0) (a b next : W) (all rest : List ℕ) → WroteBut wrote a all rest b
       → IfErr r (λ e. IsFault e × WroteBeginning wrote b rest next) → IfErr r (λ e. IsFault e × WroteBeginning wrote a all next)
   rest_refused (Ok x) IsFault a b next all rest w some = tt
-  rest_refused (Err e) IsFault a b next all rest w some = (some.0, wrote_part wrote room laws a b next all rest rest [] w (sym (append-nil rest)) some.1)
+  rest_refused (Err e) IsFault a b next all rest w some = (some.0, wrote_part laws a b next all rest rest [] w (sym (append-nil rest)) some.1)

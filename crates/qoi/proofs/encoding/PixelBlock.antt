@@ -8,7 +8,7 @@ use Rattle.qoi.proofs.format.SamePixels.{same_pixel}
 use Rattle.qoi.proofs.format.RawPixels.{pixels_of-append}
 
 -- the nth sixteen of some bytes are those of others
-abbrev pub SamePart : ℕ → List ℕ → List ℕ → Type 0
+abbrev SamePart : ℕ → List ℕ → List ℕ → Type 0
 SamePart n xs ys = take 16 (drop (16 * n) xs) ≡ take 16 (drop (16 * n) ys)
 
 -- the first three parts together

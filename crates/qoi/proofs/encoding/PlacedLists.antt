@@ -2,7 +2,7 @@
 use Rattle.std.proofs.Common.{◌≡◌, ℕ, Bool, true, false, not, ◌&&◌, ◌==◌, if◌then◌else◌, List, [], ◌∷◌, ◌++◌, length, Option, Some, refl, sym, ap, ◌∙◌, subst, arith, length-append}
 use Rattle.std.proofs.lemmas.Bool.{and_parts, cond_both, eqb-true, eq-eqb, true≢false}
 use Rattle.qoi.specs.declared.chunk.Chunk.{Chunk}
-use Rattle.qoi.specs.declared.chunk.Chunk.TheVariants.{Place, Diff, Luma, Run, Rgb, Rgba}
+use Rattle.qoi.specs.declared.chunk.Chunk.TheVariants.{Place, Run}
 use Rattle.qoi.specs.Qoi.{RgbaPixel, Past, previous, seen, hash, IsChunk, AreChunks, bytes_of, chunk_bytes, then_chunk, then_chunks, Each}
 use Rattle.qoi.specs.Written.{IsAllowedAfter}
 use Rattle.qoi.specs.Regular.{NamesPixelThere}
@@ -41,11 +41,7 @@ by_place P past before (Run n) cs same place = cond_both (is_placed past before 
     let w = parts past before n cs e in
     subst (λ k. P (Run k) (Place (hash (previous past)))) (sym w.single) (place (seen_last past w.some)))
     (λ e. same (Run n))
-by_place P past before (Place i) cs same place = same (Place i)
-by_place P past before (Diff d) cs same place = same (Diff d)
-by_place P past before (Luma d e) cs same place = same (Luma d e)
-by_place P past before (Rgb r g b) cs same place = same (Rgb r g b)
-by_place P past before (Rgba r g b a) cs same place = same (Rgba r g b a)
+by_place P past before c cs same place = same c
 
 -- its chunks are chunks
 pub placed_chunks : (past : Past) (before : Option Chunk) (cs : List Chunk) → AreChunks cs → AreChunks (placed_after past before cs)
@@ -92,10 +88,7 @@ placed_regular past before (c ∷ cs) h = (
 abbrev Named : Past → Option Chunk → List Chunk → ℕ → Chunk → Type 0
 Named past before cs i (Place j) = j ≡ i
 Named past before cs i (Run n) = Placed past before n cs × (hash (previous past) ≡ i)
-Named past before cs i (Diff d) = ⊥
-Named past before cs i (Luma d e) = ⊥
-Named past before cs i (Rgb r g b) = ⊥
-Named past before cs i (Rgba r g b a) = ⊥
+Named past before cs i c = ⊥
 
 -- the index position that a chunk names
 abbrev position : Chunk → ℕ
@@ -109,10 +102,7 @@ named past before (Run n) cs i e = go (is_placed past before n cs) refl e
     go true is e = (parts past before n cs is, ap position e)
     go false is e = absurd (let x = e in cc)
 named past before (Place j) cs i e = ap position e
-named past before (Diff d) cs i e = absurd (let x = e in cc)
-named past before (Luma d f) cs i e = absurd (let x = e in cc)
-named past before (Rgb r g b) cs i e = absurd (let x = e in cc)
-named past before (Rgba r g b a) cs i e = absurd (let x = e in cc)
+named past before c cs i e = absurd (let x = e in cc)
 
 -- the test for the same position passes
 same_names : (i j k : ℕ) → j ≡ i → k ≡ i → not (names (Some (Place j)) k) ≡ true → ⊥
@@ -130,18 +120,9 @@ apart_first Choice past before (Place j) (Run n) cs i right e f = same_names i j
 apart_first Choice past before (Run n) (Place k) cs i right e f =
     right.is_fresh (ap (seen (then_chunk past (Run n))) f ∙ repeated past n i e.0.single e.1)
 apart_first Choice past before (Run n) (Run m) cs i right e f = true≢false (sym e.0.next)
-apart_first Choice past before (Place j) (Diff d) cs i right e f = f
-apart_first Choice past before (Place j) (Luma d g) cs i right e f = f
-apart_first Choice past before (Place j) (Rgb r g b) cs i right e f = f
-apart_first Choice past before (Place j) (Rgba r g b a) cs i right e f = f
-apart_first Choice past before (Run n) (Diff d) cs i right e f = f
-apart_first Choice past before (Run n) (Luma d g) cs i right e f = f
-apart_first Choice past before (Run n) (Rgb r g b) cs i right e f = f
-apart_first Choice past before (Run n) (Rgba r g b a) cs i right e f = f
-apart_first Choice past before (Diff x) d cs i right e f = e
-apart_first Choice past before (Luma x y) d cs i right e f = e
-apart_first Choice past before (Rgb x y z) d cs i right e f = e
-apart_first Choice past before (Rgba x y z w) d cs i right e f = e
+apart_first Choice past before (Place j) d cs i right e f = f
+apart_first Choice past before (Run n) d cs i right e f = f
+apart_first Choice past before c d cs i right e f = e
 
 -- so it is throughout the list
 pub placed_apart : (Choice : Past → RgbaPixel → Chunk → Type 0) (past : Past) (before : Option Chunk) (cs front rest : List Chunk) (i : ℕ)

@@ -1,29 +1,24 @@
 -- The groups of repeats among four pixels.
 use Rattle.std.proofs.Common.{get_or, ◌≡◌, ◌≢◌, ℕ, zero, suc, ◌+◌, ◌^◌, ◌<◌, ◌≤◌, List, [], ◌∷◌, length, take, drop, map, slice_index, Some, refl, sym, ap, ◌∙◌, arith, subst}
 use Rattle.std.specs.List.{AllByRecursion, slice_get}
-use Rattle.std.proofs.lemmas.List.{get_or-take, get_or-drop, length-drop}
+use Rattle.std.proofs.lemmas.List.{get_or-take, get_or-drop, length-drop, take-append-drop, take-map, drop-map}
 use Rattle.std.proofs.Math.Seq.{drop-cons}
-use Rattle.qoi.specs.Qoi.{RgbaPixel, IsPixel, blank, hash}
+use Rattle.std.proofs.lemmas.Option.{same_Some}
+use Rattle.qoi.specs.Qoi.{RgbaPixel, IsPixel, blank}
 use Rattle.qoi.specs.Runs.{IsCount}
 use Rattle.qoi.specs.inner.Packed.{word, pixel_of_word}
 use Rattle.qoi.specs.inner.Lanes.{AreFourAfter, IsRun}
-use Rattle.qoi.proofs.encoding.GroupRuns.{some_same}
+use Rattle.qoi.proofs.encoding.GroupRuns.{nth_first}
+use Rattle.qoi.proofs.encoding.WrittenGrows.{all_back}
 use Rattle.qoi.proofs.encoding.SpelledLanes.{unpacked}
 use Rattle.qoi.proofs.encoding.QuadLoop.{next_before}
-
--- the index position of a lane's pixel
-pub place_lane : (xs : List ℕ) (k : ℕ) → slice_index (map (λ w. hash (pixel_of_word w)) xs) k ≡ hash (pixel_of_word (slice_index xs k))
-unfolding hash
-place_lane [] k = refl
-place_lane (x ∷ xs) zero = refl
-place_lane (x ∷ xs) (suc k) = place_lane xs k
 
 -- a pixel packed has 32 bits
 word_below : (p : RgbaPixel) → IsPixel p → word p < 2 ^ 32
 word_below p i = omega (arith, i.r, i.g, i.b, i.a)
 
 -- a number packed again
-pub packed : (w : ℕ) → w < 2 ^ 32 → word (pixel_of_word w) ≡ w
+packed : (w : ℕ) → w < 2 ^ 32 → word (pixel_of_word w) ≡ w
 packed w l = omega arith
 
 -- numbers that repeat are pixels that repeat
@@ -33,7 +28,7 @@ run_count : (w : ℕ) (ps : List RgbaPixel) (n : ℕ) → w < 2 ^ 32 → AllByRe
 run_count w [] n l are few same stops = absurd (omega arith)
 run_count w (p ∷ ps) zero l are few same stops = record {
   same = refl;
-  other = λ e. stops (let is : p ≡ pixel_of_word w = some_same e in ap word is ∙ packed w l);
+  other = λ e. stops (let is : p ≡ pixel_of_word w = same_Some _ _ e in ap word is ∙ packed w l);
 }
 run_count w (p ∷ ps) (suc n) l are few same stops =
     let e : word p ≡ w = same 0 (omega arith) in
@@ -45,27 +40,12 @@ run_count w (p ∷ ps) (suc n) l are few same stops =
       other = rest.other;
     }
 
-map_take : (n : ℕ) (ps : List RgbaPixel) → map word (take n ps) ≡ take n (map word ps)
-map_take zero ps = refl
-map_take (suc n) [] = refl
-map_take (suc n) (p ∷ ps) = ap (λ ws. word p ∷ ws) (map_take n ps)
-
-map_drop : (n : ℕ) (ps : List RgbaPixel) → map word (drop n ps) ≡ drop n (map word ps)
-map_drop zero ps = refl
-map_drop (suc n) [] = refl
-map_drop (suc n) (p ∷ ps) = map_drop n ps
-
-all_drop : (n : ℕ) (ps : List RgbaPixel) → AllByRecursion IsPixel ps → AllByRecursion IsPixel (drop n ps)
-all_drop zero ps a = a
-all_drop (suc n) [] a = a
-all_drop (suc n) (p ∷ ps) a = all_drop n ps a.1
-
 -- The repeats of the pixel before a lane are those that the lanes count, where a lane stops them.
 module _ {last : RgbaPixel} {pixels : List RgbaPixel} {cur prev : List ℕ} (four : AreFourAfter last pixels cur prev) (at n : ℕ) where
   lane : (k : ℕ) → at + k < 4 → slice_index (map word (drop at pixels)) k ≡ slice_index cur (at + k)
   lane k l =
-      ap (λ ws. slice_index ws k) (map_drop at pixels) ∙ get_or-drop at (map word pixels) k 0
-      ∙ sym (get_or-take 4 (map word pixels) (at + k) 0 l) ∙ ap (λ ws. slice_index ws (at + k)) (sym (map_take 4 pixels) ∙ sym four.pixels_are)
+      ap (λ ws. slice_index ws k) (sym (drop-map word at pixels)) ∙ get_or-drop at (map word pixels) k 0
+      ∙ sym (get_or-take 4 (map word pixels) (at + k) 0 l) ∙ ap (λ ws. slice_index ws (at + k)) (take-map word 4 pixels ∙ sym four.pixels_are)
 
   behind : (k : ℕ) → at + k < 4 → slice_index (slice_index prev at ∷ map word (drop at pixels)) k ≡ slice_index prev (at + k)
   behind zero l = ap (slice_index prev) (omega arith)
@@ -73,7 +53,7 @@ module _ {last : RgbaPixel} {pixels : List RgbaPixel} {cur prev : List ℕ} (fou
 
   pub quad_count : slice_index prev at < 2 ^ 32 → at + n < 4 → IsRun cur prev at n → IsCount (pixel_of_word (slice_index prev at)) (drop at pixels) n
   quad_count l short run =
-      run_count (slice_index prev at) (drop at pixels) n l (all_drop at pixels four.are) (let long = four.long in omega (arith, length-drop at pixels))
+      run_count (slice_index prev at) (drop at pixels) n l (all_back IsPixel (take at pixels) (drop at pixels) (subst (AllByRecursion IsPixel) (sym (take-append-drop at pixels)) four.are)) (let long = four.long in omega (arith, length-drop at pixels))
       (λ k lt. lane k (omega arith) ∙ run.same (at + k) (omega arith) (omega arith) ∙ sym (behind k (omega arith)))
       (λ e. run.stops short (sym (lane n short) ∙ e ∙ behind n short))
 
@@ -105,9 +85,4 @@ lane_ahead {pixels = pixels} {cur = cur} four k lt =
 
 -- the first pixel behind counted ones is another
 pub count_other : (p : RgbaPixel) (pixels : List RgbaPixel) (n : ℕ) → IsCount p pixels n → slice_get (drop n pixels) 0 ≢ Some p
-count_other p pixels n count e = count.other (nth n pixels ∙ e)
-  where
-    nth : (k : ℕ) (xs : List RgbaPixel) → slice_get xs k ≡ slice_get (drop k xs) 0
-    nth zero xs = refl
-    nth (suc k) [] = refl
-    nth (suc k) (x ∷ xs) = nth k xs
+count_other p pixels n count e = count.other (nth_first n pixels ∙ e)

@@ -1,11 +1,12 @@
 -- The lanes of four pixels and the pixels before them.
-use Rattle.std.proofs.Common.{◌≡◌, ℕ, zero, suc, ◌+◌, ◌*◌, ◌/◌, ◌^◌, ◌<◌, ◌≤◌, inl, inr, List, [], ◌∷◌, length, take, map, slice_index, sym, ap, ◌∙◌, arith, subst}
+use Rattle.std.proofs.Common.{◌≡◌, ℕ, zero, suc, ◌+◌, ◌*◌, ◌/◌, ◌^◌, ◌<◌, ◌≤◌, inl, inr, List, [], ◌∷◌, length, take, drop, map, slice_index, sym, ap, ◌∙◌, arith, subst}
 use Rattle.std.specs.List.{AllByRecursion}
-use Rattle.std.proofs.lemmas.List.{get_or-take, length-take-le, length-map}
+use Rattle.std.proofs.lemmas.List.{get_or-take, length-take-le, length-map, take-append-drop}
 use Rattle.qoi.specs.Qoi.{AreBytes, RgbaPixel, IsPixel}
 use Rattle.qoi.specs.Raw.{IsChannels, pixels_of, pixels_of_3, pixels_of_4}
 use Rattle.qoi.specs.inner.Packed.{word}
 use Rattle.qoi.specs.inner.Lanes.{SameAlpha, AreOpaqueWords, AreFourAfter}
+use Rattle.qoi.proofs.encoding.WrittenGrows.{all_front}
 
 -- enough bytes have four pixels
 three_long : (bytes : List ℕ) → 16 ≤ length bytes → 4 ≤ length (pixels_of_3 bytes)
@@ -47,11 +48,6 @@ words_below [] k a = omega arith
 words_below (p ∷ ps) zero a = let i = a.0 in omega (arith, i.r, i.g, i.b, i.a)
 words_below (p ∷ ps) (suc k) a = words_below ps k a.1
 
-all_take : (n : ℕ) (ps : List RgbaPixel) → AllByRecursion IsPixel ps → AllByRecursion IsPixel (take n ps)
-all_take zero ps a = tt
-all_take (suc n) [] a = tt
-all_take (suc n) (p ∷ ps) a = (a.0, all_take n ps a.1)
-
 -- of four pixels after the ones before them
 module _ {last : RgbaPixel} {pixels : List RgbaPixel} {cur prev : List ℕ} (are : AreFourAfter last pixels cur prev) where
   pub cur_length : length cur ≡ 4
@@ -61,7 +57,8 @@ module _ {last : RgbaPixel} {pixels : List RgbaPixel} {cur prev : List ℕ} (are
   prev_length = ap length are.before_are ∙ omega (arith, length-take-le 3 cur (omega (arith, cur_length)))
 
   pub cur_below : (k : ℕ) → slice_index cur k < 2 ^ 32
-  cur_below k = subst (λ xs. slice_index xs k < 2 ^ 32) (sym are.pixels_are) (words_below (take 4 pixels) k (all_take 4 pixels are.are))
+  cur_below k = subst (λ xs. slice_index xs k < 2 ^ 32) (sym are.pixels_are) (words_below (take 4 pixels) k
+      (all_front IsPixel (take 4 pixels) (drop 4 pixels) (subst (AllByRecursion IsPixel) (sym (take-append-drop 4 pixels)) are.are)))
 
   pub prev_below : (k : ℕ) → k < 4 → slice_index prev k < 2 ^ 32
   prev_below k lt = subst (λ xs. slice_index xs k < 2 ^ 32) (sym are.before_are) (go k lt)

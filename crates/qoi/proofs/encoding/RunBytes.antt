@@ -56,7 +56,7 @@ runs_text c n =
     ∙ ap (λ cs. replicate (n / 62) 253 ++ chunk_bytes cs) (sym (few_by c (n % 62) (omega arith)))
 
 -- the bytes after sixteen full runs are stored
-abbrev pub filled : ℕ → List ℕ → List ℕ
+abbrev filled : ℕ → List ℕ → List ℕ
 filled at out = put_mid at (at + 16 - at) out (put_chunk 0 (take (at + 16 - at) (drop at out)) (replicate 16 253))
 
 -- the first of them

@@ -1,15 +1,17 @@
 -- The first chunk that spells a pixel out, as the lanes of a vector find it.
-use Rattle.std.proofs.Common.{◌≡◌, ◌↔◌, ℕ, zero, suc, ◌+◌, ◌*◌, ◌/◌, ◌%◌, ◌^◌, ◌<◌, ◌≤◌, Bool, true, false, inl, inr, cond, eqb, eqb-true, eq-eqb, IsTrue, List, [], ◌∷◌, ◌++◌, length, take, slice_index, refl, sym, ap, ◌∙◌, arith, bit_and, Fits, w32}
+use Rattle.std.proofs.Common.{◌≡◌, ◌↔◌, ℕ, zero, suc, ◌+◌, ◌*◌, ◌/◌, ◌%◌, ◌^◌, ◌<◌, ◌≤◌, Bool, true, false, inl, inr, cond, eqb, eqb-true, eq-eqb, IsTrue, List, [], ◌∷◌, ◌++◌, length, take, slice_index, refl, ap, ◌∙◌, arith, subst, bit_and, Fits, w32}
 use Rattle.std.proofs.lemmas.Nat.{and_mask, and_block}
-use lib.Lanes.{Each1, digits_l}
+use Rattle.std.proofs.lemmas.Simd.{get_or-zip2, Each1-get_or}
+use lib.Lanes.{Each1, zip2, digits_l}
 use Rattle.qoi.specs.declared.chunk.Chunk.{Chunk}
-use Rattle.qoi.specs.Qoi.{RgbaPixel, IsPixel, IsChunk, bytes_of}
+use Rattle.qoi.specs.Qoi.{RgbaPixel, IsPixel, bytes_of}
 use Rattle.qoi.specs.Raw.{IsChannels}
+use Rattle.qoi.specs.Written.{IsFirst}
 use Rattle.qoi.specs.inner.Packed.{word, pixel_of_word}
 use Rattle.qoi.specs.declared.encode.quad.Quad.{Quad}
-use Rattle.qoi.specs.inner.Lanes.{steps, diff_steps, luma_steps, stepped, step_word, diff_word, luma_word, plus_32, diff_number, luma_number, rgb_number, spelled_number, spelled_count, SameAlpha, IsSpelled}
+use Rattle.qoi.specs.inner.Lanes.{steps, diff_steps, luma_steps, step_word, diff_word, luma_word, plus_32, diff_number, luma_number, rgb_number, spelled_number, spelled_count, SameAlpha, IsSpelled}
 use Rattle.qoi.proofs.format.SamePixels.{same_pixel}
-use Rattle.qoi.proofs.encoding.SpelledSteps.{diff_bits, luma_bits, spelled, spelled_first}
+use Rattle.qoi.proofs.encoding.Spelled.{FitsDiff, FitsLuma, diff_bits, luma_bits, spelled, spelled_chunk, spelled_first}
 
 -- the highest bits of a byte
 and_fc : (x : ℕ) → x < 256 → bit_and x 252 ≡ x / 4 * 4
@@ -108,28 +110,21 @@ full_fourth : (p n : ℕ) → n ≤ 1 → plus_32 (rgb_number p) n / 256 / 256 /
 full_fourth p n l = omega arith
 
 -- the bytes of the choice
-chunk_bytes : (d l k : Bool) (sm wi : RgbaPixel) (p : ℕ) → (d ≡ true → diff_bits sm ≡ sm) → (l ≡ true → luma_bits wi ≡ wi)
+spelled_bytes : (d l k : Bool) (sm wi : RgbaPixel) (p : ℕ) → (d ≡ true → diff_bits sm ≡ sm) → (l ≡ true → luma_bits wi ≡ wi)
     → take (cond d 1 (cond l 2 (plus_32 4 (cond k 0 1)))) (digits_l 256 4
     (cond d (diff_number (word sm)) (cond l (luma_number (word wi)) (plus_32 (rgb_number p) (cond k 0 1)))) ++ (p / 2 ^ 24) ∷ [])
     ≡ bytes_of (spelled d l k (diff_bits sm) (luma_bits wi) (pixel_of_word p))
-chunk_bytes true l k sm wi p hd hl =
+spelled_bytes true l k sm wi p hd hl =
     let e = hd refl in
     λ i. diff_low sm.r sm.g sm.b sm.a (ap (λ z. z.r) e) (ap (λ z. z.g) e) (ap (λ z. z.b) e) (ap (λ z. z.a) e) i ∷ []
-chunk_bytes false true k sm wi p hd hl =
+spelled_bytes false true k sm wi p hd hl =
     let e = hl refl in
     λ i. luma_low wi.r wi.g wi.b wi.a (ap (λ z. z.r) e) (ap (λ z. z.g) e) (ap (λ z. z.b) e) (ap (λ z. z.a) e) i ∷ luma_next wi.r wi.g wi.b wi.a
     (ap (λ z. z.r) e) (ap (λ z. z.g) e) (ap (λ z. z.b) e) (ap (λ z. z.a) e) i ∷ []
-chunk_bytes false false true sm wi p hd hl = λ i. full_first p 0 (omega arith) i ∷ full_second p 0 (omega arith) i ∷ full_third p 0
+spelled_bytes false false true sm wi p hd hl = λ i. full_first p 0 (omega arith) i ∷ full_second p 0 (omega arith) i ∷ full_third p 0
     (omega arith) i ∷ full_fourth p 0 (omega arith) i ∷ []
-chunk_bytes false false false sm wi p hd hl = λ i. full_first p 1 (omega arith) i ∷ full_second p 1 (omega arith) i ∷ full_third p 1
+spelled_bytes false false false sm wi p hd hl = λ i. full_first p 1 (omega arith) i ∷ full_second p 1 (omega arith) i ∷ full_third p 1
     (omega arith) i ∷ full_fourth p 1 (omega arith) i ∷ (p / 2 ^ 24) ∷ []
-
--- it is a chunk
-chosen_chunk : (d l k : Bool) (sm wi p : RgbaPixel) → IsPixel p → IsChunk (spelled d l k (diff_bits sm) (luma_bits wi) p)
-chosen_chunk true l k sm wi p i = (omega arith, omega arith)
-chosen_chunk false true k sm wi p i = (omega arith, omega arith, omega arith)
-chosen_chunk false false true sm wi p i = (i.r, i.g, i.b)
-chosen_chunk false false false sm wi p i = (i.r, i.g, i.b, i.a)
 
 -- numbers of 32 bits are pixels
 of_word : (p : ℕ) → p < 2 ^ 32 → IsPixel (pixel_of_word p)
@@ -191,24 +186,13 @@ module _ (p q : ℕ) (lp : p < 2 ^ 32) (lq : q < 2 ^ 32) where
       let lt = is_luma wi (luma_pixel s is_s) in
       let kt = keeps_alpha s is_s in
       record {
-        chunk = chosen_chunk d l k sm wi (pixel_of_word p) (of_word p lp);
-        bytes = (λ i. take (count_is i) (digits_l 256 4 (number_is i) ++ (p / 2 ^ 24) ∷ [])) ∙ chunk_bytes d l k sm wi p dt.0 lt.0;
-        first = λ past before e. spelled_first past (pixel_of_word p) before (of_word p lp) s sm (diff_bits sm) wi (luma_bits wi) d l k
-            (λ i. steps (sym e i) (pixel_of_word p)) refl refl refl refl dt lt kt;
+        chunk = spelled_chunk d l k sm wi (pixel_of_word p) (of_word p lp);
+        bytes = (λ i. take (count_is i) (digits_l 256 4 (number_is i) ++ (p / 2 ^ 24) ∷ [])) ∙ spelled_bytes d l k sm wi p dt.0 lt.0;
+        first = λ past before e. (let P = pixel_of_word p in
+            subst (λ z. (IsTrue d ↔ FitsDiff z P) → (IsTrue l ↔ FitsLuma z P) → (IsTrue k ↔ ((steps z P).a ≡ 0))
+            → IsFirst past P (spelled d l k (diff_bits (diff_steps (steps z P))) (luma_bits (luma_steps (steps z P))) P))
+            e (spelled_first past P before (of_word p lp) d l k) dt lt kt);
       }
-
--- the lanes of four
-stepped_at : (f : ℕ → ℕ → ℕ) (xs ys : List ℕ) (k : ℕ) → k < length xs → k < length ys
-    → slice_index (stepped f xs ys) k ≡ f (slice_index xs k) (slice_index ys k)
-stepped_at f [] ys k h j = absurd (omega arith)
-stepped_at f (x ∷ xs) [] k h j = absurd (omega arith)
-stepped_at f (x ∷ xs) (y ∷ ys) zero h j = refl
-stepped_at f (x ∷ xs) (y ∷ ys) (suc k) h j = stepped_at f xs ys k (omega arith) (omega arith)
-
-lane_fits : (xs : List ℕ) (k : ℕ) → Each1 (Fits w32) xs → slice_index xs k < 2 ^ 32
-lane_fits [] k f = omega arith
-lane_fits (x ∷ xs) zero f = f.0.fits
-lane_fits (x ∷ xs) (suc k) f = lane_fits xs k f.1
 
 -- the chunk that spells out a lane of four
 pub quad_spelled : {N : ℕ} (quad : Quad N) (k : ℕ) → k < 4
@@ -218,8 +202,8 @@ quad_spelled quad k lt =
     let q = slice_index quad.before k in
     let l : k < length quad.pixels = omega (arith, quad.four.0) in
     let m : k < length quad.before = omega (arith, quad.four_before.0) in
-    let number = ap (λ xs. slice_index xs k) quad.numbers_are ∙ stepped_at spelled_number quad.pixels quad.before k l m in
-    let size = ap (λ xs. slice_index xs k) quad.sizes_are ∙ stepped_at spelled_count quad.pixels quad.before k l m in
+    let number = ap (λ xs. slice_index xs k) quad.numbers_are ∙ get_or-zip2 spelled_number quad.pixels quad.before k 0 0 0 l m in
+    let size = ap (λ xs. slice_index xs k) quad.sizes_are ∙ get_or-zip2 spelled_count quad.pixels quad.before k 0 0 0 l m in
     let lp = quad.four.1 k in
     let lq = quad.four_before.1 k in
     (chunk_of_lanes p q lp lq, rw (number, size) (spelled_lane p q lp lq))
@@ -256,13 +240,14 @@ same_at (p ∷ ps) (q ∷ qs) zero h j s = s.0
 same_at (p ∷ ps) (q ∷ qs) (suc k) h j s = same_at ps qs k (omega arith) (omega arith) s.1
 
 pub counts_few : (n : ℕ) (cur prev counts : List ℕ) → IsChannels n → length cur ≡ 4 → length prev ≡ 4 → Each1 (Fits w32) cur → Each1 (Fits w32) prev
-    → (n ≡ 3 → SameAlpha cur prev) → counts ≡ stepped spelled_count cur prev
+    → (n ≡ 3 → SameAlpha cur prev) → counts ≡ zip2 spelled_count cur prev
     → (k : ℕ) → k < 4 → slice_index counts k ≤ n + 1
 counts_few n cur prev counts is e g f h same ce k lt =
     let m : slice_index counts k ≡ spelled_count (slice_index cur k) (slice_index prev k) = ap (λ xs. slice_index xs k) ce
-    ∙ stepped_at spelled_count cur prev k (omega arith) (omega arith) in
+    ∙ get_or-zip2 spelled_count cur prev k 0 0 0 (omega arith) (omega arith) in
     elim is [
-      | inl three ↦ (let few = same_alpha_few (slice_index cur k) (slice_index prev k) (lane_fits cur k f) (lane_fits prev k h)
+      | inl three ↦ (let few = same_alpha_few (slice_index cur k) (slice_index prev k)
+          (Each1-get_or (Fits w32) cur k 0 (omega arith) f).fits (Each1-get_or (Fits w32) prev k 0 (omega arith) h).fits
           (same_at cur prev k (omega arith) (omega arith) (same three)) in omega arith)
       | inr four ↦ (let few = few_bytes (slice_index cur k) (slice_index prev k) in omega arith)
     ]

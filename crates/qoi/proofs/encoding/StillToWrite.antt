@@ -10,7 +10,7 @@ use Rattle.qoi.specs.Runs.{last_by, runs_by}
 use Rattle.qoi.specs.Written.{WrittenBy}
 use Rattle.qoi.specs.Styles.{fresh_next, choice_in}
 pub use Rattle.qoi.specs.inner.CoderLoop.{ImageList, StillToWrite}
-use Rattle.qoi.proofs.encoding.GroupRuns.{some_same}
+use Rattle.std.proofs.lemmas.Option.{same_Some}
 use Rattle.qoi.proofs.format.ChunkSteps.{previous_repeats, reverse-replicate}
 use Rattle.qoi.proofs.format.SamePixels.{cases_pixel}
 use Rattle.qoi.proofs.encoding.WrittenGrows.{RunMayFollow, all_back, written_none, full_runs, written_runs, written_fresh}
@@ -184,7 +184,7 @@ module _ (l : ImageList) where
                 ∙ append_assoc (reverse group) (p ∷ []) more ∙ ap (λ x. reverse group ++ x) (sym ahead) in
                 let list = subst (λ x. WrittenBy Choice x ((w.done ++ runs_by (Run 1) n) ++ c.0 ∷ all.0)) pixels
                 (subst (WrittenBy Choice (reverse (p ∷ group) ++ more)) (append_assoc (w.done ++ runs_by (Run 1) n) (c.0 ∷ []) all.0) all.1) in
-                let r = ended (c.0 ∷ all.0) (λ e. other (some_same (sym first ∙ e))) list in
+                let r = ended (c.0 ∷ all.0) (λ e. other (same_Some _ _ (sym first ∙ e))) list in
                 (c.0 ∷ all.0, r.0, r.1)
             by_next (inl same) = by_end ends
               where

@@ -2,13 +2,13 @@
 use Rattle.std.proofs.Common.{◌≡◌, ℕ, zero, suc, ◌+◌, ◌*◌, ◌/◌, ◌%◌, true, false, not, Bool, ◌&&◌, nat_eq, nat_lt, ◌<◌, ◌⊎◌, inl, inr, if◌then◌else◌, List, [], ◌∷◌, ◌++◌, replicate, Option, Some, refl, sym, ap, ◌∙◌, arith, append_assoc}
 use Rattle.std.proofs.lemmas.Bool.{lt-ltb, ne_eqb}
 use Rattle.qoi.specs.declared.chunk.Chunk.{Chunk}
-use Rattle.qoi.specs.declared.chunk.Chunk.TheVariants.{Place, Diff, Luma, Run, Rgb, Rgba}
+use Rattle.qoi.specs.declared.chunk.Chunk.TheVariants.{Place, Run}
 use Rattle.qoi.specs.declared.types.Style.{Style}
 use Rattle.qoi.specs.declared.types.Style.TheVariants.{Reference, Places, Tight}
 use Rattle.qoi.specs.Qoi.{RgbaPixel, Past, previous, hash, pixel_after, then_chunk}
 use Rattle.qoi.specs.Runs.{last_by, runs_by}
 use Rattle.qoi.specs.Styles.{is_run, fresh_next, has_pixel, some_fresh, names, place_for, placed_after, styled}
-use Rattle.qoi.specs.inner.CoderState.{rest_of_one, last_chunk}
+use Rattle.qoi.specs.inner.CoderState.{single_chunk, last_chunk}
 use Rattle.qoi.proofs.format.ChunkSteps.{previous_repeats, repeats_after, then_other}
 use Rattle.qoi.proofs.encoding.CoderTable.{fresh_repeats}
 use Rattle.qoi.proofs.encoding.GroupRuns.{not_one}
@@ -47,18 +47,14 @@ long_stays r past before cs = ap (λ t. if t && fresh_next cs && some_fresh past
 -- a chunk other than a run stays
 other_stays : (past : Past) (before : Option Chunk) (c : Chunk) (cs : List Chunk) → is_run c ≡ false → place_for past before c cs ≡ c
 other_stays past before (Run n) cs e = absurd (let x = e in cc)
-other_stays past before (Place i) cs e = refl
-other_stays past before (Diff d) cs e = refl
-other_stays past before (Luma d f) cs e = refl
-other_stays past before (Rgb r g b) cs e = refl
-other_stays past before (Rgba r g b a) cs e = refl
+other_stays past before c cs e = refl
 
 -- a rest before a chunk other than a run
 abbrev single : Past → Option Chunk → Chunk
 single past before = if some_fresh past && not (names before (hash (previous past))) then Place (hash (previous past)) else Run 1
 
 -- how the rest of a group of n is written, where it is single
-single_is : (past : Past) (before : Option Chunk) (k : ℕ) → single (replicate (62 * k) (previous past) ++ past) (before_rest before k) ≡ rest_of_one Places
+single_is : (past : Past) (before : Option Chunk) (k : ℕ) → single (replicate (62 * k) (previous past) ++ past) (before_rest before k) ≡ single_chunk Places
     (some_fresh past) (names before (hash (previous past))) (hash (previous past)) (62 * k + 1)
 single_is past before zero = refl
 single_is past before (suc k) =
@@ -82,11 +78,11 @@ last_fulls : (k : ℕ) (before : Option Chunk) (cs : List Chunk) → last_chunk 
 last_fulls zero before cs = refl
 last_fulls (suc k) before cs = last_fulls k (Some (Run 62)) cs ∙ ap (λ b. last_chunk b cs) (behind_full k)
 
--- How a rest of 1 is written before these chunks: at the end by a run, and before a fresh pixel as the style has it.
+-- How a single repeat that is left of a group is written before these chunks: at the end by a run, and before a fresh pixel as the style has it.
 abbrev pub WritesOne : Style → Past → Option Chunk → ℕ → List Chunk → Chunk → Type 0
 WritesOne style past before n left one =
     ((left ≡ []) × (one ≡ Run 1)) ⊎ ((fresh_next left ≡ true)
-    × (one ≡ rest_of_one style (some_fresh past) (names before (hash (previous past))) (hash (previous past)) n))
+    × (one ≡ single_chunk style (some_fresh past) (names before (hash (previous past))) (hash (previous past)) n))
 
 -- the rest of a group behind its full runs
 rest_stays : (r : ℕ) (past : Past) (before : Option Chunk) (left : List Chunk) (one : Chunk)
@@ -126,7 +122,7 @@ styled_runs Places past before n left one is =
     = λ e. (let whole : 62 * k + 1 ≡ n = omega arith in
     elim (is e) [
       | inl p ↦ inl p
-      | inr p ↦ inr (p.0, p.1 ∙ ap (rest_of_one Places (some_fresh past) (names before (hash q)) (hash q)) (sym whole) ∙ sym (single_is past before k))
+      | inr p ↦ inr (p.0, p.1 ∙ ap (single_chunk Places (some_fresh past) (names before (hash q)) (hash q)) (sym whole) ∙ sym (single_is past before k))
     ]) in
     ap (λ x. placed_after past before x) (append_assoc (replicate k (Run 62)) (last_by (Run 1) r) left)
     ∙ full_stay k past before (last_by (Run 1) r ++ left)

@@ -1,6 +1,7 @@
 -- The tight choice of a chunk: for each fresh pixel there is one, and it gives the pixel.
 use Rattle.std.proofs.Common.{◌≡◌, ◌≢◌, ◌⊎◌, inl, inr, ℕ, zero, suc, ◌+◌, ◌<◌, ◌≤◌, Bool, true, false, not, ◌||◌, ◌==◌, if◌then◌else◌, [], ◌∷◌, Option, None, Some, is_some, MatchOption, refl, sym, ap, ◌∙◌, subst, arith}
 use Rattle.std.specs.List.{find, list_any, range_with_len}
+use Rattle.std.proofs.lemmas.Option.{same_Some}
 use Rattle.std.proofs.lemmas.Bool.{cases_eq, cond-true, cond-false, ne_eqb, true≢false, or_parts}
 use Rattle.qoi.specs.declared.chunk.Chunk.{Chunk}
 use Rattle.qoi.specs.declared.chunk.Chunk.TheVariants.{Place, Rgba}
@@ -12,7 +13,8 @@ use Rattle.qoi.specs.inner.Table.{first_blank}
 use Rattle.qoi.proofs.format.SamePixels.{cases_pixel, hash_below, pixel_eq-from, pixel_eq-ne}
 use Rattle.qoi.proofs.encoding.NotedPixels.{seen_same, seen_other}
 use Rattle.qoi.proofs.encoding.Choices.{Chooses}
-use Rattle.qoi.proofs.encoding.WrittenExists.{first_some, spells_other, spells_no_place}
+use Rattle.qoi.proofs.encoding.Spelled.{first_some}
+use Rattle.qoi.proofs.encoding.WrittenExists.{spells_other, spells_no_place}
 use Rattle.qoi.proofs.encoding.WrittenOnce.{first_unique}
 
 -- repeats that are put change nothing that an index position holds
@@ -62,12 +64,9 @@ found : (test : ℕ → Bool) (a n i : ℕ) → find test (range_with_len a n) �
 found test a zero i e = absurd (let x = e in cc)
 found test a (suc n) i e = go (λ f. found test (a + 1) n i f) (test a) refl e
   where
-    same : (j : ℕ) → Some j ≡ Some i → j ≡ i
-    same j e = cc
-
     go : (find test (range_with_len (a + 1) n) ≡ Some i → (test i ≡ true) × (i < a + 1 + n)) → (t : Bool) → test a ≡ t
         → (if t then Some a else find test (range_with_len (a + 1) n)) ≡ Some i → (test i ≡ true) × (i < a + suc n)
-    go on true t e = let s = same a e in (subst (λ j. test j ≡ true) s t, omega arith)
+    go on true t e = let s = same_Some a i e in (subst (λ j. test j ≡ true) s t, omega arith)
     go on false t e = let more = on e in (more.0, omega (arith, more.1))
 
 -- where a number passes the test, one is found

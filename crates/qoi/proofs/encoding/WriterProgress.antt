@@ -2,7 +2,7 @@
 use Rattle.std.proofs.Common.{◌≡◌, ℕ, ◌≤◌, List, [], ◌++◌, length, refl, sym, ap, ◌∙◌, subst, append_assoc, append-nil, length-append, arith}
 use Rattle.qoi.specs.writers.Writes.{WriterLaws, WroteBut, WroteBeginning}
 
-module _ {W : Type 0} (wrote : W → List ℕ → W → Type 0) (room : W → ℕ) (laws : WriterLaws wrote room) where
+module _ {W : Type 0} {wrote : W → List ℕ → W → Type 0} {room : W → ℕ} (laws : WriterLaws wrote room) where
   -- nothing was written yet
   pub wrote_none : (start : W) (all : List ℕ) → WroteBut wrote start all all start
   wrote_none start all = record { front = []; split = refl; went = laws.nothing start }

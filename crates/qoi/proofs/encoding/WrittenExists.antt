@@ -1,16 +1,15 @@
 -- Each image has a written list, whatever the choice of a chunk for a fresh pixel, if there is one for each.
-use Rattle.std.proofs.Common.{◌≡◌, ◌≢◌, ◌⊎◌, inl, inr, ℕ, suc, ◌<◌, false, List, [], ◌∷◌, ◌++◌, reverse, replicate, Some, refl, sym, ap, ◌∙◌, subst, subst₂, append_assoc, append-nil, arith}
+use Rattle.std.proofs.Common.{◌≡◌, ◌≢◌, inl, inr, ℕ, suc, ◌<◌, false, List, [], ◌∷◌, ◌++◌, reverse, replicate, Some, refl, sym, ap, ◌∙◌, subst, subst₂, append_assoc, append-nil, arith}
 use Rattle.std.proofs.lemmas.List.{reverse-append}
-use Rattle.std.proofs.lemmas.Bool.{cases_lt, cases_eq}
 use Rattle.std.specs.List.{AllByRecursion}
 use Rattle.qoi.specs.declared.chunk.Chunk.{Chunk}
-use Rattle.qoi.specs.declared.chunk.Chunk.TheVariants.{Place, Diff, Luma, Run, Rgb, Rgba}
+use Rattle.qoi.specs.declared.chunk.Chunk.TheVariants.{Place, Run}
 use Rattle.qoi.specs.Qoi.{RgbaPixel, IsPixel, Past, previous, start, hash, IsChunk, pixel_after}
 use Rattle.qoi.specs.Runs.{runs_by}
-use Rattle.qoi.specs.Written.{noted, rank, IsFirst, IsChoice, WrittenBy}
+use Rattle.qoi.specs.Written.{noted, rank, IsChoice, WrittenBy}
 use Rattle.qoi.proofs.format.SamePixels.{cases_pixel, hash_below}
 use Rattle.qoi.proofs.encoding.NotedPixels.{noted_seen}
-use Rattle.qoi.proofs.encoding.Spelled.{FitsDiff, FitsLuma, plus_2, plus_8, plus_32, diff_byte, luma_byte, luma_second, diff_chunk, luma_chunk, first_diff, first_luma, first_rgb, first_rgba}
+use Rattle.qoi.proofs.encoding.Spelled.{first_some}
 use Rattle.qoi.specs.Styles.{is_run, names}
 use Rattle.qoi.proofs.format.ChunkSteps.{previous_repeats}
 use Rattle.qoi.proofs.encoding.WrittenGrows.{RunMayFollow, chunks_split, written_none, written_runs, written_fresh}
@@ -22,54 +21,6 @@ use Rattle.qoi.proofs.encoding.WrittenShape.{choice_rgba}
 pub is_pixel_start : IsPixel start
 unfolding start
 is_pixel_start = record { r = omega arith; g = omega arith; b = omega arith; a = omega arith }
-
--- the pixel before the next one is a pixel
-is_pixel_previous : (past : Past) → AllByRecursion IsPixel past → IsPixel (previous past)
-is_pixel_previous [] h = is_pixel_start
-is_pixel_previous (p ∷ past) h = h.0
-
--- the differences fit a Diff or not
-cases_diff : (q p : RgbaPixel) → FitsDiff q p ⊎ (FitsDiff q p → ⊥)
-cases_diff q p =
-    elim (cases_lt (plus_2 p.r q.r) 4) as (λ _. FitsDiff q p ⊎ (FitsDiff q p → ⊥)) [
-      | inr high ↦ inr (λ f. let x = f.r in absurd (omega arith))
-      | inl r ↦ elim (cases_lt (plus_2 p.g q.g) 4) as (λ _. FitsDiff q p ⊎ (FitsDiff q p → ⊥)) [
-        | inr high ↦ inr (λ f. let x = f.g in absurd (omega arith))
-        | inl g ↦ elim (cases_lt (plus_2 p.b q.b) 4) as (λ _. FitsDiff q p ⊎ (FitsDiff q p → ⊥)) [
-          | inr high ↦ inr (λ f. let x = f.b in absurd (omega arith))
-          | inl b ↦ inl (record { r = r; g = g; b = b })
-        ]
-      ]
-    ]
-
--- the differences fit a Luma or not
-cases_luma : (q p : RgbaPixel) → FitsLuma q p ⊎ (FitsLuma q p → ⊥)
-cases_luma q p =
-    elim (cases_lt (plus_8 p.r q.r p.g q.g) 16) as (λ _. FitsLuma q p ⊎ (FitsLuma q p → ⊥)) [
-      | inr high ↦ inr (λ f. let x = f.r in absurd (omega arith))
-      | inl r ↦ elim (cases_lt (plus_32 p.g q.g) 64) as (λ _. FitsLuma q p ⊎ (FitsLuma q p → ⊥)) [
-        | inr high ↦ inr (λ f. let x = f.g in absurd (omega arith))
-        | inl g ↦ elim (cases_lt (plus_8 p.b q.b p.g q.g) 16) as (λ _. FitsLuma q p ⊎ (FitsLuma q p → ⊥)) [
-          | inr high ↦ inr (λ f. let x = f.b in absurd (omega arith))
-          | inl b ↦ inl (record { r = r; g = g; b = b })
-        ]
-      ]
-    ]
-
--- some chunk is
-pub first_some : (past : Past) (p : RgbaPixel) → IsPixel (previous past) → IsPixel p → (c : Chunk) × IsChunk c × IsFirst past p c
-first_some past p iq ip = go (cases_eq p.a (previous past).a) (cases_diff (previous past) p) (cases_luma (previous past) p)
-  where
-    go : (p.a ≡ (previous past).a) ⊎ (p.a ≡ (previous past).a → ⊥) → FitsDiff (previous past) p ⊎ (FitsDiff (previous past) p → ⊥)
-        → FitsLuma (previous past) p ⊎ (FitsLuma (previous past) p → ⊥) → (c : Chunk) × IsChunk c × IsFirst past p c
-    go (inr changes) d l = (Rgba p.r p.g p.b p.a, (ip.r, ip.g, ip.b, ip.a), first_rgba past p changes)
-    go (inl alpha) (inl f) l = (Diff (diff_byte (previous past) p), diff_chunk (previous past) p f, first_diff past p iq ip alpha f)
-    go (inl alpha) (inr unfit) (inl f) = (
-      Luma (luma_byte (previous past) p) (luma_second (previous past) p),
-      luma_chunk (previous past) p f,
-      first_luma past p iq ip alpha unfit f,
-    )
-    go (inl alpha) (inr unfit) (inr wide) = (Rgb p.r p.g p.b, (ip.r, ip.g, ip.b), first_rgb past p iq alpha unfit wide)
 
 -- some chunk is chosen for a fresh pixel
 choice_some : (past : Past) (p : RgbaPixel) → IsPixel (previous past) → IsPixel p → (c : Chunk) × IsChunk c × IsChoice past p c
@@ -83,19 +34,12 @@ choice_some past p iq ip =
 pub spells_other : (c : Chunk) → 0 < rank c → is_run c ≡ false
 spells_other (Run n) h = absurd (omega arith)
 spells_other (Place i) h = absurd (omega arith)
-spells_other (Diff d) h = refl
-spells_other (Luma d e) h = refl
-spells_other (Rgb r g b) h = refl
-spells_other (Rgba r g b a) h = refl
+spells_other c h = refl
 
 -- nor an index position
 pub spells_no_place : (c : Chunk) (i : ℕ) → 0 < rank c → names (Some c) i ≡ false
 spells_no_place (Place j) i h = absurd (omega arith)
-spells_no_place (Diff d) i h = refl
-spells_no_place (Luma d e) i h = refl
-spells_no_place (Run n) i h = refl
-spells_no_place (Rgb r g b) i h = refl
-spells_no_place (Rgba r g b a) i h = refl
+spells_no_place c i h = refl
 
 -- the chosen chunk of a fresh pixel gives it
 choice_gives : (past : Past) (p : RgbaPixel) (c : Chunk) → IsChoice past p c → pixel_after past c ≡ p

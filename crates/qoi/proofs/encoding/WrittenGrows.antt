@@ -3,7 +3,7 @@ use Rattle.std.proofs.Common.{◌≡◌, ◌≢◌, ℕ, zero, suc, ◌+◌, ◌
 use Rattle.std.proofs.lemmas.List.{reverse-append, reverse-reverse}
 use Rattle.std.specs.List.{AllByRecursion}
 use Rattle.qoi.specs.declared.chunk.Chunk.{Chunk}
-use Rattle.qoi.specs.declared.chunk.Chunk.TheVariants.{Place, Diff, Luma, Run, Rgb, Rgba}
+use Rattle.qoi.specs.declared.chunk.Chunk.TheVariants.{Run}
 use Rattle.qoi.specs.Qoi.{RgbaPixel, Past, previous, IsChunk, AreChunks, pixel_after, then_chunks, Each}
 use Rattle.qoi.specs.Runs.{last_by, runs_by}
 use Rattle.qoi.specs.Written.{IsAllowedAfter, IsFullBefore, RunsFollowFull, WrittenBy}
@@ -17,7 +17,7 @@ all_append P [] ys h k = k
 all_append P (x ∷ xs) ys h k = (h.0, all_append P xs ys h.1 k)
 
 -- what holds of each of both holds of each of the first list
-all_front : {A : Type 0} (P : A → Type 0) (xs ys : List A) → AllByRecursion P (xs ++ ys) → AllByRecursion P xs
+pub all_front : {A : Type 0} (P : A → Type 0) (xs ys : List A) → AllByRecursion P (xs ++ ys) → AllByRecursion P xs
 all_front P [] ys h = tt
 all_front P (x ∷ xs) ys h = (h.0, all_front P xs ys h.1)
 
@@ -38,11 +38,7 @@ full_front (c ∷ []) ds h = (alone c, tt)
   where
     alone : (c : Chunk) → IsFullBefore c []
     alone (Run n) = tt
-    alone (Place i) = tt
-    alone (Diff i) = tt
-    alone (Luma i e) = tt
-    alone (Rgb x y b) = tt
-    alone (Rgba x y b a) = tt
+    alone c = tt
 full_front (c ∷ d ∷ cs) ds h = (same c d h.0, full_front (d ∷ cs) ds h.1)
   where
     same : (c d : Chunk) → IsFullBefore c (d ∷ (cs ++ ds)) → IsFullBefore c (d ∷ cs)

@@ -2,7 +2,7 @@
 use Rattle.std.proofs.Common.{◌≡◌, ◌⊎◌, inl, inr, ℕ, zero, suc, ◌+◌, ◌-◌, false, ◌/◌, ◌%◌, ◌<◌, ◌≤◌, List, [], ◌∷◌, ◌++◌, length, replicate, refl, sym, ap, ◌∙◌, arith, append_assoc}
 use Rattle.std.proofs.lemmas.List.{append_cancel_left, length-replicate, length-append, replicate-append-replicate}
 use Rattle.qoi.specs.declared.chunk.Chunk.{Chunk}
-use Rattle.qoi.specs.declared.chunk.Chunk.TheVariants.{Place, Diff, Luma, Run, Rgb, Rgba}
+use Rattle.qoi.specs.declared.chunk.Chunk.TheVariants.{Diff, Luma, Run, Rgb, Rgba}
 use Rattle.qoi.specs.Qoi.{RgbaPixel, Past, previous, hash, IsChunk, AreChunks, pixel_after, times, then_chunk, after_diff, after_luma, Each}
 use Rattle.qoi.specs.Written.{noted, rank, IsFirst, IsChoice, GivesFresh, IsAllowedAfter, IsFullBefore, RunsFollowFull, WrittenBy}
 use Rattle.qoi.proofs.format.SamePixels.{cases_pixel}
@@ -72,10 +72,6 @@ given_other past c cs h = rw (times_other c h) refl
 same_first : {A : Type 0} (a b : A) (x y : List A) → a ∷ x ≡ b ∷ y → a ≡ b
 same_first a b x y e = cc
 
--- the other pixels of equal lists are equal
-same_rest : {A : Type 0} (a b : A) (x y : List A) → a ∷ x ≡ b ∷ y → x ≡ y
-same_rest a b x y e = cc
-
 module _ (Choice : Past → RgbaPixel → Chunk → Type 0) where
   -- what follows a run that isn't full is no repeat
   follows_run : (past : Past) (m : ℕ) (cs : List Chunk) (more : List RgbaPixel) → 0 < m → m < 62 → AreChunks cs
@@ -83,11 +79,7 @@ module _ (Choice : Past → RgbaPixel → Chunk → Type 0) where
   follows_run past zero cs more h l a r f e = absurd (omega arith)
   follows_run past (suc m) [] more h l a r f e = absurd (cc)
   follows_run past (suc m) (Run n ∷ cs) more h l a r f e = absurd (omega arith)
-  follows_run past (suc m) (Place i ∷ cs) more h l a r f e = absurd (r.0.is_fresh (same_first _ _ _ _ e))
-  follows_run past (suc m) (Diff d ∷ cs) more h l a r f e = absurd (r.0.is_fresh (same_first _ _ _ _ e))
-  follows_run past (suc m) (Luma d d2 ∷ cs) more h l a r f e = absurd (r.0.is_fresh (same_first _ _ _ _ e))
-  follows_run past (suc m) (Rgb x y z ∷ cs) more h l a r f e = absurd (r.0.is_fresh (same_first _ _ _ _ e))
-  follows_run past (suc m) (Rgba x y z w ∷ cs) more h l a r f e = absurd (r.0.is_fresh (same_first _ _ _ _ e))
+  follows_run past (suc m) c more h l a r f e = absurd (r.0.is_fresh (same_first _ _ _ _ e))
 
   -- so of two lists that give the same neither begins with the longer run
   no_longer : (past : Past) (m k : ℕ) (cs : List Chunk) (more : List RgbaPixel) → 0 < m → m + suc k ≤ 62 → AreChunks cs

@@ -1,10 +1,10 @@
 -- What a written list looks like: no two neighbours of one index position, pixels up to its end, and its greatest length.
 use Rattle.std.proofs.Common.{◌≡◌, inl, inr, ℕ, ◌+◌, ◌*◌, ◌<◌, ◌≤◌, List, [], ◌∷◌, ◌++◌, length, reverse, refl, sym, ap, ◌∙◌, eqb, add-mul, arith}
-use Rattle.std.proofs.lemmas.List.{reverse-reverse, length-append, length-replicate, length-reverse}
+use Rattle.std.proofs.lemmas.List.{reverse-reverse, length-append, length-replicate}
 use Rattle.std.proofs.lemmas.Bool.{cond_both}
 use Rattle.qoi.specs.declared.chunk.Chunk.{Chunk}
 use Rattle.qoi.specs.declared.chunk.Chunk.TheVariants.{Place, Diff, Luma, Run, Rgb, Rgba}
-use Rattle.qoi.specs.Qoi.{RgbaPixel, Past, previous, start, seen, hash, IsChunk, AreChunks, bytes_of, chunk_bytes, pixel_after, times, then_chunk, then_chunks, meaning, Each, Reaches}
+use Rattle.qoi.specs.Qoi.{RgbaPixel, Past, previous, start, seen, hash, IsChunk, AreChunks, bytes_of, chunk_bytes, pixel_after, times, then_chunk, then_chunks, Each}
 use Rattle.qoi.specs.Raw.{AreOpaque, HasChannels}
 use Rattle.qoi.specs.Written.{noted, IsFirst, IsChoice, IsAllowedAfter, WrittenBy}
 use Rattle.qoi.proofs.format.SamePixels.{cases_pixel, same_pixel}
@@ -35,14 +35,6 @@ stay_below past (c ∷ cs) n a e =
     let g = length_grows (then_chunk past c) cs in
     let l : length (then_chunk past c) ≡ times c + length past = simp (length-append, length-replicate) in
     (omega arith, stay_below (then_chunk past c) cs n a.1 e)
-
--- a written list reaches its pixels
-reaches_by : (Choice : Past → RgbaPixel → Chunk → Type 0) (image : List RgbaPixel) (n : ℕ) (cs : List Chunk) → WrittenBy Choice image cs
-    → length image ≡ n → Reaches n cs
-reaches_by Choice image n cs w e =
-    let m : length (meaning cs) ≡ n = ap length w.means ∙ e in
-    let l : length (meaning cs) ≡ length (then_chunks [] cs) = length-reverse (then_chunks [] cs) in
-    record { stays_below = stay_below [] cs n w.chunks (omega arith); enough = omega arith }
 
 -- the pixel before the next one is opaque, where all are
 opaque_previous : (past : Past) → AreOpaque past → (previous past).a ≡ 255

@@ -3,17 +3,13 @@ use Rattle.std.proofs.Common.{◌≡◌, ◌<◌, ◌≤◌, List, [], ◌∷◌
 use Rattle.std.proofs.lemmas.List.{length-reverse}
 use Rattle.std.proofs.lemmas.Grind.{flat_map-append}
 use Rattle.qoi.specs.declared.chunk.Chunk.{Chunk}
-use Rattle.qoi.specs.declared.chunk.Chunk.TheVariants.{Place, Diff, Luma, Run, Rgb, Rgba}
+use Rattle.qoi.specs.declared.chunk.Chunk.TheVariants.{Place}
 use Rattle.qoi.specs.Qoi.{AreChunks, bytes_of, chunk_bytes, then_chunks, meaning}
 
 -- a chunk has one byte to five
 pub length-bytes_of : (c : Chunk) → (0 < length (bytes_of c)) × (length (bytes_of c) ≤ 5)
 length-bytes_of (Place i) = (omega arith, omega arith)
-length-bytes_of (Diff d) = (omega arith, omega arith)
-length-bytes_of (Luma d e) = (omega arith, omega arith)
-length-bytes_of (Run n) = (omega arith, omega arith)
-length-bytes_of (Rgb r g b) = (omega arith, omega arith)
-length-bytes_of (Rgba r g b a) = (omega arith, omega arith)
+length-bytes_of c = (omega arith, omega arith)
 
 -- chunks and chunks are chunks
 pub are_chunks_append : (cs ds : List Chunk) → AreChunks cs → AreChunks ds → AreChunks (cs ++ ds)

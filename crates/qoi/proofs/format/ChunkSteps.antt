@@ -3,7 +3,7 @@ use Rattle.std.proofs.Common.{◌≡◌, ◌⊎◌, inl, inr, ℕ, zero, suc, �
 use Rattle.std.proofs.lemmas.List.{reverse-reverse, reverse-append, length-append, length-reverse, replicate-append-replicate}
 use Rattle.std.proofs.lemmas.Bool.{true≢false}
 use Rattle.qoi.specs.declared.chunk.Chunk.{Chunk}
-use Rattle.qoi.specs.declared.chunk.Chunk.TheVariants.{Place, Diff, Luma, Run, Rgb, Rgba}
+use Rattle.qoi.specs.declared.chunk.Chunk.TheVariants.{Run}
 use Rattle.qoi.specs.Qoi.{RgbaPixel, Past, previous, IsChunk, pixel_after, times, then_chunk, then_chunks, meaning, Each}
 use Rattle.qoi.specs.Written.{GivesFresh, IsAllowedAfter, IsFullBefore}
 use Rattle.qoi.specs.Styles.{is_run}
@@ -11,71 +11,38 @@ use Rattle.qoi.specs.Styles.{is_run}
 -- a chunk is a run or not
 pub cases_run : (c : Chunk) → ((n : ℕ) × (c ≡ Run n)) ⊎ (is_run c ≡ false)
 cases_run (Run n) = inl (n, refl)
-cases_run (Place i) = inr refl
-cases_run (Diff d) = inr refl
-cases_run (Luma d e) = inr refl
-cases_run (Rgb r g b) = inr refl
-cases_run (Rgba r g b a) = inr refl
+cases_run c = inr refl
 
 -- a chunk other than a run gives one pixel
 pub times_other : (c : Chunk) → is_run c ≡ false → times c ≡ 1
 times_other (Run n) h = absurd (true≢false h)
-times_other (Place i) h = refl
-times_other (Diff d) h = refl
-times_other (Luma d e) h = refl
-times_other (Rgb r g b) h = refl
-times_other (Rgba r g b a) h = refl
+times_other c h = refl
 
 -- a chunk other than a run gives a fresh pixel
 pub right_other : (Choice : Past → RgbaPixel → Chunk → Type 0) (past : Past) (c : Chunk) → is_run c ≡ false → IsAllowedAfter Choice past c
     → GivesFresh Choice past c
 right_other Choice past (Run n) h r = absurd (true≢false h)
-right_other Choice past (Place i) h r = r
-right_other Choice past (Diff d) h r = r
-right_other Choice past (Luma d e) h r = r
-right_other Choice past (Rgb x g b) h r = r
-right_other Choice past (Rgba x g b a) h r = r
+right_other Choice past c h r = r
 
 -- and it is right where it does
 pub right_from : (Choice : Past → RgbaPixel → Chunk → Type 0) (past : Past) (c : Chunk) → GivesFresh Choice past c → IsAllowedAfter Choice past c
 right_from Choice past (Run n) g = tt
-right_from Choice past (Place i) g = g
-right_from Choice past (Diff d) g = g
-right_from Choice past (Luma d e) g = g
-right_from Choice past (Rgb x y b) g = g
-right_from Choice past (Rgba x y b a) g = g
+right_from Choice past c g = g
 
 -- anything may follow a chunk other than a run
 pub full_other : (c : Chunk) (cs : List Chunk) → is_run c ≡ false → IsFullBefore c cs
 full_other (Run n) cs h = absurd (true≢false h)
-full_other (Place i) cs h = tt
-full_other (Diff d) cs h = tt
-full_other (Luma d e) cs h = tt
-full_other (Rgb x y b) cs h = tt
-full_other (Rgba x y b a) cs h = tt
+full_other c cs h = tt
 
 -- a chunk other than a run may follow any chunk
 pub full_before : (c d : Chunk) (cs : List Chunk) → is_run d ≡ false → IsFullBefore c (d ∷ cs)
 full_before (Run n) (Run m) cs h = absurd (true≢false h)
-full_before (Run n) (Place i) cs h = tt
-full_before (Run n) (Diff i) cs h = tt
-full_before (Run n) (Luma i e) cs h = tt
-full_before (Run n) (Rgb x y b) cs h = tt
-full_before (Run n) (Rgba x y b a) cs h = tt
-full_before (Place i) d cs h = tt
-full_before (Diff i) d cs h = tt
-full_before (Luma i e) d cs h = tt
-full_before (Rgb x y b) d cs h = tt
-full_before (Rgba x y b a) d cs h = tt
+full_before c d cs h = tt
 
 -- each chunk gives at least one pixel
 pub times_some : (c : Chunk) → IsChunk c → 0 < times c
 times_some (Run n) h = h.0
-times_some (Place i) h = omega arith
-times_some (Diff d) h = omega arith
-times_some (Luma d e) h = omega arith
-times_some (Rgb x g b) h = omega arith
-times_some (Rgba x g b a) h = omega arith
+times_some c h = omega arith
 
 -- the pixel before is the same after repeats
 pub previous_repeats : (n : ℕ) (past : Past) → previous (replicate n (previous past) ++ past) ≡ previous past

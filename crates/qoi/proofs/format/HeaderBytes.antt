@@ -9,7 +9,7 @@ use Rattle.std.specs.Io.KnownBytes.{Consumes}
 use Rattle.qoi.specs.Decoding.{ReadsHeader}
 use Rattle.qoi.proofs.decoding.FilledBuffer.{take_whole}
 use Rattle.qoi.specs.declared.error.Error.{Error}
-use Rattle.qoi.specs.declared.error.Error.TheVariants.{InvalidMagic, InvalidChannels, InvalidColorSpace, InvalidImageDimensions, InvalidImageLength, OutputBufferTooSmall, UnexpectedBufferEnd, InvalidPadding, IoError, OutOfMemory}
+use Rattle.qoi.specs.declared.error.Error.TheVariants.{InvalidMagic, InvalidImageDimensions, UnexpectedBufferEnd, IoError}
 use Rattle.qoi.specs.declared.types.Channels.{Channels}
 use Rattle.qoi.specs.declared.types.Channels.TheVariants.{Rgb, Rgba}
 use Rattle.qoi.specs.declared.types.ColorSpace.{ColorSpace}
@@ -40,7 +40,7 @@ pub length-head : (h : Header) → length (header_bytes h) ≡ 14
 length-head h = refl
 
 -- what bytes say that begin with a header
-pub record SaysHeader (bytes : List ℕ) (h : Header) : Type 0 where
+record SaysHeader (bytes : List ℕ) (h : Header) : Type 0 where
   pub long : 14 ≤ length bytes
   pub channels : channels_of (slice_index bytes 12) ≡ Ok h.channels
   pub colorspace : colorspace_of (slice_index bytes 13) ≡ Ok h.colorspace
@@ -183,16 +183,8 @@ own_header bytes (Err x) fits e = tt
 pub stream_header : (old new : Option (List ℕ)) (bytes : List ℕ) (r : Result Header Error) → length bytes ≡ 14 → Consumes old new bytes → r ≡ header_of bytes
     → IfOk r (λ h. (take 14 bytes ≡ header_bytes h) × IsValid h) → ReadsHeader false old new r
 stream_header old new bytes (Ok h) size came e own = (bytes, came, size, sym e, sym (take_whole 14 bytes size) ∙ own.0, own.1)
-stream_header old new bytes (Err UnexpectedBufferEnd) size came e own = (bytes, came, (size, sym e))
-stream_header old new bytes (Err InvalidPadding) size came e own = (bytes, came, (size, sym e))
-stream_header old new bytes (Err OutOfMemory) size came e own = (bytes, came, (size, sym e))
-stream_header old new bytes (Err (InvalidMagic m)) size came e own = (bytes, came, (size, sym e))
-stream_header old new bytes (Err (InvalidChannels n)) size came e own = (bytes, came, (size, sym e))
-stream_header old new bytes (Err (InvalidColorSpace n)) size came e own = (bytes, came, (size, sym e))
-stream_header old new bytes (Err (InvalidImageDimensions w h)) size came e own = (bytes, came, (size, sym e))
-stream_header old new bytes (Err (InvalidImageLength z w h)) size came e own = (bytes, came, (size, sym e))
-stream_header old new bytes (Err (OutputBufferTooSmall z n)) size came e own = (bytes, came, (size, sym e))
 stream_header old new bytes (Err (IoError i)) size came e own = absurd (grind (arith, e))
+stream_header old new bytes (Err x) size came e own = (bytes, came, (size, sym e))
 
 -- a number at the front of bytes doesn't change by what follows
 number_at-append : (bytes rest : List ℕ) (i : ℕ) → i + 4 ≤ length bytes → number_at (bytes ++ rest) i ≡ number_at bytes i

@@ -121,13 +121,6 @@ none_agree (x ∷ xs) (y ∷ ys) e m = go (eqb x y) refl m (none_agree xs ys (om
     go false is m rest zero l = eqb-false x y is
     go false is m rest (suc k) l = rest (omega arith) k (omega arith)
 
-pub no_run : (xs ys : List ℕ) (at : ℕ) → length xs ≡ 4 → length ys ≡ 4 → mask_l (zip2 eqb xs ys) ≡ 0 → at < 4 → IsRun xs ys at 0
-no_run xs ys at e g m l = record {
-  within = omega arith;
-  same = λ k from to. absurd (omega arith);
-  stops = λ short. none_agree xs ys (e ∙ sym g) m (at + 0) (omega arith);
-}
-
 -- where four lanes agree all bits are set
 pub all_agree : (xs ys : List ℕ) (n : ℕ) → length xs ≡ 4 → length ys ≡ 4 → 4 ≤ n → IsRun xs ys 0 n → mask_l (zip2 eqb xs ys) ≡ 15
 all_agree (x0 ∷ x1 ∷ x2 ∷ x3 ∷ []) (y0 ∷ y1 ∷ y2 ∷ y3 ∷ []) n e g many run =

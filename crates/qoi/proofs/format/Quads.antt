@@ -7,24 +7,24 @@ use lib.Lanes.{Each1, zip2, pick_l, sel_l, top, number_l, digits_l, dots}
 use Rattle.qoi.specs.Qoi.{AreBytes, hash}
 use Rattle.qoi.specs.Raw.{pixels_of, pixels_of_3, pixels_of_4}
 use Rattle.qoi.specs.inner.Packed.{word, pixel_of_word}
-use Rattle.qoi.specs.inner.Lanes.{stepped, step_word, diff_word, luma_word, green_twice, plus_32, up, down, diff_number, luma_number, rgb_number, changes, full_number, full_count, KeepAlpha, spelled_number, spelled_count, SameAlpha}
+use Rattle.qoi.specs.inner.Lanes.{step_word, diff_word, luma_word, green_twice, plus_32, up, down, diff_number, luma_number, rgb_number, changes, full_number, full_count, KeepAlpha, spelled_number, spelled_count, SameAlpha}
 
 -- four times as many
-abbrev pub fourfold : ℕ → ℕ
+abbrev fourfold : ℕ → ℕ
 fourfold zero = 0
 fourfold (suc n) = suc (suc (suc (suc (fourfold n))))
 
 -- the bytes of numbers of 32 bits, the lowest first
-abbrev pub bytes_in : List ℕ → List ℕ
+abbrev bytes_in : List ℕ → List ℕ
 bytes_in [] = []
 bytes_in (x ∷ xs) = (x % 2 ^ 8) ∷ (x / 2 ^ 8 % 2 ^ 8) ∷ (x / 2 ^ 16 % 2 ^ 8) ∷ (x / 2 ^ 24) ∷ bytes_in xs
 
 -- the number of four bytes
-abbrev pub of_four : ℕ → ℕ → ℕ → ℕ → ℕ
+abbrev of_four : ℕ → ℕ → ℕ → ℕ → ℕ
 of_four a b c d = a + b * 2 ^ 8 + c * 2 ^ 16 + d * 2 ^ 24
 
 -- the numbers that each four bytes make
-abbrev pub words_in : List ℕ → List ℕ
+abbrev words_in : List ℕ → List ℕ
 words_in (a ∷ b ∷ c ∷ d ∷ bytes) = of_four a b c d ∷ words_in bytes
 words_in _ = []
 
@@ -45,7 +45,7 @@ above_bytes : (x r : ℕ) → x < 2 ^ 32 → (x + 4294967296 * r) / 256 / 256 / 
 above_bytes x r l = omega arith
 
 -- lanes of 32 bits, as bytes
-pub bytes_of_lanes : (n : ℕ) (xs : List ℕ) → length xs ≡ n → Each1 (Fits w32) xs → digits_l 256 (fourfold n) (number_l 4294967296 xs) ≡ bytes_in xs
+bytes_of_lanes : (n : ℕ) (xs : List ℕ) → length xs ≡ n → Each1 (Fits w32) xs → digits_l 256 (fourfold n) (number_l 4294967296 xs) ≡ bytes_in xs
 bytes_of_lanes zero [] e f = refl
 bytes_of_lanes zero (x ∷ xs) e f = absurd (omega arith)
 bytes_of_lanes (suc n) [] e f = absurd (omega arith)
@@ -63,7 +63,7 @@ above_lane : (a b c d r : ℕ) → a < 256 → b < 256 → c < 256 → d < 256 �
 above_lane a b c d r la lb lc ld = omega arith
 
 -- bytes, as lanes of 32 bits
-pub lanes_of_bytes : (n : ℕ) (bs : List ℕ) → length bs ≡ fourfold n → Each1 (λ b. b < 256) bs → digits_l 4294967296 n (number_l 256 bs) ≡ words_in bs
+lanes_of_bytes : (n : ℕ) (bs : List ℕ) → length bs ≡ fourfold n → Each1 (λ b. b < 256) bs → digits_l 4294967296 n (number_l 256 bs) ≡ words_in bs
 lanes_of_bytes zero [] e f = refl
 lanes_of_bytes zero (b ∷ bs) e f = absurd (omega arith)
 lanes_of_bytes (suc n) (a ∷ b ∷ c ∷ d ∷ bs) e f =
@@ -73,15 +73,15 @@ lanes_of_bytes (suc n) (a ∷ b ∷ c ∷ d ∷ bs) e f =
 lanes_of_bytes (suc n) _ e f = absurd (omega arith)
 
 -- what is added to each byte of y for that of x
-abbrev pub less : ℕ → ℕ → ℕ
+abbrev less : ℕ → ℕ → ℕ
 less a b = (a + (256 - b)) % 256
 
 -- and the sum of two bytes
-abbrev pub plus : ℕ → ℕ → ℕ
+abbrev plus : ℕ → ℕ → ℕ
 plus a b = (a + b) % 256
 
 -- the differences of bytes, as lanes
-stepped_words : (xs ys : List ℕ) → length xs ≡ length ys → words_in (zip2 less (bytes_in xs) (bytes_in ys)) ≡ stepped step_word xs ys
+stepped_words : (xs ys : List ℕ) → length xs ≡ length ys → words_in (zip2 less (bytes_in xs) (bytes_in ys)) ≡ zip2 step_word xs ys
 stepped_words [] [] e = refl
 stepped_words [] (y ∷ ys) e = refl
 stepped_words (x ∷ xs) [] e = refl
@@ -95,7 +95,7 @@ long_less (x ∷ xs) (y ∷ ys) e = ap (λ n. suc (suc (suc (suc n)))) (long_les
 -- the steps of four lanes
 pub steps_lanes : (xs ys : List ℕ) → length xs ≡ 4 → length ys ≡ 4 → Each1 (Fits w32) xs → Each1 (Fits w32) ys
     → digits_l 4294967296 4 (number_l 256 (zip2 less (digits_l 256 16 (number_l 4294967296 xs)) (digits_l 256 16 (number_l 4294967296 ys))))
-    ≡ stepped step_word xs ys
+    ≡ zip2 step_word xs ys
 steps_lanes xs ys e g f h =
     (λ i. digits_l 4294967296 4 (number_l 256 (zip2 less (bytes_of_lanes 4 xs e f i) (bytes_of_lanes 4 ys g h i))))
     ∙ lanes_of_bytes 4 _ (long_less xs ys (e ∙ sym g) ∙ ap fourfold e)
@@ -212,7 +212,7 @@ four_of_4 n bytes e h l =
     ∙ sym (ap (λ n. map word (take 4 (pixels_of n bytes))) e)
 
 -- bytes and alphas between them
-abbrev pub opaque_bytes : List ℕ → List ℕ
+abbrev opaque_bytes : List ℕ → List ℕ
 opaque_bytes v = pick_l 0 (v ++ replicate 16 255) (0 ∷ 1 ∷ 2 ∷ 16 ∷ 3 ∷ 4 ∷ 5 ∷ 16 ∷ 6 ∷ 7 ∷ 8 ∷ 16 ∷ 9 ∷ 10 ∷ 11 ∷ 16 ∷ [])
 
 words_of_3 : (bytes : List ℕ) → AreBytes bytes → 16 ≤ length bytes
@@ -251,10 +251,10 @@ one_lane : (b : Bool) → ◌≡◌ {A = ℕ} (cond (top 31 (cond (not b) 429496
 one_lane true = refl
 one_lane false = refl
 
-abbrev pub same : ℕ → ℕ → ℕ
+abbrev same : ℕ → ℕ → ℕ
 same a b = cond (eqb a b) 4294967295 0
 
-abbrev pub other : ℕ → ℕ → ℕ
+abbrev other : ℕ → ℕ → ℕ
 other a b = cond (not (eqb a b)) 4294967295 0
 
 -- where alpha's step isn't 0
@@ -264,14 +264,14 @@ change_lanes (x ∷ y ∷ z ∷ w ∷ []) e = λ i. one_lane (eqb (bit_and x 0xf
     (eqb (bit_and z 0xff000000) 0) i ∷ one_lane (eqb (bit_and w 0xff000000) 0) i ∷ []
 change_lanes _ e = absurd (omega arith)
 
-full_words : (cur ss : List ℕ) → zip2 plus_32 (map rgb_number cur) (map changes ss) ≡ stepped full_number cur ss
+full_words : (cur ss : List ℕ) → zip2 plus_32 (map rgb_number cur) (map changes ss) ≡ zip2 full_number cur ss
 full_words [] ss = refl
 full_words (p ∷ cur) [] = refl
 full_words (p ∷ cur) (s ∷ ss) = ap (λ ws. full_number p s ∷ ws) (full_words cur ss)
 
 pub full_lanes : (cur ss rs : List ℕ) → length ss ≡ 4 → rs ≡ map rgb_number cur
     → zip2 plus_32 rs (sel_l (map (top 31) (zip2 other (zip2 bit_and ss (replicate 4 0xff000000)) (replicate 4 0))) (replicate 4 1) (replicate 4 0))
-    ≡ stepped full_number cur ss
+    ≡ zip2 full_number cur ss
 full_lanes cur ss rs e r = (λ i. zip2 plus_32 (r i) (change_lanes ss e i)) ∙ full_words cur ss
 
 full_counted : (ss : List ℕ) → length ss ≡ 4 → zip2 plus_32 (replicate 4 4) (map changes ss) ≡ map full_count ss
@@ -300,10 +300,10 @@ full_alone p s l e = omega (arith, no_change s l e)
 count_alone : (s : ℕ) → s < 2 ^ 32 → s / 2 ^ 24 ≡ 0 → 4 ≡ full_count s
 count_alone s l e = omega (arith, no_change s l e)
 
-pub full_opaque : (cur ss rs : List ℕ) → length cur ≡ length ss → Each1 (Fits w32) ss → KeepAlpha ss → rs ≡ map rgb_number cur → rs ≡ stepped full_number cur ss
+pub full_opaque : (cur ss rs : List ℕ) → length cur ≡ length ss → Each1 (Fits w32) ss → KeepAlpha ss → rs ≡ map rgb_number cur → rs ≡ zip2 full_number cur ss
 full_opaque cur ss rs e f k r = r ∙ go cur ss e f k
   where
-    go : (cur ss : List ℕ) → length cur ≡ length ss → Each1 (Fits w32) ss → KeepAlpha ss → map rgb_number cur ≡ stepped full_number cur ss
+    go : (cur ss : List ℕ) → length cur ≡ length ss → Each1 (Fits w32) ss → KeepAlpha ss → map rgb_number cur ≡ zip2 full_number cur ss
     go [] ss e f k = refl
     go (p ∷ cur) [] e f k = absurd (omega arith)
     go (p ∷ cur) (s ∷ ss) e f k = λ i. full_alone p s f.0.fits k.0 i ∷ go cur ss (omega arith) f.1 k.1 i
@@ -317,12 +317,12 @@ count_opaque _ e f k = absurd (omega arith)
 no_step : (p q : ℕ) → p < 2 ^ 32 → q < 2 ^ 32 → p / 2 ^ 24 ≡ q / 2 ^ 24 → step_word p q / 2 ^ 24 ≡ 0
 no_step p q l m e = omega arith
 
-steps_keep : (cur prev : List ℕ) → Each1 (Fits w32) cur → Each1 (Fits w32) prev → SameAlpha cur prev → KeepAlpha (stepped step_word cur prev)
+steps_keep : (cur prev : List ℕ) → Each1 (Fits w32) cur → Each1 (Fits w32) prev → SameAlpha cur prev → KeepAlpha (zip2 step_word cur prev)
 steps_keep [] prev f g s = tt
 steps_keep (p ∷ cur) [] f g s = tt
 steps_keep (p ∷ cur) (q ∷ prev) f g s = (no_step p q f.0.fits g.0.fits s.0, steps_keep cur prev f.1 g.1 s.1)
 
-pub found_keep : (cur prev ss : List ℕ) → ss ≡ stepped step_word cur prev → Each1 (Fits w32) cur → Each1 (Fits w32) prev → SameAlpha cur prev → KeepAlpha ss
+pub found_keep : (cur prev ss : List ℕ) → ss ≡ zip2 step_word cur prev → Each1 (Fits w32) cur → Each1 (Fits w32) prev → SameAlpha cur prev → KeepAlpha ss
 found_keep cur prev ss e f g s = subst KeepAlpha (sym e) (steps_keep cur prev f g s)
 
 -- the choice of each lane
@@ -344,8 +344,8 @@ one_chosen : (t u d l f : ℕ) → top_lane_of t u d l f ≡ lane_of t u d l f
 one_chosen t u d l f = chosen (eqb (bit_and t 0xfffcfcfc) 0) (eqb (bit_and u 0xfff0c0f0) 0) d l f
 
 number_choice : (cur prev : List ℕ) → length cur ≡ 4 → length prev ≡ 4
-    → (let ss = stepped step_word cur prev in let ts = map diff_word ss in let us = map luma_word ss in
-    choice ts us (map diff_number ts) (map luma_number us) (stepped full_number cur ss)) ≡ stepped spelled_number cur prev
+    → (let ss = zip2 step_word cur prev in let ts = map diff_word ss in let us = map luma_word ss in
+    choice ts us (map diff_number ts) (map luma_number us) (zip2 full_number cur ss)) ≡ zip2 spelled_number cur prev
 number_choice (p0 ∷ p1 ∷ p2 ∷ p3 ∷ []) (q0 ∷ q1 ∷ q2 ∷ q3 ∷ []) e g = λ i. one p0 q0 i ∷ one p1 q1 i ∷ one p2 q2 i ∷ one p3 q3 i ∷ []
   where
     one : (p q : ℕ) → (let s = step_word p q in let t = diff_word s in let u = luma_word s in
@@ -355,8 +355,8 @@ number_choice (p0 ∷ p1 ∷ p2 ∷ p3 ∷ []) _ e g = absurd (omega arith)
 number_choice _ prev e g = absurd (omega arith)
 
 count_choice : (cur prev : List ℕ) → length cur ≡ 4 → length prev ≡ 4
-    → (let ss = stepped step_word cur prev in let ts = map diff_word ss in let us = map luma_word ss in
-    choice ts us (replicate 4 1) (replicate 4 2) (map full_count ss)) ≡ stepped spelled_count cur prev
+    → (let ss = zip2 step_word cur prev in let ts = map diff_word ss in let us = map luma_word ss in
+    choice ts us (replicate 4 1) (replicate 4 2) (map full_count ss)) ≡ zip2 spelled_count cur prev
 count_choice (p0 ∷ p1 ∷ p2 ∷ p3 ∷ []) (q0 ∷ q1 ∷ q2 ∷ q3 ∷ []) e g = λ i. one p0 q0 i ∷ one p1 q1 i ∷ one p2 q2 i ∷ one p3 q3 i ∷ []
   where
     one : (p q : ℕ) → (let s = step_word p q in let t = diff_word s in let u = luma_word s in top_lane_of t u 1 2 (full_count s)) ≡ spelled_count p q
@@ -364,19 +364,19 @@ count_choice (p0 ∷ p1 ∷ p2 ∷ p3 ∷ []) (q0 ∷ q1 ∷ q2 ∷ q3 ∷ []) e
 count_choice (p0 ∷ p1 ∷ p2 ∷ p3 ∷ []) _ e g = absurd (omega arith)
 count_choice _ prev e g = absurd (omega arith)
 
-module _ (cur prev ss ts us : List ℕ) (e : length cur ≡ 4) (g : length prev ≡ 4) (se : ss ≡ stepped step_word cur prev) (te : ts ≡ map diff_word ss)
+module _ (cur prev ss ts us : List ℕ) (e : length cur ≡ 4) (g : length prev ≡ 4) (se : ss ≡ zip2 step_word cur prev) (te : ts ≡ map diff_word ss)
     (ue : us ≡ map luma_word ss) where
-  pub numbers_chosen : (ds ls fs : List ℕ) → ds ≡ map diff_number ts → ls ≡ map luma_number us → fs ≡ stepped full_number cur ss
-      → choice ts us ds ls fs ≡ stepped spelled_number cur prev
+  pub numbers_chosen : (ds ls fs : List ℕ) → ds ≡ map diff_number ts → ls ≡ map luma_number us → fs ≡ zip2 full_number cur ss
+      → choice ts us ds ls fs ≡ zip2 spelled_number cur prev
   numbers_chosen ds ls fs de le fe =
       let t = te ∙ ap (map diff_word) se in
       let u = ue ∙ ap (map luma_word) se in
       let d = de ∙ ap (map diff_number) t in
       let l = le ∙ ap (map luma_number) u in
-      let f = fe ∙ ap (stepped full_number cur) se in
+      let f = fe ∙ ap (zip2 full_number cur) se in
       (λ i. choice (t i) (u i) (d i) (l i) (f i)) ∙ number_choice cur prev e g
 
-  pub counts_chosen : (fs : List ℕ) → fs ≡ map full_count ss → choice ts us (replicate 4 1) (replicate 4 2) fs ≡ stepped spelled_count cur prev
+  pub counts_chosen : (fs : List ℕ) → fs ≡ map full_count ss → choice ts us (replicate 4 1) (replicate 4 2) fs ≡ zip2 spelled_count cur prev
   counts_chosen fs fe =
       let t = te ∙ ap (map diff_word) se in
       let u = ue ∙ ap (map luma_word) se in

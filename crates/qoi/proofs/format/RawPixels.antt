@@ -2,23 +2,17 @@
 use Rattle.std.proofs.Common.{◌≡◌, inl, inr, ℕ, zero, suc, ◌*◌, ◌<◌, List, [], ◌∷◌, ◌++◌, length, refl, ap, ◌∙◌, arith}
 use Rattle.std.specs.List.{AllByRecursion}
 use Rattle.qoi.specs.Qoi.{RgbaPixel, IsPixel, pixel, rgba}
-use Rattle.qoi.proofs.format.ShortLists.{no_member, three, four}
 use Rattle.qoi.specs.Raw.{IsChannels, output, pixels_of_3, pixels_of_4, pixels_of, AreOpaque, HasChannels}
 
 -- three bytes each: they are pixels
 pixels_3 : (bytes : List ℕ) → AllByRecursion (λ b. b < 256) bytes → AllByRecursion IsPixel (pixels_of_3 bytes)
-pixels_3 [] h = tt
-pixels_3 (r ∷ []) h = tt
-pixels_3 (r ∷ g ∷ []) h = tt
 pixels_3 (r ∷ g ∷ b ∷ bytes) h = (record { r = h.0; g = h.1.0; b = h.1.1.0; a = omega arith }, pixels_3 bytes h.1.1.1)
+pixels_3 _ h = tt
 
 -- four bytes each: they are pixels
 pixels_4 : (bytes : List ℕ) → AllByRecursion (λ b. b < 256) bytes → AllByRecursion IsPixel (pixels_of_4 bytes)
-pixels_4 [] h = tt
-pixels_4 (r ∷ []) h = tt
-pixels_4 (r ∷ g ∷ []) h = tt
-pixels_4 (r ∷ g ∷ b ∷ []) h = tt
 pixels_4 (r ∷ g ∷ b ∷ a ∷ bytes) h = (record { r = h.0; g = h.1.0; b = h.1.1.0; a = h.1.1.1.0 }, pixels_4 bytes h.1.1.1.1)
+pixels_4 _ h = tt
 
 -- they are pixels
 pub pixels_of_are : (channels : ℕ) (bytes : List ℕ) → IsChannels channels → AllByRecursion (λ b. b < 256) bytes
@@ -28,10 +22,8 @@ pixels_of_are channels bytes (inr e) h = rw e (pixels_4 bytes h)
 
 -- three bytes each: they are opaque
 opaque_3 : (bytes : List ℕ) → AreOpaque (pixels_of_3 bytes)
-opaque_3 [] = tt
-opaque_3 (r ∷ []) = tt
-opaque_3 (r ∷ g ∷ []) = tt
 opaque_3 (r ∷ g ∷ b ∷ bytes) = (refl, opaque_3 bytes)
+opaque_3 _ = tt
 
 -- they have as many channels as a pixel has bytes
 pub pixels_of_have : (channels : ℕ) (bytes : List ℕ) → IsChannels channels → HasChannels (pixels_of channels bytes) channels
@@ -40,13 +32,15 @@ pixels_of_have channels bytes (inr e) = inl e
 
 -- three bytes each: there are as many pixels
 count_3 : (bytes : List ℕ) (n : ℕ) → length bytes ≡ 3 * n → length (pixels_of_3 bytes) ≡ n
-count_3 bytes zero e = rw (no_member bytes (omega arith)) refl
-count_3 bytes (suc n) e = let t = three bytes (omega arith) in rw t.is (ap suc (count_3 t.rest n (omega (arith, ap length t.is))))
+count_3 [] zero e = refl
+count_3 (r ∷ g ∷ b ∷ bytes) (suc n) e = ap suc (count_3 bytes n (omega arith))
+count_3 _ _ e = absurd (omega arith)
 
 -- four bytes each: there are as many pixels
 count_4 : (bytes : List ℕ) (n : ℕ) → length bytes ≡ 4 * n → length (pixels_of_4 bytes) ≡ n
-count_4 bytes zero e = rw (no_member bytes (omega arith)) refl
-count_4 bytes (suc n) e = let t = four bytes (omega arith) in rw t.is (ap suc (count_4 t.rest n (omega (arith, ap length t.is))))
+count_4 [] zero e = refl
+count_4 (r ∷ g ∷ b ∷ a ∷ bytes) (suc n) e = ap suc (count_4 bytes n (omega arith))
+count_4 _ _ e = absurd (omega arith)
 
 -- there are as many pixels as the bytes have room for
 pub length-pixels_of : (channels n : ℕ) (bytes : List ℕ) → IsChannels channels → length bytes ≡ channels * n → length (pixels_of channels bytes) ≡ n
@@ -55,17 +49,15 @@ length-pixels_of channels n bytes (inr e) h = rw e (count_4 bytes n (rw e at h))
 
 -- three bytes each: they give the bytes back
 back_3 : (bytes : List ℕ) (n : ℕ) → length bytes ≡ 3 * n → output 3 3 (pixels_of_3 bytes) ≡ bytes
-back_3 bytes zero e = rw (no_member bytes (omega arith)) refl
-back_3 bytes (suc n) e =
-    let t = three bytes (omega arith) in
-    rw t.is (ap (λ (x : List ℕ). t.r ∷ t.g ∷ t.b ∷ x) (back_3 t.rest n (omega (arith, ap length t.is))))
+back_3 [] zero e = refl
+back_3 (r ∷ g ∷ b ∷ bytes) (suc n) e = ap (λ (x : List ℕ). r ∷ g ∷ b ∷ x) (back_3 bytes n (omega arith))
+back_3 _ _ e = absurd (omega arith)
 
 -- four bytes each: they give the bytes back
 back_4 : (bytes : List ℕ) (n : ℕ) → length bytes ≡ 4 * n → output 4 4 (pixels_of_4 bytes) ≡ bytes
-back_4 bytes zero e = rw (no_member bytes (omega arith)) refl
-back_4 bytes (suc n) e =
-    let t = four bytes (omega arith) in
-    rw t.is (ap (λ (x : List ℕ). t.r ∷ t.g ∷ t.b ∷ t.a ∷ x) (back_4 t.rest n (omega (arith, ap length t.is))))
+back_4 [] zero e = refl
+back_4 (r ∷ g ∷ b ∷ a ∷ bytes) (suc n) e = ap (λ (x : List ℕ). r ∷ g ∷ b ∷ a ∷ x) (back_4 bytes n (omega arith))
+back_4 _ _ e = absurd (omega arith)
 
 -- they give the bytes back
 pub output-pixels_of : (channels n : ℕ) (bytes : List ℕ) → IsChannels channels → length bytes ≡ channels * n
@@ -75,17 +67,15 @@ output-pixels_of channels n bytes (inr e) h = rw e (back_4 bytes n (rw e at h))
 
 -- three bytes each: the pixels of joined bytes
 append_3 : (xs ys : List ℕ) (n : ℕ) → length xs ≡ 3 * n → pixels_of_3 (xs ++ ys) ≡ pixels_of_3 xs ++ pixels_of_3 ys
-append_3 xs ys zero e = rw (no_member xs (omega arith)) refl
-append_3 xs ys (suc n) e =
-    let t = three xs (omega arith) in
-    rw t.is (ap (λ (x : List RgbaPixel). pixel t.r t.g t.b 255 ∷ x) (append_3 t.rest ys n (omega (arith, ap length t.is))))
+append_3 [] ys zero e = refl
+append_3 (r ∷ g ∷ b ∷ xs) ys (suc n) e = ap (λ (x : List RgbaPixel). pixel r g b 255 ∷ x) (append_3 xs ys n (omega arith))
+append_3 _ ys _ e = absurd (omega arith)
 
 -- four bytes each: the pixels of joined bytes
 append_4 : (xs ys : List ℕ) (n : ℕ) → length xs ≡ 4 * n → pixels_of_4 (xs ++ ys) ≡ pixels_of_4 xs ++ pixels_of_4 ys
-append_4 xs ys zero e = rw (no_member xs (omega arith)) refl
-append_4 xs ys (suc n) e =
-    let t = four xs (omega arith) in
-    rw t.is (ap (λ (x : List RgbaPixel). pixel t.r t.g t.b t.a ∷ x) (append_4 t.rest ys n (omega (arith, ap length t.is))))
+append_4 [] ys zero e = refl
+append_4 (r ∷ g ∷ b ∷ a ∷ xs) ys (suc n) e = ap (λ (x : List RgbaPixel). pixel r g b a ∷ x) (append_4 xs ys n (omega arith))
+append_4 _ ys _ e = absurd (omega arith)
 
 -- the pixels of joined bytes
 pub pixels_of-append : (channels n : ℕ) (xs ys : List ℕ) → IsChannels channels → length xs ≡ channels * n
@@ -95,17 +85,13 @@ pixels_of-append channels n xs ys (inr e) h = rw e (append_4 xs ys n (rw e at h)
 
 -- the pixel of three bytes
 one_3 : (bytes : List ℕ) → length bytes ≡ 3 → pixels_of_3 bytes ≡ rgba bytes ∷ []
-one_3 bytes e =
-    let t = three bytes (omega arith) in
-    let is : bytes ≡ t.r ∷ t.g ∷ t.b ∷ [] = t.is ∙ ap (λ (x : List ℕ). t.r ∷ t.g ∷ t.b ∷ x) (no_member t.rest (omega (arith, ap length t.is))) in
-    rw is refl
+one_3 (r ∷ g ∷ b ∷ []) e = refl
+one_3 _ e = absurd (omega arith)
 
 -- the pixel of four bytes
 one_4 : (bytes : List ℕ) → length bytes ≡ 4 → pixels_of_4 bytes ≡ rgba bytes ∷ []
-one_4 bytes e =
-    let t = four bytes (omega arith) in
-    let is : bytes ≡ t.r ∷ t.g ∷ t.b ∷ t.a ∷ [] = t.is ∙ ap (λ (x : List ℕ). t.r ∷ t.g ∷ t.b ∷ t.a ∷ x) (no_member t.rest (omega (arith, ap length t.is))) in
-    rw is refl
+one_4 (r ∷ g ∷ b ∷ a ∷ []) e = refl
+one_4 _ e = absurd (omega arith)
 
 -- the pixel of as many bytes as there are channels
 pixels_of-one : (channels : ℕ) (bytes : List ℕ) → IsChannels channels → length bytes ≡ channels → pixels_of channels bytes ≡ rgba bytes ∷ []

@@ -36,7 +36,7 @@ pub pixel_eq-ne : (p q : RgbaPixel) → p ≢ q → pixel_eq p q ≡ false
 pixel_eq-ne p q n = false_from_ne_true _ (λ h. n (pixel_eq-true p q h))
 
 -- pixels that don't pass the test are different
-pub pixel_eq-false : (p q : RgbaPixel) → pixel_eq p q ≡ false → p ≢ q
+pixel_eq-false : (p q : RgbaPixel) → pixel_eq p q ≡ false → p ≢ q
 pixel_eq-false p q h e = true≢false (let t = pixel_eq-from p q e in cc)
 
 -- two pixels are the same or not

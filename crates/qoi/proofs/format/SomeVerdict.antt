@@ -1,7 +1,7 @@
 -- Some verdict holds of any bytes.
-use Rattle.std.proofs.Common.{◌≡◌, ℕ, ◌+◌, ◌-◌, ◌<◌, ◌≤◌, ◌⊎◌, inl, inr, zero, suc, List, [], ◌∷◌, ◌++◌, length, take, drop, arith, refl, ap, sym, ◌∙◌, subst, append_assoc, length-append, true, false, add-one}
+use Rattle.std.proofs.Common.{◌≡◌, ℕ, ◌+◌, ◌-◌, ◌<◌, ◌≤◌, ◌⊎◌, inl, inr, zero, suc, List, [], ◌∷◌, ◌++◌, length, take, drop, arith, refl, ap, sym, ◌∙◌, subst, append_assoc, length-append, add-one}
 use Rattle.std.proofs.lemmas.List.{take-append-drop, length-take}
-use Rattle.std.proofs.lemmas.Bool.{cases_lt, cases_Bool}
+use Rattle.std.proofs.lemmas.Bool.{cases_lt, cases_Bool, true≢false}
 use Rattle.std.proofs.lemmas.Slice.Eq.{bytes_eq-Decides}
 use Rattle.std.specs.Str.{bytes_eq}
 use Rattle.qoi.specs.declared.chunk.Chunk.{Chunk}
@@ -22,7 +22,7 @@ bytes_after_front [] rest fits = fits
 bytes_after_front (b ∷ front) rest fits = bytes_after_front front rest (bytes_after b (front ++ rest) fits)
 
 -- the bytes begin with a whole chunk
-abbrev pub BeginsWithChunk : List ℕ → Type 0
+abbrev BeginsWithChunk : List ℕ → Type 0
 BeginsWithChunk bytes = (c : Chunk) × (rest : List ℕ) × IsChunk c × (bytes ≡ bytes_of c ++ rest)
 
 -- bytes whose first byte is that of a luma
@@ -66,7 +66,7 @@ high_front b bytes fits low =
     ]
 
 -- bytes begin with a whole chunk, or are part of one
-pub front : (bytes : List ℕ) → AreBytes bytes → BeginsWithChunk bytes ⊎ IsPartOfChunk bytes
+front : (bytes : List ℕ) → AreBytes bytes → BeginsWithChunk bytes ⊎ IsPartOfChunk bytes
 front [] fits = inr (part_empty [] (omega arith))
 front (b ∷ bytes) fits =
     elim (cases_lt b 64) [
@@ -137,11 +137,8 @@ marker_verdict n bytes cs eight rest t enough h =
           enough = enough;
         },
       )
-      | inr differs ↦ inr (inr (cs, eight, rest, record { has = t; enough = enough; length_is = h; other = λ e. false_is_not_true (sym differs ∙ same.1 e) }))
+      | inr differs ↦ inr (inr (cs, eight, rest, record { has = t; enough = enough; length_is = h; other = λ e. true≢false (sym (same.1 e) ∙ differs) }))
     ]
-  where
-    false_is_not_true : false ≡ true → ⊥
-    false_is_not_true e = cc
 
 -- the verdict from a reading
 verdict_of_ends : (n : ℕ) (bytes : List ℕ) (cs : List Chunk) (rest : List ℕ) → HasChunks n bytes cs rest → EndsChunks n (then_chunks [] cs) rest

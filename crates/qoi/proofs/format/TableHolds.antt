@@ -3,17 +3,14 @@ use Rattle.std.proofs.Common.{◌≡◌, ◌≢◌, ℕ, suc, ◌+◌, ◌-◌, 
 use Rattle.std.specs.List.{find, range_with_len}
 use Rattle.std.proofs.lemmas.List.{length-set, length-replicate, get_or-replicate}
 use Rattle.std.proofs.lemmas.Bool.{cond-true, cond-false, eqb-false}
-use Rattle.std.proofs.lemmas.Option.{slice_get-get_or}
+use Rattle.std.proofs.lemmas.Option.{slice_get-get_or, same_Some}
 use Rattle.qoi.specs.Qoi.{RgbaPixel, Past, pixel_eq, hash, blank, seen}
 use Rattle.qoi.specs.inner.Table.{Holds, first_blank}
 use Rattle.qoi.proofs.format.SamePixels.{hash_below, pixel_eq-from, pixel_eq-ne}
 
 -- an entry is what the table holds there
 held_at : (entries : List RgbaPixel) (past : Past) (i : ℕ) → length entries ≡ 64 → i < 64 → Holds entries past → get_or entries i blank ≡ seen past i
-held_at entries past i size l holds = same (sym (slice_get-get_or entries i blank (omega arith)) ∙ holds i l)
-  where
-    same : {a b : RgbaPixel} → Some a ≡ Some b → a ≡ b
-    same e = cc
+held_at entries past i size l holds = same_Some _ _ (sym (slice_get-get_or entries i blank (omega arith)) ∙ holds i l)
 
 -- transparent black everywhere holds nothing
 pub holds_none : Holds (replicate 64 blank) []

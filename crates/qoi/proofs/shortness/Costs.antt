@@ -1,5 +1,5 @@
 -- What a pixel costs: the shortest chunk of a fresh one, and a run of repeats.
-use Rattle.std.proofs.Common.{◌≡◌, ◌≢◌, inl, inr, ℕ, zero, suc, ◌+◌, ◌-◌, ◌/◌, ◌%◌, ◌<◌, ◌≤◌, Bool, true, false, ◌||◌, cond, eqb, ◌∷◌, ◌++◌, replicate, refl, sym, le_of_eq, arith}
+use Rattle.std.proofs.Common.{◌≡◌, ◌≢◌, inl, inr, ℕ, zero, suc, ◌+◌, ◌-◌, ◌/◌, ◌%◌, ◌<◌, ◌≤◌, Bool, true, false, ◌||◌, cond, eqb, ◌∷◌, ◌++◌, replicate, refl, sym, le_of_eq, subst, arith}
 use Rattle.std.proofs.lemmas.Bool.{or_cases, or_left, or_right, cond-true, cond-false, cond_both, true≢false, cases_eq, eq-eqb, eqb-true, eqb-false}
 use Rattle.qoi.specs.declared.chunk.Chunk.TheVariants.{Diff, Luma}
 use Rattle.qoi.specs.Qoi.{RgbaPixel, Past, pixel_eq, previous, seen, hash, IsChunk, after_diff, after_luma}
@@ -75,62 +75,24 @@ is_ladder : (past : Past) (p : RgbaPixel) → least past p ≡ ladder (pixel_eq 
 unfolding least
 is_ladder past p = refl
 
--- the least is at least 1
-ladder_low : (s d l r : Bool) → 1 ≤ ladder s d l r
-ladder_low true d l r = omega arith
-ladder_low false true l r = omega arith
-ladder_low false false true r = omega arith
-ladder_low false false false true = omega arith
-ladder_low false false false false = omega arith
+-- what holds of both holds of either
+either : (P : ℕ → Type 0) (b : Bool) (x y : ℕ) → P x → P y → P (cond b x y)
+either P true x y h k = h
+either P false x y h k = k
+
+-- what holds of 1, 2, 4 and 5 holds of the least
+by_ladder : (P : ℕ → Type 0) (past : Past) (p : RgbaPixel) → P 1 → P 2 → P 4 → P 5 → P (least past p)
+by_ladder P past p one two four five = subst P (sym (is_ladder past p))
+    (either P (pixel_eq (seen past (hash p)) p || some_diff (previous past) p) 1 _ one
+    (either P (some_luma (previous past) p) 2 _ two (either P (some_rgb (previous past) p) 4 5 four five)))
+
+-- it is at least 1
+pub least_low : (past : Past) (p : RgbaPixel) → 1 ≤ least past p
+least_low past p = by_ladder (λ n. 1 ≤ n) past p (omega arith) (omega arith) (omega arith) (omega arith)
 
 -- and at most 5
-ladder_high : (s d l r : Bool) → ladder s d l r ≤ 5
-ladder_high true d l r = omega arith
-ladder_high false true l r = omega arith
-ladder_high false false true r = omega arith
-ladder_high false false false true = omega arith
-ladder_high false false false false = omega arith
-
--- at most 4 where an Rgb is there
-ladder_4 : (s d l r : Bool) → r ≡ true → ladder s d l r ≤ 4
-ladder_4 true d l r h = omega arith
-ladder_4 false true l r h = omega arith
-ladder_4 false false true r h = omega arith
-ladder_4 false false false true h = omega arith
-ladder_4 false false false false h = absurd (true≢false (sym h))
-
--- at most 2 where a Luma is
-ladder_2 : (s d l r : Bool) → l ≡ true → ladder s d l r ≤ 2
-ladder_2 true d l r h = omega arith
-ladder_2 false true l r h = omega arith
-ladder_2 false false true r h = omega arith
-ladder_2 false false false r h = absurd (true≢false (sym h))
-
--- more than 1 where none of one byte is
-ladder_over_1 : (s d l r : Bool) → s ≡ false → d ≡ false → 2 ≤ ladder s d l r
-ladder_over_1 true d l r h k = absurd (true≢false h)
-ladder_over_1 false true l r h k = absurd (true≢false k)
-ladder_over_1 false false true r h k = omega arith
-ladder_over_1 false false false true h k = omega arith
-ladder_over_1 false false false false h k = omega arith
-
--- at least 4 where no Luma is either
-ladder_over_2 : (s d l r : Bool) → s ≡ false → d ≡ false → l ≡ false → 4 ≤ ladder s d l r
-ladder_over_2 true d l r h k m = absurd (true≢false h)
-ladder_over_2 false true l r h k m = absurd (true≢false k)
-ladder_over_2 false false true r h k m = absurd (true≢false m)
-ladder_over_2 false false false true h k m = omega arith
-ladder_over_2 false false false false h k m = omega arith
-
--- the least is at least 1
-pub least_low : (past : Past) (p : RgbaPixel) → 1 ≤ least past p
-least_low past p = rw (is_ladder past p) (ladder_low (pixel_eq (seen past (hash p)) p) (some_diff (previous past) p) (some_luma (previous past) p)
-    (some_rgb (previous past) p))
-
--- the least is at most 5
 pub least_high : (past : Past) (p : RgbaPixel) → least past p ≤ 5
-least_high past p = rw (is_ladder past p) (ladder_high (pixel_eq (seen past (hash p)) p) (some_diff (previous past) p) (some_luma (previous past) p)
-    (some_rgb (previous past) p))
+least_high past p = by_ladder (λ n. n ≤ 5) past p (omega arith) (omega arith) (omega arith) (omega arith)
 
 -- where the pixel is seen at its index position the least is 1
 pub least_seen : (past : Past) (p : RgbaPixel) → seen past (hash p) ≡ p → least past p ≤ 1
@@ -142,24 +104,28 @@ least_diff past p e = rw (is_ladder past p) (le_of_eq (cond-true _ 1 _ (or_right
 
 -- where a Luma gives the pixel the least is at most 2
 pub least_luma : (past : Past) (p : RgbaPixel) → some_luma (previous past) p ≡ true → least past p ≤ 2
-least_luma past p e = rw (is_ladder past p) (ladder_2 (pixel_eq (seen past (hash p)) p) (some_diff (previous past) p) (some_luma (previous past) p)
-    (some_rgb (previous past) p) e)
+least_luma past p e =
+    rw (is_ladder past p, e) (either (λ n. n ≤ 2) (pixel_eq (seen past (hash p)) p || some_diff (previous past) p) 1 2 (omega arith) (omega arith))
 
 -- where alpha stays the least is at most 4
 pub least_rgb : (past : Past) (p : RgbaPixel) → some_rgb (previous past) p ≡ true → least past p ≤ 4
-least_rgb past p e = rw (is_ladder past p) (ladder_4 (pixel_eq (seen past (hash p)) p) (some_diff (previous past) p) (some_luma (previous past) p)
-    (some_rgb (previous past) p) e)
+least_rgb past p e =
+    let P = λ (n : ℕ). n ≤ 4 in
+    rw (is_ladder past p, e) (either P (pixel_eq (seen past (hash p)) p || some_diff (previous past) p) 1 _ (omega arith)
+    (either P (some_luma (previous past) p) 2 4 (omega arith) (omega arith)))
 
 -- where the pixel isn't seen at its index position and no Diff gives it, the least is at least 2
 pub least_over_1 : (past : Past) (p : RgbaPixel) → seen past (hash p) ≢ p → some_diff (previous past) p ≡ false → 2 ≤ least past p
-least_over_1 past p n d = rw (is_ladder past p) (ladder_over_1 (pixel_eq (seen past (hash p)) p) (some_diff (previous past) p) (some_luma (previous past) p)
-    (some_rgb (previous past) p) (pixel_eq-ne _ p n) d)
+least_over_1 past p n d =
+    let P = λ (n : ℕ). 2 ≤ n in
+    rw (is_ladder past p, pixel_eq-ne _ p n, d) (either P (some_luma (previous past) p) 2 _ (omega arith)
+    (either P (some_rgb (previous past) p) 4 5 (omega arith) (omega arith)))
 
 -- where no Luma gives it either, the least is at least 4
 pub least_over_2 : (past : Past) (p : RgbaPixel) → seen past (hash p) ≢ p → some_diff (previous past) p ≡ false → some_luma (previous past) p ≡ false
     → 4 ≤ least past p
-least_over_2 past p n d l = rw (is_ladder past p) (ladder_over_2 (pixel_eq (seen past (hash p)) p) (some_diff (previous past) p) (some_luma (previous past) p)
-    (some_rgb (previous past) p) (pixel_eq-ne _ p n) d l)
+least_over_2 past p n d l =
+    rw (is_ladder past p, pixel_eq-ne _ p n, d, l) (either (λ n. 4 ≤ n) (some_rgb (previous past) p) 4 5 (omega arith) (omega arith))
 
 -- where alpha changes too, the least is 5
 pub least_over_4 : (past : Past) (p : RgbaPixel) → seen past (hash p) ≢ p → some_diff (previous past) p ≡ false → some_luma (previous past) p ≡ false

@@ -24,11 +24,7 @@ least_bounds past (Rgba x y z w) k r o = least_high past (pixel_after past (Rgba
 -- a chunk has some bytes
 bytes_some : (c : Chunk) → 0 < length (bytes_of c)
 bytes_some (Place i) = omega arith
-bytes_some (Diff d) = omega arith
-bytes_some (Luma d e) = omega arith
-bytes_some (Run n) = omega arith
-bytes_some (Rgb x y z) = omega arith
-bytes_some (Rgba x y z w) = omega arith
+bytes_some c = omega arith
 
 -- the pixels of a beginning cost no more
 cost_front : (shortest : Past → RgbaPixel → ℕ) (more past : Past) → total_cost shortest past ≤ total_cost shortest (more ++ past)

@@ -4,7 +4,7 @@ use Rattle.std.specs.List.{AllByRecursion}
 use Rattle.std.proofs.lemmas.Bool.{cases_eq}
 use Rattle.std.proofs.lemmas.List.{length-append, length-reverse, reverse-append, reverse-reverse}
 use Rattle.qoi.specs.declared.chunk.Chunk.{Chunk}
-use Rattle.qoi.specs.declared.chunk.Chunk.TheVariants.{Place, Diff, Luma, Run, Rgb, Rgba}
+use Rattle.qoi.specs.declared.chunk.Chunk.TheVariants.{Place}
 use Rattle.qoi.specs.Qoi.{RgbaPixel, Past, blank, seen, hash, then_chunk, then_chunks, meaning, Each, Reaches}
 use Rattle.qoi.specs.Written.{noted, IsChoice, IsAllowedAfter, Written}
 use Rattle.qoi.specs.Raw.{HasChannels}
@@ -24,11 +24,7 @@ place_named past i w = elim (cases_pixel (noted past (hash (seen past i))) (seen
 -- a chunk that is right names an index position that was written
 right_named : (past : Past) (c : Chunk) → IsAllowedAfter IsChoice past c → NamesPixelThere past c
 right_named past (Place i) r = place_named past i r.is_chosen
-right_named past (Diff d) r = tt
-right_named past (Luma d e) r = tt
-right_named past (Run n) r = tt
-right_named past (Rgb x y z) r = tt
-right_named past (Rgba x y z w) r = tt
+right_named past c r = tt
 
 -- what follows from P holds of each chunk where P does
 each_map : (P Q : Past → Chunk → Type 0) → ((past : Past) (c : Chunk) → P past c → Q past c) → (past : Past) (cs : List Chunk) → Each P past cs → Each Q past cs
@@ -68,11 +64,7 @@ named_within past (Place i) cs us vs e l h =
       | inl e ↦ absurd (s.0 e)
       | inr e ↦ e
     ]
-named_within past (Diff d) cs us vs e l h = tt
-named_within past (Luma d d2) cs us vs e l h = tt
-named_within past (Run n) cs us vs e l h = tt
-named_within past (Rgb x y z) cs us vs e l h = tt
-named_within past (Rgba x y z w) cs us vs e l h = tt
+named_within past c cs us vs e l h = tt
 
 -- so are all that chunks name
 all_named : (past : Past) (cs : List Chunk) (us vs : List RgbaPixel) → then_chunks past cs ≡ us ++ vs → Each (λ past c. length past < length vs) past cs

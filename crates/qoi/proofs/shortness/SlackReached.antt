@@ -6,9 +6,9 @@ use Rattle.qoi.specs.Written.{noted, IsChoice, Written}
 use Rattle.qoi.proofs.encoding.Spelled.{FitsDiff, FitsLuma, first_rgb, first_rgba}
 
 -- an Rgb is chosen where the pixel isn't noted and green is far
-pub chosen_rgb : (past : Past) (p : RgbaPixel) → IsPixel (previous past) → noted past (hash p) ≢ p → p.a ≡ (previous past).a
+pub chosen_rgb : (past : Past) (p : RgbaPixel) → IsPixel (previous past) → IsPixel p → noted past (hash p) ≢ p → p.a ≡ (previous past).a
     → (FitsDiff (previous past) p → ⊥) → (FitsLuma (previous past) p → ⊥) → IsChoice past p (Rgb p.r p.g p.b)
-chosen_rgb past p iq n alpha d l = record { place = λ e. absurd (n e); spelled = λ _. first_rgb past p iq alpha d l }
+chosen_rgb past p iq ip n alpha d l = record { place = λ e. absurd (n e); spelled = λ _. first_rgb past p iq ip alpha d l }
 
 -- an Rgba is chosen where the pixel isn't noted and alpha changes
 pub chosen_rgba : (past : Past) (p : RgbaPixel) → noted past (hash p) ≢ p → p.a ≢ (previous past).a → IsChoice past p (Rgba p.r p.g p.b p.a)
@@ -22,6 +22,13 @@ red_differs p q n e = n (ap (λ x. x.r) e)
 alpha_differs : (p q : RgbaPixel) → p.a ≢ q.a → p ≢ q
 alpha_differs p q n e = n (ap (λ x. x.a) e)
 
+-- black and a color are pixels
+pub black_is : IsPixel (pixel 0 0 0 255)
+black_is = record { r = omega arith; g = omega arith; b = omega arith; a = omega arith }
+
+color_is : IsPixel (pixel 101 102 103 255)
+color_is = record { r = omega arith; g = omega arith; b = omega arith; a = omega arith }
+
 -- the list that is written for black, a color, and black, in three channels
 pub written_rgb : Written (pixel 0 0 0 255 ∷ pixel 101 102 103 255 ∷ pixel 0 0 0 255 ∷ []) (Run 1 ∷ Rgb 101 102 103 ∷ Rgb 0 0 0 ∷ [])
 unfolding start blank hash pixel_eq
@@ -33,15 +40,15 @@ written_rgb = record {
     (
       record {
         is_fresh = red_differs _ _ (λ e. absurd (omega arith));
-        is_chosen = chosen_rgb (pixel 0 0 0 255 ∷ []) (pixel 101 102 103 255) (record { r = omega arith; g = omega arith; b = omega arith; a = omega arith })
-            (red_differs _ _ (λ e. absurd (omega arith))) refl (λ f. let x = f.r in absurd (omega arith)) (λ f. let x = f.g in absurd (omega arith));
+        is_chosen = chosen_rgb (pixel 0 0 0 255 ∷ []) (pixel 101 102 103 255) black_is color_is (red_differs _ _ (λ e. absurd (omega arith))) refl
+            (λ f. let x = ap (λ z. z.r) f in absurd (omega arith)) (λ f. let x = ap (λ z. z.g) f in absurd (omega arith));
       },
       (
         record {
           is_fresh = red_differs _ _ (λ e. absurd (omega arith));
-          is_chosen = chosen_rgb (pixel 101 102 103 255 ∷ pixel 0 0 0 255 ∷ []) (pixel 0 0 0 255)
-              (record { r = omega arith; g = omega arith; b = omega arith; a = omega arith })
-              (alpha_differs _ _ (λ e. absurd (omega arith))) refl (λ f. let x = f.r in absurd (omega arith)) (λ f. let x = f.g in absurd (omega arith));
+          is_chosen = chosen_rgb (pixel 101 102 103 255 ∷ pixel 0 0 0 255 ∷ []) (pixel 0 0 0 255) color_is black_is
+              (alpha_differs _ _ (λ e. absurd (omega arith))) refl
+              (λ f. let x = ap (λ z. z.r) f in absurd (omega arith)) (λ f. let x = ap (λ z. z.g) f in absurd (omega arith));
         },
         tt,
       ),

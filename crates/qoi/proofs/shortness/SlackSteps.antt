@@ -1,23 +1,23 @@
 -- Where the seen and the noted pixel differ, and how the slack grows there.
-use Rattle.std.proofs.Common.{◌≡◌, ◌≢◌, ◌⊎◌, inl, inr, ℕ, zero, suc, ◌+◌, ◌≤◌, Bool, true, false, ◌&&◌, cond, eqb, List, [], ◌∷◌, ◌++◌, reverse, replicate, Option, None, Some, slice_get, refl, sym, ap, ◌∙◌, arith}
+use Rattle.std.proofs.Common.{◌≡◌, ◌≢◌, ◌⊎◌, inl, inr, ℕ, ◌+◌, ◌≤◌, Bool, true, ◌&&◌, cond, eqb, List, [], ◌∷◌, ◌++◌, reverse, Option, None, Some, slice_get, refl, sym, ap, ◌∙◌, arith}
 use Rattle.std.specs.List.{find}
 use Rattle.std.specs.Option.{option_or}
-use Rattle.std.proofs.lemmas.Bool.{cond_both, cond-true, cond-false, and_parts, and_from, and_right, true≢false, cases_Bool, eq-eqb, ne_eqb, cases_eq}
+use Rattle.std.proofs.lemmas.Bool.{cond_both, cond-true, cond-false, and_parts, and_from, and_right, true≢false, cases_Bool, eq-eqb, ne_eqb, cases_eq, false_from_ne_true}
 use Rattle.std.proofs.lemmas.List.{reverse-append, reverse-reverse}
 use Rattle.std.proofs.lemmas.List.Folds.{find-append}
 use Rattle.qoi.specs.Qoi.{RgbaPixel, Past, start, previous, seen, hash}
 use Rattle.qoi.specs.Written.{fresh, noted}
 use Rattle.qoi.specs.Shortest.{is_start, slack}
 use Rattle.qoi.specs.Encoded.{OpensBlack}
-use Rattle.qoi.proofs.format.SamePixels.{cases_pixel, pixel_eq-same, pixel_eq-from, pixel_eq-ne}
+use Rattle.qoi.proofs.format.SamePixels.{cases_pixel, pixel_eq-same, pixel_eq-from}
 use Rattle.qoi.proofs.encoding.NotedPixels.{fresh_repeat, fresh_more, noted_repeat, noted_fresh, seen_same, seen_other}
 
 -- the image so far opens with opaque black
-abbrev pub opens : Past → Bool
+abbrev opens : Past → Bool
 opens past = is_start (slice_get (reverse past) 0)
 
 -- the first fresh pixel so far at the index position of opaque black
-abbrev pub first_at : Past → Option RgbaPixel
+abbrev first_at : Past → Option RgbaPixel
 first_at past = find (λ p. eqb (hash p) (hash start)) (reverse (fresh past))
 
 -- the slack of the image so far
@@ -28,11 +28,6 @@ slack_at n past = cond (opens past && is_start (first_at past)) n 0
 pub slack_is : (image : List RgbaPixel) (n : ℕ) → slack image n ≡ slack_at n (reverse image)
 unfolding slack slack_at
 slack_is image n = rw (reverse-reverse image) refl
-
--- at the start there is none
-pub slack_none : (n : ℕ) → slack_at n [] ≡ 0
-unfolding slack_at
-slack_none n = refl
 
 -- a list that begins with opaque black still does with more pixels
 opens_list : (xs ys : List RgbaPixel) → is_start (slice_get xs 0) ≡ true → is_start (slice_get (xs ++ ys) 0) ≡ true
@@ -72,17 +67,9 @@ slack_more n past p = elim (cases_Bool (opens past && is_start (first_at past)))
       | inr e ↦ rw e (omega arith)
     ]
 
--- the slack only grows in a run
-slack_run : (n : ℕ) (past : Past) (p : RgbaPixel) (k : ℕ) → slack_at n past ≤ slack_at n (replicate k p ++ past)
-slack_run n past p zero = omega arith
-slack_run n past p (suc k) =
-    let h = slack_run n past p k in
-    let m = slack_more n (replicate k p ++ past) p in
-    omega arith
-
 -- Where what is seen and what is noted at an index position differ: it is that of opaque black, with which
 -- the image opens and which is seen there, and no fresh pixel so far has it.
-pub record Differs (past : Past) (i : ℕ) : Type 0 where
+record Differs (past : Past) (i : ℕ) : Type 0 where
   pub place : i ≡ hash start
   pub opened : opens past ≡ true
   pub nothing : first_at past ≡ None
@@ -186,7 +173,4 @@ slack_most image n =
 -- there is none where the image doesn't open with opaque black
 pub slack_opens : (image : List RgbaPixel) (n : ℕ) → (OpensBlack image → ⊥) → slack image n ≡ 0
 unfolding slack
-slack_opens [] n closed = refl
-slack_opens (p ∷ image) n closed =
-    let other : is_start (slice_get (p ∷ image) 0) ≡ false = pixel_eq-ne p start (λ e. closed (image, ap (λ q. q ∷ image) e)) in
-    rw other refl
+slack_opens image n closed = rw (false_from_ne_true (is_start (slice_get image 0)) closed) refl

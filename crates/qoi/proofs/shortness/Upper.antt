@@ -118,27 +118,14 @@ module _ (shortest : Past → RgbaPixel → ℕ) (Choice : Past → RgbaPixel �
       → Aligned past (c ∷ cs) → length (bytes_of c) + total_cost shortest past + extra past ≤ total_cost shortest (then_chunk past c) + extra
       (then_chunk past c)
   one_fits past (Run n) cs i h r a = run_fits past n i.0 a
-  one_fits past (Place j) cs i h r a = other_fits past (Place j) i h refl r
-  one_fits past (Diff d) cs i h r a = other_fits past (Diff d) i h refl r
-  one_fits past (Luma d e) cs i h r a = other_fits past (Luma d e) i h refl r
-  one_fits past (Rgb x y z) cs i h r a = other_fits past (Rgb x y z) i h refl r
-  one_fits past (Rgba x y z w) cs i h r a = other_fits past (Rgba x y z w) i h refl r
+  one_fits past c cs i h r a = other_fits past c i h refl r
 
   -- the next run begins at a multiple of 62 repeats
   aligned_next : (past : Past) (c : Chunk) (cs : List Chunk) → IsAllowedAfter Choice past c → IsFullBefore c cs → Aligned past (c ∷ cs)
       → Aligned (then_chunk past c) cs
-  aligned_next past c [] r f a = tt
   aligned_next past (Run m) (Run n ∷ cs) r f a = let e = repeats_run past m in omega arith
-  aligned_next past (Place j) (Run n ∷ cs) r f a = let e = repeats_fresh past _ r.is_fresh in omega arith
-  aligned_next past (Diff d) (Run n ∷ cs) r f a = let e = repeats_fresh past _ r.is_fresh in omega arith
-  aligned_next past (Luma d d2) (Run n ∷ cs) r f a = let e = repeats_fresh past _ r.is_fresh in omega arith
-  aligned_next past (Rgb x y z) (Run n ∷ cs) r f a = let e = repeats_fresh past _ r.is_fresh in omega arith
-  aligned_next past (Rgba x y z w) (Run n ∷ cs) r f a = let e = repeats_fresh past _ r.is_fresh in omega arith
-  aligned_next past c (Place j ∷ cs) r f a = tt
-  aligned_next past c (Diff d ∷ cs) r f a = tt
-  aligned_next past c (Luma d d2 ∷ cs) r f a = tt
-  aligned_next past c (Rgb x y z ∷ cs) r f a = tt
-  aligned_next past c (Rgba x y z w ∷ cs) r f a = tt
+  aligned_next past c (Run n ∷ cs) r f a = let e = repeats_fresh past _ r.is_fresh in omega arith
+  aligned_next past c _ r f a = tt
 
   -- chunks cost no more than their pixels and what is extra
   all_fit : (past : Past) (cs : List Chunk) → AreChunks cs → HasChannels (then_chunks past cs) channels → Each (IsAllowedAfter Choice) past cs
@@ -168,11 +155,7 @@ module _ (shortest : Past → RgbaPixel → ℕ) (Choice : Past → RgbaPixel �
       at_start : (cs : List Chunk) → Aligned [] cs
       at_start [] = tt
       at_start (Run n ∷ cs) = refl
-      at_start (Place j ∷ cs) = tt
-      at_start (Diff d ∷ cs) = tt
-      at_start (Luma d d2 ∷ cs) = tt
-      at_start (Rgb x y z ∷ cs) = tt
-      at_start (Rgba x y z w ∷ cs) = tt
+      at_start _ = tt
 
 -- the written list has at most the bytes of the floor and the slack
 pub upper : (image : List RgbaPixel) (channels : ℕ) (cs : List Chunk) → HasChannels image channels → Written image cs

@@ -11,7 +11,7 @@ use Rattle.qoi.specs.Qoi.{RgbaPixel, IsPixel, Past, previous, hash, chunk_bytes}
 use Rattle.qoi.specs.Raw.{pixels_of}
 use Rattle.qoi.specs.Written.{RunsFollowFull, WrittenBy}
 use Rattle.qoi.specs.Styles.{some_fresh, names, choice_in, styled}
-use Rattle.qoi.specs.inner.CoderState.{held_in, rest_of_one}
+use Rattle.qoi.specs.inner.CoderState.{held_in, single_chunk}
 use Rattle.qoi.specs.inner.Lanes.{AreFourAfter}
 use Rattle.qoi.specs.inner.Packed.{pixel_of_word}
 use Rattle.qoi.specs.inner.Piece.{kept_bytes}
@@ -40,7 +40,7 @@ pub record StillToWrite (l : ImageList) (past : Past) (rest : List RgbaPixel) (t
   pub parts : l.cs ≡ done ++ todo
 
 -- A list that is written for an image in a style, and the bytes that didn't go to a writer yet: those that are kept, and
--- behind them those of the chunks that are still to be written.
+-- after them those of the chunks that are still to be written.
 pub record Writing : Type 0 where
   pub list : ImageList
   pub ahead : List ℕ
@@ -53,9 +53,9 @@ pub record CoderAfter {N : ℕ} (past : Past) (before : Option Chunk) (table : L
   pub begun_is : coder.begun ≡ some_fresh past
   pub placed_is : coder.placed ≡ names before (hash (previous past))
 
--- the chunk of a rest of 1 of a group of n repeats of the coder's last pixel, where a fresh pixel follows
+-- the same for a group of n repeats of the coder's last pixel
 abbrev pub single : {N : ℕ} → Coder N → ℕ → Chunk
-single coder n = rest_of_one coder.style coder.begun coder.placed coder.place n
+single coder n = single_chunk coder.style coder.begun coder.placed coder.place n
 
 -- Between two pixels: the pixels `rest` still come, and the bytes ahead are those that are kept and those of the chunks
 -- that are still to be written, as the style has them.

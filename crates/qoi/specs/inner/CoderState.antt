@@ -13,11 +13,12 @@ held_in Reference past = fresh past
 held_in Places past = fresh past
 held_in Tight past = past
 
--- the chunk of a rest of 1 of a group of n repeats of the pixel of this index position, where a fresh pixel follows
-abbrev pub rest_of_one : Style → Bool → Bool → ℕ → ℕ → Chunk
-rest_of_one Reference begun placed place n = Run 1
-rest_of_one Tight begun placed place n = Run 1
-rest_of_one Places begun placed place n = if begun && (nat_lt 1 n || not placed) then Place place else Run 1
+-- the chunk of the single repeat that is left of a group of n, after runs of 62 and before a fresh pixel: by the index
+-- position of the repeated pixel, whether a fresh pixel came, and whether the chunk before names the position
+abbrev pub single_chunk : Style → Bool → Bool → ℕ → ℕ → Chunk
+single_chunk Reference begun placed place n = Run 1
+single_chunk Tight begun placed place n = Run 1
+single_chunk Places begun placed place n = if begun && (nat_lt 1 n || not placed) then Place place else Run 1
 
 -- the last of the chunks, or the chunk before them where there is none
 abbrev pub last_chunk : Option Chunk → List Chunk → Option Chunk

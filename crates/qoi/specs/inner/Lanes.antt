@@ -20,12 +20,6 @@ diff_steps s = moved s 2 2 2
 abbrev pub luma_steps : RgbaPixel → RgbaPixel
 luma_steps s = pixel ((s.r + (264 - s.g)) % 256) ((s.g + 32) % 256) ((s.b + (264 - s.g)) % 256) s.a
 
--- a function of each number and the one beside it
-abbrev pub stepped : (ℕ → ℕ → ℕ) → List ℕ → List ℕ → List ℕ
-stepped f [] ys = []
-stepped f (x ∷ xs) [] = []
-stepped f (x ∷ xs) (y ∷ ys) = f x y ∷ stepped f xs ys
-
 -- the steps to a pixel from the one before, packed
 abbrev pub step_word : ℕ → ℕ → ℕ
 step_word p q = word (steps (pixel_of_word q) (pixel_of_word p))

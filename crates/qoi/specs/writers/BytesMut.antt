@@ -17,7 +17,7 @@ written_bytes s = take s.written s.buf.now
 abbrev pub bytes_left : BytesMut → List ℕ
 bytes_left s = drop s.written s.buf.now
 
--- it is the same buffer, the bytes stand behind those before, and all later bytes are as before
+-- it is the same buffer, the bytes stand after those before, and all later bytes are as before
 pub record BufferWrote (s : BytesMut) (bytes : List ℕ) (t : BytesMut) : Type 0 where
   pub same_buffer : buffer_name t ≡ buffer_name s
   pub fits : length bytes ≤ length (bytes_left s)

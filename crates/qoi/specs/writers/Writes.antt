@@ -1,5 +1,5 @@
 -- What a writer's relation promises. `wrote a bytes b` says that the writer a became b by writing the bytes.
-use Rattle.std.specs.Prelude.{◌≡◌, ℕ, ◌+◌, List, [], ◌++◌, length, Option}
+use Rattle.std.specs.Prelude.{◌≡◌, ℕ, ◌+◌, List, [], ◌++◌, length, take, drop, Option}
 use Rattle.std.specs.Io.KnownBytes.{Appends}
 
 -- what each writer proves of its relation
@@ -10,6 +10,12 @@ pub record WriterLaws {W : Type 0} (wrote : W → List ℕ → W → Type 0) (ro
   pub both : (a b c : W) (xs ys : List ℕ) → wrote a xs b → wrote b ys c → wrote a (xs ++ ys) c
   -- the room falls by the number of bytes
   pub counts : (a b : W) (bytes : List ℕ) → wrote a bytes b → room b + length bytes ≡ room a
+
+-- the bytes stand after the first n ones, up to `end`, and all later ones are as before
+pub record StandsBehind (old : List ℕ) (n : ℕ) (bytes new : List ℕ) (end : ℕ) : Type 0 where
+  pub reached : end ≡ n + length bytes
+  pub front : take end new ≡ take n old ++ bytes
+  pub later : drop end new ≡ drop end old
 
 -- the bytes were written but for `rest` at their end
 pub record WroteBut {W : Type 0} (wrote : W → List ℕ → W → Type 0) (a : W) (bytes rest : List ℕ) (b : W) : Type 0 where

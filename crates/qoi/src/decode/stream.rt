@@ -4,9 +4,8 @@ ghost use Rattle.std.specs.Io.KnownBytes.{Consumes};
 ghost use Rattle.qoi.specs.Qoi.{AreBytes, end_marker};
 ghost use Rattle.qoi.specs.Raw.{IsChannels};
 ghost use Rattle.qoi.specs.Verdicts.{IsPartOfChunk, EndsBefore};
-ghost use Rattle.qoi.specs.Decoding.{StreamsPixels, ReadsImage, RefusesTaken, RefusesTakenMarker};
+ghost use Rattle.qoi.specs.Decoding.{HasTaken, StreamsPixels, ReadsImage, RefusesTaken, RefusesTakenMarker};
 ghost use Rattle.qoi.specs.inner.Filling.{IsWholePixels, DecodesChunk, filling};
-ghost use Rattle.qoi.specs.inner.Taken.{HasTaken};
 
 use crate::consts::{QOI_OP_RGB, QOI_OP_RGBA, QOI_PADDING, QOI_PADDING_SIZE};
 use crate::decode::pixels::{Decoded, decode_chunk, is_luma};

@@ -14,7 +14,8 @@ use crate::types::Channels::{self, Rgb, Rgba};
 use crate::types::Style::{self, Places, Reference, Tight};
 use crate::utils::Writer;
 
-// Keeps the chunks of an image's raw bytes, `N` bytes a pixel, and sends the writer each full piece.
+// Writes the chunks of an image's raw bytes, `N` bytes a pixel, into the piece, and sends the
+// writer 4096 bytes whenever the piece has as many; the last ones stay in the piece.
 #[inline(always)]
 fn encode_pixels<W: Writer, const N: usize>(
     buf: &mut W,
@@ -45,7 +46,8 @@ fn encode_pixels<W: Writer, const N: usize>(
     }
 }
 
-/// Keeps the chunks of an image's raw bytes, of this many channels, and sends the writer each full piece.
+/// Writes the chunks of an image's raw bytes, of this many channels, into the piece, and sends the
+/// writer 4096 bytes whenever the piece has as many; the last ones stay in the piece.
 pub(super) fn encode_chunks<W: Writer>(
     buf: &mut W,
     piece: &mut Piece,

@@ -24,9 +24,11 @@ use crate::types::Style::{self, Places, Reference, Tight};
 use crate::utils::skip;
 use std::simd::u32x4;
 
-/// The style; the last pixel and its index position; whether a fresh pixel came, and whether the chunk of
-/// the last one names its index position. The table of the 64 positions stands beside it: the processor
-/// keeps these in registers. Pixels of three channels are opaque.
+/// What is known between two pixels: the style; `last`, the last pixel, and `place`, its index
+/// position; `begun`, whether a fresh pixel came, one that differs from the pixel before it; and
+/// `placed`, whether the chunk that was written last is that index position. The table of the 64
+/// positions is passed beside it, so that the processor keeps these few in registers. Pixels of
+/// three channels are opaque.
 #[derive(Drop)]
 pub(super) struct Coder<const N: usize> {
     style: Style,
@@ -59,9 +61,11 @@ impl<const N: usize> Coder<N> {
         }
     }
 
-    // The byte of a rest of 1 of a group of so many repeats, where a fresh pixel follows the group.
+    // A group of `count` repeats takes runs of 62 and one of those that are left. Where a single
+    // one is left and a fresh pixel follows, this is its byte: a run of 1, or in style `Places` the
+    // index position, if a fresh pixel came and the chunk before isn't that position.
     #[inline(always)]
-    fn rest_of_one(&self, count: usize) -> u8
+    fn single_repeat(&self, count: usize) -> u8
         ensures { bytes_of (single self.now count) ≡ result ∷ [] }
     {
         let named = self.begun & ((count > 1) | !self.placed);
@@ -71,8 +75,8 @@ impl<const N: usize> Coder<N> {
         }
     }
 
-    // Takes in that many repeats of the last pixel. In style `Tight` they are put at its index position, too,
-    // which matters for those that open the image alone: any other pixel stands there already.
+    // Notes that `count` repeats of the last pixel were written. Style `Tight` puts them at its
+    // index position, too, which matters only at the start: later the pixel stands there already.
     #[inline(always)]
     fn repeat(&mut self, table: &mut Table, count: usize)
         ensures same { (self.new.last ≡ self.old.last) × (self.new.style ≡ self.old.style) }
@@ -88,9 +92,9 @@ impl<const N: usize> Coder<N> {
         self.placed = self.placed & (count == 0);
     }
 
-    // The chunk of a fresh pixel that doesn't stand at its index position: the first one that spells it out,
-    // but in style `Tight`, of transparent black, the least position where no pixel was put, if there is one.
-    // Returns a number that has the chunk's bytes, and how many these are.
+    // The chunk of a fresh pixel that doesn't stand at its index position: a number that has its
+    // bytes, and how many. It is the one passed, the first that spells the pixel out; but in style
+    // `Tight`, of transparent black, the least position where no pixel was put, if there is one.
     #[inline(always)]
     fn spelled(&self, table: &Table, px: Packed, placed: bool, number: u32, size: u32) -> (u32, u32)
         ensures few { (n : ℕ) → 1 ≤ n → size ≤ n → result.1 ≤ n }
@@ -115,9 +119,8 @@ impl<const N: usize> Coder<N> {
         }
     }
 
-    // Writes the chunk of a fresh pixel of the four, as the style has it: its index position where the pixel
-    // stands there, else mostly the first chunk that spells it out. The pixel then stands there, and is the
-    // last one.
+    // Writes the chunk of the pixel in a lane of the four, which is fresh: its index position if it
+    // stands there, else that of `spelled`. Then the pixel stands there, and is the last one.
     #[inline(always)]
     fn write_fresh(&mut self, table: &mut Table, piece: &mut Piece, quad: &Quad<N>, lane: usize)
         requires room { piece.old.end + chunk_max ≤ ROOM }
@@ -146,7 +149,7 @@ impl<const N: usize> Coder<N> {
         piece.keep_chunk::<N>(quad.pixels[lane], number, pick(placed, 1, size));
     }
 
-    // Writes four fresh pixels.
+    // Writes the chunks of all four pixels, each of which is fresh.
     #[inline(always)]
     fn write_four(&mut self, table: &mut Table, piece: &mut Piece, quad: &Quad<N>)
         requires room { piece.old.end + 4 * chunk_max ≤ ROOM }
@@ -162,8 +165,9 @@ impl<const N: usize> Coder<N> {
         self.write_fresh(table, piece, quad, 3);
     }
 
-    // Writes the repeats from a lane on and the fresh pixel behind them, and returns the lane behind that.
-    // Where no fresh pixel of the four is behind them nothing is written.
+    // Writes the run of the repeats from a lane on, if there are any, and the chunk of the fresh
+    // pixel that follows them; returns the lane after that pixel. Where all up to the last lane
+    // repeat, or no lane is left, it writes nothing and returns the lane that it was called with.
     #[inline(always)]
     fn write_group(
         &mut self,
@@ -192,15 +196,16 @@ impl<const N: usize> Coder<N> {
         if lane + count > 3 {
             return lane;
         }
-        let one = self.rest_of_one(count);
+        let one = self.single_repeat(count);
         piece.keep_run(count, one);
         self.repeat(table, count);
         self.write_fresh(table, piece, quad, lane + count);
         lane + count + 1
     }
 
-    // Writes four pixels that don't all repeat: all where each is fresh, else those up to the last fresh one.
-    // Returns how many pixels these are.
+    // Writes the chunks of four pixels that don't all repeat: of all if each is fresh, else of
+    // those up to the last fresh one (repeats after it may go on in the next four). Returns how
+    // many pixels these are.
     #[inline(always)]
     fn write_lanes(
         &mut self,
@@ -232,7 +237,7 @@ impl<const N: usize> Coder<N> {
         self.write_group(table, piece, &quad, bits, lane)
     }
 
-    // Writes the repeats at the front, 992 at most, and returns how many there are.
+    // Writes the runs of the repeats at the front, none or up to 992, and returns how many repeats.
     #[inline(always)]
     fn write_runs(&mut self, table: &mut Table, piece: &mut Piece, data: &[u8]) -> usize
         requires whole { length «data».now % N ≡ 0 }
@@ -252,15 +257,15 @@ impl<const N: usize> Coder<N> {
         let one = if N * count == data.len() {
             QOI_OP_RUN
         } else {
-            self.rest_of_one(count)
+            self.single_repeat(count)
         };
         piece.keep_runs(count, one);
         self.repeat(table, count);
         count
     }
 
-    // Writes the repeats at the front where the first four pixels repeat; else those of the four up to the
-    // last fresh one. Returns how many pixels these are.
+    // Reads the first four pixels. If all repeat, writes the runs of all repeats at the front, else
+    // the chunks of these four up to the last fresh one. Returns how many pixels were written.
     #[inline(always)]
     fn write_quad(&mut self, table: &mut Table, piece: &mut Piece, data: &[u8]) -> usize
         requires whole { length «data».now % N ≡ 0 }
@@ -281,7 +286,8 @@ impl<const N: usize> Coder<N> {
         self.write_lanes(table, piece, cur, prev, bits)
     }
 
-    /// Writes pixels until the piece is full or fewer than sixteen bytes are left, and returns what is left.
+    /// Writes the chunks of pixels until the piece is full or fewer than sixteen raw bytes are
+    /// left, and returns the raw bytes that are left.
     #[inline(always)]
     pub(super) fn fill<'a>(
         &mut self,
@@ -307,8 +313,8 @@ impl<const N: usize> Coder<N> {
         rest
     }
 
-    // Writes the repeats at the front of the last pixels and the fresh pixel behind them, if there is one, and
-    // returns how many pixels these are.
+    // Of the last pixels, writes the runs of the repeats at the front and the chunk of the fresh
+    // pixel that follows them, if there is one. Returns how many pixels these are.
     #[inline(always)]
     fn write_next(&mut self, table: &mut Table, piece: &mut Piece, data: &[u8]) -> usize
         requires whole { length «data».now % N ≡ 0 }
@@ -322,16 +328,16 @@ impl<const N: usize> Coder<N> {
             → BytesBetween w (drop (N * result) «data».now) table.new self.new piece.new }
     {
         let count = self.write_runs(table, piece, data);
-        let behind = skip(data, N * count);
-        if behind.is_empty() {
+        let after = skip(data, N * count);
+        if after.is_empty() {
             return count;
         }
-        let quad = Quad::alone(Packed::read::<N>(behind), self.last);
+        let quad = Quad::alone(Packed::read::<N>(after), self.last);
         self.write_fresh(table, piece, &quad, 0);
         count + 1
     }
 
-    /// Writes the last pixels: fewer than sixteen bytes.
+    /// Writes the chunks of the last pixels, which have fewer than sixteen raw bytes.
     #[inline(always)]
     pub(super) fn write_last(&mut self, table: &mut Table, piece: &mut Piece, data: &[u8])
         requires whole { length «data».now % N ≡ 0 }

@@ -18,8 +18,8 @@ use std::simd::prelude::*;
 /// How many bytes a writer is sent at once; the last ones may be fewer.
 pub(super) const PIECE: usize = 4096;
 
-/// The room that bytes are kept in: a full piece, what goes past it (the chunks of four pixels, or those of
-/// the last pixels and the end marker), and what is stored behind that.
+/// The room that bytes are kept in: a full piece, what goes past it (the chunks of four pixels, or
+/// those of the last pixels and the end marker), and what is stored after that and means nothing.
 pub(super) const ROOM: usize = PIECE + 128;
 
 /// The most runs that are kept at a time, which are stored at once, and the repeats that they give.
@@ -27,7 +27,7 @@ pub(super) const RUNS_MAX: usize = 16;
 
 pub(super) const REPEATS_MAX: usize = RUNS_MAX * QOI_RUN_MAX;
 
-/// Bytes that are kept: the first `end` ones of a room. Those behind them mean nothing.
+/// Bytes that are kept: the first `end` ones of a room. Those after them mean nothing.
 #[derive(Drop)]
 pub(super) struct Piece<'a> {
     bytes: &'a mut [u8],
@@ -60,7 +60,7 @@ impl<'a> Piece<'a> {
         self.end >= PIECE
     }
 
-    /// Keeps bytes behind those before.
+    /// Keeps these bytes, too, after those that are kept.
     #[inline(always)]
     pub(super) fn keep(&mut self, v: &[u8])
         requires { self.old.end + length v.now ≤ ROOM }
@@ -70,8 +70,8 @@ impl<'a> Piece<'a> {
         self.end = copy_behind(self.bytes, self.end, v);
     }
 
-    /// Keeps a chunk of `size` bytes: the lowest ones of the number and, if there is a fifth, the pixel's
-    /// alpha.
+    /// Keeps a chunk of `size` bytes, too: the lowest ones of the number and, if there is a fifth,
+    /// the pixel's alpha.
     #[inline(always)]
     pub(super) fn keep_chunk<const N: usize>(&mut self, px: u32, number: u32, size: u32)
         requires channels { IsChannels N }
@@ -84,7 +84,8 @@ impl<'a> Piece<'a> {
         self.end = put_chunk::<N>(self.bytes, self.end, px, number, size);
     }
 
-    /// Keeps the run of fewer than 62 repeats, that of a single one as the byte `one`.
+    /// Keeps the run of fewer than 62 repeats, too, or nothing if there are none; a single one is
+    /// given by the byte `one`.
     #[inline(always)]
     pub(super) fn keep_run(&mut self, count: usize, one: u8)
         requires room { self.old.end < ROOM }
@@ -97,7 +98,8 @@ impl<'a> Piece<'a> {
         self.end += usize::from(count > 0);
     }
 
-    /// Keeps the runs of at most 992 repeats, a rest of 1 as the byte `one`.
+    /// Keeps the runs of at most 992 repeats, too; a single one that is left after runs of 62 is
+    /// given by the byte `one`.
     #[inline(always)]
     pub(super) fn keep_runs(&mut self, count: usize, one: u8)
         requires room { self.old.end + RUNS_MAX < ROOM }
@@ -113,7 +115,7 @@ impl<'a> Piece<'a> {
         self.keep_run(count % QOI_RUN_MAX, one);
     }
 
-    /// Sends a full piece to a writer; the bytes behind it are kept.
+    /// Sends the first 4096 bytes to a writer; those after them are kept.
     #[inline(always)]
     pub(super) fn send<W: Writer>(&mut self, buf: &mut W) -> Result<()>
         requires full { PIECE ≤ self.old.end }
@@ -144,7 +146,7 @@ impl<'a> Piece<'a> {
     }
 }
 
-// Sends a full piece, and moves the bytes behind it to the front.
+// Sends the first 4096 bytes to a writer, and moves those after them to the front.
 #[inline(never)]
 fn send_front<W: Writer>(buf: &mut W, bytes: &mut [u8]) -> Result<()>
     requires size { length bytes.old ≡ ROOM }
@@ -159,8 +161,9 @@ fn send_front<W: Writer>(buf: &mut W, bytes: &mut [u8]) -> Result<()>
     Ok(())
 }
 
-/// Stores a chunk behind the first `at` bytes, and returns where it ends. It has `size` bytes: the lowest
-/// ones of the number and, if there is a fifth, the pixel's alpha. Bytes behind the chunk may change.
+/// Stores a chunk after the first `at` bytes, and returns where it ends. It has `size` bytes: the
+/// lowest ones of the number and, if there is a fifth, the pixel's alpha. Bytes after the chunk may
+/// change.
 #[inline(always)]
 pub(crate) fn put_chunk<const N: usize>(
     out: &mut [u8],

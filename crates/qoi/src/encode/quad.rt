@@ -1,12 +1,12 @@
-//! Four pixels at a time, packed in the lanes of a vector: read, compared with the pixels before them, and
-//! each spelled out (QOI specification 1.0, "Chunks").
+//! Four pixels at a time, packed in the lanes of a vector: read, compared with the pixels before
+//! them, and each spelled out (QOI specification 1.0, "Chunks").
 ghost use lib.Lanes.{mask_l, zip2};
 ghost use Rattle.std.specs.Prelude.{◌≡◌, nat_eq, ◌∷◌, ◌+◌, ◌<◌, ◌≤◌, ℕ, length, take, map, slice_index};
 ghost use Rattle.qoi.specs.declared.chunk.Chunk.{Chunk};
 ghost use Rattle.qoi.specs.declared.encode.quad.TheConstants.{READ};
 ghost use Rattle.qoi.specs.Raw.{IsChannels, pixels_of};
 ghost use Rattle.qoi.specs.inner.Packed.{word};
-ghost use Rattle.qoi.specs.inner.Lanes.{stepped, step_word, diff_word, luma_word, green_twice, diff_number, luma_number, rgb_number, full_number, full_count, KeepAlpha, spelled_number, spelled_count, SameAlpha, IsSpelled, AreOpaqueWords, AreFour, places_of};
+ghost use Rattle.qoi.specs.inner.Lanes.{step_word, diff_word, luma_word, green_twice, diff_number, luma_number, rgb_number, full_number, full_count, KeepAlpha, spelled_number, spelled_count, SameAlpha, IsSpelled, AreOpaqueWords, AreFour, places_of};
 
 use crate::packed::Packed;
 use std::simd::prelude::*;
@@ -14,9 +14,9 @@ use std::simd::prelude::*;
 /// How many bytes are read for four pixels: those of four channels.
 pub(super) const READ: usize = 16;
 
-/// Four pixels and the ones before them, packed; their index positions; and the chunks that spell them out:
-/// a number whose lowest bytes are the chunk's, and how many bytes the chunk has. The fifth byte, of an
-/// RGBA, isn't in the number: it is the pixel's alpha.
+/// Four pixels and the ones before them, packed; their index positions; and the chunks that spell
+/// them out: a number whose lowest bytes are the chunk's, and how many bytes the chunk has. The
+/// fifth byte, of an RGBA, isn't in the number: it is the pixel's alpha.
 #[derive(Drop)]
 pub(crate) struct Quad<const N: usize> {
     pub(crate) pixels: [u32; 4],
@@ -28,8 +28,8 @@ pub(crate) struct Quad<const N: usize> {
     ghost four_before: { AreFour before },
     ghost opaque: { N ≡ 3 → AreOpaqueWords pixels },
     ghost places_are: { places ≡ places_of pixels },
-    ghost numbers_are: { numbers ≡ stepped spelled_number pixels before },
-    ghost sizes_are: { sizes ≡ stepped spelled_count pixels before },
+    ghost numbers_are: { numbers ≡ zip2 spelled_number pixels before },
+    ghost sizes_are: { sizes ≡ zip2 spelled_count pixels before },
     ghost few: { (k : ℕ) → k < 4 → slice_index sizes k ≤ N + 1 },
 }
 
@@ -105,6 +105,7 @@ pub(super) fn repeating(cur: u32x4, prev: u32x4) -> u64
 
 // The index positions of pixels.
 #[inline(always)]
+#[tactic(auto, using(crate::proofs::format::Quads::places_lanes))]
 fn places(cur: u32x4) -> u32x4
     ensures lanes { result ≡ places_of cur }
 {
@@ -114,14 +115,16 @@ fn places(cur: u32x4) -> u32x4
 
 // What is added to each channel of a lane of `prev` for that of `cur`; it wraps at 256.
 #[inline(always)]
+#[tactic(auto, using(crate::proofs::format::Quads::steps_lanes))]
 fn steps(cur: u32x4, prev: u32x4) -> u32x4
-    ensures lanes { result ≡ stepped step_word cur prev }
+    ensures lanes { result ≡ zip2 step_word cur prev }
 {
     u32x4::from_le_bytes(cur.to_le_bytes() - prev.to_le_bytes())
 }
 
 // Steps as a difference chunk has them: with 2 added to those of red, green and blue.
 #[inline(always)]
+#[tactic(auto, using(crate::proofs::format::Quads::diff_step_lanes))]
 fn diff_steps(steps: u32x4) -> u32x4
     ensures lanes { result ≡ map diff_word steps }
 {
@@ -137,8 +140,10 @@ fn greens(steps: u32x4) -> u32x4
     g + (g << u32x4::splat(16))
 }
 
-// Steps as a luma chunk has them: green's with 32 added, and red's and blue's less green's with 8 added.
+// Steps as a luma chunk has them: green's with 32 added, and red's and blue's less green's with 8
+// added.
 #[inline(always)]
+#[tactic(auto, using(crate::proofs::format::Quads::luma_step_lanes))]
 fn luma_steps(steps: u32x4) -> u32x4
     ensures lanes { result ≡ map luma_word steps }
 {
@@ -146,7 +151,7 @@ fn luma_steps(steps: u32x4) -> u32x4
     u32x4::from_le_bytes(steps.to_le_bytes() + u32x4::splat(0x0008_2008).to_le_bytes() - gg)
 }
 
-// Numbers whose lowest bytes are the difference chunks of these steps.
+// Numbers whose lowest byte is the difference chunk of these steps.
 #[inline(always)]
 fn diffs(steps: u32x4) -> u32x4
     ensures lanes { result ≡ map diff_number steps }
@@ -173,13 +178,13 @@ fn rgbs(cur: u32x4) -> u32x4
     (cur << u32x4::splat(8)) + u32x4::splat(0xfe)
 }
 
-// The same with RGBA chunks but for their last byte, alpha, where alpha's step isn't 0; and how many bytes
-// a chunk has.
+// Numbers whose bytes are the RGB chunks of the pixels, or where alpha's step isn't 0 the first
+// four bytes of the RGBA chunks; and how many bytes each chunk has.
 #[inline(always)]
 fn fulls<const N: usize>(cur: u32x4, steps: u32x4) -> (u32x4, u32x4)
     requires channels { IsChannels N }
     requires opaque { N ≡ 3 → KeepAlpha steps }
-    ensures words { result.0 ≡ stepped full_number cur steps }
+    ensures words { result.0 ≡ zip2 full_number cur steps }
     ensures counts { result.1 ≡ map full_count steps }
 {
     let word = rgbs(cur);
@@ -194,14 +199,15 @@ fn fulls<const N: usize>(cur: u32x4, steps: u32x4) -> (u32x4, u32x4)
     (word + one, count + one)
 }
 
-// The first chunks of a difference, a luma, an RGB and an RGBA that give the pixels after the ones before
-// them: numbers whose lowest bytes are a chunk's, but for the alpha of an RGBA, and how many bytes it has.
+// The chunk that spells out each pixel after the one before it: the first of difference, luma, RGB
+// and RGBA that gives it. It is a number whose lowest bytes are the chunk's, but for the alpha of
+// an RGBA, and how many bytes the chunk has.
 #[inline(always)]
 fn spell<const N: usize>(cur: u32x4, prev: u32x4) -> (u32x4, u32x4)
     requires channels { IsChannels N }
     requires opaque { N ≡ 3 → SameAlpha cur prev }
-    ensures words { result.0 ≡ stepped spelled_number cur prev }
-    ensures counts { result.1 ≡ stepped spelled_count cur prev }
+    ensures words { result.0 ≡ zip2 spelled_number cur prev }
+    ensures counts { result.1 ≡ zip2 spelled_count cur prev }
     ensures few { (k : ℕ) → k < 4 → slice_index result.1 k ≤ N + 1 }
 {
     let steps = steps(cur, prev);

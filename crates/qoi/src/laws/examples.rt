@@ -13,7 +13,7 @@ ghost use Rattle.qoi.specs.Decoding.{least_byte_count, CouldHold, RefusesBuffer,
 ghost use Rattle.qoi.specs.DecoderState.{DecoderState, output_byte_count, TakesWithin};
 ghost use Rattle.qoi.specs.Runs.{IsCount};
 ghost use Rattle.qoi.specs.Written.{fresh, noted};
-ghost use Rattle.qoi.specs.writers.Behind.{StandsBehind};
+ghost use Rattle.qoi.specs.writers.Writes.{StandsBehind};
 ghost use Rattle.qoi.specs.writers.Writes.{AppendsBeginning};
 ghost use Rattle.qoi.specs.Encoded.{max_len, IsFileLength, image_header, OpensBlack};
 ghost use Rattle.qoi.specs.Regular.{Regular};
@@ -130,6 +130,7 @@ pub fn size_examples()
 {}
 
 /// The headers of raw bytes, and images that open with opaque black.
+#[tactic(auto, unfolding(crate::specs::Qoi::start, crate::specs::Qoi::pixel_eq))]
 pub fn image_examples()
     ensures three_bytes_a_pixel { image_header (replicate 6 0) 2 1 ≡ Ok (record {
       width = 2;

@@ -5,7 +5,7 @@ ghost use Rattle.qoi.specs.declared.header.Header.{Header};
 ghost use Rattle.qoi.specs.declared.types.Channels.{Channels};
 ghost use Rattle.qoi.specs.declared.types.ColorSpace.{ColorSpace};
 ghost use Rattle.qoi.specs.declared.chunk.Chunk.{Chunk};
-ghost use Rattle.qoi.specs.Qoi.{AreBytes, IsChunk, AreChunks, bytes_of, chunk_bytes, IsFile, file, file_pixels, header_bytes, pixel_count, IsValid, header_of, pixel, hash, Reaches, StayBelow, meaning, header_size, channels_number};
+ghost use Rattle.qoi.specs.Qoi.{AreBytes, IsChunk, AreChunks, bytes_of, chunk_bytes, IsFile, file, file_pixels, header_bytes, pixel_count, IsValid, header_of, pixel, hash, Reaches, StayBelow, meaning, header_size, channels_number, chunk_max};
 ghost use Rattle.qoi.specs.Raw.{output};
 ghost use Rattle.qoi.specs.Verdicts.{IsPartOfChunk, IsWhole, IsCut, IsWrong};
 ghost use Rattle.qoi.specs.Decoding.{DecodesFile};
@@ -80,9 +80,9 @@ pub fn files_are_read()
 #[tactic(auto, using(crate::proofs::decoding::TakenBytes::reached_within, crate::proofs::decoding::TakenBytes::below_within))]
 pub fn bytes_taken()
     ensures reached { (n : ℕ) (cs : List Chunk) → AreChunks cs → Reaches n cs
-        → length (chunk_bytes cs) ≤ 5 * n }
+        → length (chunk_bytes cs) ≤ chunk_max * n }
     ensures short { (n : ℕ) (cs : List Chunk) → AreChunks cs → StayBelow n cs
-        → length (meaning cs) < n → 5 + length (chunk_bytes cs) ≤ 5 * n }
+        → length (meaning cs) < n → chunk_max + length (chunk_bytes cs) ≤ chunk_max * n }
 {}
 
 /// Small images and headers, computed on the definitions.

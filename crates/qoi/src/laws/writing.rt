@@ -1,5 +1,5 @@
-//! Laws of the chunk list that is written for an image. They compute whole images and files, so they
-//! import types and variants beside the definitions.
+//! Laws of the chunk list that is written for an image. They compute whole images and files, so
+//! they import types and variants beside the definitions.
 ghost use Rattle.std.specs.Prelude.{◌≡◌, ◌≢◌, ◌↔◌, ℕ, ◌+◌, ◌-◌, ◌*◌, ◌/◌, ◌<◌, ◌≤◌, List, [], ◌∷◌, ◌++◌, length, replicate, map, None, Some};
 ghost use Rattle.std.specs.List.{AllByRecursion, range_with_len};
 ghost use Rattle.qoi.specs.declared.chunk.Chunk.{Chunk};
@@ -25,8 +25,8 @@ pub fn written_is_one()
         → WrittenIn style image cs → WrittenIn style image ds → cs ≡ ds }
 {}
 
-/// In style `Reference` that is the list of `Written`; in style `Places` it is that list with some runs
-/// of 1 replaced, and as long; in style `Tight` it is the list of the tight choices.
+/// In style `Reference` that is the list of `Written`; in style `Places` it is that list with some
+/// runs of 1 replaced, and as long; in style `Tight` it is the list of the tight choices.
 pub fn styles_are_written()
     ensures reference { (image : List RgbaPixel) (cs : List Chunk) → Written image cs
         ↔ WrittenIn Reference image cs }
@@ -65,8 +65,8 @@ pub fn written_is_apart()
         → WrittenIn style image cs → cs ≢ front ++ Place i ∷ Place i ∷ rest }
 {}
 
-/// The pixels of raw bytes, three or four bytes a pixel, are pixels. They are opaque where three bytes make
-/// one, and they give the bytes back.
+/// The pixels of raw bytes, three or four bytes a pixel, are pixels. They are opaque where three
+/// bytes make one, and they give the bytes back.
 pub fn bytes_are_pixels()
     ensures pixels { (channels : ℕ) (bytes : List ℕ) → IsChannels channels
         → AllByRecursion (λ b. b < 256) bytes
@@ -109,8 +109,9 @@ pub fn written_is_regular()
         → WrittenIn style image cs → Regular cs }
 {}
 
-/// Where no pixel of an image is transparent black, as in an image of three channels, each list that reaches
-/// its pixels and begins with them is regular.
+/// Where no pixel of an image is transparent black, as in an image of three channels, each list
+/// that reaches its pixels and begins with them is regular.
+#[tactic(auto, using(crate::proofs::shortness::RegularLists::no_blank_regular, crate::proofs::shortness::RegularLists::opaque_regular))]
 pub fn no_blank_is_regular()
     ensures no_blank { (image : List RgbaPixel) (cs : List Chunk) → Reaches (length image) cs
         → Begins (meaning cs) image → AllByRecursion (λ p. p ≢ blank) image → Regular cs }
@@ -118,8 +119,9 @@ pub fn no_blank_is_regular()
         → Begins (meaning cs) image → HasChannels image 3 → Regular cs }
 {}
 
-/// No regular list whose pixels begin with those of an image has fewer bytes than the image's floor. Neither
-/// the length of its runs nor what it gives past the image matters.
+/// No regular list whose pixels begin with those of an image has fewer bytes than the image's
+/// floor. Neither the length of its runs nor what it gives past the image matters.
+#[tactic(auto, using(crate::proofs::shortness::Lower::lower))]
 pub fn none_is_shorter()
     ensures { (image : List RgbaPixel) (cs : List Chunk) → Covers image cs → Regular cs
         → floor image ≤ length (chunk_bytes cs) }
@@ -132,8 +134,8 @@ pub fn written_is_short()
         → length (chunk_bytes cs) ≤ floor image + slack image channels }
 {}
 
-/// So the written list is at most its slack longer than each regular list whose pixels begin with those of
-/// the image.
+/// So the written list is at most its slack longer than each regular list whose pixels begin with
+/// those of the image.
 pub fn written_is_near_shortest()
     ensures { (style : Style) (image : List RgbaPixel) (channels : ℕ) (cs others : List Chunk)
         → HasChannels image channels
@@ -141,14 +143,16 @@ pub fn written_is_near_shortest()
         → length (chunk_bytes cs) ≤ length (chunk_bytes others) + slack image channels }
 {}
 
-/// An index position holds the same whether every pixel is put at its position, or only the first one and
-/// each that differs from the pixel before it.
+/// An index position holds the same whether every pixel is put at its position, or only the first
+/// one and each that differs from the pixel before it.
+#[tactic(auto, using(crate::proofs::encoding::TightChoice::seen_first_and_fresh))]
 pub fn repeats_put_nothing()
     ensures { (past : Past) (i : ℕ) → seen (first_and_fresh past) i ≡ seen past i }
 {}
 
 /// In style `Tight` transparent black may be given by an index position where no pixel was put. No
-/// chunk list at all whose pixels begin with those of an image has fewer bytes than the written list.
+/// chunk list at all whose pixels begin with those of an image has fewer bytes than the written
+/// list.
 pub fn tight_is_shortest()
     ensures exact { (image : List RgbaPixel) (cs : List Chunk) → WrittenIn Tight image cs
         → length (chunk_bytes cs) ≡ floor0 image }
@@ -204,8 +208,9 @@ pub fn shortest_examples()
         ∷ []) 3 ≡ 0 }
 {}
 
-/// The slack is reached. Opaque black, a color and opaque black again are written in 9 bytes in three channels
-/// and in 11 in four, and a regular list that names the index position of opaque black has 6 and 7.
+/// The slack is reached. Opaque black, a color and opaque black again are written in 9 bytes in
+/// three channels and in 11 in four, and a regular list that names the index position of opaque
+/// black has 6 and 7.
 pub fn slack_is_reached()
     ensures written_rgb { Written (pixel 0 0 0 255 ∷ pixel 101 102 103 255 ∷ pixel 0 0 0 255 ∷ [])
         (Run 1 ∷ Rgb 101 102 103 ∷ Rgb 0 0 0 ∷ []) }
@@ -223,7 +228,8 @@ pub fn slack_is_reached()
         ≡ length (chunk_bytes (Run 1 ∷ Rgba 101 102 103 104 ∷ Place 53 ∷ [])) + 4 }
 {}
 
-/// The greatest length of a file is reached: one pixel that is written in full, in three channels and in four.
+/// The greatest length of a file is reached: one pixel that is written in full, in three channels
+/// and in four.
 pub fn greatest_length_is_reached()
     ensures written_rgb { Written (pixel 11 121 231 255 ∷ []) (Rgb 11 121 231 ∷ []) }
     ensures length_rgb { length (file

@@ -21,8 +21,7 @@ returns-in_err-encode_chunks-clause-refused g c =
       r.0,
       file h r.1.0,
       theirs,
-      chunks_part g.W.Writer.wrote g.W.Writer.room g.met.W.Writer.laws h r.1.0 c.args.buf.now
-          (kept_bytes c.keep.new.self) front r.1.2,
+      chunks_part g.met.W.Writer.laws h r.1.0 c.args.buf.now (kept_bytes c.keep.new.self) front r.1.2,
     )
 
 -- all of the file went but what is kept
@@ -32,8 +31,7 @@ all_but_kept g c =
     let w = c.in_ok-encode_chunks.ensures.written in
     let front : kept_bytes c.keep.new.self ≡ header_bytes c.args.header.now = c.keep.ensures.kept ∙ ap (λ z. z ++ c.encode.result) c.new-piece.ensures
     ∙ c.encode.ensures in
-    marker_kept g.W.Writer.wrote g.W.Writer.room g.met.W.Writer.laws c.args.header.now w.0 c.args.buf.now
-    (kept_bytes c.keep.new.self) front w.2 c.keep-2.ensures.kept
+    marker_kept g.met.W.Writer.laws c.args.header.now w.0 c.args.buf.now (kept_bytes c.keep.new.self) front w.2 c.keep-2.ensures.kept
 
 pub finish-requires : goal.finish-requires
 finish-requires g c =
@@ -46,8 +44,7 @@ finish-requires g c =
     omega (
       arith,
       size,
-      last_fits g.W.Writer.wrote g.W.Writer.room g.met.W.Writer.laws h w.0 c.args.buf.now
-          (all_but_kept g (goal.at.finish-requires g c).After-keep-2) enough,
+      last_fits g.met.W.Writer.laws h w.0 c.args.buf.now (all_but_kept g (goal.at.finish-requires g c).After-keep-2) enough,
     )
 
 pub returns-in_err-finish-clause-refused : goal.returns-in_err-finish-clause-refused
@@ -61,8 +58,7 @@ returns-in_err-finish-clause-refused g c =
       r.0,
       file h w.0,
       theirs,
-      last_part g.W.Writer.wrote g.W.Writer.room g.met.W.Writer.laws h w.0 c.args.buf.now
-          (all_but_kept g (goal.at.returns-in_err-finish-clause-refused g c).After-keep-2) r.1,
+      last_part g.met.W.Writer.laws h w.0 c.args.buf.now (all_but_kept g (goal.at.returns-in_err-finish-clause-refused g c).After-keep-2) r.1,
     )
 
 pub returns-clause-written : goal.returns-clause-written
@@ -72,9 +68,9 @@ returns-clause-written g c =
     let all = all_but_kept g (goal.at.returns-clause-written g c).After-keep-2 in
     let went = c.in_ok-finish.ensures.written in
     let theirs = file_of h c.args.data.now c.requires.valid c.requires.image c.args.style w.0 w.1 in
-    let counted = file_counts g.W.Writer.wrote g.W.Writer.room g.met.W.Writer.laws h w.0 c.args.buf.now all went in (
+    let counted = file_counts g.met.W.Writer.laws h w.0 c.args.buf.now all went in (
       file h w.0,
       theirs,
       rw (c.capacity-room.ensures, c.capacity.ensures) counted,
-      file_went g.W.Writer.wrote g.W.Writer.room g.met.W.Writer.laws h w.0 c.args.buf.now all went,
+      file_went g.met.W.Writer.laws h w.0 c.args.buf.now all went,
     )

@@ -14,7 +14,7 @@ loop-coder-init g c =
     record {
       end = c.requires.begun;
       whole = c.requires.whole;
-      state = piece_starts g.met.W.Writer.laws c.requires.channels (λ i. omega (arith, c.type_inv.data i)) c.requires.whole
+      state = piece_starts _ g.met.W.Writer.laws c.requires.channels (λ i. omega (arith, c.type_inv.data i)) c.requires.whole
           (omega (arith, size, c.requires.room)) new.style (new.state c.new-table.result c.new-table.ensures);
     }
 

@@ -9,8 +9,9 @@ abbrev pub invariant-loop-coder : goal.invariant-loop-coder
 invariant-loop-coder g l = record {
   end : l.piece.end < PIECE;
   whole : length l.rest % g.row.N ≡ 0;
-  state : PieceBetween g.W.Writer.wrote g.W.Writer.room l.fn.style g.row.N l.data
-      (kept_bytes l.initial.piece) l.initial.buf l.rest l.table l.coder (kept_bytes l.piece) l.buf;
+  state : PieceBetween g.W.Writer.wrote g.W.Writer.room
+      (record { start = l.initial.buf; front = kept_bytes l.initial.piece; style = l.fn.style; raw = l.data })
+      l.rest l.table l.coder (kept_bytes l.piece) l.buf;
 }
 
 abbrev pub decreases-loop-coder : goal.decreases-loop-coder

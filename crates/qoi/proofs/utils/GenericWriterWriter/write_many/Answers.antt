@@ -1,6 +1,6 @@
 -- What a write took moves from the rest to what is written.
 use Rattle.std.proofs.Common.{◌≡◌, ◌+◌, ◌-◌, ◌++◌, length, take, drop, refl, sym, ap, ◌∙◌, append_assoc, take-append-drop, arith, length-append}
-use Rattle.std.proofs.lemmas.List.{take_rest, length-take-le}
+use Rattle.std.proofs.lemmas.List.{length-take-le}
 use Rattle.qoi.specs.writers.GenericWriter.{stream_laws}
 use Rattle.qoi.proofs.utils.GenericWriterWriter.write_many.Goals as goal
 
@@ -15,7 +15,7 @@ loop-rest-preserved g c =
     record {
       front = i.front ++ take n rest;
       split = i.split ∙ ap (λ z. i.front ++ z) (sym (take-append-drop n rest)) ∙ sym (append_assoc i.front (take n rest) (drop n rest))
-          ∙ ap (λ z. (i.front ++ take n rest) ++ z) (sym (take_rest rest n));
+          ∙ ap (λ z. (i.front ++ take n rest) ++ z) (sym c.skip-rest.ensures);
       went = (stream_laws g.W.Write.contents).both _ _ _ i.front (take n rest) i.went
           (record { same_writer = refl; appended = c.in_ok-count.ensures.bytes; counted = counted });
     }

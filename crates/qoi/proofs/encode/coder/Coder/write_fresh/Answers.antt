@@ -1,17 +1,18 @@
 -- The chunk is chosen by the table.
 use Rattle.std.proofs.Common.{◌≡◌, ◌≢◌, ◌%◌, ◌/◌, ◌^◌, slice_index, refl, sym, ap, ◌∙◌, arith, subst, take, ◌++◌, [], ◌∷◌, if◌then◌else◌}
 use lib.Lanes.{digits_l}
+use Rattle.std.proofs.lemmas.List.{get_or-map}
 use Rattle.qoi.specs.Qoi.{hash, seen}
 use Rattle.qoi.specs.Written.{IsFirst}
 use Rattle.qoi.specs.Styles.{has_pixel, choice_in}
 use Rattle.qoi.specs.inner.CoderState.{held_in}
 use Rattle.qoi.specs.inner.CoderLoop.{lane_pixel}
+use Rattle.qoi.specs.inner.Packed.{pixel_of_word}
 use Rattle.qoi.specs.inner.Piece.{kept_bytes}
 use Rattle.qoi.proofs.format.SamePixels.{hash_below}
 use Rattle.qoi.proofs.encoding.CoderTable.{test_there, fresh_chosen, fresh_held}
 use Rattle.qoi.proofs.encoding.CoderSteps.{fresh_written}
 use Rattle.qoi.proofs.encoding.NotedPixels.{fresh_more}
-use Rattle.qoi.proofs.encoding.QuadGroups.{place_lane}
 use Rattle.qoi.proofs.encoding.SpelledLanes.{quad_spelled}
 use Rattle.qoi.proofs.encode.coder.Coder.write_fresh.Given.{Over}
 use Rattle.qoi.proofs.encode.coder.Coder.write_fresh.Goals.{After-of_number-px}
@@ -22,7 +23,7 @@ byte : (g : Over) (c : After-of_number-px g) → slice_index c.args.quad.now.pla
 byte g c =
     let quad = c.args.quad.now in
     let place : slice_index quad.places c.args.lane ≡ hash (lane_pixel quad c.args.lane) = ap (λ xs. slice_index xs c.args.lane) quad.places_are
-    ∙ place_lane quad.pixels c.args.lane in
+    ∙ get_or-map (λ w. hash (pixel_of_word w)) quad.pixels c.args.lane 0 0 (omega (arith, quad.four.0, c.requires.lane)) in
     omega (arith, place, hash_below (lane_pixel quad c.args.lane), ap hash c.of_number-px.ensures)
 
 pub at-requires : goal.at-requires

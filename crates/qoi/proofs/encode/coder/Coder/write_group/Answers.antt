@@ -41,7 +41,7 @@ returns-clause-written g c w pixels start =
     let other : slice_get (p ∷ more) 0 ≢ Some last = λ e. count_other last (drop lane pixels) n count (ap (λ x. slice_get x 0) ahead ∙ e) in
     let one = single c.args.self.now n in
     let runs_done = group_written start.between n (p ∷ more) one {next_table = c.repeat.new.table} {next_coder = c.repeat.new.self} split (inl other)
-    (λ _. inr ((λ none. cc), refl)) (c.keep_run.ensures.kept one c.rest_of_one-one.ensures) c.repeat.ensures.same.1 c.repeat.ensures.state in
+    (λ _. inr ((λ none. cc), refl)) (c.keep_run.ensures.kept one c.single_repeat-one.ensures) c.repeat.ensures.same.1 c.repeat.ensures.state in
     let still : c.repeat.new.self.last ≡ before_lane quad k = c.repeat.ensures.same.0 ∙ last_is
     ∙ ap pixel_of_word (sym (before_run start.are lane n run n (omega arith) short)) in
     let differs : p ≢ before_lane quad k = differ (slice_index quad.pixels k) (slice_index quad.before k) (quad.four.1 k) (quad.four_before.1 k)

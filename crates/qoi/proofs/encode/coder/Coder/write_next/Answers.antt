@@ -20,8 +20,8 @@ returns-clause-written g c w b =
     let n = c.write_runs-count.result in
     let inside = c.write_runs-count.ensures.inside in
     let behind = drop (g.row.N * n) raw in
-    let last_part = c.skip-behind.result.now in
-    let back : last_part ≡ behind = c.skip-behind.ensures in
+    let last_part = c.skip-after.result.now in
+    let back : last_part ≡ behind = c.skip-after.ensures in
     let one = c.write_runs-count.ensures.written w b in
     let last = c.write_runs-count.new.self.last in
     let some : 0 < length behind = (let other : length last_part ≢ 0 = eqb-false (length last_part) 0 (sym c.is_empty.ensures ∙ c.if-is_empty.false) in

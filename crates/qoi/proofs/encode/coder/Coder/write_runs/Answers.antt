@@ -56,7 +56,7 @@ returns-clause-written g c w b =
       )
       | else-count-data x ↦ (
         single coder n,
-        x.rest_of_one-one.ensures ∙ ap (λ z. z ∷ []) (sym x.one-is),
+        x.single_repeat-one.ensures ∙ ap (λ z. z ∷ []) (sym x.one-is),
         inr (some_pixels g.row.N behind coder.channels group.whole (omega (arith, size, x.if-count-data.false, group.within)), refl),
       )
     ] in

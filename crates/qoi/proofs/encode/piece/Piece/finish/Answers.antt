@@ -18,9 +18,9 @@ returns-in_err-send-clause-refused g c =
     let laws = g.met.W.Writer.laws in
     let a = c.args.buf.now in
     let all = kept_bytes c.args.self.now in
-    let none = wrote_none g.W.Writer.wrote g.W.Writer.room laws a all in
+    let none = wrote_none laws a all in
     let parts = sym (take-append-drop PIECE all) in
-    let some = wrote_part g.W.Writer.wrote g.W.Writer.room laws a a c.send.new.buf all all (take PIECE all) (drop PIECE all) none parts r.1 in
+    let some = wrote_part laws a a c.send.new.buf all all (take PIECE all) (drop PIECE all) none parts r.1 in
     rw (p.1, p.2) (r.0, some)
 
 -- all went but what is kept now
@@ -32,15 +32,15 @@ all_but_kept g c =
     let old = c.args.self.now in
     elim c.if-is_full.branch [
       | then-is_full+in_ok-send w ↦
-          sent_but g.W.Writer.wrote g.W.Writer.room laws a w.send.new.buf c.if-is_full.buf old w.send.new.self c.if-is_full.self PIECE w.self-is w.buf-is
+          sent_but laws a w.send.new.buf c.if-is_full.buf old w.send.new.self c.if-is_full.self PIECE w.self-is w.buf-is
           w.in_ok-send.ensures.written w.in_ok-send.ensures.kept
-      | else-is_full w ↦ none_but g.W.Writer.wrote g.W.Writer.room laws a c.if-is_full.buf old c.if-is_full.self w.self-is w.buf-is
+      | else-is_full w ↦ none_but laws a c.if-is_full.buf old c.if-is_full.self w.self-is w.buf-is
     ]
 
 pub write_many-requires : goal.write_many-requires
 write_many-requires g c =
     let old = c.args.self.now in
-    left_fits g.W.Writer.wrote g.W.Writer.room g.met.W.Writer.laws c.args.buf.now c.if-is_full.buf (kept_bytes old) (kept_bytes c.if-is_full.self)
+    left_fits g.met.W.Writer.laws c.args.buf.now c.if-is_full.buf (kept_bytes old) (kept_bytes c.if-is_full.self)
     (all_but_kept g (goal.at.write_many-requires g c).Joined-is_full)
     (omega (arith, c.requires, length-take-le old.end old.bytes.now (omega (arith, old.within, old.room))))
 
@@ -53,7 +53,7 @@ returns g c =
     let all = kept_bytes c.args.self.now in
     let kept = kept_bytes c.if-is_full.self in
     record {
-      written = rest_sent g.W.Writer.wrote g.W.Writer.room laws r c.args.buf.now c.if-is_full.buf next all kept but c.write_many.ensures.written;
-      refused = rest_refused g.W.Writer.wrote g.W.Writer.room laws r g.W.Writer.IsFault c.args.buf.now c.if-is_full.buf next all kept but
+      written = rest_sent laws r c.args.buf.now c.if-is_full.buf next all kept but c.write_many.ensures.written;
+      refused = rest_refused laws r g.W.Writer.IsFault c.args.buf.now c.if-is_full.buf next all kept but
           c.write_many.ensures.refused;
     }
