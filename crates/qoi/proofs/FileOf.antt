@@ -17,6 +17,7 @@ use Rattle.qoi.specs.Decoding.{DecodesFile}
 use Rattle.qoi.specs.Encoded.{max_file_len, image_pixels, Spans, IsShortest, IsNearShortest, IsFileBy, IsAsReference, IsShortIn, IsFileOf}
 use Rattle.qoi.proofs.format.Appended.{length-bytes_of}
 use Rattle.qoi.proofs.decoding.FilledBuffer.{take_whole}
+use Rattle.qoi.proofs.decoding.FrontImage.{file_image_is, file_rest_is}
 use Rattle.qoi.proofs.decoding.ImageSize.{channels_are}
 use Rattle.qoi.proofs.decoding.OneFile.{decodes_file}
 use Rattle.qoi.proofs.format.RawPixels.{pixels_of_have, length-pixels_of, output-pixels_of}
@@ -118,6 +119,10 @@ module _ (h : Header) (raw : List ℕ) (valid : IsValid h) (size : length raw �
         (sym (take_whole (pixel_count h) (image_pixels h raw) count) ∙ ap (take (pixel_count h)) (sym means)) in
         decodes_file h cs (file h cs ++ rest) rest raw (is_file cs w) refl image
 
+    -- also where nothing follows
+    whole : (cs : List Chunk) → Lists (image_pixels h raw) cs → DecodesFile (file h cs) h [] raw
+    whole cs w = subst (λ z. DecodesFile z h [] raw) (append-nil (file h cs)) (back cs [] w)
+
     -- what holds whatever lists are written
     pub file_by : (cs : List Chunk) → Lists (image_pixels h raw) cs → IsFileBy Lists h raw (file h cs)
     file_by cs w = record {
@@ -128,6 +133,11 @@ module _ (h : Header) (raw : List ℕ) (valid : IsValid h) (size : length raw �
       fits = omega (arith, list_fits cs w, length-file h cs, max_is_exact h valid);
       long = omega (arith, text_long cs w, length-file h cs);
       comes_back = λ rest. back cs rest w;
+      header = (whole cs w).header;
+      image = sym (file_image_is (file h cs) h [] raw (whole cs w));
+      header_then = λ rest. (back cs rest w).header;
+      image_then = λ rest. sym (file_image_is (file h cs ++ rest) h rest raw (back cs rest w));
+      rest_then = λ rest. sym (file_rest_is (file h cs ++ rest) h rest raw (back cs rest w));
       color_space = λ space others e. e.bytes_are ∙ ap (file (record h { colorspace = space })) (lists.one (image_pixels h raw) e.cs cs e.written w)
           ∙ other_space h space cs;
       apart = λ others front rest i v. lists.apart (image_pixels h raw) others front rest i v;

@@ -4,6 +4,7 @@ pub mod Blocks
 pub mod FastSteps
 pub mod FilledBuffer
 pub mod FirstChunk
+pub mod FrontImage
 pub mod ImageSize
 pub mod LeastBytes
 pub mod OneFile

@@ -12,7 +12,7 @@ use Rattle.qoi.specs.declared.types.Style.TheVariants.{Reference, Places, Tight}
 use Rattle.qoi.specs.declared.header.Header.{Header}
 use Rattle.qoi.specs.declared.chunk.Chunk.{Chunk}
 use Rattle.qoi.specs.declared.chunk.Chunk.TheVariants.{Place}
-use Rattle.qoi.specs.Qoi.{header_size, marker_size, colorspace_at, channels_number, channels_of, colorspace_number, pixel_count, tried_header, IsValid, RgbaPixel, blank, start, chunk_bytes, Reaches, file}
+use Rattle.qoi.specs.Qoi.{header_size, marker_size, colorspace_at, channels_number, channels_of, colorspace_number, pixel_count, tried_header, header_of, IsValid, RgbaPixel, blank, start, chunk_bytes, Reaches, file}
 use Rattle.qoi.specs.Raw.{pixels_of, image_byte_count}
 use Rattle.qoi.specs.Written.{Written}
 use Rattle.qoi.specs.Styles.{WrittenIn}
@@ -20,6 +20,7 @@ use Rattle.qoi.specs.Tight.{floor0}
 use Rattle.qoi.specs.Regular.{Regular, Covers}
 use Rattle.qoi.specs.Shortest.{floor, slack}
 use Rattle.qoi.specs.Decoding.{DecodesFile}
+use Rattle.qoi.specs.Images.{file_image, file_rest}
 
 -- the most bytes that the file of an image of this size has, or the greatest usize if that is less
 abbrev pub max_len : ℕ → ℕ → ℕ → ℕ
@@ -72,6 +73,11 @@ pub record IsFileBy (Lists : List RgbaPixel → List Chunk → Type 0) (h : Head
   pub fits : length bytes ≤ max_file_len h
   pub long : header_size + 1 + marker_size ≤ length bytes
   pub comes_back : (rest : List ℕ) → DecodesFile (bytes ++ rest) h rest raw
+  pub header : header_of bytes ≡ Ok h
+  pub image : file_image bytes ≡ raw
+  pub header_then : (rest : List ℕ) → header_of (bytes ++ rest) ≡ Ok h
+  pub image_then : (rest : List ℕ) → file_image (bytes ++ rest) ≡ raw
+  pub rest_then : (rest : List ℕ) → file_rest (bytes ++ rest) ≡ rest
   pub color_space : (space : ColorSpace) (others : List ℕ) → IsEncoded Lists (record h { colorspace = space }) raw others
       → others ≡ slice_set bytes colorspace_at (colorspace_number space)
   pub apart : (cs front rest : List Chunk) (i : ℕ) → Lists (image_pixels h raw) cs → cs ≢ front ++ Place i ∷ Place i ∷ rest

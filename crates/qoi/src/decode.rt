@@ -9,7 +9,8 @@ ghost use Rattle.qoi.specs.Decoding.{CouldHold, RefusesFileInto, RefusesStreamHe
 ghost use Rattle.qoi.specs.declared.types.Style.{Style};
 ghost use Rattle.qoi.specs.Encoded.{IsFileOf};
 ghost use Rattle.qoi.specs.DecoderState.{output_byte_count, DecodesImage, RefusesDecoding, TakesWithin};
-ghost use Rattle.qoi.specs.Reading.{HasImage, IsDecoderOf, IsImage, IsImageFor};
+ghost use Rattle.qoi.specs.Reading.{IsDecoderOf, IsImage, IsImageFor};
+ghost use Rattle.qoi.specs.Images.{file_image, file_rest, front_image, front_rest};
 ghost use Rattle.qoi.specs.Errors.{IsReaderFault, IsErrorOfCut, IsErrorOfWrong};
 ghost use Rattle.qoi.specs.Raw.{without_fourth, capped_byte_count, image_byte_count, HasImageLength};
 
@@ -46,6 +47,9 @@ pub fn decode_header(data: &[u8]) -> Result<Header>
 pub fn decode_to_buf(buf: &mut [u8], data: &[u8]) -> Result<Header>
     ensures decoded { IfOk result (λ h. (rest : List ℕ)
         × DecodesFile «data».now h rest (take (image_byte_count h) buf.new)) }
+    // What was decoded is the header and the image at the front of the bytes.
+    ensures image { IfOk result (λ h. (header_of «data».now ≡ Ok h)
+        × (take (image_byte_count h) buf.new ≡ file_image «data».now)) }
     ensures refused { IfErr result (RefusesFileInto (length buf.old) «data».now) }
     // Files are accepted, whatever follows them.
     ensures accepts { (h : Header) (cs : List Chunk) (rest : List ℕ) → IsFile h cs
@@ -59,8 +63,6 @@ pub fn decode_to_buf(buf: &mut [u8], data: &[u8]) -> Result<Header>
         × (buf.new ≡ buf.old) }
     // The file of an image, in each style, gives its header and its raw bytes, where the buffer is
     // long enough; so it does where other bytes follow it.
-    ensures comes_back { (h : Header) (raw : List ℕ) → IsFileOf Style.Reference h raw «data».now
-        → length raw ≤ length buf.old → (result ≡ Ok h) × (take (length raw) buf.new ≡ raw) }
     ensures comes_back_in { (style : Style) (h : Header) (raw : List ℕ)
         → IsFileOf style h raw «data».now
         → length raw ≤ length buf.old → (result ≡ Ok h) × (take (length raw) buf.new ≡ raw) }
@@ -92,6 +94,9 @@ pub fn decode_to_buf(buf: &mut [u8], data: &[u8]) -> Result<Header>
 pub fn decode_to_vec(alloc: Global, data: &[u8]) -> Result<(Header, Vec<u8>)>
     ensures decoded { IfOk result (λ x. (rest : List ℕ)
         × DecodesFile «data».now x.0 rest x.1.items) }
+    // What was decoded is the header and the image at the front of the bytes.
+    ensures image { IfOk result (λ x. (header_of «data».now ≡ Ok x.0)
+        × (x.1.items ≡ file_image «data».now)) }
     ensures length { IfOk result (λ x. HasImageLength (capped_byte_count x.0) x.1.items) }
     ensures refused { IfErr result (λ e. RefusesFile «data».now e
         ⊎ ((e ≡ Error.OutOfMemory) × (h : Header) × (header_of «data».now ≡ Ok h))) }
@@ -104,8 +109,6 @@ pub fn decode_to_vec(alloc: Global, data: &[u8]) -> Result<(Header, Vec<u8>)>
         → IsOkUnless result Error.OutOfMemory }
     // The file of an image, in each style, gives its header and its raw bytes, unless memory runs
     // out; so it does where other bytes follow it.
-    ensures comes_back { (h : Header) (raw : List ℕ) → IsFileOf Style.Reference h raw «data».now
-        → MatchResult result (λ x. (x.0 ≡ h) × (x.1.items ≡ raw)) (λ e. e ≡ Error.OutOfMemory) }
     ensures comes_back_in { (style : Style) (h : Header) (raw : List ℕ)
         → IsFileOf style h raw «data».now
         → MatchResult result (λ x. (x.0 ≡ h) × (x.1.items ≡ raw)) (λ e. e ≡ Error.OutOfMemory) }
@@ -160,12 +163,12 @@ impl<'a> Decoder<Bytes<'a>> {
     pub fn new(data: &'a [u8]) -> Result<Decoder<Bytes<'a>>>
         ensures accepted { IfOk result (λ d. (header_of «data».entry.now ≡ Ok d.header)
             × (d.channels ≡ d.header.channels) × (d.reader ≡ drop header_size «data».entry.now)) }
+        // The image ahead and what follows it are those of the file at the front of the bytes.
+        ensures image { IfOk result (λ d.
+            (front_image d.channels d.header d.reader ≡ file_image «data».entry.now)
+            × (front_rest d.header d.reader ≡ file_rest «data».entry.now)) }
         // Of the file of an image, in each style and with any bytes after it, the decoder has the header,
         // and the bytes after the header are the image, and then the rest.
-        ensures comes_back { (h : Header) (raw : List ℕ)
-            → IsFileOf Style.Reference h raw «data».entry.now
-            → IsOkAnd result (λ d. (d.header ≡ h)
-            × IsImageFor d (drop header_size «data».entry.now) [] raw) }
         ensures comes_back_in { (style : Style) (h : Header) (raw : List ℕ)
             → IsFileOf style h raw «data».entry.now
             → IsOkAnd result (λ d. (d.header ≡ h)
@@ -215,11 +218,13 @@ impl<R: Read + Drop> Decoder<R> {
             → IfOk result (λ d. header_of bytes ≡ Ok d.header) }
         ensures behind { (bytes : List ℕ) → R.remaining reader ≡ Some bytes
             → IfOk result (λ d. R.remaining d.reader ≡ Some (drop header_size bytes)) }
+        // The image ahead and what follows it are those of the file that stood there.
+        ensures image { IfSome (R.remaining reader) (λ bytes. IfOk result (λ d.
+            IfSome (R.remaining d.reader) (λ ahead.
+            (front_image d.channels d.header ahead ≡ file_image bytes)
+            × (front_rest d.header ahead ≡ file_rest bytes)))) }
         // Where they are the file of an image, in each style and with any bytes after it, the bytes after
         // the header are the image, and then the rest.
-        ensures comes_back { (h : Header) (raw bytes : List ℕ)
-            → IsFileOf Style.Reference h raw bytes → R.remaining reader ≡ Some bytes
-            → IfOk result (λ d. (d.header ≡ h) × IsImageFor d (drop header_size bytes) [] raw) }
         ensures comes_back_in { (style : Style) (h : Header) (raw bytes : List ℕ)
             → IsFileOf style h raw bytes → R.remaining reader ≡ Some bytes
             → IfOk result (λ d. (d.header ≡ h) × IsImageFor d (drop header_size bytes) [] raw) }
@@ -339,28 +344,18 @@ impl<R: Reader> Decoder<R> {
             → R.ahead self.old.reader ≡ Some bytes
             → IsWhole (pixel_count self.old.header) bytes cs rest
             → output_byte_count self.old ≤ length buf.old → IsOk result }
-        // Where the bytes ahead are an image and then a rest, a success gives the image and leaves the rest.
-        ensures image { (bytes rest raw : List ℕ) → IsImageFor self.old bytes rest raw
-            → R.ahead self.old.reader ≡ Some bytes → IfOk result (λ size. take size buf.new ≡ raw) }
-        ensures left { (bytes rest raw : List ℕ) → IsImageFor self.old bytes rest raw
-            → R.ahead self.old.reader ≡ Some bytes
-            → OnOk result (R.ahead self.new.reader ≡ Some rest) }
+        // What was decoded is the image at the front of the bytes ahead, and what follows it is left.
+        ensures image { IfSome (R.ahead self.old.reader) (λ bytes. IfOk result (λ size.
+            (take size buf.new ≡ front_image self.old.channels self.old.header bytes)
+            × (R.ahead self.new.reader ≡ Some (front_rest self.old.header bytes)))) }
         // Only a fault of the reader refuses it, where the buffer is long enough; in memory nothing does.
         ensures faults { (bytes rest raw : List ℕ) → IsImageFor self.old bytes rest raw
             → R.ahead self.old.reader ≡ Some bytes → output_byte_count self.old ≤ length buf.old
             → IfErr result (IsReaderFault R.in_memory) }
-        // What was decoded stood ahead, and what follows it is left.
-        ensures read { IfSome (R.ahead self.old.reader) (λ bytes. IfOk result (λ size.
-            HasImage self.old.channels bytes self.old.header (take size buf.new))) }
+        // It is chunks that stood ahead, the end marker and what is left.
         ensures rest { (bytes : List ℕ) → R.ahead self.old.reader ≡ Some bytes
             → IfOk result (λ size. (rest : List ℕ) × (R.ahead self.new.reader ≡ Some rest)
             × IsImage self.old.channels bytes self.old.header rest (take size buf.new)) }
-        // Where the bytes ahead begin with an image by this header and in these channels, as `read` of another
-        // decoder may say, a success decodes that image.
-        ensures same { (channels : Channels) (h : Header) (bytes raw : List ℕ)
-            → HasImage channels bytes h raw → channels ≡ self.old.channels
-            → h ≡ self.old.header → R.ahead self.old.reader ≡ Some bytes
-            → IfOk result (λ size. take size buf.new ≡ raw) }
         // Where the decoder was made from these bytes and has the file's own channels, a file stands at their
         // front, and this is its image.
         ensures file { (source ahead : List ℕ) → IsDecoderOf self.old source ahead
@@ -369,11 +364,9 @@ impl<R: Reader> Decoder<R> {
             × DecodesFile source self.old.header rest (take size buf.new)) }
         // The output in three channels is that in four without each fourth byte; of a file of three
         // channels each fourth byte of the output in four is 255.
-        ensures rgb { (channels : Channels) (h : Header) (bytes four : List ℕ)
-            → HasImage channels bytes h four → channels ≡ Channels.Rgba
-            → self.old.channels ≡ Channels.Rgb → h ≡ self.old.header
-            → R.ahead self.old.reader ≡ Some bytes
-            → IfOk result (λ size. take size buf.new ≡ without_fourth four) }
+        ensures rgb { self.old.channels ≡ Channels.Rgb → IfSome (R.ahead self.old.reader) (λ bytes.
+            IfOk result (λ size. take size buf.new
+            ≡ without_fourth (front_image Channels.Rgba self.old.header bytes))) }
         ensures opaque { self.old.channels ≡ Channels.Rgba → self.old.header.channels ≡ Channels.Rgb
             → IfOk result (λ size. (i : ℕ) → i < pixel_count self.old.header
             → slice_index (take size buf.new) (4 * i + 3) ≡ 255) }
@@ -439,28 +432,18 @@ impl<R: Reader> Decoder<R> {
             → R.ahead self.old.reader ≡ Some bytes
             → IsWhole (pixel_count self.old.header) bytes cs rest
             → IsOkUnless result Error.OutOfMemory }
-        // Where the bytes ahead are an image and then a rest, a success gives the image and leaves the rest.
-        ensures image { (bytes rest raw : List ℕ) → IsImageFor self.old bytes rest raw
-            → R.ahead self.old.reader ≡ Some bytes → IfOk result (λ out. out.items ≡ raw) }
-        ensures left { (bytes rest raw : List ℕ) → IsImageFor self.old bytes rest raw
-            → R.ahead self.old.reader ≡ Some bytes
-            → OnOk result (R.ahead self.new.reader ≡ Some rest) }
+        // What was decoded is the image at the front of the bytes ahead, and what follows it is left.
+        ensures image { IfSome (R.ahead self.old.reader) (λ bytes. IfOk result (λ out.
+            (out.items ≡ front_image self.old.channels self.old.header bytes)
+            × (R.ahead self.new.reader ≡ Some (front_rest self.old.header bytes)))) }
         // Only want of memory and a fault of the reader refuse it; in memory only want of memory does.
         ensures faults { (bytes rest raw : List ℕ) → IsImageFor self.old bytes rest raw
             → R.ahead self.old.reader ≡ Some bytes
             → IfErr result (λ e. (e ≡ Error.OutOfMemory) ⊎ IsReaderFault R.in_memory e) }
-        // What was decoded stood ahead, and what follows it is left.
-        ensures read { IfSome (R.ahead self.old.reader) (λ bytes. IfOk result (λ out.
-            HasImage self.old.channels bytes self.old.header out.items)) }
+        // It is chunks that stood ahead, the end marker and what is left.
         ensures rest { (bytes : List ℕ) → R.ahead self.old.reader ≡ Some bytes
             → IfOk result (λ out. (rest : List ℕ) × (R.ahead self.new.reader ≡ Some rest)
             × IsImage self.old.channels bytes self.old.header rest out.items) }
-        // Where the bytes ahead begin with an image by this header and in these channels, as `read` of another
-        // decoder may say, a success decodes that image.
-        ensures same { (channels : Channels) (h : Header) (bytes raw : List ℕ)
-            → HasImage channels bytes h raw → channels ≡ self.old.channels
-            → h ≡ self.old.header → R.ahead self.old.reader ≡ Some bytes
-            → IfOk result (λ out. out.items ≡ raw) }
         // Where the decoder was made from these bytes and has the file's own channels, a file stands at their
         // front, and this is its image.
         ensures file { (source ahead : List ℕ) → IsDecoderOf self.old source ahead
@@ -469,11 +452,9 @@ impl<R: Reader> Decoder<R> {
             × DecodesFile source self.old.header rest out.items) }
         // The output in three channels is that in four without each fourth byte; of a file of three
         // channels each fourth byte of the output in four is 255.
-        ensures rgb { (channels : Channels) (h : Header) (bytes four : List ℕ)
-            → HasImage channels bytes h four → channels ≡ Channels.Rgba
-            → self.old.channels ≡ Channels.Rgb → h ≡ self.old.header
-            → R.ahead self.old.reader ≡ Some bytes
-            → IfOk result (λ out. out.items ≡ without_fourth four) }
+        ensures rgb { self.old.channels ≡ Channels.Rgb → IfSome (R.ahead self.old.reader) (λ bytes.
+            IfOk result (λ out. out.items
+            ≡ without_fourth (front_image Channels.Rgba self.old.header bytes))) }
         ensures opaque { self.old.channels ≡ Channels.Rgba → self.old.header.channels ≡ Channels.Rgb
             → IfOk result (λ out. (i : ℕ) → i < pixel_count self.old.header
             → slice_index out.items (4 * i + 3) ≡ 255) }
