@@ -1,6 +1,7 @@
 -- Lemmas on decoding.
 pub mod Ahead
 pub mod Blocks
+pub mod EncodedAgain
 pub mod FastSteps
 pub mod FilledBuffer
 pub mod FirstChunk

@@ -1,5 +1,5 @@
 -- Whole bytes have one image and one rest, which are functions of them.
-use Rattle.std.proofs.Common.{◌≡◌, ℕ, zero, suc, ◌+◌, ◌<◌, ◌≤◌, List, [], ◌∷◌, ◌++◌, length, take, drop, arith, refl, ap, sym, ◌∙◌, subst, append_assoc, length-append, replicate, Ok, Option, Some, None, IfSome}
+use Rattle.std.proofs.Common.{◌≡◌, ℕ, zero, suc, ◌+◌, ◌*◌, ◌<◌, ◌≤◌, List, [], ◌∷◌, ◌++◌, length, take, drop, arith, refl, ap, sym, ◌∙◌, subst, append_assoc, length-append, replicate, Ok, Option, Some, None, IfSome}
 use Rattle.std.specs.Prelude.{nat_le, if◌then◌else◌}
 use Rattle.std.proofs.lemmas.Bool.Decides.{nat_tests}
 use Rattle.std.proofs.lemmas.List.{length-replicate}
@@ -16,6 +16,7 @@ use Rattle.qoi.specs.Decoding.{DecodesFile, TakesHeader}
 use Rattle.qoi.specs.Reading.{IsImage}
 use Rattle.qoi.specs.Images.{chunk_by, front_chunk, chunks_after, front_chunks, front_image, front_rest, image_by, rest_by, file_image, file_rest}
 use Rattle.qoi.proofs.decoding.Ahead.{header_read_from}
+use Rattle.qoi.proofs.decoding.LeastBytes.{nine_taken}
 use Rattle.qoi.proofs.decoding.StreamVerdicts.{rgb_is_without_fourth}
 use Rattle.qoi.proofs.format.Appended.{length-meaning}
 use Rattle.qoi.proofs.format.OneVerdict.{StayBelowAfter}
@@ -154,3 +155,20 @@ three_read channels h None left out three reads = tt
 three_read channels h (Some bytes) left out three reads =
     let r = reads bytes refl in
     image_is channels h bytes r.0 out r.2 ∙ ap (λ c. front_image c h bytes) three ∙ three_of_front h bytes
+
+-- an image that has a byte has a pixel
+pub some_pixels : (n k : ℕ) → 3 ≤ n * k → 1 ≤ n
+some_pixels zero k h = absurd (omega arith)
+some_pixels (suc n) k h = omega arith
+
+-- what is read of bytes, if they are known, is nine of them at least
+pub nine_read : (channels : Channels) (h : Header) (old left : Option (List ℕ)) (out : List ℕ) → 1 ≤ pixel_count h
+    → ((bytes : List ℕ) → old ≡ Some bytes → (rest : List ℕ) × (left ≡ Some rest) × IsImage channels bytes h rest out)
+    → IfSome old (λ bytes. IfSome left (λ rest. length rest + 9 ≤ length bytes))
+nine_read channels h None left out some reads = tt
+nine_read channels h (Some bytes) None out some reads = tt
+nine_read channels h (Some bytes) (Some left) out some reads =
+    let r = reads bytes refl in
+    let told = r.1 in
+    let same : left ≡ r.0 = cc in
+    subst (λ z. length z + 9 ≤ length bytes) (sym same) (nine_taken (pixel_count h) bytes r.2.cs r.0 some r.2.whole)

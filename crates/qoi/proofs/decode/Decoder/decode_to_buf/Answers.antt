@@ -1,5 +1,5 @@
 -- Whole bytes in memory are not refused, and each image takes a bounded number of bytes.
-use Rattle.std.proofs.Common.{◌≡◌, ◌+◌, ◌*◌, length, slice_index, ap, ◌∙◌, arith, subst}
+use Rattle.std.proofs.Common.{◌≡◌, ◌≤◌, ◌+◌, ◌*◌, length, slice_index, ap, ◌∙◌, arith, subst}
 use Rattle.std.proofs.lemmas.List.{length-take-le}
 use Rattle.std.proofs.lemmas.Result.{err_from_is_err_and}
 use lib.Seq.{take-append_seam}
@@ -8,7 +8,7 @@ use Rattle.qoi.specs.Qoi.{channels_number, pixel_count}
 use Rattle.qoi.specs.Decoding.{RefusesImage}
 use Rattle.qoi.specs.DecoderState.{TakesAtMost}
 use Rattle.qoi.proofs.decoding.Ahead.{fault_ahead, file_from_image, fourth_of_image, image_not_cut, image_not_wrong, image_read_of}
-use Rattle.qoi.proofs.decoding.FrontImage.{front_read, three_read}
+use Rattle.qoi.proofs.decoding.FrontImage.{front_read, nine_read, some_pixels, three_read}
 use Rattle.qoi.specs.Reading.{IsImage}
 use Rattle.qoi.proofs.decoding.RefusedBytes.{end_is_cut, padding_is_only_wrong, refused_for_cut, refused_for_wrong}
 use Rattle.qoi.proofs.decoding.ImageSize.{channels_are, image_pixels}
@@ -128,6 +128,13 @@ returns-in_err-decode_image-clause-only_wrong g c bytes told is =
 
 pub returns-clause-image : goal.returns-clause-image
 returns-clause-image g c = front_read _ _ (g.R.Reader.ahead c.args.self.now.reader) _ _ (returns-clause-rest g c)
+
+pub returns-clause-took : goal.returns-clause-took
+returns-clause-took g c =
+    let d = c.args.self.now in
+    let many : 3 ≤ pixel_count d.header * channels_number d.channels =
+    omega (arith, c.required_buf_len-size.ensures.some, c.required_buf_len-size.ensures.bytes) in
+    nine_read d.channels d.header (g.R.Reader.ahead d.reader) _ _ (some_pixels _ _ many) (returns-clause-rest g c)
 
 pub returns-clause-rgb : goal.returns-clause-rgb
 returns-clause-rgb g c three = three_read _ _ (g.R.Reader.ahead c.args.self.now.reader) _ _ three (returns-clause-rest g c)
