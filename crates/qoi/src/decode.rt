@@ -7,8 +7,7 @@ ghost use Rattle.qoi.specs.Qoi.{header_of, pixel_count, IsFile, file, header_siz
 ghost use Rattle.qoi.specs.Verdicts.{IsWhole, AreWrong, AreCut};
 ghost use Rattle.qoi.specs.Decoding.{CouldHold, RefusesFileInto, RefusesStreamHeader, TakesHeader, RefusesFile, DecodesFile};
 ghost use Rattle.qoi.specs.declared.types.Style.{Style};
-ghost use Rattle.qoi.specs.declared.types.ColorSpace.{ColorSpace};
-ghost use Rattle.qoi.specs.Encoded.{IsFileOf, image_header};
+ghost use Rattle.qoi.specs.Encoded.{IsFileOf};
 ghost use Rattle.qoi.specs.DecoderState.{output_byte_count, DecodesImage, RefusesDecoding, TakesWithin};
 ghost use Rattle.qoi.specs.Reading.{IsDecoderOf, IsImage, IsImageFor};
 ghost use Rattle.qoi.specs.Images.{file_image, file_rest, front_image, front_rest};
@@ -98,15 +97,12 @@ pub fn decode_to_buf(buf: &mut [u8], data: &[u8]) -> Result<Header>
 /// `OutOfMemory`, and those of the chunks and the end marker. The vector has the header's `n_bytes`,
 /// which are at most 248 for each byte of the slice; no more memory than that is written.
 pub fn decode_to_vec(alloc: Global, data: &[u8]) -> Result<(Header, Vec<u8>)>
-    // What the result is: header and image of the file at the front of the bytes. The image can be
-    // encoded again with the header's width and height.
+    // What the result is: header and image of the file at the front of the bytes.
     ensures decoded { IfOk result (λ x. (rest : List ℕ)
         × DecodesFile «data».now x.0 rest x.1.items) }
     ensures image { IfOk result (λ x. (header_of «data».now ≡ Ok x.0)
         × (x.1.items ≡ file_image «data».now)) }
     ensures length { IfOk result (λ x. HasImageLength (capped_byte_count x.0) x.1.items) }
-    ensures again { IfOk result (λ x. image_header x.1.items x.0.width x.0.height
-        ≡ Ok (record x.0 { colorspace = ColorSpace.Srgb })) }
 
     // The refusals.
     ensures refused { IfErr result (λ e. RefusesFile «data».now e
@@ -447,17 +443,10 @@ impl<R: Reader> Decoder<R> {
     /// and the end marker has eight.) A stream can't be asked how many bytes it has.
     pub fn decode_to_vec(&mut self, alloc: Global) -> Result<Vec<u8>>
         // What the result is: the image at the front of the bytes ahead, whose chunks are taken
-        // with the end marker; what follows is left. The image can be
-        // encoded again with the header's width and height.
+        // with the end marker; what follows is left.
         ensures decoded { IfOk result (λ out. DecodesImage R.ahead self.old self.new out.items) }
         ensures length { IfOk result (λ out.
             HasImageLength (output_byte_count self.old) out.items) }
-        ensures again { IfOk result (λ out.
-            image_header out.items self.old.header.width self.old.header.height
-            ≡ Ok (record self.old.header {
-              channels = self.old.channels;
-              colorspace = ColorSpace.Srgb;
-            })) }
         ensures image { IfSome (R.ahead self.old.reader) (λ bytes. IfOk result (λ out.
             (out.items ≡ front_image self.old.channels self.old.header bytes)
             × (R.ahead self.new.reader ≡ Some (front_rest self.old.header bytes)))) }

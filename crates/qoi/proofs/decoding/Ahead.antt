@@ -5,7 +5,6 @@ use Rattle.std.specs.Io.KnownBytes.{Consumes}
 use Rattle.qoi.specs.declared.error.Error.{Error}
 use Rattle.qoi.specs.declared.header.Header.{Header}
 use Rattle.qoi.specs.declared.types.Channels.{Channels}
-use Rattle.qoi.specs.declared.chunk.Chunk.{Chunk}
 use Rattle.qoi.specs.declared.types.Style.{Style}
 use Rattle.qoi.specs.Qoi.{channels_number, header_bytes, header_of, header_size, IsValid, pixel_count, meaning}
 use Rattle.qoi.specs.Raw.{output}

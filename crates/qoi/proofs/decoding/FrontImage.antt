@@ -14,7 +14,7 @@ use Rattle.qoi.specs.Raw.{output, without_fourth}
 use Rattle.qoi.specs.Verdicts.{IsWhole}
 use Rattle.qoi.specs.Decoding.{DecodesFile, TakesHeader}
 use Rattle.qoi.specs.Reading.{IsImage}
-use Rattle.qoi.specs.Images.{chunk_by, front_chunk, chunks_after, front_chunks, front_image, front_rest, image_by, rest_by, file_image, file_rest}
+use Rattle.qoi.specs.Images.{front_chunk, chunks_after, front_chunks, front_image, front_rest, image_by, rest_by, file_image, file_rest}
 use Rattle.qoi.proofs.decoding.Ahead.{header_read_from}
 use Rattle.qoi.proofs.decoding.LeastBytes.{nine_taken}
 use Rattle.qoi.proofs.decoding.StreamVerdicts.{rgb_is_without_fourth}

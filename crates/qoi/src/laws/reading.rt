@@ -6,7 +6,8 @@ ghost use Rattle.qoi.specs.declared.types.Channels.{Channels};
 ghost use Rattle.qoi.specs.declared.types.ColorSpace.{ColorSpace};
 ghost use Rattle.qoi.specs.declared.chunk.Chunk.{Chunk};
 ghost use Rattle.qoi.specs.Qoi.{AreBytes, IsChunk, AreChunks, bytes_of, chunk_bytes, IsFile, file, file_pixels, header_bytes, pixel_count, IsValid, header_of, pixel, hash, Reaches, StayBelow, meaning, header_size, channels_number};
-ghost use Rattle.qoi.specs.Raw.{output};
+ghost use Rattle.qoi.specs.Raw.{output, image_byte_count};
+ghost use Rattle.qoi.specs.Encoded.{image_header};
 ghost use Rattle.qoi.specs.Verdicts.{IsPartOfChunk, IsWhole, IsCut, IsWrong};
 ghost use Rattle.qoi.specs.Decoding.{DecodesFile};
 ghost use Rattle.qoi.specs.Reading.{IsImage};
@@ -85,6 +86,13 @@ pub fn images_are_functions()
         → (out ≡ front_image channels h bytes) × (rest ≡ front_rest h bytes) }
     ensures file { (bytes : List ℕ) (h : Header) (rest out : List ℕ) → DecodesFile bytes h rest out
         → (out ≡ file_image bytes) × (rest ≡ file_rest bytes) }
+{}
+
+/// Raw bytes of a valid header's image, as decoding gives them, are accepted by an encoder with its width
+/// and height, and get its header, in sRGB.
+pub fn images_are_accepted()
+    ensures { (h : Header) (raw : List ℕ) → IsValid h → length raw ≡ image_byte_count h
+        → image_header raw h.width h.height ≡ Ok (record h { colorspace = ColorSpace.Srgb }) }
 {}
 
 /// An image of n pixels takes five bytes for each pixel at most; and where chunks stop short of

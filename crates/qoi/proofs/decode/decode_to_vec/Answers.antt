@@ -5,8 +5,6 @@ use Rattle.std.proofs.lemmas.Result.{err_from_is_err_and}
 use Rattle.qoi.specs.Qoi.{header_of, pixel_count, header_size}
 use Rattle.qoi.specs.Verdicts.{IsWhole, AreWrong, AreCut}
 use Rattle.qoi.specs.Decoding.{DecodesFile, RefusesBytes}
-use Rattle.qoi.specs.declared.types.ColorSpace.TheVariants.{Srgb}
-use Rattle.qoi.specs.Encoded.{image_header}
 use Rattle.qoi.specs.DecoderState.{DecoderState}
 use Rattle.std.proofs.lemmas.List.{length-drop}
 use Rattle.qoi.proofs.decoding.ImageSize.{bounded_by}
@@ -117,10 +115,3 @@ pub returns-clause-image : goal.returns-clause-image
 returns-clause-image c =
     let decoded = returns-clause-decoded c in
     (decoded.1.header, file_image_is c.args.data.now c.header.result.now decoded.0 _ decoded.1)
-
-pub returns-clause-again : goal.returns-clause-again
-returns-clause-again c =
-    let d = c.in_ok-decoder.decoder in
-    let same : c.header.result.now ≡ d.header = c.header.ensures ∙ ap (λ (s : DecoderState (List ℕ)). s.header) c.in_ok-out.ensures.unchanged in
-    let P : Header → Type 0 = λ h. image_header c.in_ok-out.out.items h.width h.height ≡ Ok (record h { colorspace = Srgb }) in
-    subst P (sym same) (c.in_ok-out.ensures.again ∙ ap (λ k. Ok (record d.header { channels = k; colorspace = Srgb })) c.in_ok-decoder.ensures.accepted.1)

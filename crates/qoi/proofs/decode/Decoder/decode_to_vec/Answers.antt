@@ -5,11 +5,10 @@ use Rattle.std.proofs.lemmas.Result.{err_from_is_err_and}
 use Rattle.std.proofs.Math.Seq.{take-length}
 use lib.Seq.{take-append_seam}
 use Rattle.qoi.specs.declared.error.Error.TheVariants.{UnexpectedBufferEnd}
-use Rattle.qoi.specs.Qoi.{channels_number, pixel_count, IsValid}
+use Rattle.qoi.specs.Qoi.{channels_number, pixel_count}
 use Rattle.qoi.specs.Decoding.{DecodesFile, RefusesImage}
 use Rattle.qoi.specs.DecoderState.{output_byte_count}
 use Rattle.qoi.proofs.decoding.Ahead.{fault_ahead}
-use Rattle.qoi.proofs.decoding.EncodedAgain.{encoded_again}
 use Rattle.qoi.proofs.decoding.FrontImage.{front_read, nine_read, some_pixels, three_read}
 use Rattle.qoi.proofs.decoding.RefusedBytes.{refused_for_wrong}
 use Rattle.qoi.proofs.decoding.Refusals.{whole_not_refused_in}
@@ -78,12 +77,6 @@ returns-clause-rest g c bytes told =
 
 pub returns-clause-image : goal.returns-clause-image
 returns-clause-image g c = front_read _ _ (g.R.Reader.ahead c.args.self.now.reader) _ _ (returns-clause-rest g c)
-
-pub returns-clause-again : goal.returns-clause-again
-returns-clause-again g c =
-    let d = c.args.self.now in
-    let valid = subst (λ s. IsValid s.header) c.self.view_is c.self.invariant in
-    encoded_again (record d.header { channels = d.channels }) _ valid (returns-clause-length g c).0
 
 pub returns-clause-took : goal.returns-clause-took
 returns-clause-took g c =
