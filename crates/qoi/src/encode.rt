@@ -65,25 +65,21 @@ pub fn encode_max_len(width: u32, height: u32, channels: u8) -> usize
 ///
 /// The refusals are those of `Encoder::new` and then of its `encode_to_buf`.
 pub fn encode_to_buf(buf: &mut [u8], data: &[u8], width: u32, height: u32) -> Result<usize>
-    // What is written: the file of the image, at the front of the buffer; any bytes that are that
-    // file are those that were written.
-    ensures encoded { (h : Header) → image_header «data».now width height ≡ Ok h
-        → max_file_len h ≤ length buf.old
-        → IsOkAnd result (λ n. (bytes : List ℕ) × IsFileOf Reference h «data».now bytes
-        × (n ≡ length bytes) × (buf.new ≡ bytes ++ drop n buf.old)) }
-    ensures front { IfOk result (λ n. IsFileFor «data».now width height (take n buf.new)) }
-    ensures same { (bytes : List ℕ) → IsFileFor «data».now width height bytes
-        → IfOk result (λ n. (n ≡ length bytes) × (buf.new ≡ bytes ++ drop n buf.old)) }
-
-    // The refusals.
     ensures refused { (e : Error) → image_header «data».now width height ≡ Err e → (result ≡ Err e)
         × (buf.new ≡ buf.old) }
     ensures short { (h : Header) → image_header «data».now width height ≡ Ok h
         → length buf.old < max_file_len h
         → (result ≡ Err (Error.OutputBufferTooSmall (length buf.old) (max_file_len h)))
         × (buf.new ≡ buf.old) }
-
-    // How long the file is.
+    ensures encoded { (h : Header) → image_header «data».now width height ≡ Ok h
+        → max_file_len h ≤ length buf.old
+        → IsOkAnd result (λ n. (bytes : List ℕ) × IsFileOf Reference h «data».now bytes
+        × (n ≡ length bytes) × (buf.new ≡ bytes ++ drop n buf.old)) }
+    // The part of the buffer that was written is the file.
+    ensures front { IfOk result (λ n. IsFileFor «data».now width height (take n buf.new)) }
+    // Any bytes that are the file of the image are those that were written.
+    ensures same { (bytes : List ℕ) → IsFileFor «data».now width height bytes
+        → IfOk result (λ n. (n ≡ length bytes) × (buf.new ≡ bytes ++ drop n buf.old)) }
     ensures length { (h : Header) → image_header «data».now width height ≡ Ok h
         → IfOk result (IsFileLength h) }
     ensures room { IfOk result (λ n. n ≤ length buf.old) }
@@ -96,18 +92,13 @@ pub fn encode_to_buf(buf: &mut [u8], data: &[u8], width: u32, height: u32) -> Re
 ///
 /// The refusals are those of `Encoder::new` and then of its `encode_to_vec`.
 pub fn encode_to_vec(alloc: Global, data: &[u8], width: u32, height: u32) -> Result<Vec<u8>>
-    // What the result is: the file of the image; any bytes that are that file are those of the
-    // vector.
     ensures encoded { IfOk result (λ v. IsFileFor «data».now width height v.items) }
+    // Any bytes that are the file of the image are those of the vector.
     ensures same { (bytes : List ℕ) → IsFileFor «data».now width height bytes
         → IfOk result (λ v. v.items ≡ bytes) }
-
-    // The refusals.
     ensures refused { IfErr result (λ e. (image_header «data».now width height ≡ Err e)
         ⊎ ((e ≡ Error.OutOfMemory) × (h : Header)
         × (image_header «data».now width height ≡ Ok h))) }
-
-    // How long the file is.
     ensures length { (h : Header) → image_header «data».now width height ≡ Ok h
         → IfOk result (λ v. IsFileLength h (length v.items)) }
 {
@@ -228,36 +219,33 @@ impl<'a> Encoder<'a> {
     /// where the file would fit; then the buffer is untouched.
     #[tactic(auto, using(crate::proofs::encoding::BufferFilled::buffer_filled))]
     pub fn encode_to_buf(&self, buf: &mut [u8]) -> Result<usize>
-        // What is written: the file of the image, at the front of the buffer; any bytes that are
-        // that file are those that were written.
-        ensures encoded { max_file_len self.now.header ≤ length buf.old
-            → IsOkAnd result (λ n. (bytes : List ℕ)
-            × IsFileOf self.now.style self.now.header self.now.raw bytes
-            × (n ≡ length bytes) × (buf.new ≡ bytes ++ drop n buf.old)) }
-        ensures front { IfOk result (λ n.
-            IsFileOf self.now.style self.now.header self.now.raw (take n buf.new)) }
-        ensures same { (bytes : List ℕ) → IsFileOf self.now.style self.now.header self.now.raw bytes
-            → IfOk result (λ n. (n ≡ length bytes) × (buf.new ≡ bytes ++ drop n buf.old)) }
-
-        // The refusals.
         ensures short { length buf.old < max_file_len self.now.header
             → IsErrOf result
             (Error.OutputBufferTooSmall (length buf.old) (max_file_len self.now.header))
             × (buf.new ≡ buf.old) }
-
-        // How long the file is: in style `Tight` no list of chunks of the image, regular or not,
-        // makes a shorter one, and no style does; in style `Places` it is as long as in
-        // `Reference`.
-        ensures length { IfOk result (IsFileLength self.now.header) }
-        ensures room { IfOk result (λ n. n ≤ length buf.old) }
+        ensures encoded { max_file_len self.now.header ≤ length buf.old
+            → IsOkAnd result (λ n. (bytes : List ℕ)
+            × IsFileOf self.now.style self.now.header self.now.raw bytes
+            × (n ≡ length bytes) × (buf.new ≡ bytes ++ drop n buf.old)) }
+        // The part of the buffer that was written is the file.
+        ensures front { IfOk result (λ n.
+            IsFileOf self.now.style self.now.header self.now.raw (take n buf.new)) }
+        // Any bytes that are the file of the image are those that were written.
+        ensures same { (bytes : List ℕ) → IsFileOf self.now.style self.now.header self.now.raw bytes
+            → IfOk result (λ n. (n ≡ length bytes) × (buf.new ≡ bytes ++ drop n buf.old)) }
+        // In style `Tight` no list of chunks of the image, regular or not, makes a shorter file.
         ensures shortest { self.now.style ≡ Tight
             → IfOk result (IsShortest self.now.header self.now.raw) }
+        // In style `Places` the file is as long as in `Reference`.
         ensures as_long { self.now.style ≡ Places → (bytes : List ℕ)
             → IsFileOf Reference self.now.header self.now.raw bytes
             → IfOk result (λ n. n ≡ length bytes) }
+        // In style `Tight` it is no longer than in any style.
         ensures no_longer { self.now.style ≡ Tight → (style : Style) (bytes : List ℕ)
             → IsFileOf style self.now.header self.now.raw bytes
             → IfOk result (λ n. n ≤ length bytes) }
+        ensures length { IfOk result (IsFileLength self.now.header) }
+        ensures room { IfOk result (λ n. n ≤ length buf.old) }
     {
         let required = self.required_buf_len();
         if buf.len() < required {
@@ -275,28 +263,24 @@ impl<'a> Encoder<'a> {
     ///
     /// `OutOfMemory` where the memory for `required_buf_len` bytes isn't found.
     pub fn encode_to_vec(&self, alloc: Global) -> Result<Vec<u8>>
-        // What the result is: the file of the image; any bytes that are that file are those of the
-        // vector.
         ensures encoded { IfOk result (λ v.
             IsFileOf self.now.style self.now.header self.now.raw v.items) }
+        // Any bytes that are the file of the image are those of the vector.
         ensures same { (bytes : List ℕ) → IsFileOf self.now.style self.now.header self.now.raw bytes
             → IfOk result (λ v. v.items ≡ bytes) }
-
-        // The refusals.
-        ensures refused { IsOkUnless result Error.OutOfMemory }
-
-        // How long the file is: in style `Tight` no list of chunks of the image, regular or not,
-        // makes a shorter one, and no style does; in style `Places` it is as long as in
-        // `Reference`.
-        ensures length { IfOk result (λ v. IsFileLength self.now.header (length v.items)) }
+        // In style `Tight` no list of chunks of the image, regular or not, makes a shorter file.
         ensures shortest { self.now.style ≡ Tight
             → IfOk result (λ v. IsShortest self.now.header self.now.raw (length v.items)) }
+        // In style `Places` the file is as long as in `Reference`.
         ensures as_long { self.now.style ≡ Places → (bytes : List ℕ)
             → IsFileOf Reference self.now.header self.now.raw bytes
             → IfOk result (λ v. length v.items ≡ length bytes) }
+        // In style `Tight` it is no longer than in any style.
         ensures no_longer { self.now.style ≡ Tight → (style : Style) (bytes : List ℕ)
             → IsFileOf style self.now.header self.now.raw bytes
             → IfOk result (λ v. length v.items ≤ length bytes) }
+        ensures length { IfOk result (λ v. IsFileLength self.now.header (length v.items)) }
+        ensures refused { IsOkUnless result Error.OutOfMemory }
     {
         let mut file = vec![in alloc; 0u8; self.required_buf_len()]?;
         let size = self.encode_to_buf(&mut file)?;
@@ -311,33 +295,29 @@ impl<'a> Encoder<'a> {
     /// (kind `WriteZero`); then a beginning of the file went out. The file is written in pieces of
     /// 4096 bytes and a last one of the rest.
     pub fn encode_to_stream<W: Write>(&self, writer: &mut W) -> Result<usize>
-        // What is sent: the file of the image; any bytes that are that file are those that were
-        // sent, all or a beginning.
         ensures sent { IfOk result (λ n. (bytes : List ℕ)
             × IsFileOf self.now.style self.now.header self.now.raw bytes × (n ≡ length bytes)
             × Appends (W.contents writer.old) (W.contents writer.new) bytes) }
+        // Any bytes that are the file of the image are those that were sent, all or a beginning.
         ensures same { (bytes : List ℕ) → IsFileOf self.now.style self.now.header self.now.raw bytes
             → MatchResult result (λ n. (n ≡ length bytes)
             × Appends (W.contents writer.old) (W.contents writer.new) bytes)
             (λ _. AppendsBeginning (W.contents writer.old) (W.contents writer.new) bytes) }
-
-        // The refusals.
-        ensures refused { IfErr result (λ e. IsIoError e × (bytes : List ℕ)
-            × IsFileOf self.now.style self.now.header self.now.raw bytes
-            × AppendsBeginning (W.contents writer.old) (W.contents writer.new) bytes) }
-
-        // How long the file is: in style `Tight` no list of chunks of the image, regular or not,
-        // makes a shorter one, and no style does; in style `Places` it is as long as in
-        // `Reference`.
-        ensures length { IfOk result (IsFileLength self.now.header) }
+        // In style `Tight` no list of chunks of the image, regular or not, makes a shorter file.
         ensures shortest { self.now.style ≡ Tight
             → IfOk result (IsShortest self.now.header self.now.raw) }
+        // In style `Places` the file is as long as in `Reference`.
         ensures as_long { self.now.style ≡ Places → (bytes : List ℕ)
             → IsFileOf Reference self.now.header self.now.raw bytes
             → IfOk result (λ n. n ≡ length bytes) }
+        // In style `Tight` it is no longer than in any style.
         ensures no_longer { self.now.style ≡ Tight → (style : Style) (bytes : List ℕ)
             → IsFileOf style self.now.header self.now.raw bytes
             → IfOk result (λ n. n ≤ length bytes) }
+        ensures length { IfOk result (IsFileLength self.now.header) }
+        ensures refused { IfErr result (λ e. IsIoError e × (bytes : List ℕ)
+            × IsFileOf self.now.style self.now.header self.now.raw bytes
+            × AppendsBeginning (W.contents writer.old) (W.contents writer.new) bytes) }
     {
         let mut writer = GenericWriter::new(writer);
         let n = encode_image(&mut writer, self.style, &self.header, self.data)?;
