@@ -14,9 +14,10 @@ use Rattle.qoi.specs.declared.types.Style.TheVariants.{Reference, Places, Tight}
 use Rattle.qoi.specs.Written.{Written}
 use Rattle.qoi.specs.Styles.{WrittenIn}
 use Rattle.qoi.specs.Decoding.{DecodesFile}
-use Rattle.qoi.specs.Encoded.{max_file_len, image_pixels, Spans, IsShortest, IsNearShortest, IsFileBy, IsAsReference, IsShortIn, IsFileOf}
+use Rattle.qoi.specs.Encoded.{max_file_len, image_pixels, Spans, IsShortest, IsNearShortest, IsFileBy, IsAsReference, IsShortIn, IsReadBack, IsFileOf}
 use Rattle.qoi.proofs.format.Appended.{length-bytes_of}
 use Rattle.qoi.proofs.decoding.FilledBuffer.{take_whole}
+use Rattle.qoi.proofs.decoding.FrontImage.{file_image_is, file_rest_is}
 use Rattle.qoi.proofs.decoding.ImageSize.{channels_are}
 use Rattle.qoi.proofs.decoding.OneFile.{decodes_file}
 use Rattle.qoi.proofs.format.RawPixels.{pixels_of_have, length-pixels_of, output-pixels_of}
@@ -118,6 +119,10 @@ module _ (h : Header) (raw : List ℕ) (valid : IsValid h) (size : length raw �
         (sym (take_whole (pixel_count h) (image_pixels h raw) count) ∙ ap (take (pixel_count h)) (sym means)) in
         decodes_file h cs (file h cs ++ rest) rest raw (is_file cs w) refl image
 
+    -- also where nothing follows
+    whole : (cs : List Chunk) → Lists (image_pixels h raw) cs → DecodesFile (file h cs) h [] raw
+    whole cs w = subst (λ z. DecodesFile z h [] raw) (append-nil (file h cs)) (back cs [] w)
+
     -- what holds whatever lists are written
     pub file_by : (cs : List Chunk) → Lists (image_pixels h raw) cs → IsFileBy Lists h raw (file h cs)
     file_by cs w = record {
@@ -131,6 +136,16 @@ module _ (h : Header) (raw : List ℕ) (valid : IsValid h) (size : length raw �
       color_space = λ space others e. e.bytes_are ∙ ap (file (record h { colorspace = space })) (lists.one (image_pixels h raw) e.cs cs e.written w)
           ∙ other_space h space cs;
       apart = λ others front rest i v. lists.apart (image_pixels h raw) others front rest i v;
+    }
+
+    -- what is read of it
+    pub read_by : (cs : List Chunk) → Lists (image_pixels h raw) cs → IsReadBack h raw (file h cs)
+    read_by cs w = record {
+      header = (whole cs w).header;
+      image = sym (file_image_is (file h cs) h [] raw (whole cs w));
+      header_then = λ rest. (back cs rest w).header;
+      image_then = λ rest. sym (file_image_is (file h cs ++ rest) h rest raw (back cs rest w));
+      rest_then = λ rest. sym (file_rest_is (file h cs ++ rest) h rest raw (back cs rest w));
     }
 
   -- the chunks that are written fit
@@ -189,6 +204,7 @@ module _ (h : Header) (raw : List ℕ) (valid : IsValid h) (size : length raw �
     is_file = file_by (WrittenIn style) (written_lists style) cs w;
     near_shortest = near style cs w;
     shortness = short_in style cs w;
+    read_back = read_by (WrittenIn style) (written_lists style) cs w;
   }
 
 -- A file of which all went to a writer but the bytes that are kept.

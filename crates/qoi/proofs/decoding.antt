@@ -1,9 +1,11 @@
 -- Lemmas on decoding.
 pub mod Ahead
 pub mod Blocks
+pub mod EncodedAgain
 pub mod FastSteps
 pub mod FilledBuffer
 pub mod FirstChunk
+pub mod FrontImage
 pub mod ImageSize
 pub mod LeastBytes
 pub mod OneFile

@@ -12,7 +12,7 @@ use Rattle.qoi.specs.declared.types.Style.TheVariants.{Reference, Places, Tight}
 use Rattle.qoi.specs.declared.header.Header.{Header}
 use Rattle.qoi.specs.declared.chunk.Chunk.{Chunk}
 use Rattle.qoi.specs.declared.chunk.Chunk.TheVariants.{Place}
-use Rattle.qoi.specs.Qoi.{header_size, marker_size, colorspace_at, channels_number, channels_of, colorspace_number, pixel_count, tried_header, IsValid, RgbaPixel, blank, chunk_bytes, Reaches, file}
+use Rattle.qoi.specs.Qoi.{header_size, marker_size, colorspace_at, channels_number, channels_of, colorspace_number, pixel_count, tried_header, header_of, IsValid, RgbaPixel, blank, chunk_bytes, Reaches, file}
 use Rattle.qoi.specs.Raw.{pixels_of, image_byte_count}
 use Rattle.qoi.specs.Written.{Written}
 use Rattle.qoi.specs.Styles.{WrittenIn}
@@ -20,6 +20,7 @@ use Rattle.qoi.specs.Tight.{floor0}
 use Rattle.qoi.specs.Regular.{Regular, Covers}
 use Rattle.qoi.specs.Shortest.{floor, is_start, slack}
 use Rattle.qoi.specs.Decoding.{DecodesFile}
+use Rattle.qoi.specs.Images.{file_image, file_rest}
 
 -- the most bytes that the file of an image of this size has, or the greatest usize if that is less
 abbrev pub max_len : ℕ → ℕ → ℕ → ℕ
@@ -115,12 +116,21 @@ IsShortIn Reference h raw bytes = IsAsReference Reference h raw bytes
 IsShortIn Places h raw bytes = IsAsReference Places h raw bytes
 IsShortIn Tight h raw bytes = IsShortest h raw (length bytes)
 
+-- What is read of the file, as functions of its bytes: its header, its image, and what follows it.
+pub record IsReadBack (h : Header) (raw bytes : List ℕ) : Type 0 where
+  pub header : header_of bytes ≡ Ok h
+  pub image : file_image bytes ≡ raw
+  pub header_then : (rest : List ℕ) → header_of (bytes ++ rest) ≡ Ok h
+  pub image_then : (rest : List ℕ) → file_image (bytes ++ rest) ≡ raw
+  pub rest_then : (rest : List ℕ) → file_rest (bytes ++ rest) ≡ rest
+
 -- The file of the image in a style: no regular list makes it shorter by more than the slack, and it is as short as
 -- `IsShortIn` says.
 pub record IsFileOf (style : Style) (h : Header) (raw bytes : List ℕ) : Type 0 where
   pub is_file : IsFileBy (WrittenIn style) h raw bytes
   pub near_shortest : IsNearShortest h raw bytes
   pub shortness : IsShortIn style h raw bytes
+  pub read_back : IsReadBack h raw bytes
 
 -- the file that the free calls write for raw bytes of this size: with the header that is found for them, in style Reference
 abbrev pub IsFileFor : List ℕ → ℕ → ℕ → List ℕ → Type 0

@@ -7,6 +7,7 @@ pub mod Verdicts
 pub mod Decoding
 pub mod DecoderState
 pub mod Reading
+pub mod Images
 -- The list that is written.
 pub mod Runs
 pub mod Written

@@ -15,13 +15,8 @@ pub record IsImage (channels : Channels) (bytes : List ℕ) (h : Header) (rest o
   pub whole : IsWhole (pixel_count h) bytes cs rest
   pub out_is : out ≡ output (channels_number h.channels) (channels_number channels) (take (pixel_count h) (meaning cs))
 
--- The bytes begin with the image of this header, whose bytes in these channels are `out`. It is no abbreviation, so that a
--- search passes it on whole; nor are IsImageFor and IsDecoderOf.
-unfoldable pub HasImage : Channels → List ℕ → Header → List ℕ → Type 0
-HasImage channels bytes h out = (rest : List ℕ) × IsImage channels bytes h rest out
-
--- the bytes are chunks that reach the pixels of the decoder's header, the end marker and then the rest, and `raw` are
--- these pixels in the decoder's channels
+-- The bytes are chunks that reach the pixels of the decoder's header, the end marker and then the rest, and `raw` are
+-- these pixels in the decoder's channels. It is no abbreviation, so that a search passes it on whole; nor is IsDecoderOf.
 unfoldable pub IsImageFor : {R : Type 0} → DecoderState R → List ℕ → List ℕ → List ℕ → Type 0
 IsImageFor d bytes rest raw = IsImage d.channels bytes d.header rest raw
 

@@ -9,7 +9,8 @@ ghost use Rattle.qoi.specs.Decoding.{CouldHold, RefusesFileInto, RefusesStreamHe
 ghost use Rattle.qoi.specs.declared.types.Style.{Style};
 ghost use Rattle.qoi.specs.Encoded.{IsFileOf};
 ghost use Rattle.qoi.specs.DecoderState.{output_byte_count, DecodesImage, RefusesDecoding, TakesWithin};
-ghost use Rattle.qoi.specs.Reading.{HasImage, IsDecoderOf, IsImage, IsImageFor};
+ghost use Rattle.qoi.specs.Reading.{IsDecoderOf, IsImage, IsImageFor};
+ghost use Rattle.qoi.specs.Images.{file_image, file_rest, front_image, front_rest};
 ghost use Rattle.qoi.specs.Errors.{IsReaderFault, IsErrorOfCut, IsErrorOfWrong};
 ghost use Rattle.qoi.specs.Raw.{without_fourth, capped_byte_count, image_byte_count, HasImageLength};
 
@@ -44,40 +45,46 @@ pub fn decode_header(data: &[u8]) -> Result<Header>
 /// image the first bytes of the buffer, as many as the image has, may be overwritten; all others
 /// are as before.
 pub fn decode_to_buf(buf: &mut [u8], data: &[u8]) -> Result<Header>
+    // What the result is: header and image of the file at the front of the bytes. The buffer has at
+    // least the header's `n_bytes`, which is `capped_byte_count`; of a valid header that is
+    // `image_byte_count`.
     ensures decoded { IfOk result (λ h. (rest : List ℕ)
         × DecodesFile «data».now h rest (take (image_byte_count h) buf.new)) }
+    ensures image { IfOk result (λ h. (header_of «data».now ≡ Ok h)
+        × (take (image_byte_count h) buf.new ≡ file_image «data».now)) }
+    ensures room { IfOk result (λ h. capped_byte_count h ≤ length buf.old) }
+
+    // The refusals.
     ensures refused { IfErr result (RefusesFileInto (length buf.old) «data».now) }
-    // Files are accepted, whatever follows them.
-    ensures accepts { (h : Header) (cs : List Chunk) (rest : List ℕ) → IsFile h cs
-        → «data».now ≡ file h cs ++ rest
-        → image_byte_count h ≤ length buf.old → result ≡ Ok h }
-    ensures later { (h : Header) → header_of «data».now ≡ Ok h
-        → drop (image_byte_count h) buf.new ≡ drop (image_byte_count h) buf.old }
-    ensures untouched { (e : Error) → header_of «data».now ≡ Err e → buf.new ≡ buf.old }
     ensures short { (h : Header) → header_of «data».now ≡ Ok h → length buf.old < image_byte_count h
         → (result ≡ Err (Error.OutputBufferTooSmall (length buf.old) (image_byte_count h)))
         × (buf.new ≡ buf.old) }
-    // The file of an image, in each style, gives its header and its raw bytes, where the buffer is
-    // long enough; so it does where other bytes follow it.
-    ensures comes_back { (h : Header) (raw : List ℕ) → IsFileOf Style.Reference h raw «data».now
-        → length raw ≤ length buf.old → (result ≡ Ok h) × (take (length raw) buf.new ≡ raw) }
+
+    // Files are accepted where the buffer is long enough, whatever follows them; and that of an
+    // image, in each style, gives its header and its raw bytes.
+    ensures accepts { (h : Header) (cs : List Chunk) (rest : List ℕ) → IsFile h cs
+        → «data».now ≡ file h cs ++ rest
+        → image_byte_count h ≤ length buf.old → result ≡ Ok h }
     ensures comes_back_in { (style : Style) (h : Header) (raw : List ℕ)
         → IsFileOf style h raw «data».now
         → length raw ≤ length buf.old → (result ≡ Ok h) × (take (length raw) buf.new ≡ raw) }
     ensures followed { (style : Style) (h : Header) (raw bytes rest : List ℕ)
         → IsFileOf style h raw bytes → «data».now ≡ bytes ++ rest
         → length raw ≤ length buf.old → (result ≡ Ok h) × (take (length raw) buf.new ≡ raw) }
-    // After a success the buffer has at least the header's `n_bytes`, which is `capped_byte_count`; of a valid
-    // header that is `image_byte_count`.
-    ensures room { IfOk result (λ h. capped_byte_count h ≤ length buf.old) }
-    // After a valid header, and where the buffer is long enough, cut bytes give `UnexpectedBufferEnd`, and
-    // wrong ones `InvalidPadding`.
+
+    // After a valid header, and where the buffer is long enough, cut bytes give
+    // `UnexpectedBufferEnd`, and wrong ones `InvalidPadding`.
     ensures cut { (h : Header) → header_of «data».now ≡ Ok h
         → AreCut (pixel_count h) (drop header_size «data».now)
         → image_byte_count h ≤ length buf.old → result ≡ Err Error.UnexpectedBufferEnd }
     ensures wrong { (h : Header) → header_of «data».now ≡ Ok h
         → AreWrong (pixel_count h) (drop header_size «data».now)
         → image_byte_count h ≤ length buf.old → result ≡ Err Error.InvalidPadding }
+
+    // What stays.
+    ensures later { (h : Header) → header_of «data».now ≡ Ok h
+        → drop (image_byte_count h) buf.new ≡ drop (image_byte_count h) buf.old }
+    ensures untouched { (e : Error) → header_of «data».now ≡ Err e → buf.new ≡ buf.old }
 {
     let mut decoder = Decoder::new(data)?;
     decoder.decode_to_buf(buf)?;
@@ -90,36 +97,41 @@ pub fn decode_to_buf(buf: &mut [u8], data: &[u8]) -> Result<Header>
 /// `OutOfMemory`, and those of the chunks and the end marker. The vector has the header's `n_bytes`,
 /// which are at most 248 for each byte of the slice; no more memory than that is written.
 pub fn decode_to_vec(alloc: Global, data: &[u8]) -> Result<(Header, Vec<u8>)>
+    // What the result is: header and image of the file at the front of the bytes.
     ensures decoded { IfOk result (λ x. (rest : List ℕ)
         × DecodesFile «data».now x.0 rest x.1.items) }
+    ensures image { IfOk result (λ x. (header_of «data».now ≡ Ok x.0)
+        × (x.1.items ≡ file_image «data».now)) }
     ensures length { IfOk result (λ x. HasImageLength (capped_byte_count x.0) x.1.items) }
+
+    // The refusals.
     ensures refused { IfErr result (λ e. RefusesFile «data».now e
         ⊎ ((e ≡ Error.OutOfMemory) × (h : Header) × (header_of «data».now ≡ Ok h))) }
-    // The image has at most 62 pixels, and the vector 248 bytes, for each byte of the slice.
-    ensures per_byte { IfOk result (λ x. (pixel_count x.0 ≤ run_max * length «data».now)
-        × (length x.1.items ≤ 4 * run_max * length «data».now)) }
-    // Files are accepted, whatever follows them, unless memory runs out.
+
+    // Files are accepted, whatever follows them, unless memory runs out; and that of an image, in
+    // each style, gives its header and its raw bytes.
     ensures accepts { (h : Header) (cs : List Chunk) (rest : List ℕ) → IsFile h cs
         → «data».now ≡ file h cs ++ rest
         → IsOkUnless result Error.OutOfMemory }
-    // The file of an image, in each style, gives its header and its raw bytes, unless memory runs
-    // out; so it does where other bytes follow it.
-    ensures comes_back { (h : Header) (raw : List ℕ) → IsFileOf Style.Reference h raw «data».now
-        → MatchResult result (λ x. (x.0 ≡ h) × (x.1.items ≡ raw)) (λ e. e ≡ Error.OutOfMemory) }
     ensures comes_back_in { (style : Style) (h : Header) (raw : List ℕ)
         → IsFileOf style h raw «data».now
         → MatchResult result (λ x. (x.0 ≡ h) × (x.1.items ≡ raw)) (λ e. e ≡ Error.OutOfMemory) }
     ensures followed { (style : Style) (h : Header) (raw bytes rest : List ℕ)
         → IsFileOf style h raw bytes → «data».now ≡ bytes ++ rest
         → MatchResult result (λ x. (x.0 ≡ h) × (x.1.items ≡ raw)) (λ e. e ≡ Error.OutOfMemory) }
-    // After a valid header cut bytes give `UnexpectedBufferEnd`, and wrong ones `InvalidPadding`, unless
-    // memory runs out.
+
+    // After a valid header cut bytes give `UnexpectedBufferEnd`, and wrong ones `InvalidPadding`,
+    // unless memory runs out.
     ensures cut { (h : Header) → header_of «data».now ≡ Ok h
         → AreCut (pixel_count h) (drop header_size «data».now)
         → IsErrAnd result (λ e. (e ≡ Error.OutOfMemory) ⊎ (e ≡ Error.UnexpectedBufferEnd)) }
     ensures wrong { (h : Header) → header_of «data».now ≡ Ok h
         → AreWrong (pixel_count h) (drop header_size «data».now)
         → IsErrAnd result (λ e. (e ≡ Error.OutOfMemory) ⊎ (e ≡ Error.InvalidPadding)) }
+
+    // The image has at most 62 pixels, and the vector 248 bytes, for each byte of the slice.
+    ensures per_byte { IfOk result (λ x. (pixel_count x.0 ≤ run_max * length «data».now)
+        × (length x.1.items ≤ 4 * run_max * length «data».now)) }
 {
     let mut decoder = Decoder::<Bytes>::new(data)?;
     let out = decoder.decode_to_vec(alloc)?;
@@ -158,14 +170,21 @@ impl<'a> Decoder<Bytes<'a>> {
     /// The refusals are those of `decode_header`. Then `data` is what follows the header, and the
     /// channels are the header's.
     pub fn new(data: &'a [u8]) -> Result<Decoder<Bytes<'a>>>
+        // What the result is: the image ahead, and what follows it, are those of the file at the
+        // front of the bytes.
         ensures accepted { IfOk result (λ d. (header_of «data».entry.now ≡ Ok d.header)
             × (d.channels ≡ d.header.channels) × (d.reader ≡ drop header_size «data».entry.now)) }
-        // Of the file of an image, in each style and with any bytes after it, the decoder has the header,
-        // and the bytes after the header are the image, and then the rest.
-        ensures comes_back { (h : Header) (raw : List ℕ)
-            → IsFileOf Style.Reference h raw «data».entry.now
-            → IsOkAnd result (λ d. (d.header ≡ h)
-            × IsImageFor d (drop header_size «data».entry.now) [] raw) }
+        ensures image { IfOk result (λ d.
+            (front_image d.channels d.header d.reader ≡ file_image «data».entry.now)
+            × (front_rest d.header d.reader ≡ file_rest «data».entry.now)) }
+        ensures made { IfOk result (λ d. IsDecoderOf d «data».entry.now
+            (drop header_size «data».entry.now)) }
+
+        // The refusals are those of the header.
+        ensures refused { IfErr result (λ e. header_of «data».entry.now ≡ Err e) }
+
+        // The file of an image is accepted, in each style and with any bytes after it. The decoder
+        // has its header, and the bytes after the header are the image, and then the rest.
         ensures comes_back_in { (style : Style) (h : Header) (raw : List ℕ)
             → IsFileOf style h raw «data».entry.now
             → IsOkAnd result (λ d. (d.header ≡ h)
@@ -174,9 +193,6 @@ impl<'a> Decoder<Bytes<'a>> {
             → IsFileOf style h raw bytes → «data».entry.now ≡ bytes ++ rest
             → IsOkAnd result (λ d. (d.header ≡ h)
             × IsImageFor d (drop header_size «data».entry.now) rest raw) }
-        ensures made { IfOk result (λ d. IsDecoderOf d «data».entry.now
-            (drop header_size «data».entry.now)) }
-        ensures refused { IfErr result (λ e. header_of «data».entry.now ≡ Err e) }
     {
         let mut reader = Bytes::new(data);
         let header = reader.decode_header()?;
@@ -206,20 +222,27 @@ impl<R: Read + Drop> Decoder<R> {
     /// A decoder asks its reader for a chunk's few bytes at a time, and never for a byte past the end
     /// marker: wrap a file or a socket in a `BufReader`.
     pub fn from_stream(mut reader: R) -> Result<Decoder<R>>
+        // What the result is.
         ensures accepted { IfOk result (λ d. TakesHeader (R.remaining reader)
             (R.remaining d.reader) d.header
             × (d.channels ≡ d.header.channels)) }
-        // Where the bytes ahead of the reader are known, the header is theirs, and what follows it is left.
+
+        // Where the bytes ahead of the reader are known, the header is theirs, and what follows it
+        // is left. The image ahead, and what follows it, are those of the file that stood there.
         // (`R.ahead`, of which the methods speak, is `R.remaining` of a stream.)
         ensures read { (bytes : List ℕ) → R.remaining reader ≡ Some bytes
             → IfOk result (λ d. header_of bytes ≡ Ok d.header) }
         ensures behind { (bytes : List ℕ) → R.remaining reader ≡ Some bytes
             → IfOk result (λ d. R.remaining d.reader ≡ Some (drop header_size bytes)) }
-        // Where they are the file of an image, in each style and with any bytes after it, the bytes after
-        // the header are the image, and then the rest.
-        ensures comes_back { (h : Header) (raw bytes : List ℕ)
-            → IsFileOf Style.Reference h raw bytes → R.remaining reader ≡ Some bytes
-            → IfOk result (λ d. (d.header ≡ h) × IsImageFor d (drop header_size bytes) [] raw) }
+        ensures image { IfSome (R.remaining reader) (λ bytes. IfOk result (λ d.
+            IfSome (R.remaining d.reader) (λ ahead.
+            (front_image d.channels d.header ahead ≡ file_image bytes)
+            × (front_rest d.header ahead ≡ file_rest bytes)))) }
+        ensures made { (bytes : List ℕ) → R.remaining reader ≡ Some bytes
+            → IfOk result (λ d. IsDecoderOf d bytes (drop header_size bytes)) }
+
+        // Where they are the file of an image, in each style and with any bytes after it, the bytes
+        // after the header are the image, and then the rest.
         ensures comes_back_in { (style : Style) (h : Header) (raw bytes : List ℕ)
             → IsFileOf style h raw bytes → R.remaining reader ≡ Some bytes
             → IfOk result (λ d. (d.header ≡ h) × IsImageFor d (drop header_size bytes) [] raw) }
@@ -227,8 +250,8 @@ impl<R: Read + Drop> Decoder<R> {
             → IsFileOf style h raw bytes → R.remaining reader ≡ Some (bytes ++ rest)
             → IfOk result (λ d. (d.header ≡ h)
             × IsImageFor d (drop header_size (bytes ++ rest)) rest raw) }
-        ensures made { (bytes : List ℕ) → R.remaining reader ≡ Some bytes
-            → IfOk result (λ d. IsDecoderOf d bytes (drop header_size bytes)) }
+
+        // The refusals.
         ensures refused { IfErr result (RefusesStreamHeader (R.remaining reader)) }
     {
         let header = reader.decode_header()?;
@@ -324,62 +347,41 @@ impl<R: Reader> Decoder<R> {
     /// a reader stands behind the bytes that were read. The first `required_buf_len` bytes of the
     /// buffer may then be overwritten; later bytes never are.
     pub fn decode_to_buf(&mut self, buf: &mut [u8]) -> Result<usize>
+        // What the result is: the image at the front of the bytes ahead, whose chunks are taken
+        // with the end marker; what follows is left.
+        ensures decoded { IfOk result (λ size. (size ≡ output_byte_count self.old)
+            × DecodesImage R.ahead self.old self.new (take size buf.new)) }
+        ensures image { IfSome (R.ahead self.old.reader) (λ bytes. IfOk result (λ size.
+            (take size buf.new ≡ front_image self.old.channels self.old.header bytes)
+            × (R.ahead self.new.reader ≡ Some (front_rest self.old.header bytes)))) }
+        ensures rest { (bytes : List ℕ) → R.ahead self.old.reader ≡ Some bytes
+            → IfOk result (λ size. (rest : List ℕ) × (R.ahead self.new.reader ≡ Some rest)
+            × IsImage self.old.channels bytes self.old.header rest (take size buf.new)) }
+        ensures took { IfSome (R.ahead self.old.reader) (λ bytes. OnOk result
+            (IfSome (R.ahead self.new.reader) (λ rest. length rest + 9 ≤ length bytes))) }
+
+        // The refusals. In memory nothing is taken, and the bytes ahead are cut or wrong; on a
+        // stream those that were taken are. Whole bytes in memory are accepted, and of an image
+        // that stands ahead only a fault of the reader keeps a success, where the buffer is long
+        // enough.
         ensures short { length buf.old < output_byte_count self.old
             → IsErrOf result
             (Error.OutputBufferTooSmall (length buf.old) (output_byte_count self.old))
             × (self.new ≡ self.old) × (buf.new ≡ buf.old) }
-        ensures decoded { IfOk result (λ size. (size ≡ output_byte_count self.old)
-            × DecodesImage R.ahead self.old self.new (take size buf.new)) }
-        // In memory nothing is taken, and the bytes ahead are cut or wrong; on a stream those that were
-        // taken are cut or wrong.
         ensures refused { output_byte_count self.old ≤ length buf.old
             → IfErr result (RefusesDecoding R.in_memory R.ahead self.old self.new) }
-        // From memory, whole bytes are accepted, where the buffer is long enough.
         ensures accepts { IsTrue R.in_memory → (bytes rest : List ℕ) (cs : List Chunk)
             → R.ahead self.old.reader ≡ Some bytes
             → IsWhole (pixel_count self.old.header) bytes cs rest
             → output_byte_count self.old ≤ length buf.old → IsOk result }
-        // Where the bytes ahead are an image and then a rest, a success gives the image and leaves the rest.
-        ensures image { (bytes rest raw : List ℕ) → IsImageFor self.old bytes rest raw
-            → R.ahead self.old.reader ≡ Some bytes → IfOk result (λ size. take size buf.new ≡ raw) }
-        ensures left { (bytes rest raw : List ℕ) → IsImageFor self.old bytes rest raw
-            → R.ahead self.old.reader ≡ Some bytes
-            → OnOk result (R.ahead self.new.reader ≡ Some rest) }
-        // Only a fault of the reader refuses it, where the buffer is long enough; in memory nothing does.
         ensures faults { (bytes rest raw : List ℕ) → IsImageFor self.old bytes rest raw
             → R.ahead self.old.reader ≡ Some bytes → output_byte_count self.old ≤ length buf.old
             → IfErr result (IsReaderFault R.in_memory) }
-        // What was decoded stood ahead, and what follows it is left.
-        ensures read { IfSome (R.ahead self.old.reader) (λ bytes. IfOk result (λ size.
-            HasImage self.old.channels bytes self.old.header (take size buf.new))) }
-        ensures rest { (bytes : List ℕ) → R.ahead self.old.reader ≡ Some bytes
-            → IfOk result (λ size. (rest : List ℕ) × (R.ahead self.new.reader ≡ Some rest)
-            × IsImage self.old.channels bytes self.old.header rest (take size buf.new)) }
-        // Where the bytes ahead begin with an image by this header and in these channels, as `read` of another
-        // decoder may say, a success decodes that image.
-        ensures same { (channels : Channels) (h : Header) (bytes raw : List ℕ)
-            → HasImage channels bytes h raw → channels ≡ self.old.channels
-            → h ≡ self.old.header → R.ahead self.old.reader ≡ Some bytes
-            → IfOk result (λ size. take size buf.new ≡ raw) }
-        // Where the decoder was made from these bytes and has the file's own channels, a file stands at their
-        // front, and this is its image.
-        ensures file { (source ahead : List ℕ) → IsDecoderOf self.old source ahead
-            → R.ahead self.old.reader ≡ Some ahead
-            → IfOk result (λ size. (rest : List ℕ) × (R.ahead self.new.reader ≡ Some rest)
-            × DecodesFile source self.old.header rest (take size buf.new)) }
-        // The output in three channels is that in four without each fourth byte; of a file of three
-        // channels each fourth byte of the output in four is 255.
-        ensures rgb { (channels : Channels) (h : Header) (bytes four : List ℕ)
-            → HasImage channels bytes h four → channels ≡ Channels.Rgba
-            → self.old.channels ≡ Channels.Rgb → h ≡ self.old.header
-            → R.ahead self.old.reader ≡ Some bytes
-            → IfOk result (λ size. take size buf.new ≡ without_fourth four) }
-        ensures opaque { self.old.channels ≡ Channels.Rgba → self.old.header.channels ≡ Channels.Rgb
-            → IfOk result (λ size. (i : ℕ) → i < pixel_count self.old.header
-            → slice_index (take size buf.new) (4 * i + 3) ≡ 255) }
-        // Where the buffer is long enough, cut bytes are refused with `UnexpectedBufferEnd`, on a stream with
-        // `IoError`, and wrong ones with `InvalidPadding`, on a stream with that or `IoError`.
-        // `UnexpectedBufferEnd` means that they were cut, and `InvalidPadding` that they were wrong.
+
+        // The bytes ahead, where they are known: cut ones are `UnexpectedBufferEnd`, on a stream
+        // `IoError`, and wrong ones `InvalidPadding`, on a stream that or `IoError`; and the other
+        // way round. Of a decoder that was made from these bytes and has the file's own channels,
+        // they begin with a file, and this is its image.
         ensures cut { (bytes : List ℕ) → R.ahead self.old.reader ≡ Some bytes
             → AreCut (pixel_count self.old.header) bytes
             → output_byte_count self.old ≤ length buf.old
@@ -394,10 +396,25 @@ impl<R: Reader> Decoder<R> {
         ensures only_wrong { (bytes : List ℕ) → R.ahead self.old.reader ≡ Some bytes
             → IsErrOf result Error.InvalidPadding
             → AreWrong (pixel_count self.old.header) bytes }
+        ensures file { (source ahead : List ℕ) → IsDecoderOf self.old source ahead
+            → R.ahead self.old.reader ≡ Some ahead
+            → IfOk result (λ size. (rest : List ℕ) × (R.ahead self.new.reader ≡ Some rest)
+            × DecodesFile source self.old.header rest (take size buf.new)) }
+
+        // The channels: three are four without each fourth byte, which is 255 where the file has
+        // three.
+        ensures rgb { self.old.channels ≡ Channels.Rgb → IfSome (R.ahead self.old.reader) (λ bytes.
+            IfOk result (λ size. take size buf.new
+            ≡ without_fourth (front_image Channels.Rgba self.old.header bytes))) }
+        ensures opaque { self.old.channels ≡ Channels.Rgba → self.old.header.channels ≡ Channels.Rgb
+            → IfOk result (λ size. (i : ℕ) → i < pixel_count self.old.header
+            → slice_index (take size buf.new) (4 * i + 3) ≡ 255) }
+
+        // What stays: later bytes of the buffer, the header and the channels. For an image of n
+        // pixels a call takes at most 5n + 8 bytes, also where it refuses.
         ensures later { drop (output_byte_count self.old) buf.new
             ≡ drop (output_byte_count self.old) buf.old }
         ensures unchanged { self.new ≡ record self.old { reader = self.new.reader } }
-        // For an image of n pixels a call takes at most 5n + 8 bytes, also where it refuses.
         ensures bounded { TakesWithin R.ahead self.old self.new }
     {
         let size = self.required_buf_len();
@@ -425,61 +442,40 @@ impl<R: Reader> Decoder<R> {
     /// whatever they are, are `UnexpectedBufferEnd` before that. (Each 62 pixels take a byte at least,
     /// and the end marker has eight.) A stream can't be asked how many bytes it has.
     pub fn decode_to_vec(&mut self, alloc: Global) -> Result<Vec<u8>>
+        // What the result is: the image at the front of the bytes ahead, whose chunks are taken
+        // with the end marker; what follows is left.
         ensures decoded { IfOk result (λ out. DecodesImage R.ahead self.old self.new out.items) }
         ensures length { IfOk result (λ out.
             HasImageLength (output_byte_count self.old) out.items) }
+        ensures image { IfSome (R.ahead self.old.reader) (λ bytes. IfOk result (λ out.
+            (out.items ≡ front_image self.old.channels self.old.header bytes)
+            × (R.ahead self.new.reader ≡ Some (front_rest self.old.header bytes)))) }
+        ensures rest { (bytes : List ℕ) → R.ahead self.old.reader ≡ Some bytes
+            → IfOk result (λ out. (rest : List ℕ) × (R.ahead self.new.reader ≡ Some rest)
+            × IsImage self.old.channels bytes self.old.header rest out.items) }
+        ensures took { IfSome (R.ahead self.old.reader) (λ bytes. OnOk result
+            (IfSome (R.ahead self.new.reader) (λ rest. length rest + 9 ≤ length bytes))) }
+
+        // The refusals. In memory nothing is taken, and the bytes ahead are cut or wrong; on a
+        // stream those that were taken are. Whole bytes in memory are accepted, and of an image
+        // that stands ahead only a fault of the reader keeps a success, or want of memory.
         ensures refused { IfErr result (λ e. (e ≡ Error.OutOfMemory)
             ⊎ RefusesDecoding R.in_memory R.ahead self.old self.new e) }
         ensures no_memory { IsErrOf result Error.OutOfMemory → self.new ≡ self.old }
-        // A success comes only if the bytes ahead could hold the image; of a stream this says nothing.
         ensures could_hold { IfOk result (λ out.
             CouldHold R.in_memory (pixel_count self.old.header) (R.ahead self.old.reader)) }
-        // From memory, whole bytes are accepted, unless memory runs out.
         ensures accepts { IsTrue R.in_memory → (bytes rest : List ℕ) (cs : List Chunk)
             → R.ahead self.old.reader ≡ Some bytes
             → IsWhole (pixel_count self.old.header) bytes cs rest
             → IsOkUnless result Error.OutOfMemory }
-        // Where the bytes ahead are an image and then a rest, a success gives the image and leaves the rest.
-        ensures image { (bytes rest raw : List ℕ) → IsImageFor self.old bytes rest raw
-            → R.ahead self.old.reader ≡ Some bytes → IfOk result (λ out. out.items ≡ raw) }
-        ensures left { (bytes rest raw : List ℕ) → IsImageFor self.old bytes rest raw
-            → R.ahead self.old.reader ≡ Some bytes
-            → OnOk result (R.ahead self.new.reader ≡ Some rest) }
-        // Only want of memory and a fault of the reader refuse it; in memory only want of memory does.
         ensures faults { (bytes rest raw : List ℕ) → IsImageFor self.old bytes rest raw
             → R.ahead self.old.reader ≡ Some bytes
             → IfErr result (λ e. (e ≡ Error.OutOfMemory) ⊎ IsReaderFault R.in_memory e) }
-        // What was decoded stood ahead, and what follows it is left.
-        ensures read { IfSome (R.ahead self.old.reader) (λ bytes. IfOk result (λ out.
-            HasImage self.old.channels bytes self.old.header out.items)) }
-        ensures rest { (bytes : List ℕ) → R.ahead self.old.reader ≡ Some bytes
-            → IfOk result (λ out. (rest : List ℕ) × (R.ahead self.new.reader ≡ Some rest)
-            × IsImage self.old.channels bytes self.old.header rest out.items) }
-        // Where the bytes ahead begin with an image by this header and in these channels, as `read` of another
-        // decoder may say, a success decodes that image.
-        ensures same { (channels : Channels) (h : Header) (bytes raw : List ℕ)
-            → HasImage channels bytes h raw → channels ≡ self.old.channels
-            → h ≡ self.old.header → R.ahead self.old.reader ≡ Some bytes
-            → IfOk result (λ out. out.items ≡ raw) }
-        // Where the decoder was made from these bytes and has the file's own channels, a file stands at their
-        // front, and this is its image.
-        ensures file { (source ahead : List ℕ) → IsDecoderOf self.old source ahead
-            → R.ahead self.old.reader ≡ Some ahead
-            → IfOk result (λ out. (rest : List ℕ) × (R.ahead self.new.reader ≡ Some rest)
-            × DecodesFile source self.old.header rest out.items) }
-        // The output in three channels is that in four without each fourth byte; of a file of three
-        // channels each fourth byte of the output in four is 255.
-        ensures rgb { (channels : Channels) (h : Header) (bytes four : List ℕ)
-            → HasImage channels bytes h four → channels ≡ Channels.Rgba
-            → self.old.channels ≡ Channels.Rgb → h ≡ self.old.header
-            → R.ahead self.old.reader ≡ Some bytes
-            → IfOk result (λ out. out.items ≡ without_fourth four) }
-        ensures opaque { self.old.channels ≡ Channels.Rgba → self.old.header.channels ≡ Channels.Rgb
-            → IfOk result (λ out. (i : ℕ) → i < pixel_count self.old.header
-            → slice_index out.items (4 * i + 3) ≡ 255) }
-        // Unless memory runs out, cut bytes are refused with `UnexpectedBufferEnd`, on a stream with `IoError`,
-        // and wrong ones with `InvalidPadding`, on a stream with that or `IoError`. `UnexpectedBufferEnd`
-        // means that they were cut, and `InvalidPadding` that they were wrong.
+
+        // The bytes ahead, where they are known: cut ones are `UnexpectedBufferEnd`, on a stream
+        // `IoError`, and wrong ones `InvalidPadding`, on a stream that or `IoError`; and the other
+        // way round. Of a decoder that was made from these bytes and has the file's own channels,
+        // they begin with a file, and this is its image.
         ensures cut { (bytes : List ℕ) → R.ahead self.old.reader ≡ Some bytes
             → AreCut (pixel_count self.old.header) bytes
             → IsErrAnd result (λ e. (e ≡ Error.OutOfMemory) ⊎ IsErrorOfCut R.in_memory e) }
@@ -492,8 +488,23 @@ impl<R: Reader> Decoder<R> {
         ensures only_wrong { (bytes : List ℕ) → R.ahead self.old.reader ≡ Some bytes
             → IsErrOf result Error.InvalidPadding
             → AreWrong (pixel_count self.old.header) bytes }
+        ensures file { (source ahead : List ℕ) → IsDecoderOf self.old source ahead
+            → R.ahead self.old.reader ≡ Some ahead
+            → IfOk result (λ out. (rest : List ℕ) × (R.ahead self.new.reader ≡ Some rest)
+            × DecodesFile source self.old.header rest out.items) }
+
+        // The channels: three are four without each fourth byte, which is 255 where the file has
+        // three.
+        ensures rgb { self.old.channels ≡ Channels.Rgb → IfSome (R.ahead self.old.reader) (λ bytes.
+            IfOk result (λ out. out.items
+            ≡ without_fourth (front_image Channels.Rgba self.old.header bytes))) }
+        ensures opaque { self.old.channels ≡ Channels.Rgba → self.old.header.channels ≡ Channels.Rgb
+            → IfOk result (λ out. (i : ℕ) → i < pixel_count self.old.header
+            → slice_index out.items (4 * i + 3) ≡ 255) }
+
+        // What stays: the header and the channels. For an image of n pixels a call takes at most 5n
+        // + 8 bytes, also where it refuses.
         ensures unchanged { self.new ≡ record self.old { reader = self.new.reader } }
-        // For an image of n pixels a call takes at most 5n + 8 bytes, also where it refuses.
         ensures bounded { TakesWithin R.ahead self.old self.new }
     {
         let size = self.required_buf_len();

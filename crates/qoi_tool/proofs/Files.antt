@@ -1,11 +1,12 @@
 -- Files one behind the other, taken from the front.
-use Rattle.std.proofs.Common.{◌≡◌, ◌+◌, ◌-◌, ◌<◌, ℕ, List, [], ◌∷◌, ◌++◌, length, take, drop, map, arith, ap, ◌∙◌, refl, subst}
+use Rattle.std.proofs.Common.{◌≡◌, ◌+◌, ◌-◌, ◌<◌, ℕ, List, [], ◌∷◌, ◌++◌, length, take, drop, map, arith, ap, sym, ◌∙◌, refl, subst}
 use Rattle.std.proofs.lemmas.List.{map-append, append_assoc, length-append, take_rest}
 use Rattle.std.proofs.lemmas.List.Prefix.{end_rest}
 use Rattle.qoi.specs.declared.header.Header.{Header}
-use Rattle.qoi.specs.Qoi.{header_bytes, chunk_bytes, end_marker, file}
+use Rattle.qoi.specs.declared.chunk.Chunk.{Chunk}
+use Rattle.qoi.specs.Qoi.{channels_number, header_bytes, chunk_bytes, end_marker, file, file_pixels}
+use Rattle.qoi.specs.Raw.{output}
 use Rattle.qoi.specs.Decoding.{DecodesFile}
-use Rattle.qoi.proofs.decoding.OneFile.{decoding_is_one}
 use Rattle.qoi_tool.specs.Files.{AreFiles}
 
 -- what follows a file is shorter than the file with it
@@ -43,6 +44,7 @@ images_are_one bytes [] (y ∷ ys) e f = absurd (nothing_is_no_file bytes f.0 f.
 images_are_one bytes (x ∷ xs) [] e f = absurd (nothing_is_no_file bytes e.0 e.1 x e.2 f)
 images_are_one bytes (x ∷ xs) (y ∷ ys) e f =
     let one = e.2.only f.0 f.2.cs f.1 f.2.is_file f.2.split in
-    let first : y ≡ x = (decoding_is_one bytes e.0 f.0 e.1 f.1 x y e.2 f.2).1 in
+    let P : Header → List Chunk → List ℕ = λ h cs. output (channels_number h.channels) (channels_number h.channels) (file_pixels h cs) in
+    let first : y ≡ x = f.2.out_is ∙ ap (λ h. P h f.2.cs) one.0 ∙ ap (P e.0) one.1 ∙ sym e.2.out_is in
     let others : xs ≡ ys = images_are_one e.1 xs ys e.3 (subst (λ (z : List ℕ). AreFiles z ys) one.2 f.3) in
     cc

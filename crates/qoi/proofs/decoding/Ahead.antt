@@ -1,26 +1,24 @@
 -- The image that stands ahead of a decoder: a file brings it there, it is decoded, and it isn't refused.
-use Rattle.std.proofs.Common.{◌≡◌, ◌+◌, ◌*◌, ◌<◌, arith, slice_index, ℕ, List, ◌++◌, drop, take, Bool, true, false, Option, Some, None, IfSome, Ok, refl, ap, sym, ◌∙◌, subst}
+use Rattle.std.proofs.Common.{◌≡◌, ◌+◌, ◌*◌, ◌<◌, arith, slice_index, ℕ, List, ◌++◌, drop, take, Bool, true, false, Option, Some, None, Ok, refl, ap, sym, ◌∙◌, subst}
 use Rattle.std.proofs.lemmas.List.{length-take-le}
 use Rattle.std.specs.Io.KnownBytes.{Consumes}
 use Rattle.qoi.specs.declared.error.Error.{Error}
 use Rattle.qoi.specs.declared.header.Header.{Header}
 use Rattle.qoi.specs.declared.types.Channels.{Channels}
-use Rattle.qoi.specs.declared.types.Channels.TheVariants.{Rgb, Rgba}
-use Rattle.qoi.specs.declared.chunk.Chunk.{Chunk}
 use Rattle.qoi.specs.declared.types.Style.{Style}
 use Rattle.qoi.specs.Qoi.{channels_number, header_bytes, header_of, header_size, IsValid, pixel_count, meaning}
-use Rattle.qoi.specs.Raw.{output, without_fourth}
+use Rattle.qoi.specs.Raw.{output}
 use Rattle.qoi.specs.Verdicts.{IsWhole, AreWrong, AreCut}
 use Rattle.qoi.specs.Decoding.{DecodesFile, ReadsImage, RefusesImage, TakesHeader}
 use Rattle.qoi.specs.DecoderState.{DecoderState}
 use Rattle.qoi.specs.Encoded.{IsFileOf}
-use Rattle.qoi.specs.Reading.{HasImage, IsDecoderOf, IsImage, IsImageFor}
+use Rattle.qoi.specs.Reading.{IsDecoderOf, IsImage, IsImageFor}
 use Rattle.qoi.specs.Errors.{IsReaderFault}
 use Rattle.qoi.proofs.decoding.OneFile.{decodes_file, file_parts, header_is_one}
-use Rattle.qoi.proofs.decoding.StreamVerdicts.{fourth_is_opaque, read_is_whole, rgb_is_without_fourth, whole_is_io_error}
+use Rattle.qoi.proofs.decoding.StreamVerdicts.{fourth_is_opaque, read_is_whole, whole_is_io_error}
 use Rattle.qoi.proofs.decoding.Refusals.{whole_not_refused_in}
 use Rattle.qoi.proofs.format.HeaderBytes.{header_split}
-use Rattle.qoi.proofs.format.OneVerdict.{whole_is_one, whole_not_cut, whole_not_wrong}
+use Rattle.qoi.proofs.format.OneVerdict.{whole_not_cut, whole_not_wrong}
 
 -- behind the header of a file stands its image, and then what follows the file
 image_of_file : (channels : Channels) (k : Header) (bytes : List ℕ) (h : Header) (rest raw : List ℕ)
@@ -96,40 +94,6 @@ image_read_of {R} ahead s d left f c n out bytes same channels file pixels r tol
     let Q : Option (List ℕ) → Type 0 = λ z. ReadsImage (channels_number d.header.channels) (channels_number d.channels) (pixel_count d.header) z left out in
     image_read d.channels d.header bytes left out (subst Q told (subst P same (rw (sym file, sym channels, sym pixels) r)))
 
--- bytes are one image
-image_is_one : (channels : Channels) (h : Header) (bytes rest more raw out : List ℕ) → IsImage channels bytes h rest raw
-    → IsImage channels bytes h more out → (out ≡ raw) × (more ≡ rest)
-image_is_one channels h bytes rest more raw out image other =
-    let n = pixel_count h in
-    let one = whole_is_one n bytes image.cs other.cs rest more image.whole other.whole in
-    let P : List Chunk → List ℕ = λ cs. output (channels_number h.channels) (channels_number channels) (take n (meaning cs)) in
-    (other.out_is ∙ ap P (sym one.0) ∙ sym image.out_is, sym one.1)
-
--- bytes are one image, where channels and header are equal, too
-pub same_image : (channels own : Channels) (h k : Header) (bytes more raw out : List ℕ) → channels ≡ own → h ≡ k
-    → HasImage channels bytes h raw → IsImage own bytes k more out → out ≡ raw
-unfolding HasImage
-same_image channels own h k bytes more raw out as_own as_k (rest, image) other =
-    (image_is_one own k bytes rest more raw out (subst (λ j. IsImage own bytes j rest raw) as_k (subst (λ j. IsImage j bytes h rest raw) as_own image)) other).0
-
--- the image that stood ahead was read, and what follows it is left
-pub image_comes_back : {R : Type 0} (d : DecoderState R) (old left : Option (List ℕ)) (out : List ℕ)
-    → ((bytes : List ℕ) → old ≡ Some bytes → (more : List ℕ) × (left ≡ Some more) × IsImage d.channels bytes d.header more out)
-    → (bytes rest raw : List ℕ) → IsImageFor d bytes rest raw → old ≡ Some bytes → (out ≡ raw) × (left ≡ Some rest)
-unfolding IsImageFor
-image_comes_back d old left out reads bytes rest raw image told =
-    let r = reads bytes told in
-    let one = image_is_one d.channels d.header bytes rest r.0 raw out image r.2 in
-    (one.0, r.1 ∙ ap Some one.1)
-
--- an image is read, whether or not the bytes ahead are known
-pub has_image_ahead : (channels : Channels) (h : Header) (old left : Option (List ℕ)) (out : List ℕ)
-    → ((bytes : List ℕ) → old ≡ Some bytes → (rest : List ℕ) × (left ≡ Some rest) × IsImage channels bytes h rest out)
-    → IfSome old (λ bytes. HasImage channels bytes h out)
-unfolding HasImage
-has_image_ahead channels h (Some bytes) left out reads = let r = reads bytes refl in (r.0, r.2)
-has_image_ahead channels h None left out reads = tt
-
 -- of a decoder of these bytes what is read, in the file's own channels, is a file at their front
 pub file_from_image : {R : Type 0} (next : R → Option (List ℕ)) (d : DecoderState R) (bytes ahead : List ℕ) (left : Option (List ℕ))
     (out : List ℕ) → IsDecoderOf d bytes ahead → next d.reader ≡ Some ahead
@@ -154,17 +118,6 @@ pub decoder_of : {R : Type 0} (d : DecoderState R) (bytes ahead : List ℕ) → 
     → d.channels ≡ d.header.channels → IsDecoderOf d bytes ahead
 unfolding IsDecoderOf
 decoder_of d bytes ahead split valid own = (split, valid, own)
-
--- an image in three channels is the one in four without each fourth byte
-pub three_of_four : (channels own : Channels) (h k : Header) (bytes rest out four : List ℕ) → channels ≡ Rgba → own ≡ Rgb → h ≡ k
-    → HasImage channels bytes h four → IsImage own bytes k rest out → out ≡ without_fourth four
-three_of_four channels own h k bytes rest out four as_four as_three as_k image three =
-    let f = channels_number k.channels in
-    let n = pixel_count k in
-    let pixels = take n (meaning three.cs) in
-    let four_of_k : IsImage Rgba bytes k rest (output f 4 pixels) = record { cs = three.cs; whole = three.whole; out_is = refl } in
-    three.out_is ∙ ap (λ j. output f (channels_number j) pixels) as_three ∙ rgb_is_without_fourth f pixels
-    ∙ ap without_fourth (same_image channels Rgba h k bytes rest four (output f 4 pixels) as_four as_k image four_of_k)
 
 -- bytes of which an image is read aren't cut
 pub image_not_cut : (channels : Channels) (h : Header) (bytes rest out : List ℕ) → IsImage channels bytes h rest out → AreCut (pixel_count h) bytes → ⊥

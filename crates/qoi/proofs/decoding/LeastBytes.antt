@@ -42,6 +42,21 @@ enough_bytes n bytes cs eight rest takes enough is =
 whole_holds : (n : ℕ) (bytes : List ℕ) (cs : List Chunk) (rest : List ℕ) → IsWhole n bytes cs rest → least_byte_count n ≤ length bytes
 whole_holds n bytes cs rest whole = enough_bytes n bytes cs end_marker rest whole.has whole.enough refl
 
+-- an image and the end marker take nine bytes at least
+pub nine_taken : (n : ℕ) (bytes : List ℕ) (cs : List Chunk) (rest : List ℕ) → 1 ≤ n → IsWhole n bytes cs rest → length rest + 9 ≤ length bytes
+nine_taken n bytes cs rest some whole =
+    let most = pixels_most [] cs whole.has.chunks in
+    omega (
+      arith,
+      most,
+      some,
+      whole.enough,
+      length-meaning cs,
+      ap length whole.has.split,
+      length-append (chunk_bytes cs) (end_marker ++ rest),
+      length-append end_marker rest,
+    )
+
 -- bytes that are too few are cut, whatever they are
 pub few_are_cut : (n : ℕ) (bytes : List ℕ) → AreBytes bytes → length bytes < least_byte_count n → AreCut n bytes
 few_are_cut n bytes fits few =

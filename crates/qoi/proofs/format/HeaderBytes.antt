@@ -50,7 +50,7 @@ record SaysHeader (bytes : List ℕ) (h : Header) : Type 0 where
   pub valid : IsValid h
 
 -- dimensions within bounds are taken
-tried_valid : (h : Header) → IsValid h → tried_header h.width h.height h.channels h.colorspace ≡ Ok h
+pub tried_valid : (h : Header) → IsValid h → tried_header h.width h.height h.channels h.colorspace ≡ Ok h
 tried_valid h v =
     cond-true (nat_le 1 (h.width * h.height) && nat_le (h.width * h.height) pixels_max) _ _
     (and_from _ _ (le-leb 1 (h.width * h.height) v.0) (le-leb (h.width * h.height) pixels_max v.1))

@@ -6,9 +6,12 @@ ghost use Rattle.qoi.specs.declared.types.Channels.{Channels};
 ghost use Rattle.qoi.specs.declared.types.ColorSpace.{ColorSpace};
 ghost use Rattle.qoi.specs.declared.chunk.Chunk.{Chunk};
 ghost use Rattle.qoi.specs.Qoi.{AreBytes, IsChunk, AreChunks, bytes_of, chunk_bytes, IsFile, file, file_pixels, header_bytes, pixel_count, IsValid, header_of, pixel, hash, Reaches, StayBelow, meaning, header_size, channels_number, chunk_max};
-ghost use Rattle.qoi.specs.Raw.{output};
+ghost use Rattle.qoi.specs.Raw.{output, image_byte_count};
+ghost use Rattle.qoi.specs.Encoded.{image_header};
 ghost use Rattle.qoi.specs.Verdicts.{IsPartOfChunk, IsWhole, IsCut, IsWrong};
 ghost use Rattle.qoi.specs.Decoding.{DecodesFile};
+ghost use Rattle.qoi.specs.Reading.{IsImage};
+ghost use Rattle.qoi.specs.Images.{front_image, front_rest, file_image, file_rest};
 
 /// No chunk's bytes begin another's, and a part of a chunk begins with no whole chunk.
 pub fn chunks_are_apart()
@@ -73,6 +76,23 @@ pub fn files_are_read()
         → bytes ≡ file h cs ++ rest
         → DecodesFile bytes h rest
         (output (channels_number h.channels) (channels_number h.channels) (file_pixels h cs)) }
+{}
+
+/// The image that bytes begin with, and what follows it, are functions of the bytes; so they are of a
+/// file.
+pub fn images_are_functions()
+    ensures ahead { (channels : Channels) (h : Header) (bytes rest out : List ℕ)
+        → IsImage channels bytes h rest out
+        → (out ≡ front_image channels h bytes) × (rest ≡ front_rest h bytes) }
+    ensures file { (bytes : List ℕ) (h : Header) (rest out : List ℕ) → DecodesFile bytes h rest out
+        → (out ≡ file_image bytes) × (rest ≡ file_rest bytes) }
+{}
+
+/// Raw bytes of a valid header's image, as decoding gives them, are accepted by an encoder with its width
+/// and height, and get its header, in sRGB.
+pub fn images_are_accepted()
+    ensures { (h : Header) (raw : List ℕ) → IsValid h → length raw ≡ image_byte_count h
+        → image_header raw h.width h.height ≡ Ok (record h { colorspace = ColorSpace.Srgb }) }
 {}
 
 /// An image of n pixels takes five bytes for each pixel at most; and where chunks stop short of

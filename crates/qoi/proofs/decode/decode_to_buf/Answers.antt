@@ -2,7 +2,6 @@
 use Rattle.std.proofs.Common.{Err, ◌<◌, ◌⊎◌, inl, inr, ⊎_elim, ◌≡◌, [], append-nil, ◌≤◌, List, ◌++◌, length, take, drop, Some, Ok, ℕ, IsOk, false, true, refl, ap, sym, ◌∙◌, subst, arith}
 use Rattle.std.proofs.lemmas.Bool.{cases_lt}
 use Rattle.qoi.specs.declared.header.Header.{Header}
-use Rattle.qoi.specs.declared.types.Style.TheVariants.{Reference}
 use Rattle.qoi.specs.Qoi.{channels_number, header_of, pixel_count, header_size}
 use Rattle.qoi.specs.Verdicts.{IsWhole, AreWrong, AreCut}
 use Rattle.qoi.specs.Decoding.{RefusesBuffer, RefusesBytes, DecodesFile, ReadsImage}
@@ -12,6 +11,7 @@ use Rattle.qoi.proofs.decoding.OneFile.{file_has_header, file_is_whole, header_i
 use Rattle.qoi.specs.declared.types.Style.{Style}
 use Rattle.qoi.specs.Encoded.{IsFileOf}
 use Rattle.std.proofs.lemmas.Result.{err_from_is_err_and}
+use Rattle.qoi.proofs.decoding.FrontImage.{file_image_is}
 use Rattle.qoi.proofs.decode.decode_to_buf.Goals as goal
 
 pub returns-in_err-decode_to_buf-clause-accepts : goal.returns-in_err-decode_to_buf-clause-accepts
@@ -88,23 +88,14 @@ pub returns-in_err-decode_to_buf-clause-comes_back_in : goal.returns-in_err-deco
 returns-in_err-decode_to_buf-clause-comes_back_in c style h raw f room =
     returns-in_err-decode_to_buf-clause-followed c style h raw c.args.data.now [] f (sym (append-nil c.args.data.now)) room
 
-pub returns-in_err-decode_to_buf-clause-comes_back : goal.returns-in_err-decode_to_buf-clause-comes_back
-returns-in_err-decode_to_buf-clause-comes_back c h raw f room = returns-in_err-decode_to_buf-clause-comes_back_in c Reference h raw f room
-
 pub returns-clause-comes_back_in : goal.returns-clause-comes_back_in
 returns-clause-comes_back_in c style h raw f room = returns-clause-followed c style h raw c.args.data.now [] f (sym (append-nil c.args.data.now)) room
-
-pub returns-clause-comes_back : goal.returns-clause-comes_back
-returns-clause-comes_back c h raw f room = returns-clause-comes_back_in c Reference h raw f room
 
 pub returns-in_err-decoder-clause-comes_back_in : goal.returns-in_err-decoder-clause-comes_back_in
 returns-in_err-decoder-clause-comes_back_in c style h raw f room =
     let read = subst (λ (z : List ℕ). header_of z ≡ Ok h) (append-nil c.args.data.now) (f.is_file.comes_back []).header in
     let refused = c.in_err-decoder.ensures.refused in
     absurd cc
-
-pub returns-in_err-decoder-clause-comes_back : goal.returns-in_err-decoder-clause-comes_back
-returns-in_err-decoder-clause-comes_back c h raw f room = returns-in_err-decoder-clause-comes_back_in c Reference h raw f room
 
 pub returns-in_err-decode_to_buf-clause-cut : goal.returns-in_err-decode_to_buf-clause-cut
 returns-in_err-decode_to_buf-clause-cut c h read cut room =
@@ -143,3 +134,8 @@ returns-in_err-decode_to_buf-clause-refused c =
     (λ room. subst (λ z. RefusesBytes (pixel_count d.header) z c.in_err-decode_to_buf.field-0.0) accepted.2
     (c.in_err-decode_to_buf.ensures.refused (subst (λ k. k ≤ n) (sym size) room)).1) in
     rw (p.1, p.2) (inr (d.header, accepted.0, by_size n (image_byte_count d.header) _ _ less enough))
+
+pub returns-clause-image : goal.returns-clause-image
+returns-clause-image c =
+    let decoded = returns-clause-decoded c in
+    (decoded.1.header, file_image_is c.args.data.now c.header.result.now decoded.0 _ decoded.1)

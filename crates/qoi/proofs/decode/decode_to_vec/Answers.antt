@@ -1,7 +1,6 @@
 -- A file is decoded as such, and what the decoder refuses is what the file is refused for.
 use Rattle.std.proofs.Common.{Ok, ◌≡◌, length, [], append-nil, ℕ, List, drop, Some, refl, ap, sym, ◌∙◌, subst, inl, inr, ⊎_elim, arith}
 use Rattle.qoi.specs.declared.header.Header.{Header}
-use Rattle.qoi.specs.declared.types.Style.TheVariants.{Reference}
 use Rattle.std.proofs.lemmas.Result.{err_from_is_err_and}
 use Rattle.qoi.specs.Qoi.{header_of, pixel_count, header_size}
 use Rattle.qoi.specs.Verdicts.{IsWhole, AreWrong, AreCut}
@@ -10,6 +9,7 @@ use Rattle.qoi.specs.DecoderState.{DecoderState}
 use Rattle.std.proofs.lemmas.List.{length-drop}
 use Rattle.qoi.proofs.decoding.ImageSize.{bounded_by}
 use Rattle.qoi.proofs.decoding.OneFile.{header_is_one, file_has_header, file_is_whole, decodes_behind, decoding_is_one}
+use Rattle.qoi.proofs.decoding.FrontImage.{file_image_is}
 use Rattle.qoi.proofs.decode.decode_to_vec.Goals as goal
 
 pub returns-in_err-out-clause-refused : goal.returns-in_err-out-clause-refused
@@ -75,23 +75,14 @@ pub returns-in_err-out-clause-comes_back_in : goal.returns-in_err-out-clause-com
 returns-in_err-out-clause-comes_back_in c style h raw f = returns-in_err-out-clause-followed c style h raw c.args.data.now [] f
     (sym (append-nil c.args.data.now))
 
-pub returns-in_err-out-clause-comes_back : goal.returns-in_err-out-clause-comes_back
-returns-in_err-out-clause-comes_back c h raw f = returns-in_err-out-clause-comes_back_in c Reference h raw f
-
 pub returns-clause-comes_back_in : goal.returns-clause-comes_back_in
 returns-clause-comes_back_in c style h raw f = returns-clause-followed c style h raw c.args.data.now [] f (sym (append-nil c.args.data.now))
-
-pub returns-clause-comes_back : goal.returns-clause-comes_back
-returns-clause-comes_back c h raw f = returns-clause-comes_back_in c Reference h raw f
 
 pub returns-in_err-decoder-clause-comes_back_in : goal.returns-in_err-decoder-clause-comes_back_in
 returns-in_err-decoder-clause-comes_back_in c style h raw f =
     let read = subst (λ (z : List ℕ). header_of z ≡ Ok h) (append-nil c.args.data.now) (f.is_file.comes_back []).header in
     let refused = c.in_err-decoder.ensures.refused in
     absurd cc
-
-pub returns-in_err-decoder-clause-comes_back : goal.returns-in_err-decoder-clause-comes_back
-returns-in_err-decoder-clause-comes_back c h raw f = returns-in_err-decoder-clause-comes_back_in c Reference h raw f
 
 pub returns-clause-per_byte : goal.returns-clause-per_byte
 returns-clause-per_byte c =
@@ -119,3 +110,8 @@ returns-in_err-out-clause-wrong c h read wrong =
     let same = header_is_one c.args.data.now h d.header read accepted.0 in
     rw (p.1, p.2) (c.in_err-out.ensures.wrong (drop header_size c.args.data.now) (ap Some accepted.2)
     (subst (λ k. AreWrong (pixel_count k) (drop header_size c.args.data.now)) same wrong))
+
+pub returns-clause-image : goal.returns-clause-image
+returns-clause-image c =
+    let decoded = returns-clause-decoded c in
+    (decoded.1.header, file_image_is c.args.data.now c.header.result.now decoded.0 _ decoded.1)

@@ -441,7 +441,8 @@ pub fn methods_there_and_back(
 ) -> Result<Vec<u8>, Error>
     ensures { IfOk result (λ back. back.items ≡ raw.now) }
 {
-    let file = encode_to_vec(alloc, raw, width, height)?;
+    let encoder = Encoder::new(raw, width, height)?;
+    let file = encoder.encode_to_vec(alloc)?;
     let mut decoder = Decoder::new(&file)?;
     let back = decoder.decode_to_vec(alloc)?;
     Ok(back)

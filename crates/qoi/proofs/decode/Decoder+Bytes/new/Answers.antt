@@ -1,9 +1,10 @@
 -- The header's bytes are the front of all, and the reader has what follows them.
-use Rattle.std.proofs.Common.{ap, drop, ◌++◌, ℕ, List, [], append-nil, refl, sym, ◌∙◌}
-use Rattle.qoi.specs.declared.types.Style.TheVariants.{Reference}
+use Rattle.std.proofs.Common.{◌≡◌, subst, ap, drop, ◌++◌, ℕ, List, [], append-nil, refl, sym, ◌∙◌}
 use Rattle.qoi.specs.Qoi.{header_bytes, header_size}
+use Rattle.qoi.specs.Images.{front_image, front_rest, file_image, file_rest}
 use Rattle.qoi.specs.DecoderState.{DecoderState}
 use Rattle.qoi.proofs.decoding.Ahead.{decoder_of, image_ahead, file_ahead}
+use Rattle.qoi.proofs.decoding.FrontImage.{image_behind}
 use Rattle.qoi.proofs.format.HeaderBytes.{header_split}
 use Rattle.qoi.proofs.decode.Decoder+Bytes.new.Goals as goal
 
@@ -22,18 +23,12 @@ returns-clause-followed c style h raw bytes rest f split =
 pub returns-clause-comes_back_in : goal.returns-clause-comes_back_in
 returns-clause-comes_back_in c style h raw f = returns-clause-followed c style h raw c.args.data.now [] f (sym (append-nil c.args.data.now))
 
-pub returns-clause-comes_back : goal.returns-clause-comes_back
-returns-clause-comes_back c h raw f = returns-clause-comes_back_in c Reference h raw f
-
 pub returns-in_err-header-clause-comes_back_in : goal.returns-in_err-header-clause-comes_back_in
 returns-in_err-header-clause-comes_back_in c style h raw f =
     let read = (file_ahead style h raw c.args.data.now [] c.args.data.now f (sym (append-nil c.args.data.now))).header in
     let refused = c.in_err-header.ensures.1 in
     let same = c.new-reader.ensures in
     absurd cc
-
-pub returns-in_err-header-clause-comes_back : goal.returns-in_err-header-clause-comes_back
-returns-in_err-header-clause-comes_back c h raw f = returns-in_err-header-clause-comes_back_in c Reference h raw f
 
 pub returns-clause-made : goal.returns-clause-made
 returns-clause-made c =
@@ -43,3 +38,10 @@ returns-clause-made c =
     let split = sym c.new-reader.ensures ∙ e.1 in
     decoder_of d c.args.data.now (drop header_size c.args.data.now)
     (split ∙ ap (λ z. z ++ c.decode_header.new.self) e.4 ∙ ap (λ z. header_bytes d.header ++ z) accepted.2) e.5 refl
+
+pub returns-clause-image : goal.returns-clause-image
+returns-clause-image c =
+    let accepted = returns-clause-accepted c in
+    let h = c.in_ok-header.header in
+    let P : List ℕ → Type 0 = λ z. (front_image h.channels h z ≡ file_image c.args.data.now) × (front_rest h z ≡ file_rest c.args.data.now) in
+    subst P (sym accepted.2) (image_behind h.channels h c.args.data.now accepted.0 refl)

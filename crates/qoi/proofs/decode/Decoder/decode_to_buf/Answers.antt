@@ -1,5 +1,5 @@
 -- Whole bytes in memory are not refused, and each image takes a bounded number of bytes.
-use Rattle.std.proofs.Common.{◌≡◌, ◌+◌, ◌*◌, length, slice_index, ap, ◌∙◌, arith, subst}
+use Rattle.std.proofs.Common.{◌≡◌, ◌≤◌, ◌+◌, ◌*◌, length, slice_index, ap, ◌∙◌, arith, subst}
 use Rattle.std.proofs.lemmas.List.{length-take-le}
 use Rattle.std.proofs.lemmas.Result.{err_from_is_err_and}
 use lib.Seq.{take-append_seam}
@@ -7,7 +7,8 @@ use Rattle.qoi.specs.declared.error.Error.TheVariants.{InvalidPadding, Unexpecte
 use Rattle.qoi.specs.Qoi.{channels_number, pixel_count}
 use Rattle.qoi.specs.Decoding.{RefusesImage}
 use Rattle.qoi.specs.DecoderState.{TakesAtMost}
-use Rattle.qoi.proofs.decoding.Ahead.{fault_ahead, file_from_image, fourth_of_image, has_image_ahead, image_comes_back, image_not_cut, image_not_wrong, image_read_of, same_image, three_of_four}
+use Rattle.qoi.proofs.decoding.Ahead.{fault_ahead, file_from_image, fourth_of_image, image_not_cut, image_not_wrong, image_read_of}
+use Rattle.qoi.proofs.decoding.FrontImage.{front_read, nine_read, some_pixels, three_read}
 use Rattle.qoi.specs.Reading.{IsImage}
 use Rattle.qoi.proofs.decoding.RefusedBytes.{end_is_cut, padding_is_only_wrong, refused_for_cut, refused_for_wrong}
 use Rattle.qoi.proofs.decoding.ImageSize.{channels_are, image_pixels}
@@ -68,30 +69,9 @@ returns-clause-rest g c bytes told =
     c.in_ok-decode_image.ensures.read.1 told in
     (r.0, r.1, subst (λ z. IsImage d.channels bytes d.header r.0 z) (grind (arith, same, take-append_seam)) r.2)
 
-pub returns-clause-read : goal.returns-clause-read
-returns-clause-read g c = has_image_ahead _ _ (g.R.Reader.ahead c.args.self.now.reader) _ _ (returns-clause-rest g c)
-
-pub returns-clause-image : goal.returns-clause-image
-returns-clause-image g c bytes rest raw image told =
-    (image_comes_back c.args.self.now _ _ _ (returns-clause-rest g c) bytes rest raw image told).0
-
-pub returns-clause-left : goal.returns-clause-left
-returns-clause-left g c bytes rest raw image told =
-    (image_comes_back c.args.self.now _ _ _ (returns-clause-rest g c) bytes rest raw image told).1
-
 pub returns-clause-file : goal.returns-clause-file
 returns-clause-file g c bytes ahead made stand =
     file_from_image g.R.Reader.ahead c.args.self.now bytes ahead _ _ made stand (returns-clause-rest g c)
-
-pub returns-clause-same : goal.returns-clause-same
-returns-clause-same g c channels h bytes raw image as_own as_k told =
-    let r = returns-clause-rest g c bytes told in
-    same_image channels _ h _ bytes r.0 raw _ as_own as_k image r.2
-
-pub returns-clause-rgb : goal.returns-clause-rgb
-returns-clause-rgb g c channels h bytes four image as_four three as_k told =
-    let r = returns-clause-rest g c bytes told in
-    three_of_four channels _ h _ bytes r.0 _ four as_four three as_k image r.2
 
 pub returns-clause-opaque : goal.returns-clause-opaque
 returns-clause-opaque g c four three i below =
@@ -145,3 +125,16 @@ returns-in_err-decode_image-clause-only_wrong g c bytes told is =
     let error : c.in_err-decode_image.field-0.0 ≡ InvalidPadding = cc in
     padding_is_only_wrong g.R.Reader.in_memory (pixel_count c.args.self.now.header) _ _ _ bytes told error
     (refused g (goal.at.returns-in_err-decode_image-clause-only_wrong g c).After-from_residual)
+
+pub returns-clause-image : goal.returns-clause-image
+returns-clause-image g c = front_read _ _ (g.R.Reader.ahead c.args.self.now.reader) _ _ (returns-clause-rest g c)
+
+pub returns-clause-took : goal.returns-clause-took
+returns-clause-took g c =
+    let d = c.args.self.now in
+    let many : 3 ≤ pixel_count d.header * channels_number d.channels =
+    omega (arith, c.required_buf_len-size.ensures.some, c.required_buf_len-size.ensures.bytes) in
+    nine_read d.channels d.header (g.R.Reader.ahead d.reader) _ _ (some_pixels _ _ many) (returns-clause-rest g c)
+
+pub returns-clause-rgb : goal.returns-clause-rgb
+returns-clause-rgb g c three = three_read _ _ (g.R.Reader.ahead c.args.self.now.reader) _ _ three (returns-clause-rest g c)

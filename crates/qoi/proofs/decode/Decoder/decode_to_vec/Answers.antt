@@ -5,10 +5,11 @@ use Rattle.std.proofs.lemmas.Result.{err_from_is_err_and}
 use Rattle.std.proofs.Math.Seq.{take-length}
 use lib.Seq.{take-append_seam}
 use Rattle.qoi.specs.declared.error.Error.TheVariants.{UnexpectedBufferEnd}
-use Rattle.qoi.specs.Qoi.{pixel_count}
+use Rattle.qoi.specs.Qoi.{channels_number, pixel_count}
 use Rattle.qoi.specs.Decoding.{DecodesFile, RefusesImage}
 use Rattle.qoi.specs.DecoderState.{output_byte_count}
 use Rattle.qoi.proofs.decoding.Ahead.{fault_ahead}
+use Rattle.qoi.proofs.decoding.FrontImage.{front_read, nine_read, some_pixels, three_read}
 use Rattle.qoi.proofs.decoding.RefusedBytes.{refused_for_wrong}
 use Rattle.qoi.proofs.decoding.Refusals.{whole_not_refused_in}
 use Rattle.qoi.specs.Reading.{IsImage}
@@ -68,22 +69,24 @@ returns-then-not-could_hold-clause-wrong g c bytes told wrong =
     (subst (λ s. RefusesImage g.R.Reader.in_memory (pixel_count s.header) (g.R.Reader.ahead s.reader)
     (g.R.Reader.ahead s.reader) UnexpectedBufferEnd) c.self.view_is (rw c.n_pixels.ensures at cut)))
 
-pub returns-clause-rgb : goal.returns-clause-rgb
-returns-clause-rgb g c channels h bytes four image as_four three as_k told =
-    decoded_bytes g c ∙ c.in_ok-decode_to_buf.ensures.rgb channels h bytes four image as_four three as_k told
-
-pub returns-clause-same : goal.returns-clause-same
-returns-clause-same g c channels h bytes raw image as_own as_k told =
-    decoded_bytes g c ∙ c.in_ok-decode_to_buf.ensures.same channels h bytes raw image as_own as_k told
-
-pub returns-clause-image : goal.returns-clause-image
-returns-clause-image g c bytes rest raw image told = decoded_bytes g c ∙ c.in_ok-decode_to_buf.ensures.image bytes rest raw image told
-
 pub returns-clause-rest : goal.returns-clause-rest
 returns-clause-rest g c bytes told =
     let d = c.args.self.now in
     let read = c.in_ok-decode_to_buf.ensures.rest bytes told in
     (read.0, read.1, subst (λ z. IsImage d.channels bytes d.header read.0 z) (sym (decoded_bytes g c)) read.2)
+
+pub returns-clause-image : goal.returns-clause-image
+returns-clause-image g c = front_read _ _ (g.R.Reader.ahead c.args.self.now.reader) _ _ (returns-clause-rest g c)
+
+pub returns-clause-took : goal.returns-clause-took
+returns-clause-took g c =
+    let d = c.args.self.now in
+    let many : 3 ≤ pixel_count d.header * channels_number d.channels =
+    omega (arith, c.required_buf_len-size.ensures.some, c.required_buf_len-size.ensures.bytes) in
+    nine_read d.channels d.header (g.R.Reader.ahead d.reader) _ _ (some_pixels _ _ many) (returns-clause-rest g c)
+
+pub returns-clause-rgb : goal.returns-clause-rgb
+returns-clause-rgb g c three = three_read _ _ (g.R.Reader.ahead c.args.self.now.reader) _ _ three (returns-clause-rest g c)
 
 pub returns-clause-file : goal.returns-clause-file
 returns-clause-file g c bytes ahead made told =

@@ -1,8 +1,8 @@
 -- The image of a file stands ahead, once the header was read.
 use Rattle.std.proofs.Common.{drop, ◌++◌, [], append-nil, refl, sym}
-use Rattle.qoi.specs.declared.types.Style.TheVariants.{Reference}
 use Rattle.qoi.specs.Qoi.{header_size}
 use Rattle.qoi.proofs.decoding.Ahead.{decoder_of, header_front, header_read_from, image_ahead, file_ahead}
+use Rattle.qoi.proofs.decoding.FrontImage.{image_behind_read}
 use Rattle.qoi.proofs.decode.Decoder.from_stream.Goals as goal
 
 pub returns-clause-behind : goal.returns-clause-behind
@@ -12,9 +12,6 @@ pub returns-clause-comes_back_in : goal.returns-clause-comes_back_in
 returns-clause-comes_back_in g c style h raw bytes f told =
     let read = (header_read_from _ _ bytes c.in_ok-header.header c.in_ok-header.ensures told).0 in
     image_ahead _ bytes h [] raw read refl (file_ahead style h raw bytes [] bytes f (sym (append-nil bytes)))
-
-pub returns-clause-comes_back : goal.returns-clause-comes_back
-returns-clause-comes_back g c h raw bytes f told = returns-clause-comes_back_in g c Reference h raw bytes f told
 
 pub returns-clause-followed : goal.returns-clause-followed
 returns-clause-followed g c style h raw bytes rest f told =
@@ -28,3 +25,6 @@ returns-clause-made g c bytes told =
 
 pub returns-clause-read : goal.returns-clause-read
 returns-clause-read g c bytes told = (header_read_from _ _ bytes c.in_ok-header.header c.in_ok-header.ensures told).0
+
+pub returns-clause-image : goal.returns-clause-image
+returns-clause-image g c = image_behind_read _ _ c.in_ok-header.header c.in_ok-header.ensures

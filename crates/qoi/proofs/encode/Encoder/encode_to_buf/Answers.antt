@@ -6,6 +6,15 @@ use Rattle.qoi.proofs.FileOf.{shortest_is_least, places_length}
 use Rattle.qoi.proofs.encoding.BufferFilled.{buffer_filled}
 use Rattle.qoi.proofs.encode.Encoder.encode_to_buf.Goals as goal
 
+pub returns-clause-encoded : goal.returns-clause-encoded
+returns-clause-encoded c room =
+    let w = c.in_ok-n.ensures.written in
+    let own = subst (λ (s : EncoderState). IsFileOf s.style s.header s.raw w.0) c.self.view_is w.1 in
+    let new = c.new-writer.ensures in
+    let filled = buffer_filled c.new-writer.result c.encode_image.new.buf c.args.buf.now w.0 c.in_ok-n.n new.written new.left w.3 w.2 in
+    let named = w.3.same_buffer in
+    (w.0, own, w.2, search rules)
+
 pub returns-clause-same : goal.returns-clause-same
 returns-clause-same c bytes f =
     let w = c.in_ok-n.ensures.written in

@@ -1,0 +1,37 @@
+-- A decoded image can be encoded again.
+use Rattle.std.proofs.Common.{◌≡◌, ℕ, ◌*◌, ◌/◌, ◌%◌, ◌<◌, List, length, min, arith, refl, ap, ◌∙◌, Ok, Err}
+use Rattle.std.specs.Prelude.{◌==◌, if◌then◌else◌, Result}
+use Rattle.std.proofs.Math.Nat.{mul-mod_right, mul-div_cancel_left}
+use Rattle.qoi.specs.declared.error.Error.{Error}
+use Rattle.qoi.specs.declared.error.Error.TheVariants.{InvalidImageLength}
+use Rattle.qoi.specs.declared.types.Channels.{Channels}
+use Rattle.qoi.specs.declared.types.Channels.TheVariants.{Rgb, Rgba}
+use Rattle.qoi.specs.declared.types.ColorSpace.TheVariants.{Srgb}
+use Rattle.qoi.specs.declared.header.Header.{Header}
+use Rattle.qoi.specs.Qoi.{channels_number, channels_of, pixel_count, IsValid}
+use Rattle.qoi.specs.Raw.{image_byte_count}
+use Rattle.qoi.specs.Encoded.{image_header, measured, with_number}
+use Rattle.qoi.proofs.format.HeaderBytes.{tried_valid}
+
+-- the channels of a header are found from their number
+found_channels : (k : Header) (d : Channels) → with_number k (channels_of (min (channels_number d) 255)) ≡ Ok (record k { channels = d })
+found_channels k Rgb = refl
+found_channels k Rgba = refl
+
+-- so they are from a number of bytes
+found_by : (k : Header) (d : Channels) (m n : ℕ) → m ≡ n * channels_number d → 0 < n
+    → (if m % n == 0 then with_number k (channels_of (min (m / n) 255)) else Err (InvalidImageLength m k.width k.height))
+    ≡ Ok (record k { channels = d })
+found_by k d m n size some =
+    let c = channels_number d in
+    let P : ℕ → ℕ → ℕ → Result Header Error = λ rest count all. if rest == 0 then with_number k (channels_of (min count 255))
+    else Err (InvalidImageLength all k.width k.height) in
+    ap (λ z. P (z % n) (z / n) m) size ∙ ap (λ z. P z (n * c / n) m) (mul-mod_right n c) ∙ ap (λ z. P 0 z m) (mul-div_cancel_left c some)
+    ∙ found_channels k d
+
+-- raw bytes of a header's image are accepted with its width and height, and get its header, in sRGB
+pub encoded_again : (h : Header) (raw : List ℕ) → IsValid h → length raw ≡ image_byte_count h
+    → image_header raw h.width h.height ≡ Ok (record h { colorspace = Srgb })
+encoded_again h raw valid size =
+    let k : Header = record h { channels = Rgb; colorspace = Srgb } in
+    ap (measured raw) (tried_valid k valid) ∙ found_by k h.channels (length raw) (pixel_count h) size (omega (arith, valid.0))
