@@ -34,20 +34,22 @@ max_file_len h = max_len h.width h.height (channels_number h.channels)
 abbrev pub IsFileLength : Header → ℕ → Type 0
 IsFileLength h n = (header_size + 1 + marker_size ≤ n) × (n ≤ max_file_len h)
 
+-- a header with these channels, or their refusal
+abbrev pub with_number : Header → Result Channels Error → Result Header Error
+with_number h (Err e) = Err e
+with_number h (Ok channels) = Ok (record h { channels = channels })
+
+-- the header with the channels that the raw bytes have, or its first refusal
+abbrev pub measured : List ℕ → Result Header Error → Result Header Error
+measured raw (Err e) = Err e
+measured raw (Ok h) =
+    if length raw % pixel_count h == 0 then with_number h (channels_of (min (length raw / pixel_count h) 255))
+    else Err (InvalidImageLength (length raw) h.width h.height)
+
 -- The header of an image of raw bytes, or the first refusal: the dimensions, the length, the number of channels,
 -- given as 255 where it is greater.
 abbrev pub image_header : List ℕ → ℕ → ℕ → Result Header Error
-image_header raw width height = measured (tried_header width height Rgb Srgb)
-  where
-    with_number : Header → Result Channels Error → Result Header Error
-    with_number h (Err e) = Err e
-    with_number h (Ok channels) = Ok (record h { channels = channels })
-
-    measured : Result Header Error → Result Header Error
-    measured (Err e) = Err e
-    measured (Ok h) =
-        if length raw % pixel_count h == 0 then with_number h (channels_of (min (length raw / pixel_count h) 255))
-        else Err (InvalidImageLength (length raw) h.width h.height)
+image_header raw width height = measured raw (tried_header width height Rgb Srgb)
 
 -- the pixels of an image's raw bytes
 abbrev pub image_pixels : Header → List ℕ → List RgbaPixel
