@@ -8,7 +8,7 @@ pub mod lists;
 pub mod plain;
 pub mod reference;
 
-use qoi::{Error, Header, Result};
+use qoi::{Error, Header};
 use std::alloc::Global;
 use std::io::ErrorKind;
 use std::process::Abort;
@@ -28,23 +28,21 @@ pub fn assert_header(rt: &impl Abort, found: &Header, header: &Header) {
     assert_eq!(rt; *found, *header);
 }
 
-// Compares texts.
-fn assert_text(rt: &impl Abort, found: &str, text: &str) {
+/// Compares texts.
+pub fn assert_text(rt: &impl Abort, found: &str, text: &str) {
     assert_eq!(rt; found, text);
 }
 
 /// Compares the printed text of a refusal.
-pub fn assert_refused(
-    rt: &impl Abort,
-    alloc: Global,
-    refusal: Option<Error>,
-    text: &str,
-) -> Result<()> {
+pub fn assert_refused(rt: &impl Abort, alloc: Global, refusal: Option<Error>, text: &str) {
     match refusal {
-        Some(error) => assert_text(rt, format!(in alloc; "{error}")?.as_str(), text),
+        Some(error) => assert_text(
+            rt,
+            format!(in alloc; "{error}").expect(rt, "refused").as_str(),
+            text,
+        ),
         None => assert_text(rt, "accepted", text),
     }
-    Ok(())
 }
 
 /// Tests that the refusal is an i/o error of this kind.
