@@ -12,8 +12,6 @@ mod decoder;
 mod encoder;
 mod errors;
 mod generated;
-mod groups;
-mod hostile;
 mod lengths;
 mod memory;
 mod pieces;

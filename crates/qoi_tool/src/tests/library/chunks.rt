@@ -1,5 +1,6 @@
 //! The first chunk of some bytes.
 use crate::tests::library::support::assert_bytes;
+use qoi::consts::QOI_MASK_2;
 use qoi::parts::{Chunk, read_chunk};
 
 // Bytes, the chunk that they begin with, and what follows it.
@@ -33,7 +34,7 @@ fn too_few_bytes(rt: HostRuntime) {
     assert!(rt; read_chunk(&[]).is_none());
     assert!(rt; read_chunk(&[0xfe, 1, 2]).is_none());
     for byte in 0..=255u8 {
-        let is_longer = byte / 64 == 2 || byte >= 0xfe;
+        let is_longer = byte & QOI_MASK_2 == 0x80 || byte >= 0xfe;
         assert!(rt; read_chunk(&[byte]).is_none() == is_longer, "{byte}");
     }
 }

@@ -3,7 +3,7 @@ use crate::tests::fakes::{ONE_RGB_PIXEL, PIXEL};
 use crate::tests::library::support::decodings::{CUT, Decoding};
 use crate::tests::library::support::examples::GIVEN;
 use crate::tests::library::support::images::{file_of, row};
-use crate::tests::library::support::{assert_bytes, assert_number, assert_refused};
+use crate::tests::library::support::{assert_bytes, assert_given, assert_number, assert_refused};
 use qoi::{Channels, Decoder, Header};
 
 // Each call decodes it, in three channels and in four.
@@ -59,17 +59,9 @@ fn two_files_in_one_slice(rt: HostRuntime) {
     let mut bytes = Vec::from_slice(alloc, &ONE_RGB_PIXEL).expect(&rt, "refused");
     bytes.extend_from_slice(&second).expect(&rt, "refused");
     let mut decoder = Decoder::new(&bytes).expect(&rt, "refused");
-    assert_bytes(
-        &rt,
-        &decoder.decode_to_vec(alloc).expect(&rt, "refused"),
-        &PIXEL,
-    );
+    assert_given(&rt, decoder.decode_to_vec(alloc), &PIXEL);
     assert_bytes(&rt, decoder.data(), &second);
-    assert_bytes(
-        &rt,
-        &decoder.decode_to_vec(alloc).expect(&rt, "refused"),
-        &[0xff, 0xff, 0xff],
-    );
+    assert_given(&rt, decoder.decode_to_vec(alloc), &[0xff, 0xff, 0xff]);
     assert_bytes(&rt, decoder.data(), &[]);
     let third = decoder.decode_to_vec(alloc).err();
     assert_refused(&rt, alloc, third, CUT);

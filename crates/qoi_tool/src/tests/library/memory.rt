@@ -1,7 +1,9 @@
 //! Allocations that are refused, and the calls that take no memory.
 use crate::tests::fakes::{ONE_RGB_PIXEL, PIXEL, take_memory};
 use crate::tests::library::support::decodings::CUT;
-use crate::tests::library::support::{assert_bytes, assert_header, assert_number, assert_refused};
+use crate::tests::library::support::{
+    assert_bytes, assert_given, assert_header, assert_number, assert_refused,
+};
 use qoi::parts::Reader;
 use qoi::{
     Channels, ColorSpace, Decoder, Encoder, Error, Header, Result, decode_header, decode_to_buf,
@@ -34,8 +36,7 @@ fn starved<R: Reader>(alloc: Global, decoder: &mut Decoder<R>, spare: usize) -> 
 fn assert_one_allocation<R: Reader>(rt: &impl Abort, alloc: Global, decoder: &mut Decoder<R>) {
     assert_refused(rt, alloc, starved(alloc, decoder, 0).err(), REFUSED);
     assert_header(rt, decoder.header(), &Header::default());
-    let found = starved(alloc, decoder, PIXEL.len()).expect(rt, "refused");
-    assert_bytes(rt, &found, &PIXEL);
+    assert_given(rt, starved(alloc, decoder, PIXEL.len()), &PIXEL);
 }
 
 #[test]
@@ -59,8 +60,11 @@ fn starved_file(alloc: Global, spare: usize) -> Result<Vec<u8>> {
 fn each_allocation_of_encode_to_vec(rt: HostRuntime) {
     let alloc = rt.alloc();
     assert_refused(&rt, alloc, starved_file(alloc, 0).err(), REFUSED);
-    let file = starved_file(alloc, ONE_RGB_PIXEL.len()).expect(&rt, "refused");
-    assert_bytes(&rt, &file, &ONE_RGB_PIXEL);
+    assert_given(
+        &rt,
+        starved_file(alloc, ONE_RGB_PIXEL.len()),
+        &ONE_RGB_PIXEL,
+    );
 }
 
 // The header of an image of 20000 by 20000 pixels.
@@ -90,7 +94,7 @@ fn assert_large(rt: &impl Abort, alloc: Global, file: &[u8], least: usize, text:
     assert_refused(rt, alloc, free, text);
     assert_number(rt, decoder.data().len().saturating_add(14), file.len());
     let header = Header::try_new(20000, 20000, Channels::Rgb, ColorSpace::Srgb);
-    assert!(rt; header.is_ok_and(|header| header == *decoder.header()));
+    assert_header(rt, decoder.header(), &header.expect(rt, "refused"));
 }
 
 // Where the first allocation is refused, that comes before a cut.
@@ -148,6 +152,5 @@ fn calls_without_memory(rt: HostRuntime) {
     assert_decodes(&rt);
     assert_clone_is_refused(&rt, &decoder);
     drop(held);
-    let found = decoder.decode_to_vec(alloc).expect(&rt, "refused");
-    assert_bytes(&rt, &found, &PIXEL);
+    assert_given(&rt, decoder.decode_to_vec(alloc), &PIXEL);
 }

@@ -1,7 +1,7 @@
 //! The stream calls over the standard library's own readers and writers.
 use crate::tests::fakes::{NONE, Source};
 use crate::tests::library::support::images::{file_of, row};
-use crate::tests::library::support::{assert_bytes, assert_number};
+use crate::tests::library::support::{assert_bytes, assert_given, assert_number};
 use qoi::{Channels, Decoder, Encoder, Result};
 use std::alloc::Global;
 use std::io::{BufReader, BufWriter, Cursor, Read, Write};
@@ -42,11 +42,7 @@ fn assert_reads<R: Read + Drop>(rt: &impl Abort, alloc: Global, reader: R) {
         24,
     );
     assert_bytes(rt, &buf, &IMAGE);
-    assert_bytes(
-        rt,
-        &decoder.decode_to_vec(alloc).expect(rt, "refused"),
-        &IMAGE,
-    );
+    assert_given(rt, decoder.decode_to_vec(alloc), &IMAGE);
     let mut rest = Vec::new(alloc);
     decoder
         .into_reader()

@@ -8,7 +8,7 @@ pub mod lists;
 pub mod plain;
 pub mod reference;
 
-use qoi::{Error, Header};
+use qoi::{Error, Header, Result};
 use std::alloc::Global;
 use std::io::ErrorKind;
 use std::process::Abort;
@@ -16,6 +16,11 @@ use std::process::Abort;
 /// Compares bytes.
 pub fn assert_bytes(rt: &impl Abort, found: &[u8], bytes: &[u8]) {
     assert_eq!(rt; found, bytes);
+}
+
+/// Compares bytes that a call gives.
+pub fn assert_given(rt: &impl Abort, given: Result<Vec<u8>>, bytes: &[u8]) {
+    assert_bytes(rt, &given.expect(rt, "refused"), bytes);
 }
 
 /// Compares numbers.

@@ -1,6 +1,6 @@
 //! Decoding by each call from a slice and from a stream, with what the decoder is then.
 use crate::tests::library::support::{
-    assert_bytes, assert_fails, assert_header, assert_number, assert_refused,
+    assert_bytes, assert_fails, assert_given, assert_header, assert_number, assert_refused,
 };
 use qoi::parts::Reader;
 use qoi::{Channels, Decoder, Header, Result, decode_to_buf, decode_to_vec};
@@ -97,9 +97,9 @@ impl<'a> Decoding<'a> {
     pub fn check(self, rt: &impl Abort, alloc: Global, image: &[u8], behind: &[u8]) {
         for call in CALLS {
             let slice = self.of_slice(rt, alloc, call, behind);
-            assert_bytes(rt, &slice.expect(rt, "refused"), image);
+            assert_given(rt, slice, image);
             let stream = self.of_stream(rt, alloc, call, behind);
-            assert_bytes(rt, &stream.expect(rt, "refused"), image);
+            assert_given(rt, stream, image);
         }
     }
 

@@ -3,7 +3,9 @@ use crate::tests::fakes::{Bad, End, NONE, Sink};
 use crate::tests::library::support::decodings::Decoding;
 use crate::tests::library::support::generator::Rgba;
 use crate::tests::library::support::plain::plain_chunks;
-use crate::tests::library::support::{assert_bytes, assert_fails, assert_header, assert_number};
+use crate::tests::library::support::{
+    assert_bytes, assert_fails, assert_given, assert_header, assert_number,
+};
 use qoi::{Channels, Encoder, Header, Result, Style, encode_to_buf, encode_to_vec};
 use std::alloc::Global;
 use std::io::ErrorKind;
@@ -102,11 +104,7 @@ impl Image {
         assert_header(rt, encoder.header(), &self.header);
         assert!(rt; encoder.style() == self.style);
         assert!(rt; encoder.channels() == self.header.channels);
-        assert_bytes(
-            rt,
-            &encoder.encode_to_vec(alloc).expect(rt, "refused"),
-            &self.file,
-        );
+        assert_given(rt, encoder.encode_to_vec(alloc), &self.file);
         self.sent(rt, alloc, usize::MAX);
         let mut buf = vec![in alloc; 0xaau8; encoder.required_buf_len().saturating_add(3)].expect(
             rt, "refused",
