@@ -31,8 +31,8 @@ fn starved<R: Reader>(alloc: Global, decoder: &mut Decoder<R>, spare: usize) -> 
     found
 }
 
-// The first allocation is refused; where the first is found, there is no second one. A refusal leaves
-// the decoder as it was.
+// The first allocation is refused; if the first is found, there is no second one. A refusal leaves the
+// decoder as it was.
 fn assert_one_allocation<R: Reader>(rt: &impl Abort, alloc: Global, decoder: &mut Decoder<R>) {
     assert_refused(rt, alloc, starved(alloc, decoder, 0).err(), REFUSED);
     assert_header(rt, decoder.header(), &Header::default());
@@ -82,8 +82,8 @@ fn large(alloc: Global, after: usize) -> Result<Vec<u8>> {
     Ok(file)
 }
 
-// Both calls refuse the file with this text, and the decoder is as before. All memory but for blocks of
-// less than `least` bytes is taken.
+// Both calls refuse the file with this text, and the decoder is as before. All memory but for blocks
+// of less than `least` bytes is taken.
 fn assert_large(rt: &impl Abort, alloc: Global, file: &[u8], least: usize, text: &str) {
     let mut decoder = Decoder::new(file).expect(rt, "refused");
     let held = take_memory(alloc, least).expect(rt, "refused");
@@ -141,7 +141,8 @@ fn assert_clone_is_refused(rt: &impl Abort, decoder: &Decoder<Cursor<Vec<u8>>>) 
     assert!(rt; matches!(decoder.clone(), Err(Error::OutOfMemory)));
 }
 
-// All memory is taken while the calls that take none succeed, and a clone is refused, which leaves the decoder.
+// While all memory is taken, the calls that take none succeed, and a clone is refused. That leaves the
+// decoder as it was.
 #[test]
 fn calls_without_memory(rt: HostRuntime) {
     let alloc = rt.alloc();

@@ -73,7 +73,7 @@ fn refusal_at(rt: &impl Abort, reader: &mut Source<'_>, call: usize) -> Option<E
     }
 }
 
-// A reader that gives a byte a call has a bad call, which is the last one. So many bytes were taken.
+// A reader that gives a byte a call has a bad call, which is the last one.
 fn assert_stops(rt: &impl Abort, end: End, taken: usize, kind: ErrorKind) {
     let call = taken.saturating_add(1);
     let mut reader = Source::new(&ONE_RGB_PIXEL, 1, Bad { call, end });
