@@ -190,7 +190,8 @@ fn into_a_buffer(rt: HostRuntime) {
         into_buffer(alloc, &mut [0xaa; 4], &PIXEL, 1, 1),
         &PIXEL,
     );
-    let short = into_buffer(alloc, &mut [0xaa; 2], &PIXEL, 1, 1);
+    let mut buf = [0xaa; 2];
+    let short = into_buffer(alloc, &mut buf, &PIXEL, 1, 1);
     assert!(rt;
         matches!(
             short,
