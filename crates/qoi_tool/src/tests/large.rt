@@ -29,10 +29,10 @@ fn encoded(rt: &impl Abort, alloc: Global, raw: &[u8], width: u32, height: u32) 
 // The image comes back from its file, by both.
 fn assert_comes_back(rt: &impl Abort, alloc: Global, file: &[u8], raw: &[u8]) {
     let found = decode_to_vec(alloc, file);
-    assert!(rt; matches!(found, Ok((_, found)) if found.as_slice() == raw));
+    assert!(rt; matches!(&found, Ok((_, found)) if found.as_slice() == raw));
     let mut decoder = Decoder::from_stream(file).expect(rt, "refused");
     let found = decoder.decode_to_vec(alloc);
-    assert!(rt; matches!(found, Ok(found) if found.as_slice() == raw));
+    assert!(rt; matches!(&found, Ok(found) if found.as_slice() == raw));
 }
 
 // The program writes the image's file, and its raw bytes, to a writer that takes a byte less than a piece

@@ -140,7 +140,7 @@ fn readers(rt: HostRuntime) {
 fn readers_of_images(rt: HostRuntime) {
     let received = receive(rt.alloc(), ONE_RGB_PIXEL.as_slice());
     assert!(rt;
-        matches!(received, Ok((raw, left)) if raw.as_slice() == PIXEL.as_slice() && left.is_empty())
+        matches!(&received, Ok((raw, left)) if raw.as_slice() == PIXEL.as_slice() && left.is_empty())
     );
 }
 
@@ -206,7 +206,7 @@ fn into_a_buffer(rt: HostRuntime) {
 #[test]
 fn files_until_one_is_refused(rt: HostRuntime) {
     let whole = all_images(rt.alloc(), &files());
-    assert!(rt; matches!(whole, Ok(images) if images.len() == 2));
+    assert!(rt; matches!(&whole, Ok(images) if images.len() == 2));
     let refused = all_images(rt.alloc(), &files()[..51]);
     assert!(rt; matches!(refused, Err(Error::UnexpectedBufferEnd)));
 }
