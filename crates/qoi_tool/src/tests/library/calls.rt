@@ -207,8 +207,11 @@ fn into_a_buffer(rt: HostRuntime) {
 fn files_until_one_is_refused(rt: HostRuntime) {
     let whole = all_images(rt.alloc(), &files());
     assert!(rt; matches!(&whole, Ok(images) if images.len() == 2));
-    let refused = all_images(rt.alloc(), &files()[..51]);
-    assert!(rt; matches!(refused, Err(Error::UnexpectedBufferEnd)));
+    let all = files();
+    if let Some((_, cut)) = all.split_last() {
+        let refused = all_images(rt.alloc(), cut);
+        assert!(rt; matches!(refused, Err(Error::UnexpectedBufferEnd)));
+    }
 }
 
 #[test]
