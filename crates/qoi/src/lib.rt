@@ -34,8 +34,6 @@ mod pixel;
 mod runs;
 mod steps;
 mod table;
-#[cfg(test)]
-mod tests;
 mod types;
 mod utils;
 

@@ -16,7 +16,6 @@ use qoi::{Error, Style};
 use std::alloc::Global;
 use std::io::{ErrorKind, Read};
 use std::process::Abort;
-use std::test::Fail;
 
 const USAGE: &str = "usage: qoi_tool dec [rgb|rgba] | enc W H [linear] [places|tight] | info\n";
 
@@ -49,18 +48,11 @@ fn dec<R: Read>(alloc: Global, input: &mut R, output: &mut Sink) -> Result<(), F
 }
 
 // Compares what the program writes for the bytes of its input.
-fn assert_writes(
-    rt: &impl Abort,
-    alloc: Global,
-    words: &[&str],
-    bytes: &[u8],
-    wanted: &[u8],
-) -> Result<(), Error> {
+fn assert_writes(rt: &impl Abort, alloc: Global, words: &[&str], bytes: &[u8], wanted: &[u8]) {
     let mut input = Source::new(bytes, usize::MAX, NONE);
-    let mut output = Sink::new(alloc, usize::MAX, NONE)?;
+    let mut output = Sink::new(alloc, usize::MAX, NONE).expect(rt, "refused");
     assert!(rt; answer(alloc, words, &mut input, &mut output).is_ok());
     assert_bytes(rt, &output.got, wanted);
-    Ok(())
 }
 
 // Compares what a fault's report writes and returns.
@@ -70,12 +62,12 @@ fn assert_reports(
     answer: Result<(), Fault>,
     status: u8,
     line: &str,
-) -> Result<(), Error> {
+) {
     let Err(fault) = answer else {
         assert!(rt; false, "no fault, not: {line}");
-        return Ok(());
+        return;
     };
-    let mut err = Sink::new(alloc, usize::MAX, NONE)?;
+    let mut err = Sink::new(alloc, usize::MAX, NONE).expect(rt, "refused");
     assert_eq!(rt; report(&fault, &mut err), status);
     assert_bytes(rt, &err.got, line.as_bytes());
     // What the writes return is ignored.
@@ -83,10 +75,9 @@ fn assert_reports(
         call: 1,
         end: End::Fault,
     };
-    let mut err = Sink::new(alloc, usize::MAX, bad)?;
+    let mut err = Sink::new(alloc, usize::MAX, bad).expect(rt, "refused");
     assert_eq!(rt; report(&fault, &mut err), status);
     assert!(rt; err.got.is_empty());
-    Ok(())
 }
 
 // The program refuses the input with this line and status, and writes nothing.
@@ -97,55 +88,55 @@ fn assert_refuses(
     bytes: &[u8],
     status: u8,
     line: &str,
-) -> Result<(), Error> {
+) {
     let mut input = Source::new(bytes, usize::MAX, NONE);
-    let mut output = Sink::new(alloc, usize::MAX, NONE)?;
+    let mut output = Sink::new(alloc, usize::MAX, NONE).expect(rt, "refused");
     let answer = answer(alloc, words, &mut input, &mut output);
     assert!(rt; output.got.is_empty());
     assert!(rt; status == 1 || input.calls == 0);
-    assert_reports(rt, alloc, answer, status, line)
+    assert_reports(rt, alloc, answer, status, line);
 }
 
 #[test]
-fn the_program(rt: HostRuntime) -> Result<(), Fail> {
+fn the_program(rt: HostRuntime) {
     let alloc = rt.alloc();
     let file = ONE_RGB_PIXEL;
-    assert_writes(&rt, alloc, &["info"], &file, LINE)?;
-    assert_writes(&rt, alloc, &["dec"], &file, &PIXEL)?;
+    assert_writes(&rt, alloc, &["info"], &file, LINE);
+    assert_writes(&rt, alloc, &["dec"], &file, &PIXEL);
     assert_writes(
         &rt,
         alloc,
         &["dec", "rgba"],
         &file,
         &[0x0b, 0x79, 0xe7, 0xff],
-    )?;
-    let place = PLACE_RGBA.image(alloc, Style::Reference)?;
+    );
+    let place = PLACE_RGBA
+        .image(alloc, Style::Reference)
+        .expect(&rt, "refused");
     let three = [101, 102, 103, 1, 2, 3, 101, 102, 103];
-    assert_writes(&rt, alloc, &["dec", "rgb"], &place.file, &three)?;
+    assert_writes(&rt, alloc, &["dec", "rgb"], &place.file, &three);
     let mut linear = file;
     linear[13] = 1;
-    assert_writes(&rt, alloc, &["enc", "1", "1", "linear"], &PIXEL, &linear)?;
-    assert_writes(&rt, alloc, &["enc", "1", "1"], &PIXEL, &file)?;
-    assert_writes(&rt, alloc, &["enc", "01", "1"], &PIXEL, &file)?;
-    Ok(())
+    assert_writes(&rt, alloc, &["enc", "1", "1", "linear"], &PIXEL, &linear);
+    assert_writes(&rt, alloc, &["enc", "1", "1"], &PIXEL, &file);
+    assert_writes(&rt, alloc, &["enc", "01", "1"], &PIXEL, &file);
 }
 
 // The lines of the example that are refused.
 #[test]
-fn the_program_refuses(rt: HostRuntime) -> Result<(), Fail> {
+fn the_program_refuses(rt: HostRuntime) {
     let (alloc, file) = (rt.alloc(), ONE_RGB_PIXEL);
     let line = "qoi_tool: invalid number of channels: 5\n";
-    assert_refuses(&rt, alloc, &["enc", "1", "1"], &[0; 5], 1, line)?;
+    assert_refuses(&rt, alloc, &["enc", "1", "1"], &[0; 5], 1, line);
     let line = "qoi_tool: invalid image dimensions: 4294967295x1\n";
-    assert_refuses(&rt, alloc, &["enc", "4294967295", "1"], &[], 1, line)?;
+    assert_refuses(&rt, alloc, &["enc", "4294967295", "1"], &[], 1, line);
     let line = "qoi_tool: unexpected input buffer end while decoding\n";
-    assert_refuses(&rt, alloc, &["dec"], &file[..25], 1, line)?;
-    assert_refuses(&rt, alloc, &[], &file, 2, USAGE)?;
-    Ok(())
+    assert_refuses(&rt, alloc, &["dec"], &file[..25], 1, line);
+    assert_refuses(&rt, alloc, &[], &file, 2, USAGE);
 }
 
 #[test]
-fn other_words(rt: HostRuntime) -> Result<(), Fail> {
+fn other_words(rt: HostRuntime) {
     let words: [&[&str]; 18] = [
         &["de"],
         &["decode"],
@@ -167,9 +158,8 @@ fn other_words(rt: HostRuntime) -> Result<(), Fail> {
         &["enc", "3", "1", "linear", "places", "x"],
     ];
     for some in words {
-        assert_refuses(&rt, rt.alloc(), some, &ONE_RGB_PIXEL, 2, USAGE)?;
+        assert_refuses(&rt, rt.alloc(), some, &ONE_RGB_PIXEL, 2, USAGE);
     }
-    Ok(())
 }
 
 // Words that encode the image of an example, of three pixels, and the fourteenth byte of its file.
@@ -189,35 +179,36 @@ static STYLED: [Styled; 5] = [
 ];
 
 // The image is encoded, and comes back.
-fn assert_styled(rt: &impl Abort, alloc: Global, styled: &Styled) -> Result<(), Error> {
-    let mut image = styled.example.image(alloc, Style::Reference)?;
+fn assert_styled(rt: &impl Abort, alloc: Global, styled: &Styled) {
+    let mut image = styled
+        .example
+        .image(alloc, Style::Reference)
+        .expect(rt, "refused");
     if let Some(space) = image.file.get_mut(13) {
         *space = styled.space;
     }
-    assert_writes(rt, alloc, styled.words, &image.raw, &image.file)?;
-    assert_writes(rt, alloc, &["dec"], &image.file, &image.raw)
+    assert_writes(rt, alloc, styled.words, &image.raw, &image.file);
+    assert_writes(rt, alloc, &["dec"], &image.file, &image.raw);
 }
 
 // The file of each style, with its color space, and its way back.
 #[test]
-fn styles(rt: HostRuntime) -> Result<(), Fail> {
+fn styles(rt: HostRuntime) {
     for styled in &STYLED {
-        assert_styled(&rt, rt.alloc(), styled)?;
+        assert_styled(&rt, rt.alloc(), styled);
     }
-    Ok(())
 }
 
 // `dec` accepts each example's file. It refuses each beginning, and writes nothing.
 #[test]
-fn beginnings(rt: HostRuntime) -> Result<(), Fail> {
+fn beginnings(rt: HostRuntime) {
     let line = "qoi_tool: unexpected input buffer end while decoding\n";
-    for image in &files(rt.alloc())? {
-        assert_writes(&rt, rt.alloc(), &["dec"], &image.file, &image.raw)?;
+    for image in &files(rt.alloc()).expect(&rt, "refused") {
+        assert_writes(&rt, rt.alloc(), &["dec"], &image.file, &image.raw);
         for size in 0..image.file.len() {
-            assert_refuses(&rt, rt.alloc(), &["dec"], &image.file[..size], 1, line)?;
+            assert_refuses(&rt, rt.alloc(), &["dec"], &image.file[..size], 1, line);
         }
     }
-    Ok(())
 }
 
 // Tests that the answer is a fault of this kind, and that its report is a line with status 1. The call
@@ -228,11 +219,11 @@ fn assert_io(
     answer: Result<(), Fault>,
     kind: ErrorKind,
     call: usize,
-) -> Result<(), Error> {
+) {
     match answer {
         Err(Fault::Image(Error::IoError(error))) => {
             assert!(rt; error.kind() == kind, "at call {call}");
-            let mut err = Sink::new(alloc, usize::MAX, NONE)?;
+            let mut err = Sink::new(alloc, usize::MAX, NONE).expect(rt, "refused");
             let fault = Fault::Image(Error::IoError(error));
             assert_eq!(rt; report(&fault, &mut err), 1);
             assert!(rt;
@@ -242,35 +233,33 @@ fn assert_io(
         }
         _ => assert!(rt; false, "no i/o error at call {call}"),
     }
-    Ok(())
 }
 
 // The reader gives all that is asked for in a call, or a byte.
 #[test]
-fn header_lines(rt: HostRuntime) -> Result<(), Fail> {
+fn header_lines(rt: HostRuntime) {
     let alloc = rt.alloc();
     for most in [usize::MAX, 1] {
         let mut input = Source::new(&ONE_RGB_PIXEL, most, NONE);
-        let mut output = Sink::new(alloc, usize::MAX, NONE)?;
+        let mut output = Sink::new(alloc, usize::MAX, NONE).expect(&rt, "refused");
         assert!(rt; answer(alloc, &["info"], &mut input, &mut output).is_ok());
         assert_bytes(&rt, &output.got, LINE);
         assert_number(&rt, input.left.len(), 12);
 
         let mut input = Source::new(&ONE_RGB_PIXEL[..13], most, NONE);
-        let mut output = Sink::new(alloc, usize::MAX, NONE)?;
+        let mut output = Sink::new(alloc, usize::MAX, NONE).expect(&rt, "refused");
         let cut = answer(alloc, &["info"], &mut input, &mut output);
-        assert_io(&rt, alloc, cut, ErrorKind::UnexpectedEof, 14)?;
+        assert_io(&rt, alloc, cut, ErrorKind::UnexpectedEof, 14);
         assert!(rt; output.got.is_empty());
     }
     let line = b"20000x20000 channels 4 colorspace linear\n";
     let header = b"qoif\0\0\x4e\x20\0\0\x4e\x20\x04\x01";
-    assert_writes(&rt, alloc, &["info"], header, line)?;
-    Ok(())
+    assert_writes(&rt, alloc, &["info"], header, line);
 }
 
 // The reader gives a byte a call, and its call 27 finds the end.
 #[test]
-fn failing_reader(rt: HostRuntime) -> Result<(), Fail> {
+fn failing_reader(rt: HostRuntime) {
     let alloc = rt.alloc();
     let ends = [
         (End::Fault, ErrorKind::BrokenPipe),
@@ -281,23 +270,22 @@ fn failing_reader(rt: HostRuntime) -> Result<(), Fail> {
     for (end, kind) in ends {
         for call in 1..28usize {
             let mut input = Source::new(&ONE_RGB_PIXEL, 1, Bad { call, end });
-            let mut output = Sink::new(alloc, usize::MAX, NONE)?;
+            let mut output = Sink::new(alloc, usize::MAX, NONE).expect(&rt, "refused");
             let answer = dec(alloc, &mut input, &mut output);
-            assert_io(&rt, alloc, answer, kind, call)?;
+            assert_io(&rt, alloc, answer, kind, call);
             assert_number(&rt, input.calls, call);
             assert!(rt; output.got.is_empty(), "at call {call}");
         }
         let mut input = Source::new(&ONE_RGB_PIXEL, 1, Bad { call: 28, end });
-        let mut output = Sink::new(alloc, usize::MAX, NONE)?;
+        let mut output = Sink::new(alloc, usize::MAX, NONE).expect(&rt, "refused");
         assert!(rt; dec(alloc, &mut input, &mut output).is_ok());
         assert_number(&rt, input.calls, 27);
     }
-    Ok(())
 }
 
 // The own words of the input's fault and of the output's stand in the line.
 #[test]
-fn own_words(rt: HostRuntime) -> Result<(), Fail> {
+fn own_words(rt: HostRuntime) {
     let alloc = rt.alloc();
     let (bad, line) = (
         Bad {
@@ -309,20 +297,19 @@ fn own_words(rt: HostRuntime) -> Result<(), Fail> {
     let commands: [&[&str]; 3] = [&["dec"], &["dec", "rgba"], &["info"]];
     for words in commands {
         let mut input = Source::new(&ONE_RGB_PIXEL, usize::MAX, bad);
-        let mut output = Sink::new(alloc, usize::MAX, NONE)?;
+        let mut output = Sink::new(alloc, usize::MAX, NONE).expect(&rt, "refused");
         let refused = answer(alloc, words, &mut input, &mut output);
-        assert_reports(&rt, alloc, refused, 1, line)?;
+        assert_reports(&rt, alloc, refused, 1, line);
         let mut input = Source::new(&ONE_RGB_PIXEL, usize::MAX, NONE);
-        let mut output = Sink::new(alloc, usize::MAX, bad)?;
+        let mut output = Sink::new(alloc, usize::MAX, bad).expect(&rt, "refused");
         let refused = answer(alloc, words, &mut input, &mut output);
-        assert_reports(&rt, alloc, refused, 1, line)?;
+        assert_reports(&rt, alloc, refused, 1, line);
     }
-    Ok(())
 }
 
 // The writer takes a byte a call, and three calls take all.
 #[test]
-fn failing_writer(rt: HostRuntime) -> Result<(), Fail> {
+fn failing_writer(rt: HostRuntime) {
     let alloc = rt.alloc();
     let ends = [
         (End::Fault, ErrorKind::BrokenPipe),
@@ -335,17 +322,16 @@ fn failing_writer(rt: HostRuntime) -> Result<(), Fail> {
         for written in 0..3usize {
             let call = written + 1;
             let mut input = Source::new(&ONE_RGB_PIXEL, usize::MAX, NONE);
-            let mut output = Sink::new(alloc, 1, Bad { call, end })?;
+            let mut output = Sink::new(alloc, 1, Bad { call, end }).expect(&rt, "refused");
             let answer = dec(alloc, &mut input, &mut output);
-            assert_io(&rt, alloc, answer, kind, call)?;
+            assert_io(&rt, alloc, answer, kind, call);
             assert_bytes(&rt, &output.got, &PIXEL[..written]);
         }
         let mut input = Source::new(&ONE_RGB_PIXEL, usize::MAX, NONE);
-        let mut output = Sink::new(alloc, 1, Bad { call: 4, end })?;
+        let mut output = Sink::new(alloc, 1, Bad { call: 4, end }).expect(&rt, "refused");
         assert!(rt; dec(alloc, &mut input, &mut output).is_ok());
         assert_bytes(&rt, &output.got, &PIXEL);
     }
-    Ok(())
 }
 
 // Runs the program while all memory is taken, and compares its status, what it writes, and its line.
@@ -356,12 +342,12 @@ fn assert_starved(
     status: u8,
     wanted: &[u8],
     line: &[u8],
-) -> Result<(), Error> {
-    let words = given(alloc, some)?;
+) {
+    let words = given(alloc, some).expect(rt, "refused");
     let mut input = Source::new(&ONE_RGB_PIXEL, usize::MAX, NONE);
-    let mut output = Sink::new(alloc, usize::MAX, NONE)?;
-    let mut err = Sink::new(alloc, usize::MAX, NONE)?;
-    let held = take_memory(alloc, 2)?;
+    let mut output = Sink::new(alloc, usize::MAX, NONE).expect(rt, "refused");
+    let mut err = Sink::new(alloc, usize::MAX, NONE).expect(rt, "refused");
+    let held = take_memory(alloc, 2).expect(rt, "refused");
     let found = match run(alloc, &words, &mut input, &mut output) {
         Ok(()) => 0,
         Err(fault) => report(&fault, &mut err),
@@ -370,17 +356,15 @@ fn assert_starved(
     assert_eq!(rt; found, status);
     assert_bytes(rt, &output.got, wanted);
     assert_bytes(rt, &err.got, line);
-    Ok(())
 }
 
 // `info` takes no memory.
 #[test]
-fn no_memory(rt: HostRuntime) -> Result<(), Fail> {
+fn no_memory(rt: HostRuntime) {
     let alloc = rt.alloc();
     let words: [&[&str]; 3] = [&["dec"], &["dec", "rgb"], &["enc", "1", "1"]];
     for some in words {
-        assert_starved(&rt, alloc, some, 1, &[], b"qoi_tool: out of memory\n")?;
+        assert_starved(&rt, alloc, some, 1, &[], b"qoi_tool: out of memory\n");
     }
-    assert_starved(&rt, alloc, &["info"], 0, LINE, &[])?;
-    Ok(())
+    assert_starved(&rt, alloc, &["info"], 0, LINE, &[]);
 }

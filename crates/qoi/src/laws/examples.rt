@@ -5,7 +5,7 @@ ghost use Rattle.qoi.specs.declared.header.Header.{Header};
 ghost use Rattle.qoi.specs.declared.types.Channels.{Channels};
 ghost use Rattle.qoi.specs.declared.types.ColorSpace.{ColorSpace};
 ghost use Rattle.qoi.specs.declared.chunk.Chunk.TheVariants.{Place, Diff, Luma, Run, Rgb, Rgba};
-ghost use Rattle.qoi.specs.Qoi.{AreBytes, IsChunk, bytes_of, chunk_max, default_header, end_marker, header_bytes, IsValid, marker_size, pixel, rgba};
+ghost use Rattle.qoi.specs.Qoi.{AreBytes, IsChunk, bytes_of, chunk_max, default_header, end_marker, header_bytes, IsValid, marker_size, pixel, pixel_count, rgba, tried_header};
 ghost use Rattle.qoi.specs.Errors.{IsIoError, IsReaderFault, IsErrorOfCut, IsErrorOfWrong};
 ghost use Rattle.qoi.specs.Raw.{IsChannels, without_fourth, pixels_of, byte_count, image_byte_count, HasImageLength, capped_byte_count, AreOpaque, HasChannels};
 ghost use Rattle.qoi.specs.Verdicts.{IsPartOfChunk, IsWhole, IsCut, IsWrong};
@@ -90,6 +90,17 @@ pub fn size_examples()
     ensures no_pixel_is_not { IsValid (record default_header { height = 0 }) → ⊥ }
     ensures most_pixels_are_valid { IsValid (record default_header { width = 400000000 }) }
     ensures one_more_is_not { IsValid (record default_header { width = 400000001 }) → ⊥ }
+    ensures largest_is_made { tried_header 20000 20000 Channels.Rgba ColorSpace.Linear
+        ≡ Ok (record {
+          width = 20000;
+          height = 20000;
+          channels = Channels.Rgba;
+          colorspace = ColorSpace.Linear;
+        }) }
+    ensures larger_is_not_made { tried_header 400000001 1 Channels.Rgba ColorSpace.Linear
+        ≡ Err (Error.InvalidImageDimensions 400000001 1) }
+    ensures empty_is_not_made { tried_header 0 5 Channels.Rgba ColorSpace.Linear
+        ≡ Err (Error.InvalidImageDimensions 0 5) }
     ensures bytes_in_four { byte_count (record {
       width = 2;
       height = 3;
@@ -108,14 +119,26 @@ pub fn size_examples()
       channels = Channels.Rgba;
       colorspace = ColorSpace.Srgb;
     }) ≡ 18446744073709551615 }
+    ensures capped_bytes_of_three { capped_byte_count (record default_header {
+      width = 4294967295;
+      height = 4294967295;
+    }) ≡ 18446744073709551615 }
     ensures uncapped_bytes { capped_byte_count (record {
       width = 2;
       height = 3;
       channels = Channels.Rgb;
       colorspace = ColorSpace.Srgb;
     }) ≡ 18 }
+    ensures uncapped_pixels { pixel_count (record default_header {
+      width = 4294967295;
+      height = 4294967295;
+    }) ≡ 18446744065119617025 }
     ensures longest_file { max_len 2 3 4 ≡ 52 }
+    ensures longest_of_all { max_len 20000 20000 4 ≡ 2000000022 }
+    ensures longest_without_channels { max_len 1 1 0 ≡ 23 }
+    ensures longest_without_pixels { max_len 0 5 3 ≡ 22 }
     ensures capped_file { max_len 4294967295 4294967295 4 ≡ 18446744073709551615 }
+    ensures uncapped_file { max_len 4294967295 4294967295 0 ≡ 18446744065119617047 }
     ensures shortest_file { IsFileLength default_header 23 }
     ensures too_short_file { IsFileLength default_header 22 → ⊥ }
     ensures longest_of_one { IsFileLength default_header 26 }
@@ -146,6 +169,7 @@ pub fn image_examples()
     }) }
     ensures no_whole_number { image_header (replicate 7 0) 2 1
         ≡ Err (Error.InvalidImageLength 7 2 1) }
+    ensures no_bytes { image_header [] 1 1 ≡ Err (Error.InvalidChannels 0) }
     ensures five_bytes { image_header (replicate 5 0) 1 1 ≡ Err (Error.InvalidChannels 5) }
     ensures capped_channels { image_header (replicate 300 0) 1 1 ≡ Err (Error.InvalidChannels 255) }
     ensures uncapped_channels { image_header (replicate 254 0) 1 1

@@ -1,5 +1,5 @@
 //! A reader and a writer in memory that end one of their calls badly, memory that is taken, and a file
-//! to try them on. This text is the same in the tests of both crates.
+//! to try them on.
 ghost use Rattle.std.specs.Prelude.{◌≡◌, IfOk};
 
 use std::alloc::{AllocError, Global};

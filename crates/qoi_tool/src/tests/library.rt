@@ -1,18 +1,26 @@
-//! The library as any crate sees it, by its public calls alone and on whole files: the worked examples,
-//! proved callers, drawn images and files, broken files, and the standard library's readers and writers.
+//! The library as any crate sees it, by its public calls and by `parts`: the worked examples, proved
+//! callers, drawn images and files, broken files, readers, writers and memory that fail, and the
+//! standard library's readers and writers.
 
 mod borders;
 mod broken;
 mod callers;
 mod calls;
 mod choices;
+mod chunks;
 mod decoder;
 mod encoder;
+mod errors;
 mod generated;
-mod groups;
-mod hostile;
 mod lengths;
+mod memory;
 mod pieces;
+mod pixel;
 mod quads;
+mod reader;
+mod runs;
 mod std_streams;
+mod streams;
 pub mod support;
+mod types;
+mod writers;

@@ -5,7 +5,6 @@ use crate::tests::library::support::images::{file_of, row};
 use qoi::Channels;
 use std::io;
 use std::io::Read;
-use std::test::Fail;
 
 // The most bytes that the reading asks for in a call: a mebibyte.
 const PIECE: u32 = 1_048_576;
@@ -45,7 +44,7 @@ impl<'a> Read for Uneven<'a> {
 // A file of differences, which are chunks of one byte, is read whole, up to the last byte of its end
 // marker, by a mebibyte a call at most.
 #[test]
-fn pieces(rt: HostRuntime) -> Result<(), Fail> {
+fn pieces(rt: HostRuntime) {
     let alloc = rt.alloc();
     for size in [
         2 * PIECE + 1,
@@ -56,17 +55,17 @@ fn pieces(rt: HostRuntime) -> Result<(), Fail> {
         PIECE - 1,
     ] {
         let pixels = size - AROUND;
-        let chunks = vec![in alloc; 0x7fu8; pixels as usize]?;
-        let file = file_of(alloc, row(pixels, Channels::Rgb), &chunks)?;
+        let chunks = vec![in alloc; 0x7fu8; pixels as usize].expect(&rt, "refused");
+        let file = file_of(alloc, row(pixels, Channels::Rgb), &chunks).expect(&rt, "refused");
         let mut raw = Vec::new(alloc);
         for k in 1..=pixels {
-            raw.extend_from_slice(&[(k % 256) as u8; 3])?;
+            raw.extend_from_slice(&[(k % 256) as u8; 3])
+                .expect(&rt, "refused");
         }
         let mut input = Uneven::new(&file);
-        let mut output = Sink::new(alloc, usize::MAX, NONE)?;
+        let mut output = Sink::new(alloc, usize::MAX, NONE).expect(&rt, "refused");
         assert!(rt; dec(alloc, &mut input, &mut output).is_ok());
         assert!(rt; output.got == raw);
         assert!(rt; input.asked <= PIECE as usize);
     }
-    Ok(())
 }

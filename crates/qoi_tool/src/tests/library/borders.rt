@@ -29,25 +29,24 @@ const BEHIND: [u8; 20] = [
 ];
 
 // Decodes a file that 0 to 20 bytes follow, and refuses it without its last 1 to 20 bytes.
-fn assert_ends(rt: &impl Abort, alloc: Global, file: Decoding<'_>, raw: &[u8]) -> Result<()> {
+fn assert_ends(rt: &impl Abort, alloc: Global, file: Decoding<'_>, raw: &[u8]) {
     for more in 0..=20usize {
-        let mut bytes = Vec::from_slice(alloc, file.bytes)?;
+        let mut bytes = Vec::from_slice(alloc, file.bytes).expect(rt, "refused");
         let behind = &BEHIND[..more];
-        bytes.extend_from_slice(behind)?;
+        bytes.extend_from_slice(behind).expect(rt, "refused");
         let decoding = Decoding {
             bytes: &bytes,
             ..file
         };
-        decoding.check(rt, alloc, raw, behind)?;
+        decoding.check(rt, alloc, raw, behind);
     }
     let size = file.bytes.len();
     for less in 1..=20usize {
         let bytes = &file.bytes[..size.saturating_sub(less)];
         if bytes.len() >= 14 {
-            Decoding { bytes, ..file }.check_cut(rt, alloc)?;
+            Decoding { bytes, ..file }.check_cut(rt, alloc);
         }
     }
-    Ok(())
 }
 
 // Chunks, and how many pixels they give.
@@ -89,22 +88,21 @@ impl Drawing {
 
     // The file of the first `n` pixels, under headers of three and of four channels, into three and
     // four.
-    fn check(&self, rt: &impl Abort, alloc: Global, n: u32) -> Result<()> {
-        let pixels = pixels_of(alloc, &self.chunks, n)?;
+    fn check(&self, rt: &impl Abort, alloc: Global, n: u32) {
+        let pixels = pixels_of(alloc, &self.chunks, n).expect(rt, "refused");
         for own in [Channels::Rgb, Channels::Rgba] {
             let header = row(n, own);
-            let file = file_of(alloc, header, &self.chunks)?;
+            let file = file_of(alloc, header, &self.chunks).expect(rt, "refused");
             for channels in [Channels::Rgb, Channels::Rgba] {
-                let raw = seen_raw(alloc, &pixels, own, channels)?;
+                let raw = seen_raw(alloc, &pixels, own, channels).expect(rt, "refused");
                 let decoding = Decoding {
                     bytes: &file,
                     header,
                     channels,
                 };
-                assert_ends(rt, alloc, decoding, &raw)?;
+                assert_ends(rt, alloc, decoding, &raw);
             }
         }
-        Ok(())
     }
 }
 
@@ -115,21 +113,20 @@ fn assert_input_tails(
     numbers: &mut Numbers,
     kinds: [u32; 8],
     fours: u32,
-) -> Result<()> {
+) {
     for size in 0..=20usize {
-        let mut drawing = Drawing::of(alloc, numbers, kinds, fours)?;
+        let mut drawing = Drawing::of(alloc, numbers, kinds, fours).expect(rt, "refused");
         let end = drawing.chunks.len().saturating_add(size);
         for _ in 0..size {
             let room = end.saturating_sub(drawing.chunks.len());
             if room > 0 {
-                drawing.add(numbers, room)?;
+                drawing.add(numbers, room).expect(rt, "refused");
             }
         }
         if drawing.given > 0 {
-            drawing.check(rt, alloc, drawing.given)?;
+            drawing.check(rt, alloc, drawing.given);
         }
     }
-    Ok(())
 }
 
 // The last chunks give 0 to 90 pixels; a last run may give more.
@@ -139,40 +136,37 @@ fn assert_output_tails(
     numbers: &mut Numbers,
     kinds: [u32; 8],
     fours: u32,
-) -> Result<()> {
+) {
     for more in 0..=90u32 {
-        let mut drawing = Drawing::of(alloc, numbers, kinds, fours)?;
+        let mut drawing = Drawing::of(alloc, numbers, kinds, fours).expect(rt, "refused");
         let n = drawing.given.saturating_add(more);
         for _ in 0..more {
             if drawing.given < n {
-                drawing.add(numbers, 5)?;
+                drawing.add(numbers, 5).expect(rt, "refused");
             }
         }
         if n > 0 {
-            drawing.check(rt, alloc, n)?;
+            drawing.check(rt, alloc, n);
         }
     }
-    Ok(())
 }
 
 #[test]
-fn ends_of_input(rt: HostRuntime) -> Result<()> {
+fn ends_of_input(rt: HostRuntime) {
     let mut numbers = Numbers::new(0xb0bde2);
     for kinds in KINDS {
         for fours in [0, 1, 2, 5] {
-            assert_input_tails(&rt, rt.alloc(), &mut numbers, kinds, fours)?;
+            assert_input_tails(&rt, rt.alloc(), &mut numbers, kinds, fours);
         }
     }
-    Ok(())
 }
 
 #[test]
-fn ends_of_output(rt: HostRuntime) -> Result<()> {
+fn ends_of_output(rt: HostRuntime) {
     let mut numbers = Numbers::new(0xe4de4d);
     for kinds in KINDS {
         for fours in [0, 1, 5] {
-            assert_output_tails(&rt, rt.alloc(), &mut numbers, kinds, fours)?;
+            assert_output_tails(&rt, rt.alloc(), &mut numbers, kinds, fours);
         }
     }
-    Ok(())
 }

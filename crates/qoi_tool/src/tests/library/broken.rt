@@ -4,7 +4,7 @@ use crate::tests::library::support::decodings::{CUT, Decoding, after};
 use crate::tests::library::support::examples::files;
 use crate::tests::library::support::images::{Image, file_of, row};
 use crate::tests::library::support::{assert_bytes, assert_fails, assert_refused};
-use qoi::{Channels, Decoder, Result, decode_header, decode_to_buf};
+use qoi::{Channels, Decoder, decode_header, decode_to_buf};
 use std::alloc::Global;
 use std::io::ErrorKind;
 use std::process::Abort;
@@ -19,122 +19,111 @@ fn decoding<'a>(image: &Image, bytes: &'a [u8]) -> Decoding<'a> {
 }
 
 // Fewer bytes than a header has.
-fn assert_no_header(rt: &impl Abort, alloc: Global, cut: &[u8]) -> Result<()> {
-    assert_refused(rt, alloc, decode_header(cut).err(), CUT)?;
-    assert_refused(rt, alloc, Decoder::new(cut).err(), CUT)?;
+fn assert_no_header(rt: &impl Abort, alloc: Global, cut: &[u8]) {
+    assert_refused(rt, alloc, decode_header(cut).err(), CUT);
+    assert_refused(rt, alloc, Decoder::new(cut).err(), CUT);
     let stream = Decoder::from_stream(cut).err();
     assert_fails(rt, stream, ErrorKind::UnexpectedEof);
-    Ok(())
 }
 
 // Each beginning of a file but the whole.
 #[test]
-fn beginnings(rt: HostRuntime) -> Result<()> {
-    for image in &files(rt.alloc())? {
+fn beginnings(rt: HostRuntime) {
+    for image in &files(rt.alloc()).expect(&rt, "refused") {
         for size in 0..image.file.len() {
             let cut = &image.file[..size];
             if size < 14 {
-                assert_no_header(&rt, rt.alloc(), cut)?;
+                assert_no_header(&rt, rt.alloc(), cut);
             } else {
-                decoding(image, cut).check_cut(&rt, rt.alloc())?;
+                decoding(image, cut).check_cut(&rt, rt.alloc());
             }
         }
     }
-    Ok(())
 }
 
 // Each byte of the end marker is another one in turn. A byte follows, which a stream keeps.
 #[test]
-fn changed_markers(rt: HostRuntime) -> Result<()> {
-    for image in &files(rt.alloc())? {
+fn changed_markers(rt: HostRuntime) {
+    for image in &files(rt.alloc()).expect(&rt, "refused") {
         for back in 1..9usize {
-            let mut changed = image.file.clone()?;
+            let mut changed = image.file.clone().expect(&rt, "refused");
             if let Some(byte) = changed.get_mut(image.file.len().saturating_sub(back)) {
                 *byte = byte.wrapping_add(1);
             }
-            changed.push(0x78)?;
-            decoding(image, &changed).check_wrong(&rt, rt.alloc(), &[0x78])?;
+            changed.push(0x78).expect(&rt, "refused");
+            decoding(image, &changed).check_wrong(&rt, rt.alloc(), &[0x78]);
         }
     }
-    Ok(())
 }
 
 // Nothing, a byte, or an end marker and a byte stands behind a file.
 #[test]
-fn followed(rt: HostRuntime) -> Result<()> {
+fn followed(rt: HostRuntime) {
     let all: [&[u8]; 3] = [&[], &[0x78], &[0, 0, 0, 0, 0, 0, 0, 1, 0x78]];
-    for image in &files(rt.alloc())? {
+    for image in &files(rt.alloc()).expect(&rt, "refused") {
         for behind in all {
-            let mut bytes = image.file.clone()?;
-            bytes.extend_from_slice(behind)?;
-            decoding(image, &bytes).check(&rt, rt.alloc(), &image.raw, behind)?;
+            let mut bytes = image.file.clone().expect(&rt, "refused");
+            bytes.extend_from_slice(behind).expect(&rt, "refused");
+            decoding(image, &bytes).check(&rt, rt.alloc(), &image.raw, behind);
         }
     }
-    Ok(())
 }
 
 // The buffer is refused with this text from a slice, from a stream and by the free call. Both decoders
 // have all bytes behind the header left.
-fn assert_too_small(
-    rt: &impl Abort,
-    alloc: Global,
-    file: &[u8],
-    buf: &mut [u8],
-    text: &str,
-) -> Result<()> {
-    let mut slice = Decoder::new(file)?;
-    assert_refused(rt, alloc, slice.decode_to_buf(buf).err(), text)?;
+fn assert_too_small(rt: &impl Abort, alloc: Global, file: &[u8], buf: &mut [u8], text: &str) {
+    let mut slice = Decoder::new(file).expect(rt, "refused");
+    assert_refused(rt, alloc, slice.decode_to_buf(buf).err(), text);
     assert_bytes(rt, slice.data(), after(file, 14));
-    let mut stream = Decoder::from_stream(file)?;
-    assert_refused(rt, alloc, stream.decode_to_buf(buf).err(), text)?;
+    let mut stream = Decoder::from_stream(file).expect(rt, "refused");
+    assert_refused(rt, alloc, stream.decode_to_buf(buf).err(), text);
     assert_bytes(rt, stream.into_reader(), after(file, 14));
-    assert_refused(rt, alloc, decode_to_buf(buf, file).err(), text)
+    assert_refused(rt, alloc, decode_to_buf(buf, file).err(), text);
 }
 
 // A buffer that lacks a byte is refused and as before.
 #[test]
-fn short_buffers(rt: HostRuntime) -> Result<()> {
-    for image in &files(rt.alloc())? {
+fn short_buffers(rt: HostRuntime) {
+    for image in &files(rt.alloc()).expect(&rt, "refused") {
         let required = image.raw.len();
         let size = required.saturating_sub(1);
         let text = format!(in rt.alloc();
             "output buffer size too small: {size} (required: {required})"
-        )?;
-        let before = vec![in rt.alloc(); 0xaau8; size]?;
-        let mut buf = before.clone()?;
-        assert_too_small(&rt, rt.alloc(), &image.file, &mut buf, &text)?;
+        ).expect(&rt, "refused");
+        let before = vec![in rt.alloc(); 0xaau8; size].expect(&rt, "refused");
+        let mut buf = before.clone().expect(&rt, "refused");
+        assert_too_small(&rt, rt.alloc(), &image.file, &mut buf, &text);
         assert_bytes(&rt, &buf, &before);
     }
-    Ok(())
 }
 
 // Nothing stands behind the header, whose image would have 1,600,000,000 bytes.
 #[test]
-fn largest_image(rt: HostRuntime) -> Result<()> {
+fn largest_image(rt: HostRuntime) {
     let bytes = b"qoif\x00\x00\x4e\x20\x00\x00\x4e\x20\x04\x00";
     let text = "output buffer size too small: 0 (required: 1600000000)";
-    assert_too_small(&rt, rt.alloc(), bytes, &mut [], text)
+    assert_too_small(&rt, rt.alloc(), bytes, &mut [], text);
 }
 
 // A run that gives more pixels than are left is cut; a chunk after it stands where the marker should.
 #[test]
-fn last_run(rt: HostRuntime) -> Result<()> {
+fn last_run(rt: HostRuntime) {
     for (width, chunks) in [(1, &[0xc0, 0xc0][..]), (100, &[0xfd, 0xfd, 0xfd])] {
         let header = row(width, Channels::Rgb);
-        let more = file_of(rt.alloc(), header, chunks)?;
+        let more = file_of(rt.alloc(), header, chunks).expect(&rt, "refused");
         let decoding = Decoding {
             bytes: &more,
             header,
             channels: Channels::Rgb,
         };
-        decoding.check_wrong(&rt, rt.alloc(), &[1])?;
+        decoding.check_wrong(&rt, rt.alloc(), &[1]);
     }
     let header = row(100, Channels::Rgb);
-    let file = file_of(rt.alloc(), header, &[0xfd, 0xfd])?;
+    let file = file_of(rt.alloc(), header, &[0xfd, 0xfd]).expect(&rt, "refused");
     let decoding = Decoding {
         bytes: &file,
         header,
         channels: Channels::Rgb,
     };
-    decoding.check(&rt, rt.alloc(), &[0; 300], &[])
+    decoding.check(&rt, rt.alloc(), &[0; 300], &[]);
 }

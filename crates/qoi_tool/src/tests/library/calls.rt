@@ -1,5 +1,5 @@
-//! The callers, run on a file of one pixel. Each test calls a few of them, since a test is proved in more
-//! than twice the time where it has twice the calls.
+//! The callers, run on a file of one pixel. Each test calls few of them and takes no result apart,
+//! since a test is proved in more than twice the time if it has twice the facts.
 use crate::tests::fakes::{Bad, End, ONE_RGB_PIXEL, PIXEL, Sink};
 use crate::tests::library::callers::{
     all_images, as_long, at_most, both_channels, both_images, bounded_bytes, decoded_part,
@@ -8,101 +8,140 @@ use crate::tests::library::callers::{
     pack_and_keep, pack_and_keep_in, pack_at_once, raw_bytes, receive, send, send_and_keep,
     shortest, space_byte, there_and_back, tight_part, tight_there_and_back, two_images,
 };
-use crate::tests::library::support::{assert_bytes, assert_header, assert_number};
+use crate::tests::library::support::{assert_bytes, assert_given, assert_header};
 use qoi::{Error, Header, Result, Style};
+use std::process::Abort;
 
-#[test]
-fn raw_bytes_of_a_file(rt: HostRuntime) -> Result<()> {
-    let alloc = rt.alloc();
-    assert_bytes(&rt, &raw_bytes(alloc, &ONE_RGB_PIXEL)?, &PIXEL);
-    assert_bytes(&rt, &bounded_bytes(alloc, &ONE_RGB_PIXEL)?, &PIXEL);
-    assert!(rt; first_byte(alloc, &ONE_RGB_PIXEL)? == 0x0b);
-    let mut buf = [0xaa; 5];
-    assert_bytes(&rt, decoded_part(&mut buf, &ONE_RGB_PIXEL)?, &PIXEL);
-    Ok(())
+// Compares a part of a buffer that a caller gives.
+fn assert_part(rt: &impl Abort, given: Result<&[u8]>, bytes: &[u8]) {
+    assert_bytes(rt, given.expect(rt, "refused"), bytes);
+}
+
+// Compares two vectors that a caller gives.
+fn assert_both(rt: &impl Abort, given: Result<(Vec<u8>, Vec<u8>)>, first: &[u8], second: &[u8]) {
+    let (one, other) = given.expect(rt, "refused");
+    assert_bytes(rt, &one, first);
+    assert_bytes(rt, &other, second);
+}
+
+// How long two vectors are that a caller gives.
+fn sizes(rt: &impl Abort, given: Result<(Vec<u8>, Vec<u8>)>) -> (usize, usize) {
+    let (one, other) = given.expect(rt, "refused");
+    (one.len(), other.len())
+}
+
+// The file twice.
+fn files() -> [u8; 52] {
+    let mut files = [0; 52];
+    files[..26].copy_from_slice(&ONE_RGB_PIXEL);
+    files[26..].copy_from_slice(&ONE_RGB_PIXEL);
+    files
 }
 
 #[test]
-fn there_and_back_again(rt: HostRuntime) -> Result<()> {
+fn raw_bytes_of_a_file(rt: HostRuntime) {
     let alloc = rt.alloc();
-    assert_bytes(&rt, &there_and_back(alloc, &PIXEL, 1, 1)?, &PIXEL);
-    assert_bytes(&rt, &tight_there_and_back(alloc, &PIXEL, 1, 1)?, &PIXEL);
-    let back = methods_there_and_back(alloc, &PIXEL, 1, 1)?;
-    assert_bytes(&rt, &back, &PIXEL);
-    Ok(())
+    assert_given(&rt, raw_bytes(alloc, &ONE_RGB_PIXEL), &PIXEL);
+    assert_given(&rt, bounded_bytes(alloc, &ONE_RGB_PIXEL), &PIXEL);
+    assert!(rt; matches!(first_byte(alloc, &ONE_RGB_PIXEL), Ok(0x0b)));
 }
 
 #[test]
-fn vectors(rt: HostRuntime) -> Result<()> {
+fn there_and_back_again(rt: HostRuntime) {
     let alloc = rt.alloc();
-    assert_bytes(&rt, &near_shortest(alloc, &PIXEL, 1, 1)?, &ONE_RGB_PIXEL);
-    assert_bytes(&rt, &shortest(alloc, &PIXEL, 1, 1)?, &ONE_RGB_PIXEL);
-    let (first, second) = keep_twice(alloc, &PIXEL, 1, 1)?;
-    assert_bytes(&rt, &first, &ONE_RGB_PIXEL);
-    assert_bytes(&rt, &second, &ONE_RGB_PIXEL);
-    assert!(rt; space_byte(alloc, &PIXEL, 1, 1)? == 0);
-    Ok(())
+    assert_given(&rt, there_and_back(alloc, &PIXEL, 1, 1), &PIXEL);
+    assert_given(&rt, tight_there_and_back(alloc, &PIXEL, 1, 1), &PIXEL);
+    assert_given(&rt, methods_there_and_back(alloc, &PIXEL, 1, 1), &PIXEL);
 }
 
 #[test]
-fn buffers(rt: HostRuntime) -> Result<()> {
+fn vectors(rt: HostRuntime) {
+    let alloc = rt.alloc();
+    assert_given(&rt, near_shortest(alloc, &PIXEL, 1, 1), &ONE_RGB_PIXEL);
+    assert_given(&rt, shortest(alloc, &PIXEL, 1, 1), &ONE_RGB_PIXEL);
+    assert!(rt; matches!(space_byte(alloc, &PIXEL, 1, 1), Ok(0)));
+}
+
+#[test]
+fn two_vectors(rt: HostRuntime) {
+    let twice = keep_twice(rt.alloc(), &PIXEL, 1, 1);
+    assert_both(&rt, twice, &ONE_RGB_PIXEL, &ONE_RGB_PIXEL);
+}
+
+#[test]
+fn buffers(rt: HostRuntime) {
     let mut buf = [0xaa; 27];
-    assert_number(&rt, pack(&mut buf, &PIXEL, 1, 1)?, 26);
+    assert!(rt; matches!(pack(&mut buf, &PIXEL, 1, 1), Ok(26)));
     assert_bytes(&rt, &buf[..26], &ONE_RGB_PIXEL);
     assert_bytes(&rt, &buf[26..], &[0xaa]);
-    let mut buf = [0xaa; 27];
-    assert_number(&rt, pack_at_once(&mut buf, &PIXEL, 1, 1)?, 26);
-    let part = encoded_part(&mut buf, &PIXEL, 1, 1)?;
-    assert_bytes(&rt, part, &ONE_RGB_PIXEL);
-    let part = tight_part(&mut buf, &PIXEL, 1, 1)?;
-    assert_bytes(&rt, part, &ONE_RGB_PIXEL);
-    Ok(())
+    assert!(rt; matches!(pack_at_once(&mut buf, &PIXEL, 1, 1), Ok(26)));
 }
 
 #[test]
-fn buffers_and_vectors(rt: HostRuntime) -> Result<()> {
-    let alloc = rt.alloc();
+fn parts_of_buffers(rt: HostRuntime) {
     let mut buf = [0xaa; 27];
-    let file = pack_and_keep(alloc, &mut buf, &PIXEL, 1, 1)?;
-    assert!(rt; buf.starts_with(&file));
-    let mut buf = [0xaa; 27];
-    let file = pack_and_keep_in(alloc, &mut buf, &PIXEL, 1, 1, Style::Tight)?;
-    assert!(rt; buf.starts_with(&file));
-    assert_bytes(&rt, &file, &ONE_RGB_PIXEL);
-    Ok(())
+    assert_part(&rt, decoded_part(&mut buf, &ONE_RGB_PIXEL), &PIXEL);
+    assert_part(&rt, encoded_part(&mut buf, &PIXEL, 1, 1), &ONE_RGB_PIXEL);
+    assert_part(&rt, tight_part(&mut buf, &PIXEL, 1, 1), &ONE_RGB_PIXEL);
 }
 
 #[test]
-fn writers(rt: HostRuntime) -> Result<()> {
+fn buffers_and_vectors(rt: HostRuntime) {
+    let mut buf = [0xaa; 27];
+    let file = pack_and_keep(rt.alloc(), &mut buf, &PIXEL, 1, 1);
+    assert_given(&rt, file, &ONE_RGB_PIXEL);
+    assert!(rt; buf.starts_with(&ONE_RGB_PIXEL));
+}
+
+#[test]
+fn buffers_and_vectors_in_a_style(rt: HostRuntime) {
+    let mut buf = [0xaa; 27];
+    let file = pack_and_keep_in(rt.alloc(), &mut buf, &PIXEL, 1, 1, Style::Tight);
+    assert_given(&rt, file, &ONE_RGB_PIXEL);
+    assert!(rt; buf.starts_with(&ONE_RGB_PIXEL));
+}
+
+#[test]
+fn writers(rt: HostRuntime) {
     let mut sent = Vec::new(rt.alloc());
-    assert_number(&rt, send(&PIXEL, 1, 1, &mut sent)?, 26);
+    assert!(rt; matches!(send(&PIXEL, 1, 1, &mut sent), Ok(26)));
     assert_bytes(&rt, &sent, &ONE_RGB_PIXEL);
+}
+
+#[test]
+fn writers_and_vectors(rt: HostRuntime) {
     let mut sent = Vec::new(rt.alloc());
-    let file = send_and_keep(rt.alloc(), &PIXEL, 1, 1, &mut sent)?;
-    assert_bytes(&rt, &sent, &file);
-    Ok(())
+    let file = send_and_keep(rt.alloc(), &PIXEL, 1, 1, &mut sent);
+    assert_given(&rt, file, &ONE_RGB_PIXEL);
+    assert_bytes(&rt, &sent, &ONE_RGB_PIXEL);
 }
 
 #[test]
-fn writers_that_refuse(rt: HostRuntime) -> Result<()> {
+fn writers_that_refuse(rt: HostRuntime) {
     let end = End::Fault;
-    let mut writer = Sink::new(rt.alloc(), 4, Bad { call: 3, end })?;
-    let (file, sent) = keep_and_try(rt.alloc(), &PIXEL, 1, 1, &mut writer)?;
-    assert!(rt; sent.is_err());
-    assert_bytes(&rt, &file, &ONE_RGB_PIXEL);
+    let mut writer = Sink::new(rt.alloc(), 4, Bad { call: 3, end }).expect(&rt, "refused");
+    let tried = keep_and_try(rt.alloc(), &PIXEL, 1, 1, &mut writer);
+    assert!(rt; matches!(tried, Ok((_, Err(_)))));
     assert_bytes(&rt, &writer.got, &ONE_RGB_PIXEL[..8]);
-    Ok(())
 }
 
 #[test]
-fn readers(rt: HostRuntime) -> Result<()> {
-    let (header, left) = header_ahead(ONE_RGB_PIXEL.as_slice())?;
-    assert_header(&rt, &header, &Header::default());
-    assert_bytes(&rt, left, &ONE_RGB_PIXEL[14..]);
-    let (raw, left) = receive(rt.alloc(), ONE_RGB_PIXEL.as_slice())?;
-    assert_bytes(&rt, &raw, &PIXEL);
-    assert_bytes(&rt, left, &[]);
-    Ok(())
+fn readers(rt: HostRuntime) {
+    match header_ahead(ONE_RGB_PIXEL.as_slice()) {
+        Ok((header, left)) => {
+            assert_header(&rt, &header, &Header::default());
+            assert_bytes(&rt, left, &ONE_RGB_PIXEL[14..]);
+        }
+        Err(_) => assert!(rt; false, "no header"),
+    }
+}
+
+#[test]
+fn readers_of_images(rt: HostRuntime) {
+    let received = receive(rt.alloc(), ONE_RGB_PIXEL.as_slice());
+    assert!(rt;
+        matches!(&received, Ok((raw, left)) if raw.as_slice() == PIXEL.as_slice() && left.is_empty())
+    );
 }
 
 // Opaque black that comes back is spelled out by three more bytes than an index position, which style
@@ -110,93 +149,78 @@ fn readers(rt: HostRuntime) -> Result<()> {
 const BLACK: [u8; 9] = [0, 0, 0, 101, 102, 103, 0, 0, 0];
 
 #[test]
-fn styles(rt: HostRuntime) -> Result<()> {
-    let (reference, places) = as_long(rt.alloc(), &BLACK, 3, 1)?;
-    assert_number(&rt, reference.len(), 31);
-    assert_number(&rt, places.len(), 31);
-    let (other, tight) = no_longer(rt.alloc(), &BLACK, 3, 1, Style::Places)?;
-    assert_number(&rt, other.len(), 31);
-    assert_number(&rt, tight.len(), 28);
-    Ok(())
+fn styles(rt: HostRuntime) {
+    let alloc = rt.alloc();
+    assert!(rt; sizes(&rt, as_long(alloc, &BLACK, 3, 1)) == (31, 31));
+    let other = no_longer(alloc, &BLACK, 3, 1, Style::Places);
+    assert!(rt; sizes(&rt, other) == (31, 28));
 }
 
 #[test]
-fn lengths_in_all_styles(rt: HostRuntime) -> Result<()> {
+fn lengths_in_all_styles(rt: HostRuntime) {
     let mut sent = Vec::new(rt.alloc());
-    let found = lengths(&mut [0; 34], &BLACK, 3, 1, &mut sent)?;
-    assert!(rt; found == (31, 31, 28));
-    let found = lengths_back(&mut [0; 34], &BLACK, 3, 1, &mut sent)?;
-    assert!(rt; found == (31, 31, 28));
-    assert_number(&rt, sent.len(), 90);
-    Ok(())
+    let found = lengths(&mut [0; 34], &BLACK, 3, 1, &mut sent);
+    assert!(rt; matches!(found, Ok((31, 31, 28))));
 }
 
 #[test]
-fn many_files(rt: HostRuntime) -> Result<()> {
+fn lengths_in_all_styles_back(rt: HostRuntime) {
+    let mut sent = Vec::new(rt.alloc());
+    let found = lengths_back(&mut [0; 34], &BLACK, 3, 1, &mut sent);
+    assert!(rt; matches!(found, Ok((31, 31, 28))));
+}
+
+#[test]
+fn many_files(rt: HostRuntime) {
+    assert_both(&rt, two_images(rt.alloc(), &files()), &PIXEL, &PIXEL);
+    assert_both(&rt, both_images(rt.alloc(), &files()), &PIXEL, &PIXEL);
+}
+
+#[test]
+fn frames_come_back(rt: HostRuntime) {
+    let frames = frame_store(rt.alloc(), &PIXEL, &[1, 2, 3], 1, 1);
+    assert_both(&rt, frames, &PIXEL, &[1, 2, 3]);
+}
+
+#[test]
+fn into_a_buffer(rt: HostRuntime) {
     let alloc = rt.alloc();
-    let mut files = Vec::from_slice(alloc, &ONE_RGB_PIXEL)?;
-    files.extend_from_slice(&ONE_RGB_PIXEL)?;
-    let (first, second) = two_images(alloc, &files)?;
-    assert_bytes(&rt, &first, &PIXEL);
-    assert_bytes(&rt, &second, &PIXEL);
-    let (first, second) = both_images(alloc, &files)?;
-    assert_bytes(&rt, &first, &PIXEL);
-    assert_bytes(&rt, &second, &PIXEL);
-    Ok(())
-}
-
-#[test]
-fn frames_come_back(rt: HostRuntime) -> Result<()> {
-    let other = [1, 2, 3];
-    let (first, second) = frame_store(rt.alloc(), &PIXEL, &other, 1, 1)?;
-    assert_bytes(&rt, &first, &PIXEL);
-    assert_bytes(&rt, &second, &other);
-    Ok(())
-}
-
-#[test]
-fn into_a_buffer(rt: HostRuntime) -> Result<()> {
-    let alloc = rt.alloc();
-    assert_bytes(
+    assert_part(
         &rt,
-        into_buffer(alloc, &mut [0xaa; 4], &PIXEL, 1, 1)?,
+        into_buffer(alloc, &mut [0xaa; 4], &PIXEL, 1, 1),
         &PIXEL,
     );
-    let short = into_buffer(alloc, &mut [0xaa; 2], &PIXEL, 1, 1).err();
+    let mut buf = [0xaa; 2];
+    let short = into_buffer(alloc, &mut buf, &PIXEL, 1, 1);
     assert!(rt;
         matches!(
             short,
-            Some(Error::OutputBufferTooSmall {
+            Err(Error::OutputBufferTooSmall {
                 size: 2,
                 required: 3
             })
         )
     );
-    Ok(())
 }
 
 #[test]
-fn files_until_one_is_refused(rt: HostRuntime) -> Result<()> {
-    let alloc = rt.alloc();
-    let mut files = Vec::from_slice(alloc, &ONE_RGB_PIXEL)?;
-    files.extend_from_slice(&ONE_RGB_PIXEL)?;
-    assert_number(&rt, all_images(alloc, &files)?.len(), 2);
-    files.truncate(51);
-    let refused = all_images(alloc, &files);
-    assert!(rt; matches!(refused, Err(Error::UnexpectedBufferEnd)));
-    Ok(())
+fn files_until_one_is_refused(rt: HostRuntime) {
+    let whole = all_images(rt.alloc(), &files());
+    assert!(rt; matches!(&whole, Ok(images) if images.len() == 2));
+    let all = files();
+    if let Some((_, cut)) = all.split_last() {
+        let refused = all_images(rt.alloc(), cut);
+        assert!(rt; matches!(refused, Err(Error::UnexpectedBufferEnd)));
+    }
 }
 
 #[test]
-fn channels_and_bounds(rt: HostRuntime) -> Result<()> {
+fn channels_and_bounds(rt: HostRuntime) {
     let alloc = rt.alloc();
-    assert_bytes(&rt, &at_most(alloc, &ONE_RGB_PIXEL, 3)?, &PIXEL);
+    assert_given(&rt, at_most(alloc, &ONE_RGB_PIXEL, 3), &PIXEL);
     assert!(rt; matches!(at_most(alloc, &ONE_RGB_PIXEL, 2), Err(Error::OutOfMemory)));
-    let (rgb, rgba) = both_channels(alloc, &ONE_RGB_PIXEL)?;
-    assert_bytes(&rt, &rgb, &PIXEL);
-    assert_bytes(&rt, &rgba, &[0x0b, 0x79, 0xe7, 255]);
-    let (header, cut) = more_needed(alloc, &ONE_RGB_PIXEL[..25])?;
-    assert_number(&rt, header.n_pixels(), 1);
-    assert!(rt; matches!(cut, Err(Error::UnexpectedBufferEnd)));
-    Ok(())
+    let both = both_channels(alloc, &ONE_RGB_PIXEL);
+    assert_both(&rt, both, &PIXEL, &[0x0b, 0x79, 0xe7, 255]);
+    let cut = more_needed(alloc, &ONE_RGB_PIXEL[..25]);
+    assert!(rt; matches!(cut, Ok((_, Err(Error::UnexpectedBufferEnd)))));
 }

@@ -4,7 +4,7 @@ use crate::tests::library::support::examples::{self, WRITTEN, Written};
 use crate::tests::library::support::generator::Rgba;
 use crate::tests::library::support::images::{Image, file_of, row};
 use crate::tests::library::support::plain::plain_chunks;
-use crate::tests::library::support::{assert_bytes, assert_number, assert_refused};
+use crate::tests::library::support::{assert_bytes, assert_given, assert_number, assert_refused};
 use qoi::{Channels, ColorSpace, Encoder, Header, Result, Style, encode_to_buf};
 use std::alloc::Global;
 use std::process::Abort;
@@ -23,111 +23,118 @@ fn pixels_of(alloc: Global, channels: Channels, raw: &[u8]) -> Result<Vec<Rgba>>
 }
 
 // The plain encoder, that drawn images are compared with, gives the example's chunks.
-fn assert_plain(rt: &impl Abort, alloc: Global, example: &Written, style: Style) -> Result<()> {
-    let image = example.image(alloc, style)?;
-    let pixels = pixels_of(alloc, example.channels, &image.raw)?;
-    let chunks = plain_chunks(alloc, style, &pixels)?;
+fn assert_plain(rt: &impl Abort, alloc: Global, example: &Written, style: Style) {
+    let image = example.image(alloc, style).expect(rt, "refused");
+    let pixels = pixels_of(alloc, example.channels, &image.raw).expect(rt, "refused");
+    let chunks = plain_chunks(alloc, style, &pixels).expect(rt, "refused");
     assert!(rt; chunks.as_slice() == example.chunks, "{}", example.name);
-    Ok(())
 }
 
 // Each call encodes an example in each of its styles.
 #[test]
-fn written_examples(rt: HostRuntime) -> Result<()> {
+fn written_examples(rt: HostRuntime) {
     for example in &WRITTEN {
         for style in example.styles {
-            assert_plain(&rt, rt.alloc(), example, *style)?;
-            example.image(rt.alloc(), *style)?.check(&rt, rt.alloc())?;
+            assert_plain(&rt, rt.alloc(), example, *style);
+            example
+                .image(rt.alloc(), *style)
+                .expect(&rt, "refused")
+                .check(&rt, rt.alloc());
         }
     }
-    Ok(())
 }
 
 // The color space is the fourteenth byte.
 #[test]
-fn one_rgb_pixel(rt: HostRuntime) -> Result<()> {
-    let image = examples::one_rgb_pixel(rt.alloc())?;
+fn one_rgb_pixel(rt: HostRuntime) {
+    let image = examples::one_rgb_pixel(rt.alloc()).expect(&rt, "refused");
     assert_number(&rt, image.header.encode_max_len(), 26);
-    image.check(&rt, rt.alloc())?;
+    image.check(&rt, rt.alloc());
     let mut linear = ONE_RGB_PIXEL;
     linear[13] = 1;
-    let encoder = image.encoder()?.with_colorspace(ColorSpace::Linear);
-    assert_bytes(&rt, &encoder.encode_to_vec(rt.alloc())?, &linear);
-    Ok(())
+    let encoder = image
+        .encoder()
+        .expect(&rt, "refused")
+        .with_colorspace(ColorSpace::Linear);
+    assert_given(&rt, encoder.encode_to_vec(rt.alloc()), &linear);
 }
 
-// The file has 23 bytes, and the buffer 26.
+// Encodes a black pixel into the buffer.
+fn black_into(buf: &mut [u8]) -> Result<usize> {
+    encode_to_buf(buf, &[0, 0, 0], 1, 1)
+}
+
+// The file has 23 bytes, and the buffer 26. One of 25 bytes would do, and is refused and as before.
 #[test]
-fn one_black_pixel(rt: HostRuntime) -> Result<()> {
+fn one_black_pixel(rt: HostRuntime) {
     let mut buf = [0xaa; 26];
-    assert_number(&rt, encode_to_buf(&mut buf, &[0, 0, 0], 1, 1)?, 23);
+    assert!(rt; matches!(black_into(&mut buf), Ok(23)));
     assert_bytes(
         &rt,
         &buf[14..],
         &[0xc0, 0, 0, 0, 0, 0, 0, 0, 1, 0xaa, 0xaa, 0xaa],
     );
-    Ok(())
-}
-
-// A buffer of 25 bytes would do, and is refused and as before.
-#[test]
-fn one_black_pixel_in_a_short_buffer(rt: HostRuntime) -> Result<()> {
     let mut buf = [0xaa; 25];
-    let refusal = encode_to_buf(&mut buf, &[0, 0, 0], 1, 1).err();
     let text = "output buffer size too small: 25 (required: 26)";
-    assert_refused(&rt, rt.alloc(), refusal, text)?;
+    assert_refused(&rt, rt.alloc(), black_into(&mut buf).err(), text);
     assert_bytes(&rt, &buf, &[0xaa; 25]);
-    Ok(())
 }
 
 // Encodes transparent pixels of red 1 to 64 but one, and transparent black behind them. Their index
 // positions are 3, 6, 9 and so on, modulo 64, so that of red 64 is 0.
-fn assert_reds(rt: &impl Abort, alloc: Global, but: u8, chunks: &[u8]) -> Result<()> {
+fn assert_reds(rt: &impl Abort, alloc: Global, but: u8, chunks: &[u8]) {
     let mut raw = Vec::new(alloc);
     for red in 1..65u8 {
         if red != but {
-            raw.extend_from_slice(&[red, 0, 0, 0])?;
+            raw.extend_from_slice(&[red, 0, 0, 0]).expect(rt, "refused");
         }
     }
-    raw.extend_from_slice(&[0; 4])?;
+    raw.extend_from_slice(&[0; 4]).expect(rt, "refused");
     let header = row(if but == 0 { 65 } else { 64 }, Channels::Rgba);
     let image = Image {
         header,
         style: Style::Tight,
         raw,
-        file: file_of(alloc, header, chunks)?,
+        file: file_of(alloc, header, chunks).expect(rt, "refused"),
     };
-    image.check(rt, alloc)
+    image.check(rt, alloc);
 }
 
 #[test]
-fn all_positions_seen(rt: HostRuntime) -> Result<()> {
+fn all_positions_seen(rt: HostRuntime) {
     // Each is 1 more than the one before it; no position is left, and black is spelled out.
-    let mut chunks = Vec::from_slice(rt.alloc(), &[0xff, 1, 0, 0, 0])?;
-    chunks.extend_from_slice(&[0x7a; 63])?;
-    chunks.extend_from_slice(&[0xfe, 0, 0, 0])?;
-    assert_reds(&rt, rt.alloc(), 0, &chunks)?;
+    let mut chunks = Vec::from_slice(rt.alloc(), &[0xff, 1, 0, 0, 0]).expect(&rt, "refused");
+    chunks.extend_from_slice(&[0x7a; 63]).expect(&rt, "refused");
+    chunks
+        .extend_from_slice(&[0xfe, 0, 0, 0])
+        .expect(&rt, "refused");
+    assert_reds(&rt, rt.alloc(), 0, &chunks);
     // Red 22 is 2 more than red 20; position 63, that of red 21, is left.
-    let mut chunks = Vec::from_slice(rt.alloc(), &[0xff, 1, 0, 0, 0])?;
-    chunks.extend_from_slice(&[0x7a; 19])?;
-    chunks.extend_from_slice(&[0xa0, 0xa8])?;
-    chunks.extend_from_slice(&[0x7a; 42])?;
-    chunks.push(0x3f)?;
-    assert_reds(&rt, rt.alloc(), 21, &chunks)
+    let mut chunks = Vec::from_slice(rt.alloc(), &[0xff, 1, 0, 0, 0]).expect(&rt, "refused");
+    chunks.extend_from_slice(&[0x7a; 19]).expect(&rt, "refused");
+    chunks
+        .extend_from_slice(&[0xa0, 0xa8])
+        .expect(&rt, "refused");
+    chunks.extend_from_slice(&[0x7a; 42]).expect(&rt, "refused");
+    chunks.push(0x3f).expect(&rt, "refused");
+    assert_reds(&rt, rt.alloc(), 21, &chunks);
 }
 
 // Pixel k, from 0, is three times k modulo 251: steps of 1, and of 6 from 250 to 0.
 #[test]
-fn two_megapixels(rt: HostRuntime) -> Result<()> {
+fn two_megapixels(rt: HostRuntime) {
     let (mut raw, mut chunks) = (Vec::new(rt.alloc()), Vec::new(rt.alloc()));
     for k in 0..2_000_000u32 {
-        raw.extend_from_slice(&[(k % 251) as u8; 3])?;
+        raw.extend_from_slice(&[(k % 251) as u8; 3])
+            .expect(&rt, "refused");
         if k == 0 {
-            chunks.push(0xc0)?;
+            chunks.push(0xc0).expect(&rt, "refused");
         } else if k % 251 == 0 {
-            chunks.extend_from_slice(&[0xa6, 0x88])?;
+            chunks
+                .extend_from_slice(&[0xa6, 0x88])
+                .expect(&rt, "refused");
         } else {
-            chunks.push(0x7f)?;
+            chunks.push(0x7f).expect(&rt, "refused");
         }
     }
     let header = Header {
@@ -138,8 +145,8 @@ fn two_megapixels(rt: HostRuntime) -> Result<()> {
         header,
         style: Style::Reference,
         raw,
-        file: file_of(rt.alloc(), header, &chunks)?,
+        file: file_of(rt.alloc(), header, &chunks).expect(&rt, "refused"),
     };
     assert_number(&rt, image.file.len(), 2_007_990);
-    image.check(&rt, rt.alloc())
+    image.check(&rt, rt.alloc());
 }

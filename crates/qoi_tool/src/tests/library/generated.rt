@@ -3,27 +3,27 @@ ghost use Rattle.std.specs.Prelude.{◌<◌};
 
 use crate::tests::library::support::generator::{Numbers, Rgba, drawn};
 use crate::tests::library::support::images::{Image, row};
-use qoi::{Channels, Header, Result, Style};
+use qoi::{Channels, Header, Style};
 use std::alloc::Global;
 use std::process::Abort;
 
 // Encodes an image in each style. In `Places` its file is as long as in `Reference`, and in `Tight` no
 // longer. Returns how many bytes shorter.
-fn assert_styles(rt: &impl Abort, alloc: Global, header: Header, pixels: &[Rgba]) -> Result<usize> {
-    let reference = Image::of(alloc, header, Style::Reference, pixels)?;
-    reference.check(rt, alloc)?;
-    let places = Image::of(alloc, header, Style::Places, pixels)?;
-    places.check(rt, alloc)?;
+fn assert_styles(rt: &impl Abort, alloc: Global, header: Header, pixels: &[Rgba]) -> usize {
+    let reference = Image::of(alloc, header, Style::Reference, pixels).expect(rt, "refused");
+    reference.check(rt, alloc);
+    let places = Image::of(alloc, header, Style::Places, pixels).expect(rt, "refused");
+    places.check(rt, alloc);
     assert!(rt; places.file.len() == reference.file.len());
-    let tight = Image::of(alloc, header, Style::Tight, pixels)?;
-    tight.check(rt, alloc)?;
+    let tight = Image::of(alloc, header, Style::Tight, pixels).expect(rt, "refused");
+    tight.check(rt, alloc);
     assert!(rt; tight.file.len() <= reference.file.len());
-    Ok(reference.file.len().saturating_sub(tight.file.len()))
+    reference.file.len().saturating_sub(tight.file.len())
 }
 
 // Draws images of sizes up to `most` by `most` until they have 600,000 pixels. In style `Tight` some of
 // them are shorter.
-fn assert_drawn(rt: &impl Abort, alloc: Global, channels: Channels, most: u32) -> Result<()>
+fn assert_drawn(rt: &impl Abort, alloc: Global, channels: Channels, most: u32)
     requires { 0 < most }
 {
     let mut numbers = Numbers::new(0x5eed5);
@@ -37,19 +37,17 @@ fn assert_drawn(rt: &impl Abort, alloc: Global, channels: Channels, most: u32) -
             ..row(1 + numbers.below(most), channels)
         };
         let n = header.width as usize * header.height as usize;
-        let pixels = drawn(alloc, &mut numbers, channels, n)?;
-        shorter = shorter.saturating_add(assert_styles(rt, alloc, header, &pixels)?);
+        let pixels = drawn(alloc, &mut numbers, channels, n).expect(rt, "refused");
+        shorter = shorter.saturating_add(assert_styles(rt, alloc, header, &pixels));
         all = all.saturating_add(n);
     }
     assert!(rt; all >= 600_000 && shorter > 0);
-    Ok(())
 }
 
 #[test]
-fn generated_images(rt: HostRuntime) -> Result<()> {
+fn generated_images(rt: HostRuntime) {
     for channels in [Channels::Rgb, Channels::Rgba] {
-        assert_drawn(&rt, rt.alloc(), channels, 400)?;
-        assert_drawn(&rt, rt.alloc(), channels, 40)?;
+        assert_drawn(&rt, rt.alloc(), channels, 400);
+        assert_drawn(&rt, rt.alloc(), channels, 40);
     }
-    Ok(())
 }

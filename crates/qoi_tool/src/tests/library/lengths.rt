@@ -2,7 +2,7 @@
 //! pixel.
 use crate::tests::library::support::generator::{Numbers, Rgba, START, drawn, place};
 use crate::tests::library::support::images::{raw_of, row};
-use qoi::{Channels, Encoder, Result, Style};
+use qoi::{Channels, Encoder, Style};
 use std::alloc::Global;
 use std::process::Abort;
 
@@ -112,29 +112,32 @@ impl Counted {
 }
 
 // How many bytes the chunks of an image's file have, between the header's 14 and the marker's 8.
-fn written(alloc: Global, raw: &[u8], width: u32, style: Style) -> Result<usize> {
-    let encoder = Encoder::new(raw, width, 1)?.with_style(style);
-    Ok(encoder.encode_to_vec(alloc)?.len().saturating_sub(22))
+fn written(rt: &impl Abort, alloc: Global, raw: &[u8], width: u32, style: Style) -> usize {
+    let encoder = Encoder::new(raw, width, 1)
+        .expect(rt, "an image")
+        .with_style(style);
+    let file = encoder.encode_to_vec(alloc).expect(rt, "memory");
+    file.len().saturating_sub(22)
 }
 
 // Draws 300 images of up to 900 pixels, at least 100,000 in all. Where there are four channels, every
 // third has transparent black for each black. Some use all of their slack, and some none.
-fn assert_lengths(rt: &impl Abort, alloc: Global, channels: Channels) -> Result<()> {
+fn assert_lengths(rt: &impl Abort, alloc: Global, channels: Channels) {
     let mut numbers = Numbers::new(0xacce55);
     let (mut all, mut used, mut unused) = (0usize, 0u32, 0u32);
     for k in 0..300u32 {
         let width = 1 + numbers.below(900);
-        let mut pixels = drawn(alloc, &mut numbers, channels, width as usize)?;
+        let mut pixels = drawn(alloc, &mut numbers, channels, width as usize).expect(rt, "memory");
         if k % 3 == 0 && channels.is_rgba() {
             make_transparent(&mut pixels);
         }
         let counted = Counted::of(&pixels);
-        let raw = raw_of(alloc, channels, &pixels)?;
+        let raw = raw_of(alloc, channels, &pixels).expect(rt, "memory");
         let (least, slack) = (counted.floor, counted.slack(channels));
-        let size = written(alloc, &raw, width, Style::Reference)?;
+        let size = written(rt, alloc, &raw, width, Style::Reference);
         assert!(rt; least <= size && size <= least.saturating_add(slack));
-        assert!(rt; written(alloc, &raw, width, Style::Places)? == size);
-        assert!(rt; written(alloc, &raw, width, Style::Tight)? == counted.floor0);
+        assert!(rt; written(rt, alloc, &raw, width, Style::Places) == size);
+        assert!(rt; written(rt, alloc, &raw, width, Style::Tight) == counted.floor0);
         if slack > 0 && size > least {
             used = used.saturating_add(1);
         } else if slack > 0 {
@@ -143,7 +146,6 @@ fn assert_lengths(rt: &impl Abort, alloc: Global, channels: Channels) -> Result<
         all = all.saturating_add(pixels.len());
     }
     assert!(rt; all >= 100_000 && used > 0 && unused > 0);
-    Ok(())
 }
 
 // Makes each black transparent.
@@ -156,11 +158,11 @@ fn make_transparent(pixels: &mut [Rgba]) {
 }
 
 #[test]
-fn lengths_are_near_the_floor_rgb(rt: HostRuntime) -> Result<()> {
-    assert_lengths(&rt, rt.alloc(), Channels::Rgb)
+fn lengths_are_near_the_floor_rgb(rt: HostRuntime) {
+    assert_lengths(&rt, rt.alloc(), Channels::Rgb);
 }
 
 #[test]
-fn lengths_are_near_the_floor_rgba(rt: HostRuntime) -> Result<()> {
-    assert_lengths(&rt, rt.alloc(), Channels::Rgba)
+fn lengths_are_near_the_floor_rgba(rt: HostRuntime) {
+    assert_lengths(&rt, rt.alloc(), Channels::Rgba);
 }

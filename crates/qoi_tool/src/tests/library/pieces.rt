@@ -80,41 +80,38 @@ fn ending(alloc: Global, tail: Tail, size: usize) -> Result<Vec<Rgba>> {
 const SIZES: [(usize, usize); 3] = [(4064, 4092), (8168, 8172), (8176, 8180)];
 
 // Encodes images with each of the tails, of each of these sizes: to a buffer, a vector and writers.
-fn assert_sizes(rt: &impl Abort, alloc: Global, style: Style) -> Result<()> {
+fn assert_sizes(rt: &impl Abort, alloc: Global, style: Style) {
     for tail in TAILS {
         for (least, most) in SIZES {
             for size in least..=most {
-                let pixels = ending(alloc, tail, size)?;
+                let pixels = ending(alloc, tail, size).expect(rt, "refused");
                 let header = row(pixels.len().min(10_000) as u32, tail.channels);
-                let image = Image::of(alloc, header, style, &pixels)?;
+                let image = Image::of(alloc, header, style, &pixels).expect(rt, "refused");
                 assert_number(rt, image.file.len(), size.saturating_add(22));
-                image.check(rt, alloc)?;
-                image.check_pieces(rt, alloc)?;
+                image.check(rt, alloc);
+                image.check_pieces(rt, alloc);
             }
         }
     }
-    Ok(())
 }
 
 #[test]
-fn files_close_to_whole_pieces(rt: HostRuntime) -> Result<()> {
+fn files_close_to_whole_pieces(rt: HostRuntime) {
     for style in [Style::Reference, Style::Places, Style::Tight] {
-        assert_sizes(&rt, rt.alloc(), style)?;
+        assert_sizes(&rt, rt.alloc(), style);
     }
-    Ok(())
 }
 
 // A writer that takes a byte less than a piece at once, or a byte more, gets the whole file.
 #[test]
-fn writers_of_about_a_piece(rt: HostRuntime) -> Result<()> {
+fn writers_of_about_a_piece(rt: HostRuntime) {
     let [tail, ..] = TAILS;
     for size in [4074, 4075, 8170] {
-        let pixels = ending(rt.alloc(), tail, size)?;
+        let pixels = ending(rt.alloc(), tail, size).expect(&rt, "refused");
         let header = row(pixels.len().min(10_000) as u32, tail.channels);
-        let image = Image::of(rt.alloc(), header, Style::Reference, &pixels)?;
+        let image = Image::of(rt.alloc(), header, Style::Reference, &pixels).expect(&rt, "refused");
         for most in [4095, 4097] {
-            image.sent(&rt, rt.alloc(), most)?;
+            image.sent(&rt, rt.alloc(), most);
         }
     }
-    Ok(())
 }

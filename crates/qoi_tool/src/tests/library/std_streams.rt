@@ -1,7 +1,7 @@
 //! The stream calls over the standard library's own readers and writers.
 use crate::tests::fakes::{NONE, Source};
 use crate::tests::library::support::images::{file_of, row};
-use crate::tests::library::support::{assert_bytes, assert_number};
+use crate::tests::library::support::{assert_bytes, assert_given, assert_number};
 use qoi::{Channels, Decoder, Encoder, Result};
 use std::alloc::Global;
 use std::io::{BufReader, BufWriter, Cursor, Read, Write};
@@ -33,72 +33,82 @@ fn two_images(alloc: Global) -> Result<Vec<u8>> {
 }
 
 // Decodes the first image into a buffer and the second into a vector, and reads the bytes behind it.
-fn assert_reads<R: Read + Drop>(rt: &impl Abort, alloc: Global, reader: R) -> Result<()> {
-    let mut decoder = Decoder::from_stream(reader)?;
+fn assert_reads<R: Read + Drop>(rt: &impl Abort, alloc: Global, reader: R) {
+    let mut decoder = Decoder::from_stream(reader).expect(rt, "refused");
     let mut buf = [0xaa; 24];
-    assert_number(rt, decoder.decode_to_buf(&mut buf)?, 24);
+    assert_number(
+        rt,
+        decoder.decode_to_buf(&mut buf).expect(rt, "refused"),
+        24,
+    );
     assert_bytes(rt, &buf, &IMAGE);
-    assert_bytes(rt, &decoder.decode_to_vec(alloc)?, &IMAGE);
+    assert_given(rt, decoder.decode_to_vec(alloc), &IMAGE);
     let mut rest = Vec::new(alloc);
-    decoder.into_reader().read_to_end(&mut rest)?;
+    decoder
+        .into_reader()
+        .read_to_end(&mut rest)
+        .expect(rt, "refused");
     assert_bytes(rt, &rest, &[0x78, 0x79]);
-    Ok(())
 }
 
 #[test]
-fn slices_and_cursors_are_read(rt: HostRuntime) -> Result<()> {
-    let bytes = two_images(rt.alloc())?;
-    assert_reads(&rt, rt.alloc(), bytes.as_slice())?;
-    assert_reads(&rt, rt.alloc(), Cursor::new(bytes.as_slice()))?;
-    assert_reads(&rt, rt.alloc(), Cursor::new(bytes))
+fn slices_and_cursors_are_read(rt: HostRuntime) {
+    let bytes = two_images(rt.alloc()).expect(&rt, "refused");
+    assert_reads(&rt, rt.alloc(), bytes.as_slice());
+    assert_reads(&rt, rt.alloc(), Cursor::new(bytes.as_slice()));
+    assert_reads(&rt, rt.alloc(), Cursor::new(bytes));
 }
 
 // A buffering reader over a slice, and over a reader that gives a byte a call.
 #[test]
-fn buffering_readers_are_read(rt: HostRuntime) -> Result<()> {
+fn buffering_readers_are_read(rt: HostRuntime) {
     let alloc = rt.alloc();
-    let bytes = two_images(alloc)?;
+    let bytes = two_images(alloc).expect(&rt, "refused");
     for capacity in [1, 2, 3, 5, 7, 100] {
-        let reader = BufReader::with_capacity(alloc, capacity, bytes.as_slice())?;
-        assert_reads(&rt, alloc, reader)?;
+        let reader = BufReader::with_capacity(alloc, capacity, bytes.as_slice()).expect(
+            &rt, "refused",
+        );
+        assert_reads(&rt, alloc, reader);
         let source = Source::new(&bytes, 1, NONE);
         assert_reads(
             &rt,
             alloc,
-            BufReader::with_capacity(alloc, capacity, source)?,
-        )?;
+            BufReader::with_capacity(alloc, capacity, source).expect(&rt, "refused"),
+        );
     }
-    Ok(())
 }
 
 // Encodes the image to a writer, and flushes it.
-fn send<W: Write>(rt: &impl Abort, writer: &mut W) -> Result<()> {
-    let encoder = Encoder::new(&IMAGE, 6, 1)?;
-    assert_number(rt, encoder.encode_to_stream(writer)?, 36);
-    writer.flush()?;
-    Ok(())
+fn send<W: Write>(rt: &impl Abort, writer: &mut W) {
+    let encoder = Encoder::new(&IMAGE, 6, 1).expect(rt, "refused");
+    assert_number(
+        rt,
+        encoder.encode_to_stream(writer).expect(rt, "refused"),
+        36,
+    );
+    writer.flush().expect(rt, "refused");
 }
 
 #[test]
-fn vectors_and_cursors_take_the_file(rt: HostRuntime) -> Result<()> {
-    let file = file(rt.alloc())?;
+fn vectors_and_cursors_take_the_file(rt: HostRuntime) {
+    let file = file(rt.alloc()).expect(&rt, "refused");
     let mut vector: Vec<u8> = Vec::new(rt.alloc());
-    send(&rt, &mut vector)?;
+    send(&rt, &mut vector);
     assert_bytes(&rt, &vector, &file);
     let mut cursor: Cursor<Vec<u8>> = Cursor::new(Vec::new(rt.alloc()));
-    send(&rt, &mut cursor)?;
+    send(&rt, &mut cursor);
     assert_bytes(&rt, cursor.get_ref(), &file);
-    Ok(())
 }
 
 #[test]
-fn buffering_writers_take_the_file(rt: HostRuntime) -> Result<()> {
-    let file = file(rt.alloc())?;
+fn buffering_writers_take_the_file(rt: HostRuntime) {
+    let file = file(rt.alloc()).expect(&rt, "refused");
     for capacity in [1, 2, 3, 5, 7, 100] {
         let vector: Vec<u8> = Vec::new(rt.alloc());
-        let mut writer = BufWriter::with_capacity(rt.alloc(), capacity, vector)?;
-        send(&rt, &mut writer)?;
+        let mut writer = BufWriter::with_capacity(rt.alloc(), capacity, vector).expect(
+            &rt, "refused",
+        );
+        send(&rt, &mut writer);
         assert_bytes(&rt, writer.get_ref(), &file);
     }
-    Ok(())
 }

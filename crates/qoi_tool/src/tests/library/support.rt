@@ -18,6 +18,11 @@ pub fn assert_bytes(rt: &impl Abort, found: &[u8], bytes: &[u8]) {
     assert_eq!(rt; found, bytes);
 }
 
+/// Compares bytes that a call gives.
+pub fn assert_given(rt: &impl Abort, given: Result<Vec<u8>>, bytes: &[u8]) {
+    assert_bytes(rt, &given.expect(rt, "refused"), bytes);
+}
+
 /// Compares numbers.
 pub fn assert_number(rt: &impl Abort, found: usize, number: usize) {
     assert_eq!(rt; found, number);
@@ -28,23 +33,21 @@ pub fn assert_header(rt: &impl Abort, found: &Header, header: &Header) {
     assert_eq!(rt; *found, *header);
 }
 
-// Compares texts.
-fn assert_text(rt: &impl Abort, found: &str, text: &str) {
+/// Compares texts.
+pub fn assert_text(rt: &impl Abort, found: &str, text: &str) {
     assert_eq!(rt; found, text);
 }
 
 /// Compares the printed text of a refusal.
-pub fn assert_refused(
-    rt: &impl Abort,
-    alloc: Global,
-    refusal: Option<Error>,
-    text: &str,
-) -> Result<()> {
+pub fn assert_refused(rt: &impl Abort, alloc: Global, refusal: Option<Error>, text: &str) {
     match refusal {
-        Some(error) => assert_text(rt, format!(in alloc; "{error}")?.as_str(), text),
+        Some(error) => assert_text(
+            rt,
+            format!(in alloc; "{error}").expect(rt, "refused").as_str(),
+            text,
+        ),
         None => assert_text(rt, "accepted", text),
     }
-    Ok(())
 }
 
 /// Tests that the refusal is an i/o error of this kind.

@@ -1,6 +1,6 @@
 //! Decoding by each call from a slice and from a stream, with what the decoder is then.
 use crate::tests::library::support::{
-    assert_bytes, assert_fails, assert_header, assert_number, assert_refused,
+    assert_bytes, assert_fails, assert_given, assert_header, assert_number, assert_refused,
 };
 use qoi::parts::Reader;
 use qoi::{Channels, Decoder, Header, Result, decode_to_buf, decode_to_vec};
@@ -74,75 +74,67 @@ impl<'a> Decoding<'a> {
     }
 
     // What is returned for a slice, of which these bytes are left then.
-    fn of_slice(
-        self,
-        rt: &impl Abort,
-        alloc: Global,
-        call: Call,
-        left: &[u8],
-    ) -> Result<Result<Vec<u8>>> {
-        let mut decoder = Decoder::new(self.bytes)?.with_channels(self.channels);
+    fn of_slice(self, rt: &impl Abort, alloc: Global, call: Call, left: &[u8]) -> Result<Vec<u8>> {
+        let mut decoder = Decoder::new(self.bytes)
+            .expect(rt, "refused")
+            .with_channels(self.channels);
         let decoded = self.of(rt, alloc, &mut decoder, call);
         assert_bytes(rt, decoder.data(), left);
-        Ok(decoded)
+        decoded
     }
 
     // What is returned for a stream, of which these bytes are left then.
-    fn of_stream(
-        self,
-        rt: &impl Abort,
-        alloc: Global,
-        call: Call,
-        left: &[u8],
-    ) -> Result<Result<Vec<u8>>> {
-        let mut decoder = Decoder::from_stream(self.bytes)?.with_channels(self.channels);
+    fn of_stream(self, rt: &impl Abort, alloc: Global, call: Call, left: &[u8]) -> Result<Vec<u8>> {
+        let mut decoder = Decoder::from_stream(self.bytes)
+            .expect(rt, "refused")
+            .with_channels(self.channels);
         let decoded = self.of(rt, alloc, &mut decoder, call);
         assert_bytes(rt, decoder.into_reader(), left);
-        Ok(decoded)
+        decoded
     }
 
     /// The image that each call gives, from a slice and from a stream. What is behind the file is left.
-    pub fn check(self, rt: &impl Abort, alloc: Global, image: &[u8], behind: &[u8]) -> Result<()> {
+    pub fn check(self, rt: &impl Abort, alloc: Global, image: &[u8], behind: &[u8]) {
         for call in CALLS {
-            let slice = self.of_slice(rt, alloc, call, behind)?;
-            assert_bytes(rt, &slice?, image);
-            let stream = self.of_stream(rt, alloc, call, behind)?;
-            assert_bytes(rt, &stream?, image);
+            let slice = self.of_slice(rt, alloc, call, behind);
+            assert_given(rt, slice, image);
+            let stream = self.of_stream(rt, alloc, call, behind);
+            assert_given(rt, stream, image);
         }
-        Ok(())
     }
 
     /// The free calls give this image, in the file's own channels.
-    pub fn check_free(self, rt: &impl Abort, alloc: Global, image: &[u8]) -> Result<()> {
-        let (header, raw) = decode_to_vec(alloc, self.bytes)?;
+    pub fn check_free(self, rt: &impl Abort, alloc: Global, image: &[u8]) {
+        let (header, raw) = decode_to_vec(alloc, self.bytes).expect(rt, "refused");
         assert_header(rt, &header, &self.header);
         assert_bytes(rt, &raw, image);
-        let mut buf = vec![in alloc; 0xaau8; image.len()]?;
-        assert_header(rt, &decode_to_buf(&mut buf, self.bytes)?, &self.header);
+        let mut buf = vec![in alloc; 0xaau8; image.len()].expect(rt, "refused");
+        assert_header(
+            rt,
+            &decode_to_buf(&mut buf, self.bytes).expect(rt, "refused"),
+            &self.header,
+        );
         assert_bytes(rt, &buf, image);
-        Ok(())
     }
 
     /// Both refuse a part of a file; the slice is as before, and of the stream nothing is left.
-    pub fn check_cut(self, rt: &impl Abort, alloc: Global) -> Result<()> {
+    pub fn check_cut(self, rt: &impl Abort, alloc: Global) {
         for call in CALLS {
-            let slice = self.of_slice(rt, alloc, call, after(self.bytes, 14))?;
-            assert_refused(rt, alloc, slice.err(), CUT)?;
-            let stream = self.of_stream(rt, alloc, call, &[])?;
+            let slice = self.of_slice(rt, alloc, call, after(self.bytes, 14));
+            assert_refused(rt, alloc, slice.err(), CUT);
+            let stream = self.of_stream(rt, alloc, call, &[]);
             assert_fails(rt, stream.err(), ErrorKind::UnexpectedEof);
         }
-        Ok(())
     }
 
     /// Both refuse other bytes than the end marker; the slice is as before, and of the stream what is
     /// behind them is left.
-    pub fn check_wrong(self, rt: &impl Abort, alloc: Global, behind: &[u8]) -> Result<()> {
+    pub fn check_wrong(self, rt: &impl Abort, alloc: Global, behind: &[u8]) {
         for call in CALLS {
-            let slice = self.of_slice(rt, alloc, call, after(self.bytes, 14))?;
-            assert_refused(rt, alloc, slice.err(), WRONG)?;
-            let stream = self.of_stream(rt, alloc, call, behind)?;
-            assert_refused(rt, alloc, stream.err(), WRONG)?;
+            let slice = self.of_slice(rt, alloc, call, after(self.bytes, 14));
+            assert_refused(rt, alloc, slice.err(), WRONG);
+            let stream = self.of_stream(rt, alloc, call, behind);
+            assert_refused(rt, alloc, stream.err(), WRONG);
         }
-        Ok(())
     }
 }

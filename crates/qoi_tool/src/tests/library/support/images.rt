@@ -3,7 +3,9 @@ use crate::tests::fakes::{Bad, End, NONE, Sink};
 use crate::tests::library::support::decodings::Decoding;
 use crate::tests::library::support::generator::Rgba;
 use crate::tests::library::support::plain::plain_chunks;
-use crate::tests::library::support::{assert_bytes, assert_fails, assert_header, assert_number};
+use crate::tests::library::support::{
+    assert_bytes, assert_fails, assert_given, assert_header, assert_number,
+};
 use qoi::{Channels, Encoder, Header, Result, Style, encode_to_buf, encode_to_vec};
 use std::alloc::Global;
 use std::io::ErrorKind;
@@ -97,26 +99,28 @@ impl Image {
     }
 
     /// Encodes the image by each of the calls, compares with its file, and decodes it back.
-    pub fn check(&self, rt: &impl Abort, alloc: Global) -> Result<()> {
-        let encoder = self.encoder()?;
+    pub fn check(&self, rt: &impl Abort, alloc: Global) {
+        let encoder = self.encoder().expect(rt, "refused");
         assert_header(rt, encoder.header(), &self.header);
         assert!(rt; encoder.style() == self.style);
         assert!(rt; encoder.channels() == self.header.channels);
-        assert_bytes(rt, &encoder.encode_to_vec(alloc)?, &self.file);
-        self.sent(rt, alloc, usize::MAX)?;
-        let mut buf = vec![in alloc; 0xaau8; encoder.required_buf_len().saturating_add(3)]?;
-        let size = encoder.encode_to_buf(&mut buf)?;
+        assert_given(rt, encoder.encode_to_vec(alloc), &self.file);
+        self.sent(rt, alloc, usize::MAX);
+        let mut buf = vec![in alloc; 0xaau8; encoder.required_buf_len().saturating_add(3)].expect(
+            rt, "refused",
+        );
+        let size = encoder.encode_to_buf(&mut buf).expect(rt, "refused");
         self.check_front(rt, size, &buf);
         if self.style == Style::Reference {
-            self.check_free(rt, alloc)?;
+            self.check_free(rt, alloc);
         }
         let decoding = Decoding {
             bytes: &self.file,
             header: self.header,
             channels: self.header.channels,
         };
-        decoding.check_free(rt, alloc, &self.raw)?;
-        decoding.check(rt, alloc, &self.raw, &[])
+        decoding.check_free(rt, alloc, &self.raw);
+        decoding.check(rt, alloc, &self.raw, &[]);
     }
 
     // The file stands at the front of the buffer, and each byte behind it is as before.
@@ -133,40 +137,48 @@ impl Image {
     }
 
     // Encodes the image by the two free calls. The buffer has three bytes more than it needs.
-    fn check_free(&self, rt: &impl Abort, alloc: Global) -> Result<()> {
+    fn check_free(&self, rt: &impl Abort, alloc: Global) {
         let (width, height) = (self.header.width, self.header.height);
-        let file = encode_to_vec(alloc, &self.raw, width, height)?;
+        let file = encode_to_vec(alloc, &self.raw, width, height).expect(rt, "refused");
         assert_bytes(rt, &file, &self.file);
-        let mut buf = vec![in alloc; 0xaau8; self.header.encode_max_len().saturating_add(3)]?;
-        let size = encode_to_buf(&mut buf, &self.raw, width, height)?;
+        let mut buf = vec![in alloc; 0xaau8; self.header.encode_max_len().saturating_add(3)].expect(
+            rt, "refused",
+        );
+        let size = encode_to_buf(&mut buf, &self.raw, width, height).expect(rt, "refused");
         self.check_front(rt, size, &buf);
-        Ok(())
     }
 
     /// Encodes the image to a writer that takes at most so many bytes a call, and all of the file.
-    pub fn sent(&self, rt: &impl Abort, alloc: Global, most: usize) -> Result<Sink> {
-        let mut writer = Sink::new(alloc, most, NONE)?;
-        let size = self.encoder()?.encode_to_stream(&mut writer)?;
+    pub fn sent(&self, rt: &impl Abort, alloc: Global, most: usize) -> Sink {
+        let mut writer = Sink::new(alloc, most, NONE).expect(rt, "refused");
+        let size = self
+            .encoder()
+            .expect(rt, "refused")
+            .encode_to_stream(&mut writer)
+            .expect(rt, "refused");
         assert_number(rt, size, self.file.len());
         assert_bytes(rt, &writer.got, &self.file);
-        Ok(writer)
+        writer
     }
 
     /// Encodes the image to writers: in calls of 4096 bytes, and a last one of what is left. Each of the
     /// calls fails once, and the pieces before it have gone out.
-    pub fn check_pieces(&self, rt: &impl Abort, alloc: Global) -> Result<()> {
+    pub fn check_pieces(&self, rt: &impl Abort, alloc: Global) {
         let calls = self.file.len().div_ceil(4096);
-        assert_number(rt, self.sent(rt, alloc, usize::MAX)?.calls, calls);
+        assert_number(rt, self.sent(rt, alloc, usize::MAX).calls, calls);
         for before in 0..calls {
             let call = before.saturating_add(1);
             let end = End::Fault;
-            let mut writer = Sink::new(alloc, usize::MAX, Bad { call, end })?;
-            let refusal = self.encoder()?.encode_to_stream(&mut writer).err();
+            let mut writer = Sink::new(alloc, usize::MAX, Bad { call, end }).expect(rt, "refused");
+            let refusal = self
+                .encoder()
+                .expect(rt, "refused")
+                .encode_to_stream(&mut writer)
+                .err();
             assert_fails(rt, refusal, ErrorKind::BrokenPipe);
             assert_number(rt, writer.calls, call);
             assert_number(rt, writer.got.len(), before.saturating_mul(4096));
             assert!(rt; self.file.starts_with(&writer.got));
         }
-        Ok(())
     }
 }

@@ -1,7 +1,6 @@
-//! Lists of chunks that are drawn at random, the same at each run.
+//! Chunks that are drawn at random, the same at each run.
 use crate::tests::library::support::generator::Numbers;
 use qoi::Result;
-use std::alloc::Global;
 
 // The next byte of a pixel: half of them are 254 to 1.
 fn byte(numbers: &mut Numbers) -> u8 {
@@ -36,28 +35,4 @@ pub fn add(numbers: &mut Numbers, chunks: &mut Vec<u8>, kind: u32) -> Result<u32
         }
     }
     Ok(1)
-}
-
-/// The next list: chunks of the first seven kinds until they give `n` pixels. A run may give more at
-/// the end.
-pub fn list(alloc: Global, numbers: &mut Numbers, n: u32) -> Result<Vec<u8>> {
-    let mut chunks = Vec::new(alloc);
-    let mut given = 0u32;
-    for _ in 0..n {
-        if given >= n {
-            break;
-        }
-        let kind = numbers.below(7);
-        given = given.saturating_add(add(numbers, &mut chunks, kind)?);
-    }
-    Ok(chunks)
-}
-
-/// What stands behind the next file: nothing, a byte, or an end marker.
-pub fn behind(numbers: &mut Numbers) -> &'static [u8] {
-    match numbers.below(3) {
-        0 => &[],
-        1 => &[0x78],
-        _ => &[0, 0, 0, 0, 0, 0, 0, 1],
-    }
 }

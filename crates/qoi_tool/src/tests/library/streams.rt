@@ -1,65 +1,57 @@
 //! Files that are decoded from a stream, which may end one of its calls badly.
-use crate::tests::support::fakes::{Bad, End, NONE, ONE_RGB_PIXEL, PIXEL, Source};
-use crate::tests::support::{
+use crate::tests::fakes::{Bad, End, ONE_RGB_PIXEL, PIXEL, Source};
+use crate::tests::library::support::{
     assert_bytes, assert_fails, assert_header, assert_number, assert_refused,
 };
-use crate::{Channels, Decoder, Error, Header, Result};
+use qoi::{Channels, Decoder, Error, Header};
 use std::io::{Cursor, ErrorKind};
 use std::process::Abort;
 
 // The bytes of `two_files_in_one_slice` from a reader.
 #[test]
-fn two_files_in_one_stream(rt: HostRuntime) -> Result<()> {
+fn two_files_in_one_stream(rt: HostRuntime) {
     let mut bytes = [0; 35];
     bytes[..26].copy_from_slice(&ONE_RGB_PIXEL);
     bytes[26] = 0x55;
     bytes[34] = 1;
-    let mut decoder = Decoder::from_stream(Cursor::new(&bytes[..]))?;
+    let mut decoder = Decoder::from_stream(Cursor::new(&bytes[..])).expect(&rt, "refused");
     let mut buf = [0xaa; 5];
-    assert_number(&rt, decoder.decode_to_buf(&mut buf)?, 3);
+    assert_number(
+        &rt,
+        decoder.decode_to_buf(&mut buf).expect(&rt, "refused"),
+        3,
+    );
     assert_bytes(&rt, &buf, &[0x0b, 0x79, 0xe7, 0xaa, 0xaa]);
-    assert_number(&rt, decoder.decode_to_buf(&mut buf)?, 3);
+    assert_number(
+        &rt,
+        decoder.decode_to_buf(&mut buf).expect(&rt, "refused"),
+        3,
+    );
     assert_bytes(&rt, &buf, &[0xff, 0xff, 0xff, 0xaa, 0xaa]);
     let third = decoder.decode_to_buf(&mut buf).err();
     assert_fails(&rt, third, ErrorKind::UnexpectedEof);
     assert_header(&rt, decoder.header(), &Header::default());
-    Ok(())
 }
 
-// A decoder and its clone decode the same image, each by itself. What follows the end marker is left.
+// Decodes the pixel. What follows the end marker is left.
+fn assert_decodes(rt: &impl Abort, mut decoder: Decoder<&[u8]>) {
+    let mut buf = [0xaa; 3];
+    assert_number(rt, decoder.decode_to_buf(&mut buf).expect(rt, "refused"), 3);
+    assert_bytes(rt, &buf, &PIXEL);
+    assert_bytes(rt, decoder.reader(), &[0x78, 0x79]);
+    assert_bytes(rt, decoder.into_reader(), &[0x78, 0x79]);
+}
+
+// A decoder and its clone decode the same image, each by itself.
 #[test]
-fn clones(rt: HostRuntime) -> Result<()> {
+fn clones(rt: HostRuntime) {
     let mut bytes = [0x78; 28];
     bytes[..26].copy_from_slice(&ONE_RGB_PIXEL);
     bytes[27] = 0x79;
-    let mut decoder = Decoder::from_stream(&bytes[..])?;
-    let mut cloned = decoder.clone()?;
-    let (mut one, mut other) = ([0xaa; 3], [0xaa; 3]);
-    assert_number(&rt, decoder.decode_to_buf(&mut one)?, 3);
-    assert_bytes(&rt, decoder.reader(), &[0x78, 0x79]);
-    assert_number(&rt, cloned.decode_to_buf(&mut other)?, 3);
-    assert_bytes(&rt, cloned.into_reader(), &[0x78, 0x79]);
-    assert_bytes(&rt, &one, &PIXEL);
-    assert_bytes(&rt, &other, &PIXEL);
-    Ok(())
-}
-
-// What refuses a header, by a reader that is lent.
-fn header_refusal(reader: &mut Source<'_>) -> Option<Error> {
-    Decoder::from_stream(reader).err()
-}
-
-// A header that is refused takes fourteen bytes.
-#[test]
-fn refused_header(rt: HostRuntime) -> Result<()> {
-    let mut file = ONE_RGB_PIXEL;
-    file[12] = 5;
-    let mut reader = Source::new(&file, 1, NONE);
-    let refusal = header_refusal(&mut reader);
-    assert_refused(&rt, rt.alloc(), refusal, "invalid number of channels: 5")?;
-    assert_number(&rt, reader.calls, 14);
-    assert_bytes(&rt, reader.left, &file[14..]);
-    Ok(())
+    let decoder = Decoder::from_stream(&bytes[..]).expect(&rt, "refused");
+    let cloned = decoder.clone().expect(&rt, "refused");
+    assert_decodes(&rt, decoder);
+    assert_decodes(&rt, cloned);
 }
 
 // What ends decoding into a buffer, by a reader that is lent; the header takes fourteen calls. A
@@ -81,7 +73,7 @@ fn refusal_at(rt: &impl Abort, reader: &mut Source<'_>, call: usize) -> Option<E
     }
 }
 
-// A reader that gives a byte a call has a bad call, which is the last one. So many bytes were taken.
+// A reader that gives a byte a call has a bad call, which is the last one.
 fn assert_stops(rt: &impl Abort, end: End, taken: usize, kind: ErrorKind) {
     let call = taken.saturating_add(1);
     let mut reader = Source::new(&ONE_RGB_PIXEL, 1, Bad { call, end });
@@ -91,9 +83,19 @@ fn assert_stops(rt: &impl Abort, end: End, taken: usize, kind: ErrorKind) {
     assert_number(rt, reader.left.len().saturating_add(taken), 26);
 }
 
+// A reader whose bad call never comes.
+fn assert_ends(rt: &impl Abort, end: End) {
+    let mut reader = Source::new(&ONE_RGB_PIXEL, 1, Bad { call: 27, end });
+    let mut buf = [0xaa; 3];
+    let mut decoder = Decoder::from_stream(&mut reader).expect(rt, "refused");
+    assert_number(rt, decoder.decode_to_buf(&mut buf).expect(rt, "refused"), 3);
+    assert_bytes(rt, &buf, &PIXEL);
+    assert_bytes(rt, decoder.into_reader().left, &[]);
+}
+
 // One byte a call makes 26 calls; each of them in turn ends badly, and then none of them.
 #[test]
-fn failing_reader(rt: HostRuntime) -> Result<()> {
+fn failing_reader(rt: HostRuntime) {
     let ends = [
         (End::Fault, ErrorKind::BrokenPipe),
         (End::Interruption, ErrorKind::Interrupted),
@@ -105,24 +107,17 @@ fn failing_reader(rt: HostRuntime) -> Result<()> {
         for taken in 0..26usize {
             assert_stops(&rt, end, taken, kind);
         }
-        let mut reader = Source::new(&ONE_RGB_PIXEL, 1, Bad { call: 27, end });
-        let mut buf = [0xaa; 3];
-        let mut decoder = Decoder::from_stream(&mut reader)?;
-        assert_number(&rt, decoder.decode_to_buf(&mut buf)?, 3);
-        assert_bytes(&rt, &buf, &PIXEL);
-        assert_bytes(&rt, decoder.into_reader().left, &[]);
+        assert_ends(&rt, end);
     }
-    Ok(())
 }
 
 // A reader's own words are printed: at the header, at a chunk and at the end marker.
 #[test]
-fn own_words(rt: HostRuntime) -> Result<()> {
+fn own_words(rt: HostRuntime) {
     for call in [1, 14, 15, 18, 19, 26] {
         let end = End::Named;
         let mut reader = Source::new(&ONE_RGB_PIXEL, 1, Bad { call, end });
         let refusal = refusal_at(&rt, &mut reader, call);
-        assert_refused(&rt, rt.alloc(), refusal, "i/o error: x")?;
+        assert_refused(&rt, rt.alloc(), refusal, "i/o error: x");
     }
-    Ok(())
 }

@@ -1,0 +1,73 @@
+//! Texts for debugging, and an i/o error as the library's own.
+use crate::tests::library::support::assert_text;
+use qoi::parts::{Chunk, Pixel};
+use qoi::{Channels, ColorSpace, Error, Header, Style};
+use std::alloc::Global;
+use std::fmt::Debug;
+use std::io;
+use std::process::Abort;
+
+// Compares a text for debugging.
+fn assert_shows<T: Debug>(rt: &impl Abort, alloc: Global, value: &T, text: &str) {
+    match format!(in alloc; "{value:?}") {
+        Ok(shown) => assert_text(rt, shown.as_str(), text),
+        Err(_) => assert!(rt; false, "no memory for: {text}"),
+    }
+}
+
+// Each error but an i/o error, with its text.
+#[rattlefmt::skip]
+fn texts() -> [(Error, &'static str); 9] {
+    let (width, height, size) = (1, 2, 5);
+    [
+        (Error::InvalidMagic { magic: 0x0102_03ff }, "InvalidMagic { magic: 16909311 }"),
+        (Error::InvalidChannels { channels: 5 }, "InvalidChannels { channels: 5 }"),
+        (Error::InvalidColorSpace { colorspace: 2 }, "InvalidColorSpace { colorspace: 2 }"),
+        (Error::InvalidImageDimensions { width, height },
+            "InvalidImageDimensions { width: 1, height: 2 }"),
+        (Error::InvalidImageLength { size, width, height },
+            "InvalidImageLength { size: 5, width: 1, height: 2 }"),
+        (Error::OutputBufferTooSmall { size, required: 26 },
+            "OutputBufferTooSmall { size: 5, required: 26 }"),
+        (Error::UnexpectedBufferEnd, "UnexpectedBufferEnd"),
+        (Error::InvalidPadding, "InvalidPadding"),
+        (Error::OutOfMemory, "OutOfMemory"),
+    ]
+}
+
+#[test]
+fn errors_are_shown(rt: HostRuntime) {
+    for (error, text) in &texts() {
+        assert_shows(&rt, rt.alloc(), error, text);
+    }
+}
+
+// An error of std's trait, through the bound.
+fn is_error<E: std::error::Error>(_error: &E) -> bool {
+    true
+}
+
+#[test]
+fn io_errors_are_kept(rt: HostRuntime) {
+    let error = Error::from(io::Error::from(io::ErrorKind::BrokenPipe));
+    assert!(rt; is_error(&error));
+    assert!(rt; matches!(error, Error::IoError(e) if e.kind() == io::ErrorKind::BrokenPipe));
+}
+
+#[test]
+fn types_are_shown(rt: HostRuntime) {
+    let alloc = rt.alloc();
+    assert_shows(&rt, alloc, &Channels::Rgba, "Rgba");
+    assert_shows(&rt, alloc, &ColorSpace::Linear, "Linear");
+    for (style, text) in [
+        (Style::Reference, "Reference"),
+        (Style::Places, "Places"),
+        (Style::Tight, "Tight"),
+    ] {
+        assert_shows(&rt, alloc, &style, text);
+    }
+    let text = "Header { width: 1, height: 1, channels: Rgb, colorspace: Srgb }";
+    assert_shows(&rt, alloc, &Header::default(), text);
+    assert_shows(&rt, alloc, &Pixel::<3>::new(), "Pixel([0, 0, 0])");
+    assert_shows(&rt, alloc, &Chunk::Luma(128, 136), "Luma(128, 136)");
+}

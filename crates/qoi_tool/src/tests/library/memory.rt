@@ -1,0 +1,157 @@
+//! Allocations that are refused, and the calls that take no memory.
+use crate::tests::fakes::{ONE_RGB_PIXEL, PIXEL, take_memory};
+use crate::tests::library::support::decodings::CUT;
+use crate::tests::library::support::{
+    assert_bytes, assert_given, assert_header, assert_number, assert_refused,
+};
+use qoi::parts::Reader;
+use qoi::{
+    Channels, ColorSpace, Decoder, Encoder, Error, Header, Result, decode_header, decode_to_buf,
+    decode_to_vec, encode_to_buf, encode_to_vec,
+};
+use std::alloc::{AllocError, Global};
+use std::io::Cursor;
+use std::process::Abort;
+
+const REFUSED: &str = "out of memory";
+
+// Takes all memory but for one block of `spare` bytes, or for none where that is 0.
+fn take_but(alloc: Global, spare: usize) -> std::result::Result<Vec<Vec<u8>>, AllocError> {
+    let block: Vec<u8> = Vec::with_capacity(alloc, spare)?;
+    let held = take_memory(alloc, 2)?;
+    drop(block);
+    Ok(held)
+}
+
+// Decodes while all memory is taken but for one block of `spare` bytes.
+fn starved<R: Reader>(alloc: Global, decoder: &mut Decoder<R>, spare: usize) -> Result<Vec<u8>> {
+    let held = take_but(alloc, spare)?;
+    let found = decoder.decode_to_vec(alloc);
+    drop(held);
+    found
+}
+
+// The first allocation is refused; if the first is found, there is no second one. A refusal leaves the
+// decoder as it was.
+fn assert_one_allocation<R: Reader>(rt: &impl Abort, alloc: Global, decoder: &mut Decoder<R>) {
+    assert_refused(rt, alloc, starved(alloc, decoder, 0).err(), REFUSED);
+    assert_header(rt, decoder.header(), &Header::default());
+    assert_given(rt, starved(alloc, decoder, PIXEL.len()), &PIXEL);
+}
+
+#[test]
+fn each_allocation_of_decode_to_vec(rt: HostRuntime) -> Result<()> {
+    assert_one_allocation(&rt, rt.alloc(), &mut Decoder::new(&ONE_RGB_PIXEL)?);
+    let mut stream = Decoder::from_stream(&ONE_RGB_PIXEL[..])?;
+    assert_one_allocation(&rt, rt.alloc(), &mut stream);
+    Ok(())
+}
+
+// Encodes the pixel while all memory is taken but for one block of `spare` bytes.
+fn starved_file(alloc: Global, spare: usize) -> Result<Vec<u8>> {
+    let held = take_but(alloc, spare)?;
+    let file = encode_to_vec(alloc, &PIXEL, 1, 1);
+    drop(held);
+    file
+}
+
+// The first allocation is refused; where the first is found, there is no second one.
+#[test]
+fn each_allocation_of_encode_to_vec(rt: HostRuntime) {
+    let alloc = rt.alloc();
+    assert_refused(&rt, alloc, starved_file(alloc, 0).err(), REFUSED);
+    assert_given(
+        &rt,
+        starved_file(alloc, ONE_RGB_PIXEL.len()),
+        &ONE_RGB_PIXEL,
+    );
+}
+
+// The header of an image of 20000 by 20000 pixels.
+const LARGE: [u8; 14] = [
+    0x71, 0x6f, 0x69, 0x66, 0, 0, 0x4e, 0x20, 0, 0, 0x4e, 0x20, 3, 0,
+];
+
+// As many bytes as 400,000,000 pixels need: a byte for each 62 of them, and the end marker.
+const NEEDED: usize = 6_451_613 + 8;
+
+// A large header, and so many bytes after it.
+fn large(alloc: Global, after: usize) -> Result<Vec<u8>> {
+    let mut file = Vec::from_slice(alloc, &LARGE)?;
+    file.resize(after.saturating_add(14), 0)?;
+    Ok(file)
+}
+
+// Both calls refuse the file with this text, and the decoder is as before. All memory but for blocks
+// of less than `least` bytes is taken.
+fn assert_large(rt: &impl Abort, alloc: Global, file: &[u8], least: usize, text: &str) {
+    let mut decoder = Decoder::new(file).expect(rt, "refused");
+    let held = take_memory(alloc, least).expect(rt, "refused");
+    let method = decoder.decode_to_vec(alloc).err();
+    let free = decode_to_vec(alloc, file).err();
+    drop(held);
+    assert_refused(rt, alloc, method, text);
+    assert_refused(rt, alloc, free, text);
+    assert_number(rt, decoder.data().len().saturating_add(14), file.len());
+    let header = Header::try_new(20000, 20000, Channels::Rgb, ColorSpace::Srgb);
+    assert_header(rt, decoder.header(), &header.expect(rt, "refused"));
+}
+
+// Where the first allocation is refused, that comes before a cut.
+#[test]
+fn too_few_bytes(rt: HostRuntime) {
+    let alloc = rt.alloc();
+    for after in [0, 1, NEEDED - 1, NEEDED] {
+        let file = large(alloc, after).expect(&rt, "refused");
+        assert_large(&rt, alloc, &file, 2, REFUSED);
+        if after < NEEDED {
+            assert_large(&rt, alloc, &file, usize::MAX, CUT);
+        }
+    }
+}
+
+// Encodes the pixel by the calls that take no memory.
+fn assert_encodes(rt: &impl Abort) {
+    let mut file = [0xaa; 26];
+    let size = encode_to_buf(&mut file, &PIXEL, 1, 1).expect(rt, "refused");
+    assert_number(rt, size, 26);
+    assert_bytes(rt, &file, &ONE_RGB_PIXEL);
+    let mut file = [0xaa; 26];
+    let encoder = Encoder::new(&PIXEL, 1, 1).expect(rt, "refused");
+    let sent = encoder.encode_to_stream(&mut file.as_mut_slice());
+    assert_number(rt, sent.expect(rt, "refused"), 26);
+    assert_bytes(rt, &file, &ONE_RGB_PIXEL);
+}
+
+// Decodes the file of the pixel by the calls that take no memory.
+fn assert_decodes(rt: &impl Abort) {
+    let mut buf = [0xaa; 3];
+    let header = decode_to_buf(&mut buf, &ONE_RGB_PIXEL).expect(rt, "refused");
+    let own = decode_header(&ONE_RGB_PIXEL).expect(rt, "refused");
+    assert_header(rt, &own, &header);
+    assert_bytes(rt, &buf, &PIXEL);
+    let mut buf = [0xaa; 3];
+    let mut stream = Decoder::from_stream(&ONE_RGB_PIXEL[..]).expect(rt, "refused");
+    assert_number(rt, stream.decode_to_buf(&mut buf).expect(rt, "refused"), 3);
+    assert_bytes(rt, &buf, &PIXEL);
+}
+
+// The clone of a reader that owns its bytes takes memory.
+fn assert_clone_is_refused(rt: &impl Abort, decoder: &Decoder<Cursor<Vec<u8>>>) {
+    assert!(rt; matches!(decoder.clone(), Err(Error::OutOfMemory)));
+}
+
+// While all memory is taken, the calls that take none succeed, and a clone is refused. That leaves the
+// decoder as it was.
+#[test]
+fn calls_without_memory(rt: HostRuntime) {
+    let alloc = rt.alloc();
+    let file = Vec::from_slice(alloc, &ONE_RGB_PIXEL).expect(&rt, "refused");
+    let mut decoder = Decoder::from_stream(Cursor::new(file)).expect(&rt, "refused");
+    let held = take_memory(alloc, 2).expect(&rt, "refused");
+    assert_encodes(&rt);
+    assert_decodes(&rt);
+    assert_clone_is_refused(&rt, &decoder);
+    drop(held);
+    assert_given(&rt, decoder.decode_to_vec(alloc), &PIXEL);
+}

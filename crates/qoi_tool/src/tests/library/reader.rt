@@ -1,0 +1,64 @@
+//! The trait of readers, alone.
+ghost use Rattle.std.specs.Prelude.{◌≡◌, ◌%◌, length};
+ghost use Rattle.qoi.specs.Raw.{IsChannels};
+
+use crate::tests::fakes::{ONE_RGB_PIXEL, PIXEL};
+use crate::tests::library::support::{assert_bytes, assert_header};
+use qoi::parts::{Bytes, Reader};
+use qoi::{Error, Header, Result};
+use std::process::Abort;
+
+// Reads an image, by the trait alone.
+fn image_of<R: Reader>(
+    reader: &mut R,
+    out: &mut [u8],
+    channels: u8,
+    file_channels: u8,
+) -> Result<()>
+    requires { IsChannels channels → IsChannels file_channels → length out.old % channels ≡ 0 }
+{
+    reader.decode_image(out, channels, file_channels)
+}
+
+// Reads the header and the image of one pixel, and an end marker behind no pixels.
+fn assert_reads<R: Reader>(rt: &impl Abort, reader: &mut R) {
+    assert_header(
+        rt,
+        &reader.decode_header().expect(rt, "refused"),
+        &Header::default(),
+    );
+    let mut out = [0xaa; 3];
+    image_of(reader, &mut out, 3, 3).expect(rt, "refused");
+    assert_bytes(rt, &out, &PIXEL);
+    image_of(reader, &mut [], 3, 3).expect(rt, "refused");
+}
+
+#[test]
+fn readers_read(rt: HostRuntime) {
+    let mut bytes = [0; 35];
+    bytes[..26].copy_from_slice(&ONE_RGB_PIXEL);
+    bytes[33] = 1;
+    let mut reader = Bytes::new(&bytes);
+    assert_bytes(&rt, reader.as_slice(), &bytes);
+    assert_reads(&rt, &mut reader);
+    assert_bytes(&rt, reader.as_slice(), &[0]);
+    let mut stream = bytes.as_slice();
+    assert_reads(&rt, &mut stream);
+    assert_bytes(&rt, stream, &[0]);
+}
+
+// A number of channels is neither 3 nor 4. The reader refuses the first of the two.
+fn assert_refuses<R: Reader>(rt: &impl Abort, reader: &mut R) {
+    for (channels, file_channels) in [(5, 3), (3, 7)] {
+        let refusal = image_of(reader, &mut [0xaa; 12], channels, file_channels).err();
+        assert!(rt;
+            matches!(refusal, Some(Error::InvalidChannels { channels: other }) if other == channels)
+        );
+    }
+}
+
+#[test]
+fn channels_are_three_or_four(rt: HostRuntime) {
+    assert_refuses(&rt, &mut Bytes::new(&ONE_RGB_PIXEL));
+    assert_refuses(&rt, &mut ONE_RGB_PIXEL.as_slice());
+}
