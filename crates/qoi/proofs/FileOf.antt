@@ -56,8 +56,9 @@ other_space : (h : Header) (space : ColorSpace) (cs : List Chunk)
     → file (record h { colorspace = space }) cs ≡ slice_set (file h cs) 13 (colorspace_number space)
 other_space h space cs = refl
 
--- What the lists that are written for images have in common: the chunks are chunks and mean the image, there is one
--- list, it reaches the pixels, it fits, and no two neighbours name one index position.
+-- What the lists that are written for images have in common: the chunks are chunks and mean the
+-- image, there is one list, it reaches the pixels, it fits, and no two neighbours name one index
+-- position.
 pub record WritesLists (Lists : List RgbaPixel → List Chunk → Type 0) : Type 0 where
   pub chunks : (image : List RgbaPixel) (cs : List Chunk) → Lists image cs → AreChunks cs
   pub means : (image : List RgbaPixel) (cs : List Chunk) → Lists image cs → meaning cs ≡ image
@@ -119,7 +120,7 @@ module _ (h : Header) (raw : List ℕ) (valid : IsValid h) (size : length raw �
         (sym (take_whole (pixel_count h) (image_pixels h raw) count) ∙ ap (take (pixel_count h)) (sym means)) in
         decodes_file h cs (file h cs ++ rest) rest raw (is_file cs w) refl image
 
-    -- also where nothing follows
+    -- also if nothing follows
     whole : (cs : List Chunk) → Lists (image_pixels h raw) cs → DecodesFile (file h cs) h [] raw
     whole cs w = subst (λ z. DecodesFile z h [] raw) (append-nil (file h cs)) (back cs [] w)
 

@@ -26,7 +26,7 @@ DecodesImage ahead old new out =
 abbrev pub RefusesDecoding : {R : Type 0} → Bool → (R → Option (List ℕ)) → DecoderState R → DecoderState R → Error → Type 0
 RefusesDecoding in_memory ahead old new e = RefusesImage in_memory (pixel_count old.header) (ahead old.reader) (ahead new.reader) e
 
--- at most so many bytes were taken
+-- at most `most` bytes were taken
 abbrev pub TakesAtMost : ℕ → Option (List ℕ) → Option (List ℕ) → Type 0
 TakesAtMost most old new = HasTaken old new (λ taken. length taken ≤ most)
 

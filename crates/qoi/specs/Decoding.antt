@@ -16,7 +16,8 @@ pub record ReadsPixels (file_channels channels n : ℕ) (bytes rest out : List �
   pub reaches : Reaches n cs
   pub out_is : out ≡ output file_channels channels (take n (meaning cs))
 
--- chunks that reach n pixels were taken, and then `tail`, and `out` are the bytes of their first n pixels
+-- chunks that reach n pixels were taken, and then `tail`, and `out` are the bytes of their first n
+-- pixels
 pub record TakesPixels (tail : List ℕ) (file_channels channels n : ℕ) (old new : Option (List ℕ)) (out : List ℕ) : Type 0 where
   pub cs : List Chunk
   pub chunks : AreChunks cs
@@ -24,11 +25,11 @@ pub record TakesPixels (tail : List ℕ) (file_channels channels n : ℕ) (old n
   pub taken : Consumes old new (chunk_bytes cs ++ tail)
   pub out_is : out ≡ output file_channels channels (take n (meaning cs))
 
--- the same where nothing else was taken
+-- the same if nothing else was taken
 abbrev pub StreamsPixels : ℕ → ℕ → ℕ → Option (List ℕ) → Option (List ℕ) → List ℕ → Type 0
 StreamsPixels = TakesPixels []
 
--- the same where the end marker was taken after them
+-- the same if the end marker was taken after them
 abbrev pub ReadsImage : ℕ → ℕ → ℕ → Option (List ℕ) → Option (List ℕ) → List ℕ → Type 0
 ReadsImage = TakesPixels end_marker
 
@@ -60,30 +61,32 @@ RefusesTakenMarker taken (IoError e) = length taken < marker_size
 RefusesTakenMarker taken InvalidPadding = (length taken ≡ marker_size) × (taken ≢ end_marker)
 RefusesTakenMarker taken _ = ⊥
 
--- how many bytes the chunks of n pixels and the end marker have at least: a chunk has a byte or more, and gives 62
--- pixels at most
+-- how many bytes the chunks of n pixels and the end marker have at least: a chunk has a byte or
+-- more, and gives 62 pixels at most
 abbrev pub least_byte_count : ℕ → ℕ
 least_byte_count n = (n + (run_max - 1)) / run_max + marker_size
 
--- in memory at least the fewest bytes stand ahead that n pixels and the end marker take; on a stream it always holds
+-- in memory at least the fewest bytes stand ahead that n pixels and the end marker take; on a
+-- stream it always holds
 abbrev pub CouldHold : Bool → ℕ → Option (List ℕ) → Type 0
 CouldHold true n (Some bytes) = least_byte_count n ≤ length bytes
 CouldHold in_memory n ahead = Unit {0}
 
--- A refused image. In memory nothing is taken, and the bytes ahead are cut or wrong. On a stream the bytes that
--- were taken are cut, or they are wrong and end with the eight bytes.
+-- A refused image. In memory nothing is taken, and the bytes ahead are cut or wrong. On a stream
+-- the bytes that were taken are cut, or they are wrong and end with the eight bytes.
 abbrev pub RefusesImage : Bool → ℕ → Option (List ℕ) → Option (List ℕ) → Error → Type 0
 RefusesImage true n old new e = Keeps old new × IfSome old (λ bytes. RefusesBytes n bytes e)
 RefusesImage false n old new e = HasTaken old new (λ taken. RefusesTaken n taken e)
 
--- why a stream's header is refused, by the bytes that were taken: fewer than fourteen, or fourteen that are refused
+-- why a stream's header is refused, by the bytes that were taken: fewer than fourteen, or fourteen
+-- that are refused
 abbrev pub RefusesTakenHeader : List ℕ → Error → Type 0
 RefusesTakenHeader taken (IoError e) = length taken < header_size
 RefusesTakenHeader taken e = (length taken ≡ header_size) × (header_of taken ≡ Err e)
 
--- What reading a header returns and takes. A success takes the fourteen bytes of a valid header. In memory a refusal
--- takes nothing, and is that of `header_of` on the bytes ahead; on a stream it is that of `header_of` on the fourteen
--- that were taken, or an i/o error after fewer.
+-- What reading a header returns and takes. A success takes the fourteen bytes of a valid header. In
+-- memory a refusal takes nothing, and is that of `header_of` on the bytes ahead; on a stream it is
+-- that of `header_of` on the fourteen that were taken, or an i/o error after fewer.
 abbrev pub ReadsHeader : Bool → Option (List ℕ) → Option (List ℕ) → Result Header Error → Type 0
 ReadsHeader in_memory old new (Ok h) = (taken : List ℕ) × Consumes old new taken × (length taken ≡ header_size) × (header_of taken ≡ Ok h)
     × (taken ≡ header_bytes h) × IsValid h
@@ -94,13 +97,13 @@ ReadsHeader false old new (Err e) = HasTaken old new (λ taken. RefusesTakenHead
 abbrev pub TakesHeader : Option (List ℕ) → Option (List ℕ) → Header → Type 0
 TakesHeader old new h = ReadsHeader false old new (Ok h)
 
--- why a stream's header is refused: `header_of` refuses the fourteen bytes at its front with e, or e is an i/o error.
--- How the stream is left isn't said.
+-- why a stream's header is refused: `header_of` refuses the fourteen bytes at its front with e, or
+-- e is an i/o error. How the stream is left isn't said.
 abbrev pub RefusesStreamHeader : Option (List ℕ) → Error → Type 0
 RefusesStreamHeader old e = (new : Option (List ℕ)) × ReadsHeader false old new (Err e)
 
--- The bytes are a file with this header and then the rest, and these are its pixels in the file's channels. The
--- bytes begin with no other file, so what follows never changes the reading.
+-- The bytes are a file with this header and then the rest, and these are its pixels in the file's
+-- channels. The bytes begin with no other file, so what follows never changes the reading.
 pub record DecodesFile (bytes : List ℕ) (h : Header) (rest out : List ℕ) : Type 0 where
   pub cs : List Chunk
   pub is_file : IsFile h cs
@@ -114,16 +117,17 @@ pub record DecodesFile (bytes : List ℕ) (h : Header) (rest out : List ℕ) : T
 abbrev pub RefusesBuffer : ℕ → ℕ → Error → Type 0
 RefusesBuffer size required e = (size < required) × (e ≡ OutputBufferTooSmall size required)
 
--- why bytes are not decoded into a buffer of this size: e is the refusal of their header; or the buffer is too short for
--- the image; or it is long enough, and the bytes after the header are cut or wrong
+-- why bytes are not decoded into a buffer of this size: e is the refusal of their header; or the
+-- buffer is too short for the image; or it is long enough, and the bytes after the header are cut
+-- or wrong
 abbrev pub RefusesFileInto : ℕ → List ℕ → Error → Type 0
 RefusesFileInto size bytes e = (header_of bytes ≡ Err e)
     ⊎ ((h : Header) × (header_of bytes ≡ Ok h)
     × (RefusesBuffer size (image_byte_count h) e
     ⊎ ((image_byte_count h ≤ size) × RefusesBytes (pixel_count h) (drop header_size bytes) e)))
 
--- why bytes are not decoded where no buffer is given: e is the refusal of their header; or the bytes after a header are
--- cut or wrong
+-- why bytes are not decoded if no buffer is given: e is the refusal of their header; or the bytes
+-- after a header are cut or wrong
 abbrev pub RefusesFile : List ℕ → Error → Type 0
 RefusesFile bytes e = (header_of bytes ≡ Err e)
     ⊎ ((h : Header) × (header_of bytes ≡ Ok h) × RefusesBytes (pixel_count h) (drop header_size bytes) e)

@@ -46,8 +46,8 @@ measured raw (Ok h) =
     if length raw % pixel_count h == 0 then with_number h (channels_of (min (length raw / pixel_count h) 255))
     else Err (InvalidImageLength (length raw) h.width h.height)
 
--- The header of an image of raw bytes, or the first refusal: the dimensions, the length, the number of channels,
--- given as 255 where it is greater.
+-- The header of an image of raw bytes, or the first refusal: the dimensions, the length, the number
+-- of channels, given as 255 if it is greater.
 abbrev pub image_header : List ℕ → ℕ → ℕ → Result Header Error
 image_header raw width height = measured raw (tried_header width height Rgb Srgb)
 
@@ -61,10 +61,10 @@ pub record IsEncoded (Lists : List RgbaPixel → List Chunk → Type 0) (h : Hea
   pub written : Lists (image_pixels h raw) cs
   pub bytes_are : bytes ≡ file h cs
 
--- The file of the image, where `Lists` says which lists are written for an image: the header is valid, and there are as
--- many raw bytes as it says; there is one file, of at least 23 bytes and at most `max_file_len`; it comes back whatever
--- follows it; another color space changes its one byte alone; and no two neighbouring chunks of its list name the same
--- index position.
+-- The file of the image, where `Lists` says which lists are written for an image: the header is
+-- valid, and there are as many raw bytes as it says; there is one file, of at least 23 bytes and at
+-- most `max_file_len`; it comes back whatever follows it; another color space changes its one byte
+-- alone; and no two neighbouring chunks of its list name the same index position.
 pub record IsFileBy (Lists : List RgbaPixel → List Chunk → Type 0) (h : Header) (raw bytes : List ℕ) : Type 0 where
   pub valid : IsValid h
   pub size : length raw ≡ image_byte_count h
@@ -77,7 +77,8 @@ pub record IsFileBy (Lists : List RgbaPixel → List Chunk → Type 0) (h : Head
       → others ≡ slice_set bytes colorspace_at (colorspace_number space)
   pub apart : (cs front rest : List Chunk) (i : ℕ) → Lists (image_pixels h raw) cs → cs ≢ front ++ Place i ∷ Place i ∷ rest
 
--- the chunks cover the image of these raw bytes, and the last of them, not one before, reaches its last pixel
+-- the chunks cover the image of these raw bytes, and the last of them, not one before, reaches its
+-- last pixel
 pub record Spans (h : Header) (raw : List ℕ) (cs : List Chunk) : Type 0 where
   pub covers : Covers (image_pixels h raw) cs
   pub reaches : Reaches (pixel_count h) cs
@@ -86,28 +87,32 @@ pub record Spans (h : Header) (raw : List ℕ) (cs : List Chunk) : Type 0 where
 abbrev pub OpensBlack : List RgbaPixel → Type 0
 OpensBlack image = IsTrue (is_start (slice_get image 0))
 
--- How short the file is. No regular chunk list of the image has fewer bytes than the floor; the file's list
--- has at most the floor's bytes and the slack's. Where no pixel is transparent black, each list is regular.
+-- How short the file is. No regular chunk list of the image has fewer bytes than the floor; the
+-- file's list has at most the floor's bytes and the slack's. If no pixel is transparent black, each
+-- list is regular.
 pub record IsNearShortest (h : Header) (raw bytes : List ℕ) : Type 0 where
   pub floor_is_below : (others : List Chunk) → Spans h raw others → Regular others → floor (image_pixels h raw) ≤ length (chunk_bytes others)
   pub near_floor : length bytes ≤ header_size + marker_size + floor (image_pixels h raw) + slack (image_pixels h raw) (channels_number h.channels)
   pub near_others : (others : List Chunk) → Spans h raw others → Regular others
       → length bytes ≤ length (file h others) + slack (image_pixels h raw) (channels_number h.channels)
-  -- no regular list is over four bytes shorter, and none is shorter at all unless the image opens with opaque black
+  -- no regular list is over four bytes shorter, and none is shorter at all unless the image opens
+  -- with opaque black
   pub four_at_most : (others : List Chunk) → Spans h raw others → Regular others → length bytes ≤ length (file h others) + 4
   pub none_shorter : (OpensBlack (image_pixels h raw) → ⊥) → (others : List Chunk) → Spans h raw others → Regular others
       → length bytes ≤ length (file h others)
   pub all_regular : AllByRecursion (λ p. p ≢ blank) (image_pixels h raw) → (others : List Chunk) → Spans h raw others → Regular others
 
--- Styles Reference and Places: the list is regular, and the file as long as that of the list of `Written`.
+-- Styles Reference and Places: the list is regular, and the file as long as that of the list of
+-- `Written`.
 pub record IsAsReference (style : Style) (h : Header) (raw bytes : List ℕ) : Type 0 where
   pub regular : (cs : List Chunk) → WrittenIn style (image_pixels h raw) cs → Regular cs
   pub list : List Chunk
   pub written : Written (image_pixels h raw) list
   pub as_long : length bytes ≡ length (file h list)
 
--- Style Tight: the number of bytes is the least. Header and end marker have 22, the chunks those of the floor where any
--- index position may be named, and no list of the image at all, regular or not, makes a shorter file.
+-- Style Tight: the number of bytes is the least. Header and end marker have 22, the chunks those of
+-- the floor with any index position allowed, and no list of the image at all, regular or not, makes
+-- a shorter file.
 pub record IsShortest (h : Header) (raw : List ℕ) (n : ℕ) : Type 0 where
   pub floor0_is : n ≡ header_size + marker_size + floor0 (image_pixels h raw)
   pub shortest : (others : List Chunk) → Spans h raw others → n ≤ length (file h others)
@@ -126,14 +131,15 @@ pub record IsReadBack (h : Header) (raw bytes : List ℕ) : Type 0 where
   pub image_then : (rest : List ℕ) → file_image (bytes ++ rest) ≡ raw
   pub rest_then : (rest : List ℕ) → file_rest (bytes ++ rest) ≡ rest
 
--- The file of the image in a style: no regular list makes it shorter by more than the slack, and it is as short as
--- `IsShortIn` says.
+-- The file of the image in a style: no regular list makes it shorter by more than the slack, and it
+-- is as short as `IsShortIn` says.
 pub record IsFileOf (style : Style) (h : Header) (raw bytes : List ℕ) : Type 0 where
   pub is_file : IsFileBy (WrittenIn style) h raw bytes
   pub near_shortest : IsNearShortest h raw bytes
   pub shortness : IsShortIn style h raw bytes
   pub read_back : IsReadBack h raw bytes
 
--- the file that the free calls write for raw bytes of this size: with the header that is found for them, in style Reference
+-- the file that the free calls write for raw bytes of this size: with the header that is found for
+-- them, in style Reference
 abbrev pub IsFileFor : List ℕ → ℕ → ℕ → List ℕ → Type 0
 IsFileFor raw width height bytes = (h : Header) × (image_header raw width height ≡ Ok h) × IsFileOf Reference h raw bytes

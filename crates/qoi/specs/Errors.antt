@@ -1,4 +1,5 @@
--- Kinds of error, and what may refuse bytes by their verdict. The truth value says whether the bytes are in memory.
+-- Kinds of error, and what may refuse bytes by their verdict. The truth value says whether the
+-- bytes are in memory.
 use Rattle.std.specs.Prelude.{◌≡◌, ◌⊎◌, Bool, true, false}
 use Rattle.qoi.specs.declared.error.Error.{Error}
 use Rattle.qoi.specs.declared.error.Error.TheVariants.{UnexpectedBufferEnd, InvalidPadding, IoError}

@@ -1,4 +1,5 @@
--- The image at the front of bytes, as a function of them. Where no image stands there, the value says nothing.
+-- The image at the front of bytes, as a function of them. If no image stands there, the value says
+-- nothing.
 use Rattle.std.specs.Prelude.{ℕ, zero, suc, ◌-◌, List, [], ◌∷◌, length, take, drop, slice_index, nat_lt, nat_le, if◌then◌else◌, Result, Ok, Err}
 use Rattle.qoi.specs.declared.error.Error.{Error}
 use Rattle.qoi.specs.declared.types.Channels.{Channels}
@@ -22,7 +23,7 @@ chunk_by b c d e f =
 abbrev pub front_chunk : List ℕ → Chunk
 front_chunk bytes = chunk_by (slice_index bytes 0) (slice_index bytes 1) (slice_index bytes 2) (slice_index bytes 3) (slice_index bytes 4)
 
--- the chunks that follow these pixels until there are n, where at most so many chunks are left
+-- the chunks that follow these pixels until there are n, if at most so many chunks are left
 unfoldable pub chunks_after : ℕ → ℕ → Past → List ℕ → List Chunk
 chunks_after zero n past bytes = []
 chunks_after (suc left) n past bytes =

@@ -1,4 +1,5 @@
--- The format QOI, in the order of its specification 1.0: header, pixels, chunks, what a list of chunks means, files.
+-- The format QOI, in the order of its specification 1.0: header, pixels, chunks, what a list of
+-- chunks means, files.
 use Rattle.std.specs.Prelude.{ℕ, ◌+◌, ◌*◌, ◌/◌, ◌%◌, ◌-◌, ◌<◌, ◌≤◌, List, [], ◌∷◌, ◌++◌, length, take, drop, reverse, replicate, slice_index, slice_index_or, Bool, nat_lt, nat_le, ◌==◌, ◌&&◌, if◌then◌else◌, Result, Ok, Err}
 use Rattle.std.specs.Int.{w32, to_be_bytes, from_be_bytes}
 use Rattle.std.specs.List.{flat_map, AllByRecursion}
@@ -104,14 +105,15 @@ with_channels_read bytes (Ok channels) = with_colorspace_read channels (colorspa
     with_colorspace_read channels (Err e) = Err e
     with_colorspace_read channels (Ok colorspace) = checked_header bytes channels colorspace
 
--- The header that the bytes begin with, or the first refusal by: length, channels, color space, magic, dimensions.
--- What follows the fourteen bytes doesn't matter.
+-- The header that the bytes begin with, or the first refusal by: length, channels, color space,
+-- magic, dimensions. What follows the fourteen bytes doesn't matter.
 abbrev pub header_of : List ℕ → Result Header Error
 header_of bytes =
     if nat_lt (length bytes) header_size then Err UnexpectedBufferEnd
     else with_channels_read bytes (channels_of (slice_index bytes channels_at))
 
--- Pixels, and what an index position holds ("Chunks": the running array of 64 previously seen pixels)
+-- Pixels, and what an index position holds ("Chunks": the running array of 64 previously seen
+-- pixels)
 
 -- red, green, blue and alpha
 pub record RgbaPixel : Type 0 where
@@ -164,14 +166,16 @@ abbrev pub previous : Past → RgbaPixel
 previous [] = start
 previous (p ∷ past) = p
 
--- what an index position holds: the last pixel seen whose position it is, or transparent black where there is none
+-- what an index position holds: the last pixel seen whose position it is, or transparent black if
+-- there is none
 abbrev pub seen : Past → ℕ → RgbaPixel
 seen [] i = blank
 seen (p ∷ past) i = if hash p == i then p else seen past i
 
 -- Chunks ("Chunks")
 
--- a difference's byte with its six low bits 0: its two high bits are 01, and an index position's are 00
+-- a difference's byte with its six low bits 0: its two high bits are 01, and an index position's
+-- are 00
 abbrev pub diff_tag : ℕ
 diff_tag = 0x40
 
@@ -199,8 +203,8 @@ chunk_max = 5
 abbrev pub run_max : ℕ
 run_max = 62
 
--- The numbers that a chunk may have: an index position, the bytes of a difference and of a luma with
--- their two high bits, the length of a run, and bytes of pixels.
+-- The numbers that a chunk may have: an index position, the bytes of a difference and of a luma
+-- with their two high bits, the length of a run, and bytes of pixels.
 abbrev pub IsChunk : Chunk → Type 0
 IsChunk (Place i) = i < positions
 IsChunk (Diff d) = (diff_tag ≤ d) × (d < luma_tag)
@@ -230,14 +234,14 @@ chunk_bytes cs = flat_map bytes_of cs
 abbrev pub moved : RgbaPixel → ℕ → ℕ → ℕ → RgbaPixel
 moved q r g b = pixel ((q.r + r) % 256) ((q.g + g) % 256) ((q.b + b) % 256) q.a
 
--- The pixel of a difference: bits 5-4, 3-2 and 1-0 of its byte are the differences of red, green and blue
--- plus 2. Adding 254 takes 2 away, at 256.
+-- The pixel of a difference: bits 5-4, 3-2 and 1-0 of its byte are the differences of red, green
+-- and blue plus 2. Adding 254 takes 2 away, at 256.
 unfoldable pub after_diff : RgbaPixel → ℕ → RgbaPixel
 after_diff q d = moved q (d / 16 % 4 + 254) (d / 4 % 4 + 254) (d % 4 + 254)
 
--- The pixel of a luma: the low six bits of the first byte are green's difference plus 32, and the high and
--- the low four bits of the second byte are red's and blue's differences, less green's, plus 8. Adding 224
--- takes 32 away, at 256, and adding 216 takes 40 away.
+-- The pixel of a luma: the low six bits of the first byte are green's difference plus 32, and the
+-- high and the low four bits of the second byte are red's and blue's differences, less green's,
+-- plus 8. Adding 224 takes 32 away, at 256, and adding 216 takes 40 away.
 unfoldable pub after_luma : RgbaPixel → ℕ → ℕ → RgbaPixel
 after_luma q d e = moved q (d % 64 + e / 16 + 216) (d % 64 + 224) (d % 64 + e % 16 + 216)
 

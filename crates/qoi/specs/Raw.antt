@@ -21,8 +21,8 @@ IsChannels-prop n (inr a) (inr b) = ap inr (ℕ_set n 4 a b)
 abbrev pub AreChannels : ℕ → ℕ → Type 0
 AreChannels file_channels channels = IsChannels file_channels × IsChannels channels
 
--- A pixel in this many channels, of a file with `file_channels` channels: red, green, blue and, where there are four,
--- alpha, which is 255 if the file has three.
+-- A pixel in this many channels, of a file with `file_channels` channels: red, green, blue and, if
+-- there are four, alpha, which is 255 if the file has three.
 abbrev pub pixel_bytes : ℕ → ℕ → RgbaPixel → List ℕ
 pixel_bytes file_channels channels p =
     if channels == 3 then p.r ∷ p.g ∷ p.b ∷ []

@@ -1,4 +1,4 @@
--- What a decoder reads where the bytes are known that stand ahead of it.
+-- What a decoder reads if the bytes that stand ahead of it are known.
 use Rattle.std.specs.Prelude.{◌≡◌, ℕ, List, ◌++◌, take}
 use Rattle.qoi.specs.declared.types.Channels.{Channels}
 use Rattle.qoi.specs.declared.header.Header.{Header}
@@ -8,19 +8,20 @@ use Rattle.qoi.specs.Raw.{output}
 use Rattle.qoi.specs.Verdicts.{IsWhole}
 use Rattle.qoi.specs.DecoderState.{DecoderState}
 
--- the bytes are chunks that reach the header's pixels, the end marker and then the rest, and `out` are these pixels in
--- the channels
+-- the bytes are chunks that reach the header's pixels, the end marker and then the rest, and `out`
+-- are these pixels in the channels
 pub record IsImage (channels : Channels) (bytes : List ℕ) (h : Header) (rest out : List ℕ) : Type 0 where
   pub cs : List Chunk
   pub whole : IsWhole (pixel_count h) bytes cs rest
   pub out_is : out ≡ output (channels_number h.channels) (channels_number channels) (take (pixel_count h) (meaning cs))
 
--- The bytes are chunks that reach the pixels of the decoder's header, the end marker and then the rest, and `raw` are
--- these pixels in the decoder's channels. It is no abbreviation, so that a search passes it on whole; nor is IsDecoderOf.
+-- The bytes are chunks that reach the pixels of the decoder's header, the end marker and then the
+-- rest, and `raw` are these pixels in the decoder's channels. It is no abbreviation, so that a
+-- search passes it on whole; nor is IsDecoderOf.
 unfoldable pub IsImageFor : {R : Type 0} → DecoderState R → List ℕ → List ℕ → List ℕ → Type 0
 IsImageFor d bytes rest raw = IsImage d.channels bytes d.header rest raw
 
--- The source is the bytes of the decoder's header, which is valid, and then these; and the decoder's channels are the
--- file's own. Whether these stand ahead of its reader is said beside it.
+-- The source is the bytes of the decoder's header, which is valid, and then these; and the
+-- decoder's channels are the file's own. Whether these stand ahead of its reader is said beside it.
 unfoldable pub IsDecoderOf : {R : Type 0} → DecoderState R → List ℕ → List ℕ → Type 0
 IsDecoderOf d source ahead = (source ≡ header_bytes d.header ++ ahead) × IsValid d.header × (d.channels ≡ d.header.channels)

@@ -1,12 +1,12 @@
--- Chunk lists that name an index position only where it holds a pixel of that position, and lists that begin
--- with an image.
+-- Chunk lists that name an index position only if it holds a pixel of that position, and lists that
+-- begin with an image.
 use Rattle.std.specs.Prelude.{◌≡◌, List, [], ◌++◌}
 use Rattle.qoi.specs.declared.chunk.Chunk.{Chunk}
 use Rattle.qoi.specs.declared.chunk.Chunk.TheVariants.{Place}
 use Rattle.qoi.specs.Qoi.{RgbaPixel, Past, seen, hash, AreChunks, meaning, Each}
 
--- an index position that is named holds a pixel whose position it is; so one where no pixel was put is named
--- only if it is position 0
+-- an index position that is named holds a pixel whose position it is; so one where no pixel was put
+-- is named only if it is position 0
 abbrev pub NamesPixelThere : Past → Chunk → Type 0
 NamesPixelThere past (Place i) = hash (seen past i) ≡ i
 NamesPixelThere past _ = Unit {0}

@@ -21,7 +21,7 @@ some_luma q p = some_below 64 (λ d. some_below 256 (λ e. pixel_eq (after_luma 
 unfoldable pub some_rgb : RgbaPixel → RgbaPixel → Bool
 some_rgb q p = p.a == q.a
 
--- how many bytes the shortest chunk has that gives the fresh pixel p, where a chunk list is regular
+-- how many bytes the shortest chunk has that gives the fresh pixel p, if a chunk list is regular
 unfoldable pub least : Past → RgbaPixel → ℕ
 least past p =
     if pixel_eq (seen past (hash p)) p || some_diff (previous past) p then 1
@@ -34,8 +34,8 @@ abbrev pub trailing_repeats : Past → ℕ
 trailing_repeats [] = 0
 trailing_repeats (p ∷ past) = if pixel_eq p (previous past) then suc (trailing_repeats past) else 0
 
--- A fresh pixel costs its shortest chunk. A repeat costs a byte if it is the first of a group or each 62nd
--- after that, so a group of k repeats costs k / 62, rounded up.
+-- A fresh pixel costs its shortest chunk. A repeat costs a byte if it is the first of a group or
+-- each 62nd after that, so a group of k repeats costs k / 62, rounded up.
 unfoldable pub cost : (Past → RgbaPixel → ℕ) → Past → RgbaPixel → ℕ
 cost shortest past p =
     if pixel_eq p (previous past) then (if trailing_repeats past % run_max == 0 then 1 else 0) else shortest past p
@@ -54,9 +54,10 @@ abbrev pub is_start : Option RgbaPixel → Bool
 is_start None = false
 is_start (Some p) = pixel_eq p start
 
--- How many bytes longer the written list may be: none, unless the image opens with opaque black and its first
--- fresh pixel at the index position of opaque black is opaque black. The opening isn't noted, so that pixel
--- is spelled out, which takes a byte more for each channel than its index position would.
+-- How many bytes longer the written list may be: none, unless the image opens with opaque black and
+-- its first fresh pixel at the index position of opaque black is opaque black. The opening isn't
+-- noted, so that pixel is spelled out, which takes a byte more for each channel than its index
+-- position would.
 unfoldable pub slack : List RgbaPixel → ℕ → ℕ
 slack image channels =
     if is_start (slice_get image 0)

@@ -32,8 +32,8 @@ abbrev pub names : Option Chunk → ℕ → Bool
 names (Some (Place j)) i = j == i
 names _ _ = false
 
--- A run of n is given by the index position of its pixel if n is 1, a fresh pixel comes next, one stands somewhere before
--- it, and the chunk before it isn't that position.
+-- A run of n is given by the index position of its pixel if n is 1, a fresh pixel comes next, one
+-- stands somewhere before it, and the chunk before it isn't that position.
 abbrev pub is_placed : Past → Option Chunk → ℕ → List Chunk → Bool
 is_placed past before n cs = n == 1 && fresh_next cs && some_fresh past && not (names before (hash (previous past)))
 
@@ -42,7 +42,8 @@ abbrev pub place_for : Past → Option Chunk → Chunk → List Chunk → Chunk
 place_for past before (Run n) cs = if is_placed past before n cs then Place (hash (previous past)) else Run n
 place_for past before c cs = c
 
--- place_for of each chunk of a list, after these pixels and after the chunk before it, if there is one
+-- place_for of each chunk of a list, after these pixels and after the chunk before it, if there is
+-- one
 abbrev pub placed_after : Past → Option Chunk → List Chunk → List Chunk
 placed_after past before [] = []
 placed_after past before (c ∷ cs) = place_for past before c cs ∷ placed_after (then_chunk past c) (Some c) cs
@@ -53,7 +54,8 @@ choice_in Reference = IsChoice
 choice_in Places = IsChoice
 choice_in Tight = IsTightChoice
 
--- as a style has chunks of the list of its choices, after these pixels and after the chunk before it, if there is one
+-- as a style has chunks of the list of its choices, after these pixels and after the chunk before
+-- it, if there is one
 abbrev pub styled : Style → Past → Option Chunk → List Chunk → List Chunk
 styled Reference past before cs = cs
 styled Places past before cs = placed_after past before cs

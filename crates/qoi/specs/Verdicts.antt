@@ -1,5 +1,5 @@
--- The verdict on the bytes after a header, for an image of n pixels: exactly one of whole, cut and wrong
--- (QOI specification 1.0, "File Format" and "Data").
+-- The verdict on the bytes after a header, for an image of n pixels: exactly one of whole, cut and
+-- wrong (QOI specification 1.0, "File Format" and "Data").
 use Rattle.std.specs.Prelude.{◌≡◌, ◌≢◌, ℕ, ◌<◌, ◌≤◌, ◌⊎◌, List, ◌∷◌, ◌++◌, length}
 use Rattle.qoi.specs.declared.chunk.Chunk.{Chunk}
 use Rattle.qoi.specs.Qoi.{IsChunk, AreChunks, bytes_of, chunk_bytes, StayBelow, meaning, marker_size, end_marker}
@@ -19,20 +19,22 @@ pub record IsWhole (n : ℕ) (bytes : List ℕ) (cs : List Chunk) (rest : List �
   pub has : HasChunks n bytes cs (end_marker ++ rest)
   pub enough : n ≤ length (meaning cs)
 
--- cut: the chunks give fewer than n pixels, and only a part of a chunk follows, perhaps none of it; or they reach n
--- pixels, and fewer than eight bytes follow
+-- cut: the chunks give fewer than n pixels, and only a part of a chunk follows, perhaps none of it;
+-- or they reach n pixels, and fewer than eight bytes follow
 pub record IsCut (n : ℕ) (bytes : List ℕ) (cs : List Chunk) (part : List ℕ) : Type 0 where
   pub has : HasChunks n bytes cs part
   pub ends : ((length (meaning cs) < n) × IsPartOfChunk part) ⊎ ((n ≤ length (meaning cs)) × (length part < marker_size))
 
--- wrong: the chunks reach n pixels, and eight bytes other than the end marker follow, and then any bytes
+-- wrong: the chunks reach n pixels, and eight bytes other than the end marker follow, and then any
+-- bytes
 pub record IsWrong (n : ℕ) (bytes : List ℕ) (cs : List Chunk) (eight rest : List ℕ) : Type 0 where
   pub has : HasChunks n bytes cs (eight ++ rest)
   pub enough : n ≤ length (meaning cs)
   pub length_is : length eight ≡ marker_size
   pub other : eight ≢ end_marker
 
--- cut: the bytes end before n pixels, between chunks or inside one, or within the eight bytes after them
+-- cut: the bytes end before n pixels, between chunks or inside one, or within the eight bytes after
+-- them
 abbrev pub AreCut : ℕ → List ℕ → Type 0
 AreCut n bytes = (cs : List Chunk) × (part : List ℕ) × IsCut n bytes cs part
 

@@ -9,12 +9,13 @@ abbrev pub fresh : Past → Past
 fresh [] = []
 fresh (p ∷ past) = if pixel_eq p (previous past) then fresh past else p ∷ fresh past
 
--- what is noted at an index position: the last fresh pixel whose position it is, or transparent black where there is
--- none
+-- what is noted at an index position: the last fresh pixel whose position it is, or transparent
+-- black if there is none
 abbrev pub noted : Past → ℕ → RgbaPixel
 noted past i = seen (fresh past) i
 
--- the order in which the chunks that spell a pixel out are tried; index positions and runs are none of them
+-- the order in which the chunks that spell a pixel out are tried; index positions and runs are none
+-- of them
 abbrev pub rank : Chunk → ℕ
 rank (Diff d) = 1
 rank (Luma d e) = 2
@@ -34,7 +35,8 @@ pub record Spells (pixel before : List ℕ) (c : Chunk) : Type 0 where
   pub chunk : IsChunk c
   pub first : (past : Past) → IsPixel (previous past) → previous past ≡ rgba before → IsFirst past (rgba pixel) c
 
--- how a fresh pixel is given: by its index position if it is noted there, else by the first chunk that spells it out
+-- how a fresh pixel is given: by its index position if it is noted there, else by the first chunk
+-- that spells it out
 pub record IsChoice (past : Past) (p : RgbaPixel) (c : Chunk) : Type 0 where
   pub place : noted past (hash p) ≡ p → c ≡ Place (hash p)
   pub spelled : noted past (hash p) ≢ p → IsFirst past p c
@@ -44,7 +46,8 @@ pub record GivesFresh (Choice : Past → RgbaPixel → Chunk → Type 0) (past :
   pub is_fresh : pixel_after past c ≢ previous past
   pub is_chosen : Choice past (pixel_after past c) c
 
--- a run may stand anywhere, and each other chunk gives a fresh pixel by the choice; so each repeat is given by a run
+-- a run may stand anywhere, and each other chunk gives a fresh pixel by the choice; so each repeat
+-- is given by a run
 abbrev pub IsAllowedAfter : (Past → RgbaPixel → Chunk → Type 0) → Past → Chunk → Type 0
 IsAllowedAfter Choice past (Run n) = Unit {0}
 IsAllowedAfter Choice past c = GivesFresh Choice past c

@@ -1,4 +1,5 @@
--- States of loops, what the table of index positions holds, pixels as single numbers, four at a time, and kept bytes.
+-- States of loops, what the table of index positions holds, pixels as single numbers, four at a
+-- time, and kept bytes.
 pub mod CoderState
 pub mod CoderLoop
 pub mod Filling

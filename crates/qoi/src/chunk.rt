@@ -34,8 +34,8 @@ pub enum Chunk {
 
 /// The first chunk of the bytes, and the rest of the same slice (QOI specification 1.0, "Chunks").
 ///
-/// `None` exactly where the slice is empty or shorter than the length of the chunk that its first
-/// byte begins: 4 for fe, 5 for ff, 2 for 80 to bf, and else 1.
+/// `None` exactly if the slice is empty or shorter than the length of the chunk that its first byte
+/// begins: 4 for fe, 5 for ff, 2 for 80 to bf, and else 1.
 #[inline(always)]
 #[tactic(auto, using(crate::proofs::format::PartOfChunk::parts))]
 pub fn read_chunk(data: &[u8]) -> Option<(Chunk, &[u8])>

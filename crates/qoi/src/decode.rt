@@ -30,7 +30,7 @@ use std::marker::Model;
 
 /// The header at the front of the bytes; what follows its fourteen bytes doesn't matter.
 ///
-/// Refusals, in this order: `UnexpectedBufferEnd` where there are fewer than fourteen bytes,
+/// Refusals, in this order: `UnexpectedBufferEnd` if there are fewer than fourteen bytes,
 /// `InvalidChannels`, `InvalidColorSpace`, `InvalidMagic`, `InvalidImageDimensions` (QOI
 /// specification 1.0, "QOI Header").
 pub fn decode_header(data: &[u8]) -> Result<Header>
@@ -60,8 +60,8 @@ pub fn decode_to_buf(buf: &mut [u8], data: &[u8]) -> Result<Header>
         → (result ≡ Err (Error.OutputBufferTooSmall (length buf.old) (image_byte_count h)))
         × (buf.new ≡ buf.old) }
 
-    // Files are accepted where the buffer is long enough, whatever follows them; and that of an
-    // image, in each style, gives its header and its raw bytes.
+    // Files are accepted if the buffer is long enough, whatever follows them; and that of an image,
+    // in each style, gives its header and its raw bytes.
     ensures accepts { (h : Header) (cs : List Chunk) (rest : List ℕ) → IsFile h cs
         → «data».now ≡ file h cs ++ rest
         → image_byte_count h ≤ length buf.old → result ≡ Ok h }
@@ -72,8 +72,8 @@ pub fn decode_to_buf(buf: &mut [u8], data: &[u8]) -> Result<Header>
         → IsFileOf style h raw bytes → «data».now ≡ bytes ++ rest
         → length raw ≤ length buf.old → (result ≡ Ok h) × (take (length raw) buf.new ≡ raw) }
 
-    // After a valid header, and where the buffer is long enough, cut bytes give
-    // `UnexpectedBufferEnd`, and wrong ones `InvalidPadding`.
+    // After a valid header, and if the buffer is long enough, cut bytes give `UnexpectedBufferEnd`,
+    // and wrong ones `InvalidPadding`.
     ensures cut { (h : Header) → header_of «data».now ≡ Ok h
         → AreCut (pixel_count h) (drop header_size «data».now)
         → image_byte_count h ≤ length buf.old → result ≡ Err Error.UnexpectedBufferEnd }
@@ -94,8 +94,9 @@ pub fn decode_to_buf(buf: &mut [u8], data: &[u8]) -> Result<Header>
 /// Decodes a file into a vector, in the file's own channels, and returns its header too.
 ///
 /// The refusals are those of `Decoder::new` and then of its `decode_to_vec`: those of the header,
-/// `OutOfMemory`, and those of the chunks and the end marker. The vector has the header's `n_bytes`,
-/// which are at most 248 for each byte of the slice; no more memory than that is written.
+/// `OutOfMemory`, and those of the chunks and the end marker. The vector has the header's
+/// `n_bytes`, which are at most 248 for each byte of the slice; no more memory than that is
+/// written.
 pub fn decode_to_vec(alloc: Global, data: &[u8]) -> Result<(Header, Vec<u8>)>
     // What the result is: header and image of the file at the front of the bytes.
     ensures decoded { IfOk result (λ x. (rest : List ℕ)
@@ -216,19 +217,19 @@ impl<R: Read + Drop> Decoder<R> {
     /// A decoder of the file that stands ahead of the reader, whose header is decoded at once:
     /// fourteen bytes are read and no more. The channels are the header's.
     ///
-    /// Refusals, in this order: `IoError` where the fourteen bytes don't come, and then those of
+    /// Refusals, in this order: `IoError` if the fourteen bytes don't come, and then those of
     /// `decode_header` on them. The reader is dropped then, so no contract can say where it stood.
     ///
-    /// A decoder asks its reader for a chunk's few bytes at a time, and never for a byte past the end
-    /// marker: wrap a file or a socket in a `BufReader`.
+    /// A decoder asks its reader for a chunk's few bytes at a time, and never for a byte past the
+    /// end marker: wrap a file or a socket in a `BufReader`.
     pub fn from_stream(mut reader: R) -> Result<Decoder<R>>
         // What the result is.
         ensures accepted { IfOk result (λ d. TakesHeader (R.remaining reader)
             (R.remaining d.reader) d.header
             × (d.channels ≡ d.header.channels)) }
 
-        // Where the bytes ahead of the reader are known, the header is theirs, and what follows it
-        // is left. The image ahead, and what follows it, are those of the file that stood there.
+        // If the bytes ahead of the reader are known, the header is theirs, and what follows it is
+        // left. The image ahead, and what follows it, are those of the file that stood there.
         // (`R.ahead`, of which the methods speak, is `R.remaining` of a stream.)
         ensures read { (bytes : List ℕ) → R.remaining reader ≡ Some bytes
             → IfOk result (λ d. header_of bytes ≡ Ok d.header) }
@@ -241,7 +242,7 @@ impl<R: Read + Drop> Decoder<R> {
         ensures made { (bytes : List ℕ) → R.remaining reader ≡ Some bytes
             → IfOk result (λ d. IsDecoderOf d bytes (drop header_size bytes)) }
 
-        // Where they are the file of an image, in each style and with any bytes after it, the bytes
+        // If they are the file of an image, in each style and with any bytes after it, the bytes
         // after the header are the image, and then the rest.
         ensures comes_back_in { (style : Style) (h : Header) (raw bytes : List ℕ)
             → IsFileOf style h raw bytes → R.remaining reader ≡ Some bytes
@@ -263,8 +264,8 @@ impl<R: Read + Drop> Decoder<R> {
         })
     }
 
-    /// The reader, as it stands: after a success behind the end marker, and after a refusal behind
-    /// the bytes that were read.
+    /// The reader, as it stands: past the end marker after a success, and past the bytes that were
+    /// read after a refusal.
     pub fn reader(&self) -> &R
         ensures { result.now ≡ self.now.reader }
     {
@@ -282,8 +283,8 @@ impl<R: Read + Drop> Decoder<R> {
 impl<R: Reader> Decoder<R> {
     /// Chooses the channels of the output. The file's own stay in the header.
     ///
-    /// Into three channels the alpha is dropped; into four an alpha of 255 is added where the file
-    /// has three.
+    /// Into three channels the alpha is dropped; into four an alpha of 255 is added if the file has
+    /// three.
     pub fn with_channels(mut self, channels: Channels) -> Decoder<R>
         ensures { result ≡ record self { channels = channels } }
     {
@@ -292,9 +293,9 @@ impl<R: Reader> Decoder<R> {
     }
 
     /// A second decoder with the same header and channels, whose reader is a clone of this one's
-    /// reader. Where each clone of the reader equals it, as of a `&[u8]`, the decoders are equal.
+    /// reader. If each clone of the reader equals it, as of a `&[u8]`, the decoders are equal.
     ///
-    /// `OutOfMemory` where the reader's clone finds no memory.
+    /// `OutOfMemory` if an allocation of the reader's clone fails.
     pub fn clone(&self) -> Result<Decoder<R>>
     where
         R: Clone,
@@ -336,16 +337,17 @@ impl<R: Reader> Decoder<R> {
 
     /// Decodes an image into the front of the buffer, and returns how many bytes it has.
     ///
-    /// Refusals, in this order: `OutputBufferTooSmall` where the buffer is shorter than
-    /// `required_buf_len`, and then nothing was read or written; `UnexpectedBufferEnd` where the
-    /// bytes end before the image does or within the eight bytes after the chunks; `InvalidPadding`
-    /// where those eight bytes aren't the end marker (QOI specification 1.0, "File Format" and "Data").
-    /// From a stream an early end is `IoError` instead of `UnexpectedBufferEnd`, and so is a fault of
-    /// the reader. A run that gives more pixels than are left is no refusal: the others are dropped.
+    /// Refusals, in this order: `OutputBufferTooSmall` if the buffer is shorter than
+    /// `required_buf_len`, and then nothing was read or written; `UnexpectedBufferEnd` if the bytes
+    /// end before the image does or within the eight bytes after the chunks; `InvalidPadding` if
+    /// those eight bytes aren't the end marker (QOI specification 1.0, "File Format" and "Data").
+    /// From a stream an early end is `IoError` instead of `UnexpectedBufferEnd`, and so is a fault
+    /// of the reader. A run that gives more pixels than are left is no refusal: the others are
+    /// dropped.
     ///
-    /// After a refusal the header and the channels are as before. So are the bytes ahead in a slice;
-    /// a reader stands behind the bytes that were read. The first `required_buf_len` bytes of the
-    /// buffer may then be overwritten; later bytes never are.
+    /// After a refusal the header and the channels are as before. So are the bytes ahead in a
+    /// slice; a reader stands after the bytes that were read. The first `required_buf_len` bytes of
+    /// the buffer may then be overwritten; later bytes never are.
     pub fn decode_to_buf(&mut self, buf: &mut [u8]) -> Result<usize>
         // What the result is: the image at the front of the bytes ahead, whose chunks are taken
         // with the end marker; what follows is left.
@@ -362,7 +364,7 @@ impl<R: Reader> Decoder<R> {
 
         // The refusals. In memory nothing is taken, and the bytes ahead are cut or wrong; on a
         // stream those that were taken are. Whole bytes in memory are accepted, and of an image
-        // that stands ahead only a fault of the reader keeps a success, where the buffer is long
+        // that stands ahead only a fault of the reader keeps a success, if the buffer is long
         // enough.
         ensures short { length buf.old < output_byte_count self.old
             → IsErrOf result
@@ -378,7 +380,7 @@ impl<R: Reader> Decoder<R> {
             → R.ahead self.old.reader ≡ Some bytes → output_byte_count self.old ≤ length buf.old
             → IfErr result (IsReaderFault R.in_memory) }
 
-        // The bytes ahead, where they are known: cut ones are `UnexpectedBufferEnd`, on a stream
+        // The bytes ahead, if they are known: cut ones are `UnexpectedBufferEnd`, on a stream
         // `IoError`, and wrong ones `InvalidPadding`, on a stream that or `IoError`; and the other
         // way round. Of a decoder that was made from these bytes and has the file's own channels,
         // they begin with a file, and this is its image.
@@ -401,7 +403,7 @@ impl<R: Reader> Decoder<R> {
             → IfOk result (λ size. (rest : List ℕ) × (R.ahead self.new.reader ≡ Some rest)
             × DecodesFile source self.old.header rest (take size buf.new)) }
 
-        // The channels: three are four without each fourth byte, which is 255 where the file has
+        // The channels: three are four without each fourth byte, which is 255 if the file has
         // three.
         ensures rgb { self.old.channels ≡ Channels.Rgb → IfSome (R.ahead self.old.reader) (λ bytes.
             IfOk result (λ size. take size buf.new
@@ -411,7 +413,7 @@ impl<R: Reader> Decoder<R> {
             → slice_index (take size buf.new) (4 * i + 3) ≡ 255) }
 
         // What stays: later bytes of the buffer, the header and the channels. For an image of n
-        // pixels a call takes at most 5n + 8 bytes, also where it refuses.
+        // pixels a call takes at most 5n + 8 bytes, also if it refuses.
         ensures later { drop (output_byte_count self.old) buf.new
             ≡ drop (output_byte_count self.old) buf.old }
         ensures unchanged { self.new ≡ record self.old { reader = self.new.reader } }
@@ -433,14 +435,15 @@ impl<R: Reader> Decoder<R> {
 
     /// Decodes an image into a new vector, exactly as long as `required_buf_len`.
     ///
-    /// Refusals, in this order: `OutOfMemory` if the vector's room isn't found, and then nothing was
-    /// read and the decoder is unchanged; those of `decode_to_buf` but for `OutputBufferTooSmall`,
-    /// which leave the decoder as that does.
+    /// Refusals, in this order: `OutOfMemory` if the vector's allocation fails, and then nothing
+    /// was read and the decoder is unchanged; those of `decode_to_buf` but for
+    /// `OutputBufferTooSmall`, which leave the decoder as that does.
     ///
     /// The room is asked for as the header says, and costs address space alone until it is written.
-    /// It is written once the bytes ahead could hold so many pixels: bytes in memory that are too few,
-    /// whatever they are, are `UnexpectedBufferEnd` before that. (Each 62 pixels take a byte at least,
-    /// and the end marker has eight.) A stream can't be asked how many bytes it has.
+    /// It is written only if the bytes ahead could hold the image: bytes in memory that are too few
+    /// for its pixels, whatever they are, are `UnexpectedBufferEnd` before that. (Each 62 pixels
+    /// take a byte at least, and the end marker has eight.) A stream can't be asked how many bytes
+    /// it has.
     pub fn decode_to_vec(&mut self, alloc: Global) -> Result<Vec<u8>>
         // What the result is: the image at the front of the bytes ahead, whose chunks are taken
         // with the end marker; what follows is left.
@@ -472,7 +475,7 @@ impl<R: Reader> Decoder<R> {
             → R.ahead self.old.reader ≡ Some bytes
             → IfErr result (λ e. (e ≡ Error.OutOfMemory) ⊎ IsReaderFault R.in_memory e) }
 
-        // The bytes ahead, where they are known: cut ones are `UnexpectedBufferEnd`, on a stream
+        // The bytes ahead, if they are known: cut ones are `UnexpectedBufferEnd`, on a stream
         // `IoError`, and wrong ones `InvalidPadding`, on a stream that or `IoError`; and the other
         // way round. Of a decoder that was made from these bytes and has the file's own channels,
         // they begin with a file, and this is its image.
@@ -493,7 +496,7 @@ impl<R: Reader> Decoder<R> {
             → IfOk result (λ out. (rest : List ℕ) × (R.ahead self.new.reader ≡ Some rest)
             × DecodesFile source self.old.header rest out.items) }
 
-        // The channels: three are four without each fourth byte, which is 255 where the file has
+        // The channels: three are four without each fourth byte, which is 255 if the file has
         // three.
         ensures rgb { self.old.channels ≡ Channels.Rgb → IfSome (R.ahead self.old.reader) (λ bytes.
             IfOk result (λ out. out.items
@@ -503,7 +506,7 @@ impl<R: Reader> Decoder<R> {
             → slice_index out.items (4 * i + 3) ≡ 255) }
 
         // What stays: the header and the channels. For an image of n pixels a call takes at most 5n
-        // + 8 bytes, also where it refuses.
+        // + 8 bytes, also if it refuses.
         ensures unchanged { self.new ≡ record self.old { reader = self.new.reader } }
         ensures bounded { TakesWithin R.ahead self.old self.new }
     {

@@ -60,8 +60,8 @@ pub fn encode_max_len(width: u32, height: u32, channels: u8) -> usize
     max_file_size(width, height, channels)
 }
 
-/// Encodes raw bytes into the front of the buffer, with color space `Srgb` and in style `Reference`,
-/// and returns how many bytes the file has. `width` and `height` are in pixels.
+/// Encodes raw bytes into the front of the buffer, with color space `Srgb` and in style
+/// `Reference`, and returns how many bytes the file has. `width` and `height` are in pixels.
 ///
 /// The refusals are those of `Encoder::new` and then of its `encode_to_buf`.
 pub fn encode_to_buf(buf: &mut [u8], data: &[u8], width: u32, height: u32) -> Result<usize>
@@ -134,10 +134,10 @@ impl<'a> Encoder<'a> {
     /// number of channels is that of the bytes for each pixel, the color space is `Srgb`, and the
     /// style `Reference`.
     ///
-    /// Refusals, in this order: `InvalidImageDimensions` where width times height is 0 or above
-    /// 400,000,000; `InvalidImageLength` where the number of bytes isn't a multiple of the
-    /// number of pixels; `InvalidChannels` where it isn't 3 or 4 for each pixel, with what it is, or
-    /// 255 where it is greater.
+    /// Refusals, in this order: `InvalidImageDimensions` if width times height is 0 or above
+    /// 400,000,000; `InvalidImageLength` if the number of bytes isn't a multiple of the number of
+    /// pixels; `InvalidChannels` if it isn't 3 or 4 for each pixel, with what it is, or 255 if it
+    /// is greater.
     pub fn new(data: &'a [u8], width: u32, height: u32) -> Result<Encoder<'a>>
         ensures accepted { IfOk result (λ e.
             (image_header «data».entry.now width height ≡ Ok e.header)
@@ -173,10 +173,10 @@ impl<'a> Encoder<'a> {
         self
     }
 
-    /// The same encoder with another style: other chunks may be written. In style `Places` the file is
-    /// as long as in `Reference`. In style `Tight` no other chunks of the image make a shorter file,
-    /// and the Rust crate may read it otherwise: choose `Tight` where the readers are known to follow
-    /// QOI 1.0.
+    /// The same encoder with another style: other chunks may be written. In style `Places` the file
+    /// is as long as in `Reference`. In style `Tight` no other chunks of the image make a shorter
+    /// file, and the Rust crate may read it otherwise: choose `Tight` if the readers are known to
+    /// follow QOI 1.0.
     pub fn with_style(mut self, style: Style) -> Encoder<'a>
         ensures { result ≡ record self.entry { style = style } }
     {
@@ -215,8 +215,8 @@ impl<'a> Encoder<'a> {
     /// Encodes the image into the front of the buffer, and returns how many bytes the file has;
     /// later bytes stay as they are.
     ///
-    /// `OutputBufferTooSmall` exactly where the buffer is shorter than `required_buf_len`, even
-    /// where the file would fit; then the buffer is untouched.
+    /// `OutputBufferTooSmall` exactly if the buffer is shorter than `required_buf_len`, even if the
+    /// file would fit; then the buffer is untouched.
     #[tactic(auto, using(crate::proofs::encoding::BufferFilled::buffer_filled))]
     pub fn encode_to_buf(&self, buf: &mut [u8]) -> Result<usize>
         ensures short { length buf.old < max_file_len self.now.header
@@ -261,7 +261,7 @@ impl<'a> Encoder<'a> {
 
     /// Encodes the image into a new vector, which has exactly the file.
     ///
-    /// `OutOfMemory` where the memory for `required_buf_len` bytes isn't found.
+    /// `OutOfMemory` if the allocation of `required_buf_len` bytes fails.
     pub fn encode_to_vec(&self, alloc: Global) -> Result<Vec<u8>>
         ensures encoded { IfOk result (λ v.
             IsFileOf self.now.style self.now.header self.now.raw v.items) }
@@ -291,9 +291,9 @@ impl<'a> Encoder<'a> {
     /// Encodes the image to a writer, and returns how many bytes the file has; then all of it went
     /// out. The writer isn't flushed.
     ///
-    /// `IoError` where the writer reports a fault, an interruption among them, or takes no byte
-    /// (kind `WriteZero`); then a beginning of the file went out. The file is written in pieces of
-    /// 4096 bytes and a last one of the rest.
+    /// `IoError` if the writer reports a fault, an interruption among them, or takes no byte (kind
+    /// `WriteZero`); then a beginning of the file went out. The file is written in pieces of 4096
+    /// bytes and a last one of the rest.
     pub fn encode_to_stream<W: Write>(&self, writer: &mut W) -> Result<usize>
         ensures sent { IfOk result (λ n. (bytes : List ℕ)
             × IsFileOf self.now.style self.now.header self.now.raw bytes × (n ≡ length bytes)

@@ -9,13 +9,13 @@ use crate::steps::{added, kept, nibbles, second};
 use std::marker::Model;
 use std::simd::{Simd, u8x4, u8x16, u16x4, u64x2};
 
-// 3 * 2^58 + 5 * 2^42 + 7 * 2^26 + 11 * 2^10: the six highest bits of its product with a pixel in lanes of
-// 16 bits are the six lowest ones of 3 r + 5 g + 7 b + 11 a.
+// 3 * 2^58 + 5 * 2^42 + 7 * 2^26 + 11 * 2^10: the six highest bits of its product with a pixel in
+// lanes of 16 bits are the six lowest ones of 3 r + 5 g + 7 b + 11 a.
 const HASH_FACTOR: u64 = 0x0c00_1400_1c00_2c00;
 
-/// A pixel and its index position in 64 bits: red, green, blue and alpha from bits 0, 16, 32 and 48 on,
-/// and the position in the six highest bits. Above red, green and blue stand eight bits each that count
-/// for nothing, so that sums of channels need not be cut.
+/// A pixel and its index position in 64 bits: red, green, blue and alpha from bits 0, 16, 32 and 48
+/// on, and the position in the six highest bits. Above red, green and blue stand eight bits each
+/// that count for nothing, so that sums of channels need not be cut.
 ///
 /// A contract sees the number, whose pixel is `pixel_of_lanes`.
 #[derive(Clone, Copy)]
@@ -78,9 +78,9 @@ impl Hashed {
         Hashed::of_lanes(r + (g << 16) + (b << 32) + (a << 48))
     }
 
-    /// The pixel of an index position, a difference, a luma or a run, by its first byte, the one after
-    /// it, which only a luma has, and what the index position holds, or 0 for another chunk (QOI
-    /// specification 1.0, "Chunks"). All of them are one sum, without a jump.
+    /// The pixel of an index position, a difference, a luma or a run, by its first byte, the one
+    /// after it, which only a luma has, and what the index position holds, or 0 for another chunk
+    /// (QOI specification 1.0, "Chunks"). All of them are one sum, without a jump.
     #[inline(always)]
     pub(crate) fn after_short(self, held: Hashed, b1: usize, b2: u8) -> Hashed
         requires byte { b1 < 256 }
@@ -101,8 +101,8 @@ impl Hashed {
         )
     }
 
-    /// The pixel of an RGB or RGBA chunk, of which these are the bytes; after an RGB chunk alpha stays
-    /// (QOI specification 1.0, "QOI_OP_RGB" and "QOI_OP_RGBA").
+    /// The pixel of an RGB or RGBA chunk, of which these are the bytes; after an RGB chunk alpha
+    /// stays (QOI specification 1.0, "QOI_OP_RGB" and "QOI_OP_RGBA").
     #[inline(always)]
     pub(crate) fn after_full(self, bytes: &[u8]) -> Hashed
         requires { 5 ≤ length bytes.now }
@@ -121,8 +121,8 @@ impl Hashed {
         Hashed::of_lanes(four)
     }
 
-    /// The first sixteen bytes of the pixel when it is written again and again in `N` channels, of a
-    /// file of `F` channels.
+    /// The first sixteen bytes of the pixel when it is written again and again in `N` channels, of
+    /// a file of `F` channels.
     #[inline(always)]
     pub(crate) fn block<const N: usize, const F: usize>(self) -> u8x16
         requires { IsChannels N }

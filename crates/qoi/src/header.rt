@@ -44,8 +44,8 @@ impl Header {
     ghost use Rattle.qoi.specs.Raw.{capped_byte_count};
     ghost use Rattle.qoi.specs.Encoded.{max_file_len};
 
-    /// A header of these fields; `InvalidImageDimensions` where width times height is 0 or
-    /// above 400,000,000.
+    /// A header of these fields; `InvalidImageDimensions` if width times height is 0 or above
+    /// 400,000,000.
     pub fn try_new(
         width: u32,
         height: u32,

@@ -1,15 +1,15 @@
 //! An encoder and a decoder of the QOI image format, proved (QOI specification 1.0).
 //!
-//! Raw bytes are the pixels row by row, three or four bytes a pixel: red, green, blue and, where there
+//! Raw bytes are the pixels row by row, three or four bytes a pixel: red, green, blue and, if there
 //! are four, alpha.
 //!
-//! - [`encode_to_vec`] and [`decode_to_vec`] go from raw bytes to a file and back; [`encode_to_buf`]
-//!   and [`decode_to_buf`] do so in buffers and take no memory.
+//! - [`encode_to_vec`] and [`decode_to_vec`] go from raw bytes to a file and back;
+//!   [`encode_to_buf`] and [`decode_to_buf`] do so in buffers and take no memory.
 //! - [`Encoder`] also takes a color space and writes to a `std::io::Write`.
 //! - [`Decoder`] also chooses the channels of its output, reads from a `std::io::Read`, and tells
 //!   what follows a file.
-//! - [`decode_header`] looks at the first fourteen bytes alone; [`encode_max_len`] is the most bytes
-//!   that an encoded image can have.
+//! - [`decode_header`] looks at the first fourteen bytes alone; [`encode_max_len`] is the most
+//!   bytes that an encoded image can have.
 //!
 //! ```
 //! let file = encode_to_vec(alloc, &pixels, width, height)?;

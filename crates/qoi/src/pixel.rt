@@ -1,5 +1,5 @@
-//! A pixel of three or four channels, for those who look at chunks themselves, through `parts`. Encoder
-//! and decoders keep their pixels as numbers (`packed`).
+//! A pixel of three or four channels, for those who look at chunks themselves, through `parts`.
+//! Encoder and decoders keep their pixels as numbers (`packed`).
 ghost use Rattle.std.specs.Prelude.{◌≡◌, ◌+◌, ◌<◌, ◌≤◌, OnOk, IfErr, ℕ, List, [], ◌∷◌, ◌++◌, length, take, drop, replicate, slice_index, slice_index_or};
 ghost use Rattle.qoi.specs.declared.chunk.Chunk.{Chunk};
 ghost use Rattle.qoi.specs.Written.{Spells};
@@ -16,7 +16,7 @@ use std::marker::Model;
 
 /// A pixel of `N` channels of 8 bits, 3 or 4.
 ///
-/// A contract sees it as the list of its bytes: red, green, blue and, where `N` is 4, alpha.
+/// A contract sees it as the list of its bytes: red, green, blue and, if `N` is 4, alpha.
 #[derive(Clone, Copy, PartialEq, Eq, Debug)]
 pub struct Pixel<const N: usize>([u8; N]);
 
@@ -40,7 +40,7 @@ impl SupportedChannels for Pixel<4> {}
 impl<const N: usize> From<Pixel<N>> for [u8; N] {
     ghost from_gives = { λ px bytes. bytes ≡ px };
 
-    /// The bytes of the pixel: red, green, blue and, where `N` is 4, alpha.
+    /// The bytes of the pixel: red, green, blue and, if `N` is 4, alpha.
     fn from(px: Pixel<N>) -> [u8; N] {
         px.0
     }
@@ -143,7 +143,7 @@ impl<const N: usize> Pixel<N> {
         self.0[2] = self.0[2].wrapping_add(b);
     }
 
-    /// The pixel in four channels, with alpha `with_a` where it has three.
+    /// The pixel in four channels, with alpha `with_a` if it has three.
     #[inline]
     pub fn as_rgba(self, with_a: u8) -> Pixel<4>
         requires { IsChannels N }
@@ -180,7 +180,7 @@ impl<const N: usize> Pixel<N> {
         self.0[2]
     }
 
-    /// Alpha, or `value` where there are three channels.
+    /// Alpha, or `value` if there are three channels.
     #[inline]
     pub fn a_or(self, value: u8) -> u8
         requires { IsChannels N }
@@ -190,7 +190,7 @@ impl<const N: usize> Pixel<N> {
         if N == 4 { self.0[3] } else { value }
     }
 
-    /// The pixel with this alpha, or the pixel as it is where there are three channels.
+    /// The pixel with this alpha, or the pixel as it is if there are three channels.
     #[inline]
     #[tactic(auto, using(crate::proofs::format::SetLast::set_last))]
     pub fn with_a(mut self, value: u8) -> Pixel<N>
@@ -203,7 +203,7 @@ impl<const N: usize> Pixel<N> {
         self
     }
 
-    /// The index position of the pixel, 0 to 63, with alpha 255 where it has three channels (QOI
+    /// The index position of the pixel, 0 to 63, with alpha 255 if it has three channels (QOI
     /// specification 1.0, "Chunks").
     #[inline]
     pub fn hash_index(self) -> u8
@@ -241,7 +241,7 @@ impl<const N: usize> Pixel<N> {
         buf.write_many(&bytes[..end])
     }
 
-    // The same pixel as one number, opaque where it has three channels.
+    // The same pixel as one number, opaque if it has three channels.
     #[inline(always)]
     pub(crate) fn packed(self) -> Packed
         requires { IsChannels N }

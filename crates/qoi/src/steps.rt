@@ -11,8 +11,8 @@ static STEPS: [u64; 1024] = [
     // position (58 to 63). An index position adds nothing.
     0, 0, 0, 0, 0, 0, 0, 0, 0, 0, 0, 0, 0, 0, 0, 0, 0, 0, 0, 0, 0, 0, 0, 0, 0, 0, 0, 0, 0, 0, 0, 0,
     0, 0, 0, 0, 0, 0, 0, 0, 0, 0, 0, 0, 0, 0, 0, 0, 0, 0, 0, 0, 0, 0, 0, 0, 0, 0, 0, 0, 0, 0, 0, 0,
-    // A difference: for its bits 5-4, 3-2 and 1-0, as numbers r, g and b from 0 to 3, r + 254, g + 254 and
-    // b + 254; and 3 (r + 254) + 5 (g + 254) + 7 (b + 254) modulo 64.
+    // A difference: for its bits 5-4, 3-2 and 1-0, as numbers r, g and b from 0 to 3, r + 254, g +
+    // 254 and b + 254; and 3 (r + 254) + 5 (g + 254) + 7 (b + 254) modulo 64.
     0x8800_00fe_00fe_00fe, 0xa400_00ff_00fe_00fe, 0xc000_0100_00fe_00fe, 0xdc00_0101_00fe_00fe,
     0x9c00_00fe_00ff_00fe, 0xb800_00ff_00ff_00fe, 0xd400_0100_00ff_00fe, 0xf000_0101_00ff_00fe,
     0xb000_00fe_0100_00fe, 0xcc00_00ff_0100_00fe, 0xe800_0100_0100_00fe, 0x0400_0101_0100_00fe,
@@ -53,8 +53,8 @@ static STEPS: [u64; 1024] = [
     // What it keeps of the last pixel: an index position nothing.
     0, 0, 0, 0, 0, 0, 0, 0, 0, 0, 0, 0, 0, 0, 0, 0, 0, 0, 0, 0, 0, 0, 0, 0, 0, 0, 0, 0, 0, 0, 0, 0,
     0, 0, 0, 0, 0, 0, 0, 0, 0, 0, 0, 0, 0, 0, 0, 0, 0, 0, 0, 0, 0, 0, 0, 0, 0, 0, 0, 0, 0, 0, 0, 0,
-    // Any other byte the channels and the index position, without what stands above red, green and blue
-    // in their lanes.
+    // Any other byte the channels and the index position, without what stands above red, green and
+    // blue in their lanes.
     0xffff_00ff_00ff_00ff, 0xffff_00ff_00ff_00ff, 0xffff_00ff_00ff_00ff, 0xffff_00ff_00ff_00ff,
     0xffff_00ff_00ff_00ff, 0xffff_00ff_00ff_00ff, 0xffff_00ff_00ff_00ff, 0xffff_00ff_00ff_00ff,
     0xffff_00ff_00ff_00ff, 0xffff_00ff_00ff_00ff, 0xffff_00ff_00ff_00ff, 0xffff_00ff_00ff_00ff,
@@ -114,8 +114,8 @@ static STEPS: [u64; 1024] = [
     255, 255, 255, 255, 255, 255, 255, 255, 255, 255, 255, 255, 255, 255, 255, 255,
     0, 0, 0, 0, 0, 0, 0, 0, 0, 0, 0, 0, 0, 0, 0, 0, 0, 0, 0, 0, 0, 0, 0, 0, 0, 0, 0, 0, 0, 0, 0, 0,
     0, 0, 0, 0, 0, 0, 0, 0, 0, 0, 0, 0, 0, 0, 0, 0, 0, 0, 0, 0, 0, 0, 0, 0, 0, 0, 0, 0, 0, 0, 0, 0,
-    // What that byte adds: for its high and its low four bits, as numbers r and b, r to red, b to blue, and
-    // 3 r + 7 b modulo 64 to the index position.
+    // What that byte adds: for its high and its low four bits, as numbers r and b, r to red, b to
+    // blue, and 3 r + 7 b modulo 64 to the index position.
     0, 0x1c00_0001_0000_0000, 0x3800_0002_0000_0000, 0x5400_0003_0000_0000,
     0x7000_0004_0000_0000, 0x8c00_0005_0000_0000, 0xa800_0006_0000_0000, 0xc400_0007_0000_0000,
     0xe000_0008_0000_0000, 0xfc00_0009_0000_0000, 0x1800_000a_0000_0000, 0x3400_000b_0000_0000,
@@ -182,8 +182,8 @@ static STEPS: [u64; 1024] = [
     0x0400_000c_0000_000f, 0x2000_000d_0000_000f, 0x3c00_000e_0000_000f, 0x5800_000f_0000_000f,
 ];
 
-// How many bytes the pixels of a chunk have in three channels, by its first byte: 3 of one pixel, and of
-// a run of 1 to 62 so many times 3.
+// How many bytes the pixels of a chunk have in three channels, by its first byte: 3 of one pixel,
+// and 3 for each pixel of a run.
 #[rattlefmt::skip]
 static ADVANCE3: [u64; 256] = [
     3, 3, 3, 3, 3, 3, 3, 3, 3, 3, 3, 3, 3, 3, 3, 3,
@@ -204,8 +204,8 @@ static ADVANCE3: [u64; 256] = [
     147, 150, 153, 156, 159, 162, 165, 168, 171, 174, 177, 180, 183, 186, 3, 3,
 ];
 
-// How many bytes the pixels of a chunk have in four channels, by its first byte: 4 of one pixel, and of
-// a run of 1 to 62 so many times 4.
+// How many bytes the pixels of a chunk have in four channels, by its first byte: 4 of one pixel,
+// and 4 for each pixel of a run.
 #[rattlefmt::skip]
 static ADVANCE4: [u64; 256] = [
     4, 4, 4, 4, 4, 4, 4, 4, 4, 4, 4, 4, 4, 4, 4, 4,

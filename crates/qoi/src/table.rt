@@ -1,5 +1,5 @@
-//! The 64 index positions and the pixels that they hold (QOI specification 1.0, "Chunks": the running
-//! array of previously seen pixels).
+//! The 64 index positions and the pixels that they hold (QOI specification 1.0, "Chunks": the
+//! running array of previously seen pixels).
 ghost use Rattle.std.specs.Prelude.{◌≡◌, ◌<◌, ◌≤◌, [], ◌∷◌, IfSome, IsTrue, IsFalse};
 ghost use Rattle.qoi.specs.Qoi.{Past, positions, hash, seen};
 ghost use Rattle.qoi.specs.inner.Hashed.{pixel_of_lanes, HoldsSeen};
@@ -84,8 +84,8 @@ impl Table {
     }
 }
 
-/// The pixels that the 64 index positions hold, as the decoders keep them: by a chunk's first byte, with
-/// 0 for each that isn't an index position.
+/// The pixels that the 64 index positions hold, as the decoders keep them: by a chunk's first byte,
+/// with 0 for each that isn't an index position.
 ///
 /// A contract sees the list of the numbers.
 #[derive(Drop)]

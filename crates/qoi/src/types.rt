@@ -162,13 +162,17 @@ pub enum Style {
     /// empty position holds transparent black. The Rust crate with its feature `reference` writes
     /// so.
     Reference,
-    /// As `Reference`, but a run of 1 is replaced by the index position of its pixel, where a pixel that is no
-    /// repeat stands somewhere before it and another follows directly, and where the chunk before it
-    /// isn't that position. The file is as long.
+    /// As `Reference`, but a run of 1 is replaced by the index position of its pixel, if
+    ///
+    /// - a pixel that is no repeat stands somewhere before it,
+    /// - another follows directly, and
+    /// - the chunk before it isn't that position.
+    ///
+    /// The file is as long.
     Places,
     /// As `Reference`, but opaque black that opens the image is put at its index position, too, and
-    /// transparent black that isn't at its position is given by the least position where no pixel was
-    /// put, if there is one. No other chunks of the image have fewer bytes.
+    /// transparent black that isn't at its position is given by the least position where no pixel
+    /// was put, if there is one. No other chunks of the image have fewer bytes.
     ///
     /// It is for readers that are known to follow QOI 1.0. The decoder of the Rust crate reads some
     /// such files otherwise, of four channels or into four, since it doesn't put the pixels of runs

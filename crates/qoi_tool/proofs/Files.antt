@@ -1,4 +1,4 @@
--- Files one behind the other, taken from the front.
+-- Files one after the other, taken from the front.
 use Rattle.std.proofs.Common.{◌≡◌, ◌+◌, ◌-◌, ◌<◌, ℕ, List, [], ◌∷◌, ◌++◌, length, take, drop, map, arith, ap, sym, ◌∙◌, refl, subst}
 use Rattle.std.proofs.lemmas.List.{map-append, append_assoc, length-append, take_rest}
 use Rattle.std.proofs.lemmas.List.Prefix.{end_rest}

@@ -40,8 +40,8 @@ Refuses (DecodeInto channels) input e = RefusesFile input e
 Refuses (Encode width height space style) input e = image_header input width height ≡ Err e
 Refuses Info input e = header_of input ≡ Err e
 
--- how a command stops that the library doesn't refuse: by an i/o error or for want of memory; `info`, which asks for no
--- memory, by an i/o error after fewer bytes than a header has
+-- how a command stops that the library doesn't refuse: by an i/o error or for want of memory;
+-- `info`, which asks for no memory, by an i/o error after fewer bytes than a header has
 abbrev pub StopsEarly : Command → Option (List ℕ) → Option (List ℕ) → Error → Type 0
 StopsEarly Decode old new e = IsIoOrMemory e
 StopsEarly (DecodeInto channels) old new e = IsIoOrMemory e
@@ -57,16 +57,17 @@ Does command in_old in_new out_old out_new =
 abbrev pub Finishes : List (List ℕ) → Option (List ℕ) → Option (List ℕ) → Option (List ℕ) → Option (List ℕ) → Type 0
 Finishes words in_old in_new out_old out_new = (command : Command) × Asks words command × Does command in_old in_new out_old out_new
 
--- The input was taken and the library refused it, and nothing was written; or an i/o error or want of memory came, and
--- nothing was written; or writing stopped by an i/o error, and a beginning of the answer was written.
+-- The input was taken and the library refused it, and nothing was written; or an i/o error or want
+-- of memory came, and nothing was written; or writing stopped by an i/o error, and a beginning of
+-- the answer was written.
 abbrev pub Stops : Command → Option (List ℕ) → Option (List ℕ) → Option (List ℕ) → Option (List ℕ) → Error → Type 0
 Stops command in_old in_new out_old out_new e =
     ((input : List ℕ) × Takes command in_old in_new input × Refuses command input e × Keeps out_old out_new)
     ⊎ ((StopsEarly command in_old in_new e × Keeps out_old out_new)
     ⊎ (IsIoError e × ((input : List ℕ) × (out : List ℕ) × Takes command in_old in_new input × Writes command input out × AppendsBeginning out_old out_new out)))
 
--- Why the words weren't answered: they ask for no command, and nothing was read or written; or the command that they
--- ask for stopped.
+-- Why the words weren't answered: they ask for no command, and nothing was read or written; or the
+-- command that they ask for stopped.
 abbrev pub StopsAt : List (List ℕ) → Option (List ℕ) → Option (List ℕ) → Option (List ℕ) → Option (List ℕ) → Fault → Type 0
 StopsAt words in_old in_new out_old out_new Usage = IsUsage words × Keeps in_old in_new × Keeps out_old out_new
 StopsAt words in_old in_new out_old out_new (Image e) = (command : Command) × Asks words command × Stops command in_old in_new out_old out_new e

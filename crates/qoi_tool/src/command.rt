@@ -67,7 +67,7 @@ fn options_of(options: &[String]) -> Option<(ColorSpace, Style)>
     }
 }
 
-// The style of the options behind the color space.
+// The style of the options after the color space.
 fn style_of(options: &[String]) -> Option<Style>
     ensures { MatchOption result
         ((style : Style) → map string_bytes options.now ≢ style_words style)

@@ -52,8 +52,8 @@ fn line_of(error: &Error) -> io::Result<Line>
     Ok(line)
 }
 
-/// Writes the line of a fault; after a refusal a beginning of it was written. Where the fault is an i/o
-/// error, nothing is promised of its own words.
+/// Writes the line of a fault; after a refusal a beginning of it was written. If the fault is an
+/// i/o error, nothing is promised of its own words.
 pub fn write_fault<W: Write>(output: &mut W, fault: &Fault) -> Result<(), Error>
     ensures written { OnOk result (IfSome (fault_line fault.now)
         (Appends (W.contents output.old) (W.contents output.new))) }

@@ -1,5 +1,5 @@
-//! Decodes QOI files into raw bytes, encodes raw bytes into QOI files, and tells what the header of a
-//! file says: from standard input to standard output.
+//! Decodes QOI files into raw bytes, encodes raw bytes into QOI files, and tells what the header of
+//! a file says: from standard input to standard output.
 #![tactic(auto)]
 
 mod command;
@@ -51,10 +51,10 @@ impl From<Error> for Fault {
 
 /// Does what the words ask for, from the input to the output; `words` has no program name.
 ///
-/// Refusals come in this order: `Usage` where the words aren't those of a command; a fault of the
-/// input, or want of memory for it; a refusal of the library, or want of memory for the image; a fault
-/// of the output. Nothing is written before the input was taken and accepted; after a fault of the
-/// output a beginning of the answer was.
+/// Refusals come in this order: `Usage` if the words aren't those of a command; a fault of the
+/// input, or want of memory for it; a refusal of the library, or want of memory for the image; a
+/// fault of the output. Nothing is written before the input was taken and accepted; after a fault
+/// of the output a beginning of the answer was.
 pub fn run<R: Read, W: Write>(
     alloc: Global,
     words: &[String],
@@ -159,8 +159,8 @@ fn info<R: Read, W: Write>(input: &mut R, output: &mut W) -> Result<(), Error>
 }
 
 /// Writes the line of a fault, and returns the status of the program: 1 for `Image`, 2 for `Usage`.
-/// What its writes return is ignored; so where they fail, a beginning of the line was written. Nothing is
-/// promised of an i/o error's own words.
+/// What its writes return is ignored; so if they fail, a beginning of the line was written. Nothing
+/// is promised of an i/o error's own words.
 pub fn report<W: Write>(fault: &Fault, err: &mut W) -> u8
     ensures status { result ≡ status_of fault.now }
     ensures line { IfSome (fault_line fault.now)

@@ -1,5 +1,5 @@
-//! The program over readers and writers in memory, with faults and with no memory; and the library as the
-//! program sees it.
+//! The program over readers and writers in memory, with faults and with no memory; and the library
+//! as the program sees it.
 
 mod fakes;
 mod large;
@@ -211,8 +211,8 @@ fn beginnings(rt: HostRuntime) {
     }
 }
 
-// Tests that the answer is a fault of this kind, and that its report is a line with status 1. The call
-// is named where one of the two isn't so.
+// Tests that the answer is a fault of this kind, and that its report is a line with status 1. The
+// call is named if one of the two isn't so.
 fn assert_io(
     rt: &impl Abort,
     alloc: Global,
@@ -334,7 +334,8 @@ fn failing_writer(rt: HostRuntime) {
     }
 }
 
-// Runs the program while all memory is taken, and compares its status, what it writes, and its line.
+// Runs the program while all memory is taken, and compares its status, what it writes, and its
+// line.
 fn assert_starved(
     rt: &impl Abort,
     alloc: Global,

@@ -13,7 +13,8 @@ use std::io::{ErrorKind, Read, Write};
 // The least that the vector of an input grows by.
 const LEAST: usize = 65_536;
 
-// The most that it grows by at a time, since all of that is filled with zeros before it is read into.
+// The most that it grows by at a time, since all of that is filled with zeros before it is read
+// into.
 const MOST: usize = 1_048_576;
 
 /// All the bytes that the reader gives until a read gives none. Unlike the standard library's, it
@@ -60,7 +61,7 @@ pub fn read_exact<R: Read>(input: &mut R, buf: &mut [u8]) -> Result<(), Error>
     Ok(())
 }
 
-// Reads once into the buffer behind the bytes that are filled, and returns how many bytes came.
+// Reads once into the buffer after the bytes that are filled, and returns how many bytes came.
 fn read_after<R: Read>(input: &mut R, buf: &mut [u8], filled: usize) -> io::Result<usize>
     requires { filled ≤ length buf.old }
     ensures read { IfOk result (λ n. (filled + n ≤ length buf.new)

@@ -1,4 +1,5 @@
--- The image that stands ahead of a decoder: a file brings it there, it is decoded, and it isn't refused.
+-- The image that stands ahead of a decoder: a file brings it there, it is decoded, and it isn't
+-- refused.
 use Rattle.std.proofs.Common.{◌≡◌, ◌+◌, ◌*◌, ◌<◌, arith, slice_index, ℕ, List, ◌++◌, drop, take, Bool, true, false, Option, Some, None, Ok, refl, ap, sym, ◌∙◌, subst}
 use Rattle.std.proofs.lemmas.List.{length-take-le}
 use Rattle.std.specs.Io.KnownBytes.{Consumes}
@@ -20,7 +21,7 @@ use Rattle.qoi.proofs.decoding.Refusals.{whole_not_refused_in}
 use Rattle.qoi.proofs.format.HeaderBytes.{header_split}
 use Rattle.qoi.proofs.format.OneVerdict.{whole_not_cut, whole_not_wrong}
 
--- behind the header of a file stands its image, and then what follows the file
+-- after the header of a file stands its image, and then what follows the file
 image_of_file : (channels : Channels) (k : Header) (bytes : List ℕ) (h : Header) (rest raw : List ℕ)
     → header_of bytes ≡ Ok k → channels ≡ k.channels → DecodesFile bytes h rest raw → IsImage channels (drop header_size bytes) k rest raw
 image_of_file channels k bytes h rest raw read own f =
@@ -42,7 +43,7 @@ header_read : (bytes : List ℕ) (left : Option (List ℕ)) (h : Header) → Tak
 header_read bytes None h r = absurd r.1
 header_read bytes (Some rest) h r = let split = header_split bytes r.0 rest h r.1 r.2 r.3 in (split.0, ap Some split.1)
 
--- the same where that the bytes are known is an equation
+-- the same, if an equation says that the bytes are known
 pub header_read_from : (old left : Option (List ℕ)) (bytes : List ℕ) (h : Header) → TakesHeader old left h → old ≡ Some bytes
     → (header_of bytes ≡ Ok h) × (left ≡ Some (drop header_size bytes))
 header_read_from old left bytes h r told = header_read bytes left h (subst (λ z. TakesHeader z left h) told r)
@@ -56,7 +57,7 @@ header_front old (Some rest) bytes h r told =
     let after = (header_split bytes r.0 rest h split r.2 r.3).1 in
     (split ∙ ap (λ z. z ++ rest) r.4 ∙ ap (λ z. header_bytes h ++ z) after, r.5)
 
--- behind the header of a file stands its image, for the decoder of that header
+-- after the header of a file stands its image, for the decoder of that header
 pub image_ahead : {R : Type 0} (d : DecoderState R) (bytes : List ℕ) (h : Header) (rest raw : List ℕ) → header_of bytes ≡ Ok d.header
     → d.channels ≡ d.header.channels → DecodesFile bytes h rest raw → (d.header ≡ h) × IsImageFor d (drop header_size bytes) rest raw
 unfolding IsImageFor
@@ -83,7 +84,7 @@ image_read channels h bytes left out r =
       record { cs = w.0; whole = w.2; out_is = w.4 },
     )
 
--- so it is where the channels and the pixels are given by numbers
+-- so it is if the channels and the pixels are given by numbers
 pub image_read_of : {R : Type 0} (ahead : R → Option (List ℕ)) (s d : DecoderState R) (left : Option (List ℕ)) (f c n : ℕ) (out bytes : List ℕ)
     → s ≡ d → c ≡ channels_number s.channels → f ≡ channels_number s.header.channels → n ≡ pixel_count d.header
     → ReadsImage f c n (ahead s.reader) left out → ahead d.reader ≡ Some bytes
@@ -129,7 +130,7 @@ pub image_not_wrong : (channels : Channels) (h : Header) (bytes rest out : List 
 image_not_wrong channels h bytes rest out image (more, (cs, eight, wrong)) =
     whole_not_wrong (pixel_count h) bytes image.cs cs rest eight more image.whole wrong
 
--- each fourth byte of an image in four channels is 255, where the file has three
+-- each fourth byte of an image in four channels is 255, if the file has three
 pub fourth_of_image : (f c n : ℕ) (old new : Option (List ℕ)) (out : List ℕ) → ReadsImage f c n old new out → f ≡ 3 → c ≡ 4
     → (i : ℕ) → i < n → slice_index out (4 * i + 3) ≡ 255
 fourth_of_image f c n old new out r three four i below =

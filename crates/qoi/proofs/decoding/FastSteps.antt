@@ -48,7 +48,7 @@ pub one_in_block : (c : ℕ) → IsChannels c → (c ≡ c * 1) × (1 ≤ 16 / c
 one_in_block c (inl is) = (omega arith, subst (λ d. 1 ≤ 16 / d) (sym is) (omega arith))
 one_in_block c (inr is) = (omega arith, subst (λ d. 1 ≤ 16 / d) (sym is) (omega arith))
 
--- a block's pixels have room where the block has, and end where a pixel does
+-- a block's pixels have room if the block has, and end where a pixel does
 pub record After (c at count len : ℕ) : Type 0 where
   pub fits : at + c * count ≤ len
   pub whole : (at + c * count) % c ≡ 0

@@ -46,7 +46,7 @@ take-output f c (suc n) (p ∷ ps) is h =
 pub take_whole : {A : Type 0} (n : ℕ) (xs : List A) → length xs ≡ n → take n xs ≡ xs
 take_whole n xs e = rw (← e) (take-length xs)
 
--- where there is room, the offset is after the pixels so far
+-- if there is room, the offset is after the pixels so far
 pub record Counts (c n l k at len : ℕ) : Type 0 where
   pub below : l < n
   pub now : at ≡ c * l
@@ -57,7 +57,7 @@ pub counts : (c n l k at len : ℕ) → IsChannels c → len ≡ c * n → at �
 counts c n l k at len is = by_channels (λ m. len ≡ m * n → at ≡ m * min n l → at < len → at + m * k ≤ len → Counts m n l k at len) is (λ p q h r. record { below = omega arith; now = omega arith; next = omega arith })
     (λ p q h r. record { below = omega arith; now = omega arith; next = omega arith })
 
--- where there is none, the pixels so far are enough
+-- if there is none, the pixels so far are enough
 full_counts : (c n l at len : ℕ) → IsChannels c → len ≡ c * n → at ≡ c * min n l → len ≤ at → (n ≤ l) × (at ≡ len)
 full_counts c n l at len is = by_channels (λ k. len ≡ k * n → at ≡ k * min n l → len ≤ at → (n ≤ l) × (at ≡ len)) is (λ p q h. (omega arith, omega arith))
     (λ p q h. (omega arith, omega arith))
@@ -86,7 +86,7 @@ filled_list f c n out new at past ps is inside fits size e h =
           ∙ take_whole end (so_far ++ bytes) all);
     }
 
--- where the buffer is full, further pixels change nothing
+-- if the buffer is full, further pixels change nothing
 filled_full : (f c n : ℕ) (out : List ℕ) (at : ℕ) (past more : Past) → IsChannels c → HasFilled f c n (upto out at) past → length out ≤ at
     → HasFilled f c n (upto out at) (more ++ past)
 filled_full f c n out at past more is h full =
@@ -119,7 +119,7 @@ pub run_fits : (c at count len : ℕ) → IsChannels c → count ≤ 62 → at +
 run_fits c at count len is = by_channels (λ d. count ≤ 62 → at + 256 ≤ len → at + d * count ≤ len) is (λ p q. omega arith)
     (λ p q. omega arith)
 
--- the copies that a block holds fit where it does
+-- the copies that a block holds fit if it does
 pub block_fits : (c at count len : ℕ) → IsChannels c → count ≤ 16 / c → at + 16 ≤ len → at + c * count ≤ len
 block_fits c at count len is = by_channels (λ d. count ≤ 16 / d → at + 16 ≤ len → at + d * count ≤ len) is (λ p q. omega arith)
     (λ p q. omega arith)
@@ -145,7 +145,7 @@ filled_end f c n out at all count p past is le (inr full) h =
     subst (λ z. HasFilled f c n (upto out at) z) (repeats_after (count - all) all p past ∙ ap (λ k. replicate k p ++ past) sum)
     (filled_full f c n out at (replicate all p ++ past) (replicate (count - all) p) is h full)
 
--- where the buffer is full it has the bytes of the first n pixels
+-- if the buffer is full it has the bytes of the first n pixels
 pub filled_all : (f c n : ℕ) (b : Buffer) (past : Past) → IsChannels c → HasFilled f c n b past → length b.out ≤ b.at
     → (n ≤ length past) × (b.out ≡ output f c (take n (reverse past)))
 filled_all f c n b past is h full =

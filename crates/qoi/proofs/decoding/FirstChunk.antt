@@ -30,7 +30,7 @@ front_5 : (bytes : List ℕ) → 5 ≤ length bytes → take 5 bytes
 front_5 (a ∷ b ∷ c ∷ d ∷ e ∷ bytes) l = refl
 front_5 _ l = absurd (omega arith)
 
--- a pixel was put at its index position, and written so many times
+-- a pixel was put at its index position, and written `count` times
 pub record PutsCopies (f c : ℕ) (p : RgbaPixel) (count : ℕ) (old new : Filling) : Type 0 where
   pub last_is : pixel_of_lanes new.last ≡ p
   pub table : (past : Past) → HoldsSeen old.table past → HoldsSeen new.table (p ∷ past)

@@ -112,7 +112,7 @@ unfolding file_rest
 file_rest_is bytes h rest out d =
     rest_is h.channels h (drop header_size bytes) rest out (own_image bytes h rest out d) ∙ ap (λ r. rest_by r (drop header_size bytes)) (sym d.header)
 
--- behind a header that was read stand the image and the rest of the file
+-- after a header that was read stand the image and the rest of the file
 pub image_behind : (channels : Channels) (h : Header) (bytes : List ℕ) → header_of bytes ≡ Ok h → channels ≡ h.channels
     → (front_image channels h (drop header_size bytes) ≡ file_image bytes) × (front_rest h (drop header_size bytes) ≡ file_rest bytes)
 unfolding file_image file_rest
@@ -122,7 +122,7 @@ image_behind channels h bytes read own =
       ap (λ r. rest_by r after) (sym read),
     )
 
--- so they are where a stream's header was read
+-- so they are if a stream's header was read
 pub image_behind_read : (old left : Option (List ℕ)) (h : Header) → TakesHeader old left h → IfSome old (λ bytes. IfSome left (λ ahead.
     (front_image h.channels h ahead ≡ file_image bytes) × (front_rest h ahead ≡ file_rest bytes)))
 image_behind_read None left h r = tt
@@ -133,7 +133,8 @@ image_behind_read (Some bytes) (Some ahead) h r =
     let same : ahead ≡ drop header_size bytes = cc read.1 in
     subst P (sym same) (image_behind h.channels h bytes read.0 refl)
 
--- what is read of bytes, if they are known, is the image at their front, and what follows it is left
+-- what is read of bytes, if they are known, is the image at their front, and what follows it is
+-- left
 pub front_read : (channels : Channels) (h : Header) (old left : Option (List ℕ)) (out : List ℕ)
     → ((bytes : List ℕ) → old ≡ Some bytes → (rest : List ℕ) × (left ≡ Some rest) × IsImage channels bytes h rest out)
     → IfSome old (λ bytes. (out ≡ front_image channels h bytes) × (left ≡ Some (front_rest h bytes)))

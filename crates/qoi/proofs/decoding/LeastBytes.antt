@@ -31,7 +31,7 @@ pixels_most past (c ∷ cs) chunks =
       length-replicate (times c) (pixel_after past c),
     )
 
--- where chunks reach n pixels and eight bytes follow, there are as many bytes as n pixels need
+-- if chunks reach n pixels and eight bytes follow, there are as many bytes as n pixels need
 enough_bytes : (n : ℕ) (bytes : List ℕ) (cs : List Chunk) (eight rest : List ℕ) → HasChunks n bytes cs (eight ++ rest) → n ≤ length (meaning cs)
     → length eight ≡ 8 → least_byte_count n ≤ length bytes
 enough_bytes n bytes cs eight rest takes enough is =

@@ -67,7 +67,7 @@ decodes_file h cs bytes rest out f split out_is = record {
   whole = file_is_whole h cs bytes rest f split;
 }
 
--- a header and the image that is read behind it are a file
+-- a header and the image that is read after it are a file
 decodes_read : (h : Header) (bytes rest out : List ℕ) → AreBytes bytes → header_of bytes ≡ Ok h
     → ReadsImage (channels_number h.channels) (channels_number h.channels) (pixel_count h) (Some (drop header_size bytes)) (Some rest) out
     → DecodesFile bytes h rest out
@@ -80,7 +80,7 @@ decodes_read h bytes rest out fits read r =
     let front = file_from_whole h r.cs bytes rest fits read whole in
     decodes_file h r.cs bytes rest out front.0 front.1 r.out_is
 
--- so it is where a decoder reads it, in the file's own channels
+-- so it is when a decoder reads it, in the file's own channels
 pub decodes_behind : (bytes : List ℕ) (d : DecoderState (List ℕ)) (rest out : List ℕ) → AreBytes bytes → header_of bytes ≡ Ok d.header
     → d.channels ≡ d.header.channels → d.reader ≡ drop header_size bytes
     → ReadsImage (channels_number d.header.channels) (channels_number d.channels) (pixel_count d.header) (Some d.reader) (Some rest) out

@@ -15,7 +15,7 @@ use Rattle.qoi.proofs.format.Appended.{are_chunks_append, chunk_bytes-last, leng
 use Rattle.qoi.proofs.decoding.FilledBuffer.{by_channels, counts, filled_all, whole_pixels}
 use Rattle.qoi.proofs.decoding.SeenTable.{previous_copies}
 
--- fewer than n pixels were decoded, where there is room for more
+-- fewer than n pixels were decoded, if there is room for more
 pub fewer : {f c n : ℕ} {b : Buffer} {past : Past} → IsChannels c → HasFilled f c n b past → b.at < length b.out → length past < n
 fewer {c = c} {n = n} {b = b} {past = past} is h inside =
     (counts c n (length past) 0 b.at (length b.out) is h.room h.at_is inside (omega arith)).below
@@ -65,7 +65,7 @@ goes_on {f} {c} {n} {Taken} {Taken'} {old} {new} {bytes} is s inside g takes wit
       whole = whole;
     }
 
--- where the buffer is full, the chunks reach n pixels, and these are the first n
+-- if the buffer is full, the chunks reach n pixels, and these are the first n
 reads_all : {f c n : ℕ} {Taken : List ℕ → Type 0} {now : Filling} → IsChannels c → (s : DecoderBetween f c n Taken now) → length now.buffer.out ≤ now.buffer.at
     → Reaches n s.cs × (now.buffer.out ≡ output f c (take n (meaning s.cs)))
 reads_all {f} {c} {n} {Taken} {now} is s full =
@@ -76,7 +76,7 @@ reads_all {f} {c} {n} {Taken} {now} is s full =
 abbrev pub SplitAt : List ℕ → List ℕ → List ℕ → Type 0
 SplitAt bytes rest taken = bytes ≡ taken ++ rest
 
--- where the bytes at the front were taken, the others are left
+-- if the bytes at the front were taken, the others are left
 pub split_front : {f c n : ℕ} {bytes rest : List ℕ} {now : Filling} (size : ℕ) → rest ≡ drop size bytes → DecoderBetween f c n (IsFront bytes size) now
     → DecoderBetween f c n (SplitAt bytes rest) now
 split_front {bytes = bytes} size left s = record {
@@ -102,7 +102,7 @@ reads_pixels is s full =
     let all = reads_all is s full in
     record { cs = s.cs; has = record { chunks = s.chunks; stays_below = s.stays_below; split = s.taken }; reaches = all.0; out_is = all.1 }
 
--- where there is room and fewer bytes are left than an end marker has, the bytes are cut
+-- if there is room and fewer bytes are left than an end marker has, the bytes are cut
 pub few_left : {f c n : ℕ} {bytes rest : List ℕ} {now : Filling} → IsChannels c → DecoderBetween f c n (SplitAt bytes rest) now → now.buffer.at < length now.buffer.out
     → AreBytes rest → length rest < 8 → AreCut n bytes
 few_left {f} {c} {n} {bytes} {rest} {now} is s inside fits few =
@@ -134,7 +134,7 @@ streams_pixels is s full =
     let all = reads_all is s full in
     record { cs = s.cs; chunks = s.chunks; reaches = all.0; taken = subst (Consumes _ _) (sym (append-nil (chunk_bytes s.cs))) s.taken; out_is = all.1 }
 
--- where a stream gives no whole chunk, what was taken ends within a chunk
+-- if a stream gives no whole chunk, what was taken ends within a chunk
 pub stream_ends : {f c n : ℕ} (old middle new : Option (List ℕ)) (part : List ℕ) {now : Filling} → IsChannels c → DecoderBetween f c n (Consumes old middle) now
     → now.buffer.at < length now.buffer.out → Consumes middle new part → IsPartOfChunk part
     → (taken : List ℕ) × Consumes old new taken × EndsBefore n taken

@@ -46,7 +46,7 @@ ended : (in_memory : Bool) (n : ℕ) (new : Option (List ℕ)) (bytes : List ℕ
 ended true n new bytes refused = refused.1
 ended false n new bytes (taken, took, none) = absurd none
 
--- the same where the bytes and the error are known by equations
+-- the same if the bytes and the error are known by equations
 pub end_is_cut : (in_memory : Bool) (n : ℕ) (old new : Option (List ℕ)) (e : Error) (bytes : List ℕ) → old ≡ Some bytes → e ≡ UnexpectedBufferEnd
     → RefusesImage in_memory n old new e → AreCut n bytes
 end_is_cut in_memory n old new e bytes told is refused =
@@ -61,7 +61,7 @@ padded false n new bytes (taken, took, why) =
     let w = padding_is_wrong n bytes new taken took why in
     (w.2, (w.0, w.1, w.3))
 
--- the same where the bytes and the error are known by equations
+-- the same if the bytes and the error are known by equations
 pub padding_is_only_wrong : (in_memory : Bool) (n : ℕ) (old new : Option (List ℕ)) (e : Error) (bytes : List ℕ) → old ≡ Some bytes
     → e ≡ InvalidPadding → RefusesImage in_memory n old new e → AreWrong n bytes
 padding_is_only_wrong in_memory n old new e bytes told is refused =

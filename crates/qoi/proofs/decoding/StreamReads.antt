@@ -18,7 +18,7 @@ use Rattle.qoi.specs.Verdicts.{IsPartOfChunk, EndsBefore, AreCut}
 use Rattle.qoi.specs.Decoding.{StreamsPixels, RefusesTaken, RefusesTakenMarker}
 use Rattle.qoi.proofs.format.PartOfChunk.{byte_and, part_luma, part_rgb, part_rgba}
 
--- the front of a buffer after a read behind what was filled
+-- the front of a buffer after a read past what was filled
 pub take-read : (filled n k : ℕ) (buf piece : List ℕ) → filled ≤ length buf → n ≤ length piece
     → take (filled + n) (put_mid filled k buf piece) ≡ take filled buf ++ take n piece
 take-read filled n k buf piece within fits =
@@ -120,7 +120,7 @@ refused_after n cs chunks reaches taken InvalidPadding (eight, other) = (
 )
 refused_after n cs chunks reaches taken _ none = none
 
--- what was taken where the marker was refused
+-- what was taken if the marker was refused
 pub marker_refused : {T : Type 0} (f c n : ℕ) (old now new : Option (List ℕ)) (out : List ℕ) (r : Result T Error) → StreamsPixels f c n old now out
     → IfErr r (λ e. (taken : List ℕ) × Consumes now new taken × RefusesTakenMarker taken e)
     → IfErr r (λ e. (taken : List ℕ) × Consumes old new taken × RefusesTaken n taken e)

@@ -49,7 +49,7 @@ padding_is_wrong n bytes (Some rest) taken took (cs, eight, w) = (
   refl,
 )
 
--- where the bytes are not wrong, a refusal is an i/o error
+-- if the bytes are not wrong, a refusal is an i/o error
 only_io_error : (n : ℕ) (bytes : List ℕ) (left : Option (List ℕ)) (taken : List ℕ) (e : Error)
     → ((cs : List Chunk) (eight rest : List ℕ) → IsWrong n bytes cs eight rest → ⊥) → Consumes (Some bytes) left taken
     → RefusesTaken n taken e → IsIoError e

@@ -77,7 +77,7 @@ cut_within n bytes (cs, part, cut) =
       )
     ]
 
--- so are wrong ones with nothing behind the eight bytes
+-- so are wrong ones with nothing after the eight bytes
 wrong_within : (n : ℕ) (bytes : List ℕ) → AreWrongThen n bytes [] → length bytes ≤ 5 * n + 8
 wrong_within n bytes (cs, eight, wrong) =
     omega (

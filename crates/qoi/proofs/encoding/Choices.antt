@@ -6,8 +6,8 @@ use Rattle.qoi.specs.Qoi.{RgbaPixel, IsPixel, Past, previous, IsChunk, pixel_aft
 use Rattle.qoi.specs.Written.{IsFirst}
 use Rattle.qoi.specs.Styles.{is_run}
 
--- for each fresh pixel there is one chunk, it is no run and gives the pixel, and an Rgba stands only where no
--- shorter chunk spells the pixel out
+-- for each fresh pixel there is one chunk, it is no run and gives the pixel, and an Rgba stands
+-- only if no shorter chunk spells the pixel out
 pub record Chooses (Choice : Past → RgbaPixel → Chunk → Type 0) : Type 0 where
   pub some : (past : Past) (p : RgbaPixel) → IsPixel (previous past) → IsPixel p → p ≢ previous past → (c : Chunk) × IsChunk c × Choice past p c
   pub only : (past : Past) (p : RgbaPixel) (c d : Chunk) → IsChunk c → IsChunk d → Choice past p c → Choice past p d → c ≡ d

@@ -1,5 +1,5 @@
--- The coder's loop from one state to the next: over the repeats of a group, over a fresh pixel, and over a piece that is
--- sent.
+-- The coder's loop from one state to the next: over the repeats of a group, over a fresh pixel, and
+-- over a piece that is sent.
 use Rattle.std.proofs.Common.{◌≡◌, ◌≢◌, ◌⊎◌, inl, inr, ℕ, suc, ◌%◌, ◌<◌, List, [], ◌∷◌, ◌++◌, get_or, replicate, Option, None, Some, refl, sym, ap, ◌∙◌, subst, append-nil, append_assoc}
 use Rattle.std.specs.List.{AllByRecursion, slice_get}
 use Rattle.std.proofs.lemmas.Grind.{flat_map-append}
@@ -27,7 +27,7 @@ all_bytes (b ∷ bytes) h = (h 0, all_bytes bytes (λ i. tail_of i))
     tail_of : (i : ℕ) → get_or bytes i 0 < 256
     tail_of i = h (suc i)
 
--- before the first pixel, behind bytes that stand in front of the chunks
+-- before the first pixel, after bytes that stand in front of the chunks
 pub coder_starts : {N : ℕ} (style : Style) (image : List RgbaPixel) (list : List Chunk) (front : List ℕ) (table : List RgbaPixel) (coder : Coder N)
     → WrittenBy (choice_in style) image list → AllByRecursion IsPixel image → coder.style ≡ style → CoderAfter [] None table coder
     → CoderBetween (record { list = record { style = style; image = image; cs = list }; ahead = front ++ chunk_bytes (in_style style list) })
@@ -42,7 +42,7 @@ coder_starts style image list front table coder written are style_is state = rec
   state = state;
 }
 
--- nothing is styled where there is nothing
+-- nothing is styled if there is nothing
 styled_none : (style : Style) (past : Past) (before : _) → styled style past before [] ≡ []
 styled_none Reference past before = refl
 styled_none Places past before = refl
@@ -61,8 +61,8 @@ module _ {N : ℕ} {w : Writing} {pixels : List RgbaPixel} {table : List RgbaPix
   last_before : previous b.past ≡ coder.last
   last_before = sym b.state.last_is
 
-  -- The runs of a group are written. A single repeat that is left is written by the chunk `one`: at the end a run, and before a fresh pixel
-  -- as the style has it.
+  -- The runs of a group are written. A single repeat that is left is written by the chunk `one`: at
+  -- the end a run, and before a fresh pixel as the style has it.
   pub group_written : (n : ℕ) (rest : List RgbaPixel) (one : Chunk) {next_table : List RgbaPixel} {next_coder : Coder N} {next : List ℕ}
       → pixels ≡ replicate n coder.last ++ rest
       → (slice_get rest 0 ≢ Some coder.last) ⊎ (n % 62 ≡ 0)

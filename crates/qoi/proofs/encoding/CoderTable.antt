@@ -25,7 +25,7 @@ place_chosen Reference past p is = record { place = λ _. refl; spelled = λ oth
 place_chosen Places past p is = record { place = λ _. refl; spelled = λ other. absurd (other is) }
 place_chosen Tight past p is = record { place = λ _. refl; unseen = λ other. absurd (other is); spelled = λ other. absurd (other is) }
 
--- any other is spelled out where index positions of fresh pixels alone are named
+-- any other is spelled out if index positions of fresh pixels alone are named
 pub spelled_out : (style : Style) (past : Past) (p : RgbaPixel) (c : Chunk) → (style ≡ Reference) ⊎ (style ≡ Places) → IsFirst past p c
     → seen (held_in style past) (hash p) ≢ p → choice_in style past p c
 spelled_out style past p c (inl is) first differs = let d = rw is at differs in rw is (record { place = λ e. absurd (d e); spelled = λ _. first })
@@ -51,8 +51,8 @@ module _ (style : Style) (past : Past) (px at : RgbaPixel) (i : ℕ) (place : i 
   not_there : (IsTrue false ↔ (at ≡ px)) → seen (held_in style past) (hash px) ≢ px
   not_there test e = absurd (let no : false ≡ true = test.1 (there ∙ e) in cc)
 
-  -- Either chunk is chosen, as the test says: the index position, or another one; and it names the position exactly if
-  -- the pixel stands there. Its bytes are the lowest of a number.
+  -- Either chunk is chosen, as the test says: the index position, or another one; and it names the
+  -- position exactly if the pixel stands there. Its bytes are the lowest of a number.
   pub fresh_chosen : (same : Bool) (alpha number size : ℕ) → (IsTrue same ↔ (at ≡ px))
       → (seen (held_in style past) (hash px) ≢ px → (d : Chunk) × IsChunk d × HasBytes alpha number size d × choice_in style past px d)
       → (d : Chunk) × IsChunk d × HasBytes alpha (if same then i else number) (if same then 1 else size) d × choice_in style past px d
@@ -85,7 +85,7 @@ pub fresh_repeats : (k : ℕ) (past : Past) → fresh (replicate k (previous pas
 fresh_repeats zero past = refl
 fresh_repeats (suc k) past = fresh_repeat (replicate k (previous past) ++ past) (previous past) (sym (previous_repeats k past)) ∙ fresh_repeats k past
 
--- repeats that aren't put, where the fresh pixels alone are
+-- repeats that aren't put, if the fresh pixels alone are
 pub repeats_unput : (style : Style) (n : ℕ) (past : Past) (table : List RgbaPixel) → (style ≡ Reference) ⊎ (style ≡ Places)
     → Holds table (held_in style past) → Holds table (held_in style (replicate n (previous past) ++ past))
 repeats_unput style n past table (inl is) s = rw (is, fresh_repeats n past) (rw is at s)

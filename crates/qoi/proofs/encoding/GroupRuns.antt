@@ -22,7 +22,7 @@ none_of_few n (a ∷ b ∷ c ∷ d ∷ rest) (inr e) h = absurd (omega arith)
 none_of_few n _ (inl e) h = rw e refl
 none_of_few n _ (inr e) h = rw e refl
 
--- so many pixels that are p, and then others
+-- n pixels that are p, and then others
 pub count_of : (p : RgbaPixel) (pixels rest : List RgbaPixel) (n : ℕ) → pixels ≡ replicate n p ++ rest → slice_get rest 0 ≢ Some p → IsCount p pixels n
 count_of p pixels rest n e other = record {
   same = e ∙ ap (λ x. replicate n p ++ x) (sym behind);
@@ -36,7 +36,7 @@ count_of p pixels rest n e other = record {
     first zero = refl
     first (suc n) = first n
 
--- The first so many pixels of the bytes are p, and `rest` are the bytes behind them.
+-- The first `count` pixels of the bytes are p, and `rest` are the bytes after them.
 pub record RepeatsSoFar (n : ℕ) (bytes rest : List ℕ) (p : RgbaPixel) (count : ℕ) : Type 0 where
   pub size : n * count + length rest ≡ length bytes
   pub same : pixels_of n bytes ≡ replicate count p ++ pixels_of n rest
@@ -60,13 +60,13 @@ repeats_block n bytes rest after p count is w room behind block = record {
     sums n is = by_channels (λ k. length after + k * 16 ≡ length rest → k * count + length rest ≡ length bytes
         → k * (count + 16) + length after ≡ length bytes) is (λ a b. omega arith) (λ a b. omega arith)
 
--- the member at an index is the first behind as many
+-- the member at an index is the first after as many
 pub nth_first : (k : ℕ) (xs : List RgbaPixel) → slice_get xs k ≡ slice_get (drop k xs) 0
 nth_first zero xs = refl
 nth_first (suc k) [] = refl
 nth_first (suc k) (x ∷ xs) = nth_first k xs
 
--- repeats, and those that are counted behind them
+-- repeats, and those that are counted after them
 pub counted_on : (p : RgbaPixel) (pixels rest : List RgbaPixel) (n more : ℕ) → pixels ≡ replicate n p ++ rest → IsCount p rest more
     → IsCount p pixels (n + more)
 counted_on p pixels rest n more e w = count_of p pixels (drop more rest) (n + more)
@@ -76,7 +76,7 @@ counted_on p pixels rest n more e w = count_of p pixels (drop more rest) (n + mo
 pub whole_rest : (n count len : ℕ) → IsChannels n → len % n ≡ 0 → n * count ≤ len → (len - n * count) % n ≡ 0
 whole_rest n count len is = by_channels (λ k. len % k ≡ 0 → k * count ≤ len → (len - k * count) % k ≡ 0) is (λ a b. omega arith) (λ a b. omega arith)
 
--- pixels behind others are those of the bytes behind theirs
+-- pixels after others are those of the bytes after theirs
 pub pixels_drop : (n k : ℕ) (bytes : List ℕ) → IsChannels n → n * k ≤ length bytes → drop k (pixels_of n bytes) ≡ pixels_of n (drop (n * k) bytes)
 pixels_drop n k bytes is inside =
     let size : length (take (n * k) bytes) ≡ n * k = length-take-le (n * k) bytes inside in
@@ -85,7 +85,8 @@ pixels_drop n k bytes is inside =
     ∙ ap (λ j. drop j (pixels_of n (take (n * k) bytes) ++ pixels_of n (drop (n * k) bytes))) (sym (length-pixels_of n k (take (n * k) bytes) is size))
     ∙ drop-append_seam (pixels_of n (take (n * k) bytes)) (pixels_of n (drop (n * k) bytes))
 
--- The pixels of the bytes are so many of q, and then those of the bytes behind them, of which the first is another.
+-- The pixels of the bytes are `count` times q, and then those of the bytes after them, of which the
+-- first is another.
 record Group (n : ℕ) (bytes : List ℕ) (q : RgbaPixel) (count : ℕ) : Type 0 where
   pub within : n * count ≤ length bytes
   pub pixels : pixels_of n bytes ≡ replicate count q ++ pixels_of n (drop (n * count) bytes)
@@ -131,8 +132,8 @@ some_pixels n bytes is whole some none =
     no_bytes : (n len : ℕ) → IsChannels n → 0 < len → len / n ≡ 0 → len ≡ n * (len / n) → ⊥
     no_bytes n len is some = by_channels (λ k. len / k ≡ 0 → len ≡ k * (len / k) → ⊥) is (λ a b. omega (arith, some)) (λ a b. omega (arith, some))
 
--- The repeats at the front of bytes, of which some are looked at: they stand ahead, and another pixel, or none, is behind
--- them, or as many were found as were looked at.
+-- The repeats at the front of bytes, of which some are looked at: they stand ahead, and another
+-- pixel, or none, is after them, or as many were found as were looked at.
 pub record NearGroup (n : ℕ) (bytes : List ℕ) (q : RgbaPixel) (most count : ℕ) : Type 0 where
   pub within : n * count ≤ length bytes
   pub few : count ≤ most
@@ -194,12 +195,12 @@ near_group n bytes q most count m is whole m_is counted = go (cases_lt (n * most
 pub some_bytes : (n k : ℕ) → IsChannels n → 0 < k → 0 < n * k
 some_bytes n k is some = by_channels (λ j. 0 < j * k) is (omega arith) (omega arith)
 
--- the bytes behind a pixel that is behind others
+-- the bytes after a pixel that is after others
 pub drop_next : (n k : ℕ) (bytes : List ℕ) → IsChannels n → drop n (drop (n * k) bytes) ≡ drop (n * (k + 1)) bytes
 drop_next n k bytes is = drop-drop n (n * k) bytes
     ∙ ap (λ j. drop j bytes) (by_channels (λ j. j * k + j ≡ j * (k + 1)) is (omega arith) (omega arith))
 
--- the first pixel of whole bytes, and those behind it
+-- the first pixel of whole bytes, and those after it
 pub pixel_ahead : (n : ℕ) (bytes : List ℕ) → IsChannels n → length bytes % n ≡ 0 → 0 < length bytes
     → pixels_of n bytes ≡ rgba (take n bytes) ∷ pixels_of n (drop n bytes)
 pixel_ahead n bytes is whole some = ap (pixels_of n) (sym (take-append-drop n bytes))

@@ -19,14 +19,15 @@ use Rattle.qoi.proofs.encoding.WriterProgress.{wrote_none, wrote_next, wrote_par
 use Rattle.qoi.proofs.encoding.WrittenExists.{some_by}
 use Rattle.qoi.proofs.encoding.WrittenShape.{fits_by}
 
--- What goes to a writer: the bytes `front`, and behind them the chunks of an image, by its raw bytes and a style.
+-- What goes to a writer: the bytes `front`, and after them the chunks of an image, by its raw bytes
+-- and a style.
 pub record Sending (W : Type 0) : Type 0 where
   pub start : W
   pub front : List ℕ
   pub style : Style
   pub raw : List ℕ
 
--- all these bytes, where the image's list is this one before it is styled
+-- all these bytes, if the image's list is this one before it is styled
 abbrev all_of : {W : Type 0} → Sending W → List Chunk → List ℕ
 all_of s list = s.front ++ chunk_bytes (in_style s.style list)
 
@@ -34,8 +35,8 @@ all_of s list = s.front ++ chunk_bytes (in_style s.style list)
 abbrev writing : {W : Type 0} → ℕ → Sending W → List Chunk → List ℕ → Writing
 writing n s list ahead = record { list = record { style = s.style; image = pixels_of n s.raw; cs = list }; ahead = ahead }
 
--- All of that went to the writer but what is ahead: the bytes that are kept, and those of the chunks that are still to be
--- written, for the raw bytes `rest`.
+-- All of that went to the writer but what is ahead: the bytes that are kept, and those of the
+-- chunks that are still to be written, for the raw bytes `rest`.
 pub record PieceBetween {W : Type 0} (wrote : W → List ℕ → W → Type 0) (room : W → ℕ) {n : ℕ} (s : Sending W) (rest : List ℕ)
     (table : List RgbaPixel) (coder : Coder n) (kept : List ℕ) (buf : W) : Type 0 where
   pub laws : WriterLaws wrote room

@@ -1,4 +1,4 @@
--- Kept bytes that are sent to a writer: a full piece, and then those behind it.
+-- Kept bytes that are sent to a writer: a full piece, and then those after it.
 use Rattle.std.proofs.Common.{◌≡◌, ℕ, ◌+◌, ◌-◌, ◌≤◌, List, [], ◌++◌, length, take, drop, Result, Ok, Err, OnOk, IfErr, sym, ap, ◌∙◌, subst, append-nil, take-append-drop, arith}
 use Rattle.std.specs.List.{copy_within}
 use Rattle.std.proofs.lemmas.List.{drop-take, length-drop, take-append-le}
@@ -8,7 +8,7 @@ use Rattle.qoi.specs.inner.Piece.{kept_bytes}
 use Rattle.qoi.specs.writers.Writes.{WriterLaws, WroteBut, WroteBeginning}
 use Rattle.qoi.proofs.encoding.WriterProgress.{wrote_none, wrote_next, wrote_part, wrote_all}
 
--- the bytes behind a full piece, copied to the front
+-- the bytes after a full piece, copied to the front
 pub moved_front : (xs : List ℕ) (piece room end : ℕ) → length xs ≡ room → piece ≤ end → end ≤ room
     → take (end - piece) (copy_within xs piece room 0) ≡ drop piece (take end xs)
 moved_front xs piece room end size full within =

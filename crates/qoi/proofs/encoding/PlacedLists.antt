@@ -1,4 +1,5 @@
--- The list in style Places: it means the same in as many bytes, and names no index position twice in a row.
+-- The list in style Places: it means the same in as many bytes, and names no index position twice
+-- in a row.
 use Rattle.std.proofs.Common.{◌≡◌, ℕ, Bool, true, false, not, ◌&&◌, ◌==◌, if◌then◌else◌, List, [], ◌∷◌, ◌++◌, length, Option, Some, refl, sym, ap, ◌∙◌, subst, arith, length-append}
 use Rattle.std.proofs.lemmas.Bool.{and_parts, cond_both, eqb-true, eq-eqb, true≢false}
 use Rattle.qoi.specs.declared.chunk.Chunk.{Chunk}
@@ -26,12 +27,13 @@ parts past before n cs e =
     let z = and_parts (n == 1) (fresh_next cs) y.0 in
     record { single = eqb-true n 1 z.0; next = z.1; some = y.1; other = x.1 }
 
--- where some pixel is fresh, the last one is seen at its index position
+-- if some pixel is fresh, the last one is seen at its index position
 seen_last : (past : Past) → some_fresh past ≡ true → seen past (hash (previous past)) ≡ previous past
 seen_last [] e = absurd (true≢false (sym e))
 seen_last (p ∷ past) e = seen_same past p (hash p) refl
 
--- what holds of a chunk, and of the position of the last pixel where a single run stands, holds of the chunk that stands for it
+-- what holds of a chunk, and at a single run of the position of the last pixel, holds of the chunk
+-- that stands for it
 by_place : (P : Chunk → Chunk → Type 0) (past : Past) (before : Option Chunk) (c : Chunk) (cs : List Chunk)
     → ((d : Chunk) → P d d)
     → (seen past (hash (previous past)) ≡ previous past → P (Run 1) (Place (hash (previous past))))
@@ -74,7 +76,7 @@ placed_length past before (c ∷ cs) =
       length-append (bytes_of c) (chunk_bytes cs),
     )
 
--- it is regular where the list is
+-- it is regular if the list is
 pub placed_regular : (past : Past) (before : Option Chunk) (cs : List Chunk) → Each NamesPixelThere past cs
     → Each NamesPixelThere past (placed_after past before cs)
 placed_regular past before [] h = tt
@@ -108,7 +110,7 @@ named past before c cs i e = absurd (let x = e in cc)
 same_names : (i j k : ℕ) → j ≡ i → k ≡ i → not (names (Some (Place j)) k) ≡ true → ⊥
 same_names i j k e f h = true≢false (sym h ∙ ap not (eq-eqb j k (e ∙ sym f)))
 
--- the pixel of an index position repeats behind a chunk that gives it
+-- the pixel of an index position repeats after a chunk that gives it
 repeated : (past : Past) (n : ℕ) (i : ℕ) → n ≡ 1 → hash (previous past) ≡ i → seen (then_chunk past (Run n)) i ≡ previous (then_chunk past (Run n))
 repeated past n i one at = rw one (seen_same past (previous past) i at)
 

@@ -40,7 +40,7 @@ run_count w (p ∷ ps) (suc n) l are few same stops =
       other = rest.other;
     }
 
--- The repeats of the pixel before a lane are those that the lanes count, where a lane stops them.
+-- The repeats of the pixel before a lane are those that the lanes count, if a lane stops them.
 module _ {last : RgbaPixel} {pixels : List RgbaPixel} {cur prev : List ℕ} (four : AreFourAfter last pixels cur prev) (at n : ℕ) where
   lane : (k : ℕ) → at + k < 4 → slice_index (map word (drop at pixels)) k ≡ slice_index cur (at + k)
   lane k l =
@@ -68,7 +68,7 @@ module _ {last : RgbaPixel} {pixels : List RgbaPixel} {cur prev : List ℕ} (fou
 pub differ : (v w : ℕ) → v < 2 ^ 32 → w < 2 ^ 32 → v ≢ w → pixel_of_word v ≢ pixel_of_word w
 differ v w lv lw n e = n (sym (packed v lv) ∙ ap word e ∙ packed w lw)
 
--- the pixel of a lane, and those behind it
+-- the pixel of a lane, and those after it
 lane_is : (n : ℕ) (ps : List RgbaPixel) (k : ℕ) (d : RgbaPixel) → AllByRecursion IsPixel ps → k < n → k < length ps
     → get_or ps k d ≡ pixel_of_word (slice_index (map word (take n ps)) k)
 lane_is zero ps k d a lt l = absurd (omega arith)
@@ -83,6 +83,6 @@ lane_ahead {pixels = pixels} {cur = cur} four k lt =
     drop-cons pixels k blank l
     ∙ ap (λ p. p ∷ drop (suc k) pixels) (lane_is 4 pixels k blank four.are lt l ∙ ap (λ ws. pixel_of_word (slice_index ws k)) (sym four.pixels_are))
 
--- the first pixel behind counted ones is another
+-- the first pixel after counted ones is another
 pub count_other : (p : RgbaPixel) (pixels : List RgbaPixel) (n : ℕ) → IsCount p pixels n → slice_get (drop n pixels) 0 ≢ Some p
 count_other p pixels n count e = count.other (nth_first n pixels ∙ e)

@@ -18,7 +18,7 @@ use Rattle.qoi.proofs.encoding.QuadGroups.{differ, lane_ahead}
 use Rattle.qoi.proofs.encoding.QuadLoop.{long_pixels, next_before}
 
 module _ {N : ℕ} {w : Writing} {quad : Quad N} {pixels : List RgbaPixel} {table : List RgbaPixel} {coder : Coder N} {kept : List ℕ} where
-  -- behind a lane's pixel the coder stands at the next lane
+  -- after a lane's pixel the coder stands at the next lane
   pub lane_after : {first : RgbaPixel} (k : ℕ) → AreFourAfter first pixels quad.pixels quad.before → coder.last ≡ lane_pixel quad k
       → CoderBetween w (drop (suc k) pixels) table coder kept → AtLane (in_four w quad pixels) (suc k) table coder kept
   lane_after {first} k are last_is between = record {
@@ -50,7 +50,7 @@ lane_step {w = w} {pixels = pixels} {table} {coder = coder} {kept = kept} k lt f
     lane_after k start.are last_is (written w (drop (suc k) pixels) before (λ e. fresh (e ∙ before))
     (subst (λ x. CoderBetween w x table coder kept) (lane_ahead start.are k lt) start.between))
 
--- where no lane repeats the one before, each is fresh
+-- if no lane repeats the one before, each is fresh
 pub all_fresh : {N : ℕ} (quad : Quad N) (cur prev : List ℕ) → quad.pixels ≡ cur → quad.before ≡ prev → mask_l (zip2 nat_eq cur prev) ≡ 0
     → (k : ℕ) → k < 4 → lane_pixel quad k ≢ before_lane quad k
 all_fresh quad cur prev qc qp none k lt =
@@ -59,7 +59,7 @@ all_fresh quad cur prev qc qp none k lt =
     differ (slice_index quad.pixels k) (slice_index quad.before k) (quad.four.1 k) (quad.four_before.1 k)
     (λ same. none_agree cur prev (lc ∙ sym lp) none k (omega (arith, lc)) (ap (λ xs. slice_index xs k) (sym qc) ∙ same ∙ ap (λ xs. slice_index xs k) qp))
 
--- where the first lane repeats the one before, the last pixel comes again
+-- if the first lane repeats the one before, the last pixel comes again
 pub first_same : {last : RgbaPixel} {pixels : List RgbaPixel} {cur prev : List ℕ} → AreFourAfter last pixels cur prev
     → slice_index cur 0 ≡ slice_index prev 0 → slice_get pixels 0 ≡ Some last
 first_same {pixels = []} four e = let long = four.long in absurd (omega arith)

@@ -1,4 +1,4 @@
--- The bytes of a group's runs, behind those written before.
+-- The bytes of a group's runs, after those written before.
 use Rattle.std.proofs.Common.{nat_lt, lt-ltb, if◌then◌else◌, ◌==◌, append-nil, set, ◌≡◌, ℕ, zero, suc, ◌+◌, ◌-◌, ◌/◌, ◌%◌, ◌<◌, ◌≤◌, List, [], ◌∷◌, ◌++◌, length, take, drop, replicate, refl, sym, ap, ◌∙◌, arith, append_assoc}
 use Rattle.std.proofs.lemmas.Grind.{flat_map-append}
 use Rattle.std.proofs.lemmas.List.{take-set, take-append-le, take-replicate, length-take-le, length-drop}
@@ -21,7 +21,7 @@ few_by c n few =
     let all : n % 62 ≡ n = omega arith in
     rw (none, all) refl
 
--- the run of a rest, behind the bytes before
+-- the run of a rest, after the bytes before
 last_written : (c : Chunk) (one at count : ℕ) (out : List ℕ) → bytes_of c ≡ one ∷ [] → at < length out → count < 62
     → take (at + bool_byte (nat_lt 0 count)) (set out at (if count == 1 then one else 191 + count)) ≡ take at out ++ chunk_bytes (last_by c count)
 last_written c one at zero out e l few =
@@ -37,7 +37,7 @@ last_written c one at (suc (suc n)) out e l few =
     ∙ ap (λ t. take (suc at) (set out at (if t then one else 191 + suc (suc n)))) (not_one n)
     ∙ take-suc-set out at (191 + suc (suc n)) l
 
--- a group of few repeats, behind the bytes before
+-- a group of few repeats, after the bytes before
 pub run_written : (c : Chunk) (one at count : ℕ) (out : List ℕ) → bytes_of c ≡ one ∷ [] → at < length out → count < 62
     → take (at + bool_byte (nat_lt 0 count)) (set out at (if count == 1 then one else 191 + count)) ≡ take at out ++ chunk_bytes (runs_by c count)
 run_written c one at count out e l few =
@@ -71,7 +71,7 @@ filled_front at k out room few =
     ∙ take-append-add (take at out) (replicate 16 253 ++ post) k
     ∙ ap (λ z. take at out ++ z) (take-append-le k (replicate 16 253) post few ∙ take-replicate k 16 253 few)
 
--- a group of any size, behind the bytes before
+-- a group of any size, after the bytes before
 pub runs_written : (c : Chunk) (at count : ℕ) (out new : List ℕ) → at + 17 ≤ length out → count ≤ 992
     → new ≡ take (at + count / 62) (filled at out) ++ chunk_bytes (runs_by c (count % 62)) → new ≡ take at out ++ chunk_bytes (runs_by c count)
 runs_written c at count out new room few e =

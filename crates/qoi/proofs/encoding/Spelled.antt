@@ -91,7 +91,7 @@ alpha_stays past p (Luma d d2) h l e = sym (ap (λ x. x.a) e)
 alpha_stays past p (Rgb r g b) h l e = sym (ap (λ x. x.a) e)
 alpha_stays past p c h l e = absurd (omega arith)
 
--- an Rgba is first where alpha changes
+-- an Rgba is first if alpha changes
 pub first_rgba : (past : Past) (p : RgbaPixel) → p.a ≢ (previous past).a → IsFirst past p (Rgba p.r p.g p.b p.a)
 first_rgba past p changes = record {
   spells = omega arith;
@@ -110,7 +110,7 @@ module _ (past : Past) (p : RgbaPixel) (iq : IsPixel (previous past)) (ip : IsPi
   alpha_step : p.a ≡ q.a → (steps q p).a ≡ 0
   alpha_step e = omega (arith, iq.a, ip.a)
 
-  -- where the steps fit, the Diff gives the pixel
+  -- if the steps fit, the Diff gives the pixel
   diff_gives : FitsDiff q p → pixel_after past (diff_of (diff_bits (diff_steps (steps q p)))) ≡ p
   unfolding after_diff
   diff_gives f =
@@ -132,7 +132,7 @@ module _ (past : Past) (p : RgbaPixel) (iq : IsPixel (previous past)) (ip : IsPi
       (luma_back p.b q.b p.g q.g _ _ ip.b iq.b ip.g iq.g (k.0 ∙ ap (λ x. x.g) f) (k.2 ∙ ap (λ x. x.b) f))
       (sym (alpha_same (ap (λ x. x.a) f)))
 
-  -- where a Diff gives the pixel, the steps fit one
+  -- if a Diff gives the pixel, the steps fit one
   from_diff : (d : ℕ) → after_diff q d ≡ p → FitsDiff q p
   unfolding after_diff
   from_diff d e = same_pixel _ _
@@ -141,7 +141,7 @@ module _ (past : Past) (p : RgbaPixel) (iq : IsPixel (previous past)) (ip : IsPi
       (diff_fits p.b q.b (d % 4) iq.b (omega arith) (ap (λ x. x.b) e))
       (sym (alpha_step (sym (ap (λ x. x.a) e))))
 
-  -- so they do where a Luma gives it
+  -- so they do if a Luma gives it
   from_luma : (d e : ℕ) → e < 256 → after_luma q d e ≡ p → FitsLuma q p
   unfolding after_luma
   from_luma d e he s = same_pixel _ _
@@ -150,7 +150,7 @@ module _ (past : Past) (p : RgbaPixel) (iq : IsPixel (previous past)) (ip : IsPi
       (luma_fits p.b q.b p.g q.g (d % 64) (e % 16) iq.b iq.g (omega arith) (omega arith) (ap (λ x. x.g) s) (ap (λ x. x.b) s))
       (sym (alpha_step (sym (ap (λ x. x.a) s))))
 
-  -- where the steps fit none, each chunk that gives the pixel comes later
+  -- if the steps fit none, each chunk that gives the pixel comes later
   not_diff : (FitsDiff q p → ⊥) → (c : Chunk) → 0 < rank c → pixel_after past c ≡ p → 2 ≤ rank c
   not_diff unfit (Diff d) s e = absurd (unfit (from_diff d e))
   not_diff unfit c s e = omega arith
@@ -160,7 +160,7 @@ module _ (past : Past) (p : RgbaPixel) (iq : IsPixel (previous past)) (ip : IsPi
   not_luma unfit wide (Luma d f) i s e = absurd (wide (from_luma d f i.2 e))
   not_luma unfit wide c i s e = omega arith
 
-  -- else the Rgb is first where alpha stays
+  -- else the Rgb is first if alpha stays
   pub first_rgb : p.a ≡ q.a → (FitsDiff q p → ⊥) → (FitsLuma q p → ⊥) → IsFirst past p (Rgb p.r p.g p.b)
   first_rgb alpha unfit wide = record { spells = omega arith; gives = same_pixel _ p refl refl refl (sym alpha); first = not_luma unfit wide }
 

@@ -1,5 +1,5 @@
--- What is still to be written of an image's list, as a coder goes from pixel to pixel: over the repeats of a group, and
--- over a fresh pixel.
+-- What is still to be written of an image's list, as a coder goes from pixel to pixel: over the
+-- repeats of a group, and over a fresh pixel.
 use Rattle.std.proofs.Common.{◌≡◌, ◌≢◌, ◌⊎◌, inl, inr, ℕ, zero, suc, ◌/◌, ◌%◌, ◌<◌, List, [], ◌∷◌, ◌++◌, reverse, replicate, Some, true, not, refl, sym, ap, ◌∙◌, subst, arith, append_assoc, append-nil}
 use Rattle.std.proofs.lemmas.List.{append_cancel_left, reverse-append}
 use Rattle.std.specs.List.{AllByRecursion, slice_get}
@@ -51,7 +51,7 @@ module _ (l : ImageList) where
     parts = refl;
   }
 
-  -- the runs of a group behind a list, which a run may follow if there are repeats at all
+  -- the runs of a group after a list, which a run may follow if there are repeats at all
   group_runs : (n : ℕ) (past : Past) (cs : List Chunk) → WrittenBy Choice (reverse past) cs → (0 < n → RunMayFollow cs)
       → WrittenBy Choice (reverse (replicate n (previous past) ++ past)) (cs ++ runs_by (Run 1) n)
   group_runs zero past cs w may = subst (WrittenBy Choice (reverse past)) (sym (ap (λ x. cs ++ x) runs_none ∙ append-nil cs)) w
@@ -64,7 +64,8 @@ module _ (l : ImageList) where
 
   module _ {past : Past} {rest : List RgbaPixel} {todo : List Chunk}
       (w : StillToWrite l past rest todo) where
-    -- What follows the written chunks in a list of the image is what is to be written; so the first of these chunks are next.
+    -- What follows the written chunks in a list of the image is what is to be written; so the first
+    -- of these chunks are next.
     next : (after : Past) (more : List RgbaPixel) (new left : List Chunk) → l.image ≡ reverse after ++ more → IsPixel (previous after)
         → AllByRecursion IsPixel more
         → WrittenBy Choice (reverse after) (w.done ++ new) → (slice_get more 0 ≡ Some (previous after) → RunMayFollow (w.done ++ new))
@@ -139,20 +140,20 @@ module _ (l : ImageList) where
     group_written : WrittenBy Choice (reverse group) (w.done ++ runs_by (Run 1) n)
     group_written = group_runs n past w.done w.written (λ some. w.run_may_follow (starts n some))
 
-    -- the pixels behind the group are pixels, and so is the one before them
+    -- the pixels after the group are pixels, and so is the one before them
     behind_are : AllByRecursion IsPixel rest
     behind_are = all_back IsPixel (replicate n (previous past)) rest w.are
 
     before_is : IsPixel (previous group)
     before_is = subst IsPixel (sym (previous_repeats n past)) w.before
 
-    -- behind the group, where no repeat of it is next
+    -- after the group, if no repeat of it is next
     ended : (left : List Chunk) → (slice_get rest 0 ≢ Some (previous past)) → WrittenBy Choice (reverse group ++ rest) ((w.done ++ runs_by (Run 1) n) ++ left)
         → (todo ≡ runs_by (Run 1) n ++ left) × StillToWrite l group rest left
     ended left other all = next w group rest (runs_by (Run 1) n) left image_is before_is behind_are group_written
         (λ same. absurd (other (same ∙ ap (λ p. Some p) (previous_repeats n past)))) all
 
-    -- The runs of a group are next, where no further repeat follows or they are full.
+    -- The runs of a group are next, if no further repeat follows or they are full.
     pub runs_next : (slice_get rest 0 ≢ Some (previous past)) ⊎ (n % 62 ≡ 0)
         → (left : List Chunk) × (todo ≡ runs_by (Run 1) n ++ left) × StillToWrite l group rest left
     runs_next ends = by_rest rest refl

@@ -1,4 +1,5 @@
--- What a style makes of the next chunks of a written list: those of a group of repeats, and of the fresh pixel behind it.
+-- What a style makes of the next chunks of a written list: those of a group of repeats, and of the
+-- fresh pixel after it.
 use Rattle.std.proofs.Common.{◌≡◌, ℕ, zero, suc, ◌+◌, ◌*◌, ◌/◌, ◌%◌, true, false, not, Bool, ◌&&◌, nat_eq, nat_lt, ◌<◌, ◌⊎◌, inl, inr, if◌then◌else◌, List, [], ◌∷◌, ◌++◌, replicate, Option, Some, refl, sym, ap, ◌∙◌, arith, append_assoc}
 use Rattle.std.proofs.lemmas.Bool.{lt-ltb, ne_eqb}
 use Rattle.qoi.specs.declared.chunk.Chunk.{Chunk}
@@ -14,12 +15,12 @@ use Rattle.qoi.proofs.encoding.CoderTable.{fresh_repeats}
 use Rattle.qoi.proofs.encoding.GroupRuns.{not_one}
 use Rattle.qoi.proofs.encoding.StillToWrite.{runs_none}
 
--- the chunk before the rest of a group that has so many runs of 62
+-- the chunk before the rest of a group that has this number of runs of 62
 abbrev before_rest : Option Chunk → ℕ → Option Chunk
 before_rest before zero = before
 before_rest before (suc k) = Some (Run 62)
 
--- behind a run of 62 it is one
+-- after a run of 62 it is one
 behind_full : (k : ℕ) → before_rest (Some (Run 62)) k ≡ Some (Run 62)
 behind_full zero = refl
 behind_full (suc k) = refl
@@ -53,7 +54,7 @@ other_stays past before c cs e = refl
 abbrev single : Past → Option Chunk → Chunk
 single past before = if some_fresh past && not (names before (hash (previous past))) then Place (hash (previous past)) else Run 1
 
--- how the rest of a group of n is written, where it is single
+-- how the rest of a group of n is written, if it is single
 single_is : (past : Past) (before : Option Chunk) (k : ℕ) → single (replicate (62 * k) (previous past) ++ past) (before_rest before k) ≡ single_chunk Places
     (some_fresh past) (names before (hash (previous past))) (hash (previous past)) (62 * k + 1)
 single_is past before zero = refl
@@ -78,13 +79,14 @@ last_fulls : (k : ℕ) (before : Option Chunk) (cs : List Chunk) → last_chunk 
 last_fulls zero before cs = refl
 last_fulls (suc k) before cs = last_fulls k (Some (Run 62)) cs ∙ ap (λ b. last_chunk b cs) (behind_full k)
 
--- How a single repeat that is left of a group is written before these chunks: at the end by a run, and before a fresh pixel as the style has it.
+-- How a single repeat that is left of a group is written before these chunks: at the end by a run,
+-- and before a fresh pixel as the style has it.
 abbrev pub WritesOne : Style → Past → Option Chunk → ℕ → List Chunk → Chunk → Type 0
 WritesOne style past before n left one =
     ((left ≡ []) × (one ≡ Run 1)) ⊎ ((fresh_next left ≡ true)
     × (one ≡ single_chunk style (some_fresh past) (names before (hash (previous past))) (hash (previous past)) n))
 
--- the rest of a group behind its full runs
+-- the rest of a group after its full runs
 rest_stays : (r : ℕ) (past : Past) (before : Option Chunk) (left : List Chunk) (one : Chunk)
     → (r ≡ 1 → ((left ≡ []) × (one ≡ Run 1)) ⊎ ((fresh_next left ≡ true) × (one ≡ single past before)))
     → placed_after past before (last_by (Run 1) r ++ left)
@@ -141,7 +143,7 @@ styled_chunk Places past before p c left other gives =
     ap (λ x. x ∷ placed_after (then_chunk past c) (Some c) left) (other_stays past before c left other)
     ∙ ap (λ x. c ∷ placed_after x (Some c) left) (then_other past c other ∙ ap (λ x. x ∷ past) gives)
 
--- behind repeats the last chunk is a run, and names no index position
+-- after repeats the last chunk is a run, and names no index position
 rest_names_none : (k r : ℕ) (before : Option Chunk) (i : ℕ) → 0 < k + r → names (last_chunk (before_rest before k) (last_by (Run 1) r)) i ≡ false
 rest_names_none zero zero before i some = absurd (omega arith)
 rest_names_none (suc k) zero before i some = refl

@@ -69,7 +69,7 @@ found test a (suc n) i e = go (λ f. found test (a + 1) n i f) (test a) refl e
     go on true t e = let s = same_Some a i e in (subst (λ j. test j ≡ true) s t, omega arith)
     go on false t e = let more = on e in (more.0, omega (arith, more.1))
 
--- where a number passes the test, one is found
+-- if a number passes the test, one is found
 some_found : (test : ℕ → Bool) (a n i : ℕ) → a ≤ i → i < a + n → test i ≡ true → is_some (find test (range_with_len a n)) ≡ true
 some_found test a zero i l u e = absurd (omega arith)
 some_found test a (suc n) i l u e = go (λ m. some_found test (a + 1) n i m (omega arith) e) (test a) refl (cases_eq a i)
@@ -85,7 +85,7 @@ unseen_found : (past : Past) (i : ℕ) → least_unseen past ≡ Some i → (is_
 unfolding least_unseen
 unseen_found past i e = found (is_unseen past) 0 64 i e
 
--- and there is one where no pixel was put at some position
+-- and there is one if no pixel was put at some position
 pub unseen_some : (past : Past) (i : ℕ) → i < positions → is_unseen past i ≡ true → is_some (least_unseen past) ≡ true
 unfolding least_unseen
 unseen_some past i l e = some_found (is_unseen past) 0 64 i (omega arith) l e
@@ -134,8 +134,8 @@ tight_some past p before is =
           },
         )
 
--- what holds of the index position where the pixel is seen, of an unseen position for transparent black, and of the first
--- chunk holds of the choice
+-- what holds of the index position where the pixel is seen, of an unseen position for transparent
+-- black, and of the first chunk holds of the choice
 pub by_tight : (P : Past → RgbaPixel → Chunk → Type 0) (past : Past) (p : RgbaPixel) (c : Chunk) → IsTightChoice past p c
     → (seen past (hash p) ≡ p → P past p (Place (hash p)))
     → ((i : ℕ) → seen past (hash p) ≢ p → p ≡ blank → least_unseen past ≡ Some i → P past p (Place i))
@@ -162,7 +162,7 @@ tight_no_place past p c differs w =
     (λ i n b e. ne_eqb i (hash p) (λ at. n (ap (seen past) (sym at) ∙ unseen_blank past i (unseen_found past i e).0 ∙ sym b)))
     (λ n o f. spells_no_place c (hash p) f.spells)
 
--- where transparent black isn't seen at its own index position, it is seen just where no pixel was put
+-- if transparent black isn't seen at its own index position, it is seen just where no pixel was put
 blank_unseen : (past : Past) (i : ℕ) → seen past (hash blank) ≢ blank → pixel_eq (seen past i) blank ≡ is_unseen past i
 blank_unseen past i differs = go (is_unseen past i) refl
   where
@@ -188,7 +188,8 @@ blank_chosen past p i b differs found = record {
   spelled = λ _ n. absurd (n b);
 }
 
--- where there is none, and for each other pixel that isn't seen, that is the first chunk that spells it out
+-- if there is none, and for each other pixel that isn't seen, that is the first chunk that spells
+-- it out
 pub spelled_chosen : (past : Past) (p : RgbaPixel) (c : Chunk) → seen past (hash p) ≢ p → (p ≡ blank → None ≡ first_blank past) → IsFirst past p c
     → IsTightChoice past p c
 spelled_chosen past p c differs none f = record {

@@ -30,7 +30,7 @@ module _ {W : Type 0} {wrote : W → List ℕ → W → Type 0} {room : W → �
         },
       )
 
-  -- all was written where nothing is left
+  -- all was written if nothing is left
   pub wrote_all : (start now : W) (all : List ℕ) → WroteBut wrote start all [] now → wrote start all now
   wrote_all start now all w = subst (λ z. wrote start z now) (sym (w.split ∙ append-nil w.front)) w.went
 

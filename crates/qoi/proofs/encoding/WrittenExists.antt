@@ -1,4 +1,5 @@
--- Each image has a written list, whatever the choice of a chunk for a fresh pixel, if there is one for each.
+-- Each image has a written list, whatever the choice of a chunk for a fresh pixel, if there is one
+-- for each.
 use Rattle.std.proofs.Common.{◌≡◌, ◌≢◌, inl, inr, ℕ, suc, ◌<◌, false, List, [], ◌∷◌, ◌++◌, reverse, replicate, Some, refl, sym, ap, ◌∙◌, subst, subst₂, append_assoc, append-nil, arith}
 use Rattle.std.proofs.lemmas.List.{reverse-append}
 use Rattle.std.specs.List.{AllByRecursion}
@@ -79,7 +80,8 @@ module _ (Choice : Past → RgbaPixel → Chunk → Type 0) (choices : Chooses C
       → WrittenBy Choice (reverse (p ∷ group) ++ rest) (((cs ++ rs) ++ c ∷ []) ++ more) → WrittenBy Choice (reverse group ++ p ∷ rest) (cs ++ (rs ++ c ∷ more))
   fresh_joined p group rest cs rs more c w = subst₂ (λ x y. WrittenBy Choice x y) (joined p p 0 group rest refl) (chunks_split cs rs more c) w
 
-  -- a list that is written for the pixels before a group begins one for the image, whatever pixels follow
+  -- a list that is written for the pixels before a group begins one for the image, whatever pixels
+  -- follow
   pub written_on : (rest : List RgbaPixel) (past : Past) (n : ℕ) (cs : List Chunk) → WrittenBy Choice (reverse past) cs → RunMayFollow cs
       → IsPixel (previous past) → AllByRecursion IsPixel rest
       → (more : List Chunk) × WrittenBy Choice (reverse (replicate n (previous past) ++ past) ++ rest) (cs ++ more)

@@ -1,4 +1,5 @@
--- How a written list grows at its end: by the runs of a group of repeats, and by a fresh pixel's chunk.
+-- How a written list grows at its end: by the runs of a group of repeats, and by a fresh pixel's
+-- chunk.
 use Rattle.std.proofs.Common.{◌≡◌, ◌≢◌, ℕ, zero, suc, ◌+◌, ◌*◌, ◌/◌, ◌%◌, ◌<◌, false, List, [], ◌∷◌, ◌++◌, reverse, replicate, refl, sym, ap, ◌∙◌, subst, subst₂, arith, append_assoc, append-nil}
 use Rattle.std.proofs.lemmas.List.{reverse-append, reverse-reverse}
 use Rattle.std.specs.List.{AllByRecursion}

@@ -1,4 +1,5 @@
--- An image has at most one written list, whatever the choice of a chunk, if the choice is of one chunk.
+-- An image has at most one written list, whatever the choice of a chunk, if the choice is of one
+-- chunk.
 use Rattle.std.proofs.Common.{◌≡◌, ◌⊎◌, inl, inr, ℕ, zero, suc, ◌+◌, ◌-◌, false, ◌/◌, ◌%◌, ◌<◌, ◌≤◌, List, [], ◌∷◌, ◌++◌, length, replicate, refl, sym, ap, ◌∙◌, arith, append_assoc}
 use Rattle.std.proofs.lemmas.List.{append_cancel_left, length-replicate, length-append, replicate-append-replicate}
 use Rattle.qoi.specs.declared.chunk.Chunk.{Chunk}

@@ -1,4 +1,5 @@
--- What a written list looks like: no two neighbours of one index position, pixels up to its end, and its greatest length.
+-- What a written list looks like: no two neighbours of one index position, pixels up to its end,
+-- and its greatest length.
 use Rattle.std.proofs.Common.{◌≡◌, inl, inr, ℕ, ◌+◌, ◌*◌, ◌<◌, ◌≤◌, List, [], ◌∷◌, ◌++◌, length, reverse, refl, sym, ap, ◌∙◌, eqb, add-mul, arith}
 use Rattle.std.proofs.lemmas.List.{reverse-reverse, length-append, length-replicate}
 use Rattle.std.proofs.lemmas.Bool.{cond_both}
@@ -36,17 +37,17 @@ stay_below past (c ∷ cs) n a e =
     let l : length (then_chunk past c) ≡ times c + length past = simp (length-append, length-replicate) in
     (omega arith, stay_below (then_chunk past c) cs n a.1 e)
 
--- the pixel before the next one is opaque, where all are
+-- the pixel before the next one is opaque, if all are
 opaque_previous : (past : Past) → AreOpaque past → (previous past).a ≡ 255
 unfolding start
 opaque_previous [] h = refl
 opaque_previous (p ∷ past) h = h.0
 
--- the pixels before chunks are opaque, where those after them are
+-- the pixels before chunks are opaque, if those after them are
 opaque_before : (past : Past) (cs : List Chunk) → AreOpaque (then_chunks past cs) → AreOpaque past
 opaque_before past cs h = all_back (λ p. p.a ≡ 255) (reverse (given past cs)) past (rw (then_chunks_given past cs) at h)
 
--- where alpha stays, a pixel isn't spelled out by an Rgba
+-- if alpha stays, a pixel isn't spelled out by an Rgba
 no_rgba : (past : Past) (r g b a : ℕ) → IsChunk (Rgba r g b a) → a ≡ (previous past).a → IsFirst past (pixel_after past (Rgba r g b a)) (Rgba r g b a) → ⊥
 no_rgba past r g b a i e f =
     let l = f.first (Rgb r g b) (i.0, i.1, i.2) (omega arith) (same_pixel _ _ refl refl refl (sym e)) in

@@ -1,4 +1,5 @@
--- Steps through a chunk list: runs and other chunks, the pixels in order, and lists joined end to end.
+-- Steps through a chunk list: runs and other chunks, the pixels in order, and lists joined end to
+-- end.
 use Rattle.std.proofs.Common.{◌≡◌, ◌⊎◌, inl, inr, ℕ, zero, suc, ◌+◌, ◌<◌, false, List, [], ◌∷◌, ◌++◌, length, reverse, replicate, refl, sym, ap, ◌∙◌, arith, append_assoc, append-nil}
 use Rattle.std.proofs.lemmas.List.{reverse-reverse, reverse-append, length-append, length-reverse, replicate-append-replicate}
 use Rattle.std.proofs.lemmas.Bool.{true≢false}
@@ -24,7 +25,7 @@ pub right_other : (Choice : Past → RgbaPixel → Chunk → Type 0) (past : Pas
 right_other Choice past (Run n) h r = absurd (true≢false h)
 right_other Choice past c h r = r
 
--- and it is right where it does
+-- and it is right if it does
 pub right_from : (Choice : Past → RgbaPixel → Chunk → Type 0) (past : Past) (c : Chunk) → GivesFresh Choice past c → IsAllowedAfter Choice past c
 right_from Choice past (Run n) g = tt
 right_from Choice past c g = g
@@ -97,6 +98,6 @@ pub each_back : (P : Past → Chunk → Type 0) (past : Past) (cs ds : List Chun
 each_back P past [] ds h = h
 each_back P past (c ∷ cs) ds h = each_back P (then_chunk past c) cs ds h.1
 
--- so many of one and then more of it are as many together
+-- m of one pixel and then n more of it are m + n together
 pub repeats_after : (m n : ℕ) (q : RgbaPixel) (past : Past) → replicate m q ++ (replicate n q ++ past) ≡ replicate (m + n) q ++ past
 repeats_after m n q past = sym (append_assoc (replicate m q) (replicate n q) past) ∙ ap (λ x. x ++ past) (replicate-append-replicate m n q)

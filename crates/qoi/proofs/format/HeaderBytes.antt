@@ -96,7 +96,7 @@ guard_false : {A E : Type 0} (b : Bool) (r : Result A E) (refusal : E) (x : A) �
 guard_false true r refusal x e = absurd cc
 guard_false false r refusal x e = (refl, e)
 
--- what bytes say beside their length, where their channels and color space are read
+-- what bytes say beside their length, if their channels and color space are read
 record SaysRest (bytes : List ℕ) (c : Channels) (s : ColorSpace) (h : Header) : Type 0 where
   pub magic : number_at bytes 0 ≡ magic_number
   pub is_header : record { width = number_at bytes 4; height = number_at bytes 8; channels = c; colorspace = s } ≡ h
@@ -179,7 +179,7 @@ own_header bytes (Ok h) fits e =
     (ap (take 14) own.0, own.1)
 own_header bytes (Err x) fits e = tt
 
--- what was read of a stream where fourteen bytes came
+-- what was read of a stream if fourteen bytes came
 pub stream_header : (old new : Option (List ℕ)) (bytes : List ℕ) (r : Result Header Error) → length bytes ≡ 14 → Consumes old new bytes → r ≡ header_of bytes
     → IfOk r (λ h. (take 14 bytes ≡ header_bytes h) × IsValid h) → ReadsHeader false old new r
 stream_header old new bytes (Ok h) size came e own = (bytes, came, size, sym e, sym (take_whole 14 bytes size) ∙ own.0, own.1)
@@ -192,7 +192,7 @@ number_at-append bytes rest i h =
     ap (λ z. from_be_bytes w32 (take 4 z)) (drop-append-le i bytes rest (omega arith))
     ∙ ap (from_be_bytes w32) (take-append-le 4 (drop i bytes) rest (omega (arith, length-drop i bytes)))
 
--- what fourteen bytes say, they say with any bytes behind them
+-- what fourteen bytes say, they say with any bytes after them
 says-append : (bytes rest : List ℕ) (h : Header) → SaysHeader bytes h → SaysHeader (bytes ++ rest) h
 says-append bytes rest h s =
     let long = s.long in
@@ -206,7 +206,7 @@ says-append bytes rest h s =
       valid = s.valid;
     }
 
--- and what they say with bytes behind them, they say alone
+-- and what they say with bytes after them, they say alone
 says-before : (bytes rest : List ℕ) (h : Header) → 14 ≤ length bytes → SaysHeader (bytes ++ rest) h → SaysHeader bytes h
 says-before bytes rest h long s = record {
   long = long;

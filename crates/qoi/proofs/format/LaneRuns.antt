@@ -108,7 +108,7 @@ agreeing_run xs ys bits at e g l few h =
     few_from : (at bits : ℕ) {m : ℕ} → bits / 2 ^ at ≡ m → bits < 16 → m < 16
     few_from at bits e f = omega (arith, shr_le bits at)
 
--- where no bit is set each lane is a group of none
+-- if no bit is set each lane is a group of none
 pub none_agree : (xs ys : List ℕ) → length xs ≡ length ys → mask_l (zip2 eqb xs ys) ≡ 0 → (k : ℕ) → k < length xs → slice_index xs k ≢ slice_index ys k
 none_agree [] ys e m = λ k l. absurd (omega arith)
 none_agree (x ∷ xs) [] e m = λ k l. absurd (omega arith)
@@ -121,7 +121,7 @@ none_agree (x ∷ xs) (y ∷ ys) e m = go (eqb x y) refl m (none_agree xs ys (om
     go false is m rest zero l = eqb-false x y is
     go false is m rest (suc k) l = rest (omega arith) k (omega arith)
 
--- where four lanes agree all bits are set
+-- if four lanes agree all bits are set
 pub all_agree : (xs ys : List ℕ) (n : ℕ) → length xs ≡ 4 → length ys ≡ 4 → 4 ≤ n → IsRun xs ys 0 n → mask_l (zip2 eqb xs ys) ≡ 15
 all_agree (x0 ∷ x1 ∷ x2 ∷ x3 ∷ []) (y0 ∷ y1 ∷ y2 ∷ y3 ∷ []) n e g many run =
     let t0 = eq-eqb x0 y0 (run.same 0 (omega arith) (omega arith)) in
@@ -132,7 +132,7 @@ all_agree (x0 ∷ x1 ∷ x2 ∷ x3 ∷ []) (y0 ∷ y1 ∷ y2 ∷ y3 ∷ []) n e 
 all_agree (x0 ∷ x1 ∷ x2 ∷ x3 ∷ []) _ n e g many run = absurd (omega arith)
 all_agree _ ys n e g many run = absurd (omega arith)
 
--- and the first lanes agree where all bits are
+-- and the first lanes agree if all bits are
 pub first_agrees : (xs ys : List ℕ) → length xs ≡ 4 → length ys ≡ 4 → mask_l (zip2 eqb xs ys) ≡ 15 → slice_index xs 0 ≡ slice_index ys 0
 first_agrees [] ys e g m = absurd (omega arith)
 first_agrees (x ∷ xs) [] e g m = absurd (omega arith)

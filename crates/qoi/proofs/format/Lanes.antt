@@ -8,13 +8,13 @@ use mir.Syntax.{w8}
 abbrev differ : ℕ → ℕ → Bool
 differ x y = not (eqb x y)
 
--- where the first lanes don't differ, nor the others, the vectors hold the same
+-- if the first lanes don't differ, nor the others, the vectors hold the same
 both_same : (x y : ℕ) (xs ys : List ℕ) (b : Bool) → eqb x y ≡ b → cond (not b) 1 0 + 2 * mask_l (zip2 differ xs ys) ≡ 0
     → (mask_l (zip2 differ xs ys) ≡ 0 → xs ≡ ys) → x ∷ xs ≡ y ∷ ys
 both_same x y xs ys true is e rest = let head = eqb-true x y is in let more = rest (omega arith) in cc
 both_same x y xs ys false is e rest = absurd (omega arith)
 
--- where no bit is set no lanes differ
+-- if no bit is set no lanes differ
 none_differ : (xs ys : List ℕ) → length xs ≡ length ys → mask_l (zip2 differ xs ys) ≡ 0 → xs ≡ ys
 none_differ [] [] size e = refl
 none_differ [] (y ∷ ys) size e = absurd (omega arith)

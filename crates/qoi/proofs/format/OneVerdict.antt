@@ -7,7 +7,7 @@ use Rattle.qoi.specs.Verdicts.{IsPartOfChunk, HasChunks, IsWhole, IsCut, IsWrong
 use Rattle.qoi.proofs.format.Appended.{length-meaning}
 use Rattle.qoi.proofs.format.ChunksApart.{chunks_apart, part_begins_none}
 
--- fewer than n pixels stand before each chunk, where these pixels stand before the first one
+-- fewer than n pixels stand before each chunk, if these pixels stand before the first one
 abbrev pub StayBelowAfter : ℕ → Past → List Chunk → Type 0
 StayBelowAfter n past cs = Each (λ q c. length q < n) past cs
 
@@ -15,7 +15,7 @@ StayBelowAfter n past cs = Each (λ q c. length q < n) past cs
 abbrev pub EndsChunks : ℕ → Past → List ℕ → Type 0
 EndsChunks n past rest = (n ≤ length past) ⊎ ((length past < n) × IsPartOfChunk rest)
 
--- where reading ends, no further chunk follows
+-- when reading ends, no further chunk follows
 ends_without_chunk : (n : ℕ) (past : Past) (d : Chunk) (x y : List ℕ) → IsChunk d → length past < n → EndsChunks n past x → x ≡ bytes_of d ++ y → ⊥
 ends_without_chunk n past d x y hd short (inl enough) e = omega arith
 ends_without_chunk n past d x y hd short (inr part) e = part_begins_none d y hd (subst IsPartOfChunk e part.1)

@@ -257,7 +257,7 @@ same a b = cond (eqb a b) 4294967295 0
 abbrev other : ℕ → ℕ → ℕ
 other a b = cond (not (eqb a b)) 4294967295 0
 
--- where alpha's step isn't 0
+-- if alpha's step isn't 0
 change_lanes : (ss : List ℕ) → length ss ≡ 4 → sel_l (map (top 31) (zip2 other (zip2 bit_and ss (replicate 4 0xff000000)) (replicate 4 0))) (replicate 4 1)
     (replicate 4 0) ≡ map changes ss
 change_lanes (x ∷ y ∷ z ∷ w ∷ []) e = λ i. one_lane (eqb (bit_and x 0xff000000) 0) i ∷ one_lane (eqb (bit_and y 0xff000000) 0) i ∷ one_lane
@@ -290,7 +290,7 @@ high_byte s l =
     ∙ and_block 24 (s / 2 ^ 24) 255 (s % 2 ^ 24) 0 (omega arith) (omega arith)
     ∙ omega (arith, and_mask (s / 2 ^ 24) 8, and_mask (s % 2 ^ 24) 0)
 
--- where alpha stays
+-- if alpha stays
 no_change : (s : ℕ) → s < 2 ^ 32 → s / 2 ^ 24 ≡ 0 → changes s ≡ 0
 no_change s l e = ap (λ z. cond (eqb z 0) 0 1) (high_byte s l ∙ ap (λ z. z * 2 ^ 24) e)
 

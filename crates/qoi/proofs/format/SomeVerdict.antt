@@ -122,7 +122,7 @@ HasVerdict n bytes = ((cs : List Chunk) × (rest : List ℕ) × IsWhole n bytes 
     ⊎ (((cs : List Chunk) × (part : List ℕ) × IsCut n bytes cs part)
     ⊎ ((cs : List Chunk) × (eight : List ℕ) × (rest : List ℕ) × IsWrong n bytes cs eight rest))
 
--- the verdict where n pixels are reached and eight bytes or more follow
+-- the verdict if n pixels are reached and eight bytes or more follow
 marker_verdict : (n : ℕ) (bytes : List ℕ) (cs : List Chunk) (eight rest : List ℕ) → HasChunks n bytes cs (eight ++ rest)
     → n ≤ length (meaning cs) → length eight ≡ 8 → HasVerdict n bytes
 marker_verdict n bytes cs eight rest t enough h =

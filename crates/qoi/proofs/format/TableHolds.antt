@@ -46,22 +46,22 @@ pub blank_from_start : (past : Past) → first_blank past ≡ blank_from past 0
 unfolding first_blank blank_from
 blank_from_start past = refl
 
--- the next position is looked at, and then those behind it
+-- the next position is looked at, and then those after it
 blank_from_next : (past : Past) (k : ℕ) → k < 64 → blank_from past k ≡ cond (pixel_eq (seen past k) blank) (Some k) (blank_from past (k + 1))
 unfolding blank_from
 blank_from_next past k l =
     let more : 64 - k ≡ suc (64 - (k + 1)) = omega arith in
     ap (λ n. find (λ i. pixel_eq (seen past i) blank) (range_with_len k n)) more
 
--- where transparent black is seen there, it is this one
+-- if transparent black is seen there, it is this one
 pub blank_here : (past : Past) (k : ℕ) → k < 64 → seen past k ≡ blank → blank_from past k ≡ Some k
 blank_here past k l e = blank_from_next past k l ∙ cond-true (pixel_eq (seen past k) blank) _ _ (pixel_eq-from (seen past k) blank e)
 
--- else it is behind it
+-- else it is after it
 pub blank_behind : (past : Past) (k : ℕ) → k < 64 → seen past k ≢ blank → blank_from past k ≡ blank_from past (k + 1)
 blank_behind past k l n = blank_from_next past k l ∙ cond-false (pixel_eq (seen past k) blank) _ _ (pixel_eq-ne (seen past k) blank n)
 
--- behind the last position there is none
+-- after the last position there is none
 pub blank_nowhere : (past : Past) (k : ℕ) → 64 ≤ k → blank_from past k ≡ None
 unfolding blank_from
 blank_nowhere past k l =

@@ -15,7 +15,7 @@ some_below-from (suc n) test d l h = elim (cases_eq d n) as (λ _. (test n || so
   | inr other ↦ or_right _ _ (some_below-from n test d (omega arith) h)
 ]
 
--- where some number passes there is one
+-- if some number passes there is one
 some_below-true : (n : ℕ) (test : ℕ → Bool) → some_below n test ≡ true → (d : ℕ) × (d < n) × (test d ≡ true)
 some_below-true zero test h = absurd (true≢false (sym h))
 some_below-true (suc n) test h = elim (or_cases (test n) (some_below n test) h) as (λ _. (d : ℕ) × (d < suc n) × (test d ≡ true)) [
@@ -30,7 +30,7 @@ some_diff-from q p d i e =
     let k : 64 + (d - 64) ≡ d = omega arith in
     some_below-from 64 (λ d. pixel_eq (after_diff q (64 + d)) p) (d - 64) (omega arith) (rw k (pixel_eq-from _ p e))
 
--- where some Diff gives the pixel there is one
+-- if some Diff gives the pixel there is one
 pub some_diff-true : (q p : RgbaPixel) → some_diff q p ≡ true → (d : ℕ) × IsChunk (Diff d) × (after_diff q d ≡ p)
 unfolding some_diff
 some_diff-true q p h =
@@ -46,7 +46,7 @@ some_luma-from q p d e i s =
     some_below-from 64 (λ d. some_below 256 (λ e. pixel_eq (after_luma q (128 + d) e) p)) (d - 128) (omega arith)
     (some_below-from 256 (λ e. pixel_eq (after_luma q (128 + (d - 128)) e) p) e i.2 (rw k (pixel_eq-from _ p s)))
 
--- where some Luma gives the pixel there is one
+-- if some Luma gives the pixel there is one
 pub some_luma-true : (q p : RgbaPixel) → some_luma q p ≡ true → (d e : ℕ) × IsChunk (Luma d e) × (after_luma q d e ≡ p)
 unfolding some_luma
 some_luma-true q p h =
@@ -60,7 +60,7 @@ pub some_rgb-from : (q p : RgbaPixel) → p.a ≡ q.a → some_rgb q p ≡ true
 unfolding some_rgb
 some_rgb-from q p e = eq-eqb p.a q.a e
 
--- where alpha stays some Rgb gives the pixel
+-- if alpha stays some Rgb gives the pixel
 pub some_rgb-true : (q p : RgbaPixel) → some_rgb q p ≡ true → p.a ≡ q.a
 unfolding some_rgb
 some_rgb-true q p h = eqb-true p.a q.a h
@@ -94,40 +94,40 @@ least_low past p = by_ladder (λ n. 1 ≤ n) past p (omega arith) (omega arith) 
 pub least_high : (past : Past) (p : RgbaPixel) → least past p ≤ 5
 least_high past p = by_ladder (λ n. n ≤ 5) past p (omega arith) (omega arith) (omega arith) (omega arith)
 
--- where the pixel is seen at its index position the least is 1
+-- if the pixel is seen at its index position the least is 1
 pub least_seen : (past : Past) (p : RgbaPixel) → seen past (hash p) ≡ p → least past p ≤ 1
 least_seen past p e = rw (is_ladder past p, pixel_eq-from _ p e) (omega arith)
 
--- where a Diff gives the pixel the least is 1
+-- if a Diff gives the pixel the least is 1
 pub least_diff : (past : Past) (p : RgbaPixel) → some_diff (previous past) p ≡ true → least past p ≤ 1
 least_diff past p e = rw (is_ladder past p) (le_of_eq (cond-true _ 1 _ (or_right _ _ e)))
 
--- where a Luma gives the pixel the least is at most 2
+-- if a Luma gives the pixel the least is at most 2
 pub least_luma : (past : Past) (p : RgbaPixel) → some_luma (previous past) p ≡ true → least past p ≤ 2
 least_luma past p e =
     rw (is_ladder past p, e) (either (λ n. n ≤ 2) (pixel_eq (seen past (hash p)) p || some_diff (previous past) p) 1 2 (omega arith) (omega arith))
 
--- where alpha stays the least is at most 4
+-- if alpha stays the least is at most 4
 pub least_rgb : (past : Past) (p : RgbaPixel) → some_rgb (previous past) p ≡ true → least past p ≤ 4
 least_rgb past p e =
     let P = λ (n : ℕ). n ≤ 4 in
     rw (is_ladder past p, e) (either P (pixel_eq (seen past (hash p)) p || some_diff (previous past) p) 1 _ (omega arith)
     (either P (some_luma (previous past) p) 2 4 (omega arith) (omega arith)))
 
--- where the pixel isn't seen at its index position and no Diff gives it, the least is at least 2
+-- if the pixel isn't seen at its index position and no Diff gives it, the least is at least 2
 pub least_over_1 : (past : Past) (p : RgbaPixel) → seen past (hash p) ≢ p → some_diff (previous past) p ≡ false → 2 ≤ least past p
 least_over_1 past p n d =
     let P = λ (n : ℕ). 2 ≤ n in
     rw (is_ladder past p, pixel_eq-ne _ p n, d) (either P (some_luma (previous past) p) 2 _ (omega arith)
     (either P (some_rgb (previous past) p) 4 5 (omega arith) (omega arith)))
 
--- where no Luma gives it either, the least is at least 4
+-- if no Luma gives it either, the least is at least 4
 pub least_over_2 : (past : Past) (p : RgbaPixel) → seen past (hash p) ≢ p → some_diff (previous past) p ≡ false → some_luma (previous past) p ≡ false
     → 4 ≤ least past p
 least_over_2 past p n d l =
     rw (is_ladder past p, pixel_eq-ne _ p n, d, l) (either (λ n. 4 ≤ n) (some_rgb (previous past) p) 4 5 (omega arith) (omega arith))
 
--- where alpha changes too, the least is 5
+-- if alpha changes too, the least is 5
 pub least_over_4 : (past : Past) (p : RgbaPixel) → seen past (hash p) ≢ p → some_diff (previous past) p ≡ false → some_luma (previous past) p ≡ false
     → some_rgb (previous past) p ≡ false → 5 ≤ least past p
 least_over_4 past p n d l r = rw (is_ladder past p, pixel_eq-ne _ p n, d, l, r) (omega arith)

@@ -63,7 +63,8 @@ module _ (shortest : Past → RgbaPixel → ℕ) (Allowed : Past → Chunk → T
       let t : length (chunk_bytes (c ∷ cs)) ≡ length (bytes_of c) + length (chunk_bytes cs) = length-append (bytes_of c) (chunk_bytes cs) in
       omega arith
 
-  -- so a chunk list that is allowed has no fewer bytes than the pixels of an image that it begins with cost
+  -- so a chunk list that is allowed has no fewer bytes than the pixels of an image that it begins
+  -- with cost
   pub lower_by : (image : List RgbaPixel) (cs : List Chunk) → AreChunks cs → Each Allowed [] cs → Begins (meaning cs) image
       → total_cost shortest (reverse image) ≤ length (chunk_bytes cs)
   lower_by image cs k a (more, b) =

@@ -26,7 +26,7 @@ right_named : (past : Past) (c : Chunk) → IsAllowedAfter IsChoice past c → N
 right_named past (Place i) r = place_named past i r.is_chosen
 right_named past c r = tt
 
--- what follows from P holds of each chunk where P does
+-- what follows from P holds of each chunk if P does
 each_map : (P Q : Past → Chunk → Type 0) → ((past : Past) (c : Chunk) → P past c → Q past c) → (past : Past) (cs : List Chunk) → Each P past cs → Each Q past cs
 each_map P Q f past [] h = tt
 each_map P Q f past (c ∷ cs) h = (f past c h.0, each_map P Q f (then_chunk past c) cs h.1)
@@ -81,7 +81,7 @@ no_blank_regular image cs r (more, b) h =
     all_named [] cs (reverse more) (reverse image) e (subst (λ n. Each (λ past c. length past < n) [] cs) l r.stays_below)
     (all_reverse (λ p. p ≢ blank) image h)
 
--- what follows from P holds of each of a list where P does
+-- what follows from P holds of each of a list if P does
 all_map : {A : Type 0} (P Q : A → Type 0) → ((x : A) → P x → Q x) → (xs : List A) → AllByRecursion P xs → AllByRecursion Q xs
 all_map P Q f [] h = tt
 all_map P Q f (x ∷ xs) h = (f x h.0, all_map P Q f xs h.1)

@@ -5,12 +5,12 @@ use Rattle.qoi.specs.Qoi.{RgbaPixel, IsPixel, Past, pixel, pixel_eq, start, blan
 use Rattle.qoi.specs.Written.{noted, IsChoice, Written}
 use Rattle.qoi.proofs.encoding.Spelled.{FitsDiff, FitsLuma, first_rgb, first_rgba}
 
--- an Rgb is chosen where the pixel isn't noted and green is far
+-- an Rgb is chosen if the pixel isn't noted and green is far
 pub chosen_rgb : (past : Past) (p : RgbaPixel) → IsPixel (previous past) → IsPixel p → noted past (hash p) ≢ p → p.a ≡ (previous past).a
     → (FitsDiff (previous past) p → ⊥) → (FitsLuma (previous past) p → ⊥) → IsChoice past p (Rgb p.r p.g p.b)
 chosen_rgb past p iq ip n alpha d l = record { place = λ e. absurd (n e); spelled = λ _. first_rgb past p iq ip alpha d l }
 
--- an Rgba is chosen where the pixel isn't noted and alpha changes
+-- an Rgba is chosen if the pixel isn't noted and alpha changes
 pub chosen_rgba : (past : Past) (p : RgbaPixel) → noted past (hash p) ≢ p → p.a ≢ (previous past).a → IsChoice past p (Rgba p.r p.g p.b p.a)
 chosen_rgba past p n alpha = record { place = λ e. absurd (n e); spelled = λ _. first_rgba past p alpha }
 

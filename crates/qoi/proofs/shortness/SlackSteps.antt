@@ -67,8 +67,8 @@ slack_more n past p = elim (cases_Bool (opens past && is_start (first_at past)))
       | inr e ↦ rw e (omega arith)
     ]
 
--- Where what is seen and what is noted at an index position differ: it is that of opaque black, with which
--- the image opens and which is seen there, and no fresh pixel so far has it.
+-- Where what is seen and what is noted at an index position differ: it is that of opaque black,
+-- with which the image opens and which is seen there, and no fresh pixel so far has it.
 record Differs (past : Past) (i : ℕ) : Type 0 where
   pub place : i ≡ hash start
   pub opened : opens past ≡ true
@@ -134,7 +134,7 @@ noted_or_differs (q ∷ past) i = go past (cases_pixel q (previous past)) (cases
       last = seen_other past q i other ∙ d.last;
     })
 
--- where they differ there is no slack so far
+-- if they differ there is no slack so far
 slack_before : (n : ℕ) (past : Past) (i : ℕ) → Differs past i → slack_at n past ≡ 0
 unfolding slack_at
 slack_before n past i d = cond-false (opens past && is_start (first_at past)) n 0 (and_right (opens past) _ (ap is_start d.nothing))
@@ -152,7 +152,8 @@ slack_after n past i p d f e = cond-true (opens (p ∷ past) && is_start (first_
         ∙ ap (λ x. option_or x (find (λ p. eqb (hash p) (hash start)) (p ∷ []))) d.nothing
         ∙ cond-true (eqb (hash p) (hash start)) (Some p) None (eq-eqb _ _ (ap hash e))
 
--- So where a fresh pixel is seen at its index position, but not noted there, the slack grows from none to all.
+-- So if a fresh pixel is seen at its index position, but not noted there, the slack grows from none
+-- to all.
 pub slack_grows : (n : ℕ) (past : Past) (p : RgbaPixel) → p ≢ previous past → noted past (hash p) ≢ p → seen past (hash p) ≡ p
     → slack_at n past + n ≡ slack_at n (p ∷ past)
 slack_grows n past p f other s = elim (noted_or_differs past (hash p)) as (λ _. slack_at n past + n ≡ slack_at n (p ∷ past)) [
@@ -170,7 +171,7 @@ slack_most image n =
     cond_both (is_start (slice_get image 0) && is_start (find (λ p. eqb (hash p) (hash start)) (reverse (fresh (reverse image))))) n 0 (λ x. x ≤ n)
     (λ _. omega arith) (λ _. omega arith)
 
--- there is none where the image doesn't open with opaque black
+-- there is none if the image doesn't open with opaque black
 pub slack_opens : (image : List RgbaPixel) (n : ℕ) → (OpensBlack image → ⊥) → slack image n ≡ 0
 unfolding slack
 slack_opens image n closed = rw (false_from_ne_true (is_start (slice_get image 0)) closed) refl

@@ -21,13 +21,13 @@ least0_low : (past : Past) (p : RgbaPixel) → 1 ≤ least0 past p
 unfolding least0
 least0_low past p = cond_both (pixel_eq p blank && is_some (least_unseen past)) 1 (least past p) (λ x. 1 ≤ x) (λ _. omega arith) (λ _. least_low past p)
 
--- and no more than where each position that is named was written
+-- and no more than if each position that is named was written
 least0_high : (past : Past) (p : RgbaPixel) → least0 past p ≤ least past p
 unfolding least0
 least0_high past p = cond_both (pixel_eq p blank && is_some (least_unseen past)) 1 (least past p) (λ x. x ≤ least past p) (λ _. least_low past p)
     (λ _. omega arith)
 
--- transparent black costs a byte where a position is unseen
+-- transparent black costs a byte if a position is unseen
 least0_unseen : (past : Past) (p : RgbaPixel) → p ≡ blank → is_some (least_unseen past) ≡ true → least0 past p ≡ 1
 unfolding least0
 least0_unseen past p b u = cond-true (pixel_eq p blank && is_some (least_unseen past)) 1 (least past p) (and_from _ _ (pixel_eq-from p blank b) u)
@@ -81,7 +81,7 @@ tight_exact image cs w =
     let l = lower0 image cs w.chunks ([], w.means ∙ sym (append-nil image)) in
     omega arith
 
--- where a pixel's shortest chunk is no longer, pixels cost no more
+-- if a pixel's shortest chunk is no longer, pixels cost no more
 costs_less : (s t : Past → RgbaPixel → ℕ) → ((past : Past) (p : RgbaPixel) → s past p ≤ t past p) → (past : Past) → total_cost s past ≤ total_cost t past
 costs_less s t less [] = omega arith
 costs_less s t less (p ∷ past) = let one = go (cases_pixel p (previous past)) in let more = costs_less s t less past in omega arith

@@ -16,21 +16,21 @@ use Rattle.qoi.proofs.shortness.Costs.{some_diff-true, some_luma-true, some_rgb-
 use Rattle.qoi.proofs.shortness.SlackSteps.{slack_at, slack_is, slack_more, slack_grows}
 use Rattle.qoi.proofs.encoding.WrittenShape.{channels_before, chunk_fits, choice_rgba}
 
--- where the first chunk is no Diff, no Diff gives the pixel
+-- if the first chunk is no Diff, no Diff gives the pixel
 no_diff : (past : Past) (p : RgbaPixel) (c : Chunk) → IsFirst past p c → 1 < rank c → some_diff (previous past) p ≡ false
 no_diff past p c f h = false_from_ne_true _ (λ t.
     let w = some_diff-true (previous past) p t in
     let l = f.first (Diff w.0) w.1 (omega arith) w.2 in
     omega arith)
 
--- where it is no Luma either, no Luma does
+-- if it is no Luma either, no Luma does
 no_luma : (past : Past) (p : RgbaPixel) (c : Chunk) → IsFirst past p c → 2 < rank c → some_luma (previous past) p ≡ false
 no_luma past p c f h = false_from_ne_true _ (λ t.
     let w = some_luma-true (previous past) p t in
     let l = f.first (Luma w.0 w.1) w.2 (omega arith) w.3 in
     omega arith)
 
--- where it is an Rgba, alpha changes
+-- if it is an Rgba, alpha changes
 no_rgb : (past : Past) (p : RgbaPixel) (c : Chunk) → IsChunk c → IsFirst past p c → 3 < rank c → some_rgb (previous past) p ≡ false
 no_rgb past p (Rgba r g b a) i f h = false_from_ne_true _ (λ t.
     let w = some_rgb-true (previous past) p t in
@@ -39,7 +39,7 @@ no_rgb past p (Rgba r g b a) i f h = false_from_ne_true _ (λ t.
     omega arith)
 no_rgb past p c i f h = absurd (omega arith)
 
--- the first chunk that spells a pixel out is no longer than the least, where the pixel isn't seen
+-- the first chunk that spells a pixel out is no longer than the least, if the pixel isn't seen
 pub first_least : (past : Past) (p : RgbaPixel) (c : Chunk) → IsChunk c → IsFirst past p c → seen past (hash p) ≢ p → length (bytes_of c) ≤ least past p
 first_least past p (Diff d) i f n = least_low past p
 first_least past p (Luma d e) i f n = least_over_1 past p n (no_diff past p _ f (omega arith))

@@ -27,8 +27,9 @@ pub record ImageList : Type 0 where
   pub image : List RgbaPixel
   pub cs : List Chunk
 
--- The list is written for the image. Of its pixels `past` have come, and `done` is the list that is written for them,
--- which a run may follow if the next pixel repeats; `rest` follow. Of the list the chunks `todo` are still to be written.
+-- The list is written for the image. Of its pixels `past` have come, and `done` is the list that is
+-- written for them, which a run may follow if the next pixel repeats; `rest` follow. Of the list
+-- the chunks `todo` are still to be written.
 pub record StillToWrite (l : ImageList) (past : Past) (rest : List RgbaPixel) (todo : List Chunk) : Type 0 where
   pub whole : WrittenBy (choice_in l.style) l.image l.cs
   pub split : l.image ≡ reverse past ++ rest
@@ -39,14 +40,15 @@ pub record StillToWrite (l : ImageList) (past : Past) (rest : List RgbaPixel) (t
   pub run_may_follow : slice_get rest 0 ≡ Some (previous past) → RunMayFollow done
   pub parts : l.cs ≡ done ++ todo
 
--- A list that is written for an image in a style, and the bytes that didn't go to a writer yet: those that are kept, and
--- after them those of the chunks that are still to be written.
+-- A list that is written for an image in a style, and the bytes that didn't go to a writer yet:
+-- those that are kept, and after them those of the chunks that are still to be written.
 pub record Writing : Type 0 where
   pub list : ImageList
   pub ahead : List ℕ
 
--- What a coder and its table keep after these pixels and this chunk: the pixels that the style puts at their positions, the
--- last pixel, whether a fresh one came, and whether the chunk names the last pixel's position.
+-- What a coder and its table keep after these pixels and this chunk: the pixels that the style puts
+-- at their positions, the last pixel, whether a fresh one came, and whether the chunk names the
+-- last pixel's position.
 pub record CoderAfter {N : ℕ} (past : Past) (before : Option Chunk) (table : List RgbaPixel) (coder : Coder N) : Type 0 where
   pub table_is : Holds table (held_in coder.style past)
   pub last_is : coder.last ≡ previous past
@@ -57,8 +59,8 @@ pub record CoderAfter {N : ℕ} (past : Past) (before : Option Chunk) (table : L
 abbrev pub single : {N : ℕ} → Coder N → ℕ → Chunk
 single coder n = single_chunk coder.style coder.begun coder.placed coder.place n
 
--- Between two pixels: the pixels `rest` still come, and the bytes ahead are those that are kept and those of the chunks
--- that are still to be written, as the style has them.
+-- Between two pixels: the pixels `rest` still come, and the bytes ahead are those that are kept and
+-- those of the chunks that are still to be written, as the style has them.
 pub record CoderBetween {N : ℕ} (w : Writing) (rest : List RgbaPixel) (table : List RgbaPixel) (coder : Coder N) (kept : List ℕ) : Type 0 where
   pub style_is : coder.style ≡ w.list.style
   pub past : Past
@@ -68,7 +70,7 @@ pub record CoderBetween {N : ℕ} (w : Writing) (rest : List RgbaPixel) (table :
   pub ahead_is : w.ahead ≡ kept ++ chunk_bytes (styled w.list.style past before todo)
   pub state : CoderAfter past before table coder
 
--- the same where the pixels of these raw bytes still come, and a piece keeps the bytes
+-- the same if the pixels of these raw bytes still come, and a piece keeps the bytes
 abbrev pub BytesBetween : {N : ℕ} → Writing → List ℕ → List RgbaPixel → Coder N → Piece → Type 0
 BytesBetween {N} w bytes table coder piece = CoderBetween w (pixels_of N bytes) table coder (kept_bytes piece)
 
@@ -79,13 +81,14 @@ lane_pixel quad k = pixel_of_word (slice_index quad.pixels k)
 abbrev pub before_lane : {N : ℕ} → Quad N → ℕ → RgbaPixel
 before_lane quad k = pixel_of_word (slice_index quad.before k)
 
--- what stays the same among four pixels: the list that is written, the four, and the pixels that they open
+-- what stays the same among four pixels: the list that is written, the four, and the pixels that
+-- they open
 pub record InFour (N : ℕ) : Type 0 where
   pub writing : Writing
   pub quad : Quad N
   pub pixels : List RgbaPixel
 
--- these three
+-- the record of the three
 abbrev pub in_four : {N : ℕ} → Writing → Quad N → List RgbaPixel → InFour N
 in_four w quad pixels = record { writing = w; quad = quad; pixels = pixels }
 

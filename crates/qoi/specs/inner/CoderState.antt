@@ -7,20 +7,22 @@ use Rattle.qoi.specs.declared.types.Style.TheVariants.{Reference, Places, Tight}
 use Rattle.qoi.specs.Qoi.{Past}
 use Rattle.qoi.specs.Written.{fresh}
 
--- the pixels that a coder puts at their index positions: the fresh ones, and in style Tight all of them
+-- the pixels that a coder puts at their index positions: the fresh ones, and in style Tight all of
+-- them
 abbrev pub held_in : Style → Past → Past
 held_in Reference past = fresh past
 held_in Places past = fresh past
 held_in Tight past = past
 
--- the chunk of the single repeat that is left of a group of n, after runs of 62 and before a fresh pixel: by the index
--- position of the repeated pixel, whether a fresh pixel came, and whether the chunk before names the position
+-- the chunk of the single repeat that is left of a group of n, after runs of 62 and before a fresh
+-- pixel: by the index position of the repeated pixel, whether a fresh pixel came, and whether the
+-- chunk before names the position
 abbrev pub single_chunk : Style → Bool → Bool → ℕ → ℕ → Chunk
 single_chunk Reference begun placed place n = Run 1
 single_chunk Tight begun placed place n = Run 1
 single_chunk Places begun placed place n = if begun && (nat_lt 1 n || not placed) then Place place else Run 1
 
--- the last of the chunks, or the chunk before them where there is none
+-- the last of the chunks, or the chunk before them if there is none
 abbrev pub last_chunk : Option Chunk → List Chunk → Option Chunk
 last_chunk before [] = before
 last_chunk before (c ∷ cs) = last_chunk (Some c) cs

@@ -11,7 +11,7 @@ pub record Buffer : Type 0 where
   pub out : List ℕ
   pub at : ℕ
 
--- the buffer, of which so many bytes are written
+-- the buffer, of which the first `at` bytes are written
 abbrev pub upto : List ℕ → ℕ → Buffer
 upto out at = record { out = out; at = at }
 
@@ -20,7 +20,8 @@ pub record HasWritten (file_channels channels : ℕ) (old new : Buffer) (pixels 
   pub at_is : new.at ≡ old.at + channels * length pixels
   pub same : take new.at new.out ≡ take old.at old.out ++ output file_channels channels pixels
 
--- The buffer has room for n pixels, and what is written of it are the pixels so far, as far as they fit.
+-- The buffer has room for n pixels, and what is written of it are the pixels so far, as far as they
+-- fit.
 pub record HasFilled (file_channels channels n : ℕ) (b : Buffer) (past : Past) : Type 0 where
   pub room : length b.out ≡ channels * n
   pub at_is : b.at ≡ channels * min n (length past)
@@ -30,7 +31,8 @@ pub record HasFilled (file_channels channels n : ℕ) (b : Buffer) (past : Past)
 abbrev pub IsWholePixels : ℕ → ℕ → ℕ → Type 0
 IsWholePixels channels size at = (size % channels ≡ 0) × (at % channels ≡ 0)
 
--- what a decoder has between two chunks: the numbers of the index positions and of the last pixel, and the output
+-- what a decoder has between two chunks: the numbers of the index positions and of the last pixel,
+-- and the output
 pub record Filling : Type 0 where
   pub table : List ℕ
   pub last : ℕ
@@ -69,7 +71,7 @@ pub record DecoderBetween (file_channels channels n : ℕ) (Taken : List ℕ →
   pub within : now.buffer.at ≤ length now.buffer.out
   pub whole : now.buffer.at % channels ≡ 0
 
--- so many bytes at the front were taken
+-- the first `size` bytes were taken
 abbrev pub IsFront : List ℕ → ℕ → List ℕ → Type 0
 IsFront bytes size taken = taken ≡ take size bytes
 

@@ -1,4 +1,5 @@
--- Four packed pixels in the lanes of a vector: what the encoder computes of each, beside the pixel before it.
+-- Four packed pixels in the lanes of a vector: what the encoder computes of each, beside the pixel
+-- before it.
 use Rattle.std.specs.Prelude.{◌≡◌, ◌≢◌, ◌≤◌, ℕ, ◌<◌, nat_eq, take, map, ◌++◌, if◌then◌else◌, slice_index, length, List, [], ◌∷◌, ◌+◌, ◌-◌, ◌*◌, ◌/◌, ◌%◌, ◌^◌}
 use Rattle.std.specs.List.{AllByRecursion}
 use Rattle.std.specs.Int.Bits.{bit_and}
@@ -58,7 +59,7 @@ luma_number u = plus_32 (plus_32 (down u 8) (up u 12)) 128
 abbrev pub rgb_number : ℕ → ℕ
 rgb_number p = plus_32 (up p 8) 254
 
--- 1 where alpha's step isn't 0
+-- 1 if alpha's step isn't 0
 abbrev pub changes : ℕ → ℕ
 changes s = if nat_eq (bit_and s 0xff000000) 0 then 0 else 1
 
@@ -121,7 +122,8 @@ AreFour words = (length words ≡ 4) × ((k : ℕ) → slice_index words k < 2 ^
 abbrev pub places_of : List ℕ → List ℕ
 places_of words = map (λ w. hash (pixel_of_word w)) words
 
--- the lanes are the first four of these pixels, and the ones before them, of which `last` is the first
+-- the lanes are the first four of these pixels, and the ones before them, of which `last` is the
+-- first
 pub record AreFourAfter (last : RgbaPixel) (pixels : List RgbaPixel) (cur prev : List ℕ) : Type 0 where
   pub last_is : IsPixel last
   pub long : 4 ≤ length pixels

@@ -11,7 +11,8 @@ use Rattle.qoi.specs.writers.Writes.{WroteBut, WroteBeginning}
 abbrev pub kept_bytes : Piece → List ℕ
 kept_bytes s = take s.end s.bytes.now
 
--- The chunks of an image in a style were written after the bytes that were kept, but for those that are kept then.
+-- The chunks of an image in a style were written after the bytes that were kept, but for those that
+-- are kept then.
 abbrev pub WroteChunks : {W : Type 0} → (W → List ℕ → W → Type 0) → Style → List RgbaPixel → W → Piece → W → Piece → Type 0
 WroteChunks wrote style image a old b new = (cs : List Chunk) × WrittenIn style image cs
     × WroteBut wrote a (kept_bytes old ++ chunk_bytes cs) (kept_bytes new) b

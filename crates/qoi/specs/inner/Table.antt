@@ -3,8 +3,8 @@ use Rattle.std.specs.Prelude.{◌≡◌, ℕ, ◌<◌, List, slice_get, Option, 
 use Rattle.std.specs.List.{find, range_with_len}
 use Rattle.qoi.specs.Qoi.{RgbaPixel, Past, pixel_eq, blank, positions, seen}
 
--- The table holds, at each index position, what is seen there of these pixels, which were put there one after the
--- other.
+-- The table holds, at each index position, what is seen there of these pixels, which were put there
+-- one after the other.
 abbrev pub Holds : List RgbaPixel → Past → Type 0
 Holds table past = (i : ℕ) → i < positions → slice_get table i ≡ Some (seen past i)
 

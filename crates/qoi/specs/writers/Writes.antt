@@ -1,4 +1,5 @@
--- What a writer's relation promises. `wrote a bytes b` says that the writer a became b by writing the bytes.
+-- What a writer's relation promises. `wrote a bytes b` says that the writer a became b by writing
+-- the bytes.
 use Rattle.std.specs.Prelude.{◌≡◌, ℕ, ◌+◌, List, [], ◌++◌, length, take, drop, Option}
 use Rattle.std.specs.Io.KnownBytes.{Appends}
 

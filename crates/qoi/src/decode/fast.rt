@@ -1,5 +1,5 @@
-//! The loop over the chunks in a slice while there is room ahead for four of them, whose ends need then be
-//! tested once.
+//! The loop over the chunks in a slice while there is room ahead for four of them, whose ends need
+//! then be tested once.
 ghost use Rattle.std.specs.Prelude.{◌≡◌, ◌↔◌, IsTrue, ℕ, ◌+◌, ◌-◌, ◌/◌, ◌%◌, ◌<◌, ◌≤◌, [], length};
 ghost use Rattle.qoi.specs.Qoi.{run_tag, rgb_tag};
 ghost use Rattle.qoi.specs.Raw.{IsChannels};
@@ -13,14 +13,15 @@ use crate::packed::pick;
 use crate::steps::advance;
 use crate::table::HashedTable;
 
-// Bytes of four short chunks, of which each has two at most, of an RGBA chunk and of the byte after it.
+// Bytes of four short chunks, of which each has two at most, of an RGBA chunk and of the byte after
+// it.
 const INPUT_ROOM: usize = 14;
 
 // Bytes of room for the blocks of four short chunks and of a full one.
 const OUTPUT_ROOM: usize = 80;
 
-/// What a decoder has between two chunks: the last pixel, how many bytes are taken and written, and the
-/// byte that comes next.
+/// What a decoder has between two chunks: the last pixel, how many bytes are taken and written, and
+/// the byte that comes next.
 #[derive(Clone, Copy)]
 pub(super) struct Progress {
     pub(super) last: Hashed,
@@ -29,8 +30,8 @@ pub(super) struct Progress {
     pub(super) next: u32,
 }
 
-// Whether a chunk with this first byte is short: an index position, a difference, a luma, or a run that a
-// block of sixteen bytes holds.
+// Whether a chunk with this first byte is short: an index position, a difference, a luma, or a run
+// that a block of sixteen bytes holds.
 #[inline(always)]
 fn is_short<const N: usize>(b1: u32) -> bool
     requires { IsChannels N }
@@ -42,8 +43,8 @@ fn is_short<const N: usize>(b1: u32) -> bool
 impl Progress {
     ghost use Rattle.qoi.specs.inner.Filling.{IsFront, filling, DecoderBetween, FastBetween};
 
-    // Decodes a short chunk, without a jump. Its block of output is written whole, and what goes past its
-    // pixels is written again later.
+    // Decodes a short chunk, without a jump. Its block of output is written whole, and what goes
+    // past its pixels is written again later.
     #[inline(always)]
     fn short_chunk<const N: usize, const F: usize>(
         self,
@@ -169,8 +170,8 @@ impl Progress {
         }
     }
 
-    /// Decodes chunks while there is room ahead, and returns where it stopped. What is left goes chunk by
-    /// chunk, with every test.
+    /// Decodes chunks while there is room ahead, and returns where it stopped. What is left goes
+    /// chunk by chunk, with every test.
     #[inline(always)]
     pub(super) fn fast_chunks<const N: usize, const F: usize>(
         table: &mut HashedTable,

@@ -11,7 +11,8 @@ use crate::consts::{QOI_OP_LUMA, QOI_OP_RGB, QOI_OP_RGBA, QOI_OP_RUN};
 use crate::hashed::Hashed;
 use crate::table::HashedTable;
 
-/// The bytes of room in which the blocks of any run may be written: sixteen blocks of sixteen bytes.
+/// The bytes of room in which the blocks of any run may be written: sixteen blocks of sixteen
+/// bytes.
 pub(super) const RUN_ROOM: usize = 256;
 
 // Writes a pixel at `at` in `N` channels, of a file of `F` channels.
@@ -25,8 +26,8 @@ fn write_pixel<const N: usize, const F: usize>(out: &mut [u8], at: usize, px: Ha
     out[at..at + N].copy_from_slice(&bytes[..N]);
 }
 
-/// Writes a block of sixteen bytes at `at`: the pixel as often as it has room there, and what is left
-/// over, which is written again later.
+/// Writes a block of sixteen bytes at `at`: the pixel as often as it has room there, and what is
+/// left over, which is written again later.
 #[inline(always)]
 pub(super) fn write_block<const N: usize, const F: usize>(out: &mut [u8], at: usize, px: Hashed)
     requires channels { IsChannels N }
@@ -52,8 +53,8 @@ fn write_four_blocks<const N: usize, const F: usize>(out: &mut [u8], at: usize, 
     write_block::<N, F>(out, at + N * (3 * one), px);
 }
 
-/// Writes a pixel `count` times from `at` on: four blocks, and if that isn't all, as many as any run has.
-/// What goes past them is written again later.
+/// Writes a pixel `count` times from `at` on: four blocks, and if that isn't all, as many as any
+/// run has. What goes past them is written again later.
 #[inline(always)]
 pub(super) fn write_run<const N: usize, const F: usize>(
     out: &mut [u8],
@@ -144,8 +145,8 @@ fn pixel_count(b1: u8) -> usize
     }
 }
 
-/// What a chunk leaves: how many bytes it has, the pixel that is the last one then, and where the output
-/// stopped.
+/// What a chunk leaves: how many bytes it has, the pixel that is the last one then, and where the
+/// output stopped.
 #[derive(Clone, Copy)]
 pub(super) struct Decoded {
     pub(super) taken: usize,

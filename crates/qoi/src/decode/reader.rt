@@ -14,7 +14,7 @@ use std::marker::Model;
 
 /// Where a decoder takes its bytes from.
 pub trait Reader: Sized {
-    /// The bytes that stand ahead, where the reader's contract states them.
+    /// The bytes that stand ahead, if the reader's contract states them.
     ghost ahead: { Self → Option (List ℕ) };
 
     /// Whether they stand in memory: then a refusal takes none of them, and is no i/o error.
@@ -22,33 +22,34 @@ pub trait Reader: Sized {
 
     /// Reads the fourteen bytes of a header (QOI specification 1.0, "QOI Header").
     ///
-    /// Refusals, in this order: `UnexpectedBufferEnd` where there are fewer than fourteen bytes, or
+    /// Refusals, in this order: `UnexpectedBufferEnd` if there are fewer than fourteen bytes, or
     /// `IoError` from a stream; `InvalidChannels`, `InvalidColorSpace`, `InvalidMagic`,
     /// `InvalidImageDimensions`.
     fn decode_header(&mut self) -> Result<Header>
         ensures { ReadsHeader in_memory (ahead self.old) (ahead self.new) result };
 
-    /// Whether the bytes ahead could hold the chunks of an image of so many pixels, and the end marker.
+    /// Whether the bytes ahead could hold the chunks of an image of `n_pixels` pixels, and the end
+    /// marker.
     ///
-    /// In memory: whether they are at least `n_pixels` / 62, rounded up, plus 8, since the longest run
-    /// has 62 pixels and the end marker eight bytes. Fewer are cut, whatever they are. On a stream:
-    /// always, since it can't be asked how many it has.
+    /// In memory: whether they are at least `n_pixels` / 62, rounded up, plus 8, since the longest
+    /// run has 62 pixels and the end marker eight bytes. Fewer are cut, whatever they are. On a
+    /// stream: always, since it can't be asked how many it has.
     fn could_hold(&self, n_pixels: usize) -> bool
         ensures holds { IsTrue result ↔ CouldHold in_memory n_pixels (ahead self.now) }
-        // Where it returns false, a caller may refuse with `UnexpectedBufferEnd` and take nothing: the bytes are in
-        // memory and cut.
+        // If it returns false, a caller may refuse with `UnexpectedBufferEnd` and take nothing: the
+        // bytes are in memory and cut.
         ensures cut { IsFalse result → RefusesImage in_memory n_pixels
             (ahead self.now) (ahead self.now) Error.UnexpectedBufferEnd };
 
     /// Reads chunks until `out` is full of pixels, and then the end marker (QOI specification 1.0,
     /// "File Format" and "Data").
     ///
-    /// `channels` are those of the output, and `file_channels` those of the file's header. The caller
-    /// sees to it that `out` has a multiple of `channels` bytes.
+    /// `channels` are those of the output, and `file_channels` those of the file's header. The
+    /// caller sees to it that `out` has a multiple of `channels` bytes.
     ///
-    /// Refusals, in this order: `InvalidChannels` with `channels` where either number isn't 3 or 4,
-    /// and then nothing is read; `UnexpectedBufferEnd` where the bytes end before `out` is full or
-    /// within the eight bytes after the chunks, or `IoError` from a stream; `InvalidPadding` where
+    /// Refusals, in this order: `InvalidChannels` with `channels` if either number isn't 3 or 4,
+    /// and then nothing is read; `UnexpectedBufferEnd` if the bytes end before `out` is full or
+    /// within the eight bytes after the chunks, or `IoError` from a stream; `InvalidPadding` if
     /// those eight bytes aren't the end marker.
     fn decode_image(&mut self, out: &mut [u8], channels: u8, file_channels: u8) -> Result<()>
         requires { AreChannels file_channels channels → length out.old % channels ≡ 0 }
@@ -66,7 +67,8 @@ pub trait Reader: Sized {
     ghost stated: { (reader : Self) → in_memory ≡ true → IsSome (ahead reader) };
 }
 
-/// Bytes in memory, from which decoding takes at the front. A contract sees the bytes that are left.
+/// Bytes in memory, from which decoding takes at the front. A contract sees the bytes that are
+/// left.
 #[derive(Drop)]
 pub struct Bytes<'a>(&'a [u8]);
 

@@ -12,8 +12,8 @@ use crate::decode::pixels::decode_chunk;
 use crate::error::{Error, Result};
 use crate::table::HashedTable;
 
-// Whether the bytes could hold the chunks of so many pixels, of which each gives 62 at most, and the end
-// marker. Otherwise they are cut, whatever they are.
+// Whether the bytes could hold the chunks of `n_pixels` pixels, and the end marker: a chunk gives
+// 62 pixels at most. Otherwise they are cut, whatever they are.
 #[tactic(auto, using(crate::proofs::decoding::LeastBytes::few_are_cut))]
 pub(super) fn could_hold(data: &[u8], n_pixels: usize) -> bool
     ensures holds { IsTrue result ↔ (least_byte_count n_pixels ≤ length «data».now) }
@@ -22,8 +22,9 @@ pub(super) fn could_hold(data: &[u8], n_pixels: usize) -> bool
     data.len() >= n_pixels.div_ceil(QOI_RUN_MAX) + QOI_PADDING_SIZE
 }
 
-// Decodes chunks one by one, with every test, until `out` is full, and returns the bytes after them. Where
-// fewer than eight bytes are left before that, the file is cut, since its end marker alone has eight.
+// Decodes chunks one by one, with every test, until `out` is full, and returns the bytes after
+// them. If fewer than eight bytes are left before that, the file is cut, since its end marker alone
+// has eight.
 #[inline(never)]
 fn last_chunks<'a, const N: usize, const F: usize>(
     table: &mut HashedTable,

@@ -61,8 +61,8 @@ impl<const N: usize> Coder<N> {
         }
     }
 
-    // A group of `count` repeats takes runs of 62 and one of those that are left. Where a single
-    // one is left and a fresh pixel follows, this is its byte: a run of 1, or in style `Places` the
+    // A group of `count` repeats takes runs of 62 and one of those that are left. If a single one
+    // is left and a fresh pixel follows, this is its byte: a run of 1, or in style `Places` the
     // index position, if a fresh pixel came and the chunk before isn't that position.
     #[inline(always)]
     fn single_repeat(&self, count: usize) -> u8
@@ -166,7 +166,7 @@ impl<const N: usize> Coder<N> {
     }
 
     // Writes the run of the repeats from a lane on, if there are any, and the chunk of the fresh
-    // pixel that follows them; returns the lane after that pixel. Where all up to the last lane
+    // pixel that follows them; returns the lane after that pixel. If all up to the last lane
     // repeat, or no lane is left, it writes nothing and returns the lane that it was called with.
     #[inline(always)]
     fn write_group(

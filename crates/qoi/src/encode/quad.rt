@@ -178,8 +178,8 @@ fn rgbs(cur: u32x4) -> u32x4
     (cur << u32x4::splat(8)) + u32x4::splat(0xfe)
 }
 
-// Numbers whose bytes are the RGB chunks of the pixels, or where alpha's step isn't 0 the first
-// four bytes of the RGBA chunks; and how many bytes each chunk has.
+// Numbers whose bytes are the RGB chunks of the pixels, or if alpha's step isn't 0 the first four
+// bytes of the RGBA chunks; and how many bytes each chunk has.
 #[inline(always)]
 fn fulls<const N: usize>(cur: u32x4, steps: u32x4) -> (u32x4, u32x4)
     requires channels { IsChannels N }

@@ -1,4 +1,5 @@
-//! Small examples of definitions, computed, for the numbers, orders and sides that no other law tells.
+//! Small examples of definitions, computed, for the numbers, orders and sides that no other law
+//! tells.
 ghost use Rattle.std.specs.Prelude.{◌≡◌, ℕ, ◌++◌, List, [], ◌∷◌, length, Option, replicate, codes, Ok, Err, None, Some, true, false};
 ghost use Rattle.qoi.specs.declared.error.Error.{Error};
 ghost use Rattle.qoi.specs.declared.header.Header.{Header};
@@ -19,7 +20,8 @@ ghost use Rattle.qoi.specs.Encoded.{max_len, IsFileLength, image_header, OpensBl
 ghost use Rattle.qoi.specs.Regular.{Regular};
 ghost use Rattle.qoi.specs.ErrorText.{size_text, bytes_text, printed};
 
-/// The least and the greatest numbers that bytes and chunks may have, and how many bytes there are at most.
+/// The least and the greatest numbers that bytes and chunks may have, and how many bytes there are
+/// at most.
 pub fn chunk_examples()
     ensures bytes { AreBytes (0 ∷ 255 ∷ []) }
     ensures no_byte { AreBytes (256 ∷ []) → ⊥ }
@@ -205,7 +207,8 @@ pub fn text_examples()
     ensures memory { printed Error.OutOfMemory ≡ Some (codes "out of memory") }
 {}
 
-/// Bytes after a header, and what refuses them: where an image has one pixel, a run of 1 and the end marker.
+/// Bytes after a header, and what refuses them: for an image of one pixel, a run of 1 and the end
+/// marker.
 pub fn verdict_examples()
     ensures whole { IsWhole 1 (0xc0 ∷ 0 ∷ 0 ∷ 0 ∷ 0 ∷ 0 ∷ 0 ∷ 0 ∷ 1 ∷ 7 ∷ []) (Run 1 ∷ [])
         (7 ∷ []) }
@@ -228,7 +231,8 @@ pub fn verdict_examples()
     ensures taken_header { RefusesTakenHeader (replicate 14 0) (Error.InvalidChannels 0) }
 {}
 
-/// Which errors are those of a fault, of cut bytes and of wrong ones, in memory (`true`) and on a stream.
+/// Which errors are those of a fault, of cut bytes and of wrong ones, in memory (`true`) and on a
+/// stream.
 pub fn error_examples()
     ensures other { IsIoError Error.OutOfMemory → ⊥ }
     ensures fault_in_memory { (e : Error) → IsReaderFault true e → ⊥ }
@@ -267,7 +271,7 @@ pub fn decoder_examples()
         (record { reader = Some []; header = default_header; channels = Channels.Rgb }) → ⊥ }
 {}
 
-/// Repeats and fresh pixels, and bytes that are written behind others.
+/// Repeats and fresh pixels, and bytes that are written after others.
 pub fn writing_examples()
     ensures count { IsCount (pixel 1 2 3 4) (pixel 1 2 3 4 ∷ pixel 1 2 3 4 ∷ pixel 1 2 3 5 ∷ []) 2 }
     ensures count_to_the_end { IsCount (pixel 1 2 3 4) (pixel 1 2 3 4 ∷ []) 1 }

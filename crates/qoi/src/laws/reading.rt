@@ -46,8 +46,8 @@ pub fn verdict_is_some()
         × IsWrong n bytes cs eight rest)) }
 {}
 
-/// A valid header's fourteen bytes are read as it, whatever follows them; and bytes that are read as a
-/// header begin with its own, and it is valid.
+/// A valid header's fourteen bytes are read as it, whatever follows them; and bytes that are read
+/// as a header begin with its own, and it is valid.
 pub fn header_both_ways()
     ensures size { (h : Header) → length (header_bytes h) ≡ header_size }
     ensures read { (h : Header) (rest : List ℕ) → IsValid h
@@ -63,7 +63,8 @@ pub fn no_file_begins_another()
 {}
 
 /// A file's header is read, and what follows the header is whole; and bytes with a header and whole
-/// chunks after it are a file and what follows it. Its pixels in its own channels are what is decoded.
+/// chunks after it are a file and what follows it. Its pixels in its own channels are what is
+/// decoded.
 pub fn files_are_read()
     ensures read { (h : Header) (cs : List Chunk) (bytes rest : List ℕ) → IsFile h cs
         → bytes ≡ file h cs ++ rest
@@ -78,8 +79,8 @@ pub fn files_are_read()
         (output (channels_number h.channels) (channels_number h.channels) (file_pixels h cs)) }
 {}
 
-/// The image that bytes begin with, and what follows it, are functions of the bytes; so they are of a
-/// file.
+/// The image that bytes begin with, and what follows it, are functions of the bytes; so they are of
+/// a file.
 pub fn images_are_functions()
     ensures ahead { (channels : Channels) (h : Header) (bytes rest out : List ℕ)
         → IsImage channels bytes h rest out
@@ -88,15 +89,15 @@ pub fn images_are_functions()
         → (out ≡ file_image bytes) × (rest ≡ file_rest bytes) }
 {}
 
-/// Raw bytes of a valid header's image, as decoding gives them, are accepted by an encoder with its width
-/// and height, and get its header, in sRGB.
+/// Raw bytes of a valid header's image, as decoding gives them, are accepted by an encoder with its
+/// width and height, and get its header, in sRGB.
 pub fn images_are_accepted()
     ensures { (h : Header) (raw : List ℕ) → IsValid h → length raw ≡ image_byte_count h
         → image_header raw h.width h.height ≡ Ok (record h { colorspace = ColorSpace.Srgb }) }
 {}
 
-/// An image of n pixels takes five bytes for each pixel at most; and where chunks stop short of
-/// n pixels, there is room for five bytes more.
+/// An image of n pixels takes five bytes for each pixel at most; and if chunks stop short of n
+/// pixels, there is room for five bytes more.
 #[tactic(auto, using(crate::proofs::decoding::TakenBytes::reached_within, crate::proofs::decoding::TakenBytes::below_within))]
 pub fn bytes_taken()
     ensures reached { (n : ℕ) (cs : List Chunk) → AreChunks cs → Reaches n cs

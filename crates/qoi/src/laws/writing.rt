@@ -65,8 +65,8 @@ pub fn written_is_apart()
         → WrittenIn style image cs → cs ≢ front ++ Place i ∷ Place i ∷ rest }
 {}
 
-/// The pixels of raw bytes, three or four bytes a pixel, are pixels. They are opaque where three
-/// bytes make one, and they give the bytes back.
+/// The pixels of raw bytes, three or four bytes a pixel, are pixels. They are opaque if three bytes
+/// make one, and they give the bytes back.
 pub fn bytes_are_pixels()
     ensures pixels { (channels : ℕ) (bytes : List ℕ) → IsChannels channels
         → AllByRecursion (λ b. b < 256) bytes
@@ -102,15 +102,15 @@ pub fn written_reaches()
         → WrittenIn style image cs → length image ≡ n → Reaches n cs }
 {}
 
-/// A list is regular if each index position that it names holds a pixel of that position; where no
+/// A list is regular if each index position that it names holds a pixel of that position; if no
 /// pixel was put, that is position 0 alone. The written list is regular in each style but `Tight`.
 pub fn written_is_regular()
     ensures { (style : Style) (image : List RgbaPixel) (cs : List Chunk) → style ≢ Tight
         → WrittenIn style image cs → Regular cs }
 {}
 
-/// Where no pixel of an image is transparent black, as in an image of three channels, each list
-/// that reaches its pixels and begins with them is regular.
+/// If no pixel of an image is transparent black, as in an image of three channels, each list that
+/// reaches its pixels and begins with them is regular.
 #[tactic(auto, using(crate::proofs::shortness::RegularLists::no_blank_regular, crate::proofs::shortness::RegularLists::opaque_regular))]
 pub fn no_blank_is_regular()
     ensures no_blank { (image : List RgbaPixel) (cs : List Chunk) → Reaches (length image) cs

@@ -47,7 +47,7 @@ returns-in_err-pixels-clause-refused g c =
     ))
     c.in_err-pixels.ensures.refused)
 
--- the image that was decoded behind a header is what these channels' answer has
+-- the image that was decoded after a header is what these channels' answer has
 answer_of : (input : List ℕ) (channels : Channels) (d chosen : DecoderState (List ℕ)) (bytes rest out : List ℕ) → bytes ≡ input
     → header_of bytes ≡ Ok d.header → d.reader ≡ drop header_size bytes → chosen ≡ record d { channels = channels }
     → IsImage chosen.channels chosen.reader chosen.header rest out → Writes (DecodeInto channels) input out
@@ -74,7 +74,7 @@ returns-clause-done g c =
       subst (Appends _ _) c.deref-2.ensures.value c.in_ok-write_all.ensures.written,
     )
 
--- where writing failed, the image was decoded
+-- if writing failed, the image was decoded
 pub returns-in_err-write_all-clause-refused : goal.returns-in_err-write_all-clause-refused
 returns-in_err-write_all-clause-refused g c =
     let p = err_from_is_err_and c.from_residual-in_err-write_all.result c.from_residual-in_err-write_all.ensures.1 in

@@ -1,5 +1,5 @@
-//! A reader and a writer in memory that end one of their calls badly, memory that is taken, and a file
-//! to try them on.
+//! A reader and a writer in memory that end one of their calls badly, memory that is taken, and a
+//! file to try them on.
 ghost use Rattle.std.specs.Prelude.{◌≡◌, IfOk};
 
 use std::alloc::{AllocError, Global};
@@ -56,7 +56,7 @@ fn ended(end: End) -> io::Result<usize>
     }
 }
 
-/// Gives its bytes, at most so many a call.
+/// Gives its bytes, at most `most` a call.
 #[derive(Clone, Drop)]
 pub struct Source<'a> {
     /// The bytes that are left.
@@ -92,7 +92,7 @@ impl<'a> Read for Source<'a> {
     }
 }
 
-/// Keeps the bytes that it takes, at most so many a call.
+/// Keeps the bytes that it takes, at most `most` a call.
 #[derive(Drop)]
 pub struct Sink {
     /// The bytes that were taken.
@@ -134,8 +134,8 @@ impl Write for Sink {
     }
 }
 
-/// Takes memory in blocks of 2 to the power of 39 bytes until one is refused, then in blocks of half
-/// the size, and so on down to `least` bytes. It takes 600,000 blocks at most.
+/// Takes memory in blocks of 2 to the power of 39 bytes until one is refused, then in blocks of
+/// half the size, and so on down to `least` bytes. It takes 600,000 blocks at most.
 pub fn take_memory(alloc: Global, least: usize) -> Result<Vec<Vec<u8>>, AllocError> {
     let most = 600_000;
     let mut held = Vec::with_capacity(alloc, most)?;

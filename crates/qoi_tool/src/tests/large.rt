@@ -1,11 +1,12 @@
-//! An image of 20 million pixels in runs, there and back: by vectors, by streams and by the program.
+//! An image of 20 million pixels in runs, there and back: by vectors, by streams and by the
+//! program.
 use crate::tests::fakes::{NONE, Sink, Source};
 use crate::tests::{answer, dec};
 use qoi::{Decoder, Encoder, Result, decode_to_vec, encode_to_vec};
 use std::alloc::Global;
 use std::process::Abort;
 
-// The raw bytes of an image of so many pixels of four channels, a thousand of each color.
+// The raw bytes of an image of `n` pixels of four channels, a thousand of each color.
 fn raw_of(alloc: Global, n: usize) -> Result<Vec<u8>> {
     let mut raw = vec![in alloc; 0xffu8; n.saturating_mul(4)]?;
     for (k, px) in raw.chunks_exact_mut(4).enumerate() {
@@ -35,8 +36,8 @@ fn assert_comes_back(rt: &impl Abort, alloc: Global, file: &[u8], raw: &[u8]) {
     assert!(rt; matches!(&found, Ok(found) if found.as_slice() == raw));
 }
 
-// The program writes the image's file, and its raw bytes, to a writer that takes a byte less than a piece
-// at once.
+// The program writes the image's file, and its raw bytes, to a writer that takes a byte less than a
+// piece at once.
 fn assert_program(rt: &impl Abort, alloc: Global, raw: &[u8], words: &[&str], file: &[u8]) {
     let mut input = Source::new(raw, usize::MAX, NONE);
     let mut output = Sink::new(alloc, 4095, NONE).expect(rt, "refused");

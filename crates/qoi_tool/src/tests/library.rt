@@ -1,6 +1,6 @@
-//! The library as any crate sees it, by its public calls and by `parts`: the worked examples, proved
-//! callers, drawn images and files, broken files, readers, writers and memory that fail, and the
-//! standard library's readers and writers.
+//! The library as any crate sees it, by its public calls and by `parts`: the worked examples,
+//! proved callers, drawn images and files, broken files, readers, writers and memory that fail, and
+//! the standard library's readers and writers.
 
 mod borders;
 mod broken;

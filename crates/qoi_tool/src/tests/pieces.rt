@@ -41,8 +41,8 @@ impl<'a> Read for Uneven<'a> {
     }
 }
 
-// A file of differences, which are chunks of one byte, is read whole, up to the last byte of its end
-// marker, by a mebibyte a call at most.
+// A file of differences, which are chunks of one byte, is read whole, up to the last byte of its
+// end marker, by a mebibyte a call at most.
 #[test]
 fn pieces(rt: HostRuntime) {
     let alloc = rt.alloc();

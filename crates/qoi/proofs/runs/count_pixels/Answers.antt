@@ -1,4 +1,4 @@
--- The loop ends at another pixel, or where no whole pixel is left.
+-- The loop ends at another pixel, or if no whole pixel is left.
 use Rattle.std.proofs.Common.{◌≡◌, false, true, arith}
 use Rattle.qoi.specs.Raw.{pixels_of}
 use Rattle.qoi.proofs.encoding.GroupRuns.{count_of, counted_within}

@@ -1,4 +1,4 @@
--- Where each part is the pixel's, the pixels are it.
+-- If each part is the pixel's, the pixels are it.
 use Rattle.std.proofs.Common.{arith, refl}
 use Rattle.qoi.proofs.encoding.PixelBlock.{block_of_3, block_of_4}
 use Rattle.qoi.proofs.runs.is_block.Goals as goal

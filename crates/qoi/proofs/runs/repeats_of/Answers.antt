@@ -1,4 +1,4 @@
--- The blocks, and what is counted behind them.
+-- The blocks, and what is counted after them.
 use Rattle.qoi.proofs.encoding.GroupRuns.{counted_on}
 use Rattle.qoi.proofs.runs.repeats_of.Goals as goal
 

@@ -1,4 +1,4 @@
--- What was read stands behind what was filled.
+-- What was read stands after what was filled.
 use Rattle.std.proofs.Common.{◌≡◌, ℕ, ◌+◌, ◌-◌, ◌≤◌, List, ◌++◌, length, take, arith, sym, ap, ◌∙◌, length-append}
 use Rattle.std.proofs.lemmas.List.{take-append-le, length-take-le}
 use Rattle.std.proofs.Math.Seq.{take-append-add}
@@ -6,7 +6,7 @@ use Rattle.std.proofs.KnownBytes.{Consumes-trans}
 use borrow.Rule.Slice.PartMut.{put_mid, post_of}
 use Rattle.qoi_tool.proofs.transfer.read_after.Goals as goal
 
--- the front of a buffer after a read behind what was filled
+-- the front of a buffer after a read past what was filled
 take-read : (filled n k : ℕ) (buf piece : List ℕ) → filled ≤ length buf → n ≤ length piece
     → take (filled + n) (put_mid filled k buf piece) ≡ take filled buf ++ take n piece
 take-read filled n k buf piece within fits =

@@ -1,5 +1,5 @@
-//! Files that are cut, changed and followed by other bytes, and buffers of other lengths: each of the
-//! examples, by each call, from a slice and from a stream.
+//! Files that are cut, changed and followed by other bytes, and buffers of other lengths: each of
+//! the examples, by each call, from a slice and from a stream.
 use crate::tests::library::support::decodings::{CUT, Decoding, after};
 use crate::tests::library::support::examples::files;
 use crate::tests::library::support::images::{Image, file_of, row};
@@ -56,7 +56,7 @@ fn changed_markers(rt: HostRuntime) {
     }
 }
 
-// Nothing, a byte, or an end marker and a byte stands behind a file.
+// Nothing, a byte, or an end marker and a byte stands after a file.
 #[test]
 fn followed(rt: HostRuntime) {
     let all: [&[u8]; 3] = [&[], &[0x78], &[0, 0, 0, 0, 0, 0, 0, 1, 0x78]];
@@ -69,8 +69,8 @@ fn followed(rt: HostRuntime) {
     }
 }
 
-// The buffer is refused with this text from a slice, from a stream and by the free call. Both decoders
-// have all bytes behind the header left.
+// The buffer is refused with this text from a slice, from a stream and by the free call. Both
+// decoders have all bytes after the header left.
 fn assert_too_small(rt: &impl Abort, alloc: Global, file: &[u8], buf: &mut [u8], text: &str) {
     let mut slice = Decoder::new(file).expect(rt, "refused");
     assert_refused(rt, alloc, slice.decode_to_buf(buf).err(), text);
@@ -97,7 +97,7 @@ fn short_buffers(rt: HostRuntime) {
     }
 }
 
-// Nothing stands behind the header, whose image would have 1,600,000,000 bytes.
+// Nothing stands after the header, whose image would have 1,600,000,000 bytes.
 #[test]
 fn largest_image(rt: HostRuntime) {
     let bytes = b"qoif\x00\x00\x4e\x20\x00\x00\x4e\x20\x04\x00";
@@ -105,7 +105,8 @@ fn largest_image(rt: HostRuntime) {
     assert_too_small(&rt, rt.alloc(), bytes, &mut [], text);
 }
 
-// A run that gives more pixels than are left is cut; a chunk after it stands where the marker should.
+// A run that gives more pixels than are left is cut; a chunk after it stands where the marker
+// should.
 #[test]
 fn last_run(rt: HostRuntime) {
     for (width, chunks) in [(1, &[0xc0, 0xc0][..]), (100, &[0xfd, 0xfd, 0xfd])] {

@@ -66,7 +66,7 @@ pub fn send<W: Write>(raw: &[u8], width: u32, height: u32, out: &mut W) -> Resul
     Ok(size)
 }
 
-/// Stream in. The raw bytes of the image that stands ahead of a reader, and the reader behind it.
+/// Stream in. The raw bytes of the image that stands ahead of a reader, and the reader after it.
 pub fn receive<R: Read + Drop>(alloc: Global, reader: R) -> Result<(Vec<u8>, R), Error>
     ensures { IfOk result (λ x. (h : Header) × (middle : Option (List ℕ))
         × TakesHeader (R.remaining reader) middle h
@@ -78,7 +78,7 @@ pub fn receive<R: Read + Drop>(alloc: Global, reader: R) -> Result<(Vec<u8>, R),
     Ok((raw, decoder.into_reader()))
 }
 
-/// Several files in one slice. The raw bytes of the images of two files, one behind the other.
+/// Several files in one slice. The raw bytes of the images of two files, one after the other.
 pub fn two_images(alloc: Global, bytes: &[u8]) -> Result<(Vec<u8>, Vec<u8>), Error>
     ensures { IfOk result (λ x. (h : Header) × (k : Header) × (middle : List ℕ) × (rest : List ℕ)
         × (header_of bytes.now ≡ Ok h)
@@ -220,7 +220,7 @@ pub fn keep_twice(
     Ok((first, second))
 }
 
-/// A writer that may refuse. The file goes to a vector, and then to the writer; where that refuses, a
+/// A writer that may refuse. The file goes to a vector, and then to the writer; if that refuses, a
 /// beginning of the file went out.
 pub fn keep_and_try<W: Write>(
     alloc: Global,
@@ -269,7 +269,8 @@ pub fn no_longer(
     Ok((other, tight))
 }
 
-/// Styles, in a buffer and to a writer: the lengths of the files in `Reference`, `Places` and `Tight`.
+/// Styles, in a buffer and to a writer: the lengths of the files in `Reference`, `Places` and
+/// `Tight`.
 pub fn lengths<W: Write>(
     buf: &mut [u8],
     raw: &[u8],
@@ -314,8 +315,8 @@ pub fn space_byte(alloc: Global, raw: &[u8], width: u32, height: u32) -> Result<
     Ok(file[13])
 }
 
-/// Shortness. A file is at most four bytes longer than that of any regular list of the image, and no
-/// longer at all unless the image opens with opaque black.
+/// Shortness. A file is at most four bytes longer than that of any regular list of the image, and
+/// no longer at all unless the image opens with opaque black.
 pub fn near_shortest(alloc: Global, raw: &[u8], width: u32, height: u32) -> Result<Vec<u8>, Error>
     ensures four_at_most { IfOk result (λ v. (h : Header) × ((others : List Chunk)
         → Spans h raw.now others → Regular others
@@ -327,8 +328,8 @@ pub fn near_shortest(alloc: Global, raw: &[u8], width: u32, height: u32) -> Resu
     encode_to_vec(alloc, raw, width, height)
 }
 
-/// The shortest file. In style `Tight` no list of chunks of the image, regular or not, makes a shorter
-/// one.
+/// The shortest file. In style `Tight` no list of chunks of the image, regular or not, makes a
+/// shorter one.
 pub fn shortest(alloc: Global, raw: &[u8], width: u32, height: u32) -> Result<Vec<u8>, Error>
     ensures encoded { IfOk result (λ v. (h : Header) × IsFileOf Tight h raw.now v.items) }
     ensures no_shorter { IfOk result (λ v. (h : Header) × IsShortest h raw.now (length v.items)) }
@@ -346,7 +347,8 @@ pub fn header_ahead<R: Read + Drop>(reader: R) -> Result<(Header, R), Error>
     Ok((*decoder.header(), decoder.into_reader()))
 }
 
-/// All files of a slice. The images of the files that stand one behind the other, to the slice's end.
+/// All files of a slice. The images of the files that stand one after the other, to the slice's
+/// end.
 pub fn all_images(alloc: Global, bytes: &[u8]) -> Result<Vec<Vec<u8>>, Error>
     ensures files { IfOk result (λ images.
         AreFiles bytes.now (map (λ image. image.items) images.items)) }
@@ -392,7 +394,7 @@ pub fn two_frames<R: Read + Drop>(alloc: Global, reader: R) -> Result<(Vec<u8>, 
     Ok((image, other))
 }
 
-/// A frame store. The files of two frames go to a vector, one behind the other, and the frames come
+/// A frame store. The files of two frames go to a vector, one after the other, and the frames come
 /// back from a reader of it.
 pub fn frame_store(
     alloc: Global,
@@ -409,7 +411,8 @@ pub fn frame_store(
     two_frames(alloc, store.as_slice())
 }
 
-/// There and back through a buffer whose length is tested first. The raw bytes come back in its front.
+/// There and back through a buffer whose length is tested first. The raw bytes come back in its
+/// front.
 pub fn into_buffer<'a>(
     alloc: Global,
     buf: &'a mut [u8],
@@ -456,8 +459,8 @@ pub fn bounded_bytes(alloc: Global, file: &[u8]) -> Result<Vec<u8>, Error>
     Ok(raw)
 }
 
-/// Memory that is bounded first. Of a decoder whose image is small enough the raw bytes of a file, as the
-/// free call decodes them.
+/// Memory that is bounded first. Of a decoder whose image is small enough the raw bytes of a file,
+/// as the free call decodes them.
 pub fn at_most(alloc: Global, file: &[u8], most: usize) -> Result<Vec<u8>, Error>
     ensures { IfOk result (λ raw. (h : Header) × (rest : List ℕ)
         × DecodesFile file.now h rest raw.items) }
@@ -481,7 +484,7 @@ pub fn both_channels(alloc: Global, file: &[u8]) -> Result<(Vec<u8>, Vec<u8>), E
     Ok((rgb, rgba))
 }
 
-/// Bytes that are still to come. Where the end is missed, the bytes behind the header are cut.
+/// Bytes that are still to come. If the end is missed, the bytes after the header are cut.
 pub fn more_needed(alloc: Global, file: &[u8]) -> Result<(Header, Result<Vec<u8>, Error>), Error>
     ensures { IfOk result (λ x. IsErrOf x.1 Error.UnexpectedBufferEnd
         → AreCut (pixel_count x.0) (drop header_size file.now)) }

@@ -144,8 +144,8 @@ fn readers_of_images(rt: HostRuntime) {
     );
 }
 
-// Opaque black that comes back is spelled out by three more bytes than an index position, which style
-// `Tight` names.
+// Opaque black that comes back is spelled out by three more bytes than an index position, which
+// style `Tight` names.
 const BLACK: [u8; 9] = [0, 0, 0, 101, 102, 103, 0, 0, 0];
 
 #[test]

@@ -25,7 +25,7 @@ fn assert_encodes(
     image.check(rt, alloc);
 }
 
-// Opaque black so many times, and then a pixel that differs from it in each channel.
+// Opaque black `n` times, and then a pixel that differs from it in each channel.
 fn assert_run(rt: &impl Abort, alloc: Global, n: u8, three: &[u8], four: &[u8]) {
     let (short, long) = ([n.wrapping_add(0xbf)], [0xfd, n.wrapping_add(0x81)]);
     let run: &[u8] = if n <= 62 { &short } else { &long };
@@ -48,8 +48,8 @@ fn runs_at_the_start(rt: HostRuntime) {
     }
 }
 
-// The pixel (1, 99, 2), a pixel that is far from it, and one that is a step from that: in three channels,
-// and in four with alpha 9 from the second on. The last chunk gives the step.
+// The pixel (1, 99, 2), a pixel that is far from it, and one that is a step from that: in three
+// channels, and in four with alpha 9 from the second on. The last chunk gives the step.
 fn assert_last_chunk(
     rt: &impl Abort,
     alloc: Global,
@@ -82,8 +82,8 @@ fn differences(rt: HostRuntime) {
     }
 }
 
-// Lumas but that of an equal pixel: differences of green from -32 to 24 by eights, and of red and blue
-// less green's from -8 to 4 by fours.
+// Lumas but that of an equal pixel: differences of green from -32 to 24 by eights, and of red and
+// blue less green's from -8 to 4 by fours.
 #[test]
 fn lumas(rt: HostRuntime) {
     for k in 0..50u8 {

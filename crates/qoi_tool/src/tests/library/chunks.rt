@@ -27,8 +27,8 @@ fn first_chunks(rt: HostRuntime) {
     }
 }
 
-// Too few bytes begin no chunk; one byte is a chunk unless its two high bits are those of a luma, or
-// it begins an RGB or RGBA chunk.
+// Too few bytes begin no chunk; one byte is a chunk unless its two high bits are those of a luma,
+// or it begins an RGB or RGBA chunk.
 #[test]
 fn too_few_bytes(rt: HostRuntime) {
     assert!(rt; read_chunk(&[]).is_none());

@@ -80,7 +80,7 @@ fn one_black_pixel(rt: HostRuntime) {
     assert_bytes(&rt, &buf, &[0xaa; 25]);
 }
 
-// Encodes transparent pixels of red 1 to 64 but one, and transparent black behind them. Their index
+// Encodes transparent pixels of red 1 to 64 but one, and transparent black after them. Their index
 // positions are 3, 6, 9 and so on, modulo 64, so that of red 64 is 0.
 fn assert_reds(rt: &impl Abort, alloc: Global, but: u8, chunks: &[u8]) {
     let mut raw = Vec::new(alloc);

@@ -7,8 +7,8 @@ use qoi::{Channels, Header, Style};
 use std::alloc::Global;
 use std::process::Abort;
 
-// Encodes an image in each style. In `Places` its file is as long as in `Reference`, and in `Tight` no
-// longer. Returns how many bytes shorter.
+// Encodes an image in each style. In `Places` its file is as long as in `Reference`, and in `Tight`
+// no longer. Returns how many bytes shorter.
 fn assert_styles(rt: &impl Abort, alloc: Global, header: Header, pixels: &[Rgba]) -> usize {
     let reference = Image::of(alloc, header, Style::Reference, pixels).expect(rt, "refused");
     reference.check(rt, alloc);
@@ -21,8 +21,8 @@ fn assert_styles(rt: &impl Abort, alloc: Global, header: Header, pixels: &[Rgba]
     reference.file.len().saturating_sub(tight.file.len())
 }
 
-// Draws images of sizes up to `most` by `most` until they have 600,000 pixels. In style `Tight` some of
-// them are shorter.
+// Draws images of sizes up to `most` by `most` until they have 600,000 pixels. In style `Tight`
+// some of them are shorter.
 fn assert_drawn(rt: &impl Abort, alloc: Global, channels: Channels, most: u32)
     requires { 0 < most }
 {

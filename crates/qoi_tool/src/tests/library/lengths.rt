@@ -1,12 +1,13 @@
-//! The number of bytes of an image's chunks, against numbers that fewer don't do for, counted pixel by
-//! pixel.
+//! The number of bytes of an image's chunks, against numbers that fewer don't do for, counted pixel
+//! by pixel.
 use crate::tests::library::support::generator::{Numbers, Rgba, START, drawn, place};
 use crate::tests::library::support::images::{raw_of, row};
 use qoi::{Channels, Encoder, Style};
 use std::alloc::Global;
 use std::process::Abort;
 
-// The difference of two bytes modulo 256, moved by `by`: below `2 * by` where it is from -by to by - 1.
+// The difference of two bytes modulo 256, moved by `by`: below `2 * by` if it is from -by to by -
+// 1.
 fn moved(from: u8, to: u8, by: u8) -> u8 {
     to.wrapping_sub(from).wrapping_add(by)
 }
@@ -26,7 +27,7 @@ fn is_luma([r, g, b, a]: Rgba, [r_2, g_2, b_2, a_2]: Rgba) -> bool {
 // What is known of an image after some of its pixels.
 #[derive(Drop)]
 struct Counted {
-    // The last pixel at each index position, where there is one.
+    // The last pixel at each index position, if there is one.
     seen: [Option<Rgba>; 64],
     last: Rgba,
     // How many repeats stand at the end.
@@ -34,7 +35,8 @@ struct Counted {
     // The fewest bytes of the others in a regular list, and in any list.
     floor: usize,
     floor0: usize,
-    // Whether the first pixel, and the first fresh one at the position of opaque black, are opaque black.
+    // Whether the first pixel, and the first fresh one at the position of opaque black, are opaque
+    // black.
     opens_black: Option<bool>,
     black_first: Option<bool>,
 }
@@ -101,8 +103,8 @@ impl Counted {
         self.last = px;
     }
 
-    // By how much a file may be longer than the floor: a black that opens the image stands in no index
-    // position until it comes again.
+    // By how much a file may be longer than the floor: a black that opens the image stands in no
+    // index position until it comes again.
     fn slack(&self, channels: Channels) -> usize {
         match (self.opens_black, self.black_first) {
             (Some(true), Some(true)) => usize::from(channels.as_u8()),
@@ -120,7 +122,7 @@ fn written(rt: &impl Abort, alloc: Global, raw: &[u8], width: u32, style: Style)
     file.len().saturating_sub(22)
 }
 
-// Draws 300 images of up to 900 pixels, at least 100,000 in all. Where there are four channels, every
+// Draws 300 images of up to 900 pixels, at least 100,000 in all. If there are four channels, every
 // third has transparent black for each black. Some use all of their slack, and some none.
 fn assert_lengths(rt: &impl Abort, alloc: Global, channels: Channels) {
     let mut numbers = Numbers::new(0xacce55);

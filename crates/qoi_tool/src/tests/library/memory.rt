@@ -15,7 +15,7 @@ use std::process::Abort;
 
 const REFUSED: &str = "out of memory";
 
-// Takes all memory but for one block of `spare` bytes, or for none where that is 0.
+// Takes all memory but for one block of `spare` bytes, or for none if that is 0.
 fn take_but(alloc: Global, spare: usize) -> std::result::Result<Vec<Vec<u8>>, AllocError> {
     let block: Vec<u8> = Vec::with_capacity(alloc, spare)?;
     let held = take_memory(alloc, 2)?;
@@ -31,8 +31,8 @@ fn starved<R: Reader>(alloc: Global, decoder: &mut Decoder<R>, spare: usize) -> 
     found
 }
 
-// The first allocation is refused; if the first is found, there is no second one. A refusal leaves the
-// decoder as it was.
+// The first allocation is refused; if the first is found, there is no second one. A refusal leaves
+// the decoder as it was.
 fn assert_one_allocation<R: Reader>(rt: &impl Abort, alloc: Global, decoder: &mut Decoder<R>) {
     assert_refused(rt, alloc, starved(alloc, decoder, 0).err(), REFUSED);
     assert_header(rt, decoder.header(), &Header::default());
@@ -55,7 +55,7 @@ fn starved_file(alloc: Global, spare: usize) -> Result<Vec<u8>> {
     file
 }
 
-// The first allocation is refused; where the first is found, there is no second one.
+// The first allocation is refused; if the first is found, there is no second one.
 #[test]
 fn each_allocation_of_encode_to_vec(rt: HostRuntime) {
     let alloc = rt.alloc();
@@ -82,8 +82,8 @@ fn large(alloc: Global, after: usize) -> Result<Vec<u8>> {
     Ok(file)
 }
 
-// Both calls refuse the file with this text, and the decoder is as before. All memory but for blocks
-// of less than `least` bytes is taken.
+// Both calls refuse the file with this text, and the decoder is as before. All memory but for
+// blocks of less than `least` bytes is taken.
 fn assert_large(rt: &impl Abort, alloc: Global, file: &[u8], least: usize, text: &str) {
     let mut decoder = Decoder::new(file).expect(rt, "refused");
     let held = take_memory(alloc, least).expect(rt, "refused");
@@ -97,7 +97,7 @@ fn assert_large(rt: &impl Abort, alloc: Global, file: &[u8], least: usize, text:
     assert_header(rt, decoder.header(), &header.expect(rt, "refused"));
 }
 
-// Where the first allocation is refused, that comes before a cut.
+// If the first allocation is refused, that comes before a cut.
 #[test]
 fn too_few_bytes(rt: HostRuntime) {
     let alloc = rt.alloc();
@@ -141,8 +141,8 @@ fn assert_clone_is_refused(rt: &impl Abort, decoder: &Decoder<Cursor<Vec<u8>>>) 
     assert!(rt; matches!(decoder.clone(), Err(Error::OutOfMemory)));
 }
 
-// While all memory is taken, the calls that take none succeed, and a clone is refused. That leaves the
-// decoder as it was.
+// While all memory is taken, the calls that take none succeed, and a clone is refused. That leaves
+// the decoder as it was.
 #[test]
 fn calls_without_memory(rt: HostRuntime) {
     let alloc = rt.alloc();

@@ -1,5 +1,5 @@
 //! Files that go out in more than one piece of 4096 bytes, by the plain encoder: chunks and end
-//! marker end just before, at and just behind the end of a piece.
+//! marker end just before, at and just after the end of a piece.
 use crate::tests::library::support::assert_number;
 use crate::tests::library::support::generator::{Rgba, START};
 use crate::tests::library::support::images::{Image, row};
@@ -8,9 +8,9 @@ use qoi::{Channels, Result, Style};
 use std::alloc::Global;
 use std::process::Abort;
 
-// What stands at the end of an image: so many times some pixels, of which the first is so far from the one
-// before it and the others repeat it. Their chunks have so many bytes. The steps are large enough that
-// no pixel comes again while it is noted.
+// What stands at the end of an image, `times` times: a pixel that is `step` from the one before it,
+// and `repeats` repeats of it. Their chunks have `bytes` bytes. The steps are large enough that no
+// pixel comes again while it is noted.
 #[derive(Clone, Copy)]
 struct Tail {
     channels: Channels,
@@ -56,7 +56,7 @@ impl Drawing {
     }
 }
 
-// An image whose chunks have so many bytes: RGB chunks, up to three differences, and the tail.
+// An image whose chunks have `size` bytes: RGB chunks, up to three differences, and the tail.
 fn ending(alloc: Global, tail: Tail, size: usize) -> Result<Vec<Rgba>> {
     let mut drawing = Drawing {
         pixels: Vec::new(alloc),

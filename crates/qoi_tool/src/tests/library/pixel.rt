@@ -55,7 +55,7 @@ fn pixels_change(rt: HostRuntime) {
     assert!(rt; supported(three).as_rgba(4) == supported(four));
 }
 
-// A pixel is spelled out behind black.
+// A pixel is spelled out after black.
 #[test]
 fn pixels_are_spelled(rt: HostRuntime) {
     let mut buf = [0xaa; 5];

@@ -7,7 +7,8 @@ use qoi::{Channels, Result, Style};
 use std::alloc::Global;
 use std::process::Abort;
 
-// Pixels that images are drawn from. The first two share an index position, which the third has not.
+// Pixels that images are drawn from. The first two share an index position, which the third has
+// not.
 #[derive(Clone, Copy)]
 struct Alphabet {
     channels: Channels,

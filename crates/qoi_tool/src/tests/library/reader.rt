@@ -20,7 +20,7 @@ fn image_of<R: Reader>(
     reader.decode_image(out, channels, file_channels)
 }
 
-// Reads the header and the image of one pixel, and an end marker behind no pixels.
+// Reads the header and the image of one pixel, and an end marker after no pixels.
 fn assert_reads<R: Reader>(rt: &impl Abort, reader: &mut R) {
     assert_header(
         rt,

@@ -13,8 +13,8 @@ const IMAGE: [u8; 24] = [
     121, 231, 255,
 ];
 
-// A chunk of each kind, one a pixel: RGB, a run, a difference of 1, a luma of 6, RGBA, and the index
-// position of the first pixel.
+// A chunk of each kind, one a pixel: RGB, a run, a difference of 1, a luma of 6, RGBA, and the
+// index position of the first pixel.
 const CHUNKS: [u8; 14] = [
     0xfe, 11, 121, 231, 0xc0, 0x7f, 0xa6, 0x88, 0xff, 1, 2, 3, 4, 0x04,
 ];
@@ -32,7 +32,7 @@ fn two_images(alloc: Global) -> Result<Vec<u8>> {
     Ok(bytes)
 }
 
-// Decodes the first image into a buffer and the second into a vector, and reads the bytes behind it.
+// Decodes the first image into a buffer and the second into a vector, and reads the bytes after it.
 fn assert_reads<R: Read + Drop>(rt: &impl Abort, alloc: Global, reader: R) {
     let mut decoder = Decoder::from_stream(reader).expect(rt, "refused");
     let mut buf = [0xaa; 24];

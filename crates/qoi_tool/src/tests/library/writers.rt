@@ -1,4 +1,5 @@
-//! The library's writers, and an image that is encoded to a writer, which may end one of its calls badly.
+//! The library's writers, and an image that is encoded to a writer, which may end one of its calls
+//! badly.
 ghost use Rattle.std.specs.Prelude.{◌≤◌};
 
 use crate::tests::fakes::{Bad, End, NONE, ONE_RGB_PIXEL, PIXEL, Sink};
@@ -62,8 +63,8 @@ fn one_piece(rt: HostRuntime) {
     assert_sends(&rt, rt.alloc(), 3, NONE, 9);
 }
 
-// Encodes the pixel to a writer that takes a byte a call. Its bad call ends the encoding and is the last
-// one, and a beginning of the file has gone out.
+// Encodes the pixel to a writer that takes a byte a call. Its bad call ends the encoding and is the
+// last one, and a beginning of the file has gone out.
 fn assert_stops(rt: &impl Abort, alloc: Global, end: End, gone: &[u8], kind: ErrorKind) {
     let call = gone.len().saturating_add(1);
     let mut writer = Sink::new(alloc, 1, Bad { call, end }).expect(rt, "refused");
@@ -73,8 +74,8 @@ fn assert_stops(rt: &impl Abort, alloc: Global, end: End, gone: &[u8], kind: Err
     assert_number(rt, writer.calls, call);
 }
 
-// One byte a call makes 26 calls; each of them in turn ends badly, and then none of them. At the fifth
-// `71 6f 69 66` went out.
+// One byte a call makes 26 calls; each of them in turn ends badly, and then none of them. At the
+// fifth `71 6f 69 66` went out.
 #[test]
 fn failing_writer(rt: HostRuntime) {
     let ends = [

@@ -23,8 +23,8 @@ pub enum Call {
 
 const CALLS: [Call; 2] = [Call::ToBuf, Call::ToVec];
 
-/// Bytes that begin with a file, or with a part of one and at least its header; this header, and the
-/// channels that the file is decoded into.
+/// Bytes that begin with a file, or with a part of one and at least its header; this header, and
+/// the channels that the file is decoded into.
 #[derive(Clone, Copy)]
 pub struct Decoding<'a> {
     pub bytes: &'a [u8],
@@ -93,7 +93,8 @@ impl<'a> Decoding<'a> {
         decoded
     }
 
-    /// The image that each call gives, from a slice and from a stream. What is behind the file is left.
+    /// The image that each call gives, from a slice and from a stream. What is after the file is
+    /// left.
     pub fn check(self, rt: &impl Abort, alloc: Global, image: &[u8], behind: &[u8]) {
         for call in CALLS {
             let slice = self.of_slice(rt, alloc, call, behind);
@@ -127,8 +128,8 @@ impl<'a> Decoding<'a> {
         }
     }
 
-    /// Both refuse other bytes than the end marker; the slice is as before, and of the stream what is
-    /// behind them is left.
+    /// Both refuse other bytes than the end marker; the slice is as before, and of the stream what
+    /// is after them is left.
     pub fn check_wrong(self, rt: &impl Abort, alloc: Global, behind: &[u8]) {
         for call in CALLS {
             let slice = self.of_slice(rt, alloc, call, after(self.bytes, 14));

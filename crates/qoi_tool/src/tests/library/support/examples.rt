@@ -14,10 +14,10 @@ pub struct Written {
     pub width: u32,
     pub channels: Channels,
     pub chunks: &'static [u8],
-    /// The raw bytes begin with these bytes so many times.
+    /// The raw bytes begin with these bytes, `times` times.
     pub first: &'static [u8],
     pub times: usize,
-    /// The raw bytes behind them.
+    /// The raw bytes after them.
     pub rest: &'static [u8],
 }
 
@@ -199,8 +199,8 @@ pub static WRITTEN: [Written; 48] = [
         rest: &[0, 0, 0, 101, 102, 103, 101, 102, 103], ..RGB },
 ];
 
-/// The chunks of a file of one row that the encoder doesn't write, and its image in three and in four
-/// channels.
+/// The chunks of a file of one row that the encoder doesn't write, and its image in three and in
+/// four channels.
 #[derive(Clone, Copy)]
 pub struct Given {
     pub name: &'static str,

@@ -48,8 +48,8 @@ pub fn place(px: Rgba) -> usize
     sum % 64
 }
 
-// The next pixel of a kind, after the pixels so far, of which `last` is the last: a new one, one that
-// stood before, a repeat, a difference, a luma, or opaque black.
+// The next pixel of a kind, after the pixels so far, of which `last` is the last: a new one, one
+// that stood before, a repeat, a difference, a luma, or opaque black.
 fn pixel(numbers: &mut Numbers, kind: usize, seen: &[Rgba], last: Rgba) -> Rgba {
     let [r, g, b, a] = last;
     let step = numbers.byte();
@@ -94,8 +94,8 @@ fn shares(numbers: &mut Numbers) -> [usize; 8] {
     kinds
 }
 
-/// The pixels of an image. The shares of the six kinds are drawn for it. One of four repeats stands for
-/// up to 200 of them.
+/// The pixels of an image. The shares of the six kinds are drawn for it. One of four repeats stands
+/// for up to 200 of them.
 pub fn drawn(
     alloc: Global,
     numbers: &mut Numbers,

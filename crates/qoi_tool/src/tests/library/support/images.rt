@@ -11,7 +11,7 @@ use std::alloc::Global;
 use std::io::ErrorKind;
 use std::process::Abort;
 
-/// The header of so many pixels in a row, in sRGB.
+/// The header of one row of `width` pixels, in sRGB.
 pub fn row(width: u32, channels: Channels) -> Header {
     Header {
         width,
@@ -51,7 +51,7 @@ pub fn raw_of(alloc: Global, channels: Channels, pixels: &[Rgba]) -> Result<Vec<
     Ok(raw)
 }
 
-/// The raw bytes in these channels of the pixels of a file, which is opaque where its own channels are
+/// The raw bytes in these channels of the pixels of a file, which is opaque if its own channels are
 /// three.
 pub fn seen_raw(
     alloc: Global,
@@ -80,7 +80,7 @@ pub struct Image {
 }
 
 impl Image {
-    /// The image of these pixels, which are opaque where there are three channels, and the file that
+    /// The image of these pixels, which are opaque if there are three channels, and the file that
     /// the plain encoder makes of it.
     pub fn of(alloc: Global, header: Header, style: Style, pixels: &[Rgba]) -> Result<Image> {
         let chunks = plain_chunks(alloc, style, pixels)?;
@@ -123,7 +123,7 @@ impl Image {
         decoding.check(rt, alloc, &self.raw, &[]);
     }
 
-    // The file stands at the front of the buffer, and each byte behind it is as before.
+    // The file stands at the front of the buffer, and each byte after it is as before.
     fn check_front(&self, rt: &impl Abort, size: usize, buf: &[u8]) {
         assert_number(rt, size, self.file.len());
         match buf.strip_prefix(self.file.as_slice()) {
@@ -148,7 +148,7 @@ impl Image {
         self.check_front(rt, size, &buf);
     }
 
-    /// Encodes the image to a writer that takes at most so many bytes a call, and all of the file.
+    /// Encodes the image to a writer that takes at most `most` bytes a call, and all of the file.
     pub fn sent(&self, rt: &impl Abort, alloc: Global, most: usize) -> Sink {
         let mut writer = Sink::new(alloc, most, NONE).expect(rt, "refused");
         let size = self
@@ -161,8 +161,8 @@ impl Image {
         writer
     }
 
-    /// Encodes the image to writers: in calls of 4096 bytes, and a last one of what is left. Each of the
-    /// calls fails once, and the pieces before it have gone out.
+    /// Encodes the image to writers: in calls of 4096 bytes, and a last one of what is left. Each
+    /// of the calls fails once, and the pieces before it have gone out.
     pub fn check_pieces(&self, rt: &impl Abort, alloc: Global) {
         let calls = self.file.len().div_ceil(4096);
         assert_number(rt, self.sent(rt, alloc, usize::MAX).calls, calls);

@@ -13,8 +13,8 @@ fn byte(numbers: &mut Numbers) -> u8 {
 }
 
 /// Adds a chunk of a kind: an index position, a difference, a luma, RGB, RGBA, a run of 1, a longer
-/// one, or one of up to 6. Returns how many pixels it gives. One of four longer runs has up to 62 of
-/// them, the others up to 10.
+/// one, or one of up to 6. Returns how many pixels it gives. One of four longer runs has up to 62
+/// of them, the others up to 10.
 pub fn add(numbers: &mut Numbers, chunks: &mut Vec<u8>, kind: u32) -> Result<u32> {
     let six = numbers.below(64) as u8;
     let (r, g, b, a) = (byte(numbers), byte(numbers), byte(numbers), byte(numbers));

@@ -12,7 +12,7 @@ struct Plain {
     // Whether a pixel of each index position was seen, repeats among them.
     seen: [bool; 64],
     last: Rgba,
-    // How many repeats came behind the last fresh pixel.
+    // How many repeats came after the last fresh pixel.
     repeats: u32,
     // Whether a fresh pixel came.
     begun: bool,

@@ -1,4 +1,4 @@
--- The runs, and the fresh pixel behind them.
+-- The runs, and the fresh pixel after them.
 use Rattle.std.proofs.Common.{◌≡◌, ◌≢◌, ◌<◌, ◌*◌, ◌%◌, ◌∷◌, length, take, drop, Some, sym, ap, ◌∙◌, arith, subst}
 use Rattle.std.specs.List.{AllByRecursion, slice_get}
 use Rattle.std.proofs.lemmas.Bool.{eqb-false}

@@ -1,4 +1,4 @@
--- A full piece was sent, and the bytes behind it stand at the front.
+-- A full piece was sent, and the bytes after it stand at the front.
 use Rattle.std.proofs.Common.{sym, subst}
 use Rattle.std.proofs.lemmas.List.{take-take}
 use Rattle.std.proofs.lemmas.Result.{err_from_is_err_and}

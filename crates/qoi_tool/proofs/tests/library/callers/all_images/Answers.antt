@@ -1,4 +1,4 @@
--- Each turn takes a file from the front of the rest, and puts its image behind the others.
+-- Each turn takes a file from the front of the rest, and puts its image after the others.
 use Rattle.std.proofs.Common.{◌≡◌, ◌<◌, ◌≤◌, ℕ, List, [], ◌∷◌, Some, Vec, Global, length, map, drop, ap, sym, ◌∙◌, subst, rules, append-nil}
 use Rattle.std.proofs.lemmas.List.{drop_all}
 use Rattle.qoi.specs.Qoi.{header_size}

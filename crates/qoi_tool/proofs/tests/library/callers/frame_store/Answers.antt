@@ -1,4 +1,4 @@
--- The store holds the two files, one behind the other, and so they stand ahead of its reader.
+-- The store holds the two files, one after the other, and so they stand ahead of its reader.
 use Rattle.std.proofs.Common.{◌∙◌, ◌++◌, ℕ, List, ap, subst, Some}
 use Rattle.qoi.specs.Encoded.{IsFileOf}
 use Rattle.qoi_tool.proofs.tests.library.callers.frame_store.Goals as goal
