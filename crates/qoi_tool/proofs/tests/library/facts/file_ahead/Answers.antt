@@ -1,0 +1,13 @@
+-- By `made` and `after` of the decoder and `file` of the method.
+use Rattle.std.proofs.Common.{drop, sym, subst}
+use Rattle.qoi.specs.declared.header.Header.{Header}
+use Rattle.qoi.specs.Qoi.{header_size}
+use Rattle.qoi.specs.Decoding.{DecodesFile}
+use Rattle.qoi_tool.proofs.tests.library.facts.file_ahead.Goals as goal
+
+pub returns : goal.returns
+returns g c bytes told =
+    let made = c.in_ok-decoder.ensures.made bytes told in
+    let behind = c.in_ok-decoder.ensures.behind bytes told in
+    let file = c.in_ok-raw.ensures.file bytes (drop header_size bytes) made behind in
+    (file.0, subst (λ (h : Header). DecodesFile bytes h file.0 c.in_ok-raw.raw.items) (sym c.header-header.ensures) file.2)

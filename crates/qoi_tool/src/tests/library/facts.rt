@@ -1,0 +1,142 @@
+//! What users want to know of compositions of the calls. `file_ahead` alone has a proof file.
+ghost use Rattle.std.specs.Prelude.{◌≡◌, ◌+◌, ◌≤◌, ℕ, List, length, Option, Some, IfOk};
+ghost use Rattle.qoi.specs.declared.header.Header.{Header};
+ghost use Rattle.qoi.specs.declared.types.Channels.{Channels};
+ghost use Rattle.qoi.specs.Decoding.{DecodesFile};
+ghost use Rattle.qoi.specs.Raw.{without_fourth};
+
+use crate::tests::fakes::{ONE_RGB_PIXEL, PIXEL};
+use crate::tests::library::support::{assert_bytes, assert_header, assert_number};
+use qoi::{Channels, Decoder, Encoder, Error, Header, decode_header, decode_to_buf, decode_to_vec};
+use std::alloc::Global;
+use std::io::Read;
+
+/// The same bytes are the same image: by the free call twice.
+pub fn twice(alloc: Global, file: &[u8]) -> Result<(Vec<u8>, Vec<u8>), Error>
+    ensures { IfOk result (λ x. x.0.items ≡ x.1.items) }
+{
+    let (_, first) = decode_to_vec(alloc, file)?;
+    let (_, second) = decode_to_vec(alloc, file)?;
+    Ok((first, second))
+}
+
+/// The same bytes are the same image: into a vector and into a buffer.
+pub fn vector_and_buffer<'a>(
+    alloc: Global,
+    buf: &'a mut [u8],
+    file: &[u8],
+) -> Result<(Vec<u8>, &'a [u8]), Error>
+    ensures { IfOk result (λ x. x.0.items ≡ x.1.now) }
+{
+    let (_, first) = decode_to_vec(alloc, file)?;
+    let header = decode_to_buf(buf, file)?;
+    Ok((first, &buf[..header.n_bytes()]))
+}
+
+/// The same bytes are the same image: by the free call and from a stream.
+pub fn call_and_stream(alloc: Global, file: &[u8]) -> Result<(Vec<u8>, Vec<u8>), Error>
+    ensures { IfOk result (λ x. x.0.items ≡ x.1.items) }
+{
+    let (_, first) = decode_to_vec(alloc, file)?;
+    let mut decoder = Decoder::from_stream(file)?;
+    let second = decoder.decode_to_vec(alloc)?;
+    Ok((first, second))
+}
+
+/// Headers. The encoder's comes back.
+pub fn header_back(
+    alloc: Global,
+    raw: &[u8],
+    width: u32,
+    height: u32,
+) -> Result<(Header, Header), Error>
+    ensures { IfOk result (λ x. x.0 ≡ x.1) }
+{
+    let encoder = Encoder::new(raw, width, height)?;
+    let file = encoder.encode_to_vec(alloc)?;
+    let header = decode_header(&file)?;
+    Ok((header, *encoder.header()))
+}
+
+/// Channels. An image of four channels, decoded in three, is its raw bytes without each fourth.
+pub fn rgb_of_rgba(
+    alloc: Global,
+    raw: &[u8],
+    width: u32,
+    height: u32,
+) -> Result<(Header, Vec<u8>), Error>
+    ensures { IfOk result (λ x. x.0.channels ≡ Channels.Rgba → x.1.items ≡ without_fourth raw.now) }
+{
+    let file = Encoder::new(raw, width, height)?.encode_to_vec(alloc)?;
+    let mut decoder = Decoder::new(&file)?.with_channels(Channels::Rgb);
+    let rgb = decoder.decode_to_vec(alloc)?;
+    Ok((*decoder.header(), rgb))
+}
+
+/// Measures. A success took nine bytes at least.
+pub fn took(alloc: Global, file: &[u8]) -> Result<usize, Error>
+    ensures { IfOk result (λ left. left + 9 ≤ length file.now) }
+{
+    let mut decoder = Decoder::new(file)?;
+    decoder.decode_to_vec(alloc)?;
+    Ok(decoder.data().len())
+}
+
+/// Files from a reader. If its bytes are known, a success in the file's own channels is a file.
+pub fn file_ahead<R: Read + Drop>(alloc: Global, reader: R) -> Result<(Header, Vec<u8>), Error>
+    ensures { (bytes : List ℕ) → R.remaining reader ≡ Some bytes → IfOk result (λ x. (rest : List ℕ)
+        × DecodesFile bytes x.0 rest x.1.items) }
+{
+    let mut decoder = Decoder::from_stream(reader)?;
+    let header = *decoder.header();
+    let raw = decoder.decode_to_vec(alloc)?;
+    Ok((header, raw))
+}
+
+/// Clones. A decoder of a slice and its clone give the same image.
+pub fn by_clone(alloc: Global, file: &[u8]) -> Result<(Vec<u8>, Vec<u8>), Error>
+    ensures { IfOk result (λ x. x.0.items ≡ x.1.items) }
+{
+    let mut decoder = Decoder::from_stream(file)?;
+    let mut clone = decoder.clone()?;
+    let first = decoder.decode_to_vec(alloc)?;
+    let second = clone.decode_to_vec(alloc)?;
+    Ok((first, second))
+}
+
+#[test]
+fn the_same_image(rt: HostRuntime) -> Result<(), Error> {
+    let alloc = rt.alloc();
+    let (first, second) = twice(alloc, &ONE_RGB_PIXEL)?;
+    assert_bytes(&rt, &first, &PIXEL);
+    assert_bytes(&rt, &second, &PIXEL);
+    let mut buf = [0xaa; 4];
+    let (first, second) = vector_and_buffer(alloc, &mut buf, &ONE_RGB_PIXEL)?;
+    assert_bytes(&rt, &first, &PIXEL);
+    assert_bytes(&rt, second, &PIXEL);
+    Ok(())
+}
+
+#[test]
+fn the_same_image_of_streams(rt: HostRuntime) -> Result<(), Error> {
+    let alloc = rt.alloc();
+    let (_, second) = call_and_stream(alloc, &ONE_RGB_PIXEL)?;
+    assert_bytes(&rt, &second, &PIXEL);
+    let (_, second) = by_clone(alloc, &ONE_RGB_PIXEL)?;
+    assert_bytes(&rt, &second, &PIXEL);
+    let (header, raw) = file_ahead(alloc, ONE_RGB_PIXEL.as_slice())?;
+    assert_number(&rt, header.n_pixels(), 1);
+    assert_bytes(&rt, &raw, &PIXEL);
+    Ok(())
+}
+
+#[test]
+fn headers_channels_and_lengths(rt: HostRuntime) -> Result<(), Error> {
+    let alloc = rt.alloc();
+    let (found, given) = header_back(alloc, &PIXEL, 1, 1)?;
+    assert_header(&rt, &found, &given);
+    let (_, rgb) = rgb_of_rgba(alloc, &[1, 2, 3, 4], 1, 1)?;
+    assert_bytes(&rt, &rgb, &[1, 2, 3]);
+    assert_number(&rt, took(alloc, &ONE_RGB_PIXEL)?, 0);
+    Ok(())
+}

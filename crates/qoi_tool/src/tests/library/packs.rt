@@ -1,0 +1,175 @@
+//! Callers that keep several files in one slice: of a pack the image whose file stands at an offset
+//! comes back, whatever follows it. None has a proof file.
+ghost use Rattle.std.specs.Prelude.{◌≡◌, ℕ, List, ◌++◌, drop, Option, Some, IfOk};
+ghost use Rattle.qoi.specs.declared.header.Header.{Header};
+ghost use Rattle.qoi.specs.declared.types.Style.{Style};
+ghost use Rattle.qoi.specs.Encoded.{IsFileOf};
+
+use crate::tests::fakes::{ONE_RGB_PIXEL, PIXEL};
+use crate::tests::library::support::{assert_bytes, assert_number};
+use qoi::{Decoder, Encoder, Error, decode_to_vec, encode_to_vec};
+use std::alloc::Global;
+use std::io::Read;
+
+/// A file and what follows it, passed on to the free call.
+pub fn tile(alloc: Global, file: &[u8]) -> Result<Vec<u8>, Error>
+    ensures { (style : Style) (h : Header) (raw bytes rest : List ℕ) → IsFileOf style h raw bytes
+        → file.now ≡ bytes ++ rest → IfOk result (λ tile. tile.items ≡ raw) }
+{
+    let (_, tile) = decode_to_vec(alloc, file)?;
+    Ok(tile)
+}
+
+/// The same by the method of a slice.
+pub fn tile_by_method(alloc: Global, file: &[u8]) -> Result<Vec<u8>, Error>
+    ensures { (style : Style) (h : Header) (raw bytes rest : List ℕ) → IsFileOf style h raw bytes
+        → file.now ≡ bytes ++ rest → IfOk result (λ tile. tile.items ≡ raw) }
+{
+    let mut decoder = Decoder::new(file)?;
+    let tile = decoder.decode_to_vec(alloc)?;
+    Ok(tile)
+}
+
+/// The same from a reader.
+pub fn tile_ahead<R: Read + Drop>(alloc: Global, reader: R) -> Result<Vec<u8>, Error>
+    ensures { (style : Style) (h : Header) (raw bytes rest : List ℕ) → IsFileOf style h raw bytes
+        → R.remaining reader ≡ Some (bytes ++ rest) → IfOk result (λ tile. tile.items ≡ raw) }
+{
+    let mut decoder = Decoder::from_stream(reader)?;
+    let tile = decoder.decode_to_vec(alloc)?;
+    Ok(tile)
+}
+
+/// The file at an offset of a pack.
+pub fn tile_at(alloc: Global, pack: &[u8], offset: usize) -> Result<Vec<u8>, Error>
+    ensures { (style : Style) (h : Header) (raw bytes rest : List ℕ) → IsFileOf style h raw bytes
+        → drop offset pack.now ≡ bytes ++ rest → IfOk result (λ tile. tile.items ≡ raw) }
+{
+    if offset > pack.len() {
+        return Err(Error::UnexpectedBufferEnd);
+    }
+    let (_, tile) = decode_to_vec(alloc, &pack[offset..])?;
+    Ok(tile)
+}
+
+/// The same by the method of a slice.
+pub fn tile_at_by_method(alloc: Global, pack: &[u8], offset: usize) -> Result<Vec<u8>, Error>
+    ensures { (style : Style) (h : Header) (raw bytes rest : List ℕ) → IsFileOf style h raw bytes
+        → drop offset pack.now ≡ bytes ++ rest → IfOk result (λ tile. tile.items ≡ raw) }
+{
+    if offset > pack.len() {
+        return Err(Error::UnexpectedBufferEnd);
+    }
+    let mut decoder = Decoder::new(&pack[offset..])?;
+    let tile = decoder.decode_to_vec(alloc)?;
+    Ok(tile)
+}
+
+/// The same of the second part of a pack.
+pub fn tile_behind(alloc: Global, pack: &[u8], offset: usize) -> Result<Vec<u8>, Error>
+    ensures { (style : Style) (h : Header) (raw bytes rest : List ℕ) → IsFileOf style h raw bytes
+        → drop offset pack.now ≡ bytes ++ rest → IfOk result (λ tile. tile.items ≡ raw) }
+{
+    if offset > pack.len() {
+        return Err(Error::UnexpectedBufferEnd);
+    }
+    let (_, tile) = decode_to_vec(alloc, pack.split_at(offset).1)?;
+    Ok(tile)
+}
+
+/// A byte is pushed after a file.
+pub fn byte_behind(alloc: Global, raw: &[u8], width: u32, height: u32) -> Result<Vec<u8>, Error>
+    ensures { IfOk result (λ back. back.items ≡ raw.now) }
+{
+    let mut file = encode_to_vec(alloc, raw, width, height)?;
+    file.push(1)?;
+    let (_, back) = decode_to_vec(alloc, &file)?;
+    Ok(back)
+}
+
+/// The same by the methods.
+pub fn byte_behind_by_methods(
+    alloc: Global,
+    raw: &[u8],
+    width: u32,
+    height: u32,
+) -> Result<Vec<u8>, Error>
+    ensures { IfOk result (λ back. back.items ≡ raw.now) }
+{
+    let mut file = Encoder::new(raw, width, height)?.encode_to_vec(alloc)?;
+    file.push(1)?;
+    let mut decoder = Decoder::new(&file)?;
+    let back = decoder.decode_to_vec(alloc)?;
+    Ok(back)
+}
+
+/// Two files in an atlas, of which the second is read back.
+pub fn second_of_two(
+    alloc: Global,
+    first: &[u8],
+    second: &[u8],
+    width: u32,
+    height: u32,
+) -> Result<Vec<u8>, Error>
+    ensures { IfOk result (λ back. back.items ≡ second.now) }
+{
+    let mut atlas = Vec::new(alloc);
+    let size = Encoder::new(first, width, height)?.encode_to_stream(&mut atlas)?;
+    Encoder::new(second, width, height)?.encode_to_stream(&mut atlas)?;
+    let (_, back) = decode_to_vec(alloc, &atlas[size..])?;
+    Ok(back)
+}
+
+/// A tile is put after an atlas, and read back from if it was put.
+pub fn appended(
+    alloc: Global,
+    atlas: &mut Vec<u8>,
+    raw: &[u8],
+    width: u32,
+    height: u32,
+) -> Result<Vec<u8>, Error>
+    ensures { IfOk result (λ back. back.items ≡ raw.now) }
+{
+    let offset = atlas.len();
+    Encoder::new(raw, width, height)?.encode_to_stream(atlas)?;
+    let (_, back) = decode_to_vec(alloc, &atlas[offset..])?;
+    Ok(back)
+}
+
+#[test]
+fn of_a_file_and_more(rt: HostRuntime) -> Result<(), Error> {
+    let alloc = rt.alloc();
+    let mut file = Vec::from_slice(alloc, &ONE_RGB_PIXEL)?;
+    file.push(1)?;
+    assert_bytes(&rt, &tile(alloc, &file)?, &PIXEL);
+    assert_bytes(&rt, &tile_by_method(alloc, &file)?, &PIXEL);
+    assert_bytes(&rt, &tile_ahead(alloc, file.as_slice())?, &PIXEL);
+    assert_bytes(&rt, &byte_behind(alloc, &PIXEL, 1, 1)?, &PIXEL);
+    assert_bytes(&rt, &byte_behind_by_methods(alloc, &PIXEL, 1, 1)?, &PIXEL);
+    Ok(())
+}
+
+#[test]
+fn at_an_offset(rt: HostRuntime) -> Result<(), Error> {
+    let alloc = rt.alloc();
+    let mut pack = Vec::from_slice(alloc, &[1, 2, 3])?;
+    pack.extend_from_slice(&ONE_RGB_PIXEL)?;
+    pack.push(4)?;
+    assert_bytes(&rt, &tile_at(alloc, &pack, 3)?, &PIXEL);
+    assert_bytes(&rt, &tile_at_by_method(alloc, &pack, 3)?, &PIXEL);
+    assert_bytes(&rt, &tile_behind(alloc, &pack, 3)?, &PIXEL);
+    let past = tile_at(alloc, &pack, 31);
+    assert!(rt; matches!(past, Err(Error::UnexpectedBufferEnd)));
+    Ok(())
+}
+
+#[test]
+fn of_an_atlas(rt: HostRuntime) -> Result<(), Error> {
+    let alloc = rt.alloc();
+    let other = [1, 2, 3];
+    assert_bytes(&rt, &second_of_two(alloc, &PIXEL, &other, 1, 1)?, &other);
+    let mut atlas = Vec::from_slice(alloc, &ONE_RGB_PIXEL)?;
+    assert_bytes(&rt, &appended(alloc, &mut atlas, &other, 1, 1)?, &other);
+    assert_number(&rt, atlas.len(), 52);
+    Ok(())
+}
