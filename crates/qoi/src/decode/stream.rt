@@ -7,8 +7,9 @@ ghost use Rattle.qoi.specs.Verdicts.{IsPartOfChunk, EndsBefore};
 ghost use Rattle.qoi.specs.Decoding.{HasTaken, StreamsPixels, ReadsImage, RefusesTaken, RefusesTakenMarker};
 ghost use Rattle.qoi.specs.inner.Filling.{IsWholePixels, DecodesChunk, filling};
 
-use crate::consts::{QOI_OP_RGB, QOI_OP_RGBA, QOI_PADDING, QOI_PADDING_SIZE};
-use crate::decode::pixels::{Decoded, decode_chunk, is_luma};
+use crate::chunk::QOI_OP_LUMA_END;
+use crate::consts::{QOI_OP_LUMA, QOI_OP_RGB, QOI_OP_RGBA, QOI_PADDING, QOI_PADDING_SIZE};
+use crate::decode::pixels::{Decoded, decode_chunk};
 use crate::error::{Error, Result};
 use crate::hashed::Hashed;
 use crate::table::HashedTable;
@@ -105,6 +106,10 @@ fn next_chunk<R: Read, const N: usize, const F: usize>(
 {
     let b1 = read_one(reader)?;
     match b1 {
+        QOI_OP_LUMA..=QOI_OP_LUMA_END => {
+            let b2 = read_one(reader)?;
+            Ok(decode_chunk::<N, F>(table, last, &[b1, b2, 0, 0, 0, 0, 0, 0], out, at))
+        }
         QOI_OP_RGB => {
             let mut more = [0, 0, 0];
             read_exact(reader, &mut more)?;
@@ -117,14 +122,7 @@ fn next_chunk<R: Read, const N: usize, const F: usize>(
             let bytes = [b1, more[0], more[1], more[2], more[3], 0, 0, 0];
             Ok(decode_chunk::<N, F>(table, last, &bytes, out, at))
         }
-        _ => {
-            let b2 = if is_luma(u32::from(b1)) {
-                read_one(reader)?
-            } else {
-                0
-            };
-            Ok(decode_chunk::<N, F>(table, last, &[b1, b2, 0, 0, 0, 0, 0, 0], out, at))
-        }
+        _ => Ok(decode_chunk::<N, F>(table, last, &[b1, 0, 0, 0, 0, 0, 0, 0], out, at)),
     }
 }
 

@@ -1,5 +1,5 @@
 -- A first byte, and some of those that it wants, are part of a chunk.
-use Rattle.std.proofs.Common.{ℕ, ◌<◌, List, [], ◌∷◌, inl, inr, arith, rules, refl}
+use Rattle.std.proofs.Common.{ℕ, ◌<◌, ◌≤◌, ◌⊎◌, List, [], ◌∷◌, inl, inr, arith, rules, refl}
 use Rattle.std.specs.Io.KnownBytes.{Consumes}
 use Rattle.qoi.specs.declared.chunk.Chunk.TheVariants.{Luma}
 use Rattle.qoi.specs.Verdicts.{IsPartOfChunk}
@@ -8,9 +8,7 @@ use Rattle.std.proofs.KnownBytes.{Consumes-trans}
 use Rattle.qoi.proofs.format.PartOfChunk.{part_empty}
 use Rattle.qoi.proofs.Results.{on_err}
 use Rattle.qoi.proofs.decoding.StreamReads.{part_read_luma, part_read_rgb, part_read_rgba, decodes_taken, alone_ahead, rgb_ahead, rgba_ahead}
-use Rattle.std.proofs.lemmas.Bool.{cases_lt}
-use Rattle.std.proofs.lemmas.Bool.Decides.{nat_tests}
-use Rattle.qoi.proofs.decode.stream.next_chunk.Goals.{then-is_luma+in_ok-b2-in_default, else-is_luma}
+use Rattle.qoi.proofs.decode.stream.next_chunk.Goals.{in_default-via-then-b1-lt128, in_default-via-else-b1-lt128+else-b1-lt192}
 use Rattle.qoi.proofs.decode.stream.next_chunk.Goals as goal
 
 pub returns-in_err-b1-clause-failed : goal.returns-in_err-b1-clause-failed
@@ -38,14 +36,13 @@ returns-in_err-read_exact-in-255-clause-failed g c =
       part_read_rgba first f.0 (omega arith) f.2.1 c.in-255.is (omega (arith, f.2.0)),
     )
 
-pub returns-in_err-b2-in_default-clause-failed : goal.returns-in_err-b2-in_default-clause-failed
-returns-in_err-b2-in_default-clause-failed g c =
+pub returns-in_err-b2-in-128-to-191-clause-failed : goal.returns-in_err-b2-in-128-to-191-clause-failed
+returns-in_err-b2-in-128-to-191-clause-failed g c =
     let first = c.in_ok-b1.b1 in
-    let luma = c.is_luma.ensures in
-    on_err {P = (x : List ℕ) × Consumes (g.R.Read.remaining c.args.reader.now) (g.R.Read.remaining c.read_one-then-is_luma.new.reader) x × IsPartOfChunk x} _ (
+    on_err {P = (x : List ℕ) × Consumes (g.R.Read.remaining c.args.reader.now) (g.R.Read.remaining c.read_one-in-128-to-191.new.reader) x × IsPartOfChunk x} _ (
       first ∷ [],
-      Consumes-trans _ _ _ (first ∷ []) [] c.in_ok-b1.ensures.read c.in_err-b2-in_default.ensures.failed,
-      part_read_luma first (omega arith) (grind (arith, nat_tests)) (grind (arith, nat_tests)),
+      Consumes-trans _ _ _ (first ∷ []) [] c.in_ok-b1.ensures.read c.in_err-b2-in-128-to-191.ensures.failed,
+      part_read_luma first (omega arith) (omega arith) (omega arith),
     )
 
 pub returns-in_ok-read_exact-in-254-clause-read : goal.returns-in_ok-read_exact-in-254-clause-read
@@ -69,26 +66,27 @@ returns-in_ok-read_exact-in-255-clause-read g c =
           (0 ∷ 0 ∷ 0 ∷ []) c.in-255.is c.read_exact-in-255.auto.buf c.read_exact-in-255.ensures.bytes) c.decode_chunk-in-255.ensures.decodes,
     )
 
-pub returns-after-is_luma-clause-read : goal.returns-after-is_luma-clause-read
-returns-after-is_luma-clause-read g c =
+pub returns-in_ok-b2-in-128-to-191-clause-read : goal.returns-in_ok-b2-in-128-to-191-clause-read
+returns-in_ok-b2-in-128-to-191-clause-read g c =
     let b1 = c.in_ok-b1.b1 in
-    let b2 = c.if-is_luma.b2 in
-    let decodes = c.decode_chunk-in_default.ensures.decodes in
-    let luma = c.is_luma.ensures in
-    let below : b1 < 254 = search rules in
-    elim c.if-is_luma.branch [
-      | then-is_luma+in_ok-b2-in_default w ↦ (
-        b1 ∷ b2 ∷ [],
-        Consumes-trans _ _ _ (b1 ∷ []) (b2 ∷ []) c.in_ok-b1.ensures.read (rw (w.b2-is, w.reader-is) w.in_ok-b2-in_default.ensures.read),
-        decodes_taken {old = filling c.args.table.now c.args.last c.args.out.now c.args.at} {new =
-            filling c.decode_chunk-in_default.new.table c.decode_chunk-in_default.result.last c.decode_chunk-in_default.new.out c.decode_chunk-in_default.result.at} _ _ _
-            (Luma b1 b2, 0 ∷ 0 ∷ 0 ∷ 0 ∷ 0 ∷ 0 ∷ [], (grind (arith, nat_tests), grind (arith, nat_tests), omega arith), refl, refl) decodes,
-      )
-      | else-is_luma w ↦ (
-        b1 ∷ [],
-        rw w.reader-is c.in_ok-b1.ensures.read,
-        decodes_taken {old = filling c.args.table.now c.args.last c.args.out.now c.args.at} {new =
-            filling c.decode_chunk-in_default.new.table c.decode_chunk-in_default.result.last c.decode_chunk-in_default.new.out c.decode_chunk-in_default.result.at} _ _ _
-            (alone_ahead b1 (b2 ∷ 0 ∷ 0 ∷ 0 ∷ 0 ∷ 0 ∷ 0 ∷ []) (elim (cases_lt b1 128) [ inl low ↦ inl low | inr high ↦ inr (grind (arith, nat_tests), below) ])) decodes,
-      )
-    ]
+    let b2 = c.in_ok-b2-in-128-to-191.b2 in (
+      b1 ∷ b2 ∷ [],
+      Consumes-trans _ _ _ (b1 ∷ []) (b2 ∷ []) c.in_ok-b1.ensures.read c.in_ok-b2-in-128-to-191.ensures.read,
+      decodes_taken {old = filling c.args.table.now c.args.last c.args.out.now c.args.at} {new =
+          filling c.decode_chunk-in-128-to-191.new.table c.decode_chunk-in-128-to-191.result.last
+          c.decode_chunk-in-128-to-191.new.out c.decode_chunk-in-128-to-191.result.at} _ _ _
+          (Luma b1 b2, 0 ∷ 0 ∷ 0 ∷ 0 ∷ 0 ∷ 0 ∷ [], (omega arith, omega arith, omega arith), refl, refl) c.decode_chunk-in-128-to-191.ensures.decodes,
+    )
+
+pub returns-in_default-clause-read : goal.returns-in_default-clause-read
+returns-in_default-clause-read g c =
+    let alone : (c.in_ok-b1.b1 < 128) ⊎ ((192 ≤ c.in_ok-b1.b1) × (c.in_ok-b1.b1 < 254)) = elim c.in_default.branch [
+      | in_default-via-then-b1-lt128 w ↦ inl (search rules)
+      | in_default-via-else-b1-lt128+else-b1-lt192 w ↦ inr (search rules, search rules)
+    ] in (
+      c.in_ok-b1.b1 ∷ [],
+      c.in_ok-b1.ensures.read,
+      decodes_taken {old = filling c.args.table.now c.args.last c.args.out.now c.args.at} {new =
+          filling c.decode_chunk-in_default.new.table c.decode_chunk-in_default.result.last c.decode_chunk-in_default.new.out c.decode_chunk-in_default.result.at} _ _ _
+          (alone_ahead c.in_ok-b1.b1 (0 ∷ 0 ∷ 0 ∷ 0 ∷ 0 ∷ 0 ∷ 0 ∷ []) alone) c.decode_chunk-in_default.ensures.decodes,
+    )
