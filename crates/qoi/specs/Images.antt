@@ -9,7 +9,8 @@ use Rattle.qoi.specs.declared.chunk.Chunk.TheVariants.{Place, Diff, Luma, Run, R
 use Rattle.qoi.specs.Qoi.{positions, luma_tag, run_tag, rgb_tag, rgba_tag, Past, bytes_of, chunk_bytes, then_chunk, meaning, marker_size, header_size, header_of, channels_number, pixel_count}
 use Rattle.qoi.specs.Raw.{output}
 
--- the chunk whose first byte is b and whose other bytes, as many as it has, begin these four
+-- the chunk whose first byte is b, and whose other bytes are the first of c, d, e and f, as many as
+-- it has
 abbrev pub chunk_by : ℕ → ℕ → ℕ → ℕ → ℕ → Chunk
 chunk_by b c d e f =
     if nat_lt b positions then Place b
@@ -23,7 +24,7 @@ chunk_by b c d e f =
 abbrev pub front_chunk : List ℕ → Chunk
 front_chunk bytes = chunk_by (slice_index bytes 0) (slice_index bytes 1) (slice_index bytes 2) (slice_index bytes 3) (slice_index bytes 4)
 
--- the chunks that follow these pixels until there are n, if at most so many chunks are left
+-- the chunks after the pixels `past` until there are n pixels, but no more than `left` chunks
 unfoldable pub chunks_after : ℕ → ℕ → Past → List ℕ → List Chunk
 chunks_after zero n past bytes = []
 chunks_after (suc left) n past bytes =
@@ -34,7 +35,7 @@ chunks_after (suc left) n past bytes =
 unfoldable pub front_chunks : Header → List ℕ → List Chunk
 front_chunks h bytes = chunks_after (pixel_count h) (pixel_count h) [] bytes
 
--- the raw bytes in the channels of the image by this header that the bytes begin with
+-- the raw bytes, in these channels, of the image that the bytes begin with, by this header
 unfoldable pub front_image : Channels → Header → List ℕ → List ℕ
 front_image channels h bytes = output (channels_number h.channels) (channels_number channels) (take (pixel_count h) (meaning (front_chunks h bytes)))
 
@@ -42,7 +43,7 @@ front_image channels h bytes = output (channels_number h.channels) (channels_num
 unfoldable pub front_rest : Header → List ℕ → List ℕ
 front_rest h bytes = drop marker_size (drop (length (chunk_bytes (front_chunks h bytes))) bytes)
 
--- the image after a header that was read, in its own channels
+-- the image after a header, in the header's own channels; none if the header was refused
 abbrev pub image_by : Result Header Error → List ℕ → List ℕ
 image_by (Err e) bytes = []
 image_by (Ok h) bytes = front_image h.channels h bytes

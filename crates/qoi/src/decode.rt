@@ -60,8 +60,8 @@ pub fn decode_to_buf(buf: &mut [u8], data: &[u8]) -> Result<Header>
         → (result ≡ Err (Error.OutputBufferTooSmall (length buf.old) (image_byte_count h)))
         × (buf.new ≡ buf.old) }
 
-    // Files are accepted if the buffer is long enough, whatever follows them; and that of an image,
-    // in each style, gives its header and its raw bytes.
+    // Files are accepted if the buffer is long enough, whatever follows them; and the file of an
+    // image, in each style, gives its header and its raw bytes.
     ensures accepts { (h : Header) (cs : List Chunk) (rest : List ℕ) → IsFile h cs
         → «data».now ≡ file h cs ++ rest
         → image_byte_count h ≤ length buf.old → result ≡ Ok h }
@@ -109,8 +109,8 @@ pub fn decode_to_vec(alloc: Global, data: &[u8]) -> Result<(Header, Vec<u8>)>
     ensures refused { IfErr result (λ e. RefusesFile «data».now e
         ⊎ ((e ≡ Error.OutOfMemory) × (h : Header) × (header_of «data».now ≡ Ok h))) }
 
-    // Files are accepted, whatever follows them, unless memory runs out; and that of an image, in
-    // each style, gives its header and its raw bytes.
+    // Files are accepted, whatever follows them, unless memory runs out; and the file of an image,
+    // in each style, gives its header and its raw bytes.
     ensures accepts { (h : Header) (cs : List Chunk) (rest : List ℕ) → IsFile h cs
         → «data».now ≡ file h cs ++ rest
         → IsOkUnless result Error.OutOfMemory }
@@ -168,11 +168,11 @@ impl<R> Model for Decoder<R> {
 impl<'a> Decoder<Bytes<'a>> {
     /// A decoder of the file at the front of the bytes, whose header is decoded at once.
     ///
-    /// The refusals are those of `decode_header`. Then `data` is what follows the header, and the
-    /// channels are the header's.
+    /// The refusals are those of `decode_header`. After a success `data` is what follows the
+    /// header, and the channels are the header's.
     pub fn new(data: &'a [u8]) -> Result<Decoder<Bytes<'a>>>
-        // What the result is: the image ahead, and what follows it, are those of the file at the
-        // front of the bytes.
+        // What the result is: the header, its channels and the bytes after it; so the image ahead,
+        // and what follows it, are those of the file at the front of the bytes.
         ensures accepted { IfOk result (λ d. (header_of «data».entry.now ≡ Ok d.header)
             × (d.channels ≡ d.header.channels) × (d.reader ≡ drop header_size «data».entry.now)) }
         ensures image { IfOk result (λ d.
@@ -218,7 +218,8 @@ impl<R: Read + Drop> Decoder<R> {
     /// fourteen bytes are read and no more. The channels are the header's.
     ///
     /// Refusals, in this order: `IoError` if the fourteen bytes don't come, and then those of
-    /// `decode_header` on them. The reader is dropped then, so no contract can say where it stood.
+    /// `decode_header` on them. After a refusal the reader is dropped, so no contract can say where
+    /// it stood.
     ///
     /// A decoder asks its reader for a chunk's few bytes at a time, and never for a byte past the
     /// end marker: wrap a file or a socket in a `BufReader`.
@@ -264,8 +265,8 @@ impl<R: Read + Drop> Decoder<R> {
         })
     }
 
-    /// The reader, as it stands: past the end marker after a success, and past the bytes that were
-    /// read after a refusal.
+    /// The reader, as it stands: past the header at first, past the end marker after an image, and
+    /// past the bytes that were read after a refusal.
     pub fn reader(&self) -> &R
         ensures { result.now ≡ self.now.reader }
     {
@@ -350,7 +351,7 @@ impl<R: Reader> Decoder<R> {
     /// the buffer may then be overwritten; later bytes never are.
     pub fn decode_to_buf(&mut self, buf: &mut [u8]) -> Result<usize>
         // What the result is: the image at the front of the bytes ahead, whose chunks are taken
-        // with the end marker; what follows is left.
+        // with the end marker, nine bytes at least; what follows is left.
         ensures decoded { IfOk result (λ size. (size ≡ output_byte_count self.old)
             × DecodesImage R.ahead self.old self.new (take size buf.new)) }
         ensures image { IfSome (R.ahead self.old.reader) (λ bytes. IfOk result (λ size.
@@ -363,9 +364,8 @@ impl<R: Reader> Decoder<R> {
             (IfSome (R.ahead self.new.reader) (λ rest. length rest + 9 ≤ length bytes))) }
 
         // The refusals. In memory nothing is taken, and the bytes ahead are cut or wrong; on a
-        // stream those that were taken are. Whole bytes in memory are accepted, and of an image
-        // that stands ahead only a fault of the reader keeps a success, if the buffer is long
-        // enough.
+        // stream the bytes that were taken are. If the buffer is long enough, whole bytes in memory
+        // are accepted, and if an image stands ahead only a fault of the reader is a refusal.
         ensures short { length buf.old < output_byte_count self.old
             → IsErrOf result
             (Error.OutputBufferTooSmall (length buf.old) (output_byte_count self.old))
@@ -381,9 +381,9 @@ impl<R: Reader> Decoder<R> {
             → IfErr result (IsReaderFault R.in_memory) }
 
         // The bytes ahead, if they are known: cut ones are `UnexpectedBufferEnd`, on a stream
-        // `IoError`, and wrong ones `InvalidPadding`, on a stream that or `IoError`; and the other
-        // way round. Of a decoder that was made from these bytes and has the file's own channels,
-        // they begin with a file, and this is its image.
+        // `IoError`, and wrong ones `InvalidPadding`, on a stream that or `IoError`, if the buffer
+        // is long enough. Conversely, after `UnexpectedBufferEnd` they are cut, and after
+        // `InvalidPadding` they are wrong.
         ensures cut { (bytes : List ℕ) → R.ahead self.old.reader ≡ Some bytes
             → AreCut (pixel_count self.old.header) bytes
             → output_byte_count self.old ≤ length buf.old
@@ -398,13 +398,15 @@ impl<R: Reader> Decoder<R> {
         ensures only_wrong { (bytes : List ℕ) → R.ahead self.old.reader ≡ Some bytes
             → IsErrOf result Error.InvalidPadding
             → AreWrong (pixel_count self.old.header) bytes }
+        // If the decoder was made from the bytes `source` and has the file's own channels, `source`
+        // begins with a file, and this is its image.
         ensures file { (source ahead : List ℕ) → IsDecoderOf self.old source ahead
             → R.ahead self.old.reader ≡ Some ahead
             → IfOk result (λ size. (rest : List ℕ) × (R.ahead self.new.reader ≡ Some rest)
             × DecodesFile source self.old.header rest (take size buf.new)) }
 
-        // The channels: three are four without each fourth byte, which is 255 if the file has
-        // three.
+        // The channels: the output in three is that in four without each fourth byte; and each
+        // fourth byte is 255 if the file has three.
         ensures rgb { self.old.channels ≡ Channels.Rgb → IfSome (R.ahead self.old.reader) (λ bytes.
             IfOk result (λ size. take size buf.new
             ≡ without_fourth (front_image Channels.Rgba self.old.header bytes))) }
@@ -446,7 +448,7 @@ impl<R: Reader> Decoder<R> {
     /// it has.
     pub fn decode_to_vec(&mut self, alloc: Global) -> Result<Vec<u8>>
         // What the result is: the image at the front of the bytes ahead, whose chunks are taken
-        // with the end marker; what follows is left.
+        // with the end marker, nine bytes at least; what follows is left.
         ensures decoded { IfOk result (λ out. DecodesImage R.ahead self.old self.new out.items) }
         ensures length { IfOk result (λ out.
             HasImageLength (output_byte_count self.old) out.items) }
@@ -460,8 +462,9 @@ impl<R: Reader> Decoder<R> {
             (IfSome (R.ahead self.new.reader) (λ rest. length rest + 9 ≤ length bytes))) }
 
         // The refusals. In memory nothing is taken, and the bytes ahead are cut or wrong; on a
-        // stream those that were taken are. Whole bytes in memory are accepted, and of an image
-        // that stands ahead only a fault of the reader keeps a success, or want of memory.
+        // stream the bytes that were taken are. Unless memory runs out, whole bytes in memory are
+        // accepted, and if an image stands ahead only a fault of the reader is a refusal. After a
+        // success the bytes ahead could hold the image.
         ensures refused { IfErr result (λ e. (e ≡ Error.OutOfMemory)
             ⊎ RefusesDecoding R.in_memory R.ahead self.old self.new e) }
         ensures no_memory { IsErrOf result Error.OutOfMemory → self.new ≡ self.old }
@@ -476,9 +479,9 @@ impl<R: Reader> Decoder<R> {
             → IfErr result (λ e. (e ≡ Error.OutOfMemory) ⊎ IsReaderFault R.in_memory e) }
 
         // The bytes ahead, if they are known: cut ones are `UnexpectedBufferEnd`, on a stream
-        // `IoError`, and wrong ones `InvalidPadding`, on a stream that or `IoError`; and the other
-        // way round. Of a decoder that was made from these bytes and has the file's own channels,
-        // they begin with a file, and this is its image.
+        // `IoError`, and wrong ones `InvalidPadding`, on a stream that or `IoError`, unless memory
+        // runs out. Conversely, after `UnexpectedBufferEnd` they are cut, and after `InvalidPadding`
+        // they are wrong.
         ensures cut { (bytes : List ℕ) → R.ahead self.old.reader ≡ Some bytes
             → AreCut (pixel_count self.old.header) bytes
             → IsErrAnd result (λ e. (e ≡ Error.OutOfMemory) ⊎ IsErrorOfCut R.in_memory e) }
@@ -491,13 +494,15 @@ impl<R: Reader> Decoder<R> {
         ensures only_wrong { (bytes : List ℕ) → R.ahead self.old.reader ≡ Some bytes
             → IsErrOf result Error.InvalidPadding
             → AreWrong (pixel_count self.old.header) bytes }
+        // If the decoder was made from the bytes `source` and has the file's own channels, `source`
+        // begins with a file, and this is its image.
         ensures file { (source ahead : List ℕ) → IsDecoderOf self.old source ahead
             → R.ahead self.old.reader ≡ Some ahead
             → IfOk result (λ out. (rest : List ℕ) × (R.ahead self.new.reader ≡ Some rest)
             × DecodesFile source self.old.header rest out.items) }
 
-        // The channels: three are four without each fourth byte, which is 255 if the file has
-        // three.
+        // The channels: the output in three is that in four without each fourth byte; and each
+        // fourth byte is 255 if the file has three.
         ensures rgb { self.old.channels ≡ Channels.Rgb → IfSome (R.ahead self.old.reader) (λ bytes.
             IfOk result (λ out. out.items
             ≡ without_fourth (front_image Channels.Rgba self.old.header bytes))) }

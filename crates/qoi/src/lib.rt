@@ -5,7 +5,7 @@
 //!
 //! - [`encode_to_vec`] and [`decode_to_vec`] go from raw bytes to a file and back;
 //!   [`encode_to_buf`] and [`decode_to_buf`] do so in buffers and take no memory.
-//! - [`Encoder`] also takes a color space and writes to a `std::io::Write`.
+//! - [`Encoder`] also takes a color space and a style, and writes to a `std::io::Write`.
 //! - [`Decoder`] also chooses the channels of its output, reads from a `std::io::Read`, and tells
 //!   what follows a file.
 //! - [`decode_header`] looks at the first fourteen bytes alone; [`encode_max_len`] is the most

@@ -1,4 +1,4 @@
-//! What both loops put into the output: the pixels of chunks.
+//! What the loops of slices and of streams put into the output: the pixels of chunks.
 ghost use Rattle.std.specs.Prelude.{◌≡◌, ℕ, ◌+◌, ◌*◌, ◌/◌, ◌%◌, ◌-◌, ◌<◌, ◌≤◌, [], ◌∷◌, ◌++◌, length, take, replicate, nat_le, nat_lt, ◌&&◌};
 ghost use Rattle.qoi.specs.Qoi.{Past, run_max, luma_tag, run_tag, rgb_tag};
 ghost use Rattle.qoi.specs.declared.decode.pixels.TheConstants.{RUN_ROOM};
@@ -26,8 +26,8 @@ fn write_pixel<const N: usize, const F: usize>(out: &mut [u8], at: usize, px: Ha
     out[at..at + N].copy_from_slice(&bytes[..N]);
 }
 
-/// Writes a block of sixteen bytes at `at`: the pixel as often as it has room there, and what is
-/// left over, which is written again later.
+/// Writes a block of sixteen bytes at `at`: the pixel as often as it fits and, in three channels, a
+/// byte more. What goes past the pixels that the caller counts is written again later.
 #[inline(always)]
 pub(super) fn write_block<const N: usize, const F: usize>(out: &mut [u8], at: usize, px: Hashed)
     requires channels { IsChannels N }
@@ -38,7 +38,7 @@ pub(super) fn write_block<const N: usize, const F: usize>(out: &mut [u8], at: us
     px.block::<N, F>().copy_to_slice(&mut out[at..at + 16]);
 }
 
-// Writes four blocks, one after the other.
+// Writes four blocks, each at the end of the whole pixels of the one before.
 #[inline(always)]
 fn write_four_blocks<const N: usize, const F: usize>(out: &mut [u8], at: usize, px: Hashed)
     requires channels { IsChannels N }
@@ -53,8 +53,8 @@ fn write_four_blocks<const N: usize, const F: usize>(out: &mut [u8], at: usize, 
     write_block::<N, F>(out, at + N * (3 * one), px);
 }
 
-/// Writes a pixel `count` times from `at` on: four blocks, and if that isn't all, as many as any
-/// run has. What goes past them is written again later.
+/// Writes a pixel `count` times from `at` on: by four blocks, or if they don't hold it by sixteen,
+/// which hold any run. What goes past its pixels is written again later.
 #[inline(always)]
 pub(super) fn write_run<const N: usize, const F: usize>(
     out: &mut [u8],
@@ -154,8 +154,8 @@ pub(super) struct Decoded {
     pub(super) at: usize,
 }
 
-/// Decodes the first chunk of the bytes, with every test. Any chunk is whole in eight bytes,
-/// and after a short one there is a byte more, which is read with it.
+/// Decodes the first chunk of the bytes; how much room the output has is tested. Any chunk is whole
+/// in eight bytes, and after a short one there is a byte more, which is read with it.
 #[inline(always)]
 pub(super) fn decode_chunk<const N: usize, const F: usize>(
     table: &mut HashedTable,

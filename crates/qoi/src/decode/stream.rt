@@ -44,8 +44,9 @@ fn read_rest<R: Read>(reader: &mut R, buf: &mut [u8]) -> io::Result<()>
     Ok(())
 }
 
-// Fills the buffer from a stream, and asks for no byte past it. Unlike in the standard library's,
-// an interruption is a fault; so is the end of the stream. The first read mostly returns all.
+// Fills the buffer from a stream, and asks for no byte past it. An interruption is a fault, unlike
+// in the standard library's `read_exact`; the end of the stream is one, as it is there. The first
+// read mostly returns all.
 #[inline(always)]
 pub(super) fn read_exact<R: Read>(reader: &mut R, buf: &mut [u8]) -> io::Result<()>
     ensures read { OnOk result

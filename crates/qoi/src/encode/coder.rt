@@ -1,4 +1,5 @@
 //! The coder: pixels to chunks, four pixels at a time (QOI specification 1.0, "Data" and "Chunks").
+//! Written means here: kept in the piece.
 ghost use lib.Lanes.{mask_l, zip2};
 ghost use Rattle.std.specs.Prelude.{◌≡◌, ◌≢◌, ℕ, ◌+◌, ◌*◌, ◌/◌, ◌%◌, ◌<◌, ◌≤◌, ◌↔◌, IsTrue, nat_eq, List, [], ◌∷◌, ◌++◌, Option, None, Some, length, drop, replicate, slice_get, slice_index};
 ghost use Rattle.qoi.specs.declared.chunk.Chunk.{Chunk};
@@ -24,9 +25,9 @@ use crate::types::Style::{self, Places, Reference, Tight};
 use crate::utils::skip;
 use std::simd::u32x4;
 
-/// What is known between two pixels: the style; `last`, the last pixel, and `place`, its index
-/// position; `begun`, whether a fresh pixel came, one that differs from the pixel before it; and
-/// `placed`, whether the chunk that was written last is that index position. The table of the 64
+/// What is known between two pixels: the style; the pixel `last` and its index position `place`;
+/// `begun`, whether a fresh pixel came, one that differs from the pixel before it; and `placed`,
+/// whether the chunk that was written last is the index position `place`. The table of the 64
 /// positions is passed beside it, so that the processor keeps these few in registers. Pixels of
 /// three channels are opaque.
 #[derive(Drop)]
@@ -61,9 +62,10 @@ impl<const N: usize> Coder<N> {
         }
     }
 
-    // A group of `count` repeats takes runs of 62 and one of those that are left. If a single one
-    // is left and a fresh pixel follows, this is its byte: a run of 1, or in style `Places` the
-    // index position, if a fresh pixel came and the chunk before isn't that position.
+    // The byte of a single repeat that is left of a group of `count` after runs of 62, if a fresh
+    // pixel follows: a run of 1, or in style `Places` the index position, if a fresh pixel came and
+    // the chunk before isn't that position (of more than one repeat it is a run). If no single one
+    // is left, it isn't used.
     #[inline(always)]
     fn single_repeat(&self, count: usize) -> u8
         ensures { bytes_of (single self.now count) ≡ result ∷ [] }
@@ -75,8 +77,9 @@ impl<const N: usize> Coder<N> {
         }
     }
 
-    // Notes that `count` repeats of the last pixel were written. Style `Tight` puts them at its
-    // index position, too, which matters only at the start: later the pixel stands there already.
+    // The state after `count` repeats of the last pixel, which were written. Style `Tight` puts the
+    // pixel at its index position, too; that changes the table only before the first fresh pixel,
+    // since later it stands there already.
     #[inline(always)]
     fn repeat(&mut self, table: &mut Table, count: usize)
         ensures same { (self.new.last ≡ self.old.last) × (self.new.style ≡ self.old.style) }
@@ -94,7 +97,8 @@ impl<const N: usize> Coder<N> {
 
     // The chunk of a fresh pixel that doesn't stand at its index position: a number that has its
     // bytes, and how many. It is the one passed, the first that spells the pixel out; but in style
-    // `Tight`, of transparent black, the least position where no pixel was put, if there is one.
+    // `Tight`, of transparent black, the least position where no pixel was put (the first that
+    // holds transparent black, as its own doesn't), if there is one.
     #[inline(always)]
     fn spelled(&self, table: &Table, px: Packed, placed: bool, number: u32, size: u32) -> (u32, u32)
         ensures few { (n : ℕ) → 1 ≤ n → size ≤ n → result.1 ≤ n }
@@ -203,9 +207,8 @@ impl<const N: usize> Coder<N> {
         lane + count + 1
     }
 
-    // Writes the chunks of four pixels that don't all repeat: of all if each is fresh, else of
-    // those up to the last fresh one (repeats after it may go on in the next four). Returns how
-    // many pixels these are.
+    // Writes the chunks of four pixels, not all of which repeat, up to the last fresh one; repeats
+    // after it may go on in the next four. Returns how many pixels these are.
     #[inline(always)]
     fn write_lanes(
         &mut self,
@@ -264,8 +267,9 @@ impl<const N: usize> Coder<N> {
         count
     }
 
-    // Reads the first four pixels. If all repeat, writes the runs of all repeats at the front, else
-    // the chunks of these four up to the last fresh one. Returns how many pixels were written.
+    // Reads the first four pixels. If all four repeat, writes the runs of the repeats at the front,
+    // as `write_runs` does, else the chunks of these four up to the last fresh one. Returns how
+    // many pixels were written.
     #[inline(always)]
     fn write_quad(&mut self, table: &mut Table, piece: &mut Piece, data: &[u8]) -> usize
         requires whole { length «data».now % N ≡ 0 }
@@ -313,8 +317,8 @@ impl<const N: usize> Coder<N> {
         rest
     }
 
-    // Of the last pixels, writes the runs of the repeats at the front and the chunk of the fresh
-    // pixel that follows them, if there is one. Returns how many pixels these are.
+    // Of the pixels at the end, writes the runs of the repeats at the front and the chunk of the
+    // fresh pixel that follows them, if there is one. Returns how many pixels these are.
     #[inline(always)]
     fn write_next(&mut self, table: &mut Table, piece: &mut Piece, data: &[u8]) -> usize
         requires whole { length «data».now % N ≡ 0 }
@@ -337,7 +341,7 @@ impl<const N: usize> Coder<N> {
         count + 1
     }
 
-    /// Writes the chunks of the last pixels, which have fewer than sixteen raw bytes.
+    /// Writes the chunks of the pixels at the end, which have fewer than sixteen raw bytes.
     #[inline(always)]
     pub(super) fn write_last(&mut self, table: &mut Table, piece: &mut Piece, data: &[u8])
         requires whole { length «data».now % N ≡ 0 }

@@ -34,7 +34,7 @@ pub(crate) struct Quad<const N: usize> {
 }
 
 impl<const N: usize> Quad<N> {
-    /// Four pixels after the ones before them.
+    /// The four pixels `cur`, after the pixels `prev` before them.
     #[inline(always)]
     pub(super) fn new(cur: u32x4, prev: u32x4) -> Quad<N>
         requires channels { IsChannels N }
@@ -86,7 +86,7 @@ pub(super) fn four<const N: usize>(bytes: &[u8]) -> u32x4
     u32x4::from_le_bytes(opaque)
 }
 
-/// The pixels before four others, the first of which follows `last`.
+/// The pixels before four: `last`, and then the first three of them.
 #[inline(always)]
 pub(super) fn before(last: u32, cur: u32x4) -> u32x4
     ensures lanes { result ≡ last ∷ take 3 cur }
@@ -113,7 +113,7 @@ fn places(cur: u32x4) -> u32x4
     cur.to_le_bytes().dot4(weights) & u32x4::splat(63)
 }
 
-// What is added to each channel of a lane of `prev` for that of `cur`; it wraps at 256.
+// What each channel of `prev` needs added to give that of `cur`; it wraps at 256.
 #[inline(always)]
 #[tactic(auto, using(crate::proofs::format::Quads::steps_lanes))]
 fn steps(cur: u32x4, prev: u32x4) -> u32x4
@@ -151,7 +151,7 @@ fn luma_steps(steps: u32x4) -> u32x4
     u32x4::from_le_bytes(steps.to_le_bytes() + u32x4::splat(0x0008_2008).to_le_bytes() - gg)
 }
 
-// Numbers whose lowest byte is the difference chunk of these steps.
+// Numbers whose lowest byte is the difference chunk with these `diff_steps`, if they fit in it.
 #[inline(always)]
 fn diffs(steps: u32x4) -> u32x4
     ensures lanes { result ≡ map diff_number steps }
@@ -162,7 +162,7 @@ fn diffs(steps: u32x4) -> u32x4
         + u32x4::splat(0x40)
 }
 
-// Numbers whose two lowest bytes are the luma chunks of these steps.
+// Numbers whose two lowest bytes are the luma chunk with these `luma_steps`, if they fit in it.
 #[inline(always)]
 fn lumas(steps: u32x4) -> u32x4
     ensures lanes { result ≡ map luma_number steps }
