@@ -138,10 +138,9 @@ fn readers(rt: HostRuntime) {
 
 #[test]
 fn readers_of_images(rt: HostRuntime) {
+    let pixel = PIXEL.as_slice();
     let received = receive(rt.alloc(), ONE_RGB_PIXEL.as_slice());
-    assert!(rt;
-        matches!(&received, Ok((raw, left)) if raw.as_slice() == PIXEL.as_slice() && left.is_empty())
-    );
+    assert!(rt; matches!(&received, Ok((raw, left)) if raw.as_slice() == pixel && left.is_empty()));
 }
 
 // Opaque black that comes back is spelled out by three more bytes than an index position, which
