@@ -234,7 +234,7 @@ impl<R: Read + Drop> Decoder<R> {
         // (`R.ahead`, of which the methods speak, is `R.remaining` of a stream.)
         ensures read { (bytes : List ℕ) → R.remaining reader ≡ Some bytes
             → IfOk result (λ d. header_of bytes ≡ Ok d.header) }
-        ensures behind { (bytes : List ℕ) → R.remaining reader ≡ Some bytes
+        ensures after { (bytes : List ℕ) → R.remaining reader ≡ Some bytes
             → IfOk result (λ d. R.remaining d.reader ≡ Some (drop header_size bytes)) }
         ensures image { IfSome (R.remaining reader) (λ bytes. IfOk result (λ d.
             IfSome (R.remaining d.reader) (λ ahead.

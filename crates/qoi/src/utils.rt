@@ -1,6 +1,6 @@
 //! Where the encoder writes.
 ghost use Rattle.std.specs.Prelude.{◌≡◌, ℕ, ◌+◌, ◌<◌, ◌≤◌, List, [], ◌∷◌, length, drop, OnOk, IfErr};
-ghost use Rattle.qoi.specs.writers.Writes.{StandsBehind, WriterLaws, WroteBeginning};
+ghost use Rattle.qoi.specs.writers.Writes.{StandsAfter, WriterLaws, WroteBeginning};
 ghost use Rattle.qoi.specs.Errors.{IsIoError};
 
 use crate::error::{Error, Result};
@@ -81,15 +81,15 @@ impl<'a> BytesMut<'a> {
         requires { length v.now ≤ length (bytes_left self.old) }
         ensures { BufferWrote self.old v.now self.new }
     {
-        self.written = copy_behind(self.buf, self.written, v);
+        self.written = copy_after(self.buf, self.written, v);
     }
 }
 
 // Writes bytes after the first `written` ones of a buffer, and returns where they end.
 #[inline(always)]
-pub(crate) fn copy_behind(buf: &mut [u8], written: usize, v: &[u8]) -> usize
+pub(crate) fn copy_after(buf: &mut [u8], written: usize, v: &[u8]) -> usize
     requires { written + length v.now ≤ length buf.old }
-    ensures { StandsBehind buf.old written v.now buf.new result }
+    ensures { StandsAfter buf.old written v.now buf.new result }
 {
     let end = written + v.len();
     buf[written..end].copy_from_slice(v);

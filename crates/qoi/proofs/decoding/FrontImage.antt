@@ -113,25 +113,25 @@ file_rest_is bytes h rest out d =
     rest_is h.channels h (drop header_size bytes) rest out (own_image bytes h rest out d) ∙ ap (λ r. rest_by r (drop header_size bytes)) (sym d.header)
 
 -- after a header that was read stand the image and the rest of the file
-pub image_behind : (channels : Channels) (h : Header) (bytes : List ℕ) → header_of bytes ≡ Ok h → channels ≡ h.channels
+pub image_after : (channels : Channels) (h : Header) (bytes : List ℕ) → header_of bytes ≡ Ok h → channels ≡ h.channels
     → (front_image channels h (drop header_size bytes) ≡ file_image bytes) × (front_rest h (drop header_size bytes) ≡ file_rest bytes)
 unfolding file_image file_rest
-image_behind channels h bytes read own =
+image_after channels h bytes read own =
     let after = drop header_size bytes in (
       ap (λ c. front_image c h after) own ∙ ap (λ r. image_by r after) (sym read),
       ap (λ r. rest_by r after) (sym read),
     )
 
 -- so they are if a stream's header was read
-pub image_behind_read : (old left : Option (List ℕ)) (h : Header) → TakesHeader old left h → IfSome old (λ bytes. IfSome left (λ ahead.
+pub image_after_read : (old left : Option (List ℕ)) (h : Header) → TakesHeader old left h → IfSome old (λ bytes. IfSome left (λ ahead.
     (front_image h.channels h ahead ≡ file_image bytes) × (front_rest h ahead ≡ file_rest bytes)))
-image_behind_read None left h r = tt
-image_behind_read (Some bytes) None h r = tt
-image_behind_read (Some bytes) (Some ahead) h r =
+image_after_read None left h r = tt
+image_after_read (Some bytes) None h r = tt
+image_after_read (Some bytes) (Some ahead) h r =
     let read = header_read_from (Some bytes) (Some ahead) bytes h r refl in
     let P : List ℕ → Type 0 = λ z. (front_image h.channels h z ≡ file_image bytes) × (front_rest h z ≡ file_rest bytes) in
     let same : ahead ≡ drop header_size bytes = cc read.1 in
-    subst P (sym same) (image_behind h.channels h bytes read.0 refl)
+    subst P (sym same) (image_after h.channels h bytes read.0 refl)
 
 -- what is read of bytes, if they are known, is the image at their front, and what follows it is
 -- left

@@ -81,11 +81,11 @@ decodes_read h bytes rest out fits read r =
     decodes_file h r.cs bytes rest out front.0 front.1 r.out_is
 
 -- so it is when a decoder reads it, in the file's own channels
-pub decodes_behind : (bytes : List ℕ) (d : DecoderState (List ℕ)) (rest out : List ℕ) → AreBytes bytes → header_of bytes ≡ Ok d.header
+pub decodes_after : (bytes : List ℕ) (d : DecoderState (List ℕ)) (rest out : List ℕ) → AreBytes bytes → header_of bytes ≡ Ok d.header
     → d.channels ≡ d.header.channels → d.reader ≡ drop header_size bytes
     → ReadsImage (channels_number d.header.channels) (channels_number d.channels) (pixel_count d.header) (Some d.reader) (Some rest) out
     → DecodesFile bytes d.header rest out
-decodes_behind bytes d rest out fits read own after r =
+decodes_after bytes d rest out fits read own after r =
     let own_channels = subst (λ k. ReadsImage (channels_number d.header.channels) (channels_number k) (pixel_count d.header) (Some d.reader)
     (Some rest) out) own r in
     decodes_read d.header bytes rest out fits read

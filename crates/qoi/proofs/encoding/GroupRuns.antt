@@ -25,12 +25,12 @@ none_of_few n _ (inr e) h = rw e refl
 -- n pixels that are p, and then others
 pub count_of : (p : RgbaPixel) (pixels rest : List RgbaPixel) (n : ℕ) → pixels ≡ replicate n p ++ rest → slice_get rest 0 ≢ Some p → IsCount p pixels n
 count_of p pixels rest n e other = record {
-  same = e ∙ ap (λ x. replicate n p ++ x) (sym behind);
+  same = e ∙ ap (λ x. replicate n p ++ x) (sym later);
   other = λ same. other (sym (first n) ∙ ap (λ x. slice_get x n) (sym e) ∙ same);
 }
   where
-    behind : drop n pixels ≡ rest
-    behind = ap (drop n) e ∙ ap (λ k. drop k (replicate n p ++ rest)) (sym (length-replicate n p)) ∙ drop-append_seam (replicate n p) rest
+    later : drop n pixels ≡ rest
+    later = ap (drop n) e ∙ ap (λ k. drop k (replicate n p ++ rest)) (sym (length-replicate n p)) ∙ drop-append_seam (replicate n p) rest
 
     first : (n : ℕ) → slice_get (replicate n p ++ rest) n ≡ slice_get rest 0
     first zero = refl
@@ -49,9 +49,9 @@ counted_within n count more len is = by_channels (λ k. k * count + more ≡ len
 pub repeats_block : (n : ℕ) (bytes rest after : List ℕ) (p : RgbaPixel) (count : ℕ) → IsChannels n → RepeatsSoFar n bytes rest p count → n * 16 ≤ length rest
     → after ≡ drop (n * 16) rest → pixels_of n rest ≡ replicate 16 p ++ pixels_of n (drop (n * 16) rest)
     → RepeatsSoFar n bytes after p (count + 16)
-repeats_block n bytes rest after p count is w room behind block = record {
-  size = sums n is (omega (arith, ap length behind, length-drop (n * 16) rest)) w.size;
-  same = w.same ∙ ap (λ x. replicate count p ++ x) (block ∙ ap (λ x. replicate 16 p ++ pixels_of n x) (sym behind))
+repeats_block n bytes rest after p count is w room later block = record {
+  size = sums n is (omega (arith, ap length later, length-drop (n * 16) rest)) w.size;
+  same = w.same ∙ ap (λ x. replicate count p ++ x) (block ∙ ap (λ x. replicate 16 p ++ pixels_of n x) (sym later))
       ∙ repeats_after count 16 p (pixels_of n after);
 }
   where
@@ -98,8 +98,8 @@ group_of : (n : ℕ) (bytes : List ℕ) (q : RgbaPixel) (count : ℕ) → IsChan
     → Group n bytes q count
 group_of n bytes q count is whole w = record {
   within = inside;
-  pixels = w.same ∙ ap (λ x. replicate count q ++ x) behind;
-  other = λ e. w.other (nth_first count (pixels_of n bytes) ∙ ap (λ x. slice_get x 0) behind ∙ e);
+  pixels = w.same ∙ ap (λ x. replicate count q ++ x) later;
+  other = λ e. w.other (nth_first count (pixels_of n bytes) ∙ ap (λ x. slice_get x 0) later ∙ e);
   whole = rw length-drop (whole_rest n count (length bytes) is whole inside);
 }
   where
@@ -118,8 +118,8 @@ group_of n bytes q count is whole w = record {
     inside : n * count ≤ length bytes
     inside = by_channels (λ k. count ≤ length bytes / k → k * count ≤ length bytes) is (λ h. omega arith) (λ h. omega arith) enough
 
-    behind : drop count (pixels_of n bytes) ≡ pixels_of n (drop (n * count) bytes)
-    behind = pixels_drop n count bytes is inside
+    later : drop count (pixels_of n bytes) ≡ pixels_of n (drop (n * count) bytes)
+    later = pixels_drop n count bytes is inside
 
 -- bytes of whole pixels have a pixel, if there are any
 pub some_pixels : (n : ℕ) (bytes : List ℕ) → IsChannels n → length bytes % n ≡ 0 → 0 < length bytes → pixels_of n bytes ≢ []
@@ -169,20 +169,20 @@ near_group n bytes q most count m is whole m_is counted = go (cases_lt (n * most
         let g = group_of n near q count is near_whole (subst (λ k. IsCount q (pixels_of n (take k bytes)) count) every counted) in
         let few = few_of n count most is (omega (arith, g.within, size)) in
         let inside : n * count ≤ length bytes = omega (arith, g.within, size) in
-        let behind = drop (n * count) near in
-        let behind_size : length behind ≡ n * (most - count) = length-drop (n * count) near ∙ ap (λ k. k - n * count) size ∙ times_rest n most count is few in
-        let joined : drop (n * count) bytes ≡ behind ++ far = ap (drop (n * count)) (sym (take-append-drop (n * most) bytes))
+        let later = drop (n * count) near in
+        let later_size : length later ≡ n * (most - count) = length-drop (n * count) near ∙ ap (λ k. k - n * count) size ∙ times_rest n most count is few in
+        let joined : drop (n * count) bytes ≡ later ++ far = ap (drop (n * count)) (sym (take-append-drop (n * most) bytes))
         ∙ drop-append-le (n * count) near far (omega (arith, g.within)) in
-        let ahead : pixels_of n (drop (n * count) bytes) ≡ pixels_of n behind ++ pixels_of n far = ap (pixels_of n) joined
-        ∙ pixels_of-append n (most - count) behind far is behind_size in
+        let ahead : pixels_of n (drop (n * count) bytes) ≡ pixels_of n later ++ pixels_of n far = ap (pixels_of n) joined
+        ∙ pixels_of-append n (most - count) later far is later_size in
         let all : pixels_of n bytes ≡ pixels_of n near ++ pixels_of n far = ap (pixels_of n) (sym (take-append-drop (n * most) bytes))
         ∙ pixels_of-append n most near far is size in
         record {
           within = inside;
           few = few;
-          pixels = all ∙ ap (λ x. x ++ pixels_of n far) g.pixels ∙ append_assoc (replicate count q) (pixels_of n behind) (pixels_of n far)
+          pixels = all ∙ ap (λ x. x ++ pixels_of n far) g.pixels ∙ append_assoc (replicate count q) (pixels_of n later) (pixels_of n far)
               ∙ ap (λ x. replicate count q ++ x) (sym ahead);
-          ends = end_of (pixels_of n behind) (pixels_of n far) ahead g.other (length-pixels_of n (most - count) behind is behind_size) few;
+          ends = end_of (pixels_of n later) (pixels_of n far) ahead g.other (length-pixels_of n (most - count) later is later_size) few;
           whole = ap (λ k. k % n) (length-drop (n * count) bytes) ∙ whole_rest n count (length bytes) is whole inside;
         }
       where

@@ -12,8 +12,8 @@ use Rattle.qoi.proofs.encoding.WriterProgress.{wrote_none, wrote_next, wrote_par
 pub moved_front : (xs : List ℕ) (piece room end : ℕ) → length xs ≡ room → piece ≤ end → end ≤ room
     → take (end - piece) (copy_within xs piece room 0) ≡ drop piece (take end xs)
 moved_front xs piece room end size full within =
-    let behind : length (drop piece xs) ≡ room - piece = omega (arith, length-drop piece xs) in
-    ap (take (end - piece)) (paste_all xs 0 (drop piece xs) (room - piece) (sym behind))
+    let after : length (drop piece xs) ≡ room - piece = omega (arith, length-drop piece xs) in
+    ap (take (end - piece)) (paste_all xs 0 (drop piece xs) (room - piece) (sym after))
     ∙ take-append-le (end - piece) (drop piece xs) (drop (0 + (room - piece)) xs) (omega arith)
     ∙ sym (drop-take piece (end - piece) xs) ∙ ap (λ n. drop piece (take n xs)) (omega arith)
 

@@ -47,15 +47,15 @@ module _ {last : RgbaPixel} {pixels : List RgbaPixel} {cur prev : List ℕ} (fou
       ap (λ ws. slice_index ws k) (sym (drop-map word at pixels)) ∙ get_or-drop at (map word pixels) k 0
       ∙ sym (get_or-take 4 (map word pixels) (at + k) 0 l) ∙ ap (λ ws. slice_index ws (at + k)) (take-map word 4 pixels ∙ sym four.pixels_are)
 
-  behind : (k : ℕ) → at + k < 4 → slice_index (slice_index prev at ∷ map word (drop at pixels)) k ≡ slice_index prev (at + k)
-  behind zero l = ap (slice_index prev) (omega arith)
-  behind (suc k) l = lane k (omega arith) ∙ sym (next_before four (at + k) (omega arith)) ∙ ap (slice_index prev) (omega arith)
+  before : (k : ℕ) → at + k < 4 → slice_index (slice_index prev at ∷ map word (drop at pixels)) k ≡ slice_index prev (at + k)
+  before zero l = ap (slice_index prev) (omega arith)
+  before (suc k) l = lane k (omega arith) ∙ sym (next_before four (at + k) (omega arith)) ∙ ap (slice_index prev) (omega arith)
 
   pub quad_count : slice_index prev at < 2 ^ 32 → at + n < 4 → IsRun cur prev at n → IsCount (pixel_of_word (slice_index prev at)) (drop at pixels) n
   quad_count l short run =
       run_count (slice_index prev at) (drop at pixels) n l (all_back IsPixel (take at pixels) (drop at pixels) (subst (AllByRecursion IsPixel) (sym (take-append-drop at pixels)) four.are)) (let long = four.long in omega (arith, length-drop at pixels))
-      (λ k lt. lane k (omega arith) ∙ run.same (at + k) (omega arith) (omega arith) ∙ sym (behind k (omega arith)))
-      (λ e. run.stops short (sym (lane n short) ∙ e ∙ behind n short))
+      (λ k lt. lane k (omega arith) ∙ run.same (at + k) (omega arith) (omega arith) ∙ sym (before k (omega arith)))
+      (λ e. run.stops short (sym (lane n short) ∙ e ∙ before n short))
 
   -- the pixel before the fresh one is that before the lane
   pub before_run : IsRun cur prev at n → (k : ℕ) → k ≤ n → at + k < 4 → slice_index prev (at + k) ≡ slice_index prev at

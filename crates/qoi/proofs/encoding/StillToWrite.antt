@@ -141,8 +141,8 @@ module _ (l : ImageList) where
     group_written = group_runs n past w.done w.written (λ some. w.run_may_follow (starts n some))
 
     -- the pixels after the group are pixels, and so is the one before them
-    behind_are : AllByRecursion IsPixel rest
-    behind_are = all_back IsPixel (replicate n (previous past)) rest w.are
+    rest_are : AllByRecursion IsPixel rest
+    rest_are = all_back IsPixel (replicate n (previous past)) rest w.are
 
     before_is : IsPixel (previous group)
     before_is = subst IsPixel (sym (previous_repeats n past)) w.before
@@ -150,7 +150,7 @@ module _ (l : ImageList) where
     -- after the group, if no repeat of it is next
     ended : (left : List Chunk) → (slice_get rest 0 ≢ Some (previous past)) → WrittenBy Choice (reverse group ++ rest) ((w.done ++ runs_by (Run 1) n) ++ left)
         → (todo ≡ runs_by (Run 1) n ++ left) × StillToWrite l group rest left
-    ended left other all = next w group rest (runs_by (Run 1) n) left image_is before_is behind_are group_written
+    ended left other all = next w group rest (runs_by (Run 1) n) left image_is before_is rest_are group_written
         (λ same. absurd (other (same ∙ ap (λ p. Some p) (previous_repeats n past)))) all
 
     -- The runs of a group are next, if no further repeat follows or they are full.
@@ -169,7 +169,7 @@ module _ (l : ImageList) where
         by_rest (p ∷ more) ahead = by_next (cases_pixel p (previous past))
           where
             are : AllByRecursion IsPixel (p ∷ more)
-            are = subst (λ x. AllByRecursion IsPixel x) ahead behind_are
+            are = subst (λ x. AllByRecursion IsPixel x) ahead rest_are
 
             first : slice_get rest 0 ≡ Some p
             first = ap (λ x. slice_get x 0) ahead
@@ -197,6 +197,6 @@ module _ (l : ImageList) where
                 by_end (inl other) = absurd (other again)
                 by_end (inr full) =
                     let may = full_take n past w.done full w.written (w.run_may_follow (goes_on n again)) in
-                    let all = written_on Choice choices rest group 0 (w.done ++ runs_by (Run 1) n) group_written may before_is behind_are in
-                    let r = next w group rest (runs_by (Run 1) n) all.0 image_is before_is behind_are group_written (λ _. may) all.1 in
+                    let all = written_on Choice choices rest group 0 (w.done ++ runs_by (Run 1) n) group_written may before_is rest_are in
+                    let r = next w group rest (runs_by (Run 1) n) all.0 image_is before_is rest_are group_written (λ _. may) all.1 in
                     (all.0, r.0, r.1)

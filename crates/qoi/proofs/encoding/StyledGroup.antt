@@ -21,9 +21,9 @@ before_rest before zero = before
 before_rest before (suc k) = Some (Run 62)
 
 -- after a run of 62 it is one
-behind_full : (k : ℕ) → before_rest (Some (Run 62)) k ≡ Some (Run 62)
-behind_full zero = refl
-behind_full (suc k) = refl
+after_full_run : (k : ℕ) → before_rest (Some (Run 62)) k ≡ Some (Run 62)
+after_full_run zero = refl
+after_full_run (suc k) = refl
 
 -- the runs of 62 stay
 full_stay : (k : ℕ) (past : Past) (before : Option Chunk) (cs : List Chunk)
@@ -38,7 +38,7 @@ full_stay (suc k) past before cs =
     = ap (λ p. replicate (62 * k) p ++ (replicate 62 q ++ past)) same ∙ repeats_after (62 * k) 62 q past ∙ ap (λ n. replicate n q ++ past) many in
     ap (λ x. Run 62 ∷ x) (full_stay k (replicate 62 q ++ past) (Some (Run 62)) cs
     ∙ ap (λ x. replicate k (Run 62) ++ placed_after x (before_rest (Some (Run 62)) k) cs) joined
-    ∙ ap (λ b. replicate k (Run 62) ++ placed_after (replicate (62 * suc k) q ++ past) b cs) (behind_full k))
+    ∙ ap (λ b. replicate k (Run 62) ++ placed_after (replicate (62 * suc k) q ++ past) b cs) (after_full_run k))
 
 -- so does a run of two or more
 long_stays : (r : ℕ) (past : Past) (before : Option Chunk) (cs : List Chunk) → place_for past before (Run (suc (suc r))) cs ≡ Run (suc (suc r))
@@ -77,7 +77,7 @@ plain n one is = ap (λ x. replicate (n / 62) (Run 62) ++ x) (last_same (n % 62)
 -- the last chunk of full runs, and then of others
 last_fulls : (k : ℕ) (before : Option Chunk) (cs : List Chunk) → last_chunk before (replicate k (Run 62) ++ cs) ≡ last_chunk (before_rest before k) cs
 last_fulls zero before cs = refl
-last_fulls (suc k) before cs = last_fulls k (Some (Run 62)) cs ∙ ap (λ b. last_chunk b cs) (behind_full k)
+last_fulls (suc k) before cs = last_fulls k (Some (Run 62)) cs ∙ ap (λ b. last_chunk b cs) (after_full_run k)
 
 -- How a single repeat that is left of a group is written before these chunks: at the end by a run,
 -- and before a fresh pixel as the style has it.

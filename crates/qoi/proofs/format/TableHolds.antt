@@ -58,8 +58,8 @@ pub blank_here : (past : Past) (k : ℕ) → k < 64 → seen past k ≡ blank �
 blank_here past k l e = blank_from_next past k l ∙ cond-true (pixel_eq (seen past k) blank) _ _ (pixel_eq-from (seen past k) blank e)
 
 -- else it is after it
-pub blank_behind : (past : Past) (k : ℕ) → k < 64 → seen past k ≢ blank → blank_from past k ≡ blank_from past (k + 1)
-blank_behind past k l n = blank_from_next past k l ∙ cond-false (pixel_eq (seen past k) blank) _ _ (pixel_eq-ne (seen past k) blank n)
+pub blank_after : (past : Past) (k : ℕ) → k < 64 → seen past k ≢ blank → blank_from past k ≡ blank_from past (k + 1)
+blank_after past k l n = blank_from_next past k l ∙ cond-false (pixel_eq (seen past k) blank) _ _ (pixel_eq-ne (seen past k) blank n)
 
 -- after the last position there is none
 pub blank_nowhere : (past : Past) (k : ℕ) → 64 ≤ k → blank_from past k ≡ None

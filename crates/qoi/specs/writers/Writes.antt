@@ -13,7 +13,7 @@ pub record WriterLaws {W : Type 0} (wrote : W → List ℕ → W → Type 0) (ro
   pub counts : (a b : W) (bytes : List ℕ) → wrote a bytes b → room b + length bytes ≡ room a
 
 -- the bytes stand after the first n ones, up to `end`, and all later ones are as before
-pub record StandsBehind (old : List ℕ) (n : ℕ) (bytes new : List ℕ) (end : ℕ) : Type 0 where
+pub record StandsAfter (old : List ℕ) (n : ℕ) (bytes new : List ℕ) (end : ℕ) : Type 0 where
   pub reached : end ≡ n + length bytes
   pub front : take end new ≡ take n old ++ bytes
   pub later : drop end new ≡ drop end old

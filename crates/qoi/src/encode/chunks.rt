@@ -25,7 +25,7 @@ fn encode_pixels<W: Writer, const N: usize>(
 ) -> Result<()>
     requires channels { IsChannels N }
     requires whole { length «data».now % N ≡ 0 }
-    requires begun { piece.old.end < PIECE }
+    requires not_full { piece.old.end < PIECE }
     requires room { piece.old.end + (length «data».now + length «data».now / N) ≤ W.room buf.old }
     ensures end { OnOk result (piece.new.end < PIECE + 2 * READ) }
     ensures written { OnOk result (WroteChunks W.wrote style (pixels_of N «data».now)
@@ -39,7 +39,7 @@ fn encode_pixels<W: Writer, const N: usize>(
     loop {
         rest = coder.fill(&mut table, piece, rest);
         if !piece.is_full() {
-            coder.write_last(&mut table, piece, rest);
+            coder.write_rest(&mut table, piece, rest);
             return Ok(());
         }
         piece.send(buf)?;
@@ -56,7 +56,7 @@ pub(super) fn encode_chunks<W: Writer>(
     data: &[u8],
 ) -> Result<()>
     requires whole { length «data».now % channels_number channels ≡ 0 }
-    requires begun { piece.old.end < PIECE }
+    requires not_full { piece.old.end < PIECE }
     requires room { piece.old.end
         + (length «data».now + length «data».now / channels_number channels) ≤ W.room buf.old }
     ensures end { OnOk result (piece.new.end < PIECE + 2 * READ) }

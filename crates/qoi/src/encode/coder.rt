@@ -4,7 +4,7 @@ ghost use lib.Lanes.{mask_l, zip2};
 ghost use Rattle.std.specs.Prelude.{◌≡◌, ◌≢◌, ℕ, ◌+◌, ◌*◌, ◌/◌, ◌%◌, ◌<◌, ◌≤◌, ◌↔◌, IsTrue, nat_eq, List, [], ◌∷◌, ◌++◌, Option, None, Some, length, drop, replicate, slice_get, slice_index};
 ghost use Rattle.qoi.specs.declared.chunk.Chunk.{Chunk};
 ghost use Rattle.qoi.specs.declared.encode.piece.TheConstants.{PIECE, ROOM, RUNS_MAX, REPEATS_MAX};
-ghost use Rattle.qoi.specs.declared.encode.quad.TheConstants.{READ};
+ghost use Rattle.qoi.specs.declared.encode.quad.TheConstants.{ALL_REPEAT, READ};
 ghost use Rattle.qoi.specs.Qoi.{RgbaPixel, Past, run_max, chunk_max, previous, seen, hash, IsChunk, bytes_of};
 ghost use Rattle.qoi.specs.Raw.{IsChannels, IsChannels-prop, pixels_of};
 ghost use Rattle.qoi.specs.Runs.{IsCount, runs_by};
@@ -17,7 +17,7 @@ ghost use Rattle.qoi.specs.inner.Table.{Holds};
 
 use crate::consts::QOI_OP_RUN;
 use crate::encode::piece::{Piece, REPEATS_MAX};
-use crate::encode::quad::{Quad, READ, before, four, repeating};
+use crate::encode::quad::{ALL_REPEAT, Quad, READ, pixels_before, read_four, repeating};
 use crate::packed::{Packed, pick};
 use crate::runs::{repeats_in_quad, repeats_of};
 use crate::table::Table;
@@ -81,7 +81,7 @@ impl<const N: usize> Coder<N> {
     // pixel at its index position, too; that changes the table only before the first fresh pixel,
     // since later it stands there already.
     #[inline(always)]
-    fn repeat(&mut self, table: &mut Table, count: usize)
+    fn after_repeats(&mut self, table: &mut Table, count: usize)
         ensures same { (self.new.last ≡ self.old.last) × (self.new.style ≡ self.old.style) }
         ensures state { (past : Past) (before : Option Chunk)
             → CoderAfter past before table.old self.old
@@ -100,11 +100,18 @@ impl<const N: usize> Coder<N> {
     // `Tight`, of transparent black, the least position where no pixel was put (the first that
     // holds transparent black, as its own doesn't), if there is one.
     #[inline(always)]
-    fn spelled(&self, table: &Table, px: Packed, placed: bool, number: u32, size: u32) -> (u32, u32)
+    fn fresh_chunk(
+        &self,
+        table: &Table,
+        px: Packed,
+        stands: bool,
+        number: u32,
+        size: u32,
+    ) -> (u32, u32)
         ensures few { (n : ℕ) → 1 ≤ n → size ≤ n → result.1 ≤ n }
         ensures choice { (past : Past) (alpha : ℕ) (c : Chunk)
             → Holds table.now (held_in self.now.style past)
-            → (IsTrue placed ↔ (seen (held_in self.now.style past) (hash px) ≡ px))
+            → (IsTrue stands ↔ (seen (held_in self.now.style past) (hash px) ≡ px))
             → IsChunk c → HasBytes alpha number size c → IsFirst past px c
             → seen (held_in self.now.style past) (hash px) ≢ px
             → (d : Chunk) × IsChunk d × HasBytes alpha result.0 result.1 d
@@ -113,7 +120,7 @@ impl<const N: usize> Coder<N> {
         match self.style {
             Reference | Places => (number, size),
             Tight => {
-                if px.is_same(Packed::blank()) & !placed {
+                if px.is_same(Packed::blank()) & !stands {
                     if let Some(place) = table.first_blank() {
                         return (u32::from(place), 1);
                     }
@@ -124,7 +131,7 @@ impl<const N: usize> Coder<N> {
     }
 
     // Writes the chunk of the pixel in a lane of the four, which is fresh: its index position if it
-    // stands there, else that of `spelled`. Then the pixel stands there, and is the last one.
+    // stands there, else that of `fresh_chunk`. Then the pixel stands there, and is the last one.
     #[inline(always)]
     fn write_fresh(&mut self, table: &mut Table, piece: &mut Piece, quad: &Quad<N>, lane: usize)
         requires room { piece.old.end + chunk_max ≤ ROOM }
@@ -140,7 +147,13 @@ impl<const N: usize> Coder<N> {
         let px = Packed::of_number(quad.pixels[lane]);
         let place = (quad.places[lane] % 256) as u8;
         let placed = table.at(place).is_same(px);
-        let (number, size) = self.spelled(table, px, placed, quad.numbers[lane], quad.sizes[lane]);
+        let (number, size) = self.fresh_chunk(
+            table,
+            px,
+            placed,
+            quad.numbers[lane],
+            quad.sizes[lane],
+        );
         table.put(place, px);
         *self = Coder {
             style: self.style,
@@ -155,7 +168,7 @@ impl<const N: usize> Coder<N> {
 
     // Writes the chunks of all four pixels, each of which is fresh.
     #[inline(always)]
-    fn write_four(&mut self, table: &mut Table, piece: &mut Piece, quad: &Quad<N>)
+    fn write_four_fresh(&mut self, table: &mut Table, piece: &mut Piece, quad: &Quad<N>)
         requires room { piece.old.end + 4 * chunk_max ≤ ROOM }
         ensures end { piece.new.end ≤ piece.old.end + 4 * chunk_max }
         ensures written { (w : Writing) (pixels : List RgbaPixel)
@@ -173,7 +186,7 @@ impl<const N: usize> Coder<N> {
     // pixel that follows them; returns the lane after that pixel. If all up to the last lane
     // repeat, or no lane is left, it writes nothing and returns the lane that it was called with.
     #[inline(always)]
-    fn write_group(
+    fn write_to_fresh(
         &mut self,
         table: &mut Table,
         piece: &mut Piece,
@@ -187,7 +200,7 @@ impl<const N: usize> Coder<N> {
         requires lane { lane ≤ 4 }
         ensures end { piece.new.end ≤ piece.old.end + 1 + chunk_max }
         ensures lanes { (lane ≤ result) × (result ≤ 4) }
-        ensures some { lane ≡ 0 → bits < 15 → 0 < result }
+        ensures some { lane ≡ 0 → bits < ALL_REPEAT → 0 < result }
         ensures written { (w : Writing) (pixels : List RgbaPixel)
             → AtLane (in_four w quad.now pixels) lane table.old self.old (kept_bytes piece.old)
             → AtLane (in_four w quad.now pixels) result table.new self.new
@@ -202,7 +215,7 @@ impl<const N: usize> Coder<N> {
         }
         let one = self.single_repeat(count);
         piece.keep_run(count, one);
-        self.repeat(table, count);
+        self.after_repeats(table, count);
         self.write_fresh(table, piece, quad, lane + count);
         lane + count + 1
     }
@@ -210,7 +223,7 @@ impl<const N: usize> Coder<N> {
     // Writes the chunks of four pixels, not all of which repeat, up to the last fresh one; repeats
     // after it may go on in the next four. Returns how many pixels these are.
     #[inline(always)]
-    fn write_lanes(
+    fn write_quad(
         &mut self,
         table: &mut Table,
         piece: &mut Piece,
@@ -221,7 +234,7 @@ impl<const N: usize> Coder<N> {
         requires opaque { N ≡ 3 → AreOpaqueWords cur }
         requires same_alpha { N ≡ 3 → SameAlpha cur prev }
         requires bits { bits ≡ mask_l (zip2 nat_eq cur prev) }
-        requires within { bits < 15 }
+        requires within { bits < ALL_REPEAT }
         requires room { piece.old.end + 4 * chunk_max ≤ ROOM }
         ensures end { piece.new.end ≤ piece.old.end + 4 * chunk_max }
         ensures lanes { (0 < result) × (result ≤ 4) }
@@ -232,12 +245,12 @@ impl<const N: usize> Coder<N> {
     {
         let quad = Quad::new(cur, prev);
         if bits == 0 {
-            self.write_four(table, piece, &quad);
+            self.write_four_fresh(table, piece, &quad);
             return 4;
         }
-        let lane = self.write_group(table, piece, &quad, bits, 0);
-        let lane = self.write_group(table, piece, &quad, bits, lane);
-        self.write_group(table, piece, &quad, bits, lane)
+        let lane = self.write_to_fresh(table, piece, &quad, bits, 0);
+        let lane = self.write_to_fresh(table, piece, &quad, bits, lane);
+        self.write_to_fresh(table, piece, &quad, bits, lane)
     }
 
     // Writes the runs of the repeats at the front, none or up to 992, and returns how many repeats.
@@ -263,7 +276,7 @@ impl<const N: usize> Coder<N> {
             self.single_repeat(count)
         };
         piece.keep_runs(count, one);
-        self.repeat(table, count);
+        self.after_repeats(table, count);
         count
     }
 
@@ -271,7 +284,7 @@ impl<const N: usize> Coder<N> {
     // as `write_runs` does, else the chunks of these four up to the last fresh one. Returns how
     // many pixels were written.
     #[inline(always)]
-    fn write_quad(&mut self, table: &mut Table, piece: &mut Piece, data: &[u8]) -> usize
+    fn write_front(&mut self, table: &mut Table, piece: &mut Piece, data: &[u8]) -> usize
         requires whole { length «data».now % N ≡ 0 }
         requires long { READ ≤ length «data».now }
         requires room { piece.old.end + 4 * chunk_max ≤ ROOM }
@@ -281,13 +294,13 @@ impl<const N: usize> Coder<N> {
         ensures written { (w : Writing) → BytesBetween w «data».now table.old self.old piece.old
             → BytesBetween w (drop (N * result) «data».now) table.new self.new piece.new }
     {
-        let cur = four::<N>(data);
-        let prev = before(self.last.number(), cur);
+        let cur = read_four::<N>(data);
+        let prev = pixels_before(self.last.number(), cur);
         let bits = repeating(cur, prev);
-        if bits == 15 {
+        if bits == ALL_REPEAT {
             return self.write_runs(table, piece, data);
         }
-        self.write_lanes(table, piece, cur, prev, bits)
+        self.write_quad(table, piece, cur, prev, bits)
     }
 
     /// Writes the chunks of pixels until the piece is full or fewer than sixteen raw bytes are
@@ -311,7 +324,7 @@ impl<const N: usize> Coder<N> {
     {
         let mut rest = data;
         while !piece.is_full() && rest.len() >= READ {
-            let count = self.write_quad(table, piece, rest);
+            let count = self.write_front(table, piece, rest);
             rest = skip(rest, N * count);
         }
         rest
@@ -343,7 +356,7 @@ impl<const N: usize> Coder<N> {
 
     /// Writes the chunks of the pixels at the end, which have fewer than sixteen raw bytes.
     #[inline(always)]
-    pub(super) fn write_last(&mut self, table: &mut Table, piece: &mut Piece, data: &[u8])
+    pub(super) fn write_rest(&mut self, table: &mut Table, piece: &mut Piece, data: &[u8])
         requires whole { length «data».now % N ≡ 0 }
         requires few { length «data».now < READ }
         requires room { piece.old.end < PIECE }

@@ -12,7 +12,7 @@ ghost use Rattle.qoi.specs.writers.Writes.{WroteBeginning};
 use crate::consts::{QOI_OP_RUN, QOI_RUN_MAX};
 use crate::error::Result;
 use crate::packed::pick;
-use crate::utils::{Writer, copy_behind};
+use crate::utils::{Writer, copy_after};
 use std::simd::prelude::*;
 
 /// How many bytes a writer is sent at once; the last ones may be fewer.
@@ -68,7 +68,7 @@ impl<'a> Piece<'a> {
         ensures kept { kept_bytes self.new ≡ kept_bytes self.old ++ v.now }
         ensures end { self.new.end ≡ self.old.end + length v.now }
     {
-        self.end = copy_behind(self.bytes, self.end, v);
+        self.end = copy_after(self.bytes, self.end, v);
     }
 
     /// Keeps a chunk of `size` bytes, too: the lowest ones of the number and, if there is a fifth,

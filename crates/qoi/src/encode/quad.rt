@@ -14,6 +14,9 @@ use std::simd::prelude::*;
 /// How many bytes are read for four pixels: those of four channels.
 pub(super) const READ: usize = 16;
 
+/// The bits of `repeating` if all four pixels repeat: the four lowest.
+pub(super) const ALL_REPEAT: u64 = 15;
+
 /// Four pixels and the ones before them, packed; their index positions; and the chunks that spell
 /// them out: a number whose lowest bytes are the chunk's, and how many bytes the chunk has. The
 /// fifth byte, of an RGBA, isn't in the number: it is the pixel's alpha.
@@ -70,7 +73,7 @@ impl<const N: usize> Quad<N> {
 
 /// The first four pixels of raw bytes in `N` channels, packed.
 #[inline(always)]
-pub(super) fn four<const N: usize>(bytes: &[u8]) -> u32x4
+pub(super) fn read_four<const N: usize>(bytes: &[u8]) -> u32x4
     requires channels { IsChannels N }
     requires enough { READ ≤ length bytes.now }
     ensures lanes { result ≡ map word (take 4 (pixels_of N bytes.now)) }
@@ -88,7 +91,7 @@ pub(super) fn four<const N: usize>(bytes: &[u8]) -> u32x4
 
 /// The pixels before four: `last`, and then the first three of them.
 #[inline(always)]
-pub(super) fn before(last: u32, cur: u32x4) -> u32x4
+pub(super) fn pixels_before(last: u32, cur: u32x4) -> u32x4
     ensures lanes { result ≡ last ∷ take 3 cur }
 {
     u32x4::splat(last).shuffle(cur, [3, 4, 5, 6])
@@ -153,21 +156,21 @@ fn luma_steps(steps: u32x4) -> u32x4
 
 // Numbers whose lowest byte is the difference chunk with these `diff_steps`, if they fit in it.
 #[inline(always)]
-fn diffs(steps: u32x4) -> u32x4
-    ensures lanes { result ≡ map diff_number steps }
+fn diffs(for_diff: u32x4) -> u32x4
+    ensures lanes { result ≡ map diff_number for_diff }
 {
-    (steps << u32x4::splat(4))
-        + (steps >> u32x4::splat(6))
-        + (steps >> u32x4::splat(16))
+    (for_diff << u32x4::splat(4))
+        + (for_diff >> u32x4::splat(6))
+        + (for_diff >> u32x4::splat(16))
         + u32x4::splat(0x40)
 }
 
 // Numbers whose two lowest bytes are the luma chunk with these `luma_steps`, if they fit in it.
 #[inline(always)]
-fn lumas(steps: u32x4) -> u32x4
-    ensures lanes { result ≡ map luma_number steps }
+fn lumas(for_luma: u32x4) -> u32x4
+    ensures lanes { result ≡ map luma_number for_luma }
 {
-    (steps >> u32x4::splat(8)) + (steps << u32x4::splat(12)) + u32x4::splat(0x80)
+    (for_luma >> u32x4::splat(8)) + (for_luma << u32x4::splat(12)) + u32x4::splat(0x80)
 }
 
 // Numbers whose bytes are the RGB chunks of the pixels.
@@ -183,20 +186,20 @@ fn rgbs(cur: u32x4) -> u32x4
 #[inline(always)]
 fn fulls<const N: usize>(cur: u32x4, steps: u32x4) -> (u32x4, u32x4)
     requires channels { IsChannels N }
-    requires opaque { N ≡ 3 → KeepAlpha steps }
-    ensures words { result.0 ≡ zip2 full_number cur steps }
-    ensures counts { result.1 ≡ map full_count steps }
+    requires keeps_alpha { N ≡ 3 → KeepAlpha steps }
+    ensures numbers { result.0 ≡ zip2 full_number cur steps }
+    ensures sizes { result.1 ≡ map full_count steps }
 {
-    let word = rgbs(cur);
-    let count = u32x4::splat(4);
+    let number = rgbs(cur);
+    let size = u32x4::splat(4);
     if N == 3 {
-        return (word, count);
+        return (number, size);
     }
     let zero = u32x4::splat(0);
     let one = (steps & u32x4::splat(0xff00_0000))
         .simd_ne(zero)
         .select(u32x4::splat(1), zero);
-    (word + one, count + one)
+    (number + one, size + one)
 }
 
 // The chunk that spells out each pixel after the one before it: the first of difference, luma, RGB
@@ -205,9 +208,9 @@ fn fulls<const N: usize>(cur: u32x4, steps: u32x4) -> (u32x4, u32x4)
 #[inline(always)]
 fn spell<const N: usize>(cur: u32x4, prev: u32x4) -> (u32x4, u32x4)
     requires channels { IsChannels N }
-    requires opaque { N ≡ 3 → SameAlpha cur prev }
-    ensures words { result.0 ≡ zip2 spelled_number cur prev }
-    ensures counts { result.1 ≡ zip2 spelled_count cur prev }
+    requires same_alpha { N ≡ 3 → SameAlpha cur prev }
+    ensures numbers { result.0 ≡ zip2 spelled_number cur prev }
+    ensures sizes { result.1 ≡ zip2 spelled_count cur prev }
     ensures few { (k : ℕ) → k < 4 → slice_index result.1 k ≤ N + 1 }
 {
     let steps = steps(cur, prev);
@@ -216,9 +219,9 @@ fn spell<const N: usize>(cur: u32x4, prev: u32x4) -> (u32x4, u32x4)
     let zero = u32x4::splat(0);
     let is_diff = (for_diff & u32x4::splat(0xfffc_fcfc)).simd_eq(zero);
     let is_luma = (for_luma & u32x4::splat(0xfff0_c0f0)).simd_eq(zero);
-    let (word, count) = fulls::<N>(cur, steps);
-    let short = is_luma.select(lumas(for_luma), word);
-    let few = is_luma.select(u32x4::splat(2), count);
+    let (number, size) = fulls::<N>(cur, steps);
+    let short = is_luma.select(lumas(for_luma), number);
+    let few = is_luma.select(u32x4::splat(2), size);
     (
         is_diff.select(diffs(for_diff), short),
         is_diff.select(u32x4::splat(1), few),

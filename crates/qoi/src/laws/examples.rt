@@ -14,7 +14,7 @@ ghost use Rattle.qoi.specs.Decoding.{least_byte_count, CouldHold, RefusesBuffer,
 ghost use Rattle.qoi.specs.DecoderState.{DecoderState, output_byte_count, TakesWithin};
 ghost use Rattle.qoi.specs.Runs.{IsCount};
 ghost use Rattle.qoi.specs.Written.{fresh, noted};
-ghost use Rattle.qoi.specs.writers.Writes.{StandsBehind};
+ghost use Rattle.qoi.specs.writers.Writes.{StandsAfter};
 ghost use Rattle.qoi.specs.writers.Writes.{AppendsBeginning};
 ghost use Rattle.qoi.specs.Encoded.{max_len, IsFileLength, image_header, OpensBlack};
 ghost use Rattle.qoi.specs.Regular.{Regular};
@@ -279,7 +279,7 @@ pub fn writing_examples()
         ≡ pixel 1 2 3 255 ∷ [] }
     ensures repeat_is_not_noted { noted (pixel 0 0 0 255 ∷ []) 53 ≡ pixel 0 0 0 0 }
     ensures fresh_is_noted { noted (pixel 1 99 2 255 ∷ []) 53 ≡ pixel 1 99 2 255 }
-    ensures stands_behind { StandsBehind (1 ∷ 2 ∷ 3 ∷ 4 ∷ []) 1 (9 ∷ 8 ∷ [])
+    ensures stands_after { StandsAfter (1 ∷ 2 ∷ 3 ∷ 4 ∷ []) 1 (9 ∷ 8 ∷ [])
         (1 ∷ 9 ∷ 8 ∷ 4 ∷ []) 3 }
     ensures beginning { AppendsBeginning (Some (1 ∷ [])) (Some (1 ∷ 2 ∷ [])) (2 ∷ 3 ∷ []) }
 {}

@@ -42,14 +42,14 @@ pub fn styles_are_written()
 pub fn places_examples()
     ensures single { in_style Places (Rgb 101 102 103 ∷ Run 1 ∷ Rgb 1 2 3 ∷ [])
         ≡ Rgb 101 102 103 ∷ Place 51 ∷ Rgb 1 2 3 ∷ [] }
-    ensures behind_its_place { in_style Places
+    ensures after_its_place { in_style Places
         (Rgb 101 102 103 ∷ Rgb 1 2 3 ∷ Place 51 ∷ Run 1 ∷ Place 23 ∷ [])
         ≡ Rgb 101 102 103 ∷ Rgb 1 2 3 ∷ Place 51 ∷ Run 1 ∷ Place 23 ∷ [] }
-    ensures behind_a_full_run { in_style Places (Rgb 101 102 103 ∷ Run 62 ∷ Run 1 ∷ Rgb 1 2 3 ∷ [])
+    ensures after_a_full_run { in_style Places (Rgb 101 102 103 ∷ Run 62 ∷ Run 1 ∷ Rgb 1 2 3 ∷ [])
         ≡ Rgb 101 102 103 ∷ Run 62 ∷ Place 51 ∷ Rgb 1 2 3 ∷ [] }
     ensures two { in_style Places (Rgb 101 102 103 ∷ Run 2 ∷ Rgb 1 2 3 ∷ [])
         ≡ Rgb 101 102 103 ∷ Run 2 ∷ Rgb 1 2 3 ∷ [] }
-    ensures behind_repeats { in_style Places (Run 62 ∷ Run 1 ∷ Rgb 101 102 103 ∷ [])
+    ensures after_repeats { in_style Places (Run 62 ∷ Run 1 ∷ Rgb 101 102 103 ∷ [])
         ≡ Run 62 ∷ Run 1 ∷ Rgb 101 102 103 ∷ [] }
     ensures at_the_end { in_style Places (Rgb 101 102 103 ∷ Run 1 ∷ [])
         ≡ Rgb 101 102 103 ∷ Run 1 ∷ [] }

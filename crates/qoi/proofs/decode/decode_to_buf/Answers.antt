@@ -7,7 +7,7 @@ use Rattle.qoi.specs.Verdicts.{IsWhole, AreWrong, AreCut}
 use Rattle.qoi.specs.Decoding.{RefusesBuffer, RefusesBytes, DecodesFile, ReadsImage}
 use Rattle.qoi.specs.Raw.{image_byte_count, byte_count}
 use Rattle.qoi.specs.DecoderState.{DecoderState}
-use Rattle.qoi.proofs.decoding.OneFile.{file_has_header, file_is_whole, header_is_one, decodes_behind, decoding_is_one}
+use Rattle.qoi.proofs.decoding.OneFile.{file_has_header, file_is_whole, header_is_one, decodes_after, decoding_is_one}
 use Rattle.qoi.specs.declared.types.Style.{Style}
 use Rattle.qoi.specs.Encoded.{IsFileOf}
 use Rattle.std.proofs.lemmas.Result.{err_from_is_err_and}
@@ -47,7 +47,7 @@ returns-clause-decoded c =
     (take z buf)) size decoded.1 in (
       rest,
       subst (λ (k : Header). DecodesFile c.args.data.now k rest (take (image_byte_count k) buf)) same
-          (decodes_behind c.args.data.now d rest (take (image_byte_count d.header) buf)
+          (decodes_after c.args.data.now d rest (take (image_byte_count d.header) buf)
           (λ i. omega (arith, c.type_inv.data i)) accepted.0 accepted.1 accepted.2 image),
     )
 

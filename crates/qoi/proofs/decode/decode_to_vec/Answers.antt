@@ -8,7 +8,7 @@ use Rattle.qoi.specs.Decoding.{DecodesFile, RefusesBytes}
 use Rattle.qoi.specs.DecoderState.{DecoderState}
 use Rattle.std.proofs.lemmas.List.{length-drop}
 use Rattle.qoi.proofs.decoding.ImageSize.{bounded_by}
-use Rattle.qoi.proofs.decoding.OneFile.{header_is_one, file_has_header, file_is_whole, decodes_behind, decoding_is_one}
+use Rattle.qoi.proofs.decoding.OneFile.{header_is_one, file_has_header, file_is_whole, decodes_after, decoding_is_one}
 use Rattle.qoi.proofs.decoding.FrontImage.{file_image_is}
 use Rattle.qoi.proofs.decode.decode_to_vec.Goals as goal
 
@@ -54,7 +54,7 @@ returns-clause-decoded c =
     let same : c.header.result.now ≡ d.header = c.header.ensures ∙ ap (λ (s : DecoderState (List ℕ)). s.header) c.in_ok-out.ensures.unchanged in (
       rest,
       subst (λ (k : Header). DecodesFile c.args.data.now k rest c.in_ok-out.out.items) (sym same)
-          (decodes_behind c.args.data.now d rest c.in_ok-out.out.items
+          (decodes_after c.args.data.now d rest c.in_ok-out.out.items
           (λ i. omega (arith, c.type_inv.data i)) accepted.0 accepted.1 accepted.2 c.in_ok-out.ensures.decoded),
     )
 

@@ -4,7 +4,7 @@ use Rattle.qoi.specs.Qoi.{header_bytes, header_size}
 use Rattle.qoi.specs.Images.{front_image, front_rest, file_image, file_rest}
 use Rattle.qoi.specs.DecoderState.{DecoderState}
 use Rattle.qoi.proofs.decoding.Ahead.{decoder_of, image_ahead, file_ahead}
-use Rattle.qoi.proofs.decoding.FrontImage.{image_behind}
+use Rattle.qoi.proofs.decoding.FrontImage.{image_after}
 use Rattle.qoi.proofs.format.HeaderBytes.{header_split}
 use Rattle.qoi.proofs.decode.Decoder+Bytes.new.Goals as goal
 
@@ -44,4 +44,4 @@ returns-clause-image c =
     let accepted = returns-clause-accepted c in
     let h = c.in_ok-header.header in
     let P : List ℕ → Type 0 = λ z. (front_image h.channels h z ≡ file_image c.args.data.now) × (front_rest h z ≡ file_rest c.args.data.now) in
-    subst P (sym accepted.2) (image_behind h.channels h c.args.data.now accepted.0 refl)
+    subst P (sym accepted.2) (image_after h.channels h c.args.data.now accepted.0 refl)

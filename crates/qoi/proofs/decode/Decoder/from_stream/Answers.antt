@@ -2,11 +2,11 @@
 use Rattle.std.proofs.Common.{drop, ◌++◌, [], append-nil, refl, sym}
 use Rattle.qoi.specs.Qoi.{header_size}
 use Rattle.qoi.proofs.decoding.Ahead.{decoder_of, header_front, header_read_from, image_ahead, file_ahead}
-use Rattle.qoi.proofs.decoding.FrontImage.{image_behind_read}
+use Rattle.qoi.proofs.decoding.FrontImage.{image_after_read}
 use Rattle.qoi.proofs.decode.Decoder.from_stream.Goals as goal
 
-pub returns-clause-behind : goal.returns-clause-behind
-returns-clause-behind g c bytes told = (header_read_from _ _ bytes c.in_ok-header.header c.in_ok-header.ensures told).1
+pub returns-clause-after : goal.returns-clause-after
+returns-clause-after g c bytes told = (header_read_from _ _ bytes c.in_ok-header.header c.in_ok-header.ensures told).1
 
 pub returns-clause-comes_back_in : goal.returns-clause-comes_back_in
 returns-clause-comes_back_in g c style h raw bytes f told =
@@ -27,4 +27,4 @@ pub returns-clause-read : goal.returns-clause-read
 returns-clause-read g c bytes told = (header_read_from _ _ bytes c.in_ok-header.header c.in_ok-header.ensures told).0
 
 pub returns-clause-image : goal.returns-clause-image
-returns-clause-image g c = image_behind_read _ _ c.in_ok-header.header c.in_ok-header.ensures
+returns-clause-image g c = image_after_read _ _ c.in_ok-header.header c.in_ok-header.ensures

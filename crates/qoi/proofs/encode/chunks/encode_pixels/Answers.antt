@@ -10,16 +10,16 @@ pub loop-coder-init : goal.loop-coder-init
 loop-coder-init g c =
     let new = c.new-coder.ensures in
     let piece = c.args.piece.now in
-    let size = length-take-le piece.end piece.bytes.now (omega (arith, c.requires.begun, piece.room)) in
+    let size = length-take-le piece.end piece.bytes.now (omega (arith, c.requires.not_full, piece.room)) in
     record {
-      end = c.requires.begun;
+      end = c.requires.not_full;
       whole = c.requires.whole;
       state = piece_starts _ g.met.W.Writer.laws c.requires.channels (λ i. omega (arith, c.type_inv.data i)) c.requires.whole
           (omega (arith, size, c.requires.room)) new.style (new.state c.new-table.result c.new-table.ensures);
     }
 
 pub returns-then-not-is_full-clause-written : goal.returns-then-not-is_full-clause-written
-returns-then-not-is_full-clause-written g c = piece_ends (piece_filled c.loop-coder.invariant.state c.fill-rest.ensures.written) c.write_last.ensures.written
+returns-then-not-is_full-clause-written g c = piece_ends (piece_filled c.loop-coder.invariant.state c.fill-rest.ensures.written) c.write_rest.ensures.written
 
 pub send-requires-clause-room : goal.send-requires-clause-room
 send-requires-clause-room g c =

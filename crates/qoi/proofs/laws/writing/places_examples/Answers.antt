@@ -7,13 +7,13 @@ pub returns-clause-single : goal.returns-clause-single
 unfolding pixel_eq start blank hash after_diff after_luma
 returns-clause-single c = refl
 
-pub returns-clause-behind_its_place : goal.returns-clause-behind_its_place
+pub returns-clause-after_its_place : goal.returns-clause-after_its_place
 unfolding pixel_eq start blank hash after_diff after_luma
-returns-clause-behind_its_place c = refl
+returns-clause-after_its_place c = refl
 
-pub returns-clause-behind_a_full_run : goal.returns-clause-behind_a_full_run
+pub returns-clause-after_a_full_run : goal.returns-clause-after_a_full_run
 unfolding pixel_eq start blank hash after_diff after_luma
-returns-clause-behind_a_full_run c = refl
+returns-clause-after_a_full_run c = refl
 
 pub returns-clause-two : goal.returns-clause-two
 unfolding pixel_eq start blank hash after_diff after_luma
@@ -31,6 +31,6 @@ pub returns-clause-blank : goal.returns-clause-blank
 unfolding pixel_eq start blank hash after_diff after_luma
 returns-clause-blank c = refl
 
-pub returns-clause-behind_repeats : goal.returns-clause-behind_repeats
+pub returns-clause-after_repeats : goal.returns-clause-after_repeats
 unfolding pixel_eq start blank hash after_diff after_luma
-returns-clause-behind_repeats c = refl
+returns-clause-after_repeats c = refl

@@ -1,7 +1,7 @@
 -- Position after position is looked at.
 use Rattle.std.proofs.Common.{sym, ◌∙◌, ◌≡◌, ◌≢◌}
 use Rattle.qoi.specs.Qoi.{blank, seen}
-use Rattle.qoi.proofs.format.TableHolds.{blank_from_start, blank_here, blank_behind, blank_nowhere}
+use Rattle.qoi.proofs.format.TableHolds.{blank_from_start, blank_here, blank_after, blank_nowhere}
 use Rattle.qoi.proofs.table.Table.first_blank.Goals as goal
 
 pub loop-place-init : goal.loop-place-init
@@ -16,7 +16,7 @@ pub loop-place-preserved : goal.loop-place-preserved
 loop-place-preserved c = λ past holds.
     let other : seen past c.loop-place.place ≢ blank = λ e. let no = sym (c.is_same.ensures.1 (c.at.ensures past holds ∙ e ∙ sym c.blank.ensures))
     ∙ c.if-is_same.false in cc in
-    c.loop-place.invariant past holds ∙ blank_behind past c.loop-place.place c.loop-place-test.true other
+    c.loop-place.invariant past holds ∙ blank_after past c.loop-place.place c.loop-place-test.true other
 
 pub returns-clause-first : goal.returns-clause-first
 returns-clause-first c = λ past holds. sym (c.loop-place.invariant past holds ∙ blank_nowhere past c.loop-place.place c.loop-place-test.false)

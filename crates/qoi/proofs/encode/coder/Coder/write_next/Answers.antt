@@ -19,31 +19,31 @@ returns-clause-written g c w b =
     let channels = c.args.self.now.channels in
     let n = c.write_runs-count.result in
     let inside = c.write_runs-count.ensures.inside in
-    let behind = drop (g.row.N * n) raw in
+    let later = drop (g.row.N * n) raw in
     let last_part = c.skip-after.result.now in
-    let back : last_part ≡ behind = c.skip-after.ensures in
+    let back : last_part ≡ later = c.skip-after.ensures in
     let one = c.write_runs-count.ensures.written w b in
     let last = c.write_runs-count.new.self.last in
-    let some : 0 < length behind = (let other : length last_part ≢ 0 = eqb-false (length last_part) 0 (sym c.is_empty.ensures ∙ c.if-is_empty.false) in
+    let some : 0 < length later = (let other : length last_part ≢ 0 = eqb-false (length last_part) 0 (sym c.is_empty.ensures ∙ c.if-is_empty.false) in
     omega (arith, ap length back)) in
-    let whole : length behind % g.row.N ≡ 0 = ap (λ k. k % g.row.N) (length-drop (g.row.N * n) raw)
+    let whole : length later % g.row.N ≡ 0 = ap (λ k. k % g.row.N) (length-drop (g.row.N * n) raw)
     ∙ whole_rest g.row.N n (length raw) channels c.requires.whole inside in
     let px = c.read.result in
-    let px_is : px ≡ rgba (take g.row.N behind) = c.read.ensures ∙ ap (λ xs. rgba (take g.row.N xs)) back in
-    let ahead : pixels_of g.row.N behind ≡ px ∷ pixels_of g.row.N (drop g.row.N behind) = pixel_ahead g.row.N behind channels whole some
-    ∙ (λ i. sym px_is i ∷ pixels_of g.row.N (drop g.row.N behind)) in
+    let px_is : px ≡ rgba (take g.row.N later) = c.read.ensures ∙ ap (λ xs. rgba (take g.row.N xs)) back in
+    let ahead : pixels_of g.row.N later ≡ px ∷ pixels_of g.row.N (drop g.row.N later) = pixel_ahead g.row.N later channels whole some
+    ∙ (λ i. sym px_is i ∷ pixels_of g.row.N (drop g.row.N later)) in
     let are = subst (λ x. AllByRecursion IsPixel x) ahead one.to_write.are in
     let q : IsPixel last = subst IsPixel (sym one.state.last_is) one.to_write.before in
     let quad = c.alone-quad.result in
     let lane_is : lane_pixel quad 0 ≡ px = ap pixel_of_word c.alone-quad.ensures.pixel ∙ unpacked px are.0 in
     let before_is : last ≡ before_lane quad 0 = sym (ap pixel_of_word c.alone-quad.ensures.before ∙ unpacked last q) in
     let counted = c.write_runs-count.ensures.counted c.requires.few in
-    let first : slice_get (pixels_of g.row.N behind) 0 ≢ Some c.args.self.now.last = λ e.
+    let first : slice_get (pixels_of g.row.N later) 0 ≢ Some c.args.self.now.last = λ e.
     count_other c.args.self.now.last (pixels_of g.row.N raw) n counted (ap (λ x. slice_get x 0) (pixels_drop g.row.N n raw channels inside) ∙ e) in
     let differs : lane_pixel quad 0 ≢ last = λ e.
     first (ap (λ x. slice_get x 0) ahead ∙ ap (λ x. Some x) (sym lane_is ∙ e ∙ c.write_runs-count.ensures.last)) in
     let stand = subst (λ x. CoderBetween w x c.write_runs-count.new.table c.write_runs-count.new.self (kept_bytes c.write_runs-count.new.piece))
-    (ahead ∙ (λ i. sym lane_is i ∷ pixels_of g.row.N (drop g.row.N behind))) one in
-    let done = c.write_fresh.ensures.written w (pixels_of g.row.N (drop g.row.N behind)) before_is differs stand in
+    (ahead ∙ (λ i. sym lane_is i ∷ pixels_of g.row.N (drop g.row.N later))) one in
+    let done = c.write_fresh.ensures.written w (pixels_of g.row.N (drop g.row.N later)) before_is differs stand in
     subst (λ xs. CoderBetween w (pixels_of g.row.N xs) c.write_fresh.new.table c.write_fresh.new.self (kept_bytes c.write_fresh.new.piece))
     (drop_next g.row.N n raw channels) done

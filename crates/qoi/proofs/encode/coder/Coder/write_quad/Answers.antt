@@ -1,51 +1,19 @@
--- The repeats at the front, or four pixels of which one is fresh.
-use Rattle.std.proofs.Common.{◌≡◌, ◌<◌, ◌/◌, ◌^◌, length, sym, ap, ◌∙◌, arith, subst}
-use Rattle.qoi.specs.Raw.{pixels_of}
-use Rattle.qoi.specs.inner.CoderLoop.{CoderBetween}
-use Rattle.qoi.specs.inner.Lanes.{AreFourAfter}
-use Rattle.qoi.specs.inner.Piece.{kept_bytes}
-use Rattle.qoi.proofs.format.LaneRuns.{first_agrees}
-use Rattle.qoi.proofs.encoding.GroupRuns.{pixels_drop}
-use Rattle.qoi.proofs.encoding.QuadLoop.{cur_length, prev_length, quad_opaque, opaque_words, word_alpha}
-use Rattle.qoi.proofs.encoding.QuadSteps.{four_read, first_same, few_lanes}
-use Rattle.qoi.proofs.encode.coder.Coder.write_quad.Given.{Over}
-use Rattle.qoi.proofs.encode.coder.Coder.write_quad.Goals.{After-repeating-bits}
+-- Four fresh pixels, or group after group.
+use Rattle.std.proofs.Common.{sym, ◌∙◌}
+use Rattle.qoi.proofs.encoding.QuadSteps.{quad_starts, all_fresh}
 use Rattle.qoi.proofs.encode.coder.Coder.write_quad.Goals as goal
 
--- what was read
-four : (g : Over) (c : After-repeating-bits g) → AreFourAfter c.args.self.now.last (pixels_of g.row.N c.args.data.now) c.four-cur.result c.before-prev.result
-four g c = four_read g.row.N c.args.data.now c.args.self.now.last c.number.result c.four-cur.result c.before-prev.result c.args.self.now.channels
-    (λ k. omega (arith, c.type_inv.data k)) c.requires.long c.four-cur.ensures.lanes c.before-prev.ensures.lanes c.number.ensures.number
-    c.number.ensures.bytes
-
-pub returns-then-bits-eq15-clause-some : goal.returns-then-bits-eq15-clause-some
-returns-then-bits-eq15-clause-some g c =
-    let f = four g (goal.at.returns-then-bits-eq15-clause-some g c).After-repeating-bits in
-    let same = first_agrees c.four-cur.result c.before-prev.result (cur_length f) (prev_length f)
-    (sym c.repeating-bits.ensures.bits ∙ c.if-bits-eq15.true) in
-    c.write_runs.ensures.some (first_same f same)
-
-pub write_lanes-requires : goal.write_lanes-requires
-write_lanes-requires g c =
-    let raw = c.args.data.now in
-    let cur = c.four-cur in
-    let alpha : g.row.N ≡ 3 → c.number.result / 2 ^ 24 ≡ 255 = λ three. ap (λ z. z / 2 ^ 24) c.number.ensures.number
-    ∙ word_alpha c.args.self.now.last c.number.ensures.bytes ∙ c.args.self.now.opaque three in
-    let opaque = λ (three : g.row.N ≡ 3). opaque_words g.row.N raw cur.result three (λ k. omega (arith, c.type_inv.data k)) c.requires.long
-    cur.ensures.lanes in
-    let same_alpha = λ (three : g.row.N ≡ 3). quad_opaque g.row.N raw c.number.result cur.result c.before-prev.result three
-    (λ k. omega (arith, c.type_inv.data k)) c.requires.long (alpha three) cur.ensures.lanes c.before-prev.ensures.lanes in
-    let few : c.repeating-bits.result < 15 = omega (arith, c.repeating-bits.ensures.within, c.if-bits-eq15.false) in
-    (omega arith, (opaque, (same_alpha, (c.repeating-bits.ensures.bits, (few, c.requires.room)))))
-
-pub returns-clause-inside : goal.returns-clause-inside
-returns-clause-inside g c = few_lanes g.row.N c.write_lanes.result (length c.args.data.now) c.args.self.now.channels c.write_lanes.ensures.lanes.1
-    c.requires.long
+pub returns-then-bits-eq0-clause-written : goal.returns-then-bits-eq0-clause-written
+returns-then-bits-eq0-clause-written g c w pixels four b =
+    let new = c.new-quad.ensures in
+    let start = quad_starts {quad = c.new-quad.result} c.args.cur c.args.prev new.pixels new.before four b in
+    let fresh = all_fresh c.new-quad.result c.args.cur c.args.prev new.pixels new.before (sym c.requires.bits ∙ c.if-bits-eq0.true) in
+    (c.write_four_fresh.ensures.written w pixels fresh start).between
 
 pub returns-clause-written : goal.returns-clause-written
-returns-clause-written g c w b =
-    let f = four g (goal.at.returns-clause-written g c).After-repeating-bits in
-    let inside = few_lanes g.row.N c.write_lanes.result (length c.args.data.now) c.args.self.now.channels c.write_lanes.ensures.lanes.1 c.requires.long in
-    subst (λ x. CoderBetween w x c.write_lanes.new.table c.write_lanes.new.self (kept_bytes c.write_lanes.new.piece))
-    (pixels_drop g.row.N c.write_lanes.result c.args.data.now c.args.self.now.channels inside)
-    (c.write_lanes.ensures.written w (pixels_of g.row.N c.args.data.now) f b)
+returns-clause-written g c w pixels four b =
+    let new = c.new-quad.ensures in
+    let start = quad_starts {quad = c.new-quad.result} c.args.cur c.args.prev new.pixels new.before four b in
+    let one = c.write_to_fresh-lane.ensures.written w pixels start in
+    let two = c.write_to_fresh-lane-2.ensures.written w pixels one in
+    (c.write_to_fresh.ensures.written w pixels two).between

@@ -40,8 +40,8 @@ returns-clause-written g c w b =
     let coder = c.args.self.now in
     let raw = c.args.data.now in
     let group = near g (goal.at.returns-clause-written g c).After-repeats_of-count in
-    let behind = drop (g.row.N * n) raw in
-    let rest = pixels_of g.row.N behind in
+    let later = drop (g.row.N * n) raw in
+    let rest = pixels_of g.row.N later in
     let size = length-drop (g.row.N * n) raw in
     let full : n ≡ REPEATS_MAX → n % 62 ≡ 0 = λ e. ap (λ k. k % 62) e in
     let ends : (slice_get rest 0 ≢ Some coder.last) ⊎ (n % 62 ≡ 0) =
@@ -52,13 +52,13 @@ returns-clause-written g c w b =
       | then-count-data x ↦ (
         Run 1,
         ap (λ z. z ∷ []) (sym x.one-is),
-        inl (none_of_few g.row.N behind coder.channels (omega (arith, size, x.if-count-data.true, coder.channels)), refl),
+        inl (none_of_few g.row.N later coder.channels (omega (arith, size, x.if-count-data.true, coder.channels)), refl),
       )
       | else-count-data x ↦ (
         single coder n,
         x.single_repeat-one.ensures ∙ ap (λ z. z ∷ []) (sym x.one-is),
-        inr (some_pixels g.row.N behind coder.channels group.whole (omega (arith, size, x.if-count-data.false, group.within)), refl),
+        inr (some_pixels g.row.N later coder.channels group.whole (omega (arith, size, x.if-count-data.false, group.within)), refl),
       )
     ] in
-    group_written b n rest one.0 {next_table = c.repeat.new.table} {next_coder = c.repeat.new.self} group.pixels ends (λ _. one.2)
-    (c.keep_runs.ensures.kept one.0 one.1) c.repeat.ensures.same.1 c.repeat.ensures.state
+    group_written b n rest one.0 {next_table = c.after_repeats.new.table} {next_coder = c.after_repeats.new.self} group.pixels ends (λ _. one.2)
+    (c.keep_runs.ensures.kept one.0 one.1) c.after_repeats.ensures.same.1 c.after_repeats.ensures.state

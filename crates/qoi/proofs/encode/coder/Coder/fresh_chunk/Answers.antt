@@ -6,7 +6,7 @@ use Rattle.qoi.specs.Qoi.{seen, hash, blank}
 use Rattle.qoi.proofs.encoding.CoderTable.{spelled_out}
 use Rattle.qoi.proofs.encoding.SpelledLanes.{place_bytes}
 use Rattle.qoi.proofs.encoding.TightChoice.{blank_chosen, spelled_chosen}
-use Rattle.qoi.proofs.encode.coder.Coder.spelled.Goals as goal
+use Rattle.qoi.proofs.encode.coder.Coder.fresh_chunk.Goals as goal
 
 pub returns-in-Reference-clause-choice : goal.returns-in-Reference-clause-choice
 returns-in-Reference-clause-choice g c = λ past alpha chunk holds test is bytes first differs.
@@ -14,7 +14,7 @@ returns-in-Reference-clause-choice g c = λ past alpha chunk holds test is bytes
 
 pub returns-in-Some-clause-choice : goal.returns-in-Some-clause-choice
 returns-in-Some-clause-choice g c = λ past alpha chunk holds test is bytes first differs.
-    let both = and_parts c.is_same.result (not c.args.placed) c.if-is_same-placed.true in
+    let both = and_parts c.is_same.result (not c.args.stands) c.if-is_same-stands.true in
     let is_blank = c.is_same.ensures.0 both.0 ∙ c.blank.ensures in
     let held = rw c.in-Tight.is at holds in
     let other : seen past (hash c.args.px) ≢ c.args.px = rw c.in-Tight.is at differs in
@@ -28,15 +28,15 @@ returns-in_default-clause-choice g c = λ past alpha chunk holds test is bytes f
     let other : seen past (hash c.args.px) ≢ c.args.px = rw c.in-Tight.is at differs in
     rw c.in-Tight.is (chunk, is, bytes, spelled_chosen past c.args.px chunk other (λ b. sym c.in_default.is ∙ c.first_blank.ensures.first past held) first)
 
--- a pixel that is transparent black and isn't placed passes the test
-not_both : (same placed : Bool) → same && not placed ≡ false → IsTrue same → (IsTrue placed → ⊥) → ⊥
+-- a pixel that is transparent black and isn't stands passes the test
+not_both : (same stands : Bool) → same && not stands ≡ false → IsTrue same → (IsTrue stands → ⊥) → ⊥
 not_both true true e s n = n s
 not_both true false e s n = true≢false e
-not_both false placed e s n = true≢false (sym s)
+not_both false stands e s n = true≢false (sym s)
 
-pub returns-else-is_same-placed-clause-choice : goal.returns-else-is_same-placed-clause-choice
-returns-else-is_same-placed-clause-choice g c = λ past alpha chunk holds test is bytes first differs.
+pub returns-else-is_same-stands-clause-choice : goal.returns-else-is_same-stands-clause-choice
+returns-else-is_same-stands-clause-choice g c = λ past alpha chunk holds test is bytes first differs.
     let other : seen past (hash c.args.px) ≢ c.args.px = rw c.in-Tight.is at differs in
     let no : c.args.px ≡ blank → ⊥ = λ b.
-    not_both c.is_same.result c.args.placed c.if-is_same-placed.false (c.is_same.ensures.1 (b ∙ sym c.blank.ensures)) (λ t. differs (test.0 t)) in
+    not_both c.is_same.result c.args.stands c.if-is_same-stands.false (c.is_same.ensures.1 (b ∙ sym c.blank.ensures)) (λ t. differs (test.0 t)) in
     rw c.in-Tight.is (chunk, is, bytes, spelled_chosen past c.args.px chunk other (λ b. absurd (no b)) first)

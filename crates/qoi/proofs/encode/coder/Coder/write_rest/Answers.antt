@@ -3,7 +3,7 @@ use Rattle.std.proofs.Common.{◌≡◌, ◌-◌, ◌*◌, ◌%◌, length, drop
 use Rattle.std.proofs.lemmas.List.{length-drop}
 use Rattle.qoi.specs.inner.CoderLoop.{BytesBetween}
 use Rattle.qoi.proofs.encoding.GroupRuns.{whole_rest, some_bytes}
-use Rattle.qoi.proofs.encode.coder.Coder.write_last.Goals as goal
+use Rattle.qoi.proofs.encode.coder.Coder.write_rest.Goals as goal
 
 pub loop-rest-preserved : goal.loop-rest-preserved
 loop-rest-preserved g c =

@@ -1,7 +1,7 @@
 -- Lane after lane.
 use Rattle.std.proofs.Common.{arith}
 use Rattle.qoi.proofs.encoding.QuadSteps.{lane_step}
-use Rattle.qoi.proofs.encode.coder.Coder.write_four.Goals as goal
+use Rattle.qoi.proofs.encode.coder.Coder.write_four_fresh.Goals as goal
 
 pub returns-clause-written : goal.returns-clause-written
 returns-clause-written g c w pixels fresh start =

@@ -3,7 +3,7 @@ use Rattle.std.proofs.Common.{◌≡◌, ◌+◌, ◌*◌, ◌%◌, ◌≤◌, l
 use Rattle.qoi.specs.Raw.{pixels_of}
 use Rattle.qoi.specs.inner.CoderLoop.{Writing, CoderBetween}
 use Rattle.qoi.specs.inner.Piece.{kept_bytes}
-use Rattle.qoi.proofs.encode.coder.Coder.write_last.Given as goal
+use Rattle.qoi.proofs.encode.coder.Coder.write_rest.Given as goal
 
 abbrev pub invariant-loop-rest : goal.invariant-loop-rest
 invariant-loop-rest g l = record {

@@ -1,7 +1,7 @@
 -- The bytes stand after those written before, and what is after them stays.
 use Rattle.std.proofs.Common.{◌≡◌, ◌+◌, ◌-◌, ◌++◌, length, take, rules, refl, ap, ◌∙◌, arith}
 use Rattle.std.proofs.lemmas.Slice.{take-put_mid, drop-put_mid}
-use Rattle.qoi.proofs.utils.copy_behind.Goals as goal
+use Rattle.qoi.proofs.utils.copy_after.Goals as goal
 
 pub returns : goal.returns
 returns c =
