@@ -272,6 +272,7 @@ pub fn decoder_examples()
 {}
 
 /// Repeats and fresh pixels, and bytes that are written after others.
+#[tactic(auto, unfolding(crate::specs::Qoi::pixel_eq, crate::specs::Qoi::start, crate::specs::Qoi::blank, crate::specs::Qoi::hash))]
 pub fn writing_examples()
     ensures count { IsCount (pixel 1 2 3 4) (pixel 1 2 3 4 ∷ pixel 1 2 3 4 ∷ pixel 1 2 3 5 ∷ []) 2 }
     ensures count_to_the_end { IsCount (pixel 1 2 3 4) (pixel 1 2 3 4 ∷ []) 1 }

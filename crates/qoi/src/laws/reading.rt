@@ -91,6 +91,7 @@ pub fn images_are_functions()
 
 /// Raw bytes of a valid header's image, as decoding gives them, are accepted by an encoder with its
 /// width and height, and get its header, in sRGB.
+#[tactic(auto, using(crate::proofs::decoding::EncodedAgain::encoded_again))]
 pub fn images_are_accepted()
     ensures { (h : Header) (raw : List ℕ) → IsValid h → length raw ≡ image_byte_count h
         → image_header raw h.width h.height ≡ Ok (record h { colorspace = ColorSpace.Srgb }) }

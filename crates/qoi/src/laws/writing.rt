@@ -39,6 +39,7 @@ pub fn styles_are_written()
 {}
 
 /// The lists of style `Places` for the written lists of a few images.
+#[tactic(auto, unfolding(crate::specs::Qoi::pixel_eq, crate::specs::Qoi::start, crate::specs::Qoi::blank, crate::specs::Qoi::hash, crate::specs::Qoi::after_diff, crate::specs::Qoi::after_luma))]
 pub fn places_examples()
     ensures single { in_style Places (Rgb 101 102 103 ∷ Run 1 ∷ Rgb 1 2 3 ∷ [])
         ≡ Rgb 101 102 103 ∷ Place 51 ∷ Rgb 1 2 3 ∷ [] }
@@ -162,6 +163,7 @@ pub fn tight_is_shortest()
 {}
 
 /// What the tight lists of a few images cost.
+#[tactic(auto, unfolding(crate::specs::Qoi::pixel_eq, crate::specs::Qoi::start, crate::specs::Qoi::blank, crate::specs::Qoi::hash, crate::specs::Qoi::after_diff, crate::specs::Qoi::after_luma, crate::specs::Shortest::some_diff, crate::specs::Shortest::some_luma, crate::specs::Shortest::some_rgb, crate::specs::Shortest::least, crate::specs::Shortest::cost, crate::specs::Tight::least_unseen, crate::specs::Tight::least0))]
 pub fn tight_examples()
     ensures black_returns_rgb { floor0 (pixel 0 0 0 255 ∷ pixel 101 102 103 255 ∷ pixel 0 0 0 255
         ∷ []) ≡ 6 }
@@ -185,6 +187,7 @@ pub fn group_cost()
 {}
 
 /// The floor and the slack of a few images.
+#[tactic(auto, unfolding(crate::specs::Qoi::pixel_eq, crate::specs::Qoi::start, crate::specs::Qoi::blank, crate::specs::Qoi::hash, crate::specs::Qoi::after_diff, crate::specs::Qoi::after_luma, crate::specs::Shortest::some_diff, crate::specs::Shortest::some_luma, crate::specs::Shortest::some_rgb, crate::specs::Shortest::least, crate::specs::Shortest::cost, crate::specs::Shortest::slack))]
 pub fn shortest_examples()
     ensures black_returns_rgb { floor (pixel 0 0 0 255 ∷ pixel 101 102 103 255 ∷ pixel 0 0 0 255
         ∷ []) ≡ 6 }

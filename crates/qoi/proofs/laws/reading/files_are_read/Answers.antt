@@ -3,11 +3,9 @@ use Rattle.std.proofs.Common.{refl}
 use Rattle.qoi.proofs.decoding.OneFile.{file_has_header, file_is_whole, file_from_whole, decodes_file}
 use Rattle.qoi.proofs.laws.reading.files_are_read.Goals as goal
 
-pub returns-clause-read : goal.returns-clause-read
-returns-clause-read c = λ h cs bytes rest f e. (file_has_header h cs bytes rest f e, file_is_whole h cs bytes rest f e)
-
-pub returns-clause-only : goal.returns-clause-only
-returns-clause-only c = file_from_whole
-
-pub returns-clause-decoded : goal.returns-clause-decoded
-returns-clause-decoded c = λ h cs bytes rest f e. decodes_file h cs bytes rest _ f e refl
+pub returns : goal.returns
+returns c = record {
+  read = λ h cs bytes rest f e. (file_has_header h cs bytes rest f e, file_is_whole h cs bytes rest f e);
+  only = file_from_whole;
+  decoded = λ h cs bytes rest f e. decodes_file h cs bytes rest _ f e refl;
+}

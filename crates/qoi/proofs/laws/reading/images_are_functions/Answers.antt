@@ -2,8 +2,8 @@
 use Rattle.qoi.proofs.decoding.FrontImage.{image_is, rest_is, file_image_is, file_rest_is}
 use Rattle.qoi.proofs.laws.reading.images_are_functions.Goals as goal
 
-pub returns-clause-ahead : goal.returns-clause-ahead
-returns-clause-ahead c = λ channels h bytes rest out image. (image_is channels h bytes rest out image, rest_is channels h bytes rest out image)
-
-pub returns-clause-file : goal.returns-clause-file
-returns-clause-file c = λ bytes h rest out d. (file_image_is bytes h rest out d, file_rest_is bytes h rest out d)
+pub returns : goal.returns
+returns c = record {
+  ahead = λ channels h bytes rest out image. (image_is channels h bytes rest out image, rest_is channels h bytes rest out image);
+  file = λ bytes h rest out d. (file_image_is bytes h rest out d, file_rest_is bytes h rest out d);
+}

@@ -4,30 +4,15 @@ use Rattle.qoi.specs.Qoi.{start, blank, hash}
 use Rattle.qoi.proofs.shortness.SlackReached.{written_rgb, written_rgba}
 use Rattle.qoi.proofs.laws.writing.slack_is_reached.Goals as goal
 
-pub returns-clause-written_rgb : goal.returns-clause-written_rgb
-returns-clause-written_rgb c = written_rgb
-
-pub returns-clause-regular_rgb : goal.returns-clause-regular_rgb
+pub returns : goal.returns
 unfolding start blank hash
-returns-clause-regular_rgb c = (tt, (tt, (refl, tt)))
-
-pub returns-clause-meaning_rgb : goal.returns-clause-meaning_rgb
-unfolding start blank hash
-returns-clause-meaning_rgb c = refl
-
-pub returns-clause-longer_rgb : goal.returns-clause-longer_rgb
-returns-clause-longer_rgb c = refl
-
-pub returns-clause-written_rgba : goal.returns-clause-written_rgba
-returns-clause-written_rgba c = written_rgba
-
-pub returns-clause-regular_rgba : goal.returns-clause-regular_rgba
-unfolding start blank hash
-returns-clause-regular_rgba c = (tt, (tt, (refl, tt)))
-
-pub returns-clause-meaning_rgba : goal.returns-clause-meaning_rgba
-unfolding start blank hash
-returns-clause-meaning_rgba c = refl
-
-pub returns-clause-longer_rgba : goal.returns-clause-longer_rgba
-returns-clause-longer_rgba c = refl
+returns c = record {
+  written_rgb = written_rgb;
+  regular_rgb = (tt, (tt, (refl, tt)));
+  meaning_rgb = refl;
+  longer_rgb = refl;
+  written_rgba = written_rgba;
+  regular_rgba = (tt, (tt, (refl, tt)));
+  meaning_rgba = refl;
+  longer_rgba = refl;
+}

@@ -5,12 +5,10 @@ use Rattle.qoi.proofs.encoding.StyleLists.{style_length}
 use Rattle.qoi.proofs.shortness.TightLists.{lower0, tight_exact, floor0_high}
 use Rattle.qoi.proofs.laws.writing.tight_is_shortest.Goals as goal
 
-pub returns-clause-exact : goal.returns-clause-exact
-returns-clause-exact c = λ image cs w. style_length Tight image cs w ∙ tight_exact image w.list w.written
-
-pub returns-clause-shortest : goal.returns-clause-shortest
-returns-clause-shortest c = λ image cs others w covers. omega
-    (arith, style_length Tight image cs w, tight_exact image w.list w.written, lower0 image others covers.0 covers.1)
-
-pub returns-clause-floors : goal.returns-clause-floors
-returns-clause-floors c = floor0_high
+pub returns : goal.returns
+returns c = record {
+  exact = λ image cs w. style_length Tight image cs w ∙ tight_exact image w.list w.written;
+  shortest = λ image cs others w covers. omega
+      (arith, style_length Tight image cs w, tight_exact image w.list w.written, lower0 image others covers.0 covers.1);
+  floors = floor0_high;
+}
