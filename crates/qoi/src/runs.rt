@@ -25,7 +25,6 @@ pub fn repeats<const N: usize>(data: &[u8], px: Pixel<N>) -> usize
 /// the four says whether it repeats the one before it.
 #[inline(always)]
 pub(crate) fn repeats_in_quad(bits: u64, lane: usize) -> usize
-    requires within { bits < 16 }
     requires lane { lane < 4 }
     ensures counted { (last : RgbaPixel) (pixels : List RgbaPixel) (cur prev : List ℕ)
         → AreFourAfter last pixels cur prev → bits ≡ mask_l (zip2 nat_eq cur prev)

@@ -17,7 +17,7 @@ agree_bits xs ys e g = ap (λ ms. mask_l ms % 2 ^ 64) (tops_compared w32 eqb xs 
     ∙ mask_l-mod (zip2 eqb xs ys) 64 (omega (arith, length-zip2 eqb xs ys (e ∙ sym g)))
 
 -- are four
-pub few_bits : (xs ys : List ℕ) (n : ℕ) → length xs ≡ 4 → length ys ≡ 4 → n ≡ mask_l (zip2 eqb xs ys) → n < 16
+few_bits : (xs ys : List ℕ) (n : ℕ) → length xs ≡ 4 → length ys ≡ 4 → n ≡ mask_l (zip2 eqb xs ys) → n < 16
 few_bits xs ys n e g h =
     let l : length (zip2 eqb xs ys) ≡ 4 = length-zip2 eqb xs ys (e ∙ sym g) ∙ e in
     let m : mask_l (zip2 eqb xs ys) < 2 ^ 4 = subst (λ k. mask_l (zip2 eqb xs ys) < 2 ^ k) l (mask_l-lt (zip2 eqb xs ys)) in
@@ -97,12 +97,12 @@ run_of xs ys at n e g l h =
       stops = λ short same. p.stops (omega (arith, length-drop at xs)) (get_or-drop at xs n 0 ∙ same ∙ sym (get_or-drop at ys n 0));
     }
 
-pub agreeing_run : (xs ys : List ℕ) (bits at : ℕ) → length xs ≡ 4 → length ys ≡ 4 → at < 4 → bits < 16 → bits ≡ mask_l (zip2 eqb xs ys)
+pub agreeing_run : (xs ys : List ℕ) (bits at : ℕ) → length xs ≡ 4 → length ys ≡ 4 → at < 4 → bits ≡ mask_l (zip2 eqb xs ys)
     → IsRun xs ys at (count_trailing_zeros 64 (18446744073709551615 - bits / 2 ^ at))
-agreeing_run xs ys bits at e g l few h =
+agreeing_run xs ys bits at e g l h =
     let d : length (drop at xs) ≡ length (drop at ys) = omega (arith, length-drop at xs, length-drop at ys) in
     let m : bits / 2 ^ at ≡ mask_l (zip2 eqb (drop at xs) (drop at ys)) = ap (λ z. z / 2 ^ at) h ∙ bits_from at xs ys (e ∙ sym g) (omega arith) in
-    let small : mask_l (zip2 eqb (drop at xs) (drop at ys)) < 16 = few_from at bits m few in
+    let small : mask_l (zip2 eqb (drop at xs) (drop at ys)) < 16 = few_from at bits m (few_bits xs ys bits e g h) in
     run_of xs ys at _ e g l (first_clear 64 (drop at xs) (drop at ys) _ d (omega arith) (omega arith))
   where
     few_from : (at bits : ℕ) {m : ℕ} → bits / 2 ^ at ≡ m → bits < 16 → m < 16

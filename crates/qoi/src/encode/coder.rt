@@ -195,12 +195,11 @@ impl<const N: usize> Coder<N> {
         lane: usize,
     ) -> usize
         requires room { piece.old.end + 1 + chunk_max ≤ ROOM }
-        requires within { bits < 16 }
         requires bits { bits ≡ mask_l (zip2 nat_eq quad.now.pixels quad.now.before) }
         requires lane { lane ≤ 4 }
         ensures end { piece.new.end ≤ piece.old.end + 1 + chunk_max }
         ensures lanes { (lane ≤ result) × (result ≤ 4) }
-        ensures some { lane ≡ 0 → bits < ALL_REPEAT → 0 < result }
+        ensures some { lane ≡ 0 → bits ≢ ALL_REPEAT → 0 < result }
         ensures written { (w : Writing) (pixels : List RgbaPixel)
             → AtLane (in_four w quad.now pixels) lane table.old self.old (kept_bytes piece.old)
             → AtLane (in_four w quad.now pixels) result table.new self.new
@@ -234,7 +233,7 @@ impl<const N: usize> Coder<N> {
         requires opaque { N ≡ 3 → AreOpaqueWords cur }
         requires same_alpha { N ≡ 3 → SameAlpha cur prev }
         requires bits { bits ≡ mask_l (zip2 nat_eq cur prev) }
-        requires within { bits < ALL_REPEAT }
+        requires not_all { bits ≢ ALL_REPEAT }
         requires room { piece.old.end + 4 * chunk_max ≤ ROOM }
         ensures end { piece.new.end ≤ piece.old.end + 4 * chunk_max }
         ensures lanes { (0 < result) × (result ≤ 4) }

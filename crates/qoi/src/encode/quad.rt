@@ -101,7 +101,6 @@ pub(super) fn pixels_before(last: u32, cur: u32x4) -> u32x4
 #[inline(always)]
 pub(super) fn repeating(cur: u32x4, prev: u32x4) -> u64
     ensures bits { result ≡ mask_l (zip2 nat_eq cur prev) }
-    ensures within { result < 16 }
 {
     cur.simd_eq(prev).to_bitmask()
 }

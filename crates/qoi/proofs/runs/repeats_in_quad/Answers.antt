@@ -5,7 +5,7 @@ use Rattle.qoi.proofs.encoding.QuadLoop.{cur_length, prev_length, prev_below}
 use Rattle.qoi.proofs.runs.repeats_in_quad.Goals as goal
 
 pub returns-clause-run : goal.returns-clause-run
-returns-clause-run c cur prev e g h = agreeing_run cur prev c.args.bits c.args.lane e g c.requires.lane c.requires.within h
+returns-clause-run c cur prev e g h = agreeing_run cur prev c.args.bits c.args.lane e g c.requires.lane h
 
 pub returns-clause-counted : goal.returns-clause-counted
 returns-clause-counted c last pixels cur prev is h short =

@@ -5,8 +5,8 @@ use Rattle.qoi.specs.declared.steps.TheConstants.{STEPS}
 use Rattle.qoi.proofs.format.Entries.{entry}
 use Rattle.qoi.proofs.steps.kept.Goals as goal
 
-pub returns-clause-place : goal.returns-clause-place
-returns-clause-place c high = eqb-true _ _ (entry STEPS (λ b x. eqb x 0) 256 0 64 c.args.b1 _ refl refl (omega arith) high (omega arith))
-
-pub returns-clause-other : goal.returns-clause-other
-returns-clause-other c low = eqb-true _ _ (entry STEPS (λ b x. eqb x lane_mask) 256 64 192 c.args.b1 _ refl refl low c.requires (omega arith))
+pub returns : goal.returns
+returns c = record {
+  place = λ high. eqb-true _ _ (entry STEPS (λ b x. eqb x 0) 256 0 64 c.args.b1 _ refl refl (omega arith) high (omega arith));
+  other = λ low. eqb-true _ _ (entry STEPS (λ b x. eqb x lane_mask) 256 64 192 c.args.b1 _ refl refl low c.requires (omega arith));
+}

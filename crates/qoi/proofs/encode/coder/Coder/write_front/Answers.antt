@@ -35,8 +35,7 @@ write_quad-requires g c =
     cur.ensures.lanes in
     let same_alpha = λ (three : g.row.N ≡ 3). quad_opaque g.row.N raw c.number.result cur.result c.pixels_before-prev.result three
     (λ k. omega (arith, c.type_inv.data k)) c.requires.long (alpha three) cur.ensures.lanes c.pixels_before-prev.ensures.lanes in
-    let few : c.repeating-bits.result < 15 = omega (arith, c.repeating-bits.ensures.within, c.if-bits-eq-ALL_REPEAT.false) in
-    (omega arith, (opaque, (same_alpha, (c.repeating-bits.ensures.bits, (few, c.requires.room)))))
+    (omega arith, (opaque, (same_alpha, (c.repeating-bits.ensures.bits, (c.if-bits-eq-ALL_REPEAT.false, c.requires.room)))))
 
 pub returns-clause-inside : goal.returns-clause-inside
 returns-clause-inside g c = few_lanes g.row.N c.write_quad.result (length c.args.data.now) c.args.self.now.channels c.write_quad.ensures.lanes.1

@@ -20,7 +20,7 @@ returns-then-lane-count-gt3-clause-some g c first few =
     let start = subst (λ k. IsRun quad.pixels quad.before k c.repeats_in_quad-count.result) first run in
     let all = all_agree quad.pixels quad.before c.repeats_in_quad-count.result quad.four.0 quad.four_before.0
     (omega (arith, c.if-lane-count-gt3.true)) start in
-    absurd (omega (arith, c.requires.bits))
+    absurd (few (c.requires.bits ∙ all))
 
 pub returns-clause-written : goal.returns-clause-written
 returns-clause-written g c w pixels start =
