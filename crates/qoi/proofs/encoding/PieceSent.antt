@@ -1,12 +1,16 @@
 -- Kept bytes that are sent to a writer: a full piece, and then those after it.
 use Rattle.std.proofs.Common.{◌≡◌, ℕ, ◌+◌, ◌-◌, ◌≤◌, List, [], ◌++◌, length, take, drop, Result, Ok, Err, OnOk, IfErr, sym, ap, ◌∙◌, subst, append-nil, take-append-drop, arith}
 use Rattle.std.specs.List.{copy_within}
-use Rattle.std.proofs.lemmas.List.{drop-take, length-drop, take-append-le}
+use Rattle.std.proofs.lemmas.List.{drop-take, length-drop, length-take-le, take-append-le}
 use Rattle.std.proofs.lemmas.List.Edits.{paste_all}
 use Rattle.qoi.specs.declared.encode.piece.Piece.{Piece}
 use Rattle.qoi.specs.inner.Piece.{kept_bytes}
 use Rattle.qoi.specs.writers.Writes.{WriterLaws, WroteBut, WroteBeginning}
 use Rattle.qoi.proofs.encoding.WriterProgress.{wrote_none, wrote_next, wrote_part, wrote_all}
+
+-- as many bytes are kept as the piece says
+pub kept_length : (s : Piece) → length (kept_bytes s) ≡ s.end
+kept_length s = length-take-le s.end s.bytes.now (omega (arith, s.within, s.room))
 
 -- the bytes after a full piece, copied to the front
 pub moved_front : (xs : List ℕ) (piece room end : ℕ) → length xs ≡ room → piece ≤ end → end ≤ room

@@ -66,7 +66,6 @@ impl<'a> Piece<'a> {
     pub(super) fn keep(&mut self, v: &[u8])
         requires { self.old.end + length v.now ≤ ROOM }
         ensures kept { kept_bytes self.new ≡ kept_bytes self.old ++ v.now }
-        ensures end { self.new.end ≡ self.old.end + length v.now }
     {
         self.end = copy_after(self.bytes, self.end, v);
     }

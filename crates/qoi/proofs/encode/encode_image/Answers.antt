@@ -1,11 +1,11 @@
 -- Header, chunks and end marker go through the piece.
 use Rattle.std.proofs.Common.{◌≡◌, ◌≤◌, ◌+◌, ◌++◌, length, ap, ◌∙◌, arith}
-use Rattle.std.proofs.lemmas.List.{length-take-le}
 use Rattle.std.proofs.lemmas.Result.{err_from_is_err_and}
 use Rattle.qoi.specs.Qoi.{header_bytes, file, chunk_bytes}
 use Rattle.qoi.specs.writers.Writes.{WroteBut}
 use Rattle.qoi.specs.inner.Piece.{kept_bytes}
 use Rattle.qoi.proofs.FileOf.{file_of, text_fits, max_is_exact, chunks_part, marker_kept, last_fits, last_part, file_went, file_counts}
+use Rattle.qoi.proofs.encoding.PieceSent.{kept_length}
 use Rattle.qoi.proofs.encode.encode_image.Given.{Over}
 use Rattle.qoi.proofs.encode.encode_image.Goals.{After-keep-2}
 use Rattle.qoi.proofs.encode.encode_image.Goals as goal
@@ -37,13 +37,11 @@ pub finish-requires : goal.finish-requires
 finish-requires g c =
     let h = c.args.header.now in
     let w = c.in_ok-encode_chunks.ensures.written in
-    let piece = c.keep-2.new.self in
-    let size = length-take-le piece.end piece.bytes.now (omega (arith, piece.within, piece.room)) in
     let enough : 22 + length (chunk_bytes w.0) ≤ g.W.Writer.room c.args.buf.now =
     omega (arith, c.requires.room, max_is_exact h c.requires.valid, text_fits h c.args.data.now c.requires.valid c.requires.image c.args.style w.0 w.1) in
     omega (
       arith,
-      size,
+      kept_length c.keep-2.new.self,
       last_fits g.met.W.Writer.laws h w.0 c.args.buf.now (all_but_kept g (goal.at.finish-requires g c).After-keep-2) enough,
     )
 

@@ -1,21 +1,19 @@
 -- A piece at a time.
 use Rattle.std.proofs.Common.{arith}
-use Rattle.std.proofs.lemmas.List.{length-take-le}
 use Rattle.std.proofs.lemmas.Result.{err_from_is_err_and}
 use Rattle.qoi.specs.declared.encode.piece.TheConstants.{PIECE}
 use Rattle.qoi.proofs.encoding.PieceByPiece.{piece_starts, piece_filled, piece_fits, piece_went, piece_part, piece_ends}
+use Rattle.qoi.proofs.encoding.PieceSent.{kept_length}
 use Rattle.qoi.proofs.encode.chunks.encode_pixels.Goals as goal
 
 pub loop-coder-init : goal.loop-coder-init
 loop-coder-init g c =
     let new = c.new-coder.ensures in
-    let piece = c.args.piece.now in
-    let size = length-take-le piece.end piece.bytes.now (omega (arith, c.requires.not_full, piece.room)) in
     record {
       end = c.requires.not_full;
       whole = c.requires.whole;
       state = piece_starts _ g.met.W.Writer.laws c.requires.channels (λ i. omega (arith, c.type_inv.data i)) c.requires.whole
-          (omega (arith, size, c.requires.room)) new.style (new.state c.new-table.result c.new-table.ensures);
+          (omega (arith, kept_length c.args.piece.now, c.requires.room)) new.style (new.state c.new-table.result c.new-table.ensures);
     }
 
 pub returns-then-not-is_full-clause-written : goal.returns-then-not-is_full-clause-written
@@ -23,10 +21,8 @@ returns-then-not-is_full-clause-written g c = piece_ends (piece_filled c.loop-co
 
 pub send-requires-clause-room : goal.send-requires-clause-room
 send-requires-clause-room g c =
-    let piece = c.fill-rest.new.piece in
-    let size = length-take-le piece.end piece.bytes.now (omega (arith, piece.within, piece.room)) in
     piece_fits (piece_filled c.loop-coder.invariant.state c.fill-rest.ensures.written) PIECE
-    (omega (arith, size, c.is_full.ensures.full c.if-not-is_full.false))
+    (omega (arith, kept_length c.fill-rest.new.piece, c.is_full.ensures.full c.if-not-is_full.false))
 
 pub loop-coder-preserved : goal.loop-coder-preserved
 loop-coder-preserved g c = record {

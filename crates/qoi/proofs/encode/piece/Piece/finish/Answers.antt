@@ -1,11 +1,10 @@
 -- A full piece goes first, if there is one, and then the rest.
 use Rattle.std.proofs.Common.{take, drop, sym, take-append-drop, arith}
-use Rattle.std.proofs.lemmas.List.{length-take-le}
 use Rattle.std.proofs.lemmas.Result.{err_from_is_err_and}
 use Rattle.qoi.specs.declared.encode.piece.TheConstants.{PIECE}
 use Rattle.qoi.specs.inner.Piece.{kept_bytes}
 use Rattle.qoi.specs.writers.Writes.{WroteBut}
-use Rattle.qoi.proofs.encoding.PieceSent.{sent_but, none_but, rest_sent, rest_refused}
+use Rattle.qoi.proofs.encoding.PieceSent.{kept_length, sent_but, none_but, rest_sent, rest_refused}
 use Rattle.qoi.proofs.encoding.WriterProgress.{left_fits, wrote_none, wrote_part}
 use Rattle.qoi.proofs.encode.piece.Piece.finish.Given.{Over}
 use Rattle.qoi.proofs.encode.piece.Piece.finish.Goals.{Joined-is_full, then-is_full+in_ok-send, else-is_full}
@@ -42,7 +41,7 @@ write_many-requires g c =
     let old = c.args.self.now in
     left_fits g.met.W.Writer.laws c.args.buf.now c.if-is_full.buf (kept_bytes old) (kept_bytes c.if-is_full.self)
     (all_but_kept g (goal.at.write_many-requires g c).Joined-is_full)
-    (omega (arith, c.requires, length-take-le old.end old.bytes.now (omega (arith, old.within, old.room))))
+    (omega (arith, c.requires, kept_length old))
 
 pub returns : goal.returns
 returns g c =
