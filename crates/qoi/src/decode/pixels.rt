@@ -134,7 +134,7 @@ pub(super) fn is_luma(b1: u32) -> bool
 
 // How many pixels a chunk has, by its first byte.
 #[inline(always)]
-fn pixel_count(b1: u8) -> usize
+fn times(b1: u8) -> usize
     ensures run { run_tag ≤ b1 → b1 < rgb_tag → result + (run_tag - 1) ≡ b1 }
     ensures one { b1 < run_tag → result ≡ 1 }
     ensures full { rgb_tag ≤ b1 → result ≡ 1 }
@@ -189,6 +189,6 @@ pub(super) fn decode_chunk<const N: usize, const F: usize>(
     Decoded {
         taken,
         last,
-        at: fill::<N, F>(out, at, last, pixel_count(b1)),
+        at: fill::<N, F>(out, at, last, times(b1)),
     }
 }

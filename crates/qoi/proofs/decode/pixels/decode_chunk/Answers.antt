@@ -15,18 +15,18 @@ returns-clause-decodes g c =
     let new = filling c.put.new.self c.match-b1.last.0 c.fill.new.out c.fill.result in
     let first = get_or bytes 0 0 in
     let fits : AreBytes bytes = λ i. omega (arith, c.type_inv.bytes i) in
-    let copies : PutsCopies g.row.F g.row.N _ c.pixel_count.result old new = record { last_is = refl; table = c.put.ensures; filled = c.fill.ensures.filled } in
+    let copies : PutsCopies g.row.F g.row.N _ c.times.result old new = record { last_is = refl; table = c.put.ensures; filled = c.fill.ensures.filled } in
     elim c.match-b1.branch [
       | in-254 w ↦
           let taken : c.match-b1.last.1 ≡ 4 = search rules in
           let px : c.match-b1.last.0 ≡ w.after_full.result = search rules in
-          let once : c.pixel_count.result ≡ 1 = c.pixel_count.ensures.full (omega (arith, w.in-254.is)) in
+          let once : c.times.result ≡ 1 = c.times.ensures.full (omega (arith, w.in-254.is)) in
           rw taken (decodes_rgb {old = old} {new = new} bytes (omega (arith, c.requires.long)) fits w.in-254.is (ap pixel_of_lanes px ∙ w.after_full.ensures.rgb w.in-254.is)
           (subst (λ k. PutsCopies g.row.F g.row.N (pixel_of_lanes c.match-b1.last.0) k old new) once copies))
       | in-255 w ↦
           let taken : c.match-b1.last.1 ≡ 5 = search rules in
           let px : c.match-b1.last.0 ≡ w.after_full-in-255.result = search rules in
-          let once : c.pixel_count.result ≡ 1 = c.pixel_count.ensures.full (omega (arith, w.in-255.is)) in
+          let once : c.times.result ≡ 1 = c.times.ensures.full (omega (arith, w.in-255.is)) in
           rw taken (decodes_rgba {old = old} {new = new} bytes (omega (arith, c.requires.long)) fits w.in-255.is (ap pixel_of_lanes px ∙ w.after_full-in-255.ensures.rgba w.in-255.is)
           (subst (λ k. PutsCopies g.row.F g.row.N (pixel_of_lanes c.match-b1.last.0) k old new) once copies))
       | in_default w ↦
@@ -36,13 +36,13 @@ returns-clause-decodes g c =
           let from = w.from.ensures in
           let size = w.from-size.ensures in
           let below : first < 254 = search rules in
-          decodes_short {old = old} {new = new} bytes first (get_or bytes 1 0) c.match-b1.last.1 c.pixel_count.result (omega (arith, c.requires.long)) refl refl below (fits 1)
+          decodes_short {old = old} {new = new} bytes first (get_or bytes 1 0) c.match-b1.last.1 c.times.result (omega (arith, c.requires.long)) refl refl below (fits 1)
           (record {
             one = λ l. grind (arith, nat_tests);
             luma = λ l h. grind (arith, nat_tests);
             run = λ l. grind (arith, nat_tests);
-            once = λ l. c.pixel_count.ensures.one l;
-            often = λ l. c.pixel_count.ensures.run l below;
+            once = λ l. c.times.ensures.one l;
+            often = λ l. c.times.ensures.run l below;
           })
           (record {
             place = λ l past h. ap pixel_of_lanes (px ∙ w.after_short.ensures.place l) ∙ w.at-held.ensures.place l past h;
