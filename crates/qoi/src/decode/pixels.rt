@@ -1,7 +1,7 @@
 //! What the loops of slices and of streams put into the output: the pixels of chunks.
 ghost use Rattle.std.specs.Prelude.{◌≡◌, ℕ, ◌+◌, ◌*◌, ◌/◌, ◌%◌, ◌-◌, ◌<◌, ◌≤◌, [], ◌∷◌, ◌++◌, length, take, replicate, nat_le, nat_lt, ◌&&◌};
 ghost use Rattle.qoi.specs.Qoi.{Past, run_max, luma_tag, run_tag, rgb_tag};
-ghost use Rattle.qoi.specs.declared.decode.pixels.TheConstants.{RUN_ROOM};
+ghost use Rattle.qoi.specs.declared.decode.pixels.TheConstants.{BLOCK, RUN_ROOM};
 ghost use Rattle.qoi.specs.Raw.{IsChannels};
 ghost use Rattle.qoi.specs.inner.Filling.{upto, HasWritten, HasFilled, IsWholePixels, DecodesChunk, filling};
 ghost use Rattle.qoi.specs.inner.Hashed.{pixel_of_lanes};
@@ -10,6 +10,9 @@ use crate::chunk::QOI_OP_RUN_END;
 use crate::consts::{QOI_OP_LUMA, QOI_OP_RGB, QOI_OP_RGBA, QOI_OP_RUN};
 use crate::hashed::Hashed;
 use crate::table::HashedTable;
+
+/// How many bytes a block has: as many as a vector holds.
+pub(super) const BLOCK: usize = 16;
 
 /// The bytes of room in which the blocks of any run may be written: sixteen blocks of sixteen
 /// bytes.
@@ -31,22 +34,22 @@ fn write_pixel<const N: usize, const F: usize>(out: &mut [u8], at: usize, px: Ha
 #[inline(always)]
 pub(super) fn write_block<const N: usize, const F: usize>(out: &mut [u8], at: usize, px: Hashed)
     requires channels { IsChannels N }
-    requires room { at + 16 ≤ length out.old }
-    ensures { (count : ℕ) → count ≤ 16 / N → HasWritten F N (upto out.old at)
+    requires room { at + BLOCK ≤ length out.old }
+    ensures { (count : ℕ) → count ≤ BLOCK / N → HasWritten F N (upto out.old at)
         (upto out.new (at + N * count)) (replicate count (pixel_of_lanes px)) }
 {
-    px.block::<N, F>().copy_to_slice(&mut out[at..at + 16]);
+    px.block::<N, F>().copy_to_slice(&mut out[at..at + BLOCK]);
 }
 
 // Writes four blocks, each at the end of the whole pixels of the one before.
 #[inline(always)]
 fn write_four_blocks<const N: usize, const F: usize>(out: &mut [u8], at: usize, px: Hashed)
     requires channels { IsChannels N }
-    requires room { at + 64 ≤ length out.old }
-    ensures { (count : ℕ) → count ≤ 4 * (16 / N) → HasWritten F N (upto out.old at)
+    requires room { at + 4 * BLOCK ≤ length out.old }
+    ensures { (count : ℕ) → count ≤ 4 * (BLOCK / N) → HasWritten F N (upto out.old at)
         (upto out.new (at + N * count)) (replicate count (pixel_of_lanes px)) }
 {
-    let one = 16 / N;
+    let one = BLOCK / N;
     write_block::<N, F>(out, at, px);
     write_block::<N, F>(out, at + N * one, px);
     write_block::<N, F>(out, at + N * (2 * one), px);
@@ -68,7 +71,7 @@ pub(super) fn write_run<const N: usize, const F: usize>(
     ensures { HasWritten F N (upto out.old at)
         (upto out.new (at + N * count)) (replicate count (pixel_of_lanes px)) }
 {
-    let four = 4 * (16 / N);
+    let four = 4 * (BLOCK / N);
     write_four_blocks::<N, F>(out, at, px);
     if count > four {
         write_four_blocks::<N, F>(out, at + N * four, px);
@@ -110,8 +113,8 @@ fn fill<const N: usize, const F: usize>(
     ensures within { (at < result) × (result ≤ length out.new) }
 {
     let room = out.len() - at;
-    if count <= 16 / N {
-        if 16 <= room {
+    if count <= BLOCK / N {
+        if BLOCK <= room {
             write_block::<N, F>(out, at, px);
             return at + N * count;
         }

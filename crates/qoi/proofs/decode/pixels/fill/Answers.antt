@@ -4,11 +4,11 @@ use Rattle.qoi.specs.inner.Hashed.{pixel_of_lanes}
 use Rattle.qoi.proofs.decoding.FilledBuffer.{filled_copies, filled_end, block_fits, run_fits, copies_fit, copies_end}
 use Rattle.qoi.proofs.decode.pixels.fill.Goals as goal
 
-pub returns-then-room-ge16-clause-filled : goal.returns-then-room-ge16-clause-filled
-returns-then-room-ge16-clause-filled g c n past h =
+pub returns-then-room-ge-BLOCK-clause-filled : goal.returns-then-room-ge-BLOCK-clause-filled
+returns-then-room-ge-BLOCK-clause-filled g c n past h =
     let at = c.args.at in
     let count = c.args.count in
-    let fits = block_fits g.row.N at count (length c.args.out.now) c.requires.channels c.if-count.true (omega (arith, c.if-room-ge16.true, c.requires.inside)) in
+    let fits = block_fits g.row.N at count (length c.args.out.now) c.requires.channels c.if-count.true (omega (arith, c.if-room-ge-BLOCK.true, c.requires.inside)) in
     filled_copies g.row.F g.row.N n c.args.out.now c.write_block.new.out at count _ past c.requires.channels c.requires.inside fits c.write_block.auto.out (c.write_block.ensures count c.if-count.true) h
 
 pub returns-then-room-ge-RUN_ROOM-clause-filled : goal.returns-then-room-ge-RUN_ROOM-clause-filled
