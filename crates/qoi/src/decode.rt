@@ -480,8 +480,8 @@ impl<R: Reader> Decoder<R> {
 
         // The bytes ahead, if they are known: cut ones are `UnexpectedBufferEnd`, on a stream
         // `IoError`, and wrong ones `InvalidPadding`, on a stream that or `IoError`, unless memory
-        // runs out. Conversely, after `UnexpectedBufferEnd` they are cut, and after `InvalidPadding`
-        // they are wrong.
+        // runs out. Conversely, after `UnexpectedBufferEnd` they are cut, and after
+        // `InvalidPadding` they are wrong.
         ensures cut { (bytes : List ℕ) → R.ahead self.old.reader ≡ Some bytes
             → AreCut (pixel_count self.old.header) bytes
             → IsErrAnd result (λ e. (e ≡ Error.OutOfMemory) ⊎ IsErrorOfCut R.in_memory e) }

@@ -21,26 +21,9 @@ pub long_pixels : (n : ℕ) (bytes : List ℕ) → IsChannels n → 16 ≤ lengt
 long_pixels n bytes (inl e) l = rw e (three_long bytes l)
 long_pixels n bytes (inr e) l = rw e (four_long bytes l)
 
--- opaque pixels after an opaque one keep alpha
+-- an opaque pixel packed
 opaque_word : (r g b : ℕ) → r < 256 → g < 256 → b < 256 → (r + g * 2 ^ 8 + b * 2 ^ 16 + 255 * 2 ^ 24) / 2 ^ 24 ≡ 255
 opaque_word r g b lr lg lb = omega arith
-
-opaque_lanes : (bytes : List ℕ) (last : ℕ) → AreBytes bytes → 16 ≤ length bytes → last / 2 ^ 24 ≡ 255
-    → (let cur = map word (take 4 (pixels_of_3 bytes)) in SameAlpha cur (last ∷ take 3 cur))
-opaque_lanes (b0 ∷ b1 ∷ b2 ∷ b3 ∷ b4 ∷ b5 ∷ b6 ∷ b7 ∷ b8 ∷ b9 ∷ b10 ∷ b11 ∷ bytes) last h l e =
-    let x = opaque_word b0 b1 b2 (h 0) (h 1) (h 2) in
-    let y = opaque_word b3 b4 b5 (h 3) (h 4) (h 5) in
-    let z = opaque_word b6 b7 b8 (h 6) (h 7) (h 8) in
-    let w = opaque_word b9 b10 b11 (h 9) (h 10) (h 11) in
-    (x ∙ sym e, (y ∙ sym x, (z ∙ sym y, (w ∙ sym z, tt))))
-opaque_lanes _ last h l e = absurd (omega arith)
-
-pub quad_opaque : (n : ℕ) (bytes : List ℕ) (last : ℕ) (cur prev : List ℕ) → n ≡ 3 → AreBytes bytes → 16 ≤ length bytes → last / 2 ^ 24 ≡ 255
-    → cur ≡ map word (take 4 (pixels_of n bytes)) → prev ≡ last ∷ take 3 cur → SameAlpha cur prev
-quad_opaque n bytes last cur prev three h l e ce pe =
-    let is : cur ≡ map word (take 4 (pixels_of_3 bytes)) = ce ∙ ap (λ n. map word (take 4 (pixels_of n bytes))) three in
-    let old = pe ∙ ap (λ xs. last ∷ take 3 xs) is in
-    subst (λ xs. SameAlpha xs prev) (sym is) (subst (SameAlpha (map word (take 4 (pixels_of_3 bytes)))) (sym old) (opaque_lanes bytes last h l e))
 
 -- the lanes are numbers of 32 bits
 words_below : (ps : List RgbaPixel) (k : ℕ) → AllByRecursion IsPixel ps → slice_index (map word ps) k < 2 ^ 32
@@ -82,6 +65,20 @@ opaque_three _ h l k lt = absurd (omega arith)
 
 pub opaque_words : (n : ℕ) (bytes cur : List ℕ) → n ≡ 3 → AreBytes bytes → 16 ≤ length bytes → cur ≡ map word (take 4 (pixels_of n bytes)) → AreOpaqueWords cur
 opaque_words n bytes cur three h l ce = subst AreOpaqueWords (sym (ce ∙ ap (λ n. map word (take 4 (pixels_of n bytes))) three)) (opaque_three bytes h l)
+
+-- opaque pixels after an opaque one keep alpha
+pub same_alpha : (last : ℕ) (cur prev : List ℕ) → length cur ≡ 4 → AreOpaqueWords cur → last / 2 ^ 24 ≡ 255 → prev ≡ last ∷ take 3 cur → SameAlpha cur prev
+same_alpha last (x ∷ y ∷ z ∷ w ∷ []) prev l o e pe = subst (SameAlpha (x ∷ y ∷ z ∷ w ∷ [])) (sym pe) (
+  o 0 (omega arith) ∙ sym e,
+  (
+    o 1 (omega arith) ∙ sym (o 0 (omega arith)),
+    (
+      o 2 (omega arith) ∙ sym (o 1 (omega arith)),
+      (o 3 (omega arith) ∙ sym (o 2 (omega arith)), tt),
+    ),
+  ),
+)
+same_alpha last _ prev l o e pe = absurd (omega arith)
 
 -- alpha of a pixel packed
 pub word_alpha : (p : RgbaPixel) → IsPixel p → word p / 2 ^ 24 ≡ p.a

@@ -14,7 +14,7 @@ use std::simd::prelude::*;
 /// How many bytes are read for four pixels: those of four channels.
 pub(super) const READ: usize = 16;
 
-/// The bits of `repeating` if all four pixels repeat: the four lowest.
+/// What `repeating` gives if all four pixels repeat: four bits, each of which is set.
 pub(super) const ALL_REPEAT: u64 = 15;
 
 /// Four pixels and the ones before them, packed; their index positions; and the chunks that spell

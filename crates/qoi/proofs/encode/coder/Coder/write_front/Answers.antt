@@ -6,7 +6,7 @@ use Rattle.qoi.specs.inner.Lanes.{AreFourAfter}
 use Rattle.qoi.specs.inner.Piece.{kept_bytes}
 use Rattle.qoi.proofs.format.LaneRuns.{first_agrees}
 use Rattle.qoi.proofs.encoding.GroupRuns.{pixels_drop}
-use Rattle.qoi.proofs.encoding.QuadLoop.{cur_length, prev_length, quad_opaque, opaque_words, word_alpha}
+use Rattle.qoi.proofs.encoding.QuadLoop.{cur_length, prev_length, same_alpha, opaque_words, word_alpha}
 use Rattle.qoi.proofs.encoding.QuadSteps.{four_read, first_same, few_lanes}
 use Rattle.qoi.proofs.encode.coder.Coder.write_front.Given.{Over}
 use Rattle.qoi.proofs.encode.coder.Coder.write_front.Goals.{After-repeating-bits}
@@ -33,9 +33,10 @@ write_quad-requires g c =
     ∙ word_alpha c.args.self.now.last c.number.ensures.bytes ∙ c.args.self.now.opaque three in
     let opaque = λ (three : g.row.N ≡ 3). opaque_words g.row.N raw cur.result three (λ k. omega (arith, c.type_inv.data k)) c.requires.long
     cur.ensures.lanes in
-    let same_alpha = λ (three : g.row.N ≡ 3). quad_opaque g.row.N raw c.number.result cur.result c.pixels_before-prev.result three
-    (λ k. omega (arith, c.type_inv.data k)) c.requires.long (alpha three) cur.ensures.lanes c.pixels_before-prev.ensures.lanes in
-    (omega arith, (opaque, (same_alpha, (c.repeating-bits.ensures.bits, (c.if-bits-eq-ALL_REPEAT.false, c.requires.room)))))
+    let f = four g (goal.at.write_quad-requires g c).After-repeating-bits in
+    let same = λ (three : g.row.N ≡ 3). same_alpha c.number.result cur.result c.pixels_before-prev.result (cur_length f) (opaque three) (alpha three)
+    c.pixels_before-prev.ensures.lanes in
+    (omega arith, (opaque, (same, (c.repeating-bits.ensures.bits, (c.if-bits-eq-ALL_REPEAT.false, c.requires.room)))))
 
 pub returns-clause-inside : goal.returns-clause-inside
 returns-clause-inside g c = few_lanes g.row.N c.write_quad.result (length c.args.data.now) c.args.self.now.channels c.write_quad.ensures.lanes.1
