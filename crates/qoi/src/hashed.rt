@@ -128,7 +128,7 @@ impl Hashed {
         requires { IsChannels N }
         ensures { result ≡ take 16 (output F N (replicate 6 (pixel_of_lanes self))) }
     {
-        let lanes = if F == 4 {
+        let lanes = if N == 3 || F == 4 {
             self.0
         } else {
             self.0 % 0x1_0000_0000_0000 + 0x00ff_0000_0000_0000

@@ -1,5 +1,5 @@
 //! What the loops of slices and of streams put into the output: the pixels of chunks.
-ghost use Rattle.std.specs.Prelude.{◌≡◌, ℕ, ◌+◌, ◌*◌, ◌/◌, ◌%◌, ◌-◌, ◌<◌, ◌≤◌, [], ◌∷◌, ◌++◌, length, take, replicate, nat_le, nat_lt, ◌&&◌};
+ghost use Rattle.std.specs.Prelude.{◌≡◌, IsTrue, ℕ, ◌+◌, ◌*◌, ◌/◌, ◌%◌, ◌-◌, ◌<◌, ◌≤◌, [], ◌∷◌, ◌++◌, length, take, replicate, nat_le, nat_lt, ◌&&◌};
 ghost use Rattle.qoi.specs.Qoi.{Past, run_max, luma_tag, run_tag, rgb_tag};
 ghost use Rattle.qoi.specs.declared.decode.pixels.TheConstants.{BLOCK, RUN_ROOM};
 ghost use Rattle.qoi.specs.Raw.{IsChannels};
@@ -95,9 +95,22 @@ fn write_pixels<const N: usize, const F: usize>(out: &mut [u8], at: usize, px: H
     }
 }
 
-// Writes a pixel `count` times from `at` on, as far as there is room, and returns where it stopped.
+// How many bytes of room are known of after the first `at`: all, or if `ROOM` only that the blocks
+// of any run have room.
 #[inline(always)]
-fn fill<const N: usize, const F: usize>(
+fn known_room<const ROOM: bool>(size: usize, at: usize) -> usize
+    requires within { at ≤ size }
+    requires room { IsTrue ROOM → at + RUN_ROOM ≤ size }
+    ensures within { at + result ≤ size }
+    ensures all { result < RUN_ROOM → result ≡ size - at }
+{
+    if ROOM { RUN_ROOM } else { size - at }
+}
+
+// Writes a pixel `count` times from `at` on, as far as there is room, and returns where it stopped.
+// If `ROOM`, there is room for the blocks of any run, and how much is not tested.
+#[inline(always)]
+fn fill<const N: usize, const F: usize, const ROOM: bool>(
     out: &mut [u8],
     at: usize,
     px: Hashed,
@@ -106,13 +119,14 @@ fn fill<const N: usize, const F: usize>(
     requires channels { IsChannels N }
     requires whole { IsWholePixels N (length out.old) at }
     requires inside { at < length out.old }
+    requires room { IsTrue ROOM → at + RUN_ROOM ≤ length out.old }
     requires some { (0 < count) × (count ≤ run_max) }
     ensures filled { (n : ℕ) (past : Past) → HasFilled F N n (upto out.old at) past
         → HasFilled F N n (upto out.new result) (replicate count (pixel_of_lanes px) ++ past) }
     ensures whole { result % N ≡ 0 }
     ensures within { (at < result) × (result ≤ length out.new) }
 {
-    let room = out.len() - at;
+    let room = known_room::<ROOM>(out.len(), at);
     if count <= BLOCK / N {
         if BLOCK <= room {
             write_block::<N, F>(out, at, px);
@@ -157,10 +171,11 @@ pub(super) struct Decoded {
     pub(super) at: usize,
 }
 
-/// Decodes the first chunk of the bytes; how much room the output has is tested. Any chunk is whole
-/// in eight bytes, and after a short one there is a byte more, which is read with it.
+/// Decodes the first chunk of the bytes. If `ROOM`, the output has room for the blocks of any run;
+/// else how much it has is tested. Any chunk is whole in eight bytes, and after a short one there is
+/// a byte more, which is read with it.
 #[inline(always)]
-pub(super) fn decode_chunk<const N: usize, const F: usize>(
+pub(super) fn decode_chunk<const N: usize, const F: usize, const ROOM: bool>(
     table: &mut HashedTable,
     last: Hashed,
     bytes: &[u8],
@@ -171,6 +186,7 @@ pub(super) fn decode_chunk<const N: usize, const F: usize>(
     requires long { 8 ≤ length bytes.now }
     requires whole { IsWholePixels N (length out.old) at }
     requires inside { at < length out.old }
+    requires room { IsTrue ROOM → at + RUN_ROOM ≤ length out.old }
     ensures taken { result.taken ≤ length bytes.now }
     ensures decodes { DecodesChunk F N (take result.taken bytes.now)
         (filling table.old last out.old at)
@@ -192,6 +208,6 @@ pub(super) fn decode_chunk<const N: usize, const F: usize>(
     Decoded {
         taken,
         last,
-        at: fill::<N, F>(out, at, last, times(b1)),
+        at: fill::<N, F, ROOM>(out, at, last, times(b1)),
     }
 }

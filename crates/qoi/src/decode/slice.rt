@@ -47,7 +47,7 @@ fn last_chunks<'a, const N: usize, const F: usize>(
         if rest.len() < QOI_PADDING_SIZE {
             return None;
         }
-        let decoded = decode_chunk::<N, F>(table, last, rest, out, at);
+        let decoded = decode_chunk::<N, F, false>(table, last, rest, out, at);
         let (_, after) = rest.split_at(decoded.taken);
         rest = after;
         last = decoded.last;

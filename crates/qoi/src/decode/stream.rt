@@ -1,15 +1,15 @@
 //! Decoding an image from a stream.
-ghost use Rattle.std.specs.Prelude.{◌≡◌, ℕ, ◌/◌, ◌%◌, ◌<◌, ◌≤◌, List, [], ◌∷◌, length, IfOk, IfErr, OnOk, OnErr};
+ghost use Rattle.std.specs.Prelude.{◌≡◌, ℕ, ◌+◌, ◌/◌, ◌%◌, ◌<◌, ◌≤◌, List, [], ◌∷◌, length, IsTrue, IsFalse, Option, IfOk, IfErr, OnOk, OnErr};
 ghost use Rattle.std.specs.Io.KnownBytes.{Consumes};
 ghost use Rattle.qoi.specs.Qoi.{AreBytes, end_marker};
 ghost use Rattle.qoi.specs.Raw.{IsChannels};
+ghost use Rattle.qoi.specs.declared.decode.pixels.TheConstants.{RUN_ROOM};
 ghost use Rattle.qoi.specs.Verdicts.{IsPartOfChunk, EndsBefore};
 ghost use Rattle.qoi.specs.Decoding.{HasTaken, StreamsPixels, ReadsImage, RefusesTaken, RefusesTakenMarker};
-ghost use Rattle.qoi.specs.inner.Filling.{IsWholePixels, DecodesChunk, filling};
+ghost use Rattle.qoi.specs.inner.Filling.{IsWholePixels, DecodesChunk, DecoderBetween, filling};
 
-use crate::chunk::QOI_OP_LUMA_END;
-use crate::consts::{QOI_OP_LUMA, QOI_OP_RGB, QOI_OP_RGBA, QOI_PADDING, QOI_PADDING_SIZE};
-use crate::decode::pixels::{Decoded, decode_chunk};
+use crate::consts::{QOI_OP_RGB, QOI_PADDING, QOI_PADDING_SIZE};
+use crate::decode::pixels::{Decoded, RUN_ROOM, decode_chunk, is_luma};
 use crate::error::{Error, Result};
 use crate::hashed::Hashed;
 use crate::table::HashedTable;
@@ -24,8 +24,7 @@ fn ended() -> io::Error {
 
 // Fills the buffer from a stream by as many reads as it takes, and asks for no byte past it. An
 // interruption is a fault; so is the end of the stream.
-#[cold]
-#[inline(never)]
+#[inline(always)]
 fn read_rest<R: Read>(reader: &mut R, buf: &mut [u8]) -> io::Result<()>
     ensures read { OnOk result
         (Consumes (R.remaining reader.old) (R.remaining reader.new) buf.new) }
@@ -84,9 +83,10 @@ fn read_one<R: Read>(reader: &mut R) -> io::Result<u8>
     Ok(one[0])
 }
 
-// Reads one chunk from a stream, and no byte past it, and decodes it.
+// Reads one chunk from a stream, and no byte past it, and decodes it. If `ROOM`, the output has room
+// for the blocks of any run.
 #[inline(always)]
-fn next_chunk<R: Read, const N: usize, const F: usize>(
+fn next_chunk<R: Read, const N: usize, const F: usize, const ROOM: bool>(
     reader: &mut R,
     table: &mut HashedTable,
     last: Hashed,
@@ -96,6 +96,7 @@ fn next_chunk<R: Read, const N: usize, const F: usize>(
     requires channels { IsChannels N }
     requires whole { IsWholePixels N (length out.old) at }
     requires inside { at < length out.old }
+    requires room { IsTrue ROOM → at + RUN_ROOM ≤ length out.old }
     ensures read { IfOk result (λ decoded.
         HasTaken (R.remaining reader.old) (R.remaining reader.new)
         (λ taken. DecodesChunk F N taken (filling table.old last out.old at)
@@ -106,25 +107,62 @@ fn next_chunk<R: Read, const N: usize, const F: usize>(
         IsPartOfChunk) }
 {
     let b1 = read_one(reader)?;
-    match b1 {
-        QOI_OP_LUMA..=QOI_OP_LUMA_END => {
-            let b2 = read_one(reader)?;
-            Ok(decode_chunk::<N, F>(table, last, &[b1, b2, 0, 0, 0, 0, 0, 0], out, at))
-        }
-        QOI_OP_RGB => {
-            let mut more = [0, 0, 0];
-            read_exact(reader, &mut more)?;
-            let bytes = [b1, more[0], more[1], more[2], 0, 0, 0, 0];
-            Ok(decode_chunk::<N, F>(table, last, &bytes, out, at))
-        }
-        QOI_OP_RGBA => {
-            let mut more = [0, 0, 0, 0];
-            read_exact(reader, &mut more)?;
-            let bytes = [b1, more[0], more[1], more[2], more[3], 0, 0, 0];
-            Ok(decode_chunk::<N, F>(table, last, &bytes, out, at))
-        }
-        _ => Ok(decode_chunk::<N, F>(table, last, &[b1, 0, 0, 0, 0, 0, 0, 0], out, at)),
+    if is_luma(u32::from(b1)) {
+        let b2 = read_one(reader)?;
+        let bytes = [b1, b2, 0, 0, 0, 0, 0, 0];
+        return Ok(decode_chunk::<N, F, ROOM>(table, last, &bytes, out, at));
     }
+    if b1 < QOI_OP_RGB {
+        let bytes = [b1, 0, 0, 0, 0, 0, 0, 0];
+        return Ok(decode_chunk::<N, F, ROOM>(table, last, &bytes, out, at));
+    }
+    if b1 == QOI_OP_RGB {
+        let mut more = [0, 0, 0];
+        read_exact(reader, &mut more)?;
+        let bytes = [b1, more[0], more[1], more[2], 0, 0, 0, 0];
+        return Ok(decode_chunk::<N, F, ROOM>(table, last, &bytes, out, at));
+    }
+    let mut more = [0, 0, 0, 0];
+    read_exact(reader, &mut more)?;
+    let bytes = [b1, more[0], more[1], more[2], more[3], 0, 0, 0];
+    Ok(decode_chunk::<N, F, ROOM>(table, last, &bytes, out, at))
+}
+
+// Decodes chunks from a stream, after the pixel `last` and the first `at` bytes, and takes no byte
+// past the last of them: if `ROOM` as long as there is room for the blocks of any run, else until
+// `out` is full. Returns the last pixel, and where it stopped.
+fn decode_chunks<R: Read, const N: usize, const F: usize, const ROOM: bool>(
+    reader: &mut R,
+    table: &mut HashedTable,
+    last: Hashed,
+    out: &mut [u8],
+    at: usize,
+) -> io::Result<(Hashed, usize)>
+    requires channels { IsChannels N }
+    requires whole { IsWholePixels N (length out.old) at }
+    requires within { at ≤ length out.old }
+    ensures between { (n : ℕ) (start : Option (List ℕ))
+        → DecoderBetween F N n (Consumes start (R.remaining reader.old))
+        (filling table.old last out.old at)
+        → IfOk result (λ now. DecoderBetween F N n (Consumes start (R.remaining reader.new))
+        (filling table.new now.0 out.new now.1)) }
+    ensures whole { IfOk result (λ now. IsWholePixels N (length out.new) now.1) }
+    ensures within { IfOk result (λ now. now.1 ≤ length out.new) }
+    ensures full { IsFalse ROOM → IfOk result (λ now. length out.new ≤ now.1) }
+    ensures failed { (n : ℕ) (start : Option (List ℕ))
+        → DecoderBetween F N n (Consumes start (R.remaining reader.old))
+        (filling table.old last out.old at)
+        → OnErr result (HasTaken start (R.remaining reader.new) (EndsBefore n)) }
+{
+    let least = if ROOM { RUN_ROOM } else { 1 };
+    let mut last = last;
+    let mut at = at;
+    while least <= out.len() - at {
+        let decoded = next_chunk::<R, N, F, ROOM>(reader, table, last, out, at)?;
+        last = decoded.last;
+        at = decoded.at;
+    }
+    Ok((last, at))
 }
 
 // Decodes chunks from a stream until `out` is full, and takes no byte past the last of them.
@@ -140,13 +178,9 @@ fn stream_chunks<R: Read, const N: usize, const F: usize>(
         (EndsBefore (length out.old / N))) }
 {
     let mut table = HashedTable::new();
-    let mut last = Hashed::start();
-    let mut at = 0;
-    while at < out.len() {
-        let decoded = next_chunk::<R, N, F>(reader, &mut table, last, out, at)?;
-        last = decoded.last;
-        at = decoded.at;
-    }
+    let start = Hashed::start();
+    let (last, at) = decode_chunks::<R, N, F, true>(reader, &mut table, start, out, 0)?;
+    decode_chunks::<R, N, F, false>(reader, &mut table, last, out, at)?;
     Ok(())
 }
 

@@ -1,7 +1,8 @@
 -- The copies are written, and if not all have room, those that have fill the buffer.
-use Rattle.std.proofs.Common.{◌≤◌, length, arith}
+use Rattle.std.proofs.Common.{◌<◌, ◌≤◌, length, arith}
 use Rattle.qoi.specs.inner.Hashed.{pixel_of_lanes}
 use Rattle.qoi.proofs.decoding.FilledBuffer.{filled_copies, filled_end, block_fits, run_fits, copies_fit, copies_end}
+use Rattle.qoi.proofs.decode.pixels.fill.Goals.{then-count+else-room-ge-BLOCK, else-count+else-room-ge-RUN_ROOM}
 use Rattle.qoi.proofs.decode.pixels.fill.Goals as goal
 
 pub returns-then-room-ge-BLOCK-clause-filled : goal.returns-then-room-ge-BLOCK-clause-filled
@@ -25,8 +26,10 @@ returns-clause-filled g c n past h =
     let all = c.min-all.result in
     let is = c.requires.channels in
     let within : at ≤ size = omega (arith, c.requires.inside) in
+    let few : c.known_room-room.result < 256 = elim c.if-count.branch [ then-count+else-room-ge-BLOCK w ↦ omega arith | else-count+else-room-ge-RUN_ROOM w ↦ omega arith ] in
+    let left = c.known_room-room.ensures.all few in
     let ends = copies_end g.row.N at c.args.count size is c.requires.whole.0 c.requires.whole.1 within in
     filled_end g.row.F g.row.N n c.write_pixels.new.out _ all c.args.count (pixel_of_lanes c.args.px) past is (omega (arith, c.min-all.ensures))
-    (rw (c.min-all.ensures, c.write_pixels.auto.out) ends)
+    (rw (c.min-all.ensures, left, c.write_pixels.auto.out) ends)
     (filled_copies g.row.F g.row.N n c.args.out.now c.write_pixels.new.out at all _ past is c.requires.inside
-    (rw c.min-all.ensures (copies_fit g.row.N at c.args.count size is within)) c.write_pixels.auto.out c.write_pixels.ensures h)
+    (rw (c.min-all.ensures, left) (copies_fit g.row.N at c.args.count size is within)) c.write_pixels.auto.out c.write_pixels.ensures h)

@@ -1,27 +1,19 @@
--- A chunk more is taken, and at the end the buffer is full.
-use Rattle.std.proofs.KnownBytes.{Consumes-nil, Consumes-trans}
+-- Chunks are taken until there is no room for any run, and then until the buffer is full.
+use Rattle.std.proofs.Common.{refl}
+use Rattle.std.specs.Io.KnownBytes.{Consumes}
+use Rattle.std.proofs.KnownBytes.{Consumes-nil}
 use Rattle.qoi.proofs.Results.{on_err}
-use Rattle.qoi.specs.inner.Filling.{filling}
-use Rattle.qoi.proofs.decoding.Progress.{start_between, goes_on, streams_pixels, stream_ends}
+use Rattle.qoi.proofs.decoding.Progress.{start_between, streams_pixels}
 use Rattle.qoi.proofs.decode.stream.stream_chunks.Goals as goal
 
-pub returns-in_err-decoded-clause-failed : goal.returns-in_err-decoded-clause-failed
-returns-in_err-decoded-clause-failed g c =
-    let f = c.in_err-decoded.ensures.failed in
-    on_err _ (stream_ends _ _ _ f.0 c.requires.channels c.loop-at.invariant c.loop-at-test.true f.1 f.2)
-
-pub loop-at-init : goal.loop-at-init
-loop-at-init g c = start_between g.row.F g.row.N _ _ _ c.args.out.now c.requires.channels c.requires.whole c.new-table.ensures c.start-last.ensures
-    (Consumes-nil _)
-
-pub loop-at-preserved : goal.loop-at-preserved
-loop-at-preserved g c =
-    let (taken, took, decoded) = c.in_ok-decoded.ensures.read in
-    let to = c.in_ok-decoded.decoded in
-    goes_on {old = filling c.loop-at.table c.loop-at.last c.loop-at.out c.loop-at.at} {new = filling c.next_chunk.new.table to.last c.next_chunk.new.out to.at}
-    c.requires.channels c.loop-at.invariant c.loop-at-test.true decoded (λ before so_far. Consumes-trans _ _ _ before _ so_far took)
-    c.in_ok-decoded.ensures.within.1 c.in_ok-decoded.ensures.whole
+pub returns-in_err-decode_chunks-clause-failed : goal.returns-in_err-decode_chunks-clause-failed
+returns-in_err-decode_chunks-clause-failed g c =
+    let start = start_between g.row.F g.row.N (Consumes (g.R.Read.remaining c.args.reader.now) (g.R.Read.remaining c.args.reader.now)) _ _ c.args.out.now
+    c.requires.channels c.requires.whole c.new-table.ensures c.start-start.ensures (Consumes-nil _) in
+    on_err _ (c.in_err-decode_chunks.ensures.failed _ _ (c.in_ok-last.ensures.between _ _ start))
 
 pub returns-clause-read : goal.returns-clause-read
 returns-clause-read g c =
-    streams_pixels c.requires.channels c.loop-at.invariant c.loop-at-test.false
+    let start = start_between g.row.F g.row.N (Consumes (g.R.Read.remaining c.args.reader.now) (g.R.Read.remaining c.args.reader.now)) _ _ c.args.out.now
+    c.requires.channels c.requires.whole c.new-table.ensures c.start-start.ensures (Consumes-nil _) in
+    streams_pixels c.requires.channels (c.in_ok-decode_chunks.ensures.between _ _ (c.in_ok-last.ensures.between _ _ start)) (c.in_ok-decode_chunks.ensures.full refl)

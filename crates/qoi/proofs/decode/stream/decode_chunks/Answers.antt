@@ -1,0 +1,28 @@
+-- A chunk more is taken.
+use Rattle.std.proofs.Common.{◌<◌, length, arith, rules}
+use Rattle.std.proofs.KnownBytes.{Consumes-trans}
+use Rattle.qoi.proofs.Results.{on_err}
+use Rattle.qoi.specs.inner.Filling.{filling}
+use Rattle.qoi.proofs.decoding.Progress.{goes_on, stream_ends}
+use Rattle.qoi.proofs.decode.stream.decode_chunks.Goals.{then-this-ne0, else-this-ne0}
+use Rattle.qoi.proofs.decode.stream.decode_chunks.Goals as goal
+
+pub returns-in_err-decoded-clause-failed : goal.returns-in_err-decoded-clause-failed
+returns-in_err-decoded-clause-failed g c n start h =
+    let f = c.in_err-decoded.ensures.failed in
+    let inside : c.loop-out.at < length c.loop-out.out = elim c.if-this-ne0.branch [ then-this-ne0 w ↦ omega arith | else-this-ne0 w ↦ omega arith ] in
+    on_err _ (stream_ends _ _ _ f.0 c.requires.channels (c.loop-out.invariant.between n start h) inside f.1 f.2)
+
+pub loop-out-preserved : goal.loop-out-preserved
+loop-out-preserved g c =
+    let (taken, took, decoded) = c.in_ok-decoded.ensures.read in
+    let to = c.in_ok-decoded.decoded in
+    let inside : c.loop-out.at < length c.loop-out.out = elim c.if-this-ne0.branch [ then-this-ne0 w ↦ omega arith | else-this-ne0 w ↦ omega arith ] in
+    record {
+      whole = (search rules, c.in_ok-decoded.ensures.whole);
+      within = c.in_ok-decoded.ensures.within.1;
+      between = λ n start h.
+          goes_on {old = filling c.loop-out.table c.loop-out.last c.loop-out.out c.loop-out.at} {new = filling c.next_chunk.new.table to.last c.next_chunk.new.out to.at}
+          c.requires.channels (c.loop-out.invariant.between n start h) inside decoded (λ before so_far. Consumes-trans _ _ _ before _ so_far took)
+          c.in_ok-decoded.ensures.within.1 c.in_ok-decoded.ensures.whole;
+    }
