@@ -9,6 +9,7 @@ ghost use Rattle.qoi.specs.inner.Hashed.{pixel_of_lanes};
 use crate::chunk::QOI_OP_RUN_END;
 use crate::consts::{QOI_OP_LUMA, QOI_OP_RGB, QOI_OP_RGBA, QOI_OP_RUN};
 use crate::hashed::Hashed;
+use crate::steps::advance;
 use crate::table::HashedTable;
 
 /// How many bytes a block has: as many as a vector holds.
@@ -107,16 +108,19 @@ fn known_room<const ROOM: bool>(size: usize, at: usize) -> usize
     if ROOM { RUN_ROOM } else { size - at }
 }
 
-// Writes a pixel `count` times from `at` on, as far as there is room, and returns where it stopped.
-// If `ROOM`, there is room for the blocks of any run, and how much is not tested.
+// Writes a pixel `count` times from `at` on, which takes `size` bytes, as far as there is room, and
+// returns where it stopped. If `ROOM`, there is room for the blocks of any run, and how much there is
+// isn't tested.
 #[inline(always)]
 fn fill<const N: usize, const F: usize, const ROOM: bool>(
     out: &mut [u8],
     at: usize,
     px: Hashed,
     count: usize,
+    size: usize,
 ) -> usize
     requires channels { IsChannels N }
+    requires size { size ≡ N * count }
     requires whole { IsWholePixels N (length out.old) at }
     requires inside { at < length out.old }
     requires room { IsTrue ROOM → at + RUN_ROOM ≤ length out.old }
@@ -130,11 +134,11 @@ fn fill<const N: usize, const F: usize, const ROOM: bool>(
     if count <= BLOCK / N {
         if BLOCK <= room {
             write_block::<N, F>(out, at, px);
-            return at + N * count;
+            return at + size;
         }
     } else if RUN_ROOM <= room {
         write_run::<N, F>(out, at, px, count);
-        return at + N * count;
+        return at + size;
     }
     let all = count.min(room / N);
     write_pixels::<N, F>(out, at, px, all);
@@ -205,9 +209,10 @@ pub(super) fn decode_chunk<const N: usize, const F: usize, const ROOM: bool>(
         }
     };
     table.put(last);
+    let size = advance::<N>(b1 as usize);
     Decoded {
         taken,
         last,
-        at: fill::<N, F, ROOM>(out, at, last, times(b1)),
+        at: fill::<N, F, ROOM>(out, at, last, times(b1), size),
     }
 }

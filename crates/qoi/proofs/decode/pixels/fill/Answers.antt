@@ -10,14 +10,14 @@ returns-then-room-ge-BLOCK-clause-filled g c n past h =
     let at = c.args.at in
     let count = c.args.count in
     let fits = block_fits g.row.N at count (length c.args.out.now) c.requires.channels c.if-count.true (omega (arith, c.if-room-ge-BLOCK.true, c.requires.inside)) in
-    filled_copies g.row.F g.row.N n c.args.out.now c.write_block.new.out at count _ past c.requires.channels c.requires.inside fits c.write_block.auto.out (c.write_block.ensures count c.if-count.true) h
+    rw c.requires.size (filled_copies g.row.F g.row.N n c.args.out.now c.write_block.new.out at count _ past c.requires.channels c.requires.inside fits c.write_block.auto.out (c.write_block.ensures count c.if-count.true) h)
 
 pub returns-then-room-ge-RUN_ROOM-clause-filled : goal.returns-then-room-ge-RUN_ROOM-clause-filled
 returns-then-room-ge-RUN_ROOM-clause-filled g c n past h =
     let at = c.args.at in
     let count = c.args.count in
     let fits = run_fits g.row.N at count (length c.args.out.now) c.requires.channels c.requires.some.1 (omega (arith, c.if-room-ge-RUN_ROOM.true, c.requires.inside)) in
-    filled_copies g.row.F g.row.N n c.args.out.now c.write_run.new.out at count _ past c.requires.channels c.requires.inside fits c.write_run.auto.out c.write_run.ensures h
+    rw c.requires.size (filled_copies g.row.F g.row.N n c.args.out.now c.write_run.new.out at count _ past c.requires.channels c.requires.inside fits c.write_run.auto.out c.write_run.ensures h)
 
 pub returns-clause-filled : goal.returns-clause-filled
 returns-clause-filled g c n past h =
