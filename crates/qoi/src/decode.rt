@@ -6,9 +6,8 @@ ghost use Rattle.qoi.specs.declared.error.Error.{Error};
 ghost use Rattle.qoi.specs.Qoi.{header_of, pixel_count, IsFile, file, header_size, run_max};
 ghost use Rattle.qoi.specs.Verdicts.{IsWhole, AreWrong, AreCut};
 ghost use Rattle.qoi.specs.Decoding.{CouldHold, RefusesFileInto, RefusesStreamHeader, TakesHeader, RefusesFile, DecodesFile};
-ghost use Rattle.qoi.specs.declared.types.ColorSpace.{ColorSpace};
 ghost use Rattle.qoi.specs.declared.types.Style.{Style};
-ghost use Rattle.qoi.specs.Encoded.{image_header, IsFileOf};
+ghost use Rattle.qoi.specs.Encoded.{IsFileOf};
 ghost use Rattle.qoi.specs.DecoderState.{output_byte_count, DecodesImage, RefusesDecoding, TakesWithin};
 ghost use Rattle.qoi.specs.Reading.{IsDecoderOf, IsImage, IsImageFor};
 ghost use Rattle.qoi.specs.Images.{file_image, file_rest, front_image, front_rest};
@@ -105,9 +104,6 @@ pub fn decode_to_vec(alloc: Global, data: &[u8]) -> Result<(Header, Vec<u8>)>
     ensures image { IfOk result (λ x. (header_of «data».now ≡ Ok x.0)
         × (x.1.items ≡ file_image «data».now)) }
     ensures length { IfOk result (λ x. HasImageLength (capped_byte_count x.0) x.1.items) }
-    // An encoder accepts the raw bytes with the header's width and height.
-    ensures again { IfOk result (λ x. image_header x.1.items x.0.width x.0.height
-        ≡ Ok (record x.0 { colorspace = ColorSpace.Srgb })) }
 
     // The refusals.
     ensures refused { IfErr result (λ e. RefusesFile «data».now e

@@ -2,13 +2,11 @@
 use Rattle.std.proofs.Common.{Ok, ◌≡◌, length, [], append-nil, ℕ, List, drop, Some, refl, ap, sym, ◌∙◌, subst, inl, inr, ⊎_elim, arith}
 use Rattle.qoi.specs.declared.header.Header.{Header}
 use Rattle.std.proofs.lemmas.Result.{err_from_is_err_and}
-use Rattle.qoi.specs.Qoi.{channels_number, header_of, pixel_count, header_size}
+use Rattle.qoi.specs.Qoi.{header_of, pixel_count, header_size}
 use Rattle.qoi.specs.Verdicts.{IsWhole, AreWrong, AreCut}
 use Rattle.qoi.specs.Decoding.{DecodesFile, RefusesBytes}
 use Rattle.qoi.specs.DecoderState.{DecoderState}
 use Rattle.std.proofs.lemmas.List.{length-drop}
-use Rattle.qoi.specs.Raw.{byte_count, image_byte_count}
-use Rattle.qoi.proofs.decoding.EncodedAgain.{encoded_again}
 use Rattle.qoi.proofs.decoding.ImageSize.{bounded_by}
 use Rattle.qoi.proofs.decoding.OneFile.{header_is_one, file_has_header, file_is_whole, decodes_behind, decoding_is_one}
 use Rattle.qoi.proofs.decoding.FrontImage.{file_image_is}
@@ -117,12 +115,3 @@ pub returns-clause-image : goal.returns-clause-image
 returns-clause-image c =
     let decoded = returns-clause-decoded c in
     (decoded.1.header, file_image_is c.args.data.now c.header.result.now decoded.0 _ decoded.1)
-
-pub returns-clause-again : goal.returns-clause-again
-returns-clause-again c =
-    let d = c.in_ok-decoder.decoder in
-    let decoded = returns-clause-decoded c in
-    let same : c.header.result.now ≡ d.header = c.header.ensures ∙ ap (λ (s : DecoderState (List ℕ)). s.header) c.in_ok-out.ensures.unchanged in
-    let size : length c.in_ok-out.out.items ≡ image_byte_count d.header =
-    c.in_ok-out.ensures.length.0 ∙ ap (λ channels. byte_count d.header (channels_number channels)) c.in_ok-decoder.ensures.accepted.1 in
-    encoded_again c.header.result.now c.in_ok-out.out.items decoded.1.is_file.valid (size ∙ ap image_byte_count (sym same))

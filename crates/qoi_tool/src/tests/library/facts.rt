@@ -100,15 +100,6 @@ pub fn both_spaces(
     Ok((srgb, linear))
 }
 
-/// Encoding again. A decoded image is accepted with its header's width and height.
-pub fn encoded_again(alloc: Global, file: &[u8]) -> Result<Vec<u8>, Error> {
-    let (header, raw) = decode_to_vec(alloc, file)?;
-    match Encoder::new(&raw, header.width, header.height) {
-        Ok(encoder) => encoder.encode_to_vec(alloc),
-        Err(_) => unreachable!(),
-    }
-}
-
 /// Channels. An image of four channels, decoded in three, is its raw bytes without each fourth.
 pub fn rgb_of_rgba(
     alloc: Global,
@@ -204,6 +195,5 @@ fn sizes_and_spaces(rt: HostRuntime) -> Result<(), Error> {
     let mut changed = ONE_RGB_PIXEL;
     changed[13] = 1;
     assert_bytes(&rt, &linear, &changed);
-    assert_bytes(&rt, &encoded_again(alloc, &ONE_RGB_PIXEL)?, &ONE_RGB_PIXEL);
     Ok(())
 }
