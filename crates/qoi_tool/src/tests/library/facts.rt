@@ -1,5 +1,5 @@
 //! What users want to know of compositions of the calls. `file_ahead` alone has a proof file.
-ghost use Rattle.std.specs.Prelude.{◌≡◌, ◌+◌, ◌≤◌, ℕ, List, length, Option, Some, IfOk};
+ghost use Rattle.std.specs.Prelude.{◌≡◌, ◌+◌, ◌≤◌, ℕ, List, length, slice_set, Option, Some, IfOk};
 ghost use Rattle.qoi.specs.declared.header.Header.{Header};
 ghost use Rattle.qoi.specs.declared.types.Channels.{Channels};
 ghost use Rattle.qoi.specs.Decoding.{DecodesFile};
@@ -7,7 +7,10 @@ ghost use Rattle.qoi.specs.Raw.{without_fourth};
 
 use crate::tests::fakes::{ONE_RGB_PIXEL, PIXEL};
 use crate::tests::library::support::{assert_bytes, assert_header, assert_number};
-use qoi::{Channels, Decoder, Encoder, Error, Header, decode_header, decode_to_buf, decode_to_vec};
+use qoi::{
+    Channels, ColorSpace, Decoder, Encoder, Error, Header, decode_header, decode_to_buf,
+    decode_to_vec, encode_to_vec,
+};
 use std::alloc::Global;
 use std::io::Read;
 
@@ -56,6 +59,45 @@ pub fn header_back(
     let file = encoder.encode_to_vec(alloc)?;
     let header = decode_header(&file)?;
     Ok((header, *encoder.header()))
+}
+
+/// Headers. The header of a file has the width and the height that were given.
+pub fn size_back(alloc: Global, raw: &[u8], width: u32, height: u32) -> Result<Header, Error>
+    ensures { IfOk result (λ h. (h.width ≡ width) × (h.height ≡ height)) }
+{
+    let file = encode_to_vec(alloc, raw, width, height)?;
+    let header = decode_header(&file)?;
+    Ok(header)
+}
+
+/// Headers. So has the header that is decoded with the image.
+pub fn size_with_image(
+    alloc: Global,
+    raw: &[u8],
+    width: u32,
+    height: u32,
+) -> Result<(Header, Vec<u8>), Error>
+    ensures { IfOk result (λ x. (x.0.width ≡ width) × (x.0.height ≡ height)) }
+{
+    let file = encode_to_vec(alloc, raw, width, height)?;
+    let (header, back) = decode_to_vec(alloc, &file)?;
+    Ok((header, back))
+}
+
+/// Color spaces. In `Linear` the fourteenth byte is 1, and all else is as in `Srgb`.
+pub fn both_spaces(
+    alloc: Global,
+    raw: &[u8],
+    width: u32,
+    height: u32,
+) -> Result<(Vec<u8>, Vec<u8>), Error>
+    ensures changed { IfOk result (λ x. x.1.items ≡ slice_set x.0.items 13 1) }
+    ensures as_long { IfOk result (λ x. length x.1.items ≡ length x.0.items) }
+{
+    let srgb = Encoder::new(raw, width, height)?.encode_to_vec(alloc)?;
+    let encoder = Encoder::new(raw, width, height)?.with_colorspace(ColorSpace::Linear);
+    let linear = encoder.encode_to_vec(alloc)?;
+    Ok((srgb, linear))
 }
 
 /// Channels. An image of four channels, decoded in three, is its raw bytes without each fourth.
@@ -138,5 +180,20 @@ fn headers_channels_and_lengths(rt: HostRuntime) -> Result<(), Error> {
     let (_, rgb) = rgb_of_rgba(alloc, &[1, 2, 3, 4], 1, 1)?;
     assert_bytes(&rt, &rgb, &[1, 2, 3]);
     assert_number(&rt, took(alloc, &ONE_RGB_PIXEL)?, 0);
+    Ok(())
+}
+
+#[test]
+fn sizes_and_spaces(rt: HostRuntime) -> Result<(), Error> {
+    let alloc = rt.alloc();
+    assert_number(&rt, size_back(alloc, &PIXEL, 1, 1)?.n_pixels(), 1);
+    let (header, back) = size_with_image(alloc, &PIXEL, 1, 1)?;
+    assert_number(&rt, header.n_pixels(), 1);
+    assert_bytes(&rt, &back, &PIXEL);
+    let (srgb, linear) = both_spaces(alloc, &PIXEL, 1, 1)?;
+    assert_bytes(&rt, &srgb, &ONE_RGB_PIXEL);
+    let mut changed = ONE_RGB_PIXEL;
+    changed[13] = 1;
+    assert_bytes(&rt, &linear, &changed);
     Ok(())
 }

@@ -4,12 +4,18 @@ use Rattle.std.proofs.lemmas.List.{take_at}
 use Rattle.qoi.specs.Encoded.{IsFileOf}
 use Rattle.qoi.proofs.encode.Encoder.encode_to_vec.Goals as goal
 
-pub returns-clause-same : goal.returns-clause-same
-returns-clause-same c bytes f =
+-- the vector is the file
+own : (c : goal.After-truncate) → IsFileOf c.args.self.now.style c.args.self.now.header c.args.self.now.raw c.truncate.new.self.items
+own c =
     let self = c.args.self.now in
     let buf = c.encode_to_buf.new.buf in
     let file = c.in_ok-file.file in
     let written = take_at buf (drop (length buf) file.items) file.len (omega (arith, c.encode_to_buf.auto.buf, c.deref_mut.ensures.len)) in
     let items = c.truncate.ensures.items ∙ ap (take c.in_ok-size.size) written in
-    let own = subst (IsFileOf self.style self.header self.raw) (sym items) c.in_ok-size.ensures.front in
-    f.is_file.only c.truncate.new.self.items own.is_file.encoded
+    subst (IsFileOf self.style self.header self.raw) (sym items) c.in_ok-size.ensures.front
+
+pub returns-clause-same : goal.returns-clause-same
+returns-clause-same c bytes f = f.is_file.only c.truncate.new.self.items (own c).is_file.encoded
+
+pub returns-clause-space : goal.returns-clause-space
+returns-clause-space c space bytes f = (own c).is_file.color_space space bytes f.is_file.encoded
