@@ -7,6 +7,7 @@ ghost use Rattle.qoi.specs.Raw.{without_fourth};
 
 use crate::tests::fakes::{ONE_RGB_PIXEL, PIXEL};
 use crate::tests::library::support::{assert_bytes, assert_header, assert_number};
+use qoi::laws::reading::images_are_accepted;
 use qoi::{
     Channels, ColorSpace, Decoder, Encoder, Error, Header, decode_header, decode_to_buf,
     decode_to_vec, encode_to_vec,
@@ -135,6 +136,16 @@ pub fn file_ahead<R: Read + Drop>(alloc: Global, reader: R) -> Result<(Header, V
     Ok((header, raw))
 }
 
+/// Images that are decoded can be encoded again: an encoder accepts them.
+pub fn encoded_again(alloc: Global, file: &[u8]) -> Result<Vec<u8>, Error> {
+    let (header, raw) = decode_to_vec(alloc, file)?;
+    images_are_accepted();
+    match Encoder::new(&raw, header.width, header.height) {
+        Ok(encoder) => encoder.encode_to_vec(alloc),
+        Err(_) => unreachable!(),
+    }
+}
+
 /// Clones. A decoder of a slice and its clone give the same image.
 pub fn by_clone(alloc: Global, file: &[u8]) -> Result<(Vec<u8>, Vec<u8>), Error>
     ensures { IfOk result (λ x. x.0.items ≡ x.1.items) }
@@ -180,6 +191,7 @@ fn headers_channels_and_lengths(rt: HostRuntime) -> Result<(), Error> {
     let (_, rgb) = rgb_of_rgba(alloc, &[1, 2, 3, 4], 1, 1)?;
     assert_bytes(&rt, &rgb, &[1, 2, 3]);
     assert_number(&rt, took(alloc, &ONE_RGB_PIXEL)?, 0);
+    assert_bytes(&rt, &encoded_again(alloc, &ONE_RGB_PIXEL)?, &ONE_RGB_PIXEL);
     Ok(())
 }
 

@@ -1,9 +1,10 @@
 //! Callers that keep several files in one slice: of a pack the image whose file stands at an offset
-//! comes back, whatever follows it. None has a proof file.
-ghost use Rattle.std.specs.Prelude.{◌≡◌, ℕ, List, ◌++◌, drop, Option, Some, IfOk};
+//! comes back, whatever follows it. `put` and `three_tiles` alone have proof files.
+ghost use Rattle.std.specs.Prelude.{◌≡◌, ℕ, List, ◌++◌, drop, Option, Some, IfOk, OnOk};
 ghost use Rattle.qoi.specs.declared.header.Header.{Header};
 ghost use Rattle.qoi.specs.declared.types.Style.{Style};
 ghost use Rattle.qoi.specs.Encoded.{IsFileOf};
+ghost use Rattle.qoi_tool.specs.Files.{HasTile};
 
 use crate::tests::fakes::{ONE_RGB_PIXEL, PIXEL};
 use crate::tests::library::support::{assert_bytes, assert_number};
@@ -136,6 +137,52 @@ pub fn appended(
     Ok(back)
 }
 
+/// A tile is put at the end of an atlas. Returns its offset; the tiles before it stay where they are.
+pub fn put(atlas: &mut Vec<u8>, raw: &[u8], width: u32, height: u32) -> Result<usize, Error>
+    ensures put { IfOk result (λ offset. HasTile atlas.new.items offset raw.now) }
+    ensures kept { (offset : ℕ) (tile : List ℕ) → HasTile atlas.old.items offset tile
+        → OnOk result (HasTile atlas.new.items offset tile) }
+{
+    let offset = atlas.len();
+    Encoder::new(raw, width, height)?.encode_to_stream(atlas)?;
+    Ok(offset)
+}
+
+/// A tile is read back from its offset.
+pub fn get(alloc: Global, atlas: &[u8], offset: usize) -> Result<Vec<u8>, Error>
+    ensures { (tile : List ℕ) → HasTile atlas.now offset tile
+        → IfOk result (λ back. back.items ≡ tile) }
+{
+    if offset > atlas.len() {
+        return Err(Error::UnexpectedBufferEnd);
+    }
+    let mut decoder = Decoder::new(&atlas[offset..])?;
+    let back = decoder.decode_to_vec(alloc)?;
+    Ok(back)
+}
+
+/// Three tiles in an atlas, of which each is read back.
+pub fn three_tiles(
+    alloc: Global,
+    first: &[u8],
+    second: &[u8],
+    third: &[u8],
+    width: u32,
+    height: u32,
+) -> Result<(Vec<u8>, Vec<u8>, Vec<u8>), Error>
+    ensures { IfOk result (λ x. (x.0.items ≡ first.now) × (x.1.items ≡ second.now)
+        × (x.2.items ≡ third.now)) }
+{
+    let mut atlas = Vec::new(alloc);
+    let one = put(&mut atlas, first, width, height)?;
+    let two = put(&mut atlas, second, width, height)?;
+    let three = put(&mut atlas, third, width, height)?;
+    let first = get(alloc, &atlas, one)?;
+    let second = get(alloc, &atlas, two)?;
+    let third = get(alloc, &atlas, three)?;
+    Ok((first, second, third))
+}
+
 #[test]
 fn of_a_file_and_more(rt: HostRuntime) -> Result<(), Error> {
     let alloc = rt.alloc();
@@ -172,5 +219,9 @@ fn of_an_atlas(rt: HostRuntime) -> Result<(), Error> {
     assert_bytes(&rt, &appended(alloc, &mut atlas, &other, 1, 1)?, &other);
     // A file of one pixel has 22 bytes and a chunk: here an RGB of four bytes, and a luma of two.
     assert_number(&rt, atlas.len(), 26 + 24);
+    let (first, second, third) = three_tiles(alloc, &PIXEL, &other, &PIXEL, 1, 1)?;
+    assert_bytes(&rt, &first, &PIXEL);
+    assert_bytes(&rt, &second, &other);
+    assert_bytes(&rt, &third, &PIXEL);
     Ok(())
 }
