@@ -23,7 +23,8 @@ fn ended() -> io::Error {
 }
 
 // Fills the buffer from a stream by as many reads as it takes, and asks for no byte past it. An
-// interruption is a fault; so is the end of the stream.
+// interruption is a fault; so is the end of the stream. Inlined, so that the reader isn't lent to a
+// call in the loop over chunks, and the processor can keep it in registers.
 #[inline(always)]
 fn read_rest<R: Read>(reader: &mut R, buf: &mut [u8]) -> io::Result<()>
     ensures read { OnOk result
