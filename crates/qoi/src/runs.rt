@@ -1,6 +1,6 @@
 //! Repeats of a pixel in raw bytes.
 ghost use lib.Lanes.{mask_l, zip2};
-ghost use Rattle.std.specs.Prelude.{ℕ, List, nat_eq, slice_index, ◌≡◌, ◌↔◌, ◌+◌, ◌*◌, ◌≤◌, ◌<◌, ◌++◌, length, take, drop, replicate, IsTrue, slice_get, Some};
+ghost use Rattle.std.specs.Prelude.{ℕ, List, nat_eq, slice_index, ◌≡◌, ◌↔◌, ◌+◌, ◌*◌, ◌^◌, ◌≤◌, ◌<◌, ◌++◌, length, take, drop, replicate, IsTrue, slice_get, Some};
 ghost use Rattle.qoi.specs.Qoi.{RgbaPixel, rgba};
 ghost use Rattle.qoi.specs.Raw.{IsChannels, output, pixels_of};
 ghost use Rattle.qoi.specs.Runs.{IsCount};
@@ -10,7 +10,7 @@ ghost use Rattle.qoi.specs.inner.Lanes.{AreFourAfter, IsRun};
 use crate::packed::Packed;
 use crate::pixel::Pixel;
 use crate::utils::skip;
-use std::simd::u8x16;
+use std::simd::prelude::*;
 
 /// How many whole pixels at the front of `data` equal `px`.
 #[inline(always)]
@@ -45,26 +45,17 @@ pub(crate) fn repeats_of<const N: usize>(data: &[u8], px: Packed) -> usize
     ensures within { result ≤ length «data».now }
     ensures counted { IsCount px (pixels_of N «data».now) result }
 {
-    let (blocks, rest) = count_blocks::<N>(data, px);
-    blocks + count_pixels::<N>(rest, px)
-}
-
-// How many pixels the blocks of sixteen have that are `px` throughout, and the bytes after them.
-#[inline(always)]
-fn count_blocks<'a, const N: usize>(data: &'a [u8], px: Packed) -> (usize, &'a [u8])
-    requires channels { IsChannels N }
-    requires opaque { N ≡ 3 → px.a ≡ 255 }
-    ensures within { result.0 + length result.1.now ≤ length «data».entry.now }
-    ensures same { pixels_of N «data».entry.now
-        ≡ replicate result.0 px ++ pixels_of N result.1.now }
-{
     let mut count = 0;
     let mut rest = data;
-    while rest.len() >= N * 16 && is_block::<N>(rest, px) {
+    while rest.len() >= N * 16 {
+        let more = repeats_in_block::<N>(rest, px);
+        count += more;
+        if more < 16 {
+            return count;
+        }
         rest = skip(rest, N * 16);
-        count += 16;
     }
-    (count, rest)
+    count + count_pixels::<N>(rest, px)
 }
 
 // Counts pixel by pixel.
@@ -92,36 +83,50 @@ fn begins_with<const N: usize>(data: &[u8], px: Packed) -> bool
     data.len() >= N && Packed::read::<N>(data).is_same(px)
 }
 
-// Whether the first sixteen pixels are all `px`, by three or four vectors of sixteen bytes.
+// How many of the first sixteen pixels are `px`, up to the first that isn't.
 #[inline(always)]
-fn is_block<const N: usize>(bytes: &[u8], px: Packed) -> bool
+fn repeats_in_block<const N: usize>(bytes: &[u8], px: Packed) -> usize
     requires channels { IsChannels N }
     requires opaque { N ≡ 3 → px.a ≡ 255 }
     requires long { N * 16 ≤ length bytes.now }
-    ensures { IsTrue result
+    ensures within { result ≤ 16 }
+    ensures all { result ≡ 16
         → pixels_of N bytes.now ≡ replicate 16 px ++ pixels_of N (drop (N * 16) bytes.now) }
+    ensures counted { result < 16 → IsCount px (pixels_of N bytes.now) result }
 {
-    if !is_part::<N, 0>(bytes, px) {
-        return false;
-    }
-    if !is_part::<N, 1>(bytes, px) {
-        return false;
-    }
-    if !is_part::<N, 2>(bytes, px) {
-        return false;
-    }
-    N == 3 || is_part::<N, 3>(bytes, px)
+    let same = same_in_block::<N>(bytes, px);
+    (!same).trailing_zeros() as usize / N
 }
 
-// Whether the `PART`th sixteen bytes are those of `px` written again and again.
+// Which bytes are those of `px` written sixteen times: a bit for each, the lowest for the first.
 #[inline(always)]
-fn is_part<const N: usize, const PART: usize>(bytes: &[u8], px: Packed) -> bool
+fn same_in_block<const N: usize>(bytes: &[u8], px: Packed) -> u64
+    requires channels { IsChannels N }
+    requires long { N * 16 ≤ length bytes.now }
+    ensures bits { result ≡ mask_l (zip2 nat_eq bytes.now (output N N (replicate 16 px))) }
+{
+    let first = same_in_part::<N, 0>(bytes, px);
+    let second = same_in_part::<N, 1>(bytes, px);
+    let third = same_in_part::<N, 2>(bytes, px);
+    let three = first + (second << 16) + (third << 32);
+    if N == 3 {
+        return three;
+    }
+    three + (same_in_part::<N, 3>(bytes, px) << 48)
+}
+
+// The same of the `PART`th sixteen bytes.
+#[inline(always)]
+fn same_in_part<const N: usize, const PART: usize>(bytes: &[u8], px: Packed) -> u64
     requires channels { IsChannels N }
     requires part { PART < N }
     requires long { N * 16 ≤ length bytes.now }
-    ensures { IsTrue result → take 16 (drop (16 * PART) bytes.now)
-        ≡ take 16 (drop (16 * PART) (output N N (replicate 16 px))) }
+    ensures few { result < 2 ^ 16 }
+    ensures bits { result ≡ mask_l (zip2 nat_eq (take 16 (drop (16 * PART) bytes.now))
+        (take 16 (drop (16 * PART) (output N N (replicate 16 px))))) }
 {
     let part = skip(bytes, 16 * PART);
-    u8x16::from_slice(part) == px.block::<N, PART>()
+    u8x16::from_slice(part)
+        .simd_eq(px.block::<N, PART>())
+        .to_bitmask()
 }

@@ -1,10 +1,10 @@
 -- Bits that say which lanes of two vectors agree.
-use Rattle.std.proofs.Common.{◌≡◌, ◌≢◌, ℕ, zero, suc, ◌+◌, ◌-◌, ◌*◌, ◌/◌, ◌%◌, ◌^◌, ◌<◌, ◌≤◌, Bool, true, false, cond, eqb, eqb-true, List, [], ◌∷◌, length, drop, map, slice_index, refl, sym, ap, ◌∙◌, arith, w32, subst, length-drop}
+use Rattle.std.proofs.Common.{◌≡◌, ◌≢◌, ℕ, zero, suc, ◌+◌, ◌-◌, ◌*◌, ◌/◌, ◌%◌, ◌^◌, ◌<◌, ◌≤◌, Bool, true, false, cond, eqb, eqb-true, List, [], ◌∷◌, length, drop, map, slice_index, refl, sym, ap, ◌∙◌, arith, w32, subst, length-drop, pow_mono}
 use Rattle.std.specs.List.{common_prefix_len}
 use Rattle.std.proofs.Math.Nat.{pow-suc}
 use Rattle.std.proofs.lemmas.Bool.{eqb-false, eq-eqb}
 use Rattle.std.proofs.lemmas.List.{get_or-drop}
-use Rattle.std.proofs.lemmas.Nat.{shr-shr, shr_le}
+use Rattle.std.proofs.lemmas.Nat.{shr-shr}
 use Rattle.std.proofs.lemmas.Simd.{tops_compared, mask_l-mod, mask_l-lt, length-zip2}
 use lib.Count.{count_trailing_zeros, under}
 use lib.Lanes.{zip2, mask_l, top}
@@ -15,13 +15,6 @@ pub agree_bits : (xs ys : List ℕ) → length xs ≡ 4 → length ys ≡ 4
     → mask_l (map (top 31) (zip2 (λ a b. cond (eqb a b) 4294967295 0) xs ys)) % 2 ^ 64 ≡ mask_l (zip2 eqb xs ys)
 agree_bits xs ys e g = ap (λ ms. mask_l ms % 2 ^ 64) (tops_compared w32 eqb xs ys)
     ∙ mask_l-mod (zip2 eqb xs ys) 64 (omega (arith, length-zip2 eqb xs ys (e ∙ sym g)))
-
--- are four
-few_bits : (xs ys : List ℕ) (n : ℕ) → length xs ≡ 4 → length ys ≡ 4 → n ≡ mask_l (zip2 eqb xs ys) → n < 16
-few_bits xs ys n e g h =
-    let l : length (zip2 eqb xs ys) ≡ 4 = length-zip2 eqb xs ys (e ∙ sym g) ∙ e in
-    let m : mask_l (zip2 eqb xs ys) < 2 ^ 4 = subst (λ k. mask_l (zip2 eqb xs ys) < 2 ^ k) l (mask_l-lt (zip2 eqb xs ys)) in
-    omega arith
 
 -- half of the bits
 halved : (b : Bool) (m : ℕ) → (cond b 1 0 + 2 * m) / 2 ^ 1 ≡ m
@@ -47,22 +40,29 @@ even_under n t e = ap (λ d. under d t) e
 odd_under : (n t : ℕ) → n % 2 ≡ 1 → under (n % 2) t ≡ 0
 odd_under n t e = ap (λ d. under d t) e
 
-clear_step : (k : ℕ) (b : Bool) (m n c : ℕ) → cond b 1 0 + 2 * m + 1 < 2 ^ suc k → n ≡ 2 ^ suc k - 1 - (cond b 1 0 + 2 * m)
-    → (m + 1 < 2 ^ k → n / 2 ≡ 2 ^ k - 1 - m → count_trailing_zeros k (n / 2) ≡ c) → under (n % 2) (count_trailing_zeros k (n / 2)) ≡ cond b (1 + c) 0
+clear_step : (k : ℕ) (b : Bool) (m n c : ℕ) → m < 2 ^ k → n ≡ 2 ^ suc k - 1 - (cond b 1 0 + 2 * m)
+    → (n / 2 ≡ 2 ^ k - 1 - m → count_trailing_zeros k (n / 2) ≡ c) → under (n % 2) (count_trailing_zeros k (n / 2)) ≡ cond b (1 + c) 0
 clear_step k true m n c l h f =
     even_under n (count_trailing_zeros k (n / 2)) (omega (arith, pow-suc 2 k))
-    ∙ omega (arith, f (omega (arith, pow-suc 2 k)) (omega (arith, pow-suc 2 k)))
+    ∙ omega (arith, f (omega (arith, pow-suc 2 k)))
 clear_step k false m n c l h f = odd_under n (count_trailing_zeros k (n / 2)) (omega (arith, pow-suc 2 k))
 
-first_clear : (k : ℕ) (xs ys : List ℕ) (n : ℕ) → length xs ≡ length ys → mask_l (zip2 eqb xs ys) + 1 < 2 ^ k → n ≡ 2 ^ k - 1 - mask_l (zip2 eqb xs ys)
+pub first_clear : (k : ℕ) (xs ys : List ℕ) (n : ℕ) → length (zip2 eqb xs ys) ≤ k → n ≡ 2 ^ k - 1 - mask_l (zip2 eqb xs ys)
     → count_trailing_zeros k n ≡ common_prefix_len eqb xs ys
 unfolding count_trailing_zeros
-first_clear zero xs ys n e l h = absurd (omega arith)
-first_clear (suc k) [] ys n e l h =
+first_clear zero [] ys n l h = refl
+first_clear zero (x ∷ xs) [] n l h = refl
+first_clear zero (x ∷ xs) (y ∷ ys) n l h = absurd (omega arith)
+first_clear (suc k) [] ys n l h =
+    let some : 2 ^ 0 ≤ 2 ^ k = pow_mono {i = 0} {j = k} (omega arith) in
     odd_under n (count_trailing_zeros k (n / 2)) (omega (arith, pow-suc 2 k))
-first_clear (suc k) (x ∷ xs) [] n e l h = absurd (omega arith)
-first_clear (suc k) (x ∷ xs) (y ∷ ys) n e l h =
-    clear_step k (eqb x y) (mask_l (zip2 eqb xs ys)) n (common_prefix_len eqb xs ys) l h (λ small. first_clear k xs ys (n / 2) (omega arith) small)
+first_clear (suc k) (x ∷ xs) [] n l h =
+    let some : 2 ^ 0 ≤ 2 ^ k = pow_mono {i = 0} {j = k} (omega arith) in
+    odd_under n (count_trailing_zeros k (n / 2)) (omega (arith, pow-suc 2 k))
+first_clear (suc k) (x ∷ xs) (y ∷ ys) n l h =
+    let few : length (zip2 eqb xs ys) ≤ k = omega arith in
+    clear_step k (eqb x y) (mask_l (zip2 eqb xs ys)) n (common_prefix_len eqb xs ys)
+    (omega (arith, mask_l-lt (zip2 eqb xs ys), pow_mono few)) h (first_clear k xs ys (n / 2) few)
 
 -- as many are the same, and no more
 record IsPrefix (xs ys : List ℕ) (n : ℕ) : Type 0 where
@@ -102,11 +102,8 @@ pub agreeing_run : (xs ys : List ℕ) (bits at : ℕ) → length xs ≡ 4 → le
 agreeing_run xs ys bits at e g l h =
     let d : length (drop at xs) ≡ length (drop at ys) = omega (arith, length-drop at xs, length-drop at ys) in
     let m : bits / 2 ^ at ≡ mask_l (zip2 eqb (drop at xs) (drop at ys)) = ap (λ z. z / 2 ^ at) h ∙ bits_from at xs ys (e ∙ sym g) (omega arith) in
-    let small : mask_l (zip2 eqb (drop at xs) (drop at ys)) < 16 = few_from at bits m (few_bits xs ys bits e g h) in
-    run_of xs ys at _ e g l (first_clear 64 (drop at xs) (drop at ys) _ d (omega arith) (omega arith))
-  where
-    few_from : (at bits : ℕ) {m : ℕ} → bits / 2 ^ at ≡ m → bits < 16 → m < 16
-    few_from at bits e f = omega (arith, shr_le bits at)
+    let few : length (zip2 eqb (drop at xs) (drop at ys)) ≤ 64 = omega (arith, length-zip2 eqb (drop at xs) (drop at ys) d, length-drop at xs) in
+    run_of xs ys at _ e g l (first_clear 64 (drop at xs) (drop at ys) _ few (omega arith))
 
 -- if no bit is set each lane is a group of none
 pub none_agree : (xs ys : List ℕ) → length xs ≡ length ys → mask_l (zip2 eqb xs ys) ≡ 0 → (k : ℕ) → k < length xs → slice_index xs k ≢ slice_index ys k

@@ -1,7 +1,7 @@
 -- The pixels so far repeat.
 use Rattle.std.proofs.Common.{length}
 use Rattle.qoi.proofs.encoding.GroupRuns.{RepeatsSoFar}
-use Rattle.qoi.proofs.runs.count_blocks.Given as goal
+use Rattle.qoi.proofs.runs.repeats_of.Given as goal
 
 abbrev pub invariant-loop-rest : goal.invariant-loop-rest
 invariant-loop-rest g l = RepeatsSoFar g.row.N l.data l.rest l.px l.count
