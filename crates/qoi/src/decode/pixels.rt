@@ -96,8 +96,8 @@ fn write_pixels<const N: usize, const F: usize>(out: &mut [u8], at: usize, px: H
     }
 }
 
-// How many bytes of room are known of after the first `at`: all, or if `ROOM` only that the blocks
-// of any run have room.
+// How many bytes of room to rely on after the first `at`: all that there are, or if `ROOM` just
+// those of the blocks of any run, without a test.
 #[inline(always)]
 fn known_room<const ROOM: bool>(size: usize, at: usize) -> usize
     requires within { at ≤ size }
@@ -108,9 +108,9 @@ fn known_room<const ROOM: bool>(size: usize, at: usize) -> usize
     if ROOM { RUN_ROOM } else { size - at }
 }
 
-// Writes a pixel `count` times from `at` on, which takes `size` bytes, as far as there is room, and
-// returns where it stopped. If `ROOM`, there is room for the blocks of any run, and how much there is
-// isn't tested.
+// Writes a pixel `count` times from `at` on, or as often as there is room, and returns where it
+// stopped. All of them have `size` bytes. If `ROOM`, there is room for the blocks of any run, and
+// how much there is isn't tested.
 #[inline(always)]
 fn fill<const N: usize, const F: usize, const ROOM: bool>(
     out: &mut [u8],
@@ -176,8 +176,8 @@ pub(super) struct Decoded {
 }
 
 /// Decodes the first chunk of the bytes. If `ROOM`, the output has room for the blocks of any run;
-/// else how much it has is tested. Any chunk is whole in eight bytes, and after a short one there is
-/// a byte more, which is read with it.
+/// else how much it has is tested. A chunk has at most five bytes. The second byte is read even if
+/// the chunk has only one.
 #[inline(always)]
 pub(super) fn decode_chunk<const N: usize, const F: usize, const ROOM: bool>(
     table: &mut HashedTable,

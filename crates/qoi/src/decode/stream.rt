@@ -84,8 +84,8 @@ fn read_one<R: Read>(reader: &mut R) -> io::Result<u8>
     Ok(one[0])
 }
 
-// Reads one chunk from a stream, and no byte past it, and decodes it. If `ROOM`, the output has room
-// for the blocks of any run.
+// Reads one chunk from a stream, and no byte past it, and decodes it. If `ROOM`, the output has
+// room for the blocks of any run.
 #[inline(always)]
 fn next_chunk<R: Read, const N: usize, const F: usize, const ROOM: bool>(
     reader: &mut R,
@@ -178,6 +178,7 @@ fn stream_chunks<R: Read, const N: usize, const F: usize>(
     ensures failed { OnErr result (HasTaken (R.remaining reader.old) (R.remaining reader.new)
         (EndsBefore (length out.old / N))) }
 {
+    // First as long as any run has room, and then to the end, with every test.
     let mut table = HashedTable::new();
     let start = Hashed::start();
     let (last, at) = decode_chunks::<R, N, F, true>(reader, &mut table, start, out, 0)?;

@@ -62,10 +62,10 @@ impl<const N: usize> Coder<N> {
         }
     }
 
-    // The byte of a single repeat that is left of a group of `count` after runs of 62, if a fresh
-    // pixel follows: a run of 1, or in style `Places` the index position, if a fresh pixel came and
-    // the chunk before isn't that position (of more than one repeat it is a run). If no single one
-    // is left, it isn't used.
+    // The byte of the single repeat that is left of a group of `count` after runs of 62, if a fresh
+    // pixel follows: a run of 1; but in style `Places` the index position, if a fresh pixel came
+    // before and the chunk before isn't that position (if `count` is above 1, it is a run of 62).
+    // If no single repeat is left, the byte isn't used.
     #[inline(always)]
     fn single_repeat(&self, count: usize) -> u8
         ensures { bytes_of (single self.now count) ≡ result ∷ [] }
@@ -77,9 +77,9 @@ impl<const N: usize> Coder<N> {
         }
     }
 
-    // The state after `count` repeats of the last pixel, which were written. Style `Tight` puts the
-    // pixel at its index position, too; that changes the table only before the first fresh pixel,
-    // since later it stands there already.
+    // Updates the table and `placed` after `count` repeats of the last pixel, none or more, were
+    // written. Style `Tight` puts the pixel at its index position, too; that changes the table only
+    // before the first fresh pixel, since later it stands there already.
     #[inline(always)]
     fn after_repeats(&mut self, table: &mut Table, count: usize)
         ensures same { (self.new.last ≡ self.old.last) × (self.new.style ≡ self.old.style) }
@@ -95,10 +95,11 @@ impl<const N: usize> Coder<N> {
         self.placed = self.placed & (count == 0);
     }
 
-    // The chunk of a fresh pixel that doesn't stand at its index position: a number that has its
-    // bytes, and how many. It is the one passed, the first that spells the pixel out; but in style
-    // `Tight`, of transparent black, the least position where no pixel was put (the first that
-    // holds transparent black, as its own doesn't), if there is one.
+    // The chunk of the fresh pixel `px` if it doesn't stand at its index position: a number that
+    // has the chunk's bytes, and how many. If `stands`, it does, and the result isn't used. It is
+    // the chunk that is passed, the first that spells the pixel out; but in style `Tight`, for
+    // transparent black, the least index position that holds transparent black, if there is one.
+    // (No pixel was put there: transparent black is put only at its own position, 0.)
     #[inline(always)]
     fn fresh_chunk(
         &self,
@@ -146,11 +147,11 @@ impl<const N: usize> Coder<N> {
     {
         let px = Packed::of_number(quad.pixels[lane]);
         let place = (quad.places[lane] % 256) as u8;
-        let placed = table.at(place).is_same(px);
+        let stands = table.at(place).is_same(px);
         let (number, size) = self.fresh_chunk(
             table,
             px,
-            placed,
+            stands,
             quad.numbers[lane],
             quad.sizes[lane],
         );
@@ -160,10 +161,10 @@ impl<const N: usize> Coder<N> {
             last: px,
             place,
             begun: true,
-            placed,
+            placed: stands,
         };
-        let number = pick(placed, u32::from(place), number);
-        piece.keep_chunk::<N>(quad.pixels[lane], number, pick(placed, 1, size));
+        let number = pick(stands, u32::from(place), number);
+        piece.keep_chunk::<N>(quad.pixels[lane], number, pick(stands, 1, size));
     }
 
     // Writes the chunks of all four pixels, each of which is fresh.
@@ -182,9 +183,9 @@ impl<const N: usize> Coder<N> {
         self.write_fresh(table, piece, quad, 3);
     }
 
-    // Writes the run of the repeats from a lane on, if there are any, and the chunk of the fresh
-    // pixel that follows them; returns the lane after that pixel. If all up to the last lane
-    // repeat, or no lane is left, it writes nothing and returns the lane that it was called with.
+    // Writes the run of the repeats from a lane on, if there are any, and then the chunk of the
+    // fresh pixel after them; returns the lane after that pixel. If no fresh pixel comes from that
+    // lane on, it writes nothing and returns the lane that it was called with.
     #[inline(always)]
     fn write_to_fresh(
         &mut self,
@@ -247,12 +248,13 @@ impl<const N: usize> Coder<N> {
             self.write_four_fresh(table, piece, &quad);
             return 4;
         }
+        // One of the four repeats, so at most three are fresh: a call for each.
         let lane = self.write_to_fresh(table, piece, &quad, bits, 0);
         let lane = self.write_to_fresh(table, piece, &quad, bits, lane);
         self.write_to_fresh(table, piece, &quad, bits, lane)
     }
 
-    // Writes the runs of the repeats at the front, none or up to 992, and returns how many repeats.
+    // Writes the runs of the repeats at the front, at most 992, and returns how many.
     #[inline(always)]
     fn write_runs(&mut self, table: &mut Table, piece: &mut Piece, data: &[u8]) -> usize
         requires whole { length «data».now % N ≡ 0 }
@@ -268,8 +270,10 @@ impl<const N: usize> Coder<N> {
             → BytesBetween w (drop (N * result) «data».now) table.new self.new piece.new }
     {
         let (near, _) = data.split_at(data.len().min(N * REPEATS_MAX));
+        // If more than 992 repeat, 992 are counted: sixteen runs of 62, so `one` isn't used.
         let count = repeats_of::<N>(near, self.last);
         let one = if N * count == data.len() {
+            // An index position stands for a repeat only if a fresh pixel follows.
             QOI_OP_RUN
         } else {
             self.single_repeat(count)
@@ -279,9 +283,9 @@ impl<const N: usize> Coder<N> {
         count
     }
 
-    // Reads the first four pixels. If all four repeat, writes the runs of the repeats at the front,
-    // as `write_runs` does, else the chunks of these four up to the last fresh one. Returns how
-    // many pixels were written.
+    // Writes chunks for the pixels at the front, at least one pixel. If the first four all repeat,
+    // these are the runs of `write_runs`; else the chunks of the four up to the last fresh one.
+    // Returns how many pixels were written.
     #[inline(always)]
     fn write_front(&mut self, table: &mut Table, piece: &mut Piece, data: &[u8]) -> usize
         requires whole { length «data».now % N ≡ 0 }
@@ -329,8 +333,8 @@ impl<const N: usize> Coder<N> {
         rest
     }
 
-    // Of the pixels at the end, writes the runs of the repeats at the front and the chunk of the
-    // fresh pixel that follows them, if there is one. Returns how many pixels these are.
+    // Writes one group of the last bytes: the runs of the repeats at the front and the chunk of the
+    // fresh pixel after them, if there is one. Returns how many pixels these are.
     #[inline(always)]
     fn write_next(&mut self, table: &mut Table, piece: &mut Piece, data: &[u8]) -> usize
         requires whole { length «data».now % N ≡ 0 }

@@ -22,10 +22,10 @@ pub(super) const PIECE: usize = 4096;
 /// those of the last pixels and the end marker), and what is stored after that and means nothing.
 pub(super) const ROOM: usize = PIECE + 128;
 
-/// The most runs that are kept at a time, stored at once as a vector; and then the repeats that
-/// they give, 992.
+/// The most runs that are kept at a time, stored at once as a vector.
 pub(super) const RUNS_MAX: usize = 16;
 
+/// The repeats of that many runs: 992.
 pub(super) const REPEATS_MAX: usize = RUNS_MAX * QOI_RUN_MAX;
 
 /// Bytes that are kept: the first `end` ones of a room. Those after them mean nothing.

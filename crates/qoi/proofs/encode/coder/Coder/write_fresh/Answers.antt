@@ -54,14 +54,14 @@ returns-clause-written g c w rest last_is differs b =
     let spelled = spells.1 in
     let i = slice_index quad.places c.args.lane % 256 in
     let at_place : i ≡ hash p = byte g (goal.at.returns-clause-written g c).After-of_number-px in
-    let same = c.is_same-placed.result in
+    let same = c.is_same-stands.result in
     let held : c.at.result ≡ seen (held_in style past) i = c.at.ensures (held_in style past) state.table_is in
     let first : IsFirst past p chunk = subst (λ x. IsFirst past x chunk) (sym p_is) (spelled.first past b.to_write.before (sym state.last_is ∙ last_is)) in
-    let there = test_there style past p c.at.result i at_place held same c.is_same-placed.ensures in
+    let there = test_there style past p c.at.result i at_place held same c.is_same-stands.ensures in
     let other = λ (n : seen (held_in style past) (hash p) ≢ p).
     c.fresh_chunk-number.ensures.choice past alpha chunk state.table_is there spelled.chunk spelled.bytes first n in
     let d = fresh_chosen style past p c.at.result i at_place held same alpha
-    c.fresh_chunk-number.result.0 c.fresh_chunk-number.result.1 c.is_same-placed.ensures other in
+    c.fresh_chunk-number.result.0 c.fresh_chunk-number.result.1 c.is_same-stands.ensures other in
     let fresh : p ≢ c.args.self.now.last = λ e. differs (sym p_is ∙ e) in
     let new = λ (e : _). fresh (e ∙ sym state.last_is) in
     let number_is = c.pick-number.ensures ∙ ap (λ n. if same then n else c.fresh_chunk-number.result.0) c.from.ensures in
