@@ -61,7 +61,7 @@ pub record IsEncoded (Lists : List RgbaPixel → List Chunk → Type 0) (h : Hea
   pub written : Lists (image_pixels h raw) cs
   pub bytes_are : bytes ≡ file h cs
 
--- The file of the image, where `Lists` says which lists are written for an image: the header is
+-- The file of the image, by the rule `Lists` of which lists are written for an image: the header is
 -- valid, and there are as many raw bytes as it says; there is one file, of at least 23 bytes and at
 -- most `max_file_len`; it comes back whatever follows it; another color space changes its one byte
 -- alone; and no two neighbouring chunks of its list name the same index position.

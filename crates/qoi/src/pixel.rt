@@ -229,7 +229,7 @@ impl<const N: usize> Pixel<N> {
             × Spells self.now px_prev.entry c
             × WroteBeginning W.wrote buf.old (bytes_of c) buf.new) }
     {
-        let quad = Quad::<N>::alone(self.packed(), px_prev.packed());
+        let quad = Quad::<N>::splat(self.packed(), px_prev.packed());
         let mut bytes = [0; 8];
         let end = put_chunk::<N>(
             &mut bytes,

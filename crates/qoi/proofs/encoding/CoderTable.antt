@@ -43,10 +43,6 @@ module _ (style : Style) (past : Past) (px at : RgbaPixel) (i : ℕ) (place : i 
   there : at ≡ seen (held_in style past) (hash px)
   there = is ∙ ap (seen (held_in style past)) place
 
-  -- the test whether it is the pixel
-  pub test_there : (same : Bool) → (IsTrue same ↔ (at ≡ px)) → IsTrue same ↔ (seen (held_in style past) (hash px) ≡ px)
-  test_there same test = (λ t. sym there ∙ test.0 t, λ e. test.1 (there ∙ e))
-
   -- it isn't
   not_there : (IsTrue false ↔ (at ≡ px)) → seen (held_in style past) (hash px) ≢ px
   not_there test e = absurd (let no : false ≡ true = test.1 (there ∙ e) in cc)

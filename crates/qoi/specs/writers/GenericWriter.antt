@@ -1,4 +1,4 @@
--- A writer of the standard library, behind a reference.
+-- A writer of the standard library, by reference.
 use base.Fml.{GName}
 use Rattle.std.specs.Prelude.{◌≡◌, ℕ, ◌+◌, List, length, Option}
 use Rattle.std.specs.Io.KnownBytes.{Appends}
@@ -19,8 +19,7 @@ stream_writer s = s.writer.now
 abbrev pub stream_room : {W : Type 0} → GenericWriter W → ℕ
 stream_room s = s.room
 
--- it is the same writer, and where its contract states its bytes, the bytes stand after those
--- before
+-- it is the same writer, and if its contract states its bytes, the bytes stand after those before
 pub record StreamWrote {W : Type 0} (contents : W → Option (List ℕ)) (s : GenericWriter W) (bytes : List ℕ) (t : GenericWriter W) : Type 0 where
   pub same_writer : stream_name t ≡ stream_name s
   pub appended : Appends (contents (stream_writer s)) (contents (stream_writer t)) bytes

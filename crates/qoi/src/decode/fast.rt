@@ -1,5 +1,5 @@
-//! The loop over the chunks in a slice while there is room ahead for four of them, whose ends need
-//! then be tested once.
+//! The loop over the chunks in a slice while there is room ahead for four short ones and a full one,
+//! for which both ends are tested once.
 ghost use Rattle.std.specs.Prelude.{◌≡◌, ◌↔◌, IsTrue, ℕ, ◌+◌, ◌-◌, ◌/◌, ◌%◌, ◌<◌, ◌≤◌, [], length};
 ghost use Rattle.qoi.specs.Qoi.{run_tag, rgb_tag};
 ghost use Rattle.qoi.specs.Raw.{IsChannels};

@@ -14,8 +14,7 @@ use crate::types::Channels::{self, Rgb, Rgba};
 use crate::types::Style::{self, Places, Reference, Tight};
 use crate::utils::Writer;
 
-// Writes the chunks of an image's raw bytes, `N` bytes a pixel, into the piece, and sends the
-// writer 4096 bytes whenever the piece has as many; the last ones stay in the piece.
+// `encode_chunks` for `N` channels.
 #[inline(always)]
 fn encode_pixels<W: Writer, const N: usize>(
     buf: &mut W,
@@ -46,8 +45,8 @@ fn encode_pixels<W: Writer, const N: usize>(
     }
 }
 
-/// Writes the chunks of an image's raw bytes, of this many channels, into the piece, and sends the
-/// writer 4096 bytes whenever the piece has as many; the last ones stay in the piece.
+/// Writes an image's raw bytes as chunks into the piece, and sends 4096 bytes to the writer each
+/// time it is full. What the last pixels add stays in the piece, even if that fills it.
 pub(super) fn encode_chunks<W: Writer>(
     buf: &mut W,
     piece: &mut Piece,
@@ -65,7 +64,7 @@ pub(super) fn encode_chunks<W: Writer>(
     ensures refused { IfErr result (λ e. W.IsFault e × BeganChunks W.wrote style
         (pixels_of (channels_number channels) «data».now) buf.old piece.old buf.new) }
 {
-    // Each pair has a loop of its own, in which the style is known.
+    // A loop for each pair, in which channels and style are constants.
     match (channels, style) {
         (Rgb, Reference) => encode_pixels::<W, 3>(buf, piece, Reference, data),
         (Rgb, Places) => encode_pixels::<W, 3>(buf, piece, Places, data),

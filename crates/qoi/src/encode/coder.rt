@@ -1,9 +1,8 @@
-//! The coder: pixels to chunks, four pixels at a time (QOI specification 1.0, "Data" and "Chunks").
-//! Written means here: kept in the piece.
+//! Writes pixels as chunks into a piece, four at a time (QOI specification 1.0, "Data", "Chunks").
 ghost use lib.Lanes.{mask_l, zip2};
-ghost use Rattle.std.specs.Prelude.{◌≡◌, ◌≢◌, ℕ, ◌+◌, ◌*◌, ◌/◌, ◌%◌, ◌<◌, ◌≤◌, ◌↔◌, IsTrue, nat_eq, List, [], ◌∷◌, ◌++◌, Option, None, Some, length, drop, replicate, slice_get, slice_index};
+ghost use Rattle.std.specs.Prelude.{◌≡◌, ◌≢◌, ℕ, ◌+◌, ◌*◌, ◌/◌, ◌%◌, ◌<◌, ◌≤◌, nat_eq, List, [], ◌∷◌, ◌++◌, Option, None, Some, length, drop, replicate, slice_get, slice_index};
 ghost use Rattle.qoi.specs.declared.chunk.Chunk.{Chunk};
-ghost use Rattle.qoi.specs.declared.encode.piece.TheConstants.{PIECE, ROOM, RUNS_MAX, REPEATS_MAX};
+ghost use Rattle.qoi.specs.declared.encode.piece.TheConstants.{PIECE, ROOM, RUNS_AT_ONCE, REPEATS_AT_ONCE};
 ghost use Rattle.qoi.specs.declared.encode.quad.TheConstants.{ALL_REPEAT, READ};
 ghost use Rattle.qoi.specs.Qoi.{RgbaPixel, Past, run_max, chunk_max, previous, seen, hash, IsChunk, bytes_of};
 ghost use Rattle.qoi.specs.Raw.{IsChannels, IsChannels-prop, pixels_of};
@@ -16,7 +15,7 @@ ghost use Rattle.qoi.specs.inner.Piece.{kept_bytes};
 ghost use Rattle.qoi.specs.inner.Table.{Holds};
 
 use crate::consts::QOI_OP_RUN;
-use crate::encode::piece::{Piece, REPEATS_MAX};
+use crate::encode::piece::{Piece, REPEATS_AT_ONCE};
 use crate::encode::quad::{ALL_REPEAT, Quad, READ, pixels_before, read_four, repeating};
 use crate::packed::{Packed, pick};
 use crate::runs::{repeats_in_quad, repeats_of};
@@ -27,9 +26,8 @@ use std::simd::u32x4;
 
 /// What is known between two pixels: the style; the pixel `last` and its index position `place`;
 /// `begun`, whether a fresh pixel came, one that differs from the pixel before it; and `placed`,
-/// whether the chunk that was written last is the index position `place`. The table of the 64
-/// positions is passed beside it, so that the processor keeps these few in registers. Pixels of
-/// three channels are opaque.
+/// whether `last` was written as `place`, with no repeat since. The table is passed beside it, so
+/// that these few stay in registers.
 #[derive(Drop)]
 pub(super) struct Coder<const N: usize> {
     style: Style,
@@ -45,7 +43,7 @@ pub(super) struct Coder<const N: usize> {
 impl<const N: usize> Coder<N> {
     ghost use Rattle.qoi.specs.inner.CoderLoop.{CoderAfter, single, Writing, CoderBetween, BytesBetween, lane_pixel, before_lane, in_four, AtLane};
 
-    /// Before the first pixel: opaque black.
+    /// The coder before the first pixel, as if opaque black came before.
     pub(super) fn new(style: Style) -> Coder<N>
         requires { IsChannels N }
         ensures style { result.style ≡ style }
@@ -62,12 +60,11 @@ impl<const N: usize> Coder<N> {
         }
     }
 
-    // The byte of the single repeat that is left of a group of `count` after runs of 62, if a fresh
-    // pixel follows: a run of 1; but in style `Places` the index position, if a fresh pixel came
-    // before and the chunk before isn't that position (if `count` is above 1, it is a run of 62).
-    // If no single repeat is left, the byte isn't used.
+    // The byte of the single repeat that runs of 62 leave of `count` before a fresh pixel: a run of
+    // 1, or in style `Places` the index position, if a fresh pixel came before and the chunk before
+    // isn't that position (a run of 62 never is). Unused if no single repeat is left.
     #[inline(always)]
-    fn single_repeat(&self, count: usize) -> u8
+    fn single_repeat_byte(&self, count: usize) -> u8
         ensures { bytes_of (single self.now count) ≡ result ∷ [] }
     {
         let named = self.begun & ((count > 1) | !self.placed);
@@ -77,11 +74,10 @@ impl<const N: usize> Coder<N> {
         }
     }
 
-    // Updates the table and `placed` after `count` repeats of the last pixel, none or more, were
-    // written. Style `Tight` puts the pixel at its index position, too; that changes the table only
-    // before the first fresh pixel, since later it stands there already.
+    // Updates the table and `placed` for `count` repeats, none or more. Only style `Tight` puts the
+    // pixel at its position; that changes the table only before the first fresh pixel.
     #[inline(always)]
-    fn after_repeats(&mut self, table: &mut Table, count: usize)
+    fn update_after_repeats(&mut self, table: &mut Table, count: usize)
         ensures same { (self.new.last ≡ self.old.last) × (self.new.style ≡ self.old.style) }
         ensures state { (past : Past) (before : Option Chunk)
             → CoderAfter past before table.old self.old
@@ -95,24 +91,14 @@ impl<const N: usize> Coder<N> {
         self.placed = self.placed & (count == 0);
     }
 
-    // The chunk of the fresh pixel `px` if it doesn't stand at its index position: a number that
-    // has the chunk's bytes, and how many. If `stands`, it does, and the result isn't used. It is
-    // the chunk that is passed, the first that spells the pixel out; but in style `Tight`, for
-    // transparent black, the least index position that holds transparent black, if there is one.
-    // (No pixel was put there: transparent black is put only at its own position, 0.)
+    // The chunk of a fresh pixel, as number and size, if it isn't at its index position: the one
+    // that is passed, but in style `Tight`, for transparent black, the least position that holds
+    // it, if there is one (no pixel was put there).
     #[inline(always)]
-    fn fresh_chunk(
-        &self,
-        table: &Table,
-        px: Packed,
-        stands: bool,
-        number: u32,
-        size: u32,
-    ) -> (u32, u32)
-        ensures few { (n : ℕ) → 1 ≤ n → size ≤ n → result.1 ≤ n }
+    fn chunk_if_absent(&self, table: &Table, px: Packed, number: u32, size: u32) -> (u32, u32)
+        ensures few { size ≤ N + 1 → result.1 ≤ N + 1 }
         ensures choice { (past : Past) (alpha : ℕ) (c : Chunk)
             → Holds table.now (held_in self.now.style past)
-            → (IsTrue stands ↔ (seen (held_in self.now.style past) (hash px) ≡ px))
             → IsChunk c → HasBytes alpha number size c → IsFirst past px c
             → seen (held_in self.now.style past) (hash px) ≢ px
             → (d : Chunk) × IsChunk d × HasBytes alpha result.0 result.1 d
@@ -121,7 +107,7 @@ impl<const N: usize> Coder<N> {
         match self.style {
             Reference | Places => (number, size),
             Tight => {
-                if px.is_same(Packed::blank()) & !stands {
+                if px.is_same(Packed::blank()) {
                     if let Some(place) = table.first_blank() {
                         return (u32::from(place), 1);
                     }
@@ -131,8 +117,8 @@ impl<const N: usize> Coder<N> {
         }
     }
 
-    // Writes the chunk of the pixel in a lane of the four, which is fresh: its index position if it
-    // stands there, else that of `fresh_chunk`. Then the pixel stands there, and is the last one.
+    // Writes the fresh pixel of a lane: by its index position if it stands there, else as
+    // `chunk_if_absent` has it. Then puts it at its position, and it is the last pixel.
     #[inline(always)]
     fn write_fresh(&mut self, table: &mut Table, piece: &mut Piece, quad: &Quad<N>, lane: usize)
         requires room { piece.old.end + chunk_max ≤ ROOM }
@@ -148,13 +134,7 @@ impl<const N: usize> Coder<N> {
         let px = Packed::of_number(quad.pixels[lane]);
         let place = (quad.places[lane] % 256) as u8;
         let stands = table.at(place).is_same(px);
-        let (number, size) = self.fresh_chunk(
-            table,
-            px,
-            stands,
-            quad.numbers[lane],
-            quad.sizes[lane],
-        );
+        let (number, size) = self.chunk_if_absent(table, px, quad.numbers[lane], quad.sizes[lane]);
         table.put(place, px);
         *self = Coder {
             style: self.style,
@@ -183,11 +163,10 @@ impl<const N: usize> Coder<N> {
         self.write_fresh(table, piece, quad, 3);
     }
 
-    // Writes the run of the repeats from a lane on, if there are any, and then the chunk of the
-    // fresh pixel after them; returns the lane after that pixel. If no fresh pixel comes from that
-    // lane on, it writes nothing and returns the lane that it was called with.
+    // Writes the repeats from a lane on and the fresh pixel after them, and returns the lane after
+    // it. If no fresh pixel comes, writes nothing and returns `lane`. `bits` is by `repeating`.
     #[inline(always)]
-    fn write_to_fresh(
+    fn write_through_fresh(
         &mut self,
         table: &mut Table,
         piece: &mut Piece,
@@ -213,9 +192,9 @@ impl<const N: usize> Coder<N> {
         if lane + count > 3 {
             return lane;
         }
-        let one = self.single_repeat(count);
+        let one = self.single_repeat_byte(count);
         piece.keep_run(count, one);
-        self.after_repeats(table, count);
+        self.update_after_repeats(table, count);
         self.write_fresh(table, piece, quad, lane + count);
         lane + count + 1
     }
@@ -248,20 +227,20 @@ impl<const N: usize> Coder<N> {
             self.write_four_fresh(table, piece, &quad);
             return 4;
         }
-        // One of the four repeats, so at most three are fresh: a call for each.
-        let lane = self.write_to_fresh(table, piece, &quad, bits, 0);
-        let lane = self.write_to_fresh(table, piece, &quad, bits, lane);
-        self.write_to_fresh(table, piece, &quad, bits, lane)
+        // At least one of the four repeats, so at most three are fresh: a call for each.
+        let lane = self.write_through_fresh(table, piece, &quad, bits, 0);
+        let lane = self.write_through_fresh(table, piece, &quad, bits, lane);
+        self.write_through_fresh(table, piece, &quad, bits, lane)
     }
 
-    // Writes the runs of the repeats at the front, at most 992, and returns how many.
+    // Writes the runs of the repeats at the front, at most 992, and returns how many repeats.
     #[inline(always)]
     fn write_runs(&mut self, table: &mut Table, piece: &mut Piece, data: &[u8]) -> usize
         requires whole { length «data».now % N ≡ 0 }
-        requires room { piece.old.end + RUNS_MAX < ROOM }
+        requires room { piece.old.end + RUNS_AT_ONCE < ROOM }
         ensures end { piece.new.end ≤ piece.old.end + result / run_max + 1 }
         ensures inside { N * result ≤ length «data».now }
-        ensures most { result ≤ REPEATS_MAX }
+        ensures most { result ≤ REPEATS_AT_ONCE }
         ensures last { self.new.last ≡ self.old.last }
         ensures counted { length «data».now < READ
             → IsCount self.old.last (pixels_of N «data».now) result }
@@ -269,23 +248,22 @@ impl<const N: usize> Coder<N> {
         ensures written { (w : Writing) → BytesBetween w «data».now table.old self.old piece.old
             → BytesBetween w (drop (N * result) «data».now) table.new self.new piece.new }
     {
-        let (near, _) = data.split_at(data.len().min(N * REPEATS_MAX));
+        let (near, _) = data.split_at(data.len().min(N * REPEATS_AT_ONCE));
         // If more than 992 repeat, 992 are counted: sixteen runs of 62, so `one` isn't used.
         let count = repeats_of::<N>(near, self.last);
         let one = if N * count == data.len() {
             // An index position stands for a repeat only if a fresh pixel follows.
             QOI_OP_RUN
         } else {
-            self.single_repeat(count)
+            self.single_repeat_byte(count)
         };
         piece.keep_runs(count, one);
-        self.after_repeats(table, count);
+        self.update_after_repeats(table, count);
         count
     }
 
-    // Writes chunks for the pixels at the front, at least one pixel. If the first four all repeat,
-    // these are the runs of `write_runs`; else the chunks of the four up to the last fresh one.
-    // Returns how many pixels were written.
+    // Writes at least one pixel at the front: by `write_runs` if the first four all repeat, else by
+    // `write_quad`. Returns how many pixels were written.
     #[inline(always)]
     fn write_front(&mut self, table: &mut Table, piece: &mut Piece, data: &[u8]) -> usize
         requires whole { length «data».now % N ≡ 0 }
@@ -306,8 +284,7 @@ impl<const N: usize> Coder<N> {
         self.write_quad(table, piece, cur, prev, bits)
     }
 
-    /// Writes the chunks of pixels until the piece is full or fewer than sixteen raw bytes are
-    /// left, and returns the raw bytes that are left.
+    /// Writes until the piece is full or fewer than `READ` raw bytes are left; returns the rest.
     #[inline(always)]
     pub(super) fn fill<'a>(
         &mut self,
@@ -333,14 +310,13 @@ impl<const N: usize> Coder<N> {
         rest
     }
 
-    // Writes one group of the last bytes: the runs of the repeats at the front and the chunk of the
-    // fresh pixel after them, if there is one. Returns how many pixels these are.
+    // Writes the repeats at the front and the next fresh pixel, if any; returns how many pixels.
     #[inline(always)]
     fn write_next(&mut self, table: &mut Table, piece: &mut Piece, data: &[u8]) -> usize
         requires whole { length «data».now % N ≡ 0 }
         requires some { 0 < length «data».now }
         requires few { length «data».now < READ }
-        requires room { piece.old.end + RUNS_MAX < ROOM }
+        requires room { piece.old.end + RUNS_AT_ONCE < ROOM }
         ensures end { piece.new.end ≤ piece.old.end + 2 * (N * result) }
         ensures inside { N * result ≤ length «data».now }
         ensures some { 0 < result }
@@ -352,7 +328,7 @@ impl<const N: usize> Coder<N> {
         if after.is_empty() {
             return count;
         }
-        let quad = Quad::alone(Packed::read::<N>(after), self.last);
+        let quad = Quad::splat(Packed::read::<N>(after), self.last);
         self.write_fresh(table, piece, &quad, 0);
         count + 1
     }

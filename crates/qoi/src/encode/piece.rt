@@ -3,7 +3,7 @@ ghost use lib.Lanes.{digits_l};
 ghost use Rattle.std.specs.Prelude.{◌≡◌, ◌+◌, ◌*◌, ◌/◌, ◌^◌, ◌<◌, ◌≤◌, [], ◌∷◌, ◌++◌, length, take, drop, IsTrue, IsFalse, OnOk, IfErr};
 ghost use Rattle.std.specs.List.{copy_within};
 ghost use Rattle.qoi.specs.declared.chunk.Chunk.{Chunk};
-ghost use Rattle.qoi.specs.declared.encode.piece.TheConstants.{PIECE, ROOM, RUNS_MAX, REPEATS_MAX};
+ghost use Rattle.qoi.specs.declared.encode.piece.TheConstants.{PIECE, ROOM, RUNS_AT_ONCE, REPEATS_AT_ONCE};
 ghost use Rattle.qoi.specs.Qoi.{run_max, chunk_max, bytes_of, chunk_bytes};
 ghost use Rattle.qoi.specs.Raw.{IsChannels};
 ghost use Rattle.qoi.specs.Runs.{runs_by};
@@ -23,10 +23,10 @@ pub(super) const PIECE: usize = 4096;
 pub(super) const ROOM: usize = PIECE + 128;
 
 /// The most runs that are kept at a time, stored at once as a vector.
-pub(super) const RUNS_MAX: usize = 16;
+pub(super) const RUNS_AT_ONCE: usize = 16;
 
 /// The repeats of that many runs: 992.
-pub(super) const REPEATS_MAX: usize = RUNS_MAX * QOI_RUN_MAX;
+pub(super) const REPEATS_AT_ONCE: usize = RUNS_AT_ONCE * QOI_RUN_MAX;
 
 /// Bytes that are kept: the first `end` ones of a room. Those after them mean nothing.
 #[derive(Drop)]
@@ -40,7 +40,7 @@ pub(super) struct Piece<'a> {
 impl<'a> Piece<'a> {
     ghost use Rattle.qoi.specs.inner.Piece.{kept_bytes};
 
-    /// No bytes, in this room.
+    /// An empty piece in this room.
     #[inline(always)]
     pub(super) fn new(room: &'a mut [u8]) -> Piece<'a>
         requires { length room.old ≡ ROOM }
@@ -61,7 +61,7 @@ impl<'a> Piece<'a> {
         self.end >= PIECE
     }
 
-    /// Keeps these bytes, too, after those that are kept.
+    /// Appends these bytes.
     #[inline(always)]
     pub(super) fn keep(&mut self, v: &[u8])
         requires { self.old.end + length v.now ≤ ROOM }
@@ -70,8 +70,7 @@ impl<'a> Piece<'a> {
         self.end = copy_after(self.bytes, self.end, v);
     }
 
-    /// Keeps a chunk of `size` bytes, too: the lowest ones of the number and, if there is a fifth,
-    /// the pixel's alpha.
+    /// Appends a chunk of `size` bytes, as `put_chunk` stores it.
     #[inline(always)]
     pub(super) fn keep_chunk<const N: usize>(&mut self, px: u32, number: u32, size: u32)
         requires channels { IsChannels N }
@@ -84,8 +83,7 @@ impl<'a> Piece<'a> {
         self.end = put_chunk::<N>(self.bytes, self.end, px, number, size);
     }
 
-    /// Keeps the run of fewer than 62 repeats, too, or nothing if there are none; a single one is
-    /// given by the byte `one`.
+    /// Appends the run of fewer than 62 repeats, if there are any; a single one is the byte `one`.
     #[inline(always)]
     pub(super) fn keep_run(&mut self, count: usize, one: u8)
         requires room { self.old.end < ROOM }
@@ -98,18 +96,19 @@ impl<'a> Piece<'a> {
         self.end += usize::from(count > 0);
     }
 
-    /// Keeps the runs of at most 992 repeats, too; a single one that is left after runs of 62 is
-    /// given by the byte `one`.
+    /// Appends the runs of at most 992 repeats; a single one that is left after runs of 62 is the
+    /// byte `one`.
     #[inline(always)]
     pub(super) fn keep_runs(&mut self, count: usize, one: u8)
-        requires room { self.old.end + RUNS_MAX < ROOM }
-        requires few { count ≤ REPEATS_MAX }
+        requires room { self.old.end + RUNS_AT_ONCE < ROOM }
+        requires few { count ≤ REPEATS_AT_ONCE }
         ensures kept { (c : Chunk) → bytes_of c ≡ one ∷ []
             → kept_bytes self.new ≡ kept_bytes self.old ++ chunk_bytes (runs_by c count) }
         ensures end { self.new.end ≤ self.old.end + count / run_max + 1 }
     {
+        // Sixteen runs of 62 are stored, and as many of them kept as there are.
         u8x16::splat(QOI_OP_RUN - 1 + QOI_RUN_MAX as u8).copy_to_slice(
-            &mut self.bytes[self.end..self.end + RUNS_MAX],
+            &mut self.bytes[self.end..self.end + RUNS_AT_ONCE],
         );
         self.end += count / QOI_RUN_MAX;
         self.keep_run(count % QOI_RUN_MAX, one);
@@ -131,7 +130,7 @@ impl<'a> Piece<'a> {
         Ok(())
     }
 
-    /// Sends all the bytes to a writer: a full piece, if there is one, and then the others.
+    /// Sends all the bytes to a writer, a full piece first if there is one. It isn't emptied then.
     #[inline(always)]
     pub(super) fn finish<W: Writer>(&mut self, buf: &mut W) -> Result<()>
         requires { self.old.end ≤ W.room buf.old }

@@ -8,6 +8,7 @@ ghost use Rattle.qoi.specs.Raw.{IsChannels, pixels_of};
 ghost use Rattle.qoi.specs.inner.Packed.{word};
 ghost use Rattle.qoi.specs.inner.Lanes.{step_word, diff_word, luma_word, green_twice, diff_number, luma_number, rgb_number, full_number, full_count, KeepAlpha, spelled_number, spelled_count, SameAlpha, IsSpelled, AreOpaqueWords, AreFour, places_of};
 
+use crate::consts::{QOI_OP_DIFF, QOI_OP_LUMA, QOI_OP_RGB};
 use crate::packed::Packed;
 use std::simd::prelude::*;
 
@@ -37,7 +38,7 @@ pub(crate) struct Quad<const N: usize> {
 }
 
 impl<const N: usize> Quad<N> {
-    /// The four pixels `cur`, after the pixels `prev` before them.
+    /// The quad of the pixels `cur`, each after its pixel in `prev`.
     #[inline(always)]
     pub(super) fn new(cur: u32x4, prev: u32x4) -> Quad<N>
         requires channels { IsChannels N }
@@ -56,9 +57,9 @@ impl<const N: usize> Quad<N> {
         }
     }
 
-    /// One pixel after the one before it, four times.
+    /// The quad of the pixel `px` after the pixel `last`, in each lane.
     #[inline(always)]
-    pub(crate) fn alone(px: Packed, last: Packed) -> Quad<N>
+    pub(crate) fn splat(px: Packed, last: Packed) -> Quad<N>
         requires channels { IsChannels N }
         requires opaque { N ≡ 3 → px.a ≡ 255 }
         requires same_alpha { N ≡ 3 → px.a ≡ last.a }
@@ -111,11 +112,12 @@ pub(super) fn repeating(cur: u32x4, prev: u32x4) -> u64
 fn places(cur: u32x4) -> u32x4
     ensures lanes { result ≡ places_of cur }
 {
+    // 3, 5, 7 and 11, for red, green, blue and alpha.
     let weights = u32x4::splat(0x0b07_0503).to_le_bytes();
     cur.to_le_bytes().dot4(weights) & u32x4::splat(63)
 }
 
-// What each channel of `prev` needs added to give that of `cur`; it wraps at 256.
+// The steps from `prev` to `cur`, channel by channel, modulo 256.
 #[inline(always)]
 #[tactic(auto, using(crate::proofs::format::Quads::steps_lanes))]
 fn steps(cur: u32x4, prev: u32x4) -> u32x4
@@ -133,7 +135,7 @@ fn diff_steps(steps: u32x4) -> u32x4
     u32x4::from_le_bytes(steps.to_le_bytes() + u32x4::splat(0x0002_0202).to_le_bytes())
 }
 
-// Green's steps, in the bytes of red and of blue.
+// Green's steps, copied to the bytes of red and of blue; the other bytes are 0.
 #[inline(always)]
 fn greens(steps: u32x4) -> u32x4
     ensures lanes { result ≡ map green_twice steps }
@@ -142,8 +144,7 @@ fn greens(steps: u32x4) -> u32x4
     g + (g << u32x4::splat(16))
 }
 
-// Steps as a luma chunk has them: green's with 32 added, and red's and blue's less green's with 8
-// added.
+// Steps as a luma chunk has them: green's plus 32; red's and blue's minus green's, plus 8.
 #[inline(always)]
 #[tactic(auto, using(crate::proofs::format::Quads::luma_step_lanes))]
 fn luma_steps(steps: u32x4) -> u32x4
@@ -153,7 +154,7 @@ fn luma_steps(steps: u32x4) -> u32x4
     u32x4::from_le_bytes(steps.to_le_bytes() + u32x4::splat(0x0008_2008).to_le_bytes() - gg)
 }
 
-// Numbers whose lowest byte is the difference chunk with these `diff_steps`, if they fit in it.
+// Numbers whose lowest byte is the difference chunk of these `diff_steps`, if the steps fit in it.
 #[inline(always)]
 fn diffs(for_diff: u32x4) -> u32x4
     ensures lanes { result ≡ map diff_number for_diff }
@@ -161,15 +162,17 @@ fn diffs(for_diff: u32x4) -> u32x4
     (for_diff << u32x4::splat(4))
         + (for_diff >> u32x4::splat(6))
         + (for_diff >> u32x4::splat(16))
-        + u32x4::splat(0x40)
+        + u32x4::splat(QOI_OP_DIFF as u32)
 }
 
-// Numbers whose two lowest bytes are the luma chunk with these `luma_steps`, if they fit in it.
+// Numbers whose two lowest bytes are the luma chunk of these `luma_steps`, if the steps fit in it.
 #[inline(always)]
 fn lumas(for_luma: u32x4) -> u32x4
     ensures lanes { result ≡ map luma_number for_luma }
 {
-    (for_luma >> u32x4::splat(8)) + (for_luma << u32x4::splat(12)) + u32x4::splat(0x80)
+    (for_luma >> u32x4::splat(8))
+        + (for_luma << u32x4::splat(12))
+        + u32x4::splat(QOI_OP_LUMA as u32)
 }
 
 // Numbers whose bytes are the RGB chunks of the pixels.
@@ -177,11 +180,11 @@ fn lumas(for_luma: u32x4) -> u32x4
 fn rgbs(cur: u32x4) -> u32x4
     ensures lanes { result ≡ map rgb_number cur }
 {
-    (cur << u32x4::splat(8)) + u32x4::splat(0xfe)
+    (cur << u32x4::splat(8)) + u32x4::splat(QOI_OP_RGB as u32)
 }
 
-// Numbers whose bytes are the RGB chunks of the pixels, or if alpha's step isn't 0 the first four
-// bytes of the RGBA chunks; and how many bytes each chunk has.
+// Numbers whose bytes are the RGB chunks, or the first four of the RGBA chunks if alpha's step
+// isn't 0; and how many bytes each chunk has.
 #[inline(always)]
 fn fulls<const N: usize>(cur: u32x4, steps: u32x4) -> (u32x4, u32x4)
     requires channels { IsChannels N }

@@ -24,7 +24,7 @@ const KINDS: [[u32; 8]; 6] = [
 ];
 
 // What follows a file: bytes that begin with chunks.
-const BEHIND: [u8; 20] = [
+const REST: [u8; 20] = [
     0xfd, 0xff, 1, 2, 3, 4, 0xfe, 5, 6, 7, 0x9f, 0x33, 0x6b, 0x35, 0xc0, 0, 0, 0, 0, 1,
 ];
 
@@ -32,13 +32,13 @@ const BEHIND: [u8; 20] = [
 fn assert_ends(rt: &impl Abort, alloc: Global, file: Decoding<'_>, raw: &[u8]) {
     for more in 0..=20usize {
         let mut bytes = Vec::from_slice(alloc, file.bytes).expect(rt, "refused");
-        let behind = &BEHIND[..more];
-        bytes.extend_from_slice(behind).expect(rt, "refused");
+        let rest = &REST[..more];
+        bytes.extend_from_slice(rest).expect(rt, "refused");
         let decoding = Decoding {
             bytes: &bytes,
             ..file
         };
-        decoding.check(rt, alloc, raw, behind);
+        decoding.check(rt, alloc, raw, rest);
     }
     let size = file.bytes.len();
     for less in 1..=20usize {

@@ -61,10 +61,10 @@ fn changed_markers(rt: HostRuntime) {
 fn followed(rt: HostRuntime) {
     let all: [&[u8]; 3] = [&[], &[0x78], &[0, 0, 0, 0, 0, 0, 0, 1, 0x78]];
     for image in &files(rt.alloc()).expect(&rt, "refused") {
-        for behind in all {
+        for rest in all {
             let mut bytes = image.file.clone().expect(&rt, "refused");
-            bytes.extend_from_slice(behind).expect(&rt, "refused");
-            decoding(image, &bytes).check(&rt, rt.alloc(), &image.raw, behind);
+            bytes.extend_from_slice(rest).expect(&rt, "refused");
+            decoding(image, &bytes).check(&rt, rt.alloc(), &image.raw, rest);
         }
     }
 }

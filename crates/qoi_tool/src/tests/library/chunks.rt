@@ -16,11 +16,11 @@ const BEGUN: [(&'static [u8], Chunk, &'static [u8]); 6] = [
 
 #[test]
 fn first_chunks(rt: HostRuntime) {
-    for (bytes, chunk, behind) in BEGUN {
+    for (bytes, chunk, left) in BEGUN {
         match read_chunk(bytes) {
             Some((found, rest)) => {
                 assert!(rt; found == chunk);
-                assert_bytes(&rt, rest, behind);
+                assert_bytes(&rt, rest, left);
             }
             None => assert!(rt; false, "no {chunk:?}"),
         }

@@ -67,7 +67,7 @@ pub fn tile_at_by_method(alloc: Global, pack: &[u8], offset: usize) -> Result<Ve
 }
 
 /// The same of the second part of a pack.
-pub fn tile_behind(alloc: Global, pack: &[u8], offset: usize) -> Result<Vec<u8>, Error>
+pub fn tile_after(alloc: Global, pack: &[u8], offset: usize) -> Result<Vec<u8>, Error>
     ensures { (style : Style) (h : Header) (raw bytes rest : List ℕ) → IsFileOf style h raw bytes
         → drop offset pack.now ≡ bytes ++ rest → IfOk result (λ tile. tile.items ≡ raw) }
 {
@@ -79,7 +79,7 @@ pub fn tile_behind(alloc: Global, pack: &[u8], offset: usize) -> Result<Vec<u8>,
 }
 
 /// A byte is pushed after a file.
-pub fn byte_behind(alloc: Global, raw: &[u8], width: u32, height: u32) -> Result<Vec<u8>, Error>
+pub fn byte_after(alloc: Global, raw: &[u8], width: u32, height: u32) -> Result<Vec<u8>, Error>
     ensures { IfOk result (λ back. back.items ≡ raw.now) }
 {
     let mut file = encode_to_vec(alloc, raw, width, height)?;
@@ -89,7 +89,7 @@ pub fn byte_behind(alloc: Global, raw: &[u8], width: u32, height: u32) -> Result
 }
 
 /// The same by the methods.
-pub fn byte_behind_by_methods(
+pub fn byte_after_by_methods(
     alloc: Global,
     raw: &[u8],
     width: u32,
@@ -121,7 +121,7 @@ pub fn second_of_two(
     Ok(back)
 }
 
-/// A tile is put after an atlas, and read back from if it was put.
+/// A tile is put after an atlas, and read back from where it was put.
 pub fn appended(
     alloc: Global,
     atlas: &mut Vec<u8>,
@@ -191,8 +191,8 @@ fn of_a_file_and_more(rt: HostRuntime) -> Result<(), Error> {
     assert_bytes(&rt, &tile(alloc, &file)?, &PIXEL);
     assert_bytes(&rt, &tile_by_method(alloc, &file)?, &PIXEL);
     assert_bytes(&rt, &tile_ahead(alloc, file.as_slice())?, &PIXEL);
-    assert_bytes(&rt, &byte_behind(alloc, &PIXEL, 1, 1)?, &PIXEL);
-    assert_bytes(&rt, &byte_behind_by_methods(alloc, &PIXEL, 1, 1)?, &PIXEL);
+    assert_bytes(&rt, &byte_after(alloc, &PIXEL, 1, 1)?, &PIXEL);
+    assert_bytes(&rt, &byte_after_by_methods(alloc, &PIXEL, 1, 1)?, &PIXEL);
     Ok(())
 }
 
@@ -204,7 +204,7 @@ fn at_an_offset(rt: HostRuntime) -> Result<(), Error> {
     pack.push(4)?;
     assert_bytes(&rt, &tile_at(alloc, &pack, 3)?, &PIXEL);
     assert_bytes(&rt, &tile_at_by_method(alloc, &pack, 3)?, &PIXEL);
-    assert_bytes(&rt, &tile_behind(alloc, &pack, 3)?, &PIXEL);
+    assert_bytes(&rt, &tile_after(alloc, &pack, 3)?, &PIXEL);
     let past = tile_at(alloc, &pack, 31);
     assert!(rt; matches!(past, Err(Error::UnexpectedBufferEnd)));
     Ok(())

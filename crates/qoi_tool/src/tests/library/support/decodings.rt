@@ -95,11 +95,11 @@ impl<'a> Decoding<'a> {
 
     /// The image that each call gives, from a slice and from a stream. What is after the file is
     /// left.
-    pub fn check(self, rt: &impl Abort, alloc: Global, image: &[u8], behind: &[u8]) {
+    pub fn check(self, rt: &impl Abort, alloc: Global, image: &[u8], rest: &[u8]) {
         for call in CALLS {
-            let slice = self.of_slice(rt, alloc, call, behind);
+            let slice = self.of_slice(rt, alloc, call, rest);
             assert_given(rt, slice, image);
-            let stream = self.of_stream(rt, alloc, call, behind);
+            let stream = self.of_stream(rt, alloc, call, rest);
             assert_given(rt, stream, image);
         }
     }
@@ -130,11 +130,11 @@ impl<'a> Decoding<'a> {
 
     /// Both refuse other bytes than the end marker; the slice is as before, and of the stream what
     /// is after them is left.
-    pub fn check_wrong(self, rt: &impl Abort, alloc: Global, behind: &[u8]) {
+    pub fn check_wrong(self, rt: &impl Abort, alloc: Global, rest: &[u8]) {
         for call in CALLS {
             let slice = self.of_slice(rt, alloc, call, after(self.bytes, 14));
             assert_refused(rt, alloc, slice.err(), WRONG);
-            let stream = self.of_stream(rt, alloc, call, behind);
+            let stream = self.of_stream(rt, alloc, call, rest);
             assert_refused(rt, alloc, stream.err(), WRONG);
         }
     }

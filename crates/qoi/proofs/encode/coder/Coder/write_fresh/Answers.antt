@@ -10,7 +10,7 @@ use Rattle.qoi.specs.inner.CoderLoop.{lane_pixel}
 use Rattle.qoi.specs.inner.Packed.{pixel_of_word}
 use Rattle.qoi.specs.inner.Piece.{kept_bytes}
 use Rattle.qoi.proofs.format.SamePixels.{hash_below}
-use Rattle.qoi.proofs.encoding.CoderTable.{test_there, fresh_chosen, fresh_held}
+use Rattle.qoi.proofs.encoding.CoderTable.{fresh_chosen, fresh_held}
 use Rattle.qoi.proofs.encoding.CoderSteps.{fresh_written}
 use Rattle.qoi.proofs.encoding.NotedPixels.{fresh_more}
 use Rattle.qoi.proofs.encoding.SpelledLanes.{quad_spelled}
@@ -57,14 +57,13 @@ returns-clause-written g c w rest last_is differs b =
     let same = c.is_same-stands.result in
     let held : c.at.result ≡ seen (held_in style past) i = c.at.ensures (held_in style past) state.table_is in
     let first : IsFirst past p chunk = subst (λ x. IsFirst past x chunk) (sym p_is) (spelled.first past b.to_write.before (sym state.last_is ∙ last_is)) in
-    let there = test_there style past p c.at.result i at_place held same c.is_same-stands.ensures in
     let other = λ (n : seen (held_in style past) (hash p) ≢ p).
-    c.fresh_chunk-number.ensures.choice past alpha chunk state.table_is there spelled.chunk spelled.bytes first n in
+    c.chunk_if_absent-number.ensures.choice past alpha chunk state.table_is spelled.chunk spelled.bytes first n in
     let d = fresh_chosen style past p c.at.result i at_place held same alpha
-    c.fresh_chunk-number.result.0 c.fresh_chunk-number.result.1 c.is_same-stands.ensures other in
+    c.chunk_if_absent-number.result.0 c.chunk_if_absent-number.result.1 c.is_same-stands.ensures other in
     let fresh : p ≢ c.args.self.now.last = λ e. differs (sym p_is ∙ e) in
     let new = λ (e : _). fresh (e ∙ sym state.last_is) in
-    let number_is = c.pick-number.ensures ∙ ap (λ n. if same then n else c.fresh_chunk-number.result.0) c.from.ensures in
+    let number_is = c.pick-number.ensures ∙ ap (λ n. if same then n else c.chunk_if_absent-number.result.0) c.from.ensures in
     let kept = kept_bytes c.args.piece.now in
     let bytes = c.keep_chunk.ensures.kept ∙ (λ j. kept ++ take (c.pick.ensures j) (digits_l 256 4 (number_is j) ++ alpha ∷ []))
     ∙ ap (λ z. kept ++ z) d.2 in

@@ -34,9 +34,9 @@ returns-clause-written g c w b =
     ∙ (λ i. sym px_is i ∷ pixels_of g.row.N (drop g.row.N later)) in
     let are = subst (λ x. AllByRecursion IsPixel x) ahead one.to_write.are in
     let q : IsPixel last = subst IsPixel (sym one.state.last_is) one.to_write.before in
-    let quad = c.alone-quad.result in
-    let lane_is : lane_pixel quad 0 ≡ px = ap pixel_of_word c.alone-quad.ensures.pixel ∙ unpacked px are.0 in
-    let before_is : last ≡ before_lane quad 0 = sym (ap pixel_of_word c.alone-quad.ensures.before ∙ unpacked last q) in
+    let quad = c.splat-quad.result in
+    let lane_is : lane_pixel quad 0 ≡ px = ap pixel_of_word c.splat-quad.ensures.pixel ∙ unpacked px are.0 in
+    let before_is : last ≡ before_lane quad 0 = sym (ap pixel_of_word c.splat-quad.ensures.before ∙ unpacked last q) in
     let counted = c.write_runs-count.ensures.counted c.requires.few in
     let first : slice_get (pixels_of g.row.N later) 0 ≢ Some c.args.self.now.last = λ e.
     count_other c.args.self.now.last (pixels_of g.row.N raw) n counted (ap (λ x. slice_get x 0) (pixels_drop g.row.N n raw channels inside) ∙ e) in

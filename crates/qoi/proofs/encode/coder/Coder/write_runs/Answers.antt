@@ -4,7 +4,7 @@ use Rattle.std.proofs.lemmas.List.{length-drop}
 use Rattle.std.specs.List.{slice_get}
 use Rattle.qoi.specs.declared.chunk.Chunk.{Chunk}
 use Rattle.qoi.specs.declared.chunk.Chunk.TheVariants.{Run}
-use Rattle.qoi.specs.declared.encode.piece.TheConstants.{REPEATS_MAX}
+use Rattle.qoi.specs.declared.encode.piece.TheConstants.{REPEATS_AT_ONCE}
 use Rattle.qoi.specs.Qoi.{bytes_of}
 use Rattle.qoi.specs.Raw.{pixels_of}
 use Rattle.qoi.specs.Runs.{IsCount}
@@ -16,11 +16,11 @@ use Rattle.qoi.proofs.encode.coder.Coder.write_runs.Goals.{After-repeats_of-coun
 use Rattle.qoi.proofs.encode.coder.Coder.write_runs.Goals as goal
 
 -- the repeats stand ahead
-near : (g : Over) (c : After-repeats_of-count g) → NearGroup g.row.N c.args.data.now c.args.self.now.last REPEATS_MAX c.repeats_of-count.result
+near : (g : Over) (c : After-repeats_of-count g) → NearGroup g.row.N c.args.data.now c.args.self.now.last REPEATS_AT_ONCE c.repeats_of-count.result
 near g c =
     let n = c.repeats_of-count.result in
     let counted = subst (λ xs. IsCount c.args.self.now.last (pixels_of g.row.N xs) n) c.split_at.ensures.front c.repeats_of-count.ensures.counted in
-    near_group g.row.N c.args.data.now c.args.self.now.last REPEATS_MAX n _ c.args.self.now.channels c.requires.whole c.min.ensures counted
+    near_group g.row.N c.args.data.now c.args.self.now.last REPEATS_AT_ONCE n _ c.args.self.now.channels c.requires.whole c.min.ensures counted
 
 pub repeats_of-count-requires-clause-opaque : goal.repeats_of-count-requires-clause-opaque
 repeats_of-count-requires-clause-opaque g c = c.args.self.now.opaque
@@ -43,7 +43,7 @@ returns-clause-written g c w b =
     let later = drop (g.row.N * n) raw in
     let rest = pixels_of g.row.N later in
     let size = length-drop (g.row.N * n) raw in
-    let full : n ≡ REPEATS_MAX → n % 62 ≡ 0 = λ e. ap (λ k. k % 62) e in
+    let full : n ≡ REPEATS_AT_ONCE → n % 62 ≡ 0 = λ e. ap (λ k. k % 62) e in
     let ends : (slice_get rest 0 ≢ Some coder.last) ⊎ (n % 62 ≡ 0) =
     elim group.ends as (λ _. (slice_get rest 0 ≢ Some coder.last) ⊎ (n % 62 ≡ 0)) [ inl other ↦ inl other | inr e ↦ inr (full e) ] in
     let one : (one : Chunk) × (bytes_of one ≡ c.if-count-data.one ∷ [])
@@ -56,9 +56,9 @@ returns-clause-written g c w b =
       )
       | else-count-data x ↦ (
         single coder n,
-        x.single_repeat-one.ensures ∙ ap (λ z. z ∷ []) (sym x.one-is),
+        x.single_repeat_byte-one.ensures ∙ ap (λ z. z ∷ []) (sym x.one-is),
         inr (some_pixels g.row.N later coder.channels group.whole (omega (arith, size, x.if-count-data.false, group.within)), refl),
       )
     ] in
-    group_written b n rest one.0 {next_table = c.after_repeats.new.table} {next_coder = c.after_repeats.new.self} group.pixels ends (λ _. one.2)
-    (c.keep_runs.ensures.kept one.0 one.1) c.after_repeats.ensures.same.1 c.after_repeats.ensures.state
+    group_written b n rest one.0 {next_table = c.update_after_repeats.new.table} {next_coder = c.update_after_repeats.new.self} group.pixels ends (λ _. one.2)
+    (c.keep_runs.ensures.kept one.0 one.1) c.update_after_repeats.ensures.same.1 c.update_after_repeats.ensures.state

@@ -7,8 +7,8 @@ use Rattle.qoi.specs.inner.Table.{Holds}
 use Rattle.qoi.proofs.format.ChunkSteps.{previous_repeats}
 use Rattle.qoi.proofs.encoding.CoderTable.{fresh_repeats, repeats_unput, repeats_put}
 use Rattle.qoi.proofs.encoding.StyledGroup.{placed_repeats}
-use Rattle.qoi.proofs.encode.coder.Coder.after_repeats.Goals as goal
-use Rattle.qoi.proofs.encode.coder.Coder.after_repeats.Goals.{in-Reference, in-Tight}
+use Rattle.qoi.proofs.encode.coder.Coder.update_after_repeats.Goals as goal
+use Rattle.qoi.proofs.encode.coder.Coder.update_after_repeats.Goals.{in-Reference, in-Tight}
 
 pub returns-clause-state : goal.returns-clause-state
 returns-clause-state g c past before s =

@@ -3,7 +3,7 @@ use Rattle.std.proofs.Common.{◌≡◌, slice_index, ap, ◌∙◌, subst, arit
 use Rattle.qoi.specs.inner.Lanes.{IsSpelled}
 use Rattle.qoi.specs.inner.Packed.{word}
 use Rattle.qoi.proofs.encoding.SpelledLanes.{quad_spelled}
-use Rattle.qoi.proofs.encode.quad.Quad.alone.Goals as goal
+use Rattle.qoi.proofs.encode.quad.Quad.splat.Goals as goal
 
 pub returns-clause-spelled : goal.returns-clause-spelled
 returns-clause-spelled g c =

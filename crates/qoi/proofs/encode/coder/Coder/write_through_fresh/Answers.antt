@@ -11,7 +11,7 @@ use Rattle.qoi.proofs.format.LaneRuns.{all_agree}
 use Rattle.qoi.proofs.encoding.CoderSteps.{group_written}
 use Rattle.qoi.proofs.encoding.QuadGroups.{count_other, before_run, differ, lane_ahead}
 use Rattle.qoi.proofs.encoding.QuadSteps.{lane_after}
-use Rattle.qoi.proofs.encode.coder.Coder.write_to_fresh.Goals as goal
+use Rattle.qoi.proofs.encode.coder.Coder.write_through_fresh.Goals as goal
 
 pub returns-then-lane-count-gt3-clause-some : goal.returns-then-lane-count-gt3-clause-some
 returns-then-lane-count-gt3-clause-some g c first few =
@@ -40,9 +40,9 @@ returns-clause-written g c w pixels start =
     let split : drop lane pixels ≡ replicate n last ++ p ∷ more = count.same ∙ ap (λ x. replicate n last ++ x) ahead in
     let other : slice_get (p ∷ more) 0 ≢ Some last = λ e. count_other last (drop lane pixels) n count (ap (λ x. slice_get x 0) ahead ∙ e) in
     let one = single c.args.self.now n in
-    let runs_done = group_written start.between n (p ∷ more) one {next_table = c.after_repeats.new.table} {next_coder = c.after_repeats.new.self} split (inl other)
-    (λ _. inr ((λ none. cc), refl)) (c.keep_run.ensures.kept one c.single_repeat-one.ensures) c.after_repeats.ensures.same.1 c.after_repeats.ensures.state in
-    let still : c.after_repeats.new.self.last ≡ before_lane quad k = c.after_repeats.ensures.same.0 ∙ last_is
+    let runs_done = group_written start.between n (p ∷ more) one {next_table = c.update_after_repeats.new.table} {next_coder = c.update_after_repeats.new.self} split (inl other)
+    (λ _. inr ((λ none. cc), refl)) (c.keep_run.ensures.kept one c.single_repeat_byte-one.ensures) c.update_after_repeats.ensures.same.1 c.update_after_repeats.ensures.state in
+    let still : c.update_after_repeats.new.self.last ≡ before_lane quad k = c.update_after_repeats.ensures.same.0 ∙ last_is
     ∙ ap pixel_of_word (sym (before_run start.are lane n run n (omega arith) short)) in
     let differs : p ≢ before_lane quad k = differ (slice_index quad.pixels k) (slice_index quad.before k) (quad.four.1 k) (quad.four_before.1 k)
     (run.stops short) in
