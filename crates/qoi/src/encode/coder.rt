@@ -1,6 +1,6 @@
 //! Writes pixels as chunks into a piece, four at a time (QOI specification 1.0, "Data", "Chunks").
 ghost use lib.Lanes.{mask_l, zip2};
-ghost use Rattle.std.specs.Prelude.{◌≡◌, ◌≢◌, ℕ, ◌+◌, ◌*◌, ◌/◌, ◌%◌, ◌<◌, ◌≤◌, nat_eq, List, [], ◌∷◌, ◌++◌, Option, None, Some, length, drop, replicate, slice_get, slice_index};
+ghost use Rattle.std.specs.Prelude.{◌≡◌, ◌≢◌, ℕ, ◌+◌, ◌*◌, ◌/◌, ◌%◌, ◌<◌, ◌≤◌, nat_eq, List, [], ◌∷◌, ◌++◌, Option, None, Some, length, drop, replicate, slice_get};
 ghost use Rattle.qoi.specs.declared.chunk.Chunk.{Chunk};
 ghost use Rattle.qoi.specs.declared.encode.piece.TheConstants.{PIECE, ROOM, RUNS_AT_ONCE, REPEATS_AT_ONCE};
 ghost use Rattle.qoi.specs.declared.encode.quad.TheConstants.{ALL_REPEAT, READ};
