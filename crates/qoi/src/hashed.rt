@@ -78,9 +78,9 @@ impl Hashed {
         Hashed::of_lanes(r + (g << 16) + (b << 32) + (a << 48))
     }
 
-    /// The pixel of an index position, a difference, a luma or a run, by its first byte, the one
-    /// after it, which only a luma has, and what the index position holds, or 0 for another chunk
-    /// (QOI specification 1.0, "Chunks"). All of them are one sum, without a jump.
+    /// The pixel after an index position, a difference, a luma or a run: `b1` is its first byte,
+    /// `b2` the byte after that, which counts only for a luma, and `held` what the index position
+    /// holds, or 0 for another chunk (QOI specification 1.0, "Chunks"). One sum, without a jump.
     #[inline(always)]
     pub(crate) fn after_short(self, held: Hashed, b1: usize, b2: u8) -> Hashed
         requires byte { b1 < 256 }
@@ -101,8 +101,8 @@ impl Hashed {
         )
     }
 
-    /// The pixel of an RGB or RGBA chunk, of which these are the bytes; after an RGB chunk alpha
-    /// stays (QOI specification 1.0, "QOI_OP_RGB" and "QOI_OP_RGBA").
+    /// The pixel of the RGB or RGBA chunk that the bytes begin with; after an RGB chunk alpha stays
+    /// (QOI specification 1.0, "QOI_OP_RGB" and "QOI_OP_RGBA").
     #[inline(always)]
     pub(crate) fn after_full(self, bytes: &[u8]) -> Hashed
         requires { 5 ≤ length bytes.now }
@@ -151,7 +151,7 @@ fn masked(byte: u8, mask: u64) -> usize
     (u64::from(byte) & mask) as usize
 }
 
-// Four bytes in lanes of 16 bits, which are read at once.
+// Four bytes, read at once, in lanes of 16 bits.
 #[inline(always)]
 fn four_lanes(bytes: &[u8]) -> u64
     requires { 4 ≤ length bytes.now }

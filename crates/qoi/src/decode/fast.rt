@@ -1,5 +1,5 @@
-//! The loop over the chunks in a slice while there is room ahead for four short ones and a full one,
-//! for which both ends are tested once.
+//! The loop over the chunks in a slice while input and output have room ahead for four short ones
+//! and a full one, which is tested once for all five.
 ghost use Rattle.std.specs.Prelude.{◌≡◌, ◌↔◌, IsTrue, ℕ, ◌+◌, ◌-◌, ◌/◌, ◌%◌, ◌<◌, ◌≤◌, [], length};
 ghost use Rattle.qoi.specs.Qoi.{run_tag, rgb_tag};
 ghost use Rattle.qoi.specs.Raw.{IsChannels};
@@ -21,7 +21,7 @@ const INPUT_ROOM: usize = 14;
 const OUTPUT_ROOM: usize = 80;
 
 /// What a decoder has between two chunks: the last pixel, how many bytes are taken and written, and
-/// the byte that comes next.
+/// the byte that comes next (0 if the loop wasn't entered).
 #[derive(Clone, Copy)]
 pub(super) struct Progress {
     pub(super) last: Hashed,
@@ -170,8 +170,8 @@ impl Progress {
         }
     }
 
-    /// Decodes chunks while there is room ahead, and returns where it stopped. What is left goes
-    /// chunk by chunk, with every test.
+    /// Decodes chunks while there is room ahead, and returns where it stopped. The caller decodes
+    /// the rest chunk by chunk, with every test.
     #[inline(always)]
     pub(super) fn fast_chunks<const N: usize, const F: usize>(
         table: &mut HashedTable,

@@ -57,8 +57,8 @@ fn write_four_blocks<const N: usize, const F: usize>(out: &mut [u8], at: usize, 
     write_block::<N, F>(out, at + N * (3 * one), px);
 }
 
-/// Writes a pixel `count` times from `at` on: by four blocks, or if they don't hold it by sixteen,
-/// which hold any run. What goes past its pixels is written again later.
+/// Writes a pixel `count` times from `at` on: by four blocks or, if those don't hold the run, by
+/// sixteen, which hold any. What goes past its pixels is written again later.
 #[inline(always)]
 pub(super) fn write_run<const N: usize, const F: usize>(
     out: &mut [u8],
@@ -109,8 +109,8 @@ fn known_room<const ROOM: bool>(size: usize, at: usize) -> usize
 }
 
 // Writes a pixel `count` times from `at` on, or as often as there is room, and returns where it
-// stopped. All of them have `size` bytes. If `ROOM`, there is room for the blocks of any run, and
-// how much there is isn't tested.
+// stopped. Together, the `count` pixels have `size` bytes. If `ROOM`, there is room for the blocks
+// of any run, and how much there is isn't tested.
 #[inline(always)]
 fn fill<const N: usize, const F: usize, const ROOM: bool>(
     out: &mut [u8],
@@ -176,8 +176,7 @@ pub(super) struct Decoded {
 }
 
 /// Decodes the first chunk of the bytes. If `ROOM`, the output has room for the blocks of any run;
-/// else how much it has is tested. A chunk has at most five bytes. The second byte is read even if
-/// the chunk has only one.
+/// else how much it has is tested. The second byte is read even if the chunk has only one.
 #[inline(always)]
 pub(super) fn decode_chunk<const N: usize, const F: usize, const ROOM: bool>(
     table: &mut HashedTable,

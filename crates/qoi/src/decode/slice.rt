@@ -23,8 +23,8 @@ pub(super) fn could_hold(data: &[u8], n_pixels: usize) -> bool
 }
 
 // Decodes chunks one by one, with every test, until `out` is full, and returns the bytes after
-// them. If fewer than eight bytes are left before that, the file is cut, since its end marker alone
-// has eight.
+// them. `None` if fewer than eight bytes are left before that: the file is cut, since its end
+// marker alone has eight.
 #[inline(never)]
 fn last_chunks<'a, const N: usize, const F: usize>(
     table: &mut HashedTable,
@@ -71,7 +71,7 @@ fn slice_chunks<'a, const N: usize, const F: usize>(
     last_chunks::<N, F>(&mut table, now, data, out)
 }
 
-// The bytes after the end marker.
+// Checks that the end marker stands at the front, and returns the bytes after it.
 fn slice_marker(data: &[u8]) -> Result<&[u8]>
     ensures found { IfOk result (λ rest. «data».now ≡ end_marker ++ rest.now) }
     ensures refused { IfErr result (RefusesMarker «data».now) }

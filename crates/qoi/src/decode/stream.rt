@@ -24,7 +24,7 @@ fn ended() -> io::Error {
 
 // Fills the buffer from a stream by as many reads as it takes, and asks for no byte past it. An
 // interruption is a fault; so is the end of the stream. Inlined, so that the reader isn't lent to a
-// call in the loop over chunks, and the processor can keep it in registers.
+// call in the loop over chunks, and the compiler can keep it in registers.
 #[inline(always)]
 fn read_rest<R: Read>(reader: &mut R, buf: &mut [u8]) -> io::Result<()>
     ensures read { OnOk result
@@ -45,8 +45,8 @@ fn read_rest<R: Read>(reader: &mut R, buf: &mut [u8]) -> io::Result<()>
 }
 
 // Fills the buffer from a stream, and asks for no byte past it. An interruption is a fault, unlike
-// in the standard library's `read_exact`; the end of the stream is one, as it is there. The first
-// read mostly returns all.
+// in the standard library's `read_exact`; the end of the stream is one, as it is there. Usually the
+// first read fills it.
 #[inline(always)]
 pub(super) fn read_exact<R: Read>(reader: &mut R, buf: &mut [u8]) -> io::Result<()>
     ensures read { OnOk result
@@ -129,9 +129,9 @@ fn next_chunk<R: Read, const N: usize, const F: usize, const ROOM: bool>(
     Ok(decode_chunk::<N, F, ROOM>(table, last, &bytes, out, at))
 }
 
-// Decodes chunks from a stream, after the pixel `last` and the first `at` bytes, and takes no byte
-// past the last of them: if `ROOM` as long as there is room for the blocks of any run, else until
-// `out` is full. Returns the last pixel, and where it stopped.
+// Decodes chunks from a stream, after the pixel `last` and the first `at` bytes of `out`, and takes
+// no byte past the last chunk: if `ROOM`, as long as `out` has room for the blocks of any run, else
+// until it is full. Returns the last pixel, and where in `out` it stopped.
 fn decode_chunks<R: Read, const N: usize, const F: usize, const ROOM: bool>(
     reader: &mut R,
     table: &mut HashedTable,
@@ -186,7 +186,7 @@ fn stream_chunks<R: Read, const N: usize, const F: usize>(
     Ok(())
 }
 
-// Reads the eight bytes of the end marker from a stream.
+// Reads eight bytes from a stream, and refuses them if they aren't the end marker.
 fn stream_marker<R: Read>(reader: &mut R) -> Result<()>
     ensures read { OnOk result
         (Consumes (R.remaining reader.old) (R.remaining reader.new) end_marker) }

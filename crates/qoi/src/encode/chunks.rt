@@ -46,7 +46,7 @@ fn encode_pixels<W: Writer, const N: usize>(
 }
 
 /// Writes an image's raw bytes as chunks into the piece, and sends 4096 bytes to the writer each
-/// time it is full. What the last pixels add stays in the piece, even if that fills it.
+/// time it is full. What is left at the end stays in the piece, even if the last pixels fill it.
 pub(super) fn encode_chunks<W: Writer>(
     buf: &mut W,
     piece: &mut Piece,

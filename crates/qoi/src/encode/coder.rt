@@ -1,4 +1,5 @@
-//! Writes pixels as chunks into a piece, four at a time (QOI specification 1.0, "Data", "Chunks").
+//! Writes pixels, four at a time or a group of repeats, as chunks into a piece (QOI specification
+//! 1.0, "Data" and "Chunks").
 ghost use lib.Lanes.{mask_l, zip2};
 ghost use Rattle.std.specs.Prelude.{◌≡◌, ◌≢◌, ℕ, ◌+◌, ◌*◌, ◌/◌, ◌%◌, ◌<◌, ◌≤◌, nat_eq, List, [], ◌∷◌, ◌++◌, Option, None, Some, length, drop, replicate, slice_get};
 ghost use Rattle.qoi.specs.declared.chunk.Chunk.{Chunk};
@@ -60,9 +61,9 @@ impl<const N: usize> Coder<N> {
         }
     }
 
-    // The byte of the single repeat that runs of 62 leave of `count` before a fresh pixel: a run of
-    // 1, or in style `Places` the index position, if a fresh pixel came before and the chunk before
-    // isn't that position (a run of 62 never is). Unused if no single repeat is left.
+    // The byte for the last of `count` repeats before a fresh pixel, if runs of 62 leave only that
+    // one: a run of 1, or in style `Places` the index position, if a fresh pixel came earlier and
+    // the chunk before isn't that position (a run of 62 never is). Else the byte isn't used.
     #[inline(always)]
     fn single_repeat_byte(&self, count: usize) -> u8
         ensures { bytes_of (single self.now count) ≡ result ∷ [] }
@@ -91,9 +92,9 @@ impl<const N: usize> Coder<N> {
         self.placed = self.placed & (count == 0);
     }
 
-    // The chunk of a fresh pixel, as number and size, if it isn't at its index position: the one
-    // that is passed, but in style `Tight`, for transparent black, the least position that holds
-    // it, if there is one (no pixel was put there).
+    // The chunk, as number and size, of a fresh pixel that isn't at its index position: the one
+    // that is passed; but in style `Tight`, for transparent black, the least position that holds
+    // it (no pixel was put there), if there is one.
     #[inline(always)]
     fn chunk_if_absent(&self, table: &Table, px: Packed, number: u32, size: u32) -> (u32, u32)
         ensures few { size ≤ N + 1 → result.1 ≤ N + 1 }
@@ -164,9 +165,9 @@ impl<const N: usize> Coder<N> {
     }
 
     // Writes the repeats from a lane on and the fresh pixel after them, and returns the lane after
-    // it. If no fresh pixel comes, writes nothing and returns `lane`. `bits` is by `repeating`.
+    // it. If no fresh pixel is left, writes nothing and returns `lane`. `bits` is from `repeating`.
     #[inline(always)]
-    fn write_through_fresh(
+    fn write_repeats_and_fresh(
         &mut self,
         table: &mut Table,
         piece: &mut Piece,
@@ -200,7 +201,7 @@ impl<const N: usize> Coder<N> {
     }
 
     // Writes the chunks of four pixels, not all of which repeat, up to the last fresh one; repeats
-    // after it may go on in the next four. Returns how many pixels these are.
+    // after it may go on in the next four. Returns how many pixels were written.
     #[inline(always)]
     fn write_quad(
         &mut self,
@@ -228,12 +229,12 @@ impl<const N: usize> Coder<N> {
             return 4;
         }
         // At least one of the four repeats, so at most three are fresh: a call for each.
-        let lane = self.write_through_fresh(table, piece, &quad, bits, 0);
-        let lane = self.write_through_fresh(table, piece, &quad, bits, lane);
-        self.write_through_fresh(table, piece, &quad, bits, lane)
+        let lane = self.write_repeats_and_fresh(table, piece, &quad, bits, 0);
+        let lane = self.write_repeats_and_fresh(table, piece, &quad, bits, lane);
+        self.write_repeats_and_fresh(table, piece, &quad, bits, lane)
     }
 
-    // Writes the runs of the repeats at the front, at most 992, and returns how many repeats.
+    // Writes the repeats at the front, but at most 992 of them, and returns how many it wrote.
     #[inline(always)]
     fn write_runs(&mut self, table: &mut Table, piece: &mut Piece, data: &[u8]) -> usize
         requires whole { length «data».now % N ≡ 0 }

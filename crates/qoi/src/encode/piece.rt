@@ -18,14 +18,14 @@ use std::simd::prelude::*;
 /// How many bytes a writer is sent at once; the last ones may be fewer.
 pub(super) const PIECE: usize = 4096;
 
-/// The room that bytes are kept in: a full piece, what goes past it (the chunks of four pixels, or
-/// those of the last pixels and the end marker), and what is stored after that and means nothing.
+/// The room for bytes that are kept: a full piece, what goes past it (the chunks of four pixels,
+/// runs, or the last chunks and the end marker), and what is stored after that and means nothing.
 pub(super) const ROOM: usize = PIECE + 128;
 
 /// The most runs that are kept at a time, stored at once as a vector.
 pub(super) const RUNS_AT_ONCE: usize = 16;
 
-/// The repeats of that many runs: 992.
+/// The repeats of `RUNS_AT_ONCE` runs of 62: 992.
 pub(super) const REPEATS_AT_ONCE: usize = RUNS_AT_ONCE * QOI_RUN_MAX;
 
 /// Bytes that are kept: the first `end` ones of a room. Those after them mean nothing.
@@ -106,7 +106,7 @@ impl<'a> Piece<'a> {
             → kept_bytes self.new ≡ kept_bytes self.old ++ chunk_bytes (runs_by c count) }
         ensures end { self.new.end ≤ self.old.end + count / run_max + 1 }
     {
-        // Sixteen runs of 62 are stored, and as many of them kept as there are.
+        // Sixteen runs of 62 are stored, and as many of them kept as `count` holds.
         u8x16::splat(QOI_OP_RUN - 1 + QOI_RUN_MAX as u8).copy_to_slice(
             &mut self.bytes[self.end..self.end + RUNS_AT_ONCE],
         );
@@ -130,7 +130,7 @@ impl<'a> Piece<'a> {
         Ok(())
     }
 
-    /// Sends all the bytes to a writer, a full piece first if there is one. It isn't emptied then.
+    /// Sends all the bytes to a writer, a full piece first if there is one. Doesn't empty `self`.
     #[inline(always)]
     pub(super) fn finish<W: Writer>(&mut self, buf: &mut W) -> Result<()>
         requires { self.old.end ≤ W.room buf.old }

@@ -12,7 +12,7 @@ use crate::consts::{QOI_OP_DIFF, QOI_OP_LUMA, QOI_OP_RGB};
 use crate::packed::Packed;
 use std::simd::prelude::*;
 
-/// How many bytes are read for four pixels: those of four channels.
+/// How many bytes are read for four pixels, in three channels too, where they have only twelve.
 pub(super) const READ: usize = 16;
 
 /// What `repeating` gives if all four pixels repeat: four bits, each of which is set.

@@ -14,6 +14,6 @@ pub returns-clause-written : goal.returns-clause-written
 returns-clause-written g c w pixels four b =
     let new = c.new-quad.ensures in
     let start = quad_starts {quad = c.new-quad.result} c.args.cur c.args.prev new.pixels new.before four b in
-    let one = c.write_through_fresh-lane.ensures.written w pixels start in
-    let two = c.write_through_fresh-lane-2.ensures.written w pixels one in
-    (c.write_through_fresh.ensures.written w pixels two).between
+    let one = c.write_repeats_and_fresh-lane.ensures.written w pixels start in
+    let two = c.write_repeats_and_fresh-lane-2.ensures.written w pixels one in
+    (c.write_repeats_and_fresh.ensures.written w pixels two).between

@@ -11,7 +11,7 @@ use Rattle.qoi.proofs.format.LaneRuns.{all_agree}
 use Rattle.qoi.proofs.encoding.CoderSteps.{group_written}
 use Rattle.qoi.proofs.encoding.QuadGroups.{count_other, before_run, differ, lane_ahead}
 use Rattle.qoi.proofs.encoding.QuadSteps.{lane_after}
-use Rattle.qoi.proofs.encode.coder.Coder.write_through_fresh.Goals as goal
+use Rattle.qoi.proofs.encode.coder.Coder.write_repeats_and_fresh.Goals as goal
 
 pub returns-then-lane-count-gt3-clause-some : goal.returns-then-lane-count-gt3-clause-some
 returns-then-lane-count-gt3-clause-some g c first few =
