@@ -42,8 +42,8 @@ pub fn decode_header(data: &[u8]) -> Result<Header>
 /// Decodes a file into the front of the buffer, in the file's own channels, and returns its header.
 ///
 /// The refusals are those of `Decoder::new` and then of its `decode_to_buf`. After a refusal of the
-/// image the first bytes of the buffer, as many as the image has, may be overwritten; all others
-/// are as before.
+/// chunks or the end marker the first bytes of the buffer, as many as the image has, may be
+/// overwritten; later bytes are as before.
 pub fn decode_to_buf(buf: &mut [u8], data: &[u8]) -> Result<Header>
     // What the result is: header and image of the file at the front of the bytes. The buffer has at
     // least the header's `n_bytes`, which is `capped_byte_count`; of a valid header that is
@@ -143,9 +143,9 @@ pub fn decode_to_vec(alloc: Global, data: &[u8]) -> Result<(Header, Vec<u8>)>
 /// Format", "Data" and "Chunks").
 ///
 /// A further call decodes the chunks and the end marker of a further image by the same header. For
-/// the next file make another decoder, of `data` or of the reader.
+/// the next file make another decoder, from `data` or from the reader.
 ///
-/// A contract sees its reader, the header, and the channels of the output.
+/// A contract sees the reader, the header, and the channels of the output.
 #[derive(Drop)]
 pub struct Decoder<R> {
     reader: R,
@@ -214,10 +214,10 @@ impl<'a> Decoder<Bytes<'a>> {
 }
 
 impl<R: Read + Drop> Decoder<R> {
-    /// A decoder of the file that stands ahead of the reader, whose header is decoded at once:
-    /// fourteen bytes are read and no more. The channels are the header's.
+    /// A decoder of the file that the reader gives next, whose header is decoded at once: fourteen
+    /// bytes are read and no more. The channels are the header's.
     ///
-    /// Refusals, in this order: `IoError` if the fourteen bytes don't come, and then those of
+    /// Refusals, in this order: `IoError` if fourteen bytes can't be read, and then those of
     /// `decode_header` on them. After a refusal the reader is dropped, so no contract can say where
     /// it stood.
     ///
@@ -266,7 +266,7 @@ impl<R: Read + Drop> Decoder<R> {
     }
 
     /// The reader, as it stands: past the header at first, past the end marker after an image, and
-    /// past the bytes that were read after a refusal.
+    /// after a refusal past the bytes that were read.
     pub fn reader(&self) -> &R
         ensures { result.now ≡ self.now.reader }
     {
@@ -294,7 +294,7 @@ impl<R: Reader> Decoder<R> {
     }
 
     /// A second decoder with the same header and channels, whose reader is a clone of this one's
-    /// reader. If each clone of the reader equals it, as of a `&[u8]`, the decoders are equal.
+    /// reader. If each clone of the reader equals it, as with a `&[u8]`, the decoders are equal.
     ///
     /// `OutOfMemory` if an allocation of the reader's clone fails.
     pub fn clone(&self) -> Result<Decoder<R>>
@@ -343,7 +343,7 @@ impl<R: Reader> Decoder<R> {
     /// end before the image does or within the eight bytes after the chunks; `InvalidPadding` if
     /// those eight bytes aren't the end marker (QOI specification 1.0, "File Format" and "Data").
     /// From a stream an early end is `IoError` instead of `UnexpectedBufferEnd`, and so is a fault
-    /// of the reader. A run that gives more pixels than are left is no refusal: the others are
+    /// of the reader. A run that gives more pixels than are left isn't refused: the surplus is
     /// dropped.
     ///
     /// After a refusal the header and the channels are as before. So are the bytes ahead in a
@@ -435,17 +435,17 @@ impl<R: Reader> Decoder<R> {
         Ok(size)
     }
 
-    /// Decodes an image into a new vector, exactly as long as `required_buf_len`.
+    /// Decodes an image into a new vector of exactly `required_buf_len` bytes.
     ///
     /// Refusals, in this order: `OutOfMemory` if the vector's allocation fails, and then nothing
     /// was read and the decoder is unchanged; those of `decode_to_buf` but for
-    /// `OutputBufferTooSmall`, which leave the decoder as that does.
+    /// `OutputBufferTooSmall`, and each leaves the decoder as it does there.
     ///
-    /// The room is asked for as the header says, and costs address space alone until it is written.
-    /// It is written only if the bytes ahead could hold the image: bytes in memory that are too few
-    /// for its pixels, whatever they are, are `UnexpectedBufferEnd` before that. (Each 62 pixels
-    /// take a byte at least, and the end marker has eight.) A stream can't be asked how many bytes
-    /// it has.
+    /// The room is asked for at once, and costs address space alone until it is written. It is
+    /// written only if the bytes ahead could hold the image: bytes in memory that are too few for
+    /// its pixels, whatever they are, are `UnexpectedBufferEnd` before that. (Each 62 pixels take a
+    /// byte at least, and the end marker has eight.) For a stream it always is, since a stream
+    /// can't be asked how many bytes it has.
     pub fn decode_to_vec(&mut self, alloc: Global) -> Result<Vec<u8>>
         // What the result is: the image at the front of the bytes ahead, whose chunks are taken
         // with the end marker, nine bytes at least; what follows is left.

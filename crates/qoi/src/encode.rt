@@ -51,11 +51,11 @@ fn encode_image<W: Writer>(buf: &mut W, style: Style, header: &Header, data: &[u
     Ok(room - buf.capacity())
 }
 
-/// The most bytes that the file of an image has, or the greatest `usize` if that is less: header,
-/// end marker, and for each pixel its channels and one byte more.
+/// The most bytes that the file of an image can have, or the greatest `usize` if that is less:
+/// header, end marker, and for each pixel a byte for each channel and one more.
 ///
-/// `width` and `height` are in pixels. In three and in four channels a single pixel that no shorter
-/// chunk gives reaches this number.
+/// `width` and `height` are in pixels. In three and in four channels the file of one pixel that no
+/// shorter chunk gives has as many.
 pub fn encode_max_len(width: u32, height: u32, channels: u8) -> usize
     ensures { result ≡ max_len width height channels }
 {
@@ -94,7 +94,7 @@ pub fn encode_to_buf(buf: &mut [u8], data: &[u8], width: u32, height: u32) -> Re
     Encoder::new(data, width, height)?.encode_to_buf(buf)
 }
 
-/// Encodes raw bytes into a new vector, which has exactly the file, with color space `Srgb` and in
+/// Encodes raw bytes into a new vector, which holds only the file, with color space `Srgb` and in
 /// style `Reference`. `width` and `height` are in pixels.
 ///
 /// The refusals are those of `Encoder::new` and then of its `encode_to_vec`.
@@ -150,14 +150,14 @@ impl<'a> Model for Encoder<'a> {
 }
 
 impl<'a> Encoder<'a> {
-    /// An encoder of raw bytes, three or four a pixel, of an image of this size in pixels. The
-    /// number of channels is that of the bytes for each pixel, the color space is `Srgb`, and the
-    /// style `Reference`.
+    /// An encoder of raw bytes: of an image of `width` by `height` pixels that has as many channels
+    /// as there are bytes for each pixel, three or four. The color space is `Srgb`, and the style
+    /// `Reference`.
     ///
     /// Refusals, in this order: `InvalidImageDimensions` if width times height is 0 or above
     /// 400,000,000; `InvalidImageLength` if the number of bytes isn't a multiple of the number of
-    /// pixels; `InvalidChannels` if it isn't 3 or 4 for each pixel, with what it is, or 255 if it
-    /// is greater.
+    /// pixels; `InvalidChannels` if there aren't 3 or 4 bytes for each pixel, with how many there
+    /// are, or 255 if more.
     pub fn new(data: &'a [u8], width: u32, height: u32) -> Result<Encoder<'a>>
         // What the result is.
         ensures accepted { IfOk result (λ e.
@@ -198,8 +198,8 @@ impl<'a> Encoder<'a> {
 
     /// The same encoder with another style: other chunks may be written. In style `Places` the file
     /// is as long as in `Reference`. In style `Tight` no other chunks of the image make a shorter
-    /// file, and the Rust crate may read it otherwise: choose `Tight` if the readers are known to
-    /// follow QOI 1.0.
+    /// file, but the Rust crate may decode it to other pixels: choose `Tight` only if all decoders
+    /// of the file are known to follow QOI 1.0.
     pub fn with_style(mut self, style: Style) -> Encoder<'a>
         ensures { result ≡ record self.entry { style = style } }
     {
@@ -228,7 +228,7 @@ impl<'a> Encoder<'a> {
         &self.header
     }
 
-    /// How many bytes a buffer must have: the most that the file of such an image has.
+    /// How many bytes a buffer must have: the most that the file of such an image can have.
     pub fn required_buf_len(&self) -> usize
         ensures { result ≡ max_file_len self.now.header }
     {
@@ -289,7 +289,7 @@ impl<'a> Encoder<'a> {
         Ok(n)
     }
 
-    /// Encodes the image into a new vector, which has exactly the file.
+    /// Encodes the image into a new vector, which holds only the file.
     ///
     /// `OutOfMemory` if the allocation of `required_buf_len` bytes fails.
     pub fn encode_to_vec(&self, alloc: Global) -> Result<Vec<u8>>
@@ -331,12 +331,12 @@ impl<'a> Encoder<'a> {
         Ok(file)
     }
 
-    /// Encodes the image to a writer, and returns how many bytes the file has; then all of it went
-    /// out. The writer isn't flushed.
+    /// Encodes the image to a writer, and returns how many bytes the file has, all of which were
+    /// written. The writer isn't flushed.
     ///
-    /// `IoError` if the writer reports a fault, an interruption among them, or takes no byte (kind
-    /// `WriteZero`); then a beginning of the file went out. The file is written in pieces of 4096
-    /// bytes and a last one of the rest.
+    /// `IoError` if the writer reports a fault (an interruption is one) or takes no byte (kind
+    /// `WriteZero`); then a beginning of the file was written. The file is written in pieces of
+    /// 4096 bytes and a last one of the rest.
     pub fn encode_to_stream<W: Write>(&self, writer: &mut W) -> Result<usize>
         // What the result is: all of the file was sent.
         ensures sent { IfOk result (λ n. (bytes : List ℕ)

@@ -6,7 +6,7 @@ use std::{fmt, io};
 /// Why a call refused.
 #[derive(Debug, Drop)]
 pub enum Error {
-    /// The first four bytes of a header aren't `qoif`; `magic` is their number, highest byte first.
+    /// The first four bytes of a header aren't `qoif`; `magic` is their value, highest byte first.
     InvalidMagic {
         magic: u32,
     },
@@ -14,7 +14,7 @@ pub enum Error {
     InvalidChannels {
         channels: u8,
     },
-    /// A number of a color space other than 0 and 1.
+    /// A color space number other than 0 and 1.
     InvalidColorSpace {
         colorspace: u8,
     },
@@ -29,7 +29,7 @@ pub enum Error {
         width: u32,
         height: u32,
     },
-    /// The buffer has `size` bytes, and `required` are wanted.
+    /// The buffer has `size` bytes, and `required` are needed.
     OutputBufferTooSmall {
         size: usize,
         required: usize,
@@ -38,13 +38,13 @@ pub enum Error {
     UnexpectedBufferEnd,
     /// The eight bytes after the chunks aren't the end marker.
     InvalidPadding,
-    /// The reader or the writer reported a fault, the reader ended, or a write took no byte.
+    /// The reader or the writer reported a fault, the reader ended early, or a write took no byte.
     IoError(io::Error),
     /// An allocation failed.
     OutOfMemory,
 }
 
-/// What a call that can refuse with an [`Error`] returns.
+/// What a call that can fail with an [`Error`] returns.
 pub type Result<T> = std::result::Result<T, Error>;
 
 impl fmt::Display for Error {

@@ -10,7 +10,7 @@ use crate::types::{Channels, ColorSpace};
 /// The size of an image, its number of channels and its color space (QOI specification 1.0, "QOI
 /// Header").
 ///
-/// A header of a file has width times height from 1 to 400,000,000; `try_new` sees to that.
+/// In a file's header, width times height is from 1 to 400,000,000; `try_new` checks that.
 #[derive(Clone, Copy, PartialEq, Eq, Hash, Debug)]
 pub struct Header {
     /// Width in pixels.
@@ -149,7 +149,7 @@ impl Header {
             .saturating_mul(usize::from(self.channels.as_u8()))
     }
 
-    /// The most bytes that the file of such an image has, or the greatest `usize` if that is less.
+    /// The most bytes that the file of such an image can have, or the greatest `usize` if less.
     pub fn encode_max_len(&self) -> usize
         ensures { result ≡ max_file_len self.now }
     {

@@ -157,25 +157,25 @@ impl TryFrom<u8> for Channels {
 /// the specification, and by this crate's decoder, the pixels are the same in each style.
 #[derive(Clone, Copy, PartialEq, Eq, Debug)]
 pub enum Style {
-    /// Repeats by runs, each other pixel by its index position if it is noted there, else by the
-    /// first of a difference, a luma and a full chunk that gives it. Repeats aren't noted, and an
-    /// empty position holds transparent black. The Rust crate with its feature `reference` writes
-    /// so.
+    /// Repeats by runs; each other pixel by its index position if that holds it, else by the first
+    /// of a difference, a luma and a full chunk that gives it. Repeats aren't put at their
+    /// position, and an empty position holds transparent black. The Rust crate with its feature
+    /// `reference` writes the same.
     Reference,
     /// As `Reference`, but a run of 1 is replaced by the index position of its pixel, if
     ///
-    /// - a pixel that is no repeat stands somewhere before it,
-    /// - another follows directly, and
+    /// - a pixel that isn't a repeat comes somewhere before it,
+    /// - another such pixel follows directly, and
     /// - the chunk before it isn't that position.
     ///
-    /// The file is as long.
+    /// The file is as long as in `Reference`.
     Places,
     /// As `Reference`, but opaque black that opens the image is put at its index position, too, and
     /// transparent black that isn't at its position is given by the least position where no pixel
     /// was put, if there is one. No other chunks of the image have fewer bytes.
     ///
-    /// It is for readers that are known to follow QOI 1.0. The decoder of the Rust crate reads some
-    /// such files otherwise, of four channels or into four, since it doesn't put the pixels of runs
-    /// and of empty positions at their position.
+    /// It is for decoders that are known to follow QOI 1.0. The Rust crate's gets other pixels from
+    /// some such files, if they have four channels or are decoded into four, since it doesn't put
+    /// the pixels of runs and of empty positions at their position.
     Tight,
 }

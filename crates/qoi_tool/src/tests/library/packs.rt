@@ -137,7 +137,7 @@ pub fn appended(
     Ok(back)
 }
 
-/// A tile is put at the end of an atlas. Returns its offset; the tiles before it stay where they are.
+/// A tile is put at the end of an atlas, and its offset returned; the tiles before it stay.
 pub fn put(atlas: &mut Vec<u8>, raw: &[u8], width: u32, height: u32) -> Result<usize, Error>
     ensures put { IfOk result (λ offset. HasTile atlas.new.items offset raw.now) }
     ensures kept { (offset : ℕ) (tile : List ℕ) → HasTile atlas.old.items offset tile
