@@ -61,9 +61,9 @@ impl<const N: usize> Coder<N> {
         }
     }
 
-    // The byte for the last of `count` repeats before a fresh pixel, if runs of 62 leave only that
-    // one: a run of 1, or in style `Places` the index position, if a fresh pixel came earlier and
-    // the chunk before isn't that position (a run of 62 never is). Else the byte isn't used.
+    // The byte of the one repeat that runs of 62 leave of `count` before a fresh pixel; unused if
+    // they leave none or several. A run of 1; in style `Places` the index position, if a fresh pixel
+    // came earlier and the chunk before isn't that position (a run of 62 never is).
     #[inline(always)]
     fn single_repeat_byte(&self, count: usize) -> u8
         ensures { bytes_of (single self.now count) ≡ result ∷ [] }
@@ -234,7 +234,7 @@ impl<const N: usize> Coder<N> {
         self.write_repeats_and_fresh(table, piece, &quad, bits, lane)
     }
 
-    // Writes the repeats at the front, but at most 992 of them, and returns how many it wrote.
+    // Writes the repeats at the front of all bytes left, at most 992, and returns how many.
     #[inline(always)]
     fn write_runs(&mut self, table: &mut Table, piece: &mut Piece, data: &[u8]) -> usize
         requires whole { length «data».now % N ≡ 0 }

@@ -12,6 +12,7 @@ ghost use Rattle.qoi.specs.writers.Writes.{AppendsBeginning};
 ghost use Rattle.qoi.specs.declared.chunk.Chunk.{Chunk};
 ghost use Rattle.qoi.specs.Decoding.{DecodesFile, ReadsImage, TakesHeader};
 ghost use Rattle.qoi.specs.Verdicts.{AreCut};
+ghost use Rattle.qoi.specs.Images.{file_image};
 
 use qoi::{
     Channels, Decoder, Encoder, Error, Header, Style, decode_to_buf, decode_to_vec, encode_to_buf,
@@ -466,6 +467,21 @@ pub fn at_most(alloc: Global, file: &[u8], most: usize) -> Result<Vec<u8>, Error
         × DecodesFile file.now h rest raw.items) }
 {
     let mut decoder = Decoder::new(file)?;
+    if decoder.required_buf_len() > most {
+        return Err(Error::OutOfMemory);
+    }
+    let raw = decoder.decode_to_vec(alloc)?;
+    Ok(raw)
+}
+
+/// Memory that is bounded first, from a reader. The image of the file that stands ahead, if the
+/// reader's bytes are known; and it has at most so many bytes.
+pub fn at_most_from<R: Read + Drop>(alloc: Global, reader: R, most: usize) -> Result<Vec<u8>, Error>
+    ensures image { (bytes : List ℕ) → R.remaining reader ≡ Some bytes
+        → IfOk result (λ raw. raw.items ≡ file_image bytes) }
+    ensures bounded { IfOk result (λ raw. length raw.items ≤ most) }
+{
+    let mut decoder = Decoder::from_stream(reader)?;
     if decoder.required_buf_len() > most {
         return Err(Error::OutOfMemory);
     }

@@ -2,11 +2,12 @@
 //! since a test is proved in more than twice the time if it has twice the facts.
 use crate::tests::fakes::{Bad, End, ONE_RGB_PIXEL, PIXEL, Sink};
 use crate::tests::library::callers::{
-    all_images, as_long, at_most, both_channels, both_images, bounded_bytes, decoded_part,
-    encoded_part, first_byte, frame_store, header_ahead, into_buffer, keep_and_try, keep_twice,
-    lengths, lengths_back, methods_there_and_back, more_needed, near_shortest, no_longer, pack,
-    pack_and_keep, pack_and_keep_in, pack_at_once, raw_bytes, receive, send, send_and_keep,
-    shortest, space_byte, there_and_back, tight_part, tight_there_and_back, two_images,
+    all_images, as_long, at_most, at_most_from, both_channels, both_images, bounded_bytes,
+    decoded_part, encoded_part, first_byte, frame_store, header_ahead, into_buffer, keep_and_try,
+    keep_twice, lengths, lengths_back, methods_there_and_back, more_needed, near_shortest,
+    no_longer, pack, pack_and_keep, pack_and_keep_in, pack_at_once, raw_bytes, receive, send,
+    send_and_keep, shortest, space_byte, there_and_back, tight_part, tight_there_and_back,
+    two_images,
 };
 use crate::tests::library::support::{assert_bytes, assert_given, assert_header};
 use qoi::{Error, Header, Result, Style};
@@ -218,6 +219,13 @@ fn channels_and_bounds(rt: HostRuntime) {
     let alloc = rt.alloc();
     assert_given(&rt, at_most(alloc, &ONE_RGB_PIXEL, 3), &PIXEL);
     assert!(rt; matches!(at_most(alloc, &ONE_RGB_PIXEL, 2), Err(Error::OutOfMemory)));
+    assert_given(
+        &rt,
+        at_most_from(alloc, ONE_RGB_PIXEL.as_slice(), 3),
+        &PIXEL,
+    );
+    let small = at_most_from(alloc, ONE_RGB_PIXEL.as_slice(), 2);
+    assert!(rt; matches!(small, Err(Error::OutOfMemory)));
     let both = both_channels(alloc, &ONE_RGB_PIXEL);
     assert_both(&rt, both, &PIXEL, &[0x0b, 0x79, 0xe7, 255]);
     let cut = more_needed(alloc, &ONE_RGB_PIXEL[..25]);
