@@ -62,8 +62,8 @@ impl<const N: usize> Coder<N> {
     }
 
     // The byte of the one repeat that runs of 62 leave of `count` before a fresh pixel; unused if
-    // they leave none or several. A run of 1; in style `Places` the index position, if a fresh pixel
-    // came earlier and the chunk before isn't that position (a run of 62 never is).
+    // they leave none or several. A run of 1; in style `Places` the index position, if a fresh
+    // pixel came earlier and the chunk before isn't that position (a run of 62 never is).
     #[inline(always)]
     fn single_repeat_byte(&self, count: usize) -> u8
         ensures { bytes_of (single self.now count) ≡ result ∷ [] }
