@@ -6,7 +6,7 @@ use mir.Val.{bool_byte}
 use Rattle.qoi.specs.declared.decode.fast.Progress.{Progress}
 use Rattle.qoi.specs.Qoi.{Past}
 use Rattle.qoi.specs.Raw.{IsChannels}
-use Rattle.qoi.specs.inner.Filling.{upto, filling, HasWritten, DecodesChunk, FastBetween}
+use Rattle.qoi.specs.inner.Filling.{upto, filling, HasWritten, HasFilled, DecodesChunk, DecoderBetween, IsFront, FastBetween}
 use Rattle.qoi.specs.inner.Hashed.{pixel_of_lanes, HoldsSeen}
 use Rattle.qoi.proofs.decoding.FilledBuffer.{by_channels, filled_copies}
 use Rattle.qoi.proofs.decoding.FirstChunk.{PutsCopies}
@@ -21,47 +21,24 @@ pub record ShortCount (c b size : ℕ) : Type 0 where
   pub fits : count ≤ 16 / c
   pub low : b < 254
 
+-- a block holds a pixel, and five at most
+pub in_block : (c : ℕ) → IsChannels c → (1 ≤ 16 / c) × (16 / c ≤ 5)
+in_block c is = by_channels (λ d. (1 ≤ 16 / d) × (16 / d ≤ 5)) is (omega arith, omega arith) (omega arith, omega arith)
+
 -- each short chunk has some
 pub short_count : (c b size : ℕ) → IsChannels c → b ≤ 191 + 16 / c → (b < 192 → size ≡ c) → (192 ≤ b → b < 254 → size ≡ c * (b - 191))
     → ShortCount c b size
-short_count c b size (inl is) =
-    subst (λ d. b ≤ 191 + 16 / d → (b < 192 → size ≡ d) → (192 ≤ b → b < 254 → size ≡ d * (b - 191)) → ShortCount d b size) (sym is) (of_3 b size)
-  where
-    of_3 : (b size : ℕ) → b ≤ 191 + 16 / 3 → (b < 192 → size ≡ 3) → (192 ≤ b → b < 254 → size ≡ 3 * (b - 191)) → ShortCount 3 b size
-    of_3 b size short one run = elim (cases_lt b 192) [
-      | inl less ↦ record { count = 1; size_is = one less; once = λ l. refl; often = λ l. absurd (omega arith); fits = omega arith; low = omega arith }
-      | inr more ↦ let low : b < 254 = omega arith in
-          record { count = b - 191; size_is = run more low; once = λ l. absurd (omega arith); often = λ l. omega arith; fits = omega arith; low = low }
-    ]
-short_count c b size (inr is) =
-    subst (λ d. b ≤ 191 + 16 / d → (b < 192 → size ≡ d) → (192 ≤ b → b < 254 → size ≡ d * (b - 191)) → ShortCount d b size) (sym is) (of_4 b size)
-  where
-    of_4 : (b size : ℕ) → b ≤ 191 + 16 / 4 → (b < 192 → size ≡ 4) → (192 ≤ b → b < 254 → size ≡ 4 * (b - 191)) → ShortCount 4 b size
-    of_4 b size short one run = elim (cases_lt b 192) [
-      | inl less ↦ record { count = 1; size_is = one less; once = λ l. refl; often = λ l. absurd (omega arith); fits = omega arith; low = omega arith }
+short_count c b size is short one run =
+    let block = in_block c is in
+    elim (cases_lt b 192) [
+      | inl less ↦ record { count = 1; size_is = omega (arith, one less); once = λ l. refl; often = λ l. absurd (omega arith); fits = block.0; low = omega arith }
       | inr more ↦ let low : b < 254 = omega arith in
           record { count = b - 191; size_is = run more low; once = λ l. absurd (omega arith); often = λ l. omega arith; fits = omega arith; low = low }
     ]
 
--- a block holds a pixel
-pub one_in_block : (c : ℕ) → IsChannels c → (c ≡ c * 1) × (1 ≤ 16 / c)
-one_in_block c (inl is) = (omega arith, subst (λ d. 1 ≤ 16 / d) (sym is) (omega arith))
-one_in_block c (inr is) = (omega arith, subst (λ d. 1 ≤ 16 / d) (sym is) (omega arith))
-
--- a block's pixels have room if the block has, and end where a pixel does
-pub record After (c at count len : ℕ) : Type 0 where
-  pub fits : at + c * count ≤ len
-  pub whole : (at + c * count) % c ≡ 0
-
--- so it is after as many pixels as a block holds
-pub after_block : (c at count len : ℕ) → IsChannels c → at % c ≡ 0 → count ≤ 16 / c → at + 16 ≤ len → After c at count len
-after_block c at count len is = by_channels (λ d. at % d ≡ 0 → count ≤ 16 / d → at + 16 ≤ len → After d at count len) is (λ p q r. record { fits = omega arith; whole = omega arith })
-    (λ p q r. record { fits = omega arith; whole = omega arith })
-
--- and after any run
-pub after_run : (c at count len : ℕ) → IsChannels c → at % c ≡ 0 → count ≤ 62 → at + 256 ≤ len → After c at count len
-after_run c at count len is = by_channels (λ d. at % d ≡ 0 → count ≤ 62 → at + 256 ≤ len → After d at count len) is (λ p q r. record { fits = omega arith; whole = omega arith })
-    (λ p q r. record { fits = omega arith; whole = omega arith })
+-- after copies of a pixel the output ends where a pixel does, if it did before
+whole_after : (c at count : ℕ) → IsChannels c → at % c ≡ 0 → (at + c * count) % c ≡ 0
+whole_after c at count is = by_channels (λ d. at % d ≡ 0 → (at + d * count) % d ≡ 0) is (λ p. omega arith) (λ p. omega arith)
 
 -- the byte after a luma is the second one, and after another short chunk the first
 pub next_byte : (luma : Bool) (bytes : List ℕ) (taken size next : ℕ) → size ≡ bool_byte luma
@@ -69,24 +46,22 @@ pub next_byte : (luma : Bool) (bytes : List ℕ) (taken size next : ℕ) → siz
 next_byte true bytes taken size next s e = let at : taken + 1 + size ≡ taken + 2 = omega (arith, s) in rw at e
 next_byte false bytes taken size next s e = let at : taken + 1 + size ≡ taken + 1 = omega (arith, s) in rw at e
 
--- copies of a pixel that was put at its index position
-pub copies_put : {f c : ℕ} {table table' out out' : List ℕ} (last last' at count : ℕ) → IsChannels c → at < length out → at + c * count ≤ length out
-    → length out' ≡ length out → ((past : Past) → HoldsSeen table past → HoldsSeen table' (pixel_of_lanes last' ∷ past))
-    → HasWritten f c (upto out at) (upto out' (at + c * count)) (replicate count (pixel_of_lanes last'))
-    → PutsCopies f c (pixel_of_lanes last') count (filling table last out at) (filling table' last' out' (at + c * count))
-copies_put {f} {c} {table} {table'} {out} {out'} last last' at count is inside fits size put written = record {
-  last_is = refl;
-  table = put;
-  filled = λ n past h. filled_copies f c n out out' at count (pixel_of_lanes last') past is inside fits size written h;
-}
-
--- a chunk more was taken
-pub fast_step : {f c n : ℕ} {bytes table table' out out' : List ℕ} (now new : Progress) (k : ℕ) → IsChannels c → FastBetween f c n bytes now table out
-    → now.written < length out → new.taken ≡ now.taken + k
-    → DecodesChunk f c (take k (drop now.taken bytes)) (filling table now.last out now.written) (filling table' new.last out' new.written)
-    → new.written ≤ length out' → new.written % c ≡ 0 → new.next ≡ get_or bytes new.taken 0 → FastBetween f c n bytes new table' out'
-fast_step {f} {c} {n} {bytes} {table} {table'} {out} {out'} now new k is h inside taken decodes within whole next = record {
-  between = goes_on {old = filling table now.last out now.written} {new = filling table' new.last out' new.written} is h.between inside decodes
-      (λ before front. ap (λ z. z ++ take k (drop now.taken bytes)) front ∙ sym (take-add now.taken k bytes) ∙ ap (λ m. take m bytes) (sym taken)) within whole;
-  next_is = next;
-}
+-- a chunk more was taken, its pixel put at its index position and written `count` times
+pub fast_step : {f c n : ℕ} {bytes table table' out out' : List ℕ} (now new : Progress) (count : ℕ) → IsChannels c → FastBetween f c n bytes now table out
+    → now.written < length out → now.written + c * count ≤ length out → length out' ≡ length out → new.written ≡ now.written + c * count
+    → ((past : Past) → HoldsSeen table past → HoldsSeen table' (pixel_of_lanes new.last ∷ past))
+    → HasWritten f c (upto out now.written) (upto out' (now.written + c * count)) (replicate count (pixel_of_lanes new.last))
+    → new.next ≡ get_or bytes new.taken 0 → (k : ℕ) → new.taken ≡ now.taken + k
+    → (PutsCopies f c (pixel_of_lanes new.last) count (filling table now.last out now.written) (filling table' new.last out' (now.written + c * count))
+    → DecodesChunk f c (take k (drop now.taken bytes)) (filling table now.last out now.written) (filling table' new.last out' (now.written + c * count)))
+    → FastBetween f c n bytes new table' out'
+fast_step {f} {c} {n} {bytes} {table} {table'} {out} {out'} now new count is h inside fits size end put written next k taken decodes =
+    let copies = λ (m : ℕ) (past : Past) (s : HasFilled f c m (upto out now.written) past). filled_copies f c m out out' now.written count (pixel_of_lanes new.last) past is inside fits size written s in
+    let decoded = decodes (record { last_is = refl; table = put; filled = copies }) in
+    record {
+      between = subst (λ at. DecoderBetween f c n (IsFront bytes new.taken) (filling table' new.last out' at)) (sym end)
+          (goes_on {old = filling table now.last out now.written} {new = filling table' new.last out' (now.written + c * count)} is h.between inside decoded
+          (λ before front. ap (λ z. z ++ take k (drop now.taken bytes)) front ∙ sym (take-add now.taken k bytes) ∙ ap (λ m. take m bytes) (sym taken))
+          (rw size fits) (whole_after c now.written count is h.between.whole));
+      next_is = next;
+    }
