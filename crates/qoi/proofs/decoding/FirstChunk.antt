@@ -1,6 +1,8 @@
 -- The chunk that eight bytes or more begin with.
-use Rattle.std.proofs.Common.{◌≡◌, ℕ, ◌+◌, ◌<◌, ◌≤◌, inl, inr, List, [], ◌∷◌, ◌++◌, length, take, get_or, replicate, arith, refl, sym, ap, ◌∙◌}
+use Rattle.std.proofs.Common.{◌≡◌, ℕ, ◌+◌, ◌<◌, ◌≤◌, inl, inr, List, [], ◌∷◌, ◌++◌, length, take, get_or, replicate, arith, refl, sym, ap, ◌∙◌, Bool, nat_le, nat_lt, ◌&&◌}
 use Rattle.std.proofs.lemmas.Bool.{cases_lt}
+use Rattle.std.proofs.lemmas.Bool.Decides.{nat_tests}
+use mir.Val.{bool_byte}
 use Rattle.qoi.specs.declared.chunk.Chunk.{Chunk}
 use Rattle.qoi.specs.declared.chunk.Chunk.TheVariants.{Place, Diff, Luma, Run, Rgb, Rgba}
 use Rattle.qoi.specs.Qoi.{RgbaPixel, Past, AreBytes, IsChunk, pixel, seen, after_diff, after_luma, times, pixel_after}
@@ -61,6 +63,17 @@ pub record HasSize (b taken count : ℕ) : Type 0 where
   pub run : 192 ≤ b → taken ≡ 1
   pub once : b < 192 → count ≡ 1
   pub often : 192 ≤ b → count + 191 ≡ b
+
+-- one byte, and one more if it is a luma
+pub size_of : (b taken more count : ℕ) (luma : Bool) → luma ≡ (nat_le 128 b && nat_lt b 192) → more ≡ bool_byte luma → taken ≡ more + 1
+    → (b < 192 → count ≡ 1) → (192 ≤ b → count + 191 ≡ b) → HasSize b taken count
+size_of b taken more count luma is by sum once often = record {
+  one = λ l. grind (arith, nat_tests);
+  luma = λ l h. grind (arith, nat_tests);
+  run = λ l. grind (arith, nat_tests);
+  once = once;
+  often = often;
+}
 
 -- a run
 pub decodes_run : {f c : ℕ} {old new : Filling} (bytes : List ℕ) (count : ℕ) → 1 ≤ length bytes → get_or bytes 0 0 ≡ count + 191 → 0 < count → count ≤ 62

@@ -1,10 +1,9 @@
 -- Each kind of chunk, by its first byte.
-use Rattle.std.proofs.Common.{◌≡◌, ◌+◌, ◌<◌, get_or, arith, rules, refl, ap, ◌∙◌, subst}
+use Rattle.std.proofs.Common.{◌≡◌, ◌+◌, ◌<◌, get_or, arith, rules, refl, ap, ◌∙◌, subst, nat_le, nat_lt, ◌&&◌}
 use Rattle.qoi.specs.Qoi.{AreBytes}
 use Rattle.qoi.specs.inner.Hashed.{pixel_of_lanes}
-use Rattle.std.proofs.lemmas.Bool.Decides.{nat_tests}
 use Rattle.qoi.specs.inner.Filling.{filling}
-use Rattle.qoi.proofs.decoding.FirstChunk.{PutsCopies, decodes_short, decodes_rgb, decodes_rgba}
+use Rattle.qoi.proofs.decoding.FirstChunk.{PutsCopies, size_of, decodes_short, decodes_rgb, decodes_rgba}
 use Rattle.qoi.proofs.decode.pixels.decode_chunk.Goals.{in-254, in-255, in_default}
 use Rattle.qoi.proofs.decode.pixels.decode_chunk.Goals as goal
 
@@ -32,18 +31,10 @@ returns-clause-decodes g c =
       | in_default w ↦
           let taken : c.match-b1.last.1 ≡ w.from-size.result + 1 = search rules in
           let px : c.match-b1.last.0 ≡ w.after_short.result = search rules in
-          let luma = w.is_luma.ensures in
-          let from = w.from.ensures in
-          let size = w.from-size.ensures in
+          let luma : w.is_luma.result ≡ (nat_le 128 first && nat_lt first 192) = rw w.from.ensures at w.is_luma.ensures in
           let below : first < 254 = search rules in
           decodes_short {old = old} {new = new} bytes first (get_or bytes 1 0) c.match-b1.last.1 c.times.result (omega (arith, c.requires.long)) refl refl below (fits 1)
-          (record {
-            one = λ l. grind (arith, nat_tests);
-            luma = λ l h. grind (arith, nat_tests);
-            run = λ l. grind (arith, nat_tests);
-            once = λ l. c.times.ensures.one l;
-            often = λ l. c.times.ensures.run l below;
-          })
+          (size_of first _ w.from-size.result c.times.result w.is_luma.result luma w.from-size.ensures taken c.times.ensures.one (λ l. c.times.ensures.run l below))
           (record {
             place = λ l past h. ap pixel_of_lanes (px ∙ w.after_short.ensures.place l) ∙ w.at-held.ensures.place l past h;
             diff = λ l h. ap pixel_of_lanes px ∙ w.after_short.ensures.diff l h;

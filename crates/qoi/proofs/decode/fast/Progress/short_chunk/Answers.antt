@@ -1,12 +1,11 @@
 -- The chunk's pixel is the sum, its copies are those of the block, and the byte after it is picked.
 use Rattle.std.proofs.Common.{◌≡◌, ℕ, ◌+◌, ◌*◌, ◌<◌, ◌≤◌, drop, length, get_or, arith, sym, ap, ◌∙◌, subst}
 use Rattle.std.proofs.lemmas.List.{get_or-drop, length-drop}
-use Rattle.std.proofs.lemmas.Bool.Decides.{nat_tests}
 use Rattle.qoi.specs.declared.decode.fast.Progress.{Progress}
 use Rattle.qoi.specs.inner.Filling.{FastBetween}
 use Rattle.qoi.specs.inner.Hashed.{pixel_of_lanes}
 use Rattle.qoi.proofs.decoding.FilledBuffer.{block_fits}
-use Rattle.qoi.proofs.decoding.FirstChunk.{HasSize, decodes_short}
+use Rattle.qoi.proofs.decoding.FirstChunk.{size_of, decodes_short}
 use Rattle.qoi.proofs.decoding.FastSteps.{short_count, next_byte, fast_step}
 use Rattle.qoi.proofs.decode.fast.Progress.short_chunk.Goals as goal
 
@@ -18,19 +17,11 @@ returns-clause-between g c n h =
     let s = short_count g.row.N now.next c.advance.result is c.requires.short c.advance.ensures.once c.advance.ensures.run in
     let room = block_fits g.row.N now.written s.count (length c.args.out.now) is s.fits c.requires.room in
     let rest = drop now.taken bytes in
-    let luma = c.is_luma-luma.ensures in
-    let from = c.from.ensures in
     let first : now.next ≡ get_or rest 0 0 = h.next_is ∙ ap (λ i. get_or bytes i 0) (omega arith) ∙ sym (get_or-drop now.taken bytes 0 0) in
     let long : 2 ≤ length rest = omega (arith, c.requires.input, length-drop now.taken bytes) in
-    let size : HasSize now.next (1 + c.from.result) s.count = record {
-      one = λ l. grind (arith, nat_tests);
-      luma = λ l h. grind (arith, nat_tests);
-      run = λ l. grind (arith, nat_tests);
-      once = s.once;
-      often = s.often;
-    } in
+    let size = size_of now.next (1 + c.from.result) c.from.result s.count c.is_luma-luma.result c.is_luma-luma.ensures c.from.ensures (omega arith) s.once s.often in
     let byte : get_or bytes (now.taken + 1) 0 < 256 = omega (arith, c.type_inv.bytes (now.taken + 1)) in
-    let next = next_byte c.is_luma-luma.result bytes now.taken c.from.result c.from-2.result from (c.from-2.ensures ∙ c.pick.ensures) in
+    let next = next_byte c.is_luma-luma.result bytes now.taken c.from.result c.from-2.result c.from.ensures (c.from-2.ensures ∙ c.pick.ensures) in
     let new : Progress = record { last = c.after_short-last.result; taken = now.taken + 1 + c.from.result; written = now.written + c.advance.result; next = c.from-2.result } in
     fast_step now new s.count is h (omega (arith, c.requires.room)) room c.write_block.auto.out (ap (λ k. now.written + k) s.size_is) c.put.ensures
     (c.write_block.ensures s.count s.fits) next (1 + c.from.result) (omega arith)
