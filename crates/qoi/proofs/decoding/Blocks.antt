@@ -137,5 +137,4 @@ four_written p at k count is within le w1 w2 w3 w4 =
 
 -- sixteen blocks have room for the longest run
 pub blocks_enough : (c count : ℕ) → IsChannels c → count ≤ 62 → count ≤ 4 * (4 * (16 / c))
-blocks_enough c count (inl e) = subst (λ d. count ≤ 62 → count ≤ 4 * (4 * (16 / d))) (sym e) (λ le. omega arith)
-blocks_enough c count (inr e) = subst (λ d. count ≤ 62 → count ≤ 4 * (4 * (16 / d))) (sym e) (λ le. omega arith)
+blocks_enough c count is = by_channels (λ d. count ≤ 62 → count ≤ 4 * (4 * (16 / d))) is (λ le. omega arith) (λ le. omega arith)
