@@ -1,5 +1,5 @@
 -- A file is decoded as such, and it is not refused.
-use Rattle.std.proofs.Common.{Err, ◌<◌, ◌⊎◌, inl, inr, ⊎_elim, ◌≡◌, [], append-nil, ◌≤◌, List, ◌++◌, length, take, drop, Some, Ok, ℕ, IsOk, false, true, refl, ap, sym, ◌∙◌, subst, arith}
+use Rattle.std.proofs.Common.{Err, ◌<◌, ◌⊎◌, inl, inr, ⊎_elim, ◌≡◌, [], append-nil, ◌≤◌, List, length, take, drop, Some, Ok, ℕ, IsOk, false, true, refl, ap, sym, ◌∙◌, subst, arith}
 use Rattle.std.proofs.lemmas.Bool.{cases_lt}
 use Rattle.qoi.specs.declared.header.Header.{Header}
 use Rattle.qoi.specs.Qoi.{channels_number, header_of, pixel_count, header_size}
@@ -8,8 +8,6 @@ use Rattle.qoi.specs.Decoding.{RefusesBuffer, RefusesBytes, DecodesFile, ReadsIm
 use Rattle.qoi.specs.Raw.{image_byte_count, byte_count}
 use Rattle.qoi.specs.DecoderState.{DecoderState, output_byte_count}
 use Rattle.qoi.proofs.decoding.OneFile.{file_has_header, file_is_whole, header_is_one, decodes_after, decoding_is_one}
-use Rattle.qoi.specs.declared.types.Style.{Style}
-use Rattle.qoi.specs.Encoded.{IsFileOf}
 use Rattle.std.proofs.lemmas.Result.{err_from_is_err_and}
 use Rattle.qoi.proofs.decoding.Ahead.{file_ahead}
 use Rattle.qoi.proofs.decoding.FrontImage.{file_image_is}

@@ -3,7 +3,6 @@ use Rattle.std.proofs.Common.{Ok, ◌≡◌, length, [], append-nil, ℕ, List, 
 use Rattle.qoi.specs.declared.header.Header.{Header}
 use Rattle.std.proofs.lemmas.Result.{err_from_is_err_and}
 use Rattle.qoi.specs.Qoi.{header_of, pixel_count, header_size}
-use Rattle.qoi.specs.Verdicts.{IsWhole, AreWrong, AreCut}
 use Rattle.qoi.specs.Decoding.{DecodesFile, RefusesBytes}
 use Rattle.qoi.specs.DecoderState.{DecoderState}
 use Rattle.std.proofs.lemmas.List.{length-drop}

@@ -1,15 +1,13 @@
 -- Whole bytes in memory are not refused, and each image takes a bounded number of bytes.
-use Rattle.std.proofs.Common.{◌≡◌, ◌≤◌, ◌+◌, ◌*◌, ℕ, List, Option, length, slice_index, ap, ◌∙◌, arith, subst}
+use Rattle.std.proofs.Common.{◌≡◌, ◌≤◌, ◌*◌, ℕ, List, Option, length, ap, ◌∙◌, arith, subst}
 use Rattle.std.proofs.lemmas.List.{length-take-le}
 use Rattle.std.proofs.lemmas.Result.{err_from_is_err_and}
 use lib.Seq.{take-append_seam}
 use Rattle.qoi.specs.declared.error.Error.TheVariants.{InvalidPadding, UnexpectedBufferEnd}
 use Rattle.qoi.specs.Qoi.{channels_number, pixel_count}
 use Rattle.qoi.specs.Decoding.{ReadsImage, RefusesImage}
-use Rattle.qoi.specs.DecoderState.{TakesAtMost}
 use Rattle.qoi.proofs.decoding.Ahead.{fault_ahead, file_from_image, fourth_of_image, image_not_cut, image_not_wrong, image_read_from}
 use Rattle.qoi.proofs.decoding.FrontImage.{front_read, nine_read, some_pixels, three_read}
-use Rattle.qoi.specs.Reading.{IsImage}
 use Rattle.qoi.proofs.decoding.RefusedBytes.{end_is_cut, padding_is_only_wrong, refused_for_cut, refused_for_wrong}
 use Rattle.qoi.proofs.decoding.ImageSize.{channels_are, image_pixels}
 use Rattle.qoi.proofs.decoding.Refusals.{whole_not_refused_in}
@@ -52,9 +50,11 @@ returns-clause-decoded g c =
     let same : size ≡ length out = omega (arith, c.decode_image.auto.out, length-take-le size c.args.buf.now (omega arith)) in
     let P = λ (old : Option (List ℕ)) (z : List ℕ). ReadsImage (channels_number d.header.channels) (channels_number d.channels) (pixel_count d.header) old
     (g.R.Reader.ahead c.decode_image.new.self) z in
-    let read = rw (pixels, file, channels) at c.in_ok-decode_image.ensures.read.1 in
-    (c.required_buf_len-size.ensures.bytes, subst (P (g.R.Reader.ahead d.reader)) (grind (arith, same, take-append_seam))
-    (subst (λ s. P (g.R.Reader.ahead s.reader) out) c.self.view_is read))
+    let read = rw (pixels, file, channels) at c.in_ok-decode_image.ensures.read.1 in (
+      c.required_buf_len-size.ensures.bytes,
+      subst (P (g.R.Reader.ahead d.reader)) (grind (arith, same, take-append_seam))
+          (subst (λ s. P (g.R.Reader.ahead s.reader) out) c.self.view_is read),
+    )
 
 pub returns-clause-bounded : goal.returns-clause-bounded
 returns-clause-bounded g c = read_within _ _ _ _ _ _ (returns-clause-decoded g c).1
