@@ -84,7 +84,7 @@ luma_both : (r g b a : ℕ) → r % 16 ≡ r → g % 64 ≡ g → b % 16 ≡ b �
     × (luma_number (r + g * 2 ^ 8 + b * 2 ^ 16 + a * 2 ^ 24) / 256 % 256 ≡ r % 16 * 16 + b % 16)
 luma_both r g b a er eg eb ea = (omega arith, omega arith)
 
--- the four of one of two numbers
+-- the four bytes of an RGB's number and of an RGBA's
 full_bytes : (p n : ℕ) → n ≤ 1 → (plus_32 (rgb_number p) n % 256 ≡ 254 + n) × (plus_32 (rgb_number p) n / 256 % 256 ≡ p % 2 ^ 8)
     × (plus_32 (rgb_number p) n / 256 / 256 % 256 ≡ p / 2 ^ 8 % 2 ^ 8) × (plus_32 (rgb_number p) n / 256 / 256 / 256 % 256 ≡ p / 2 ^ 16 % 2 ^ 8)
 full_bytes p n l = (omega arith, omega arith, omega arith, omega arith)

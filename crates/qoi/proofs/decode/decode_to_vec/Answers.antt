@@ -17,9 +17,17 @@ returns-in_err-out-clause-refused c =
     let p = err_from_is_err_and c.from_residual-in_err-out.result c.from_residual-in_err-out.ensures.1 in
     let d = c.in_ok-decoder.decoder in
     let accepted = c.in_ok-decoder.ensures.accepted in
-    rw (p.1, p.2) (⊎_elim (λ none. inr (none, d.header, accepted.0))
-    (λ r. inl (inr (d.header, accepted.0, subst (λ z. RefusesBytes (pixel_count d.header) z c.in_err-out.field-0.0) accepted.2 r.1)))
-    c.in_err-out.ensures.refused)
+    rw (p.1, p.2) (⊎_elim (λ none. inr (
+      none,
+      d.header,
+      accepted.0,
+    ))
+    (λ r. inl (inr (
+      d.header,
+      accepted.0,
+      subst (λ z.
+          RefusesBytes (pixel_count d.header) z c.in_err-out.field-0.0) accepted.2 r.1,
+    ))) c.in_err-out.ensures.refused)
 
 pub returns-in_err-out-clause-accepts : goal.returns-in_err-out-clause-accepts
 returns-in_err-out-clause-accepts c h cs rest f split =
