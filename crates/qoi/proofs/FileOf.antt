@@ -14,7 +14,7 @@ use Rattle.qoi.specs.declared.types.Style.TheVariants.{Reference, Places, Tight}
 use Rattle.qoi.specs.Written.{Written}
 use Rattle.qoi.specs.Styles.{WrittenIn}
 use Rattle.qoi.specs.Decoding.{DecodesFile}
-use Rattle.qoi.specs.Encoded.{max_file_len, image_pixels, Spans, IsShortest, IsNearShortest, IsFileBy, IsAsReference, IsShortIn, IsReadBack, IsFileOf}
+use Rattle.qoi.specs.Encoded.{max_file_len, image_pixels, Spans, IsNearShortest, IsFileBy, IsAsReference, IsShortIn, IsReadBack, IsFileOf}
 use Rattle.qoi.proofs.format.Appended.{length-bytes_of}
 use Rattle.qoi.proofs.decoding.FilledBuffer.{take_whole}
 use Rattle.qoi.proofs.decoding.FrontImage.{file_image_is, file_rest_is}
@@ -264,16 +264,20 @@ file_spans style h raw bytes f =
       reaches = style_reaches style image (pixel_count h) e.cs e.written (count h raw f.is_file.valid f.is_file.size);
     }
 
--- so in no style is the file shorter than the least number of bytes
-pub shortest_is_least : (style : Style) (h : Header) (raw bytes : List ℕ) (n : ℕ) → IsShortest h raw n → IsFileOf style h raw bytes → n ≤ length bytes
-shortest_is_least style h raw bytes n s f =
+-- so in no style is the file shorter than in style Tight
+pub shortest_is_least : (least style : Style) (h : Header) (raw tight bytes : List ℕ) → least ≡ Tight → IsFileOf least h raw tight
+    → IsFileOf style h raw bytes → length tight ≤ length bytes
+shortest_is_least least style h raw tight bytes is t f =
     let e = f.is_file.encoded in
-    subst (λ z. n ≤ length z) (sym e.bytes_are) (s.shortest e.cs (file_spans style h raw bytes f))
+    let s = rw is at t in
+    subst (λ z. length tight ≤ length z) (sym e.bytes_are) (s.shortness.shortest e.cs (file_spans style h raw bytes f))
 
 -- in style Places it is as long as in style Reference
-pub places_length : (h : Header) (raw placed bytes : List ℕ) → IsFileOf Places h raw placed → IsFileOf Reference h raw bytes → length placed ≡ length bytes
-places_length h raw placed bytes p f =
-    let d = p.is_file.encoded in
+pub places_length : (style : Style) (h : Header) (raw placed bytes : List ℕ) → style ≡ Places → IsFileOf style h raw placed
+    → IsFileOf Reference h raw bytes → length placed ≡ length bytes
+places_length style h raw placed bytes is p f =
+    let q = rw is at p in
+    let d = q.is_file.encoded in
     let e = f.is_file.encoded in
     let written = subst (λ cs. Written (image_pixels h raw) cs) (sym e.written.is) e.written.written in
     let as_long = places_as_long (image_pixels h raw) e.cs d.cs written d.written in

@@ -84,16 +84,11 @@ image_read channels h bytes left out r =
       record { cs = w.0; whole = w.2; out_is = w.4 },
     )
 
--- so it is if the channels and the pixels are given by numbers
-pub image_read_of : {R : Type 0} (ahead : R → Option (List ℕ)) (s d : DecoderState R) (left : Option (List ℕ)) (f c n : ℕ) (out bytes : List ℕ)
-    → s ≡ d → c ≡ channels_number s.channels → f ≡ channels_number s.header.channels → n ≡ pixel_count d.header
-    → ReadsImage f c n (ahead s.reader) left out → ahead d.reader ≡ Some bytes
-    → (rest : List ℕ) × (left ≡ Some rest) × IsImage d.channels bytes d.header rest out
-image_read_of {R} ahead s d left f c n out bytes same channels file pixels r told =
-    let P : DecoderState R → Type 0 = λ t. ReadsImage (channels_number t.header.channels) (channels_number t.channels) (pixel_count d.header)
-    (ahead t.reader) left out in
-    let Q : Option (List ℕ) → Type 0 = λ z. ReadsImage (channels_number d.header.channels) (channels_number d.channels) (pixel_count d.header) z left out in
-    image_read d.channels d.header bytes left out (subst Q told (subst P same (rw (sym file, sym channels, sym pixels) r)))
+-- so it is of what is ahead of a decoder, if an equation says that the bytes are known
+pub image_read_from : {R : Type 0} (ahead : R → Option (List ℕ)) (d : DecoderState R) (bytes : List ℕ) (left : Option (List ℕ)) (out : List ℕ)
+    → ReadsImage (channels_number d.header.channels) (channels_number d.channels) (pixel_count d.header) (ahead d.reader) left out
+    → ahead d.reader ≡ Some bytes → (rest : List ℕ) × (left ≡ Some rest) × IsImage d.channels bytes d.header rest out
+image_read_from ahead d bytes left out r told = image_read d.channels d.header bytes left out (rw told at r)
 
 -- of a decoder of these bytes what is read, in the file's own channels, is a file at their front
 pub file_from_image : {R : Type 0} (next : R → Option (List ℕ)) (d : DecoderState R) (bytes ahead : List ℕ) (left : Option (List ℕ))

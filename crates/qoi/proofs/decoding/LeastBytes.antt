@@ -18,14 +18,11 @@ times_most c is = omega arith
 pixels_most : (past : Past) (cs : List Chunk) → AreChunks cs → length (then_chunks past cs) ≤ length past + 62 * length (chunk_bytes cs)
 pixels_most past [] chunks = omega arith
 pixels_most past (c ∷ cs) chunks =
-    let more = pixels_most (then_chunk past c) cs chunks.1 in
-    let most = times_most c chunks.0 in
-    let some = (length-bytes_of c).0 in
     omega (
       arith,
-      more,
-      most,
-      some,
+      pixels_most (then_chunk past c) cs chunks.1,
+      times_most c chunks.0,
+      (length-bytes_of c).0,
       length-append (bytes_of c) (chunk_bytes cs),
       length-append (replicate (times c) (pixel_after past c)) past,
       length-replicate (times c) (pixel_after past c),
@@ -45,10 +42,9 @@ whole_holds n bytes cs rest whole = enough_bytes n bytes cs end_marker rest whol
 -- an image and the end marker take nine bytes at least
 pub nine_taken : (n : ℕ) (bytes : List ℕ) (cs : List Chunk) (rest : List ℕ) → 1 ≤ n → IsWhole n bytes cs rest → length rest + 9 ≤ length bytes
 nine_taken n bytes cs rest some whole =
-    let most = pixels_most [] cs whole.has.chunks in
     omega (
       arith,
-      most,
+      pixels_most [] cs whole.has.chunks,
       some,
       whole.enough,
       length-meaning cs,

@@ -39,8 +39,7 @@ start_between f c Taken table last out is whole blank opaque none_taken = record
         (omega arith)
 
     zero_whole : (c : ℕ) → IsChannels c → 0 % c ≡ 0
-    zero_whole c (inl e) = subst (λ k. 0 % k ≡ 0) (sym e) refl
-    zero_whole c (inr e) = subst (λ k. 0 % k ≡ 0) (sym e) refl
+    zero_whole c is = by_channels (λ k. 0 % k ≡ 0) is refl refl
 
 -- one more chunk, its pixels written and seen
 pub goes_on : {f c n : ℕ} {Taken Taken' : List ℕ → Type 0} {old new : Filling} {bytes : List ℕ} → IsChannels c → DecoderBetween f c n Taken old

@@ -49,9 +49,7 @@ ended false n new bytes (taken, took, none) = absurd none
 -- the same if the bytes and the error are known by equations
 pub end_is_cut : (in_memory : Bool) (n : ℕ) (old new : Option (List ℕ)) (e : Error) (bytes : List ℕ) → old ≡ Some bytes → e ≡ UnexpectedBufferEnd
     → RefusesImage in_memory n old new e → AreCut n bytes
-end_is_cut in_memory n old new e bytes told is refused =
-    ended in_memory n new bytes (subst (λ x. RefusesImage in_memory n (Some bytes) new x) is
-    (subst (λ z. RefusesImage in_memory n z new e) told refused))
+end_is_cut in_memory n old new e bytes told is refused = ended in_memory n new bytes (rw (told, is) at refused)
 
 -- only wrong bytes are refused for their padding
 padded : (in_memory : Bool) (n : ℕ) (new : Option (List ℕ)) (bytes : List ℕ) → RefusesImage in_memory n (Some bytes) new InvalidPadding
@@ -64,5 +62,4 @@ padded false n new bytes (taken, took, why) =
 -- the same if the bytes and the error are known by equations
 pub padding_is_only_wrong : (in_memory : Bool) (n : ℕ) (old new : Option (List ℕ)) (e : Error) (bytes : List ℕ) → old ≡ Some bytes
     → e ≡ InvalidPadding → RefusesImage in_memory n old new e → AreWrong n bytes
-padding_is_only_wrong in_memory n old new e bytes told is refused =
-    padded in_memory n new bytes (subst (λ x. RefusesImage in_memory n (Some bytes) new x) is (subst (λ z. RefusesImage in_memory n z new e) told refused))
+padding_is_only_wrong in_memory n old new e bytes told is refused = padded in_memory n new bytes (rw (told, is) at refused)

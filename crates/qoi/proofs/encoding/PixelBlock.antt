@@ -32,11 +32,8 @@ pub bits_of_3 : (n : ℕ) (bytes : List ℕ) (p : RgbaPixel) (a b c : ℕ) → n
     → a ≡ part_bits 0 bytes (output n n (replicate 16 p)) → b ≡ part_bits 1 bytes (output n n (replicate 16 p))
     → c ≡ part_bits 2 bytes (output n n (replicate 16 p))
     → a + b * 2 ^ 16 % 2 ^ 64 + c * 2 ^ 32 % 2 ^ 64 ≡ same_bits bytes (output n n (replicate 16 p))
-bits_of_3 n bytes p a b c is = subst (λ n. n * 16 ≤ length bytes → a < 2 ^ 16 → b < 2 ^ 16 → c < 2 ^ 16
-    → a ≡ part_bits 0 bytes (output n n (replicate 16 p)) → b ≡ part_bits 1 bytes (output n n (replicate 16 p))
-    → c ≡ part_bits 2 bytes (output n n (replicate 16 p))
-    → a + b * 2 ^ 16 % 2 ^ 64 + c * 2 ^ 32 % 2 ^ 64 ≡ same_bits bytes (output n n (replicate 16 p))) (sym is)
-    (λ long x y z e f g. sums a b c x y z e f g (none_beside (drop 48 bytes)) (three_parts bytes (output 3 3 (replicate 16 p)) long (omega arith)))
+bits_of_3 n bytes p a b c is =
+    rw is (λ long x y z e f g. sums a b c x y z e f g (none_beside (drop 48 bytes)) (three_parts bytes (output 3 3 (replicate 16 p)) long (omega arith)))
   where
     sums : (a b c : ℕ) {i j k m s : ℕ} → a < 2 ^ 16 → b < 2 ^ 16 → c < 2 ^ 16 → a ≡ i → b ≡ j → c ≡ k → m ≡ 0
         → s ≡ i + 2 ^ 16 * j + 2 ^ 32 * k + 2 ^ 48 * m → a + b * 2 ^ 16 % 2 ^ 64 + c * 2 ^ 32 % 2 ^ 64 ≡ s
@@ -48,11 +45,8 @@ pub bits_of_4 : (n : ℕ) (bytes : List ℕ) (p : RgbaPixel) (a b c d : ℕ) →
     → a ≡ part_bits 0 bytes (output n n (replicate 16 p)) → b ≡ part_bits 1 bytes (output n n (replicate 16 p))
     → c ≡ part_bits 2 bytes (output n n (replicate 16 p)) → d ≡ part_bits 3 bytes (output n n (replicate 16 p))
     → a + b * 2 ^ 16 % 2 ^ 64 + c * 2 ^ 32 % 2 ^ 64 + d * 2 ^ 48 % 2 ^ 64 ≡ same_bits bytes (output n n (replicate 16 p))
-bits_of_4 n bytes p a b c d is = subst (λ n. n * 16 ≤ length bytes → a < 2 ^ 16 → b < 2 ^ 16 → c < 2 ^ 16 → d < 2 ^ 16
-    → a ≡ part_bits 0 bytes (output n n (replicate 16 p)) → b ≡ part_bits 1 bytes (output n n (replicate 16 p))
-    → c ≡ part_bits 2 bytes (output n n (replicate 16 p)) → d ≡ part_bits 3 bytes (output n n (replicate 16 p))
-    → a + b * 2 ^ 16 % 2 ^ 64 + c * 2 ^ 32 % 2 ^ 64 + d * 2 ^ 48 % 2 ^ 64 ≡ same_bits bytes (output n n (replicate 16 p))) (sym is)
-    (λ long x y z w e f g h. sums a b c d x y z w e f g h (none_beside (drop 16 (drop 48 bytes)))
+bits_of_4 n bytes p a b c d is =
+    rw is (λ long x y z w e f g h. sums a b c d x y z w e f g h (none_beside (drop 16 (drop 48 bytes)))
     (three_parts bytes (output 4 4 (replicate 16 p)) (omega arith) (omega arith))
     (parted 16 (drop 48 bytes) (drop 48 (output 4 4 (replicate 16 p))) (omega (arith, length-drop 48 bytes)) (omega arith)))
   where
@@ -149,13 +143,9 @@ few_bits (x ∷ xs) (y ∷ ys) = omega (arith, few_bits xs ys)
 pub front_of : (n : ℕ) (bytes : List ℕ) (p : RgbaPixel) (bits : ℕ) → IsChannels n → (n ≡ 3 → p.a ≡ 255) → n * 16 ≤ length bytes
     → bits ≡ same_bits bytes (output n n (replicate 16 p))
     → IsFront p (pixels_of n bytes) (pixels_of n (drop (n * 16) bytes)) 16 (count_trailing_zeros 64 (18446744073709551615 - bits) / n)
-front_of n bytes p bits (inl is) opaque = subst (λ n. n * 16 ≤ length bytes → bits ≡ same_bits bytes (output n n (replicate 16 p))
-    → IsFront p (pixels_of n bytes) (pixels_of n (drop (n * 16) bytes)) 16 (count_trailing_zeros 64 (18446744073709551615 - bits) / n)) (sym is)
-    (λ long e. subst (λ c. IsFront p (pixels_of_3 bytes) (pixels_of_3 (drop 48 bytes)) 16 (c / 3))
+front_of n bytes p bits (inl is) opaque = rw is (λ long e. subst (λ c. IsFront p (pixels_of_3 bytes) (pixels_of_3 (drop 48 bytes)) 16 (c / 3))
     (sym (first_clear 64 bytes (output 3 3 (replicate 16 p)) _ (omega (arith, few_bits bytes (output 3 3 (replicate 16 p)))) (ap (λ b. 18446744073709551615 - b) e)))
     (front_3 16 bytes p (opaque is) long))
-front_of n bytes p bits (inr is) opaque = subst (λ n. n * 16 ≤ length bytes → bits ≡ same_bits bytes (output n n (replicate 16 p))
-    → IsFront p (pixels_of n bytes) (pixels_of n (drop (n * 16) bytes)) 16 (count_trailing_zeros 64 (18446744073709551615 - bits) / n)) (sym is)
-    (λ long e. subst (λ c. IsFront p (pixels_of_4 bytes) (pixels_of_4 (drop 64 bytes)) 16 (c / 4))
+front_of n bytes p bits (inr is) opaque = rw is (λ long e. subst (λ c. IsFront p (pixels_of_4 bytes) (pixels_of_4 (drop 64 bytes)) 16 (c / 4))
     (sym (first_clear 64 bytes (output 4 4 (replicate 16 p)) _ (omega (arith, few_bits bytes (output 4 4 (replicate 16 p)))) (ap (λ b. 18446744073709551615 - b) e)))
     (front_4 16 bytes p long))

@@ -59,23 +59,13 @@ alpha_mask p i =
 is_diff : (p : RgbaPixel) → IsPixel p → IsTrue (eqb (bit_and (word p) 0xfffcfcfc) 0) ↔ (diff_bits p ≡ p)
 is_diff p i = (
   λ t. (let e = eqb-true _ _ t in let m = diff_mask p i in same_pixel _ p (omega arith) (omega arith) (omega arith) (omega arith)),
-  λ e. (
-      let r : p.r % 4 ≡ p.r = ap (λ z. z.r) e in
-      let g : p.g % 4 ≡ p.g = ap (λ z. z.g) e in
-      let b : p.b % 4 ≡ p.b = ap (λ z. z.b) e in
-      let a : 0 ≡ p.a = ap (λ z. z.a) e in
-      eq-eqb _ _ (diff_mask p i ∙ omega arith)),
+  λ e. eq-eqb _ _ (diff_mask p i ∙ omega (arith, ap (λ z. z.r) e, ap (λ z. z.g) e, ap (λ z. z.b) e, ap (λ z. z.a) e)),
 )
 
 is_luma : (p : RgbaPixel) → IsPixel p → IsTrue (eqb (bit_and (word p) 0xfff0c0f0) 0) ↔ (luma_bits p ≡ p)
 is_luma p i = (
   λ t. (let e = eqb-true _ _ t in let m = luma_mask p i in same_pixel _ p (omega arith) (omega arith) (omega arith) (omega arith)),
-  λ e. (
-      let r : p.r % 16 ≡ p.r = ap (λ z. z.r) e in
-      let g : p.g % 64 ≡ p.g = ap (λ z. z.g) e in
-      let b : p.b % 16 ≡ p.b = ap (λ z. z.b) e in
-      let a : 0 ≡ p.a = ap (λ z. z.a) e in
-      eq-eqb _ _ (luma_mask p i ∙ omega arith)),
+  λ e. eq-eqb _ _ (luma_mask p i ∙ omega (arith, ap (λ z. z.r) e, ap (λ z. z.g) e, ap (λ z. z.b) e, ap (λ z. z.a) e)),
 )
 
 keeps_alpha : (p : RgbaPixel) → IsPixel p → IsTrue (eqb (bit_and (word p) 0xff000000) 0) ↔ (p.a ≡ 0)
@@ -89,25 +79,15 @@ diff_low : (r g b a : ℕ) → r % 4 ≡ r → g % 4 ≡ g → b % 4 ≡ b → 0
     → diff_number (r + g * 2 ^ 8 + b * 2 ^ 16 + a * 2 ^ 24) % 256 ≡ 64 + r % 4 * 16 + g % 4 * 4 + b % 4
 diff_low r g b a er eg eb ea = omega arith
 
-luma_low : (r g b a : ℕ) → r % 16 ≡ r → g % 64 ≡ g → b % 16 ≡ b → 0 ≡ a → luma_number (r + g * 2 ^ 8 + b * 2 ^ 16 + a * 2 ^ 24) % 256 ≡ 128 + g % 64
-luma_low r g b a er eg eb ea = omega arith
+luma_both : (r g b a : ℕ) → r % 16 ≡ r → g % 64 ≡ g → b % 16 ≡ b → 0 ≡ a
+    → (luma_number (r + g * 2 ^ 8 + b * 2 ^ 16 + a * 2 ^ 24) % 256 ≡ 128 + g % 64)
+    × (luma_number (r + g * 2 ^ 8 + b * 2 ^ 16 + a * 2 ^ 24) / 256 % 256 ≡ r % 16 * 16 + b % 16)
+luma_both r g b a er eg eb ea = (omega arith, omega arith)
 
-luma_next : (r g b a : ℕ) → r % 16 ≡ r → g % 64 ≡ g → b % 16 ≡ b → 0 ≡ a
-    → luma_number (r + g * 2 ^ 8 + b * 2 ^ 16 + a * 2 ^ 24) / 256 % 256 ≡ r % 16 * 16 + b % 16
-luma_next r g b a er eg eb ea = omega arith
-
--- one of two numbers
-full_first : (p n : ℕ) → n ≤ 1 → plus_32 (rgb_number p) n % 256 ≡ 254 + n
-full_first p n l = omega arith
-
-full_second : (p n : ℕ) → n ≤ 1 → plus_32 (rgb_number p) n / 256 % 256 ≡ p % 2 ^ 8
-full_second p n l = omega arith
-
-full_third : (p n : ℕ) → n ≤ 1 → plus_32 (rgb_number p) n / 256 / 256 % 256 ≡ p / 2 ^ 8 % 2 ^ 8
-full_third p n l = omega arith
-
-full_fourth : (p n : ℕ) → n ≤ 1 → plus_32 (rgb_number p) n / 256 / 256 / 256 % 256 ≡ p / 2 ^ 16 % 2 ^ 8
-full_fourth p n l = omega arith
+-- the four bytes of an RGB's number and of an RGBA's
+full_bytes : (p n : ℕ) → n ≤ 1 → (plus_32 (rgb_number p) n % 256 ≡ 254 + n) × (plus_32 (rgb_number p) n / 256 % 256 ≡ p % 2 ^ 8)
+    × (plus_32 (rgb_number p) n / 256 / 256 % 256 ≡ p / 2 ^ 8 % 2 ^ 8) × (plus_32 (rgb_number p) n / 256 / 256 / 256 % 256 ≡ p / 2 ^ 16 % 2 ^ 8)
+full_bytes p n l = (omega arith, omega arith, omega arith, omega arith)
 
 -- the bytes of the choice
 spelled_bytes : (d l k : Bool) (sm wi : RgbaPixel) (p : ℕ) → (d ≡ true → diff_bits sm ≡ sm) → (l ≡ true → luma_bits wi ≡ wi)
@@ -119,12 +99,10 @@ spelled_bytes true l k sm wi p hd hl =
     λ i. diff_low sm.r sm.g sm.b sm.a (ap (λ z. z.r) e) (ap (λ z. z.g) e) (ap (λ z. z.b) e) (ap (λ z. z.a) e) i ∷ []
 spelled_bytes false true k sm wi p hd hl =
     let e = hl refl in
-    λ i. luma_low wi.r wi.g wi.b wi.a (ap (λ z. z.r) e) (ap (λ z. z.g) e) (ap (λ z. z.b) e) (ap (λ z. z.a) e) i ∷ luma_next wi.r wi.g wi.b wi.a
-    (ap (λ z. z.r) e) (ap (λ z. z.g) e) (ap (λ z. z.b) e) (ap (λ z. z.a) e) i ∷ []
-spelled_bytes false false true sm wi p hd hl = λ i. full_first p 0 (omega arith) i ∷ full_second p 0 (omega arith) i ∷ full_third p 0
-    (omega arith) i ∷ full_fourth p 0 (omega arith) i ∷ []
-spelled_bytes false false false sm wi p hd hl = λ i. full_first p 1 (omega arith) i ∷ full_second p 1 (omega arith) i ∷ full_third p 1
-    (omega arith) i ∷ full_fourth p 1 (omega arith) i ∷ (p / 2 ^ 24) ∷ []
+    let f = luma_both wi.r wi.g wi.b wi.a (ap (λ z. z.r) e) (ap (λ z. z.g) e) (ap (λ z. z.b) e) (ap (λ z. z.a) e) in
+    λ i. f.0 i ∷ f.1 i ∷ []
+spelled_bytes false false true sm wi p hd hl = let f = full_bytes p 0 (omega arith) in λ i. f.0 i ∷ f.1 i ∷ f.2 i ∷ f.3 i ∷ []
+spelled_bytes false false false sm wi p hd hl = let f = full_bytes p 1 (omega arith) in λ i. f.0 i ∷ f.1 i ∷ f.2 i ∷ f.3 i ∷ (p / 2 ^ 24) ∷ []
 
 -- numbers of 32 bits are pixels
 of_word : (p : ℕ) → p < 2 ^ 32 → IsPixel (pixel_of_word p)

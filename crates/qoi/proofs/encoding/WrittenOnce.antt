@@ -13,11 +13,7 @@ use Rattle.qoi.proofs.format.ChunkSteps.{cases_run, times_other, right_other, ti
 -- two differences that give one pixel are one
 diff_unique : (q : RgbaPixel) (d e : ℕ) → 64 ≤ d → d < 128 → 64 ≤ e → e < 128 → after_diff q d ≡ after_diff q e → d ≡ e
 unfolding after_diff
-diff_unique q d e dl dh el eh s =
-    let r = ap (λ p. p.r) s in
-    let g = ap (λ p. p.g) s in
-    let b = ap (λ p. p.b) s in
-    omega arith
+diff_unique q d e dl dh el eh s = omega (arith, ap (λ p. p.r) s, ap (λ p. p.g) s, ap (λ p. p.b) s)
 
 -- two lumas that give one pixel are one
 luma_unique : (q : RgbaPixel) (d e x y : ℕ) → IsChunk (Luma d e) → IsChunk (Luma x y) → after_luma q d e ≡ after_luma q x y → Luma d e ≡ Luma x y

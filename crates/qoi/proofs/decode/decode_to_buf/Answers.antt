@@ -1,30 +1,34 @@
 -- A file is decoded as such, and it is not refused.
-use Rattle.std.proofs.Common.{Err, ◌<◌, ◌⊎◌, inl, inr, ⊎_elim, ◌≡◌, [], append-nil, ◌≤◌, List, ◌++◌, length, take, drop, Some, Ok, ℕ, IsOk, false, true, refl, ap, sym, ◌∙◌, subst, arith}
+use Rattle.std.proofs.Common.{Err, ◌<◌, ◌⊎◌, inl, inr, ⊎_elim, ◌≡◌, [], append-nil, ◌≤◌, List, length, take, drop, Some, Ok, ℕ, IsOk, false, true, refl, ap, sym, ◌∙◌, subst, arith}
 use Rattle.std.proofs.lemmas.Bool.{cases_lt}
 use Rattle.qoi.specs.declared.header.Header.{Header}
 use Rattle.qoi.specs.Qoi.{channels_number, header_of, pixel_count, header_size}
 use Rattle.qoi.specs.Verdicts.{IsWhole, AreWrong, AreCut}
 use Rattle.qoi.specs.Decoding.{RefusesBuffer, RefusesBytes, DecodesFile, ReadsImage}
 use Rattle.qoi.specs.Raw.{image_byte_count, byte_count}
-use Rattle.qoi.specs.DecoderState.{DecoderState}
+use Rattle.qoi.specs.DecoderState.{DecoderState, output_byte_count}
 use Rattle.qoi.proofs.decoding.OneFile.{file_has_header, file_is_whole, header_is_one, decodes_after, decoding_is_one}
-use Rattle.qoi.specs.declared.types.Style.{Style}
-use Rattle.qoi.specs.Encoded.{IsFileOf}
 use Rattle.std.proofs.lemmas.Result.{err_from_is_err_and}
+use Rattle.qoi.proofs.decoding.Ahead.{file_ahead}
 use Rattle.qoi.proofs.decoding.FrontImage.{file_image_is}
+use Rattle.qoi.proofs.decode.decode_to_buf.Goals.{In_ok-decoder}
 use Rattle.qoi.proofs.decode.decode_to_buf.Goals as goal
+
+-- by the header of the bytes the decoder's header is known, and how much room the image needs
+known : (c : In_ok-decoder) (h : Header) → header_of c.args.data.now ≡ Ok h
+    → (h ≡ c.in_ok-decoder.decoder.header) × (image_byte_count h ≡ output_byte_count c.in_ok-decoder.decoder)
+known c h read =
+    let d = c.in_ok-decoder.decoder in
+    let accepted = c.in_ok-decoder.ensures.accepted in
+    let same = header_is_one c.args.data.now h d.header read accepted.0 in
+    (same, ap image_byte_count same ∙ ap (λ k. byte_count d.header (channels_number k)) (sym accepted.1))
 
 pub returns-in_err-decode_to_buf-clause-accepts : goal.returns-in_err-decode_to_buf-clause-accepts
 returns-in_err-decode_to_buf-clause-accepts c h cs rest f split room =
-    let read = file_has_header h cs c.args.data.now rest f split in
-    let whole = file_is_whole h cs c.args.data.now rest f split in
-    let d = c.in_ok-decoder.decoder in
-    let accepted = c.in_ok-decoder.ensures.accepted in
-    let same : h ≡ d.header = cc in
-    let size : image_byte_count h ≡ byte_count d.header (channels_number d.channels) =
-    ap image_byte_count same ∙ ap (λ k. byte_count d.header (channels_number k)) (sym accepted.1) in
-    let ok = c.decode_to_buf.ensures.accepts refl (drop header_size c.args.data.now) rest cs (ap Some accepted.2)
-    (subst (λ k. IsWhole (pixel_count k) (drop header_size c.args.data.now) cs rest) same whole) (subst (λ k. k ≤ length c.args.buf.now) size room) in
+    let after = drop header_size c.args.data.now in
+    let is = known (goal.at.returns-in_err-decode_to_buf-clause-accepts c).In_ok-decoder h (file_has_header h cs c.args.data.now rest f split) in
+    let whole = subst (λ k. IsWhole (pixel_count k) after cs rest) is.0 (file_is_whole h cs c.args.data.now rest f split) in
+    let ok = c.decode_to_buf.ensures.accepts refl after rest cs (ap Some c.in_ok-decoder.ensures.accepted.2) whole (rw is.1 at room) in
     let no : false ≡ true = subst IsOk c.in_err-decode_to_buf.was ok in
     cc
 
@@ -61,10 +65,6 @@ returns-clause-accepts c h cs rest f split room =
 by_size : (n required : ℕ) (P Q : Type 0) → (n < required → P) → (required ≤ n → Q) → P ⊎ ((required ≤ n) × Q)
 by_size n required P Q less enough = ⊎_elim (λ short. inl (less short)) (λ room. inr (room, enough room)) (cases_lt n required)
 
--- the file of an image, as a file
-file_ahead : (style : Style) (h : Header) (raw bytes rest «data» : List ℕ) → IsFileOf style h raw bytes → «data» ≡ bytes ++ rest → DecodesFile «data» h rest raw
-file_ahead style h raw bytes rest ahead f split = subst (λ (z : List ℕ). DecodesFile z h rest raw) (sym split) (f.is_file.comes_back rest)
-
 pub returns-in_err-decode_to_buf-clause-followed : goal.returns-in_err-decode_to_buf-clause-followed
 returns-in_err-decode_to_buf-clause-followed c style h raw bytes rest f split room =
     let d = file_ahead style h raw bytes rest c.args.data.now f split in
@@ -99,27 +99,19 @@ returns-in_err-decoder-clause-comes_back_in c style h raw f room =
 
 pub returns-in_err-decode_to_buf-clause-cut : goal.returns-in_err-decode_to_buf-clause-cut
 returns-in_err-decode_to_buf-clause-cut c h read cut room =
-    let d = c.in_ok-decoder.decoder in
-    let accepted = c.in_ok-decoder.ensures.accepted in
+    let after = drop header_size c.args.data.now in
     let p = err_from_is_err_and c.from_residual-in_err-decode_to_buf.result c.from_residual-in_err-decode_to_buf.ensures.1 in
-    let same = header_is_one c.args.data.now h d.header read accepted.0 in
-    let size : image_byte_count h ≡ byte_count d.header (channels_number d.channels) =
-    ap image_byte_count same ∙ ap (λ k. byte_count d.header (channels_number k)) (sym accepted.1) in
-    let refused = c.in_err-decode_to_buf.ensures.cut (drop header_size c.args.data.now) (ap Some accepted.2)
-    (subst (λ k. AreCut (pixel_count k) (drop header_size c.args.data.now)) same cut) (subst (λ k. k ≤ length c.args.buf.now) size room) in
-    p.1 ∙ ap Err (p.2 ∙ refused)
+    let is = known (goal.at.returns-in_err-decode_to_buf-clause-cut c).In_ok-decoder h read in
+    p.1 ∙ ap Err (p.2 ∙ c.in_err-decode_to_buf.ensures.cut after (ap Some c.in_ok-decoder.ensures.accepted.2)
+    (subst (λ k. AreCut (pixel_count k) after) is.0 cut) (rw is.1 at room))
 
 pub returns-in_err-decode_to_buf-clause-wrong : goal.returns-in_err-decode_to_buf-clause-wrong
 returns-in_err-decode_to_buf-clause-wrong c h read wrong room =
-    let d = c.in_ok-decoder.decoder in
-    let accepted = c.in_ok-decoder.ensures.accepted in
+    let after = drop header_size c.args.data.now in
     let p = err_from_is_err_and c.from_residual-in_err-decode_to_buf.result c.from_residual-in_err-decode_to_buf.ensures.1 in
-    let same = header_is_one c.args.data.now h d.header read accepted.0 in
-    let size : image_byte_count h ≡ byte_count d.header (channels_number d.channels) =
-    ap image_byte_count same ∙ ap (λ k. byte_count d.header (channels_number k)) (sym accepted.1) in
-    let refused = c.in_err-decode_to_buf.ensures.wrong (drop header_size c.args.data.now) (ap Some accepted.2)
-    (subst (λ k. AreWrong (pixel_count k) (drop header_size c.args.data.now)) same wrong) (subst (λ k. k ≤ length c.args.buf.now) size room) in
-    p.1 ∙ ap Err (p.2 ∙ refused)
+    let is = known (goal.at.returns-in_err-decode_to_buf-clause-wrong c).In_ok-decoder h read in
+    p.1 ∙ ap Err (p.2 ∙ c.in_err-decode_to_buf.ensures.wrong after (ap Some c.in_ok-decoder.ensures.accepted.2)
+    (subst (λ k. AreWrong (pixel_count k) after) is.0 wrong) (rw is.1 at room))
 
 pub returns-in_err-decode_to_buf-clause-refused : goal.returns-in_err-decode_to_buf-clause-refused
 returns-in_err-decode_to_buf-clause-refused c =

@@ -3,12 +3,12 @@ use Rattle.std.proofs.Common.{Ok, ◌≡◌, length, [], append-nil, ℕ, List, 
 use Rattle.qoi.specs.declared.header.Header.{Header}
 use Rattle.std.proofs.lemmas.Result.{err_from_is_err_and}
 use Rattle.qoi.specs.Qoi.{header_of, pixel_count, header_size}
-use Rattle.qoi.specs.Verdicts.{IsWhole, AreWrong, AreCut}
 use Rattle.qoi.specs.Decoding.{DecodesFile, RefusesBytes}
 use Rattle.qoi.specs.DecoderState.{DecoderState}
 use Rattle.std.proofs.lemmas.List.{length-drop}
 use Rattle.qoi.proofs.decoding.ImageSize.{bounded_by}
 use Rattle.qoi.proofs.decoding.OneFile.{header_is_one, file_has_header, file_is_whole, decodes_after, decoding_is_one}
+use Rattle.qoi.proofs.decoding.Ahead.{file_ahead}
 use Rattle.qoi.proofs.decoding.FrontImage.{file_image_is}
 use Rattle.qoi.proofs.decode.decode_to_vec.Goals as goal
 
@@ -31,14 +31,11 @@ returns-in_err-out-clause-refused c =
 
 pub returns-in_err-out-clause-accepts : goal.returns-in_err-out-clause-accepts
 returns-in_err-out-clause-accepts c h cs rest f split =
-    let read = file_has_header h cs c.args.data.now rest f split in
     let whole = file_is_whole h cs c.args.data.now rest f split in
     let p = err_from_is_err_and c.from_residual-in_err-out.result c.from_residual-in_err-out.ensures.1 in
-    let d = c.in_ok-decoder.decoder in
     let accepted = c.in_ok-decoder.ensures.accepted in
-    let same : h ≡ d.header = cc in
-    rw (p.1, p.2) (c.in_err-out.ensures.accepts refl (drop header_size c.args.data.now) rest cs (ap Some accepted.2)
-    (subst (λ k. IsWhole (pixel_count k) (drop header_size c.args.data.now) cs rest) same whole))
+    let same = header_is_one c.args.data.now h _ (file_has_header h cs c.args.data.now rest f split) accepted.0 in
+    rw (p.1, p.2) (c.in_err-out.ensures.accepts refl (drop header_size c.args.data.now) rest cs (ap Some accepted.2) (rw same at whole))
 
 pub returns-in_err-decoder-clause-accepts : goal.returns-in_err-decoder-clause-accepts
 returns-in_err-decoder-clause-accepts c h cs rest f split =
@@ -60,14 +57,14 @@ returns-clause-decoded c =
 
 pub returns-in_err-out-clause-followed : goal.returns-in_err-out-clause-followed
 returns-in_err-out-clause-followed c style h raw bytes rest f split =
-    let d = subst (λ (z : List ℕ). DecodesFile z h rest raw) (sym split) (f.is_file.comes_back rest) in
+    let d = file_ahead style h raw bytes rest c.args.data.now f split in
     let p = err_from_is_err_and c.from_residual-in_err-out.result c.from_residual-in_err-out.ensures.1 in
     let unless = returns-in_err-out-clause-accepts c h d.cs rest d.is_file d.split in
     rw p.1 (rw p.1 at unless)
 
 pub returns-clause-followed : goal.returns-clause-followed
 returns-clause-followed c style h raw bytes rest f split =
-    let d = subst (λ (z : List ℕ). DecodesFile z h rest raw) (sym split) (f.is_file.comes_back rest) in
+    let d = file_ahead style h raw bytes rest c.args.data.now f split in
     let decoded = returns-clause-decoded c in
     decoding_is_one c.args.data.now h c.header.result.now rest decoded.0 raw c.in_ok-out.out.items d decoded.1
 
@@ -95,21 +92,17 @@ returns-clause-per_byte c =
 
 pub returns-in_err-out-clause-cut : goal.returns-in_err-out-clause-cut
 returns-in_err-out-clause-cut c h read cut =
-    let d = c.in_ok-decoder.decoder in
     let accepted = c.in_ok-decoder.ensures.accepted in
     let p = err_from_is_err_and c.from_residual-in_err-out.result c.from_residual-in_err-out.ensures.1 in
-    let same = header_is_one c.args.data.now h d.header read accepted.0 in
-    rw (p.1, p.2) (c.in_err-out.ensures.cut (drop header_size c.args.data.now) (ap Some accepted.2)
-    (subst (λ k. AreCut (pixel_count k) (drop header_size c.args.data.now)) same cut))
+    let same = header_is_one c.args.data.now h _ read accepted.0 in
+    rw (p.1, p.2) (c.in_err-out.ensures.cut (drop header_size c.args.data.now) (ap Some accepted.2) (rw same at cut))
 
 pub returns-in_err-out-clause-wrong : goal.returns-in_err-out-clause-wrong
 returns-in_err-out-clause-wrong c h read wrong =
-    let d = c.in_ok-decoder.decoder in
     let accepted = c.in_ok-decoder.ensures.accepted in
     let p = err_from_is_err_and c.from_residual-in_err-out.result c.from_residual-in_err-out.ensures.1 in
-    let same = header_is_one c.args.data.now h d.header read accepted.0 in
-    rw (p.1, p.2) (c.in_err-out.ensures.wrong (drop header_size c.args.data.now) (ap Some accepted.2)
-    (subst (λ k. AreWrong (pixel_count k) (drop header_size c.args.data.now)) same wrong))
+    let same = header_is_one c.args.data.now h _ read accepted.0 in
+    rw (p.1, p.2) (c.in_err-out.ensures.wrong (drop header_size c.args.data.now) (ap Some accepted.2) (rw same at wrong))
 
 pub returns-clause-image : goal.returns-clause-image
 returns-clause-image c =

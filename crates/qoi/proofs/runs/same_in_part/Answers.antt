@@ -10,18 +10,13 @@ use Rattle.qoi.proofs.runs.same_in_part.Goals as goal
 few : (xs ys : List ℕ) → length xs ≡ 16 → length ys ≡ 16 → same_bits xs ys < 2 ^ 16
 few xs ys e f = subst (λ k. same_bits xs ys < 2 ^ k) (length-zip2 eqb xs ys (e ∙ sym f) ∙ e) (mask_l-lt (zip2 eqb xs ys))
 
-pub returns-clause-few : goal.returns-clause-few
-returns-clause-few g c =
+pub returns : goal.returns
+returns g c =
     let part = c.skip-part in
     let size = length-take-le 16 part.result.now
     (omega (arith, ap length part.ensures, length-drop (16 * g.row.PART) c.args.bytes.now, c.requires.channels, c.requires.part, c.requires.long)) in
     let bits = compared_bits (take 16 part.result.now) c.block.result (size ∙ sym c.block.ensures.sixteen) (omega (arith, size)) in
-    subst (λ b. b < 2 ^ 16) (sym bits) (few (take 16 part.result.now) c.block.result size c.block.ensures.sixteen)
-
-pub returns-clause-bits : goal.returns-clause-bits
-returns-clause-bits g c =
-    let part = c.skip-part in
-    let size = length-take-le 16 part.result.now
-    (omega (arith, ap length part.ensures, length-drop (16 * g.row.PART) c.args.bytes.now, c.requires.channels, c.requires.part, c.requires.long)) in
-    compared_bits (take 16 part.result.now) c.block.result (size ∙ sym c.block.ensures.sixteen) (omega (arith, size))
-    ∙ (λ i. same_bits (take 16 (part.ensures i)) (c.block.ensures.bytes i))
+    record {
+      few = subst (λ b. b < 2 ^ 16) (sym bits) (few (take 16 part.result.now) c.block.result size c.block.ensures.sixteen);
+      bits = bits ∙ (λ i. same_bits (take 16 (part.ensures i)) (c.block.ensures.bytes i));
+    }

@@ -1,15 +1,13 @@
 -- Whole bytes in memory are not refused, and each image takes a bounded number of bytes.
-use Rattle.std.proofs.Common.{◌≡◌, ◌≤◌, ◌+◌, ◌*◌, length, slice_index, ap, ◌∙◌, arith, subst}
+use Rattle.std.proofs.Common.{◌≡◌, ◌≤◌, ◌*◌, ℕ, List, Option, length, ap, ◌∙◌, arith, subst}
 use Rattle.std.proofs.lemmas.List.{length-take-le}
 use Rattle.std.proofs.lemmas.Result.{err_from_is_err_and}
 use lib.Seq.{take-append_seam}
 use Rattle.qoi.specs.declared.error.Error.TheVariants.{InvalidPadding, UnexpectedBufferEnd}
 use Rattle.qoi.specs.Qoi.{channels_number, pixel_count}
-use Rattle.qoi.specs.Decoding.{RefusesImage}
-use Rattle.qoi.specs.DecoderState.{TakesAtMost}
-use Rattle.qoi.proofs.decoding.Ahead.{fault_ahead, file_from_image, fourth_of_image, image_not_cut, image_not_wrong, image_read_of}
+use Rattle.qoi.specs.Decoding.{ReadsImage, RefusesImage}
+use Rattle.qoi.proofs.decoding.Ahead.{fault_ahead, file_from_image, fourth_of_image, image_not_cut, image_not_wrong, image_read_from}
 use Rattle.qoi.proofs.decoding.FrontImage.{front_read, nine_read, some_pixels, three_read}
-use Rattle.qoi.specs.Reading.{IsImage}
 use Rattle.qoi.proofs.decoding.RefusedBytes.{end_is_cut, padding_is_only_wrong, refused_for_cut, refused_for_wrong}
 use Rattle.qoi.proofs.decoding.ImageSize.{channels_are, image_pixels}
 use Rattle.qoi.proofs.decoding.Refusals.{whole_not_refused_in}
@@ -41,15 +39,25 @@ returns-in_err-decode_image-clause-accepts g c memory bytes rest cs told whole r
 pub returns-in_err-decode_image-clause-bounded : goal.returns-in_err-decode_image-clause-bounded
 returns-in_err-decode_image-clause-bounded g c = refused_within g.R.Reader.in_memory _ _ _ _ (refused g c)
 
-pub returns-clause-bounded : goal.returns-clause-bounded
-returns-clause-bounded g c =
+pub returns-clause-decoded : goal.returns-clause-decoded
+returns-clause-decoded g c =
     let d = c.args.self.now in
     let channels = c.as_u8-channels.ensures ∙ ap (λ s. channels_number s.channels) c.self.view_is in
-    let pixels = image_pixels d.header d.channels c.required_buf_len-size.result c.as_u8-channels.result c.args.buf.now c.required_buf_len-size.ensures.bytes
-    (omega arith) channels in
-    let within = read_within _ _ _ _ _ _ c.in_ok-decode_image.ensures.read.1 in
-    subst (λ old. TakesAtMost (5 * pixel_count d.header + 8) old (g.R.Reader.ahead c.decode_image.new.self))
-    (ap (λ s. g.R.Reader.ahead s.reader) c.self.view_is) (rw pixels at within)
+    let file = c.as_u8-file_channels.ensures ∙ ap (λ s. channels_number s.header.channels) c.self.view_is in
+    let size = c.required_buf_len-size.result in
+    let pixels = image_pixels d.header d.channels size c.as_u8-channels.result c.args.buf.now c.required_buf_len-size.ensures.bytes (omega arith) channels in
+    let out = c.decode_image.new.out in
+    let same : size ≡ length out = omega (arith, c.decode_image.auto.out, length-take-le size c.args.buf.now (omega arith)) in
+    let P = λ (old : Option (List ℕ)) (z : List ℕ). ReadsImage (channels_number d.header.channels) (channels_number d.channels) (pixel_count d.header) old
+    (g.R.Reader.ahead c.decode_image.new.self) z in
+    let read = rw (pixels, file, channels) at c.in_ok-decode_image.ensures.read.1 in (
+      c.required_buf_len-size.ensures.bytes,
+      subst (P (g.R.Reader.ahead d.reader)) (grind (arith, same, take-append_seam))
+          (subst (λ s. P (g.R.Reader.ahead s.reader) out) c.self.view_is read),
+    )
+
+pub returns-clause-bounded : goal.returns-clause-bounded
+returns-clause-bounded g c = read_within _ _ _ _ _ _ (returns-clause-decoded g c).1
 
 pub returns-in_err-decode_image-clause-faults : goal.returns-in_err-decode_image-clause-faults
 returns-in_err-decode_image-clause-faults g c bytes rest raw image told room =
@@ -58,16 +66,7 @@ returns-in_err-decode_image-clause-faults g c bytes rest raw image told room =
     (refused g (goal.at.returns-in_err-decode_image-clause-faults g c).After-from_residual))
 
 pub returns-clause-rest : goal.returns-clause-rest
-returns-clause-rest g c bytes told =
-    let d = c.args.self.now in
-    let channels = c.as_u8-channels.ensures ∙ ap (λ s. channels_number s.channels) c.self.view_is in
-    let size = c.required_buf_len-size.result in
-    let pixels = image_pixels d.header d.channels size c.as_u8-channels.result c.args.buf.now c.required_buf_len-size.ensures.bytes (omega arith) channels in
-    let out = c.decode_image.new.out in
-    let same : size ≡ length out = omega (arith, c.decode_image.auto.out, length-take-le size c.args.buf.now (omega arith)) in
-    let r = image_read_of g.R.Reader.ahead _ d _ _ _ _ _ bytes c.self.view_is c.as_u8-channels.ensures c.as_u8-file_channels.ensures pixels
-    c.in_ok-decode_image.ensures.read.1 told in
-    (r.0, r.1, subst (λ z. IsImage d.channels bytes d.header r.0 z) (grind (arith, same, take-append_seam)) r.2)
+returns-clause-rest g c bytes told = image_read_from g.R.Reader.ahead c.args.self.now bytes _ _ (returns-clause-decoded g c).1 told
 
 pub returns-clause-file : goal.returns-clause-file
 returns-clause-file g c bytes ahead made stand =
@@ -75,16 +74,7 @@ returns-clause-file g c bytes ahead made stand =
 
 pub returns-clause-opaque : goal.returns-clause-opaque
 returns-clause-opaque g c four three i below =
-    let d = c.args.self.now in
-    let channels = c.as_u8-channels.ensures ∙ ap (λ s. channels_number s.channels) c.self.view_is in
-    let file = c.as_u8-file_channels.ensures ∙ ap (λ s. channels_number s.header.channels) c.self.view_is in
-    let size = c.required_buf_len-size.result in
-    let pixels = image_pixels d.header d.channels size c.as_u8-channels.result c.args.buf.now c.required_buf_len-size.ensures.bytes (omega arith) channels in
-    let out = c.decode_image.new.out in
-    let same : size ≡ length out = omega (arith, c.decode_image.auto.out, length-take-le size c.args.buf.now (omega arith)) in
-    subst (λ z. slice_index z (4 * i + 3) ≡ 255) (grind (arith, same, take-append_seam))
-    (fourth_of_image _ _ _ _ _ out c.in_ok-decode_image.ensures.read.1 (file ∙ ap channels_number three) (channels ∙ ap channels_number four) i
-    (omega (arith, pixels, below)))
+    fourth_of_image _ _ _ _ _ _ (returns-clause-decoded g c).1 (ap channels_number three) (ap channels_number four) i below
 
 pub returns-clause-cut : goal.returns-clause-cut
 returns-clause-cut g c bytes told cut room =

@@ -5,23 +5,29 @@ use Rattle.std.proofs.lemmas.Result.{err_from_is_err_and}
 use Rattle.std.proofs.Math.Seq.{take-length}
 use lib.Seq.{take-append_seam}
 use Rattle.qoi.specs.declared.error.Error.TheVariants.{UnexpectedBufferEnd}
-use Rattle.qoi.specs.Qoi.{channels_number, pixel_count}
+use Rattle.qoi.specs.Qoi.{pixel_count}
 use Rattle.qoi.specs.Decoding.{DecodesFile, RefusesImage}
 use Rattle.qoi.specs.DecoderState.{output_byte_count}
 use Rattle.qoi.proofs.decoding.Ahead.{fault_ahead}
-use Rattle.qoi.proofs.decoding.FrontImage.{front_read, nine_read, some_pixels, three_read}
+use Rattle.qoi.proofs.decoding.FrontImage.{front_read, three_read}
 use Rattle.qoi.proofs.decoding.RefusedBytes.{refused_for_wrong}
 use Rattle.qoi.proofs.decoding.Refusals.{whole_not_refused_in}
 use Rattle.qoi.specs.Reading.{IsImage}
 use Rattle.qoi.proofs.decode.Decoder.decode_to_vec.Given.{Over}
+use Rattle.qoi.proofs.decode.Decoder.decode_to_vec.Goals.{After-drop-out}
 use Rattle.qoi.proofs.decode.Decoder.decode_to_vec.Goals as goal
+
+-- bytes that are too few are refused
+few_refused : (g : Over) (c : After-drop-out g) → RefusesImage g.R.Reader.in_memory (pixel_count c.args.self.now.header)
+    (g.R.Reader.ahead c.args.self.now.reader) (g.R.Reader.ahead c.args.self.now.reader) UnexpectedBufferEnd
+few_refused g c =
+    let cut = c.could_hold.ensures.cut (search rules) in
+    subst (λ s. RefusesImage g.R.Reader.in_memory (pixel_count s.header) (g.R.Reader.ahead s.reader) (g.R.Reader.ahead s.reader) UnexpectedBufferEnd)
+    c.self.view_is (rw c.n_pixels.ensures at cut)
 
 pub returns-then-not-could_hold-clause-accepts : goal.returns-then-not-could_hold-clause-accepts
 returns-then-not-could_hold-clause-accepts g c memory bytes rest cs told whole =
-    let cut = c.could_hold.ensures.cut (search rules) in
-    absurd (whole_not_refused_in g.R.Reader.in_memory (pixel_count c.args.self.now.header) _ _ _ bytes cs rest memory told whole
-    (subst (λ s. RefusesImage g.R.Reader.in_memory (pixel_count s.header) (g.R.Reader.ahead s.reader)
-    (g.R.Reader.ahead s.reader) UnexpectedBufferEnd) c.self.view_is (rw c.n_pixels.ensures at cut)))
+    absurd (whole_not_refused_in g.R.Reader.in_memory (pixel_count c.args.self.now.header) _ _ _ bytes cs rest memory told whole (few_refused g c))
 
 pub returns-in_err-decode_to_buf-clause-accepts : goal.returns-in_err-decode_to_buf-clause-accepts
 returns-in_err-decode_to_buf-clause-accepts g c memory bytes rest cs told whole =
@@ -57,17 +63,11 @@ returns-clause-length g c =
 
 pub returns-then-not-could_hold-clause-faults : goal.returns-then-not-could_hold-clause-faults
 returns-then-not-could_hold-clause-faults g c bytes rest raw image told =
-    let cut = c.could_hold.ensures.cut (search rules) in
-    inr (fault_ahead g.R.Reader.in_memory c.args.self.now _ _ UnexpectedBufferEnd bytes rest raw image told
-    (subst (λ s. RefusesImage g.R.Reader.in_memory (pixel_count s.header) (g.R.Reader.ahead s.reader)
-    (g.R.Reader.ahead s.reader) UnexpectedBufferEnd) c.self.view_is (rw c.n_pixels.ensures at cut)))
+    inr (fault_ahead g.R.Reader.in_memory c.args.self.now _ _ UnexpectedBufferEnd bytes rest raw image told (few_refused g c))
 
 pub returns-then-not-could_hold-clause-wrong : goal.returns-then-not-could_hold-clause-wrong
 returns-then-not-could_hold-clause-wrong g c bytes told wrong =
-    let cut = c.could_hold.ensures.cut (search rules) in
-    inr (refused_for_wrong g.R.Reader.in_memory (pixel_count c.args.self.now.header) _ _ UnexpectedBufferEnd bytes told wrong
-    (subst (λ s. RefusesImage g.R.Reader.in_memory (pixel_count s.header) (g.R.Reader.ahead s.reader)
-    (g.R.Reader.ahead s.reader) UnexpectedBufferEnd) c.self.view_is (rw c.n_pixels.ensures at cut)))
+    inr (refused_for_wrong g.R.Reader.in_memory (pixel_count c.args.self.now.header) _ _ UnexpectedBufferEnd bytes told wrong (few_refused g c))
 
 pub returns-clause-rest : goal.returns-clause-rest
 returns-clause-rest g c bytes told =
@@ -79,11 +79,7 @@ pub returns-clause-image : goal.returns-clause-image
 returns-clause-image g c = front_read _ _ (g.R.Reader.ahead c.args.self.now.reader) _ _ (returns-clause-rest g c)
 
 pub returns-clause-took : goal.returns-clause-took
-returns-clause-took g c =
-    let d = c.args.self.now in
-    let many : 3 ≤ pixel_count d.header * channels_number d.channels =
-    omega (arith, c.required_buf_len-size.ensures.some, c.required_buf_len-size.ensures.bytes) in
-    nine_read d.channels d.header (g.R.Reader.ahead d.reader) _ _ (some_pixels _ _ many) (returns-clause-rest g c)
+returns-clause-took g c = c.in_ok-decode_to_buf.ensures.took
 
 pub returns-clause-rgb : goal.returns-clause-rgb
 returns-clause-rgb g c three = three_read _ _ (g.R.Reader.ahead c.args.self.now.reader) _ _ three (returns-clause-rest g c)

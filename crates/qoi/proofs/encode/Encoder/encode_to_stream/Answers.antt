@@ -47,12 +47,10 @@ pub returns-clause-as_long : goal.returns-clause-as_long
 returns-clause-as_long g c e bytes f =
     let w = c.in_ok-n.ensures.written in
     let own = subst (λ (s : EncoderState). IsFileOf s.style s.header s.raw w.0) c.self.view_is w.1 in
-    let placed = subst (λ style. IsFileOf style c.args.self.now.header c.args.self.now.raw w.0) e own in
-    w.2 ∙ places_length c.args.self.now.header c.args.self.now.raw w.0 bytes placed f
+    w.2 ∙ places_length _ c.args.self.now.header c.args.self.now.raw w.0 bytes e own f
 
 pub returns-clause-no_longer : goal.returns-clause-no_longer
 returns-clause-no_longer g c e style bytes f =
     let w = c.in_ok-n.ensures.written in
     let own = subst (λ (s : EncoderState). IsFileOf s.style s.header s.raw w.0) c.self.view_is w.1 in
-    let tight = subst (λ style. IsFileOf style c.args.self.now.header c.args.self.now.raw w.0) e own in
-    rw w.2 (shortest_is_least style c.args.self.now.header c.args.self.now.raw bytes (length w.0) tight.shortness f)
+    rw w.2 (shortest_is_least _ style c.args.self.now.header c.args.self.now.raw w.0 bytes e own f)

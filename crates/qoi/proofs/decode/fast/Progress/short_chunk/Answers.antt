@@ -1,8 +1,7 @@
 -- The chunk's pixel is the sum, its copies are those of the block, and the byte after it is picked.
-use Rattle.std.proofs.Common.{◌≡◌, ℕ, ◌+◌, ◌*◌, ◌<◌, ◌≤◌, drop, length, get_or, arith, sym, ap, ◌∙◌, subst}
+use Rattle.std.proofs.Common.{◌≡◌, ◌+◌, ◌<◌, ◌≤◌, drop, length, get_or, arith, sym, ap, ◌∙◌}
 use Rattle.std.proofs.lemmas.List.{get_or-drop, length-drop}
 use Rattle.qoi.specs.declared.decode.fast.Progress.{Progress}
-use Rattle.qoi.specs.inner.Filling.{FastBetween}
 use Rattle.qoi.specs.inner.Hashed.{pixel_of_lanes}
 use Rattle.qoi.proofs.decoding.FilledBuffer.{block_fits}
 use Rattle.qoi.proofs.decoding.FirstChunk.{size_of, decodes_short}
