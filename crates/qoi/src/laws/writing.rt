@@ -163,7 +163,6 @@ pub fn tight_is_shortest()
 {}
 
 /// What the tight lists of a few images cost.
-#[tactic(auto, unfolding(crate::specs::Qoi::pixel_eq, crate::specs::Qoi::start, crate::specs::Qoi::blank, crate::specs::Qoi::hash, crate::specs::Qoi::after_diff, crate::specs::Qoi::after_luma, crate::specs::Shortest::some_diff, crate::specs::Shortest::some_luma, crate::specs::Shortest::some_rgb, crate::specs::Shortest::least, crate::specs::Shortest::cost, crate::specs::Tight::least_unseen, crate::specs::Tight::least0))]
 pub fn tight_examples()
     ensures black_returns_rgb { floor0 (pixel 0 0 0 255 ∷ pixel 101 102 103 255 ∷ pixel 0 0 0 255
         ∷ []) ≡ 6 }
@@ -187,7 +186,6 @@ pub fn group_cost()
 {}
 
 /// The floor and the slack of a few images.
-#[tactic(auto, unfolding(crate::specs::Qoi::pixel_eq, crate::specs::Qoi::start, crate::specs::Qoi::blank, crate::specs::Qoi::hash, crate::specs::Qoi::after_diff, crate::specs::Qoi::after_luma, crate::specs::Shortest::some_diff, crate::specs::Shortest::some_luma, crate::specs::Shortest::some_rgb, crate::specs::Shortest::least, crate::specs::Shortest::cost, crate::specs::Shortest::slack))]
 pub fn shortest_examples()
     ensures black_returns_rgb { floor (pixel 0 0 0 255 ∷ pixel 101 102 103 255 ∷ pixel 0 0 0 255
         ∷ []) ≡ 6 }
