@@ -1,10 +1,11 @@
 -- The first chunk that spells a pixel out, as the lanes of a vector find it.
-use Rattle.std.proofs.Common.{◌≡◌, ◌↔◌, ℕ, zero, suc, ◌+◌, ◌*◌, ◌/◌, ◌%◌, ◌^◌, ◌<◌, ◌≤◌, Bool, true, false, inl, inr, cond, eqb, eqb-true, eq-eqb, IsTrue, List, [], ◌∷◌, ◌++◌, length, take, slice_index, refl, ap, ◌∙◌, arith, subst, bit_and, Fits, w32}
-use Rattle.std.proofs.lemmas.Nat.{and_mask, and_block}
+use Rattle.std.proofs.Common.{◌≡◌, ◌↔◌, ℕ, zero, suc, ◌+◌, ◌-◌, ◌*◌, ◌/◌, ◌%◌, ◌^◌, ◌<◌, ◌≤◌, Bool, true, false, inl, inr, cond, eqb, eqb-true, eq-eqb, IsTrue, List, [], ◌∷◌, ◌++◌, length, take, slice_index, refl, sym, ap, ◌∙◌, arith, subst, bit_and, Fits, w32}
+use Rattle.std.proofs.Math.Nat.{mod-eq_of_lt}
+use Rattle.std.proofs.lemmas.Nat.{and_mask, and_block, pow_pos}
 use Rattle.std.proofs.lemmas.Simd.{get_or-zip2, Each1-get_or}
 use lib.Lanes.{Each1, zip2, digits_l}
 use Rattle.qoi.specs.declared.chunk.Chunk.{Chunk}
-use Rattle.qoi.specs.Qoi.{RgbaPixel, IsPixel, bytes_of}
+use Rattle.qoi.specs.Qoi.{RgbaPixel, IsPixel, pixel, bytes_of}
 use Rattle.qoi.specs.Raw.{IsChannels}
 use Rattle.qoi.specs.Written.{IsFirst}
 use Rattle.qoi.specs.inner.Packed.{word, pixel_of_word}
@@ -13,76 +14,57 @@ use Rattle.qoi.specs.inner.Lanes.{steps, diff_steps, luma_steps, step_word, diff
 use Rattle.qoi.proofs.format.SamePixels.{same_pixel}
 use Rattle.qoi.proofs.encoding.Spelled.{FitsDiff, FitsLuma, diff_bits, luma_bits, spelled, spelled_chunk, spelled_first}
 
--- the highest bits of a byte
-and_fc : (x : ℕ) → x < 256 → bit_and x 252 ≡ x / 4 * 4
-and_fc x l = ap (λ z. bit_and z 252) (omega arith) ∙ and_block 2 (x / 4) 63 (x % 4) 0 (omega arith) (omega arith)
-    ∙ omega (arith, and_mask (x / 4) 6, and_mask (x % 4) 0)
+-- the highest bits of a byte: m of them, after the lowest k
+and_high : (k m x : ℕ) → x / 2 ^ k < 2 ^ m → bit_and x ((2 ^ m - 1) * 2 ^ k + 0) ≡ x / 2 ^ k * 2 ^ k
+and_high k m x few =
+    let some = pow_pos k in
+    ap (λ z. bit_and z ((2 ^ m - 1) * 2 ^ k + 0)) (omega arith) ∙ and_block k (x / 2 ^ k) (2 ^ m - 1) (x % 2 ^ k) 0 (omega arith) some
+    ∙ ap (λ z. z * 2 ^ k + bit_and (x % 2 ^ k) 0) (and_mask (x / 2 ^ k) m ∙ mod-eq_of_lt few) ∙ omega (arith, and_mask (x % 2 ^ k) 0)
 
-and_f0 : (x : ℕ) → x < 256 → bit_and x 240 ≡ x / 16 * 16
-and_f0 x l = ap (λ z. bit_and z 240) (omega arith) ∙ and_block 4 (x / 16) 15 (x % 16) 0 (omega arith) (omega arith)
-    ∙ omega (arith, and_mask (x / 16) 4, and_mask (x % 16) 0)
+-- masks byte by byte, of which the highest has all bits
+masked : (p : RgbaPixel) → IsPixel p → (r g b : ℕ) → r < 256 → g < 256 → b < 256
+    → bit_and (word p) (((255 * 2 ^ 8 + b) * 2 ^ 8 + g) * 2 ^ 8 + r) ≡ bit_and p.r r + bit_and p.g g * 2 ^ 8 + bit_and p.b b * 2 ^ 16 + p.a * 2 ^ 24
+masked p i r g b lr lg lb =
+    let three = and_block 8 ((p.a * 2 ^ 8 + p.b) * 2 ^ 8 + p.g) ((255 * 2 ^ 8 + b) * 2 ^ 8 + g) p.r r i.r lr in
+    let two = and_block 8 (p.a * 2 ^ 8 + p.b) (255 * 2 ^ 8 + b) p.g g i.g lg in
+    let lanes : word p ≡ ((p.a * 2 ^ 8 + p.b) * 2 ^ 8 + p.g) * 2 ^ 8 + p.r = omega arith in
+    ap (λ z. bit_and z (((255 * 2 ^ 8 + b) * 2 ^ 8 + g) * 2 ^ 8 + r)) lanes
+    ∙ omega (arith, three, two, and_block 8 p.a 255 p.b b i.b lb, and_mask p.a 8, i.a)
 
-and_c0 : (x : ℕ) → x < 256 → bit_and x 192 ≡ x / 64 * 64
-and_c0 x l = ap (λ z. bit_and z 192) (omega arith) ∙ and_block 6 (x / 64) 3 (x % 64) 0 (omega arith) (omega arith)
-    ∙ omega (arith, and_mask (x / 64) 2, and_mask (x % 64) 0)
+-- a pixel packed and unpacked
+pub unpacked : (p : RgbaPixel) → IsPixel p → pixel_of_word (word p) ≡ p
+unpacked p i = same_pixel _ p (omega (arith, i.r, i.g, i.b, i.a)) (omega (arith, i.r, i.g, i.b, i.a)) (omega (arith, i.r, i.g, i.b, i.a))
+    (omega (arith, i.r, i.g, i.b, i.a))
 
--- masks byte by byte
-masked : (r g b a mr mg mb ma : ℕ) → r < 256 → g < 256 → b < 256 → mr < 256 → mg < 256 → mb < 256
-    → bit_and (((a * 2 ^ 8 + b) * 2 ^ 8 + g) * 2 ^ 8 + r) (((ma * 2 ^ 8 + mb) * 2 ^ 8 + mg) * 2 ^ 8 + mr)
-    ≡ ((bit_and a ma * 2 ^ 8 + bit_and b mb) * 2 ^ 8 + bit_and g mg) * 2 ^ 8 + bit_and r mr
-masked r g b a mr mg mb ma lr lg lb nr ng nb =
-    and_block 8 ((a * 2 ^ 8 + b) * 2 ^ 8 + g) ((ma * 2 ^ 8 + mb) * 2 ^ 8 + mg) r mr lr nr
-    ∙ ap (λ z. z * 2 ^ 8 + bit_and r mr) (and_block 8 (a * 2 ^ 8 + b) (ma * 2 ^ 8 + mb) g mg lg ng)
-    ∙ ap (λ z. (z * 2 ^ 8 + bit_and g mg) * 2 ^ 8 + bit_and r mr) (and_block 8 a ma b mb lb nb)
+-- nothing is left of a packed pixel beside some of its bits exactly if these are all of it
+tested : (p q : RgbaPixel) (left : ℕ) → IsPixel p → IsPixel q → left + word q ≡ word p → IsTrue (eqb left 0) ↔ (q ≡ p)
+tested p q left ip iq sum = (
+  λ t. (let e = eqb-true _ _ t in let same : word q ≡ word p = omega arith in sym (unpacked q iq) ∙ ap pixel_of_word same ∙ unpacked p ip),
+  λ e. (let same = ap word e in eq-eqb _ _ (omega arith)),
+)
 
 -- the test of a Diff's steps
-diff_mask : (p : RgbaPixel) → IsPixel p → bit_and (word p) 0xfffcfcfc ≡ p.r / 4 * 4 + p.g / 4 * 4 * 2 ^ 8 + p.b / 4 * 4 * 2 ^ 16 + p.a * 2 ^ 24
-diff_mask p i =
-    ap (λ z. bit_and z 0xfffcfcfc) (omega arith)
-    ∙ masked p.r p.g p.b p.a 252 252 252 255 i.r i.g i.b (omega arith) (omega arith) (omega arith)
-    ∙ omega (arith, and_fc p.r i.r, and_fc p.g i.g, and_fc p.b i.b, and_mask p.a 8, i.a)
+is_diff : (p : RgbaPixel) → IsPixel p → IsTrue (eqb (bit_and (word p) 0xfffcfcfc) 0) ↔ (diff_bits p ≡ p)
+is_diff p i = tested p (diff_bits p) _ i (record { r = omega arith; g = omega arith; b = omega arith; a = omega arith })
+    (omega (arith, masked p i 252 252 252 (omega arith) (omega arith) (omega arith), high p.r i.r, high p.g i.g, high p.b i.b))
+  where
+    high : (x : ℕ) → x < 256 → bit_and x 252 ≡ x / 4 * 4
+    high x l = and_high 2 6 x (omega arith)
 
 -- and of a Luma's
-luma_mask : (p : RgbaPixel) → IsPixel p → bit_and (word p) 0xfff0c0f0 ≡ p.r / 16 * 16 + p.g / 64 * 64 * 2 ^ 8 + p.b / 16 * 16 * 2 ^ 16 + p.a * 2 ^ 24
-luma_mask p i =
-    ap (λ z. bit_and z 0xfff0c0f0) (omega arith)
-    ∙ masked p.r p.g p.b p.a 240 192 240 255 i.r i.g i.b (omega arith) (omega arith) (omega arith)
-    ∙ omega (arith, and_f0 p.r i.r, and_c0 p.g i.g, and_f0 p.b i.b, and_mask p.a 8, i.a)
+is_luma : (p : RgbaPixel) → IsPixel p → IsTrue (eqb (bit_and (word p) 0xfff0c0f0) 0) ↔ (luma_bits p ≡ p)
+is_luma p i = tested p (luma_bits p) _ i (record { r = omega arith; g = omega arith; b = omega arith; a = omega arith })
+    (omega (arith, masked p i 240 192 240 (omega arith) (omega arith) (omega arith), high p.r i.r, and_high 6 2 p.g (omega (arith, i.g)), high p.b i.b))
+  where
+    high : (x : ℕ) → x < 256 → bit_and x 240 ≡ x / 16 * 16
+    high x l = and_high 4 4 x (omega arith)
 
 -- and of alpha's
-alpha_mask : (p : RgbaPixel) → IsPixel p → bit_and (word p) 0xff000000 ≡ p.a * 2 ^ 24
-alpha_mask p i =
-    ap (λ z. bit_and z 0xff000000) (omega arith)
-    ∙ masked p.r p.g p.b p.a 0 0 0 255 i.r i.g i.b (omega arith) (omega arith) (omega arith)
-    ∙ omega (arith, and_mask p.r 0, and_mask p.g 0, and_mask p.b 0, and_mask p.a 8, i.a)
-
-is_diff : (p : RgbaPixel) → IsPixel p → IsTrue (eqb (bit_and (word p) 0xfffcfcfc) 0) ↔ (diff_bits p ≡ p)
-is_diff p i = (
-  λ t. (let e = eqb-true _ _ t in let m = diff_mask p i in same_pixel _ p (omega arith) (omega arith) (omega arith) (omega arith)),
-  λ e. (
-      let r : p.r % 4 ≡ p.r = ap (λ z. z.r) e in
-      let g : p.g % 4 ≡ p.g = ap (λ z. z.g) e in
-      let b : p.b % 4 ≡ p.b = ap (λ z. z.b) e in
-      let a : 0 ≡ p.a = ap (λ z. z.a) e in
-      eq-eqb _ _ (diff_mask p i ∙ omega arith)),
-)
-
-is_luma : (p : RgbaPixel) → IsPixel p → IsTrue (eqb (bit_and (word p) 0xfff0c0f0) 0) ↔ (luma_bits p ≡ p)
-is_luma p i = (
-  λ t. (let e = eqb-true _ _ t in let m = luma_mask p i in same_pixel _ p (omega arith) (omega arith) (omega arith) (omega arith)),
-  λ e. (
-      let r : p.r % 16 ≡ p.r = ap (λ z. z.r) e in
-      let g : p.g % 64 ≡ p.g = ap (λ z. z.g) e in
-      let b : p.b % 16 ≡ p.b = ap (λ z. z.b) e in
-      let a : 0 ≡ p.a = ap (λ z. z.a) e in
-      eq-eqb _ _ (luma_mask p i ∙ omega arith)),
-)
-
 keeps_alpha : (p : RgbaPixel) → IsPixel p → IsTrue (eqb (bit_and (word p) 0xff000000) 0) ↔ (p.a ≡ 0)
-keeps_alpha p i = (
-  λ t. (let e = eqb-true _ _ t in let m = alpha_mask p i in omega arith),
-  λ e. eq-eqb _ _ (alpha_mask p i ∙ omega arith),
-)
+keeps_alpha p i =
+    let m = masked p i 0 0 0 (omega arith) (omega arith) (omega arith) in
+    let left : bit_and (word p) 0xff000000 ≡ p.a * 2 ^ 24 = omega (arith, m, and_mask p.r 0, and_mask p.g 0, and_mask p.b 0) in
+    (λ t. (let e = eqb-true _ _ t in omega arith), λ e. eq-eqb _ _ (left ∙ omega arith))
 
 -- the lowest bytes of the chunks' numbers
 diff_low : (r g b a : ℕ) → r % 4 ≡ r → g % 4 ≡ g → b % 4 ≡ b → 0 ≡ a
@@ -97,17 +79,14 @@ luma_next : (r g b a : ℕ) → r % 16 ≡ r → g % 64 ≡ g → b % 16 ≡ b �
 luma_next r g b a er eg eb ea = omega arith
 
 -- one of two numbers
-full_first : (p n : ℕ) → n ≤ 1 → plus_32 (rgb_number p) n % 256 ≡ 254 + n
-full_first p n l = omega arith
-
-full_second : (p n : ℕ) → n ≤ 1 → plus_32 (rgb_number p) n / 256 % 256 ≡ p % 2 ^ 8
-full_second p n l = omega arith
-
-full_third : (p n : ℕ) → n ≤ 1 → plus_32 (rgb_number p) n / 256 / 256 % 256 ≡ p / 2 ^ 8 % 2 ^ 8
-full_third p n l = omega arith
-
-full_fourth : (p n : ℕ) → n ≤ 1 → plus_32 (rgb_number p) n / 256 / 256 / 256 % 256 ≡ p / 2 ^ 16 % 2 ^ 8
-full_fourth p n l = omega arith
+full_bytes : (p n : ℕ) → n ≤ 1 → digits_l 256 4 (plus_32 (rgb_number p) n) ≡ (254 + n) ∷ p % 2 ^ 8 ∷ p / 2 ^ 8 % 2 ^ 8 ∷ p / 2 ^ 16 % 2 ^ 8 ∷ []
+full_bytes p n l =
+    let number = plus_32 (rgb_number p) n in
+    let first : number % 256 ≡ 254 + n = omega arith in
+    let second : number / 256 % 256 ≡ p % 2 ^ 8 = omega arith in
+    let third : number / 256 / 256 % 256 ≡ p / 2 ^ 8 % 2 ^ 8 = omega arith in
+    let fourth : number / 256 / 256 / 256 % 256 ≡ p / 2 ^ 16 % 2 ^ 8 = omega arith in
+    λ i. first i ∷ second i ∷ third i ∷ fourth i ∷ []
 
 -- the bytes of the choice
 spelled_bytes : (d l k : Bool) (sm wi : RgbaPixel) (p : ℕ) → (d ≡ true → diff_bits sm ≡ sm) → (l ≡ true → luma_bits wi ≡ wi)
@@ -121,28 +100,18 @@ spelled_bytes false true k sm wi p hd hl =
     let e = hl refl in
     λ i. luma_low wi.r wi.g wi.b wi.a (ap (λ z. z.r) e) (ap (λ z. z.g) e) (ap (λ z. z.b) e) (ap (λ z. z.a) e) i ∷ luma_next wi.r wi.g wi.b wi.a
     (ap (λ z. z.r) e) (ap (λ z. z.g) e) (ap (λ z. z.b) e) (ap (λ z. z.a) e) i ∷ []
-spelled_bytes false false true sm wi p hd hl = λ i. full_first p 0 (omega arith) i ∷ full_second p 0 (omega arith) i ∷ full_third p 0
-    (omega arith) i ∷ full_fourth p 0 (omega arith) i ∷ []
-spelled_bytes false false false sm wi p hd hl = λ i. full_first p 1 (omega arith) i ∷ full_second p 1 (omega arith) i ∷ full_third p 1
-    (omega arith) i ∷ full_fourth p 1 (omega arith) i ∷ (p / 2 ^ 24) ∷ []
+spelled_bytes false false true sm wi p hd hl = full_bytes p 0 (omega arith)
+spelled_bytes false false false sm wi p hd hl = ap (λ xs. xs ++ (p / 2 ^ 24) ∷ []) (full_bytes p 1 (omega arith))
 
 -- numbers of 32 bits are pixels
 of_word : (p : ℕ) → p < 2 ^ 32 → IsPixel (pixel_of_word p)
 of_word p l = record { r = omega arith; g = omega arith; b = omega arith; a = omega arith }
 
--- a pixel packed and unpacked
-pub unpacked : (p : RgbaPixel) → IsPixel p → pixel_of_word (word p) ≡ p
-unpacked p i = same_pixel _ p (omega (arith, i.r, i.g, i.b, i.a)) (omega (arith, i.r, i.g, i.b, i.a)) (omega (arith, i.r, i.g, i.b, i.a))
-    (omega (arith, i.r, i.g, i.b, i.a))
-
 steps_pixel : (q p : RgbaPixel) → IsPixel (steps q p)
 steps_pixel q p = record { r = omega arith; g = omega arith; b = omega arith; a = omega arith }
 
-diff_pixel : (s : RgbaPixel) → IsPixel s → IsPixel (diff_steps s)
-diff_pixel s i = record { r = omega arith; g = omega arith; b = omega arith; a = i.a }
-
-luma_pixel : (s : RgbaPixel) → IsPixel s → IsPixel (luma_steps s)
-luma_pixel s i = record { r = omega arith; g = omega arith; b = omega arith; a = i.a }
+moved_pixel : (r g b a : ℕ) → a < 256 → IsPixel (pixel (r % 256) (g % 256) (b % 256) a)
+moved_pixel r g b a l = record { r = omega arith; g = omega arith; b = omega arith; a = l }
 
 module _ (p q : ℕ) (lp : p < 2 ^ 32) (lq : q < 2 ^ 32) where
   abbrev s : RgbaPixel
@@ -182,8 +151,8 @@ module _ (p q : ℕ) (lp : p < 2 ^ 32) (lq : q < 2 ^ 32) where
 
   pub spelled_lane : IsSpelled p q (spelled_number p q) (spelled_count p q) chunk_of_lanes
   spelled_lane =
-      let dt = is_diff sm (diff_pixel s is_s) in
-      let lt = is_luma wi (luma_pixel s is_s) in
+      let dt = is_diff sm (moved_pixel _ _ _ _ is_s.a) in
+      let lt = is_luma wi (moved_pixel _ _ _ _ is_s.a) in
       let kt = keeps_alpha s is_s in
       record {
         chunk = spelled_chunk d l k sm wi (pixel_of_word p) (of_word p lp);

@@ -1,18 +1,10 @@
 -- Two images whose written list is longer than a regular one by the whole slack.
-use Rattle.std.proofs.Common.{◌≡◌, ◌≢◌, [], ◌∷◌, refl, ap, arith}
+use Rattle.std.proofs.Common.{◌≡◌, ◌≢◌, ◌%◌, [], ◌∷◌, refl, ap, arith}
 use Rattle.qoi.specs.declared.chunk.Chunk.TheVariants.{Run, Rgb, Rgba}
 use Rattle.qoi.specs.Qoi.{RgbaPixel, IsPixel, Past, pixel, pixel_eq, start, blank, previous, hash}
-use Rattle.qoi.specs.Written.{noted, IsChoice, Written}
-use Rattle.qoi.proofs.encoding.Spelled.{FitsDiff, FitsLuma, first_rgb, first_rgba}
-
--- an Rgb is chosen if the pixel isn't noted and green is far
-pub chosen_rgb : (past : Past) (p : RgbaPixel) → IsPixel (previous past) → IsPixel p → noted past (hash p) ≢ p → p.a ≡ (previous past).a
-    → (FitsDiff (previous past) p → ⊥) → (FitsLuma (previous past) p → ⊥) → IsChoice past p (Rgb p.r p.g p.b)
-chosen_rgb past p iq ip n alpha d l = record { place = λ e. absurd (n e); spelled = λ _. first_rgb past p iq ip alpha d l }
-
--- an Rgba is chosen if the pixel isn't noted and alpha changes
-pub chosen_rgba : (past : Past) (p : RgbaPixel) → noted past (hash p) ≢ p → p.a ≢ (previous past).a → IsChoice past p (Rgba p.r p.g p.b p.a)
-chosen_rgba past p n alpha = record { place = λ e. absurd (n e); spelled = λ _. first_rgba past p alpha }
+use Rattle.qoi.specs.Written.{noted, IsChoice, GivesFresh, Written}
+use Rattle.qoi.specs.inner.Lanes.{steps, diff_steps, luma_steps}
+use Rattle.qoi.proofs.encoding.Spelled.{first_rgb, first_rgba}
 
 -- different reds make different pixels
 pub red_differs : (p q : RgbaPixel) → p.r ≢ q.r → p ≢ q
@@ -21,6 +13,21 @@ red_differs p q n e = n (ap (λ x. x.r) e)
 -- different alphas do
 alpha_differs : (p q : RgbaPixel) → p.a ≢ q.a → p ≢ q
 alpha_differs p q n e = n (ap (λ x. x.a) e)
+
+-- an Rgb gives a fresh pixel if red changes, the pixel isn't noted, and red and green are far
+pub fresh_rgb : (past : Past) (p : RgbaPixel) → IsPixel (previous past) → IsPixel p → p.a ≡ (previous past).a → p.r ≢ (previous past).r
+    → noted past (hash p) ≢ p → (let s = diff_steps (steps (previous past) p) in s.r % 4 ≢ s.r) → (let s = luma_steps (steps (previous past) p) in s.g % 64 ≢ s.g)
+    → GivesFresh IsChoice past (Rgb p.r p.g p.b)
+fresh_rgb past p iq ip alpha red n d l =
+    let first = first_rgb past p iq ip alpha (λ f. d (ap (λ z. z.r) f)) (λ f. l (ap (λ z. z.g) f)) in
+    record { is_fresh = red_differs _ _ red; is_chosen = rw first.gives (record { place = λ e. absurd (n e); spelled = λ _. first }) }
+
+-- an Rgba does if alpha changes, and the pixel isn't noted
+pub fresh_rgba : (past : Past) (p : RgbaPixel) → p.a ≢ (previous past).a → noted past (hash p) ≢ p → GivesFresh IsChoice past (Rgba p.r p.g p.b p.a)
+fresh_rgba past p alpha n = record {
+  is_fresh = alpha_differs _ _ alpha;
+  is_chosen = record { place = λ e. absurd (n e); spelled = λ _. first_rgba past p alpha };
+}
 
 -- black and a color are pixels
 pub black_is : IsPixel (pixel 0 0 0 255)
@@ -38,18 +45,10 @@ written_rgb = record {
   allowed = (
     tt,
     (
-      record {
-        is_fresh = red_differs _ _ (λ e. absurd (omega arith));
-        is_chosen = chosen_rgb (pixel 0 0 0 255 ∷ []) (pixel 101 102 103 255) black_is color_is (red_differs _ _ (λ e. absurd (omega arith))) refl
-            (λ f. let x = ap (λ z. z.r) f in absurd (omega arith)) (λ f. let x = ap (λ z. z.g) f in absurd (omega arith));
-      },
+      fresh_rgb (pixel 0 0 0 255 ∷ []) (pixel 101 102 103 255) black_is color_is refl (omega arith) (red_differs _ _ (omega arith)) (omega arith) (omega arith),
       (
-        record {
-          is_fresh = red_differs _ _ (λ e. absurd (omega arith));
-          is_chosen = chosen_rgb (pixel 101 102 103 255 ∷ pixel 0 0 0 255 ∷ []) (pixel 0 0 0 255) color_is black_is
-              (alpha_differs _ _ (λ e. absurd (omega arith))) refl
-              (λ f. let x = ap (λ z. z.r) f in absurd (omega arith)) (λ f. let x = ap (λ z. z.g) f in absurd (omega arith));
-        },
+        fresh_rgb (pixel 101 102 103 255 ∷ pixel 0 0 0 255 ∷ []) (pixel 0 0 0 255) color_is black_is refl (omega arith)
+            (alpha_differs _ _ (omega arith)) (omega arith) (omega arith),
         tt,
       ),
     ),
@@ -66,18 +65,8 @@ written_rgba = record {
   allowed = (
     tt,
     (
-      record {
-        is_fresh = red_differs _ _ (λ e. absurd (omega arith));
-        is_chosen = chosen_rgba (pixel 0 0 0 255 ∷ []) (pixel 101 102 103 104) (red_differs _ _ (λ e. absurd (omega arith))) (λ e. absurd (omega arith));
-      },
-      (
-        record {
-          is_fresh = red_differs _ _ (λ e. absurd (omega arith));
-          is_chosen = chosen_rgba (pixel 101 102 103 104 ∷ pixel 0 0 0 255 ∷ []) (pixel 0 0 0 255) (alpha_differs _ _ (λ e. absurd (omega arith)))
-              (λ e. absurd (omega arith));
-        },
-        tt,
-      ),
+      fresh_rgba (pixel 0 0 0 255 ∷ []) (pixel 101 102 103 104) (omega arith) (red_differs _ _ (omega arith)),
+      (fresh_rgba (pixel 101 102 103 104 ∷ pixel 0 0 0 255 ∷ []) (pixel 0 0 0 255) (omega arith) (alpha_differs _ _ (omega arith)), tt),
     ),
   );
   full = (tt, (tt, (tt, tt)));
