@@ -1,5 +1,5 @@
 -- Sixteen bytes at a time.
-use Rattle.std.proofs.Common.{◌≡◌, [], ◌∷◌, ℕ, ◌+◌, ◌-◌, ◌*◌, ◌/◌, ◌≤◌, inl, inr, List, ◌++◌, length, take, drop, replicate, arith, refl, sym, ap, ◌∙◌, subst, append-nil, append_assoc}
+use Rattle.std.proofs.Common.{◌≡◌, [], ◌∷◌, ℕ, ◌+◌, ◌-◌, ◌*◌, ◌/◌, ◌≤◌, List, ◌++◌, length, take, drop, replicate, arith, refl, sym, ap, ◌∙◌, subst, append-nil, append_assoc}
 use Rattle.std.proofs.lemmas.List.{take-take, length-take-le, length-drop, length-replicate, take-replicate, replicate-append-replicate}
 use Rattle.std.proofs.lemmas.Grind.{flat_map-append}
 use Rattle.std.proofs.Math.Seq.{take-append-add}
@@ -137,5 +137,4 @@ four_written p at k count is within le w1 w2 w3 w4 =
 
 -- sixteen blocks have room for the longest run
 pub blocks_enough : (c count : ℕ) → IsChannels c → count ≤ 62 → count ≤ 4 * (4 * (16 / c))
-blocks_enough c count (inl e) = subst (λ d. count ≤ 62 → count ≤ 4 * (4 * (16 / d))) (sym e) (λ le. omega arith)
-blocks_enough c count (inr e) = subst (λ d. count ≤ 62 → count ≤ 4 * (4 * (16 / d))) (sym e) (λ le. omega arith)
+blocks_enough c count is = by_channels (λ d. count ≤ 62 → count ≤ 4 * (4 * (16 / d))) is (λ le. omega arith) (λ le. omega arith)

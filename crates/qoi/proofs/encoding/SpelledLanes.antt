@@ -46,18 +46,24 @@ tested p q left ip iq sum = (
 -- the test of a Diff's steps
 is_diff : (p : RgbaPixel) → IsPixel p → IsTrue (eqb (bit_and (word p) 0xfffcfcfc) 0) ↔ (diff_bits p ≡ p)
 is_diff p i = tested p (diff_bits p) _ i (record { r = omega arith; g = omega arith; b = omega arith; a = omega arith })
-    (omega (arith, masked p i 252 252 252 (omega arith) (omega arith) (omega arith), high p.r i.r, high p.g i.g, high p.b i.b))
-  where
-    high : (x : ℕ) → x < 256 → bit_and x 252 ≡ x / 4 * 4
-    high x l = and_high 2 6 x (omega arith)
+    (omega (
+      arith,
+      masked p i 252 252 252 (omega arith) (omega arith) (omega arith),
+      and_high 2 6 p.r (omega (arith, i.r)),
+      and_high 2 6 p.g (omega (arith, i.g)),
+      and_high 2 6 p.b (omega (arith, i.b)),
+    ))
 
 -- and of a Luma's
 is_luma : (p : RgbaPixel) → IsPixel p → IsTrue (eqb (bit_and (word p) 0xfff0c0f0) 0) ↔ (luma_bits p ≡ p)
 is_luma p i = tested p (luma_bits p) _ i (record { r = omega arith; g = omega arith; b = omega arith; a = omega arith })
-    (omega (arith, masked p i 240 192 240 (omega arith) (omega arith) (omega arith), high p.r i.r, and_high 6 2 p.g (omega (arith, i.g)), high p.b i.b))
-  where
-    high : (x : ℕ) → x < 256 → bit_and x 240 ≡ x / 16 * 16
-    high x l = and_high 4 4 x (omega arith)
+    (omega (
+      arith,
+      masked p i 240 192 240 (omega arith) (omega arith) (omega arith),
+      and_high 4 4 p.r (omega (arith, i.r)),
+      and_high 6 2 p.g (omega (arith, i.g)),
+      and_high 4 4 p.b (omega (arith, i.b)),
+    ))
 
 -- and of alpha's
 keeps_alpha : (p : RgbaPixel) → IsPixel p → IsTrue (eqb (bit_and (word p) 0xff000000) 0) ↔ (p.a ≡ 0)
