@@ -45,25 +45,17 @@ tested p q left ip iq sum = (
 
 -- the test of a Diff's steps
 is_diff : (p : RgbaPixel) → IsPixel p → IsTrue (eqb (bit_and (word p) 0xfffcfcfc) 0) ↔ (diff_bits p ≡ p)
-is_diff p i = tested p (diff_bits p) _ i (record { r = omega arith; g = omega arith; b = omega arith; a = omega arith })
-    (omega (
-      arith,
-      masked p i 252 252 252 (omega arith) (omega arith) (omega arith),
-      and_high 2 6 p.r (omega (arith, i.r)),
-      and_high 2 6 p.g (omega (arith, i.g)),
-      and_high 2 6 p.b (omega (arith, i.b)),
-    ))
+is_diff p i =
+    let m = masked p i 252 252 252 (omega arith) (omega arith) (omega arith) in
+    tested p (diff_bits p) _ i (record { r = omega arith; g = omega arith; b = omega arith; a = omega arith })
+    (omega (arith, m, and_high 2 6 p.r (omega arith), and_high 2 6 p.g (omega arith), and_high 2 6 p.b (omega arith)))
 
 -- and of a Luma's
 is_luma : (p : RgbaPixel) → IsPixel p → IsTrue (eqb (bit_and (word p) 0xfff0c0f0) 0) ↔ (luma_bits p ≡ p)
-is_luma p i = tested p (luma_bits p) _ i (record { r = omega arith; g = omega arith; b = omega arith; a = omega arith })
-    (omega (
-      arith,
-      masked p i 240 192 240 (omega arith) (omega arith) (omega arith),
-      and_high 4 4 p.r (omega (arith, i.r)),
-      and_high 6 2 p.g (omega (arith, i.g)),
-      and_high 4 4 p.b (omega (arith, i.b)),
-    ))
+is_luma p i =
+    let m = masked p i 240 192 240 (omega arith) (omega arith) (omega arith) in
+    tested p (luma_bits p) _ i (record { r = omega arith; g = omega arith; b = omega arith; a = omega arith })
+    (omega (arith, m, and_high 4 4 p.r (omega arith), and_high 6 2 p.g (omega arith), and_high 4 4 p.b (omega arith)))
 
 -- and of alpha's
 keeps_alpha : (p : RgbaPixel) → IsPixel p → IsTrue (eqb (bit_and (word p) 0xff000000) 0) ↔ (p.a ≡ 0)
@@ -184,28 +176,23 @@ quad_spelled quad k lt =
     (chunk_of_lanes p q lp lq, rw (number, size) (spelled_lane p q lp lq))
 
 -- how many bytes there are
-count_few : (d l k : Bool) → cond d 1 (cond l 2 (plus_32 4 (cond k 0 1))) ≤ 5
-count_few true l k = omega arith
-count_few false true k = omega arith
-count_few false false true = omega arith
-count_few false false false = omega arith
-
-count_kept : (d l k : Bool) → k ≡ true → cond d 1 (cond l 2 (plus_32 4 (cond k 0 1))) ≤ 4
-count_kept true l k e = omega arith
-count_kept false true k e = omega arith
-count_kept false false true e = omega arith
-count_kept false false false e = absurd (let no : false ≡ true = e in cc)
+count_few : (d l k : Bool) → (let n = cond d 1 (cond l 2 (plus_32 4 (cond k 0 1))) in (n ≤ 5) × (k ≡ true → n ≤ 4))
+count_few true l k = (omega arith, λ e. omega arith)
+count_few false true k = (omega arith, λ e. omega arith)
+count_few false false true = (omega arith, λ e. omega arith)
+count_few false false false = (omega arith, λ e. absurd (let no : false ≡ true = e in cc))
 
 few_bytes : (p q : ℕ) → spelled_count p q ≤ 5
-few_bytes p q = let s = step_word p q in count_few (eqb (bit_and (diff_word s) 0xfffcfcfc) 0) (eqb (bit_and (luma_word s) 0xfff0c0f0) 0)
-    (eqb (bit_and s 0xff000000) 0)
+few_bytes p q =
+    let s = step_word p q in
+    (count_few (eqb (bit_and (diff_word s) 0xfffcfcfc) 0) (eqb (bit_and (luma_word s) 0xfff0c0f0) 0) (eqb (bit_and s 0xff000000) 0)).0
 
 same_alpha_few : (p q : ℕ) → p < 2 ^ 32 → q < 2 ^ 32 → p / 2 ^ 24 ≡ q / 2 ^ 24 → spelled_count p q ≤ 4
 same_alpha_few p q lp lq e =
     let s = step_word p q in
     let is_s = steps_pixel (pixel_of_word q) (pixel_of_word p) in
     let zero : (steps (pixel_of_word q) (pixel_of_word p)).a ≡ 0 = omega arith in
-    count_kept (eqb (bit_and (diff_word s) 0xfffcfcfc) 0) (eqb (bit_and (luma_word s) 0xfff0c0f0) 0) (eqb (bit_and s 0xff000000) 0)
+    (count_few (eqb (bit_and (diff_word s) 0xfffcfcfc) 0) (eqb (bit_and (luma_word s) 0xfff0c0f0) 0) (eqb (bit_and s 0xff000000) 0)).1
     ((keeps_alpha (steps (pixel_of_word q) (pixel_of_word p)) is_s).1 zero)
 
 same_at : (ps qs : List ℕ) (k : ℕ) → k < length ps → k < length qs → SameAlpha ps qs → slice_index ps k / 2 ^ 24 ≡ slice_index qs k / 2 ^ 24
