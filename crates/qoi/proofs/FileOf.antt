@@ -15,7 +15,7 @@ use Rattle.qoi.specs.EncoderState.{EncoderState}
 use Rattle.qoi.specs.Written.{Written}
 use Rattle.qoi.specs.Styles.{WrittenIn}
 use Rattle.qoi.specs.Decoding.{DecodesFile}
-use Rattle.qoi.specs.Encoded.{max_file_len, image_pixels, Spans, IsShortest, IsNearShortest, IsFileBy, IsAsReference, IsShortIn, IsReadBack, IsFileOf}
+use Rattle.qoi.specs.Encoded.{max_file_len, image_pixels, Spans, IsNearShortest, IsFileBy, IsAsReference, IsShortIn, IsReadBack, IsFileOf}
 use Rattle.qoi.proofs.format.Appended.{length-bytes_of}
 use Rattle.qoi.proofs.decoding.FilledBuffer.{take_whole}
 use Rattle.qoi.proofs.decoding.FrontImage.{file_image_is, file_rest_is}

@@ -1,5 +1,5 @@
 -- What was written is the one file of the image.
-use Rattle.std.proofs.Common.{rules, ◌≡◌, ◌++◌, length, drop, ap, ◌∙◌, subst}
+use Rattle.std.proofs.Common.{rules, ◌≡◌, ◌++◌, length, drop, ap, ◌∙◌}
 use Rattle.qoi.proofs.FileOf.{own_file, shortest_is_least, places_length}
 use Rattle.qoi.proofs.encoding.BufferFilled.{buffer_filled}
 use Rattle.qoi.proofs.encode.Encoder.encode_to_buf.Goals as goal
