@@ -61,8 +61,8 @@ no_pixels : (p : RgbaPixel) (pixels : List RgbaPixel) → IsFront p pixels pixel
 no_pixels p pixels = record { within = omega arith; all = λ e. refl; counted = λ l. absurd (omega arith) }
 
 -- one more is
-one_more : (p q : RgbaPixel) (pixels rest : List RgbaPixel) (m n : ℕ) → q ≡ p → IsFront p pixels rest m n → IsFront p (q ∷ pixels) rest (suc m) (suc n)
-one_more p q pixels rest m n e w = rw e (record {
+one_more : (p q : RgbaPixel) (pixels rest : List RgbaPixel) (m n k : ℕ) → k ≡ suc n → q ≡ p → IsFront p pixels rest m n → IsFront p (q ∷ pixels) rest (suc m) k
+one_more p q pixels rest m n k is e w = rw (is, e) (record {
   within = omega (arith, w.within);
   all = λ h. ap (λ x. p ∷ x) (w.all (omega arith));
   counted = λ l. (let k = w.counted (omega arith) in record { same = ap (λ x. p ∷ x) k.same; other = k.other });
@@ -76,52 +76,45 @@ not_first p q pixels rest m ne = record {
   counted = λ l. record { same = refl; other = λ e. ne cc };
 }
 
--- how many bytes n pixels of three have
-abbrev threefold : ℕ → ℕ
-threefold zero = 0
-threefold (suc n) = suc (suc (suc (threefold n)))
-
--- and of four
-abbrev fourfold : ℕ → ℕ
-fourfold zero = 0
-fourfold (suc n) = suc (suc (suc (suc (fourfold n))))
-
 -- no bytes are shared with none
 none_shared : (xs : List ℕ) → common_prefix_len eqb xs [] ≡ 0
 none_shared [] = refl
 none_shared (x ∷ xs) = refl
 
 -- as many pixels are p as whole ones have the bytes of p: three bytes each
-front_3 : (m : ℕ) (bytes : List ℕ) (p : RgbaPixel) → p.a ≡ 255 → threefold m ≤ length bytes
-    → IsFront p (pixels_of_3 bytes) (pixels_of_3 (drop (threefold m) bytes)) m (common_prefix_len eqb bytes (output 3 3 (replicate m p)) / 3)
+front_3 : (m : ℕ) (bytes : List ℕ) (p : RgbaPixel) → p.a ≡ 255 → 3 * m ≤ length bytes
+    → IsFront p (pixels_of_3 bytes) (pixels_of_3 (drop (3 * m) bytes)) m (common_prefix_len eqb bytes (output 3 3 (replicate m p)) / 3)
 front_3 zero bytes p o l = rw (none_shared bytes) (no_pixels p (pixels_of_3 bytes))
-front_3 (suc m) (r ∷ g ∷ b ∷ bytes) p o l = go (eqb r p.r) (eqb g p.g) (eqb b p.b) refl refl refl
-    (common_prefix_len eqb bytes (output 3 3 (replicate m p))) (front_3 m bytes p o (omega arith))
+front_3 (suc m) (r ∷ g ∷ b ∷ bytes) p o l =
+    let size : 3 * suc m ≡ suc (suc (suc (3 * m))) = omega arith in
+    rw size (go (eqb r p.r) (eqb g p.g) (eqb b p.b) refl refl refl
+    (common_prefix_len eqb bytes (output 3 3 (replicate m p))) (front_3 m bytes p o (omega arith)))
   where
-    go : (x y z : Bool) → eqb r p.r ≡ x → eqb g p.g ≡ y → eqb b p.b ≡ z → (n : ℕ) → IsFront p (pixels_of_3 bytes) (pixels_of_3 (drop (threefold m) bytes)) m (n / 3)
-        → IsFront p (pixel r g b 255 ∷ pixels_of_3 bytes) (pixels_of_3 (drop (threefold m) bytes)) (suc m) (cond x (1 + cond y (1 + cond z (1 + n) 0) 0) 0 / 3)
-    go true true true e f h n w = subst (IsFront p (pixel r g b 255 ∷ pixels_of_3 bytes) (pixels_of_3 (drop (threefold m) bytes)) (suc m))
-        (let s : suc (n / 3) ≡ (1 + (1 + (1 + n))) / 3 = omega arith in s)
-        (one_more p _ (pixels_of_3 bytes) _ m (n / 3) (same_pixel _ p (eqb-true r p.r e) (eqb-true g p.g f) (eqb-true b p.b h) (sym o)) w)
+    go : (x y z : Bool) → eqb r p.r ≡ x → eqb g p.g ≡ y → eqb b p.b ≡ z → (n : ℕ) → IsFront p (pixels_of_3 bytes) (pixels_of_3 (drop (3 * m) bytes)) m (n / 3)
+        → IsFront p (pixel r g b 255 ∷ pixels_of_3 bytes) (pixels_of_3 (drop (3 * m) bytes)) (suc m) (cond x (1 + cond y (1 + cond z (1 + n) 0) 0) 0 / 3)
+    go true true true e f h n w =
+        one_more p _ (pixels_of_3 bytes) _ m (n / 3) ((1 + (1 + (1 + n))) / 3) (omega arith) (same_pixel _ p (eqb-true r p.r e) (eqb-true g p.g f) (eqb-true b p.b h) (sym o)) w
     go true true false e f h n w = not_first p _ (pixels_of_3 bytes) _ m (λ s. eqb-false b p.b h (ap (λ q. q.b) s))
     go true false z e f h n w = not_first p _ (pixels_of_3 bytes) _ m (λ s. eqb-false g p.g f (ap (λ q. q.g) s))
     go false y z e f h n w = not_first p _ (pixels_of_3 bytes) _ m (λ s. eqb-false r p.r e (ap (λ q. q.r) s))
 front_3 (suc m) _ p o l = absurd (omega arith)
 
 -- four
-front_4 : (m : ℕ) (bytes : List ℕ) (p : RgbaPixel) → fourfold m ≤ length bytes
-    → IsFront p (pixels_of_4 bytes) (pixels_of_4 (drop (fourfold m) bytes)) m (common_prefix_len eqb bytes (output 4 4 (replicate m p)) / 4)
+front_4 : (m : ℕ) (bytes : List ℕ) (p : RgbaPixel) → 4 * m ≤ length bytes
+    → IsFront p (pixels_of_4 bytes) (pixels_of_4 (drop (4 * m) bytes)) m (common_prefix_len eqb bytes (output 4 4 (replicate m p)) / 4)
 front_4 zero bytes p l = rw (none_shared bytes) (no_pixels p (pixels_of_4 bytes))
-front_4 (suc m) (r ∷ g ∷ b ∷ a ∷ bytes) p l = go (eqb r p.r) (eqb g p.g) (eqb b p.b) (eqb a p.a) refl refl refl refl
-    (common_prefix_len eqb bytes (output 4 4 (replicate m p))) (front_4 m bytes p (omega arith))
+front_4 (suc m) (r ∷ g ∷ b ∷ a ∷ bytes) p l =
+    let size : 4 * suc m ≡ suc (suc (suc (suc (4 * m)))) = omega arith in
+    rw size (go (eqb r p.r) (eqb g p.g) (eqb b p.b) (eqb a p.a) refl refl refl refl
+    (common_prefix_len eqb bytes (output 4 4 (replicate m p))) (front_4 m bytes p (omega arith)))
   where
     go : (x y z t : Bool) → eqb r p.r ≡ x → eqb g p.g ≡ y → eqb b p.b ≡ z → eqb a p.a ≡ t → (n : ℕ)
-        → IsFront p (pixels_of_4 bytes) (pixels_of_4 (drop (fourfold m) bytes)) m (n / 4)
-        → IsFront p (pixel r g b a ∷ pixels_of_4 bytes) (pixels_of_4 (drop (fourfold m) bytes)) (suc m)
+        → IsFront p (pixels_of_4 bytes) (pixels_of_4 (drop (4 * m) bytes)) m (n / 4)
+        → IsFront p (pixel r g b a ∷ pixels_of_4 bytes) (pixels_of_4 (drop (4 * m) bytes)) (suc m)
         (cond x (1 + cond y (1 + cond z (1 + cond t (1 + n) 0) 0) 0) 0 / 4)
-    go true true true true e f h k n w = subst (IsFront p (pixel r g b a ∷ pixels_of_4 bytes) (pixels_of_4 (drop (fourfold m) bytes)) (suc m))
-        (let s : suc (n / 4) ≡ (1 + (1 + (1 + (1 + n)))) / 4 = omega arith in s)
-        (one_more p _ (pixels_of_4 bytes) _ m (n / 4) (same_pixel _ p (eqb-true r p.r e) (eqb-true g p.g f) (eqb-true b p.b h) (eqb-true a p.a k)) w)
+    go true true true true e f h k n w =
+        one_more p _ (pixels_of_4 bytes) _ m (n / 4) ((1 + (1 + (1 + (1 + n)))) / 4) (omega arith)
+        (same_pixel _ p (eqb-true r p.r e) (eqb-true g p.g f) (eqb-true b p.b h) (eqb-true a p.a k)) w
     go true true true false e f h k n w = not_first p _ (pixels_of_4 bytes) _ m (λ s. eqb-false a p.a k (ap (λ q. q.a) s))
     go true true false t e f h k n w = not_first p _ (pixels_of_4 bytes) _ m (λ s. eqb-false b p.b h (ap (λ q. q.b) s))
     go true false z t e f h k n w = not_first p _ (pixels_of_4 bytes) _ m (λ s. eqb-false g p.g f (ap (λ q. q.g) s))
