@@ -65,16 +65,14 @@ keeps_alpha p i =
     (λ t. (let e = eqb-true _ _ t in omega arith), λ e. eq-eqb _ _ (left ∙ omega arith))
 
 -- the lowest bytes of the chunks' numbers
-diff_low : (r g b a : ℕ) → r % 4 ≡ r → g % 4 ≡ g → b % 4 ≡ b → 0 ≡ a
-    → diff_number (r + g * 2 ^ 8 + b * 2 ^ 16 + a * 2 ^ 24) % 256 ≡ 64 + r % 4 * 16 + g % 4 * 4 + b % 4
-diff_low r g b a er eg eb ea = omega arith
+diff_low : (s : RgbaPixel) → diff_bits s ≡ s → diff_number (word s) % 256 ≡ 64 + s.r % 4 * 16 + s.g % 4 * 4 + s.b % 4
+diff_low s e = omega (arith, ap (λ z. z.r) e, ap (λ z. z.g) e, ap (λ z. z.b) e, ap (λ z. z.a) e)
 
-luma_low : (r g b a : ℕ) → r % 16 ≡ r → g % 64 ≡ g → b % 16 ≡ b → 0 ≡ a → luma_number (r + g * 2 ^ 8 + b * 2 ^ 16 + a * 2 ^ 24) % 256 ≡ 128 + g % 64
-luma_low r g b a er eg eb ea = omega arith
+luma_low : (s : RgbaPixel) → luma_bits s ≡ s → luma_number (word s) % 256 ≡ 128 + s.g % 64
+luma_low s e = omega (arith, ap (λ z. z.r) e, ap (λ z. z.g) e, ap (λ z. z.b) e, ap (λ z. z.a) e)
 
-luma_next : (r g b a : ℕ) → r % 16 ≡ r → g % 64 ≡ g → b % 16 ≡ b → 0 ≡ a
-    → luma_number (r + g * 2 ^ 8 + b * 2 ^ 16 + a * 2 ^ 24) / 256 % 256 ≡ r % 16 * 16 + b % 16
-luma_next r g b a er eg eb ea = omega arith
+luma_next : (s : RgbaPixel) → luma_bits s ≡ s → luma_number (word s) / 256 % 256 ≡ s.r % 16 * 16 + s.b % 16
+luma_next s e = omega (arith, ap (λ z. z.r) e, ap (λ z. z.g) e, ap (λ z. z.b) e, ap (λ z. z.a) e)
 
 -- one of two numbers
 full_bytes : (p n : ℕ) → n ≤ 1 → digits_l 256 4 (plus_32 (rgb_number p) n) ≡ (254 + n) ∷ p % 2 ^ 8 ∷ p / 2 ^ 8 % 2 ^ 8 ∷ p / 2 ^ 16 % 2 ^ 8 ∷ []
@@ -91,13 +89,8 @@ spelled_bytes : (d l k : Bool) (sm wi : RgbaPixel) (p : ℕ) → (d ≡ true →
     → take (cond d 1 (cond l 2 (plus_32 4 (cond k 0 1)))) (digits_l 256 4
     (cond d (diff_number (word sm)) (cond l (luma_number (word wi)) (plus_32 (rgb_number p) (cond k 0 1)))) ++ (p / 2 ^ 24) ∷ [])
     ≡ bytes_of (spelled d l k (diff_bits sm) (luma_bits wi) (pixel_of_word p))
-spelled_bytes true l k sm wi p hd hl =
-    let e = hd refl in
-    λ i. diff_low sm.r sm.g sm.b sm.a (ap (λ z. z.r) e) (ap (λ z. z.g) e) (ap (λ z. z.b) e) (ap (λ z. z.a) e) i ∷ []
-spelled_bytes false true k sm wi p hd hl =
-    let e = hl refl in
-    λ i. luma_low wi.r wi.g wi.b wi.a (ap (λ z. z.r) e) (ap (λ z. z.g) e) (ap (λ z. z.b) e) (ap (λ z. z.a) e) i ∷ luma_next wi.r wi.g wi.b wi.a
-    (ap (λ z. z.r) e) (ap (λ z. z.g) e) (ap (λ z. z.b) e) (ap (λ z. z.a) e) i ∷ []
+spelled_bytes true l k sm wi p hd hl = λ i. diff_low sm (hd refl) i ∷ []
+spelled_bytes false true k sm wi p hd hl = λ i. luma_low wi (hl refl) i ∷ luma_next wi (hl refl) i ∷ []
 spelled_bytes false false true sm wi p hd hl = full_bytes p 0 (omega arith)
 spelled_bytes false false false sm wi p hd hl = ap (λ xs. xs ++ (p / 2 ^ 24) ∷ []) (full_bytes p 1 (omega arith))
 
