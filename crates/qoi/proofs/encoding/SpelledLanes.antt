@@ -10,7 +10,7 @@ use Rattle.qoi.specs.Raw.{IsChannels}
 use Rattle.qoi.specs.Written.{IsFirst}
 use Rattle.qoi.specs.inner.Packed.{word, pixel_of_word}
 use Rattle.qoi.specs.declared.encode.quad.Quad.{Quad}
-use Rattle.qoi.specs.inner.Lanes.{steps, diff_steps, luma_steps, step_word, diff_word, luma_word, plus_32, diff_number, luma_number, rgb_number, spelled_number, spelled_count, SameAlpha, IsSpelled}
+use Rattle.qoi.specs.inner.Lanes.{steps, diff_steps, luma_steps, diff_word, luma_word, plus_32, diff_number, luma_number, rgb_number, spelled_number, spelled_count, SameAlpha, IsSpelled}
 use Rattle.qoi.proofs.format.SamePixels.{same_pixel}
 use Rattle.qoi.proofs.encoding.Spelled.{FitsDiff, FitsLuma, diff_bits, luma_bits, spelled, spelled_chunk, spelled_first}
 
@@ -74,7 +74,7 @@ luma_low s e = omega (arith, ap (λ z. z.r) e, ap (λ z. z.g) e, ap (λ z. z.b) 
 luma_next : (s : RgbaPixel) → luma_bits s ≡ s → luma_number (word s) / 256 % 256 ≡ s.r % 16 * 16 + s.b % 16
 luma_next s e = omega (arith, ap (λ z. z.r) e, ap (λ z. z.g) e, ap (λ z. z.b) e, ap (λ z. z.a) e)
 
--- one of two numbers
+-- the four bytes of an Rgb's number, and of an Rgba's
 full_bytes : (p n : ℕ) → n ≤ 1 → digits_l 256 4 (plus_32 (rgb_number p) n) ≡ (254 + n) ∷ p % 2 ^ 8 ∷ p / 2 ^ 8 % 2 ^ 8 ∷ p / 2 ^ 16 % 2 ^ 8 ∷ []
 full_bytes p n l =
     let number = plus_32 (rgb_number p) n in
@@ -98,9 +98,11 @@ spelled_bytes false false false sm wi p hd hl = ap (λ xs. xs ++ (p / 2 ^ 24) �
 of_word : (p : ℕ) → p < 2 ^ 32 → IsPixel (pixel_of_word p)
 of_word p l = record { r = omega arith; g = omega arith; b = omega arith; a = omega arith }
 
+-- so are steps, which wrap at 256
 steps_pixel : (q p : RgbaPixel) → IsPixel (steps q p)
 steps_pixel q p = record { r = omega arith; g = omega arith; b = omega arith; a = omega arith }
 
+-- and those of red, green and blue when moved
 moved_pixel : (r g b a : ℕ) → a < 256 → IsPixel (pixel (r % 256) (g % 256) (b % 256) a)
 moved_pixel r g b a l = record { r = omega arith; g = omega arith; b = omega arith; a = l }
 
@@ -175,18 +177,12 @@ count_few false true k = (omega arith, λ e. omega arith)
 count_few false false true = (omega arith, λ e. omega arith)
 count_few false false false = (omega arith, λ e. absurd (let no : false ≡ true = e in cc))
 
-few_bytes : (p q : ℕ) → spelled_count p q ≤ 5
+few_bytes : (p q : ℕ) → (spelled_count p q ≤ 5) × (p < 2 ^ 32 → q < 2 ^ 32 → p / 2 ^ 24 ≡ q / 2 ^ 24 → spelled_count p q ≤ 4)
 few_bytes p q =
-    let s = step_word p q in
-    (count_few (eqb (bit_and (diff_word s) 0xfffcfcfc) 0) (eqb (bit_and (luma_word s) 0xfff0c0f0) 0) (eqb (bit_and s 0xff000000) 0)).0
-
-same_alpha_few : (p q : ℕ) → p < 2 ^ 32 → q < 2 ^ 32 → p / 2 ^ 24 ≡ q / 2 ^ 24 → spelled_count p q ≤ 4
-same_alpha_few p q lp lq e =
-    let s = step_word p q in
-    let is_s = steps_pixel (pixel_of_word q) (pixel_of_word p) in
-    let zero : (steps (pixel_of_word q) (pixel_of_word p)).a ≡ 0 = omega arith in
-    (count_few (eqb (bit_and (diff_word s) 0xfffcfcfc) 0) (eqb (bit_and (luma_word s) 0xfff0c0f0) 0) (eqb (bit_and s 0xff000000) 0)).1
-    ((keeps_alpha (steps (pixel_of_word q) (pixel_of_word p)) is_s).1 zero)
+    let s = steps (pixel_of_word q) (pixel_of_word p) in
+    let w = word s in
+    let few = count_few (eqb (bit_and (diff_word w) 0xfffcfcfc) 0) (eqb (bit_and (luma_word w) 0xfff0c0f0) 0) (eqb (bit_and w 0xff000000) 0) in
+    (few.0, λ lp lq e. few.1 ((keeps_alpha s (steps_pixel (pixel_of_word q) (pixel_of_word p))).1 (omega arith)))
 
 same_at : (ps qs : List ℕ) (k : ℕ) → k < length ps → k < length qs → SameAlpha ps qs → slice_index ps k / 2 ^ 24 ≡ slice_index qs k / 2 ^ 24
 same_at [] qs k h j s = absurd (omega arith)
@@ -201,10 +197,10 @@ counts_few n cur prev counts is e g f h same ce k lt =
     let m : slice_index counts k ≡ spelled_count (slice_index cur k) (slice_index prev k) = ap (λ xs. slice_index xs k) ce
     ∙ get_or-zip2 spelled_count cur prev k 0 0 0 (omega arith) (omega arith) in
     elim is [
-      | inl three ↦ (let few = same_alpha_few (slice_index cur k) (slice_index prev k)
+      | inl three ↦ (let few = (few_bytes (slice_index cur k) (slice_index prev k)).1
           (Each1-get_or (Fits w32) cur k 0 (omega arith) f).fits (Each1-get_or (Fits w32) prev k 0 (omega arith) h).fits
           (same_at cur prev k (omega arith) (omega arith) (same three)) in omega arith)
-      | inr four ↦ (let few = few_bytes (slice_index cur k) (slice_index prev k) in omega arith)
+      | inr four ↦ (let few = (few_bytes (slice_index cur k) (slice_index prev k)).0 in omega arith)
     ]
 
 -- the bytes of an index position
