@@ -11,6 +11,7 @@ use Rattle.qoi.specs.Qoi.{channels_number, colorspace_number, header_bytes, pixe
 use Rattle.qoi.specs.Raw.{IsChannels, output, HasChannels, image_byte_count}
 use Rattle.qoi.specs.declared.types.Style.{Style}
 use Rattle.qoi.specs.declared.types.Style.TheVariants.{Reference, Places, Tight}
+use Rattle.qoi.specs.EncoderState.{EncoderState}
 use Rattle.qoi.specs.Written.{Written}
 use Rattle.qoi.specs.Styles.{WrittenIn}
 use Rattle.qoi.specs.Decoding.{DecodesFile}
@@ -264,20 +265,23 @@ file_spans style h raw bytes f =
       reaches = style_reaches style image (pixel_count h) e.cs e.written (count h raw f.is_file.valid f.is_file.size);
     }
 
+-- the file by what a contract sees of an encoder is that of the encoder
+pub own_file : {seen own : EncoderState} {bytes : List ℕ} → seen ≡ own → IsFileOf seen.style seen.header seen.raw bytes → IsFileOf own.style own.header own.raw bytes
+own_file {bytes = bytes} is f = subst (λ (s : EncoderState). IsFileOf s.style s.header s.raw bytes) is f
+
 -- so in no style is the file shorter than in style Tight
-pub shortest_is_least : (least style : Style) (h : Header) (raw tight bytes : List ℕ) → least ≡ Tight → IsFileOf least h raw tight
-    → IsFileOf style h raw bytes → length tight ≤ length bytes
-shortest_is_least least style h raw tight bytes is t f =
+pub shortest_is_least : {own style : Style} (h : Header) (raw tight bytes : List ℕ) → own ≡ Tight → IsFileOf own h raw tight → IsFileOf style h raw bytes
+    → length tight ≤ length bytes
+shortest_is_least {style = style} h raw tight bytes is t f =
+    let s = (subst (λ own. IsFileOf own h raw tight) is t).shortness in
     let e = f.is_file.encoded in
-    let s = rw is at t in
-    subst (λ z. length tight ≤ length z) (sym e.bytes_are) (s.shortness.shortest e.cs (file_spans style h raw bytes f))
+    subst (λ z. length tight ≤ length z) (sym e.bytes_are) (s.shortest e.cs (file_spans style h raw bytes f))
 
 -- in style Places it is as long as in style Reference
-pub places_length : (style : Style) (h : Header) (raw placed bytes : List ℕ) → style ≡ Places → IsFileOf style h raw placed
-    → IsFileOf Reference h raw bytes → length placed ≡ length bytes
-places_length style h raw placed bytes is p f =
-    let q = rw is at p in
-    let d = q.is_file.encoded in
+pub places_length : {own : Style} (h : Header) (raw placed bytes : List ℕ) → own ≡ Places → IsFileOf own h raw placed → IsFileOf Reference h raw bytes
+    → length placed ≡ length bytes
+places_length h raw placed bytes is p f =
+    let d = (subst (λ own. IsFileOf own h raw placed) is p).is_file.encoded in
     let e = f.is_file.encoded in
     let written = subst (λ cs. Written (image_pixels h raw) cs) (sym e.written.is) e.written.written in
     let as_long = places_as_long (image_pixels h raw) e.cs d.cs written d.written in

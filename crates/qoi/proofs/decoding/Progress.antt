@@ -31,15 +31,12 @@ start_between f c Taken table last out is whole blank opaque none_taken = record
   filled = record { room = whole_pixels c (length out) is whole; at_is = none c is; same = refl };
   has_seen = record { table_is = blank; last_is = opaque };
   within = omega arith;
-  whole = zero_whole c is;
+  whole = by_channels (λ k. 0 % k ≡ 0) is refl refl;
 }
   where
     none : (c : ℕ) → IsChannels c → 0 ≡ c * min (length out / c) 0
     none c is = by_channels (λ k. 0 ≡ k * min (length out / k) 0) is (omega arith)
         (omega arith)
-
-    zero_whole : (c : ℕ) → IsChannels c → 0 % c ≡ 0
-    zero_whole c is = by_channels (λ k. 0 % k ≡ 0) is refl refl
 
 -- one more chunk, its pixels written and seen
 pub goes_on : {f c n : ℕ} {Taken Taken' : List ℕ → Type 0} {old new : Filling} {bytes : List ℕ} → IsChannels c → DecoderBetween f c n Taken old

@@ -1,13 +1,14 @@
 -- How many of the first sixteen pixels are one pixel, by the bytes that are its.
-use Rattle.std.proofs.Common.{◌≡◌, ◌≢◌, ℕ, zero, suc, ◌+◌, ◌-◌, ◌*◌, ◌/◌, ◌%◌, ◌^◌, ◌≤◌, ◌<◌, inl, inr, Bool, true, false, cond, eqb, eqb-true, List, [], ◌∷◌, ◌++◌, length, take, drop, replicate, refl, sym, ap, subst, arith}
+use Rattle.std.proofs.Common.{◌≡◌, ◌≢◌, ℕ, zero, suc, ◌+◌, ◌-◌, ◌*◌, ◌/◌, ◌%◌, ◌^◌, ◌≤◌, ◌<◌, Bool, true, false, cond, eqb, eqb-true, List, [], ◌∷◌, ◌++◌, length, take, drop, replicate, refl, sym, ap, ◌∙◌, subst, arith}
 use Rattle.std.specs.List.{common_prefix_len}
 use Rattle.std.proofs.lemmas.Bool.{eqb-false}
-use Rattle.std.proofs.lemmas.List.{drop-drop, length-drop}
+use Rattle.std.proofs.lemmas.List.{drop-drop, drop_all, length-drop}
 use lib.Count.{count_trailing_zeros}
 use lib.Lanes.{zip2}
 use Rattle.qoi.specs.Qoi.{RgbaPixel, pixel}
 use Rattle.qoi.specs.Raw.{IsChannels, output, pixels_of_3, pixels_of_4, pixels_of}
 use Rattle.qoi.specs.Runs.{IsCount}
+use Rattle.qoi.proofs.decoding.FilledBuffer.{by_channels}
 use Rattle.qoi.proofs.format.Lanes.{same_bits, parted, none_beside}
 use Rattle.qoi.proofs.format.LaneRuns.{first_clear}
 use Rattle.qoi.proofs.format.SamePixels.{same_pixel}
@@ -27,33 +28,27 @@ three_parts xs ys l m =
     let e : same_bits (drop 16 (drop 32 xs)) (drop 16 (drop 32 ys)) ≡ same_bits (drop 48 xs) (drop 48 ys) = (λ i. same_bits (drop-drop 16 32 xs i) (drop-drop 16 32 ys i)) in
     omega (arith, a, b, c, d, e)
 
+-- beside what comes after all n bytes there are none
+none_after : (n : ℕ) (xs ys : List ℕ) → length ys ≡ n → same_bits xs (drop n ys) ≡ 0
+none_after n xs ys e = ap (same_bits xs) (drop_all n ys (omega arith)) ∙ none_beside xs
+
 -- three channels
-pub bits_of_3 : (n : ℕ) (bytes : List ℕ) (p : RgbaPixel) (a b c : ℕ) → n ≡ 3 → n * 16 ≤ length bytes → a < 2 ^ 16 → b < 2 ^ 16 → c < 2 ^ 16
-    → a ≡ part_bits 0 bytes (output n n (replicate 16 p)) → b ≡ part_bits 1 bytes (output n n (replicate 16 p))
-    → c ≡ part_bits 2 bytes (output n n (replicate 16 p))
-    → a + b * 2 ^ 16 % 2 ^ 64 + c * 2 ^ 32 % 2 ^ 64 ≡ same_bits bytes (output n n (replicate 16 p))
-bits_of_3 n bytes p a b c is =
-    rw is (λ long x y z e f g. sums a b c x y z e f g (none_beside (drop 48 bytes)) (three_parts bytes (output 3 3 (replicate 16 p)) long (omega arith)))
-  where
-    sums : (a b c : ℕ) {i j k m s : ℕ} → a < 2 ^ 16 → b < 2 ^ 16 → c < 2 ^ 16 → a ≡ i → b ≡ j → c ≡ k → m ≡ 0
-        → s ≡ i + 2 ^ 16 * j + 2 ^ 32 * k + 2 ^ 48 * m → a + b * 2 ^ 16 % 2 ^ 64 + c * 2 ^ 32 % 2 ^ 64 ≡ s
-    sums a b c x y z e f g h t = omega arith
+pub bits_of_3 : (xs ys : List ℕ) (a b c : ℕ) → length ys ≡ 48 → 48 ≤ length xs → a < 2 ^ 16 → b < 2 ^ 16 → c < 2 ^ 16
+    → a ≡ part_bits 0 xs ys → b ≡ part_bits 1 xs ys → c ≡ part_bits 2 xs ys → a + b * 2 ^ 16 % 2 ^ 64 + c * 2 ^ 32 % 2 ^ 64 ≡ same_bits xs ys
+bits_of_3 xs ys a b c size long x y z e f g =
+    let parts = three_parts xs ys long (omega arith) in
+    let over : same_bits (drop 48 xs) (drop 48 ys) ≡ 0 = none_after 48 (drop 48 xs) ys size in
+    omega arith
 
 -- four
-pub bits_of_4 : (n : ℕ) (bytes : List ℕ) (p : RgbaPixel) (a b c d : ℕ) → n ≡ 4 → n * 16 ≤ length bytes
-    → a < 2 ^ 16 → b < 2 ^ 16 → c < 2 ^ 16 → d < 2 ^ 16
-    → a ≡ part_bits 0 bytes (output n n (replicate 16 p)) → b ≡ part_bits 1 bytes (output n n (replicate 16 p))
-    → c ≡ part_bits 2 bytes (output n n (replicate 16 p)) → d ≡ part_bits 3 bytes (output n n (replicate 16 p))
-    → a + b * 2 ^ 16 % 2 ^ 64 + c * 2 ^ 32 % 2 ^ 64 + d * 2 ^ 48 % 2 ^ 64 ≡ same_bits bytes (output n n (replicate 16 p))
-bits_of_4 n bytes p a b c d is =
-    rw is (λ long x y z w e f g h. sums a b c d x y z w e f g h (none_beside (drop 16 (drop 48 bytes)))
-    (three_parts bytes (output 4 4 (replicate 16 p)) (omega arith) (omega arith))
-    (parted 16 (drop 48 bytes) (drop 48 (output 4 4 (replicate 16 p))) (omega (arith, length-drop 48 bytes)) (omega arith)))
-  where
-    sums : (a b c d : ℕ) {i j k l m s t : ℕ} → a < 2 ^ 16 → b < 2 ^ 16 → c < 2 ^ 16 → d < 2 ^ 16 → a ≡ i → b ≡ j → c ≡ k → d ≡ l → m ≡ 0
-        → s ≡ i + 2 ^ 16 * j + 2 ^ 32 * k + 2 ^ 48 * t → t ≡ l + 2 ^ 16 * m
-        → a + b * 2 ^ 16 % 2 ^ 64 + c * 2 ^ 32 % 2 ^ 64 + d * 2 ^ 48 % 2 ^ 64 ≡ s
-    sums a b c d x y z w e f g h o u v = omega arith
+pub bits_of_4 : (xs ys : List ℕ) (a b c d : ℕ) → length ys ≡ 64 → 64 ≤ length xs → a < 2 ^ 16 → b < 2 ^ 16 → c < 2 ^ 16 → d < 2 ^ 16
+    → a ≡ part_bits 0 xs ys → b ≡ part_bits 1 xs ys → c ≡ part_bits 2 xs ys → d ≡ part_bits 3 xs ys
+    → a + b * 2 ^ 16 % 2 ^ 64 + c * 2 ^ 32 % 2 ^ 64 + d * 2 ^ 48 % 2 ^ 64 ≡ same_bits xs ys
+bits_of_4 xs ys a b c d size long x y z w e f g h =
+    let parts = three_parts xs ys (omega arith) (omega arith) in
+    let last = parted 16 (drop 48 xs) (drop 48 ys) (omega (arith, length-drop 48 xs)) (omega (arith, length-drop 48 ys)) in
+    let over = none_after 16 (drop 16 (drop 48 xs)) (drop 48 ys) (omega (arith, length-drop 48 ys)) in
+    omega arith
 
 -- of the first m pixels, n at the front are p, and after the m come `rest`
 pub record IsFront (p : RgbaPixel) (pixels rest : List RgbaPixel) (m n : ℕ) : Type 0 where
@@ -66,8 +61,8 @@ no_pixels : (p : RgbaPixel) (pixels : List RgbaPixel) → IsFront p pixels pixel
 no_pixels p pixels = record { within = omega arith; all = λ e. refl; counted = λ l. absurd (omega arith) }
 
 -- one more is
-one_more : (p q : RgbaPixel) (pixels rest : List RgbaPixel) (m n : ℕ) → q ≡ p → IsFront p pixels rest m n → IsFront p (q ∷ pixels) rest (suc m) (suc n)
-one_more p q pixels rest m n e w = rw e (record {
+one_more : (p q : RgbaPixel) (pixels rest : List RgbaPixel) (m n k : ℕ) → k ≡ suc n → q ≡ p → IsFront p pixels rest m n → IsFront p (q ∷ pixels) rest (suc m) k
+one_more p q pixels rest m n k is e w = rw (is, e) (record {
   within = omega (arith, w.within);
   all = λ h. ap (λ x. p ∷ x) (w.all (omega arith));
   counted = λ l. (let k = w.counted (omega arith) in record { same = ap (λ x. p ∷ x) k.same; other = k.other });
@@ -81,52 +76,45 @@ not_first p q pixels rest m ne = record {
   counted = λ l. record { same = refl; other = λ e. ne cc };
 }
 
--- how many bytes n pixels of three have
-abbrev threefold : ℕ → ℕ
-threefold zero = 0
-threefold (suc n) = suc (suc (suc (threefold n)))
-
--- and of four
-abbrev fourfold : ℕ → ℕ
-fourfold zero = 0
-fourfold (suc n) = suc (suc (suc (suc (fourfold n))))
-
 -- no bytes are shared with none
 none_shared : (xs : List ℕ) → common_prefix_len eqb xs [] ≡ 0
 none_shared [] = refl
 none_shared (x ∷ xs) = refl
 
 -- as many pixels are p as whole ones have the bytes of p: three bytes each
-front_3 : (m : ℕ) (bytes : List ℕ) (p : RgbaPixel) → p.a ≡ 255 → threefold m ≤ length bytes
-    → IsFront p (pixels_of_3 bytes) (pixels_of_3 (drop (threefold m) bytes)) m (common_prefix_len eqb bytes (output 3 3 (replicate m p)) / 3)
+front_3 : (m : ℕ) (bytes : List ℕ) (p : RgbaPixel) → p.a ≡ 255 → 3 * m ≤ length bytes
+    → IsFront p (pixels_of_3 bytes) (pixels_of_3 (drop (3 * m) bytes)) m (common_prefix_len eqb bytes (output 3 3 (replicate m p)) / 3)
 front_3 zero bytes p o l = rw (none_shared bytes) (no_pixels p (pixels_of_3 bytes))
-front_3 (suc m) (r ∷ g ∷ b ∷ bytes) p o l = go (eqb r p.r) (eqb g p.g) (eqb b p.b) refl refl refl
-    (common_prefix_len eqb bytes (output 3 3 (replicate m p))) (front_3 m bytes p o (omega arith))
+front_3 (suc m) (r ∷ g ∷ b ∷ bytes) p o l =
+    let size : 3 * suc m ≡ suc (suc (suc (3 * m))) = omega arith in
+    rw size (go (eqb r p.r) (eqb g p.g) (eqb b p.b) refl refl refl
+    (common_prefix_len eqb bytes (output 3 3 (replicate m p))) (front_3 m bytes p o (omega arith)))
   where
-    go : (x y z : Bool) → eqb r p.r ≡ x → eqb g p.g ≡ y → eqb b p.b ≡ z → (n : ℕ) → IsFront p (pixels_of_3 bytes) (pixels_of_3 (drop (threefold m) bytes)) m (n / 3)
-        → IsFront p (pixel r g b 255 ∷ pixels_of_3 bytes) (pixels_of_3 (drop (threefold m) bytes)) (suc m) (cond x (1 + cond y (1 + cond z (1 + n) 0) 0) 0 / 3)
-    go true true true e f h n w = subst (IsFront p (pixel r g b 255 ∷ pixels_of_3 bytes) (pixels_of_3 (drop (threefold m) bytes)) (suc m))
-        (let s : suc (n / 3) ≡ (1 + (1 + (1 + n))) / 3 = omega arith in s)
-        (one_more p _ (pixels_of_3 bytes) _ m (n / 3) (same_pixel _ p (eqb-true r p.r e) (eqb-true g p.g f) (eqb-true b p.b h) (sym o)) w)
+    go : (x y z : Bool) → eqb r p.r ≡ x → eqb g p.g ≡ y → eqb b p.b ≡ z → (n : ℕ) → IsFront p (pixels_of_3 bytes) (pixels_of_3 (drop (3 * m) bytes)) m (n / 3)
+        → IsFront p (pixel r g b 255 ∷ pixels_of_3 bytes) (pixels_of_3 (drop (3 * m) bytes)) (suc m) (cond x (1 + cond y (1 + cond z (1 + n) 0) 0) 0 / 3)
+    go true true true e f h n w =
+        one_more p _ (pixels_of_3 bytes) _ m (n / 3) ((1 + (1 + (1 + n))) / 3) (omega arith) (same_pixel _ p (eqb-true r p.r e) (eqb-true g p.g f) (eqb-true b p.b h) (sym o)) w
     go true true false e f h n w = not_first p _ (pixels_of_3 bytes) _ m (λ s. eqb-false b p.b h (ap (λ q. q.b) s))
     go true false z e f h n w = not_first p _ (pixels_of_3 bytes) _ m (λ s. eqb-false g p.g f (ap (λ q. q.g) s))
     go false y z e f h n w = not_first p _ (pixels_of_3 bytes) _ m (λ s. eqb-false r p.r e (ap (λ q. q.r) s))
 front_3 (suc m) _ p o l = absurd (omega arith)
 
 -- four
-front_4 : (m : ℕ) (bytes : List ℕ) (p : RgbaPixel) → fourfold m ≤ length bytes
-    → IsFront p (pixels_of_4 bytes) (pixels_of_4 (drop (fourfold m) bytes)) m (common_prefix_len eqb bytes (output 4 4 (replicate m p)) / 4)
+front_4 : (m : ℕ) (bytes : List ℕ) (p : RgbaPixel) → 4 * m ≤ length bytes
+    → IsFront p (pixels_of_4 bytes) (pixels_of_4 (drop (4 * m) bytes)) m (common_prefix_len eqb bytes (output 4 4 (replicate m p)) / 4)
 front_4 zero bytes p l = rw (none_shared bytes) (no_pixels p (pixels_of_4 bytes))
-front_4 (suc m) (r ∷ g ∷ b ∷ a ∷ bytes) p l = go (eqb r p.r) (eqb g p.g) (eqb b p.b) (eqb a p.a) refl refl refl refl
-    (common_prefix_len eqb bytes (output 4 4 (replicate m p))) (front_4 m bytes p (omega arith))
+front_4 (suc m) (r ∷ g ∷ b ∷ a ∷ bytes) p l =
+    let size : 4 * suc m ≡ suc (suc (suc (suc (4 * m)))) = omega arith in
+    rw size (go (eqb r p.r) (eqb g p.g) (eqb b p.b) (eqb a p.a) refl refl refl refl
+    (common_prefix_len eqb bytes (output 4 4 (replicate m p))) (front_4 m bytes p (omega arith)))
   where
     go : (x y z t : Bool) → eqb r p.r ≡ x → eqb g p.g ≡ y → eqb b p.b ≡ z → eqb a p.a ≡ t → (n : ℕ)
-        → IsFront p (pixels_of_4 bytes) (pixels_of_4 (drop (fourfold m) bytes)) m (n / 4)
-        → IsFront p (pixel r g b a ∷ pixels_of_4 bytes) (pixels_of_4 (drop (fourfold m) bytes)) (suc m)
+        → IsFront p (pixels_of_4 bytes) (pixels_of_4 (drop (4 * m) bytes)) m (n / 4)
+        → IsFront p (pixel r g b a ∷ pixels_of_4 bytes) (pixels_of_4 (drop (4 * m) bytes)) (suc m)
         (cond x (1 + cond y (1 + cond z (1 + cond t (1 + n) 0) 0) 0) 0 / 4)
-    go true true true true e f h k n w = subst (IsFront p (pixel r g b a ∷ pixels_of_4 bytes) (pixels_of_4 (drop (fourfold m) bytes)) (suc m))
-        (let s : suc (n / 4) ≡ (1 + (1 + (1 + (1 + n)))) / 4 = omega arith in s)
-        (one_more p _ (pixels_of_4 bytes) _ m (n / 4) (same_pixel _ p (eqb-true r p.r e) (eqb-true g p.g f) (eqb-true b p.b h) (eqb-true a p.a k)) w)
+    go true true true true e f h k n w =
+        one_more p _ (pixels_of_4 bytes) _ m (n / 4) ((1 + (1 + (1 + (1 + n)))) / 4) (omega arith)
+        (same_pixel _ p (eqb-true r p.r e) (eqb-true g p.g f) (eqb-true b p.b h) (eqb-true a p.a k)) w
     go true true true false e f h k n w = not_first p _ (pixels_of_4 bytes) _ m (λ s. eqb-false a p.a k (ap (λ q. q.a) s))
     go true true false t e f h k n w = not_first p _ (pixels_of_4 bytes) _ m (λ s. eqb-false b p.b h (ap (λ q. q.b) s))
     go true false z t e f h k n w = not_first p _ (pixels_of_4 bytes) _ m (λ s. eqb-false g p.g f (ap (λ q. q.g) s))
@@ -143,9 +131,12 @@ few_bits (x ∷ xs) (y ∷ ys) = omega (arith, few_bits xs ys)
 pub front_of : (n : ℕ) (bytes : List ℕ) (p : RgbaPixel) (bits : ℕ) → IsChannels n → (n ≡ 3 → p.a ≡ 255) → n * 16 ≤ length bytes
     → bits ≡ same_bits bytes (output n n (replicate 16 p))
     → IsFront p (pixels_of n bytes) (pixels_of n (drop (n * 16) bytes)) 16 (count_trailing_zeros 64 (18446744073709551615 - bits) / n)
-front_of n bytes p bits (inl is) opaque = rw is (λ long e. subst (λ c. IsFront p (pixels_of_3 bytes) (pixels_of_3 (drop 48 bytes)) 16 (c / 3))
-    (sym (first_clear 64 bytes (output 3 3 (replicate 16 p)) _ (omega (arith, few_bits bytes (output 3 3 (replicate 16 p)))) (ap (λ b. 18446744073709551615 - b) e)))
-    (front_3 16 bytes p (opaque is) long))
-front_of n bytes p bits (inr is) opaque = rw is (λ long e. subst (λ c. IsFront p (pixels_of_4 bytes) (pixels_of_4 (drop 64 bytes)) 16 (c / 4))
-    (sym (first_clear 64 bytes (output 4 4 (replicate 16 p)) _ (omega (arith, few_bits bytes (output 4 4 (replicate 16 p)))) (ap (λ b. 18446744073709551615 - b) e)))
+front_of n bytes p bits is = by_channels (λ k. (k ≡ 3 → p.a ≡ 255) → k * 16 ≤ length bytes → bits ≡ same_bits bytes (output k k (replicate 16 p))
+    → IsFront p (pixels_of k bytes) (pixels_of k (drop (k * 16) bytes)) 16 (count_trailing_zeros 64 (18446744073709551615 - bits) / k)) is
+    (λ opaque long e. subst (λ c. IsFront p (pixels_of_3 bytes) (pixels_of_3 (drop 48 bytes)) 16 (c / 3)) (sym (clear (output 3 3 (replicate 16 p)) (omega arith) e))
+    (front_3 16 bytes p (opaque refl) long))
+    (λ opaque long e. subst (λ c. IsFront p (pixels_of_4 bytes) (pixels_of_4 (drop 64 bytes)) 16 (c / 4)) (sym (clear (output 4 4 (replicate 16 p)) (omega arith) e))
     (front_4 16 bytes p long))
+  where
+    clear : (ys : List ℕ) → length ys ≤ 64 → bits ≡ same_bits bytes ys → count_trailing_zeros 64 (18446744073709551615 - bits) ≡ common_prefix_len eqb bytes ys
+    clear ys few e = first_clear 64 bytes ys _ (omega (arith, few_bits bytes ys)) (ap (λ b. 18446744073709551615 - b) e)

@@ -3,6 +3,7 @@ use Rattle.std.proofs.Common.{◌≡◌, inl, inr, ℕ, zero, suc, ◌*◌, ◌<
 use Rattle.std.specs.List.{AllByRecursion}
 use Rattle.qoi.specs.Qoi.{RgbaPixel, IsPixel, pixel, rgba}
 use Rattle.qoi.specs.Raw.{IsChannels, output, pixels_of_3, pixels_of_4, pixels_of, AreOpaque, HasChannels}
+use Rattle.qoi.proofs.decoding.FilledBuffer.{by_channels}
 
 -- three bytes each: they are pixels
 pixels_3 : (bytes : List ℕ) → AllByRecursion (λ b. b < 256) bytes → AllByRecursion IsPixel (pixels_of_3 bytes)
@@ -17,8 +18,7 @@ pixels_4 _ h = tt
 -- they are pixels
 pub pixels_of_are : (channels : ℕ) (bytes : List ℕ) → IsChannels channels → AllByRecursion (λ b. b < 256) bytes
     → AllByRecursion IsPixel (pixels_of channels bytes)
-pixels_of_are channels bytes (inl e) h = rw e (pixels_3 bytes h)
-pixels_of_are channels bytes (inr e) h = rw e (pixels_4 bytes h)
+pixels_of_are channels bytes is h = by_channels (λ c. AllByRecursion IsPixel (pixels_of c bytes)) is (pixels_3 bytes h) (pixels_4 bytes h)
 
 -- three bytes each: they are opaque
 opaque_3 : (bytes : List ℕ) → AreOpaque (pixels_of_3 bytes)
@@ -44,8 +44,7 @@ count_4 _ _ e = absurd (omega arith)
 
 -- there are as many pixels as the bytes have room for
 pub length-pixels_of : (channels n : ℕ) (bytes : List ℕ) → IsChannels channels → length bytes ≡ channels * n → length (pixels_of channels bytes) ≡ n
-length-pixels_of channels n bytes (inl e) h = rw e (count_3 bytes n (rw e at h))
-length-pixels_of channels n bytes (inr e) h = rw e (count_4 bytes n (rw e at h))
+length-pixels_of channels n bytes is = by_channels (λ c. length bytes ≡ c * n → length (pixels_of c bytes) ≡ n) is (count_3 bytes n) (count_4 bytes n)
 
 -- three bytes each: they give the bytes back
 back_3 : (bytes : List ℕ) (n : ℕ) → length bytes ≡ 3 * n → output 3 3 (pixels_of_3 bytes) ≡ bytes
@@ -62,8 +61,7 @@ back_4 _ _ e = absurd (omega arith)
 -- they give the bytes back
 pub output-pixels_of : (channels n : ℕ) (bytes : List ℕ) → IsChannels channels → length bytes ≡ channels * n
     → output channels channels (pixels_of channels bytes) ≡ bytes
-output-pixels_of channels n bytes (inl e) h = rw e (back_3 bytes n (rw e at h))
-output-pixels_of channels n bytes (inr e) h = rw e (back_4 bytes n (rw e at h))
+output-pixels_of channels n bytes is = by_channels (λ c. length bytes ≡ c * n → output c c (pixels_of c bytes) ≡ bytes) is (back_3 bytes n) (back_4 bytes n)
 
 -- three bytes each: the pixels of joined bytes
 append_3 : (xs ys : List ℕ) (n : ℕ) → length xs ≡ 3 * n → pixels_of_3 (xs ++ ys) ≡ pixels_of_3 xs ++ pixels_of_3 ys
@@ -80,8 +78,8 @@ append_4 _ ys _ e = absurd (omega arith)
 -- the pixels of joined bytes
 pub pixels_of-append : (channels n : ℕ) (xs ys : List ℕ) → IsChannels channels → length xs ≡ channels * n
     → pixels_of channels (xs ++ ys) ≡ pixels_of channels xs ++ pixels_of channels ys
-pixels_of-append channels n xs ys (inl e) h = rw e (append_3 xs ys n (rw e at h))
-pixels_of-append channels n xs ys (inr e) h = rw e (append_4 xs ys n (rw e at h))
+pixels_of-append channels n xs ys is = by_channels (λ c. length xs ≡ c * n → pixels_of c (xs ++ ys) ≡ pixels_of c xs ++ pixels_of c ys) is
+    (append_3 xs ys n) (append_4 xs ys n)
 
 -- the pixel of three bytes
 one_3 : (bytes : List ℕ) → length bytes ≡ 3 → pixels_of_3 bytes ≡ rgba bytes ∷ []
@@ -95,8 +93,7 @@ one_4 _ e = absurd (omega arith)
 
 -- the pixel of as many bytes as there are channels
 pixels_of-one : (channels : ℕ) (bytes : List ℕ) → IsChannels channels → length bytes ≡ channels → pixels_of channels bytes ≡ rgba bytes ∷ []
-pixels_of-one channels bytes (inl e) h = rw e (one_3 bytes (h ∙ e))
-pixels_of-one channels bytes (inr e) h = rw e (one_4 bytes (h ∙ e))
+pixels_of-one channels bytes is = by_channels (λ c. length bytes ≡ c → pixels_of c bytes ≡ rgba bytes ∷ []) is (one_3 bytes) (one_4 bytes)
 
 -- the first pixel of bytes, and the others
 pub pixels_of-next : (channels : ℕ) (bytes rest : List ℕ) → IsChannels channels → length bytes ≡ channels

@@ -1,46 +1,46 @@
 -- A first byte, and some of those that it wants, are part of a chunk.
-use Rattle.std.proofs.Common.{◌≡◌, ℕ, ◌<◌, ◌≤◌, ◌⊎◌, inl, inr, List, [], ◌∷◌, Option, arith, refl}
+use Rattle.std.proofs.Common.{◌≡◌, ℕ, ◌<◌, ◌≤◌, ◌⊎◌, inl, inr, List, [], ◌∷◌, Option, Result, OnErr, arith, refl}
 use Rattle.std.specs.Io.KnownBytes.{Consumes}
 use Rattle.std.proofs.lemmas.Bool.{cases_lt}
 use Rattle.std.proofs.lemmas.Bool.Decides.{nat_tests}
 use Rattle.qoi.specs.declared.chunk.Chunk.TheVariants.{Luma}
 use Rattle.qoi.specs.Verdicts.{IsPartOfChunk}
-use Rattle.qoi.specs.inner.Filling.{filling}
 use Rattle.std.proofs.KnownBytes.{Consumes-trans}
 use Rattle.qoi.proofs.format.PartOfChunk.{part_empty}
+use Rattle.qoi.specs.inner.Filling.{filling}
 use Rattle.qoi.proofs.Results.{on_err}
 use Rattle.qoi.proofs.decoding.StreamReads.{part_read_luma, part_read_rgb, part_read_rgba, decodes_taken, alone_ahead, rgb_ahead, rgba_ahead}
 use Rattle.qoi.proofs.decode.stream.next_chunk.Goals as goal
 
--- a first byte was read and then others, which are part of a chunk
-begun : (old middle new : Option (List ℕ)) (first : ℕ) (more : List ℕ) → Consumes old middle (first ∷ []) → Consumes middle new more
-    → IsPartOfChunk (first ∷ more) → (x : List ℕ) × Consumes old new x × IsPartOfChunk x
-begun old middle new first more one others part = (first ∷ more, Consumes-trans old middle new (first ∷ []) more one others, part)
+-- if a read fails, what was taken is part of a chunk
+part_taken : {T E : Type 0} (old new : Option (List ℕ)) (r : Result T E) (taken : List ℕ) → Consumes old new taken → IsPartOfChunk taken
+    → OnErr r ((x : List ℕ) × Consumes old new x × IsPartOfChunk x)
+part_taken old new r taken took part = on_err r (taken, took, part)
 
 pub returns-in_err-b1-clause-failed : goal.returns-in_err-b1-clause-failed
-returns-in_err-b1-clause-failed g c =
-    on_err {P = (x : List ℕ) × Consumes (g.R.Read.remaining c.args.reader.now) (g.R.Read.remaining c.read_one.new.reader) x × IsPartOfChunk x} _
-    ([], c.in_err-b1.ensures.failed, part_empty [] (omega arith))
+returns-in_err-b1-clause-failed g c = part_taken _ _ _ [] c.in_err-b1.ensures.failed (part_empty [] (omega arith))
 
 pub returns-in_err-b2-clause-failed : goal.returns-in_err-b2-clause-failed
 returns-in_err-b2-clause-failed g c =
     let first = c.in_ok-b1.b1 in
     let luma = c.is_luma.ensures in
-    on_err _ (begun _ _ _ first [] c.in_ok-b1.ensures.read c.in_err-b2.ensures.failed
-    (part_read_luma first (omega arith) (grind (arith, nat_tests)) (grind (arith, nat_tests))))
+    part_taken _ _ _ (first ∷ []) (Consumes-trans _ _ _ (first ∷ []) [] c.in_ok-b1.ensures.read c.in_err-b2.ensures.failed)
+    (part_read_luma first (omega arith) (grind (arith, nat_tests)) (grind (arith, nat_tests)))
 
 pub returns-in_err-read_exact-clause-failed : goal.returns-in_err-read_exact-clause-failed
 returns-in_err-read_exact-clause-failed g c =
     let f = c.in_err-read_exact.ensures.failed in
     let first = c.in_ok-b1.b1 in
-    on_err _ (begun _ _ _ first f.0 c.in_ok-b1.ensures.read f.1 (part_read_rgb first f.0 (omega arith) f.2.1 c.if-b1.true (omega (arith, f.2.0))))
+    part_taken _ _ _ (first ∷ f.0) (Consumes-trans _ _ _ (first ∷ []) f.0 c.in_ok-b1.ensures.read f.1)
+    (part_read_rgb first f.0 (omega arith) f.2.1 c.if-b1.true (omega (arith, f.2.0)))
 
 pub returns-in_err-read_exact-2-clause-failed : goal.returns-in_err-read_exact-2-clause-failed
 returns-in_err-read_exact-2-clause-failed g c =
     let f = c.in_err-read_exact-2.ensures.failed in
     let first = c.in_ok-b1.b1 in
     let is : first ≡ 255 = omega arith in
-    on_err _ (begun _ _ _ first f.0 c.in_ok-b1.ensures.read f.1 (part_read_rgba first f.0 (omega arith) f.2.1 is (omega (arith, f.2.0))))
+    part_taken _ _ _ (first ∷ f.0) (Consumes-trans _ _ _ (first ∷ []) f.0 c.in_ok-b1.ensures.read f.1)
+    (part_read_rgba first f.0 (omega arith) f.2.1 is (omega (arith, f.2.0)))
 
 pub returns-then-is_luma-clause-read : goal.returns-then-is_luma-clause-read
 returns-then-is_luma-clause-read g c =

@@ -1,25 +1,21 @@
 -- What was written is the one file of the image.
-use Rattle.std.proofs.Common.{rules, ◌≡◌, ◌++◌, length, drop, ap, ◌∙◌, subst}
-use Rattle.qoi.specs.EncoderState.{EncoderState}
-use Rattle.qoi.specs.Encoded.{IsFileOf}
-use Rattle.qoi.proofs.FileOf.{shortest_is_least, places_length}
+use Rattle.std.proofs.Common.{rules, ◌≡◌, ◌++◌, length, drop, ap, ◌∙◌}
+use Rattle.qoi.proofs.FileOf.{own_file, shortest_is_least, places_length}
 use Rattle.qoi.proofs.encoding.BufferFilled.{buffer_filled}
 use Rattle.qoi.proofs.encode.Encoder.encode_to_buf.Goals as goal
 
 pub returns-clause-encoded : goal.returns-clause-encoded
 returns-clause-encoded c room =
     let w = c.in_ok-n.ensures.written in
-    let own = subst (λ (s : EncoderState). IsFileOf s.style s.header s.raw w.0) c.self.view_is w.1 in
     let new = c.new-writer.ensures in
     let filled = buffer_filled c.new-writer.result c.encode_image.new.buf c.args.buf.now w.0 c.in_ok-n.n new.written new.left w.3 w.2 in
     let named = w.3.same_buffer in
-    (w.0, own, w.2, search rules)
+    (w.0, own_file c.self.view_is w.1, w.2, search rules)
 
 pub returns-clause-same : goal.returns-clause-same
 returns-clause-same c bytes f =
     let w = c.in_ok-n.ensures.written in
-    let own = subst (λ (s : EncoderState). IsFileOf s.style s.header s.raw w.0) c.self.view_is w.1 in
-    let is : w.0 ≡ bytes = f.is_file.only w.0 own.is_file.encoded in
+    let is : w.0 ≡ bytes = f.is_file.only w.0 (own_file c.self.view_is w.1).is_file.encoded in
     let old = c.args.buf.now in
     let new = c.new-writer.ensures in
     let front = buffer_filled c.new-writer.result c.encode_image.new.buf old w.0 c.in_ok-n.n new.written new.left w.3 w.2 in
@@ -30,11 +26,9 @@ returns-clause-same c bytes f =
 pub returns-clause-as_long : goal.returns-clause-as_long
 returns-clause-as_long c e bytes f =
     let w = c.in_ok-n.ensures.written in
-    let own = subst (λ (s : EncoderState). IsFileOf s.style s.header s.raw w.0) c.self.view_is w.1 in
-    w.2 ∙ places_length _ c.args.self.now.header c.args.self.now.raw w.0 bytes e own f
+    w.2 ∙ places_length c.args.self.now.header c.args.self.now.raw w.0 bytes e (own_file c.self.view_is w.1) f
 
 pub returns-clause-no_longer : goal.returns-clause-no_longer
 returns-clause-no_longer c e style bytes f =
     let w = c.in_ok-n.ensures.written in
-    let own = subst (λ (s : EncoderState). IsFileOf s.style s.header s.raw w.0) c.self.view_is w.1 in
-    rw w.2 (shortest_is_least _ style c.args.self.now.header c.args.self.now.raw w.0 bytes e own f)
+    rw w.2 (shortest_is_least c.args.self.now.header c.args.self.now.raw w.0 bytes e (own_file c.self.view_is w.1) f)
