@@ -14,6 +14,9 @@ own c =
     let items = c.truncate.ensures.items ∙ ap (take c.in_ok-size.size) written in
     subst (IsFileOf self.style self.header self.raw) (sym items) c.in_ok-size.ensures.front
 
+pub returns-clause-encoded : goal.returns-clause-encoded
+returns-clause-encoded c = own c
+
 pub returns-clause-same : goal.returns-clause-same
 returns-clause-same c bytes f = f.is_file.only c.truncate.new.self.items (own c).is_file.encoded
 

@@ -1,5 +1,5 @@
 -- The runs, and the fresh pixel after them.
-use Rattle.std.proofs.Common.{◌≡◌, ◌≢◌, ◌<◌, ◌*◌, ◌%◌, ◌∷◌, length, take, drop, Some, sym, ap, ◌∙◌, arith, subst}
+use Rattle.std.proofs.Common.{eqb-true, ◌+◌, ◌≤◌, ◌≡◌, ◌≢◌, ◌<◌, ◌*◌, ◌%◌, ◌∷◌, length, take, drop, Some, sym, ap, ◌∙◌, arith, subst}
 use Rattle.std.specs.List.{AllByRecursion, slice_get}
 use Rattle.std.proofs.lemmas.Bool.{eqb-false}
 use Rattle.std.proofs.lemmas.List.{length-drop}
@@ -8,6 +8,7 @@ use Rattle.qoi.specs.Raw.{pixels_of}
 use Rattle.qoi.specs.inner.CoderLoop.{CoderBetween, lane_pixel, before_lane}
 use Rattle.qoi.specs.inner.Packed.{pixel_of_word}
 use Rattle.qoi.specs.inner.Piece.{kept_bytes}
+use Rattle.qoi.proofs.decoding.FilledBuffer.{by_channels}
 use Rattle.qoi.proofs.encoding.GroupRuns.{whole_rest, pixels_drop, drop_next, pixel_ahead}
 use Rattle.qoi.proofs.encoding.QuadGroups.{count_other}
 use Rattle.qoi.proofs.encoding.SpelledLanes.{unpacked}
@@ -47,3 +48,17 @@ returns-clause-written g c w b =
     let done = c.write_fresh.ensures.written w (pixels_of g.row.N (drop g.row.N later)) before_is differs stand in
     subst (λ xs. CoderBetween w (pixels_of g.row.N xs) c.write_fresh.new.table c.write_fresh.new.self (kept_bytes c.write_fresh.new.piece))
     (drop_next g.row.N n raw channels) done
+
+pub returns-then-is_empty-clause-some : goal.returns-then-is_empty-clause-some
+returns-then-is_empty-clause-some g c =
+    let none : length c.skip-after.result.now ≡ 0 = eqb-true _ 0 (sym c.is_empty.ensures ∙ c.if-is_empty.true) in
+    by_channels (λ m. 0 < m * c.write_runs-count.result → 0 < c.write_runs-count.result) c.args.self.now.channels (λ p. omega arith) (λ p. omega arith)
+    (omega (arith, none, c.requires.some, ap length c.skip-after.ensures, length-drop (g.row.N * c.write_runs-count.result) c.args.data.now))
+
+pub returns-clause-inside : goal.returns-clause-inside
+returns-clause-inside g c =
+    let n = c.write_runs-count.result in
+    let len = length c.args.data.now in
+    let other : length c.skip-after.result.now ≢ 0 = eqb-false _ 0 (sym c.is_empty.ensures ∙ c.if-is_empty.false) in
+    by_channels (λ m. len % m ≡ 0 → m * n < len → m * (n + 1) ≤ len) c.args.self.now.channels (λ w p. omega arith) (λ w p. omega arith) c.requires.whole
+    (omega (arith, other, ap length c.skip-after.ensures, length-drop (g.row.N * n) c.args.data.now))
