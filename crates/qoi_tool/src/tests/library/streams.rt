@@ -4,6 +4,7 @@ use crate::tests::library::support::{
     assert_bytes, assert_fails, assert_header, assert_number, assert_refused,
 };
 use qoi::{Channels, Decoder, Error, Header};
+use std::alloc::Global;
 use std::io::{Cursor, ErrorKind};
 use std::process::Abort;
 
@@ -120,4 +121,28 @@ fn own_words(rt: HostRuntime) {
         let refusal = refusal_at(&rt, &mut reader, call);
         assert_refused(&rt, rt.alloc(), refusal, "i/o error: x");
     }
+}
+
+// A header that is refused is taken of a reader that is lent, and no more.
+fn assert_takes_header(rt: &impl Abort, alloc: Global, file: &[u8; 26], text: &str) {
+    let mut reader = &file[..];
+    let refusal = Decoder::from_stream(&mut reader).err();
+    assert_refused(rt, alloc, refusal, text);
+    assert_bytes(rt, reader, &ONE_RGB_PIXEL[14..]);
+}
+
+// Each header that a byte of one makes invalid.
+#[test]
+fn refused_headers(rt: HostRuntime) {
+    let mut bytes = ONE_RGB_PIXEL;
+    bytes[7] = 0;
+    assert_takes_header(&rt, rt.alloc(), &bytes, "invalid image dimensions: 0x1");
+    bytes[3] = 0x67;
+    let magic = "invalid magic: expected 1903126886, got [113, 111, 105, 103]";
+    assert_takes_header(&rt, rt.alloc(), &bytes, magic);
+    bytes[13] = 2;
+    let colorspace = "invalid color space: 2 (expected 0 or 1)";
+    assert_takes_header(&rt, rt.alloc(), &bytes, colorspace);
+    bytes[12] = 5;
+    assert_takes_header(&rt, rt.alloc(), &bytes, "invalid number of channels: 5");
 }
