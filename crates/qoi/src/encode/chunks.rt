@@ -14,9 +14,9 @@ use crate::types::Channels::{self, Rgb, Rgba};
 use crate::types::Style::{self, Places, Reference, Tight};
 use crate::utils::Writer;
 
-// `encode_chunks` for `N` channels.
-#[inline(always)]
-fn encode_pixels<W: Writer, const N: usize>(
+// `encode_chunks` for `N` channels. `STYLE` is a number for each style, so that each has a function
+// of its own: one for all would test the style at each pixel.
+fn encode_pixels<W: Writer, const N: usize, const STYLE: u8>(
     buf: &mut W,
     piece: &mut Piece,
     style: Style,
@@ -66,11 +66,11 @@ pub(super) fn encode_chunks<W: Writer>(
 {
     // A loop for each pair, in which channels and style are constants.
     match (channels, style) {
-        (Rgb, Reference) => encode_pixels::<W, 3>(buf, piece, Reference, data),
-        (Rgb, Places) => encode_pixels::<W, 3>(buf, piece, Places, data),
-        (Rgb, Tight) => encode_pixels::<W, 3>(buf, piece, Tight, data),
-        (Rgba, Reference) => encode_pixels::<W, 4>(buf, piece, Reference, data),
-        (Rgba, Places) => encode_pixels::<W, 4>(buf, piece, Places, data),
-        (Rgba, Tight) => encode_pixels::<W, 4>(buf, piece, Tight, data),
+        (Rgb, Reference) => encode_pixels::<W, 3, 0>(buf, piece, Reference, data),
+        (Rgb, Places) => encode_pixels::<W, 3, 1>(buf, piece, Places, data),
+        (Rgb, Tight) => encode_pixels::<W, 3, 2>(buf, piece, Tight, data),
+        (Rgba, Reference) => encode_pixels::<W, 4, 0>(buf, piece, Reference, data),
+        (Rgba, Places) => encode_pixels::<W, 4, 1>(buf, piece, Places, data),
+        (Rgba, Tight) => encode_pixels::<W, 4, 2>(buf, piece, Tight, data),
     }
 }
