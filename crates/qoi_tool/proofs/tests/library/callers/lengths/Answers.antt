@@ -1,6 +1,6 @@
 -- The file in style Reference is found by its front, and the others' lengths are compared with it.
-use Rattle.std.proofs.Common.{◌≡◌, ℕ, List, take, rules, arith, sym, ap, ◌∙◌, subst}
-use Rattle.qoi.specs.declared.types.Style.TheVariants.{Reference, Places, Tight}
+use Rattle.std.proofs.Common.{◌≡◌, take, rules, arith, sym, ap, ◌∙◌}
+use Rattle.qoi.specs.declared.types.Style.TheVariants.{Reference}
 use Rattle.qoi.specs.Encoded.{IsFileOf}
 use Rattle.qoi.specs.EncoderState.{EncoderState}
 use Rattle.qoi_tool.proofs.tests.library.callers.lengths.Goals as goal
