@@ -74,10 +74,11 @@ pub record CoderBetween {N : ℕ} (w : Writing) (rest : List RgbaPixel) (table :
 abbrev pub BytesBetween : {N : ℕ} → Writing → List ℕ → List RgbaPixel → Coder N → Piece → Type 0
 BytesBetween {N} w bytes table coder piece = CoderBetween w (pixels_of N bytes) table coder (kept_bytes piece)
 
--- the pixel of a lane, and the one before it
+-- the pixel of a lane
 abbrev pub lane_pixel : {N : ℕ} → Quad N → ℕ → RgbaPixel
 lane_pixel quad k = pixel_of_word (slice_index quad.pixels k)
 
+-- the pixel before that of a lane
 abbrev pub before_lane : {N : ℕ} → Quad N → ℕ → RgbaPixel
 before_lane quad k = pixel_of_word (slice_index quad.before k)
 

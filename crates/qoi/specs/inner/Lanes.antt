@@ -37,13 +37,15 @@ luma_word s = word (luma_steps (pixel_of_word s))
 abbrev pub green_twice : ℕ → ℕ
 green_twice s = s / 2 ^ 8 % 2 ^ 8 * 0x10001
 
--- sums and shifts of 32 bits, whose upper bits are lost
+-- the sum of 32 bits, whose upper bits are lost
 abbrev pub plus_32 : ℕ → ℕ → ℕ
 plus_32 a b = (a + b) % 2 ^ 32
 
+-- a shift to the left in 32 bits, whose upper bits are lost
 abbrev pub up : ℕ → ℕ → ℕ
 up a b = a * 2 ^ b % 2 ^ 32
 
+-- a shift to the right
 abbrev pub down : ℕ → ℕ → ℕ
 down a b = a / 2 ^ b
 

@@ -27,6 +27,7 @@ pub(super) struct Progress {
     pub(super) last: Hashed,
     pub(super) taken: usize,
     pub(super) written: usize,
+    // As a `usize` its comparison was made twice, as a `u8` it was widened at each use.
     pub(super) next: u32,
 }
 

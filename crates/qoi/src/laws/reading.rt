@@ -122,6 +122,8 @@ pub fn worked_examples()
     ensures diff_one_more { meaning (Chunk.Diff 0x7f ∷ []) ≡ pixel 1 1 1 255 ∷ [] }
     ensures diff_two_less { meaning (Chunk.Diff 0x40 ∷ []) ≡ pixel 254 254 254 255 ∷ [] }
     ensures diff_by_color { meaning (Chunk.Diff 0x47 ∷ []) ≡ pixel 254 255 1 255 ∷ [] }
+    ensures luma_bytes { chunk_bytes (Chunk.Diff 0x47 ∷ Chunk.Luma 0xa0 0x7b ∷ [])
+        ≡ 0x47 ∷ 0xa0 ∷ 0x7b ∷ [] }
     ensures luma_by_color { meaning (Chunk.Luma 0xa0 0x7b ∷ []) ≡ pixel 255 0 3 255 ∷ [] }
     ensures diff_is_added { meaning (Chunk.Rgba 10 20 30 40 ∷ Chunk.Diff 0x47 ∷ [])
         ≡ pixel 10 20 30 40 ∷ pixel 8 19 31 40 ∷ [] }
