@@ -66,8 +66,7 @@ RefusesTakenMarker taken _ = ⊥
 abbrev pub least_byte_count : ℕ → ℕ
 least_byte_count n = (n + (run_max - 1)) / run_max + marker_size
 
--- in memory at least the fewest bytes stand ahead that n pixels and the end marker take; on a
--- stream it always holds
+-- in memory at least `least_byte_count n` bytes stand ahead; on a stream it always holds
 abbrev pub CouldHold : Bool → ℕ → Option (List ℕ) → Type 0
 CouldHold true n (Some bytes) = least_byte_count n ≤ length bytes
 CouldHold in_memory n ahead = Unit {0}
@@ -102,7 +101,7 @@ TakesHeader old new h = ReadsHeader false old new (Ok h)
 abbrev pub RefusesStreamHeader : Option (List ℕ) → Error → Type 0
 RefusesStreamHeader old e = (new : Option (List ℕ)) × ReadsHeader false old new (Err e)
 
--- The bytes are a file with this header and then the rest, and these are its pixels in the file's
+-- The bytes are a file with this header and then the rest, and `out` are its pixels in the file's
 -- channels. The bytes begin with no other file, so what follows never changes the reading.
 pub record DecodesFile (bytes : List ℕ) (h : Header) (rest out : List ℕ) : Type 0 where
   pub cs : List Chunk

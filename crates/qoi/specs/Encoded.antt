@@ -110,9 +110,8 @@ pub record IsAsReference (style : Style) (h : Header) (raw bytes : List ℕ) : T
   pub written : Written (image_pixels h raw) list
   pub as_long : length bytes ≡ length (file h list)
 
--- Style Tight: the number of bytes is the least. Header and end marker have 22, the chunks those of
--- the floor with any index position allowed, and no list of the image at all, regular or not, makes
--- a shorter file.
+-- Style Tight: the number of bytes is the least. Header and end marker have 22, the chunks have
+-- `floor0`, and no list of the image at all, regular or not, makes a shorter file.
 pub record IsShortest (h : Header) (raw : List ℕ) (n : ℕ) : Type 0 where
   pub floor0_is : n ≡ header_size + marker_size + floor0 (image_pixels h raw)
   pub shortest : (others : List Chunk) → Spans h raw others → n ≤ length (file h others)

@@ -235,17 +235,17 @@ abbrev pub moved : RgbaPixel → ℕ → ℕ → ℕ → RgbaPixel
 moved q r g b = pixel ((q.r + r) % 256) ((q.g + g) % 256) ((q.b + b) % 256) q.a
 
 -- The pixel of a difference: bits 5-4, 3-2 and 1-0 of its byte are the differences of red, green
--- and blue plus 2. Adding 254 takes 2 away, at 256.
+-- and blue plus 2. Adding 254 takes 2 away, modulo 256.
 unfoldable pub after_diff : RgbaPixel → ℕ → RgbaPixel
 after_diff q d = moved q (d / 16 % 4 + 254) (d / 4 % 4 + 254) (d % 4 + 254)
 
 -- The pixel of a luma: the low six bits of the first byte are green's difference plus 32, and the
 -- high and the low four bits of the second byte are red's and blue's differences, less green's,
--- plus 8. Adding 224 takes 32 away, at 256, and adding 216 takes 40 away.
+-- plus 8. Adding 224 takes 32 away, modulo 256, and adding 216 takes 40 away.
 unfoldable pub after_luma : RgbaPixel → ℕ → ℕ → RgbaPixel
 after_luma q d e = moved q (d % 64 + e / 16 + 216) (d % 64 + 224) (d % 64 + e % 16 + 216)
 
--- the pixel that a chunk gives after these pixels; alpha stays, but for Rgba
+-- the pixel that a chunk gives after these pixels; only Place and Rgba change alpha
 abbrev pub pixel_after : Past → Chunk → RgbaPixel
 pixel_after past (Place i) = seen past i
 pixel_after past (Diff d) = after_diff (previous past) d

@@ -10,7 +10,7 @@ use Rattle.qoi.specs.Qoi.{RgbaPixel, pixel, channels_number, pixel_count}
 abbrev pub IsChannels : ℕ → Type 0
 IsChannels n = (n ≡ 3) ⊎ (n ≡ 4)
 
--- which it has in one way alone
+-- any two proofs of it are equal
 pub IsChannels-prop : (n : ℕ) → IsProp (IsChannels n)
 IsChannels-prop n (inl a) (inl b) = ap inl (ℕ_set n 3 a b)
 IsChannels-prop n (inl a) (inr b) = absurd (omega arith)
@@ -63,7 +63,7 @@ image_byte_count h = byte_count h (channels_number h.channels)
 abbrev pub HasImageLength : ℕ → List ℕ → Type 0
 HasImageLength n bytes = (length bytes ≡ n) × (3 ≤ length bytes)
 
--- `image_byte_count`, or the greatest usize if that is less; of a valid header it never is
+-- `image_byte_count`, or the greatest usize if that is less; for a valid header it never is
 abbrev pub capped_byte_count : Header → ℕ
 capped_byte_count h = min (pixel_count h * channels_number h.channels) (2 ^ 64 - 1)
 

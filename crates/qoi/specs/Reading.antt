@@ -16,12 +16,12 @@ pub record IsImage (channels : Channels) (bytes : List ℕ) (h : Header) (rest o
   pub out_is : out ≡ output (channels_number h.channels) (channels_number channels) (take (pixel_count h) (meaning cs))
 
 -- The bytes are chunks that reach the pixels of the decoder's header, the end marker and then the
--- rest, and `raw` are these pixels in the decoder's channels. It is no abbreviation, so that a
--- search passes it on whole; nor is IsDecoderOf.
+-- rest, and `raw` are these pixels in the decoder's channels. It is no abbreviation, so that the
+-- prover passes it on whole; nor is IsDecoderOf.
 unfoldable pub IsImageFor : {R : Type 0} → DecoderState R → List ℕ → List ℕ → List ℕ → Type 0
 IsImageFor d bytes rest raw = IsImage d.channels bytes d.header rest raw
 
--- The source is the bytes of the decoder's header, which is valid, and then these; and the
--- decoder's channels are the file's own. Whether these stand ahead of its reader is said beside it.
+-- The source is the bytes of the decoder's header, which is valid, and then `ahead`; and the
+-- decoder's channels are the file's own. That its reader has `ahead` isn't part of it.
 unfoldable pub IsDecoderOf : {R : Type 0} → DecoderState R → List ℕ → List ℕ → Type 0
 IsDecoderOf d source ahead = (source ≡ header_bytes d.header ++ ahead) × IsValid d.header × (d.channels ≡ d.header.channels)

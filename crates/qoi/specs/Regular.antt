@@ -11,7 +11,7 @@ abbrev pub NamesPixelThere : Past → Chunk → Type 0
 NamesPixelThere past (Place i) = hash (seen past i) ≡ i
 NamesPixelThere past _ = Unit {0}
 
--- each chunk of the list names so
+-- this holds of each chunk of the list
 abbrev pub Regular : List Chunk → Type 0
 Regular cs = Each NamesPixelThere [] cs
 

@@ -56,8 +56,8 @@ is_start (Some p) = pixel_eq p start
 
 -- How many bytes longer the written list may be: none, unless the image opens with opaque black and
 -- its first fresh pixel at the index position of opaque black is opaque black. The opening isn't
--- noted, so that pixel is spelled out, which takes a byte more for each channel than its index
--- position would.
+-- noted, so this pixel is spelled out, which may take a byte more for each channel than its index
+-- position.
 unfoldable pub slack : List RgbaPixel → ℕ → ℕ
 slack image channels =
     if is_start (slice_get image 0)

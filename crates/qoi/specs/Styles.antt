@@ -27,7 +27,7 @@ has_pixel (p ∷ past) = true
 abbrev pub some_fresh : Past → Bool
 some_fresh past = has_pixel (fresh past)
 
--- the chunk, if there is one, is this index position
+-- there is a chunk, and it is this index position
 abbrev pub names : Option Chunk → ℕ → Bool
 names (Some (Place j)) i = j == i
 names _ _ = false
@@ -48,14 +48,14 @@ abbrev pub placed_after : Past → Option Chunk → List Chunk → List Chunk
 placed_after past before [] = []
 placed_after past before (c ∷ cs) = place_for past before c cs ∷ placed_after (then_chunk past c) (Some c) cs
 
--- how a style has each fresh pixel given
+-- how a style gives each fresh pixel
 abbrev pub choice_in : Style → Past → RgbaPixel → Chunk → Type 0
 choice_in Reference = IsChoice
 choice_in Places = IsChoice
 choice_in Tight = IsTightChoice
 
--- as a style has chunks of the list of its choices, after these pixels and after the chunk before
--- it, if there is one
+-- what a style makes of a list by its choices, after these pixels and after the chunk before it, if
+-- there is one
 abbrev pub styled : Style → Past → Option Chunk → List Chunk → List Chunk
 styled Reference past before cs = cs
 styled Places past before cs = placed_after past before cs

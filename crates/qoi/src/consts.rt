@@ -16,7 +16,7 @@ pub const QOI_OP_RGBA: u8 = 0xff;
 /// The longest run of one chunk, in pixels.
 pub(crate) const QOI_RUN_MAX: usize = 62;
 
-/// The two high bits, which tell the chunks of one and two bytes apart.
+/// The two high bits, the tag of a chunk of one or two bytes.
 pub const QOI_MASK_2: u8 = 0xc0;
 
 /// Bytes of a header.

@@ -364,7 +364,7 @@ impl<R: Reader> Decoder<R> {
             (IfSome (R.ahead self.new.reader) (λ rest. length rest + 9 ≤ length bytes))) }
 
         // The refusals. In memory nothing is taken, and the bytes ahead are cut or wrong; on a
-        // stream the bytes that were taken are. If the buffer is long enough, whole bytes in memory
+        // stream those taken are cut or wrong. If the buffer is long enough, whole bytes in memory
         // are accepted, and if an image stands ahead only a fault of the reader is a refusal.
         ensures short { length buf.old < output_byte_count self.old
             → IsErrOf result
@@ -380,10 +380,10 @@ impl<R: Reader> Decoder<R> {
             → R.ahead self.old.reader ≡ Some bytes → output_byte_count self.old ≤ length buf.old
             → IfErr result (IsReaderFault R.in_memory) }
 
-        // The bytes ahead, if they are known: cut ones are `UnexpectedBufferEnd`, on a stream
-        // `IoError`, and wrong ones `InvalidPadding`, on a stream that or `IoError`, if the buffer
-        // is long enough. Conversely, after `UnexpectedBufferEnd` they are cut, and after
-        // `InvalidPadding` they are wrong.
+        // The bytes ahead, if they are known and the buffer is long enough: cut ones are
+        // `UnexpectedBufferEnd` (on a stream `IoError`), and wrong ones `InvalidPadding` (on a
+        // stream perhaps `IoError`). Conversely, after `UnexpectedBufferEnd` they are cut, and
+        // after `InvalidPadding` they are wrong.
         ensures cut { (bytes : List ℕ) → R.ahead self.old.reader ≡ Some bytes
             → AreCut (pixel_count self.old.header) bytes
             → output_byte_count self.old ≤ length buf.old
@@ -443,9 +443,9 @@ impl<R: Reader> Decoder<R> {
     ///
     /// The room is asked for at once, and costs address space alone until it is written. It is
     /// written only if the bytes ahead could hold the image: bytes in memory that are too few for
-    /// its pixels, whatever they are, are `UnexpectedBufferEnd` before that. (Each 62 pixels take a
-    /// byte at least, and the end marker has eight.) For a stream it always is, since a stream
-    /// can't be asked how many bytes it has.
+    /// its pixels, whatever they are, are `UnexpectedBufferEnd` before that. (Every 62 pixels take
+    /// a byte at least, and the end marker has eight.) For a stream it is always written, since a
+    /// stream can't be asked how many bytes it has.
     pub fn decode_to_vec(&mut self, alloc: Global) -> Result<Vec<u8>>
         // What the result is: the image at the front of the bytes ahead, whose chunks are taken
         // with the end marker, nine bytes at least; what follows is left.
@@ -462,7 +462,7 @@ impl<R: Reader> Decoder<R> {
             (IfSome (R.ahead self.new.reader) (λ rest. length rest + 9 ≤ length bytes))) }
 
         // The refusals. In memory nothing is taken, and the bytes ahead are cut or wrong; on a
-        // stream the bytes that were taken are. Unless memory runs out, whole bytes in memory are
+        // stream those taken are cut or wrong. Unless memory runs out, whole bytes in memory are
         // accepted, and if an image stands ahead only a fault of the reader is a refusal. After a
         // success the bytes ahead could hold the image.
         ensures refused { IfErr result (λ e. (e ≡ Error.OutOfMemory)
@@ -478,10 +478,10 @@ impl<R: Reader> Decoder<R> {
             → R.ahead self.old.reader ≡ Some bytes
             → IfErr result (λ e. (e ≡ Error.OutOfMemory) ⊎ IsReaderFault R.in_memory e) }
 
-        // The bytes ahead, if they are known: cut ones are `UnexpectedBufferEnd`, on a stream
-        // `IoError`, and wrong ones `InvalidPadding`, on a stream that or `IoError`, unless memory
-        // runs out. Conversely, after `UnexpectedBufferEnd` they are cut, and after
-        // `InvalidPadding` they are wrong.
+        // The bytes ahead, if they are known and memory suffices: cut ones are
+        // `UnexpectedBufferEnd` (on a stream `IoError`), and wrong ones `InvalidPadding` (on a
+        // stream perhaps `IoError`). Conversely, after `UnexpectedBufferEnd` they are cut, and
+        // after `InvalidPadding` they are wrong.
         ensures cut { (bytes : List ℕ) → R.ahead self.old.reader ≡ Some bytes
             → AreCut (pixel_count self.old.header) bytes
             → IsErrAnd result (λ e. (e ≡ Error.OutOfMemory) ⊎ IsErrorOfCut R.in_memory e) }

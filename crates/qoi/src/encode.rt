@@ -54,8 +54,8 @@ fn encode_image<W: Writer>(buf: &mut W, style: Style, header: &Header, data: &[u
 /// The most bytes that the file of an image can have, or the greatest `usize` if that is less:
 /// header, end marker, and for each pixel a byte for each channel and one more.
 ///
-/// `width` and `height` are in pixels. In three and in four channels the file of one pixel that no
-/// shorter chunk gives has as many.
+/// `width` and `height` are in pixels. An image of one pixel that needs the longest chunk (RGB, or
+/// RGBA in four channels) takes as many.
 pub fn encode_max_len(width: u32, height: u32, channels: u8) -> usize
     ensures { result ≡ max_len width height channels }
 {
@@ -316,7 +316,7 @@ impl<'a> Encoder<'a> {
         // How many bytes it has.
         ensures length { IfOk result (λ v. IsFileLength self.now.header (length v.items)) }
 
-        // With another color space the file has another fourteenth byte, and is else the same.
+        // With another color space the file has another fourteenth byte, and is otherwise the same.
         ensures space { (space : ColorSpace) (bytes : List ℕ)
             → IsFileOf self.now.style (record self.now.header { colorspace = space })
             self.now.raw bytes
@@ -342,7 +342,7 @@ impl<'a> Encoder<'a> {
         ensures sent { IfOk result (λ n. (bytes : List ℕ)
             × IsFileOf self.now.style self.now.header self.now.raw bytes × (n ≡ length bytes)
             × Appends (W.contents writer.old) (W.contents writer.new) bytes) }
-        // Any bytes that are the file of the image are those that were sent, all or a beginning.
+        // Of any bytes that are the file of the image, all were sent, or if refused a beginning.
         ensures same { (bytes : List ℕ) → IsFileOf self.now.style self.now.header self.now.raw bytes
             → MatchResult result (λ n. (n ≡ length bytes)
             × Appends (W.contents writer.old) (W.contents writer.new) bytes)

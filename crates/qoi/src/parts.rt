@@ -1,5 +1,5 @@
-//! The crate's internal items that contracts rest on, and with them what callers need who read and
-//! write chunks themselves: `read_chunk`, `Pixel`, `repeats`.
+//! The crate's internal items that contracts rest on, and what callers who read and write chunks
+//! themselves need: `read_chunk`, `Pixel`, `repeats`.
 pub use crate::chunk::{Chunk, read_chunk};
 pub use crate::decode::{Bytes, Reader};
 pub use crate::pixel::{Pixel, SupportedChannels};

@@ -30,7 +30,7 @@ impl<const N: usize> Model for Pixel<N> {
     ghost invariant = { λ p. length p.0 ≡ N };
 }
 
-/// The pixels of the numbers of channels that the format has.
+/// Pixels with a number of channels that the format has.
 pub trait SupportedChannels {}
 
 impl SupportedChannels for Pixel<3> {}

@@ -4,11 +4,12 @@ ghost use Rattle.qoi.specs.Qoi.{diff_tag, luma_tag, run_tag, rgb_tag};
 ghost use Rattle.qoi.specs.Raw.{IsChannels};
 ghost use Rattle.qoi.specs.inner.Hashed.{step, lane_mask};
 
-// Four tables by a byte, one after the other. One array needs one address in the decoder's loop.
+// Four tables indexed by byte, one after the other. One array needs one address in the decoder's
+// loop.
 #[rattlefmt::skip]
 static STEPS: [u64; 1024] = [
     // What a first byte adds to red (bits 0 to 15), green (16 to 31), blue (32 to 47) and the index
-    // position (58 to 63). An index position adds nothing.
+    // position (58 to 63). The chunk of an index position adds nothing.
     0, 0, 0, 0, 0, 0, 0, 0, 0, 0, 0, 0, 0, 0, 0, 0, 0, 0, 0, 0, 0, 0, 0, 0, 0, 0, 0, 0, 0, 0, 0, 0,
     0, 0, 0, 0, 0, 0, 0, 0, 0, 0, 0, 0, 0, 0, 0, 0, 0, 0, 0, 0, 0, 0, 0, 0, 0, 0, 0, 0, 0, 0, 0, 0,
     // A difference: for its bits 5-4, 3-2 and 1-0, as numbers r, g and b from 0 to 3, r + 254, g +
@@ -50,11 +51,11 @@ static STEPS: [u64; 1024] = [
     // A run adds nothing.
     0, 0, 0, 0, 0, 0, 0, 0, 0, 0, 0, 0, 0, 0, 0, 0, 0, 0, 0, 0, 0, 0, 0, 0, 0, 0, 0, 0, 0, 0, 0, 0,
     0, 0, 0, 0, 0, 0, 0, 0, 0, 0, 0, 0, 0, 0, 0, 0, 0, 0, 0, 0, 0, 0, 0, 0, 0, 0, 0, 0, 0, 0, 0, 0,
-    // What it keeps of the last pixel: an index position nothing.
+    // What it keeps of the last pixel: the chunk of an index position nothing.
     0, 0, 0, 0, 0, 0, 0, 0, 0, 0, 0, 0, 0, 0, 0, 0, 0, 0, 0, 0, 0, 0, 0, 0, 0, 0, 0, 0, 0, 0, 0, 0,
     0, 0, 0, 0, 0, 0, 0, 0, 0, 0, 0, 0, 0, 0, 0, 0, 0, 0, 0, 0, 0, 0, 0, 0, 0, 0, 0, 0, 0, 0, 0, 0,
-    // Any other byte the channels and the index position, without what stands above red, green and
-    // blue in their lanes.
+    // Any other byte keeps the channels and the index position, without what stands above red,
+    // green and blue in their lanes.
     0xffff_00ff_00ff_00ff, 0xffff_00ff_00ff_00ff, 0xffff_00ff_00ff_00ff, 0xffff_00ff_00ff_00ff,
     0xffff_00ff_00ff_00ff, 0xffff_00ff_00ff_00ff, 0xffff_00ff_00ff_00ff, 0xffff_00ff_00ff_00ff,
     0xffff_00ff_00ff_00ff, 0xffff_00ff_00ff_00ff, 0xffff_00ff_00ff_00ff, 0xffff_00ff_00ff_00ff,
@@ -103,7 +104,7 @@ static STEPS: [u64; 1024] = [
     0xffff_00ff_00ff_00ff, 0xffff_00ff_00ff_00ff, 0xffff_00ff_00ff_00ff, 0xffff_00ff_00ff_00ff,
     0xffff_00ff_00ff_00ff, 0xffff_00ff_00ff_00ff, 0xffff_00ff_00ff_00ff, 0xffff_00ff_00ff_00ff,
     0xffff_00ff_00ff_00ff, 0xffff_00ff_00ff_00ff, 0xffff_00ff_00ff_00ff, 0xffff_00ff_00ff_00ff,
-    // Which bits of the byte after it count: of a luma alone, all eight.
+    // Which bits of the byte after it count: all eight for lumas, else none.
     0, 0, 0, 0, 0, 0, 0, 0, 0, 0, 0, 0, 0, 0, 0, 0, 0, 0, 0, 0, 0, 0, 0, 0, 0, 0, 0, 0, 0, 0, 0, 0,
     0, 0, 0, 0, 0, 0, 0, 0, 0, 0, 0, 0, 0, 0, 0, 0, 0, 0, 0, 0, 0, 0, 0, 0, 0, 0, 0, 0, 0, 0, 0, 0,
     0, 0, 0, 0, 0, 0, 0, 0, 0, 0, 0, 0, 0, 0, 0, 0, 0, 0, 0, 0, 0, 0, 0, 0, 0, 0, 0, 0, 0, 0, 0, 0,

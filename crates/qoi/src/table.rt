@@ -115,7 +115,7 @@ impl HashedTable {
         }
     }
 
-    /// What the index position holds that a chunk's first byte names, or 0 for another chunk.
+    /// What is held at the index position that a chunk's first byte names, or 0 for another chunk.
     #[inline(always)]
     pub(crate) fn at(&self, b1: usize) -> Hashed
         requires { b1 < 256 }

@@ -172,9 +172,9 @@ pub enum Style {
     Places,
     /// As `Reference`, but opaque black that opens the image is put at its index position, too, and
     /// transparent black that isn't at its position is given by the least position where no pixel
-    /// was put, if there is one. No other chunks of the image have fewer bytes.
+    /// was put, if there is one. No list of chunks for the image is shorter.
     ///
-    /// It is for decoders that are known to follow QOI 1.0. The Rust crate's gets other pixels from
+    /// It is for decoders that are known to follow QOI 1.0. The Rust crate gets other pixels from
     /// some such files, if they have four channels or are decoded into four, since it doesn't put
     /// the pixels of runs and of empty positions at their position.
     Tight,

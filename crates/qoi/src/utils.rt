@@ -7,7 +7,7 @@ use crate::error::{Error, Result};
 use std::io;
 use std::io::{ErrorKind, Write};
 
-/// What bytes are written to, one after the other.
+/// Something that bytes are written to, one after the other.
 ///
 /// A caller sees to it that the capacity suffices.
 pub trait Writer: Sized {
@@ -39,7 +39,7 @@ pub trait Writer: Sized {
     fn capacity(&self) -> usize
         ensures { result ≡ room self.now };
 
-    /// Nothing written relates a writer to itself, two writings compose, and the room falls by the
+    /// Writing nothing relates a writer to itself, two writings compose, and the room falls by the
     /// number of bytes.
     ghost laws: { WriterLaws wrote room };
 }

@@ -40,7 +40,7 @@ Refuses (DecodeInto channels) input e = RefusesFile input e
 Refuses (Encode width height space style) input e = image_header input width height ≡ Err e
 Refuses Info input e = header_of input ≡ Err e
 
--- how a command stops that the library doesn't refuse: by an i/o error or for want of memory;
+-- how a command that the library doesn't refuse stops: by an i/o error or for want of memory;
 -- `info`, which asks for no memory, by an i/o error after fewer bytes than a header has
 abbrev pub StopsEarly : Command → Option (List ℕ) → Option (List ℕ) → Error → Type 0
 StopsEarly Decode old new e = IsIoOrMemory e

@@ -1,4 +1,4 @@
--- What reading all of an input and writing to an output do to the bytes that are known.
+-- What reading all or part of an input does to the bytes that are known.
 use Rattle.std.specs.Prelude.{◌≡◌, ℕ, ◌<◌, List, length, Option}
 use Rattle.std.specs.Io.KnownBytes.{Consumes, IsAtEnd}
 use Rattle.qoi.specs.declared.error.Error.{Error}

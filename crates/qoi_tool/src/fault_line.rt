@@ -10,7 +10,7 @@ use qoi::Error;
 use std::io;
 use std::io::Write;
 
-// Room for a line, but for one with the own words of an i/o error: it has at most 100 bytes.
+// Room for a line without an i/o error's own words: it has at most 100 bytes.
 const ROOM: usize = 128;
 
 const USAGE: &[u8] = b"usage: qoi_tool dec [rgb|rgba] | enc W H [linear] [places|tight] | info\n";

@@ -53,8 +53,8 @@ impl From<Error> for Fault {
 ///
 /// Refusals come in this order: `Usage` if the words aren't those of a command; a fault of the
 /// input, or want of memory for it; a refusal of the library, or want of memory for the image; a
-/// fault of the output. Nothing is written before the input was taken and accepted; after a fault
-/// of the output a beginning of the answer was.
+/// fault of the output. Nothing is written before the input was taken and accepted; a fault of
+/// the output leaves a beginning of the answer.
 pub fn run<R: Read, W: Write>(
     alloc: Global,
     words: &[String],

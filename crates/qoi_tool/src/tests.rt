@@ -122,7 +122,7 @@ fn the_program(rt: HostRuntime) {
     assert_writes(&rt, alloc, &["enc", "01", "1"], &PIXEL, &file);
 }
 
-// The lines of the example that are refused.
+// Calls that the program refuses.
 #[test]
 fn the_program_refuses(rt: HostRuntime) {
     let (alloc, file) = (rt.alloc(), ONE_RGB_PIXEL);
@@ -211,8 +211,8 @@ fn beginnings(rt: HostRuntime) {
     }
 }
 
-// Tests that the answer is a fault of this kind, and that its report is a line with status 1. The
-// call is named if one of the two isn't so.
+// Tests that the answer is a fault of this kind, and that its report is a line with status 1. If
+// kind or line is wrong, the call is named.
 fn assert_io(
     rt: &impl Abort,
     alloc: Global,
@@ -283,7 +283,7 @@ fn failing_reader(rt: HostRuntime) {
     }
 }
 
-// The own words of the input's fault and of the output's stand in the line.
+// The input fault's own words, and the output's, stand in the line.
 #[test]
 fn own_words(rt: HostRuntime) {
     let alloc = rt.alloc();

@@ -27,9 +27,9 @@ pub record ImageList : Type 0 where
   pub image : List RgbaPixel
   pub cs : List Chunk
 
--- The list is written for the image. Of its pixels `past` have come, and `done` is the list that is
--- written for them, which a run may follow if the next pixel repeats; `rest` follow. Of the list
--- the chunks `todo` are still to be written.
+-- The list is written for the image. Of its pixels `past` have come and `rest` follow; `done` is
+-- the list that is written for `past`, which a run may follow if the next pixel repeats. Of the
+-- list the chunks `todo` are still to be written.
 pub record StillToWrite (l : ImageList) (past : Past) (rest : List RgbaPixel) (todo : List Chunk) : Type 0 where
   pub whole : WrittenBy (choice_in l.style) l.image l.cs
   pub split : l.image ≡ reverse past ++ rest
@@ -40,7 +40,7 @@ pub record StillToWrite (l : ImageList) (past : Past) (rest : List RgbaPixel) (t
   pub run_may_follow : slice_get rest 0 ≡ Some (previous past) → RunMayFollow done
   pub parts : l.cs ≡ done ++ todo
 
--- A list that is written for an image in a style, and the bytes that didn't go to a writer yet:
+-- A list that is written for an image in a style, and the bytes that haven't gone to a writer yet:
 -- those that are kept, and after them those of the chunks that are still to be written.
 pub record Writing : Type 0 where
   pub list : ImageList
@@ -55,7 +55,7 @@ pub record CoderAfter {N : ℕ} (past : Past) (before : Option Chunk) (table : L
   pub begun_is : coder.begun ≡ some_fresh past
   pub placed_is : coder.placed ≡ names before (hash (previous past))
 
--- the same for a group of n repeats of the coder's last pixel
+-- `single_chunk` for a group of n repeats of the coder's last pixel
 abbrev pub single : {N : ℕ} → Coder N → ℕ → Chunk
 single coder n = single_chunk coder.style coder.begun coder.placed coder.place n
 
@@ -70,7 +70,7 @@ pub record CoderBetween {N : ℕ} (w : Writing) (rest : List RgbaPixel) (table :
   pub ahead_is : w.ahead ≡ kept ++ chunk_bytes (styled w.list.style past before todo)
   pub state : CoderAfter past before table coder
 
--- the same if the pixels of these raw bytes still come, and a piece keeps the bytes
+-- the same for the pixels of these raw bytes and the kept bytes of a piece
 abbrev pub BytesBetween : {N : ℕ} → Writing → List ℕ → List RgbaPixel → Coder N → Piece → Type 0
 BytesBetween {N} w bytes table coder piece = CoderBetween w (pixels_of N bytes) table coder (kept_bytes piece)
 
@@ -83,7 +83,7 @@ abbrev pub before_lane : {N : ℕ} → Quad N → ℕ → RgbaPixel
 before_lane quad k = pixel_of_word (slice_index quad.before k)
 
 -- what stays the same among four pixels: the list that is written, the four, and the pixels that
--- they open
+-- begin with them
 pub record InFour (N : ℕ) : Type 0 where
   pub writing : Writing
   pub quad : Quad N
@@ -93,7 +93,7 @@ pub record InFour (N : ℕ) : Type 0 where
 abbrev pub in_four : {N : ℕ} → Writing → Quad N → List RgbaPixel → InFour N
 in_four w quad pixels = record { writing = w; quad = quad; pixels = pixels }
 
--- Among four pixels, of which the first follows `first`: those up to a lane have come.
+-- Among four pixels, of which the first follows `first`: those before the lane have come.
 pub record AtLane {N : ℕ} (four : InFour N) (lane : ℕ) (table : List RgbaPixel) (coder : Coder N) (kept : List ℕ) : Type 0 where
   pub first : RgbaPixel
   pub are : AreFourAfter first four.pixels four.quad.pixels four.quad.before

@@ -15,7 +15,7 @@ held_in Places past = fresh past
 held_in Tight past = past
 
 -- the chunk of the single repeat that is left of a group of n, after runs of 62 and before a fresh
--- pixel: by the index position of the repeated pixel, whether a fresh pixel came, and whether the
+-- pixel: from the index position of the repeated pixel, whether a fresh pixel came, and whether the
 -- chunk before names the position
 abbrev pub single_chunk : Style → Bool → Bool → ℕ → ℕ → Chunk
 single_chunk Reference begun placed place n = Run 1

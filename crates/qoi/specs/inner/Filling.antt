@@ -31,8 +31,8 @@ pub record HasFilled (file_channels channels n : ℕ) (b : Buffer) (past : Past)
 abbrev pub IsWholePixels : ℕ → ℕ → ℕ → Type 0
 IsWholePixels channels size at = (size % channels ≡ 0) × (at % channels ≡ 0)
 
--- what a decoder has between two chunks: the numbers of the index positions and of the last pixel,
--- and the output
+-- what a decoder has between two chunks: the numbers in the table, that of the last pixel, and the
+-- output
 pub record Filling : Type 0 where
   pub table : List ℕ
   pub last : ℕ
@@ -60,7 +60,7 @@ pub record DecodesChunk (file_channels channels : ℕ) (bytes : List ℕ) (old n
   pub bytes_are : bytes ≡ bytes_of chunk
   pub decodes : Decodes file_channels channels chunk old new
 
--- Chunks were taken, their pixels were seen and written. `Taken` says which bytes were taken.
+-- Chunks were taken, and their pixels seen and written. `Taken` says which bytes were taken.
 pub record DecoderBetween (file_channels channels n : ℕ) (Taken : List ℕ → Type 0) (now : Filling) : Type 0 where
   pub cs : List Chunk
   pub chunks : AreChunks cs
@@ -75,7 +75,7 @@ pub record DecoderBetween (file_channels channels n : ℕ) (Taken : List ℕ →
 abbrev pub IsFront : List ℕ → ℕ → List ℕ → Type 0
 IsFront bytes size taken = taken ≡ take size bytes
 
--- the same of a decoder from these bytes, which also has the byte that comes next
+-- `DecoderBetween` for the fast loop over these bytes, which also has the byte that comes next
 pub record FastBetween (file_channels channels n : ℕ) (bytes : List ℕ) (now : Progress) (table out : List ℕ) : Type 0 where
   pub between : DecoderBetween file_channels channels n (IsFront bytes now.taken) (filling table now.last out now.written)
   pub next_is : now.next ≡ slice_index bytes now.taken

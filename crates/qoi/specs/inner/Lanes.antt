@@ -1,4 +1,4 @@
--- Four packed pixels in the lanes of a vector: what the encoder computes of each, beside the pixel
+-- Four packed pixels in the lanes of a vector: what the encoder computes from each and the pixel
 -- before it.
 use Rattle.std.specs.Prelude.{◌≡◌, ◌≢◌, ◌≤◌, ℕ, ◌<◌, nat_eq, take, map, ◌++◌, if◌then◌else◌, slice_index, length, List, [], ◌∷◌, ◌+◌, ◌-◌, ◌*◌, ◌/◌, ◌%◌, ◌^◌}
 use Rattle.std.specs.List.{AllByRecursion}
@@ -69,7 +69,7 @@ changes s = if nat_eq (bit_and s 0xff000000) 0 then 0 else 1
 abbrev pub full_number : ℕ → ℕ → ℕ
 full_number p s = plus_32 (rgb_number p) (changes s)
 
--- how many bytes it has
+-- the chunk's number of bytes
 abbrev pub full_count : ℕ → ℕ
 full_count s = plus_32 4 (changes s)
 

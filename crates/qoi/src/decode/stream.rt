@@ -129,9 +129,9 @@ fn next_chunk<R: Read, const N: usize, const F: usize, const ROOM: bool>(
     Ok(decode_chunk::<N, F, ROOM>(table, last, &bytes, out, at))
 }
 
-// Decodes chunks from a stream, after the pixel `last` and the first `at` bytes of `out`, and takes
-// no byte past the last chunk: if `ROOM`, as long as `out` has room for the blocks of any run, else
-// until it is full. Returns the last pixel, and where in `out` it stopped.
+// Decodes chunks from a stream, after the pixel `last` and the first `at` bytes of `out`: if
+// `ROOM`, as long as `out` has room for the blocks of any run, else until it is full. Takes no byte
+// past the last chunk. Returns the last pixel, and where in `out` it stopped.
 fn decode_chunks<R: Read, const N: usize, const F: usize, const ROOM: bool>(
     reader: &mut R,
     table: &mut HashedTable,

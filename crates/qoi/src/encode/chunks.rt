@@ -46,7 +46,7 @@ fn encode_pixels<W: Writer, const N: usize, const STYLE: u8>(
 }
 
 /// Writes an image's raw bytes as chunks into the piece, and sends 4096 bytes to the writer each
-/// time it is full. What is left at the end stays in the piece, even if the last pixels fill it.
+/// time it is full. What is left at the end stays in the piece, which may be full.
 pub(super) fn encode_chunks<W: Writer>(
     buf: &mut W,
     piece: &mut Piece,

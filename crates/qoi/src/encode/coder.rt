@@ -61,8 +61,8 @@ impl<const N: usize> Coder<N> {
         }
     }
 
-    // The byte of the one repeat that runs of 62 leave of `count` before a fresh pixel; unused if
-    // they leave none or several. A run of 1; in style `Places` the index position, if a fresh
+    // The byte of the single repeat left of `count` after runs of 62, before a fresh pixel; unused
+    // if none or several are left. A run of 1; in style `Places` the index position, if a fresh
     // pixel came earlier and the chunk before isn't that position (a run of 62 never is).
     #[inline(always)]
     fn single_repeat_byte(&self, count: usize) -> u8

@@ -1,5 +1,4 @@
-//! Small examples of definitions, computed, for the numbers, orders and sides that no other law
-//! tells.
+//! Small examples of definitions, computed, for numbers, orders and sides that no other law fixes.
 ghost use Rattle.std.specs.Prelude.{◌≡◌, ℕ, ◌++◌, List, [], ◌∷◌, length, Option, replicate, codes, Ok, Err, None, Some, true, false};
 ghost use Rattle.qoi.specs.declared.error.Error.{Error};
 ghost use Rattle.qoi.specs.declared.header.Header.{Header};
@@ -20,8 +19,8 @@ ghost use Rattle.qoi.specs.Encoded.{max_len, IsFileLength, image_header, OpensBl
 ghost use Rattle.qoi.specs.Regular.{Regular};
 ghost use Rattle.qoi.specs.ErrorText.{size_text, bytes_text, printed};
 
-/// The least and the greatest numbers that bytes and chunks may have, and how many bytes there are
-/// at most.
+/// The least and the greatest numbers in bytes and chunks, the lengths of the longest chunk and of
+/// the end marker, and regular lists.
 pub fn chunk_examples()
     ensures bytes { AreBytes (0 ∷ 255 ∷ []) }
     ensures no_byte { AreBytes (256 ∷ []) → ⊥ }
@@ -207,8 +206,8 @@ pub fn text_examples()
     ensures memory { printed Error.OutOfMemory ≡ Some (codes "out of memory") }
 {}
 
-/// Bytes after a header, and what refuses them: for an image of one pixel, a run of 1 and the end
-/// marker.
+/// Verdicts on bytes after a header, such as a run of 1 and the end marker, and the refusals of
+/// bytes.
 pub fn verdict_examples()
     ensures whole { IsWhole 1 (0xc0 ∷ 0 ∷ 0 ∷ 0 ∷ 0 ∷ 0 ∷ 0 ∷ 0 ∷ 1 ∷ 7 ∷ []) (Run 1 ∷ [])
         (7 ∷ []) }

@@ -46,8 +46,8 @@ pub fn verdict_is_some()
         × IsWrong n bytes cs eight rest)) }
 {}
 
-/// A valid header's fourteen bytes are read as it, whatever follows them; and bytes that are read
-/// as a header begin with its own, and it is valid.
+/// A valid header's fourteen bytes are read as that header, whatever follows them; and bytes that
+/// are read as a header begin with that header's bytes, and it is valid.
 pub fn header_both_ways()
     ensures size { (h : Header) → length (header_bytes h) ≡ header_size }
     ensures read { (h : Header) (rest : List ℕ) → IsValid h
@@ -62,8 +62,8 @@ pub fn no_file_begins_another()
         → file h cs ++ x ≡ file k ds ++ y → (h ≡ k) × (cs ≡ ds) × (x ≡ y) }
 {}
 
-/// A file's header is read, and what follows the header is whole; and bytes with a header and whole
-/// chunks after it are a file and what follows it. Its pixels in its own channels are what is
+/// A file's header is read, and what follows the header is whole; conversely, a header and whole
+/// bytes after it are a file and what follows it. A file's pixels in its own channels are what is
 /// decoded.
 pub fn files_are_read()
     ensures read { (h : Header) (cs : List Chunk) (bytes rest : List ℕ) → IsFile h cs
@@ -79,8 +79,8 @@ pub fn files_are_read()
         (output (channels_number h.channels) (channels_number h.channels) (file_pixels h cs)) }
 {}
 
-/// The image that bytes begin with, and what follows it, are functions of the bytes; so they are of
-/// a file.
+/// The image that bytes begin with, and what follows it, are functions of the bytes; likewise those
+/// of a file.
 pub fn images_are_functions()
     ensures ahead { (channels : Channels) (h : Header) (bytes rest out : List ℕ)
         → IsImage channels bytes h rest out

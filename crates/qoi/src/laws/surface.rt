@@ -17,7 +17,7 @@ use crate::pixel::Pixel;
 use crate::types::{Channels, ColorSpace, Style};
 use std::hash::Hash;
 
-/// Channels come back from their number, and every other number is refused with itself.
+/// Channels come back from their number; the error for any other number holds it.
 pub fn channels_there_and_back()
     ensures back { (c : Channels) (r : Result Channels Error)
         → ⟦<Channels as TryFrom<u8>>⟧.try_from_gives (channels_number c) r → r ≡ Ok c }
@@ -25,7 +25,7 @@ pub fn channels_there_and_back()
         → ⟦<Channels as TryFrom<u8>>⟧.try_from_gives n r → r ≡ Err (Error.InvalidChannels n) }
 {}
 
-/// A color space comes back from its number, and every other number is refused with itself.
+/// A color space comes back from its number; the error for any other number holds it.
 pub fn colorspace_there_and_back()
     ensures back { (c : ColorSpace) (r : Result ColorSpace Error)
         → ⟦<ColorSpace as TryFrom<u8>>⟧.try_from_gives (colorspace_number c) r → r ≡ Ok c }
@@ -93,8 +93,8 @@ pub fn chunks_compare()
     ensures { (c d : Chunk) → IsTrue (⟦<Chunk as PartialEq>⟧.eq c d) ↔ (c ≡ d) }
 {}
 
-/// The updates of a pixel of three or four channels give what chunks give after it, and a pixel of
-/// three channels means the opaque one of four.
+/// `update_rgb` in three or four channels, and `update_rgba` in four, give what those chunks give;
+/// a pixel of three channels means the opaque one of four.
 pub fn pixels_follow_chunks()
     ensures rgb_chunk { (px : List ℕ) (past : Past) (r g b : ℕ) → IsChannels (length px)
         → previous past ≡ rgba px

@@ -1,5 +1,5 @@
 //! Laws of the chunk list that is written for an image. They compute whole images and files, so
-//! they import types and variants beside the definitions.
+//! they import types and variants besides the definitions.
 ghost use Rattle.std.specs.Prelude.{◌≡◌, ◌≢◌, ◌↔◌, ℕ, ◌+◌, ◌-◌, ◌*◌, ◌/◌, ◌<◌, ◌≤◌, List, [], ◌∷◌, ◌++◌, length, replicate, map, None, Some};
 ghost use Rattle.std.specs.List.{AllByRecursion, range_with_len};
 ghost use Rattle.qoi.specs.declared.chunk.Chunk.{Chunk};
@@ -25,8 +25,8 @@ pub fn written_is_one()
         → WrittenIn style image cs → WrittenIn style image ds → cs ≡ ds }
 {}
 
-/// In style `Reference` that is the list of `Written`; in style `Places` it is that list with some
-/// runs of 1 replaced, and as long; in style `Tight` it is the list of the tight choices.
+/// In style `Reference` the written list is that of `Written`; in style `Places` it is that list
+/// with some runs of 1 replaced, and as long; in style `Tight` it is the list of the tight choices.
 pub fn styles_are_written()
     ensures reference { (image : List RgbaPixel) (cs : List Chunk) → Written image cs
         ↔ WrittenIn Reference image cs }
@@ -66,8 +66,8 @@ pub fn written_is_apart()
         → WrittenIn style image cs → cs ≢ front ++ Place i ∷ Place i ∷ rest }
 {}
 
-/// The pixels of raw bytes, three or four bytes a pixel, are pixels. They are opaque if three bytes
-/// make one, and they give the bytes back.
+/// The pixels of raw bytes, three or four bytes each, meet `IsPixel`. They are opaque if three
+/// bytes make one, and they give the bytes back.
 pub fn bytes_are_pixels()
     ensures pixels { (channels : ℕ) (bytes : List ℕ) → IsChannels channels
         → AllByRecursion (λ b. b < 256) bytes
@@ -103,8 +103,8 @@ pub fn written_reaches()
         → WrittenIn style image cs → length image ≡ n → Reaches n cs }
 {}
 
-/// A list is regular if each index position that it names holds a pixel of that position; if no
-/// pixel was put, that is position 0 alone. The written list is regular in each style but `Tight`.
+/// A list is regular if each index position that it names holds a pixel of that position; of empty
+/// positions only 0 does. The written list is regular in each style but `Tight`.
 pub fn written_is_regular()
     ensures { (style : Style) (image : List RgbaPixel) (cs : List Chunk) → style ≢ Tight
         → WrittenIn style image cs → Regular cs }
@@ -135,8 +135,8 @@ pub fn written_is_short()
         → length (chunk_bytes cs) ≤ floor image + slack image channels }
 {}
 
-/// So the written list is at most its slack longer than each regular list whose pixels begin with
-/// those of the image.
+/// So the written list exceeds each regular list whose pixels begin with those of the image by at
+/// most the image's slack.
 pub fn written_is_near_shortest()
     ensures { (style : Style) (image : List RgbaPixel) (channels : ℕ) (cs others : List Chunk)
         → HasChannels image channels
