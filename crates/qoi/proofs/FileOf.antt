@@ -47,7 +47,7 @@ four_channels : (c : Channels) → channels_number c ≤ 4
 four_channels Rgb = omega arith
 four_channels Rgba = omega arith
 
--- a list that means a pixel has a byte
+-- if a list means pixels, it has a byte
 text_some : (cs : List Chunk) → 0 < length (meaning cs) → 0 < length (chunk_bytes cs)
 text_some [] none = none
 text_some (c ∷ cs) some = omega (arith, length-append (bytes_of c) (chunk_bytes cs), length-bytes_of c)
@@ -181,7 +181,7 @@ module _ (h : Header) (raw : List ℕ) (valid : IsValid h) (size : length raw �
         all_regular = λ no_blank others s. no_blank_regular image others (subst (λ n. Reaches n others) (sym count) s.reaches) s.covers.1 no_blank;
       }
 
-  -- but in style Tight the list is regular, and as long as that of `Written`
+  -- except in style Tight the list is regular, and as long as that of `Written`
   as_reference : (style : Style) → style ≢ Tight → (cs : List Chunk) (w : WrittenIn style (image_pixels h raw) cs) → Written (image_pixels h raw) w.list
       → IsAsReference style h raw (file h cs)
   as_reference style other cs w written = record {
@@ -265,7 +265,7 @@ file_spans style h raw bytes f =
       reaches = style_reaches style image (pixel_count h) e.cs e.written (count h raw f.is_file.valid f.is_file.size);
     }
 
--- the file by what a contract sees of an encoder is that of the encoder
+-- the file of the state that a contract sees is that of the encoder's own
 pub own_file : {seen own : EncoderState} {bytes : List ℕ} → seen ≡ own → IsFileOf seen.style seen.header seen.raw bytes → IsFileOf own.style own.header own.raw bytes
 own_file {bytes = bytes} is f = subst (λ (s : EncoderState). IsFileOf s.style s.header s.raw bytes) is f
 

@@ -6,7 +6,7 @@ pub on_err : {T E P : Type 0} (r : Result T E) → P → OnErr r P
 on_err (Ok x) p = tt
 on_err (Err e) p = p
 
--- what follows from what holds of an error holds of it
+-- what holds of an error can be weakened
 pub on_err_of : {T E P Q : Type 0} (r : Result T E) → (P → Q) → OnErr r P → OnErr r Q
 on_err_of (Ok x) f p = tt
 on_err_of (Err e) f p = f p

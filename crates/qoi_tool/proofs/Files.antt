@@ -21,7 +21,7 @@ rest_is_shorter bytes h rest raw d =
     let marked : length (chunk_bytes d.cs ++ end_marker) ≡ length (chunk_bytes d.cs) + 8 = length-append (chunk_bytes d.cs) end_marker in
     omega (arith, all, front, marked)
 
--- the end of a slice that is as long as what follows a file is what follows it
+-- if the last n bytes are as many as follow a file, they are what follows it
 pub end_is_rest : (bytes : List ℕ) (h : Header) (rest raw : List ℕ) (n : ℕ) → DecodesFile bytes h rest raw → n ≡ length rest
     → take (length bytes - (length bytes - n)) (drop (length bytes - n) bytes) ≡ rest
 end_is_rest bytes h rest raw n d e =
@@ -33,7 +33,7 @@ pub map_of_more : {V : Type 0} (f : V → List ℕ) (old new : List V) (v : V) (
 map_of_more f old new v all e =
     ap (λ z. map f z ++ all) e ∙ (ap (λ z. z ++ all) (map-append f old (v ∷ [])) ∙ append_assoc (map f old) (f v ∷ []) all)
 
--- no bytes are no file
+-- `[]` is no file
 pub nothing_is_no_file : (bytes : List ℕ) (h : Header) (rest raw : List ℕ) → DecodesFile bytes h rest raw → bytes ≡ [] → ⊥
 nothing_is_no_file bytes h rest raw d e =
     let shorter = rest_is_shorter bytes h rest raw d in

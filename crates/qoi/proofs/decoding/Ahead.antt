@@ -84,13 +84,14 @@ image_read channels h bytes left out r =
       record { cs = w.0; whole = w.2; out_is = w.4 },
     )
 
--- so it is of what is ahead of a decoder, if an equation says that the bytes are known
+-- the same of what is ahead of a decoder, if an equation says that the bytes are known
 pub image_read_from : {R : Type 0} (ahead : R → Option (List ℕ)) (d : DecoderState R) (bytes : List ℕ) (left : Option (List ℕ)) (out : List ℕ)
     → ReadsImage (channels_number d.header.channels) (channels_number d.channels) (pixel_count d.header) (ahead d.reader) left out
     → ahead d.reader ≡ Some bytes → (rest : List ℕ) × (left ≡ Some rest) × IsImage d.channels bytes d.header rest out
 image_read_from ahead d bytes left out r told = image_read d.channels d.header bytes left out (rw told at r)
 
--- of a decoder of these bytes what is read, in the file's own channels, is a file at their front
+-- what a decoder of these bytes reads, in the file's channels, is the image of a file at their
+-- front
 pub file_from_image : {R : Type 0} (next : R → Option (List ℕ)) (d : DecoderState R) (bytes ahead : List ℕ) (left : Option (List ℕ))
     (out : List ℕ) → IsDecoderOf d bytes ahead → next d.reader ≡ Some ahead
     → ((ahead : List ℕ) → next d.reader ≡ Some ahead → (rest : List ℕ) × (left ≡ Some rest) × IsImage d.channels ahead d.header rest out)

@@ -123,7 +123,7 @@ pub written_one : {f c : ℕ} {old new : List ℕ} (p : RgbaPixel) (at : ℕ) �
     → HasWritten f c (upto old at) (upto new (at + c * 1)) (replicate 1 p)
 written_one {c = c} p at w = let one : at + c * 1 ≡ at + c = omega arith in rw one w
 
--- four times some copies, one after the other; so any number of them up to all
+-- k copies were written four times, one after the other; so any number up to all
 pub four_written : {f c : ℕ} {o0 o1 o2 o3 o4 : List ℕ} (p : RgbaPixel) (at k count : ℕ) → IsChannels c → at ≤ length o0 → count ≤ 4 * k
     → HasWritten f c (upto o0 at) (upto o1 (at + c * k)) (replicate k p)
     → HasWritten f c (upto o1 (at + c * k)) (upto o2 (at + c * k + c * k)) (replicate k p)

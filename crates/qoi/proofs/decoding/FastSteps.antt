@@ -12,7 +12,7 @@ use Rattle.qoi.proofs.decoding.FilledBuffer.{by_channels, filled_copies}
 use Rattle.qoi.proofs.decoding.FirstChunk.{PutsCopies}
 use Rattle.qoi.proofs.decoding.Progress.{goes_on}
 
--- how many pixels a short chunk has, by its first byte and by how many bytes the output goes on
+-- how many pixels a short chunk has, by its first byte and its number of output bytes
 pub record ShortCount (c b size : ℕ) : Type 0 where
   pub count : ℕ
   pub size_is : size ≡ c * count
@@ -40,7 +40,7 @@ short_count c b size is short one run =
 whole_after : (c at count : ℕ) → IsChannels c → at % c ≡ 0 → (at + c * count) % c ≡ 0
 whole_after c at count is = by_channels (λ d. at % d ≡ 0 → (at + d * count) % d ≡ 0) is (λ p. omega arith) (λ p. omega arith)
 
--- the byte after a luma is the second one, and after another short chunk the first
+-- the byte after a short chunk: two past a luma's first byte, one past any other's
 pub next_byte : (luma : Bool) (bytes : List ℕ) (taken size next : ℕ) → size ≡ bool_byte luma
     → next ≡ cond luma (get_or bytes (taken + 2) 0) (get_or bytes (taken + 1) 0) → next ≡ get_or bytes (taken + 1 + size) 0
 next_byte true bytes taken size next s e = let at : taken + 1 + size ≡ taken + 2 = omega (arith, s) in rw at e

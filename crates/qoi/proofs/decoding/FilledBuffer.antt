@@ -15,7 +15,7 @@ pub by_channels : {n : ℕ} (P : ℕ → Type 0) → IsChannels n → P 3 → P 
 by_channels P (inl e) three four = subst P (sym e) three
 by_channels P (inr e) three four = subst P (sym e) four
 
--- as many whole pixels as bytes for them
+-- the bytes of whole pixels: c for each
 pub whole_pixels : (c len : ℕ) → IsChannels c → len % c ≡ 0 → len ≡ c * (len / c)
 whole_pixels c len is = by_channels (λ k. len % k ≡ 0 → len ≡ k * (len / k)) is (λ p. omega arith)
     (λ p. omega arith)
@@ -52,12 +52,12 @@ pub record Counts (c n l k at len : ℕ) : Type 0 where
   pub now : at ≡ c * l
   pub next : at + c * k ≡ c * min n (k + l)
 
--- where the buffer stands and how many pixels came count alike, also after k more that fit
+-- the offset agrees with how many pixels came, also after k more that fit
 pub counts : (c n l k at len : ℕ) → IsChannels c → len ≡ c * n → at ≡ c * min n l → at < len → at + c * k ≤ len → Counts c n l k at len
 counts c n l k at len is = by_channels (λ m. len ≡ m * n → at ≡ m * min n l → at < len → at + m * k ≤ len → Counts m n l k at len) is (λ p q h r. record { below = omega arith; now = omega arith; next = omega arith })
     (λ p q h r. record { below = omega arith; now = omega arith; next = omega arith })
 
--- if there is none, the pixels so far are enough
+-- without room, the pixels so far are enough
 full_counts : (c n l at len : ℕ) → IsChannels c → len ≡ c * n → at ≡ c * min n l → len ≤ at → (n ≤ l) × (at ≡ len)
 full_counts c n l at len is = by_channels (λ k. len ≡ k * n → at ≡ k * min n l → len ≤ at → (n ≤ l) × (at ≡ len)) is (λ p q h. (omega arith, omega arith))
     (λ p q h. (omega arith, omega arith))
@@ -105,7 +105,7 @@ filled_full f c n out at past more is h full =
     long_enough c n l at len size is = by_channels (λ k. len ≡ k * n → at ≡ k * min n l → len ≤ at → size ≡ k * l → at ≤ size) is (λ p q h s. omega arith)
         (λ p q h s. omega arith)
 
--- copies of a pixel that were written fill the buffer
+-- copies of a pixel that were written count as filled
 pub filled_copies : (f c n : ℕ) (out new : List ℕ) (at count : ℕ) (p : RgbaPixel) (past : Past) → IsChannels c → at < length out
     → at + c * count ≤ length out → length new ≡ length out → HasWritten f c (upto out at) (upto new (at + c * count)) (replicate count p)
     → HasFilled f c n (upto out at) past → HasFilled f c n (upto new (at + c * count)) (replicate count p ++ past)
@@ -124,19 +124,19 @@ pub block_fits : (c at count len : ℕ) → IsChannels c → count ≤ 16 / c �
 block_fits c at count len is = by_channels (λ d. count ≤ 16 / d → at + 16 ≤ len → at + d * count ≤ len) is (λ p q. omega arith)
     (λ p q. omega arith)
 
--- as many copies as there is room for have room
+-- as many copies fit as there is room for
 pub copies_fit : (c at count len : ℕ) → IsChannels c → at ≤ len → at + c * min count ((len - at) / c) ≤ len
 copies_fit c at count len is = by_channels (λ d. at ≤ len → at + d * min count ((len - at) / d) ≤ len) is (λ p. omega arith)
     (λ p. omega arith)
 
--- the copies that there is room for are all, or they end where the buffer does
+-- there is room for all the copies, or those that fit end where the buffer does
 pub copies_end : (c at count len : ℕ) → IsChannels c → len % c ≡ 0 → at % c ≡ 0 → at ≤ len
     → (min count ((len - at) / c) ≡ count) ⊎ (len ≤ at + c * min count ((len - at) / c))
 copies_end c at count len is = by_channels (λ k. len % k ≡ 0 → at % k ≡ 0 → at ≤ len
     → (min count ((len - at) / k) ≡ count) ⊎ (len ≤ at + k * min count ((len - at) / k))) is (λ p q l. elim (cases_lt ((len - at) / 3) count) [ inl few ↦ inr (omega arith) | inr all ↦ inl (omega arith) ])
     (λ p q l. elim (cases_lt ((len - at) / 4) count) [ inl few ↦ inr (omega arith) | inr all ↦ inl (omega arith) ])
 
--- after those of `count` copies that there is room for, the others change nothing
+-- of `count` copies, the ones past those that fit change nothing
 pub filled_end : (f c n : ℕ) (out : List ℕ) (at all count : ℕ) (p : RgbaPixel) (past : Past) → IsChannels c → all ≤ count → (all ≡ count) ⊎ (length out ≤ at)
     → HasFilled f c n (upto out at) (replicate all p ++ past) → HasFilled f c n (upto out at) (replicate count p ++ past)
 filled_end f c n out at all count p past is le (inl e) h = subst (λ k. HasFilled f c n (upto out at) (replicate k p ++ past)) e h

@@ -72,7 +72,7 @@ after_is (suc left) n past (c ∷ cs) x hc below enough room =
     ∙ ap (F c) (drop-append_seam (bytes_of c) rest)
     ∙ ap (λ z. c ∷ z) more
 
--- so of whole bytes they are its chunks
+-- so for whole bytes these are the chunks
 front_chunks_are : (h : Header) (bytes : List ℕ) (cs : List Chunk) (rest : List ℕ) → IsWhole (pixel_count h) bytes cs rest
     → front_chunks h bytes ≡ cs
 unfolding front_chunks
@@ -112,7 +112,7 @@ unfolding file_rest
 file_rest_is bytes h rest out d =
     rest_is h.channels h (drop header_size bytes) rest out (own_image bytes h rest out d) ∙ ap (λ r. rest_by r (drop header_size bytes)) (sym d.header)
 
--- after a header that was read stand the image and the rest of the file
+-- after a header that was read stand the file's image and what follows the file
 pub image_after : (channels : Channels) (h : Header) (bytes : List ℕ) → header_of bytes ≡ Ok h → channels ≡ h.channels
     → (front_image channels h (drop header_size bytes) ≡ file_image bytes) × (front_rest h (drop header_size bytes) ≡ file_rest bytes)
 unfolding file_image file_rest
@@ -122,7 +122,7 @@ image_after channels h bytes read own =
       ap (λ r. rest_by r after) (sym read),
     )
 
--- so they are if a stream's header was read
+-- so they do if a stream's header was read
 pub image_after_read : (old left : Option (List ℕ)) (h : Header) → TakesHeader old left h → IfSome old (λ bytes. IfSome left (λ ahead.
     (front_image h.channels h ahead ≡ file_image bytes) × (front_rest h ahead ≡ file_rest bytes)))
 image_after_read None left h r = tt
@@ -148,7 +148,7 @@ three_of_front : (h : Header) (bytes : List ℕ) → front_image OfChannels.Rgb 
 unfolding front_image
 three_of_front h bytes = rgb_is_without_fourth (channels_number h.channels) (take (pixel_count h) (meaning (front_chunks h bytes)))
 
--- so it is where it was read
+-- so is the image that was read
 pub three_read : (channels : Channels) (h : Header) (old left : Option (List ℕ)) (out : List ℕ) → channels ≡ OfChannels.Rgb
     → ((bytes : List ℕ) → old ≡ Some bytes → (rest : List ℕ) × (left ≡ Some rest) × IsImage channels bytes h rest out)
     → IfSome old (λ bytes. out ≡ without_fourth (front_image OfChannels.Rgba h bytes))

@@ -37,7 +37,7 @@ file_from_whole h cs bytes rest fits e w =
       front.0 ∙ ap (λ l. header_bytes h ++ l) w.has.split ∙ sym (file_parts h cs rest),
     )
 
--- a header is read in one way
+-- a header is read in one way only
 pub header_is_one : (bytes : List ℕ) (h k : Header) → header_of bytes ≡ Ok h → header_of bytes ≡ Ok k → h ≡ k
 header_is_one bytes h k first second = cc
 
@@ -80,7 +80,7 @@ decodes_read h bytes rest out fits read r =
     let front = file_from_whole h r.cs bytes rest fits read whole in
     decodes_file h r.cs bytes rest out front.0 front.1 r.out_is
 
--- so it is when a decoder reads it, in the file's own channels
+-- so they are when a decoder reads it, in the file's own channels
 pub decodes_after : (bytes : List ℕ) (d : DecoderState (List ℕ)) (rest out : List ℕ) → AreBytes bytes → header_of bytes ≡ Ok d.header
     → d.channels ≡ d.header.channels → d.reader ≡ drop header_size bytes
     → ReadsImage (channels_number d.header.channels) (channels_number d.channels) (pixel_count d.header) (Some d.reader) (Some rest) out
@@ -92,7 +92,7 @@ decodes_after bytes d rest out fits read own after r =
     (subst (λ z. ReadsImage (channels_number d.header.channels) (channels_number d.header.channels) (pixel_count d.header) (Some z)
     (Some rest) out) after own_channels)
 
--- bytes are decoded in one way
+-- bytes are decoded in one way only
 pub decoding_is_one : (bytes : List ℕ) (h k : Header) (rest more out other : List ℕ) → DecodesFile bytes h rest out → DecodesFile bytes k more other
     → (k ≡ h) × (other ≡ out)
 decoding_is_one bytes h k rest more out other d e =

@@ -61,7 +61,7 @@ goes_on {f} {c} {n} {Taken} {Taken'} {old} {new} {bytes} is s inside g takes wit
       whole = whole;
     }
 
--- if the buffer is full, the chunks reach n pixels, and these are the first n
+-- if the buffer is full, the chunks reach n pixels, and it holds the first n
 reads_all : {f c n : ℕ} {Taken : List ℕ → Type 0} {now : Filling} → IsChannels c → (s : DecoderBetween f c n Taken now) → length now.buffer.out ≤ now.buffer.at
     → Reaches n s.cs × (now.buffer.out ≡ output f c (take n (meaning s.cs)))
 reads_all {f} {c} {n} {Taken} {now} is s full =
@@ -130,7 +130,7 @@ streams_pixels is s full =
     let all = reads_all is s full in
     record { cs = s.cs; chunks = s.chunks; reaches = all.0; taken = subst (Consumes _ _) (sym (append-nil (chunk_bytes s.cs))) s.taken; out_is = all.1 }
 
--- if a stream gives no whole chunk, what was taken ends within a chunk
+-- if a stream gives no whole chunk, what was taken ends before n pixels
 pub stream_ends : {f c n : ℕ} (old middle new : Option (List ℕ)) (part : List ℕ) {now : Filling} → IsChannels c → DecoderBetween f c n (Consumes old middle) now
     → now.buffer.at < length now.buffer.out → Consumes middle new part → IsPartOfChunk part
     → (taken : List ℕ) × Consumes old new taken × EndsBefore n taken

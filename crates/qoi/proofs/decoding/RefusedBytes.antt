@@ -1,4 +1,4 @@
--- What refuses known bytes that stand ahead of a decoder, by what they are.
+-- Which errors refuse known bytes ahead of a decoder, by their verdict.
 use Rattle.std.proofs.Common.{◌≡◌, ℕ, List, Bool, true, false, Option, Some, inl, inr, refl, subst}
 use Rattle.qoi.specs.declared.error.Error.{Error}
 use Rattle.qoi.specs.declared.error.Error.TheVariants.{UnexpectedBufferEnd, InvalidPadding, IoError}

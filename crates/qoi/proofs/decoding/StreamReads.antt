@@ -60,7 +60,7 @@ part_read_rgba b more fits h is few = part_rgba (b ∷ more) (byte_and b more fi
 abbrev pub IsChunkAhead : List ℕ → List ℕ → Type 0
 IsChunkAhead bytes taken = (c : Chunk) × (rest : List ℕ) × IsChunk c × (taken ≡ bytes_of c) × (bytes ≡ bytes_of c ++ rest)
 
--- of such bytes the chunk was decoded that was taken
+-- the chunk decoded from such bytes is the one taken
 pub decodes_taken : {f c : ℕ} {old new : Filling} (bytes : List ℕ) (size : ℕ) (taken : List ℕ) → IsChunkAhead bytes taken
     → DecodesChunk f c (take size bytes) old new → DecodesChunk f c taken old new
 decodes_taken bytes size taken (c, more, is_chunk, taken_is, bytes_are) first =
@@ -68,7 +68,7 @@ decodes_taken bytes size taken (c, more, is_chunk, taken_is, bytes_are) first =
     let same = chunks_apart c first.chunk more (drop size bytes) is_chunk first.is_chunk (sym bytes_are ∙ split) in
     record { chunk = first.chunk; is_chunk = first.is_chunk; bytes_are = taken_is ∙ ap bytes_of same.0; decodes = first.decodes }
 
--- an index position's, a difference's and a run's byte are a chunk of their own
+-- the byte of an index position, difference or run is a chunk of its own
 pub alone_ahead : (b : ℕ) (zeros : List ℕ) → (b < 128) ⊎ ((192 ≤ b) × (b < 254)) → IsChunkAhead (b ∷ zeros) (b ∷ [])
 alone_ahead b zeros (inl low) =
     elim (cases_lt b 64) [

@@ -89,7 +89,7 @@ wrong_within n bytes (cs, eight, wrong) =
       length-append eight [],
     )
 
--- a decoded image is
+-- a decoded image is within the bound, too
 pub read_within : (f c n : ℕ) (old new : Option (List ℕ)) (out : List ℕ) → ReadsImage f c n old new out → TakesAtMost (5 * n + 8) old new
 read_within f c n old new out r = (
   chunk_bytes r.cs ++ end_marker,
@@ -103,7 +103,7 @@ keeps_all None new k = tt
 keeps_all (Some xs) None k = absurd k
 keeps_all (Some xs) (Some ys) k = sym k
 
--- and a refused one
+-- a refused image is, too
 pub refused_within : (in_memory : Bool) (n : ℕ) (old new : Option (List ℕ)) (e : Error) → RefusesImage in_memory n old new e → TakesAtMost (5 * n + 8) old new
 refused_within true n old new e r = ([], keeps_all old new r.0, omega arith)
 refused_within false n old new (IoError x) (taken, took, why) = (taken, took, cut_within n taken why)

@@ -19,7 +19,7 @@ use Rattle.qoi.proofs.encoding.StillToWrite.{all_to_write, chunk_next, fresh_tod
 use Rattle.qoi.proofs.encoding.StyleLists.{chooses_in}
 use Rattle.qoi.proofs.encoding.StyledGroup.{WritesOne, styled_runs, styled_chunk}
 
--- bytes by recursion
+-- `AreBytes` by recursion
 pub all_bytes : (bytes : List ℕ) → AreBytes bytes → AllByRecursion (λ b. b < 256) bytes
 all_bytes [] h = tt
 all_bytes (b ∷ bytes) h = (h 0, all_bytes bytes (λ i. tail_of i))

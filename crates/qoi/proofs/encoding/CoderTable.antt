@@ -25,7 +25,7 @@ place_chosen Reference past p is = record { place = λ _. refl; spelled = λ oth
 place_chosen Places past p is = record { place = λ _. refl; spelled = λ other. absurd (other is) }
 place_chosen Tight past p is = record { place = λ _. refl; unseen = λ other. absurd (other is); spelled = λ other. absurd (other is) }
 
--- any other is spelled out if index positions of fresh pixels alone are named
+-- in styles Reference and Places any other is spelled out
 pub spelled_out : (style : Style) (past : Past) (p : RgbaPixel) (c : Chunk) → (style ≡ Reference) ⊎ (style ≡ Places) → IsFirst past p c
     → seen (held_in style past) (hash p) ≢ p → choice_in style past p c
 spelled_out style past p c (inl is) first differs = let d = rw is at differs in rw is (record { place = λ e. absurd (d e); spelled = λ _. first })
@@ -43,12 +43,12 @@ module _ (style : Style) (past : Past) (px at : RgbaPixel) (i : ℕ) (place : i 
   there : at ≡ seen (held_in style past) (hash px)
   there = is ∙ ap (seen (held_in style past)) place
 
-  -- it isn't
+  -- not px
   not_there : (IsTrue false ↔ (at ≡ px)) → seen (held_in style past) (hash px) ≢ px
   not_there test e = absurd (let no : false ≡ true = test.1 (there ∙ e) in cc)
 
-  -- Either chunk is chosen, as the test says: the index position, or another one; and it names the
-  -- position exactly if the pixel stands there. Its bytes are the lowest of a number.
+  -- The chosen chunk is the index position or another one, as the test says; it names the position
+  -- exactly if the pixel stands there. Its bytes are as in `HasBytes`.
   pub fresh_chosen : (same : Bool) (alpha number size : ℕ) → (IsTrue same ↔ (at ≡ px))
       → (seen (held_in style past) (hash px) ≢ px → (d : Chunk) × IsChunk d × HasBytes alpha number size d × choice_in style past px d)
       → (d : Chunk) × IsChunk d × HasBytes alpha (if same then i else number) (if same then 1 else size) d × choice_in style past px d

@@ -60,7 +60,7 @@ repeats_block n bytes rest after p count is w room later block = record {
     sums n is = by_channels (λ k. length after + k * 16 ≡ length rest → k * count + length rest ≡ length bytes
         → k * (count + 16) + length after ≡ length bytes) is (λ a b. omega arith) (λ a b. omega arith)
 
--- the member at an index is the first after as many
+-- the member at index k is the first after k members
 pub nth_first : (k : ℕ) (xs : List RgbaPixel) → slice_get xs k ≡ slice_get (drop k xs) 0
 nth_first zero xs = refl
 nth_first (suc k) [] = refl
@@ -76,7 +76,7 @@ counted_on p pixels rest n more e w = count_of p pixels (drop more rest) (n + mo
 pub whole_rest : (n count len : ℕ) → IsChannels n → len % n ≡ 0 → n * count ≤ len → (len - n * count) % n ≡ 0
 whole_rest n count len is = by_channels (λ k. len % k ≡ 0 → k * count ≤ len → (len - k * count) % k ≡ 0) is (λ a b. omega arith) (λ a b. omega arith)
 
--- pixels after others are those of the bytes after theirs
+-- dropping k pixels drops their bytes
 pub pixels_drop : (n k : ℕ) (bytes : List ℕ) → IsChannels n → n * k ≤ length bytes → drop k (pixels_of n bytes) ≡ pixels_of n (drop (n * k) bytes)
 pixels_drop n k bytes is inside =
     let size : length (take (n * k) bytes) ≡ n * k = length-take-le (n * k) bytes inside in
@@ -132,8 +132,8 @@ some_pixels n bytes is whole some none =
     no_bytes : (n len : ℕ) → IsChannels n → 0 < len → len / n ≡ 0 → len ≡ n * (len / n) → ⊥
     no_bytes n len is some = by_channels (λ k. len / k ≡ 0 → len ≡ k * (len / k) → ⊥) is (λ a b. omega (arith, some)) (λ a b. omega (arith, some))
 
--- The repeats at the front of bytes, of which some are looked at: they stand ahead, and another
--- pixel, or none, is after them, or as many were found as were looked at.
+-- The first `count` pixels of the bytes are q, at most `most` of them; and another pixel, or none,
+-- comes after them, or `count` is `most`.
 pub record NearGroup (n : ℕ) (bytes : List ℕ) (q : RgbaPixel) (most count : ℕ) : Type 0 where
   pub within : n * count ≤ length bytes
   pub few : count ≤ most
@@ -200,7 +200,7 @@ pub drop_next : (n k : ℕ) (bytes : List ℕ) → IsChannels n → drop n (drop
 drop_next n k bytes is = drop-drop n (n * k) bytes
     ∙ ap (λ j. drop j bytes) (by_channels (λ j. j * k + j ≡ j * (k + 1)) is (omega arith) (omega arith))
 
--- the first pixel of whole bytes, and those after it
+-- the first of whole pixels, and those after it
 pub pixel_ahead : (n : ℕ) (bytes : List ℕ) → IsChannels n → length bytes % n ≡ 0 → 0 < length bytes
     → pixels_of n bytes ≡ rgba (take n bytes) ∷ pixels_of n (drop n bytes)
 pixel_ahead n bytes is whole some = ap (pixels_of n) (sym (take-append-drop n bytes))

@@ -29,7 +29,7 @@ seen_same past p i h = cond-true (eqb (hash p) i) _ _ (eq-eqb (hash p) i h)
 pub seen_other : (past : Past) (p : RgbaPixel) (i : ℕ) → hash p ≢ i → seen (p ∷ past) i ≡ seen past i
 seen_other past p i h = cond-false (eqb (hash p) i) _ _ (ne_eqb (hash p) i h)
 
--- the index positions of the first two pixels differ
+-- the position of opaque black
 hash_start : hash start ≡ 53
 unfolding hash start
 hash_start = refl

@@ -31,7 +31,7 @@ pub record Sending (W : Type 0) : Type 0 where
 abbrev all_of : {W : Type 0} → Sending W → List Chunk → List ℕ
 all_of s list = s.front ++ chunk_bytes (in_style s.style list)
 
--- the list, and the bytes that didn't go to the writer yet
+-- the list, and the bytes that haven't gone to the writer yet
 abbrev writing : {W : Type 0} → ℕ → Sending W → List Chunk → List ℕ → Writing
 writing n s list ahead = record { list = record { style = s.style; image = pixels_of n s.raw; cs = list }; ahead = ahead }
 
@@ -96,7 +96,7 @@ module _ {W : Type 0} {wrote : W → List ℕ → W → Type 0} {room : W → �
       subst (λ z. WroteBut wrote s.start (all_of s p.list) z buf) (all_written (went_on _ p.between)) p.went,
     )
 
-    -- the bytes that are kept are the first so many and the others
+    -- the kept bytes are the first `size` and the others
     module _ (size : ℕ) where
       abbrev sent_first : (ahead : List ℕ) × (p.ahead ≡ take size kept ++ ahead)
           × CoderBetween (writing n s p.list ahead) (pixels_of n rest) table coder (drop size kept)

@@ -1,4 +1,4 @@
--- How many of the first sixteen pixels are one pixel, by the bytes that are its.
+-- How many pixels at the front of sixteen equal a given one, by their bytes.
 use Rattle.std.proofs.Common.{◌≡◌, ◌≢◌, ℕ, zero, suc, ◌+◌, ◌-◌, ◌*◌, ◌/◌, ◌%◌, ◌^◌, ◌≤◌, ◌<◌, Bool, true, false, cond, eqb, eqb-true, List, [], ◌∷◌, ◌++◌, length, take, drop, replicate, refl, sym, ap, ◌∙◌, subst, arith}
 use Rattle.std.specs.List.{common_prefix_len}
 use Rattle.std.proofs.lemmas.Bool.{eqb-false}
@@ -28,7 +28,7 @@ three_parts xs ys l m =
     let e : same_bits (drop 16 (drop 32 xs)) (drop 16 (drop 32 ys)) ≡ same_bits (drop 48 xs) (drop 48 ys) = (λ i. same_bits (drop-drop 16 32 xs i) (drop-drop 16 32 ys i)) in
     omega (arith, a, b, c, d, e)
 
--- beside what comes after all n bytes there are none
+-- past the end of ys no bit is set
 none_after : (n : ℕ) (xs ys : List ℕ) → length ys ≡ n → same_bits xs (drop n ys) ≡ 0
 none_after n xs ys e = ap (same_bits xs) (drop_all n ys (omega arith)) ∙ none_beside xs
 
@@ -50,7 +50,7 @@ bits_of_4 xs ys a b c d size long x y z w e f g h =
     let over = none_after 16 (drop 16 (drop 48 xs)) (drop 48 ys) (omega (arith, length-drop 48 ys)) in
     omega arith
 
--- of the first m pixels, n at the front are p, and after the m come `rest`
+-- the first n of m pixels are p, then comes another, or `rest` if n is m
 pub record IsFront (p : RgbaPixel) (pixels rest : List RgbaPixel) (m n : ℕ) : Type 0 where
   pub within : n ≤ m
   pub all : n ≡ m → pixels ≡ replicate m p ++ rest
@@ -76,12 +76,12 @@ not_first p q pixels rest m ne = record {
   counted = λ l. record { same = refl; other = λ e. ne cc };
 }
 
--- no bytes are shared with none
+-- an empty list shares no bytes
 none_shared : (xs : List ℕ) → common_prefix_len eqb xs [] ≡ 0
 none_shared [] = refl
 none_shared (x ∷ xs) = refl
 
--- as many pixels are p as whole ones have the bytes of p: three bytes each
+-- how many pixels at the front are p: the shared bytes divided by three, rounded down
 front_3 : (m : ℕ) (bytes : List ℕ) (p : RgbaPixel) → p.a ≡ 255 → 3 * m ≤ length bytes
     → IsFront p (pixels_of_3 bytes) (pixels_of_3 (drop (3 * m) bytes)) m (common_prefix_len eqb bytes (output 3 3 (replicate m p)) / 3)
 front_3 zero bytes p o l = rw (none_shared bytes) (no_pixels p (pixels_of_3 bytes))

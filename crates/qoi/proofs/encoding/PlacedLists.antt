@@ -32,8 +32,8 @@ seen_last : (past : Past) → some_fresh past ≡ true → seen past (hash (prev
 seen_last [] e = absurd (true≢false (sym e))
 seen_last (p ∷ past) e = seen_same past p (hash p) refl
 
--- what holds of a chunk, and at a single run of the position of the last pixel, holds of the chunk
--- that stands for it
+-- P relates a chunk to its `place_for` if it relates each chunk to itself, and Run 1 to the last
+-- pixel's position
 by_place : (P : Chunk → Chunk → Type 0) (past : Past) (before : Option Chunk) (c : Chunk) (cs : List Chunk)
     → ((d : Chunk) → P d d)
     → (seen past (hash (previous past)) ≡ previous past → P (Run 1) (Place (hash (previous past))))
@@ -110,7 +110,7 @@ named past before c cs i e = absurd (let x = e in cc)
 same_names : (i j k : ℕ) → j ≡ i → k ≡ i → not (names (Some (Place j)) k) ≡ true → ⊥
 same_names i j k e f h = true≢false (sym h ∙ ap not (eq-eqb j k (e ∙ sym f)))
 
--- the pixel of an index position repeats after a chunk that gives it
+-- after a single run its pixel's index position holds the last pixel
 repeated : (past : Past) (n : ℕ) (i : ℕ) → n ≡ 1 → hash (previous past) ≡ i → seen (then_chunk past (Run n)) i ≡ previous (then_chunk past (Run n))
 repeated past n i one at = rw one (seen_same past (previous past) i at)
 

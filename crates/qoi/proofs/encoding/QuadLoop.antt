@@ -31,7 +31,7 @@ words_below [] k a = omega arith
 words_below (p ∷ ps) zero a = let i = a.0 in omega (arith, i.r, i.g, i.b, i.a)
 words_below (p ∷ ps) (suc k) a = words_below ps k a.1
 
--- of four pixels after the ones before them
+-- facts on four pixels and those before them
 module _ {last : RgbaPixel} {pixels : List RgbaPixel} {cur prev : List ℕ} (are : AreFourAfter last pixels cur prev) where
   pub cur_length : length cur ≡ 4
   cur_length = ap length are.pixels_are ∙ length-map (take 4 pixels) word ∙ length-take-le 4 pixels are.long

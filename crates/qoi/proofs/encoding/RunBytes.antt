@@ -21,7 +21,7 @@ few_by c n few =
     let all : n % 62 ≡ n = omega arith in
     rw (none, all) refl
 
--- the run of a rest, after the bytes before
+-- the last run, after the bytes before
 last_written : (c : Chunk) (one at count : ℕ) (out : List ℕ) → bytes_of c ≡ one ∷ [] → at < length out → count < 62
     → take (at + bool_byte (nat_lt 0 count)) (set out at (if count == 1 then one else 191 + count)) ≡ take at out ++ chunk_bytes (last_by c count)
 last_written c one at zero out e l few =
@@ -48,14 +48,14 @@ full_text : (k : ℕ) → chunk_bytes (replicate k (Run 62)) ≡ replicate k 253
 full_text zero = refl
 full_text (suc k) = ap (λ z. 253 ∷ z) (full_text k)
 
--- the bytes of full runs and of a rest
+-- the bytes of full runs and of the remainder
 runs_text : (c : Chunk) (n : ℕ) → chunk_bytes (runs_by c n) ≡ replicate (n / 62) 253 ++ chunk_bytes (runs_by c (n % 62))
 unfolding runs_by
 runs_text c n =
     flat_map-append bytes_of (replicate (n / 62) (Run 62)) (last_by c (n % 62)) ∙ ap (λ z. z ++ chunk_bytes (last_by c (n % 62))) (full_text (n / 62))
     ∙ ap (λ cs. replicate (n / 62) 253 ++ chunk_bytes cs) (sym (few_by c (n % 62) (omega arith)))
 
--- the bytes after sixteen full runs are stored
+-- the bytes once sixteen full runs are stored
 abbrev filled : ℕ → List ℕ → List ℕ
 filled at out = put_mid at (at + 16 - at) out (put_chunk 0 (take (at + 16 - at) (drop at out)) (replicate 16 253))
 
@@ -71,7 +71,7 @@ filled_front at k out room few =
     ∙ take-append-add (take at out) (replicate 16 253 ++ post) k
     ∙ ap (λ z. take at out ++ z) (take-append-le k (replicate 16 253) post few ∙ take-replicate k 16 253 few)
 
--- a group of any size, after the bytes before
+-- at most 992 repeats, after the bytes before
 pub runs_written : (c : Chunk) (at count : ℕ) (out new : List ℕ) → at + 17 ≤ length out → count ≤ 992
     → new ≡ take (at + count / 62) (filled at out) ++ chunk_bytes (runs_by c (count % 62)) → new ≡ take at out ++ chunk_bytes (runs_by c count)
 runs_written c at count out new room few e =

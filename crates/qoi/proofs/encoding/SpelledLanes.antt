@@ -36,7 +36,7 @@ pub unpacked : (p : RgbaPixel) → IsPixel p → pixel_of_word (word p) ≡ p
 unpacked p i = same_pixel _ p (omega (arith, i.r, i.g, i.b, i.a)) (omega (arith, i.r, i.g, i.b, i.a)) (omega (arith, i.r, i.g, i.b, i.a))
     (omega (arith, i.r, i.g, i.b, i.a))
 
--- nothing is left of a packed pixel beside some of its bits exactly if these are all of it
+-- a packed pixel less some of its bits is 0 exactly if these are all of it
 tested : (p q : RgbaPixel) (left : ℕ) → IsPixel p → IsPixel q → left + word q ≡ word p → IsTrue (eqb left 0) ↔ (q ≡ p)
 tested p q left ip iq sum = (
   λ t. (let e = eqb-true _ _ t in let same : word q ≡ word p = omega arith in sym (unpacked q iq) ∙ ap pixel_of_word same ∙ unpacked p ip),

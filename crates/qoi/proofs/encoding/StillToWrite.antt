@@ -19,12 +19,12 @@ use Rattle.qoi.proofs.encoding.StyleLists.{chooses_in}
 use Rattle.qoi.proofs.encoding.WrittenExists.{is_pixel_start, written_on}
 use Rattle.qoi.proofs.encoding.WrittenOnce.{unique_by}
 
--- no repeats have no runs
+-- zero repeats have no runs
 pub runs_none : runs_by (Run 1) 0 ≡ []
 unfolding runs_by
 runs_none = refl
 
--- a group without a rest is full runs
+-- a group without a remainder is full runs
 runs_full : (n : ℕ) → n % 62 ≡ 0 → runs_by (Run 1) n ≡ replicate (n / 62) (Run 62)
 unfolding runs_by
 runs_full n e = ap (λ r. replicate (n / 62) (Run 62) ++ last_by (Run 1) r) e ∙ append-nil (replicate (n / 62) (Run 62))
@@ -64,8 +64,8 @@ module _ (l : ImageList) where
 
   module _ {past : Past} {rest : List RgbaPixel} {todo : List Chunk}
       (w : StillToWrite l past rest todo) where
-    -- What follows the written chunks in a list of the image is what is to be written; so the first
-    -- of these chunks are next.
+    -- A written list of the image that begins with `done` goes on with `todo`; so `new` comes first
+    -- in `todo`.
     next : (after : Past) (more : List RgbaPixel) (new left : List Chunk) → l.image ≡ reverse after ++ more → IsPixel (previous after)
         → AllByRecursion IsPixel more
         → WrittenBy Choice (reverse after) (w.done ++ new) → (slice_get more 0 ≡ Some (previous after) → RunMayFollow (w.done ++ new))

@@ -67,7 +67,7 @@ style_apart style image cs front rest i w e = by_style (λ x. x ≡ front ++ Pla
     (placed_apart (choice_in style) [] None w.list front rest i w.written.allowed)
     e
 
--- it is regular, but in style Tight
+-- it is regular, except in style Tight
 pub style_regular : (style : Style) (image : List RgbaPixel) (cs : List Chunk) → style ≢ Tight → WrittenIn style image cs → Regular cs
 style_regular Reference image cs other w = subst Regular (sym w.is) (written_regular image w.list w.written)
 style_regular Places image cs other w = subst Regular (sym w.is) (placed_regular [] None w.list (written_regular image w.list w.written))

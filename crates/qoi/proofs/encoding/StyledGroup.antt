@@ -20,7 +20,7 @@ abbrev before_rest : Option Chunk → ℕ → Option Chunk
 before_rest before zero = before
 before_rest before (suc k) = Some (Run 62)
 
--- after a run of 62 it is one
+-- it is Run 62 if `before` is
 after_full_run : (k : ℕ) → before_rest (Some (Run 62)) k ≡ Some (Run 62)
 after_full_run zero = refl
 after_full_run (suc k) = refl
@@ -50,7 +50,7 @@ other_stays : (past : Past) (before : Option Chunk) (c : Chunk) (cs : List Chunk
 other_stays past before (Run n) cs e = absurd (let x = e in cc)
 other_stays past before c cs e = refl
 
--- a rest before a chunk other than a run
+-- a single repeat before a fresh pixel's chunk
 abbrev single : Past → Option Chunk → Chunk
 single past before = if some_fresh past && not (names before (hash (previous past))) then Place (hash (previous past)) else Run 1
 
@@ -69,7 +69,7 @@ last_same zero c d e = refl
 last_same (suc zero) c d e = ap (λ x. x ∷ []) (e refl)
 last_same (suc (suc r)) c d e = refl
 
--- so are the runs of a group
+-- the same of a group's runs
 plain : (n : ℕ) (one : Chunk) → (n % 62 ≡ 1 → one ≡ Run 1) → runs_by (Run 1) n ≡ runs_by one n
 unfolding runs_by
 plain n one is = ap (λ x. replicate (n / 62) (Run 62) ++ x) (last_same (n % 62) (Run 1) one (λ e. sym (is e)))

@@ -17,7 +17,7 @@ use Rattle.qoi.proofs.encoding.Spelled.{first_some}
 use Rattle.qoi.proofs.encoding.WrittenExists.{spells_other, spells_no_place}
 use Rattle.qoi.proofs.encoding.WrittenOnce.{first_unique}
 
--- repeats that are put change nothing that an index position holds
+-- repeats after the first pixel, if put, change no index position
 pub seen_first_and_fresh : (past : Past) (i : ℕ) → seen (first_and_fresh past) i ≡ seen past i
 seen_first_and_fresh [] i = refl
 seen_first_and_fresh (p ∷ []) i = refl
@@ -38,7 +38,7 @@ seen_first_and_fresh (p ∷ q ∷ past) i = go (seen_first_and_fresh (q ∷ past
         ap (λ x. seen x i) (cond-false (pixel_eq p q) _ _ (pixel_eq-ne p q d))
         ∙ seen_other (first_and_fresh (q ∷ past)) p i n ∙ before ∙ sym (seen_other (q ∷ past) p i n)
 
--- where no pixel was put transparent black is seen
+-- where no pixel was put, transparent black is seen
 pub unseen_blank : (past : Past) (i : ℕ) → is_unseen past i ≡ true → seen past i ≡ blank
 unseen_blank [] i e = refl
 unseen_blank (p ∷ past) i e =
@@ -80,7 +80,7 @@ some_found test a (suc n) i l u e = go (λ m. some_found test (a + 1) n i m (ome
     go on false t (inl h) = absurd (true≢false (sym e ∙ ap test (sym h) ∙ t))
     go on false t (inr h) = on (omega arith)
 
--- the least index position where no pixel was put is one
+-- what `least_unseen` finds is a position where no pixel was put
 unseen_found : (past : Past) (i : ℕ) → least_unseen past ≡ Some i → (is_unseen past i ≡ true) × (i < positions)
 unfolding least_unseen
 unseen_found past i e = found (is_unseen past) 0 64 i e
@@ -188,8 +188,8 @@ blank_chosen past p i b differs found = record {
   spelled = λ _ n. absurd (n b);
 }
 
--- if there is none, and for each other pixel that isn't seen, that is the first chunk that spells
--- it out
+-- if there is none, and for other pixels that aren't seen, the choice is the first chunk that
+-- spells them out
 pub spelled_chosen : (past : Past) (p : RgbaPixel) (c : Chunk) → seen past (hash p) ≢ p → (p ≡ blank → None ≡ first_blank past) → IsFirst past p c
     → IsTightChoice past p c
 spelled_chosen past p c differs none f = record {
@@ -199,7 +199,7 @@ spelled_chosen past p c differs none f = record {
   spelled = λ _ _. f;
 }
 
--- it is one
+-- it is unique
 tight_unique : (past : Past) (p : RgbaPixel) (c d : Chunk) → IsChunk c → IsChunk d → IsTightChoice past p c → IsTightChoice past p d → c ≡ d
 tight_unique past p c d ic id w v =
     cases_tight past p (c ≡ d)

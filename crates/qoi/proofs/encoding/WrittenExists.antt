@@ -56,7 +56,7 @@ choice_other past p c w = elim (cases_pixel (noted past (hash p)) p) as (λ _. i
   | inr other ↦ spells_other c (w.spelled other).spells
 ]
 
--- the choice of a chunk has what it has to offer
+-- `IsChoice` has what a choice has to offer
 pub chooses : Chooses IsChoice
 chooses = record {
   some = λ past p before is _. choice_some past p before is;
@@ -80,8 +80,7 @@ module _ (Choice : Past → RgbaPixel → Chunk → Type 0) (choices : Chooses C
       → WrittenBy Choice (reverse (p ∷ group) ++ rest) (((cs ++ rs) ++ c ∷ []) ++ more) → WrittenBy Choice (reverse group ++ p ∷ rest) (cs ++ (rs ++ c ∷ more))
   fresh_joined p group rest cs rs more c w = subst₂ (λ x y. WrittenBy Choice x y) (joined p p 0 group rest refl) (chunks_split cs rs more c) w
 
-  -- a list that is written for the pixels before a group begins one for the image, whatever pixels
-  -- follow
+  -- a written list of the pixels before a group extends to one of the image, whatever pixels follow
   pub written_on : (rest : List RgbaPixel) (past : Past) (n : ℕ) (cs : List Chunk) → WrittenBy Choice (reverse past) cs → RunMayFollow cs
       → IsPixel (previous past) → AllByRecursion IsPixel rest
       → (more : List Chunk) × WrittenBy Choice (reverse (replicate n (previous past) ++ past) ++ rest) (cs ++ more)

@@ -12,17 +12,17 @@ use Rattle.qoi.specs.Styles.{is_run}
 use Rattle.qoi.proofs.format.ChunkSteps.{previous_repeats, repeats_after, right_from, full_other, full_before, then_other, then_chunks-append, each_append}
 pub use Rattle.qoi.specs.inner.CoderLoop.{RunMayFollow}
 
--- what holds of each of two lists holds of each of both
+-- what holds throughout two lists holds throughout both joined
 all_append : {A : Type 0} (P : A → Type 0) (xs ys : List A) → AllByRecursion P xs → AllByRecursion P ys → AllByRecursion P (xs ++ ys)
 all_append P [] ys h k = k
 all_append P (x ∷ xs) ys h k = (h.0, all_append P xs ys h.1 k)
 
--- what holds of each of both holds of each of the first list
+-- what holds throughout both joined holds throughout the first
 pub all_front : {A : Type 0} (P : A → Type 0) (xs ys : List A) → AllByRecursion P (xs ++ ys) → AllByRecursion P xs
 all_front P [] ys h = tt
 all_front P (x ∷ xs) ys h = (h.0, all_front P xs ys h.1)
 
--- and of each of the second
+-- and throughout the second
 pub all_back : {A : Type 0} (P : A → Type 0) (xs ys : List A) → AllByRecursion P (xs ++ ys) → AllByRecursion P ys
 all_back P [] ys h = h
 all_back P (x ∷ xs) ys h = all_back P xs ys h.1
@@ -32,7 +32,7 @@ pub all_reverse : {A : Type 0} (P : A → Type 0) (xs : List A) → AllByRecursi
 all_reverse P [] h = tt
 all_reverse P (x ∷ xs) h = rw (reverse-append (x ∷ []) xs) (all_append P (reverse xs) (x ∷ []) (all_reverse P xs h.1) (h.0, tt))
 
--- the list without a run at its end
+-- the list without chunks at its end
 full_front : (cs ds : List Chunk) → RunsFollowFull (cs ++ ds) → RunsFollowFull cs
 full_front [] ds h = tt
 full_front (c ∷ []) ds h = (alone c, tt)
@@ -75,7 +75,7 @@ pub chunks_split : (a b d : List Chunk) (c : Chunk) → ((a ++ b) ++ c ∷ []) +
 chunks_split a b d c = append_assoc (a ++ b) (c ∷ []) d ∙ append_assoc a b (c ∷ d)
 
 module _ (Choice : Past → RgbaPixel → Chunk → Type 0) where
-  -- nothing is written for no pixel
+  -- an empty image's list is empty
   pub written_none : WrittenBy Choice [] []
   written_none = record { chunks = tt; means = refl; allowed = tt; full = tt }
 
@@ -103,7 +103,7 @@ module _ (Choice : Past → RgbaPixel → Chunk → Type 0) where
     λ n. rw append_assoc (full_62 cs n (may 62)),
   )
 
-  -- so are as many times 62 repeats
+  -- and `m` times 62 as `m` runs
   pub full_runs : (m : ℕ) (past : Past) (q : RgbaPixel) (cs : List Chunk) → q ≡ previous past → WrittenBy Choice (reverse past) cs → RunMayFollow cs
       → WrittenBy Choice (reverse (replicate (m * 62) q ++ past)) (cs ++ replicate m (Run 62)) × RunMayFollow (cs ++ replicate m (Run 62))
   full_runs zero past q cs is w may = rw (append-nil cs) (w, may)

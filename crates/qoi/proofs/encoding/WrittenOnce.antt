@@ -1,5 +1,5 @@
--- An image has at most one written list, whatever the choice of a chunk, if the choice is of one
--- chunk.
+-- An image has at most one written list, by any choice that allows at most one chunk for each fresh
+-- pixel.
 use Rattle.std.proofs.Common.{◌≡◌, ◌⊎◌, inl, inr, ℕ, zero, suc, ◌+◌, ◌-◌, false, ◌/◌, ◌%◌, ◌<◌, ◌≤◌, List, [], ◌∷◌, ◌++◌, length, replicate, refl, sym, ap, ◌∙◌, arith, append_assoc}
 use Rattle.std.proofs.lemmas.List.{append_cancel_left, length-replicate, length-append, replicate-append-replicate}
 use Rattle.qoi.specs.declared.chunk.Chunk.{Chunk}
@@ -48,7 +48,7 @@ same_kind past p (Rgba r g b a) (Rgba x y z w) ic id rc rd l h s t =
     cc
 same_kind past p c d ic id rc rd l g s t = absurd (omega arith)
 
--- the first chunk that spells a pixel out is one
+-- the first chunk that spells a pixel out is unique
 pub first_unique : (past : Past) (p : RgbaPixel) (c d : Chunk) → IsChunk c → IsChunk d → IsFirst past p c → IsFirst past p d → c ≡ d
 first_unique past p c d ic id f g =
     same_kind past p c d ic id f.spells g.spells (f.first d id g.spells g.gives) (g.first c ic f.spells f.gives) f.gives g.gives
@@ -78,7 +78,7 @@ module _ (Choice : Past → RgbaPixel → Chunk → Type 0) where
   follows_run past (suc m) (Run n ∷ cs) more h l a r f e = absurd (omega arith)
   follows_run past (suc m) c more h l a r f e = absurd (r.0.is_fresh (same_first _ _ _ _ e))
 
-  -- so of two lists that give the same neither begins with the longer run
+  -- so a list that begins with such a run first gives just its repeats
   no_longer : (past : Past) (m k : ℕ) (cs : List Chunk) (more : List RgbaPixel) → 0 < m → m + suc k ≤ 62 → AreChunks cs
       → Each (IsAllowedAfter Choice) (then_chunk past (Run m)) cs → IsFullBefore (Run m) cs
       → given past (Run m ∷ cs) ≡ replicate (m + suc k) (previous past) ++ more → ⊥
@@ -88,7 +88,7 @@ module _ (Choice : Past → RgbaPixel → Chunk → Type 0) where
       ∙ append_assoc (replicate m (previous past)) (replicate (suc k) (previous past)) more in
       follows_run past m cs (replicate k (previous past) ++ more) h (omega arith) a r f (append_cancel_left _ _ _ s)
 
-  -- of two lists that give the same neither begins with a run longer by any length
+  -- so if two lists that give the same begin with runs, neither run is longer
   not_longer : (past : Past) (m n : ℕ) (cs ds : List Chunk) → 0 < m → n ≤ 62 → AreChunks cs → Each (IsAllowedAfter Choice) (then_chunk past (Run m)) cs
       → IsFullBefore (Run m) cs → given past (Run m ∷ cs) ≡ given past (Run n ∷ ds) → m < n → ⊥
   not_longer past m n cs ds h l a r f e less =
@@ -145,14 +145,14 @@ module _ (Choice : Past → RgbaPixel → Chunk → Type 0) where
       let s : cs ≡ ds = same_given unique (then_chunk past c) cs ds ac.1 ad.1 rc.1 r fc.1 fd.1 g in
       cc
 
-  -- an image has one written list, if the choice is of one chunk
+  -- an image has at most one written list, if the choice is unique
   pub unique_by : (unique : (past : Past) (p : RgbaPixel) (c d : Chunk) → IsChunk c → IsChunk d → Choice past p c → Choice past p d → c ≡ d)
       → (image : List RgbaPixel) (cs ds : List Chunk) → WrittenBy Choice image cs → WrittenBy Choice image ds → cs ≡ ds
   unique_by unique image cs ds w v =
       same_given unique [] cs ds w.chunks v.chunks w.allowed v.allowed w.full v.full
       (sym (meaning_given cs) ∙ w.means ∙ sym v.means ∙ meaning_given ds)
 
--- the choice of a fresh pixel's chunk is of one chunk
+-- the choice of a fresh pixel's chunk is unique
 pub choice_unique : (past : Past) (p : RgbaPixel) (c d : Chunk) → IsChunk c → IsChunk d → IsChoice past p c → IsChoice past p d → c ≡ d
 choice_unique past p c d ic id f g =
     elim (cases_pixel (noted past (hash p)) p) as (λ _. c ≡ d) [

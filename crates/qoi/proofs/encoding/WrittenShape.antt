@@ -1,5 +1,5 @@
--- What a written list looks like: no two neighbours of one index position, pixels up to its end,
--- and its greatest length.
+-- What a written list looks like: no two neighbours name one index position, each chunk adds
+-- pixels, and its length is bounded.
 use Rattle.std.proofs.Common.{◌≡◌, inl, inr, ℕ, ◌+◌, ◌*◌, ◌<◌, ◌≤◌, List, [], ◌∷◌, ◌++◌, length, reverse, refl, sym, ap, ◌∙◌, eqb, add-mul, arith}
 use Rattle.std.proofs.lemmas.List.{reverse-reverse, length-append, length-replicate}
 use Rattle.std.proofs.lemmas.Bool.{cond_both}
@@ -12,7 +12,7 @@ use Rattle.qoi.proofs.format.SamePixels.{cases_pixel, same_pixel}
 use Rattle.qoi.proofs.format.ChunkSteps.{times_some, then_chunks_given, length-then_chunks, given, meaning_given, each_back}
 use Rattle.qoi.proofs.encoding.WrittenGrows.{all_back, all_reverse}
 
--- an index position holds the same after its pixel
+-- an index position holds the same after being named
 pub seen_again : (past : Past) (i : ℕ) → seen (seen past i ∷ past) i ≡ seen past i
 seen_again past i = cond_both (eqb (hash (seen past i)) i) (seen past i) (seen past i) (λ x. x ≡ seen past i) (λ _. refl) (λ _. refl)
 
@@ -60,7 +60,7 @@ channels_before channels past cs (inr (e, h)) = inr (e, opaque_before past cs h)
 
 module _ (Choice : Past → RgbaPixel → Chunk → Type 0) (rgba_first : (past : Past) (r g b a : ℕ) → Choice past (pixel_after past (Rgba r g b a)) (Rgba r g b a)
     → IsFirst past (pixel_after past (Rgba r g b a)) (Rgba r g b a)) where
-  -- a chunk has at most a byte more than its pixels' raw bytes, for each of them
+  -- a chunk has at most a byte a pixel more than its pixels' raw bytes
   pub chunk_fits : (channels : ℕ) (past : Past) (c : Chunk) → IsChunk c → HasChannels (then_chunk past c) channels → IsAllowedAfter Choice past c
       → length (bytes_of c) ≤ times c * channels + times c
   chunk_fits channels past (Place i) k h r = omega arith

@@ -20,6 +20,6 @@ are_chunks_append (c ∷ cs) ds are all = (are.0, are_chunks_append cs ds are.1 
 pub chunk_bytes-last : (cs : List Chunk) (c : Chunk) → chunk_bytes (cs ++ c ∷ []) ≡ chunk_bytes cs ++ bytes_of c
 chunk_bytes-last cs c = flat_map-append bytes_of cs (c ∷ []) ∙ ap (λ z. chunk_bytes cs ++ z) (append-nil (bytes_of c))
 
--- as many pixels are meant as stand after the chunks
+-- `meaning` has as many pixels as `then_chunks`
 pub length-meaning : (cs : List Chunk) → length (meaning cs) ≡ length (then_chunks [] cs)
 length-meaning cs = length-reverse (then_chunks [] cs)

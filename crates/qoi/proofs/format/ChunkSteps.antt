@@ -19,13 +19,13 @@ pub times_other : (c : Chunk) → is_run c ≡ false → times c ≡ 1
 times_other (Run n) h = absurd (true≢false h)
 times_other c h = refl
 
--- a chunk other than a run gives a fresh pixel
+-- an allowed chunk other than a run gives a fresh pixel
 pub right_other : (Choice : Past → RgbaPixel → Chunk → Type 0) (past : Past) (c : Chunk) → is_run c ≡ false → IsAllowedAfter Choice past c
     → GivesFresh Choice past c
 right_other Choice past (Run n) h r = absurd (true≢false h)
 right_other Choice past c h r = r
 
--- and it is right if it does
+-- and a chunk that does is allowed
 pub right_from : (Choice : Past → RgbaPixel → Chunk → Type 0) (past : Past) (c : Chunk) → GivesFresh Choice past c → IsAllowedAfter Choice past c
 right_from Choice past (Run n) g = tt
 right_from Choice past c g = g
@@ -79,7 +79,7 @@ then_chunks_given past (c ∷ cs) =
 pub meaning_given : (cs : List Chunk) → meaning cs ≡ given [] cs
 meaning_given cs = ap reverse (then_chunks_given [] cs) ∙ simp (append-nil, reverse-reverse)
 
--- there are as many pixels as are given
+-- there are as many pixels as are given, and those before
 pub length-then_chunks : (past : Past) (cs : List Chunk) → length (then_chunks past cs) ≡ length (given past cs) + length past
 length-then_chunks past cs = rw (then_chunks_given past cs) (simp (length-append, length-reverse))
 
@@ -88,12 +88,12 @@ pub then_chunks-append : (past : Past) (cs ds : List Chunk) → then_chunks past
 then_chunks-append past [] ds = refl
 then_chunks-append past (c ∷ cs) ds = then_chunks-append (then_chunk past c) cs ds
 
--- what holds of each chunk of two lists holds of each of both
+-- what holds of each chunk of two lists holds in the joined list
 pub each_append : (P : Past → Chunk → Type 0) (past : Past) (cs ds : List Chunk) → Each P past cs → Each P (then_chunks past cs) ds → Each P past (cs ++ ds)
 each_append P past [] ds h k = k
 each_append P past (c ∷ cs) ds h k = (h.0, each_append P (then_chunk past c) cs ds h.1 k)
 
--- and of each of the second list
+-- and back, for the second list
 pub each_back : (P : Past → Chunk → Type 0) (past : Past) (cs ds : List Chunk) → Each P past (cs ++ ds) → Each P (then_chunks past cs) ds
 each_back P past [] ds h = h
 each_back P past (c ∷ cs) ds h = each_back P (then_chunk past c) cs ds h.1

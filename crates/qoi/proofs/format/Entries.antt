@@ -3,8 +3,7 @@ use Rattle.std.proofs.Common.{◌≡◌, ℕ, zero, suc, ◌+◌, ◌-◌, ◌<�
 use Rattle.std.proofs.lemmas.Bool.{and_parts}
 use Rattle.std.proofs.lemmas.List.{length-take-le, get_or-take, get_or-drop}
 
--- each entry passes a test of a number and the entry, if the first has the number i, and the next
--- one more
+-- each entry passes a test of its number and itself; the numbers go up by one from i
 abbrev pub pass : (ℕ → ℕ → Bool) → ℕ → List ℕ → Bool
 pass test i [] = true
 pass test i (x ∷ xs) = test i x && pass test (i + 1) xs
@@ -17,8 +16,8 @@ pass_at test i (suc k) (x ∷ xs) all inside =
     let e : i + suc k ≡ i + 1 + k = omega arith in
     rw e (pass_at test (i + 1) k xs ((and_parts (test i x) (pass test (i + 1) xs) all).1) (omega arith))
 
--- Of a table that begins at some index, the entries by a byte from one on pass a test of the byte
--- and the entry; so does each of them.
+-- In a table from `begin` on, if the entries of the n bytes from `from` on pass a test of byte and
+-- entry, so does b's, one of these.
 pub entry : (table : List ℕ) (test : ℕ → ℕ → Bool) (begin from n b i : ℕ) → i ≡ begin + b → pass test from (take n (drop (begin + from) table)) ≡ true → from ≤ b → b < from + n
     → begin + from + n ≤ length table → test b (get_or table i 0) ≡ true
 entry table test begin from n b i is all low high within =

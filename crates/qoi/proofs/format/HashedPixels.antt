@@ -15,7 +15,7 @@ mask_blocks a b g r la lb lg lr =
     ∙ ap (λ z. (z * 2 ^ 16 + bit_and g 0xff) * 2 ^ 16 + bit_and r 0xff) (and_block 16 a 0xffff b 0xff lb (omega arith))
     ∙ omega (arith, la, and_mask a 16, and_mask b 8, and_mask g 8, and_mask r 8)
 
--- the mask takes what stands above red, green and blue away
+-- the mask takes away what stands above red, green and blue
 masked : (s : ℕ) → s < 2 ^ 64 → bit_and s lane_mask ≡ lanes (s % 2 ^ 8) (s / 2 ^ 16 % 2 ^ 8) (s / 2 ^ 32 % 2 ^ 8) + s / 2 ^ 48 * 2 ^ 48
 masked s l =
     ap (λ z. bit_and z lane_mask) split

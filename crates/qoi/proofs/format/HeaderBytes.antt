@@ -39,7 +39,7 @@ colorspace_from n s e = grind (arith)
 pub length-head : (h : Header) → length (header_bytes h) ≡ 14
 length-head h = refl
 
--- what bytes say that begin with a header
+-- what bytes that begin with a header say
 record SaysHeader (bytes : List ℕ) (h : Header) : Type 0 where
   pub long : 14 ≤ length bytes
   pub channels : channels_of (slice_index bytes 12) ≡ Ok h.channels
@@ -96,7 +96,7 @@ guard_false : {A E : Type 0} (b : Bool) (r : Result A E) (refusal : E) (x : A) �
 guard_false true r refusal x e = absurd cc
 guard_false false r refusal x e = (refl, e)
 
--- what bytes say beside their length, if their channels and color space are read
+-- what bytes say besides their length, if their channels and color space are read
 record SaysRest (bytes : List ℕ) (c : Channels) (s : ColorSpace) (h : Header) : Type 0 where
   pub magic : number_at bytes 0 ≡ magic_number
   pub is_header : record { width = number_at bytes 4; height = number_at bytes 8; channels = c; colorspace = s } ≡ h
@@ -186,7 +186,7 @@ stream_header old new bytes (Ok h) size came e own = (bytes, came, size, sym e, 
 stream_header old new bytes (Err (IoError i)) size came e own = absurd (grind (arith, e))
 stream_header old new bytes (Err x) size came e own = (bytes, came, (size, sym e))
 
--- a number at the front of bytes doesn't change by what follows
+-- a number at the front of bytes isn't changed by what follows
 number_at-append : (bytes rest : List ℕ) (i : ℕ) → i + 4 ≤ length bytes → number_at (bytes ++ rest) i ≡ number_at bytes i
 number_at-append bytes rest i h =
     ap (λ z. from_be_bytes w32 (take 4 z)) (drop-append-le i bytes rest (omega arith))

@@ -64,7 +64,7 @@ first_clear (suc k) (x ∷ xs) (y ∷ ys) n l h =
     clear_step k (eqb x y) (mask_l (zip2 eqb xs ys)) n (common_prefix_len eqb xs ys)
     (omega (arith, mask_l-lt (zip2 eqb xs ys), pow_mono few)) h (first_clear k xs ys (n / 2) few)
 
--- as many are the same, and no more
+-- the first n are the same, and no more
 record IsPrefix (xs ys : List ℕ) (n : ℕ) : Type 0 where
   within : n ≤ length xs
   same : (k : ℕ) → k < n → slice_index xs k ≡ slice_index ys k
@@ -105,7 +105,7 @@ agreeing_run xs ys bits at e g l h =
     let few : length (zip2 eqb (drop at xs) (drop at ys)) ≤ 64 = omega (arith, length-zip2 eqb (drop at xs) (drop at ys) d, length-drop at xs) in
     run_of xs ys at _ e g l (first_clear 64 (drop at xs) (drop at ys) _ few (omega arith))
 
--- if no bit is set each lane is a group of none
+-- if no bit is set, the vectors agree in no lane
 pub none_agree : (xs ys : List ℕ) → length xs ≡ length ys → mask_l (zip2 eqb xs ys) ≡ 0 → (k : ℕ) → k < length xs → slice_index xs k ≢ slice_index ys k
 none_agree [] ys e m = λ k l. absurd (omega arith)
 none_agree (x ∷ xs) [] e m = λ k l. absurd (omega arith)

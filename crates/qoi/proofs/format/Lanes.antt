@@ -29,7 +29,7 @@ parted (suc n) (x ∷ xs) (y ∷ ys) l m =
     doubled : (n m : ℕ) → 2 ^ suc n * m ≡ 2 * (2 ^ n * m)
     doubled n m = rw (pow-suc 2 n) (omega arith)
 
--- beside no bytes there are none
+-- beside `[]` no bits are set
 pub none_beside : (xs : List ℕ) → same_bits xs [] ≡ 0
 none_beside [] = refl
 none_beside (x ∷ xs) = refl

@@ -11,7 +11,7 @@ use Rattle.qoi.proofs.format.ChunksApart.{chunks_apart, part_begins_none}
 abbrev pub StayBelowAfter : ℕ → Past → List Chunk → Type 0
 StayBelowAfter n past cs = Each (λ q c. length q < n) past cs
 
--- reading chunks ends here: n pixels are reached, or the bytes end within a chunk
+-- reading chunks ends here: n pixels are reached, or no whole chunk is left
 abbrev pub EndsChunks : ℕ → Past → List ℕ → Type 0
 EndsChunks n past rest = (n ≤ length past) ⊎ ((length past < n) × IsPartOfChunk rest)
 
@@ -49,7 +49,7 @@ one_takes : (n : ℕ) (bytes : List ℕ) (cs ds : List Chunk) (x y : List ℕ) �
 one_takes n bytes cs ds x y s t ec ed =
     one_takes_after n [] cs ds x y s.chunks t.chunks s.stays_below t.stays_below ec ed (sym s.split ∙ t.split)
 
--- reading of cut bytes ends where they end
+-- reading of cut bytes ends after their chunks
 cut_ends : (n : ℕ) (bytes : List ℕ) (cs : List Chunk) (x : List ℕ) → IsCut n bytes cs x → EndsChunks n (then_chunks [] cs) x
 cut_ends n bytes cs x h = ends n cs x h.ends
   where
@@ -75,18 +75,18 @@ same_front (a ∷ as1) (b ∷ bs) x y h e =
     let more = same_front as1 bs x y (omega arith) cc in
     (cc, more.1)
 
--- bytes are whole in one way
+-- bytes are whole in one way only
 pub whole_is_one : (n : ℕ) (bytes : List ℕ) (cs ds : List Chunk) (x y : List ℕ) → IsWhole n bytes cs x → IsWhole n bytes ds y → (cs ≡ ds) × (x ≡ y)
 whole_is_one n bytes cs ds x y s t =
     let both = one_takes n bytes cs ds (end_marker ++ x) (end_marker ++ y) s.has t.has (enough_ends n cs (end_marker ++ x) s.enough)
     (enough_ends n ds (end_marker ++ y) t.enough) in
     (both.0, append_cancel_left end_marker x y both.1)
 
--- bytes are cut in one way
+-- bytes are cut in one way only
 pub cut_is_one : (n : ℕ) (bytes : List ℕ) (cs ds : List Chunk) (x y : List ℕ) → IsCut n bytes cs x → IsCut n bytes ds y → (cs ≡ ds) × (x ≡ y)
 cut_is_one n bytes cs ds x y s t = one_takes n bytes cs ds x y s.has t.has (cut_ends n bytes cs x s) (cut_ends n bytes ds y t)
 
--- bytes are wrong in one way
+-- bytes are wrong in one way only
 pub wrong_is_one : (n : ℕ) (bytes : List ℕ) (cs ds : List Chunk) (eight other x y : List ℕ)
     → IsWrong n bytes cs eight x → IsWrong n bytes ds other y → (cs ≡ ds) × (eight ≡ other) × (x ≡ y)
 wrong_is_one n bytes cs ds eight other x y s t =

@@ -9,7 +9,7 @@ pub byte_and : (b : ℕ) (more : List ℕ) → b < 256 → AreBytes more → Are
 byte_and b more fits h zero = fits
 byte_and b more fits h (suc i) = h i
 
--- no byte begins any chunk
+-- `[]` begins any chunk
 pub part_empty : (bytes : List ℕ) → length bytes < 1 → IsPartOfChunk bytes
 part_empty [] h = (Place 0, 0, [], omega arith, refl)
 part_empty (b ∷ bytes) h = absurd (omega arith)

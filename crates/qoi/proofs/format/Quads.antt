@@ -72,7 +72,7 @@ lanes_of_bytes (suc n) (a ∷ b ∷ c ∷ d ∷ bs) e f =
     ∙ ap (λ ws. of_four a b c d ∷ ws) (lanes_of_bytes n bs (omega arith) f.1.1.1.1)
 lanes_of_bytes (suc n) _ e f = absurd (omega arith)
 
--- what is added to each byte of y for that of x
+-- what is added to byte b to get byte a
 abbrev less : ℕ → ℕ → ℕ
 less a b = (a + (256 - b)) % 256
 
@@ -102,7 +102,7 @@ steps_lanes xs ys e g f h =
     (Each1-zip2 less (λ b. b < 256) (bytes_in xs) (bytes_in ys) (Each2-all (λ a b. less a b < 256) (λ a b. omega arith) (bytes_in xs) (bytes_in ys)))
     ∙ stepped_words xs ys (e ∙ sym g)
 
--- bytes of lanes beside others, as lanes again
+-- lanes' bytes combined with others, as lanes again
 through : (f : ℕ → ℕ → ℕ) (xs bs : List ℕ) → length xs ≡ 4 → length bs ≡ 16 → Each1 (Fits w32) xs → ((a b : ℕ) → f a b < 256)
     → digits_l 4294967296 4 (number_l 256 (zip2 f (digits_l 256 16 (number_l 4294967296 xs)) bs)) ≡ words_in (zip2 f (bytes_in xs) bs)
 through f xs bs e g fit small =

@@ -55,12 +55,12 @@ some_luma-true q p h =
     let l = w.1 in
     (128 + w.0, v.0, (omega arith, omega arith, v.1), pixel_eq-true _ p v.2)
 
--- an Rgb that gives the pixel shows that alpha stays
+-- if alpha stays, some Rgb gives the pixel
 pub some_rgb-from : (q p : RgbaPixel) → p.a ≡ q.a → some_rgb q p ≡ true
 unfolding some_rgb
 some_rgb-from q p e = eq-eqb p.a q.a e
 
--- if alpha stays some Rgb gives the pixel
+-- if some Rgb gives the pixel, alpha stays
 pub some_rgb-true : (q p : RgbaPixel) → some_rgb q p ≡ true → p.a ≡ q.a
 unfolding some_rgb
 some_rgb-true q p h = eqb-true p.a q.a h
@@ -159,7 +159,7 @@ repeats_run past (suc n) =
     let h = repeats_run past n in
     omega arith
 
--- one more of a group costs a byte at each 62nd
+-- one repeat more costs a byte if it begins a run
 group_more : (k : ℕ) → cond (eqb (k % 62) 0) 1 0 + (k + 61) / 62 ≡ (suc k + 61) / 62
 group_more k = cond_both (eqb (k % 62) 0) 1 0 (λ x. x + (k + 61) / 62 ≡ (suc k + 61) / 62)
     (λ e. let h : k % 62 ≡ 0 = eqb-true (k % 62) 0 e in omega arith)

@@ -53,7 +53,7 @@ module _ (shortest : Past → RgbaPixel → ℕ) (Allowed : Past → Chunk → T
           rw e (omega arith)
       go (inr o) = let h = cost_other past c k a o in rw (then_other past c o) (omega arith)
 
-  -- nor than chunks
+  -- so for chunks
   cost_chunks : (past : Past) (cs : List Chunk) → AreChunks cs → Each Allowed past cs
       → total_cost shortest (then_chunks past cs) ≤ total_cost shortest past + length (chunk_bytes cs)
   cost_chunks past [] k a = omega arith
@@ -63,8 +63,7 @@ module _ (shortest : Past → RgbaPixel → ℕ) (Allowed : Past → Chunk → T
       let t : length (chunk_bytes (c ∷ cs)) ≡ length (bytes_of c) + length (chunk_bytes cs) = length-append (bytes_of c) (chunk_bytes cs) in
       omega arith
 
-  -- so a chunk list that is allowed has no fewer bytes than the pixels of an image that it begins
-  -- with cost
+  -- so the pixels of an image cost no more than an allowed chunk list that begins with it
   pub lower_by : (image : List RgbaPixel) (cs : List Chunk) → AreChunks cs → Each Allowed [] cs → Begins (meaning cs) image
       → total_cost shortest (reverse image) ≤ length (chunk_bytes cs)
   lower_by image cs k a (more, b) =

@@ -21,7 +21,7 @@ place_named past i w = elim (cases_pixel (noted past (hash (seen past i))) (seen
   | inr n ↦ let s = (w.spelled n).spells in absurd (omega arith)
 ]
 
--- a chunk that is right names an index position that was written
+-- an index position that an allowed chunk names is its pixel's
 right_named : (past : Past) (c : Chunk) → IsAllowedAfter IsChoice past c → NamesPixelThere past c
 right_named past (Place i) r = place_named past i r.is_chosen
 right_named past c r = tt
@@ -43,7 +43,7 @@ seen_blank_or (p ∷ past) i = elim (cases_eq (hash p) i) as (λ _. (seen (p ∷
   | inr n ↦ rw (seen_other past p i n) (seen_blank_or past i)
 ]
 
--- what holds of each of a list holds of each of an end that is no longer
+-- what holds throughout an end of a list holds throughout any end not longer than it
 suffix_all : {A : Type 0} (P : A → Type 0) (xs ys us vs : List A) → xs ++ ys ≡ us ++ vs → length ys ≤ length vs → AllByRecursion P vs → AllByRecursion P ys
 suffix_all P xs ys [] vs e l h = all_back P xs ys (rw (← e) at h)
 suffix_all P [] ys (u ∷ us) vs e l h =
@@ -54,7 +54,7 @@ suffix_all P (x ∷ xs) ys (u ∷ us) vs e l h = suffix_all P xs ys us vs (rest 
     rest : {A : Type 0} (x u : A) (vs ws : List A) → x ∷ vs ≡ u ∷ ws → vs ≡ ws
     rest x u vs ws e = cc
 
--- an index position that is named before the end of an image without transparent black was written
+-- an index position named within an image without transparent black holds a pixel of that position
 named_within : (past : Past) (c : Chunk) (cs : List Chunk) (us vs : List RgbaPixel) → then_chunks (then_chunk past c) cs ≡ us ++ vs → length past < length vs
     → AllByRecursion (λ p. p ≢ blank) vs → NamesPixelThere past c
 named_within past (Place i) cs us vs e l h =
@@ -66,7 +66,7 @@ named_within past (Place i) cs us vs e l h =
     ]
 named_within past c cs us vs e l h = tt
 
--- so are all that chunks name
+-- so do all that chunks name
 all_named : (past : Past) (cs : List Chunk) (us vs : List RgbaPixel) → then_chunks past cs ≡ us ++ vs → Each (λ past c. length past < length vs) past cs
     → AllByRecursion (λ p. p ≢ blank) vs → Each NamesPixelThere past cs
 all_named past [] us vs e l h = tt

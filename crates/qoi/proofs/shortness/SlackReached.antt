@@ -14,7 +14,7 @@ red_differs p q n e = n (ap (λ x. x.r) e)
 alpha_differs : (p q : RgbaPixel) → p.a ≢ q.a → p ≢ q
 alpha_differs p q n e = n (ap (λ x. x.a) e)
 
--- an Rgb gives a fresh pixel if red changes, the pixel isn't noted, and red and green are far
+-- an Rgb gives a fresh pixel if alpha stays, it isn't noted, and red and green move far
 pub fresh_rgb : (past : Past) (p : RgbaPixel) → IsPixel (previous past) → IsPixel p → p.a ≡ (previous past).a → p.r ≢ (previous past).r
     → noted past (hash p) ≢ p → (let s = diff_steps (steps (previous past) p) in s.r % 4 ≢ s.r) → (let s = luma_steps (steps (previous past) p) in s.g % 64 ≢ s.g)
     → GivesFresh IsChoice past (Rgb p.r p.g p.b)

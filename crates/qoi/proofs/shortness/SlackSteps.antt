@@ -75,7 +75,7 @@ record Differs (past : Past) (i : ℕ) : Type 0 where
   pub nothing : first_at past ≡ None
   pub last : seen past i ≡ start
 
--- a repeat leaves the first fresh pixel
+-- a repeat keeps the first fresh pixel
 first_at-repeat : (past : Past) (p : RgbaPixel) → p ≡ previous past → first_at (p ∷ past) ≡ first_at past
 first_at-repeat past p e = ap (λ x. find (λ p. eqb (hash p) (hash start)) (reverse x)) (fresh_repeat past p e)
 

@@ -21,7 +21,7 @@ least0_low : (past : Past) (p : RgbaPixel) → 1 ≤ least0 past p
 unfolding least0
 least0_low past p = cond_both (pixel_eq p blank && is_some (least_unseen past)) 1 (least past p) (λ x. 1 ≤ x) (λ _. omega arith) (λ _. least_low past p)
 
--- and no more than if each position that is named was written
+-- and no more than in a regular list
 least0_high : (past : Past) (p : RgbaPixel) → least0 past p ≤ least past p
 unfolding least0
 least0_high past p = cond_both (pixel_eq p blank && is_some (least_unseen past)) 1 (least past p) (λ x. x ≤ least past p) (λ _. least_low past p)
@@ -32,7 +32,7 @@ least0_unseen : (past : Past) (p : RgbaPixel) → p ≡ blank → is_some (least
 unfolding least0
 least0_unseen past p b u = cond-true (pixel_eq p blank && is_some (least_unseen past)) 1 (least past p) (and_from _ _ (pixel_eq-from p blank b) u)
 
--- else a pixel costs as much as there
+-- else a pixel costs its `least`
 least0_same : (past : Past) (p : RgbaPixel) → (p ≡ blank → least_unseen past ≡ None) → least0 past p ≡ least past p
 unfolding least0
 least0_same past p other = go (cases_pixel p blank)

@@ -88,7 +88,7 @@ module _ (shortest : Past → RgbaPixel → ℕ) (Choice : Past → RgbaPixel �
     (extra_more : (past : Past) (p : RgbaPixel) → extra past ≤ extra (p ∷ past)) (channels : ℕ)
     (fresh_fits : (past : Past) (c : Chunk) → IsChunk c → HasChannels (then_chunk past c) channels → is_run c ≡ false → GivesFresh Choice past c
     → IsAllowedAfter Choice past c → length (bytes_of c) + extra past ≤ shortest past (pixel_after past c) + extra (pixel_after past c ∷ past)) where
-  -- what is extra only grows in a run
+  -- what is extra never falls in a run
   extra_run : (past : Past) (p : RgbaPixel) (k : ℕ) → extra past ≤ extra (replicate k p ++ past)
   extra_run past p zero = omega arith
   extra_run past p (suc k) =

@@ -1,4 +1,4 @@
--- What the library refuses is what the file is refused for.
+-- The file is refused for the library's reason.
 use Rattle.std.proofs.Common.{List, ℕ, sym, subst, inl, inr, ⊎_elim}
 use Rattle.std.proofs.lemmas.Result.{err_from_is_err_and}
 use Rattle.std.proofs.KnownBytes.{Keeps-refl}

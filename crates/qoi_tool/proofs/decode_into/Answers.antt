@@ -1,4 +1,4 @@
--- What the decoder refuses is what the file is refused for.
+-- The file is refused for the decoder's reason.
 use Rattle.std.proofs.Common.{◌≡◌, refl, ℕ, List, drop, Ok, sym, ap, ◌∙◌, subst, inl, inr, ⊎_elim}
 use Rattle.std.proofs.lemmas.Result.{err_from_is_err_and}
 use Rattle.std.proofs.KnownBytes.{Keeps-refl}
@@ -47,7 +47,7 @@ returns-in_err-pixels-clause-refused g c =
     ))
     c.in_err-pixels.ensures.refused)
 
--- the image that was decoded after a header is what these channels' answer has
+-- the image decoded after a header is the answer for these channels
 answer_of : (input : List ℕ) (channels : Channels) (d chosen : DecoderState (List ℕ)) (bytes rest out : List ℕ) → bytes ≡ input
     → header_of bytes ≡ Ok d.header → d.reader ≡ drop header_size bytes → chosen ≡ record d { channels = channels }
     → IsImage chosen.channels chosen.reader chosen.header rest out → Writes (DecodeInto channels) input out

@@ -14,7 +14,7 @@ use Rattle.qoi.proofs.decoding.FrontImage.{file_image_is}
 use Rattle.qoi.proofs.decode.decode_to_buf.Goals.{In_ok-decoder}
 use Rattle.qoi.proofs.decode.decode_to_buf.Goals as goal
 
--- by the header of the bytes the decoder's header is known, and how much room the image needs
+-- the header of the bytes tells the decoder's header, and how much room the image needs
 known : (c : In_ok-decoder) (h : Header) → header_of c.args.data.now ≡ Ok h
     → (h ≡ c.in_ok-decoder.decoder.header) × (image_byte_count h ≡ output_byte_count c.in_ok-decoder.decoder)
 known c h read =

@@ -1,4 +1,4 @@
--- A file is decoded as such, and what the decoder refuses is what the file is refused for.
+-- A file is decoded as such; a refusal is the decoder's.
 use Rattle.std.proofs.Common.{Ok, ◌≡◌, length, [], append-nil, ℕ, List, drop, Some, refl, ap, sym, ◌∙◌, subst, inl, inr, ⊎_elim, arith}
 use Rattle.qoi.specs.declared.header.Header.{Header}
 use Rattle.std.proofs.lemmas.Result.{err_from_is_err_and}

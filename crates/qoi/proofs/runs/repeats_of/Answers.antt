@@ -1,4 +1,4 @@
--- A block more repeats, or the count ends in it; and what is counted after the last block.
+-- One more block repeats, or the count ends in it; and what is counted after the last block.
 use Rattle.std.proofs.Common.{◌≡◌, ◌+◌, sym, subst, arith}
 use Rattle.qoi.proofs.encoding.GroupRuns.{RepeatsSoFar, repeats_block, counted_on}
 use Rattle.qoi.proofs.runs.repeats_of.Goals as goal

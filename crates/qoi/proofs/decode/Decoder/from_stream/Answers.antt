@@ -1,4 +1,4 @@
--- The image of a file stands ahead, once the header was read.
+-- The image of a file stands ahead, once the header is read.
 use Rattle.std.proofs.Common.{drop, ◌++◌, [], append-nil, refl, sym}
 use Rattle.qoi.specs.Qoi.{header_size}
 use Rattle.qoi.proofs.decoding.Ahead.{decoder_of, header_front, header_read_from, image_ahead, file_ahead}

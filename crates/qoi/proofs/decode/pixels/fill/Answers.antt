@@ -1,4 +1,4 @@
--- The copies are written, and if not all have room, those that have fill the buffer.
+-- The copies are written; if there isn't room for all, the buffer becomes full.
 use Rattle.std.proofs.Common.{◌<◌, ◌≤◌, length, arith}
 use Rattle.qoi.specs.inner.Hashed.{pixel_of_lanes}
 use Rattle.qoi.proofs.decoding.FilledBuffer.{filled_copies, filled_end, block_fits, run_fits, copies_fit, copies_end}

@@ -1,4 +1,4 @@
--- So many copies are written.
+-- `done` copies are written.
 use Rattle.std.proofs.Common.{◌+◌, ◌-◌, ◌*◌, ◌≤◌, replicate}
 use Rattle.qoi.specs.inner.Filling.{upto, HasWritten}
 use Rattle.qoi.specs.inner.Hashed.{pixel_of_lanes}

@@ -1,4 +1,4 @@
--- Chunks are taken until there is no room for any run, and then until the buffer is full.
+-- Chunks are taken while there is room for any run, and then until the buffer is full.
 use Rattle.std.proofs.Common.{refl}
 use Rattle.std.specs.Io.KnownBytes.{Consumes}
 use Rattle.std.proofs.KnownBytes.{Consumes-nil}

@@ -1,4 +1,4 @@
--- Eight other bytes than the end marker were taken.
+-- Eight bytes other than the end marker were taken.
 use Rattle.std.proofs.Common.{rules}
 use Rattle.qoi.proofs.decode.stream.stream_marker.Goals as goal
 

@@ -1,4 +1,4 @@
--- The vector is the file, and there is one.
+-- The vector is the one file of the image.
 use Rattle.std.proofs.Common.{length, take, drop, sym, ap, ◌∙◌, subst, arith}
 use Rattle.std.proofs.lemmas.List.{take_at}
 use Rattle.qoi.specs.Encoded.{IsFileOf}

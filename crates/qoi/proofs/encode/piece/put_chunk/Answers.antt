@@ -1,4 +1,4 @@
--- The bytes are put one after the other.
+-- Four bytes are put, then perhaps a fifth.
 use Rattle.std.proofs.Common.{arith, ap, ◌∙◌, ◌+◌, take}
 use Rattle.qoi.proofs.format.LaneBytes.{four_put, five_put}
 use Rattle.qoi.proofs.encode.piece.put_chunk.Goals as goal

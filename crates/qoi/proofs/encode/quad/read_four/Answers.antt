@@ -1,4 +1,4 @@
--- The bytes are lanes of four.
+-- The bytes become four lanes.
 use Rattle.std.proofs.Common.{arith}
 use Rattle.qoi.proofs.format.Quads.{four_of_4, four_of_3}
 use Rattle.qoi.proofs.encode.quad.read_four.Goals as goal

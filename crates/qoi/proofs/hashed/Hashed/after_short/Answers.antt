@@ -50,7 +50,7 @@ run_sum c low =
     let m = c.masked.ensures.none (c.second.ensures.after low) in
     moved_by c 0 0 0 0 (omega (arith, low)) (omega arith) (omega arith) (omega arith) (omega arith) (omega (arith, d, n, m))
 
--- an index position adds what it holds to nothing
+-- for an index position the sum is what it holds
 place_sum : (c : goal.After-added) → c.args.b1 < 64 → total c ≡ c.held.inside.0
 place_sum c high =
     let d = c.added.ensures.place high in

@@ -1,4 +1,4 @@
--- Those that a search doesn't compute.
+-- Examples that a search doesn't compute.
 use Rattle.std.proofs.Common.{arith, refl}
 use Rattle.qoi.specs.Qoi.{blank, hash}
 use Rattle.qoi.proofs.laws.examples.chunk_examples.Goals as goal

@@ -10,7 +10,7 @@ use Rattle.qoi.proofs.laws.examples.verdict_examples.Goals as goal
 zeros : replicate 8 0 ≢ end_marker
 zeros e = let last : 0 ≡ 1 = ap (λ bytes. slice_index bytes 7) e in absurd (omega (arith, last))
 
--- no byte is cut before the first pixel
+-- `[]` is cut before the first pixel
 nothing : IsCut 1 [] [] []
 nothing = record {
   has = record { chunks = tt; stays_below = tt; split = refl };

@@ -1,4 +1,4 @@
--- A pixel is put at its own index position, or what is held there again.
+-- A pixel is put at its own index position, or again what it held.
 use Rattle.std.proofs.Common.{◌≡◌, true, sym, subst, arith, ◌∙◌, refl}
 use Rattle.qoi.specs.inner.Table.{Holds}
 use Rattle.qoi.proofs.format.TableHolds.{holds_put}

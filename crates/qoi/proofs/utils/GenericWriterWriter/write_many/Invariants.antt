@@ -1,4 +1,4 @@
--- All but the rest of the bytes is written.
+-- All the bytes but the rest are written.
 use Rattle.std.proofs.Common.{length}
 use Rattle.qoi.specs.writers.Writes.{WroteBut}
 use Rattle.qoi.specs.writers.GenericWriter.{StreamWrote}

@@ -4,7 +4,7 @@ use Rattle.std.specs.Fmt.{decimal}
 use Rattle.std.proofs.lemmas.Fmt.{decimal_step, decimal_digit, decimal_nonempty, length-decimal-le}
 use Rattle.qoi_tool.proofs.line.Line.put_number.Goals as goal
 
--- at most nine digits were put before a digit that is still to be put
+-- while a digit is still to come, at most nine have been put
 room_left : (rest n s i : ℕ) (bytes before : List ℕ) → rest < 2 ^ 32 → n < 2 ^ 32 → length bytes ≡ length before → s ≤ length bytes
     → i ≤ length before → decimal rest ++ drop s bytes ≡ decimal n ++ drop i before → i + 1 ≤ s + 10
 room_left rest n s i bytes before small fits same within before_within text =

@@ -1,4 +1,4 @@
--- The chunk's pixel has its own channels, but for the alpha of an RGB chunk.
+-- The pixel has the chunk's channels, except alpha for an RGB chunk.
 use Rattle.std.proofs.Common.{◌≡◌, ◌+◌, ◌-◌, ◌≤◌, inl, inr, take, drop, length, get_or, arith, sym, ap, ◌∙◌}
 use Rattle.std.proofs.lemmas.Bool.{cases_lt}
 use Rattle.std.proofs.lemmas.Bool.Decides.{nat_tests}

@@ -1,4 +1,4 @@
--- A turn further.
+-- One iteration further.
 use Rattle.std.proofs.Common.{◌≡◌, ◌-◌, ◌*◌, ◌%◌, length, drop, sym, ap, ◌∙◌, arith, subst}
 use Rattle.std.proofs.lemmas.List.{length-drop}
 use Rattle.qoi.specs.inner.CoderLoop.{BytesBetween}

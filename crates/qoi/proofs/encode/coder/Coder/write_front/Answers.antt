@@ -1,4 +1,4 @@
--- The repeats at the front, or four pixels of which one is fresh.
+-- The repeats at the front, or four pixels, not all of which repeat.
 use Rattle.std.proofs.Common.{◌≡◌, ◌/◌, ◌^◌, length, sym, ap, ◌∙◌, arith, subst}
 use Rattle.qoi.specs.Raw.{pixels_of}
 use Rattle.qoi.specs.inner.CoderLoop.{CoderBetween}

@@ -1,4 +1,4 @@
--- One byte is a run.
+-- One byte at most.
 use Rattle.std.proofs.Common.{◌+◌, ◌<◌, ◌∙◌, take, set, arith, length}
 use Rattle.qoi.proofs.encoding.RunBytes.{run_written}
 use Rattle.qoi.proofs.encode.piece.Piece.keep_run.Goals as goal

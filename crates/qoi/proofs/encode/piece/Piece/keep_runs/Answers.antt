@@ -1,4 +1,4 @@
--- Sixteen full runs are stored, and the rest after as many as there are.
+-- Sixteen full runs are stored; those in `count` are kept, and then the rest.
 use Rattle.std.proofs.Common.{arith}
 use Rattle.qoi.proofs.encoding.RunBytes.{runs_written}
 use Rattle.qoi.proofs.encode.piece.Piece.keep_runs.Goals as goal
