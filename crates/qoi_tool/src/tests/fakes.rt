@@ -104,7 +104,7 @@ pub struct Sink {
 }
 
 impl Sink {
-    /// A writer that has room for a hundred bytes before it takes memory.
+    /// A writer with room for a hundred bytes before it takes more memory.
     pub fn new(alloc: Global, most: usize, bad: Bad) -> Result<Sink, AllocError> {
         Ok(Sink {
             got: Vec::with_capacity(alloc, 100)?,

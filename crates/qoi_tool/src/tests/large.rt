@@ -6,7 +6,7 @@ use qoi::{Decoder, Encoder, Result, decode_to_vec, encode_to_vec};
 use std::alloc::Global;
 use std::process::Abort;
 
-// The raw bytes of an image of `n` pixels of four channels, a thousand of each color.
+// The raw bytes of `n` pixels of four channels, in runs of a thousand of one color.
 fn raw_of(alloc: Global, n: usize) -> Result<Vec<u8>> {
     let mut raw = vec![in alloc; 0xffu8; n.saturating_mul(4)]?;
     for (k, px) in raw.chunks_exact_mut(4).enumerate() {
@@ -27,7 +27,7 @@ fn encoded(rt: &impl Abort, alloc: Global, raw: &[u8], width: u32, height: u32) 
     file
 }
 
-// The image comes back from its file, by both.
+// The image comes back from slice and stream.
 fn assert_comes_back(rt: &impl Abort, alloc: Global, file: &[u8], raw: &[u8]) {
     let found = decode_to_vec(alloc, file);
     assert!(rt; matches!(&found, Ok((_, found)) if found.as_slice() == raw));

@@ -1,4 +1,4 @@
-//! Files of about one and two pieces of the reading, from a reader that gives uneven parts.
+//! Files of about one and two mebibytes, from a reader that gives uneven parts.
 use crate::tests::dec;
 use crate::tests::fakes::{NONE, Sink};
 use crate::tests::library::support::images::{file_of, row};

@@ -1,6 +1,6 @@
-//! Drawn lists that end a few bytes and pixels after a whole number of fours of chunks, by a plain
-//! decoder: followed by a few bytes, and cut. So a loop that takes four chunks at a time meets both
-//! ends.
+//! Drawn lists, against a plain decoder: fours of chunks, then a few bytes or pixels more. Each is
+//! followed by a few bytes, and cut; so a loop that takes four at a time meets the ends of input
+//! and output.
 use crate::tests::library::support::decodings::Decoding;
 use crate::tests::library::support::generator::Numbers;
 use crate::tests::library::support::images::{file_of, row, seen_raw};
@@ -71,7 +71,7 @@ impl Drawing {
         Ok(drawing)
     }
 
-    // Adds a chunk. If the one that is drawn has more bytes than there is room, it is a difference.
+    // Adds a drawn chunk or, if that has more bytes than there is room for, a difference.
     fn add(&mut self, numbers: &mut Numbers, room: usize) -> Result<()> {
         let drawn = self.kinds[numbers.below(8) as usize];
         let size = match drawn {

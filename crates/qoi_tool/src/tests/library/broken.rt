@@ -9,7 +9,7 @@ use std::alloc::Global;
 use std::io::ErrorKind;
 use std::process::Abort;
 
-// These bytes, in the own channels of the image that they are to be a file of.
+// These bytes, taken as a file of the image, in its own channels.
 fn decoding<'a>(image: &Image, bytes: &'a [u8]) -> Decoding<'a> {
     Decoding {
         bytes,
@@ -105,8 +105,7 @@ fn largest_image(rt: HostRuntime) {
     assert_too_small(&rt, rt.alloc(), bytes, &mut [], text);
 }
 
-// A run that gives more pixels than are left is cut; a chunk after it stands where the marker
-// should.
+// The last run's surplus pixels are dropped; a chunk after it stands where the marker should.
 #[test]
 fn last_run(rt: HostRuntime) {
     for (width, chunks) in [(1, &[0xc0, 0xc0][..]), (100, &[0xfd, 0xfd, 0xfd])] {

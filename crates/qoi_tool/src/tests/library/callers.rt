@@ -460,8 +460,8 @@ pub fn bounded_bytes(alloc: Global, file: &[u8]) -> Result<Vec<u8>, Error>
     Ok(raw)
 }
 
-/// Memory that is bounded first. Of a decoder whose image is small enough the raw bytes of a file,
-/// as the free call decodes them.
+/// Memory that is bounded first. The raw bytes of a file whose image is small enough, as the free
+/// call decodes them.
 pub fn at_most(alloc: Global, file: &[u8], most: usize) -> Result<Vec<u8>, Error>
     ensures { IfOk result (λ raw. (h : Header) × (rest : List ℕ)
         × DecodesFile file.now h rest raw.items) }
@@ -489,7 +489,7 @@ pub fn at_most_from<R: Read + Drop>(alloc: Global, reader: R, most: usize) -> Re
     Ok(raw)
 }
 
-/// Channels. What three channels are, and four of them.
+/// Channels. RGB output is RGBA output without fourth bytes.
 pub fn both_channels(alloc: Global, file: &[u8]) -> Result<(Vec<u8>, Vec<u8>), Error>
     ensures { IfOk result (λ x. x.0.items ≡ without_fourth x.1.items) }
 {
@@ -500,7 +500,8 @@ pub fn both_channels(alloc: Global, file: &[u8]) -> Result<(Vec<u8>, Vec<u8>), E
     Ok((rgb, rgba))
 }
 
-/// Bytes that are still to come. If the end is missed, the bytes after the header are cut.
+/// Bytes that are still to come. If the error is `UnexpectedBufferEnd`, the bytes after the header
+/// are cut.
 pub fn more_needed(alloc: Global, file: &[u8]) -> Result<(Header, Result<Vec<u8>, Error>), Error>
     ensures { IfOk result (λ x. IsErrOf x.1 Error.UnexpectedBufferEnd
         → AreCut (pixel_count x.0) (drop header_size file.now)) }

@@ -1,5 +1,5 @@
-//! The callers, run on a file of one pixel. Each test calls few of them and takes no result apart,
-//! since a test is proved in more than twice the time if it has twice the facts.
+//! The callers, run on small images. Each test calls few of them and takes few results apart, since
+//! a test is proved in more than twice the time if it has twice the facts.
 use crate::tests::fakes::{Bad, End, ONE_RGB_PIXEL, PIXEL, Sink};
 use crate::tests::library::callers::{
     all_images, as_long, at_most, at_most_from, both_channels, both_images, bounded_bytes,

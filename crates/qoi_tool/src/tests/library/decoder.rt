@@ -6,7 +6,7 @@ use crate::tests::library::support::images::{file_of, row};
 use crate::tests::library::support::{assert_bytes, assert_given, assert_number, assert_refused};
 use qoi::{Channels, Decoder, Header};
 
-// Each call decodes it, in three channels and in four.
+// Each call decodes them, in three channels and in four.
 #[test]
 fn given_examples(rt: HostRuntime) {
     for example in &GIVEN {
@@ -51,7 +51,7 @@ fn cut_and_followed(rt: HostRuntime) {
     cut.check_cut(&rt, rt.alloc());
 }
 
-// The example has its second image in one chunk 55, after the start pixel.
+// The second image is the chunk 0x55 alone, a difference from the start pixel.
 #[test]
 fn two_files_in_one_slice(rt: HostRuntime) {
     let alloc = rt.alloc();

@@ -22,7 +22,7 @@ fn pixels_of(alloc: Global, channels: Channels, raw: &[u8]) -> Result<Vec<Rgba>>
     Ok(pixels)
 }
 
-// The plain encoder, that drawn images are compared with, gives the example's chunks.
+// The plain encoder, which drawn images are compared with, gives the example's chunks.
 fn assert_plain(rt: &impl Abort, alloc: Global, example: &Written, style: Style) {
     let image = example.image(alloc, style).expect(rt, "refused");
     let pixels = pixels_of(alloc, example.channels, &image.raw).expect(rt, "refused");
@@ -64,7 +64,7 @@ fn black_into(buf: &mut [u8]) -> Result<usize> {
     encode_to_buf(buf, &[0, 0, 0], 1, 1)
 }
 
-// The file has 23 bytes, and the buffer 26. One of 25 bytes would do, and is refused and as before.
+// The file has 23 bytes, and the buffer 26. One of 25 would do, but is refused, untouched.
 #[test]
 fn one_black_pixel(rt: HostRuntime) {
     let mut buf = [0xaa; 26];
@@ -80,8 +80,8 @@ fn one_black_pixel(rt: HostRuntime) {
     assert_bytes(&rt, &buf, &[0xaa; 25]);
 }
 
-// Encodes transparent pixels of red 1 to 64 but one, and transparent black after them. Their index
-// positions are 3, 6, 9 and so on, modulo 64, so that of red 64 is 0.
+// Encodes transparent pixels of red 1 to 64 except `but`, and transparent black after them. Their
+// index positions are 3, 6, 9 and so on, modulo 64: red 64's is 0.
 fn assert_reds(rt: &impl Abort, alloc: Global, but: u8, chunks: &[u8]) {
     let mut raw = Vec::new(alloc);
     for red in 1..65u8 {
@@ -120,7 +120,7 @@ fn all_positions_seen(rt: HostRuntime) {
     assert_reds(&rt, rt.alloc(), 21, &chunks);
 }
 
-// Pixel k, from 0, is three times k modulo 251: steps of 1, and of 6 from 250 to 0.
+// Each channel of pixel k is k modulo 251: steps of 1, and of 6 from 250 to 0.
 #[test]
 fn two_megapixels(rt: HostRuntime) {
     let (mut raw, mut chunks) = (Vec::new(rt.alloc()), Vec::new(rt.alloc()));

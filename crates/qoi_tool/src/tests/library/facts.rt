@@ -125,7 +125,7 @@ pub fn took(alloc: Global, file: &[u8]) -> Result<usize, Error>
     Ok(decoder.data().len())
 }
 
-/// Files from a reader. If its bytes are known, a success in the file's own channels is a file.
+/// Files from a reader. If its bytes are known, a success means that they begin with a file.
 pub fn file_ahead<R: Read + Drop>(alloc: Global, reader: R) -> Result<(Header, Vec<u8>), Error>
     ensures { (bytes : List ℕ) → R.remaining reader ≡ Some bytes → IfOk result (λ x. (rest : List ℕ)
         × DecodesFile bytes x.0 rest x.1.items) }
@@ -146,7 +146,7 @@ pub fn encoded_again(alloc: Global, file: &[u8]) -> Result<Vec<u8>, Error> {
     }
 }
 
-/// Clones. A decoder of a slice and its clone give the same image.
+/// Clones. A slice's stream decoder and its clone give the same image.
 pub fn by_clone(alloc: Global, file: &[u8]) -> Result<(Vec<u8>, Vec<u8>), Error>
     ensures { IfOk result (λ x. x.0.items ≡ x.1.items) }
 {

@@ -7,8 +7,8 @@ use qoi::{Channels, Header, Style};
 use std::alloc::Global;
 use std::process::Abort;
 
-// Encodes an image in each style. In `Places` its file is as long as in `Reference`, and in `Tight`
-// no longer. Returns how many bytes shorter.
+// Encodes an image in each style. In `Places` its file is as long as in `Reference`, in `Tight` as
+// long or shorter. Returns by how much.
 fn assert_styles(rt: &impl Abort, alloc: Global, header: Header, pixels: &[Rgba]) -> usize {
     let reference = Image::of(alloc, header, Style::Reference, pixels).expect(rt, "refused");
     reference.check(rt, alloc);

@@ -1,13 +1,11 @@
-//! The number of bytes of an image's chunks, against numbers that fewer don't do for, counted pixel
-//! by pixel.
+//! The number of bytes of an image's chunks, against lower bounds counted pixel by pixel.
 use crate::tests::library::support::generator::{Numbers, Rgba, START, drawn, place};
 use crate::tests::library::support::images::{raw_of, row};
 use qoi::{Channels, Encoder, Style};
 use std::alloc::Global;
 use std::process::Abort;
 
-// The difference of two bytes modulo 256, moved by `by`: below `2 * by` if it is from -by to by -
-// 1.
+// The difference of two bytes plus `by`, modulo 256: below `2 * by` for differences `-by..by`.
 fn moved(from: u8, to: u8, by: u8) -> u8 {
     to.wrapping_sub(from).wrapping_add(by)
 }
@@ -32,7 +30,7 @@ struct Counted {
     last: Rgba,
     // How many repeats stand at the end.
     repeats: usize,
-    // The fewest bytes of the others in a regular list, and in any list.
+    // The fewest bytes of earlier pixels, in a regular list and in any list.
     floor: usize,
     floor0: usize,
     // Whether the first pixel, and the first fresh one at the position of opaque black, are opaque
@@ -82,7 +80,7 @@ impl Counted {
         self.repeats = 0;
     }
 
-    // Counts the next pixel. In any list an empty index position holds transparent black.
+    // Counts the next pixel. In an irregular list any empty position gives transparent black.
     fn add(&mut self, px: Rgba) {
         if self.opens_black.is_none() {
             self.opens_black = Some(px == START);
@@ -123,7 +121,7 @@ fn written(rt: &impl Abort, alloc: Global, raw: &[u8], width: u32, style: Style)
 }
 
 // Draws 300 images of up to 900 pixels, at least 100,000 in all. If there are four channels, every
-// third has transparent black for each black. Some use all of their slack, and some none.
+// third has transparent black for each black. Some use their slack, and some don't.
 fn assert_lengths(rt: &impl Abort, alloc: Global, channels: Channels) {
     let mut numbers = Numbers::new(0xacce55);
     let (mut all, mut used, mut unused) = (0usize, 0u32, 0u32);

@@ -31,8 +31,8 @@ fn starved<R: Reader>(alloc: Global, decoder: &mut Decoder<R>, spare: usize) -> 
     found
 }
 
-// The first allocation is refused; if the first is found, there is no second one. A refusal leaves
-// the decoder as it was.
+// The first allocation is refused; when it is granted, there is no second one. A refusal leaves the
+// decoder as it was.
 fn assert_one_allocation<R: Reader>(rt: &impl Abort, alloc: Global, decoder: &mut Decoder<R>) {
     assert_refused(rt, alloc, starved(alloc, decoder, 0).err(), REFUSED);
     assert_header(rt, decoder.header(), &Header::default());
@@ -55,7 +55,7 @@ fn starved_file(alloc: Global, spare: usize) -> Result<Vec<u8>> {
     file
 }
 
-// The first allocation is refused; if the first is found, there is no second one.
+// The first allocation is refused; when it is granted, there is no second one.
 #[test]
 fn each_allocation_of_encode_to_vec(rt: HostRuntime) {
     let alloc = rt.alloc();

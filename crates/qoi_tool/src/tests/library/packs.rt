@@ -1,5 +1,5 @@
-//! Callers that keep several files in one slice: of a pack the image whose file stands at an offset
-//! comes back, whatever follows it. `put` and `three_tiles` alone have proof files.
+//! Callers that keep several files in one slice (a pack): the image of the file at an offset comes
+//! back, whatever follows it. `put` and `three_tiles` alone have proof files.
 ghost use Rattle.std.specs.Prelude.{◌≡◌, ℕ, List, ◌++◌, drop, Option, Some, IfOk, OnOk};
 ghost use Rattle.qoi.specs.declared.header.Header.{Header};
 ghost use Rattle.qoi.specs.declared.types.Style.{Style};

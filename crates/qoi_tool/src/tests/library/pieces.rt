@@ -1,5 +1,5 @@
-//! Files that go out in more than one piece of 4096 bytes, by the plain encoder: chunks and end
-//! marker end just before, at and just after the end of a piece.
+//! Files of about one and two pieces of 4096 bytes, by the plain encoder: chunks and end marker end
+//! just before, at and just after the end of a piece.
 use crate::tests::library::support::assert_number;
 use crate::tests::library::support::generator::{Rgba, START};
 use crate::tests::library::support::images::{Image, row};
@@ -22,7 +22,7 @@ struct Tail {
 
 #[rattlefmt::skip]
 const TAILS: [Tail; 7] = [
-    // Differences, lumas, RGB chunks with no repeat and with one, runs, RGBA chunks.
+    // Differences, lumas, RGB with no repeat and one, runs; four channels: RGB, RGBA.
     Tail { channels: Rgb, step: [1, 0, 0, 0], repeats: 0, bytes: 1, times: 50 },
     Tail { channels: Rgb, step: [9, 8, 8, 0], repeats: 0, bytes: 2, times: 25 },
     Tail { channels: Rgb, step: [3, 100, 7, 0], repeats: 0, bytes: 4, times: 13 },
@@ -40,7 +40,7 @@ struct Drawing {
 }
 
 impl Drawing {
-    // Adds a pixel that is so far from the last one, and repeats it.
+    // Adds a pixel that is this step from the last one, and repeats it.
     fn add(&mut self, [dr, dg, db, da]: [u8; 4], repeats: usize) -> Result<()> {
         let [r, g, b, a] = self.last;
         self.last = [
@@ -75,8 +75,8 @@ fn ending(alloc: Global, tail: Tail, size: usize) -> Result<Vec<Rgba>> {
     Ok(drawing.pixels)
 }
 
-// How many bytes the chunks have. With header and end marker, 22 bytes, or with the header alone,
-// 14, they are one piece and up to ten bytes more or fewer, or two pieces and up to two.
+// How many bytes the chunks have. With the header (14) or with header and end marker (22) they are
+// within ten bytes of one piece, or within two of two.
 const SIZES: [(usize, usize); 3] = [(4064, 4092), (8168, 8172), (8176, 8180)];
 
 // Encodes images with each of the tails, of each of these sizes: to a buffer, a vector and writers.

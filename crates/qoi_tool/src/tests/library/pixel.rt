@@ -5,7 +5,7 @@ use crate::tests::library::support::{assert_bytes, assert_number};
 use qoi::parts::{BytesMut, Pixel, SupportedChannels, Writer};
 use std::process::Abort;
 
-// The pixel of the first of these bytes.
+// The pixel of the first `N` bytes.
 fn pixel<const N: usize>(four: [u8; 4]) -> Pixel<N>
     requires { IsChannels N }
 {
@@ -14,7 +14,7 @@ fn pixel<const N: usize>(four: [u8; 4]) -> Pixel<N>
     px
 }
 
-// Compares the pixel's bytes with the first of these.
+// Compares a pixel's bytes with the first `N` given.
 fn assert_pixel<const N: usize>(rt: &impl Abort, px: Pixel<N>, four: [u8; 4])
     requires { IsChannels N }
 {

@@ -1,5 +1,5 @@
-//! Short images of three pixels that come again and again, by the plain encoder: repeats, pixels
-//! that came before, and pixels that share an index position, side by side in every order.
+//! Short images drawn from three pixels, by the plain encoder: repeats, pixels that came before,
+//! and pixels that share an index position, side by side in every order.
 use crate::tests::library::support::generator::{Numbers, Rgba};
 use crate::tests::library::support::images::{Image, row};
 use qoi::Channels::{Rgb, Rgba as Four};
@@ -7,8 +7,7 @@ use qoi::{Channels, Result, Style};
 use std::alloc::Global;
 use std::process::Abort;
 
-// Pixels that images are drawn from. The first two share an index position, which the third has
-// not.
+// Pixels that images are drawn from. The first two share an index position; the third has another.
 #[derive(Clone, Copy)]
 struct Alphabet {
     channels: Channels,

@@ -47,7 +47,7 @@ fn readers_read(rt: HostRuntime) {
     assert_bytes(&rt, stream, &[0]);
 }
 
-// A number of channels is neither 3 nor 4. The reader refuses the first of the two.
+// If either number of channels is neither 3 nor 4, the error names the first.
 fn assert_refuses<R: Reader>(rt: &impl Abort, reader: &mut R) {
     for (channels, file_channels) in [(5, 3), (3, 7)] {
         let refusal = image_of(reader, &mut [0xaa; 12], channels, file_channels).err();

@@ -43,7 +43,7 @@ fn repeats_examples(rt: HostRuntime) {
     assert_number(&rt, count(&data, [1, 2, 3, 4]), 0);
 }
 
-// Compares the count with that of the pixels one by one, up to the first whole one that is another.
+// Compares the count with that of the pixels one by one, up to the first that differs.
 fn assert_counted<const N: usize>(rt: &impl Abort, data: &[u8], px: [u8; N])
     requires { IsChannels N }
 {

@@ -55,8 +55,8 @@ fn clones(rt: HostRuntime) {
     assert_decodes(&rt, cloned);
 }
 
-// What ends decoding into a buffer, by a reader that is lent; the header takes fourteen calls. A
-// refusal leaves the header and the chosen channels.
+// The error of decoding a lent reader into a buffer; the header takes fourteen calls. A refusal
+// leaves the header and the chosen channels.
 fn refusal_at(rt: &impl Abort, reader: &mut Source<'_>, call: usize) -> Option<Error> {
     match Decoder::from_stream(reader) {
         Ok(decoder) => {
@@ -131,7 +131,7 @@ fn assert_takes_header(rt: &impl Abort, alloc: Global, file: &[u8; 26], text: &s
     assert_bytes(rt, reader, &ONE_RGB_PIXEL[14..]);
 }
 
-// Each header that a byte of one makes invalid.
+// Each further invalid header byte is refused first.
 #[test]
 fn refused_headers(rt: HostRuntime) {
     let mut bytes = ONE_RGB_PIXEL;

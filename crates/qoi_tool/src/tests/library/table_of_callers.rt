@@ -1,5 +1,6 @@
-//! From the table of any way there and any way back: one caller of each row and of each column.
-//! Each encodes and decodes in one body, and the raw bytes come back. None has a proof file.
+//! From the table of ways to encode (rows) and to decode (columns): a caller for each row and each
+//! column. Each encodes and decodes in one body, and the raw bytes come back. None has a proof
+//! file.
 ghost use Rattle.std.specs.Prelude.{◌≡◌, IfOk};
 
 use crate::tests::fakes::PIXEL;

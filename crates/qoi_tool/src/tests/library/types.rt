@@ -8,7 +8,7 @@ fn number_of<T: Into<u8>>(x: T) -> u8 {
     x.into()
 }
 
-// What stands for the number, through the bound.
+// What the number stands for, through the bound.
 fn of_number<T: TryFrom<u8, Error = Error>>(number: u8) -> Result<T> {
     T::try_from(number)
 }

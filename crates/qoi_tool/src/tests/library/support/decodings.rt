@@ -1,4 +1,4 @@
-//! Decoding by each call from a slice and from a stream, with what the decoder is then.
+//! Decoding by each call from a slice and from a stream, and the decoder's state after it.
 use crate::tests::library::support::{
     assert_bytes, assert_fails, assert_given, assert_header, assert_number, assert_refused,
 };
@@ -23,8 +23,8 @@ pub enum Call {
 
 const CALLS: [Call; 2] = [Call::ToBuf, Call::ToVec];
 
-/// Bytes that begin with a file, or with a part of one and at least its header; this header, and
-/// the channels that the file is decoded into.
+/// Bytes that begin with a file, or with a part of one that has its header; that header, and the
+/// channels that the file is decoded into.
 #[derive(Clone, Copy)]
 pub struct Decoding<'a> {
     pub bytes: &'a [u8],
@@ -118,7 +118,7 @@ impl<'a> Decoding<'a> {
         assert_bytes(rt, &buf, image);
     }
 
-    /// Both refuse a part of a file; the slice is as before, and of the stream nothing is left.
+    /// Each call refuses a part of a file; a slice is as before, of a stream nothing is left.
     pub fn check_cut(self, rt: &impl Abort, alloc: Global) {
         for call in CALLS {
             let slice = self.of_slice(rt, alloc, call, after(self.bytes, 14));
@@ -128,8 +128,8 @@ impl<'a> Decoding<'a> {
         }
     }
 
-    /// Both refuse other bytes than the end marker; the slice is as before, and of the stream what
-    /// is after them is left.
+    /// Each call refuses other bytes than the end marker; a slice is as before, of a stream what is
+    /// after them is left.
     pub fn check_wrong(self, rt: &impl Abort, alloc: Global, rest: &[u8]) {
         for call in CALLS {
             let slice = self.of_slice(rt, alloc, call, after(self.bytes, 14));

@@ -1,4 +1,4 @@
-//! The worked examples: files that the encoder writes, and files that it doesn't.
+//! The worked examples: files that the encoder writes, and files that are only decoded.
 use crate::tests::fakes::{ONE_RGB_PIXEL, PIXEL};
 use crate::tests::library::support::images::{Image, file_of, row};
 use qoi::Channels::{Rgb, Rgba};
@@ -119,7 +119,7 @@ pub static WRITTEN: [Written; 48] = [
         rest: &[0, 0, 0, 255, 101, 102, 103, 104, 0, 0, 0, 255], ..RGBA },
     Written { name: "black_overwritten", width: 3, chunks: &[0xc0, 0xfe, 1, 0x63, 2, 0xfe, 0, 0, 0],
         rest: &[0, 0, 0, 1, 99, 2, 0, 0, 0], ..RGB },
-    // The first index position holds a pixel of alpha 0, and not the black one.
+    // Index position 0 holds transparent black, and not the opaque black that is encoded.
     Written { name: "black_and_blank", width: 2, chunks: &[0xfe, 0x65, 0x66, 0x67, 0xfe, 0, 0, 0],
         rest: &[101, 102, 103, 0, 0, 0], ..RGB },
     Written { name: "blank_without_place", width: 4,
@@ -193,14 +193,14 @@ pub static WRITTEN: [Written; 48] = [
     Written { name: "a run stays", styles: &[Tight], width: 4,
         chunks: &[0xc0, 0xfe, 0x65, 0x66, 0x67, 0xc0, 0xfe, 1, 2, 3],
         rest: &[0, 0, 0, 101, 102, 103, 101, 102, 103, 1, 2, 3], ..RGB },
-    // No fresh pixel stands before the run; in style `Places` it stays one.
+    // `Places` keeps both runs: nothing fresh precedes the first or follows the last.
     Written { name: "one at the start", styles: &[Reference, Places], width: 3,
         chunks: &[0xc0, 0xfe, 0x65, 0x66, 0x67, 0xc0],
         rest: &[0, 0, 0, 101, 102, 103, 101, 102, 103], ..RGB },
 ];
 
-/// The chunks of a file of one row that the encoder doesn't write, and its image in three and in
-/// four channels.
+/// The chunks of a file of one row that is only decoded, and its image in three and in four
+/// channels.
 #[derive(Clone, Copy)]
 pub struct Given {
     pub name: &'static str,
@@ -233,7 +233,7 @@ impl Given {
     }
 }
 
-/// Files that the encoder doesn't write.
+/// Files that are only decoded.
 #[rattlefmt::skip]
 pub static GIVEN: [Given; 13] = [
     Given { name: "black_returns_rgb", width: 3, channels: Rgb,
@@ -265,7 +265,7 @@ pub static GIVEN: [Given; 13] = [
     Given { name: "black_and_blank", width: 2, channels: Rgb,
         chunks: &[0xfe, 0x65, 0x66, 0x67, 0x00],
         three: &[101, 102, 103, 0, 0, 0], four: &[101, 102, 103, 255, 0, 0, 0, 255] },
-    // Under a header of four channels the second pixel is seen to be another.
+    // Under a header of four channels the second pixel comes out transparent.
     Given { name: "black_and_blank", width: 2, channels: Rgba,
         chunks: &[0xfe, 0x65, 0x66, 0x67, 0x00],
         three: &[101, 102, 103, 0, 0, 0], four: &[101, 102, 103, 255, 0, 0, 0, 0] },
@@ -297,7 +297,7 @@ fn add_written(alloc: Global, images: &mut Vec<Image>) -> Result<()> {
     Ok(())
 }
 
-// Adds the files that it doesn't.
+// Adds the files that are only decoded.
 fn add_given(alloc: Global, images: &mut Vec<Image>) -> Result<()> {
     for example in &GIVEN {
         images.push(example.image(alloc)?)?;

@@ -85,7 +85,7 @@ fn pixel(numbers: &mut Numbers, kind: usize, seen: &[Rgba], last: Rgba) -> Rgba 
     }
 }
 
-// Draws eight kinds of the six: how many of them are the same is that kind's share of an image.
+// Draws one of the six kinds eight times: how often a kind comes is its share of an image.
 fn shares(numbers: &mut Numbers) -> [usize; 8] {
     let mut kinds = [0; 8];
     for kind in &mut kinds {

@@ -51,8 +51,8 @@ pub fn raw_of(alloc: Global, channels: Channels, pixels: &[Rgba]) -> Result<Vec<
     Ok(raw)
 }
 
-/// The raw bytes in these channels of the pixels of a file, which is opaque if its own channels are
-/// three.
+/// The raw bytes, in these channels, of a file's pixels, which count as opaque if its own channels
+/// are three.
 pub fn seen_raw(
     alloc: Global,
     pixels: &[Rgba],

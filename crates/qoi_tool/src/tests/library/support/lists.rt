@@ -2,7 +2,7 @@
 use crate::tests::library::support::generator::Numbers;
 use qoi::Result;
 
-// The next byte of a pixel: half of them are 254 to 1.
+// A pixel's next byte: half are 254, 255, 0 or 1.
 fn byte(numbers: &mut Numbers) -> u8 {
     let byte = numbers.byte();
     if numbers.below(2) == 0 {

@@ -49,7 +49,7 @@ impl Plain {
         }
     }
 
-    // Adds a pixel, which this one follows.
+    // Adds `px`, which `next` follows, if any.
     fn add(&mut self, px: Rgba, next: Option<&Rgba>) -> Result<()> {
         if px != self.last {
             self.fresh(px)?;

@@ -8,8 +8,8 @@ fn sum(byte: u8, stored: u8, bias: u8) -> u8 {
     byte.wrapping_add(stored).wrapping_sub(bias)
 }
 
-// The pixel of the first chunk, how many more of it there are, and what follows the chunk: after
-// these seen pixels, of which this is the last.
+// After these seen pixels and this last one: the first chunk's pixel, how many more of it there
+// are, and what follows the chunk.
 fn chunk<'a>(seen: &[Rgba; 64], last: Rgba, bytes: &'a [u8]) -> (Rgba, u8, &'a [u8]) {
     let [r, g, b, a] = last;
     match bytes {
