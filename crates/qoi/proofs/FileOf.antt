@@ -1,6 +1,7 @@
 -- The file of an image: what holds of it.
 use Rattle.std.proofs.Common.{◌≡◌, ◌≢◌, ℕ, ◌+◌, ◌*◌, ◌^◌, ◌<◌, ◌≤◌, List, [], ◌∷◌, ◌++◌, length, take, min, slice_set, ◌-◌, refl, sym, ap, ◌∙◌, subst, arith, append-nil, append_assoc, length-append}
 use Rattle.std.proofs.Math.Nat.{mul_comm}
+use lib.Seq.{take-append_seam}
 use Rattle.qoi.specs.declared.types.Channels.{Channels}
 use Rattle.qoi.specs.declared.types.Channels.TheVariants.{Rgb, Rgba}
 use Rattle.qoi.specs.declared.types.ColorSpace.{ColorSpace}
@@ -15,9 +16,14 @@ use Rattle.qoi.specs.EncoderState.{EncoderState}
 use Rattle.qoi.specs.Written.{Written}
 use Rattle.qoi.specs.Styles.{WrittenIn}
 use Rattle.qoi.specs.Decoding.{DecodesFile}
-use Rattle.qoi.specs.Encoded.{max_file_len, image_pixels, Spans, IsNearShortest, IsFileBy, IsAsReference, IsShortIn, IsReadBack, IsFileOf}
+use Rattle.qoi.specs.Encoded.{max_file_len, image_pixels, Spans, IsNearShortest, IsFileBy, IsAsReference, IsShortIn, IsReadBack, IsFileOf, IsShortest}
+use Rattle.std.specs.Prelude.{Option, drop}
+use Rattle.std.specs.Io.KnownBytes.{Appends}
+use Rattle.qoi.specs.writers.Writes.{AppendsBeginning}
+use Rattle.qoi.specs.Sent.{HasFileLength, MakesFile, PutsFile, SendsFile, SendsPart}
 use Rattle.qoi.proofs.format.Appended.{length-bytes_of}
 use Rattle.qoi.proofs.decoding.FilledBuffer.{take_whole}
+use Rattle.qoi.proofs.decoding.Ahead.{stands_after}
 use Rattle.qoi.proofs.decoding.FrontImage.{file_image_is, file_rest_is}
 use Rattle.qoi.proofs.decoding.ImageSize.{channels_are}
 use Rattle.qoi.proofs.decoding.OneFile.{decodes_file}
@@ -148,6 +154,8 @@ module _ (h : Header) (raw : List ℕ) (valid : IsValid h) (size : length raw �
       header_then = λ rest. (back cs rest w).header;
       image_then = λ rest. sym (file_image_is (file h cs ++ rest) h rest raw (back cs rest w));
       rest_then = λ rest. sym (file_rest_is (file h cs ++ rest) h rest raw (back cs rest w));
+      stands = stands_after (file h cs) h [] raw (whole cs w);
+      stands_then = λ rest. stands_after (file h cs ++ rest) h rest raw (back cs rest w);
     }
 
   -- the chunks that are written fit
@@ -286,3 +294,64 @@ places_length h raw placed bytes is p f =
     let written = subst (λ cs. Written (image_pixels h raw) cs) (sym e.written.is) e.written.written in
     let as_long = places_as_long (image_pixels h raw) e.cs d.cs written d.written in
     ap length d.bytes_are ∙ length-file h d.cs ∙ ap (λ k. 22 + k) as_long ∙ sym (length-file h e.cs) ∙ sym (ap length e.bytes_are)
+
+-- the file is one
+one_file : {style : Style} {h : Header} {raw bytes others : List ℕ} → IsFileOf style h raw bytes → IsFileOf style h raw others → bytes ≡ others
+one_file {bytes = bytes} f g = g.is_file.only bytes f.is_file.encoded
+
+-- what holds of its length
+counts_file : (e : EncoderState) (bytes : List ℕ) (n : ℕ) → IsFileOf e.style e.header e.raw bytes → n ≡ length bytes → HasFileLength e n
+counts_file e bytes n f is = record {
+  same = λ others g. is ∙ ap length (one_file f g);
+  within = rw is (f.is_file.long, f.is_file.fits);
+  shortest = λ tight. subst (IsShortest e.header e.raw) (sym is) (subst (λ s. IsFileOf s e.header e.raw bytes) tight f).shortness;
+  no_longer = λ tight other others g. rw is (shortest_is_least e.header e.raw bytes others tight f g);
+  as_long = λ places others g. is ∙ places_length e.header e.raw bytes others places f g;
+}
+
+-- what holds of the file
+pub makes_file : (e : EncoderState) (bytes : List ℕ) → IsFileOf e.style e.header e.raw bytes → MakesFile e bytes
+makes_file e bytes f = record {
+  file = f;
+  same = λ others g. one_file f g;
+  counts = counts_file e bytes (length bytes) f refl;
+  space = λ space others g. f.is_file.color_space space others g.is_file.encoded;
+}
+
+-- what holds of a buffer that it was put into
+pub puts_file : (e : EncoderState) (bytes old new : List ℕ) (n : ℕ) → IsFileOf e.style e.header e.raw bytes → n ≡ length bytes
+    → new ≡ bytes ++ drop n old → n ≤ length old → PutsFile e old new n
+puts_file e bytes old new n f is filled room =
+    let front : take n new ≡ bytes = ap (take n) filled ∙ ap (λ k. take k (bytes ++ drop n old)) is ∙ take-append_seam bytes (drop n old) in
+    record {
+      bytes = bytes;
+      file = f;
+      count = is;
+      new_is = filled;
+      room = room;
+      front = subst (IsFileOf e.style e.header e.raw) (sym front) f;
+      same = λ others g. filled ∙ ap (λ z. z ++ drop n old) (one_file f g);
+      counts = counts_file e bytes n f is;
+    }
+
+-- what holds of a writer that it was sent to
+pub sends_file : (e : EncoderState) (bytes : List ℕ) (old new : Option (List ℕ)) (n : ℕ) → IsFileOf e.style e.header e.raw bytes → n ≡ length bytes
+    → Appends old new bytes → SendsFile e old new n
+sends_file e bytes old new n f is sent = record {
+  bytes = bytes;
+  file = f;
+  count = is;
+  sent = sent;
+  same = λ others g. subst (Appends old new) (one_file f g) sent;
+  counts = counts_file e bytes n f is;
+}
+
+-- or a beginning of it
+pub sends_part : (e : EncoderState) (bytes : List ℕ) (old new : Option (List ℕ)) → IsFileOf e.style e.header e.raw bytes
+    → AppendsBeginning old new bytes → SendsPart e old new
+sends_part e bytes old new f sent = record {
+  bytes = bytes;
+  file = f;
+  sent = sent;
+  same = λ others g. subst (AppendsBeginning old new) (one_file f g) sent;
+}

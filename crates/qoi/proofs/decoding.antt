@@ -10,6 +10,7 @@ pub mod ImageSize
 pub mod LeastBytes
 pub mod OneFile
 pub mod Progress
+pub mod Promised
 pub mod RefusedBytes
 pub mod Refusals
 pub mod SeenTable

@@ -6,7 +6,7 @@ use Rattle.qoi.specs.declared.error.Error.TheVariants.{OutputBufferTooSmall, Une
 use Rattle.qoi.specs.declared.header.Header.{Header}
 use Rattle.qoi.specs.declared.chunk.Chunk.{Chunk}
 use Rattle.qoi.specs.Qoi.{header_size, run_max, AreChunks, chunk_bytes, Reaches, meaning, IsFile, marker_size, end_marker, file, file_pixels, channels_number, header_bytes, header_of, pixel_count, IsValid}
-use Rattle.qoi.specs.Raw.{output, image_byte_count}
+use Rattle.qoi.specs.Raw.{output}
 use Rattle.qoi.specs.Verdicts.{HasChunks, IsWhole, AreCut, AreWrong, AreWrongThen}
 
 -- chunks that reach n pixels stand before the rest, and `out` are the bytes of their first n pixels
@@ -97,7 +97,7 @@ abbrev pub TakesHeader : Option (List ℕ) → Option (List ℕ) → Header → 
 TakesHeader old new h = ReadsHeader false old new (Ok h)
 
 -- why a stream's header is refused: `header_of` refuses the fourteen bytes at its front with e, or
--- e is an i/o error. How the stream is left isn't said.
+-- e is an i/o error
 abbrev pub RefusesStreamHeader : Option (List ℕ) → Error → Type 0
 RefusesStreamHeader old e = (new : Option (List ℕ)) × ReadsHeader false old new (Err e)
 
@@ -115,15 +115,6 @@ pub record DecodesFile (bytes : List ℕ) (h : Header) (rest out : List ℕ) : T
 -- the buffer is shorter than the image
 abbrev pub RefusesBuffer : ℕ → ℕ → Error → Type 0
 RefusesBuffer size required e = (size < required) × (e ≡ OutputBufferTooSmall size required)
-
--- why bytes are not decoded into a buffer of this size: e is the refusal of their header; or the
--- buffer is too short for the image; or it is long enough, and the bytes after the header are cut
--- or wrong
-abbrev pub RefusesFileInto : ℕ → List ℕ → Error → Type 0
-RefusesFileInto size bytes e = (header_of bytes ≡ Err e)
-    ⊎ ((h : Header) × (header_of bytes ≡ Ok h)
-    × (RefusesBuffer size (image_byte_count h) e
-    ⊎ ((image_byte_count h ≤ size) × RefusesBytes (pixel_count h) (drop header_size bytes) e)))
 
 -- why bytes are not decoded if no buffer is given: e is the refusal of their header; or the bytes
 -- after a header are cut or wrong

@@ -1,5 +1,5 @@
 -- The file of an image (QOI specification 1.0, "File Format" and "Data").
-use Rattle.std.specs.Prelude.{◌≡◌, ◌≢◌, ℕ, ◌+◌, ◌-◌, ◌*◌, ◌/◌, ◌%◌, ◌^◌, ◌≤◌, List, ◌∷◌, ◌++◌, length, min, slice_get, slice_set, IsTrue, Result, Ok, Err, ◌==◌, if◌then◌else◌}
+use Rattle.std.specs.Prelude.{◌≡◌, ◌≢◌, ℕ, ◌+◌, ◌-◌, ◌*◌, ◌/◌, ◌%◌, ◌^◌, ◌≤◌, List, ◌∷◌, ◌++◌, drop, length, min, slice_get, slice_set, IsTrue, Result, Ok, Err, ◌==◌, if◌then◌else◌}
 use Rattle.std.specs.List.{AllByRecursion}
 use Rattle.qoi.specs.declared.error.Error.{Error}
 use Rattle.qoi.specs.declared.error.Error.TheVariants.{InvalidImageLength}
@@ -21,6 +21,7 @@ use Rattle.qoi.specs.Regular.{Regular, Covers}
 use Rattle.qoi.specs.Shortest.{floor, is_start, slack}
 use Rattle.qoi.specs.Decoding.{DecodesFile}
 use Rattle.qoi.specs.Images.{file_image, file_rest}
+use Rattle.qoi.specs.Reading.{StandsAhead}
 
 -- the most bytes that the file of an image of this size has, or the greatest usize if that is less
 abbrev pub max_len : ℕ → ℕ → ℕ → ℕ
@@ -129,6 +130,9 @@ pub record IsReadBack (h : Header) (raw bytes : List ℕ) : Type 0 where
   pub header_then : (rest : List ℕ) → header_of (bytes ++ rest) ≡ Ok h
   pub image_then : (rest : List ℕ) → file_image (bytes ++ rest) ≡ raw
   pub rest_then : (rest : List ℕ) → file_rest (bytes ++ rest) ≡ rest
+  -- after the header stands the image
+  pub stands : StandsAhead h (drop header_size bytes)
+  pub stands_then : (rest : List ℕ) → StandsAhead h (drop header_size (bytes ++ rest))
 
 -- The file of the image in a style: no regular list makes it shorter by more than the slack, and it
 -- is as short as `IsShortIn` says.
@@ -137,8 +141,3 @@ pub record IsFileOf (style : Style) (h : Header) (raw bytes : List ℕ) : Type 0
   pub near_shortest : IsNearShortest h raw bytes
   pub shortness : IsShortIn style h raw bytes
   pub read_back : IsReadBack h raw bytes
-
--- the file that the free calls write for raw bytes of this size: with the header that is found for
--- them, in style Reference
-abbrev pub IsFileFor : List ℕ → ℕ → ℕ → List ℕ → Type 0
-IsFileFor raw width height bytes = (h : Header) × (image_header raw width height ≡ Ok h) × IsFileOf Reference h raw bytes

@@ -8,6 +8,7 @@ pub mod Decoding
 pub mod DecoderState
 pub mod Reading
 pub mod Images
+pub mod Decoded
 -- The list that is written.
 pub mod Runs
 pub mod Written
@@ -19,6 +20,7 @@ pub mod Tight
 pub mod Styles
 pub mod Encoded
 pub mod EncoderState
+pub mod Sent
 -- Errors and their texts.
 pub mod Errors
 pub mod ErrorText

@@ -15,11 +15,10 @@ pub record IsImage (channels : Channels) (bytes : List ℕ) (h : Header) (rest o
   pub whole : IsWhole (pixel_count h) bytes cs rest
   pub out_is : out ≡ output (channels_number h.channels) (channels_number channels) (take (pixel_count h) (meaning cs))
 
--- The bytes are chunks that reach the pixels of the decoder's header, the end marker and then the
--- rest, and `raw` are these pixels in the decoder's channels. It is no abbreviation, so that the
--- prover passes it on whole; nor is IsDecoderOf.
-unfoldable pub IsImageFor : {R : Type 0} → DecoderState R → List ℕ → List ℕ → List ℕ → Type 0
-IsImageFor d bytes rest raw = IsImage d.channels bytes d.header rest raw
+-- An image of this header, and the end marker, stand at the front of the bytes. It is no
+-- abbreviation, so that the prover passes it on whole; nor is IsDecoderOf.
+unfoldable pub StandsAhead : Header → List ℕ → Type 0
+StandsAhead h bytes = (cs : List Chunk) × (rest : List ℕ) × IsWhole (pixel_count h) bytes cs rest
 
 -- The source is the bytes of the decoder's header, which is valid, and then `ahead`; and the
 -- decoder's channels are the file's own. That its reader has `ahead` isn't part of it.

@@ -1,5 +1,5 @@
 //! Encoding, into buffers, vectors and writers.
-ghost use Rattle.std.specs.Prelude.{◌≡◌, ℕ, ◌<◌, ◌≤◌, List, ◌++◌, length, take, drop, slice_set, ◌⊎◌, Ok, Err, IsErrOf, IsOkAnd, IsOkUnless, IfOk, IfErr, MatchResult};
+ghost use Rattle.std.specs.Prelude.{◌≡◌, ℕ, ◌<◌, ◌≤◌, List, length, ◌⊎◌, Ok, Err, IsErrOf, IsOk, IsOkUnless, IfOk, IfErr};
 ghost use Rattle.std.specs.Io.KnownBytes.{Appends};
 ghost use Rattle.qoi.specs.declared.header.Header.{Header};
 ghost use Rattle.qoi.specs.declared.error.Error.{Error};
@@ -7,10 +7,12 @@ ghost use Rattle.qoi.specs.declared.types.Channels.{Channels};
 ghost use Rattle.qoi.specs.declared.types.ColorSpace.{ColorSpace};
 ghost use Rattle.qoi.specs.declared.types.Style.{Style};
 ghost use Rattle.qoi.specs.declared.types.Style.TheVariants.{Reference, Places, Tight};
-ghost use Rattle.qoi.specs.Qoi.{IsValid, header_of, colorspace_at, colorspace_number};
+ghost use Rattle.qoi.specs.Qoi.{IsValid};
 ghost use Rattle.qoi.specs.Raw.{image_byte_count};
-ghost use Rattle.qoi.specs.Encoded.{max_len, max_file_len, image_header, IsFileLength, IsFileOf, IsFileFor, IsShortest};
+ghost use Rattle.qoi.specs.Encoded.{max_len, max_file_len, image_header, IsFileOf};
 ghost use Rattle.qoi.specs.Errors.{IsIoError};
+ghost use Rattle.qoi.specs.EncoderState.{free_encoder};
+ghost use Rattle.qoi.specs.Sent.{IsFileFor, MakesFile, PutsFile, SendsFile, SendsPart};
 ghost use Rattle.qoi.specs.writers.Writes.{AppendsBeginning, WroteBeginning};
 
 mod chunks;
@@ -67,6 +69,12 @@ pub fn encode_max_len(width: u32, height: u32, channels: u8) -> usize
 ///
 /// The refusals are those of `Encoder::new` and then of its `encode_to_buf`.
 pub fn encode_to_buf(buf: &mut [u8], data: &[u8], width: u32, height: u32) -> Result<usize>
+    // A success: the file stands in the front of the buffer, and later bytes stay.
+    ensures encoded { IfOk result (λ n. (h : Header) × (image_header «data».now width height ≡ Ok h)
+        × PutsFile (free_encoder h «data».now) buf.old buf.new n) }
+    ensures accepts { (h : Header) → image_header «data».now width height ≡ Ok h
+        → max_file_len h ≤ length buf.old → IsOk result }
+
     // The refusals, which leave the buffer as it is.
     ensures refused { (e : Error) → image_header «data».now width height ≡ Err e → (result ≡ Err e)
         × (buf.new ≡ buf.old) }
@@ -74,22 +82,6 @@ pub fn encode_to_buf(buf: &mut [u8], data: &[u8], width: u32, height: u32) -> Re
         → length buf.old < max_file_len h
         → (result ≡ Err (Error.OutputBufferTooSmall (length buf.old) (max_file_len h)))
         × (buf.new ≡ buf.old) }
-
-    // What the result is: the file stands in the front, and later bytes stay.
-    ensures encoded { (h : Header) → image_header «data».now width height ≡ Ok h
-        → max_file_len h ≤ length buf.old
-        → IsOkAnd result (λ n. (bytes : List ℕ) × IsFileOf Reference h «data».now bytes
-        × (n ≡ length bytes) × (buf.new ≡ bytes ++ drop n buf.old)) }
-    // The part of the buffer that was written is the file.
-    ensures front { IfOk result (λ n. IsFileFor «data».now width height (take n buf.new)) }
-    // Any bytes that are the file of the image are those that were written.
-    ensures same { (bytes : List ℕ) → IsFileFor «data».now width height bytes
-        → IfOk result (λ n. (n ≡ length bytes) × (buf.new ≡ bytes ++ drop n buf.old)) }
-
-    // How many bytes it has.
-    ensures length { (h : Header) → image_header «data».now width height ≡ Ok h
-        → IfOk result (IsFileLength h) }
-    ensures room { IfOk result (λ n. n ≤ length buf.old) }
 {
     Encoder::new(data, width, height)?.encode_to_buf(buf)
 }
@@ -99,28 +91,13 @@ pub fn encode_to_buf(buf: &mut [u8], data: &[u8], width: u32, height: u32) -> Re
 ///
 /// The refusals are those of `Encoder::new` and then of its `encode_to_vec`.
 pub fn encode_to_vec(alloc: Global, data: &[u8], width: u32, height: u32) -> Result<Vec<u8>>
-    // What the result is: the vector is the file.
+    // A success: the vector is the file.
     ensures encoded { IfOk result (λ v. IsFileFor «data».now width height v.items) }
-    // Any bytes that are the file of the image are those of the vector.
-    ensures same { (bytes : List ℕ) → IsFileFor «data».now width height bytes
-        → IfOk result (λ v. v.items ≡ bytes) }
-    // Its header has the given width and height, and color space `Srgb`.
-    ensures header { IfOk result (λ v. (channels : Channels)
-        × (header_of v.items ≡ Ok (record {
-          width = width;
-          height = height;
-          channels = channels;
-          colorspace = ColorSpace.Srgb;
-        }))) }
 
     // The refusals.
     ensures refused { IfErr result (λ e. (image_header «data».now width height ≡ Err e)
         ⊎ ((e ≡ Error.OutOfMemory) × (h : Header)
         × (image_header «data».now width height ≡ Ok h))) }
-
-    // How many bytes it has.
-    ensures length { (h : Header) → image_header «data».now width height ≡ Ok h
-        → IfOk result (λ v. IsFileLength h (length v.items)) }
 {
     Encoder::new(data, width, height)?.encode_to_vec(alloc)
 }
@@ -159,11 +136,16 @@ impl<'a> Encoder<'a> {
     /// pixels; `InvalidChannels` if there aren't 3 or 4 bytes for each pixel, with how many there
     /// are, or 255 if more.
     pub fn new(data: &'a [u8], width: u32, height: u32) -> Result<Encoder<'a>>
-        // What the result is.
+        // A success: the header that is found for the bytes, which has the given width and height.
         ensures accepted { IfOk result (λ e.
             (image_header «data».entry.now width height ≡ Ok e.header)
-            × (e.raw ≡ «data».entry.now)) }
-        ensures style { IfOk result (λ e. e.style ≡ Reference) }
+            × (e.raw ≡ «data».entry.now) × (e.style ≡ Reference)
+            × (e.header ≡ record {
+              width = width;
+              height = height;
+              channels = e.header.channels;
+              colorspace = ColorSpace.Srgb;
+            })) }
 
         // The refusals.
         ensures refused { IfErr result (λ e. image_header «data».entry.now width height ≡ Err e) }
@@ -242,40 +224,15 @@ impl<'a> Encoder<'a> {
     /// file would fit; then the buffer is untouched.
     #[tactic(auto, using(crate::proofs::encoding::BufferFilled::buffer_filled))]
     pub fn encode_to_buf(&self, buf: &mut [u8]) -> Result<usize>
+        // A success: the file stands in the front of the buffer, and later bytes stay.
+        ensures encoded { IfOk result (PutsFile self.now buf.old buf.new) }
+        ensures accepts { max_file_len self.now.header ≤ length buf.old → IsOk result }
+
         // The refusal, which leaves the buffer as it is.
         ensures short { length buf.old < max_file_len self.now.header
             → IsErrOf result
             (Error.OutputBufferTooSmall (length buf.old) (max_file_len self.now.header))
             × (buf.new ≡ buf.old) }
-
-        // What the result is: the file stands in the front, and later bytes stay.
-        ensures encoded { max_file_len self.now.header ≤ length buf.old
-            → IsOkAnd result (λ n. (bytes : List ℕ)
-            × IsFileOf self.now.style self.now.header self.now.raw bytes
-            × (n ≡ length bytes) × (buf.new ≡ bytes ++ drop n buf.old)) }
-        // The part of the buffer that was written is the file.
-        ensures front { IfOk result (λ n.
-            IsFileOf self.now.style self.now.header self.now.raw (take n buf.new)) }
-        // Any bytes that are the file of the image are those that were written.
-        ensures same { (bytes : List ℕ) → IsFileOf self.now.style self.now.header self.now.raw bytes
-            → IfOk result (λ n. (n ≡ length bytes) × (buf.new ≡ bytes ++ drop n buf.old)) }
-
-        // How short it is. In style `Tight` no list of chunks of the image, regular or not, makes a
-        // shorter file.
-        ensures shortest { self.now.style ≡ Tight
-            → IfOk result (IsShortest self.now.header self.now.raw) }
-        // In style `Places` the file is as long as in `Reference`.
-        ensures as_long { self.now.style ≡ Places → (bytes : List ℕ)
-            → IsFileOf Reference self.now.header self.now.raw bytes
-            → IfOk result (λ n. n ≡ length bytes) }
-        // In style `Tight` it is no longer than in any style.
-        ensures no_longer { self.now.style ≡ Tight → (style : Style) (bytes : List ℕ)
-            → IsFileOf style self.now.header self.now.raw bytes
-            → IfOk result (λ n. n ≤ length bytes) }
-
-        // How many bytes it has.
-        ensures length { IfOk result (IsFileLength self.now.header) }
-        ensures room { IfOk result (λ n. n ≤ length buf.old) }
     {
         let required = self.required_buf_len();
         if buf.len() < required {
@@ -293,34 +250,8 @@ impl<'a> Encoder<'a> {
     ///
     /// `OutOfMemory` if the allocation of `required_buf_len` bytes fails.
     pub fn encode_to_vec(&self, alloc: Global) -> Result<Vec<u8>>
-        // What the result is: the vector is the file.
-        ensures encoded { IfOk result (λ v.
-            IsFileOf self.now.style self.now.header self.now.raw v.items) }
-        // Any bytes that are the file of the image are those of the vector.
-        ensures same { (bytes : List ℕ) → IsFileOf self.now.style self.now.header self.now.raw bytes
-            → IfOk result (λ v. v.items ≡ bytes) }
-
-        // How short it is. In style `Tight` no list of chunks of the image, regular or not, makes a
-        // shorter file.
-        ensures shortest { self.now.style ≡ Tight
-            → IfOk result (λ v. IsShortest self.now.header self.now.raw (length v.items)) }
-        // In style `Places` the file is as long as in `Reference`.
-        ensures as_long { self.now.style ≡ Places → (bytes : List ℕ)
-            → IsFileOf Reference self.now.header self.now.raw bytes
-            → IfOk result (λ v. length v.items ≡ length bytes) }
-        // In style `Tight` it is no longer than in any style.
-        ensures no_longer { self.now.style ≡ Tight → (style : Style) (bytes : List ℕ)
-            → IsFileOf style self.now.header self.now.raw bytes
-            → IfOk result (λ v. length v.items ≤ length bytes) }
-
-        // How many bytes it has.
-        ensures length { IfOk result (λ v. IsFileLength self.now.header (length v.items)) }
-
-        // With another color space the file has another fourteenth byte, and is otherwise the same.
-        ensures space { (space : ColorSpace) (bytes : List ℕ)
-            → IsFileOf self.now.style (record self.now.header { colorspace = space })
-            self.now.raw bytes
-            → IfOk result (λ v. bytes ≡ slice_set v.items colorspace_at (colorspace_number space)) }
+        // A success: the vector is the file.
+        ensures encoded { IfOk result (λ v. MakesFile self.now v.items) }
 
         // The refusals.
         ensures refused { IsOkUnless result Error.OutOfMemory }
@@ -338,36 +269,13 @@ impl<'a> Encoder<'a> {
     /// `WriteZero`); then a beginning of the file was written. The file is written in pieces of
     /// 4096 bytes and a last one of the rest.
     pub fn encode_to_stream<W: Write>(&self, writer: &mut W) -> Result<usize>
-        // What the result is: all of the file was sent.
-        ensures sent { IfOk result (λ n. (bytes : List ℕ)
-            × IsFileOf self.now.style self.now.header self.now.raw bytes × (n ≡ length bytes)
-            × Appends (W.contents writer.old) (W.contents writer.new) bytes) }
-        // Of any bytes that are the file of the image, all were sent, or if refused a beginning.
-        ensures same { (bytes : List ℕ) → IsFileOf self.now.style self.now.header self.now.raw bytes
-            → MatchResult result (λ n. (n ≡ length bytes)
-            × Appends (W.contents writer.old) (W.contents writer.new) bytes)
-            (λ _. AppendsBeginning (W.contents writer.old) (W.contents writer.new) bytes) }
-
-        // How short it is. In style `Tight` no list of chunks of the image, regular or not, makes a
-        // shorter file.
-        ensures shortest { self.now.style ≡ Tight
-            → IfOk result (IsShortest self.now.header self.now.raw) }
-        // In style `Places` the file is as long as in `Reference`.
-        ensures as_long { self.now.style ≡ Places → (bytes : List ℕ)
-            → IsFileOf Reference self.now.header self.now.raw bytes
-            → IfOk result (λ n. n ≡ length bytes) }
-        // In style `Tight` it is no longer than in any style.
-        ensures no_longer { self.now.style ≡ Tight → (style : Style) (bytes : List ℕ)
-            → IsFileOf style self.now.header self.now.raw bytes
-            → IfOk result (λ n. n ≤ length bytes) }
-
-        // How many bytes it has.
-        ensures length { IfOk result (IsFileLength self.now.header) }
+        // A success: all of the file was sent.
+        ensures sent { IfOk result
+            (SendsFile self.now (W.contents writer.old) (W.contents writer.new)) }
 
         // The refusals: a beginning of the file was sent.
-        ensures refused { IfErr result (λ e. IsIoError e × (bytes : List ℕ)
-            × IsFileOf self.now.style self.now.header self.now.raw bytes
-            × AppendsBeginning (W.contents writer.old) (W.contents writer.new) bytes) }
+        ensures refused { IfErr result (λ e. IsIoError e
+            × SendsPart self.now (W.contents writer.old) (W.contents writer.new)) }
     {
         let mut writer = GenericWriter::new(writer);
         let n = encode_image(&mut writer, self.style, &self.header, self.data)?;

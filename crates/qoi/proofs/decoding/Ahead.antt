@@ -9,29 +9,22 @@ use Rattle.qoi.specs.declared.types.Channels.{Channels}
 use Rattle.qoi.specs.declared.types.Style.{Style}
 use Rattle.qoi.specs.Qoi.{channels_number, header_bytes, header_of, header_size, IsValid, pixel_count, meaning}
 use Rattle.qoi.specs.Raw.{output}
-use Rattle.qoi.specs.Verdicts.{IsWhole, AreWrong, AreCut}
+use Rattle.qoi.specs.Verdicts.{AreWrong, AreCut}
 use Rattle.qoi.specs.Decoding.{DecodesFile, ReadsImage, RefusesImage, TakesHeader}
 use Rattle.qoi.specs.DecoderState.{DecoderState}
 use Rattle.qoi.specs.Encoded.{IsFileOf}
-use Rattle.qoi.specs.Reading.{IsDecoderOf, IsImage, IsImageFor}
+use Rattle.qoi.specs.Reading.{IsDecoderOf, IsImage, StandsAhead}
 use Rattle.qoi.specs.Errors.{IsReaderFault}
-use Rattle.qoi.proofs.decoding.OneFile.{decodes_file, file_parts, header_is_one}
+use Rattle.qoi.proofs.decoding.OneFile.{decodes_file, file_parts}
 use Rattle.qoi.proofs.decoding.StreamVerdicts.{fourth_is_opaque, read_is_whole, whole_is_io_error}
 use Rattle.qoi.proofs.decoding.Refusals.{whole_not_refused_in}
 use Rattle.qoi.proofs.format.HeaderBytes.{header_split}
 use Rattle.qoi.proofs.format.OneVerdict.{whole_not_cut, whole_not_wrong}
 
--- after the header of a file stands its image, and then what follows the file
-image_of_file : (channels : Channels) (k : Header) (bytes : List ℕ) (h : Header) (rest raw : List ℕ)
-    → header_of bytes ≡ Ok k → channels ≡ k.channels → DecodesFile bytes h rest raw → IsImage channels (drop header_size bytes) k rest raw
-image_of_file channels k bytes h rest raw read own f =
-    let same : k ≡ h = header_is_one bytes k h read f.header in
-    let P : Header → Channels → List ℕ = λ j c. output (channels_number j.channels) (channels_number c) (take (pixel_count j) (meaning f.cs)) in
-    record {
-      cs = f.cs;
-      whole = subst (λ j. IsWhole (pixel_count j) (drop header_size bytes) f.cs rest) (sym same) f.whole;
-      out_is = f.out_is ∙ ap (λ j. P j j.channels) (sym same) ∙ ap (P k) (sym own);
-    }
+-- after the header of a file stands its image
+pub stands_after : (bytes : List ℕ) (h : Header) (rest raw : List ℕ) → DecodesFile bytes h rest raw → StandsAhead h (drop header_size bytes)
+unfolding StandsAhead
+stands_after bytes h rest raw f = (f.cs, rest, f.whole)
 
 -- the file of an image, as a file
 pub file_ahead : (style : Style) (h : Header) (raw bytes rest all : List ℕ) → IsFileOf style h raw bytes → all ≡ bytes ++ rest → DecodesFile all h rest raw
@@ -57,21 +50,14 @@ header_front old (Some rest) bytes h r told =
     let after = (header_split bytes r.0 rest h split r.2 r.3).1 in
     (split ∙ ap (λ z. z ++ rest) r.4 ∙ ap (λ z. header_bytes h ++ z) after, r.5)
 
--- after the header of a file stands its image, for the decoder of that header
-pub image_ahead : {R : Type 0} (d : DecoderState R) (bytes : List ℕ) (h : Header) (rest raw : List ℕ) → header_of bytes ≡ Ok d.header
-    → d.channels ≡ d.header.channels → DecodesFile bytes h rest raw → (d.header ≡ h) × IsImageFor d (drop header_size bytes) rest raw
-unfolding IsImageFor
-image_ahead d bytes h rest raw read own f =
-    (header_is_one bytes d.header h read f.header, image_of_file d.channels d.header bytes h rest raw read own f)
-
 -- what refuses an image that stands ahead is a fault
-pub fault_ahead : {R : Type 0} (in_memory : Bool) (d : DecoderState R) (old new : Option (List ℕ)) (e : Error) (bytes rest raw : List ℕ)
-    → IsImageFor d bytes rest raw → old ≡ Some bytes → RefusesImage in_memory (pixel_count d.header) old new e → IsReaderFault in_memory e
-unfolding IsImageFor
-fault_ahead true d old new e bytes rest raw image told refused =
-    whole_not_refused_in true (pixel_count d.header) old new e bytes image.cs rest refl told image.whole refused
-fault_ahead false d old new e bytes rest raw image told refused =
-    whole_is_io_error (pixel_count d.header) bytes image.cs rest new e image.whole (subst (λ z. RefusesImage false (pixel_count d.header) z new e) told refused)
+pub fault_ahead : (in_memory : Bool) (h : Header) (old new : Option (List ℕ)) (e : Error) (bytes : List ℕ)
+    → StandsAhead h bytes → old ≡ Some bytes → RefusesImage in_memory (pixel_count h) old new e → IsReaderFault in_memory e
+unfolding StandsAhead
+fault_ahead true h old new e bytes (cs, rest, whole) told refused =
+    absurd (whole_not_refused_in true (pixel_count h) old new e bytes cs rest refl told whole refused)
+fault_ahead false h old new e bytes (cs, rest, whole) told refused =
+    whole_is_io_error (pixel_count h) bytes cs rest new e whole (subst (λ z. RefusesImage false (pixel_count h) z new e) told refused)
 
 -- what is read from known bytes is an image at their front, and what follows it is left
 image_read : (channels : Channels) (h : Header) (bytes : List ℕ) (left : Option (List ℕ)) (out : List ℕ)

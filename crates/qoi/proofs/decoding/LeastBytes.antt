@@ -36,7 +36,7 @@ enough_bytes n bytes cs eight rest takes enough is =
     omega (arith, most, enough, is, length-meaning cs, ap length takes.split, length-append (chunk_bytes cs) (eight ++ rest), length-append eight rest)
 
 -- whole bytes are enough
-whole_holds : (n : ℕ) (bytes : List ℕ) (cs : List Chunk) (rest : List ℕ) → IsWhole n bytes cs rest → least_byte_count n ≤ length bytes
+pub whole_holds : (n : ℕ) (bytes : List ℕ) (cs : List Chunk) (rest : List ℕ) → IsWhole n bytes cs rest → least_byte_count n ≤ length bytes
 whole_holds n bytes cs rest whole = enough_bytes n bytes cs end_marker rest whole.has whole.enough refl
 
 -- an image and the end marker take nine bytes at least

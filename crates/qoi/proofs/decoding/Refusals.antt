@@ -8,7 +8,7 @@ use Rattle.qoi.specs.Decoding.{RefusesBytes, RefusesImage}
 use Rattle.qoi.proofs.format.OneVerdict.{whole_not_cut, whole_not_wrong}
 
 -- bytes whose verdict is whole are not refused
-whole_not_refused : (n : ℕ) (bytes : List ℕ) (cs : List Chunk) (rest : List ℕ) (e : Error) → IsWhole n bytes cs rest → RefusesBytes n bytes e → ⊥
+pub whole_not_refused : (n : ℕ) (bytes : List ℕ) (cs : List Chunk) (rest : List ℕ) (e : Error) → IsWhole n bytes cs rest → RefusesBytes n bytes e → ⊥
 whole_not_refused n bytes cs rest UnexpectedBufferEnd whole (ds, part, cut) = whole_not_cut n bytes cs ds rest part whole cut
 whole_not_refused n bytes cs rest InvalidPadding whole (after, wrong) = whole_not_wrong n bytes cs wrong.0 rest wrong.1 after whole wrong.2
 whole_not_refused n bytes cs rest _ whole no_reason = no_reason

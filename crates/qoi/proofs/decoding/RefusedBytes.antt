@@ -9,13 +9,13 @@ use Rattle.qoi.proofs.decoding.StreamVerdicts.{cut_is_io_error, padding_is_wrong
 use Rattle.qoi.proofs.format.OneVerdict.{cut_not_wrong}
 
 -- cut bytes in memory are refused for their end
-cut_in_memory : (n : ℕ) (bytes : List ℕ) (e : Error) → AreCut n bytes → RefusesBytes n bytes e → e ≡ UnexpectedBufferEnd
+pub cut_in_memory : (n : ℕ) (bytes : List ℕ) (e : Error) → AreCut n bytes → RefusesBytes n bytes e → e ≡ UnexpectedBufferEnd
 cut_in_memory n bytes UnexpectedBufferEnd cut why = refl
 cut_in_memory n bytes InvalidPadding (cs, part, cut) (rest, (ds, eight, wrong)) = absurd (cut_not_wrong n bytes cs ds part eight rest cut wrong)
 cut_in_memory n bytes _ cut none = absurd none
 
 -- wrong bytes in memory are refused for their padding
-wrong_in_memory : (n : ℕ) (bytes : List ℕ) (e : Error) → AreWrong n bytes → RefusesBytes n bytes e → e ≡ InvalidPadding
+pub wrong_in_memory : (n : ℕ) (bytes : List ℕ) (e : Error) → AreWrong n bytes → RefusesBytes n bytes e → e ≡ InvalidPadding
 wrong_in_memory n bytes InvalidPadding wrong why = refl
 wrong_in_memory n bytes UnexpectedBufferEnd (rest, (ds, eight, wrong)) (cs, part, cut) = absurd (cut_not_wrong n bytes cs ds part eight rest cut wrong)
 wrong_in_memory n bytes _ wrong none = absurd none

@@ -34,15 +34,15 @@ returns-in_err-pixels-clause-refused g c =
     let accepted = c.in_ok-new.ensures.accepted in
     let chosen = c.with_channels-decoder.result in
     let same = c.with_channels-decoder.ensures in
-    let read = subst (λ (z : List ℕ). header_of z ≡ Ok d.header) c.deref.ensures.value accepted.0 in
-    let after = ap (λ (z : DecoderState (List ℕ)). z.reader) same ∙ accepted.2 ∙ ap (drop header_size) c.deref.ensures.value in
+    let read = subst (λ (z : List ℕ). header_of z ≡ Ok d.header) c.deref.ensures.value accepted.header in
+    let after = ap (λ (z : DecoderState (List ℕ)). z.reader) same ∙ (cc accepted.after) ∙ ap (drop header_size) c.deref.ensures.value in
     let unwritten = Keeps-refl (g.W.Write.contents c.args.output.now) in
-    rw (p.1, p.2) (⊎_elim (λ none. inr (inl (subst IsIoOrMemory (sym none) tt, unwritten)))
+    rw (p.1, p.2) (⊎_elim (λ none. inr (inl (subst IsIoOrMemory (sym none.0) tt, unwritten)))
     (λ r. inl (
       c.in_ok-file.file.items,
       c.in_ok-file.ensures.read,
       refused_bytes c.in_ok-file.file.items d.header chosen.header chosen.reader c.in_err-pixels.field-0.0 read
-          (ap (λ (z : DecoderState (List ℕ)). z.header) same) after r.1,
+          (ap (λ (z : DecoderState (List ℕ)). z.header) same) after r.why.1,
       unwritten,
     ))
     c.in_err-pixels.ensures.refused)
@@ -66,11 +66,11 @@ returns-clause-done g c =
     let accepted = c.in_ok-new.ensures.accepted in
     let input = c.in_ok-file.file.items in
     let out = c.in_ok-pixels.pixels.items in
-    let r = c.in_ok-pixels.ensures.rest chosen.reader refl in (
+    let r = c.in_ok-pixels.ensures.decoded.rest chosen.reader refl in (
       input,
       out,
       c.in_ok-file.ensures.read,
-      answer_of input c.args.channels d chosen c.deref.result.now r.0 out c.deref.ensures.value accepted.0 accepted.2 c.with_channels-decoder.ensures r.2,
+      answer_of input c.args.channels d chosen c.deref.result.now r.0 out c.deref.ensures.value accepted.header (cc accepted.after) c.with_channels-decoder.ensures r.2,
       subst (Appends _ _) c.deref-2.ensures.value c.in_ok-write_all.ensures.written,
     )
 
@@ -83,7 +83,7 @@ returns-in_err-write_all-clause-refused g c =
     let accepted = c.in_ok-new.ensures.accepted in
     let input = c.in_ok-file.file.items in
     let out = c.in_ok-pixels.pixels.items in
-    let r = c.in_ok-pixels.ensures.rest chosen.reader refl in
+    let r = c.in_ok-pixels.ensures.decoded.rest chosen.reader refl in
     let failed = c.in_err-write_all.ensures.failed in
     rw (p.1, p.2) (inr (inr (
       failed.0,
@@ -91,7 +91,7 @@ returns-in_err-write_all-clause-refused g c =
         input,
         out,
         c.in_ok-file.ensures.read,
-        answer_of input c.args.channels d chosen c.deref.result.now r.0 out c.deref.ensures.value accepted.0 accepted.2 c.with_channels-decoder.ensures r.2,
+        answer_of input c.args.channels d chosen c.deref.result.now r.0 out c.deref.ensures.value accepted.header (cc accepted.after) c.with_channels-decoder.ensures r.2,
         subst (AppendsBeginning _ _) c.deref-2.ensures.value failed.1,
       ),
     )))

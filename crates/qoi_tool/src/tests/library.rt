@@ -11,6 +11,7 @@ mod chunks;
 mod decoder;
 mod encoder;
 mod errors;
+mod exact;
 mod facts;
 mod generated;
 mod lengths;

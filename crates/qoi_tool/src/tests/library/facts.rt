@@ -85,6 +85,15 @@ pub fn size_with_image(
     Ok((header, back))
 }
 
+/// Headers. So has the header of the method's file.
+pub fn size_by_method(alloc: Global, raw: &[u8], width: u32, height: u32) -> Result<Header, Error>
+    ensures { IfOk result (λ h. (h.width ≡ width) × (h.height ≡ height)) }
+{
+    let file = Encoder::new(raw, width, height)?.encode_to_vec(alloc)?;
+    let header = decode_header(&file)?;
+    Ok(header)
+}
+
 /// Color spaces. In `Linear` the fourteenth byte is 1, and all else is as in `Srgb`.
 pub fn both_spaces(
     alloc: Global,
@@ -114,6 +123,96 @@ pub fn rgb_of_rgba(
     let mut decoder = Decoder::new(&file)?.with_channels(Channels::Rgb);
     let rgb = decoder.decode_to_vec(alloc)?;
     Ok((*decoder.header(), rgb))
+}
+
+/// Channels. So is one that the free call encoded.
+pub fn rgb_of_own(
+    alloc: Global,
+    raw: &[u8],
+    width: u32,
+    height: u32,
+) -> Result<(Header, Vec<u8>), Error>
+    ensures { IfOk result (λ x. x.0.channels ≡ Channels.Rgba → x.1.items ≡ without_fourth raw.now) }
+{
+    let file = encode_to_vec(alloc, raw, width, height)?;
+    let mut decoder = Decoder::new(&file)?.with_channels(Channels::Rgb);
+    let rgb = decoder.decode_to_vec(alloc)?;
+    Ok((*decoder.header(), rgb))
+}
+
+/// Channels. The same from a stream.
+pub fn rgb_of_stream(
+    alloc: Global,
+    raw: &[u8],
+    width: u32,
+    height: u32,
+) -> Result<(Header, Vec<u8>), Error>
+    ensures { IfOk result (λ x. x.0.channels ≡ Channels.Rgba → x.1.items ≡ without_fourth raw.now) }
+{
+    let file = encode_to_vec(alloc, raw, width, height)?;
+    let mut decoder = Decoder::from_stream(file.as_slice())?.with_channels(Channels::Rgb);
+    let rgb = decoder.decode_to_vec(alloc)?;
+    Ok((*decoder.header(), rgb))
+}
+
+/// Channels. Chosen ones that are the file's own give the raw bytes.
+pub fn rgba_of_rgba(
+    alloc: Global,
+    raw: &[u8],
+    width: u32,
+    height: u32,
+) -> Result<(Header, Vec<u8>), Error>
+    ensures { IfOk result (λ x. x.0.channels ≡ Channels.Rgba → x.1.items ≡ raw.now) }
+{
+    let file = encode_to_vec(alloc, raw, width, height)?;
+    let mut decoder = Decoder::new(&file)?.with_channels(Channels::Rgba);
+    let rgba = decoder.decode_to_vec(alloc)?;
+    Ok((*decoder.header(), rgba))
+}
+
+/// Successes. A decoder of an encoder's file is made.
+pub fn made(alloc: Global, raw: &[u8], width: u32, height: u32) -> Result<usize, Error> {
+    let file = Encoder::new(raw, width, height)?.encode_to_vec(alloc)?;
+    match Decoder::new(&file) {
+        Ok(decoder) => Ok(decoder.required_buf_len()),
+        Err(_) => unreachable!(),
+    }
+}
+
+/// Successes. It decodes the file into a buffer that is long enough.
+pub fn into_long_buffer(
+    alloc: Global,
+    out: &mut [u8],
+    raw: &[u8],
+    width: u32,
+    height: u32,
+) -> Result<usize, Error> {
+    let file = Encoder::new(raw, width, height)?.encode_to_vec(alloc)?;
+    let mut decoder = Decoder::new(&file)?;
+    if out.len() < decoder.required_buf_len() {
+        return Ok(0);
+    }
+    match decoder.decode_to_buf(out) {
+        Ok(size) => Ok(size),
+        Err(_) => unreachable!(),
+    }
+}
+
+/// Successes. The free call refuses an encoder's file only if memory runs out.
+pub fn decoded_unless(
+    alloc: Global,
+    raw: &[u8],
+    width: u32,
+    height: u32,
+) -> Result<Vec<u8>, Error> {
+    let file = encode_to_vec(alloc, raw, width, height)?;
+    match decode_to_vec(alloc, &file) {
+        Ok((_, back)) => Ok(back),
+        Err(e) => match e {
+            Error::OutOfMemory => Err(e),
+            _ => unreachable!(),
+        },
+    }
 }
 
 /// Measures. A success took nine bytes at least.
@@ -220,5 +319,35 @@ fn sizes_and_spaces(rt: HostRuntime) -> Result<(), Error> {
     let mut changed = ONE_RGB_PIXEL;
     changed[13] = 1;
     assert_bytes(&rt, &linear, &changed);
+    Ok(())
+}
+
+#[test]
+fn sizes_and_channels_of_own_files(rt: HostRuntime) -> Result<(), Error> {
+    let alloc = rt.alloc();
+    let rgba = [1, 2, 3, 4, 5, 6, 7, 8];
+    let header = size_by_method(alloc, &rgba, 2, 1)?;
+    assert_number(&rt, header.width as usize, 2);
+    assert_number(&rt, header.height as usize, 1);
+    let rgb = [1, 2, 3, 5, 6, 7];
+    assert_bytes(&rt, &rgb_of_own(alloc, &rgba, 2, 1)?.1, &rgb);
+    assert_bytes(&rt, &rgb_of_stream(alloc, &rgba, 2, 1)?.1, &rgb);
+    assert_bytes(&rt, &rgba_of_rgba(alloc, &rgba, 2, 1)?.1, &rgba);
+    Ok(())
+}
+
+#[test]
+fn own_files_are_decoded(rt: HostRuntime) -> Result<(), Error> {
+    let alloc = rt.alloc();
+    assert_number(&rt, made(alloc, &PIXEL, 1, 1)?, 3);
+    let mut out = [0xaa; 4];
+    assert_number(&rt, into_long_buffer(alloc, &mut out, &PIXEL, 1, 1)?, 3);
+    assert_bytes(&rt, &out, &[0x0b, 0x79, 0xe7, 0xaa]);
+    assert_number(
+        &rt,
+        into_long_buffer(alloc, &mut out[..2], &PIXEL, 1, 1)?,
+        0,
+    );
+    assert_bytes(&rt, &decoded_unless(alloc, &PIXEL, 1, 1)?, &PIXEL);
     Ok(())
 }

@@ -1,9 +1,10 @@
 //! Callers that keep several files in one slice (a pack): the image of the file at an offset comes
 //! back, whatever follows it. `put` and `three_tiles` alone have proof files.
-ghost use Rattle.std.specs.Prelude.{◌≡◌, ℕ, List, ◌++◌, drop, Option, Some, IfOk, OnOk};
+ghost use Rattle.std.specs.Prelude.{◌≡◌, ℕ, List, ◌++◌, length, drop, Option, Some, IfOk, OnOk};
 ghost use Rattle.qoi.specs.declared.header.Header.{Header};
 ghost use Rattle.qoi.specs.declared.types.Style.{Style};
 ghost use Rattle.qoi.specs.Encoded.{IsFileOf};
+ghost use Rattle.qoi.specs.Images.{file_image};
 ghost use Rattle.qoi_tool.specs.Files.{HasTile};
 
 use crate::tests::fakes::{ONE_RGB_PIXEL, PIXEL};
@@ -137,6 +138,16 @@ pub fn appended(
     Ok(back)
 }
 
+/// A tile is put at the end of an atlas, and its offset returned: what was put is its file.
+pub fn put_image(atlas: &mut Vec<u8>, raw: &[u8], width: u32, height: u32) -> Result<usize, Error>
+    ensures { IfOk result (λ at. (at ≡ length atlas.old.items)
+        × (file_image (drop at atlas.new.items) ≡ raw.now)) }
+{
+    let at = atlas.len();
+    Encoder::new(raw, width, height)?.encode_to_stream(atlas)?;
+    Ok(at)
+}
+
 /// A tile is put at the end of an atlas, and its offset returned; the tiles before it stay.
 pub fn put(atlas: &mut Vec<u8>, raw: &[u8], width: u32, height: u32) -> Result<usize, Error>
     ensures put { IfOk result (λ offset. HasTile atlas.new.items offset raw.now) }
@@ -219,6 +230,8 @@ fn of_an_atlas(rt: HostRuntime) -> Result<(), Error> {
     assert_bytes(&rt, &appended(alloc, &mut atlas, &other, 1, 1)?, &other);
     // A file of one pixel has 22 bytes and a chunk: here an RGB of four bytes, and a luma of two.
     assert_number(&rt, atlas.len(), 26 + 24);
+    let at = put_image(&mut atlas, &PIXEL, 1, 1)?;
+    assert_bytes(&rt, &tile_at(alloc, &atlas, at)?, &PIXEL);
     let (first, second, third) = three_tiles(alloc, &PIXEL, &other, &PIXEL, 1, 1)?;
     assert_bytes(&rt, &first, &PIXEL);
     assert_bytes(&rt, &second, &other);

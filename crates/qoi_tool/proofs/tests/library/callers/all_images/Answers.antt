@@ -1,5 +1,5 @@
 -- Each turn takes a file from the front of the rest, and puts its image after the others.
-use Rattle.std.proofs.Common.{◌≡◌, ◌<◌, ◌≤◌, ℕ, List, [], ◌∷◌, Some, Vec, Global, length, map, drop, ap, sym, ◌∙◌, subst, rules, append-nil}
+use Rattle.std.proofs.Common.{◌≡◌, ◌<◌, ◌≤◌, ℕ, List, [], ◌∷◌, Vec, Global, length, map, drop, ap, sym, ◌∙◌, subst, rules, append-nil}
 use Rattle.std.proofs.lemmas.List.{drop_all}
 use Rattle.qoi.specs.Qoi.{header_size}
 use Rattle.qoi_tool.specs.Files.{AreFiles}
@@ -11,7 +11,7 @@ loop-rest-smaller c =
     let bytes = c.loop-rest.rest.now in
     let h = c.in_ok-decoder.decoder.header in
     let raw = c.in_ok-decode_to_vec.field-0.items in
-    let read = c.in_ok-decode_to_vec.ensures.file bytes (drop header_size bytes) c.in_ok-decoder.ensures.made (ap Some c.in_ok-decoder.ensures.accepted.2) in
+    let read = c.in_ok-decode_to_vec.ensures.decoded.file bytes (drop header_size bytes) c.in_ok-decoder.ensures.accepted.made c.in_ok-decoder.ensures.accepted.after in
     let stands = read.1 in
     let left : c.decode_to_vec.new.self.reader ≡ read.0 = cc in
     let next = end_is_rest bytes h read.0 raw (length c.data-left.result.now) read.2 (ap length (c.data-left.ensures ∙ left)) in
@@ -22,7 +22,7 @@ loop-rest-preserved c = λ more files.
     let bytes = c.loop-rest.rest.now in
     let h = c.in_ok-decoder.decoder.header in
     let image = c.in_ok-decode_to_vec.field-0 in
-    let read = c.in_ok-decode_to_vec.ensures.file bytes (drop header_size bytes) c.in_ok-decoder.ensures.made (ap Some c.in_ok-decoder.ensures.accepted.2) in
+    let read = c.in_ok-decode_to_vec.ensures.decoded.file bytes (drop header_size bytes) c.in_ok-decoder.ensures.accepted.made c.in_ok-decoder.ensures.accepted.after in
     let stands = read.1 in
     let left : c.decode_to_vec.new.self.reader ≡ read.0 = cc in
     let next = end_is_rest bytes h read.0 image.items (length c.data-left.result.now) read.2 (ap length (c.data-left.ensures ∙ left)) in

@@ -1,5 +1,5 @@
 -- What the first decoder leaves is what the second is made from.
-use Rattle.std.proofs.Common.{◌≡◌, ◌∙◌, ℕ, List, Some, ap, drop, subst}
+use Rattle.std.proofs.Common.{◌≡◌, ◌∙◌, ℕ, List, drop, subst}
 use Rattle.qoi.specs.Qoi.{header_size}
 use Rattle.qoi.specs.Decoding.{DecodesFile}
 use Rattle.qoi_tool.proofs.tests.library.callers.both_images.Goals as goal
@@ -8,8 +8,8 @@ pub returns : goal.returns
 returns c =
     let bytes = c.args.bytes.now in
     let tail = c.data.result.now in
-    let first = c.in_ok-image.ensures.file bytes (drop header_size bytes) c.in_ok-first.ensures.made (ap Some c.in_ok-first.ensures.accepted.2) in
-    let second = c.in_ok-other.ensures.file tail (drop header_size tail) c.in_ok-second.ensures.made (ap Some c.in_ok-second.ensures.accepted.2) in
+    let first = c.in_ok-image.ensures.decoded.file bytes (drop header_size bytes) c.in_ok-first.ensures.accepted.made c.in_ok-first.ensures.accepted.after in
+    let second = c.in_ok-other.ensures.decoded.file tail (drop header_size tail) c.in_ok-second.ensures.accepted.made c.in_ok-second.ensures.accepted.after in
     let stands = first.1 in
     let left : c.decode_to_vec.new.self.reader ≡ first.0 = cc in
     let P : List ℕ → Type 0 = λ z. DecodesFile z c.in_ok-second.second.header second.0 c.in_ok-other.other.items in

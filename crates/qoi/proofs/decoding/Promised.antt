@@ -1,0 +1,158 @@
+-- What a success and a refusal promise follows from what they mean.
+use Rattle.std.proofs.Common.{◌≡◌, ◌≤◌, ℕ, ◌*◌, List, [], take, length, Bool, Option, None, Some, IfSome, Ok, ◌-◌, ◌^◌, min, ◌++◌, drop, inl, inr, refl, sym, ◌∙◌, subst, ap, arith}
+use Rattle.std.proofs.lemmas.List.{append-nil, length-drop, take_at}
+use Rattle.qoi.specs.declared.chunk.Chunk.{Chunk}
+use Rattle.qoi.specs.declared.header.Header.{Header}
+use Rattle.qoi.specs.declared.types.Channels.{Channels}
+use Rattle.qoi.specs.declared.types.Channels.TheVariants.{Rgb, Rgba}
+use Rattle.qoi.specs.declared.types.Style.{Style}
+use Rattle.qoi.specs.declared.error.Error.{Error}
+use Rattle.qoi.specs.declared.error.Error.TheVariants.{IoError}
+use Rattle.qoi.specs.Errors.{IsIoError}
+use Rattle.qoi.specs.Qoi.{channels_number, pixel_count, header_size, header_of, IsValid, AreBytes}
+use Rattle.qoi.specs.Raw.{HasImageLength, capped_byte_count, image_byte_count, byte_count}
+use Rattle.qoi.specs.Decoding.{DecodesFile, ReadsImage, TakesHeader, RefusesBytes, RefusesFile, RefusesImage, RefusesStreamHeader}
+use Rattle.qoi.specs.DecoderState.{DecoderState, output_byte_count}
+use Rattle.qoi.specs.Images.{front_image, front_rest, file_image, file_rest}
+use Rattle.qoi.specs.Reading.{IsImage}
+use Rattle.qoi.specs.Decoded.{HasHeader, HasRefusedHeader, HasDecoded, HasRefused, HasDecodedFile, HasRefusedFile}
+use Rattle.qoi.specs.Encoded.{IsFileOf}
+use Rattle.qoi.specs.Verdicts.{IsWhole}
+use Rattle.qoi.proofs.decoding.Ahead.{decoder_of, fault_ahead, file_ahead, header_front, header_read_from, file_from_image, fourth_of_image, image_not_cut, image_not_wrong, image_read_from}
+use Rattle.qoi.proofs.decoding.LeastBytes.{whole_holds}
+use Rattle.qoi.proofs.decoding.FrontImage.{file_image_is, image_after_read, front_read, nine_read, some_pixels, three_read}
+use Rattle.qoi.proofs.decoding.ImageSize.{bounded_by}
+use Rattle.qoi.proofs.decoding.OneFile.{decodes_after, file_has_header, file_is_whole, header_is_one}
+use Rattle.qoi.proofs.format.HeaderBytes.{header_front as header_at_front}
+use Rattle.qoi.proofs.format.OneVerdict.{whole_not_cut, whole_not_wrong}
+use Rattle.qoi.proofs.decoding.RefusedBytes.{cut_in_memory, end_is_cut, wrong_in_memory, padding_is_only_wrong, refused_for_cut, refused_for_wrong}
+use Rattle.qoi.proofs.decoding.Refusals.{whole_not_refused, whole_not_refused_in}
+use Rattle.qoi.proofs.decoding.TakenBytes.{read_within, refused_within}
+
+-- what holds of known bytes
+if_known : (old : Option (List ℕ)) (P : List ℕ → Type 0) → ((bytes : List ℕ) → old ≡ Some bytes → P bytes) → IfSome old P
+if_known None P is = tt
+if_known (Some bytes) P is = is bytes refl
+
+-- what a decoder that was made promises
+pub has_header : {R : Type 0} (d : DecoderState R) (old new : Option (List ℕ)) → TakesHeader old new d.header → d.channels ≡ d.header.channels
+    → HasHeader d old new
+has_header d old new takes own = record {
+  takes = takes;
+  channels = own;
+  header = if_known old _ (λ bytes told. (header_read_from old new bytes d.header takes told).0);
+  after = if_known old _ (λ bytes told. (header_read_from old new bytes d.header takes told).1);
+  image = subst (λ k. IfSome old (λ bytes. IfSome new (λ ahead. (front_image k d.header ahead ≡ file_image bytes)
+      × (front_rest d.header ahead ≡ file_rest bytes)))) (sym own) (image_after_read old new d.header takes);
+  made = if_known old _ (λ bytes told.
+      let front = header_front old new bytes d.header takes told in decoder_of d bytes (drop header_size bytes) front.0 front.1 own);
+}
+
+-- a valid header is refused only for a fault of the reader
+header_fault : (bytes : List ℕ) (e : Error) (h : Header) → RefusesStreamHeader (Some bytes) e → header_of bytes ≡ Ok h → IsIoError e
+header_fault bytes (IoError x) h r read = tt
+header_fault bytes e h (None, (taken, none, why)) read = absurd none
+header_fault bytes e h (Some rest, (taken, split, why)) read =
+    let front = header_at_front bytes h read in
+    let same : take 14 bytes ≡ taken = ap (take 14) split ∙ take_at taken rest 14 why.0 in
+    let refused = why.1 in
+    let found = front.1 in
+    absurd cc
+
+-- what a refused header of a stream promises
+pub has_refused_header : (old : Option (List ℕ)) (e : Error) → RefusesStreamHeader old e → HasRefusedHeader old e
+has_refused_header old e r = record {
+  why = r;
+  fault = if_known old _ (λ bytes told h read. header_fault bytes e h (subst (λ z. RefusesStreamHeader z e) told r) read);
+}
+
+-- what a success promises
+pub has_decoded : {R : Type 0} (d : DecoderState R) (old new : Option (List ℕ)) (out : List ℕ) → HasImageLength (output_byte_count d) out
+    → ReadsImage (channels_number d.header.channels) (channels_number d.channels) (pixel_count d.header) old new out → HasDecoded d old new out
+has_decoded d old new out size r =
+    let stands : (bytes : List ℕ) → old ≡ Some bytes → (rest : List ℕ) × (new ≡ Some rest) × IsImage d.channels bytes d.header rest out =
+    (λ bytes told. image_read_from (λ _. old) d bytes new out r told) in
+    let many : 3 ≤ pixel_count d.header * channels_number d.channels = omega (arith, size.0, size.1) in
+    record {
+      reads = r;
+      image = front_read d.channels d.header old new out stands;
+      took = nine_read d.channels d.header old new out (some_pixels _ _ many) stands;
+      rest = stands;
+      file = λ source ahead made told. file_from_image (λ _. old) d source ahead new out made told stands;
+      rgb = λ three. three_read d.channels d.header old new out three stands;
+      opaque = λ four three i below. fourth_of_image _ _ _ old new out r (ap channels_number three) (ap channels_number four) i below;
+      size = size;
+      within = read_within _ _ _ old new out r;
+      enough = if_known old _ (λ bytes told. let s = stands bytes told in whole_holds _ bytes s.2.cs s.0 s.2.whole);
+      not_cut = λ bytes told cut. let s = stands bytes told in image_not_cut _ _ bytes s.0 out s.2 cut;
+      not_wrong = λ bytes told wrong. let s = stands bytes told in image_not_wrong _ _ bytes s.0 out s.2 wrong;
+    }
+
+pub has_refused : {R : Type 0} (in_memory : Bool) (d : DecoderState R) (old new : Option (List ℕ)) (e : Error)
+    → RefusesImage in_memory (pixel_count d.header) old new e → HasRefused in_memory d old new e
+has_refused in_memory d old new e r = record {
+  why = r;
+  not_whole = λ memory bytes rest cs told whole. whole_not_refused_in in_memory _ old new e bytes cs rest memory told whole r;
+  fault = if_known old _ (λ bytes told stands. fault_ahead in_memory d.header old new e bytes stands told r);
+  cut = λ bytes told cut. refused_for_cut in_memory _ old new e bytes told cut r;
+  wrong = λ bytes told wrong. refused_for_wrong in_memory _ old new e bytes told wrong r;
+  only_cut = λ bytes told is. end_is_cut in_memory _ old new e bytes told is r;
+  only_wrong = λ bytes told is. padding_is_only_wrong in_memory _ old new e bytes told is r;
+  within = refused_within in_memory _ old new e r;
+}
+
+-- the number of an image's bytes is exact for a valid header
+capped_is : (h : Header) → IsValid h → capped_byte_count h ≡ image_byte_count h
+capped_is h valid = exact h.channels (pixel_count h) valid.1
+  where
+    exact : (c : Channels) (n : ℕ) → n ≤ 400000000 → min (n * channels_number c) (2 ^ 64 - 1) ≡ n * channels_number c
+    exact Rgb n l = omega arith
+    exact Rgba n l = omega arith
+
+-- what a decoder made of the bytes decodes is the file at their front
+pub has_decoded_file : (bytes : List ℕ) (d : DecoderState (List ℕ)) (left out : List ℕ) → AreBytes bytes → header_of bytes ≡ Ok d.header
+    → d.channels ≡ d.header.channels → d.reader ≡ drop header_size bytes → HasDecoded d (Some d.reader) (Some left) out → HasDecodedFile bytes d.header out
+has_decoded_file bytes d left out fits read own after decoded =
+    let h = d.header in
+    let f : DecodesFile bytes h left out = decodes_after bytes d left out fits read own after decoded.reads in
+    let size : length out ≡ image_byte_count h = decoded.size.0 ∙ ap (λ k. byte_count h (channels_number k)) own in
+    record {
+      decodes = (left, f);
+      header = read;
+      image = file_image_is bytes h left out f;
+      size = (size ∙ sym (capped_is h f.is_file.valid), decoded.size.1);
+      per_byte = bounded_by (pixel_count h) (length out) h.channels d.reader bytes decoded.enough
+          (omega (arith, ap length after, length-drop header_size bytes)) (omega (arith, size));
+      not_cut = λ (cs, part, cut). whole_not_cut (pixel_count h) (drop header_size bytes) f.cs cs left part f.whole cut;
+      not_wrong = λ (more, (cs, eight, wrong)). whole_not_wrong (pixel_count h) (drop header_size bytes) f.cs cs left eight more f.whole wrong;
+    }
+
+-- a file isn't refused
+not_refused : (bytes : List ℕ) (e : Error) → RefusesFile bytes e → (h : Header) (cs : List Chunk) (rest : List ℕ) → header_of bytes ≡ Ok h
+    → IsWhole (pixel_count h) (drop header_size bytes) cs rest → ⊥
+not_refused bytes e (inl refused) h cs rest read whole = cc
+not_refused bytes e (inr (k, found, why)) h cs rest read whole =
+    whole_not_refused (pixel_count k) (drop header_size bytes) cs rest e
+    (subst (λ j. IsWhole (pixel_count j) (drop header_size bytes) cs rest) (header_is_one bytes h k read found) whole) why
+
+-- why the bytes after a header that was read are refused
+why_after : (bytes : List ℕ) (e : Error) → RefusesFile bytes e → (h : Header) → header_of bytes ≡ Ok h → RefusesBytes (pixel_count h) (drop header_size bytes) e
+why_after bytes e (inl refused) h read = absurd cc
+why_after bytes e (inr (k, found, why)) h read =
+    subst (λ j. RefusesBytes (pixel_count j) (drop header_size bytes) e) (header_is_one bytes k h found read) why
+
+-- what a refused file promises
+pub has_refused_file : (bytes : List ℕ) (e : Error) → RefusesFile bytes e → HasRefusedFile bytes e
+has_refused_file bytes e why =
+    let not_front : (style : Style) (h : Header) (raw front rest : List ℕ) → IsFileOf style h raw front → bytes ≡ front ++ rest → ⊥ =
+    (λ style h raw front rest f split.
+    let d = file_ahead style h raw front rest bytes f split in
+    not_refused bytes e why h d.cs rest d.header d.whole) in
+    record {
+      why = why;
+      not_file = λ h cs rest f split. not_refused bytes e why h cs rest (file_has_header h cs bytes rest f split) (file_is_whole h cs bytes rest f split);
+      not_whole = λ style h raw f. not_front style h raw bytes [] f (sym (append-nil bytes));
+      not_front = not_front;
+      cut = λ h read cut. cut_in_memory (pixel_count h) (drop header_size bytes) e cut (why_after bytes e why h read);
+      wrong = λ h read wrong. wrong_in_memory (pixel_count h) (drop header_size bytes) e wrong (why_after bytes e why h read);
+    }

@@ -1,0 +1,87 @@
+-- What an encoding call promises: the one file of the encoder's image was made, put into a buffer,
+-- or sent to a writer. Of each record the fields up to `counts` say what it means; the others follow
+-- from them, and are what callers need who compare the files of several calls.
+use Rattle.std.specs.Prelude.{◌≡◌, ℕ, ◌≤◌, List, ◌++◌, take, drop, length, slice_set, Option, Ok}
+use Rattle.std.specs.Io.KnownBytes.{Appends}
+use Rattle.qoi.specs.declared.types.ColorSpace.{ColorSpace}
+use Rattle.qoi.specs.declared.types.ColorSpace.TheVariants.{Srgb}
+use Rattle.qoi.specs.declared.types.Style.{Style}
+use Rattle.qoi.specs.declared.types.Style.TheVariants.{Reference, Places, Tight}
+use Rattle.qoi.specs.declared.header.Header.{Header}
+use Rattle.qoi.specs.Qoi.{colorspace_at, colorspace_number}
+use Rattle.qoi.specs.Encoded.{image_header, IsFileLength, IsFileOf, IsShortest}
+use Rattle.qoi.specs.EncoderState.{EncoderState, free_encoder}
+use Rattle.qoi.specs.writers.Writes.{AppendsBeginning}
+
+-- The encoder's file has n bytes.
+pub record HasFileLength (e : EncoderState) (n : ℕ) : Type 0 where
+  -- so has each file of the image in this style
+  pub same : (bytes : List ℕ) → IsFileOf e.style e.header e.raw bytes → n ≡ length bytes
+  -- there are 23 at least, and at most `encode_max_len`
+  pub within : IsFileLength e.header n
+  -- in style Tight no list of chunks of the image, regular or not, makes a shorter file
+  pub shortest : e.style ≡ Tight → IsShortest e.header e.raw n
+  -- so it is no longer than in any other style
+  pub no_longer : e.style ≡ Tight → (style : Style) (bytes : List ℕ) → IsFileOf style e.header e.raw bytes → n ≤ length bytes
+  -- in style Places it is as long as in Reference
+  pub as_long : e.style ≡ Places → (bytes : List ℕ) → IsFileOf Reference e.header e.raw bytes → n ≡ length bytes
+
+-- The encoder makes this file.
+pub record MakesFile (e : EncoderState) (bytes : List ℕ) : Type 0 where
+  -- the bytes are the file of the image
+  pub file : IsFileOf e.style e.header e.raw bytes
+  -- no other bytes are: what any other call made, put or sent is the same
+  pub same : (others : List ℕ) → IsFileOf e.style e.header e.raw others → bytes ≡ others
+  -- how many they are
+  pub counts : HasFileLength e (length bytes)
+  -- with another color space the file has another fourteenth byte, and is otherwise the same
+  pub space : (space : ColorSpace) (others : List ℕ) → IsFileOf e.style (record e.header { colorspace = space }) e.raw others
+      → others ≡ slice_set bytes colorspace_at (colorspace_number space)
+
+-- The encoder puts its file into the front of a buffer, where it has n bytes.
+pub record PutsFile (e : EncoderState) (old new : List ℕ) (n : ℕ) : Type 0 where
+  pub bytes : List ℕ
+  -- these are the file of the image
+  pub file : IsFileOf e.style e.header e.raw bytes
+  -- n is their number
+  pub count : n ≡ length bytes
+  -- they stand at the front, and later bytes stay
+  pub new_is : new ≡ bytes ++ drop n old
+  -- they fit into the buffer
+  pub room : n ≤ length old
+  -- the part of the buffer that was written is the file
+  pub front : IsFileOf e.style e.header e.raw (take n new)
+  -- what any other call made, put or sent stands there
+  pub same : (others : List ℕ) → IsFileOf e.style e.header e.raw others → new ≡ others ++ drop n old
+  -- how many bytes the file has
+  pub counts : HasFileLength e n
+
+-- The encoder sends its file, which has n bytes, to a writer.
+pub record SendsFile (e : EncoderState) (old new : Option (List ℕ)) (n : ℕ) : Type 0 where
+  pub bytes : List ℕ
+  -- these are the file of the image
+  pub file : IsFileOf e.style e.header e.raw bytes
+  -- n is their number
+  pub count : n ≡ length bytes
+  -- they were appended to the writer's bytes, if those are known
+  pub sent : Appends old new bytes
+  -- so was what any other call made, put or sent
+  pub same : (others : List ℕ) → IsFileOf e.style e.header e.raw others → Appends old new others
+  -- how many bytes the file has
+  pub counts : HasFileLength e n
+
+-- The encoder sends a beginning of its file to a writer.
+pub record SendsPart (e : EncoderState) (old new : Option (List ℕ)) : Type 0 where
+  pub bytes : List ℕ
+  -- these are the file of the image
+  pub file : IsFileOf e.style e.header e.raw bytes
+  -- a beginning of them was appended to the writer's bytes, if those are known
+  pub sent : AppendsBeginning old new bytes
+  -- so was the same beginning of what any other call made, put or sent
+  pub same : (others : List ℕ) → IsFileOf e.style e.header e.raw others → AppendsBeginning old new others
+
+-- the free calls make this file of raw bytes of this size: with the header that is found for them,
+-- which has that size and color space Srgb
+abbrev pub IsFileFor : List ℕ → ℕ → ℕ → List ℕ → Type 0
+IsFileFor raw width height bytes = (h : Header) × (image_header raw width height ≡ Ok h)
+    × (h ≡ record { width = width; height = height; channels = h.channels; colorspace = Srgb }) × MakesFile (free_encoder h raw) bytes

@@ -1,0 +1,11 @@
+-- A file of our own isn't refused.
+use Rattle.std.proofs.Common.{List, ℕ, sym, subst, ⊎_elim}
+use Rattle.qoi.specs.declared.types.Style.TheVariants.{Reference}
+use Rattle.qoi.specs.Encoded.{IsFileOf}
+use Rattle.qoi_tool.proofs.tests.library.facts.decoded_unless.Goals as goal
+
+pub unreachable-requires : goal.unreachable-requires
+unreachable-requires c =
+    let (h, found, is, made) = c.in_ok-file.ensures.encoded in
+    let file = subst (λ (z : List ℕ). IsFileOf Reference h c.args.raw.now z) (sym c.deref.ensures.value) made.file in
+    ⊎_elim (λ r. r.not_whole Reference h c.args.raw.now file) (λ none. c.in_default.not-OutOfMemory none.0) c.in-Err.ensures.refused
