@@ -8,18 +8,19 @@ ghost use Rattle.qoi.specs.DecoderState.{output_byte_count};
 ghost use Rattle.qoi.specs.Decoded.{HasHeader, HasRefusedHeader, HasDecoded, HasRefused, HasDecodedFile, HasRefusedFile};
 ghost use Rattle.qoi.specs.Raw.{capped_byte_count, image_byte_count};
 
+mod buffered;
 mod fast;
 mod pixels;
 mod reader;
 mod slice;
 mod stream;
 
-pub use crate::decode::reader::{Bytes, Reader};
+pub use crate::decode::reader::{Buffered, Bytes, Reader};
 use crate::error::{Error, Result};
 use crate::header::Header;
 use crate::types::Channels;
 use std::alloc::Global;
-use std::io::Read;
+use std::io::{BufRead, Read};
 use std::marker::Model;
 
 /// The header at the front of the bytes; what follows its fourteen bytes doesn't matter.
@@ -179,6 +180,50 @@ impl<R: Read + Drop> Decoder<R> {
         ensures { result ≡ self.reader }
     {
         self.reader
+    }
+}
+
+// The same decoder, which decodes from the reader's buffer.
+fn over_buffer<R: BufRead>(decoder: Decoder<R>) -> Decoder<Buffered<R>>
+    ensures { result ≡ decoder }
+{
+    Decoder {
+        reader: Buffered::new(decoder.reader),
+        header: decoder.header,
+        channels: decoder.channels,
+    }
+}
+
+impl<R: BufRead + Drop> Decoder<Buffered<R>> {
+    /// A decoder of the file that the reader gives next, like `from_stream`, that decodes from the
+    /// reader's buffer: as fast as from a slice if the buffer is large. It too takes no byte past
+    /// the end marker. What it asks for stands in the buffer, so reading ahead is up to the reader.
+    pub fn from_buf_read(reader: R) -> Result<Decoder<Buffered<R>>>
+        // A success: the fourteen bytes of a valid header were taken. (`R.ahead`, of which the
+        // methods speak, is `R.remaining` of the reader below.)
+        ensures accepted { IfOk result (λ d.
+            HasHeader d (R.remaining reader) (R.remaining d.reader)) }
+
+        // The refusals.
+        ensures refused { IfErr result (RefusesStreamHeader (R.remaining reader)) }
+    {
+        let decoder = Decoder::from_stream(reader)?;
+        Ok(over_buffer(decoder))
+    }
+
+    /// The reader, as it stands: past the header at first, past the end marker after an image, and
+    /// after a refusal past the bytes that were read.
+    pub fn reader(&self) -> &R
+        ensures { result.now ≡ self.now.reader }
+    {
+        self.reader.as_inner()
+    }
+
+    /// Gives back the reader, as it stands.
+    pub fn into_reader(self) -> R
+        ensures { result ≡ self.reader }
+    {
+        self.reader.into_inner()
     }
 }
 

@@ -1,12 +1,12 @@
 -- A chunk more, while there is room ahead.
-use Rattle.std.proofs.Common.{◌≡◌, ℕ, ◌+◌, ◌-◌, ◌*◌, ◌/◌, ◌%◌, ◌<◌, ◌≤◌, inl, inr, List, ◌++◌, length, take, drop, get_or, replicate, Bool, true, false, cond, arith, refl, sym, ap, ◌∙◌, subst, ◌∷◌}
+use Rattle.std.proofs.Common.{◌≡◌, ℕ, ◌+◌, ◌-◌, ◌*◌, ◌/◌, ◌%◌, ◌<◌, ◌≤◌, inl, inr, List, ◌++◌, length, take, drop, get_or, replicate, Bool, true, false, cond, arith, refl, sym, ap, ◌∙◌, subst, ◌∷◌, append_assoc}
 use Rattle.std.proofs.lemmas.Bool.{cases_lt}
 use Rattle.std.proofs.Math.Seq.{take-add}
 use mir.Val.{bool_byte}
 use Rattle.qoi.specs.declared.decode.fast.Progress.{Progress}
 use Rattle.qoi.specs.Qoi.{Past}
 use Rattle.qoi.specs.Raw.{IsChannels}
-use Rattle.qoi.specs.inner.Filling.{upto, filling, HasWritten, HasFilled, DecodesChunk, DecoderBetween, IsFront, FastBetween}
+use Rattle.qoi.specs.inner.Filling.{upto, filling, HasWritten, HasFilled, DecodesChunk, DecoderBetween, IsFrontAfter, FastBetween}
 use Rattle.qoi.specs.inner.Hashed.{pixel_of_lanes, HoldsSeen}
 use Rattle.qoi.proofs.decoding.FilledBuffer.{by_channels, filled_copies}
 use Rattle.qoi.proofs.decoding.FirstChunk.{PutsCopies}
@@ -47,21 +47,22 @@ next_byte true bytes taken size next s e = let at : taken + 1 + size ≡ taken +
 next_byte false bytes taken size next s e = let at : taken + 1 + size ≡ taken + 1 = omega (arith, s) in rw at e
 
 -- a chunk more was taken, its pixel put at its index position and written `count` times
-pub fast_step : {f c n : ℕ} {bytes table table' out out' : List ℕ} (now new : Progress) (count : ℕ) → IsChannels c → FastBetween f c n bytes now table out
+pub fast_step : {f c n : ℕ} {front bytes table table' out out' : List ℕ} (now new : Progress) (count : ℕ) → IsChannels c → FastBetween f c n front bytes now table out
     → now.written < length out → now.written + c * count ≤ length out → length out' ≡ length out → new.written ≡ now.written + c * count
     → ((past : Past) → HoldsSeen table past → HoldsSeen table' (pixel_of_lanes new.last ∷ past))
     → HasWritten f c (upto out now.written) (upto out' (now.written + c * count)) (replicate count (pixel_of_lanes new.last))
     → new.next ≡ get_or bytes new.taken 0 → (k : ℕ) → new.taken ≡ now.taken + k
     → (PutsCopies f c (pixel_of_lanes new.last) count (filling table now.last out now.written) (filling table' new.last out' (now.written + c * count))
     → DecodesChunk f c (take k (drop now.taken bytes)) (filling table now.last out now.written) (filling table' new.last out' (now.written + c * count)))
-    → FastBetween f c n bytes new table' out'
-fast_step {f} {c} {n} {bytes} {table} {table'} {out} {out'} now new count is h inside fits size end put written next k taken decodes =
+    → FastBetween f c n front bytes new table' out'
+fast_step {f} {c} {n} {front} {bytes} {table} {table'} {out} {out'} now new count is h inside fits size end put written next k taken decodes =
     let copies = λ (m : ℕ) (past : Past) (s : HasFilled f c m (upto out now.written) past). filled_copies f c m out out' now.written count (pixel_of_lanes new.last) past is inside fits size written s in
     let decoded = decodes (record { last_is = refl; table = put; filled = copies }) in
     record {
-      between = subst (λ at. DecoderBetween f c n (IsFront bytes new.taken) (filling table' new.last out' at)) (sym end)
+      between = subst (λ at. DecoderBetween f c n (IsFrontAfter front bytes new.taken) (filling table' new.last out' at)) (sym end)
           (goes_on {old = filling table now.last out now.written} {new = filling table' new.last out' (now.written + c * count)} is h.between inside decoded
-          (λ before front. ap (λ z. z ++ take k (drop now.taken bytes)) front ∙ sym (take-add now.taken k bytes) ∙ ap (λ m. take m bytes) (sym taken))
+          (λ before is_front. ap (λ z. z ++ take k (drop now.taken bytes)) is_front ∙ append_assoc front (take now.taken bytes) (take k (drop now.taken bytes))
+          ∙ ap (λ z. front ++ z) (sym (take-add now.taken k bytes) ∙ ap (λ m. take m bytes) (sym taken)))
           (rw size fits) (whole_after c now.written count is h.between.whole));
       next_is = next;
     }

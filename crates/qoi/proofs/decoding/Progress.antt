@@ -4,7 +4,7 @@ use Rattle.qoi.specs.Qoi.{Past, AreBytes, start, bytes_of, chunk_bytes, pixel_af
 use Rattle.std.specs.Io.KnownBytes.{Consumes}
 use Rattle.std.proofs.KnownBytes.{Consumes-trans}
 use Rattle.qoi.specs.Raw.{IsChannels, output}
-use Rattle.qoi.specs.inner.Filling.{Buffer, Filling, filling, HasFilled, DecodesChunk, DecoderBetween, IsFront}
+use Rattle.qoi.specs.inner.Filling.{Buffer, Filling, filling, HasFilled, DecodesChunk, DecoderBetween, IsFront, IsFrontAfter}
 use Rattle.qoi.specs.inner.Hashed.{pixel_of_lanes, HoldsSeen}
 use Rattle.qoi.specs.Verdicts.{IsPartOfChunk, EndsBefore, AreCut}
 use Rattle.qoi.specs.Decoding.{ReadsPixels, StreamsPixels}
@@ -72,19 +72,25 @@ reads_all {f} {c} {n} {Taken} {now} is s full =
 abbrev pub SplitAt : List ℕ → List ℕ → List ℕ → Type 0
 SplitAt bytes rest taken = bytes ≡ taken ++ rest
 
+-- what was taken, said in another way
+pub taken_as : {f c n : ℕ} {Taken Taken' : List ℕ → Type 0} {now : Filling} → (s : DecoderBetween f c n Taken now) → Taken' (chunk_bytes s.cs) → DecoderBetween f c n Taken' now
+taken_as s taken = record { cs = s.cs; chunks = s.chunks; stays_below = s.stays_below; taken = taken; filled = s.filled; has_seen = s.has_seen; within = s.within; whole = s.whole }
+
 -- if the bytes at the front were taken, the others are left
 pub split_front : {f c n : ℕ} {bytes rest : List ℕ} {now : Filling} (size : ℕ) → rest ≡ drop size bytes → DecoderBetween f c n (IsFront bytes size) now
     → DecoderBetween f c n (SplitAt bytes rest) now
-split_front {bytes = bytes} size left s = record {
-  cs = s.cs;
-  chunks = s.chunks;
-  stays_below = s.stays_below;
-  taken = sym (take-append-drop size bytes) ∙ ap (λ z. z ++ drop size bytes) (sym s.taken) ∙ ap (λ z. chunk_bytes s.cs ++ z) (sym left);
-  filled = s.filled;
-  has_seen = s.has_seen;
-  within = s.within;
-  whole = s.whole;
-}
+split_front {bytes = bytes} size left s =
+    taken_as s (sym (take-append-drop size bytes) ∙ ap (λ z. z ++ drop size bytes) (sym s.taken) ∙ ap (λ z. chunk_bytes s.cs ++ z) (sym left))
+
+-- no byte of a slice was taken yet
+pub front_of_none : {f c n : ℕ} {Taken : List ℕ → Type 0} {now : Filling} (bytes : List ℕ) → (s : DecoderBetween f c n Taken now) → DecoderBetween f c n (IsFrontAfter (chunk_bytes s.cs) bytes 0) now
+front_of_none bytes s = taken_as s (sym (append-nil (chunk_bytes s.cs)))
+
+-- the front of what a reader showed was taken
+pub front_consumed : {f c n : ℕ} {now : Filling} (old middle new : Option (List ℕ)) (before bytes : List ℕ) (size : ℕ) → Consumes old middle before → Consumes middle new (take size bytes)
+    → DecoderBetween f c n (IsFrontAfter before bytes size) now → DecoderBetween f c n (Consumes old new) now
+front_consumed old middle new before bytes size so_far took s =
+    taken_as s (subst (Consumes old new) (sym s.taken) (Consumes-trans old middle new before (take size bytes) so_far took))
 
 -- more of a slice
 pub split_more : (bytes rest after more : List ℕ) → rest ≡ more ++ after → (taken : List ℕ) → SplitAt bytes rest taken → SplitAt bytes after (taken ++ more)

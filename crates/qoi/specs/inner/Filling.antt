@@ -75,7 +75,11 @@ pub record DecoderBetween (file_channels channels n : ℕ) (Taken : List ℕ →
 abbrev pub IsFront : List ℕ → ℕ → List ℕ → Type 0
 IsFront bytes size taken = taken ≡ take size bytes
 
+-- the first `size` bytes were taken after those that were taken before
+abbrev pub IsFrontAfter : List ℕ → List ℕ → ℕ → List ℕ → Type 0
+IsFrontAfter before bytes size taken = taken ≡ before ++ take size bytes
+
 -- `DecoderBetween` for the fast loop over these bytes, which also has the byte that comes next
-pub record FastBetween (file_channels channels n : ℕ) (bytes : List ℕ) (now : Progress) (table out : List ℕ) : Type 0 where
-  pub between : DecoderBetween file_channels channels n (IsFront bytes now.taken) (filling table now.last out now.written)
+pub record FastBetween (file_channels channels n : ℕ) (before bytes : List ℕ) (now : Progress) (table out : List ℕ) : Type 0 where
+  pub between : DecoderBetween file_channels channels n (IsFrontAfter before bytes now.taken) (filling table now.last out now.written)
   pub next_is : now.next ≡ slice_index bytes now.taken

@@ -1,10 +1,9 @@
 //! The loop over the chunks in a slice while input and output have room ahead for four short ones
 //! and a full one, which is tested once for all five.
-ghost use Rattle.std.specs.Prelude.{◌≡◌, ◌↔◌, IsTrue, ℕ, ◌+◌, ◌-◌, ◌/◌, ◌%◌, ◌<◌, ◌≤◌, [], length};
+ghost use Rattle.std.specs.Prelude.{◌≡◌, ◌↔◌, IsTrue, ℕ, ◌+◌, ◌-◌, ◌/◌, ◌<◌, ◌≤◌, List, length};
 ghost use Rattle.qoi.specs.Qoi.{run_tag, rgb_tag};
 ghost use Rattle.qoi.specs.Raw.{IsChannels};
 ghost use Rattle.qoi.specs.declared.decode.pixels.TheConstants.{RUN_ROOM};
-ghost use Rattle.qoi.specs.inner.Hashed.{HoldsSeen};
 
 use crate::consts::{QOI_OP_RGB, QOI_OP_RGBA, QOI_OP_RUN};
 use crate::decode::pixels::{RUN_ROOM, is_luma, write_block, write_run};
@@ -17,8 +16,8 @@ use crate::table::HashedTable;
 // it.
 const INPUT_ROOM: usize = 14;
 
-// Bytes of room for the blocks of four short chunks and of a full one.
-const OUTPUT_ROOM: usize = 80;
+/// Bytes of room for the blocks of four short chunks and of a full one.
+pub(super) const OUTPUT_ROOM: usize = 80;
 
 /// What a decoder has between two chunks: the last pixel, how many bytes are taken and written, and
 /// the byte that comes next (0 if the loop wasn't entered).
@@ -42,7 +41,7 @@ fn is_short<const N: usize>(b1: u32) -> bool
 }
 
 impl Progress {
-    ghost use Rattle.qoi.specs.inner.Filling.{IsFront, filling, DecoderBetween, FastBetween};
+    ghost use Rattle.qoi.specs.inner.Filling.{IsFrontAfter, filling, DecoderBetween, FastBetween};
 
     // Decodes a short chunk, without a jump. Its block of output is written whole, and what goes
     // past its pixels is written again later.
@@ -57,10 +56,12 @@ impl Progress {
         requires input { self.taken + 3 ≤ length bytes.now }
         requires room { self.written + 16 ≤ length out.old }
         requires short { self.next ≤ run_tag - 1 + 16 / N }
-        ensures between { (n : ℕ) → FastBetween F N n bytes.now self table.old out.old
-            → FastBetween F N n bytes.now result table.new out.new }
+        ensures between { (n : ℕ) (before : List ℕ)
+            → FastBetween F N n before bytes.now self table.old out.old
+            → FastBetween F N n before bytes.now result table.new out.new }
         ensures taken { (self.taken < result.taken) × (result.taken ≤ self.taken + 2) }
-        ensures written { result.written ≤ self.written + 16 }
+        ensures written { (self.written ≤ result.written)
+            × (result.written ≤ self.written + 16) }
         ensures byte { result.next < 256 }
     {
         let b1 = self.next as usize;
@@ -89,11 +90,13 @@ impl Progress {
         requires input { self.taken + 9 ≤ length bytes.now }
         requires room { self.written + 64 ≤ length out.old }
         requires byte { self.next < 256 }
-        ensures between { (n : ℕ) → FastBetween F N n bytes.now self table.old out.old
-            → FastBetween F N n bytes.now result table.new out.new }
+        ensures between { (n : ℕ) (before : List ℕ)
+            → FastBetween F N n before bytes.now self table.old out.old
+            → FastBetween F N n before bytes.now result table.new out.new }
         ensures taken { (self.taken ≤ result.taken) × (result.taken ≤ self.taken + 8) }
         ensures some { result.next ≤ run_tag - 1 + 16 / N → self.taken < result.taken }
-        ensures written { result.written ≤ self.written + 64 }
+        ensures written { (self.written ≤ result.written)
+            × (result.written ≤ self.written + 64) }
         ensures byte { result.next < 256 }
     {
         if !is_short::<N>(self.next) {
@@ -126,9 +129,11 @@ impl Progress {
         requires input { self.taken + 6 ≤ length bytes.now }
         requires room { self.written + 16 ≤ length out.old }
         requires full { (rgb_tag ≤ self.next) × (self.next < 256) }
-        ensures between { (n : ℕ) → FastBetween F N n bytes.now self table.old out.old
-            → FastBetween F N n bytes.now result table.new out.new }
+        ensures between { (n : ℕ) (before : List ℕ)
+            → FastBetween F N n before bytes.now self table.old out.old
+            → FastBetween F N n before bytes.now result table.new out.new }
         ensures taken { (self.taken < result.taken) × (result.taken ≤ self.taken + 5) }
+        ensures written { self.written ≤ result.written }
         ensures byte { result.next < 256 }
     {
         let last = self.last.after_full(&bytes[self.taken..]);
@@ -155,9 +160,11 @@ impl Progress {
         requires input { self.taken + 2 ≤ length bytes.now }
         requires room { self.written + RUN_ROOM ≤ length out.old }
         requires run { (run_tag ≤ self.next) × (self.next < rgb_tag) }
-        ensures between { (n : ℕ) → FastBetween F N n bytes.now self table.old out.old
-            → FastBetween F N n bytes.now result table.new out.new }
+        ensures between { (n : ℕ) (before : List ℕ)
+            → FastBetween F N n before bytes.now self table.old out.old
+            → FastBetween F N n before bytes.now result table.new out.new }
         ensures taken { result.taken ≡ self.taken + 1 }
+        ensures written { self.written ≤ result.written }
         ensures byte { result.next < 256 }
     {
         let count = (self.next - (QOI_OP_RUN as u32 - 1)) as usize;
@@ -171,25 +178,30 @@ impl Progress {
         }
     }
 
-    /// Decodes chunks while there is room ahead, and returns where it stopped. The caller decodes
-    /// the rest chunk by chunk, with every test.
+    /// Decodes chunks from the front of the bytes, after the pixel `last` and the first `at` bytes
+    /// of `out`, while there is room ahead, and returns where it stopped. The caller decodes the
+    /// rest chunk by chunk, with every test.
     #[inline(always)]
     pub(super) fn fast_chunks<const N: usize, const F: usize>(
         table: &mut HashedTable,
+        last: Hashed,
         bytes: &[u8],
         out: &mut [u8],
+        at: usize,
     ) -> Progress
         requires channels { IsChannels N }
-        requires whole { length out.old % N ≡ 0 }
-        requires none { HoldsSeen table.old [] }
-        ensures between { DecoderBetween F N (length out.old / N) (IsFront bytes.now result.taken)
+        ensures between { (n : ℕ) (before : List ℕ)
+            → DecoderBetween F N n (IsFrontAfter before bytes.now 0)
+            (filling table.old last out.old at)
+            → DecoderBetween F N n (IsFrontAfter before bytes.now result.taken)
             (filling table.new result.last out.new result.written) }
         ensures within { result.taken ≤ length bytes.now }
+        ensures written { at ≤ result.written }
     {
         let mut now = Progress {
-            last: Hashed::start(),
+            last,
             taken: 0,
-            written: 0,
+            written: at,
             next: 0,
         };
         if bytes.len() < INPUT_ROOM || out.len() < OUTPUT_ROOM {

@@ -5,11 +5,12 @@ ghost use Rattle.qoi.specs.Decoding.{CouldHold, ReadsImage, ReadsHeader, Refuses
 ghost use Rattle.qoi.specs.declared.error.Error.{Error};
 
 use crate::consts::QOI_HEADER_SIZE;
+use crate::decode::buffered::buffered_image;
 use crate::decode::slice::{could_hold, slice_image};
 use crate::decode::stream::{read_exact, stream_image};
 use crate::error::{Error, Result};
 use crate::header::Header;
-use std::io::Read;
+use std::io::{BufRead, Read};
 use std::marker::Model;
 
 /// Where a decoder takes its bytes from.
@@ -146,6 +147,67 @@ impl<R: Read> Reader for R {
             (3, 3) | (3, 4) => stream_image::<R, 3, 3>(self, out),
             (4, 3) => stream_image::<R, 4, 3>(self, out),
             (4, 4) => stream_image::<R, 4, 4>(self, out),
+            _ => Err(Error::InvalidChannels { channels }),
+        }
+    }
+}
+
+/// A reader with a buffer of its own, such as a `BufReader`. A contract sees the reader itself.
+#[derive(Clone, Drop)]
+pub struct Buffered<R>(R);
+
+impl<R> Model for Buffered<R> {
+    ghost Value = { R };
+
+    ghost view = { λ b. b.0 };
+}
+
+impl<R> Buffered<R> {
+    /// Decoding from this reader.
+    #[inline]
+    pub fn new(reader: R) -> Buffered<R>
+        ensures { result ≡ reader }
+    {
+        Buffered(reader)
+    }
+
+    /// The reader, as it stands.
+    #[inline]
+    pub fn as_inner(&self) -> &R
+        ensures { result.now ≡ self.now }
+    {
+        &self.0
+    }
+
+    /// Gives back the reader, as it stands.
+    #[inline]
+    pub fn into_inner(self) -> R
+        ensures { result ≡ self }
+    {
+        self.0
+    }
+}
+
+impl<R: BufRead> Reader for Buffered<R> {
+    ghost ahead = { R.remaining };
+
+    ghost in_memory = { false };
+
+    ghost stated = { λ _ no. cc no };
+
+    fn decode_header(&mut self) -> Result<Header> {
+        self.0.decode_header()
+    }
+
+    fn could_hold(&self, n_pixels: usize) -> bool {
+        self.0.could_hold(n_pixels)
+    }
+
+    fn decode_image(&mut self, out: &mut [u8], channels: u8, file_channels: u8) -> Result<()> {
+        match (channels, file_channels) {
+            (3, 3) | (3, 4) => buffered_image::<R, 3, 3>(&mut self.0, out),
+            (4, 3) => buffered_image::<R, 4, 3>(&mut self.0, out),
+            (4, 4) => buffered_image::<R, 4, 4>(&mut self.0, out),
             _ => Err(Error::InvalidChannels { channels }),
         }
     }

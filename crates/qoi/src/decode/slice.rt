@@ -10,6 +10,7 @@ use crate::consts::{QOI_PADDING, QOI_PADDING_SIZE, QOI_RUN_MAX};
 use crate::decode::fast::Progress;
 use crate::decode::pixels::decode_chunk;
 use crate::error::{Error, Result};
+use crate::hashed::Hashed;
 use crate::table::HashedTable;
 
 // Whether the bytes could hold the chunks of `n_pixels` pixels, and the end marker: a chunk gives
@@ -67,7 +68,7 @@ fn slice_chunks<'a, const N: usize, const F: usize>(
         (λ rest. ReadsPixels F N (length out.old / N) «data».entry.now rest.now out.new) }
 {
     let mut table = HashedTable::new();
-    let now = Progress::fast_chunks::<N, F>(&mut table, data, out);
+    let now = Progress::fast_chunks::<N, F>(&mut table, Hashed::start(), data, out, 0);
     last_chunks::<N, F>(&mut table, now, data, out)
 }
 

@@ -2,9 +2,10 @@
 use crate::tests::fakes::{NONE, Source};
 use crate::tests::library::support::images::{file_of, row};
 use crate::tests::library::support::{assert_bytes, assert_given, assert_number};
+use qoi::parts::Reader;
 use qoi::{Channels, Decoder, Encoder, Result};
 use std::alloc::Global;
-use std::io::{BufReader, BufWriter, Cursor, Read, Write};
+use std::io::{BufRead, BufReader, BufWriter, Cursor, Read, Write};
 use std::process::Abort;
 
 // Six pixels of four channels.
@@ -32,9 +33,8 @@ fn two_images(alloc: Global) -> Result<Vec<u8>> {
     Ok(bytes)
 }
 
-// Decodes the first image into a buffer and the second into a vector, and reads the bytes after it.
-fn assert_reads<R: Read + Drop>(rt: &impl Abort, alloc: Global, reader: R) {
-    let mut decoder = Decoder::from_stream(reader).expect(rt, "refused");
+// Decodes the first image into a buffer and the second into a vector.
+fn assert_decodes<R: Reader>(rt: &impl Abort, alloc: Global, decoder: &mut Decoder<R>) {
     let mut buf = [0xaa; 24];
     assert_number(
         rt,
@@ -43,12 +43,27 @@ fn assert_reads<R: Read + Drop>(rt: &impl Abort, alloc: Global, reader: R) {
     );
     assert_bytes(rt, &buf, &IMAGE);
     assert_given(rt, decoder.decode_to_vec(alloc), &IMAGE);
+}
+
+// Reads the bytes after the images.
+fn assert_left<R: Read + Drop>(rt: &impl Abort, alloc: Global, mut reader: R) {
     let mut rest = Vec::new(alloc);
-    decoder
-        .into_reader()
-        .read_to_end(&mut rest)
-        .expect(rt, "refused");
+    reader.read_to_end(&mut rest).expect(rt, "refused");
     assert_bytes(rt, &rest, &[0x78, 0x79]);
+}
+
+// Decodes both images, and reads the bytes after them.
+fn assert_reads<R: Read + Drop>(rt: &impl Abort, alloc: Global, reader: R) {
+    let mut decoder = Decoder::from_stream(reader).expect(rt, "refused");
+    assert_decodes(rt, alloc, &mut decoder);
+    assert_left(rt, alloc, decoder.into_reader());
+}
+
+// The same from the reader's buffer.
+fn assert_reads_buffer<R: BufRead + Drop>(rt: &impl Abort, alloc: Global, reader: R) {
+    let mut decoder = Decoder::from_buf_read(reader).expect(rt, "refused");
+    assert_decodes(rt, alloc, &mut decoder);
+    assert_left(rt, alloc, decoder.into_reader());
 }
 
 #[test]
@@ -56,6 +71,8 @@ fn slices_and_cursors_are_read(rt: HostRuntime) {
     let bytes = two_images(rt.alloc()).expect(&rt, "refused");
     assert_reads(&rt, rt.alloc(), bytes.as_slice());
     assert_reads(&rt, rt.alloc(), Cursor::new(bytes.as_slice()));
+    assert_reads_buffer(&rt, rt.alloc(), bytes.as_slice());
+    assert_reads_buffer(&rt, rt.alloc(), Cursor::new(bytes.as_slice()));
     assert_reads(&rt, rt.alloc(), Cursor::new(bytes));
 }
 
@@ -69,8 +86,18 @@ fn buffering_readers_are_read(rt: HostRuntime) {
             &rt, "refused",
         );
         assert_reads(&rt, alloc, reader);
+        let reader = BufReader::with_capacity(alloc, capacity, bytes.as_slice()).expect(
+            &rt, "refused",
+        );
+        assert_reads_buffer(&rt, alloc, reader);
         let source = Source::new(&bytes, 1, NONE);
         assert_reads(
+            &rt,
+            alloc,
+            BufReader::with_capacity(alloc, capacity, source).expect(&rt, "refused"),
+        );
+        let source = Source::new(&bytes, 1, NONE);
+        assert_reads_buffer(
             &rt,
             alloc,
             BufReader::with_capacity(alloc, capacity, source).expect(&rt, "refused"),

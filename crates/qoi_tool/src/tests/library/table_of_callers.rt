@@ -9,6 +9,7 @@ use qoi::{
     Decoder, Encoder, Error, Style, decode_to_buf, decode_to_vec, encode_to_buf, encode_to_vec,
 };
 use std::alloc::Global;
+use std::io::BufReader;
 
 /// There by the free call into a buffer; back by the free call into a vector.
 pub fn free_buffer_then_free_vector(
@@ -100,6 +101,23 @@ pub fn writer_then_vector_of_stream(
     let mut file = Vec::new(alloc);
     encoder.encode_to_stream(&mut file)?;
     let mut decoder = Decoder::from_stream(file.as_slice())?;
+    let back = decoder.decode_to_vec(alloc)?;
+    Ok(back)
+}
+
+/// There by the method into a vector; back by the method of a reader with a buffer into a vector.
+pub fn vector_then_vector_of_buffer(
+    alloc: Global,
+    raw: &[u8],
+    width: u32,
+    height: u32,
+) -> Result<Vec<u8>, Error>
+    ensures { IfOk result (λ back. back.items ≡ raw.now) }
+{
+    let encoder = Encoder::new(raw, width, height)?;
+    let file = encoder.encode_to_vec(alloc)?;
+    let reader = BufReader::new(alloc, file.as_slice())?;
+    let mut decoder = Decoder::from_buf_read(reader)?;
     let back = decoder.decode_to_vec(alloc)?;
     Ok(back)
 }
@@ -199,6 +217,11 @@ fn by_the_methods(rt: HostRuntime) -> Result<(), Error> {
     assert_bytes(
         &rt,
         &writer_then_vector_of_stream(alloc, &PIXEL, 1, 1)?,
+        &PIXEL,
+    );
+    assert_bytes(
+        &rt,
+        &vector_then_vector_of_buffer(alloc, &PIXEL, 1, 1)?,
         &PIXEL,
     );
     Ok(())

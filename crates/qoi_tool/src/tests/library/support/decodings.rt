@@ -1,11 +1,12 @@
-//! Decoding by each call from a slice and from a stream, and the decoder's state after it.
+//! Decoding by each call from a slice, from a stream and from a reader with a buffer, and the
+//! decoder's state after it.
 use crate::tests::library::support::{
     assert_bytes, assert_fails, assert_given, assert_header, assert_number, assert_refused,
 };
 use qoi::parts::Reader;
 use qoi::{Channels, Decoder, Header, Result, decode_to_buf, decode_to_vec};
 use std::alloc::Global;
-use std::io::ErrorKind;
+use std::io::{BufReader, ErrorKind, Read};
 use std::process::Abort;
 
 /// What is printed for bytes that end too early.
@@ -93,7 +94,23 @@ impl<'a> Decoding<'a> {
         decoded
     }
 
-    /// The image that each call gives, from a slice and from a stream. What is after the file is
+    // What is returned for a reader with a small buffer, of which these bytes are left then.
+    fn of_buffer(self, rt: &impl Abort, alloc: Global, call: Call, left: &[u8]) -> Result<Vec<u8>> {
+        let reader = BufReader::with_capacity(alloc, 50, self.bytes).expect(rt, "refused");
+        let mut decoder = Decoder::from_buf_read(reader)
+            .expect(rt, "refused")
+            .with_channels(self.channels);
+        let decoded = self.of(rt, alloc, &mut decoder, call);
+        let mut rest = Vec::new(alloc);
+        decoder
+            .into_reader()
+            .read_to_end(&mut rest)
+            .expect(rt, "refused");
+        assert_bytes(rt, &rest, left);
+        decoded
+    }
+
+    /// The image that each call gives, from a slice and from readers. What is after the file is
     /// left.
     pub fn check(self, rt: &impl Abort, alloc: Global, image: &[u8], rest: &[u8]) {
         for call in CALLS {
@@ -101,6 +118,8 @@ impl<'a> Decoding<'a> {
             assert_given(rt, slice, image);
             let stream = self.of_stream(rt, alloc, call, rest);
             assert_given(rt, stream, image);
+            let buffer = self.of_buffer(rt, alloc, call, rest);
+            assert_given(rt, buffer, image);
         }
     }
 
@@ -125,6 +144,8 @@ impl<'a> Decoding<'a> {
             assert_refused(rt, alloc, slice.err(), CUT);
             let stream = self.of_stream(rt, alloc, call, &[]);
             assert_fails(rt, stream.err(), ErrorKind::UnexpectedEof);
+            let buffer = self.of_buffer(rt, alloc, call, &[]);
+            assert_fails(rt, buffer.err(), ErrorKind::UnexpectedEof);
         }
     }
 
@@ -136,6 +157,8 @@ impl<'a> Decoding<'a> {
             assert_refused(rt, alloc, slice.err(), WRONG);
             let stream = self.of_stream(rt, alloc, call, rest);
             assert_refused(rt, alloc, stream.err(), WRONG);
+            let buffer = self.of_buffer(rt, alloc, call, rest);
+            assert_refused(rt, alloc, buffer.err(), WRONG);
         }
     }
 }

@@ -1,10 +1,16 @@
 -- Chunks were taken, and their pixels written and seen.
-use Rattle.std.proofs.Common.{◌+◌, ◌-◌, ◌/◌, ◌<◌, length}
-use Rattle.qoi.specs.inner.Filling.{FastBetween}
+use Rattle.std.proofs.Common.{ℕ, ◌+◌, ◌-◌, ◌<◌, ◌≤◌, List, length}
+use Rattle.qoi.specs.inner.Filling.{filling, DecoderBetween, IsFrontAfter, FastBetween}
 use Rattle.qoi.proofs.decode.fast.Progress.fast_chunks.Given as goal
 
 abbrev pub invariant-loop-now : goal.invariant-loop-now
-invariant-loop-now g l = FastBetween g.row.F g.row.N (length l.initial.out / g.row.N) l.bytes l.now l.table l.out × (l.now.next < 256) × (l.now.taken < length l.bytes)
+invariant-loop-now g l = record {
+  between : (n : ℕ) (before : List ℕ) → DecoderBetween g.row.F g.row.N n (IsFrontAfter before l.bytes 0) (filling l.initial.table l.fn.last l.initial.out l.fn.at)
+      → FastBetween g.row.F g.row.N n before l.bytes l.now l.table l.out;
+  byte : l.now.next < 256;
+  within : l.now.taken < length l.bytes;
+  written : l.fn.at ≤ l.now.written;
+}
 
 abbrev pub decreases-loop-now : goal.decreases-loop-now
 decreases-loop-now g l = l.far + 1 - l.now.taken

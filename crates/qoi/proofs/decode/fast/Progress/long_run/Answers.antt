@@ -8,7 +8,7 @@ use Rattle.qoi.proofs.decoding.FastSteps.{fast_step}
 use Rattle.qoi.proofs.decode.fast.Progress.long_run.Goals as goal
 
 pub returns-clause-between : goal.returns-clause-between
-returns-clause-between g c n h =
+returns-clause-between g c n before h =
     let now = c.args.self in
     let bytes = c.args.bytes.now in
     let is = c.requires.channels in
