@@ -1,10 +1,10 @@
-//! A reader and a writer in memory that end one of their calls badly, memory that is taken, and a
+//! Readers and a writer in memory that end one of their calls badly, memory that is taken, and a
 //! file to try them on.
 ghost use Rattle.std.specs.Prelude.{◌≡◌, IfOk};
 
 use std::alloc::{AllocError, Global};
 use std::io;
-use std::io::{ErrorKind, Read, Write};
+use std::io::{BufRead, ErrorKind, Read, Write};
 
 /// The raw bytes of one pixel of three channels.
 pub const PIXEL: [u8; 3] = [0x0b, 0x79, 0xe7];
@@ -89,6 +89,50 @@ impl<'a> Read for Source<'a> {
         buf[..n].copy_from_slice(&self.left[..n]);
         self.left = &self.left[n..];
         Ok(n)
+    }
+}
+
+/// Shows the bytes of a source before it gives them, as many at a time as that gives in one call.
+#[derive(Drop)]
+pub struct Shown<'a> {
+    /// Where the bytes that are left stand.
+    pub source: Source<'a>,
+    bad: Bad,
+    /// How many calls of `fill_buf` there were.
+    pub fills: usize,
+}
+
+impl<'a> Shown<'a> {
+    /// A reader of this source's bytes, with a bad call of `fill_buf`.
+    pub fn new(source: Source<'a>, bad: Bad) -> Shown<'a> {
+        Shown {
+            source,
+            bad,
+            fills: 0,
+        }
+    }
+}
+
+impl<'a> Read for Shown<'a> {
+    fn read(&mut self, buf: &mut [u8]) -> io::Result<usize> {
+        self.source.read(buf)
+    }
+}
+
+impl<'a> BufRead for Shown<'a> {
+    // If the bad call shows no byte, none is shown or given from then on.
+    fn fill_buf(&mut self) -> io::Result<&[u8]> {
+        self.fills = self.fills.saturating_add(1);
+        if self.fills == self.bad.call {
+            self.source.most = ended(self.bad.end)?;
+        }
+        let n = self.source.left.len().min(self.source.most);
+        Ok(&self.source.left[..n])
+    }
+
+    fn consume(&mut self, amount: usize) {
+        let n = self.source.left.len().min(amount);
+        self.source.left = &self.source.left[n..];
     }
 }
 

@@ -4,6 +4,7 @@
 
 mod borders;
 mod broken;
+mod buffered;
 mod callers;
 mod calls;
 mod choices;

@@ -1,5 +1,5 @@
 //! Files that are cut, changed and followed by other bytes, and buffers of other lengths: each of
-//! the examples, by each call, from a slice and from a stream.
+//! the examples, by each call, from a slice, from a stream and from a reader with a buffer.
 use crate::tests::library::support::decodings::{CUT, Decoding, after};
 use crate::tests::library::support::examples::files;
 use crate::tests::library::support::images::{Image, file_of, row};
@@ -24,6 +24,8 @@ fn assert_no_header(rt: &impl Abort, alloc: Global, cut: &[u8]) {
     assert_refused(rt, alloc, Decoder::new(cut).err(), CUT);
     let stream = Decoder::from_stream(cut).err();
     assert_fails(rt, stream, ErrorKind::UnexpectedEof);
+    let buffered = Decoder::from_buf_read(cut).err();
+    assert_fails(rt, buffered, ErrorKind::UnexpectedEof);
 }
 
 // Each beginning of a file but the whole.
@@ -69,8 +71,8 @@ fn followed(rt: HostRuntime) {
     }
 }
 
-// The buffer is refused with this text from a slice, from a stream and by the free call. Both
-// decoders have all bytes after the header left.
+// The buffer is refused with this text from a slice, from both kinds of reader and by the free
+// call. The decoders have all bytes after the header left.
 fn assert_too_small(rt: &impl Abort, alloc: Global, file: &[u8], buf: &mut [u8], text: &str) {
     let mut slice = Decoder::new(file).expect(rt, "refused");
     assert_refused(rt, alloc, slice.decode_to_buf(buf).err(), text);
@@ -78,6 +80,9 @@ fn assert_too_small(rt: &impl Abort, alloc: Global, file: &[u8], buf: &mut [u8],
     let mut stream = Decoder::from_stream(file).expect(rt, "refused");
     assert_refused(rt, alloc, stream.decode_to_buf(buf).err(), text);
     assert_bytes(rt, stream.into_reader(), after(file, 14));
+    let mut buffered = Decoder::from_buf_read(file).expect(rt, "refused");
+    assert_refused(rt, alloc, buffered.decode_to_buf(buf).err(), text);
+    assert_bytes(rt, buffered.into_reader(), after(file, 14));
     assert_refused(rt, alloc, decode_to_buf(buf, file).err(), text);
 }
 

@@ -19,7 +19,7 @@ use qoi::{
     encode_to_vec,
 };
 use std::alloc::Global;
-use std::io::{Read, Write};
+use std::io::{BufRead, Read, Write};
 
 /// Vectors. The raw bytes of the image of a file, in the file's own channels; any bytes may follow
 /// the file.
@@ -391,6 +391,23 @@ pub fn two_frames<R: Read + Drop>(alloc: Global, reader: R) -> Result<(Vec<u8>, 
     let mut first = Decoder::from_stream(reader)?;
     let image = first.decode_to_vec(alloc)?;
     let mut second = Decoder::from_stream(first.into_reader())?;
+    let other = second.decode_to_vec(alloc)?;
+    Ok((image, other))
+}
+
+/// The same from the reader's buffer.
+pub fn two_frames_buffered<R: BufRead + Drop>(
+    alloc: Global,
+    reader: R,
+) -> Result<(Vec<u8>, Vec<u8>), Error>
+    ensures { (style other : Style) (h k : Header) (raw last one two : List ℕ)
+        → IsFileOf style h raw one → IsFileOf other k last two
+        → R.remaining reader ≡ Some (one ++ two)
+        → IfOk result (λ x. (x.0.items ≡ raw) × (x.1.items ≡ last)) }
+{
+    let mut first = Decoder::from_buf_read(reader)?;
+    let image = first.decode_to_vec(alloc)?;
+    let mut second = Decoder::from_buf_read(first.into_reader())?;
     let other = second.decode_to_vec(alloc)?;
     Ok((image, other))
 }

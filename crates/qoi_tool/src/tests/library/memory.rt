@@ -44,6 +44,8 @@ fn each_allocation_of_decode_to_vec(rt: HostRuntime) -> Result<()> {
     assert_one_allocation(&rt, rt.alloc(), &mut Decoder::new(&ONE_RGB_PIXEL)?);
     let mut stream = Decoder::from_stream(&ONE_RGB_PIXEL[..])?;
     assert_one_allocation(&rt, rt.alloc(), &mut stream);
+    let mut buffered = Decoder::from_buf_read(&ONE_RGB_PIXEL[..])?;
+    assert_one_allocation(&rt, rt.alloc(), &mut buffered);
     Ok(())
 }
 
@@ -133,6 +135,14 @@ fn assert_decodes(rt: &impl Abort) {
     let mut buf = [0xaa; 3];
     let mut stream = Decoder::from_stream(&ONE_RGB_PIXEL[..]).expect(rt, "refused");
     assert_number(rt, stream.decode_to_buf(&mut buf).expect(rt, "refused"), 3);
+    assert_bytes(rt, &buf, &PIXEL);
+    let mut buf = [0xaa; 3];
+    let mut buffered = Decoder::from_buf_read(&ONE_RGB_PIXEL[..]).expect(rt, "refused");
+    assert_number(
+        rt,
+        buffered.decode_to_buf(&mut buf).expect(rt, "refused"),
+        3,
+    );
     assert_bytes(rt, &buf, &PIXEL);
 }
 

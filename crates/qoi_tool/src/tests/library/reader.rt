@@ -4,7 +4,7 @@ ghost use Rattle.qoi.specs.Raw.{IsChannels};
 
 use crate::tests::fakes::{ONE_RGB_PIXEL, PIXEL};
 use crate::tests::library::support::{assert_bytes, assert_header};
-use qoi::parts::{Bytes, Reader};
+use qoi::parts::{Buffered, Bytes, Reader};
 use qoi::{Error, Header, Result};
 use std::process::Abort;
 
@@ -45,6 +45,10 @@ fn readers_read(rt: HostRuntime) {
     let mut stream = bytes.as_slice();
     assert_reads(&rt, &mut stream);
     assert_bytes(&rt, stream, &[0]);
+    let mut buffered = Buffered::new(bytes.as_slice());
+    assert_reads(&rt, &mut buffered);
+    assert_bytes(&rt, buffered.as_inner(), &[0]);
+    assert_bytes(&rt, buffered.into_inner(), &[0]);
 }
 
 // If either number of channels is neither 3 nor 4, the error names the first.
@@ -61,4 +65,5 @@ fn assert_refuses<R: Reader>(rt: &impl Abort, reader: &mut R) {
 fn channels_are_three_or_four(rt: HostRuntime) {
     assert_refuses(&rt, &mut Bytes::new(&ONE_RGB_PIXEL));
     assert_refuses(&rt, &mut ONE_RGB_PIXEL.as_slice());
+    assert_refuses(&rt, &mut Buffered::new(ONE_RGB_PIXEL.as_slice()));
 }

@@ -129,6 +129,10 @@ fn assert_takes_header(rt: &impl Abort, alloc: Global, file: &[u8; 26], text: &s
     let refusal = Decoder::from_stream(&mut reader).err();
     assert_refused(rt, alloc, refusal, text);
     assert_bytes(rt, reader, &ONE_RGB_PIXEL[14..]);
+    let mut reader = &file[..];
+    let refusal = Decoder::from_buf_read(&mut reader).err();
+    assert_refused(rt, alloc, refusal, text);
+    assert_bytes(rt, reader, &ONE_RGB_PIXEL[14..]);
 }
 
 // Each further invalid header byte is refused first.

@@ -105,8 +105,8 @@ pub fn writer_then_vector_of_stream(
     Ok(back)
 }
 
-/// There by the method into a vector; back by the method of a reader with a buffer into a vector.
-pub fn vector_then_vector_of_buffer(
+/// There by the method into a vector; back by the method of a buffered reader into a vector.
+pub fn vector_then_vector_of_buffered(
     alloc: Global,
     raw: &[u8],
     width: u32,
@@ -181,6 +181,34 @@ pub fn styled_writer_then_free_vector(
     Ok(back)
 }
 
+/// There by the method to a writer, in any style; back by the method of a buffered reader into a
+/// buffer.
+pub fn styled_writer_then_buffer_of_buffered<'a>(
+    alloc: Global,
+    raw: &[u8],
+    width: u32,
+    height: u32,
+    style: Style,
+    out: &'a mut [u8],
+) -> Result<&'a [u8], Error>
+    ensures { IfOk result (λ back. back.now ≡ raw.now) }
+{
+    let encoder = Encoder::new(raw, width, height)?.with_style(style);
+    let mut file = Vec::new(alloc);
+    encoder.encode_to_stream(&mut file)?;
+    let reader = BufReader::new(alloc, file.as_slice())?;
+    let mut decoder = Decoder::from_buf_read(reader)?;
+    let required = decoder.required_buf_len();
+    if out.len() < required {
+        return Err(Error::OutputBufferTooSmall {
+            size: out.len(),
+            required,
+        });
+    }
+    let size = decoder.decode_to_buf(out)?;
+    Ok(&out[..size])
+}
+
 #[test]
 fn by_the_free_calls(rt: HostRuntime) -> Result<(), Error> {
     let alloc = rt.alloc();
@@ -221,7 +249,7 @@ fn by_the_methods(rt: HostRuntime) -> Result<(), Error> {
     );
     assert_bytes(
         &rt,
-        &vector_then_vector_of_buffer(alloc, &PIXEL, 1, 1)?,
+        &vector_then_vector_of_buffered(alloc, &PIXEL, 1, 1)?,
         &PIXEL,
     );
     Ok(())
@@ -245,6 +273,11 @@ fn in_any_style(rt: HostRuntime) -> Result<(), Error> {
     assert_bytes(
         &rt,
         &styled_writer_then_free_vector(alloc, &PIXEL, 1, 1, Style::Tight)?,
+        &PIXEL,
+    );
+    assert_bytes(
+        &rt,
+        styled_writer_then_buffer_of_buffered(alloc, &PIXEL, 1, 1, Style::Tight, &mut out)?,
         &PIXEL,
     );
     Ok(())

@@ -94,9 +94,11 @@ impl<'a> Decoding<'a> {
         decoded
     }
 
-    // What is returned for a reader with a small buffer, of which these bytes are left then.
+    // What is returned for a reader with a buffer, of which these bytes are left then. The buffer
+    // has 20 to 69 bytes, so that it ends at all places of a chunk.
     fn of_buffer(self, rt: &impl Abort, alloc: Global, call: Call, left: &[u8]) -> Result<Vec<u8>> {
-        let reader = BufReader::with_capacity(alloc, 50, self.bytes).expect(rt, "refused");
+        let capacity = 20 + self.bytes.len() % 50;
+        let reader = BufReader::with_capacity(alloc, capacity, self.bytes).expect(rt, "refused");
         let mut decoder = Decoder::from_buf_read(reader)
             .expect(rt, "refused")
             .with_channels(self.channels);
@@ -110,8 +112,8 @@ impl<'a> Decoding<'a> {
         decoded
     }
 
-    /// The image that each call gives, from a slice and from readers. What is after the file is
-    /// left.
+    /// The image that each call gives, from a slice and from both kinds of reader. What is after
+    /// the file is left.
     pub fn check(self, rt: &impl Abort, alloc: Global, image: &[u8], rest: &[u8]) {
         for call in CALLS {
             let slice = self.of_slice(rt, alloc, call, rest);

@@ -1,0 +1,237 @@
+//! Files that are decoded from a reader's buffer: of each size, filled in each way, and at a bad
+//! call of `fill_buf` or of `read`.
+use crate::tests::fakes::{Bad, End, NONE, Shown, Source};
+use crate::tests::library::support::generator::{Numbers, drawn};
+use crate::tests::library::support::images::{Image, file_of, row};
+use crate::tests::library::support::{assert_bytes, assert_fails, assert_given, assert_number};
+use qoi::{Channels, Decoder, Error, Result, Style};
+use std::alloc::Global;
+use std::io::{BufRead, BufReader, Cursor, ErrorKind, Read};
+use std::process::Abort;
+
+// A chunk of each kind: RGB, a run of 1, a difference of 1, a luma of 6, RGBA, and the index
+// position of the first pixel; and a run of 62.
+const CHUNKS: [u8; 15] = [
+    0xfe, 11, 121, 231, 0xc0, 0x7f, 0xa6, 0x88, 0xff, 1, 2, 3, 4, 0x04, 0xfd,
+];
+
+// Where each of them begins.
+const BORDERS: [usize; 7] = [0, 4, 5, 6, 8, 13, 14];
+
+// Their pixels but those of the run of 62, which equal the first.
+const PIXELS: [u8; 24] = [
+    11, 121, 231, 255, 11, 121, 231, 255, 12, 122, 232, 255, 18, 128, 238, 255, 1, 2, 3, 4, 11,
+    121, 231, 255,
+];
+
+// How often the chunks stand in the file.
+const TIMES: usize = 3;
+
+// A file of all kinds of chunks.
+fn file(alloc: Global) -> Result<Vec<u8>> {
+    let mut chunks = Vec::new(alloc);
+    for _ in 0..TIMES {
+        chunks.extend_from_slice(&CHUNKS)?;
+    }
+    file_of(alloc, row(68 * TIMES as u32, Channels::Rgba), &chunks)
+}
+
+// The raw bytes of its image.
+fn image(alloc: Global) -> Result<Vec<u8>> {
+    let mut raw = Vec::new(alloc);
+    for _ in 0..TIMES {
+        raw.extend_from_slice(&PIXELS)?;
+        for _ in 0..62u32 {
+            raw.extend_from_slice(&PIXELS[..4])?;
+        }
+    }
+    Ok(raw)
+}
+
+// Whether so many bytes are the header and whole chunks of the file.
+fn is_whole(taken: usize) -> bool {
+    let chunks = taken.saturating_sub(14);
+    taken >= 14 && chunks <= CHUNKS.len() * TIMES && BORDERS.contains(&(chunks % CHUNKS.len()))
+}
+
+// Decodes two files of one image, each by a decoder of its own, and reads the two bytes after them.
+fn assert_two_files<R: BufRead + Drop>(rt: &impl Abort, alloc: Global, reader: R, image: &[u8]) {
+    let mut first = Decoder::from_buf_read(reader).expect(rt, "refused");
+    assert_given(rt, first.decode_to_vec(alloc), image);
+    let mut second = Decoder::from_buf_read(first.into_reader()).expect(rt, "refused");
+    assert_given(rt, second.decode_to_vec(alloc), image);
+    let mut rest = Vec::new(alloc);
+    let mut reader = second.into_reader();
+    reader.read_to_end(&mut rest).expect(rt, "refused");
+    assert_bytes(rt, &rest, &[0x78, 0x79]);
+}
+
+// A file twice, and two bytes.
+fn twice(alloc: Global, file: &[u8]) -> Result<Vec<u8>> {
+    let mut bytes = Vec::from_slice(alloc, file)?;
+    bytes.extend_from_slice(file)?;
+    bytes.extend_from_slice(&[0x78, 0x79])?;
+    Ok(bytes)
+}
+
+// A file twice and two bytes, from memory; from buffers of 0 to 47 bytes, which are filled at once
+// or by 1 to 7 bytes; and from readers that show 1 to 7 bytes at a time.
+fn assert_each_buffer(rt: &impl Abort, alloc: Global, file: &[u8], image: &[u8]) {
+    let bytes = twice(alloc, file).expect(rt, "refused");
+    assert_two_files(rt, alloc, bytes.as_slice(), image);
+    assert_two_files(rt, alloc, Cursor::new(bytes.as_slice()), image);
+    for most in 1..=7usize {
+        let source = Source::new(&bytes, most, NONE);
+        assert_two_files(rt, alloc, Shown::new(source, NONE), image);
+    }
+    for capacity in 0..48usize {
+        let reader = BufReader::with_capacity(alloc, capacity, bytes.as_slice());
+        assert_two_files(rt, alloc, reader.expect(rt, "refused"), image);
+        let source = Source::new(&bytes, 1 + capacity % 7, NONE);
+        let reader = BufReader::with_capacity(alloc, capacity, source);
+        assert_two_files(rt, alloc, reader.expect(rt, "refused"), image);
+    }
+}
+
+#[test]
+fn each_kind_of_chunk(rt: HostRuntime) {
+    let alloc = rt.alloc();
+    let file = file(alloc).expect(&rt, "refused");
+    let image = image(alloc).expect(&rt, "refused");
+    assert_each_buffer(&rt, alloc, &file, &image);
+}
+
+#[test]
+fn drawn_images(rt: HostRuntime) {
+    let alloc = rt.alloc();
+    let mut numbers = Numbers::new(0xb0ffe4);
+    for channels in [Channels::Rgb, Channels::Rgba] {
+        for k in 0..12u32 {
+            let width = 20 + 15 * k;
+            let pixels = drawn(alloc, &mut numbers, channels, width as usize);
+            let pixels = pixels.expect(&rt, "refused");
+            let image = Image::of(alloc, row(width, channels), Style::Reference, &pixels);
+            let image = image.expect(&rt, "refused");
+            assert_each_buffer(&rt, alloc, &image.file, &image.raw);
+        }
+    }
+}
+
+// What a buffer holds after the file is still there when the reader comes back, and nothing more
+// was read into it.
+#[test]
+fn rest_of_the_buffer(rt: HostRuntime) {
+    let alloc = rt.alloc();
+    let mut bytes = file(alloc).expect(&rt, "refused");
+    bytes
+        .extend_from_slice(&[0x78, 0x79])
+        .expect(&rt, "refused");
+    let source = Source::new(&bytes, 100, NONE);
+    let reader = BufReader::with_capacity(alloc, 100, source).expect(&rt, "refused");
+    let mut decoder = Decoder::from_buf_read(reader).expect(&rt, "refused");
+    decoder.decode_to_vec(alloc).expect(&rt, "refused");
+    assert_bytes(&rt, decoder.reader().buffer(), &[0x78, 0x79]);
+    let reader = decoder.into_reader();
+    assert_bytes(&rt, reader.buffer(), &[0x78, 0x79]);
+    assert_number(&rt, reader.get_ref().calls, 1);
+}
+
+// A decoder and its clone decode the same image, each by itself.
+#[test]
+fn clones(rt: HostRuntime) {
+    let alloc = rt.alloc();
+    let file = file(alloc).expect(&rt, "refused");
+    let image = image(alloc).expect(&rt, "refused");
+    let mut decoder = Decoder::from_buf_read(file.as_slice()).expect(&rt, "refused");
+    let mut cloned = decoder.clone().expect(&rt, "refused");
+    assert_given(&rt, decoder.decode_to_vec(alloc), &image);
+    assert_bytes(&rt, decoder.into_reader(), &[]);
+    assert_given(&rt, cloned.decode_to_vec(alloc), &image);
+    assert_bytes(&rt, cloned.into_reader(), &[]);
+}
+
+// Ways for a bad call to end, and the kind of the error.
+const BAD_ENDS: [(End, ErrorKind); 3] = [
+    (End::Fault, ErrorKind::BrokenPipe),
+    (End::Interruption, ErrorKind::Interrupted),
+    (End::NoByte, ErrorKind::UnexpectedEof),
+];
+
+// The error of decoding a lent reader.
+fn refusal_of(alloc: Global, reader: &mut Shown<'_>) -> Option<Error> {
+    match Decoder::from_buf_read(reader) {
+        Ok(mut decoder) => decoder.decode_to_vec(alloc).err(),
+        Err(error) => Some(error),
+    }
+}
+
+// The first bad call of `fill_buf` is the last one. Whole chunks were taken. Returns how many calls
+// there are if none is bad.
+fn assert_bad_fills(
+    rt: &impl Abort,
+    alloc: Global,
+    file: &[u8],
+    most: usize,
+    end: End,
+    kind: ErrorKind,
+) -> usize {
+    for call in 1..100usize {
+        let mut reader = Shown::new(Source::new(file, most, NONE), Bad { call, end });
+        let refusal = refusal_of(alloc, &mut reader);
+        let taken = file.len().saturating_sub(reader.source.left.len());
+        if reader.fills < call {
+            assert!(rt; refusal.is_none() && taken == file.len());
+            return reader.fills;
+        }
+        assert_fails(rt, refusal, kind);
+        assert_number(rt, reader.fills, call);
+        assert!(rt; taken > 14 && is_whole(taken));
+    }
+    0
+}
+
+// The same of the calls of `read`. Each of those before gave a byte at least.
+fn assert_bad_reads(
+    rt: &impl Abort,
+    alloc: Global,
+    file: &[u8],
+    most: usize,
+    end: End,
+    kind: ErrorKind,
+) -> usize {
+    for call in 1..100usize {
+        let mut reader = Shown::new(Source::new(file, most, Bad { call, end }), NONE);
+        let refusal = refusal_of(alloc, &mut reader);
+        let taken = file.len().saturating_sub(reader.source.left.len());
+        if reader.source.calls < call {
+            assert!(rt; refusal.is_none() && taken == file.len());
+            return reader.source.calls;
+        }
+        assert_fails(rt, refusal, kind);
+        assert_number(rt, reader.source.calls, call);
+        assert!(rt; taken < file.len() && taken >= call - 1 && (most > 1 || taken < call));
+    }
+    0
+}
+
+// Each call of `fill_buf` and of `read` in turn ends badly. If a byte is shown at a time, all are
+// read one by one.
+#[test]
+fn each_bad_call(rt: HostRuntime) {
+    let alloc = rt.alloc();
+    let file = file(alloc).expect(&rt, "refused");
+    for (end, kind) in BAD_ENDS {
+        for most in [1, 2, 3, 4, 5, 6, 7, 14, 20, 33, 100] {
+            let fills = assert_bad_fills(&rt, alloc, &file, most, end, kind);
+            assert!(rt; fills > 1);
+            let reads = assert_bad_reads(&rt, alloc, &file, most, end, kind);
+            assert!(rt;
+                if most == 1 {
+                    reads == file.len()
+                } else {
+                    reads > 1
+                }
+            );
+        }
+    }
+}
