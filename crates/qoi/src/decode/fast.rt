@@ -1,5 +1,5 @@
-//! The loop over the chunks in a slice while input and output have room ahead for four short ones
-//! and a full one, which is tested once for all five.
+//! The loop over chunks in memory while input and output have room ahead for four short ones and a
+//! full one, which is tested once for all five. It can go on from any pixel.
 ghost use Rattle.std.specs.Prelude.{◌≡◌, ◌↔◌, IsTrue, ℕ, ◌+◌, ◌-◌, ◌/◌, ◌<◌, ◌≤◌, List, length};
 ghost use Rattle.qoi.specs.Qoi.{run_tag, rgb_tag};
 ghost use Rattle.qoi.specs.Raw.{IsChannels};
@@ -16,7 +16,7 @@ use crate::table::HashedTable;
 // it.
 const INPUT_ROOM: usize = 14;
 
-/// Bytes of room for the blocks of four short chunks and of a full one.
+// Bytes of room for the blocks of four short chunks and of a full one.
 pub(super) const OUTPUT_ROOM: usize = 80;
 
 /// What a decoder has between two chunks: the last pixel, how many bytes are taken and written, and

@@ -1,4 +1,4 @@
-//! Where a decoder takes its bytes from: bytes in memory, or a stream.
+//! Where a decoder takes its bytes from: bytes in memory, a stream, or a reader with a buffer.
 ghost use Rattle.std.specs.Prelude.{◌≡◌, ◌↔◌, IsTrue, IsFalse, ℕ, ◌/◌, ◌%◌, List, length, Option, Some, IfErr, OnOk, IsSome, Bool, true, false, Err, refl};
 ghost use Rattle.qoi.specs.Raw.{AreChannels};
 ghost use Rattle.qoi.specs.Decoding.{CouldHold, ReadsImage, ReadsHeader, RefusesImage};
@@ -152,7 +152,8 @@ impl<R: Read> Reader for R {
     }
 }
 
-/// A reader with a buffer of its own, such as a `BufReader`. A contract sees the reader itself.
+/// A reader with a buffer of its own, such as a `BufReader`, from which decoding takes the chunks
+/// that the buffer shows. A contract sees the reader itself.
 #[derive(Clone, Drop)]
 pub struct Buffered<R>(R);
 
@@ -163,7 +164,7 @@ impl<R> Model for Buffered<R> {
 }
 
 impl<R> Buffered<R> {
-    /// Decoding from this reader.
+    /// The same reader, decoded from its buffer.
     #[inline]
     pub fn new(reader: R) -> Buffered<R>
         ensures { result ≡ reader }

@@ -84,8 +84,8 @@ fn read_one<R: Read>(reader: &mut R) -> io::Result<u8>
     Ok(one[0])
 }
 
-/// Reads one chunk from a stream, and no byte past it, and decodes it. If `ROOM`, the output has
-/// room for the blocks of any run.
+// Reads one chunk from a stream, and no byte past it, and decodes it. If `ROOM`, the output has
+// room for the blocks of any run.
 #[inline(always)]
 pub(super) fn next_chunk<R: Read, const N: usize, const F: usize, const ROOM: bool>(
     reader: &mut R,
@@ -186,7 +186,7 @@ fn stream_chunks<R: Read, const N: usize, const F: usize>(
     Ok(())
 }
 
-/// Reads eight bytes from a stream, and refuses them if they aren't the end marker.
+// Reads eight bytes from a stream, and refuses them if they aren't the end marker.
 pub(super) fn stream_marker<R: Read>(reader: &mut R) -> Result<()>
     ensures read { OnOk result
         (Consumes (R.remaining reader.old) (R.remaining reader.new) end_marker) }
