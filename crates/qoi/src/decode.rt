@@ -196,12 +196,14 @@ fn over_buffer<R: BufRead>(decoder: Decoder<R>) -> Decoder<Buffered<R>>
 
 impl<R: BufRead + Drop> Decoder<Buffered<R>> {
     /// A decoder of the file that the reader gives next, whose header is decoded at once: fourteen
-    /// bytes are taken and no more. The channels are the header's. The refusals are those of
-    /// `from_stream`, in the same order, and the reader is dropped as there.
+    /// bytes are taken and no more. The channels are the header's.
     ///
-    /// The decoder goes over the bytes that the reader's buffer shows and takes those of whole
-    /// chunks, and never a byte past the end marker. With a buffer of some kilobytes, as in a
-    /// `BufReader`, it is as fast as `new`.
+    /// Refusals, in this order: `IoError` if fourteen bytes can't be read, and then those of
+    /// `decode_header` on them. After a refusal the reader is dropped, as in `from_stream`.
+    ///
+    /// A decoder goes over the bytes that the reader's buffer shows, and takes those of whole
+    /// chunks and never a byte past the end marker. With a buffer of some kilobytes, as in a
+    /// `BufReader`, it is as fast as from a slice.
     pub fn from_buf_read(reader: R) -> Result<Decoder<Buffered<R>>>
         // A success: the fourteen bytes of a valid header were taken. (`R.ahead`, of which the
         // methods speak, is `R.remaining` of the reader that is buffered.)

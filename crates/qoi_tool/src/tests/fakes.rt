@@ -100,6 +100,10 @@ pub struct Shown<'a> {
     bad: Bad,
     /// How many calls of `fill_buf` there were.
     pub fills: usize,
+    /// Whether one of the calls failed, of `fill_buf` or of `read`.
+    failed: bool,
+    /// Whether another call came after that.
+    pub goes_on: bool,
 }
 
 impl<'a> Shown<'a> {
@@ -109,22 +113,30 @@ impl<'a> Shown<'a> {
             source,
             bad,
             fills: 0,
+            failed: false,
+            goes_on: false,
         }
     }
 }
 
 impl<'a> Read for Shown<'a> {
     fn read(&mut self, buf: &mut [u8]) -> io::Result<usize> {
-        self.source.read(buf)
+        self.goes_on = self.failed;
+        let read = self.source.read(buf);
+        self.failed = read.is_err();
+        read
     }
 }
 
 impl<'a> BufRead for Shown<'a> {
     // If the bad call shows no byte, none is shown or given from then on.
     fn fill_buf(&mut self) -> io::Result<&[u8]> {
+        self.goes_on = self.failed;
         self.fills = self.fills.saturating_add(1);
         if self.fills == self.bad.call {
-            self.source.most = ended(self.bad.end)?;
+            let shown = ended(self.bad.end);
+            self.failed = shown.is_err();
+            self.source.most = shown?;
         }
         let n = self.source.left.len().min(self.source.most);
         Ok(&self.source.left[..n])

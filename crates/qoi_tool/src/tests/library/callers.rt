@@ -79,6 +79,18 @@ pub fn receive<R: Read + Drop>(alloc: Global, reader: R) -> Result<(Vec<u8>, R),
     Ok((raw, decoder.into_reader()))
 }
 
+/// The same from the reader's buffer.
+pub fn receive_buffered<R: BufRead + Drop>(alloc: Global, reader: R) -> Result<(Vec<u8>, R), Error>
+    ensures { IfOk result (λ x. (h : Header) × (middle : Option (List ℕ))
+        × TakesHeader (R.remaining reader) middle h
+        × ReadsImage (channels_number h.channels) (channels_number h.channels) (pixel_count h)
+        middle (R.remaining x.1) x.0.items) }
+{
+    let mut decoder = Decoder::from_buf_read(reader)?;
+    let raw = decoder.decode_to_vec(alloc)?;
+    Ok((raw, decoder.into_reader()))
+}
+
 /// Several files in one slice. The raw bytes of the images of two files, one after the other.
 pub fn two_images(alloc: Global, bytes: &[u8]) -> Result<(Vec<u8>, Vec<u8>), Error>
     ensures { IfOk result (λ x. (h : Header) × (k : Header) × (middle : List ℕ) × (rest : List ℕ)

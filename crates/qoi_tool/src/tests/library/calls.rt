@@ -5,9 +5,9 @@ use crate::tests::library::callers::{
     all_images, as_long, at_most, at_most_from, both_channels, both_images, bounded_bytes,
     decoded_part, encoded_part, first_byte, frame_store, header_ahead, into_buffer, keep_and_try,
     keep_twice, lengths, lengths_back, methods_there_and_back, more_needed, near_shortest,
-    no_longer, pack, pack_and_keep, pack_and_keep_in, pack_at_once, raw_bytes, receive, send,
-    send_and_keep, shortest, space_byte, there_and_back, tight_part, tight_there_and_back,
-    two_images,
+    no_longer, pack, pack_and_keep, pack_and_keep_in, pack_at_once, raw_bytes, receive,
+    receive_buffered, send, send_and_keep, shortest, space_byte, there_and_back, tight_part,
+    tight_there_and_back, two_frames_buffered, two_images,
 };
 use crate::tests::library::support::{assert_bytes, assert_given, assert_header};
 use qoi::{Error, Header, Result, Style};
@@ -142,6 +142,8 @@ fn readers_of_images(rt: HostRuntime) {
     let pixel = PIXEL.as_slice();
     let received = receive(rt.alloc(), ONE_RGB_PIXEL.as_slice());
     assert!(rt; matches!(&received, Ok((raw, left)) if raw.as_slice() == pixel && left.is_empty()));
+    let received = receive_buffered(rt.alloc(), ONE_RGB_PIXEL.as_slice());
+    assert!(rt; matches!(&received, Ok((raw, left)) if raw.as_slice() == pixel && left.is_empty()));
 }
 
 // Opaque black that comes back is spelled out by three more bytes than an index position, which
@@ -180,6 +182,8 @@ fn many_files(rt: HostRuntime) {
 fn frames_come_back(rt: HostRuntime) {
     let frames = frame_store(rt.alloc(), &PIXEL, &[1, 2, 3], 1, 1);
     assert_both(&rt, frames, &PIXEL, &[1, 2, 3]);
+    let frames = two_frames_buffered(rt.alloc(), files().as_slice());
+    assert_both(&rt, frames, &PIXEL, &PIXEL);
 }
 
 #[test]

@@ -13,7 +13,7 @@ use qoi::{
     decode_to_vec, encode_to_vec,
 };
 use std::alloc::Global;
-use std::io::{Cursor, Read};
+use std::io::{BufReader, Cursor, Read};
 
 /// The same bytes are the same image: by the free call twice.
 pub fn twice(alloc: Global, file: &[u8]) -> Result<(Vec<u8>, Vec<u8>), Error>
@@ -43,6 +43,16 @@ pub fn call_and_stream(alloc: Global, file: &[u8]) -> Result<(Vec<u8>, Vec<u8>),
 {
     let (_, first) = decode_to_vec(alloc, file)?;
     let mut decoder = Decoder::from_stream(file)?;
+    let second = decoder.decode_to_vec(alloc)?;
+    Ok((first, second))
+}
+
+/// So they are from the buffer of a reader.
+pub fn call_and_buffered(alloc: Global, file: &[u8]) -> Result<(Vec<u8>, Vec<u8>), Error>
+    ensures { IfOk result (λ x. x.0.items ≡ x.1.items) }
+{
+    let (_, first) = decode_to_vec(alloc, file)?;
+    let mut decoder = Decoder::from_buf_read(BufReader::new(alloc, file)?)?;
     let second = decoder.decode_to_vec(alloc)?;
     Ok((first, second))
 }
@@ -267,6 +277,17 @@ pub fn by_clone_of_cursor(alloc: Global, file: &[u8]) -> Result<(Vec<u8>, Vec<u8
     Ok((first, second))
 }
 
+/// Clones. So do a decoder of a cursor's buffer and its clone.
+pub fn by_clone_of_buffered(alloc: Global, file: &[u8]) -> Result<(Vec<u8>, Vec<u8>), Error>
+    ensures { IfOk result (λ x. x.0.items ≡ x.1.items) }
+{
+    let mut decoder = Decoder::from_buf_read(Cursor::new(file))?;
+    let mut clone = decoder.clone()?;
+    let first = decoder.decode_to_vec(alloc)?;
+    let second = clone.decode_to_vec(alloc)?;
+    Ok((first, second))
+}
+
 #[test]
 fn the_same_image(rt: HostRuntime) -> Result<(), Error> {
     let alloc = rt.alloc();
@@ -288,6 +309,10 @@ fn the_same_image_of_streams(rt: HostRuntime) -> Result<(), Error> {
     let (_, second) = by_clone(alloc, &ONE_RGB_PIXEL)?;
     assert_bytes(&rt, &second, &PIXEL);
     let (_, second) = by_clone_of_cursor(alloc, &ONE_RGB_PIXEL)?;
+    assert_bytes(&rt, &second, &PIXEL);
+    let (_, second) = call_and_buffered(alloc, &ONE_RGB_PIXEL)?;
+    assert_bytes(&rt, &second, &PIXEL);
+    let (_, second) = by_clone_of_buffered(alloc, &ONE_RGB_PIXEL)?;
     assert_bytes(&rt, &second, &PIXEL);
     let (header, raw) = file_ahead(alloc, ONE_RGB_PIXEL.as_slice())?;
     assert_number(&rt, header.n_pixels(), 1);
