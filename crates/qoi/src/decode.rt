@@ -211,7 +211,7 @@ impl<R: BufRead + Drop> Decoder<Buffered<R>> {
             HasHeader d (R.remaining reader) (R.remaining d.reader)) }
 
         // The refusals.
-        ensures refused { IfErr result (RefusesStreamHeader (R.remaining reader)) }
+        ensures refused { IfErr result (HasRefusedHeader (R.remaining reader)) }
     {
         let decoder = Decoder::from_stream(reader)?;
         Ok(over_buffer(decoder))
