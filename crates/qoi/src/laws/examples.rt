@@ -16,11 +16,11 @@ ghost use Rattle.qoi.specs.Written.{fresh, noted};
 ghost use Rattle.qoi.specs.writers.Writes.{StandsAfter};
 ghost use Rattle.qoi.specs.writers.Writes.{AppendsBeginning};
 ghost use Rattle.qoi.specs.Encoded.{max_len, IsFileLength, image_header, OpensBlack};
-ghost use Rattle.qoi.specs.Regular.{Regular};
+ghost use Rattle.qoi.specs.Regular.{Begins, Regular};
 ghost use Rattle.qoi.specs.ErrorText.{size_text, bytes_text, printed};
 
 /// The least and the greatest numbers in bytes and chunks, the lengths of the longest chunk and of
-/// the end marker, and regular lists.
+/// the end marker, regular lists, and pixels that begin with an image.
 pub fn chunk_examples()
     ensures bytes { AreBytes (0 ∷ 255 ∷ []) }
     ensures no_byte { AreBytes (256 ∷ []) → ⊥ }
@@ -49,6 +49,8 @@ pub fn chunk_examples()
     ensures marker_length { length end_marker ≡ marker_size }
     ensures named_there { Regular (Place 0 ∷ []) }
     ensures named_elsewhere { Regular (Place 1 ∷ []) → ⊥ }
+    ensures begins { Begins (pixel 1 2 3 4 ∷ pixel 5 6 7 8 ∷ []) (pixel 1 2 3 4 ∷ []) }
+    ensures begins_not { Begins [] (pixel 1 2 3 4 ∷ []) → ⊥ }
 {}
 
 /// Raw bytes and their pixels.
@@ -220,14 +222,19 @@ pub fn verdict_examples()
     ensures refuses_wrong { RefusesBytes 1 (0xc0 ∷ replicate 8 0) Error.InvalidPadding }
     ensures refuses_no_other { RefusesBytes 1 [] Error.OutOfMemory → ⊥ }
     ensures taken_cut { (e : Error) → IsIoError e → RefusesTaken 1 [] e }
+    ensures taken_whole { (e : Error) → IsIoError e → RefusesTaken 1 (0xc0 ∷ end_marker) e → ⊥ }
     ensures taken_wrong { RefusesTaken 1 (0xc0 ∷ replicate 8 0) Error.InvalidPadding }
+    ensures taken_past_wrong { RefusesTaken 1 (0xc0 ∷ replicate 9 0) Error.InvalidPadding → ⊥ }
     ensures marker_cut { RefusesMarker (replicate 7 0) Error.UnexpectedBufferEnd }
     ensures marker_not_cut { RefusesMarker (replicate 8 0) Error.UnexpectedBufferEnd → ⊥ }
     ensures marker_wrong { RefusesMarker (replicate 8 0 ++ 7 ∷ []) Error.InvalidPadding }
     ensures taken_marker_cut { (e : Error) → IsIoError e → RefusesTakenMarker (replicate 7 0) e }
     ensures taken_marker_wrong { RefusesTakenMarker (replicate 8 0) Error.InvalidPadding }
     ensures taken_header_cut { (e : Error) → IsIoError e → RefusesTakenHeader (replicate 13 0) e }
+    ensures taken_header_whole { (e : Error) → IsIoError e
+        → RefusesTakenHeader (replicate 14 0) e → ⊥ }
     ensures taken_header { RefusesTakenHeader (replicate 14 0) (Error.InvalidChannels 0) }
+    ensures taken_past_header { RefusesTakenHeader (replicate 15 0) (Error.InvalidChannels 0) → ⊥ }
 {}
 
 /// Which errors are those of a fault, of cut bytes and of wrong ones, in memory (`true`) and on a
@@ -236,6 +243,7 @@ pub fn error_examples()
     ensures other { IsIoError Error.OutOfMemory → ⊥ }
     ensures fault_in_memory { (e : Error) → IsReaderFault true e → ⊥ }
     ensures fault { (e : Error) → IsIoError e → IsReaderFault false e }
+    ensures no_fault { IsReaderFault false Error.OutOfMemory → ⊥ }
     ensures cut_in_memory { IsErrorOfCut true Error.UnexpectedBufferEnd }
     ensures not_cut_in_memory { IsErrorOfCut true Error.InvalidPadding → ⊥ }
     ensures cut { (e : Error) → IsIoError e → IsErrorOfCut false e }

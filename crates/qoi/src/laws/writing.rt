@@ -3,13 +3,14 @@
 ghost use Rattle.std.specs.Prelude.{◌≡◌, ◌≢◌, ◌↔◌, ℕ, ◌+◌, ◌-◌, ◌*◌, ◌/◌, ◌<◌, ◌≤◌, List, [], ◌∷◌, ◌++◌, length, replicate, map, None, Some};
 ghost use Rattle.std.specs.List.{AllByRecursion, range_with_len};
 ghost use Rattle.qoi.specs.declared.chunk.Chunk.{Chunk};
+ghost use Rattle.qoi.specs.declared.header.Header.{Header};
 ghost use Rattle.qoi.specs.declared.types.Channels.{Channels};
 ghost use Rattle.qoi.specs.declared.types.ColorSpace.{ColorSpace};
 ghost use Rattle.qoi.specs.declared.types.Style.{Style};
 ghost use Rattle.qoi.specs.declared.types.Style.TheVariants.{Reference, Places, Tight};
 ghost use Rattle.qoi.specs.declared.chunk.Chunk.TheVariants.{Place, Run, Rgb, Rgba};
 ghost use Rattle.qoi.specs.Qoi.{RgbaPixel, IsPixel, Past, run_max, blank, pixel, previous, seen, AreChunks, chunk_bytes, file, Reaches, meaning};
-ghost use Rattle.qoi.specs.Encoded.{max_len};
+ghost use Rattle.qoi.specs.Encoded.{max_len, IsFileLength, IsFileOf};
 ghost use Rattle.qoi.specs.Raw.{IsChannels, output, pixels_of, HasChannels};
 ghost use Rattle.qoi.specs.Regular.{Begins, Covers, Regular};
 ghost use Rattle.qoi.specs.Shortest.{floor, trailing_repeats, slack, total_cost};
@@ -227,6 +228,19 @@ pub fn slack_is_reached()
         ≡ pixel 0 0 0 255 ∷ pixel 101 102 103 104 ∷ pixel 0 0 0 255 ∷ [] }
     ensures longer_rgba { length (chunk_bytes (Run 1 ∷ Rgba 101 102 103 104 ∷ Rgba 0 0 0 255 ∷ []))
         ≡ length (chunk_bytes (Run 1 ∷ Rgba 101 102 103 104 ∷ Place 53 ∷ [])) + 4 }
+{}
+
+/// Of 63 repeats 62 are the first run, and the one that is left the second; not the other way
+/// round.
+pub fn full_runs_come_first()
+    ensures full_first { Written (replicate 63 (pixel 0 0 0 255)) (Run 62 ∷ Run 1 ∷ []) }
+    ensures rest_first { Written (replicate 63 (pixel 0 0 0 255)) (Run 1 ∷ Run 62 ∷ []) → ⊥ }
+{}
+
+/// The file of an image has as many bytes as `IsFileLength` says, in each style.
+pub fn files_have_their_length()
+    ensures { (style : Style) (h : Header) (raw bytes : List ℕ) → IsFileOf style h raw bytes
+        → IsFileLength h (length bytes) }
 {}
 
 /// The greatest length of a file is reached: one pixel that is written in full, in three channels

@@ -1,6 +1,6 @@
 -- Examples that a search doesn't compute.
-use Rattle.std.proofs.Common.{arith, refl}
-use Rattle.qoi.specs.Qoi.{blank, hash}
+use Rattle.std.proofs.Common.{[], ◌∷◌, arith, refl}
+use Rattle.qoi.specs.Qoi.{pixel, blank, hash}
 use Rattle.qoi.proofs.laws.examples.chunk_examples.Goals as goal
 
 pub returns-clause-no_byte : goal.returns-clause-no_byte
@@ -13,3 +13,9 @@ returns-clause-named_there c = (refl, tt)
 pub returns-clause-named_elsewhere : goal.returns-clause-named_elsewhere
 unfolding blank hash
 returns-clause-named_elsewhere c named = absurd (omega (arith, named.0))
+
+pub returns-clause-begins : goal.returns-clause-begins
+returns-clause-begins c = (pixel 5 6 7 8 ∷ [], refl)
+
+pub returns-clause-begins_not : goal.returns-clause-begins_not
+returns-clause-begins_not c begins = let e = begins.1 in cc

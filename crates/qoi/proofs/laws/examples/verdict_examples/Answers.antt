@@ -3,7 +3,8 @@ use Rattle.std.proofs.Common.{◌≡◌, ◌≢◌, [], ◌∷◌, replicate, sl
 use Rattle.qoi.specs.declared.error.Error.TheVariants.{IoError}
 use Rattle.qoi.specs.declared.chunk.Chunk.TheVariants.{Run, Rgb}
 use Rattle.qoi.specs.Qoi.{end_marker}
-use Rattle.qoi.specs.Verdicts.{IsCut, IsWrong}
+use Rattle.qoi.specs.Verdicts.{IsWhole, IsCut, IsWrong}
+use Rattle.qoi.proofs.format.OneVerdict.{wrong_is_one, whole_not_cut}
 use Rattle.qoi.proofs.laws.examples.verdict_examples.Goals as goal
 
 -- eight zeros aren't the end marker
@@ -24,6 +25,22 @@ eight = record {
   enough = omega arith;
   length_is = refl;
   other = zeros;
+}
+
+-- of nine zeros after the first pixel, one is left
+nine : IsWrong 1 (0xc0 ∷ replicate 9 0) (Run 1 ∷ []) (replicate 8 0) (0 ∷ [])
+nine = record {
+  has = record { chunks = ((omega arith, omega arith), tt); stays_below = (omega arith, tt); split = refl };
+  enough = omega arith;
+  length_is = refl;
+  other = zeros;
+}
+
+-- the end marker after the first pixel
+marked : IsWhole 1 (0xc0 ∷ end_marker) (Run 1 ∷ []) []
+marked = record {
+  has = record { chunks = ((omega arith, omega arith), tt); stays_below = (omega arith, tt); split = refl };
+  enough = omega arith;
 }
 
 pub returns-clause-cut_in_chunk : goal.returns-clause-cut_in_chunk
@@ -47,3 +64,14 @@ returns-clause-taken_wrong c = (Run 1 ∷ [], replicate 8 0, eight)
 
 pub returns-clause-marker_wrong : goal.returns-clause-marker_wrong
 returns-clause-marker_wrong c = (replicate 8 0, 7 ∷ [], refl, zeros, refl)
+
+pub returns-clause-taken_whole : goal.returns-clause-taken_whole
+returns-clause-taken_whole c (IoError i) is cut = whole_not_cut 1 _ _ cut.0 [] cut.1 marked cut.2
+returns-clause-taken_whole c _ is refused = absurd is
+
+pub returns-clause-taken_past_wrong : goal.returns-clause-taken_past_wrong
+returns-clause-taken_past_wrong c wrong = let same = wrong_is_one 1 _ wrong.0 (Run 1 ∷ []) wrong.1 (replicate 8 0) [] (0 ∷ []) wrong.2 nine in cc
+
+pub returns-clause-taken_header_whole : goal.returns-clause-taken_header_whole
+returns-clause-taken_header_whole c (IoError i) is few = absurd (omega (arith, few))
+returns-clause-taken_header_whole c _ is refused = absurd is
