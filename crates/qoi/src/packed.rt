@@ -4,9 +4,13 @@ ghost use Rattle.qoi.specs.Qoi.{IsPixel, pixel, rgba, start, blank, hash};
 ghost use Rattle.qoi.specs.Raw.{IsChannels, output};
 ghost use Rattle.qoi.specs.inner.Packed.{word, pixel_of_word};
 
-use crate::hashed::Hashed;
 use std::marker::Model;
 use std::simd::{Simd, u8x4, u8x16, u64x2};
+
+// 3 * 2^56 + 7 * 2^40 + 5 * 2^16 + 11: the highest byte of its product with a pixel that is spread
+// over 64 bits (red, blue, green and alpha from bits 0, 16, 40 and 56 on) is 3 r + 5 g + 7 b + 11 a,
+// modulo 256.
+const HASH_FACTOR: u64 = 0x0300_0700_0005_000b;
 
 /// A pixel in 32 bits: red in the lowest byte, then green, blue and alpha.
 ///
@@ -180,12 +184,15 @@ impl Packed {
         self.0 == other.0
     }
 
-    /// The index position of the pixel, 0 to 63 (QOI specification 1.0, "Chunks").
+    /// The index position of the pixel, 0 to 63 (QOI specification 1.0, "Chunks"): by one product.
+    #[tactic(auto, using(crate::proofs::format::PackedPixels::word_spread, crate::proofs::format::PackedPixels::product_is_hash))]
     pub(crate) fn hash_index(self) -> u8
         ensures position { result ≡ hash self }
         ensures within { result < 64 }
     {
-        Hashed::new(self.r(), self.g(), self.b(), self.a()).position() as u8
+        let word = self.wide();
+        let spread = ((word & 0xff00_ff00) << 32) | (word & 0x00ff_00ff);
+        (spread.wrapping_mul(HASH_FACTOR) >> 56) as u8 % 64
     }
 
     /// Opaque black, the pixel before the first one.

@@ -1,5 +1,5 @@
-//! The crate's internal items that contracts rest on, and what callers who read and write chunks
-//! themselves need: `read_chunk`, `Pixel`, `repeats`.
+//! The crate's internal items that contracts name, and what callers who read and write chunks
+//! themselves need: `read_chunk` (no decoder takes its chunks by it), `Pixel`, `repeats`.
 pub use crate::chunk::{Chunk, read_chunk};
 pub use crate::decode::{Buffered, Bytes, Reader};
 pub use crate::pixel::{Pixel, SupportedChannels};

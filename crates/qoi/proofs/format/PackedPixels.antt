@@ -1,12 +1,73 @@
 -- Pixels as single numbers of 32 bits.
-use Rattle.std.proofs.Common.{◌≡◌, ℕ, ◌%◌, ◌^◌, ◌≤◌, List, ◌∷◌, length, take, arith}
+use Rattle.std.proofs.Common.{◌≡◌, ℕ, ◌+◌, ◌*◌, ◌/◌, ◌%◌, ◌^◌, ◌<◌, ◌≤◌, List, ◌∷◌, length, take, arith, ap, ◌∙◌}
 use lib.Lanes.{number_l}
-use Rattle.qoi.specs.Qoi.{AreBytes, rgba}
+use Rattle.std.specs.Int.Bits.{bit_and, bit_or, and_zero_r, or_zero_l, or_zero_r}
+use Rattle.std.proofs.lemmas.Nat.{and_block, and_mask, or_block}
+use Rattle.qoi.specs.Qoi.{AreBytes, RgbaPixel, IsPixel, rgba, hash}
 use Rattle.qoi.proofs.format.SamePixels.{same_pixel}
-use Rattle.qoi.specs.inner.Packed.{pixel_of_word}
+use Rattle.qoi.specs.inner.Packed.{pixel_of_word, spread, product_hash}
 
 -- four bytes read as one number mean their pixel
 pub loaded : (bytes : List ℕ) → AreBytes bytes → 4 ≤ length bytes → pixel_of_word (number_l 256 (take 4 bytes) % 2 ^ 32) ≡ rgba (take 4 bytes)
 loaded (r ∷ g ∷ b ∷ a ∷ bytes) h l = same_pixel _ _ (omega (arith, h 0, h 1, h 2, h 3)) (omega (arith, h 0, h 1, h 2, h 3))
     (omega (arith, h 0, h 1, h 2, h 3)) (omega (arith, h 0, h 1, h 2, h 3))
 loaded _ h l = absurd (omega arith)
+
+-- green and alpha of a number of four bytes
+second_bytes : (a b g r : ℕ) → b < 2 ^ 8 → g < 2 ^ 8 → r < 2 ^ 8 → bit_and (((a * 2 ^ 8 + b) * 2 ^ 8 + g) * 2 ^ 8 + r) 0xff00ff00 ≡ ((a % 2 ^ 8 * 2 ^ 8) * 2 ^ 8 + g) * 2 ^ 8
+second_bytes a b g r lb lg lr =
+    and_block 8 ((a * 2 ^ 8 + b) * 2 ^ 8 + g) 0xff00ff r 0 lr (omega arith)
+    ∙ ap (λ z. z * 2 ^ 8 + bit_and r 0) (and_block 8 (a * 2 ^ 8 + b) 0xff00 g 0xff lg (omega arith))
+    ∙ ap (λ z. (z * 2 ^ 8 + bit_and g 0xff) * 2 ^ 8 + bit_and r 0) (and_block 8 a 0xff b 0 lb (omega arith))
+    ∙ omega (arith, and_mask a 8, and_mask g 8, and_zero_r b, and_zero_r r)
+
+-- red and blue of it
+first_bytes : (a b g r : ℕ) → b < 2 ^ 8 → g < 2 ^ 8 → r < 2 ^ 8 → bit_and (((a * 2 ^ 8 + b) * 2 ^ 8 + g) * 2 ^ 8 + r) 0xff00ff ≡ b * 2 ^ 16 + r
+first_bytes a b g r lb lg lr =
+    and_block 8 ((a * 2 ^ 8 + b) * 2 ^ 8 + g) 0xff00 r 0xff lr (omega arith)
+    ∙ ap (λ z. z * 2 ^ 8 + bit_and r 0xff) (and_block 8 (a * 2 ^ 8 + b) 0xff g 0 lg (omega arith))
+    ∙ ap (λ z. (z * 2 ^ 8 + bit_and g 0) * 2 ^ 8 + bit_and r 0xff) (and_block 8 a 0 b 0xff lb (omega arith))
+    ∙ omega (arith, and_mask b 8, and_mask r 8, and_zero_r a, and_zero_r g)
+
+-- they stand side by side
+joined : (x y : ℕ) → y < 2 ^ 32 → bit_or (x * 2 ^ 32) y ≡ x * 2 ^ 32 + y
+joined x y l =
+    let left : x * 2 ^ 32 ≡ x * 2 ^ 32 + 0 = omega arith in
+    let right : y ≡ 0 * 2 ^ 32 + y = omega arith in
+    ap (λ z. bit_or z y) left ∙ ap (λ z. bit_or (x * 2 ^ 32 + 0) z) right ∙ or_block 32 x 0 0 y (omega arith) l ∙ omega (arith, or_zero_r x, or_zero_l y)
+
+-- a word whose bytes are taken apart is the spread number of its pixel
+pub word_spread : (w : ℕ) → w < 2 ^ 32 → bit_or (bit_and w 0xff00ff00 * 2 ^ 32 % 2 ^ 64) (bit_and w 0xff00ff) ≡ spread (pixel_of_word w)
+word_spread w l =
+    ap (λ z. bit_or (bit_and z 0xff00ff00 * 2 ^ 32 % 2 ^ 64) (bit_and z 0xff00ff)) split
+    ∙ ap (λ z. bit_or (z * 2 ^ 32 % 2 ^ 64) (bit_and bytes 0xff00ff)) (second_bytes a b g r (omega arith) (omega arith) (omega arith))
+    ∙ ap (λ z. bit_or (((a % 2 ^ 8 * 2 ^ 8) * 2 ^ 8 + g) * 2 ^ 8 * 2 ^ 32 % 2 ^ 64) z) (first_bytes a b g r (omega arith) (omega arith) (omega arith))
+    ∙ ap (λ z. bit_or z (b * 2 ^ 16 + r)) fits
+    ∙ joined (((a * 2 ^ 8) * 2 ^ 8 + g) * 2 ^ 8) (b * 2 ^ 16 + r) (omega arith)
+    ∙ omega arith
+  where
+    a : ℕ
+    a = w / 2 ^ 24
+
+    b : ℕ
+    b = w / 2 ^ 16 % 2 ^ 8
+
+    g : ℕ
+    g = w / 2 ^ 8 % 2 ^ 8
+
+    r : ℕ
+    r = w % 2 ^ 8
+
+    bytes : ℕ
+    bytes = ((a * 2 ^ 8 + b) * 2 ^ 8 + g) * 2 ^ 8 + r
+
+    split : w ≡ bytes
+    split = omega arith
+
+    fits : ((a % 2 ^ 8 * 2 ^ 8) * 2 ^ 8 + g) * 2 ^ 8 * 2 ^ 32 % 2 ^ 64 ≡ ((a * 2 ^ 8) * 2 ^ 8 + g) * 2 ^ 8 * 2 ^ 32
+    fits = omega arith
+
+-- the product gives the hash
+pub product_is_hash : (p : RgbaPixel) → IsPixel p → product_hash p ≡ hash p
+unfolding hash
+product_is_hash p is = omega arith

@@ -8,7 +8,8 @@ ghost use Rattle.qoi.specs.declared.types.Channels.{Channels};
 ghost use Rattle.qoi.specs.declared.types.ColorSpace.{ColorSpace};
 ghost use Rattle.qoi.specs.declared.types.Style.{Style};
 ghost use Rattle.qoi.specs.declared.chunk.Chunk.{Chunk};
-ghost use Rattle.qoi.specs.Qoi.{pixel_after, Past, previous, rgba, channels_number, colorspace_number};
+ghost use Rattle.qoi.specs.Qoi.{RgbaPixel, IsPixel, hash, pixel_after, Past, previous, rgba, channels_number, colorspace_number};
+ghost use Rattle.qoi.specs.inner.Packed.{product_hash};
 ghost use Rattle.qoi.specs.Raw.{IsChannels};
 
 use crate::chunk::Chunk;
@@ -23,6 +24,12 @@ pub fn channels_there_and_back()
         → ⟦<Channels as TryFrom<u8>>⟧.try_from_gives (channels_number c) r → r ≡ Ok c }
     ensures refused { (n : ℕ) (r : Result Channels Error) → n ≢ 3 → n ≢ 4
         → ⟦<Channels as TryFrom<u8>>⟧.try_from_gives n r → r ≡ Err (Error.InvalidChannels n) }
+{}
+
+/// The product of a pixel that is spread over 64 bits with the weights of the hash gives the hash.
+#[tactic(auto, using(crate::proofs::format::PackedPixels::product_is_hash))]
+pub fn product_gives_hash()
+    ensures { (p : RgbaPixel) → IsPixel p → product_hash p ≡ hash p }
 {}
 
 /// A color space comes back from its number; the error for any other number holds it.
