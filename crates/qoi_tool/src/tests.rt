@@ -5,6 +5,7 @@ mod fakes;
 mod large;
 mod library;
 mod pieces;
+mod refusals;
 
 use crate::tests::fakes::{Bad, End, NONE, ONE_RGB_PIXEL, PIXEL, Sink, Source, take_memory};
 use crate::tests::library::support::examples::{

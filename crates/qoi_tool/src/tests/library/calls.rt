@@ -9,8 +9,12 @@ use crate::tests::library::callers::{
     receive_buffered, send, send_and_keep, shortest, space_byte, there_and_back, tight_part,
     tight_there_and_back, two_frames_buffered, two_images,
 };
-use crate::tests::library::support::{assert_bytes, assert_given, assert_header};
-use qoi::{Error, Header, Result, Style};
+use crate::tests::library::support::images::{file_of, row};
+use crate::tests::library::support::{
+    assert_bytes, assert_fails, assert_given, assert_header, assert_number,
+};
+use qoi::{Channels, Error, Header, Result, Style};
+use std::io::ErrorKind;
 use std::process::Abort;
 
 // Compares a part of a buffer that a caller gives.
@@ -23,12 +27,6 @@ fn assert_both(rt: &impl Abort, given: Result<(Vec<u8>, Vec<u8>)>, first: &[u8],
     let (one, other) = given.expect(rt, "refused");
     assert_bytes(rt, &one, first);
     assert_bytes(rt, &other, second);
-}
-
-// How long two vectors are that a caller gives.
-fn sizes(rt: &impl Abort, given: Result<(Vec<u8>, Vec<u8>)>) -> (usize, usize) {
-    let (one, other) = given.expect(rt, "refused");
-    (one.len(), other.len())
 }
 
 // The file twice.
@@ -122,7 +120,9 @@ fn writers_that_refuse(rt: HostRuntime) {
     let end = End::Fault;
     let mut writer = Sink::new(rt.alloc(), 4, Bad { call: 3, end }).expect(&rt, "refused");
     let tried = keep_and_try(rt.alloc(), &PIXEL, 1, 1, &mut writer);
-    assert!(rt; matches!(tried, Ok((_, Err(_)))));
+    let (file, sent) = tried.expect(&rt, "refused");
+    assert_bytes(&rt, &file, &ONE_RGB_PIXEL);
+    assert_fails(&rt, sent.err(), ErrorKind::BrokenPipe);
     assert_bytes(&rt, &writer.got, &ONE_RGB_PIXEL[..8]);
 }
 
@@ -153,9 +153,13 @@ const BLACK: [u8; 9] = [0, 0, 0, 101, 102, 103, 0, 0, 0];
 #[test]
 fn styles(rt: HostRuntime) {
     let alloc = rt.alloc();
-    assert!(rt; sizes(&rt, as_long(alloc, &BLACK, 3, 1)) == (31, 31));
+    let spelled = [0xc0, 0xfe, 0x65, 0x66, 0x67, 0xfe, 0, 0, 0];
+    let named = [0xc0, 0xfe, 0x65, 0x66, 0x67, 0x35];
+    let spelled = file_of(alloc, row(3, Channels::Rgb), &spelled).expect(&rt, "refused");
+    let named = file_of(alloc, row(3, Channels::Rgb), &named).expect(&rt, "refused");
+    assert_both(&rt, as_long(alloc, &BLACK, 3, 1), &spelled, &spelled);
     let other = no_longer(alloc, &BLACK, 3, 1, Style::Places);
-    assert!(rt; sizes(&rt, other) == (31, 28));
+    assert_both(&rt, other, &spelled, &named);
 }
 
 #[test]
@@ -209,8 +213,11 @@ fn into_a_buffer(rt: HostRuntime) {
 
 #[test]
 fn files_until_one_is_refused(rt: HostRuntime) {
-    let whole = all_images(rt.alloc(), &files());
-    assert!(rt; matches!(&whole, Ok(images) if images.len() == 2));
+    let images = all_images(rt.alloc(), &files()).expect(&rt, "refused");
+    assert_number(&rt, images.len(), 2);
+    for raw in &images {
+        assert_bytes(&rt, raw, &PIXEL);
+    }
     let all = files();
     if let Some((_, cut)) = all.split_last() {
         let refused = all_images(rt.alloc(), cut);

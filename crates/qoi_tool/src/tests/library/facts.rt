@@ -335,10 +335,16 @@ fn headers_channels_and_lengths(rt: HostRuntime) -> Result<(), Error> {
 #[test]
 fn sizes_and_spaces(rt: HostRuntime) -> Result<(), Error> {
     let alloc = rt.alloc();
-    assert_number(&rt, size_back(alloc, &PIXEL, 1, 1)?.n_pixels(), 1);
-    let (header, back) = size_with_image(alloc, &PIXEL, 1, 1)?;
-    assert_number(&rt, header.n_pixels(), 1);
-    assert_bytes(&rt, &back, &PIXEL);
+    let wide = Header {
+        width: 3,
+        height: 2,
+        ..Header::default()
+    };
+    let raw = [7; 18];
+    assert_header(&rt, &size_back(alloc, &raw, 3, 2)?, &wide);
+    let (header, back) = size_with_image(alloc, &raw, 3, 2)?;
+    assert_header(&rt, &header, &wide);
+    assert_bytes(&rt, &back, &raw);
     let (srgb, linear) = both_spaces(alloc, &PIXEL, 1, 1)?;
     assert_bytes(&rt, &srgb, &ONE_RGB_PIXEL);
     let mut changed = ONE_RGB_PIXEL;

@@ -22,7 +22,8 @@ pub enum Call {
     ToVec,
 }
 
-const CALLS: [Call; 2] = [Call::ToBuf, Call::ToVec];
+/// Both calls.
+pub const CALLS: [Call; 2] = [Call::ToBuf, Call::ToVec];
 
 /// Bytes that begin with a file, or with a part of one that has its header; that header, and the
 /// channels that the file is decoded into.

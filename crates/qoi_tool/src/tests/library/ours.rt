@@ -1,0 +1,79 @@
+//! Callers that decode files of this encoder: a method's success from a slice, and channels that
+//! the caller chooses. `back_in` alone has a proof file.
+ghost use Rattle.std.specs.Prelude.{◌≡◌, ◌+◌, ◌*◌, ◌<◌, ◌≤◌, ℕ, List, length, slice_index, IfOk, IsOk};
+ghost use Rattle.qoi.specs.declared.header.Header.{Header};
+ghost use Rattle.qoi.specs.declared.types.Channels.{Channels};
+ghost use Rattle.qoi.specs.declared.types.Style.{Style};
+ghost use Rattle.qoi.specs.Qoi.{channels_number, pixel_count};
+ghost use Rattle.qoi.specs.Raw.{byte_count, image_byte_count};
+ghost use Rattle.qoi.specs.Encoded.{IsFileOf};
+
+use crate::tests::fakes::{ONE_RGB_PIXEL, PIXEL};
+use crate::tests::library::support::{assert_bytes, assert_header, assert_number};
+use qoi::{Channels, Decoder, Encoder, Error, Header};
+use std::alloc::Global;
+
+/// A success that is known before: the file of an image is decoded into a buffer that is long
+/// enough for it.
+pub fn surely_decoded(buf: &mut [u8], file: &[u8]) -> Result<usize, Error>
+    ensures { (style : Style) (h : Header) (raw : List ℕ) → IsFileOf style h raw file.now
+        → image_byte_count h ≤ length buf.old → IsOk result }
+{
+    let mut decoder = Decoder::new(file)?;
+    let size = decoder.decode_to_buf(buf)?;
+    Ok(size)
+}
+
+/// The same in channels that the caller chooses.
+pub fn surely_decoded_in(buf: &mut [u8], file: &[u8], channels: Channels) -> Result<usize, Error>
+    ensures { (style : Style) (h : Header) (raw : List ℕ) → IsFileOf style h raw file.now
+        → byte_count h (channels_number channels) ≤ length buf.old → IsOk result }
+{
+    let mut decoder = Decoder::new(file)?.with_channels(channels);
+    let size = decoder.decode_to_buf(buf)?;
+    Ok(size)
+}
+
+/// There and back in channels that the caller chooses. An image of three channels that is decoded
+/// into four is opaque.
+pub fn back_in(
+    alloc: Global,
+    raw: &[u8],
+    width: u32,
+    height: u32,
+    channels: Channels,
+) -> Result<(Header, Vec<u8>), Error>
+    ensures size { IfOk result (λ x.
+        length x.1.items ≡ byte_count x.0 (channels_number channels)) }
+    ensures same { IfOk result (λ x. x.0.channels ≡ channels → x.1.items ≡ raw.now) }
+    ensures opaque { channels ≡ Channels.Rgba → IfOk result (λ x. x.0.channels ≡ Channels.Rgb
+        → (i : ℕ) → i < pixel_count x.0 → slice_index x.1.items (4 * i + 3) ≡ 255) }
+{
+    let file = Encoder::new(raw, width, height)?.encode_to_vec(alloc)?;
+    let mut decoder = Decoder::new(&file)?.with_channels(channels);
+    let back = decoder.decode_to_vec(alloc)?;
+    Ok((*decoder.header(), back))
+}
+
+#[test]
+fn buffers_that_are_long_enough(rt: HostRuntime) -> Result<(), Error> {
+    let mut buf = [0xaa; 5];
+    assert_number(&rt, surely_decoded(&mut buf, &ONE_RGB_PIXEL)?, 3);
+    assert_bytes(&rt, &buf, &[0x0b, 0x79, 0xe7, 0xaa, 0xaa]);
+    let rgba = surely_decoded_in(&mut buf, &ONE_RGB_PIXEL, Channels::Rgba)?;
+    assert_number(&rt, rgba, 4);
+    assert_bytes(&rt, &buf, &[0x0b, 0x79, 0xe7, 0xff, 0xaa]);
+    Ok(())
+}
+
+#[test]
+fn chosen_channels(rt: HostRuntime) -> Result<(), Error> {
+    let (header, rgba) = back_in(rt.alloc(), &PIXEL, 1, 1, Channels::Rgba)?;
+    assert_header(&rt, &header, &Header::default());
+    assert_bytes(&rt, &rgba, &[0x0b, 0x79, 0xe7, 0xff]);
+    let (_, rgb) = back_in(rt.alloc(), &[1, 2, 3, 4], 1, 1, Channels::Rgb)?;
+    assert_bytes(&rt, &rgb, &[1, 2, 3]);
+    let (_, same) = back_in(rt.alloc(), &PIXEL, 1, 1, Channels::Rgb)?;
+    assert_bytes(&rt, &same, &PIXEL);
+    Ok(())
+}
