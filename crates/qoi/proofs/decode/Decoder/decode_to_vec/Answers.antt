@@ -31,25 +31,17 @@ returns-in_err-decode_to_buf-clause-refused g c =
     let p = err_from_is_err_and c.from_residual-in_err-decode_to_buf.result c.from_residual-in_err-decode_to_buf.ensures.1 in
     rw (p.1, p.2) (inr (c.in_err-decode_to_buf.ensures.refused room))
 
--- the vector is as long as the buffer that it lent, which is full
-counted : (g : Over) (c : goal.In_ok-decode_to_buf g) → (c.resize.new.self.len ≡ length c.decode_to_buf.new.buf)
-    × (c.in_ok-decode_to_buf.field-0 ≡ length c.decode_to_buf.new.buf)
-counted g c =
-    let size = c.in_ok-resize.ensures.len in
-    let lent : c.resize.new.self.len ≡ length c.decode_to_buf.new.buf = omega (arith, c.decode_to_buf.auto.buf, c.deref_mut.ensures.len) in
-    (lent, omega (arith, lent, size, c.required_buf_len-size.ensures.bytes, c.in_ok-decode_to_buf.ensures.decoded.0))
-
--- the vector's bytes are those that the buffer's call decoded
-decoded_bytes : (g : Over) (c : goal.In_ok-decode_to_buf g) → take c.resize.new.self.len
-    (c.decode_to_buf.new.buf ++ drop (length c.decode_to_buf.new.buf) c.resize.new.self.items) ≡ take c.in_ok-decode_to_buf.field-0 c.decode_to_buf.new.buf
-decoded_bytes g c =
-    let buf = c.decode_to_buf.new.buf in
-    let after = drop (length buf) c.resize.new.self.items in
-    let e = counted g c in
-    ap (λ k. take k (buf ++ after)) e.0 ∙ take-append_seam buf after ∙ sym (take-length buf) ∙ ap (λ k. take k buf) (sym e.1)
-
+-- the vector's bytes are those of the buffer that it lent, which is full and as long
 pub returns-clause-decoded : goal.returns-clause-decoded
 returns-clause-decoded g c =
     let d = c.args.self.now in
-    subst (HasDecoded d (g.R.Reader.ahead d.reader) (g.R.Reader.ahead c.decode_to_buf.new.self.reader)) (sym (decoded_bytes g c))
+    let buf = c.decode_to_buf.new.buf in
+    let after = drop (length buf) c.resize.new.self.items in
+    let size = c.in_ok-resize.ensures.len in
+    let lent : c.resize.new.self.len ≡ length buf = omega (arith, c.decode_to_buf.auto.buf, c.deref_mut.ensures.len) in
+    let count : c.in_ok-decode_to_buf.field-0 ≡ length buf =
+    omega (arith, lent, size, c.required_buf_len-size.ensures.bytes, c.in_ok-decode_to_buf.ensures.decoded.0) in
+    let bytes : take c.resize.new.self.len (buf ++ after) ≡ take c.in_ok-decode_to_buf.field-0 buf =
+    ap (λ k. take k (buf ++ after)) lent ∙ take-append_seam buf after ∙ sym (take-length buf) ∙ ap (λ k. take k buf) (sym count) in
+    subst (HasDecoded d (g.R.Reader.ahead d.reader) (g.R.Reader.ahead c.decode_to_buf.new.self.reader)) (sym bytes)
     c.in_ok-decode_to_buf.ensures.decoded.1
