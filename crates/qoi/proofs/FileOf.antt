@@ -1,5 +1,5 @@
 -- The file of an image: what holds of it.
-use Rattle.std.proofs.Common.{◌≡◌, ◌≢◌, ℕ, ◌+◌, ◌*◌, ◌^◌, ◌<◌, ◌≤◌, List, [], ◌∷◌, ◌++◌, length, take, min, slice_set, ◌-◌, refl, sym, ap, ◌∙◌, subst, arith, append-nil, append_assoc, length-append}
+use Rattle.std.proofs.Common.{◌≡◌, ◌≢◌, ℕ, ◌+◌, ◌*◌, ◌^◌, ◌<◌, ◌≤◌, List, [], ◌∷◌, ◌++◌, length, take, min, slice_set, ◌-◌, refl, sym, ap, ◌∙◌, subst, arith, rules, append-nil, append_assoc, length-append}
 use Rattle.std.proofs.Math.Nat.{mul_comm}
 use lib.Seq.{take-append_seam}
 use Rattle.qoi.specs.declared.types.Channels.{Channels}
@@ -8,7 +8,7 @@ use Rattle.qoi.specs.declared.types.ColorSpace.{ColorSpace}
 use Rattle.qoi.specs.declared.header.Header.{Header}
 use Rattle.qoi.specs.declared.chunk.Chunk.{Chunk}
 use Rattle.qoi.specs.declared.chunk.Chunk.TheVariants.{Place}
-use Rattle.qoi.specs.Qoi.{channels_number, colorspace_number, header_bytes, pixel_count, IsValid, RgbaPixel, AreChunks, bytes_of, chunk_bytes, Reaches, meaning, file, file_pixels, end_marker, IsFile}
+use Rattle.qoi.specs.Qoi.{AreBytes, channels_number, colorspace_number, header_bytes, pixel_count, IsValid, RgbaPixel, AreChunks, bytes_of, chunk_bytes, Reaches, meaning, file, file_pixels, end_marker, IsFile}
 use Rattle.qoi.specs.Raw.{IsChannels, output, HasChannels, image_byte_count}
 use Rattle.qoi.specs.declared.types.Style.{Style}
 use Rattle.qoi.specs.declared.types.Style.TheVariants.{Reference, Places, Tight}
@@ -16,7 +16,9 @@ use Rattle.qoi.specs.EncoderState.{EncoderState}
 use Rattle.qoi.specs.Written.{Written}
 use Rattle.qoi.specs.Styles.{WrittenIn}
 use Rattle.qoi.specs.Decoding.{DecodesFile}
-use Rattle.qoi.specs.Encoded.{max_file_len, image_pixels, Spans, IsNearShortest, IsFileBy, IsAsReference, IsShortIn, IsReadBack, IsFileOf, IsShortest}
+use Rattle.qoi.specs.WrittenList.{written_list}
+use Rattle.qoi.proofs.encoding.CoderSteps.{all_bytes}
+use Rattle.qoi.specs.Encoded.{max_file_len, image_pixels, image_file, Spans, IsNearShortest, IsFileBy, IsAsReference, IsShortIn, IsReadBack, IsFileOf, IsShortest}
 use Rattle.std.specs.Prelude.{Option, drop}
 use Rattle.std.specs.Io.KnownBytes.{Appends}
 use Rattle.qoi.specs.writers.Writes.{AppendsBeginning}
@@ -27,10 +29,10 @@ use Rattle.qoi.proofs.decoding.Ahead.{stands_after}
 use Rattle.qoi.proofs.decoding.FrontImage.{file_image_is, file_rest_is}
 use Rattle.qoi.proofs.decoding.ImageSize.{channels_are}
 use Rattle.qoi.proofs.decoding.OneFile.{decodes_file}
-use Rattle.qoi.proofs.format.RawPixels.{pixels_of_have, length-pixels_of, output-pixels_of}
+use Rattle.qoi.proofs.format.RawPixels.{pixels_of_are, pixels_of_have, length-pixels_of, output-pixels_of}
 use Rattle.qoi.specs.writers.Writes.{WriterLaws, WroteBut, WroteBeginning}
 use Rattle.qoi.proofs.encoding.WriterProgress.{wrote_next, wrote_part, wrote_all, left_fits}
-use Rattle.qoi.proofs.encoding.StyleLists.{style_chunks, style_means, style_unique, style_reaches, style_fits, style_length, style_apart, style_regular, style_upper, places_as_long}
+use Rattle.qoi.proofs.encoding.StyleLists.{list_written, style_chunks, style_means, style_unique, style_reaches, style_fits, style_length, style_apart, style_regular, style_upper, places_as_long}
 use Rattle.qoi.proofs.shortness.RegularLists.{no_blank_regular}
 use Rattle.qoi.proofs.shortness.Lower.{lower}
 use Rattle.qoi.proofs.shortness.TightLists.{lower0, tight_exact}
@@ -208,14 +210,27 @@ module _ (h : Header) (raw : List ℕ) (valid : IsValid h) (size : length raw �
       let exact = style_length Tight (image_pixels h raw) cs w ∙ tight_exact (image_pixels h raw) w.list w.written in
       record { floor0_is = omega arith; shortest = λ others s. omega (arith, lower0 (image_pixels h raw) others s.covers.0 s.covers.1, length-file h others) }
 
+  -- the list that is written
+  list_is : (style : Style) → AreBytes raw → WrittenIn style (image_pixels h raw) (written_list style (image_pixels h raw))
+  list_is style are = list_written style (image_pixels h raw) (pixels_of_are (channels_number h.channels) raw channels (all_bytes raw are))
+
   -- all of it
-  pub file_of : (style : Style) (cs : List Chunk) → WrittenIn style (image_pixels h raw) cs → IsFileOf style h raw (file h cs)
-  file_of style cs w = record {
+  pub file_of : (style : Style) → AreBytes raw → (cs : List Chunk) → WrittenIn style (image_pixels h raw) cs → IsFileOf style h raw (file h cs)
+  unfolding image_file
+  file_of style are cs w = record {
     is_file = file_by (WrittenIn style) (written_lists style) cs w;
+    is_image_file = ap (file h) (style_unique style (image_pixels h raw) cs (written_list style (image_pixels h raw)) w (list_is style are));
     near_shortest = near style cs w;
     shortness = short_in style cs w;
     read_back = read_by (WrittenIn style) (written_lists style) cs w;
   }
+
+-- an image of valid size has a file
+pub file_of_image : (style : Style) (h : Header) (raw : List ℕ) → IsValid h → length raw ≡ image_byte_count h → AreBytes raw
+    → IsFileOf style h raw (image_file style h raw)
+unfolding image_file
+file_of_image style h raw valid size are =
+    file_of h raw valid size style are (written_list style (image_pixels h raw)) (list_is h raw valid size style are)
 
 -- A file of which all went to a writer but the bytes that are kept.
 module _ {W : Type 0} {wrote : W → List ℕ → W → Type 0} {room : W → ℕ} (laws : WriterLaws wrote room) (h : Header) (cs : List Chunk) (start : W) where
@@ -313,9 +328,10 @@ counts_file e bytes n f is = record {
 pub makes_file : (e : EncoderState) (bytes : List ℕ) → IsFileOf e.style e.header e.raw bytes → MakesFile e bytes
 makes_file e bytes f = record {
   file = f;
-  same = λ others g. one_file f g;
+  is = f.is_image_file;
   counts = counts_file e bytes (length bytes) f refl;
   space = λ space others g. f.is_file.color_space space others g.is_file.encoded;
+  as_many = λ space others g. ap length (f.is_file.color_space space others g.is_file.encoded) ∙ search rules;
 }
 
 -- what holds of a buffer that it was put into
@@ -328,9 +344,9 @@ puts_file e bytes old new n f is filled room =
       file = f;
       count = is;
       new_is = filled;
+      is = f.is_image_file;
       room = room;
       front = subst (IsFileOf e.style e.header e.raw) (sym front) f;
-      same = λ others g. filled ∙ ap (λ z. z ++ drop n old) (one_file f g);
       counts = counts_file e bytes n f is;
     }
 
@@ -342,7 +358,7 @@ sends_file e bytes old new n f is sent = record {
   file = f;
   count = is;
   sent = sent;
-  same = λ others g. subst (Appends old new) (one_file f g) sent;
+  is = f.is_image_file;
   counts = counts_file e bytes n f is;
 }
 

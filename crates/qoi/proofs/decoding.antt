@@ -11,9 +11,10 @@ pub mod LeastBytes
 pub mod OneFile
 pub mod Progress
 pub mod Promised
-pub mod RefusedBytes
 pub mod Refusals
+pub mod RefusedBytes
 pub mod SeenTable
 pub mod StreamReads
 pub mod StreamVerdicts
 pub mod TakenBytes
+pub mod Tiles

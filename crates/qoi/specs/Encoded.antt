@@ -16,6 +16,7 @@ use Rattle.qoi.specs.Qoi.{header_size, marker_size, colorspace_at, channels_numb
 use Rattle.qoi.specs.Raw.{pixels_of, image_byte_count}
 use Rattle.qoi.specs.Written.{Written}
 use Rattle.qoi.specs.Styles.{WrittenIn}
+use Rattle.qoi.specs.WrittenList.{written_list}
 use Rattle.qoi.specs.Tight.{floor0}
 use Rattle.qoi.specs.Regular.{Regular, Covers}
 use Rattle.qoi.specs.Shortest.{floor, is_start, slack}
@@ -55,6 +56,11 @@ image_header raw width height = measured raw (tried_header width height Rgb Srgb
 -- the pixels of an image's raw bytes
 abbrev pub image_pixels : Header → List ℕ → List RgbaPixel
 image_pixels h raw = pixels_of (channels_number h.channels) raw
+
+-- The file of the image in a style, as a function of its raw bytes: the header, the chunks that are
+-- written, the end marker. `laws::writing::images_have_files` ties it to `IsFileOf`.
+unfoldable pub image_file : Style → Header → List ℕ → List ℕ
+image_file style h raw = file h (written_list style (image_pixels h raw))
 
 -- the bytes are the header, a list of chunks that is written for the image, and the end marker
 pub record IsEncoded (Lists : List RgbaPixel → List Chunk → Type 0) (h : Header) (raw bytes : List ℕ) : Type 0 where
@@ -138,6 +144,7 @@ pub record IsReadBack (h : Header) (raw bytes : List ℕ) : Type 0 where
 -- is as short as `IsShortIn` says.
 pub record IsFileOf (style : Style) (h : Header) (raw bytes : List ℕ) : Type 0 where
   pub is_file : IsFileBy (WrittenIn style) h raw bytes
+  pub is_image_file : bytes ≡ image_file style h raw
   pub near_shortest : IsNearShortest h raw bytes
   pub shortness : IsShortIn style h raw bytes
   pub read_back : IsReadBack h raw bytes

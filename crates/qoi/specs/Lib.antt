@@ -18,9 +18,11 @@ pub mod Shortest
 pub mod Tight
 -- The list of each style, and the file of an image.
 pub mod Styles
+pub mod WrittenList
 pub mod Encoded
 pub mod EncoderState
 pub mod Sent
+pub mod Tiles
 -- Errors and their texts.
 pub mod Errors
 pub mod ErrorText

@@ -9,7 +9,7 @@ use Rattle.qoi.specs.declared.types.Style.{Style}
 use Rattle.qoi.specs.declared.types.Style.TheVariants.{Reference, Places, Tight}
 use Rattle.qoi.specs.declared.header.Header.{Header}
 use Rattle.qoi.specs.Qoi.{colorspace_at, colorspace_number}
-use Rattle.qoi.specs.Encoded.{image_header, IsFileLength, IsFileOf, IsShortest}
+use Rattle.qoi.specs.Encoded.{image_file, image_header, IsFileLength, IsFileOf, IsShortest}
 use Rattle.qoi.specs.EncoderState.{EncoderState, free_encoder}
 use Rattle.qoi.specs.writers.Writes.{AppendsBeginning}
 
@@ -30,13 +30,16 @@ pub record HasFileLength (e : EncoderState) (n : ℕ) : Type 0 where
 pub record MakesFile (e : EncoderState) (bytes : List ℕ) : Type 0 where
   -- the bytes are the file of the image
   pub file : IsFileOf e.style e.header e.raw bytes
-  -- no other bytes are: what any other call made, put or sent is the same
-  pub same : (others : List ℕ) → IsFileOf e.style e.header e.raw others → bytes ≡ others
+  -- and as a function of it: for two functions of one's own
+  pub is : bytes ≡ image_file e.style e.header e.raw
   -- how many they are
   pub counts : HasFileLength e (length bytes)
   -- with another color space the file has another fourteenth byte, and is otherwise the same
   pub space : (space : ColorSpace) (others : List ℕ) → IsFileOf e.style (record e.header { colorspace = space }) e.raw others
       → others ≡ slice_set bytes colorspace_at (colorspace_number space)
+  -- so it has as many bytes
+  pub as_many : (space : ColorSpace) (others : List ℕ) → IsFileOf e.style (record e.header { colorspace = space }) e.raw others
+      → length others ≡ length bytes
 
 -- The encoder puts its file into the front of a buffer, where it has n bytes.
 pub record PutsFile (e : EncoderState) (old new : List ℕ) (n : ℕ) : Type 0 where
@@ -47,12 +50,12 @@ pub record PutsFile (e : EncoderState) (old new : List ℕ) (n : ℕ) : Type 0 w
   pub count : n ≡ length bytes
   -- they stand at the front, and later bytes stay
   pub new_is : new ≡ bytes ++ drop n old
+  -- as a function of the image
+  pub is : bytes ≡ image_file e.style e.header e.raw
   -- they fit into the buffer
   pub room : n ≤ length old
   -- the part of the buffer that was written is the file
   pub front : IsFileOf e.style e.header e.raw (take n new)
-  -- what any other call made, put or sent stands there
-  pub same : (others : List ℕ) → IsFileOf e.style e.header e.raw others → new ≡ others ++ drop n old
   -- how many bytes the file has
   pub counts : HasFileLength e n
 
@@ -65,8 +68,8 @@ pub record SendsFile (e : EncoderState) (old new : Option (List ℕ)) (n : ℕ) 
   pub count : n ≡ length bytes
   -- they were appended to the writer's bytes, if those are known
   pub sent : Appends old new bytes
-  -- so was what any other call made, put or sent
-  pub same : (others : List ℕ) → IsFileOf e.style e.header e.raw others → Appends old new others
+  -- as a function of the image
+  pub is : bytes ≡ image_file e.style e.header e.raw
   -- how many bytes the file has
   pub counts : HasFileLength e n
 

@@ -8,9 +8,7 @@ use Rattle.qoi.specs.declared.chunk.Chunk.{Chunk}
 use Rattle.qoi.specs.Qoi.{channels_number, header_bytes, chunk_bytes, end_marker, file, file_pixels}
 use Rattle.qoi.specs.Raw.{output}
 use Rattle.qoi.specs.Decoding.{DecodesFile}
-use Rattle.qoi.specs.declared.types.Style.{Style}
-use Rattle.qoi.specs.Encoded.{IsFileOf}
-use Rattle.qoi_tool.specs.Files.{AreFiles, HasTile}
+use Rattle.qoi_tool.specs.Files.{AreFiles}
 
 -- what follows a file is shorter than the file with it
 pub rest_is_shorter : (bytes : List ℕ) (h : Header) (rest raw : List ℕ) → DecodesFile bytes h rest raw → length rest < length bytes
@@ -51,29 +49,3 @@ images_are_one bytes (x ∷ xs) (y ∷ ys) e f =
     let first : y ≡ x = f.2.out_is ∙ ap (λ h. P h f.2.cs) one.0 ∙ ap (P e.0) one.1 ∙ sym e.2.out_is in
     let others : xs ≡ ys = images_are_one e.1 xs ys e.3 (subst (λ (z : List ℕ). AreFiles z ys) one.2 f.3) in
     cc
-
--- a file that is put at the end stands there
-pub tile_put : {style : Style} {h : Header} {raw : List ℕ} (old new bytes : List ℕ) (offset : ℕ) → IsFileOf style h raw bytes → offset ≡ length old
-    → new ≡ old ++ bytes → HasTile new offset raw
-tile_put {style} {h} {raw} old new bytes offset is at e = record {
-  style = style;
-  header = h;
-  front = bytes;
-  rest = [];
-  is_file = is;
-  stands = ap (λ n. drop n new) at ∙ ap (λ z. drop (length old) z) e ∙ drop-append_seam old bytes ∙ sym (append-nil bytes);
-}
-
--- and files before it stay where they are
-pub tile_kept : {raw : List ℕ} (old new bytes : List ℕ) (offset : ℕ) → new ≡ old ++ bytes → HasTile old offset raw → HasTile new offset raw
-tile_kept old new bytes offset e t =
-    let size : length old - offset ≡ length t.front + length t.rest = sym (length-drop offset old) ∙ ap length t.stands ∙ length-append t.front t.rest in
-    let inside : offset ≤ length old = omega (arith, size, t.is_file.is_file.long) in
-    record {
-      style = t.style;
-      header = t.header;
-      front = t.front;
-      rest = t.rest ++ bytes;
-      is_file = t.is_file;
-      stands = ap (λ z. drop offset z) e ∙ drop-append-le offset old bytes inside ∙ ap (λ z. z ++ bytes) t.stands ∙ append_assoc t.front t.rest bytes;
-    }

@@ -1,5 +1,5 @@
 -- A decoded image can be encoded again.
-use Rattle.std.proofs.Common.{◌≡◌, ℕ, ◌*◌, ◌/◌, ◌%◌, ◌<◌, List, length, min, arith, refl, ap, ◌∙◌, Ok, Err}
+use Rattle.std.proofs.Common.{◌≡◌, ℕ, ◌*◌, ◌/◌, ◌%◌, ◌<◌, ◌≤◌, List, length, min, arith, refl, ap, ◌∙◌, Ok, Err}
 use Rattle.std.specs.Prelude.{◌==◌, if◌then◌else◌, Result}
 use Rattle.std.proofs.Math.Nat.{mul-mod_right, mul-div_cancel_left}
 use Rattle.qoi.specs.declared.error.Error.{Error}
@@ -8,7 +8,7 @@ use Rattle.qoi.specs.declared.types.Channels.{Channels}
 use Rattle.qoi.specs.declared.types.Channels.TheVariants.{Rgb, Rgba}
 use Rattle.qoi.specs.declared.types.ColorSpace.TheVariants.{Srgb}
 use Rattle.qoi.specs.declared.header.Header.{Header}
-use Rattle.qoi.specs.Qoi.{channels_number, channels_of, pixel_count, IsValid}
+use Rattle.qoi.specs.Qoi.{channels_number, channels_of, pixel_count, pixels_max, IsValid}
 use Rattle.qoi.specs.Raw.{image_byte_count}
 use Rattle.qoi.specs.Encoded.{image_header, measured, with_number}
 use Rattle.qoi.proofs.format.HeaderBytes.{tried_valid}
@@ -35,3 +35,10 @@ pub encoded_again : (h : Header) (raw : List ℕ) → IsValid h → length raw �
 encoded_again h raw valid size =
     let k : Header = record h { channels = Rgb; colorspace = Srgb } in
     ap (measured raw) (tried_valid k valid) ∙ found_by k h.channels (length raw) (pixel_count h) size (omega (arith, valid.0))
+
+-- raw bytes of the right number get the header of their size
+pub size_accepted : (raw : List ℕ) (width height : ℕ) (channels : Channels) → 1 ≤ width * height → width * height ≤ pixels_max
+    → length raw ≡ width * height * channels_number channels
+    → image_header raw width height ≡ Ok (record { width = width; height = height; channels = channels; colorspace = Srgb })
+size_accepted raw width height channels some few size =
+    encoded_again (record { width = width; height = height; channels = channels; colorspace = Srgb }) raw (some, few) size

@@ -6,10 +6,10 @@ use Rattle.qoi.specs.Qoi.{RgbaPixel, IsPixel, Past, previous, IsChunk, pixel_aft
 use Rattle.qoi.specs.Written.{IsFirst}
 use Rattle.qoi.specs.Styles.{is_run}
 
--- for each fresh pixel there is one chunk, it is no run and gives the pixel, and an Rgba stands
--- only if no shorter chunk spells the pixel out
-pub record Chooses (Choice : Past → RgbaPixel → Chunk → Type 0) : Type 0 where
-  pub some : (past : Past) (p : RgbaPixel) → IsPixel (previous past) → IsPixel p → p ≢ previous past → (c : Chunk) × IsChunk c × Choice past p c
+-- for each fresh pixel there is one chunk, which `choose` gives, it is no run and gives the pixel,
+-- and an Rgba stands only if no shorter chunk spells the pixel out
+pub record Chooses (Choice : Past → RgbaPixel → Chunk → Type 0) (choose : Past → RgbaPixel → Chunk) : Type 0 where
+  pub some : (past : Past) (p : RgbaPixel) → IsPixel (previous past) → IsPixel p → IsChunk (choose past p) × Choice past p (choose past p)
   pub only : (past : Past) (p : RgbaPixel) (c d : Chunk) → IsChunk c → IsChunk d → Choice past p c → Choice past p d → c ≡ d
   pub no_run : (past : Past) (p : RgbaPixel) (c : Chunk) → Choice past p c → is_run c ≡ false
   pub gives : (past : Past) (p : RgbaPixel) (c : Chunk) → Choice past p c → pixel_after past c ≡ p

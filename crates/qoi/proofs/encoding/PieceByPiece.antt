@@ -16,7 +16,8 @@ use Rattle.qoi.proofs.format.RawPixels.{pixels_of_are, pixels_of_have, length-pi
 use Rattle.qoi.proofs.encoding.CoderSteps.{all_bytes, coder_starts, front_sent, all_written}
 use Rattle.qoi.proofs.encoding.StyleLists.{chooses_in, style_length}
 use Rattle.qoi.proofs.encoding.WriterProgress.{wrote_none, wrote_next, wrote_part, left_fits}
-use Rattle.qoi.proofs.encoding.WrittenExists.{some_by}
+use Rattle.qoi.specs.WrittenList.{chosen, list_after}
+use Rattle.qoi.proofs.encoding.WrittenExists.{image_written}
 use Rattle.qoi.proofs.encoding.WrittenShape.{fits_by}
 
 -- What goes to a writer: the bytes `front`, and after them the chunks of an image, by its raw bytes
@@ -55,19 +56,20 @@ module _ {W : Type 0} {wrote : W → List ℕ → W → Type 0} {room : W → �
   piece_starts {table} {coder} s laws channels are whole enough style_is state =
       let pixels = pixels_of n s.raw in
       let pixels_are = pixels_of_are n s.raw channels (all_bytes s.raw are) in
-      let list = some_by (choice_in s.style) (chooses_in s.style) pixels pixels_are in
+      let list = list_after (chosen s.style) [] 0 pixels in
+      let written = image_written (choice_in s.style) (chosen s.style) (chooses_in s.style) pixels pixels_are in
       let size : length s.raw ≡ n * (length s.raw / n) = whole_pixels n (length s.raw) channels whole in
       let count : length pixels ≡ length s.raw / n = length-pixels_of n (length s.raw / n) s.raw channels size in
-      let fits = fits_by (choice_in s.style) (chooses_in s.style).rgba_first pixels n (length s.raw / n) list.0 (pixels_of_have n s.raw channels) count list.1 in
-      let same = style_length s.style pixels (in_style s.style list.0) (record { list = list.0; written = list.1; is = refl }) in
+      let fits = fits_by (choice_in s.style) (chooses_in s.style).rgba_first pixels n (length s.raw / n) list (pixels_of_have n s.raw channels) count written in
+      let same = style_length s.style pixels (in_style s.style list) (record { list = list; written = written; is = refl }) in
       record {
         laws = laws;
-        list = list.0;
-        written = list.1;
-        fits = omega (arith, length-append s.front (chunk_bytes (in_style s.style list.0)), fits, same, enough, size, mul_comm (length s.raw / n) n);
-        ahead = all_of s list.0;
-        went = wrote_none laws s.start (all_of s list.0);
-        between = coder_starts s.style pixels list.0 s.front table coder list.1 pixels_are style_is state;
+        list = list;
+        written = written;
+        fits = omega (arith, length-append s.front (chunk_bytes (in_style s.style list)), fits, same, enough, size, mul_comm (length s.raw / n) n);
+        ahead = all_of s list;
+        went = wrote_none laws s.start (all_of s list);
+        between = coder_starts s.style pixels list s.front table coder written pixels_are style_is state;
       }
 
   module _ {s : Sending W} {rest : List ℕ} {table : List RgbaPixel} {coder : Coder n} {kept : List ℕ} {buf : W}

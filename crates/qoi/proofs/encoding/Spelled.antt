@@ -5,16 +5,9 @@ use Rattle.qoi.specs.declared.chunk.Chunk.{Chunk}
 use Rattle.qoi.specs.declared.chunk.Chunk.TheVariants.{Diff, Luma, Rgb, Rgba}
 use Rattle.qoi.specs.Qoi.{RgbaPixel, pixel, pixel_eq, IsPixel, Past, previous, diff_tag, luma_tag, IsChunk, pixel_after, after_diff, after_luma}
 use Rattle.qoi.specs.Written.{rank, IsFirst}
+use Rattle.qoi.specs.WrittenList.{diff_bits, luma_bits, diff_of, luma_of, spelled, first_chunk}
 use Rattle.qoi.specs.inner.Lanes.{steps, diff_steps, luma_steps}
 use Rattle.qoi.proofs.format.SamePixels.{same_pixel, pixel_eq-true, pixel_eq-from}
-
--- the steps of a Diff, cut to its bits
-abbrev pub diff_bits : RgbaPixel → RgbaPixel
-diff_bits s = pixel (s.r % 4) (s.g % 4) (s.b % 4) 0
-
--- the steps of a Luma, cut to its bits
-abbrev pub luma_bits : RgbaPixel → RgbaPixel
-luma_bits s = pixel (s.r % 16) (s.g % 64) (s.b % 16) 0
 
 -- the steps from q to p fit a Diff: the cut leaves them as they are
 abbrev pub FitsDiff : RgbaPixel → RgbaPixel → Type 0
@@ -23,19 +16,6 @@ FitsDiff q p = diff_bits (diff_steps (steps q p)) ≡ diff_steps (steps q p)
 -- they fit a Luma
 abbrev pub FitsLuma : RgbaPixel → RgbaPixel → Type 0
 FitsLuma q p = luma_bits (luma_steps (steps q p)) ≡ luma_steps (steps q p)
-
--- the Diff of such bits
-abbrev diff_of : RgbaPixel → Chunk
-diff_of d = Diff (diff_tag + d.r * 16 + d.g * 4 + d.b)
-
--- the Luma of such bits
-abbrev luma_of : RgbaPixel → Chunk
-luma_of l = Luma (luma_tag + l.g) (l.r * 16 + l.b)
-
--- the chunk that the tests choose
-abbrev pub spelled : Bool → Bool → Bool → RgbaPixel → RgbaPixel → RgbaPixel → Chunk
-spelled is_diff is_luma keeps d l p =
-    if is_diff then diff_of d else (if is_luma then luma_of l else (if keeps then Rgb p.r p.g p.b else Rgba p.r p.g p.b p.a))
 
 -- it is a chunk
 pub spelled_chunk : (is_diff is_luma keeps : Bool) (s t p : RgbaPixel) → IsPixel p → IsChunk (spelled is_diff is_luma keeps (diff_bits s) (luma_bits t) p)
@@ -173,15 +153,15 @@ module _ (past : Past) (p : RgbaPixel) (iq : IsPixel (previous past)) (ip : IsPi
   spelled_first false false true d l k = first_rgb (alpha_same (sym (k.0 refl))) (λ f. true≢false (sym (d.1 f))) (λ f. true≢false (sym (l.1 f)))
   spelled_first false false false d l k = first_rgba past p (λ same. true≢false (sym (k.1 (alpha_step same))))
 
-  -- some chunk is
-  pub first_some : (c : Chunk) × IsChunk c × IsFirst past p c
-  first_some =
+  -- so `first_chunk` is
+  pub first_is : IsChunk (first_chunk q p) × IsFirst past p (first_chunk q p)
+  unfolding first_chunk
+  first_is =
       let small = diff_steps (steps q p) in
       let wide = luma_steps (steps q p) in
       let is_diff = pixel_eq (diff_bits small) small in
       let is_luma = pixel_eq (luma_bits wide) wide in
       let keeps = (steps q p).a == 0 in (
-        spelled is_diff is_luma keeps (diff_bits small) (luma_bits wide) p,
         spelled_chunk is_diff is_luma keeps small wide p ip,
         spelled_first is_diff is_luma keeps (pixel_eq-true _ _, pixel_eq-from _ _) (pixel_eq-true _ _, pixel_eq-from _ _)
             (eqb-true (steps q p).a 0, eq-eqb (steps q p).a 0),

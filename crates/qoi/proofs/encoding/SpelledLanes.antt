@@ -12,7 +12,8 @@ use Rattle.qoi.specs.inner.Packed.{word, pixel_of_word}
 use Rattle.qoi.specs.declared.encode.quad.Quad.{Quad}
 use Rattle.qoi.specs.inner.Lanes.{steps, diff_steps, luma_steps, diff_word, luma_word, plus_32, diff_number, luma_number, rgb_number, spelled_number, spelled_count, SameAlpha, IsSpelled}
 use Rattle.qoi.proofs.format.SamePixels.{same_pixel}
-use Rattle.qoi.proofs.encoding.Spelled.{FitsDiff, FitsLuma, diff_bits, luma_bits, spelled, spelled_chunk, spelled_first}
+use Rattle.qoi.specs.WrittenList.{diff_bits, luma_bits, spelled}
+use Rattle.qoi.proofs.encoding.Spelled.{FitsDiff, FitsLuma, spelled_chunk, spelled_first}
 
 -- the highest bits of a byte: m of them, after the lowest k
 and_high : (k m x : ℕ) → x / 2 ^ k < 2 ^ m → bit_and x ((2 ^ m - 1) * 2 ^ k + 0) ≡ x / 2 ^ k * 2 ^ k

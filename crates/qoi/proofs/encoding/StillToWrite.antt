@@ -14,9 +14,10 @@ use Rattle.std.proofs.lemmas.Option.{same_Some}
 use Rattle.qoi.proofs.format.ChunkSteps.{previous_repeats, reverse-replicate}
 use Rattle.qoi.proofs.format.SamePixels.{cases_pixel}
 use Rattle.qoi.proofs.encoding.WrittenGrows.{RunMayFollow, all_back, written_none, full_runs, written_runs, written_fresh}
+use Rattle.qoi.specs.WrittenList.{chosen, list_after}
 use Rattle.qoi.proofs.encoding.Choices.{Chooses}
 use Rattle.qoi.proofs.encoding.StyleLists.{chooses_in}
-use Rattle.qoi.proofs.encoding.WrittenExists.{is_pixel_start, written_on}
+use Rattle.qoi.proofs.encoding.WrittenExists.{is_pixel_start, written_after}
 use Rattle.qoi.proofs.encoding.WrittenOnce.{unique_by}
 
 -- zero repeats have no runs
@@ -34,7 +35,7 @@ module _ (l : ImageList) where
   abbrev Choice : Past → RgbaPixel → Chunk → Type 0
   Choice = choice_in l.style
 
-  abbrev choices : Chooses (choice_in l.style)
+  abbrev choices : Chooses (choice_in l.style) (chosen l.style)
   choices = chooses_in l.style
 
   -- before the first pixel all is still to be written
@@ -97,17 +98,19 @@ module _ (l : ImageList) where
         let one = written_fresh Choice past w.done p c w.written fresh is (choices.no_run past p c choice) (choices.gives past p c choice) choice in
         let split : l.image ≡ reverse (p ∷ past) ++ more = w.split ∙ ap (λ x. reverse past ++ x) ahead
         ∙ sym (ap (λ x. x ++ more) (reverse-append (p ∷ []) past) ∙ append_assoc (reverse past) (p ∷ []) more) in
-        let all = written_on Choice choices more (p ∷ past) 0 (w.done ++ c ∷ []) one.0 one.1 are.0 are.1 in
-        let r = next (p ∷ past) more (c ∷ []) all.0 split are.0 are.1 one.0 (λ same. one.1) all.1 in
-        (all.0, r.0, r.1)
+        let left = list_after (chosen l.style) (p ∷ past) 0 more in
+        let all = written_after Choice (chosen l.style) choices more (p ∷ past) 0 (w.done ++ c ∷ []) one.0 one.1 are.0 are.1 in
+        let r = next (p ∷ past) more (c ∷ []) left split are.0 are.1 one.0 (λ same. one.1) all in
+        (left, r.0, r.1)
 
   -- before a fresh pixel its chunk is next, which is no run
   pub fresh_todo : {past : Past} {todo : List Chunk} (p : RgbaPixel) (more : List RgbaPixel)
       → StillToWrite l past (p ∷ more) todo → p ≢ previous past → fresh_next todo ≡ true
   fresh_todo {past = past} p more w differs =
-      let c = choices.some past p w.before w.are.0 differs in
-      let r = chunk_next w p more c.0 refl differs c.1 c.2 in
-      ap fresh_next r.1 ∙ ap not (choices.no_run past p c.0 c.2)
+      let c = chosen l.style past p in
+      let is = choices.some past p w.before w.are.0 in
+      let r = chunk_next w p more c refl differs is.0 is.1 in
+      ap fresh_next r.1 ∙ ap not (choices.no_run past p c is.1)
 
   -- at the end nothing is
   pub none_todo : {past : Past} {todo : List Chunk} → StillToWrite l past [] todo → todo ≡ []
@@ -177,16 +180,18 @@ module _ (l : ImageList) where
             by_next : (p ≡ previous past) ⊎ (p ≢ previous past) → (left : List Chunk) × (todo ≡ runs_by (Run 1) n ++ left) × StillToWrite l group rest left
             by_next (inr other) =
                 let differs : p ≢ previous group = λ e. other (e ∙ previous_repeats n past) in
-                let c = choices.some group p before_is are.0 differs in
-                let one = written_fresh Choice group (w.done ++ runs_by (Run 1) n) p c.0 group_written differs c.1 (choices.no_run group p c.0 c.2)
-                (choices.gives group p c.0 c.2) c.2 in
-                let all = written_on Choice choices more (p ∷ group) 0 ((w.done ++ runs_by (Run 1) n) ++ c.0 ∷ []) one.0 one.1 are.0 are.1 in
+                let c = chosen l.style group p in
+                let is = choices.some group p before_is are.0 in
+                let one = written_fresh Choice group (w.done ++ runs_by (Run 1) n) p c group_written differs is.0 (choices.no_run group p c is.1)
+                (choices.gives group p c is.1) is.1 in
+                let left = list_after (chosen l.style) (p ∷ group) 0 more in
+                let all = written_after Choice (chosen l.style) choices more (p ∷ group) 0 ((w.done ++ runs_by (Run 1) n) ++ c ∷ []) one.0 one.1 are.0 are.1 in
                 let pixels : reverse (p ∷ group) ++ more ≡ reverse group ++ rest = ap (λ x. x ++ more) (reverse-append (p ∷ []) group)
                 ∙ append_assoc (reverse group) (p ∷ []) more ∙ ap (λ x. reverse group ++ x) (sym ahead) in
-                let list = subst (λ x. WrittenBy Choice x ((w.done ++ runs_by (Run 1) n) ++ c.0 ∷ all.0)) pixels
-                (subst (WrittenBy Choice (reverse (p ∷ group) ++ more)) (append_assoc (w.done ++ runs_by (Run 1) n) (c.0 ∷ []) all.0) all.1) in
-                let r = ended (c.0 ∷ all.0) (λ e. other (same_Some _ _ (sym first ∙ e))) list in
-                (c.0 ∷ all.0, r.0, r.1)
+                let list = subst (λ x. WrittenBy Choice x ((w.done ++ runs_by (Run 1) n) ++ c ∷ left)) pixels
+                (subst (WrittenBy Choice (reverse (p ∷ group) ++ more)) (append_assoc (w.done ++ runs_by (Run 1) n) (c ∷ []) left) all) in
+                let r = ended (c ∷ left) (λ e. other (same_Some _ _ (sym first ∙ e))) list in
+                (c ∷ left, r.0, r.1)
             by_next (inl same) = by_end ends
               where
                 again : slice_get rest 0 ≡ Some (previous past)
@@ -197,6 +202,7 @@ module _ (l : ImageList) where
                 by_end (inl other) = absurd (other again)
                 by_end (inr full) =
                     let may = full_take n past w.done full w.written (w.run_may_follow (goes_on n again)) in
-                    let all = written_on Choice choices rest group 0 (w.done ++ runs_by (Run 1) n) group_written may before_is rest_are in
-                    let r = next w group rest (runs_by (Run 1) n) all.0 image_is before_is rest_are group_written (λ _. may) all.1 in
-                    (all.0, r.0, r.1)
+                    let left = list_after (chosen l.style) group 0 rest in
+                    let all = written_after Choice (chosen l.style) choices rest group 0 (w.done ++ runs_by (Run 1) n) group_written may before_is rest_are in
+                    let r = next w group rest (runs_by (Run 1) n) left image_is before_is rest_are group_written (λ _. may) all in
+                    (left, r.0, r.1)

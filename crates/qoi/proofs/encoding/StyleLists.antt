@@ -12,18 +12,19 @@ use Rattle.qoi.specs.Qoi.{RgbaPixel, IsPixel, AreChunks, chunk_bytes, Reaches, m
 use Rattle.qoi.specs.Written.{IsChoice, WrittenBy, Written}
 use Rattle.qoi.specs.Regular.{Regular}
 use Rattle.qoi.specs.Styles.{choice_in, in_style, placed_after, WrittenIn}
+use Rattle.qoi.specs.WrittenList.{chosen, list_after, written_list}
 use Rattle.qoi.proofs.encoding.Choices.{Chooses}
 use Rattle.qoi.proofs.encoding.PlacedLists.{placed_chunks, placed_then, placed_length, placed_regular, placed_apart}
 use Rattle.qoi.proofs.encoding.TightChoice.{tight_chooses}
 use Rattle.qoi.proofs.encoding.WrittenOnce.{unique_by}
 use Rattle.qoi.proofs.encoding.WrittenShape.{stay_below, apart_by, fits_by}
-use Rattle.qoi.proofs.encoding.WrittenExists.{chooses, some_by}
+use Rattle.qoi.proofs.encoding.WrittenExists.{chooses, image_written}
 use Rattle.qoi.proofs.shortness.Upper.{upper}
 use Rattle.qoi.proofs.shortness.TightLists.{tight_exact, floor0_high}
 use Rattle.qoi.proofs.shortness.RegularLists.{written_regular}
 
 -- each style's choice has what a choice has to offer
-pub chooses_in : (style : Style) → Chooses (choice_in style)
+pub chooses_in : (style : Style) → Chooses (choice_in style) (chosen style)
 chooses_in Reference = chooses
 chooses_in Places = chooses
 chooses_in Tight = tight_chooses
@@ -90,11 +91,10 @@ style_upper style image channels cs has w = subst (λ k. k ≤ floor image + sla
     go Places list v = upper image channels list has v
     go Tight list v = omega (arith, tight_exact image list v, floor0_high image)
 
--- an image has such a list
-pub style_some : (style : Style) (image : List RgbaPixel) → AllByRecursion IsPixel image → (cs : List Chunk) × WrittenIn style image cs
-style_some style image are =
-    let list = some_by (choice_in style) (chooses_in style) image are in
-    (in_style style list.0, record { list = list.0; written = list.1; is = refl })
+-- the list of an image is written for it
+pub list_written : (style : Style) (image : List RgbaPixel) → AllByRecursion IsPixel image → WrittenIn style image (written_list style image)
+list_written style image are =
+    record { list = list_after (chosen style) [] 0 image; written = image_written (choice_in style) (chosen style) (chooses_in style) image are; is = refl }
 
 -- in style Places it is as long as each list of `Written`
 pub places_as_long : (image : List RgbaPixel) (cs ds : List Chunk) → Written image cs → WrittenIn Places image ds

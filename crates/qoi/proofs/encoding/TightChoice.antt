@@ -13,7 +13,9 @@ use Rattle.qoi.specs.inner.Table.{first_blank}
 use Rattle.qoi.proofs.format.SamePixels.{cases_pixel, hash_below, pixel_eq-from, pixel_eq-ne}
 use Rattle.qoi.proofs.encoding.NotedPixels.{seen_same, seen_other}
 use Rattle.qoi.proofs.encoding.Choices.{Chooses}
-use Rattle.qoi.proofs.encoding.Spelled.{first_some}
+use Rattle.qoi.proofs.encoding.Spelled.{first_is}
+use Rattle.qoi.specs.WrittenList.{first_chunk, place_or, chosen}
+use Rattle.qoi.specs.declared.types.Style.TheVariants.{Tight}
 use Rattle.qoi.proofs.encoding.WrittenExists.{spells_other, spells_no_place}
 use Rattle.qoi.proofs.encoding.WrittenOnce.{first_unique}
 
@@ -100,39 +102,45 @@ cases_tight past p Goal f g h = go (cases_pixel (seen past (hash p)) p) (cases_p
     go (inr n) (inl b) = g n b
     go (inr n) (inr b) = h n b
 
--- there is a chunk for each fresh pixel
-tight_some : (past : Past) (p : RgbaPixel) → IsPixel (previous past) → IsPixel p → (c : Chunk) × IsChunk c × IsTightChoice past p c
+-- transparent black at an unseen position, or the first chunk if there is none
+blank_some : (past : Past) (p : RgbaPixel) (first : Chunk) → IsChunk first → IsFirst past p first → seen past (hash p) ≢ p → p ≡ blank
+    → (o : Option ℕ) → least_unseen past ≡ o → IsChunk (place_or o first) × IsTightChoice past p (place_or o first)
+blank_some past p first is f n b None e = (
+  is,
+  record {
+    place = λ h. absurd (n h);
+    unseen = λ _ _.
+        subst (λ o. MatchOption o (IsFirst past p first) (λ i. first ≡ Place i)) (sym e) f;
+    spelled = λ _ h. absurd (h b);
+  },
+)
+blank_some past p first is f n b (Some i) e = (
+  (unseen_found past i e).1,
+  record {
+    place = λ h. absurd (n h);
+    unseen = λ _ _.
+        subst (λ o. MatchOption o (IsFirst past p (Place i)) (λ j. Place i ≡ Place j)) (sym e) refl;
+    spelled = λ _ h. absurd (h b);
+  },
+)
+
+-- a chunk is chosen for each fresh pixel
+tight_some : (past : Past) (p : RgbaPixel) → IsPixel (previous past) → IsPixel p → IsChunk (chosen Tight past p) × IsTightChoice past p (chosen Tight past p)
 tight_some past p before is =
-    cases_tight past p ((c : Chunk) × IsChunk c × IsTightChoice past p c)
-    (λ e. (Place (hash p), hash_below p, record { place = λ _. refl; unseen = λ n. absurd (n e); spelled = λ n. absurd (n e) }))
-    (λ n b. blank_some n b (least_unseen past) refl)
-    (λ n b.
-    let f = first_some past p before is in
-    (f.0, f.1, record { place = λ e. absurd (n e); unseen = λ _ e. absurd (b e); spelled = λ _ _. f.2 }))
-  where
-    blank_some : seen past (hash p) ≢ p → p ≡ blank → (o : Option ℕ) → least_unseen past ≡ o → (c : Chunk) × IsChunk c × IsTightChoice past p c
-    blank_some n b None e =
-        let f = first_some past p before is in (
-          f.0,
-          f.1,
-          record {
-            place = λ h. absurd (n h);
-            unseen = λ _ _.
-                subst (λ o. MatchOption o (IsFirst past p f.0) (λ i. f.0 ≡ Place i)) (sym e) f.2;
-            spelled = λ _ h. absurd (h b);
-          },
-        )
-    blank_some n b (Some i) e =
-        let u = unseen_found past i e in (
-          Place i,
-          u.1,
-          record {
-            place = λ h. absurd (n h);
-            unseen = λ _ _.
-                subst (λ o. MatchOption o (IsFirst past p (Place i)) (λ j. Place i ≡ Place j)) (sym e) refl;
-            spelled = λ _ h. absurd (h b);
-          },
-        )
+    let f = first_is past p before is in
+    let first : Chunk = first_chunk (previous past) p in
+    let held : Bool = pixel_eq (seen past (hash p)) p in
+    let other : Chunk = if pixel_eq p blank then place_or (least_unseen past) first else first in
+    let P : Chunk → Type 0 = λ c. IsChunk c × IsTightChoice past p c in
+    let spelled_out : seen past (hash p) ≢ p → chosen Tight past p ≡ other =
+    (λ n. cond-false held (Place (hash p)) other (pixel_eq-ne (seen past (hash p)) p n)) in
+    cases_tight past p (P (chosen Tight past p))
+    (λ e. subst P (sym (cond-true held (Place (hash p)) other (pixel_eq-from (seen past (hash p)) p e)))
+    (hash_below p, record { place = λ _. refl; unseen = λ n. absurd (n e); spelled = λ n. absurd (n e) }))
+    (λ n b. subst P (sym (spelled_out n ∙ cond-true (pixel_eq p blank) (place_or (least_unseen past) first) first (pixel_eq-from p blank b)))
+    (blank_some past p first f.0 f.1 n b (least_unseen past) refl))
+    (λ n b. subst P (sym (spelled_out n ∙ cond-false (pixel_eq p blank) (place_or (least_unseen past) first) first (pixel_eq-ne p blank b)))
+    (f.0, record { place = λ e. absurd (n e); unseen = λ _ e. absurd (b e); spelled = λ _ _. f.1 }))
 
 -- what holds of the index position where the pixel is seen, of an unseen position for transparent
 -- black, and of the first chunk holds of the choice
@@ -217,9 +225,9 @@ tight_gives past p c w = by_tight (λ past p c. pixel_after past c ≡ p) past p
     (λ n o f. f.gives)
 
 -- the tight choice has what a choice has to offer
-pub tight_chooses : Chooses IsTightChoice
+pub tight_chooses : Chooses IsTightChoice (chosen Tight)
 tight_chooses = record {
-  some = λ past p before is _. tight_some past p before is;
+  some = tight_some;
   only = tight_unique;
   no_run = λ past p c w. by_tight (λ past p c. is_run c ≡ false) past p c w (λ _. refl) (λ i n b e. refl) (λ n o f. spells_other c f.spells);
   gives = tight_gives;

@@ -2,15 +2,18 @@
 -- for each.
 use Rattle.std.proofs.Common.{◌≡◌, ◌≢◌, inl, inr, ℕ, suc, ◌<◌, false, List, [], ◌∷◌, ◌++◌, reverse, replicate, Some, refl, sym, ap, ◌∙◌, subst, subst₂, append_assoc, append-nil, arith}
 use Rattle.std.proofs.lemmas.List.{reverse-append}
+use Rattle.std.proofs.lemmas.Bool.{cond-true, cond-false}
 use Rattle.std.specs.List.{AllByRecursion}
 use Rattle.qoi.specs.declared.chunk.Chunk.{Chunk}
 use Rattle.qoi.specs.declared.chunk.Chunk.TheVariants.{Place, Run}
-use Rattle.qoi.specs.Qoi.{RgbaPixel, IsPixel, Past, previous, start, hash, IsChunk, pixel_after}
+use Rattle.qoi.specs.Qoi.{RgbaPixel, IsPixel, Past, pixel_eq, previous, start, hash, IsChunk, pixel_after}
 use Rattle.qoi.specs.Runs.{runs_by}
 use Rattle.qoi.specs.Written.{noted, rank, IsChoice, WrittenBy}
-use Rattle.qoi.proofs.format.SamePixels.{cases_pixel, hash_below}
+use Rattle.qoi.proofs.format.SamePixels.{cases_pixel, hash_below, pixel_eq-from, pixel_eq-ne}
 use Rattle.qoi.proofs.encoding.NotedPixels.{noted_seen}
-use Rattle.qoi.proofs.encoding.Spelled.{first_some}
+use Rattle.qoi.proofs.encoding.Spelled.{first_is}
+use Rattle.qoi.specs.WrittenList.{first_chunk, chosen, list_after}
+use Rattle.qoi.specs.declared.types.Style.TheVariants.{Reference}
 use Rattle.qoi.specs.Styles.{is_run, names}
 use Rattle.qoi.proofs.format.ChunkSteps.{previous_repeats}
 use Rattle.qoi.proofs.encoding.WrittenGrows.{RunMayFollow, chunks_split, written_none, written_runs, written_fresh}
@@ -23,12 +26,18 @@ pub is_pixel_start : IsPixel start
 unfolding start
 is_pixel_start = record { r = omega arith; g = omega arith; b = omega arith; a = omega arith }
 
--- some chunk is chosen for a fresh pixel
-choice_some : (past : Past) (p : RgbaPixel) → IsPixel (previous past) → IsPixel p → (c : Chunk) × IsChunk c × IsChoice past p c
+-- a chunk is chosen for a fresh pixel
+choice_some : (past : Past) (p : RgbaPixel) → IsPixel (previous past) → IsPixel p
+    → IsChunk (chosen Reference past p) × IsChoice past p (chosen Reference past p)
 choice_some past p iq ip =
-    elim (cases_pixel (noted past (hash p)) p) as (λ _. (c : Chunk) × IsChunk c × IsChoice past p c) [
-      | inl is ↦ (Place (hash p), hash_below p, record { place = λ _. refl; spelled = λ n. absurd (n is) })
-      | inr n ↦ let f = first_some past p iq ip in (f.0, f.1, record { place = λ is. absurd (n is); spelled = λ _. f.2 })
+    let held = noted past (hash p) in
+    let first = first_chunk (previous past) p in
+    let P : Chunk → Type 0 = λ c. IsChunk c × IsChoice past p c in
+    elim (cases_pixel held p) as (λ _. P (chosen Reference past p)) [
+      | inl is ↦ subst P (sym (cond-true (pixel_eq held p) (Place (hash p)) first (pixel_eq-from held p is)))
+          (hash_below p, record { place = λ _. refl; spelled = λ n. absurd (n is) })
+      | inr n ↦ let f = first_is past p iq ip in
+          subst P (sym (cond-false (pixel_eq held p) (Place (hash p)) first (pixel_eq-ne held p n))) (f.0, record { place = λ is. absurd (n is); spelled = λ _. f.1 })
     ]
 
 -- a chunk that spells a pixel out is no run
@@ -57,16 +66,16 @@ choice_other past p c w = elim (cases_pixel (noted past (hash p)) p) as (λ _. i
 ]
 
 -- `IsChoice` has what a choice has to offer
-pub chooses : Chooses IsChoice
+pub chooses : Chooses IsChoice (chosen Reference)
 chooses = record {
-  some = λ past p before is _. choice_some past p before is;
+  some = choice_some;
   only = choice_unique;
   no_run = choice_other;
   gives = choice_gives;
   rgba_first = choice_rgba;
 }
 
-module _ (Choice : Past → RgbaPixel → Chunk → Type 0) (choices : Chooses Choice) where
+module _ (Choice : Past → RgbaPixel → Chunk → Type 0) (choose : Past → RgbaPixel → Chunk) (choices : Chooses Choice choose) where
   -- a repeat joins its group
   joined : (p q : RgbaPixel) (n : ℕ) (past : Past) (rest : List RgbaPixel) → p ≡ q
       → reverse (replicate (suc n) q ++ past) ++ rest ≡ reverse (replicate n q ++ past) ++ p ∷ rest
@@ -81,29 +90,33 @@ module _ (Choice : Past → RgbaPixel → Chunk → Type 0) (choices : Chooses C
   fresh_joined p group rest cs rs more c w = subst₂ (λ x y. WrittenBy Choice x y) (joined p p 0 group rest refl) (chunks_split cs rs more c) w
 
   -- a written list of the pixels before a group extends to one of the image, whatever pixels follow
-  pub written_on : (rest : List RgbaPixel) (past : Past) (n : ℕ) (cs : List Chunk) → WrittenBy Choice (reverse past) cs → RunMayFollow cs
+  pub written_after : (rest : List RgbaPixel) (past : Past) (n : ℕ) (cs : List Chunk) → WrittenBy Choice (reverse past) cs → RunMayFollow cs
       → IsPixel (previous past) → AllByRecursion IsPixel rest
-      → (more : List Chunk) × WrittenBy Choice (reverse (replicate n (previous past) ++ past) ++ rest) (cs ++ more)
-  written_on [] past n cs w may before are =
-      (runs_by (Run 1) n, rw (append-nil (reverse (replicate n (previous past) ++ past))) (written_runs Choice past n cs w may))
-  written_on (p ∷ rest) past n cs w may before are =
-      elim (cases_pixel p (previous past)) as (λ _. (more : List Chunk)
-      × WrittenBy Choice (reverse (replicate n (previous past) ++ past) ++ p ∷ rest) (cs ++ more)) [
+      → WrittenBy Choice (reverse (replicate n (previous past) ++ past) ++ rest) (cs ++ list_after choose past n rest)
+  unfolding list_after
+  written_after [] past n cs w may before are =
+      rw (append-nil (reverse (replicate n (previous past) ++ past))) (written_runs Choice past n cs w may)
+  written_after (p ∷ rest) past n cs w may before are =
+      let group : Past = replicate n (previous past) ++ past in
+      let joins = list_after choose past (suc n) rest in
+      let follows = runs_by (Run 1) n ++ choose group p ∷ list_after choose (p ∷ group) 0 rest in
+      let P : List Chunk → Type 0 = λ more. WrittenBy Choice (reverse group ++ p ∷ rest) (cs ++ more) in
+      elim (cases_pixel p (previous past)) as (λ _. P (list_after choose past n (p ∷ rest))) [
         | inl again ↦
-            let all = written_on rest past (suc n) cs w may before are.1 in
-            (all.0, subst (λ x. WrittenBy Choice x (cs ++ all.0)) (joined p (previous past) n past rest again) all.1)
+            subst P (sym (cond-true (pixel_eq p (previous past)) joins follows (pixel_eq-from p (previous past) again)))
+            (subst (λ x. WrittenBy Choice x (cs ++ joins)) (joined p (previous past) n past rest again) (written_after rest past (suc n) cs w may before are.1))
         | inr fresh ↦
-            let group : Past = replicate n (previous past) ++ past in
             let same : previous group ≡ previous past = previous_repeats n past in
             let differs : p ≢ previous group = λ e. fresh (e ∙ same) in
-            let c = choices.some group p (subst IsPixel (sym same) before) are.0 differs in
-            let next = written_fresh Choice group (cs ++ runs_by (Run 1) n) p c.0 (written_runs Choice past n cs w may) differs c.1
-            (choices.no_run group p c.0 c.2)
-            (choices.gives group p c.0 c.2) c.2 in
-            let all = written_on rest (p ∷ group) 0 ((cs ++ runs_by (Run 1) n) ++ c.0 ∷ []) next.0 next.1 are.0 are.1 in
-            (runs_by (Run 1) n ++ c.0 ∷ all.0, fresh_joined p group rest cs (runs_by (Run 1) n) all.0 c.0 all.1)
+            let c = choose group p in
+            let is = choices.some group p (subst IsPixel (sym same) before) are.0 in
+            let next = written_fresh Choice group (cs ++ runs_by (Run 1) n) p c (written_runs Choice past n cs w may) differs is.0 (choices.no_run group p c is.1)
+            (choices.gives group p c is.1) is.1 in
+            let all = written_after rest (p ∷ group) 0 ((cs ++ runs_by (Run 1) n) ++ c ∷ []) next.0 next.1 are.0 are.1 in
+            subst P (sym (cond-false (pixel_eq p (previous past)) joins follows (pixel_eq-ne p (previous past) fresh)))
+            (fresh_joined p group rest cs (runs_by (Run 1) n) (list_after choose (p ∷ group) 0 rest) c all)
       ]
 
-  -- an image has a written list
-  pub some_by : (image : List RgbaPixel) → AllByRecursion IsPixel image → (cs : List Chunk) × WrittenBy Choice image cs
-  some_by image are = written_on image [] 0 [] (written_none Choice) (λ n. (tt, tt)) is_pixel_start are
+  -- so an image has a written list
+  pub image_written : (image : List RgbaPixel) → AllByRecursion IsPixel image → WrittenBy Choice image (list_after choose [] 0 image)
+  image_written image are = written_after image [] 0 [] (written_none Choice) (λ n. (tt, tt)) is_pixel_start are

@@ -1,13 +1,16 @@
 //! Laws on reading: bytes have one verdict, and files are read as they were put together.
-ghost use Rattle.std.specs.Prelude.{◌≡◌, ℕ, ◌+◌, ◌*◌, ◌<◌, ◌≤◌, ◌⊎◌, List, [], ◌∷◌, ◌++◌, length, drop, replicate, Result, Ok, Err};
+ghost use Rattle.std.specs.Prelude.{◌≡◌, ℕ, ◌+◌, ◌*◌, ◌<◌, ◌≤◌, ◌⊎◌, List, [], ◌∷◌, ◌++◌, length, drop, replicate, Result, Ok, Err, Some};
 ghost use Rattle.qoi.specs.declared.error.Error.{Error};
 ghost use Rattle.qoi.specs.declared.header.Header.{Header};
 ghost use Rattle.qoi.specs.declared.types.Channels.{Channels};
 ghost use Rattle.qoi.specs.declared.types.ColorSpace.{ColorSpace};
 ghost use Rattle.qoi.specs.declared.chunk.Chunk.{Chunk};
-ghost use Rattle.qoi.specs.Qoi.{AreBytes, IsChunk, AreChunks, bytes_of, chunk_bytes, IsFile, file, file_pixels, header_bytes, pixel_count, IsValid, header_of, pixel, hash, Reaches, StayBelow, meaning, header_size, channels_number, chunk_max};
+ghost use Rattle.qoi.specs.Qoi.{AreBytes, IsChunk, AreChunks, bytes_of, chunk_bytes, IsFile, file, file_pixels, header_bytes, pixel_count, IsValid, header_of, pixel, hash, Reaches, StayBelow, meaning, header_size, channels_number, chunk_max, pixels_max};
 ghost use Rattle.qoi.specs.Raw.{output, image_byte_count};
+ghost use Rattle.qoi.specs.EncoderState.{EncoderState};
 ghost use Rattle.qoi.specs.Encoded.{image_header};
+ghost use Rattle.qoi.specs.Sent.{SendsFile};
+ghost use Rattle.qoi.specs.Tiles.{HasTile};
 ghost use Rattle.qoi.specs.Verdicts.{IsPartOfChunk, IsWhole, IsCut, IsWrong};
 ghost use Rattle.qoi.specs.Decoding.{DecodesFile};
 ghost use Rattle.qoi.specs.Reading.{IsImage};
@@ -95,6 +98,33 @@ pub fn images_are_functions()
 pub fn images_are_accepted()
     ensures { (h : Header) (raw : List ℕ) → IsValid h → length raw ≡ image_byte_count h
         → image_header raw h.width h.height ≡ Ok (record h { colorspace = ColorSpace.Srgb }) }
+{}
+
+/// Raw bytes of the right number are accepted by an encoder, and get the header of their size.
+#[tactic(auto, using(crate::proofs::decoding::EncodedAgain::size_accepted))]
+pub fn sizes_are_accepted()
+    ensures { (raw : List ℕ) (width height : ℕ) (channels : Channels) → 1 ≤ width * height
+        → width * height ≤ pixels_max
+        → length raw ≡ width * height * channels_number channels
+        → image_header raw width height ≡ Ok (record {
+          width = width;
+          height = height;
+          channels = channels;
+          colorspace = ColorSpace.Srgb;
+        }) }
+{}
+
+/// A file that is sent to the end of other bytes is a tile there, those before it stay, and the
+/// image of a tile is read at its offset.
+pub fn tiles_stay()
+    ensures put { (e : EncoderState) (old new : List ℕ) (n : ℕ)
+        → SendsFile e (Some old) (Some new) n → HasTile new (length old) e.raw }
+    ensures kept { (e : EncoderState) (raw old new : List ℕ) (n offset : ℕ)
+        → SendsFile e (Some old) (Some new) n → HasTile old offset raw → HasTile new offset raw }
+    ensures read { (bytes raw : List ℕ) (offset : ℕ) → HasTile bytes offset raw
+        → file_image (drop offset bytes) ≡ raw }
+    ensures within { (bytes raw : List ℕ) (offset : ℕ) → HasTile bytes offset raw
+        → offset ≤ length bytes }
 {}
 
 /// An image of n pixels takes five bytes for each pixel at most; and if chunks stop short of n

@@ -9,19 +9,20 @@ ghost use Rattle.qoi.specs.declared.types.ColorSpace.{ColorSpace};
 ghost use Rattle.qoi.specs.declared.types.Style.{Style};
 ghost use Rattle.qoi.specs.declared.types.Style.TheVariants.{Reference, Places, Tight};
 ghost use Rattle.qoi.specs.declared.chunk.Chunk.TheVariants.{Place, Run, Rgb, Rgba};
-ghost use Rattle.qoi.specs.Qoi.{RgbaPixel, IsPixel, Past, run_max, blank, pixel, previous, seen, AreChunks, chunk_bytes, file, Reaches, meaning};
-ghost use Rattle.qoi.specs.Encoded.{max_len, IsFileLength, IsFileOf};
-ghost use Rattle.qoi.specs.Raw.{IsChannels, output, pixels_of, HasChannels};
+ghost use Rattle.qoi.specs.Qoi.{RgbaPixel, IsPixel, Past, run_max, blank, pixel, previous, seen, AreBytes, IsValid, AreChunks, chunk_bytes, file, Reaches, meaning};
+ghost use Rattle.qoi.specs.WrittenList.{written_list};
+ghost use Rattle.qoi.specs.Encoded.{max_len, image_file, IsFileLength, IsFileOf};
+ghost use Rattle.qoi.specs.Raw.{IsChannels, image_byte_count, output, pixels_of, HasChannels};
 ghost use Rattle.qoi.specs.Regular.{Begins, Covers, Regular};
 ghost use Rattle.qoi.specs.Shortest.{floor, trailing_repeats, slack, total_cost};
 ghost use Rattle.qoi.specs.Tight.{first_and_fresh, IsTightChoice, floor0, least_unseen};
 ghost use Rattle.qoi.specs.Written.{WrittenBy, Written};
 ghost use Rattle.qoi.specs.Styles.{in_style, WrittenIn};
 
-/// An image has exactly one written list in each style.
+/// An image has exactly one written list in each style: `written_list`.
 pub fn written_is_one()
-    ensures some { (style : Style) (image : List RgbaPixel) → AllByRecursion IsPixel image
-        → (cs : List Chunk) × WrittenIn style image cs }
+    ensures list { (style : Style) (image : List RgbaPixel) → AllByRecursion IsPixel image
+        → WrittenIn style image (written_list style image) }
     ensures one { (style : Style) (image : List RgbaPixel) (cs ds : List Chunk)
         → WrittenIn style image cs → WrittenIn style image ds → cs ≡ ds }
 {}
@@ -88,6 +89,13 @@ pub fn written_fits()
     ensures { (style : Style) (image : List RgbaPixel) (channels n : ℕ) (cs : List Chunk)
         → HasChannels image channels → length image ≡ n → WrittenIn style image cs
         → length (chunk_bytes cs) ≤ n * channels + n }
+{}
+
+/// Raw bytes of a valid header's image have a file in each style: `image_file`.
+pub fn images_have_files()
+    ensures { (style : Style) (h : Header) (raw : List ℕ) → IsValid h
+        → length raw ≡ image_byte_count h → AreBytes raw
+        → IsFileOf style h raw (image_file style h raw) }
 {}
 
 /// The written list is a list of chunks, and its pixels are those of its image.

@@ -11,6 +11,7 @@ mod choices;
 mod chunks;
 mod decoder;
 mod encoder;
+mod equations;
 mod errors;
 mod exact;
 mod facts;

@@ -15,7 +15,7 @@ returns-in_err-encode_chunks-clause-refused g c =
     let h = c.args.header.now in
     let e = err_from_is_err_and c.from_residual.result c.from_residual.ensures.1 in
     let r = c.in_err-encode_chunks.ensures.refused in
-    let theirs = file_of h c.args.data.now c.requires.valid c.requires.image c.args.style r.1.0 r.1.1 in
+    let theirs = file_of h c.args.data.now c.requires.valid c.requires.image c.args.style (λ i. omega (arith, c.type_inv.data i)) r.1.0 r.1.1 in
     let front : kept_bytes c.keep.new.self ≡ header_bytes h = c.keep.ensures.kept ∙ ap (λ z. z ++ c.encode.result) c.new-piece.ensures ∙ c.encode.ensures in
     rw (e.1, e.2) (
       r.0,
@@ -51,7 +51,7 @@ returns-in_err-finish-clause-refused g c =
     let w = c.in_ok-encode_chunks.ensures.written in
     let e = err_from_is_err_and c.from_residual-in_err-finish.result c.from_residual-in_err-finish.ensures.1 in
     let r = c.in_err-finish.ensures.refused in
-    let theirs = file_of h c.args.data.now c.requires.valid c.requires.image c.args.style w.0 w.1 in
+    let theirs = file_of h c.args.data.now c.requires.valid c.requires.image c.args.style (λ i. omega (arith, c.type_inv.data i)) w.0 w.1 in
     rw (e.1, e.2) (
       r.0,
       file h w.0,
@@ -65,7 +65,7 @@ returns-clause-written g c =
     let w = c.in_ok-encode_chunks.ensures.written in
     let all = all_but_kept g (goal.at.returns-clause-written g c).After-keep-2 in
     let went = c.in_ok-finish.ensures.written in
-    let theirs = file_of h c.args.data.now c.requires.valid c.requires.image c.args.style w.0 w.1 in
+    let theirs = file_of h c.args.data.now c.requires.valid c.requires.image c.args.style (λ i. omega (arith, c.type_inv.data i)) w.0 w.1 in
     let counted = file_counts g.met.W.Writer.laws h w.0 c.args.buf.now all went in (
       file h w.0,
       theirs,

@@ -5,10 +5,11 @@ ghost use Rattle.qoi.specs.declared.header.Header.{Header};
 ghost use Rattle.qoi.specs.declared.types.Style.{Style};
 ghost use Rattle.qoi.specs.Encoded.{IsFileOf};
 ghost use Rattle.qoi.specs.Images.{file_image};
-ghost use Rattle.qoi_tool.specs.Files.{HasTile};
+ghost use Rattle.qoi.specs.Tiles.{HasTile};
 
 use crate::tests::fakes::{ONE_RGB_PIXEL, PIXEL};
 use crate::tests::library::support::{assert_bytes, assert_number};
+use qoi::laws::reading::tiles_stay;
 use qoi::{Decoder, Encoder, Error, decode_to_vec, encode_to_vec};
 use std::alloc::Global;
 use std::io::Read;
@@ -154,6 +155,7 @@ pub fn put(atlas: &mut Vec<u8>, raw: &[u8], width: u32, height: u32) -> Result<u
     ensures kept { (offset : ℕ) (tile : List ℕ) → HasTile atlas.old.items offset tile
         → OnOk result (HasTile atlas.new.items offset tile) }
 {
+    tiles_stay();
     let offset = atlas.len();
     Encoder::new(raw, width, height)?.encode_to_stream(atlas)?;
     Ok(offset)

@@ -1,6 +1,6 @@
--- By the lemmas that some list is written, and no other.
-use Rattle.qoi.proofs.encoding.StyleLists.{style_some, style_unique}
+-- By the lemmas that the list is written, and no other.
+use Rattle.qoi.proofs.encoding.StyleLists.{list_written, style_unique}
 use Rattle.qoi.proofs.laws.writing.written_is_one.Goals as goal
 
 pub returns : goal.returns
-returns c = record { some = style_some; one = style_unique }
+returns c = record { list = list_written; one = style_unique }

@@ -1,6 +1,6 @@
 -- Each tile stays where it was put.
 use Rattle.std.proofs.Common.{List, ℕ, sym, subst}
-use Rattle.qoi_tool.specs.Files.{HasTile}
+use Rattle.qoi.specs.Tiles.{HasTile}
 use Rattle.qoi_tool.proofs.tests.library.packs.three_tiles.Goals as goal
 
 pub returns : goal.returns

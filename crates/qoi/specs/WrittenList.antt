@@ -1,0 +1,70 @@
+-- The chunk list that is written for an image in a style, as a function of its pixels. What it must
+-- be, `WrittenIn` says; `laws::writing::written_is_one` ties the two.
+use Rattle.std.specs.Prelude.{ℕ, suc, ◌+◌, ◌*◌, ◌%◌, Bool, ◌==◌, if◌then◌else◌, List, [], ◌∷◌, ◌++◌, replicate, Option, None, Some}
+use Rattle.qoi.specs.declared.chunk.Chunk.{Chunk}
+use Rattle.qoi.specs.declared.chunk.Chunk.TheVariants.{Place, Diff, Luma, Run, Rgb, Rgba}
+use Rattle.qoi.specs.declared.types.Style.{Style}
+use Rattle.qoi.specs.declared.types.Style.TheVariants.{Reference, Places, Tight}
+use Rattle.qoi.specs.Qoi.{RgbaPixel, Past, pixel, pixel_eq, blank, previous, seen, hash, diff_tag, luma_tag}
+use Rattle.qoi.specs.Runs.{runs_by}
+use Rattle.qoi.specs.Written.{noted}
+use Rattle.qoi.specs.Tight.{least_unseen}
+use Rattle.qoi.specs.Styles.{in_style}
+use Rattle.qoi.specs.inner.Lanes.{steps, diff_steps, luma_steps}
+
+-- the steps of a Diff, cut to its bits
+abbrev pub diff_bits : RgbaPixel → RgbaPixel
+diff_bits s = pixel (s.r % 4) (s.g % 4) (s.b % 4) 0
+
+-- the steps of a Luma, cut to its bits
+abbrev pub luma_bits : RgbaPixel → RgbaPixel
+luma_bits s = pixel (s.r % 16) (s.g % 64) (s.b % 16) 0
+
+-- the Diff of such bits
+abbrev pub diff_of : RgbaPixel → Chunk
+diff_of d = Diff (diff_tag + d.r * 16 + d.g * 4 + d.b)
+
+-- the Luma of such bits
+abbrev pub luma_of : RgbaPixel → Chunk
+luma_of l = Luma (luma_tag + l.g) (l.r * 16 + l.b)
+
+-- the chunk that the tests choose
+abbrev pub spelled : Bool → Bool → Bool → RgbaPixel → RgbaPixel → RgbaPixel → Chunk
+spelled is_diff is_luma keeps d l p =
+    if is_diff then diff_of d else (if is_luma then luma_of l else (if keeps then Rgb p.r p.g p.b else Rgba p.r p.g p.b p.a))
+
+-- the same for steps as a Diff and a Luma have them, which fit if the cut leaves them as they are
+abbrev pub spelled_by : ℕ → RgbaPixel → RgbaPixel → RgbaPixel → Chunk
+spelled_by alpha small wide p = spelled (pixel_eq (diff_bits small) small) (pixel_eq (luma_bits wide) wide) (alpha == 0) (diff_bits small) (luma_bits wide) p
+
+-- the first of Diff, Luma, Rgb and Rgba that gives p after q
+unfoldable pub first_chunk : RgbaPixel → RgbaPixel → Chunk
+first_chunk q p = spelled_by (steps q p).a (diff_steps (steps q p)) (luma_steps (steps q p)) p
+
+-- the index position of p if that holds it, else another chunk
+abbrev pub by_position : RgbaPixel → RgbaPixel → Chunk → Chunk
+by_position held p other = if pixel_eq held p then Place (hash p) else other
+
+-- an index position, if there is one, else another chunk
+abbrev pub place_or : Option ℕ → Chunk → Chunk
+place_or None other = other
+place_or (Some i) other = Place i
+
+-- the chunk of a fresh pixel
+abbrev pub chosen : Style → Past → RgbaPixel → Chunk
+chosen Reference past p = by_position (noted past (hash p)) p (first_chunk (previous past) p)
+chosen Places past p = by_position (noted past (hash p)) p (first_chunk (previous past) p)
+chosen Tight past p = by_position (seen past (hash p)) p
+    (if pixel_eq p blank then place_or (least_unseen past) (first_chunk (previous past) p) else first_chunk (previous past) p)
+
+-- The chunks of pixels, with the chunk that `choose` gives for each fresh one. The pixels `past`
+-- and n repeats of the last of them stand before; the repeats are still to be written.
+unfoldable pub list_after : (Past → RgbaPixel → Chunk) → Past → ℕ → List RgbaPixel → List Chunk
+list_after choose past n [] = runs_by (Run 1) n
+list_after choose past n (p ∷ rest) =
+    if pixel_eq p (previous past) then list_after choose past (suc n) rest
+    else runs_by (Run 1) n ++ choose (replicate n (previous past) ++ past) p ∷ list_after choose (p ∷ replicate n (previous past) ++ past) 0 rest
+
+-- the chunk list that is written for an image in a style
+abbrev pub written_list : Style → List RgbaPixel → List Chunk
+written_list style image = in_style style (list_after (chosen style) [] 0 image)

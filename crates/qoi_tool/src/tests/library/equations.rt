@@ -1,0 +1,163 @@
+//! Functions of one's own, each with a contract, that are put together: files and images are
+//! functions of each other's bytes. None has a proof file.
+ghost use Rattle.std.specs.Prelude.{◌≡◌, ◌*◌, ◌≤◌, ◌<◌, ◌++◌, ℕ, List, length, drop, Some, Ok, IfOk, IfErr, OnOk};
+ghost use Rattle.std.specs.Io.KnownBytes.{Appends};
+ghost use Rattle.qoi.specs.declared.header.Header.{Header};
+ghost use Rattle.qoi.specs.declared.types.Style.{Style};
+ghost use Rattle.qoi.specs.declared.types.Style.TheVariants.{Reference};
+ghost use Rattle.qoi.specs.Images.{file_image};
+ghost use Rattle.qoi.specs.Encoded.{image_file, image_header};
+
+use crate::tests::fakes::{ONE_RGB_PIXEL, PIXEL};
+use crate::tests::library::support::{assert_bytes, assert_number};
+use qoi::{Decoder, Encoder, Error, decode_to_vec, encode_to_buf, encode_to_vec};
+use std::alloc::Global;
+use std::io::{Read, Write};
+
+/// Twice. The same image gives the same file.
+pub fn encoded_twice(
+    alloc: Global,
+    raw: &[u8],
+    width: u32,
+    height: u32,
+) -> Result<(Vec<u8>, Vec<u8>), Error>
+    ensures { IfOk result (λ x. x.0.items ≡ x.1.items) }
+{
+    let first = encode_to_vec(alloc, raw, width, height)?;
+    let second = encode_to_vec(alloc, raw, width, height)?;
+    Ok((first, second))
+}
+
+/// Saved. The file of an image.
+pub fn save(alloc: Global, raw: &[u8], width: u32, height: u32) -> Result<Vec<u8>, Error>
+    ensures { IfOk result (λ file. file_image file.items ≡ raw.now) }
+{
+    encode_to_vec(alloc, raw, width, height)
+}
+
+/// Loaded. The image of a file.
+pub fn load(alloc: Global, file: &[u8]) -> Result<Vec<u8>, Error>
+    ensures { IfOk result (λ raw. raw.items ≡ file_image file.now) }
+{
+    let (_, raw) = decode_to_vec(alloc, file)?;
+    Ok(raw)
+}
+
+/// Saved and loaded: the image comes back.
+pub fn saved_and_loaded(
+    alloc: Global,
+    raw: &[u8],
+    width: u32,
+    height: u32,
+) -> Result<Vec<u8>, Error>
+    ensures { IfOk result (λ back. back.items ≡ raw.now) }
+{
+    let file = save(alloc, raw, width, height)?;
+    load(alloc, &file)
+}
+
+/// Saved twice by a function that says which file it is: the same file.
+pub fn save_as(alloc: Global, raw: &[u8], width: u32, height: u32) -> Result<Vec<u8>, Error>
+    ensures { IfOk result (λ file. (h : Header) × (image_header raw.now width height ≡ Ok h)
+        × (file.items ≡ image_file Reference h raw.now)) }
+{
+    let file = encode_to_vec(alloc, raw, width, height)?;
+    Ok(file)
+}
+
+/// The same file, by two functions of one's own.
+pub fn saved_twice(
+    alloc: Global,
+    raw: &[u8],
+    width: u32,
+    height: u32,
+) -> Result<(Vec<u8>, Vec<u8>), Error>
+    ensures { IfOk result (λ x. x.0.items ≡ x.1.items) }
+{
+    let first = save_as(alloc, raw, width, height)?;
+    let second = save_as(alloc, raw, width, height)?;
+    Ok((first, second))
+}
+
+/// To a writer: what was appended, by an equation.
+pub fn save_to<W: Write>(out: &mut W, raw: &[u8], width: u32, height: u32) -> Result<usize, Error>
+    ensures { IfOk result (λ n. (h : Header) × (image_header raw.now width height ≡ Ok h)
+        × Appends (W.contents out.old) (W.contents out.new) (image_file Reference h raw.now)) }
+{
+    let n = Encoder::new(raw, width, height)?.encode_to_stream(out)?;
+    Ok(n)
+}
+
+/// From a reader: the image of what stands ahead.
+pub fn load_from<R: Read + Drop>(alloc: Global, reader: R) -> Result<Vec<u8>, Error>
+    ensures { (bytes : List ℕ) → R.remaining reader ≡ Some bytes
+        → IfOk result (λ raw. raw.items ≡ file_image bytes) }
+{
+    let mut decoder = Decoder::from_stream(reader)?;
+    let raw = decoder.decode_to_vec(alloc)?;
+    Ok(raw)
+}
+
+/// Encoded again: a decoded file of one's own gives the same bytes.
+pub fn again(
+    alloc: Global,
+    raw: &[u8],
+    width: u32,
+    height: u32,
+) -> Result<(Vec<u8>, Vec<u8>), Error>
+    ensures { IfOk result (λ x. x.0.items ≡ x.1.items) }
+{
+    let file = encode_to_vec(alloc, raw, width, height)?;
+    let (header, back) = decode_to_vec(alloc, &file)?;
+    let other = encode_to_vec(alloc, &back, header.width, header.height)?;
+    Ok((file, other))
+}
+
+/// In a buffer and in a vector, by the free calls.
+pub fn buffer_and_vector(
+    alloc: Global,
+    buf: &mut [u8],
+    raw: &[u8],
+    width: u32,
+    height: u32,
+) -> Result<Vec<u8>, Error>
+    ensures { IfOk result (λ file. buf.new ≡ file.items ++ drop (length file.items) buf.old) }
+{
+    encode_to_buf(buf, raw, width, height)?;
+    let file = encode_to_vec(alloc, raw, width, height)?;
+    Ok(file)
+}
+
+#[test]
+fn twice_and_again(rt: HostRuntime) -> Result<(), Error> {
+    let alloc = rt.alloc();
+    let (first, second) = encoded_twice(alloc, &PIXEL, 1, 1)?;
+    assert_bytes(&rt, &first, &ONE_RGB_PIXEL);
+    assert_bytes(&rt, &second, &ONE_RGB_PIXEL);
+    let (first, second) = again(alloc, &PIXEL, 1, 1)?;
+    assert_bytes(&rt, &first, &ONE_RGB_PIXEL);
+    assert_bytes(&rt, &second, &ONE_RGB_PIXEL);
+    Ok(())
+}
+
+#[test]
+fn saved_by_functions_of_our_own(rt: HostRuntime) -> Result<(), Error> {
+    let alloc = rt.alloc();
+    assert_bytes(&rt, &saved_and_loaded(alloc, &PIXEL, 1, 1)?, &PIXEL);
+    let (first, second) = saved_twice(alloc, &PIXEL, 1, 1)?;
+    assert_bytes(&rt, &first, &ONE_RGB_PIXEL);
+    assert_bytes(&rt, &second, &ONE_RGB_PIXEL);
+    let mut out = Vec::new(alloc);
+    assert_number(&rt, save_to(&mut out, &PIXEL, 1, 1)?, 26);
+    assert_bytes(&rt, &load_from(alloc, out.as_slice())?, &PIXEL);
+    Ok(())
+}
+
+#[test]
+fn in_a_buffer_too(rt: HostRuntime) -> Result<(), Error> {
+    let mut buf = [0xaa; 26];
+    let file = buffer_and_vector(rt.alloc(), &mut buf, &PIXEL, 1, 1)?;
+    assert_bytes(&rt, &file, &ONE_RGB_PIXEL);
+    assert_bytes(&rt, &buf, &ONE_RGB_PIXEL);
+    Ok(())
+}
