@@ -18,8 +18,8 @@ use Rattle.qoi.specs.Styles.{WrittenIn}
 use Rattle.qoi.specs.Decoding.{DecodesFile}
 use Rattle.qoi.specs.WrittenList.{written_list}
 use Rattle.qoi.proofs.encoding.CoderSteps.{all_bytes}
-use Rattle.qoi.specs.Encoded.{max_file_len, image_pixels, image_file, Spans, IsNearShortest, IsFileBy, IsAsReference, IsShortIn, IsReadBack, IsFileOf, IsShortest}
-use Rattle.std.specs.Prelude.{Option, drop}
+use Rattle.qoi.specs.Encoded.{max_file_len, image_header, image_pixels, image_file, Spans, IsNearShortest, IsFileBy, IsAsReference, IsShortIn, IsReadBack, IsFileOf, IsShortest}
+use Rattle.std.specs.Prelude.{Option, drop, Ok}
 use Rattle.std.specs.Io.KnownBytes.{Appends}
 use Rattle.qoi.specs.writers.Writes.{AppendsBeginning}
 use Rattle.qoi.specs.Sent.{HasFileLength, MakesFile, PutsFile, SendsFile, SendsPart}
@@ -29,6 +29,8 @@ use Rattle.qoi.proofs.decoding.Ahead.{stands_after}
 use Rattle.qoi.proofs.decoding.FrontImage.{file_image_is, file_rest_is}
 use Rattle.qoi.proofs.decoding.ImageSize.{channels_are}
 use Rattle.qoi.proofs.decoding.OneFile.{decodes_file}
+use Rattle.qoi.proofs.decoding.Tiles.{tile_put, sent_kept, sent_known}
+use Rattle.qoi.proofs.format.ImageHeader.{accepted_says}
 use Rattle.qoi.proofs.format.RawPixels.{pixels_of_are, pixels_of_have, length-pixels_of, output-pixels_of}
 use Rattle.qoi.specs.writers.Writes.{WriterLaws, WroteBut, WroteBeginning}
 use Rattle.qoi.proofs.encoding.WriterProgress.{wrote_next, wrote_part, wrote_all, left_fits}
@@ -232,6 +234,13 @@ unfolding image_file
 file_of_image style h raw valid size are =
     file_of h raw valid size style are (written_list style (image_pixels h raw)) (list_is h raw valid size style are)
 
+-- so has an image that an encoder accepts
+pub file_of_accepted : (style : Style) (h : Header) (raw : List ℕ) (width height : ℕ) → AreBytes raw → image_header raw width height ≡ Ok h
+    → IsFileOf style h raw (image_file style h raw)
+file_of_accepted style h raw width height are e =
+    let says = accepted_says raw width height h e in
+    file_of_image style h raw says.0 says.1 are
+
 -- A file of which all went to a writer but the bytes that are kept.
 module _ {W : Type 0} {wrote : W → List ℕ → W → Type 0} {room : W → ℕ} (laws : WriterLaws wrote room) (h : Header) (cs : List Chunk) (start : W) where
   module _ (front : List ℕ) (is_head : front ≡ header_bytes h) where
@@ -360,6 +369,8 @@ sends_file e bytes old new n f is sent = record {
   sent = sent;
   is = f.is_image_file;
   counts = counts_file e bytes n f is;
+  put = λ before after was is. tile_put e.style e.header e.raw bytes before after f (sent_known bytes old new sent before after was is);
+  kept = sent_kept bytes old new sent;
 }
 
 -- or a beginning of it

@@ -5,6 +5,7 @@ pub mod ChunksApart
 pub mod Entries
 pub mod HashedPixels
 pub mod HeaderBytes
+pub mod ImageHeader
 pub mod Lanes
 pub mod LaneRuns
 pub mod LaneBytes

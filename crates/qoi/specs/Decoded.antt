@@ -2,7 +2,7 @@
 -- what it means; the others follow from it, and are what callers need. `old` and `new` are the bytes
 -- ahead before and after the call, if they are known: of a slice always, of a reader if its contract
 -- states them.
-use Rattle.std.specs.Prelude.{◌≡◌, ℕ, ◌+◌, ◌*◌, ◌<◌, ◌≤◌, List, ◌++◌, drop, length, slice_index, Bool, IsTrue, Option, Some, IfSome, Ok}
+use Rattle.std.specs.Prelude.{◌≡◌, ℕ, ◌+◌, ◌-◌, ◌*◌, ◌<◌, ◌≤◌, List, ◌++◌, take, drop, length, slice_index, Bool, IsTrue, Option, Some, IfSome, Ok}
 use Rattle.qoi.specs.declared.error.Error.{Error}
 use Rattle.qoi.specs.declared.error.Error.TheVariants.{UnexpectedBufferEnd, InvalidPadding}
 use Rattle.qoi.specs.declared.types.Channels.TheVariants.{Rgb, Rgba}
@@ -14,6 +14,8 @@ use Rattle.qoi.specs.Qoi.{channels_number, pixel_count, chunk_max, marker_size, 
 use Rattle.qoi.specs.Raw.{without_fourth, HasImageLength, capped_byte_count}
 use Rattle.qoi.specs.Verdicts.{IsWhole, AreCut, AreWrong}
 use Rattle.qoi.specs.Decoding.{DecodesFile, ReadsImage, RefusesImage, RefusesFile, TakesHeader, RefusesStreamHeader, least_byte_count}
+use Rattle.qoi.specs.EncoderState.{EncoderState}
+use Rattle.qoi.specs.Sent.{MakesFile}
 use Rattle.qoi.specs.DecoderState.{DecoderState, output_byte_count, TakesAtMost}
 use Rattle.qoi.specs.Reading.{IsDecoderOf, IsImage, StandsAhead}
 use Rattle.qoi.specs.Images.{front_image, front_rest, file_image, file_rest}
@@ -60,6 +62,8 @@ pub record HasDecoded {R : Type 0} (d : DecoderState R) (old new : Option (List 
   pub rgb : d.channels ≡ Rgb → IfSome old (λ bytes. out ≡ without_fourth (front_image Rgba d.header bytes))
   -- in four channels each fourth byte is 255 if the file has three
   pub opaque : d.channels ≡ Rgba → d.header.channels ≡ Rgb → (i : ℕ) → i < pixel_count d.header → slice_index out (4 * i + 3) ≡ 255
+  -- so is the first one
+  pub first_opaque : d.channels ≡ Rgba → d.header.channels ≡ Rgb → slice_index out 3 ≡ 255
   -- there are `required_buf_len` bytes
   pub size : HasImageLength (output_byte_count d) out
   -- for n pixels at most 5n + 8 bytes were taken
@@ -105,6 +109,10 @@ pub record HasDecodedFile (bytes : List ℕ) (h : Header) (out : List ℕ) : Typ
   pub not_cut : AreCut (pixel_count h) (drop header_size bytes) → ⊥
   -- nor wrong
   pub not_wrong : AreWrong (pixel_count h) (drop header_size bytes) → ⊥
+  -- they aren't what an encoder made without its last byte
+  pub not_without_last : (e : EncoderState) (whole : List ℕ) → MakesFile e whole → bytes ≡ take (length whole - 1) whole → ⊥
+  -- nor a shorter part of it
+  pub not_part : (e : EncoderState) (whole : List ℕ) (n : ℕ) → MakesFile e whole → bytes ≡ take n whole → n < length whole → ⊥
 
 -- The bytes are refused with the error e.
 pub record HasRefusedFile (bytes : List ℕ) (e : Error) : Type 0 where

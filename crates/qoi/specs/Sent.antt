@@ -1,7 +1,7 @@
 -- What an encoding call promises: the one file of the encoder's image was made, put into a buffer,
 -- or sent to a writer. Of each record the fields up to `counts` say what it means; the others follow
 -- from them, and are what callers need who compare the files of several calls.
-use Rattle.std.specs.Prelude.{◌≡◌, ℕ, ◌≤◌, List, ◌++◌, take, drop, length, slice_set, Option, Ok}
+use Rattle.std.specs.Prelude.{◌≡◌, ℕ, ◌≤◌, List, ◌++◌, take, drop, length, slice_set, Option, Some, IfSome, Ok}
 use Rattle.std.specs.Io.KnownBytes.{Appends}
 use Rattle.qoi.specs.declared.types.ColorSpace.{ColorSpace}
 use Rattle.qoi.specs.declared.types.ColorSpace.TheVariants.{Srgb}
@@ -11,6 +11,7 @@ use Rattle.qoi.specs.declared.header.Header.{Header}
 use Rattle.qoi.specs.Qoi.{colorspace_at, colorspace_number}
 use Rattle.qoi.specs.Encoded.{image_file, image_header, IsFileLength, IsFileOf, IsShortest}
 use Rattle.qoi.specs.EncoderState.{EncoderState, free_encoder}
+use Rattle.qoi.specs.Tiles.{HasTile}
 use Rattle.qoi.specs.writers.Writes.{AppendsBeginning}
 
 -- The encoder's file has n bytes.
@@ -72,6 +73,10 @@ pub record SendsFile (e : EncoderState) (old new : Option (List ℕ)) (n : ℕ) 
   pub is : bytes ≡ image_file e.style e.header e.raw
   -- how many bytes the file has
   pub counts : HasFileLength e n
+  -- so the image is a tile at the end of the writer's bytes
+  pub put : (before after : List ℕ) → old ≡ Some before → new ≡ Some after → HasTile after (length before) e.raw
+  -- and those before it stay
+  pub kept : IfSome old (λ before. IfSome new (λ after. (offset : ℕ) (tile : List ℕ) → HasTile before offset tile → HasTile after offset tile))
 
 -- The encoder sends a beginning of its file to a writer.
 pub record SendsPart (e : EncoderState) (old new : Option (List ℕ)) : Type 0 where
@@ -83,8 +88,12 @@ pub record SendsPart (e : EncoderState) (old new : Option (List ℕ)) : Type 0 w
   -- so was the same beginning of what any other call made, put or sent
   pub same : (others : List ℕ) → IsFileOf e.style e.header e.raw others → AppendsBeginning old new others
 
--- the free calls make this file of raw bytes of this size: with the header that is found for them,
--- which has that size and color space Srgb
-abbrev pub IsFileFor : List ℕ → ℕ → ℕ → List ℕ → Type 0
-IsFileFor raw width height bytes = (h : Header) × (image_header raw width height ≡ Ok h)
-    × (h ≡ record { width = width; height = height; channels = h.channels; colorspace = Srgb }) × MakesFile (free_encoder h raw) bytes
+-- The free calls make this file of raw bytes of this size.
+pub record IsFileFor (raw : List ℕ) (width height : ℕ) (bytes : List ℕ) : Type 0 where
+  pub header : Header
+  -- it has the header that is found for them
+  pub accepted : image_header raw width height ≡ Ok header
+  -- the file is that of an encoder with this header
+  pub makes : MakesFile (free_encoder header raw) bytes
+  -- the header has the given size, and color space Srgb
+  pub header_is : header ≡ record { width = width; height = height; channels = header.channels; colorspace = Srgb }

@@ -1,6 +1,6 @@
 -- What a success and a refusal promise follows from what they mean.
-use Rattle.std.proofs.Common.{◌≡◌, ◌≤◌, ℕ, ◌*◌, List, [], take, length, Bool, Option, None, Some, IfSome, Ok, ◌-◌, ◌^◌, min, ◌++◌, drop, inl, inr, refl, sym, ◌∙◌, subst, ap, arith}
-use Rattle.std.proofs.lemmas.List.{append-nil, length-drop, take_at}
+use Rattle.std.proofs.Common.{◌≡◌, ◌≤◌, ◌<◌, ◌+◌, ℕ, ◌*◌, List, [], take, length, Bool, Option, None, Some, IfSome, Ok, ◌-◌, ◌^◌, min, ◌++◌, drop, inl, inr, refl, sym, ◌∙◌, subst, ap, arith}
+use Rattle.std.proofs.lemmas.List.{append-nil, append_assoc, length-append, length-drop, take-append-drop, take_at}
 use Rattle.qoi.specs.declared.chunk.Chunk.{Chunk}
 use Rattle.qoi.specs.declared.header.Header.{Header}
 use Rattle.qoi.specs.declared.types.Channels.{Channels}
@@ -9,7 +9,7 @@ use Rattle.qoi.specs.declared.types.Style.{Style}
 use Rattle.qoi.specs.declared.error.Error.{Error}
 use Rattle.qoi.specs.declared.error.Error.TheVariants.{IoError}
 use Rattle.qoi.specs.Errors.{IsIoError}
-use Rattle.qoi.specs.Qoi.{channels_number, pixel_count, header_size, header_of, IsValid, AreBytes}
+use Rattle.qoi.specs.Qoi.{channels_number, pixel_count, header_size, header_of, IsValid, AreBytes, file}
 use Rattle.qoi.specs.Raw.{HasImageLength, capped_byte_count, image_byte_count, byte_count}
 use Rattle.qoi.specs.Decoding.{DecodesFile, ReadsImage, TakesHeader, RefusesBytes, RefusesFile, RefusesImage, RefusesStreamHeader}
 use Rattle.qoi.specs.DecoderState.{DecoderState, output_byte_count}
@@ -81,6 +81,7 @@ has_decoded d old new out size r =
       file = λ source ahead made told. file_from_image (λ _. old) d source ahead new out made told stands;
       rgb = λ three. three_read d.channels d.header old new out three stands;
       opaque = λ four three i below. fourth_of_image _ _ _ old new out r (ap channels_number three) (ap channels_number four) i below;
+      first_opaque = λ four three. fourth_of_image _ _ _ old new out r (ap channels_number three) (ap channels_number four) 0 (some_pixels _ _ many);
       size = size;
       within = read_within _ _ _ old new out r;
       enough = if_known old _ (λ bytes told. let s = stands bytes told in whole_holds _ bytes s.2.cs s.0 s.2.whole);
@@ -109,6 +110,17 @@ capped_is h valid = exact h.channels (pixel_count h) valid.1
     exact Rgb n l = omega arith
     exact Rgba n l = omega arith
 
+-- bytes that begin with a file aren't a part of an image's file that lacks its end
+not_part : (bytes : List ℕ) (h : Header) (rest out : List ℕ) → DecodesFile bytes h rest out
+    → (style : Style) (other : Header) (raw whole : List ℕ) (n : ℕ) → IsFileOf style other raw whole → bytes ≡ take n whole → n < length whole → ⊥
+not_part bytes h rest out f style other raw whole n g part below =
+    let d = file_ahead style other raw whole [] whole g (sym (append-nil whole)) in
+    let split : whole ≡ file h f.cs ++ (rest ++ drop n whole) =
+    sym (take-append-drop n whole) ∙ ap (λ z. z ++ drop n whole) (sym part ∙ f.split) ∙ append_assoc (file h f.cs) rest (drop n whole) in
+    let same : rest ++ drop n whole ≡ [] = (d.only h f.cs (rest ++ drop n whole) f.is_file split).2 in
+    let size : length rest + length (drop n whole) ≡ 0 = sym (length-append rest (drop n whole)) ∙ ap length same in
+    omega (arith, size, length-drop n whole)
+
 -- what a decoder made of the bytes decodes is the file at their front
 pub has_decoded_file : (bytes : List ℕ) (d : DecoderState (List ℕ)) (left out : List ℕ) → AreBytes bytes → header_of bytes ≡ Ok d.header
     → d.channels ≡ d.header.channels → d.reader ≡ drop header_size bytes → HasDecoded d (Some d.reader) (Some left) out → HasDecodedFile bytes d.header out
@@ -125,6 +137,9 @@ has_decoded_file bytes d left out fits read own after decoded =
           (omega (arith, ap length after, length-drop header_size bytes)) (omega (arith, size));
       not_cut = λ (cs, part, cut). whole_not_cut (pixel_count h) (drop header_size bytes) f.cs cs left part f.whole cut;
       not_wrong = λ (more, (cs, eight, wrong)). whole_not_wrong (pixel_count h) (drop header_size bytes) f.cs cs left eight more f.whole wrong;
+      not_without_last = λ e whole m part.
+          not_part bytes h left out f e.style e.header e.raw whole (length whole - 1) m.file part (omega (arith, m.file.is_file.long));
+      not_part = λ e whole n m part below. not_part bytes h left out f e.style e.header e.raw whole n m.file part below;
     }
 
 -- a file isn't refused

@@ -1,44 +1,55 @@
 -- Files at offsets of longer bytes: they are put, stay, and are read.
-use Rattle.std.proofs.Common.{◌≡◌, ◌+◌, ◌-◌, ◌≤◌, ℕ, List, [], ◌++◌, Some, length, drop, arith, ap, sym, ◌∙◌}
+use Rattle.std.proofs.Common.{◌≡◌, ◌+◌, ◌-◌, ◌≤◌, ℕ, List, [], ◌++◌, Option, None, Some, IfSome, length, drop, arith, ap, sym, ◌∙◌}
 use Rattle.std.proofs.lemmas.List.{append_assoc, append-nil, length-append, length-drop, drop-append-le}
 use Rattle.std.proofs.Math.Seq.{drop-append_seam}
-use Rattle.qoi.specs.EncoderState.{EncoderState}
-use Rattle.qoi.specs.Sent.{SendsFile}
+use Rattle.std.specs.Io.KnownBytes.{Appends}
+use Rattle.qoi.specs.declared.header.Header.{Header}
+use Rattle.qoi.specs.declared.types.Style.{Style}
+use Rattle.qoi.specs.Encoded.{IsFileOf}
 use Rattle.qoi.specs.Images.{file_image}
 use Rattle.qoi.specs.Tiles.{HasTile}
 
--- a file that is sent to the end stands there
-pub tile_put : (e : EncoderState) (old new : List ℕ) (n : ℕ) → SendsFile e (Some old) (Some new) n → HasTile new (length old) e.raw
-tile_put e old new n s = record {
-  style = e.style;
-  header = e.header;
-  front = s.bytes;
+-- a tile lies within the bytes
+pub tile_within : (bytes raw : List ℕ) (offset : ℕ) → HasTile bytes offset raw → offset ≤ length bytes
+tile_within bytes raw offset t =
+    let size : length bytes - offset ≡ length t.front + length t.rest = sym (length-drop offset bytes) ∙ ap length t.stands ∙ length-append t.front t.rest in
+    omega (arith, size, t.is_file.is_file.long)
+
+-- a file that is appended is a tile at the end
+pub tile_put : (style : Style) (h : Header) (raw bytes old new : List ℕ) → IsFileOf style h raw bytes → new ≡ old ++ bytes → HasTile new (length old) raw
+tile_put style h raw bytes old new f is = record {
+  style = style;
+  header = h;
+  front = bytes;
   rest = [];
-  is_file = s.file;
-  stands = ap (λ z. drop (length old) z) s.sent ∙ drop-append_seam old s.bytes ∙ sym (append-nil s.bytes);
+  is_file = f;
+  stands = ap (λ z. drop (length old) z) is ∙ drop-append_seam old bytes ∙ sym (append-nil bytes);
 }
 
--- and files before it stay where they are
-pub tile_kept : (e : EncoderState) (raw old new : List ℕ) (n offset : ℕ) → SendsFile e (Some old) (Some new) n → HasTile old offset raw
-    → HasTile new offset raw
-tile_kept e raw old new n offset s t =
-    let size : length old - offset ≡ length t.front + length t.rest = sym (length-drop offset old) ∙ ap length t.stands ∙ length-append t.front t.rest in
-    let inside : offset ≤ length old = omega (arith, size, t.is_file.is_file.long) in
-    record {
-      style = t.style;
-      header = t.header;
-      front = t.front;
-      rest = t.rest ++ s.bytes;
-      is_file = t.is_file;
-      stands = ap (λ z. drop offset z) s.sent ∙ drop-append-le offset old s.bytes inside ∙ ap (λ z. z ++ s.bytes) t.stands ∙ append_assoc t.front t.rest s.bytes;
-    }
+-- and tiles before it stay where they are, whatever is appended
+pub tile_kept : (tile old new more : List ℕ) (offset : ℕ) → new ≡ old ++ more → HasTile old offset tile → HasTile new offset tile
+tile_kept tile old new more offset is t = record {
+  style = t.style;
+  header = t.header;
+  front = t.front;
+  rest = t.rest ++ more;
+  is_file = t.is_file;
+  stands = ap (λ z. drop offset z) is ∙ drop-append-le offset old more (tile_within old tile offset t) ∙ ap (λ z. z ++ more) t.stands
+      ∙ append_assoc t.front t.rest more;
+}
 
 -- its image is read at its offset
 pub tile_read : (bytes raw : List ℕ) (offset : ℕ) → HasTile bytes offset raw → file_image (drop offset bytes) ≡ raw
 tile_read bytes raw offset t = ap file_image t.stands ∙ t.is_file.read_back.image_then t.rest
 
--- and it lies within the bytes
-pub tile_within : (bytes raw : List ℕ) (offset : ℕ) → HasTile bytes offset raw → offset ≤ length bytes
-tile_within bytes raw offset t =
-    let size : length bytes - offset ≡ length t.front + length t.rest = sym (length-drop offset bytes) ∙ ap length t.stands ∙ length-append t.front t.rest in
-    omega (arith, size, t.is_file.is_file.long)
+-- what a writer has whose bytes are known, before and after more were appended
+pub sent_known : (bytes : List ℕ) (old new : Option (List ℕ)) → Appends old new bytes → (before after : List ℕ) → old ≡ Some before → new ≡ Some after
+    → after ≡ before ++ bytes
+sent_known bytes old new sent before after was is = rw (was, is) at sent
+
+-- tiles of a writer whose bytes are known stay
+pub sent_kept : (bytes : List ℕ) (old new : Option (List ℕ)) → Appends old new bytes
+    → IfSome old (λ before. IfSome new (λ after. (offset : ℕ) (tile : List ℕ) → HasTile before offset tile → HasTile after offset tile))
+sent_kept bytes None new sent = tt
+sent_kept bytes (Some before) None sent = tt
+sent_kept bytes (Some before) (Some after) sent = λ offset tile t. tile_kept tile before after bytes offset sent t

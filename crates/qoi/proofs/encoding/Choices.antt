@@ -1,5 +1,5 @@
 -- What a choice of a chunk for each fresh pixel has to offer.
-use Rattle.std.proofs.Common.{◌≡◌, ◌≢◌, ℕ, false}
+use Rattle.std.proofs.Common.{◌≡◌, ℕ, false}
 use Rattle.qoi.specs.declared.chunk.Chunk.{Chunk}
 use Rattle.qoi.specs.declared.chunk.Chunk.TheVariants.{Rgba}
 use Rattle.qoi.specs.Qoi.{RgbaPixel, IsPixel, Past, previous, IsChunk, pixel_after}

@@ -28,7 +28,7 @@ colorspace_back Srgb = refl
 colorspace_back Linear = refl
 
 -- a number that reads as channels is theirs
-channels_from : (n : ℕ) (c : Channels) → channels_of n ≡ Ok c → n ≡ channels_number c
+pub channels_from : (n : ℕ) (c : Channels) → channels_of n ≡ Ok c → n ≡ channels_number c
 channels_from n c e = grind (arith)
 
 -- a number that reads as a color space is its own
@@ -87,7 +87,7 @@ pub header_of-head : (h : Header) (rest : List ℕ) → IsValid h → header_of 
 header_of-head h rest v = header_from_says (header_bytes h ++ rest) h (says_head h rest v)
 
 -- a test that guards against a refusal has passed
-guard_true : {A E : Type 0} (b : Bool) (r : Result A E) (refusal : E) (x : A) → cond b r (Err refusal) ≡ Ok x → (b ≡ true) × (r ≡ Ok x)
+pub guard_true : {A E : Type 0} (b : Bool) (r : Result A E) (refusal : E) (x : A) → cond b r (Err refusal) ≡ Ok x → (b ≡ true) × (r ≡ Ok x)
 guard_true true r refusal x e = (refl, e)
 guard_true false r refusal x e = absurd cc
 
@@ -102,20 +102,23 @@ record SaysRest (bytes : List ℕ) (c : Channels) (s : ColorSpace) (h : Header) 
   pub is_header : record { width = number_at bytes 4; height = number_at bytes 8; channels = c; colorspace = s } ≡ h
   pub valid : IsValid h
 
+-- a header that is tried has the fields that were given, and is valid
+pub tried_says : (width height : ℕ) (c : Channels) (s : ColorSpace) (h : Header) → tried_header width height c s ≡ Ok h
+    → (record { width = width; height = height; channels = c; colorspace = s } ≡ h) × IsValid h
+tried_says width height c s h e =
+    let k : Header = record { width = width; height = height; channels = c; colorspace = s } in
+    let g = guard_true (nat_le 1 (pixel_count k) && nat_le (pixel_count k) pixels_max) (Ok k) (InvalidImageDimensions width height) h e in
+    let bounds = and_parts (nat_le 1 (pixel_count k)) (nat_le (pixel_count k) pixels_max) g.0 in
+    let same : k ≡ h = cc in
+    (same, subst IsValid same (leb-true 1 (pixel_count k) bounds.0, leb-true (pixel_count k) pixels_max bounds.1))
+
 -- dimensions that are taken are within bounds
 rest_from : (bytes : List ℕ) (c : Channels) (s : ColorSpace) (h : Header) → checked_header bytes c s ≡ Ok h → SaysRest bytes c s h
 rest_from bytes c s h e =
-    let k : Header = record { width = number_at bytes 4; height = number_at bytes 8; channels = c; colorspace = s } in
     let outer = guard_true (number_at bytes 0 == magic_number) (tried_header (number_at bytes 4) (number_at bytes 8) c s)
     (InvalidMagic (number_at bytes 0)) h e in
-    let inner = guard_true (nat_le 1 (pixel_count k) && nat_le (pixel_count k) pixels_max) (Ok k) (InvalidImageDimensions k.width k.height) h outer.1 in
-    let bounds = and_parts (nat_le 1 (pixel_count k)) (nat_le (pixel_count k) pixels_max) inner.0 in
-    let same : k ≡ h = cc in
-    record {
-      magic = eqb-true (number_at bytes 0) magic_number outer.0;
-      is_header = same;
-      valid = subst IsValid same (leb-true 1 (pixel_count k) bounds.0, leb-true (pixel_count k) pixels_max bounds.1);
-    }
+    let inner = tried_says (number_at bytes 4) (number_at bytes 8) c s h outer.1 in
+    record { magic = eqb-true (number_at bytes 0) magic_number outer.0; is_header = inner.0; valid = inner.1 }
 
 -- bytes that are read as a header say it
 says_from : (bytes : List ℕ) (h : Header) → header_of bytes ≡ Ok h → SaysHeader bytes h

@@ -7,9 +7,8 @@ ghost use Rattle.qoi.specs.declared.types.ColorSpace.{ColorSpace};
 ghost use Rattle.qoi.specs.declared.chunk.Chunk.{Chunk};
 ghost use Rattle.qoi.specs.Qoi.{AreBytes, IsChunk, AreChunks, bytes_of, chunk_bytes, IsFile, file, file_pixels, header_bytes, pixel_count, IsValid, header_of, pixel, hash, Reaches, StayBelow, meaning, header_size, channels_number, chunk_max, pixels_max};
 ghost use Rattle.qoi.specs.Raw.{output, image_byte_count};
-ghost use Rattle.qoi.specs.EncoderState.{EncoderState};
-ghost use Rattle.qoi.specs.Encoded.{image_header};
-ghost use Rattle.qoi.specs.Sent.{SendsFile};
+ghost use Rattle.qoi.specs.declared.types.Style.{Style};
+ghost use Rattle.qoi.specs.Encoded.{IsFileOf, IsReadBack, image_file, image_header};
 ghost use Rattle.qoi.specs.Tiles.{HasTile};
 ghost use Rattle.qoi.specs.Verdicts.{IsPartOfChunk, IsWhole, IsCut, IsWrong};
 ghost use Rattle.qoi.specs.Decoding.{DecodesFile};
@@ -114,13 +113,21 @@ pub fn sizes_are_accepted()
         }) }
 {}
 
-/// A file that is sent to the end of other bytes is a tile there, those before it stay, and the
-/// image of a tile is read at its offset.
+/// An image that an encoder accepts is read back from its file, whatever follows it.
+pub fn image_files_are_read()
+    ensures image { (style : Style) (h : Header) (raw : List ℕ) (width height : ℕ) → AreBytes raw
+        → image_header raw width height ≡ Ok h → file_image (image_file style h raw) ≡ raw }
+    ensures all { (style : Style) (h : Header) (raw : List ℕ) (width height : ℕ) → AreBytes raw
+        → image_header raw width height ≡ Ok h → IsReadBack h raw (image_file style h raw) }
+{}
+
+/// A file after other bytes is a tile there, tiles stay whatever is appended, and the image of a
+/// tile is read at its offset.
 pub fn tiles_stay()
-    ensures put { (e : EncoderState) (old new : List ℕ) (n : ℕ)
-        → SendsFile e (Some old) (Some new) n → HasTile new (length old) e.raw }
-    ensures kept { (e : EncoderState) (raw old new : List ℕ) (n offset : ℕ)
-        → SendsFile e (Some old) (Some new) n → HasTile old offset raw → HasTile new offset raw }
+    ensures put { (style : Style) (h : Header) (raw bytes old new : List ℕ)
+        → IsFileOf style h raw bytes → new ≡ old ++ bytes → HasTile new (length old) raw }
+    ensures kept { (tile old new more : List ℕ) (offset : ℕ) → new ≡ old ++ more
+        → HasTile old offset tile → HasTile new offset tile }
     ensures read { (bytes raw : List ℕ) (offset : ℕ) → HasTile bytes offset raw
         → file_image (drop offset bytes) ≡ raw }
     ensures within { (bytes raw : List ℕ) (offset : ℕ) → HasTile bytes offset raw

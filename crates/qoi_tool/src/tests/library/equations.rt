@@ -3,6 +3,7 @@
 ghost use Rattle.std.specs.Prelude.{◌≡◌, ◌*◌, ◌≤◌, ◌<◌, ◌++◌, ℕ, List, length, drop, Some, Ok, IfOk, IfErr, OnOk};
 ghost use Rattle.std.specs.Io.KnownBytes.{Appends};
 ghost use Rattle.qoi.specs.declared.header.Header.{Header};
+ghost use Rattle.qoi.specs.declared.types.Channels.{Channels};
 ghost use Rattle.qoi.specs.declared.types.Style.{Style};
 ghost use Rattle.qoi.specs.declared.types.Style.TheVariants.{Reference};
 ghost use Rattle.qoi.specs.Images.{file_image};
@@ -10,7 +11,11 @@ ghost use Rattle.qoi.specs.Encoded.{image_file, image_header};
 
 use crate::tests::fakes::{ONE_RGB_PIXEL, PIXEL};
 use crate::tests::library::support::{assert_bytes, assert_number};
-use qoi::{Decoder, Encoder, Error, decode_to_vec, encode_to_buf, encode_to_vec};
+use qoi::laws::reading::{image_files_are_read, sizes_are_accepted};
+use qoi::{
+    Channels, ColorSpace, Decoder, Encoder, Error, Header, decode_to_vec, encode_to_buf,
+    encode_to_vec,
+};
 use std::alloc::Global;
 use std::io::{Read, Write};
 
@@ -113,6 +118,34 @@ pub fn again(
     Ok((file, other))
 }
 
+/// Saved by one function and loaded by another, each with an equation of its own.
+pub fn saved_as_and_loaded(
+    alloc: Global,
+    raw: &[u8],
+    width: u32,
+    height: u32,
+) -> Result<Vec<u8>, Error>
+    ensures { IfOk result (λ back. back.items ≡ raw.now) }
+{
+    image_files_are_read();
+    let file = save_as(alloc, raw, width, height)?;
+    load(alloc, &file)
+}
+
+/// By the free call and by the method: the same file.
+pub fn call_and_method(
+    alloc: Global,
+    raw: &[u8],
+    width: u32,
+    height: u32,
+) -> Result<(Vec<u8>, Vec<u8>), Error>
+    ensures { IfOk result (λ x. x.0.items ≡ x.1.items) }
+{
+    let first = encode_to_vec(alloc, raw, width, height)?;
+    let second = Encoder::new(raw, width, height)?.encode_to_vec(alloc)?;
+    Ok((first, second))
+}
+
 /// In a buffer and in a vector, by the free calls.
 pub fn buffer_and_vector(
     alloc: Global,
@@ -128,6 +161,42 @@ pub fn buffer_and_vector(
     Ok(file)
 }
 
+/// A file that lacks its last byte is refused.
+pub fn without_last(alloc: Global, raw: &[u8], width: u32, height: u32) -> Result<Error, Error> {
+    let file = Encoder::new(raw, width, height)?.encode_to_vec(alloc)?;
+    match decode_to_vec(alloc, &file[..file.len() - 1]) {
+        Ok(_) => unreachable!(),
+        Err(refusal) => Ok(refusal),
+    }
+}
+
+/// The alpha of the first pixel of a file with three channels, read as four, is 255.
+pub fn first_alpha(alloc: Global, file: &[u8]) -> Result<(Header, u8), Error>
+    ensures { IfOk result (λ x. x.0.channels ≡ Channels.Rgb → x.1 ≡ 255) }
+{
+    let mut decoder = Decoder::new(file)?.with_channels(Channels::Rgba);
+    let rgba = decoder.decode_to_vec(alloc)?;
+    Ok((*decoder.header(), rgba[3]))
+}
+
+/// Raw bytes of the length that a valid header says are accepted.
+pub fn of_right_length(
+    alloc: Global,
+    raw: &[u8],
+    width: u32,
+    height: u32,
+) -> Result<Vec<u8>, Error> {
+    let header = Header::try_new(width, height, Channels::Rgba, ColorSpace::Srgb)?;
+    if raw.len() != header.n_bytes() {
+        return Ok(Vec::new(alloc));
+    }
+    sizes_are_accepted();
+    match Encoder::new(raw, width, height) {
+        Ok(encoder) => encoder.encode_to_vec(alloc),
+        Err(_) => unreachable!(),
+    }
+}
+
 #[test]
 fn twice_and_again(rt: HostRuntime) -> Result<(), Error> {
     let alloc = rt.alloc();
@@ -137,6 +206,31 @@ fn twice_and_again(rt: HostRuntime) -> Result<(), Error> {
     let (first, second) = again(alloc, &PIXEL, 1, 1)?;
     assert_bytes(&rt, &first, &ONE_RGB_PIXEL);
     assert_bytes(&rt, &second, &ONE_RGB_PIXEL);
+    Ok(())
+}
+
+#[test]
+fn by_call_and_by_method(rt: HostRuntime) -> Result<(), Error> {
+    let alloc = rt.alloc();
+    let (first, second) = call_and_method(alloc, &PIXEL, 1, 1)?;
+    assert_bytes(&rt, &first, &ONE_RGB_PIXEL);
+    assert_bytes(&rt, &second, &ONE_RGB_PIXEL);
+    assert_bytes(&rt, &saved_as_and_loaded(alloc, &PIXEL, 1, 1)?, &PIXEL);
+    Ok(())
+}
+
+#[test]
+fn refused_and_accepted(rt: HostRuntime) -> Result<(), Error> {
+    let alloc = rt.alloc();
+    let refusal = without_last(alloc, &PIXEL, 1, 1)?;
+    assert!(rt; matches!(refusal, Error::UnexpectedBufferEnd));
+    let (header, alpha) = first_alpha(alloc, &ONE_RGB_PIXEL)?;
+    assert_number(&rt, header.n_pixels(), 1);
+    assert_number(&rt, alpha as usize, 255);
+    // The header of one pixel in four channels has four bytes.
+    assert_bytes(&rt, &of_right_length(alloc, &PIXEL, 1, 1)?, &[]);
+    let file = of_right_length(alloc, &[0, 0, 0, 255], 1, 1)?;
+    assert_number(&rt, file.len(), 23);
     Ok(())
 }
 
