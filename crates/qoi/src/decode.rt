@@ -341,10 +341,10 @@ impl<R: Reader> Decoder<R> {
     /// was read and the decoder is unchanged; those of `decode_to_buf` but for
     /// `OutputBufferTooSmall`, and each leaves the decoder as it does there.
     ///
-    /// The room is asked for at once, and costs address space alone until it is written. It is
-    /// written only if the bytes ahead could hold the image: bytes in memory that are too few for
-    /// its pixels, whatever they are, are `UnexpectedBufferEnd` before that. (Every 62 pixels take
-    /// a byte at least, and the end marker has eight.) For a stream it is always written, since a
+    /// Memory is reserved at once, but uses only address space until it is written. It is written
+    /// only if the bytes ahead could hold the image: bytes in memory that are too few for its
+    /// pixels, whatever they are, are `UnexpectedBufferEnd` before that. (Every 62 pixels take a
+    /// byte at least, and the end marker has eight.) For a stream it is always written, since a
     /// stream can't be asked how many bytes it has.
     pub fn decode_to_vec(&mut self, alloc: Global) -> Result<Vec<u8>>
         // A success: the vector is the image at the front of the bytes ahead.

@@ -52,7 +52,7 @@ impl From<Error> for Fault {
 /// Does what the words ask for, from the input to the output; `words` has no program name.
 ///
 /// Refusals come in this order: `Usage` if the words aren't those of a command; a fault of the
-/// input, or want of memory for it; a refusal of the library, or want of memory for the image; a
+/// input, or lack of memory for it; a refusal of the library, or lack of memory for the image; a
 /// fault of the output. Nothing is written before the input was taken and accepted; a fault of
 /// the output leaves a beginning of the answer.
 pub fn run<R: Read, W: Write>(
