@@ -26,7 +26,7 @@ use crate::encode::piece::{Piece, ROOM};
 use crate::error::{Error, Result};
 use crate::header::{Header, max_file_size};
 use crate::types::{Channels, ColorSpace, Style};
-use crate::utils::{BytesMut, GenericWriter, Writer};
+use crate::utils::{BytesMut, GenericWriter, VecMut, Writer};
 use std::alloc::Global;
 use std::io::Write;
 use std::marker::Model;
@@ -248,7 +248,8 @@ impl<'a> Encoder<'a> {
 
     /// Encodes the image into a new vector, which holds only the file.
     ///
-    /// `OutOfMemory` if the allocation of `required_buf_len` bytes fails.
+    /// `OutOfMemory` if the allocation of `required_buf_len` bytes fails. They cost address space
+    /// alone until they are written, and those that the file leaves are given back.
     pub fn encode_to_vec(&self, alloc: Global) -> Result<Vec<u8>>
         // A success: the vector is the file.
         ensures encoded { IfOk result (λ v. MakesFile self.now v.items) }
@@ -256,9 +257,10 @@ impl<'a> Encoder<'a> {
         // The refusals.
         ensures refused { IsOkUnless result Error.OutOfMemory }
     {
-        let mut file = vec![in alloc; 0u8; self.required_buf_len()]?;
-        let size = self.encode_to_buf(&mut file)?;
-        file.truncate(size);
+        let mut file = Vec::with_capacity(alloc, self.required_buf_len())?;
+        let mut writer = VecMut::new(&mut file);
+        encode_image(&mut writer, self.style, &self.header, self.data)?;
+        file.shrink_to_fit();
         Ok(file)
     }
 

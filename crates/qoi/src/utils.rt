@@ -1,5 +1,6 @@
 //! Where the encoder writes.
-ghost use Rattle.std.specs.Prelude.{◌≡◌, ℕ, ◌+◌, ◌<◌, ◌≤◌, List, [], ◌∷◌, length, drop, OnOk, IfErr};
+ghost use Rattle.std.specs.Prelude.{◌≡◌, ℕ, ◌+◌, ◌-◌, ◌<◌, ◌≤◌, List, [], ◌∷◌, length, drop, OnOk, IfErr};
+ghost use Rattle.std.specs.Vec.{vec_len, vec_capacity};
 ghost use Rattle.qoi.specs.writers.Writes.{StandsAfter, WriterLaws, WroteBeginning};
 ghost use Rattle.qoi.specs.Errors.{IsIoError};
 
@@ -132,6 +133,59 @@ impl<'a> Writer for BytesMut<'a> {
     #[inline]
     fn capacity(&self) -> usize {
         self.buf.len() - self.written
+    }
+}
+
+/// A vector that bytes are appended to, as many as its capacity leaves room for. It never refuses,
+/// and never asks for memory.
+#[derive(Drop)]
+pub struct VecMut<'a> {
+    vec: &'a mut Vec<u8>,
+    room: usize,
+    ghost within: { vec_len vec.now + room ≤ vec_capacity vec.now },
+}
+
+impl<'a> VecMut<'a> {
+    ghost use Rattle.qoi.specs.writers.VecMut.{vec_name, vec_bytes, vec_room};
+
+    /// A writer that appends to the vector, within its capacity.
+    #[inline]
+    pub fn new(vec: &'a mut Vec<u8>) -> VecMut<'a>
+        ensures same_vec { vec_name result ≡ vec.entry.ghost_name }
+        ensures bytes { vec_bytes result ≡ vec.old.items }
+        ensures room { vec_room result ≡ vec_capacity vec.old - vec_len vec.old }
+    {
+        let room = vec.capacity() - vec.len();
+        VecMut { vec, room }
+    }
+}
+
+impl<'a> Writer for VecMut<'a> {
+    ghost use Rattle.qoi.specs.writers.VecMut.{VecWrote, vec_room, vec_laws};
+
+    ghost wrote = { VecWrote };
+
+    ghost room = { vec_room };
+
+    ghost IsFault = { λ _. ⊥ };
+
+    ghost laws = { vec_laws };
+
+    #[inline]
+    fn write_one(&mut self, v: u8) -> Result<()> {
+        self.write_many(&[v])
+    }
+
+    #[inline]
+    fn write_many(&mut self, v: &[u8]) -> Result<()> {
+        self.vec.extend_from_slice(v)?;
+        self.room -= v.len();
+        Ok(())
+    }
+
+    #[inline]
+    fn capacity(&self) -> usize {
+        self.room
     }
 }
 
