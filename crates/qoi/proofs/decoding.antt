@@ -6,6 +6,7 @@ pub mod FastSteps
 pub mod FilledBuffer
 pub mod FirstChunk
 pub mod FrontImage
+pub mod Grown
 pub mod ImageSize
 pub mod LeastBytes
 pub mod OneFile

@@ -1,5 +1,5 @@
 -- What decoding an image returns and takes, and what its refusals say.
-use Rattle.std.specs.Prelude.{◌≡◌, ◌≢◌, ℕ, ◌+◌, ◌-◌, ◌/◌, ◌<◌, ◌≤◌, ◌⊎◌, List, [], ◌++◌, length, take, drop, Bool, true, false, Option, Some, Result, Ok, Err, IfSome}
+use Rattle.std.specs.Prelude.{◌≡◌, ◌≢◌, ℕ, ◌+◌, ◌-◌, ◌/◌, ◌<◌, ◌⊎◌, List, [], ◌++◌, length, take, drop, Bool, true, false, Option, Result, Ok, Err, IfSome}
 use Rattle.std.specs.Io.KnownBytes.{Consumes, Keeps}
 use Rattle.qoi.specs.declared.error.Error.{Error}
 use Rattle.qoi.specs.declared.error.Error.TheVariants.{OutputBufferTooSmall, UnexpectedBufferEnd, InvalidPadding, IoError}
@@ -7,14 +7,7 @@ use Rattle.qoi.specs.declared.header.Header.{Header}
 use Rattle.qoi.specs.declared.chunk.Chunk.{Chunk}
 use Rattle.qoi.specs.Qoi.{header_size, run_max, AreChunks, chunk_bytes, Reaches, meaning, IsFile, marker_size, end_marker, file, file_pixels, channels_number, header_bytes, header_of, pixel_count, IsValid}
 use Rattle.qoi.specs.Raw.{output}
-use Rattle.qoi.specs.Verdicts.{HasChunks, IsWhole, AreCut, AreWrong, AreWrongThen}
-
--- chunks that reach n pixels stand before the rest, and `out` are the bytes of their first n pixels
-pub record ReadsPixels (file_channels channels n : ℕ) (bytes rest out : List ℕ) : Type 0 where
-  pub cs : List Chunk
-  pub has : HasChunks n bytes cs rest
-  pub reaches : Reaches n cs
-  pub out_is : out ≡ output file_channels channels (take n (meaning cs))
+use Rattle.qoi.specs.Verdicts.{IsWhole, AreCut, AreWrong, AreWrongThen}
 
 -- chunks that reach n pixels were taken, and then `tail`, and `out` are the bytes of their first n
 -- pixels
@@ -65,11 +58,6 @@ RefusesTakenMarker taken _ = ⊥
 -- more, and gives 62 pixels at most
 abbrev pub least_byte_count : ℕ → ℕ
 least_byte_count n = (n + (run_max - 1)) / run_max + marker_size
-
--- in memory at least `least_byte_count n` bytes stand ahead; on a stream it always holds
-abbrev pub CouldHold : Bool → ℕ → Option (List ℕ) → Type 0
-CouldHold true n (Some bytes) = least_byte_count n ≤ length bytes
-CouldHold in_memory n ahead = Unit {0}
 
 -- A refused image. In memory nothing is taken, and the bytes ahead are cut or wrong. On a stream
 -- the bytes that were taken are cut, or they are wrong and end with the eight bytes.

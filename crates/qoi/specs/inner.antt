@@ -1,5 +1,6 @@
--- States of loops, what the table of index positions holds, pixels as single numbers, four at a
--- time, and kept bytes.
+-- What readers' loops refuse, states of loops, what the table of index positions holds, pixels as
+-- single numbers, four at a time, and kept bytes.
+pub mod Chunks
 pub mod CoderState
 pub mod CoderLoop
 pub mod Filling

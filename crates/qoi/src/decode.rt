@@ -9,6 +9,7 @@ ghost use Rattle.qoi.specs.Decoded.{HasHeader, HasRefusedHeader, HasDecoded, Has
 ghost use Rattle.qoi.specs.Raw.{capped_byte_count, image_byte_count};
 
 mod buffered;
+mod chunks;
 mod fast;
 mod pixels;
 mod reader;
@@ -342,10 +343,8 @@ impl<R: Reader> Decoder<R> {
     /// `OutputBufferTooSmall`, and each leaves the decoder as it does there.
     ///
     /// Memory is reserved at once, but uses only address space until it is written. It is written
-    /// only if the bytes ahead could hold the image: bytes in memory that are too few for its
-    /// pixels, whatever they are, are `UnexpectedBufferEnd` before that. (Every 62 pixels take a
-    /// byte at least, and the end marker has eight.) For a stream it is always written, since a
-    /// stream can't be asked how many bytes it has.
+    /// by steps of 16384 pixels, each of which is decoded before the next: whatever the header
+    /// says, at most 248 bytes for each byte taken, and a step.
     pub fn decode_to_vec(&mut self, alloc: Global) -> Result<Vec<u8>>
         // A success: the vector is the image at the front of the bytes ahead.
         ensures decoded { IfOk result (λ out. HasDecoded self.old
@@ -360,11 +359,10 @@ impl<R: Reader> Decoder<R> {
     {
         let size = self.required_buf_len();
         let mut out = Vec::with_capacity(alloc, size)?;
-        if !self.reader.could_hold(self.header.n_pixels()) {
-            return Err(Error::UnexpectedBufferEnd);
-        }
-        out.resize(size, 0)?;
-        self.decode_to_buf(&mut out)?;
+        let channels = self.channels.as_u8();
+        let file_channels = self.header.channels.as_u8();
+        self.reader
+            .decode_image_to_vec(&mut out, size, channels, file_channels)?;
         Ok(out)
     }
 }

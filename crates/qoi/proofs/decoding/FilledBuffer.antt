@@ -26,7 +26,7 @@ length-pixel_bytes f c p (inl e) = rw e refl
 length-pixel_bytes f c p (inr e) = rw e refl
 
 -- c bytes a pixel
-length-output : (f c : ℕ) (ps : List RgbaPixel) → IsChannels c → length (output f c ps) ≡ c * length ps
+pub length-output : (f c : ℕ) (ps : List RgbaPixel) → IsChannels c → length (output f c ps) ≡ c * length ps
 length-output f c [] is = omega arith
 length-output f c (p ∷ ps) is =
     let e = length-append (pixel_bytes f c p) (output f c ps) in

@@ -1,12 +1,13 @@
 -- The size of an image in bytes and in pixels.
-use Rattle.std.proofs.Common.{◌≡◌, ℕ, ◌*◌, ◌/◌, ◌≤◌, inl, inr, List, length, take, arith}
+use Rattle.std.proofs.Common.{◌≡◌, ℕ, ◌*◌, ◌/◌, ◌≤◌, inl, inr, List, Option, length, take, ap, ◌∙◌, arith}
 use Rattle.std.proofs.lemmas.List.{length-take-le}
 use Rattle.qoi.specs.declared.types.Channels.{Channels}
 use Rattle.qoi.specs.declared.types.Channels.TheVariants.{Rgb, Rgba}
 use Rattle.qoi.specs.declared.header.Header.{Header}
-use Rattle.qoi.specs.Qoi.{channels_number, pixel_count}
+use Rattle.qoi.specs.Qoi.{channels_number, meaning, pixel_count}
 use Rattle.qoi.specs.Raw.{IsChannels, byte_count}
-use Rattle.qoi.specs.Decoding.{least_byte_count}
+use Rattle.qoi.specs.Decoding.{least_byte_count, ReadsImage}
+use Rattle.qoi.proofs.decoding.FilledBuffer.{length-output}
 
 -- there are three or four channels
 pub channels_are : (c : Channels) (n : ℕ) → n ≡ channels_number c → IsChannels n
@@ -18,6 +19,16 @@ pub image_pixels : (h : Header) (c : Channels) (size n : ℕ) (buf : List ℕ) �
     → n ≡ channels_number c → length (take size buf) / n ≡ pixel_count h
 image_pixels h Rgb size n buf e le is = rw (length-take-le size buf le, is) (omega arith)
 image_pixels h Rgba size n buf e le is = rw (length-take-le size buf le, is) (omega arith)
+
+-- the same of that many bytes
+pub pixels_of_size : (h : Header) (c : Channels) (size n : ℕ) → size ≡ byte_count h (channels_number c) → n ≡ channels_number c → size / n ≡ pixel_count h
+pixels_of_size h Rgb size n e is = rw (e, is) (omega arith)
+pixels_of_size h Rgba size n e is = rw (e, is) (omega arith)
+
+-- how many bytes the pixels that were read have
+pub image_length : (f c n : ℕ) (old new : Option (List ℕ)) (out : List ℕ) → IsChannels c → ReadsImage f c n old new out → length out ≡ c * n
+image_length f c n old new out is r =
+    ap length r.out_is ∙ length-output f c (take n (meaning r.cs)) is ∙ ap (λ k. c * k) (length-take-le n (meaning r.cs) r.reaches.enough)
 
 -- an image that bytes could hold has at most 62 pixels, and so 248 raw bytes, for each of them
 pub bounded_by : (n size : ℕ) (c : Channels) (rest bytes : List ℕ) → least_byte_count n ≤ length rest → length rest ≤ length bytes

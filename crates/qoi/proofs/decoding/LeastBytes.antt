@@ -10,12 +10,12 @@ use Rattle.qoi.proofs.format.Appended.{length-bytes_of, length-meaning}
 use Rattle.qoi.proofs.format.SomeVerdict.{verdict_of}
 
 -- a chunk gives 62 pixels at most
-times_most : (c : Chunk) → IsChunk c → times c ≤ 62
+pub times_most : (c : Chunk) → IsChunk c → times c ≤ 62
 times_most (Run n) is = is.1
 times_most c is = omega arith
 
 -- chunks give 62 pixels at most for each of their bytes
-pixels_most : (past : Past) (cs : List Chunk) → AreChunks cs → length (then_chunks past cs) ≤ length past + 62 * length (chunk_bytes cs)
+pub pixels_most : (past : Past) (cs : List Chunk) → AreChunks cs → length (then_chunks past cs) ≤ length past + 62 * length (chunk_bytes cs)
 pixels_most past [] chunks = omega arith
 pixels_most past (c ∷ cs) chunks =
     omega (

@@ -1,13 +1,13 @@
 -- A decoder between two chunks: what it has taken, filled and seen.
-use Rattle.std.proofs.Common.{◌≡◌, ℕ, suc, ◌*◌, ◌/◌, ◌%◌, ◌<◌, ◌≤◌, inl, inr, List, [], ◌∷◌, ◌++◌, length, take, drop, replicate, min, Option, arith, refl, sym, ap, ◌∙◌, subst, append_assoc, append-nil, length-append, take-append-drop}
+use Rattle.std.proofs.Common.{◌≡◌, ℕ, suc, ◌*◌, ◌/◌, ◌%◌, ◌<◌, ◌≤◌, inl, inr, List, [], ◌∷◌, ◌++◌, length, take, replicate, min, Option, None, Some, IfSome, arith, refl, sym, ap, ◌∙◌, subst, append_assoc, append-nil, length-append}
 use Rattle.qoi.specs.Qoi.{Past, AreBytes, start, bytes_of, chunk_bytes, pixel_after, times, then_chunk, then_chunks, meaning, Reaches}
 use Rattle.std.specs.Io.KnownBytes.{Consumes}
 use Rattle.std.proofs.KnownBytes.{Consumes-trans}
 use Rattle.qoi.specs.Raw.{IsChannels, output}
-use Rattle.qoi.specs.inner.Filling.{Buffer, Filling, filling, HasFilled, DecodesChunk, DecoderBetween, IsFront, IsFrontAfter}
+use Rattle.qoi.specs.inner.Filling.{Buffer, Filling, filling, HasFilled, DecodesChunk, DecoderBetween, IsFrontAfter}
 use Rattle.qoi.specs.inner.Hashed.{pixel_of_lanes, HoldsSeen}
 use Rattle.qoi.specs.Verdicts.{IsPartOfChunk, EndsBefore, AreCut}
-use Rattle.qoi.specs.Decoding.{ReadsPixels, StreamsPixels}
+use Rattle.qoi.specs.Decoding.{StreamsPixels}
 use Rattle.qoi.proofs.format.ChunkSteps.{times_some, then_chunks-append, each_append}
 use Rattle.std.proofs.lemmas.Grind.{flat_map-append}
 use Rattle.qoi.proofs.format.SomeVerdict.{reading_of}
@@ -68,19 +68,9 @@ reads_all {f} {c} {n} {Taken} {now} is s full =
     let all = filled_all f c n now.buffer (then_chunks [] s.cs) is s.filled full in
     (record { stays_below = s.stays_below; enough = rw length-meaning all.0 }, all.1)
 
--- the bytes of a slice that are taken, and those after them
-abbrev pub SplitAt : List ℕ → List ℕ → List ℕ → Type 0
-SplitAt bytes rest taken = bytes ≡ taken ++ rest
-
 -- what was taken, said in another way
 pub taken_as : {f c n : ℕ} {Taken Taken' : List ℕ → Type 0} {now : Filling} → (s : DecoderBetween f c n Taken now) → Taken' (chunk_bytes s.cs) → DecoderBetween f c n Taken' now
 taken_as s taken = record { cs = s.cs; chunks = s.chunks; stays_below = s.stays_below; taken = taken; filled = s.filled; has_seen = s.has_seen; within = s.within; whole = s.whole }
-
--- if the bytes at the front were taken, the others are left
-pub split_front : {f c n : ℕ} {bytes rest : List ℕ} {now : Filling} (size : ℕ) → rest ≡ drop size bytes → DecoderBetween f c n (IsFront bytes size) now
-    → DecoderBetween f c n (SplitAt bytes rest) now
-split_front {bytes = bytes} size left s =
-    taken_as s (sym (take-append-drop size bytes) ∙ ap (λ z. z ++ drop size bytes) (sym s.taken) ∙ ap (λ z. chunk_bytes s.cs ++ z) (sym left))
 
 -- no byte of a slice was taken yet
 pub front_of_none : {f c n : ℕ} {Taken : List ℕ → Type 0} {now : Filling} (bytes : List ℕ) → (s : DecoderBetween f c n Taken now) → DecoderBetween f c n (IsFrontAfter (chunk_bytes s.cs) bytes 0) now
@@ -92,22 +82,11 @@ pub front_consumed : {f c n : ℕ} {now : Filling} (old middle new : Option (Lis
 front_consumed old middle new before bytes size so_far took s =
     taken_as s (subst (Consumes old new) (sym s.taken) (Consumes-trans old middle new before (take size bytes) so_far took))
 
--- more of a slice
-pub split_more : (bytes rest after more : List ℕ) → rest ≡ more ++ after → (taken : List ℕ) → SplitAt bytes rest taken → SplitAt bytes after (taken ++ more)
-split_more bytes rest after more e taken split = split ∙ ap (λ z. taken ++ z) e ∙ sym (append_assoc taken more after)
-
--- the chunks of a slice whose pixels fill the buffer
-pub reads_pixels : {f c n : ℕ} {bytes rest : List ℕ} {now : Filling} → IsChannels c → DecoderBetween f c n (SplitAt bytes rest) now
-    → length now.buffer.out ≤ now.buffer.at
-    → ReadsPixels f c n bytes rest now.buffer.out
-reads_pixels is s full =
-    let all = reads_all is s full in
-    record { cs = s.cs; has = record { chunks = s.chunks; stays_below = s.stays_below; split = s.taken }; reaches = all.0; out_is = all.1 }
-
 -- if there is room and fewer bytes are left than an end marker has, the bytes are cut
-pub few_left : {f c n : ℕ} {bytes rest : List ℕ} {now : Filling} → IsChannels c → DecoderBetween f c n (SplitAt bytes rest) now → now.buffer.at < length now.buffer.out
-    → AreBytes rest → length rest < 8 → AreCut n bytes
-few_left {f} {c} {n} {bytes} {rest} {now} is s inside fits few =
+pub few_left : {f c n : ℕ} {now : Filling} (start : Option (List ℕ)) (rest : List ℕ) → IsChannels c → DecoderBetween f c n (Consumes start (Some rest)) now
+    → now.buffer.at < length now.buffer.out → AreBytes rest → length rest < 8 → IfSome start (AreCut n)
+few_left None rest is s inside fits few = tt
+few_left {n = n} (Some bytes) rest is s inside fits few =
     let r = reading_of (suc (length rest)) n (then_chunks [] s.cs) rest (omega arith) fits in
     let all = s.cs ++ r.found in
     let pushed = then_chunks-append [] s.cs r.found in

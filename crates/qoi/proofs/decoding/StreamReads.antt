@@ -1,5 +1,5 @@
--- What was read from a stream, piece after piece.
-use Rattle.std.proofs.Common.{◌≡◌, ℕ, zero, suc, ◌+◌, ◌<◌, ◌≤◌, ◌-◌, ◌⊎◌, inl, inr, List, [], ◌∷◌, ◌++◌, length, get_or, take, drop, take-append-drop, Option, Result, IfErr, arith, refl, sym, ap, ◌∙◌, subst, append-nil}
+-- What was read from a stream, piece after piece, and why an image is refused.
+use Rattle.std.proofs.Common.{◌≡◌, ℕ, zero, suc, ◌+◌, ◌<◌, ◌≤◌, ◌-◌, ◌⊎◌, inl, inr, List, [], ◌∷◌, ◌++◌, length, get_or, take, drop, take-append-drop, Bool, true, false, Option, None, Some, Result, IfSome, IfErr, arith, refl, sym, ap, ◌∙◌, subst, append-nil}
 use Rattle.std.proofs.lemmas.List.{take-append-le, length-take-le}
 use Rattle.std.proofs.Math.Seq.{take-append-add}
 use Rattle.std.specs.Io.KnownBytes.{Consumes}
@@ -7,7 +7,7 @@ use Rattle.std.proofs.KnownBytes.{Consumes-trans}
 use Rattle.std.proofs.lemmas.Result.{IfErr-weaker}
 use borrow.Rule.Slice.PartMut.{put_mid, post_of}
 use Rattle.qoi.specs.declared.error.Error.{Error}
-use Rattle.qoi.specs.declared.error.Error.TheVariants.{InvalidPadding, IoError}
+use Rattle.qoi.specs.declared.error.Error.TheVariants.{InvalidPadding, IoError, UnexpectedBufferEnd}
 use Rattle.qoi.specs.declared.chunk.Chunk.{Chunk}
 use Rattle.qoi.specs.declared.chunk.Chunk.TheVariants.{Place, Diff, Run, Rgb, Rgba}
 use Rattle.qoi.specs.inner.Filling.{Filling, DecodesChunk}
@@ -15,7 +15,8 @@ use Rattle.qoi.proofs.format.ChunksApart.{chunks_apart}
 use Rattle.std.proofs.lemmas.Bool.{cases_lt}
 use Rattle.qoi.specs.Qoi.{AreBytes, IsChunk, AreChunks, bytes_of, chunk_bytes, Reaches}
 use Rattle.qoi.specs.Verdicts.{IsPartOfChunk, EndsBefore, AreCut}
-use Rattle.qoi.specs.Decoding.{StreamsPixels, RefusesTaken, RefusesTakenMarker}
+use Rattle.qoi.specs.Decoding.{StreamsPixels, RefusesBytes, RefusesMarker, RefusesTaken, RefusesTakenMarker}
+use Rattle.qoi.specs.inner.Chunks.{RefusesAfter, RefusesChunks}
 use Rattle.qoi.proofs.format.PartOfChunk.{byte_and, part_luma, part_rgb, part_rgba}
 
 -- the front of a buffer after a read past what was filled
@@ -121,7 +122,7 @@ refused_after n cs chunks reaches taken InvalidPadding (eight, other) = (
 refused_after n cs chunks reaches taken _ none = none
 
 -- what was taken if the marker was refused
-pub marker_refused : {T : Type 0} (f c n : ℕ) (old now new : Option (List ℕ)) (out : List ℕ) (r : Result T Error) → StreamsPixels f c n old now out
+marker_refused : {T : Type 0} (f c n : ℕ) (old now new : Option (List ℕ)) (out : List ℕ) (r : Result T Error) → StreamsPixels f c n old now out
     → IfErr r (λ e. (taken : List ℕ) × Consumes now new taken × RefusesTakenMarker taken e)
     → IfErr r (λ e. (taken : List ℕ) × Consumes old new taken × RefusesTaken n taken e)
 marker_refused f c n old now new out r s why =
@@ -132,3 +133,44 @@ marker_refused f c n old now new out r s why =
       Consumes-trans old now new (chunk_bytes s.cs) taken (subst (Consumes old now) (append-nil (chunk_bytes s.cs)) s.taken) took,
       refused_after n s.cs s.chunks s.reaches taken e refused,
     )) why
+
+-- why bytes are refused, if what follows their chunks is
+bytes_refused : (n : ℕ) (bytes rest : List ℕ) (cs : List Chunk) → AreChunks cs → Reaches n cs → bytes ≡ chunk_bytes cs ++ rest
+    → (e : Error) → RefusesMarker rest e → RefusesBytes n bytes e
+bytes_refused n bytes rest cs chunks reaches split UnexpectedBufferEnd few = (
+  cs,
+  rest,
+  record {
+    has = record { chunks = chunks; stays_below = reaches.stays_below; split = split };
+    ends = inr (reaches.enough, few);
+  },
+)
+bytes_refused n bytes rest cs chunks reaches split InvalidPadding (eight, more, size, other, is) = (
+  more,
+  (
+    cs,
+    eight,
+    record {
+      has = record { chunks = chunks; stays_below = reaches.stays_below; split = split ∙ ap (λ z. chunk_bytes cs ++ z) is };
+      enough = reaches.enough;
+      length_is = size;
+      other = other;
+    },
+  ),
+)
+bytes_refused n bytes rest cs chunks reaches split _ none = none
+
+-- the same, if they are known
+known_refused : (f c n : ℕ) (old now : Option (List ℕ)) (out : List ℕ) → StreamsPixels f c n old now out → (e : Error)
+    → IfSome now (λ rest. RefusesMarker rest e) → IfSome old (λ bytes. RefusesBytes n bytes e)
+known_refused f c n None now out s e why = tt
+known_refused f c n (Some bytes) None out s e why = absurd s.taken
+known_refused f c n (Some bytes) (Some rest) out s e why =
+    bytes_refused n bytes rest s.cs s.chunks s.reaches (s.taken ∙ ap (λ z. z ++ rest) (append-nil (chunk_bytes s.cs))) e why
+
+-- why an image is refused whose marker is refused, whatever the reader
+pub after_refused : {T : Type 0} (in_memory : Bool) (f c n : ℕ) (old now new : Option (List ℕ)) (out : List ℕ) (r : Result T Error) → StreamsPixels f c n old now out
+    → IfErr r (RefusesAfter in_memory now new) → IfErr r (RefusesChunks in_memory n old new)
+after_refused true f c n old now new out r s why =
+    IfErr-weaker r (RefusesAfter true now new) (RefusesChunks true n old new) (λ e is. known_refused f c n old now out s e is) why
+after_refused false f c n old now new out r s why = marker_refused f c n old now new out r s why

@@ -71,10 +71,6 @@ pub record DecoderBetween (file_channels channels n : ℕ) (Taken : List ℕ →
   pub within : now.buffer.at ≤ length now.buffer.out
   pub whole : now.buffer.at % channels ≡ 0
 
--- the first `size` bytes were taken
-abbrev pub IsFront : List ℕ → ℕ → List ℕ → Type 0
-IsFront bytes size taken = taken ≡ take size bytes
-
 -- the first `size` bytes were taken after those that were taken before
 abbrev pub IsFrontAfter : List ℕ → List ℕ → ℕ → List ℕ → Type 0
 IsFrontAfter before bytes size taken = taken ≡ before ++ take size bytes

@@ -1,12 +1,16 @@
 //! Decoding an image from a reader with a buffer of its own.
-ghost use Rattle.std.specs.Prelude.{◌≡◌, ℕ, ◌/◌, ◌%◌, ◌<◌, ◌≤◌, List, [], length, Option, IfOk, IfErr, OnOk, OnErr};
+ghost use Rattle.std.specs.Prelude.{ℕ, ◌+◌, ◌<◌, ◌≤◌, List, [], length, IsTrue, IsFalse, false, Option, IfOk, OnErr};
 ghost use Rattle.std.specs.Io.KnownBytes.{Consumes};
 ghost use Rattle.qoi.specs.Raw.{IsChannels};
 ghost use Rattle.qoi.specs.Verdicts.{EndsBefore};
-ghost use Rattle.qoi.specs.Decoding.{HasTaken, StreamsPixels, ReadsImage, RefusesTaken};
+ghost use Rattle.qoi.specs.Decoding.{HasTaken};
+ghost use Rattle.qoi.specs.declared.decode.pixels.TheConstants.{RUN_ROOM};
 ghost use Rattle.qoi.specs.inner.Filling.{filling, DecoderBetween};
 
+use crate::decode::chunks::Chunks;
 use crate::decode::fast::{OUTPUT_ROOM, Progress};
+use crate::decode::pixels::RUN_ROOM;
+use crate::decode::reader::Buffered;
 use crate::decode::stream::{next_chunk, stream_marker};
 use crate::error::Result;
 use crate::hashed::Hashed;
@@ -34,6 +38,7 @@ fn chunks_in_buffer<R: BufRead, const N: usize, const F: usize>(
         → IfOk result (λ now. DecoderBetween F N n (Consumes start (R.remaining reader.new))
         (filling table.new now.0 out.new now.1)) }
     ensures on { IfOk result (λ now. at ≤ now.1) }
+    ensures below { at < length out.old → IfOk result (λ now. now.1 < length out.new) }
     ensures failed { OnErr result
         (Consumes (R.remaining reader.old) (R.remaining reader.new) []) }
     ensures unfilled { OnErr result (at < length out.old) }
@@ -47,44 +52,78 @@ fn chunks_in_buffer<R: BufRead, const N: usize, const F: usize>(
     Ok((now.last, now.written))
 }
 
-// Decodes chunks from a reader with a buffer until `out` is full, and takes no byte past the last
-// of them. Each turn reads one chunk, which may stand across two fillings of the buffer, and then
-// takes those that the buffer shows.
-fn buffered_chunks<R: BufRead, const N: usize, const F: usize>(
+// Decodes chunks from a reader with a buffer, after the pixel `last` and the first `at` bytes of
+// `out`: if `ROOM`, as long as `out` has room for the blocks of any run, else until it is full.
+// Takes no byte past the last chunk. Each turn reads one chunk, which may stand across two fillings
+// of the buffer, and then takes those that the buffer shows.
+#[inline(always)]
+fn decode_chunks<R: BufRead, const N: usize, const F: usize, const ROOM: bool>(
     reader: &mut R,
+    table: &mut HashedTable,
+    last: Hashed,
     out: &mut [u8],
-) -> io::Result<()>
+    at: usize,
+) -> io::Result<(Hashed, usize)>
     requires channels { IsChannels N }
-    requires whole { length out.old % N ≡ 0 }
-    ensures read { OnOk result (StreamsPixels F N (length out.old / N)
-        (R.remaining reader.old) (R.remaining reader.new) out.new) }
-    ensures failed { OnErr result (HasTaken (R.remaining reader.old) (R.remaining reader.new)
-        (EndsBefore (length out.old / N))) }
+    requires between { (n : ℕ) × (start : Option (List ℕ))
+        × DecoderBetween F N n (Consumes start (R.remaining reader.old))
+        (filling table.old last out.old at) }
+    ensures between { (n : ℕ) (start : Option (List ℕ))
+        → DecoderBetween F N n (Consumes start (R.remaining reader.old))
+        (filling table.old last out.old at)
+        → IfOk result (λ now. DecoderBetween F N n (Consumes start (R.remaining reader.new))
+        (filling table.new now.0 out.new now.1)) }
+    ensures below { IsTrue ROOM → at < length out.old
+        → IfOk result (λ now. now.1 < length out.new) }
+    ensures filled { IsTrue ROOM → IfOk result (λ now. length out.new < now.1 + RUN_ROOM) }
+    ensures full { IsFalse ROOM → IfOk result (λ now. length out.new ≤ now.1) }
+    ensures failed { (n : ℕ) (start : Option (List ℕ))
+        → DecoderBetween F N n (Consumes start (R.remaining reader.old))
+        (filling table.old last out.old at)
+        → OnErr result (HasTaken start (R.remaining reader.new) (EndsBefore n)) }
 {
-    let mut table = HashedTable::new();
-    let mut last = Hashed::start();
-    let mut at = 0;
-    while at < out.len() {
-        let decoded = next_chunk::<R, N, F, false>(reader, &mut table, last, out, at)?;
-        let now = chunks_in_buffer::<R, N, F>(reader, &mut table, decoded.last, out, decoded.at)?;
+    let least = if ROOM { RUN_ROOM } else { 1 };
+    let mut last = last;
+    let mut at = at;
+    while least <= out.len() - at {
+        let decoded = next_chunk::<R, N, F, ROOM>(reader, table, last, out, at)?;
+        let now = chunks_in_buffer::<R, N, F>(reader, table, decoded.last, out, decoded.at)?;
         last = now.0;
         at = now.1;
     }
-    Ok(())
+    Ok((last, at))
 }
 
-// Decodes chunks and the end marker from a reader with a buffer, and takes no byte past them.
-pub(super) fn buffered_image<R: BufRead, const N: usize, const F: usize>(
-    reader: &mut R,
-    out: &mut [u8],
-) -> Result<()>
-    requires channels { IsChannels N }
-    requires whole { length out.old % N ≡ 0 }
-    ensures read { OnOk result (ReadsImage F N (length out.old / N)
-        (R.remaining reader.old) (R.remaining reader.new) out.new) }
-    ensures refused { IfErr result (λ e. HasTaken (R.remaining reader.old) (R.remaining reader.new)
-        (λ taken. RefusesTaken (length out.old / N) taken e)) }
-{
-    buffered_chunks::<R, N, F>(reader, out)?;
-    stream_marker(reader)
+impl<R: BufRead, const N: usize, const F: usize> Chunks<N, F> for Buffered<R> {
+    ghost ahead = { R.remaining };
+
+    ghost in_memory = { false };
+
+    #[inline(always)]
+    fn some_chunks(
+        &mut self,
+        table: &mut HashedTable,
+        last: Hashed,
+        out: &mut [u8],
+        at: usize,
+    ) -> Result<(Hashed, usize)> {
+        let now = decode_chunks::<R, N, F, true>(&mut self.0, table, last, out, at)?;
+        Ok(now)
+    }
+
+    #[inline(always)]
+    fn all_chunks(
+        &mut self,
+        table: &mut HashedTable,
+        last: Hashed,
+        out: &mut [u8],
+        at: usize,
+    ) -> Result<()> {
+        decode_chunks::<R, N, F, false>(&mut self.0, table, last, out, at)?;
+        Ok(())
+    }
+
+    fn marker(&mut self) -> Result<()> {
+        stream_marker(&mut self.0)
+    }
 }

@@ -134,6 +134,7 @@ impl Progress {
             → FastBetween F N n before bytes.now result table.new out.new }
         ensures taken { (self.taken < result.taken) × (result.taken ≤ self.taken + 5) }
         ensures written { self.written ≤ result.written }
+        ensures most { result.written ≤ self.written + 4 }
         ensures byte { result.next < 256 }
     {
         let last = self.last.after_full(&bytes[self.taken..]);
@@ -165,6 +166,7 @@ impl Progress {
             → FastBetween F N n before bytes.now result table.new out.new }
         ensures taken { result.taken ≡ self.taken + 1 }
         ensures written { self.written ≤ result.written }
+        ensures most { result.written < self.written + RUN_ROOM }
         ensures byte { result.next < 256 }
     {
         let count = (self.next - (QOI_OP_RUN as u32 - 1)) as usize;
@@ -197,6 +199,7 @@ impl Progress {
             (filling table.new result.last out.new result.written) }
         ensures within { result.taken ≤ length bytes.now }
         ensures written { at ≤ result.written }
+        ensures below { at < length out.old → result.written < length out.new }
     {
         let mut now = Progress {
             last,

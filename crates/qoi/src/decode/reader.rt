@@ -1,13 +1,14 @@
 //! Where a decoder takes its bytes from: bytes in memory, a stream, or a reader with a buffer.
-ghost use Rattle.std.specs.Prelude.{◌≡◌, ◌↔◌, IsTrue, IsFalse, ℕ, ◌/◌, ◌%◌, List, length, Option, Some, IfErr, OnOk, IsSome, Bool, true, false, Err, refl};
+ghost use Rattle.std.specs.Prelude.{◌≡◌, ◌≤◌, ℕ, ◌/◌, ◌%◌, List, length, Option, Some, IfErr, OnOk, IsSome, Bool, true, false, Err, refl};
+ghost use Rattle.std.specs.Vec.{vec_len, vec_capacity};
 ghost use Rattle.qoi.specs.Raw.{AreChannels};
-ghost use Rattle.qoi.specs.Decoding.{CouldHold, ReadsImage, ReadsHeader, RefusesImage};
+ghost use Rattle.qoi.specs.Decoding.{ReadsImage, ReadsHeader, RefusesImage};
 ghost use Rattle.qoi.specs.declared.error.Error.{Error};
 
 use crate::consts::QOI_HEADER_SIZE;
-use crate::decode::buffered::buffered_image;
-use crate::decode::slice::{could_hold, slice_image};
-use crate::decode::stream::{read_exact, stream_image};
+use crate::decode::chunks::{image_to_buf, image_to_vec};
+use crate::decode::slice::{slice_image, slice_image_to_vec};
+use crate::decode::stream::read_exact;
 use crate::error::{Error, Result};
 use crate::header::Header;
 use std::io::{BufRead, Read};
@@ -28,19 +29,6 @@ pub trait Reader: Sized {
     /// `InvalidImageDimensions`.
     fn decode_header(&mut self) -> Result<Header>
         ensures { ReadsHeader in_memory (ahead self.old) (ahead self.new) result };
-
-    /// Whether the bytes ahead could hold the chunks of an image of `n_pixels` pixels, and the end
-    /// marker.
-    ///
-    /// In memory: whether they are at least `n_pixels` / 62, rounded up, plus 8, since the longest
-    /// run has 62 pixels and the end marker eight bytes. Fewer are cut, whatever they are. On a
-    /// stream: always, since it can't be asked how many it has.
-    fn could_hold(&self, n_pixels: usize) -> bool
-        ensures holds { IsTrue result ↔ CouldHold in_memory n_pixels (ahead self.now) }
-        // If it returns false, a caller may refuse with `UnexpectedBufferEnd` and take nothing: the
-        // bytes are in memory and cut.
-        ensures cut { IsFalse result → RefusesImage in_memory n_pixels
-            (ahead self.now) (ahead self.now) Error.UnexpectedBufferEnd };
 
     /// Reads chunks until `out` is full of pixels, and then the end marker (QOI specification 1.0,
     /// "File Format" and "Data").
@@ -64,6 +52,35 @@ pub trait Reader: Sized {
             → (result ≡ Err (Error.InvalidChannels channels))
             × (self.new ≡ self.old) × (out.new ≡ out.old) };
 
+    /// Like `decode_image`, into an empty vector, which then has `size` bytes.
+    ///
+    /// The caller sees to it that the vector has capacity for `size` bytes, and that they are a
+    /// multiple of `channels`. A reader need not have this method: without it the vector is filled
+    /// with zeros, and `decode_image` decodes into it. The readers here grow the vector by steps of
+    /// 16384 pixels, each of which is decoded before the next.
+    fn decode_image_to_vec(
+        &mut self,
+        out: &mut Vec<u8>,
+        size: usize,
+        channels: u8,
+        file_channels: u8,
+    ) -> Result<()>
+        requires whole { AreChannels file_channels channels → size % channels ≡ 0 }
+        requires empty { vec_len out.old ≡ 0 }
+        requires room { size ≤ vec_capacity out.old }
+        ensures read { OnOk result (AreChannels file_channels channels
+            × ReadsImage file_channels channels (size / channels)
+            (ahead self.old) (ahead self.new) out.new.items) }
+        ensures refused { AreChannels file_channels channels
+            → IfErr result (RefusesImage in_memory (size / channels)
+            (ahead self.old) (ahead self.new)) }
+        ensures channels { (AreChannels file_channels channels → ⊥)
+            → (result ≡ Err (Error.InvalidChannels channels)) × (self.new ≡ self.old) }
+    {
+        out.resize(size, 0)?;
+        self.decode_image(out, channels, file_channels)
+    }
+
     /// The bytes of a reader in memory are stated.
     ghost stated: { (reader : Self) → in_memory ≡ true → IsSome (ahead reader) };
 }
@@ -71,7 +88,7 @@ pub trait Reader: Sized {
 /// Bytes in memory, from which decoding takes at the front. A contract sees the bytes that are
 /// left.
 #[derive(Drop)]
-pub struct Bytes<'a>(&'a [u8]);
+pub struct Bytes<'a>(pub(super) &'a [u8]);
 
 impl<'a> Model for Bytes<'a> {
     ghost Value = { List ℕ };
@@ -110,15 +127,27 @@ impl<'a> Reader for Bytes<'a> {
         Ok(header)
     }
 
-    fn could_hold(&self, n_pixels: usize) -> bool {
-        could_hold(self.0, n_pixels)
-    }
-
     fn decode_image(&mut self, out: &mut [u8], channels: u8, file_channels: u8) -> Result<()> {
         self.0 = match (channels, file_channels) {
             (3, 3) | (3, 4) => slice_image::<3, 3>(self.0, out)?,
             (4, 3) => slice_image::<4, 3>(self.0, out)?,
             (4, 4) => slice_image::<4, 4>(self.0, out)?,
+            _ => return Err(Error::InvalidChannels { channels }),
+        };
+        Ok(())
+    }
+
+    fn decode_image_to_vec(
+        &mut self,
+        out: &mut Vec<u8>,
+        size: usize,
+        channels: u8,
+        file_channels: u8,
+    ) -> Result<()> {
+        self.0 = match (channels, file_channels) {
+            (3, 3) | (3, 4) => slice_image_to_vec::<3, 3>(self.0, out, size)?,
+            (4, 3) => slice_image_to_vec::<4, 3>(self.0, out, size)?,
+            (4, 4) => slice_image_to_vec::<4, 4>(self.0, out, size)?,
             _ => return Err(Error::InvalidChannels { channels }),
         };
         Ok(())
@@ -138,15 +167,26 @@ impl<R: Read> Reader for R {
         Header::decode(&bytes)
     }
 
-    fn could_hold(&self, _n_pixels: usize) -> bool {
-        true
-    }
-
     fn decode_image(&mut self, out: &mut [u8], channels: u8, file_channels: u8) -> Result<()> {
         match (channels, file_channels) {
-            (3, 3) | (3, 4) => stream_image::<R, 3, 3>(self, out),
-            (4, 3) => stream_image::<R, 4, 3>(self, out),
-            (4, 4) => stream_image::<R, 4, 4>(self, out),
+            (3, 3) | (3, 4) => image_to_buf::<R, 3, 3>(self, out),
+            (4, 3) => image_to_buf::<R, 4, 3>(self, out),
+            (4, 4) => image_to_buf::<R, 4, 4>(self, out),
+            _ => Err(Error::InvalidChannels { channels }),
+        }
+    }
+
+    fn decode_image_to_vec(
+        &mut self,
+        out: &mut Vec<u8>,
+        size: usize,
+        channels: u8,
+        file_channels: u8,
+    ) -> Result<()> {
+        match (channels, file_channels) {
+            (3, 3) | (3, 4) => image_to_vec::<R, 3, 3>(self, out, size),
+            (4, 3) => image_to_vec::<R, 4, 3>(self, out, size),
+            (4, 4) => image_to_vec::<R, 4, 4>(self, out, size),
             _ => Err(Error::InvalidChannels { channels }),
         }
     }
@@ -155,7 +195,7 @@ impl<R: Read> Reader for R {
 /// A reader with a buffer of its own, such as a `BufReader`, from which decoding takes the chunks
 /// that the buffer shows. A contract sees the reader itself.
 #[derive(Clone, Drop)]
-pub struct Buffered<R>(R);
+pub struct Buffered<R>(pub(super) R);
 
 impl<R> Model for Buffered<R> {
     ghost Value = { R };
@@ -200,15 +240,26 @@ impl<R: BufRead> Reader for Buffered<R> {
         self.0.decode_header()
     }
 
-    fn could_hold(&self, n_pixels: usize) -> bool {
-        self.0.could_hold(n_pixels)
-    }
-
     fn decode_image(&mut self, out: &mut [u8], channels: u8, file_channels: u8) -> Result<()> {
         match (channels, file_channels) {
-            (3, 3) | (3, 4) => buffered_image::<R, 3, 3>(&mut self.0, out),
-            (4, 3) => buffered_image::<R, 4, 3>(&mut self.0, out),
-            (4, 4) => buffered_image::<R, 4, 4>(&mut self.0, out),
+            (3, 3) | (3, 4) => image_to_buf::<Buffered<R>, 3, 3>(self, out),
+            (4, 3) => image_to_buf::<Buffered<R>, 4, 3>(self, out),
+            (4, 4) => image_to_buf::<Buffered<R>, 4, 4>(self, out),
+            _ => Err(Error::InvalidChannels { channels }),
+        }
+    }
+
+    fn decode_image_to_vec(
+        &mut self,
+        out: &mut Vec<u8>,
+        size: usize,
+        channels: u8,
+        file_channels: u8,
+    ) -> Result<()> {
+        match (channels, file_channels) {
+            (3, 3) | (3, 4) => image_to_vec::<Buffered<R>, 3, 3>(self, out, size),
+            (4, 3) => image_to_vec::<Buffered<R>, 4, 3>(self, out, size),
+            (4, 4) => image_to_vec::<Buffered<R>, 4, 4>(self, out, size),
             _ => Err(Error::InvalidChannels { channels }),
         }
     }

@@ -1,75 +1,103 @@
 //! Decoding an image from bytes in memory.
-ghost use Rattle.std.specs.Prelude.{◌≡◌, ◌↔◌, ◌≤◌, IsTrue, IsFalse, ℕ, ◌/◌, ◌%◌, ◌++◌, length, Some, MatchOption, IfOk, IfErr};
+ghost use Rattle.std.specs.Prelude.{◌≡◌, ◌+◌, ◌<◌, ◌≤◌, IsTrue, IsFalse, ℕ, ◌/◌, ◌%◌, ◌++◌, List, length, true, Option, Some, IfSome, MatchOption, IfOk, IfErr};
+ghost use Rattle.std.specs.Vec.{vec_len, vec_capacity};
+ghost use Rattle.std.specs.Io.KnownBytes.{Consumes};
 ghost use Rattle.qoi.specs.Raw.{IsChannels};
 ghost use Rattle.qoi.specs.Qoi.{end_marker};
-ghost use Rattle.qoi.specs.Decoding.{least_byte_count, ReadsPixels, ReadsImage, RefusesMarker, RefusesBytes};
+ghost use Rattle.qoi.specs.Decoding.{ReadsImage, RefusesMarker, RefusesBytes};
 ghost use Rattle.qoi.specs.Verdicts.{AreCut};
-ghost use Rattle.qoi.specs.inner.Filling.{IsFront, filling, DecoderBetween};
+ghost use Rattle.qoi.specs.declared.decode.pixels.TheConstants.{RUN_ROOM};
+ghost use Rattle.qoi.specs.inner.Filling.{filling, DecoderBetween};
 
-use crate::consts::{QOI_PADDING, QOI_PADDING_SIZE, QOI_RUN_MAX};
+use crate::consts::{QOI_PADDING, QOI_PADDING_SIZE};
+use crate::decode::chunks::{Chunks, image_to_buf, image_to_vec};
 use crate::decode::fast::Progress;
-use crate::decode::pixels::decode_chunk;
+use crate::decode::pixels::{RUN_ROOM, decode_chunk};
+use crate::decode::reader::Bytes;
 use crate::error::{Error, Result};
 use crate::hashed::Hashed;
 use crate::table::HashedTable;
 
-// Whether the bytes could hold the chunks of `n_pixels` pixels, and the end marker: a chunk gives
-// 62 pixels at most. Otherwise they are cut, whatever they are.
-#[tactic(auto, using(crate::proofs::decoding::LeastBytes::few_are_cut))]
-pub(super) fn could_hold(data: &[u8], n_pixels: usize) -> bool
-    ensures holds { IsTrue result ↔ (least_byte_count n_pixels ≤ length «data».now) }
-    ensures cut { IsFalse result → AreCut n_pixels «data».now }
-{
-    data.len() >= n_pixels.div_ceil(QOI_RUN_MAX) + QOI_PADDING_SIZE
+// What is left between two chunks: the last pixel, the bytes ahead, and how much of the output is
+// written.
+#[derive(Clone, Copy)]
+struct Left<'a> {
+    last: Hashed,
+    rest: &'a [u8],
+    at: usize,
 }
 
-// Decodes chunks one by one, with every test, until `out` is full, and returns the bytes after
-// them. `None` if fewer than eight bytes are left before that: the file is cut, since its end
-// marker alone has eight.
+// Decodes chunks one by one, with every test, after the pixel `last` and the first `at` bytes of
+// `out`: if `ROOM`, as long as `out` has room for the blocks of any run, else until it is full.
+// `None` if fewer than eight bytes are left before that: the file is cut, since its end marker
+// alone has eight.
 #[inline(never)]
-fn last_chunks<'a, const N: usize, const F: usize>(
+fn last_chunks<'a, const N: usize, const F: usize, const ROOM: bool>(
     table: &mut HashedTable,
-    start: Progress,
+    last: Hashed,
     data: &'a [u8],
     out: &mut [u8],
-) -> Option<&'a [u8]>
+    at: usize,
+) -> Option<Left<'a>>
     requires channels { IsChannels N }
-    requires between { DecoderBetween F N (length out.old / N) (IsFront «data».now start.taken)
-        (filling table.old start.last out.old start.written) }
-    requires within { start.taken ≤ length «data».now }
-    requires whole { length out.old % N ≡ 0 }
-    ensures { MatchOption result (AreCut (length out.old / N) «data».entry.now)
-        (λ rest. ReadsPixels F N (length out.old / N) «data».entry.now rest.now out.new) }
+    requires between { (n : ℕ) × (start : Option (List ℕ))
+        × DecoderBetween F N n (Consumes start (Some «data».now))
+        (filling table.old last out.old at) }
+    ensures between { (n : ℕ) (start : Option (List ℕ))
+        → DecoderBetween F N n (Consumes start (Some «data».entry.now))
+        (filling table.old last out.old at)
+        → MatchOption result ((all : ℕ) → n ≤ all → IfSome start (AreCut all))
+        (λ left. DecoderBetween F N n (Consumes start (Some left.rest.now))
+        (filling table.new left.last out.new left.at)) }
+    ensures below { IsTrue ROOM → at < length out.old
+        → IfSome result (λ left. left.at < length out.new) }
+    ensures filled { IsTrue ROOM → IfSome result (λ left. length out.new < left.at + RUN_ROOM) }
+    ensures full { IsFalse ROOM → IfSome result (λ left. length out.new ≤ left.at) }
 {
-    let mut last = start.last;
-    let (_, mut rest) = data.split_at(start.taken);
-    let mut at = start.written;
-    while at < out.len() {
+    let least = if ROOM { RUN_ROOM } else { 1 };
+    let mut last = last;
+    let mut rest = data;
+    let mut at = at;
+    while least <= out.len() - at {
         if rest.len() < QOI_PADDING_SIZE {
             return None;
         }
-        let decoded = decode_chunk::<N, F, false>(table, last, rest, out, at);
+        let decoded = decode_chunk::<N, F, ROOM>(table, last, rest, out, at);
         let (_, after) = rest.split_at(decoded.taken);
         rest = after;
         last = decoded.last;
         at = decoded.at;
     }
-    Some(rest)
+    Some(Left { last, rest, at })
 }
 
-// Decodes chunks until `out` is full, and returns the bytes after them.
-fn slice_chunks<'a, const N: usize, const F: usize>(
+// The same, by the fast loop while there is room ahead for it.
+#[inline(always)]
+fn slice_chunks<'a, const N: usize, const F: usize, const ROOM: bool>(
+    table: &mut HashedTable,
+    last: Hashed,
     data: &'a [u8],
     out: &mut [u8],
-) -> Option<&'a [u8]>
+    at: usize,
+) -> Option<Left<'a>>
     requires channels { IsChannels N }
-    requires whole { length out.old % N ≡ 0 }
-    ensures { MatchOption result (AreCut (length out.old / N) «data».entry.now)
-        (λ rest. ReadsPixels F N (length out.old / N) «data».entry.now rest.now out.new) }
+    requires between { (n : ℕ) × (start : Option (List ℕ))
+        × DecoderBetween F N n (Consumes start (Some «data».now))
+        (filling table.old last out.old at) }
+    ensures between { (n : ℕ) (start : Option (List ℕ))
+        → DecoderBetween F N n (Consumes start (Some «data».entry.now))
+        (filling table.old last out.old at)
+        → MatchOption result ((all : ℕ) → n ≤ all → IfSome start (AreCut all))
+        (λ left. DecoderBetween F N n (Consumes start (Some left.rest.now))
+        (filling table.new left.last out.new left.at)) }
+    ensures below { IsTrue ROOM → at < length out.old
+        → IfSome result (λ left. left.at < length out.new) }
+    ensures filled { IsTrue ROOM → IfSome result (λ left. length out.new < left.at + RUN_ROOM) }
+    ensures full { IsFalse ROOM → IfSome result (λ left. length out.new ≤ left.at) }
 {
-    let mut table = HashedTable::new();
-    let now = Progress::fast_chunks::<N, F>(&mut table, Hashed::start(), data, out, 0);
-    last_chunks::<N, F>(&mut table, now, data, out)
+    let now = Progress::fast_chunks::<N, F>(table, last, data, out, at);
+    let (_, rest) = data.split_at(now.taken);
+    last_chunks::<N, F, ROOM>(table, now.last, rest, out, now.written)
 }
 
 // Checks that the end marker stands at the front, and returns the bytes after it.
@@ -87,6 +115,47 @@ fn slice_marker(data: &[u8]) -> Result<&[u8]>
     Ok(rest)
 }
 
+impl<'a, const N: usize, const F: usize> Chunks<N, F> for Bytes<'a> {
+    ghost ahead = { Some };
+
+    ghost in_memory = { true };
+
+    #[inline(always)]
+    fn some_chunks(
+        &mut self,
+        table: &mut HashedTable,
+        last: Hashed,
+        out: &mut [u8],
+        at: usize,
+    ) -> Result<(Hashed, usize)> {
+        let Some(left) = slice_chunks::<N, F, true>(table, last, self.0, out, at) else {
+            return Err(Error::UnexpectedBufferEnd);
+        };
+        self.0 = left.rest;
+        Ok((left.last, left.at))
+    }
+
+    #[inline(always)]
+    fn all_chunks(
+        &mut self,
+        table: &mut HashedTable,
+        last: Hashed,
+        out: &mut [u8],
+        at: usize,
+    ) -> Result<()> {
+        let Some(left) = slice_chunks::<N, F, false>(table, last, self.0, out, at) else {
+            return Err(Error::UnexpectedBufferEnd);
+        };
+        self.0 = left.rest;
+        Ok(())
+    }
+
+    fn marker(&mut self) -> Result<()> {
+        self.0 = slice_marker(self.0)?;
+        Ok(())
+    }
+}
+
 // Decodes chunks and the end marker, and returns the bytes after them.
 pub(super) fn slice_image<'a, const N: usize, const F: usize>(
     data: &'a [u8],
@@ -98,8 +167,30 @@ pub(super) fn slice_image<'a, const N: usize, const F: usize>(
         ReadsImage F N (length out.old / N) (Some «data».entry.now) (Some rest.now) out.new) }
     ensures refused { IfErr result (RefusesBytes (length out.old / N) «data».entry.now) }
 {
-    let Some(rest) = slice_chunks::<N, F>(data, out) else {
+    let mut bytes = Bytes(data);
+    image_to_buf::<Bytes, N, F>(&mut bytes, out)?;
+    Ok(bytes.0)
+}
+
+// The same into an empty vector with capacity for `size` bytes. Fewer than eight bytes are cut
+// before it grows.
+pub(super) fn slice_image_to_vec<'a, const N: usize, const F: usize>(
+    data: &'a [u8],
+    out: &mut Vec<u8>,
+    size: usize,
+) -> Result<&'a [u8]>
+    requires channels { IsChannels N }
+    requires whole { size % N ≡ 0 }
+    requires empty { vec_len out.old ≡ 0 }
+    requires room { size ≤ vec_capacity out.old }
+    ensures read { IfOk result (λ rest.
+        ReadsImage F N (size / N) (Some «data».entry.now) (Some rest.now) out.new.items) }
+    ensures refused { IfErr result (RefusesBytes (size / N) «data».entry.now) }
+{
+    if data.len() < QOI_PADDING_SIZE {
         return Err(Error::UnexpectedBufferEnd);
-    };
-    slice_marker(rest)
+    }
+    let mut bytes = Bytes(data);
+    image_to_vec::<Bytes, N, F>(&mut bytes, out, size)?;
+    Ok(bytes.0)
 }

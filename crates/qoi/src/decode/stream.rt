@@ -1,14 +1,15 @@
 //! Decoding an image from a stream.
-ghost use Rattle.std.specs.Prelude.{◌≡◌, ℕ, ◌+◌, ◌/◌, ◌%◌, ◌<◌, ◌≤◌, List, [], ◌∷◌, length, IsTrue, IsFalse, Option, IfOk, IfErr, OnOk, OnErr};
+ghost use Rattle.std.specs.Prelude.{◌≡◌, ℕ, ◌+◌, ◌%◌, ◌<◌, ◌≤◌, List, [], ◌∷◌, length, IsTrue, IsFalse, false, Option, IfOk, IfErr, OnOk, OnErr};
 ghost use Rattle.std.specs.Io.KnownBytes.{Consumes};
 ghost use Rattle.qoi.specs.Qoi.{AreBytes, end_marker};
 ghost use Rattle.qoi.specs.Raw.{IsChannels};
 ghost use Rattle.qoi.specs.declared.decode.pixels.TheConstants.{RUN_ROOM};
 ghost use Rattle.qoi.specs.Verdicts.{IsPartOfChunk, EndsBefore};
-ghost use Rattle.qoi.specs.Decoding.{HasTaken, StreamsPixels, ReadsImage, RefusesTaken, RefusesTakenMarker};
+ghost use Rattle.qoi.specs.Decoding.{HasTaken, RefusesTakenMarker};
 ghost use Rattle.qoi.specs.inner.Filling.{IsWholePixels, DecodesChunk, DecoderBetween, filling};
 
 use crate::consts::{QOI_OP_RGB, QOI_PADDING, QOI_PADDING_SIZE};
+use crate::decode::chunks::Chunks;
 use crate::decode::pixels::{Decoded, RUN_ROOM, decode_chunk, is_luma};
 use crate::error::{Error, Result};
 use crate::hashed::Hashed;
@@ -140,15 +141,17 @@ fn decode_chunks<R: Read, const N: usize, const F: usize, const ROOM: bool>(
     at: usize,
 ) -> io::Result<(Hashed, usize)>
     requires channels { IsChannels N }
-    requires whole { IsWholePixels N (length out.old) at }
-    requires within { at ≤ length out.old }
+    requires between { (n : ℕ) × (start : Option (List ℕ))
+        × DecoderBetween F N n (Consumes start (R.remaining reader.old))
+        (filling table.old last out.old at) }
     ensures between { (n : ℕ) (start : Option (List ℕ))
         → DecoderBetween F N n (Consumes start (R.remaining reader.old))
         (filling table.old last out.old at)
         → IfOk result (λ now. DecoderBetween F N n (Consumes start (R.remaining reader.new))
         (filling table.new now.0 out.new now.1)) }
-    ensures whole { IfOk result (λ now. IsWholePixels N (length out.new) now.1) }
-    ensures within { IfOk result (λ now. now.1 ≤ length out.new) }
+    ensures below { IsTrue ROOM → at < length out.old
+        → IfOk result (λ now. now.1 < length out.new) }
+    ensures filled { IsTrue ROOM → IfOk result (λ now. length out.new < now.1 + RUN_ROOM) }
     ensures full { IsFalse ROOM → IfOk result (λ now. length out.new ≤ now.1) }
     ensures failed { (n : ℕ) (start : Option (List ℕ))
         → DecoderBetween F N n (Consumes start (R.remaining reader.old))
@@ -166,26 +169,6 @@ fn decode_chunks<R: Read, const N: usize, const F: usize, const ROOM: bool>(
     Ok((last, at))
 }
 
-// Decodes chunks from a stream until `out` is full, and takes no byte past the last of them.
-fn stream_chunks<R: Read, const N: usize, const F: usize>(
-    reader: &mut R,
-    out: &mut [u8],
-) -> io::Result<()>
-    requires channels { IsChannels N }
-    requires whole { length out.old % N ≡ 0 }
-    ensures read { OnOk result (StreamsPixels F N (length out.old / N)
-        (R.remaining reader.old) (R.remaining reader.new) out.new) }
-    ensures failed { OnErr result (HasTaken (R.remaining reader.old) (R.remaining reader.new)
-        (EndsBefore (length out.old / N))) }
-{
-    // First as long as any run has room, and then to the end, with every test.
-    let mut table = HashedTable::new();
-    let start = Hashed::start();
-    let (last, at) = decode_chunks::<R, N, F, true>(reader, &mut table, start, out, 0)?;
-    decode_chunks::<R, N, F, false>(reader, &mut table, last, out, at)?;
-    Ok(())
-}
-
 // Reads eight bytes from a stream, and refuses them if they aren't the end marker.
 pub(super) fn stream_marker<R: Read>(reader: &mut R) -> Result<()>
     ensures read { OnOk result
@@ -201,18 +184,36 @@ pub(super) fn stream_marker<R: Read>(reader: &mut R) -> Result<()>
     Ok(())
 }
 
-// Decodes chunks and the end marker from a stream, and takes no byte past them.
-pub(super) fn stream_image<R: Read, const N: usize, const F: usize>(
-    reader: &mut R,
-    out: &mut [u8],
-) -> Result<()>
-    requires channels { IsChannels N }
-    requires whole { length out.old % N ≡ 0 }
-    ensures read { OnOk result (ReadsImage F N (length out.old / N)
-        (R.remaining reader.old) (R.remaining reader.new) out.new) }
-    ensures refused { IfErr result (λ e. HasTaken (R.remaining reader.old) (R.remaining reader.new)
-        (λ taken. RefusesTaken (length out.old / N) taken e)) }
-{
-    stream_chunks::<R, N, F>(reader, out)?;
-    stream_marker(reader)
+impl<R: Read, const N: usize, const F: usize> Chunks<N, F> for R {
+    ghost ahead = { R.remaining };
+
+    ghost in_memory = { false };
+
+    fn some_chunks(
+        &mut self,
+        table: &mut HashedTable,
+        last: Hashed,
+        out: &mut [u8],
+        at: usize,
+    ) -> Result<(Hashed, usize)> {
+        let now = decode_chunks::<R, N, F, true>(self, table, last, out, at)?;
+        Ok(now)
+    }
+
+    // First as long as any run has room, and then to the end, with every test.
+    fn all_chunks(
+        &mut self,
+        table: &mut HashedTable,
+        last: Hashed,
+        out: &mut [u8],
+        at: usize,
+    ) -> Result<()> {
+        let (last, at) = decode_chunks::<R, N, F, true>(self, table, last, out, at)?;
+        decode_chunks::<R, N, F, false>(self, table, last, out, at)?;
+        Ok(())
+    }
+
+    fn marker(&mut self) -> Result<()> {
+        stream_marker(self)
+    }
 }

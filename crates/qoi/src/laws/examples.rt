@@ -9,7 +9,7 @@ ghost use Rattle.qoi.specs.Qoi.{AreBytes, IsChunk, bytes_of, chunk_max, default_
 ghost use Rattle.qoi.specs.Errors.{IsIoError, IsReaderFault, IsErrorOfCut, IsErrorOfWrong};
 ghost use Rattle.qoi.specs.Raw.{IsChannels, without_fourth, pixels_of, byte_count, image_byte_count, HasImageLength, capped_byte_count, AreOpaque, HasChannels};
 ghost use Rattle.qoi.specs.Verdicts.{IsPartOfChunk, IsWhole, IsCut, IsWrong};
-ghost use Rattle.qoi.specs.Decoding.{least_byte_count, CouldHold, RefusesBuffer, RefusesMarker, RefusesBytes, RefusesTaken, RefusesTakenMarker, RefusesTakenHeader};
+ghost use Rattle.qoi.specs.Decoding.{least_byte_count, RefusesBuffer, RefusesMarker, RefusesBytes, RefusesTaken, RefusesTakenMarker, RefusesTakenHeader};
 ghost use Rattle.qoi.specs.DecoderState.{DecoderState, output_byte_count, TakesWithin};
 ghost use Rattle.qoi.specs.Runs.{IsCount};
 ghost use Rattle.qoi.specs.Written.{fresh, noted};
@@ -148,9 +148,6 @@ pub fn size_examples()
     ensures too_long_file { IsFileLength default_header 27 → ⊥ }
     ensures least_of_one_run { least_byte_count 62 ≡ 9 }
     ensures least_of_two_runs { least_byte_count 63 ≡ 10 }
-    ensures could_hold { CouldHold true 62 (Some (replicate 9 0)) }
-    ensures could_not_hold { CouldHold true 63 (Some (replicate 9 0)) → ⊥ }
-    ensures stream_could_hold { CouldHold false 63 (Some []) }
     ensures buffer_too_small { RefusesBuffer 2 3 (Error.OutputBufferTooSmall 2 3) }
     ensures buffer_is_enough { RefusesBuffer 3 3 (Error.OutputBufferTooSmall 3 3) → ⊥ }
 {}

@@ -33,4 +33,5 @@ mod streams;
 pub mod support;
 mod table_of_callers;
 mod types;
+mod vectors;
 mod writers;

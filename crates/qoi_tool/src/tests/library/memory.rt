@@ -1,6 +1,7 @@
 //! Allocations that are refused, and the calls that take no memory.
 use crate::tests::fakes::{ONE_RGB_PIXEL, PIXEL, take_memory};
 use crate::tests::library::support::decodings::CUT;
+use crate::tests::library::support::images::row;
 use crate::tests::library::support::{
     assert_bytes, assert_given, assert_header, assert_number, assert_refused,
 };
@@ -33,20 +34,48 @@ fn starved<R: Reader>(alloc: Global, decoder: &mut Decoder<R>, spare: usize) -> 
 
 // The first allocation is refused; when it is granted, there is no second one. A refusal leaves the
 // decoder as it was.
-fn assert_one_allocation<R: Reader>(rt: &impl Abort, alloc: Global, decoder: &mut Decoder<R>) {
+fn assert_one_allocation<R: Reader>(
+    rt: &impl Abort,
+    alloc: Global,
+    decoder: &mut Decoder<R>,
+    header: &Header,
+    raw: &[u8],
+) {
     assert_refused(rt, alloc, starved(alloc, decoder, 0).err(), REFUSED);
-    assert_header(rt, decoder.header(), &Header::default());
-    assert_given(rt, starved(alloc, decoder, PIXEL.len()), &PIXEL);
+    assert_header(rt, decoder.header(), header);
+    assert_given(rt, starved(alloc, decoder, raw.len()), raw);
+}
+
+// The same from a slice and from both kinds of reader.
+fn assert_allocations(
+    rt: &impl Abort,
+    alloc: Global,
+    file: &[u8],
+    header: &Header,
+    raw: &[u8],
+) -> Result<()> {
+    assert_one_allocation(rt, alloc, &mut Decoder::new(file)?, header, raw);
+    let mut stream = Decoder::from_stream(file)?;
+    assert_one_allocation(rt, alloc, &mut stream, header, raw);
+    let mut buffered = Decoder::from_buf_read(file)?;
+    assert_one_allocation(rt, alloc, &mut buffered, header, raw);
+    Ok(())
 }
 
 #[test]
 fn each_allocation_of_decode_to_vec(rt: HostRuntime) -> Result<()> {
-    assert_one_allocation(&rt, rt.alloc(), &mut Decoder::new(&ONE_RGB_PIXEL)?);
-    let mut stream = Decoder::from_stream(&ONE_RGB_PIXEL[..])?;
-    assert_one_allocation(&rt, rt.alloc(), &mut stream);
-    let mut buffered = Decoder::from_buf_read(&ONE_RGB_PIXEL[..])?;
-    assert_one_allocation(&rt, rt.alloc(), &mut buffered);
-    Ok(())
+    let alloc = rt.alloc();
+    assert_allocations(&rt, alloc, &ONE_RGB_PIXEL, &Header::default(), &PIXEL)
+}
+
+// A vector that grows by several steps is allocated once.
+#[test]
+fn each_allocation_of_steps(rt: HostRuntime) -> Result<()> {
+    let alloc = rt.alloc();
+    let header = row(50_000, Channels::Rgb);
+    let raw = vec![in alloc; 9u8; 150_000]?;
+    let file = encode_to_vec(alloc, &raw, 50_000, 1)?;
+    assert_allocations(&rt, alloc, &file, &header, &raw)
 }
 
 // Encodes the pixel while all memory is taken but for one block of `spare` bytes.
@@ -74,9 +103,6 @@ const LARGE: [u8; 14] = [
     0x71, 0x6f, 0x69, 0x66, 0, 0, 0x4e, 0x20, 0, 0, 0x4e, 0x20, 3, 0,
 ];
 
-// As many bytes as 400,000,000 pixels need: a byte for each 62 of them, and the end marker.
-const NEEDED: usize = 6_451_613 + 8;
-
 // A large header, and so many bytes after it.
 fn large(alloc: Global, after: usize) -> Result<Vec<u8>> {
     let mut file = Vec::from_slice(alloc, &LARGE)?;
@@ -103,12 +129,10 @@ fn assert_large(rt: &impl Abort, alloc: Global, file: &[u8], least: usize, text:
 #[test]
 fn too_few_bytes(rt: HostRuntime) {
     let alloc = rt.alloc();
-    for after in [0, 1, NEEDED - 1, NEEDED] {
+    for after in [0, 7, 8, 100_000] {
         let file = large(alloc, after).expect(&rt, "refused");
         assert_large(&rt, alloc, &file, 2, REFUSED);
-        if after < NEEDED {
-            assert_large(&rt, alloc, &file, usize::MAX, CUT);
-        }
+        assert_large(&rt, alloc, &file, usize::MAX, CUT);
     }
 }
 

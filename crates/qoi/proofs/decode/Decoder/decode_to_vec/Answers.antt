@@ -1,47 +1,50 @@
--- The vector is what the buffer's call decoded; few bytes are refused.
-use Rattle.std.proofs.Common.{rules, ◌≡◌, ◌≤◌, ◌++◌, length, take, drop, ap, sym, ◌∙◌, subst, inr, arith}
+-- The image is read into the vector or refused.
+use Rattle.std.proofs.Common.{◌≡◌, ℕ, List, Option, ap, ◌∙◌, arith, subst, inr, refl}
+use Rattle.std.proofs.Math.Nat.{mul_comm}
 use Rattle.std.proofs.lemmas.Result.{err_from_is_err_and}
-use Rattle.std.proofs.Math.Seq.{take-length}
-use lib.Seq.{take-append_seam}
-use Rattle.qoi.specs.declared.error.Error.TheVariants.{UnexpectedBufferEnd}
-use Rattle.qoi.specs.Qoi.{pixel_count}
-use Rattle.qoi.specs.Decoding.{RefusesImage}
-use Rattle.qoi.specs.Decoded.{HasDecoded}
+use Rattle.qoi.specs.Qoi.{channels_number, pixel_count}
+use Rattle.qoi.specs.Raw.{HasImageLength}
+use Rattle.qoi.specs.Decoding.{ReadsImage, RefusesImage}
 use Rattle.qoi.specs.DecoderState.{output_byte_count}
-use Rattle.qoi.proofs.decoding.Promised.{has_refused}
+use Rattle.qoi.proofs.decoding.ImageSize.{channels_are, image_length, pixels_of_size}
+use Rattle.qoi.proofs.decoding.Promised.{has_decoded, has_refused}
 use Rattle.qoi.proofs.decode.Decoder.decode_to_vec.Given.{Over}
-use Rattle.qoi.proofs.decode.Decoder.decode_to_vec.Goals.{After-drop-out}
+use Rattle.qoi.proofs.decode.Decoder.decode_to_vec.Goals.{After-from_residual-in_err-decode_image_to_vec}
 use Rattle.qoi.proofs.decode.Decoder.decode_to_vec.Goals as goal
 
--- bytes that are too few are refused
-few_refused : (g : Over) (c : After-drop-out g) → RefusesImage g.R.Reader.in_memory (pixel_count c.args.self.now.header)
-    (g.R.Reader.ahead c.args.self.now.reader) (g.R.Reader.ahead c.args.self.now.reader) UnexpectedBufferEnd
-few_refused g c =
-    let cut = c.could_hold.ensures.cut (search rules) in
-    subst (λ s. RefusesImage g.R.Reader.in_memory (pixel_count s.header) (g.R.Reader.ahead s.reader) (g.R.Reader.ahead s.reader) UnexpectedBufferEnd)
-    c.self.view_is (rw c.n_pixels.ensures at cut)
+-- the image was refused
+refused : (g : Over) (c : After-from_residual-in_err-decode_image_to_vec g) → RefusesImage g.R.Reader.in_memory (pixel_count c.args.self.now.header)
+    (g.R.Reader.ahead c.args.self.now.reader) (g.R.Reader.ahead c.decode_image_to_vec.new.self) c.in_err-decode_image_to_vec.field-0.0
+refused g c =
+    let d = c.args.self.now in
+    let channels : c.as_u8-channels.result ≡ channels_number d.channels =
+    c.as_u8-channels.ensures ∙ ap (λ s. channels_number s.channels) c.self.view_is in
+    let file : c.as_u8-file_channels.result ≡ channels_number d.header.channels =
+    c.as_u8-file_channels.ensures ∙ ap (λ s. channels_number s.header.channels) c.self.view_is in
+    let pixels = pixels_of_size d.header d.channels c.required_buf_len-size.result c.as_u8-channels.result c.required_buf_len-size.ensures.bytes channels in
+    let image = c.in_err-decode_image_to_vec.ensures.refused (channels_are d.header.channels _ file, channels_are d.channels _ channels) in
+    subst (λ old. RefusesImage g.R.Reader.in_memory (pixel_count d.header) old (g.R.Reader.ahead c.decode_image_to_vec.new.self) c.in_err-decode_image_to_vec.field-0.0)
+    (ap (λ s. g.R.Reader.ahead s.reader) c.self.view_is) (rw pixels at image)
 
-pub returns-then-not-could_hold-clause-refused : goal.returns-then-not-could_hold-clause-refused
-returns-then-not-could_hold-clause-refused g c = inr (has_refused g.R.Reader.in_memory c.args.self.now _ _ UnexpectedBufferEnd (few_refused g c))
+pub returns-in_err-decode_image_to_vec-clause-refused : goal.returns-in_err-decode_image_to_vec-clause-refused
+returns-in_err-decode_image_to_vec-clause-refused g c =
+    let p = err_from_is_err_and c.from_residual-in_err-decode_image_to_vec.result c.from_residual-in_err-decode_image_to_vec.ensures.1 in
+    rw (p.1, p.2) (inr (has_refused g.R.Reader.in_memory c.args.self.now _ _ _
+    (refused g (goal.at.returns-in_err-decode_image_to_vec-clause-refused g c).After-from_residual-in_err-decode_image_to_vec)))
 
-pub returns-in_err-decode_to_buf-clause-refused : goal.returns-in_err-decode_to_buf-clause-refused
-returns-in_err-decode_to_buf-clause-refused g c =
-    let room : output_byte_count c.args.self.now ≤ length c.deref_mut.result.now =
-    omega (arith, c.in_ok-resize.ensures.len, c.deref_mut.ensures.len, c.required_buf_len-size.ensures.bytes) in
-    let p = err_from_is_err_and c.from_residual-in_err-decode_to_buf.result c.from_residual-in_err-decode_to_buf.ensures.1 in
-    rw (p.1, p.2) (inr (c.in_err-decode_to_buf.ensures.refused room))
-
--- the vector's bytes are those of the buffer that it lent, which is full and as long
 pub returns-clause-decoded : goal.returns-clause-decoded
 returns-clause-decoded g c =
     let d = c.args.self.now in
-    let buf = c.decode_to_buf.new.buf in
-    let after = drop (length buf) c.resize.new.self.items in
-    let size = c.in_ok-resize.ensures.len in
-    let lent : c.resize.new.self.len ≡ length buf = omega (arith, c.decode_to_buf.auto.buf, c.deref_mut.ensures.len) in
-    let count : c.in_ok-decode_to_buf.field-0 ≡ length buf =
-    omega (arith, lent, size, c.required_buf_len-size.ensures.bytes, c.in_ok-decode_to_buf.ensures.decoded.0) in
-    let bytes : take c.resize.new.self.len (buf ++ after) ≡ take c.in_ok-decode_to_buf.field-0 buf =
-    ap (λ k. take k (buf ++ after)) lent ∙ take-append_seam buf after ∙ sym (take-length buf) ∙ ap (λ k. take k buf) (sym count) in
-    subst (HasDecoded d (g.R.Reader.ahead d.reader) (g.R.Reader.ahead c.decode_to_buf.new.self.reader)) (sym bytes)
-    c.in_ok-decode_to_buf.ensures.decoded.1
+    let n = pixel_count d.header in
+    let k = channels_number d.channels in
+    let channels = c.as_u8-channels.ensures ∙ ap (λ s. channels_number s.channels) c.self.view_is in
+    let file = c.as_u8-file_channels.ensures ∙ ap (λ s. channels_number s.header.channels) c.self.view_is in
+    let pixels = pixels_of_size d.header d.channels c.required_buf_len-size.result c.as_u8-channels.result c.required_buf_len-size.ensures.bytes channels in
+    let out = c.decode_image_to_vec.new.out.items in
+    let P = λ (old : Option (List ℕ)). ReadsImage (channels_number d.header.channels) k n old
+    (g.R.Reader.ahead c.decode_image_to_vec.new.self) out in
+    let read : P (g.R.Reader.ahead d.reader) =
+    subst (λ s. P (g.R.Reader.ahead s.reader)) c.self.view_is (rw (pixels, file, channels) at c.in_ok-decode_image_to_vec.ensures.read.1) in
+    let size = image_length _ k n _ _ _ (channels_are d.channels _ refl) read ∙ mul_comm k n in
+    let filled : HasImageLength (output_byte_count d) out = (size, omega (arith, size, c.required_buf_len-size.ensures.some, c.required_buf_len-size.ensures.bytes)) in
+    has_decoded d _ _ out filled read

@@ -1,31 +1,53 @@
--- A chunk more is taken, and at the end the buffer is full or the bytes are cut.
-use Rattle.std.proofs.Common.{take, ◌++◌, sym, ap, ◌∙◌, subst, arith, take-append-drop}
+-- A chunk more is taken, or the bytes are cut.
+use Rattle.std.proofs.Common.{◌<◌, Some, take, drop, length, sym, subst, arith, take-append-drop}
+use Rattle.std.specs.Io.KnownBytes.{Consumes}
+use Rattle.std.proofs.KnownBytes.{Consumes-trans}
 use Rattle.qoi.specs.Qoi.{AreBytes}
+use Rattle.qoi.specs.inner.Filling.{filling, DecoderBetween}
 use Rattle.qoi.proofs.format.SomeVerdict.{bytes_after_front}
-use Rattle.qoi.specs.inner.Filling.{filling}
-use Rattle.qoi.proofs.decoding.Progress.{split_front, goes_on, split_more, reads_pixels, few_left}
+use Rattle.qoi.proofs.decoding.Progress.{goes_on}
+use Rattle.qoi.proofs.decoding.Grown.{few_left_more, room_left, whole_sizes}
+use Rattle.qoi.proofs.decode.slice.last_chunks.Goals.{then-this-ne0, else-this-ne0}
 use Rattle.qoi.proofs.decode.slice.last_chunks.Goals as goal
 
-pub loop-at-init : goal.loop-at-init
-loop-at-init g c = split_front c.args.start.taken c.split_at.ensures.back c.requires.between
+pub loop-out-init : goal.loop-out-init
+loop-out-init g c = record {
+  fits = λ i. omega (arith, c.type_inv.data i);
+  within = c.requires.between.2.within;
+  below = λ room inside. inside;
+  between = λ n start h. h;
+}
 
-pub loop-at-preserved : goal.loop-at-preserved
-loop-at-preserved g c =
-    let rest = c.loop-at.rest.now in
-    let taken = c.decode_chunk-decoded.result.taken in
+pub decode_chunk-decoded-requires-clause-whole : goal.decode_chunk-decoded-requires-clause-whole
+decode_chunk-decoded-requires-clause-whole g c =
+    let known = c.requires.between in
+    whole_sizes c.requires.channels (c.loop-out.invariant.between known.0 known.1 known.2)
+
+pub loop-out-preserved : goal.loop-out-preserved
+loop-out-preserved g c =
+    let rest = c.loop-out.rest.now in
     let decoded = c.decode_chunk-decoded.result in
-    goes_on {old = filling c.loop-at.table c.loop-at.last c.loop-at.out c.loop-at.at} {new =
-    filling c.decode_chunk-decoded.new.table decoded.last c.decode_chunk-decoded.new.out decoded.at}
-    c.requires.channels c.loop-at.invariant c.loop-at-test.true c.decode_chunk-decoded.ensures.decodes
-    (split_more c.args.data.now rest _ (take taken rest) (sym (take-append-drop taken rest) ∙ ap (λ z. take taken rest ++ z) (sym c.split_at-in-loop-at.ensures.back)))
-    c.decode_chunk-decoded.ensures.within.1 c.decode_chunk-decoded.ensures.whole
+    let taken = decoded.taken in
+    let back = c.split_at.ensures.back in
+    let known = c.requires.between in
+    let inside : c.loop-out.at < length c.loop-out.out = elim c.if-this-ne0.branch [ then-this-ne0 w ↦ omega arith | else-this-ne0 w ↦ omega arith ] in
+    let took : Consumes (Some rest) (Some (drop taken rest)) (take taken rest) = sym (take-append-drop taken rest) in
+    record {
+      fits = subst AreBytes (sym back) (bytes_after_front (take taken rest) (drop taken rest) (subst AreBytes (sym (take-append-drop taken rest)) c.loop-out.invariant.fits));
+      within = c.decode_chunk-decoded.ensures.within.1;
+      below = λ room _. room_left {old = filling c.loop-out.table c.loop-out.last c.loop-out.out c.loop-out.at} {new =
+          filling c.decode_chunk-decoded.new.table decoded.last c.decode_chunk-decoded.new.out decoded.at}
+          c.requires.channels (c.loop-out.invariant.between known.0 known.1 known.2) (omega arith) c.decode_chunk-decoded.ensures.decodes;
+      between = λ n start h.
+          subst (λ z. DecoderBetween g.row.F g.row.N n (Consumes start (Some z)) (filling c.decode_chunk-decoded.new.table decoded.last c.decode_chunk-decoded.new.out decoded.at)) (sym back)
+          (goes_on {old = filling c.loop-out.table c.loop-out.last c.loop-out.out c.loop-out.at} {new =
+          filling c.decode_chunk-decoded.new.table decoded.last c.decode_chunk-decoded.new.out decoded.at}
+          c.requires.channels (c.loop-out.invariant.between n start h) inside c.decode_chunk-decoded.ensures.decodes
+          (λ before so_far. Consumes-trans start (Some rest) (Some (drop taken rest)) before (take taken rest) so_far took)
+          c.decode_chunk-decoded.ensures.within.1 c.decode_chunk-decoded.ensures.whole);
+    }
 
-pub returns : goal.returns
-returns g c =
-    reads_pixels c.requires.channels c.loop-at.invariant c.loop-at-test.false
-
-pub returns-then-rest-lt-QOI_PADDING_SIZE : goal.returns-then-rest-lt-QOI_PADDING_SIZE
-returns-then-rest-lt-QOI_PADDING_SIZE g c =
-    few_left c.requires.channels c.loop-at.invariant c.loop-at-test.true
-    (bytes_after_front _ c.loop-at.rest.now (subst AreBytes c.loop-at.invariant.taken
-    (λ i. omega (arith, c.type_inv.data i)))) c.if-rest-lt-QOI_PADDING_SIZE.true
+pub returns-then-rest-lt-QOI_PADDING_SIZE-clause-between : goal.returns-then-rest-lt-QOI_PADDING_SIZE-clause-between
+returns-then-rest-lt-QOI_PADDING_SIZE-clause-between g c n start h all more =
+    let inside : c.loop-out.at < length c.loop-out.out = elim c.if-this-ne0.branch [ then-this-ne0 w ↦ omega arith | else-this-ne0 w ↦ omega arith ] in
+    few_left_more start c.loop-out.rest.now c.requires.channels (c.loop-out.invariant.between n start h) inside c.loop-out.invariant.fits c.if-rest-lt-QOI_PADDING_SIZE.true all more

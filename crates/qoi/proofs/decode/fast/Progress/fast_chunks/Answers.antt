@@ -11,6 +11,7 @@ loop-now-preserved-then-is_short g c =
       byte = short.byte;
       within = omega (arith, short.taken, c.loop-now-test.true, c.if-bytes-lt-INPUT_ROOM.false);
       written = omega (arith, before.written, short.written);
+      below = λ inside. omega (arith, short.written, c.loop-now-test.true, c.if-bytes-lt-INPUT_ROOM.false, c.short_chunks-now.auto.out);
     }
 
 pub loop-now-preserved-then-now : goal.loop-now-preserved-then-now
@@ -23,6 +24,7 @@ loop-now-preserved-then-now g c =
       byte = full.byte;
       within = omega (arith, full.taken, short.taken, c.loop-now-test.true, c.if-bytes-lt-INPUT_ROOM.false);
       written = omega (arith, before.written, short.written, full.written);
+      below = λ inside. omega (arith, short.written, full.most, c.loop-now-test.true, c.if-bytes-lt-INPUT_ROOM.false, c.short_chunks-now.auto.out, c.full_chunk-now.auto.out);
     }
 
 pub loop-now-preserved : goal.loop-now-preserved
@@ -35,4 +37,5 @@ loop-now-preserved g c =
       byte = run.byte;
       within = omega (arith, run.taken, short.taken, c.loop-now-test.true, c.if-bytes-lt-INPUT_ROOM.false);
       written = omega (arith, before.written, short.written, run.written);
+      below = λ inside. omega (arith, short.written, run.most, c.loop-now-test.true, c.if-bytes-lt-INPUT_ROOM.false, c.short_chunks-now.auto.out, c.long_run-now.auto.out);
     }

@@ -10,6 +10,7 @@ invariant-loop-now g l = record {
   byte : l.now.next < 256;
   within : l.now.taken < length l.bytes;
   written : l.fn.at ≤ l.now.written;
+  below : l.fn.at < length l.initial.out → l.now.written < length l.out;
 }
 
 abbrev pub decreases-loop-now : goal.decreases-loop-now

@@ -1,0 +1,94 @@
+-- Each step is filled, but for less than a run, before the vector grows.
+use Rattle.std.proofs.Common.{◌≡◌, ◌-◌, ◌/◌, ◌%◌, ◌<◌, ◌++◌, length, replicate, sym, ap, ◌∙◌, arith}
+use Rattle.std.specs.Io.KnownBytes.{Consumes}
+use Rattle.std.proofs.KnownBytes.{Consumes-nil}
+use Rattle.std.proofs.lemmas.Result.{err_from_is_err_and}
+use Rattle.qoi.specs.inner.Filling.{filling, DecoderBetween}
+use Rattle.qoi.proofs.decoding.Grown.{grown, growing_start, growing_on, lent_back, some_channels, whole_step, fewer_pixels, none_whole, at_most, written_most}
+use Rattle.qoi.proofs.decode.chunks.chunks_to_vec.Given.{Over}
+use Rattle.qoi.proofs.decode.chunks.chunks_to_vec.Goals.{After-deref_mut, After-deref_mut-2}
+use Rattle.qoi.proofs.decode.chunks.chunks_to_vec.Goals as goal
+
+-- a step is whole pixels
+whole : (g : Over) (c : After-deref_mut g) → c.grow.new.out.len % g.row.N ≡ 0
+whole g c = whole_step g.row.N c.loop-out.out.len c.grow.new.out.len c.requires.channels c.loop-out.invariant.whole (omega (arith, c.grow.ensures.len, c.len-in-loop-out.ensures))
+
+-- before a step is decoded
+before : (g : Over) (c : After-deref_mut g) → DecoderBetween g.row.F g.row.N (c.grow.new.out.len / g.row.N)
+    (Consumes (g.R.Chunks.ahead c.args.reader.now) (g.R.Chunks.ahead c.loop-out.reader))
+    (filling c.loop-out.table c.loop-out.last c.deref_mut.result.now c.loop-out.at)
+before g c =
+    let old = c.loop-out.out in
+    grown old.items c.deref_mut.result.now old.len c.grow.new.out.len c.requires.channels c.loop-out.invariant.growing old.ok.0
+    (omega (arith, c.grow.ensures.len, c.len-in-loop-out.ensures)) (whole g c)
+    (c.deref_mut.ensures.value ∙ c.grow.ensures.items ∙ ap (λ z. old.items ++ replicate (z - old.len) 0) (sym c.grow.ensures.len))
+
+-- before the last step is
+before_last : (g : Over) (c : After-deref_mut-2 g) → DecoderBetween g.row.F g.row.N (c.args.size / g.row.N)
+    (Consumes (g.R.Chunks.ahead c.args.reader.now) (g.R.Chunks.ahead c.loop-out.reader))
+    (filling c.loop-out.table c.loop-out.last c.deref_mut-2.result.now c.loop-out.at)
+before_last g c =
+    let old = c.loop-out.out in
+    grown old.items c.deref_mut-2.result.now old.len c.args.size c.requires.channels c.loop-out.invariant.growing old.ok.0
+    c.loop-out.invariant.fits c.requires.whole (c.deref_mut-2.ensures.value ∙ c.grow-2.ensures.items)
+
+pub loop-out-init : goal.loop-out-init
+loop-out-init g c = record {
+  whole = none_whole g.row.N c.args.out.now.len c.requires.channels c.requires.empty;
+  fits = omega (arith, c.requires.empty);
+  room = c.requires.room;
+  within = omega arith;
+  filled = omega (arith, c.requires.empty);
+  growing = growing_start g.row.F g.row.N (Consumes (g.R.Chunks.ahead c.args.reader.now) (g.R.Chunks.ahead c.args.reader.now)) _ _ c.args.out.now.items
+      c.requires.channels (sym c.args.out.now.ok.0 ∙ c.requires.empty) c.new-table.ensures c.start-last.ensures (Consumes-nil _);
+}
+
+pub some_chunks-requires-clause-between : goal.some_chunks-requires-clause-between
+some_chunks-requires-clause-between g c = (
+  c.grow.new.out.len / g.row.N,
+  g.R.Chunks.ahead c.args.reader.now,
+  before g (goal.at.some_chunks-requires-clause-between g c).After-deref_mut,
+)
+
+pub returns-in_err-now-clause-refused : goal.returns-in_err-now-clause-refused
+returns-in_err-now-clause-refused g c =
+    let at = (goal.at.returns-in_err-now-clause-refused g c).After-deref_mut in
+    let p = err_from_is_err_and c.from_residual.result c.from_residual.ensures.1 in
+    let fewer = fewer_pixels g.row.N c.grow.new.out.len c.args.size c.requires.channels
+    (omega (arith, c.loop-out-test.true, c.len.ensures, c.grow.ensures.len, c.len-in-loop-out.ensures)) in
+    rw (p.1, p.2) (c.in_err-now.ensures.refused _ _ (before g at) _ fewer)
+
+pub loop-out-preserved : goal.loop-out-preserved
+loop-out-preserved g c =
+    let i = c.loop-out.invariant in
+    let some = some_channels g.row.N c.requires.channels in
+    let at = (goal.at.loop-out-preserved g c).After-deref_mut in
+    let inside : c.loop-out.at < length c.deref_mut.result.now =
+    omega (arith, some, i.within, c.deref_mut.ensures.len, c.grow.ensures.len, c.len-in-loop-out.ensures) in
+    let left = c.in_ok-now.ensures.below inside in
+    let size : c.grow.new.out.len ≡ length c.some_chunks.new.out = omega (arith, c.some_chunks.auto.out, c.deref_mut.ensures.len) in
+    record {
+      whole = whole g at;
+      fits = omega (arith, c.loop-out-test.true, c.len.ensures, c.grow.ensures.len, c.len-in-loop-out.ensures);
+      room = omega (arith, i.room, c.grow.ensures.capacity);
+      within = omega (arith, left, size);
+      filled = omega (arith, c.in_ok-now.ensures.filled, size);
+      growing = growing_on c.some_chunks.new.out _ c.requires.channels (c.in_ok-now.ensures.between _ _ (before g at)) left (lent_back _ _ _ size);
+    }
+
+pub all_chunks-requires-clause-between : goal.all_chunks-requires-clause-between
+all_chunks-requires-clause-between g c = (
+  c.args.size / g.row.N,
+  g.R.Chunks.ahead c.args.reader.now,
+  before_last g (goal.at.all_chunks-requires-clause-between g c).After-deref_mut-2,
+)
+
+pub returns-in_err-now-clause-grown : goal.returns-in_err-now-clause-grown
+returns-in_err-now-clause-grown g c =
+    let at = (goal.at.returns-in_err-now-clause-grown g c).After-deref_mut in
+    at_most _ c.loop-out.at _ _ (omega (arith, c.loop-out.invariant.filled, c.grow.ensures.len, c.len-in-loop-out.ensures)) (written_most _ _ c.requires.channels (before g at))
+
+pub returns-clause-grown : goal.returns-clause-grown
+returns-clause-grown g c =
+    let at = (goal.at.returns-clause-grown g c).After-deref_mut-2 in
+    at_most _ c.loop-out.at _ _ (omega (arith, c.loop-out.invariant.filled, c.loop-out-test.false, c.len.ensures, c.grow-2.ensures.len)) (written_most _ _ c.requires.channels (before_last g at))

@@ -1,0 +1,18 @@
+-- The vector holds what was decoded so far, and has room ahead.
+use Rattle.std.proofs.Common.{◌≡◌, ◌-◌, ◌%◌, ◌+◌, ◌≤◌, vec_len, vec_capacity}
+use Rattle.std.specs.Io.KnownBytes.{Consumes}
+use Rattle.qoi.proofs.decoding.Grown.{Growing}
+use Rattle.qoi.proofs.decode.chunks.chunks_to_vec.Given as goal
+
+abbrev pub invariant-loop-out : goal.invariant-loop-out
+invariant-loop-out g l = record {
+  whole : vec_len l.out % g.row.N ≡ 0;
+  fits : vec_len l.out ≤ l.fn.size;
+  room : l.fn.size ≤ vec_capacity l.out;
+  within : l.at ≤ vec_len l.out;
+  filled : vec_len l.out ≤ l.at + 256;
+  growing : Growing g.row.F g.row.N (Consumes (g.R.Chunks.ahead l.initial.reader) (g.R.Chunks.ahead l.reader)) l.table l.last l.out.items l.at;
+}
+
+abbrev pub decreases-loop-out : goal.decreases-loop-out
+decreases-loop-out g l = l.fn.size - vec_len l.out

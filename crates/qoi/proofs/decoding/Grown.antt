@@ -1,0 +1,162 @@
+-- A buffer that grows while it is decoded into.
+use Rattle.std.proofs.Common.{◌≡◌, ℕ, ◌+◌, ◌-◌, ◌*◌, ◌/◌, ◌%◌, ◌<◌, ◌≤◌, List, Option, None, Some, IfSome, [], ◌∷◌, ◌++◌, length, take, drop, replicate, min, arith, sym, ap, ◌∙◌, subst, length-append}
+use Rattle.std.specs.Io.KnownBytes.{Consumes}
+use Rattle.std.proofs.lemmas.List.{length-replicate, take-append-le}
+use lib.Seq.{take-append_seam}
+use Rattle.qoi.specs.declared.chunk.Chunk.{Chunk}
+use Rattle.qoi.specs.declared.decode.chunks.TheConstants.{STEP}
+use Rattle.qoi.specs.Qoi.{Past, AreBytes, Each, chunk_bytes, start, times, then_chunk, then_chunks}
+use Rattle.qoi.specs.Raw.{IsChannels}
+use Rattle.qoi.specs.Decoding.{HasTaken}
+use Rattle.qoi.specs.Verdicts.{AreCut, EndsBefore}
+use Rattle.qoi.specs.inner.Hashed.{pixel_of_lanes, HoldsSeen}
+use Rattle.qoi.specs.inner.Filling.{Filling, filling, DecodesChunk, DecoderBetween}
+use Rattle.qoi.proofs.decoding.FilledBuffer.{by_channels, whole_pixels}
+use Rattle.qoi.proofs.decoding.LeastBytes.{pixels_most, times_most}
+use Rattle.qoi.proofs.decoding.Progress.{fewer, few_left, start_between}
+
+-- chunks that stand after fewer than m pixels stand after fewer than n, if that is no less
+stays_more : (m n : ℕ) → m ≤ n → (past : Past) (cs : List Chunk) → Each (λ past c. length past < m) past cs → Each (λ past c. length past < n) past cs
+stays_more m n more past [] below = tt
+stays_more m n more past (c ∷ cs) below = (omega (arith, more, below.0), stays_more m n more (then_chunk past c) cs below.1)
+
+-- if n pixels have more bytes than m, they are more
+more_pixels : (c m n size more : ℕ) → IsChannels c → size ≡ c * m → size + more ≡ c * n → m ≤ n
+more_pixels c m n size more is = by_channels (λ k. size ≡ k * m → size + more ≡ k * n → m ≤ n) is (λ a b. omega arith) (λ a b. omega arith)
+
+-- a buffer that isn't full may have bytes more
+grows : {f c m : ℕ} {Taken : List ℕ → Type 0} {table : List ℕ} {last : ℕ} {out : List ℕ} {at : ℕ} → IsChannels c
+    → DecoderBetween f c m Taken (filling table last out at) → at < length out → (n : ℕ) (more : List ℕ) → length out + length more ≡ c * n
+    → DecoderBetween f c n Taken (filling table last (out ++ more) at)
+grows {c = c} {m = m} {out = out} {at = at} is s inside n more size =
+    let past = then_chunks [] s.cs in
+    let below : length past < m = fewer is s.filled inside in
+    let most : m ≤ n = more_pixels c m n (length out) (length more) is s.filled.room size in
+    let same : min m (length past) ≡ min n (length past) = omega (arith, below, most) in
+    let size_is = length-append out more in
+    record {
+      cs = s.cs;
+      chunks = s.chunks;
+      stays_below = stays_more m n most [] s.cs s.stays_below;
+      taken = s.taken;
+      filled = record {
+        room = size_is ∙ size;
+        at_is = s.filled.at_is ∙ ap (λ k. c * k) same;
+        same = take-append-le at out more (omega (arith, inside)) ∙ s.filled.same;
+      };
+      has_seen = record { table_is = s.has_seen.table_is; last_is = s.has_seen.last_is };
+      within = omega (arith, inside, size_is);
+      whole = s.whole;
+    }
+
+-- what stands between two chunks, however many bytes the buffer gets
+abbrev pub Growing : ℕ → ℕ → (List ℕ → Type 0) → List ℕ → ℕ → List ℕ → ℕ → Type 0
+Growing f c Taken table last out at = (n : ℕ) (more : List ℕ) → length out + length more ≡ c * n
+    → DecoderBetween f c n Taken (filling table last (out ++ more) at)
+
+-- before the first chunk
+pub growing_start : (f c : ℕ) (Taken : List ℕ → Type 0) (table : List ℕ) (last : ℕ) (out : List ℕ) → IsChannels c → length out ≡ 0
+    → HoldsSeen table [] → pixel_of_lanes last ≡ start → Taken [] → Growing f c Taken table last out 0
+growing_start f c Taken table last [] is empty blank opaque none n more size =
+    let many : length more / c ≡ n = by_channels (λ k. 0 + length more ≡ k * n → length more / k ≡ n) is (λ e. omega arith) (λ e. omega arith) size in
+    let whole : length more % c ≡ 0 = by_channels (λ k. 0 + length more ≡ k * n → length more % k ≡ 0) is (λ e. omega arith) (λ e. omega arith) size in
+    subst (λ k. DecoderBetween f c k Taken (filling table last more 0)) many (start_between f c Taken table last more is whole blank opaque none)
+growing_start f c Taken table last (x ∷ out) is empty blank opaque none n more size = absurd (omega arith)
+
+-- with zeros up to a size
+pub grown : {f c : ℕ} {Taken : List ℕ → Type 0} {table : List ℕ} {last : ℕ} {at : ℕ} (old new : List ℕ) (len size : ℕ) → IsChannels c → Growing f c Taken table last old at
+    → len ≡ length old → len ≤ size → size % c ≡ 0 → new ≡ old ++ replicate (size - len) 0 → DecoderBetween f c (size / c) Taken (filling table last new at)
+grown {f} {c} {Taken} {table} {last} {at} old new len size is g len_is within whole new_is =
+    let zeros : List ℕ = replicate (size - len) 0 in
+    let all : length old + length zeros ≡ c * (size / c) = omega (arith, len_is, within, length-replicate {A = ℕ} (size - len) 0) ∙ whole_pixels c size is whole in
+    subst (λ z. DecoderBetween f c (size / c) Taken (filling table last z at)) (sym new_is) (g (size / c) zeros all)
+
+-- a vector that lent itself whole holds what was written
+pub lent_back : (len : ℕ) (buf items : List ℕ) → len ≡ length buf → take len (buf ++ drop (length buf) items) ≡ buf
+lent_back len buf items size = ap (λ k. take k (buf ++ drop (length buf) items)) size ∙ take-append_seam buf (drop (length buf) items)
+
+-- after a step that left room
+pub growing_on : {f c m : ℕ} {Taken : List ℕ → Type 0} {table : List ℕ} {last : ℕ} {at : ℕ} (out items : List ℕ) → IsChannels c
+    → DecoderBetween f c m Taken (filling table last out at) → at < length out → items ≡ out → Growing f c Taken table last items at
+growing_on {f} {c} {m} {Taken} {table} {last} {at} out items is s inside same = subst (λ z. Growing f c Taken table last z at) (sym same) (grows is s inside)
+
+-- both are whole pixels
+pub whole_sizes : {f c n : ℕ} {Taken : List ℕ → Type 0} {now : Filling} → IsChannels c → DecoderBetween f c n Taken now
+    → (length now.buffer.out % c ≡ 0) × (now.buffer.at % c ≡ 0)
+whole_sizes {c = c} {n = n} {now = now} is s =
+    let size = length now.buffer.out in
+    (by_channels (λ k. size ≡ k * n → size % k ≡ 0) is (λ e. omega arith) (λ e. omega arith) s.filled.room, s.whole)
+
+-- a chunk that is put where any run has room leaves room
+pub room_left : {f c n : ℕ} {Taken : List ℕ → Type 0} {old new : Filling} {bytes : List ℕ} → IsChannels c → DecoderBetween f c n Taken old
+    → old.buffer.at + 256 ≤ length old.buffer.out → DecodesChunk f c bytes old new → new.buffer.at < length new.buffer.out
+room_left {c = c} {n = n} {old = old} {new = new} is s room g =
+    let past = then_chunks [] s.cs in
+    let k = times g.chunk in
+    let after = g.decodes.filled n past s.filled in
+    let copies = replicate k (pixel_of_lanes new.last) in
+    let many : length (copies ++ past) ≡ k + length past = omega (arith, length-append copies past, length-replicate k (pixel_of_lanes new.last)) in
+    let few : k ≤ 62 = times_most g.chunk g.is_chunk in
+    let at : new.buffer.at ≡ c * min n (k + length past) = after.at_is ∙ ap (λ m. c * min n m) many in
+    let P : ℕ → Type 0 = λ j. old.buffer.at ≡ j * min n (length past) → length old.buffer.out ≡ j * n → new.buffer.at ≡ j * min n (k + length past)
+    → length new.buffer.out ≡ j * n → new.buffer.at < length new.buffer.out in
+    by_channels P is (λ a b d e. omega (arith, room, few)) (λ a b d e. omega (arith, room, few)) s.filled.at_is s.filled.room at after.room
+
+-- if there is room and fewer bytes are left than an end marker has, the bytes are cut for an image
+-- of any more pixels
+pub few_left_more : {f c n : ℕ} {table : List ℕ} {last : ℕ} {out : List ℕ} {at : ℕ} (start : Option (List ℕ)) (rest : List ℕ) → IsChannels c
+    → DecoderBetween f c n (Consumes start (Some rest)) (filling table last out at) → at < length out → AreBytes rest → length rest < 8
+    → (k : ℕ) → n ≤ k → IfSome start (AreCut k)
+few_left_more {f} {c} {n} {table} {last} {out} {at} start rest is s inside fits few k more =
+    let zeros : List ℕ = replicate (c * k - length out) 0 in
+    let least : length out ≤ c * k = by_channels (λ j. length out ≡ j * n → length out ≤ j * k) is (λ e. omega (arith, more)) (λ e. omega (arith, more)) s.filled.room in
+    let size : length out + length zeros ≡ c * k = omega (arith, least, length-replicate {A = ℕ} (c * k - length out) 0) in
+    few_left start rest is (grows is s inside k zeros size) (omega (arith, inside, length-append out zeros)) fits few
+
+-- a channel or more
+pub some_channels : (c : ℕ) → IsChannels c → 0 < c
+some_channels c is = by_channels (λ k. 0 < k) is (omega arith) (omega arith)
+
+-- a step is whole pixels
+pub whole_step : (c len new : ℕ) → IsChannels c → len % c ≡ 0 → new ≡ len + STEP * c → new % c ≡ 0
+whole_step c len new is = by_channels (λ k. len % k ≡ 0 → new ≡ len + STEP * k → new % k ≡ 0) is (λ a b. omega arith) (λ a b. omega arith)
+
+-- fewer bytes are no more pixels
+pub fewer_pixels : (c few many : ℕ) → IsChannels c → few ≤ many → few / c ≤ many / c
+fewer_pixels c few many is = by_channels (λ k. few ≤ many → few / k ≤ many / k) is (λ l. omega arith) (λ l. omega arith)
+
+-- no bytes are whole pixels
+pub none_whole : (c len : ℕ) → IsChannels c → len ≡ 0 → len % c ≡ 0
+none_whole c len is = by_channels (λ k. len ≡ 0 → len % k ≡ 0) is (λ e. omega arith) (λ e. omega arith)
+
+-- what ends before m pixels ends before n, if that is no less
+ends_more : (m n : ℕ) (bytes : List ℕ) → m ≤ n → EndsBefore m bytes → EndsBefore n bytes
+ends_more m n bytes more (cs, part, has, short, is_part) = (
+  cs,
+  part,
+  record { chunks = has.chunks; stays_below = stays_more m n more [] cs has.stays_below; split = has.split },
+  omega (arith, more, short),
+  is_part,
+)
+
+-- the same of what was taken
+pub taken_more : (m n : ℕ) (old new : Option (List ℕ)) → m ≤ n → HasTaken old new (EndsBefore m) → HasTaken old new (EndsBefore n)
+taken_more m n old new more (taken, took, ends) = (taken, took, ends_more m n taken more ends)
+
+-- what is written is at most 248 bytes for each byte ahead
+pub written_most : {f c n : ℕ} {now : Filling} (start new : Option (List ℕ)) → IsChannels c → DecoderBetween f c n (Consumes start new) now
+    → IfSome start (λ bytes. now.buffer.at ≤ 248 * length bytes)
+written_most None new is s = tt
+written_most (Some bytes) None is s = absurd s.taken
+written_most {c = c} {n = n} {now = now} (Some bytes) (Some rest) is s =
+    let past = then_chunks [] s.cs in
+    let many = pixels_most [] s.cs s.chunks in
+    let size : length bytes ≡ length (chunk_bytes s.cs) + length rest = ap length s.taken ∙ length-append (chunk_bytes s.cs) rest in
+    let P : ℕ → Type 0 = λ k. now.buffer.at ≡ k * min n (length past) → now.buffer.at ≤ 248 * length bytes in
+    by_channels P is (λ e. omega (arith, many, size)) (λ e. omega (arith, many, size)) s.filled.at_is
+
+-- so is what has some bytes more, and these
+pub at_most : (start : Option (List ℕ)) (few many more : ℕ) → many ≤ few + more → IfSome start (λ bytes. few ≤ 248 * length bytes)
+    → IfSome start (λ bytes. many ≤ 248 * length bytes + more)
+at_most None few many more is within = tt
+at_most (Some bytes) few many more is within = omega (arith, is, within)

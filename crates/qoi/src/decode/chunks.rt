@@ -1,0 +1,183 @@
+//! The loops of every kind of reader: into a buffer, and into a vector that grows.
+ghost use Rattle.std.specs.Prelude.{◌≡◌, ℕ, ◌+◌, ◌-◌, ◌*◌, ◌/◌, ◌%◌, ◌<◌, ◌≤◌, List, ◌++◌, length, replicate, Option, Bool, IfSome, IfOk, IfErr, OnOk};
+ghost use Rattle.std.specs.Vec.{vec_len, vec_capacity};
+ghost use Rattle.std.specs.Io.KnownBytes.{Consumes};
+ghost use Rattle.qoi.specs.Qoi.{end_marker, run_max};
+ghost use Rattle.qoi.specs.Raw.{IsChannels};
+ghost use Rattle.qoi.specs.Decoding.{StreamsPixels, ReadsImage};
+ghost use Rattle.qoi.specs.declared.error.Error.{Error};
+ghost use Rattle.qoi.specs.inner.Chunks.{RefusesChunks, RefusesAfter};
+ghost use Rattle.qoi.specs.inner.Filling.{filling, DecoderBetween};
+ghost use Rattle.qoi.specs.declared.decode.chunks.TheConstants.{STEP};
+ghost use Rattle.qoi.specs.declared.decode.pixels.TheConstants.{RUN_ROOM};
+
+use crate::error::Result;
+use crate::hashed::Hashed;
+use crate::table::HashedTable;
+
+/// By how many pixels a vector grows, before they are decoded: few enough to stay in the cache.
+const STEP: usize = 16384;
+
+/// What takes chunks, in `N` channels of output, from a file of `F` channels.
+pub(super) trait Chunks<const N: usize, const F: usize>: Sized {
+    /// The bytes that stand ahead, if the reader's contract states them.
+    ghost ahead: { Self → Option (List ℕ) };
+
+    /// Whether they stand in memory.
+    ghost in_memory: { Bool };
+
+    /// Decodes chunks, after the pixel `last` and the first `at` bytes of `out`, as long as `out`
+    /// has room for the blocks of any run. Returns the last pixel, and where in `out` it stopped.
+    ///
+    /// What refuses the chunks refuses them for any image that has more pixels than fit.
+    fn some_chunks(
+        &mut self,
+        table: &mut HashedTable,
+        last: Hashed,
+        out: &mut [u8],
+        at: usize,
+    ) -> Result<(Hashed, usize)>
+        requires channels { IsChannels N }
+        requires between { (n : ℕ) × (start : Option (List ℕ))
+            × DecoderBetween F N n (Consumes start (ahead self.old))
+            (filling table.old last out.old at) }
+        ensures between { (n : ℕ) (start : Option (List ℕ))
+            → DecoderBetween F N n (Consumes start (ahead self.old))
+            (filling table.old last out.old at)
+            → IfOk result (λ now. DecoderBetween F N n (Consumes start (ahead self.new))
+            (filling table.new now.0 out.new now.1)) }
+        ensures below { at < length out.old → IfOk result (λ now. now.1 < length out.new) }
+        ensures filled { IfOk result (λ now. length out.new < now.1 + RUN_ROOM) }
+        ensures refused { (n : ℕ) (start : Option (List ℕ))
+            → DecoderBetween F N n (Consumes start (ahead self.old))
+            (filling table.old last out.old at)
+            → (all : ℕ) → n ≤ all
+            → IfErr result (RefusesChunks in_memory all start (ahead self.new)) };
+
+    /// The same until `out` is full; takes no byte past the last chunk.
+    fn all_chunks(
+        &mut self,
+        table: &mut HashedTable,
+        last: Hashed,
+        out: &mut [u8],
+        at: usize,
+    ) -> Result<()>
+        requires channels { IsChannels N }
+        requires between { (n : ℕ) × (start : Option (List ℕ))
+            × DecoderBetween F N n (Consumes start (ahead self.old))
+            (filling table.old last out.old at) }
+        ensures read { (n : ℕ) (start : Option (List ℕ))
+            → DecoderBetween F N n (Consumes start (ahead self.old))
+            (filling table.old last out.old at)
+            → OnOk result (StreamsPixels F N n start (ahead self.new) out.new) }
+        ensures refused { (n : ℕ) (start : Option (List ℕ))
+            → DecoderBetween F N n (Consumes start (ahead self.old))
+            (filling table.old last out.old at)
+            → IfErr result (RefusesChunks in_memory n start (ahead self.new)) };
+
+    /// Takes the end marker, or refuses the bytes ahead.
+    fn marker(&mut self) -> Result<()>
+        ensures read { OnOk result (Consumes (ahead self.old) (ahead self.new) end_marker) }
+        ensures refused { IfErr result
+            (RefusesAfter in_memory (ahead self.old) (ahead self.new)) };
+}
+
+// Appends zeros to a vector up to `size` bytes, for which it has the capacity, and no more of them
+// than a step.
+#[inline]
+fn grow<const N: usize>(out: &mut Vec<u8>, size: usize)
+    requires more { vec_len out.old ≤ size }
+    requires step { size ≤ vec_len out.old + STEP * N }
+    requires room { size ≤ vec_capacity out.old }
+    ensures items { out.new.items ≡ out.old.items ++ replicate (size - vec_len out.old) 0 }
+    ensures len { vec_len out.new ≡ size }
+    ensures capacity { vec_capacity out.old ≤ vec_capacity out.new }
+{
+    let _within = out.resize(size, 0);
+}
+
+// Decodes chunks until `out` is full, and takes no byte past the last of them.
+fn chunks_to_buf<R: Chunks<N, F>, const N: usize, const F: usize>(
+    reader: &mut R,
+    out: &mut [u8],
+) -> Result<()>
+    requires channels { IsChannels N }
+    requires whole { length out.old % N ≡ 0 }
+    ensures read { OnOk result (StreamsPixels F N (length out.old / N)
+        (R.ahead reader.old) (R.ahead reader.new) out.new) }
+    ensures refused { IfErr result (RefusesChunks R.in_memory (length out.old / N)
+        (R.ahead reader.old) (R.ahead reader.new)) }
+{
+    let mut table = HashedTable::new();
+    reader.all_chunks(&mut table, Hashed::start(), out, 0)
+}
+
+// Decodes chunks into an empty vector until it has `size` bytes, and takes no byte past the last of
+// them. The vector grows by steps, each of which is filled, but for less than a run, before the
+// next.
+fn chunks_to_vec<R: Chunks<N, F>, const N: usize, const F: usize>(
+    reader: &mut R,
+    out: &mut Vec<u8>,
+    size: usize,
+) -> Result<()>
+    requires channels { IsChannels N }
+    requires whole { size % N ≡ 0 }
+    requires empty { vec_len out.old ≡ 0 }
+    requires room { size ≤ vec_capacity out.old }
+    ensures read { OnOk result (StreamsPixels F N (size / N)
+        (R.ahead reader.old) (R.ahead reader.new) out.new.items) }
+    ensures refused { IfErr result (RefusesChunks R.in_memory (size / N)
+        (R.ahead reader.old) (R.ahead reader.new)) }
+    // Whatever the size, the vector has at most 248 bytes for each byte ahead, and those of a step
+    // and a run.
+    ensures grown { IfSome (R.ahead reader.old) (λ bytes.
+        vec_len out.new ≤ 4 * run_max * length bytes + (STEP * N + RUN_ROOM)) }
+{
+    let mut table = HashedTable::new();
+    let mut last = Hashed::start();
+    let mut at = 0;
+    while STEP * N < size - out.len() {
+        let more = out.len() + STEP * N;
+        grow::<N>(out, more);
+        let now = reader.some_chunks(&mut table, last, out, at)?;
+        last = now.0;
+        at = now.1;
+    }
+    grow::<N>(out, size);
+    reader.all_chunks(&mut table, last, out, at)
+}
+
+/// Decodes chunks and the end marker into a buffer, and takes no byte past them.
+pub(super) fn image_to_buf<R: Chunks<N, F>, const N: usize, const F: usize>(
+    reader: &mut R,
+    out: &mut [u8],
+) -> Result<()>
+    requires channels { IsChannels N }
+    requires whole { length out.old % N ≡ 0 }
+    ensures read { OnOk result (ReadsImage F N (length out.old / N)
+        (R.ahead reader.old) (R.ahead reader.new) out.new) }
+    ensures refused { IfErr result (RefusesChunks R.in_memory (length out.old / N)
+        (R.ahead reader.old) (R.ahead reader.new)) }
+{
+    chunks_to_buf::<R, N, F>(reader, out)?;
+    reader.marker()
+}
+
+/// The same into an empty vector with capacity for `size` bytes, which then has as many.
+pub(super) fn image_to_vec<R: Chunks<N, F>, const N: usize, const F: usize>(
+    reader: &mut R,
+    out: &mut Vec<u8>,
+    size: usize,
+) -> Result<()>
+    requires channels { IsChannels N }
+    requires whole { size % N ≡ 0 }
+    requires empty { vec_len out.old ≡ 0 }
+    requires room { size ≤ vec_capacity out.old }
+    ensures read { OnOk result (ReadsImage F N (size / N)
+        (R.ahead reader.old) (R.ahead reader.new) out.new.items) }
+    ensures refused { IfErr result (RefusesChunks R.in_memory (size / N)
+        (R.ahead reader.old) (R.ahead reader.new)) }
+{
+    chunks_to_vec::<R, N, F>(reader, out, size)?;
+    reader.marker()
+}

@@ -1,0 +1,205 @@
+//! Vectors that cost what they hold: images of more than one step of 16384 pixels, headers that say
+//! more than follows them, and a reader that leaves the vector to the trait.
+ghost use Rattle.std.specs.Prelude.{◌≡◌, ◌%◌, Some, true, refl};
+ghost use Rattle.qoi.specs.Raw.{IsChannels};
+
+use crate::tests::fakes::{ONE_RGB_PIXEL, PIXEL};
+use crate::tests::library::support::decodings::{CUT, Decoding};
+use crate::tests::library::support::generator::{Numbers, drawn};
+use crate::tests::library::support::images::{Image, file_of, row};
+use crate::tests::library::support::{
+    assert_bytes, assert_fails, assert_given, assert_header, assert_number, assert_refused,
+};
+use qoi::parts::{Buffered, Bytes, Reader};
+use qoi::{Channels, Decoder, Error, Header, Result, Style, encode_to_vec};
+use std::alloc::Global;
+use std::io::ErrorKind;
+use std::process::Abort;
+use std::rt::Files;
+use std::{fs, io};
+
+// A vector that holds a file has just its capacity.
+fn assert_exact(rt: &impl Abort, file: Result<Vec<u8>>) {
+    let file = file.expect(rt, "refused");
+    assert_number(rt, file.capacity(), file.len());
+}
+
+#[test]
+fn files_take_their_length(rt: HostRuntime) {
+    let alloc = rt.alloc();
+    let flat = vec![in alloc; 7u8; 300_000].expect(&rt, "refused");
+    assert_exact(&rt, encode_to_vec(alloc, &flat, 1000, 100));
+    assert_exact(&rt, encode_to_vec(alloc, &PIXEL, 1, 1));
+    let mut numbers = Numbers::new(0xca9ac);
+    let pixels = drawn(alloc, &mut numbers, Channels::Rgba, 5000).expect(&rt, "refused");
+    let image = Image::of(alloc, row(5000, Channels::Rgba), Style::Tight, &pixels);
+    let image = image.expect(&rt, "refused");
+    let encoder = image.encoder().expect(&rt, "refused");
+    assert_exact(&rt, encoder.encode_to_vec(alloc));
+}
+
+// The image comes back by each call and from each reader, and half of its file is cut.
+fn assert_comes_back(rt: &impl Abort, alloc: Global, header: Header, file: &[u8], raw: &[u8]) {
+    let whole = Decoding {
+        bytes: file,
+        header,
+        channels: header.channels,
+    };
+    whole.check(rt, alloc, raw, &[]);
+    whole.check_free(rt, alloc, raw);
+    let half = Decoding {
+        bytes: &file[..file.len() / 2],
+        ..whole
+    };
+    half.check_cut(rt, alloc);
+}
+
+// Images that end just before, at and just after the end of a step, and in the third one.
+#[test]
+fn images_of_several_steps(rt: HostRuntime) {
+    let alloc = rt.alloc();
+    let mut numbers = Numbers::new(0x57e95);
+    for width in [16_383, 16_384, 16_385, 32_768, 40_001u32] {
+        let channels = if width % 2 == 0 {
+            Channels::Rgba
+        } else {
+            Channels::Rgb
+        };
+        let pixels = drawn(alloc, &mut numbers, channels, width as usize);
+        let pixels = pixels.expect(&rt, "refused");
+        let image = Image::of(alloc, row(width, channels), Style::Reference, &pixels);
+        let image = image.expect(&rt, "refused");
+        assert_comes_back(&rt, alloc, image.header, &image.file, &image.raw);
+    }
+}
+
+// An RGB chunk and so many runs of 62.
+fn runs(alloc: Global, count: usize) -> Result<Vec<u8>> {
+    let mut chunks = vec![in alloc; 0xfdu8; count.saturating_add(4)]?;
+    for (chunk, byte) in chunks.iter_mut().zip([0xfe, 1, 2, 3]) {
+        *chunk = byte;
+    }
+    Ok(chunks)
+}
+
+// Runs that stand across the ends of steps. The image ends within the last of them, too.
+#[test]
+fn runs_across_steps(rt: HostRuntime) {
+    let alloc = rt.alloc();
+    let chunks = runs(alloc, 1100).expect(&rt, "refused");
+    for width in [68_201, 68_150] {
+        let header = row(width, Channels::Rgb);
+        let file = file_of(alloc, header, &chunks).expect(&rt, "refused");
+        let mut raw = vec![in alloc; 0u8; 3 * width as usize].expect(&rt, "refused");
+        for px in raw.chunks_exact_mut(3) {
+            px.copy_from_slice(&[1, 2, 3]);
+        }
+        assert_comes_back(&rt, alloc, header, &file, &raw);
+    }
+}
+
+// The header of 20000 by 20000 pixels and an end marker.
+const LARGE: [u8; 22] = [
+    0x71, 0x6f, 0x69, 0x66, 0, 0, 0x4e, 0x20, 0, 0, 0x4e, 0x20, 4, 0, 0, 0, 0, 0, 0, 0, 0, 1,
+];
+
+// The most memory that this process took so far, in kibibytes.
+fn most_memory<R: Files + AllocGlobal>(rt: &R) -> io::Result<usize> {
+    let status = fs::read_to_string(rt, "/proc/self/status")?;
+    for line in status.as_str().lines() {
+        if let Some(rest) = line.strip_prefix("VmHWM:") {
+            let number = rest.split_whitespace().next().unwrap_or("");
+            return Ok(number.parse::<usize>().unwrap_or(0));
+        }
+    }
+    Ok(0)
+}
+
+// A vector of 1.6 GB is asked for, and next to nothing of it is written.
+#[test]
+fn headers_take_no_memory(rt: HostRuntime) -> Result<()> {
+    let alloc = rt.alloc();
+    let before = most_memory(&rt)?;
+    let slice = Decoder::new(&LARGE)?.decode_to_vec(alloc);
+    assert_refused(&rt, alloc, slice.err(), CUT);
+    let few = Decoder::new(&LARGE[..21])?.decode_to_vec(alloc);
+    assert_refused(&rt, alloc, few.err(), CUT);
+    let stream = Decoder::from_stream(&LARGE[..])?.decode_to_vec(alloc);
+    assert_fails(&rt, stream.err(), ErrorKind::UnexpectedEof);
+    let buffered = Decoder::from_buf_read(&LARGE[..])?.decode_to_vec(alloc);
+    assert_fails(&rt, buffered.err(), ErrorKind::UnexpectedEof);
+    let after = most_memory(&rt)?;
+    assert!(rt; before > 0 && after <= before.saturating_add(16 * 1024));
+    Ok(())
+}
+
+// A reader that has the two methods which each reader must have.
+#[derive(Drop)]
+struct Plain<'a>(Bytes<'a>);
+
+impl<'a> Reader for Plain<'a> {
+    ghost ahead = { λ plain. Some plain.0 };
+
+    ghost in_memory = { true };
+
+    ghost stated = { λ _ _. refl };
+
+    fn decode_header(&mut self) -> Result<Header> {
+        self.0.decode_header()
+    }
+
+    fn decode_image(&mut self, out: &mut [u8], channels: u8, file_channels: u8) -> Result<()> {
+        self.0.decode_image(out, channels, file_channels)
+    }
+}
+
+// Reads an image into a new vector, by the trait alone.
+fn vector_of<R: Reader>(
+    alloc: Global,
+    reader: &mut R,
+    size: usize,
+    channels: u8,
+    file_channels: u8,
+) -> Result<Vec<u8>>
+    requires { IsChannels channels → IsChannels file_channels → size % channels ≡ 0 }
+{
+    let mut out = Vec::with_capacity(alloc, size)?;
+    reader.decode_image_to_vec(&mut out, size, channels, file_channels)?;
+    Ok(out)
+}
+
+// Reads the header and the image of one pixel, an end marker after no pixels, and then bytes that
+// are cut. If either number of channels is neither 3 nor 4, the error names the first.
+fn assert_reads<R: Reader>(rt: &impl Abort, alloc: Global, reader: &mut R) {
+    let header = reader.decode_header().expect(rt, "refused");
+    assert_header(rt, &header, &Header::default());
+    for (channels, file_channels) in [(5, 3), (3, 7)] {
+        let refusal = vector_of(alloc, reader, 12, channels, file_channels).err();
+        assert!(rt;
+            matches!(refusal, Some(Error::InvalidChannels { channels: other }) if other == channels)
+        );
+    }
+    assert_given(rt, vector_of(alloc, reader, 3, 3, 3), &PIXEL);
+    assert_given(rt, vector_of(alloc, reader, 0, 3, 3), &[]);
+    assert!(rt; vector_of(alloc, reader, 3, 3, 3).is_err());
+}
+
+#[test]
+fn readers_read_into_vectors(rt: HostRuntime) {
+    let alloc = rt.alloc();
+    let mut bytes = [0; 35];
+    bytes[..26].copy_from_slice(&ONE_RGB_PIXEL);
+    bytes[33] = 1;
+    let mut plain = Plain(Bytes::new(&bytes));
+    assert_reads(&rt, alloc, &mut plain);
+    assert_bytes(&rt, plain.0.as_slice(), &[0]);
+    let mut slice = Bytes::new(&bytes);
+    assert_reads(&rt, alloc, &mut slice);
+    assert_bytes(&rt, slice.as_slice(), &[0]);
+    let mut stream = bytes.as_slice();
+    assert_reads(&rt, alloc, &mut stream);
+    assert_bytes(&rt, stream, &[]);
+    let mut buffered = Buffered::new(bytes.as_slice());
+    assert_reads(&rt, alloc, &mut buffered);
+    assert_bytes(&rt, buffered.into_inner(), &[]);
+}
