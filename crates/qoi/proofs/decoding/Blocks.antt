@@ -1,7 +1,7 @@
 -- Sixteen bytes at a time.
-use Rattle.std.proofs.Common.{◌≡◌, [], ◌∷◌, ℕ, ◌+◌, ◌-◌, ◌*◌, ◌/◌, ◌≤◌, List, ◌++◌, length, take, drop, replicate, arith, refl, sym, ap, ◌∙◌, append-nil, append_assoc}
-use Rattle.std.proofs.lemmas.List.{take-take, length-take-le, length-drop, length-replicate, take-replicate, replicate-append-replicate}
-use Rattle.std.proofs.lemmas.Grind.{flat_map-append}
+use Rattle.std.proofs.Common.{◌≡◌, [], ◌∷◌, ℕ, ◌+◌, ◌-◌, ◌*◌, ◌/◌, ◌≤◌, List, ◌++◌, length, take, drop, set, get_or, replicate, arith, refl, sym, ap, ◌∙◌, append-nil, append_assoc}
+use Rattle.std.proofs.lemmas.List.{take-take, length-take-le, length-drop, length-set, length-replicate, take-replicate, replicate-append-replicate}
+use Rattle.std.proofs.lemmas.Grind.{flat_map-append, take-set_at}
 use Rattle.std.proofs.Math.Seq.{take-append-add}
 use Rattle.std.proofs.lemmas.Simd.{put_chunk_whole}
 use Rattle.std.proofs.lemmas.Slice.{take-put_mid}
@@ -94,25 +94,25 @@ block_written f c p out bytes at count is room e le =
       same = whole_written f c p out bytes at is room e;
     })
 
--- a pixel alone
-pub pixel_written : (f c : ℕ) (p : RgbaPixel) (out bytes : List ℕ) (at : ℕ) → IsChannels c → at + c ≤ length out
-    → bytes ≡ take 16 (output f c (replicate 6 p))
-    → HasWritten f c (upto out at) (upto (put_mid at (at + c - at) out (take c bytes)) (at + c)) (p ∷ [])
-pixel_written f c p out bytes at is room e =
-    let piece = one_of f c p bytes is e in
-    record {
-      at_is = one c at;
-      same = front_written at c c out (take c bytes) piece.1 room (omega arith) ∙ ap (λ z. take at out ++ z) (piece.2 ∙ piece.0 ∙ sym (append-nil (pixel_bytes f c p)));
-    }
-  where
-    one : (c at : ℕ) → at + c ≡ at + c * 1
-    one c at = omega arith
+-- three bytes stored one by one
+three_put : (at : ℕ) (out : List ℕ) (x y z : ℕ) → at + 3 ≤ length out → take (at + 3) (set (set (set out at x) (at + 1) y) (at + 2) z) ≡ take at out ++ x ∷ y ∷ z ∷ []
+three_put at out x y z room = grind (arith, take-set_at, length-set, append_assoc)
 
-    one_of : (f c : ℕ) (p : RgbaPixel) (bytes : List ℕ) → IsChannels c → bytes ≡ take 16 (output f c (replicate 6 p))
-        → (take c bytes ≡ pixel_bytes f c p) × (length (take c bytes) ≡ c) × (take c (take c bytes) ≡ take c bytes)
-    one_of f c p bytes is = by_channels (λ d. bytes ≡ take 16 (output f d (replicate 6 p))
-        → (take d bytes ≡ pixel_bytes f d p) × (length (take d bytes) ≡ d) × (take d (take d bytes) ≡ take d bytes)) is (λ e. rw e (refl, refl, refl))
-        (λ e. rw e (refl, refl, refl))
+-- and four
+four_put : (at : ℕ) (out : List ℕ) (w x y z : ℕ) → at + 4 ≤ length out → take (at + 4) (set (set (set (set out at w) (at + 1) x) (at + 2) y) (at + 3) z) ≡ take at out ++ w ∷ x ∷ y ∷ z ∷ []
+four_put at out w x y z room = grind (arith, take-set_at, length-set, append_assoc)
+
+-- a pixel of three bytes alone
+pub three_bytes_written : (f c : ℕ) (p : RgbaPixel) (out bytes : List ℕ) (at : ℕ) → c ≡ 3 → at + c ≤ length out
+    → bytes ≡ take 16 (output f c (replicate 6 p))
+    → HasWritten f c (upto out at) (upto (set (set (set out at (get_or bytes 0 0)) (at + 1) (get_or bytes 1 0)) (at + 2) (get_or bytes 2 0)) (at + c)) (p ∷ [])
+three_bytes_written f c p out bytes at e room is = rw (is, e) (record { at_is = omega arith; same = three_put at out _ _ _ (omega (arith, room, e)) })
+
+-- a pixel of four bytes alone
+pub four_bytes_written : (f c : ℕ) (p : RgbaPixel) (out bytes : List ℕ) (at : ℕ) → c ≡ 4 → at + c ≤ length out
+    → bytes ≡ take 16 (output f c (replicate 6 p))
+    → HasWritten f c (upto out at) (upto (set (set (set (set out at (get_or bytes 0 0)) (at + 1) (get_or bytes 1 0)) (at + 2) (get_or bytes 2 0)) (at + 3) (get_or bytes 3 0)) (at + c)) (p ∷ [])
+four_bytes_written f c p out bytes at e room is = rw (is, e) (record { at_is = omega arith; same = four_put at out _ _ _ _ (omega (arith, room, e)) })
 
 -- no copies
 pub written_none : (f c : ℕ) (old : List ℕ) (at : ℕ) (p : RgbaPixel) → HasWritten f c (upto old at) (upto old (at + c * 0)) (replicate 0 p)

@@ -26,8 +26,14 @@ fn write_pixel<const N: usize, const F: usize>(out: &mut [u8], at: usize, px: Ha
     requires room { at + N ≤ length out.old }
     ensures { HasWritten F N (upto out.old at) (upto out.new (at + N)) (pixel_of_lanes px ∷ []) }
 {
+    // One by one: a copied slice is stored on the stack, and loading it again from there stalls.
     let bytes = px.block::<N, F>().to_array();
-    out[at..at + N].copy_from_slice(&bytes[..N]);
+    out[at] = bytes[0];
+    out[at + 1] = bytes[1];
+    out[at + 2] = bytes[2];
+    if N == 4 {
+        out[at + 3] = bytes[3];
+    }
 }
 
 /// Writes a block of sixteen bytes at `at`: the pixel as often as it fits and, in three channels, a

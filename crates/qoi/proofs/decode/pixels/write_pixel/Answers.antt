@@ -1,9 +1,10 @@
 -- The front of a block is the pixel.
-use Rattle.std.proofs.Common.{◌≡◌, take, rules}
-use Rattle.qoi.proofs.decoding.Blocks.{pixel_written}
+use Rattle.std.proofs.Common.{arith}
+use Rattle.qoi.proofs.decoding.Blocks.{three_bytes_written, four_bytes_written}
 use Rattle.qoi.proofs.decode.pixels.write_pixel.Goals as goal
 
-pub returns : goal.returns
-returns g c =
-    let piece : c.copy_from_slice.new.self ≡ take g.row.N c.block.result = search rules in
-    rw piece (pixel_written g.row.F g.row.N _ c.args.out.now c.block.result c.args.at c.requires.channels c.requires.room c.block.ensures)
+pub returns-then-this-eq4 : goal.returns-then-this-eq4
+returns-then-this-eq4 g c = four_bytes_written g.row.F g.row.N _ c.args.out.now c.block.result c.args.at c.if-this-eq4.true c.requires.room c.block.ensures
+
+pub returns-else-this-eq4 : goal.returns-else-this-eq4
+returns-else-this-eq4 g c = three_bytes_written g.row.F g.row.N _ c.args.out.now c.block.result c.args.at (omega (arith, c.requires.channels, c.if-this-eq4.false)) c.requires.room c.block.ensures
