@@ -1,7 +1,8 @@
 //! Encoding, into buffers, vectors and writers.
-ghost use Rattle.std.specs.Prelude.{◌≡◌, ℕ, ◌<◌, ◌≤◌, List, length, ◌⊎◌, Ok, Err, IsErrOf, IsOk, IsOkUnless, IfOk, IfErr};
+ghost use Rattle.std.specs.Prelude.{◌≡◌, ℕ, ◌*◌, ◌<◌, ◌≤◌, List, length, ◌⊎◌, Ok, Err, IsErrOf, IsOk, IsOkUnless, IfOk, IfErr};
 ghost use Rattle.std.specs.Io.KnownBytes.{Appends};
 ghost use Rattle.qoi.specs.declared.header.Header.{Header};
+ghost use Rattle.qoi.specs.declared.encode.piece.TheConstants.{PAST, STREAM_ROOM};
 ghost use Rattle.qoi.specs.declared.error.Error.{Error};
 ghost use Rattle.qoi.specs.declared.types.Channels.{Channels};
 ghost use Rattle.qoi.specs.declared.types.ColorSpace.{ColorSpace};
@@ -9,7 +10,7 @@ ghost use Rattle.qoi.specs.declared.types.Style.{Style};
 ghost use Rattle.qoi.specs.declared.types.Style.TheVariants.{Reference, Places, Tight};
 ghost use Rattle.qoi.specs.Qoi.{IsValid};
 ghost use Rattle.qoi.specs.Raw.{image_byte_count};
-ghost use Rattle.qoi.specs.Encoded.{max_len, max_file_len, image_header, IsFileOf};
+ghost use Rattle.qoi.specs.Encoded.{max_len, max_file_len, image_header, measured, with_number, IsFileOf};
 ghost use Rattle.qoi.specs.Errors.{IsIoError};
 ghost use Rattle.qoi.specs.EncoderState.{free_encoder};
 ghost use Rattle.qoi.specs.Sent.{IsFileFor, MakesFile, PutsFile, SendsFile, SendsPart};
@@ -22,7 +23,7 @@ pub(crate) mod quad;
 
 use crate::consts::QOI_PADDING;
 use crate::encode::chunks::encode_chunks;
-use crate::encode::piece::{Piece, ROOM};
+use crate::encode::piece::{BUFFER_ROOM, Piece, STREAM_ROOM};
 use crate::error::{Error, Result};
 use crate::header::{Header, max_file_size};
 use crate::types::{Channels, ColorSpace, Style};
@@ -31,8 +32,14 @@ use std::alloc::Global;
 use std::io::Write;
 use std::marker::Model;
 
-// Writes the file of an image, and returns how many bytes it has.
-fn encode_image<W: Writer>(buf: &mut W, style: Style, header: &Header, data: &[u8]) -> Result<usize>
+// Writes the file of an image through a piece with this room, and returns how many bytes it has.
+fn encode_image<W: Writer, const ROOM: usize>(
+    buf: &mut W,
+    style: Style,
+    header: &Header,
+    data: &[u8],
+) -> Result<usize>
+    requires piece { (2 * PAST ≤ ROOM) × (ROOM ≤ STREAM_ROOM) }
     requires valid { IsValid header.now }
     requires image { length «data».now ≡ image_byte_count header.now }
     requires room { max_file_len header.now ≤ W.room buf.old }
@@ -45,12 +52,36 @@ fn encode_image<W: Writer>(buf: &mut W, style: Style, header: &Header, data: &[u
 {
     let room = buf.capacity();
     let mut bytes = [0; ROOM];
-    let mut piece = Piece::new(&mut bytes);
+    let mut piece = Piece::<ROOM>::new(&mut bytes);
     piece.keep(&header.encode());
     encode_chunks(buf, &mut piece, style, header.channels, data)?;
     piece.keep(&QOI_PADDING);
     piece.finish(buf)?;
     Ok(room - buf.capacity())
+}
+
+// The channels that an image of this size has in these raw bytes. Only a refusal takes a division.
+fn channels_found(data: &[u8], header: &Header) -> Result<Channels>
+    requires { IsValid header.now }
+    ensures { with_number header.now result ≡ measured «data».now (Ok header.now) }
+{
+    let size = data.len();
+    let n_pixels = header.n_pixels();
+    if size == 3 * n_pixels {
+        return Ok(Channels::Rgb);
+    }
+    if size == 4 * n_pixels {
+        return Ok(Channels::Rgba);
+    }
+    if size % n_pixels == 0 {
+        let channels = (size / n_pixels).min(0xff) as u8;
+        return Err(Error::InvalidChannels { channels });
+    }
+    Err(Error::InvalidImageLength {
+        size,
+        width: header.width,
+        height: header.height,
+    })
 }
 
 /// The most bytes that the file of an image can have, or the greatest `usize` if that is less:
@@ -151,16 +182,7 @@ impl<'a> Encoder<'a> {
         ensures refused { IfErr result (λ e. image_header «data».entry.now width height ≡ Err e) }
     {
         let mut header = Header::try_new(width, height, Channels::Rgb, ColorSpace::Srgb)?;
-        let size = data.len();
-        let n_pixels = header.n_pixels();
-        if size % n_pixels != 0 {
-            return Err(Error::InvalidImageLength {
-                size,
-                width,
-                height,
-            });
-        }
-        header.channels = Channels::try_from((size / n_pixels).min(0xff) as u8)?;
+        header.channels = channels_found(data, &header)?;
         Ok(Encoder {
             data,
             header,
@@ -242,7 +264,7 @@ impl<'a> Encoder<'a> {
             });
         }
         let mut writer = BytesMut::new(buf);
-        let n = encode_image(&mut writer, self.style, &self.header, self.data)?;
+        let n = encode_image::<_, BUFFER_ROOM>(&mut writer, self.style, &self.header, self.data)?;
         Ok(n)
     }
 
@@ -280,7 +302,7 @@ impl<'a> Encoder<'a> {
             × SendsPart self.now (W.contents writer.old) (W.contents writer.new)) }
     {
         let mut writer = GenericWriter::new(writer);
-        let n = encode_image(&mut writer, self.style, &self.header, self.data)?;
+        let n = encode_image::<_, STREAM_ROOM>(&mut writer, self.style, &self.header, self.data)?;
         Ok(n)
     }
 }

@@ -19,7 +19,7 @@ found_channels k Rgb = refl
 found_channels k Rgba = refl
 
 -- so they are from a number of bytes
-found_by : (k : Header) (d : Channels) (m n : ℕ) → m ≡ n * channels_number d → 0 < n
+pub found_by : (k : Header) (d : Channels) (m n : ℕ) → m ≡ n * channels_number d → 0 < n
     → (if m % n == 0 then with_number k (channels_of (min (m / n) 255)) else Err (InvalidImageLength m k.width k.height))
     ≡ Ok (record k { channels = d })
 found_by k d m n size some =

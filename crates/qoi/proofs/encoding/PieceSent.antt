@@ -9,7 +9,7 @@ use Rattle.qoi.specs.writers.Writes.{WriterLaws, WroteBut, WroteBeginning}
 use Rattle.qoi.proofs.encoding.WriterProgress.{wrote_none, wrote_next, wrote_part, wrote_all}
 
 -- as many bytes are kept as the piece says
-pub kept_length : (s : Piece) → length (kept_bytes s) ≡ s.end
+pub kept_length : {size : ℕ} (s : Piece size) → length (kept_bytes s) ≡ s.end
 kept_length s = length-take-le s.end s.bytes.now (omega (arith, s.within, s.room))
 
 -- the bytes after a full piece, copied to the front
@@ -23,7 +23,7 @@ moved_front xs piece room end size full within =
 
 module _ {W : Type 0} {wrote : W → List ℕ → W → Type 0} {room : W → ℕ} (laws : WriterLaws wrote room) where
   -- the kept bytes were sent as far as a full piece
-  pub sent_but : (a b next : W) (old new now : Piece) (piece : ℕ) → now ≡ new → next ≡ b
+  pub sent_but : {size : ℕ} (a b next : W) (old new now : Piece size) (piece : ℕ) → now ≡ new → next ≡ b
       → wrote a (take piece (kept_bytes old)) b → kept_bytes new ≡ drop piece (kept_bytes old) → WroteBut wrote a (kept_bytes old) (kept_bytes now) next
   sent_but a b next old new now piece is same went kept = record {
     front = take piece (kept_bytes old);
@@ -32,7 +32,7 @@ module _ {W : Type 0} {wrote : W → List ℕ → W → Type 0} {room : W → �
   }
 
   -- none of them was sent
-  pub none_but : (a next : W) (old now : Piece) → now ≡ old → next ≡ a → WroteBut wrote a (kept_bytes old) (kept_bytes now) next
+  pub none_but : {size : ℕ} (a next : W) (old now : Piece size) → now ≡ old → next ≡ a → WroteBut wrote a (kept_bytes old) (kept_bytes now) next
   none_but a next old now is same =
       subst (λ s. WroteBut wrote a (kept_bytes old) (kept_bytes s) next) (sym is)
       (subst (λ w. WroteBut wrote a (kept_bytes old) (kept_bytes old) w) (sym same) (wrote_none laws a (kept_bytes old)))

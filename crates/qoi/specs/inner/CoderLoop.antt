@@ -71,7 +71,7 @@ pub record CoderBetween {N : ℕ} (w : Writing) (rest : List RgbaPixel) (table :
   pub state : CoderAfter past before table coder
 
 -- the same for the pixels of these raw bytes and the kept bytes of a piece
-abbrev pub BytesBetween : {N : ℕ} → Writing → List ℕ → List RgbaPixel → Coder N → Piece → Type 0
+abbrev pub BytesBetween : {N size : ℕ} → Writing → List ℕ → List RgbaPixel → Coder N → Piece size → Type 0
 BytesBetween {N} w bytes table coder piece = CoderBetween w (pixels_of N bytes) table coder (kept_bytes piece)
 
 -- the pixel of a lane

@@ -1,6 +1,6 @@
 //! The chunks of an image, through a piece to a writer (QOI specification 1.0, "Data").
-ghost use Rattle.std.specs.Prelude.{◌≡◌, ◌+◌, ◌*◌, ◌/◌, ◌%◌, ◌<◌, ◌≤◌, length, OnOk, IfErr};
-ghost use Rattle.qoi.specs.declared.encode.piece.TheConstants.{PIECE};
+ghost use Rattle.std.specs.Prelude.{◌≡◌, ◌+◌, ◌-◌, ◌*◌, ◌/◌, ◌%◌, ◌<◌, ◌≤◌, length, OnOk, IfErr};
+ghost use Rattle.qoi.specs.declared.encode.piece.TheConstants.{PAST};
 ghost use Rattle.qoi.specs.declared.encode.quad.TheConstants.{READ};
 ghost use Rattle.qoi.specs.Qoi.{channels_number};
 ghost use Rattle.qoi.specs.Raw.{IsChannels, pixels_of};
@@ -16,17 +16,17 @@ use crate::utils::Writer;
 
 // `encode_chunks` for `N` channels. `STYLE` is a number for each style, so that each has a function
 // of its own: one for all would test the style at each pixel.
-fn encode_pixels<W: Writer, const N: usize, const STYLE: u8>(
+fn encode_pixels<W: Writer, const N: usize, const STYLE: u8, const ROOM: usize>(
     buf: &mut W,
-    piece: &mut Piece,
+    piece: &mut Piece<ROOM>,
     style: Style,
     data: &[u8],
 ) -> Result<()>
     requires channels { IsChannels N }
     requires whole { length «data».now % N ≡ 0 }
-    requires not_full { piece.old.end < PIECE }
+    requires not_full { piece.old.end < ROOM - PAST }
     requires room { piece.old.end + (length «data».now + length «data».now / N) ≤ W.room buf.old }
-    ensures end { OnOk result (piece.new.end < PIECE + 2 * READ) }
+    ensures end { OnOk result (piece.new.end < ROOM - PAST + 2 * READ) }
     ensures written { OnOk result (WroteChunks W.wrote style (pixels_of N «data».now)
         buf.old piece.old buf.new piece.new) }
     ensures refused { IfErr result (λ e. W.IsFault e
@@ -45,20 +45,20 @@ fn encode_pixels<W: Writer, const N: usize, const STYLE: u8>(
     }
 }
 
-/// Writes an image's raw bytes as chunks into the piece, and sends 4096 bytes to the writer each
-/// time it is full. What is left at the end stays in the piece, which may be full.
-pub(super) fn encode_chunks<W: Writer>(
+/// Writes an image's raw bytes as chunks into the piece, and sends a full piece to the writer each
+/// time there is one. What is left at the end stays in the piece, which may be full.
+pub(super) fn encode_chunks<W: Writer, const ROOM: usize>(
     buf: &mut W,
-    piece: &mut Piece,
+    piece: &mut Piece<ROOM>,
     style: Style,
     channels: Channels,
     data: &[u8],
 ) -> Result<()>
     requires whole { length «data».now % channels_number channels ≡ 0 }
-    requires not_full { piece.old.end < PIECE }
+    requires not_full { piece.old.end < ROOM - PAST }
     requires room { piece.old.end
         + (length «data».now + length «data».now / channels_number channels) ≤ W.room buf.old }
-    ensures end { OnOk result (piece.new.end < PIECE + 2 * READ) }
+    ensures end { OnOk result (piece.new.end < ROOM - PAST + 2 * READ) }
     ensures written { OnOk result (WroteChunks W.wrote style
         (pixels_of (channels_number channels) «data».now) buf.old piece.old buf.new piece.new) }
     ensures refused { IfErr result (λ e. W.IsFault e × BeganChunks W.wrote style
@@ -66,11 +66,11 @@ pub(super) fn encode_chunks<W: Writer>(
 {
     // A loop for each pair, in which channels and style are constants.
     match (channels, style) {
-        (Rgb, Reference) => encode_pixels::<W, 3, 0>(buf, piece, Reference, data),
-        (Rgb, Places) => encode_pixels::<W, 3, 1>(buf, piece, Places, data),
-        (Rgb, Tight) => encode_pixels::<W, 3, 2>(buf, piece, Tight, data),
-        (Rgba, Reference) => encode_pixels::<W, 4, 0>(buf, piece, Reference, data),
-        (Rgba, Places) => encode_pixels::<W, 4, 1>(buf, piece, Places, data),
-        (Rgba, Tight) => encode_pixels::<W, 4, 2>(buf, piece, Tight, data),
+        (Rgb, Reference) => encode_pixels::<W, 3, 0, ROOM>(buf, piece, Reference, data),
+        (Rgb, Places) => encode_pixels::<W, 3, 1, ROOM>(buf, piece, Places, data),
+        (Rgb, Tight) => encode_pixels::<W, 3, 2, ROOM>(buf, piece, Tight, data),
+        (Rgba, Reference) => encode_pixels::<W, 4, 0, ROOM>(buf, piece, Reference, data),
+        (Rgba, Places) => encode_pixels::<W, 4, 1, ROOM>(buf, piece, Places, data),
+        (Rgba, Tight) => encode_pixels::<W, 4, 2, ROOM>(buf, piece, Tight, data),
     }
 }

@@ -1,9 +1,9 @@
 //! Writes pixels, four at a time or a group of repeats, as chunks into a piece (QOI specification
 //! 1.0, "Data" and "Chunks").
 ghost use lib.Lanes.{mask_l, zip2};
-ghost use Rattle.std.specs.Prelude.{◌≡◌, ◌≢◌, ℕ, ◌+◌, ◌*◌, ◌/◌, ◌%◌, ◌<◌, ◌≤◌, nat_eq, List, [], ◌∷◌, ◌++◌, Option, None, Some, length, drop, replicate, slice_get};
+ghost use Rattle.std.specs.Prelude.{◌≡◌, ◌≢◌, ℕ, ◌+◌, ◌-◌, ◌*◌, ◌/◌, ◌%◌, ◌<◌, ◌≤◌, nat_eq, List, [], ◌∷◌, ◌++◌, Option, None, Some, length, drop, replicate, slice_get};
 ghost use Rattle.qoi.specs.declared.chunk.Chunk.{Chunk};
-ghost use Rattle.qoi.specs.declared.encode.piece.TheConstants.{PIECE, ROOM, RUNS_AT_ONCE, REPEATS_AT_ONCE};
+ghost use Rattle.qoi.specs.declared.encode.piece.TheConstants.{PAST, RUNS_AT_ONCE, REPEATS_AT_ONCE};
 ghost use Rattle.qoi.specs.declared.encode.quad.TheConstants.{ALL_REPEAT, READ};
 ghost use Rattle.qoi.specs.Qoi.{RgbaPixel, Past, run_max, chunk_max, previous, seen, hash, IsChunk, bytes_of};
 ghost use Rattle.qoi.specs.Raw.{IsChannels, IsChannels-prop, pixels_of};
@@ -121,7 +121,13 @@ impl<const N: usize> Coder<N> {
     // Writes the fresh pixel of a lane: by its index position if it stands there, else as
     // `chunk_if_absent` has it. Then puts it at its position, and it is the last pixel.
     #[inline(always)]
-    fn write_fresh(&mut self, table: &mut Table, piece: &mut Piece, quad: &Quad<N>, lane: usize)
+    fn write_fresh<const ROOM: usize>(
+        &mut self,
+        table: &mut Table,
+        piece: &mut Piece<ROOM>,
+        quad: &Quad<N>,
+        lane: usize,
+    )
         requires room { piece.old.end + chunk_max ≤ ROOM }
         requires lane { lane < 4 }
         ensures end { piece.new.end ≤ piece.old.end + chunk_max }
@@ -150,7 +156,12 @@ impl<const N: usize> Coder<N> {
 
     // Writes the chunks of all four pixels, each of which is fresh.
     #[inline(always)]
-    fn write_four_fresh(&mut self, table: &mut Table, piece: &mut Piece, quad: &Quad<N>)
+    fn write_four_fresh<const ROOM: usize>(
+        &mut self,
+        table: &mut Table,
+        piece: &mut Piece<ROOM>,
+        quad: &Quad<N>,
+    )
         requires room { piece.old.end + 4 * chunk_max ≤ ROOM }
         ensures end { piece.new.end ≤ piece.old.end + 4 * chunk_max }
         ensures written { (w : Writing) (pixels : List RgbaPixel)
@@ -167,10 +178,10 @@ impl<const N: usize> Coder<N> {
     // Writes the repeats from a lane on and the fresh pixel after them, and returns the lane after
     // it. If no fresh pixel is left, writes nothing and returns `lane`. `bits` is from `repeating`.
     #[inline(always)]
-    fn write_repeats_and_fresh(
+    fn write_repeats_and_fresh<const ROOM: usize>(
         &mut self,
         table: &mut Table,
-        piece: &mut Piece,
+        piece: &mut Piece<ROOM>,
         quad: &Quad<N>,
         bits: u64,
         lane: usize,
@@ -203,10 +214,10 @@ impl<const N: usize> Coder<N> {
     // Writes the chunks of four pixels, not all of which repeat, up to the last fresh one; repeats
     // after it may go on in the next four. Returns how many pixels were written.
     #[inline(always)]
-    fn write_quad(
+    fn write_quad<const ROOM: usize>(
         &mut self,
         table: &mut Table,
-        piece: &mut Piece,
+        piece: &mut Piece<ROOM>,
         cur: u32x4,
         prev: u32x4,
         bits: u64,
@@ -236,7 +247,12 @@ impl<const N: usize> Coder<N> {
 
     // Writes the repeats at the front of all bytes left, at most 992, and returns how many.
     #[inline(always)]
-    fn write_runs(&mut self, table: &mut Table, piece: &mut Piece, data: &[u8]) -> usize
+    fn write_runs<const ROOM: usize>(
+        &mut self,
+        table: &mut Table,
+        piece: &mut Piece<ROOM>,
+        data: &[u8],
+    ) -> usize
         requires whole { length «data».now % N ≡ 0 }
         requires room { piece.old.end + RUNS_AT_ONCE < ROOM }
         ensures end { piece.new.end ≤ piece.old.end + result / run_max + 1 }
@@ -266,7 +282,12 @@ impl<const N: usize> Coder<N> {
     // Writes at least one pixel at the front: by `write_runs` if the first four all repeat, else by
     // `write_quad`. Returns how many pixels were written.
     #[inline(always)]
-    fn write_front(&mut self, table: &mut Table, piece: &mut Piece, data: &[u8]) -> usize
+    fn write_front<const ROOM: usize>(
+        &mut self,
+        table: &mut Table,
+        piece: &mut Piece<ROOM>,
+        data: &[u8],
+    ) -> usize
         requires whole { length «data».now % N ≡ 0 }
         requires long { READ ≤ length «data».now }
         requires room { piece.old.end + 4 * chunk_max ≤ ROOM }
@@ -287,17 +308,17 @@ impl<const N: usize> Coder<N> {
 
     /// Writes until the piece is full or fewer than `READ` raw bytes are left; returns the rest.
     #[inline(always)]
-    pub(super) fn fill<'a>(
+    pub(super) fn fill<'a, const ROOM: usize>(
         &mut self,
         table: &mut Table,
-        piece: &mut Piece,
+        piece: &mut Piece<ROOM>,
         data: &'a [u8],
     ) -> &'a [u8]
         requires whole { length «data».now % N ≡ 0 }
-        requires room { piece.old.end < PIECE }
-        ensures end { piece.new.end < PIECE + 4 * chunk_max }
-        ensures few { piece.new.end < PIECE → length result.now < READ }
-        ensures some { PIECE ≤ piece.new.end → length result.now < length «data».entry.now }
+        requires room { piece.old.end < ROOM - PAST }
+        ensures end { piece.new.end < ROOM - PAST + 4 * chunk_max }
+        ensures few { piece.new.end < ROOM - PAST → length result.now < READ }
+        ensures some { ROOM - PAST ≤ piece.new.end → length result.now < length «data».entry.now }
         ensures whole { length result.now % N ≡ 0 }
         ensures written { (w : Writing)
             → BytesBetween w «data».entry.now table.old self.old piece.old
@@ -313,7 +334,12 @@ impl<const N: usize> Coder<N> {
 
     // Writes the repeats at the front and the next fresh pixel, if any; returns how many pixels.
     #[inline(always)]
-    fn write_next(&mut self, table: &mut Table, piece: &mut Piece, data: &[u8]) -> usize
+    fn write_next<const ROOM: usize>(
+        &mut self,
+        table: &mut Table,
+        piece: &mut Piece<ROOM>,
+        data: &[u8],
+    ) -> usize
         requires whole { length «data».now % N ≡ 0 }
         requires some { 0 < length «data».now }
         requires few { length «data».now < READ }
@@ -336,11 +362,16 @@ impl<const N: usize> Coder<N> {
 
     /// Writes the chunks of the pixels at the end, which have fewer than sixteen raw bytes.
     #[inline(always)]
-    pub(super) fn write_rest(&mut self, table: &mut Table, piece: &mut Piece, data: &[u8])
+    pub(super) fn write_rest<const ROOM: usize>(
+        &mut self,
+        table: &mut Table,
+        piece: &mut Piece<ROOM>,
+        data: &[u8],
+    )
         requires whole { length «data».now % N ≡ 0 }
         requires few { length «data».now < READ }
-        requires room { piece.old.end < PIECE }
-        ensures end { piece.new.end < PIECE + 2 * READ }
+        requires room { piece.old.end < ROOM - PAST }
+        ensures end { piece.new.end < ROOM - PAST + 2 * READ }
         ensures written { (w : Writing) → BytesBetween w «data».now table.old self.old piece.old
             → CoderBetween w [] table.new self.new (kept_bytes piece.new) }
     {

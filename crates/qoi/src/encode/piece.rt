@@ -1,9 +1,9 @@
 //! The bytes of a file that are kept before they go to a writer.
 ghost use lib.Lanes.{digits_l};
-ghost use Rattle.std.specs.Prelude.{◌≡◌, ◌+◌, ◌*◌, ◌/◌, ◌^◌, ◌<◌, ◌≤◌, [], ◌∷◌, ◌++◌, length, take, drop, IsTrue, IsFalse, OnOk, IfErr};
+ghost use Rattle.std.specs.Prelude.{◌≡◌, ◌+◌, ◌-◌, ◌*◌, ◌/◌, ◌^◌, ◌<◌, ◌≤◌, [], ◌∷◌, ◌++◌, length, take, drop, IsTrue, IsFalse, OnOk, IfErr};
 ghost use Rattle.std.specs.List.{copy_within};
 ghost use Rattle.qoi.specs.declared.chunk.Chunk.{Chunk};
-ghost use Rattle.qoi.specs.declared.encode.piece.TheConstants.{PIECE, ROOM, RUNS_AT_ONCE, REPEATS_AT_ONCE};
+ghost use Rattle.qoi.specs.declared.encode.piece.TheConstants.{PAST, RUNS_AT_ONCE, REPEATS_AT_ONCE};
 ghost use Rattle.qoi.specs.Qoi.{run_max, chunk_max, bytes_of, chunk_bytes};
 ghost use Rattle.qoi.specs.Raw.{IsChannels};
 ghost use Rattle.qoi.specs.Runs.{runs_by};
@@ -15,12 +15,17 @@ use crate::packed::pick;
 use crate::utils::{Writer, copy_after};
 use std::simd::prelude::*;
 
-/// How many bytes a writer is sent at once; the last ones may be fewer.
-pub(super) const PIECE: usize = 4096;
+/// How many bytes of a piece's room come after a full piece: for what goes past it (the chunks of
+/// four pixels, runs, or the last chunks and the end marker), and for what is stored after that and
+/// means nothing.
+pub(super) const PAST: usize = 128;
 
-/// The room for bytes that are kept: a full piece, what goes past it (the chunks of four pixels,
-/// runs, or the last chunks and the end marker), and what is stored after that and means nothing.
-pub(super) const ROOM: usize = PIECE + 128;
+/// The room of a stream's piece. A full one has 4096 bytes, which the writer is sent at once.
+pub(super) const STREAM_ROOM: usize = 4096 + PAST;
+
+/// The room of a buffer's piece, 512 bytes when full: for a small image, zeroing more takes longer
+/// than encoding.
+pub(super) const BUFFER_ROOM: usize = 512 + PAST;
 
 /// The most runs that are kept at a time, stored at once as a vector.
 pub(super) const RUNS_AT_ONCE: usize = 16;
@@ -28,22 +33,25 @@ pub(super) const RUNS_AT_ONCE: usize = 16;
 /// The repeats of `RUNS_AT_ONCE` runs of 62: 992.
 pub(super) const REPEATS_AT_ONCE: usize = RUNS_AT_ONCE * QOI_RUN_MAX;
 
-/// Bytes that are kept: the first `end` ones of a room. Those after them mean nothing.
+/// Bytes that are kept: the first `end` ones of a room of `ROOM` bytes. Those after them mean
+/// nothing. A full piece has `ROOM - PAST` bytes.
 #[derive(Drop)]
-pub(super) struct Piece<'a> {
+pub(super) struct Piece<'a, const ROOM: usize> {
     bytes: &'a mut [u8],
     pub(super) end: usize,
+    ghost large: { 2 * PAST ≤ ROOM },
     ghost within: { end ≤ ROOM },
     ghost room: { length bytes.now ≡ ROOM },
 }
 
-impl<'a> Piece<'a> {
+impl<'a, const ROOM: usize> Piece<'a, ROOM> {
     ghost use Rattle.qoi.specs.inner.Piece.{kept_bytes};
 
     /// An empty piece in this room.
     #[inline(always)]
-    pub(super) fn new(room: &'a mut [u8]) -> Piece<'a>
-        requires { length room.old ≡ ROOM }
+    pub(super) fn new(room: &'a mut [u8]) -> Piece<'a, ROOM>
+        requires large { 2 * PAST ≤ ROOM }
+        requires room { length room.old ≡ ROOM }
         ensures { kept_bytes result ≡ [] }
     {
         Piece {
@@ -55,10 +63,10 @@ impl<'a> Piece<'a> {
     /// Whether there are enough bytes for a full piece.
     #[inline(always)]
     pub(super) fn is_full(&self) -> bool
-        ensures full { IsTrue result → PIECE ≤ self.now.end }
-        ensures room { IsFalse result → self.now.end < PIECE }
+        ensures full { IsTrue result → ROOM - PAST ≤ self.now.end }
+        ensures room { IsFalse result → self.now.end < ROOM - PAST }
     {
-        self.end >= PIECE
+        self.end >= ROOM - PAST
     }
 
     /// Appends these bytes.
@@ -114,19 +122,21 @@ impl<'a> Piece<'a> {
         self.keep_run(count % QOI_RUN_MAX, one);
     }
 
-    /// Sends the first 4096 bytes to a writer; those after them are kept.
+    /// Sends a full piece to a writer; the bytes after it are kept.
     #[inline(always)]
     pub(super) fn send<W: Writer>(&mut self, buf: &mut W) -> Result<()>
-        requires full { PIECE ≤ self.old.end }
-        requires room { PIECE ≤ W.room buf.old }
-        ensures written { OnOk result (W.wrote buf.old (take PIECE (kept_bytes self.old)) buf.new) }
-        ensures kept { OnOk result (kept_bytes self.new ≡ drop PIECE (kept_bytes self.old)) }
-        ensures end { OnOk result (self.new.end + PIECE ≡ self.old.end) }
+        requires full { ROOM - PAST ≤ self.old.end }
+        requires room { ROOM - PAST ≤ W.room buf.old }
+        ensures written { OnOk result
+            (W.wrote buf.old (take (ROOM - PAST) (kept_bytes self.old)) buf.new) }
+        ensures kept { OnOk result
+            (kept_bytes self.new ≡ drop (ROOM - PAST) (kept_bytes self.old)) }
+        ensures end { OnOk result (self.new.end + (ROOM - PAST) ≡ self.old.end) }
         ensures refused { IfErr result (λ e. W.IsFault e
-            × WroteBeginning W.wrote buf.old (take PIECE (kept_bytes self.old)) buf.new) }
+            × WroteBeginning W.wrote buf.old (take (ROOM - PAST) (kept_bytes self.old)) buf.new) }
     {
-        send_front(buf, self.bytes)?;
-        self.end -= PIECE;
+        send_front::<W, ROOM>(buf, self.bytes)?;
+        self.end -= ROOM - PAST;
         Ok(())
     }
 
@@ -145,18 +155,19 @@ impl<'a> Piece<'a> {
     }
 }
 
-// Sends the first 4096 bytes to a writer, and moves those after them to the front.
+// Sends a full piece to a writer, and moves the bytes after it to the front.
 #[inline(never)]
-fn send_front<W: Writer>(buf: &mut W, bytes: &mut [u8]) -> Result<()>
+fn send_front<W: Writer, const ROOM: usize>(buf: &mut W, bytes: &mut [u8]) -> Result<()>
+    requires large { 2 * PAST ≤ ROOM }
     requires size { length bytes.old ≡ ROOM }
-    requires room { PIECE ≤ W.room buf.old }
-    ensures written { OnOk result (W.wrote buf.old (take PIECE bytes.old) buf.new) }
-    ensures moved { OnOk result (bytes.new ≡ copy_within bytes.old PIECE ROOM 0) }
+    requires room { ROOM - PAST ≤ W.room buf.old }
+    ensures written { OnOk result (W.wrote buf.old (take (ROOM - PAST) bytes.old) buf.new) }
+    ensures moved { OnOk result (bytes.new ≡ copy_within bytes.old (ROOM - PAST) ROOM 0) }
     ensures refused { IfErr result (λ e. W.IsFault e
-        × WroteBeginning W.wrote buf.old (take PIECE bytes.old) buf.new) }
+        × WroteBeginning W.wrote buf.old (take (ROOM - PAST) bytes.old) buf.new) }
 {
-    buf.write_many(&bytes[..PIECE])?;
-    bytes.copy_within(PIECE..ROOM, 0);
+    buf.write_many(&bytes[..ROOM - PAST])?;
+    bytes.copy_within(ROOM - PAST.., 0);
     Ok(())
 }
 

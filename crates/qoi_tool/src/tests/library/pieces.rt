@@ -1,5 +1,5 @@
-//! Files of about one and two pieces of 4096 bytes, by the plain encoder: chunks and end marker end
-//! just before, at and just after the end of a piece.
+//! Files of about one and two pieces, by the plain encoder: chunks and end marker end just before,
+//! at and just after the end of a piece. A writer's piece has 4096 bytes, a buffer's 512.
 use crate::tests::library::support::assert_number;
 use crate::tests::library::support::generator::{Rgba, START};
 use crate::tests::library::support::images::{Image, row};
@@ -77,7 +77,14 @@ fn ending(alloc: Global, tail: Tail, size: usize) -> Result<Vec<Rgba>> {
 
 // How many bytes the chunks have. With the header (14) or with header and end marker (22) they are
 // within ten bytes of one piece, or within two of two.
-const SIZES: [(usize, usize); 3] = [(4064, 4092), (8168, 8172), (8176, 8180)];
+const SIZES: [(usize, usize); 6] = [
+    (480, 508),
+    (1000, 1004),
+    (1008, 1012),
+    (4064, 4092),
+    (8168, 8172),
+    (8176, 8180),
+];
 
 // Encodes images with each of the tails, of each of these sizes: to a buffer, a vector and writers.
 fn assert_sizes(rt: &impl Abort, alloc: Global, style: Style) {

@@ -1,7 +1,7 @@
 -- A piece at a time.
-use Rattle.std.proofs.Common.{arith}
+use Rattle.std.proofs.Common.{◌-◌, arith}
 use Rattle.std.proofs.lemmas.Result.{err_from_is_err_and}
-use Rattle.qoi.specs.declared.encode.piece.TheConstants.{PIECE}
+use Rattle.qoi.specs.declared.encode.piece.TheConstants.{PAST}
 use Rattle.qoi.proofs.encoding.PieceByPiece.{piece_starts, piece_filled, piece_fits, piece_went, piece_part, piece_ends}
 use Rattle.qoi.proofs.encoding.PieceSent.{kept_length}
 use Rattle.qoi.proofs.encode.chunks.encode_pixels.Goals as goal
@@ -19,21 +19,23 @@ loop-coder-init g c =
 pub returns-then-not-is_full-clause-written : goal.returns-then-not-is_full-clause-written
 returns-then-not-is_full-clause-written g c = piece_ends (piece_filled c.loop-coder.invariant.state c.fill-rest.ensures.written) c.write_rest.ensures.written
 
-pub send-requires-clause-room : goal.send-requires-clause-room
-send-requires-clause-room g c =
-    piece_fits (piece_filled c.loop-coder.invariant.state c.fill-rest.ensures.written) PIECE
-    (omega (arith, kept_length c.fill-rest.new.piece, c.is_full.ensures.full c.if-not-is_full.false))
+pub send-requires : goal.send-requires
+send-requires g c =
+    let full = c.is_full.ensures.full c.if-not-is_full.false in
+    let room = piece_fits (piece_filled c.loop-coder.invariant.state c.fill-rest.ensures.written) (g.row.ROOM - PAST)
+    (omega (arith, kept_length c.fill-rest.new.piece, full)) in
+    (omega arith, (full, room))
 
 pub loop-coder-preserved : goal.loop-coder-preserved
 loop-coder-preserved g c = record {
-  end = omega (arith, c.in_ok-send.ensures.end, c.fill-rest.ensures.end);
+  end = omega (arith, c.in_ok-send.ensures.end, c.fill-rest.ensures.end, c.args.piece.now.large);
   whole = c.fill-rest.ensures.whole;
-  state = piece_went (piece_filled c.loop-coder.invariant.state c.fill-rest.ensures.written) PIECE c.in_ok-send.ensures.written c.in_ok-send.ensures.kept;
+  state = piece_went (piece_filled c.loop-coder.invariant.state c.fill-rest.ensures.written) (g.row.ROOM - PAST) c.in_ok-send.ensures.written c.in_ok-send.ensures.kept;
 }
 
 pub returns-in_err-send-clause-refused : goal.returns-in_err-send-clause-refused
 returns-in_err-send-clause-refused g c =
     let e = err_from_is_err_and c.from_residual.result c.from_residual.ensures.1 in
     let r = c.in_err-send.ensures.refused in
-    let part = piece_part (piece_filled c.loop-coder.invariant.state c.fill-rest.ensures.written) PIECE r.1 in
+    let part = piece_part (piece_filled c.loop-coder.invariant.state c.fill-rest.ensures.written) (g.row.ROOM - PAST) r.1 in
     rw (e.1, e.2) (r.0, part)

@@ -1,13 +1,13 @@
 -- The coder stands between two pixels, and the piece isn't full.
-use Rattle.std.proofs.Common.{◌≡◌, ◌%◌, ◌<◌, length}
-use Rattle.qoi.specs.declared.encode.piece.TheConstants.{PIECE}
+use Rattle.std.proofs.Common.{◌≡◌, ◌-◌, ◌%◌, ◌<◌, length}
+use Rattle.qoi.specs.declared.encode.piece.TheConstants.{PAST}
 use Rattle.qoi.specs.inner.Piece.{kept_bytes}
 use Rattle.qoi.proofs.encoding.PieceByPiece.{PieceBetween}
 use Rattle.qoi.proofs.encode.chunks.encode_pixels.Given as goal
 
 abbrev pub invariant-loop-coder : goal.invariant-loop-coder
 invariant-loop-coder g l = record {
-  end : l.piece.end < PIECE;
+  end : l.piece.end < g.row.ROOM - PAST;
   whole : length l.rest % g.row.N ≡ 0;
   state : PieceBetween g.W.Writer.wrote g.W.Writer.room
       (record { start = l.initial.buf; front = kept_bytes l.initial.piece; style = l.fn.style; raw = l.data })

@@ -1,6 +1,6 @@
 -- The pixels up to here are written.
-use Rattle.std.proofs.Common.{◌≡◌, ◌+◌, ◌*◌, ◌%◌, ◌<◌, ◌≤◌, length}
-use Rattle.qoi.specs.declared.encode.piece.TheConstants.{PIECE}
+use Rattle.std.proofs.Common.{◌≡◌, ◌+◌, ◌-◌, ◌*◌, ◌%◌, ◌<◌, ◌≤◌, length}
+use Rattle.qoi.specs.declared.encode.piece.TheConstants.{PAST}
 use Rattle.qoi.specs.Qoi.{chunk_max}
 use Rattle.qoi.specs.Raw.{pixels_of}
 use Rattle.qoi.specs.inner.CoderLoop.{Writing, CoderBetween}
@@ -9,9 +9,9 @@ use Rattle.qoi.proofs.encode.coder.Coder.fill.Given as goal
 
 abbrev pub invariant-loop-self : goal.invariant-loop-self
 invariant-loop-self g l = record {
-  end : l.piece.end < PIECE + 4 * chunk_max;
+  end : l.piece.end < g.row.ROOM - PAST + 4 * chunk_max;
   left : length l.rest ≤ length l.data;
-  some : PIECE ≤ l.piece.end → length l.rest < length l.data;
+  some : g.row.ROOM - PAST ≤ l.piece.end → length l.rest < length l.data;
   whole : length l.rest % g.row.N ≡ 0;
   written : (w : Writing) → CoderBetween w (pixels_of g.row.N l.data) l.initial.table l.initial.self (kept_bytes l.initial.piece)
       → CoderBetween w (pixels_of g.row.N l.rest) l.table l.self (kept_bytes l.piece);

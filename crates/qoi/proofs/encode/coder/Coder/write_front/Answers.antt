@@ -36,7 +36,7 @@ write_quad-requires g c =
     let f = four g (goal.at.write_quad-requires g c).After-repeating-bits in
     let same = λ (three : g.row.N ≡ 3). same_alpha c.number.result cur.result c.pixels_before-prev.result (cur_length f) (opaque three) (alpha three)
     c.pixels_before-prev.ensures.lanes in
-    (omega arith, (opaque, (same, (c.repeating-bits.ensures.bits, (c.if-bits-eq-ALL_REPEAT.false, c.requires.room)))))
+    (omega arith, (omega arith, (opaque, (same, (c.repeating-bits.ensures.bits, (c.if-bits-eq-ALL_REPEAT.false, c.requires.room))))))
 
 pub returns-clause-inside : goal.returns-clause-inside
 returns-clause-inside g c = few_lanes g.row.N c.write_quad.result (length c.args.data.now) c.args.self.now.channels c.write_quad.ensures.lanes.1

@@ -25,8 +25,8 @@ near g c =
 pub repeats_of-count-requires-clause-opaque : goal.repeats_of-count-requires-clause-opaque
 repeats_of-count-requires-clause-opaque g c = c.args.self.now.opaque
 
-pub keep_runs-requires-clause-few : goal.keep_runs-requires-clause-few
-keep_runs-requires-clause-few g c = (near g (goal.at.keep_runs-requires-clause-few g c).After-repeats_of-count).few
+pub keep_runs-requires : goal.keep_runs-requires
+keep_runs-requires g c = (omega arith, (c.requires.room, (near g (goal.at.keep_runs-requires g c).After-repeats_of-count).few))
 
 pub returns-clause-inside : goal.returns-clause-inside
 returns-clause-inside g c = (near g (goal.at.returns-clause-inside g c).After-repeats_of-count).within

@@ -1,7 +1,7 @@
 -- A full piece goes first, if there is one, and then the rest.
-use Rattle.std.proofs.Common.{take, drop, sym, take-append-drop, arith}
+use Rattle.std.proofs.Common.{◌-◌, take, drop, sym, take-append-drop, arith}
 use Rattle.std.proofs.lemmas.Result.{err_from_is_err_and}
-use Rattle.qoi.specs.declared.encode.piece.TheConstants.{PIECE}
+use Rattle.qoi.specs.declared.encode.piece.TheConstants.{PAST}
 use Rattle.qoi.specs.inner.Piece.{kept_bytes}
 use Rattle.qoi.specs.writers.Writes.{WroteBut}
 use Rattle.qoi.proofs.encoding.PieceSent.{kept_length, sent_but, none_but, rest_sent, rest_refused}
@@ -18,8 +18,8 @@ returns-in_err-send-clause-refused g c =
     let a = c.args.buf.now in
     let all = kept_bytes c.args.self.now in
     let none = wrote_none laws a all in
-    let parts = sym (take-append-drop PIECE all) in
-    let some = wrote_part laws a a c.send.new.buf all all (take PIECE all) (drop PIECE all) none parts r.1 in
+    let parts = sym (take-append-drop (g.row.ROOM - PAST) all) in
+    let some = wrote_part laws a a c.send.new.buf all all (take (g.row.ROOM - PAST) all) (drop (g.row.ROOM - PAST) all) none parts r.1 in
     rw (p.1, p.2) (r.0, some)
 
 -- all went but what is kept now
@@ -31,7 +31,7 @@ all_but_kept g c =
     let old = c.args.self.now in
     elim c.if-is_full.branch [
       | then-is_full+in_ok-send w ↦
-          sent_but laws a w.send.new.buf c.if-is_full.buf old w.send.new.self c.if-is_full.self PIECE w.self-is w.buf-is
+          sent_but laws a w.send.new.buf c.if-is_full.buf old w.send.new.self c.if-is_full.self (g.row.ROOM - PAST) w.self-is w.buf-is
           w.in_ok-send.ensures.written w.in_ok-send.ensures.kept
       | else-is_full w ↦ none_but laws a c.if-is_full.buf old c.if-is_full.self w.self-is w.buf-is
     ]

@@ -4,7 +4,7 @@ use Rattle.qoi.proofs.encoding.RunBytes.{run_written}
 use Rattle.qoi.proofs.encode.piece.Piece.keep_run.Goals as goal
 
 pub returns-clause-kept : goal.returns-clause-kept
-returns-clause-kept c = λ chunk e.
+returns-clause-kept g c = λ chunk e.
     (let s = c.args.self.now in
     let room : s.end < length s.bytes.now = omega (arith, s.room, c.requires.room) in
     (λ i. take (s.end + c.from.ensures i) (set s.bytes.now s.end (c.pick.ensures i)))

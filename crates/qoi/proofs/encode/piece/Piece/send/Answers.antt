@@ -1,7 +1,8 @@
 -- A full piece was sent, and the bytes after it stand at the front.
-use Rattle.std.proofs.Common.{sym, subst}
+use Rattle.std.proofs.Common.{◌-◌, sym, subst}
 use Rattle.std.proofs.lemmas.List.{take-take}
 use Rattle.std.proofs.lemmas.Result.{err_from_is_err_and}
+use Rattle.qoi.specs.declared.encode.piece.TheConstants.{PAST}
 use Rattle.qoi.specs.writers.Writes.{WroteBeginning}
 use Rattle.qoi.proofs.encoding.PieceSent.{moved_front}
 use Rattle.qoi.proofs.encode.piece.Piece.send.Goals as goal
@@ -13,16 +14,16 @@ returns-in_err-send_front-clause-refused g c =
     let s = c.args.self.now in
     rw (p.1, p.2) (
       r.0,
-      subst (λ z. WroteBeginning g.W.Writer.wrote c.args.buf.now z c.send_front.new.buf) (sym (take-take 4096 s.end s.bytes.now c.requires.full)) r.1,
+      subst (λ z. WroteBeginning g.W.Writer.wrote c.args.buf.now z c.send_front.new.buf) (sym (take-take (g.row.ROOM - PAST) s.end s.bytes.now c.requires.full)) r.1,
     )
 
 pub returns-clause-written : goal.returns-clause-written
 returns-clause-written g c =
     let s = c.args.self.now in
-    subst (λ z. g.W.Writer.wrote c.args.buf.now z c.send_front.new.buf) (sym (take-take 4096 s.end s.bytes.now c.requires.full))
+    subst (λ z. g.W.Writer.wrote c.args.buf.now z c.send_front.new.buf) (sym (take-take (g.row.ROOM - PAST) s.end s.bytes.now c.requires.full))
     c.in_ok-send_front.ensures.written
 
 pub returns-clause-kept : goal.returns-clause-kept
 returns-clause-kept g c =
     let s = c.args.self.now in
-    rw c.in_ok-send_front.ensures.moved (moved_front s.bytes.now 4096 4224 s.end s.room c.requires.full s.within)
+    rw c.in_ok-send_front.ensures.moved (moved_front s.bytes.now (g.row.ROOM - PAST) g.row.ROOM s.end s.room c.requires.full s.within)
