@@ -87,9 +87,15 @@ pub(super) fn write_run<const N: usize, const F: usize>(
     }
 }
 
-// Writes a pixel `count` times from `at` on, one by one.
+/// Writes a pixel `count` times from `at` on: by blocks while a whole one has room, and then one by
+/// one.
 #[inline(always)]
-fn write_pixels<const N: usize, const F: usize>(out: &mut [u8], at: usize, px: Hashed, count: usize)
+pub(super) fn write_pixels<const N: usize, const F: usize>(
+    out: &mut [u8],
+    at: usize,
+    px: Hashed,
+    count: usize,
+)
     requires channels { IsChannels N }
     requires room { at + N * count ≤ length out.old }
     ensures { HasWritten F N (upto out.old at)
@@ -97,8 +103,14 @@ fn write_pixels<const N: usize, const F: usize>(out: &mut [u8], at: usize, px: H
 {
     let mut done = 0;
     while done < count {
-        write_pixel::<N, F>(out, at + N * done, px);
-        done += 1;
+        let next = at + N * done;
+        if BLOCK <= out.len() - next {
+            write_block::<N, F>(out, next, px);
+            done += (count - done).min(BLOCK / N);
+        } else {
+            write_pixel::<N, F>(out, next, px);
+            done += 1;
+        }
     }
 }
 

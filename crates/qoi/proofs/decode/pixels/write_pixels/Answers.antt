@@ -1,4 +1,4 @@
--- One copy more at each turn.
+-- More copies at each turn: those of a block, or one.
 use Rattle.std.proofs.Common.{◌≡◌, ◌+◌, ◌*◌, arith}
 use Rattle.qoi.specs.inner.Hashed.{pixel_of_lanes}
 use Rattle.qoi.proofs.decoding.Blocks.{written_none, written_one, written_copies}
@@ -6,6 +6,14 @@ use Rattle.qoi.proofs.decode.pixels.write_pixels.Goals as goal
 
 pub loop-done-init : goal.loop-done-init
 loop-done-init g c = (omega arith, written_none g.row.F g.row.N c.args.out.now c.args.at (pixel_of_lanes c.args.px))
+
+pub loop-done-preserved-then-out-next-ge-BLOCK : goal.loop-done-preserved-then-out-next-ge-BLOCK
+loop-done-preserved-then-out-next-ge-BLOCK g c =
+    let done = c.loop-done.done in
+    let more = c.min-done.result in (
+      omega (arith, c.loop-done-test.true, c.min-done.ensures),
+      written_copies _ c.args.at done more (done + more) c.requires.channels (omega arith) c.loop-done.invariant.1 (c.write_block.ensures more (omega (arith, c.min-done.ensures))),
+    )
 
 pub loop-done-preserved : goal.loop-done-preserved
 loop-done-preserved g c =
