@@ -1,12 +1,12 @@
 //! The loop over chunks in memory while input and output have room ahead for four short ones and a
 //! full one, which is tested once for all five. It can go on from any pixel.
-ghost use Rattle.std.specs.Prelude.{◌≡◌, ◌↔◌, IsTrue, ℕ, ◌+◌, ◌-◌, ◌/◌, ◌<◌, ◌≤◌, List, length};
+ghost use Rattle.std.specs.Prelude.{◌≡◌, ◌↔◌, IsTrue, ℕ, ◌+◌, ◌-◌, ◌*◌, ◌/◌, ◌<◌, ◌≤◌, List, length};
 ghost use Rattle.qoi.specs.Qoi.{run_tag, rgb_tag};
 ghost use Rattle.qoi.specs.Raw.{IsChannels};
 ghost use Rattle.qoi.specs.declared.decode.pixels.TheConstants.{RUN_ROOM};
 
 use crate::consts::{QOI_OP_RGB, QOI_OP_RGBA, QOI_OP_RUN};
-use crate::decode::pixels::{RUN_ROOM, is_luma, write_block, write_run};
+use crate::decode::pixels::{RUN_ROOM, is_luma, write_block, write_late_run, write_run};
 use crate::hashed::Hashed;
 use crate::packed::pick;
 use crate::steps::advance;
@@ -149,7 +149,7 @@ impl Progress {
         }
     }
 
-    // Decodes a run that a block doesn't hold.
+    // Decodes a run that a block doesn't hold: by the blocks of any run, if those have room.
     #[inline(always)]
     fn long_run<const N: usize, const F: usize>(
         self,
@@ -159,7 +159,8 @@ impl Progress {
     ) -> Progress
         requires channels { IsChannels N }
         requires input { self.taken + 2 ≤ length bytes.now }
-        requires room { self.written + RUN_ROOM ≤ length out.old }
+        requires inside { self.written < length out.old }
+        requires room { self.written + N * (self.next - (run_tag - 1)) ≤ length out.old }
         requires run { (run_tag ≤ self.next) × (self.next < rgb_tag) }
         ensures between { (n : ℕ) (before : List ℕ)
             → FastBetween F N n before bytes.now self table.old out.old
@@ -171,7 +172,11 @@ impl Progress {
     {
         let count = (self.next - (QOI_OP_RUN as u32 - 1)) as usize;
         table.put(self.last);
-        write_run::<N, F>(out, self.written, self.last, count);
+        if RUN_ROOM <= out.len() - self.written {
+            write_run::<N, F>(out, self.written, self.last, count);
+        } else {
+            write_late_run::<N, F>(out, self.written, self.last, count);
+        }
         Progress {
             last: self.last,
             taken: self.taken + 1,
@@ -220,7 +225,7 @@ impl Progress {
             }
             if now.next >= QOI_OP_RGB as u32 {
                 now = now.full_chunk::<N, F>(table, bytes, out);
-            } else if RUN_ROOM <= out.len() - now.written {
+            } else if advance::<N>(now.next as usize) <= out.len() - now.written {
                 now = now.long_run::<N, F>(table, bytes, out);
             } else {
                 break;

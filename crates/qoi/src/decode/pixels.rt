@@ -87,15 +87,10 @@ pub(super) fn write_run<const N: usize, const F: usize>(
     }
 }
 
-/// Writes a pixel `count` times from `at` on: by blocks while a whole one has room, and then one by
-/// one.
+// Writes a pixel `count` times from `at` on: by blocks while a whole one has room, and then one by
+// one.
 #[inline(always)]
-pub(super) fn write_pixels<const N: usize, const F: usize>(
-    out: &mut [u8],
-    at: usize,
-    px: Hashed,
-    count: usize,
-)
+fn write_pixels<const N: usize, const F: usize>(out: &mut [u8], at: usize, px: Hashed, count: usize)
     requires channels { IsChannels N }
     requires room { at + N * count ≤ length out.old }
     ensures { HasWritten F N (upto out.old at)
@@ -112,6 +107,23 @@ pub(super) fn write_pixels<const N: usize, const F: usize>(
             done += 1;
         }
     }
+}
+
+/// Writes a run near the end of the output, where the blocks of any run may have no room. Not
+/// inlined: inside the fast loop, which seldom needs it, it makes each chunk slower.
+#[inline(never)]
+pub(super) fn write_late_run<const N: usize, const F: usize>(
+    out: &mut [u8],
+    at: usize,
+    px: Hashed,
+    count: usize,
+)
+    requires channels { IsChannels N }
+    requires room { at + N * count ≤ length out.old }
+    ensures { HasWritten F N (upto out.old at)
+        (upto out.new (at + N * count)) (replicate count (pixel_of_lanes px)) }
+{
+    write_pixels::<N, F>(out, at, px, count);
 }
 
 // How many bytes of room to rely on after the first `at`: all that there are, or if `ROOM` just

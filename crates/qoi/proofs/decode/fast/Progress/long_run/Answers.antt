@@ -1,10 +1,12 @@
--- The copies of the last pixel are those of the blocks.
-use Rattle.std.proofs.Common.{◌≡◌, ◌+◌, ◌-◌, ◌*◌, ◌<◌, ◌≤◌, drop, length, get_or, arith, refl, sym, ap, ◌∙◌}
+-- The copies of the last pixel are written, either way.
+use Rattle.std.proofs.Common.{◌≡◌, ◌+◌, ◌-◌, ◌*◌, ◌<◌, ◌≤◌, drop, length, get_or, replicate, arith, refl, sym, ap, ◌∙◌}
 use Rattle.std.proofs.lemmas.List.{get_or-drop, length-drop}
 use Rattle.qoi.specs.declared.decode.fast.Progress.{Progress}
-use Rattle.qoi.proofs.decoding.FilledBuffer.{run_fits}
+use Rattle.qoi.specs.inner.Filling.{upto, HasWritten}
+use Rattle.qoi.specs.inner.Hashed.{pixel_of_lanes}
 use Rattle.qoi.proofs.decoding.FirstChunk.{decodes_run}
 use Rattle.qoi.proofs.decoding.FastSteps.{fast_step}
+use Rattle.qoi.proofs.decode.fast.Progress.long_run.Goals.{then-out-self-ge-RUN_ROOM, else-out-self-ge-RUN_ROOM}
 use Rattle.qoi.proofs.decode.fast.Progress.long_run.Goals as goal
 
 pub returns-clause-between : goal.returns-clause-between
@@ -14,12 +16,13 @@ returns-clause-between g c n before h =
     let is = c.requires.channels in
     let count = now.next - 191 in
     let most : count ≤ 62 = omega (arith, c.requires.run) in
-    let room = run_fits g.row.N now.written count (length c.args.out.now) is most c.requires.room in
     let rest = drop now.taken bytes in
     let first : now.next ≡ get_or rest 0 0 = h.next_is ∙ ap (λ i. get_or bytes i 0) (omega arith) ∙ sym (get_or-drop now.taken bytes 0 0) in
     let long : 1 ≤ length rest = omega (arith, c.requires.input, length-drop now.taken bytes) in
     let some : 0 < count = omega (arith, c.requires.run) in
     let often : count + 191 ≡ now.next = omega (arith, c.requires.run) in
     let new : Progress = record { last = now.last; taken = now.taken + 1; written = now.written + g.row.N * count; next = _ } in
-    fast_step now new count is h (omega (arith, c.requires.room)) room c.write_run.auto.out refl c.put.ensures c.write_run.ensures c.from.ensures 1 refl
+    let written : HasWritten g.row.F g.row.N (upto c.args.out.now now.written) (upto c.if-out-self-ge-RUN_ROOM.out (now.written + g.row.N * count)) (replicate count (pixel_of_lanes now.last)) =
+    elim c.if-out-self-ge-RUN_ROOM.branch [ then-out-self-ge-RUN_ROOM w ↦ rw w.out-is w.write_run.ensures | else-out-self-ge-RUN_ROOM w ↦ rw w.out-is w.write_late_run.ensures ] in
+    fast_step now new count is h c.requires.inside c.requires.room c.if-out-self-ge-RUN_ROOM.auto.out refl c.put.ensures written c.from.ensures 1 refl
     (decodes_run rest count long (sym first ∙ sym often) some most)
