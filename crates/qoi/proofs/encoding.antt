@@ -25,3 +25,12 @@ pub mod WrittenExists
 pub mod WrittenGrows
 pub mod WrittenOnce
 pub mod WrittenShape
+-- Sixteen pixels at a time: what they write, and the vectors that say so.
+pub mod BlockOut
+pub mod BlockWritten
+pub mod CoderLink
+pub mod LaneBits
+pub mod LaneChunk
+pub mod LastCount
+pub mod PlacesOut
+pub mod TightOut

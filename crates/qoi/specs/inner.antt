@@ -9,3 +9,9 @@ pub mod Lanes
 pub mod Packed
 pub mod Piece
 pub mod Table
+-- Sixteen pixels at a time: in planes, lanes of chunks, counted repeats, the state between two
+-- blocks, pixels put into the table, and stored chunks.
+pub mod BlockBytes
+pub mod BlockLanes
+pub mod BlockState
+pub mod Counts

@@ -1,0 +1,110 @@
+-- What a block of pixels writes, and the state between two pixels with repeats that are still to
+-- be written.
+use Rattle.std.specs.Prelude.{◌≡◌, ◌≢◌, ℕ, suc, Bool, true, false, ◌<◌, ◌==◌, List, [], ◌∷◌, ◌++◌, replicate, Option, if◌then◌else◌}
+use Rattle.qoi.specs.declared.chunk.Chunk.{Chunk}
+use Rattle.qoi.specs.declared.chunk.Chunk.TheVariants.{Run}
+use Rattle.qoi.specs.declared.types.Style.{Style}
+use Rattle.qoi.specs.Qoi.{RgbaPixel, Past, previous, pixel_eq, blank, seen, hash, bytes_of, chunk_bytes}
+use Rattle.qoi.specs.Styles.{some_fresh, names, styled}
+use Rattle.qoi.specs.inner.CoderState.{held_in, single_chunk}
+use Rattle.qoi.specs.inner.CoderLoop.{Writing, StillToWrite}
+use Rattle.qoi.specs.inner.BlockLanes.{Lane, lane_bytes}
+
+-- Between two pixels: `past` have come, `before` is the last chunk, `rest` still come, and the
+-- bytes ahead are those that are kept and those of the chunks that are still to be written.
+pub record Between (w : Writing) (past : Past) (before : Option Chunk) (rest : List RgbaPixel) (kept : List ℕ) : Type 0 where
+  pub todo : List Chunk
+  pub to_write : StillToWrite w.list past rest todo
+  pub ahead_is : w.ahead ≡ kept ++ chunk_bytes (styled w.list.style past before todo)
+
+-- what is known beside the bytes: the pixels that were put, the last pixel, how many repeats of
+-- it are still to be written, and whether the chunk before those names its position
+pub record State : Type 0 where
+  pub held : Past
+  pub last : RgbaPixel
+  pub carry : ℕ
+  pub placed : Bool
+
+-- Written up to `carry` repeats of the last pixel, which have come: as if they still came.
+pub record Carrying (w : Writing) (s : State) (rest : List RgbaPixel) (kept : List ℕ) : Type 0 where
+  pub past : Past
+  pub before : Option Chunk
+  pub between : Between w past before (replicate s.carry s.last ++ rest) kept
+  pub last_is : previous past ≡ s.last
+  pub begun : some_fresh past ≡ true
+  pub held_is : (i : ℕ) → seen s.held i ≡ seen (held_in w.list.style past) i
+  pub placed_is : s.placed ≡ names before (hash s.last)
+
+-- the lane repeats the pixel before it
+abbrev pub is_rep : Lane → Bool
+is_rep l = pixel_eq l.px l.before
+
+-- the lane of a pixel p after q, with the table of `held`
+abbrev pub lane_of : Past → RgbaPixel → RgbaPixel → Lane
+lane_of held q p = record { px = p; before = q; stands = pixel_eq (seen held (hash p)) p }
+
+-- the lanes of pixels after one, with the table of `held`, into which each is put
+abbrev pub lanes_of : Past → RgbaPixel → List RgbaPixel → List Lane
+lanes_of held q [] = []
+lanes_of held q (p ∷ ps) = lane_of held q p ∷ lanes_of (p ∷ held) p ps
+
+-- the next lane repeats, or there is none
+abbrev pub goes_on : List Lane → Bool
+goes_on [] = true
+goes_on (l ∷ ls) = is_rep l
+
+-- the bytes of a group of n repeats before a fresh pixel, of which there are fewer than 62
+abbrev pub group_bytes : Style → Bool → RgbaPixel → ℕ → List ℕ
+group_bytes style placed p n = bytes_of (if n == 1 then single_chunk style true placed (hash p) 1 else Run n)
+
+-- the state after a lane's pixel, from whether it repeats, and
+-- whether the next one does or there is none
+abbrev pub next_by : Bool → Bool → State → RgbaPixel → State
+next_by rep more s p = record {
+  held = p ∷ s.held;
+  last = p;
+  carry = if rep then (if more then suc s.carry else 0) else 0;
+  placed = if rep then (if more then s.placed else false) else pixel_eq (seen s.held (hash p)) p;
+}
+
+-- the bytes that are written then
+abbrev pub step_by : Bool → Bool → Style → State → RgbaPixel → List ℕ
+step_by rep more style s p =
+    if rep then (if more then [] else group_bytes style s.placed p (suc s.carry)) else lane_bytes (lane_of s.held s.last p)
+
+-- the state after a pixel, from whether the next one repeats it or there is none
+abbrev pub next_state : State → RgbaPixel → Bool → State
+next_state s p more = next_by (pixel_eq p s.last) more s p
+
+-- the bytes that are written for it
+abbrev pub step_bytes : Style → State → RgbaPixel → Bool → List ℕ
+step_bytes style s p more = step_by (pixel_eq p s.last) more style s p
+
+-- whether the next pixel repeats, or there is none
+abbrev pub more_of : RgbaPixel → List RgbaPixel → Bool
+more_of p [] = true
+more_of p (q ∷ qs) = pixel_eq q p
+
+-- the state after all of them
+abbrev pub end_state : State → List RgbaPixel → State
+end_state s [] = s
+end_state s (p ∷ ps) = end_state (next_state s p (more_of p ps)) ps
+
+-- what is written for all of them
+abbrev pub out : Style → State → List RgbaPixel → List ℕ
+out style s [] = []
+out style s (p ∷ ps) = step_bytes style s p (more_of p ps) ++ out style (next_state s p (more_of p ps)) ps
+
+-- no fresh pixel is transparent black that isn't at its position
+abbrev pub NoneBlank : State → List RgbaPixel → Type 0
+NoneBlank s [] = Unit {0}
+NoneBlank s (p ∷ ps) = (p ≢ s.last → seen s.held (hash p) ≢ p → p ≢ blank) × NoneBlank (next_state s p (more_of p ps)) ps
+
+-- repeats are carried only if the next pixel is one
+abbrev pub CarryGoesOn : State → List RgbaPixel → Type 0
+CarryGoesOn s [] = Unit {0}
+CarryGoesOn s (p ∷ ps) = 0 < s.carry → p ≡ s.last
+
+-- the state once the carried repeats are written, before a fresh pixel
+abbrev pub flushed_state : State → State
+flushed_state s = record { held = s.held; last = s.last; carry = 0; placed = false }
