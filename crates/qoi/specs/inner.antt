@@ -15,3 +15,9 @@ pub mod BlockBytes
 pub mod BlockLanes
 pub mod BlockState
 pub mod Counts
+pub mod LaneVectors
+pub mod Planes
+pub mod Spelling
+pub mod Stands
+pub mod Stores
+pub mod Swaps

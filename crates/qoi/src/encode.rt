@@ -18,8 +18,14 @@ ghost use Rattle.qoi.specs.writers.Writes.{AppendsBeginning, WroteBeginning};
 
 mod chunks;
 mod coder;
+mod counts;
+mod lanes;
 pub(crate) mod piece;
+mod planes;
 pub(crate) mod quad;
+mod spelling;
+mod stores;
+mod swaps;
 
 use crate::consts::QOI_PADDING;
 use crate::encode::chunks::encode_chunks;

@@ -29,6 +29,7 @@ chunks_of (l ∷ ls) (f ∷ fs) (s ∷ ss) = take s (f ∷ second_of l ∷ l.px.
 abbrev pub placed_first : Bool → Lane → ℕ → ℕ → ℕ
 placed_first q l n f = min f (bit_or (hash l.px) (255 - bit_and (bit_and (mask (is_rep l)) (mask (n == 1))) (255 - mask q)))
 
+-- of each lane, where c repeats came before
 abbrev pub placed_firsts : Bool → ℕ → List Lane → List ℕ
 placed_firsts q c [] = []
 placed_firsts q c (l ∷ ls) =

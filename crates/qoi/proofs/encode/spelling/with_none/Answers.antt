@@ -1,0 +1,5 @@
+use Rattle.qoi.proofs.encoding.OverlaidRuns.{sizes_are}
+use Rattle.qoi.proofs.encode.spelling.with_none.Goals as goal
+
+pub returns : goal.returns
+returns c = λ ls s r. sizes_are ls c.args.size c.args.rep c.next_repeats.result s r c.next_repeats.ensures

@@ -1,0 +1,6 @@
+use Rattle.std.proofs.Common.{◌∙◌}
+use Rattle.qoi.proofs.encoding.OverlaidRuns.{firsts_are}
+use Rattle.qoi.proofs.encode.spelling.with_runs.Goals as goal
+
+pub returns : goal.returns
+returns c = λ ls n f r e. c.greater.ensures ∙ firsts_are ls n c.args.first c.args.rep c.args.count f r e

@@ -1,0 +1,44 @@
+-- Pixels as planes of their channels.
+use Rattle.std.specs.Prelude.{◌≡◌, ℕ, List, map, ◌++◌, length}
+use Rattle.std.specs.List.{AllByRecursion}
+use Rattle.qoi.specs.declared.encode.planes.Planes.{Planes}
+use Rattle.qoi.specs.Qoi.{RgbaPixel, IsPixel}
+use Rattle.qoi.specs.inner.Packed.{word}
+
+-- four pixels
+pub record AreFourPixels (ps : List RgbaPixel) : Type 0 where
+  pub four : length ps ≡ 4
+  pub are : AllByRecursion IsPixel ps
+
+-- four pixels, packed
+pub record AreFourWords (ps : List RgbaPixel) (words : List ℕ) : Type 0 where
+  pub four : length ps ≡ 4
+  pub are : AllByRecursion IsPixel ps
+  pub words_are : words ≡ map word ps
+
+-- red of each pixel
+abbrev pub reds : List RgbaPixel → List ℕ
+reds ps = map (λ (p : RgbaPixel). p.r) ps
+
+-- green of each pixel
+abbrev pub greens : List RgbaPixel → List ℕ
+greens ps = map (λ (p : RgbaPixel). p.g) ps
+
+-- blue of each pixel
+abbrev pub blues : List RgbaPixel → List ℕ
+blues ps = map (λ (p : RgbaPixel). p.b) ps
+
+-- alpha of each pixel
+abbrev pub alphas : List RgbaPixel → List ℕ
+alphas ps = map (λ (p : RgbaPixel). p.a) ps
+
+-- the four, one after the other
+abbrev pub by_channels : List RgbaPixel → List ℕ
+by_channels ps = reds ps ++ (greens ps ++ (blues ps ++ alphas ps))
+
+-- the planes are the channels of these pixels
+pub record ArePlanes (ps : List RgbaPixel) (p : Planes) : Type 0 where
+  pub r_is : p.r ≡ reds ps
+  pub g_is : p.g ≡ greens ps
+  pub b_is : p.b ≡ blues ps
+  pub a_is : p.a ≡ alphas ps

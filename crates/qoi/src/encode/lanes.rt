@@ -1,0 +1,92 @@
+//! Sixteen pixels, a byte of each in the lanes of a vector: the steps from the pixels before them,
+//! which of them repeat, and their index positions (QOI specification 1.0, "Chunks").
+ghost use lib.Lanes.{zip2};
+ghost use Rattle.std.specs.Prelude.{◌≡◌, ◌+◌, ◌-◌, ◌%◌, ℕ, List, ◌∷◌, min, max, map, take, slice_index};
+ghost use Rattle.qoi.specs.Qoi.{RgbaPixel, hash};
+ghost use Rattle.qoi.specs.inner.BlockLanes.{Lane, mask, zero_mask, step_of};
+ghost use Rattle.qoi.specs.inner.LaneVectors.{AreBy, AreSteps};
+ghost use Rattle.qoi.specs.inner.BlockState.{is_rep};
+
+use crate::encode::planes::Planes;
+use std::simd::prelude::*;
+
+/// What is added to red, green and blue of the pixels before for those of the pixels; it wraps at
+/// 256. Or the same as a difference or a luma chunk has it.
+#[derive(Clone, Copy)]
+pub(super) struct Steps {
+    pub(super) r: u8x16,
+    pub(super) g: u8x16,
+    pub(super) b: u8x16,
+}
+
+/// 255 in each lane that is 0, else 0.
+#[inline(always)]
+pub(super) fn is_zero(v: u8x16) -> u8x16
+    ensures { result ≡ map zero_mask v }
+{
+    v.simd_eq(u8x16::splat(0))
+        .select(u8x16::splat(255), u8x16::splat(0))
+}
+
+/// The lesser of each two lanes.
+#[inline(always)]
+pub(super) fn lesser(v: u8x16, w: u8x16) -> u8x16
+    ensures { result ≡ zip2 min v w }
+{
+    v.simd_min(w)
+}
+
+/// The greater of each two lanes.
+#[inline(always)]
+pub(super) fn greater(v: u8x16, w: u8x16) -> u8x16
+    ensures { result ≡ zip2 max v w }
+{
+    v.simd_max(w)
+}
+
+// The lanes, one further on; the first is the last one of `before`.
+#[inline(always)]
+fn later(before: u8x16, v: u8x16) -> u8x16
+    ensures { result ≡ slice_index before 15 ∷ take 15 v }
+{
+    before.shuffle(
+        v,
+        [
+            15, 16, 17, 18, 19, 20, 21, 22, 23, 24, 25, 26, 27, 28, 29, 30,
+        ],
+    )
+}
+
+/// The steps of one channel, where `before` has the sixteen pixels before these.
+#[inline(always)]
+pub(super) fn channel_steps(before: u8x16, v: u8x16) -> u8x16
+    ensures { (ls : List Lane) (f : RgbaPixel → ℕ) → AreBy ls (λ l. f l.px) v
+        → AreBy ls (λ l. f l.before) (slice_index before 15 ∷ take 15 v)
+        → AreBy ls (λ l. (f l.px + (256 - f l.before)) % 256) result }
+{
+    v - later(before, v)
+}
+
+/// 255 in each lane whose pixel repeats the one before it, else 0.
+#[inline(always)]
+pub(super) fn repeating(d: Steps, alpha: u8x16) -> u8x16
+    ensures { (ls : List Lane) → AreSteps ls d → AreBy ls (λ l. (step_of l).a) alpha
+        → AreBy ls (λ l. mask (is_rep l)) result }
+{
+    is_zero(d.r | d.g | d.b | alpha)
+}
+
+/// The index positions, from 3, 5, 7 and 11 times red, green, blue and alpha.
+#[inline(always)]
+pub(super) fn places(p: Planes) -> u8x16
+    ensures { (ls : List Lane) → AreBy ls (λ l. l.px.r) p.r → AreBy ls (λ l. l.px.g) p.g
+        → AreBy ls (λ l. l.px.b) p.b → AreBy ls (λ l. l.px.a) p.a
+        → AreBy ls (λ l. hash l.px) result }
+{
+    let s = p.r + p.g + p.b;
+    let t = s + p.g + p.b + p.b;
+    let h = s + t + t;
+    let a2 = p.a + p.a;
+    let a4 = a2 + a2;
+    (h + a4 + a4 + a2 + p.a) & u8x16::splat(63)
+}

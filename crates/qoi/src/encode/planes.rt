@@ -1,0 +1,102 @@
+//! Sixteen pixels in planes: a vector of bytes for each channel (QOI specification 1.0, "Chunks").
+ghost use Rattle.std.specs.Prelude.{◌≡◌, ℕ, List, ◌++◌, length};
+ghost use Rattle.std.specs.List.{AllByRecursion};
+ghost use Rattle.qoi.specs.Qoi.{RgbaPixel, IsPixel};
+ghost use Rattle.qoi.specs.inner.Planes.{AreFourPixels, AreFourWords, by_channels, ArePlanes};
+
+use std::simd::prelude::*;
+
+/// Sixteen packed pixels, four in each vector.
+#[derive(Clone, Copy)]
+pub(super) struct Words {
+    pub(super) one: u32x4,
+    pub(super) two: u32x4,
+    pub(super) three: u32x4,
+    pub(super) four: u32x4,
+}
+
+/// Red, green, blue and alpha of sixteen pixels: a lane for each pixel.
+#[derive(Clone, Copy)]
+pub(super) struct Planes {
+    pub(super) r: u8x16,
+    pub(super) g: u8x16,
+    pub(super) b: u8x16,
+    pub(super) a: u8x16,
+}
+
+// The channels of four pixels: four bytes of red, then green, blue and alpha.
+#[inline(always)]
+fn by_channel(w: u32x4) -> u8x16
+    ensures { (ps : List RgbaPixel) → AreFourWords ps w → result ≡ by_channels ps }
+{
+    w.to_le_bytes()
+        .swizzle([0, 4, 8, 12, 1, 5, 9, 13, 2, 6, 10, 14, 3, 7, 11, 15])
+}
+
+/// The planes of packed pixels.
+#[inline(always)]
+pub(super) fn make_planes(w: Words) -> Planes
+    ensures { (ps qs rs ts : List RgbaPixel) → AreFourWords ps w.one → AreFourWords qs w.two
+        → AreFourWords rs w.three → AreFourWords ts w.four
+        → ArePlanes (ps ++ (qs ++ (rs ++ ts))) result }
+{
+    let (p, q) = (by_channel(w.one), by_channel(w.two));
+    let (s, t) = (by_channel(w.three), by_channel(w.four));
+    let rg: u8x16 = p.shuffle(q, [0, 1, 2, 3, 16, 17, 18, 19, 4, 5, 6, 7, 20, 21, 22, 23]);
+    let ba: u8x16 = p.shuffle(
+        q,
+        [8, 9, 10, 11, 24, 25, 26, 27, 12, 13, 14, 15, 28, 29, 30, 31],
+    );
+    let rg2: u8x16 = s.shuffle(t, [0, 1, 2, 3, 16, 17, 18, 19, 4, 5, 6, 7, 20, 21, 22, 23]);
+    let ba2: u8x16 = s.shuffle(
+        t,
+        [8, 9, 10, 11, 24, 25, 26, 27, 12, 13, 14, 15, 28, 29, 30, 31],
+    );
+    Planes {
+        r: rg.shuffle(
+            rg2,
+            [0, 1, 2, 3, 4, 5, 6, 7, 16, 17, 18, 19, 20, 21, 22, 23],
+        ),
+        g: rg.shuffle(
+            rg2,
+            [8, 9, 10, 11, 12, 13, 14, 15, 24, 25, 26, 27, 28, 29, 30, 31],
+        ),
+        b: ba.shuffle(
+            ba2,
+            [0, 1, 2, 3, 4, 5, 6, 7, 16, 17, 18, 19, 20, 21, 22, 23],
+        ),
+        a: ba.shuffle(
+            ba2,
+            [8, 9, 10, 11, 12, 13, 14, 15, 24, 25, 26, 27, 28, 29, 30, 31],
+        ),
+    }
+}
+
+/// The packed words of four planes, of which the first is the lowest byte: the inverse of
+/// `make_planes`.
+#[inline(always)]
+pub(super) fn make_words(p: Planes) -> Words
+    ensures { (ps qs rs ts : List RgbaPixel) → AreFourPixels ps → AreFourPixels qs
+        → AreFourPixels rs → AreFourPixels ts → ArePlanes (ps ++ (qs ++ (rs ++ ts))) p
+        → AreFourWords ps result.one × AreFourWords qs result.two
+        × AreFourWords rs result.three × AreFourWords ts result.four }
+{
+    let (x0, x1) = p.r.interleave(p.g);
+    let (y0, y1) = p.b.interleave(p.a);
+    let n0: u8x16 = x0.shuffle(y0, [0, 1, 16, 17, 2, 3, 18, 19, 4, 5, 20, 21, 6, 7, 22, 23]);
+    let n1: u8x16 = x0.shuffle(
+        y0,
+        [8, 9, 24, 25, 10, 11, 26, 27, 12, 13, 28, 29, 14, 15, 30, 31],
+    );
+    let n2: u8x16 = x1.shuffle(y1, [0, 1, 16, 17, 2, 3, 18, 19, 4, 5, 20, 21, 6, 7, 22, 23]);
+    let n3: u8x16 = x1.shuffle(
+        y1,
+        [8, 9, 24, 25, 10, 11, 26, 27, 12, 13, 28, 29, 14, 15, 30, 31],
+    );
+    Words {
+        one: u32x4::from_le_bytes(n0),
+        two: u32x4::from_le_bytes(n1),
+        three: u32x4::from_le_bytes(n2),
+        four: u32x4::from_le_bytes(n3),
+    }
+}

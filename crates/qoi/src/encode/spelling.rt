@@ -1,0 +1,194 @@
+//! The chunks of sixteen pixels, a lane for each: first and second bytes, and sizes (QOI
+//! specification 1.0, "Chunks"). A repeat has a run's byte if a fresh pixel follows, else none.
+ghost use Rattle.std.specs.Prelude.{◌≡◌, ◌≤◌, ℕ, List, [], ◌∷◌, ◌++◌, drop, map};
+ghost use Rattle.qoi.specs.Qoi.{RgbaPixel, hash};
+ghost use Rattle.qoi.specs.inner.BlockBytes.{firsts, sizes};
+ghost use Rattle.qoi.specs.inner.BlockLanes.{Lane, mask, diff_of, near, keep_mask, diff_mask, luma_mask, stand_mask, first_of, second_of, size_of};
+ghost use Rattle.qoi.specs.inner.LaneVectors.{AreBy, AreSteps, AreNear, AreFar, AreFits};
+ghost use Rattle.qoi.specs.inner.BlockState.{State, is_rep};
+ghost use Rattle.qoi.specs.inner.Counts.{counts};
+ghost use Rattle.qoi.specs.inner.Spelling.{IsBlock, HasSpelled};
+
+use crate::encode::counts::count_repeats;
+use crate::encode::lanes::{Steps, channel_steps, greater, is_zero, lesser, repeating};
+use crate::encode::planes::Planes;
+use std::simd::prelude::*;
+
+/// Which pixels fit a difference chunk, which fit a luma, and which keep alpha: 255 or 0.
+#[derive(Clone, Copy)]
+pub(super) struct Fits {
+    pub(super) diff: u8x16,
+    pub(super) luma: u8x16,
+    pub(super) keep: u8x16,
+}
+
+/// A chunk's first byte, the second one, if it has one, and its size, for each of sixteen pixels;
+/// and how many repeats end with the pixel.
+#[derive(Clone, Copy)]
+pub(super) struct Spelled {
+    pub(super) first: u8x16,
+    pub(super) second: u8x16,
+    pub(super) size: u8x16,
+    pub(super) count: u8x16,
+}
+
+// Steps as a difference chunk has them: with 2 added.
+#[inline(always)]
+fn near_steps(d: Steps) -> Steps
+    ensures { (ls : List Lane) → AreSteps ls d → AreNear ls result }
+{
+    let two = u8x16::splat(2);
+    Steps {
+        r: d.r + two,
+        g: d.g + two,
+        b: d.b + two,
+    }
+}
+
+// Steps as a luma chunk has them: green's plus 32; red's and blue's minus green's, plus 8.
+#[inline(always)]
+fn far_steps(d: Steps) -> Steps
+    ensures { (ls : List Lane) → AreSteps ls d → AreFar ls result }
+{
+    let eight = u8x16::splat(8);
+    Steps {
+        r: d.r - d.g + eight,
+        g: d.g + u8x16::splat(32),
+        b: d.b - d.g + eight,
+    }
+}
+
+// Which pixels a difference chunk gives.
+#[inline(always)]
+fn fits_diff(near: Steps, keep: u8x16) -> u8x16
+    ensures { (ls : List Lane) → AreNear ls near → AreBy ls keep_mask keep
+        → AreBy ls diff_mask result }
+{
+    is_zero((near.r | near.g | near.b) & u8x16::splat(0xfc)) & keep
+}
+
+// Which pixels a luma chunk gives.
+#[inline(always)]
+fn fits_luma(far: Steps, keep: u8x16) -> u8x16
+    ensures { (ls : List Lane) → AreFar ls far → AreBy ls keep_mask keep
+        → AreBy ls luma_mask result }
+{
+    is_zero(((far.r | far.b) & u8x16::splat(0xf0)) | (far.g & u8x16::splat(0xc0))) & keep
+}
+
+// The difference chunks of steps that fit.
+#[inline(always)]
+fn diffs(steps: Steps) -> u8x16
+    ensures { (ls : List Lane) → AreNear ls steps → AreBy ls (λ l. diff_of (near l)) result }
+{
+    let t = steps.r + steps.r;
+    let t = t + t + steps.g;
+    let t = t + t;
+    t + t + steps.b + u8x16::splat(0x40)
+}
+
+// The first byte of each fresh pixel's chunk: as numbers, index position, difference, luma, RGB and
+// RGBA stand in this order, so it is the least that applies.
+#[inline(always)]
+fn first_bytes(near: Steps, far: Steps, fits: Fits, places: u8x16, stands: u8x16) -> u8x16
+    ensures { (ls : List Lane) → AreNear ls near → AreFar ls far → AreFits ls fits
+        → AreBy ls (λ l. hash l.px) places → AreBy ls stand_mask stands
+        → AreBy ls first_of result }
+{
+    let full = u8x16::splat(0xff) + fits.keep;
+    let first = lesser((far.g + u8x16::splat(0x80)) | !fits.luma, full);
+    lesser(lesser(first, diffs(near) | !fits.diff), places | !stands)
+}
+
+// The second byte: that of a luma, or red.
+#[inline(always)]
+fn second_bytes(far: Steps, red: u8x16, luma: u8x16) -> u8x16
+    ensures { (ls : List Lane) → AreFar ls far → AreBy ls (λ l. l.px.r) red
+        → AreBy ls luma_mask luma → AreBy ls second_of result }
+{
+    let second = (far.r << u8x16::splat(4)) + far.b;
+    (luma & second) | (!luma & red)
+}
+
+// How many bytes each fresh pixel's chunk has.
+#[inline(always)]
+fn sizes_of(fits: Fits, stands: u8x16) -> u8x16
+    ensures { (ls : List Lane) → AreFits ls fits → AreBy ls stand_mask stands
+        → AreBy ls size_of result }
+{
+    let one = stands | fits.diff;
+    let size = lesser(
+        u8x16::splat(4) + fits.luma + fits.luma,
+        u8x16::splat(1) | !one,
+    );
+    size + (!fits.keep & !one & u8x16::splat(1))
+}
+
+// The first bytes, with those of runs for repeats.
+#[inline(always)]
+fn with_runs(first: u8x16, rep: u8x16, count: u8x16) -> u8x16
+    ensures { (ls : List Lane) (c : ℕ) → AreBy ls first_of first
+        → AreBy ls (λ l. mask (is_rep l)) rep → count ≡ counts c (map is_rep ls)
+        → result ≡ firsts c ls }
+{
+    greater(first, rep & (count + u8x16::splat(0xbf)))
+}
+
+// Whether the next lane repeats, or there is none.
+#[inline(always)]
+fn next_repeats(rep: u8x16) -> u8x16
+    ensures { result ≡ drop 1 rep ++ 255 ∷ [] }
+{
+    rep.shuffle(
+        u8x16::splat(255),
+        [1, 2, 3, 4, 5, 6, 7, 8, 9, 10, 11, 12, 13, 14, 15, 16],
+    )
+}
+
+// The sizes, with 0 for a repeat that another one follows, or no lane.
+#[inline(always)]
+fn with_none(size: u8x16, rep: u8x16) -> u8x16
+    ensures { (ls : List Lane) → AreBy ls size_of size → AreBy ls (λ l. mask (is_rep l)) rep
+        → result ≡ sizes ls }
+{
+    size + (rep & next_repeats(rep))
+}
+
+/// Spells out sixteen pixels, where `before` has the sixteen before them, `stands` says which stand
+/// at their index positions, and `carry` repeats came before that aren't written yet.
+#[inline(always)]
+pub(super) fn spell_block(
+    before: Planes,
+    p: Planes,
+    stands: u8x16,
+    places: u8x16,
+    carry: u8,
+) -> Spelled
+    requires { carry ≤ 46 }
+    ensures { (s : State) (ps : List RgbaPixel) → s.carry ≡ carry
+        → IsBlock s ps p before stands places → HasSpelled s ps result }
+{
+    let d = Steps {
+        r: channel_steps(before.r, p.r),
+        g: channel_steps(before.g, p.g),
+        b: channel_steps(before.b, p.b),
+    };
+    let alpha = channel_steps(before.a, p.a);
+    let rep = repeating(d, alpha);
+    let keep = is_zero(alpha);
+    let near = near_steps(d);
+    let far = far_steps(d);
+    let fits = Fits {
+        diff: fits_diff(near, keep),
+        luma: fits_luma(far, keep),
+        keep,
+    };
+    let first = first_bytes(near, far, fits, places, stands);
+    let count = count_repeats(rep, carry);
+    Spelled {
+        first: with_runs(first, rep, count),
+        second: second_bytes(far, p.r, fits.luma),
+        size: with_none(sizes_of(fits, stands), rep),
+        count,
+    }
+}

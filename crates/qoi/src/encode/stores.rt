@@ -1,0 +1,105 @@
+//! Chunks that are stored one after the other, each where the sum of the sizes before it says.
+ghost use lib.Lanes.{digits_l, number_l, sum_l};
+ghost use Rattle.std.specs.Prelude.{◌≡◌, ◌+◌, ◌*◌, ◌/◌, ◌%◌, ◌^◌, ◌≤◌, ◌<◌, ℕ, List, [], ◌∷◌, ◌++◌, length, take, drop, slice_index};
+ghost use Rattle.qoi.specs.Raw.{IsChannels};
+ghost use Rattle.qoi.specs.inner.Stores.{AreSizes, AreStarts, first_sum, four_chunks, eight_chunks};
+
+use std::simd::prelude::*;
+
+/// Four chunks: numbers whose lowest bytes are the chunks' first four, and the fifth byte, of an
+/// RGBA: the pixel's alpha.
+#[derive(Clone, Copy)]
+pub(super) struct FourChunks {
+    pub(super) numbers: [u32; 4],
+    pub(super) alphas: [u8; 4],
+}
+
+// How many bytes the first chunks have, of eight: a byte for each, which counts its own chunk too.
+#[inline(always)]
+fn ends(sizes: u64) -> u64
+    ensures { (ss : List ℕ) → AreSizes ss sizes → (k : ℕ) → k < 8
+        → result / 2 ^ (8 * k) % 256 ≡ first_sum (k + 1) ss }
+{
+    sizes.wrapping_mul(0x0101_0101_0101_0101)
+}
+
+// The end of one chunk.
+#[inline(always)]
+fn after(ends: u64, k: u32) -> usize
+    requires { k < 8 }
+    ensures few { result < 256 }
+    ensures is { result ≡ ends / 2 ^ (8 * k) % 256 }
+{
+    ((ends >> (8 * k)) % 256) as usize
+}
+
+// Stores the bytes of a chunk, whatever its size, and perhaps others after them.
+#[inline(always)]
+fn put<const N: usize>(out: &mut [u8], at: usize, number: u32, alpha: u8)
+    requires channels { IsChannels N }
+    requires room { at + 5 ≤ length out.old }
+    ensures same { length out.new ≡ length out.old }
+    ensures written { (size : ℕ) → size ≤ N + 1 → take (at + size) out.new
+        ≡ take at out.old ++ take size (digits_l 256 4 number ++ alpha ∷ []) }
+{
+    Simd::<u32, 1>::from_array([number])
+        .to_le_bytes()
+        .copy_to_slice(&mut out[at..at + 4]);
+    if N == 4 {
+        out[at + 4] = alpha;
+    }
+}
+
+// Stores four chunks, each from its start on, which is counted after `at`.
+#[inline(always)]
+fn put_four<const N: usize>(out: &mut [u8], at: usize, starts: [usize; 4], four: FourChunks)
+    requires channels { IsChannels N }
+    requires few { (k : ℕ) → k < 4 → slice_index starts k < 256 }
+    requires room { at + 300 ≤ length out.old }
+    ensures same { length out.new ≡ length out.old }
+    ensures written { (b s0 s1 s2 s3 : ℕ) → s0 ≤ N + 1 → s1 ≤ N + 1 → s2 ≤ N + 1 → s3 ≤ N + 1
+        → AreStarts starts b s0 s1 s2
+        → take (at + (b + s0 + s1 + s2 + s3)) out.new
+        ≡ take (at + b) out.old ++ four_chunks s0 s1 s2 s3 four }
+{
+    put::<N>(out, at + starts[0], four.numbers[0], four.alphas[0]);
+    put::<N>(out, at + starts[1], four.numbers[1], four.alphas[1]);
+    put::<N>(out, at + starts[2], four.numbers[2], four.alphas[2]);
+    put::<N>(out, at + starts[3], four.numbers[3], four.alphas[3]);
+}
+
+/// Stores eight chunks of these sizes from `at` on, and returns where they end.
+#[inline(always)]
+pub(super) fn put_eight<const N: usize>(
+    out: &mut [u8],
+    at: usize,
+    sizes: u64,
+    one: FourChunks,
+    two: FourChunks,
+) -> usize
+    requires channels { IsChannels N }
+    requires room { at + 300 ≤ length out.old }
+    ensures same { length out.new ≡ length out.old }
+    ensures near { (at ≤ result) × (result < at + 256) }
+    ensures written { (ss : List ℕ) → AreSizes ss sizes → ((k : ℕ) → slice_index ss k ≤ N + 1)
+        → (result ≡ at + sum_l ss)
+        × (take result out.new ≡ take at out.old ++ eight_chunks ss one two) }
+{
+    let e = ends(sizes);
+    put_four::<N>(out, at, [0, after(e, 0), after(e, 1), after(e, 2)], one);
+    put_four::<N>(
+        out,
+        at,
+        [after(e, 3), after(e, 4), after(e, 5), after(e, 6)],
+        two,
+    );
+    at + after(e, 7)
+}
+
+/// The sizes of eight lanes each, as the bytes of a number.
+#[inline(always)]
+pub(super) fn halves(size: u8x16) -> [u64; 2]
+    ensures { result ≡ number_l 256 (take 8 size) ∷ number_l 256 (drop 8 size) ∷ [] }
+{
+    u64x2::from_le_bytes(size).to_array()
+}
