@@ -27,8 +27,10 @@ pub mod WrittenOnce
 pub mod WrittenShape
 -- Sixteen pixels at a time: what they write, and the vectors that say so.
 pub mod BlockOut
+pub mod BlockPuts
 pub mod BlockWritten
 pub mod CoderLink
+pub mod FourFours
 pub mod LaneBits
 pub mod LaneChunk
 pub mod LaneMasks

@@ -20,4 +20,3 @@ pub mod Planes
 pub mod Spelling
 pub mod Stands
 pub mod Stores
-pub mod Swaps

@@ -24,8 +24,8 @@ pub(crate) mod piece;
 mod planes;
 pub(crate) mod quad;
 mod spelling;
+mod stands;
 mod stores;
-mod swaps;
 
 use crate::consts::QOI_PADDING;
 use crate::encode::chunks::encode_chunks;

@@ -5,6 +5,8 @@ ghost use Rattle.qoi.specs.Qoi.{Past, positions, hash, seen};
 ghost use Rattle.qoi.specs.inner.Hashed.{pixel_of_lanes, HoldsSeen};
 ghost use Rattle.qoi.specs.inner.Table.{Holds, first_blank};
 
+mod swaps;
+
 use crate::hashed::Hashed;
 use crate::packed::{Packed, pick};
 use std::marker::Model;

@@ -10,7 +10,7 @@ use Rattle.qoi.specs.Qoi.{RgbaPixel, IsPixel, Past, pixel_eq, bytes_of}
 use Rattle.qoi.proofs.format.SamePixels.{pixel_eq-true, hash_below}
 use Rattle.qoi.proofs.encoding.GroupRuns.{not_one}
 use Rattle.qoi.specs.inner.BlockLanes.{Lane, mask, near, step_of, keeps, fits_diff, fits_luma, first_of, second_of, size_of, size_by}
-use Rattle.qoi.specs.inner.BlockState.{State, lane_of, lanes_of, is_rep, goes_on, group_bytes, next_by, step_by, next_state, more_of, out}
+use Rattle.qoi.specs.inner.BlockState.{State, lane_of, lanes_of, is_rep, goes_on, group_bytes, next_by, step_by, next_state, more_of, block_bytes}
 use Rattle.qoi.specs.inner.BlockBytes.{firsts, sizes, chunks_of}
 use Rattle.qoi.proofs.encoding.LaneChunk.{from_small}
 
@@ -119,7 +119,7 @@ carry_few false m s p = omega arith
 
 -- all lanes
 pub out_is : (s : State) (ps : List RgbaPixel) → AllByRecursion IsPixel ps → s.carry + length ps < 62
-    → (let ls = lanes_of s.held s.last ps in chunks_of ls (firsts s.carry ls) (sizes ls)) ≡ out Reference s ps
+    → (let ls = lanes_of s.held s.last ps in chunks_of ls (firsts s.carry ls) (sizes ls)) ≡ block_bytes Reference s ps
 out_is s [] are few = refl
 out_is s (p ∷ ps) are few =
     let b = pixel_eq p s.last in

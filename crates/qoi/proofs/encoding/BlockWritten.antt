@@ -23,7 +23,7 @@ use Rattle.qoi.proofs.encoding.StyleLists.{chooses_in}
 use Rattle.qoi.proofs.encoding.StyledGroup.{WritesOne, styled_runs, styled_chunk}
 use Rattle.qoi.proofs.encoding.CoderTable.{spelled_out}
 use Rattle.qoi.specs.inner.BlockLanes.{lane_bytes}
-use Rattle.qoi.specs.inner.BlockState.{Between, State, Carrying, lane_of, group_bytes, next_by, step_by, next_state, step_bytes, more_of, end_state, out, NoneBlank, CarryGoesOn, flushed_state}
+use Rattle.qoi.specs.inner.BlockState.{Between, State, Carrying, lane_of, group_bytes, next_by, step_by, next_state, step_bytes, more_of, end_state, block_bytes, NoneBlank, CarryGoesOn, flushed_state}
 use Rattle.qoi.proofs.encoding.BlockOut.{carry_few}
 use Rattle.qoi.proofs.encoding.LaneChunk.{spelled_lane}
 
@@ -339,10 +339,10 @@ module _ (w : Writing) (s : State) (p : RgbaPixel) (kept : List ℕ) (few : s.ca
 
 -- A block's pixels are written, but for the repeats at their end.
 pub block_written : {w : Writing} (s : State) (ps rest : List RgbaPixel) {kept : List ℕ} → Carrying w s (ps ++ rest) kept → CarryGoesOn s ps
-    → s.carry + length ps < 62 → (w.list.style ≡ Tight → NoneBlank s ps) → Carrying w (end_state s ps) rest (kept ++ out w.list.style s ps)
+    → s.carry + length ps < 62 → (w.list.style ≡ Tight → NoneBlank s ps) → Carrying w (end_state s ps) rest (kept ++ block_bytes w.list.style s ps)
 block_written {w} s [] rest {kept} c on few none = subst (Carrying w s rest) (sym (append-nil kept)) c
 block_written {w} s (p ∷ ps) rest {kept} c on few none =
     let m = more_of p ps in
     let one = over_lane w s p kept (omega arith) ps rest c on (λ t. (none t).0) in
-    subst (Carrying w (end_state (next_state s p m) ps) rest) (append_assoc kept (step_bytes w.list.style s p m) (out w.list.style (next_state s p m) ps))
+    subst (Carrying w (end_state (next_state s p m) ps) rest) (append_assoc kept (step_bytes w.list.style s p m) (block_bytes w.list.style (next_state s p m) ps))
     (block_written (next_state s p m) ps rest one (carry_on s p ps) (omega (arith, carry_few (pixel_eq p s.last) m s p)) (λ t. (none t).1))

@@ -11,7 +11,7 @@ use Rattle.qoi.proofs.format.SamePixels.{pixel_eq-true, hash_below}
 use Rattle.qoi.proofs.encoding.GroupRuns.{not_one}
 use Rattle.qoi.specs.inner.CoderState.{single_chunk}
 use Rattle.qoi.specs.inner.BlockLanes.{Lane, mask, near, far, keeps, fits_diff, fits_luma, first_of, first_by, size_of}
-use Rattle.qoi.specs.inner.BlockState.{State, lane_of, lanes_of, is_rep, goes_on, group_bytes, next_by, step_by, next_state, more_of, out}
+use Rattle.qoi.specs.inner.BlockState.{State, lane_of, lanes_of, is_rep, goes_on, group_bytes, next_by, step_by, next_state, more_of, block_bytes}
 use Rattle.qoi.specs.inner.BlockBytes.{placed_firsts, sizes, chunks_of}
 use Rattle.qoi.proofs.encoding.LaneBits.{or_mask}
 use Rattle.qoi.proofs.encoding.BlockOut.{repeat_size, repeat_first, run_byte, none_and, size_small, chunk_of, goes_is, carry_few}
@@ -120,7 +120,7 @@ still_placed s p false m ls e z g = refl
 -- all lanes
 pub places_out_is : (s : State) (q : Bool) (ps : List RgbaPixel) → AllByRecursion IsPixel ps → s.carry + length ps < 62
     → (s.carry ≡ 0 → goes_on (lanes_of s.held s.last ps) ≡ true → q ≡ s.placed)
-    → (let ls = lanes_of s.held s.last ps in chunks_of ls (placed_firsts q s.carry ls) (sizes ls)) ≡ out Places s ps
+    → (let ls = lanes_of s.held s.last ps in chunks_of ls (placed_firsts q s.carry ls) (sizes ls)) ≡ block_bytes Places s ps
 places_out_is s q [] are few k = refl
 places_out_is s q (p ∷ ps) are few k =
     let b = pixel_eq p s.last in

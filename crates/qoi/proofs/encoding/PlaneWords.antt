@@ -1,11 +1,11 @@
 -- Packed pixels from their planes.
-use Rattle.std.proofs.Common.{◌≡◌, ℕ, suc, ◌+◌, ◌*◌, ◌/◌, ◌%◌, List, [], ◌∷◌, ◌++◌, map, refl, sym, ap, ◌∙◌, arith, subst}
+use Rattle.std.proofs.Common.{◌≡◌, ℕ, suc, ◌+◌, ◌*◌, ◌/◌, ◌%◌, List, [], ◌∷◌, ◌++◌, length, map, refl, sym, ap, ◌∙◌, arith, subst}
 use Rattle.std.specs.List.{AllByRecursion}
 use lib.Lanes.{number_l, digits_l, pick_l}
 use Rattle.qoi.specs.declared.encode.planes.Planes.{Planes}
 use Rattle.qoi.specs.Qoi.{RgbaPixel, IsPixel}
 use Rattle.qoi.specs.inner.Packed.{word}
-use Rattle.qoi.specs.inner.Planes.{AreFourPixels, AreFourWords, ArePlanes}
+use Rattle.qoi.specs.inner.Planes.{AreFourWords, ArePlanes}
 
 module _ (p : RgbaPixel) (i : IsPixel p) (r : ℕ) where
   -- the lowest 32 bits of bytes are the packed pixel
@@ -52,6 +52,11 @@ high_fours xs ys = pick_l 0 (xs ++ ys) (8 ∷ 9 ∷ 24 ∷ 25 ∷ 10 ∷ 11 ∷ 
 -- sixteen bytes as four numbers
 abbrev to_words : List ℕ → List ℕ
 to_words bs = digits_l 4294967296 4 (number_l 256 bs)
+
+-- four pixels
+pub record AreFourPixels (ps : List RgbaPixel) : Type 0 where
+  pub four : length ps ≡ 4
+  pub are : AllByRecursion IsPixel ps
 
 -- four packed pixels from the bytes of four
 words_are : (ps : List RgbaPixel) (bs : List ℕ) → AreFourPixels ps → (p q s t : RgbaPixel) → ps ≡ p ∷ q ∷ s ∷ t ∷ [] → bs ≡ bytes_of_four p q s t

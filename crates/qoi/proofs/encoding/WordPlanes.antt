@@ -1,9 +1,11 @@
 -- The bytes of packed pixels, and their planes.
-use Rattle.std.proofs.Common.{◌≡◌, ℕ, suc, ◌+◌, ◌*◌, ◌/◌, ◌%◌, List, [], ◌∷◌, ◌++◌, length, ap, ◌∙◌, arith}
+use Rattle.std.proofs.Common.{◌≡◌, ℕ, suc, ◌+◌, ◌*◌, ◌/◌, ◌%◌, List, [], ◌∷◌, ◌++◌, length, ap, ◌∙◌, arith, take, drop, subst}
 use lib.Lanes.{number_l, digits_l, pick_l}
+use Rattle.qoi.specs.declared.encode.planes.Planes.{Planes}
 use Rattle.qoi.specs.Qoi.{RgbaPixel, IsPixel}
 use Rattle.qoi.specs.inner.Packed.{word}
-use Rattle.qoi.specs.inner.Planes.{AreFourWords, by_channels, ArePlanes}
+use Rattle.qoi.specs.inner.Planes.{AreSixteen, AreFourWords, by_channels, ArePlanes}
+use Rattle.qoi.proofs.encoding.FourFours.{four_fours}
 
 module _ (p : RgbaPixel) (i : IsPixel p) (r : ℕ) where
   -- red is the lowest byte
@@ -69,15 +71,19 @@ lows p q = pick_l 0 (p ++ q) (0 ∷ 1 ∷ 2 ∷ 3 ∷ 4 ∷ 5 ∷ 6 ∷ 7 ∷ 16
 abbrev highs : List ℕ → List ℕ → List ℕ
 highs p q = pick_l 0 (p ++ q) (8 ∷ 9 ∷ 10 ∷ 11 ∷ 12 ∷ 13 ∷ 14 ∷ 15 ∷ 24 ∷ 25 ∷ 26 ∷ 27 ∷ 28 ∷ 29 ∷ 30 ∷ 31 ∷ [])
 
+-- the planes from the channels of four times four pixels
+abbrev pub planes_from : List ℕ → List ℕ → List ℕ → List ℕ → Planes
+planes_from p q s t = record {
+  r = lows (evens p q) (evens s t);
+  g = highs (evens p q) (evens s t);
+  b = lows (odds p q) (odds s t);
+  a = highs (odds p q) (odds s t);
+}
+
 -- the planes of four times four pixels
-pub planes_are : (ps qs rs ts : List RgbaPixel) (p q s t : List ℕ) → length ps ≡ 4 → length qs ≡ 4 → length rs ≡ 4 → length ts ≡ 4
+planes_are : (ps qs rs ts : List RgbaPixel) (p q s t : List ℕ) → length ps ≡ 4 → length qs ≡ 4 → length rs ≡ 4 → length ts ≡ 4
     → p ≡ by_channels ps → q ≡ by_channels qs → s ≡ by_channels rs → t ≡ by_channels ts
-    → ArePlanes (ps ++ (qs ++ (rs ++ ts))) (record {
-      r = lows (evens p q) (evens s t);
-      g = highs (evens p q) (evens s t);
-      b = lows (odds p q) (odds s t);
-      a = highs (odds p q) (odds s t);
-    })
+    → ArePlanes (ps ++ (qs ++ (rs ++ ts))) (planes_from p q s t)
 planes_are (p0 ∷ p1 ∷ p2 ∷ p3 ∷ []) (q0 ∷ q1 ∷ q2 ∷ q3 ∷ []) (s0 ∷ s1 ∷ s2 ∷ s3 ∷ []) (t0 ∷ t1 ∷ t2 ∷ t3 ∷ []) p q s t lp lq ls lt ep eq es et = record {
   r_is = λ i. lows (evens (ep i) (eq i)) (evens (es i) (et i));
   g_is = λ i. highs (evens (ep i) (eq i)) (evens (es i) (et i));
@@ -88,3 +94,11 @@ planes_are (p0 ∷ p1 ∷ p2 ∷ p3 ∷ []) (q0 ∷ q1 ∷ q2 ∷ q3 ∷ []) (s0
 planes_are (p0 ∷ p1 ∷ p2 ∷ p3 ∷ []) (q0 ∷ q1 ∷ q2 ∷ q3 ∷ []) rs ts p q s t lp lq ls lt ep eq es et = absurd (omega arith)
 planes_are (p0 ∷ p1 ∷ p2 ∷ p3 ∷ []) qs rs ts p q s t lp lq ls lt ep eq es et = absurd (omega arith)
 planes_are ps qs rs ts p q s t lp lq ls lt ep eq es et = absurd (omega arith)
+
+-- the planes of sixteen pixels
+pub sixteen_planes : (ps : List RgbaPixel) (p q s t : List ℕ) → AreSixteen ps → p ≡ by_channels (take 4 ps) → q ≡ by_channels (take 4 (drop 4 ps))
+    → s ≡ by_channels (take 4 (drop 8 ps)) → t ≡ by_channels (take 4 (drop 12 ps)) → ArePlanes ps (planes_from p q s t)
+sixteen_planes ps p q s t sixteen ep eq es et =
+    let f = four_fours ps sixteen in
+    subst (λ xs. ArePlanes xs (planes_from p q s t)) f.whole
+    (planes_are (take 4 ps) (take 4 (drop 4 ps)) (take 4 (drop 8 ps)) (take 4 (drop 12 ps)) p q s t f.one_long f.two_long f.three_long f.four_long ep eq es et)

@@ -91,9 +91,9 @@ end_state s [] = s
 end_state s (p ∷ ps) = end_state (next_state s p (more_of p ps)) ps
 
 -- what is written for all of them
-abbrev pub out : Style → State → List RgbaPixel → List ℕ
-out style s [] = []
-out style s (p ∷ ps) = step_bytes style s p (more_of p ps) ++ out style (next_state s p (more_of p ps)) ps
+abbrev pub block_bytes : Style → State → List RgbaPixel → List ℕ
+block_bytes style s [] = []
+block_bytes style s (p ∷ ps) = step_bytes style s p (more_of p ps) ++ block_bytes style (next_state s p (more_of p ps)) ps
 
 -- no fresh pixel is transparent black that isn't at its position
 abbrev pub NoneBlank : State → List RgbaPixel → Type 0

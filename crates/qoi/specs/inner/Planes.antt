@@ -1,13 +1,14 @@
--- Pixels as planes of their channels.
-use Rattle.std.specs.Prelude.{◌≡◌, ℕ, List, map, ◌++◌, length}
+-- Sixteen pixels, packed or as planes of their channels.
+use Rattle.std.specs.Prelude.{◌≡◌, ℕ, List, map, ◌++◌, length, take, drop}
 use Rattle.std.specs.List.{AllByRecursion}
 use Rattle.qoi.specs.declared.encode.planes.Planes.{Planes}
+use Rattle.qoi.specs.declared.encode.planes.Words.{Words}
 use Rattle.qoi.specs.Qoi.{RgbaPixel, IsPixel}
-use Rattle.qoi.specs.inner.Packed.{word}
+use Rattle.qoi.specs.inner.Packed.{word, pixel_of_word}
 
--- four pixels
-pub record AreFourPixels (ps : List RgbaPixel) : Type 0 where
-  pub four : length ps ≡ 4
+-- sixteen pixels
+pub record AreSixteen (ps : List RgbaPixel) : Type 0 where
+  pub long : length ps ≡ 16
   pub are : AllByRecursion IsPixel ps
 
 -- four pixels, packed
@@ -15,6 +16,21 @@ pub record AreFourWords (ps : List RgbaPixel) (words : List ℕ) : Type 0 where
   pub four : length ps ≡ 4
   pub are : AllByRecursion IsPixel ps
   pub words_are : words ≡ map word ps
+
+-- sixteen pixels, packed
+pub record AreBlockWords (ps : List RgbaPixel) (w : Words) : Type 0 where
+  pub one_are : w.one ≡ map word (take 4 ps)
+  pub two_are : w.two ≡ map word (take 4 (drop 4 ps))
+  pub three_are : w.three ≡ map word (take 4 (drop 8 ps))
+  pub four_are : w.four ≡ map word (take 4 (drop 12 ps))
+
+-- the pixels of packed ones
+abbrev pub pixels_of_words : List ℕ → List RgbaPixel
+pixels_of_words words = map pixel_of_word words
+
+-- of sixteen
+abbrev pub block_pixels : Words → List RgbaPixel
+block_pixels w = pixels_of_words w.one ++ (pixels_of_words w.two ++ (pixels_of_words w.three ++ pixels_of_words w.four))
 
 -- red of each pixel
 abbrev pub reds : List RgbaPixel → List ℕ

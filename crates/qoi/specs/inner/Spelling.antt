@@ -1,6 +1,5 @@
 -- What a block's vectors start from, and what they become.
-use Rattle.std.specs.Prelude.{◌≡◌, ℕ, List, map, length, slice_index}
-use Rattle.std.specs.List.{AllByRecursion}
+use Rattle.std.specs.Prelude.{◌≡◌, ℕ, List, map, slice_index}
 use Rattle.qoi.specs.declared.encode.planes.Planes.{Planes}
 use Rattle.qoi.specs.declared.encode.spelling.Spelled.{Spelled}
 use Rattle.qoi.specs.Qoi.{RgbaPixel, IsPixel, hash}
@@ -8,7 +7,7 @@ use Rattle.qoi.specs.inner.BlockBytes.{firsts, sizes}
 use Rattle.qoi.specs.inner.BlockLanes.{mask, second_of}
 use Rattle.qoi.specs.inner.BlockState.{State, lanes_of, is_rep}
 use Rattle.qoi.specs.inner.Counts.{counts}
-use Rattle.qoi.specs.inner.Planes.{ArePlanes}
+use Rattle.qoi.specs.inner.Planes.{AreSixteen, ArePlanes}
 use Rattle.qoi.specs.inner.Stands.{stand_tests}
 
 -- the last of sixteen pixels
@@ -21,16 +20,16 @@ pub record IsLastOf (q : RgbaPixel) (p : Planes) : Type 0 where
 -- A block's pixels, in planes, after those of the block before, whose last pixel is that of the
 -- state; which of them stand at their index positions, and these positions.
 pub record IsBlock (s : State) (ps : List RgbaPixel) (p before : Planes) (stands places : List ℕ) : Type 0 where
-  pub long : length ps ≡ 16
-  pub are : AllByRecursion IsPixel ps
+  pub sixteen : AreSixteen ps
   pub last_is : IsPixel s.last
   pub planes_are : ArePlanes ps p
   pub after : IsLastOf s.last before
   pub stands_are : stands ≡ map mask (stand_tests s.held ps)
   pub places_are : places ≡ map hash ps
 
--- first and second bytes, sizes and counted repeats of a block's pixels
+-- which of a block's pixels repeat, first and second bytes, sizes and counted repeats
 pub record HasSpelled (s : State) (ps : List RgbaPixel) (x : Spelled) : Type 0 where
+  pub rep_is : x.rep ≡ map (λ l. mask (is_rep l)) (lanes_of s.held s.last ps)
   pub first_is : x.first ≡ firsts s.carry (lanes_of s.held s.last ps)
   pub second_is : x.second ≡ map second_of (lanes_of s.held s.last ps)
   pub size_is : x.size ≡ sizes (lanes_of s.held s.last ps)

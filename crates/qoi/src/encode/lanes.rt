@@ -4,6 +4,7 @@ ghost use lib.Lanes.{zip2};
 ghost use Rattle.std.specs.Prelude.{◌≡◌, ◌+◌, ◌-◌, ◌%◌, ℕ, List, ◌∷◌, min, max, map, take, slice_index};
 ghost use Rattle.qoi.specs.Qoi.{RgbaPixel, hash};
 ghost use Rattle.qoi.specs.inner.BlockLanes.{Lane, mask, zero_mask, step_of};
+ghost use Rattle.qoi.specs.inner.Planes.{AreSixteen, ArePlanes};
 ghost use Rattle.qoi.specs.inner.LaneVectors.{AreBy, AreSteps};
 ghost use Rattle.qoi.specs.inner.BlockState.{is_rep};
 
@@ -79,9 +80,7 @@ pub(super) fn repeating(d: Steps, alpha: u8x16) -> u8x16
 /// The index positions, from 3, 5, 7 and 11 times red, green, blue and alpha.
 #[inline(always)]
 pub(super) fn places(p: Planes) -> u8x16
-    ensures { (ls : List Lane) → AreBy ls (λ l. l.px.r) p.r → AreBy ls (λ l. l.px.g) p.g
-        → AreBy ls (λ l. l.px.b) p.b → AreBy ls (λ l. l.px.a) p.a
-        → AreBy ls (λ l. hash l.px) result }
+    ensures { (ps : List RgbaPixel) → AreSixteen ps → ArePlanes ps p → result ≡ map hash ps }
 {
     let s = p.r + p.g + p.b;
     let t = s + p.g + p.b + p.b;

@@ -1,8 +1,7 @@
 //! Sixteen pixels in planes: a vector of bytes for each channel (QOI specification 1.0, "Chunks").
-ghost use Rattle.std.specs.Prelude.{◌≡◌, ℕ, List, ◌++◌, length};
-ghost use Rattle.std.specs.List.{AllByRecursion};
-ghost use Rattle.qoi.specs.Qoi.{RgbaPixel, IsPixel};
-ghost use Rattle.qoi.specs.inner.Planes.{AreFourPixels, AreFourWords, by_channels, ArePlanes};
+ghost use Rattle.std.specs.Prelude.{◌≡◌, List};
+ghost use Rattle.qoi.specs.Qoi.{RgbaPixel};
+ghost use Rattle.qoi.specs.inner.Planes.{AreSixteen, AreFourWords, AreBlockWords, by_channels, ArePlanes};
 
 use std::simd::prelude::*;
 
@@ -36,9 +35,7 @@ fn by_channel(w: u32x4) -> u8x16
 /// The planes of packed pixels.
 #[inline(always)]
 pub(super) fn make_planes(w: Words) -> Planes
-    ensures { (ps qs rs ts : List RgbaPixel) → AreFourWords ps w.one → AreFourWords qs w.two
-        → AreFourWords rs w.three → AreFourWords ts w.four
-        → ArePlanes (ps ++ (qs ++ (rs ++ ts))) result }
+    ensures { (ps : List RgbaPixel) → AreSixteen ps → AreBlockWords ps w → ArePlanes ps result }
 {
     let (p, q) = (by_channel(w.one), by_channel(w.two));
     let (s, t) = (by_channel(w.three), by_channel(w.four));
@@ -72,14 +69,10 @@ pub(super) fn make_planes(w: Words) -> Planes
     }
 }
 
-/// The packed words of four planes, of which the first is the lowest byte: the inverse of
-/// `make_planes`.
+/// The packed pixels of planes, the inverse of `make_planes`.
 #[inline(always)]
 pub(super) fn make_words(p: Planes) -> Words
-    ensures { (ps qs rs ts : List RgbaPixel) → AreFourPixels ps → AreFourPixels qs
-        → AreFourPixels rs → AreFourPixels ts → ArePlanes (ps ++ (qs ++ (rs ++ ts))) p
-        → AreFourWords ps result.one × AreFourWords qs result.two
-        × AreFourWords rs result.three × AreFourWords ts result.four }
+    ensures { (ps : List RgbaPixel) → AreSixteen ps → ArePlanes ps p → AreBlockWords ps result }
 {
     let (x0, x1) = p.r.interleave(p.g);
     let (y0, y1) = p.b.interleave(p.a);

@@ -22,10 +22,11 @@ pub(super) struct Fits {
     pub(super) keep: u8x16,
 }
 
-/// A chunk's first byte, the second one, if it has one, and its size, for each of sixteen pixels;
-/// and how many repeats end with the pixel.
+/// Of each of sixteen pixels: whether it repeats, 255 or 0; its chunk's first byte, the second one, if
+/// it has one, and its size; and how many repeats end with it.
 #[derive(Clone, Copy)]
 pub(super) struct Spelled {
+    pub(super) rep: u8x16,
     pub(super) first: u8x16,
     pub(super) second: u8x16,
     pub(super) size: u8x16,
@@ -186,6 +187,7 @@ pub(super) fn spell_block(
     let first = first_bytes(near, far, fits, places, stands);
     let count = count_repeats(rep, carry);
     Spelled {
+        rep,
         first: with_runs(first, rep, count),
         second: second_bytes(far, p.r, fits.luma),
         size: with_none(sizes_of(fits, stands), rep),

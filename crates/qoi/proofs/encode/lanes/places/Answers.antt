@@ -1,12 +1,31 @@
+use Rattle.std.proofs.Common.{◌≡◌, ℕ, false, List, [], map, arith, ◌∙◌}
+use Rattle.qoi.specs.Qoi.{RgbaPixel, IsPixel, pixel, hash}
+use Rattle.qoi.specs.inner.BlockLanes.{Lane}
+use Rattle.qoi.specs.inner.BlockState.{State, lanes_of}
+use Rattle.qoi.proofs.encoding.LaneTests.{place_lane, themselves}
 use Rattle.qoi.proofs.encoding.Lanewise.{two, flat, each, sum_8}
-use Rattle.qoi.proofs.encoding.LaneTests.{place_lane}
+use Rattle.qoi.proofs.encoding.SpelledBlock.{plane_by}
 use Rattle.qoi.proofs.encode.lanes.places.Goals as goal
 
+-- any pixel may stand before them
+abbrev before : State
+before = record { held = []; last = pixel 0 0 0 0; carry = 0; placed = false }
+
+before_is : IsPixel (pixel 0 0 0 0)
+before_is = record { r = omega arith; g = omega arith; b = omega arith; a = omega arith }
+
 pub returns : goal.returns
-returns c = λ ls r g b a.
+returns c = λ ps sixteen are.
+    let ls : List Lane = lanes_of [] (pixel 0 0 0 0) ps in
+    let plane = λ (f : RgbaPixel → ℕ) (xs : List ℕ) (e : xs ≡ map f ps). plane_by before ps sixteen.long sixteen.are before_is f xs e in
+    let r = plane (λ (p : RgbaPixel). p.r) c.args.p.r are.r_is in
+    let g = plane (λ (p : RgbaPixel). p.g) c.args.p.g are.g_is in
+    let b = plane (λ (p : RgbaPixel). p.b) c.args.p.b are.b_is in
+    let a = plane (λ (p : RgbaPixel). p.a) c.args.p.a are.a_is in
     let s = two sum_8 (two sum_8 r g) b in
     let t = two sum_8 (two sum_8 (two sum_8 s g) b) b in
     let h = two sum_8 (two sum_8 s t) t in
     let a2 = two sum_8 a a in
     let a4 = two sum_8 a2 a2 in
-    each _ (two _ (two sum_8 (two sum_8 (two sum_8 (two sum_8 h a4) a4) a2) a) (flat 63 r)) place_lane
+    let all = each (λ l. hash l.px) (two _ (two sum_8 (two sum_8 (two sum_8 (two sum_8 h a4) a4) a2) a) (flat 63 r)) place_lane in
+    all.is ∙ themselves hash [] (pixel 0 0 0 0) ps
