@@ -287,7 +287,7 @@ impl<'a> Encoder<'a> {
     {
         let mut file = Vec::with_capacity(alloc, self.required_buf_len())?;
         let mut writer = VecMut::new(&mut file);
-        encode_image(&mut writer, self.style, &self.header, self.data)?;
+        encode_image::<_, BUFFER_ROOM>(&mut writer, self.style, &self.header, self.data)?;
         file.shrink_to_fit();
         Ok(file)
     }

@@ -149,7 +149,8 @@ impl Progress {
         }
     }
 
-    // Decodes a run that a block doesn't hold: by the blocks of any run, if those have room.
+    // Decodes a run that a block doesn't hold, and that doesn't fill the output: by the blocks of
+    // any run, if those have room.
     #[inline(always)]
     fn long_run<const N: usize, const F: usize>(
         self,
@@ -159,15 +160,14 @@ impl Progress {
     ) -> Progress
         requires channels { IsChannels N }
         requires input { self.taken + 2 ≤ length bytes.now }
-        requires inside { self.written < length out.old }
-        requires room { self.written + N * (self.next - (run_tag - 1)) ≤ length out.old }
+        requires room { self.written + N * (self.next - (run_tag - 1)) < length out.old }
         requires run { (run_tag ≤ self.next) × (self.next < rgb_tag) }
         ensures between { (n : ℕ) (before : List ℕ)
             → FastBetween F N n before bytes.now self table.old out.old
             → FastBetween F N n before bytes.now result table.new out.new }
         ensures taken { result.taken ≡ self.taken + 1 }
         ensures written { self.written ≤ result.written }
-        ensures most { result.written < self.written + RUN_ROOM }
+        ensures below { result.written < length out.old }
         ensures byte { result.next < 256 }
     {
         let count = (self.next - (QOI_OP_RUN as u32 - 1)) as usize;
@@ -225,7 +225,7 @@ impl Progress {
             }
             if now.next >= QOI_OP_RGB as u32 {
                 now = now.full_chunk::<N, F>(table, bytes, out);
-            } else if advance::<N>(now.next as usize) <= out.len() - now.written {
+            } else if advance::<N>(now.next as usize) < out.len() - now.written {
                 now = now.long_run::<N, F>(table, bytes, out);
             } else {
                 break;

@@ -37,5 +37,5 @@ loop-now-preserved g c =
       byte = run.byte;
       within = omega (arith, run.taken, short.taken, c.loop-now-test.true, c.if-bytes-lt-INPUT_ROOM.false);
       written = omega (arith, before.written, short.written, run.written);
-      below = λ inside. omega (arith, short.written, run.most, c.loop-now-test.true, c.if-bytes-lt-INPUT_ROOM.false, c.short_chunks-now.auto.out, c.long_run-now.auto.out);
+      below = λ inside. omega (arith, run.below, c.long_run-now.auto.out);
     }
