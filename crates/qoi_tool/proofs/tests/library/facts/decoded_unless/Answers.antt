@@ -6,6 +6,6 @@ use Rattle.qoi_tool.proofs.tests.library.facts.decoded_unless.Goals as goal
 
 pub unreachable-requires : goal.unreachable-requires
 unreachable-requires c =
-    let (h, found, is, made) = c.in_ok-file.ensures.encoded in
-    let file = subst (λ (z : List ℕ). IsFileOf Reference h c.args.raw.now z) (sym c.deref.ensures.value) made.file in
-    ⊎_elim (λ r. r.not_whole Reference h c.args.raw.now file) (λ none. c.in_default.not-OutOfMemory none.0) c.in-Err.ensures.refused
+    let own = c.in_ok-file.ensures.encoded in
+    let file = subst (λ (z : List ℕ). IsFileOf Reference own.header c.args.raw.now z) (sym c.deref.ensures.value) own.makes.file in
+    ⊎_elim (λ r. r.not_whole Reference own.header c.args.raw.now file) (λ none. c.in_default.not-OutOfMemory none.0) c.in-Err.ensures.refused
