@@ -69,8 +69,7 @@ pub fn decode_to_buf(buf: &mut [u8], data: &[u8]) -> Result<Header>
 ///
 /// The refusals are those of `Decoder::new` and then of its `decode_to_vec`: those of the header,
 /// `OutOfMemory`, and those of the chunks and the end marker. The vector has the header's
-/// `n_bytes`, which are at most 248 for each byte of the slice; no more memory than that is
-/// written.
+/// `n_bytes`, which are at most 248 for each byte of the slice.
 pub fn decode_to_vec(alloc: Global, data: &[u8]) -> Result<(Header, Vec<u8>)>
     // A success: header and image of the file at the front of the bytes.
     ensures decoded { IfOk result (λ x. HasDecodedFile «data».now x.0 x.1.items) }

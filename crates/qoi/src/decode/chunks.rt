@@ -29,7 +29,7 @@ pub(super) trait Chunks<const N: usize, const F: usize>: Sized {
     /// Decodes chunks, after the pixel `last` and the first `at` bytes of `out`, as long as `out`
     /// has room for the blocks of any run. Returns the last pixel, and where in `out` it stopped.
     ///
-    /// What refuses the chunks refuses them for any image that has more pixels than fit.
+    /// What refuses them refuses them for any image of more pixels than fit, too.
     fn some_chunks(
         &mut self,
         table: &mut HashedTable,
