@@ -10,11 +10,14 @@ ghost use Rattle.qoi.specs.Raw.{capped_byte_count, image_byte_count};
 
 mod buffered;
 mod chunks;
+mod deltas;
 mod fast;
+mod hashed;
 mod pixels;
 mod reader;
 mod slice;
 mod stream;
+mod table;
 
 pub use crate::decode::reader::{Buffered, Bytes, Reader};
 use crate::error::{Error, Result};

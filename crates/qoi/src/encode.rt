@@ -23,9 +23,11 @@ mod lanes;
 pub(crate) mod piece;
 mod planes;
 pub(crate) mod quad;
+pub(crate) mod runs;
 mod spelling;
 mod stands;
 mod stores;
+mod table;
 
 use crate::consts::QOI_PADDING;
 use crate::encode::chunks::encode_chunks;

@@ -23,7 +23,6 @@ pub mod consts;
 mod decode;
 mod encode;
 mod error;
-mod hashed;
 mod header;
 #[doc(hidden)]
 pub mod laws;
@@ -31,9 +30,6 @@ mod packed;
 #[doc(hidden)]
 pub mod parts;
 mod pixel;
-mod runs;
-mod steps;
-mod table;
 mod types;
 mod utils;
 

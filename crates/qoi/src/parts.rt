@@ -2,6 +2,6 @@
 //! themselves need: `read_chunk` (no decoder takes its chunks by it), `Pixel`, `repeats`.
 pub use crate::chunk::{Chunk, read_chunk};
 pub use crate::decode::{Buffered, Bytes, Reader};
+pub use crate::encode::runs::repeats;
 pub use crate::pixel::{Pixel, SupportedChannels};
-pub use crate::runs::repeats;
 pub use crate::utils::{BytesMut, GenericWriter, Writer};

@@ -9,12 +9,12 @@ ghost use Rattle.qoi.specs.inner.Filling.{filling, DecoderBetween};
 
 use crate::decode::chunks::Chunks;
 use crate::decode::fast::{OUTPUT_ROOM, Progress};
+use crate::decode::hashed::Hashed;
 use crate::decode::pixels::RUN_ROOM;
 use crate::decode::reader::Buffered;
 use crate::decode::stream::{next_chunk, stream_marker};
+use crate::decode::table::TermTable;
 use crate::error::Result;
-use crate::hashed::Hashed;
-use crate::table::HashedTable;
 use std::io;
 use std::io::BufRead;
 
@@ -25,7 +25,7 @@ use std::io::BufRead;
 #[inline(always)]
 fn chunks_in_buffer<R: BufRead, const N: usize, const F: usize>(
     reader: &mut R,
-    table: &mut HashedTable,
+    table: &mut TermTable,
     last: Hashed,
     out: &mut [u8],
     at: usize,
@@ -59,7 +59,7 @@ fn chunks_in_buffer<R: BufRead, const N: usize, const F: usize>(
 #[inline(always)]
 fn decode_chunks<R: BufRead, const N: usize, const F: usize, const ROOM: bool>(
     reader: &mut R,
-    table: &mut HashedTable,
+    table: &mut TermTable,
     last: Hashed,
     out: &mut [u8],
     at: usize,
@@ -102,7 +102,7 @@ impl<R: BufRead, const N: usize, const F: usize> Chunks<N, F> for Buffered<R> {
     #[inline(always)]
     fn some_chunks(
         &mut self,
-        table: &mut HashedTable,
+        table: &mut TermTable,
         last: Hashed,
         out: &mut [u8],
         at: usize,
@@ -114,7 +114,7 @@ impl<R: BufRead, const N: usize, const F: usize> Chunks<N, F> for Buffered<R> {
     #[inline(always)]
     fn all_chunks(
         &mut self,
-        table: &mut HashedTable,
+        table: &mut TermTable,
         last: Hashed,
         out: &mut [u8],
         at: usize,

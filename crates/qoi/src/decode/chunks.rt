@@ -11,9 +11,9 @@ ghost use Rattle.qoi.specs.inner.Filling.{filling, DecoderBetween};
 ghost use Rattle.qoi.specs.declared.decode.chunks.TheConstants.{STEP};
 ghost use Rattle.qoi.specs.declared.decode.pixels.TheConstants.{RUN_ROOM};
 
+use crate::decode::hashed::Hashed;
+use crate::decode::table::TermTable;
 use crate::error::Result;
-use crate::hashed::Hashed;
-use crate::table::HashedTable;
 
 /// By how many pixels a vector grows, before they are decoded: few enough to stay in the cache.
 const STEP: usize = 16384;
@@ -32,7 +32,7 @@ pub(super) trait Chunks<const N: usize, const F: usize>: Sized {
     /// What refuses them refuses them for any image of more pixels than fit, too.
     fn some_chunks(
         &mut self,
-        table: &mut HashedTable,
+        table: &mut TermTable,
         last: Hashed,
         out: &mut [u8],
         at: usize,
@@ -57,7 +57,7 @@ pub(super) trait Chunks<const N: usize, const F: usize>: Sized {
     /// The same until `out` is full; takes no byte past the last chunk.
     fn all_chunks(
         &mut self,
-        table: &mut HashedTable,
+        table: &mut TermTable,
         last: Hashed,
         out: &mut [u8],
         at: usize,
@@ -108,7 +108,7 @@ fn chunks_to_buf<R: Chunks<N, F>, const N: usize, const F: usize>(
     ensures refused { IfErr result (RefusesChunks R.in_memory (length out.old / N)
         (R.ahead reader.old) (R.ahead reader.new)) }
 {
-    let mut table = HashedTable::new();
+    let mut table = TermTable::new();
     reader.all_chunks(&mut table, Hashed::start(), out, 0)
 }
 
@@ -133,7 +133,7 @@ fn chunks_to_vec<R: Chunks<N, F>, const N: usize, const F: usize>(
     ensures grown { IfSome (R.ahead reader.old) (λ bytes.
         vec_len out.new ≤ 4 * run_max * length bytes + (STEP * N + RUN_ROOM)) }
 {
-    let mut table = HashedTable::new();
+    let mut table = TermTable::new();
     let mut last = Hashed::start();
     let mut at = 0;
     while STEP * N < size - out.len() {

@@ -6,11 +6,11 @@ ghost use Rattle.qoi.specs.Raw.{IsChannels};
 ghost use Rattle.qoi.specs.declared.decode.pixels.TheConstants.{RUN_ROOM};
 
 use crate::consts::{QOI_OP_RGB, QOI_OP_RGBA, QOI_OP_RUN};
+use crate::decode::deltas::advance;
+use crate::decode::hashed::Hashed;
 use crate::decode::pixels::{RUN_ROOM, is_luma, write_block, write_late_run, write_run};
-use crate::hashed::Hashed;
+use crate::decode::table::TermTable;
 use crate::packed::pick;
-use crate::steps::advance;
-use crate::table::HashedTable;
 
 // Bytes of four short chunks, of which each has two at most, of an RGBA chunk and of the byte after
 // it.
@@ -48,7 +48,7 @@ impl Progress {
     #[inline(always)]
     fn short_chunk<const N: usize, const F: usize>(
         self,
-        table: &mut HashedTable,
+        table: &mut TermTable,
         bytes: &[u8],
         out: &mut [u8],
     ) -> Progress
@@ -82,7 +82,7 @@ impl Progress {
     #[inline(always)]
     fn short_chunks<const N: usize, const F: usize>(
         self,
-        table: &mut HashedTable,
+        table: &mut TermTable,
         bytes: &[u8],
         out: &mut [u8],
     ) -> Progress
@@ -121,7 +121,7 @@ impl Progress {
     #[inline(always)]
     fn full_chunk<const N: usize, const F: usize>(
         self,
-        table: &mut HashedTable,
+        table: &mut TermTable,
         bytes: &[u8],
         out: &mut [u8],
     ) -> Progress
@@ -154,7 +154,7 @@ impl Progress {
     #[inline(always)]
     fn long_run<const N: usize, const F: usize>(
         self,
-        table: &mut HashedTable,
+        table: &mut TermTable,
         bytes: &[u8],
         out: &mut [u8],
     ) -> Progress
@@ -190,7 +190,7 @@ impl Progress {
     /// rest chunk by chunk, with every test.
     #[inline(always)]
     pub(super) fn fast_chunks<const N: usize, const F: usize>(
-        table: &mut HashedTable,
+        table: &mut TermTable,
         last: Hashed,
         bytes: &[u8],
         out: &mut [u8],

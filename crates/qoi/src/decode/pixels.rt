@@ -8,9 +8,9 @@ ghost use Rattle.qoi.specs.inner.Hashed.{pixel_of_lanes};
 
 use crate::chunk::QOI_OP_RUN_END;
 use crate::consts::{QOI_OP_LUMA, QOI_OP_RGB, QOI_OP_RGBA, QOI_OP_RUN};
-use crate::hashed::Hashed;
-use crate::steps::advance;
-use crate::table::HashedTable;
+use crate::decode::deltas::advance;
+use crate::decode::hashed::Hashed;
+use crate::decode::table::TermTable;
 
 /// How many bytes a block has: as many as a vector holds.
 pub(super) const BLOCK: usize = 16;
@@ -209,7 +209,7 @@ pub(super) struct Decoded {
 /// else how much it has is tested. The second byte is read even if the chunk has only one.
 #[inline(always)]
 pub(super) fn decode_chunk<const N: usize, const F: usize, const ROOM: bool>(
-    table: &mut HashedTable,
+    table: &mut TermTable,
     last: Hashed,
     bytes: &[u8],
     out: &mut [u8],

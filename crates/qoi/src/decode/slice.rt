@@ -12,11 +12,11 @@ ghost use Rattle.qoi.specs.inner.Filling.{filling, DecoderBetween};
 use crate::consts::{QOI_PADDING, QOI_PADDING_SIZE};
 use crate::decode::chunks::{Chunks, image_to_buf, image_to_vec};
 use crate::decode::fast::Progress;
+use crate::decode::hashed::Hashed;
 use crate::decode::pixels::{RUN_ROOM, decode_chunk};
 use crate::decode::reader::Bytes;
+use crate::decode::table::TermTable;
 use crate::error::{Error, Result};
-use crate::hashed::Hashed;
-use crate::table::HashedTable;
 
 // What is left between two chunks: the last pixel, the bytes ahead, and how much of the output is
 // written.
@@ -33,7 +33,7 @@ struct Left<'a> {
 // alone has eight.
 #[inline(never)]
 fn last_chunks<'a, const N: usize, const F: usize, const ROOM: bool>(
-    table: &mut HashedTable,
+    table: &mut TermTable,
     last: Hashed,
     data: &'a [u8],
     out: &mut [u8],
@@ -74,7 +74,7 @@ fn last_chunks<'a, const N: usize, const F: usize, const ROOM: bool>(
 // The same, by the fast loop while there is room ahead for it.
 #[inline(always)]
 fn slice_chunks<'a, const N: usize, const F: usize, const ROOM: bool>(
-    table: &mut HashedTable,
+    table: &mut TermTable,
     last: Hashed,
     data: &'a [u8],
     out: &mut [u8],
@@ -123,7 +123,7 @@ impl<'a, const N: usize, const F: usize> Chunks<N, F> for Bytes<'a> {
     #[inline(always)]
     fn some_chunks(
         &mut self,
-        table: &mut HashedTable,
+        table: &mut TermTable,
         last: Hashed,
         out: &mut [u8],
         at: usize,
@@ -138,7 +138,7 @@ impl<'a, const N: usize, const F: usize> Chunks<N, F> for Bytes<'a> {
     #[inline(always)]
     fn all_chunks(
         &mut self,
-        table: &mut HashedTable,
+        table: &mut TermTable,
         last: Hashed,
         out: &mut [u8],
         at: usize,

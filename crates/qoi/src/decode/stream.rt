@@ -10,10 +10,10 @@ ghost use Rattle.qoi.specs.inner.Filling.{IsWholePixels, DecodesChunk, DecoderBe
 
 use crate::consts::{QOI_OP_RGB, QOI_PADDING, QOI_PADDING_SIZE};
 use crate::decode::chunks::Chunks;
+use crate::decode::hashed::Hashed;
 use crate::decode::pixels::{Decoded, RUN_ROOM, decode_chunk, is_luma};
+use crate::decode::table::TermTable;
 use crate::error::{Error, Result};
-use crate::hashed::Hashed;
-use crate::table::HashedTable;
 use std::io;
 use std::io::{ErrorKind, Read};
 
@@ -90,7 +90,7 @@ fn read_one<R: Read>(reader: &mut R) -> io::Result<u8>
 #[inline(always)]
 pub(super) fn next_chunk<R: Read, const N: usize, const F: usize, const ROOM: bool>(
     reader: &mut R,
-    table: &mut HashedTable,
+    table: &mut TermTable,
     last: Hashed,
     out: &mut [u8],
     at: usize,
@@ -135,7 +135,7 @@ pub(super) fn next_chunk<R: Read, const N: usize, const F: usize, const ROOM: bo
 // past the last chunk. Returns the last pixel, and where in `out` it stopped.
 fn decode_chunks<R: Read, const N: usize, const F: usize, const ROOM: bool>(
     reader: &mut R,
-    table: &mut HashedTable,
+    table: &mut TermTable,
     last: Hashed,
     out: &mut [u8],
     at: usize,
@@ -191,7 +191,7 @@ impl<R: Read, const N: usize, const F: usize> Chunks<N, F> for R {
 
     fn some_chunks(
         &mut self,
-        table: &mut HashedTable,
+        table: &mut TermTable,
         last: Hashed,
         out: &mut [u8],
         at: usize,
@@ -203,7 +203,7 @@ impl<R: Read, const N: usize, const F: usize> Chunks<N, F> for R {
     // First as long as any run has room, and then to the end, with every test.
     fn all_chunks(
         &mut self,
-        table: &mut HashedTable,
+        table: &mut TermTable,
         last: Hashed,
         out: &mut [u8],
         at: usize,

@@ -8,8 +8,8 @@ ghost use Rattle.qoi.specs.inner.Piece.{WroteChunks, BeganChunks};
 
 use crate::encode::coder::Coder;
 use crate::encode::piece::Piece;
+use crate::encode::table::PixelTable;
 use crate::error::Result;
-use crate::table::Table;
 use crate::types::Channels::{self, Rgb, Rgba};
 use crate::types::Style::{self, Places, Reference, Tight};
 use crate::utils::Writer;
@@ -32,7 +32,7 @@ fn encode_pixels<W: Writer, const N: usize, const STYLE: u8, const ROOM: usize>(
     ensures refused { IfErr result (λ e. W.IsFault e
         × BeganChunks W.wrote style (pixels_of N «data».now) buf.old piece.old buf.new) }
 {
-    let mut table = Table::new();
+    let mut table = PixelTable::new();
     let mut coder = Coder::<N>::new(style);
     let mut rest = data;
     loop {

@@ -18,9 +18,9 @@ ghost use Rattle.qoi.specs.inner.Table.{Holds};
 use crate::consts::QOI_OP_RUN;
 use crate::encode::piece::{Piece, REPEATS_AT_ONCE};
 use crate::encode::quad::{ALL_REPEAT, Quad, READ, pixels_before, read_four, repeating};
+use crate::encode::runs::{repeats_in_quad, repeats_of};
+use crate::encode::table::PixelTable;
 use crate::packed::{Packed, pick};
-use crate::runs::{repeats_in_quad, repeats_of};
-use crate::table::Table;
 use crate::types::Style::{self, Places, Reference, Tight};
 use crate::utils::skip;
 use std::simd::u32x4;
@@ -78,7 +78,7 @@ impl<const N: usize> Coder<N> {
     // Updates the table and `placed` for `count` repeats, none or more. Only style `Tight` puts the
     // pixel at its position; that changes the table only before the first fresh pixel.
     #[inline(always)]
-    fn update_after_repeats(&mut self, table: &mut Table, count: usize)
+    fn update_after_repeats(&mut self, table: &mut PixelTable, count: usize)
         ensures same { (self.new.last ≡ self.old.last) × (self.new.style ≡ self.old.style) }
         ensures state { (past : Past) (before : Option Chunk)
             → CoderAfter past before table.old self.old
@@ -96,7 +96,7 @@ impl<const N: usize> Coder<N> {
     // that is passed; but in style `Tight`, for transparent black, the least position that holds
     // it (no pixel was put there), if there is one.
     #[inline(always)]
-    fn chunk_if_absent(&self, table: &Table, px: Packed, number: u32, size: u32) -> (u32, u32)
+    fn chunk_if_absent(&self, table: &PixelTable, px: Packed, number: u32, size: u32) -> (u32, u32)
         ensures few { size ≤ N + 1 → result.1 ≤ N + 1 }
         ensures choice { (past : Past) (alpha : ℕ) (c : Chunk)
             → Holds table.now (held_in self.now.style past)
@@ -123,7 +123,7 @@ impl<const N: usize> Coder<N> {
     #[inline(always)]
     fn write_fresh<const ROOM: usize>(
         &mut self,
-        table: &mut Table,
+        table: &mut PixelTable,
         piece: &mut Piece<ROOM>,
         quad: &Quad<N>,
         lane: usize,
@@ -158,7 +158,7 @@ impl<const N: usize> Coder<N> {
     #[inline(always)]
     fn write_four_fresh<const ROOM: usize>(
         &mut self,
-        table: &mut Table,
+        table: &mut PixelTable,
         piece: &mut Piece<ROOM>,
         quad: &Quad<N>,
     )
@@ -180,7 +180,7 @@ impl<const N: usize> Coder<N> {
     #[inline(always)]
     fn write_repeats_and_fresh<const ROOM: usize>(
         &mut self,
-        table: &mut Table,
+        table: &mut PixelTable,
         piece: &mut Piece<ROOM>,
         quad: &Quad<N>,
         bits: u64,
@@ -216,7 +216,7 @@ impl<const N: usize> Coder<N> {
     #[inline(always)]
     fn write_quad<const ROOM: usize>(
         &mut self,
-        table: &mut Table,
+        table: &mut PixelTable,
         piece: &mut Piece<ROOM>,
         cur: u32x4,
         prev: u32x4,
@@ -249,7 +249,7 @@ impl<const N: usize> Coder<N> {
     #[inline(always)]
     fn write_runs<const ROOM: usize>(
         &mut self,
-        table: &mut Table,
+        table: &mut PixelTable,
         piece: &mut Piece<ROOM>,
         data: &[u8],
     ) -> usize
@@ -284,7 +284,7 @@ impl<const N: usize> Coder<N> {
     #[inline(always)]
     fn write_front<const ROOM: usize>(
         &mut self,
-        table: &mut Table,
+        table: &mut PixelTable,
         piece: &mut Piece<ROOM>,
         data: &[u8],
     ) -> usize
@@ -310,7 +310,7 @@ impl<const N: usize> Coder<N> {
     #[inline(always)]
     pub(super) fn fill<'a, const ROOM: usize>(
         &mut self,
-        table: &mut Table,
+        table: &mut PixelTable,
         piece: &mut Piece<ROOM>,
         data: &'a [u8],
     ) -> &'a [u8]
@@ -336,7 +336,7 @@ impl<const N: usize> Coder<N> {
     #[inline(always)]
     fn write_next<const ROOM: usize>(
         &mut self,
-        table: &mut Table,
+        table: &mut PixelTable,
         piece: &mut Piece<ROOM>,
         data: &[u8],
     ) -> usize
@@ -364,7 +364,7 @@ impl<const N: usize> Coder<N> {
     #[inline(always)]
     pub(super) fn write_rest<const ROOM: usize>(
         &mut self,
-        table: &mut Table,
+        table: &mut PixelTable,
         piece: &mut Piece<ROOM>,
         data: &[u8],
     )

@@ -8,7 +8,7 @@ ghost use Rattle.qoi.specs.inner.Stands.{all_same, four_times, HasPutBlock};
 ghost use Rattle.qoi.specs.inner.Table.{Holds};
 
 use crate::encode::planes::Words;
-use crate::table::Table;
+use crate::encode::table::PixelTable;
 use std::simd::prelude::*;
 
 // Which of four packed pixels are those that were found: four bytes of 255 or 0 for each.
@@ -38,7 +38,7 @@ fn one_of_four(a: u8x16, b: u8x16, c: u8x16, d: u8x16) -> u8x16
 /// Puts sixteen packed pixels at their index positions, one after the other. Returns which of them
 /// stood there already: 255 or 0.
 #[inline(always)]
-pub(super) fn put_block(table: &mut Table, places: u8x16, w: Words) -> u8x16
+pub(super) fn put_block(table: &mut PixelTable, places: u8x16, w: Words) -> u8x16
     requires { (k : ℕ) → k < 16 → slice_index places k < 64 }
     ensures { (held : Past) (ps : List RgbaPixel) → Holds table.old held → AreSixteen ps
         → AreBlockWords ps w → places ≡ map hash ps → HasPutBlock held ps result table.new }

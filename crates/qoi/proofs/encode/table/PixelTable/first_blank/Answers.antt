@@ -1,0 +1,22 @@
+-- Position after position is looked at.
+use Rattle.std.proofs.Common.{sym, ◌∙◌, ◌≡◌, ◌≢◌}
+use Rattle.qoi.specs.Qoi.{blank, seen}
+use Rattle.qoi.proofs.format.TableHolds.{blank_from_start, blank_here, blank_after, blank_nowhere}
+use Rattle.qoi.proofs.encode.table.PixelTable.first_blank.Goals as goal
+
+pub loop-place-init : goal.loop-place-init
+loop-place-init c = λ past holds. blank_from_start past
+
+pub returns-then-is_same-clause-first : goal.returns-then-is_same-clause-first
+returns-then-is_same-clause-first c = λ past holds.
+    let here : seen past c.loop-place.place ≡ blank = sym (c.at.ensures past holds) ∙ c.is_same.ensures.0 c.if-is_same.true ∙ c.blank.ensures in
+    sym (c.loop-place.invariant past holds ∙ blank_here past c.loop-place.place c.loop-place-test.true here)
+
+pub loop-place-preserved : goal.loop-place-preserved
+loop-place-preserved c = λ past holds.
+    let other : seen past c.loop-place.place ≢ blank = λ e. let no = sym (c.is_same.ensures.1 (c.at.ensures past holds ∙ e ∙ sym c.blank.ensures))
+    ∙ c.if-is_same.false in cc in
+    c.loop-place.invariant past holds ∙ blank_after past c.loop-place.place c.loop-place-test.true other
+
+pub returns-clause-first : goal.returns-clause-first
+returns-clause-first c = λ past holds. sym (c.loop-place.invariant past holds ∙ blank_nowhere past c.loop-place.place c.loop-place-test.false)

@@ -1,0 +1,164 @@
+//! Pixels as single numbers that hold their index positions too.
+ghost use Rattle.std.specs.Prelude.{◌≡◌, ℕ, ◌+◌, ◌*◌, ◌/◌, ◌%◌, ◌^◌, ◌<◌, ◌≤◌, length, take, slice_index, replicate};
+ghost use Rattle.qoi.specs.Qoi.{pixel, start, blank, hash, positions, diff_tag, luma_tag, run_tag, rgb_tag, rgba_tag, after_diff, after_luma};
+ghost use Rattle.qoi.specs.Raw.{IsChannels, output};
+ghost use Rattle.qoi.specs.inner.Hashed.{pixel_of_lanes, IsPlain};
+
+use crate::consts::QOI_OP_RGB;
+use crate::decode::deltas::{added, kept, nibbles, second};
+use std::marker::Model;
+use std::simd::{Simd, u8x4, u8x16, u16x4, u64x2};
+
+// 3 * 2^58 + 5 * 2^42 + 7 * 2^26 + 11 * 2^10: the six highest bits of its product with a pixel in
+// lanes of 16 bits are the six lowest ones of 3 r + 5 g + 7 b + 11 a.
+const HASH_FACTOR: u64 = 0x0c00_1400_1c00_2c00;
+
+/// A pixel and its index position in 64 bits: red, green, blue and alpha from bits 0, 16, 32 and 48
+/// on, and the position in the six highest bits. Above red, green and blue stand eight bits each
+/// that count for nothing, so that sums of channels need not be cut.
+///
+/// A contract sees the number, whose pixel is `pixel_of_lanes`.
+#[derive(Clone, Copy)]
+pub(super) struct Hashed(u64);
+
+impl Model for Hashed {
+    ghost use Rattle.std.specs.Prelude.{ℕ};
+    ghost use Rattle.qoi.specs.inner.Hashed.{IsHashed};
+
+    ghost Value = { ℕ };
+
+    ghost view = { λ p. p.0 };
+
+    ghost invariant = { λ p. IsHashed p.0 };
+
+    ghost inverse = { λ s. record { 0 = s } };
+
+    ghost inverse_ok = { λ p h i. record { 0 = p.0 } };
+}
+
+impl Hashed {
+    /// Transparent black.
+    pub(super) fn blank() -> Hashed
+        ensures { result ≡ 0 }
+    {
+        Hashed(0)
+    }
+
+    /// Opaque black, the pixel before the first one.
+    pub(super) fn start() -> Hashed
+        ensures { pixel_of_lanes result ≡ start }
+    {
+        Hashed(0xd4ff_0000_0000_0000)
+    }
+
+    /// The index position of the pixel, 0 to 63 (QOI specification 1.0, "Chunks").
+    #[inline(always)]
+    pub(super) fn position(self) -> usize
+        ensures position { result ≡ hash (pixel_of_lanes self) }
+        ensures within { result < positions }
+    {
+        (self.0 >> 58) as usize
+    }
+
+    // The pixel of four lanes, above whose channels nothing stands.
+    #[inline(always)]
+    fn of_lanes(lanes: u64) -> Hashed
+        requires { IsPlain lanes }
+        ensures { pixel_of_lanes result ≡ pixel_of_lanes lanes }
+    {
+        Hashed(lanes + (lanes.wrapping_mul(HASH_FACTOR) >> 58 << 58))
+    }
+
+    /// A pixel of four channels.
+    #[inline(always)]
+    pub(super) fn new(r: u8, g: u8, b: u8, a: u8) -> Hashed
+        ensures { pixel_of_lanes result ≡ pixel r g b a }
+    {
+        let (r, g, b, a) = (u64::from(r), u64::from(g), u64::from(b), u64::from(a));
+        Hashed::of_lanes(r + (g << 16) + (b << 32) + (a << 48))
+    }
+
+    /// The pixel after an index position, a difference, a luma or a run: `b1` is its first byte,
+    /// `b2` the byte after that, which counts only for a luma, and `held` what the index position
+    /// holds, or 0 for another chunk (QOI specification 1.0, "Chunks"). One sum, without a jump.
+    #[inline(always)]
+    pub(super) fn after_short(self, held: Hashed, b1: usize, b2: u8) -> Hashed
+        requires byte { b1 < 256 }
+        requires none { diff_tag ≤ b1 → held ≡ 0 }
+        ensures place { b1 < diff_tag → result ≡ held }
+        ensures diff { diff_tag ≤ b1 → b1 < luma_tag
+            → pixel_of_lanes result ≡ after_diff (pixel_of_lanes self) b1 }
+        ensures luma { luma_tag ≤ b1 → b1 < run_tag
+            → pixel_of_lanes result ≡ after_luma (pixel_of_lanes self) b1 b2 }
+        ensures run { run_tag ≤ b1 → pixel_of_lanes result ≡ pixel_of_lanes self }
+    {
+        let more = nibbles(masked(b2, second(b1)));
+        Hashed(
+            (self.0 & kept(b1))
+                .wrapping_add(held.0)
+                .wrapping_add(added(b1))
+                .wrapping_add(more),
+        )
+    }
+
+    /// The pixel of the RGB or RGBA chunk that the bytes begin with; after an RGB chunk alpha stays
+    /// (QOI specification 1.0, "QOI_OP_RGB" and "QOI_OP_RGBA").
+    #[inline(always)]
+    pub(super) fn after_full(self, bytes: &[u8]) -> Hashed
+        requires { 5 ≤ length bytes.now }
+        ensures rgb { slice_index bytes.now 0 ≡ rgb_tag
+            → pixel_of_lanes result ≡ pixel (slice_index bytes.now 1) (slice_index bytes.now 2)
+            (slice_index bytes.now 3) (pixel_of_lanes self).a }
+        ensures rgba { slice_index bytes.now 0 ≡ rgba_tag
+            → pixel_of_lanes result ≡ pixel (slice_index bytes.now 1) (slice_index bytes.now 2)
+            (slice_index bytes.now 3) (slice_index bytes.now 4) }
+    {
+        let four = four_lanes(&bytes[1..5]);
+        if bytes[0] == QOI_OP_RGB {
+            let alpha = self.0 % 0x100_0000_0000_0000 >> 48 << 48;
+            return Hashed::of_lanes(four % 0x1_0000_0000_0000 + alpha);
+        }
+        Hashed::of_lanes(four)
+    }
+
+    /// The first sixteen bytes of the pixel when it is written again and again in `N` channels, of
+    /// a file of `F` channels.
+    #[inline(always)]
+    pub(super) fn block<const N: usize, const F: usize>(self) -> u8x16
+        requires { IsChannels N }
+        ensures { result ≡ take 16 (output F N (replicate 6 (pixel_of_lanes self))) }
+    {
+        let lanes = if N == 3 || F == 4 {
+            self.0
+        } else {
+            self.0 % 0x1_0000_0000_0000 + 0x00ff_0000_0000_0000
+        };
+        let bytes = u64x2::from_array([lanes, 0]).to_le_bytes();
+        if N == 4 {
+            return bytes.swizzle([0, 2, 4, 6, 0, 2, 4, 6, 0, 2, 4, 6, 0, 2, 4, 6]);
+        }
+        bytes.swizzle([0, 2, 4, 0, 2, 4, 0, 2, 4, 0, 2, 4, 0, 2, 4, 0])
+    }
+}
+
+// The bits of a byte that count.
+#[inline(always)]
+fn masked(byte: u8, mask: u64) -> usize
+    ensures all { mask ≡ 255 → result ≡ byte }
+    ensures none { mask ≡ 0 → result ≡ 0 }
+    ensures within { result < 256 }
+{
+    (u64::from(byte) & mask) as usize
+}
+
+// Four bytes, read at once, in lanes of 16 bits.
+#[inline(always)]
+fn four_lanes(bytes: &[u8]) -> u64
+    requires { 4 ≤ length bytes.now }
+    ensures pixel { pixel_of_lanes result ≡ pixel (slice_index bytes.now 0)
+        (slice_index bytes.now 1) (slice_index bytes.now 2) (slice_index bytes.now 3) }
+    ensures plain { IsPlain result }
+{
+    let four: u16x4 = u8x4::from_slice(bytes).cast();
+    Simd::<u64, 1>::from_le_bytes(four.to_le_bytes()).to_array()[0]
+}

@@ -1,0 +1,60 @@
+//! The pixels that the 64 index positions hold, as the decoders keep them (QOI specification 1.0,
+//! "Chunks": the running array of previously seen pixels).
+ghost use Rattle.std.specs.Prelude.{◌≡◌, ◌<◌, ◌≤◌, [], ◌∷◌};
+ghost use Rattle.qoi.specs.Qoi.{Past, positions, seen};
+ghost use Rattle.qoi.specs.inner.Hashed.{pixel_of_lanes, HoldsSeen};
+
+use crate::decode::hashed::Hashed;
+use std::marker::Model;
+
+/// What the decoders' sum takes from the index positions: for each first byte of a chunk a number,
+/// the pixel at the index position that it names, or 0 if it names none.
+///
+/// A contract sees the list of the numbers.
+#[derive(Drop)]
+pub(super) struct TermTable {
+    numbers: [Hashed; 256],
+}
+
+impl Model for TermTable {
+    ghost use Rattle.std.specs.Prelude.{◌≡◌, ◌≤◌, ℕ, List, length, slice_index};
+    ghost use Rattle.qoi.specs.Qoi.{positions};
+
+    ghost Value = { List ℕ };
+
+    ghost view = { λ t. t.numbers };
+
+    ghost invariant = { λ t. (length t.numbers ≡ 256)
+        × ((i : ℕ) → positions ≤ i → slice_index t.numbers i ≡ 0) };
+}
+
+impl TermTable {
+    /// Transparent black at each index position.
+    pub(super) fn new() -> TermTable
+        ensures { HoldsSeen result [] }
+    {
+        TermTable {
+            numbers: [Hashed::blank(); 256],
+        }
+    }
+
+    /// What is held at the index position that a chunk's first byte names, or 0 for another chunk.
+    #[inline(always)]
+    pub(super) fn at(&self, b1: usize) -> Hashed
+        requires { b1 < 256 }
+        ensures place { b1 < positions → (past : Past) → HoldsSeen self.now past
+            → pixel_of_lanes result ≡ seen past b1 }
+        ensures none { positions ≤ b1 → result ≡ 0 }
+    {
+        self.numbers[b1]
+    }
+
+    /// Puts a pixel at its index position.
+    #[inline(always)]
+    pub(super) fn put(&mut self, px: Hashed)
+        ensures { (past : Past) → HoldsSeen self.old past
+            → HoldsSeen self.new (pixel_of_lanes px ∷ past) }
+    {
+        self.numbers[px.position()] = px;
+    }
+}

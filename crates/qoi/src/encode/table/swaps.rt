@@ -1,0 +1,43 @@
+//! Pixels that are put at their index positions, one after the other (QOI specification 1.0,
+//! "Chunks"). Repeats too: they put what stands there.
+ghost use Rattle.std.specs.Prelude.{◌≡◌, ◌<◌, ℕ, List, ◌∷◌, map, slice_index};
+ghost use Rattle.qoi.specs.Qoi.{RgbaPixel, IsPixel, Past, seen, hash};
+ghost use Rattle.qoi.specs.inner.Packed.{word};
+ghost use Rattle.qoi.specs.inner.Planes.{AreFourWords};
+ghost use Rattle.qoi.specs.inner.Stands.{HasPut};
+ghost use Rattle.qoi.specs.inner.Table.{Holds};
+
+use crate::encode::table::PixelTable;
+use crate::packed::Packed;
+
+impl PixelTable {
+    // Puts a packed pixel at its index position, and returns what the table held there.
+    #[inline(always)]
+    fn swap(&mut self, place: u8, px: u32) -> u32
+        requires { place < 64 }
+        ensures was { (past : Past) → Holds self.old past
+            → (result ≡ word (seen past place)) × IsPixel (seen past place) }
+        ensures put { (past : Past) (p : RgbaPixel) → Holds self.old past → IsPixel p
+            → px ≡ word p → place ≡ hash p → Holds self.new (p ∷ past) }
+    {
+        let at = place as usize;
+        let held = self.pixels[at];
+        self.pixels[at] = Packed::of_number(px);
+        held.number()
+    }
+
+    /// Puts four packed pixels at their index positions, one after the other, and returns what the
+    /// table held there each time.
+    #[inline(always)]
+    pub(crate) fn swap_four(&mut self, places: [u8; 4], pixels: [u32; 4]) -> [u32; 4]
+        requires { (k : ℕ) → k < 4 → slice_index places k < 64 }
+        ensures { (held : Past) (ps : List RgbaPixel) → Holds self.old held
+            → AreFourWords ps pixels → places ≡ map hash ps → HasPut held ps result self.new }
+    {
+        let a = self.swap(places[0], pixels[0]);
+        let b = self.swap(places[1], pixels[1]);
+        let c = self.swap(places[2], pixels[2]);
+        let d = self.swap(places[3], pixels[3]);
+        [a, b, c, d]
+    }
+}
