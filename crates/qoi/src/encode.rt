@@ -35,7 +35,7 @@ use crate::encode::piece::{BUFFER_ROOM, Piece, STREAM_ROOM};
 use crate::error::{Error, Result};
 use crate::header::{Header, max_file_size};
 use crate::types::{Channels, ColorSpace, Style};
-use crate::utils::{BytesMut, GenericWriter, VecMut, Writer};
+use crate::writers::{BytesMut, GenericWriter, VecMut, Writer};
 use std::alloc::Global;
 use std::io::Write;
 use std::marker::Model;

@@ -32,6 +32,7 @@ pub mod parts;
 mod pixel;
 mod types;
 mod utils;
+mod writers;
 
 pub use crate::decode::{Decoder, decode_header, decode_to_buf, decode_to_vec};
 pub use crate::encode::{Encoder, encode_max_len, encode_to_buf, encode_to_vec};

@@ -1,5 +1,5 @@
 //! Pixels as single numbers of 32 bits.
-ghost use Rattle.std.specs.Prelude.{◌≡◌, ◌↔◌, ◌+◌, ◌*◌, ◌%◌, ◌^◌, ◌<◌, ◌≤◌, ℕ, [], ◌∷◌, length, take, drop, replicate, IsTrue, if◌then◌else◌};
+ghost use Rattle.std.specs.Prelude.{◌≡◌, ◌↔◌, ◌+◌, ◌*◌, ◌%◌, ◌^◌, ◌<◌, ◌≤◌, ℕ, [], ◌∷◌, length, take, drop, replicate, IsTrue};
 ghost use Rattle.qoi.specs.Qoi.{IsPixel, pixel, rgba, start, blank, hash};
 ghost use Rattle.qoi.specs.Raw.{IsChannels, output};
 ghost use Rattle.qoi.specs.inner.Packed.{word, pixel_of_word};
@@ -202,12 +202,4 @@ impl Packed {
     {
         Packed(0xff00_0000)
     }
-}
-
-/// The first value or the other one. As both are at hand, no jump is needed.
-#[inline(always)]
-pub(crate) fn pick<T: Copy>(first: bool, one: T, other: T) -> T
-    ensures { result ≡ if first then one else other }
-{
-    if first { one } else { other }
 }

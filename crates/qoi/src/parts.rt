@@ -4,4 +4,4 @@ pub use crate::chunk::{Chunk, read_chunk};
 pub use crate::decode::{Buffered, Bytes, Reader};
 pub use crate::encode::runs::repeats;
 pub use crate::pixel::{Pixel, SupportedChannels};
-pub use crate::utils::{BytesMut, GenericWriter, Writer};
+pub use crate::writers::{BytesMut, GenericWriter, Writer};

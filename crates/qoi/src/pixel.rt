@@ -11,7 +11,7 @@ use crate::encode::piece::put_chunk;
 use crate::encode::quad::Quad;
 use crate::error::Result;
 use crate::packed::Packed;
-use crate::utils::Writer;
+use crate::writers::Writer;
 use std::marker::Model;
 
 /// A pixel of `N` channels of 8 bits, 3 or 4.

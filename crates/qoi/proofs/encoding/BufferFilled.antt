@@ -1,6 +1,6 @@
 -- A buffer that bytes were written to from the front.
 use Rattle.std.proofs.Common.{◌≡◌, ℕ, List, [], ◌++◌, length, drop, sym, ap, ◌∙◌, take-append-drop}
-use Rattle.qoi.specs.declared.utils.BytesMut.{BytesMut}
+use Rattle.qoi.specs.declared.writers.BytesMut.{BytesMut}
 use Rattle.qoi.specs.writers.BytesMut.{BufferWrote, written_bytes, bytes_left}
 
 -- the bytes stand at its front, and all later ones are as before

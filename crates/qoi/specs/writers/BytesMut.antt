@@ -3,7 +3,7 @@ use base.Fml.{GName}
 use Rattle.std.specs.Prelude.{◌≡◌, ℕ, ◌≤◌, List, ◌++◌, length, take, drop}
 use Rattle.std.proofs.Common.{refl, sym, ap, ◌∙◌, arith, append_assoc, append-nil, length-append, length-drop, drop-drop}
 use Rattle.qoi.specs.writers.Writes.{WriterLaws}
-use Rattle.qoi.specs.declared.utils.BytesMut.{BytesMut}
+use Rattle.qoi.specs.declared.writers.BytesMut.{BytesMut}
 
 -- which buffer it is
 abbrev pub buffer_name : BytesMut → GName

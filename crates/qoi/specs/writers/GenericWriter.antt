@@ -5,7 +5,7 @@ use Rattle.std.specs.Io.KnownBytes.{Appends}
 use Rattle.std.proofs.Common.{refl, ◌∙◌, arith, length-append}
 use Rattle.std.proofs.KnownBytes.{Appends-nil, Appends-trans}
 use Rattle.qoi.specs.writers.Writes.{WriterLaws}
-use Rattle.qoi.specs.declared.utils.GenericWriter.{GenericWriter}
+use Rattle.qoi.specs.declared.writers.GenericWriter.{GenericWriter}
 
 -- which writer it is
 abbrev pub stream_name : {W : Type 0} → GenericWriter W → GName

@@ -3,7 +3,7 @@ use base.Fml.{GName}
 use Rattle.std.specs.Prelude.{◌≡◌, ℕ, ◌+◌, List, ◌++◌, length}
 use Rattle.std.proofs.Common.{refl, sym, ap, ◌∙◌, arith, append_assoc, append-nil, length-append}
 use Rattle.qoi.specs.writers.Writes.{WriterLaws}
-use Rattle.qoi.specs.declared.utils.VecMut.{VecMut}
+use Rattle.qoi.specs.declared.writers.VecMut.{VecMut}
 
 -- which vector it is
 abbrev pub vec_name : VecMut → GName

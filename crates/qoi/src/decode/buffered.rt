@@ -4,13 +4,13 @@ ghost use Rattle.std.specs.Io.KnownBytes.{Consumes};
 ghost use Rattle.qoi.specs.Raw.{IsChannels};
 ghost use Rattle.qoi.specs.Verdicts.{EndsBefore};
 ghost use Rattle.qoi.specs.Decoding.{HasTaken};
-ghost use Rattle.qoi.specs.declared.decode.pixels.TheConstants.{RUN_ROOM};
+ghost use Rattle.qoi.specs.declared.decode.output.TheConstants.{RUN_ROOM};
 ghost use Rattle.qoi.specs.inner.Filling.{filling, DecoderBetween};
 
 use crate::decode::chunks::Chunks;
 use crate::decode::fast::{OUTPUT_ROOM, Progress};
 use crate::decode::hashed::Hashed;
-use crate::decode::pixels::RUN_ROOM;
+use crate::decode::output::RUN_ROOM;
 use crate::decode::reader::Buffered;
 use crate::decode::stream::{next_chunk, stream_marker};
 use crate::decode::table::TermTable;

@@ -9,7 +9,7 @@ ghost use Rattle.qoi.specs.declared.error.Error.{Error};
 ghost use Rattle.qoi.specs.inner.Chunks.{RefusesChunks, RefusesAfter};
 ghost use Rattle.qoi.specs.inner.Filling.{filling, DecoderBetween};
 ghost use Rattle.qoi.specs.declared.decode.chunks.TheConstants.{STEP};
-ghost use Rattle.qoi.specs.declared.decode.pixels.TheConstants.{RUN_ROOM};
+ghost use Rattle.qoi.specs.declared.decode.output.TheConstants.{RUN_ROOM};
 
 use crate::decode::hashed::Hashed;
 use crate::decode::table::TermTable;

@@ -3,14 +3,15 @@
 ghost use Rattle.std.specs.Prelude.{◌≡◌, ◌↔◌, IsTrue, ℕ, ◌+◌, ◌-◌, ◌*◌, ◌/◌, ◌<◌, ◌≤◌, List, length};
 ghost use Rattle.qoi.specs.Qoi.{run_tag, rgb_tag};
 ghost use Rattle.qoi.specs.Raw.{IsChannels};
-ghost use Rattle.qoi.specs.declared.decode.pixels.TheConstants.{RUN_ROOM};
+ghost use Rattle.qoi.specs.declared.decode.output.TheConstants.{RUN_ROOM};
 
 use crate::consts::{QOI_OP_RGB, QOI_OP_RGBA, QOI_OP_RUN};
 use crate::decode::deltas::advance;
 use crate::decode::hashed::Hashed;
-use crate::decode::pixels::{RUN_ROOM, is_luma, write_block, write_late_run, write_run};
+use crate::decode::one_chunk::is_luma;
+use crate::decode::output::{RUN_ROOM, write_block, write_late_run, write_run};
 use crate::decode::table::TermTable;
-use crate::packed::pick;
+use crate::utils::pick;
 
 // Bytes of four short chunks, of which each has two at most, of an RGBA chunk and of the byte after
 // it.

@@ -6,14 +6,15 @@ ghost use Rattle.qoi.specs.Raw.{IsChannels};
 ghost use Rattle.qoi.specs.Qoi.{end_marker};
 ghost use Rattle.qoi.specs.Decoding.{ReadsImage, RefusesMarker, RefusesBytes};
 ghost use Rattle.qoi.specs.Verdicts.{AreCut};
-ghost use Rattle.qoi.specs.declared.decode.pixels.TheConstants.{RUN_ROOM};
+ghost use Rattle.qoi.specs.declared.decode.output.TheConstants.{RUN_ROOM};
 ghost use Rattle.qoi.specs.inner.Filling.{filling, DecoderBetween};
 
 use crate::consts::{QOI_PADDING, QOI_PADDING_SIZE};
 use crate::decode::chunks::{Chunks, image_to_buf, image_to_vec};
 use crate::decode::fast::Progress;
 use crate::decode::hashed::Hashed;
-use crate::decode::pixels::{RUN_ROOM, decode_chunk};
+use crate::decode::one_chunk::decode_chunk;
+use crate::decode::output::RUN_ROOM;
 use crate::decode::reader::Bytes;
 use crate::decode::table::TermTable;
 use crate::error::{Error, Result};

@@ -3,7 +3,7 @@ ghost use Rattle.std.specs.Prelude.{◌≡◌, ℕ, ◌+◌, ◌%◌, ◌<◌, �
 ghost use Rattle.std.specs.Io.KnownBytes.{Consumes};
 ghost use Rattle.qoi.specs.Qoi.{AreBytes, end_marker};
 ghost use Rattle.qoi.specs.Raw.{IsChannels};
-ghost use Rattle.qoi.specs.declared.decode.pixels.TheConstants.{RUN_ROOM};
+ghost use Rattle.qoi.specs.declared.decode.output.TheConstants.{RUN_ROOM};
 ghost use Rattle.qoi.specs.Verdicts.{IsPartOfChunk, EndsBefore};
 ghost use Rattle.qoi.specs.Decoding.{HasTaken, RefusesTakenMarker};
 ghost use Rattle.qoi.specs.inner.Filling.{IsWholePixels, DecodesChunk, DecoderBetween, filling};
@@ -11,7 +11,8 @@ ghost use Rattle.qoi.specs.inner.Filling.{IsWholePixels, DecodesChunk, DecoderBe
 use crate::consts::{QOI_OP_RGB, QOI_PADDING, QOI_PADDING_SIZE};
 use crate::decode::chunks::Chunks;
 use crate::decode::hashed::Hashed;
-use crate::decode::pixels::{Decoded, RUN_ROOM, decode_chunk, is_luma};
+use crate::decode::one_chunk::{Decoded, decode_chunk, is_luma};
+use crate::decode::output::RUN_ROOM;
 use crate::decode::table::TermTable;
 use crate::error::{Error, Result};
 use std::io;

@@ -12,7 +12,7 @@ use crate::encode::table::PixelTable;
 use crate::error::Result;
 use crate::types::Channels::{self, Rgb, Rgba};
 use crate::types::Style::{self, Places, Reference, Tight};
-use crate::utils::Writer;
+use crate::writers::Writer;
 
 // `encode_chunks` for `N` channels. `STYLE` is a number for each style, so that each has a function
 // of its own: one for all would test the style at each pixel.

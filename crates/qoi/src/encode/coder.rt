@@ -20,9 +20,9 @@ use crate::encode::piece::{Piece, REPEATS_AT_ONCE};
 use crate::encode::quad::{ALL_REPEAT, Quad, READ, pixels_before, read_four, repeating};
 use crate::encode::runs::{repeats_in_quad, repeats_of};
 use crate::encode::table::PixelTable;
-use crate::packed::{Packed, pick};
+use crate::packed::Packed;
 use crate::types::Style::{self, Places, Reference, Tight};
-use crate::utils::skip;
+use crate::utils::{pick, skip};
 use std::simd::u32x4;
 
 /// What is known between two pixels: the style; the pixel `last` and its index position `place`;

@@ -11,8 +11,8 @@ ghost use Rattle.qoi.specs.writers.Writes.{WroteBeginning};
 
 use crate::consts::{QOI_OP_RUN, QOI_RUN_MAX};
 use crate::error::Result;
-use crate::packed::pick;
-use crate::utils::{Writer, copy_after};
+use crate::utils::{copy_after, pick};
+use crate::writers::Writer;
 use std::simd::prelude::*;
 
 /// How many bytes of a piece's room come after a full piece: for what goes past it (the chunks of

@@ -6,7 +6,8 @@ ghost use Rattle.qoi.specs.inner.Table.{Holds, first_blank};
 
 mod swaps;
 
-use crate::packed::{Packed, pick};
+use crate::packed::Packed;
+use crate::utils::pick;
 use std::marker::Model;
 
 /// The pixels that the 64 index positions hold.

@@ -1,7 +1,7 @@
 -- Each block stands after the one before.
 use Rattle.std.proofs.Common.{◌*◌, ◌/◌, arith}
 use Rattle.qoi.proofs.decoding.Blocks.{four_written, blocks_enough}
-use Rattle.qoi.proofs.decode.pixels.write_run.Goals as goal
+use Rattle.qoi.proofs.decode.output.write_run.Goals as goal
 
 pub returns-then-count-four : goal.returns-then-count-four
 returns-then-count-four g c =

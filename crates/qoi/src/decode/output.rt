@@ -1,16 +1,12 @@
-//! What the loops of slices and of streams put into the output: the pixels of chunks.
-ghost use Rattle.std.specs.Prelude.{◌≡◌, IsTrue, ℕ, ◌+◌, ◌*◌, ◌/◌, ◌%◌, ◌-◌, ◌<◌, ◌≤◌, [], ◌∷◌, ◌++◌, length, take, replicate, nat_le, nat_lt, ◌&&◌};
-ghost use Rattle.qoi.specs.Qoi.{Past, run_max, luma_tag, run_tag, rgb_tag};
-ghost use Rattle.qoi.specs.declared.decode.pixels.TheConstants.{BLOCK, RUN_ROOM};
+//! What the decoders' loops write to the output: pixels, by blocks of sixteen bytes.
+ghost use Rattle.std.specs.Prelude.{◌≡◌, IsTrue, ◌+◌, ◌*◌, ◌/◌, ◌%◌, ◌-◌, ◌<◌, ◌≤◌, ℕ, [], ◌∷◌, ◌++◌, length, replicate};
+ghost use Rattle.qoi.specs.Qoi.{Past, run_max};
+ghost use Rattle.qoi.specs.declared.decode.output.TheConstants.{BLOCK, RUN_ROOM};
 ghost use Rattle.qoi.specs.Raw.{IsChannels};
-ghost use Rattle.qoi.specs.inner.Filling.{upto, HasWritten, HasFilled, IsWholePixels, DecodesChunk, filling};
+ghost use Rattle.qoi.specs.inner.Filling.{upto, HasWritten, HasFilled, IsWholePixels};
 ghost use Rattle.qoi.specs.inner.Hashed.{pixel_of_lanes};
 
-use crate::chunk::QOI_OP_RUN_END;
-use crate::consts::{QOI_OP_LUMA, QOI_OP_RGB, QOI_OP_RGBA, QOI_OP_RUN};
-use crate::decode::deltas::advance;
 use crate::decode::hashed::Hashed;
-use crate::decode::table::TermTable;
 
 /// How many bytes a block has: as many as a vector holds.
 pub(super) const BLOCK: usize = 16;
@@ -138,11 +134,11 @@ fn known_room<const ROOM: bool>(size: usize, at: usize) -> usize
     if ROOM { RUN_ROOM } else { size - at }
 }
 
-// Writes a pixel `count` times from `at` on, or as often as there is room, and returns where it
-// stopped. Together, the `count` pixels have `size` bytes. If `ROOM`, there is room for the blocks
-// of any run, and how much there is isn't tested.
+/// Writes a pixel `count` times from `at` on, or as often as there is room, and returns where it
+/// stopped. Together, the `count` pixels have `size` bytes. If `ROOM`, there is room for the blocks
+/// of any run, and how much there is isn't tested.
 #[inline(always)]
-fn fill<const N: usize, const F: usize, const ROOM: bool>(
+pub(super) fn fill<const N: usize, const F: usize, const ROOM: bool>(
     out: &mut [u8],
     at: usize,
     px: Hashed,
@@ -173,75 +169,4 @@ fn fill<const N: usize, const F: usize, const ROOM: bool>(
     let all = count.min(room / N);
     write_pixels::<N, F>(out, at, px, all);
     at + N * all
-}
-
-/// Whether a chunk with this first byte is a luma.
-#[inline(always)]
-pub(super) fn is_luma(b1: u32) -> bool
-    ensures { result ≡ (nat_le luma_tag b1 && nat_lt b1 run_tag) }
-{
-    b1.wrapping_sub(QOI_OP_LUMA as u32) < 64
-}
-
-// How many pixels a chunk has, by its first byte.
-#[inline(always)]
-fn times(b1: u8) -> usize
-    ensures run { run_tag ≤ b1 → b1 < rgb_tag → result + (run_tag - 1) ≡ b1 }
-    ensures one { b1 < run_tag → result ≡ 1 }
-    ensures full { rgb_tag ≤ b1 → result ≡ 1 }
-{
-    match b1 {
-        QOI_OP_RUN..=QOI_OP_RUN_END => (b1 - (QOI_OP_RUN - 1)) as usize,
-        _ => 1,
-    }
-}
-
-/// What a chunk leaves: how many bytes it has, the pixel that is the last one then, and where the
-/// output stopped.
-#[derive(Clone, Copy)]
-pub(super) struct Decoded {
-    pub(super) taken: usize,
-    pub(super) last: Hashed,
-    pub(super) at: usize,
-}
-
-/// Decodes the first chunk of the bytes. If `ROOM`, the output has room for the blocks of any run;
-/// else how much it has is tested. The second byte is read even if the chunk has only one.
-#[inline(always)]
-pub(super) fn decode_chunk<const N: usize, const F: usize, const ROOM: bool>(
-    table: &mut TermTable,
-    last: Hashed,
-    bytes: &[u8],
-    out: &mut [u8],
-    at: usize,
-) -> Decoded
-    requires channels { IsChannels N }
-    requires long { 8 ≤ length bytes.now }
-    requires whole { IsWholePixels N (length out.old) at }
-    requires inside { at < length out.old }
-    requires room { IsTrue ROOM → at + RUN_ROOM ≤ length out.old }
-    ensures taken { result.taken ≤ length bytes.now }
-    ensures decodes { DecodesChunk F N (take result.taken bytes.now)
-        (filling table.old last out.old at)
-        (filling table.new result.last out.new result.at) }
-    ensures whole { result.at % N ≡ 0 }
-    ensures within { (at < result.at) × (result.at ≤ length out.new) }
-{
-    let b1 = bytes[0];
-    let (last, taken) = match b1 {
-        QOI_OP_RGB => (last.after_full(bytes), 4),
-        QOI_OP_RGBA => (last.after_full(bytes), 5),
-        _ => {
-            let held = table.at(b1 as usize);
-            let size = 1 + usize::from(is_luma(u32::from(b1)));
-            (last.after_short(held, b1 as usize, bytes[1]), size)
-        }
-    };
-    table.put(last);
-    let size = advance::<N>(b1 as usize);
-    Decoded {
-        taken,
-        last,
-        at: fill::<N, F, ROOM>(out, at, last, times(b1), size),
-    }
 }

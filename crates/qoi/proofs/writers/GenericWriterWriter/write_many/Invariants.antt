@@ -2,7 +2,7 @@
 use Rattle.std.proofs.Common.{length}
 use Rattle.qoi.specs.writers.Writes.{WroteBut}
 use Rattle.qoi.specs.writers.GenericWriter.{StreamWrote}
-use Rattle.qoi.proofs.utils.GenericWriterWriter.write_many.Given as goal
+use Rattle.qoi.proofs.writers.GenericWriterWriter.write_many.Given as goal
 
 abbrev pub invariant-loop-rest : goal.invariant-loop-rest
 invariant-loop-rest g l = WroteBut (StreamWrote g.W.Write.contents) l.initial.self l.v l.rest l.self

@@ -1,7 +1,7 @@
 -- Each block stands after the one before.
 use Rattle.std.proofs.Common.{◌/◌, arith}
 use Rattle.qoi.proofs.decoding.Blocks.{four_written}
-use Rattle.qoi.proofs.decode.pixels.write_four_blocks.Goals as goal
+use Rattle.qoi.proofs.decode.output.write_four_blocks.Goals as goal
 
 pub returns : goal.returns
 returns g c count le =

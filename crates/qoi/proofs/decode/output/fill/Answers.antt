@@ -2,8 +2,8 @@
 use Rattle.std.proofs.Common.{◌<◌, ◌≤◌, length, arith}
 use Rattle.qoi.specs.inner.Hashed.{pixel_of_lanes}
 use Rattle.qoi.proofs.decoding.FilledBuffer.{filled_copies, filled_end, block_fits, run_fits, copies_fit, copies_end}
-use Rattle.qoi.proofs.decode.pixels.fill.Goals.{then-count+else-room-ge-BLOCK, else-count+else-room-ge-RUN_ROOM}
-use Rattle.qoi.proofs.decode.pixels.fill.Goals as goal
+use Rattle.qoi.proofs.decode.output.fill.Goals.{then-count+else-room-ge-BLOCK, else-count+else-room-ge-RUN_ROOM}
+use Rattle.qoi.proofs.decode.output.fill.Goals as goal
 
 pub returns-then-room-ge-BLOCK-clause-filled : goal.returns-then-room-ge-BLOCK-clause-filled
 returns-then-room-ge-BLOCK-clause-filled g c n past h =

@@ -4,8 +4,8 @@ use Rattle.qoi.specs.Qoi.{AreBytes}
 use Rattle.qoi.specs.inner.Hashed.{pixel_of_lanes}
 use Rattle.qoi.specs.inner.Filling.{filling}
 use Rattle.qoi.proofs.decoding.FirstChunk.{PutsCopies, size_of, decodes_short, decodes_rgb, decodes_rgba}
-use Rattle.qoi.proofs.decode.pixels.decode_chunk.Goals.{in-254, in-255, in_default}
-use Rattle.qoi.proofs.decode.pixels.decode_chunk.Goals as goal
+use Rattle.qoi.proofs.decode.one_chunk.decode_chunk.Goals.{in-254, in-255, in_default}
+use Rattle.qoi.proofs.decode.one_chunk.decode_chunk.Goals as goal
 
 pub returns-clause-decodes : goal.returns-clause-decodes
 returns-clause-decodes g c =

@@ -2,7 +2,7 @@
 use Rattle.std.proofs.Common.{◌≡◌, ◌+◌, ◌*◌, arith}
 use Rattle.qoi.specs.inner.Hashed.{pixel_of_lanes}
 use Rattle.qoi.proofs.decoding.Blocks.{written_none, written_one, written_copies}
-use Rattle.qoi.proofs.decode.pixels.write_pixels.Goals as goal
+use Rattle.qoi.proofs.decode.output.write_pixels.Goals as goal
 
 pub loop-done-init : goal.loop-done-init
 loop-done-init g c = (omega arith, written_none g.row.F g.row.N c.args.out.now c.args.at (pixel_of_lanes c.args.px))

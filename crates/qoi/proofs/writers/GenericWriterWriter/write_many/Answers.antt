@@ -2,7 +2,7 @@
 use Rattle.std.proofs.Common.{◌≡◌, ◌+◌, ◌-◌, ◌++◌, length, take, drop, refl, sym, ap, ◌∙◌, append_assoc, take-append-drop, arith, length-append}
 use Rattle.std.proofs.lemmas.List.{length-take-le}
 use Rattle.qoi.specs.writers.GenericWriter.{stream_laws}
-use Rattle.qoi.proofs.utils.GenericWriterWriter.write_many.Goals as goal
+use Rattle.qoi.proofs.writers.GenericWriterWriter.write_many.Goals as goal
 
 pub loop-rest-preserved : goal.loop-rest-preserved
 loop-rest-preserved g c =

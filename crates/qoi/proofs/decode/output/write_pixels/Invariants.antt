@@ -2,7 +2,7 @@
 use Rattle.std.proofs.Common.{◌+◌, ◌-◌, ◌*◌, ◌≤◌, replicate}
 use Rattle.qoi.specs.inner.Filling.{upto, HasWritten}
 use Rattle.qoi.specs.inner.Hashed.{pixel_of_lanes}
-use Rattle.qoi.proofs.decode.pixels.write_pixels.Given as goal
+use Rattle.qoi.proofs.decode.output.write_pixels.Given as goal
 
 abbrev pub invariant-loop-done : goal.invariant-loop-done
 invariant-loop-done g l =

@@ -1,7 +1,7 @@
 -- The front of a block is the pixel.
 use Rattle.std.proofs.Common.{arith}
 use Rattle.qoi.proofs.decoding.Blocks.{three_bytes_written, four_bytes_written}
-use Rattle.qoi.proofs.decode.pixels.write_pixel.Goals as goal
+use Rattle.qoi.proofs.decode.output.write_pixel.Goals as goal
 
 pub returns-then-this-eq4 : goal.returns-then-this-eq4
 returns-then-this-eq4 g c = four_bytes_written g.row.F g.row.N _ c.args.out.now c.block.result c.args.at c.if-this-eq4.true c.requires.room c.block.ensures

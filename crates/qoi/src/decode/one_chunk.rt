@@ -1,0 +1,84 @@
+//! How one chunk is decoded, with every test.
+ghost use Rattle.std.specs.Prelude.{◌≡◌, IsTrue, ◌+◌, ◌%◌, ◌-◌, ◌<◌, ◌≤◌, length, take, nat_le, nat_lt, ◌&&◌};
+ghost use Rattle.qoi.specs.Qoi.{luma_tag, run_tag, rgb_tag};
+ghost use Rattle.qoi.specs.declared.decode.output.TheConstants.{RUN_ROOM};
+ghost use Rattle.qoi.specs.Raw.{IsChannels};
+ghost use Rattle.qoi.specs.inner.Filling.{IsWholePixels, DecodesChunk, filling};
+
+use crate::chunk::QOI_OP_RUN_END;
+use crate::consts::{QOI_OP_LUMA, QOI_OP_RGB, QOI_OP_RGBA, QOI_OP_RUN};
+use crate::decode::deltas::advance;
+use crate::decode::hashed::Hashed;
+use crate::decode::output::fill;
+use crate::decode::table::TermTable;
+
+/// Whether a chunk with this first byte is a luma.
+#[inline(always)]
+pub(super) fn is_luma(b1: u32) -> bool
+    ensures { result ≡ (nat_le luma_tag b1 && nat_lt b1 run_tag) }
+{
+    b1.wrapping_sub(QOI_OP_LUMA as u32) < 64
+}
+
+// How many pixels a chunk has, by its first byte.
+#[inline(always)]
+fn times(b1: u8) -> usize
+    ensures run { run_tag ≤ b1 → b1 < rgb_tag → result + (run_tag - 1) ≡ b1 }
+    ensures one { b1 < run_tag → result ≡ 1 }
+    ensures full { rgb_tag ≤ b1 → result ≡ 1 }
+{
+    match b1 {
+        QOI_OP_RUN..=QOI_OP_RUN_END => (b1 - (QOI_OP_RUN - 1)) as usize,
+        _ => 1,
+    }
+}
+
+/// What a chunk leaves: how many bytes it has, the pixel that is the last one then, and where the
+/// output stopped.
+#[derive(Clone, Copy)]
+pub(super) struct Decoded {
+    pub(super) taken: usize,
+    pub(super) last: Hashed,
+    pub(super) at: usize,
+}
+
+/// Decodes the first chunk of the bytes. If `ROOM`, the output has room for the blocks of any run;
+/// else how much it has is tested. The second byte is read even if the chunk has only one.
+#[inline(always)]
+pub(super) fn decode_chunk<const N: usize, const F: usize, const ROOM: bool>(
+    table: &mut TermTable,
+    last: Hashed,
+    bytes: &[u8],
+    out: &mut [u8],
+    at: usize,
+) -> Decoded
+    requires channels { IsChannels N }
+    requires long { 8 ≤ length bytes.now }
+    requires whole { IsWholePixels N (length out.old) at }
+    requires inside { at < length out.old }
+    requires room { IsTrue ROOM → at + RUN_ROOM ≤ length out.old }
+    ensures taken { result.taken ≤ length bytes.now }
+    ensures decodes { DecodesChunk F N (take result.taken bytes.now)
+        (filling table.old last out.old at)
+        (filling table.new result.last out.new result.at) }
+    ensures whole { result.at % N ≡ 0 }
+    ensures within { (at < result.at) × (result.at ≤ length out.new) }
+{
+    let b1 = bytes[0];
+    let (last, taken) = match b1 {
+        QOI_OP_RGB => (last.after_full(bytes), 4),
+        QOI_OP_RGBA => (last.after_full(bytes), 5),
+        _ => {
+            let held = table.at(b1 as usize);
+            let size = 1 + usize::from(is_luma(u32::from(b1)));
+            (last.after_short(held, b1 as usize, bytes[1]), size)
+        }
+    };
+    table.put(last);
+    let size = advance::<N>(b1 as usize);
+    Decoded {
+        taken,
+        last,
+        at: fill::<N, F, ROOM>(out, at, last, times(b1), size),
+    }
+}
