@@ -24,7 +24,7 @@ use Rattle.std.specs.Io.KnownBytes.{Appends}
 use Rattle.qoi.specs.writers.Writes.{AppendsBeginning}
 use Rattle.qoi.specs.Sent.{HasFileLength, MakesFile, PutsFile, SendsFile, SendsPart}
 use Rattle.qoi.proofs.format.Appended.{length-bytes_of}
-use Rattle.qoi.proofs.decoding.FilledBuffer.{take_whole}
+use Rattle.qoi.proofs.format.WholePixels.{take_whole}
 use Rattle.qoi.proofs.decoding.Ahead.{stands_after}
 use Rattle.qoi.proofs.decoding.FrontImage.{file_image_is, file_rest_is}
 use Rattle.qoi.proofs.decoding.ImageSize.{channels_are}

@@ -1,7 +1,6 @@
 -- Lemmas on decoding.
 pub mod Ahead
 pub mod Blocks
-pub mod EncodedAgain
 pub mod FastSteps
 pub mod FilledBuffer
 pub mod FirstChunk
@@ -14,7 +13,6 @@ pub mod Progress
 pub mod Promised
 pub mod Refusals
 pub mod RefusedBytes
-pub mod SeenTable
 pub mod StreamReads
 pub mod StreamVerdicts
 pub mod TakenBytes

@@ -2,6 +2,7 @@
 pub mod Appended
 pub mod ChunkSteps
 pub mod ChunksApart
+pub mod EncodedAgain
 pub mod Entries
 pub mod HashedPixels
 pub mod HeaderBytes
@@ -16,6 +17,8 @@ pub mod PixelBlocks
 pub mod Quads
 pub mod RawPixels
 pub mod SamePixels
+pub mod SeenTable
 pub mod SetLast
 pub mod SomeVerdict
 pub mod TableHolds
+pub mod WholePixels

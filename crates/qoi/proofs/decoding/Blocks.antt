@@ -10,7 +10,7 @@ use lib.Lanes.{put_chunk}
 use Rattle.qoi.specs.Qoi.{RgbaPixel}
 use Rattle.qoi.specs.Raw.{IsChannels, pixel_bytes, output}
 use Rattle.qoi.specs.inner.Filling.{upto, HasWritten}
-use Rattle.qoi.proofs.decoding.FilledBuffer.{by_channels, take-output}
+use Rattle.qoi.proofs.format.WholePixels.{by_channels, take-output}
 
 -- the whole pixels of a block
 whole_of : (f c : ℕ) (p : RgbaPixel) (bytes : List ℕ) → IsChannels c → bytes ≡ take 16 (output f c (replicate 6 p))

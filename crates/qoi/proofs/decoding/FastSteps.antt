@@ -8,7 +8,8 @@ use Rattle.qoi.specs.Qoi.{Past}
 use Rattle.qoi.specs.Raw.{IsChannels}
 use Rattle.qoi.specs.inner.Filling.{upto, filling, HasWritten, HasFilled, DecodesChunk, DecoderBetween, IsFrontAfter, FastBetween}
 use Rattle.qoi.specs.inner.Hashed.{pixel_of_lanes, HoldsSeen}
-use Rattle.qoi.proofs.decoding.FilledBuffer.{by_channels, filled_copies}
+use Rattle.qoi.proofs.format.WholePixels.{by_channels}
+use Rattle.qoi.proofs.decoding.FilledBuffer.{filled_copies}
 use Rattle.qoi.proofs.decoding.FirstChunk.{PutsCopies}
 use Rattle.qoi.proofs.decoding.Progress.{goes_on}
 

@@ -9,7 +9,7 @@ use Rattle.qoi.specs.Qoi.{RgbaPixel, Past, AreBytes, IsChunk, pixel, seen, after
 use Rattle.qoi.specs.inner.Filling.{Filling, HasSeen, HasFilled, Decodes, DecodesChunk}
 use Rattle.qoi.specs.inner.Hashed.{pixel_of_lanes, HoldsSeen}
 use Rattle.qoi.proofs.format.ChunkSteps.{times_some}
-use Rattle.qoi.proofs.decoding.SeenTable.{holds_seen_copies, previous_copies}
+use Rattle.qoi.proofs.format.SeenTable.{holds_seen_copies, previous_copies}
 
 -- the first byte
 front_1 : (bytes : List ℕ) → 1 ≤ length bytes → take 1 bytes ≡ get_or bytes 0 0 ∷ []

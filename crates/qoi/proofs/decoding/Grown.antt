@@ -11,7 +11,7 @@ use Rattle.qoi.specs.Decoding.{HasTaken}
 use Rattle.qoi.specs.Verdicts.{AreCut, EndsBefore}
 use Rattle.qoi.specs.inner.Hashed.{pixel_of_lanes, HoldsSeen}
 use Rattle.qoi.specs.inner.Filling.{Filling, filling, DecodesChunk, DecoderBetween}
-use Rattle.qoi.proofs.decoding.FilledBuffer.{by_channels, whole_pixels}
+use Rattle.qoi.proofs.format.WholePixels.{by_channels, whole_pixels}
 use Rattle.qoi.proofs.decoding.LeastBytes.{pixels_most, times_most}
 use Rattle.qoi.proofs.decoding.Progress.{fewer, few_left, start_between}
 

@@ -7,7 +7,7 @@ use Rattle.qoi.specs.declared.header.Header.{Header}
 use Rattle.qoi.specs.Qoi.{channels_number, meaning, pixel_count}
 use Rattle.qoi.specs.Raw.{IsChannels, byte_count}
 use Rattle.qoi.specs.Decoding.{least_byte_count, ReadsImage}
-use Rattle.qoi.proofs.decoding.FilledBuffer.{length-output}
+use Rattle.qoi.proofs.format.WholePixels.{length-output}
 
 -- there are three or four channels
 pub channels_are : (c : Channels) (n : ℕ) → n ≡ channels_number c → IsChannels n

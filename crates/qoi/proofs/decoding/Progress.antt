@@ -12,8 +12,9 @@ use Rattle.qoi.proofs.format.ChunkSteps.{times_some, then_chunks-append, each_ap
 use Rattle.std.proofs.lemmas.Grind.{flat_map-append}
 use Rattle.qoi.proofs.format.SomeVerdict.{reading_of}
 use Rattle.qoi.proofs.format.Appended.{are_chunks_append, chunk_bytes-last, length-meaning}
-use Rattle.qoi.proofs.decoding.FilledBuffer.{by_channels, counts, filled_all, whole_pixels}
-use Rattle.qoi.proofs.decoding.SeenTable.{previous_copies}
+use Rattle.qoi.proofs.format.WholePixels.{by_channels, whole_pixels}
+use Rattle.qoi.proofs.decoding.FilledBuffer.{counts, filled_all}
+use Rattle.qoi.proofs.format.SeenTable.{previous_copies}
 
 -- fewer than n pixels were decoded, if there is room for more
 pub fewer : {f c n : ℕ} {b : Buffer} {past : Past} → IsChannels c → HasFilled f c n b past → b.at < length b.out → length past < n

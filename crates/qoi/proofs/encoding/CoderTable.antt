@@ -13,7 +13,7 @@ use Rattle.qoi.specs.Styles.{names, choice_in}
 use Rattle.qoi.specs.inner.CoderState.{held_in}
 use Rattle.qoi.proofs.format.ChunkSteps.{previous_repeats}
 use Rattle.qoi.proofs.format.SamePixels.{hash_below}
-use Rattle.qoi.proofs.decoding.SeenTable.{holds_copies}
+use Rattle.qoi.proofs.format.SeenTable.{holds_copies}
 use Rattle.qoi.proofs.encoding.SpelledLanes.{place_bytes}
 use Rattle.qoi.proofs.encoding.NotedPixels.{fresh_repeat, fresh_more}
 use Rattle.qoi.proofs.encoding.TightChoice.{tight_no_place}

@@ -7,7 +7,7 @@ use Rattle.std.specs.List.{slice_get}
 use Rattle.qoi.specs.Qoi.{RgbaPixel, rgba}
 use Rattle.qoi.specs.Raw.{IsChannels, pixels_of}
 use Rattle.qoi.specs.Runs.{IsCount}
-use Rattle.qoi.proofs.decoding.FilledBuffer.{by_channels, whole_pixels}
+use Rattle.qoi.proofs.format.WholePixels.{by_channels, whole_pixels}
 use Rattle.qoi.proofs.format.ChunkSteps.{repeats_after}
 use Rattle.qoi.proofs.format.RawPixels.{length-pixels_of, pixels_of-append, pixels_of-next}
 

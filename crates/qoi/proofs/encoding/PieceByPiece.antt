@@ -11,7 +11,7 @@ use Rattle.qoi.specs.Written.{WrittenBy}
 use Rattle.qoi.specs.Styles.{choice_in, in_style, WrittenIn}
 use Rattle.qoi.specs.writers.Writes.{WriterLaws, WroteBut, WroteBeginning}
 use Rattle.qoi.specs.inner.CoderLoop.{Writing, CoderAfter, CoderBetween}
-use Rattle.qoi.proofs.decoding.FilledBuffer.{whole_pixels}
+use Rattle.qoi.proofs.format.WholePixels.{whole_pixels}
 use Rattle.qoi.proofs.format.RawPixels.{pixels_of_are, pixels_of_have, length-pixels_of}
 use Rattle.qoi.proofs.encoding.CoderSteps.{all_bytes, coder_starts, front_sent, all_written}
 use Rattle.qoi.proofs.encoding.StyleLists.{chooses_in, style_length}

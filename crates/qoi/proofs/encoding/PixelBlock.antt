@@ -8,7 +8,7 @@ use lib.Lanes.{zip2}
 use Rattle.qoi.specs.Qoi.{RgbaPixel, pixel}
 use Rattle.qoi.specs.Raw.{IsChannels, output, pixels_of_3, pixels_of_4, pixels_of}
 use Rattle.qoi.specs.Runs.{IsCount}
-use Rattle.qoi.proofs.decoding.FilledBuffer.{by_channels}
+use Rattle.qoi.proofs.format.WholePixels.{by_channels}
 use Rattle.qoi.proofs.format.Lanes.{same_bits, parted, none_beside}
 use Rattle.qoi.proofs.format.LaneRuns.{first_clear}
 use Rattle.qoi.proofs.format.SamePixels.{same_pixel}

@@ -12,7 +12,7 @@ use Rattle.qoi.specs.inner.CoderLoop.{Writing, CoderBetween, lane_pixel, before_
 use Rattle.qoi.proofs.format.RawPixels.{pixels_of_are}
 use Rattle.qoi.proofs.encoding.CoderSteps.{all_bytes}
 use Rattle.qoi.proofs.format.LaneRuns.{none_agree}
-use Rattle.qoi.proofs.decoding.FilledBuffer.{by_channels}
+use Rattle.qoi.proofs.format.WholePixels.{by_channels}
 use Rattle.qoi.proofs.encoding.SpelledLanes.{unpacked}
 use Rattle.qoi.proofs.encoding.QuadGroups.{differ, lane_ahead}
 use Rattle.qoi.proofs.encoding.QuadLoop.{long_pixels, next_before}

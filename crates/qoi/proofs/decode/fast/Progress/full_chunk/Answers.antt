@@ -5,7 +5,8 @@ use Rattle.std.proofs.lemmas.Bool.Decides.{nat_tests}
 use Rattle.std.proofs.lemmas.List.{get_or-drop, length-drop}
 use Rattle.qoi.specs.declared.decode.fast.Progress.{Progress}
 use Rattle.qoi.specs.Qoi.{AreBytes}
-use Rattle.qoi.proofs.decoding.FilledBuffer.{take_whole, block_fits}
+use Rattle.qoi.proofs.format.WholePixels.{take_whole}
+use Rattle.qoi.proofs.decoding.FilledBuffer.{block_fits}
 use Rattle.qoi.proofs.decoding.FirstChunk.{decodes_rgb, decodes_rgba}
 use Rattle.qoi.proofs.decoding.FastSteps.{in_block, fast_step}
 use Rattle.qoi.proofs.decode.fast.Progress.full_chunk.Goals as goal

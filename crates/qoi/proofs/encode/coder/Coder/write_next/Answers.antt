@@ -8,7 +8,7 @@ use Rattle.qoi.specs.Raw.{pixels_of}
 use Rattle.qoi.specs.inner.CoderLoop.{CoderBetween, lane_pixel, before_lane}
 use Rattle.qoi.specs.inner.Packed.{pixel_of_word}
 use Rattle.qoi.specs.inner.Piece.{kept_bytes}
-use Rattle.qoi.proofs.decoding.FilledBuffer.{by_channels}
+use Rattle.qoi.proofs.format.WholePixels.{by_channels}
 use Rattle.qoi.proofs.encoding.GroupRuns.{whole_rest, pixels_drop, drop_next, pixel_ahead}
 use Rattle.qoi.proofs.encoding.QuadGroups.{count_other}
 use Rattle.qoi.proofs.encoding.SpelledLanes.{unpacked}

@@ -1,4 +1,4 @@
--- What a decoder keeps from chunk to chunk.
+-- What is seen, and what the tables hold, after a pixel came some times.
 use Rattle.std.proofs.Common.{◌≡◌, ℕ, zero, suc, ◌<◌, Bool, true, false, List, ◌∷◌, ◌++◌, replicate, cond, eqb, Some, arith, refl, sym, ap, ◌∙◌}
 use Rattle.qoi.specs.Qoi.{RgbaPixel, Past, previous, seen, hash}
 use Rattle.qoi.specs.inner.Hashed.{HoldsSeen}
