@@ -33,7 +33,7 @@ use crate::consts::QOI_PADDING;
 use crate::encode::chunks::encode_chunks;
 use crate::encode::piece::{BUFFER_ROOM, Piece, STREAM_ROOM};
 use crate::error::{Error, Result};
-use crate::header::{Header, max_file_size};
+use crate::header::{Header, max_len};
 use crate::types::{Channels, ColorSpace, Style};
 use crate::writers::{BytesMut, GenericWriter, VecMut, Writer};
 use std::alloc::Global;
@@ -42,7 +42,7 @@ use std::marker::Model;
 
 // Writes the file of an image through a piece with this room, and returns how many bytes it has.
 fn encode_image<W: Writer, const ROOM: usize>(
-    buf: &mut W,
+    writer: &mut W,
     style: Style,
     header: &Header,
     data: &[u8],
@@ -50,22 +50,22 @@ fn encode_image<W: Writer, const ROOM: usize>(
     requires piece { (2 * PAST ≤ ROOM) × (ROOM ≤ STREAM_ROOM) }
     requires valid { IsValid header.now }
     requires image { length «data».now ≡ image_byte_count header.now }
-    requires room { max_file_len header.now ≤ W.room buf.old }
+    requires room { max_file_len header.now ≤ W.room writer.old }
     ensures written { IfOk result (λ n. (bytes : List ℕ)
         × IsFileOf style header.now «data».now bytes
-        × (n ≡ length bytes) × W.wrote buf.old bytes buf.new) }
+        × (n ≡ length bytes) × W.wrote writer.old bytes writer.new) }
     ensures refused { IfErr result (λ e. W.IsFault e × (bytes : List ℕ)
         × IsFileOf style header.now «data».now bytes
-        × WroteBeginning W.wrote buf.old bytes buf.new) }
+        × WroteBeginning W.wrote writer.old bytes writer.new) }
 {
-    let room = buf.capacity();
+    let room = writer.capacity();
     let mut bytes = [0; ROOM];
     let mut piece = Piece::<ROOM>::new(&mut bytes);
     piece.keep(&header.encode());
-    encode_chunks(buf, &mut piece, style, header.channels, data)?;
+    encode_chunks(writer, &mut piece, style, header.channels, data)?;
     piece.keep(&QOI_PADDING);
-    piece.finish(buf)?;
-    Ok(room - buf.capacity())
+    piece.finish(writer)?;
+    Ok(room - writer.capacity())
 }
 
 // The channels that an image of this size has in these raw bytes. Only a refusal takes a division.
@@ -100,7 +100,7 @@ fn channels_found(data: &[u8], header: &Header) -> Result<Channels>
 pub fn encode_max_len(width: u32, height: u32, channels: u8) -> usize
     ensures { result ≡ max_len width height channels }
 {
-    max_file_size(width, height, channels)
+    max_len(width, height, channels)
 }
 
 /// Encodes raw bytes into the front of the buffer, with color space `Srgb` and in style

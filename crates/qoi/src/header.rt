@@ -153,13 +153,13 @@ impl Header {
     pub fn encode_max_len(&self) -> usize
         ensures { result ≡ max_file_len self.now }
     {
-        max_file_size(self.width, self.height, self.channels.as_u8())
+        max_len(self.width, self.height, self.channels.as_u8())
     }
 }
 
 // The most bytes that the file of an image of this size has, or the greatest `usize` if that is
 // less.
-pub(crate) fn max_file_size(width: u32, height: u32, channels: u8) -> usize
+pub(crate) fn max_len(width: u32, height: u32, channels: u8) -> usize
     ensures { result ≡ max_len width height channels }
 {
     let n_pixels = width as usize * height as usize;

@@ -220,14 +220,14 @@ impl<const N: usize> Pixel<N> {
     /// The caller sees to it that the writer has room for `N` + 1 bytes. The only refusals are the
     /// writer's, and then a beginning of the chunk is written.
     #[inline]
-    pub fn encode_into<W: Writer>(&self, px_prev: Pixel<N>, buf: &mut W) -> Result<()>
+    pub fn encode_into<W: Writer>(&self, px_prev: Pixel<N>, writer: &mut W) -> Result<()>
         requires channels { IsChannels N }
-        requires room { N + 1 ≤ W.room buf.old }
+        requires room { N + 1 ≤ W.room writer.old }
         ensures written { OnOk result ((c : Chunk) × Spells self.now px_prev.entry c
-            × W.wrote buf.old (bytes_of c) buf.new) }
+            × W.wrote writer.old (bytes_of c) writer.new) }
         ensures refused { IfErr result (λ e. W.IsFault e × (c : Chunk)
             × Spells self.now px_prev.entry c
-            × WroteBeginning W.wrote buf.old (bytes_of c) buf.new) }
+            × WroteBeginning W.wrote writer.old (bytes_of c) writer.new) }
     {
         let quad = Quad::<N>::splat(self.packed(), px_prev.packed());
         let mut bytes = [0; 8];
@@ -238,7 +238,7 @@ impl<const N: usize> Pixel<N> {
             quad.numbers[0],
             quad.sizes[0],
         );
-        buf.write_many(&bytes[..end])
+        writer.write_many(&bytes[..end])
     }
 
     // The same pixel as one number, opaque if it has three channels.

@@ -77,5 +77,5 @@ IsFrontAfter before bytes size taken = taken ≡ before ++ take size bytes
 
 -- `DecoderBetween` for the fast loop over these bytes, which also has the byte that comes next
 pub record FastBetween (file_channels channels n : ℕ) (before bytes : List ℕ) (now : Progress) (table out : List ℕ) : Type 0 where
-  pub between : DecoderBetween file_channels channels n (IsFrontAfter before bytes now.taken) (filling table now.last out now.written)
+  pub between : DecoderBetween file_channels channels n (IsFrontAfter before bytes now.taken) (filling table now.last out now.at)
   pub next_is : now.next ≡ slice_index bytes now.taken

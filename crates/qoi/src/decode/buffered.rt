@@ -49,15 +49,15 @@ fn chunks_in_buffer<R: BufRead, const N: usize, const F: usize>(
     let bytes = reader.fill_buf()?;
     let now = Progress::fast_chunks::<N, F>(table, last, bytes, out, at);
     reader.consume(now.taken);
-    Ok((now.last, now.written))
+    Ok((now.last, now.at))
 }
 
 // Decodes chunks from a reader with a buffer, after the pixel `last` and the first `at` bytes of
-// `out`: if `ROOM`, as long as `out` has room for the blocks of any run, else until it is full.
+// `out`: if `RUN_FITS`, as long as `out` has room for the blocks of any run, else until it is full.
 // Takes no byte past the last chunk. Each turn reads one chunk, which may stand across two fillings
 // of the buffer, and then takes those that the buffer shows.
 #[inline(always)]
-fn decode_chunks<R: BufRead, const N: usize, const F: usize, const ROOM: bool>(
+fn decode_chunks<R: BufRead, const N: usize, const F: usize, const RUN_FITS: bool>(
     reader: &mut R,
     table: &mut TermTable,
     last: Hashed,
@@ -73,20 +73,20 @@ fn decode_chunks<R: BufRead, const N: usize, const F: usize, const ROOM: bool>(
         (filling table.old last out.old at)
         → IfOk result (λ now. DecoderBetween F N n (Consumes start (R.remaining reader.new))
         (filling table.new now.0 out.new now.1)) }
-    ensures below { IsTrue ROOM → at < length out.old
+    ensures below { IsTrue RUN_FITS → at < length out.old
         → IfOk result (λ now. now.1 < length out.new) }
-    ensures filled { IsTrue ROOM → IfOk result (λ now. length out.new < now.1 + RUN_ROOM) }
-    ensures full { IsFalse ROOM → IfOk result (λ now. length out.new ≤ now.1) }
+    ensures filled { IsTrue RUN_FITS → IfOk result (λ now. length out.new < now.1 + RUN_ROOM) }
+    ensures full { IsFalse RUN_FITS → IfOk result (λ now. length out.new ≤ now.1) }
     ensures failed { (n : ℕ) (start : Option (List ℕ))
         → DecoderBetween F N n (Consumes start (R.remaining reader.old))
         (filling table.old last out.old at)
         → OnErr result (HasTaken start (R.remaining reader.new) (EndsBefore n)) }
 {
-    let least = if ROOM { RUN_ROOM } else { 1 };
+    let least = if RUN_FITS { RUN_ROOM } else { 1 };
     let mut last = last;
     let mut at = at;
     while least <= out.len() - at {
-        let decoded = next_chunk::<R, N, F, ROOM>(reader, table, last, out, at)?;
+        let decoded = next_chunk::<R, N, F, RUN_FITS>(reader, table, last, out, at)?;
         let now = chunks_in_buffer::<R, N, F>(reader, table, decoded.last, out, decoded.at)?;
         last = now.0;
         at = now.1;

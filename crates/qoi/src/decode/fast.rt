@@ -20,13 +20,13 @@ const INPUT_ROOM: usize = 14;
 // Bytes of room for the blocks of four short chunks and of a full one.
 pub(super) const OUTPUT_ROOM: usize = 80;
 
-/// What a decoder has between two chunks: the last pixel, how many bytes are taken and written, and
-/// the byte that comes next (0 if the loop wasn't entered).
+/// What a decoder has between two chunks: the last pixel, how many bytes are taken, where the
+/// output stopped, and the byte that comes next (0 if the loop wasn't entered).
 #[derive(Clone, Copy)]
 pub(super) struct Progress {
     pub(super) last: Hashed,
     pub(super) taken: usize,
-    pub(super) written: usize,
+    pub(super) at: usize,
     // As a `usize` its comparison was made twice, as a `u8` it was widened at each use.
     pub(super) next: u32,
 }
@@ -55,26 +55,25 @@ impl Progress {
     ) -> Progress
         requires channels { IsChannels N }
         requires input { self.taken + 3 ≤ length bytes.now }
-        requires room { self.written + 16 ≤ length out.old }
+        requires room { self.at + 16 ≤ length out.old }
         requires short { self.next ≤ run_tag - 1 + 16 / N }
         ensures between { (n : ℕ) (before : List ℕ)
             → FastBetween F N n before bytes.now self table.old out.old
             → FastBetween F N n before bytes.now result table.new out.new }
         ensures taken { (self.taken < result.taken) × (result.taken ≤ self.taken + 2) }
-        ensures written { (self.written ≤ result.written)
-            × (result.written ≤ self.written + 16) }
+        ensures written { (self.at ≤ result.at) × (result.at ≤ self.at + 16) }
         ensures byte { result.next < 256 }
     {
         let b1 = self.next as usize;
         let (one, two) = (bytes[self.taken + 1], bytes[self.taken + 2]);
         let last = self.last.after_short(table.at(b1), b1, one);
         table.put(last);
-        write_block::<N, F>(out, self.written, last);
+        write_block::<N, F>(out, self.at, last);
         let luma = is_luma(self.next);
         Progress {
             last,
             taken: self.taken + 1 + usize::from(luma),
-            written: self.written + advance::<N>(b1),
+            at: self.at + advance::<N>(b1),
             next: u32::from(pick(luma, two, one)),
         }
     }
@@ -89,15 +88,14 @@ impl Progress {
     ) -> Progress
         requires channels { IsChannels N }
         requires input { self.taken + 9 ≤ length bytes.now }
-        requires room { self.written + 64 ≤ length out.old }
+        requires room { self.at + 64 ≤ length out.old }
         requires byte { self.next < 256 }
         ensures between { (n : ℕ) (before : List ℕ)
             → FastBetween F N n before bytes.now self table.old out.old
             → FastBetween F N n before bytes.now result table.new out.new }
         ensures taken { (self.taken ≤ result.taken) × (result.taken ≤ self.taken + 8) }
         ensures some { result.next ≤ run_tag - 1 + 16 / N → self.taken < result.taken }
-        ensures written { (self.written ≤ result.written)
-            × (result.written ≤ self.written + 64) }
+        ensures written { (self.at ≤ result.at) × (result.at ≤ self.at + 64) }
         ensures byte { result.next < 256 }
     {
         if !is_short::<N>(self.next) {
@@ -128,24 +126,24 @@ impl Progress {
     ) -> Progress
         requires channels { IsChannels N }
         requires input { self.taken + 6 ≤ length bytes.now }
-        requires room { self.written + 16 ≤ length out.old }
+        requires room { self.at + 16 ≤ length out.old }
         requires full { (rgb_tag ≤ self.next) × (self.next < 256) }
         ensures between { (n : ℕ) (before : List ℕ)
             → FastBetween F N n before bytes.now self table.old out.old
             → FastBetween F N n before bytes.now result table.new out.new }
         ensures taken { (self.taken < result.taken) × (result.taken ≤ self.taken + 5) }
-        ensures written { self.written ≤ result.written }
-        ensures most { result.written ≤ self.written + 4 }
+        ensures written { self.at ≤ result.at }
+        ensures most { result.at ≤ self.at + 4 }
         ensures byte { result.next < 256 }
     {
         let last = self.last.after_full(&bytes[self.taken..]);
         table.put(last);
-        write_block::<N, F>(out, self.written, last);
+        write_block::<N, F>(out, self.at, last);
         let taken = self.taken + 4 + usize::from(self.next == QOI_OP_RGBA as u32);
         Progress {
             last,
             taken,
-            written: self.written + N,
+            at: self.at + N,
             next: u32::from(bytes[taken]),
         }
     }
@@ -161,27 +159,27 @@ impl Progress {
     ) -> Progress
         requires channels { IsChannels N }
         requires input { self.taken + 2 ≤ length bytes.now }
-        requires room { self.written + N * (self.next - (run_tag - 1)) < length out.old }
+        requires room { self.at + N * (self.next - (run_tag - 1)) < length out.old }
         requires run { (run_tag ≤ self.next) × (self.next < rgb_tag) }
         ensures between { (n : ℕ) (before : List ℕ)
             → FastBetween F N n before bytes.now self table.old out.old
             → FastBetween F N n before bytes.now result table.new out.new }
         ensures taken { result.taken ≡ self.taken + 1 }
-        ensures written { self.written ≤ result.written }
-        ensures below { result.written < length out.old }
+        ensures written { self.at ≤ result.at }
+        ensures below { result.at < length out.old }
         ensures byte { result.next < 256 }
     {
         let count = (self.next - (QOI_OP_RUN as u32 - 1)) as usize;
         table.put(self.last);
-        if RUN_ROOM <= out.len() - self.written {
-            write_run::<N, F>(out, self.written, self.last, count);
+        if RUN_ROOM <= out.len() - self.at {
+            write_run::<N, F>(out, self.at, self.last, count);
         } else {
-            write_late_run::<N, F>(out, self.written, self.last, count);
+            write_late_run::<N, F>(out, self.at, self.last, count);
         }
         Progress {
             last: self.last,
             taken: self.taken + 1,
-            written: self.written + N * count,
+            at: self.at + N * count,
             next: u32::from(bytes[self.taken + 1]),
         }
     }
@@ -202,15 +200,15 @@ impl Progress {
             → DecoderBetween F N n (IsFrontAfter before bytes.now 0)
             (filling table.old last out.old at)
             → DecoderBetween F N n (IsFrontAfter before bytes.now result.taken)
-            (filling table.new result.last out.new result.written) }
+            (filling table.new result.last out.new result.at) }
         ensures within { result.taken ≤ length bytes.now }
-        ensures written { at ≤ result.written }
-        ensures below { at < length out.old → result.written < length out.new }
+        ensures written { at ≤ result.at }
+        ensures below { at < length out.old → result.at < length out.new }
     {
         let mut now = Progress {
             last,
             taken: 0,
-            written: at,
+            at,
             next: 0,
         };
         if bytes.len() < INPUT_ROOM || out.len() < OUTPUT_ROOM {
@@ -219,14 +217,14 @@ impl Progress {
         now.next = u32::from(bytes[0]);
         let far = bytes.len() - INPUT_ROOM;
         let top = out.len() - OUTPUT_ROOM;
-        while now.taken <= far && now.written <= top {
+        while now.taken <= far && now.at <= top {
             now = now.short_chunks::<N, F>(table, bytes, out);
             if is_short::<N>(now.next) {
                 continue;
             }
             if now.next >= QOI_OP_RGB as u32 {
                 now = now.full_chunk::<N, F>(table, bytes, out);
-            } else if advance::<N>(now.next as usize) < out.len() - now.written {
+            } else if advance::<N>(now.next as usize) < out.len() - now.at {
                 now = now.long_run::<N, F>(table, bytes, out);
             } else {
                 break;

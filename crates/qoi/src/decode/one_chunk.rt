@@ -42,10 +42,10 @@ pub(super) struct Decoded {
     pub(super) at: usize,
 }
 
-/// Decodes the first chunk of the bytes. If `ROOM`, the output has room for the blocks of any run;
-/// else how much it has is tested. The second byte is read even if the chunk has only one.
+/// Decodes the first chunk of the bytes. If `RUN_FITS`, the output has room for the blocks of any
+/// run; else how much it has is tested. The second byte is read even if the chunk has only one.
 #[inline(always)]
-pub(super) fn decode_chunk<const N: usize, const F: usize, const ROOM: bool>(
+pub(super) fn decode_chunk<const N: usize, const F: usize, const RUN_FITS: bool>(
     table: &mut TermTable,
     last: Hashed,
     bytes: &[u8],
@@ -56,7 +56,7 @@ pub(super) fn decode_chunk<const N: usize, const F: usize, const ROOM: bool>(
     requires long { 8 ≤ length bytes.now }
     requires whole { IsWholePixels N (length out.old) at }
     requires inside { at < length out.old }
-    requires room { IsTrue ROOM → at + RUN_ROOM ≤ length out.old }
+    requires room { IsTrue RUN_FITS → at + RUN_ROOM ≤ length out.old }
     ensures taken { result.taken ≤ length bytes.now }
     ensures decodes { DecodesChunk F N (take result.taken bytes.now)
         (filling table.old last out.old at)
@@ -79,6 +79,6 @@ pub(super) fn decode_chunk<const N: usize, const F: usize, const ROOM: bool>(
     Decoded {
         taken,
         last,
-        at: fill::<N, F, ROOM>(out, at, last, times(b1), size),
+        at: fill::<N, F, RUN_FITS>(out, at, last, times(b1), size),
     }
 }

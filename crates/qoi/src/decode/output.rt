@@ -122,23 +122,23 @@ pub(super) fn write_late_run<const N: usize, const F: usize>(
     write_pixels::<N, F>(out, at, px, count);
 }
 
-// How many bytes of room to rely on after the first `at`: all that there are, or if `ROOM` just
+// How many bytes of room to rely on after the first `at`: all that there are, or if `RUN_FITS` just
 // those of the blocks of any run, without a test.
 #[inline(always)]
-fn known_room<const ROOM: bool>(size: usize, at: usize) -> usize
+fn known_room<const RUN_FITS: bool>(size: usize, at: usize) -> usize
     requires within { at ≤ size }
-    requires room { IsTrue ROOM → at + RUN_ROOM ≤ size }
+    requires room { IsTrue RUN_FITS → at + RUN_ROOM ≤ size }
     ensures within { at + result ≤ size }
     ensures all { result < RUN_ROOM → result ≡ size - at }
 {
-    if ROOM { RUN_ROOM } else { size - at }
+    if RUN_FITS { RUN_ROOM } else { size - at }
 }
 
 /// Writes a pixel `count` times from `at` on, or as often as there is room, and returns where it
-/// stopped. Together, the `count` pixels have `size` bytes. If `ROOM`, there is room for the blocks
-/// of any run, and how much there is isn't tested.
+/// stopped. Together, the `count` pixels have `size` bytes. If `RUN_FITS`, there is room for the
+/// blocks of any run, and how much there is isn't tested.
 #[inline(always)]
-pub(super) fn fill<const N: usize, const F: usize, const ROOM: bool>(
+pub(super) fn fill<const N: usize, const F: usize, const RUN_FITS: bool>(
     out: &mut [u8],
     at: usize,
     px: Hashed,
@@ -149,14 +149,14 @@ pub(super) fn fill<const N: usize, const F: usize, const ROOM: bool>(
     requires size { size ≡ N * count }
     requires whole { IsWholePixels N (length out.old) at }
     requires inside { at < length out.old }
-    requires room { IsTrue ROOM → at + RUN_ROOM ≤ length out.old }
+    requires room { IsTrue RUN_FITS → at + RUN_ROOM ≤ length out.old }
     requires some { (0 < count) × (count ≤ run_max) }
     ensures filled { (n : ℕ) (past : Past) → HasFilled F N n (upto out.old at) past
         → HasFilled F N n (upto out.new result) (replicate count (pixel_of_lanes px) ++ past) }
     ensures whole { result % N ≡ 0 }
     ensures within { (at < result) × (result ≤ length out.new) }
 {
-    let room = known_room::<ROOM>(out.len(), at);
+    let room = known_room::<RUN_FITS>(out.len(), at);
     if count <= BLOCK / N {
         if BLOCK <= room {
             write_block::<N, F>(out, at, px);

@@ -29,11 +29,11 @@ struct Left<'a> {
 }
 
 // Decodes chunks one by one, with every test, after the pixel `last` and the first `at` bytes of
-// `out`: if `ROOM`, as long as `out` has room for the blocks of any run, else until it is full.
+// `out`: if `RUN_FITS`, as long as `out` has room for the blocks of any run, else until it is full.
 // `None` if fewer than eight bytes are left before that: the file is cut, since its end marker
 // alone has eight.
 #[inline(never)]
-fn last_chunks<'a, const N: usize, const F: usize, const ROOM: bool>(
+fn last_chunks<'a, const N: usize, const F: usize, const RUN_FITS: bool>(
     table: &mut TermTable,
     last: Hashed,
     data: &'a [u8],
@@ -50,12 +50,12 @@ fn last_chunks<'a, const N: usize, const F: usize, const ROOM: bool>(
         → MatchOption result ((all : ℕ) → n ≤ all → IfSome start (AreCut all))
         (λ left. DecoderBetween F N n (Consumes start (Some left.rest.now))
         (filling table.new left.last out.new left.at)) }
-    ensures below { IsTrue ROOM → at < length out.old
+    ensures below { IsTrue RUN_FITS → at < length out.old
         → IfSome result (λ left. left.at < length out.new) }
-    ensures filled { IsTrue ROOM → IfSome result (λ left. length out.new < left.at + RUN_ROOM) }
-    ensures full { IsFalse ROOM → IfSome result (λ left. length out.new ≤ left.at) }
+    ensures filled { IsTrue RUN_FITS → IfSome result (λ left. length out.new < left.at + RUN_ROOM) }
+    ensures full { IsFalse RUN_FITS → IfSome result (λ left. length out.new ≤ left.at) }
 {
-    let least = if ROOM { RUN_ROOM } else { 1 };
+    let least = if RUN_FITS { RUN_ROOM } else { 1 };
     let mut last = last;
     let mut rest = data;
     let mut at = at;
@@ -63,7 +63,7 @@ fn last_chunks<'a, const N: usize, const F: usize, const ROOM: bool>(
         if rest.len() < QOI_PADDING_SIZE {
             return None;
         }
-        let decoded = decode_chunk::<N, F, ROOM>(table, last, rest, out, at);
+        let decoded = decode_chunk::<N, F, RUN_FITS>(table, last, rest, out, at);
         let (_, after) = rest.split_at(decoded.taken);
         rest = after;
         last = decoded.last;
@@ -74,7 +74,7 @@ fn last_chunks<'a, const N: usize, const F: usize, const ROOM: bool>(
 
 // The same, by the fast loop while there is room ahead for it.
 #[inline(always)]
-fn slice_chunks<'a, const N: usize, const F: usize, const ROOM: bool>(
+fn slice_chunks<'a, const N: usize, const F: usize, const RUN_FITS: bool>(
     table: &mut TermTable,
     last: Hashed,
     data: &'a [u8],
@@ -91,14 +91,14 @@ fn slice_chunks<'a, const N: usize, const F: usize, const ROOM: bool>(
         → MatchOption result ((all : ℕ) → n ≤ all → IfSome start (AreCut all))
         (λ left. DecoderBetween F N n (Consumes start (Some left.rest.now))
         (filling table.new left.last out.new left.at)) }
-    ensures below { IsTrue ROOM → at < length out.old
+    ensures below { IsTrue RUN_FITS → at < length out.old
         → IfSome result (λ left. left.at < length out.new) }
-    ensures filled { IsTrue ROOM → IfSome result (λ left. length out.new < left.at + RUN_ROOM) }
-    ensures full { IsFalse ROOM → IfSome result (λ left. length out.new ≤ left.at) }
+    ensures filled { IsTrue RUN_FITS → IfSome result (λ left. length out.new < left.at + RUN_ROOM) }
+    ensures full { IsFalse RUN_FITS → IfSome result (λ left. length out.new ≤ left.at) }
 {
     let now = Progress::fast_chunks::<N, F>(table, last, data, out, at);
     let (_, rest) = data.split_at(now.taken);
-    last_chunks::<N, F, ROOM>(table, now.last, rest, out, now.written)
+    last_chunks::<N, F, RUN_FITS>(table, now.last, rest, out, now.at)
 }
 
 // Checks that the end marker stands at the front, and returns the bytes after it.

@@ -86,10 +86,10 @@ fn read_one<R: Read>(reader: &mut R) -> io::Result<u8>
     Ok(one[0])
 }
 
-// Reads one chunk from a stream, and no byte past it, and decodes it. If `ROOM`, the output has
+// Reads one chunk from a stream, and no byte past it, and decodes it. If `RUN_FITS`, the output has
 // room for the blocks of any run.
 #[inline(always)]
-pub(super) fn next_chunk<R: Read, const N: usize, const F: usize, const ROOM: bool>(
+pub(super) fn next_chunk<R: Read, const N: usize, const F: usize, const RUN_FITS: bool>(
     reader: &mut R,
     table: &mut TermTable,
     last: Hashed,
@@ -99,7 +99,7 @@ pub(super) fn next_chunk<R: Read, const N: usize, const F: usize, const ROOM: bo
     requires channels { IsChannels N }
     requires whole { IsWholePixels N (length out.old) at }
     requires inside { at < length out.old }
-    requires room { IsTrue ROOM → at + RUN_ROOM ≤ length out.old }
+    requires room { IsTrue RUN_FITS → at + RUN_ROOM ≤ length out.old }
     ensures read { IfOk result (λ decoded.
         HasTaken (R.remaining reader.old) (R.remaining reader.new)
         (λ taken. DecodesChunk F N taken (filling table.old last out.old at)
@@ -113,28 +113,28 @@ pub(super) fn next_chunk<R: Read, const N: usize, const F: usize, const ROOM: bo
     if is_luma(u32::from(b1)) {
         let b2 = read_one(reader)?;
         let bytes = [b1, b2, 0, 0, 0, 0, 0, 0];
-        return Ok(decode_chunk::<N, F, ROOM>(table, last, &bytes, out, at));
+        return Ok(decode_chunk::<N, F, RUN_FITS>(table, last, &bytes, out, at));
     }
     if b1 < QOI_OP_RGB {
         let bytes = [b1, 0, 0, 0, 0, 0, 0, 0];
-        return Ok(decode_chunk::<N, F, ROOM>(table, last, &bytes, out, at));
+        return Ok(decode_chunk::<N, F, RUN_FITS>(table, last, &bytes, out, at));
     }
     if b1 == QOI_OP_RGB {
         let mut more = [0, 0, 0];
         read_exact(reader, &mut more)?;
         let bytes = [b1, more[0], more[1], more[2], 0, 0, 0, 0];
-        return Ok(decode_chunk::<N, F, ROOM>(table, last, &bytes, out, at));
+        return Ok(decode_chunk::<N, F, RUN_FITS>(table, last, &bytes, out, at));
     }
     let mut more = [0, 0, 0, 0];
     read_exact(reader, &mut more)?;
     let bytes = [b1, more[0], more[1], more[2], more[3], 0, 0, 0];
-    Ok(decode_chunk::<N, F, ROOM>(table, last, &bytes, out, at))
+    Ok(decode_chunk::<N, F, RUN_FITS>(table, last, &bytes, out, at))
 }
 
 // Decodes chunks from a stream, after the pixel `last` and the first `at` bytes of `out`: if
-// `ROOM`, as long as `out` has room for the blocks of any run, else until it is full. Takes no byte
-// past the last chunk. Returns the last pixel, and where in `out` it stopped.
-fn decode_chunks<R: Read, const N: usize, const F: usize, const ROOM: bool>(
+// `RUN_FITS`, as long as `out` has room for the blocks of any run, else until it is full. Takes no
+// byte past the last chunk. Returns the last pixel, and where in `out` it stopped.
+fn decode_chunks<R: Read, const N: usize, const F: usize, const RUN_FITS: bool>(
     reader: &mut R,
     table: &mut TermTable,
     last: Hashed,
@@ -150,20 +150,20 @@ fn decode_chunks<R: Read, const N: usize, const F: usize, const ROOM: bool>(
         (filling table.old last out.old at)
         → IfOk result (λ now. DecoderBetween F N n (Consumes start (R.remaining reader.new))
         (filling table.new now.0 out.new now.1)) }
-    ensures below { IsTrue ROOM → at < length out.old
+    ensures below { IsTrue RUN_FITS → at < length out.old
         → IfOk result (λ now. now.1 < length out.new) }
-    ensures filled { IsTrue ROOM → IfOk result (λ now. length out.new < now.1 + RUN_ROOM) }
-    ensures full { IsFalse ROOM → IfOk result (λ now. length out.new ≤ now.1) }
+    ensures filled { IsTrue RUN_FITS → IfOk result (λ now. length out.new < now.1 + RUN_ROOM) }
+    ensures full { IsFalse RUN_FITS → IfOk result (λ now. length out.new ≤ now.1) }
     ensures failed { (n : ℕ) (start : Option (List ℕ))
         → DecoderBetween F N n (Consumes start (R.remaining reader.old))
         (filling table.old last out.old at)
         → OnErr result (HasTaken start (R.remaining reader.new) (EndsBefore n)) }
 {
-    let least = if ROOM { RUN_ROOM } else { 1 };
+    let least = if RUN_FITS { RUN_ROOM } else { 1 };
     let mut last = last;
     let mut at = at;
     while least <= out.len() - at {
-        let decoded = next_chunk::<R, N, F, ROOM>(reader, table, last, out, at)?;
+        let decoded = next_chunk::<R, N, F, RUN_FITS>(reader, table, last, out, at)?;
         last = decoded.last;
         at = decoded.at;
     }

@@ -17,7 +17,7 @@ use crate::writers::Writer;
 // `encode_chunks` for `N` channels. `STYLE` is a number for each style, so that each has a function
 // of its own: one for all would test the style at each pixel.
 fn encode_pixels<W: Writer, const N: usize, const STYLE: u8, const ROOM: usize>(
-    buf: &mut W,
+    writer: &mut W,
     piece: &mut Piece<ROOM>,
     style: Style,
     data: &[u8],
@@ -25,12 +25,13 @@ fn encode_pixels<W: Writer, const N: usize, const STYLE: u8, const ROOM: usize>(
     requires channels { IsChannels N }
     requires whole { length «data».now % N ≡ 0 }
     requires not_full { piece.old.end < ROOM - PAST }
-    requires room { piece.old.end + (length «data».now + length «data».now / N) ≤ W.room buf.old }
+    requires room { piece.old.end + (length «data».now + length «data».now / N)
+        ≤ W.room writer.old }
     ensures end { OnOk result (piece.new.end < ROOM - PAST + 2 * READ) }
     ensures written { OnOk result (WroteChunks W.wrote style (pixels_of N «data».now)
-        buf.old piece.old buf.new piece.new) }
+        writer.old piece.old writer.new piece.new) }
     ensures refused { IfErr result (λ e. W.IsFault e
-        × BeganChunks W.wrote style (pixels_of N «data».now) buf.old piece.old buf.new) }
+        × BeganChunks W.wrote style (pixels_of N «data».now) writer.old piece.old writer.new) }
 {
     let mut table = PixelTable::new();
     let mut coder = Coder::<N>::new(style);
@@ -41,14 +42,14 @@ fn encode_pixels<W: Writer, const N: usize, const STYLE: u8, const ROOM: usize>(
             coder.write_rest(&mut table, piece, rest);
             return Ok(());
         }
-        piece.send(buf)?;
+        piece.send(writer)?;
     }
 }
 
 /// Writes an image's raw bytes as chunks into the piece, and sends a full piece to the writer each
 /// time there is one. What is left at the end stays in the piece, which may be full.
 pub(super) fn encode_chunks<W: Writer, const ROOM: usize>(
-    buf: &mut W,
+    writer: &mut W,
     piece: &mut Piece<ROOM>,
     style: Style,
     channels: Channels,
@@ -57,20 +58,21 @@ pub(super) fn encode_chunks<W: Writer, const ROOM: usize>(
     requires whole { length «data».now % channels_number channels ≡ 0 }
     requires not_full { piece.old.end < ROOM - PAST }
     requires room { piece.old.end
-        + (length «data».now + length «data».now / channels_number channels) ≤ W.room buf.old }
+        + (length «data».now + length «data».now / channels_number channels) ≤ W.room writer.old }
     ensures end { OnOk result (piece.new.end < ROOM - PAST + 2 * READ) }
     ensures written { OnOk result (WroteChunks W.wrote style
-        (pixels_of (channels_number channels) «data».now) buf.old piece.old buf.new piece.new) }
+        (pixels_of (channels_number channels) «data».now)
+        writer.old piece.old writer.new piece.new) }
     ensures refused { IfErr result (λ e. W.IsFault e × BeganChunks W.wrote style
-        (pixels_of (channels_number channels) «data».now) buf.old piece.old buf.new) }
+        (pixels_of (channels_number channels) «data».now) writer.old piece.old writer.new) }
 {
     // A loop for each pair, in which channels and style are constants.
     match (channels, style) {
-        (Rgb, Reference) => encode_pixels::<W, 3, 0, ROOM>(buf, piece, Reference, data),
-        (Rgb, Places) => encode_pixels::<W, 3, 1, ROOM>(buf, piece, Places, data),
-        (Rgb, Tight) => encode_pixels::<W, 3, 2, ROOM>(buf, piece, Tight, data),
-        (Rgba, Reference) => encode_pixels::<W, 4, 0, ROOM>(buf, piece, Reference, data),
-        (Rgba, Places) => encode_pixels::<W, 4, 1, ROOM>(buf, piece, Places, data),
-        (Rgba, Tight) => encode_pixels::<W, 4, 2, ROOM>(buf, piece, Tight, data),
+        (Rgb, Reference) => encode_pixels::<W, 3, 0, ROOM>(writer, piece, Reference, data),
+        (Rgb, Places) => encode_pixels::<W, 3, 1, ROOM>(writer, piece, Places, data),
+        (Rgb, Tight) => encode_pixels::<W, 3, 2, ROOM>(writer, piece, Tight, data),
+        (Rgba, Reference) => encode_pixels::<W, 4, 0, ROOM>(writer, piece, Reference, data),
+        (Rgba, Places) => encode_pixels::<W, 4, 1, ROOM>(writer, piece, Places, data),
+        (Rgba, Tight) => encode_pixels::<W, 4, 2, ROOM>(writer, piece, Tight, data),
     }
 }

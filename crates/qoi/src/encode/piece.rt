@@ -124,49 +124,49 @@ impl<'a, const ROOM: usize> Piece<'a, ROOM> {
 
     /// Sends a full piece to a writer; the bytes after it are kept.
     #[inline(always)]
-    pub(super) fn send<W: Writer>(&mut self, buf: &mut W) -> Result<()>
+    pub(super) fn send<W: Writer>(&mut self, writer: &mut W) -> Result<()>
         requires full { ROOM - PAST ≤ self.old.end }
-        requires room { ROOM - PAST ≤ W.room buf.old }
+        requires room { ROOM - PAST ≤ W.room writer.old }
         ensures written { OnOk result
-            (W.wrote buf.old (take (ROOM - PAST) (kept_bytes self.old)) buf.new) }
+            (W.wrote writer.old (take (ROOM - PAST) (kept_bytes self.old)) writer.new) }
         ensures kept { OnOk result
             (kept_bytes self.new ≡ drop (ROOM - PAST) (kept_bytes self.old)) }
         ensures end { OnOk result (self.new.end + (ROOM - PAST) ≡ self.old.end) }
-        ensures refused { IfErr result (λ e. W.IsFault e
-            × WroteBeginning W.wrote buf.old (take (ROOM - PAST) (kept_bytes self.old)) buf.new) }
+        ensures refused { IfErr result (λ e. W.IsFault e × WroteBeginning W.wrote writer.old
+            (take (ROOM - PAST) (kept_bytes self.old)) writer.new) }
     {
-        send_front::<W, ROOM>(buf, self.bytes)?;
+        send_front::<W, ROOM>(writer, self.bytes)?;
         self.end -= ROOM - PAST;
         Ok(())
     }
 
     /// Sends all the bytes to a writer, a full piece first if there is one. Doesn't empty `self`.
     #[inline(always)]
-    pub(super) fn finish<W: Writer>(&mut self, buf: &mut W) -> Result<()>
-        requires { self.old.end ≤ W.room buf.old }
-        ensures written { OnOk result (W.wrote buf.old (kept_bytes self.old) buf.new) }
+    pub(super) fn finish<W: Writer>(&mut self, writer: &mut W) -> Result<()>
+        requires { self.old.end ≤ W.room writer.old }
+        ensures written { OnOk result (W.wrote writer.old (kept_bytes self.old) writer.new) }
         ensures refused { IfErr result (λ e. W.IsFault e
-            × WroteBeginning W.wrote buf.old (kept_bytes self.old) buf.new) }
+            × WroteBeginning W.wrote writer.old (kept_bytes self.old) writer.new) }
     {
         if self.is_full() {
-            self.send(buf)?;
+            self.send(writer)?;
         }
-        buf.write_many(&self.bytes[..self.end])
+        writer.write_many(&self.bytes[..self.end])
     }
 }
 
 // Sends a full piece to a writer, and moves the bytes after it to the front.
 #[inline(never)]
-fn send_front<W: Writer, const ROOM: usize>(buf: &mut W, bytes: &mut [u8]) -> Result<()>
+fn send_front<W: Writer, const ROOM: usize>(writer: &mut W, bytes: &mut [u8]) -> Result<()>
     requires large { 2 * PAST ≤ ROOM }
     requires size { length bytes.old ≡ ROOM }
-    requires room { ROOM - PAST ≤ W.room buf.old }
-    ensures written { OnOk result (W.wrote buf.old (take (ROOM - PAST) bytes.old) buf.new) }
+    requires room { ROOM - PAST ≤ W.room writer.old }
+    ensures written { OnOk result (W.wrote writer.old (take (ROOM - PAST) bytes.old) writer.new) }
     ensures moved { OnOk result (bytes.new ≡ copy_within bytes.old (ROOM - PAST) ROOM 0) }
     ensures refused { IfErr result (λ e. W.IsFault e
-        × WroteBeginning W.wrote buf.old (take (ROOM - PAST) bytes.old) buf.new) }
+        × WroteBeginning W.wrote writer.old (take (ROOM - PAST) bytes.old) writer.new) }
 {
-    buf.write_many(&bytes[..ROOM - PAST])?;
+    writer.write_many(&bytes[..ROOM - PAST])?;
     bytes.copy_within(ROOM - PAST.., 0);
     Ok(())
 }

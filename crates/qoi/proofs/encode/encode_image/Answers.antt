@@ -21,28 +21,28 @@ returns-in_err-encode_chunks-clause-refused g c =
       r.0,
       file h r.1.0,
       theirs,
-      chunks_part g.met.W.Writer.laws h r.1.0 c.args.buf.now (kept_bytes c.keep.new.self) front r.1.2,
+      chunks_part g.met.W.Writer.laws h r.1.0 c.args.writer.now (kept_bytes c.keep.new.self) front r.1.2,
     )
 
 -- all of the file went but what is kept
-all_but_kept : (g : Over) (c : After-keep-2 g) → WroteBut g.W.Writer.wrote c.args.buf.now (file c.args.header.now c.in_ok-encode_chunks.ensures.written.0)
-    (kept_bytes c.keep-2.new.self) c.encode_chunks.new.buf
+all_but_kept : (g : Over) (c : After-keep-2 g) → WroteBut g.W.Writer.wrote c.args.writer.now (file c.args.header.now c.in_ok-encode_chunks.ensures.written.0)
+    (kept_bytes c.keep-2.new.self) c.encode_chunks.new.writer
 all_but_kept g c =
     let w = c.in_ok-encode_chunks.ensures.written in
     let front : kept_bytes c.keep.new.self ≡ header_bytes c.args.header.now = c.keep.ensures.kept ∙ ap (λ z. z ++ c.encode.result) c.new-piece.ensures
     ∙ c.encode.ensures in
-    marker_kept g.met.W.Writer.laws c.args.header.now w.0 c.args.buf.now (kept_bytes c.keep.new.self) front w.2 c.keep-2.ensures.kept
+    marker_kept g.met.W.Writer.laws c.args.header.now w.0 c.args.writer.now (kept_bytes c.keep.new.self) front w.2 c.keep-2.ensures.kept
 
 pub finish-requires : goal.finish-requires
 finish-requires g c =
     let h = c.args.header.now in
     let w = c.in_ok-encode_chunks.ensures.written in
-    let enough : 22 + length (chunk_bytes w.0) ≤ g.W.Writer.room c.args.buf.now =
+    let enough : 22 + length (chunk_bytes w.0) ≤ g.W.Writer.room c.args.writer.now =
     omega (arith, c.requires.room, max_is_exact h c.requires.valid, text_fits h c.args.data.now c.requires.valid c.requires.image c.args.style w.0 w.1) in
     omega (
       arith,
       kept_length c.keep-2.new.self,
-      last_fits g.met.W.Writer.laws h w.0 c.args.buf.now (all_but_kept g (goal.at.finish-requires g c).After-keep-2) enough,
+      last_fits g.met.W.Writer.laws h w.0 c.args.writer.now (all_but_kept g (goal.at.finish-requires g c).After-keep-2) enough,
     )
 
 pub returns-in_err-finish-clause-refused : goal.returns-in_err-finish-clause-refused
@@ -56,7 +56,7 @@ returns-in_err-finish-clause-refused g c =
       r.0,
       file h w.0,
       theirs,
-      last_part g.met.W.Writer.laws h w.0 c.args.buf.now (all_but_kept g (goal.at.returns-in_err-finish-clause-refused g c).After-keep-2) r.1,
+      last_part g.met.W.Writer.laws h w.0 c.args.writer.now (all_but_kept g (goal.at.returns-in_err-finish-clause-refused g c).After-keep-2) r.1,
     )
 
 pub returns-clause-written : goal.returns-clause-written
@@ -66,9 +66,9 @@ returns-clause-written g c =
     let all = all_but_kept g (goal.at.returns-clause-written g c).After-keep-2 in
     let went = c.in_ok-finish.ensures.written in
     let theirs = file_of h c.args.data.now c.requires.valid c.requires.image c.args.style (λ i. omega (arith, c.type_inv.data i)) w.0 w.1 in
-    let counted = file_counts g.met.W.Writer.laws h w.0 c.args.buf.now all went in (
+    let counted = file_counts g.met.W.Writer.laws h w.0 c.args.writer.now all went in (
       file h w.0,
       theirs,
       rw (c.capacity-room.ensures, c.capacity.ensures) counted,
-      file_went g.met.W.Writer.laws h w.0 c.args.buf.now all went,
+      file_went g.met.W.Writer.laws h w.0 c.args.writer.now all went,
     )

@@ -10,7 +10,7 @@ use Rattle.qoi.proofs.decode.slice.slice_chunks.Goals as goal
 -- after the fast loop
 after : (g : Over) (c : After-split_at g) (n : ℕ) (start : Option (List ℕ))
     → DecoderBetween g.row.F g.row.N n (Consumes start (Some c.args.data.now)) (filling c.args.table.now c.args.last c.args.out.now c.args.at)
-    → DecoderBetween g.row.F g.row.N n (Consumes start (Some c.split_at.result.1.now)) (filling c.fast_chunks-now.new.table c.fast_chunks-now.result.last c.fast_chunks-now.new.out c.fast_chunks-now.result.written)
+    → DecoderBetween g.row.F g.row.N n (Consumes start (Some c.split_at.result.1.now)) (filling c.fast_chunks-now.new.table c.fast_chunks-now.result.last c.fast_chunks-now.new.out c.fast_chunks-now.result.at)
 after g c n start h =
     let bytes = c.args.data.now in
     let size = c.fast_chunks-now.result.taken in

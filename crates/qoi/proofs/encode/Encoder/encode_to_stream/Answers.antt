@@ -13,12 +13,12 @@ returns-in_err-n-clause-refused g c =
     let went = r.3.1.went in
     let same = went.same_writer in
     let front = appends_as g.W.Write.contents (g.W.Write.contents
-    (stream_writer c.encode_image.new.buf)) r.3.1.front c.new-writer.ensures.value went.appended in
+    (stream_writer c.encode_image.new.writer)) r.3.1.front c.new-writer.ensures.value went.appended in
     rw (e.1, e.2) (r.0, sends_part _ r.1 _ _ (own_file c.self.view_is r.2) (r.3.1.front, r.3.0, r.3.1.split, search rules))
 
 pub returns-clause-sent : goal.returns-clause-sent
 returns-clause-sent g c =
     let w = c.in_ok-n.ensures.written in
-    let sent = appends_as g.W.Write.contents (g.W.Write.contents (stream_writer c.encode_image.new.buf)) w.0 c.new-writer.ensures.value w.3.appended in
+    let sent = appends_as g.W.Write.contents (g.W.Write.contents (stream_writer c.encode_image.new.writer)) w.0 c.new-writer.ensures.value w.3.appended in
     let same = w.3.same_writer in
     sends_file _ w.0 _ _ _ (own_file c.self.view_is w.1) w.2 (search rules)

@@ -10,8 +10,8 @@ invariant-loop-coder g l = record {
   end : l.piece.end < g.row.ROOM - PAST;
   whole : length l.rest % g.row.N ≡ 0;
   state : PieceBetween g.W.Writer.wrote g.W.Writer.room
-      (record { start = l.initial.buf; front = kept_bytes l.initial.piece; style = l.fn.style; raw = l.data })
-      l.rest l.table l.coder (kept_bytes l.piece) l.buf;
+      (record { start = l.initial.writer; front = kept_bytes l.initial.piece; style = l.fn.style; raw = l.data })
+      l.rest l.table l.coder (kept_bytes l.piece) l.writer;
 }
 
 abbrev pub decreases-loop-coder : goal.decreases-loop-coder

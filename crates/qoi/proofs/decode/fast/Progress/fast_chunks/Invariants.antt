@@ -9,8 +9,8 @@ invariant-loop-now g l = record {
       → FastBetween g.row.F g.row.N n before l.bytes l.now l.table l.out;
   byte : l.now.next < 256;
   within : l.now.taken < length l.bytes;
-  written : l.fn.at ≤ l.now.written;
-  below : l.fn.at < length l.initial.out → l.now.written < length l.out;
+  written : l.fn.at ≤ l.now.at;
+  below : l.fn.at < length l.initial.out → l.now.at < length l.out;
 }
 
 abbrev pub decreases-loop-now : goal.decreases-loop-now

@@ -17,7 +17,7 @@ returns-clause-between g c n before h =
     let bytes = c.args.bytes.now in
     let is = c.requires.channels in
     let one = (in_block g.row.N is).0 in
-    let room = block_fits g.row.N now.written 1 (length c.args.out.now) is one c.requires.room in
+    let room = block_fits g.row.N now.at 1 (length c.args.out.now) is one c.requires.room in
     let rest = drop now.taken bytes in
     let whole : take (length bytes - now.taken) rest ≡ rest = take_whole _ rest (length-drop now.taken bytes) in
     let long : 5 ≤ length rest = omega (arith, c.requires.input, length-drop now.taken bytes) in
@@ -25,7 +25,7 @@ returns-clause-between g c n before h =
     let first : now.next ≡ get_or rest 0 0 = h.next_is ∙ ap (λ i. get_or bytes i 0) (omega arith) ∙ sym (get_or-drop now.taken bytes 0 0) in
     let pixel = rw whole at c.after_full-last.ensures in
     let from = c.from.ensures in
-    let new : Progress = record { last = c.after_full-last.result; taken = now.taken + 4 + c.from.result; written = now.written + g.row.N; next = c.from-2.result } in
+    let new : Progress = record { last = c.after_full-last.result; taken = now.taken + 4 + c.from.result; at = now.at + g.row.N; next = c.from-2.result } in
     let step = fast_step {table' = c.put.new.self} {out' = c.write_block.new.out} now new 1 is h (omega (arith, c.requires.room)) room c.write_block.auto.out (omega arith) c.put.ensures (c.write_block.ensures 1 one) c.from-2.ensures in
     elim (cases_lt now.next 255) [
       | inl rgb ↦

@@ -21,8 +21,8 @@ returns-clause-between g c n before h =
     let long : 1 ≤ length rest = omega (arith, c.requires.input, length-drop now.taken bytes) in
     let some : 0 < count = omega (arith, c.requires.run) in
     let often : count + 191 ≡ now.next = omega (arith, c.requires.run) in
-    let new : Progress = record { last = now.last; taken = now.taken + 1; written = now.written + g.row.N * count; next = _ } in
-    let written : HasWritten g.row.F g.row.N (upto c.args.out.now now.written) (upto c.if-out-self-ge-RUN_ROOM.out (now.written + g.row.N * count)) (replicate count (pixel_of_lanes now.last)) =
+    let new : Progress = record { last = now.last; taken = now.taken + 1; at = now.at + g.row.N * count; next = _ } in
+    let written : HasWritten g.row.F g.row.N (upto c.args.out.now now.at) (upto c.if-out-self-ge-RUN_ROOM.out (now.at + g.row.N * count)) (replicate count (pixel_of_lanes now.last)) =
     elim c.if-out-self-ge-RUN_ROOM.branch [ then-out-self-ge-RUN_ROOM w ↦ rw w.out-is w.write_run.ensures | else-out-self-ge-RUN_ROOM w ↦ rw w.out-is w.write_late_run.ensures ] in
     fast_step now new count is h (omega (arith, c.requires.room)) (omega (arith, c.requires.room)) c.if-out-self-ge-RUN_ROOM.auto.out refl c.put.ensures written c.from.ensures 1 refl
     (decodes_run rest count long (sym first ∙ sym often) some most)

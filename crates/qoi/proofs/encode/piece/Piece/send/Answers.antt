@@ -14,13 +14,13 @@ returns-in_err-send_front-clause-refused g c =
     let s = c.args.self.now in
     rw (p.1, p.2) (
       r.0,
-      subst (λ z. WroteBeginning g.W.Writer.wrote c.args.buf.now z c.send_front.new.buf) (sym (take-take (g.row.ROOM - PAST) s.end s.bytes.now c.requires.full)) r.1,
+      subst (λ z. WroteBeginning g.W.Writer.wrote c.args.writer.now z c.send_front.new.writer) (sym (take-take (g.row.ROOM - PAST) s.end s.bytes.now c.requires.full)) r.1,
     )
 
 pub returns-clause-written : goal.returns-clause-written
 returns-clause-written g c =
     let s = c.args.self.now in
-    subst (λ z. g.W.Writer.wrote c.args.buf.now z c.send_front.new.buf) (sym (take-take (g.row.ROOM - PAST) s.end s.bytes.now c.requires.full))
+    subst (λ z. g.W.Writer.wrote c.args.writer.now z c.send_front.new.writer) (sym (take-take (g.row.ROOM - PAST) s.end s.bytes.now c.requires.full))
     c.in_ok-send_front.ensures.written
 
 pub returns-clause-kept : goal.returns-clause-kept
