@@ -17,13 +17,13 @@ const USAGE: &[u8] = b"usage: qoi_tool dec [rgb|rgba] | enc W H [linear] [places
 
 // A line that is being made, in a buffer of fixed length.
 #[derive(Drop)]
-struct Line {
+struct FaultLine {
     bytes: [u8; ROOM],
     filled: usize,
     ghost within: { filled ≤ length bytes },
 }
 
-impl Write for Line {
+impl Write for FaultLine {
     ghost contents = { λ line. Some (take line.filled line.bytes) };
 
     fn write(&mut self, buf: &[u8]) -> io::Result<usize> {
@@ -40,11 +40,11 @@ impl Write for Line {
 }
 
 // The line of an error, but for an i/o error.
-fn line_of(error: &Error) -> io::Result<Line>
+fn error_line(error: &Error) -> io::Result<FaultLine>
     ensures { IfOk result (λ line. IfSome (error_line error.now)
         (λ bytes. take line.filled line.bytes ≡ bytes)) }
 {
-    let mut line = Line {
+    let mut line = FaultLine {
         bytes: [0; ROOM],
         filled: 0,
     };
@@ -67,7 +67,7 @@ pub fn write_fault<W: Write>(output: &mut W, fault: &Fault) -> Result<(), Error>
             Ok(())
         }
         Fault::Image(error) => {
-            let line = line_of(error)?;
+            let line = error_line(error)?;
             write_all(output, &line.bytes[..line.filled])
         }
     }

@@ -4,8 +4,8 @@
 mod fakes;
 mod large;
 mod library;
-mod pieces;
 mod refusals;
+mod uneven_reads;
 
 use crate::tests::fakes::{Bad, End, NONE, ONE_RGB_PIXEL, PIXEL, Sink, Source, take_memory};
 use crate::tests::library::support::examples::{

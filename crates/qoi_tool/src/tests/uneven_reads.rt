@@ -7,7 +7,7 @@ use std::io;
 use std::io::Read;
 
 // The most bytes that the reading asks for in a call: a mebibyte.
-const PIECE: u32 = 1_048_576;
+const MOST: u32 = 1_048_576;
 
 // How many bytes of a file aren't chunks: those of the header and the end marker.
 const AROUND: u32 = 22;
@@ -44,15 +44,15 @@ impl<'a> Read for Uneven<'a> {
 // A file of differences, which are chunks of one byte, is read whole, up to the last byte of its
 // end marker, by a mebibyte a call at most.
 #[test]
-fn pieces(rt: HostRuntime) {
+fn uneven_reads(rt: HostRuntime) {
     let alloc = rt.alloc();
     for size in [
-        2 * PIECE + 1,
-        2 * PIECE,
-        2 * PIECE - 1,
-        PIECE + 1,
-        PIECE,
-        PIECE - 1,
+        2 * MOST + 1,
+        2 * MOST,
+        2 * MOST - 1,
+        MOST + 1,
+        MOST,
+        MOST - 1,
     ] {
         let pixels = size - AROUND;
         let chunks = vec![in alloc; 0x7fu8; pixels as usize].expect(&rt, "refused");
@@ -66,6 +66,6 @@ fn pieces(rt: HostRuntime) {
         let mut output = Sink::new(alloc, usize::MAX, NONE).expect(&rt, "refused");
         assert!(rt; dec(alloc, &mut input, &mut output).is_ok());
         assert!(rt; output.got == raw);
-        assert!(rt; input.asked <= PIECE as usize);
+        assert!(rt; input.asked <= MOST as usize);
     }
 }
