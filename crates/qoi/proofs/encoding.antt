@@ -28,6 +28,7 @@ pub mod WrittenShape
 -- Sixteen pixels at a time: what they write, and the vectors that say so.
 pub mod BlockOut
 pub mod BlockPuts
+pub mod BlockStep
 pub mod BlockWritten
 pub mod CoderLink
 pub mod FourFours
@@ -39,6 +40,7 @@ pub mod LaneTests
 pub mod Lanewise
 pub mod LastCount
 pub mod OverlaidRuns
+pub mod PackedBlock
 pub mod PlacesOut
 pub mod PlaneWords
 pub mod PrefixSums
@@ -46,6 +48,7 @@ pub mod RunningMost
 pub mod SizeHalves
 pub mod SpelledBlock
 pub mod StandMasks
+pub mod StoredBlock
 pub mod StoredParts
 pub mod SwappedPixels
 pub mod TightOut

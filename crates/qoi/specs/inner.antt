@@ -14,6 +14,7 @@ pub mod Table
 pub mod BlockBytes
 pub mod BlockLanes
 pub mod BlockState
+pub mod Blocks
 pub mod Counts
 pub mod LaneVectors
 pub mod Planes

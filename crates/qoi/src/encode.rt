@@ -16,6 +16,7 @@ ghost use Rattle.qoi.specs.EncoderState.{free_encoder};
 ghost use Rattle.qoi.specs.Sent.{IsFileFor, MakesFile, PutsFile, SendsFile, SendsPart};
 ghost use Rattle.qoi.specs.writers.Writes.{AppendsBeginning, WroteBeginning};
 
+mod block;
 mod chunks;
 mod coder;
 mod counts;

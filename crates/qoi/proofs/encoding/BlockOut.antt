@@ -42,7 +42,7 @@ module _ (held : Past) (p : RgbaPixel) (i : IsPixel p) where
       go false e = rw (e, is_small) (omega (arith, i.r, i.g, i.b, i.a))
 
 -- in style Reference a group is a run
-group_run : (placed : Bool) (p : RgbaPixel) (n : ℕ) → group_bytes Reference placed p (suc n) ≡ bytes_of (Run (suc n))
+pub group_run : (placed : Bool) (p : RgbaPixel) (n : ℕ) → group_bytes Reference placed p (suc n) ≡ bytes_of (Run (suc n))
 group_run placed p zero = refl
 group_run placed p (suc n) = ap (λ b. bytes_of (if b then Run 1 else Run (suc (suc n)))) (not_one n)
 
@@ -100,7 +100,7 @@ goes_is held p [] = refl
 goes_is held p (q ∷ qs) = refl
 
 -- before a fresh lane what was counted doesn't matter
-firsts_anew : (c : ℕ) (ls : List Lane) → goes_on ls ≡ false → firsts c ls ≡ firsts 0 ls
+pub firsts_anew : (c : ℕ) (ls : List Lane) → goes_on ls ≡ false → firsts c ls ≡ firsts 0 ls
 firsts_anew c [] e = absurd (true≢false e)
 firsts_anew c (l ∷ ls) e = ap (λ b. max (first_of l) (bit_and (mask (is_rep l)) (((if b then suc c else 0) + 191) % 256)) ∷ firsts (if b then suc c else 0) ls) e
     ∙ sym (ap (λ b. max (first_of l) (bit_and (mask (is_rep l)) (((if b then 1 else 0) + 191) % 256)) ∷ firsts (if b then 1 else 0) ls) e)

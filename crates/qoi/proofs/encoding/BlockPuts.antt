@@ -1,11 +1,12 @@
 -- A block's pixels are put into the table, four at a time.
-use Rattle.std.proofs.Common.{◌≡◌, ℕ, ◌+◌, Bool, List, [], ◌∷◌, ◌++◌, length, map, slice_index, refl, ap, arith}
+use Rattle.std.proofs.Common.{◌≡◌, ℕ, zero, suc, ◌+◌, ◌<◌, Bool, List, [], ◌∷◌, ◌++◌, length, map, slice_index, refl, ap, arith}
 use Rattle.qoi.specs.declared.encode.planes.Words.{Words}
 use Rattle.qoi.specs.Qoi.{RgbaPixel, Past, hash}
 use Rattle.qoi.specs.inner.BlockLanes.{mask}
 use Rattle.qoi.specs.inner.Planes.{AreSixteen, AreFourWords, AreBlockWords}
 use Rattle.qoi.specs.inner.Stands.{seen_before, put_all, all_same, four_times, HasPut, HasPutBlock}
 use Rattle.qoi.specs.inner.Table.{Holds}
+use Rattle.qoi.proofs.format.SamePixels.{hash_below}
 use Rattle.qoi.proofs.encoding.FourFours.{four_words_of}
 
 -- the index positions of four lanes
@@ -45,3 +46,9 @@ block_put held (p0 ∷ p1 ∷ p2 ∷ p3 ∷ p4 ∷ p5 ∷ p6 ∷ p7 ∷ p8 ∷ p
       holds = k3.holds;
     }
 block_put held ps w places t0 t1 t2 t3 t4 f0 f1 f2 f3 m0 m1 m2 m3 all h s are at c0 c1 c2 c3 join = absurd (let l = s.long in omega arith)
+
+-- index positions are below 64
+pub hashes_below : (ps : List RgbaPixel) (k : ℕ) → slice_index (map hash ps) k < 64
+hashes_below [] k = omega arith
+hashes_below (p ∷ ps) zero = hash_below p
+hashes_below (p ∷ ps) (suc k) = hashes_below ps k

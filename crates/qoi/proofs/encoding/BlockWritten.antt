@@ -74,7 +74,7 @@ fresh_next_is {w} {past} {before} {kept} p more c b differs is choice =
           (ap (λ x. kept ++ x) (sym (append-nil (bytes_of c))));
     }
 
--- ---- the table, into which repeats are put too
+-- the table, into which repeats are put too
 
 -- once a fresh pixel came, the last of them is the last pixel
 fresh_first : (past : Past) → some_fresh past ≡ true → (i : ℕ) → hash (previous past) ≡ i → seen (fresh past) i ≡ previous past
@@ -147,7 +147,7 @@ run_last : (k : ℕ) (before : Option Chunk) (i : ℕ) → k < 61 → names (las
 run_last zero before i l = ap (λ cs. names (last_chunk before cs) i) (runs_few (Run 1) 1 (omega arith))
 run_last (suc k) before i l = ap (λ cs. names (last_chunk before cs) i) (runs_few (Run 1) (suc (suc k)) (omega arith))
 
--- ---- one lane
+-- one lane
 
 -- how a fresh pixel that isn't at its position is given, if it isn't transparent black in style
 -- Tight
@@ -261,7 +261,7 @@ module _ {w : Writing} (s : State) (p : RgbaPixel) (tail : List RgbaPixel) {kept
           ap chunk_bytes (runs_few (one (suc (suc k))) (suc (suc k)) (omega arith)) ∙ append-nil (bytes_of (Run (suc (suc k))))
           ∙ sym (ap (λ b. bytes_of (if b then single_chunk w.list.style true s.placed (hash p) 1 else Run (suc (suc k)))) (not_one k))
 
--- ---- the repeats that are carried, before a fresh pixel
+-- the repeats that are carried, before a fresh pixel
 
 -- the carried repeats are written
 pub flushed : {w : Writing} (s : State) (k : ℕ) (q : RgbaPixel) (more : List RgbaPixel) {kept : List ℕ} → Carrying w s (q ∷ more) kept → q ≢ s.last
@@ -295,7 +295,7 @@ flushed {w} s k q more {kept} c differs some few = record {
         ap chunk_bytes (runs_few (one (suc (suc k))) (suc (suc k)) (omega arith)) ∙ append-nil (bytes_of (Run (suc (suc k))))
         ∙ sym (ap (λ b. bytes_of (if b then single_chunk w.list.style true s.placed (hash s.last) 1 else Run (suc (suc k)))) (not_one k))
 
--- ---- all of them
+-- all of them
 
 -- after a lane repeats are carried only if the next pixel is one
 carry_on : (s : State) (p : RgbaPixel) (ps : List RgbaPixel) → CarryGoesOn (next_state s p (more_of p ps)) ps

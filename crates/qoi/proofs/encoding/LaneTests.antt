@@ -36,7 +36,7 @@ pub place_lane : (l : Lane) → IsLane l → (let r = l.px.r in let g = l.px.g i
 unfolding hash
 place_lane l is = and_mask _ 6 ∙ omega arith
 
--- ---- a vector's lanes, one further on
+-- a vector's lanes, one further on
 pub one_later : (xs ys : List ℕ) → length xs ≡ 16 → length ys ≡ 16
     → pick_l 0 (xs ++ ys) (range_with_len 15 16) ≡ slice_index xs 15 ∷ take 15 ys
 one_later (x0 ∷ x1 ∷ x2 ∷ x3 ∷ x4 ∷ x5 ∷ x6 ∷ x7 ∷ x8 ∷ x9 ∷ x10 ∷ x11 ∷ x12 ∷ x13 ∷ x14 ∷ x15 ∷ []) (y0 ∷ y1 ∷ y2 ∷ y3 ∷ y4 ∷ y5 ∷ y6 ∷ y7 ∷ y8 ∷ y9 ∷ y10 ∷ y11 ∷ y12 ∷ y13 ∷ y14 ∷ y15 ∷ []) e f = refl

@@ -72,7 +72,7 @@ twice_most xs ms ns s t le te long are is k lt = go (cases_lt k s)
 pub long_next : (ms ns : List ℕ) (s : ℕ) → s ≤ 16 → length ms ≡ 16 → ns ≡ zip2 max ms (shifted s ms) → length ns ≡ 16
 long_next ms ns s le long is = ap length is ∙ length-zip2 max ms (shifted s ms) (long ∙ sym (long_shifted s ms le long)) ∙ long
 
--- ---- from the running maximum to the counts
+-- from the running maximum to the counts
 
 -- lanes that count on from the one before, or begin anew
 counts_by : (c : ℕ) (rs : List Bool) (ys : List ℕ) → length ys ≡ length rs

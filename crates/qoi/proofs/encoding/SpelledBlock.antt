@@ -14,7 +14,7 @@ lanes_long held q [] = refl
 lanes_long held q (p ∷ ps) = ap (λ n. suc n) (lanes_long (p ∷ held) p ps)
 
 -- lanes of pixels
-lanes_are : (held : Past) (q : RgbaPixel) (ps : List RgbaPixel) → IsPixel q → AllByRecursion IsPixel ps → AreLanes (lanes_of held q ps)
+pub lanes_are : (held : Past) (q : RgbaPixel) (ps : List RgbaPixel) → IsPixel q → AllByRecursion IsPixel ps → AreLanes (lanes_of held q ps)
 lanes_are held q [] iq a = tt
 lanes_are held q (p ∷ ps) iq a = (record { px_is = a.0; before_is = iq }, lanes_are (p ∷ held) p ps a.0 a.1)
 

@@ -4,6 +4,7 @@ use Rattle.std.specs.List.{AllByRecursion}
 use Rattle.qoi.specs.declared.encode.planes.Planes.{Planes}
 use Rattle.qoi.specs.declared.encode.planes.Words.{Words}
 use Rattle.qoi.specs.Qoi.{RgbaPixel, IsPixel}
+use Rattle.qoi.specs.inner.Lanes.{AreFour}
 use Rattle.qoi.specs.inner.Packed.{word, pixel_of_word}
 
 -- sixteen pixels
@@ -31,6 +32,10 @@ pixels_of_words words = map pixel_of_word words
 -- of sixteen
 abbrev pub block_pixels : Words → List RgbaPixel
 block_pixels w = pixels_of_words w.one ++ (pixels_of_words w.two ++ (pixels_of_words w.three ++ pixels_of_words w.four))
+
+-- sixteen numbers of 32 bits
+abbrev pub ArePacked : Words → Type 0
+ArePacked w = AreFour w.one × (AreFour w.two × (AreFour w.three × AreFour w.four))
 
 -- red of each pixel
 abbrev pub reds : List RgbaPixel → List ℕ

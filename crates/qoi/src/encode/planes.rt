@@ -1,7 +1,8 @@
 //! Sixteen pixels in planes: a vector of bytes for each channel (QOI specification 1.0, "Chunks").
 ghost use Rattle.std.specs.Prelude.{◌≡◌, List};
 ghost use Rattle.qoi.specs.Qoi.{RgbaPixel};
-ghost use Rattle.qoi.specs.inner.Planes.{AreSixteen, AreFourWords, AreBlockWords, by_channels, ArePlanes};
+ghost use Rattle.qoi.specs.inner.Lanes.{AreFour};
+ghost use Rattle.qoi.specs.inner.Planes.{ArePacked, AreSixteen, AreFourWords, AreBlockWords, by_channels, ArePlanes};
 
 use std::simd::prelude::*;
 
@@ -26,7 +27,8 @@ pub(super) struct Planes {
 // The channels of four pixels: four bytes of red, then green, blue and alpha.
 #[inline(always)]
 fn by_channel(w: u32x4) -> u8x16
-    ensures { (ps : List RgbaPixel) → AreFourWords ps w → result ≡ by_channels ps }
+    ensures packed { AreFour w }
+    ensures channels { (ps : List RgbaPixel) → AreFourWords ps w → result ≡ by_channels ps }
 {
     w.to_le_bytes()
         .swizzle([0, 4, 8, 12, 1, 5, 9, 13, 2, 6, 10, 14, 3, 7, 11, 15])
@@ -35,7 +37,9 @@ fn by_channel(w: u32x4) -> u8x16
 /// The planes of packed pixels.
 #[inline(always)]
 pub(super) fn make_planes(w: Words) -> Planes
-    ensures { (ps : List RgbaPixel) → AreSixteen ps → AreBlockWords ps w → ArePlanes ps result }
+    ensures packed { ArePacked w }
+    ensures planes { (ps : List RgbaPixel) → AreSixteen ps → AreBlockWords ps w
+        → ArePlanes ps result }
 {
     let (p, q) = (by_channel(w.one), by_channel(w.two));
     let (s, t) = (by_channel(w.three), by_channel(w.four));

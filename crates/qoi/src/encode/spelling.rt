@@ -22,8 +22,8 @@ pub(super) struct Fits {
     pub(super) keep: u8x16,
 }
 
-/// Of each of sixteen pixels: whether it repeats, 255 or 0; its chunk's first byte, the second one, if
-/// it has one, and its size; and how many repeats end with it.
+/// Of each of sixteen pixels: whether it repeats, 255 or 0; its chunk's first byte, the second one,
+/// if it has one, and its size; and how many repeats end with it.
 #[derive(Clone, Copy)]
 pub(super) struct Spelled {
     pub(super) rep: u8x16,

@@ -1,17 +1,26 @@
 //! Chunks that are stored one after the other, each where the sum of the sizes before it says.
 ghost use lib.Lanes.{digits_l, number_l, sum_l};
 ghost use Rattle.std.specs.Prelude.{◌≡◌, ◌+◌, ◌*◌, ◌/◌, ◌%◌, ◌^◌, ◌≤◌, ◌<◌, ℕ, List, [], ◌∷◌, ◌++◌, length, take, drop, slice_index};
+ghost use Rattle.qoi.specs.declared.chunk.Chunk.{Chunk};
+ghost use Rattle.qoi.specs.declared.types.Style.TheVariants.{Reference};
+ghost use Rattle.qoi.specs.Qoi.{RgbaPixel, IsPixel, run_max, bytes_of};
 ghost use Rattle.qoi.specs.Raw.{IsChannels};
+ghost use Rattle.qoi.specs.inner.BlockState.{State, block_bytes};
+ghost use Rattle.qoi.specs.inner.Planes.{AreSixteen, ArePlanes};
+ghost use Rattle.qoi.specs.inner.Spelling.{HasSpelled};
 ghost use Rattle.qoi.specs.inner.Stores.{AreSizes, AreStarts, first_sum, four_chunks, eight_chunks};
 
+use crate::consts::QOI_OP_RUN;
+use crate::encode::planes::{Planes, make_words};
+use crate::encode::spelling::Spelled;
 use std::simd::prelude::*;
 
 /// Four chunks: numbers whose lowest bytes are the chunks' first four, and the fifth byte, of an
 /// RGBA: the pixel's alpha.
 #[derive(Clone, Copy)]
-pub(super) struct FourChunks {
-    pub(super) numbers: [u32; 4],
-    pub(super) alphas: [u8; 4],
+struct FourChunks {
+    numbers: [u32; 4],
+    alphas: [u8; 4],
 }
 
 // How many bytes the first chunks have, of eight: a byte for each, which counts its own chunk too.
@@ -68,9 +77,9 @@ fn put_four<const N: usize>(out: &mut [u8], at: usize, starts: [usize; 4], four:
     put::<N>(out, at + starts[3], four.numbers[3], four.alphas[3]);
 }
 
-/// Stores eight chunks of these sizes from `at` on, and returns where they end.
+// Stores eight chunks of these sizes from `at` on, and returns where they end.
 #[inline(always)]
-pub(super) fn put_eight<const N: usize>(
+fn put_eight<const N: usize>(
     out: &mut [u8],
     at: usize,
     sizes: u64,
@@ -96,10 +105,64 @@ pub(super) fn put_eight<const N: usize>(
     at + after(e, 7)
 }
 
-/// The sizes of eight lanes each, as the bytes of a number.
+// The sizes of eight lanes each, as the bytes of a number.
 #[inline(always)]
-pub(super) fn halves(size: u8x16) -> [u64; 2]
+fn halves(size: u8x16) -> [u64; 2]
     ensures { result ≡ number_l 256 (take 8 size) ∷ number_l 256 (drop 8 size) ∷ [] }
 {
     u64x2::from_le_bytes(size).to_array()
+}
+
+/// Stores the chunks of sixteen pixels from `at` on, and returns where they end.
+#[inline(always)]
+pub(super) fn put_sixteen<const N: usize>(out: &mut [u8], at: usize, x: Spelled, p: Planes) -> usize
+    requires channels { IsChannels N }
+    requires room { at + 600 ≤ length out.old }
+    ensures same { length out.new ≡ length out.old }
+    ensures near { (at ≤ result) × (result < at + 512) }
+    ensures written { (s : State) (ps : List RgbaPixel) → AreSixteen ps → IsPixel s.last
+        → ArePlanes ps p → HasSpelled s ps x → s.carry + 16 < run_max
+        → ((k : ℕ) → slice_index x.size k ≤ N + 1)
+        → take result out.new ≡ take at out.old ++ block_bytes Reference s ps }
+{
+    let n = make_words(Planes {
+        r: x.first,
+        g: x.second,
+        b: p.g,
+        a: p.b,
+    });
+    let a = p.a.to_array();
+    let one = FourChunks {
+        numbers: n.one.to_array(),
+        alphas: [a[0], a[1], a[2], a[3]],
+    };
+    let two = FourChunks {
+        numbers: n.two.to_array(),
+        alphas: [a[4], a[5], a[6], a[7]],
+    };
+    let three = FourChunks {
+        numbers: n.three.to_array(),
+        alphas: [a[8], a[9], a[10], a[11]],
+    };
+    let four = FourChunks {
+        numbers: n.four.to_array(),
+        alphas: [a[12], a[13], a[14], a[15]],
+    };
+    let sizes = halves(x.size);
+    let end = put_eight::<N>(out, at, sizes[0], one, two);
+    put_eight::<N>(out, end, sizes[1], three, four)
+}
+
+/// Stores the run of these repeats, if there are any, at `at`, and returns where it ends.
+#[inline(always)]
+pub(super) fn put_run(out: &mut [u8], at: usize, count: u8) -> usize
+    requires room { at < length out.old }
+    requires few { count < run_max }
+    ensures same { length out.new ≡ length out.old }
+    ensures near { (at ≤ result) × (result ≤ at + 1) }
+    ensures none { count ≡ 0 → take result out.new ≡ take at out.old }
+    ensures some { 0 < count → take result out.new ≡ take at out.old ++ bytes_of (Chunk.Run count) }
+{
+    out[at] = QOI_OP_RUN - 1 + count;
+    at + usize::from(count > 0)
 }

@@ -1,5 +1,5 @@
 use Rattle.qoi.proofs.encoding.WordPlanes.{channels_of}
 use Rattle.qoi.proofs.encode.planes.by_channel.Goals as goal
 
-pub returns : goal.returns
-returns c = λ ps are. channels_of ps c.args.w are
+pub returns-clause-channels : goal.returns-clause-channels
+returns-clause-channels c = λ ps are. channels_of ps c.args.w are

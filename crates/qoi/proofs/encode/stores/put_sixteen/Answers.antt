@@ -1,0 +1,61 @@
+-- Twice eight chunks.
+use Rattle.std.proofs.Common.{◌≡◌, ◌+◌, ◌≤◌, ℕ, List, ◌++◌, take, drop, length, slice_index, append_assoc, arith, refl, sym, ap, ◌∙◌, subst, length-drop}
+use Rattle.std.specs.List.{AllByRecursion}
+use Rattle.std.proofs.lemmas.List.{length-take-le}
+use Rattle.qoi.specs.declared.encode.stores.FourChunks.{FourChunks}
+use Rattle.qoi.specs.Qoi.{RgbaPixel, IsPixel}
+use Rattle.qoi.specs.declared.types.Style.TheVariants.{Reference}
+use Rattle.qoi.specs.inner.BlockBytes.{chunks_of}
+use Rattle.qoi.specs.inner.BlockLanes.{Lane}
+use Rattle.qoi.specs.inner.BlockState.{lanes_of, block_bytes}
+use Rattle.qoi.specs.inner.Stores.{eight_chunks}
+use Rattle.qoi.proofs.encoding.BlockOut.{out_is}
+use Rattle.qoi.proofs.encoding.LaneTests.{themselves}
+use Rattle.qoi.proofs.encoding.SpelledBlock.{lanes_long, lanes_are}
+use Rattle.qoi.proofs.encoding.StoredBlock.{chunk_pixels, pixels_long, first_plane, second_plane, green_plane, blue_plane, pixels_are, firsts_long, sizes_long, take_few, drop_few, eight_sizes, four_of, sixteen_parts}
+use Rattle.qoi.proofs.encode.stores.put_sixteen.Goals as goal
+
+pub returns-clause-written : goal.returns-clause-written
+returns-clause-written g c = λ s ps sixteen last planes spelled carry few.
+    let ls : List Lane = lanes_of s.held s.last ps in
+    let fs : List ℕ = c.args.x.first in
+    let ss : List ℕ = c.args.x.size in
+    let long : length ls ≡ 16 = lanes_long s.held s.last ps ∙ sixteen.long in
+    let long_first : length fs ≡ 16 = ap length spelled.first_is ∙ firsts_long s.carry ls ∙ long in
+    let long_size : length ss ≡ 16 = ap length spelled.size_is ∙ sizes_long ls ∙ long in
+    let same : length fs ≡ length ls = long_first ∙ sym long in
+    let pixels : AllByRecursion IsPixel (chunk_pixels ls fs) = subst (λ z. AllByRecursion IsPixel (chunk_pixels ls z)) (sym spelled.first_is)
+    (pixels_are s.carry ls (lanes_are s.held s.last ps last sixteen.are)) in
+    let words = c.make_words-n.ensures (chunk_pixels ls fs) (record { long = pixels_long ls fs same ∙ long; are = pixels }) (record {
+      r_is = first_plane ls fs same;
+      g_is = spelled.second_is ∙ second_plane ls fs same;
+      b_is = planes.g_is ∙ sym (themselves (λ (p : RgbaPixel). p.g) s.held s.last ps) ∙ green_plane ls fs same;
+      a_is = planes.b_is ∙ sym (themselves (λ (p : RgbaPixel). p.b) s.held s.last ps) ∙ blue_plane ls fs same;
+    }) in
+    let at_most : (k : ℕ) → slice_index ss k ≤ 5 = λ k. omega (arith, few k, c.requires.channels) in
+    let first = c.put_eight-end.ensures.written (take 8 ss)
+    (eight_sizes (take 8 ss) _ (length-take-le 8 ss (omega arith)) (take_few 8 5 ss at_most) (ap (λ z. slice_index z 0) c.halves-sizes.ensures))
+    (take_few 8 (g.row.N + 1) ss few) in
+    let second = c.put_eight.ensures.written (drop 8 ss)
+    (eight_sizes (drop 8 ss) _ (omega (arith, length-drop 8 ss)) (drop_few 8 5 ss at_most) (ap (λ z. slice_index z 1) c.halves-sizes.ensures))
+    (drop_few 8 (g.row.N + 1) ss few) in
+    let n = c.make_words-n.result in
+    let bs : List ℕ = c.args.p.a in
+    let one : FourChunks = record { numbers = n.one; alphas = four_of bs 0 } in
+    let two : FourChunks = record { numbers = n.two; alphas = four_of bs 4 } in
+    let three : FourChunks = record { numbers = n.three; alphas = four_of bs 8 } in
+    let four : FourChunks = record { numbers = n.four; alphas = four_of bs 12 } in
+    let parts = sixteen_parts ls fs ss bs one two three four long long_first long_size (planes.a_is ∙ sym (themselves (λ (p : RgbaPixel). p.a) s.held s.last ps)) pixels (record {
+      one_numbers = words.one_are;
+      two_numbers = words.two_are;
+      three_numbers = words.three_are;
+      four_numbers = words.four_are;
+      one_alphas = refl;
+      two_alphas = refl;
+      three_alphas = refl;
+      four_alphas = refl;
+    }) in
+    let all : chunks_of ls fs ss ≡ block_bytes Reference s ps = (λ i. chunks_of ls (spelled.first_is i) (spelled.size_is i)) ∙ out_is s ps sixteen.are (omega (arith, sixteen.long, carry)) in
+    let front = take c.args.at c.args.out.now in
+    second.1 ∙ ap (λ z. z ++ eight_chunks (drop 8 ss) three four) first.1
+    ∙ append_assoc front (eight_chunks (take 8 ss) one two) (eight_chunks (drop 8 ss) three four) ∙ ap (λ z. front ++ z) (parts ∙ all)

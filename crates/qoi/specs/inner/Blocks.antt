@@ -1,0 +1,17 @@
+-- The state between two blocks of sixteen pixels.
+use Rattle.std.specs.Prelude.{◌≡◌, ℕ, List}
+use Rattle.qoi.specs.declared.encode.planes.Planes.{Planes}
+use Rattle.qoi.specs.Qoi.{RgbaPixel}
+use Rattle.qoi.specs.inner.BlockState.{State, Carrying}
+use Rattle.qoi.specs.inner.CoderLoop.{Writing}
+use Rattle.qoi.specs.inner.Spelling.{IsLastOf}
+use Rattle.qoi.specs.inner.Table.{Holds}
+
+-- Between two blocks: the pixels `rest` still come, `before` are those of the last block, and
+-- `carry` repeats of its last pixel have come but aren't among the bytes that are kept.
+pub record BetweenBlocks (w : Writing) (rest : List RgbaPixel) (table : List RgbaPixel) (before : Planes) (carry : ℕ) (kept : List ℕ) : Type 0 where
+  pub state : State
+  pub carrying : Carrying w state rest kept
+  pub table_is : Holds table state.held
+  pub before_is : IsLastOf state.last before
+  pub carry_is : state.carry ≡ carry

@@ -1,0 +1,67 @@
+//! Sixteen pixels, a block, and the chunks of a block, but for the repeats that it ends with.
+ghost use Rattle.std.specs.Prelude.{◌≡◌, ◌+◌, ◌≤◌, ◌<◌, List, ◌++◌, length, take};
+ghost use Rattle.qoi.specs.declared.types.Style.TheVariants.{Reference};
+ghost use Rattle.qoi.specs.Qoi.{RgbaPixel};
+ghost use Rattle.qoi.specs.inner.Blocks.{BetweenBlocks};
+ghost use Rattle.qoi.specs.inner.CoderLoop.{Writing};
+ghost use Rattle.qoi.specs.inner.Planes.{ArePacked, ArePlanes, block_pixels};
+
+use crate::encode::lanes::places;
+use crate::encode::planes::{Planes, Words, make_planes};
+use crate::encode::spelling::spell_block;
+use crate::encode::stands::put_block;
+use crate::encode::stores::{put_run, put_sixteen};
+use crate::packed::pick;
+use crate::table::Table;
+
+/// Sixteen pixels, packed and in planes.
+#[derive(Clone, Copy)]
+pub(super) struct Block {
+    pub(super) words: Words,
+    pub(super) planes: Planes,
+    ghost packed: { ArePacked words },
+    ghost planes_are: { ArePlanes (block_pixels words) planes },
+}
+
+impl Block {
+    /// The block of sixteen packed pixels.
+    #[inline(always)]
+    pub(super) fn new(words: Words) -> Block
+        ensures { result.words ≡ words }
+    {
+        Block {
+            words,
+            planes: make_planes(words),
+        }
+    }
+}
+
+/// Stores the chunks of a block of four channels from `at` on, but for the repeats at its end.
+/// `before` has the block before it, and `carry` repeats came that aren't stored yet. Returns where
+/// the chunks end, and how many repeats aren't stored then.
+#[inline(always)]
+pub(super) fn write_block(
+    table: &mut Table,
+    out: &mut [u8],
+    at: usize,
+    block: Block,
+    before: Planes,
+    carry: u8,
+) -> (usize, u8)
+    requires few { carry ≤ 45 }
+    requires room { at + 700 ≤ length out.old }
+    ensures same { length out.new ≡ length out.old }
+    ensures near { (at ≤ result.0) × (result.0 < at + 600) }
+    ensures written { (w : Writing) (rest : List RgbaPixel) → w.list.style ≡ Reference
+        → BetweenBlocks w (block_pixels block.words ++ rest) table.old before carry
+        (take at out.old)
+        → BetweenBlocks w rest table.new block.planes result.1 (take result.0 out.new) }
+{
+    let places = places(block.planes);
+    let stands = put_block(table, places, block.words);
+    let x = spell_block(before, block.planes, stands, places, carry);
+    let fresh = x.rep.to_array()[0] == 0;
+    let at = put_run(out, at, pick(fresh, carry, 0));
+    let end = put_sixteen::<4>(out, at, x, block.planes);
+    (end, x.count.to_array()[15])
+}
