@@ -1,5 +1,5 @@
 -- From one block of sixteen pixels to the next, in style Reference.
-use Rattle.std.proofs.Common.{◌≡◌, ◌≢◌, ℕ, zero, suc, ◌+◌, ◌<◌, ◌≤◌, ◌==◌, Bool, true, false, List, [], ◌∷◌, ◌++◌, length, map, get_or, slice_index, if◌then◌else◌, refl, sym, ap, ◌∙◌, arith, subst}
+use Rattle.std.proofs.Common.{◌≡◌, ◌&&◌, ◌%◌, ◌≢◌, ℕ, zero, suc, ◌+◌, ◌<◌, ◌≤◌, ◌==◌, Bool, true, false, List, [], ◌∷◌, ◌++◌, length, map, get_or, slice_index, if◌then◌else◌, refl, sym, ap, ◌∙◌, arith, subst}
 use Rattle.std.proofs.lemmas.Bool.{true≢false}
 use Rattle.std.proofs.lemmas.List.{length-map}
 use Rattle.qoi.specs.declared.chunk.Chunk.TheVariants.{Run}
@@ -9,8 +9,8 @@ use Rattle.qoi.specs.declared.types.Style.{Style}
 use Rattle.qoi.specs.declared.types.Style.TheVariants.{Reference, Tight}
 use Rattle.qoi.specs.Qoi.{RgbaPixel, pixel_eq, bytes_of}
 use Rattle.qoi.specs.inner.BlockLanes.{mask}
-use Rattle.qoi.specs.inner.Blocks.{BetweenBlocks}
-use Rattle.qoi.specs.inner.BlockState.{State, Carrying, lanes_of, is_rep, group_bytes, next_state, more_of, end_state, block_bytes, CarryGoesOn, flushed_state}
+use Rattle.qoi.specs.inner.Blocks.{BetweenBlocks, all_repeat}
+use Rattle.qoi.specs.inner.BlockState.{State, Carrying, lanes_of, is_rep, group_bytes, next_state, more_of, end_state, block_bytes, CarryGoesOn, flushed_state, next_by}
 use Rattle.qoi.specs.inner.CoderLoop.{Writing}
 use Rattle.qoi.specs.inner.Counts.{counts}
 use Rattle.qoi.specs.inner.Planes.{AreSixteen, ArePlanes}
@@ -18,7 +18,7 @@ use Rattle.qoi.specs.inner.Spelling.{HasSpelled, IsLastOf}
 use Rattle.qoi.specs.inner.Stands.{put_all}
 use Rattle.qoi.specs.inner.Table.{Holds}
 use Rattle.qoi.proofs.format.SamePixels.{pixel_eq-true, pixel_eq-from}
-use Rattle.qoi.proofs.encoding.BlockOut.{firsts_anew, group_run}
+use Rattle.qoi.proofs.encoding.BlockOut.{firsts_anew, group_run, carry_few}
 use Rattle.qoi.proofs.encoding.BlockWritten.{block_written, flushed}
 use Rattle.qoi.proofs.encoding.LastCount.{last_count}
 use Rattle.qoi.proofs.encoding.SpelledBlock.{lanes_long}
@@ -118,16 +118,41 @@ ready w s (p ∷ ps) rest x n kept next style few c h sixteen n_is run = go (pix
     go true e = stays (n_by true e) (λ some. pixel_eq-true p s.last e)
     go false e = fresh e s.carry refl
 
+-- as many repeats are carried after pixels as came
+carry_most : (s : State) (ps : List RgbaPixel) → (end_state s ps).carry ≤ s.carry + length ps
+carry_most s [] = omega arith
+carry_most s (p ∷ ps) =
+    let m = more_of p ps in
+    omega (arith, carry_most (next_state s p m) ps, carry_few (pixel_eq p s.last) m s p)
+
+-- after pixels that don't all repeat fewer are carried than there are
+carry_below : (s : State) (q : RgbaPixel) (ps : List RgbaPixel) → s.last ≡ q → all_repeat q ps ≡ false → (end_state s ps).carry < length ps
+carry_below s q [] e mixed = absurd (true≢false mixed)
+carry_below s q (p ∷ ps) e mixed = go (λ same left. carry_below (next_state s p (more_of p ps)) q ps same left) (pixel_eq p s.last) refl
+  where
+    none : pixel_eq p s.last ≡ false → (next_state s p (more_of p ps)).carry ≡ 0
+    none is = ap (λ b. (next_by b (more_of p ps) s p).carry) is
+
+    rest : p ≡ q → all_repeat q ps ≡ false
+    rest same = ap (λ b. b && all_repeat q ps) (sym (pixel_eq-from p q same)) ∙ mixed
+
+    go : (p ≡ q → all_repeat q ps ≡ false → (end_state (next_state s p (more_of p ps)) ps).carry < length ps) → (b : Bool) → pixel_eq p s.last ≡ b
+        → (end_state (next_state s p (more_of p ps)) ps).carry < suc (length ps)
+    go below true is =
+        let same : p ≡ q = pixel_eq-true p s.last is ∙ e in
+        omega (arith, below same (rest same))
+    go below false is = omega (arith, carry_most (next_state s p (more_of p ps)) ps, none is)
+
 -- style Reference isn't Tight
 not_tight : (style : Style) → style ≡ Reference → style ≡ Tight → ⊥
 not_tight style e t = absurd (let no : Reference ≡ Tight = sym e ∙ t in cc)
 
 -- over a block
 pub block_step : (w : Writing) (s : State) (ps rest : List RgbaPixel) (x : Spelled) (p : Planes) (table : List RgbaPixel) (kept next : List ℕ)
-    → w.list.style ≡ Reference → AreSixteen ps → ArePlanes ps p → Ready w s ps rest x kept → Holds table (put_all s.held ps)
+    → w.list.style ≡ Reference → AreSixteen ps → all_repeat s.last ps ≡ false → ArePlanes ps p → Ready w s ps rest x kept → Holds table (put_all s.held ps)
     → ((t : State) → HasSpelled t ps x → t.last ≡ s.last → t.carry ≤ 45 → next ≡ kept ++ block_bytes Reference t ps)
-    → BetweenBlocks w rest table p (slice_index x.count 15) next
-block_step w s ps rest x p table kept next style sixteen planes r holds bytes =
+    → BetweenBlocks w rest table p (slice_index x.count 15 % 16) next
+block_step w s ps rest x p table kept next style sixteen mixed planes r holds bytes =
     let t = r.state in
     let long = sixteen.long in
     let few : t.carry + length ps < 62 = (let f = r.few in omega arith) in
@@ -138,7 +163,7 @@ block_step w s ps rest x p table kept next style sixteen planes r holds bytes =
       carrying = subst (Carrying w (end_state t ps) rest) same done;
       table_is = subst (Holds table) (sym (end_held t ps ∙ ap (λ h. put_all h ps) r.held_is)) holds;
       before_is = end_last t ps p sixteen planes;
-      carry_is = sym (last_counted t r.spelled);
+      carry_is = omega (arith, last_counted t r.spelled, carry_below t s.last ps r.last_is mixed, long);
     }
   where
     last_counted : (t : State) → HasSpelled t ps x → slice_index x.count 15 ≡ (end_state t ps).carry

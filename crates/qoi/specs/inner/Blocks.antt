@@ -1,7 +1,7 @@
 -- The state between two blocks of sixteen pixels.
-use Rattle.std.specs.Prelude.{◌≡◌, ℕ, List}
+use Rattle.std.specs.Prelude.{◌≡◌, ℕ, Bool, true, ◌&&◌, List, [], ◌∷◌, slice_index}
 use Rattle.qoi.specs.declared.encode.planes.Planes.{Planes}
-use Rattle.qoi.specs.Qoi.{RgbaPixel}
+use Rattle.qoi.specs.Qoi.{RgbaPixel, pixel, pixel_eq}
 use Rattle.qoi.specs.inner.BlockState.{State, Carrying}
 use Rattle.qoi.specs.inner.CoderLoop.{Writing}
 use Rattle.qoi.specs.inner.Spelling.{IsLastOf}
@@ -15,3 +15,12 @@ pub record BetweenBlocks (w : Writing) (rest : List RgbaPixel) (table : List Rgb
   pub table_is : Holds table state.held
   pub before_is : IsLastOf state.last before
   pub carry_is : state.carry ≡ carry
+
+-- the last of sixteen pixels
+abbrev pub last_pixel : Planes → RgbaPixel
+last_pixel p = pixel (slice_index p.r 15) (slice_index p.g 15) (slice_index p.b 15) (slice_index p.a 15)
+
+-- all of these pixels are this one
+abbrev pub all_repeat : RgbaPixel → List RgbaPixel → Bool
+all_repeat q [] = true
+all_repeat q (p ∷ ps) = pixel_eq p q && all_repeat q ps

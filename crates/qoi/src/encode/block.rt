@@ -1,8 +1,8 @@
 //! Sixteen pixels, a block, and the chunks of a block, but for the repeats that it ends with.
-ghost use Rattle.std.specs.Prelude.{◌≡◌, ◌+◌, ◌≤◌, ◌<◌, List, ◌++◌, length, take};
+ghost use Rattle.std.specs.Prelude.{◌≡◌, false, ◌+◌, ◌≤◌, ◌<◌, List, ◌++◌, length, take};
 ghost use Rattle.qoi.specs.declared.types.Style.TheVariants.{Reference};
 ghost use Rattle.qoi.specs.Qoi.{RgbaPixel};
-ghost use Rattle.qoi.specs.inner.Blocks.{BetweenBlocks};
+ghost use Rattle.qoi.specs.inner.Blocks.{BetweenBlocks, last_pixel, all_repeat};
 ghost use Rattle.qoi.specs.inner.CoderLoop.{Writing};
 ghost use Rattle.qoi.specs.inner.Planes.{ArePacked, ArePlanes, block_pixels};
 
@@ -36,9 +36,9 @@ impl Block {
     }
 }
 
-/// Stores the chunks of a block of four channels from `at` on, but for the repeats at its end.
-/// `before` has the block before it, and `carry` repeats came that aren't stored yet. Returns where
-/// the chunks end, and how many repeats aren't stored then.
+/// Stores the chunks of a block of four channels that doesn't repeat whole, from `at` on, but for the
+/// repeats at its end. `before` has the block before it, and `carry` repeats came that aren't stored
+/// yet. Returns where the chunks end, and how many repeats aren't stored then.
 #[inline(always)]
 pub(super) fn write_block(
     table: &mut Table,
@@ -52,7 +52,9 @@ pub(super) fn write_block(
     requires room { at + 700 ≤ length out.old }
     ensures same { length out.new ≡ length out.old }
     ensures near { (at ≤ result.0) × (result.0 < at + 600) }
+    ensures few { result.1 < 16 }
     ensures written { (w : Writing) (rest : List RgbaPixel) → w.list.style ≡ Reference
+        → all_repeat (last_pixel before) (block_pixels block.words) ≡ false
         → BetweenBlocks w (block_pixels block.words ++ rest) table.old before carry
         (take at out.old)
         → BetweenBlocks w rest table.new block.planes result.1 (take result.0 out.new) }
@@ -63,5 +65,6 @@ pub(super) fn write_block(
     let fresh = x.rep.to_array()[0] == 0;
     let at = put_run(out, at, pick(fresh, carry, 0));
     let end = put_sixteen::<4>(out, at, x, block.planes);
-    (end, x.count.to_array()[15])
+    // If the block doesn't repeat whole, at most fifteen are left.
+    (end, x.count.to_array()[15] % 16)
 }

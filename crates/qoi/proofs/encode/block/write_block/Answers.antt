@@ -1,13 +1,21 @@
 -- The repeats before the block, if a fresh pixel follows them, and the block's chunks.
-use Rattle.std.proofs.Common.{◌≡◌, ◌≤◌, List, map, slice_index, if◌then◌else◌, ◌==◌, arith, sym, ap, ◌∙◌, subst}
+use Rattle.std.proofs.Common.{◌≡◌, false, ◌≤◌, List, map, slice_index, if◌then◌else◌, ◌==◌, arith, sym, ap, ◌∙◌, subst}
 use Rattle.qoi.specs.Qoi.{RgbaPixel, IsPixel, hash}
 use Rattle.qoi.specs.inner.BlockState.{lanes_of}
+use Rattle.qoi.specs.declared.encode.planes.Planes.{Planes}
+use Rattle.qoi.specs.inner.Blocks.{last_pixel, all_repeat}
 use Rattle.qoi.specs.inner.Planes.{block_pixels}
+use Rattle.qoi.specs.inner.Spelling.{IsLastOf}
+use Rattle.qoi.proofs.format.SamePixels.{same_pixel}
 use Rattle.qoi.proofs.encoding.BlockPuts.{hashes_below}
 use Rattle.qoi.proofs.encoding.BlockStep.{ready, block_step}
 use Rattle.qoi.proofs.encoding.PackedBlock.{block_sixteen, block_words}
 use Rattle.qoi.proofs.encoding.StoredBlock.{sizes_few}
 use Rattle.qoi.proofs.encode.block.write_block.Goals as goal
+
+-- the last pixel of the block before
+last_of_planes : (q : RgbaPixel) (p : Planes) → IsLastOf q p → q ≡ last_pixel p
+last_of_planes q p is = same_pixel q (last_pixel p) (sym is.red) (sym is.green) (sym is.blue) (sym is.alpha)
 
 pub put_block-stands-requires : goal.put_block-stands-requires
 put_block-stands-requires c = λ k lt.
@@ -16,7 +24,7 @@ put_block-stands-requires c = λ k lt.
     omega (arith, hashes_below (block_pixels w) k, ap (λ z. slice_index z k) at)
 
 pub returns-clause-written : goal.returns-clause-written
-returns-clause-written c = λ w rest style b.
+returns-clause-written c = λ w rest style mixed b.
     let s = b.state in
     let words = c.args.block.words in
     let ps : List RgbaPixel = block_pixels words in
@@ -41,6 +49,6 @@ returns-clause-written c = λ w rest style b.
       none = c.put_run-at.ensures.none;
       some = c.put_run-at.ensures.some;
     }) in
-    block_step w s ps rest x c.args.block.planes _ _ _ style sixteen planes start put.holds
+    block_step w s ps rest x c.args.block.planes _ _ _ style sixteen (subst (λ q. all_repeat q ps ≡ false) (sym (last_of_planes s.last c.args.before b.before_is)) mixed) planes start put.holds
     (λ t same last_is carry. c.put_sixteen-end.ensures.written t ps sixteen (subst IsPixel (sym last_is) last) planes same (omega arith)
     (λ k. omega (arith, sizes_few (lanes_of t.held t.last ps) k, ap (λ z. slice_index z k) same.size_is)))
