@@ -26,6 +26,7 @@ pub mod WrittenGrows
 pub mod WrittenOnce
 pub mod WrittenShape
 -- Sixteen pixels at a time: what they write, and the vectors that say so.
+pub mod AllRepeat
 pub mod BlockOut
 pub mod BlockPuts
 pub mod BlockStep

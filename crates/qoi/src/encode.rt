@@ -17,6 +17,7 @@ ghost use Rattle.qoi.specs.Sent.{IsFileFor, MakesFile, PutsFile, SendsFile, Send
 ghost use Rattle.qoi.specs.writers.Writes.{AppendsBeginning, WroteBeginning};
 
 mod block;
+mod changes;
 mod chunks;
 mod coder;
 mod counts;

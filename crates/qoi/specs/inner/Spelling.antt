@@ -7,7 +7,7 @@ use Rattle.qoi.specs.inner.BlockBytes.{firsts, sizes}
 use Rattle.qoi.specs.inner.BlockLanes.{mask, second_of}
 use Rattle.qoi.specs.inner.BlockState.{State, lanes_of, is_rep}
 use Rattle.qoi.specs.inner.Counts.{counts}
-use Rattle.qoi.specs.inner.Planes.{AreSixteen, ArePlanes}
+use Rattle.qoi.specs.inner.Planes.{AreSixteen, reds}
 use Rattle.qoi.specs.inner.Stands.{stand_tests}
 
 -- the last of sixteen pixels
@@ -17,13 +17,12 @@ pub record IsLastOf (q : RgbaPixel) (p : Planes) : Type 0 where
   pub blue : slice_index p.b 15 ≡ q.b
   pub alpha : slice_index p.a 15 ≡ q.a
 
--- A block's pixels, in planes, after those of the block before, whose last pixel is that of the
--- state; which of them stand at their index positions, and these positions.
-pub record IsBlock (s : State) (ps : List RgbaPixel) (p before : Planes) (stands places : List ℕ) : Type 0 where
+-- A block's pixels after the last one of the state: red of each, which of them stand at their index
+-- positions, and these positions.
+pub record IsBlock (s : State) (ps : List RgbaPixel) (red stands places : List ℕ) : Type 0 where
   pub sixteen : AreSixteen ps
   pub last_is : IsPixel s.last
-  pub planes_are : ArePlanes ps p
-  pub after : IsLastOf s.last before
+  pub red_is : red ≡ reds ps
   pub stands_are : stands ≡ map mask (stand_tests s.held ps)
   pub places_are : places ≡ map hash ps
 

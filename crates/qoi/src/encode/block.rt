@@ -1,11 +1,12 @@
 //! Sixteen pixels, a block, and the chunks of a block, but for the repeats that it ends with.
 ghost use Rattle.std.specs.Prelude.{◌≡◌, false, ◌+◌, ◌≤◌, ◌<◌, List, ◌++◌, length, take};
 ghost use Rattle.qoi.specs.declared.types.Style.TheVariants.{Reference};
-ghost use Rattle.qoi.specs.Qoi.{RgbaPixel};
+ghost use Rattle.qoi.specs.Qoi.{RgbaPixel, IsPixel};
 ghost use Rattle.qoi.specs.inner.Blocks.{BetweenBlocks, last_pixel, all_repeat};
 ghost use Rattle.qoi.specs.inner.CoderLoop.{Writing};
 ghost use Rattle.qoi.specs.inner.Planes.{ArePacked, ArePlanes, block_pixels};
 
+use crate::encode::changes::{all_set, find_changes};
 use crate::encode::lanes::places;
 use crate::encode::planes::{Planes, Words, make_planes};
 use crate::encode::spelling::spell_block;
@@ -34,6 +35,15 @@ impl Block {
             planes: make_planes(words),
         }
     }
+
+    /// Whether all sixteen pixels repeat the last one of the block before.
+    #[inline(always)]
+    pub(super) fn repeats(self, before: Planes) -> bool
+        ensures { IsPixel (last_pixel before)
+            → result ≡ all_repeat (last_pixel before) (block_pixels self.words) }
+    {
+        all_set(find_changes(before, self.planes).rep)
+    }
 }
 
 /// Stores the chunks of a block of four channels that doesn't repeat whole, from `at` on, but for the
@@ -61,7 +71,8 @@ pub(super) fn write_block(
 {
     let places = places(block.planes);
     let stands = put_block(table, places, block.words);
-    let x = spell_block(before, block.planes, stands, places, carry);
+    let changes = find_changes(before, block.planes);
+    let x = spell_block(changes, block.planes.r, stands, places, carry);
     let fresh = x.rep.to_array()[0] == 0;
     let at = put_run(out, at, pick(fresh, carry, 0));
     let end = put_sixteen::<4>(out, at, x, block.planes);

@@ -4,14 +4,14 @@ ghost use Rattle.std.specs.Prelude.{◌≡◌, ◌≤◌, ℕ, List, [], ◌∷�
 ghost use Rattle.qoi.specs.Qoi.{RgbaPixel, hash};
 ghost use Rattle.qoi.specs.inner.BlockBytes.{firsts, sizes};
 ghost use Rattle.qoi.specs.inner.BlockLanes.{Lane, mask, diff_of, near, keep_mask, diff_mask, luma_mask, stand_mask, first_of, second_of, size_of};
-ghost use Rattle.qoi.specs.inner.LaneVectors.{AreBy, AreSteps, AreNear, AreFar, AreFits};
-ghost use Rattle.qoi.specs.inner.BlockState.{State, is_rep};
+ghost use Rattle.qoi.specs.inner.LaneVectors.{AreBy, AreSteps, AreNear, AreFar, AreFits, AreChanges};
+ghost use Rattle.qoi.specs.inner.BlockState.{State, lanes_of, is_rep};
 ghost use Rattle.qoi.specs.inner.Counts.{counts};
 ghost use Rattle.qoi.specs.inner.Spelling.{IsBlock, HasSpelled};
 
+use crate::encode::changes::Changes;
 use crate::encode::counts::count_repeats;
-use crate::encode::lanes::{Steps, channel_steps, greater, is_zero, lesser, repeating};
-use crate::encode::planes::Planes;
+use crate::encode::lanes::{Steps, greater, is_zero, lesser};
 use std::simd::prelude::*;
 
 /// Which pixels fit a difference chunk, which fit a luma, and which keep alpha: 255 or 0.
@@ -155,30 +155,25 @@ fn with_none(size: u8x16, rep: u8x16) -> u8x16
     size + (rep & next_repeats(rep))
 }
 
-/// Spells out sixteen pixels, where `before` has the sixteen before them, `stands` says which stand
-/// at their index positions, and `carry` repeats came before that aren't written yet.
+/// Spells out sixteen pixels, where `stands` says which stand at their index positions, and `carry`
+/// repeats came before that aren't written yet.
 #[inline(always)]
 pub(super) fn spell_block(
-    before: Planes,
-    p: Planes,
+    changes: Changes,
+    red: u8x16,
     stands: u8x16,
     places: u8x16,
     carry: u8,
 ) -> Spelled
     requires { carry ≤ 46 }
     ensures { (s : State) (ps : List RgbaPixel) → s.carry ≡ carry
-        → IsBlock s ps p before stands places → HasSpelled s ps result }
+        → AreChanges (lanes_of s.held s.last ps) changes → IsBlock s ps red stands places
+        → HasSpelled s ps result }
 {
-    let d = Steps {
-        r: channel_steps(before.r, p.r),
-        g: channel_steps(before.g, p.g),
-        b: channel_steps(before.b, p.b),
-    };
-    let alpha = channel_steps(before.a, p.a);
-    let rep = repeating(d, alpha);
-    let keep = is_zero(alpha);
-    let near = near_steps(d);
-    let far = far_steps(d);
+    let rep = changes.rep;
+    let keep = is_zero(changes.alpha);
+    let near = near_steps(changes.steps);
+    let far = far_steps(changes.steps);
     let fits = Fits {
         diff: fits_diff(near, keep),
         luma: fits_luma(far, keep),
@@ -189,7 +184,7 @@ pub(super) fn spell_block(
     Spelled {
         rep,
         first: with_runs(first, rep, count),
-        second: second_bytes(far, p.r, fits.luma),
+        second: second_bytes(far, red, fits.luma),
         size: with_none(sizes_of(fits, stands), rep),
         count,
     }

@@ -33,11 +33,11 @@ returns-clause-written c = λ w rest style mixed b.
     let last : IsPixel s.last = subst IsPixel b.carrying.last_is b.carrying.between.to_write.before in
     let at : c.places-places.result ≡ map hash ps = c.places-places.ensures ps sixteen planes in
     let put = c.put_block-stands.ensures s.held ps b.table_is sixteen (block_words words c.args.block.packed) at in
-    let spelled = c.spell_block-x.ensures s ps b.carry_is (record {
+    let changes = c.find_changes-changes.ensures s ps sixteen last planes b.before_is in
+    let spelled = c.spell_block-x.ensures s ps b.carry_is changes (record {
       sixteen = sixteen;
       last_is = last;
-      planes_are = planes;
-      after = b.before_is;
+      red_is = planes.r_is;
       stands_are = put.stands_are;
       places_are = at;
     }) in
