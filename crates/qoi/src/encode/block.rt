@@ -12,8 +12,8 @@ use crate::encode::planes::{Planes, Words, make_planes};
 use crate::encode::spelling::spell_block;
 use crate::encode::stands::put_block;
 use crate::encode::stores::{put_run, put_sixteen};
-use crate::packed::pick;
-use crate::table::Table;
+use crate::encode::table::PixelTable;
+use crate::utils::pick;
 
 /// Sixteen pixels, packed and in planes.
 #[derive(Clone, Copy)]
@@ -51,7 +51,7 @@ impl Block {
 /// yet. Returns where the chunks end, and how many repeats aren't stored then.
 #[inline(always)]
 pub(super) fn write_block(
-    table: &mut Table,
+    table: &mut PixelTable,
     out: &mut [u8],
     at: usize,
     block: Block,
