@@ -10,7 +10,7 @@ use crate::consts::{QOI_OP_LUMA, QOI_OP_RGB, QOI_OP_RGBA, QOI_OP_RUN};
 use crate::decode::deltas::advance;
 use crate::decode::hashed::Hashed;
 use crate::decode::output::fill;
-use crate::decode::table::TermTable;
+use crate::decode::table::SizedTerms;
 
 /// Whether a chunk with this first byte is a luma.
 #[inline(always)]
@@ -45,8 +45,8 @@ pub(super) struct Decoded {
 /// Decodes the first chunk of the bytes. If `RUN_FITS`, the output has room for the blocks of any
 /// run; else how much it has is tested. The second byte is read even if the chunk has only one.
 #[inline(always)]
-pub(super) fn decode_chunk<const N: usize, const F: usize, const RUN_FITS: bool>(
-    table: &mut TermTable,
+pub(super) fn decode_chunk<const N: usize, const F: usize, const RUN_FITS: bool, const SIZE: usize>(
+    table: &mut SizedTerms<SIZE>,
     last: Hashed,
     bytes: &[u8],
     out: &mut [u8],

@@ -4,19 +4,19 @@ ghost use Rattle.std.specs.Vec.{vec_len, vec_capacity};
 ghost use Rattle.std.specs.Io.KnownBytes.{Consumes};
 ghost use Rattle.qoi.specs.Raw.{IsChannels};
 ghost use Rattle.qoi.specs.Qoi.{end_marker};
-ghost use Rattle.qoi.specs.Decoding.{ReadsImage, RefusesMarker, RefusesBytes};
+ghost use Rattle.qoi.specs.Decoding.{StreamsPixels, ReadsImage, RefusesMarker, RefusesBytes};
 ghost use Rattle.qoi.specs.Verdicts.{AreCut};
 ghost use Rattle.qoi.specs.declared.decode.output.TheConstants.{RUN_ROOM};
 ghost use Rattle.qoi.specs.inner.Filling.{filling, DecoderBetween};
 
 use crate::consts::{QOI_PADDING, QOI_PADDING_SIZE};
 use crate::decode::chunks::{Chunks, image_to_buf, image_to_vec};
-use crate::decode::fast::Progress;
+use crate::decode::fast::{OUTPUT_ROOM, Progress};
 use crate::decode::hashed::Hashed;
 use crate::decode::one_chunk::decode_chunk;
 use crate::decode::output::RUN_ROOM;
 use crate::decode::reader::Bytes;
-use crate::decode::table::TermTable;
+use crate::decode::table::{SizedTerms, SmallTermTable, TermTable};
 use crate::error::{Error, Result};
 
 // What is left between two chunks: the last pixel, the bytes ahead, and how much of the output is
@@ -33,8 +33,8 @@ struct Left<'a> {
 // `None` if fewer than eight bytes are left before that: the file is cut, since its end marker
 // alone has eight.
 #[inline(never)]
-fn last_chunks<'a, const N: usize, const F: usize, const RUN_FITS: bool>(
-    table: &mut TermTable,
+fn last_chunks<'a, const N: usize, const F: usize, const RUN_FITS: bool, const SIZE: usize>(
+    table: &mut SizedTerms<SIZE>,
     last: Hashed,
     data: &'a [u8],
     out: &mut [u8],
@@ -63,7 +63,7 @@ fn last_chunks<'a, const N: usize, const F: usize, const RUN_FITS: bool>(
         if rest.len() < QOI_PADDING_SIZE {
             return None;
         }
-        let decoded = decode_chunk::<N, F, RUN_FITS>(table, last, rest, out, at);
+        let decoded = decode_chunk::<N, F, RUN_FITS, SIZE>(table, last, rest, out, at);
         let (_, after) = rest.split_at(decoded.taken);
         rest = after;
         last = decoded.last;
@@ -98,7 +98,7 @@ fn slice_chunks<'a, const N: usize, const F: usize, const RUN_FITS: bool>(
 {
     let now = Progress::fast_chunks::<N, F>(table, last, data, out, at);
     let (_, rest) = data.split_at(now.taken);
-    last_chunks::<N, F, RUN_FITS>(table, now.last, rest, out, now.at)
+    last_chunks::<N, F, RUN_FITS, _>(table, now.last, rest, out, now.at)
 }
 
 // Checks that the end marker stands at the front, and returns the bytes after it.
@@ -157,6 +157,43 @@ impl<'a, const N: usize, const F: usize> Chunks<N, F> for Bytes<'a> {
     }
 }
 
+// Decodes chunks until an output is full that never enters the fast loop, and returns the bytes
+// after them. `None` if the file is cut.
+fn small_chunks<'a, const N: usize, const F: usize>(
+    data: &'a [u8],
+    out: &mut [u8],
+) -> Option<&'a [u8]>
+    requires channels { IsChannels N }
+    requires whole { length out.old % N ≡ 0 }
+    ensures { MatchOption result (AreCut (length out.old / N) «data».entry.now)
+        (λ rest. StreamsPixels F N (length out.old / N)
+        (Some «data».entry.now) (Some rest.now) out.new) }
+{
+    let mut table = SmallTermTable::new();
+    let start = Hashed::start();
+    let Some(left) = last_chunks::<N, F, false, _>(&mut table, start, data, out, 0) else {
+        return None;
+    };
+    Some(left.rest)
+}
+
+// Decodes chunks and the end marker into such an output, and returns the bytes after them.
+fn small_image<'a, const N: usize, const F: usize>(
+    data: &'a [u8],
+    out: &mut [u8],
+) -> Result<&'a [u8]>
+    requires channels { IsChannels N }
+    requires whole { length out.old % N ≡ 0 }
+    ensures read { IfOk result (λ rest.
+        ReadsImage F N (length out.old / N) (Some «data».entry.now) (Some rest.now) out.new) }
+    ensures refused { IfErr result (RefusesBytes (length out.old / N) «data».entry.now) }
+{
+    let Some(rest) = small_chunks::<N, F>(data, out) else {
+        return Err(Error::UnexpectedBufferEnd);
+    };
+    slice_marker(rest)
+}
+
 // Decodes chunks and the end marker, and returns the bytes after them.
 pub(super) fn slice_image<'a, const N: usize, const F: usize>(
     data: &'a [u8],
@@ -168,6 +205,9 @@ pub(super) fn slice_image<'a, const N: usize, const F: usize>(
         ReadsImage F N (length out.old / N) (Some «data».entry.now) (Some rest.now) out.new) }
     ensures refused { IfErr result (RefusesBytes (length out.old / N) «data».entry.now) }
 {
+    if out.len() < OUTPUT_ROOM {
+        return small_image::<N, F>(data, out);
+    }
     let mut bytes = Bytes(data);
     image_to_buf::<Bytes, N, F>(&mut bytes, out)?;
     Ok(bytes.0)

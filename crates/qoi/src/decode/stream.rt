@@ -113,22 +113,22 @@ pub(super) fn next_chunk<R: Read, const N: usize, const F: usize, const RUN_FITS
     if is_luma(u32::from(b1)) {
         let b2 = read_one(reader)?;
         let bytes = [b1, b2, 0, 0, 0, 0, 0, 0];
-        return Ok(decode_chunk::<N, F, RUN_FITS>(table, last, &bytes, out, at));
+        return Ok(decode_chunk::<N, F, RUN_FITS, _>(table, last, &bytes, out, at));
     }
     if b1 < QOI_OP_RGB {
         let bytes = [b1, 0, 0, 0, 0, 0, 0, 0];
-        return Ok(decode_chunk::<N, F, RUN_FITS>(table, last, &bytes, out, at));
+        return Ok(decode_chunk::<N, F, RUN_FITS, _>(table, last, &bytes, out, at));
     }
     if b1 == QOI_OP_RGB {
         let mut more = [0, 0, 0];
         read_exact(reader, &mut more)?;
         let bytes = [b1, more[0], more[1], more[2], 0, 0, 0, 0];
-        return Ok(decode_chunk::<N, F, RUN_FITS>(table, last, &bytes, out, at));
+        return Ok(decode_chunk::<N, F, RUN_FITS, _>(table, last, &bytes, out, at));
     }
     let mut more = [0, 0, 0, 0];
     read_exact(reader, &mut more)?;
     let bytes = [b1, more[0], more[1], more[2], more[3], 0, 0, 0];
-    Ok(decode_chunk::<N, F, RUN_FITS>(table, last, &bytes, out, at))
+    Ok(decode_chunk::<N, F, RUN_FITS, _>(table, last, &bytes, out, at))
 }
 
 // Decodes chunks from a stream, after the pixel `last` and the first `at` bytes of `out`: if

@@ -8,33 +8,42 @@ use crate::decode::hashed::Hashed;
 use std::marker::Model;
 
 /// What the decoders' sum takes from the index positions: for each first byte of a chunk a number,
-/// the pixel at the index position that it names, or 0 if it names none.
+/// the pixel at the index position that it names, or 0 if it names none. The last number stands
+/// for all first bytes after it, too.
 ///
 /// A contract sees the list of the numbers.
 #[derive(Drop)]
-pub(super) struct TermTable {
-    numbers: [Hashed; 256],
+pub(super) struct SizedTerms<const SIZE: usize> {
+    numbers: [Hashed; SIZE],
 }
 
-impl Model for TermTable {
-    ghost use Rattle.std.specs.Prelude.{◌≡◌, ◌≤◌, ℕ, List, length, slice_index};
+/// A number for each first byte, so that no test is needed.
+pub(super) type TermTable = SizedTerms<256>;
+
+/// A single 0 after the index positions, for an output so small that zeroing more would take as
+/// long as decoding.
+pub(super) type SmallTermTable = SizedTerms<65>;
+
+impl<const SIZE: usize> Model for SizedTerms<SIZE> {
+    ghost use Rattle.std.specs.Prelude.{◌≡◌, ◌<◌, ◌≤◌, ℕ, List, length, slice_index};
     ghost use Rattle.qoi.specs.Qoi.{positions};
 
     ghost Value = { List ℕ };
 
     ghost view = { λ t. t.numbers };
 
-    ghost invariant = { λ t. (length t.numbers ≡ 256)
+    ghost invariant = { λ t. (length t.numbers ≡ SIZE) × (positions < SIZE)
         × ((i : ℕ) → positions ≤ i → slice_index t.numbers i ≡ 0) };
 }
 
-impl TermTable {
+impl<const SIZE: usize> SizedTerms<SIZE> {
     /// Transparent black at each index position.
-    pub(super) fn new() -> TermTable
+    pub(super) fn new() -> SizedTerms<SIZE>
+        requires { (positions < SIZE) × (SIZE ≤ 256) }
         ensures { HoldsSeen result [] }
     {
-        TermTable {
-            numbers: [Hashed::blank(); 256],
+        SizedTerms {
+            numbers: [Hashed::blank(); SIZE],
         }
     }
 
@@ -46,7 +55,8 @@ impl TermTable {
             → pixel_of_lanes result ≡ seen past b1 }
         ensures none { positions ≤ b1 → result ≡ 0 }
     {
-        self.numbers[b1]
+        let numbers = self.numbers.as_slice();
+        numbers[b1.min(numbers.len() - 1)]
     }
 
     /// Puts a pixel at its index position.

@@ -1,5 +1,5 @@
 -- A chunk more is taken, or the bytes are cut.
-use Rattle.std.proofs.Common.{◌<◌, Some, take, drop, length, sym, subst, arith, take-append-drop}
+use Rattle.std.proofs.Common.{rules, ◌<◌, Some, take, drop, length, sym, subst, arith, take-append-drop}
 use Rattle.std.specs.Io.KnownBytes.{Consumes}
 use Rattle.std.proofs.KnownBytes.{Consumes-trans}
 use Rattle.qoi.specs.Qoi.{AreBytes}
@@ -18,10 +18,11 @@ loop-out-init g c = record {
   between = λ n start h. h;
 }
 
-pub decode_chunk-decoded-requires-clause-whole : goal.decode_chunk-decoded-requires-clause-whole
-decode_chunk-decoded-requires-clause-whole g c =
+pub decode_chunk-decoded-requires : goal.decode_chunk-decoded-requires
+decode_chunk-decoded-requires g c =
     let known = c.requires.between in
-    whole_sizes c.requires.channels (c.loop-out.invariant.between known.0 known.1 known.2)
+    let sizes = whole_sizes c.requires.channels (c.loop-out.invariant.between known.0 known.1 known.2) in
+    (search rules, (c.requires.channels, (omega (arith, c.if-rest-lt-QOI_PADDING_SIZE.false), (sizes, (search rules, search rules)))))
 
 pub loop-out-preserved : goal.loop-out-preserved
 loop-out-preserved g c =
