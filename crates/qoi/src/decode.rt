@@ -355,7 +355,8 @@ impl<R: Reader> Decoder<R> {
 
         // The refusals: memory runs out, or the bytes ahead are refused.
         ensures refused { IfErr result (λ e. ((e ≡ Error.OutOfMemory) × (self.new ≡ self.old))
-            ⊎ HasRefused R.in_memory self.old (R.ahead self.old.reader) (R.ahead self.new.reader) e) }
+            ⊎ HasRefused R.in_memory self.old
+            (R.ahead self.old.reader) (R.ahead self.new.reader) e) }
 
         // What stays: the header and the channels.
         ensures unchanged { self.new ≡ record self.old { reader = self.new.reader } }

@@ -8,7 +8,7 @@ use std::marker::Model;
 use std::simd::{Simd, u8x4, u8x16, u64x2};
 
 // 3 * 2^56 + 7 * 2^40 + 5 * 2^16 + 11: the highest byte of its product with a pixel that is spread
-// over 64 bits (red, blue, green and alpha from bits 0, 16, 40 and 56 on) is 3 r + 5 g + 7 b + 11 a,
+// over 64 bits (red, blue, green and alpha from bits 0, 16, 40 and 56 on) is 3 r + 5 g + 7 b + 11 a
 // modulo 256.
 const HASH_FACTOR: u64 = 0x0300_0700_0005_000b;
 

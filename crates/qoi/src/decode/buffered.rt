@@ -7,7 +7,7 @@ ghost use Rattle.qoi.specs.Decoding.{HasTaken};
 ghost use Rattle.qoi.specs.declared.decode.output.TheConstants.{RUN_ROOM};
 ghost use Rattle.qoi.specs.inner.Filling.{filling, DecoderBetween};
 
-use crate::decode::chunks::Chunks;
+use crate::decode::chunks::{Chunks, Reached};
 use crate::decode::fast::{OUTPUT_ROOM, Progress};
 use crate::decode::hashed::Hashed;
 use crate::decode::output::RUN_ROOM;
@@ -29,27 +29,30 @@ fn chunks_in_buffer<R: BufRead, const N: usize, const F: usize>(
     last: Hashed,
     out: &mut [u8],
     at: usize,
-) -> io::Result<(Hashed, usize)>
+) -> io::Result<Reached>
     requires channels { IsChannels N }
     requires within { at ≤ length out.old }
     ensures between { (n : ℕ) (start : Option (List ℕ))
         → DecoderBetween F N n (Consumes start (R.remaining reader.old))
         (filling table.old last out.old at)
         → IfOk result (λ now. DecoderBetween F N n (Consumes start (R.remaining reader.new))
-        (filling table.new now.0 out.new now.1)) }
-    ensures on { IfOk result (λ now. at ≤ now.1) }
-    ensures below { at < length out.old → IfOk result (λ now. now.1 < length out.new) }
+        (filling table.new now.last out.new now.at)) }
+    ensures on { IfOk result (λ now. at ≤ now.at) }
+    ensures below { at < length out.old → IfOk result (λ now. now.at < length out.new) }
     ensures failed { OnErr result
         (Consumes (R.remaining reader.old) (R.remaining reader.new) []) }
     ensures unfilled { OnErr result (at < length out.old) }
 {
     if out.len() - at < OUTPUT_ROOM {
-        return Ok((last, at));
+        return Ok(Reached { last, at });
     }
     let bytes = reader.fill_buf()?;
     let now = Progress::fast_chunks::<N, F>(table, last, bytes, out, at);
     reader.consume(now.taken);
-    Ok((now.last, now.at))
+    Ok(Reached {
+        last: now.last,
+        at: now.at,
+    })
 }
 
 // Decodes chunks from a reader with a buffer, after the pixel `last` and the first `at` bytes of
@@ -63,7 +66,7 @@ fn decode_chunks<R: BufRead, const N: usize, const F: usize, const RUN_FITS: boo
     last: Hashed,
     out: &mut [u8],
     at: usize,
-) -> io::Result<(Hashed, usize)>
+) -> io::Result<Reached>
     requires channels { IsChannels N }
     requires between { (n : ℕ) × (start : Option (List ℕ))
         × DecoderBetween F N n (Consumes start (R.remaining reader.old))
@@ -72,11 +75,11 @@ fn decode_chunks<R: BufRead, const N: usize, const F: usize, const RUN_FITS: boo
         → DecoderBetween F N n (Consumes start (R.remaining reader.old))
         (filling table.old last out.old at)
         → IfOk result (λ now. DecoderBetween F N n (Consumes start (R.remaining reader.new))
-        (filling table.new now.0 out.new now.1)) }
+        (filling table.new now.last out.new now.at)) }
     ensures below { IsTrue RUN_FITS → at < length out.old
-        → IfOk result (λ now. now.1 < length out.new) }
-    ensures filled { IsTrue RUN_FITS → IfOk result (λ now. length out.new < now.1 + RUN_ROOM) }
-    ensures full { IsFalse RUN_FITS → IfOk result (λ now. length out.new ≤ now.1) }
+        → IfOk result (λ now. now.at < length out.new) }
+    ensures filled { IsTrue RUN_FITS → IfOk result (λ now. length out.new < now.at + RUN_ROOM) }
+    ensures full { IsFalse RUN_FITS → IfOk result (λ now. length out.new ≤ now.at) }
     ensures failed { (n : ℕ) (start : Option (List ℕ))
         → DecoderBetween F N n (Consumes start (R.remaining reader.old))
         (filling table.old last out.old at)
@@ -88,10 +91,10 @@ fn decode_chunks<R: BufRead, const N: usize, const F: usize, const RUN_FITS: boo
     while least <= out.len() - at {
         let decoded = next_chunk::<R, N, F, RUN_FITS>(reader, table, last, out, at)?;
         let now = chunks_in_buffer::<R, N, F>(reader, table, decoded.last, out, decoded.at)?;
-        last = now.0;
-        at = now.1;
+        last = now.last;
+        at = now.at;
     }
-    Ok((last, at))
+    Ok(Reached { last, at })
 }
 
 impl<R: BufRead, const N: usize, const F: usize> Chunks<N, F> for Buffered<R> {
@@ -106,7 +109,7 @@ impl<R: BufRead, const N: usize, const F: usize> Chunks<N, F> for Buffered<R> {
         last: Hashed,
         out: &mut [u8],
         at: usize,
-    ) -> Result<(Hashed, usize)> {
+    ) -> Result<Reached> {
         let now = decode_chunks::<R, N, F, true>(&mut self.0, table, last, out, at)?;
         Ok(now)
     }

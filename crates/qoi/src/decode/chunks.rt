@@ -18,6 +18,13 @@ use crate::error::Result;
 /// By how many pixels a vector grows, before they are decoded: few enough to stay in the cache.
 const STEP: usize = 16384;
 
+/// What a loop over chunks reached: the last pixel, and where the output stopped.
+#[derive(Clone, Copy)]
+pub(super) struct Reached {
+    pub(super) last: Hashed,
+    pub(super) at: usize,
+}
+
 /// What takes chunks, in `N` channels of output, from a file of `F` channels.
 pub(super) trait Chunks<const N: usize, const F: usize>: Sized {
     /// The bytes that stand ahead, if the reader's contract states them.
@@ -27,7 +34,7 @@ pub(super) trait Chunks<const N: usize, const F: usize>: Sized {
     ghost in_memory: { Bool };
 
     /// Decodes chunks, after the pixel `last` and the first `at` bytes of `out`, as long as `out`
-    /// has room for the blocks of any run. Returns the last pixel, and where in `out` it stopped.
+    /// has room for the blocks of any run. Returns what it reached.
     ///
     /// What refuses them refuses them for any image of more pixels than fit, too.
     fn some_chunks(
@@ -36,7 +43,7 @@ pub(super) trait Chunks<const N: usize, const F: usize>: Sized {
         last: Hashed,
         out: &mut [u8],
         at: usize,
-    ) -> Result<(Hashed, usize)>
+    ) -> Result<Reached>
         requires channels { IsChannels N }
         requires between { (n : ℕ) × (start : Option (List ℕ))
             × DecoderBetween F N n (Consumes start (ahead self.old))
@@ -45,9 +52,9 @@ pub(super) trait Chunks<const N: usize, const F: usize>: Sized {
             → DecoderBetween F N n (Consumes start (ahead self.old))
             (filling table.old last out.old at)
             → IfOk result (λ now. DecoderBetween F N n (Consumes start (ahead self.new))
-            (filling table.new now.0 out.new now.1)) }
-        ensures below { at < length out.old → IfOk result (λ now. now.1 < length out.new) }
-        ensures filled { IfOk result (λ now. length out.new < now.1 + RUN_ROOM) }
+            (filling table.new now.last out.new now.at)) }
+        ensures below { at < length out.old → IfOk result (λ now. now.at < length out.new) }
+        ensures filled { IfOk result (λ now. length out.new < now.at + RUN_ROOM) }
         ensures refused { (n : ℕ) (start : Option (List ℕ))
             → DecoderBetween F N n (Consumes start (ahead self.old))
             (filling table.old last out.old at)
@@ -140,8 +147,8 @@ fn chunks_to_vec<R: Chunks<N, F>, const N: usize, const F: usize>(
         let more = out.len() + STEP * N;
         grow::<N>(out, more);
         let now = reader.some_chunks(&mut table, last, out, at)?;
-        last = now.0;
-        at = now.1;
+        last = now.last;
+        at = now.at;
     }
     grow::<N>(out, size);
     reader.all_chunks(&mut table, last, out, at)

@@ -10,7 +10,7 @@ ghost use Rattle.qoi.specs.declared.decode.output.TheConstants.{RUN_ROOM};
 ghost use Rattle.qoi.specs.inner.Filling.{filling, DecoderBetween};
 
 use crate::consts::{QOI_PADDING, QOI_PADDING_SIZE};
-use crate::decode::chunks::{Chunks, image_to_buf, image_to_vec};
+use crate::decode::chunks::{Chunks, Reached, image_to_buf, image_to_vec};
 use crate::decode::fast::{OUTPUT_ROOM, Progress};
 use crate::decode::hashed::Hashed;
 use crate::decode::one_chunk::decode_chunk;
@@ -128,12 +128,15 @@ impl<'a, const N: usize, const F: usize> Chunks<N, F> for Bytes<'a> {
         last: Hashed,
         out: &mut [u8],
         at: usize,
-    ) -> Result<(Hashed, usize)> {
+    ) -> Result<Reached> {
         let Some(left) = slice_chunks::<N, F, true>(table, last, self.0, out, at) else {
             return Err(Error::UnexpectedBufferEnd);
         };
         self.0 = left.rest;
-        Ok((left.last, left.at))
+        Ok(Reached {
+            last: left.last,
+            at: left.at,
+        })
     }
 
     #[inline(always)]

@@ -9,7 +9,7 @@ ghost use Rattle.qoi.specs.Decoding.{HasTaken, RefusesTakenMarker};
 ghost use Rattle.qoi.specs.inner.Filling.{IsWholePixels, DecodesChunk, DecoderBetween, filling};
 
 use crate::consts::{QOI_OP_RGB, QOI_PADDING, QOI_PADDING_SIZE};
-use crate::decode::chunks::Chunks;
+use crate::decode::chunks::{Chunks, Reached};
 use crate::decode::hashed::Hashed;
 use crate::decode::one_chunk::{Decoded, decode_chunk, is_luma};
 use crate::decode::output::RUN_ROOM;
@@ -140,7 +140,7 @@ fn decode_chunks<R: Read, const N: usize, const F: usize, const RUN_FITS: bool>(
     last: Hashed,
     out: &mut [u8],
     at: usize,
-) -> io::Result<(Hashed, usize)>
+) -> io::Result<Reached>
     requires channels { IsChannels N }
     requires between { (n : ℕ) × (start : Option (List ℕ))
         × DecoderBetween F N n (Consumes start (R.remaining reader.old))
@@ -149,11 +149,11 @@ fn decode_chunks<R: Read, const N: usize, const F: usize, const RUN_FITS: bool>(
         → DecoderBetween F N n (Consumes start (R.remaining reader.old))
         (filling table.old last out.old at)
         → IfOk result (λ now. DecoderBetween F N n (Consumes start (R.remaining reader.new))
-        (filling table.new now.0 out.new now.1)) }
+        (filling table.new now.last out.new now.at)) }
     ensures below { IsTrue RUN_FITS → at < length out.old
-        → IfOk result (λ now. now.1 < length out.new) }
-    ensures filled { IsTrue RUN_FITS → IfOk result (λ now. length out.new < now.1 + RUN_ROOM) }
-    ensures full { IsFalse RUN_FITS → IfOk result (λ now. length out.new ≤ now.1) }
+        → IfOk result (λ now. now.at < length out.new) }
+    ensures filled { IsTrue RUN_FITS → IfOk result (λ now. length out.new < now.at + RUN_ROOM) }
+    ensures full { IsFalse RUN_FITS → IfOk result (λ now. length out.new ≤ now.at) }
     ensures failed { (n : ℕ) (start : Option (List ℕ))
         → DecoderBetween F N n (Consumes start (R.remaining reader.old))
         (filling table.old last out.old at)
@@ -167,7 +167,7 @@ fn decode_chunks<R: Read, const N: usize, const F: usize, const RUN_FITS: bool>(
         last = decoded.last;
         at = decoded.at;
     }
-    Ok((last, at))
+    Ok(Reached { last, at })
 }
 
 // Reads eight bytes from a stream, and refuses them if they aren't the end marker.
@@ -196,7 +196,7 @@ impl<R: Read, const N: usize, const F: usize> Chunks<N, F> for R {
         last: Hashed,
         out: &mut [u8],
         at: usize,
-    ) -> Result<(Hashed, usize)> {
+    ) -> Result<Reached> {
         let now = decode_chunks::<R, N, F, true>(self, table, last, out, at)?;
         Ok(now)
     }
@@ -209,8 +209,8 @@ impl<R: Read, const N: usize, const F: usize> Chunks<N, F> for R {
         out: &mut [u8],
         at: usize,
     ) -> Result<()> {
-        let (last, at) = decode_chunks::<R, N, F, true>(self, table, last, out, at)?;
-        decode_chunks::<R, N, F, false>(self, table, last, out, at)?;
+        let now = decode_chunks::<R, N, F, true>(self, table, last, out, at)?;
+        decode_chunks::<R, N, F, false>(self, table, now.last, out, now.at)?;
         Ok(())
     }
 
