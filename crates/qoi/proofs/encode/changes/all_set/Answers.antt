@@ -1,3 +1,4 @@
+-- The bits of the lanes.
 use Rattle.qoi.proofs.encoding.AllRepeat.{all_bits}
 use Rattle.qoi.proofs.encode.changes.all_set.Goals as goal
 

@@ -1,3 +1,4 @@
+-- Channel by channel.
 use Rattle.std.proofs.Common.{◌≡◌, ℕ, List, map}
 use Rattle.qoi.specs.Qoi.{RgbaPixel}
 use Rattle.qoi.specs.inner.BlockLanes.{Lane}

@@ -1,3 +1,4 @@
+-- From the running maximum to the counts.
 use Rattle.qoi.proofs.encoding.LaneStamps.{counted_lanes}
 use Rattle.qoi.proofs.encode.counts.count_repeats.Goals as goal
 

@@ -1,3 +1,4 @@
+-- Four shifts, each twice as far.
 use Rattle.std.proofs.Common.{arith, refl, ap, ◌∙◌}
 use Rattle.std.specs.Prelude.{max}
 use lib.Lanes.{zip2}

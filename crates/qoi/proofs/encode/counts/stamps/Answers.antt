@@ -1,3 +1,4 @@
+-- Lane by lane.
 use Rattle.qoi.proofs.encoding.LaneStamps.{stamps_are}
 use Rattle.qoi.proofs.encode.counts.stamps.Goals as goal
 

@@ -1,3 +1,4 @@
+-- Each lane less the one before.
 use Rattle.qoi.proofs.encoding.Lanewise.{two, again}
 use Rattle.qoi.proofs.encode.lanes.channel_steps.Goals as goal
 

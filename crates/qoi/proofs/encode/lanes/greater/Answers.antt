@@ -1,3 +1,4 @@
+-- Lane by lane.
 use Rattle.qoi.proofs.encoding.LaneMasks.{greater_lanes}
 use Rattle.qoi.proofs.encode.lanes.greater.Goals as goal
 

@@ -1,3 +1,4 @@
+-- Lane by lane.
 use Rattle.qoi.proofs.encoding.LaneMasks.{zero_lanes}
 use Rattle.qoi.proofs.encode.lanes.is_zero.Goals as goal
 

@@ -1,3 +1,4 @@
+-- The lanes, one further on.
 use Rattle.qoi.proofs.encoding.LaneTests.{one_later}
 use Rattle.qoi.proofs.encode.lanes.later.Goals as goal
 

@@ -1,3 +1,4 @@
+-- Lane by lane.
 use Rattle.qoi.proofs.encoding.LaneMasks.{lesser_lanes}
 use Rattle.qoi.proofs.encode.lanes.lesser.Goals as goal
 

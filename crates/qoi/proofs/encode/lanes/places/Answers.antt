@@ -1,3 +1,4 @@
+-- Sums of bytes, lane by lane.
 use Rattle.std.proofs.Common.{◌≡◌, ℕ, false, List, [], map, arith, ◌∙◌}
 use Rattle.qoi.specs.Qoi.{RgbaPixel, IsPixel, pixel, hash}
 use Rattle.qoi.specs.inner.BlockLanes.{Lane}

@@ -1,3 +1,4 @@
+-- All steps are 0.
 use Rattle.qoi.proofs.encoding.Lanewise.{two, one, each, again}
 use Rattle.qoi.proofs.encoding.LaneTests.{repeat_lane}
 use Rattle.qoi.proofs.encode.lanes.repeating.Goals as goal

@@ -1,3 +1,4 @@
+-- The bytes of four pixels, channel by channel.
 use Rattle.qoi.proofs.encoding.WordPlanes.{channels_of}
 use Rattle.qoi.proofs.encode.planes.by_channel.Goals as goal
 

@@ -1,3 +1,4 @@
+-- Four pixels at a time.
 use Rattle.qoi.proofs.encoding.FourFours.{four_words_of}
 use Rattle.qoi.proofs.encoding.WordPlanes.{sixteen_planes}
 use Rattle.qoi.proofs.encode.planes.make_planes.Goals as goal

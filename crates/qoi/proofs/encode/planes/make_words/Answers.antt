@@ -1,3 +1,4 @@
+-- Four pixels at a time.
 use Rattle.std.proofs.Common.{take, drop, sym, subst}
 use Rattle.qoi.specs.inner.Planes.{ArePlanes}
 use Rattle.qoi.proofs.encoding.FourFours.{four_fours}

@@ -1,3 +1,4 @@
+-- The byte, by doubling.
 use Rattle.std.proofs.Common.{arith}
 use Rattle.qoi.proofs.encoding.Lanewise.{two, flat, each}
 use Rattle.qoi.proofs.encode.spelling.diffs.Goals as goal

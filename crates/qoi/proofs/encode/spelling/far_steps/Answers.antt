@@ -1,3 +1,4 @@
+-- Lane by lane.
 use Rattle.std.proofs.Common.{refl, arith}
 use Rattle.qoi.proofs.encoding.Lanewise.{two, flat, each}
 use Rattle.qoi.proofs.encode.spelling.far_steps.Goals as goal

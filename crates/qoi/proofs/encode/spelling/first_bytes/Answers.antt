@@ -1,3 +1,4 @@
+-- The least byte that applies.
 use Rattle.qoi.proofs.encoding.Lanewise.{two, one, flat, each, again, sum_8}
 use Rattle.qoi.proofs.encoding.LaneBits.{first_lane}
 use Rattle.qoi.proofs.encode.spelling.first_bytes.Goals as goal

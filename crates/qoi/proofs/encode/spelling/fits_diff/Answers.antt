@@ -1,3 +1,4 @@
+-- The steps fit, and alpha stays.
 use Rattle.qoi.proofs.encoding.Lanewise.{two, one, flat, each, again}
 use Rattle.qoi.proofs.encoding.LaneBits.{diff_lane}
 use Rattle.qoi.proofs.encode.spelling.fits_diff.Goals as goal

@@ -1,3 +1,4 @@
+-- The steps fit, and alpha stays.
 use Rattle.qoi.proofs.encoding.Lanewise.{two, one, flat, each, again}
 use Rattle.qoi.proofs.encoding.LaneBits.{luma_lane}
 use Rattle.qoi.proofs.encode.spelling.fits_luma.Goals as goal

@@ -1,3 +1,4 @@
+-- The lanes, one sooner.
 use Rattle.qoi.proofs.encoding.OverlaidRuns.{one_sooner}
 use Rattle.qoi.proofs.encode.spelling.next_repeats.Goals as goal
 

@@ -1,3 +1,4 @@
+-- One of two bytes, lane by lane.
 use Rattle.qoi.proofs.encoding.Lanewise.{two, one, flat, each}
 use Rattle.qoi.proofs.encoding.LaneBits.{second_lane}
 use Rattle.qoi.proofs.encode.spelling.second_bytes.Goals as goal

@@ -1,3 +1,4 @@
+-- The sizes, from masks.
 use Rattle.std.proofs.Common.{bit_and, bit_or}
 use Rattle.qoi.proofs.encoding.Lanewise.{two, one, flat, each, again, sum_8, not_8}
 use Rattle.qoi.proofs.encoding.LaneBits.{size_lane}

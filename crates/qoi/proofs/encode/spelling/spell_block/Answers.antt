@@ -1,3 +1,4 @@
+-- The vectors, lane by lane.
 use Rattle.std.proofs.Common.{List, map, sym, ap, ◌∙◌}
 use Rattle.std.proofs.lemmas.List.{length-map}
 use Rattle.std.proofs.lemmas.Simd.{map-map}

@@ -1,3 +1,4 @@
+-- Sizes of repeats, lane by lane.
 use Rattle.qoi.proofs.encoding.OverlaidRuns.{sizes_are}
 use Rattle.qoi.proofs.encode.spelling.with_none.Goals as goal
 

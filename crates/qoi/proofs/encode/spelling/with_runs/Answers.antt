@@ -1,3 +1,4 @@
+-- First bytes of repeats, lane by lane.
 use Rattle.std.proofs.Common.{◌∙◌}
 use Rattle.qoi.proofs.encoding.OverlaidRuns.{firsts_are}
 use Rattle.qoi.proofs.encode.spelling.with_runs.Goals as goal

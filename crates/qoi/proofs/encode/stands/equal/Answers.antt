@@ -1,3 +1,4 @@
+-- The masks of four packed pixels.
 use Rattle.qoi.proofs.encoding.StandMasks.{equal_is}
 use Rattle.qoi.proofs.encode.stands.equal.Goals as goal
 

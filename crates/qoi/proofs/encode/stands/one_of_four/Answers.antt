@@ -1,3 +1,4 @@
+-- One byte of each four.
 use Rattle.qoi.proofs.encoding.StandMasks.{one_of_same}
 use Rattle.qoi.proofs.encode.stands.one_of_four.Goals as goal
 

@@ -1,3 +1,4 @@
+-- Sums by a product.
 use Rattle.qoi.proofs.encoding.PrefixSums.{prefix_sums}
 use Rattle.qoi.proofs.encode.stores.ends.Goals as goal
 

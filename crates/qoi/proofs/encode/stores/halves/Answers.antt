@@ -1,3 +1,4 @@
+-- Sixteen bytes as two numbers.
 use Rattle.qoi.proofs.encoding.SizeHalves.{halves_are}
 use Rattle.qoi.proofs.encode.stores.halves.Goals as goal
 

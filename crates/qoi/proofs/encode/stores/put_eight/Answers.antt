@@ -1,3 +1,4 @@
+-- Twice four chunks.
 use Rattle.std.proofs.Common.{ℕ, slice_index, arith, refl, sym, ap, ◌+◌, ◌∙◌}
 use Rattle.qoi.proofs.encoding.StoredParts.{sums_of, two_fours}
 use Rattle.qoi.proofs.encode.stores.put_eight.Goals as goal

@@ -1,3 +1,4 @@
+-- One chunk after the other.
 use Rattle.qoi.proofs.encoding.StoredParts.{chained}
 use Rattle.qoi.proofs.encode.stores.put_four.Goals as goal
 
