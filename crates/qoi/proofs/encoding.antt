@@ -45,6 +45,7 @@ pub mod PackedBlock
 pub mod PlacesOut
 pub mod PlaneWords
 pub mod PrefixSums
+pub mod ReadBlock
 pub mod RunningMost
 pub mod SizeHalves
 pub mod SpelledBlock

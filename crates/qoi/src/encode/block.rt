@@ -2,6 +2,7 @@
 ghost use Rattle.std.specs.Prelude.{◌≡◌, false, ◌+◌, ◌≤◌, ◌<◌, List, ◌++◌, length, take};
 ghost use Rattle.qoi.specs.declared.types.Style.TheVariants.{Reference};
 ghost use Rattle.qoi.specs.Qoi.{RgbaPixel, IsPixel};
+ghost use Rattle.qoi.specs.Raw.{pixels_of};
 ghost use Rattle.qoi.specs.inner.Blocks.{BetweenBlocks, last_pixel, all_repeat};
 ghost use Rattle.qoi.specs.inner.CoderLoop.{Writing};
 ghost use Rattle.qoi.specs.inner.Planes.{ArePacked, ArePlanes, block_pixels};
@@ -9,11 +10,12 @@ ghost use Rattle.qoi.specs.inner.Planes.{ArePacked, ArePlanes, block_pixels};
 use crate::encode::changes::{all_set, find_changes};
 use crate::encode::lanes::places;
 use crate::encode::planes::{Planes, Words, make_planes};
+use crate::encode::quad::read_four;
 use crate::encode::spelling::spell_block;
 use crate::encode::stands::put_block;
 use crate::encode::stores::{put_run, put_sixteen};
 use crate::encode::table::PixelTable;
-use crate::utils::pick;
+use crate::utils::{pick, skip};
 
 /// Sixteen pixels, packed and in planes.
 #[derive(Clone, Copy)]
@@ -36,6 +38,20 @@ impl Block {
         }
     }
 
+    /// The block at the front of raw bytes in four channels.
+    #[inline(always)]
+    pub(super) fn read(bytes: &[u8]) -> Block
+        requires { 64 ≤ length bytes.now }
+        ensures { block_pixels result.words ≡ take 16 (pixels_of 4 bytes.now) }
+    {
+        Block::new(Words {
+            one: read_four::<4>(bytes),
+            two: read_four::<4>(skip(bytes, 16)),
+            three: read_four::<4>(skip(bytes, 32)),
+            four: read_four::<4>(skip(bytes, 48)),
+        })
+    }
+
     /// Whether all sixteen pixels repeat the last one of the block before.
     #[inline(always)]
     pub(super) fn repeats(self, before: Planes) -> bool
@@ -46,9 +62,9 @@ impl Block {
     }
 }
 
-/// Stores the chunks of a block of four channels that doesn't repeat whole, from `at` on, but for the
-/// repeats at its end. `before` has the block before it, and `carry` repeats came that aren't stored
-/// yet. Returns where the chunks end, and how many repeats aren't stored then.
+/// Stores the chunks of a block of four channels that doesn't repeat whole, from `at` on, but for
+/// the repeats at its end. `before` has the block before it, and `carry` repeats came that aren't
+/// stored yet. Returns where the chunks end, and how many repeats aren't stored then.
 #[inline(always)]
 pub(super) fn write_block(
     table: &mut PixelTable,

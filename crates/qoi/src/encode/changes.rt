@@ -12,8 +12,8 @@ use crate::encode::lanes::{Steps, channel_steps, repeating};
 use crate::encode::planes::Planes;
 use std::simd::prelude::*;
 
-/// The steps of red, green and blue, and alpha's, of sixteen pixels, and which of them repeat: 255 or
-/// 0.
+/// The steps of red, green and blue, and alpha's, of sixteen pixels, and which of them repeat: 255
+/// or 0.
 #[derive(Clone, Copy)]
 pub(super) struct Changes {
     pub(super) steps: Steps,
