@@ -1,5 +1,5 @@
 -- The fast loop's chunks are taken, and then others.
-use Rattle.std.proofs.Common.{ℕ, List, Option, Some, take, ap, ◌++◌, ◌∙◌, sym, take-append-drop}
+use Rattle.std.proofs.Common.{ℕ, List, Option, Some, take, ap, ◌++◌, ◌∙◌, sym, take-append-drop, arith}
 use Rattle.std.specs.Io.KnownBytes.{Consumes}
 use Rattle.qoi.specs.inner.Filling.{filling, DecoderBetween}
 use Rattle.qoi.proofs.decoding.Progress.{front_of_none, front_consumed}
@@ -18,10 +18,10 @@ after g c n start h =
     sym (take-append-drop size bytes) ∙ ap (λ z. take size bytes ++ z) (sym c.split_at.ensures.back) in
     front_consumed _ _ _ _ bytes size h.taken took (c.fast_chunks-now.ensures.between n _ (front_of_none bytes h))
 
-pub last_chunks-requires-clause-between : goal.last_chunks-requires-clause-between
-last_chunks-requires-clause-between g c =
+pub last_chunks-requires : goal.last_chunks-requires
+last_chunks-requires g c =
     let known = c.requires.between in
-    (known.0, known.1, after g (goal.at.last_chunks-requires-clause-between g c).After-split_at known.0 known.1 known.2)
+    (omega arith, (c.requires.channels, (known.0, known.1, after g (goal.at.last_chunks-requires g c).After-split_at known.0 known.1 known.2)))
 
 pub returns-clause-between : goal.returns-clause-between
 returns-clause-between g c n start h = c.last_chunks.ensures.between n start (after g (goal.at.returns-clause-between g c).After-split_at n start h)
