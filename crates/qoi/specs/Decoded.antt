@@ -1,5 +1,5 @@
--- What a decoding call promises of a success, and of a refusal. The first field of each record says
--- what it means; the others follow from it, and are what callers need. `old` and `new` are the bytes
+-- What a decoding call promises of a success, and of a refusal. The first field of each record (of
+-- `HasHeader` the first two) says what it means; the others follow, and are what callers need. `old` and `new` are the bytes
 -- ahead before and after the call, if they are known: of a slice always, of a reader if its contract
 -- states them.
 use Rattle.std.specs.Prelude.{◌≡◌, ℕ, ◌+◌, ◌-◌, ◌*◌, ◌<◌, ◌≤◌, List, ◌++◌, take, drop, length, slice_index, Bool, IsTrue, Option, Some, IfSome, Ok}

@@ -80,7 +80,7 @@ ReadsHeader in_memory old new (Ok h) = (taken : List ℕ) × Consumes old new ta
 ReadsHeader true old new (Err e) = Keeps old new × IfSome old (λ bytes. header_of bytes ≡ Err e)
 ReadsHeader false old new (Err e) = HasTaken old new (λ taken. RefusesTakenHeader taken e)
 
--- the fourteen bytes of a valid header were taken from a stream
+-- the fourteen bytes of a valid header were taken
 abbrev pub TakesHeader : Option (List ℕ) → Option (List ℕ) → Header → Type 0
 TakesHeader old new h = ReadsHeader false old new (Ok h)
 
@@ -104,7 +104,7 @@ pub record DecodesFile (bytes : List ℕ) (h : Header) (rest out : List ℕ) : T
 abbrev pub RefusesBuffer : ℕ → ℕ → Error → Type 0
 RefusesBuffer size required e = (size < required) × (e ≡ OutputBufferTooSmall size required)
 
--- why bytes are not decoded if no buffer is given: e is the refusal of their header; or the bytes
+-- why bytes are refused, whatever they would be decoded into: e is the refusal of their header; or the bytes
 -- after a header are cut or wrong
 abbrev pub RefusesFile : List ℕ → Error → Type 0
 RefusesFile bytes e = (header_of bytes ≡ Err e)

@@ -39,7 +39,7 @@ magic_bytes = 0x71 ∷ 0x6f ∷ 0x69 ∷ 0x66 ∷ []
 abbrev pub magic_number : ℕ
 magic_number = 1903126886
 
--- the most pixels that an image may have
+-- the most pixels that an image may have: a limit of this port and of the Rust crate
 abbrev pub pixels_max : ℕ
 pixels_max = 400000000
 

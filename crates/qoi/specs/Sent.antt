@@ -1,6 +1,6 @@
 -- What an encoding call promises: the one file of the encoder's image was made, put into a buffer,
--- or sent to a writer. Of each record the fields up to `counts` say what it means; the others follow
--- from them, and are what callers need who compare the files of several calls.
+-- or sent to a writer. Of each record the first fields say what it means; the others follow from
+-- them, and are what callers need who compare the files of several calls.
 use Rattle.std.specs.Prelude.{◌≡◌, ℕ, ◌≤◌, List, ◌++◌, take, drop, length, slice_set, Option, Some, IfSome, Ok}
 use Rattle.std.specs.Io.KnownBytes.{Appends}
 use Rattle.qoi.specs.declared.types.ColorSpace.{ColorSpace}
@@ -31,7 +31,7 @@ pub record HasFileLength (e : EncoderState) (n : ℕ) : Type 0 where
 pub record MakesFile (e : EncoderState) (bytes : List ℕ) : Type 0 where
   -- the bytes are the file of the image
   pub file : IsFileOf e.style e.header e.raw bytes
-  -- and as a function of it: for two functions of one's own
+  -- as a function of the image, for callers' own contracts
   pub is : bytes ≡ image_file e.style e.header e.raw
   -- how many they are
   pub counts : HasFileLength e (length bytes)

@@ -69,6 +69,6 @@ pub record WrittenBy (Choice : Past → RgbaPixel → Chunk → Type 0) (image :
   pub allowed : Each (IsAllowedAfter Choice) [] cs
   pub full : RunsFollowFull cs
 
--- the chunk list that is written for an image
+-- the chunk list that is written for an image in style Reference
 abbrev pub Written : List RgbaPixel → List Chunk → Type 0
 Written image cs = WrittenBy IsChoice image cs

@@ -30,5 +30,5 @@ pub const QOI_PADDING_SIZE: usize = 8;
 /// The text `qoif` as a number, highest byte first.
 pub const QOI_MAGIC: u32 = 1903126886;
 
-/// The most pixels that an image may have.
+/// The most pixels that an image may have: a limit of this port and of the Rust crate.
 pub const QOI_PIXELS_MAX: usize = 400_000_000;

@@ -347,7 +347,7 @@ impl<R: Reader> Decoder<R> {
     ///
     /// Memory is reserved at once, but uses only address space until it is written. It is written
     /// by steps of 16384 pixels, each of which is decoded before the next: whatever the header
-    /// says, at most 248 bytes for each byte taken, and a step.
+    /// says, at most 248 bytes for each byte ahead, a step, and 256 bytes.
     pub fn decode_to_vec(&mut self, alloc: Global) -> Result<Vec<u8>>
         // A success: the vector is the image at the front of the bytes ahead.
         ensures decoded { IfOk result (λ out. HasDecoded self.old

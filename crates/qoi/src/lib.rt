@@ -6,8 +6,8 @@
 //! - [`encode_to_vec`] and [`decode_to_vec`] go from raw bytes to a file and back;
 //!   [`encode_to_buf`] and [`decode_to_buf`] do so in buffers and allocate nothing.
 //! - [`Encoder`] also takes a color space and a style, and writes to a `std::io::Write`.
-//! - [`Decoder`] also decodes into three or four channels, reads from a `std::io::Read`, and gives
-//!   what follows a file.
+//! - [`Decoder`] also decodes into three or four channels, reads from a `std::io::BufRead` or,
+//!   more slowly, a `std::io::Read`, and gives what follows a file.
 //! - [`decode_header`] looks at the first fourteen bytes alone; [`encode_max_len`] is the most
 //!   bytes that an encoded image can have.
 //!

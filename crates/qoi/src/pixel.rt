@@ -1,5 +1,5 @@
 //! A pixel of three or four channels, for those who look at chunks themselves, through `parts`.
-//! Encoder and decoders keep their pixels as numbers (`packed`).
+//! Encoder and decoders keep their pixels as numbers (`packed`, `decode/hashed`).
 ghost use Rattle.std.specs.Prelude.{◌≡◌, ◌+◌, ◌<◌, ◌≤◌, OnOk, IfErr, ℕ, List, [], ◌∷◌, ◌++◌, length, take, drop, replicate, slice_index, slice_index_or};
 ghost use Rattle.qoi.specs.declared.chunk.Chunk.{Chunk};
 ghost use Rattle.qoi.specs.Written.{Spells};

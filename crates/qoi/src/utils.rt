@@ -1,4 +1,4 @@
-//! Slices and values, for both sides.
+//! Helpers on slices and values.
 ghost use Rattle.std.specs.Prelude.{◌≡◌, ◌+◌, ◌≤◌, length, drop, if◌then◌else◌};
 ghost use Rattle.qoi.specs.writers.Writes.{StandsAfter};
 

@@ -36,7 +36,7 @@ pub(super) trait Chunks<const N: usize, const F: usize>: Sized {
     /// Decodes chunks, after the pixel `last` and the first `at` bytes of `out`, as long as `out`
     /// has room for the blocks of any run. Returns what it reached.
     ///
-    /// What refuses them refuses them for any image of more pixels than fit, too.
+    /// Chunks that are refused are refused for any image of more pixels than fit, too.
     fn some_chunks(
         &mut self,
         table: &mut TermTable,
@@ -120,8 +120,8 @@ fn chunks_to_buf<R: Chunks<N, F>, const N: usize, const F: usize>(
 }
 
 // Decodes chunks into an empty vector until it has `size` bytes, and takes no byte past the last of
-// them. The vector grows by steps, each of which is filled, but for less than a run, before the
-// next.
+// them. The vector grows by steps, each of which is filled, but for less than `RUN_ROOM`, before
+// the next.
 fn chunks_to_vec<R: Chunks<N, F>, const N: usize, const F: usize>(
     reader: &mut R,
     out: &mut Vec<u8>,
@@ -136,7 +136,7 @@ fn chunks_to_vec<R: Chunks<N, F>, const N: usize, const F: usize>(
     ensures refused { IfErr result (RefusesChunks R.in_memory (size / N)
         (R.ahead reader.old) (R.ahead reader.new)) }
     // Whatever the size, the vector has at most 248 bytes for each byte ahead, and those of a step
-    // and a run.
+    // and `RUN_ROOM`.
     ensures grown { IfSome (R.ahead reader.old) (λ bytes.
         vec_len out.new ≤ 4 * run_max * length bytes + (STEP * N + RUN_ROOM)) }
 {

@@ -21,7 +21,7 @@ const INPUT_ROOM: usize = 14;
 pub(super) const OUTPUT_ROOM: usize = 80;
 
 /// What a decoder has between two chunks: the last pixel, how many bytes are taken, where the
-/// output stopped, and the byte that comes next (0 if the loop wasn't entered).
+/// output stopped, and the byte that comes next (0 if input or output is too short for the loop).
 #[derive(Clone, Copy)]
 pub(super) struct Progress {
     pub(super) last: Hashed,
@@ -185,8 +185,8 @@ impl Progress {
     }
 
     /// Decodes chunks from the front of the bytes, after the pixel `last` and the first `at` bytes
-    /// of `out`, while there is room ahead, and returns where it stopped. The caller decodes the
-    /// rest chunk by chunk, with every test.
+    /// of `out`, while there is room ahead, and returns where it stopped. The caller goes on
+    /// chunk by chunk.
     #[inline(always)]
     pub(super) fn fast_chunks<const N: usize, const F: usize>(
         table: &mut TermTable,

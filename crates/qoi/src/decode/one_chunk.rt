@@ -1,4 +1,4 @@
-//! How one chunk is decoded, with every test.
+//! How one chunk is decoded.
 ghost use Rattle.std.specs.Prelude.{◌≡◌, IsTrue, ◌+◌, ◌%◌, ◌-◌, ◌<◌, ◌≤◌, length, take, nat_le, nat_lt, ◌&&◌};
 ghost use Rattle.qoi.specs.Qoi.{luma_tag, run_tag, rgb_tag};
 ghost use Rattle.qoi.specs.declared.decode.output.TheConstants.{RUN_ROOM};

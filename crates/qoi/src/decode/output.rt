@@ -8,7 +8,7 @@ ghost use Rattle.qoi.specs.inner.Hashed.{pixel_of_lanes};
 
 use crate::decode::hashed::Hashed;
 
-/// How many bytes a block has: as many as a vector holds.
+/// How many bytes a block has: as many as a vector register holds.
 pub(super) const BLOCK: usize = 16;
 
 /// The bytes of room in which the blocks of any run may be written: sixteen blocks of sixteen

@@ -160,8 +160,8 @@ impl<'a, const N: usize, const F: usize> Chunks<N, F> for Bytes<'a> {
     }
 }
 
-// Decodes chunks until an output is full that never enters the fast loop, and returns the bytes
-// after them. `None` if the file is cut.
+// Decodes chunks until an output is full that is too small for the fast loop, and returns the
+// bytes after them. `None` if the file is cut.
 fn small_chunks<'a, const N: usize, const F: usize>(
     data: &'a [u8],
     out: &mut [u8],
@@ -216,8 +216,8 @@ pub(super) fn slice_image<'a, const N: usize, const F: usize>(
     Ok(bytes.0)
 }
 
-// The same into an empty vector with capacity for `size` bytes. Fewer than eight bytes are cut
-// before it grows.
+// The same into an empty vector with capacity for `size` bytes. Fewer than eight bytes are
+// refused as cut, before it grows.
 pub(super) fn slice_image_to_vec<'a, const N: usize, const F: usize>(
     data: &'a [u8],
     out: &mut Vec<u8>,

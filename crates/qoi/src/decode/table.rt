@@ -20,8 +20,8 @@ pub(super) struct SizedTerms<const SIZE: usize> {
 /// A number for each first byte, so that no test is needed.
 pub(super) type TermTable = SizedTerms<256>;
 
-/// A single 0 after the index positions, for an output so small that zeroing more would take as
-/// long as decoding.
+/// A single 0 after the index positions, for an output so small that zeroing more would take a
+/// good part of the time.
 pub(super) type SmallTermTable = SizedTerms<65>;
 
 impl<const SIZE: usize> Model for SizedTerms<SIZE> {

@@ -1,4 +1,4 @@
-//! From a block of sixteen pixels to the next: the steps of all channels, and which pixels repeat.
+//! From each of sixteen pixels to the next: the steps of all channels, and which pixels repeat.
 ghost use Rattle.std.specs.Prelude.{◌≡◌, Bool, List, length, map};
 ghost use Rattle.qoi.specs.Qoi.{RgbaPixel, IsPixel};
 ghost use Rattle.qoi.specs.inner.BlockLanes.{mask};

@@ -11,8 +11,8 @@ ghost use Rattle.qoi.specs.inner.BlockState.{is_rep};
 use crate::encode::planes::Planes;
 use std::simd::prelude::*;
 
-/// What is added to red, green and blue of the pixels before for those of the pixels; it wraps at
-/// 256. Or the same as a difference or a luma chunk has it.
+/// What is added to red, green and blue of the pixels before to give those of the pixels; it wraps
+/// at 256. Or the same as a difference or a luma chunk has it.
 #[derive(Clone, Copy)]
 pub(super) struct Steps {
     pub(super) r: u8x16,

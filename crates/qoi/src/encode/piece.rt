@@ -23,8 +23,8 @@ pub(super) const PAST: usize = 128;
 /// The room of a stream's piece. A full one has 4096 bytes, which the writer is sent at once.
 pub(super) const STREAM_ROOM: usize = 4096 + PAST;
 
-/// The room of a buffer's piece, 512 bytes when full: for a small image, zeroing more takes longer
-/// than encoding.
+/// The room of a buffer's or a vector's piece, 512 bytes when full: for a small image, zeroing more
+/// takes a good part of the time.
 pub(super) const BUFFER_ROOM: usize = 512 + PAST;
 
 /// The most runs that are kept at a time, stored at once as a vector.
