@@ -1,20 +1,23 @@
 -- The state between two blocks of sixteen pixels.
-use Rattle.std.specs.Prelude.{◌≡◌, ℕ, Bool, true, ◌&&◌, List, [], ◌∷◌, slice_index}
+use Rattle.std.specs.Prelude.{◌≡◌, ℕ, Bool, true, ◌&&◌, List, [], ◌∷◌, ◌++◌, replicate, slice_index}
 use Rattle.qoi.specs.declared.encode.planes.Planes.{Planes}
-use Rattle.qoi.specs.Qoi.{RgbaPixel, pixel, pixel_eq}
-use Rattle.qoi.specs.inner.BlockState.{State, Carrying}
+use Rattle.qoi.specs.declared.types.Style.TheVariants.{Places}
+use Rattle.qoi.specs.Qoi.{RgbaPixel, blank, pixel, pixel_eq}
+use Rattle.qoi.specs.inner.BlockState.{State, Carrying, NoneBlank}
 use Rattle.qoi.specs.inner.CoderLoop.{Writing}
 use Rattle.qoi.specs.inner.Spelling.{IsLastOf}
 use Rattle.qoi.specs.inner.Table.{Holds}
 
 -- Between two blocks: the pixels `rest` still come, `before` are those of the last block, and
--- `carry` repeats of its last pixel have come but aren't among the bytes that are kept.
-pub record BetweenBlocks (w : Writing) (rest : List RgbaPixel) (table : List RgbaPixel) (before : Planes) (carry : ℕ) (kept : List ℕ) : Type 0 where
+-- `carry` repeats of its last pixel have come but aren't among the bytes that are kept. In style
+-- Places, `placed` says whether the chunk before them names that pixel's position.
+pub record BetweenBlocks (w : Writing) (rest : List RgbaPixel) (table : List RgbaPixel) (before : Planes) (carry : ℕ) (placed : Bool) (kept : List ℕ) : Type 0 where
   pub state : State
   pub carrying : Carrying w state rest kept
   pub table_is : Holds table state.held
   pub before_is : IsLastOf state.last before
   pub carry_is : state.carry ≡ carry
+  pub placed_is : w.list.style ≡ Places → state.placed ≡ placed
 
 -- the last of sixteen pixels
 abbrev pub last_pixel : Planes → RgbaPixel
@@ -24,3 +27,16 @@ last_pixel p = pixel (slice_index p.r 15) (slice_index p.g 15) (slice_index p.b 
 abbrev pub all_repeat : RgbaPixel → List RgbaPixel → Bool
 all_repeat q [] = true
 all_repeat q (p ∷ ps) = pixel_eq p q && all_repeat q ps
+
+-- the last of these pixels, or the one before them
+abbrev pub final : RgbaPixel → List RgbaPixel → RgbaPixel
+final q [] = q
+final q (p ∷ ps) = final p ps
+
+-- these pixels, and n repeats of the last of them
+abbrev pub padded : List RgbaPixel → ℕ → List RgbaPixel
+padded ps n = ps ++ replicate n (final blank ps)
+
+-- from whatever the table holds, no fresh pixel is transparent black that isn't at its position
+abbrev pub MissesNoBlank : List RgbaPixel → Planes → List RgbaPixel → Type 0
+MissesNoBlank table before ps = (s : State) → Holds table s.held → IsLastOf s.last before → NoneBlank s ps
