@@ -1,5 +1,6 @@
 -- A block whose last pixels are padding, repeats of the pixel before them, is written as without them.
 use Rattle.std.proofs.Common.{◌≡◌, ℕ, zero, suc, ◌+◌, ◌<◌, ◌≤◌, Bool, true, false, List, [], ◌∷◌, ◌++◌, length, replicate, refl, sym, ap, ◌∙◌, arith, subst, append-nil, length-append, Some}
+use Rattle.std.specs.List.{slice_get}
 use Rattle.std.proofs.lemmas.List.{length-replicate}
 use Rattle.qoi.specs.declared.types.Style.{Style}
 use Rattle.qoi.specs.declared.types.Style.TheVariants.{Tight}
@@ -110,6 +111,11 @@ padded_goes_on s (p ∷ ps) n some on = on
 pub goes_on_padded : (s : State) (ps : List RgbaPixel) (n : ℕ) → 0 < length ps → CarryGoesOn s ps → CarryGoesOn s (padded ps n)
 goes_on_padded s [] n some on = absurd (omega arith)
 goes_on_padded s (p ∷ ps) n some on = on
+
+-- what is ahead begins as it does
+pub padded_front : (ps rest all : List RgbaPixel) (n : ℕ) → all ≡ padded ps n → 0 < length ps → slice_get (ps ++ rest) 0 ≡ slice_get all 0
+padded_front [] rest all n e some = absurd (omega arith)
+padded_front (p ∷ ps) rest all n e some = sym (ap (λ (xs : List RgbaPixel). slice_get xs 0) e)
 
 -- no fresh pixel of it is transparent black that isn't at its position, so none of the pixels is
 pub padded_none_blank : (s : State) (ps : List RgbaPixel) (n : ℕ) → 0 < length ps → NoneBlank s (padded ps n) → NoneBlank s ps
