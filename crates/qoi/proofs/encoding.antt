@@ -42,6 +42,7 @@ pub mod Lanewise
 pub mod LastCount
 pub mod OverlaidRuns
 pub mod PackedBlock
+pub mod PaddedBlock
 pub mod PlacesOut
 pub mod PlaneWords
 pub mod PrefixSums

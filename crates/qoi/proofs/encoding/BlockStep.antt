@@ -1,15 +1,17 @@
 -- From one block of sixteen pixels to the next, in style Reference.
-use Rattle.std.proofs.Common.{◌≡◌, ◌&&◌, ◌%◌, ◌≢◌, ℕ, zero, suc, ◌+◌, ◌<◌, ◌≤◌, ◌==◌, Bool, true, false, List, [], ◌∷◌, ◌++◌, length, map, get_or, slice_index, if◌then◌else◌, refl, sym, ap, ◌∙◌, arith, subst}
+use Rattle.std.proofs.Common.{◌≡◌, ◌&&◌, ◌%◌, ◌≢◌, ℕ, zero, suc, ◌+◌, ◌-◌, ◌<◌, ◌≤◌, ◌==◌, Bool, true, false, List, [], ◌∷◌, ◌++◌, length, map, get_or, slice_index, Option, None, Some, if◌then◌else◌, refl, sym, ap, ◌∙◌, arith, subst}
 use Rattle.std.proofs.lemmas.Bool.{true≢false}
 use Rattle.std.proofs.lemmas.List.{length-map}
+use Rattle.std.proofs.lemmas.Option.{same_Some}
+use Rattle.std.specs.List.{slice_get}
 use Rattle.qoi.specs.declared.chunk.Chunk.TheVariants.{Run}
 use Rattle.qoi.specs.declared.encode.planes.Planes.{Planes}
 use Rattle.qoi.specs.declared.encode.spelling.Spelled.{Spelled}
 use Rattle.qoi.specs.declared.types.Style.{Style}
-use Rattle.qoi.specs.declared.types.Style.TheVariants.{Reference, Tight}
+use Rattle.qoi.specs.declared.types.Style.TheVariants.{Reference, Places, Tight}
 use Rattle.qoi.specs.Qoi.{RgbaPixel, pixel_eq, bytes_of}
 use Rattle.qoi.specs.inner.BlockLanes.{mask}
-use Rattle.qoi.specs.inner.Blocks.{BetweenBlocks, all_repeat}
+use Rattle.qoi.specs.inner.Blocks.{BetweenBlocks, all_repeat, padded}
 use Rattle.qoi.specs.inner.BlockState.{State, Carrying, lanes_of, is_rep, group_bytes, next_state, more_of, end_state, block_bytes, CarryGoesOn, flushed_state, next_by}
 use Rattle.qoi.specs.inner.CoderLoop.{Writing}
 use Rattle.qoi.specs.inner.Counts.{counts}
@@ -19,8 +21,9 @@ use Rattle.qoi.specs.inner.Stands.{put_all}
 use Rattle.qoi.specs.inner.Table.{Holds}
 use Rattle.qoi.proofs.format.SamePixels.{pixel_eq-true, pixel_eq-from}
 use Rattle.qoi.proofs.encoding.BlockOut.{firsts_anew, group_run, carry_few}
-use Rattle.qoi.proofs.encoding.BlockWritten.{block_written, flushed}
+use Rattle.qoi.proofs.encoding.BlockWritten.{flushed}
 use Rattle.qoi.proofs.encoding.LastCount.{last_count}
+use Rattle.qoi.proofs.encoding.PaddedBlock.{padded_carry, padded_last, padded_holds, padded_written}
 use Rattle.qoi.proofs.encoding.SpelledBlock.{lanes_long}
 
 -- the pixels that were put, after all of these
@@ -54,10 +57,11 @@ spelled_anew s p ps x e h = record {
 }
 
 -- The repeats before the block are written, if a fresh pixel follows them: the state from which its
--- chunks are written, with the same pixels put and the same last pixel.
-pub record Ready (w : Writing) (s : State) (ps rest : List RgbaPixel) (x : Spelled) (kept : List ℕ) : Type 0 where
+-- chunks are written, with the same pixels put and the same last pixel. The pixels `ahead` begin as
+-- the block does.
+pub record Ready (w : Writing) (s : State) (ps ahead : List RgbaPixel) (x : Spelled) (kept : List ℕ) : Type 0 where
   pub state : State
-  pub carrying : Carrying w state (ps ++ rest) kept
+  pub carrying : Carrying w state ahead kept
   pub goes_on_is : CarryGoesOn state ps
   pub few : state.carry ≤ 45
   pub spelled : HasSpelled state ps x
@@ -74,19 +78,23 @@ group_stored : (style : Style) (placed : Bool) (p : RgbaPixel) (k : ℕ) → sty
 group_stored style placed p k e = sym (ap (λ z. group_bytes z placed p (suc k)) e ∙ group_run placed p k)
 
 -- from the state before the block
-pub ready : (w : Writing) (s : State) (ps rest : List RgbaPixel) (x : Spelled) (n : ℕ) (kept next : List ℕ) → w.list.style ≡ Reference → s.carry ≤ 45
-    → Carrying w s (ps ++ rest) kept → HasSpelled s ps x → AreSixteen ps
-    → n ≡ (if slice_index x.rep 0 == 0 then s.carry else 0) → StoredRun n kept next → Ready w s ps rest x next
-ready w s [] rest x n kept next style few c h sixteen n_is run = absurd (let l = sixteen.long in omega arith)
-ready w s (p ∷ ps) rest x n kept next style few c h sixteen n_is run = go (pixel_eq p s.last) refl
+pub ready : (w : Writing) (s : State) (ps ahead : List RgbaPixel) (x : Spelled) (n : ℕ) (kept next : List ℕ) → w.list.style ≡ Reference → s.carry ≤ 45
+    → Carrying w s ahead kept → slice_get ahead 0 ≡ slice_get ps 0 → HasSpelled s ps x → AreSixteen ps
+    → n ≡ (if slice_index x.rep 0 == 0 then s.carry else 0) → StoredRun n kept next → Ready w s ps ahead x next
+ready w s [] ahead x n kept next style few c begins h sixteen n_is run = absurd (let l = sixteen.long in omega arith)
+ready w s (p ∷ ps) [] x n kept next style few c begins h sixteen n_is run = absurd (let no : ◌≡◌ {A = Option RgbaPixel} None (Some p) = begins in cc)
+ready w s (p ∷ ps) (a ∷ more) x n kept next style few c begins h sixteen n_is run = go (pixel_eq p s.last) refl
   where
     rep_is : slice_index x.rep 0 ≡ mask (pixel_eq p s.last)
     rep_is = ap (λ z. slice_index z 0) h.rep_is
 
-    stays : n ≡ 0 → CarryGoesOn s (p ∷ ps) → Ready w s (p ∷ ps) rest x next
+    same_front : a ≡ p
+    same_front = same_Some a p begins
+
+    stays : n ≡ 0 → CarryGoesOn s (p ∷ ps) → Ready w s (p ∷ ps) (a ∷ more) x next
     stays never on = record {
       state = s;
-      carrying = subst (Carrying w s (p ∷ (ps ++ rest))) (sym (run.none never)) c;
+      carrying = subst (Carrying w s (a ∷ more)) (sym (run.none never)) c;
       goes_on_is = on;
       few = few;
       spelled = h;
@@ -97,16 +105,16 @@ ready w s (p ∷ ps) rest x n kept next style few c h sixteen n_is run = go (pix
     n_by : (b : Bool) → pixel_eq p s.last ≡ b → n ≡ (if mask b == 0 then s.carry else 0)
     n_by b e = n_is ∙ ap (λ z. if z == 0 then s.carry else 0) (rep_is ∙ ap mask e)
 
-    fresh : pixel_eq p s.last ≡ false → (k : ℕ) → s.carry ≡ k → Ready w s (p ∷ ps) rest x next
+    fresh : pixel_eq p s.last ≡ false → (k : ℕ) → s.carry ≡ k → Ready w s (p ∷ ps) (a ∷ more) x next
     fresh e zero no_carry = stays (n_by false e ∙ no_carry) (λ some. absurd (omega arith))
     fresh e (suc k) some =
-        let differs : p ≢ s.last = λ same. true≢false (sym (pixel_eq-from p s.last same) ∙ e) in
+        let differs : a ≢ s.last = λ same. true≢false (sym (pixel_eq-from p s.last (sym same_front ∙ same)) ∙ e) in
         let n_suc : n ≡ suc k = n_by false e ∙ some in
         let bytes : kept ++ group_bytes w.list.style s.placed s.last (suc k) ≡ next =
         ap (λ z. kept ++ z) (sym (group_stored w.list.style s.placed s.last k style)) ∙ sym (run.some (omega arith) ∙ ap (λ z. kept ++ bytes_of (Run z)) n_suc) in
         record {
           state = flushed_state s;
-          carrying = subst (Carrying w (flushed_state s) (p ∷ (ps ++ rest))) bytes (flushed s k p (ps ++ rest) c differs some (omega arith));
+          carrying = subst (Carrying w (flushed_state s) (a ∷ more)) bytes (flushed s k a more c differs some (omega arith));
           goes_on_is = λ some. absurd (omega arith);
           few = omega arith;
           spelled = spelled_anew s p ps x e h;
@@ -114,7 +122,7 @@ ready w s (p ∷ ps) rest x n kept next style few c h sixteen n_is run = go (pix
           last_is = refl;
         }
 
-    go : (b : Bool) → pixel_eq p s.last ≡ b → Ready w s (p ∷ ps) rest x next
+    go : (b : Bool) → pixel_eq p s.last ≡ b → Ready w s (p ∷ ps) (a ∷ more) x next
     go true e = stays (n_by true e) (λ some. pixel_eq-true p s.last e)
     go false e = fresh e s.carry refl
 
@@ -147,27 +155,39 @@ carry_below s q (p ∷ ps) e mixed = go (λ same left. carry_below (next_state s
 not_tight : (style : Style) → style ≡ Reference → style ≡ Tight → ⊥
 not_tight style e t = absurd (let no : Reference ≡ Tight = sym e ∙ t in cc)
 
--- over a block
-pub block_step : (w : Writing) (s : State) (ps rest : List RgbaPixel) (x : Spelled) (p : Planes) (table : List RgbaPixel) (kept next : List ℕ)
-    → w.list.style ≡ Reference → AreSixteen ps → all_repeat s.last ps ≡ false → ArePlanes ps p → Ready w s ps rest x kept → Holds table (put_all s.held ps)
-    → ((t : State) → HasSpelled t ps x → t.last ≡ s.last → t.carry ≤ 45 → next ≡ kept ++ block_bytes Reference t ps)
-    → BetweenBlocks w rest table p (slice_index x.count 15 % 16) next
-block_step w s ps rest x p table kept next style sixteen mixed planes r holds bytes =
+-- over a block of these pixels, of which the last `pads` are padding
+pub block_step : (w : Writing) (s : State) (ps rest all : List RgbaPixel) (pads : ℕ) (x : Spelled) (p : Planes) (table : List RgbaPixel) (placed : Bool) (kept next : List ℕ)
+    → w.list.style ≡ Reference → all ≡ padded ps pads → 0 < length ps → AreSixteen all → all_repeat s.last all ≡ false → ArePlanes all p
+    → Ready w s all (ps ++ rest) x kept → Holds table (put_all s.held all)
+    → ((t : State) → HasSpelled t all x → t.last ≡ s.last → t.carry ≤ 45 → next ≡ kept ++ block_bytes Reference t all)
+    → (pads ≤ slice_index x.count 15 % 16) × BetweenBlocks w rest table p (slice_index x.count 15 % 16 - pads) placed next
+block_step w s ps rest all pads x p table placed kept next style pad_is some sixteen mixed planes r holds bytes =
     let t = r.state in
     let long = sixteen.long in
-    let few : t.carry + length ps < 62 = (let f = r.few in omega arith) in
-    let done = block_written t ps rest r.carrying r.goes_on_is few (λ tight. absurd (not_tight w.list.style style tight)) in
-    let same : kept ++ block_bytes w.list.style t ps ≡ next = ap (λ z. kept ++ block_bytes z t ps) style ∙ sym (bytes t r.spelled r.last_is r.few) in
-    record {
-      state = end_state t ps;
-      carrying = subst (Carrying w (end_state t ps) rest) same done;
-      table_is = subst (Holds table) (sym (end_held t ps ∙ ap (λ h. put_all h ps) r.held_is)) holds;
-      before_is = end_last t ps p sixteen planes;
-      carry_is = omega (arith, last_counted t r.spelled, carry_below t s.last ps r.last_is mixed, long);
-    }
+    let few : t.carry + length all < 62 = (let f = r.few in omega arith) in
+    let done = padded_written t ps rest all pads pad_is some r.carrying r.goes_on_is few (λ tight. absurd (not_tight w.list.style style tight)) in
+    let same : kept ++ block_bytes w.list.style t all ≡ next = ap (λ z. kept ++ block_bytes z t all) style ∙ sym (bytes t r.spelled r.last_is r.few) in
+    let carried : (end_state t all).carry ≡ (end_state t ps).carry + pads =
+    ap (λ (xs : List RgbaPixel). (end_state t xs).carry) pad_is ∙ padded_carry t ps pads some in
+    let last : (end_state t all).last ≡ (end_state t ps).last =
+    ap (λ (xs : List RgbaPixel). (end_state t xs).last) pad_is ∙ padded_last t ps pads some in
+    let counted = last_counted t r.spelled in
+    let below = carry_below t s.last all r.last_is mixed in
+    let holds_all : Holds table (end_state t all).held = subst (Holds table) (sym (end_held t all ∙ ap (λ h. put_all h all) r.held_is)) holds in
+    (
+      omega arith,
+      record {
+        state = end_state t ps;
+        carrying = subst (Carrying w (end_state t ps) rest) same done;
+        table_is = padded_holds table t ps pads some (subst (λ (xs : List RgbaPixel). Holds table (end_state t xs).held) pad_is holds_all);
+        before_is = subst (λ q. IsLastOf q p) last (end_last t all p sixteen planes);
+        carry_is = omega arith;
+        placed_is = λ places. absurd (let no : Reference ≡ Places = sym style ∙ places in cc);
+      },
+    )
   where
-    last_counted : (t : State) → HasSpelled t ps x → slice_index x.count 15 ≡ (end_state t ps).carry
+    last_counted : (t : State) → HasSpelled t all x → slice_index x.count 15 ≡ (end_state t all).carry
     last_counted t h =
-        let rs = map is_rep (lanes_of t.held t.last ps) in
-        let long : length rs ≡ 16 = length-map (lanes_of t.held t.last ps) is_rep ∙ lanes_long t.held t.last ps ∙ sixteen.long in
-        ap (λ z. slice_index z 15) h.count_is ∙ ap (λ n. get_or (t.carry ∷ counts t.carry rs) n 0) (sym long) ∙ last_count t ps
+        let rs = map is_rep (lanes_of t.held t.last all) in
+        let long : length rs ≡ 16 = length-map (lanes_of t.held t.last all) is_rep ∙ lanes_long t.held t.last all ∙ sixteen.long in
+        ap (λ z. slice_index z 15) h.count_is ∙ ap (λ n. get_or (t.carry ∷ counts t.carry rs) n 0) (sym long) ∙ last_count t all
