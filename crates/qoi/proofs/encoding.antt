@@ -40,6 +40,7 @@ pub mod LaneStamps
 pub mod LaneTests
 pub mod Lanewise
 pub mod LastCount
+pub mod NamedLanes
 pub mod OverlaidRuns
 pub mod PackedBlock
 pub mod PaddedBlock
@@ -51,6 +52,7 @@ pub mod RunningMost
 pub mod SizeHalves
 pub mod SpelledBlock
 pub mod StandMasks
+pub mod StyledBlock
 pub mod StoredBlock
 pub mod StoredParts
 pub mod SwappedPixels
