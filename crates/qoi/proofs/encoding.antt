@@ -41,6 +41,7 @@ pub mod LaneTests
 pub mod Lanewise
 pub mod LastCount
 pub mod NamedLanes
+pub mod OpaqueBlock
 pub mod OverlaidRuns
 pub mod PackedBlock
 pub mod PaddedBlock

@@ -1,5 +1,5 @@
 -- From one block of sixteen pixels to the next.
-use Rattle.std.proofs.Common.{◌≡◌, ◌&&◌, ◌%◌, ◌≢◌, ℕ, zero, suc, ◌+◌, ◌-◌, ◌<◌, ◌≤◌, ◌==◌, Bool, true, false, List, [], ◌∷◌, ◌++◌, length, map, get_or, slice_index, Option, None, Some, if◌then◌else◌, refl, sym, ap, ◌∙◌, arith, subst}
+use Rattle.std.proofs.Common.{◌≡◌, ◌&&◌, ◌%◌, ◌≢◌, ℕ, zero, suc, ◌+◌, ◌-◌, ◌<◌, ◌≤◌, ◌==◌, Bool, true, false, List, [], ◌∷◌, ◌++◌, length, map, get_or, slice_index, Option, None, Some, refl, sym, ap, ◌∙◌, arith, subst}
 use Rattle.std.proofs.lemmas.Bool.{true≢false, and_parts}
 use Rattle.std.proofs.lemmas.List.{length-map}
 use Rattle.std.proofs.lemmas.Option.{same_Some}
@@ -229,8 +229,7 @@ block_step w style s ps rest all pads x p table placed kept next style_is pad_is
     let at_lane : length all - 1 - (end_state t all).carry ≡ 15 - slice_index x.count 15 % 16 = omega arith in
     let stood : (end_state t all).placed ≡ get_or (stand_tests s.held all) (15 - slice_index x.count 15 % 16) false =
     end_placed t all mixed_lanes ∙ (λ i. get_or (stand_tests (r.held_is i) all) (at_lane i) false) in
-    let holds_all : Holds table (end_state t all).held = subst (Holds table) (sym (end_held t all ∙ ap (λ h. put_all h all) r.held_is)) holds in
-    (
+    let holds_all : Holds table (end_state t all).held = subst (Holds table) (sym (end_held t all ∙ ap (λ h. put_all h all) r.held_is)) holds in (
       omega arith,
       record {
         state = end_state t ps;
