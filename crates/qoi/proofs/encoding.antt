@@ -27,6 +27,7 @@ pub mod WrittenOnce
 pub mod WrittenShape
 -- Sixteen pixels at a time: what they write, and the vectors that say so.
 pub mod AllRepeat
+pub mod BlankLanes
 pub mod BlockOut
 pub mod BlockPuts
 pub mod BlockStep

@@ -5,16 +5,17 @@ ghost use Rattle.qoi.specs.declared.types.Style.TheVariants.{Places, Tight};
 ghost use Rattle.qoi.specs.Qoi.{RgbaPixel, IsPixel, run_max, hash};
 ghost use Rattle.qoi.specs.Raw.{IsChannels, pixels_of};
 ghost use Rattle.qoi.specs.inner.BlockLanes.{mask};
-ghost use Rattle.qoi.specs.inner.BlockState.{State, group_bytes};
+ghost use Rattle.qoi.specs.inner.BlockState.{State, NoneBlank, group_bytes};
 ghost use Rattle.qoi.specs.inner.Blocks.{BetweenBlocks, MissesNoBlank, padded, last_pixel, all_repeat};
 ghost use Rattle.qoi.specs.inner.CoderLoop.{Writing};
 ghost use Rattle.qoi.specs.inner.Planes.{ArePacked, ArePlanes, AreOpaque, block_pixels};
 ghost use Rattle.qoi.specs.inner.Spelling.{IsLastOf, HasSpelled};
 ghost use Rattle.qoi.specs.inner.Stands.{stand_tests};
+ghost use Rattle.qoi.specs.inner.Table.{Holds};
 
 use crate::consts::QOI_OP_RUN;
 use crate::encode::changes::{all_set, find_changes};
-use crate::encode::lanes::places;
+use crate::encode::lanes::{blanks, is_zero, places};
 use crate::encode::named::name_single;
 use crate::encode::planes::{Planes, Words, make_planes};
 use crate::encode::quad::read_four;
@@ -87,7 +88,28 @@ impl Block {
     pub(super) fn may_miss_blank(self, table: &PixelTable, before: Planes) -> bool
         ensures { IsFalse result → MissesNoBlank table.now before (block_pixels self.words) }
     {
-        true
+        !(self.has_no_fresh_blank(before) || self.keeps_blank(table))
+    }
+
+    // Whether no fresh pixel of the block is transparent black.
+    #[inline(always)]
+    fn has_no_fresh_blank(self, before: Planes) -> bool
+        ensures { IsTrue result → (s : State) → IsLastOf s.last before
+            → NoneBlank s (block_pixels self.words) }
+    {
+        let rep = find_changes(before, self.planes).rep;
+        all_set(rep | !blanks(self.planes))
+    }
+
+    // Whether transparent black stands at its index position, where no other pixel of the block is
+    // put.
+    #[inline(always)]
+    fn keeps_blank(self, table: &PixelTable) -> bool
+        ensures { IsTrue result → (s : State) → Holds table.now s.held
+            → NoneBlank s (block_pixels self.words) }
+    {
+        let elsewhere = !is_zero(places(self.planes));
+        table.at(0).is_same(Packed::blank()) & all_set(blanks(self.planes) | elsewhere)
     }
 
     // The chunks of the block, of which those pixels that `stands` says stand at their index
