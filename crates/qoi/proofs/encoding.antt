@@ -40,6 +40,7 @@ pub mod LaneStamps
 pub mod LaneTests
 pub mod Lanewise
 pub mod LastCount
+pub mod LastPixels
 pub mod OverlaidRuns
 pub mod PackedBlock
 pub mod PlacesOut

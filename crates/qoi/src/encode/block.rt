@@ -10,14 +10,14 @@ ghost use Rattle.qoi.specs.inner.Planes.{ArePacked, ArePlanes, AreOpaque, block_
 
 use crate::encode::changes::{all_set, find_changes};
 use crate::encode::lanes::places;
+use crate::encode::packing::first_sixteen;
 use crate::encode::planes::{Planes, Words, make_planes};
-use crate::encode::quad::read_four;
 use crate::encode::spelling::spell_block;
 use crate::encode::stands::put_block;
 use crate::encode::stores::{put_run, put_sixteen};
 use crate::encode::table::PixelTable;
 use crate::types::Style;
-use crate::utils::{pick, skip};
+use crate::utils::pick;
 
 /// The most bytes of a block's chunks, and of the run before them.
 pub(super) const BLOCK_MAX: usize = 81;
@@ -57,12 +57,7 @@ impl Block {
             ≡ padded (take 16 (pixels_of N bytes.now)) (16 - length bytes.now / N) }
         ensures opaque { N ≡ 3 → AreOpaque (block_pixels result.words) }
     {
-        Block::new(Words {
-            one: read_four::<N>(bytes),
-            two: read_four::<N>(skip(bytes, 4 * N)),
-            three: read_four::<N>(skip(bytes, 8 * N)),
-            four: read_four::<N>(skip(bytes, 12 * N)),
-        })
+        Block::new(first_sixteen::<N>(bytes))
     }
 
     /// Whether all sixteen pixels repeat the last one of the block before.
