@@ -41,6 +41,7 @@ pub mod LaneStamps
 pub mod LaneTests
 pub mod Lanewise
 pub mod LastCount
+pub mod LastPixels
 pub mod NamedLanes
 pub mod OpaqueBlock
 pub mod OverlaidRuns

@@ -17,15 +17,15 @@ use crate::consts::QOI_OP_RUN;
 use crate::encode::changes::{all_set, find_changes};
 use crate::encode::lanes::{blanks, is_zero, places};
 use crate::encode::named::name_single;
+use crate::encode::packing::first_sixteen;
 use crate::encode::planes::{Planes, Words, make_planes};
-use crate::encode::quad::read_four;
 use crate::encode::spelling::{Spelled, spell_block};
 use crate::encode::stands::put_block;
 use crate::encode::stores::put_sixteen;
 use crate::encode::table::PixelTable;
 use crate::packed::Packed;
 use crate::types::Style::{self, Places, Reference, Tight};
-use crate::utils::{pick, skip};
+use crate::utils::pick;
 use std::simd::prelude::*;
 
 /// The most bytes of a block's chunks, and of the run before them.
@@ -66,12 +66,7 @@ impl Block {
             ≡ padded (take 16 (pixels_of N bytes.now)) (16 - length bytes.now / N) }
         ensures opaque { N ≡ 3 → AreOpaque (block_pixels result.words) }
     {
-        Block::new(Words {
-            one: read_four::<N>(bytes),
-            two: read_four::<N>(skip(bytes, 4 * N)),
-            three: read_four::<N>(skip(bytes, 8 * N)),
-            four: read_four::<N>(skip(bytes, 12 * N)),
-        })
+        Block::new(first_sixteen::<N>(bytes))
     }
 
     /// Whether all sixteen pixels repeat the last one of the block before.

@@ -26,7 +26,7 @@ cut_sizes xs ss part n cut long of is =
 pub put_eight-end-requires-clause-sizes : goal.put_eight-end-requires-clause-sizes
 put_eight-end-requires-clause-sizes g c =
     let ss : List ℕ = c.lesser.result in
-    cut_sizes c.args.x.size ss (take 8 ss) _ c.lesser.ensures (length-take-le 8 ss (omega (arith, c.lesser.type_inv.0))) (take_few 8 5 ss)
+    cut_sizes c.args.x.size ss (take 8 ss) _ c.lesser.ensures (length-take-le 8 ss (omega arith)) (take_few 8 5 ss)
     (ap (λ z. slice_index z 0) c.halves-sizes.ensures)
 
 pub put_eight-requires-clause-sizes : goal.put_eight-requires-clause-sizes
