@@ -50,6 +50,7 @@ pub mod ReadBlock
 pub mod RunningMost
 pub mod SizeHalves
 pub mod SpelledBlock
+pub mod SpelledPixel
 pub mod StandMasks
 pub mod StoredBlock
 pub mod StoredParts

@@ -173,8 +173,7 @@ block_step w s ps rest all pads x p table placed kept next style pad_is some six
     ap (λ (xs : List RgbaPixel). (end_state t xs).last) pad_is ∙ padded_last t ps pads some in
     let counted = last_counted t r.spelled in
     let below = carry_below t s.last all r.last_is mixed in
-    let holds_all : Holds table (end_state t all).held = subst (Holds table) (sym (end_held t all ∙ ap (λ h. put_all h all) r.held_is)) holds in
-    (
+    let holds_all : Holds table (end_state t all).held = subst (Holds table) (sym (end_held t all ∙ ap (λ h. put_all h all) r.held_is)) holds in (
       omega arith,
       record {
         state = end_state t ps;
