@@ -40,6 +40,8 @@ pub mod LaneStamps
 pub mod LaneTests
 pub mod Lanewise
 pub mod LastCount
+pub mod NamedLanes
+pub mod OpaqueBlock
 pub mod OverlaidRuns
 pub mod PackedBlock
 pub mod PaddedBlock
@@ -52,6 +54,7 @@ pub mod SizeHalves
 pub mod SpelledBlock
 pub mod SpelledPixel
 pub mod StandMasks
+pub mod StyledBlock
 pub mod StoredBlock
 pub mod StoredParts
 pub mod SwappedPixels

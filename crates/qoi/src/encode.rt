@@ -16,7 +16,7 @@ ghost use Rattle.qoi.specs.EncoderState.{free_encoder};
 ghost use Rattle.qoi.specs.Sent.{IsFileFor, MakesFile, PutsFile, SendsFile, SendsPart};
 ghost use Rattle.qoi.specs.writers.Writes.{AppendsBeginning, WroteBeginning};
 
-// `block`, `changes`, `counts`, `lanes`, `planes`, `spelling`, `stands` and `stores` are the
+// `block`, `changes`, `counts`, `lanes`, `named`, `planes`, `spelling`, `stands` and `stores` are the
 // beginning of a coder by blocks of sixteen pixels, which isn't called yet.
 mod block;
 mod changes;
@@ -25,6 +25,7 @@ mod coder;
 mod counts;
 mod fresh;
 mod lanes;
+mod named;
 pub(crate) mod piece;
 mod planes;
 pub(crate) mod quad;

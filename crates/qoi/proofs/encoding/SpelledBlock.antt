@@ -19,7 +19,7 @@ lanes_are held q [] iq a = tt
 lanes_are held q (p ∷ ps) iq a = (record { px_is = a.0; before_is = iq }, lanes_are (p ∷ held) p ps a.0 a.1)
 
 -- which pixels stand at their index positions, by lanes
-stands_lanes : (held : Past) (q : RgbaPixel) (ps : List RgbaPixel) → map stand_mask (lanes_of held q ps) ≡ map mask (stand_tests held ps)
+pub stands_lanes : (held : Past) (q : RgbaPixel) (ps : List RgbaPixel) → map stand_mask (lanes_of held q ps) ≡ map mask (stand_tests held ps)
 stands_lanes held q [] = refl
 stands_lanes held q (p ∷ ps) = ap (λ z. mask (pixel_eq (seen held (hash p)) p) ∷ z) (stands_lanes (p ∷ held) p ps)
 

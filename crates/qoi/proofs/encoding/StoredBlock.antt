@@ -1,8 +1,8 @@
 -- A block's chunks, stored four at a time.
-use Rattle.std.proofs.Common.{◌≡◌, ℕ, zero, suc, ◌+◌, ◌*◌, ◌%◌, ◌<◌, ◌≤◌, ◌||◌, if◌then◌else◌, Bool, true, false, List, [], ◌∷◌, ◌++◌, length, map, take, drop, slice_index, append_assoc, append-nil, bit_and, refl, sym, ap, ◌∙◌, arith}
-use Rattle.std.specs.Prelude.{max}
+use Rattle.std.proofs.Common.{◌≡◌, ℕ, zero, suc, ◌+◌, ◌*◌, ◌%◌, ◌<◌, ◌≤◌, ◌||◌, if◌then◌else◌, Bool, true, false, List, [], ◌∷◌, ◌++◌, length, map, take, drop, replicate, slice_index, append_assoc, append-nil, bit_and, refl, sym, ap, ◌∙◌, arith}
+use Rattle.std.specs.Prelude.{min, max}
 use Rattle.std.specs.List.{AllByRecursion}
-use lib.Lanes.{sum_l, number_l}
+use lib.Lanes.{sum_l, number_l, zip2}
 use Rattle.qoi.specs.declared.encode.stores.FourChunks.{FourChunks}
 use Rattle.qoi.specs.Qoi.{RgbaPixel, IsPixel, pixel, hash}
 use Rattle.qoi.specs.inner.BlockBytes.{firsts, sizes, chunks_of}
@@ -53,12 +53,12 @@ blue_plane (l ∷ ls) [] e = absurd (omega arith)
 blue_plane (l ∷ ls) (f ∷ fs) e = ap (λ z. l.px.b ∷ z) (blue_plane ls fs (omega arith))
 
 -- a second byte is one
-second_small : (b : Bool) (w p : RgbaPixel) → IsPixel p → second_by b w p < 256
+pub second_small : (b : Bool) (w p : RgbaPixel) → IsPixel p → second_by b w p < 256
 second_small true w p i = omega arith
 second_small false w p i = i.r
 
 -- a first byte is one
-first_small : (st d l k : Bool) (h : ℕ) (s w : RgbaPixel) → h < 64 → (if st then h else first_by d l k s w) < 256
+pub first_small : (st d l k : Bool) (h : ℕ) (s w : RgbaPixel) → h < 64 → (if st then h else first_by d l k s w) < 256
 first_small true d l k h s w lt = omega arith
 first_small false true l k h s w lt = omega arith
 first_small false false true k h s w lt = omega arith
@@ -66,7 +66,7 @@ first_small false false false true h s w lt = omega arith
 first_small false false false false h s w lt = omega arith
 
 -- a first byte, or that of a run
-over_small : (f m x : ℕ) → f < 256 → max f (bit_and m (x % 256)) < 256
+pub over_small : (f m x : ℕ) → f < 256 → max f (bit_and m (x % 256)) < 256
 over_small f m x l = omega (arith, and_le_r m (x % 256))
 
 -- first bytes and lanes make pixels
@@ -131,6 +131,36 @@ pub drop_few : (n m : ℕ) (ss : List ℕ) → ((k : ℕ) → slice_index ss k �
 drop_few zero m ss few k = few k
 drop_few (suc n) m [] few k = omega arith
 drop_few (suc n) m (s ∷ ss) few k = drop_few n m ss (λ j. few (suc j)) k
+
+-- the sum of the first n
+pub first_few : (n : ℕ) (ss : List ℕ) → ((k : ℕ) → slice_index ss k ≤ 5) → sum_l (take n ss) ≤ 5 * n
+first_few zero ss few = omega arith
+first_few (suc n) [] few = omega arith
+first_few (suc n) (s ∷ ss) few = omega (arith, few 0, first_few n ss (λ k. few (suc k)))
+
+-- four numbers that aren't more than m
+pub four_few : (m a b c d : ℕ) → a ≤ m → b ≤ m → c ≤ m → d ≤ m → (k : ℕ) → k < 4 → slice_index (a ∷ b ∷ c ∷ d ∷ []) k ≤ m
+four_few m a b c d la lb lc ld zero lt = la
+four_few m a b c d la lb lc ld (suc zero) lt = lb
+four_few m a b c d la lb lc ld (suc (suc zero)) lt = lc
+four_few m a b c d la lb lc ld (suc (suc (suc zero))) lt = ld
+four_few m a b c d la lb lc ld (suc (suc (suc (suc k)))) lt = absurd (omega arith)
+
+-- the lesser of each size and a number that none is more than
+pub lesser_few : (n m : ℕ) (ss : List ℕ) → length ss ≡ n → ((k : ℕ) → slice_index ss k ≤ m) → zip2 min ss (replicate n m) ≡ ss
+lesser_few zero m [] long few = refl
+lesser_few zero m (s ∷ ss) long few = absurd (omega arith)
+lesser_few (suc n) m [] long few = absurd (omega arith)
+lesser_few (suc n) m (s ∷ ss) long few =
+    let same : min s m ≡ s = omega (arith, few 0) in
+    λ i. same i ∷ lesser_few n m ss (omega arith) (λ k. few (suc k)) i
+
+-- it is at most that number, whatever the sizes are
+pub lesser_most : (n m : ℕ) (ss : List ℕ) (k : ℕ) → slice_index (zip2 min ss (replicate n m)) k ≤ m
+lesser_most n m [] k = omega arith
+lesser_most zero m (s ∷ ss) k = omega arith
+lesser_most (suc n) m (s ∷ ss) zero = omega arith
+lesser_most (suc n) m (s ∷ ss) (suc k) = lesser_most n m ss k
 
 -- their sum
 sum_few : (ss : List ℕ) → ((k : ℕ) → slice_index ss k ≤ 5) → sum_l ss ≤ 5 * length ss

@@ -1,5 +1,5 @@
 -- Chunks of which each is the lowest bytes of a number and perhaps alpha.
-use Rattle.std.specs.Prelude.{◌≡◌, ℕ, ◌+◌, ◌<◌, List, [], ◌∷◌, ◌++◌, length, take, slice_index}
+use Rattle.std.specs.Prelude.{◌≡◌, ℕ, ◌+◌, ◌<◌, ◌≤◌, List, [], ◌∷◌, ◌++◌, length, take, slice_index}
 use lib.Lanes.{digits_l, number_l, sum_l}
 use Rattle.qoi.specs.declared.encode.stores.FourChunks.{FourChunks}
 
@@ -12,6 +12,12 @@ pub record AreSizes (ss : List ℕ) (sizes : ℕ) : Type 0 where
   pub eight : length ss ≡ 8
   pub few : sum_l ss < 256
   pub is : sizes ≡ number_l 256 ss
+
+-- those of eight chunks
+pub record AreChunkSizes (sizes : ℕ) : Type 0 where
+  pub ss : List ℕ
+  pub are : AreSizes ss sizes
+  pub few : (k : ℕ) → slice_index ss k ≤ 5
 
 -- where four chunks start, the first at b: from the sizes of the first three
 pub record AreStarts (starts : List ℕ) (b s0 s1 s2 : ℕ) : Type 0 where

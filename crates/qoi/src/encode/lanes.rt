@@ -45,9 +45,9 @@ pub(super) fn greater(v: u8x16, w: u8x16) -> u8x16
     v.simd_max(w)
 }
 
-// The lanes, one further on; the first is the last one of `before`.
+/// The lanes, one further on; the first is the last one of `before`.
 #[inline(always)]
-fn later(before: u8x16, v: u8x16) -> u8x16
+pub(super) fn later(before: u8x16, v: u8x16) -> u8x16
     ensures { result ≡ slice_index before 15 ∷ take 15 v }
 {
     before.shuffle(

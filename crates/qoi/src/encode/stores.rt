@@ -1,16 +1,15 @@
 //! Chunks that are stored one after the other, each where the sum of the sizes before it says.
 ghost use lib.Lanes.{digits_l, number_l, sum_l};
 ghost use Rattle.std.specs.Prelude.{◌≡◌, ◌+◌, ◌*◌, ◌/◌, ◌%◌, ◌^◌, ◌≤◌, ◌<◌, ℕ, List, [], ◌∷◌, ◌++◌, length, take, drop, slice_index};
-ghost use Rattle.qoi.specs.declared.chunk.Chunk.{Chunk};
-ghost use Rattle.qoi.specs.declared.types.Style.TheVariants.{Reference};
-ghost use Rattle.qoi.specs.Qoi.{RgbaPixel, IsPixel, run_max, bytes_of};
+ghost use Rattle.qoi.specs.declared.types.Style.{Style};
+ghost use Rattle.qoi.specs.Qoi.{RgbaPixel, IsPixel, run_max};
 ghost use Rattle.qoi.specs.Raw.{IsChannels};
 ghost use Rattle.qoi.specs.inner.BlockState.{State, block_bytes};
 ghost use Rattle.qoi.specs.inner.Planes.{AreSixteen, ArePlanes};
 ghost use Rattle.qoi.specs.inner.Spelling.{HasSpelled};
-ghost use Rattle.qoi.specs.inner.Stores.{AreSizes, AreStarts, first_sum, four_chunks, eight_chunks};
+ghost use Rattle.qoi.specs.inner.Stores.{AreSizes, AreChunkSizes, AreStarts, first_sum, four_chunks, eight_chunks};
 
-use crate::consts::QOI_OP_RUN;
+use crate::encode::lanes::lesser;
 use crate::encode::planes::{Planes, make_words};
 use crate::encode::spelling::Spelled;
 use std::simd::prelude::*;
@@ -36,8 +35,7 @@ fn ends(sizes: u64) -> u64
 #[inline(always)]
 fn after(ends: u64, k: u32) -> usize
     requires { k < 8 }
-    ensures few { result < 256 }
-    ensures is { result ≡ ends / 2 ^ (8 * k) % 256 }
+    ensures { result ≡ ends / 2 ^ (8 * k) % 256 }
 {
     ((ends >> (8 * k)) % 256) as usize
 }
@@ -63,8 +61,8 @@ fn put<const N: usize>(out: &mut [u8], at: usize, number: u32, alpha: u8)
 #[inline(always)]
 fn put_four<const N: usize>(out: &mut [u8], at: usize, starts: [usize; 4], four: FourChunks)
     requires channels { IsChannels N }
-    requires few { (k : ℕ) → k < 4 → slice_index starts k < 256 }
-    requires room { at + 300 ≤ length out.old }
+    requires few { (k : ℕ) → k < 4 → slice_index starts k ≤ 35 }
+    requires room { at + 40 ≤ length out.old }
     ensures same { length out.new ≡ length out.old }
     ensures written { (b s0 s1 s2 s3 : ℕ) → s0 ≤ N + 1 → s1 ≤ N + 1 → s2 ≤ N + 1 → s3 ≤ N + 1
         → AreStarts starts b s0 s1 s2
@@ -87,9 +85,10 @@ fn put_eight<const N: usize>(
     two: FourChunks,
 ) -> usize
     requires channels { IsChannels N }
-    requires room { at + 300 ≤ length out.old }
+    requires sizes { AreChunkSizes sizes }
+    requires room { at + 40 ≤ length out.old }
     ensures same { length out.new ≡ length out.old }
-    ensures near { (at ≤ result) × (result < at + 256) }
+    ensures near { (at ≤ result) × (result ≤ at + 40) }
     ensures written { (ss : List ℕ) → AreSizes ss sizes → ((k : ℕ) → slice_index ss k ≤ N + 1)
         → (result ≡ at + sum_l ss)
         × (take result out.new ≡ take at out.old ++ eight_chunks ss one two) }
@@ -117,13 +116,13 @@ fn halves(size: u8x16) -> [u64; 2]
 #[inline(always)]
 pub(super) fn put_sixteen<const N: usize>(out: &mut [u8], at: usize, x: Spelled, p: Planes) -> usize
     requires channels { IsChannels N }
-    requires room { at + 600 ≤ length out.old }
+    requires room { at + 80 ≤ length out.old }
     ensures same { length out.new ≡ length out.old }
-    ensures near { (at ≤ result) × (result < at + 512) }
-    ensures written { (s : State) (ps : List RgbaPixel) → AreSixteen ps → IsPixel s.last
-        → ArePlanes ps p → HasSpelled s ps x → s.carry + 16 < run_max
+    ensures near { (at ≤ result) × (result ≤ at + 80) }
+    ensures written { (style : Style) (s : State) (ps : List RgbaPixel) → AreSixteen ps
+        → IsPixel s.last → ArePlanes ps p → HasSpelled style s ps x → s.carry + 16 < run_max
         → ((k : ℕ) → slice_index x.size k ≤ N + 1)
-        → take result out.new ≡ take at out.old ++ block_bytes Reference s ps }
+        → take result out.new ≡ take at out.old ++ block_bytes style s ps }
 {
     let n = make_words(Planes {
         r: x.first,
@@ -148,21 +147,8 @@ pub(super) fn put_sixteen<const N: usize>(out: &mut [u8], at: usize, x: Spelled,
         numbers: n.four.to_array(),
         alphas: [a[12], a[13], a[14], a[15]],
     };
-    let sizes = halves(x.size);
+    // A chunk has at most five bytes, so this changes no size; but it bounds them.
+    let sizes = halves(lesser(x.size, u8x16::splat(5)));
     let end = put_eight::<N>(out, at, sizes[0], one, two);
     put_eight::<N>(out, end, sizes[1], three, four)
-}
-
-/// Stores the run of these repeats, if there are any, at `at`, and returns where it ends.
-#[inline(always)]
-pub(super) fn put_run(out: &mut [u8], at: usize, count: u8) -> usize
-    requires room { at < length out.old }
-    requires few { count < run_max }
-    ensures same { length out.new ≡ length out.old }
-    ensures near { (at ≤ result) × (result ≤ at + 1) }
-    ensures none { count ≡ 0 → take result out.new ≡ take at out.old }
-    ensures some { 0 < count → take result out.new ≡ take at out.old ++ bytes_of (Chunk.Run count) }
-{
-    out[at] = QOI_OP_RUN - 1 + count;
-    at + usize::from(count > 0)
 }
