@@ -54,6 +54,7 @@ pub mod ReadBlock
 pub mod RunningMost
 pub mod SizeHalves
 pub mod SpelledBlock
+pub mod SpelledPixel
 pub mod StandMasks
 pub mod StyledBlock
 pub mod StoredBlock

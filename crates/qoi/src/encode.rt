@@ -23,6 +23,7 @@ mod changes;
 mod chunks;
 mod coder;
 mod counts;
+mod fresh;
 mod lanes;
 mod named;
 mod packing;
