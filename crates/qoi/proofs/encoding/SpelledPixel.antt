@@ -1,5 +1,5 @@
 -- One fresh pixel: the number that is computed for it has the bytes of its chunk.
-use Rattle.std.proofs.Common.{◌≡◌, ℕ, ◌+◌, ◌*◌, ◌/◌, ◌%◌, ◌^◌, ◌<◌, Bool, true, false, IsTrue, not, nat_lt, ◌&&◌, ◌==◌, inl, inr, List, [], ◌∷◌, ◌++◌, take, refl, sym, ap, ◌∙◌, arith, eqb-true, eq-eqb}
+use Rattle.std.proofs.Common.{◌≡◌, ℕ, ◌+◌, ◌*◌, ◌/◌, ◌%◌, ◌<◌, Bool, true, false, not, nat_lt, ◌&&◌, ◌==◌, inl, inr, [], ◌∷◌, ◌++◌, take, refl, sym, ap, ◌∙◌, arith, eqb-true, eq-eqb}
 use Rattle.std.proofs.lemmas.Bool.{true≢false}
 use lib.Lanes.{digits_l}
 use Rattle.qoi.specs.declared.chunk.Chunk.{Chunk}
@@ -7,7 +7,7 @@ use Rattle.qoi.specs.Qoi.{RgbaPixel, IsPixel}
 use Rattle.qoi.specs.Raw.{IsChannels}
 use Rattle.qoi.specs.inner.BlockLanes.{Lane, near, far, keeps, is_small, is_wide, fits_diff, fits_luma, first_by, second_by, size_by, diff_of, lane_bytes}
 use Rattle.qoi.specs.inner.FreshPixel.{SpellsOut}
-use Rattle.qoi.specs.inner.Lanes.{HasBytes, steps, diff_steps, luma_steps}
+use Rattle.qoi.specs.inner.Lanes.{steps, diff_steps, luma_steps}
 use Rattle.qoi.specs.inner.Packed.{word}
 use Rattle.qoi.proofs.encoding.LaneChunk.{three_small, spelled_lane}
 

@@ -78,7 +78,8 @@ impl Block {
         all_set(find_changes(before, self.planes).rep)
     }
 
-    /// Whether a fresh pixel of the block may be transparent black that isn't at its index position.
+    /// Whether a fresh pixel of the block may be transparent black that doesn't stand at its index
+    /// position.
     #[inline(always)]
     pub(super) fn may_miss_blank(self, table: &PixelTable, before: Planes) -> bool
         ensures { IsFalse result → MissesNoBlank table.now before (block_pixels self.words) }
@@ -174,7 +175,8 @@ impl Carry {
     }
 
     // The byte of the repeats before a fresh pixel: that of a run; in style `Places`, of a single
-    // repeat, the index position, if the chunk before isn't that position. Unused if there are none.
+    // repeat, the index position, if the chunk before isn't that position. If there are none, it
+    // isn't used.
     #[inline(always)]
     fn byte(self, style: Style) -> u8
         requires { self.count < run_max }
