@@ -26,7 +26,7 @@ abbrev bytes_of_four : RgbaPixel → RgbaPixel → RgbaPixel → RgbaPixel → L
 bytes_of_four p q s t = p.r ∷ p.g ∷ p.b ∷ p.a ∷ q.r ∷ q.g ∷ q.b ∷ q.a ∷ s.r ∷ s.g ∷ s.b ∷ s.a ∷ t.r ∷ t.g ∷ t.b ∷ t.a ∷ []
 
 -- the four packed pixels of their bytes
-four_words : (p q s t : RgbaPixel) → IsPixel p → IsPixel q → IsPixel s → IsPixel t
+pub four_words : (p q s t : RgbaPixel) → IsPixel p → IsPixel q → IsPixel s → IsPixel t
     → digits_l 4294967296 4 (number_l 256 (bytes_of_four p q s t)) ≡ word p ∷ word q ∷ word s ∷ word t ∷ []
 four_words p q s t ip iq is it =
     one_word 3 p ip (q.r ∷ q.g ∷ q.b ∷ q.a ∷ s.r ∷ s.g ∷ s.b ∷ s.a ∷ t.r ∷ t.g ∷ t.b ∷ t.a ∷ [])

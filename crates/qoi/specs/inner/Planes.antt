@@ -1,9 +1,9 @@
 -- Sixteen pixels, packed or as planes of their channels.
-use Rattle.std.specs.Prelude.{◌≡◌, ℕ, List, map, ◌++◌, length, take, drop}
+use Rattle.std.specs.Prelude.{◌≡◌, ℕ, List, [], ◌∷◌, map, ◌++◌, length, take, drop, slice_index}
 use Rattle.std.specs.List.{AllByRecursion}
 use Rattle.qoi.specs.declared.encode.planes.Planes.{Planes}
 use Rattle.qoi.specs.declared.encode.planes.Words.{Words}
-use Rattle.qoi.specs.Qoi.{RgbaPixel, IsPixel}
+use Rattle.qoi.specs.Qoi.{RgbaPixel, IsPixel, pixel}
 use Rattle.qoi.specs.inner.Lanes.{AreFour}
 use Rattle.qoi.specs.inner.Packed.{word, pixel_of_word}
 
@@ -53,9 +53,13 @@ blues ps = map (λ (p : RgbaPixel). p.b) ps
 abbrev pub alphas : List RgbaPixel → List ℕ
 alphas ps = map (λ (p : RgbaPixel). p.a) ps
 
--- the four, one after the other
-abbrev pub by_channels : List RgbaPixel → List ℕ
-by_channels ps = reds ps ++ (greens ps ++ (blues ps ++ alphas ps))
+-- four bytes as a number
+abbrev pub four_packed : List ℕ → ℕ
+four_packed bs = word (pixel (slice_index bs 0) (slice_index bs 1) (slice_index bs 2) (slice_index bs 3))
+
+-- the channels of four pixels, each as a number
+abbrev pub channel_words : List RgbaPixel → List ℕ
+channel_words ps = four_packed (reds ps) ∷ four_packed (greens ps) ∷ four_packed (blues ps) ∷ four_packed (alphas ps) ∷ []
 
 -- the planes are the channels of these pixels
 pub record ArePlanes (ps : List RgbaPixel) (p : Planes) : Type 0 where

@@ -1,7 +1,7 @@
 //! Sixteen pixels, a byte of each in the lanes of a vector: the steps from the pixels before them,
 //! which of them repeat, and their index positions (QOI specification 1.0, "Chunks").
-ghost use lib.Lanes.{zip2};
-ghost use Rattle.std.specs.Prelude.{◌≡◌, ◌+◌, ◌-◌, ◌%◌, ◌<◌, ℕ, List, ◌∷◌, min, max, map, take, slice_index};
+ghost use lib.Lanes.{Each1, number_l, zip2};
+ghost use Rattle.std.specs.Prelude.{◌≡◌, ◌<◌, ◌+◌, ◌-◌, ◌*◌, ◌/◌, ◌%◌, ◌^◌, ℕ, List, [], ◌∷◌, min, max, map, length, take, drop, slice_index};
 ghost use Rattle.qoi.specs.Qoi.{RgbaPixel, blank, hash, pixel_eq};
 ghost use Rattle.qoi.specs.inner.BlockLanes.{Lane, mask, zero_mask, step_of};
 ghost use Rattle.qoi.specs.inner.Planes.{AreSixteen, ArePlanes};
@@ -98,4 +98,53 @@ pub(super) fn blanks(p: Planes) -> u8x16
         → result ≡ map (λ p. mask (pixel_eq p blank)) ps }
 {
     is_zero(p.r | p.g | p.b | p.a)
+}
+
+/// The lanes of each half, as the bytes of a number.
+#[inline(always)]
+pub(super) fn halves(v: u8x16) -> [u64; 2]
+    ensures { result ≡ number_l 256 (take 8 v) ∷ number_l 256 (drop 8 v) ∷ [] }
+{
+    u64x2::from_le_bytes(v).to_array()
+}
+
+/// A byte of a number.
+#[inline(always)]
+pub(super) fn byte_at(number: u64, k: u32) -> usize
+    requires { k < 8 }
+    ensures { result ≡ number / 2 ^ (8 * k) % 256 }
+{
+    ((number >> (8 * k)) % 256) as usize
+}
+
+// The bytes of a number.
+#[inline(always)]
+fn eight_bytes(n: u64) -> [usize; 8]
+    ensures { (xs : List ℕ) → length xs ≡ 8 → Each1 (λ x. x < 256) xs → n ≡ number_l 256 xs
+        → result ≡ xs }
+{
+    [
+        byte_at(n, 0),
+        byte_at(n, 1),
+        byte_at(n, 2),
+        byte_at(n, 3),
+        byte_at(n, 4),
+        byte_at(n, 5),
+        byte_at(n, 6),
+        byte_at(n, 7),
+    ]
+}
+
+/// The lanes as numbers. They are taken from two numbers of 64 bits, which is faster than to take
+/// each from the vector.
+#[inline(always)]
+pub(super) fn lane_numbers(v: u8x16) -> [usize; 16]
+    ensures { result ≡ v }
+{
+    let n = halves(v);
+    let (a, b) = (eight_bytes(n[0]), eight_bytes(n[1]));
+    [
+        a[0], a[1], a[2], a[3], a[4], a[5], a[6], a[7], b[0], b[1], b[2], b[3], b[4], b[5], b[6],
+        b[7],
+    ]
 }

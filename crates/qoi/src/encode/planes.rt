@@ -1,8 +1,9 @@
 //! Sixteen pixels in planes: a vector of bytes for each channel (QOI specification 1.0, "Chunks").
-ghost use Rattle.std.specs.Prelude.{◌≡◌, List};
+ghost use lib.Lanes.{digits_l, number_l};
+ghost use Rattle.std.specs.Prelude.{◌≡◌, ◌^◌, List, ◌++◌, take, drop};
 ghost use Rattle.qoi.specs.Qoi.{RgbaPixel};
 ghost use Rattle.qoi.specs.inner.Lanes.{AreFour};
-ghost use Rattle.qoi.specs.inner.Planes.{ArePacked, AreSixteen, AreFourWords, AreBlockWords, by_channels, ArePlanes};
+ghost use Rattle.qoi.specs.inner.Planes.{ArePacked, AreSixteen, AreFourWords, AreBlockWords, channel_words, ArePlanes};
 
 use std::simd::prelude::*;
 
@@ -24,14 +25,28 @@ pub(super) struct Planes {
     pub(super) a: u8x16,
 }
 
-// The channels of four pixels: four bytes of red, then green, blue and alpha.
+// The channels of four pixels: four bytes of red, then green, blue and alpha, each four as a
+// number, since numbers take fewer instructions to shuffle.
 #[inline(always)]
-fn by_channel(w: u32x4) -> u8x16
+fn by_channel(w: u32x4) -> u32x4
     ensures packed { AreFour w }
-    ensures channels { (ps : List RgbaPixel) → AreFourWords ps w → result ≡ by_channels ps }
+    ensures channels { (ps : List RgbaPixel) → AreFourWords ps w → result ≡ channel_words ps }
 {
-    w.to_le_bytes()
-        .swizzle([0, 4, 8, 12, 1, 5, 9, 13, 2, 6, 10, 14, 3, 7, 11, 15])
+    u32x4::from_le_bytes(
+        w.to_le_bytes()
+            .swizzle([0, 4, 8, 12, 1, 5, 9, 13, 2, 6, 10, 14, 3, 7, 11, 15]),
+    )
+}
+
+// The lower halves of two vectors, and the upper ones, as bytes.
+#[inline(always)]
+fn both_halves(v: u32x4, w: u32x4) -> (u8x16, u8x16)
+    ensures { (result.0 ≡ digits_l 256 16 (number_l (2 ^ 32) (take 2 v ++ take 2 w)))
+        × (result.1 ≡ digits_l 256 16 (number_l (2 ^ 32) (drop 2 v ++ drop 2 w))) }
+{
+    let low: u32x4 = v.shuffle(w, [0, 1, 4, 5]);
+    let high: u32x4 = v.shuffle(w, [2, 3, 6, 7]);
+    (low.to_le_bytes(), high.to_le_bytes())
 }
 
 /// The planes of packed pixels.
@@ -41,36 +56,11 @@ pub(super) fn make_planes(w: Words) -> Planes
     ensures planes { (ps : List RgbaPixel) → AreSixteen ps → AreBlockWords ps w
         → ArePlanes ps result }
 {
-    let (p, q) = (by_channel(w.one), by_channel(w.two));
-    let (s, t) = (by_channel(w.three), by_channel(w.four));
-    let rg: u8x16 = p.shuffle(q, [0, 1, 2, 3, 16, 17, 18, 19, 4, 5, 6, 7, 20, 21, 22, 23]);
-    let ba: u8x16 = p.shuffle(
-        q,
-        [8, 9, 10, 11, 24, 25, 26, 27, 12, 13, 14, 15, 28, 29, 30, 31],
-    );
-    let rg2: u8x16 = s.shuffle(t, [0, 1, 2, 3, 16, 17, 18, 19, 4, 5, 6, 7, 20, 21, 22, 23]);
-    let ba2: u8x16 = s.shuffle(
-        t,
-        [8, 9, 10, 11, 24, 25, 26, 27, 12, 13, 14, 15, 28, 29, 30, 31],
-    );
-    Planes {
-        r: rg.shuffle(
-            rg2,
-            [0, 1, 2, 3, 4, 5, 6, 7, 16, 17, 18, 19, 20, 21, 22, 23],
-        ),
-        g: rg.shuffle(
-            rg2,
-            [8, 9, 10, 11, 12, 13, 14, 15, 24, 25, 26, 27, 28, 29, 30, 31],
-        ),
-        b: ba.shuffle(
-            ba2,
-            [0, 1, 2, 3, 4, 5, 6, 7, 16, 17, 18, 19, 20, 21, 22, 23],
-        ),
-        a: ba.shuffle(
-            ba2,
-            [8, 9, 10, 11, 12, 13, 14, 15, 24, 25, 26, 27, 28, 29, 30, 31],
-        ),
-    }
+    let (rg, ba) = by_channel(w.one).interleave(by_channel(w.two));
+    let (rg2, ba2) = by_channel(w.three).interleave(by_channel(w.four));
+    let (r, g) = both_halves(rg, rg2);
+    let (b, a) = both_halves(ba, ba2);
+    Planes { r, g, b, a }
 }
 
 /// The packed pixels of planes, the inverse of `make_planes`.

@@ -7,6 +7,7 @@ ghost use Rattle.qoi.specs.inner.Planes.{AreSixteen, AreFourWords, AreBlockWords
 ghost use Rattle.qoi.specs.inner.Stands.{all_same, four_times, HasPutBlock};
 ghost use Rattle.qoi.specs.inner.Table.{Holds};
 
+use crate::encode::lanes::lane_numbers;
 use crate::encode::planes::Words;
 use crate::encode::table::PixelTable;
 use std::simd::prelude::*;
@@ -43,7 +44,7 @@ pub(super) fn put_block(table: &mut PixelTable, places: u8x16, w: Words) -> u8x1
     ensures { (held : Past) (ps : List RgbaPixel) → Holds table.old held → AreSixteen ps
         → AreBlockWords ps w → places ≡ map hash ps → HasPutBlock held ps result table.new }
 {
-    let at = places.to_array();
+    let at = lane_numbers(places);
     let one = table.swap_four([at[0], at[1], at[2], at[3]], w.one.to_array());
     let two = table.swap_four([at[4], at[5], at[6], at[7]], w.two.to_array());
     let three = table.swap_four([at[8], at[9], at[10], at[11]], w.three.to_array());

@@ -9,7 +9,7 @@ ghost use Rattle.qoi.specs.inner.Planes.{AreSixteen, ArePlanes};
 ghost use Rattle.qoi.specs.inner.Spelling.{HasSpelled};
 ghost use Rattle.qoi.specs.inner.Stores.{AreSizes, AreChunkSizes, AreStarts, first_sum, four_chunks, eight_chunks};
 
-use crate::encode::lanes::lesser;
+use crate::encode::lanes::{byte_at, halves, lesser};
 use crate::encode::planes::{Planes, make_words};
 use crate::encode::spelling::Spelled;
 use std::simd::prelude::*;
@@ -29,15 +29,6 @@ fn ends(sizes: u64) -> u64
         → result / 2 ^ (8 * k) % 256 ≡ first_sum (k + 1) ss }
 {
     sizes.wrapping_mul(0x0101_0101_0101_0101)
-}
-
-// The end of one chunk.
-#[inline(always)]
-fn after(ends: u64, k: u32) -> usize
-    requires { k < 8 }
-    ensures { result ≡ ends / 2 ^ (8 * k) % 256 }
-{
-    ((ends >> (8 * k)) % 256) as usize
 }
 
 // Stores the bytes of a chunk, whatever its size, and perhaps others after them.
@@ -94,22 +85,14 @@ fn put_eight<const N: usize>(
         × (take result out.new ≡ take at out.old ++ eight_chunks ss one two) }
 {
     let e = ends(sizes);
-    put_four::<N>(out, at, [0, after(e, 0), after(e, 1), after(e, 2)], one);
+    put_four::<N>(out, at, [0, byte_at(e, 0), byte_at(e, 1), byte_at(e, 2)], one);
     put_four::<N>(
         out,
         at,
-        [after(e, 3), after(e, 4), after(e, 5), after(e, 6)],
+        [byte_at(e, 3), byte_at(e, 4), byte_at(e, 5), byte_at(e, 6)],
         two,
     );
-    at + after(e, 7)
-}
-
-// The sizes of eight lanes each, as the bytes of a number.
-#[inline(always)]
-fn halves(size: u8x16) -> [u64; 2]
-    ensures { result ≡ number_l 256 (take 8 size) ∷ number_l 256 (drop 8 size) ∷ [] }
-{
-    u64x2::from_le_bytes(size).to_array()
+    at + byte_at(e, 7)
 }
 
 /// Stores the chunks of sixteen pixels from `at` on, and returns where they end.

@@ -13,23 +13,22 @@ use crate::packed::Packed;
 impl PixelTable {
     // Puts a packed pixel at its index position, and returns what the table held there.
     #[inline(always)]
-    fn swap(&mut self, place: u8, px: u32) -> u32
+    fn swap(&mut self, place: usize, px: u32) -> u32
         requires { place < 64 }
         ensures was { (past : Past) → Holds self.old past
             → (result ≡ word (seen past place)) × IsPixel (seen past place) }
         ensures put { (past : Past) (p : RgbaPixel) → Holds self.old past → IsPixel p
             → px ≡ word p → place ≡ hash p → Holds self.new (p ∷ past) }
     {
-        let at = place as usize;
-        let held = self.pixels[at];
-        self.pixels[at] = Packed::of_number(px);
+        let held = self.pixels[place];
+        self.pixels[place] = Packed::of_number(px);
         held.number()
     }
 
     /// Puts four packed pixels at their index positions, one after the other, and returns what the
     /// table held there each time.
     #[inline(always)]
-    pub(crate) fn swap_four(&mut self, places: [u8; 4], pixels: [u32; 4]) -> [u32; 4]
+    pub(crate) fn swap_four(&mut self, places: [usize; 4], pixels: [u32; 4]) -> [u32; 4]
         requires { (k : ℕ) → k < 4 → slice_index places k < 64 }
         ensures { (held : Past) (ps : List RgbaPixel) → Holds self.old held
             → AreFourWords ps pixels → places ≡ map hash ps → HasPut held ps result self.new }

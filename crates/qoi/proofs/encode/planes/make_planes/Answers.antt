@@ -1,4 +1,5 @@
 -- Four pixels at a time.
+use Rattle.std.proofs.Common.{◌∙◌}
 use Rattle.qoi.proofs.encoding.FourFours.{four_words_of}
 use Rattle.qoi.proofs.encoding.WordPlanes.{sixteen_planes}
 use Rattle.qoi.proofs.encode.planes.make_planes.Goals as goal
@@ -6,5 +7,12 @@ use Rattle.qoi.proofs.encode.planes.make_planes.Goals as goal
 pub returns-clause-planes : goal.returns-clause-planes
 returns-clause-planes c = λ ps s are.
     let f = four_words_of ps c.args.w s are in
-    sixteen_planes ps c.by_channel-p.result c.by_channel-q.result c.by_channel-s.result c.by_channel-t.result s
-    (c.by_channel-p.ensures.channels _ f.one) (c.by_channel-q.ensures.channels _ f.two) (c.by_channel-s.ensures.channels _ f.three) (c.by_channel-t.ensures.channels _ f.four)
+    let planes = sixteen_planes ps c.by_channel.result c.by_channel-2.result c.by_channel-3.result c.by_channel-4.result s
+    (c.by_channel.ensures.channels _ f.one) (c.by_channel-2.ensures.channels _ f.two) (c.by_channel-3.ensures.channels _ f.three)
+    (c.by_channel-4.ensures.channels _ f.four) in
+    record {
+      r_is = c.both_halves.ensures.0 ∙ planes.r_is;
+      g_is = c.both_halves.ensures.1 ∙ planes.g_is;
+      b_is = c.both_halves-2.ensures.0 ∙ planes.b_is;
+      a_is = c.both_halves-2.ensures.1 ∙ planes.a_is;
+    }
