@@ -27,6 +27,7 @@ pub mod WrittenOnce
 pub mod WrittenShape
 -- Sixteen pixels at a time: what they write, and the vectors that say so.
 pub mod AllRepeat
+pub mod BlankLanes
 pub mod BlockOut
 pub mod BlockPuts
 pub mod BlockStep
@@ -41,8 +42,11 @@ pub mod LaneTests
 pub mod Lanewise
 pub mod LastCount
 pub mod LastPixels
+pub mod NamedLanes
+pub mod OpaqueBlock
 pub mod OverlaidRuns
 pub mod PackedBlock
+pub mod PaddedBlock
 pub mod PlacesOut
 pub mod PlaneWords
 pub mod PrefixSums
@@ -50,7 +54,9 @@ pub mod ReadBlock
 pub mod RunningMost
 pub mod SizeHalves
 pub mod SpelledBlock
+pub mod SpelledPixel
 pub mod StandMasks
+pub mod StyledBlock
 pub mod StoredBlock
 pub mod StoredParts
 pub mod SwappedPixels

@@ -16,14 +16,16 @@ ghost use Rattle.qoi.specs.EncoderState.{free_encoder};
 ghost use Rattle.qoi.specs.Sent.{IsFileFor, MakesFile, PutsFile, SendsFile, SendsPart};
 ghost use Rattle.qoi.specs.writers.Writes.{AppendsBeginning, WroteBeginning};
 
-// `block`, `changes`, `counts`, `lanes`, `packing`, `planes`, `spelling`, `stands` and `stores` are
-// the beginning of a coder by blocks of sixteen pixels, which isn't called yet.
+// `block`, `changes`, `counts`, `lanes`, `named`, `packing`, `planes`, `spelling`, `stands` and
+// `stores` are the beginning of a coder by blocks of sixteen pixels, which isn't called yet.
 mod block;
 mod changes;
 mod chunks;
 mod coder;
 mod counts;
+mod fresh;
 mod lanes;
+mod named;
 mod packing;
 pub(crate) mod piece;
 mod planes;

@@ -1,27 +1,30 @@
--- From one block of sixteen pixels to the next, in style Reference.
-use Rattle.std.proofs.Common.{◌≡◌, ◌&&◌, ◌%◌, ◌≢◌, ℕ, zero, suc, ◌+◌, ◌<◌, ◌≤◌, ◌==◌, Bool, true, false, List, [], ◌∷◌, ◌++◌, length, map, get_or, slice_index, if◌then◌else◌, refl, sym, ap, ◌∙◌, arith, subst}
-use Rattle.std.proofs.lemmas.Bool.{true≢false}
+-- From one block of sixteen pixels to the next.
+use Rattle.std.proofs.Common.{◌≡◌, ◌&&◌, ◌%◌, ◌≢◌, ℕ, zero, suc, ◌+◌, ◌-◌, ◌<◌, ◌≤◌, ◌==◌, Bool, true, false, List, [], ◌∷◌, ◌++◌, length, map, get_or, slice_index, Option, None, Some, refl, sym, ap, ◌∙◌, arith, subst}
+use Rattle.std.proofs.lemmas.Bool.{true≢false, and_parts}
 use Rattle.std.proofs.lemmas.List.{length-map}
-use Rattle.qoi.specs.declared.chunk.Chunk.TheVariants.{Run}
+use Rattle.std.proofs.lemmas.Option.{same_Some}
+use Rattle.std.specs.List.{slice_get}
 use Rattle.qoi.specs.declared.encode.planes.Planes.{Planes}
 use Rattle.qoi.specs.declared.encode.spelling.Spelled.{Spelled}
 use Rattle.qoi.specs.declared.types.Style.{Style}
-use Rattle.qoi.specs.declared.types.Style.TheVariants.{Reference, Tight}
-use Rattle.qoi.specs.Qoi.{RgbaPixel, pixel_eq, bytes_of}
+use Rattle.qoi.specs.declared.types.Style.TheVariants.{Reference, Places, Tight}
+use Rattle.qoi.specs.Qoi.{RgbaPixel, pixel_eq}
 use Rattle.qoi.specs.inner.BlockLanes.{mask}
-use Rattle.qoi.specs.inner.Blocks.{BetweenBlocks, all_repeat}
-use Rattle.qoi.specs.inner.BlockState.{State, Carrying, lanes_of, is_rep, group_bytes, next_state, more_of, end_state, block_bytes, CarryGoesOn, flushed_state, next_by}
+use Rattle.qoi.specs.inner.Blocks.{BetweenBlocks, all_repeat, padded}
+use Rattle.qoi.specs.inner.BlockState.{State, Carrying, lanes_of, is_rep, group_bytes, next_state, more_of, end_state, block_bytes, NoneBlank, CarryGoesOn, flushed_state, next_by}
 use Rattle.qoi.specs.inner.CoderLoop.{Writing}
 use Rattle.qoi.specs.inner.Counts.{counts}
 use Rattle.qoi.specs.inner.Planes.{AreSixteen, ArePlanes}
 use Rattle.qoi.specs.inner.Spelling.{HasSpelled, IsLastOf}
-use Rattle.qoi.specs.inner.Stands.{put_all}
+use Rattle.qoi.specs.inner.Stands.{put_all, stand_tests}
 use Rattle.qoi.specs.inner.Table.{Holds}
 use Rattle.qoi.proofs.format.SamePixels.{pixel_eq-true, pixel_eq-from}
-use Rattle.qoi.proofs.encoding.BlockOut.{firsts_anew, group_run, carry_few}
-use Rattle.qoi.proofs.encoding.BlockWritten.{block_written, flushed}
+use Rattle.qoi.proofs.encoding.BlockOut.{carry_few}
+use Rattle.qoi.proofs.encoding.BlockWritten.{flushed}
 use Rattle.qoi.proofs.encoding.LastCount.{last_count}
+use Rattle.qoi.proofs.encoding.PaddedBlock.{padded_carry, padded_last, padded_placed, padded_holds, padded_written}
 use Rattle.qoi.proofs.encoding.SpelledBlock.{lanes_long}
+use Rattle.qoi.proofs.encoding.StyledBlock.{firsts_in_anew}
 
 -- the pixels that were put, after all of these
 pub end_held : (s : State) (ps : List RgbaPixel) → (end_state s ps).held ≡ put_all s.held ps
@@ -44,49 +47,60 @@ counts_anew c true rs e = absurd (true≢false e)
 counts_anew c false rs e = refl
 
 -- a block is spelled out the same once the repeats before it are written
-spelled_anew : (s : State) (p : RgbaPixel) (ps : List RgbaPixel) (x : Spelled) → pixel_eq p s.last ≡ false → HasSpelled s (p ∷ ps) x → HasSpelled (flushed_state s) (p ∷ ps) x
-spelled_anew s p ps x e h = record {
+spelled_anew : (style : Style) (s : State) (p : RgbaPixel) (ps : List RgbaPixel) (x : Spelled) → pixel_eq p s.last ≡ false → HasSpelled style s (p ∷ ps) x
+    → HasSpelled style (flushed_state s) (p ∷ ps) x
+spelled_anew style s p ps x e h = record {
   rep_is = h.rep_is;
-  first_is = h.first_is ∙ firsts_anew s.carry (lanes_of s.held s.last (p ∷ ps)) e;
+  first_is = h.first_is ∙ firsts_in_anew style s.placed false s.carry (lanes_of s.held s.last (p ∷ ps)) e;
   second_is = h.second_is;
   size_is = h.size_is;
   count_is = h.count_is ∙ counts_anew s.carry (pixel_eq p s.last) (map is_rep (lanes_of (p ∷ s.held) p ps)) e;
 }
 
 -- The repeats before the block are written, if a fresh pixel follows them: the state from which its
--- chunks are written, with the same pixels put and the same last pixel.
-pub record Ready (w : Writing) (s : State) (ps rest : List RgbaPixel) (x : Spelled) (kept : List ℕ) : Type 0 where
+-- chunks are written, with the same pixels put and the same last pixel. The pixels `ahead` begin as
+-- the block does.
+pub record Ready (w : Writing) (style : Style) (s : State) (ps ahead : List RgbaPixel) (x : Spelled) (kept : List ℕ) : Type 0 where
   pub state : State
-  pub carrying : Carrying w state (ps ++ rest) kept
+  pub carrying : Carrying w state ahead kept
   pub goes_on_is : CarryGoesOn state ps
   pub few : state.carry ≤ 45
-  pub spelled : HasSpelled state ps x
+  pub spelled : HasSpelled style state ps x
   pub held_is : state.held ≡ s.held
   pub last_is : state.last ≡ s.last
 
--- what is stored for n repeats
-pub record StoredRun (n : ℕ) (old new : List ℕ) : Type 0 where
+-- what is stored for n repeats of q, if a fresh pixel follows them
+pub record StoredGroup (style : Style) (fresh placed : Bool) (q : RgbaPixel) (n : ℕ) (old new : List ℕ) : Type 0 where
+  pub stays : fresh ≡ false → new ≡ old
   pub none : n ≡ 0 → new ≡ old
-  pub some : 0 < n → new ≡ old ++ bytes_of (Run n)
+  pub some : fresh ≡ true → 0 < n → new ≡ old ++ group_bytes style placed q n
 
--- the bytes of a group of repeats in style Reference
-group_stored : (style : Style) (placed : Bool) (p : RgbaPixel) (k : ℕ) → style ≡ Reference → bytes_of (Run (suc k)) ≡ group_bytes style placed p (suc k)
-group_stored style placed p k e = sym (ap (λ z. group_bytes z placed p (suc k)) e ∙ group_run placed p k)
+-- only in style Places it matters what the chunk before a group names
+same_group : (style : Style) (a b : Bool) (q : RgbaPixel) (n : ℕ) → (style ≡ Places → a ≡ b) → group_bytes style a q n ≡ group_bytes style b q n
+same_group Reference a b q n e = refl
+same_group Places a b q n e = ap (λ z. group_bytes Places z q n) (e refl)
+same_group Tight a b q n e = refl
 
 -- from the state before the block
-pub ready : (w : Writing) (s : State) (ps rest : List RgbaPixel) (x : Spelled) (n : ℕ) (kept next : List ℕ) → w.list.style ≡ Reference → s.carry ≤ 45
-    → Carrying w s (ps ++ rest) kept → HasSpelled s ps x → AreSixteen ps
-    → n ≡ (if slice_index x.rep 0 == 0 then s.carry else 0) → StoredRun n kept next → Ready w s ps rest x next
-ready w s [] rest x n kept next style few c h sixteen n_is run = absurd (let l = sixteen.long in omega arith)
-ready w s (p ∷ ps) rest x n kept next style few c h sixteen n_is run = go (pixel_eq p s.last) refl
+pub ready : (w : Writing) (style : Style) (s : State) (ps ahead : List RgbaPixel) (x : Spelled) (fresh placed : Bool) (q : RgbaPixel) (n : ℕ) (kept next : List ℕ)
+    → w.list.style ≡ style → s.carry ≤ 45 → Carrying w s ahead kept → slice_get ahead 0 ≡ slice_get ps 0 → HasSpelled style s ps x → AreSixteen ps
+    → fresh ≡ (slice_index x.rep 0 == 0) → s.last ≡ q → s.carry ≡ n → (style ≡ Places → s.placed ≡ placed) → StoredGroup style fresh placed q n kept next
+    → Ready w style s ps ahead x next
+ready w style s [] ahead x is_fresh placed q n kept next same few c begins h sixteen fresh_is last_is n_is placed_is run = absurd (let l = sixteen.long in omega arith)
+ready w style s (p ∷ ps) [] x is_fresh placed q n kept next same few c begins h sixteen fresh_is last_is n_is placed_is run =
+    absurd (let no : ◌≡◌ {A = Option RgbaPixel} None (Some p) = begins in cc)
+ready w style s (p ∷ ps) (a ∷ more) x is_fresh placed q n kept next same few c begins h sixteen fresh_is last_is n_is placed_is run = go (pixel_eq p s.last) refl
   where
-    rep_is : slice_index x.rep 0 ≡ mask (pixel_eq p s.last)
-    rep_is = ap (λ z. slice_index z 0) h.rep_is
+    fresh_by : (b : Bool) → pixel_eq p s.last ≡ b → is_fresh ≡ (mask b == 0)
+    fresh_by b e = fresh_is ∙ ap (λ z. z == 0) (ap (λ z. slice_index z 0) h.rep_is ∙ ap mask e)
 
-    stays : n ≡ 0 → CarryGoesOn s (p ∷ ps) → Ready w s (p ∷ ps) rest x next
+    same_front : a ≡ p
+    same_front = same_Some a p begins
+
+    stays : next ≡ kept → CarryGoesOn s (p ∷ ps) → Ready w style s (p ∷ ps) (a ∷ more) x next
     stays never on = record {
       state = s;
-      carrying = subst (Carrying w s (p ∷ (ps ++ rest))) (sym (run.none never)) c;
+      carrying = subst (Carrying w s (a ∷ more)) (sym never) c;
       goes_on_is = on;
       few = few;
       spelled = h;
@@ -94,28 +108,26 @@ ready w s (p ∷ ps) rest x n kept next style few c h sixteen n_is run = go (pix
       last_is = refl;
     }
 
-    n_by : (b : Bool) → pixel_eq p s.last ≡ b → n ≡ (if mask b == 0 then s.carry else 0)
-    n_by b e = n_is ∙ ap (λ z. if z == 0 then s.carry else 0) (rep_is ∙ ap mask e)
-
-    fresh : pixel_eq p s.last ≡ false → (k : ℕ) → s.carry ≡ k → Ready w s (p ∷ ps) rest x next
-    fresh e zero no_carry = stays (n_by false e ∙ no_carry) (λ some. absurd (omega arith))
+    fresh : pixel_eq p s.last ≡ false → (k : ℕ) → s.carry ≡ k → Ready w style s (p ∷ ps) (a ∷ more) x next
+    fresh e zero no_carry = stays (run.none (sym n_is ∙ no_carry)) (λ some. absurd (omega arith))
     fresh e (suc k) some =
-        let differs : p ≢ s.last = λ same. true≢false (sym (pixel_eq-from p s.last same) ∙ e) in
-        let n_suc : n ≡ suc k = n_by false e ∙ some in
+        let differs : a ≢ s.last = λ same. true≢false (sym (pixel_eq-from p s.last (sym same_front ∙ same)) ∙ e) in
+        let n_suc : suc k ≡ n = sym some ∙ n_is in
         let bytes : kept ++ group_bytes w.list.style s.placed s.last (suc k) ≡ next =
-        ap (λ z. kept ++ z) (sym (group_stored w.list.style s.placed s.last k style)) ∙ sym (run.some (omega arith) ∙ ap (λ z. kept ++ bytes_of (Run z)) n_suc) in
+        (λ i. kept ++ group_bytes (same i) s.placed (last_is i) (n_suc i)) ∙ ap (λ z. kept ++ z) (same_group style s.placed placed q n placed_is)
+        ∙ sym (run.some (fresh_by false e) (omega arith)) in
         record {
           state = flushed_state s;
-          carrying = subst (Carrying w (flushed_state s) (p ∷ (ps ++ rest))) bytes (flushed s k p (ps ++ rest) c differs some (omega arith));
+          carrying = subst (Carrying w (flushed_state s) (a ∷ more)) bytes (flushed s k a more c differs some (omega arith));
           goes_on_is = λ some. absurd (omega arith);
           few = omega arith;
-          spelled = spelled_anew s p ps x e h;
+          spelled = spelled_anew style s p ps x e h;
           held_is = refl;
           last_is = refl;
         }
 
-    go : (b : Bool) → pixel_eq p s.last ≡ b → Ready w s (p ∷ ps) rest x next
-    go true e = stays (n_by true e) (λ some. pixel_eq-true p s.last e)
+    go : (b : Bool) → pixel_eq p s.last ≡ b → Ready w style s (p ∷ ps) (a ∷ more) x next
+    go true e = stays (run.stays (fresh_by true e)) (λ some. pixel_eq-true p s.last e)
     go false e = fresh e s.carry refl
 
 -- as many repeats are carried after pixels as came
@@ -143,31 +155,93 @@ carry_below s q (p ∷ ps) e mixed = go (λ same left. carry_below (next_state s
         omega (arith, below same (rest same))
     go below false is = omega (arith, carry_most (next_state s p (more_of p ps)) ps, none is)
 
--- style Reference isn't Tight
-not_tight : (style : Style) → style ≡ Reference → style ≡ Tight → ⊥
-not_tight style e t = absurd (let no : Reference ≡ Tight = sym e ∙ t in cc)
+-- after repeats what is carried is all of them, and the chunk before them is the same
+all_repeats : (s : State) (ps : List RgbaPixel) → all_repeat s.last ps ≡ true → ((end_state s ps).carry ≡ s.carry + length ps) × ((end_state s ps).placed ≡ s.placed)
+all_repeats s [] all = (omega arith, refl)
+all_repeats s (p ∷ ps) all =
+    let a = and_parts (pixel_eq p s.last) (all_repeat s.last ps) all in
+    let rest : all_repeat p ps ≡ true = subst (λ q. all_repeat q ps ≡ true) (sym (pixel_eq-true p s.last a.0)) a.1 in
+    let next : next_state s p (more_of p ps) ≡ next_by true true s p = λ i. next_by (a.0 i) (goes_on ps rest i) s p in
+    let h = all_repeats (next_by true true s p) ps rest in (
+      ap (λ t. (end_state t ps).carry) next ∙ h.0 ∙ omega arith,
+      ap (λ t. (end_state t ps).placed) next ∙ h.1,
+    )
+  where
+    goes_on : (ps : List RgbaPixel) → all_repeat p ps ≡ true → more_of p ps ≡ true
+    goes_on [] all = refl
+    goes_on (q ∷ qs) all = (and_parts (pixel_eq q p) (all_repeat p qs) all).0
 
--- over a block
-pub block_step : (w : Writing) (s : State) (ps rest : List RgbaPixel) (x : Spelled) (p : Planes) (table : List RgbaPixel) (kept next : List ℕ)
-    → w.list.style ≡ Reference → AreSixteen ps → all_repeat s.last ps ≡ false → ArePlanes ps p → Ready w s ps rest x kept → Holds table (put_all s.held ps)
-    → ((t : State) → HasSpelled t ps x → t.last ≡ s.last → t.carry ≤ 45 → next ≡ kept ++ block_bytes Reference t ps)
-    → BetweenBlocks w rest table p (slice_index x.count 15 % 16) next
-block_step w s ps rest x p table kept next style sixteen mixed planes r holds bytes =
+-- the chunk before the carried repeats names their position if the last fresh pixel stood there
+end_placed : (s : State) (ps : List RgbaPixel) → all_repeat s.last ps ≡ false
+    → (end_state s ps).placed ≡ get_or (stand_tests s.held ps) (length ps - 1 - (end_state s ps).carry) false
+end_placed s [] mixed = absurd (true≢false mixed)
+end_placed s (p ∷ ps) mixed = go (end_placed t ps) (all_repeat p ps) refl
+  where
+    t : State
+    t = next_state s p (more_of p ps)
+
+    tests : List Bool
+    tests = stand_tests s.held (p ∷ ps)
+
+    fresh : (b : Bool) → pixel_eq p s.last ≡ b → all_repeat p ps ≡ true → t ≡ next_by false (more_of p ps) s p
+    fresh true e all =
+        let rest : all_repeat s.last ps ≡ true = subst (λ q. all_repeat q ps ≡ true) (pixel_eq-true p s.last e) all in
+        absurd (true≢false (sym (ap (λ b. b && all_repeat s.last ps) e ∙ rest) ∙ mixed))
+    fresh false e all = ap (λ b. next_by b (more_of p ps) s p) e
+
+    go : (all_repeat p ps ≡ false → (end_state t ps).placed ≡ get_or (stand_tests (p ∷ s.held) ps) (length ps - 1 - (end_state t ps).carry) false)
+        → (b : Bool) → all_repeat p ps ≡ b → (end_state t ps).placed ≡ get_or tests (suc (length ps) - 1 - (end_state t ps).carry) false
+    go before true all =
+        let h = all_repeats t ps all in
+        let f = fresh (pixel_eq p s.last) refl all in
+        let none : t.carry ≡ 0 = ap (λ (z : State). z.carry) f in
+        let first : suc (length ps) - 1 - (end_state t ps).carry ≡ 0 = (let c = h.0 in omega arith) in
+        h.1 ∙ ap (λ (z : State). z.placed) f ∙ sym (ap (λ n. get_or tests n false) first)
+    go before false rest =
+        let below = carry_below t p ps refl rest in
+        let later : suc (length ps) - 1 - (end_state t ps).carry ≡ suc (length ps - 1 - (end_state t ps).carry) = omega arith in
+        before rest ∙ sym (ap (λ n. get_or tests n false) later)
+
+-- over a block of these pixels, of which the last `pads` are padding
+pub block_step : (w : Writing) (style : Style) (s : State) (ps rest all : List RgbaPixel) (pads : ℕ) (x : Spelled) (p : Planes) (table : List RgbaPixel) (placed : Bool) (kept next : List ℕ)
+    → w.list.style ≡ style → all ≡ padded ps pads → 0 < length ps → AreSixteen all → all_repeat s.last all ≡ false → ArePlanes all p
+    → Ready w style s all (ps ++ rest) x kept → Holds table (put_all s.held all)
+    → ((t : State) → t.held ≡ s.held → t.last ≡ s.last → style ≡ Tight → NoneBlank t all)
+    → (style ≡ Places → placed ≡ get_or (stand_tests s.held all) (15 - slice_index x.count 15 % 16) false)
+    → ((t : State) → HasSpelled style t all x → t.last ≡ s.last → t.carry ≤ 45 → next ≡ kept ++ block_bytes style t all)
+    → (pads ≤ slice_index x.count 15 % 16) × BetweenBlocks w rest table p (slice_index x.count 15 % 16 - pads) placed next
+block_step w style s ps rest all pads x p table placed kept next style_is pad_is some sixteen mixed planes r holds none named bytes =
     let t = r.state in
     let long = sixteen.long in
-    let few : t.carry + length ps < 62 = (let f = r.few in omega arith) in
-    let done = block_written t ps rest r.carrying r.goes_on_is few (λ tight. absurd (not_tight w.list.style style tight)) in
-    let same : kept ++ block_bytes w.list.style t ps ≡ next = ap (λ z. kept ++ block_bytes z t ps) style ∙ sym (bytes t r.spelled r.last_is r.few) in
-    record {
-      state = end_state t ps;
-      carrying = subst (Carrying w (end_state t ps) rest) same done;
-      table_is = subst (Holds table) (sym (end_held t ps ∙ ap (λ h. put_all h ps) r.held_is)) holds;
-      before_is = end_last t ps p sixteen planes;
-      carry_is = omega (arith, last_counted t r.spelled, carry_below t s.last ps r.last_is mixed, long);
-    }
+    let few : t.carry + length all < 62 = (let f = r.few in omega arith) in
+    let done = padded_written t ps rest all pads pad_is some r.carrying r.goes_on_is few (λ tight. none t r.held_is r.last_is (sym style_is ∙ tight)) in
+    let same : kept ++ block_bytes w.list.style t all ≡ next = ap (λ z. kept ++ block_bytes z t all) style_is ∙ sym (bytes t r.spelled r.last_is r.few) in
+    let carried : (end_state t all).carry ≡ (end_state t ps).carry + pads =
+    ap (λ (xs : List RgbaPixel). (end_state t xs).carry) pad_is ∙ padded_carry t ps pads some in
+    let last : (end_state t all).last ≡ (end_state t ps).last =
+    ap (λ (xs : List RgbaPixel). (end_state t xs).last) pad_is ∙ padded_last t ps pads some in
+    let names : (end_state t all).placed ≡ (end_state t ps).placed =
+    ap (λ (xs : List RgbaPixel). (end_state t xs).placed) pad_is ∙ padded_placed t ps pads some in
+    let counted = last_counted t r.spelled in
+    let mixed_lanes : all_repeat t.last all ≡ false = subst (λ q. all_repeat q all ≡ false) (sym r.last_is) mixed in
+    let below = carry_below t t.last all refl mixed_lanes in
+    let at_lane : length all - 1 - (end_state t all).carry ≡ 15 - slice_index x.count 15 % 16 = omega arith in
+    let stood : (end_state t all).placed ≡ get_or (stand_tests s.held all) (15 - slice_index x.count 15 % 16) false =
+    end_placed t all mixed_lanes ∙ (λ i. get_or (stand_tests (r.held_is i) all) (at_lane i) false) in
+    let holds_all : Holds table (end_state t all).held = subst (Holds table) (sym (end_held t all ∙ ap (λ h. put_all h all) r.held_is)) holds in (
+      omega arith,
+      record {
+        state = end_state t ps;
+        carrying = subst (Carrying w (end_state t ps) rest) same done;
+        table_is = padded_holds table t ps pads some (subst (λ (xs : List RgbaPixel). Holds table (end_state t xs).held) pad_is holds_all);
+        before_is = subst (λ q. IsLastOf q p) last (end_last t all p sixteen planes);
+        carry_is = omega arith;
+        placed_is = λ places. sym names ∙ stood ∙ sym (named (sym style_is ∙ places));
+      },
+    )
   where
-    last_counted : (t : State) → HasSpelled t ps x → slice_index x.count 15 ≡ (end_state t ps).carry
+    last_counted : (t : State) → HasSpelled style t all x → slice_index x.count 15 ≡ (end_state t all).carry
     last_counted t h =
-        let rs = map is_rep (lanes_of t.held t.last ps) in
-        let long : length rs ≡ 16 = length-map (lanes_of t.held t.last ps) is_rep ∙ lanes_long t.held t.last ps ∙ sixteen.long in
-        ap (λ z. slice_index z 15) h.count_is ∙ ap (λ n. get_or (t.carry ∷ counts t.carry rs) n 0) (sym long) ∙ last_count t ps
+        let rs = map is_rep (lanes_of t.held t.last all) in
+        let long : length rs ≡ 16 = length-map (lanes_of t.held t.last all) is_rep ∙ lanes_long t.held t.last all ∙ sixteen.long in
+        ap (λ z. slice_index z 15) h.count_is ∙ ap (λ n. get_or (t.carry ∷ counts t.carry rs) n 0) (sym long) ∙ last_count t all

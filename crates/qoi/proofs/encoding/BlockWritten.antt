@@ -96,7 +96,7 @@ stands_there Tight [] b i h = absurd (let no : false ≡ true = b in cc)
 stands_there Tight (p ∷ past) b i h = seen_same past p i h
 
 -- putting what stands there changes nothing
-put_again : (held : Past) (p : RgbaPixel) → ((i : ℕ) → hash p ≡ i → seen held i ≡ p) → (i : ℕ) → seen (p ∷ held) i ≡ seen held i
+pub put_again : (held : Past) (p : RgbaPixel) → ((i : ℕ) → hash p ≡ i → seen held i ≡ p) → (i : ℕ) → seen (p ∷ held) i ≡ seen held i
 put_again held p there i = go (hash p == i) refl
   where
     go : (b : Bool) → (hash p == i) ≡ b → (if hash p == i then p else seen held i) ≡ seen held i
@@ -138,7 +138,7 @@ put_same : (p : RgbaPixel) (xs ys : Past) → ((i : ℕ) → seen xs i ≡ seen 
 put_same p xs ys same i = ap (λ z. if hash p == i then p else z) (same i)
 
 -- a repeat among repeats
-repeat_front : (n : ℕ) (p : RgbaPixel) (xs : List RgbaPixel) → replicate n p ++ p ∷ xs ≡ replicate (suc n) p ++ xs
+pub repeat_front : (n : ℕ) (p : RgbaPixel) (xs : List RgbaPixel) → replicate n p ++ p ∷ xs ≡ replicate (suc n) p ++ xs
 repeat_front zero p xs = refl
 repeat_front (suc n) p xs = ap (λ z. p ∷ z) (repeat_front n p xs)
 

@@ -15,7 +15,7 @@ abbrev rep_mask : Lane → ℕ
 rep_mask l = mask (is_rep l)
 
 -- what the first lane counts
-one_count : (c : ℕ) (b : Bool) (rs : List Bool) → counts c (b ∷ rs) ≡ (if b then suc c else 0) ∷ counts (if b then suc c else 0) rs
+pub one_count : (c : ℕ) (b : Bool) (rs : List Bool) → counts c (b ∷ rs) ≡ (if b then suc c else 0) ∷ counts (if b then suc c else 0) rs
 one_count c true rs = refl
 one_count c false rs = refl
 

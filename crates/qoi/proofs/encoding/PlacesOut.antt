@@ -103,6 +103,20 @@ placed_anew q c (l ∷ ls) e =
     ap (λ b. first_if (is_rep l) q l (if b then suc c else 0) ∷ placed_firsts l.stands (if b then suc c else 0) ls) e
     ∙ sym (ap (λ b. first_if (is_rep l) q l (if b then 1 else 0) ∷ placed_firsts l.stands (if b then 1 else 0) ls) e)
 
+-- nor what the chunk before names
+pub placed_fresh : (q r : Bool) (c : ℕ) (ls : List Lane) → goes_on ls ≡ false → placed_firsts q c ls ≡ placed_firsts r 0 ls
+placed_fresh q r c [] e = absurd (true≢false e)
+placed_fresh q r c (l ∷ ls) e =
+    placed_anew q c (l ∷ ls) e ∙ ap (λ b. first_if b q l (if b then 1 else 0) ∷ placed_firsts l.stands (if b then 1 else 0) ls) e
+    ∙ ap (λ f. f ∷ placed_firsts l.stands 0 ls) (either q r)
+    ∙ sym (ap (λ b. first_if b r l (if b then 1 else 0) ∷ placed_firsts l.stands (if b then 1 else 0) ls) e)
+  where
+    either : (q r : Bool) → first_if false q l 0 ≡ first_if false r l 0
+    either true true = refl
+    either true false = refl
+    either false true = refl
+    either false false = refl
+
 -- the first bytes after a lane, from the state after it
 placed_next : (s : State) (p : RgbaPixel) (q b m : Bool) (ls : List Lane) → goes_on ls ≡ m
     → placed_firsts q (if b then suc s.carry else 0) ls ≡ placed_firsts q (next_by b m s p).carry ls

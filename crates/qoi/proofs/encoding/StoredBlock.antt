@@ -53,12 +53,12 @@ blue_plane (l ∷ ls) [] e = absurd (omega arith)
 blue_plane (l ∷ ls) (f ∷ fs) e = ap (λ z. l.px.b ∷ z) (blue_plane ls fs (omega arith))
 
 -- a second byte is one
-second_small : (b : Bool) (w p : RgbaPixel) → IsPixel p → second_by b w p < 256
+pub second_small : (b : Bool) (w p : RgbaPixel) → IsPixel p → second_by b w p < 256
 second_small true w p i = omega arith
 second_small false w p i = i.r
 
 -- a first byte is one
-first_small : (st d l k : Bool) (h : ℕ) (s w : RgbaPixel) → h < 64 → (if st then h else first_by d l k s w) < 256
+pub first_small : (st d l k : Bool) (h : ℕ) (s w : RgbaPixel) → h < 64 → (if st then h else first_by d l k s w) < 256
 first_small true d l k h s w lt = omega arith
 first_small false true l k h s w lt = omega arith
 first_small false false true k h s w lt = omega arith
@@ -66,7 +66,7 @@ first_small false false false true h s w lt = omega arith
 first_small false false false false h s w lt = omega arith
 
 -- a first byte, or that of a run
-over_small : (f m x : ℕ) → f < 256 → max f (bit_and m (x % 256)) < 256
+pub over_small : (f m x : ℕ) → f < 256 → max f (bit_and m (x % 256)) < 256
 over_small f m x l = omega (arith, and_le_r m (x % 256))
 
 -- first bytes and lanes make pixels

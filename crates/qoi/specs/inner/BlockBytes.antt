@@ -1,6 +1,8 @@
 -- The bytes that a block's vectors have for each lane.
 use Rattle.std.specs.Prelude.{ℕ, suc, Bool, ◌+◌, ◌-◌, ◌%◌, ◌==◌, min, List, [], ◌∷◌, ◌++◌, take, max, if◌then◌else◌}
 use Rattle.std.specs.Int.Bits.{bit_and, bit_or}
+use Rattle.qoi.specs.declared.types.Style.{Style}
+use Rattle.qoi.specs.declared.types.Style.TheVariants.{Reference, Places, Tight}
 use Rattle.qoi.specs.Qoi.{hash}
 use Rattle.qoi.specs.inner.BlockLanes.{Lane, mask, first_of, second_of, size_of}
 use Rattle.qoi.specs.inner.BlockState.{is_rep, goes_on}
@@ -35,3 +37,9 @@ placed_firsts q c [] = []
 placed_firsts q c (l ∷ ls) =
     let n = if is_rep l then suc c else 0 in
     placed_first q l n (max (first_of l) (bit_and (mask (is_rep l)) ((n + 191) % 256))) ∷ placed_firsts l.stands n ls
+
+-- first bytes in each style
+abbrev pub firsts_in : Style → Bool → ℕ → List Lane → List ℕ
+firsts_in Reference q c ls = firsts c ls
+firsts_in Places q c ls = placed_firsts q c ls
+firsts_in Tight q c ls = firsts c ls

@@ -2,8 +2,9 @@
 use Rattle.std.specs.Prelude.{◌≡◌, ℕ, List, map, slice_index}
 use Rattle.qoi.specs.declared.encode.planes.Planes.{Planes}
 use Rattle.qoi.specs.declared.encode.spelling.Spelled.{Spelled}
+use Rattle.qoi.specs.declared.types.Style.{Style}
 use Rattle.qoi.specs.Qoi.{RgbaPixel, IsPixel, hash}
-use Rattle.qoi.specs.inner.BlockBytes.{firsts, sizes}
+use Rattle.qoi.specs.inner.BlockBytes.{firsts_in, sizes}
 use Rattle.qoi.specs.inner.BlockLanes.{mask, second_of}
 use Rattle.qoi.specs.inner.BlockState.{State, lanes_of, is_rep}
 use Rattle.qoi.specs.inner.Counts.{counts}
@@ -26,10 +27,10 @@ pub record IsBlock (s : State) (ps : List RgbaPixel) (red stands places : List �
   pub stands_are : stands ≡ map mask (stand_tests s.held ps)
   pub places_are : places ≡ map hash ps
 
--- which of a block's pixels repeat, first and second bytes, sizes and counted repeats
-pub record HasSpelled (s : State) (ps : List RgbaPixel) (x : Spelled) : Type 0 where
+-- Which of a block's pixels repeat, first and second bytes in a style, sizes and counted repeats.
+pub record HasSpelled (style : Style) (s : State) (ps : List RgbaPixel) (x : Spelled) : Type 0 where
   pub rep_is : x.rep ≡ map (λ l. mask (is_rep l)) (lanes_of s.held s.last ps)
-  pub first_is : x.first ≡ firsts s.carry (lanes_of s.held s.last ps)
+  pub first_is : x.first ≡ firsts_in style s.placed s.carry (lanes_of s.held s.last ps)
   pub second_is : x.second ≡ map second_of (lanes_of s.held s.last ps)
   pub size_is : x.size ≡ sizes (lanes_of s.held s.last ps)
   pub count_is : x.count ≡ counts s.carry (map is_rep (lanes_of s.held s.last ps))

@@ -1,23 +1,32 @@
 //! Sixteen pixels, a block, and the chunks of a block, but for the repeats that it ends with.
-ghost use Rattle.std.specs.Prelude.{◌≡◌, ℕ, false, ◌+◌, ◌-◌, ◌≤◌, ◌<◌, List, ◌++◌, length, take, slice_index, ◌/◌, ◌%◌, IsFalse};
+ghost use Rattle.std.specs.Prelude.{◌≡◌, ℕ, Bool, false, ◌+◌, ◌-◌, ◌≤◌, ◌<◌, List, [], ◌∷◌, ◌++◌, length, map, take, slice_index, slice_index_or, ◌/◌, ◌%◌, IsTrue, IsFalse};
 ghost use Rattle.qoi.specs.declared.encode.block.TheConstants.{BLOCK_ROOM, BLOCK_MAX};
-ghost use Rattle.qoi.specs.declared.types.Style.TheVariants.{Tight};
-ghost use Rattle.qoi.specs.Qoi.{RgbaPixel, IsPixel};
+ghost use Rattle.qoi.specs.declared.types.Style.TheVariants.{Places, Tight};
+ghost use Rattle.qoi.specs.Qoi.{RgbaPixel, IsPixel, run_max, hash};
 ghost use Rattle.qoi.specs.Raw.{IsChannels, pixels_of};
+ghost use Rattle.qoi.specs.inner.BlockLanes.{mask};
+ghost use Rattle.qoi.specs.inner.BlockState.{State, NoneBlank, group_bytes};
 ghost use Rattle.qoi.specs.inner.Blocks.{BetweenBlocks, MissesNoBlank, padded, last_pixel, all_repeat};
 ghost use Rattle.qoi.specs.inner.CoderLoop.{Writing};
 ghost use Rattle.qoi.specs.inner.Planes.{ArePacked, ArePlanes, AreOpaque, block_pixels};
+ghost use Rattle.qoi.specs.inner.Spelling.{IsLastOf, HasSpelled};
+ghost use Rattle.qoi.specs.inner.Stands.{stand_tests};
+ghost use Rattle.qoi.specs.inner.Table.{Holds};
 
+use crate::consts::QOI_OP_RUN;
 use crate::encode::changes::{all_set, find_changes};
-use crate::encode::lanes::places;
+use crate::encode::lanes::{blanks, is_zero, places};
+use crate::encode::named::name_single;
 use crate::encode::packing::first_sixteen;
 use crate::encode::planes::{Planes, Words, make_planes};
-use crate::encode::spelling::spell_block;
+use crate::encode::spelling::{Spelled, spell_block};
 use crate::encode::stands::put_block;
-use crate::encode::stores::{put_run, put_sixteen};
+use crate::encode::stores::put_sixteen;
 use crate::encode::table::PixelTable;
-use crate::types::Style;
+use crate::packed::Packed;
+use crate::types::Style::{self, Places, Reference, Tight};
 use crate::utils::pick;
+use std::simd::prelude::*;
 
 /// The most bytes of a block's chunks, and of the run before them.
 pub(super) const BLOCK_MAX: usize = 81;
@@ -69,12 +78,74 @@ impl Block {
         all_set(find_changes(before, self.planes).rep)
     }
 
-    /// Whether a fresh pixel of the block may be transparent black that isn't at its index position.
+    /// Whether a fresh pixel of the block may be transparent black that doesn't stand at its index
+    /// position.
     #[inline(always)]
     pub(super) fn may_miss_blank(self, table: &PixelTable, before: Planes) -> bool
         ensures { IsFalse result → MissesNoBlank table.now before (block_pixels self.words) }
     {
-        true
+        !(self.has_no_fresh_blank(before) || self.keeps_blank(table))
+    }
+
+    // Whether no fresh pixel of the block is transparent black.
+    #[inline(always)]
+    fn has_no_fresh_blank(self, before: Planes) -> bool
+        ensures { IsTrue result → (s : State) → IsLastOf s.last before
+            → NoneBlank s (block_pixels self.words) }
+    {
+        let rep = find_changes(before, self.planes).rep;
+        all_set(rep | !blanks(self.planes))
+    }
+
+    // Whether transparent black stands at its index position, where no other pixel of the block is
+    // put.
+    #[inline(always)]
+    fn keeps_blank(self, table: &PixelTable) -> bool
+        ensures { IsTrue result → (s : State) → Holds table.now s.held
+            → NoneBlank s (block_pixels self.words) }
+    {
+        let elsewhere = !is_zero(places(self.planes));
+        table.at(0).is_same(Packed::blank()) & all_set(blanks(self.planes) | elsewhere)
+    }
+
+    // The chunks of the block, of which those pixels that `stands` says stand at their index
+    // positions, `places`.
+    #[inline(always)]
+    fn spell(self, style: Style, stands: u8x16, places: u8x16, carry: Carry) -> Spelled
+        requires { carry.count ≤ 46 }
+        ensures { (s : State) → IsPixel s.last → IsLastOf s.last carry.before
+            → s.carry ≡ carry.count → (style ≡ Places → s.placed ≡ carry.placed)
+            → stands ≡ map mask (stand_tests s.held (block_pixels self.words))
+            → places ≡ map hash (block_pixels self.words)
+            → HasSpelled style s (block_pixels self.words) result }
+    {
+        let changes = find_changes(carry.before, self.planes);
+        let x = spell_block(changes, self.planes.r, stands, places, carry.count);
+        match style {
+            Reference | Tight => x,
+            Places => name_single(x, stands, places, carry.placed),
+        }
+    }
+
+    // What is carried after the block's chunks.
+    #[inline(always)]
+    fn carry(self, style: Style, x: Spelled, stands: u8x16) -> Carry
+        ensures before { result.before ≡ self.planes }
+        ensures count { result.count ≡ slice_index x.count 15 % 16 }
+        ensures placed { (stood : List Bool) → style ≡ Places → stands ≡ map mask stood
+            → result.placed ≡ slice_index_or stood (15 - result.count) false }
+    {
+        // If the block doesn't repeat whole, at most fifteen are left.
+        let count = x.count.to_array()[15] % 16;
+        let placed = match style {
+            Reference | Tight => false,
+            Places => stands.to_array()[usize::from(15 - count)] == 255,
+        };
+        Carry {
+            before: self.planes,
+            count,
+            placed,
+        }
     }
 }
 
@@ -86,6 +157,58 @@ pub(super) struct Carry {
     pub(super) before: Planes,
     pub(super) count: u8,
     pub(super) placed: bool,
+}
+
+impl Carry {
+    // The last pixel of the block before.
+    #[inline(always)]
+    fn last(self) -> Packed
+        ensures { result ≡ last_pixel self.before }
+    {
+        let p = self.before;
+        Packed::new(
+            p.r.to_array()[15],
+            p.g.to_array()[15],
+            p.b.to_array()[15],
+            p.a.to_array()[15],
+        )
+    }
+
+    // The byte of the repeats before a fresh pixel: that of a run; in style `Places`, of a single
+    // repeat, the index position, if the chunk before isn't that position. If there are none, it
+    // isn't used.
+    #[inline(always)]
+    fn byte(self, style: Style) -> u8
+        requires { self.count < run_max }
+        ensures { 0 < self.count
+            → group_bytes style self.placed (last_pixel self.before) self.count ≡ result ∷ [] }
+    {
+        let run = QOI_OP_RUN - 1 + self.count;
+        match style {
+            Reference | Tight => run,
+            Places => pick(
+                (self.count == 1) & !self.placed,
+                self.last().hash_index(),
+                run,
+            ),
+        }
+    }
+
+    // Stores the repeats, if a fresh pixel follows them, at `at`, and returns where they end.
+    #[inline(always)]
+    fn put(self, style: Style, out: &mut [u8], at: usize, fresh: bool) -> usize
+        requires room { at < length out.old }
+        requires few { self.count < run_max }
+        ensures same { length out.new ≡ length out.old }
+        ensures near { (at ≤ result) × (result ≤ at + 1) }
+        ensures stays { IsFalse fresh → take result out.new ≡ take at out.old }
+        ensures none { self.count ≡ 0 → take result out.new ≡ take at out.old }
+        ensures some { IsTrue fresh → 0 < self.count → take result out.new
+            ≡ take at out.old ++ group_bytes style self.placed (last_pixel self.before) self.count }
+    {
+        out[at] = self.byte(style);
+        at + usize::from(fresh & (self.count > 0))
+    }
 }
 
 /// Stores the chunks of a block that doesn't repeat whole, from `at` on, but for the repeats at its
@@ -119,18 +242,9 @@ pub(super) fn write_block<const N: usize>(
 {
     let places = places(block.planes);
     let stands = put_block(table, places, block.words);
-    let changes = find_changes(carry.before, block.planes);
-    let x = spell_block(changes, block.planes.r, stands, places, carry.count);
+    let x = block.spell(style, stands, places, carry);
     let fresh = x.rep.to_array()[0] == 0;
-    let at = put_run(out, at, pick(fresh, carry.count, 0));
-    let end = put_sixteen::<N>(out, at, x, block.planes);
-    // If the block doesn't repeat whole, at most fifteen are left.
-    let count = x.count.to_array()[15] % 16;
-    let _style = style;
-    let after = Carry {
-        before: block.planes,
-        count,
-        placed: carry.placed,
-    };
-    (end, after)
+    let start = carry.put(style, out, at, fresh);
+    let end = put_sixteen::<N>(out, start, x, block.planes);
+    (end, block.carry(style, x, stands))
 }

@@ -2,7 +2,7 @@
 //! which of them repeat, and their index positions (QOI specification 1.0, "Chunks").
 ghost use lib.Lanes.{Each1, number_l, zip2};
 ghost use Rattle.std.specs.Prelude.{◌≡◌, ◌<◌, ◌+◌, ◌-◌, ◌*◌, ◌/◌, ◌%◌, ◌^◌, ℕ, List, [], ◌∷◌, min, max, map, length, take, drop, slice_index};
-ghost use Rattle.qoi.specs.Qoi.{RgbaPixel, hash};
+ghost use Rattle.qoi.specs.Qoi.{RgbaPixel, blank, hash, pixel_eq};
 ghost use Rattle.qoi.specs.inner.BlockLanes.{Lane, mask, zero_mask, step_of};
 ghost use Rattle.qoi.specs.inner.Planes.{AreSixteen, ArePlanes};
 ghost use Rattle.qoi.specs.inner.LaneVectors.{AreBy, AreSteps};
@@ -45,9 +45,9 @@ pub(super) fn greater(v: u8x16, w: u8x16) -> u8x16
     v.simd_max(w)
 }
 
-// The lanes, one further on; the first is the last one of `before`.
+/// The lanes, one further on; the first is the last one of `before`.
 #[inline(always)]
-fn later(before: u8x16, v: u8x16) -> u8x16
+pub(super) fn later(before: u8x16, v: u8x16) -> u8x16
     ensures { result ≡ slice_index before 15 ∷ take 15 v }
 {
     before.shuffle(
@@ -61,7 +61,8 @@ fn later(before: u8x16, v: u8x16) -> u8x16
 /// The steps of one channel, where `before` has the sixteen pixels before these.
 #[inline(always)]
 pub(super) fn channel_steps(before: u8x16, v: u8x16) -> u8x16
-    ensures { (ls : List Lane) (f : RgbaPixel → ℕ) → AreBy ls (λ l. f l.px) v
+    ensures byte { slice_index before 15 < 256 }
+    ensures steps { (ls : List Lane) (f : RgbaPixel → ℕ) → AreBy ls (λ l. f l.px) v
         → AreBy ls (λ l. f l.before) (slice_index before 15 ∷ take 15 v)
         → AreBy ls (λ l. (f l.px + (256 - f l.before)) % 256) result }
 {
@@ -137,4 +138,13 @@ pub(super) fn lane_numbers(v: u8x16) -> [usize; 16]
         a[0], a[1], a[2], a[3], a[4], a[5], a[6], a[7], b[0], b[1], b[2], b[3], b[4], b[5], b[6],
         b[7],
     ]
+}
+
+/// 255 in each lane whose pixel is transparent black, else 0.
+#[inline(always)]
+pub(super) fn blanks(p: Planes) -> u8x16
+    ensures { (ps : List RgbaPixel) → AreSixteen ps → ArePlanes ps p
+        → result ≡ map (λ p. mask (pixel_eq p blank)) ps }
+{
+    is_zero(p.r | p.g | p.b | p.a)
 }

@@ -1,16 +1,14 @@
 //! Chunks that are stored one after the other, each where the sum of the sizes before it says.
 ghost use lib.Lanes.{digits_l, number_l, sum_l};
 ghost use Rattle.std.specs.Prelude.{◌≡◌, ◌+◌, ◌*◌, ◌/◌, ◌%◌, ◌^◌, ◌≤◌, ◌<◌, ℕ, List, [], ◌∷◌, ◌++◌, length, take, drop, slice_index};
-ghost use Rattle.qoi.specs.declared.chunk.Chunk.{Chunk};
-ghost use Rattle.qoi.specs.declared.types.Style.TheVariants.{Reference};
-ghost use Rattle.qoi.specs.Qoi.{RgbaPixel, IsPixel, run_max, bytes_of};
+ghost use Rattle.qoi.specs.declared.types.Style.{Style};
+ghost use Rattle.qoi.specs.Qoi.{RgbaPixel, IsPixel, run_max};
 ghost use Rattle.qoi.specs.Raw.{IsChannels};
 ghost use Rattle.qoi.specs.inner.BlockState.{State, block_bytes};
 ghost use Rattle.qoi.specs.inner.Planes.{AreSixteen, ArePlanes};
 ghost use Rattle.qoi.specs.inner.Spelling.{HasSpelled};
 ghost use Rattle.qoi.specs.inner.Stores.{AreSizes, AreChunkSizes, AreStarts, first_sum, four_chunks, eight_chunks};
 
-use crate::consts::QOI_OP_RUN;
 use crate::encode::lanes::{byte_at, halves, lesser};
 use crate::encode::planes::{Planes, make_words};
 use crate::encode::spelling::Spelled;
@@ -87,7 +85,12 @@ fn put_eight<const N: usize>(
         × (take result out.new ≡ take at out.old ++ eight_chunks ss one two) }
 {
     let e = ends(sizes);
-    put_four::<N>(out, at, [0, byte_at(e, 0), byte_at(e, 1), byte_at(e, 2)], one);
+    put_four::<N>(
+        out,
+        at,
+        [0, byte_at(e, 0), byte_at(e, 1), byte_at(e, 2)],
+        one,
+    );
     put_four::<N>(
         out,
         at,
@@ -104,10 +107,10 @@ pub(super) fn put_sixteen<const N: usize>(out: &mut [u8], at: usize, x: Spelled,
     requires room { at + 80 ≤ length out.old }
     ensures same { length out.new ≡ length out.old }
     ensures near { (at ≤ result) × (result ≤ at + 80) }
-    ensures written { (s : State) (ps : List RgbaPixel) → AreSixteen ps → IsPixel s.last
-        → ArePlanes ps p → HasSpelled s ps x → s.carry + 16 < run_max
+    ensures written { (style : Style) (s : State) (ps : List RgbaPixel) → AreSixteen ps
+        → IsPixel s.last → ArePlanes ps p → HasSpelled style s ps x → s.carry + 16 < run_max
         → ((k : ℕ) → slice_index x.size k ≤ N + 1)
-        → take result out.new ≡ take at out.old ++ block_bytes Reference s ps }
+        → take result out.new ≡ take at out.old ++ block_bytes style s ps }
 {
     let n = make_words(Planes {
         r: x.first,
@@ -136,18 +139,4 @@ pub(super) fn put_sixteen<const N: usize>(out: &mut [u8], at: usize, x: Spelled,
     let sizes = halves(lesser(x.size, u8x16::splat(5)));
     let end = put_eight::<N>(out, at, sizes[0], one, two);
     put_eight::<N>(out, end, sizes[1], three, four)
-}
-
-/// Stores the run of these repeats, if there are any, at `at`, and returns where it ends.
-#[inline(always)]
-pub(super) fn put_run(out: &mut [u8], at: usize, count: u8) -> usize
-    requires room { at < length out.old }
-    requires few { count < run_max }
-    ensures same { length out.new ≡ length out.old }
-    ensures near { (at ≤ result) × (result ≤ at + 1) }
-    ensures none { count ≡ 0 → take result out.new ≡ take at out.old }
-    ensures some { 0 < count → take result out.new ≡ take at out.old ++ bytes_of (Chunk.Run count) }
-{
-    out[at] = QOI_OP_RUN - 1 + count;
-    at + usize::from(count > 0)
 }

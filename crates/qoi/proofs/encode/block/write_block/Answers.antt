@@ -1,54 +1,67 @@
 -- The repeats before the block, if a fresh pixel follows them, and the block's chunks.
-use Rattle.std.proofs.Common.{◌≡◌, false, ◌≤◌, List, map, slice_index, if◌then◌else◌, ◌==◌, arith, sym, ap, ◌∙◌, subst}
+use Rattle.std.proofs.Common.{◌≡◌, inl, inr, false, ℕ, ◌+◌, ◌-◌, ◌≤◌, List, ◌++◌, map, get_or, take, slice_index, arith, refl, sym, ap, ◌∙◌, subst}
+use Rattle.qoi.specs.declared.types.Style.TheVariants.{Places}
 use Rattle.qoi.specs.Qoi.{RgbaPixel, IsPixel, hash}
-use Rattle.qoi.specs.inner.BlockState.{lanes_of}
+use Rattle.qoi.specs.Raw.{IsChannels}
+use Rattle.qoi.specs.inner.BlockState.{State, lanes_of}
 use Rattle.qoi.specs.declared.encode.planes.Planes.{Planes}
-use Rattle.qoi.specs.inner.Blocks.{last_pixel, all_repeat}
-use Rattle.qoi.specs.inner.Planes.{block_pixels}
+use Rattle.qoi.specs.inner.BlockBytes.{sizes}
+use Rattle.qoi.specs.inner.Blocks.{BetweenBlocks, last_pixel, all_repeat}
+use Rattle.qoi.specs.inner.Planes.{AreOpaque, block_pixels}
 use Rattle.qoi.specs.inner.Spelling.{IsLastOf}
+use Rattle.qoi.specs.inner.Stands.{stand_tests}
+use Rattle.qoi.specs.inner.Table.{Holds}
 use Rattle.qoi.proofs.format.SamePixels.{same_pixel}
 use Rattle.qoi.proofs.encoding.BlockPuts.{hashes_below}
 use Rattle.qoi.proofs.encoding.BlockStep.{ready, block_step}
 use Rattle.qoi.proofs.encoding.PackedBlock.{block_sixteen, block_words}
+use Rattle.qoi.proofs.encoding.PaddedBlock.{padded_front}
 use Rattle.qoi.proofs.encoding.StoredBlock.{sizes_few}
+use Rattle.qoi.proofs.encoding.OpaqueBlock.{sizes_opaque}
 use Rattle.qoi.proofs.encode.block.write_block.Goals as goal
 
 -- the last pixel of the block before
 last_of_planes : (q : RgbaPixel) (p : Planes) → IsLastOf q p → q ≡ last_pixel p
 last_of_planes q p is = same_pixel q (last_pixel p) (sym is.red) (sym is.green) (sym is.blue) (sym is.alpha)
 
+-- a chunk has at most as many bytes as a pixel has channels, and one more
+sizes_in : (n : ℕ) (s : State) (q : RgbaPixel) (ps : List RgbaPixel) (xs : List ℕ) → IsChannels n → (n ≡ 3 → AreOpaque ps) → (n ≡ 3 → q.a ≡ 255)
+    → xs ≡ sizes (lanes_of s.held q ps) → (k : ℕ) → slice_index xs k ≤ n + 1
+sizes_in n s q ps xs (inl three) opaque last e k = omega (arith, sizes_opaque s.held q ps (last three) (opaque three) k, ap (λ z. slice_index z k) e)
+sizes_in n s q ps xs (inr four) opaque last e k = omega (arith, sizes_few (lanes_of s.held q ps) k, ap (λ z. slice_index z k) e)
+
 pub put_block-stands-requires : goal.put_block-stands-requires
-put_block-stands-requires c = λ k lt.
+put_block-stands-requires g c = λ k lt.
     let w = c.args.block.words in
     let at = c.places-places.ensures (block_pixels w) (block_sixteen w c.args.block.packed) c.args.block.planes_are in
     omega (arith, hashes_below (block_pixels w) k, ap (λ z. slice_index z k) at)
 
 pub returns-clause-written : goal.returns-clause-written
-returns-clause-written c = λ w rest style mixed b.
+returns-clause-written g c = λ w pads ps rest style pad_is some opaque before_opaque mixed none b.
     let s = b.state in
     let words = c.args.block.words in
-    let ps : List RgbaPixel = block_pixels words in
+    let all : List RgbaPixel = block_pixels words in
     let sixteen = block_sixteen words c.args.block.packed in
     let planes = c.args.block.planes_are in
     let last : IsPixel s.last = subst IsPixel b.carrying.last_is b.carrying.between.to_write.before in
-    let at : c.places-places.result ≡ map hash ps = c.places-places.ensures ps sixteen planes in
-    let put = c.put_block-stands.ensures s.held ps b.table_is sixteen (block_words words c.args.block.packed) at in
-    let changes = c.find_changes-changes.ensures s ps sixteen last planes b.before_is in
-    let spelled = c.spell_block-x.ensures s ps b.carry_is changes (record {
-      sixteen = sixteen;
-      last_is = last;
-      red_is = planes.r_is;
-      stands_are = put.stands_are;
-      places_are = at;
-    }) in
-    let x = c.spell_block-x.result in
+    let at : c.places-places.result ≡ map hash all = c.places-places.ensures all sixteen planes in
+    let put = c.put_block-stands.ensures s.held all b.table_is sixteen (block_words words c.args.block.packed) at in
+    let placed : c.args.style ≡ Places → s.placed ≡ c.args.carry.placed = λ is. b.placed_is (style ∙ is) in
+    let spelled = c.spell-x.ensures s last b.before_is b.carry_is placed put.stands_are at in
+    let x = c.spell-x.result in
     let few : s.carry ≤ 45 = omega (arith, b.carry_is, c.requires.few) in
-    let n_is : c.pick.result ≡ (if slice_index x.rep 0 == 0 then s.carry else 0) =
-    c.pick.ensures ∙ ap (λ k. if slice_index x.rep 0 == 0 then k else 0) (sym b.carry_is) in
-    let start = ready w s ps rest x c.pick.result _ _ style few b.carrying spelled sixteen n_is (record {
-      none = c.put_run-at.ensures.none;
-      some = c.put_run-at.ensures.some;
+    let q_is : s.last ≡ last_pixel c.args.carry.before = last_of_planes s.last c.args.carry.before b.before_is in
+    let start = ready w c.args.style s all (ps ++ rest) x _ c.args.carry.placed (last_pixel c.args.carry.before) c.args.carry.count _ _ style few b.carrying
+    (padded_front ps rest all pads pad_is some) spelled sixteen refl q_is b.carry_is placed (record {
+      stays = c.put-start.ensures.stays;
+      none = c.put-start.ensures.none;
+      some = c.put-start.ensures.some;
     }) in
-    block_step w s ps rest x c.args.block.planes _ _ _ style sixteen (subst (λ q. all_repeat q ps ≡ false) (sym (last_of_planes s.last c.args.before b.before_is)) mixed) planes start put.holds
-    (λ t same last_is carry. c.put_sixteen-end.ensures.written t ps sixteen (subst IsPixel (sym last_is) last) planes same (omega arith)
-    (λ k. omega (arith, sizes_few (lanes_of t.held t.last ps) k, ap (λ z. slice_index z k) same.size_is)))
+    let out : List ℕ = take c.put_sixteen-end.result c.put_sixteen-end.new.out in
+    let step = block_step w c.args.style s ps rest all pads x c.args.block.planes c.put_block-stands.new.table c.carry.result.placed _ out style pad_is some sixteen
+    (subst (λ q. all_repeat q all ≡ false) (sym q_is) mixed) planes start put.holds
+    (λ t held same tight. none tight t (subst (Holds c.args.table.now) (sym held) b.table_is) (subst (λ q. IsLastOf q c.args.carry.before) (sym same) b.before_is))
+    (λ is. c.carry.ensures.placed (stand_tests s.held all) is put.stands_are ∙ ap (λ n. get_or (stand_tests s.held all) (15 - n) false) c.carry.ensures.count)
+    (λ t same last_is carry. c.put_sixteen-end.ensures.written c.args.style t all sixteen (subst IsPixel (sym last_is) last) planes same (omega arith)
+    (sizes_in g.row.N t t.last all x.size c.requires.channels opaque (λ three. ap (λ z. z.a) (last_is ∙ q_is) ∙ before_opaque three) same.size_is)) in
+    subst (λ n. (pads ≤ n) × BetweenBlocks w rest c.put_block-stands.new.table c.args.block.planes (n - pads) c.carry.result.placed out) (sym c.carry.ensures.count) step

@@ -6,15 +6,14 @@ use lib.Lanes.{number_l, zip2}
 use Rattle.std.proofs.lemmas.List.{length-take-le}
 use Rattle.qoi.specs.declared.encode.stores.FourChunks.{FourChunks}
 use Rattle.qoi.specs.Qoi.{RgbaPixel, IsPixel}
-use Rattle.qoi.specs.declared.types.Style.TheVariants.{Reference}
 use Rattle.qoi.specs.inner.BlockBytes.{chunks_of}
 use Rattle.qoi.specs.inner.BlockLanes.{Lane}
 use Rattle.qoi.specs.inner.BlockState.{lanes_of, block_bytes}
 use Rattle.qoi.specs.inner.Stores.{AreChunkSizes, eight_chunks}
-use Rattle.qoi.proofs.encoding.BlockOut.{out_is}
 use Rattle.qoi.proofs.encoding.LaneTests.{themselves}
 use Rattle.qoi.proofs.encoding.SpelledBlock.{lanes_long, lanes_are}
-use Rattle.qoi.proofs.encoding.StoredBlock.{chunk_pixels, pixels_long, first_plane, second_plane, green_plane, blue_plane, pixels_are, firsts_long, sizes_long, take_few, drop_few, lesser_few, lesser_most, eight_sizes, four_of, sixteen_parts}
+use Rattle.qoi.proofs.encoding.StoredBlock.{chunk_pixels, pixels_long, first_plane, second_plane, green_plane, blue_plane, sizes_long, take_few, drop_few, lesser_few, lesser_most, eight_sizes, four_of, sixteen_parts}
+use Rattle.qoi.proofs.encoding.StyledBlock.{firsts_in_long, pixels_in, out_in}
 use Rattle.qoi.proofs.encode.stores.put_sixteen.Goals as goal
 
 -- the sizes of eight of sixteen lanes, none above five
@@ -37,16 +36,16 @@ put_eight-requires-clause-sizes g c =
     (ap (λ z. slice_index z 1) c.halves-sizes.ensures)
 
 pub returns-clause-written : goal.returns-clause-written
-returns-clause-written g c = λ s ps sixteen last planes spelled carry few.
+returns-clause-written g c = λ style s ps sixteen last planes spelled carry few.
     let ls : List Lane = lanes_of s.held s.last ps in
     let fs : List ℕ = c.args.x.first in
     let ss : List ℕ = c.args.x.size in
     let long : length ls ≡ 16 = lanes_long s.held s.last ps ∙ sixteen.long in
-    let long_first : length fs ≡ 16 = ap length spelled.first_is ∙ firsts_long s.carry ls ∙ long in
+    let long_first : length fs ≡ 16 = ap length spelled.first_is ∙ firsts_in_long style s.placed s.carry ls ∙ long in
     let long_size : length ss ≡ 16 = ap length spelled.size_is ∙ sizes_long ls ∙ long in
     let same : length fs ≡ length ls = long_first ∙ sym long in
     let pixels : AllByRecursion IsPixel (chunk_pixels ls fs) = subst (λ z. AllByRecursion IsPixel (chunk_pixels ls z)) (sym spelled.first_is)
-    (pixels_are s.carry ls (lanes_are s.held s.last ps last sixteen.are)) in
+    (pixels_in style s.placed s.carry ls (lanes_are s.held s.last ps last sixteen.are)) in
     let words = c.make_words-n.ensures (chunk_pixels ls fs) (record { long = pixels_long ls fs same ∙ long; are = pixels }) (record {
       r_is = first_plane ls fs same;
       g_is = spelled.second_is ∙ second_plane ls fs same;
@@ -78,7 +77,7 @@ returns-clause-written g c = λ s ps sixteen last planes spelled carry few.
       three_alphas = refl;
       four_alphas = refl;
     }) in
-    let all : chunks_of ls fs ss ≡ block_bytes Reference s ps = (λ i. chunks_of ls (spelled.first_is i) (spelled.size_is i)) ∙ out_is s ps sixteen.are (omega (arith, sixteen.long, carry)) in
+    let all : chunks_of ls fs ss ≡ block_bytes style s ps = (λ i. chunks_of ls (spelled.first_is i) (spelled.size_is i)) ∙ out_in style s ps sixteen.are (omega (arith, sixteen.long, carry)) in
     let front = take c.args.at c.args.out.now in
     second.1 ∙ ap (λ z. z ++ eight_chunks (drop 8 ss) three four) first.1
     ∙ append_assoc front (eight_chunks (take 8 ss) one two) (eight_chunks (drop 8 ss) three four) ∙ ap (λ z. front ++ z) (parts ∙ all)

@@ -1,0 +1,36 @@
+-- The vectors, in each style.
+use Rattle.std.proofs.Common.{◌≡◌, ◌⊎◌, inl, inr, List, sym, subst}
+use Rattle.qoi.specs.declared.encode.spelling.Spelled.{Spelled}
+use Rattle.qoi.specs.declared.types.Style.{Style}
+use Rattle.qoi.specs.declared.types.Style.TheVariants.{Reference, Tight}
+use Rattle.qoi.specs.Qoi.{RgbaPixel}
+use Rattle.qoi.specs.inner.BlockState.{State}
+use Rattle.qoi.specs.inner.Planes.{block_pixels}
+use Rattle.qoi.specs.inner.Spelling.{IsBlock, HasSpelled}
+use Rattle.qoi.proofs.encoding.PackedBlock.{block_sixteen}
+use Rattle.qoi.proofs.encode.block.Block.spell.Goals as goal
+
+-- in style Tight a block is spelled out as in style Reference
+plain : (style : Style) (s : State) (ps : List RgbaPixel) (x : Spelled) → (style ≡ Reference) ⊎ (style ≡ Tight) → HasSpelled Reference s ps x → HasSpelled style s ps x
+plain style s ps x (inl e) h = subst (λ z. HasSpelled z s ps x) (sym e) h
+plain style s ps x (inr e) h = subst (λ z. HasSpelled z s ps x) (sym e)
+    (record { rep_is = h.rep_is; first_is = h.first_is; second_is = h.second_is; size_is = h.size_is; count_is = h.count_is })
+
+pub returns-in-Reference : goal.returns-in-Reference
+returns-in-Reference c = λ s last before carry placed stands places.
+    let words = c.args.self.words in
+    let ps : List RgbaPixel = block_pixels words in
+    let sixteen = block_sixteen words c.args.self.packed in
+    let changes = c.find_changes-changes.ensures s ps sixteen c.args.self.planes_are before in
+    let block : IsBlock s ps c.args.self.planes.r c.args.stands c.args.places = record { sixteen = sixteen; last_is = last; red_is = c.args.self.planes_are.r_is; stands_are = stands; places_are = places } in
+    plain c.args.style s ps c.spell_block-x.result c.in-Reference.is (c.spell_block-x.ensures s ps carry changes block)
+
+pub returns-in-Places : goal.returns-in-Places
+returns-in-Places c = λ s last before carry placed stands places.
+    let words = c.args.self.words in
+    let ps : List RgbaPixel = block_pixels words in
+    let sixteen = block_sixteen words c.args.self.packed in
+    let changes = c.find_changes-changes.ensures s ps sixteen c.args.self.planes_are before in
+    let block : IsBlock s ps c.args.self.planes.r c.args.stands c.args.places = record { sixteen = sixteen; last_is = last; red_is = c.args.self.planes_are.r_is; stands_are = stands; places_are = places } in
+    let plain = c.spell_block-x.ensures s ps carry changes block in
+    subst (λ z. HasSpelled z s ps c.name_single.result) (sym c.in-Places.is) (c.name_single.ensures s ps sixteen (placed c.in-Places.is) stands places plain)

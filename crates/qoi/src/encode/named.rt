@@ -1,0 +1,48 @@
+//! Single repeats among sixteen pixels that are given by their index position, in style `Places`.
+ghost use Rattle.std.specs.Prelude.{◌≡◌, List, ◌∷◌, ◌==◌, take, map};
+ghost use Rattle.qoi.specs.declared.types.Style.TheVariants.{Reference, Places};
+ghost use Rattle.qoi.specs.Qoi.{RgbaPixel, hash};
+ghost use Rattle.qoi.specs.inner.BlockLanes.{mask};
+ghost use Rattle.qoi.specs.inner.BlockState.{State};
+ghost use Rattle.qoi.specs.inner.Planes.{AreSixteen};
+ghost use Rattle.qoi.specs.inner.Spelling.{HasSpelled};
+ghost use Rattle.qoi.specs.inner.Stands.{stand_tests};
+
+use crate::encode::lanes::{later, lesser};
+use crate::encode::spelling::Spelled;
+use crate::utils::pick;
+use std::simd::prelude::*;
+
+// 255 in each lane that is 1, else 0.
+#[inline(always)]
+fn is_one(v: u8x16) -> u8x16
+    ensures { result ≡ map (λ n. mask (n == 1)) v }
+{
+    v.simd_eq(u8x16::splat(1))
+        .select(u8x16::splat(255), u8x16::splat(0))
+}
+
+// Whether the pixel before each lane stood at its index position; before the first lane, whether
+// the chunk there names that position.
+#[inline(always)]
+fn stood(placed: bool, stands: u8x16) -> u8x16
+    ensures { result ≡ mask placed ∷ take 15 stands }
+{
+    later(u8x16::splat(pick(placed, 255, 0)), stands)
+}
+
+/// Gives each single repeat before a fresh pixel by its index position, if the chunk before it
+/// isn't that position. `placed` says whether the chunk before the block names the position of the
+/// pixel before the block.
+#[inline(always)]
+pub(super) fn name_single(x: Spelled, stands: u8x16, places: u8x16, placed: bool) -> Spelled
+    ensures { (s : State) (ps : List RgbaPixel) → AreSixteen ps → s.placed ≡ placed
+        → stands ≡ map mask (stand_tests s.held ps) → places ≡ map hash ps
+        → HasSpelled Reference s ps x → HasSpelled Places s ps result }
+{
+    let singles = x.rep & is_one(x.count) & !stood(placed, stands);
+    Spelled {
+        first: lesser(x.first, places | !singles),
+        ..x
+    }
+}
