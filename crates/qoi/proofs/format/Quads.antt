@@ -10,12 +10,12 @@ use Rattle.qoi.specs.inner.Packed.{word, pixel_of_word}
 use Rattle.qoi.specs.inner.Lanes.{step_word, diff_word, luma_word, green_twice, plus_32, up, down, diff_number, luma_number, rgb_number, changes, full_number, full_count, KeepAlpha, spelled_number, spelled_count, SameAlpha}
 
 -- four times as many
-abbrev fourfold : ℕ → ℕ
+abbrev pub fourfold : ℕ → ℕ
 fourfold zero = 0
 fourfold (suc n) = suc (suc (suc (suc (fourfold n))))
 
 -- the bytes of numbers of 32 bits, the lowest first
-abbrev bytes_in : List ℕ → List ℕ
+abbrev pub bytes_in : List ℕ → List ℕ
 bytes_in [] = []
 bytes_in (x ∷ xs) = (x % 2 ^ 8) ∷ (x / 2 ^ 8 % 2 ^ 8) ∷ (x / 2 ^ 16 % 2 ^ 8) ∷ (x / 2 ^ 24) ∷ bytes_in xs
 
@@ -45,7 +45,7 @@ above_bytes : (x r : ℕ) → x < 2 ^ 32 → (x + 4294967296 * r) / 256 / 256 / 
 above_bytes x r l = omega arith
 
 -- lanes of 32 bits, as bytes
-bytes_of_lanes : (n : ℕ) (xs : List ℕ) → length xs ≡ n → Each1 (Fits w32) xs → digits_l 256 (fourfold n) (number_l 4294967296 xs) ≡ bytes_in xs
+pub bytes_of_lanes : (n : ℕ) (xs : List ℕ) → length xs ≡ n → Each1 (Fits w32) xs → digits_l 256 (fourfold n) (number_l 4294967296 xs) ≡ bytes_in xs
 bytes_of_lanes zero [] e f = refl
 bytes_of_lanes zero (x ∷ xs) e f = absurd (omega arith)
 bytes_of_lanes (suc n) [] e f = absurd (omega arith)

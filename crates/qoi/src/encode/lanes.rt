@@ -91,15 +91,6 @@ pub(super) fn places(p: Planes) -> u8x16
     (h + a4 + a4 + a2 + p.a) & u8x16::splat(63)
 }
 
-/// 255 in each lane whose pixel is transparent black, else 0.
-#[inline(always)]
-pub(super) fn blanks(p: Planes) -> u8x16
-    ensures { (ps : List RgbaPixel) → AreSixteen ps → ArePlanes ps p
-        → result ≡ map (λ p. mask (pixel_eq p blank)) ps }
-{
-    is_zero(p.r | p.g | p.b | p.a)
-}
-
 /// The lanes of each half, as the bytes of a number.
 #[inline(always)]
 pub(super) fn halves(v: u8x16) -> [u64; 2]
@@ -147,4 +138,13 @@ pub(super) fn lane_numbers(v: u8x16) -> [usize; 16]
         a[0], a[1], a[2], a[3], a[4], a[5], a[6], a[7], b[0], b[1], b[2], b[3], b[4], b[5], b[6],
         b[7],
     ]
+}
+
+/// 255 in each lane whose pixel is transparent black, else 0.
+#[inline(always)]
+pub(super) fn blanks(p: Planes) -> u8x16
+    ensures { (ps : List RgbaPixel) → AreSixteen ps → ArePlanes ps p
+        → result ≡ map (λ p. mask (pixel_eq p blank)) ps }
+{
+    is_zero(p.r | p.g | p.b | p.a)
 }

@@ -1,18 +1,17 @@
 -- Twice eight chunks.
-use Rattle.std.proofs.Common.{◌≡◌, ◌+◌, ◌≤◌, ℕ, List, [], ◌∷◌, ◌++◌, take, drop, length, replicate, slice_index, append_assoc, arith, refl, sym, ap, ◌∙◌, subst, length-drop}
+use Rattle.std.proofs.Common.{◌≡◌, ◌≤◌, ℕ, List, [], ◌∷◌, ◌++◌, take, drop, length, replicate, slice_index, append_assoc, arith, sym, ap, ◌∙◌, subst, length-drop}
 use Rattle.std.specs.Prelude.{min}
 use Rattle.std.specs.List.{AllByRecursion}
 use lib.Lanes.{number_l, zip2}
 use Rattle.std.proofs.lemmas.List.{length-take-le}
-use Rattle.qoi.specs.declared.encode.stores.FourChunks.{FourChunks}
 use Rattle.qoi.specs.Qoi.{RgbaPixel, IsPixel}
 use Rattle.qoi.specs.inner.BlockBytes.{chunks_of}
-use Rattle.qoi.specs.inner.BlockLanes.{Lane}
+use Rattle.qoi.specs.inner.BlockLanes.{Lane, AreLanes}
 use Rattle.qoi.specs.inner.BlockState.{lanes_of, block_bytes}
-use Rattle.qoi.specs.inner.Stores.{AreChunkSizes, eight_chunks}
+use Rattle.qoi.specs.inner.Stores.{AreChunkSizes, with_fifth, eight_chunks}
 use Rattle.qoi.proofs.encoding.LaneTests.{themselves}
 use Rattle.qoi.proofs.encoding.SpelledBlock.{lanes_long, lanes_are}
-use Rattle.qoi.proofs.encoding.StoredBlock.{chunk_pixels, pixels_long, first_plane, second_plane, green_plane, blue_plane, sizes_long, take_few, drop_few, lesser_few, lesser_most, eight_sizes, four_of, sixteen_parts}
+use Rattle.qoi.proofs.encoding.StoredBlock.{chunk_pixels, pixels_long, first_plane, second_plane, green_plane, blue_plane, sizes_long, take_few, drop_few, lesser_few, lesser_most, eight_sizes, sixteen_parts}
 use Rattle.qoi.proofs.encoding.StyledBlock.{firsts_in_long, pixels_in, out_in}
 use Rattle.qoi.proofs.encode.stores.put_sixteen.Goals as goal
 
@@ -44,8 +43,9 @@ returns-clause-written g c = λ style s ps sixteen last planes spelled carry few
     let long_first : length fs ≡ 16 = ap length spelled.first_is ∙ firsts_in_long style s.placed s.carry ls ∙ long in
     let long_size : length ss ≡ 16 = ap length spelled.size_is ∙ sizes_long ls ∙ long in
     let same : length fs ≡ length ls = long_first ∙ sym long in
+    let lanes : AreLanes ls = lanes_are s.held s.last ps last sixteen.are in
     let pixels : AllByRecursion IsPixel (chunk_pixels ls fs) = subst (λ z. AllByRecursion IsPixel (chunk_pixels ls z)) (sym spelled.first_is)
-    (pixels_in style s.placed s.carry ls (lanes_are s.held s.last ps last sixteen.are)) in
+    (pixels_in style s.placed s.carry ls lanes) in
     let words = c.make_words-n.ensures (chunk_pixels ls fs) (record { long = pixels_long ls fs same ∙ long; are = pixels }) (record {
       r_is = first_plane ls fs same;
       g_is = spelled.second_is ∙ second_plane ls fs same;
@@ -57,25 +57,21 @@ returns-clause-written g c = λ style s ps sixteen last planes spelled carry few
     c.halves-sizes.ensures ∙ ap (λ z. number_l 256 (take 8 z) ∷ number_l 256 (drop 8 z) ∷ []) (c.lesser.ensures ∙ lesser_few 16 5 ss long_size at_most) in
     let first = c.put_eight-end.ensures.written (take 8 ss)
     (eight_sizes (take 8 ss) _ (length-take-le 8 ss (omega arith)) (take_few 8 5 ss at_most) (ap (λ z. slice_index z 0) halves))
-    (take_few 8 (g.row.N + 1) ss few) in
+    (take_few 8 5 ss at_most) in
     let second = c.put_eight.ensures.written (drop 8 ss)
     (eight_sizes (drop 8 ss) _ (omega (arith, length-drop 8 ss)) (drop_few 8 5 ss at_most) (ap (λ z. slice_index z 1) halves))
-    (drop_few 8 (g.row.N + 1) ss few) in
-    let n = c.make_words-n.result in
-    let bs : List ℕ = c.args.p.a in
-    let one : FourChunks = record { numbers = n.one; alphas = four_of bs 0 } in
-    let two : FourChunks = record { numbers = n.two; alphas = four_of bs 4 } in
-    let three : FourChunks = record { numbers = n.three; alphas = four_of bs 8 } in
-    let four : FourChunks = record { numbers = n.four; alphas = four_of bs 12 } in
-    let parts = sixteen_parts ls fs ss bs one two three four long long_first long_size (planes.a_is ∙ sym (themselves (λ (p : RgbaPixel). p.a) s.held s.last ps)) pixels (record {
-      one_numbers = words.one_are;
-      two_numbers = words.two_are;
-      three_numbers = words.three_are;
-      four_numbers = words.four_are;
-      one_alphas = refl;
-      two_alphas = refl;
-      three_alphas = refl;
-      four_alphas = refl;
+    (drop_few 8 5 ss at_most) in
+    let one : List ℕ = c.chunks-one.result in
+    let two : List ℕ = c.chunks-two.result in
+    let three : List ℕ = c.chunks-three.result in
+    let four : List ℕ = c.chunks-four.result in
+    let a = c.wide-a.ensures in
+    let parts = sixteen_parts ls fs ss c.args.p.a one two three four long long_first long_size (planes.a_is ∙ sym (themselves (λ (p : RgbaPixel). p.a) s.held s.last ps)) pixels
+    lanes (record {
+      one_is = c.chunks-one.ensures ∙ (λ i. zip2 with_fifth (words.one_are i) (a.one i));
+      two_is = c.chunks-two.ensures ∙ (λ i. zip2 with_fifth (words.two_are i) (a.two i));
+      three_is = c.chunks-three.ensures ∙ (λ i. zip2 with_fifth (words.three_are i) (a.three i));
+      four_is = c.chunks-four.ensures ∙ (λ i. zip2 with_fifth (words.four_are i) (a.four i));
     }) in
     let all : chunks_of ls fs ss ≡ block_bytes style s ps = (λ i. chunks_of ls (spelled.first_is i) (spelled.size_is i)) ∙ out_in style s ps sixteen.are (omega (arith, sixteen.long, carry)) in
     let front = take c.args.at c.args.out.now in
