@@ -34,6 +34,7 @@ pub mod BlockStep
 pub mod BlockWritten
 pub mod CoderLink
 pub mod FourFours
+pub mod FrontBlock
 pub mod LaneBits
 pub mod LaneChunk
 pub mod LaneMasks

@@ -1,5 +1,6 @@
 -- From today's coder to a block, and back.
-use Rattle.std.proofs.Common.{◌≡◌, ℕ, true, List, ◌++◌, replicate, Some, refl, sym, ap, ◌∙◌}
+use Rattle.std.proofs.Common.{◌≡◌, ℕ, true, List, ◌++◌, replicate, Some, refl, sym, ap, ◌∙◌, subst}
+use Rattle.qoi.specs.declared.encode.block.Carry.{Carry}
 use Rattle.qoi.specs.declared.encode.coder.Coder.{Coder}
 use Rattle.qoi.specs.declared.types.Style.TheVariants.{Places}
 use Rattle.qoi.specs.Qoi.{RgbaPixel, seen, hash}
@@ -7,7 +8,9 @@ use Rattle.qoi.specs.Styles.{names}
 use Rattle.qoi.specs.inner.Table.{Holds}
 use Rattle.qoi.specs.inner.CoderState.{held_in}
 use Rattle.qoi.specs.inner.CoderLoop.{Writing, CoderBetween}
+use Rattle.qoi.specs.inner.Blocks.{BetweenBlocks}
 use Rattle.qoi.specs.inner.BlockState.{State, Carrying}
+use Rattle.qoi.specs.inner.Spelling.{IsLastOf}
 
 -- Between two pixels, once a fresh one came, with nothing carried. In style Places the coder knows
 -- whether the chunk before names the last pixel's position.
@@ -51,3 +54,18 @@ from_carrying {w = w} s coder c holds style last begun placed = record {
     placed_is = λ is. placed is ∙ c.placed_is ∙ ap (λ p. names c.before (hash p)) (sym c.last_is);
   };
 }
+
+-- before the first block
+pub blocks_start : {N : ℕ} {w : Writing} {pixels : List RgbaPixel} {table : List RgbaPixel} {coder : Coder N} {kept : List ℕ} (carry : Carry)
+    → CoderBetween w pixels table coder kept → coder.begun ≡ true → IsLastOf coder.last carry.before → carry.count ≡ 0 → carry.placed ≡ coder.placed
+    → BetweenBlocks w pixels table carry.before carry.count carry.placed kept
+blocks_start carry b begun last none placed =
+    let s = to_carrying b begun in
+    record {
+      state = s.0;
+      carrying = s.1;
+      table_is = s.2;
+      before_is = subst (λ q. IsLastOf q carry.before) (sym s.3) last;
+      carry_is = s.4 ∙ sym none;
+      placed_is = λ is. s.5 is ∙ sym placed;
+    }

@@ -160,20 +160,6 @@ pub(super) struct Carry {
 }
 
 impl Carry {
-    // The last pixel of the block before.
-    #[inline(always)]
-    fn last(self) -> Packed
-        ensures { result ≡ last_pixel self.before }
-    {
-        let p = self.before;
-        Packed::new(
-            p.r.to_array()[15],
-            p.g.to_array()[15],
-            p.b.to_array()[15],
-            p.a.to_array()[15],
-        )
-    }
-
     // The byte of the repeats before a fresh pixel: that of a run; in style `Places`, of a single
     // repeat, the index position, if the chunk before isn't that position. If there are none, it
     // isn't used.
@@ -188,7 +174,7 @@ impl Carry {
             Reference | Tight => run,
             Places => pick(
                 (self.count == 1) & !self.placed,
-                self.last().hash_index(),
+                self.before.last().hash_index(),
                 run,
             ),
         }

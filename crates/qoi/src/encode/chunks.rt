@@ -1,7 +1,6 @@
 //! The chunks of an image, through a piece to a writer (QOI specification 1.0, "Data").
 ghost use Rattle.std.specs.Prelude.{◌≡◌, ◌+◌, ◌-◌, ◌*◌, ◌/◌, ◌%◌, ◌<◌, ◌≤◌, length, OnOk, IfErr};
 ghost use Rattle.qoi.specs.declared.encode.piece.TheConstants.{PAST};
-ghost use Rattle.qoi.specs.declared.encode.quad.TheConstants.{READ};
 ghost use Rattle.qoi.specs.Qoi.{channels_number};
 ghost use Rattle.qoi.specs.Raw.{IsChannels, pixels_of};
 ghost use Rattle.qoi.specs.inner.Piece.{WroteChunks, BeganChunks};
@@ -27,7 +26,7 @@ fn encode_pixels<W: Writer, const N: usize, const STYLE: u8, const ROOM: usize>(
     requires not_full { piece.old.end < ROOM - PAST }
     requires room { piece.old.end + (length «data».now + length «data».now / N)
         ≤ W.room writer.old }
-    ensures end { OnOk result (piece.new.end < ROOM - PAST + 2 * READ) }
+    ensures end { OnOk result (piece.new.end < ROOM - PAST) }
     ensures written { OnOk result (WroteChunks W.wrote style (pixels_of N «data».now)
         writer.old piece.old writer.new piece.new) }
     ensures refused { IfErr result (λ e. W.IsFault e
@@ -39,7 +38,6 @@ fn encode_pixels<W: Writer, const N: usize, const STYLE: u8, const ROOM: usize>(
     loop {
         rest = coder.fill(&mut table, piece, rest);
         if !piece.is_full() {
-            coder.write_rest(&mut table, piece, rest);
             return Ok(());
         }
         piece.send(writer)?;
@@ -59,7 +57,7 @@ pub(super) fn encode_chunks<W: Writer, const ROOM: usize>(
     requires not_full { piece.old.end < ROOM - PAST }
     requires room { piece.old.end
         + (length «data».now + length «data».now / channels_number channels) ≤ W.room writer.old }
-    ensures end { OnOk result (piece.new.end < ROOM - PAST + 2 * READ) }
+    ensures end { OnOk result (piece.new.end < ROOM - PAST) }
     ensures written { OnOk result (WroteChunks W.wrote style
         (pixels_of (channels_number channels) «data».now)
         writer.old piece.old writer.new piece.new) }

@@ -1,24 +1,29 @@
 //! Writes pixels, four at a time or a group of repeats, as chunks into a piece (QOI specification
 //! 1.0, "Data" and "Chunks").
 ghost use lib.Lanes.{mask_l, zip2};
-ghost use Rattle.std.specs.Prelude.{◌≡◌, ◌≢◌, ℕ, ◌+◌, ◌-◌, ◌*◌, ◌/◌, ◌%◌, ◌<◌, ◌≤◌, nat_eq, List, [], ◌∷◌, ◌++◌, Option, None, Some, length, drop, replicate, slice_get};
+ghost use Rattle.std.specs.Prelude.{◌≡◌, ◌≢◌, ◌⊎◌, ℕ, ◌+◌, ◌-◌, ◌*◌, ◌%◌, ◌<◌, ◌≤◌, nat_eq, false, List, [], ◌∷◌, ◌++◌, Option, None, Some, length, drop, replicate, slice_get, IsTrue};
 ghost use Rattle.qoi.specs.declared.chunk.Chunk.{Chunk};
+ghost use Rattle.qoi.specs.declared.encode.block.TheConstants.{BLOCK_MAX};
 ghost use Rattle.qoi.specs.declared.encode.piece.TheConstants.{PAST, RUNS_AT_ONCE, REPEATS_AT_ONCE};
-ghost use Rattle.qoi.specs.declared.encode.quad.TheConstants.{ALL_REPEAT, READ};
+ghost use Rattle.qoi.specs.declared.encode.quad.TheConstants.{ALL_REPEAT};
+ghost use Rattle.qoi.specs.declared.types.Style.TheVariants.{Tight};
 ghost use Rattle.qoi.specs.Qoi.{RgbaPixel, Past, run_max, chunk_max, previous, seen, hash, IsChunk, bytes_of};
 ghost use Rattle.qoi.specs.Raw.{IsChannels, IsChannels-prop, pixels_of};
-ghost use Rattle.qoi.specs.Runs.{IsCount, runs_by};
+ghost use Rattle.qoi.specs.Runs.{runs_by};
 ghost use Rattle.qoi.specs.Written.{IsFirst};
 ghost use Rattle.qoi.specs.Styles.{choice_in};
 ghost use Rattle.qoi.specs.inner.CoderState.{held_in, last_chunk};
 ghost use Rattle.qoi.specs.inner.Lanes.{HasBytes, AreOpaqueWords, SameAlpha, AreFourAfter};
 ghost use Rattle.qoi.specs.inner.Piece.{kept_bytes};
+ghost use Rattle.qoi.specs.inner.Planes.{block_pixels};
 ghost use Rattle.qoi.specs.inner.Table.{Holds};
 
 use crate::consts::QOI_OP_RUN;
+use crate::encode::block::{Block, Carry};
 use crate::encode::fresh::spell_pixel;
 use crate::encode::piece::{Piece, REPEATS_AT_ONCE};
-use crate::encode::quad::{ALL_REPEAT, Quad, READ, pixels_before, read_four, repeating};
+use crate::encode::planes::Planes;
+use crate::encode::quad::{ALL_REPEAT, Quad};
 use crate::encode::runs::{repeats_in_quad, repeats_of};
 use crate::encode::table::PixelTable;
 use crate::packed::Packed;
@@ -43,7 +48,9 @@ pub(super) struct Coder<const N: usize> {
 }
 
 impl<const N: usize> Coder<N> {
+    ghost use Rattle.qoi.specs.inner.Blocks.{BetweenBlocks, MissesNoBlank, last_pixel, all_repeat};
     ghost use Rattle.qoi.specs.inner.CoderLoop.{CoderAfter, single, Writing, CoderBetween, BytesBetween, lane_pixel, before_lane, in_four, AtLane};
+    ghost use Rattle.qoi.specs.inner.Spelling.{IsLastOf};
 
     /// The coder before the first pixel, as if opaque black came before.
     pub(super) fn new(style: Style) -> Coder<N>
@@ -279,30 +286,34 @@ impl<const N: usize> Coder<N> {
         self.write_repeats_and_fresh(table, piece, &quad, bits, lane)
     }
 
-    // Writes the repeats at the front of all bytes left, at most 992, and returns how many.
+    // Writes the `carry` repeats that came before these raw bytes and the repeats at their front, at
+    // most 992 in all. Returns how many of the latter.
     #[inline(always)]
     fn write_runs<const ROOM: usize>(
         &mut self,
         table: &mut PixelTable,
         piece: &mut Piece<ROOM>,
         data: &[u8],
+        carry: usize,
     ) -> usize
         requires whole { length «data».now % N ≡ 0 }
+        requires few { carry ≤ REPEATS_AT_ONCE }
         requires room { piece.old.end + RUNS_AT_ONCE < ROOM }
-        ensures end { piece.new.end ≤ piece.old.end + result / run_max + 1 }
+        ensures end { piece.new.end ≤ piece.old.end + RUNS_AT_ONCE + 1 }
         ensures inside { N * result ≤ length «data».now }
-        ensures most { result ≤ REPEATS_AT_ONCE }
         ensures last { self.new.last ≡ self.old.last }
-        ensures counted { length «data».now < READ
-            → IsCount self.old.last (pixels_of N «data».now) result }
-        ensures some { slice_get (pixels_of N «data».now) 0 ≡ Some self.old.last → 0 < result }
-        ensures written { (w : Writing) → BytesBetween w «data».now table.old self.old piece.old
+        ensures stops { (slice_get (pixels_of N (drop (N * result) «data».now)) 0
+            ≢ Some self.old.last) ⊎ (carry + result ≡ REPEATS_AT_ONCE) }
+        ensures written { (w : Writing) → CoderBetween w
+            (replicate carry self.old.last ++ pixels_of N «data».now) table.old self.old
+            (kept_bytes piece.old)
             → BytesBetween w (drop (N * result) «data».now) table.new self.new piece.new }
     {
-        let (near, _) = data.split_at(data.len().min(N * REPEATS_AT_ONCE));
+        let (near, _) = data.split_at(data.len().min(N * (REPEATS_AT_ONCE - carry)));
         // If more than 992 repeat, 992 are counted: sixteen runs of 62, so `one` isn't used.
-        let count = repeats_of::<N>(near, self.last);
-        let one = if N * count == data.len() {
+        let ahead = repeats_of::<N>(near, self.last);
+        let count = carry + ahead;
+        let one = if N * ahead == data.len() {
             // An index position stands for a repeat only if a fresh pixel follows.
             QOI_OP_RUN
         } else {
@@ -310,37 +321,132 @@ impl<const N: usize> Coder<N> {
         };
         piece.keep_runs(count, one);
         self.update_after_repeats(table, count);
-        count
+        ahead
     }
 
-    // Writes at least one pixel at the front: by `write_runs` if the first four all repeat, else by
-    // `write_quad`. Returns how many pixels were written.
+    // Writes the `carry` repeats that came before these raw bytes, the repeats at their front, and
+    // the fresh pixel after them, if there is one and fewer than 992 repeats were written. Returns
+    // how many pixels of the raw bytes were written.
     #[inline(always)]
-    fn write_front<const ROOM: usize>(
+    fn write_next<const ROOM: usize>(
         &mut self,
         table: &mut PixelTable,
         piece: &mut Piece<ROOM>,
         data: &[u8],
+        carry: usize,
     ) -> usize
         requires whole { length «data».now % N ≡ 0 }
-        requires long { READ ≤ length «data».now }
-        requires room { piece.old.end + 4 * chunk_max ≤ ROOM }
-        ensures end { piece.new.end ≤ piece.old.end + 4 * chunk_max }
+        requires few { carry < REPEATS_AT_ONCE }
+        requires room { piece.old.end + RUNS_AT_ONCE + 1 + chunk_max ≤ ROOM }
+        ensures end { piece.new.end ≤ piece.old.end + RUNS_AT_ONCE + 1 + chunk_max }
         ensures inside { N * result ≤ length «data».now }
-        ensures some { 0 < result }
-        ensures written { (w : Writing) → BytesBetween w «data».now table.old self.old piece.old
+        ensures some { 0 < length «data».now → 0 < result }
+        ensures written { (w : Writing) → CoderBetween w
+            (replicate carry self.old.last ++ pixels_of N «data».now) table.old self.old
+            (kept_bytes piece.old)
             → BytesBetween w (drop (N * result) «data».now) table.new self.new piece.new }
     {
-        let cur = read_four::<N>(data);
-        let prev = pixels_before(self.last.number(), cur);
-        let bits = repeating(cur, prev);
-        if bits == ALL_REPEAT {
-            return self.write_runs(table, piece, data);
+        let count = self.write_runs(table, piece, data, carry);
+        let after = skip(data, N * count);
+        if carry + count == REPEATS_AT_ONCE || after.is_empty() {
+            return count;
         }
-        self.write_quad(table, piece, cur, prev, bits)
+        let quad = Quad::splat(Packed::read::<N>(after), self.last);
+        self.write_fresh(table, piece, &quad, 0);
+        count + 1
     }
 
-    /// Writes until the piece is full or fewer than `READ` raw bytes are left; returns the rest.
+    // What is carried before the first block, once a fresh pixel came.
+    #[inline(always)]
+    fn carry(&self) -> Carry
+        ensures count { result.count ≡ 0 }
+        ensures before { IsLastOf self.now.last result.before }
+        ensures placed { result.placed ≡ self.now.placed }
+    {
+        Carry {
+            before: Planes::splat(self.last),
+            count: 0,
+            placed: self.placed,
+        }
+    }
+
+    // Takes over what is known after the last block, but for the repeats that are carried.
+    #[inline(always)]
+    fn update_after_blocks(&mut self, carry: Carry)
+        requires opaque { N ≡ 3 → (last_pixel carry.before).a ≡ 255 }
+        ensures written { (w : Writing) (rest table : List RgbaPixel) (kept : List ℕ)
+            → self.old.style ≡ w.list.style
+            → BetweenBlocks w rest table carry.before carry.count carry.placed kept
+            → CoderBetween w (replicate carry.count self.new.last ++ rest) table self.new kept }
+    {
+        let last = carry.before.last();
+        *self = Coder {
+            style: self.style,
+            last,
+            place: last.hash_index(),
+            begun: true,
+            placed: carry.placed,
+        };
+    }
+
+    // Whether a block can be written as one: not all its pixels repeat, and in style `Tight` none
+    // is given by another index position than its own.
+    #[inline(always)]
+    fn takes(&self, table: &PixelTable, block: Block, before: Planes) -> bool
+        ensures some { IsTrue result
+            → all_repeat (last_pixel before) (block_pixels block.words) ≡ false }
+        ensures none { IsTrue result → self.now.style ≡ Tight
+            → MissesNoBlank table.now before (block_pixels block.words) }
+    {
+        let blank = match self.style {
+            Reference | Places => false,
+            Tight => block.may_miss_blank(table, before),
+        };
+        !blank && !block.repeats(before)
+    }
+
+    // Writes blocks of sixteen pixels, once a fresh pixel came, until the piece is full, nothing is
+    // left or a block can't be written as one. The last block may have fewer pixels. Returns the
+    // rest, and how many repeats that came before it are still to be written.
+    #[inline(always)]
+    fn write_blocks<'a, const ROOM: usize>(
+        &mut self,
+        table: &mut PixelTable,
+        piece: &mut Piece<ROOM>,
+        data: &'a [u8],
+    ) -> (&'a [u8], u8)
+        requires whole { length «data».now % N ≡ 0 }
+        requires room { piece.old.end < ROOM - PAST }
+        ensures end { piece.new.end < ROOM - PAST + BLOCK_MAX }
+        ensures few { result.1 < 16 }
+        ensures shorter { length result.0.now ≤ length «data».entry.now }
+        ensures whole { length result.0.now % N ≡ 0 }
+        ensures written { (w : Writing)
+            → BytesBetween w «data».entry.now table.old self.old piece.old
+            → CoderBetween w (replicate result.1 self.new.last ++ pixels_of N result.0.now)
+            table.new self.new (kept_bytes piece.new) }
+    {
+        if !self.begun {
+            return (data, 0);
+        }
+        let mut rest = data;
+        let mut carry = self.carry();
+        while !piece.is_full() && !rest.is_empty() {
+            let block = Block::first::<N>(rest);
+            if !self.takes(table, block, carry.before) {
+                break;
+            }
+            let count = (rest.len() / N).min(16);
+            carry = piece.keep_block::<N>(self.style, table, block, carry);
+            // The pixels that pad the block didn't come.
+            carry.count = carry.count.saturating_sub((16 - count) as u8);
+            rest = skip(rest, N * count);
+        }
+        self.update_after_blocks(carry);
+        (rest, carry.count)
+    }
+
+    /// Writes until the piece is full or nothing is left; returns the rest.
     #[inline(always)]
     pub(super) fn fill<'a, const ROOM: usize>(
         &mut self,
@@ -350,8 +456,8 @@ impl<const N: usize> Coder<N> {
     ) -> &'a [u8]
         requires whole { length «data».now % N ≡ 0 }
         requires room { piece.old.end < ROOM - PAST }
-        ensures end { piece.new.end < ROOM - PAST + 4 * chunk_max }
-        ensures few { piece.new.end < ROOM - PAST → length result.now < READ }
+        ensures end { piece.new.end < ROOM - PAST + BLOCK_MAX + RUNS_AT_ONCE + 1 + chunk_max }
+        ensures all { piece.new.end < ROOM - PAST → length result.now ≡ 0 }
         ensures some { ROOM - PAST ≤ piece.new.end → length result.now < length «data».entry.now }
         ensures whole { length result.now % N ≡ 0 }
         ensures written { (w : Writing)
@@ -359,60 +465,11 @@ impl<const N: usize> Coder<N> {
             → BytesBetween w result.now table.new self.new piece.new }
     {
         let mut rest = data;
-        while !piece.is_full() && rest.len() >= READ {
-            let count = self.write_front(table, piece, rest);
-            rest = skip(rest, N * count);
+        while !piece.is_full() && !rest.is_empty() {
+            let (after, carry) = self.write_blocks(table, piece, rest);
+            let count = self.write_next(table, piece, after, usize::from(carry));
+            rest = skip(after, N * count);
         }
         rest
-    }
-
-    // Writes the repeats at the front and the next fresh pixel, if any; returns how many pixels.
-    #[inline(always)]
-    fn write_next<const ROOM: usize>(
-        &mut self,
-        table: &mut PixelTable,
-        piece: &mut Piece<ROOM>,
-        data: &[u8],
-    ) -> usize
-        requires whole { length «data».now % N ≡ 0 }
-        requires some { 0 < length «data».now }
-        requires few { length «data».now < READ }
-        requires room { piece.old.end + RUNS_AT_ONCE < ROOM }
-        ensures end { piece.new.end ≤ piece.old.end + 2 * (N * result) }
-        ensures inside { N * result ≤ length «data».now }
-        ensures some { 0 < result }
-        ensures written { (w : Writing) → BytesBetween w «data».now table.old self.old piece.old
-            → BytesBetween w (drop (N * result) «data».now) table.new self.new piece.new }
-    {
-        let count = self.write_runs(table, piece, data);
-        let after = skip(data, N * count);
-        if after.is_empty() {
-            return count;
-        }
-        let quad = Quad::splat(Packed::read::<N>(after), self.last);
-        self.write_fresh(table, piece, &quad, 0);
-        count + 1
-    }
-
-    /// Writes the chunks of the pixels at the end, which have fewer than sixteen raw bytes.
-    #[inline(always)]
-    pub(super) fn write_rest<const ROOM: usize>(
-        &mut self,
-        table: &mut PixelTable,
-        piece: &mut Piece<ROOM>,
-        data: &[u8],
-    )
-        requires whole { length «data».now % N ≡ 0 }
-        requires few { length «data».now < READ }
-        requires room { piece.old.end < ROOM - PAST }
-        ensures end { piece.new.end < ROOM - PAST + 2 * READ }
-        ensures written { (w : Writing) → BytesBetween w «data».now table.old self.old piece.old
-            → CoderBetween w [] table.new self.new (kept_bytes piece.new) }
-    {
-        let mut rest = data;
-        while !rest.is_empty() {
-            let count = self.write_next(table, piece, rest);
-            rest = skip(rest, N * count);
-        }
     }
 }

@@ -1,13 +1,17 @@
 -- A piece at a time.
-use Rattle.std.proofs.Common.{◌-◌, arith}
+use Rattle.std.proofs.Common.{◌≡◌, ◌-◌, [], arith, subst}
 use Rattle.std.proofs.lemmas.Result.{err_from_is_err_and}
 use Rattle.qoi.specs.declared.encode.piece.TheConstants.{PAST}
+use Rattle.qoi.specs.Raw.{pixels_of}
+use Rattle.qoi.specs.inner.CoderLoop.{CoderBetween}
+use Rattle.qoi.specs.inner.Piece.{kept_bytes}
+use Rattle.qoi.proofs.encoding.GroupRuns.{none_of_few}
 use Rattle.qoi.proofs.encoding.PieceByPiece.{piece_starts, piece_filled, piece_fits, piece_went, piece_part, piece_ends}
 use Rattle.qoi.proofs.encoding.PieceSent.{kept_length}
 use Rattle.qoi.proofs.encode.chunks.encode_pixels.Goals as goal
 
-pub loop-coder-init : goal.loop-coder-init
-loop-coder-init g c =
+pub loop-rest-init : goal.loop-rest-init
+loop-rest-init g c =
     let new = c.new-coder.ensures in
     record {
       end = c.requires.not_full;
@@ -17,25 +21,30 @@ loop-coder-init g c =
     }
 
 pub returns-then-not-is_full-clause-written : goal.returns-then-not-is_full-clause-written
-returns-then-not-is_full-clause-written g c = piece_ends (piece_filled c.loop-coder.invariant.state c.fill-rest.ensures.written) c.write_rest.ensures.written
+returns-then-not-is_full-clause-written g c =
+    let fill = c.fill-rest in
+    let room = c.is_full.ensures.room c.if-not-is_full.true in
+    let none : pixels_of g.row.N fill.result.now ≡ [] = none_of_few g.row.N fill.result.now c.requires.channels (omega (arith, fill.ensures.all room, c.requires.channels)) in
+    piece_ends c.loop-rest.invariant.state
+    (λ w b. subst (λ x. CoderBetween w x fill.new.table fill.new.self (kept_bytes fill.new.piece)) none (fill.ensures.written w b))
 
 pub send-requires : goal.send-requires
 send-requires g c =
     let full = c.is_full.ensures.full c.if-not-is_full.false in
-    let room = piece_fits (piece_filled c.loop-coder.invariant.state c.fill-rest.ensures.written) (g.row.ROOM - PAST)
+    let room = piece_fits (piece_filled c.loop-rest.invariant.state c.fill-rest.ensures.written) (g.row.ROOM - PAST)
     (omega (arith, kept_length c.fill-rest.new.piece, full)) in
     (omega arith, (full, room))
 
-pub loop-coder-preserved : goal.loop-coder-preserved
-loop-coder-preserved g c = record {
+pub loop-rest-preserved : goal.loop-rest-preserved
+loop-rest-preserved g c = record {
   end = omega (arith, c.in_ok-send.ensures.end, c.fill-rest.ensures.end, c.args.piece.now.large);
   whole = c.fill-rest.ensures.whole;
-  state = piece_went (piece_filled c.loop-coder.invariant.state c.fill-rest.ensures.written) (g.row.ROOM - PAST) c.in_ok-send.ensures.written c.in_ok-send.ensures.kept;
+  state = piece_went (piece_filled c.loop-rest.invariant.state c.fill-rest.ensures.written) (g.row.ROOM - PAST) c.in_ok-send.ensures.written c.in_ok-send.ensures.kept;
 }
 
 pub returns-in_err-send-clause-refused : goal.returns-in_err-send-clause-refused
 returns-in_err-send-clause-refused g c =
     let e = err_from_is_err_and c.from_residual.result c.from_residual.ensures.1 in
     let r = c.in_err-send.ensures.refused in
-    let part = piece_part (piece_filled c.loop-coder.invariant.state c.fill-rest.ensures.written) (g.row.ROOM - PAST) r.1 in
+    let part = piece_part (piece_filled c.loop-rest.invariant.state c.fill-rest.ensures.written) (g.row.ROOM - PAST) r.1 in
     rw (e.1, e.2) (r.0, part)

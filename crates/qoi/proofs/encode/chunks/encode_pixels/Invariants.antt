@@ -5,8 +5,8 @@ use Rattle.qoi.specs.inner.Piece.{kept_bytes}
 use Rattle.qoi.proofs.encoding.PieceByPiece.{PieceBetween}
 use Rattle.qoi.proofs.encode.chunks.encode_pixels.Given as goal
 
-abbrev pub invariant-loop-coder : goal.invariant-loop-coder
-invariant-loop-coder g l = record {
+abbrev pub invariant-loop-rest : goal.invariant-loop-rest
+invariant-loop-rest g l = record {
   end : l.piece.end < g.row.ROOM - PAST;
   whole : length l.rest % g.row.N ≡ 0;
   state : PieceBetween g.W.Writer.wrote g.W.Writer.room
@@ -14,5 +14,5 @@ invariant-loop-coder g l = record {
       l.rest l.table l.coder (kept_bytes l.piece) l.writer;
 }
 
-abbrev pub decreases-loop-coder : goal.decreases-loop-coder
-decreases-loop-coder g l = length l.rest
+abbrev pub decreases-loop-rest : goal.decreases-loop-rest
+decreases-loop-rest g l = length l.rest
