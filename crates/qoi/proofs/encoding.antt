@@ -12,9 +12,6 @@ pub mod PlacedLists
 pub mod Spelled
 pub mod SpelledLanes
 pub mod RunBytes
-pub mod QuadGroups
-pub mod QuadLoop
-pub mod QuadSteps
 pub mod StillToWrite
 pub mod StreamSent
 pub mod StyledGroup

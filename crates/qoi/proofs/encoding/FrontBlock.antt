@@ -2,7 +2,6 @@
 use Rattle.std.proofs.Common.{◌≡◌, ◌≢◌, ◌⊎◌, inl, inr, ℕ, zero, suc, ◌*◌, ◌/◌, ◌%◌, ◌-◌, ◌<◌, ◌≤◌, List, [], ◌∷◌, ◌++◌, length, take, drop, min, slice_index, refl, sym, ap, ◌∙◌, arith, take-append-drop}
 use Rattle.std.proofs.Math.ListN.{drop_of_length-le}
 use Rattle.std.proofs.lemmas.Bool.{cases_lt}
-use Rattle.std.proofs.lemmas.List.{length-drop}
 use Rattle.qoi.specs.declared.encode.planes.Planes.{Planes}
 use Rattle.qoi.specs.declared.encode.planes.Words.{Words}
 use Rattle.qoi.specs.Qoi.{RgbaPixel}
@@ -10,7 +9,7 @@ use Rattle.qoi.specs.Raw.{IsChannels, pixels_of}
 use Rattle.qoi.specs.inner.Planes.{AreOpaque, ArePacked, ArePlanes, alphas, block_pixels}
 use Rattle.qoi.proofs.format.RawPixels.{length-pixels_of}
 use Rattle.qoi.proofs.format.WholePixels.{by_channels, whole_pixels}
-use Rattle.qoi.proofs.encoding.GroupRuns.{pixels_drop, some_bytes, some_pixels, whole_rest}
+use Rattle.qoi.proofs.encoding.GroupRuns.{pixels_drop, whole_rest}
 use Rattle.qoi.proofs.encoding.PackedBlock.{block_sixteen}
 
 -- how many pixels of raw bytes their first block has

@@ -1,7 +1,6 @@
 -- Four packed pixels in the lanes of a vector: what the encoder computes from each and the pixel
 -- before it.
-use Rattle.std.specs.Prelude.{◌≡◌, ◌≢◌, ◌≤◌, ℕ, ◌<◌, nat_eq, take, map, ◌++◌, if◌then◌else◌, slice_index, length, List, [], ◌∷◌, ◌+◌, ◌-◌, ◌*◌, ◌/◌, ◌%◌, ◌^◌}
-use Rattle.std.specs.List.{AllByRecursion}
+use Rattle.std.specs.Prelude.{◌≡◌, ℕ, ◌<◌, nat_eq, take, map, ◌++◌, if◌then◌else◌, slice_index, length, List, [], ◌∷◌, ◌+◌, ◌-◌, ◌*◌, ◌/◌, ◌%◌, ◌^◌}
 use Rattle.std.specs.Int.Bits.{bit_and}
 use lib.Lanes.{digits_l}
 use Rattle.qoi.specs.declared.chunk.Chunk.{Chunk}
@@ -106,12 +105,6 @@ pub record IsSpelled (p q number count : ℕ) (c : Chunk) : Type 0 where
   pub bytes : HasBytes (p / 2 ^ 24) number count c
   pub first : (past : Past) → IsPixel (previous past) → previous past ≡ pixel_of_word q → IsFirst past (pixel_of_word p) c
 
--- n numbers from this lane on are those beside them, and no more
-pub record IsRun (xs ys : List ℕ) (at n : ℕ) : Type 0 where
-  pub within : at + n ≤ 4
-  pub same : (k : ℕ) → at ≤ k → k < at + n → slice_index xs k ≡ slice_index ys k
-  pub stops : at + n < 4 → slice_index xs (at + n) ≢ slice_index ys (at + n)
-
 -- four packed pixels are opaque
 abbrev pub AreOpaqueWords : List ℕ → Type 0
 AreOpaqueWords words = (k : ℕ) → k < 4 → slice_index words k / 2 ^ 24 ≡ 255
@@ -123,12 +116,3 @@ AreFour words = (length words ≡ 4) × ((k : ℕ) → slice_index words k < 2 ^
 -- the index positions of packed pixels
 abbrev pub places_of : List ℕ → List ℕ
 places_of words = map (λ w. hash (pixel_of_word w)) words
-
--- the lanes are the first four of these pixels, and the ones before them, of which `last` is the
--- first
-pub record AreFourAfter (last : RgbaPixel) (pixels : List RgbaPixel) (cur prev : List ℕ) : Type 0 where
-  pub last_is : IsPixel last
-  pub long : 4 ≤ length pixels
-  pub are : AllByRecursion IsPixel pixels
-  pub pixels_are : cur ≡ map word (take 4 pixels)
-  pub before_are : prev ≡ word last ∷ take 3 cur

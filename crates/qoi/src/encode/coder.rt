@@ -1,19 +1,17 @@
-//! Writes pixels, four at a time or a group of repeats, as chunks into a piece (QOI specification
-//! 1.0, "Data" and "Chunks").
-ghost use lib.Lanes.{mask_l, zip2};
-ghost use Rattle.std.specs.Prelude.{◌≡◌, ◌≢◌, ◌⊎◌, ℕ, ◌+◌, ◌-◌, ◌*◌, ◌%◌, ◌<◌, ◌≤◌, nat_eq, false, List, [], ◌∷◌, ◌++◌, Option, None, Some, length, drop, replicate, slice_get, IsTrue};
+//! Writes pixels, a block of sixteen at a time or a group of repeats, as chunks into a piece (QOI
+//! specification 1.0, "Data" and "Chunks").
+ghost use Rattle.std.specs.Prelude.{◌≡◌, ◌≢◌, ◌⊎◌, ℕ, ◌+◌, ◌-◌, ◌*◌, ◌%◌, ◌<◌, ◌≤◌, false, List, [], ◌∷◌, ◌++◌, Option, None, Some, length, drop, replicate, slice_get, IsTrue};
 ghost use Rattle.qoi.specs.declared.chunk.Chunk.{Chunk};
 ghost use Rattle.qoi.specs.declared.encode.block.TheConstants.{BLOCK_MAX};
 ghost use Rattle.qoi.specs.declared.encode.piece.TheConstants.{PAST, RUNS_AT_ONCE, REPEATS_AT_ONCE};
-ghost use Rattle.qoi.specs.declared.encode.quad.TheConstants.{ALL_REPEAT};
 ghost use Rattle.qoi.specs.declared.types.Style.TheVariants.{Tight};
-ghost use Rattle.qoi.specs.Qoi.{RgbaPixel, Past, run_max, chunk_max, previous, seen, hash, IsChunk, bytes_of};
+ghost use Rattle.qoi.specs.Qoi.{RgbaPixel, Past, chunk_max, previous, seen, hash, IsChunk, bytes_of};
 ghost use Rattle.qoi.specs.Raw.{IsChannels, IsChannels-prop, pixels_of};
 ghost use Rattle.qoi.specs.Runs.{runs_by};
 ghost use Rattle.qoi.specs.Written.{IsFirst};
 ghost use Rattle.qoi.specs.Styles.{choice_in};
 ghost use Rattle.qoi.specs.inner.CoderState.{held_in, last_chunk};
-ghost use Rattle.qoi.specs.inner.Lanes.{HasBytes, AreOpaqueWords, SameAlpha, AreFourAfter};
+ghost use Rattle.qoi.specs.inner.Lanes.{HasBytes};
 ghost use Rattle.qoi.specs.inner.Piece.{kept_bytes};
 ghost use Rattle.qoi.specs.inner.Planes.{block_pixels};
 ghost use Rattle.qoi.specs.inner.Table.{Holds};
@@ -23,13 +21,12 @@ use crate::encode::block::{Block, Carry};
 use crate::encode::fresh::spell_pixel;
 use crate::encode::piece::{Piece, REPEATS_AT_ONCE};
 use crate::encode::planes::Planes;
-use crate::encode::quad::{ALL_REPEAT, Quad};
-use crate::encode::runs::{repeats_in_quad, repeats_of};
+use crate::encode::quad::Quad;
+use crate::encode::runs::repeats_of;
 use crate::encode::table::PixelTable;
 use crate::packed::Packed;
 use crate::types::Style::{self, Places, Reference, Tight};
 use crate::utils::{pick, skip};
-use std::simd::u32x4;
 
 /// What is known between two pixels: the style; the pixel `last` and its index position `place`;
 /// `begun`, whether a fresh pixel came, one that differs from the pixel before it; and `placed`,
@@ -49,7 +46,7 @@ pub(super) struct Coder<const N: usize> {
 
 impl<const N: usize> Coder<N> {
     ghost use Rattle.qoi.specs.inner.Blocks.{BetweenBlocks, MissesNoBlank, last_pixel, all_repeat};
-    ghost use Rattle.qoi.specs.inner.CoderLoop.{CoderAfter, single, Writing, CoderBetween, BytesBetween, lane_pixel, before_lane, in_four, AtLane};
+    ghost use Rattle.qoi.specs.inner.CoderLoop.{CoderAfter, single, Writing, CoderBetween, BytesBetween, lane_pixel, before_lane};
     ghost use Rattle.qoi.specs.inner.Spelling.{IsLastOf};
 
     /// The coder before the first pixel, as if opaque black came before.
@@ -193,97 +190,6 @@ impl<const N: usize> Coder<N> {
         };
         let number = pick(stands, u32::from(place), number);
         piece.keep_chunk::<N>(px.number(), number, pick(stands, 1, size));
-    }
-
-    // Writes the chunks of all four pixels, each of which is fresh.
-    #[inline(always)]
-    fn write_four_fresh<const ROOM: usize>(
-        &mut self,
-        table: &mut PixelTable,
-        piece: &mut Piece<ROOM>,
-        quad: &Quad<N>,
-    )
-        requires room { piece.old.end + 4 * chunk_max ≤ ROOM }
-        ensures end { piece.new.end ≤ piece.old.end + 4 * chunk_max }
-        ensures written { (w : Writing) (pixels : List RgbaPixel)
-            → ((k : ℕ) → k < 4 → lane_pixel quad.now k ≢ before_lane quad.now k)
-            → AtLane (in_four w quad.now pixels) 0 table.old self.old (kept_bytes piece.old)
-            → AtLane (in_four w quad.now pixels) 4 table.new self.new (kept_bytes piece.new) }
-    {
-        self.write_fresh(table, piece, quad, 0);
-        self.write_fresh(table, piece, quad, 1);
-        self.write_fresh(table, piece, quad, 2);
-        self.write_fresh(table, piece, quad, 3);
-    }
-
-    // Writes the repeats from a lane on and the fresh pixel after them, and returns the lane after
-    // it. If no fresh pixel is left, writes nothing and returns `lane`. `bits` is from `repeating`.
-    #[inline(always)]
-    fn write_repeats_and_fresh<const ROOM: usize>(
-        &mut self,
-        table: &mut PixelTable,
-        piece: &mut Piece<ROOM>,
-        quad: &Quad<N>,
-        bits: u64,
-        lane: usize,
-    ) -> usize
-        requires room { piece.old.end + 1 + chunk_max ≤ ROOM }
-        requires bits { bits ≡ mask_l (zip2 nat_eq quad.now.pixels quad.now.before) }
-        requires lane { lane ≤ 4 }
-        ensures end { piece.new.end ≤ piece.old.end + 1 + chunk_max }
-        ensures lanes { (lane ≤ result) × (result ≤ 4) }
-        ensures some { lane ≡ 0 → bits ≢ ALL_REPEAT → 0 < result }
-        ensures written { (w : Writing) (pixels : List RgbaPixel)
-            → AtLane (in_four w quad.now pixels) lane table.old self.old (kept_bytes piece.old)
-            → AtLane (in_four w quad.now pixels) result table.new self.new
-            (kept_bytes piece.new) }
-    {
-        if lane > 3 {
-            return lane;
-        }
-        let count = repeats_in_quad(bits, lane);
-        if lane + count > 3 {
-            return lane;
-        }
-        let one = self.single_repeat_byte(count);
-        piece.keep_run(count, one);
-        self.update_after_repeats(table, count);
-        self.write_fresh(table, piece, quad, lane + count);
-        lane + count + 1
-    }
-
-    // Writes the chunks of four pixels, not all of which repeat, up to the last fresh one; repeats
-    // after it may go on in the next four. Returns how many pixels were written.
-    #[inline(always)]
-    fn write_quad<const ROOM: usize>(
-        &mut self,
-        table: &mut PixelTable,
-        piece: &mut Piece<ROOM>,
-        cur: u32x4,
-        prev: u32x4,
-        bits: u64,
-    ) -> usize
-        requires opaque { N ≡ 3 → AreOpaqueWords cur }
-        requires same_alpha { N ≡ 3 → SameAlpha cur prev }
-        requires bits { bits ≡ mask_l (zip2 nat_eq cur prev) }
-        requires not_all { bits ≢ ALL_REPEAT }
-        requires room { piece.old.end + 4 * chunk_max ≤ ROOM }
-        ensures end { piece.new.end ≤ piece.old.end + 4 * chunk_max }
-        ensures lanes { (0 < result) × (result ≤ 4) }
-        ensures written { (w : Writing) (pixels : List RgbaPixel)
-            → AreFourAfter self.old.last pixels cur prev
-            → CoderBetween w pixels table.old self.old (kept_bytes piece.old)
-            → CoderBetween w (drop result pixels) table.new self.new (kept_bytes piece.new) }
-    {
-        let quad = Quad::new(cur, prev);
-        if bits == 0 {
-            self.write_four_fresh(table, piece, &quad);
-            return 4;
-        }
-        // At least one of the four repeats, so at most three are fresh: a call for each.
-        let lane = self.write_repeats_and_fresh(table, piece, &quad, bits, 0);
-        let lane = self.write_repeats_and_fresh(table, piece, &quad, bits, lane);
-        self.write_repeats_and_fresh(table, piece, &quad, bits, lane)
     }
 
     // Writes the `carry` repeats that came before these raw bytes and the repeats at their front, at

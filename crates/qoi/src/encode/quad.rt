@@ -1,7 +1,7 @@
-//! Four pixels at a time, packed in the lanes of a vector: read, compared with the pixels before
-//! them, and each spelled out (QOI specification 1.0, "Chunks").
-ghost use lib.Lanes.{mask_l, zip2};
-ghost use Rattle.std.specs.Prelude.{◌≡◌, nat_eq, ◌∷◌, ◌+◌, ◌<◌, ◌≤◌, ℕ, length, take, map, slice_index};
+//! Four pixels at a time, packed in the lanes of a vector: read, and each spelled out (QOI
+//! specification 1.0, "Chunks").
+ghost use lib.Lanes.{zip2};
+ghost use Rattle.std.specs.Prelude.{◌≡◌, ◌+◌, ◌<◌, ◌≤◌, ℕ, length, take, map, slice_index};
 ghost use Rattle.qoi.specs.declared.chunk.Chunk.{Chunk};
 ghost use Rattle.qoi.specs.declared.encode.quad.TheConstants.{READ};
 ghost use Rattle.qoi.specs.Raw.{IsChannels, pixels_of};
@@ -14,9 +14,6 @@ use std::simd::prelude::*;
 
 /// How many bytes are read for four pixels, in three channels too, where they have only twelve.
 pub(super) const READ: usize = 16;
-
-/// What `repeating` gives if all four pixels repeat: four bits, each of which is set.
-pub(super) const ALL_REPEAT: u64 = 15;
 
 /// Four pixels and the ones before them, packed; their index positions; and the chunks that spell
 /// them out: a number whose lowest bytes are the chunk's, and how many bytes the chunk has. The
@@ -88,22 +85,6 @@ pub(super) fn read_four<const N: usize>(bytes: &[u8]) -> u32x4
         [0, 1, 2, 16, 3, 4, 5, 16, 6, 7, 8, 16, 9, 10, 11, 16],
     );
     u32x4::from_le_bytes(opaque)
-}
-
-/// The pixels before four: `last`, and then the first three of them.
-#[inline(always)]
-pub(super) fn pixels_before(last: u32, cur: u32x4) -> u32x4
-    ensures lanes { result ≡ last ∷ take 3 cur }
-{
-    u32x4::splat(last).shuffle(cur, [3, 4, 5, 6])
-}
-
-/// Which pixels repeat the ones before them: a bit for each, the lowest for the first.
-#[inline(always)]
-pub(super) fn repeating(cur: u32x4, prev: u32x4) -> u64
-    ensures bits { result ≡ mask_l (zip2 nat_eq cur prev) }
-{
-    cur.simd_eq(prev).to_bitmask()
 }
 
 // The index positions of pixels.
