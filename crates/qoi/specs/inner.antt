@@ -16,6 +16,7 @@ pub mod BlockBytes
 pub mod BlockLanes
 pub mod BlockState
 pub mod Blocks
+pub mod CarryLoop
 pub mod Counts
 pub mod LaneVectors
 pub mod Planes

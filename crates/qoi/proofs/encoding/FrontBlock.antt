@@ -1,15 +1,19 @@
 -- The block at the front of raw bytes, and the bytes after it.
-use Rattle.std.proofs.Common.{◌≡◌, ◌≢◌, ◌⊎◌, inl, inr, ℕ, zero, suc, ◌*◌, ◌/◌, ◌%◌, ◌-◌, ◌<◌, ◌≤◌, List, [], ◌∷◌, ◌++◌, length, take, drop, min, slice_index, refl, sym, ap, ◌∙◌, arith, take-append-drop}
+use Rattle.std.proofs.Common.{◌≡◌, ◌≢◌, ◌⊎◌, inl, inr, ℕ, zero, suc, ◌+◌, true, Some, replicate, ◌*◌, ◌/◌, ◌%◌, ◌-◌, ◌<◌, ◌≤◌, List, [], ◌∷◌, ◌++◌, length, take, drop, min, slice_index, refl, sym, ap, ◌∙◌, arith, take-append-drop}
 use Rattle.std.proofs.Math.ListN.{drop_of_length-le}
 use Rattle.std.proofs.lemmas.Bool.{cases_lt}
 use Rattle.qoi.specs.declared.encode.planes.Planes.{Planes}
 use Rattle.qoi.specs.declared.encode.planes.Words.{Words}
-use Rattle.qoi.specs.Qoi.{RgbaPixel}
+use Rattle.std.proofs.lemmas.Bool.{and_parts}
+use Rattle.std.specs.List.{slice_get}
+use Rattle.qoi.specs.Qoi.{RgbaPixel, pixel_eq, rgba}
+use Rattle.qoi.specs.inner.Blocks.{all_repeat, padded, final}
+use Rattle.qoi.proofs.format.SamePixels.{pixel_eq-true}
 use Rattle.qoi.specs.Raw.{IsChannels, pixels_of}
 use Rattle.qoi.specs.inner.Planes.{AreOpaque, ArePacked, ArePlanes, alphas, block_pixels}
 use Rattle.qoi.proofs.format.RawPixels.{length-pixels_of}
 use Rattle.qoi.proofs.format.WholePixels.{by_channels, whole_pixels}
-use Rattle.qoi.proofs.encoding.GroupRuns.{pixels_drop, whole_rest}
+use Rattle.qoi.proofs.encoding.GroupRuns.{pixels_drop, whole_rest, pixel_ahead}
 use Rattle.qoi.proofs.encoding.PackedBlock.{block_sixteen}
 
 -- how many pixels of raw bytes their first block has
@@ -34,8 +38,8 @@ module _ (n : ℕ) (bytes : List ℕ) (is : IsChannels n) (whole : length bytes 
   front_whole = whole_rest n (in_front n bytes) (length bytes) is whole front_inside
 
   -- if there are bytes, it has some
-  pub front_some : 0 < length bytes → 0 < n * in_front n bytes
-  front_some = by_channels (λ k. length bytes % k ≡ 0 → 0 < length bytes → 0 < k * min (length bytes / k) 16) is (λ w l. omega arith) (λ w l. omega arith) whole
+  pub front_some : 0 < length bytes → 0 < in_front n bytes
+  front_some = by_channels (λ k. length bytes % k ≡ 0 → 0 < length bytes → 0 < min (length bytes / k) 16) is (λ w l. omega arith) (λ w l. omega arith) whole
 
   -- the pixels of the bytes are those of the block and then those of the bytes after it
   pub front_pixels : pixels ≡ take 16 pixels ++ pixels_of n (drop (n * in_front n bytes) bytes)
@@ -66,3 +70,23 @@ opaque_at (p ∷ ps) (suc k) l o = opaque_at ps k (omega arith) o.1
 pub last_opaque : (w : Words) (x : Planes) → ArePacked w → ArePlanes (block_pixels w) x → AreOpaque (block_pixels w) → slice_index x.a 15 ≡ 255
 last_opaque w x packed planes opaque =
     ap (λ z. slice_index z 15) planes.a_is ∙ opaque_at (block_pixels w) 15 (omega (arith, (block_sixteen w packed).long)) opaque
+
+-- if the block at the front repeats a pixel, at least one of its repeats is counted
+pub repeats_some : (n : ℕ) (bytes : List ℕ) (q : RgbaPixel) (pads carry count most : ℕ) → IsChannels n → length bytes % n ≡ 0 → 0 < length bytes
+    → all_repeat q (padded (take 16 (pixels_of n bytes)) pads) ≡ true
+    → (slice_get (pixels_of n (drop (n * count) bytes)) 0 ≢ Some q) ⊎ (carry + count ≡ most) → carry < most → 0 < count
+repeats_some n bytes q pads carry (suc count) most is whole some all stops few = omega arith
+repeats_some n bytes q pads carry zero most is whole some all stops few =
+    let ahead = pixel_ahead n bytes is whole some in
+    let p = rgba (take n bytes) in
+    let ps = pixels_of n (drop n bytes) in
+    let first : p ≡ q = pixel_eq-true p q (and_parts (pixel_eq p q) (all_repeat q (padded_rest p (take 15 ps) pads))
+    (sym (ap (λ x. all_repeat q (padded (take 16 x) pads)) ahead) ∙ all)).0 in
+    let none : n * 0 ≡ 0 = by_channels (λ k. k * 0 ≡ 0) is refl refl in
+    elim stops as (λ _. 0 < 0) [
+      | inl other ↦ absurd (other (ap (λ k. slice_get (pixels_of n (drop k bytes)) 0) none ∙ ap (λ x. slice_get x 0) ahead ∙ ap Some first))
+      | inr full ↦ absurd (omega (arith, full, few))
+    ]
+  where
+    padded_rest : RgbaPixel → List RgbaPixel → ℕ → List RgbaPixel
+    padded_rest p ps k = ps ++ replicate k (final p ps)

@@ -72,8 +72,7 @@ impl Block {
     /// Whether all sixteen pixels repeat the last one of the block before.
     #[inline(always)]
     pub(super) fn repeats(self, before: Planes) -> bool
-        ensures { IsPixel (last_pixel before)
-            → result ≡ all_repeat (last_pixel before) (block_pixels self.words) }
+        ensures { result ≡ all_repeat (last_pixel before) (block_pixels self.words) }
     {
         all_set(find_changes(before, self.planes).rep)
     }

@@ -1,6 +1,6 @@
 //! Writes pixels, a block of sixteen at a time or a group of repeats, as chunks into a piece (QOI
 //! specification 1.0, "Data" and "Chunks").
-ghost use Rattle.std.specs.Prelude.{◌≡◌, ◌≢◌, ◌⊎◌, ℕ, ◌+◌, ◌-◌, ◌*◌, ◌%◌, ◌<◌, ◌≤◌, false, List, [], ◌∷◌, ◌++◌, Option, None, Some, length, drop, replicate, slice_get, IsTrue};
+ghost use Rattle.std.specs.Prelude.{◌≡◌, ◌≢◌, ◌⊎◌, ℕ, ◌+◌, ◌-◌, ◌*◌, ◌%◌, ◌<◌, ◌≤◌, false, List, [], ◌∷◌, ◌++◌, Option, None, Some, length, drop, replicate, slice_get, slice_index, take, ◌/◌, true, IsTrue};
 ghost use Rattle.qoi.specs.declared.chunk.Chunk.{Chunk};
 ghost use Rattle.qoi.specs.declared.encode.block.TheConstants.{BLOCK_MAX};
 ghost use Rattle.qoi.specs.declared.encode.piece.TheConstants.{PAST, RUNS_AT_ONCE, REPEATS_AT_ONCE};
@@ -13,7 +13,7 @@ ghost use Rattle.qoi.specs.Styles.{choice_in};
 ghost use Rattle.qoi.specs.inner.CoderState.{held_in, last_chunk};
 ghost use Rattle.qoi.specs.inner.Lanes.{HasBytes};
 ghost use Rattle.qoi.specs.inner.Piece.{kept_bytes};
-ghost use Rattle.qoi.specs.inner.Planes.{block_pixels};
+ghost use Rattle.qoi.specs.inner.Planes.{AreOpaque, block_pixels};
 ghost use Rattle.qoi.specs.inner.Table.{Holds};
 
 use crate::consts::QOI_OP_RUN;
@@ -45,7 +45,8 @@ pub(super) struct Coder<const N: usize> {
 }
 
 impl<const N: usize> Coder<N> {
-    ghost use Rattle.qoi.specs.inner.Blocks.{BetweenBlocks, MissesNoBlank, last_pixel, all_repeat};
+    ghost use Rattle.qoi.specs.inner.Blocks.{MissesNoBlank, padded, last_pixel, all_repeat};
+    ghost use Rattle.qoi.specs.inner.CarryLoop.{StepBetween};
     ghost use Rattle.qoi.specs.inner.CoderLoop.{CoderAfter, single, Writing, CoderBetween, BytesBetween, lane_pixel, before_lane};
     ghost use Rattle.qoi.specs.inner.Spelling.{IsLastOf};
 
@@ -262,12 +263,15 @@ impl<const N: usize> Coder<N> {
         count + 1
     }
 
-    // What is carried before the first block, once a fresh pixel came.
+    /// What is carried after the coder's last pixel, once it is written: nothing.
     #[inline(always)]
-    fn carry(&self) -> Carry
+    pub(super) fn carry(&self) -> Carry
         ensures count { result.count ≡ 0 }
         ensures before { IsLastOf self.now.last result.before }
         ensures placed { result.placed ≡ self.now.placed }
+        ensures opaque { N ≡ 3 → slice_index result.before.a 15 ≡ 255 }
+        ensures between { (w : Writing) (rest table : List RgbaPixel) (kept : List ℕ)
+            → CoderBetween w rest table self.now kept → StepBetween w rest table self.now result kept }
     {
         Carry {
             before: Planes::splat(self.last),
@@ -276,29 +280,32 @@ impl<const N: usize> Coder<N> {
         }
     }
 
-    // Takes over what is known after the last block, but for the repeats that are carried.
+    // Takes over what is carried, but for the repeats, which then still come.
     #[inline(always)]
-    fn update_after_blocks(&mut self, carry: Carry)
-        requires opaque { N ≡ 3 → (last_pixel carry.before).a ≡ 255 }
-        ensures written { (w : Writing) (rest table : List RgbaPixel) (kept : List ℕ)
-            → self.old.style ≡ w.list.style
-            → BetweenBlocks w rest table carry.before carry.count carry.placed kept
+    fn take_over(&mut self, carry: Carry)
+        requires opaque { N ≡ 3 → slice_index carry.before.a 15 ≡ 255 }
+        ensures last { IsTrue self.old.begun → self.new.last ≡ last_pixel carry.before }
+        ensures between { (w : Writing) (rest table : List RgbaPixel) (kept : List ℕ)
+            → StepBetween w rest table self.old carry kept
             → CoderBetween w (replicate carry.count self.new.last ++ rest) table self.new kept }
     {
-        let last = carry.before.last();
-        *self = Coder {
-            style: self.style,
-            last,
-            place: last.hash_index(),
-            begun: true,
-            placed: carry.placed,
-        };
+        if self.begun {
+            let last = carry.before.last();
+            *self = Coder {
+                style: self.style,
+                last,
+                place: last.hash_index(),
+                begun: true,
+                placed: carry.placed,
+            };
+        }
     }
 
-    // Whether a block can be written as one: not all its pixels repeat, and in style `Tight` none
-    // is given by another index position than its own.
+    // Whether a block can be written as one: a fresh pixel came before it, not all its pixels
+    // repeat, and in style `Tight` none is given by another index position than its own.
     #[inline(always)]
     fn takes(&self, table: &PixelTable, block: Block, before: Planes) -> bool
+        ensures begun { IsTrue result → self.now.begun ≡ true }
         ensures some { IsTrue result
             → all_repeat (last_pixel before) (block_pixels block.words) ≡ false }
         ensures none { IsTrue result → self.now.style ≡ Tight
@@ -308,74 +315,114 @@ impl<const N: usize> Coder<N> {
             Reference | Places => false,
             Tight => block.may_miss_blank(table, before),
         };
-        !blank && !block.repeats(before)
+        self.begun && !blank && !block.repeats(before)
     }
 
-    // Writes blocks of sixteen pixels, once a fresh pixel came, until the piece is full, nothing is
-    // left or a block can't be written as one. The last block may have fewer pixels. Returns the
-    // rest, and how many repeats that came before it are still to be written.
+    // Writes the block at the front, but for the repeats at its end. Returns how many pixels it
+    // has, and what is carried.
     #[inline(always)]
-    fn write_blocks<'a, const ROOM: usize>(
+    fn write_block<const ROOM: usize>(
         &mut self,
         table: &mut PixelTable,
         piece: &mut Piece<ROOM>,
-        data: &'a [u8],
-    ) -> (&'a [u8], u8)
+        data: &[u8],
+        block: Block,
+        carry: Carry,
+    ) -> (usize, Carry)
         requires whole { length «data».now % N ≡ 0 }
+        requires some { 0 < length «data».now }
+        requires few { carry.count < 16 }
         requires room { piece.old.end < ROOM - PAST }
-        ensures end { piece.new.end < ROOM - PAST + BLOCK_MAX }
-        ensures few { result.1 < 16 }
-        ensures shorter { length result.0.now ≤ length «data».entry.now }
-        ensures whole { length result.0.now % N ≡ 0 }
-        ensures written { (w : Writing)
-            → BytesBetween w «data».entry.now table.old self.old piece.old
-            → CoderBetween w (replicate result.1 self.new.last ++ pixels_of N result.0.now)
-            table.new self.new (kept_bytes piece.new) }
+        requires pixels { block_pixels block.words
+            ≡ padded (take 16 (pixels_of N «data».now)) (16 - length «data».now / N) }
+        requires opaque { N ≡ 3 → AreOpaque (block_pixels block.words) }
+        requires last { N ≡ 3 → slice_index carry.before.a 15 ≡ 255 }
+        requires begun { self.old.begun ≡ true }
+        requires fresh { all_repeat (last_pixel carry.before) (block_pixels block.words) ≡ false }
+        requires none { self.old.style ≡ Tight
+            → MissesNoBlank table.old carry.before (block_pixels block.words) }
+        ensures end { piece.new.end ≤ piece.old.end + BLOCK_MAX }
+        ensures inside { N * result.0 ≤ length «data».now }
+        ensures some { 0 < result.0 }
+        ensures few { result.1.count < 16 }
+        ensures opaque { N ≡ 3 → slice_index result.1.before.a 15 ≡ 255 }
+        ensures written { (w : Writing) → StepBetween w (pixels_of N «data».now) table.old self.old
+            carry (kept_bytes piece.old)
+            → StepBetween w (pixels_of N (drop (N * result.0) «data».now)) table.new self.new
+            result.1 (kept_bytes piece.new) }
     {
-        if !self.begun {
-            return (data, 0);
-        }
-        let mut rest = data;
-        let mut carry = self.carry();
-        while !piece.is_full() && !rest.is_empty() {
-            let block = Block::first::<N>(rest);
-            if !self.takes(table, block, carry.before) {
-                break;
-            }
-            let count = (rest.len() / N).min(16);
-            carry = piece.keep_block::<N>(self.style, table, block, carry);
-            // The pixels that pad the block didn't come.
-            carry.count = carry.count.saturating_sub((16 - count) as u8);
-            rest = skip(rest, N * count);
-        }
-        self.update_after_blocks(carry);
-        (rest, carry.count)
+        let count = (data.len() / N).min(16);
+        let after = piece.keep_block::<N>(self.style, table, block, carry);
+        // The pixels that pad the block didn't come.
+        let left = after.count.saturating_sub((16 - count) as u8);
+        (
+            count,
+            Carry {
+                count: left,
+                ..after
+            },
+        )
     }
 
-    /// Writes until the piece is full or nothing is left; returns the rest.
+    /// Writes what is at the front of raw bytes: a block, but for the repeats at its end; or all
+    /// repeats there, if a block's pixels repeat; or these and the fresh pixel after them, if it is
+    /// the first one, or in style `Tight` one may be given by another index position than its own.
+    /// Returns how many pixels came, and what is carried.
     #[inline(always)]
-    pub(super) fn fill<'a, const ROOM: usize>(
+    pub(super) fn write_front<const ROOM: usize>(
         &mut self,
         table: &mut PixelTable,
         piece: &mut Piece<ROOM>,
-        data: &'a [u8],
-    ) -> &'a [u8]
+        data: &[u8],
+        carry: Carry,
+    ) -> (usize, Carry)
         requires whole { length «data».now % N ≡ 0 }
+        requires some { 0 < length «data».now }
+        requires few { carry.count < 16 }
+        requires opaque { N ≡ 3 → slice_index carry.before.a 15 ≡ 255 }
         requires room { piece.old.end < ROOM - PAST }
-        ensures end { piece.new.end < ROOM - PAST + BLOCK_MAX + RUNS_AT_ONCE + 1 + chunk_max }
-        ensures all { piece.new.end < ROOM - PAST → length result.now ≡ 0 }
-        ensures some { ROOM - PAST ≤ piece.new.end → length result.now < length «data».entry.now }
-        ensures whole { length result.now % N ≡ 0 }
-        ensures written { (w : Writing)
-            → BytesBetween w «data».entry.now table.old self.old piece.old
-            → BytesBetween w result.now table.new self.new piece.new }
+        ensures end { piece.new.end ≤ piece.old.end + BLOCK_MAX }
+        ensures inside { N * result.0 ≤ length «data».now }
+        ensures some { 0 < result.0 }
+        ensures few { result.1.count < 16 }
+        ensures opaque { N ≡ 3 → slice_index result.1.before.a 15 ≡ 255 }
+        ensures written { (w : Writing) → StepBetween w (pixels_of N «data».now) table.old self.old
+            carry (kept_bytes piece.old)
+            → StepBetween w (pixels_of N (drop (N * result.0) «data».now)) table.new self.new
+            result.1 (kept_bytes piece.new) }
     {
-        let mut rest = data;
-        while !piece.is_full() && !rest.is_empty() {
-            let (after, carry) = self.write_blocks(table, piece, rest);
-            let count = self.write_next(table, piece, after, usize::from(carry));
-            rest = skip(after, N * count);
+        let block = Block::first::<N>(data);
+        if self.takes(table, block, carry.before) {
+            return self.write_block(table, piece, data, block, carry);
         }
-        rest
+        let repeats = self.begun && block.repeats(carry.before);
+        self.take_over(carry);
+        let repeated = usize::from(carry.count);
+        let count = if repeats {
+            self.write_runs(table, piece, data, repeated)
+        } else {
+            self.write_next(table, piece, data, repeated)
+        };
+        (count, self.carry())
+    }
+
+    /// Writes the repeats that are carried at the end.
+    #[inline(always)]
+    pub(super) fn write_last<const ROOM: usize>(
+        &mut self,
+        table: &mut PixelTable,
+        piece: &mut Piece<ROOM>,
+        carry: Carry,
+    )
+        requires few { carry.count < 16 }
+        requires opaque { N ≡ 3 → slice_index carry.before.a 15 ≡ 255 }
+        requires room { piece.old.end < ROOM - PAST }
+        ensures end { piece.new.end ≤ piece.old.end + RUNS_AT_ONCE + 1 }
+        ensures written { (w : Writing)
+            → StepBetween w [] table.old self.old carry (kept_bytes piece.old)
+            → CoderBetween w [] table.new self.new (kept_bytes piece.new) }
+    {
+        self.take_over(carry);
+        self.write_runs(table, piece, &[], usize::from(carry.count));
     }
 }
