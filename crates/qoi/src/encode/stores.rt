@@ -77,55 +77,70 @@ fn wide(v: u8x16) -> Words
     }
 }
 
-// Stores the bytes of a chunk, whatever its size, and others after them.
+// Stores the bytes of a chunk, whatever its size, and perhaps others after them.
 #[inline(always)]
-fn put(out: &mut [u8], at: usize, chunk: u64)
+fn put<const N: usize>(out: &mut [u8], at: usize, chunk: u64)
+    requires channels { IsChannels N }
     requires room { at + 8 ≤ length out.old }
     ensures same { length out.new ≡ length out.old }
-    ensures written { (size : ℕ) → size ≤ 5
+    ensures written { (size : ℕ) → size ≤ N + 1
         → take (at + size) out.new ≡ take at out.old ++ chunk_of size chunk }
 {
-    Simd::<u64, 1>::from_array([chunk])
-        .to_le_bytes()
-        .copy_to_slice(&mut out[at..at + 8]);
+    if N == 4 {
+        Simd::<u64, 1>::from_array([chunk])
+            .to_le_bytes()
+            .copy_to_slice(&mut out[at..at + 8]);
+    } else {
+        Simd::<u32, 1>::from_array([(chunk % 0x1_0000_0000) as u32])
+            .to_le_bytes()
+            .copy_to_slice(&mut out[at..at + 4]);
+    }
 }
 
 // Stores four chunks, each from its start on, which is counted after `at`.
 #[inline(always)]
-fn put_four(out: &mut [u8], at: usize, starts: [usize; 4], four: [u64; 4])
+fn put_four<const N: usize>(out: &mut [u8], at: usize, starts: [usize; 4], four: [u64; 4])
+    requires channels { IsChannels N }
     requires few { (k : ℕ) → k < 4 → slice_index starts k ≤ 35 }
     requires room { at + 43 ≤ length out.old }
     ensures same { length out.new ≡ length out.old }
-    ensures written { (b s0 s1 s2 s3 : ℕ) → s0 ≤ 5 → s1 ≤ 5 → s2 ≤ 5 → s3 ≤ 5
+    ensures written { (b s0 s1 s2 s3 : ℕ) → s0 ≤ N + 1 → s1 ≤ N + 1 → s2 ≤ N + 1 → s3 ≤ N + 1
         → AreStarts starts b s0 s1 s2
         → take (at + (b + s0 + s1 + s2 + s3)) out.new
         ≡ take (at + b) out.old ++ four_chunks s0 s1 s2 s3 four }
 {
-    put(out, at + starts[0], four[0]);
-    put(out, at + starts[1], four[1]);
-    put(out, at + starts[2], four[2]);
-    put(out, at + starts[3], four[3]);
+    put::<N>(out, at + starts[0], four[0]);
+    put::<N>(out, at + starts[1], four[1]);
+    put::<N>(out, at + starts[2], four[2]);
+    put::<N>(out, at + starts[3], four[3]);
 }
 
 // Stores eight chunks of these sizes from `at` on, and returns where they end.
 #[inline(always)]
-fn put_eight(out: &mut [u8], at: usize, sizes: u64, one: [u64; 4], two: [u64; 4]) -> usize
+fn put_eight<const N: usize>(
+    out: &mut [u8],
+    at: usize,
+    sizes: u64,
+    one: [u64; 4],
+    two: [u64; 4],
+) -> usize
+    requires channels { IsChannels N }
     requires sizes { AreChunkSizes sizes }
     requires room { at + 43 ≤ length out.old }
     ensures same { length out.new ≡ length out.old }
     ensures near { (at ≤ result) × (result ≤ at + 40) }
-    ensures written { (ss : List ℕ) → AreSizes ss sizes → ((k : ℕ) → slice_index ss k ≤ 5)
+    ensures written { (ss : List ℕ) → AreSizes ss sizes → ((k : ℕ) → slice_index ss k ≤ N + 1)
         → (result ≡ at + sum_l ss)
         × (take result out.new ≡ take at out.old ++ eight_chunks ss one two) }
 {
     let e = ends(sizes);
-    put_four(
+    put_four::<N>(
         out,
         at,
         [0, byte_at(e, 0), byte_at(e, 1), byte_at(e, 2)],
         one,
     );
-    put_four(
+    put_four::<N>(
         out,
         at,
         [byte_at(e, 3), byte_at(e, 4), byte_at(e, 5), byte_at(e, 6)],
@@ -156,7 +171,7 @@ pub(super) fn put_sixteen<const N: usize>(out: &mut [u8], at: usize, x: Spelled,
     // A chunk has at most five bytes, so this changes no size; but it bounds them.
     let sizes = halves(lesser(x.size, u8x16::splat(5)));
     let (one, two) = (chunks(n.one, a.one), chunks(n.two, a.two));
-    let end = put_eight(out, at, sizes[0], one, two);
+    let end = put_eight::<N>(out, at, sizes[0], one, two);
     let (three, four) = (chunks(n.three, a.three), chunks(n.four, a.four));
-    put_eight(out, end, sizes[1], three, four)
+    put_eight::<N>(out, end, sizes[1], three, four)
 }

@@ -10,7 +10,7 @@ end_few : (ss : List ℕ) (k e r : ℕ) → ((k : ℕ) → slice_index ss k ≤ 
 end_few ss k e r few is sum = omega (arith, first_few (k + 1) ss few)
 
 pub put_four-requires-clause-few : goal.put_four-requires-clause-few
-put_four-requires-clause-few c =
+put_four-requires-clause-few g c =
     let s = c.requires.sizes in
     let e0 = end_few s.ss 0 _ _ s.few c.byte_at.ensures (c.ends-e.ensures s.ss s.are 0 (omega arith)) in
     let e1 = end_few s.ss 1 _ _ s.few c.byte_at-2.ensures (c.ends-e.ensures s.ss s.are 1 (omega arith)) in
@@ -18,7 +18,7 @@ put_four-requires-clause-few c =
     four_few 35 _ _ _ _ (omega arith) (omega arith) (omega arith) (omega arith)
 
 pub put_four-requires-2-clause-few : goal.put_four-requires-2-clause-few
-put_four-requires-2-clause-few c =
+put_four-requires-2-clause-few g c =
     let s = c.requires.sizes in
     let e3 = end_few s.ss 3 _ _ s.few c.byte_at-4.ensures (c.ends-e.ensures s.ss s.are 3 (omega arith)) in
     let e4 = end_few s.ss 4 _ _ s.few c.byte_at-5.ensures (c.ends-e.ensures s.ss s.are 4 (omega arith)) in
@@ -27,13 +27,13 @@ put_four-requires-2-clause-few c =
     four_few 35 _ _ _ _ (omega arith) (omega arith) (omega arith) (omega arith)
 
 pub returns-clause-near : goal.returns-clause-near
-returns-clause-near c =
+returns-clause-near g c =
     let s = c.requires.sizes in
     let e7 = end_few s.ss 7 _ _ s.few c.byte_at-8.ensures (c.ends-e.ensures s.ss s.are 7 (omega arith)) in
     (omega arith, omega arith)
 
 pub returns-clause-written : goal.returns-clause-written
-returns-clause-written c = λ ss s few.
+returns-clause-written g c = λ ss s few.
     let u = sums_of ss s.eight in
     let at = λ (k : ℕ). slice_index ss k in
     let e0 = c.byte_at.ensures ∙ c.ends-e.ensures ss s 0 (omega arith) ∙ u.at0 in

@@ -1,5 +1,5 @@
 -- Twice eight chunks.
-use Rattle.std.proofs.Common.{◌≡◌, ◌≤◌, ℕ, List, [], ◌∷◌, ◌++◌, take, drop, length, replicate, slice_index, append_assoc, arith, sym, ap, ◌∙◌, subst, length-drop}
+use Rattle.std.proofs.Common.{◌≡◌, ◌+◌, ◌≤◌, ℕ, List, [], ◌∷◌, ◌++◌, take, drop, length, replicate, slice_index, append_assoc, arith, sym, ap, ◌∙◌, subst, length-drop}
 use Rattle.std.specs.Prelude.{min}
 use Rattle.std.specs.List.{AllByRecursion}
 use lib.Lanes.{number_l, zip2}
@@ -57,10 +57,10 @@ returns-clause-written g c = λ style s ps sixteen last planes spelled carry few
     c.halves-sizes.ensures ∙ ap (λ z. number_l 256 (take 8 z) ∷ number_l 256 (drop 8 z) ∷ []) (c.lesser.ensures ∙ lesser_few 16 5 ss long_size at_most) in
     let first = c.put_eight-end.ensures.written (take 8 ss)
     (eight_sizes (take 8 ss) _ (length-take-le 8 ss (omega arith)) (take_few 8 5 ss at_most) (ap (λ z. slice_index z 0) halves))
-    (take_few 8 5 ss at_most) in
+    (take_few 8 (g.row.N + 1) ss few) in
     let second = c.put_eight.ensures.written (drop 8 ss)
     (eight_sizes (drop 8 ss) _ (omega (arith, length-drop 8 ss)) (drop_few 8 5 ss at_most) (ap (λ z. slice_index z 1) halves))
-    (drop_few 8 5 ss at_most) in
+    (drop_few 8 (g.row.N + 1) ss few) in
     let one : List ℕ = c.chunks-one.result in
     let two : List ℕ = c.chunks-two.result in
     let three : List ℕ = c.chunks-three.result in
