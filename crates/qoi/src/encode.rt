@@ -21,7 +21,7 @@ mod changes;
 mod chunks;
 mod coder;
 mod counts;
-mod fresh;
+pub(crate) mod fresh;
 mod lanes;
 mod named;
 mod packing;
