@@ -27,7 +27,6 @@ mod named;
 mod packing;
 pub(crate) mod piece;
 mod planes;
-pub(crate) mod quad;
 pub(crate) mod runs;
 mod spelling;
 mod stands;

@@ -11,7 +11,7 @@ ghost use Rattle.qoi.specs.Runs.{runs_by};
 ghost use Rattle.qoi.specs.Written.{IsFirst};
 ghost use Rattle.qoi.specs.Styles.{choice_in};
 ghost use Rattle.qoi.specs.inner.CoderState.{held_in, last_chunk};
-ghost use Rattle.qoi.specs.inner.Lanes.{HasBytes};
+ghost use Rattle.qoi.specs.inner.FreshPixel.{HasBytes};
 ghost use Rattle.qoi.specs.inner.Piece.{kept_bytes};
 ghost use Rattle.qoi.specs.inner.Planes.{block_pixels};
 ghost use Rattle.qoi.specs.inner.Table.{Holds};
