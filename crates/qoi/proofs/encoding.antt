@@ -10,7 +10,6 @@ pub mod PieceSent
 pub mod PixelBlock
 pub mod PlacedLists
 pub mod Spelled
-pub mod SpelledLanes
 pub mod RunBytes
 pub mod StillToWrite
 pub mod StreamSent

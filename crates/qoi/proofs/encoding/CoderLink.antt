@@ -38,26 +38,6 @@ to_carrying {w = w} {coder = coder} b begun = (
   λ is. ap (λ p. names b.before (hash p)) b.state.last_is ∙ sym (b.state.placed_is (b.style_is ∙ is)),
 )
 
--- a coder with what is known then; what is carried comes again
-pub from_carrying : {N : ℕ} {w : Writing} {rest : List RgbaPixel} {table : List RgbaPixel} {kept : List ℕ} (s : State) (coder : Coder N)
-    → Carrying w s rest kept → Holds table s.held → coder.style ≡ w.list.style → coder.last ≡ s.last → coder.begun ≡ true
-    → (coder.style ≡ Places → coder.placed ≡ s.placed)
-    → CoderBetween w (replicate s.carry s.last ++ rest) table coder kept
-from_carrying {w = w} s coder c holds style last begun placed = record {
-  style_is = style;
-  past = c.past;
-  before = c.before;
-  todo = c.between.todo;
-  to_write = c.between.to_write;
-  ahead_is = c.between.ahead_is;
-  state = record {
-    table_is = λ i l. holds i l ∙ ap Some (c.held_is i ∙ ap (λ z. seen (held_in z c.past) i) (sym style));
-    last_is = last ∙ sym c.last_is;
-    begun_is = begun ∙ sym c.begun;
-    placed_is = λ is. placed is ∙ c.placed_is ∙ ap (λ p. names c.before (hash p)) (sym c.last_is);
-  };
-}
-
 -- before the first block
 pub blocks_start : {N : ℕ} {w : Writing} {pixels : List RgbaPixel} {table : List RgbaPixel} {coder : Coder N} {kept : List ℕ} (carry : Carry)
     → CoderBetween w pixels table coder kept → coder.begun ≡ true → IsLastOf coder.last carry.before → carry.count ≡ 0 → carry.placed ≡ coder.placed

@@ -4,7 +4,7 @@ use lib.Lanes.{number_l, digits_l, pick_l, zip2, Each1}
 use Rattle.qoi.specs.Qoi.{RgbaPixel, IsPixel, pixel}
 use Rattle.qoi.specs.inner.Packed.{word}
 use Rattle.qoi.specs.inner.Stores.{with_fifth, pairs_of, chunk_of}
-use Rattle.qoi.proofs.format.Quads.{bytes_in, bytes_of_lanes}
+use Rattle.qoi.proofs.format.LaneWords.{bytes_in, bytes_of_lanes}
 use Rattle.qoi.proofs.encoding.PlaneWords.{four_words}
 use Rattle.qoi.proofs.encoding.PrefixSums.{reduced, digit}
 use Rattle.qoi.proofs.encoding.WordPlanes.{one_more}

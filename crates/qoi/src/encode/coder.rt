@@ -11,7 +11,7 @@ ghost use Rattle.qoi.specs.Runs.{runs_by};
 ghost use Rattle.qoi.specs.Written.{IsFirst};
 ghost use Rattle.qoi.specs.Styles.{choice_in};
 ghost use Rattle.qoi.specs.inner.CoderState.{held_in, last_chunk};
-ghost use Rattle.qoi.specs.inner.Lanes.{HasBytes};
+ghost use Rattle.qoi.specs.inner.FreshPixel.{HasBytes};
 ghost use Rattle.qoi.specs.inner.Piece.{kept_bytes};
 ghost use Rattle.qoi.specs.inner.Planes.{AreOpaque, block_pixels};
 ghost use Rattle.qoi.specs.inner.Table.{Holds};
@@ -21,7 +21,6 @@ use crate::encode::block::{Block, Carry};
 use crate::encode::fresh::spell_pixel;
 use crate::encode::piece::{Piece, REPEATS_AT_ONCE};
 use crate::encode::planes::Planes;
-use crate::encode::quad::Quad;
 use crate::encode::runs::repeats_of;
 use crate::encode::table::PixelTable;
 use crate::packed::Packed;
@@ -47,7 +46,7 @@ pub(super) struct Coder<const N: usize> {
 impl<const N: usize> Coder<N> {
     ghost use Rattle.qoi.specs.inner.Blocks.{MissesNoBlank, padded, last_pixel, all_repeat};
     ghost use Rattle.qoi.specs.inner.CarryLoop.{StepBetween};
-    ghost use Rattle.qoi.specs.inner.CoderLoop.{CoderAfter, single, Writing, CoderBetween, BytesBetween, lane_pixel, before_lane};
+    ghost use Rattle.qoi.specs.inner.CoderLoop.{CoderAfter, single, Writing, CoderBetween, BytesBetween};
     ghost use Rattle.qoi.specs.inner.Spelling.{IsLastOf};
 
     /// The coder before the first pixel, as if opaque black came before.
@@ -122,42 +121,6 @@ impl<const N: usize> Coder<N> {
                 (number, size)
             }
         }
-    }
-
-    // Writes the fresh pixel of a lane: by its index position if it stands there, else as
-    // `chunk_if_absent` has it. Then puts it at its position, and it is the last pixel.
-    #[inline(always)]
-    fn write_fresh<const ROOM: usize>(
-        &mut self,
-        table: &mut PixelTable,
-        piece: &mut Piece<ROOM>,
-        quad: &Quad<N>,
-        lane: usize,
-    )
-        requires room { piece.old.end + chunk_max ≤ ROOM }
-        requires lane { lane < 4 }
-        ensures end { piece.new.end ≤ piece.old.end + chunk_max }
-        ensures last { self.new.last ≡ lane_pixel quad.now lane }
-        ensures written { (w : Writing) (rest : List RgbaPixel)
-            → self.old.last ≡ before_lane quad.now lane → lane_pixel quad.now lane ≢ self.old.last
-            → CoderBetween w (lane_pixel quad.now lane ∷ rest) table.old self.old
-            (kept_bytes piece.old)
-            → CoderBetween w rest table.new self.new (kept_bytes piece.new) }
-    {
-        let px = Packed::of_number(quad.pixels[lane]);
-        let place = (quad.places[lane] % 256) as u8;
-        let stands = table.at(place).is_same(px);
-        let (number, size) = self.chunk_if_absent(table, px, quad.numbers[lane], quad.sizes[lane]);
-        table.put(place, px);
-        *self = Coder {
-            style: self.style,
-            last: px,
-            place,
-            begun: true,
-            placed: stands,
-        };
-        let number = pick(stands, u32::from(place), number);
-        piece.keep_chunk::<N>(quad.pixels[lane], number, pick(stands, 1, size));
     }
 
     // Writes the fresh pixel `px`: by its index position if it stands there, else as
@@ -258,8 +221,7 @@ impl<const N: usize> Coder<N> {
         if carry + count == REPEATS_AT_ONCE || after.is_empty() {
             return count;
         }
-        let quad = Quad::splat(Packed::read::<N>(after), self.last);
-        self.write_fresh(table, piece, &quad, 0);
+        self.write_pixel(table, piece, Packed::read::<N>(after));
         count + 1
     }
 

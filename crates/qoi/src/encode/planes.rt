@@ -3,8 +3,7 @@ ghost use lib.Lanes.{digits_l, number_l};
 ghost use Rattle.std.specs.Prelude.{◌≡◌, ◌^◌, List, ◌++◌, take, drop};
 ghost use Rattle.qoi.specs.Qoi.{RgbaPixel};
 ghost use Rattle.qoi.specs.inner.Blocks.{last_pixel};
-ghost use Rattle.qoi.specs.inner.Lanes.{AreFour};
-ghost use Rattle.qoi.specs.inner.Planes.{ArePacked, AreSixteen, AreFourWords, AreBlockWords, channel_words, ArePlanes};
+ghost use Rattle.qoi.specs.inner.Planes.{AreFour, ArePacked, AreSixteen, AreFourWords, AreBlockWords, channel_words, ArePlanes};
 ghost use Rattle.qoi.specs.inner.Spelling.{IsLastOf};
 
 use crate::packed::Packed;

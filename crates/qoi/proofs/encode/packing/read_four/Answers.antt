@@ -1,7 +1,7 @@
 -- The bytes become four lanes.
 use Rattle.std.proofs.Common.{arith}
-use Rattle.qoi.proofs.format.Quads.{four_of_4, four_of_3}
-use Rattle.qoi.proofs.encode.quad.read_four.Goals as goal
+use Rattle.qoi.proofs.format.LaneWords.{four_of_4, four_of_3}
+use Rattle.qoi.proofs.encode.packing.read_four.Goals as goal
 
 pub returns-then-this-eq4 : goal.returns-then-this-eq4
 returns-then-this-eq4 g c = record { lanes = four_of_4 g.row.N c.args.bytes.now c.if-this-eq4.true (λ i. omega (arith, c.type_inv.bytes i)) c.requires.enough }
