@@ -34,6 +34,7 @@ pub mod BlockStep
 pub mod BlockWritten
 pub mod CoderLink
 pub mod FourFours
+pub mod FreshBits
 pub mod LaneBits
 pub mod LaneChunk
 pub mod LaneMasks
@@ -42,6 +43,7 @@ pub mod LaneTests
 pub mod Lanewise
 pub mod LastCount
 pub mod LastPixels
+pub mod LoneFresh
 pub mod NamedLanes
 pub mod OpaqueBlock
 pub mod OverlaidRuns

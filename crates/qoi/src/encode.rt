@@ -16,8 +16,8 @@ ghost use Rattle.qoi.specs.EncoderState.{free_encoder};
 ghost use Rattle.qoi.specs.Sent.{IsFileFor, MakesFile, PutsFile, SendsFile, SendsPart};
 ghost use Rattle.qoi.specs.writers.Writes.{AppendsBeginning, WroteBeginning};
 
-// `block`, `changes`, `counts`, `lanes`, `named`, `packing`, `planes`, `spelling`, `stands` and
-// `stores` are the beginning of a coder by blocks of sixteen pixels, which isn't called yet.
+// `block`, `changes`, `counts`, `lanes`, `lone`, `named`, `packing`, `planes`, `spelling`, `stands`
+// and `stores` are the beginning of a coder by blocks of sixteen pixels, which isn't called yet.
 mod block;
 mod changes;
 mod chunks;
@@ -25,6 +25,7 @@ mod coder;
 mod counts;
 mod fresh;
 mod lanes;
+mod lone;
 mod named;
 mod packing;
 pub(crate) mod piece;

@@ -159,9 +159,9 @@ pub(super) struct Carry {
 }
 
 impl Carry {
-    // The last pixel of the block before.
+    /// The last pixel of the block before.
     #[inline(always)]
-    fn last(self) -> Packed
+    pub(super) fn last(self) -> Packed
         ensures { result ≡ last_pixel self.before }
     {
         let p = self.before;
@@ -192,9 +192,9 @@ impl Carry {
         }
     }
 
-    // Stores the repeats, if a fresh pixel follows them, at `at`, and returns where they end.
+    /// Stores the repeats, if a fresh pixel follows them, at `at`, and returns where they end.
     #[inline(always)]
-    fn put(self, style: Style, out: &mut [u8], at: usize, fresh: bool) -> usize
+    pub(super) fn put(self, style: Style, out: &mut [u8], at: usize, fresh: bool) -> usize
         requires room { at < length out.old }
         requires few { self.count < run_max }
         ensures same { length out.new ≡ length out.old }
