@@ -31,6 +31,7 @@ pub mod BlockWritten
 pub mod CoderLink
 pub mod FourFours
 pub mod FrontBlock
+pub mod FreshBits
 pub mod LaneBits
 pub mod LaneChunk
 pub mod LaneMasks
@@ -39,6 +40,7 @@ pub mod LaneTests
 pub mod Lanewise
 pub mod LastCount
 pub mod LastPixels
+pub mod LoneFresh
 pub mod NamedLanes
 pub mod OpaqueBlock
 pub mod OverlaidRuns

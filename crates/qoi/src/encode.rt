@@ -23,6 +23,7 @@ mod coder;
 mod counts;
 pub(crate) mod fresh;
 mod lanes;
+mod lone;
 mod named;
 mod packing;
 pub(crate) mod piece;
