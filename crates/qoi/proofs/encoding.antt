@@ -31,6 +31,8 @@ pub mod BlockOut
 pub mod BlockPuts
 pub mod BlockStep
 pub mod BlockWritten
+pub mod CloseChunks
+pub mod CloseOrders
 pub mod CoderLink
 pub mod FourFours
 pub mod LaneBits
@@ -50,6 +52,7 @@ pub mod PlaneWords
 pub mod PrefixSums
 pub mod ReadBlock
 pub mod RunningMost
+pub mod SizeCodes
 pub mod SizeHalves
 pub mod SpelledBlock
 pub mod StandMasks

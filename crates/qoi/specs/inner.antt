@@ -15,6 +15,7 @@ pub mod BlockBytes
 pub mod BlockLanes
 pub mod BlockState
 pub mod Blocks
+pub mod Close
 pub mod Counts
 pub mod LaneVectors
 pub mod Planes

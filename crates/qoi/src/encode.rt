@@ -16,11 +16,12 @@ ghost use Rattle.qoi.specs.EncoderState.{free_encoder};
 ghost use Rattle.qoi.specs.Sent.{IsFileFor, MakesFile, PutsFile, SendsFile, SendsPart};
 ghost use Rattle.qoi.specs.writers.Writes.{AppendsBeginning, WroteBeginning};
 
-// `block`, `changes`, `counts`, `lanes`, `named`, `planes`, `spelling`, `stands` and `stores` are the
-// beginning of a coder by blocks of sixteen pixels, which isn't called yet.
+// `block`, `changes`, `close`, `counts`, `lanes`, `named`, `planes`, `spelling`, `stands` and `stores`
+// are the beginning of a coder by blocks of sixteen pixels, which isn't called yet.
 mod block;
 mod changes;
 mod chunks;
+mod close;
 mod coder;
 mod counts;
 mod lanes;

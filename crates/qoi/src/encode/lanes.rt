@@ -1,7 +1,7 @@
 //! Sixteen pixels, a byte of each in the lanes of a vector: the steps from the pixels before them,
 //! which of them repeat, and their index positions (QOI specification 1.0, "Chunks").
-ghost use lib.Lanes.{zip2};
-ghost use Rattle.std.specs.Prelude.{◌≡◌, ◌+◌, ◌-◌, ◌%◌, ℕ, List, ◌∷◌, min, max, map, take, slice_index};
+ghost use lib.Lanes.{number_l, zip2};
+ghost use Rattle.std.specs.Prelude.{◌≡◌, ◌+◌, ◌-◌, ◌%◌, ℕ, List, [], ◌∷◌, min, max, map, take, drop, slice_index};
 ghost use Rattle.qoi.specs.Qoi.{RgbaPixel, hash};
 ghost use Rattle.qoi.specs.inner.BlockLanes.{Lane, mask, zero_mask, step_of};
 ghost use Rattle.qoi.specs.inner.Planes.{AreSixteen, ArePlanes};
@@ -43,6 +43,14 @@ pub(super) fn greater(v: u8x16, w: u8x16) -> u8x16
     ensures { result ≡ zip2 max v w }
 {
     v.simd_max(w)
+}
+
+/// Eight lanes each, as the bytes of a number.
+#[inline(always)]
+pub(super) fn halves(v: u8x16) -> [u64; 2]
+    ensures { result ≡ number_l 256 (take 8 v) ∷ number_l 256 (drop 8 v) ∷ [] }
+{
+    u64x2::from_le_bytes(v).to_array()
 }
 
 /// The lanes, one further on; the first is the last one of `before`.
