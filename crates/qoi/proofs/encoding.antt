@@ -28,6 +28,8 @@ pub mod BlockOut
 pub mod BlockPuts
 pub mod BlockStep
 pub mod BlockWritten
+pub mod CloseChunks
+pub mod CloseOrders
 pub mod CoderLink
 pub mod FourFours
 pub mod FrontBlock
@@ -51,6 +53,7 @@ pub mod PlaneWords
 pub mod PrefixSums
 pub mod ReadBlock
 pub mod RunningMost
+pub mod SizeCodes
 pub mod SizeHalves
 pub mod SpelledBlock
 pub mod SpelledPixel

@@ -17,6 +17,7 @@ pub mod BlockLanes
 pub mod BlockState
 pub mod Blocks
 pub mod CarryLoop
+pub mod Close
 pub mod Counts
 pub mod LaneVectors
 pub mod Planes

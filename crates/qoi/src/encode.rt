@@ -19,6 +19,7 @@ ghost use Rattle.qoi.specs.writers.Writes.{AppendsBeginning, WroteBeginning};
 mod block;
 mod changes;
 mod chunks;
+mod close;
 mod coder;
 mod counts;
 pub(crate) mod fresh;

@@ -1,11 +1,9 @@
 -- Sixteen bytes as two numbers; and a chunk's bytes from a word.
-use Rattle.std.proofs.Common.{◌≡◌, ℕ, ◌+◌, ◌*◌, ◌/◌, ◌%◌, ◌^◌, ◌<◌, List, [], ◌∷◌, ◌++◌, length, take, drop, replicate, slice_index, refl, ap, ◌∙◌, arith, w8, w32, Fits}
-use lib.Lanes.{number_l, digits_l, pick_l, zip2, Each1}
-use Rattle.qoi.specs.Qoi.{RgbaPixel, IsPixel, pixel}
+use Rattle.std.proofs.Common.{◌≡◌, ℕ, ◌+◌, ◌*◌, ◌/◌, ◌%◌, ◌^◌, ◌<◌, List, [], ◌∷◌, ◌++◌, length, take, drop, slice_index, refl, ap, ◌∙◌, arith, w8, Fits}
+use lib.Lanes.{number_l, digits_l, Each1}
+use Rattle.qoi.specs.Qoi.{RgbaPixel, IsPixel}
 use Rattle.qoi.specs.inner.Packed.{word}
-use Rattle.qoi.specs.inner.Stores.{with_fifth, pairs_of, chunk_of}
-use Rattle.qoi.proofs.format.LaneWords.{bytes_in, bytes_of_lanes}
-use Rattle.qoi.proofs.encoding.PlaneWords.{four_words}
+use Rattle.qoi.specs.inner.Stores.{chunk_of}
 use Rattle.qoi.proofs.encoding.PrefixSums.{reduced, digit}
 use Rattle.qoi.proofs.encoding.WordPlanes.{one_more}
 
@@ -32,79 +30,10 @@ halves_are (x0 ∷ x1 ∷ x2 ∷ x3 ∷ x4 ∷ x5 ∷ x6 ∷ x7 ∷ x8 ∷ x9 �
 halves_are xs e f = absurd (omega arith)
 
 -- a chunk whose first four bytes are those of a word
-pub chunk_is : (p : RgbaPixel) (a size : ℕ) → IsPixel p → a < 256 → chunk_of size (with_fifth (word p) a) ≡ take size (p.r ∷ p.g ∷ p.b ∷ p.a ∷ a ∷ [])
-chunk_is p a size i small =
-    let byte : a % 256 ≡ a = omega arith in
-    ap (take size) (one_more 1 p i a ∙ ap (λ z. p.r ∷ p.g ∷ p.b ∷ p.a ∷ z ∷ []) byte)
-
--- the bytes of numbers of 32 bits make the same number
-same_number : (xs : List ℕ) → Each1 (Fits w32) xs → number_l 256 (bytes_in xs) ≡ number_l 4294967296 xs
-same_number [] f = refl
-same_number (x ∷ xs) f = one x (number_l 256 (bytes_in xs)) f.0.fits ∙ ap (λ z. x + 4294967296 * z) (same_number xs f.1)
-  where
-    one : (x r : ℕ) → x < 2 ^ 32 → x % 2 ^ 8 + 256 * (x / 2 ^ 8 % 2 ^ 8 + 256 * (x / 2 ^ 16 % 2 ^ 8 + 256 * (x / 2 ^ 24 + 256 * r))) ≡ x + 4294967296 * r
-    one x r l = omega arith
-
--- four numbers of 32 bits as two
-pub pairs_are : (v : List ℕ) → length v ≡ 4 → Each1 (Fits w32) v
-    → digits_l 18446744073709551616 2 (number_l 256 (digits_l 256 16 (number_l 4294967296 v))) ≡ pairs_of v
-pairs_are (a ∷ b ∷ c ∷ d ∷ []) l f =
-    let la : a < 4294967296 = f.0.fits in
-    let lb : b < 4294967296 = f.1.0.fits in
-    let lc : c < 4294967296 = f.1.1.0.fits in
-    let ld : d < 4294967296 = f.1.1.1.0.fits in
-    let y = a + 4294967296 * b in
-    let q = c + 4294967296 * d in
-    let whole : number_l 4294967296 (a ∷ b ∷ c ∷ d ∷ []) ≡ y + 18446744073709551616 * q = omega arith in
-    ap (λ z. digits_l 18446744073709551616 2 (number_l 256 z)) (bytes_of_lanes 4 (a ∷ b ∷ c ∷ d ∷ []) l f)
-    ∙ ap (digits_l 18446744073709551616 2) (same_number (a ∷ b ∷ c ∷ d ∷ []) f)
-    ∙ (λ i. reduced _ y q whole (omega arith) i ∷ high _ y q whole (omega arith) (omega arith) i ∷ [])
-pairs_are v l f = absurd (omega arith)
-
--- numbers of two lanes each, of which the second is the fifth byte
-pub chunks_are : (f a x y : List ℕ) → length f ≡ 4 → length a ≡ 4 → x ≡ pairs_of (pick_l 0 (f ++ a) (0 ∷ 4 ∷ 1 ∷ 5 ∷ [])) → y ≡ pairs_of (pick_l 0 (f ++ a) (2 ∷ 6 ∷ 3 ∷ 7 ∷ []))
-    → slice_index x 0 ∷ slice_index x 1 ∷ slice_index y 0 ∷ slice_index y 1 ∷ [] ≡ zip2 with_fifth f a
-chunks_are (f0 ∷ f1 ∷ f2 ∷ f3 ∷ []) (a0 ∷ a1 ∷ a2 ∷ a3 ∷ []) x y lf la ex ey = λ i. slice_index (ex i) 0 ∷ slice_index (ex i) 1 ∷ slice_index (ey i) 0 ∷ slice_index (ey i) 1 ∷ []
-chunks_are (f0 ∷ f1 ∷ f2 ∷ f3 ∷ []) a x y lf la ex ey = absurd (omega arith)
-chunks_are f a x y lf la ex ey = absurd (omega arith)
-
--- four bytes as numbers of 32 bits
-abbrev spread : List ℕ → ℕ → List ℕ
-spread v k = digits_l 4294967296 4 (number_l 256 (pick_l 0 (v ++ replicate 16 0)
-    (k ∷ 16 ∷ 16 ∷ 16 ∷ (k + 1) ∷ 16 ∷ 16 ∷ 16 ∷ (k + 2) ∷ 16 ∷ 16 ∷ 16 ∷ (k + 3) ∷ 16 ∷ 16 ∷ 16 ∷ [])))
-
--- four bytes between zeros
-wide_four : (a b c d : ℕ) → a < 256 → b < 256 → c < 256 → d < 256
-    → digits_l 4294967296 4 (number_l 256 (a ∷ 0 ∷ 0 ∷ 0 ∷ b ∷ 0 ∷ 0 ∷ 0 ∷ c ∷ 0 ∷ 0 ∷ 0 ∷ d ∷ 0 ∷ 0 ∷ 0 ∷ [])) ≡ a ∷ b ∷ c ∷ d ∷ []
-wide_four a b c d la lb lc ld =
-    let none : 0 < 256 = omega arith in
-    four_words (pixel a 0 0 0) (pixel b 0 0 0) (pixel c 0 0 0) (pixel d 0 0 0) (record { r = la; g = none; b = none; a = none }) (record { r = lb; g = none; b = none; a = none })
-    (record { r = lc; g = none; b = none; a = none }) (record { r = ld; g = none; b = none; a = none })
-    ∙ (λ i. alone a i ∷ alone b i ∷ alone c i ∷ alone d i ∷ [])
-  where
-    alone : (x : ℕ) → word (pixel x 0 0 0) ≡ x
-    alone x = omega arith
-
--- sixteen bytes, four times four
-pub record Wide (v one two three four : List ℕ) : Type 0 where
-  pub one_is : one ≡ take 4 v
-  pub two_is : two ≡ take 4 (drop 4 v)
-  pub three_is : three ≡ take 4 (drop 8 v)
-  pub four_is : four ≡ take 4 (drop 12 v)
-
--- each as a number of 32 bits
-pub wide_are : (v : List ℕ) → length v ≡ 16 → Each1 (Fits w8) v → Wide v (spread v 0) (spread v 4) (spread v 8) (spread v 12)
-wide_are (x0 ∷ x1 ∷ x2 ∷ x3 ∷ x4 ∷ x5 ∷ x6 ∷ x7 ∷ x8 ∷ x9 ∷ x10 ∷ x11 ∷ x12 ∷ x13 ∷ x14 ∷ x15 ∷ []) l i =
-    let j = i.1.1.1.1 in
-    let k = j.1.1.1.1 in
-    let m = k.1.1.1.1 in
-    record {
-      one_is = wide_four x0 x1 x2 x3 i.0.fits i.1.0.fits i.1.1.0.fits i.1.1.1.0.fits;
-      two_is = wide_four x4 x5 x6 x7 j.0.fits j.1.0.fits j.1.1.0.fits j.1.1.1.0.fits;
-      three_is = wide_four x8 x9 x10 x11 k.0.fits k.1.0.fits k.1.1.0.fits k.1.1.1.0.fits;
-      four_is = wide_four x12 x13 x14 x15 m.0.fits m.1.0.fits m.1.1.0.fits m.1.1.1.0.fits;
-    }
-wide_are v l i = absurd (omega arith)
+pub chunk_is : (p : RgbaPixel) (a size : ℕ) → IsPixel p → chunk_of size (word p) a ≡ take size (p.r ∷ p.g ∷ p.b ∷ p.a ∷ a ∷ [])
+chunk_is p a size i =
+    let same : word p ≡ word p + 4294967296 * 0 = omega arith in
+    ap (λ ds. take size (ds ++ a ∷ [])) (ap (digits_l 256 4) same ∙ one_more 0 p i 0)
 
 -- the bytes of a number of eight are these
 pub eight_back : (xs : List ℕ) (n : ℕ) → length xs ≡ 8 → Each1 (λ x. x < 256) xs → n ≡ number_l 256 xs → (a b c d e f g h : ℕ)

@@ -45,6 +45,14 @@ pub(super) fn greater(v: u8x16, w: u8x16) -> u8x16
     v.simd_max(w)
 }
 
+/// Eight lanes each, as the bytes of a number.
+#[inline(always)]
+pub(super) fn halves(v: u8x16) -> [u64; 2]
+    ensures { result ≡ number_l 256 (take 8 v) ∷ number_l 256 (drop 8 v) ∷ [] }
+{
+    u64x2::from_le_bytes(v).to_array()
+}
+
 /// The lanes, one further on; the first is the last one of `before`.
 #[inline(always)]
 pub(super) fn later(before: u8x16, v: u8x16) -> u8x16
@@ -89,14 +97,6 @@ pub(super) fn places(p: Planes) -> u8x16
     let a2 = p.a + p.a;
     let a4 = a2 + a2;
     (h + a4 + a4 + a2 + p.a) & u8x16::splat(63)
-}
-
-/// The lanes of each half, as the bytes of a number.
-#[inline(always)]
-pub(super) fn halves(v: u8x16) -> [u64; 2]
-    ensures { result ≡ number_l 256 (take 8 v) ∷ number_l 256 (drop 8 v) ∷ [] }
-{
-    u64x2::from_le_bytes(v).to_array()
 }
 
 /// A byte of a number.

@@ -14,20 +14,24 @@ use Rattle.qoi.proofs.encode.coder.Coder.write_front.Goals as goal
 pub returns-clause-some : goal.returns-clause-some
 returns-clause-some g c = elim c.if-repeats.branch as (λ _. 0 < c.if-repeats.count) [
   | then-repeats x ↦
-    (let n = g.row.N in
-    let raw = c.args.data.now in
-    let q = last_pixel c.args.carry.before in
-    elim c.if-self.branch as (λ _. 0 < c.if-repeats.count) [
-      | then-self y ↦
-        (let last : c.take_over.new.self.last ≡ q = c.take_over.ensures.last y.if-self.true in
-        let all : all_repeat q (padded (take 16 (pixels_of n raw)) (16 - length raw / n)) ≡ true =
-        sym (ap (all_repeat q) c.first-block.ensures.pixels) ∙ sym y.repeats-repeats.ensures ∙ sym y.repeats-is ∙ x.if-repeats.true in
-        let stops = subst (λ p. (slice_get (pixels_of n (drop (n * x.write_runs-count.result) raw)) 0 ≢ Some p) ⊎ (c.from-repeated.result + x.write_runs-count.result ≡ REPEATS_AT_ONCE))
-        last x.write_runs-count.ensures.stops in
-        omega (arith, x.count-is, repeats_some n raw q (16 - length raw / n) c.from-repeated.result x.write_runs-count.result REPEATS_AT_ONCE c.args.self.now.channels
-        c.requires.whole c.requires.some all stops (omega (arith, c.from-repeated.ensures, c.requires.few))))
-      | else-self y ↦ absurd (true≢false (sym x.if-repeats.true ∙ y.repeats-is ∙ y.if-self.false))
-    ])
+      (let n = g.row.N in
+      let raw = c.args.data.now in
+      let q = last_pixel c.args.carry.before in
+      elim c.if-self.branch as (λ _. 0 < c.if-repeats.count) [
+        | then-self y ↦
+            (let last : c.take_over.new.self.last ≡ q = c.take_over.ensures.last y.if-self.true in
+            let all : all_repeat q (padded (take 16 (pixels_of n raw)) (16 - length raw / n)) ≡ true =
+            sym (ap (all_repeat q) c.first-block.ensures.pixels) ∙ sym y.repeats-repeats.ensures ∙ sym y.repeats-is ∙ x.if-repeats.true in
+            let stops = subst (λ p. (slice_get (pixels_of n (drop (n * x.write_runs-count.result) raw)) 0 ≢ Some p) ⊎ (c.from-repeated.result + x.write_runs-count.result ≡ REPEATS_AT_ONCE))
+            last x.write_runs-count.ensures.stops in
+            omega (
+              arith,
+              x.count-is,
+              repeats_some n raw q (16 - length raw / n) c.from-repeated.result x.write_runs-count.result REPEATS_AT_ONCE c.args.self.now.channels
+                  c.requires.whole c.requires.some all stops (omega (arith, c.from-repeated.ensures, c.requires.few)),
+            ))
+        | else-self y ↦ absurd (true≢false (sym x.if-repeats.true ∙ y.repeats-is ∙ y.if-self.false))
+      ])
   | else-repeats x ↦ omega (arith, x.count-is, x.write_next-count.ensures.some c.requires.some)
 ]
 
