@@ -22,7 +22,7 @@ use crate::writers::Writer;
 use std::simd::prelude::*;
 
 /// How many bytes of a piece's room come after a full piece: for what goes past it (the chunks of
-/// four pixels, runs, or the last chunks and the end marker), and for what is stored after that and
+/// a block, runs, or the last chunks and the end marker), and for what is stored after that and
 /// means nothing.
 pub(super) const PAST: usize = 128;
 
