@@ -33,7 +33,6 @@ pub mod CloseOrders
 pub mod CoderLink
 pub mod FourFours
 pub mod FrontBlock
-pub mod FreshBits
 pub mod LaneBits
 pub mod LaneChunk
 pub mod LaneMasks
@@ -42,7 +41,6 @@ pub mod LaneTests
 pub mod Lanewise
 pub mod LastCount
 pub mod LastPixels
-pub mod LoneFresh
 pub mod NamedLanes
 pub mod OpaqueBlock
 pub mod OverlaidRuns

@@ -24,7 +24,6 @@ mod coder;
 mod counts;
 pub(crate) mod fresh;
 mod lanes;
-mod lone;
 mod named;
 mod packing;
 pub(crate) mod piece;

@@ -179,9 +179,9 @@ impl Carry {
         }
     }
 
-    /// Stores the repeats, if a fresh pixel follows them, at `at`, and returns where they end.
+    // Stores the repeats, if a fresh pixel follows them, at `at`, and returns where they end.
     #[inline(always)]
-    pub(super) fn put(self, style: Style, out: &mut [u8], at: usize, fresh: bool) -> usize
+    fn put(self, style: Style, out: &mut [u8], at: usize, fresh: bool) -> usize
         requires room { at < length out.old }
         requires few { self.count < run_max }
         ensures same { length out.new ≡ length out.old }

@@ -12,8 +12,7 @@ ghost use Rattle.qoi.specs.Runs.{runs_by};
 ghost use Rattle.qoi.specs.writers.Writes.{WroteBeginning};
 
 use crate::consts::{QOI_OP_RUN, QOI_RUN_MAX};
-use crate::encode::block::{Block, Carry};
-use crate::encode::lone::write_any_block;
+use crate::encode::block::{Block, Carry, write_block};
 use crate::encode::table::PixelTable;
 use crate::error::Result;
 use crate::types::Style;
@@ -158,7 +157,7 @@ impl<'a, const ROOM: usize> Piece<'a, ROOM> {
             → (pads ≤ result.count) × BetweenBlocks w rest table.new block.planes
             (result.count - pads) result.placed (kept_bytes self.new) }
     {
-        let (end, after) = write_any_block::<N>(style, table, self.bytes, self.end, block, carry);
+        let (end, after) = write_block::<N>(style, table, self.bytes, self.end, block, carry);
         self.end = end;
         after
     }
