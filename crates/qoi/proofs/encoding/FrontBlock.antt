@@ -71,22 +71,24 @@ pub last_opaque : (w : Words) (x : Planes) → ArePacked w → ArePlanes (block_
 last_opaque w x packed planes opaque =
     ap (λ z. slice_index z 15) planes.a_is ∙ opaque_at (block_pixels w) 15 (omega (arith, (block_sixteen w packed).long)) opaque
 
--- if the block at the front repeats a pixel, at least one of its repeats is counted
-pub repeats_some : (n : ℕ) (bytes : List ℕ) (q : RgbaPixel) (pads carry count most : ℕ) → IsChannels n → length bytes % n ≡ 0 → 0 < length bytes
-    → all_repeat q (padded (take 16 (pixels_of n bytes)) pads) ≡ true
-    → (slice_get (pixels_of n (drop (n * count) bytes)) 0 ≢ Some q) ⊎ (carry + count ≡ most) → carry < most → 0 < count
-repeats_some n bytes q pads carry (suc count) most is whole some all stops few = omega arith
-repeats_some n bytes q pads carry zero most is whole some all stops few =
+-- if the block at the front repeats a pixel, the first pixel is that
+pub repeats_first : (n : ℕ) (bytes : List ℕ) (q : RgbaPixel) (pads : ℕ) → IsChannels n → length bytes % n ≡ 0 → 0 < length bytes
+    → all_repeat q (padded (take 16 (pixels_of n bytes)) pads) ≡ true → slice_get (pixels_of n bytes) 0 ≡ Some q
+repeats_first n bytes q pads is whole some all =
     let ahead = pixel_ahead n bytes is whole some in
     let p = rgba (take n bytes) in
     let ps = pixels_of n (drop n bytes) in
-    let first : p ≡ q = pixel_eq-true p q (and_parts (pixel_eq p q) (all_repeat q (padded_rest p (take 15 ps) pads))
-    (sym (ap (λ x. all_repeat q (padded (take 16 x) pads)) ahead) ∙ all)).0 in
+    let rest = take 15 ps ++ replicate pads (final p (take 15 ps)) in
+    let first : p ≡ q = pixel_eq-true p q (and_parts (pixel_eq p q) (all_repeat q rest) (sym (ap (λ x. all_repeat q (padded (take 16 x) pads)) ahead) ∙ all)).0 in
+    ap (λ x. slice_get x 0) ahead ∙ ap Some first
+
+-- if the first pixel repeats one, at least one repeat is counted
+pub repeats_some : (n : ℕ) (bytes : List ℕ) (q : RgbaPixel) (carry count most : ℕ) → IsChannels n → slice_get (pixels_of n bytes) 0 ≡ Some q
+    → (slice_get (pixels_of n (drop (n * count) bytes)) 0 ≢ Some q) ⊎ (carry + count ≡ most) → carry < most → 0 < count
+repeats_some n bytes q carry (suc count) most is first stops few = omega arith
+repeats_some n bytes q carry zero most is first stops few =
     let none : n * 0 ≡ 0 = by_channels (λ k. k * 0 ≡ 0) is refl refl in
     elim stops as (λ _. 0 < 0) [
-      | inl other ↦ absurd (other (ap (λ k. slice_get (pixels_of n (drop k bytes)) 0) none ∙ ap (λ x. slice_get x 0) ahead ∙ ap Some first))
+      | inl other ↦ absurd (other (ap (λ k. slice_get (pixels_of n (drop k bytes)) 0) none ∙ first))
       | inr full ↦ absurd (omega (arith, full, few))
     ]
-  where
-    padded_rest : RgbaPixel → List RgbaPixel → ℕ → List RgbaPixel
-    padded_rest p ps k = ps ++ replicate k (final p ps)

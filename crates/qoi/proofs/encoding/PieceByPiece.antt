@@ -80,7 +80,7 @@ module _ {W : Type 0} {wrote : W → List ℕ → W → Type 0} {room : W → �
       (p : PieceBetween wrote room s rest table coder carry kept buf) where
     -- the coder went on
     pub piece_filled : {rest' : List ℕ} {table' : List RgbaPixel} {coder' : Coder n} {carry' : Carry} {kept' : List ℕ}
-        → ((w : Writing) → StepBetween w (pixels_of n rest) table coder carry kept → StepBetween w (pixels_of n rest') table' coder' carry' kept')
+        → ((w : Writing) → w.list.style ≡ s.style → StepBetween w (pixels_of n rest) table coder carry kept → StepBetween w (pixels_of n rest') table' coder' carry' kept')
         → PieceBetween wrote room s rest' table' coder' carry' kept' buf
     piece_filled went_on = record {
       laws = p.laws;
@@ -89,7 +89,7 @@ module _ {W : Type 0} {wrote : W → List ℕ → W → Type 0} {room : W → �
       fits = p.fits;
       ahead = p.ahead;
       went = p.went;
-      between = went_on _ p.between;
+      between = went_on _ refl p.between;
     }
 
     -- at the end all but what is kept went

@@ -38,7 +38,7 @@ fn encode_pixels<W: Writer, const N: usize, const STYLE: u8, const ROOM: usize>(
     let mut carry = coder.carry();
     let mut rest = data;
     while !rest.is_empty() {
-        let (count, after) = coder.write_front(&mut table, piece, rest, carry);
+        let (count, after) = coder.write_front(style, &mut table, piece, rest, carry);
         carry = after;
         rest = skip(rest, N * count);
         if piece.is_full() {

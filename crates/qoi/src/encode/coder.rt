@@ -44,7 +44,7 @@ pub(super) struct Coder<const N: usize> {
 }
 
 impl<const N: usize> Coder<N> {
-    ghost use Rattle.qoi.specs.inner.Blocks.{MissesNoBlank, padded, last_pixel, all_repeat};
+    ghost use Rattle.qoi.specs.inner.Blocks.{BetweenBlocks, MissesNoBlank, padded, last_pixel, all_repeat};
     ghost use Rattle.qoi.specs.inner.CarryLoop.{StepBetween};
     ghost use Rattle.qoi.specs.inner.CoderLoop.{CoderAfter, single, Writing, CoderBetween, BytesBetween};
     ghost use Rattle.qoi.specs.inner.Spelling.{IsLastOf};
@@ -266,55 +266,55 @@ impl<const N: usize> Coder<N> {
     // Whether a block can be written as one: a fresh pixel came before it, not all its pixels
     // repeat, and in style `Tight` none is given by another index position than its own.
     #[inline(always)]
-    fn takes(&self, table: &PixelTable, block: Block, before: Planes) -> bool
+    fn takes(&self, style: Style, table: &PixelTable, block: Block, before: Planes) -> bool
         ensures begun { IsTrue result → self.now.begun ≡ true }
         ensures some { IsTrue result
             → all_repeat (last_pixel before) (block_pixels block.words) ≡ false }
-        ensures none { IsTrue result → self.now.style ≡ Tight
+        ensures none { IsTrue result → style ≡ Tight
             → MissesNoBlank table.now before (block_pixels block.words) }
     {
-        let blank = match self.style {
+        let blank = match style {
             Reference | Places => false,
             Tight => block.may_miss_blank(table, before),
         };
         self.begun && !blank && !block.repeats(before)
     }
 
-    // Writes the block at the front, but for the repeats at its end. Returns how many pixels it
-    // has, and what is carried.
+    // Writes the block at the front, but for the repeats at its end. Returns how many pixels it has, and
+    // what is carried.
     #[inline(always)]
     fn write_block<const ROOM: usize>(
-        &mut self,
+        style: Style,
         table: &mut PixelTable,
         piece: &mut Piece<ROOM>,
         data: &[u8],
         block: Block,
         carry: Carry,
     ) -> (usize, Carry)
+        requires channels { IsChannels N }
         requires whole { length «data».now % N ≡ 0 }
         requires some { 0 < length «data».now }
         requires few { carry.count < 16 }
         requires room { piece.old.end < ROOM - PAST }
         requires pixels { block_pixels block.words
             ≡ padded (take 16 (pixels_of N «data».now)) (16 - length «data».now / N) }
-        requires opaque { N ≡ 3 → AreOpaque (block_pixels block.words) }
-        requires last { N ≡ 3 → slice_index carry.before.a 15 ≡ 255 }
-        requires begun { self.old.begun ≡ true }
-        requires fresh { all_repeat (last_pixel carry.before) (block_pixels block.words) ≡ false }
-        requires none { self.old.style ≡ Tight
-            → MissesNoBlank table.old carry.before (block_pixels block.words) }
         ensures end { piece.new.end ≤ piece.old.end + BLOCK_MAX }
         ensures inside { N * result.0 ≤ length «data».now }
         ensures some { 0 < result.0 }
         ensures few { result.1.count < 16 }
-        ensures opaque { N ≡ 3 → slice_index result.1.before.a 15 ≡ 255 }
-        ensures written { (w : Writing) → StepBetween w (pixels_of N «data».now) table.old self.old
-            carry (kept_bytes piece.old)
-            → StepBetween w (pixels_of N (drop (N * result.0) «data».now)) table.new self.new
-            result.1 (kept_bytes piece.new) }
+        ensures before { result.1.before ≡ block.planes }
+        ensures written { (w : Writing) → w.list.style ≡ style
+            → (N ≡ 3 → AreOpaque (block_pixels block.words))
+            → (N ≡ 3 → slice_index carry.before.a 15 ≡ 255)
+            → all_repeat (last_pixel carry.before) (block_pixels block.words) ≡ false
+            → (style ≡ Tight → MissesNoBlank table.old carry.before (block_pixels block.words))
+            → BetweenBlocks w (pixels_of N «data».now) table.old carry.before carry.count carry.placed
+            (kept_bytes piece.old)
+            → BetweenBlocks w (pixels_of N (drop (N * result.0) «data».now)) table.new
+            result.1.before result.1.count result.1.placed (kept_bytes piece.new) }
     {
         let count = (data.len() / N).min(16);
-        let after = piece.keep_block::<N>(self.style, table, block, carry);
+        let after = piece.keep_block::<N>(style, table, block, carry);
         // The pixels that pad the block didn't come.
         let left = after.count.saturating_sub((16 - count) as u8);
         (
@@ -326,13 +326,54 @@ impl<const N: usize> Coder<N> {
         )
     }
 
+    // Writes the repeats at the front, or these and the fresh pixel after them. Returns how many
+    // pixels came, and what is carried. It isn't inlined, so that the loop over blocks is small
+    // enough for the compiler.
+    #[inline(never)]
+    fn write_group<const ROOM: usize>(
+        &mut self,
+        table: &mut PixelTable,
+        piece: &mut Piece<ROOM>,
+        data: &[u8],
+        carry: Carry,
+        repeats: bool,
+    ) -> (usize, Carry)
+        requires whole { length «data».now % N ≡ 0 }
+        requires some { 0 < length «data».now }
+        requires few { carry.count < 16 }
+        requires opaque { N ≡ 3 → slice_index carry.before.a 15 ≡ 255 }
+        requires room { piece.old.end < ROOM - PAST }
+        requires repeats { IsTrue repeats → self.old.begun ≡ true
+            × (slice_get (pixels_of N «data».now) 0 ≡ Some (last_pixel carry.before)) }
+        ensures end { piece.new.end ≤ piece.old.end + BLOCK_MAX }
+        ensures inside { N * result.0 ≤ length «data».now }
+        ensures some { 0 < result.0 }
+        ensures few { result.1.count < 16 }
+        ensures opaque { N ≡ 3 → slice_index result.1.before.a 15 ≡ 255 }
+        ensures written { (w : Writing) → StepBetween w (pixels_of N «data».now) table.old self.old
+            carry (kept_bytes piece.old)
+            → StepBetween w (pixels_of N (drop (N * result.0) «data».now)) table.new self.new
+            result.1 (kept_bytes piece.new) }
+    {
+        self.take_over(carry);
+        let repeated = usize::from(carry.count);
+        let count = if repeats {
+            self.write_runs(table, piece, data, repeated)
+        } else {
+            self.write_next(table, piece, data, repeated)
+        };
+        (count, self.carry())
+    }
+
     /// Writes what is at the front of raw bytes: a block, but for the repeats at its end; or all
     /// repeats there, if a block's pixels repeat; or these and the fresh pixel after them, if it is
     /// the first one, or in style `Tight` one may be given by another index position than its own.
-    /// Returns how many pixels came, and what is carried.
+    /// Returns how many pixels came, and what is carried. The coder's style is passed, too, since
+    /// where it is called it is a constant.
     #[inline(always)]
     pub(super) fn write_front<const ROOM: usize>(
         &mut self,
+        style: Style,
         table: &mut PixelTable,
         piece: &mut Piece<ROOM>,
         data: &[u8],
@@ -348,24 +389,18 @@ impl<const N: usize> Coder<N> {
         ensures some { 0 < result.0 }
         ensures few { result.1.count < 16 }
         ensures opaque { N ≡ 3 → slice_index result.1.before.a 15 ≡ 255 }
-        ensures written { (w : Writing) → StepBetween w (pixels_of N «data».now) table.old self.old
+        ensures written { (w : Writing) → w.list.style ≡ style
+            → StepBetween w (pixels_of N «data».now) table.old self.old
             carry (kept_bytes piece.old)
             → StepBetween w (pixels_of N (drop (N * result.0) «data».now)) table.new self.new
             result.1 (kept_bytes piece.new) }
     {
         let block = Block::first::<N>(data);
-        if self.takes(table, block, carry.before) {
-            return self.write_block(table, piece, data, block, carry);
+        if self.takes(style, table, block, carry.before) {
+            return Coder::<N>::write_block(style, table, piece, data, block, carry);
         }
         let repeats = self.begun && block.repeats(carry.before);
-        self.take_over(carry);
-        let repeated = usize::from(carry.count);
-        let count = if repeats {
-            self.write_runs(table, piece, data, repeated)
-        } else {
-            self.write_next(table, piece, data, repeated)
-        };
-        (count, self.carry())
+        self.write_group(table, piece, data, carry, repeats)
     }
 
     /// Writes the repeats that are carried at the end.

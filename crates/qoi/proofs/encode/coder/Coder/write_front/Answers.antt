@@ -1,49 +1,44 @@
--- The block, or the repeats, or these and a fresh pixel.
-use Rattle.std.proofs.Common.{◌≡◌, ◌≢◌, ◌⊎◌, ◌+◌, Some, ◌*◌, ◌-◌, ◌/◌, ◌<◌, ◌++◌, true, false, length, take, drop, replicate, sym, ap, ◌∙◌, arith, subst}
-use Rattle.std.proofs.lemmas.Bool.{true≢false}
+-- A block, or a group.
+use Rattle.std.proofs.Common.{◌≡◌, ◌-◌, ◌/◌, Some, true, false, length, take, slice_index, sym, ap, ◌∙◌, arith}
 use Rattle.std.specs.List.{slice_get}
-use Rattle.qoi.specs.declared.encode.piece.TheConstants.{REPEATS_AT_ONCE}
+use Rattle.std.proofs.lemmas.Bool.{true≢false}
+use Rattle.qoi.specs.declared.encode.planes.Planes.{Planes}
 use Rattle.qoi.specs.Raw.{pixels_of}
 use Rattle.qoi.specs.inner.Blocks.{all_repeat, last_pixel, padded}
-use Rattle.qoi.specs.inner.CoderLoop.{CoderBetween, BytesBetween}
-use Rattle.qoi.specs.inner.Piece.{kept_bytes}
-use Rattle.qoi.proofs.encoding.FrontBlock.{repeats_some}
-use Rattle.qoi.proofs.encode.coder.Coder.write_front.Goals.{then-self, else-self, then-repeats, else-repeats}
+use Rattle.qoi.proofs.encoding.FrontBlock.{repeats_first, last_opaque}
+use Rattle.qoi.proofs.encode.coder.Coder.write_front.Goals.{then-self, else-self}
 use Rattle.qoi.proofs.encode.coder.Coder.write_front.Goals as goal
 
-pub returns-clause-some : goal.returns-clause-some
-returns-clause-some g c = elim c.if-repeats.branch as (λ _. 0 < c.if-repeats.count) [
-  | then-repeats x ↦
-      (let n = g.row.N in
-      let raw = c.args.data.now in
-      let q = last_pixel c.args.carry.before in
-      elim c.if-self.branch as (λ _. 0 < c.if-repeats.count) [
-        | then-self y ↦
-            (let last : c.take_over.new.self.last ≡ q = c.take_over.ensures.last y.if-self.true in
-            let all : all_repeat q (padded (take 16 (pixels_of n raw)) (16 - length raw / n)) ≡ true =
-            sym (ap (all_repeat q) c.first-block.ensures.pixels) ∙ sym y.repeats-repeats.ensures ∙ sym y.repeats-is ∙ x.if-repeats.true in
-            let stops = subst (λ p. (slice_get (pixels_of n (drop (n * x.write_runs-count.result) raw)) 0 ≢ Some p) ⊎ (c.from-repeated.result + x.write_runs-count.result ≡ REPEATS_AT_ONCE))
-            last x.write_runs-count.ensures.stops in
-            omega (
-              arith,
-              x.count-is,
-              repeats_some n raw q (16 - length raw / n) c.from-repeated.result x.write_runs-count.result REPEATS_AT_ONCE c.args.self.now.channels
-                  c.requires.whole c.requires.some all stops (omega (arith, c.from-repeated.ensures, c.requires.few)),
-            ))
-        | else-self y ↦ absurd (true≢false (sym x.if-repeats.true ∙ y.repeats-is ∙ y.if-self.false))
-      ])
-  | else-repeats x ↦ omega (arith, x.count-is, x.write_next-count.ensures.some c.requires.some)
-]
+pub returns-then-takes-clause-opaque : goal.returns-then-takes-clause-opaque
+returns-then-takes-clause-opaque g c = λ three.
+    let block = c.first-block.result in
+    ap (λ (x : Planes). slice_index x.a 15) c.write_block.ensures.before
+    ∙ last_opaque block.words block.planes block.packed block.planes_are (c.first-block.ensures.opaque three)
 
-pub returns-clause-written : goal.returns-clause-written
-returns-clause-written g c w b =
+pub returns-then-takes-clause-written : goal.returns-then-takes-clause-written
+returns-then-takes-clause-written g c = λ w style b.
+    let takes = c.takes.ensures in
+    let is = c.if-takes.true in
+    let begun = takes.begun is in
+    record {
+      style_is = b.style_is;
+      opening = λ not_yet. absurd (true≢false (sym begun ∙ not_yet));
+      by_blocks = λ _. c.write_block.ensures.written w style c.first-block.ensures.opaque c.requires.opaque (takes.some is) (takes.none is) (b.by_blocks begun);
+    }
+
+pub write_group-requires : goal.write_group-requires
+write_group-requires g c =
     let n = g.row.N in
     let raw = c.args.data.now in
-    let start : CoderBetween w (replicate c.from-repeated.result c.take_over.new.self.last ++ pixels_of n raw) c.args.table.now c.take_over.new.self (kept_bytes c.args.piece.now)
-    = rw c.from-repeated.ensures (c.take_over.ensures.between w _ _ _ b) in
-    let done : BytesBetween w (drop (n * c.if-repeats.count) raw) c.if-repeats.table c.if-repeats.self c.if-repeats.piece =
-    elim c.if-repeats.branch as (λ _. BytesBetween w (drop (n * c.if-repeats.count) raw) c.if-repeats.table c.if-repeats.self c.if-repeats.piece) [
-      | then-repeats x ↦ rw (x.self-is, x.table-is, x.piece-is, x.count-is) (x.write_runs-count.ensures.written w start)
-      | else-repeats x ↦ rw (x.self-is, x.table-is, x.piece-is, x.count-is) (x.write_next-count.ensures.written w start)
-    ] in
-    c.carry.ensures.between w _ _ _ done
+    let q = last_pixel c.args.carry.before in
+    (
+      omega arith,
+      (omega arith, (c.requires.whole, (c.requires.some, (c.requires.few, (c.requires.opaque, (c.requires.room, λ is.
+      elim c.if-self.branch as (λ _. (c.args.self.now.begun ≡ true) × (slice_get (pixels_of n raw) 0 ≡ Some q)) [
+        | then-self y ↦
+          (let all : all_repeat q (padded (take 16 (pixels_of n raw)) (16 - length raw / n)) ≡ true =
+          sym (ap (all_repeat q) c.first-block.ensures.pixels) ∙ sym y.repeats-repeats.ensures ∙ sym y.repeats-is ∙ is in
+          (y.if-self.true, repeats_first n raw q (16 - length raw / n) c.args.self.now.channels c.requires.whole c.requires.some all))
+        | else-self y ↦ absurd (true≢false (sym is ∙ y.repeats-is ∙ y.if-self.false))
+      ])))))),
+    )
