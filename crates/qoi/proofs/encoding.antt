@@ -31,10 +31,10 @@ pub mod BlockOut
 pub mod BlockPuts
 pub mod BlockStep
 pub mod BlockWritten
-pub mod CloseChunks
-pub mod CloseOrders
 pub mod CoderLink
+pub mod FourChunks
 pub mod FourFours
+pub mod FourOrders
 pub mod LaneBits
 pub mod LaneChunk
 pub mod LaneMasks
@@ -47,11 +47,14 @@ pub mod OpaqueBlock
 pub mod OverlaidRuns
 pub mod PackedBlock
 pub mod PaddedBlock
+pub mod PairChunks
+pub mod PairOrders
 pub mod PlacesOut
 pub mod PlaneWords
 pub mod PrefixSums
 pub mod ReadBlock
 pub mod RunningMost
+pub mod Shuffles
 pub mod SizeCodes
 pub mod SizeHalves
 pub mod SpelledBlock
