@@ -1,12 +1,8 @@
 -- Four chunks of at most four bytes each, from their codes.
-use Rattle.std.proofs.Common.{◌≡◌, ◌≢◌, ℕ, zero, suc, ◌+◌, ◌-◌, ◌*◌, ◌/◌, ◌%◌, ◌^◌, ◌<◌, ◌≤◌, true, cond, eqb, eqb-true, w8, map, List, [], ◌∷◌, ◌++◌, length, take, drop, replicate, slice_index, append_assoc, sym, ap, ◌∙◌, arith}
+use Rattle.std.proofs.Common.{◌≡◌, ℕ, zero, suc, ◌+◌, ◌*◌, ◌/◌, ◌%◌, ◌<◌, ◌≤◌, List, [], ◌∷◌, ◌++◌, length, take, drop, replicate, slice_index, sym, ap, ◌∙◌, arith}
 use Rattle.std.specs.Prelude.{min}
-use Rattle.std.proofs.lemmas.List.{length-take-le, length-drop, take-append-le}
-use Rattle.std.proofs.Math.Seq.{take-append-add}
-use Rattle.std.proofs.lemmas.Simd.{put_chunk_whole, bitmask_splat}
-use Rattle.std.proofs.lemmas.Bool.{eq-eqb}
-use borrow.Rule.Slice.PartMut.{put_mid, post_of}
-use lib.Lanes.{put_chunk, digits_l, zip2, mask_l, top}
+use Rattle.std.proofs.lemmas.List.{take-append-le}
+use lib.Lanes.{digits_l, zip2}
 use Rattle.qoi.specs.declared.encode.planes.Words.{Words}
 use Rattle.qoi.specs.inner.Fours.{HaveCodes, AreCodes, joined, size_of_code, size_at, total, lowest, close_bytes}
 use Rattle.qoi.specs.inner.Stores.{chunk_of, sixteen_chunks}
@@ -63,7 +59,7 @@ codes_joined (a ∷ b ∷ c ∷ d ∷ e ∷ f ∷ g ∷ h ∷ []) codes are =
     λ i. first i ∷ second i ∷ []
 codes_joined cs codes are = absurd (let e = are.eight in omega arith)
 
--- the lowest bytes of a number, with a further byte behind that doesn't count
+-- a chunk of at most four bytes is the lowest ones of its number
 chunk_close : (i power c s number alpha : ℕ) → i / power % 4 ≡ c → size_of_code c ≡ s → lowest (size_at i power) number ≡ chunk_of s number alpha
 chunk_close i power c s number alpha is size =
     let few = size_few i power in

@@ -1,10 +1,10 @@
 -- Each of the 256 orders is right, and what a shuffle by it gives.
-use Rattle.std.proofs.Common.{◌≡◌, ℕ, suc, ◌+◌, ◌*◌, ◌/◌, ◌%◌, ◌<◌, ◌≤◌, ◌&&◌, Bool, true, false, cond, eqb, eqb-true, ltb, List, [], ◌∷◌, ◌++◌, length, take, map, get_or, w8, w32, Fits, refl, sym, ap, ◌∙◌, arith}
+use Rattle.std.proofs.Common.{◌≡◌, ℕ, ◌<◌, ◌&&◌, Bool, true, eqb, eqb-true, List, [], ◌∷◌, ◌++◌, length, take, map, get_or, w8, w32, Fits, refl, sym, ap, ◌∙◌, arith}
 use Rattle.std.specs.Cmp.Lexicographic.{same_text}
 use Rattle.std.specs.Str.{bytes_eq}
-use Rattle.std.proofs.lemmas.Bool.{and_parts, ltb-true}
-use Rattle.std.proofs.lemmas.List.{take-map, map-append}
-use Rattle.std.proofs.lemmas.Simd.{swz_l, SwzOk}
+use Rattle.std.proofs.lemmas.Bool.{and_parts}
+use Rattle.std.proofs.lemmas.List.{take-map}
+use Rattle.std.proofs.lemmas.Simd.{swz_l}
 use lib.Lanes.{all_below, digits_l, number_l, Each1}
 use Rattle.qoi.specs.declared.encode.fours.TheConstants.{ORDERS, TOTALS}
 use Rattle.qoi.specs.inner.Fours.{total, order_of, size_at, close_bytes}
@@ -39,7 +39,7 @@ entry_long i lt = eqb-true _ _ (and_parts (all_below 16 (get_or ORDERS i [])) _ 
 pub entry_total : (i : ℕ) → i < 256 → get_or TOTALS i 0 ≡ total i
 entry_total i lt = eqb-true _ _ (entry TOTALS (λ b x. eqb x (total b)) 0 0 256 i i (omega arith) refl (omega arith) lt (omega arith))
 
--- at those of an order
+-- what stands at the positions of an order
 parts_of : (v : List ℕ) (i : ℕ) (ws xs ys zs : List ℕ) → map (at v) (0 ∷ 1 ∷ 2 ∷ 3 ∷ []) ≡ ws → map (at v) (4 ∷ 5 ∷ 6 ∷ 7 ∷ []) ≡ xs → map (at v) (8 ∷ 9 ∷ 10 ∷ 11 ∷ []) ≡ ys
     → map (at v) (12 ∷ 13 ∷ 14 ∷ 15 ∷ []) ≡ zs
     → map (at v) (order_of i) ≡ take (size_at i 1) ws ++ (take (size_at i 4) xs ++ (take (size_at i 16) ys ++ take (size_at i 64) zs))

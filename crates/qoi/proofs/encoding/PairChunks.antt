@@ -1,11 +1,10 @@
 -- Eight chunks, two at a time.
-use Rattle.std.proofs.Common.{◌≡◌, ℕ, zero, suc, ◌+◌, ◌*◌, ◌/◌, ◌%◌, ◌<◌, ◌≤◌, List, [], ◌∷◌, ◌++◌, length, take, drop, slice_index, get_or, append_assoc, w32, Fits, sym, ap, ◌∙◌, arith, refl}
+use Rattle.std.proofs.Common.{◌≡◌, ℕ, ◌+◌, ◌*◌, ◌/◌, ◌%◌, ◌<◌, ◌≤◌, List, [], ◌∷◌, ◌++◌, length, take, drop, slice_index, append_assoc, w32, Fits, sym, ap, ◌∙◌, arith}
 use Rattle.std.proofs.lemmas.List.{get_or-take}
-use lib.Lanes.{digits_l, number_l, pick_l, Each1, sum_l}
+use lib.Lanes.{digits_l, number_l, pick_l, Each1}
 use Rattle.qoi.specs.declared.encode.planes.Words.{Words}
 use Rattle.qoi.specs.inner.Pairs.{pair_bytes, pair_number}
 use Rattle.qoi.specs.inner.Stores.{AreSizes, chunk_of, four_chunks, sixteen_chunks}
-use Rattle.qoi.proofs.encoding.PrefixSums.{reduced}
 use Rattle.qoi.proofs.encoding.Shuffles.{four_bytes}
 
 -- two chunks in a vector: four bytes of each, then their alphas

@@ -1,5 +1,5 @@
 -- Each of the 64 orders is right, and what a shuffle by it gives.
-use Rattle.std.proofs.Common.{◌≡◌, ℕ, ◌+◌, ◌*◌, ◌/◌, ◌%◌, ◌<◌, ◌≤◌, ◌&&◌, Bool, true, eqb, eqb-true, List, [], ◌∷◌, ◌++◌, length, take, map, get_or, w8, sym, ap, ◌∙◌, arith, refl}
+use Rattle.std.proofs.Common.{◌≡◌, ℕ, ◌+◌, ◌*◌, ◌/◌, ◌%◌, ◌<◌, ◌≤◌, ◌&&◌, Bool, true, eqb, eqb-true, List, [], ◌∷◌, length, take, map, get_or, w8, sym, ap, ◌∙◌, arith, refl}
 use Rattle.std.specs.Cmp.Lexicographic.{same_text}
 use Rattle.std.specs.Str.{bytes_eq}
 use Rattle.std.proofs.lemmas.Bool.{and_parts}

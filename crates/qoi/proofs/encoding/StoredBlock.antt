@@ -1,4 +1,4 @@
--- A block's chunks, stored four at a time.
+-- A block's chunks, of which each is stored from a number.
 use Rattle.std.proofs.Common.{◌≡◌, ℕ, zero, suc, ◌+◌, ◌*◌, ◌%◌, ◌<◌, ◌≤◌, ◌||◌, if◌then◌else◌, Bool, true, false, List, [], ◌∷◌, ◌++◌, length, map, take, drop, replicate, slice_index, append_assoc, append-nil, bit_and, refl, sym, ap, ◌∙◌, arith}
 use Rattle.std.specs.Prelude.{min, max}
 use Rattle.std.specs.List.{AllByRecursion}
@@ -10,7 +10,7 @@ use Rattle.qoi.specs.inner.BlockLanes.{Lane, AreLanes, mask, fits_luma, fits_dif
 use Rattle.qoi.specs.inner.BlockState.{is_rep, goes_on}
 use Rattle.qoi.specs.inner.Packed.{word}
 use Rattle.qoi.specs.inner.Planes.{AreBlockWords, reds, greens, blues, alphas}
-use Rattle.qoi.specs.inner.Stores.{AreSizes, AreChunkSizes, chunk_of, four_chunks, sixteen_chunks}
+use Rattle.qoi.specs.inner.Stores.{AreSizes, chunk_of, four_chunks, sixteen_chunks}
 use Rattle.std.proofs.lemmas.Nat.{and_le_r}
 use Rattle.qoi.proofs.format.SamePixels.{hash_below}
 use Rattle.qoi.proofs.encoding.SizeHalves.{chunk_is}
@@ -137,14 +137,6 @@ pub first_few : (n : ℕ) (ss : List ℕ) → ((k : ℕ) → slice_index ss k �
 first_few zero ss few = omega arith
 first_few (suc n) [] few = omega arith
 first_few (suc n) (s ∷ ss) few = omega (arith, few 0, first_few n ss (λ k. few (suc k)))
-
--- four numbers that aren't more than m
-pub four_few : (m a b c d : ℕ) → a ≤ m → b ≤ m → c ≤ m → d ≤ m → (k : ℕ) → k < 4 → slice_index (a ∷ b ∷ c ∷ d ∷ []) k ≤ m
-four_few m a b c d la lb lc ld zero lt = la
-four_few m a b c d la lb lc ld (suc zero) lt = lb
-four_few m a b c d la lb lc ld (suc (suc zero)) lt = lc
-four_few m a b c d la lb lc ld (suc (suc (suc zero))) lt = ld
-four_few m a b c d la lb lc ld (suc (suc (suc (suc k)))) lt = absurd (omega arith)
 
 -- the lesser of each size and a number that none is more than
 pub lesser_few : (n m : ℕ) (ss : List ℕ) → length ss ≡ n → ((k : ℕ) → slice_index ss k ≤ m) → zip2 min ss (replicate n m) ≡ ss

@@ -1,4 +1,4 @@
--- Four parts that are written one after the other.
+-- Four parts that are stored one after the other, and sums of eight sizes.
 use lib.Lanes.{sum_l}
 use Rattle.qoi.specs.inner.Stores.{first_sum}
 use Rattle.std.proofs.Common.{◌≡◌, ℕ, ◌+◌, List, [], ◌∷◌, ◌++◌, take, length, slice_index, append_assoc, refl, ap, ◌∙◌, arith}
