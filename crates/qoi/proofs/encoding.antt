@@ -27,6 +27,7 @@ pub mod WrittenOnce
 pub mod WrittenShape
 -- Sixteen pixels at a time: what they write, and the vectors that say so.
 pub mod AllRepeat
+pub mod BlankLanes
 pub mod BlockOut
 pub mod BlockPuts
 pub mod BlockStep
@@ -42,6 +43,7 @@ pub mod LaneStamps
 pub mod LaneTests
 pub mod Lanewise
 pub mod LastCount
+pub mod LastPixels
 pub mod NamedLanes
 pub mod OpaqueBlock
 pub mod OverlaidRuns
@@ -58,6 +60,7 @@ pub mod Shuffles
 pub mod SizeCodes
 pub mod SizeHalves
 pub mod SpelledBlock
+pub mod SpelledPixel
 pub mod StandMasks
 pub mod StyledBlock
 pub mod StoredBlock

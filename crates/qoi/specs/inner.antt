@@ -4,6 +4,7 @@ pub mod Chunks
 pub mod CoderState
 pub mod CoderLoop
 pub mod Filling
+pub mod FreshPixel
 pub mod Hashed
 pub mod Lanes
 pub mod Packed

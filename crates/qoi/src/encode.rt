@@ -16,16 +16,19 @@ ghost use Rattle.qoi.specs.EncoderState.{free_encoder};
 ghost use Rattle.qoi.specs.Sent.{IsFileFor, MakesFile, PutsFile, SendsFile, SendsPart};
 ghost use Rattle.qoi.specs.writers.Writes.{AppendsBeginning, WroteBeginning};
 
-// `block`, `changes`, `counts`, `fours`, `lanes`, `named`, `pairs`, `planes`, `spelling`, `stands`
-// and `stores` are the beginning of a coder by blocks of sixteen pixels, which isn't called yet.
+// `block`, `changes`, `counts`, `fours`, `lanes`, `named`, `packing`, `pairs`, `planes`, `spelling`,
+// `stands` and `stores` are the beginning of a coder by blocks of sixteen pixels, which isn't
+// called yet.
 mod block;
 mod changes;
 mod chunks;
 mod coder;
 mod counts;
 mod fours;
+mod fresh;
 mod lanes;
 mod named;
+mod packing;
 mod pairs;
 pub(crate) mod piece;
 mod planes;

@@ -171,8 +171,7 @@ all_repeats s (p ∷ ps) all =
     goes_on [] all = refl
     goes_on (q ∷ qs) all = (and_parts (pixel_eq q p) (all_repeat p qs) all).0
 
--- The chunk before the repeats that are carried after pixels names their position if the last fresh
--- one of these stood there.
+-- the chunk before the carried repeats names their position if the last fresh pixel stood there
 end_placed : (s : State) (ps : List RgbaPixel) → all_repeat s.last ps ≡ false
     → (end_state s ps).placed ≡ get_or (stand_tests s.held ps) (length ps - 1 - (end_state s ps).carry) false
 end_placed s [] mixed = absurd (true≢false mixed)

@@ -1,6 +1,6 @@
 -- The coder's loop from one state to the next: over the repeats of a group, over a fresh pixel, and
 -- over a piece that is sent.
-use Rattle.std.proofs.Common.{◌≡◌, ◌≢◌, ◌⊎◌, inl, inr, ℕ, suc, ◌%◌, ◌<◌, List, [], ◌∷◌, ◌++◌, get_or, replicate, Option, None, Some, refl, sym, ap, ◌∙◌, subst, append-nil, append_assoc}
+use Rattle.std.proofs.Common.{◌≡◌, ◌≢◌, ◌⊎◌, inl, inr, ℕ, suc, Bool, ◌%◌, ◌<◌, List, [], ◌∷◌, ◌++◌, get_or, replicate, Option, None, Some, refl, sym, ap, ◌∙◌, subst, append-nil, append_assoc}
 use Rattle.std.specs.List.{AllByRecursion, slice_get}
 use Rattle.std.proofs.lemmas.Grind.{flat_map-append}
 use Rattle.qoi.specs.declared.chunk.Chunk.{Chunk}
@@ -47,6 +47,13 @@ styled_none : (style : Style) (past : Past) (before : _) → styled style past b
 styled_none Reference past before = refl
 styled_none Places past before = refl
 styled_none Tight past before = refl
+
+-- what is known of the chunk before matters in style Places alone
+single_same : (style : Style) (begun placed named : Bool) (place n : ℕ) → (style ≡ Places → placed ≡ named)
+    → single_chunk style begun placed place n ≡ single_chunk style begun named place n
+single_same Reference begun placed named place n is = refl
+single_same Places begun placed named place n is = ap (λ b. single_chunk Places begun b place n) (is refl)
+single_same Tight begun placed named place n is = refl
 
 -- the first chunks' bytes are those written next
 bytes_next : (ahead bytes next : List ℕ) (first left : List Chunk) → ahead ≡ bytes ++ chunk_bytes (first ++ left) → next ≡ bytes ++ chunk_bytes first
@@ -101,7 +108,8 @@ module _ {N : ℕ} {w : Writing} {pixels : List RgbaPixel} {table : List RgbaPix
           single_is : single coder n ≡ single_chunk w.list.style (some_fresh b.past) (names b.before (hash (previous b.past))) (hash (previous b.past)) n
           single_is =
               let place = coder.within ∙ ap hash b.state.last_is in
-              λ i. single_chunk (b.style_is i) (b.state.begun_is i) (b.state.placed_is i) (place i) n
+              single_same coder.style coder.begun coder.placed (names b.before (hash (previous b.past))) coder.place n b.state.placed_is
+              ∙ (λ i. single_chunk (b.style_is i) (b.state.begun_is i) (names b.before (hash (previous b.past))) (place i) n)
 
           other_first : (slice_get rest 0 ≢ Some coder.last) ⊎ (n % 62 ≡ 0) → slice_get rest 0 ≢ Some coder.last
           other_first (inl other) = other

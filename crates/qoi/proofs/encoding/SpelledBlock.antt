@@ -1,7 +1,7 @@
 -- A block's vectors, lane by lane.
-use Rattle.std.proofs.Common.{◌≡◌, ℕ, suc, List, [], ◌∷◌, length, map, take, refl, sym, ap, ◌∙◌}
+use Rattle.std.proofs.Common.{◌≡◌, ℕ, suc, false, List, [], ◌∷◌, length, map, take, refl, sym, ap, ◌∙◌, arith}
 use Rattle.std.specs.List.{AllByRecursion}
-use Rattle.qoi.specs.Qoi.{RgbaPixel, IsPixel, Past, hash, seen, pixel_eq}
+use Rattle.qoi.specs.Qoi.{RgbaPixel, IsPixel, Past, pixel, hash, seen, pixel_eq}
 use Rattle.qoi.specs.inner.BlockLanes.{Lane, AreLanes, mask, stand_mask}
 use Rattle.qoi.specs.inner.LaneVectors.{AreBy}
 use Rattle.qoi.specs.inner.BlockState.{State, lanes_of}
@@ -22,6 +22,14 @@ lanes_are held q (p ∷ ps) iq a = (record { px_is = a.0; before_is = iq }, lane
 pub stands_lanes : (held : Past) (q : RgbaPixel) (ps : List RgbaPixel) → map stand_mask (lanes_of held q ps) ≡ map mask (stand_tests held ps)
 stands_lanes held q [] = refl
 stands_lanes held q (p ∷ ps) = ap (λ z. mask (pixel_eq (seen held (hash p)) p) ∷ z) (stands_lanes (p ∷ held) p ps)
+
+-- any pixel may stand before a block
+abbrev pub before : State
+before = record { held = []; last = pixel 0 0 0 0; carry = 0; placed = false }
+
+-- this one
+pub before_is : IsPixel before.last
+before_is = record { r = omega arith; g = omega arith; b = omega arith; a = omega arith }
 
 module _ (s : State) (ps : List RgbaPixel) (long : length ps ≡ 16) (are : AllByRecursion IsPixel ps) (last : IsPixel s.last) where
   -- the lanes of the block

@@ -13,7 +13,7 @@ use Rattle.qoi.proofs.format.ChunkSteps.{previous_repeats, repeats_after, right_
 pub use Rattle.qoi.specs.inner.CoderLoop.{RunMayFollow}
 
 -- what holds throughout two lists holds throughout both joined
-all_append : {A : Type 0} (P : A → Type 0) (xs ys : List A) → AllByRecursion P xs → AllByRecursion P ys → AllByRecursion P (xs ++ ys)
+pub all_append : {A : Type 0} (P : A → Type 0) (xs ys : List A) → AllByRecursion P xs → AllByRecursion P ys → AllByRecursion P (xs ++ ys)
 all_append P [] ys h k = k
 all_append P (x ∷ xs) ys h k = (h.0, all_append P xs ys h.1 k)
 

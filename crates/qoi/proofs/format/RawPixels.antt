@@ -21,7 +21,7 @@ pub pixels_of_are : (channels : ℕ) (bytes : List ℕ) → IsChannels channels 
 pixels_of_are channels bytes is h = by_channels (λ c. AllByRecursion IsPixel (pixels_of c bytes)) is (pixels_3 bytes h) (pixels_4 bytes h)
 
 -- three bytes each: they are opaque
-opaque_3 : (bytes : List ℕ) → AreOpaque (pixels_of_3 bytes)
+pub opaque_3 : (bytes : List ℕ) → AreOpaque (pixels_of_3 bytes)
 opaque_3 (r ∷ g ∷ b ∷ bytes) = (refl, opaque_3 bytes)
 opaque_3 _ = tt
 

@@ -1,5 +1,5 @@
 -- The state between two blocks of sixteen pixels.
-use Rattle.std.specs.Prelude.{◌≡◌, ℕ, Bool, true, ◌&&◌, List, [], ◌∷◌, ◌++◌, replicate, slice_index}
+use Rattle.std.specs.Prelude.{◌≡◌, ℕ, zero, suc, Bool, true, ◌&&◌, List, [], ◌∷◌, ◌++◌, replicate, slice_index}
 use Rattle.qoi.specs.declared.encode.planes.Planes.{Planes}
 use Rattle.qoi.specs.declared.types.Style.TheVariants.{Places}
 use Rattle.qoi.specs.Qoi.{RgbaPixel, blank, pixel, pixel_eq}
@@ -36,6 +36,12 @@ final q (p ∷ ps) = final p ps
 -- these pixels, and n repeats of the last of them
 abbrev pub padded : List RgbaPixel → ℕ → List RgbaPixel
 padded ps n = ps ++ replicate n (final blank ps)
+
+-- the pixel at an index, or the last one if the index is past it, or else q
+abbrev pub nth_or_last : RgbaPixel → List RgbaPixel → ℕ → RgbaPixel
+nth_or_last q [] k = q
+nth_or_last q (p ∷ ps) zero = p
+nth_or_last q (p ∷ ps) (suc k) = nth_or_last p ps k
 
 -- from whatever the table holds, no fresh pixel is transparent black that isn't at its position
 abbrev pub MissesNoBlank : List RgbaPixel → Planes → List RgbaPixel → Type 0

@@ -7,6 +7,7 @@ use Rattle.qoi.specs.declared.encode.coder.Coder.{Coder}
 use Rattle.qoi.specs.declared.encode.piece.Piece.{Piece}
 use Rattle.qoi.specs.declared.encode.quad.Quad.{Quad}
 use Rattle.qoi.specs.declared.types.Style.{Style}
+use Rattle.qoi.specs.declared.types.Style.TheVariants.{Places}
 use Rattle.qoi.specs.Qoi.{RgbaPixel, IsPixel, Past, previous, hash, chunk_bytes}
 use Rattle.qoi.specs.Raw.{pixels_of}
 use Rattle.qoi.specs.Written.{RunsFollowFull, WrittenBy}
@@ -47,13 +48,13 @@ pub record Writing : Type 0 where
   pub ahead : List ℕ
 
 -- What a coder and its table keep after these pixels and this chunk: the pixels that the style puts
--- at their positions, the last pixel, whether a fresh one came, and whether the chunk names the
--- last pixel's position.
+-- at their positions, the last pixel, whether a fresh one came, and in style Places whether the
+-- chunk names the last pixel's position.
 pub record CoderAfter {N : ℕ} (past : Past) (before : Option Chunk) (table : List RgbaPixel) (coder : Coder N) : Type 0 where
   pub table_is : Holds table (held_in coder.style past)
   pub last_is : coder.last ≡ previous past
   pub begun_is : coder.begun ≡ some_fresh past
-  pub placed_is : coder.placed ≡ names before (hash (previous past))
+  pub placed_is : coder.style ≡ Places → coder.placed ≡ names before (hash (previous past))
 
 -- `single_chunk` for a group of n repeats of the coder's last pixel
 abbrev pub single : {N : ℕ} → Coder N → ℕ → Chunk

@@ -5,26 +5,27 @@ ghost use Rattle.qoi.specs.declared.types.Style.TheVariants.{Places, Tight};
 ghost use Rattle.qoi.specs.Qoi.{RgbaPixel, IsPixel, run_max, hash};
 ghost use Rattle.qoi.specs.Raw.{IsChannels, pixels_of};
 ghost use Rattle.qoi.specs.inner.BlockLanes.{mask};
-ghost use Rattle.qoi.specs.inner.BlockState.{State, group_bytes};
+ghost use Rattle.qoi.specs.inner.BlockState.{State, NoneBlank, group_bytes};
 ghost use Rattle.qoi.specs.inner.Blocks.{BetweenBlocks, MissesNoBlank, padded, last_pixel, all_repeat};
 ghost use Rattle.qoi.specs.inner.CoderLoop.{Writing};
 ghost use Rattle.qoi.specs.inner.Planes.{ArePacked, ArePlanes, AreOpaque, block_pixels};
 ghost use Rattle.qoi.specs.inner.Spelling.{IsLastOf, HasSpelled};
 ghost use Rattle.qoi.specs.inner.Stands.{stand_tests};
+ghost use Rattle.qoi.specs.inner.Table.{Holds};
 
 use crate::consts::QOI_OP_RUN;
 use crate::encode::changes::{all_set, find_changes};
-use crate::encode::lanes::places;
+use crate::encode::lanes::{blanks, is_zero, places};
 use crate::encode::named::name_single;
+use crate::encode::packing::first_sixteen;
 use crate::encode::planes::{Planes, Words, make_planes};
-use crate::encode::quad::read_four;
 use crate::encode::spelling::{Spelled, spell_block};
 use crate::encode::stands::put_block;
 use crate::encode::stores::put_sixteen;
 use crate::encode::table::PixelTable;
 use crate::packed::Packed;
 use crate::types::Style::{self, Places, Reference, Tight};
-use crate::utils::{pick, skip};
+use crate::utils::pick;
 use std::simd::prelude::*;
 
 /// The most bytes of a block's chunks, and of the run before them.
@@ -65,12 +66,7 @@ impl Block {
             ≡ padded (take 16 (pixels_of N bytes.now)) (16 - length bytes.now / N) }
         ensures opaque { N ≡ 3 → AreOpaque (block_pixels result.words) }
     {
-        Block::new(Words {
-            one: read_four::<N>(bytes),
-            two: read_four::<N>(skip(bytes, 4 * N)),
-            three: read_four::<N>(skip(bytes, 8 * N)),
-            four: read_four::<N>(skip(bytes, 12 * N)),
-        })
+        Block::new(first_sixteen::<N>(bytes))
     }
 
     /// Whether all sixteen pixels repeat the last one of the block before.
@@ -82,12 +78,34 @@ impl Block {
         all_set(find_changes(before, self.planes).rep)
     }
 
-    /// Whether a fresh pixel of the block may be transparent black that isn't at its index position.
+    /// Whether a fresh pixel of the block may be transparent black that doesn't stand at its index
+    /// position.
     #[inline(always)]
     pub(super) fn may_miss_blank(self, table: &PixelTable, before: Planes) -> bool
         ensures { IsFalse result → MissesNoBlank table.now before (block_pixels self.words) }
     {
-        true
+        !(self.has_no_fresh_blank(before) || self.keeps_blank(table))
+    }
+
+    // Whether no fresh pixel of the block is transparent black.
+    #[inline(always)]
+    fn has_no_fresh_blank(self, before: Planes) -> bool
+        ensures { IsTrue result → (s : State) → IsLastOf s.last before
+            → NoneBlank s (block_pixels self.words) }
+    {
+        let rep = find_changes(before, self.planes).rep;
+        all_set(rep | !blanks(self.planes))
+    }
+
+    // Whether transparent black stands at its index position, where no other pixel of the block is
+    // put.
+    #[inline(always)]
+    fn keeps_blank(self, table: &PixelTable) -> bool
+        ensures { IsTrue result → (s : State) → Holds table.now s.held
+            → NoneBlank s (block_pixels self.words) }
+    {
+        let elsewhere = !is_zero(places(self.planes));
+        table.at(0).is_same(Packed::blank()) & all_set(blanks(self.planes) | elsewhere)
     }
 
     // The chunks of the block, of which those pixels that `stands` says stand at their index
@@ -157,7 +175,8 @@ impl Carry {
     }
 
     // The byte of the repeats before a fresh pixel: that of a run; in style `Places`, of a single
-    // repeat, the index position, if the chunk before isn't that position. Unused if there are none.
+    // repeat, the index position, if the chunk before isn't that position. If there are none, it
+    // isn't used.
     #[inline(always)]
     fn byte(self, style: Style) -> u8
         requires { self.count < run_max }

@@ -1,6 +1,6 @@
 //! From each of sixteen pixels to the next: the steps of all channels, and which pixels repeat.
 ghost use Rattle.std.specs.Prelude.{◌≡◌, Bool, List, length, map};
-ghost use Rattle.qoi.specs.Qoi.{RgbaPixel, IsPixel};
+ghost use Rattle.qoi.specs.Qoi.{RgbaPixel};
 ghost use Rattle.qoi.specs.inner.BlockLanes.{mask};
 ghost use Rattle.qoi.specs.inner.BlockState.{State, lanes_of};
 ghost use Rattle.qoi.specs.inner.Counts.{all_true};
@@ -24,7 +24,7 @@ pub(super) struct Changes {
 /// The steps to sixteen pixels, where `before` has the sixteen before them.
 #[inline(always)]
 pub(super) fn find_changes(before: Planes, p: Planes) -> Changes
-    ensures { (s : State) (ps : List RgbaPixel) → AreSixteen ps → IsPixel s.last → ArePlanes ps p
+    ensures { (s : State) (ps : List RgbaPixel) → AreSixteen ps → ArePlanes ps p
         → IsLastOf s.last before → AreChanges (lanes_of s.held s.last ps) result }
 {
     let steps = Steps {

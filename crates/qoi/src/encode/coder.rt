@@ -16,6 +16,7 @@ ghost use Rattle.qoi.specs.inner.Piece.{kept_bytes};
 ghost use Rattle.qoi.specs.inner.Table.{Holds};
 
 use crate::consts::QOI_OP_RUN;
+use crate::encode::fresh::spell_pixel;
 use crate::encode::piece::{Piece, REPEATS_AT_ONCE};
 use crate::encode::quad::{ALL_REPEAT, Quad, READ, pixels_before, read_four, repeating};
 use crate::encode::runs::{repeats_in_quad, repeats_of};
@@ -152,6 +153,39 @@ impl<const N: usize> Coder<N> {
         };
         let number = pick(stands, u32::from(place), number);
         piece.keep_chunk::<N>(quad.pixels[lane], number, pick(stands, 1, size));
+    }
+
+    // Writes the fresh pixel `px`: by its index position if it stands there, else as
+    // `chunk_if_absent` has it. Then puts it at its position, and it is the last pixel.
+    #[inline(always)]
+    fn write_pixel<const ROOM: usize>(
+        &mut self,
+        table: &mut PixelTable,
+        piece: &mut Piece<ROOM>,
+        px: Packed,
+    )
+        requires room { piece.old.end + chunk_max ≤ ROOM }
+        requires opaque { N ≡ 3 → px.a ≡ 255 }
+        ensures end { piece.new.end ≤ piece.old.end + chunk_max }
+        ensures last { self.new.last ≡ px }
+        ensures written { (w : Writing) (rest : List RgbaPixel) → px ≢ self.old.last
+            → CoderBetween w (px ∷ rest) table.old self.old (kept_bytes piece.old)
+            → CoderBetween w rest table.new self.new (kept_bytes piece.new) }
+    {
+        let place = px.hash_index();
+        let stands = table.at(place).is_same(px);
+        let (number, size) = spell_pixel::<N>(self.last, px);
+        let (number, size) = self.chunk_if_absent(table, px, number, size);
+        table.put(place, px);
+        *self = Coder {
+            style: self.style,
+            last: px,
+            place,
+            begun: true,
+            placed: stands,
+        };
+        let number = pick(stands, u32::from(place), number);
+        piece.keep_chunk::<N>(px.number(), number, pick(stands, 1, size));
     }
 
     // Writes the chunks of all four pixels, each of which is fresh.

@@ -1,8 +1,8 @@
 //! Sixteen pixels, a byte of each in the lanes of a vector: the steps from the pixels before them,
 //! which of them repeat, and their index positions (QOI specification 1.0, "Chunks").
 ghost use lib.Lanes.{number_l, zip2};
-ghost use Rattle.std.specs.Prelude.{◌≡◌, ◌+◌, ◌-◌, ◌%◌, ℕ, List, [], ◌∷◌, min, max, map, take, drop, slice_index};
-ghost use Rattle.qoi.specs.Qoi.{RgbaPixel, hash};
+ghost use Rattle.std.specs.Prelude.{◌≡◌, ◌+◌, ◌-◌, ◌%◌, ◌<◌, ℕ, List, [], ◌∷◌, min, max, map, take, drop, slice_index};
+ghost use Rattle.qoi.specs.Qoi.{RgbaPixel, blank, hash, pixel_eq};
 ghost use Rattle.qoi.specs.inner.BlockLanes.{Lane, mask, zero_mask, step_of};
 ghost use Rattle.qoi.specs.inner.Planes.{AreSixteen, ArePlanes};
 ghost use Rattle.qoi.specs.inner.LaneVectors.{AreBy, AreSteps};
@@ -69,7 +69,8 @@ pub(super) fn later(before: u8x16, v: u8x16) -> u8x16
 /// The steps of one channel, where `before` has the sixteen pixels before these.
 #[inline(always)]
 pub(super) fn channel_steps(before: u8x16, v: u8x16) -> u8x16
-    ensures { (ls : List Lane) (f : RgbaPixel → ℕ) → AreBy ls (λ l. f l.px) v
+    ensures byte { slice_index before 15 < 256 }
+    ensures steps { (ls : List Lane) (f : RgbaPixel → ℕ) → AreBy ls (λ l. f l.px) v
         → AreBy ls (λ l. f l.before) (slice_index before 15 ∷ take 15 v)
         → AreBy ls (λ l. (f l.px + (256 - f l.before)) % 256) result }
 {
@@ -96,4 +97,13 @@ pub(super) fn places(p: Planes) -> u8x16
     let a2 = p.a + p.a;
     let a4 = a2 + a2;
     (h + a4 + a4 + a2 + p.a) & u8x16::splat(63)
+}
+
+/// 255 in each lane whose pixel is transparent black, else 0.
+#[inline(always)]
+pub(super) fn blanks(p: Planes) -> u8x16
+    ensures { (ps : List RgbaPixel) → AreSixteen ps → ArePlanes ps p
+        → result ≡ map (λ p. mask (pixel_eq p blank)) ps }
+{
+    is_zero(p.r | p.g | p.b | p.a)
 }

@@ -2,5 +2,5 @@
 use Rattle.qoi.proofs.encoding.Lanewise.{two, again}
 use Rattle.qoi.proofs.encode.lanes.channel_steps.Goals as goal
 
-pub returns : goal.returns
-returns c = λ ls f v w. two _ v (again _ c.later.ensures w)
+pub returns-clause-steps : goal.returns-clause-steps
+returns-clause-steps c = λ ls f v w. two _ v (again _ c.later.ensures w)

@@ -1,19 +1,12 @@
 -- Sums of bytes, lane by lane.
-use Rattle.std.proofs.Common.{◌≡◌, ℕ, false, List, [], map, arith, ◌∙◌}
-use Rattle.qoi.specs.Qoi.{RgbaPixel, IsPixel, pixel, hash}
+use Rattle.std.proofs.Common.{◌≡◌, ℕ, List, [], map, ◌∙◌}
+use Rattle.qoi.specs.Qoi.{RgbaPixel, pixel, hash}
 use Rattle.qoi.specs.inner.BlockLanes.{Lane}
-use Rattle.qoi.specs.inner.BlockState.{State, lanes_of}
+use Rattle.qoi.specs.inner.BlockState.{lanes_of}
 use Rattle.qoi.proofs.encoding.LaneTests.{place_lane, themselves}
 use Rattle.qoi.proofs.encoding.Lanewise.{two, flat, each, sum_8}
-use Rattle.qoi.proofs.encoding.SpelledBlock.{plane_by}
+use Rattle.qoi.proofs.encoding.SpelledBlock.{before, before_is, plane_by}
 use Rattle.qoi.proofs.encode.lanes.places.Goals as goal
-
--- any pixel may stand before them
-abbrev before : State
-before = record { held = []; last = pixel 0 0 0 0; carry = 0; placed = false }
-
-before_is : IsPixel (pixel 0 0 0 0)
-before_is = record { r = omega arith; g = omega arith; b = omega arith; a = omega arith }
 
 pub returns : goal.returns
 returns c = λ ps sixteen are.

@@ -19,6 +19,6 @@ returns c = λ is.
     let sixteen = block_sixteen c.args.self.words c.args.self.packed in
     let s : State = record { held = []; last = q; carry = 0; placed = false } in
     let ls : List Lane = lanes_of [] q ps in
-    let changes = c.find_changes.ensures s ps sixteen is c.args.self.planes_are (record { red = refl; green = refl; blue = refl; alpha = refl }) in
+    let changes = c.find_changes.ensures s ps sixteen c.args.self.planes_are (record { red = refl; green = refl; blue = refl; alpha = refl }) in
     c.all_set.ensures (map is_rep ls) (length-map ls is_rep ∙ lanes_long [] q ps ∙ sixteen.long) (changes.rep_is.is ∙ sym (map-map mask is_rep ls))
     ∙ all_lanes [] q q ps refl

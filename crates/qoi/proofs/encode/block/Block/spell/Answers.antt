@@ -21,7 +21,7 @@ returns-in-Reference c = λ s last before carry placed stands places.
     let words = c.args.self.words in
     let ps : List RgbaPixel = block_pixels words in
     let sixteen = block_sixteen words c.args.self.packed in
-    let changes = c.find_changes-changes.ensures s ps sixteen last c.args.self.planes_are before in
+    let changes = c.find_changes-changes.ensures s ps sixteen c.args.self.planes_are before in
     let block : IsBlock s ps c.args.self.planes.r c.args.stands c.args.places = record { sixteen = sixteen; last_is = last; red_is = c.args.self.planes_are.r_is; stands_are = stands; places_are = places } in
     plain c.args.style s ps c.spell_block-x.result c.in-Reference.is (c.spell_block-x.ensures s ps carry changes block)
 
@@ -30,7 +30,7 @@ returns-in-Places c = λ s last before carry placed stands places.
     let words = c.args.self.words in
     let ps : List RgbaPixel = block_pixels words in
     let sixteen = block_sixteen words c.args.self.packed in
-    let changes = c.find_changes-changes.ensures s ps sixteen last c.args.self.planes_are before in
+    let changes = c.find_changes-changes.ensures s ps sixteen c.args.self.planes_are before in
     let block : IsBlock s ps c.args.self.planes.r c.args.stands c.args.places = record { sixteen = sixteen; last_is = last; red_is = c.args.self.planes_are.r_is; stands_are = stands; places_are = places } in
     let plain = c.spell_block-x.ensures s ps carry changes block in
     subst (λ z. HasSpelled z s ps c.name_single.result) (sym c.in-Places.is) (c.name_single.ensures s ps sixteen (placed c.in-Places.is) stands places plain)

@@ -9,7 +9,7 @@ returns-clause-state g c table holds = record {
   table_is = none_held c.args.style table holds;
   last_is = c.start-last.ensures;
   begun_is = refl;
-  placed_is = refl;
+  placed_is = λ _. refl;
 }
 
 pub invariant_of-result : goal.invariant_of-result

@@ -27,5 +27,5 @@ returns-clause-state g c past before s =
       ];
       last_is = s.last_is ∙ sym (previous_repeats n past);
       begun_is = s.begun_is ∙ sym (ap has_pixel (fresh_repeats n past));
-      placed_is = placed_repeats n past before c.args.self.now.placed s.placed_is;
+      placed_is = λ is. placed_repeats n past before c.args.self.now.placed (s.placed_is is);
     }

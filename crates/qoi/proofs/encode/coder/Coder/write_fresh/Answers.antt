@@ -72,5 +72,5 @@ returns-clause-written g c w rest last_is differs b =
       table_is = fresh_held style past c.args.table.now c.put.new.self p new state.table_is c.put.ensures;
       last_is = refl;
       begun_is = sym (ap has_pixel (fresh_more past p new));
-      placed_is = d.4;
+      placed_is = λ _. d.4;
     })

@@ -1,0 +1,28 @@
+-- Lane by lane.
+use Rattle.std.proofs.Common.{List, map, sym, ◌∙◌}
+use Rattle.std.proofs.lemmas.List.{length-map}
+use Rattle.std.proofs.lemmas.Simd.{map-map}
+use Rattle.qoi.specs.Qoi.{RgbaPixel}
+use Rattle.qoi.specs.inner.BlockLanes.{Lane, mask}
+use Rattle.qoi.specs.inner.BlockState.{lanes_of, is_rep}
+use Rattle.qoi.specs.inner.LaneVectors.{AreBy}
+use Rattle.qoi.specs.inner.Planes.{block_pixels}
+use Rattle.qoi.proofs.encoding.BlankLanes.{is_blank, or_not, is_plain, plain_lanes}
+use Rattle.qoi.proofs.encoding.LaneTests.{themselves}
+use Rattle.qoi.proofs.encoding.Lanewise.{two, one, each, not_8}
+use Rattle.qoi.proofs.encoding.PackedBlock.{block_sixteen}
+use Rattle.qoi.proofs.encode.block.Block.has_no_fresh_blank.Goals as goal
+
+pub returns : goal.returns
+returns c = λ set s before.
+    let ps : List RgbaPixel = block_pixels c.args.self.words in
+    let sixteen = block_sixteen c.args.self.words c.args.self.packed in
+    let ls : List Lane = lanes_of s.held s.last ps in
+    let rep = (c.find_changes.ensures s ps sixteen c.args.self.planes_are before).rep_is in
+    let black : AreBy ls (λ l. mask (is_blank l.px)) c.blanks.result = record {
+      long = rep.long;
+      are = rep.are;
+      is = c.blanks.ensures ps sixteen c.args.self.planes_are ∙ sym (themselves (λ p. mask (is_blank p)) s.held s.last ps);
+    } in
+    let all = each (λ l. mask (is_plain l)) (two _ rep (one not_8 black)) (λ l is. or_not (is_rep l) (is_blank l.px)) in
+    plain_lanes s ps (sym (c.all_set.ensures (map is_plain ls) (length-map ls is_plain ∙ rep.long) (all.is ∙ sym (map-map mask is_plain ls))) ∙ set)

@@ -1,0 +1,15 @@
+-- Four pixels at a time.
+use Rattle.std.proofs.Common.{ℕ, List, map, take, arith, ap, ◌∙◌}
+use Rattle.qoi.specs.Raw.{pixels_of}
+use Rattle.qoi.specs.inner.Packed.{word}
+use Rattle.qoi.proofs.encoding.ReadBlock.{sixteen_read}
+use Rattle.qoi.proofs.encode.packing.read_sixteen.Goals as goal
+
+pub returns : goal.returns
+returns g c =
+    let four = λ (x : List ℕ). map word (take 4 (pixels_of g.row.N x)) in
+    sixteen_read g.row.N c.args.bytes.now c.read_four.result c.read_four-2.result c.read_four-3.result c.read_four-4.result
+    c.requires.channels (λ i. omega (arith, c.type_inv.bytes i)) c.requires.enough c.read_four.ensures.lanes
+    (c.read_four-2.ensures.lanes ∙ ap four c.skip.ensures)
+    (c.read_four-3.ensures.lanes ∙ ap four c.skip-2.ensures)
+    (c.read_four-4.ensures.lanes ∙ ap four c.skip-3.ensures)

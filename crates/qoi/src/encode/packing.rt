@@ -1,0 +1,99 @@
+//! The first sixteen pixels of raw bytes, packed.
+ghost use Rattle.std.specs.Prelude.{◌≡◌, ◌+◌, ◌-◌, ◌*◌, ◌/◌, ◌%◌, ◌≤◌, ◌<◌, ℕ, [], ◌∷◌, length, take};
+ghost use Rattle.qoi.specs.declared.encode.packing.TheConstants.{READ_SIXTEEN};
+ghost use Rattle.qoi.specs.Qoi.{blank};
+ghost use Rattle.qoi.specs.Raw.{IsChannels, pixels_of};
+ghost use Rattle.qoi.specs.inner.Blocks.{padded, nth_or_last};
+ghost use Rattle.qoi.specs.inner.Packed.{word};
+ghost use Rattle.qoi.specs.inner.Planes.{AreOpaque, block_pixels};
+
+use crate::encode::planes::Words;
+use crate::encode::quad::read_four;
+use crate::packed::Packed;
+use crate::utils::skip;
+use std::simd::prelude::*;
+
+/// With this many bytes sixteen pixels can be read at once, in three channels too, where they have
+/// only 48.
+pub(super) const READ_SIXTEEN: usize = 64;
+
+/// The first sixteen pixels, packed; if there are fewer, then repeats of the last one follow.
+#[inline(always)]
+pub(super) fn first_sixteen<const N: usize>(bytes: &[u8]) -> Words
+    requires channels { IsChannels N }
+    requires whole { length bytes.now % N ≡ 0 }
+    requires some { 0 < length bytes.now }
+    ensures pixels { block_pixels result
+        ≡ padded (take 16 (pixels_of N bytes.now)) (16 - length bytes.now / N) }
+    ensures opaque { N ≡ 3 → AreOpaque (block_pixels result) }
+{
+    if bytes.len() < READ_SIXTEEN {
+        return padded_sixteen::<N>(bytes);
+    }
+    read_sixteen::<N>(bytes)
+}
+
+// Reads four pixels at a time.
+#[inline(always)]
+fn read_sixteen<const N: usize>(bytes: &[u8]) -> Words
+    requires channels { IsChannels N }
+    requires enough { READ_SIXTEEN ≤ length bytes.now }
+    ensures { block_pixels result ≡ take 16 (pixels_of N bytes.now) }
+{
+    Words {
+        one: read_four::<N>(bytes),
+        two: read_four::<N>(skip(bytes, 4 * N)),
+        three: read_four::<N>(skip(bytes, 8 * N)),
+        four: read_four::<N>(skip(bytes, 12 * N)),
+    }
+}
+
+// Reads pixel by pixel, and the last pixel again past the end.
+#[cold]
+#[inline(never)]
+fn padded_sixteen<const N: usize>(bytes: &[u8]) -> Words
+    requires channels { IsChannels N }
+    requires whole { length bytes.now % N ≡ 0 }
+    requires some { 0 < length bytes.now }
+    ensures { block_pixels result
+        ≡ padded (take 16 (pixels_of N bytes.now)) (16 - length bytes.now / N) }
+{
+    Words {
+        one: four_pixels::<N>(bytes, 0),
+        two: four_pixels::<N>(bytes, 4 * N),
+        three: four_pixels::<N>(bytes, 8 * N),
+        four: four_pixels::<N>(bytes, 12 * N),
+    }
+}
+
+// Four pixels, of which the first begins at the `at`th byte.
+fn four_pixels<const N: usize>(bytes: &[u8], at: usize) -> u32x4
+    requires channels { IsChannels N }
+    requires whole { length bytes.now % N ≡ 0 }
+    requires some { 0 < length bytes.now }
+    requires early { at ≤ 12 * N }
+    ensures { (k : ℕ) → at ≡ N * k
+        → result ≡ word (nth_or_last blank (pixels_of N bytes.now) k)
+        ∷ word (nth_or_last blank (pixels_of N bytes.now) (k + 1))
+        ∷ word (nth_or_last blank (pixels_of N bytes.now) (k + 2))
+        ∷ word (nth_or_last blank (pixels_of N bytes.now) (k + 3)) ∷ [] }
+{
+    u32x4::from_array([
+        one_pixel::<N>(bytes, at),
+        one_pixel::<N>(bytes, at + N),
+        one_pixel::<N>(bytes, at + 2 * N),
+        one_pixel::<N>(bytes, at + 3 * N),
+    ])
+}
+
+// The pixel that begins at the `at`th byte, or the last one if the bytes end before.
+fn one_pixel<const N: usize>(bytes: &[u8], at: usize) -> u32
+    requires channels { IsChannels N }
+    requires whole { length bytes.now % N ≡ 0 }
+    requires some { 0 < length bytes.now }
+    ensures { (k : ℕ) → at ≡ N * k
+        → result ≡ word (nth_or_last blank (pixels_of N bytes.now) k) }
+{
+    let last = bytes.len() - N;
+    Packed::read::<N>(skip(bytes, at.min(last))).number()
+}
