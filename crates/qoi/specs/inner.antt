@@ -17,9 +17,10 @@ pub mod BlockLanes
 pub mod BlockState
 pub mod Blocks
 pub mod CarryLoop
-pub mod Close
 pub mod Counts
+pub mod Fours
 pub mod LaneVectors
+pub mod Pairs
 pub mod Planes
 pub mod Spelling
 pub mod Stands

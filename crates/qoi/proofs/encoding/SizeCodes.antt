@@ -5,7 +5,7 @@ use Rattle.qoi.specs.Qoi.{RgbaPixel, IsPixel, Past, pixel_eq}
 use Rattle.qoi.specs.inner.BlockBytes.{sizes}
 use Rattle.qoi.specs.inner.BlockLanes.{mask, fits_diff, fits_luma, keeps, size_by, size_of}
 use Rattle.qoi.specs.inner.BlockState.{lane_of, lanes_of, goes_on}
-use Rattle.qoi.specs.inner.Close.{HasCode}
+use Rattle.qoi.specs.inner.Fours.{HasCode}
 use Rattle.qoi.proofs.encoding.BlockOut.{repeat_size}
 use Rattle.qoi.proofs.format.SamePixels.{pixel_eq-true}
 

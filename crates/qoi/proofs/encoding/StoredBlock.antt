@@ -1,17 +1,16 @@
--- A block's chunks, stored four at a time.
+-- A block's chunks, of which each is stored from a number.
 use Rattle.std.proofs.Common.{◌≡◌, ℕ, zero, suc, ◌+◌, ◌*◌, ◌%◌, ◌<◌, ◌≤◌, ◌||◌, if◌then◌else◌, Bool, true, false, List, [], ◌∷◌, ◌++◌, length, map, take, drop, replicate, slice_index, append_assoc, append-nil, bit_and, refl, sym, ap, ◌∙◌, arith}
 use Rattle.std.specs.Prelude.{min, max}
 use Rattle.std.specs.List.{AllByRecursion}
 use lib.Lanes.{sum_l, number_l, zip2}
 use Rattle.qoi.specs.declared.encode.planes.Words.{Words}
-use Rattle.qoi.specs.declared.encode.stores.FourChunks.{FourChunks}
 use Rattle.qoi.specs.Qoi.{RgbaPixel, IsPixel, pixel, hash}
 use Rattle.qoi.specs.inner.BlockBytes.{firsts, sizes, chunks_of}
 use Rattle.qoi.specs.inner.BlockLanes.{Lane, AreLanes, mask, fits_luma, fits_diff, keeps, near, far, first_of, second_of, second_by, first_by, size_by}
 use Rattle.qoi.specs.inner.BlockState.{is_rep, goes_on}
 use Rattle.qoi.specs.inner.Packed.{word}
 use Rattle.qoi.specs.inner.Planes.{AreBlockWords, reds, greens, blues, alphas}
-use Rattle.qoi.specs.inner.Stores.{AreSizes, chunk_of, four_chunks, four_of, sixteen_chunks}
+use Rattle.qoi.specs.inner.Stores.{AreSizes, chunk_of, four_chunks, sixteen_chunks}
 use Rattle.std.proofs.lemmas.Nat.{and_le_r}
 use Rattle.qoi.proofs.format.SamePixels.{hash_below}
 use Rattle.qoi.proofs.encoding.SizeHalves.{chunk_is}
@@ -139,14 +138,6 @@ first_few zero ss few = omega arith
 first_few (suc n) [] few = omega arith
 first_few (suc n) (s ∷ ss) few = omega (arith, few 0, first_few n ss (λ k. few (suc k)))
 
--- four numbers that aren't more than m
-pub four_few : (m a b c d : ℕ) → a ≤ m → b ≤ m → c ≤ m → d ≤ m → (k : ℕ) → k < 4 → slice_index (a ∷ b ∷ c ∷ d ∷ []) k ≤ m
-four_few m a b c d la lb lc ld zero lt = la
-four_few m a b c d la lb lc ld (suc zero) lt = lb
-four_few m a b c d la lb lc ld (suc (suc zero)) lt = lc
-four_few m a b c d la lb lc ld (suc (suc (suc zero))) lt = ld
-four_few m a b c d la lb lc ld (suc (suc (suc (suc k)))) lt = absurd (omega arith)
-
 -- the lesser of each size and a number that none is more than
 pub lesser_few : (n m : ℕ) (ss : List ℕ) → length ss ≡ n → ((k : ℕ) → slice_index ss k ≤ m) → zip2 min ss (replicate n m) ≡ ss
 lesser_few zero m [] long few = refl
@@ -184,43 +175,32 @@ one_part l f s i = chunk_is (pixel f (second_of l) l.px.g l.px.b) l.px.a s i
 regroup : (a b c d e : List ℕ) → (a ++ (b ++ (c ++ d))) ++ e ≡ a ++ (b ++ (c ++ (d ++ e)))
 regroup a b c d e = append_assoc a (b ++ (c ++ d)) e ∙ ap (λ z. a ++ z) (append_assoc b (c ++ d) e ∙ ap (λ z. b ++ z) (append_assoc c d e))
 
--- four chunks from these lanes
-abbrev chunks_from : List Lane → List ℕ → FourChunks
-chunks_from ls fs = record { numbers = map word (chunk_pixels ls fs); alphas = map (λ l. l.px.a) ls }
-
 -- four lanes' chunks, and those that follow
 four_parts : (k l m n : Lane) (e f g h s t u v : ℕ) (ls : List Lane) (fs ss : List ℕ)
     → AllByRecursion IsPixel (chunk_pixels (k ∷ l ∷ m ∷ n ∷ ls) (e ∷ f ∷ g ∷ h ∷ fs))
-    → four_chunks s t u v (chunks_from (k ∷ l ∷ m ∷ n ∷ []) (e ∷ f ∷ g ∷ h ∷ [])) ++ chunks_of ls fs ss
+    → four_chunks (s ∷ t ∷ u ∷ v ∷ []) (map word (chunk_pixels (k ∷ l ∷ m ∷ n ∷ []) (e ∷ f ∷ g ∷ h ∷ []))) (map (λ (l : Lane). l.px.a) (k ∷ l ∷ m ∷ n ∷ [])) 0 ++ chunks_of ls fs ss
     ≡ chunks_of (k ∷ l ∷ m ∷ n ∷ ls) (e ∷ f ∷ g ∷ h ∷ fs) (s ∷ t ∷ u ∷ v ∷ ss)
 four_parts k l m n e f g h s t u v ls fs ss i =
     (λ j. (one_part k e s i.0 j ++ (one_part l f t i.1.0 j ++ (one_part m g u i.1.1.0 j ++ one_part n h v i.1.1.1.0 j))) ++ chunks_of ls fs ss)
     ∙ regroup (lane_chunk k e s) (lane_chunk l f t) (lane_chunk m g u) (lane_chunk n h v) (chunks_of ls fs ss)
-
--- four chunks from their numbers and alphas
-abbrev made_of : List ℕ → List ℕ → FourChunks
-made_of ns bs = record { numbers = ns; alphas = bs }
 
 -- all sixteen
 pub sixteen_parts : (ls : List Lane) (fs ss bs : List ℕ) (words : Words) → length ls ≡ 16 → length fs ≡ 16 → length ss ≡ 16
     → bs ≡ map (λ l. l.px.a) ls → AllByRecursion IsPixel (chunk_pixels ls fs) → AreBlockWords (chunk_pixels ls fs) words
     → sixteen_chunks ss words bs ≡ chunks_of ls fs ss
 sixteen_parts (l0 ∷ l1 ∷ l2 ∷ l3 ∷ l4 ∷ l5 ∷ l6 ∷ l7 ∷ l8 ∷ l9 ∷ l10 ∷ l11 ∷ l12 ∷ l13 ∷ l14 ∷ l15 ∷ []) (f0 ∷ f1 ∷ f2 ∷ f3 ∷ f4 ∷ f5 ∷ f6 ∷ f7 ∷ f8 ∷ f9 ∷ f10 ∷ f11 ∷ f12 ∷ f13 ∷ f14 ∷ f15 ∷ []) (s0 ∷ s1 ∷ s2 ∷ s3 ∷ s4 ∷ s5 ∷ s6 ∷ s7 ∷ s8 ∷ s9 ∷ s10 ∷ s11 ∷ s12 ∷ s13 ∷ s14 ∷ s15 ∷ []) bs words ll lf ls ea i are =
-    let a0 = ap (λ z. four_of z 0) ea in
-    let a1 = ap (λ z. four_of z 4) ea in
-    let a2 = ap (λ z. four_of z 8) ea in
-    let a3 = ap (λ z. four_of z 12) ea in
-    let c0 = four_chunks s0 s1 s2 s3 (chunks_from (l0 ∷ l1 ∷ l2 ∷ l3 ∷ []) (f0 ∷ f1 ∷ f2 ∷ f3 ∷ [])) in
-    let c1 = four_chunks s4 s5 s6 s7 (chunks_from (l4 ∷ l5 ∷ l6 ∷ l7 ∷ []) (f4 ∷ f5 ∷ f6 ∷ f7 ∷ [])) in
-    let c2 = four_chunks s8 s9 s10 s11 (chunks_from (l8 ∷ l9 ∷ l10 ∷ l11 ∷ []) (f8 ∷ f9 ∷ f10 ∷ f11 ∷ [])) in
-    let c3 = four_chunks s12 s13 s14 s15 (chunks_from (l12 ∷ l13 ∷ l14 ∷ l15 ∷ []) (f12 ∷ f13 ∷ f14 ∷ f15 ∷ [])) in
+    let all : List ℕ = s0 ∷ s1 ∷ s2 ∷ s3 ∷ s4 ∷ s5 ∷ s6 ∷ s7 ∷ s8 ∷ s9 ∷ s10 ∷ s11 ∷ s12 ∷ s13 ∷ s14 ∷ s15 ∷ [] in
+    let bytes : List ℕ = map (λ (l : Lane). l.px.a) (l0 ∷ l1 ∷ l2 ∷ l3 ∷ l4 ∷ l5 ∷ l6 ∷ l7 ∷ l8 ∷ l9 ∷ l10 ∷ l11 ∷ l12 ∷ l13 ∷ l14 ∷ l15 ∷ []) in
+    let c0 = four_chunks all (map word (chunk_pixels (l0 ∷ l1 ∷ l2 ∷ l3 ∷ []) (f0 ∷ f1 ∷ f2 ∷ f3 ∷ []))) bytes 0 in
+    let c1 = four_chunks all (map word (chunk_pixels (l4 ∷ l5 ∷ l6 ∷ l7 ∷ []) (f4 ∷ f5 ∷ f6 ∷ f7 ∷ []))) bytes 4 in
+    let c2 = four_chunks all (map word (chunk_pixels (l8 ∷ l9 ∷ l10 ∷ l11 ∷ []) (f8 ∷ f9 ∷ f10 ∷ f11 ∷ []))) bytes 8 in
+    let c3 = four_chunks all (map word (chunk_pixels (l12 ∷ l13 ∷ l14 ∷ l15 ∷ []) (f12 ∷ f13 ∷ f14 ∷ f15 ∷ []))) bytes 12 in
     let rest3 = four_parts l12 l13 l14 l15 f12 f13 f14 f15 s12 s13 s14 s15 [] [] [] i.1.1.1.1.1.1.1.1.1.1.1.1 in
     let rest2 = four_parts l8 l9 l10 l11 f8 f9 f10 f11 s8 s9 s10 s11 (l12 ∷ l13 ∷ l14 ∷ l15 ∷ []) (f12 ∷ f13 ∷ f14 ∷ f15 ∷ []) (s12 ∷ s13 ∷ s14 ∷ s15 ∷ []) i.1.1.1.1.1.1.1.1 in
     let rest1 = four_parts l4 l5 l6 l7 f4 f5 f6 f7 s4 s5 s6 s7 (l8 ∷ l9 ∷ l10 ∷ l11 ∷ l12 ∷ l13 ∷ l14 ∷ l15 ∷ []) (f8 ∷ f9 ∷ f10 ∷ f11 ∷ f12 ∷ f13 ∷ f14 ∷ f15 ∷ []) (s8 ∷ s9 ∷ s10 ∷ s11 ∷ s12 ∷ s13 ∷ s14 ∷ s15 ∷ []) i.1.1.1.1 in
     let rest0 = four_parts l0 l1 l2 l3 f0 f1 f2 f3 s0 s1 s2 s3 (l4 ∷ l5 ∷ l6 ∷ l7 ∷ l8 ∷ l9 ∷ l10 ∷ l11 ∷ l12 ∷ l13 ∷ l14 ∷ l15 ∷ []) (f4 ∷ f5 ∷ f6 ∷ f7 ∷ f8 ∷ f9 ∷ f10 ∷ f11 ∷ f12 ∷ f13 ∷ f14 ∷ f15 ∷ []) (s4 ∷ s5 ∷ s6 ∷ s7 ∷ s8 ∷ s9 ∷ s10 ∷ s11 ∷ s12 ∷ s13 ∷ s14 ∷ s15 ∷ []) i in
-    (λ j. (four_chunks s0 s1 s2 s3 (made_of (are.one_are j) (a0 j)) ++ four_chunks s4 s5 s6 s7 (made_of (are.two_are j) (a1 j)))
-    ++ (four_chunks s8 s9 s10 s11 (made_of (are.three_are j) (a2 j)) ++ four_chunks s12 s13 s14 s15 (made_of (are.four_are j) (a3 j))))
-    ∙ append_assoc c0 c1 (c2 ++ c3)
+    (λ j. four_chunks all (are.one_are j) (ea j) 0 ++ (four_chunks all (are.two_are j) (ea j) 4
+    ++ (four_chunks all (are.three_are j) (ea j) 8 ++ four_chunks all (are.four_are j) (ea j) 12)))
     ∙ ap (λ z. c0 ++ (c1 ++ (c2 ++ z))) (sym (append-nil c3) ∙ rest3)
     ∙ ap (λ z. c0 ++ (c1 ++ z)) rest2 ∙ ap (λ z. c0 ++ z) rest1 ∙ rest0
 sixteen_parts (l0 ∷ l1 ∷ l2 ∷ l3 ∷ l4 ∷ l5 ∷ l6 ∷ l7 ∷ l8 ∷ l9 ∷ l10 ∷ l11 ∷ l12 ∷ l13 ∷ l14 ∷ l15 ∷ []) (f0 ∷ f1 ∷ f2 ∷ f3 ∷ f4 ∷ f5 ∷ f6 ∷ f7 ∷ f8 ∷ f9 ∷ f10 ∷ f11 ∷ f12 ∷ f13 ∷ f14 ∷ f15 ∷ []) ss bs words ll lf ls ea i are = absurd (omega arith)

@@ -1,5 +1,5 @@
 -- Sixteen chunks, in either way.
-use Rattle.std.proofs.Common.{◌≡◌, ◌≢◌, ◌+◌, ◌≤◌, ◌<◌, ℕ, List, ◌++◌, length, map, slice_index, take, arith, refl, sym, ap, ◌∙◌, subst}
+use Rattle.std.proofs.Common.{◌≡◌, ◌≢◌, ◌+◌, ◌<◌, ℕ, List, ◌++◌, length, map, slice_index, take, arith, sym, ap, ◌∙◌, subst}
 use Rattle.std.specs.List.{AllByRecursion}
 use Rattle.qoi.specs.declared.encode.planes.Planes.{Planes}
 use Rattle.qoi.specs.declared.encode.planes.Words.{Words}
@@ -9,7 +9,7 @@ use Rattle.qoi.specs.Qoi.{RgbaPixel, IsPixel, run_max}
 use Rattle.qoi.specs.inner.BlockBytes.{chunks_of}
 use Rattle.qoi.specs.inner.BlockLanes.{Lane}
 use Rattle.qoi.specs.inner.BlockState.{State, lanes_of, block_bytes}
-use Rattle.qoi.specs.inner.Close.{HaveCodes, HasCode}
+use Rattle.qoi.specs.inner.Fours.{HaveCodes, HasCode}
 use Rattle.qoi.specs.inner.Planes.{AreSixteen, ArePlanes, AreBlockWords}
 use Rattle.qoi.specs.inner.Spelling.{HasSpelled}
 use Rattle.qoi.specs.inner.Stores.{sixteen_chunks}
@@ -19,7 +19,6 @@ use Rattle.qoi.proofs.encoding.SpelledBlock.{lanes_long, lanes_are}
 use Rattle.qoi.proofs.encoding.StoredBlock.{chunk_pixels, pixels_long, first_plane, second_plane, green_plane, blue_plane, sizes_long, sixteen_parts}
 use Rattle.qoi.proofs.encoding.StyledBlock.{firsts_in_long, pixels_in, out_in}
 use Rattle.qoi.proofs.encode.stores.put_sixteen.Goals as goal
-use Rattle.qoi.proofs.encode.stores.put_sixteen.Goals.{then-this-eq3-via-then-this-eq3, then-this-eq3-via-else-this-eq3+then-none_of_five}
 
 -- sixteen chunks of what is spelled out are the block's
 block_is : (style : Style) (s : State) (ps : List RgbaPixel) (x : Spelled) (p : Planes) (words : Words) → AreSixteen ps → IsPixel s.last → ArePlanes ps p → HasSpelled style s ps x → s.carry + 16 < run_max
@@ -52,16 +51,11 @@ have_codes style s ps x sixteen spelled none = λ k.
 
 pub returns-then-this-eq3-clause-written : goal.returns-then-this-eq3-clause-written
 returns-then-this-eq3-clause-written g c = λ style s ps sixteen last planes spelled carry few.
-    c.put_close.ensures.written c.args.p.a (have_codes style s ps c.args.x sixteen spelled (none few))
+    let none : (k : ℕ) → slice_index c.args.x.size k ≢ 5 = λ k e. omega (arith, few k, e, c.if-this-eq3.true) in
+    c.put_fours.ensures.written c.args.p.a (have_codes style s ps c.args.x sixteen spelled none)
     ∙ ap (λ z. take c.args.at c.args.out.now ++ z) (block_is style s ps c.args.x c.args.p c.make_words-words.result sixteen last planes spelled carry c.make_words-words.ensures)
-  where
-    none : ((k : ℕ) → slice_index c.args.x.size k ≤ g.row.N + 1) → (k : ℕ) → slice_index c.args.x.size k ≢ 5
-    none few = elim c.then-this-eq3.branch [
-      | then-this-eq3-via-then-this-eq3 w ↦ λ k e. omega (arith, few k, e, w.if-this-eq3.true)
-      | then-this-eq3-via-else-this-eq3+then-none_of_five w ↦ w.if-none_of_five.ensures refl
-    ]
 
-pub returns-clause-written : goal.returns-clause-written
-returns-clause-written g c = λ style s ps sixteen last planes spelled carry few.
-    c.put_each.ensures.written few
+pub returns-else-this-eq3-clause-written : goal.returns-else-this-eq3-clause-written
+returns-else-this-eq3-clause-written g c = λ style s ps sixteen last planes spelled carry few.
+    c.put_pairs.ensures.written (λ k. omega (arith, few k, c.requires.channels, c.if-this-eq3.false))
     ∙ ap (λ z. take c.args.at c.args.out.now ++ z) (block_is style s ps c.args.x c.args.p c.make_words-words.result sixteen last planes spelled carry c.make_words-words.ensures)

@@ -1,0 +1,6 @@
+-- Codes joined by a product.
+use Rattle.qoi.proofs.encoding.FourChunks.{codes_joined}
+use Rattle.qoi.proofs.encode.fours.join.Goals as goal
+
+pub returns-clause-joined : goal.returns-clause-joined
+returns-clause-joined c = λ cs are. codes_joined cs c.args.codes are

@@ -1,0 +1,85 @@
+-- A shuffle of sixteen bytes by positions, the bytes of four numbers, and sixteen bytes stored.
+use Rattle.std.proofs.Common.{◌≡◌, ℕ, suc, ◌+◌, ◌-◌, ◌*◌, ◌/◌, ◌%◌, ◌<◌, ◌≤◌, ◌&&◌, Bool, true, false, cond, eqb, ltb, List, [], ◌∷◌, ◌++◌, length, take, drop, map, get_or, w8, refl, sym, ap, ◌∙◌, arith}
+use Rattle.std.proofs.lemmas.Bool.{and_parts, ltb-true}
+use Rattle.std.proofs.lemmas.List.{take-map, map-append, length-take-le, length-drop, take-append-le}
+use Rattle.std.proofs.lemmas.Simd.{swz_l, SwzOk, put_chunk_whole}
+use Rattle.std.proofs.Math.Seq.{take-append-add}
+use borrow.Rule.Slice.PartMut.{put_mid, post_of}
+use lib.Lanes.{all_below, digits_l, number_l, put_chunk}
+use mir.Val.{zeroes}
+
+-- sixteen positions in a vector
+abbrev pub are_positions : List ℕ → Bool
+are_positions js = all_below 16 js && eqb (length js) 16
+
+-- what stands at a position
+abbrev pub at : List ℕ → ℕ → ℕ
+at v j = get_or v j 0
+
+-- a shuffle reads these positions
+pub shuffled : (v : List ℕ) (i : ℕ) (js : List ℕ) → i + length js ≤ 16 → all_below 16 js ≡ true → swz_l w8 16 v i js ≡ map (at v) js
+shuffled v i [] l b = refl
+shuffled v i (j ∷ js) l b =
+    let p = and_parts (ltb j 16) (all_below 16 js) b in
+    let low = ltb-true j 16 p.0 in
+    let kept : zeroes 16 w8 j ≡ false = grind arith in
+    let here : 16 * (i / 16) + j ≡ j = omega arith in
+    λ k. cond (kept k) 0 (get_or v (here k) 0) ∷ shuffled v (suc i) js (omega arith) p.1 k
+
+-- and may read them
+pub may_shuffle : (i : ℕ) (js : List ℕ) → i + length js ≤ 16 → all_below 16 js ≡ true → SwzOk w8 16 16 i js
+may_shuffle i [] l b = tt
+may_shuffle i (j ∷ js) l b =
+    let p = and_parts (ltb j 16) (all_below 16 js) b in
+    let low = ltb-true j 16 p.0 in
+    (grind arith, may_shuffle (suc i) js (omega arith) p.1)
+
+-- the lowest byte of a number of 32 bits with more above it
+byte_0 : (a r : ℕ) → (a + 4294967296 * r) % 256 ≡ a % 256
+byte_0 a r = omega arith
+
+-- the next
+byte_1 : (a r : ℕ) → (a + 4294967296 * r) / 256 % 256 ≡ a / 256 % 256
+byte_1 a r = omega arith
+
+-- the third
+byte_2 : (a r : ℕ) → (a + 4294967296 * r) / 256 / 256 % 256 ≡ a / 256 / 256 % 256
+byte_2 a r = omega arith
+
+-- the highest
+byte_3 : (a r : ℕ) → (a + 4294967296 * r) / 256 / 256 / 256 % 256 ≡ a / 256 / 256 / 256 % 256
+byte_3 a r = omega arith
+
+-- what is above
+above : (a r : ℕ) → a < 4294967296 → (a + 4294967296 * r) / 256 / 256 / 256 / 256 ≡ r
+above a r lt = omega arith
+
+-- a number's four bytes, and those of what is above
+number_bytes : (n a r : ℕ) → a < 4294967296 → digits_l 256 (suc (suc (suc (suc n)))) (a + 4294967296 * r) ≡ digits_l 256 4 a ++ digits_l 256 n r
+number_bytes n a r lt = λ i. byte_0 a r i ∷ byte_1 a r i ∷ byte_2 a r i ∷ byte_3 a r i ∷ digits_l 256 n (above a r lt i)
+
+-- the bytes of four
+pub four_bytes : (a b c d : ℕ) → a < 4294967296 → b < 4294967296 → c < 4294967296 → d < 4294967296
+    → digits_l 256 16 (number_l 4294967296 (a ∷ b ∷ c ∷ d ∷ [])) ≡ digits_l 256 4 a ++ (digits_l 256 4 b ++ (digits_l 256 4 c ++ digits_l 256 4 d))
+four_bytes a b c d la lb lc ld =
+    number_bytes 12 a (number_l 4294967296 (b ∷ c ∷ d ∷ [])) la
+    ∙ ap (λ z. digits_l 256 4 a ++ z) (number_bytes 8 b (number_l 4294967296 (c ∷ d ∷ [])) lb
+    ∙ ap (λ z. digits_l 256 4 b ++ z) (number_bytes 4 c (number_l 4294967296 (d ∷ [])) lc
+    ∙ ap (λ z. digits_l 256 4 c ++ z) (number_bytes 0 d 0 ld)))
+
+-- what stands at some of the positions, and at others
+pub part_of : (v : List ℕ) (n : ℕ) (js rest xs ys : List ℕ) → map (at v) js ≡ xs → map (at v) rest ≡ ys → map (at v) (take n js ++ rest) ≡ take n xs ++ ys
+part_of v n js rest xs ys first others = map-append (at v) (take n js) rest ∙ (λ j. sym (take-map (at v) n js) j ++ others j) ∙ ap (λ z. take n z ++ ys) first
+
+-- sixteen bytes stored, of which some count
+pub sixteen_put : (at count : ℕ) (out bytes : List ℕ) → at + 16 ≤ length out → length bytes ≡ 16 → count ≤ 16
+    → take (at + count) (put_mid at (at + 16 - at) out (put_chunk 0 (take (at + 16 - at) (drop at out)) bytes)) ≡ take at out ++ take count bytes
+sixteen_put at count out bytes room long few =
+    let size : at + 16 - at ≡ 16 = omega arith in
+    let held : length (take 16 (drop at out)) ≡ 16 = length-take-le 16 (drop at out) (omega (arith, length-drop at out)) in
+    let rest = post_of at 16 out in
+    (λ i. take (at + count) (put_mid at (size i) out (put_chunk 0 (take (size i) (drop at out)) bytes)))
+    ∙ ap (λ z. take (at + count) (take at out ++ (z ++ rest))) (put_chunk_whole (take 16 (drop at out)) bytes (held ∙ sym long))
+    ∙ ap (λ z. take (z + count) (take at out ++ (bytes ++ rest))) (sym (length-take-le at out (omega arith)))
+    ∙ take-append-add (take at out) (bytes ++ rest) count
+    ∙ ap (λ z. take at out ++ z) (take-append-le count bytes rest (omega arith))
