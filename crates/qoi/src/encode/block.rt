@@ -197,9 +197,10 @@ impl Carry {
 }
 
 /// Stores the chunks of a block that doesn't repeat whole, from `at` on, but for the repeats at its
-/// end. Returns where the chunks end, and what is carried then.
-#[inline(always)]
-pub(super) fn write_block<const N: usize>(
+/// end. Returns where the chunks end, and what is carried then. `STYLE` and `ROOM` give each loop that
+/// calls it a function of its own, which the compiler inlines there.
+#[inline]
+pub(super) fn write_block<const N: usize, const STYLE: u8, const ROOM: usize>(
     style: Style,
     table: &mut PixelTable,
     out: &mut [u8],

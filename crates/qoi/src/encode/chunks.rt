@@ -11,7 +11,6 @@ use crate::encode::table::PixelTable;
 use crate::error::Result;
 use crate::types::Channels::{self, Rgb, Rgba};
 use crate::types::Style::{self, Places, Reference, Tight};
-use crate::utils::skip;
 use crate::writers::Writer;
 
 // `encode_chunks` for `N` channels. `STYLE` is a number for each style, so that each has a function
@@ -37,16 +36,16 @@ fn encode_pixels<W: Writer, const N: usize, const STYLE: u8, const ROOM: usize>(
     let mut coder = Coder::<N>::new(style);
     let mut carry = coder.carry();
     let mut rest = data;
-    while !rest.is_empty() {
-        let (count, after) = coder.write_front(style, &mut table, piece, rest, carry);
+    loop {
+        let (left, after) = coder.fill::<STYLE, ROOM>(style, &mut table, piece, rest, carry);
+        rest = left;
         carry = after;
-        rest = skip(rest, N * count);
-        if piece.is_full() {
-            piece.send(writer)?;
+        if !piece.is_full() {
+            coder.write_last(&mut table, piece, carry);
+            return Ok(());
         }
+        piece.send(writer)?;
     }
-    coder.write_last(&mut table, piece, carry);
-    Ok(())
 }
 
 /// Writes an image's raw bytes as chunks into the piece, and sends a full piece to the writer each

@@ -283,7 +283,7 @@ impl<const N: usize> Coder<N> {
     // Writes the block at the front, but for the repeats at its end. Returns how many pixels it has, and
     // what is carried.
     #[inline(always)]
-    fn write_block<const ROOM: usize>(
+    fn write_block<const STYLE: u8, const ROOM: usize>(
         style: Style,
         table: &mut PixelTable,
         piece: &mut Piece<ROOM>,
@@ -314,7 +314,7 @@ impl<const N: usize> Coder<N> {
             result.1.before result.1.count result.1.placed (kept_bytes piece.new) }
     {
         let count = (data.len() / N).min(16);
-        let after = piece.keep_block::<N>(style, table, block, carry);
+        let after = piece.keep_block::<N, STYLE>(style, table, block, carry);
         // The pixels that pad the block didn't come.
         let left = after.count.saturating_sub((16 - count) as u8);
         (
@@ -327,9 +327,8 @@ impl<const N: usize> Coder<N> {
     }
 
     // Writes the repeats at the front, or these and the fresh pixel after them. Returns how many
-    // pixels came, and what is carried. It isn't inlined, so that the loop over blocks is small
-    // enough for the compiler.
-    #[inline(never)]
+    // pixels came, and what is carried.
+    #[inline(always)]
     fn write_group<const ROOM: usize>(
         &mut self,
         table: &mut PixelTable,
@@ -365,13 +364,13 @@ impl<const N: usize> Coder<N> {
         (count, self.carry())
     }
 
-    /// Writes what is at the front of raw bytes: a block, but for the repeats at its end; or all
-    /// repeats there, if a block's pixels repeat; or these and the fresh pixel after them, if it is
-    /// the first one, or in style `Tight` one may be given by another index position than its own.
-    /// Returns how many pixels came, and what is carried. The coder's style is passed, too, since
-    /// where it is called it is a constant.
+    // Writes what is at the front of raw bytes: a block, but for the repeats at its end; or all
+    // repeats there, if a block's pixels repeat; or these and the fresh pixel after them, if it is
+    // the first one, or in style `Tight` one may be given by another index position than its own.
+    // Returns how many pixels came, and what is carried. The coder's style is passed, too, since
+    // where it is called it is a constant.
     #[inline(always)]
-    pub(super) fn write_front<const ROOM: usize>(
+    fn write_front<const STYLE: u8, const ROOM: usize>(
         &mut self,
         style: Style,
         table: &mut PixelTable,
@@ -397,10 +396,50 @@ impl<const N: usize> Coder<N> {
     {
         let block = Block::first::<N>(data);
         if self.takes(style, table, block, carry.before) {
-            return Coder::<N>::write_block(style, table, piece, data, block, carry);
+            return Coder::<N>::write_block::<STYLE, ROOM>(style, table, piece, data, block, carry);
         }
         let repeats = self.begun && block.repeats(carry.before);
         self.write_group(table, piece, data, carry, repeats)
+    }
+
+    /// Writes until the piece is full or nothing is left. Returns the rest, and what is carried.
+    ///
+    /// The coder's style is passed, too, since it is a constant where this is called. `STYLE` is a
+    /// number for it, so that each style has a loop of its own.
+    pub(super) fn fill<'a, const STYLE: u8, const ROOM: usize>(
+        &mut self,
+        style: Style,
+        table: &mut PixelTable,
+        piece: &mut Piece<ROOM>,
+        data: &'a [u8],
+        carry: Carry,
+    ) -> (&'a [u8], Carry)
+        requires whole { length «data».now % N ≡ 0 }
+        requires few { carry.count < 16 }
+        requires opaque { N ≡ 3 → slice_index carry.before.a 15 ≡ 255 }
+        requires room { piece.old.end < ROOM - PAST }
+        ensures end { piece.new.end < ROOM - PAST + BLOCK_MAX }
+        ensures all { piece.new.end < ROOM - PAST → length result.0.now ≡ 0 }
+        ensures some { ROOM - PAST ≤ piece.new.end
+            → length result.0.now < length «data».entry.now }
+        ensures whole { length result.0.now % N ≡ 0 }
+        ensures few { result.1.count < 16 }
+        ensures opaque { N ≡ 3 → slice_index result.1.before.a 15 ≡ 255 }
+        ensures written { (w : Writing) → w.list.style ≡ style
+            → StepBetween w (pixels_of N «data».entry.now) table.old self.old carry
+            (kept_bytes piece.old)
+            → StepBetween w (pixels_of N result.0.now) table.new self.new result.1
+            (kept_bytes piece.new) }
+    {
+        let mut rest = data;
+        let mut carry = carry;
+        while !piece.is_full() && !rest.is_empty() {
+            let (count, after) =
+                self.write_front::<STYLE, ROOM>(style, table, piece, rest, carry);
+            carry = after;
+            rest = skip(rest, N * count);
+        }
+        (rest, carry)
     }
 
     /// Writes the repeats that are carried at the end.

@@ -133,7 +133,7 @@ impl<'a, const ROOM: usize> Piece<'a, ROOM> {
     /// Appends the chunks of a block that doesn't repeat whole, but for the repeats at its end, as
     /// `write_block` stores them.
     #[inline(always)]
-    pub(super) fn keep_block<const N: usize>(
+    pub(super) fn keep_block<const N: usize, const STYLE: u8>(
         &mut self,
         style: Style,
         table: &mut PixelTable,
@@ -157,7 +157,9 @@ impl<'a, const ROOM: usize> Piece<'a, ROOM> {
             → (pads ≤ result.count) × BetweenBlocks w rest table.new block.planes
             (result.count - pads) result.placed (kept_bytes self.new) }
     {
-        let (end, after) = write_block::<N>(style, table, self.bytes, self.end, block, carry);
+        let (end, after) = write_block::<N, STYLE, ROOM>(
+            style, table, self.bytes, self.end, block, carry,
+        );
         self.end = end;
         after
     }

@@ -1,5 +1,5 @@
 -- The coder stands between two steps, and the piece isn't full.
-use Rattle.std.proofs.Common.{◌≡◌, ◌-◌, ◌%◌, ◌<◌, ◌≤◌, length, slice_index}
+use Rattle.std.proofs.Common.{◌≡◌, ◌-◌, ◌%◌, ◌<◌, length, slice_index}
 use Rattle.qoi.specs.declared.encode.piece.TheConstants.{PAST}
 use Rattle.qoi.specs.inner.Piece.{kept_bytes}
 use Rattle.qoi.proofs.encoding.PieceByPiece.{PieceBetween}
@@ -9,7 +9,6 @@ abbrev pub invariant-loop-rest : goal.invariant-loop-rest
 invariant-loop-rest g l = record {
   end : l.piece.end < g.row.ROOM - PAST;
   whole : length l.rest % g.row.N ≡ 0;
-  shorter : length l.rest ≤ length l.data;
   few : l.carry.count < 16;
   opaque : g.row.N ≡ 3 → slice_index l.carry.before.a 15 ≡ 255;
   state : PieceBetween g.W.Writer.wrote g.W.Writer.room

@@ -1,0 +1,25 @@
+-- A step further.
+use Rattle.std.proofs.Common.{◌≡◌, ◌-◌, ◌*◌, ◌%◌, ◌<◌, length, ap, ◌∙◌, arith}
+use Rattle.std.proofs.lemmas.List.{length-drop}
+use Rattle.qoi.proofs.encoding.GroupRuns.{some_bytes, whole_rest}
+use Rattle.qoi.proofs.encode.coder.Coder.fill.Goals as goal
+
+pub loop-style-preserved : goal.loop-style-preserved
+loop-style-preserved g c =
+    let n = g.row.N in
+    let i = c.loop-style.invariant in
+    let step = c.write_front-count.ensures in
+    let count = c.write_front-count.result.0 in
+    let rest = c.loop-style.rest.now in
+    let channels = c.args.self.now.channels in
+    let size : length c.skip-rest.result.now ≡ length rest - n * count = ap length c.skip-rest.ensures ∙ length-drop (n * count) rest in
+    let some : 0 < n * count = some_bytes n count channels step.some in
+    record {
+      end = omega (arith, step.end, c.is_full.ensures.room c.loop-style-test.true);
+      left = omega (arith, size, i.left);
+      some = λ _. omega (arith, size, i.left, some, step.inside);
+      whole = ap (λ k. k % n) size ∙ whole_rest n count (length rest) channels i.whole step.inside;
+      few = step.few;
+      opaque = step.opaque;
+      written = λ w is b. rw c.skip-rest.ensures (step.written w is (i.written w is b));
+    }
