@@ -162,10 +162,14 @@ fn decode_chunks<R: Read, const N: usize, const F: usize, const RUN_FITS: bool>(
     let least = if RUN_FITS { RUN_ROOM } else { 1 };
     let mut last = last;
     let mut at = at;
-    while least <= out.len() - at {
-        let decoded = next_chunk::<R, N, F, RUN_FITS>(reader, table, last, out, at)?;
-        last = decoded.last;
-        at = decoded.at;
+    if least <= out.len() {
+        // Computed once, so that the loop compares without a subtraction and needn't keep the size.
+        let top = out.len() - least;
+        while at <= top {
+            let decoded = next_chunk::<R, N, F, RUN_FITS>(reader, table, last, out, at)?;
+            last = decoded.last;
+            at = decoded.at;
+        }
     }
     Ok(Reached { last, at })
 }

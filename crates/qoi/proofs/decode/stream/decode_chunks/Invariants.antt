@@ -4,13 +4,13 @@ use Rattle.std.specs.Io.KnownBytes.{Consumes}
 use Rattle.qoi.specs.inner.Filling.{filling, DecoderBetween}
 use Rattle.qoi.proofs.decode.stream.decode_chunks.Given as goal
 
-abbrev pub invariant-loop-out : goal.invariant-loop-out
-invariant-loop-out g l = record {
+abbrev pub invariant-loop-at : goal.invariant-loop-at
+invariant-loop-at g l = record {
   within : l.at ≤ length l.out;
   below : 256 ≤ l.least → l.fn.at < length l.initial.out → l.at < length l.out;
   between : (n : ℕ) (start : Option (List ℕ)) → DecoderBetween g.row.F g.row.N n (Consumes start (g.R.Read.remaining l.initial.reader)) (filling l.initial.table l.fn.last l.initial.out l.fn.at)
       → DecoderBetween g.row.F g.row.N n (Consumes start (g.R.Read.remaining l.reader)) (filling l.table l.last l.out l.at);
 }
 
-abbrev pub decreases-loop-out : goal.decreases-loop-out
-decreases-loop-out g l = length l.out - l.at
+abbrev pub decreases-loop-at : goal.decreases-loop-at
+decreases-loop-at g l = length l.out - l.at
