@@ -10,11 +10,7 @@ pub mod PieceSent
 pub mod PixelBlock
 pub mod PlacedLists
 pub mod Spelled
-pub mod SpelledLanes
 pub mod RunBytes
-pub mod QuadGroups
-pub mod QuadLoop
-pub mod QuadSteps
 pub mod StillToWrite
 pub mod StreamSent
 pub mod StyledGroup
@@ -32,8 +28,12 @@ pub mod BlockOut
 pub mod BlockPuts
 pub mod BlockStep
 pub mod BlockWritten
+pub mod CloseChunks
+pub mod CloseOrders
 pub mod CoderLink
 pub mod FourFours
+pub mod FrontBlock
+pub mod FreshBits
 pub mod LaneBits
 pub mod LaneChunk
 pub mod LaneMasks
@@ -42,6 +42,7 @@ pub mod LaneTests
 pub mod Lanewise
 pub mod LastCount
 pub mod LastPixels
+pub mod LoneFresh
 pub mod NamedLanes
 pub mod OpaqueBlock
 pub mod OverlaidRuns
@@ -52,6 +53,7 @@ pub mod PlaneWords
 pub mod PrefixSums
 pub mod ReadBlock
 pub mod RunningMost
+pub mod SizeCodes
 pub mod SizeHalves
 pub mod SpelledBlock
 pub mod SpelledPixel

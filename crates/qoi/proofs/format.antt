@@ -10,11 +10,11 @@ pub mod ImageHeader
 pub mod Lanes
 pub mod LaneRuns
 pub mod LaneBytes
+pub mod LaneWords
 pub mod OneVerdict
 pub mod PackedPixels
 pub mod PartOfChunk
 pub mod PixelBlocks
-pub mod Quads
 pub mod RawPixels
 pub mod SamePixels
 pub mod SeenTable

@@ -1,14 +1,14 @@
 -- What readers' loops refuse, states of loops, what the table of index positions holds, pixels as
--- single numbers, four at a time, and kept bytes.
+-- single numbers, steps from pixel to pixel, and kept bytes.
 pub mod Chunks
 pub mod CoderState
 pub mod CoderLoop
 pub mod Filling
 pub mod FreshPixel
 pub mod Hashed
-pub mod Lanes
 pub mod Packed
 pub mod Piece
+pub mod Steps
 pub mod Table
 -- Sixteen pixels at a time: in planes, lanes of chunks, counted repeats, the state between two
 -- blocks, pixels put into the table, and stored chunks.
@@ -16,6 +16,8 @@ pub mod BlockBytes
 pub mod BlockLanes
 pub mod BlockState
 pub mod Blocks
+pub mod CarryLoop
+pub mod Close
 pub mod Counts
 pub mod LaneVectors
 pub mod Planes

@@ -16,20 +16,19 @@ ghost use Rattle.qoi.specs.EncoderState.{free_encoder};
 ghost use Rattle.qoi.specs.Sent.{IsFileFor, MakesFile, PutsFile, SendsFile, SendsPart};
 ghost use Rattle.qoi.specs.writers.Writes.{AppendsBeginning, WroteBeginning};
 
-// `block`, `changes`, `counts`, `lanes`, `named`, `packing`, `planes`, `spelling`, `stands` and
-// `stores` are the beginning of a coder by blocks of sixteen pixels, which isn't called yet.
 mod block;
 mod changes;
 mod chunks;
+mod close;
 mod coder;
 mod counts;
-mod fresh;
+pub(crate) mod fresh;
 mod lanes;
+mod lone;
 mod named;
 mod packing;
 pub(crate) mod piece;
 mod planes;
-pub(crate) mod quad;
 pub(crate) mod runs;
 mod spelling;
 mod stands;

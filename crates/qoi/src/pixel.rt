@@ -7,8 +7,8 @@ ghost use Rattle.qoi.specs.writers.Writes.{WroteBeginning};
 ghost use Rattle.qoi.specs.Qoi.{bytes_of, rgba, hash, positions, after_diff, after_luma, moved};
 ghost use Rattle.qoi.specs.Raw.{IsChannels};
 
+use crate::encode::fresh::spell_pixel;
 use crate::encode::piece::put_chunk;
-use crate::encode::quad::Quad;
 use crate::error::Result;
 use crate::packed::Packed;
 use crate::writers::Writer;
@@ -229,15 +229,10 @@ impl<const N: usize> Pixel<N> {
             × Spells self.now px_prev.entry c
             × WroteBeginning W.wrote writer.old (bytes_of c) writer.new) }
     {
-        let quad = Quad::<N>::splat(self.packed(), px_prev.packed());
+        let px = self.packed();
+        let (number, size) = spell_pixel::<N>(px_prev.packed(), px);
         let mut bytes = [0; 8];
-        let end = put_chunk::<N>(
-            &mut bytes,
-            0,
-            quad.pixels[0],
-            quad.numbers[0],
-            quad.sizes[0],
-        );
+        let end = put_chunk::<N>(&mut bytes, 0, px.number(), number, size);
         writer.write_many(&bytes[..end])
     }
 

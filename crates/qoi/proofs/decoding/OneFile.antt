@@ -91,11 +91,3 @@ decodes_after bytes d rest out fits read own after r =
     decodes_read d.header bytes rest out fits read
     (subst (λ z. ReadsImage (channels_number d.header.channels) (channels_number d.header.channels) (pixel_count d.header) (Some z)
     (Some rest) out) after own_channels)
-
--- bytes are decoded in one way only
-pub decoding_is_one : (bytes : List ℕ) (h k : Header) (rest more out other : List ℕ) → DecodesFile bytes h rest out → DecodesFile bytes k more other
-    → (k ≡ h) × (other ≡ out)
-decoding_is_one bytes h k rest more out other d e =
-    let one = d.only k e.cs more e.is_file e.split in
-    let P : Header → List Chunk → List ℕ = λ j cs. output (channels_number j.channels) (channels_number j.channels) (file_pixels j cs) in
-    (one.0, e.out_is ∙ ap (λ j. P j e.cs) one.0 ∙ ap (P h) one.1 ∙ sym d.out_is)

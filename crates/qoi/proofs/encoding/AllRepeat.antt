@@ -1,8 +1,8 @@
 -- Blocks that repeat whole.
-use Rattle.std.proofs.Common.{◌≡◌, ◌≢◌, ◌⊎◌, inl, inr, ℕ, zero, suc, ◌+◌, ◌*◌, ◌%◌, ◌^◌, ◌&&◌, Bool, true, false, cond, eqb, List, [], ◌∷◌, length, map, replicate, refl, sym, ap, ◌∙◌, arith, w8}
+use Rattle.std.proofs.Common.{◌≡◌, ◌≢◌, ◌⊎◌, inl, inr, ℕ, zero, suc, ◌+◌, ◌*◌, ◌%◌, ◌^◌, ◌<◌, ◌&&◌, Bool, true, false, cond, eqb, List, [], ◌∷◌, length, map, replicate, refl, sym, ap, ◌∙◌, arith, subst, w8}
 use Rattle.std.proofs.lemmas.Bool.{cases_eq, eq-eqb, ne_eqb}
 use Rattle.std.proofs.lemmas.List.{length-map}
-use Rattle.std.proofs.lemmas.Simd.{bitmask_splat}
+use Rattle.std.proofs.lemmas.Simd.{bitmask_splat, mask_l-lt}
 use lib.Lanes.{zip2, mask_l, top}
 use Rattle.qoi.specs.Qoi.{RgbaPixel, Past, pixel_eq}
 use Rattle.qoi.specs.inner.BlockLanes.{mask}
@@ -12,7 +12,7 @@ use Rattle.qoi.specs.inner.Counts.{all_true}
 use Rattle.qoi.proofs.format.SamePixels.{pixel_eq-true}
 
 -- n bits that are set
-abbrev ones : ℕ → ℕ
+abbrev pub ones : ℕ → ℕ
 ones zero = 0
 ones (suc n) = 1 + 2 * ones n
 
@@ -40,12 +40,21 @@ set_is (false ∷ bs) = ap (λ z. false ∷ z) (set_is bs)
 abbrev pub bits_set : List ℕ → ℕ
 bits_set xs = mask_l (map (top 7) (zip2 (λ a b. cond (eqb a b) 255 0) xs (replicate 16 255))) % 2 ^ 64
 
+-- they are those of the tests
+pub tested_bits : (bs : List Bool) (xs : List ℕ) → length bs ≡ 16 → xs ≡ map mask bs → bits_set xs ≡ mask_l bs
+tested_bits bs xs long is =
+    ap bits_set is ∙ bitmask_splat w8 eqb (map mask bs) 16 255 (length-map bs mask ∙ long) (omega arith) ∙ ap mask_l (set_is bs)
+
+-- they are sixteen
+pub few_bits : (xs : List ℕ) → length xs ≡ 16 → bits_set xs < 2 ^ 16
+few_bits xs long =
+    let bs = map (λ x. eqb x 255) xs in
+    let size : length bs ≡ 16 = length-map xs (λ x. eqb x 255) ∙ long in
+    omega (arith, bitmask_splat w8 eqb xs 16 255 long (omega arith), subst (λ k. mask_l bs < 2 ^ k) size (mask_l-lt bs))
+
 -- all are set exactly if all hold
-pub all_bits : (bs : List Bool) (xs : List ℕ) → length bs ≡ 16 → xs ≡ map mask bs → eqb (bits_set xs) 65535 ≡ all_true bs
-all_bits bs xs long is =
-    ap (λ z. eqb (bits_set z) 65535) is
-    ∙ ap (λ n. eqb n 65535) (bitmask_splat w8 eqb (map mask bs) 16 255 (length-map bs mask ∙ long) (omega arith) ∙ ap mask_l (set_is bs))
-    ∙ ap (λ n. eqb (mask_l bs) (ones n)) (sym long) ∙ mask_ones bs
+pub all_bits : (bs : List Bool) (bits : ℕ) → length bs ≡ 16 → bits ≡ mask_l bs → eqb bits 65535 ≡ all_true bs
+all_bits bs bits long is = ap (λ n. eqb n 65535) is ∙ ap (λ n. eqb (mask_l bs) (ones n)) (sym long) ∙ mask_ones bs
 
 -- what follows if the first holds
 both_by : (b : Bool) (x y : Bool) → (b ≡ true → x ≡ y) → (b && x) ≡ (b && y)

@@ -10,7 +10,7 @@ use Rattle.qoi.specs.declared.types.Style.{Style}
 use Rattle.qoi.specs.declared.types.Style.TheVariants.{Reference, Places, Tight}
 use Rattle.qoi.specs.Qoi.{RgbaPixel, pixel_eq}
 use Rattle.qoi.specs.inner.BlockLanes.{mask}
-use Rattle.qoi.specs.inner.Blocks.{BetweenBlocks, all_repeat, padded}
+use Rattle.qoi.specs.inner.Blocks.{BetweenBlocks, last_pixel, all_repeat, padded}
 use Rattle.qoi.specs.inner.BlockState.{State, Carrying, lanes_of, is_rep, group_bytes, next_state, more_of, end_state, block_bytes, NoneBlank, CarryGoesOn, flushed_state, next_by}
 use Rattle.qoi.specs.inner.CoderLoop.{Writing}
 use Rattle.qoi.specs.inner.Counts.{counts}
@@ -18,7 +18,7 @@ use Rattle.qoi.specs.inner.Planes.{AreSixteen, ArePlanes}
 use Rattle.qoi.specs.inner.Spelling.{HasSpelled, IsLastOf}
 use Rattle.qoi.specs.inner.Stands.{put_all, stand_tests}
 use Rattle.qoi.specs.inner.Table.{Holds}
-use Rattle.qoi.proofs.format.SamePixels.{pixel_eq-true, pixel_eq-from}
+use Rattle.qoi.proofs.format.SamePixels.{same_pixel, pixel_eq-true, pixel_eq-from}
 use Rattle.qoi.proofs.encoding.BlockOut.{carry_few}
 use Rattle.qoi.proofs.encoding.BlockWritten.{flushed}
 use Rattle.qoi.proofs.encoding.LastCount.{last_count}
@@ -40,6 +40,10 @@ end_last s (p0 ∷ p1 ∷ p2 ∷ p3 ∷ p4 ∷ p5 ∷ p6 ∷ p7 ∷ p8 ∷ p9 �
   alpha = ap (λ z. slice_index z 15) are.a_is;
 }
 end_last s ps x sixteen are = absurd (let l = sixteen.long in omega arith)
+
+-- which pixel that is
+pub last_of_planes : (q : RgbaPixel) (p : Planes) → IsLastOf q p → q ≡ last_pixel p
+last_of_planes q p is = same_pixel q (last_pixel p) (sym is.red) (sym is.green) (sym is.blue) (sym is.alpha)
 
 -- before a fresh lane what was counted doesn't matter
 counts_anew : (c : ℕ) (r : Bool) (rs : List Bool) → r ≡ false → counts c (r ∷ rs) ≡ counts 0 (r ∷ rs)
@@ -76,7 +80,7 @@ pub record StoredGroup (style : Style) (fresh placed : Bool) (q : RgbaPixel) (n 
   pub some : fresh ≡ true → 0 < n → new ≡ old ++ group_bytes style placed q n
 
 -- only in style Places it matters what the chunk before a group names
-same_group : (style : Style) (a b : Bool) (q : RgbaPixel) (n : ℕ) → (style ≡ Places → a ≡ b) → group_bytes style a q n ≡ group_bytes style b q n
+pub same_group : (style : Style) (a b : Bool) (q : RgbaPixel) (n : ℕ) → (style ≡ Places → a ≡ b) → group_bytes style a q n ≡ group_bytes style b q n
 same_group Reference a b q n e = refl
 same_group Places a b q n e = ap (λ z. group_bytes Places z q n) (e refl)
 same_group Tight a b q n e = refl

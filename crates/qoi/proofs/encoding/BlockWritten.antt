@@ -89,7 +89,7 @@ fresh_first (p ∷ past) b i h = go (fresh_first past) (cases_pixel p (previous 
     go before (inr n) = ap (λ x. seen x i) (fresh_more past p n) ∙ seen_same (fresh past) p i h
 
 -- so in each style the last pixel stands at its position
-stands_there : (style : Style) (past : Past) → some_fresh past ≡ true → (i : ℕ) → hash (previous past) ≡ i → seen (held_in style past) i ≡ previous past
+pub stands_there : (style : Style) (past : Past) → some_fresh past ≡ true → (i : ℕ) → hash (previous past) ≡ i → seen (held_in style past) i ≡ previous past
 stands_there Reference past b i h = fresh_first past b i h
 stands_there Places past b i h = fresh_first past b i h
 stands_there Tight [] b i h = absurd (let no : false ≡ true = b in cc)
@@ -187,7 +187,7 @@ module _ {w : Writing} (s : State) (p : RgbaPixel) (tail : List RgbaPixel) {kept
   }
 
   -- a fresh pixel is written
-  fresh_one : Carrying w s (p ∷ tail) kept → p ≢ s.last → s.carry ≡ 0 → (w.list.style ≡ Tight → seen s.held (hash p) ≢ p → p ≢ blank) → (more : Bool)
+  pub fresh_one : Carrying w s (p ∷ tail) kept → p ≢ s.last → s.carry ≡ 0 → (w.list.style ≡ Tight → seen s.held (hash p) ≢ p → p ≢ blank) → (more : Bool)
       → Carrying w (next_by false more s p) tail (kept ++ lane_bytes (lane_of s.held s.last p))
   fresh_one c n zero_carry none more = by_place (cases_pixel (seen s.held (hash p)) p)
     where

@@ -1,5 +1,6 @@
 -- The table of a coder, and the chunk that is chosen by it.
-use Rattle.std.proofs.Common.{◌≡◌, ◌≢◌, ◌↔◌, ◌⊎◌, inl, inr, ℕ, zero, suc, ◌<◌, Bool, true, false, IsTrue, IsFalse, nat_lt, arith, if◌then◌else◌, List, [], ◌∷◌, ◌++◌, replicate, Some, refl, sym, ap, ◌∙◌, subst}
+use Rattle.std.proofs.Common.{◌≡◌, ◌≢◌, ◌↔◌, ◌⊎◌, inl, inr, ℕ, zero, suc, ◌%◌, ◌<◌, Bool, true, false, IsTrue, IsFalse, nat_lt, arith, if◌then◌else◌, List, [], ◌∷◌, ◌++◌, take, replicate, Some, refl, sym, ap, ◌∙◌, subst}
+use lib.Lanes.{digits_l}
 use Rattle.std.proofs.lemmas.Bool.{eq-eqb, lt-ltb}
 use Rattle.qoi.specs.declared.chunk.Chunk.{Chunk}
 use Rattle.qoi.specs.declared.chunk.Chunk.TheVariants.{Place}
@@ -7,17 +8,23 @@ use Rattle.qoi.specs.declared.types.Style.{Style}
 use Rattle.qoi.specs.declared.types.Style.TheVariants.{Reference, Places, Tight}
 use Rattle.qoi.specs.Qoi.{RgbaPixel, Past, previous, hash, IsChunk, seen}
 use Rattle.qoi.specs.inner.Table.{Holds}
-use Rattle.qoi.specs.inner.Lanes.{HasBytes}
+use Rattle.qoi.specs.inner.FreshPixel.{HasBytes}
 use Rattle.qoi.specs.Written.{fresh, IsFirst}
 use Rattle.qoi.specs.Styles.{names, choice_in}
 use Rattle.qoi.specs.inner.CoderState.{held_in}
 use Rattle.qoi.proofs.format.ChunkSteps.{previous_repeats}
 use Rattle.qoi.proofs.format.SamePixels.{hash_below}
 use Rattle.qoi.proofs.format.SeenTable.{holds_copies}
-use Rattle.qoi.proofs.encoding.SpelledLanes.{place_bytes}
 use Rattle.qoi.proofs.encoding.NotedPixels.{fresh_repeat, fresh_more}
 use Rattle.qoi.proofs.encoding.TightChoice.{tight_no_place}
 use Rattle.qoi.proofs.encoding.WrittenExists.{spells_no_place}
+
+-- the bytes of an index position
+pub place_bytes : (i alpha : ℕ) → i < 64 → take 1 (digits_l 256 4 i ++ alpha ∷ []) ≡ i ∷ []
+place_bytes i alpha l = λ j. small i l j ∷ []
+  where
+    small : (i : ℕ) → i < 64 → i % 256 ≡ i
+    small i l = omega arith
 
 -- a fresh pixel that stands at its index position is given by it
 place_chosen : (style : Style) (past : Past) (p : RgbaPixel) → seen (held_in style past) (hash p) ≡ p → choice_in style past p (Place (hash p))

@@ -20,13 +20,6 @@ and_masks true false = refl
 and_masks false true = refl
 and_masks false false = refl
 
--- one of two masks
-or_masks : (a b : Bool) → bit_or (mask a) (mask b) ≡ mask (a || b)
-or_masks true true = refl
-or_masks true false = refl
-or_masks false true = refl
-or_masks false false = refl
-
 -- two numbers are small exactly if their `or` is
 pub or_below : (k x y : ℕ) → nat_lt (bit_or x y) (2 ^ k) ≡ (nat_lt x (2 ^ k) && nat_lt y (2 ^ k))
 or_below k x y = go (cases_lt x (2 ^ k)) (cases_lt y (2 ^ k))

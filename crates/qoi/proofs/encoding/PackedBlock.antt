@@ -1,12 +1,10 @@
 -- Sixteen numbers of 32 bits as pixels.
-use Rattle.std.proofs.Common.{◌≡◌, ℕ, zero, suc, ◌^◌, ◌<◌, List, [], ◌∷◌, ◌++◌, length, map, take, drop, slice_index, length-append, refl, sym, ap, ◌∙◌, arith}
+use Rattle.std.proofs.Common.{◌≡◌, ℕ, suc, ◌^◌, ◌<◌, List, [], ◌∷◌, ◌++◌, length, map, take, drop, length-append, refl, sym, ap, ◌∙◌, arith}
 use Rattle.std.specs.List.{AllByRecursion}
-use Rattle.qoi.specs.declared.encode.planes.Planes.{Planes}
 use Rattle.qoi.specs.declared.encode.planes.Words.{Words}
 use Rattle.qoi.specs.Qoi.{RgbaPixel, IsPixel}
-use Rattle.qoi.specs.inner.Lanes.{AreFour}
 use Rattle.qoi.specs.inner.Packed.{word, pixel_of_word}
-use Rattle.qoi.specs.inner.Planes.{AreSixteen, AreBlockWords, ArePacked, ArePlanes, AreOpaque, alphas, pixels_of_words, block_pixels}
+use Rattle.qoi.specs.inner.Planes.{AreFour, AreSixteen, AreBlockWords, ArePacked, pixels_of_words, block_pixels}
 
 -- a number of 32 bits is a pixel
 number_pixel : (w : ℕ) → w < 2 ^ 32 → IsPixel (pixel_of_word w)
@@ -85,14 +83,3 @@ block_words w p =
     last_four : (ps : List RgbaPixel) → length ps ≡ 4 → take 4 ps ≡ ps
     last_four (a ∷ b ∷ c ∷ d ∷ []) l = refl
     last_four ps l = absurd (omega arith)
-
--- the last of opaque pixels is opaque
-last_opaque : (ps : List RgbaPixel) (n : ℕ) → length ps ≡ suc n → AreOpaque ps → slice_index (alphas ps) n ≡ 255
-last_opaque [] n l o = absurd (omega arith)
-last_opaque (p ∷ ps) zero l o = o.0
-last_opaque (p ∷ ps) (suc n) l o = last_opaque ps n (omega arith) o.1
-
--- so is that of the planes of an opaque block
-pub opaque_last : (w : Words) (p : Planes) → ArePacked w → ArePlanes (block_pixels w) p → AreOpaque (block_pixels w) → slice_index p.a 15 ≡ 255
-opaque_last w p packed planes o =
-    ap (λ z. slice_index z 15) planes.a_is ∙ last_opaque (block_pixels w) 15 (block_sixteen w packed).long o

@@ -107,11 +107,6 @@ pub padded_goes_on : (s : State) (ps : List RgbaPixel) (n : ℕ) → 0 < length 
 padded_goes_on s [] n some on = absurd (omega arith)
 padded_goes_on s (p ∷ ps) n some on = on
 
--- and the pixels begin as it does
-pub goes_on_padded : (s : State) (ps : List RgbaPixel) (n : ℕ) → 0 < length ps → CarryGoesOn s ps → CarryGoesOn s (padded ps n)
-goes_on_padded s [] n some on = absurd (omega arith)
-goes_on_padded s (p ∷ ps) n some on = on
-
 -- what is ahead begins as it does
 pub padded_front : (ps rest all : List RgbaPixel) (n : ℕ) → all ≡ padded ps n → 0 < length ps → slice_get (ps ++ rest) 0 ≡ slice_get all 0
 padded_front [] rest all n e some = absurd (omega arith)

@@ -3,6 +3,7 @@ use Rattle.std.proofs.Common.{◌≡◌, ℕ, ◌+◌, ◌*◌, ◌/◌, ◌%◌
 use Rattle.std.proofs.Math.Nat.{mul_comm}
 use Rattle.std.proofs.lemmas.List.{length-take-le}
 use Rattle.qoi.specs.declared.chunk.Chunk.{Chunk}
+use Rattle.qoi.specs.declared.encode.block.Carry.{Carry}
 use Rattle.qoi.specs.declared.encode.coder.Coder.{Coder}
 use Rattle.qoi.specs.declared.types.Style.{Style}
 use Rattle.qoi.specs.Qoi.{AreBytes, RgbaPixel, chunk_bytes}
@@ -10,10 +11,12 @@ use Rattle.qoi.specs.Raw.{IsChannels, pixels_of}
 use Rattle.qoi.specs.Written.{WrittenBy}
 use Rattle.qoi.specs.Styles.{choice_in, in_style, WrittenIn}
 use Rattle.qoi.specs.writers.Writes.{WriterLaws, WroteBut, WroteBeginning}
+use Rattle.qoi.specs.inner.CarryLoop.{StepBetween}
 use Rattle.qoi.specs.inner.CoderLoop.{Writing, CoderAfter, CoderBetween}
 use Rattle.qoi.proofs.format.WholePixels.{whole_pixels}
 use Rattle.qoi.proofs.format.RawPixels.{pixels_of_are, pixels_of_have, length-pixels_of}
-use Rattle.qoi.proofs.encoding.CoderSteps.{all_bytes, coder_starts, front_sent, all_written}
+use Rattle.qoi.proofs.encoding.CoderLink.{step_sent}
+use Rattle.qoi.proofs.encoding.CoderSteps.{all_bytes, coder_starts, all_written}
 use Rattle.qoi.proofs.encoding.StyleLists.{chooses_in, style_length}
 use Rattle.qoi.proofs.encoding.WriterProgress.{wrote_none, wrote_next, wrote_part, left_fits}
 use Rattle.qoi.specs.WrittenList.{chosen, list_after}
@@ -39,21 +42,22 @@ writing n s list ahead = record { list = record { style = s.style; image = pixel
 -- All of that went to the writer but what is ahead: the bytes that are kept, and those of the
 -- chunks that are still to be written, for the raw bytes `rest`.
 pub record PieceBetween {W : Type 0} (wrote : W → List ℕ → W → Type 0) (room : W → ℕ) {n : ℕ} (s : Sending W) (rest : List ℕ)
-    (table : List RgbaPixel) (coder : Coder n) (kept : List ℕ) (buf : W) : Type 0 where
+    (table : List RgbaPixel) (coder : Coder n) (carry : Carry) (kept : List ℕ) (buf : W) : Type 0 where
   pub laws : WriterLaws wrote room
   pub list : List Chunk
   pub written : WrittenBy (choice_in s.style) (pixels_of n s.raw) list
   pub fits : length (all_of s list) ≤ room s.start
   pub ahead : List ℕ
   pub went : WroteBut wrote s.start (all_of s list) ahead buf
-  pub between : CoderBetween (writing n s list ahead) (pixels_of n rest) table coder kept
+  pub between : StepBetween (writing n s list ahead) (pixels_of n rest) table coder carry kept
 
 module _ {W : Type 0} {wrote : W → List ℕ → W → Type 0} {room : W → ℕ} {n : ℕ} where
   -- before the first pixel
-  pub piece_starts : {table : List RgbaPixel} {coder : Coder n} (s : Sending W) → WriterLaws wrote room → IsChannels n → AreBytes s.raw → length s.raw % n ≡ 0
+  pub piece_starts : {table : List RgbaPixel} {coder : Coder n} {carry : Carry} (s : Sending W) → WriterLaws wrote room → IsChannels n → AreBytes s.raw → length s.raw % n ≡ 0
       → length s.front + (length s.raw + length s.raw / n) ≤ room s.start → coder.style ≡ s.style → CoderAfter [] None table coder
-      → PieceBetween wrote room s s.raw table coder s.front s.start
-  piece_starts {table} {coder} s laws channels are whole enough style_is state =
+      → ((w : Writing) → CoderBetween w (pixels_of n s.raw) table coder s.front → StepBetween w (pixels_of n s.raw) table coder carry s.front)
+      → PieceBetween wrote room s s.raw table coder carry s.front s.start
+  piece_starts {table} {coder} {carry} s laws channels are whole enough style_is state starts =
       let pixels = pixels_of n s.raw in
       let pixels_are = pixels_of_are n s.raw channels (all_bytes s.raw are) in
       let list = list_after (chosen s.style) [] 0 pixels in
@@ -69,15 +73,15 @@ module _ {W : Type 0} {wrote : W → List ℕ → W → Type 0} {room : W → �
         fits = omega (arith, length-append s.front (chunk_bytes (in_style s.style list)), fits, same, enough, size, mul_comm (length s.raw / n) n);
         ahead = all_of s list;
         went = wrote_none laws s.start (all_of s list);
-        between = coder_starts s.style pixels list s.front table coder written pixels_are style_is state;
+        between = starts _ (coder_starts s.style pixels list s.front table coder written pixels_are style_is state);
       }
 
-  module _ {s : Sending W} {rest : List ℕ} {table : List RgbaPixel} {coder : Coder n} {kept : List ℕ} {buf : W}
-      (p : PieceBetween wrote room s rest table coder kept buf) where
+  module _ {s : Sending W} {rest : List ℕ} {table : List RgbaPixel} {coder : Coder n} {carry : Carry} {kept : List ℕ} {buf : W}
+      (p : PieceBetween wrote room s rest table coder carry kept buf) where
     -- the coder went on
-    pub piece_filled : {rest' : List ℕ} {table' : List RgbaPixel} {coder' : Coder n} {kept' : List ℕ}
-        → ((w : Writing) → CoderBetween w (pixels_of n rest) table coder kept → CoderBetween w (pixels_of n rest') table' coder' kept')
-        → PieceBetween wrote room s rest' table' coder' kept' buf
+    pub piece_filled : {rest' : List ℕ} {table' : List RgbaPixel} {coder' : Coder n} {carry' : Carry} {kept' : List ℕ}
+        → ((w : Writing) → StepBetween w (pixels_of n rest) table coder carry kept → StepBetween w (pixels_of n rest') table' coder' carry' kept')
+        → PieceBetween wrote room s rest' table' coder' carry' kept' buf
     piece_filled went_on = record {
       laws = p.laws;
       list = p.list;
@@ -90,7 +94,7 @@ module _ {W : Type 0} {wrote : W → List ℕ → W → Type 0} {room : W → �
 
     -- at the end all but what is kept went
     pub piece_ends : {table' : List RgbaPixel} {coder' : Coder n} {kept' : List ℕ}
-        → ((w : Writing) → CoderBetween w (pixels_of n rest) table coder kept → CoderBetween w [] table' coder' kept')
+        → ((w : Writing) → StepBetween w (pixels_of n rest) table coder carry kept → CoderBetween w [] table' coder' kept')
         → (cs : List Chunk) × WrittenIn s.style (pixels_of n s.raw) cs × WroteBut wrote s.start (s.front ++ chunk_bytes cs) kept' buf
     piece_ends went_on = (
       in_style s.style p.list,
@@ -101,8 +105,8 @@ module _ {W : Type 0} {wrote : W → List ℕ → W → Type 0} {room : W → �
     -- the kept bytes are the first `size` and the others
     module _ (size : ℕ) where
       abbrev sent_first : (ahead : List ℕ) × (p.ahead ≡ take size kept ++ ahead)
-          × CoderBetween (writing n s p.list ahead) (pixels_of n rest) table coder (drop size kept)
-      sent_first = front_sent p.between (take size kept) (drop size kept) (sym (take-append-drop size kept))
+          × StepBetween (writing n s p.list ahead) (pixels_of n rest) table coder carry (drop size kept)
+      sent_first = step_sent p.between (take size kept) (drop size kept) (sym (take-append-drop size kept))
 
       -- there is room for the first
       pub piece_fits : size ≤ length kept → size ≤ room buf
@@ -116,7 +120,7 @@ module _ {W : Type 0} {wrote : W → List ℕ → W → Type 0} {room : W → �
 
       -- they are sent
       pub piece_went : {now : W} {kept' : List ℕ} → wrote buf (take size kept) now → kept' ≡ drop size kept
-          → PieceBetween wrote room s rest table coder kept' now
+          → PieceBetween wrote room s rest table coder carry kept' now
       piece_went {now} {kept'} went is = record {
         laws = p.laws;
         list = p.list;
@@ -124,7 +128,7 @@ module _ {W : Type 0} {wrote : W → List ℕ → W → Type 0} {room : W → �
         fits = p.fits;
         ahead = sent_first.0;
         went = wrote_next p.laws s.start buf now (all_of s p.list) p.ahead (take size kept) sent_first.0 p.went sent_first.1 went;
-        between = subst (CoderBetween (writing n s p.list sent_first.0) (pixels_of n rest) table coder) (sym is) sent_first.2;
+        between = subst (StepBetween (writing n s p.list sent_first.0) (pixels_of n rest) table coder carry) (sym is) sent_first.2;
       }
 
       -- a beginning of them is

@@ -6,14 +6,6 @@ use Rattle.qoi.specs.inner.Stores.{first_sum, AreSizes}
 abbrev packed : ℕ → ℕ → ℕ → ℕ → ℕ → ℕ → ℕ → ℕ → ℕ
 packed a b c d e f g h = a + 256 * (b + 256 * (c + 256 * (d + 256 * (e + 256 * (f + 256 * (g + 256 * h))))))
 
--- a byte and what is above it
-low : (a r : ℕ) → a < 256 → (a + 256 * r) % 256 ≡ a
-low a r l = omega arith
-
--- and back
-high : (a r : ℕ) → a < 256 → (a + 256 * r) / 256 ≡ r
-high a r l = omega arith
-
 -- the low 64 bits
 pub reduced : (x y q : ℕ) → x ≡ y + 18446744073709551616 * q → y < 18446744073709551616 → x % 18446744073709551616 ≡ y
 reduced x y q e l = omega arith

@@ -12,7 +12,7 @@ use Rattle.qoi.proofs.format.WholePixels.{by_channels}
 use Rattle.qoi.proofs.encoding.CoderSteps.{all_bytes}
 use Rattle.qoi.proofs.encoding.FourFours.{four_fours}
 use Rattle.qoi.proofs.encoding.GroupRuns.{pixels_drop}
-use Rattle.qoi.proofs.encoding.SpelledLanes.{unpacked}
+use Rattle.qoi.proofs.format.PackedPixels.{unpacked}
 
 -- packed pixels are these pixels
 pub unpacked_all : (ps : List RgbaPixel) → AllByRecursion IsPixel ps → pixels_of_words (map word ps) ≡ ps

@@ -6,7 +6,7 @@ use lib.Lanes.{number_l, digits_l, pick_l, zip2, sel_l, top}
 use Rattle.qoi.specs.Qoi.{RgbaPixel, IsPixel, pixel_eq}
 use Rattle.qoi.specs.inner.Packed.{word, pixel_of_word}
 use Rattle.qoi.proofs.format.SamePixels.{cases_pixel, pixel_eq-from, pixel_eq-ne}
-use Rattle.qoi.proofs.encoding.SpelledLanes.{unpacked}
+use Rattle.qoi.proofs.format.PackedPixels.{unpacked}
 use Rattle.qoi.specs.inner.BlockLanes.{mask}
 use Rattle.qoi.specs.inner.Planes.{AreFourWords}
 use Rattle.qoi.specs.inner.Stands.{all_same, four_times}

@@ -3,14 +3,15 @@ use Rattle.std.proofs.Common.{◌≡◌, ℕ, zero, suc, ◌+◌, ◌*◌, ◌%�
 use Rattle.std.specs.Prelude.{min, max}
 use Rattle.std.specs.List.{AllByRecursion}
 use lib.Lanes.{sum_l, number_l, zip2}
+use Rattle.qoi.specs.declared.encode.planes.Words.{Words}
 use Rattle.qoi.specs.declared.encode.stores.FourChunks.{FourChunks}
 use Rattle.qoi.specs.Qoi.{RgbaPixel, IsPixel, pixel, hash}
 use Rattle.qoi.specs.inner.BlockBytes.{firsts, sizes, chunks_of}
 use Rattle.qoi.specs.inner.BlockLanes.{Lane, AreLanes, mask, fits_luma, fits_diff, keeps, near, far, first_of, second_of, second_by, first_by, size_by}
 use Rattle.qoi.specs.inner.BlockState.{is_rep, goes_on}
 use Rattle.qoi.specs.inner.Packed.{word}
-use Rattle.qoi.specs.inner.Planes.{reds, greens, blues, alphas}
-use Rattle.qoi.specs.inner.Stores.{AreSizes, chunk_of, four_chunks, eight_chunks}
+use Rattle.qoi.specs.inner.Planes.{AreBlockWords, reds, greens, blues, alphas}
+use Rattle.qoi.specs.inner.Stores.{AreSizes, chunk_of, four_chunks, four_of, sixteen_chunks}
 use Rattle.std.proofs.lemmas.Nat.{and_le_r}
 use Rattle.qoi.proofs.format.SamePixels.{hash_below}
 use Rattle.qoi.proofs.encoding.SizeHalves.{chunk_is}
@@ -196,34 +197,19 @@ four_parts k l m n e f g h s t u v ls fs ss i =
     (λ j. (one_part k e s i.0 j ++ (one_part l f t i.1.0 j ++ (one_part m g u i.1.1.0 j ++ one_part n h v i.1.1.1.0 j))) ++ chunks_of ls fs ss)
     ∙ regroup (lane_chunk k e s) (lane_chunk l f t) (lane_chunk m g u) (lane_chunk n h v) (chunks_of ls fs ss)
 
--- four numbers from an index on
-abbrev pub four_of : List ℕ → ℕ → List ℕ
-four_of bs k = slice_index bs k ∷ slice_index bs (k + 1) ∷ slice_index bs (k + 2) ∷ slice_index bs (k + 3) ∷ []
-
--- what is stored of sixteen pixels: four numbers at a time, and their alphas
-pub record FourTimes (qs : List RgbaPixel) (bs : List ℕ) (one two three four : FourChunks) : Type 0 where
-  pub one_numbers : one.numbers ≡ map word (take 4 qs)
-  pub two_numbers : two.numbers ≡ map word (take 4 (drop 4 qs))
-  pub three_numbers : three.numbers ≡ map word (take 4 (drop 8 qs))
-  pub four_numbers : four.numbers ≡ map word (take 4 (drop 12 qs))
-  pub one_alphas : one.alphas ≡ four_of bs 0
-  pub two_alphas : two.alphas ≡ four_of bs 4
-  pub three_alphas : three.alphas ≡ four_of bs 8
-  pub four_alphas : four.alphas ≡ four_of bs 12
-
 -- four chunks from their numbers and alphas
 abbrev made_of : List ℕ → List ℕ → FourChunks
 made_of ns bs = record { numbers = ns; alphas = bs }
 
--- all sixteen, stored eight at a time
-pub sixteen_parts : (ls : List Lane) (fs ss bs : List ℕ) (one two three four : FourChunks) → length ls ≡ 16 → length fs ≡ 16 → length ss ≡ 16
-    → bs ≡ map (λ l. l.px.a) ls → AllByRecursion IsPixel (chunk_pixels ls fs) → FourTimes (chunk_pixels ls fs) bs one two three four
-    → eight_chunks (take 8 ss) one two ++ eight_chunks (drop 8 ss) three four ≡ chunks_of ls fs ss
-sixteen_parts (l0 ∷ l1 ∷ l2 ∷ l3 ∷ l4 ∷ l5 ∷ l6 ∷ l7 ∷ l8 ∷ l9 ∷ l10 ∷ l11 ∷ l12 ∷ l13 ∷ l14 ∷ l15 ∷ []) (f0 ∷ f1 ∷ f2 ∷ f3 ∷ f4 ∷ f5 ∷ f6 ∷ f7 ∷ f8 ∷ f9 ∷ f10 ∷ f11 ∷ f12 ∷ f13 ∷ f14 ∷ f15 ∷ []) (s0 ∷ s1 ∷ s2 ∷ s3 ∷ s4 ∷ s5 ∷ s6 ∷ s7 ∷ s8 ∷ s9 ∷ s10 ∷ s11 ∷ s12 ∷ s13 ∷ s14 ∷ s15 ∷ []) bs one two three four ll lf ls ea i parts =
-    let a0 = parts.one_alphas ∙ ap (λ z. four_of z 0) ea in
-    let a1 = parts.two_alphas ∙ ap (λ z. four_of z 4) ea in
-    let a2 = parts.three_alphas ∙ ap (λ z. four_of z 8) ea in
-    let a3 = parts.four_alphas ∙ ap (λ z. four_of z 12) ea in
+-- all sixteen
+pub sixteen_parts : (ls : List Lane) (fs ss bs : List ℕ) (words : Words) → length ls ≡ 16 → length fs ≡ 16 → length ss ≡ 16
+    → bs ≡ map (λ l. l.px.a) ls → AllByRecursion IsPixel (chunk_pixels ls fs) → AreBlockWords (chunk_pixels ls fs) words
+    → sixteen_chunks ss words bs ≡ chunks_of ls fs ss
+sixteen_parts (l0 ∷ l1 ∷ l2 ∷ l3 ∷ l4 ∷ l5 ∷ l6 ∷ l7 ∷ l8 ∷ l9 ∷ l10 ∷ l11 ∷ l12 ∷ l13 ∷ l14 ∷ l15 ∷ []) (f0 ∷ f1 ∷ f2 ∷ f3 ∷ f4 ∷ f5 ∷ f6 ∷ f7 ∷ f8 ∷ f9 ∷ f10 ∷ f11 ∷ f12 ∷ f13 ∷ f14 ∷ f15 ∷ []) (s0 ∷ s1 ∷ s2 ∷ s3 ∷ s4 ∷ s5 ∷ s6 ∷ s7 ∷ s8 ∷ s9 ∷ s10 ∷ s11 ∷ s12 ∷ s13 ∷ s14 ∷ s15 ∷ []) bs words ll lf ls ea i are =
+    let a0 = ap (λ z. four_of z 0) ea in
+    let a1 = ap (λ z. four_of z 4) ea in
+    let a2 = ap (λ z. four_of z 8) ea in
+    let a3 = ap (λ z. four_of z 12) ea in
     let c0 = four_chunks s0 s1 s2 s3 (chunks_from (l0 ∷ l1 ∷ l2 ∷ l3 ∷ []) (f0 ∷ f1 ∷ f2 ∷ f3 ∷ [])) in
     let c1 = four_chunks s4 s5 s6 s7 (chunks_from (l4 ∷ l5 ∷ l6 ∷ l7 ∷ []) (f4 ∷ f5 ∷ f6 ∷ f7 ∷ [])) in
     let c2 = four_chunks s8 s9 s10 s11 (chunks_from (l8 ∷ l9 ∷ l10 ∷ l11 ∷ []) (f8 ∷ f9 ∷ f10 ∷ f11 ∷ [])) in
@@ -232,11 +218,11 @@ sixteen_parts (l0 ∷ l1 ∷ l2 ∷ l3 ∷ l4 ∷ l5 ∷ l6 ∷ l7 ∷ l8 ∷ l9
     let rest2 = four_parts l8 l9 l10 l11 f8 f9 f10 f11 s8 s9 s10 s11 (l12 ∷ l13 ∷ l14 ∷ l15 ∷ []) (f12 ∷ f13 ∷ f14 ∷ f15 ∷ []) (s12 ∷ s13 ∷ s14 ∷ s15 ∷ []) i.1.1.1.1.1.1.1.1 in
     let rest1 = four_parts l4 l5 l6 l7 f4 f5 f6 f7 s4 s5 s6 s7 (l8 ∷ l9 ∷ l10 ∷ l11 ∷ l12 ∷ l13 ∷ l14 ∷ l15 ∷ []) (f8 ∷ f9 ∷ f10 ∷ f11 ∷ f12 ∷ f13 ∷ f14 ∷ f15 ∷ []) (s8 ∷ s9 ∷ s10 ∷ s11 ∷ s12 ∷ s13 ∷ s14 ∷ s15 ∷ []) i.1.1.1.1 in
     let rest0 = four_parts l0 l1 l2 l3 f0 f1 f2 f3 s0 s1 s2 s3 (l4 ∷ l5 ∷ l6 ∷ l7 ∷ l8 ∷ l9 ∷ l10 ∷ l11 ∷ l12 ∷ l13 ∷ l14 ∷ l15 ∷ []) (f4 ∷ f5 ∷ f6 ∷ f7 ∷ f8 ∷ f9 ∷ f10 ∷ f11 ∷ f12 ∷ f13 ∷ f14 ∷ f15 ∷ []) (s4 ∷ s5 ∷ s6 ∷ s7 ∷ s8 ∷ s9 ∷ s10 ∷ s11 ∷ s12 ∷ s13 ∷ s14 ∷ s15 ∷ []) i in
-    (λ j. (four_chunks s0 s1 s2 s3 (made_of (parts.one_numbers j) (a0 j)) ++ four_chunks s4 s5 s6 s7 (made_of (parts.two_numbers j) (a1 j)))
-    ++ (four_chunks s8 s9 s10 s11 (made_of (parts.three_numbers j) (a2 j)) ++ four_chunks s12 s13 s14 s15 (made_of (parts.four_numbers j) (a3 j))))
+    (λ j. (four_chunks s0 s1 s2 s3 (made_of (are.one_are j) (a0 j)) ++ four_chunks s4 s5 s6 s7 (made_of (are.two_are j) (a1 j)))
+    ++ (four_chunks s8 s9 s10 s11 (made_of (are.three_are j) (a2 j)) ++ four_chunks s12 s13 s14 s15 (made_of (are.four_are j) (a3 j))))
     ∙ append_assoc c0 c1 (c2 ++ c3)
     ∙ ap (λ z. c0 ++ (c1 ++ (c2 ++ z))) (sym (append-nil c3) ∙ rest3)
     ∙ ap (λ z. c0 ++ (c1 ++ z)) rest2 ∙ ap (λ z. c0 ++ z) rest1 ∙ rest0
-sixteen_parts (l0 ∷ l1 ∷ l2 ∷ l3 ∷ l4 ∷ l5 ∷ l6 ∷ l7 ∷ l8 ∷ l9 ∷ l10 ∷ l11 ∷ l12 ∷ l13 ∷ l14 ∷ l15 ∷ []) (f0 ∷ f1 ∷ f2 ∷ f3 ∷ f4 ∷ f5 ∷ f6 ∷ f7 ∷ f8 ∷ f9 ∷ f10 ∷ f11 ∷ f12 ∷ f13 ∷ f14 ∷ f15 ∷ []) ss bs one two three four ll lf ls ea i parts = absurd (omega arith)
-sixteen_parts (l0 ∷ l1 ∷ l2 ∷ l3 ∷ l4 ∷ l5 ∷ l6 ∷ l7 ∷ l8 ∷ l9 ∷ l10 ∷ l11 ∷ l12 ∷ l13 ∷ l14 ∷ l15 ∷ []) fs ss bs one two three four ll lf ls ea i parts = absurd (omega arith)
-sixteen_parts ls fs ss bs one two three four ll lf ls2 ea i parts = absurd (omega arith)
+sixteen_parts (l0 ∷ l1 ∷ l2 ∷ l3 ∷ l4 ∷ l5 ∷ l6 ∷ l7 ∷ l8 ∷ l9 ∷ l10 ∷ l11 ∷ l12 ∷ l13 ∷ l14 ∷ l15 ∷ []) (f0 ∷ f1 ∷ f2 ∷ f3 ∷ f4 ∷ f5 ∷ f6 ∷ f7 ∷ f8 ∷ f9 ∷ f10 ∷ f11 ∷ f12 ∷ f13 ∷ f14 ∷ f15 ∷ []) ss bs words ll lf ls ea i are = absurd (omega arith)
+sixteen_parts (l0 ∷ l1 ∷ l2 ∷ l3 ∷ l4 ∷ l5 ∷ l6 ∷ l7 ∷ l8 ∷ l9 ∷ l10 ∷ l11 ∷ l12 ∷ l13 ∷ l14 ∷ l15 ∷ []) fs ss bs words ll lf ls ea i are = absurd (omega arith)
+sixteen_parts ls fs ss bs words ll lf ls2 ea i are = absurd (omega arith)

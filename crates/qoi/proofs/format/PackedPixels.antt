@@ -5,7 +5,12 @@ use Rattle.std.specs.Int.Bits.{bit_and, bit_or, and_zero_r, or_zero_l, or_zero_r
 use Rattle.std.proofs.lemmas.Nat.{and_block, and_mask, or_block}
 use Rattle.qoi.specs.Qoi.{AreBytes, RgbaPixel, IsPixel, rgba, hash}
 use Rattle.qoi.proofs.format.SamePixels.{same_pixel}
-use Rattle.qoi.specs.inner.Packed.{pixel_of_word, spread, product_hash}
+use Rattle.qoi.specs.inner.Packed.{word, pixel_of_word, spread, product_hash}
+
+-- a pixel packed and unpacked
+pub unpacked : (p : RgbaPixel) → IsPixel p → pixel_of_word (word p) ≡ p
+unpacked p i = same_pixel _ p (omega (arith, i.r, i.g, i.b, i.a)) (omega (arith, i.r, i.g, i.b, i.a)) (omega (arith, i.r, i.g, i.b, i.a))
+    (omega (arith, i.r, i.g, i.b, i.a))
 
 -- four bytes read as one number mean their pixel
 pub loaded : (bytes : List ℕ) → AreBytes bytes → 4 ≤ length bytes → pixel_of_word (number_l 256 (take 4 bytes) % 2 ^ 32) ≡ rgba (take 4 bytes)

@@ -4,7 +4,7 @@ use Rattle.std.specs.List.{AllByRecursion}
 use Rattle.qoi.specs.declared.chunk.Chunk.{Chunk}
 use Rattle.qoi.specs.Qoi.{RgbaPixel, IsPixel, Past, previous, hash, IsChunk, bytes_of}
 use Rattle.qoi.specs.Written.{IsFirst}
-use Rattle.qoi.specs.inner.Lanes.{steps, diff_steps, luma_steps}
+use Rattle.qoi.specs.inner.Steps.{steps, diff_steps, luma_steps}
 
 -- a lane: a pixel, the pixel before it, and whether the table holds the pixel at its position
 pub record Lane : Type 0 where

@@ -1,5 +1,5 @@
 -- The state between two blocks of sixteen pixels.
-use Rattle.std.specs.Prelude.{◌≡◌, ℕ, zero, suc, Bool, true, ◌&&◌, List, [], ◌∷◌, ◌++◌, replicate, slice_index}
+use Rattle.std.specs.Prelude.{◌≡◌, ◌≢◌, ℕ, zero, suc, ◌+◌, ◌*◌, Bool, true, ◌&&◌, List, [], ◌∷◌, ◌++◌, replicate, slice_index, if◌then◌else◌}
 use Rattle.qoi.specs.declared.encode.planes.Planes.{Planes}
 use Rattle.qoi.specs.declared.types.Style.TheVariants.{Places}
 use Rattle.qoi.specs.Qoi.{RgbaPixel, blank, pixel, pixel_eq}
@@ -42,6 +42,20 @@ abbrev pub nth_or_last : RgbaPixel → List RgbaPixel → ℕ → RgbaPixel
 nth_or_last q [] k = q
 nth_or_last q (p ∷ ps) zero = p
 nth_or_last q (p ∷ ps) (suc k) = nth_or_last p ps k
+
+-- a bit for each of these pixels, the lowest one for the first: 1 if it differs from the one before
+-- it; q is before the first
+abbrev pub fresh_bits : RgbaPixel → List RgbaPixel → ℕ
+fresh_bits q [] = 0
+fresh_bits q (p ∷ ps) = (if pixel_eq p q then 0 else 1) + 2 * fresh_bits p ps
+
+-- After q exactly one of these pixels is fresh: repeats of q come, then it, and then repeats of it.
+pub record OneFresh (q : RgbaPixel) (ps : List RgbaPixel) : Type 0 where
+  pub lane : ℕ
+  pub px : RgbaPixel
+  pub after : ℕ
+  pub differs : px ≢ q
+  pub pixels_are : ps ≡ replicate lane q ++ px ∷ replicate after px
 
 -- from whatever the table holds, no fresh pixel is transparent black that isn't at its position
 abbrev pub MissesNoBlank : List RgbaPixel → Planes → List RgbaPixel → Type 0

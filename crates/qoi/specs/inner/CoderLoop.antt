@@ -1,11 +1,10 @@
 -- The state of the coder's loop: what is still to be written of an image's list.
-use Rattle.std.specs.Prelude.{◌≡◌, ℕ, ◌<◌, List, ◌∷◌, ◌++◌, [], drop, reverse, slice_get, slice_index, Option, Some}
+use Rattle.std.specs.Prelude.{◌≡◌, ℕ, List, ◌∷◌, ◌++◌, [], reverse, slice_get, Option, Some}
 use Rattle.std.specs.List.{AllByRecursion}
 use Rattle.qoi.specs.declared.chunk.Chunk.{Chunk}
 use Rattle.qoi.specs.declared.chunk.Chunk.TheVariants.{Run}
 use Rattle.qoi.specs.declared.encode.coder.Coder.{Coder}
 use Rattle.qoi.specs.declared.encode.piece.Piece.{Piece}
-use Rattle.qoi.specs.declared.encode.quad.Quad.{Quad}
 use Rattle.qoi.specs.declared.types.Style.{Style}
 use Rattle.qoi.specs.declared.types.Style.TheVariants.{Places}
 use Rattle.qoi.specs.Qoi.{RgbaPixel, IsPixel, Past, previous, hash, chunk_bytes}
@@ -13,8 +12,6 @@ use Rattle.qoi.specs.Raw.{pixels_of}
 use Rattle.qoi.specs.Written.{RunsFollowFull, WrittenBy}
 use Rattle.qoi.specs.Styles.{some_fresh, names, choice_in, styled}
 use Rattle.qoi.specs.inner.CoderState.{held_in, single_chunk}
-use Rattle.qoi.specs.inner.Lanes.{AreFourAfter}
-use Rattle.qoi.specs.inner.Packed.{pixel_of_word}
 use Rattle.qoi.specs.inner.Piece.{kept_bytes}
 use Rattle.qoi.specs.inner.Table.{Holds}
 
@@ -74,29 +71,3 @@ pub record CoderBetween {N : ℕ} (w : Writing) (rest : List RgbaPixel) (table :
 -- the same for the pixels of these raw bytes and the kept bytes of a piece
 abbrev pub BytesBetween : {N size : ℕ} → Writing → List ℕ → List RgbaPixel → Coder N → Piece size → Type 0
 BytesBetween {N} w bytes table coder piece = CoderBetween w (pixels_of N bytes) table coder (kept_bytes piece)
-
--- the pixel of a lane
-abbrev pub lane_pixel : {N : ℕ} → Quad N → ℕ → RgbaPixel
-lane_pixel quad k = pixel_of_word (slice_index quad.pixels k)
-
--- the pixel before that of a lane
-abbrev pub before_lane : {N : ℕ} → Quad N → ℕ → RgbaPixel
-before_lane quad k = pixel_of_word (slice_index quad.before k)
-
--- what stays the same among four pixels: the list that is written, the four, and the pixels that
--- begin with them
-pub record InFour (N : ℕ) : Type 0 where
-  pub writing : Writing
-  pub quad : Quad N
-  pub pixels : List RgbaPixel
-
--- the record of the three
-abbrev pub in_four : {N : ℕ} → Writing → Quad N → List RgbaPixel → InFour N
-in_four w quad pixels = record { writing = w; quad = quad; pixels = pixels }
-
--- Among four pixels, of which the first follows `first`: those before the lane have come.
-pub record AtLane {N : ℕ} (four : InFour N) (lane : ℕ) (table : List RgbaPixel) (coder : Coder N) (kept : List ℕ) : Type 0 where
-  pub first : RgbaPixel
-  pub are : AreFourAfter first four.pixels four.quad.pixels four.quad.before
-  pub between : CoderBetween four.writing (drop lane four.pixels) table coder kept
-  pub last_is : lane < 4 → coder.last ≡ before_lane four.quad lane

@@ -1,10 +1,9 @@
 -- Sixteen pixels, packed or as planes of their channels.
-use Rattle.std.specs.Prelude.{◌≡◌, ℕ, List, [], ◌∷◌, map, ◌++◌, length, take, drop, slice_index}
+use Rattle.std.specs.Prelude.{◌≡◌, ℕ, List, [], ◌∷◌, map, ◌++◌, ◌<◌, ◌^◌, length, take, drop, slice_index}
 use Rattle.std.specs.List.{AllByRecursion}
 use Rattle.qoi.specs.declared.encode.planes.Planes.{Planes}
 use Rattle.qoi.specs.declared.encode.planes.Words.{Words}
 use Rattle.qoi.specs.Qoi.{RgbaPixel, IsPixel, pixel}
-use Rattle.qoi.specs.inner.Lanes.{AreFour}
 use Rattle.qoi.specs.inner.Packed.{word, pixel_of_word}
 
 -- sixteen pixels
@@ -33,7 +32,11 @@ pixels_of_words words = map pixel_of_word words
 abbrev pub block_pixels : Words → List RgbaPixel
 block_pixels w = pixels_of_words w.one ++ (pixels_of_words w.two ++ (pixels_of_words w.three ++ pixels_of_words w.four))
 
--- sixteen numbers of 32 bits
+-- four numbers of 32 bits
+abbrev pub AreFour : List ℕ → Type 0
+AreFour words = (length words ≡ 4) × ((k : ℕ) → slice_index words k < 2 ^ 32)
+
+-- sixteen
 abbrev pub ArePacked : Words → Type 0
 ArePacked w = AreFour w.one × (AreFour w.two × (AreFour w.three × AreFour w.four))
 

@@ -1,6 +1,7 @@
 -- Chunks of which each is the lowest bytes of a number and perhaps alpha.
-use Rattle.std.specs.Prelude.{◌≡◌, ℕ, ◌+◌, ◌<◌, ◌≤◌, List, [], ◌∷◌, ◌++◌, length, take, slice_index}
+use Rattle.std.specs.Prelude.{◌≡◌, ℕ, ◌+◌, ◌<◌, ◌≤◌, List, [], ◌∷◌, ◌++◌, length, take, drop, slice_index}
 use lib.Lanes.{digits_l, number_l, sum_l}
+use Rattle.qoi.specs.declared.encode.planes.Words.{Words}
 use Rattle.qoi.specs.declared.encode.stores.FourChunks.{FourChunks}
 
 -- the sum of the first n
@@ -43,3 +44,17 @@ abbrev pub eight_chunks : List ℕ → FourChunks → FourChunks → List ℕ
 eight_chunks ss one two =
     four_chunks (slice_index ss 0) (slice_index ss 1) (slice_index ss 2) (slice_index ss 3) one
     ++ four_chunks (slice_index ss 4) (slice_index ss 5) (slice_index ss 6) (slice_index ss 7) two
+
+-- four numbers from an index on
+abbrev pub four_of : List ℕ → ℕ → List ℕ
+four_of xs k = slice_index xs k ∷ slice_index xs (k + 1) ∷ slice_index xs (k + 2) ∷ slice_index xs (k + 3) ∷ []
+
+-- four chunks, whose alphas stand from an index on
+abbrev pub four_from : List ℕ → List ℕ → ℕ → FourChunks
+four_from numbers alphas k = record { numbers = numbers; alphas = four_of alphas k }
+
+-- the bytes of sixteen chunks
+abbrev pub sixteen_chunks : List ℕ → Words → List ℕ → List ℕ
+sixteen_chunks ss words alphas =
+    eight_chunks (take 8 ss) (four_from words.one alphas 0) (four_from words.two alphas 4)
+    ++ eight_chunks (drop 8 ss) (four_from words.three alphas 8) (four_from words.four alphas 12)

@@ -72,8 +72,7 @@ impl Block {
     /// Whether all sixteen pixels repeat the last one of the block before.
     #[inline(always)]
     pub(super) fn repeats(self, before: Planes) -> bool
-        ensures { IsPixel (last_pixel before)
-            → result ≡ all_repeat (last_pixel before) (block_pixels self.words) }
+        ensures { result ≡ all_repeat (last_pixel before) (block_pixels self.words) }
     {
         all_set(find_changes(before, self.planes).rep)
     }
@@ -160,20 +159,6 @@ pub(super) struct Carry {
 }
 
 impl Carry {
-    // The last pixel of the block before.
-    #[inline(always)]
-    fn last(self) -> Packed
-        ensures { result ≡ last_pixel self.before }
-    {
-        let p = self.before;
-        Packed::new(
-            p.r.to_array()[15],
-            p.g.to_array()[15],
-            p.b.to_array()[15],
-            p.a.to_array()[15],
-        )
-    }
-
     // The byte of the repeats before a fresh pixel: that of a run; in style `Places`, of a single
     // repeat, the index position, if the chunk before isn't that position. If there are none, it
     // isn't used.
@@ -188,15 +173,15 @@ impl Carry {
             Reference | Tight => run,
             Places => pick(
                 (self.count == 1) & !self.placed,
-                self.last().hash_index(),
+                self.before.last().hash_index(),
                 run,
             ),
         }
     }
 
-    // Stores the repeats, if a fresh pixel follows them, at `at`, and returns where they end.
+    /// Stores the repeats, if a fresh pixel follows them, at `at`, and returns where they end.
     #[inline(always)]
-    fn put(self, style: Style, out: &mut [u8], at: usize, fresh: bool) -> usize
+    pub(super) fn put(self, style: Style, out: &mut [u8], at: usize, fresh: bool) -> usize
         requires room { at < length out.old }
         requires few { self.count < run_max }
         ensures same { length out.new ≡ length out.old }

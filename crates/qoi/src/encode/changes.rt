@@ -1,5 +1,6 @@
 //! From each of sixteen pixels to the next: the steps of all channels, and which pixels repeat.
-ghost use Rattle.std.specs.Prelude.{◌≡◌, Bool, List, length, map};
+ghost use lib.Lanes.{mask_l};
+ghost use Rattle.std.specs.Prelude.{◌≡◌, ◌<◌, ◌^◌, Bool, List, length, map};
 ghost use Rattle.qoi.specs.Qoi.{RgbaPixel};
 ghost use Rattle.qoi.specs.inner.BlockLanes.{mask};
 ghost use Rattle.qoi.specs.inner.BlockState.{State, lanes_of};
@@ -40,10 +41,19 @@ pub(super) fn find_changes(before: Planes, p: Planes) -> Changes
     }
 }
 
+/// A bit for each lane of a mask that is set, the lowest one for the first lane.
+#[inline(always)]
+pub(super) fn set_bits(v: u8x16) -> u64
+    ensures few { result < 2 ^ 16 }
+    ensures bits { (bs : List Bool) → length bs ≡ 16 → v ≡ map mask bs → result ≡ mask_l bs }
+{
+    v.simd_eq(u8x16::splat(255)).to_bitmask()
+}
+
 /// Whether all lanes of a mask are set.
 #[inline(always)]
 pub(super) fn all_set(v: u8x16) -> bool
     ensures { (bs : List Bool) → length bs ≡ 16 → v ≡ map mask bs → result ≡ all_true bs }
 {
-    v.simd_eq(u8x16::splat(255)).to_bitmask() == 0xffff
+    set_bits(v) == 0xffff
 }

@@ -1,7 +1,6 @@
 //! The chunks of an image, through a piece to a writer (QOI specification 1.0, "Data").
-ghost use Rattle.std.specs.Prelude.{◌≡◌, ◌+◌, ◌-◌, ◌*◌, ◌/◌, ◌%◌, ◌<◌, ◌≤◌, length, OnOk, IfErr};
-ghost use Rattle.qoi.specs.declared.encode.piece.TheConstants.{PAST};
-ghost use Rattle.qoi.specs.declared.encode.quad.TheConstants.{READ};
+ghost use Rattle.std.specs.Prelude.{◌≡◌, ◌+◌, ◌-◌, ◌/◌, ◌%◌, ◌<◌, ◌≤◌, length, OnOk, IfErr};
+ghost use Rattle.qoi.specs.declared.encode.piece.TheConstants.{PAST, RUNS_AT_ONCE};
 ghost use Rattle.qoi.specs.Qoi.{channels_number};
 ghost use Rattle.qoi.specs.Raw.{IsChannels, pixels_of};
 ghost use Rattle.qoi.specs.inner.Piece.{WroteChunks, BeganChunks};
@@ -12,6 +11,7 @@ use crate::encode::table::PixelTable;
 use crate::error::Result;
 use crate::types::Channels::{self, Rgb, Rgba};
 use crate::types::Style::{self, Places, Reference, Tight};
+use crate::utils::skip;
 use crate::writers::Writer;
 
 // `encode_chunks` for `N` channels. `STYLE` is a number for each style, so that each has a function
@@ -27,7 +27,7 @@ fn encode_pixels<W: Writer, const N: usize, const STYLE: u8, const ROOM: usize>(
     requires not_full { piece.old.end < ROOM - PAST }
     requires room { piece.old.end + (length «data».now + length «data».now / N)
         ≤ W.room writer.old }
-    ensures end { OnOk result (piece.new.end < ROOM - PAST + 2 * READ) }
+    ensures end { OnOk result (piece.new.end < ROOM - PAST + RUNS_AT_ONCE + 1) }
     ensures written { OnOk result (WroteChunks W.wrote style (pixels_of N «data».now)
         writer.old piece.old writer.new piece.new) }
     ensures refused { IfErr result (λ e. W.IsFault e
@@ -35,15 +35,18 @@ fn encode_pixels<W: Writer, const N: usize, const STYLE: u8, const ROOM: usize>(
 {
     let mut table = PixelTable::new();
     let mut coder = Coder::<N>::new(style);
+    let mut carry = coder.carry();
     let mut rest = data;
-    loop {
-        rest = coder.fill(&mut table, piece, rest);
-        if !piece.is_full() {
-            coder.write_rest(&mut table, piece, rest);
-            return Ok(());
+    while !rest.is_empty() {
+        let (count, after) = coder.write_front(&mut table, piece, rest, carry);
+        carry = after;
+        rest = skip(rest, N * count);
+        if piece.is_full() {
+            piece.send(writer)?;
         }
-        piece.send(writer)?;
     }
+    coder.write_last(&mut table, piece, carry);
+    Ok(())
 }
 
 /// Writes an image's raw bytes as chunks into the piece, and sends a full piece to the writer each
@@ -59,7 +62,7 @@ pub(super) fn encode_chunks<W: Writer, const ROOM: usize>(
     requires not_full { piece.old.end < ROOM - PAST }
     requires room { piece.old.end
         + (length «data».now + length «data».now / channels_number channels) ≤ W.room writer.old }
-    ensures end { OnOk result (piece.new.end < ROOM - PAST + 2 * READ) }
+    ensures end { OnOk result (piece.new.end < ROOM - PAST + RUNS_AT_ONCE + 1) }
     ensures written { OnOk result (WroteChunks W.wrote style
         (pixels_of (channels_number channels) «data».now)
         writer.old piece.old writer.new piece.new) }

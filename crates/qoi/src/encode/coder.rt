@@ -1,30 +1,31 @@
-//! Writes pixels, four at a time or a group of repeats, as chunks into a piece (QOI specification
-//! 1.0, "Data" and "Chunks").
-ghost use lib.Lanes.{mask_l, zip2};
-ghost use Rattle.std.specs.Prelude.{◌≡◌, ◌≢◌, ℕ, ◌+◌, ◌-◌, ◌*◌, ◌/◌, ◌%◌, ◌<◌, ◌≤◌, nat_eq, List, [], ◌∷◌, ◌++◌, Option, None, Some, length, drop, replicate, slice_get};
+//! Writes pixels, a block of sixteen at a time or a group of repeats, as chunks into a piece (QOI
+//! specification 1.0, "Data" and "Chunks").
+ghost use Rattle.std.specs.Prelude.{◌≡◌, ◌≢◌, ◌⊎◌, ℕ, ◌+◌, ◌-◌, ◌*◌, ◌%◌, ◌<◌, ◌≤◌, false, List, [], ◌∷◌, ◌++◌, Option, None, Some, length, drop, replicate, slice_get, slice_index, take, ◌/◌, true, IsTrue};
 ghost use Rattle.qoi.specs.declared.chunk.Chunk.{Chunk};
+ghost use Rattle.qoi.specs.declared.encode.block.TheConstants.{BLOCK_MAX};
 ghost use Rattle.qoi.specs.declared.encode.piece.TheConstants.{PAST, RUNS_AT_ONCE, REPEATS_AT_ONCE};
-ghost use Rattle.qoi.specs.declared.encode.quad.TheConstants.{ALL_REPEAT, READ};
-ghost use Rattle.qoi.specs.Qoi.{RgbaPixel, Past, run_max, chunk_max, previous, seen, hash, IsChunk, bytes_of};
+ghost use Rattle.qoi.specs.declared.types.Style.TheVariants.{Tight};
+ghost use Rattle.qoi.specs.Qoi.{RgbaPixel, Past, chunk_max, previous, seen, hash, IsChunk, bytes_of};
 ghost use Rattle.qoi.specs.Raw.{IsChannels, IsChannels-prop, pixels_of};
-ghost use Rattle.qoi.specs.Runs.{IsCount, runs_by};
+ghost use Rattle.qoi.specs.Runs.{runs_by};
 ghost use Rattle.qoi.specs.Written.{IsFirst};
 ghost use Rattle.qoi.specs.Styles.{choice_in};
 ghost use Rattle.qoi.specs.inner.CoderState.{held_in, last_chunk};
-ghost use Rattle.qoi.specs.inner.Lanes.{HasBytes, AreOpaqueWords, SameAlpha, AreFourAfter};
+ghost use Rattle.qoi.specs.inner.FreshPixel.{HasBytes};
 ghost use Rattle.qoi.specs.inner.Piece.{kept_bytes};
+ghost use Rattle.qoi.specs.inner.Planes.{AreOpaque, block_pixels};
 ghost use Rattle.qoi.specs.inner.Table.{Holds};
 
 use crate::consts::QOI_OP_RUN;
+use crate::encode::block::{Block, Carry};
 use crate::encode::fresh::spell_pixel;
 use crate::encode::piece::{Piece, REPEATS_AT_ONCE};
-use crate::encode::quad::{ALL_REPEAT, Quad, READ, pixels_before, read_four, repeating};
-use crate::encode::runs::{repeats_in_quad, repeats_of};
+use crate::encode::planes::Planes;
+use crate::encode::runs::repeats_of;
 use crate::encode::table::PixelTable;
 use crate::packed::Packed;
 use crate::types::Style::{self, Places, Reference, Tight};
 use crate::utils::{pick, skip};
-use std::simd::u32x4;
 
 /// What is known between two pixels: the style; the pixel `last` and its index position `place`;
 /// `begun`, whether a fresh pixel came, one that differs from the pixel before it; and `placed`,
@@ -43,7 +44,10 @@ pub(super) struct Coder<const N: usize> {
 }
 
 impl<const N: usize> Coder<N> {
-    ghost use Rattle.qoi.specs.inner.CoderLoop.{CoderAfter, single, Writing, CoderBetween, BytesBetween, lane_pixel, before_lane, in_four, AtLane};
+    ghost use Rattle.qoi.specs.inner.Blocks.{MissesNoBlank, padded, last_pixel, all_repeat};
+    ghost use Rattle.qoi.specs.inner.CarryLoop.{StepBetween};
+    ghost use Rattle.qoi.specs.inner.CoderLoop.{CoderAfter, single, Writing, CoderBetween, BytesBetween};
+    ghost use Rattle.qoi.specs.inner.Spelling.{IsLastOf};
 
     /// The coder before the first pixel, as if opaque black came before.
     pub(super) fn new(style: Style) -> Coder<N>
@@ -119,42 +123,6 @@ impl<const N: usize> Coder<N> {
         }
     }
 
-    // Writes the fresh pixel of a lane: by its index position if it stands there, else as
-    // `chunk_if_absent` has it. Then puts it at its position, and it is the last pixel.
-    #[inline(always)]
-    fn write_fresh<const ROOM: usize>(
-        &mut self,
-        table: &mut PixelTable,
-        piece: &mut Piece<ROOM>,
-        quad: &Quad<N>,
-        lane: usize,
-    )
-        requires room { piece.old.end + chunk_max ≤ ROOM }
-        requires lane { lane < 4 }
-        ensures end { piece.new.end ≤ piece.old.end + chunk_max }
-        ensures last { self.new.last ≡ lane_pixel quad.now lane }
-        ensures written { (w : Writing) (rest : List RgbaPixel)
-            → self.old.last ≡ before_lane quad.now lane → lane_pixel quad.now lane ≢ self.old.last
-            → CoderBetween w (lane_pixel quad.now lane ∷ rest) table.old self.old
-            (kept_bytes piece.old)
-            → CoderBetween w rest table.new self.new (kept_bytes piece.new) }
-    {
-        let px = Packed::of_number(quad.pixels[lane]);
-        let place = (quad.places[lane] % 256) as u8;
-        let stands = table.at(place).is_same(px);
-        let (number, size) = self.chunk_if_absent(table, px, quad.numbers[lane], quad.sizes[lane]);
-        table.put(place, px);
-        *self = Coder {
-            style: self.style,
-            last: px,
-            place,
-            begun: true,
-            placed: stands,
-        };
-        let number = pick(stands, u32::from(place), number);
-        piece.keep_chunk::<N>(quad.pixels[lane], number, pick(stands, 1, size));
-    }
-
     // Writes the fresh pixel `px`: by its index position if it stands there, else as
     // `chunk_if_absent` has it. Then puts it at its position, and it is the last pixel.
     #[inline(always)]
@@ -188,121 +156,34 @@ impl<const N: usize> Coder<N> {
         piece.keep_chunk::<N>(px.number(), number, pick(stands, 1, size));
     }
 
-    // Writes the chunks of all four pixels, each of which is fresh.
-    #[inline(always)]
-    fn write_four_fresh<const ROOM: usize>(
-        &mut self,
-        table: &mut PixelTable,
-        piece: &mut Piece<ROOM>,
-        quad: &Quad<N>,
-    )
-        requires room { piece.old.end + 4 * chunk_max ≤ ROOM }
-        ensures end { piece.new.end ≤ piece.old.end + 4 * chunk_max }
-        ensures written { (w : Writing) (pixels : List RgbaPixel)
-            → ((k : ℕ) → k < 4 → lane_pixel quad.now k ≢ before_lane quad.now k)
-            → AtLane (in_four w quad.now pixels) 0 table.old self.old (kept_bytes piece.old)
-            → AtLane (in_four w quad.now pixels) 4 table.new self.new (kept_bytes piece.new) }
-    {
-        self.write_fresh(table, piece, quad, 0);
-        self.write_fresh(table, piece, quad, 1);
-        self.write_fresh(table, piece, quad, 2);
-        self.write_fresh(table, piece, quad, 3);
-    }
-
-    // Writes the repeats from a lane on and the fresh pixel after them, and returns the lane after
-    // it. If no fresh pixel is left, writes nothing and returns `lane`. `bits` is from `repeating`.
-    #[inline(always)]
-    fn write_repeats_and_fresh<const ROOM: usize>(
-        &mut self,
-        table: &mut PixelTable,
-        piece: &mut Piece<ROOM>,
-        quad: &Quad<N>,
-        bits: u64,
-        lane: usize,
-    ) -> usize
-        requires room { piece.old.end + 1 + chunk_max ≤ ROOM }
-        requires bits { bits ≡ mask_l (zip2 nat_eq quad.now.pixels quad.now.before) }
-        requires lane { lane ≤ 4 }
-        ensures end { piece.new.end ≤ piece.old.end + 1 + chunk_max }
-        ensures lanes { (lane ≤ result) × (result ≤ 4) }
-        ensures some { lane ≡ 0 → bits ≢ ALL_REPEAT → 0 < result }
-        ensures written { (w : Writing) (pixels : List RgbaPixel)
-            → AtLane (in_four w quad.now pixels) lane table.old self.old (kept_bytes piece.old)
-            → AtLane (in_four w quad.now pixels) result table.new self.new
-            (kept_bytes piece.new) }
-    {
-        if lane > 3 {
-            return lane;
-        }
-        let count = repeats_in_quad(bits, lane);
-        if lane + count > 3 {
-            return lane;
-        }
-        let one = self.single_repeat_byte(count);
-        piece.keep_run(count, one);
-        self.update_after_repeats(table, count);
-        self.write_fresh(table, piece, quad, lane + count);
-        lane + count + 1
-    }
-
-    // Writes the chunks of four pixels, not all of which repeat, up to the last fresh one; repeats
-    // after it may go on in the next four. Returns how many pixels were written.
-    #[inline(always)]
-    fn write_quad<const ROOM: usize>(
-        &mut self,
-        table: &mut PixelTable,
-        piece: &mut Piece<ROOM>,
-        cur: u32x4,
-        prev: u32x4,
-        bits: u64,
-    ) -> usize
-        requires opaque { N ≡ 3 → AreOpaqueWords cur }
-        requires same_alpha { N ≡ 3 → SameAlpha cur prev }
-        requires bits { bits ≡ mask_l (zip2 nat_eq cur prev) }
-        requires not_all { bits ≢ ALL_REPEAT }
-        requires room { piece.old.end + 4 * chunk_max ≤ ROOM }
-        ensures end { piece.new.end ≤ piece.old.end + 4 * chunk_max }
-        ensures lanes { (0 < result) × (result ≤ 4) }
-        ensures written { (w : Writing) (pixels : List RgbaPixel)
-            → AreFourAfter self.old.last pixels cur prev
-            → CoderBetween w pixels table.old self.old (kept_bytes piece.old)
-            → CoderBetween w (drop result pixels) table.new self.new (kept_bytes piece.new) }
-    {
-        let quad = Quad::new(cur, prev);
-        if bits == 0 {
-            self.write_four_fresh(table, piece, &quad);
-            return 4;
-        }
-        // At least one of the four repeats, so at most three are fresh: a call for each.
-        let lane = self.write_repeats_and_fresh(table, piece, &quad, bits, 0);
-        let lane = self.write_repeats_and_fresh(table, piece, &quad, bits, lane);
-        self.write_repeats_and_fresh(table, piece, &quad, bits, lane)
-    }
-
-    // Writes the repeats at the front of all bytes left, at most 992, and returns how many.
+    // Writes the `carry` repeats that came before these raw bytes and the repeats at their front, at
+    // most 992 in all. Returns how many of the latter.
     #[inline(always)]
     fn write_runs<const ROOM: usize>(
         &mut self,
         table: &mut PixelTable,
         piece: &mut Piece<ROOM>,
         data: &[u8],
+        carry: usize,
     ) -> usize
         requires whole { length «data».now % N ≡ 0 }
+        requires few { carry ≤ REPEATS_AT_ONCE }
         requires room { piece.old.end + RUNS_AT_ONCE < ROOM }
-        ensures end { piece.new.end ≤ piece.old.end + result / run_max + 1 }
+        ensures end { piece.new.end ≤ piece.old.end + RUNS_AT_ONCE + 1 }
         ensures inside { N * result ≤ length «data».now }
-        ensures most { result ≤ REPEATS_AT_ONCE }
         ensures last { self.new.last ≡ self.old.last }
-        ensures counted { length «data».now < READ
-            → IsCount self.old.last (pixels_of N «data».now) result }
-        ensures some { slice_get (pixels_of N «data».now) 0 ≡ Some self.old.last → 0 < result }
-        ensures written { (w : Writing) → BytesBetween w «data».now table.old self.old piece.old
+        ensures stops { (slice_get (pixels_of N (drop (N * result) «data».now)) 0
+            ≢ Some self.old.last) ⊎ (carry + result ≡ REPEATS_AT_ONCE) }
+        ensures written { (w : Writing) → CoderBetween w
+            (replicate carry self.old.last ++ pixels_of N «data».now) table.old self.old
+            (kept_bytes piece.old)
             → BytesBetween w (drop (N * result) «data».now) table.new self.new piece.new }
     {
-        let (near, _) = data.split_at(data.len().min(N * REPEATS_AT_ONCE));
+        let (near, _) = data.split_at(data.len().min(N * (REPEATS_AT_ONCE - carry)));
         // If more than 992 repeat, 992 are counted: sixteen runs of 62, so `one` isn't used.
-        let count = repeats_of::<N>(near, self.last);
-        let one = if N * count == data.len() {
+        let ahead = repeats_of::<N>(near, self.last);
+        let count = carry + ahead;
+        let one = if N * ahead == data.len() {
             // An index position stands for a repeat only if a fresh pixel follows.
             QOI_OP_RUN
         } else {
@@ -310,109 +191,200 @@ impl<const N: usize> Coder<N> {
         };
         piece.keep_runs(count, one);
         self.update_after_repeats(table, count);
-        count
+        ahead
     }
 
-    // Writes at least one pixel at the front: by `write_runs` if the first four all repeat, else by
-    // `write_quad`. Returns how many pixels were written.
-    #[inline(always)]
-    fn write_front<const ROOM: usize>(
-        &mut self,
-        table: &mut PixelTable,
-        piece: &mut Piece<ROOM>,
-        data: &[u8],
-    ) -> usize
-        requires whole { length «data».now % N ≡ 0 }
-        requires long { READ ≤ length «data».now }
-        requires room { piece.old.end + 4 * chunk_max ≤ ROOM }
-        ensures end { piece.new.end ≤ piece.old.end + 4 * chunk_max }
-        ensures inside { N * result ≤ length «data».now }
-        ensures some { 0 < result }
-        ensures written { (w : Writing) → BytesBetween w «data».now table.old self.old piece.old
-            → BytesBetween w (drop (N * result) «data».now) table.new self.new piece.new }
-    {
-        let cur = read_four::<N>(data);
-        let prev = pixels_before(self.last.number(), cur);
-        let bits = repeating(cur, prev);
-        if bits == ALL_REPEAT {
-            return self.write_runs(table, piece, data);
-        }
-        self.write_quad(table, piece, cur, prev, bits)
-    }
-
-    /// Writes until the piece is full or fewer than `READ` raw bytes are left; returns the rest.
-    #[inline(always)]
-    pub(super) fn fill<'a, const ROOM: usize>(
-        &mut self,
-        table: &mut PixelTable,
-        piece: &mut Piece<ROOM>,
-        data: &'a [u8],
-    ) -> &'a [u8]
-        requires whole { length «data».now % N ≡ 0 }
-        requires room { piece.old.end < ROOM - PAST }
-        ensures end { piece.new.end < ROOM - PAST + 4 * chunk_max }
-        ensures few { piece.new.end < ROOM - PAST → length result.now < READ }
-        ensures some { ROOM - PAST ≤ piece.new.end → length result.now < length «data».entry.now }
-        ensures whole { length result.now % N ≡ 0 }
-        ensures written { (w : Writing)
-            → BytesBetween w «data».entry.now table.old self.old piece.old
-            → BytesBetween w result.now table.new self.new piece.new }
-    {
-        let mut rest = data;
-        while !piece.is_full() && rest.len() >= READ {
-            let count = self.write_front(table, piece, rest);
-            rest = skip(rest, N * count);
-        }
-        rest
-    }
-
-    // Writes the repeats at the front and the next fresh pixel, if any; returns how many pixels.
+    // Writes the `carry` repeats that came before these raw bytes, the repeats at their front, and
+    // the fresh pixel after them, if there is one and fewer than 992 repeats were written. Returns
+    // how many pixels of the raw bytes were written.
     #[inline(always)]
     fn write_next<const ROOM: usize>(
         &mut self,
         table: &mut PixelTable,
         piece: &mut Piece<ROOM>,
         data: &[u8],
+        carry: usize,
     ) -> usize
         requires whole { length «data».now % N ≡ 0 }
-        requires some { 0 < length «data».now }
-        requires few { length «data».now < READ }
-        requires room { piece.old.end + RUNS_AT_ONCE < ROOM }
-        ensures end { piece.new.end ≤ piece.old.end + 2 * (N * result) }
+        requires few { carry < REPEATS_AT_ONCE }
+        requires room { piece.old.end + RUNS_AT_ONCE + 1 + chunk_max ≤ ROOM }
+        ensures end { piece.new.end ≤ piece.old.end + RUNS_AT_ONCE + 1 + chunk_max }
         ensures inside { N * result ≤ length «data».now }
-        ensures some { 0 < result }
-        ensures written { (w : Writing) → BytesBetween w «data».now table.old self.old piece.old
+        ensures some { 0 < length «data».now → 0 < result }
+        ensures written { (w : Writing) → CoderBetween w
+            (replicate carry self.old.last ++ pixels_of N «data».now) table.old self.old
+            (kept_bytes piece.old)
             → BytesBetween w (drop (N * result) «data».now) table.new self.new piece.new }
     {
-        let count = self.write_runs(table, piece, data);
+        let count = self.write_runs(table, piece, data, carry);
         let after = skip(data, N * count);
-        if after.is_empty() {
+        if carry + count == REPEATS_AT_ONCE || after.is_empty() {
             return count;
         }
-        let quad = Quad::splat(Packed::read::<N>(after), self.last);
-        self.write_fresh(table, piece, &quad, 0);
+        self.write_pixel(table, piece, Packed::read::<N>(after));
         count + 1
     }
 
-    /// Writes the chunks of the pixels at the end, which have fewer than sixteen raw bytes.
+    /// What is carried after the coder's last pixel, once it is written: nothing.
     #[inline(always)]
-    pub(super) fn write_rest<const ROOM: usize>(
+    pub(super) fn carry(&self) -> Carry
+        ensures count { result.count ≡ 0 }
+        ensures before { IsLastOf self.now.last result.before }
+        ensures placed { result.placed ≡ self.now.placed }
+        ensures opaque { N ≡ 3 → slice_index result.before.a 15 ≡ 255 }
+        ensures between { (w : Writing) (rest table : List RgbaPixel) (kept : List ℕ)
+            → CoderBetween w rest table self.now kept → StepBetween w rest table self.now result kept }
+    {
+        Carry {
+            before: Planes::splat(self.last),
+            count: 0,
+            placed: self.placed,
+        }
+    }
+
+    // Takes over what is carried, but for the repeats, which then still come.
+    #[inline(always)]
+    fn take_over(&mut self, carry: Carry)
+        requires opaque { N ≡ 3 → slice_index carry.before.a 15 ≡ 255 }
+        ensures last { IsTrue self.old.begun → self.new.last ≡ last_pixel carry.before }
+        ensures between { (w : Writing) (rest table : List RgbaPixel) (kept : List ℕ)
+            → StepBetween w rest table self.old carry kept
+            → CoderBetween w (replicate carry.count self.new.last ++ rest) table self.new kept }
+    {
+        if self.begun {
+            let last = carry.before.last();
+            *self = Coder {
+                style: self.style,
+                last,
+                place: last.hash_index(),
+                begun: true,
+                placed: carry.placed,
+            };
+        }
+    }
+
+    // Whether a block can be written as one: a fresh pixel came before it, not all its pixels
+    // repeat, and in style `Tight` none is given by another index position than its own.
+    #[inline(always)]
+    fn takes(&self, table: &PixelTable, block: Block, before: Planes) -> bool
+        ensures begun { IsTrue result → self.now.begun ≡ true }
+        ensures some { IsTrue result
+            → all_repeat (last_pixel before) (block_pixels block.words) ≡ false }
+        ensures none { IsTrue result → self.now.style ≡ Tight
+            → MissesNoBlank table.now before (block_pixels block.words) }
+    {
+        let blank = match self.style {
+            Reference | Places => false,
+            Tight => block.may_miss_blank(table, before),
+        };
+        self.begun && !blank && !block.repeats(before)
+    }
+
+    // Writes the block at the front, but for the repeats at its end. Returns how many pixels it
+    // has, and what is carried.
+    #[inline(always)]
+    fn write_block<const ROOM: usize>(
         &mut self,
         table: &mut PixelTable,
         piece: &mut Piece<ROOM>,
         data: &[u8],
-    )
+        block: Block,
+        carry: Carry,
+    ) -> (usize, Carry)
         requires whole { length «data».now % N ≡ 0 }
-        requires few { length «data».now < READ }
+        requires some { 0 < length «data».now }
+        requires few { carry.count < 16 }
         requires room { piece.old.end < ROOM - PAST }
-        ensures end { piece.new.end < ROOM - PAST + 2 * READ }
-        ensures written { (w : Writing) → BytesBetween w «data».now table.old self.old piece.old
+        requires pixels { block_pixels block.words
+            ≡ padded (take 16 (pixels_of N «data».now)) (16 - length «data».now / N) }
+        requires opaque { N ≡ 3 → AreOpaque (block_pixels block.words) }
+        requires last { N ≡ 3 → slice_index carry.before.a 15 ≡ 255 }
+        requires begun { self.old.begun ≡ true }
+        requires fresh { all_repeat (last_pixel carry.before) (block_pixels block.words) ≡ false }
+        requires none { self.old.style ≡ Tight
+            → MissesNoBlank table.old carry.before (block_pixels block.words) }
+        ensures end { piece.new.end ≤ piece.old.end + BLOCK_MAX }
+        ensures inside { N * result.0 ≤ length «data».now }
+        ensures some { 0 < result.0 }
+        ensures few { result.1.count < 16 }
+        ensures opaque { N ≡ 3 → slice_index result.1.before.a 15 ≡ 255 }
+        ensures written { (w : Writing) → StepBetween w (pixels_of N «data».now) table.old self.old
+            carry (kept_bytes piece.old)
+            → StepBetween w (pixels_of N (drop (N * result.0) «data».now)) table.new self.new
+            result.1 (kept_bytes piece.new) }
+    {
+        let count = (data.len() / N).min(16);
+        let after = piece.keep_block::<N>(self.style, table, block, carry);
+        // The pixels that pad the block didn't come.
+        let left = after.count.saturating_sub((16 - count) as u8);
+        (
+            count,
+            Carry {
+                count: left,
+                ..after
+            },
+        )
+    }
+
+    /// Writes what is at the front of raw bytes: a block, but for the repeats at its end; or all
+    /// repeats there, if a block's pixels repeat; or these and the fresh pixel after them, if it is
+    /// the first one, or in style `Tight` one may be given by another index position than its own.
+    /// Returns how many pixels came, and what is carried.
+    #[inline(always)]
+    pub(super) fn write_front<const ROOM: usize>(
+        &mut self,
+        table: &mut PixelTable,
+        piece: &mut Piece<ROOM>,
+        data: &[u8],
+        carry: Carry,
+    ) -> (usize, Carry)
+        requires whole { length «data».now % N ≡ 0 }
+        requires some { 0 < length «data».now }
+        requires few { carry.count < 16 }
+        requires opaque { N ≡ 3 → slice_index carry.before.a 15 ≡ 255 }
+        requires room { piece.old.end < ROOM - PAST }
+        ensures end { piece.new.end ≤ piece.old.end + BLOCK_MAX }
+        ensures inside { N * result.0 ≤ length «data».now }
+        ensures some { 0 < result.0 }
+        ensures few { result.1.count < 16 }
+        ensures opaque { N ≡ 3 → slice_index result.1.before.a 15 ≡ 255 }
+        ensures written { (w : Writing) → StepBetween w (pixels_of N «data».now) table.old self.old
+            carry (kept_bytes piece.old)
+            → StepBetween w (pixels_of N (drop (N * result.0) «data».now)) table.new self.new
+            result.1 (kept_bytes piece.new) }
+    {
+        let block = Block::first::<N>(data);
+        if self.takes(table, block, carry.before) {
+            return self.write_block(table, piece, data, block, carry);
+        }
+        let repeats = self.begun && block.repeats(carry.before);
+        self.take_over(carry);
+        let repeated = usize::from(carry.count);
+        let count = if repeats {
+            self.write_runs(table, piece, data, repeated)
+        } else {
+            self.write_next(table, piece, data, repeated)
+        };
+        (count, self.carry())
+    }
+
+    /// Writes the repeats that are carried at the end.
+    #[inline(always)]
+    pub(super) fn write_last<const ROOM: usize>(
+        &mut self,
+        table: &mut PixelTable,
+        piece: &mut Piece<ROOM>,
+        carry: Carry,
+    )
+        requires few { carry.count < 16 }
+        requires opaque { N ≡ 3 → slice_index carry.before.a 15 ≡ 255 }
+        requires room { piece.old.end < ROOM - PAST }
+        ensures end { piece.new.end ≤ piece.old.end + RUNS_AT_ONCE + 1 }
+        ensures written { (w : Writing)
+            → StepBetween w [] table.old self.old carry (kept_bytes piece.old)
             → CoderBetween w [] table.new self.new (kept_bytes piece.new) }
     {
-        let mut rest = data;
-        while !rest.is_empty() {
-            let count = self.write_next(table, piece, rest);
-            rest = skip(rest, N * count);
-        }
+        self.take_over(carry);
+        self.write_runs(table, piece, &[], usize::from(carry.count));
     }
 }

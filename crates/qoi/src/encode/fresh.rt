@@ -4,7 +4,7 @@ ghost use Rattle.qoi.specs.declared.chunk.Chunk.{Chunk};
 ghost use Rattle.qoi.specs.Qoi.{IsPixel};
 ghost use Rattle.qoi.specs.Raw.{IsChannels};
 ghost use Rattle.qoi.specs.inner.FreshPixel.{SpellsOut};
-ghost use Rattle.qoi.specs.inner.Lanes.{steps, diff_steps, luma_steps};
+ghost use Rattle.qoi.specs.inner.Steps.{steps, diff_steps, luma_steps};
 
 use crate::consts::{QOI_OP_DIFF, QOI_OP_LUMA, QOI_OP_RGB, QOI_OP_RGBA};
 use crate::packed::Packed;
@@ -53,7 +53,7 @@ fn luma_steps(steps: Packed) -> Packed
 /// RGB and RGBA that gives it. It is a number whose lowest bytes are the chunk's, but for the alpha
 /// of an RGBA, and how many bytes the chunk has.
 #[inline(always)]
-pub(super) fn spell_pixel<const N: usize>(last: Packed, px: Packed) -> (u32, u32)
+pub(crate) fn spell_pixel<const N: usize>(last: Packed, px: Packed) -> (u32, u32)
     requires channels { IsChannels N }
     requires same_alpha { N ≡ 3 → px.a ≡ last.a }
     ensures few { result.1 ≤ N + 1 }

@@ -45,6 +45,14 @@ pub(super) fn greater(v: u8x16, w: u8x16) -> u8x16
     v.simd_max(w)
 }
 
+/// Eight lanes each, as the bytes of a number.
+#[inline(always)]
+pub(super) fn halves(v: u8x16) -> [u64; 2]
+    ensures { result ≡ number_l 256 (take 8 v) ∷ number_l 256 (drop 8 v) ∷ [] }
+{
+    u64x2::from_le_bytes(v).to_array()
+}
+
 /// The lanes, one further on; the first is the last one of `before`.
 #[inline(always)]
 pub(super) fn later(before: u8x16, v: u8x16) -> u8x16
@@ -91,23 +99,6 @@ pub(super) fn places(p: Planes) -> u8x16
     (h + a4 + a4 + a2 + p.a) & u8x16::splat(63)
 }
 
-/// 255 in each lane whose pixel is transparent black, else 0.
-#[inline(always)]
-pub(super) fn blanks(p: Planes) -> u8x16
-    ensures { (ps : List RgbaPixel) → AreSixteen ps → ArePlanes ps p
-        → result ≡ map (λ p. mask (pixel_eq p blank)) ps }
-{
-    is_zero(p.r | p.g | p.b | p.a)
-}
-
-/// The lanes of each half, as the bytes of a number.
-#[inline(always)]
-pub(super) fn halves(v: u8x16) -> [u64; 2]
-    ensures { result ≡ number_l 256 (take 8 v) ∷ number_l 256 (drop 8 v) ∷ [] }
-{
-    u64x2::from_le_bytes(v).to_array()
-}
-
 /// A byte of a number.
 #[inline(always)]
 pub(super) fn byte_at(number: u64, k: u32) -> usize
@@ -147,4 +138,13 @@ pub(super) fn lane_numbers(v: u8x16) -> [usize; 16]
         a[0], a[1], a[2], a[3], a[4], a[5], a[6], a[7], b[0], b[1], b[2], b[3], b[4], b[5], b[6],
         b[7],
     ]
+}
+
+/// 255 in each lane whose pixel is transparent black, else 0.
+#[inline(always)]
+pub(super) fn blanks(p: Planes) -> u8x16
+    ensures { (ps : List RgbaPixel) → AreSixteen ps → ArePlanes ps p
+        → result ≡ map (λ p. mask (pixel_eq p blank)) ps }
+{
+    is_zero(p.r | p.g | p.b | p.a)
 }

@@ -1,5 +1,5 @@
 //! The first sixteen pixels of raw bytes, packed.
-ghost use Rattle.std.specs.Prelude.{◌≡◌, ◌+◌, ◌-◌, ◌*◌, ◌/◌, ◌%◌, ◌≤◌, ◌<◌, ℕ, [], ◌∷◌, length, take};
+ghost use Rattle.std.specs.Prelude.{◌≡◌, ◌+◌, ◌-◌, ◌*◌, ◌/◌, ◌%◌, ◌≤◌, ◌<◌, ℕ, [], ◌∷◌, length, take, map};
 ghost use Rattle.qoi.specs.declared.encode.packing.TheConstants.{READ_SIXTEEN};
 ghost use Rattle.qoi.specs.Qoi.{blank};
 ghost use Rattle.qoi.specs.Raw.{IsChannels, pixels_of};
@@ -8,7 +8,6 @@ ghost use Rattle.qoi.specs.inner.Packed.{word};
 ghost use Rattle.qoi.specs.inner.Planes.{AreOpaque, block_pixels};
 
 use crate::encode::planes::Words;
-use crate::encode::quad::read_four;
 use crate::packed::Packed;
 use crate::utils::skip;
 use std::simd::prelude::*;
@@ -46,6 +45,25 @@ fn read_sixteen<const N: usize>(bytes: &[u8]) -> Words
         three: read_four::<N>(skip(bytes, 8 * N)),
         four: read_four::<N>(skip(bytes, 12 * N)),
     }
+}
+
+// The first four pixels. Sixteen bytes are read, in three channels too, where the pixels have only
+// twelve.
+#[inline(always)]
+fn read_four<const N: usize>(bytes: &[u8]) -> u32x4
+    requires channels { IsChannels N }
+    requires enough { 16 ≤ length bytes.now }
+    ensures lanes { result ≡ map word (take 4 (pixels_of N bytes.now)) }
+{
+    let v = u8x16::from_slice(bytes);
+    if N == 4 {
+        return u32x4::from_le_bytes(v);
+    }
+    let opaque: u8x16 = v.shuffle(
+        u8x16::splat(255),
+        [0, 1, 2, 16, 3, 4, 5, 16, 6, 7, 8, 16, 9, 10, 11, 16],
+    );
+    u32x4::from_le_bytes(opaque)
 }
 
 // Reads pixel by pixel, and the last pixel again past the end.

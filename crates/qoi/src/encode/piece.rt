@@ -1,22 +1,28 @@
 //! The bytes of a file that are kept before they go to a writer.
 ghost use lib.Lanes.{digits_l};
-ghost use Rattle.std.specs.Prelude.{◌≡◌, ◌+◌, ◌-◌, ◌*◌, ◌/◌, ◌^◌, ◌<◌, ◌≤◌, [], ◌∷◌, ◌++◌, length, take, drop, IsTrue, IsFalse, OnOk, IfErr};
+ghost use Rattle.std.specs.Prelude.{◌≡◌, ℕ, false, ◌+◌, ◌-◌, ◌*◌, ◌/◌, ◌^◌, ◌<◌, ◌≤◌, List, [], ◌∷◌, ◌++◌, length, take, drop, slice_index, IsTrue, IsFalse, OnOk, IfErr};
 ghost use Rattle.std.specs.List.{copy_within};
 ghost use Rattle.qoi.specs.declared.chunk.Chunk.{Chunk};
+ghost use Rattle.qoi.specs.declared.encode.block.TheConstants.{BLOCK_MAX};
 ghost use Rattle.qoi.specs.declared.encode.piece.TheConstants.{PAST, RUNS_AT_ONCE, REPEATS_AT_ONCE};
-ghost use Rattle.qoi.specs.Qoi.{run_max, chunk_max, bytes_of, chunk_bytes};
+ghost use Rattle.qoi.specs.declared.types.Style.TheVariants.{Tight};
+ghost use Rattle.qoi.specs.Qoi.{RgbaPixel, run_max, chunk_max, bytes_of, chunk_bytes};
 ghost use Rattle.qoi.specs.Raw.{IsChannels};
 ghost use Rattle.qoi.specs.Runs.{runs_by};
 ghost use Rattle.qoi.specs.writers.Writes.{WroteBeginning};
 
 use crate::consts::{QOI_OP_RUN, QOI_RUN_MAX};
+use crate::encode::block::{Block, Carry};
+use crate::encode::lone::write_any_block;
+use crate::encode::table::PixelTable;
 use crate::error::Result;
+use crate::types::Style;
 use crate::utils::{copy_after, pick};
 use crate::writers::Writer;
 use std::simd::prelude::*;
 
 /// How many bytes of a piece's room come after a full piece: for what goes past it (the chunks of
-/// four pixels, runs, or the last chunks and the end marker), and for what is stored after that and
+/// a block, runs, or the last chunks and the end marker), and for what is stored after that and
 /// means nothing.
 pub(super) const PAST: usize = 128;
 
@@ -45,7 +51,10 @@ pub(super) struct Piece<'a, const ROOM: usize> {
 }
 
 impl<'a, const ROOM: usize> Piece<'a, ROOM> {
+    ghost use Rattle.qoi.specs.inner.Blocks.{BetweenBlocks, MissesNoBlank, padded, last_pixel, all_repeat};
+    ghost use Rattle.qoi.specs.inner.CoderLoop.{Writing};
     ghost use Rattle.qoi.specs.inner.Piece.{kept_bytes};
+    ghost use Rattle.qoi.specs.inner.Planes.{AreOpaque, block_pixels};
 
     /// An empty piece in this room.
     #[inline(always)]
@@ -120,6 +129,38 @@ impl<'a, const ROOM: usize> Piece<'a, ROOM> {
         );
         self.end += count / QOI_RUN_MAX;
         self.keep_run(count % QOI_RUN_MAX, one);
+    }
+
+    /// Appends the chunks of a block that doesn't repeat whole, but for the repeats at its end, as
+    /// `write_block` stores them.
+    #[inline(always)]
+    pub(super) fn keep_block<const N: usize>(
+        &mut self,
+        style: Style,
+        table: &mut PixelTable,
+        block: Block,
+        carry: Carry,
+    ) -> Carry
+        requires channels { IsChannels N }
+        requires few { carry.count ≤ 45 }
+        requires room { self.old.end < ROOM - PAST }
+        ensures end { self.new.end ≤ self.old.end + BLOCK_MAX }
+        ensures few { result.count < 16 }
+        ensures before { result.before ≡ block.planes }
+        ensures written { (w : Writing) (pads : ℕ) (ps rest : List RgbaPixel)
+            → w.list.style ≡ style → block_pixels block.words ≡ padded ps pads → 0 < length ps
+            → (N ≡ 3 → AreOpaque (block_pixels block.words))
+            → (N ≡ 3 → slice_index carry.before.a 15 ≡ 255)
+            → all_repeat (last_pixel carry.before) (block_pixels block.words) ≡ false
+            → (style ≡ Tight → MissesNoBlank table.old carry.before (block_pixels block.words))
+            → BetweenBlocks w (ps ++ rest) table.old carry.before carry.count carry.placed
+            (kept_bytes self.old)
+            → (pads ≤ result.count) × BetweenBlocks w rest table.new block.planes
+            (result.count - pads) result.placed (kept_bytes self.new) }
+    {
+        let (end, after) = write_any_block::<N>(style, table, self.bytes, self.end, block, carry);
+        self.end = end;
+        after
     }
 
     /// Sends a full piece to a writer; the bytes after it are kept.

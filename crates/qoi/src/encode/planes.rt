@@ -2,9 +2,11 @@
 ghost use lib.Lanes.{digits_l, number_l};
 ghost use Rattle.std.specs.Prelude.{◌≡◌, ◌^◌, List, ◌++◌, take, drop};
 ghost use Rattle.qoi.specs.Qoi.{RgbaPixel};
-ghost use Rattle.qoi.specs.inner.Lanes.{AreFour};
-ghost use Rattle.qoi.specs.inner.Planes.{ArePacked, AreSixteen, AreFourWords, AreBlockWords, channel_words, ArePlanes};
+ghost use Rattle.qoi.specs.inner.Blocks.{last_pixel};
+ghost use Rattle.qoi.specs.inner.Planes.{AreFour, ArePacked, AreSixteen, AreFourWords, AreBlockWords, channel_words, ArePlanes};
+ghost use Rattle.qoi.specs.inner.Spelling.{IsLastOf};
 
+use crate::packed::Packed;
 use std::simd::prelude::*;
 
 /// Sixteen packed pixels, four in each vector.
@@ -23,6 +25,34 @@ pub(super) struct Planes {
     pub(super) g: u8x16,
     pub(super) b: u8x16,
     pub(super) a: u8x16,
+}
+
+impl Planes {
+    /// The planes of sixteen times this pixel.
+    #[inline(always)]
+    pub(super) fn splat(px: Packed) -> Planes
+        ensures { IsLastOf px result }
+    {
+        Planes {
+            r: u8x16::splat(px.r()),
+            g: u8x16::splat(px.g()),
+            b: u8x16::splat(px.b()),
+            a: u8x16::splat(px.a()),
+        }
+    }
+
+    /// The last pixel.
+    #[inline(always)]
+    pub(super) fn last(self) -> Packed
+        ensures { result ≡ last_pixel self }
+    {
+        Packed::new(
+            self.r.to_array()[15],
+            self.g.to_array()[15],
+            self.b.to_array()[15],
+            self.a.to_array()[15],
+        )
+    }
 }
 
 // The channels of four pixels: four bytes of red, then green, blue and alpha, each four as a

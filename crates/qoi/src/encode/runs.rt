@@ -1,11 +1,9 @@
 //! Repeats of a pixel in raw bytes.
 ghost use lib.Lanes.{mask_l, zip2};
-ghost use Rattle.std.specs.Prelude.{ℕ, List, nat_eq, slice_index, ◌≡◌, ◌↔◌, ◌+◌, ◌*◌, ◌^◌, ◌≤◌, ◌<◌, ◌++◌, length, take, drop, replicate, IsTrue, slice_get, Some};
-ghost use Rattle.qoi.specs.Qoi.{RgbaPixel, rgba};
+ghost use Rattle.std.specs.Prelude.{nat_eq, ◌≡◌, ◌↔◌, ◌+◌, ◌*◌, ◌^◌, ◌≤◌, ◌<◌, ◌++◌, length, take, drop, replicate, IsTrue, slice_get, Some};
+ghost use Rattle.qoi.specs.Qoi.{rgba};
 ghost use Rattle.qoi.specs.Raw.{IsChannels, output, pixels_of};
 ghost use Rattle.qoi.specs.Runs.{IsCount};
-ghost use Rattle.qoi.specs.inner.Packed.{pixel_of_word};
-ghost use Rattle.qoi.specs.inner.Lanes.{AreFourAfter, IsRun};
 
 use crate::packed::Packed;
 use crate::pixel::Pixel;
@@ -19,21 +17,6 @@ pub fn repeats<const N: usize>(data: &[u8], px: Pixel<N>) -> usize
     ensures { IsCount (rgba px.entry) (pixels_of N «data».now) result }
 {
     repeats_of::<N>(data, px.packed())
-}
-
-/// How many of four pixels, from a lane on, repeat the pixel before that lane. A bit for each of
-/// the four says whether it repeats the one before it.
-#[inline(always)]
-pub(super) fn repeats_in_quad(bits: u64, lane: usize) -> usize
-    requires lane { lane < 4 }
-    ensures counted { (last : RgbaPixel) (pixels : List RgbaPixel) (cur prev : List ℕ)
-        → AreFourAfter last pixels cur prev → bits ≡ mask_l (zip2 nat_eq cur prev)
-        → lane + result < 4
-        → IsCount (pixel_of_word (slice_index prev lane)) (drop lane pixels) result }
-    ensures run { (cur prev : List ℕ) → length cur ≡ 4 → length prev ≡ 4
-        → bits ≡ mask_l (zip2 nat_eq cur prev) → IsRun cur prev lane result }
-{
-    (!(bits >> lane as u32)).trailing_zeros() as usize
 }
 
 /// How many whole pixels at the front of `data` equal `px`: counted by blocks of sixteen pixels,

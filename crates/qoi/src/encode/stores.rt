@@ -1,16 +1,17 @@
 //! Chunks that are stored one after the other, each where the sum of the sizes before it says.
-ghost use lib.Lanes.{digits_l, number_l, sum_l};
-ghost use Rattle.std.specs.Prelude.{◌≡◌, ◌+◌, ◌*◌, ◌/◌, ◌%◌, ◌^◌, ◌≤◌, ◌<◌, ℕ, List, [], ◌∷◌, ◌++◌, length, take, drop, slice_index};
+ghost use lib.Lanes.{digits_l, sum_l};
+ghost use Rattle.std.specs.Prelude.{◌≡◌, ◌≢◌, ◌+◌, ◌*◌, ◌/◌, ◌%◌, ◌^◌, ◌≤◌, ◌<◌, ℕ, List, [], ◌∷◌, ◌++◌, length, take, slice_index, IsTrue};
 ghost use Rattle.qoi.specs.declared.types.Style.{Style};
 ghost use Rattle.qoi.specs.Qoi.{RgbaPixel, IsPixel, run_max};
 ghost use Rattle.qoi.specs.Raw.{IsChannels};
 ghost use Rattle.qoi.specs.inner.BlockState.{State, block_bytes};
 ghost use Rattle.qoi.specs.inner.Planes.{AreSixteen, ArePlanes};
 ghost use Rattle.qoi.specs.inner.Spelling.{HasSpelled};
-ghost use Rattle.qoi.specs.inner.Stores.{AreSizes, AreChunkSizes, AreStarts, first_sum, four_chunks, eight_chunks};
+ghost use Rattle.qoi.specs.inner.Stores.{AreSizes, AreChunkSizes, AreStarts, first_sum, four_chunks, eight_chunks, sixteen_chunks};
 
+use crate::encode::close::put_close;
 use crate::encode::lanes::{byte_at, halves, lesser};
-use crate::encode::planes::{Planes, make_words};
+use crate::encode::planes::{Planes, Words, make_words};
 use crate::encode::spelling::Spelled;
 use std::simd::prelude::*;
 
@@ -85,7 +86,12 @@ fn put_eight<const N: usize>(
         × (take result out.new ≡ take at out.old ++ eight_chunks ss one two) }
 {
     let e = ends(sizes);
-    put_four::<N>(out, at, [0, byte_at(e, 0), byte_at(e, 1), byte_at(e, 2)], one);
+    put_four::<N>(
+        out,
+        at,
+        [0, byte_at(e, 0), byte_at(e, 1), byte_at(e, 2)],
+        one,
+    );
     put_four::<N>(
         out,
         at,
@@ -93,6 +99,53 @@ fn put_eight<const N: usize>(
         two,
     );
     at + byte_at(e, 7)
+}
+
+// Stores sixteen chunks from `at` on, and returns where they end.
+#[inline(always)]
+fn put_each<const N: usize>(
+    out: &mut [u8],
+    at: usize,
+    size: u8x16,
+    words: Words,
+    alpha: u8x16,
+) -> usize
+    requires channels { IsChannels N }
+    requires room { at + 80 ≤ length out.old }
+    ensures same { length out.new ≡ length out.old }
+    ensures near { (at ≤ result) × (result ≤ at + 80) }
+    ensures written { ((k : ℕ) → slice_index size k ≤ N + 1)
+        → take result out.new ≡ take at out.old ++ sixteen_chunks size words alpha }
+{
+    let a = alpha.to_array();
+    let one = FourChunks {
+        numbers: words.one.to_array(),
+        alphas: [a[0], a[1], a[2], a[3]],
+    };
+    let two = FourChunks {
+        numbers: words.two.to_array(),
+        alphas: [a[4], a[5], a[6], a[7]],
+    };
+    let three = FourChunks {
+        numbers: words.three.to_array(),
+        alphas: [a[8], a[9], a[10], a[11]],
+    };
+    let four = FourChunks {
+        numbers: words.four.to_array(),
+        alphas: [a[12], a[13], a[14], a[15]],
+    };
+    // A chunk has at most five bytes, so this changes no size; but it bounds them.
+    let sizes = halves(lesser(size, u8x16::splat(5)));
+    let end = put_eight::<N>(out, at, sizes[0], one, two);
+    put_eight::<N>(out, end, sizes[1], three, four)
+}
+
+// Whether no chunk has five bytes, as an RGBA does.
+#[inline(always)]
+fn none_of_five(size: u8x16) -> bool
+    ensures { IsTrue result → (k : ℕ) → slice_index size k ≢ 5 }
+{
+    size.simd_eq(u8x16::splat(5)).to_bitmask() == 0
 }
 
 /// Stores the chunks of sixteen pixels from `at` on, and returns where they end.
@@ -107,31 +160,14 @@ pub(super) fn put_sixteen<const N: usize>(out: &mut [u8], at: usize, x: Spelled,
         → ((k : ℕ) → slice_index x.size k ≤ N + 1)
         → take result out.new ≡ take at out.old ++ block_bytes style s ps }
 {
-    let n = make_words(Planes {
+    let words = make_words(Planes {
         r: x.first,
         g: x.second,
         b: p.g,
         a: p.b,
     });
-    let a = p.a.to_array();
-    let one = FourChunks {
-        numbers: n.one.to_array(),
-        alphas: [a[0], a[1], a[2], a[3]],
-    };
-    let two = FourChunks {
-        numbers: n.two.to_array(),
-        alphas: [a[4], a[5], a[6], a[7]],
-    };
-    let three = FourChunks {
-        numbers: n.three.to_array(),
-        alphas: [a[8], a[9], a[10], a[11]],
-    };
-    let four = FourChunks {
-        numbers: n.four.to_array(),
-        alphas: [a[12], a[13], a[14], a[15]],
-    };
-    // A chunk has at most five bytes, so this changes no size; but it bounds them.
-    let sizes = halves(lesser(x.size, u8x16::splat(5)));
-    let end = put_eight::<N>(out, at, sizes[0], one, two);
-    put_eight::<N>(out, end, sizes[1], three, four)
+    if N == 3 || none_of_five(x.size) {
+        return put_close(out, at, x.size, words);
+    }
+    put_each::<N>(out, at, x.size, words, p.a)
 }

@@ -5,7 +5,7 @@ use Rattle.qoi.proofs.encoding.StoredBlock.{first_few, four_few}
 use Rattle.qoi.proofs.encoding.StoredParts.{sums_of, two_fours}
 use Rattle.qoi.proofs.encode.stores.put_eight.Goals as goal
 
--- the end of the chunk after k others, from what `ends` and `byte_at` ensure
+-- the end of the chunk after k others, from what `ends` and `after` ensure
 end_few : (ss : List ℕ) (k e r : ℕ) → ((k : ℕ) → slice_index ss k ≤ 5) → r ≡ e → e ≡ first_sum (k + 1) ss → r ≤ 5 * (k + 1)
 end_few ss k e r few is sum = omega (arith, first_few (k + 1) ss few)
 

@@ -1,83 +1,67 @@
--- Twice eight chunks.
-use Rattle.std.proofs.Common.{◌≡◌, ◌+◌, ◌≤◌, ℕ, List, [], ◌∷◌, ◌++◌, take, drop, length, replicate, slice_index, append_assoc, arith, refl, sym, ap, ◌∙◌, subst, length-drop}
-use Rattle.std.specs.Prelude.{min}
+-- Sixteen chunks, in either way.
+use Rattle.std.proofs.Common.{◌≡◌, ◌≢◌, ◌+◌, ◌≤◌, ◌<◌, ℕ, List, ◌++◌, length, map, slice_index, take, arith, refl, sym, ap, ◌∙◌, subst}
 use Rattle.std.specs.List.{AllByRecursion}
-use lib.Lanes.{number_l, zip2}
-use Rattle.std.proofs.lemmas.List.{length-take-le}
-use Rattle.qoi.specs.declared.encode.stores.FourChunks.{FourChunks}
-use Rattle.qoi.specs.Qoi.{RgbaPixel, IsPixel}
+use Rattle.qoi.specs.declared.encode.planes.Planes.{Planes}
+use Rattle.qoi.specs.declared.encode.planes.Words.{Words}
+use Rattle.qoi.specs.declared.encode.spelling.Spelled.{Spelled}
+use Rattle.qoi.specs.declared.types.Style.{Style}
+use Rattle.qoi.specs.Qoi.{RgbaPixel, IsPixel, run_max}
 use Rattle.qoi.specs.inner.BlockBytes.{chunks_of}
 use Rattle.qoi.specs.inner.BlockLanes.{Lane}
-use Rattle.qoi.specs.inner.BlockState.{lanes_of, block_bytes}
-use Rattle.qoi.specs.inner.Stores.{AreChunkSizes, eight_chunks}
+use Rattle.qoi.specs.inner.BlockState.{State, lanes_of, block_bytes}
+use Rattle.qoi.specs.inner.Close.{HaveCodes, HasCode}
+use Rattle.qoi.specs.inner.Planes.{AreSixteen, ArePlanes, AreBlockWords}
+use Rattle.qoi.specs.inner.Spelling.{HasSpelled}
+use Rattle.qoi.specs.inner.Stores.{sixteen_chunks}
 use Rattle.qoi.proofs.encoding.LaneTests.{themselves}
+use Rattle.qoi.proofs.encoding.SizeCodes.{sizes_coded}
 use Rattle.qoi.proofs.encoding.SpelledBlock.{lanes_long, lanes_are}
-use Rattle.qoi.proofs.encoding.StoredBlock.{chunk_pixels, pixels_long, first_plane, second_plane, green_plane, blue_plane, sizes_long, take_few, drop_few, lesser_few, lesser_most, eight_sizes, four_of, sixteen_parts}
+use Rattle.qoi.proofs.encoding.StoredBlock.{chunk_pixels, pixels_long, first_plane, second_plane, green_plane, blue_plane, sizes_long, sixteen_parts}
 use Rattle.qoi.proofs.encoding.StyledBlock.{firsts_in_long, pixels_in, out_in}
 use Rattle.qoi.proofs.encode.stores.put_sixteen.Goals as goal
+use Rattle.qoi.proofs.encode.stores.put_sixteen.Goals.{then-this-eq3-via-then-this-eq3, then-this-eq3-via-else-this-eq3+then-none_of_five}
 
--- the sizes of eight of sixteen lanes, none above five
-cut_sizes : (xs ss part : List ℕ) (n : ℕ) → ss ≡ zip2 min xs (replicate 16 5) → length part ≡ 8
-    → (((k : ℕ) → slice_index ss k ≤ 5) → (k : ℕ) → slice_index part k ≤ 5) → n ≡ number_l 256 part → AreChunkSizes n
-cut_sizes xs ss part n cut long of is =
-    let few : (k : ℕ) → slice_index part k ≤ 5 = of (λ k. omega (arith, ap (λ z. slice_index z k) cut, lesser_most 16 5 xs k)) in
-    record { ss = part; are = eight_sizes part n long few is; few = few }
+-- sixteen chunks of what is spelled out are the block's
+block_is : (style : Style) (s : State) (ps : List RgbaPixel) (x : Spelled) (p : Planes) (words : Words) → AreSixteen ps → IsPixel s.last → ArePlanes ps p → HasSpelled style s ps x → s.carry + 16 < run_max
+    → ((qs : List RgbaPixel) → AreSixteen qs → ArePlanes qs (record { r = x.first; g = x.second; b = p.g; a = p.b }) → AreBlockWords qs words)
+    → sixteen_chunks x.size words p.a ≡ block_bytes style s ps
+block_is style s ps x p words sixteen last planes spelled carry made =
+    let ls : List Lane = lanes_of s.held s.last ps in
+    let fs : List ℕ = x.first in
+    let long : length ls ≡ 16 = lanes_long s.held s.last ps ∙ sixteen.long in
+    let long_first : length fs ≡ 16 = ap length spelled.first_is ∙ firsts_in_long style s.placed s.carry ls ∙ long in
+    let long_size : length x.size ≡ 16 = ap length spelled.size_is ∙ sizes_long ls ∙ long in
+    let same : length fs ≡ length ls = long_first ∙ sym long in
+    let own : (f : RgbaPixel → ℕ) (xs : List ℕ) → xs ≡ map f ps → xs ≡ map (λ (l : Lane). f l.px) ls = λ f xs is. is ∙ sym (themselves f s.held s.last ps) in
+    let pixels : AllByRecursion IsPixel (chunk_pixels ls fs) = subst (λ z. AllByRecursion IsPixel (chunk_pixels ls z)) (sym spelled.first_is)
+    (pixels_in style s.placed s.carry ls (lanes_are s.held s.last ps last sixteen.are)) in
+    let words_are = made (chunk_pixels ls fs) (record { long = pixels_long ls fs same ∙ long; are = pixels }) (record {
+      r_is = first_plane ls fs same;
+      g_is = spelled.second_is ∙ second_plane ls fs same;
+      b_is = own (λ q. q.g) p.g planes.g_is ∙ green_plane ls fs same;
+      a_is = own (λ q. q.b) p.b planes.b_is ∙ blue_plane ls fs same;
+    }) in
+    sixteen_parts ls fs x.size p.a words long long_first long_size (own (λ q. q.a) p.a planes.a_is) pixels words_are
+    ∙ (λ i. chunks_of ls (spelled.first_is i) (spelled.size_is i)) ∙ out_in style s ps sixteen.are (omega (arith, sixteen.long, carry))
 
-pub put_eight-end-requires-clause-sizes : goal.put_eight-end-requires-clause-sizes
-put_eight-end-requires-clause-sizes g c =
-    let ss : List ℕ = c.lesser.result in
-    cut_sizes c.args.x.size ss (take 8 ss) _ c.lesser.ensures (length-take-le 8 ss (omega arith)) (take_few 8 5 ss)
-    (ap (λ z. slice_index z 0) c.halves-sizes.ensures)
+-- its sizes have codes if none is 5
+have_codes : (style : Style) (s : State) (ps : List RgbaPixel) (x : Spelled) → AreSixteen ps → HasSpelled style s ps x → ((k : ℕ) → slice_index x.size k ≢ 5) → HaveCodes x.size
+have_codes style s ps x sixteen spelled none = λ k.
+    let is = ap (λ z. slice_index z k) spelled.size_is in
+    subst HasCode (sym is) (sizes_coded s.held s.last ps sixteen.are k (λ e. none k (is ∙ e)))
 
-pub put_eight-requires-clause-sizes : goal.put_eight-requires-clause-sizes
-put_eight-requires-clause-sizes g c =
-    let ss : List ℕ = c.lesser.result in
-    cut_sizes c.args.x.size ss (drop 8 ss) _ c.lesser.ensures (omega (arith, length-drop 8 ss)) (drop_few 8 5 ss)
-    (ap (λ z. slice_index z 1) c.halves-sizes.ensures)
+pub returns-then-this-eq3-clause-written : goal.returns-then-this-eq3-clause-written
+returns-then-this-eq3-clause-written g c = λ style s ps sixteen last planes spelled carry few.
+    c.put_close.ensures.written c.args.p.a (have_codes style s ps c.args.x sixteen spelled (none few))
+    ∙ ap (λ z. take c.args.at c.args.out.now ++ z) (block_is style s ps c.args.x c.args.p c.make_words-words.result sixteen last planes spelled carry c.make_words-words.ensures)
+  where
+    none : ((k : ℕ) → slice_index c.args.x.size k ≤ g.row.N + 1) → (k : ℕ) → slice_index c.args.x.size k ≢ 5
+    none few = elim c.then-this-eq3.branch [
+      | then-this-eq3-via-then-this-eq3 w ↦ λ k e. omega (arith, few k, e, w.if-this-eq3.true)
+      | then-this-eq3-via-else-this-eq3+then-none_of_five w ↦ w.if-none_of_five.ensures refl
+    ]
 
 pub returns-clause-written : goal.returns-clause-written
 returns-clause-written g c = λ style s ps sixteen last planes spelled carry few.
-    let ls : List Lane = lanes_of s.held s.last ps in
-    let fs : List ℕ = c.args.x.first in
-    let ss : List ℕ = c.args.x.size in
-    let long : length ls ≡ 16 = lanes_long s.held s.last ps ∙ sixteen.long in
-    let long_first : length fs ≡ 16 = ap length spelled.first_is ∙ firsts_in_long style s.placed s.carry ls ∙ long in
-    let long_size : length ss ≡ 16 = ap length spelled.size_is ∙ sizes_long ls ∙ long in
-    let same : length fs ≡ length ls = long_first ∙ sym long in
-    let pixels : AllByRecursion IsPixel (chunk_pixels ls fs) = subst (λ z. AllByRecursion IsPixel (chunk_pixels ls z)) (sym spelled.first_is)
-    (pixels_in style s.placed s.carry ls (lanes_are s.held s.last ps last sixteen.are)) in
-    let words = c.make_words-n.ensures (chunk_pixels ls fs) (record { long = pixels_long ls fs same ∙ long; are = pixels }) (record {
-      r_is = first_plane ls fs same;
-      g_is = spelled.second_is ∙ second_plane ls fs same;
-      b_is = planes.g_is ∙ sym (themselves (λ (p : RgbaPixel). p.g) s.held s.last ps) ∙ green_plane ls fs same;
-      a_is = planes.b_is ∙ sym (themselves (λ (p : RgbaPixel). p.b) s.held s.last ps) ∙ blue_plane ls fs same;
-    }) in
-    let at_most : (k : ℕ) → slice_index ss k ≤ 5 = λ k. omega (arith, few k, c.requires.channels) in
-    let halves : c.halves-sizes.result ≡ number_l 256 (take 8 ss) ∷ number_l 256 (drop 8 ss) ∷ [] =
-    c.halves-sizes.ensures ∙ ap (λ z. number_l 256 (take 8 z) ∷ number_l 256 (drop 8 z) ∷ []) (c.lesser.ensures ∙ lesser_few 16 5 ss long_size at_most) in
-    let first = c.put_eight-end.ensures.written (take 8 ss)
-    (eight_sizes (take 8 ss) _ (length-take-le 8 ss (omega arith)) (take_few 8 5 ss at_most) (ap (λ z. slice_index z 0) halves))
-    (take_few 8 (g.row.N + 1) ss few) in
-    let second = c.put_eight.ensures.written (drop 8 ss)
-    (eight_sizes (drop 8 ss) _ (omega (arith, length-drop 8 ss)) (drop_few 8 5 ss at_most) (ap (λ z. slice_index z 1) halves))
-    (drop_few 8 (g.row.N + 1) ss few) in
-    let n = c.make_words-n.result in
-    let bs : List ℕ = c.args.p.a in
-    let one : FourChunks = record { numbers = n.one; alphas = four_of bs 0 } in
-    let two : FourChunks = record { numbers = n.two; alphas = four_of bs 4 } in
-    let three : FourChunks = record { numbers = n.three; alphas = four_of bs 8 } in
-    let four : FourChunks = record { numbers = n.four; alphas = four_of bs 12 } in
-    let parts = sixteen_parts ls fs ss bs one two three four long long_first long_size (planes.a_is ∙ sym (themselves (λ (p : RgbaPixel). p.a) s.held s.last ps)) pixels (record {
-      one_numbers = words.one_are;
-      two_numbers = words.two_are;
-      three_numbers = words.three_are;
-      four_numbers = words.four_are;
-      one_alphas = refl;
-      two_alphas = refl;
-      three_alphas = refl;
-      four_alphas = refl;
-    }) in
-    let all : chunks_of ls fs ss ≡ block_bytes style s ps = (λ i. chunks_of ls (spelled.first_is i) (spelled.size_is i)) ∙ out_in style s ps sixteen.are (omega (arith, sixteen.long, carry)) in
-    let front = take c.args.at c.args.out.now in
-    second.1 ∙ ap (λ z. z ++ eight_chunks (drop 8 ss) three four) first.1
-    ∙ append_assoc front (eight_chunks (take 8 ss) one two) (eight_chunks (drop 8 ss) three four) ∙ ap (λ z. front ++ z) (parts ∙ all)
+    c.put_each.ensures.written few
+    ∙ ap (λ z. take c.args.at c.args.out.now ++ z) (block_is style s ps c.args.x c.args.p c.make_words-words.result sixteen last planes spelled carry c.make_words-words.ensures)

@@ -1,0 +1,26 @@
+-- All bits but those of the repeats.
+use Rattle.std.proofs.Common.{◌≡◌, ◌+◌, false, List, [], map, refl, sym, ap, ◌∙◌, arith}
+use Rattle.std.proofs.lemmas.List.{length-map}
+use Rattle.std.proofs.lemmas.Simd.{map-map}
+use Rattle.qoi.specs.Qoi.{RgbaPixel}
+use Rattle.qoi.specs.inner.BlockLanes.{Lane, mask}
+use Rattle.qoi.specs.inner.Blocks.{last_pixel, fresh_bits}
+use Rattle.qoi.specs.inner.BlockState.{State, lanes_of, is_rep}
+use Rattle.qoi.specs.inner.Planes.{block_pixels}
+use Rattle.qoi.proofs.encoding.AllRepeat.{ones}
+use Rattle.qoi.proofs.encoding.FreshBits.{rep_bits}
+use Rattle.qoi.proofs.encoding.PackedBlock.{block_sixteen}
+use Rattle.qoi.proofs.encoding.SpelledBlock.{lanes_long}
+use Rattle.qoi.proofs.encode.block.Block.fresh_bits.Goals as goal
+
+pub returns : goal.returns
+returns c =
+    let q = last_pixel c.args.before in
+    let ps : List RgbaPixel = block_pixels c.args.self.words in
+    let sixteen = block_sixteen c.args.self.words c.args.self.packed in
+    let s : State = record { held = []; last = q; carry = 0; placed = false } in
+    let ls : List Lane = lanes_of [] q ps in
+    let changes = c.find_changes.ensures s ps sixteen c.args.self.planes_are (record { red = refl; green = refl; blue = refl; alpha = refl }) in
+    let bits = c.set_bits.ensures.bits (map is_rep ls) (length-map ls is_rep ∙ lanes_long [] q ps ∙ sixteen.long) (changes.rep_is.is ∙ sym (map-map mask is_rep ls)) in
+    let all : c.set_bits.result + fresh_bits q ps ≡ 65535 = ap (λ n. n + fresh_bits q ps) bits ∙ rep_bits [] q ps ∙ ap ones sixteen.long in
+    omega arith

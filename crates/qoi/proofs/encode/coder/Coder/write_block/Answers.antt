@@ -1,0 +1,44 @@
+-- A block further.
+use Rattle.std.proofs.Common.{◌≡◌, ◌≢◌, ◌-◌, ◌*◌, ◌/◌, ◌%◌, ◌<◌, ◌≤◌, true, false, length, take, drop, slice_index, sym, ap, ◌∙◌, arith, subst}
+use Rattle.std.proofs.lemmas.Bool.{true≢false}
+use Rattle.qoi.specs.declared.encode.planes.Planes.{Planes}
+use Rattle.qoi.specs.Raw.{pixels_of}
+use Rattle.qoi.specs.inner.Blocks.{BetweenBlocks}
+use Rattle.qoi.specs.inner.Piece.{kept_bytes}
+use Rattle.qoi.proofs.encoding.FrontBlock.{in_front, front_inside, front_some, some_front, front_pixels, last_opaque}
+use Rattle.qoi.proofs.encoding.GroupRuns.{some_pixels}
+use Rattle.qoi.proofs.encode.coder.Coder.write_block.Goals as goal
+
+pub returns-clause-inside : goal.returns-clause-inside
+returns-clause-inside g c = subst (λ k. g.row.N * k ≤ length c.args.data.now) (sym c.min-count.ensures)
+    (front_inside g.row.N c.args.data.now c.args.self.now.channels c.requires.whole)
+
+pub returns-clause-some : goal.returns-clause-some
+returns-clause-some g c = omega (arith, c.min-count.ensures, front_some g.row.N c.args.data.now c.args.self.now.channels c.requires.whole c.requires.some)
+
+pub returns-clause-opaque : goal.returns-clause-opaque
+returns-clause-opaque g c = λ three. ap (λ (x : Planes). slice_index x.a 15) c.keep_block-after.ensures.before
+    ∙ last_opaque c.args.block.words c.args.block.planes c.args.block.packed c.args.block.planes_are (c.requires.opaque three)
+
+pub returns-clause-written : goal.returns-clause-written
+returns-clause-written g c w b =
+    let n = g.row.N in
+    let raw = c.args.data.now in
+    let carry = c.args.carry in
+    let kept = c.keep_block-after in
+    let channels = c.args.self.now.channels in
+    let pads = 16 - length raw / n in
+    let after = pixels_of n (drop (n * in_front n raw) raw) in
+    let few : kept.result.count - pads ≡ c.saturating_sub-left.result = omega (arith, c.min-count.ensures, c.saturating_sub-left.ensures) in
+    let start = subst (λ x. BetweenBlocks w x c.args.table.now carry.before carry.count carry.placed (kept_bytes c.args.piece.now))
+    (front_pixels n raw channels c.requires.whole) (b.by_blocks c.requires.begun) in
+    let done = kept.ensures.written w pads (take 16 (pixels_of n raw)) after (sym b.style_is) c.requires.pixels
+    (some_front (pixels_of n raw) (some_pixels n raw channels c.requires.whole c.requires.some)) c.requires.opaque c.requires.last c.requires.fresh c.requires.none start in
+    record {
+      style_is = b.style_is;
+      opening = λ no. absurd (true≢false (sym c.requires.begun ∙ no));
+      by_blocks = λ _. subst (λ k. BetweenBlocks w (pixels_of n (drop (n * k) raw)) kept.new.table kept.result.before c.saturating_sub-left.result kept.result.placed
+          (kept_bytes kept.new.self)) (sym c.min-count.ensures)
+          (subst (λ k. BetweenBlocks w after kept.new.table kept.result.before k kept.result.placed (kept_bytes kept.new.self)) few
+          (subst (λ x. BetweenBlocks w after kept.new.table x (kept.result.count - pads) kept.result.placed (kept_bytes kept.new.self)) (sym kept.ensures.before) done.1));
+    }

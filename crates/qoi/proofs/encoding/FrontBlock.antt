@@ -1,0 +1,92 @@
+-- The block at the front of raw bytes, and the bytes after it.
+use Rattle.std.proofs.Common.{◌≡◌, ◌≢◌, ◌⊎◌, inl, inr, ℕ, zero, suc, ◌+◌, true, Some, replicate, ◌*◌, ◌/◌, ◌%◌, ◌-◌, ◌<◌, ◌≤◌, List, [], ◌∷◌, ◌++◌, length, take, drop, min, slice_index, refl, sym, ap, ◌∙◌, arith, take-append-drop}
+use Rattle.std.proofs.Math.ListN.{drop_of_length-le}
+use Rattle.std.proofs.lemmas.Bool.{cases_lt}
+use Rattle.qoi.specs.declared.encode.planes.Planes.{Planes}
+use Rattle.qoi.specs.declared.encode.planes.Words.{Words}
+use Rattle.std.proofs.lemmas.Bool.{and_parts}
+use Rattle.std.specs.List.{slice_get}
+use Rattle.qoi.specs.Qoi.{RgbaPixel, pixel_eq, rgba}
+use Rattle.qoi.specs.inner.Blocks.{all_repeat, padded, final}
+use Rattle.qoi.proofs.format.SamePixels.{pixel_eq-true}
+use Rattle.qoi.specs.Raw.{IsChannels, pixels_of}
+use Rattle.qoi.specs.inner.Planes.{AreOpaque, ArePacked, ArePlanes, alphas, block_pixels}
+use Rattle.qoi.proofs.format.RawPixels.{length-pixels_of}
+use Rattle.qoi.proofs.format.WholePixels.{by_channels, whole_pixels}
+use Rattle.qoi.proofs.encoding.GroupRuns.{pixels_drop, whole_rest, pixel_ahead}
+use Rattle.qoi.proofs.encoding.PackedBlock.{block_sixteen}
+
+-- how many pixels of raw bytes their first block has
+abbrev pub in_front : ℕ → List ℕ → ℕ
+in_front n bytes = min (length bytes / n) 16
+
+-- the first pixels of some
+pub some_front : (ps : List RgbaPixel) → ps ≢ [] → 0 < length (take 16 ps)
+some_front [] some = absurd (some refl)
+some_front (p ∷ ps) some = omega arith
+
+module _ (n : ℕ) (bytes : List ℕ) (is : IsChannels n) (whole : length bytes % n ≡ 0) where
+  abbrev pixels : List RgbaPixel
+  pixels = pixels_of n bytes
+
+  -- the block is within the bytes
+  pub front_inside : n * in_front n bytes ≤ length bytes
+  front_inside = by_channels (λ k. k * min (length bytes / k) 16 ≤ length bytes) is (omega arith) (omega arith)
+
+  -- the bytes after it are whole pixels, too
+  pub front_whole : (length bytes - n * in_front n bytes) % n ≡ 0
+  front_whole = whole_rest n (in_front n bytes) (length bytes) is whole front_inside
+
+  -- if there are bytes, it has some
+  pub front_some : 0 < length bytes → 0 < in_front n bytes
+  front_some = by_channels (λ k. length bytes % k ≡ 0 → 0 < length bytes → 0 < min (length bytes / k) 16) is (λ w l. omega arith) (λ w l. omega arith) whole
+
+  -- the pixels of the bytes are those of the block and then those of the bytes after it
+  pub front_pixels : pixels ≡ take 16 pixels ++ pixels_of n (drop (n * in_front n bytes) bytes)
+  front_pixels = sym (take-append-drop 16 pixels) ∙ ap (λ x. take 16 pixels ++ x) (go (cases_lt (length bytes / n) 16))
+    where
+      count : length pixels ≡ length bytes / n
+      count = length-pixels_of n (length bytes / n) bytes is (whole_pixels n (length bytes) is whole)
+
+      after : drop (in_front n bytes) pixels ≡ pixels_of n (drop (n * in_front n bytes) bytes)
+      after = pixels_drop n (in_front n bytes) bytes is front_inside
+
+      go : (length bytes / n < 16) ⊎ (16 ≤ length bytes / n) → drop 16 pixels ≡ pixels_of n (drop (n * in_front n bytes) bytes)
+      go (inl few) =
+          let all : drop 16 pixels ≡ [] = drop_of_length-le pixels {i = 16} (omega (arith, count)) in
+          let none : drop (in_front n bytes) pixels ≡ [] = drop_of_length-le pixels {i = in_front n bytes} (omega (arith, count)) in
+          all ∙ sym none ∙ after
+      go (inr many) =
+          let sixteen : 16 ≡ in_front n bytes = omega arith in
+          ap (λ k. drop k pixels) sixteen ∙ after
+
+-- alpha of an opaque pixel among others
+opaque_at : (ps : List RgbaPixel) (k : ℕ) → k < length ps → AreOpaque ps → slice_index (alphas ps) k ≡ 255
+opaque_at [] k l o = absurd (omega arith)
+opaque_at (p ∷ ps) zero l o = o.0
+opaque_at (p ∷ ps) (suc k) l o = opaque_at ps k (omega arith) o.1
+
+-- the last pixel of opaque ones is opaque
+pub last_opaque : (w : Words) (x : Planes) → ArePacked w → ArePlanes (block_pixels w) x → AreOpaque (block_pixels w) → slice_index x.a 15 ≡ 255
+last_opaque w x packed planes opaque =
+    ap (λ z. slice_index z 15) planes.a_is ∙ opaque_at (block_pixels w) 15 (omega (arith, (block_sixteen w packed).long)) opaque
+
+-- if the block at the front repeats a pixel, at least one of its repeats is counted
+pub repeats_some : (n : ℕ) (bytes : List ℕ) (q : RgbaPixel) (pads carry count most : ℕ) → IsChannels n → length bytes % n ≡ 0 → 0 < length bytes
+    → all_repeat q (padded (take 16 (pixels_of n bytes)) pads) ≡ true
+    → (slice_get (pixels_of n (drop (n * count) bytes)) 0 ≢ Some q) ⊎ (carry + count ≡ most) → carry < most → 0 < count
+repeats_some n bytes q pads carry (suc count) most is whole some all stops few = omega arith
+repeats_some n bytes q pads carry zero most is whole some all stops few =
+    let ahead = pixel_ahead n bytes is whole some in
+    let p = rgba (take n bytes) in
+    let ps = pixels_of n (drop n bytes) in
+    let first : p ≡ q = pixel_eq-true p q (and_parts (pixel_eq p q) (all_repeat q (padded_rest p (take 15 ps) pads))
+    (sym (ap (λ x. all_repeat q (padded (take 16 x) pads)) ahead) ∙ all)).0 in
+    let none : n * 0 ≡ 0 = by_channels (λ k. k * 0 ≡ 0) is refl refl in
+    elim stops as (λ _. 0 < 0) [
+      | inl other ↦ absurd (other (ap (λ k. slice_get (pixels_of n (drop k bytes)) 0) none ∙ ap (λ x. slice_get x 0) ahead ∙ ap Some first))
+      | inr full ↦ absurd (omega (arith, full, few))
+    ]
+  where
+    padded_rest : RgbaPixel → List RgbaPixel → ℕ → List RgbaPixel
+    padded_rest p ps k = ps ++ replicate k (final p ps)
