@@ -2,6 +2,7 @@
 //! proved callers, drawn images and files, broken files, readers, writers and memory that fail, and
 //! the standard library's readers and writers.
 
+mod blocks;
 mod borders;
 mod broken;
 mod buffered;
@@ -23,7 +24,6 @@ mod ours;
 mod packs;
 mod pieces;
 mod pixel;
-mod quads;
 mod reader;
 mod refusals;
 mod runs;

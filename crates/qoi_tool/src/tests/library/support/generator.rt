@@ -48,9 +48,9 @@ pub fn place(px: Rgba) -> usize
     sum % 64
 }
 
-// The next pixel of a kind, after the pixels so far, of which `last` is the last: a new one, one
-// that stood before, a repeat, a difference, a luma, or opaque black.
-fn pixel(numbers: &mut Numbers, kind: usize, seen: &[Rgba], last: Rgba) -> Rgba {
+/// The next pixel of a kind, after the pixels so far, of which `last` is the last: a new one, one
+/// that stood before, a repeat, a difference, a luma, or opaque black.
+pub fn pixel(numbers: &mut Numbers, kind: usize, seen: &[Rgba], last: Rgba) -> Rgba {
     let [r, g, b, a] = last;
     let step = numbers.byte();
     match kind {

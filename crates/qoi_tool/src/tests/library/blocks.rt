@@ -1,0 +1,150 @@
+//! Images of few pixels, by the plain encoder: repeats, fresh pixels of each kind, and pixels that
+//! share an index position, in each lane of blocks of sixteen pixels and across their borders.
+use crate::tests::library::support::generator::{Numbers, Rgba, pixel};
+use crate::tests::library::support::images::{Image, row};
+use qoi::Channels::{Rgb, Rgba as Four};
+use qoi::{Channels, Result, Style};
+use std::alloc::Global;
+use std::process::Abort;
+
+// Pixels that images are drawn from. The first two share an index position; the third has another.
+#[derive(Clone, Copy)]
+struct Alphabet {
+    channels: Channels,
+    pixels: [Rgba; 3],
+}
+
+#[rattlefmt::skip]
+const ALPHABETS: [Alphabet; 6] = [
+    // From the first to the second is a difference, back a luma.
+    Alphabet { channels: Rgb,
+        pixels: [[100, 100, 100, 255], [101, 98, 101, 255], [200, 10, 31, 255]] },
+    // From the first to the second alpha changes, to the third it stays.
+    Alphabet { channels: Four, pixels: [[10, 20, 30, 40], [10, 20, 30, 104], [11, 20, 30, 40]] },
+    // Opaque black, which stands before the first pixel, at the position that it shares.
+    Alphabet { channels: Rgb, pixels: [[0, 0, 0, 255], [1, 99, 2, 255], [1, 1, 1, 255]] },
+    // The same with transparent black.
+    Alphabet { channels: Four, pixels: [[0, 0, 0, 255], [1, 99, 2, 255], [0, 0, 0, 0]] },
+    // Transparent black at the position that it shares, which is 0; the third has position 1.
+    Alphabet { channels: Four, pixels: [[0, 0, 0, 0], [64, 0, 0, 0], [43, 0, 0, 0]] },
+    // The same with opaque black.
+    Alphabet { channels: Four, pixels: [[64, 0, 0, 0], [0, 0, 0, 0], [0, 0, 0, 255]] },
+];
+
+const STYLES: [Style; 3] = [Style::Reference, Style::Places, Style::Tight];
+
+// Encodes a row of these pixels by each of the calls, and decodes it back.
+fn assert_row(rt: &impl Abort, alloc: Global, channels: Channels, style: Style, pixels: &[Rgba]) {
+    let header = row(pixels.len().min(100) as u32, channels);
+    Image::of(alloc, header, style, pixels)
+        .expect(rt, "refused")
+        .check(rt, alloc);
+}
+
+// The next 1 to 70 pixels: one of four is a repeat, and of the others each is one of the three.
+fn draw(alloc: Global, numbers: &mut Numbers, letters: [Rgba; 3]) -> Result<Vec<Rgba>> {
+    let [mut px, _, _] = letters;
+    let mut pixels = Vec::new(alloc);
+    for _ in 0..1 + numbers.below(70) {
+        if let Some(drawn) = letters.get(numbers.below(4) as usize) {
+            px = *drawn;
+        }
+        pixels.push(px)?;
+    }
+    Ok(pixels)
+}
+
+// Draws 6,000 images in each style, as many from each alphabet.
+#[test]
+fn drawn_rows(rt: HostRuntime) {
+    let mut numbers = Numbers::new(0x4_1a9e5);
+    for style in STYLES {
+        for alphabet in ALPHABETS {
+            for _ in 0..1000 {
+                let pixels = draw(rt.alloc(), &mut numbers, alphabet.pixels).expect(&rt, "refused");
+                assert_row(&rt, rt.alloc(), alphabet.channels, style, &pixels);
+            }
+        }
+    }
+}
+
+// Fresh pixels, up to fifteen, and sixteen more, which are fresh where the pattern has a bit, and
+// else repeat. Each fresh one is one of the two that the one before isn't.
+fn patterned(
+    alloc: Global,
+    numbers: &mut Numbers,
+    letters: [Rgba; 3],
+    pattern: u32,
+    ahead: u32,
+) -> Result<Vec<Rgba>> {
+    let [mut px, _, _] = letters;
+    let mut letter = 0;
+    let mut pixels = Vec::new(alloc);
+    for lane in 0..ahead % 16 + 16 {
+        if lane < ahead % 16 || (pattern >> (lane - ahead % 16)) % 2 == 1 {
+            letter = (letter + 1 + numbers.below(2)) % 3;
+        }
+        if let Some(drawn) = letters.get(letter as usize) {
+            px = *drawn;
+        }
+        pixels.push(px)?;
+    }
+    Ok(pixels)
+}
+
+// All 65,536 patterns of fresh pixels and repeats in sixteen lanes, each in one of the styles, with
+// one of the alphabets, at one of the sixteen offsets.
+#[test]
+fn patterns(rt: HostRuntime) {
+    let mut numbers = Numbers::new(0xb10c5);
+    for pattern in 0..0x1_0000 {
+        let style = STYLES[numbers.below(3) as usize];
+        let alphabet = ALPHABETS[numbers.below(6) as usize];
+        let ahead = numbers.below(16);
+        let pixels = patterned(rt.alloc(), &mut numbers, alphabet.pixels, pattern, ahead).expect(
+            &rt, "refused",
+        );
+        assert_row(&rt, rt.alloc(), alphabet.channels, style, &pixels);
+    }
+}
+
+// Forty pixels, of which each is a repeat or each differs a little from the one before, but for one
+// of another kind.
+fn one_other(
+    alloc: Global,
+    numbers: &mut Numbers,
+    background: usize,
+    kind: usize,
+    lane: usize,
+) -> Result<Vec<Rgba>> {
+    let mut px = [90, 120, 30, 255];
+    let mut pixels = vec![in alloc; px; 1]?;
+    for k in 1..40usize {
+        px = pixel(
+            numbers,
+            if k == lane { kind } else { background },
+            &pixels,
+            px,
+        );
+        pixels.push(px)?;
+    }
+    Ok(pixels)
+}
+
+// Each kind of pixel in each lane of two blocks, among repeats, differences and lumas.
+#[test]
+fn kinds_in_lanes(rt: HostRuntime) {
+    let mut numbers = Numbers::new(0x1a9e5);
+    for lane in 1..33 {
+        for kind in 0..6 {
+            for background in 2..5 {
+                for style in STYLES {
+                    let pixels = one_other(rt.alloc(), &mut numbers, background, kind, lane).expect(
+                        &rt, "refused",
+                    );
+                    assert_row(&rt, rt.alloc(), Four, style, &pixels);
+                }
+            }
+        }
+    }
+}
