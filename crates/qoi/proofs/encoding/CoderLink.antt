@@ -1,5 +1,5 @@
 -- From today's coder to a block, and back.
-use Rattle.std.proofs.Common.{◌≡◌, ℕ, Bool, true, false, List, ◌++◌, replicate, Some, refl, sym, ap, ◌∙◌, subst, append_assoc}
+use Rattle.std.proofs.Common.{◌≡◌, ℕ, Bool, true, false, List, ◌++◌, refl, sym, ap, ◌∙◌, subst, append_assoc}
 use Rattle.qoi.specs.declared.encode.block.Carry.{Carry}
 use Rattle.qoi.specs.declared.encode.coder.Coder.{Coder}
 use Rattle.qoi.specs.declared.types.Style.TheVariants.{Places}

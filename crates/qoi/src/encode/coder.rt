@@ -434,8 +434,7 @@ impl<const N: usize> Coder<N> {
         let mut rest = data;
         let mut carry = carry;
         while !piece.is_full() && !rest.is_empty() {
-            let (count, after) =
-                self.write_front::<STYLE, ROOM>(style, table, piece, rest, carry);
+            let (count, after) = self.write_front::<STYLE, ROOM>(style, table, piece, rest, carry);
             carry = after;
             rest = skip(rest, N * count);
         }

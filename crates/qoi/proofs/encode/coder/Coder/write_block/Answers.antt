@@ -1,5 +1,5 @@
 -- A block further.
-use Rattle.std.proofs.Common.{◌≡◌, ◌-◌, ◌*◌, ◌/◌, ◌<◌, ◌≤◌, length, take, drop, sym, arith, subst}
+use Rattle.std.proofs.Common.{◌≡◌, ◌-◌, ◌*◌, ◌/◌, ◌≤◌, length, take, drop, sym, arith, subst}
 use Rattle.qoi.specs.Raw.{pixels_of}
 use Rattle.qoi.specs.inner.Blocks.{BetweenBlocks}
 use Rattle.qoi.specs.inner.Piece.{kept_bytes}

@@ -1,5 +1,5 @@
 -- A block, or a group.
-use Rattle.std.proofs.Common.{◌≡◌, ◌-◌, ◌/◌, Some, true, false, length, take, slice_index, sym, ap, ◌∙◌, arith}
+use Rattle.std.proofs.Common.{◌≡◌, ◌-◌, ◌/◌, Some, true, length, take, slice_index, sym, ap, ◌∙◌, arith}
 use Rattle.std.specs.List.{slice_get}
 use Rattle.std.proofs.lemmas.Bool.{true≢false}
 use Rattle.qoi.specs.declared.encode.planes.Planes.{Planes}
@@ -30,15 +30,32 @@ pub write_group-requires : goal.write_group-requires
 write_group-requires g c =
     let n = g.row.N in
     let raw = c.args.data.now in
-    let q = last_pixel c.args.carry.before in
-    (
+    let q = last_pixel c.args.carry.before in (
       omega arith,
-      (omega arith, (c.requires.whole, (c.requires.some, (c.requires.few, (c.requires.opaque, (c.requires.room, λ is.
-      elim c.if-self.branch as (λ _. (c.args.self.now.begun ≡ true) × (slice_get (pixels_of n raw) 0 ≡ Some q)) [
-        | then-self y ↦
-          (let all : all_repeat q (padded (take 16 (pixels_of n raw)) (16 - length raw / n)) ≡ true =
-          sym (ap (all_repeat q) c.first-block.ensures.pixels) ∙ sym y.repeats-repeats.ensures ∙ sym y.repeats-is ∙ is in
-          (y.if-self.true, repeats_first n raw q (16 - length raw / n) c.args.self.now.channels c.requires.whole c.requires.some all))
-        | else-self y ↦ absurd (true≢false (sym is ∙ y.repeats-is ∙ y.if-self.false))
-      ])))))),
+      (
+        omega arith,
+        (
+          c.requires.whole,
+          (
+            c.requires.some,
+            (
+              c.requires.few,
+              (
+                c.requires.opaque,
+                (
+                  c.requires.room,
+                  λ is.
+                      elim c.if-self.branch as (λ _. (c.args.self.now.begun ≡ true) × (slice_get (pixels_of n raw) 0 ≡ Some q)) [
+                        | then-self y ↦
+                            (let all : all_repeat q (padded (take 16 (pixels_of n raw)) (16 - length raw / n)) ≡ true =
+                            sym (ap (all_repeat q) c.first-block.ensures.pixels) ∙ sym y.repeats-repeats.ensures ∙ sym y.repeats-is ∙ is in
+                            (y.if-self.true, repeats_first n raw q (16 - length raw / n) c.args.self.now.channels c.requires.whole c.requires.some all))
+                        | else-self y ↦ absurd (true≢false (sym is ∙ y.repeats-is ∙ y.if-self.false))
+                      ],
+                ),
+              ),
+            ),
+          ),
+        ),
+      ),
     )

@@ -13,14 +13,18 @@ use Rattle.qoi.proofs.encode.coder.Coder.write_group.Goals as goal
 pub returns-clause-some : goal.returns-clause-some
 returns-clause-some g c = elim c.if-repeats.branch as (λ _. 0 < c.if-repeats.count) [
   | then-repeats x ↦
-    (let n = g.row.N in
-    let raw = c.args.data.now in
-    let q = last_pixel c.args.carry.before in
-    let is = c.requires.repeats x.if-repeats.true in
-    let stops = subst (λ p. (slice_get (pixels_of n (drop (n * x.write_runs-count.result) raw)) 0 ≢ Some p) ⊎ (c.from-repeated.result + x.write_runs-count.result ≡ REPEATS_AT_ONCE))
-    (c.take_over.ensures.last is.0) x.write_runs-count.ensures.stops in
-    omega (arith, x.count-is, repeats_some n raw q c.from-repeated.result x.write_runs-count.result REPEATS_AT_ONCE c.args.self.now.channels
-    is.1 stops (omega (arith, c.from-repeated.ensures, c.requires.few))))
+      (let n = g.row.N in
+      let raw = c.args.data.now in
+      let q = last_pixel c.args.carry.before in
+      let is = c.requires.repeats x.if-repeats.true in
+      let stops = subst (λ p. (slice_get (pixels_of n (drop (n * x.write_runs-count.result) raw)) 0 ≢ Some p) ⊎ (c.from-repeated.result + x.write_runs-count.result ≡ REPEATS_AT_ONCE))
+      (c.take_over.ensures.last is.0) x.write_runs-count.ensures.stops in
+      omega (
+        arith,
+        x.count-is,
+        repeats_some n raw q c.from-repeated.result x.write_runs-count.result REPEATS_AT_ONCE c.args.self.now.channels
+            is.1 stops (omega (arith, c.from-repeated.ensures, c.requires.few)),
+      ))
   | else-repeats x ↦ omega (arith, x.count-is, x.write_next-count.ensures.some c.requires.some)
 ]
 
