@@ -1,4 +1,4 @@
--- From today's coder to a block, and back.
+-- From the state between two pixels to that between two blocks, and what is carried.
 use Rattle.std.proofs.Common.{◌≡◌, ℕ, Bool, true, false, List, ◌++◌, refl, sym, ap, ◌∙◌, subst, append_assoc}
 use Rattle.qoi.specs.declared.encode.block.Carry.{Carry}
 use Rattle.qoi.specs.declared.encode.coder.Coder.{Coder}

@@ -1,5 +1,5 @@
 -- The block at the front of raw bytes, and the bytes after it.
-use Rattle.std.proofs.Common.{◌≡◌, ◌≢◌, ◌⊎◌, inl, inr, ℕ, zero, suc, ◌+◌, true, Some, replicate, ◌*◌, ◌/◌, ◌%◌, ◌-◌, ◌<◌, ◌≤◌, List, [], ◌∷◌, ◌++◌, length, take, drop, min, slice_index, refl, sym, ap, ◌∙◌, arith, take-append-drop}
+use Rattle.std.proofs.Common.{◌≡◌, ◌≢◌, ◌⊎◌, inl, inr, ℕ, zero, suc, ◌+◌, true, Some, replicate, ◌*◌, ◌/◌, ◌%◌, ◌<◌, ◌≤◌, List, [], ◌∷◌, ◌++◌, length, take, drop, min, slice_index, refl, sym, ap, ◌∙◌, arith, take-append-drop}
 use Rattle.std.proofs.Math.ListN.{drop_of_length-le}
 use Rattle.std.proofs.lemmas.Bool.{cases_lt}
 use Rattle.qoi.specs.declared.encode.planes.Planes.{Planes}
@@ -13,7 +13,7 @@ use Rattle.qoi.specs.Raw.{IsChannels, pixels_of}
 use Rattle.qoi.specs.inner.Planes.{AreOpaque, ArePacked, ArePlanes, alphas, block_pixels}
 use Rattle.qoi.proofs.format.RawPixels.{length-pixels_of}
 use Rattle.qoi.proofs.format.WholePixels.{by_channels, whole_pixels}
-use Rattle.qoi.proofs.encoding.GroupRuns.{pixels_drop, whole_rest, pixel_ahead}
+use Rattle.qoi.proofs.encoding.GroupRuns.{pixels_drop, pixel_ahead}
 use Rattle.qoi.proofs.encoding.PackedBlock.{block_sixteen}
 
 -- how many pixels of raw bytes their first block has
@@ -32,10 +32,6 @@ module _ (n : ℕ) (bytes : List ℕ) (is : IsChannels n) (whole : length bytes 
   -- the block is within the bytes
   pub front_inside : n * in_front n bytes ≤ length bytes
   front_inside = by_channels (λ k. k * min (length bytes / k) 16 ≤ length bytes) is (omega arith) (omega arith)
-
-  -- the bytes after it are whole pixels, too
-  pub front_whole : (length bytes - n * in_front n bytes) % n ≡ 0
-  front_whole = whole_rest n (in_front n bytes) (length bytes) is whole front_inside
 
   -- if there are bytes, it has some
   pub front_some : 0 < length bytes → 0 < in_front n bytes

@@ -1,5 +1,5 @@
 -- Lanes of 32 bits by their bytes, and the first four pixels of raw bytes as lanes.
-use Rattle.std.proofs.Common.{◌≡◌, ℕ, zero, suc, ◌+◌, ◌*◌, ◌/◌, ◌%◌, ◌^◌, ◌<◌, ◌≤◌, List, [], ◌∷◌, ◌++◌, length, take, map, replicate, refl, sym, ap, ◌∙◌, arith, Fits, w32}
+use Rattle.std.proofs.Common.{◌≡◌, ℕ, zero, suc, ◌+◌, ◌*◌, ◌/◌, ◌%◌, ◌^◌, ◌<◌, ◌≤◌, List, [], ◌∷◌, ◌++◌, length, take, map, replicate, refl, sym, ap, ◌∙◌, arith}
 use Rattle.std.proofs.lemmas.Simd.{Each1-from_get_or}
 use Rattle.std.proofs.lemmas.List.{length-take-le, get_or-take}
 use lib.Lanes.{Each1, pick_l, number_l, digits_l}
@@ -12,11 +12,6 @@ abbrev pub fourfold : ℕ → ℕ
 fourfold zero = 0
 fourfold (suc n) = suc (suc (suc (suc (fourfold n))))
 
--- the bytes of numbers of 32 bits, the lowest first
-abbrev pub bytes_in : List ℕ → List ℕ
-bytes_in [] = []
-bytes_in (x ∷ xs) = (x % 2 ^ 8) ∷ (x / 2 ^ 8 % 2 ^ 8) ∷ (x / 2 ^ 16 % 2 ^ 8) ∷ (x / 2 ^ 24) ∷ bytes_in xs
-
 -- the number of four bytes
 abbrev of_four : ℕ → ℕ → ℕ → ℕ → ℕ
 of_four a b c d = a + b * 2 ^ 8 + c * 2 ^ 16 + d * 2 ^ 24
@@ -25,33 +20,6 @@ of_four a b c d = a + b * 2 ^ 8 + c * 2 ^ 16 + d * 2 ^ 24
 abbrev words_in : List ℕ → List ℕ
 words_in (a ∷ b ∷ c ∷ d ∷ bytes) = of_four a b c d ∷ words_in bytes
 words_in _ = []
-
--- a number of 32 bits below others
-low_byte : (x r : ℕ) → x < 2 ^ 32 → (x + 4294967296 * r) % 256 ≡ x % 2 ^ 8
-low_byte x r l = omega arith
-
-second_byte : (x r : ℕ) → x < 2 ^ 32 → (x + 4294967296 * r) / 256 % 256 ≡ x / 2 ^ 8 % 2 ^ 8
-second_byte x r l = omega arith
-
-third_byte : (x r : ℕ) → x < 2 ^ 32 → (x + 4294967296 * r) / 256 / 256 % 256 ≡ x / 2 ^ 16 % 2 ^ 8
-third_byte x r l = omega arith
-
-fourth_byte : (x r : ℕ) → x < 2 ^ 32 → (x + 4294967296 * r) / 256 / 256 / 256 % 256 ≡ x / 2 ^ 24
-fourth_byte x r l = omega arith
-
-above_bytes : (x r : ℕ) → x < 2 ^ 32 → (x + 4294967296 * r) / 256 / 256 / 256 / 256 ≡ r
-above_bytes x r l = omega arith
-
--- lanes of 32 bits, as bytes
-pub bytes_of_lanes : (n : ℕ) (xs : List ℕ) → length xs ≡ n → Each1 (Fits w32) xs → digits_l 256 (fourfold n) (number_l 4294967296 xs) ≡ bytes_in xs
-bytes_of_lanes zero [] e f = refl
-bytes_of_lanes zero (x ∷ xs) e f = absurd (omega arith)
-bytes_of_lanes (suc n) [] e f = absurd (omega arith)
-bytes_of_lanes (suc n) (x ∷ xs) e f =
-    let r = number_l 4294967296 xs in
-    let l = f.0.fits in
-    (λ i. low_byte x r l i ∷ second_byte x r l i ∷ third_byte x r l i ∷ fourth_byte x r l i ∷ digits_l 256 (fourfold n) (above_bytes x r l i))
-    ∙ ap (λ bs. (x % 2 ^ 8) ∷ (x / 2 ^ 8 % 2 ^ 8) ∷ (x / 2 ^ 16 % 2 ^ 8) ∷ (x / 2 ^ 24) ∷ bs) (bytes_of_lanes n xs (omega arith) f.1)
 
 -- four bytes below others
 low_lane : (a b c d r : ℕ) → a < 256 → b < 256 → c < 256 → d < 256 → (a + 256 * (b + 256 * (c + 256 * (d + 256 * r)))) % 4294967296 ≡ of_four a b c d
