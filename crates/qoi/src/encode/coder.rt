@@ -445,7 +445,7 @@ impl<const N: usize> Coder<N> {
         (rest, carry)
     }
 
-    /// Writes the repeats that are carried at the end.
+    /// Writes the repeats that are carried at the end, if there are any.
     #[inline(always)]
     pub(super) fn write_last<const ROOM: usize>(
         &mut self,
@@ -462,6 +462,8 @@ impl<const N: usize> Coder<N> {
             → CoderBetween w [] table.new self.new (kept_bytes piece.new) }
     {
         self.take_over(carry);
-        self.write_runs(table, piece, &[], usize::from(carry.count));
+        if carry.count > 0 {
+            self.write_runs(table, piece, &[], usize::from(carry.count));
+        }
     }
 }
