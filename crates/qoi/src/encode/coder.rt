@@ -263,11 +263,10 @@ impl<const N: usize> Coder<N> {
         }
     }
 
-    // Whether a block can be written as one: a fresh pixel came before it, not all its pixels
+    // Whether a block can be written as one, once a fresh pixel came before it: not all its pixels
     // repeat, and in style `Tight` none is given by another index position than its own.
     #[inline(always)]
-    fn takes(&self, style: Style, table: &PixelTable, block: Block, before: Planes) -> bool
-        ensures begun { IsTrue result → self.now.begun ≡ true }
+    fn takes(style: Style, table: &PixelTable, block: Block, before: Planes) -> bool
         ensures some { IsTrue result
             → all_repeat (last_pixel before) (block_pixels block.words) ≡ false }
         ensures none { IsTrue result → style ≡ Tight
@@ -277,7 +276,7 @@ impl<const N: usize> Coder<N> {
             Reference | Places => false,
             Tight => block.may_miss_blank(table, before),
         };
-        self.begun && !blank && !block.repeats(before)
+        !blank && !block.repeats(before)
     }
 
     // Writes the block at the front, but for the repeats at its end. Returns how many pixels it has, and
@@ -394,11 +393,16 @@ impl<const N: usize> Coder<N> {
             → StepBetween w (pixels_of N (drop (N * result.0) «data».now)) table.new self.new
             result.1 (kept_bytes piece.new) }
     {
-        let block = Block::first::<N>(data);
-        if self.takes(style, table, block, carry.before) {
-            return Coder::<N>::write_block::<STYLE, ROOM>(style, table, piece, data, block, carry);
+        let mut repeats = false;
+        if self.begun {
+            let block = Block::first::<N>(data);
+            if Coder::<N>::takes(style, table, block, carry.before) {
+                return Coder::<N>::write_block::<STYLE, ROOM>(
+                    style, table, piece, data, block, carry,
+                );
+            }
+            repeats = block.repeats(carry.before);
         }
-        let repeats = self.begun && block.repeats(carry.before);
         self.write_group(table, piece, data, carry, repeats)
     }
 
@@ -441,7 +445,7 @@ impl<const N: usize> Coder<N> {
         (rest, carry)
     }
 
-    /// Writes the repeats that are carried at the end.
+    /// Writes the repeats that are carried at the end, if there are any.
     #[inline(always)]
     pub(super) fn write_last<const ROOM: usize>(
         &mut self,
@@ -458,6 +462,8 @@ impl<const N: usize> Coder<N> {
             → CoderBetween w [] table.new self.new (kept_bytes piece.new) }
     {
         self.take_over(carry);
-        self.write_runs(table, piece, &[], usize::from(carry.count));
+        if carry.count > 0 {
+            self.write_runs(table, piece, &[], usize::from(carry.count));
+        }
     }
 }

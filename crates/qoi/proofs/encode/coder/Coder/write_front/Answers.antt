@@ -6,7 +6,7 @@ use Rattle.qoi.specs.declared.encode.planes.Planes.{Planes}
 use Rattle.qoi.specs.Raw.{pixels_of}
 use Rattle.qoi.specs.inner.Blocks.{all_repeat, last_pixel, padded}
 use Rattle.qoi.proofs.encoding.FrontBlock.{repeats_first, last_opaque}
-use Rattle.qoi.proofs.encode.coder.Coder.write_front.Goals.{then-self, else-self}
+use Rattle.qoi.proofs.encode.coder.Coder.write_front.Goals.{then-self+else-takes, else-self}
 use Rattle.qoi.proofs.encode.coder.Coder.write_front.Goals as goal
 
 pub returns-then-takes-clause-opaque : goal.returns-then-takes-clause-opaque
@@ -19,7 +19,7 @@ pub returns-then-takes-clause-written : goal.returns-then-takes-clause-written
 returns-then-takes-clause-written g c = λ w style b.
     let takes = c.takes.ensures in
     let is = c.if-takes.true in
-    let begun = takes.begun is in
+    let begun = c.if-self.true in
     record {
       style_is = b.style_is;
       opening = λ not_yet. absurd (true≢false (sym begun ∙ not_yet));
@@ -30,32 +30,13 @@ pub write_group-requires : goal.write_group-requires
 write_group-requires g c =
     let n = g.row.N in
     let raw = c.args.data.now in
-    let q = last_pixel c.args.carry.before in (
-      omega arith,
-      (
-        omega arith,
-        (
-          c.requires.whole,
-          (
-            c.requires.some,
-            (
-              c.requires.few,
-              (
-                c.requires.opaque,
-                (
-                  c.requires.room,
-                  λ is.
-                      elim c.if-self.branch as (λ _. (c.args.self.now.begun ≡ true) × (slice_get (pixels_of n raw) 0 ≡ Some q)) [
-                        | then-self y ↦
-                            (let all : all_repeat q (padded (take 16 (pixels_of n raw)) (16 - length raw / n)) ≡ true =
-                            sym (ap (all_repeat q) c.first-block.ensures.pixels) ∙ sym y.repeats-repeats.ensures ∙ sym y.repeats-is ∙ is in
-                            (y.if-self.true, repeats_first n raw q (16 - length raw / n) c.args.self.now.channels c.requires.whole c.requires.some all))
-                        | else-self y ↦ absurd (true≢false (sym is ∙ y.repeats-is ∙ y.if-self.false))
-                      ],
-                ),
-              ),
-            ),
-          ),
-        ),
-      ),
-    )
+    let q = last_pixel c.args.carry.before in
+    let first : c.if-self.repeats ≡ true → (c.args.self.now.begun ≡ true) × (slice_get (pixels_of n raw) 0 ≡ Some q) = λ is.
+    elim c.if-self.branch as (λ _. (c.args.self.now.begun ≡ true) × (slice_get (pixels_of n raw) 0 ≡ Some q)) [
+      | then-self+else-takes x ↦
+          (let all : all_repeat q (padded (take 16 (pixels_of n raw)) (16 - length raw / n)) ≡ true =
+          sym (ap (all_repeat q) x.first-block.ensures.pixels) ∙ sym x.repeats-repeats.ensures ∙ sym x.repeats-is ∙ is in
+          (x.if-self.true, repeats_first n raw q (16 - length raw / n) c.args.self.now.channels c.requires.whole c.requires.some all))
+      | else-self y ↦ absurd (true≢false (sym is ∙ y.repeats-is))
+    ] in
+    (omega arith, (omega arith, (c.requires.whole, (c.requires.some, (c.requires.few, (c.requires.opaque, (c.requires.room, first)))))))

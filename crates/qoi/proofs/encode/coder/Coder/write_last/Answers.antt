@@ -1,0 +1,19 @@
+-- The run of the repeats that are carried.
+use Rattle.std.proofs.Common.{ℕ, ◌≡◌, ◌*◌, List, [], ◌++◌, drop, replicate, arith, subst}
+use Rattle.std.proofs.lemmas.List.{length-drop}
+use Rattle.qoi.specs.Raw.{pixels_of}
+use Rattle.qoi.specs.inner.CoderLoop.{CoderBetween}
+use Rattle.qoi.specs.inner.Piece.{kept_bytes}
+use Rattle.qoi.proofs.encoding.GroupRuns.{none_of_few}
+use Rattle.qoi.proofs.encode.coder.Coder.write_last.Goals as goal
+
+pub returns-then-carry-gt0-clause-written : goal.returns-then-carry-gt0-clause-written
+returns-then-carry-gt0-clause-written g c = λ w b.
+    let n = g.row.N in
+    let channels = c.args.self.now.channels in
+    let left : List ℕ = drop (n * c.write_runs.result) [] in
+    let none : pixels_of n [] ≡ [] = none_of_few n [] channels (omega (arith, channels)) in
+    let last : pixels_of n left ≡ [] = none_of_few n left channels (omega (arith, channels, length-drop {A = ℕ} (n * c.write_runs.result) [])) in
+    let start : CoderBetween w (replicate c.from.result c.take_over.new.self.last ++ pixels_of n []) c.args.table.now c.take_over.new.self (kept_bytes c.args.piece.now)
+    = rw (none, c.from.ensures) (c.take_over.ensures.between w _ _ _ b) in
+    subst (λ x. CoderBetween w x c.write_runs.new.table c.write_runs.new.self (kept_bytes c.write_runs.new.piece)) last (c.write_runs.ensures.written w start)
