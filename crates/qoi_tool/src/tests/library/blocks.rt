@@ -82,7 +82,7 @@ fn patterned(
     let mut pixels = Vec::new(alloc);
     for lane in 0..ahead % 16 + 16 {
         if lane < ahead % 16 || (pattern >> (lane - ahead % 16)) % 2 == 1 {
-            letter = (letter + 1 + numbers.below(2)) % 3;
+            letter = (letter % 3 + 1 + numbers.below(2)) % 3;
         }
         if let Some(drawn) = letters.get(letter as usize) {
             px = *drawn;
