@@ -197,8 +197,8 @@ impl Carry {
 }
 
 /// Stores the chunks of a block that doesn't repeat whole, from `at` on, but for the repeats at its
-/// end. Returns where the chunks end, and what is carried then. `STYLE` and `ROOM` give each loop that
-/// calls it a function of its own, which the compiler inlines there.
+/// end. Returns where the chunks end, and what is carried then. `STYLE` and `ROOM` give each loop
+/// that calls it a function of its own, which the compiler inlines there.
 #[inline]
 pub(super) fn write_block<const N: usize, const STYLE: u8, const ROOM: usize>(
     style: Style,

@@ -156,8 +156,8 @@ impl<const N: usize> Coder<N> {
         piece.keep_chunk::<N>(px.number(), number, pick(stands, 1, size));
     }
 
-    // Writes the `carry` repeats that came before these raw bytes and the repeats at their front, at
-    // most 992 in all. Returns how many of the latter.
+    // Writes the `carry` repeats that came before these raw bytes and the repeats at their front,
+    // at most 992 in all. Returns how many of the latter.
     #[inline(always)]
     fn write_runs<const ROOM: usize>(
         &mut self,
@@ -233,7 +233,8 @@ impl<const N: usize> Coder<N> {
         ensures placed { result.placed ≡ self.now.placed }
         ensures opaque { N ≡ 3 → slice_index result.before.a 15 ≡ 255 }
         ensures between { (w : Writing) (rest table : List RgbaPixel) (kept : List ℕ)
-            → CoderBetween w rest table self.now kept → StepBetween w rest table self.now result kept }
+            → CoderBetween w rest table self.now kept
+            → StepBetween w rest table self.now result kept }
     {
         Carry {
             before: Planes::splat(self.last),
@@ -279,8 +280,8 @@ impl<const N: usize> Coder<N> {
         !blank && !block.repeats(before)
     }
 
-    // Writes the block at the front, but for the repeats at its end. Returns how many pixels it has, and
-    // what is carried.
+    // Writes the block at the front, but for the repeats at its end. Returns how many pixels it
+    // has, and what is carried.
     #[inline(always)]
     fn write_block<const STYLE: u8, const ROOM: usize>(
         style: Style,
@@ -307,8 +308,8 @@ impl<const N: usize> Coder<N> {
             → (N ≡ 3 → slice_index carry.before.a 15 ≡ 255)
             → all_repeat (last_pixel carry.before) (block_pixels block.words) ≡ false
             → (style ≡ Tight → MissesNoBlank table.old carry.before (block_pixels block.words))
-            → BetweenBlocks w (pixels_of N «data».now) table.old carry.before carry.count carry.placed
-            (kept_bytes piece.old)
+            → BetweenBlocks w (pixels_of N «data».now) table.old
+            carry.before carry.count carry.placed (kept_bytes piece.old)
             → BetweenBlocks w (pixels_of N (drop (N * result.0) «data».now)) table.new
             result.1.before result.1.count result.1.placed (kept_bytes piece.new) }
     {

@@ -1,5 +1,5 @@
-//! Exactly files are decoded: what each call's clauses come to, call by call. A success means that a
-//! file stands at the front of the bytes; a file that stands there is refused only if memory, the
+//! Exactly files are decoded: what each call's clauses come to, call by call. A success means that
+//! a file stands at the front of the bytes; a file that stands there is refused only if memory, the
 //! buffer or the reader fails; and cut or wrong bytes have the error of their verdict.
 ghost use Rattle.std.specs.Prelude.{◌≡◌, ◌+◌, ◌*◌, ◌≤◌, ◌⊎◌, ◌++◌, ℕ, List, length, take, drop, Option, Some, Ok, IfOk, IfErr, IsErrAnd, IsErrOf, IsOk, IsOkAnd, IsOkUnless, IsTrue, MatchResult};
 ghost use Rattle.qoi.specs.declared.header.Header.{Header};
