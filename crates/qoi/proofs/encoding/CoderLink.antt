@@ -9,8 +9,7 @@ use Rattle.qoi.specs.Styles.{names, styled}
 use Rattle.qoi.specs.inner.Table.{Holds}
 use Rattle.qoi.specs.inner.CoderState.{held_in}
 use Rattle.qoi.specs.inner.CoderLoop.{Writing, CoderBetween}
-use Rattle.qoi.specs.inner.Blocks.{BetweenBlocks}
-use Rattle.qoi.specs.inner.CarryLoop.{StepBetween}
+use Rattle.qoi.specs.inner.CarryLoop.{CarryBetween, StepBetween}
 use Rattle.qoi.specs.inner.BlockState.{State, Carrying}
 use Rattle.qoi.specs.inner.Spelling.{IsLastOf}
 use Rattle.qoi.proofs.encoding.CoderSteps.{front_sent}
@@ -41,7 +40,7 @@ to_carrying {w = w} {coder = coder} b begun = (
 -- before the first block
 pub blocks_start : {N : ℕ} {w : Writing} {pixels : List RgbaPixel} {table : List RgbaPixel} {coder : Coder N} {kept : List ℕ} (carry : Carry)
     → CoderBetween w pixels table coder kept → coder.begun ≡ true → IsLastOf coder.last carry.before → carry.count ≡ 0 → carry.placed ≡ coder.placed
-    → BetweenBlocks w pixels table carry.before carry.count carry.placed kept
+    → CarryBetween w pixels table carry kept
 blocks_start carry b begun last none placed =
     let s = to_carrying b begun in
     record {

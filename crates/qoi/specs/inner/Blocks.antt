@@ -1,10 +1,12 @@
 -- The state between two blocks of sixteen pixels.
-use Rattle.std.specs.Prelude.{◌≡◌, ℕ, zero, suc, Bool, true, ◌&&◌, List, [], ◌∷◌, ◌++◌, replicate, slice_index}
+use Rattle.std.specs.Prelude.{◌≡◌, ℕ, zero, suc, Bool, true, false, ◌&&◌, List, [], ◌∷◌, ◌++◌, replicate, slice_index}
 use Rattle.qoi.specs.declared.encode.planes.Planes.{Planes}
-use Rattle.qoi.specs.declared.types.Style.TheVariants.{Places}
+use Rattle.qoi.specs.declared.types.Style.{Style}
+use Rattle.qoi.specs.declared.types.Style.TheVariants.{Places, Tight}
 use Rattle.qoi.specs.Qoi.{RgbaPixel, blank, pixel, pixel_eq}
 use Rattle.qoi.specs.inner.BlockState.{State, Carrying, NoneBlank}
 use Rattle.qoi.specs.inner.CoderLoop.{Writing}
+use Rattle.qoi.specs.inner.Planes.{AreOpaque}
 use Rattle.qoi.specs.inner.Spelling.{IsLastOf}
 use Rattle.qoi.specs.inner.Table.{Holds}
 
@@ -46,3 +48,10 @@ nth_or_last q (p ∷ ps) (suc k) = nth_or_last p ps k
 -- from whatever the table holds, no fresh pixel is transparent black that isn't at its position
 abbrev pub MissesNoBlank : List RgbaPixel → Planes → List RgbaPixel → Type 0
 MissesNoBlank table before ps = (s : State) → Holds table s.held → IsLastOf s.last before → NoneBlank s ps
+
+-- what a block of pixels of n channels must meet, after the block `before`, to be written as one
+pub record FitsBlock (n : ℕ) (style : Style) (table : List RgbaPixel) (before : Planes) (ps : List RgbaPixel) : Type 0 where
+  pub opaque : n ≡ 3 → AreOpaque ps
+  pub before_opaque : n ≡ 3 → slice_index before.a 15 ≡ 255
+  pub mixed : all_repeat (last_pixel before) ps ≡ false
+  pub no_blank : style ≡ Tight → MissesNoBlank table before ps

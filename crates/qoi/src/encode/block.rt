@@ -1,12 +1,12 @@
 //! Sixteen pixels, a block, and the chunks of a block, but for the repeats that it ends with.
 ghost use Rattle.std.specs.Prelude.{◌≡◌, ℕ, Bool, false, ◌+◌, ◌-◌, ◌≤◌, ◌<◌, List, [], ◌∷◌, ◌++◌, length, map, take, slice_index, slice_index_or, ◌/◌, ◌%◌, IsTrue, IsFalse};
 ghost use Rattle.qoi.specs.declared.encode.block.TheConstants.{BLOCK_ROOM, BLOCK_MAX};
-ghost use Rattle.qoi.specs.declared.types.Style.TheVariants.{Places, Tight};
+ghost use Rattle.qoi.specs.declared.types.Style.TheVariants.{Places};
 ghost use Rattle.qoi.specs.Qoi.{RgbaPixel, IsPixel, run_max, hash};
 ghost use Rattle.qoi.specs.Raw.{IsChannels, pixels_of};
 ghost use Rattle.qoi.specs.inner.BlockLanes.{mask};
 ghost use Rattle.qoi.specs.inner.BlockState.{State, NoneBlank, group_bytes};
-ghost use Rattle.qoi.specs.inner.Blocks.{BetweenBlocks, MissesNoBlank, padded, last_pixel, all_repeat};
+ghost use Rattle.qoi.specs.inner.Blocks.{BetweenBlocks, FitsBlock, MissesNoBlank, padded, last_pixel, all_repeat};
 ghost use Rattle.qoi.specs.inner.CoderLoop.{Writing};
 ghost use Rattle.qoi.specs.inner.Planes.{ArePacked, ArePlanes, AreOpaque, block_pixels};
 ghost use Rattle.qoi.specs.inner.Spelling.{IsLastOf, HasSpelled};
@@ -217,10 +217,7 @@ pub(super) fn write_block<const N: usize, const STYLE: u8, const ROOM: usize>(
     ensures before { result.1.before ≡ block.planes }
     ensures written { (w : Writing) (pads : ℕ) (ps rest : List RgbaPixel) → w.list.style ≡ style
         → block_pixels block.words ≡ padded ps pads → 0 < length ps
-        → (N ≡ 3 → AreOpaque (block_pixels block.words))
-        → (N ≡ 3 → slice_index carry.before.a 15 ≡ 255)
-        → all_repeat (last_pixel carry.before) (block_pixels block.words) ≡ false
-        → (style ≡ Tight → MissesNoBlank table.old carry.before (block_pixels block.words))
+        → FitsBlock N style table.old carry.before (block_pixels block.words)
         → BetweenBlocks w (ps ++ rest) table.old carry.before carry.count carry.placed
         (take at out.old)
         → (pads ≤ result.1.count) × BetweenBlocks w rest table.new block.planes

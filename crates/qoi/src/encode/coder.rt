@@ -13,7 +13,7 @@ ghost use Rattle.qoi.specs.Styles.{choice_in};
 ghost use Rattle.qoi.specs.inner.CoderState.{held_in, last_chunk};
 ghost use Rattle.qoi.specs.inner.FreshPixel.{HasBytes};
 ghost use Rattle.qoi.specs.inner.Piece.{kept_bytes};
-ghost use Rattle.qoi.specs.inner.Planes.{AreOpaque, block_pixels};
+ghost use Rattle.qoi.specs.inner.Planes.{block_pixels};
 ghost use Rattle.qoi.specs.inner.Table.{Holds};
 
 use crate::consts::QOI_OP_RUN;
@@ -44,8 +44,8 @@ pub(super) struct Coder<const N: usize> {
 }
 
 impl<const N: usize> Coder<N> {
-    ghost use Rattle.qoi.specs.inner.Blocks.{BetweenBlocks, MissesNoBlank, padded, last_pixel, all_repeat};
-    ghost use Rattle.qoi.specs.inner.CarryLoop.{StepBetween};
+    ghost use Rattle.qoi.specs.inner.Blocks.{FitsBlock, MissesNoBlank, padded, last_pixel, all_repeat};
+    ghost use Rattle.qoi.specs.inner.CarryLoop.{CarryBetween, StepBetween};
     ghost use Rattle.qoi.specs.inner.CoderLoop.{CoderAfter, single, Writing, CoderBetween, BytesBetween};
     ghost use Rattle.qoi.specs.inner.Spelling.{IsLastOf};
 
@@ -304,14 +304,10 @@ impl<const N: usize> Coder<N> {
         ensures few { result.1.count < 16 }
         ensures before { result.1.before ≡ block.planes }
         ensures written { (w : Writing) → w.list.style ≡ style
-            → (N ≡ 3 → AreOpaque (block_pixels block.words))
-            → (N ≡ 3 → slice_index carry.before.a 15 ≡ 255)
-            → all_repeat (last_pixel carry.before) (block_pixels block.words) ≡ false
-            → (style ≡ Tight → MissesNoBlank table.old carry.before (block_pixels block.words))
-            → BetweenBlocks w (pixels_of N «data».now) table.old
-            carry.before carry.count carry.placed (kept_bytes piece.old)
-            → BetweenBlocks w (pixels_of N (drop (N * result.0) «data».now)) table.new
-            result.1.before result.1.count result.1.placed (kept_bytes piece.new) }
+            → FitsBlock N style table.old carry.before (block_pixels block.words)
+            → CarryBetween w (pixels_of N «data».now) table.old carry (kept_bytes piece.old)
+            → CarryBetween w (pixels_of N (drop (N * result.0) «data».now)) table.new
+            result.1 (kept_bytes piece.new) }
     {
         let count = (data.len() / N).min(16);
         let after = piece.keep_block::<N, STYLE>(style, table, block, carry);

@@ -1,11 +1,10 @@
 //! The bytes of a file that are kept before they go to a writer.
 ghost use lib.Lanes.{digits_l};
-ghost use Rattle.std.specs.Prelude.{◌≡◌, ℕ, false, ◌+◌, ◌-◌, ◌*◌, ◌/◌, ◌^◌, ◌<◌, ◌≤◌, List, [], ◌∷◌, ◌++◌, length, take, drop, slice_index, IsTrue, IsFalse, OnOk, IfErr};
+ghost use Rattle.std.specs.Prelude.{◌≡◌, ℕ, ◌+◌, ◌-◌, ◌*◌, ◌/◌, ◌^◌, ◌<◌, ◌≤◌, List, [], ◌∷◌, ◌++◌, length, take, drop, IsTrue, IsFalse, OnOk, IfErr};
 ghost use Rattle.std.specs.List.{copy_within};
 ghost use Rattle.qoi.specs.declared.chunk.Chunk.{Chunk};
 ghost use Rattle.qoi.specs.declared.encode.block.TheConstants.{BLOCK_MAX};
 ghost use Rattle.qoi.specs.declared.encode.piece.TheConstants.{PAST, RUNS_AT_ONCE, REPEATS_AT_ONCE};
-ghost use Rattle.qoi.specs.declared.types.Style.TheVariants.{Tight};
 ghost use Rattle.qoi.specs.Qoi.{RgbaPixel, run_max, chunk_max, bytes_of, chunk_bytes};
 ghost use Rattle.qoi.specs.Raw.{IsChannels};
 ghost use Rattle.qoi.specs.Runs.{runs_by};
@@ -50,10 +49,11 @@ pub(super) struct Piece<'a, const ROOM: usize> {
 }
 
 impl<'a, const ROOM: usize> Piece<'a, ROOM> {
-    ghost use Rattle.qoi.specs.inner.Blocks.{BetweenBlocks, MissesNoBlank, padded, last_pixel, all_repeat};
+    ghost use Rattle.qoi.specs.inner.Blocks.{BetweenBlocks, FitsBlock, padded};
+    ghost use Rattle.qoi.specs.inner.CarryLoop.{CarryBetween};
     ghost use Rattle.qoi.specs.inner.CoderLoop.{Writing};
     ghost use Rattle.qoi.specs.inner.Piece.{kept_bytes};
-    ghost use Rattle.qoi.specs.inner.Planes.{AreOpaque, block_pixels};
+    ghost use Rattle.qoi.specs.inner.Planes.{block_pixels};
 
     /// An empty piece in this room.
     #[inline(always)]
@@ -148,12 +148,8 @@ impl<'a, const ROOM: usize> Piece<'a, ROOM> {
         ensures before { result.before ≡ block.planes }
         ensures written { (w : Writing) (pads : ℕ) (ps rest : List RgbaPixel)
             → w.list.style ≡ style → block_pixels block.words ≡ padded ps pads → 0 < length ps
-            → (N ≡ 3 → AreOpaque (block_pixels block.words))
-            → (N ≡ 3 → slice_index carry.before.a 15 ≡ 255)
-            → all_repeat (last_pixel carry.before) (block_pixels block.words) ≡ false
-            → (style ≡ Tight → MissesNoBlank table.old carry.before (block_pixels block.words))
-            → BetweenBlocks w (ps ++ rest) table.old carry.before carry.count carry.placed
-            (kept_bytes self.old)
+            → FitsBlock N style table.old carry.before (block_pixels block.words)
+            → CarryBetween w (ps ++ rest) table.old carry (kept_bytes self.old)
             → (pads ≤ result.count) × BetweenBlocks w rest table.new block.planes
             (result.count - pads) result.placed (kept_bytes self.new) }
     {

@@ -37,7 +37,7 @@ put_block-stands-requires g c = λ k lt.
     omega (arith, hashes_below (block_pixels w) k, ap (λ z. slice_index z k) at)
 
 pub returns-clause-written : goal.returns-clause-written
-returns-clause-written g c = λ w pads ps rest style pad_is some opaque before_opaque mixed none b.
+returns-clause-written g c = λ w pads ps rest style pad_is some fits b.
     let s = b.state in
     let words = c.args.block.words in
     let all : List RgbaPixel = block_pixels words in
@@ -59,9 +59,9 @@ returns-clause-written g c = λ w pads ps rest style pad_is some opaque before_o
     }) in
     let out : List ℕ = take c.put_sixteen-end.result c.put_sixteen-end.new.out in
     let step = block_step w c.args.style s ps rest all pads x c.args.block.planes c.put_block-stands.new.table c.carry.result.placed _ out style pad_is some sixteen
-    (subst (λ q. all_repeat q all ≡ false) (sym q_is) mixed) planes start put.holds
-    (λ t held same tight. none tight t (subst (Holds c.args.table.now) (sym held) b.table_is) (subst (λ q. IsLastOf q c.args.carry.before) (sym same) b.before_is))
+    (subst (λ q. all_repeat q all ≡ false) (sym q_is) fits.mixed) planes start put.holds
+    (λ t held same tight. fits.no_blank tight t (subst (Holds c.args.table.now) (sym held) b.table_is) (subst (λ q. IsLastOf q c.args.carry.before) (sym same) b.before_is))
     (λ is. c.carry.ensures.placed (stand_tests s.held all) is put.stands_are ∙ ap (λ n. get_or (stand_tests s.held all) (15 - n) false) c.carry.ensures.count)
     (λ t same last_is carry. c.put_sixteen-end.ensures.written c.args.style t all sixteen (subst IsPixel (sym last_is) last) planes same (omega arith)
-    (sizes_in g.row.N t t.last all x.size c.requires.channels opaque (λ three. ap (λ z. z.a) (last_is ∙ q_is) ∙ before_opaque three) same.size_is)) in
+    (sizes_in g.row.N t t.last all x.size c.requires.channels fits.opaque (λ three. ap (λ z. z.a) (last_is ∙ q_is) ∙ fits.before_opaque three) same.size_is)) in
     subst (λ n. (pads ≤ n) × BetweenBlocks w rest c.put_block-stands.new.table c.args.block.planes (n - pads) c.carry.result.placed out) (sym c.carry.ensures.count) step

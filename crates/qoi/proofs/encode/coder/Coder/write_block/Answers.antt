@@ -2,6 +2,7 @@
 use Rattle.std.proofs.Common.{◌≡◌, ◌-◌, ◌*◌, ◌/◌, ◌≤◌, length, take, drop, sym, arith, subst}
 use Rattle.qoi.specs.Raw.{pixels_of}
 use Rattle.qoi.specs.inner.Blocks.{BetweenBlocks}
+use Rattle.qoi.specs.inner.CarryLoop.{CarryBetween}
 use Rattle.qoi.specs.inner.Piece.{kept_bytes}
 use Rattle.qoi.proofs.encoding.FrontBlock.{in_front, front_inside, front_some, some_front, front_pixels}
 use Rattle.qoi.proofs.encoding.GroupRuns.{some_pixels}
@@ -15,19 +16,18 @@ pub returns-clause-some : goal.returns-clause-some
 returns-clause-some g c = omega (arith, c.min-count.ensures, front_some g.row.N c.args.data.now c.requires.channels c.requires.whole c.requires.some)
 
 pub returns-clause-written : goal.returns-clause-written
-returns-clause-written g c w style opaque last fresh none b =
+returns-clause-written g c w style fits b =
     let n = g.row.N in
     let raw = c.args.data.now in
-    let carry = c.args.carry in
     let kept = c.keep_block-after in
     let channels = c.requires.channels in
     let pads = 16 - length raw / n in
     let after = pixels_of n (drop (n * in_front n raw) raw) in
     let few : kept.result.count - pads ≡ c.saturating_sub-left.result = omega (arith, c.min-count.ensures, c.saturating_sub-left.ensures) in
-    let start = subst (λ x. BetweenBlocks w x c.args.table.now carry.before carry.count carry.placed (kept_bytes c.args.piece.now))
+    let start = subst (λ x. CarryBetween w x c.args.table.now c.args.carry (kept_bytes c.args.piece.now))
     (front_pixels n raw channels c.requires.whole) b in
     let done = kept.ensures.written w pads (take 16 (pixels_of n raw)) after style c.requires.pixels
-    (some_front (pixels_of n raw) (some_pixels n raw channels c.requires.whole c.requires.some)) opaque last fresh none start in
+    (some_front (pixels_of n raw) (some_pixels n raw channels c.requires.whole c.requires.some)) fits start in
     subst (λ k. BetweenBlocks w (pixels_of n (drop (n * k) raw)) kept.new.table kept.result.before c.saturating_sub-left.result kept.result.placed
     (kept_bytes kept.new.self)) (sym c.min-count.ensures)
     (subst (λ k. BetweenBlocks w after kept.new.table kept.result.before k kept.result.placed (kept_bytes kept.new.self)) few

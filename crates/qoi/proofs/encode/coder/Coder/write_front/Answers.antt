@@ -23,7 +23,12 @@ returns-then-takes-clause-written g c = λ w style b.
     record {
       style_is = b.style_is;
       opening = λ not_yet. absurd (true≢false (sym begun ∙ not_yet));
-      by_blocks = λ _. c.write_block.ensures.written w style c.first-block.ensures.opaque c.requires.opaque (takes.some is) (takes.none is) (b.by_blocks begun);
+      by_blocks = λ _. c.write_block.ensures.written w style (record {
+        opaque = c.first-block.ensures.opaque;
+        before_opaque = c.requires.opaque;
+        mixed = takes.some is;
+        no_blank = takes.none is;
+      }) (b.by_blocks begun);
     }
 
 pub write_group-requires : goal.write_group-requires
