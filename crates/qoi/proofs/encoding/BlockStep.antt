@@ -60,9 +60,9 @@ spelled_anew style s p ps x e h = record {
 -- The repeats before the block are written, if a fresh pixel follows them: the state from which its
 -- chunks are written, with the same pixels put and the same last pixel. The pixels `ahead` begin as
 -- the block does.
-pub record Ready (w : Writing) (style : Style) (s : State) (ps ahead : List RgbaPixel) (x : Spelled) (kept : List ℕ) : Type 0 where
+pub record Ready (begun : Bool) (w : Writing) (style : Style) (s : State) (ps ahead : List RgbaPixel) (x : Spelled) (kept : List ℕ) : Type 0 where
   pub state : State
-  pub carrying : Carrying w state ahead kept
+  pub carrying : Carrying begun w state ahead kept
   pub goes_on_is : CarryGoesOn state ps
   pub few : state.carry ≤ 45
   pub spelled : HasSpelled style state ps x
@@ -82,14 +82,14 @@ same_group Places a b q n e = ap (λ z. group_bytes Places z q n) (e refl)
 same_group Tight a b q n e = refl
 
 -- from the state before the block
-pub ready : (w : Writing) (style : Style) (s : State) (ps ahead : List RgbaPixel) (x : Spelled) (fresh placed : Bool) (q : RgbaPixel) (n : ℕ) (kept next : List ℕ)
-    → w.list.style ≡ style → s.carry ≤ 45 → Carrying w s ahead kept → slice_get ahead 0 ≡ slice_get ps 0 → HasSpelled style s ps x → AreSixteen ps
+pub ready : {begun : Bool} (w : Writing) (style : Style) (s : State) (ps ahead : List RgbaPixel) (x : Spelled) (fresh placed : Bool) (q : RgbaPixel) (n : ℕ) (kept next : List ℕ)
+    → w.list.style ≡ style → s.carry ≤ 45 → Carrying begun w s ahead kept → slice_get ahead 0 ≡ slice_get ps 0 → HasSpelled style s ps x → AreSixteen ps
     → fresh ≡ (slice_index x.rep 0 == 0) → s.last ≡ q → s.carry ≡ n → (style ≡ Places → s.placed ≡ placed) → StoredGroup style fresh placed q n kept next
-    → Ready w style s ps ahead x next
+    → Ready begun w style s ps ahead x next
 ready w style s [] ahead x is_fresh placed q n kept next same few c begins h sixteen fresh_is last_is n_is placed_is run = absurd (let l = sixteen.long in omega arith)
 ready w style s (p ∷ ps) [] x is_fresh placed q n kept next same few c begins h sixteen fresh_is last_is n_is placed_is run =
     absurd (let no : ◌≡◌ {A = Option RgbaPixel} None (Some p) = begins in cc)
-ready w style s (p ∷ ps) (a ∷ more) x is_fresh placed q n kept next same few c begins h sixteen fresh_is last_is n_is placed_is run = go (pixel_eq p s.last) refl
+ready {begun} w style s (p ∷ ps) (a ∷ more) x is_fresh placed q n kept next same few c begins h sixteen fresh_is last_is n_is placed_is run = go (pixel_eq p s.last) refl
   where
     fresh_by : (b : Bool) → pixel_eq p s.last ≡ b → is_fresh ≡ (mask b == 0)
     fresh_by b e = fresh_is ∙ ap (λ z. z == 0) (ap (λ z. slice_index z 0) h.rep_is ∙ ap mask e)
@@ -97,10 +97,10 @@ ready w style s (p ∷ ps) (a ∷ more) x is_fresh placed q n kept next same few
     same_front : a ≡ p
     same_front = same_Some a p begins
 
-    stays : next ≡ kept → CarryGoesOn s (p ∷ ps) → Ready w style s (p ∷ ps) (a ∷ more) x next
+    stays : next ≡ kept → CarryGoesOn s (p ∷ ps) → Ready begun w style s (p ∷ ps) (a ∷ more) x next
     stays never on = record {
       state = s;
-      carrying = subst (Carrying w s (a ∷ more)) (sym never) c;
+      carrying = subst (Carrying begun w s (a ∷ more)) (sym never) c;
       goes_on_is = on;
       few = few;
       spelled = h;
@@ -108,7 +108,7 @@ ready w style s (p ∷ ps) (a ∷ more) x is_fresh placed q n kept next same few
       last_is = refl;
     }
 
-    fresh : pixel_eq p s.last ≡ false → (k : ℕ) → s.carry ≡ k → Ready w style s (p ∷ ps) (a ∷ more) x next
+    fresh : pixel_eq p s.last ≡ false → (k : ℕ) → s.carry ≡ k → Ready begun w style s (p ∷ ps) (a ∷ more) x next
     fresh e zero no_carry = stays (run.none (sym n_is ∙ no_carry)) (λ some. absurd (omega arith))
     fresh e (suc k) some =
         let differs : a ≢ s.last = λ same. true≢false (sym (pixel_eq-from p s.last (sym same_front ∙ same)) ∙ e) in
@@ -118,7 +118,7 @@ ready w style s (p ∷ ps) (a ∷ more) x is_fresh placed q n kept next same few
         ∙ sym (run.some (fresh_by false e) (omega arith)) in
         record {
           state = flushed_state s;
-          carrying = subst (Carrying w (flushed_state s) (a ∷ more)) bytes (flushed s k a more c differs some (omega arith));
+          carrying = subst (Carrying begun w (flushed_state s) (a ∷ more)) bytes (flushed s k a more c differs some (omega arith));
           goes_on_is = λ some. absurd (omega arith);
           few = omega arith;
           spelled = spelled_anew style s p ps x e h;
@@ -126,7 +126,7 @@ ready w style s (p ∷ ps) (a ∷ more) x is_fresh placed q n kept next same few
           last_is = refl;
         }
 
-    go : (b : Bool) → pixel_eq p s.last ≡ b → Ready w style s (p ∷ ps) (a ∷ more) x next
+    go : (b : Bool) → pixel_eq p s.last ≡ b → Ready begun w style s (p ∷ ps) (a ∷ more) x next
     go true e = stays (run.stays (fresh_by true e)) (λ some. pixel_eq-true p s.last e)
     go false e = fresh e s.carry refl
 
@@ -203,13 +203,13 @@ end_placed s (p ∷ ps) mixed = go (end_placed t ps) (all_repeat p ps) refl
         before rest ∙ sym (ap (λ n. get_or tests n false) later)
 
 -- over a block of these pixels, of which the last `pads` are padding
-pub block_step : (w : Writing) (style : Style) (s : State) (ps rest all : List RgbaPixel) (pads : ℕ) (x : Spelled) (p : Planes) (table : List RgbaPixel) (placed : Bool) (kept next : List ℕ)
+pub block_step : {begun : Bool} (w : Writing) (style : Style) (s : State) (ps rest all : List RgbaPixel) (pads : ℕ) (x : Spelled) (p : Planes) (table : List RgbaPixel) (placed : Bool) (kept next : List ℕ)
     → w.list.style ≡ style → all ≡ padded ps pads → 0 < length ps → AreSixteen all → all_repeat s.last all ≡ false → ArePlanes all p
-    → Ready w style s all (ps ++ rest) x kept → Holds table (put_all s.held all)
+    → Ready begun w style s all (ps ++ rest) x kept → Holds table (put_all s.held all)
     → ((t : State) → t.held ≡ s.held → t.last ≡ s.last → style ≡ Tight → NoneBlank t all)
     → (style ≡ Places → placed ≡ get_or (stand_tests s.held all) (15 - slice_index x.count 15 % 16) false)
     → ((t : State) → HasSpelled style t all x → t.last ≡ s.last → t.carry ≤ 45 → next ≡ kept ++ block_bytes style t all)
-    → (pads ≤ slice_index x.count 15 % 16) × BetweenBlocks w rest table p (slice_index x.count 15 % 16 - pads) placed next
+    → (pads ≤ slice_index x.count 15 % 16) × BetweenBlocks true w rest table p (slice_index x.count 15 % 16 - pads) placed next
 block_step w style s ps rest all pads x p table placed kept next style_is pad_is some sixteen mixed planes r holds none named bytes =
     let t = r.state in
     let long = sixteen.long in
@@ -232,7 +232,7 @@ block_step w style s ps rest all pads x p table placed kept next style_is pad_is
       omega arith,
       record {
         state = end_state t ps;
-        carrying = subst (Carrying w (end_state t ps) rest) same done;
+        carrying = subst (Carrying true w (end_state t ps) rest) same done;
         table_is = padded_holds table t ps pads some (subst (λ (xs : List RgbaPixel). Holds table (end_state t xs).held) pad_is holds_all);
         before_is = subst (λ q. IsLastOf q p) last (end_last t all p sixteen planes);
         carry_is = omega arith;

@@ -23,7 +23,7 @@ use Rattle.qoi.proofs.encoding.StyleLists.{chooses_in}
 use Rattle.qoi.proofs.encoding.StyledGroup.{WritesOne, styled_runs, styled_chunk}
 use Rattle.qoi.proofs.encoding.CoderTable.{spelled_out}
 use Rattle.qoi.specs.inner.BlockLanes.{lane_bytes}
-use Rattle.qoi.specs.inner.BlockState.{Between, State, Carrying, lane_of, group_bytes, next_by, step_by, next_state, step_bytes, more_of, end_state, block_bytes, NoneBlank, CarryGoesOn, flushed_state}
+use Rattle.qoi.specs.inner.BlockState.{Between, State, HasBegun, Carrying, lane_of, group_bytes, next_by, step_by, next_state, step_bytes, more_of, end_state, block_bytes, NoneBlank, CarryGoesOn, flushed_state}
 use Rattle.qoi.proofs.encoding.BlockOut.{carry_few}
 use Rattle.qoi.proofs.encoding.LaneChunk.{spelled_lane}
 
@@ -172,23 +172,39 @@ no_place : (c : Chunk) (past : Past) (p : RgbaPixel) (i : ℕ) → IsFirst past 
 no_place (Place j) past p i first = absurd (let s = first.spells in omega arith)
 no_place c past p i first = refl
 
-module _ {w : Writing} (s : State) (p : RgbaPixel) (tail : List RgbaPixel) {kept : List ℕ} (few : s.carry < 61) where
+-- if the next pixel repeats, a fresh one came
+begun_at : (begun : Bool) (past : Past) (s : State) (p : RgbaPixel) (tail : List RgbaPixel) → HasBegun begun past s (p ∷ tail) → p ≡ s.last → some_fresh past ≡ true
+begun_at true past s p tail h e = h
+begun_at false past s p tail h e = absurd (h.1 (ap (λ q. Some q) e))
+
+-- if repeats are carried, a fresh pixel came
+begun_carried : (begun : Bool) (past : Past) (s : State) (rest : List RgbaPixel) (k : ℕ) → HasBegun begun past s rest → s.carry ≡ suc k → some_fresh past ≡ true
+begun_carried true past s rest k h e = h
+begun_carried false past s rest k h e = absurd (omega (arith, h.0, e))
+
+-- and still after these
+flushed_begun : (begun : Bool) (s : State) (k : ℕ) (past : Past) (rest : List RgbaPixel) → HasBegun begun past s rest → s.carry ≡ suc k
+    → HasBegun begun (replicate (suc k) (previous past) ++ past) (flushed_state s) rest
+flushed_begun true s k past rest h e = still_begun (suc k) past h
+flushed_begun false s k past rest h e = absurd (omega (arith, h.0, e))
+
+module _ {begun : Bool} {w : Writing} (s : State) (p : RgbaPixel) (tail : List RgbaPixel) {kept : List ℕ} (few : s.carry < 61) where
   -- a repeat that another one follows, or nothing, is carried
-  repeat_on : Carrying w s (p ∷ tail) kept → p ≡ s.last → Carrying w (next_by true true s p) tail (kept ++ [])
+  repeat_on : Carrying begun w s (p ∷ tail) kept → p ≡ s.last → Carrying true w (next_by true true s p) tail (kept ++ [])
   repeat_on c e = record {
     past = c.past;
     before = c.before;
     between = subst (λ z. Between w c.past c.before z (kept ++ [])) (ap (λ q. replicate s.carry q ++ p ∷ tail) (sym e) ∙ repeat_front s.carry p tail)
         (subst (λ k. Between w c.past c.before (replicate s.carry s.last ++ p ∷ tail) k) (sym (append-nil kept)) c.between);
     last_is = c.last_is ∙ sym e;
-    begun = c.begun;
-    held_is = λ i. put_again s.held p (λ j h. c.held_is j ∙ stands_there w.list.style c.past c.begun j (ap hash (c.last_is ∙ sym e) ∙ h) ∙ c.last_is ∙ sym e) i ∙ c.held_is i;
+    begun_is = begun_at begun c.past s p tail c.begun_is e;
+    held_is = λ i. put_again s.held p (λ j h. c.held_is j ∙ stands_there w.list.style c.past (begun_at begun c.past s p tail c.begun_is e) j (ap hash (c.last_is ∙ sym e) ∙ h) ∙ c.last_is ∙ sym e) i ∙ c.held_is i;
     placed_is = c.placed_is ∙ ap (λ q. names c.before (hash q)) (sym e);
   }
 
   -- a fresh pixel is written
-  fresh_one : Carrying w s (p ∷ tail) kept → p ≢ s.last → s.carry ≡ 0 → (w.list.style ≡ Tight → seen s.held (hash p) ≢ p → p ≢ blank) → (more : Bool)
-      → Carrying w (next_by false more s p) tail (kept ++ lane_bytes (lane_of s.held s.last p))
+  fresh_one : Carrying begun w s (p ∷ tail) kept → p ≢ s.last → s.carry ≡ 0 → (w.list.style ≡ Tight → seen s.held (hash p) ≢ p → p ≢ blank) → (more : Bool)
+      → Carrying true w (next_by false more s p) tail (kept ++ lane_bytes (lane_of s.held s.last p))
   fresh_one c n zero_carry none more = by_place (cases_pixel (seen s.held (hash p)) p)
     where
       between : Between w c.past c.before (p ∷ tail) kept
@@ -199,18 +215,18 @@ module _ {w : Writing} (s : State) (p : RgbaPixel) (tail : List RgbaPixel) {kept
 
       after : (d : Chunk) → IsChunk d → choice_in w.list.style c.past p d → lane_bytes (lane_of s.held s.last p) ≡ bytes_of d
           → pixel_eq (seen s.held (hash p)) p ≡ names (Some d) (hash p)
-          → Carrying w (next_by false more s p) tail (kept ++ lane_bytes (lane_of s.held s.last p))
+          → Carrying true w (next_by false more s p) tail (kept ++ lane_bytes (lane_of s.held s.last p))
       after d is choice bytes named = record {
         past = p ∷ c.past;
         before = Some d;
         between = subst (λ b. Between w (p ∷ c.past) (Some d) tail (kept ++ b)) (sym bytes) (fresh_next_is p tail d between differs is choice);
         last_is = refl;
-        begun = fresh_begun c.past p differs;
+        begun_is = fresh_begun c.past p differs;
         held_is = λ i. put_same p s.held (held_in w.list.style c.past) c.held_is i ∙ ap (λ x. seen x i) (sym (fresh_held_in w.list.style c.past p differs));
         placed_is = named;
       }
 
-      by_place : (seen s.held (hash p) ≡ p) ⊎ (seen s.held (hash p) ≢ p) → Carrying w (next_by false more s p) tail (kept ++ lane_bytes (lane_of s.held s.last p))
+      by_place : (seen s.held (hash p) ≡ p) ⊎ (seen s.held (hash p) ≢ p) → Carrying true w (next_by false more s p) tail (kept ++ lane_bytes (lane_of s.held s.last p))
       by_place (inl there) =
           let t = pixel_eq-from _ p there in
           after (Place (hash p)) (hash_below p) (placed_chunk w.list.style c.past p (sym (c.held_is (hash p)) ∙ there)) (rw t refl) (t ∙ sym (eq-eqb (hash p) (hash p) refl))
@@ -223,8 +239,8 @@ module _ {w : Writing} (s : State) (p : RgbaPixel) (tail : List RgbaPixel) {kept
           (f ∙ sym (no_place l.0 c.past p (hash p) first))
 
   -- a repeat before a fresh pixel: the group is written
-  repeat_end : Carrying w s (p ∷ tail) kept → p ≡ s.last → (q : RgbaPixel) (more : List RgbaPixel) → tail ≡ q ∷ more → q ≢ p
-      → Carrying w (next_by true false s p) tail (kept ++ group_bytes w.list.style s.placed p (suc s.carry))
+  repeat_end : Carrying begun w s (p ∷ tail) kept → p ≡ s.last → (q : RgbaPixel) (more : List RgbaPixel) → tail ≡ q ∷ more → q ≢ p
+      → Carrying true w (next_by true false s p) tail (kept ++ group_bytes w.list.style s.placed p (suc s.carry))
   repeat_end c e q more ahead differs = record {
     past = replicate (suc s.carry) (previous c.past) ++ c.past;
     before = last_chunk c.before (runs_by (Run 1) (suc s.carry));
@@ -233,12 +249,15 @@ module _ {w : Writing} (s : State) (p : RgbaPixel) (tail : List RgbaPixel) {kept
         (subst (λ b. Between w (replicate (suc s.carry) (previous c.past) ++ c.past) (last_chunk c.before (runs_by (Run 1) (suc s.carry))) (q ∷ more) (kept ++ b))
         (bytes_are s.carry few) (group_next (suc s.carry) q more (one (suc s.carry)) start (λ same. differs (same ∙ sym p_is)) (λ _. refl)));
     last_is = previous_repeats (suc s.carry) c.past ∙ sym p_is;
-    begun = still_begun (suc s.carry) c.past c.begun;
-    held_is = λ i. put_again s.held p (λ j h. c.held_is j ∙ stands_there w.list.style c.past c.begun j (ap hash (sym p_is) ∙ h) ∙ sym p_is) i ∙ c.held_is i
-        ∙ sym (repeats_held w.list.style (suc s.carry) c.past c.begun i);
+    begun_is = still_begun (suc s.carry) c.past has_begun;
+    held_is = λ i. put_again s.held p (λ j h. c.held_is j ∙ stands_there w.list.style c.past has_begun j (ap hash (sym p_is) ∙ h) ∙ sym p_is) i ∙ c.held_is i
+        ∙ sym (repeats_held w.list.style (suc s.carry) c.past has_begun i);
     placed_is = sym (run_last s.carry c.before (hash p) few);
   }
     where
+      has_begun : some_fresh c.past ≡ true
+      has_begun = begun_at begun c.past s p tail c.begun_is e
+
       p_is : p ≡ previous c.past
       p_is = e ∙ sym c.last_is
 
@@ -256,7 +275,7 @@ module _ {w : Writing} (s : State) (p : RgbaPixel) (tail : List RgbaPixel) {kept
       bytes_are : (k : ℕ) → k < 61 → chunk_bytes (runs_by (one (suc k)) (suc k)) ≡ group_bytes w.list.style s.placed p (suc k)
       bytes_are zero l =
           ap chunk_bytes (runs_few (one 1) 1 (omega arith)) ∙ append-nil (bytes_of (one 1))
-          ∙ (λ i. bytes_of (single_chunk w.list.style (c.begun i) (placed_of i) (hash (sym p_is i)) 1))
+          ∙ (λ i. bytes_of (single_chunk w.list.style (has_begun i) (placed_of i) (hash (sym p_is i)) 1))
       bytes_are (suc k) l =
           ap chunk_bytes (runs_few (one (suc (suc k))) (suc (suc k)) (omega arith)) ∙ append-nil (bytes_of (Run (suc (suc k))))
           ∙ sym (ap (λ b. bytes_of (if b then single_chunk w.list.style true s.placed (hash p) 1 else Run (suc (suc k)))) (not_one k))
@@ -264,19 +283,22 @@ module _ {w : Writing} (s : State) (p : RgbaPixel) (tail : List RgbaPixel) {kept
 -- the repeats that are carried, before a fresh pixel
 
 -- the carried repeats are written
-pub flushed : {w : Writing} (s : State) (k : ℕ) (q : RgbaPixel) (more : List RgbaPixel) {kept : List ℕ} → Carrying w s (q ∷ more) kept → q ≢ s.last
-    → s.carry ≡ suc k → k < 61 → Carrying w (flushed_state s) (q ∷ more) (kept ++ group_bytes w.list.style s.placed s.last (suc k))
-flushed {w} s k q more {kept} c differs some few = record {
+pub flushed : {begun : Bool} {w : Writing} (s : State) (k : ℕ) (q : RgbaPixel) (more : List RgbaPixel) {kept : List ℕ} → Carrying begun w s (q ∷ more) kept → q ≢ s.last
+    → s.carry ≡ suc k → k < 61 → Carrying begun w (flushed_state s) (q ∷ more) (kept ++ group_bytes w.list.style s.placed s.last (suc k))
+flushed {begun} {w} s k q more {kept} c differs some few = record {
   past = replicate (suc k) (previous c.past) ++ c.past;
   before = last_chunk c.before (runs_by (Run 1) (suc k));
   between = subst (λ b. Between w (replicate (suc k) (previous c.past) ++ c.past) (last_chunk c.before (runs_by (Run 1) (suc k))) (q ∷ more) (kept ++ b))
       (bytes_are k few) (group_next (suc k) q more (one (suc k)) start (λ same. differs (same ∙ c.last_is)) (λ _. refl));
   last_is = previous_repeats (suc k) c.past ∙ c.last_is;
-  begun = still_begun (suc k) c.past c.begun;
-  held_is = λ i. c.held_is i ∙ sym (repeats_held w.list.style (suc k) c.past c.begun i);
+  begun_is = flushed_begun begun s k c.past (q ∷ more) c.begun_is some;
+  held_is = λ i. c.held_is i ∙ sym (repeats_held w.list.style (suc k) c.past has_begun i);
   placed_is = sym (run_last k c.before (hash s.last) few);
 }
   where
+    has_begun : some_fresh c.past ≡ true
+    has_begun = begun_carried begun c.past s (q ∷ more) k c.begun_is some
+
     one : ℕ → Chunk
     one n = single_chunk w.list.style (some_fresh c.past) (names c.before (hash (previous c.past))) (hash (previous c.past)) n
 
@@ -290,7 +312,7 @@ flushed {w} s k q more {kept} c differs some few = record {
     bytes_are : (k : ℕ) → k < 61 → chunk_bytes (runs_by (one (suc k)) (suc k)) ≡ group_bytes w.list.style s.placed s.last (suc k)
     bytes_are zero l =
         ap chunk_bytes (runs_few (one 1) 1 (omega arith)) ∙ append-nil (bytes_of (one 1))
-        ∙ (λ i. bytes_of (single_chunk w.list.style (c.begun i) (placed_of i) (hash (c.last_is i)) 1))
+        ∙ (λ i. bytes_of (single_chunk w.list.style (has_begun i) (placed_of i) (hash (c.last_is i)) 1))
     bytes_are (suc k) l =
         ap chunk_bytes (runs_few (one (suc (suc k))) (suc (suc k)) (omega arith)) ∙ append-nil (bytes_of (Run (suc (suc k))))
         ∙ sym (ap (λ b. bytes_of (if b then single_chunk w.list.style true s.placed (hash s.last) 1 else Run (suc (suc k)))) (not_one k))
@@ -315,10 +337,10 @@ none_at (suc n) never = absurd (never (omega arith))
 module _ (w : Writing) (s : State) (p : RgbaPixel) (kept : List ℕ) (few : s.carry < 61) where
   -- after a lane: from whether it repeats, and whether the next one does
   abbrev After : Bool → Bool → List RgbaPixel → Type 0
-  After b m tail = Carrying w (next_by b m s p) tail (kept ++ step_by b m w.list.style s p)
+  After b m tail = Carrying true w (next_by b m s p) tail (kept ++ step_by b m w.list.style s p)
 
   -- over a repeat
-  over_repeat : (ps rest : List RgbaPixel) → Carrying w s (p ∷ (ps ++ rest)) kept → p ≡ s.last → After true (more_of p ps) (ps ++ rest)
+  over_repeat : {begun : Bool} (ps rest : List RgbaPixel) → Carrying begun w s (p ∷ (ps ++ rest)) kept → p ≡ s.last → After true (more_of p ps) (ps ++ rest)
   over_repeat [] rest c e = repeat_on s p rest few c e
   over_repeat (q ∷ qs) rest c e = go (cases_pixel q p)
     where
@@ -328,7 +350,7 @@ module _ (w : Writing) (s : State) (p : RgbaPixel) (kept : List ℕ) (few : s.ca
           (repeat_end s p (q ∷ (qs ++ rest)) few c e q (qs ++ rest) refl other)
 
   -- over a lane's pixel
-  over_lane : (ps rest : List RgbaPixel) → Carrying w s (p ∷ (ps ++ rest)) kept → (0 < s.carry → p ≡ s.last)
+  over_lane : {begun : Bool} (ps rest : List RgbaPixel) → Carrying begun w s (p ∷ (ps ++ rest)) kept → (0 < s.carry → p ≡ s.last)
       → (w.list.style ≡ Tight → p ≢ s.last → seen s.held (hash p) ≢ p → p ≢ blank) → After (pixel_eq p s.last) (more_of p ps) (ps ++ rest)
   over_lane ps rest c on none = go (cases_pixel p s.last)
     where
@@ -338,11 +360,16 @@ module _ (w : Writing) (s : State) (p : RgbaPixel) (kept : List ℕ) (few : s.ca
           (fresh_one s p (ps ++ rest) few c n (none_at s.carry (λ some. n (on some))) (λ t away. none t n away) (more_of p ps))
 
 -- A block's pixels are written, but for the repeats at their end.
-pub block_written : {w : Writing} (s : State) (ps rest : List RgbaPixel) {kept : List ℕ} → Carrying w s (ps ++ rest) kept → CarryGoesOn s ps
-    → s.carry + length ps < 62 → (w.list.style ≡ Tight → NoneBlank s ps) → Carrying w (end_state s ps) rest (kept ++ block_bytes w.list.style s ps)
-block_written {w} s [] rest {kept} c on few none = subst (Carrying w s rest) (sym (append-nil kept)) c
-block_written {w} s (p ∷ ps) rest {kept} c on few none =
-    let m = more_of p ps in
-    let one = over_lane w s p kept (omega arith) ps rest c on (λ t. (none t).0) in
-    subst (Carrying w (end_state (next_state s p m) ps) rest) (append_assoc kept (step_bytes w.list.style s p m) (block_bytes w.list.style (next_state s p m) ps))
-    (block_written (next_state s p m) ps rest one (carry_on s p ps) (omega (arith, carry_few (pixel_eq p s.last) m s p)) (λ t. (none t).1))
+pub block_written : {begun : Bool} {w : Writing} (s : State) (ps rest : List RgbaPixel) {kept : List ℕ} → 0 < length ps → Carrying begun w s (ps ++ rest) kept
+    → CarryGoesOn s ps → s.carry + length ps < 62 → (w.list.style ≡ Tight → NoneBlank s ps)
+    → Carrying true w (end_state s ps) rest (kept ++ block_bytes w.list.style s ps)
+block_written s [] rest some c on few none = absurd (omega arith)
+block_written {w = w} s (p ∷ []) rest {kept} some c on few none =
+    subst (λ b. Carrying true w (next_state s p true) rest (kept ++ b)) (sym (append-nil (step_bytes w.list.style s p true)))
+    (over_lane w s p kept (omega arith) [] rest c on (λ t. (none t).0))
+block_written {begun} {w = w} s (p ∷ q ∷ ps) rest {kept} some c on few none =
+    let m = more_of p (q ∷ ps) in
+    let next = next_state s p m in
+    let one = over_lane w s p kept (omega arith) (q ∷ ps) rest c on (λ t. (none t).0) in
+    subst (Carrying true w (end_state next (q ∷ ps)) rest) (append_assoc kept (step_bytes w.list.style s p m) (block_bytes w.list.style next (q ∷ ps)))
+    (block_written {begun = true} next (q ∷ ps) rest (omega arith) one (carry_on s p (q ∷ ps)) (omega (arith, carry_few (pixel_eq p s.last) m s p)) (λ t. (none t).1))

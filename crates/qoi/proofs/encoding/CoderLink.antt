@@ -1,33 +1,47 @@
 -- From the state between two pixels to that between two blocks, and what is carried.
-use Rattle.std.proofs.Common.{◌≡◌, ℕ, Bool, true, false, List, ◌++◌, refl, sym, ap, ◌∙◌, subst, append_assoc}
+use Rattle.std.proofs.Common.{◌≡◌, ◌≢◌, ℕ, Bool, true, false, List, [], replicate, Some, ◌++◌, refl, sym, ap, ◌∙◌, subst, append_assoc}
 use Rattle.qoi.specs.declared.encode.block.Carry.{Carry}
 use Rattle.qoi.specs.declared.encode.coder.Coder.{Coder}
+use Rattle.qoi.specs.declared.encode.planes.Planes.{Planes}
 use Rattle.qoi.specs.declared.types.Style.TheVariants.{Places}
 use Rattle.std.proofs.lemmas.Bool.{true≢false}
-use Rattle.qoi.specs.Qoi.{RgbaPixel, seen, hash, chunk_bytes}
-use Rattle.qoi.specs.Styles.{names, styled}
+use Rattle.std.specs.List.{slice_get}
+use Rattle.qoi.specs.Qoi.{RgbaPixel, Past, seen, hash, chunk_bytes}
+use Rattle.qoi.specs.Styles.{some_fresh, names, styled}
 use Rattle.qoi.specs.inner.Table.{Holds}
 use Rattle.qoi.specs.inner.CoderState.{held_in}
-use Rattle.qoi.specs.inner.CoderLoop.{Writing, CoderBetween}
-use Rattle.qoi.specs.inner.CarryLoop.{CarryBetween, StepBetween}
-use Rattle.qoi.specs.inner.BlockState.{State, Carrying}
+use Rattle.qoi.specs.inner.CoderLoop.{StillToWrite, Writing, CoderBetween}
+use Rattle.qoi.specs.inner.CarryLoop.{CarryBetween, Opening, StepBetween}
+use Rattle.qoi.specs.inner.BlockState.{State, HasBegun, Carrying}
 use Rattle.qoi.specs.inner.Spelling.{IsLastOf}
-use Rattle.qoi.proofs.encoding.CoderSteps.{front_sent}
+use Rattle.qoi.specs.inner.Blocks.{last_pixel}
+use Rattle.qoi.proofs.format.SamePixels.{same_pixel}
+use Rattle.qoi.proofs.encoding.CoderSteps.{front_sent, none_ahead, all_written}
 
--- Between two pixels, once a fresh one came, with nothing carried. In style Places the coder knows
--- whether the chunk before names the last pixel's position.
-pub to_carrying : {N : ℕ} {w : Writing} {pixels : List RgbaPixel} {table : List RgbaPixel} {coder : Coder N} {kept : List ℕ}
-    → CoderBetween w pixels table coder kept → coder.begun ≡ true
-    → (s : State) × Carrying w s pixels kept × Holds table s.held × (s.last ≡ coder.last) × (s.carry ≡ 0)
+-- the last pixel of the block before
+pub last_of_planes : (q : RgbaPixel) (p : Planes) → IsLastOf q p → q ≡ last_pixel p
+last_of_planes q p is = same_pixel q (last_pixel p) (sym is.red) (sym is.green) (sym is.blue) (sym is.alpha)
+
+-- a fresh pixel came, or the next one is fresh
+begun_or_next : (begun : Bool) (past : Past) (s : State) (rest : List RgbaPixel) → s.carry ≡ 0 → some_fresh past ≡ begun
+    → (begun ≡ false → slice_get rest 0 ≢ Some s.last) → HasBegun begun past s rest
+begun_or_next true past s rest none is fresh = is
+begun_or_next false past s rest none is fresh = (none, fresh refl)
+
+-- Between two pixels, with nothing carried, once a fresh one came or if the next one is fresh. In
+-- style Places the coder knows whether the chunk before names the last pixel's position.
+pub to_carrying : {N : ℕ} {w : Writing} {pixels : List RgbaPixel} {table : List RgbaPixel} {coder : Coder N} {kept : List ℕ} (begun : Bool)
+    → CoderBetween w pixels table coder kept → coder.begun ≡ begun → (begun ≡ false → slice_get pixels 0 ≢ Some coder.last)
+    → (s : State) × Carrying begun w s pixels kept × Holds table s.held × (s.last ≡ coder.last) × (s.carry ≡ 0)
     × (w.list.style ≡ Places → s.placed ≡ coder.placed)
-to_carrying {w = w} {coder = coder} b begun = (
+to_carrying {w = w} {pixels} {coder = coder} begun b is fresh = (
   record { held = held_in coder.style b.past; last = coder.last; carry = 0; placed = names b.before (hash coder.last) },
   record {
     past = b.past;
     before = b.before;
     between = record { todo = b.todo; to_write = b.to_write; ahead_is = b.ahead_is };
     last_is = sym b.state.last_is;
-    begun = sym b.state.begun_is ∙ begun;
+    begun_is = begun_or_next begun b.past _ pixels refl (sym b.state.begun_is ∙ is) fresh;
     held_is = λ i. ap (λ s. seen (held_in s b.past) i) b.style_is;
     placed_is = refl;
   },
@@ -38,11 +52,12 @@ to_carrying {w = w} {coder = coder} b begun = (
 )
 
 -- before the first block
-pub blocks_start : {N : ℕ} {w : Writing} {pixels : List RgbaPixel} {table : List RgbaPixel} {coder : Coder N} {kept : List ℕ} (carry : Carry)
-    → CoderBetween w pixels table coder kept → coder.begun ≡ true → IsLastOf coder.last carry.before → carry.count ≡ 0 → carry.placed ≡ coder.placed
-    → CarryBetween w pixels table carry kept
-blocks_start carry b begun last none placed =
-    let s = to_carrying b begun in
+pub blocks_start : {N : ℕ} {w : Writing} {pixels : List RgbaPixel} {table : List RgbaPixel} {coder : Coder N} {kept : List ℕ} (carry : Carry) (begun : Bool)
+    → CoderBetween w pixels table coder kept → coder.begun ≡ begun → (begun ≡ false → slice_get pixels 0 ≢ Some coder.last)
+    → IsLastOf coder.last carry.before → carry.count ≡ 0 → carry.placed ≡ coder.placed
+    → CarryBetween begun w pixels table carry kept
+blocks_start carry begun b is fresh last none placed =
+    let s = to_carrying begun b is fresh in
     record {
       state = s.0;
       carrying = s.1;
@@ -52,14 +67,41 @@ blocks_start carry b begun last none placed =
       placed_is = λ is. s.5 is ∙ sym placed;
     }
 
+-- before the first fresh pixel, if the next one is fresh
+pub opening_start : {N : ℕ} {w : Writing} {pixels : List RgbaPixel} {table : List RgbaPixel} {coder : Coder N} {carry : Carry} {kept : List ℕ}
+    → Opening w pixels table coder carry kept → coder.begun ≡ false → slice_get pixels 0 ≢ Some (last_pixel carry.before) → CarryBetween false w pixels table carry kept
+opening_start {coder = coder} {carry} o not_yet fresh =
+    blocks_start carry false o.between not_yet (λ _ e. fresh (e ∙ ap (λ q. Some q) (last_of_planes coder.last carry.before o.last_is))) o.last_is o.none o.placed_is
+
+-- between two steps, once a fresh pixel came or if the next one is fresh
+pub step_blocks : {N : ℕ} {w : Writing} {pixels : List RgbaPixel} {table : List RgbaPixel} {coder : Coder N} {carry : Carry} {kept : List ℕ}
+    → StepBetween w pixels table coder carry kept → (coder.begun ≡ false → slice_get pixels 0 ≢ Some (last_pixel carry.before)) → CarryBetween coder.begun w pixels table carry kept
+step_blocks {w = w} {pixels} {table} {coder} {carry} {kept} b fresh = go coder.begun refl
+  where
+    go : (begun : Bool) → coder.begun ≡ begun → CarryBetween begun w pixels table carry kept
+    go true has_begun = b.by_blocks has_begun
+    go false not_yet = opening_start (b.opening not_yet) not_yet (fresh not_yet)
+
+-- at the end, if nothing is carried, nothing is still to be written
+pub step_ended : {N : ℕ} {w : Writing} {table : List RgbaPixel} {coder : Coder N} {carry : Carry} {kept : List ℕ}
+    → StepBetween w [] table coder carry kept → carry.count ≡ 0 → w.ahead ≡ kept
+step_ended {w = w} {coder = coder} {carry} {kept} b none = go coder.begun refl
+  where
+    go : (begun : Bool) → coder.begun ≡ begun → w.ahead ≡ kept
+    go true has_begun =
+        let blocks = b.by_blocks has_begun in
+        let c = blocks.carrying in
+        none_ahead w c.before (subst (λ n. StillToWrite w.list c.past (replicate n blocks.state.last ++ []) c.between.todo) (blocks.carry_is ∙ none) c.between.to_write) c.between.ahead_is
+    go false not_yet = all_written (b.opening not_yet).between
+
 -- nothing is carried between two pixels
 pub step_start : {N : ℕ} {w : Writing} {pixels : List RgbaPixel} {table : List RgbaPixel} {coder : Coder N} {kept : List ℕ} (carry : Carry)
     → CoderBetween w pixels table coder kept → IsLastOf coder.last carry.before → carry.count ≡ 0 → carry.placed ≡ coder.placed
     → StepBetween w pixels table coder carry kept
 step_start carry b last none placed = record {
   style_is = b.style_is;
-  opening = λ _. (none, b);
-  by_blocks = λ begun. blocks_start carry b begun last none placed;
+  opening = λ _. record { between = b; last_is = last; none = none; placed_is = placed };
+  by_blocks = λ begun. blocks_start carry true b begun (λ no. absurd (true≢false no)) last none placed;
 }
 
 -- once the first bytes that are kept are gone, the same holds of the others
@@ -72,12 +114,12 @@ step_sent {w = w} {pixels} {table} {coder} {carry} {bytes} b gone kept split = g
         → (ahead : List ℕ) × (w.ahead ≡ gone ++ ahead) × StepBetween (record w { ahead = ahead }) pixels table coder carry kept
     go false not_yet =
         let opening = b.opening not_yet in
-        let sent = front_sent opening.1 gone kept split in (
+        let sent = front_sent opening.between gone kept split in (
           sent.0,
           sent.1,
           record {
             style_is = b.style_is;
-            opening = λ _. (opening.0, sent.2);
+            opening = λ _. record { between = sent.2; last_is = opening.last_is; none = opening.none; placed_is = opening.placed_is };
             by_blocks = λ yes. absurd (true≢false (sym yes ∙ not_yet));
           },
         )
@@ -97,7 +139,7 @@ step_sent {w = w} {pixels} {table} {coder} {carry} {bytes} b gone kept split = g
                 before = c.before;
                 between = record { todo = c.between.todo; to_write = c.between.to_write; ahead_is = refl };
                 last_is = c.last_is;
-                begun = c.begun;
+                begun_is = c.begun_is;
                 held_is = c.held_is;
                 placed_is = c.placed_is;
               };

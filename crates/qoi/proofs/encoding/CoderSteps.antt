@@ -165,8 +165,13 @@ module _ {N : ℕ} {w : Writing} {pixels : List RgbaPixel} {table : List RgbaPix
     record { style_is = b.style_is; past = b.past; before = b.before; todo = b.todo; to_write = b.to_write; ahead_is = refl; state = b.state },
   )
 
+-- if no pixel is left, nothing is still to be written
+pub none_ahead : (w : Writing) {past : Past} (before : Option Chunk) {todo : List Chunk} {bytes : List ℕ} → StillToWrite w.list past [] todo
+    → w.ahead ≡ bytes ++ chunk_bytes (styled w.list.style past before todo) → w.ahead ≡ bytes
+none_ahead w {past} before {bytes = bytes} still is =
+    is ∙ ap (λ cs. bytes ++ chunk_bytes (styled w.list.style past before cs)) (none_todo w.list still)
+    ∙ ap (λ cs. bytes ++ chunk_bytes cs) (styled_none w.list.style past before) ∙ append-nil bytes
+
 -- at the end of the pixels nothing is ahead but the bytes
 pub all_written : {N : ℕ} {w : Writing} {table : List RgbaPixel} {coder : Coder N} {bytes : List ℕ} → CoderBetween w [] table coder bytes → w.ahead ≡ bytes
-all_written {w = w} {bytes = bytes} b =
-    b.ahead_is ∙ ap (λ cs. bytes ++ chunk_bytes (styled w.list.style b.past b.before cs)) (none_todo w.list b.to_write)
-    ∙ ap (λ cs. bytes ++ chunk_bytes cs) (styled_none w.list.style b.past b.before) ∙ append-nil bytes
+all_written {w = w} b = none_ahead w b.before b.to_write b.ahead_is

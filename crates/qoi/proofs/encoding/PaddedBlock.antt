@@ -119,13 +119,13 @@ padded_none_blank s (p ∷ []) n some none = (none.0, tt)
 padded_none_blank s (p ∷ q ∷ qs) n some none = (none.0, padded_none_blank (next_state s p (pixel_eq q p)) (q ∷ qs) n (omega arith) none.1)
 
 -- The pixels of a padded block are written, but for the repeats at their end.
-pub padded_written : {w : Writing} (s : State) (ps rest all : List RgbaPixel) (n : ℕ) {kept : List ℕ} → all ≡ padded ps n → 0 < length ps
-    → Carrying w s (ps ++ rest) kept → CarryGoesOn s all → s.carry + length all < 62 → (w.list.style ≡ Tight → NoneBlank s all)
-    → Carrying w (end_state s ps) rest (kept ++ block_bytes w.list.style s all)
-padded_written {w} s ps rest all n {kept} e some c on few none =
+pub padded_written : {begun : Bool} {w : Writing} (s : State) (ps rest all : List RgbaPixel) (n : ℕ) {kept : List ℕ} → all ≡ padded ps n → 0 < length ps
+    → Carrying begun w s (ps ++ rest) kept → CarryGoesOn s all → s.carry + length all < 62 → (w.list.style ≡ Tight → NoneBlank s all)
+    → Carrying true w (end_state s ps) rest (kept ++ block_bytes w.list.style s all)
+padded_written {w = w} s ps rest all n {kept} e some c on few none =
     let long : length all ≡ length ps + n = ap (λ (xs : List RgbaPixel). length xs) e ∙ padded_length ps n in
     let goes : CarryGoesOn s ps = padded_goes_on s ps n some (subst (CarryGoesOn s) e on) in
-    let done = block_written s ps rest c goes (omega arith) (λ t. padded_none_blank s ps n some (subst (NoneBlank s) e (none t))) in
+    let done = block_written s ps rest some c goes (omega arith) (λ t. padded_none_blank s ps n some (subst (NoneBlank s) e (none t))) in
     let bytes : block_bytes w.list.style s ps ≡ block_bytes w.list.style s all =
     sym (padded_bytes w.list.style s ps n some) ∙ ap (block_bytes w.list.style s) (sym e) in
-    subst (λ b. Carrying w (end_state s ps) rest (kept ++ b)) bytes done
+    subst (λ b. Carrying true w (end_state s ps) rest (kept ++ b)) bytes done

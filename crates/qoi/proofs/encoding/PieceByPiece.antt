@@ -16,7 +16,7 @@ use Rattle.qoi.specs.inner.CoderLoop.{Writing, CoderAfter, CoderBetween}
 use Rattle.qoi.proofs.format.WholePixels.{whole_pixels}
 use Rattle.qoi.proofs.format.RawPixels.{pixels_of_are, pixels_of_have, length-pixels_of}
 use Rattle.qoi.proofs.encoding.CoderLink.{step_sent}
-use Rattle.qoi.proofs.encoding.CoderSteps.{all_bytes, coder_starts, all_written}
+use Rattle.qoi.proofs.encoding.CoderSteps.{all_bytes, coder_starts}
 use Rattle.qoi.proofs.encoding.StyleLists.{chooses_in, style_length}
 use Rattle.qoi.proofs.encoding.WriterProgress.{wrote_none, wrote_next, wrote_part, left_fits}
 use Rattle.qoi.specs.WrittenList.{chosen, list_after}
@@ -93,13 +93,12 @@ module _ {W : Type 0} {wrote : W → List ℕ → W → Type 0} {room : W → �
     }
 
     -- at the end all but what is kept went
-    pub piece_ends : {table' : List RgbaPixel} {coder' : Coder n} {kept' : List ℕ}
-        → ((w : Writing) → StepBetween w (pixels_of n rest) table coder carry kept → CoderBetween w [] table' coder' kept')
+    pub piece_ends : {kept' : List ℕ} → ((w : Writing) → StepBetween w (pixels_of n rest) table coder carry kept → w.ahead ≡ kept')
         → (cs : List Chunk) × WrittenIn s.style (pixels_of n s.raw) cs × WroteBut wrote s.start (s.front ++ chunk_bytes cs) kept' buf
     piece_ends went_on = (
       in_style s.style p.list,
       record { list = p.list; written = p.written; is = refl },
-      subst (λ z. WroteBut wrote s.start (all_of s p.list) z buf) (all_written (went_on _ p.between)) p.went,
+      subst (λ z. WroteBut wrote s.start (all_of s p.list) z buf) (went_on _ p.between) p.went,
     )
 
     -- the kept bytes are the first `size` and the others

@@ -1,6 +1,6 @@
 -- What a block of pixels writes, and the state between two pixels with repeats that are still to
 -- be written.
-use Rattle.std.specs.Prelude.{◌≡◌, ◌≢◌, ℕ, suc, Bool, true, false, ◌<◌, ◌==◌, List, [], ◌∷◌, ◌++◌, replicate, Option, if◌then◌else◌}
+use Rattle.std.specs.Prelude.{◌≡◌, ◌≢◌, ℕ, suc, Bool, true, false, ◌<◌, ◌==◌, List, [], ◌∷◌, ◌++◌, replicate, Option, Some, slice_get, if◌then◌else◌}
 use Rattle.qoi.specs.declared.chunk.Chunk.{Chunk}
 use Rattle.qoi.specs.declared.chunk.Chunk.TheVariants.{Run}
 use Rattle.qoi.specs.declared.types.Style.{Style}
@@ -25,13 +25,18 @@ pub record State : Type 0 where
   pub carry : ℕ
   pub placed : Bool
 
+-- a fresh pixel came; or else the next one is fresh, and no repeats are carried
+abbrev pub HasBegun : Bool → Past → State → List RgbaPixel → Type 0
+HasBegun true past s rest = some_fresh past ≡ true
+HasBegun false past s rest = (s.carry ≡ 0) × (slice_get rest 0 ≢ Some s.last)
+
 -- Written up to `carry` repeats of the last pixel, which have come: as if they still came.
-pub record Carrying (w : Writing) (s : State) (rest : List RgbaPixel) (kept : List ℕ) : Type 0 where
+pub record Carrying (begun : Bool) (w : Writing) (s : State) (rest : List RgbaPixel) (kept : List ℕ) : Type 0 where
   pub past : Past
   pub before : Option Chunk
   pub between : Between w past before (replicate s.carry s.last ++ rest) kept
   pub last_is : previous past ≡ s.last
-  pub begun : some_fresh past ≡ true
+  pub begun_is : HasBegun begun past s rest
   pub held_is : (i : ℕ) → seen s.held i ≡ seen (held_in w.list.style past) i
   pub placed_is : s.placed ≡ names before (hash s.last)
 

@@ -12,10 +12,10 @@ use Rattle.qoi.specs.inner.Table.{Holds}
 
 -- Between two blocks: the pixels `rest` still come, `before` are those of the last block, and
 -- `carry` repeats of its last pixel have come but aren't among the bytes that are kept. In style
--- Places, `placed` says whether the chunk before them names that pixel's position.
-pub record BetweenBlocks (w : Writing) (rest : List RgbaPixel) (table : List RgbaPixel) (before : Planes) (carry : ℕ) (placed : Bool) (kept : List ℕ) : Type 0 where
+-- Places, `placed` says whether the chunk before them names that pixel's position. `begun` says whether a fresh pixel came.
+pub record BetweenBlocks (begun : Bool) (w : Writing) (rest : List RgbaPixel) (table : List RgbaPixel) (before : Planes) (carry : ℕ) (placed : Bool) (kept : List ℕ) : Type 0 where
   pub state : State
-  pub carrying : Carrying w state rest kept
+  pub carrying : Carrying begun w state rest kept
   pub table_is : Holds table state.held
   pub before_is : IsLastOf state.last before
   pub carry_is : state.carry ≡ carry

@@ -1,5 +1,5 @@
 //! Sixteen pixels, a block, and the chunks of a block, but for the repeats that it ends with.
-ghost use Rattle.std.specs.Prelude.{◌≡◌, ℕ, Bool, false, ◌+◌, ◌-◌, ◌≤◌, ◌<◌, List, [], ◌∷◌, ◌++◌, length, map, take, slice_index, slice_index_or, ◌/◌, ◌%◌, IsTrue, IsFalse};
+ghost use Rattle.std.specs.Prelude.{◌≡◌, ◌≢◌, ℕ, Bool, true, false, ◌+◌, ◌-◌, ◌≤◌, ◌<◌, List, [], ◌∷◌, ◌++◌, length, map, take, slice_index, slice_index_or, slice_get, Some, ◌/◌, ◌%◌, IsTrue, IsFalse};
 ghost use Rattle.qoi.specs.declared.encode.block.TheConstants.{BLOCK_ROOM, BLOCK_MAX};
 ghost use Rattle.qoi.specs.declared.types.Style.TheVariants.{Places};
 ghost use Rattle.qoi.specs.Qoi.{RgbaPixel, IsPixel, run_max, hash};
@@ -75,6 +75,15 @@ impl Block {
         ensures { result ≡ all_repeat (last_pixel before) (block_pixels self.words) }
     {
         all_set(find_changes(before, self.planes).rep)
+    }
+
+    /// Whether the first pixel differs from the last one of the block before.
+    #[inline(always)]
+    pub(super) fn begins_fresh(self, before: Planes) -> bool
+        ensures { IsTrue result
+            → slice_get (block_pixels self.words) 0 ≢ Some (last_pixel before) }
+    {
+        find_changes(before, self.planes).rep.to_array()[0] == 0
     }
 
     /// Whether a fresh pixel of the block may be transparent black that doesn't stand at its index
@@ -215,12 +224,13 @@ pub(super) fn write_block<const N: usize, const STYLE: u8, const ROOM: usize>(
     ensures near { (at ≤ result.0) × (result.0 ≤ at + BLOCK_MAX) }
     ensures few { result.1.count < 16 }
     ensures before { result.1.before ≡ block.planes }
-    ensures written { (w : Writing) (pads : ℕ) (ps rest : List RgbaPixel) → w.list.style ≡ style
+    ensures written { (w : Writing) (begun : Bool) (pads : ℕ) (ps rest : List RgbaPixel)
+        → w.list.style ≡ style
         → block_pixels block.words ≡ padded ps pads → 0 < length ps
         → FitsBlock N style table.old carry.before (block_pixels block.words)
-        → BetweenBlocks w (ps ++ rest) table.old carry.before carry.count carry.placed
+        → BetweenBlocks begun w (ps ++ rest) table.old carry.before carry.count carry.placed
         (take at out.old)
-        → (pads ≤ result.1.count) × BetweenBlocks w rest table.new block.planes
+        → (pads ≤ result.1.count) × BetweenBlocks true w rest table.new block.planes
         (result.1.count - pads) result.1.placed (take result.0 out.new) }
 {
     let places = places(block.planes);

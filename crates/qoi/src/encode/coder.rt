@@ -1,6 +1,6 @@
 //! Writes pixels, a block of sixteen at a time or a group of repeats, as chunks into a piece (QOI
 //! specification 1.0, "Data" and "Chunks").
-ghost use Rattle.std.specs.Prelude.{◌≡◌, ◌≢◌, ◌⊎◌, ℕ, ◌+◌, ◌-◌, ◌*◌, ◌%◌, ◌<◌, ◌≤◌, false, List, [], ◌∷◌, ◌++◌, Option, None, Some, length, drop, replicate, slice_get, slice_index, take, ◌/◌, true, IsTrue};
+ghost use Rattle.std.specs.Prelude.{◌≡◌, ◌≢◌, ◌⊎◌, ℕ, Bool, ◌+◌, ◌-◌, ◌*◌, ◌%◌, ◌<◌, ◌≤◌, false, List, [], ◌∷◌, ◌++◌, Option, None, Some, length, drop, replicate, slice_get, slice_index, take, ◌/◌, true, IsTrue, IsFalse};
 ghost use Rattle.qoi.specs.declared.chunk.Chunk.{Chunk};
 ghost use Rattle.qoi.specs.declared.encode.block.TheConstants.{BLOCK_MAX};
 ghost use Rattle.qoi.specs.declared.encode.piece.TheConstants.{PAST, RUNS_AT_ONCE, REPEATS_AT_ONCE};
@@ -21,7 +21,7 @@ use crate::encode::block::{Block, Carry};
 use crate::encode::fresh::spell_pixel;
 use crate::encode::piece::{Piece, REPEATS_AT_ONCE};
 use crate::encode::planes::Planes;
-use crate::encode::runs::repeats_of;
+use crate::encode::runs::{begins_with, repeats_of};
 use crate::encode::table::PixelTable;
 use crate::packed::Packed;
 use crate::types::Style::{self, Places, Reference, Tight};
@@ -194,6 +194,34 @@ impl<const N: usize> Coder<N> {
         ahead
     }
 
+    // The same as `write_runs`, but if there are no repeats, that is seen at the first pixel.
+    #[inline(always)]
+    fn write_repeats<const ROOM: usize>(
+        &mut self,
+        table: &mut PixelTable,
+        piece: &mut Piece<ROOM>,
+        data: &[u8],
+        carry: usize,
+    ) -> usize
+        requires whole { length «data».now % N ≡ 0 }
+        requires few { carry < REPEATS_AT_ONCE }
+        requires room { piece.old.end + RUNS_AT_ONCE < ROOM }
+        ensures end { piece.new.end ≤ piece.old.end + RUNS_AT_ONCE + 1 }
+        ensures inside { N * result ≤ length «data».now }
+        ensures last { self.new.last ≡ self.old.last }
+        ensures stops { (slice_get (pixels_of N (drop (N * result) «data».now)) 0
+            ≢ Some self.old.last) ⊎ (carry + result ≡ REPEATS_AT_ONCE) }
+        ensures written { (w : Writing) → CoderBetween w
+            (replicate carry self.old.last ++ pixels_of N «data».now) table.old self.old
+            (kept_bytes piece.old)
+            → BytesBetween w (drop (N * result) «data».now) table.new self.new piece.new }
+    {
+        if carry > 0 || begins_with::<N>(data, self.last) {
+            return self.write_runs(table, piece, data, carry);
+        }
+        0
+    }
+
     // Writes the `carry` repeats that came before these raw bytes, the repeats at their front, and
     // the fresh pixel after them, if there is one and fewer than 992 repeats were written. Returns
     // how many pixels of the raw bytes were written.
@@ -216,7 +244,7 @@ impl<const N: usize> Coder<N> {
             (kept_bytes piece.old)
             → BytesBetween w (drop (N * result) «data».now) table.new self.new piece.new }
     {
-        let count = self.write_runs(table, piece, data, carry);
+        let count = self.write_repeats(table, piece, data, carry);
         let after = skip(data, N * count);
         if carry + count == REPEATS_AT_ONCE || after.is_empty() {
             return count;
@@ -264,10 +292,25 @@ impl<const N: usize> Coder<N> {
         }
     }
 
-    // Whether a block can be written as one, once a fresh pixel came before it: not all its pixels
-    // repeat, and in style `Tight` none is given by another index position than its own.
+    // Whether a block is looked at: not of an image's only pixel, since to pad it would take longer.
     #[inline(always)]
-    fn takes(style: Style, table: &PixelTable, block: Block, before: Planes) -> bool
+    fn goes_by_block(&self, data: &[u8]) -> bool {
+        self.begun || data.len() > N
+    }
+
+    // Whether a block can be written as one: not all its pixels repeat, in style `Tight` none is
+    // given by another index position than its own, and `begun` says that a fresh pixel came, or
+    // the block begins with one.
+    #[inline(always)]
+    fn takes(
+        style: Style,
+        table: &PixelTable,
+        block: Block,
+        before: Planes,
+        begun: bool,
+    ) -> bool
+        ensures begins { IsTrue result → IsFalse begun
+            → slice_get (block_pixels block.words) 0 ≢ Some (last_pixel before) }
         ensures some { IsTrue result
             → all_repeat (last_pixel before) (block_pixels block.words) ≡ false }
         ensures none { IsTrue result → style ≡ Tight
@@ -277,7 +320,7 @@ impl<const N: usize> Coder<N> {
             Reference | Places => false,
             Tight => block.may_miss_blank(table, before),
         };
-        !blank && !block.repeats(before)
+        !blank && !block.repeats(before) && (begun || block.begins_fresh(before))
     }
 
     // Writes the block at the front, but for the repeats at its end. Returns how many pixels it
@@ -303,10 +346,10 @@ impl<const N: usize> Coder<N> {
         ensures some { 0 < result.0 }
         ensures few { result.1.count < 16 }
         ensures before { result.1.before ≡ block.planes }
-        ensures written { (w : Writing) → w.list.style ≡ style
+        ensures written { (w : Writing) (begun : Bool) → w.list.style ≡ style
             → FitsBlock N style table.old carry.before (block_pixels block.words)
-            → CarryBetween w (pixels_of N «data».now) table.old carry (kept_bytes piece.old)
-            → CarryBetween w (pixels_of N (drop (N * result.0) «data».now)) table.new
+            → CarryBetween begun w (pixels_of N «data».now) table.old carry (kept_bytes piece.old)
+            → CarryBetween true w (pixels_of N (drop (N * result.0) «data».now)) table.new
             result.1 (kept_bytes piece.new) }
     {
         let count = (data.len() / N).min(16);
@@ -391,14 +434,15 @@ impl<const N: usize> Coder<N> {
             result.1 (kept_bytes piece.new) }
     {
         let mut repeats = false;
-        if self.begun {
+        if self.goes_by_block(data) {
             let block = Block::first::<N>(data);
-            if Coder::<N>::takes(style, table, block, carry.before) {
+            if Coder::<N>::takes(style, table, block, carry.before, self.begun) {
+                self.begun = true;
                 return Coder::<N>::write_block::<STYLE, ROOM>(
                     style, table, piece, data, block, carry,
                 );
             }
-            repeats = block.repeats(carry.before);
+            repeats = self.begun & block.repeats(carry.before);
         }
         self.write_group(table, piece, data, carry, repeats)
     }
@@ -456,10 +500,10 @@ impl<const N: usize> Coder<N> {
         ensures end { piece.new.end ≤ piece.old.end + RUNS_AT_ONCE + 1 }
         ensures written { (w : Writing)
             → StepBetween w [] table.old self.old carry (kept_bytes piece.old)
-            → CoderBetween w [] table.new self.new (kept_bytes piece.new) }
+            → w.ahead ≡ kept_bytes piece.new }
     {
-        self.take_over(carry);
         if carry.count > 0 {
+            self.take_over(carry);
             self.write_runs(table, piece, &[], usize::from(carry.count));
         }
     }

@@ -1,6 +1,6 @@
 //! The bytes of a file that are kept before they go to a writer.
 ghost use lib.Lanes.{digits_l};
-ghost use Rattle.std.specs.Prelude.{◌≡◌, ℕ, ◌+◌, ◌-◌, ◌*◌, ◌/◌, ◌^◌, ◌<◌, ◌≤◌, List, [], ◌∷◌, ◌++◌, length, take, drop, IsTrue, IsFalse, OnOk, IfErr};
+ghost use Rattle.std.specs.Prelude.{◌≡◌, ℕ, Bool, true, ◌+◌, ◌-◌, ◌*◌, ◌/◌, ◌^◌, ◌<◌, ◌≤◌, List, [], ◌∷◌, ◌++◌, length, take, drop, IsTrue, IsFalse, OnOk, IfErr};
 ghost use Rattle.std.specs.List.{copy_within};
 ghost use Rattle.qoi.specs.declared.chunk.Chunk.{Chunk};
 ghost use Rattle.qoi.specs.declared.encode.block.TheConstants.{BLOCK_MAX};
@@ -146,11 +146,11 @@ impl<'a, const ROOM: usize> Piece<'a, ROOM> {
         ensures end { self.new.end ≤ self.old.end + BLOCK_MAX }
         ensures few { result.count < 16 }
         ensures before { result.before ≡ block.planes }
-        ensures written { (w : Writing) (pads : ℕ) (ps rest : List RgbaPixel)
+        ensures written { (w : Writing) (begun : Bool) (pads : ℕ) (ps rest : List RgbaPixel)
             → w.list.style ≡ style → block_pixels block.words ≡ padded ps pads → 0 < length ps
             → FitsBlock N style table.old carry.before (block_pixels block.words)
-            → CarryBetween w (ps ++ rest) table.old carry (kept_bytes self.old)
-            → (pads ≤ result.count) × BetweenBlocks w rest table.new block.planes
+            → CarryBetween begun w (ps ++ rest) table.old carry (kept_bytes self.old)
+            → (pads ≤ result.count) × BetweenBlocks true w rest table.new block.planes
             (result.count - pads) result.placed (kept_bytes self.new) }
     {
         let (end, after) = write_block::<N, STYLE, ROOM>(

@@ -57,9 +57,9 @@ fn count_pixels<const N: usize>(data: &[u8], px: Packed) -> usize
     count
 }
 
-// Whether a whole pixel equal to `px` stands at the front.
+/// Whether a whole pixel equal to `px` stands at the front.
 #[inline(always)]
-fn begins_with<const N: usize>(data: &[u8], px: Packed) -> bool
+pub(super) fn begins_with<const N: usize>(data: &[u8], px: Packed) -> bool
     requires { IsChannels N }
     ensures { IsTrue result ↔ (slice_get (pixels_of N «data».now) 0 ≡ Some px) }
 {

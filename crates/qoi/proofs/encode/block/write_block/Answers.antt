@@ -1,5 +1,5 @@
 -- The repeats before the block, if a fresh pixel follows them, and the block's chunks.
-use Rattle.std.proofs.Common.{◌≡◌, inl, inr, false, ℕ, ◌+◌, ◌-◌, ◌≤◌, List, ◌++◌, map, get_or, take, slice_index, arith, refl, sym, ap, ◌∙◌, subst}
+use Rattle.std.proofs.Common.{◌≡◌, inl, inr, true, false, ℕ, ◌+◌, ◌-◌, ◌≤◌, List, ◌++◌, map, get_or, take, slice_index, arith, refl, sym, ap, ◌∙◌, subst}
 use Rattle.qoi.specs.declared.types.Style.TheVariants.{Places}
 use Rattle.qoi.specs.Qoi.{RgbaPixel, IsPixel, hash}
 use Rattle.qoi.specs.Raw.{IsChannels}
@@ -37,7 +37,7 @@ put_block-stands-requires g c = λ k lt.
     omega (arith, hashes_below (block_pixels w) k, ap (λ z. slice_index z k) at)
 
 pub returns-clause-written : goal.returns-clause-written
-returns-clause-written g c = λ w pads ps rest style pad_is some fits b.
+returns-clause-written g c = λ w begun pads ps rest style pad_is some fits b.
     let s = b.state in
     let words = c.args.block.words in
     let all : List RgbaPixel = block_pixels words in
@@ -64,4 +64,4 @@ returns-clause-written g c = λ w pads ps rest style pad_is some fits b.
     (λ is. c.carry.ensures.placed (stand_tests s.held all) is put.stands_are ∙ ap (λ n. get_or (stand_tests s.held all) (15 - n) false) c.carry.ensures.count)
     (λ t same last_is carry. c.put_sixteen-end.ensures.written c.args.style t all sixteen (subst IsPixel (sym last_is) last) planes same (omega arith)
     (sizes_in g.row.N t t.last all x.size c.requires.channels fits.opaque (λ three. ap (λ z. z.a) (last_is ∙ q_is) ∙ fits.before_opaque three) same.size_is)) in
-    subst (λ n. (pads ≤ n) × BetweenBlocks w rest c.put_block-stands.new.table c.args.block.planes (n - pads) c.carry.result.placed out) (sym c.carry.ensures.count) step
+    subst (λ n. (pads ≤ n) × BetweenBlocks true w rest c.put_block-stands.new.table c.args.block.planes (n - pads) c.carry.result.placed out) (sym c.carry.ensures.count) step

@@ -1,5 +1,5 @@
 -- A block further.
-use Rattle.std.proofs.Common.{◌≡◌, ◌-◌, ◌*◌, ◌/◌, ◌≤◌, length, take, drop, sym, arith, subst}
+use Rattle.std.proofs.Common.{◌≡◌, true, ◌-◌, ◌*◌, ◌/◌, ◌≤◌, length, take, drop, sym, arith, subst}
 use Rattle.qoi.specs.Raw.{pixels_of}
 use Rattle.qoi.specs.inner.Blocks.{BetweenBlocks}
 use Rattle.qoi.specs.inner.CarryLoop.{CarryBetween}
@@ -16,7 +16,7 @@ pub returns-clause-some : goal.returns-clause-some
 returns-clause-some g c = omega (arith, c.min-count.ensures, front_some g.row.N c.args.data.now c.requires.channels c.requires.whole c.requires.some)
 
 pub returns-clause-written : goal.returns-clause-written
-returns-clause-written g c w style fits b =
+returns-clause-written g c w begun style fits b =
     let n = g.row.N in
     let raw = c.args.data.now in
     let kept = c.keep_block-after in
@@ -24,11 +24,11 @@ returns-clause-written g c w style fits b =
     let pads = 16 - length raw / n in
     let after = pixels_of n (drop (n * in_front n raw) raw) in
     let few : kept.result.count - pads ≡ c.saturating_sub-left.result = omega (arith, c.min-count.ensures, c.saturating_sub-left.ensures) in
-    let start = subst (λ x. CarryBetween w x c.args.table.now c.args.carry (kept_bytes c.args.piece.now))
+    let start = subst (λ x. CarryBetween begun w x c.args.table.now c.args.carry (kept_bytes c.args.piece.now))
     (front_pixels n raw channels c.requires.whole) b in
-    let done = kept.ensures.written w pads (take 16 (pixels_of n raw)) after style c.requires.pixels
+    let done = kept.ensures.written w begun pads (take 16 (pixels_of n raw)) after style c.requires.pixels
     (some_front (pixels_of n raw) (some_pixels n raw channels c.requires.whole c.requires.some)) fits start in
-    subst (λ k. BetweenBlocks w (pixels_of n (drop (n * k) raw)) kept.new.table kept.result.before c.saturating_sub-left.result kept.result.placed
+    subst (λ k. BetweenBlocks true w (pixels_of n (drop (n * k) raw)) kept.new.table kept.result.before c.saturating_sub-left.result kept.result.placed
     (kept_bytes kept.new.self)) (sym c.min-count.ensures)
-    (subst (λ k. BetweenBlocks w after kept.new.table kept.result.before k kept.result.placed (kept_bytes kept.new.self)) few
-    (subst (λ x. BetweenBlocks w after kept.new.table x (kept.result.count - pads) kept.result.placed (kept_bytes kept.new.self)) (sym kept.ensures.before) done.1))
+    (subst (λ k. BetweenBlocks true w after kept.new.table kept.result.before k kept.result.placed (kept_bytes kept.new.self)) few
+    (subst (λ x. BetweenBlocks true w after kept.new.table x (kept.result.count - pads) kept.result.placed (kept_bytes kept.new.self)) (sym kept.ensures.before) done.1))

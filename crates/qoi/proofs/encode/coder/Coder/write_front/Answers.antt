@@ -1,12 +1,13 @@
 -- A block, or a group.
 use Rattle.std.proofs.Common.{◌≡◌, ◌-◌, ◌/◌, Some, true, length, take, slice_index, sym, ap, ◌∙◌, arith}
 use Rattle.std.specs.List.{slice_get}
-use Rattle.std.proofs.lemmas.Bool.{true≢false}
+use Rattle.std.proofs.lemmas.Bool.{true≢false, and_parts}
 use Rattle.qoi.specs.declared.encode.planes.Planes.{Planes}
 use Rattle.qoi.specs.Raw.{pixels_of}
 use Rattle.qoi.specs.inner.Blocks.{all_repeat, last_pixel, padded}
-use Rattle.qoi.proofs.encoding.FrontBlock.{repeats_first, last_opaque}
-use Rattle.qoi.proofs.encode.coder.Coder.write_front.Goals.{then-self+else-takes, else-self}
+use Rattle.qoi.proofs.encoding.CoderLink.{step_blocks}
+use Rattle.qoi.proofs.encoding.FrontBlock.{first_of_block, repeats_first, last_opaque}
+use Rattle.qoi.proofs.encode.coder.Coder.write_front.Goals.{then-goes_by_block+else-takes, else-goes_by_block}
 use Rattle.qoi.proofs.encode.coder.Coder.write_front.Goals as goal
 
 pub returns-then-takes-clause-opaque : goal.returns-then-takes-clause-opaque
@@ -19,16 +20,19 @@ pub returns-then-takes-clause-written : goal.returns-then-takes-clause-written
 returns-then-takes-clause-written g c = λ w style b.
     let takes = c.takes.ensures in
     let is = c.if-takes.true in
-    let begun = c.if-self.true in
+    let n = g.row.N in
+    let raw = c.args.data.now in
+    let begun = c.args.self.now.begun in
+    let first = first_of_block n raw _ (16 - length raw / n) c.args.self.now.channels c.requires.whole c.requires.some c.first-block.ensures.pixels in
     record {
       style_is = b.style_is;
-      opening = λ not_yet. absurd (true≢false (sym begun ∙ not_yet));
-      by_blocks = λ _. c.write_block.ensures.written w style (record {
+      opening = λ no. absurd (true≢false no);
+      by_blocks = λ _. c.write_block.ensures.written w begun style (record {
         opaque = c.first-block.ensures.opaque;
         before_opaque = c.requires.opaque;
         mixed = takes.some is;
         no_blank = takes.none is;
-      }) (b.by_blocks begun);
+      }) (step_blocks b (λ not_yet same. takes.begins is not_yet (sym first ∙ same)));
     }
 
 pub write_group-requires : goal.write_group-requires
@@ -36,12 +40,13 @@ write_group-requires g c =
     let n = g.row.N in
     let raw = c.args.data.now in
     let q = last_pixel c.args.carry.before in
-    let first : c.if-self.repeats ≡ true → (c.args.self.now.begun ≡ true) × (slice_get (pixels_of n raw) 0 ≡ Some q) = λ is.
-    elim c.if-self.branch as (λ _. (c.args.self.now.begun ≡ true) × (slice_get (pixels_of n raw) 0 ≡ Some q)) [
-      | then-self+else-takes x ↦
-          (let all : all_repeat q (padded (take 16 (pixels_of n raw)) (16 - length raw / n)) ≡ true =
-          sym (ap (all_repeat q) x.first-block.ensures.pixels) ∙ sym x.repeats-repeats.ensures ∙ sym x.repeats-is ∙ is in
-          (x.if-self.true, repeats_first n raw q (16 - length raw / n) c.args.self.now.channels c.requires.whole c.requires.some all))
-      | else-self y ↦ absurd (true≢false (sym is ∙ y.repeats-is))
+    let first : c.if-goes_by_block.repeats ≡ true → (c.args.self.now.begun ≡ true) × (slice_get (pixels_of n raw) 0 ≡ Some q) = λ is.
+    elim c.if-goes_by_block.branch as (λ _. (c.args.self.now.begun ≡ true) × (slice_get (pixels_of n raw) 0 ≡ Some q)) [
+      | then-goes_by_block+else-takes x ↦
+          (let both = and_parts c.args.self.now.begun x.repeats.result (sym x.repeats-is ∙ is) in
+          let all : all_repeat q (padded (take 16 (pixels_of n raw)) (16 - length raw / n)) ≡ true =
+          sym (ap (all_repeat q) x.first-block.ensures.pixels) ∙ sym x.repeats.ensures ∙ both.1 in
+          (both.0, repeats_first n raw q (16 - length raw / n) c.args.self.now.channels c.requires.whole c.requires.some all))
+      | else-goes_by_block y ↦ absurd (true≢false (sym is ∙ y.repeats-is))
     ] in
     (omega arith, (omega arith, (c.requires.whole, (c.requires.some, (c.requires.few, (c.requires.opaque, (c.requires.room, first)))))))

@@ -14,13 +14,13 @@ pub returns-clause-written : goal.returns-clause-written
 returns-clause-written g c w b =
     let raw = c.args.data.now in
     let channels = c.args.self.now.channels in
-    let n = c.write_runs-count.result in
-    let inside = c.write_runs-count.ensures.inside in
+    let n = c.write_repeats-count.result in
+    let inside = c.write_repeats-count.ensures.inside in
     let later = drop (g.row.N * n) raw in
     let last_part = c.skip-after.result.now in
     let back : last_part ≡ later = c.skip-after.ensures in
-    let one = c.write_runs-count.ensures.written w b in
-    let last = c.write_runs-count.new.self.last in
+    let one = c.write_repeats-count.ensures.written w b in
+    let last = c.write_repeats-count.new.self.last in
     let some : 0 < length later = (let other : length last_part ≢ 0 = eqb-false (length last_part) 0 (sym c.is_empty.ensures ∙ c.if-is_empty.false) in
     omega (arith, ap length back)) in
     let whole : length later % g.row.N ≡ 0 = ap (λ k. k % g.row.N) (length-drop (g.row.N * n) raw)
@@ -30,12 +30,12 @@ returns-clause-written g c w b =
     let ahead : pixels_of g.row.N later ≡ px ∷ pixels_of g.row.N (drop g.row.N later) = pixel_ahead g.row.N later channels whole some
     ∙ (λ i. sym px_is i ∷ pixels_of g.row.N (drop g.row.N later)) in
     let first : slice_get (pixels_of g.row.N later) 0 ≢ Some c.args.self.now.last =
-    elim c.write_runs-count.ensures.stops as (λ _. slice_get (pixels_of g.row.N later) 0 ≢ Some c.args.self.now.last) [
+    elim c.write_repeats-count.ensures.stops as (λ _. slice_get (pixels_of g.row.N later) 0 ≢ Some c.args.self.now.last) [
       | inl other ↦ other
       | inr all ↦ absurd (c.if-carry-count-eq-REPEATS_AT_ONCE.false all)
     ] in
-    let differs : px ≢ last = λ e. first (ap (λ x. slice_get x 0) ahead ∙ ap (λ x. Some x) (e ∙ c.write_runs-count.ensures.last)) in
-    let stand = subst (λ x. CoderBetween w x c.write_runs-count.new.table c.write_runs-count.new.self (kept_bytes c.write_runs-count.new.piece)) ahead one in
+    let differs : px ≢ last = λ e. first (ap (λ x. slice_get x 0) ahead ∙ ap (λ x. Some x) (e ∙ c.write_repeats-count.ensures.last)) in
+    let stand = subst (λ x. CoderBetween w x c.write_repeats-count.new.table c.write_repeats-count.new.self (kept_bytes c.write_repeats-count.new.piece)) ahead one in
     let done = c.write_pixel.ensures.written w (pixels_of g.row.N (drop g.row.N later)) differs stand in
     subst (λ xs. CoderBetween w (pixels_of g.row.N xs) c.write_pixel.new.table c.write_pixel.new.self (kept_bytes c.write_pixel.new.piece))
     (drop_next g.row.N n raw channels) done
