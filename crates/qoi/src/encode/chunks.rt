@@ -37,9 +37,7 @@ fn encode_pixels<W: Writer, const N: usize, const STYLE: u8, const ROOM: usize>(
     let mut carry = coder.carry();
     let mut rest = data;
     loop {
-        let (left, after) = coder.fill::<STYLE, ROOM>(style, &mut table, piece, rest, carry);
-        rest = left;
-        carry = after;
+        rest = coder.fill::<STYLE, ROOM>(style, &mut table, piece, rest, &mut carry);
         if !piece.is_full() {
             coder.write_last(&mut table, piece, carry);
             return Ok(());

@@ -447,7 +447,8 @@ impl<const N: usize> Coder<N> {
         self.write_group(table, piece, data, carry, repeats)
     }
 
-    /// Writes until the piece is full or nothing is left. Returns the rest, and what is carried.
+    /// Writes until the piece is full or nothing is left, and updates what is carried. Returns the
+    /// rest.
     ///
     /// The coder's style is passed, too, since it is a constant where this is called. `STYLE` is a
     /// number for it, so that each style has a loop of its own.
@@ -457,33 +458,33 @@ impl<const N: usize> Coder<N> {
         table: &mut PixelTable,
         piece: &mut Piece<ROOM>,
         data: &'a [u8],
-        carry: Carry,
-    ) -> (&'a [u8], Carry)
+        carry: &mut Carry,
+    ) -> &'a [u8]
         requires whole { length «data».now % N ≡ 0 }
-        requires few { carry.count < 16 }
-        requires opaque { N ≡ 3 → slice_index carry.before.a 15 ≡ 255 }
+        requires few { carry.old.count < 16 }
+        requires opaque { N ≡ 3 → slice_index carry.old.before.a 15 ≡ 255 }
         requires room { piece.old.end < ROOM - PAST }
         ensures end { piece.new.end < ROOM - PAST + BLOCK_MAX }
-        ensures all { piece.new.end < ROOM - PAST → length result.0.now ≡ 0 }
-        ensures some { ROOM - PAST ≤ piece.new.end
-            → length result.0.now < length «data».entry.now }
-        ensures whole { length result.0.now % N ≡ 0 }
-        ensures few { result.1.count < 16 }
-        ensures opaque { N ≡ 3 → slice_index result.1.before.a 15 ≡ 255 }
+        ensures all { piece.new.end < ROOM - PAST → length result.now ≡ 0 }
+        ensures some { ROOM - PAST ≤ piece.new.end → length result.now < length «data».entry.now }
+        ensures whole { length result.now % N ≡ 0 }
+        ensures few { carry.new.count < 16 }
+        ensures opaque { N ≡ 3 → slice_index carry.new.before.a 15 ≡ 255 }
         ensures written { (w : Writing) → w.list.style ≡ style
-            → StepBetween w (pixels_of N «data».entry.now) table.old self.old carry
+            → StepBetween w (pixels_of N «data».entry.now) table.old self.old carry.old
             (kept_bytes piece.old)
-            → StepBetween w (pixels_of N result.0.now) table.new self.new result.1
+            → StepBetween w (pixels_of N result.now) table.new self.new carry.new
             (kept_bytes piece.new) }
     {
         let mut rest = data;
-        let mut carry = carry;
+        let mut now = *carry;
         while !piece.is_full() && !rest.is_empty() {
-            let (count, after) = self.write_front::<STYLE, ROOM>(style, table, piece, rest, carry);
-            carry = after;
+            let (count, after) = self.write_front::<STYLE, ROOM>(style, table, piece, rest, now);
+            now = after;
             rest = skip(rest, N * count);
         }
-        (rest, carry)
+        *carry = now;
+        rest
     }
 
     /// Writes the repeats that are carried at the end, if there are any.

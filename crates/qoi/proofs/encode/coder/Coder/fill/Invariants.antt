@@ -14,11 +14,11 @@ invariant-loop-style g l = record {
   left : length l.rest ≤ length l.data;
   some : g.row.ROOM - PAST ≤ l.piece.end → length l.rest < length l.data;
   whole : length l.rest % g.row.N ≡ 0;
-  few : l.carry.count < 16;
-  opaque : g.row.N ≡ 3 → slice_index l.carry.before.a 15 ≡ 255;
+  few : l.now.count < 16;
+  opaque : g.row.N ≡ 3 → slice_index l.now.before.a 15 ≡ 255;
   written : (w : Writing) → w.list.style ≡ l.style
-      → StepBetween w (pixels_of g.row.N l.data) l.initial.table l.initial.self l.initial.carry (kept_bytes l.initial.piece)
-      → StepBetween w (pixels_of g.row.N l.rest) l.table l.self l.carry (kept_bytes l.piece);
+      → StepBetween w (pixels_of g.row.N l.data) l.initial.table l.initial.self l.initial.now (kept_bytes l.initial.piece)
+      → StepBetween w (pixels_of g.row.N l.rest) l.table l.self l.now (kept_bytes l.piece);
 }
 
 abbrev pub decreases-loop-style : goal.decreases-loop-style
