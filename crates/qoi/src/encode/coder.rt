@@ -268,6 +268,7 @@ impl<const N: usize> Coder<N> {
     // repeat, and in style `Tight` none is given by another index position than its own.
     #[inline(always)]
     fn takes(style: Style, table: &PixelTable, block: Block, before: Planes) -> bool
+        requires { N ≡ 3 → slice_index before.a 15 ≡ 255 }
         ensures some { IsTrue result
             → all_repeat (last_pixel before) (block_pixels block.words) ≡ false }
         ensures none { IsTrue result → style ≡ Tight
@@ -275,9 +276,9 @@ impl<const N: usize> Coder<N> {
     {
         let blank = match style {
             Reference | Places => false,
-            Tight => block.may_miss_blank(table, before),
+            Tight => block.may_miss_blank::<N>(table, before),
         };
-        !blank && !block.repeats(before)
+        !blank && !block.repeats::<N>(before)
     }
 
     // Writes the block at the front, but for the repeats at its end. Returns how many pixels it
@@ -295,6 +296,7 @@ impl<const N: usize> Coder<N> {
         requires whole { length «data».now % N ≡ 0 }
         requires some { 0 < length «data».now }
         requires few { carry.count < 16 }
+        requires opaque { N ≡ 3 → slice_index carry.before.a 15 ≡ 255 }
         requires room { piece.old.end < ROOM - PAST }
         requires pixels { block_pixels block.words
             ≡ padded (take 16 (pixels_of N «data».now)) (16 - length «data».now / N) }
@@ -398,7 +400,7 @@ impl<const N: usize> Coder<N> {
                     style, table, piece, data, block, carry,
                 );
             }
-            repeats = block.repeats(carry.before);
+            repeats = block.repeats::<N>(carry.before);
         }
         self.write_group(table, piece, data, carry, repeats)
     }

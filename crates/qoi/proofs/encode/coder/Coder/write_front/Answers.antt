@@ -25,7 +25,6 @@ returns-then-takes-clause-written g c = λ w style b.
       opening = λ not_yet. absurd (true≢false (sym begun ∙ not_yet));
       by_blocks = λ _. c.write_block.ensures.written w style (record {
         opaque = c.first-block.ensures.opaque;
-        before_opaque = c.requires.opaque;
         mixed = takes.some is;
         no_blank = takes.none is;
       }) (b.by_blocks begun);
