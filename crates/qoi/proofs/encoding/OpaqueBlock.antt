@@ -1,11 +1,20 @@
--- Chunks of opaque pixels after an opaque one have at most four bytes.
-use Rattle.std.proofs.Common.{◌≡◌, ℕ, zero, suc, ◌+◌, ◌%◌, ◌≤◌, ◌||◌, Bool, true, false, List, [], ◌∷◌, slice_index, bit_and, arith}
+-- Opaque pixels: their alpha plane, and that their chunks after an opaque one have at most four bytes.
+use Rattle.std.proofs.Common.{◌≡◌, ℕ, zero, suc, ◌+◌, ◌%◌, ◌≤◌, ◌||◌, Bool, true, false, List, [], ◌∷◌, length, replicate, slice_index, bit_and, refl, arith}
 use Rattle.std.proofs.lemmas.Bool.{eq-eqb}
 use Rattle.qoi.specs.Qoi.{RgbaPixel, Past}
 use Rattle.qoi.specs.inner.BlockBytes.{sizes}
 use Rattle.qoi.specs.inner.BlockLanes.{mask, step_of, fits_diff, fits_luma, keeps, size_by}
 use Rattle.qoi.specs.inner.BlockState.{lane_of, lanes_of, is_rep, goes_on}
-use Rattle.qoi.specs.inner.Planes.{AreOpaque}
+use Rattle.qoi.specs.inner.Planes.{AreOpaque, alphas}
+
+-- their alpha plane is 255 throughout
+pub alphas_opaque : (n : ℕ) (ps : List RgbaPixel) → length ps ≡ n → AreOpaque ps → alphas ps ≡ replicate n 255
+alphas_opaque zero [] long opaque = refl
+alphas_opaque (suc n) [] long opaque = absurd (omega arith)
+alphas_opaque zero (p ∷ ps) long opaque = absurd (omega arith)
+alphas_opaque (suc n) (p ∷ ps) long opaque =
+    let rest = alphas_opaque n ps (omega arith) opaque.1 in
+    λ i. opaque.0 i ∷ rest i
 
 -- a chunk that keeps alpha has at most four bytes
 keep_size : (st l k : Bool) → k ≡ true → (r g : Bool) → (size_by st l k + bit_and (mask r) (mask g)) % 256 ≤ 4

@@ -52,6 +52,5 @@ MissesNoBlank table before ps = (s : State) → Holds table s.held → IsLastOf 
 -- what a block of pixels of n channels must meet, after the block `before`, to be written as one
 pub record FitsBlock (n : ℕ) (style : Style) (table : List RgbaPixel) (before : Planes) (ps : List RgbaPixel) : Type 0 where
   pub opaque : n ≡ 3 → AreOpaque ps
-  pub before_opaque : n ≡ 3 → slice_index before.a 15 ≡ 255
   pub mixed : all_repeat (last_pixel before) ps ≡ false
   pub no_blank : style ≡ Tight → MissesNoBlank table before ps

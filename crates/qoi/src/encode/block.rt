@@ -46,12 +46,13 @@ pub(super) struct Block {
 impl Block {
     /// The block of sixteen packed pixels.
     #[inline(always)]
-    pub(super) fn new(words: Words) -> Block
+    pub(super) fn new<const N: usize>(words: Words) -> Block
+        requires { N ≡ 3 → AreOpaque (block_pixels words) }
         ensures { result.words ≡ words }
     {
         Block {
             words,
-            planes: make_planes(words),
+            planes: make_planes::<N>(words),
         }
     }
 
@@ -66,42 +67,46 @@ impl Block {
             ≡ padded (take 16 (pixels_of N bytes.now)) (16 - length bytes.now / N) }
         ensures opaque { N ≡ 3 → AreOpaque (block_pixels result.words) }
     {
-        Block::new(first_sixteen::<N>(bytes))
+        Block::new::<N>(first_sixteen::<N>(bytes))
     }
 
     /// Whether all sixteen pixels repeat the last one of the block before.
     #[inline(always)]
-    pub(super) fn repeats(self, before: Planes) -> bool
+    pub(super) fn repeats<const N: usize>(self, before: Planes) -> bool
+        requires { N ≡ 3 → slice_index before.a 15 ≡ 255 }
         ensures { result ≡ all_repeat (last_pixel before) (block_pixels self.words) }
     {
-        all_set(find_changes(before, self.planes).rep)
+        all_set(find_changes::<N>(before, self.planes).rep)
     }
 
     /// Whether the first pixel differs from the last one of the block before.
     #[inline(always)]
-    pub(super) fn begins_fresh(self, before: Planes) -> bool
+    pub(super) fn begins_fresh<const N: usize>(self, before: Planes) -> bool
+        requires { N ≡ 3 → slice_index before.a 15 ≡ 255 }
         ensures { IsTrue result
             → slice_get (block_pixels self.words) 0 ≢ Some (last_pixel before) }
     {
-        find_changes(before, self.planes).rep.to_array()[0] == 0
+        find_changes::<N>(before, self.planes).rep.to_array()[0] == 0
     }
 
     /// Whether a fresh pixel of the block may be transparent black that doesn't stand at its index
     /// position.
     #[inline(always)]
-    pub(super) fn may_miss_blank(self, table: &PixelTable, before: Planes) -> bool
+    pub(super) fn may_miss_blank<const N: usize>(self, table: &PixelTable, before: Planes) -> bool
+        requires { N ≡ 3 → slice_index before.a 15 ≡ 255 }
         ensures { IsFalse result → MissesNoBlank table.now before (block_pixels self.words) }
     {
-        !(self.has_no_fresh_blank(before) || self.keeps_blank(table))
+        !(self.has_no_fresh_blank::<N>(before) || self.keeps_blank(table))
     }
 
     // Whether no fresh pixel of the block is transparent black.
     #[inline(always)]
-    fn has_no_fresh_blank(self, before: Planes) -> bool
+    fn has_no_fresh_blank<const N: usize>(self, before: Planes) -> bool
+        requires { N ≡ 3 → slice_index before.a 15 ≡ 255 }
         ensures { IsTrue result → (s : State) → IsLastOf s.last before
             → NoneBlank s (block_pixels self.words) }
     {
-        let rep = find_changes(before, self.planes).rep;
+        let rep = find_changes::<N>(before, self.planes).rep;
         all_set(rep | !blanks(self.planes))
     }
 
@@ -119,15 +124,22 @@ impl Block {
     // The chunks of the block, of which those pixels that `stands` says stand at their index
     // positions, `places`.
     #[inline(always)]
-    fn spell(self, style: Style, stands: u8x16, places: u8x16, carry: Carry) -> Spelled
-        requires { carry.count ≤ 46 }
+    fn spell<const N: usize>(
+        self,
+        style: Style,
+        stands: u8x16,
+        places: u8x16,
+        carry: Carry,
+    ) -> Spelled
+        requires few { carry.count ≤ 46 }
+        requires opaque { N ≡ 3 → slice_index carry.before.a 15 ≡ 255 }
         ensures { (s : State) → IsPixel s.last → IsLastOf s.last carry.before
             → s.carry ≡ carry.count → (style ≡ Places → s.placed ≡ carry.placed)
             → stands ≡ map mask (stand_tests s.held (block_pixels self.words))
             → places ≡ map hash (block_pixels self.words)
             → HasSpelled style s (block_pixels self.words) result }
     {
-        let changes = find_changes(carry.before, self.planes);
+        let changes = find_changes::<N>(carry.before, self.planes);
         let x = spell_block(changes, self.planes.r, stands, places, carry.count);
         match style {
             Reference | Tight => x,
@@ -219,6 +231,7 @@ pub(super) fn write_block<const N: usize, const STYLE: u8, const ROOM: usize>(
 ) -> (usize, Carry)
     requires channels { IsChannels N }
     requires few { carry.count ≤ 45 }
+    requires opaque { N ≡ 3 → slice_index carry.before.a 15 ≡ 255 }
     requires room { at + BLOCK_ROOM ≤ length out.old }
     ensures same { length out.new ≡ length out.old }
     ensures near { (at ≤ result.0) × (result.0 ≤ at + BLOCK_MAX) }
@@ -235,7 +248,7 @@ pub(super) fn write_block<const N: usize, const STYLE: u8, const ROOM: usize>(
 {
     let places = places(block.planes);
     let stands = put_block(table, places, block.words);
-    let x = block.spell(style, stands, places, carry);
+    let x = block.spell::<N>(style, stands, places, carry);
     let fresh = x.rep.to_array()[0] == 0;
     let start = carry.put(style, out, at, fresh);
     let end = put_sixteen::<N>(out, start, x, block.planes);

@@ -1,5 +1,5 @@
 //! From each of sixteen pixels to the next: the steps of all channels, and which pixels repeat.
-ghost use Rattle.std.specs.Prelude.{◌≡◌, Bool, List, length, map};
+ghost use Rattle.std.specs.Prelude.{◌≡◌, Bool, List, length, map, slice_index};
 ghost use Rattle.qoi.specs.Qoi.{RgbaPixel};
 ghost use Rattle.qoi.specs.inner.BlockLanes.{mask};
 ghost use Rattle.qoi.specs.inner.BlockState.{State, lanes_of};
@@ -9,7 +9,7 @@ ghost use Rattle.qoi.specs.inner.Planes.{AreSixteen, ArePlanes};
 ghost use Rattle.qoi.specs.inner.Spelling.{IsLastOf};
 
 use crate::encode::lanes::{Steps, channel_steps, repeating};
-use crate::encode::planes::Planes;
+use crate::encode::planes::{Planes, known_alpha};
 use std::simd::prelude::*;
 
 /// The steps of red, green and blue, and alpha's, of sixteen pixels, and which of them repeat: 255
@@ -23,7 +23,8 @@ pub(super) struct Changes {
 
 /// The steps to sixteen pixels, where `before` has the sixteen before them.
 #[inline(always)]
-pub(super) fn find_changes(before: Planes, p: Planes) -> Changes
+pub(super) fn find_changes<const N: usize>(before: Planes, p: Planes) -> Changes
+    requires opaque { N ≡ 3 → slice_index before.a 15 ≡ 255 }
     ensures { (s : State) (ps : List RgbaPixel) → AreSixteen ps → ArePlanes ps p
         → IsLastOf s.last before → AreChanges (lanes_of s.held s.last ps) result }
 {
@@ -32,7 +33,7 @@ pub(super) fn find_changes(before: Planes, p: Planes) -> Changes
         g: channel_steps(before.g, p.g),
         b: channel_steps(before.b, p.b),
     };
-    let alpha = channel_steps(before.a, p.a);
+    let alpha = channel_steps(known_alpha::<N>(before.a), p.a);
     Changes {
         steps,
         alpha,

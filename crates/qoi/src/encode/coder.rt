@@ -309,6 +309,7 @@ impl<const N: usize> Coder<N> {
         before: Planes,
         begun: bool,
     ) -> bool
+        requires { N ≡ 3 → slice_index before.a 15 ≡ 255 }
         ensures begins { IsTrue result → IsFalse begun
             → slice_get (block_pixels block.words) 0 ≢ Some (last_pixel before) }
         ensures some { IsTrue result
@@ -318,9 +319,9 @@ impl<const N: usize> Coder<N> {
     {
         let blank = match style {
             Reference | Places => false,
-            Tight => block.may_miss_blank(table, before),
+            Tight => block.may_miss_blank::<N>(table, before),
         };
-        !blank && !block.repeats(before) && (begun || block.begins_fresh(before))
+        !blank && !block.repeats::<N>(before) && (begun || block.begins_fresh::<N>(before))
     }
 
     // Writes the block at the front, but for the repeats at its end. Returns how many pixels it
@@ -338,6 +339,7 @@ impl<const N: usize> Coder<N> {
         requires whole { length «data».now % N ≡ 0 }
         requires some { 0 < length «data».now }
         requires few { carry.count < 16 }
+        requires opaque { N ≡ 3 → slice_index carry.before.a 15 ≡ 255 }
         requires room { piece.old.end < ROOM - PAST }
         requires pixels { block_pixels block.words
             ≡ padded (take 16 (pixels_of N «data».now)) (16 - length «data».now / N) }
@@ -442,7 +444,7 @@ impl<const N: usize> Coder<N> {
                     style, table, piece, data, block, carry,
                 );
             }
-            repeats = self.begun & block.repeats(carry.before);
+            repeats = self.begun & block.repeats::<N>(carry.before);
         }
         self.write_group(table, piece, data, carry, repeats)
     }

@@ -1,6 +1,6 @@
 //! The bytes of a file that are kept before they go to a writer.
 ghost use lib.Lanes.{digits_l};
-ghost use Rattle.std.specs.Prelude.{◌≡◌, ℕ, Bool, true, ◌+◌, ◌-◌, ◌*◌, ◌/◌, ◌^◌, ◌<◌, ◌≤◌, List, [], ◌∷◌, ◌++◌, length, take, drop, IsTrue, IsFalse, OnOk, IfErr};
+ghost use Rattle.std.specs.Prelude.{◌≡◌, ℕ, Bool, true, ◌+◌, ◌-◌, ◌*◌, ◌/◌, ◌^◌, ◌<◌, ◌≤◌, List, [], ◌∷◌, ◌++◌, length, take, drop, slice_index, IsTrue, IsFalse, OnOk, IfErr};
 ghost use Rattle.std.specs.List.{copy_within};
 ghost use Rattle.qoi.specs.declared.chunk.Chunk.{Chunk};
 ghost use Rattle.qoi.specs.declared.encode.block.TheConstants.{BLOCK_MAX};
@@ -142,6 +142,7 @@ impl<'a, const ROOM: usize> Piece<'a, ROOM> {
     ) -> Carry
         requires channels { IsChannels N }
         requires few { carry.count ≤ 45 }
+        requires opaque { N ≡ 3 → slice_index carry.before.a 15 ≡ 255 }
         requires room { self.old.end < ROOM - PAST }
         ensures end { self.new.end ≤ self.old.end + BLOCK_MAX }
         ensures few { result.count < 16 }

@@ -1,9 +1,9 @@
 //! Sixteen pixels in planes: a vector of bytes for each channel (QOI specification 1.0, "Chunks").
 ghost use lib.Lanes.{digits_l, number_l};
-ghost use Rattle.std.specs.Prelude.{◌≡◌, ◌^◌, List, ◌++◌, take, drop};
+ghost use Rattle.std.specs.Prelude.{◌≡◌, ◌^◌, List, ◌++◌, take, drop, replicate, slice_index};
 ghost use Rattle.qoi.specs.Qoi.{RgbaPixel};
 ghost use Rattle.qoi.specs.inner.Blocks.{last_pixel};
-ghost use Rattle.qoi.specs.inner.Planes.{AreFour, ArePacked, AreSixteen, AreFourWords, AreBlockWords, channel_words, ArePlanes};
+ghost use Rattle.qoi.specs.inner.Planes.{AreFour, ArePacked, AreSixteen, AreFourWords, AreBlockWords, channel_words, ArePlanes, AreOpaque};
 ghost use Rattle.qoi.specs.inner.Spelling.{IsLastOf};
 
 use crate::packed::Packed;
@@ -79,18 +79,36 @@ fn both_halves(v: u32x4, w: u32x4) -> (u8x16, u8x16)
     (low.to_le_bytes(), high.to_le_bytes())
 }
 
-/// The planes of packed pixels.
+/// The alpha of sixteen pixels, or of the last one alone. In three channels it is 255, and returned
+/// as a constant, so that the compiler leaves out what depends on it.
 #[inline(always)]
-pub(super) fn make_planes(w: Words) -> Planes
+pub(super) fn known_alpha<const N: usize>(a: u8x16) -> u8x16
+    ensures all { (N ≡ 3 → a ≡ replicate 16 255) → result ≡ a }
+    ensures last { (N ≡ 3 → slice_index a 15 ≡ 255) → slice_index result 15 ≡ slice_index a 15 }
+{
+    if N == 3 {
+        return u8x16::splat(255);
+    }
+    a
+}
+
+/// The planes of packed pixels. In three channels all must be opaque.
+#[inline(always)]
+pub(super) fn make_planes<const N: usize>(w: Words) -> Planes
     ensures packed { ArePacked w }
     ensures planes { (ps : List RgbaPixel) → AreSixteen ps → AreBlockWords ps w
-        → ArePlanes ps result }
+        → (N ≡ 3 → AreOpaque ps) → ArePlanes ps result }
 {
     let (rg, ba) = by_channel(w.one).interleave(by_channel(w.two));
     let (rg2, ba2) = by_channel(w.three).interleave(by_channel(w.four));
     let (r, g) = both_halves(rg, rg2);
     let (b, a) = both_halves(ba, ba2);
-    Planes { r, g, b, a }
+    Planes {
+        r,
+        g,
+        b,
+        a: known_alpha::<N>(a),
+    }
 }
 
 /// The packed pixels of planes, the inverse of `make_planes`.

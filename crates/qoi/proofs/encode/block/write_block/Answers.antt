@@ -63,5 +63,5 @@ returns-clause-written g c = λ w begun pads ps rest style pad_is some fits b.
     (λ t held same tight. fits.no_blank tight t (subst (Holds c.args.table.now) (sym held) b.table_is) (subst (λ q. IsLastOf q c.args.carry.before) (sym same) b.before_is))
     (λ is. c.carry.ensures.placed (stand_tests s.held all) is put.stands_are ∙ ap (λ n. get_or (stand_tests s.held all) (15 - n) false) c.carry.ensures.count)
     (λ t same last_is carry. c.put_sixteen-end.ensures.written c.args.style t all sixteen (subst IsPixel (sym last_is) last) planes same (omega arith)
-    (sizes_in g.row.N t t.last all x.size c.requires.channels fits.opaque (λ three. ap (λ z. z.a) (last_is ∙ q_is) ∙ fits.before_opaque three) same.size_is)) in
+    (sizes_in g.row.N t t.last all x.size c.requires.channels fits.opaque (λ three. ap (λ z. z.a) (last_is ∙ q_is) ∙ c.requires.opaque three) same.size_is)) in
     subst (λ n. (pads ≤ n) × BetweenBlocks true w rest c.put_block-stands.new.table c.args.block.planes (n - pads) c.carry.result.placed out) (sym c.carry.ensures.count) step

@@ -1,5 +1,5 @@
 -- Channel by channel.
-use Rattle.std.proofs.Common.{◌≡◌, ◌<◌, ℕ, List, map, subst}
+use Rattle.std.proofs.Common.{◌≡◌, ◌<◌, ℕ, List, map, subst, ◌∙◌}
 use Rattle.qoi.specs.Qoi.{RgbaPixel, IsPixel}
 use Rattle.qoi.specs.inner.BlockLanes.{Lane}
 use Rattle.qoi.specs.inner.BlockState.{lanes_of}
@@ -8,12 +8,13 @@ use Rattle.qoi.proofs.encoding.SpelledBlock.{plane_by, before_by}
 use Rattle.qoi.proofs.encode.changes.find_changes.Goals as goal
 
 pub returns : goal.returns
-returns c = λ s ps sixteen planes after.
+returns g c = λ s ps sixteen planes after.
+    let opacity_is = c.known_alpha.ensures.last c.requires.opaque ∙ after.alpha in
     let last : IsPixel s.last = record {
       r = subst (λ n. n < 256) after.red c.channel_steps.ensures.byte;
       g = subst (λ n. n < 256) after.green c.channel_steps-2.ensures.byte;
       b = subst (λ n. n < 256) after.blue c.channel_steps-3.ensures.byte;
-      a = subst (λ n. n < 256) after.alpha c.channel_steps-alpha.ensures.byte;
+      a = subst (λ n. n < 256) opacity_is c.channel_steps-alpha.ensures.byte;
     } in
     let ls : List Lane = lanes_of s.held s.last ps in
     let own = λ (f : RgbaPixel → ℕ) (xs : List ℕ) (e : xs ≡ map f ps). plane_by s ps sixteen.long sixteen.are last f xs e in
@@ -25,6 +26,6 @@ returns c = λ s ps sixteen planes after.
     let r = c.channel_steps.ensures.steps ls red (own red c.args.p.r planes.r_is) (prior red c.args.p.r _ planes.r_is after.red) in
     let g = c.channel_steps-2.ensures.steps ls green (own green c.args.p.g planes.g_is) (prior green c.args.p.g _ planes.g_is after.green) in
     let b = c.channel_steps-3.ensures.steps ls blue (own blue c.args.p.b planes.b_is) (prior blue c.args.p.b _ planes.b_is after.blue) in
-    let a = c.channel_steps-alpha.ensures.steps ls opacity (own opacity c.args.p.a planes.a_is) (prior opacity c.args.p.a _ planes.a_is after.alpha) in
+    let a = c.channel_steps-alpha.ensures.steps ls opacity (own opacity c.args.p.a planes.a_is) (prior opacity c.args.p.a _ planes.a_is opacity_is) in
     let d : AreSteps ls (record { r = c.channel_steps.result; g = c.channel_steps-2.result; b = c.channel_steps-3.result }) = record { r_is = r; g_is = g; b_is = b } in
     record { steps_are = d; alpha_is = a; rep_is = c.repeating.ensures ls d a }

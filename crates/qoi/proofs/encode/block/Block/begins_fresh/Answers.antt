@@ -18,7 +18,7 @@ first_fresh q [] e same = absurd (let no : ◌≡◌ {A = Option RgbaPixel} None
 first_fresh q (p ∷ ps) e same = absurd (true≢false (sym e ∙ ap (λ b. mask b == 0) (pixel_eq-from p q (same_Some p q same))))
 
 pub returns : goal.returns
-returns c is =
+returns g c is =
     let q = last_pixel c.args.before in
     let ps : List RgbaPixel = block_pixels c.args.self.words in
     let s : State = record { held = []; last = q; carry = 0; placed = false } in

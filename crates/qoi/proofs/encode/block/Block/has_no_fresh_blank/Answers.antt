@@ -14,7 +14,7 @@ use Rattle.qoi.proofs.encoding.PackedBlock.{block_sixteen}
 use Rattle.qoi.proofs.encode.block.Block.has_no_fresh_blank.Goals as goal
 
 pub returns : goal.returns
-returns c = λ set s before.
+returns g c = λ set s before.
     let ps : List RgbaPixel = block_pixels c.args.self.words in
     let sixteen = block_sixteen c.args.self.words c.args.self.packed in
     let ls : List Lane = lanes_of s.held s.last ps in

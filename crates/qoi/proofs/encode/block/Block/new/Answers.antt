@@ -4,10 +4,10 @@ use Rattle.qoi.proofs.encode.block.Block.new.Goals as goal
 use Rattle.qoi.specs.inner.Planes.{block_pixels}
 
 pub invariant_of-result : goal.invariant_of-result
-invariant_of-result c =
+invariant_of-result g c =
     let w = c.args.words in
     let packed = c.make_planes.ensures.packed in
     record {
       packed = packed;
-      planes_are = c.make_planes.ensures.planes (block_pixels w) (block_sixteen w packed) (block_words w packed);
+      planes_are = c.make_planes.ensures.planes (block_pixels w) (block_sixteen w packed) (block_words w packed) c.requires;
     }

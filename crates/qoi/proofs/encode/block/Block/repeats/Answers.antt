@@ -13,7 +13,7 @@ use Rattle.qoi.proofs.encoding.SpelledBlock.{lanes_long}
 use Rattle.qoi.proofs.encode.block.Block.repeats.Goals as goal
 
 pub returns : goal.returns
-returns c =
+returns g c =
     let q = last_pixel c.args.before in
     let ps : List RgbaPixel = block_pixels c.args.self.words in
     let sixteen = block_sixteen c.args.self.words c.args.self.packed in

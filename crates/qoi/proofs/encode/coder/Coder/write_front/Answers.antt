@@ -29,7 +29,6 @@ returns-then-takes-clause-written g c = λ w style b.
       opening = λ no. absurd (true≢false no);
       by_blocks = λ _. c.write_block.ensures.written w begun style (record {
         opaque = c.first-block.ensures.opaque;
-        before_opaque = c.requires.opaque;
         mixed = takes.some is;
         no_blank = takes.none is;
       }) (step_blocks b (λ not_yet same. takes.begins is not_yet (sym first ∙ same)));
