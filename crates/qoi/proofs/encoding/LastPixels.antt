@@ -115,9 +115,9 @@ sixteen_padded n bytes one two three four is are whole e1 e2 e3 e4 =
     ∙ ap (λ z. padded (take 16 ps) (16 - z)) (count_of n bytes is whole)
 
 -- of sixteen pixels or more the first sixteen aren't padded
-pub not_padded : (ps : List RgbaPixel) (n len : ℕ) → IsChannels n → 64 ≤ len → ps ≡ padded ps (16 - len / n)
+pub not_padded : (ps : List RgbaPixel) (n len : ℕ) → IsChannels n → 16 * n ≤ len → ps ≡ padded ps (16 - len / n)
 not_padded ps n len is long =
-    let none : 16 - len / n ≡ 0 = by_channels (λ k. 16 - len / k ≡ 0) is (omega arith) (omega arith) in
+    let none : 16 - len / n ≡ 0 = by_channels (λ k. 16 * k ≤ len → 16 - len / k ≡ 0) is (λ l. omega arith) (λ l. omega arith) long in
     sym (append-nil ps) ∙ ap (λ z. padded ps z) (sym none)
 
 -- the last of them is one of them, or q

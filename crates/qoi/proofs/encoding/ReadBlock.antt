@@ -59,7 +59,7 @@ four_on n k bytes qs is inside e =
     ap (λ z. take 4 (pixels_of n (drop z bytes))) turned ∙ ap (take 4) (sym (pixels_drop n k bytes is inside)) ∙ e
 
 -- the sixteen pixels at the front, read four at a time
-pub sixteen_read : (n : ℕ) (bytes one two three four : List ℕ) → IsChannels n → AreBytes bytes → 64 ≤ length bytes
+pub sixteen_read : (n : ℕ) (bytes one two three four : List ℕ) → IsChannels n → AreBytes bytes → 16 * n ≤ length bytes
     → one ≡ map word (take 4 (pixels_of n bytes)) → two ≡ map word (take 4 (pixels_of n (drop (4 * n) bytes)))
     → three ≡ map word (take 4 (pixels_of n (drop (8 * n) bytes))) → four ≡ map word (take 4 (pixels_of n (drop (12 * n) bytes)))
     → pixels_of_words one ++ (pixels_of_words two ++ (pixels_of_words three ++ pixels_of_words four)) ≡ take 16 (pixels_of n bytes)

@@ -1,5 +1,5 @@
 -- Lanes of 32 bits by their bytes, and the first four pixels of raw bytes as lanes.
-use Rattle.std.proofs.Common.{◌≡◌, ℕ, zero, suc, ◌+◌, ◌*◌, ◌/◌, ◌%◌, ◌^◌, ◌<◌, ◌≤◌, List, [], ◌∷◌, ◌++◌, length, take, map, replicate, refl, sym, ap, ◌∙◌, arith}
+use Rattle.std.proofs.Common.{◌≡◌, ℕ, zero, suc, ◌+◌, ◌*◌, ◌/◌, ◌%◌, ◌^◌, ◌<◌, ◌≤◌, List, [], ◌∷◌, ◌++◌, length, take, drop, map, replicate, refl, sym, ap, ◌∙◌, arith}
 use Rattle.std.proofs.lemmas.Simd.{Each1-from_get_or}
 use Rattle.std.proofs.lemmas.List.{length-take-le, get_or-take}
 use lib.Lanes.{Each1, pick_l, number_l, digits_l}
@@ -66,3 +66,19 @@ words_of_3 _ h l = absurd (omega arith)
 pub four_of_3 : (n : ℕ) (bytes : List ℕ) → n ≡ 3 → AreBytes bytes → 16 ≤ length bytes
     → digits_l 4294967296 4 (number_l 256 (opaque_bytes (take 16 bytes))) ≡ map word (take 4 (pixels_of n bytes))
 four_of_3 n bytes e h l = words_of_3 bytes h l ∙ sym (ap (λ n. map word (take 4 (pixels_of n bytes))) e)
+
+-- the bytes after the first four, and alphas between them
+abbrev late_bytes : List ℕ → List ℕ
+late_bytes v = pick_l 0 (v ++ replicate 16 255) (4 ∷ 5 ∷ 6 ∷ 16 ∷ 7 ∷ 8 ∷ 9 ∷ 16 ∷ 10 ∷ 11 ∷ 12 ∷ 16 ∷ 13 ∷ 14 ∷ 15 ∷ 16 ∷ [])
+
+late_words_of_3 : (bytes : List ℕ) → AreBytes bytes → 16 ≤ length bytes
+    → digits_l 4294967296 4 (number_l 256 (late_bytes (take 16 bytes))) ≡ map word (take 4 (pixels_of_3 (drop 4 bytes)))
+late_words_of_3 (b0 ∷ b1 ∷ b2 ∷ b3 ∷ b4 ∷ b5 ∷ b6 ∷ b7 ∷ b8 ∷ b9 ∷ b10 ∷ b11 ∷ b12 ∷ b13 ∷ b14 ∷ b15 ∷ bytes) h l =
+    lanes_of_bytes 4 (b4 ∷ b5 ∷ b6 ∷ 255 ∷ b7 ∷ b8 ∷ b9 ∷ 255 ∷ b10 ∷ b11 ∷ b12 ∷ 255 ∷ b13 ∷ b14 ∷ b15 ∷ 255 ∷ []) refl
+    (h 4, (h 5, (h 6, (omega arith, (h 7, (h 8, (h 9, (omega arith, (h 10, (h 11, (h 12, (omega arith, (h 13, (h 14, (h 15, (omega arith, tt))))))))))))))))
+late_words_of_3 _ h l = absurd (omega arith)
+
+-- four pixels of three bytes after four bytes
+pub late_four_of_3 : (n : ℕ) (bytes : List ℕ) → n ≡ 3 → AreBytes bytes → 16 ≤ length bytes
+    → digits_l 4294967296 4 (number_l 256 (late_bytes (take 16 bytes))) ≡ map word (take 4 (pixels_of n (drop 4 bytes)))
+late_four_of_3 n bytes e h l = late_words_of_3 bytes h l ∙ sym (ap (λ n. map word (take 4 (pixels_of n (drop 4 bytes)))) e)

@@ -19,6 +19,7 @@ ghost use Rattle.qoi.specs.inner.Table.{Holds};
 use crate::consts::QOI_OP_RUN;
 use crate::encode::block::{Block, Carry};
 use crate::encode::fresh::spell_pixel;
+use crate::encode::packing::count_sixteen;
 use crate::encode::piece::{Piece, REPEATS_AT_ONCE};
 use crate::encode::planes::Planes;
 use crate::encode::runs::{begins_with, repeats_of};
@@ -354,7 +355,7 @@ impl<const N: usize> Coder<N> {
             → CarryBetween true w (pixels_of N (drop (N * result.0) «data».now)) table.new
             result.1 (kept_bytes piece.new) }
     {
-        let count = (data.len() / N).min(16);
+        let count = count_sixteen::<N>(data);
         let after = piece.keep_block::<N, STYLE>(style, table, block, carry);
         // The pixels that pad the block didn't come.
         let left = after.count.saturating_sub((16 - count) as u8);

@@ -1,6 +1,5 @@
 //! The first sixteen pixels of raw bytes, packed.
-ghost use Rattle.std.specs.Prelude.{◌≡◌, ◌+◌, ◌-◌, ◌*◌, ◌/◌, ◌%◌, ◌≤◌, ◌<◌, ℕ, [], ◌∷◌, length, take, map};
-ghost use Rattle.qoi.specs.declared.encode.packing.TheConstants.{READ_SIXTEEN};
+ghost use Rattle.std.specs.Prelude.{◌≡◌, ◌+◌, ◌-◌, ◌*◌, ◌/◌, ◌%◌, ◌≤◌, ◌<◌, ℕ, [], ◌∷◌, length, take, drop, map, min};
 ghost use Rattle.qoi.specs.Qoi.{blank};
 ghost use Rattle.qoi.specs.Raw.{IsChannels, pixels_of};
 ghost use Rattle.qoi.specs.inner.Blocks.{padded, nth_or_last};
@@ -12,9 +11,17 @@ use crate::packed::Packed;
 use crate::utils::skip;
 use std::simd::prelude::*;
 
-/// With this many bytes sixteen pixels can be read at once, in three channels too, where they have
-/// only 48.
-pub(super) const READ_SIXTEEN: usize = 64;
+/// How many pixels `first_sixteen` finds.
+#[inline(always)]
+pub(super) fn count_sixteen<const N: usize>(bytes: &[u8]) -> usize
+    requires channels { IsChannels N }
+    ensures { result ≡ min (length bytes.now / N) 16 }
+{
+    if bytes.len() < 16 * N {
+        return bytes.len() / N;
+    }
+    16
+}
 
 /// The first sixteen pixels, packed; if there are fewer, then repeats of the last one follow.
 #[inline(always)]
@@ -26,7 +33,7 @@ pub(super) fn first_sixteen<const N: usize>(bytes: &[u8]) -> Words
         ≡ padded (take 16 (pixels_of N bytes.now)) (16 - length bytes.now / N) }
     ensures opaque { N ≡ 3 → AreOpaque (block_pixels result) }
 {
-    if bytes.len() < READ_SIXTEEN {
+    if bytes.len() < 16 * N {
         return padded_sixteen::<N>(bytes);
     }
     read_sixteen::<N>(bytes)
@@ -36,14 +43,14 @@ pub(super) fn first_sixteen<const N: usize>(bytes: &[u8]) -> Words
 #[inline(always)]
 fn read_sixteen<const N: usize>(bytes: &[u8]) -> Words
     requires channels { IsChannels N }
-    requires enough { READ_SIXTEEN ≤ length bytes.now }
+    requires enough { 16 * N ≤ length bytes.now }
     ensures { block_pixels result ≡ take 16 (pixels_of N bytes.now) }
 {
     Words {
         one: read_four::<N>(bytes),
         two: read_four::<N>(skip(bytes, 4 * N)),
         three: read_four::<N>(skip(bytes, 8 * N)),
-        four: read_four::<N>(skip(bytes, 12 * N)),
+        four: read_last_four::<N>(bytes),
     }
 }
 
@@ -62,6 +69,35 @@ fn read_four<const N: usize>(bytes: &[u8]) -> u32x4
     let opaque: u8x16 = v.shuffle(
         u8x16::splat(255),
         [0, 1, 2, 16, 3, 4, 5, 16, 6, 7, 8, 16, 9, 10, 11, 16],
+    );
+    u32x4::from_le_bytes(opaque)
+}
+
+// The last four of the first sixteen pixels.
+#[inline(always)]
+fn read_last_four<const N: usize>(bytes: &[u8]) -> u32x4
+    requires channels { IsChannels N }
+    requires enough { 16 * N ≤ length bytes.now }
+    ensures lanes { result ≡ map word (take 4 (pixels_of N (drop (12 * N) bytes.now))) }
+{
+    if N == 4 {
+        return read_four::<N>(skip(bytes, 12 * N));
+    }
+    read_four_late::<N>(skip(bytes, 32))
+}
+
+// Four pixels after the first four bytes. Those are read, too, since there may be none after the
+// pixels.
+#[inline(always)]
+fn read_four_late<const N: usize>(bytes: &[u8]) -> u32x4
+    requires three { N ≡ 3 }
+    requires enough { 16 ≤ length bytes.now }
+    ensures lanes { result ≡ map word (take 4 (pixels_of N (drop 4 bytes.now))) }
+{
+    let v = u8x16::from_slice(bytes);
+    let opaque: u8x16 = v.shuffle(
+        u8x16::splat(255),
+        [4, 5, 6, 16, 7, 8, 9, 16, 10, 11, 12, 16, 13, 14, 15, 16],
     );
     u32x4::from_le_bytes(opaque)
 }

@@ -8,8 +8,8 @@ use Rattle.qoi.proofs.encode.packing.read_sixteen.Goals as goal
 pub returns : goal.returns
 returns g c =
     let four = λ (x : List ℕ). map word (take 4 (pixels_of g.row.N x)) in
-    sixteen_read g.row.N c.args.bytes.now c.read_four.result c.read_four-2.result c.read_four-3.result c.read_four-4.result
+    sixteen_read g.row.N c.args.bytes.now c.read_four.result c.read_four-2.result c.read_four-3.result c.read_last_four.result
     c.requires.channels (λ i. omega (arith, c.type_inv.bytes i)) c.requires.enough c.read_four.ensures.lanes
     (c.read_four-2.ensures.lanes ∙ ap four c.skip.ensures)
     (c.read_four-3.ensures.lanes ∙ ap four c.skip-2.ensures)
-    (c.read_four-4.ensures.lanes ∙ ap four c.skip-3.ensures)
+    c.read_last_four.ensures.lanes
