@@ -179,8 +179,8 @@ impl Carry {
         }
     }
 
-    // Where the byte of the repeats ends, which stands at `at`: if no fresh pixel follows them, or
-    // if there are none, it doesn't count.
+    // Where the byte of the repeats ends, which stands at `at`. It doesn't count if there are no
+    // repeats, or if no fresh pixel follows them.
     #[inline(always)]
     fn end(self, at: usize, fresh: bool) -> usize
         requires room { at < usize.MAX }
@@ -220,8 +220,8 @@ pub(super) fn write_block<const N: usize, const STYLE: u8, const ROOM: usize>(
         (result.1.count - pads) result.1.placed (take result.0 out.new) }
 {
     let places = places(block.planes);
-    let at_each = reread_lanes(places, out, at, carry.byte(style));
-    let stands = put_block(table, at_each, block.words);
+    let numbers = reread_lanes(places, out, at, carry.byte(style));
+    let stands = put_block(table, numbers, block.words);
     let x = block.spell(style, stands, places, carry);
     let fresh = x.rep.to_array()[0] == 0;
     let end = put_sixteen::<N>(out, carry.end(at, fresh), x, block.planes);

@@ -125,10 +125,10 @@ fn numbers(bytes: &[u8]) -> [usize; 16]
     ]
 }
 
-/// Stores a byte at `at`, and returns the lanes as numbers. Before the byte they are stored in the
+/// Stores a byte at `at`, and returns the lanes as numbers: before the byte they are stored in the
 /// last sixteen bytes of `out`, where anything may stand, and after it each is read again. This is
 /// faster than to take each from the vector, which the compiler would do if it knew that the byte
-/// is none of these.
+/// is none of the sixteen.
 #[inline(always)]
 pub(super) fn reread_lanes(v: u8x16, out: &mut [u8], at: usize, byte: u8) -> [usize; 16]
     requires room { at + 16 < length out.old }
