@@ -52,6 +52,7 @@ pub mod PlacesOut
 pub mod PlaneWords
 pub mod PrefixSums
 pub mod ReadBlock
+pub mod RereadLanes
 pub mod RunningMost
 pub mod Shuffles
 pub mod SizeCodes

@@ -17,7 +17,7 @@ summed : (a b c d e f g h : ℕ) → a + b + c + d + e + f + g + h < 256
 summed a b c d e f g h l = reduced _ _ (packed (b + c + d + e + f + g + h) (c + d + e + f + g + h) (d + e + f + g + h) (e + f + g + h) (f + g + h) (g + h) h 0) (omega arith) (omega arith)
 
 -- a digit of such a number
-pub digit : (a b c d e f g h : ℕ) → a < 256 → b < 256 → c < 256 → d < 256 → e < 256 → f < 256 → g < 256 → h < 256 → (k : ℕ) → k < 8
+digit : (a b c d e f g h : ℕ) → a < 256 → b < 256 → c < 256 → d < 256 → e < 256 → f < 256 → g < 256 → h < 256 → (k : ℕ) → k < 8
     → packed a b c d e f g h / 2 ^ (8 * k) % 256 ≡ get_or (a ∷ b ∷ c ∷ d ∷ e ∷ f ∷ g ∷ h ∷ []) k 0
 digit a b c d e f g h la lb lc ld le lf lg lh zero lt = omega arith
 digit a b c d e f g h la lb lc ld le lf lg lh (suc zero) lt = omega arith

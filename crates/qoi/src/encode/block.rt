@@ -15,7 +15,7 @@ ghost use Rattle.qoi.specs.inner.Table.{Holds};
 
 use crate::consts::QOI_OP_RUN;
 use crate::encode::changes::{all_set, find_changes};
-use crate::encode::lanes::{blanks, is_zero, places};
+use crate::encode::lanes::{blanks, is_zero, places, reread_lanes};
 use crate::encode::named::name_single;
 use crate::encode::packing::first_sixteen;
 use crate::encode::planes::{Planes, Words, make_planes};
@@ -200,19 +200,15 @@ impl Carry {
         }
     }
 
-    // Stores the repeats, if a fresh pixel follows them, at `at`, and returns where they end.
+    // Where the byte of the repeats ends, which stands at `at`. It doesn't count if there are no
+    // repeats, or if no fresh pixel follows them.
     #[inline(always)]
-    fn put(self, style: Style, out: &mut [u8], at: usize, fresh: bool) -> usize
-        requires room { at < length out.old }
-        requires few { self.count < run_max }
-        ensures same { length out.new ≡ length out.old }
-        ensures near { (at ≤ result) × (result ≤ at + 1) }
-        ensures stays { IsFalse fresh → take result out.new ≡ take at out.old }
-        ensures none { self.count ≡ 0 → take result out.new ≡ take at out.old }
-        ensures some { IsTrue fresh → 0 < self.count → take result out.new
-            ≡ take at out.old ++ group_bytes style self.placed (last_pixel self.before) self.count }
+    fn end(self, at: usize, fresh: bool) -> usize
+        requires room { at < usize.MAX }
+        ensures stays { IsFalse fresh → result ≡ at }
+        ensures none { self.count ≡ 0 → result ≡ at }
+        ensures some { IsTrue fresh → 0 < self.count → result ≡ at + 1 }
     {
-        out[at] = self.byte(style);
         at + usize::from(fresh & (self.count > 0))
     }
 }
@@ -247,10 +243,10 @@ pub(super) fn write_block<const N: usize, const STYLE: u8, const ROOM: usize>(
         (result.1.count - pads) result.1.placed (take result.0 out.new) }
 {
     let places = places(block.planes);
-    let stands = put_block(table, places, block.words);
+    let numbers = reread_lanes(places, out, at, carry.byte(style));
+    let stands = put_block(table, numbers, block.words);
     let x = block.spell::<N>(style, stands, places, carry);
     let fresh = x.rep.to_array()[0] == 0;
-    let start = carry.put(style, out, at, fresh);
-    let end = put_sixteen::<N>(out, start, x, block.planes);
+    let end = put_sixteen::<N>(out, carry.end(at, fresh), x, block.planes);
     (end, block.carry(style, x, stands))
 }

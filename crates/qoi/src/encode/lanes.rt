@@ -1,7 +1,7 @@
 //! Sixteen pixels, a byte of each in the lanes of a vector: the steps from the pixels before them,
 //! which of them repeat, and their index positions (QOI specification 1.0, "Chunks").
-ghost use lib.Lanes.{Each1, number_l, zip2};
-ghost use Rattle.std.specs.Prelude.{◌≡◌, ◌<◌, ◌+◌, ◌-◌, ◌*◌, ◌/◌, ◌%◌, ◌^◌, ℕ, List, [], ◌∷◌, min, max, map, length, take, drop, slice_index};
+ghost use lib.Lanes.{number_l, zip2};
+ghost use Rattle.std.specs.Prelude.{◌≡◌, ◌<◌, ◌+◌, ◌-◌, ◌%◌, ℕ, List, [], ◌∷◌, ◌++◌, min, max, map, length, take, drop, slice_index};
 ghost use Rattle.qoi.specs.Qoi.{RgbaPixel, blank, hash, pixel_eq};
 ghost use Rattle.qoi.specs.inner.BlockLanes.{Lane, mask, zero_mask, step_of};
 ghost use Rattle.qoi.specs.inner.Planes.{AreSixteen, ArePlanes};
@@ -99,45 +99,47 @@ pub(super) fn places(p: Planes) -> u8x16
     (h + a4 + a4 + a2 + p.a) & u8x16::splat(63)
 }
 
-/// A byte of a number.
+// Sixteen bytes as numbers.
 #[inline(always)]
-pub(super) fn byte_at(number: u64, k: u32) -> usize
-    requires { k < 8 }
-    ensures { result ≡ number / 2 ^ (8 * k) % 256 }
-{
-    ((number >> (8 * k)) % 256) as usize
-}
-
-// The bytes of a number.
-#[inline(always)]
-fn eight_bytes(n: u64) -> [usize; 8]
-    ensures { (xs : List ℕ) → length xs ≡ 8 → Each1 (λ x. x < 256) xs → n ≡ number_l 256 xs
-        → result ≡ xs }
+fn numbers(bytes: &[u8]) -> [usize; 16]
+    requires { length bytes.now ≡ 16 }
+    ensures { result ≡ bytes.now }
 {
     [
-        byte_at(n, 0),
-        byte_at(n, 1),
-        byte_at(n, 2),
-        byte_at(n, 3),
-        byte_at(n, 4),
-        byte_at(n, 5),
-        byte_at(n, 6),
-        byte_at(n, 7),
+        usize::from(bytes[0]),
+        usize::from(bytes[1]),
+        usize::from(bytes[2]),
+        usize::from(bytes[3]),
+        usize::from(bytes[4]),
+        usize::from(bytes[5]),
+        usize::from(bytes[6]),
+        usize::from(bytes[7]),
+        usize::from(bytes[8]),
+        usize::from(bytes[9]),
+        usize::from(bytes[10]),
+        usize::from(bytes[11]),
+        usize::from(bytes[12]),
+        usize::from(bytes[13]),
+        usize::from(bytes[14]),
+        usize::from(bytes[15]),
     ]
 }
 
-/// The lanes as numbers. They are taken from two numbers of 64 bits, which is faster than to take
-/// each from the vector.
+/// Stores a byte at `at`, and returns the lanes as numbers: before the byte they are stored in the
+/// last sixteen bytes of `out`, where anything may stand, and after it each is read again. This is
+/// faster than to take each from the vector, which the compiler would do if it knew that the byte
+/// is none of the sixteen.
 #[inline(always)]
-pub(super) fn lane_numbers(v: u8x16) -> [usize; 16]
-    ensures { result ≡ v }
+pub(super) fn reread_lanes(v: u8x16, out: &mut [u8], at: usize, byte: u8) -> [usize; 16]
+    requires room { at + 16 < length out.old }
+    ensures same { length out.new ≡ length out.old }
+    ensures stored { take (at + 1) out.new ≡ take at out.old ++ byte ∷ [] }
+    ensures lanes { result ≡ v }
 {
-    let n = halves(v);
-    let (a, b) = (eight_bytes(n[0]), eight_bytes(n[1]));
-    [
-        a[0], a[1], a[2], a[3], a[4], a[5], a[6], a[7], b[0], b[1], b[2], b[3], b[4], b[5], b[6],
-        b[7],
-    ]
+    let end = out.len() - 16;
+    v.copy_to_slice(&mut out[end..]);
+    out[at] = byte;
+    numbers(&out[end..])
 }
 
 /// 255 in each lane whose pixel is transparent black, else 0.

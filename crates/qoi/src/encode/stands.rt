@@ -7,7 +7,6 @@ ghost use Rattle.qoi.specs.inner.Planes.{AreSixteen, AreFourWords, AreBlockWords
 ghost use Rattle.qoi.specs.inner.Stands.{all_same, four_times, HasPutBlock};
 ghost use Rattle.qoi.specs.inner.Table.{Holds};
 
-use crate::encode::lanes::lane_numbers;
 use crate::encode::planes::Words;
 use crate::encode::table::PixelTable;
 use std::simd::prelude::*;
@@ -36,15 +35,14 @@ fn one_of_four(a: u8x16, b: u8x16, c: u8x16, d: u8x16) -> u8x16
     low.shuffle(high, [0, 1, 2, 3, 4, 5, 6, 7, 8, 9, 10, 11, 12, 13, 14, 15])
 }
 
-/// Puts sixteen packed pixels at their index positions, one after the other. Returns which of them
-/// stood there already: 255 or 0.
+/// Puts sixteen packed pixels at their index positions, `at`, one after the other. Returns which of
+/// them stood there already: 255 or 0.
 #[inline(always)]
-pub(super) fn put_block(table: &mut PixelTable, places: u8x16, w: Words) -> u8x16
-    requires { (k : ℕ) → k < 16 → slice_index places k < 64 }
+pub(super) fn put_block(table: &mut PixelTable, at: [usize; 16], w: Words) -> u8x16
+    requires { (k : ℕ) → k < 16 → slice_index at k < 64 }
     ensures { (held : Past) (ps : List RgbaPixel) → Holds table.old held → AreSixteen ps
-        → AreBlockWords ps w → places ≡ map hash ps → HasPutBlock held ps result table.new }
+        → AreBlockWords ps w → at ≡ map hash ps → HasPutBlock held ps result table.new }
 {
-    let at = lane_numbers(places);
     let one = table.swap_four([at[0], at[1], at[2], at[3]], w.one.to_array());
     let two = table.swap_four([at[4], at[5], at[6], at[7]], w.two.to_array());
     let three = table.swap_four([at[8], at[9], at[10], at[11]], w.three.to_array());

@@ -13,7 +13,7 @@ use Rattle.qoi.specs.inner.Stands.{stand_tests}
 use Rattle.qoi.specs.inner.Table.{Holds}
 use Rattle.qoi.proofs.format.SamePixels.{same_pixel}
 use Rattle.qoi.proofs.encoding.BlockPuts.{hashes_below}
-use Rattle.qoi.proofs.encoding.BlockStep.{ready, block_step}
+use Rattle.qoi.proofs.encoding.BlockStep.{ready, group_stored, block_step}
 use Rattle.qoi.proofs.encoding.PackedBlock.{block_sixteen, block_words}
 use Rattle.qoi.proofs.encoding.PaddedBlock.{padded_front}
 use Rattle.qoi.proofs.encoding.StoredBlock.{sizes_few}
@@ -34,7 +34,7 @@ pub put_block-stands-requires : goal.put_block-stands-requires
 put_block-stands-requires g c = λ k lt.
     let w = c.args.block.words in
     let at = c.places-places.ensures (block_pixels w) (block_sixteen w c.args.block.packed) c.args.block.planes_are in
-    omega (arith, hashes_below (block_pixels w) k, ap (λ z. slice_index z k) at)
+    omega (arith, hashes_below (block_pixels w) k, ap (λ z. slice_index z k) (c.reread_lanes-numbers.ensures.lanes ∙ at))
 
 pub returns-clause-written : goal.returns-clause-written
 returns-clause-written g c = λ w begun pads ps rest style pad_is some fits b.
@@ -45,18 +45,16 @@ returns-clause-written g c = λ w begun pads ps rest style pad_is some fits b.
     let planes = c.args.block.planes_are in
     let last : IsPixel s.last = subst IsPixel b.carrying.last_is b.carrying.between.to_write.before in
     let at : c.places-places.result ≡ map hash all = c.places-places.ensures all sixteen planes in
-    let put = c.put_block-stands.ensures s.held all b.table_is sixteen (block_words words c.args.block.packed) at in
+    let put = c.put_block-stands.ensures s.held all b.table_is sixteen (block_words words c.args.block.packed) (c.reread_lanes-numbers.ensures.lanes ∙ at) in
     let placed : c.args.style ≡ Places → s.placed ≡ c.args.carry.placed = λ is. b.placed_is (style ∙ is) in
     let spelled = c.spell-x.ensures s last b.before_is b.carry_is placed put.stands_are at in
     let x = c.spell-x.result in
     let few : s.carry ≤ 45 = omega (arith, b.carry_is, c.requires.few) in
     let q_is : s.last ≡ last_pixel c.args.carry.before = last_of_planes s.last c.args.carry.before b.before_is in
     let start = ready w c.args.style s all (ps ++ rest) x _ c.args.carry.placed (last_pixel c.args.carry.before) c.args.carry.count _ _ style few b.carrying
-    (padded_front ps rest all pads pad_is some) spelled sixteen refl q_is b.carry_is placed (record {
-      stays = c.put-start.ensures.stays;
-      none = c.put-start.ensures.none;
-      some = c.put-start.ensures.some;
-    }) in
+    (padded_front ps rest all pads pad_is some) spelled sixteen refl q_is b.carry_is placed
+    (group_stored c.args.style _ c.args.carry.placed (last_pixel c.args.carry.before) c.args.carry.count c.args.at c.end.result c.byte.result c.args.out.now c.reread_lanes-numbers.new.out
+    (omega (arith, c.requires.room)) c.reread_lanes-numbers.ensures.stored c.byte.ensures c.end.ensures.stays c.end.ensures.none c.end.ensures.some) in
     let out : List ℕ = take c.put_sixteen-end.result c.put_sixteen-end.new.out in
     let step = block_step w c.args.style s ps rest all pads x c.args.block.planes c.put_block-stands.new.table c.carry.result.placed _ out style pad_is some sixteen
     (subst (λ q. all_repeat q all ≡ false) (sym q_is) fits.mixed) planes start put.holds
