@@ -2,7 +2,6 @@
 use Rattle.std.proofs.Common.{◌≡◌, ◌≢◌, ℕ, Bool, true, false, List, [], replicate, Some, ◌++◌, refl, sym, ap, ◌∙◌, subst, append_assoc}
 use Rattle.qoi.specs.declared.encode.block.Carry.{Carry}
 use Rattle.qoi.specs.declared.encode.coder.Coder.{Coder}
-use Rattle.qoi.specs.declared.encode.planes.Planes.{Planes}
 use Rattle.qoi.specs.declared.types.Style.TheVariants.{Places}
 use Rattle.std.proofs.lemmas.Bool.{true≢false}
 use Rattle.std.specs.List.{slice_get}
@@ -14,13 +13,7 @@ use Rattle.qoi.specs.inner.CoderLoop.{StillToWrite, Writing, CoderBetween}
 use Rattle.qoi.specs.inner.CarryLoop.{CarryBetween, Opening, StepBetween}
 use Rattle.qoi.specs.inner.BlockState.{State, HasBegun, Carrying}
 use Rattle.qoi.specs.inner.Spelling.{IsLastOf}
-use Rattle.qoi.specs.inner.Blocks.{last_pixel}
-use Rattle.qoi.proofs.format.SamePixels.{same_pixel}
 use Rattle.qoi.proofs.encoding.CoderSteps.{front_sent, none_ahead, all_written}
-
--- the last pixel of the block before
-pub last_of_planes : (q : RgbaPixel) (p : Planes) → IsLastOf q p → q ≡ last_pixel p
-last_of_planes q p is = same_pixel q (last_pixel p) (sym is.red) (sym is.green) (sym is.blue) (sym is.alpha)
 
 -- a fresh pixel came, or the next one is fresh
 begun_or_next : (begun : Bool) (past : Past) (s : State) (rest : List RgbaPixel) → s.carry ≡ 0 → some_fresh past ≡ begun
@@ -69,13 +62,13 @@ blocks_start carry begun b is fresh last none placed =
 
 -- before the first fresh pixel, if the next one is fresh
 pub opening_start : {N : ℕ} {w : Writing} {pixels : List RgbaPixel} {table : List RgbaPixel} {coder : Coder N} {carry : Carry} {kept : List ℕ}
-    → Opening w pixels table coder carry kept → coder.begun ≡ false → slice_get pixels 0 ≢ Some (last_pixel carry.before) → CarryBetween false w pixels table carry kept
+    → Opening w pixels table coder carry kept → coder.begun ≡ false → slice_get pixels 0 ≢ Some coder.last → CarryBetween false w pixels table carry kept
 opening_start {coder = coder} {carry} o not_yet fresh =
-    blocks_start carry false o.between not_yet (λ _ e. fresh (e ∙ ap (λ q. Some q) (last_of_planes coder.last carry.before o.last_is))) o.last_is o.none o.placed_is
+    blocks_start carry false o.between not_yet (λ _. fresh) o.last_is o.none o.placed_is
 
 -- between two steps, once a fresh pixel came or if the next one is fresh
 pub step_blocks : {N : ℕ} {w : Writing} {pixels : List RgbaPixel} {table : List RgbaPixel} {coder : Coder N} {carry : Carry} {kept : List ℕ}
-    → StepBetween w pixels table coder carry kept → (coder.begun ≡ false → slice_get pixels 0 ≢ Some (last_pixel carry.before)) → CarryBetween coder.begun w pixels table carry kept
+    → StepBetween w pixels table coder carry kept → (coder.begun ≡ false → slice_get pixels 0 ≢ Some coder.last) → CarryBetween coder.begun w pixels table carry kept
 step_blocks {w = w} {pixels} {table} {coder} {carry} {kept} b fresh = go coder.begun refl
   where
     go : (begun : Bool) → coder.begun ≡ begun → CarryBetween begun w pixels table carry kept

@@ -13,9 +13,8 @@ use Rattle.qoi.specs.Raw.{IsChannels, pixels_of}
 use Rattle.qoi.specs.inner.Planes.{AreOpaque, ArePacked, ArePlanes, alphas, block_pixels}
 use Rattle.qoi.proofs.format.RawPixels.{length-pixels_of}
 use Rattle.qoi.proofs.format.WholePixels.{by_channels, whole_pixels}
-use Rattle.qoi.proofs.encoding.GroupRuns.{pixels_drop, pixel_ahead, some_pixels}
+use Rattle.qoi.proofs.encoding.GroupRuns.{pixels_drop, pixel_ahead}
 use Rattle.qoi.proofs.encoding.PackedBlock.{block_sixteen}
-use Rattle.qoi.proofs.encoding.PaddedBlock.{padded_front}
 
 -- how many pixels of raw bytes their first block has
 abbrev pub in_front : ℕ → List ℕ → ℕ
@@ -56,13 +55,6 @@ module _ (n : ℕ) (bytes : List ℕ) (is : IsChannels n) (whole : length bytes 
       go (inr many) =
           let sixteen : 16 ≡ in_front n bytes = omega arith in
           ap (λ k. drop k pixels) sixteen ∙ after
-
--- the first pixel of raw bytes is that of the block at their front
-pub first_of_block : (n : ℕ) (bytes : List ℕ) (all : List RgbaPixel) (pads : ℕ) → IsChannels n → length bytes % n ≡ 0 → 0 < length bytes
-    → all ≡ padded (take 16 (pixels_of n bytes)) pads → slice_get (pixels_of n bytes) 0 ≡ slice_get all 0
-first_of_block n bytes all pads is whole some e =
-    ap (λ x. slice_get x 0) (front_pixels n bytes is whole)
-    ∙ padded_front (take 16 (pixels_of n bytes)) _ all pads e (some_front (pixels_of n bytes) (some_pixels n bytes is whole some))
 
 -- alpha of an opaque pixel among others
 opaque_at : (ps : List RgbaPixel) (k : ℕ) → k < length ps → AreOpaque ps → slice_index (alphas ps) k ≡ 255

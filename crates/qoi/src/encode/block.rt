@@ -1,5 +1,5 @@
 //! Sixteen pixels, a block, and the chunks of a block, but for the repeats that it ends with.
-ghost use Rattle.std.specs.Prelude.{◌≡◌, ◌≢◌, ℕ, Bool, true, false, ◌+◌, ◌-◌, ◌≤◌, ◌<◌, List, [], ◌∷◌, ◌++◌, length, map, take, slice_index, slice_index_or, slice_get, Some, ◌/◌, ◌%◌, IsTrue, IsFalse};
+ghost use Rattle.std.specs.Prelude.{◌≡◌, ℕ, Bool, true, false, ◌+◌, ◌-◌, ◌≤◌, ◌<◌, List, [], ◌∷◌, ◌++◌, length, map, take, slice_index, slice_index_or, ◌/◌, ◌%◌, IsTrue, IsFalse};
 ghost use Rattle.qoi.specs.declared.encode.block.TheConstants.{BLOCK_ROOM, BLOCK_MAX};
 ghost use Rattle.qoi.specs.declared.types.Style.TheVariants.{Places};
 ghost use Rattle.qoi.specs.Qoi.{RgbaPixel, IsPixel, run_max, hash};
@@ -77,16 +77,6 @@ impl Block {
         ensures { result ≡ all_repeat (last_pixel before) (block_pixels self.words) }
     {
         all_set(find_changes::<N>(before, self.planes).rep)
-    }
-
-    /// Whether the first pixel differs from the last one of the block before.
-    #[inline(always)]
-    pub(super) fn begins_fresh<const N: usize>(self, before: Planes) -> bool
-        requires { N ≡ 3 → slice_index before.a 15 ≡ 255 }
-        ensures { IsTrue result
-            → slice_get (block_pixels self.words) 0 ≢ Some (last_pixel before) }
-    {
-        find_changes::<N>(before, self.planes).rep.to_array()[0] == 0
     }
 
     /// Whether a fresh pixel of the block may be transparent black that doesn't stand at its index

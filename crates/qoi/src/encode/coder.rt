@@ -19,7 +19,7 @@ ghost use Rattle.qoi.specs.inner.Table.{Holds};
 use crate::consts::QOI_OP_RUN;
 use crate::encode::block::{Block, Carry};
 use crate::encode::fresh::spell_pixel;
-use crate::encode::packing::count_sixteen;
+use crate::encode::packing::without_pads;
 use crate::encode::piece::{Piece, REPEATS_AT_ONCE};
 use crate::encode::planes::Planes;
 use crate::encode::runs::{begins_with, repeats_of};
@@ -293,26 +293,21 @@ impl<const N: usize> Coder<N> {
         }
     }
 
-    // Whether a block is looked at: not of an image's only pixel, since to pad it would take longer.
+    // Whether the front is looked at as a block: once a fresh pixel came, or if the next one is
+    // fresh. Not an image's only pixel, since to pad it would take longer.
     #[inline(always)]
-    fn goes_by_block(&self, data: &[u8]) -> bool {
-        self.begun || data.len() > N
+    fn goes_by_block(&self, data: &[u8]) -> bool
+        ensures { IsTrue result → self.now.begun ≡ false
+            → slice_get (pixels_of N «data».now) 0 ≢ Some self.now.last }
+    {
+        self.begun || (data.len() > N && !begins_with::<N>(data, self.last))
     }
 
-    // Whether a block can be written as one: not all its pixels repeat, in style `Tight` none is
-    // given by another index position than its own, and `begun` says that a fresh pixel came, or
-    // the block begins with one.
+    // Whether a block can be written as one: not all its pixels repeat, and in style `Tight` none
+    // is given by another index position than its own.
     #[inline(always)]
-    fn takes(
-        style: Style,
-        table: &PixelTable,
-        block: Block,
-        before: Planes,
-        begun: bool,
-    ) -> bool
+    fn takes(style: Style, table: &PixelTable, block: Block, before: Planes) -> bool
         requires { N ≡ 3 → slice_index before.a 15 ≡ 255 }
-        ensures begins { IsTrue result → IsFalse begun
-            → slice_get (block_pixels block.words) 0 ≢ Some (last_pixel before) }
         ensures some { IsTrue result
             → all_repeat (last_pixel before) (block_pixels block.words) ≡ false }
         ensures none { IsTrue result → style ≡ Tight
@@ -322,7 +317,7 @@ impl<const N: usize> Coder<N> {
             Reference | Places => false,
             Tight => block.may_miss_blank::<N>(table, before),
         };
-        !blank && !block.repeats::<N>(before) && (begun || block.begins_fresh::<N>(before))
+        !blank && !block.repeats::<N>(before)
     }
 
     // Writes the block at the front, but for the repeats at its end. Returns how many pixels it
@@ -355,10 +350,8 @@ impl<const N: usize> Coder<N> {
             → CarryBetween true w (pixels_of N (drop (N * result.0) «data».now)) table.new
             result.1 (kept_bytes piece.new) }
     {
-        let count = count_sixteen::<N>(data);
         let after = piece.keep_block::<N, STYLE>(style, table, block, carry);
-        // The pixels that pad the block didn't come.
-        let left = after.count.saturating_sub((16 - count) as u8);
+        let (count, left) = without_pads::<N>(data, after.count);
         (
             count,
             Carry {
@@ -439,7 +432,7 @@ impl<const N: usize> Coder<N> {
         let mut repeats = false;
         if self.goes_by_block(data) {
             let block = Block::first::<N>(data);
-            if Coder::<N>::takes(style, table, block, carry.before, self.begun) {
+            if Coder::<N>::takes(style, table, block, carry.before) {
                 self.begun = true;
                 return Coder::<N>::write_block::<STYLE, ROOM>(
                     style, table, piece, data, block, carry,

@@ -11,18 +11,6 @@ use crate::packed::Packed;
 use crate::utils::skip;
 use std::simd::prelude::*;
 
-/// How many pixels `first_sixteen` finds.
-#[inline(always)]
-pub(super) fn count_sixteen<const N: usize>(bytes: &[u8]) -> usize
-    requires channels { IsChannels N }
-    ensures { result ≡ min (length bytes.now / N) 16 }
-{
-    if bytes.len() < 16 * N {
-        return bytes.len() / N;
-    }
-    16
-}
-
 /// The first sixteen pixels, packed; if there are fewer, then repeats of the last one follow.
 #[inline(always)]
 pub(super) fn first_sixteen<const N: usize>(bytes: &[u8]) -> Words
@@ -150,4 +138,31 @@ fn one_pixel<const N: usize>(bytes: &[u8], at: usize) -> u32
 {
     let last = bytes.len() - N;
     Packed::read::<N>(skip(bytes, at.min(last))).number()
+}
+
+/// How many pixels of the block at the front came, and how many of the repeats that are carried
+/// after it: those that pad it didn't.
+#[inline(always)]
+pub(super) fn without_pads<const N: usize>(bytes: &[u8], carried: u8) -> (usize, u8)
+    requires channels { IsChannels N }
+    ensures count { result.0 ≡ min (length bytes.now / N) 16 }
+    ensures left { result.1 ≡ carried - (16 - result.0) }
+{
+    if bytes.len() < 16 * N {
+        return last_without_pads::<N>(bytes.len(), carried);
+    }
+    (16, carried)
+}
+
+// The same of the last block. Its own function, so that the others don't compute this.
+#[cold]
+#[inline(never)]
+fn last_without_pads<const N: usize>(len: usize, carried: u8) -> (usize, u8)
+    requires channels { IsChannels N }
+    requires few { len < 16 * N }
+    ensures count { result.0 ≡ len / N }
+    ensures left { result.1 ≡ carried - (16 - result.0) }
+{
+    let count = len / N;
+    (count, carried.saturating_sub(16 - count as u8))
 }

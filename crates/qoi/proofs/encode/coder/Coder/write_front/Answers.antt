@@ -6,7 +6,7 @@ use Rattle.qoi.specs.declared.encode.planes.Planes.{Planes}
 use Rattle.qoi.specs.Raw.{pixels_of}
 use Rattle.qoi.specs.inner.Blocks.{all_repeat, last_pixel, padded}
 use Rattle.qoi.proofs.encoding.CoderLink.{step_blocks}
-use Rattle.qoi.proofs.encoding.FrontBlock.{first_of_block, repeats_first, last_opaque}
+use Rattle.qoi.proofs.encoding.FrontBlock.{repeats_first, last_opaque}
 use Rattle.qoi.proofs.encode.coder.Coder.write_front.Goals.{then-goes_by_block+else-takes, else-goes_by_block}
 use Rattle.qoi.proofs.encode.coder.Coder.write_front.Goals as goal
 
@@ -20,10 +20,7 @@ pub returns-then-takes-clause-written : goal.returns-then-takes-clause-written
 returns-then-takes-clause-written g c = λ w style b.
     let takes = c.takes.ensures in
     let is = c.if-takes.true in
-    let n = g.row.N in
-    let raw = c.args.data.now in
     let begun = c.args.self.now.begun in
-    let first = first_of_block n raw _ (16 - length raw / n) c.args.self.now.channels c.requires.whole c.requires.some c.first-block.ensures.pixels in
     record {
       style_is = b.style_is;
       opening = λ no. absurd (true≢false no);
@@ -31,7 +28,7 @@ returns-then-takes-clause-written g c = λ w style b.
         opaque = c.first-block.ensures.opaque;
         mixed = takes.some is;
         no_blank = takes.none is;
-      }) (step_blocks b (λ not_yet same. takes.begins is not_yet (sym first ∙ same)));
+      }) (step_blocks b (c.goes_by_block.ensures c.if-goes_by_block.true));
     }
 
 pub write_group-requires : goal.write_group-requires
