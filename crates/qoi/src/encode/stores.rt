@@ -1,16 +1,37 @@
 //! The chunks of sixteen pixels, stored one after the other.
-ghost use Rattle.std.specs.Prelude.{◌≡◌, ◌+◌, ◌≤◌, ◌<◌, ℕ, List, ◌++◌, length, take, slice_index};
+ghost use Rattle.std.specs.Prelude.{◌≡◌, ◌≢◌, ◌+◌, ◌≤◌, ◌<◌, ◌==◌, ℕ, List, ◌++◌, length, map, not, take, slice_index, IsTrue};
 ghost use Rattle.qoi.specs.declared.types.Style.{Style};
 ghost use Rattle.qoi.specs.Qoi.{RgbaPixel, IsPixel, run_max};
 ghost use Rattle.qoi.specs.Raw.{IsChannels};
+ghost use Rattle.qoi.specs.inner.BlockLanes.{mask};
 ghost use Rattle.qoi.specs.inner.BlockState.{State, block_bytes};
 ghost use Rattle.qoi.specs.inner.Planes.{AreSixteen, ArePlanes};
 ghost use Rattle.qoi.specs.inner.Spelling.{HasSpelled};
 
+use crate::encode::changes::all_set;
 use crate::encode::fours::put_fours;
 use crate::encode::pairs::put_pairs;
 use crate::encode::planes::{Planes, make_words};
 use crate::encode::spelling::Spelled;
+use std::simd::prelude::*;
+
+// 255 in each lane that isn't 5, else 0.
+#[inline(always)]
+fn other_than_five(v: u8x16) -> u8x16
+    ensures { result ≡ map (λ n. mask (not (n == 5))) v }
+{
+    v.simd_eq(u8x16::splat(5))
+        .select(u8x16::splat(0), u8x16::splat(255))
+}
+
+// Whether each chunk has at most four bytes. Only RGBA chunks have five.
+#[inline(always)]
+fn are_short<const N: usize>(size: u8x16) -> bool
+    ensures { IsTrue result → ((k : ℕ) → slice_index size k ≤ N + 1)
+        → (k : ℕ) → slice_index size k ≢ 5 }
+{
+    N == 3 || all_set(other_than_five(size))
+}
 
 /// Stores the chunks of sixteen pixels from `at` on, and returns where they end.
 #[inline(always)]
@@ -30,8 +51,7 @@ pub(super) fn put_sixteen<const N: usize>(out: &mut [u8], at: usize, x: Spelled,
         b: p.g,
         a: p.b,
     });
-    if N == 3 {
-        // No chunk has five bytes.
+    if are_short::<N>(x.size) {
         put_fours(out, at, x.size, words)
     } else {
         put_pairs(out, at, x.size, words, p.a)

@@ -49,13 +49,12 @@ have_codes style s ps x sixteen spelled none = λ k.
     let is = ap (λ z. slice_index z k) spelled.size_is in
     subst HasCode (sym is) (sizes_coded s.held s.last ps sixteen.are k (λ e. none k (is ∙ e)))
 
-pub returns-then-this-eq3-clause-written : goal.returns-then-this-eq3-clause-written
-returns-then-this-eq3-clause-written g c = λ style s ps sixteen last planes spelled carry few.
-    let none : (k : ℕ) → slice_index c.args.x.size k ≢ 5 = λ k e. omega (arith, few k, e, c.if-this-eq3.true) in
-    c.put_fours.ensures.written c.args.p.a (have_codes style s ps c.args.x sixteen spelled none)
+pub returns-then-are_short-clause-written : goal.returns-then-are_short-clause-written
+returns-then-are_short-clause-written g c = λ style s ps sixteen last planes spelled carry few.
+    c.put_fours.ensures.written c.args.p.a (have_codes style s ps c.args.x sixteen spelled (c.are_short.ensures c.if-are_short.true few))
     ∙ ap (λ z. take c.args.at c.args.out.now ++ z) (block_is style s ps c.args.x c.args.p c.make_words-words.result sixteen last planes spelled carry c.make_words-words.ensures)
 
-pub returns-else-this-eq3-clause-written : goal.returns-else-this-eq3-clause-written
-returns-else-this-eq3-clause-written g c = λ style s ps sixteen last planes spelled carry few.
-    c.put_pairs.ensures.written (λ k. omega (arith, few k, c.requires.channels, c.if-this-eq3.false))
+pub returns-else-are_short-clause-written : goal.returns-else-are_short-clause-written
+returns-else-are_short-clause-written g c = λ style s ps sixteen last planes spelled carry few.
+    c.put_pairs.ensures.written (λ k. omega (arith, few k, c.requires.channels))
     ∙ ap (λ z. take c.args.at c.args.out.now ++ z) (block_is style s ps c.args.x c.args.p c.make_words-words.result sixteen last planes spelled carry c.make_words-words.ensures)

@@ -1,0 +1,21 @@
+-- No lane is 5.
+use Rattle.std.proofs.Common.{◌≡◌, ◌≢◌, ℕ, zero, suc, true, ◌==◌, List, [], ◌∷◌, map, slice_index, sym, ap, ◌∙◌, arith}
+use Rattle.std.specs.Prelude.{not}
+use Rattle.std.proofs.lemmas.Bool.{true≢false, and_parts}
+use Rattle.std.proofs.lemmas.List.{length-map}
+use Rattle.std.proofs.lemmas.Simd.{map-map}
+use Rattle.qoi.specs.inner.BlockLanes.{mask}
+use Rattle.qoi.specs.inner.Counts.{all_true}
+use Rattle.qoi.proofs.encode.stores.are_short.Goals as goal
+
+-- none of them is 5
+none_five : (xs : List ℕ) → all_true (map (λ n. not (n == 5)) xs) ≡ true → (k : ℕ) → slice_index xs k ≢ 5
+none_five [] all k e = absurd (omega (arith, e))
+none_five (x ∷ xs) all zero e = absurd (true≢false (sym (and_parts (not (x == 5)) _ all).0 ∙ ap (λ n. not (n == 5)) e))
+none_five (x ∷ xs) all (suc k) e = none_five xs (and_parts (not (x == 5)) _ all).1 k e
+
+pub returns-else-this-eq3 : goal.returns-else-this-eq3
+returns-else-this-eq3 g c = λ is few.
+    let size = c.args.size in
+    none_five size (sym (c.all_set.ensures (map (λ n. not (n == 5)) size) (length-map size (λ n. not (n == 5)) ∙ c.fits-size.0)
+    (c.other_than_five.ensures ∙ sym (map-map mask (λ n. not (n == 5)) size))) ∙ is)
