@@ -1,14 +1,10 @@
--- Sixteen bytes that are stored at the end of others and read again, with a byte stored in between.
-use Rattle.std.proofs.Common.{◌≡◌, ℕ, ◌+◌, ◌-◌, ◌<◌, List, [], ◌∷◌, ◌++◌, length, take, drop, set, slice_index, refl, sym, ap, ◌∙◌, arith}
-use Rattle.std.proofs.lemmas.List.{length-take-le, length-set, take-take, take-append-le, take_more_set, drop-set-lt, drop_at, take_at}
+-- Sixteen bytes that are stored at the end of others, and a byte before them.
+use Rattle.std.proofs.Common.{◌≡◌, ℕ, ◌+◌, ◌-◌, ◌<◌, List, [], ◌∷◌, ◌++◌, length, take, drop, set, ap, ◌∙◌, arith}
+use Rattle.std.proofs.lemmas.List.{length-take-le, take-take, take-append-le, take_more_set, drop-set-lt, drop_at, length-drop, append-nil}
+use Rattle.std.proofs.Math.ListN.{drop_of_length-le}
 use Rattle.std.proofs.lemmas.Simd.{length-put_chunk, put_chunk_is}
+use Rattle.std.proofs.lemmas.Slice.{between_to_end}
 use lib.Lanes.{put_chunk}
-
--- sixteen bytes, one by one
-pub sixteen : (v : List ℕ) → length v ≡ 16 → (let at = λ (k : ℕ). slice_index v k in
-    at 0 ∷ at 1 ∷ at 2 ∷ at 3 ∷ at 4 ∷ at 5 ∷ at 6 ∷ at 7 ∷ at 8 ∷ at 9 ∷ at 10 ∷ at 11 ∷ at 12 ∷ at 13 ∷ at 14 ∷ at 15 ∷ []) ≡ v
-sixteen (x0 ∷ x1 ∷ x2 ∷ x3 ∷ x4 ∷ x5 ∷ x6 ∷ x7 ∷ x8 ∷ x9 ∷ x10 ∷ x11 ∷ x12 ∷ x13 ∷ x14 ∷ x15 ∷ []) long = refl
-sixteen v long = absurd (omega arith)
 
 -- the bytes `out` once both are stored
 abbrev pub both_stored : List ℕ → List ℕ → ℕ → ℕ → List ℕ
@@ -25,13 +21,16 @@ front_stored out v at byte room long =
     ∙ ap (λ z. z ++ byte ∷ []) (take-append-le at (take end out) (v ++ drop (length v) (drop end out)) (omega (arith, length-take-le end out (omega arith)))
     ∙ take-take at end out (omega arith))
 
--- the sixteen are read again
-pub end_stored : (out v : List ℕ) (at byte : ℕ) → at + 16 < length out → length v ≡ 16 → (let new = both_stored out v at byte in
-    take (length new - (length out - 16)) (drop (length out - 16) new) ≡ v)
+-- the sixteen bytes
+pub end_stored : (out v : List ℕ) (at byte : ℕ) → at + 16 < length out → length v ≡ 16 → drop (length out - 16) (both_stored out v at byte) ≡ v
 end_stored out v at byte room long =
     let end = length out - 16 in
-    let new = put_chunk end out v in
-    let count : length (set new at byte) - end ≡ 16 = omega (arith, length-set new at byte, length-put_chunk end out v) in
-    ap (take (length (set new at byte) - end)) (drop-set-lt end new at byte (omega arith) ∙ ap (drop end) (put_chunk_is end out v (omega arith))
-    ∙ drop_at (take end out) (v ++ drop (length v) (drop end out)) end (length-take-le end out (omega arith)))
-    ∙ take_at v (drop (length v) (drop end out)) (length (set new at byte) - end) (long ∙ sym count)
+    let rest = drop (length v) (drop end out) in
+    let none : rest ≡ [] = drop_of_length-le (drop end out) (omega (arith, length-drop end out)) in
+    drop-set-lt end (put_chunk end out v) at byte (omega arith) ∙ ap (drop end) (put_chunk_is end out v (omega arith))
+    ∙ drop_at (take end out) (v ++ rest) end (length-take-le end out (omega arith)) ∙ ap (λ z. v ++ z) none ∙ append-nil v
+
+-- they are read
+pub read_back : (out new v : List ℕ) → length new ≡ length out → drop (length out - 16) new ≡ v → (let end = length new - 16 in
+    take (length new - end) (drop end new) ≡ v)
+read_back out new v same stored = between_to_end new (length new - 16) (length new) (omega arith) ∙ ap (λ n. drop (n - 16) new) same ∙ stored

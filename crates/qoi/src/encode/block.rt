@@ -15,7 +15,7 @@ ghost use Rattle.qoi.specs.inner.Table.{Holds};
 
 use crate::consts::QOI_OP_RUN;
 use crate::encode::changes::{all_set, find_changes};
-use crate::encode::lanes::{blanks, is_zero, places, reread_lanes};
+use crate::encode::lanes::{blanks, is_zero, places, store_lanes};
 use crate::encode::named::name_single;
 use crate::encode::packing::first_sixteen;
 use crate::encode::planes::{Planes, Words, make_planes};
@@ -233,8 +233,8 @@ pub(super) fn write_block<const N: usize, const STYLE: u8, const ROOM: usize>(
         (result.1.count - pads) result.1.placed (take result.0 out.new) }
 {
     let places = places(block.planes);
-    let numbers = reread_lanes(places, out, at, carry.byte(style));
-    let stands = put_block(table, numbers, block.words);
+    store_lanes(places, out, at, carry.byte(style));
+    let stands = put_block(table, &out[out.len() - 16..], block.words);
     let x = block.spell::<N>(style, stands, places, carry);
     let fresh = x.rep.to_array()[0] == 0;
     let end = put_sixteen::<N>(out, carry.end(at, fresh), x, block.planes);

@@ -99,47 +99,19 @@ pub(super) fn places(p: Planes) -> u8x16
     (h + a4 + a4 + a2 + p.a) & u8x16::splat(63)
 }
 
-// Sixteen bytes as numbers.
+/// Stores the lanes in the last sixteen bytes of `out`, and then a byte at `at`. To read a lane from
+/// there is faster than to take it from the vector, which the compiler would do if it knew that the
+/// byte is none of these.
 #[inline(always)]
-fn numbers(bytes: &[u8]) -> [usize; 16]
-    requires { length bytes.now ≡ 16 }
-    ensures { result ≡ bytes.now }
-{
-    [
-        usize::from(bytes[0]),
-        usize::from(bytes[1]),
-        usize::from(bytes[2]),
-        usize::from(bytes[3]),
-        usize::from(bytes[4]),
-        usize::from(bytes[5]),
-        usize::from(bytes[6]),
-        usize::from(bytes[7]),
-        usize::from(bytes[8]),
-        usize::from(bytes[9]),
-        usize::from(bytes[10]),
-        usize::from(bytes[11]),
-        usize::from(bytes[12]),
-        usize::from(bytes[13]),
-        usize::from(bytes[14]),
-        usize::from(bytes[15]),
-    ]
-}
-
-/// Stores a byte at `at`, and returns the lanes as numbers: before the byte they are stored in the
-/// last sixteen bytes of `out`, where anything may stand, and after it each is read again. This is
-/// faster than to take each from the vector, which the compiler would do if it knew that the byte
-/// is none of the sixteen.
-#[inline(always)]
-pub(super) fn reread_lanes(v: u8x16, out: &mut [u8], at: usize, byte: u8) -> [usize; 16]
+pub(super) fn store_lanes(v: u8x16, out: &mut [u8], at: usize, byte: u8)
     requires room { at + 16 < length out.old }
     ensures same { length out.new ≡ length out.old }
     ensures stored { take (at + 1) out.new ≡ take at out.old ++ byte ∷ [] }
-    ensures lanes { result ≡ v }
+    ensures lanes { drop (length out.old - 16) out.new ≡ v }
 {
     let end = out.len() - 16;
     v.copy_to_slice(&mut out[end..]);
     out[at] = byte;
-    numbers(&out[end..])
 }
 
 /// 255 in each lane whose pixel is transparent black, else 0.

@@ -35,18 +35,19 @@ fn one_of_four(a: u8x16, b: u8x16, c: u8x16, d: u8x16) -> u8x16
     low.shuffle(high, [0, 1, 2, 3, 4, 5, 6, 7, 8, 9, 10, 11, 12, 13, 14, 15])
 }
 
-/// Puts sixteen packed pixels at their index positions, `at`, one after the other. Returns which of
-/// them stood there already: 255 or 0.
+/// Puts sixteen packed pixels at their index positions, `places`, one after the other. Returns which
+/// of them stood there already: 255 or 0.
 #[inline(always)]
-pub(super) fn put_block(table: &mut PixelTable, at: [usize; 16], w: Words) -> u8x16
-    requires { (k : ℕ) → k < 16 → slice_index at k < 64 }
+pub(super) fn put_block(table: &mut PixelTable, places: &[u8], w: Words) -> u8x16
+    requires long { length places.now ≡ 16 }
+    requires below { (k : ℕ) → k < 16 → slice_index places.now k < 64 }
     ensures { (held : Past) (ps : List RgbaPixel) → Holds table.old held → AreSixteen ps
-        → AreBlockWords ps w → at ≡ map hash ps → HasPutBlock held ps result table.new }
+        → AreBlockWords ps w → places.now ≡ map hash ps → HasPutBlock held ps result table.new }
 {
-    let one = table.swap_four([at[0], at[1], at[2], at[3]], w.one.to_array());
-    let two = table.swap_four([at[4], at[5], at[6], at[7]], w.two.to_array());
-    let three = table.swap_four([at[8], at[9], at[10], at[11]], w.three.to_array());
-    let four = table.swap_four([at[12], at[13], at[14], at[15]], w.four.to_array());
+    let one = table.swap_four(places, 0, w.one.to_array());
+    let two = table.swap_four(places, 4, w.two.to_array());
+    let three = table.swap_four(places, 8, w.three.to_array());
+    let four = table.swap_four(places, 12, w.four.to_array());
     one_of_four(
         equal(u32x4::from_array(one), w.one),
         equal(u32x4::from_array(two), w.two),

@@ -1,6 +1,6 @@
 //! Pixels that are put at their index positions, one after the other (QOI specification 1.0,
 //! "Chunks"). Repeats too: they put what stands there.
-ghost use Rattle.std.specs.Prelude.{◌≡◌, ◌<◌, ℕ, List, ◌∷◌, map, slice_index};
+ghost use Rattle.std.specs.Prelude.{◌≡◌, ◌<◌, ◌≤◌, ◌+◌, ℕ, List, [], ◌∷◌, length, map, slice_index};
 ghost use Rattle.qoi.specs.Qoi.{RgbaPixel, IsPixel, Past, seen, hash};
 ghost use Rattle.qoi.specs.inner.Packed.{word};
 ghost use Rattle.qoi.specs.inner.Planes.{AreFourWords};
@@ -25,18 +25,23 @@ impl PixelTable {
         held.number()
     }
 
-    /// Puts four packed pixels at their index positions, one after the other, and returns what the
-    /// table held there each time.
+    /// Puts four packed pixels at their index positions, those from the `k`th on, one after the
+    /// other, and returns what the table held there each time. Each position is read only when it
+    /// is used, so that it stays in a register.
     #[inline(always)]
-    pub(crate) fn swap_four(&mut self, places: [usize; 4], pixels: [u32; 4]) -> [u32; 4]
-        requires { (k : ℕ) → k < 4 → slice_index places k < 64 }
+    pub(crate) fn swap_four(&mut self, places: &[u8], k: usize, pixels: [u32; 4]) -> [u32; 4]
+        requires room { k + 4 ≤ length places.now }
+        requires below { (i : ℕ) → i < 4 → slice_index places.now (k + i) < 64 }
         ensures { (held : Past) (ps : List RgbaPixel) → Holds self.old held
-            → AreFourWords ps pixels → places ≡ map hash ps → HasPut held ps result self.new }
+            → AreFourWords ps pixels
+            → slice_index places.now k ∷ slice_index places.now (k + 1)
+            ∷ slice_index places.now (k + 2) ∷ slice_index places.now (k + 3) ∷ [] ≡ map hash ps
+            → HasPut held ps result self.new }
     {
-        let a = self.swap(places[0], pixels[0]);
-        let b = self.swap(places[1], pixels[1]);
-        let c = self.swap(places[2], pixels[2]);
-        let d = self.swap(places[3], pixels[3]);
+        let a = self.swap(usize::from(places[k]), pixels[0]);
+        let b = self.swap(usize::from(places[k + 1]), pixels[1]);
+        let c = self.swap(usize::from(places[k + 2]), pixels[2]);
+        let d = self.swap(usize::from(places[k + 3]), pixels[3]);
         [a, b, c, d]
     }
 }

@@ -16,6 +16,7 @@ use Rattle.qoi.proofs.encoding.BlockPuts.{hashes_below}
 use Rattle.qoi.proofs.encoding.BlockStep.{ready, group_stored, block_step}
 use Rattle.qoi.proofs.encoding.PackedBlock.{block_sixteen, block_words}
 use Rattle.qoi.proofs.encoding.PaddedBlock.{padded_front}
+use Rattle.qoi.proofs.encoding.RereadLanes.{read_back}
 use Rattle.qoi.proofs.encoding.StoredBlock.{sizes_few}
 use Rattle.qoi.proofs.encoding.OpaqueBlock.{sizes_opaque}
 use Rattle.qoi.proofs.encode.block.write_block.Goals as goal
@@ -30,11 +31,11 @@ sizes_in : (n : ℕ) (s : State) (q : RgbaPixel) (ps : List RgbaPixel) (xs : Lis
 sizes_in n s q ps xs (inl three) opaque last e k = omega (arith, sizes_opaque s.held q ps (last three) (opaque three) k, ap (λ z. slice_index z k) e)
 sizes_in n s q ps xs (inr four) opaque last e k = omega (arith, sizes_few (lanes_of s.held q ps) k, ap (λ z. slice_index z k) e)
 
-pub put_block-stands-requires : goal.put_block-stands-requires
-put_block-stands-requires g c = λ k lt.
+pub put_block-stands-requires-clause-below : goal.put_block-stands-requires-clause-below
+put_block-stands-requires-clause-below g c = λ k lt.
     let w = c.args.block.words in
     let at = c.places-places.ensures (block_pixels w) (block_sixteen w c.args.block.packed) c.args.block.planes_are in
-    omega (arith, hashes_below (block_pixels w) k, ap (λ z. slice_index z k) (c.reread_lanes-numbers.ensures.lanes ∙ at))
+    omega (arith, hashes_below (block_pixels w) k, ap (λ z. slice_index z k) (read_back c.args.out.now c.store_lanes.new.out c.places-places.result c.store_lanes.ensures.same c.store_lanes.ensures.lanes ∙ at))
 
 pub returns-clause-written : goal.returns-clause-written
 returns-clause-written g c = λ w begun pads ps rest style pad_is some fits b.
@@ -45,7 +46,7 @@ returns-clause-written g c = λ w begun pads ps rest style pad_is some fits b.
     let planes = c.args.block.planes_are in
     let last : IsPixel s.last = subst IsPixel b.carrying.last_is b.carrying.between.to_write.before in
     let at : c.places-places.result ≡ map hash all = c.places-places.ensures all sixteen planes in
-    let put = c.put_block-stands.ensures s.held all b.table_is sixteen (block_words words c.args.block.packed) (c.reread_lanes-numbers.ensures.lanes ∙ at) in
+    let put = c.put_block-stands.ensures s.held all b.table_is sixteen (block_words words c.args.block.packed) (read_back c.args.out.now c.store_lanes.new.out c.places-places.result c.store_lanes.ensures.same c.store_lanes.ensures.lanes ∙ at) in
     let placed : c.args.style ≡ Places → s.placed ≡ c.args.carry.placed = λ is. b.placed_is (style ∙ is) in
     let spelled = c.spell-x.ensures s last b.before_is b.carry_is placed put.stands_are at in
     let x = c.spell-x.result in
@@ -53,8 +54,8 @@ returns-clause-written g c = λ w begun pads ps rest style pad_is some fits b.
     let q_is : s.last ≡ last_pixel c.args.carry.before = last_of_planes s.last c.args.carry.before b.before_is in
     let start = ready w c.args.style s all (ps ++ rest) x _ c.args.carry.placed (last_pixel c.args.carry.before) c.args.carry.count _ _ style few b.carrying
     (padded_front ps rest all pads pad_is some) spelled sixteen refl q_is b.carry_is placed
-    (group_stored c.args.style _ c.args.carry.placed (last_pixel c.args.carry.before) c.args.carry.count c.args.at c.end.result c.byte.result c.args.out.now c.reread_lanes-numbers.new.out
-    (omega (arith, c.requires.room)) c.reread_lanes-numbers.ensures.stored c.byte.ensures c.end.ensures.stays c.end.ensures.none c.end.ensures.some) in
+    (group_stored c.args.style _ c.args.carry.placed (last_pixel c.args.carry.before) c.args.carry.count c.args.at c.end.result c.byte.result c.args.out.now c.store_lanes.new.out
+    (omega (arith, c.requires.room)) c.store_lanes.ensures.stored c.byte.ensures c.end.ensures.stays c.end.ensures.none c.end.ensures.some) in
     let out : List ℕ = take c.put_sixteen-end.result c.put_sixteen-end.new.out in
     let step = block_step w c.args.style s ps rest all pads x c.args.block.planes c.put_block-stands.new.table c.carry.result.placed _ out style pad_is some sixteen
     (subst (λ q. all_repeat q all ≡ false) (sym q_is) fits.mixed) planes start put.holds

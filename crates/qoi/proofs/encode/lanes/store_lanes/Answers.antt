@@ -1,10 +1,9 @@
--- The lanes are read from where they were stored.
-use Rattle.std.proofs.Common.{◌∙◌}
+-- The lanes stand where they were stored.
 use Rattle.qoi.proofs.encoding.RereadLanes.{front_stored, end_stored}
-use Rattle.qoi.proofs.encode.lanes.reread_lanes.Goals as goal
+use Rattle.qoi.proofs.encode.lanes.store_lanes.Goals as goal
 
 pub returns-clause-stored : goal.returns-clause-stored
 returns-clause-stored c = front_stored c.args.out.now c.args.v c.args.at c.args.byte c.requires.room c.fits-v.0
 
 pub returns-clause-lanes : goal.returns-clause-lanes
-returns-clause-lanes c = c.numbers.ensures ∙ end_stored c.args.out.now c.args.v c.args.at c.args.byte c.requires.room c.fits-v.0
+returns-clause-lanes c = end_stored c.args.out.now c.args.v c.args.at c.args.byte c.requires.room c.fits-v.0
