@@ -107,8 +107,8 @@ module _ {N : ℕ} {w : Writing} {pixels : List RgbaPixel} {table : List RgbaPix
         where
           single_is : single coder n ≡ single_chunk w.list.style (some_fresh b.past) (names b.before (hash (previous b.past))) (hash (previous b.past)) n
           single_is =
-              let place = coder.within ∙ ap hash b.state.last_is in
-              single_same coder.style coder.begun coder.placed (names b.before (hash (previous b.past))) coder.place n b.state.placed_is
+              let place = ap hash b.state.last_is in
+              single_same coder.style coder.begun coder.placed (names b.before (hash (previous b.past))) (hash coder.last) n b.state.placed_is
               ∙ (λ i. single_chunk (b.style_is i) (b.state.begun_is i) (names b.before (hash (previous b.past))) (place i) n)
 
           other_first : (slice_get rest 0 ≢ Some coder.last) ⊎ (n % 62 ≡ 0) → slice_get rest 0 ≢ Some coder.last

@@ -55,7 +55,7 @@ pub record CoderAfter {N : ℕ} (past : Past) (before : Option Chunk) (table : L
 
 -- `single_chunk` for a group of n repeats of the coder's last pixel
 abbrev pub single : {N : ℕ} → Coder N → ℕ → Chunk
-single coder n = single_chunk coder.style coder.begun coder.placed coder.place n
+single coder n = single_chunk coder.style coder.begun coder.placed (hash coder.last) n
 
 -- Between two pixels: the pixels `rest` still come, and the bytes ahead are those that are kept and
 -- those of the chunks that are still to be written, as the style has them.

@@ -28,20 +28,18 @@ use crate::packed::Packed;
 use crate::types::Style::{self, Places, Reference, Tight};
 use crate::utils::{pick, skip};
 
-/// What is known between two pixels: the style; the pixel `last` and its index position `place`;
-/// `begun`, whether a fresh pixel came, one that differs from the pixel before it; and `placed`,
-/// whether `last` was written as `place`, with no repeat since. The table is passed beside it, so
-/// that these few stay in registers.
+/// What is known between two pixels: the style; the pixel `last`; `begun`, whether a fresh pixel
+/// came, one that differs from the pixel before it; and `placed`, whether `last` was written as its
+/// index position, with no repeat since. The table is passed beside it, so that these few stay in
+/// registers.
 #[derive(Drop)]
 pub(super) struct Coder<const N: usize> {
     style: Style,
     last: Packed,
-    place: u8,
     begun: bool,
     placed: bool,
     ghost channels: { IsChannels N } by { IsChannels-prop N },
     ghost opaque: { N ≡ 3 → last.a ≡ 255 },
-    ghost within: { place ≡ hash last },
 }
 
 impl<const N: usize> Coder<N> {
@@ -56,12 +54,9 @@ impl<const N: usize> Coder<N> {
         ensures style { result.style ≡ style }
         ensures state { (t : List RgbaPixel) → Holds t [] → CoderAfter [] None t result }
     {
-        let last = Packed::start();
-        let place = last.hash_index();
         Coder {
             style,
-            last,
-            place,
+            last: Packed::start(),
             begun: false,
             placed: false,
         }
@@ -77,7 +72,7 @@ impl<const N: usize> Coder<N> {
         let named = self.begun & ((count > 1) | !self.placed);
         match self.style {
             Reference | Tight => QOI_OP_RUN,
-            Places => pick(named, self.place, QOI_OP_RUN),
+            Places => pick(named, self.last.hash_index(), QOI_OP_RUN),
         }
     }
 
@@ -93,7 +88,7 @@ impl<const N: usize> Coder<N> {
     {
         match self.style {
             Reference | Places => {}
-            Tight => table.put_if(count > 0, self.place, self.last),
+            Tight => table.put_if(count > 0, self.last.hash_index(), self.last),
         }
         self.placed = self.placed & (count == 0);
     }
@@ -149,7 +144,6 @@ impl<const N: usize> Coder<N> {
         *self = Coder {
             style: self.style,
             last: px,
-            place,
             begun: true,
             placed: stands,
         };
@@ -282,11 +276,9 @@ impl<const N: usize> Coder<N> {
             → CoderBetween w (replicate carry.count self.new.last ++ rest) table self.new kept }
     {
         if self.begun {
-            let last = carry.before.last();
             *self = Coder {
                 style: self.style,
-                last,
-                place: last.hash_index(),
+                last: carry.before.last(),
                 begun: true,
                 placed: carry.placed,
             };
@@ -391,11 +383,16 @@ impl<const N: usize> Coder<N> {
     {
         self.take_over(carry);
         let repeated = usize::from(carry.count);
-        let count = if repeats {
-            self.write_runs(table, piece, data, repeated)
-        } else {
-            self.write_next(table, piece, data, repeated)
-        };
+        if repeats {
+            let count = self.write_runs(table, piece, data, repeated);
+            let after = Carry {
+                before: carry.before,
+                count: 0,
+                placed: self.placed,
+            };
+            return (count, after);
+        }
+        let count = self.write_next(table, piece, data, repeated);
         (count, self.carry())
     }
 
