@@ -29,6 +29,7 @@ pub mod BlockPuts
 pub mod BlockStep
 pub mod BlockWritten
 pub mod CoderLink
+pub mod EachChunk
 pub mod FourChunks
 pub mod FourFours
 pub mod FrontBlock
@@ -46,8 +47,6 @@ pub mod OpaqueBlock
 pub mod OverlaidRuns
 pub mod PackedBlock
 pub mod PaddedBlock
-pub mod PairChunks
-pub mod PairOrders
 pub mod PlacesOut
 pub mod PlaneWords
 pub mod PrefixSums

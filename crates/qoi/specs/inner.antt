@@ -18,9 +18,9 @@ pub mod BlockState
 pub mod Blocks
 pub mod CarryLoop
 pub mod Counts
+pub mod Each
 pub mod Fours
 pub mod LaneVectors
-pub mod Pairs
 pub mod Planes
 pub mod Spelling
 pub mod Stands

@@ -1,4 +1,4 @@
--- A shuffle of sixteen bytes by positions, the bytes of four numbers, and sixteen bytes stored.
+-- A shuffle of sixteen bytes by positions, the bytes of four numbers, and bytes stored.
 use Rattle.std.proofs.Common.{◌≡◌, ℕ, suc, ◌+◌, ◌-◌, ◌*◌, ◌/◌, ◌%◌, ◌<◌, ◌≤◌, ◌&&◌, Bool, true, false, cond, eqb, ltb, List, [], ◌∷◌, ◌++◌, length, take, drop, map, get_or, w8, refl, sym, ap, ◌∙◌, arith}
 use Rattle.std.proofs.lemmas.Bool.{and_parts, ltb-true}
 use Rattle.std.proofs.lemmas.List.{take-map, map-append, length-take-le, length-drop, take-append-le}
@@ -55,7 +55,7 @@ above : (a r : ℕ) → a < 4294967296 → (a + 4294967296 * r) / 256 / 256 / 25
 above a r lt = omega arith
 
 -- a number's four bytes, and those of what is above
-number_bytes : (n a r : ℕ) → a < 4294967296 → digits_l 256 (suc (suc (suc (suc n)))) (a + 4294967296 * r) ≡ digits_l 256 4 a ++ digits_l 256 n r
+pub number_bytes : (n a r : ℕ) → a < 4294967296 → digits_l 256 (suc (suc (suc (suc n)))) (a + 4294967296 * r) ≡ digits_l 256 4 a ++ digits_l 256 n r
 number_bytes n a r lt = λ i. byte_0 a r i ∷ byte_1 a r i ∷ byte_2 a r i ∷ byte_3 a r i ∷ digits_l 256 n (above a r lt i)
 
 -- the bytes of four
@@ -71,15 +71,15 @@ four_bytes a b c d la lb lc ld =
 pub part_of : (v : List ℕ) (n : ℕ) (js rest xs ys : List ℕ) → map (at v) js ≡ xs → map (at v) rest ≡ ys → map (at v) (take n js ++ rest) ≡ take n xs ++ ys
 part_of v n js rest xs ys first others = map-append (at v) (take n js) rest ∙ (λ j. sym (take-map (at v) n js) j ++ others j) ∙ ap (λ z. take n z ++ ys) first
 
--- sixteen bytes stored, of which some count
-pub sixteen_put : (at count : ℕ) (out bytes : List ℕ) → at + 16 ≤ length out → length bytes ≡ 16 → count ≤ 16
-    → take (at + count) (put_mid at (at + 16 - at) out (put_chunk 0 (take (at + 16 - at) (drop at out)) bytes)) ≡ take at out ++ take count bytes
-sixteen_put at count out bytes room long few =
-    let size : at + 16 - at ≡ 16 = omega arith in
-    let held : length (take 16 (drop at out)) ≡ 16 = length-take-le 16 (drop at out) (omega (arith, length-drop at out)) in
-    let rest = post_of at 16 out in
+-- n bytes stored, of which some count
+pub bytes_put : (n at count : ℕ) (out bytes : List ℕ) → at + n ≤ length out → length bytes ≡ n → count ≤ n
+    → take (at + count) (put_mid at (at + n - at) out (put_chunk 0 (take (at + n - at) (drop at out)) bytes)) ≡ take at out ++ take count bytes
+bytes_put n at count out bytes room long few =
+    let size : at + n - at ≡ n = omega arith in
+    let held : length (take n (drop at out)) ≡ n = length-take-le n (drop at out) (omega (arith, length-drop at out)) in
+    let rest = post_of at n out in
     (λ i. take (at + count) (put_mid at (size i) out (put_chunk 0 (take (size i) (drop at out)) bytes)))
-    ∙ ap (λ z. take (at + count) (take at out ++ (z ++ rest))) (put_chunk_whole (take 16 (drop at out)) bytes (held ∙ sym long))
+    ∙ ap (λ z. take (at + count) (take at out ++ (z ++ rest))) (put_chunk_whole (take n (drop at out)) bytes (held ∙ sym long))
     ∙ ap (λ z. take (z + count) (take at out ++ (bytes ++ rest))) (sym (length-take-le at out (omega arith)))
     ∙ take-append-add (take at out) (bytes ++ rest) count
     ∙ ap (λ z. take at out ++ z) (take-append-le count bytes rest (omega arith))

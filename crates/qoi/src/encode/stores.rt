@@ -9,8 +9,8 @@ ghost use Rattle.qoi.specs.inner.Planes.{AreSixteen, ArePlanes};
 ghost use Rattle.qoi.specs.inner.Spelling.{HasSpelled};
 
 use crate::encode::changes::all_set;
+use crate::encode::each::put_each;
 use crate::encode::fours::put_fours;
-use crate::encode::pairs::put_pairs;
 use crate::encode::planes::{Planes, make_words};
 use crate::encode::spelling::Spelled;
 use std::simd::prelude::*;
@@ -37,7 +37,7 @@ fn are_short<const N: usize>(size: u8x16) -> bool
 #[inline(always)]
 pub(super) fn put_sixteen<const N: usize>(out: &mut [u8], at: usize, x: Spelled, p: Planes) -> usize
     requires channels { IsChannels N }
-    requires room { at + 86 ≤ length out.old }
+    requires room { at + 83 ≤ length out.old }
     ensures same { length out.new ≡ length out.old }
     ensures near { (at ≤ result) × (result ≤ at + 80) }
     ensures written { (style : Style) (s : State) (ps : List RgbaPixel) → AreSixteen ps
@@ -54,6 +54,6 @@ pub(super) fn put_sixteen<const N: usize>(out: &mut [u8], at: usize, x: Spelled,
     if are_short::<N>(x.size) {
         put_fours(out, at, x.size, words)
     } else {
-        put_pairs(out, at, x.size, words, p.a)
+        put_each(out, at, x.size, words, p.a)
     }
 }

@@ -56,5 +56,5 @@ returns-then-are_short-clause-written g c = λ style s ps sixteen last planes sp
 
 pub returns-else-are_short-clause-written : goal.returns-else-are_short-clause-written
 returns-else-are_short-clause-written g c = λ style s ps sixteen last planes spelled carry few.
-    c.put_pairs.ensures.written (λ k. omega (arith, few k, c.requires.channels))
+    c.put_each.ensures.written (λ k. omega (arith, few k, c.requires.channels))
     ∙ ap (λ z. take c.args.at c.args.out.now ++ z) (block_is style s ps c.args.x c.args.p c.make_words-words.result sixteen last planes spelled carry c.make_words-words.ensures)

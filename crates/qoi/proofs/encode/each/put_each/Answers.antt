@@ -1,12 +1,13 @@
 -- Twice eight chunks.
-use Rattle.std.proofs.Common.{◌≡◌, ◌≤◌, ℕ, List, [], ◌∷◌, ◌++◌, take, drop, length, replicate, slice_index, append_assoc, arith, ap, ◌∙◌, length-drop}
+use Rattle.std.proofs.Common.{◌≡◌, ◌≤◌, ℕ, List, [], ◌∷◌, ◌++◌, take, drop, length, replicate, slice_index, append_assoc, arith, ap, ◌∙◌, subst, length-drop}
 use Rattle.std.specs.Prelude.{min}
 use lib.Lanes.{number_l, zip2}
 use Rattle.std.proofs.lemmas.List.{length-take-le}
-use Rattle.qoi.specs.inner.Stores.{AreChunkSizes, four_chunks}
-use Rattle.qoi.proofs.encoding.PairChunks.{twice_eight}
+use Rattle.qoi.specs.inner.Each.{HoldChunks, eight_parts}
+use Rattle.qoi.specs.inner.Stores.{AreChunkSizes}
+use Rattle.qoi.proofs.encoding.EachChunk.{twice_eight}
 use Rattle.qoi.proofs.encoding.StoredBlock.{take_few, drop_few, lesser_few, lesser_most, eight_sizes}
-use Rattle.qoi.proofs.encode.pairs.put_pairs.Goals as goal
+use Rattle.qoi.proofs.encode.each.put_each.Goals as goal
 
 -- the sizes of eight of sixteen lanes, none above five
 cut_sizes : (xs ss part : List ℕ) (n : ℕ) → ss ≡ zip2 min xs (replicate 16 5) → length part ≡ 8
@@ -32,15 +33,21 @@ returns-clause-written c = λ few.
     let ss : List ℕ = c.args.size in
     let w = c.args.words in
     let alphas : List ℕ = c.args.alpha in
-    let lasts : List ℕ = c.last_eight.result in
+    let m1 : List ℕ = c.with_alphas-one.result in
+    let m2 : List ℕ = c.with_alphas-two.result in
+    let m3 : List ℕ = c.with_alphas-three.result in
+    let m4 : List ℕ = c.with_alphas-four.result in
+    let a = c.widened-a.ensures in
     let halves : c.halves-sizes.result ≡ number_l 256 (take 8 ss) ∷ number_l 256 (drop 8 ss) ∷ [] =
     c.halves-sizes.ensures ∙ ap (λ z. number_l 256 (take 8 z) ∷ number_l 256 (drop 8 z) ∷ []) (c.lesser.ensures ∙ lesser_few 16 5 ss c.fits-size.0 few) in
     let first = c.put_eight-end.ensures.written (take 8 ss)
     (eight_sizes (take 8 ss) _ (length-take-le 8 ss (omega arith)) (take_few 8 5 ss few) (ap (λ z. slice_index z 0) halves)) (take_few 8 5 ss few) in
     let second = c.put_eight.ensures.written (drop 8 ss)
     (eight_sizes (drop 8 ss) _ (omega (arith, length-drop 8 ss)) (drop_few 8 5 ss few) (ap (λ z. slice_index z 1) halves)) (drop_few 8 5 ss few) in
-    let low = four_chunks (take 8 ss) w.one alphas 0 ++ four_chunks (take 8 ss) w.two alphas 4 in
-    let high = four_chunks (drop 8 ss) w.three lasts 0 ++ four_chunks (drop 8 ss) w.four lasts 4 in
+    let low = eight_parts (take 8 ss) m1 m2 in
+    let high = eight_parts (drop 8 ss) m3 m4 in
     let front = take c.args.at c.args.out.now in
     second ∙ ap (λ z. z ++ high) first ∙ append_assoc front low high
-    ∙ ap (λ z. front ++ z) (twice_eight ss w alphas lasts c.fits-size.0 c.last_eight.ensures)
+    ∙ ap (λ z. front ++ z) (twice_eight ss alphas w m1 m2 m3 m4 c.fits-size.0 few c.fits-alpha.0 c.fits-alpha.1
+    (subst (HoldChunks m1 w.one) a.0 c.with_alphas-one.ensures) (subst (HoldChunks m2 w.two) a.1 c.with_alphas-two.ensures)
+    (subst (HoldChunks m3 w.three) a.2 c.with_alphas-three.ensures) (subst (HoldChunks m4 w.four) a.3 c.with_alphas-four.ensures))
