@@ -11,8 +11,9 @@ use Rattle.qoi.specs.inner.Spelling.{IsLastOf}
 use Rattle.qoi.specs.inner.Table.{Holds}
 
 -- Between two blocks: the pixels `rest` still come, `before` are those of the last block, and
--- `carry` repeats of its last pixel have come but aren't among the bytes that are kept. In style
--- Places, `placed` says whether the chunk before them names that pixel's position. `begun` says whether a fresh pixel came.
+-- `carry` repeats of its last pixel have come but aren't among the bytes that are kept. `begun` says
+-- whether a fresh pixel came; if not, the next one is fresh. In style Places, `placed` says whether
+-- the chunk before the repeats names their position.
 pub record BetweenBlocks (begun : Bool) (w : Writing) (rest : List RgbaPixel) (table : List RgbaPixel) (before : Planes) (carry : ℕ) (placed : Bool) (kept : List ℕ) : Type 0 where
   pub state : State
   pub carrying : Carrying begun w state rest kept
