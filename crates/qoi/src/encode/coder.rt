@@ -397,10 +397,10 @@ impl<const N: usize> Coder<N> {
     }
 
     // Writes what is at the front of raw bytes: a block, but for the repeats at its end; or all
-    // repeats there, if a block's pixels repeat; or these and the fresh pixel after them, if it is
-    // the first one, or in style `Tight` one may be given by another index position than its own.
-    // Returns how many pixels came, and what is carried. The coder's style is passed, too, since
-    // where it is called it is a constant.
+    // repeats there, if a block's pixels repeat; or these and the fresh pixel after them, if the
+    // front doesn't go by a block, or in style `Tight` a pixel may be given by another index
+    // position than its own. Returns how many pixels came, and what is carried. The coder's style
+    // is passed, too, since where it is called it is a constant.
     #[inline(always)]
     fn write_front<const STYLE: u8, const ROOM: usize>(
         &mut self,
