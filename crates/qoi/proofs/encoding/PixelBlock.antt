@@ -140,3 +140,12 @@ front_of n bytes p bits is = by_channels (λ k. (k ≡ 3 → p.a ≡ 255) → k 
   where
     clear : (ys : List ℕ) → length ys ≤ 64 → bits ≡ same_bits bytes ys → count_trailing_zeros 64 (18446744073709551615 - bits) ≡ common_prefix_len eqb bytes ys
     clear ys few e = first_clear 64 bytes ys _ (omega (arith, few_bits bytes ys)) (ap (λ b. 18446744073709551615 - b) e)
+
+-- if all bits are set, all sixteen are
+pub whole_block : (n : ℕ) (bytes : List ℕ) (p : RgbaPixel) → IsChannels n → (n ≡ 3 → p.a ≡ 255) → n * 16 ≤ length bytes
+    → same_bits bytes (output n n (replicate 16 p)) ≡ 2 ^ (n * 16) - 1
+    → pixels_of n bytes ≡ replicate 16 p ++ pixels_of n (drop (n * 16) bytes)
+unfolding count_trailing_zeros
+whole_block n bytes p is opaque long e =
+    let w = front_of n bytes p (2 ^ (n * 16) - 1) is opaque long (sym e) in
+    w.all (by_channels (λ k. count_trailing_zeros 64 (18446744073709551615 - (2 ^ (k * 16) - 1)) / k ≡ 16) is refl refl)

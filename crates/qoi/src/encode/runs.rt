@@ -1,6 +1,6 @@
 //! Repeats of a pixel in raw bytes.
 ghost use lib.Lanes.{mask_l, zip2};
-ghost use Rattle.std.specs.Prelude.{nat_eq, ◌≡◌, ◌↔◌, ◌+◌, ◌*◌, ◌^◌, ◌≤◌, ◌<◌, ◌++◌, length, take, drop, replicate, IsTrue, slice_get, Some};
+ghost use Rattle.std.specs.Prelude.{nat_eq, ◌≡◌, ◌↔◌, ◌+◌, ◌-◌, ◌*◌, ◌^◌, ◌≤◌, ◌<◌, ◌++◌, length, take, drop, replicate, IsTrue, slice_get, Some};
 ghost use Rattle.qoi.specs.Qoi.{rgba};
 ghost use Rattle.qoi.specs.Raw.{IsChannels, output, pixels_of};
 ghost use Rattle.qoi.specs.Runs.{IsCount};
@@ -77,8 +77,30 @@ fn repeats_in_block<const N: usize>(bytes: &[u8], px: Packed) -> usize
         → pixels_of N bytes.now ≡ replicate 16 px ++ pixels_of N (drop (N * 16) bytes.now) }
     ensures counted { result < 16 → IsCount px (pixels_of N bytes.now) result }
 {
+    if all_same_in_block::<N>(bytes, px) {
+        return 16;
+    }
     let same = same_in_block::<N>(bytes, px);
     (!same).trailing_zeros() as usize / N
+}
+
+// Whether all bits of `same_in_block` are set. It is asked first, since of most blocks it is true,
+// and to find it takes fewer instructions than to count.
+#[inline(always)]
+fn all_same_in_block<const N: usize>(bytes: &[u8], px: Packed) -> bool
+    requires channels { IsChannels N }
+    requires long { N * 16 ≤ length bytes.now }
+    ensures { IsTrue result
+        → mask_l (zip2 nat_eq bytes.now (output N N (replicate 16 px))) ≡ 2 ^ (N * 16) - 1 }
+{
+    let first = same_in_part::<N, 0>(bytes, px);
+    let second = same_in_part::<N, 1>(bytes, px);
+    let third = same_in_part::<N, 2>(bytes, px);
+    let three = first & second & third;
+    if N == 3 {
+        return three == 0xffff;
+    }
+    three & same_in_part::<N, 3>(bytes, px) == 0xffff
 }
 
 // Which bytes are those of `px` written sixteen times: a bit for each, the lowest for the first.
