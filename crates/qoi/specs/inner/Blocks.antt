@@ -1,11 +1,13 @@
 -- The state between two blocks of sixteen pixels.
 use Rattle.std.specs.Prelude.{◌≡◌, ℕ, zero, suc, Bool, true, false, ◌&&◌, List, [], ◌∷◌, ◌++◌, replicate, slice_index}
+use Rattle.qoi.specs.declared.encode.changes.Changes.{Changes}
 use Rattle.qoi.specs.declared.encode.planes.Planes.{Planes}
 use Rattle.qoi.specs.declared.types.Style.{Style}
 use Rattle.qoi.specs.declared.types.Style.TheVariants.{Places, Tight}
 use Rattle.qoi.specs.Qoi.{RgbaPixel, blank, pixel, pixel_eq}
-use Rattle.qoi.specs.inner.BlockState.{State, Carrying, NoneBlank}
+use Rattle.qoi.specs.inner.BlockState.{State, Carrying, NoneBlank, lanes_of}
 use Rattle.qoi.specs.inner.CoderLoop.{Writing}
+use Rattle.qoi.specs.inner.LaneVectors.{AreChanges}
 use Rattle.qoi.specs.inner.Planes.{AreOpaque}
 use Rattle.qoi.specs.inner.Spelling.{IsLastOf}
 use Rattle.qoi.specs.inner.Table.{Holds}
@@ -50,8 +52,13 @@ nth_or_last q (p ∷ ps) (suc k) = nth_or_last p ps k
 abbrev pub MissesNoBlank : List RgbaPixel → Planes → List RgbaPixel → Type 0
 MissesNoBlank table before ps = (s : State) → Holds table s.held → IsLastOf s.last before → NoneBlank s ps
 
+-- the steps from the pixels before to these, and which of these repeat
+abbrev pub ChangesFrom : Planes → List RgbaPixel → Changes → Type 0
+ChangesFrom before ps x = (s : State) → IsLastOf s.last before → AreChanges (lanes_of s.held s.last ps) x
+
 -- what a block of pixels of n channels must meet, after the block `before`, to be written as one
-pub record FitsBlock (n : ℕ) (style : Style) (table : List RgbaPixel) (before : Planes) (ps : List RgbaPixel) : Type 0 where
+pub record FitsBlock (n : ℕ) (style : Style) (table : List RgbaPixel) (before : Planes) (ps : List RgbaPixel) (x : Changes) : Type 0 where
+  pub changes : ChangesFrom before ps x
   pub opaque : n ≡ 3 → AreOpaque ps
   pub mixed : all_repeat (last_pixel before) ps ≡ false
   pub no_blank : style ≡ Tight → MissesNoBlank table before ps

@@ -6,7 +6,7 @@ ghost use Rattle.qoi.specs.Qoi.{RgbaPixel, IsPixel, run_max, hash};
 ghost use Rattle.qoi.specs.Raw.{IsChannels, pixels_of};
 ghost use Rattle.qoi.specs.inner.BlockLanes.{mask};
 ghost use Rattle.qoi.specs.inner.BlockState.{State, NoneBlank, group_bytes};
-ghost use Rattle.qoi.specs.inner.Blocks.{BetweenBlocks, FitsBlock, MissesNoBlank, padded, last_pixel, all_repeat};
+ghost use Rattle.qoi.specs.inner.Blocks.{BetweenBlocks, ChangesFrom, FitsBlock, MissesNoBlank, padded, last_pixel, all_repeat};
 ghost use Rattle.qoi.specs.inner.CoderLoop.{Writing};
 ghost use Rattle.qoi.specs.inner.Planes.{ArePacked, ArePlanes, AreOpaque, block_pixels};
 ghost use Rattle.qoi.specs.inner.Spelling.{IsLastOf, HasSpelled};
@@ -14,7 +14,7 @@ ghost use Rattle.qoi.specs.inner.Stands.{stand_tests};
 ghost use Rattle.qoi.specs.inner.Table.{Holds};
 
 use crate::consts::QOI_OP_RUN;
-use crate::encode::changes::{all_set, find_changes};
+use crate::encode::changes::{Changes, all_set, find_changes};
 use crate::encode::lanes::{blanks, is_zero, places, store_lanes};
 use crate::encode::named::name_single;
 use crate::encode::packing::first_sixteen;
@@ -34,70 +34,76 @@ pub(super) const BLOCK_MAX: usize = 81;
 /// The room for them, and for what is stored after them and means nothing.
 pub(super) const BLOCK_ROOM: usize = 96;
 
-/// Sixteen pixels, packed and in planes.
+/// Sixteen pixels, packed and in planes, and the changes from the pixels before them.
 #[derive(Clone, Copy)]
 pub(super) struct Block {
     pub(super) words: Words,
     pub(super) planes: Planes,
+    pub(super) changes: Changes,
     ghost packed: { ArePacked words },
     ghost planes_are: { ArePlanes (block_pixels words) planes },
 }
 
 impl Block {
-    /// The block of sixteen packed pixels.
+    /// The block of sixteen packed pixels, which come after those of `before`.
     #[inline(always)]
-    pub(super) fn new<const N: usize>(words: Words) -> Block
-        requires { N ≡ 3 → AreOpaque (block_pixels words) }
-        ensures { result.words ≡ words }
+    pub(super) fn new<const N: usize>(words: Words, before: Planes) -> Block
+        requires pixels { N ≡ 3 → AreOpaque (block_pixels words) }
+        requires opaque { N ≡ 3 → slice_index before.a 15 ≡ 255 }
+        ensures words { result.words ≡ words }
+        ensures changes { ChangesFrom before (block_pixels words) result.changes }
     {
+        let planes = make_planes::<N>(words);
         Block {
             words,
-            planes: make_planes::<N>(words),
+            planes,
+            changes: find_changes::<N>(before, planes),
         }
     }
 
     /// The block at the front of raw bytes; if they have fewer than sixteen pixels, it is padded
-    /// with repeats of the last one.
+    /// with repeats of the last one. The pixels of `before` come before it.
     #[inline(always)]
-    pub(super) fn first<const N: usize>(bytes: &[u8]) -> Block
+    pub(super) fn first<const N: usize>(bytes: &[u8], before: Planes) -> Block
         requires channels { IsChannels N }
         requires whole { length bytes.now % N ≡ 0 }
         requires some { 0 < length bytes.now }
+        requires opaque { N ≡ 3 → slice_index before.a 15 ≡ 255 }
+        ensures changes { ChangesFrom before (block_pixels result.words) result.changes }
         ensures pixels { block_pixels result.words
             ≡ padded (take 16 (pixels_of N bytes.now)) (16 - length bytes.now / N) }
         ensures opaque { N ≡ 3 → AreOpaque (block_pixels result.words) }
     {
-        Block::new::<N>(first_sixteen::<N>(bytes))
+        Block::new::<N>(first_sixteen::<N>(bytes), before)
     }
 
     /// Whether all sixteen pixels repeat the last one of the block before.
     #[inline(always)]
-    pub(super) fn repeats<const N: usize>(self, before: Planes) -> bool
-        requires { N ≡ 3 → slice_index before.a 15 ≡ 255 }
-        ensures { result ≡ all_repeat (last_pixel before) (block_pixels self.words) }
+    pub(super) fn repeats(self) -> bool
+        ensures { (before : Planes) → ChangesFrom before (block_pixels self.words) self.changes
+            → result ≡ all_repeat (last_pixel before) (block_pixels self.words) }
     {
-        all_set(find_changes::<N>(before, self.planes).rep)
+        all_set(self.changes.rep)
     }
 
     /// Whether a fresh pixel of the block may be transparent black that doesn't stand at its index
     /// position.
     #[inline(always)]
-    pub(super) fn may_miss_blank<const N: usize>(self, table: &PixelTable, before: Planes) -> bool
-        requires { N ≡ 3 → slice_index before.a 15 ≡ 255 }
-        ensures { IsFalse result → MissesNoBlank table.now before (block_pixels self.words) }
+    pub(super) fn may_miss_blank(self, table: &PixelTable) -> bool
+        ensures { (before : Planes) → ChangesFrom before (block_pixels self.words) self.changes
+            → IsFalse result → MissesNoBlank table.now before (block_pixels self.words) }
     {
-        !(self.has_no_fresh_blank::<N>(before) || self.keeps_blank(table))
+        !(self.has_no_fresh_blank() || self.keeps_blank(table))
     }
 
     // Whether no fresh pixel of the block is transparent black.
     #[inline(always)]
-    fn has_no_fresh_blank<const N: usize>(self, before: Planes) -> bool
-        requires { N ≡ 3 → slice_index before.a 15 ≡ 255 }
-        ensures { IsTrue result → (s : State) → IsLastOf s.last before
+    fn has_no_fresh_blank(self) -> bool
+        ensures { (before : Planes) → ChangesFrom before (block_pixels self.words) self.changes
+            → IsTrue result → (s : State) → IsLastOf s.last before
             → NoneBlank s (block_pixels self.words) }
     {
-        let rep = find_changes::<N>(before, self.planes).rep;
-        all_set(rep | !blanks(self.planes))
+        all_set(self.changes.rep | !blanks(self.planes))
     }
 
     // Whether transparent black stands at its index position, where no other pixel of the block is
@@ -114,23 +120,16 @@ impl Block {
     // The chunks of the block, of which those pixels that `stands` says stand at their index
     // positions, `places`.
     #[inline(always)]
-    fn spell<const N: usize>(
-        self,
-        style: Style,
-        stands: u8x16,
-        places: u8x16,
-        carry: Carry,
-    ) -> Spelled
-        requires few { carry.count ≤ 46 }
-        requires opaque { N ≡ 3 → slice_index carry.before.a 15 ≡ 255 }
+    fn spell(self, style: Style, stands: u8x16, places: u8x16, carry: Carry) -> Spelled
+        requires { carry.count ≤ 46 }
         ensures { (s : State) → IsPixel s.last → IsLastOf s.last carry.before
+            → ChangesFrom carry.before (block_pixels self.words) self.changes
             → s.carry ≡ carry.count → (style ≡ Places → s.placed ≡ carry.placed)
             → stands ≡ map mask (stand_tests s.held (block_pixels self.words))
             → places ≡ map hash (block_pixels self.words)
             → HasSpelled style s (block_pixels self.words) result }
     {
-        let changes = find_changes::<N>(carry.before, self.planes);
-        let x = spell_block(changes, self.planes.r, stands, places, carry.count);
+        let x = spell_block(self.changes, self.planes.r, stands, places, carry.count);
         match style {
             Reference | Tight => x,
             Places => name_single(x, stands, places, carry.placed),
@@ -226,7 +225,7 @@ pub(super) fn write_block<const N: usize, const STYLE: u8, const ROOM: usize>(
     ensures written { (w : Writing) (begun : Bool) (pads : ℕ) (ps rest : List RgbaPixel)
         → w.list.style ≡ style
         → block_pixels block.words ≡ padded ps pads → 0 < length ps
-        → FitsBlock N style table.old carry.before (block_pixels block.words)
+        → FitsBlock N style table.old carry.before (block_pixels block.words) block.changes
         → BetweenBlocks begun w (ps ++ rest) table.old carry.before carry.count carry.placed
         (take at out.old)
         → (pads ≤ result.1.count) × BetweenBlocks true w rest table.new block.planes
@@ -235,7 +234,7 @@ pub(super) fn write_block<const N: usize, const STYLE: u8, const ROOM: usize>(
     let places = places(block.planes);
     store_lanes(places, out, at, carry.byte(style));
     let stands = put_block(table, &out[out.len() - 16..], block.words);
-    let x = block.spell::<N>(style, stands, places, carry);
+    let x = block.spell(style, stands, places, carry);
     let fresh = x.rep.to_array()[0] == 0;
     let end = put_sixteen::<N>(out, carry.end(at, fresh), x, block.planes);
     (end, block.carry(style, x, stands))

@@ -2,11 +2,9 @@
 ghost use Rattle.std.specs.Prelude.{◌≡◌, Bool, List, length, map, slice_index};
 ghost use Rattle.qoi.specs.Qoi.{RgbaPixel};
 ghost use Rattle.qoi.specs.inner.BlockLanes.{mask};
-ghost use Rattle.qoi.specs.inner.BlockState.{State, lanes_of};
+ghost use Rattle.qoi.specs.inner.Blocks.{ChangesFrom};
 ghost use Rattle.qoi.specs.inner.Counts.{all_true};
-ghost use Rattle.qoi.specs.inner.LaneVectors.{AreChanges};
 ghost use Rattle.qoi.specs.inner.Planes.{AreSixteen, ArePlanes};
-ghost use Rattle.qoi.specs.inner.Spelling.{IsLastOf};
 
 use crate::encode::lanes::{Steps, channel_steps, repeating};
 use crate::encode::planes::{Planes, known_alpha};
@@ -25,8 +23,8 @@ pub(super) struct Changes {
 #[inline(always)]
 pub(super) fn find_changes<const N: usize>(before: Planes, p: Planes) -> Changes
     requires opaque { N ≡ 3 → slice_index before.a 15 ≡ 255 }
-    ensures { (s : State) (ps : List RgbaPixel) → AreSixteen ps → ArePlanes ps p
-        → IsLastOf s.last before → AreChanges (lanes_of s.held s.last ps) result }
+    ensures { (ps : List RgbaPixel) → AreSixteen ps → ArePlanes ps p
+        → ChangesFrom before ps result }
 {
     let steps = Steps {
         r: channel_steps(before.r, p.r),

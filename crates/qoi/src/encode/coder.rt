@@ -43,7 +43,7 @@ pub(super) struct Coder<const N: usize> {
 }
 
 impl<const N: usize> Coder<N> {
-    ghost use Rattle.qoi.specs.inner.Blocks.{FitsBlock, MissesNoBlank, padded, last_pixel, all_repeat};
+    ghost use Rattle.qoi.specs.inner.Blocks.{ChangesFrom, FitsBlock, MissesNoBlank, padded, last_pixel, all_repeat};
     ghost use Rattle.qoi.specs.inner.CarryLoop.{CarryBetween, StepBetween};
     ghost use Rattle.qoi.specs.inner.CoderLoop.{CoderAfter, single, Writing, CoderBetween, BytesBetween};
     ghost use Rattle.qoi.specs.inner.Spelling.{IsLastOf};
@@ -298,18 +298,18 @@ impl<const N: usize> Coder<N> {
     // Whether a block can be written as one: not all its pixels repeat, and in style `Tight` none
     // is given by another index position than its own.
     #[inline(always)]
-    fn takes(style: Style, table: &PixelTable, block: Block, before: Planes) -> bool
-        requires { N ≡ 3 → slice_index before.a 15 ≡ 255 }
-        ensures some { IsTrue result
-            → all_repeat (last_pixel before) (block_pixels block.words) ≡ false }
-        ensures none { IsTrue result → style ≡ Tight
+    fn takes(style: Style, table: &PixelTable, block: Block) -> bool
+        ensures some { (before : Planes) → ChangesFrom before (block_pixels block.words) block.changes
+            → IsTrue result → all_repeat (last_pixel before) (block_pixels block.words) ≡ false }
+        ensures none { (before : Planes) → ChangesFrom before (block_pixels block.words) block.changes
+            → IsTrue result → style ≡ Tight
             → MissesNoBlank table.now before (block_pixels block.words) }
     {
         let blank = match style {
             Reference | Places => false,
-            Tight => block.may_miss_blank::<N>(table, before),
+            Tight => block.may_miss_blank(table),
         };
-        !blank && !block.repeats::<N>(before)
+        !blank && !block.repeats()
     }
 
     // Writes the block at the front, but for the repeats at its end. Returns how many pixels it
@@ -337,7 +337,7 @@ impl<const N: usize> Coder<N> {
         ensures few { result.1.count < 16 }
         ensures before { result.1.before ≡ block.planes }
         ensures written { (w : Writing) (begun : Bool) → w.list.style ≡ style
-            → FitsBlock N style table.old carry.before (block_pixels block.words)
+            → FitsBlock N style table.old carry.before (block_pixels block.words) block.changes
             → CarryBetween begun w (pixels_of N «data».now) table.old carry (kept_bytes piece.old)
             → CarryBetween true w (pixels_of N (drop (N * result.0) «data».now)) table.new
             result.1 (kept_bytes piece.new) }
@@ -428,14 +428,14 @@ impl<const N: usize> Coder<N> {
     {
         let mut repeats = false;
         if self.goes_by_block(data) {
-            let block = Block::first::<N>(data);
-            if Coder::<N>::takes(style, table, block, carry.before) {
+            let block = Block::first::<N>(data, carry.before);
+            if Coder::<N>::takes(style, table, block) {
                 self.begun = true;
                 return Coder::<N>::write_block::<STYLE, ROOM>(
                     style, table, piece, data, block, carry,
                 );
             }
-            repeats = self.begun & block.repeats::<N>(carry.before);
+            repeats = self.begun & block.repeats();
         }
         self.write_group(table, piece, data, carry, repeats)
     }

@@ -149,7 +149,7 @@ impl<'a, const ROOM: usize> Piece<'a, ROOM> {
         ensures before { result.before ≡ block.planes }
         ensures written { (w : Writing) (begun : Bool) (pads : ℕ) (ps rest : List RgbaPixel)
             → w.list.style ≡ style → block_pixels block.words ≡ padded ps pads → 0 < length ps
-            → FitsBlock N style table.old carry.before (block_pixels block.words)
+            → FitsBlock N style table.old carry.before (block_pixels block.words) block.changes
             → CarryBetween begun w (ps ++ rest) table.old carry (kept_bytes self.old)
             → (pads ≤ result.count) × BetweenBlocks true w rest table.new block.planes
             (result.count - pads) result.placed (kept_bytes self.new) }

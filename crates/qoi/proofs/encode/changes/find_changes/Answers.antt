@@ -8,7 +8,7 @@ use Rattle.qoi.proofs.encoding.SpelledBlock.{plane_by, before_by}
 use Rattle.qoi.proofs.encode.changes.find_changes.Goals as goal
 
 pub returns : goal.returns
-returns g c = λ s ps sixteen planes after.
+returns g c = λ ps sixteen planes s after.
     let opacity_is = c.known_alpha.ensures.last c.requires.opaque ∙ after.alpha in
     let last : IsPixel s.last = record {
       r = subst (λ n. n < 256) after.red c.channel_steps.ensures.byte;

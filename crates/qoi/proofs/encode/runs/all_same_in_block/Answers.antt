@@ -7,7 +7,7 @@ use Rattle.qoi.proofs.encode.runs.all_same_in_block.Goals as goal
 
 -- what is left has at most the bits of each
 each : (a b n : ℕ) → a < n + 1 → b < n + 1 → n ≤ bit_and a b → (a ≡ n) × (b ≡ n)
-each a b n l m e = (omega (arith, and_le_l a b, l, e) , omega (arith, and_le_r a b, m, e))
+each a b n l m e = (omega (arith, and_le_l a b, l, e), omega (arith, and_le_r a b, m, e))
 
 pub returns-then-this-eq3 : goal.returns-then-this-eq3
 returns-then-this-eq3 g c = (λ is.
@@ -22,8 +22,8 @@ returns-then-this-eq3 g c = (λ is.
     let ab = each a b 65535 (omega (arith, first.few)) (omega (arith, second.few)) two in
     let last : d ≡ 65535 = omega (arith, and_le_r (bit_and a b) d, all, third.few) in
     let bits = bits_of_3 _ _ a b d
-        (rw c.if-this-eq3.true refl) (omega (arith, c.requires.long, c.if-this-eq3.true))
-        first.few second.few third.few first.bits second.bits third.bits in
+    (rw c.if-this-eq3.true refl) (omega (arith, c.requires.long, c.if-this-eq3.true))
+    first.few second.few third.few first.bits second.bits third.bits in
     let sum : a + b * 2 ^ 16 % 2 ^ 64 + d * 2 ^ 32 % 2 ^ 64 ≡ 2 ^ 48 - 1 = omega (arith, ab.0, ab.1, last) in
     sym bits ∙ sum ∙ ap (λ n. 2 ^ (n * 16) - 1) (sym c.if-this-eq3.true))
 
@@ -45,7 +45,7 @@ returns g c = (λ is.
     let third_is : d ≡ 65535 = omega (arith, and_le_r (bit_and a b) d, three, third.few) in
     let last : f ≡ 65535 = omega (arith, and_le_r (bit_and (bit_and a b) d) f, all, fourth.few) in
     let bits = bits_of_4 _ _ a b d f
-        (rw four (refl {a = 64})) (omega (arith, c.requires.long, four))
-        first.few second.few third.few fourth.few first.bits second.bits third.bits fourth.bits in
+    (rw four (refl {a = 64})) (omega (arith, c.requires.long, four))
+    first.few second.few third.few fourth.few first.bits second.bits third.bits fourth.bits in
     let sum : a + b * 2 ^ 16 % 2 ^ 64 + d * 2 ^ 32 % 2 ^ 64 + f * 2 ^ 48 % 2 ^ 64 ≡ 2 ^ 64 - 1 = omega (arith, ab.0, ab.1, third_is, last) in
     sym bits ∙ sum ∙ ap (λ n. 2 ^ (n * 16) - 1) (sym four))

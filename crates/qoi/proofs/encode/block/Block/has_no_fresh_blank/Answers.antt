@@ -14,11 +14,11 @@ use Rattle.qoi.proofs.encoding.PackedBlock.{block_sixteen}
 use Rattle.qoi.proofs.encode.block.Block.has_no_fresh_blank.Goals as goal
 
 pub returns : goal.returns
-returns g c = λ set s before.
+returns c = λ before changes set s last.
     let ps : List RgbaPixel = block_pixels c.args.self.words in
     let sixteen = block_sixteen c.args.self.words c.args.self.packed in
     let ls : List Lane = lanes_of s.held s.last ps in
-    let rep = (c.find_changes.ensures s ps sixteen c.args.self.planes_are before).rep_is in
+    let rep = (changes s last).rep_is in
     let black : AreBy ls (λ l. mask (is_blank l.px)) c.blanks.result = record {
       long = rep.long;
       are = rep.are;

@@ -13,12 +13,12 @@ use Rattle.qoi.proofs.encoding.SpelledBlock.{lanes_long}
 use Rattle.qoi.proofs.encode.block.Block.repeats.Goals as goal
 
 pub returns : goal.returns
-returns g c =
-    let q = last_pixel c.args.before in
+returns c = λ before changes.
+    let q = last_pixel before in
     let ps : List RgbaPixel = block_pixels c.args.self.words in
     let sixteen = block_sixteen c.args.self.words c.args.self.packed in
     let s : State = record { held = []; last = q; carry = 0; placed = false } in
     let ls : List Lane = lanes_of [] q ps in
-    let changes = c.find_changes.ensures s ps sixteen c.args.self.planes_are (record { red = refl; green = refl; blue = refl; alpha = refl }) in
-    c.all_set.ensures (map is_rep ls) (length-map ls is_rep ∙ lanes_long [] q ps ∙ sixteen.long) (changes.rep_is.is ∙ sym (map-map mask is_rep ls))
+    let rep = (changes s (record { red = refl; green = refl; blue = refl; alpha = refl })).rep_is in
+    c.all_set.ensures (map is_rep ls) (length-map ls is_rep ∙ lanes_long [] q ps ∙ sixteen.long) (rep.is ∙ sym (map-map mask is_rep ls))
     ∙ all_lanes [] q q ps refl

@@ -17,20 +17,18 @@ plain style s ps x (inr e) h = subst (λ z. HasSpelled z s ps x) (sym e)
     (record { rep_is = h.rep_is; first_is = h.first_is; second_is = h.second_is; size_is = h.size_is; count_is = h.count_is })
 
 pub returns-in-Reference : goal.returns-in-Reference
-returns-in-Reference g c = λ s last before carry placed stands places.
+returns-in-Reference c = λ s last before changes carry placed stands places.
     let words = c.args.self.words in
     let ps : List RgbaPixel = block_pixels words in
     let sixteen = block_sixteen words c.args.self.packed in
-    let changes = c.find_changes-changes.ensures s ps sixteen c.args.self.planes_are before in
     let block : IsBlock s ps c.args.self.planes.r c.args.stands c.args.places = record { sixteen = sixteen; last_is = last; red_is = c.args.self.planes_are.r_is; stands_are = stands; places_are = places } in
-    plain c.args.style s ps c.spell_block-x.result c.in-Reference.is (c.spell_block-x.ensures s ps carry changes block)
+    plain c.args.style s ps c.spell_block-x.result c.in-Reference.is (c.spell_block-x.ensures s ps carry (changes s before) block)
 
 pub returns-in-Places : goal.returns-in-Places
-returns-in-Places g c = λ s last before carry placed stands places.
+returns-in-Places c = λ s last before changes carry placed stands places.
     let words = c.args.self.words in
     let ps : List RgbaPixel = block_pixels words in
     let sixteen = block_sixteen words c.args.self.packed in
-    let changes = c.find_changes-changes.ensures s ps sixteen c.args.self.planes_are before in
     let block : IsBlock s ps c.args.self.planes.r c.args.stands c.args.places = record { sixteen = sixteen; last_is = last; red_is = c.args.self.planes_are.r_is; stands_are = stands; places_are = places } in
-    let plain = c.spell_block-x.ensures s ps carry changes block in
+    let plain = c.spell_block-x.ensures s ps carry (changes s before) block in
     subst (λ z. HasSpelled z s ps c.name_single.result) (sym c.in-Places.is) (c.name_single.ensures s ps sixteen (placed c.in-Places.is) stands places plain)

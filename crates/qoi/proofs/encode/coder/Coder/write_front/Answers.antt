@@ -19,15 +19,18 @@ returns-then-takes-clause-opaque g c = λ three.
 pub returns-then-takes-clause-written : goal.returns-then-takes-clause-written
 returns-then-takes-clause-written g c = λ w style b.
     let takes = c.takes.ensures in
+    let before = c.args.carry.before in
+    let changes = c.first-block.ensures.changes in
     let is = c.if-takes.true in
     let begun = c.args.self.now.begun in
     record {
       style_is = b.style_is;
       opening = λ no. absurd (true≢false no);
       by_blocks = λ _. c.write_block.ensures.written w begun style (record {
+        changes = changes;
         opaque = c.first-block.ensures.opaque;
-        mixed = takes.some is;
-        no_blank = takes.none is;
+        mixed = takes.some before changes is;
+        no_blank = takes.none before changes is;
       }) (step_blocks b (c.goes_by_block.ensures c.if-goes_by_block.true));
     }
 
@@ -41,7 +44,7 @@ write_group-requires g c =
       | then-goes_by_block+else-takes x ↦
           (let both = and_parts c.args.self.now.begun x.repeats.result (sym x.repeats-is ∙ is) in
           let all : all_repeat q (padded (take 16 (pixels_of n raw)) (16 - length raw / n)) ≡ true =
-          sym (ap (all_repeat q) x.first-block.ensures.pixels) ∙ sym x.repeats.ensures ∙ both.1 in
+          sym (ap (all_repeat q) x.first-block.ensures.pixels) ∙ sym (x.repeats.ensures c.args.carry.before x.first-block.ensures.changes) ∙ both.1 in
           (both.0, repeats_first n raw q (16 - length raw / n) c.args.self.now.channels c.requires.whole c.requires.some all))
       | else-goes_by_block y ↦ absurd (true≢false (sym is ∙ y.repeats-is))
     ] in
