@@ -14,6 +14,11 @@ use Rattle.qoi.specs.inner.BlockState.{State, lane_of, lanes_of, is_rep, goes_on
 use Rattle.qoi.specs.inner.BlockBytes.{firsts, sizes, chunks_of}
 use Rattle.qoi.proofs.encoding.LaneChunk.{from_small}
 
+-- one of two holds if the second does
+pub or_true : (a b : Bool) → b ≡ true → (a || b) ≡ true
+or_true true b e = refl
+or_true false b e = e
+
 -- a repeat's lane is one byte long, and its first byte is no run's
 module _ (held : Past) (p : RgbaPixel) (i : IsPixel p) where
   abbrev pub same : Lane
@@ -23,11 +28,6 @@ module _ (held : Past) (p : RgbaPixel) (i : IsPixel p) where
   is_small : IsTrue (fits_diff same)
   is_small = from_small (near same).r (near same).g (near same).b 4 4 4 (step_of same).a
       (omega (arith, i.r)) (omega (arith, i.g)) (omega (arith, i.b)) (omega (arith, i.a))
-
-  -- one of two holds if the second does
-  or_true : (a b : Bool) → b ≡ true → (a || b) ≡ true
-  or_true true b e = refl
-  or_true false b e = e
 
   -- its chunk has one byte
   pub repeat_size : size_of same ≡ 1

@@ -88,6 +88,16 @@ group_stored style fresh placed q n at end byte old new room stored group stays 
       some = λ e lt. ap (λ m. take m new) (some e lt) ∙ stored ∙ ap (λ z. take at old ++ z) (sym (group lt));
     }
 
+-- a first lane that isn't 0 is 255
+pub first_repeats : {style : Style} (s : State) (ps : List RgbaPixel) (x : Spelled) → HasSpelled style s ps x → AreSixteen ps
+    → (slice_index x.rep 0 == 0) ≡ false → slice_index x.rep 0 ≡ 255
+first_repeats s [] x h sixteen e = absurd (let l = sixteen.long in omega arith)
+first_repeats s (p ∷ ps) x h sixteen e = go (pixel_eq p s.last) (ap (λ z. slice_index z 0) h.rep_is)
+  where
+    go : (b : Bool) → slice_index x.rep 0 ≡ mask b → slice_index x.rep 0 ≡ 255
+    go true is = is
+    go false is = absurd (true≢false (sym (ap (λ n. n == 0) is) ∙ e))
+
 -- only in style Places it matters what the chunk before a group names
 same_group : (style : Style) (a b : Bool) (q : RgbaPixel) (n : ℕ) → (style ≡ Places → a ≡ b) → group_bytes style a q n ≡ group_bytes style b q n
 same_group Reference a b q n e = refl

@@ -30,9 +30,9 @@ repeat_lane l is =
 
 -- the index position by sums of bytes
 pub place_lane : (l : Lane) → IsLane l → (let r = l.px.r in let g = l.px.g in let b = l.px.b in let a = l.px.a in
-    let s = ((r + g) % 256 + b) % 256 in let t = (((s + g) % 256 + b) % 256 + b) % 256 in
-    let h = ((s + t) % 256 + t) % 256 in let a2 = (a + a) % 256 in let a4 = (a2 + a2) % 256 in
-    bit_and (((((h + a4) % 256 + a4) % 256 + a2) % 256 + a) % 256) 63) ≡ hash l.px
+    let s = (((r + g) % 256 + b) % 256 + a) % 256 in let t = ((a + a) % 256 + b) % 256 in
+    let u = (((t + t) % 256 + g) % 256 + s) % 256 in
+    bit_and (((u + u) % 256 + s) % 256) 63) ≡ hash l.px
 unfolding hash
 place_lane l is = and_mask _ 6 ∙ omega arith
 

@@ -1,14 +1,19 @@
 -- Repeats' bytes and sizes.
-use Rattle.std.proofs.Common.{◌≡◌, ℕ, zero, suc, ◌+◌, ◌%◌, Bool, true, false, List, [], ◌∷◌, ◌++◌, length, map, drop, replicate, bit_and, if◌then◌else◌, refl, ap, ◌∙◌, arith}
+use Rattle.std.proofs.Common.{◌≡◌, ℕ, zero, suc, ◌+◌, ◌%◌, Bool, true, false, IsTrue, ◌&&◌, ◌||◌, ◌==◌, ◌-◌, ◌≤◌, List, [], ◌∷◌, ◌++◌, length, map, drop, replicate, bit_and, if◌then◌else◌, refl, ap, ◌∙◌, arith, subst}
 use Rattle.std.specs.Prelude.{max}
 use Rattle.std.specs.List.{range_with_len}
 use lib.Lanes.{zip2, pick_l}
-use Rattle.qoi.specs.inner.BlockLanes.{Lane, mask, first_of, size_of}
+use Rattle.std.proofs.lemmas.Nat.{and_mask, and_le_r}
+use Rattle.qoi.specs.inner.BlockLanes.{Lane, IsLane, AreLanes, mask, is_small, keeps, fits_diff, fits_luma, first_of, size_by, size_of}
+use Rattle.qoi.specs.inner.Steps.{steps, diff_steps}
 use Rattle.qoi.specs.inner.LaneVectors.{AreBy}
 use Rattle.qoi.specs.inner.BlockState.{is_rep, goes_on}
 use Rattle.qoi.specs.inner.Counts.{counts}
 use Rattle.qoi.specs.inner.BlockBytes.{firsts, sizes}
-use Rattle.qoi.proofs.encoding.Lanewise.{sum_8}
+use Rattle.qoi.proofs.format.SamePixels.{pixel_eq-true}
+use Rattle.qoi.proofs.encoding.BlockOut.{or_true, size_small}
+use Rattle.qoi.proofs.encoding.LaneChunk.{from_small}
+use Rattle.qoi.proofs.encoding.Lanewise.{sum_8, not_8}
 
 -- whether the lane repeats, as a byte
 abbrev rep_mask : Lane → ℕ
@@ -48,10 +53,28 @@ mores_are : (l : Lane) (ls : List Lane) → drop 1 (map rep_mask (l ∷ ls)) ++ 
 mores_are l [] = refl
 mores_are l (k ∷ ls) = ap (λ z. rep_mask k ∷ z) (mores_are k ls)
 
+-- a repeat's chunk, if it were spelled out, has one byte
+one_byte : (l : Lane) → IsLane l → is_rep l ≡ true → size_of l ≡ 1
+one_byte l is e =
+    let p = l.px in
+    let small : IsTrue (is_small (diff_steps (steps p p)) && ((steps p p).a == 0)) =
+    from_small (diff_steps (steps p p)).r (diff_steps (steps p p)).g (diff_steps (steps p p)).b 4 4 4 (steps p p).a
+    (omega (arith, is.px_is.r)) (omega (arith, is.px_is.g)) (omega (arith, is.px_is.b)) (omega (arith, is.px_is.a)) in
+    let fits : fits_diff l ≡ true = subst (λ q. IsTrue (is_small (diff_steps (steps q p)) && ((steps q p).a == 0))) (pixel_eq-true p l.before e) small in
+    ap (λ b. size_by b (fits_luma l) (keeps l)) (or_true l.stands (fits_diff l) fits)
+
+-- a size, or none if both masks are set
+none_if : (r m : Bool) (s : ℕ) → s ≤ 5 → (r ≡ true → s ≡ 1) → bit_and s (255 - bit_and (mask r) (mask m)) ≡ (s + bit_and (mask r) (mask m)) % 256
+none_if true true s few one = omega (arith, and_le_r s 0, one refl)
+none_if true false s few one = and_mask s 8 ∙ omega arith
+none_if false true s few one = and_mask s 8 ∙ omega arith
+none_if false false s few one = and_mask s 8 ∙ omega arith
+
 -- lane by lane
-sizes_laid : (ls : List Lane) → zip2 sum_8 (map size_of ls) (zip2 bit_and (map rep_mask ls) (mores ls)) ≡ sizes ls
-sizes_laid [] = refl
-sizes_laid (l ∷ ls) = ap (λ z. (size_of l + bit_and (rep_mask l) (mask (goes_on ls))) % 256 ∷ z) (sizes_laid ls)
+sizes_laid : (ls : List Lane) → AreLanes ls → zip2 bit_and (map size_of ls) (map not_8 (zip2 bit_and (map rep_mask ls) (mores ls))) ≡ sizes ls
+sizes_laid [] are = refl
+sizes_laid (l ∷ ls) are = λ i.
+    none_if (is_rep l) (goes_on ls) (size_of l) (size_small l.stands (fits_diff l) (fits_luma l) (keeps l)) (one_byte l are.0) i ∷ sizes_laid ls are.1 i
 
 -- of sixteen lanes
 all_mores : (ls : List Lane) → length ls ≡ 16 → drop 1 (map rep_mask ls) ++ 255 ∷ [] ≡ mores ls
@@ -60,10 +83,10 @@ all_mores (l ∷ ls) e = mores_are l ls
 
 -- the sizes, with none for repeats that go on
 pub sizes_are : (ls : List Lane) (ss rs ms : List ℕ) → AreBy ls size_of ss → AreBy ls rep_mask rs → ms ≡ drop 1 rs ++ 255 ∷ []
-    → zip2 sum_8 ss (zip2 bit_and rs ms) ≡ sizes ls
+    → zip2 bit_and ss (map not_8 (zip2 bit_and rs ms)) ≡ sizes ls
 sizes_are ls ss rs ms s r e =
     let m : ms ≡ mores ls = e ∙ ap (λ z. drop 1 z ++ 255 ∷ []) r.is ∙ all_mores ls s.long in
-    (λ i. zip2 sum_8 (s.is i) (zip2 bit_and (r.is i) (m i))) ∙ sizes_laid ls
+    (λ i. zip2 bit_and (s.is i) (map not_8 (zip2 bit_and (r.is i) (m i)))) ∙ sizes_laid ls s.are
 
 -- the lanes one sooner, and then 255
 pub one_sooner : (xs : List ℕ) → length xs ≡ 16 → pick_l 0 (xs ++ replicate 16 255) (range_with_len 1 16) ≡ drop 1 xs ++ 255 ∷ []

@@ -190,15 +190,14 @@ impl Carry {
     }
 
     // Where the byte of the repeats ends, which stands at `at`. It doesn't count if there are no
-    // repeats, or if no fresh pixel follows them.
+    // repeats, or if the next pixel repeats, too; `rep` is 255 then, else 0.
     #[inline(always)]
-    fn end(self, at: usize, fresh: bool) -> usize
+    fn end(self, at: usize, rep: u8) -> usize
         requires room { at < usize.MAX }
-        ensures stays { IsFalse fresh → result ≡ at }
-        ensures none { self.count ≡ 0 → result ≡ at }
-        ensures some { IsTrue fresh → 0 < self.count → result ≡ at + 1 }
+        ensures stays { self.count ≤ rep → result ≡ at }
+        ensures some { rep < self.count → result ≡ at + 1 }
     {
-        at + usize::from(fresh & (self.count > 0))
+        at + usize::from(self.count > rep)
     }
 }
 
@@ -235,7 +234,7 @@ pub(super) fn write_block<const N: usize, const STYLE: u8, const ROOM: usize>(
     store_lanes(places, out, at, carry.byte(style));
     let stands = put_block(table, &out[out.len() - 16..], block.words);
     let x = block.spell(style, stands, places, carry);
-    let fresh = x.rep.to_array()[0] == 0;
-    let end = put_sixteen::<N>(out, carry.end(at, fresh), x, block.planes);
+    let start = carry.end(at, x.rep.to_array()[0]);
+    let end = put_sixteen::<N>(out, start, x, block.planes);
     (end, block.carry(style, x, stands))
 }

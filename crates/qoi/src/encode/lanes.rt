@@ -91,12 +91,10 @@ pub(super) fn repeating(d: Steps, alpha: u8x16) -> u8x16
 pub(super) fn places(p: Planes) -> u8x16
     ensures { (ps : List RgbaPixel) → AreSixteen ps → ArePlanes ps p → result ≡ map hash ps }
 {
-    let s = p.r + p.g + p.b;
-    let t = s + p.g + p.b + p.b;
-    let h = s + t + t;
-    let a2 = p.a + p.a;
-    let a4 = a2 + a2;
-    (h + a4 + a4 + a2 + p.a) & u8x16::splat(63)
+    let s = p.r + p.g + p.b + p.a;
+    let t = p.a + p.a + p.b;
+    let u = t + t + p.g + s;
+    (u + u + s) & u8x16::splat(63)
 }
 
 /// Stores the lanes in the last sixteen bytes of `out`, and then a byte at `at`. To read a lane from

@@ -97,8 +97,8 @@ fn first_bytes(near: Steps, far: Steps, fits: Fits, places: u8x16, stands: u8x16
         → AreBy ls (λ l. hash l.px) places → AreBy ls stand_mask stands
         → AreBy ls first_of result }
 {
-    let full = u8x16::splat(0xff) + fits.keep;
-    let first = lesser((far.g + u8x16::splat(0x80)) | !fits.luma, full);
+    // 255 if no luma fits, from which 1 is taken if alpha stays.
+    let first = ((far.g + u8x16::splat(0x80)) | !fits.luma) + (fits.keep & !fits.luma);
     lesser(lesser(first, diffs(near) | !fits.diff), places | !stands)
 }
 
@@ -153,7 +153,7 @@ fn with_none(size: u8x16, rep: u8x16) -> u8x16
     ensures { (ls : List Lane) → AreBy ls size_of size → AreBy ls (λ l. mask (is_rep l)) rep
         → result ≡ sizes ls }
 {
-    size + (rep & next_repeats(rep))
+    size & !(rep & next_repeats(rep))
 }
 
 /// Spells out sixteen pixels, where `stands` says which stand at their index positions, and `carry`

@@ -1,5 +1,5 @@
 -- The repeats before the block, if a fresh pixel follows them, and the block's chunks.
-use Rattle.std.proofs.Common.{◌≡◌, inl, inr, true, false, ℕ, ◌+◌, ◌-◌, ◌≤◌, List, ◌++◌, map, get_or, take, slice_index, arith, refl, sym, ap, ◌∙◌, subst}
+use Rattle.std.proofs.Common.{◌≡◌, ◌==◌, eqb-true, inl, inr, true, false, ℕ, ◌+◌, ◌-◌, ◌≤◌, List, ◌++◌, map, get_or, take, slice_index, arith, refl, sym, ap, ◌∙◌, subst}
 use Rattle.qoi.specs.declared.types.Style.TheVariants.{Places}
 use Rattle.qoi.specs.Qoi.{RgbaPixel, IsPixel, hash}
 use Rattle.qoi.specs.Raw.{IsChannels}
@@ -13,7 +13,7 @@ use Rattle.qoi.specs.inner.Stands.{stand_tests}
 use Rattle.qoi.specs.inner.Table.{Holds}
 use Rattle.qoi.proofs.format.SamePixels.{same_pixel}
 use Rattle.qoi.proofs.encoding.BlockPuts.{hashes_below}
-use Rattle.qoi.proofs.encoding.BlockStep.{ready, group_stored, block_step}
+use Rattle.qoi.proofs.encoding.BlockStep.{ready, first_repeats, group_stored, block_step}
 use Rattle.qoi.proofs.encoding.PackedBlock.{block_sixteen, block_words}
 use Rattle.qoi.proofs.encoding.PaddedBlock.{padded_front}
 use Rattle.qoi.proofs.encoding.RereadLanes.{read_back}
@@ -50,12 +50,16 @@ returns-clause-written g c = λ w begun pads ps rest style pad_is some fits b.
     let placed : c.args.style ≡ Places → s.placed ≡ c.args.carry.placed = λ is. b.placed_is (style ∙ is) in
     let spelled = c.spell-x.ensures s last b.before_is fits.changes b.carry_is placed put.stands_are at in
     let x = c.spell-x.result in
+    let rep = slice_index x.rep 0 in
     let few : s.carry ≤ 45 = omega (arith, b.carry_is, c.requires.few) in
     let q_is : s.last ≡ last_pixel c.args.carry.before = last_of_planes s.last c.args.carry.before b.before_is in
     let start = ready w c.args.style s all (ps ++ rest) x _ c.args.carry.placed (last_pixel c.args.carry.before) c.args.carry.count _ _ style few b.carrying
     (padded_front ps rest all pads pad_is some) spelled sixteen refl q_is b.carry_is placed
-    (group_stored c.args.style _ c.args.carry.placed (last_pixel c.args.carry.before) c.args.carry.count c.args.at c.end.result c.byte.result c.args.out.now c.store_lanes.new.out
-    (omega (arith, c.requires.room)) c.store_lanes.ensures.stored c.byte.ensures c.end.ensures.stays c.end.ensures.none c.end.ensures.some) in
+    (group_stored c.args.style (rep == 0) c.args.carry.placed (last_pixel c.args.carry.before) c.args.carry.count c.args.at c.end-start.result c.byte.result c.args.out.now c.store_lanes.new.out
+    (omega (arith, c.requires.room)) c.store_lanes.ensures.stored c.byte.ensures
+    (λ e. c.end-start.ensures.stays (omega (arith, first_repeats s all x spelled sixteen e, few, b.carry_is)))
+    (λ e. c.end-start.ensures.stays (omega (arith, e)))
+    (λ e some. c.end-start.ensures.some (omega (arith, eqb-true rep 0 e, some)))) in
     let out : List ℕ = take c.put_sixteen-end.result c.put_sixteen-end.new.out in
     let step = block_step w c.args.style s ps rest all pads x c.args.block.planes c.put_block-stands.new.table c.carry.result.placed _ out style pad_is some sixteen
     (subst (λ q. all_repeat q all ≡ false) (sym q_is) fits.mixed) planes start put.holds

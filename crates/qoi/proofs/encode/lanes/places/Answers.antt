@@ -16,10 +16,8 @@ returns c = λ ps sixteen are.
     let g = plane (λ (p : RgbaPixel). p.g) c.args.p.g are.g_is in
     let b = plane (λ (p : RgbaPixel). p.b) c.args.p.b are.b_is in
     let a = plane (λ (p : RgbaPixel). p.a) c.args.p.a are.a_is in
-    let s = two sum_8 (two sum_8 r g) b in
-    let t = two sum_8 (two sum_8 (two sum_8 s g) b) b in
-    let h = two sum_8 (two sum_8 s t) t in
-    let a2 = two sum_8 a a in
-    let a4 = two sum_8 a2 a2 in
-    let all = each (λ l. hash l.px) (two _ (two sum_8 (two sum_8 (two sum_8 (two sum_8 h a4) a4) a2) a) (flat 63 r)) place_lane in
+    let s = two sum_8 (two sum_8 (two sum_8 r g) b) a in
+    let t = two sum_8 (two sum_8 a a) b in
+    let u = two sum_8 (two sum_8 (two sum_8 t t) g) s in
+    let all = each (λ l. hash l.px) (two _ (two sum_8 (two sum_8 u u) s) (flat 63 r)) place_lane in
     all.is ∙ themselves hash [] (pixel 0 0 0 0) ps
