@@ -112,16 +112,9 @@ pub or_mask : (x : ℕ) (b : Bool) → x < 256 → bit_or x (255 - mask b) ≡ (
 or_mask x true l = or_zero x l
 or_mask x false l = omega (arith, le_or_r x 255, or_lt 8 x 255 l (omega arith))
 
--- the first of two masks, if the second isn't set
-only : (k l : Bool) → bit_and (mask k) (255 - mask l) ≡ (if l then 0 else mask k)
-only true true = refl
-only true false = refl
-only false true = refl
-only false false = refl
-
 -- the first byte is the least of those that apply
 least : (st d l k : Bool) (h s g : ℕ) → h < 64 → (IsTrue d → (64 ≤ s) × (s < 128)) → s < 256 → (IsTrue l → g < 64) → g < 256
-    → min (min (((if l then (g + 128) % 256 else 255) + (if l then 0 else mask k)) % 256) (if d then s else 255)) (if st then h else 255)
+    → min (min (min (if l then (g + 128) % 256 else 255) ((255 + mask k) % 256)) (if d then s else 255)) (if st then h else 255)
     ≡ (if st then h else (if d then s else (if l then (128 + g) % 256 else (if k then 254 else 255))))
 least true true true true h s g lh ds ls dg lg = let a = ds refl in let b = dg refl in omega arith
 least true true true false h s g lh ds ls dg lg = let a = ds refl in let b = dg refl in omega arith
@@ -142,11 +135,11 @@ least false false false false h s g lh ds ls dg lg = omega arith
 
 -- the first byte of a lane's chunk
 pub first_lane : (l : Lane) → IsLane l
-    → min (min ((bit_or (((far l).g + 128) % 256) (255 - luma_mask l) + bit_and (keep_mask l) (255 - luma_mask l)) % 256) (bit_or (diff_of (near l)) (255 - diff_mask l)))
+    → min (min (min (bit_or (((far l).g + 128) % 256) (255 - luma_mask l)) ((255 + keep_mask l) % 256)) (bit_or (diff_of (near l)) (255 - diff_mask l)))
     (bit_or (hash l.px) (255 - stand_mask l)) ≡ first_of l
 first_lane l is =
     let h = hash_below l.px in
-    ap₂ min (ap₂ min (λ i. (or_mask (((far l).g + 128) % 256) (fits_luma l) (omega arith) i + only (keeps l) (fits_luma l) i) % 256)
+    ap₂ min (ap₂ min (ap (λ x. min x ((255 + keep_mask l) % 256)) (or_mask (((far l).g + 128) % 256) (fits_luma l) (omega arith)))
     (or_mask (diff_of (near l)) (fits_diff l) (omega arith))) (or_mask (hash l.px) l.stands (omega arith))
     ∙ least l.stands (fits_diff l) (fits_luma l) (keeps l) (hash l.px) (diff_of (near l)) (far l).g (omega arith)
     (λ t. (let f = three_small (near l).r (near l).g (near l).b 4 4 4 (step_of l).a t in let a = f.0 in let b = f.1 in let c = f.2 in (omega arith, omega arith)))

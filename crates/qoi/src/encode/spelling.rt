@@ -97,8 +97,8 @@ fn first_bytes(near: Steps, far: Steps, fits: Fits, places: u8x16, stands: u8x16
         → AreBy ls (λ l. hash l.px) places → AreBy ls stand_mask stands
         → AreBy ls first_of result }
 {
-    // 255 if no luma fits, from which 1 is taken if alpha stays.
-    let first = ((far.g + u8x16::splat(0x80)) | !fits.luma) + (fits.keep & !fits.luma);
+    let full = u8x16::splat(0xff) + fits.keep;
+    let first = lesser((far.g + u8x16::splat(0x80)) | !fits.luma, full);
     lesser(lesser(first, diffs(near) | !fits.diff), places | !stands)
 }
 
