@@ -91,7 +91,7 @@ fn all_same_in_block<const N: usize>(bytes: &[u8], px: Packed) -> bool
     requires channels { IsChannels N }
     requires long { N * 16 ≤ length bytes.now }
     ensures { IsTrue result
-        → mask_l (zip2 nat_eq bytes.now (output N N (replicate 16 px))) ≡ 2 ^ (N * 16) - 1 }
+        ↔ (mask_l (zip2 nat_eq bytes.now (output N N (replicate 16 px))) ≡ 2 ^ (N * 16) - 1) }
 {
     let first = same_in_part::<N, 0>(bytes, px);
     let second = same_in_part::<N, 1>(bytes, px);

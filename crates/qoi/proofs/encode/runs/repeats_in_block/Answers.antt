@@ -11,4 +11,4 @@ returns g c =
 
 pub returns-then-all_same_in_block-clause-all : goal.returns-then-all_same_in_block-clause-all
 returns-then-all_same_in_block-clause-all g c = (λ e.
-    whole_block g.row.N c.args.bytes.now c.args.px c.requires.channels c.requires.opaque c.requires.long (c.all_same_in_block.ensures c.if-all_same_in_block.true))
+    whole_block g.row.N c.args.bytes.now c.args.px c.requires.channels c.requires.opaque c.requires.long (c.all_same_in_block.ensures.0 c.if-all_same_in_block.true))
