@@ -91,6 +91,7 @@ pub(super) fn repeating(d: Steps, alpha: u8x16) -> u8x16
 pub(super) fn places(p: Planes) -> u8x16
     ensures { (ps : List RgbaPixel) → AreSixteen ps → ArePlanes ps p → result ≡ map hash ps }
 {
+    // Three times all, and then 2, 4 and 8 times green, blue and alpha.
     let s = p.r + p.g + p.b + p.a;
     let t = p.a + p.a + p.b;
     let u = t + t + p.g + s;
