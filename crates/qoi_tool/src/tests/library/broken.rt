@@ -4,6 +4,7 @@ use crate::tests::library::support::decodings::{CUT, Decoding, after};
 use crate::tests::library::support::examples::files;
 use crate::tests::library::support::images::{Image, file_of, row};
 use crate::tests::library::support::{assert_bytes, assert_fails, assert_refused};
+use qoi::parts::Reader;
 use qoi::{Channels, Decoder, decode_header, decode_to_buf};
 use std::alloc::Global;
 use std::io::ErrorKind;
@@ -71,34 +72,50 @@ fn followed(rt: HostRuntime) {
     }
 }
 
+// A decoder refuses the buffer with this text.
+fn assert_no_room<R: Reader>(
+    rt: &impl Abort,
+    alloc: Global,
+    decoder: &mut Decoder<R>,
+    buf: &mut [u8],
+    text: &str,
+) {
+    assert_refused(rt, alloc, decoder.decode_to_buf(buf).err(), text);
+}
+
 // The buffer is refused with this text from a slice, from both kinds of reader and by the free
 // call. The decoders have all bytes after the header left.
 fn assert_too_small(rt: &impl Abort, alloc: Global, file: &[u8], buf: &mut [u8], text: &str) {
     let mut slice = Decoder::new(file).expect(rt, "refused");
-    assert_refused(rt, alloc, slice.decode_to_buf(buf).err(), text);
+    assert_no_room(rt, alloc, &mut slice, buf, text);
     assert_bytes(rt, slice.data(), after(file, 14));
     let mut stream = Decoder::from_stream(file).expect(rt, "refused");
-    assert_refused(rt, alloc, stream.decode_to_buf(buf).err(), text);
+    assert_no_room(rt, alloc, &mut stream, buf, text);
     assert_bytes(rt, stream.into_reader(), after(file, 14));
     let mut buffered = Decoder::from_buf_read(file).expect(rt, "refused");
-    assert_refused(rt, alloc, buffered.decode_to_buf(buf).err(), text);
+    assert_no_room(rt, alloc, &mut buffered, buf, text);
     assert_bytes(rt, buffered.into_reader(), after(file, 14));
     assert_refused(rt, alloc, decode_to_buf(buf, file).err(), text);
+}
+
+// A buffer that lacks a byte for this image is refused and as before.
+fn assert_short(rt: &impl Abort, alloc: Global, image: &Image) {
+    let required = image.raw.len();
+    let size = required.saturating_sub(1);
+    let text = format!(in alloc;
+        "output buffer size too small: {size} (required: {required})"
+    ).expect(rt, "refused");
+    let before = vec![in alloc; 0xaau8; size].expect(rt, "refused");
+    let mut buf = before.clone().expect(rt, "refused");
+    assert_too_small(rt, alloc, &image.file, &mut buf, &text);
+    assert_bytes(rt, &buf, &before);
 }
 
 // A buffer that lacks a byte is refused and as before.
 #[test]
 fn short_buffers(rt: HostRuntime) {
     for image in &files(rt.alloc()).expect(&rt, "refused") {
-        let required = image.raw.len();
-        let size = required.saturating_sub(1);
-        let text = format!(in rt.alloc();
-            "output buffer size too small: {size} (required: {required})"
-        ).expect(&rt, "refused");
-        let before = vec![in rt.alloc(); 0xaau8; size].expect(&rt, "refused");
-        let mut buf = before.clone().expect(&rt, "refused");
-        assert_too_small(&rt, rt.alloc(), &image.file, &mut buf, &text);
-        assert_bytes(&rt, &buf, &before);
+        assert_short(&rt, rt.alloc(), image);
     }
 }
 

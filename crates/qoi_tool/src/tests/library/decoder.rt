@@ -1,32 +1,41 @@
 //! Files that are decoded, by example.
 use crate::tests::fakes::{ONE_RGB_PIXEL, PIXEL};
 use crate::tests::library::support::decodings::{CUT, Decoding};
-use crate::tests::library::support::examples::GIVEN;
+use crate::tests::library::support::examples::{Given, given_table};
 use crate::tests::library::support::images::{file_of, row};
 use crate::tests::library::support::{assert_bytes, assert_given, assert_number, assert_refused};
 use qoi::{Channels, Decoder, Header};
+use std::alloc::Global;
+use std::process::Abort;
+
+// Each call decodes an example's file into these channels.
+fn assert_given_in(
+    rt: &impl Abort,
+    alloc: Global,
+    example: &Given,
+    channels: Channels,
+    raw: &[u8],
+) {
+    let image = example.image(alloc).expect(rt, "refused");
+    let mut decoder = Decoder::new(&image.file)
+        .expect(rt, "refused")
+        .with_channels(channels);
+    let found = decoder.decode_to_vec(alloc).expect(rt, "refused");
+    assert!(rt; found.as_slice() == raw, "{}", example.name);
+    let decoding = Decoding {
+        bytes: &image.file,
+        header: image.header,
+        channels,
+    };
+    decoding.check(rt, alloc, raw, &[]);
+}
 
 // Each call decodes them, in three channels and in four.
 #[test]
 fn given_examples(rt: HostRuntime) {
-    for example in &GIVEN {
-        let image = example.image(rt.alloc()).expect(&rt, "refused");
-        for (channels, raw) in [
-            (Channels::Rgb, example.three),
-            (Channels::Rgba, example.four),
-        ] {
-            let mut decoder = Decoder::new(&image.file)
-                .expect(&rt, "refused")
-                .with_channels(channels);
-            let found = decoder.decode_to_vec(rt.alloc()).expect(&rt, "refused");
-            assert!(rt; found.as_slice() == raw, "{}", example.name);
-            let decoding = Decoding {
-                bytes: &image.file,
-                header: image.header,
-                channels,
-            };
-            decoding.check(&rt, rt.alloc(), raw, &[]);
-        }
+    for example in given_table() {
+        assert_given_in(&rt, rt.alloc(), example, Channels::Rgb, example.three);
+        assert_given_in(&rt, rt.alloc(), example, Channels::Rgba, example.four);
     }
 }
 

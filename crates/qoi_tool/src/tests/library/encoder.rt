@@ -1,6 +1,6 @@
 //! Images that are encoded, by example.
 use crate::tests::fakes::ONE_RGB_PIXEL;
-use crate::tests::library::support::examples::{self, WRITTEN, Written};
+use crate::tests::library::support::examples::{self, Written, written_tables};
 use crate::tests::library::support::generator::Rgba;
 use crate::tests::library::support::images::{Image, file_of, row};
 use crate::tests::library::support::plain::plain_chunks;
@@ -30,17 +30,27 @@ fn assert_plain(rt: &impl Abort, alloc: Global, example: &Written, style: Style)
     assert!(rt; chunks.as_slice() == example.chunks, "{}", example.name);
 }
 
-// Each call encodes an example in each of its styles.
+// Each call encodes an example in this style.
+fn assert_written(rt: &impl Abort, alloc: Global, example: &Written, style: Style) {
+    assert_plain(rt, alloc, example, style);
+    let image = example.image(alloc, style).expect(rt, "refused");
+    image.check(rt, alloc);
+}
+
+// The examples of a table, each in each of its styles.
+fn assert_table(rt: &impl Abort, alloc: Global, table: &[Written]) {
+    for example in table {
+        for style in example.styles {
+            assert_written(rt, alloc, example, *style);
+        }
+    }
+}
+
+// Each call encodes each of the examples.
 #[test]
 fn written_examples(rt: HostRuntime) {
-    for example in &WRITTEN {
-        for style in example.styles {
-            assert_plain(&rt, rt.alloc(), example, *style);
-            example
-                .image(rt.alloc(), *style)
-                .expect(&rt, "refused")
-                .check(&rt, rt.alloc());
-        }
+    for table in written_tables() {
+        assert_table(&rt, rt.alloc(), table);
     }
 }
 

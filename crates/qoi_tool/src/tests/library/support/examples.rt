@@ -86,9 +86,9 @@ const BLACK: &[u8] = &[0, 0, 0, 255];
 
 const PX: &[u8] = &[101, 102, 103];
 
-/// Files that the encoder writes.
+// Repeats of the start pixel, and one pixel.
 #[rattlefmt::skip]
-pub static WRITTEN: [Written; 48] = [
+static FROM_START: [Written; 13] = [
     Written { name: "one_rgba_pixel", chunks: &[0xff, 0x0b, 0x79, 0xe7, 0x37],
         rest: &[11, 121, 231, 55], ..RGBA },
     Written { name: "one_rgba_pixel", chunks: &[0xfe, 0x0b, 0x79, 0xe7], rest: &[11, 121, 231, 255],
@@ -107,6 +107,11 @@ pub static WRITTEN: [Written; 48] = [
     Written { name: "one_small_step", chunks: &[0xbf, 0xff], rest: &[38, 31, 38], ..RGB },
     Written { name: "one_small_step", chunks: &[0xfe, 0x20, 0x20, 0x20], rest: &[32, 32, 32],
         ..RGB },
+];
+
+// Index positions, and black that comes back.
+#[rattlefmt::skip]
+static POSITIONS: [Written; 8] = [
     Written { name: "place_rgb", width: 3, chunks: &[0xfe, 0x65, 0x66, 0x67, 0xfe, 1, 2, 3, 0x33],
         rest: &[101, 102, 103, 1, 2, 3, 101, 102, 103], ..RGB },
     PLACE_RGBA,
@@ -125,6 +130,11 @@ pub static WRITTEN: [Written; 48] = [
     Written { name: "blank_without_place", width: 4,
         chunks: &[0xff, 0x40, 0, 0, 0, 0xfe, 0, 0, 0, 0xfe, 0x40, 0, 0, 0xfe, 0, 0, 0],
         rest: &[64, 0, 0, 0, 0, 0, 0, 0, 64, 0, 0, 0, 0, 0, 0, 0], ..RGBA },
+];
+
+// Runs, and black after other pixels and before them.
+#[rattlefmt::skip]
+static RUNS: [Written; 11] = [
     Written { name: "plain_runs", width: 3,
         chunks: &[0xfe, 1, 0x63, 2, 0xfe, 0xfb, 0xfc, 0xfd, 0x40],
         rest: &[1, 99, 2, 251, 252, 253, 249, 250, 251], ..RGB },
@@ -154,6 +164,11 @@ pub static WRITTEN: [Written; 48] = [
     Written { name: "black after a pixel", width: 2,
         chunks: &[0xff, 0x65, 0x66, 0x67, 0x68, 0xff, 0, 0, 0, 0xff],
         rest: &[101, 102, 103, 104, 0, 0, 0, 255], ..RGBA },
+];
+
+// Repeats in the styles `Reference` and `Places`.
+#[rattlefmt::skip]
+static STYLES: [Written; 10] = [
     REPEAT,
     REPEAT_AS_PLACE,
     Written { name: "styles", styles: &[Reference, Places], width: 5,
@@ -177,6 +192,15 @@ pub static WRITTEN: [Written; 48] = [
     Written { name: "one after its own place", styles: &[Reference, Places], width: 3,
         chunks: &[0x00, 0xc0, 0xff, 1, 2, 3, 4],
         rest: &[0, 0, 0, 0, 0, 0, 0, 0, 1, 2, 3, 4], ..RGBA },
+    // `Places` keeps both runs: nothing fresh precedes the first or follows the last.
+    Written { name: "one at the start", styles: &[Reference, Places], width: 3,
+        chunks: &[0xc0, 0xfe, 0x65, 0x66, 0x67, 0xc0],
+        rest: &[0, 0, 0, 101, 102, 103, 101, 102, 103], ..RGB },
+];
+
+// Style `Tight`.
+#[rattlefmt::skip]
+static TIGHT: [Written; 6] = [
     BLACK_AS_PLACE,
     Written { name: "black_returns_rgba", styles: &[Tight], width: 3,
         chunks: &[0xc0, 0xff, 0x65, 0x66, 0x67, 0x68, 0x35],
@@ -193,11 +217,44 @@ pub static WRITTEN: [Written; 48] = [
     Written { name: "a run stays", styles: &[Tight], width: 4,
         chunks: &[0xc0, 0xfe, 0x65, 0x66, 0x67, 0xc0, 0xfe, 1, 2, 3],
         rest: &[0, 0, 0, 101, 102, 103, 101, 102, 103, 1, 2, 3], ..RGB },
-    // `Places` keeps both runs: nothing fresh precedes the first or follows the last.
-    Written { name: "one at the start", styles: &[Reference, Places], width: 3,
-        chunks: &[0xc0, 0xfe, 0x65, 0x66, 0x67, 0xc0],
-        rest: &[0, 0, 0, 101, 102, 103, 101, 102, 103], ..RGB },
 ];
+
+// The table of repeats of the start pixel and of one pixel.
+fn start_table() -> &'static [Written] {
+    &FROM_START
+}
+
+// The table of index positions.
+fn position_table() -> &'static [Written] {
+    &POSITIONS
+}
+
+// The table of runs.
+fn run_table() -> &'static [Written] {
+    &RUNS
+}
+
+// The table of two styles.
+fn style_table() -> &'static [Written] {
+    &STYLES
+}
+
+// The table of style `Tight`.
+fn tight_table() -> &'static [Written] {
+    &TIGHT
+}
+
+/// Files that the encoder writes. Each table has a function of its own, since a function is proved
+/// together with the tables that it names.
+pub fn written_tables() -> [&'static [Written]; 5] {
+    [
+        start_table(),
+        position_table(),
+        run_table(),
+        style_table(),
+        tight_table(),
+    ]
+}
 
 /// The chunks of a file of one row that is only decoded, and its image in three and in four
 /// channels.
@@ -233,9 +290,9 @@ impl Given {
     }
 }
 
-/// Files that are only decoded.
+// Files that are only decoded.
 #[rattlefmt::skip]
-pub static GIVEN: [Given; 13] = [
+static GIVEN: [Given; 13] = [
     Given { name: "black_returns_rgb", width: 3, channels: Rgb,
         chunks: &[0xc0, 0xfe, 0x65, 0x66, 0x67, 0x35],
         three: &[0, 0, 0, 101, 102, 103, 0, 0, 0],
@@ -279,6 +336,11 @@ pub static GIVEN: [Given; 13] = [
         three: &[0; 6], four: &[0, 0, 0, 255, 0, 0, 0, 255] },
 ];
 
+/// The table of files that are only decoded.
+pub fn given_table() -> &'static [Given] {
+    &GIVEN
+}
+
 /// The example `one_rgb_pixel`.
 pub fn one_rgb_pixel(alloc: Global) -> Result<Image> {
     Ok(Image {
@@ -289,17 +351,25 @@ pub fn one_rgb_pixel(alloc: Global) -> Result<Image> {
     })
 }
 
+// Adds the files of a table.
+fn add_table(alloc: Global, images: &mut Vec<Image>, table: &[Written]) -> Result<()> {
+    for example in table {
+        images.push(example.image(alloc, Reference)?)?;
+    }
+    Ok(())
+}
+
 // Adds the files that the encoder writes.
 fn add_written(alloc: Global, images: &mut Vec<Image>) -> Result<()> {
-    for example in &WRITTEN {
-        images.push(example.image(alloc, Reference)?)?;
+    for table in written_tables() {
+        add_table(alloc, images, table)?;
     }
     Ok(())
 }
 
 // Adds the files that are only decoded.
 fn add_given(alloc: Global, images: &mut Vec<Image>) -> Result<()> {
-    for example in &GIVEN {
+    for example in given_table() {
         images.push(example.image(alloc)?)?;
     }
     Ok(())
