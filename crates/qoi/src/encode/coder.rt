@@ -13,7 +13,7 @@ ghost use Rattle.qoi.specs.Styles.{choice_in};
 ghost use Rattle.qoi.specs.inner.CoderState.{held_in, last_chunk};
 ghost use Rattle.qoi.specs.inner.FreshPixel.{HasBytes};
 ghost use Rattle.qoi.specs.inner.Piece.{kept_bytes};
-ghost use Rattle.qoi.specs.inner.Planes.{block_pixels};
+ghost use Rattle.qoi.specs.inner.Planes.{AreOpaque, block_pixels};
 ghost use Rattle.qoi.specs.inner.Table.{Holds};
 
 use crate::consts::QOI_OP_RUN;
@@ -43,7 +43,7 @@ pub(super) struct Coder<const N: usize> {
 }
 
 impl<const N: usize> Coder<N> {
-    ghost use Rattle.qoi.specs.inner.Blocks.{ChangesFrom, FitsBlock, MissesNoBlank, padded, last_pixel, all_repeat};
+    ghost use Rattle.qoi.specs.inner.Blocks.{ChangesFrom, FitsBlock, padded, last_pixel};
     ghost use Rattle.qoi.specs.inner.CarryLoop.{CarryBetween, StepBetween};
     ghost use Rattle.qoi.specs.inner.CoderLoop.{CoderAfter, single, Writing, CoderBetween, BytesBetween};
     ghost use Rattle.qoi.specs.inner.Spelling.{IsLastOf};
@@ -299,11 +299,9 @@ impl<const N: usize> Coder<N> {
     // is given by another index position than its own.
     #[inline(always)]
     fn takes(style: Style, table: &PixelTable, block: Block) -> bool
-        ensures some { (before : Planes) → ChangesFrom before (block_pixels block.words) block.changes
-            → IsTrue result → all_repeat (last_pixel before) (block_pixels block.words) ≡ false }
-        ensures none { (before : Planes) → ChangesFrom before (block_pixels block.words) block.changes
-            → IsTrue result → style ≡ Tight
-            → MissesNoBlank table.now before (block_pixels block.words) }
+        ensures { (before : Planes) → (N ≡ 3 → AreOpaque (block_pixels block.words))
+            → ChangesFrom before (block_pixels block.words) block.changes → IsTrue result
+            → FitsBlock N style table.now before (block_pixels block.words) block.changes }
     {
         let blank = match style {
             Reference | Places => false,

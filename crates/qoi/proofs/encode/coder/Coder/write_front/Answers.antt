@@ -18,20 +18,13 @@ returns-then-takes-clause-opaque g c = λ three.
 
 pub returns-then-takes-clause-written : goal.returns-then-takes-clause-written
 returns-then-takes-clause-written g c = λ w style b.
-    let takes = c.takes.ensures in
-    let before = c.args.carry.before in
-    let changes = c.first-block.ensures.changes in
-    let is = c.if-takes.true in
+    let block = c.first-block.ensures in
+    let fits = c.takes.ensures c.args.carry.before block.opaque block.changes c.if-takes.true in
     let begun = c.args.self.now.begun in
     record {
       style_is = b.style_is;
       opening = λ no. absurd (true≢false no);
-      by_blocks = λ _. c.write_block.ensures.written w begun style (record {
-        changes = changes;
-        opaque = c.first-block.ensures.opaque;
-        mixed = takes.some before changes is;
-        no_blank = takes.none before changes is;
-      }) (step_blocks b (c.goes_by_block.ensures c.if-goes_by_block.true));
+      by_blocks = λ _. c.write_block.ensures.written w begun style fits (step_blocks b (c.goes_by_block.ensures c.if-goes_by_block.true));
     }
 
 pub write_group-requires : goal.write_group-requires
