@@ -1,5 +1,6 @@
 -- Lemmas on encoding.
 pub mod BufferFilled
+pub mod CarriedRuns
 pub mod Choices
 pub mod CoderSteps
 pub mod CoderTable

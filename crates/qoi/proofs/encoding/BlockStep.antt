@@ -106,13 +106,13 @@ same_group Tight a b q n e = refl
 
 -- from the state before the block
 pub ready : {begun : Bool} (w : Writing) (style : Style) (s : State) (ps ahead : List RgbaPixel) (x : Spelled) (fresh placed : Bool) (q : RgbaPixel) (n : ℕ) (kept next : List ℕ)
-    → w.list.style ≡ style → s.carry ≤ 45 → Carrying begun w s ahead kept → slice_get ahead 0 ≡ slice_get ps 0 → HasSpelled style s ps x → AreSixteen ps
+    → w.list.style ≡ style → s.carry < 62 → (slice_get ahead 0 ≡ Some s.last → s.carry ≤ 45) → Carrying begun w s ahead kept → slice_get ahead 0 ≡ slice_get ps 0 → HasSpelled style s ps x → AreSixteen ps
     → fresh ≡ (slice_index x.rep 0 == 0) → s.last ≡ q → s.carry ≡ n → (style ≡ Places → s.placed ≡ placed) → StoredGroup style fresh placed q n kept next
     → Ready begun w style s ps ahead x next
-ready w style s [] ahead x is_fresh placed q n kept next same few c begins h sixteen fresh_is last_is n_is placed_is run = absurd (let l = sixteen.long in omega arith)
-ready w style s (p ∷ ps) [] x is_fresh placed q n kept next same few c begins h sixteen fresh_is last_is n_is placed_is run =
+ready w style s [] ahead x is_fresh placed q n kept next same small few c begins h sixteen fresh_is last_is n_is placed_is run = absurd (let l = sixteen.long in omega arith)
+ready w style s (p ∷ ps) [] x is_fresh placed q n kept next same small few c begins h sixteen fresh_is last_is n_is placed_is run =
     absurd (let no : ◌≡◌ {A = Option RgbaPixel} None (Some p) = begins in cc)
-ready {begun} w style s (p ∷ ps) (a ∷ more) x is_fresh placed q n kept next same few c begins h sixteen fresh_is last_is n_is placed_is run = go (pixel_eq p s.last) refl
+ready {begun} w style s (p ∷ ps) (a ∷ more) x is_fresh placed q n kept next same small few c begins h sixteen fresh_is last_is n_is placed_is run = go (pixel_eq p s.last) refl
   where
     fresh_by : (b : Bool) → pixel_eq p s.last ≡ b → is_fresh ≡ (mask b == 0)
     fresh_by b e = fresh_is ∙ ap (λ z. z == 0) (ap (λ z. slice_index z 0) h.rep_is ∙ ap mask e)
@@ -120,19 +120,19 @@ ready {begun} w style s (p ∷ ps) (a ∷ more) x is_fresh placed q n kept next 
     same_front : a ≡ p
     same_front = same_Some a p begins
 
-    stays : next ≡ kept → CarryGoesOn s (p ∷ ps) → Ready begun w style s (p ∷ ps) (a ∷ more) x next
-    stays never on = record {
+    stays : next ≡ kept → CarryGoesOn s (p ∷ ps) → s.carry ≤ 45 → Ready begun w style s (p ∷ ps) (a ∷ more) x next
+    stays never on fits = record {
       state = s;
       carrying = subst (Carrying begun w s (a ∷ more)) (sym never) c;
       goes_on_is = on;
-      few = few;
+      few = fits;
       spelled = h;
       held_is = refl;
       last_is = refl;
     }
 
     fresh : pixel_eq p s.last ≡ false → (k : ℕ) → s.carry ≡ k → Ready begun w style s (p ∷ ps) (a ∷ more) x next
-    fresh e zero no_carry = stays (run.none (sym n_is ∙ no_carry)) (λ some. absurd (omega arith))
+    fresh e zero no_carry = stays (run.none (sym n_is ∙ no_carry)) (λ some. absurd (omega arith)) (omega (arith, no_carry))
     fresh e (suc k) some =
         let differs : a ≢ s.last = λ same. true≢false (sym (pixel_eq-from p s.last (sym same_front ∙ same)) ∙ e) in
         let n_suc : suc k ≡ n = sym some ∙ n_is in
@@ -150,7 +150,7 @@ ready {begun} w style s (p ∷ ps) (a ∷ more) x is_fresh placed q n kept next 
         }
 
     go : (b : Bool) → pixel_eq p s.last ≡ b → Ready begun w style s (p ∷ ps) (a ∷ more) x next
-    go true e = stays (run.stays (fresh_by true e)) (λ some. pixel_eq-true p s.last e)
+    go true e = let same = pixel_eq-true p s.last e in stays (run.stays (fresh_by true e)) (λ some. same) (few (ap Some (same_front ∙ same)))
     go false e = fresh e s.carry refl
 
 -- as many repeats are carried after pixels as came
@@ -260,6 +260,7 @@ block_step w style s ps rest all pads x p table placed kept next style_is pad_is
         before_is = subst (λ q. IsLastOf q p) last (end_last t all p sixteen planes);
         carry_is = omega arith;
         placed_is = λ places. sym names ∙ stood ∙ sym (named (sym style_is ∙ places));
+        few = λ _. omega arith;
       },
     )
   where

@@ -1,7 +1,6 @@
 -- A block of pixels is written, lane by lane.
 use Rattle.std.proofs.Common.{◌≡◌, ◌≢◌, ◌⊎◌, inl, inr, ℕ, zero, suc, ◌+◌, ◌%◌, ◌/◌, ◌<◌, Bool, true, false, ◌==◌, List, [], ◌∷◌, ◌++◌, length, replicate, Option, Some, refl, sym, ap, ◌∙◌, arith, subst, append_assoc, append-nil, if◌then◌else◌}
 use Rattle.std.specs.List.{AllByRecursion}
-use Rattle.std.proofs.lemmas.Grind.{flat_map-append}
 use Rattle.std.proofs.lemmas.Bool.{eq-eqb}
 use Rattle.std.proofs.lemmas.Option.{same_Some}
 use Rattle.qoi.specs.declared.chunk.Chunk.{Chunk}
@@ -21,18 +20,12 @@ use Rattle.qoi.proofs.encoding.GroupRuns.{not_one}
 use Rattle.qoi.proofs.encoding.StillToWrite.{chunk_next, fresh_todo, runs_next}
 use Rattle.qoi.proofs.encoding.StyleLists.{chooses_in}
 use Rattle.qoi.proofs.encoding.StyledGroup.{WritesOne, styled_runs, styled_chunk}
+use Rattle.qoi.proofs.encoding.CoderSteps.{bytes_next}
 use Rattle.qoi.proofs.encoding.CoderTable.{spelled_out}
 use Rattle.qoi.specs.inner.BlockLanes.{lane_bytes}
 use Rattle.qoi.specs.inner.BlockState.{Between, State, HasBegun, Carrying, lane_of, group_bytes, next_by, step_by, next_state, step_bytes, more_of, end_state, block_bytes, NoneBlank, CarryGoesOn, flushed_state}
 use Rattle.qoi.proofs.encoding.BlockOut.{carry_few}
 use Rattle.qoi.proofs.encoding.LaneChunk.{spelled_lane}
-
--- the first chunks' bytes are those written next
-bytes_next : (ahead bytes next : List ℕ) (first left : List Chunk) → ahead ≡ bytes ++ chunk_bytes (first ++ left) → next ≡ bytes ++ chunk_bytes first
-    → ahead ≡ next ++ chunk_bytes left
-bytes_next ahead bytes next first left e n =
-    e ∙ ap (λ x. bytes ++ x) (flat_map-append bytes_of first left) ∙ sym (append_assoc bytes (chunk_bytes first) (chunk_bytes left))
-    ∙ ap (λ x. x ++ chunk_bytes left) (sym n)
 
 -- a group of fewer than 62 repeats
 runs_few : (one : Chunk) (n : ℕ) → n < 62 → runs_by one n ≡ last_by one n
@@ -110,13 +103,13 @@ repeat_held Places past b i = ap (λ x. seen x i) (fresh_repeat past (previous p
 repeat_held Tight past b i = put_again past (previous past) (stands_there Tight past b) i
 
 -- repeats leave it so that a fresh pixel came
-still_begun : (n : ℕ) (past : Past) → some_fresh past ≡ true → some_fresh (replicate n (previous past) ++ past) ≡ true
+pub still_begun : (n : ℕ) (past : Past) → some_fresh past ≡ true → some_fresh (replicate n (previous past) ++ past) ≡ true
 still_begun zero past b = b
 still_begun (suc n) past b =
     ap has_pixel (fresh_repeat (replicate n (previous past) ++ past) (previous past) (sym (previous_repeats n past))) ∙ still_begun n past b
 
 -- nor do several
-repeats_held : (style : Style) (n : ℕ) (past : Past) → some_fresh past ≡ true → (i : ℕ)
+pub repeats_held : (style : Style) (n : ℕ) (past : Past) → some_fresh past ≡ true → (i : ℕ)
     → seen (held_in style (replicate n (previous past) ++ past)) i ≡ seen (held_in style past) i
 repeats_held style zero past b i = refl
 repeats_held style (suc n) past b i =

@@ -1,5 +1,5 @@
 -- From the state between two pixels to that between two blocks, and what is carried.
-use Rattle.std.proofs.Common.{◌≡◌, ◌≢◌, ℕ, Bool, true, false, List, [], replicate, Some, ◌++◌, refl, sym, ap, ◌∙◌, subst, append_assoc}
+use Rattle.std.proofs.Common.{◌≡◌, ◌≢◌, ℕ, Bool, true, false, List, [], replicate, Some, ◌++◌, refl, sym, ap, ◌∙◌, subst, arith, append_assoc}
 use Rattle.qoi.specs.declared.encode.block.Carry.{Carry}
 use Rattle.qoi.specs.declared.encode.coder.Coder.{Coder}
 use Rattle.qoi.specs.declared.types.Style.TheVariants.{Places}
@@ -58,6 +58,7 @@ blocks_start carry begun b is fresh last none placed =
       before_is = subst (λ q. IsLastOf q carry.before) (sym s.3) last;
       carry_is = s.4 ∙ sym none;
       placed_is = λ is. s.5 is ∙ sym placed;
+      few = λ _. omega (arith, none);
     }
 
 -- before the first fresh pixel, if the next one is fresh
@@ -140,6 +141,7 @@ step_sent {w = w} {pixels} {table} {coder} {carry} {bytes} b gone kept split = g
               before_is = blocks.before_is;
               carry_is = blocks.carry_is;
               placed_is = blocks.placed_is;
+              few = blocks.few;
             };
           },
         )

@@ -56,7 +56,7 @@ single_same Places begun placed named place n is = ap (λ b. single_chunk Places
 single_same Tight begun placed named place n is = refl
 
 -- the first chunks' bytes are those written next
-bytes_next : (ahead bytes next : List ℕ) (first left : List Chunk) → ahead ≡ bytes ++ chunk_bytes (first ++ left) → next ≡ bytes ++ chunk_bytes first
+pub bytes_next : (ahead bytes next : List ℕ) (first left : List Chunk) → ahead ≡ bytes ++ chunk_bytes (first ++ left) → next ≡ bytes ++ chunk_bytes first
     → ahead ≡ next ++ chunk_bytes left
 bytes_next ahead bytes next first left e n =
     e ∙ ap (λ x. bytes ++ x) (flat_map-append bytes_of first left) ∙ sym (append_assoc bytes (chunk_bytes first) (chunk_bytes left))

@@ -10,7 +10,7 @@ use Rattle.qoi.specs.inner.BlockLanes.{Lane, IsLane, mask, zero_mask, step_of, n
 use Rattle.qoi.proofs.encoding.LaneChunk.{three_small}
 
 -- what is at least a number is not below it
-not_lt : (a b : ℕ) → b ≤ a → nat_lt a b ≡ false
+pub not_lt : (a b : ℕ) → b ≤ a → nat_lt a b ≡ false
 not_lt a b l = grind arith
 
 -- both of two masks

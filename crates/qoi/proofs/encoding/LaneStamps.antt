@@ -1,5 +1,5 @@
 -- The lanes that are stamped, and what is counted from them.
-use Rattle.std.proofs.Common.{◌≡◌, ℕ, ◌+◌, ◌-◌, ◌<◌, ◌≤◌, Bool, true, false, List, length, map, replicate, slice_index, get_or, if◌then◌else◌, bit_and, sym, ap, ◌∙◌, arith}
+use Rattle.std.proofs.Common.{◌≡◌, ℕ, ◌+◌, ◌-◌, ◌<◌, Bool, true, false, List, length, map, replicate, slice_index, get_or, if◌then◌else◌, bit_and, sym, ap, ◌∙◌, arith}
 use Rattle.std.specs.Prelude.{max}
 use Rattle.std.specs.List.{range_with_len}
 use Rattle.std.proofs.lemmas.Nat.{and_mask, and_le_r}
@@ -37,7 +37,7 @@ module _ (rs : List Bool) (reps : List ℕ) (lr : length rs ≡ 16) (is : reps �
   )
 
 -- the repeats that are counted
-pub counted_lanes : (rs : List Bool) (c : ℕ) (xs ms tops : List ℕ) → c ≤ 46 → length rs ≡ 16 → AreStamps rs xs → AreMost xs 16 ms → length ms ≡ 16
+pub counted_lanes : (rs : List Bool) (c : ℕ) (xs ms tops : List ℕ) → c < 62 → length rs ≡ 16 → AreStamps rs xs → AreMost xs 16 ms → length ms ≡ 16
     → tops ≡ zip2 max ms (replicate 16 (63 - c)) → zip2 less numbers tops ≡ counts c rs
 counted_lanes rs c xs ms tops few lr stamped most lm is =
     let lt16 : length tops ≡ 16 = ap length is ∙ length-zip2 max ms (replicate 16 (63 - c)) lm ∙ lm in

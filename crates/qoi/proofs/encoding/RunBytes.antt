@@ -44,7 +44,7 @@ run_written c one at count out e l few =
     last_written c one at count out e l few ∙ ap (λ cs. take at out ++ chunk_bytes cs) (sym (few_by c count few))
 
 -- the bytes of full runs
-full_text : (k : ℕ) → chunk_bytes (replicate k (Run 62)) ≡ replicate k 253
+pub full_text : (k : ℕ) → chunk_bytes (replicate k (Run 62)) ≡ replicate k 253
 full_text zero = refl
 full_text (suc k) = ap (λ z. 253 ∷ z) (full_text k)
 
@@ -60,7 +60,7 @@ abbrev filled : ℕ → List ℕ → List ℕ
 filled at out = put_mid at (at + 16 - at) out (put_chunk 0 (take (at + 16 - at) (drop at out)) (replicate 16 253))
 
 -- the first of them
-filled_front : (at k : ℕ) (out : List ℕ) → at + 17 ≤ length out → k ≤ 16 → take (at + k) (filled at out) ≡ take at out ++ replicate k 253
+pub filled_front : (at k : ℕ) (out : List ℕ) → at + 17 ≤ length out → k ≤ 16 → take (at + k) (filled at out) ≡ take at out ++ replicate k 253
 filled_front at k out room few =
     let size : at + 16 - at ≡ 16 = omega arith in
     let held : length (take 16 (drop at out)) ≡ 16 = length-take-le 16 (drop at out) (omega (arith, length-drop at out)) in
@@ -71,9 +71,10 @@ filled_front at k out room few =
     ∙ take-append-add (take at out) (replicate 16 253 ++ post) k
     ∙ ap (λ z. take at out ++ z) (take-append-le k (replicate 16 253) post few ∙ take-replicate k 16 253 few)
 
--- at most 992 repeats, after the bytes before
-pub runs_written : (c : Chunk) (at count : ℕ) (out new : List ℕ) → at + 17 ≤ length out → count ≤ 992
-    → new ≡ take (at + count / 62) (filled at out) ++ chunk_bytes (runs_by c (count % 62)) → new ≡ take at out ++ chunk_bytes (runs_by c count)
-runs_written c at count out new room few e =
-    e ∙ ap (λ z. z ++ chunk_bytes (runs_by c (count % 62))) (filled_front at (count / 62) out room (omega arith))
-    ∙ append_assoc (take at out) (replicate (count / 62) 253) (chunk_bytes (runs_by c (count % 62))) ∙ ap (λ z. take at out ++ z) (sym (runs_text c count))
+-- full runs and the rest of a group, after the bytes before
+pub runs_written : (c : Chunk) (count : ℕ) (old full new : List ℕ) → full ≡ old ++ chunk_bytes (replicate (count / 62) (Run 62))
+    → new ≡ full ++ chunk_bytes (runs_by c (count % 62)) → new ≡ old ++ chunk_bytes (runs_by c count)
+runs_written c count old full new f e =
+    let rest = chunk_bytes (runs_by c (count % 62)) in
+    e ∙ ap (λ z. z ++ rest) f ∙ append_assoc old (chunk_bytes (replicate (count / 62) (Run 62))) rest
+    ∙ ap (λ z. old ++ z) (ap (λ z. z ++ rest) (full_text (count / 62)) ∙ sym (runs_text c count))

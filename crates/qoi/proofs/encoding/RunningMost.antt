@@ -99,7 +99,7 @@ counts_by c (false ∷ rs) (y ∷ ys) e step =
 abbrev pub less : ℕ → ℕ → ℕ
 less a b = (a + (256 - b)) % 256
 
-module _ (rs : List Bool) (c : ℕ) (xs ms ys : List ℕ) (few : c ≤ 46) (stamped : AreStamps rs xs) (most : AreMost xs 16 ms)
+module _ (rs : List Bool) (c : ℕ) (xs ms ys : List ℕ) (few : c < 62) (stamped : AreStamps rs xs) (most : AreMost xs 16 ms)
     (is : (k : ℕ) → k < 16 → slice_index ys k ≡ less (64 + k) (max (slice_index ms k) (63 - c))) where
   -- a member that was stamped is its index, or 0
   stamp_below : (k : ℕ) → k < 16 → slice_index xs k ≤ 64 + k

@@ -1,5 +1,5 @@
 -- The state between two blocks of sixteen pixels.
-use Rattle.std.specs.Prelude.{◌≡◌, ℕ, zero, suc, Bool, true, false, ◌&&◌, List, [], ◌∷◌, ◌++◌, replicate, slice_index}
+use Rattle.std.specs.Prelude.{◌≡◌, ℕ, zero, suc, Bool, true, false, ◌&&◌, List, [], ◌∷◌, ◌++◌, replicate, slice_get, slice_index, Some, ◌≤◌}
 use Rattle.qoi.specs.declared.encode.changes.Changes.{Changes}
 use Rattle.qoi.specs.declared.encode.planes.Planes.{Planes}
 use Rattle.qoi.specs.declared.types.Style.{Style}
@@ -15,7 +15,8 @@ use Rattle.qoi.specs.inner.Table.{Holds}
 -- Between two blocks: the pixels `rest` still come, `before` are those of the last block, and
 -- `carry` repeats of its last pixel have come but aren't among the bytes that are kept. `begun` says
 -- whether a fresh pixel came; if not, the next one is fresh. In style Places, `placed` says whether
--- the chunk before the repeats names their position.
+-- the chunk before the repeats names their position. If the next pixel repeats, too, so few are
+-- carried that a run of less than 62 ends in the next block.
 pub record BetweenBlocks (begun : Bool) (w : Writing) (rest : List RgbaPixel) (table : List RgbaPixel) (before : Planes) (carry : ℕ) (placed : Bool) (kept : List ℕ) : Type 0 where
   pub state : State
   pub carrying : Carrying begun w state rest kept
@@ -23,6 +24,7 @@ pub record BetweenBlocks (begun : Bool) (w : Writing) (rest : List RgbaPixel) (t
   pub before_is : IsLastOf state.last before
   pub carry_is : state.carry ≡ carry
   pub placed_is : w.list.style ≡ Places → state.placed ≡ placed
+  pub few : slice_get rest 0 ≡ Some state.last → carry ≤ 45
 
 -- the last of sixteen pixels
 abbrev pub last_pixel : Planes → RgbaPixel

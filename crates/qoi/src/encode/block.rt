@@ -121,7 +121,7 @@ impl Block {
     // positions, `places`.
     #[inline(always)]
     fn spell(self, style: Style, stands: u8x16, places: u8x16, carry: Carry) -> Spelled
-        requires { carry.count ≤ 46 }
+        requires { carry.count < run_max }
         ensures { (s : State) → IsPixel s.last → IsLastOf s.last carry.before
             → ChangesFrom carry.before (block_pixels self.words) self.changes
             → s.carry ≡ carry.count → (style ≡ Places → s.placed ≡ carry.placed)
@@ -214,7 +214,7 @@ pub(super) fn write_block<const N: usize, const STYLE: u8, const ROOM: usize>(
     carry: Carry,
 ) -> (usize, Carry)
     requires channels { IsChannels N }
-    requires few { carry.count ≤ 45 }
+    requires few { carry.count < run_max }
     requires opaque { N ≡ 3 → slice_index carry.before.a 15 ≡ 255 }
     requires room { at + BLOCK_ROOM ≤ length out.old }
     ensures same { length out.new ≡ length out.old }

@@ -5,7 +5,7 @@ ghost use Rattle.qoi.specs.declared.chunk.Chunk.{Chunk};
 ghost use Rattle.qoi.specs.declared.encode.block.TheConstants.{BLOCK_MAX};
 ghost use Rattle.qoi.specs.declared.encode.piece.TheConstants.{PAST, RUNS_AT_ONCE, REPEATS_AT_ONCE};
 ghost use Rattle.qoi.specs.declared.types.Style.TheVariants.{Tight};
-ghost use Rattle.qoi.specs.Qoi.{RgbaPixel, Past, chunk_max, previous, seen, hash, IsChunk, bytes_of};
+ghost use Rattle.qoi.specs.Qoi.{RgbaPixel, Past, run_max, chunk_max, previous, seen, hash, IsChunk, bytes_of};
 ghost use Rattle.qoi.specs.Raw.{IsChannels, IsChannels-prop, pixels_of};
 ghost use Rattle.qoi.specs.Runs.{runs_by};
 ghost use Rattle.qoi.specs.Written.{IsFirst};
@@ -16,13 +16,13 @@ ghost use Rattle.qoi.specs.inner.Piece.{kept_bytes};
 ghost use Rattle.qoi.specs.inner.Planes.{AreOpaque, block_pixels};
 ghost use Rattle.qoi.specs.inner.Table.{Holds};
 
-use crate::consts::QOI_OP_RUN;
+use crate::consts::{QOI_OP_RUN, QOI_RUN_MAX};
 use crate::encode::block::{Block, Carry};
 use crate::encode::fresh::spell_pixel;
 use crate::encode::packing::without_pads;
 use crate::encode::piece::{Piece, REPEATS_AT_ONCE};
 use crate::encode::planes::Planes;
-use crate::encode::runs::{begins_with, repeats_of};
+use crate::encode::runs::{begins_with, repeats_by_call, repeats_of};
 use crate::encode::table::PixelTable;
 use crate::packed::Packed;
 use crate::types::Style::{self, Places, Reference, Tight};
@@ -176,7 +176,7 @@ impl<const N: usize> Coder<N> {
     {
         let (near, _) = data.split_at(data.len().min(N * (REPEATS_AT_ONCE - carry)));
         // If more than 992 repeat, 992 are counted: sixteen runs of 62, so `one` isn't used.
-        let ahead = repeats_of::<N>(near, self.last);
+        let ahead = repeats_by_call::<N>(near, self.last);
         let count = carry + ahead;
         let one = if N * ahead == data.len() {
             // An index position stands for a repeat only if a fresh pixel follows.
@@ -324,7 +324,7 @@ impl<const N: usize> Coder<N> {
         requires channels { IsChannels N }
         requires whole { length «data».now % N ≡ 0 }
         requires some { 0 < length «data».now }
-        requires few { carry.count < 16 }
+        requires few { carry.count < run_max }
         requires opaque { N ≡ 3 → slice_index carry.before.a 15 ≡ 255 }
         requires room { piece.old.end < ROOM - PAST }
         requires pixels { block_pixels block.words
@@ -332,7 +332,7 @@ impl<const N: usize> Coder<N> {
         ensures end { piece.new.end ≤ piece.old.end + BLOCK_MAX }
         ensures inside { N * result.0 ≤ length «data».now }
         ensures some { 0 < result.0 }
-        ensures few { result.1.count < 16 }
+        ensures few { result.1.count < run_max }
         ensures before { result.1.before ≡ block.planes }
         ensures written { (w : Writing) (begun : Bool) → w.list.style ≡ style
             → FitsBlock N style table.old carry.before (block_pixels block.words) block.changes
@@ -351,8 +351,46 @@ impl<const N: usize> Coder<N> {
         )
     }
 
-    // Writes the repeats at the front, or these and the fresh pixel after them. Returns how many
-    // pixels came, and what is carried.
+    // Writes the full runs of the repeats at the front, after those that are carried; the others are
+    // carried. Returns how many pixels came, and what is carried.
+    #[inline(always)]
+    fn write_long_group<const ROOM: usize>(
+        piece: &mut Piece<ROOM>,
+        data: &[u8],
+        carry: Carry,
+    ) -> (usize, Carry)
+        requires channels { IsChannels N }
+        requires repeats { slice_get (pixels_of N «data».now) 0 ≡ Some (last_pixel carry.before) }
+        requires whole { length «data».now % N ≡ 0 }
+        requires some { 0 < length «data».now }
+        requires few { carry.count < run_max }
+        requires opaque { N ≡ 3 → slice_index carry.before.a 15 ≡ 255 }
+        requires room { piece.old.end < ROOM - PAST }
+        ensures end { piece.new.end ≤ piece.old.end + BLOCK_MAX }
+        ensures inside { N * result.0 ≤ length «data».now }
+        ensures some { 0 < result.0 }
+        ensures few { result.1.count < run_max }
+        ensures before { result.1.before ≡ carry.before }
+        ensures written { (w : Writing) (table : List RgbaPixel)
+            → CarryBetween true w (pixels_of N «data».now) table carry (kept_bytes piece.old)
+            → CarryBetween true w (pixels_of N (drop (N * result.0) «data».now)) table result.1
+            (kept_bytes piece.new) }
+    {
+        let carried = usize::from(carry.count);
+        let (near, _) = data.split_at(data.len().min(N * (REPEATS_AT_ONCE - carried)));
+        let ahead = repeats_of::<N>(near, Packed::read::<N>(data));
+        let count = carried + ahead;
+        piece.keep_full_runs(count / QOI_RUN_MAX);
+        let after = Carry {
+            before: carry.before,
+            count: (count % QOI_RUN_MAX) as u8,
+            placed: carry.placed & (count < QOI_RUN_MAX),
+        };
+        (ahead, after)
+    }
+
+    // Writes the repeats at the front and the fresh pixel after them. Returns how many pixels came,
+    // and what is carried.
     #[inline(always)]
     fn write_group<const ROOM: usize>(
         &mut self,
@@ -360,19 +398,16 @@ impl<const N: usize> Coder<N> {
         piece: &mut Piece<ROOM>,
         data: &[u8],
         carry: Carry,
-        repeats: bool,
     ) -> (usize, Carry)
         requires whole { length «data».now % N ≡ 0 }
         requires some { 0 < length «data».now }
-        requires few { carry.count < 16 }
+        requires few { carry.count < run_max }
         requires opaque { N ≡ 3 → slice_index carry.before.a 15 ≡ 255 }
         requires room { piece.old.end < ROOM - PAST }
-        requires repeats { IsTrue repeats → self.old.begun ≡ true
-            × (slice_get (pixels_of N «data».now) 0 ≡ Some (last_pixel carry.before)) }
         ensures end { piece.new.end ≤ piece.old.end + BLOCK_MAX }
         ensures inside { N * result.0 ≤ length «data».now }
         ensures some { 0 < result.0 }
-        ensures few { result.1.count < 16 }
+        ensures few { result.1.count < run_max }
         ensures opaque { N ≡ 3 → slice_index result.1.before.a 15 ≡ 255 }
         ensures written { (w : Writing) → StepBetween w (pixels_of N «data».now) table.old self.old
             carry (kept_bytes piece.old)
@@ -380,17 +415,7 @@ impl<const N: usize> Coder<N> {
             result.1 (kept_bytes piece.new) }
     {
         self.take_over(carry);
-        let repeated = usize::from(carry.count);
-        if repeats {
-            let count = self.write_runs(table, piece, data, repeated);
-            let after = Carry {
-                before: carry.before,
-                count: 0,
-                placed: self.placed,
-            };
-            return (count, after);
-        }
-        let count = self.write_next(table, piece, data, repeated);
+        let count = self.write_next(table, piece, data, usize::from(carry.count));
         (count, self.carry())
     }
 
@@ -410,13 +435,13 @@ impl<const N: usize> Coder<N> {
     ) -> (usize, Carry)
         requires whole { length «data».now % N ≡ 0 }
         requires some { 0 < length «data».now }
-        requires few { carry.count < 16 }
+        requires few { carry.count < run_max }
         requires opaque { N ≡ 3 → slice_index carry.before.a 15 ≡ 255 }
         requires room { piece.old.end < ROOM - PAST }
         ensures end { piece.new.end ≤ piece.old.end + BLOCK_MAX }
         ensures inside { N * result.0 ≤ length «data».now }
         ensures some { 0 < result.0 }
-        ensures few { result.1.count < 16 }
+        ensures few { result.1.count < run_max }
         ensures opaque { N ≡ 3 → slice_index result.1.before.a 15 ≡ 255 }
         ensures written { (w : Writing) → w.list.style ≡ style
             → StepBetween w (pixels_of N «data».now) table.old self.old
@@ -424,7 +449,6 @@ impl<const N: usize> Coder<N> {
             → StepBetween w (pixels_of N (drop (N * result.0) «data».now)) table.new self.new
             result.1 (kept_bytes piece.new) }
     {
-        let mut repeats = false;
         if self.goes_by_block(data) {
             let block = Block::first::<N>(data, carry.before);
             if Coder::<N>::takes(style, table, block) {
@@ -433,9 +457,11 @@ impl<const N: usize> Coder<N> {
                     style, table, piece, data, block, carry,
                 );
             }
-            repeats = self.begun & block.repeats();
+            if self.begun & block.repeats() {
+                return Coder::<N>::write_long_group(piece, data, carry);
+            }
         }
-        self.write_group(table, piece, data, carry, repeats)
+        self.write_group(table, piece, data, carry)
     }
 
     /// Writes until the piece is full or nothing is left, and updates what is carried. Returns the
@@ -452,14 +478,14 @@ impl<const N: usize> Coder<N> {
         carry: &mut Carry,
     ) -> &'a [u8]
         requires whole { length «data».now % N ≡ 0 }
-        requires few { carry.old.count < 16 }
+        requires few { carry.old.count < run_max }
         requires opaque { N ≡ 3 → slice_index carry.old.before.a 15 ≡ 255 }
         requires room { piece.old.end < ROOM - PAST }
         ensures end { piece.new.end < ROOM - PAST + BLOCK_MAX }
         ensures all { piece.new.end < ROOM - PAST → length result.now ≡ 0 }
         ensures some { ROOM - PAST ≤ piece.new.end → length result.now < length «data».entry.now }
         ensures whole { length result.now % N ≡ 0 }
-        ensures few { carry.new.count < 16 }
+        ensures few { carry.new.count < run_max }
         ensures opaque { N ≡ 3 → slice_index carry.new.before.a 15 ≡ 255 }
         ensures written { (w : Writing) → w.list.style ≡ style
             → StepBetween w (pixels_of N «data».entry.now) table.old self.old carry.old
@@ -486,7 +512,7 @@ impl<const N: usize> Coder<N> {
         piece: &mut Piece<ROOM>,
         carry: Carry,
     )
-        requires few { carry.count < 16 }
+        requires few { carry.count < run_max }
         requires opaque { N ≡ 3 → slice_index carry.before.a 15 ≡ 255 }
         requires room { piece.old.end < ROOM - PAST }
         ensures end { piece.new.end ≤ piece.old.end + RUNS_AT_ONCE + 1 }

@@ -1,5 +1,6 @@
 //! Repeats of sixteen pixels, counted lane by lane.
-ghost use Rattle.std.specs.Prelude.{◌≡◌, ◌+◌, ◌≤◌, ℕ, Bool, List, ◌++◌, length, map, take, replicate};
+ghost use Rattle.std.specs.Prelude.{◌≡◌, ◌+◌, ◌<◌, ℕ, Bool, List, ◌++◌, length, map, take, replicate};
+ghost use Rattle.qoi.specs.Qoi.{run_max};
 ghost use Rattle.qoi.specs.inner.BlockLanes.{mask};
 ghost use Rattle.qoi.specs.inner.Counts.{counts, AreMost, AreStamps};
 
@@ -83,7 +84,7 @@ fn stamps(rep: u8x16) -> u8x16
 /// less that of the last one which doesn't repeat.
 #[inline(always)]
 pub(super) fn count_repeats(rep: u8x16, carry: u8) -> u8x16
-    requires { carry ≤ 46 }
+    requires { carry < run_max }
     ensures { (rs : List Bool) → length rs ≡ 16 → rep ≡ map mask rs → result ≡ counts carry rs }
 {
     let most = greater(running_most(stamps(rep)), u8x16::splat(63 - carry));

@@ -1,8 +1,9 @@
 //! The bytes of a file that are kept before they go to a writer.
 ghost use lib.Lanes.{digits_l};
-ghost use Rattle.std.specs.Prelude.{◌≡◌, ℕ, Bool, true, ◌+◌, ◌-◌, ◌*◌, ◌/◌, ◌^◌, ◌<◌, ◌≤◌, List, [], ◌∷◌, ◌++◌, length, take, drop, slice_index, IsTrue, IsFalse, OnOk, IfErr};
+ghost use Rattle.std.specs.Prelude.{◌≡◌, ℕ, Bool, true, ◌+◌, ◌-◌, ◌*◌, ◌/◌, ◌^◌, ◌<◌, ◌≤◌, List, [], ◌∷◌, ◌++◌, length, take, drop, replicate, slice_index, IsTrue, IsFalse, OnOk, IfErr};
 ghost use Rattle.std.specs.List.{copy_within};
 ghost use Rattle.qoi.specs.declared.chunk.Chunk.{Chunk};
+ghost use Rattle.qoi.specs.declared.chunk.Chunk.TheVariants.{Run};
 ghost use Rattle.qoi.specs.declared.encode.block.TheConstants.{BLOCK_MAX};
 ghost use Rattle.qoi.specs.declared.encode.piece.TheConstants.{PAST, RUNS_AT_ONCE, REPEATS_AT_ONCE};
 ghost use Rattle.qoi.specs.Qoi.{RgbaPixel, run_max, chunk_max, bytes_of, chunk_bytes};
@@ -112,6 +113,22 @@ impl<'a, const ROOM: usize> Piece<'a, ROOM> {
         self.end += usize::from(count > 0);
     }
 
+    /// Appends runs of 62 repeats, at most sixteen.
+    #[inline(always)]
+    pub(super) fn keep_full_runs(&mut self, runs: usize)
+        requires room { self.old.end + RUNS_AT_ONCE < ROOM }
+        requires few { runs ≤ RUNS_AT_ONCE }
+        ensures kept { kept_bytes self.new
+            ≡ kept_bytes self.old ++ chunk_bytes (replicate runs (Run run_max)) }
+        ensures end { self.new.end ≡ self.old.end + runs }
+    {
+        // Sixteen are stored, and as many of them kept.
+        u8x16::splat(QOI_OP_RUN - 1 + QOI_RUN_MAX as u8).copy_to_slice(
+            &mut self.bytes[self.end..self.end + RUNS_AT_ONCE],
+        );
+        self.end += runs;
+    }
+
     /// Appends the runs of at most 992 repeats; a single one that is left after runs of 62 is the
     /// byte `one`.
     #[inline(always)]
@@ -122,11 +139,7 @@ impl<'a, const ROOM: usize> Piece<'a, ROOM> {
             → kept_bytes self.new ≡ kept_bytes self.old ++ chunk_bytes (runs_by c count) }
         ensures end { self.new.end ≤ self.old.end + count / run_max + 1 }
     {
-        // Sixteen runs of 62 are stored, and as many of them kept as `count` holds.
-        u8x16::splat(QOI_OP_RUN - 1 + QOI_RUN_MAX as u8).copy_to_slice(
-            &mut self.bytes[self.end..self.end + RUNS_AT_ONCE],
-        );
-        self.end += count / QOI_RUN_MAX;
+        self.keep_full_runs(count / QOI_RUN_MAX);
         self.keep_run(count % QOI_RUN_MAX, one);
     }
 
@@ -141,7 +154,7 @@ impl<'a, const ROOM: usize> Piece<'a, ROOM> {
         carry: Carry,
     ) -> Carry
         requires channels { IsChannels N }
-        requires few { carry.count ≤ 45 }
+        requires few { carry.count < run_max }
         requires opaque { N ≡ 3 → slice_index carry.before.a 15 ≡ 255 }
         requires room { self.old.end < ROOM - PAST }
         ensures end { self.new.end ≤ self.old.end + BLOCK_MAX }

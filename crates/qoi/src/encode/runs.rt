@@ -16,12 +16,23 @@ pub fn repeats<const N: usize>(data: &[u8], px: Pixel<N>) -> usize
     requires { IsChannels N }
     ensures { IsCount (rgba px.entry) (pixels_of N «data».now) result }
 {
-    repeats_of::<N>(data, px.packed())
+    repeats_by_call::<N>(data, px.packed())
+}
+
+/// `repeats_of` as a function of its own, for callers that don't need their own copy.
+#[inline(never)]
+pub(super) fn repeats_by_call<const N: usize>(data: &[u8], px: Packed) -> usize
+    requires channels { IsChannels N }
+    requires opaque { N ≡ 3 → px.a ≡ 255 }
+    ensures within { result ≤ length «data».now }
+    ensures counted { IsCount px (pixels_of N «data».now) result }
+{
+    repeats_of::<N>(data, px)
 }
 
 /// How many whole pixels at the front of `data` equal `px`: counted by blocks of sixteen pixels,
 /// and then pixel by pixel.
-#[inline(never)]
+#[inline(always)]
 pub(super) fn repeats_of<const N: usize>(data: &[u8], px: Packed) -> usize
     requires channels { IsChannels N }
     requires opaque { N ≡ 3 → px.a ≡ 255 }

@@ -1,8 +1,8 @@
 //! The chunks of sixteen pixels, a lane for each: first and second bytes, and sizes (QOI
 //! specification 1.0, "Chunks"). A repeat has a run's byte if a fresh pixel follows, else none.
-ghost use Rattle.std.specs.Prelude.{◌≡◌, ◌≤◌, ℕ, List, [], ◌∷◌, ◌++◌, drop, map};
+ghost use Rattle.std.specs.Prelude.{◌≡◌, ◌<◌, ℕ, List, [], ◌∷◌, ◌++◌, drop, map};
 ghost use Rattle.qoi.specs.declared.types.Style.TheVariants.{Reference};
-ghost use Rattle.qoi.specs.Qoi.{RgbaPixel, hash};
+ghost use Rattle.qoi.specs.Qoi.{RgbaPixel, run_max, hash};
 ghost use Rattle.qoi.specs.inner.BlockBytes.{firsts, sizes};
 ghost use Rattle.qoi.specs.inner.BlockLanes.{Lane, mask, diff_of, near, keep_mask, diff_mask, luma_mask, stand_mask, first_of, second_of, size_of};
 ghost use Rattle.qoi.specs.inner.LaneVectors.{AreBy, AreSteps, AreNear, AreFar, AreFits, AreChanges};
@@ -166,7 +166,7 @@ pub(super) fn spell_block(
     places: u8x16,
     carry: u8,
 ) -> Spelled
-    requires { carry ≤ 46 }
+    requires { carry < run_max }
     ensures { (s : State) (ps : List RgbaPixel) → s.carry ≡ carry
         → AreChanges (lanes_of s.held s.last ps) changes → IsBlock s ps red stands places
         → HasSpelled Reference s ps result }

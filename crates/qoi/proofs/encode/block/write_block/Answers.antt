@@ -1,5 +1,6 @@
 -- The repeats before the block, if a fresh pixel follows them, and the block's chunks.
-use Rattle.std.proofs.Common.{◌≡◌, ◌==◌, eqb-true, inl, inr, true, false, ℕ, ◌+◌, ◌-◌, ◌≤◌, List, ◌++◌, map, get_or, take, slice_index, arith, refl, sym, ap, ◌∙◌, subst}
+use Rattle.std.proofs.Common.{◌≡◌, ◌==◌, eqb-true, inl, inr, true, false, ℕ, ◌+◌, ◌-◌, ◌≤◌, List, ◌++◌, map, get_or, take, slice_index, Some, arith, refl, sym, ap, ◌∙◌, subst}
+use Rattle.std.specs.List.{slice_get}
 use Rattle.qoi.specs.declared.types.Style.TheVariants.{Places}
 use Rattle.qoi.specs.Qoi.{RgbaPixel, IsPixel, hash}
 use Rattle.qoi.specs.Raw.{IsChannels}
@@ -51,13 +52,13 @@ returns-clause-written g c = λ w begun pads ps rest style pad_is some fits b.
     let spelled = c.spell-x.ensures s last b.before_is fits.changes b.carry_is placed put.stands_are at in
     let x = c.spell-x.result in
     let rep = slice_index x.rep 0 in
-    let few : s.carry ≤ 45 = omega (arith, b.carry_is, c.requires.few) in
+    let few : slice_get (ps ++ rest) 0 ≡ Some s.last → s.carry ≤ 45 = λ e. omega (arith, b.carry_is, b.few e) in
     let q_is : s.last ≡ last_pixel c.args.carry.before = last_of_planes s.last c.args.carry.before b.before_is in
-    let start = ready w c.args.style s all (ps ++ rest) x _ c.args.carry.placed (last_pixel c.args.carry.before) c.args.carry.count _ _ style few b.carrying
+    let start = ready w c.args.style s all (ps ++ rest) x _ c.args.carry.placed (last_pixel c.args.carry.before) c.args.carry.count _ _ style (omega (arith, b.carry_is, c.requires.few)) few b.carrying
     (padded_front ps rest all pads pad_is some) spelled sixteen refl q_is b.carry_is placed
     (group_stored c.args.style (rep == 0) c.args.carry.placed (last_pixel c.args.carry.before) c.args.carry.count c.args.at c.end-start.result c.byte.result c.args.out.now c.store_lanes.new.out
     (omega (arith, c.requires.room)) c.store_lanes.ensures.stored c.byte.ensures
-    (λ e. c.end-start.ensures.stays (omega (arith, first_repeats s all x spelled sixteen e, few, b.carry_is)))
+    (λ e. c.end-start.ensures.stays (omega (arith, first_repeats s all x spelled sixteen e, c.requires.few)))
     (λ e. c.end-start.ensures.stays (omega (arith, e)))
     (λ e some. c.end-start.ensures.some (omega (arith, eqb-true rep 0 e, some)))) in
     let out : List ℕ = take c.put_sixteen-end.result c.put_sixteen-end.new.out in

@@ -1,6 +1,7 @@
 -- The coder stands between two steps, and the piece isn't full.
 use Rattle.std.proofs.Common.{◌≡◌, ◌-◌, ◌%◌, ◌<◌, length, slice_index}
 use Rattle.qoi.specs.declared.encode.piece.TheConstants.{PAST}
+use Rattle.qoi.specs.Qoi.{run_max}
 use Rattle.qoi.specs.inner.Piece.{kept_bytes}
 use Rattle.qoi.proofs.encoding.PieceByPiece.{PieceBetween}
 use Rattle.qoi.proofs.encode.chunks.encode_pixels.Given as goal
@@ -9,7 +10,7 @@ abbrev pub invariant-loop-rest : goal.invariant-loop-rest
 invariant-loop-rest g l = record {
   end : l.piece.end < g.row.ROOM - PAST;
   whole : length l.rest % g.row.N ≡ 0;
-  few : l.carry.count < 16;
+  few : l.carry.count < run_max;
   opaque : g.row.N ≡ 3 → slice_index l.carry.before.a 15 ≡ 255;
   state : PieceBetween g.W.Writer.wrote g.W.Writer.room
       (record { start = l.initial.writer; front = kept_bytes l.initial.piece; style = l.fn.style; raw = l.data })

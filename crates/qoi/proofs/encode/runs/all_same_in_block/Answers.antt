@@ -1,5 +1,5 @@
 -- All bits are set if none is left out by `&`.
-use Rattle.std.proofs.Common.{◌≡◌, ◌∙◌, ◌+◌, ◌-◌, ◌*◌, ◌^◌, ◌≤◌, ◌<◌, ◌%◌, ℕ, IsTrue, nat_eq, eqb-true, ap, sym, arith, refl}
+use Rattle.std.proofs.Common.{◌≡◌, ◌∙◌, ◌+◌, ◌-◌, ◌*◌, ◌^◌, ◌≤◌, ◌<◌, ◌%◌, ℕ, nat_eq, eqb-true, ap, sym, arith, refl}
 use Rattle.std.proofs.lemmas.Nat.{and_le_l, and_le_r}
 use Rattle.std.specs.Int.Bits.{bit_and}
 use Rattle.qoi.proofs.encoding.PixelBlock.{bits_of_3, bits_of_4}

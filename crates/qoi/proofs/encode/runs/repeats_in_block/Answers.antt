@@ -1,5 +1,4 @@
 -- The first clear bit is in the first pixel that differs.
-use Rattle.std.proofs.Common.{sym}
 use Rattle.qoi.proofs.encoding.PixelBlock.{front_of, whole_block}
 use Rattle.qoi.proofs.encode.runs.repeats_in_block.Goals as goal
 

@@ -2,6 +2,7 @@
 use Rattle.std.proofs.Common.{◌≡◌, ◌+◌, ◌-◌, ◌%◌, ◌<◌, ◌≤◌, length, slice_index}
 use Rattle.qoi.specs.declared.encode.block.TheConstants.{BLOCK_MAX}
 use Rattle.qoi.specs.declared.encode.piece.TheConstants.{PAST}
+use Rattle.qoi.specs.Qoi.{run_max}
 use Rattle.qoi.specs.Raw.{pixels_of}
 use Rattle.qoi.specs.inner.CarryLoop.{StepBetween}
 use Rattle.qoi.specs.inner.CoderLoop.{Writing}
@@ -14,7 +15,7 @@ invariant-loop-style g l = record {
   left : length l.rest ≤ length l.data;
   some : g.row.ROOM - PAST ≤ l.piece.end → length l.rest < length l.data;
   whole : length l.rest % g.row.N ≡ 0;
-  few : l.now.count < 16;
+  few : l.now.count < run_max;
   opaque : g.row.N ≡ 3 → slice_index l.now.before.a 15 ≡ 255;
   written : (w : Writing) → w.list.style ≡ l.style
       → StepBetween w (pixels_of g.row.N l.data) l.initial.table l.initial.self l.initial.now (kept_bytes l.initial.piece)

@@ -1,13 +1,11 @@
 -- A block, or a group.
-use Rattle.std.proofs.Common.{◌≡◌, ◌-◌, ◌/◌, Some, true, length, take, slice_index, sym, ap, ◌∙◌, arith}
-use Rattle.std.specs.List.{slice_get}
+use Rattle.std.proofs.Common.{◌≡◌, ◌-◌, ◌/◌, true, length, take, slice_index, sym, ap, ◌∙◌, arith}
 use Rattle.std.proofs.lemmas.Bool.{true≢false, and_parts}
 use Rattle.qoi.specs.declared.encode.planes.Planes.{Planes}
 use Rattle.qoi.specs.Raw.{pixels_of}
 use Rattle.qoi.specs.inner.Blocks.{all_repeat, last_pixel, padded}
 use Rattle.qoi.proofs.encoding.CoderLink.{step_blocks}
 use Rattle.qoi.proofs.encoding.FrontBlock.{repeats_first, last_opaque}
-use Rattle.qoi.proofs.encode.coder.Coder.write_front.Goals.{then-goes_by_block+else-takes, else-goes_by_block}
 use Rattle.qoi.proofs.encode.coder.Coder.write_front.Goals as goal
 
 pub returns-then-takes-clause-opaque : goal.returns-then-takes-clause-opaque
@@ -27,18 +25,25 @@ returns-then-takes-clause-written g c = λ w style b.
       by_blocks = λ _. c.write_block.ensures.written w begun style fits (step_blocks b (c.goes_by_block.ensures c.if-goes_by_block.true));
     }
 
-pub write_group-requires : goal.write_group-requires
-write_group-requires g c =
+pub returns-then-self-repeats-clause-opaque : goal.returns-then-self-repeats-clause-opaque
+returns-then-self-repeats-clause-opaque g c = λ three. ap (λ (x : Planes). slice_index x.a 15) c.write_long_group.ensures.before ∙ c.requires.opaque three
+
+pub returns-then-self-repeats-clause-written : goal.returns-then-self-repeats-clause-written
+returns-then-self-repeats-clause-written g c = λ w style b.
+    let begun : c.args.self.now.begun ≡ true = (and_parts c.args.self.now.begun c.repeats.result c.if-self-repeats.true).0 in
+    record {
+      style_is = b.style_is;
+      opening = λ no. absurd (true≢false (sym begun ∙ no));
+      by_blocks = λ _. c.write_long_group.ensures.written w c.args.table.now (b.by_blocks begun);
+    }
+
+pub write_long_group-requires : goal.write_long_group-requires
+write_long_group-requires g c =
     let n = g.row.N in
     let raw = c.args.data.now in
     let q = last_pixel c.args.carry.before in
-    let first : c.if-goes_by_block.repeats ≡ true → (c.args.self.now.begun ≡ true) × (slice_get (pixels_of n raw) 0 ≡ Some q) = λ is.
-    elim c.if-goes_by_block.branch as (λ _. (c.args.self.now.begun ≡ true) × (slice_get (pixels_of n raw) 0 ≡ Some q)) [
-      | then-goes_by_block+else-takes x ↦
-          (let both = and_parts c.args.self.now.begun x.repeats.result (sym x.repeats-is ∙ is) in
-          let all : all_repeat q (padded (take 16 (pixels_of n raw)) (16 - length raw / n)) ≡ true =
-          sym (ap (all_repeat q) x.first-block.ensures.pixels) ∙ sym (x.repeats.ensures c.args.carry.before x.first-block.ensures.changes) ∙ both.1 in
-          (both.0, repeats_first n raw q (16 - length raw / n) c.args.self.now.channels c.requires.whole c.requires.some all))
-      | else-goes_by_block y ↦ absurd (true≢false (sym is ∙ y.repeats-is))
-    ] in
-    (omega arith, (omega arith, (c.requires.whole, (c.requires.some, (c.requires.few, (c.requires.opaque, (c.requires.room, first)))))))
+    let both = and_parts c.args.self.now.begun c.repeats.result c.if-self-repeats.true in
+    let all : all_repeat q (padded (take 16 (pixels_of n raw)) (16 - length raw / n)) ≡ true =
+    sym (ap (all_repeat q) c.first-block.ensures.pixels) ∙ sym (c.repeats.ensures c.args.carry.before c.first-block.ensures.changes) ∙ both.1 in
+    let first = repeats_first n raw q (16 - length raw / n) c.args.self.now.channels c.requires.whole c.requires.some all in
+    (omega arith, (c.args.self.now.channels, (first, (c.requires.whole, (c.requires.some, (c.requires.few, (c.requires.opaque, c.requires.room)))))))

@@ -13,40 +13,40 @@ use Rattle.qoi.proofs.format.ChunkSteps.{repeats_after}
 use Rattle.qoi.proofs.encoding.CoderSteps.{group_written}
 use Rattle.qoi.proofs.encoding.GroupRuns.{NearGroup, near_group, none_of_few, some_pixels}
 use Rattle.qoi.proofs.encode.coder.Coder.write_runs.Given.{Over}
-use Rattle.qoi.proofs.encode.coder.Coder.write_runs.Goals.{After-repeats_of-ahead, then-ahead-data, else-ahead-data}
+use Rattle.qoi.proofs.encode.coder.Coder.write_runs.Goals.{After-repeats_by_call-ahead, then-ahead-data, else-ahead-data}
 use Rattle.qoi.proofs.encode.coder.Coder.write_runs.Goals as goal
 
 -- the repeats stand ahead
-near : (g : Over) (c : After-repeats_of-ahead g) → NearGroup g.row.N c.args.data.now c.args.self.now.last (REPEATS_AT_ONCE - c.args.carry) c.repeats_of-ahead.result
+near : (g : Over) (c : After-repeats_by_call-ahead g) → NearGroup g.row.N c.args.data.now c.args.self.now.last (REPEATS_AT_ONCE - c.args.carry) c.repeats_by_call-ahead.result
 near g c =
-    let n = c.repeats_of-ahead.result in
-    let counted = subst (λ xs. IsCount c.args.self.now.last (pixels_of g.row.N xs) n) c.split_at.ensures.front c.repeats_of-ahead.ensures.counted in
+    let n = c.repeats_by_call-ahead.result in
+    let counted = subst (λ xs. IsCount c.args.self.now.last (pixels_of g.row.N xs) n) c.split_at.ensures.front c.repeats_by_call-ahead.ensures.counted in
     near_group g.row.N c.args.data.now c.args.self.now.last (REPEATS_AT_ONCE - c.args.carry) n _ c.args.self.now.channels c.requires.whole c.min.ensures counted
 
-pub repeats_of-ahead-requires-clause-opaque : goal.repeats_of-ahead-requires-clause-opaque
-repeats_of-ahead-requires-clause-opaque g c = c.args.self.now.opaque
+pub repeats_by_call-ahead-requires-clause-opaque : goal.repeats_by_call-ahead-requires-clause-opaque
+repeats_by_call-ahead-requires-clause-opaque g c = c.args.self.now.opaque
 
 pub keep_runs-requires : goal.keep_runs-requires
-keep_runs-requires g c = (omega arith, (c.requires.room, omega (arith, (near g (goal.at.keep_runs-requires g c).After-repeats_of-ahead).few, c.requires.few)))
+keep_runs-requires g c = (omega arith, (c.requires.room, omega (arith, (near g (goal.at.keep_runs-requires g c).After-repeats_by_call-ahead).few, c.requires.few)))
 
 pub returns-clause-end : goal.returns-clause-end
-returns-clause-end g c = omega (arith, c.keep_runs.ensures.end, (near g (goal.at.returns-clause-end g c).After-repeats_of-ahead).few, c.requires.few)
+returns-clause-end g c = omega (arith, c.keep_runs.ensures.end, (near g (goal.at.returns-clause-end g c).After-repeats_by_call-ahead).few, c.requires.few)
 
 pub returns-clause-inside : goal.returns-clause-inside
-returns-clause-inside g c = (near g (goal.at.returns-clause-inside g c).After-repeats_of-ahead).within
+returns-clause-inside g c = (near g (goal.at.returns-clause-inside g c).After-repeats_by_call-ahead).within
 
 pub returns-clause-stops : goal.returns-clause-stops
 returns-clause-stops g c =
-    let group = near g (goal.at.returns-clause-stops g c).After-repeats_of-ahead in
+    let group = near g (goal.at.returns-clause-stops g c).After-repeats_by_call-ahead in
     elim group.ends [ inl other ↦ inl other | inr e ↦ inr (omega (arith, e, c.requires.few)) ]
 
 pub returns-clause-written : goal.returns-clause-written
 returns-clause-written g c w b =
-    let n = c.repeats_of-ahead.result in
+    let n = c.repeats_by_call-ahead.result in
     let k = c.args.carry in
     let coder = c.args.self.now in
     let raw = c.args.data.now in
-    let group = near g (goal.at.returns-clause-written g c).After-repeats_of-ahead in
+    let group = near g (goal.at.returns-clause-written g c).After-repeats_by_call-ahead in
     let later = drop (g.row.N * n) raw in
     let rest = pixels_of g.row.N later in
     let size = length-drop (g.row.N * n) raw in

@@ -1,9 +1,8 @@
--- Sixteen full runs are stored; those in `count` are kept, and then the rest.
-use Rattle.std.proofs.Common.{arith}
+-- Full runs are kept, and then the rest.
+use Rattle.qoi.specs.inner.Piece.{kept_bytes}
 use Rattle.qoi.proofs.encoding.RunBytes.{runs_written}
 use Rattle.qoi.proofs.encode.piece.Piece.keep_runs.Goals as goal
 
 pub returns-clause-kept : goal.returns-clause-kept
 returns-clause-kept g c = λ chunk e.
-    (let s = c.args.self.now in
-    runs_written chunk s.end c.args.count s.bytes.now _ (omega (arith, s.room, c.requires.room)) c.requires.few (c.keep_run.ensures.kept chunk e))
+    runs_written chunk c.args.count (kept_bytes c.args.self.now) _ _ c.keep_full_runs.ensures.kept (c.keep_run.ensures.kept chunk e)
