@@ -2,7 +2,7 @@
 ghost use Rattle.std.specs.Prelude.{◌≡◌, ℕ, ◌*◌, ◌<◌, ◌≤◌, List, length, ◌⊎◌, Ok, Err, IsErrOf, IsOk, IsOkUnless, IfOk, IfErr};
 ghost use Rattle.std.specs.Io.KnownBytes.{Appends};
 ghost use Rattle.qoi.specs.declared.header.Header.{Header};
-ghost use Rattle.qoi.specs.declared.encode.piece.TheConstants.{PAST, STREAM_ROOM};
+ghost use Rattle.qoi.specs.declared.encode.piece.TheConstants.{PAST, FULL_ROOM};
 ghost use Rattle.qoi.specs.declared.error.Error.{Error};
 ghost use Rattle.qoi.specs.declared.types.Channels.{Channels};
 ghost use Rattle.qoi.specs.declared.types.ColorSpace.{ColorSpace};
@@ -37,7 +37,7 @@ mod table;
 
 use crate::consts::QOI_PADDING;
 use crate::encode::chunks::encode_chunks;
-use crate::encode::piece::{BUFFER_ROOM, Piece, STREAM_ROOM};
+use crate::encode::piece::{FULL_ROOM, Piece, SMALL_ROOM};
 use crate::error::{Error, Result};
 use crate::header::{Header, max_len};
 use crate::types::{Channels, ColorSpace, Style};
@@ -46,6 +46,10 @@ use std::alloc::Global;
 use std::io::Write;
 use std::marker::Model;
 
+// An image of so many raw bytes goes to memory through a piece of 4096 bytes, a smaller one through
+// a piece of 512.
+const LARGE_IMAGE: usize = 8192;
+
 // Writes the file of an image through a piece with this room, and returns how many bytes it has.
 fn encode_image<W: Writer, const ROOM: usize>(
     writer: &mut W,
@@ -53,7 +57,7 @@ fn encode_image<W: Writer, const ROOM: usize>(
     header: &Header,
     data: &[u8],
 ) -> Result<usize>
-    requires piece { (2 * PAST ≤ ROOM) × (ROOM ≤ STREAM_ROOM) }
+    requires piece { (2 * PAST ≤ ROOM) × (ROOM ≤ FULL_ROOM) }
     requires valid { IsValid header.now }
     requires image { length «data».now ≡ image_byte_count header.now }
     requires room { max_file_len header.now ≤ W.room writer.old }
@@ -72,6 +76,29 @@ fn encode_image<W: Writer, const ROOM: usize>(
     piece.keep(&QOI_PADDING);
     piece.finish(writer)?;
     Ok(room - writer.capacity())
+}
+
+// Writes the file of an image to memory, and returns how many bytes it has.
+fn encode_to_memory<W: Writer>(
+    writer: &mut W,
+    style: Style,
+    header: &Header,
+    data: &[u8],
+) -> Result<usize>
+    requires valid { IsValid header.now }
+    requires image { length «data».now ≡ image_byte_count header.now }
+    requires room { max_file_len header.now ≤ W.room writer.old }
+    ensures written { IfOk result (λ n. (bytes : List ℕ)
+        × IsFileOf style header.now «data».now bytes
+        × (n ≡ length bytes) × W.wrote writer.old bytes writer.new) }
+    ensures refused { IfErr result (λ e. W.IsFault e × (bytes : List ℕ)
+        × IsFileOf style header.now «data».now bytes
+        × WroteBeginning W.wrote writer.old bytes writer.new) }
+{
+    if data.len() < LARGE_IMAGE {
+        return encode_image::<W, SMALL_ROOM>(writer, style, header, data);
+    }
+    encode_image::<W, FULL_ROOM>(writer, style, header, data)
 }
 
 // The channels that an image of this size has in these raw bytes. Only a refusal takes a division.
@@ -278,7 +305,7 @@ impl<'a> Encoder<'a> {
             });
         }
         let mut writer = BytesMut::new(buf);
-        let n = encode_image::<_, BUFFER_ROOM>(&mut writer, self.style, &self.header, self.data)?;
+        let n = encode_to_memory(&mut writer, self.style, &self.header, self.data)?;
         Ok(n)
     }
 
@@ -295,7 +322,7 @@ impl<'a> Encoder<'a> {
     {
         let mut file = Vec::with_capacity(alloc, self.required_buf_len())?;
         let mut writer = VecMut::new(&mut file);
-        encode_image::<_, BUFFER_ROOM>(&mut writer, self.style, &self.header, self.data)?;
+        encode_to_memory(&mut writer, self.style, &self.header, self.data)?;
         file.shrink_to_fit();
         Ok(file)
     }
@@ -316,7 +343,7 @@ impl<'a> Encoder<'a> {
             × SendsPart self.now (W.contents writer.old) (W.contents writer.new)) }
     {
         let mut writer = GenericWriter::new(writer);
-        let n = encode_image::<_, STREAM_ROOM>(&mut writer, self.style, &self.header, self.data)?;
+        let n = encode_image::<_, FULL_ROOM>(&mut writer, self.style, &self.header, self.data)?;
         Ok(n)
     }
 }

@@ -25,12 +25,13 @@ use std::simd::prelude::*;
 /// means nothing.
 pub(super) const PAST: usize = 128;
 
-/// The room of a stream's piece. A full one has 4096 bytes, which the writer is sent at once.
-pub(super) const STREAM_ROOM: usize = 4096 + PAST;
+/// The room of a piece of 4096 bytes, for all images that go to a writer, and for large ones. A
+/// writer is sent a full one at once.
+pub(super) const FULL_ROOM: usize = 4096 + PAST;
 
-/// The room of a buffer's or a vector's piece, 512 bytes when full: for a small image, zeroing more
-/// takes a good part of the time.
-pub(super) const BUFFER_ROOM: usize = 512 + PAST;
+/// The room of a piece of 512 bytes, for a small image that goes to memory: zeroing more takes a
+/// good part of the time.
+pub(super) const SMALL_ROOM: usize = 512 + PAST;
 
 /// The most runs that are kept at a time, stored at once as a vector.
 pub(super) const RUNS_AT_ONCE: usize = 16;

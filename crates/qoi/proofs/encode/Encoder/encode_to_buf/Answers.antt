@@ -10,7 +10,7 @@ returns-clause-encoded c =
     let n = c.in_ok-n.n in
     let w = c.in_ok-n.ensures.written in
     let new = c.new-writer.ensures in
-    let filled = buffer_filled c.new-writer.result c.encode_image.new.writer old w.0 n new.written new.left w.3 w.2 in
+    let filled = buffer_filled c.new-writer.result c.encode_to_memory.new.writer old w.0 n new.written new.left w.3 w.2 in
     let named = w.3.same_buffer in
     let file = own_file c.self.view_is w.1 in
     puts_file _ w.0 old _ n file w.2 (search rules)
