@@ -160,20 +160,17 @@ impl Packed {
         ensures sixteen { length result ≡ 16 }
     {
         let word = self.wide();
+        let four = u64x2::splat(word * 0x1_0000_0001).to_le_bytes();
         if N == 4 {
-            return u64x2::splat(word * 0x1_0000_0001).to_le_bytes();
+            return four;
         }
-        let rgb = word % 0x100_0000;
-        let first = rgb + (rgb << 24) + (rgb << 48);
-        let second = (rgb >> 16) + (rgb << 8) + (rgb << 32) + (rgb << 56);
-        let third = (rgb >> 8) + (rgb << 16) + (rgb << 40);
         if PART == 0 {
-            return u64x2::from_array([first, second]).to_le_bytes();
+            return four.swizzle([0, 1, 2, 0, 1, 2, 0, 1, 2, 0, 1, 2, 0, 1, 2, 0]);
         }
         if PART == 1 {
-            return u64x2::from_array([third, first]).to_le_bytes();
+            return four.swizzle([1, 2, 0, 1, 2, 0, 1, 2, 0, 1, 2, 0, 1, 2, 0, 1]);
         }
-        u64x2::from_array([second, third]).to_le_bytes()
+        four.swizzle([2, 0, 1, 2, 0, 1, 2, 0, 1, 2, 0, 1, 2, 0, 1, 2])
     }
 
     /// Whether both are the same pixel.

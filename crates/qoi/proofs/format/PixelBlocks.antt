@@ -13,61 +13,24 @@ digits_of (x ∷ bytes) fit =
     let high : (x + 256 * number_l 256 bytes) / 256 ≡ number_l 256 bytes = omega (arith, fit.0) in
     rw (low, high) (ap (λ rest. x ∷ rest) (digits_of bytes fit.1))
 
--- the first of the three parts of three channels
-pub first_part : (c part : ℕ) (p : RgbaPixel) (w rgb : ℕ) → c ≡ 3 → part ≡ 0 → w ≡ word p → rgb ≡ w % 2 ^ 24 → IsPixel p
-    → digits_l 256 16
-    (number_l (2 ^ 64)
-    ((rgb + rgb * 2 ^ 24 % 2 ^ 64 + rgb * 2 ^ 48 % 2 ^ 64) ∷ (rgb / 2 ^ 16 + rgb * 2 ^ 8 % 2 ^ 64 + rgb * 2 ^ 32 % 2 ^ 64 + rgb * 2 ^ 56 % 2 ^ 64) ∷ []))
-    ≡ take 16 (drop (16 * part) (output c c (replicate 16 p)))
-first_part c part p w rgb is at e low h =
-    let bytes = p.r ∷ p.g ∷ p.b ∷ p.r ∷ p.g ∷ p.b ∷ p.r ∷ p.g ∷ p.b ∷ p.r ∷ p.g ∷ p.b ∷ p.r ∷ p.g ∷ p.b ∷ p.r ∷ [] in
-    let number : number_l (2 ^ 64)
-    ((rgb + rgb * 2 ^ 24 % 2 ^ 64 + rgb * 2 ^ 48 % 2 ^ 64) ∷ (rgb / 2 ^ 16 + rgb * 2 ^ 8 % 2 ^ 64 + rgb * 2 ^ 32 % 2 ^ 64 + rgb * 2 ^ 56 % 2 ^ 64) ∷ [])
-    ≡ number_l 256 bytes = omega (arith, low, e, h.r, h.g, h.b, h.a) in
-    rw (is, at) (ap (digits_l 256 16) number ∙ digits_of bytes
-    (h.r, (h.g, (h.b, (h.r, (h.g, (h.b, (h.r, (h.g, (h.b, (h.r, (h.g, (h.b, (h.r, (h.g, (h.b, (h.r, tt)))))))))))))))))
+-- the bytes of a pixel, four times
+abbrev pub four_times : RgbaPixel → List ℕ
+four_times p = p.r ∷ p.g ∷ p.b ∷ p.a ∷ p.r ∷ p.g ∷ p.b ∷ p.a ∷ p.r ∷ p.g ∷ p.b ∷ p.a ∷ p.r ∷ p.g ∷ p.b ∷ p.a ∷ []
 
--- the second of the three parts of three channels
-pub second_part : (c part : ℕ) (p : RgbaPixel) (w rgb : ℕ) → c ≡ 3 → part ≡ 1 → w ≡ word p → rgb ≡ w % 2 ^ 24 → IsPixel p
-    → digits_l 256 16
-    (number_l (2 ^ 64) ((rgb / 2 ^ 8 + rgb * 2 ^ 16 % 2 ^ 64 + rgb * 2 ^ 40 % 2 ^ 64) ∷ (rgb + rgb * 2 ^ 24 % 2 ^ 64 + rgb * 2 ^ 48 % 2 ^ 64) ∷ []))
-    ≡ take 16 (drop (16 * part) (output c c (replicate 16 p)))
-second_part c part p w rgb is at e low h =
-    let bytes = p.g ∷ p.b ∷ p.r ∷ p.g ∷ p.b ∷ p.r ∷ p.g ∷ p.b ∷ p.r ∷ p.g ∷ p.b ∷ p.r ∷ p.g ∷ p.b ∷ p.r ∷ p.g ∷ [] in
-    let number : number_l (2 ^ 64)
-    ((rgb / 2 ^ 8 + rgb * 2 ^ 16 % 2 ^ 64 + rgb * 2 ^ 40 % 2 ^ 64) ∷ (rgb + rgb * 2 ^ 24 % 2 ^ 64 + rgb * 2 ^ 48 % 2 ^ 64) ∷ []) ≡ number_l 256 bytes =
-    omega (arith, low, e, h.r, h.g, h.b, h.a) in
-    rw (is, at) (ap (digits_l 256 16) number ∙ digits_of bytes
-    (h.g, (h.b, (h.r, (h.g, (h.b, (h.r, (h.g, (h.b, (h.r, (h.g, (h.b, (h.r, (h.g, (h.b, (h.r, (h.g, tt)))))))))))))))))
-
--- the third of the three parts of three channels
-pub third_part : (c part : ℕ) (p : RgbaPixel) (w rgb : ℕ) → c ≡ 3 → part ≡ 2 → w ≡ word p → rgb ≡ w % 2 ^ 24 → IsPixel p
-    → digits_l 256 16
-    (number_l (2 ^ 64)
-    ((rgb / 2 ^ 16 + rgb * 2 ^ 8 % 2 ^ 64 + rgb * 2 ^ 32 % 2 ^ 64 + rgb * 2 ^ 56 % 2 ^ 64)
-    ∷ (rgb / 2 ^ 8 + rgb * 2 ^ 16 % 2 ^ 64 + rgb * 2 ^ 40 % 2 ^ 64) ∷ []))
-    ≡ take 16 (drop (16 * part) (output c c (replicate 16 p)))
-third_part c part p w rgb is at e low h =
-    let bytes = p.b ∷ p.r ∷ p.g ∷ p.b ∷ p.r ∷ p.g ∷ p.b ∷ p.r ∷ p.g ∷ p.b ∷ p.r ∷ p.g ∷ p.b ∷ p.r ∷ p.g ∷ p.b ∷ [] in
-    let number : number_l (2 ^ 64)
-    ((rgb / 2 ^ 16 + rgb * 2 ^ 8 % 2 ^ 64 + rgb * 2 ^ 32 % 2 ^ 64 + rgb * 2 ^ 56 % 2 ^ 64) ∷ (rgb / 2 ^ 8 + rgb * 2 ^ 16 % 2 ^ 64 + rgb * 2 ^ 40 % 2 ^ 64) ∷ [])
-    ≡ number_l 256 bytes = omega (arith, low, e, h.r, h.g, h.b, h.a) in
-    rw (is, at) (ap (digits_l 256 16) number ∙ digits_of bytes
-    (h.b, (h.r, (h.g, (h.b, (h.r, (h.g, (h.b, (h.r, (h.g, (h.b, (h.r, (h.g, (h.b, (h.r, (h.g, (h.b, tt)))))))))))))))))
-
--- each part of four channels
-pub each_part : (c part : ℕ) (p : RgbaPixel) (w : ℕ) → c ≡ 4 → part < c → w ≡ word p → IsPixel p
-    → digits_l 256 16 (number_l (2 ^ 64) (replicate 2 (w * 0x100000001))) ≡ take 16 (drop (16 * part) (output c c (replicate 16 p)))
-each_part c part p w is l e h =
-    let bytes = p.r ∷ p.g ∷ p.b ∷ p.a ∷ p.r ∷ p.g ∷ p.b ∷ p.a ∷ p.r ∷ p.g ∷ p.b ∷ p.a ∷ p.r ∷ p.g ∷ p.b ∷ p.a ∷ [] in
-    let number : number_l (2 ^ 64) (replicate 2 (w * 0x100000001)) ≡ number_l 256 bytes = omega (arith, e, h.r, h.g, h.b, h.a) in
-    rw is (ap (digits_l 256 16) number ∙ digits_of bytes (
+-- two numbers of eight bytes hold them
+pub four_of_word : (p : RgbaPixel) (w : ℕ) → w ≡ word p → IsPixel p → digits_l 256 16 (number_l (2 ^ 64) (replicate 2 (w * 0x100000001))) ≡ four_times p
+four_of_word p w e h =
+    let number : number_l (2 ^ 64) (replicate 2 (w * 0x100000001)) ≡ number_l 256 (four_times p) = omega (arith, e, h.r, h.g, h.b, h.a) in
+    ap (digits_l 256 16) number ∙ digits_of (four_times p) (
       h.r,
       (h.g, (h.b, (h.a, (h.r, (h.g, (h.b, (h.a, (h.r, (h.g, (h.b, (h.a, (h.r, (h.g, (h.b, (h.a, tt))))))))))))))),
-    ) ∙ sym (same part (omega (arith, l, is))))
+    )
+
+-- they are each part of four channels
+pub each_part : (c part : ℕ) (p : RgbaPixel) → c ≡ 4 → part < c → four_times p ≡ take 16 (drop (16 * part) (output c c (replicate 16 p)))
+each_part c part p is l = rw is (sym (same part (omega (arith, l, is))))
   where
-    same : (part : ℕ) → part < 4 → take 16 (drop (16 * part) (output 4 4 (replicate 16 p)))
-        ≡ p.r ∷ p.g ∷ p.b ∷ p.a ∷ p.r ∷ p.g ∷ p.b ∷ p.a ∷ p.r ∷ p.g ∷ p.b ∷ p.a ∷ p.r ∷ p.g ∷ p.b ∷ p.a ∷ []
+    same : (part : ℕ) → part < 4 → take 16 (drop (16 * part) (output 4 4 (replicate 16 p))) ≡ four_times p
     same zero l = refl
     same (suc zero) l = refl
     same (suc (suc zero)) l = refl

@@ -1,5 +1,5 @@
 //! Files of about one and two pieces, by the plain encoder: chunks and end marker end just before,
-//! at and just after the end of a piece. A writer's piece has 4096 bytes, a buffer's 512.
+//! at and just after the end of a piece. A piece has 4096 bytes, or 512.
 use crate::tests::library::support::assert_number;
 use crate::tests::library::support::generator::{Rgba, START};
 use crate::tests::library::support::images::{Image, row};
