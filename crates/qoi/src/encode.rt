@@ -48,7 +48,7 @@ use std::marker::Model;
 
 // An image of so many raw bytes goes to memory through a piece of 4096 bytes, a smaller one through
 // a piece of 512.
-const LARGE_IMAGE: usize = 8192;
+const LARGE_IMAGE: usize = 4096;
 
 // Writes the file of an image through a piece with this room, and returns how many bytes it has.
 fn encode_image<W: Writer, const ROOM: usize>(

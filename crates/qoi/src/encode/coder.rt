@@ -419,9 +419,9 @@ impl<const N: usize> Coder<N> {
         (count, self.carry())
     }
 
-    // Writes what is at the front of raw bytes: a block, but for the repeats at its end; or all
-    // repeats there, if a block's pixels repeat; or these and the fresh pixel after them, if the
-    // front doesn't go by a block, or in style `Tight` a pixel may be given by another index
+    // Writes what is at the front of raw bytes: a block, but for the repeats at its end; if its
+    // pixels repeat, full runs of the repeats there; or repeats and the fresh pixel after them, if
+    // the front doesn't go by a block, or in style `Tight` a pixel may be given by another index
     // position than its own. Returns how many pixels came, and what is carried. The coder's style
     // is passed, too, since where it is called it is a constant.
     #[inline(always)]
