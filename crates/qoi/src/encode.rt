@@ -72,13 +72,14 @@ fn encode_image<W: Writer, const ROOM: usize>(
     let mut bytes = [0; ROOM];
     let mut piece = Piece::<ROOM>::new(&mut bytes);
     piece.keep(&header.encode());
-    encode_chunks(writer, &mut piece, style, header.channels, data)?;
+    let mut piece = encode_chunks(writer, piece, style, header.channels, data)?;
     piece.keep(&QOI_PADDING);
     piece.finish(writer)?;
     Ok(room - writer.capacity())
 }
 
 // Writes the file of an image to memory, and returns how many bytes it has.
+#[inline(always)]
 fn encode_to_memory<W: Writer>(
     writer: &mut W,
     style: Style,

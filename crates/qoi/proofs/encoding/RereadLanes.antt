@@ -6,15 +6,15 @@ use Rattle.std.proofs.lemmas.Simd.{length-put_chunk, put_chunk_is}
 use Rattle.std.proofs.lemmas.Slice.{between_to_end}
 use lib.Lanes.{put_chunk}
 
--- the bytes `out` once both are stored
-abbrev pub both_stored : List ℕ → List ℕ → ℕ → ℕ → List ℕ
-both_stored out v at byte = set (put_chunk (length out - 16) out v) at byte
+-- the bytes `out`, of which there are `room`, once both are stored
+abbrev pub both_stored : ℕ → List ℕ → List ℕ → ℕ → ℕ → List ℕ
+both_stored room out v at byte = set (put_chunk (room - 16) out v) at byte
 
 -- up to the byte
-pub front_stored : (out v : List ℕ) (at byte : ℕ) → at + 16 < length out → length v ≡ 16
-    → take (at + 1) (both_stored out v at byte) ≡ take at out ++ byte ∷ []
-front_stored out v at byte room long =
-    let end = length out - 16 in
+pub front_stored : (room : ℕ) (out v : List ℕ) (at byte : ℕ) → length out ≡ room → at + 16 < room → length v ≡ 16
+    → take (at + 1) (both_stored room out v at byte) ≡ take at out ++ byte ∷ []
+front_stored room out v at byte size few long =
+    let end = room - 16 in
     let new = put_chunk end out v in
     take_more_set new at byte (omega (arith, length-put_chunk end out v))
     ∙ ap (λ z. take at z ++ byte ∷ []) (put_chunk_is end out v (omega arith))
@@ -22,15 +22,16 @@ front_stored out v at byte room long =
     ∙ take-take at end out (omega arith))
 
 -- the sixteen bytes
-pub end_stored : (out v : List ℕ) (at byte : ℕ) → at + 16 < length out → length v ≡ 16 → drop (length out - 16) (both_stored out v at byte) ≡ v
-end_stored out v at byte room long =
-    let end = length out - 16 in
+pub end_stored : (room : ℕ) (out v : List ℕ) (at byte : ℕ) → length out ≡ room → at + 16 < room → length v ≡ 16
+    → drop (room - 16) (both_stored room out v at byte) ≡ v
+end_stored room out v at byte size few long =
+    let end = room - 16 in
     let rest = drop (length v) (drop end out) in
     let none : rest ≡ [] = drop_of_length-le (drop end out) (omega (arith, length-drop end out)) in
     drop-set-lt end (put_chunk end out v) at byte (omega arith) ∙ ap (drop end) (put_chunk_is end out v (omega arith))
     ∙ drop_at (take end out) (v ++ rest) end (length-take-le end out (omega arith)) ∙ ap (λ z. v ++ z) none ∙ append-nil v
 
 -- they are read
-pub read_back : (out new v : List ℕ) → length new ≡ length out → drop (length out - 16) new ≡ v → (let end = length new - 16 in
-    take (length new - end) (drop end new) ≡ v)
-read_back out new v same stored = between_to_end new (length new - 16) (length new) (omega arith) ∙ ap (λ n. drop (n - 16) new) same ∙ stored
+pub read_back : (room : ℕ) (new v : List ℕ) → length new ≡ room → drop (room - 16) new ≡ v
+    → take (length new - (room - 16)) (drop (room - 16) new) ≡ v
+read_back room new v size stored = between_to_end new (room - 16) (length new) (omega arith) ∙ stored

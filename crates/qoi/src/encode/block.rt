@@ -216,7 +216,8 @@ pub(super) fn write_block<const N: usize, const STYLE: u8, const ROOM: usize>(
     requires channels { IsChannels N }
     requires few { carry.count < run_max }
     requires opaque { N ≡ 3 → slice_index carry.before.a 15 ≡ 255 }
-    requires room { at + BLOCK_ROOM ≤ length out.old }
+    requires size { length out.old ≡ ROOM }
+    requires room { at + BLOCK_ROOM ≤ ROOM }
     ensures same { length out.new ≡ length out.old }
     ensures near { (at ≤ result.0) × (result.0 ≤ at + BLOCK_MAX) }
     ensures few { result.1.count < 16 }
@@ -231,8 +232,8 @@ pub(super) fn write_block<const N: usize, const STYLE: u8, const ROOM: usize>(
         (result.1.count - pads) result.1.placed (take result.0 out.new) }
 {
     let places = places(block.planes);
-    store_lanes(places, out, at, carry.byte(style));
-    let stands = put_block(table, &out[out.len() - 16..], block.words);
+    store_lanes::<ROOM>(places, out, at, carry.byte(style));
+    let stands = put_block(table, &out[ROOM - 16..], block.words);
     let x = block.spell(style, stands, places, carry);
     let start = carry.end(at, x.rep.to_array()[0]);
     let end = put_sixteen::<N>(out, start, x, block.planes);

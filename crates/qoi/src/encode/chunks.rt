@@ -1,5 +1,5 @@
 //! The chunks of an image, through a piece to a writer (QOI specification 1.0, "Data").
-ghost use Rattle.std.specs.Prelude.{◌≡◌, ◌+◌, ◌-◌, ◌/◌, ◌%◌, ◌<◌, ◌≤◌, length, OnOk, IfErr};
+ghost use Rattle.std.specs.Prelude.{◌≡◌, ◌+◌, ◌-◌, ◌/◌, ◌%◌, ◌<◌, ◌≤◌, length, IfOk, IfErr};
 ghost use Rattle.qoi.specs.declared.encode.piece.TheConstants.{PAST, RUNS_AT_ONCE};
 ghost use Rattle.qoi.specs.Qoi.{channels_number};
 ghost use Rattle.qoi.specs.Raw.{IsChannels, pixels_of};
@@ -15,56 +15,56 @@ use crate::writers::Writer;
 
 // `encode_chunks` for `N` channels. `STYLE` is a number for each style, so that each has a function
 // of its own: one for all would test the style at each pixel.
-fn encode_pixels<W: Writer, const N: usize, const STYLE: u8, const ROOM: usize>(
+fn encode_pixels<'p, W: Writer, const N: usize, const STYLE: u8, const ROOM: usize>(
     writer: &mut W,
-    piece: &mut Piece<ROOM>,
+    piece: Piece<'p, ROOM>,
     style: Style,
     data: &[u8],
-) -> Result<()>
+) -> Result<Piece<'p, ROOM>>
     requires channels { IsChannels N }
     requires whole { length «data».now % N ≡ 0 }
-    requires not_full { piece.old.end < ROOM - PAST }
-    requires room { piece.old.end + (length «data».now + length «data».now / N)
+    requires not_full { piece.end < ROOM - PAST }
+    requires room { piece.end + (length «data».now + length «data».now / N)
         ≤ W.room writer.old }
-    ensures end { OnOk result (piece.new.end < ROOM - PAST + RUNS_AT_ONCE + 1) }
-    ensures written { OnOk result (WroteChunks W.wrote style (pixels_of N «data».now)
-        writer.old piece.old writer.new piece.new) }
+    ensures end { IfOk result (λ p. p.end < ROOM - PAST + RUNS_AT_ONCE + 1) }
+    ensures written { IfOk result (WroteChunks W.wrote style (pixels_of N «data».now)
+        writer.old piece.entry writer.new) }
     ensures refused { IfErr result (λ e. W.IsFault e
-        × BeganChunks W.wrote style (pixels_of N «data».now) writer.old piece.old writer.new) }
+        × BeganChunks W.wrote style (pixels_of N «data».now) writer.old piece.entry writer.new) }
 {
     let mut table = PixelTable::new();
     let mut coder = Coder::<N>::new(style);
     let mut carry = coder.carry();
+    let mut piece = piece;
     let mut rest = data;
     loop {
-        rest = coder.fill::<STYLE, ROOM>(style, &mut table, piece, rest, &mut carry);
+        (rest, piece) = coder.fill::<STYLE, ROOM>(style, &mut table, piece, rest, &mut carry);
         if !piece.is_full() {
-            coder.write_last(&mut table, piece, carry);
-            return Ok(());
+            coder.write_last(&mut table, &mut piece, carry);
+            return Ok(piece);
         }
         piece.send(writer)?;
     }
 }
 
 /// Writes an image's raw bytes as chunks into the piece, and sends a full piece to the writer each
-/// time there is one. What is left at the end stays in the piece, which may be full.
-pub(super) fn encode_chunks<W: Writer, const ROOM: usize>(
+/// time there is one. Returns the piece with what is left at the end; it may be full.
+pub(super) fn encode_chunks<'p, W: Writer, const ROOM: usize>(
     writer: &mut W,
-    piece: &mut Piece<ROOM>,
+    piece: Piece<'p, ROOM>,
     style: Style,
     channels: Channels,
     data: &[u8],
-) -> Result<()>
+) -> Result<Piece<'p, ROOM>>
     requires whole { length «data».now % channels_number channels ≡ 0 }
-    requires not_full { piece.old.end < ROOM - PAST }
-    requires room { piece.old.end
+    requires not_full { piece.end < ROOM - PAST }
+    requires room { piece.end
         + (length «data».now + length «data».now / channels_number channels) ≤ W.room writer.old }
-    ensures end { OnOk result (piece.new.end < ROOM - PAST + RUNS_AT_ONCE + 1) }
-    ensures written { OnOk result (WroteChunks W.wrote style
-        (pixels_of (channels_number channels) «data».now)
-        writer.old piece.old writer.new piece.new) }
+    ensures end { IfOk result (λ p. p.end < ROOM - PAST + RUNS_AT_ONCE + 1) }
+    ensures written { IfOk result (WroteChunks W.wrote style
+        (pixels_of (channels_number channels) «data».now) writer.old piece.entry writer.new) }
     ensures refused { IfErr result (λ e. W.IsFault e × BeganChunks W.wrote style
-        (pixels_of (channels_number channels) «data».now) writer.old piece.old writer.new) }
+        (pixels_of (channels_number channels) «data».now) writer.old piece.entry writer.new) }
 {
     // A loop for each pair, in which channels and style are constants.
     match (channels, style) {

@@ -465,43 +465,46 @@ impl<const N: usize> Coder<N> {
     }
 
     /// Writes until the piece is full or nothing is left, and updates what is carried. Returns the
-    /// rest.
+    /// rest, and the piece.
     ///
     /// The coder's style is passed, too, since it is a constant where this is called. `STYLE` is a
-    /// number for it, so that each style has a loop of its own.
-    pub(super) fn fill<'a, const STYLE: u8, const ROOM: usize>(
+    /// number for it, so that each style has a loop of its own. The piece is a value, so that the
+    /// compiler keeps it in registers.
+    pub(super) fn fill<'a, 'p, const STYLE: u8, const ROOM: usize>(
         &mut self,
         style: Style,
         table: &mut PixelTable,
-        piece: &mut Piece<ROOM>,
+        piece: Piece<'p, ROOM>,
         data: &'a [u8],
         carry: &mut Carry,
-    ) -> &'a [u8]
+    ) -> (&'a [u8], Piece<'p, ROOM>)
         requires whole { length «data».now % N ≡ 0 }
         requires few { carry.old.count < run_max }
         requires opaque { N ≡ 3 → slice_index carry.old.before.a 15 ≡ 255 }
-        requires room { piece.old.end < ROOM - PAST }
-        ensures end { piece.new.end < ROOM - PAST + BLOCK_MAX }
-        ensures all { piece.new.end < ROOM - PAST → length result.now ≡ 0 }
-        ensures some { ROOM - PAST ≤ piece.new.end → length result.now < length «data».entry.now }
-        ensures whole { length result.now % N ≡ 0 }
+        requires room { piece.end < ROOM - PAST }
+        ensures end { result.1.end < ROOM - PAST + BLOCK_MAX }
+        ensures all { result.1.end < ROOM - PAST → length result.0.now ≡ 0 }
+        ensures some { ROOM - PAST ≤ result.1.end → length result.0.now < length «data».entry.now }
+        ensures whole { length result.0.now % N ≡ 0 }
         ensures few { carry.new.count < run_max }
         ensures opaque { N ≡ 3 → slice_index carry.new.before.a 15 ≡ 255 }
         ensures written { (w : Writing) → w.list.style ≡ style
             → StepBetween w (pixels_of N «data».entry.now) table.old self.old carry.old
-            (kept_bytes piece.old)
-            → StepBetween w (pixels_of N result.now) table.new self.new carry.new
-            (kept_bytes piece.new) }
+            (kept_bytes piece.entry)
+            → StepBetween w (pixels_of N result.0.now) table.new self.new carry.new
+            (kept_bytes result.1) }
     {
+        let mut piece = piece;
         let mut rest = data;
         let mut now = *carry;
         while !piece.is_full() && !rest.is_empty() {
-            let (count, after) = self.write_front::<STYLE, ROOM>(style, table, piece, rest, now);
+            let (count, after) =
+                self.write_front::<STYLE, ROOM>(style, table, &mut piece, rest, now);
             now = after;
             rest = skip(rest, N * count);
         }
         *carry = now;
-        rest
+        (rest, piece)
     }
 
     /// Writes the repeats that are carried at the end, if there are any.

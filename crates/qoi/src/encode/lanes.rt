@@ -98,18 +98,18 @@ pub(super) fn places(p: Planes) -> u8x16
     (u + u + s) & u8x16::splat(63)
 }
 
-/// Stores the lanes in the last sixteen bytes of `out`, and then a byte at `at`. To read a lane from
-/// there is faster than to take it from the vector, which the compiler would do if it knew that the
-/// byte is none of these.
+/// Stores the lanes in the last sixteen bytes of `out`, which has `ROOM` bytes, and then a byte at
+/// `at`. To read a lane from there is faster than to take it from the vector, which the compiler
+/// would do if it knew that the byte is none of these.
 #[inline(always)]
-pub(super) fn store_lanes(v: u8x16, out: &mut [u8], at: usize, byte: u8)
-    requires room { at + 16 < length out.old }
+pub(super) fn store_lanes<const ROOM: usize>(v: u8x16, out: &mut [u8], at: usize, byte: u8)
+    requires size { length out.old ≡ ROOM }
+    requires room { at + 16 < ROOM }
     ensures same { length out.new ≡ length out.old }
     ensures stored { take (at + 1) out.new ≡ take at out.old ++ byte ∷ [] }
-    ensures lanes { drop (length out.old - 16) out.new ≡ v }
+    ensures lanes { drop (ROOM - 16) out.new ≡ v }
 {
-    let end = out.len() - 16;
-    v.copy_to_slice(&mut out[end..]);
+    v.copy_to_slice(&mut out[ROOM - 16..]);
     out[at] = byte;
 }
 

@@ -10,11 +10,11 @@ use Rattle.qoi.proofs.encode.encode_image.Given.{Over}
 use Rattle.qoi.proofs.encode.encode_image.Goals.{After-keep-2}
 use Rattle.qoi.proofs.encode.encode_image.Goals as goal
 
-pub returns-in_err-encode_chunks-clause-refused : goal.returns-in_err-encode_chunks-clause-refused
-returns-in_err-encode_chunks-clause-refused g c =
+pub returns-in_err-piece-clause-refused : goal.returns-in_err-piece-clause-refused
+returns-in_err-piece-clause-refused g c =
     let h = c.args.header.now in
     let e = err_from_is_err_and c.from_residual.result c.from_residual.ensures.1 in
-    let r = c.in_err-encode_chunks.ensures.refused in
+    let r = c.in_err-piece.ensures.refused in
     let theirs = file_of h c.args.data.now c.requires.valid c.requires.image c.args.style (λ i. omega (arith, c.type_inv.data i)) r.1.0 r.1.1 in
     let front : kept_bytes c.keep.new.self ≡ header_bytes h = c.keep.ensures.kept ∙ ap (λ z. z ++ c.encode.result) c.new-piece.ensures ∙ c.encode.ensures in
     rw (e.1, e.2) (
@@ -25,10 +25,10 @@ returns-in_err-encode_chunks-clause-refused g c =
     )
 
 -- all of the file went but what is kept
-all_but_kept : (g : Over) (c : After-keep-2 g) → WroteBut g.W.Writer.wrote c.args.writer.now (file c.args.header.now c.in_ok-encode_chunks.ensures.written.0)
+all_but_kept : (g : Over) (c : After-keep-2 g) → WroteBut g.W.Writer.wrote c.args.writer.now (file c.args.header.now c.in_ok-piece.ensures.written.0)
     (kept_bytes c.keep-2.new.self) c.encode_chunks.new.writer
 all_but_kept g c =
-    let w = c.in_ok-encode_chunks.ensures.written in
+    let w = c.in_ok-piece.ensures.written in
     let front : kept_bytes c.keep.new.self ≡ header_bytes c.args.header.now = c.keep.ensures.kept ∙ ap (λ z. z ++ c.encode.result) c.new-piece.ensures
     ∙ c.encode.ensures in
     marker_kept g.met.W.Writer.laws c.args.header.now w.0 c.args.writer.now (kept_bytes c.keep.new.self) front w.2 c.keep-2.ensures.kept
@@ -36,7 +36,7 @@ all_but_kept g c =
 pub finish-requires : goal.finish-requires
 finish-requires g c =
     let h = c.args.header.now in
-    let w = c.in_ok-encode_chunks.ensures.written in
+    let w = c.in_ok-piece.ensures.written in
     let enough : 22 + length (chunk_bytes w.0) ≤ g.W.Writer.room c.args.writer.now =
     omega (arith, c.requires.room, max_is_exact h c.requires.valid, text_fits h c.args.data.now c.requires.valid c.requires.image c.args.style w.0 w.1) in
     omega (
@@ -48,7 +48,7 @@ finish-requires g c =
 pub returns-in_err-finish-clause-refused : goal.returns-in_err-finish-clause-refused
 returns-in_err-finish-clause-refused g c =
     let h = c.args.header.now in
-    let w = c.in_ok-encode_chunks.ensures.written in
+    let w = c.in_ok-piece.ensures.written in
     let e = err_from_is_err_and c.from_residual-in_err-finish.result c.from_residual-in_err-finish.ensures.1 in
     let r = c.in_err-finish.ensures.refused in
     let theirs = file_of h c.args.data.now c.requires.valid c.requires.image c.args.style (λ i. omega (arith, c.type_inv.data i)) w.0 w.1 in
@@ -62,7 +62,7 @@ returns-in_err-finish-clause-refused g c =
 pub returns-clause-written : goal.returns-clause-written
 returns-clause-written g c =
     let h = c.args.header.now in
-    let w = c.in_ok-encode_chunks.ensures.written in
+    let w = c.in_ok-piece.ensures.written in
     let all = all_but_kept g (goal.at.returns-clause-written g c).After-keep-2 in
     let went = c.in_ok-finish.ensures.written in
     let theirs = file_of h c.args.data.now c.requires.valid c.requires.image c.args.style (λ i. omega (arith, c.type_inv.data i)) w.0 w.1 in

@@ -36,7 +36,7 @@ pub put_block-stands-requires-clause-below : goal.put_block-stands-requires-clau
 put_block-stands-requires-clause-below g c = λ k lt.
     let w = c.args.block.words in
     let at = c.places-places.ensures (block_pixels w) (block_sixteen w c.args.block.packed) c.args.block.planes_are in
-    omega (arith, hashes_below (block_pixels w) k, ap (λ z. slice_index z k) (read_back c.args.out.now c.store_lanes.new.out c.places-places.result c.store_lanes.ensures.same c.store_lanes.ensures.lanes ∙ at))
+    omega (arith, hashes_below (block_pixels w) k, ap (λ z. slice_index z k) (read_back g.row.ROOM c.store_lanes.new.out c.places-places.result (c.store_lanes.ensures.same ∙ c.requires.size) c.store_lanes.ensures.lanes ∙ at))
 
 pub returns-clause-written : goal.returns-clause-written
 returns-clause-written g c = λ w begun pads ps rest style pad_is some fits b.
@@ -47,7 +47,7 @@ returns-clause-written g c = λ w begun pads ps rest style pad_is some fits b.
     let planes = c.args.block.planes_are in
     let last : IsPixel s.last = subst IsPixel b.carrying.last_is b.carrying.between.to_write.before in
     let at : c.places-places.result ≡ map hash all = c.places-places.ensures all sixteen planes in
-    let put = c.put_block-stands.ensures s.held all b.table_is sixteen (block_words words c.args.block.packed) (read_back c.args.out.now c.store_lanes.new.out c.places-places.result c.store_lanes.ensures.same c.store_lanes.ensures.lanes ∙ at) in
+    let put = c.put_block-stands.ensures s.held all b.table_is sixteen (block_words words c.args.block.packed) (read_back g.row.ROOM c.store_lanes.new.out c.places-places.result (c.store_lanes.ensures.same ∙ c.requires.size) c.store_lanes.ensures.lanes ∙ at) in
     let placed : c.args.style ≡ Places → s.placed ≡ c.args.carry.placed = λ is. b.placed_is (style ∙ is) in
     let spelled = c.spell-x.ensures s last b.before_is fits.changes b.carry_is placed put.stands_are at in
     let x = c.spell-x.result in
@@ -57,7 +57,7 @@ returns-clause-written g c = λ w begun pads ps rest style pad_is some fits b.
     let start = ready w c.args.style s all (ps ++ rest) x _ c.args.carry.placed (last_pixel c.args.carry.before) c.args.carry.count _ _ style (omega (arith, b.carry_is, c.requires.few)) few b.carrying
     (padded_front ps rest all pads pad_is some) spelled sixteen refl q_is b.carry_is placed
     (group_stored c.args.style (rep == 0) c.args.carry.placed (last_pixel c.args.carry.before) c.args.carry.count c.args.at c.end-start.result c.byte.result c.args.out.now c.store_lanes.new.out
-    (omega (arith, c.requires.room)) c.store_lanes.ensures.stored c.byte.ensures
+    (omega (arith, c.requires.room, c.requires.size)) c.store_lanes.ensures.stored c.byte.ensures
     (λ e. c.end-start.ensures.stays (omega (arith, first_repeats s all x spelled sixteen e, c.requires.few)))
     (λ e. c.end-start.ensures.stays (omega (arith, e)))
     (λ e some. c.end-start.ensures.some (omega (arith, eqb-true rep 0 e, some)))) in

@@ -20,29 +20,29 @@ loop-rest-init g c =
       few = omega (arith, carry.count);
       opaque = carry.opaque;
       state = piece_starts _ g.met.W.Writer.laws c.requires.channels (λ i. omega (arith, c.type_inv.data i)) c.requires.whole
-          (omega (arith, kept_length c.args.piece.now, c.requires.room)) new.style (new.state c.new-table.result c.new-table.ensures) (λ w b. carry.between w _ _ _ b);
+          (omega (arith, kept_length c.args.piece, c.requires.room)) new.style (new.state c.new-table.result c.new-table.ensures) (λ w b. carry.between w _ _ _ b);
     }
 
 pub returns-then-not-is_full-clause-written : goal.returns-then-not-is_full-clause-written
 returns-then-not-is_full-clause-written g c =
-    let fill = c.fill-rest in
+    let fill = c.fill in
     let room = c.is_full.ensures.room c.if-not-is_full.true in
-    let none : pixels_of g.row.N fill.result.now ≡ [] = none_of_few g.row.N fill.result.now c.requires.channels (omega (arith, fill.ensures.all room, c.requires.channels)) in
+    let none : pixels_of g.row.N fill.result.0.now ≡ [] = none_of_few g.row.N fill.result.0.now c.requires.channels (omega (arith, fill.ensures.all room, c.requires.channels)) in
     piece_ends (piece_filled c.loop-rest.invariant.state fill.ensures.written)
-    (λ w b. c.write_last.ensures.written w (subst (λ x. StepBetween w x fill.new.table fill.new.self fill.new.carry (kept_bytes fill.new.piece)) none b))
+    (λ w b. c.write_last.ensures.written w (subst (λ x. StepBetween w x fill.new.table fill.new.self fill.new.carry (kept_bytes fill.result.1)) none b))
 
 pub send-requires : goal.send-requires
 send-requires g c =
     let full = c.is_full.ensures.full c.if-not-is_full.false in
-    let room = piece_fits (piece_filled c.loop-rest.invariant.state c.fill-rest.ensures.written) (g.row.ROOM - PAST)
-    (omega (arith, kept_length c.fill-rest.new.piece, full)) in
+    let room = piece_fits (piece_filled c.loop-rest.invariant.state c.fill.ensures.written) (g.row.ROOM - PAST)
+    (omega (arith, kept_length c.fill.result.1, full)) in
     (omega arith, (full, room))
 
 pub loop-rest-preserved : goal.loop-rest-preserved
 loop-rest-preserved g c =
-    let fill = c.fill-rest.ensures in
+    let fill = c.fill.ensures in
     record {
-      end = omega (arith, c.in_ok-send.ensures.end, fill.end, c.args.piece.now.large);
+      end = omega (arith, c.in_ok-send.ensures.end, fill.end, c.args.piece.large);
       whole = fill.whole;
       few = fill.few;
       opaque = fill.opaque;
@@ -53,5 +53,5 @@ pub returns-in_err-send-clause-refused : goal.returns-in_err-send-clause-refused
 returns-in_err-send-clause-refused g c =
     let e = err_from_is_err_and c.from_residual.result c.from_residual.ensures.1 in
     let r = c.in_err-send.ensures.refused in
-    let part = piece_part (piece_filled c.loop-rest.invariant.state c.fill-rest.ensures.written) (g.row.ROOM - PAST) r.1 in
+    let part = piece_part (piece_filled c.loop-rest.invariant.state c.fill.ensures.written) (g.row.ROOM - PAST) r.1 in
     rw (e.1, e.2) (r.0, part)
