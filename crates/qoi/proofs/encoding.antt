@@ -42,6 +42,7 @@ pub mod LaneStamps
 pub mod LaneTests
 pub mod Lanewise
 pub mod LastCount
+pub mod LastOfPlanes
 pub mod LastPixels
 pub mod NamedLanes
 pub mod OpaqueBlock

@@ -14,10 +14,10 @@ use Rattle.qoi.specs.inner.CarryLoop.{CarryBetween}
 use Rattle.qoi.specs.inner.CoderLoop.{StillToWrite, Writing}
 use Rattle.qoi.specs.inner.CoderState.{last_chunk}
 use Rattle.qoi.proofs.format.ChunkSteps.{previous_repeats, repeats_after}
-use Rattle.qoi.proofs.format.SamePixels.{same_pixel}
 use Rattle.qoi.proofs.encoding.BlockWritten.{still_begun, repeats_held}
 use Rattle.qoi.proofs.encoding.CoderSteps.{bytes_next}
 use Rattle.qoi.proofs.encoding.LaneBits.{not_lt}
+use Rattle.qoi.proofs.encoding.LastOfPlanes.{last_of_planes}
 use Rattle.qoi.proofs.encoding.StillToWrite.{runs_next}
 use Rattle.qoi.proofs.encoding.StyledGroup.{styled_runs, placed_repeats}
 
@@ -82,7 +82,7 @@ pub blocks_on : {w : Writing} {rest table : List RgbaPixel} {kept : List ℕ} (c
 blocks_on {w} {rest} {table} {kept} carry after n k sum small same placed few b =
     let s = b.state in
     let is = b.before_is in
-    let last : last_pixel carry.before ≡ s.last = same_pixel (last_pixel carry.before) s.last is.red is.green is.blue is.alpha in
+    let last : last_pixel carry.before ≡ s.last = sym (last_of_planes s.last carry.before is) in
     let start = subst (λ q. Carrying true w s (replicate n q ++ rest) kept) last b.carrying in
     record {
       state = left_state s k after.count;

@@ -1,8 +1,8 @@
 -- From the state between two pixels to that between two blocks, and what is carried.
-use Rattle.std.proofs.Common.{◌≡◌, ◌≢◌, ℕ, Bool, true, false, List, [], replicate, Some, ◌++◌, refl, sym, ap, ◌∙◌, subst, arith, append_assoc}
+use Rattle.std.proofs.Common.{◌≡◌, ◌≢◌, ◌<◌, ℕ, Bool, true, false, List, [], replicate, Some, ◌++◌, refl, sym, ap, ◌∙◌, subst, arith, append_assoc}
 use Rattle.qoi.specs.declared.encode.block.Carry.{Carry}
 use Rattle.qoi.specs.declared.encode.coder.Coder.{Coder}
-use Rattle.qoi.specs.declared.types.Style.TheVariants.{Places}
+use Rattle.qoi.specs.declared.types.Style.TheVariants.{Places, Tight}
 use Rattle.std.proofs.lemmas.Bool.{true≢false}
 use Rattle.std.specs.List.{slice_get}
 use Rattle.qoi.specs.Qoi.{RgbaPixel, Past, seen, hash, chunk_bytes}
@@ -10,8 +10,10 @@ use Rattle.qoi.specs.Styles.{some_fresh, names, styled}
 use Rattle.qoi.specs.inner.Table.{Holds}
 use Rattle.qoi.specs.inner.CoderState.{held_in}
 use Rattle.qoi.specs.inner.CoderLoop.{StillToWrite, Writing, CoderBetween}
-use Rattle.qoi.specs.inner.CarryLoop.{CarryBetween, Opening, StepBetween}
+use Rattle.qoi.specs.inner.CarryLoop.{CarryBetween, InBlocks, Opening, StepBetween}
 use Rattle.qoi.specs.inner.BlockState.{State, HasBegun, Carrying}
+use Rattle.qoi.specs.inner.Blocks.{last_pixel}
+use Rattle.qoi.proofs.encoding.LastOfPlanes.{last_of_planes}
 use Rattle.qoi.specs.inner.Spelling.{IsLastOf}
 use Rattle.qoi.proofs.encoding.CoderSteps.{front_sent, none_ahead, all_written}
 
@@ -67,14 +69,55 @@ pub opening_start : {N : ℕ} {w : Writing} {pixels : List RgbaPixel} {table : L
 opening_start {coder = coder} {carry} o not_yet fresh =
     blocks_start carry false o.between not_yet (λ _. fresh) o.last_is o.none o.placed_is
 
--- between two steps, once a fresh pixel came or if the next one is fresh
-pub step_blocks : {N : ℕ} {w : Writing} {pixels : List RgbaPixel} {table : List RgbaPixel} {coder : Coder N} {carry : Carry} {kept : List ℕ}
-    → StepBetween w pixels table coder carry kept → (coder.begun ≡ false → slice_get pixels 0 ≢ Some coder.last) → CarryBetween coder.begun w pixels table carry kept
-step_blocks {w = w} {pixels} {table} {coder} {carry} {kept} b fresh = go coder.begun refl
+-- it goes by blocks if the next pixel is fresh, but in style Tight
+pub opened : {N : ℕ} {w : Writing} {pixels : List RgbaPixel} {table : List RgbaPixel} {coder next : Coder N} {carry : Carry} {kept : List ℕ}
+    → StepBetween w pixels table coder carry kept → (coder.begun ≡ false → slice_get pixels 0 ≢ Some coder.last) → (coder.style ≡ Tight → coder.begun ≡ true)
+    → next.style ≡ coder.style → next.begun ≡ true → StepBetween w pixels table next carry kept
+opened {w = w} {pixels} {table} {coder} {next} {carry} {kept} b fresh tight style begun = record {
+  style_is = style ∙ b.style_is;
+  opening = λ no. absurd (true≢false (sym begun ∙ no));
+  by_blocks = λ _. go coder.begun refl;
+}
   where
-    go : (begun : Bool) → coder.begun ≡ begun → CarryBetween begun w pixels table carry kept
-    go true has_begun = b.by_blocks has_begun
-    go false not_yet = opening_start (b.opening not_yet) not_yet (fresh not_yet)
+    go : (x : Bool) → coder.begun ≡ x → InBlocks w pixels table carry kept
+    go true is = b.by_blocks is
+    go false is = record {
+      begun = false;
+      between = opening_start (b.opening is) is (fresh is);
+      in_tight = λ t. sym is ∙ tight (b.style_is ∙ t);
+    }
+
+module _ {w : Writing} {pixels : List RgbaPixel} {table : List RgbaPixel} {carry : Carry} {kept : List ℕ} where
+  -- a fresh pixel came, if the next one repeats the last
+  pub begun_by_repeat : (begun : Bool) → CarryBetween begun w pixels table carry kept → slice_get pixels 0 ≡ Some (last_pixel carry.before)
+      → CarryBetween true w pixels table carry kept
+  begun_by_repeat true b first = b
+  begun_by_repeat false b first = absurd (b.carrying.begun_is.1 (first ∙ ap Some (sym (last_of_planes b.state.last carry.before b.before_is))))
+
+  -- a fresh pixel came, if repeats are carried
+  pub begun_by_carry : InBlocks w pixels table carry kept → 0 < carry.count → CarryBetween true w pixels table carry kept
+  begun_by_carry b some = go b.begun b.between
+    where
+      go : (begun : Bool) → CarryBetween begun w pixels table carry kept → CarryBetween true w pixels table carry kept
+      go true c = c
+      go false c = absurd (omega (arith, c.carrying.begun_is.0, c.carry_is, some))
+
+  -- in style Tight a fresh pixel came
+  pub begun_in_tight : InBlocks w pixels table carry kept → w.list.style ≡ Tight → CarryBetween true w pixels table carry kept
+  begun_in_tight b tight = subst (λ x. CarryBetween x w pixels table carry kept) (b.in_tight tight) b.between
+
+  -- a fresh pixel came
+  pub in_blocks : CarryBetween true w pixels table carry kept → InBlocks w pixels table carry kept
+  in_blocks b = record { begun = true; between = b; in_tight = λ _. refl }
+
+-- it goes by blocks, if repeats are carried
+pub carries_in_blocks : {N : ℕ} {w : Writing} {pixels : List RgbaPixel} {table : List RgbaPixel} {coder : Coder N} {carry : Carry} {kept : List ℕ}
+    → StepBetween w pixels table coder carry kept → 0 < carry.count → CarryBetween true w pixels table carry kept
+carries_in_blocks {w = w} {pixels} {table} {coder} {carry} {kept} b some = go coder.begun refl
+  where
+    go : (x : Bool) → coder.begun ≡ x → CarryBetween true w pixels table carry kept
+    go true is = begun_by_carry (b.by_blocks is) some
+    go false is = absurd (omega (arith, (b.opening is).none, some))
 
 -- at the end, if nothing is carried, nothing is still to be written
 pub step_ended : {N : ℕ} {w : Writing} {table : List RgbaPixel} {coder : Coder N} {carry : Carry} {kept : List ℕ}
@@ -83,7 +126,7 @@ step_ended {w = w} {coder = coder} {carry} {kept} b none = go coder.begun refl
   where
     go : (begun : Bool) → coder.begun ≡ begun → w.ahead ≡ kept
     go true has_begun =
-        let blocks = b.by_blocks has_begun in
+        let blocks = (b.by_blocks has_begun).between in
         let c = blocks.carrying in
         none_ahead w c.before (subst (λ n. StillToWrite w.list c.past (replicate n blocks.state.last ++ []) c.between.todo) (blocks.carry_is ∙ none) c.between.to_write) c.between.ahead_is
     go false not_yet = all_written (b.opening not_yet).between
@@ -95,7 +138,7 @@ pub step_start : {N : ℕ} {w : Writing} {pixels : List RgbaPixel} {table : List
 step_start carry b last none placed = record {
   style_is = b.style_is;
   opening = λ _. record { between = b; last_is = last; none = none; placed_is = placed };
-  by_blocks = λ begun. blocks_start carry true b begun (λ no. absurd (true≢false no)) last none placed;
+  by_blocks = λ begun. in_blocks (blocks_start carry true b begun (λ no. absurd (true≢false no)) last none placed);
 }
 
 -- once the first bytes that are kept are gone, the same holds of the others
@@ -118,7 +161,8 @@ step_sent {w = w} {pixels} {table} {coder} {carry} {bytes} b gone kept split = g
           },
         )
     go true has_begun =
-        let blocks = b.by_blocks has_begun in
+        let step = b.by_blocks has_begun in
+        let blocks = step.between in
         let c = blocks.carrying in
         let left = chunk_bytes (styled w.list.style c.past c.before c.between.todo) in (
           kept ++ left,
@@ -127,21 +171,25 @@ step_sent {w = w} {pixels} {table} {coder} {carry} {bytes} b gone kept split = g
             style_is = b.style_is;
             opening = λ no. absurd (true≢false (sym has_begun ∙ no));
             by_blocks = λ _. record {
-              state = blocks.state;
-              carrying = record {
-                past = c.past;
-                before = c.before;
-                between = record { todo = c.between.todo; to_write = c.between.to_write; ahead_is = refl };
-                last_is = c.last_is;
-                begun_is = c.begun_is;
-                held_is = c.held_is;
-                placed_is = c.placed_is;
+              begun = step.begun;
+              between = record {
+                state = blocks.state;
+                carrying = record {
+                  past = c.past;
+                  before = c.before;
+                  between = record { todo = c.between.todo; to_write = c.between.to_write; ahead_is = refl };
+                  last_is = c.last_is;
+                  begun_is = c.begun_is;
+                  held_is = c.held_is;
+                  placed_is = c.placed_is;
+                };
+                table_is = blocks.table_is;
+                before_is = blocks.before_is;
+                carry_is = blocks.carry_is;
+                placed_is = blocks.placed_is;
+                few = blocks.few;
               };
-              table_is = blocks.table_is;
-              before_is = blocks.before_is;
-              carry_is = blocks.carry_is;
-              placed_is = blocks.placed_is;
-              few = blocks.few;
+              in_tight = step.in_tight;
             };
           },
         )

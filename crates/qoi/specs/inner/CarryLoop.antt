@@ -2,6 +2,7 @@
 use Rattle.std.specs.Prelude.{◌≡◌, ℕ, Bool, true, false, List}
 use Rattle.qoi.specs.declared.encode.block.Carry.{Carry}
 use Rattle.qoi.specs.declared.encode.coder.Coder.{Coder}
+use Rattle.qoi.specs.declared.types.Style.TheVariants.{Tight}
 use Rattle.qoi.specs.Qoi.{RgbaPixel}
 use Rattle.qoi.specs.inner.Blocks.{BetweenBlocks}
 use Rattle.qoi.specs.inner.CoderLoop.{Writing, CoderBetween}
@@ -18,9 +19,15 @@ pub record Opening {N : ℕ} (w : Writing) (rest : List RgbaPixel) (table : List
   pub none : carry.count ≡ 0
   pub placed_is : carry.placed ≡ coder.placed
 
--- Between two steps of the coder's loop: once a fresh pixel came, what is carried says which pixel is
+-- Between two blocks: a fresh pixel came or, but in style Tight, the next one is fresh.
+pub record InBlocks (w : Writing) (rest : List RgbaPixel) (table : List RgbaPixel) (carry : Carry) (kept : List ℕ) : Type 0 where
+  pub begun : Bool
+  pub between : CarryBetween begun w rest table carry kept
+  pub in_tight : w.list.style ≡ Tight → begun ≡ true
+
+-- Between two steps of the coder's loop: once it goes by blocks, what is carried says which pixel is
 -- the last; before that nothing is carried.
 pub record StepBetween {N : ℕ} (w : Writing) (rest : List RgbaPixel) (table : List RgbaPixel) (coder : Coder N) (carry : Carry) (kept : List ℕ) : Type 0 where
   pub style_is : coder.style ≡ w.list.style
   pub opening : coder.begun ≡ false → Opening w rest table coder carry kept
-  pub by_blocks : coder.begun ≡ true → CarryBetween true w rest table carry kept
+  pub by_blocks : coder.begun ≡ true → InBlocks w rest table carry kept

@@ -30,8 +30,8 @@ use crate::utils::{pick, skip};
 
 /// What is known between two pixels: the style; the pixel `last`; `begun`, whether a fresh pixel
 /// came, one that differs from the pixel before it; and `placed`, whether `last` was written as its
-/// index position, with no repeat since. The table is passed beside it, so that these few stay in
-/// registers.
+/// index position, with no repeat since. Between two blocks only style and `begun` count: what is
+/// carried tells the others. The table is passed beside it, so that these few stay in registers.
 #[derive(Drop)]
 pub(super) struct Coder<const N: usize> {
     style: Style,
@@ -43,8 +43,8 @@ pub(super) struct Coder<const N: usize> {
 }
 
 impl<const N: usize> Coder<N> {
-    ghost use Rattle.qoi.specs.inner.Blocks.{ChangesFrom, FitsBlock, padded, last_pixel};
-    ghost use Rattle.qoi.specs.inner.CarryLoop.{CarryBetween, StepBetween};
+    ghost use Rattle.qoi.specs.inner.Blocks.{ChangesFrom, FitsBlock, MissesNoBlank, padded, last_pixel};
+    ghost use Rattle.qoi.specs.inner.CarryLoop.{CarryBetween, InBlocks, StepBetween};
     ghost use Rattle.qoi.specs.inner.CoderLoop.{CoderAfter, single, Writing, CoderBetween, BytesBetween};
     ghost use Rattle.qoi.specs.inner.Spelling.{IsLastOf};
 
@@ -59,6 +59,25 @@ impl<const N: usize> Coder<N> {
             last: Packed::start(),
             begun: false,
             placed: false,
+        }
+    }
+
+    // The coder after a fresh pixel, from what is carried; the carried repeats then still come.
+    #[inline(always)]
+    fn after(style: Style, carry: Carry) -> Coder<N>
+        requires channels { IsChannels N }
+        requires opaque { N ≡ 3 → slice_index carry.before.a 15 ≡ 255 }
+        ensures begun { result.begun ≡ true }
+        ensures last { result.last ≡ last_pixel carry.before }
+        ensures between { (w : Writing) (rest table : List RgbaPixel) (kept : List ℕ)
+            → w.list.style ≡ style → CarryBetween true w rest table carry kept
+            → CoderBetween w (replicate carry.count result.last ++ rest) table result kept }
+    {
+        Coder {
+            style,
+            last: carry.before.last(),
+            begun: true,
+            placed: carry.placed,
         }
     }
 
@@ -80,7 +99,8 @@ impl<const N: usize> Coder<N> {
     // pixel at its position; that changes the table only before the first fresh pixel.
     #[inline(always)]
     fn update_after_repeats(&mut self, table: &mut PixelTable, count: usize)
-        ensures same { (self.new.last ≡ self.old.last) × (self.new.style ≡ self.old.style) }
+        ensures same { (self.new.last ≡ self.old.last) × (self.new.style ≡ self.old.style)
+            × (self.new.begun ≡ self.old.begun) }
         ensures state { (past : Past) (before : Option Chunk)
             → CoderAfter past before table.old self.old
             → CoderAfter (replicate count (previous past) ++ past)
@@ -132,6 +152,7 @@ impl<const N: usize> Coder<N> {
         requires opaque { N ≡ 3 → px.a ≡ 255 }
         ensures end { piece.new.end ≤ piece.old.end + chunk_max }
         ensures last { self.new.last ≡ px }
+        ensures begun { self.new.begun ≡ true }
         ensures written { (w : Writing) (rest : List RgbaPixel) → px ≢ self.old.last
             → CoderBetween w (px ∷ rest) table.old self.old (kept_bytes piece.old)
             → CoderBetween w rest table.new self.new (kept_bytes piece.new) }
@@ -167,6 +188,7 @@ impl<const N: usize> Coder<N> {
         ensures end { piece.new.end ≤ piece.old.end + RUNS_AT_ONCE + 1 }
         ensures inside { N * result ≤ length «data».now }
         ensures last { self.new.last ≡ self.old.last }
+        ensures begun { self.new.begun ≡ self.old.begun }
         ensures stops { (slice_get (pixels_of N (drop (N * result) «data».now)) 0
             ≢ Some self.old.last) ⊎ (carry + result ≡ REPEATS_AT_ONCE) }
         ensures written { (w : Writing) → CoderBetween w
@@ -204,6 +226,7 @@ impl<const N: usize> Coder<N> {
         ensures end { piece.new.end ≤ piece.old.end + RUNS_AT_ONCE + 1 }
         ensures inside { N * result ≤ length «data».now }
         ensures last { self.new.last ≡ self.old.last }
+        ensures begun { self.new.begun ≡ self.old.begun }
         ensures stops { (slice_get (pixels_of N (drop (N * result) «data».now)) 0
             ≢ Some self.old.last) ⊎ (carry + result ≡ REPEATS_AT_ONCE) }
         ensures written { (w : Writing) → CoderBetween w
@@ -234,6 +257,7 @@ impl<const N: usize> Coder<N> {
         ensures end { piece.new.end ≤ piece.old.end + RUNS_AT_ONCE + 1 + chunk_max }
         ensures inside { N * result ≤ length «data».now }
         ensures some { 0 < length «data».now → 0 < result }
+        ensures begun { self.old.begun ≡ true → self.new.begun ≡ true }
         ensures written { (w : Writing) → CoderBetween w
             (replicate carry self.old.last ++ pixels_of N «data».now) table.old self.old
             (kept_bytes piece.old)
@@ -266,48 +290,36 @@ impl<const N: usize> Coder<N> {
         }
     }
 
-    // Takes over what is carried, but for the repeats, which then still come.
+    // Whether the front goes by blocks: once a fresh pixel came, or if the next one is fresh. Not an
+    // image's only pixel, since to pad it would take longer; nor in style `Tight` the first fresh
+    // pixel.
     #[inline(always)]
-    fn take_over(&mut self, carry: Carry)
-        requires opaque { N ≡ 3 → slice_index carry.before.a 15 ≡ 255 }
-        ensures last { IsTrue self.old.begun → self.new.last ≡ last_pixel carry.before }
-        ensures between { (w : Writing) (rest table : List RgbaPixel) (kept : List ℕ)
-            → StepBetween w rest table self.old carry kept
-            → CoderBetween w (replicate carry.count self.new.last ++ rest) table self.new kept }
-    {
-        if self.begun {
-            *self = Coder {
-                style: self.style,
-                last: carry.before.last(),
-                begun: true,
-                placed: carry.placed,
-            };
-        }
-    }
-
-    // Whether the front is looked at as a block: once a fresh pixel came, or if the next one is
-    // fresh. Not an image's only pixel, since to pad it would take longer.
-    #[inline(always)]
-    fn goes_by_block(&self, data: &[u8]) -> bool
-        ensures { IsTrue result → self.now.begun ≡ false
+    fn goes_by_blocks(&self, data: &[u8]) -> bool
+        ensures fresh { IsTrue result → self.now.begun ≡ false
             → slice_get (pixels_of N «data».now) 0 ≢ Some self.now.last }
+        ensures tight { IsTrue result → self.now.style ≡ Tight → self.now.begun ≡ true }
+        ensures not_yet { IsFalse result → self.now.begun ≡ false }
     {
-        self.begun || (data.len() > N && !begins_with::<N>(data, self.last))
+        let may_open = match self.style {
+            Reference | Places => true,
+            Tight => false,
+        };
+        self.begun || (may_open && data.len() > N && !begins_with::<N>(data, self.last))
     }
 
-    // Whether a block can be written as one: not all its pixels repeat, and in style `Tight` none
-    // is given by another index position than its own.
+    // Whether in style `Tight` a pixel of the block may be given by another index position than its
+    // own.
     #[inline(always)]
-    fn takes(style: Style, table: &PixelTable, block: Block) -> bool
-        ensures { (before : Planes) → (N ≡ 3 → AreOpaque (block_pixels block.words))
-            → ChangesFrom before (block_pixels block.words) block.changes → IsTrue result
-            → FitsBlock N style table.now before (block_pixels block.words) block.changes }
+    fn may_name_other(style: Style, table: &PixelTable, block: Block) -> bool
+        ensures tight { IsTrue result → style ≡ Tight }
+        ensures none { (before : Planes) → ChangesFrom before (block_pixels block.words) block.changes
+            → IsFalse result → style ≡ Tight
+            → MissesNoBlank table.now before (block_pixels block.words) }
     {
-        let blank = match style {
+        match style {
             Reference | Places => false,
             Tight => block.may_miss_blank(table),
-        };
-        !blank && !block.repeats()
+        }
     }
 
     // Writes the block at the front, but for the repeats at its end. Returns how many pixels it
@@ -371,8 +383,8 @@ impl<const N: usize> Coder<N> {
         ensures some { 0 < result.0 }
         ensures few { result.1.count < run_max }
         ensures before { result.1.before ≡ carry.before }
-        ensures written { (w : Writing) (table : List RgbaPixel)
-            → CarryBetween true w (pixels_of N «data».now) table carry (kept_bytes piece.old)
+        ensures written { (w : Writing) (begun : Bool) (table : List RgbaPixel)
+            → CarryBetween begun w (pixels_of N «data».now) table carry (kept_bytes piece.old)
             → CarryBetween true w (pixels_of N (drop (N * result.0) «data».now)) table result.1
             (kept_bytes piece.new) }
     {
@@ -389,16 +401,16 @@ impl<const N: usize> Coder<N> {
         (ahead, after)
     }
 
-    // Writes the repeats at the front and the fresh pixel after them. Returns how many pixels came,
-    // and what is carried.
+    // Writes the repeats at the front and the fresh pixel after them, in style `Tight`. Returns how
+    // many pixels came, and what is carried.
     #[inline(always)]
     fn write_group<const ROOM: usize>(
-        &mut self,
         table: &mut PixelTable,
         piece: &mut Piece<ROOM>,
         data: &[u8],
         carry: Carry,
     ) -> (usize, Carry)
+        requires channels { IsChannels N }
         requires whole { length «data».now % N ≡ 0 }
         requires some { 0 < length «data».now }
         requires few { carry.count < run_max }
@@ -409,30 +421,29 @@ impl<const N: usize> Coder<N> {
         ensures some { 0 < result.0 }
         ensures few { result.1.count < run_max }
         ensures opaque { N ≡ 3 → slice_index result.1.before.a 15 ≡ 255 }
-        ensures written { (w : Writing) → StepBetween w (pixels_of N «data».now) table.old self.old
-            carry (kept_bytes piece.old)
-            → StepBetween w (pixels_of N (drop (N * result.0) «data».now)) table.new self.new
-            result.1 (kept_bytes piece.new) }
+        ensures written { (w : Writing) → w.list.style ≡ Tight
+            → CarryBetween true w (pixels_of N «data».now) table.old carry (kept_bytes piece.old)
+            → InBlocks w (pixels_of N (drop (N * result.0) «data».now)) table.new result.1
+            (kept_bytes piece.new) }
     {
-        self.take_over(carry);
-        let count = self.write_next(table, piece, data, usize::from(carry.count));
-        (count, self.carry())
+        let mut coder = Coder::<N>::after(Tight, carry);
+        let count = coder.write_next(table, piece, data, usize::from(carry.count));
+        (count, coder.carry())
     }
 
     // Writes what is at the front of raw bytes: a block, but for the repeats at its end; if its
     // pixels repeat, full runs of the repeats there; or repeats and the fresh pixel after them, if
-    // the front doesn't go by a block, or in style `Tight` a pixel may be given by another index
-    // position than its own. Returns how many pixels came, and what is carried. The coder's style
-    // is passed, too, since where it is called it is a constant.
+    // in style `Tight` a pixel may be given by another index position than its own. Returns how
+    // many pixels came, and what is carried.
     #[inline(always)]
     fn write_front<const STYLE: u8, const ROOM: usize>(
-        &mut self,
         style: Style,
         table: &mut PixelTable,
         piece: &mut Piece<ROOM>,
         data: &[u8],
         carry: Carry,
     ) -> (usize, Carry)
+        requires channels { IsChannels N }
         requires whole { length «data».now % N ≡ 0 }
         requires some { 0 < length «data».now }
         requires few { carry.count < run_max }
@@ -444,24 +455,96 @@ impl<const N: usize> Coder<N> {
         ensures few { result.1.count < run_max }
         ensures opaque { N ≡ 3 → slice_index result.1.before.a 15 ≡ 255 }
         ensures written { (w : Writing) → w.list.style ≡ style
-            → StepBetween w (pixels_of N «data».now) table.old self.old
-            carry (kept_bytes piece.old)
-            → StepBetween w (pixels_of N (drop (N * result.0) «data».now)) table.new self.new
-            result.1 (kept_bytes piece.new) }
+            → InBlocks w (pixels_of N «data».now) table.old carry (kept_bytes piece.old)
+            → InBlocks w (pixels_of N (drop (N * result.0) «data».now)) table.new result.1
+            (kept_bytes piece.new) }
     {
-        if self.goes_by_block(data) {
-            let block = Block::first::<N>(data, carry.before);
-            if Coder::<N>::takes(style, table, block) {
-                self.begun = true;
-                return Coder::<N>::write_block::<STYLE, ROOM>(
-                    style, table, piece, data, block, carry,
-                );
-            }
-            if self.begun & block.repeats() {
-                return Coder::<N>::write_long_group(piece, data, carry);
-            }
+        let block = Block::first::<N>(data, carry.before);
+        if block.repeats() {
+            return Coder::<N>::write_long_group(piece, data, carry);
         }
-        self.write_group(table, piece, data, carry)
+        if Coder::<N>::may_name_other(style, table, block) {
+            return Coder::<N>::write_group(table, piece, data, carry);
+        }
+        Coder::<N>::write_block::<STYLE, ROOM>(style, table, piece, data, block, carry)
+    }
+
+    // Writes the repeats that open an image, and the fresh pixel after them if it doesn't go by
+    // blocks. Returns the rest, which goes by blocks unless the piece is full or nothing is left,
+    // and the piece. Updates what is carried: nothing.
+    #[inline(never)]
+    fn write_opening<'a, 'p, const ROOM: usize>(
+        &mut self,
+        table: &mut PixelTable,
+        piece: Piece<'p, ROOM>,
+        data: &'a [u8],
+        carry: &mut Carry,
+    ) -> (&'a [u8], Piece<'p, ROOM>)
+        requires whole { length «data».now % N ≡ 0 }
+        requires few { carry.old.count < run_max }
+        requires opaque { N ≡ 3 → slice_index carry.old.before.a 15 ≡ 255 }
+        requires room { piece.end < ROOM - PAST }
+        ensures end { result.1.end < ROOM - PAST + BLOCK_MAX }
+        ensures some { (length result.0.now ≤ length «data».entry.now) × (ROOM - PAST ≤ result.1.end
+            → length result.0.now < length «data».entry.now) }
+        ensures whole { length result.0.now % N ≡ 0 }
+        ensures few { carry.new.count < run_max }
+        ensures opaque { N ≡ 3 → slice_index carry.new.before.a 15 ≡ 255 }
+        ensures begun { result.1.end < ROOM - PAST → 0 < length result.0.now
+            → self.new.begun ≡ true }
+        ensures written { (w : Writing)
+            → StepBetween w (pixels_of N «data».entry.now) table.old self.old carry.old
+            (kept_bytes piece.entry)
+            → StepBetween w (pixels_of N result.0.now) table.new self.new carry.new
+            (kept_bytes result.1) }
+    {
+        let mut piece = piece;
+        let mut rest = data;
+        while !piece.is_full() && !rest.is_empty() {
+            if self.goes_by_blocks(rest) {
+                self.begun = true;
+                return (rest, piece);
+            }
+            let count = self.write_next(table, &mut piece, rest, 0);
+            *carry = self.carry();
+            rest = skip(rest, N * count);
+        }
+        (rest, piece)
+    }
+
+    // Writes what opens an image and doesn't go by blocks, if it is at the front, as
+    // `write_opening` does.
+    #[inline(always)]
+    fn open<'a, 'p, const ROOM: usize>(
+        &mut self,
+        table: &mut PixelTable,
+        piece: Piece<'p, ROOM>,
+        data: &'a [u8],
+        carry: &mut Carry,
+    ) -> (&'a [u8], Piece<'p, ROOM>)
+        requires whole { length «data».now % N ≡ 0 }
+        requires few { carry.old.count < run_max }
+        requires opaque { N ≡ 3 → slice_index carry.old.before.a 15 ≡ 255 }
+        requires room { piece.end < ROOM - PAST }
+        ensures end { result.1.end < ROOM - PAST + BLOCK_MAX }
+        ensures some { (length result.0.now ≤ length «data».entry.now) × (ROOM - PAST ≤ result.1.end
+            → length result.0.now < length «data».entry.now) }
+        ensures whole { length result.0.now % N ≡ 0 }
+        ensures few { carry.new.count < run_max }
+        ensures opaque { N ≡ 3 → slice_index carry.new.before.a 15 ≡ 255 }
+        ensures begun { result.1.end < ROOM - PAST → 0 < length result.0.now
+            → self.new.begun ≡ true }
+        ensures written { (w : Writing)
+            → StepBetween w (pixels_of N «data».entry.now) table.old self.old carry.old
+            (kept_bytes piece.entry)
+            → StepBetween w (pixels_of N result.0.now) table.new self.new carry.new
+            (kept_bytes result.1) }
+    {
+        if self.goes_by_blocks(data) {
+            self.begun = true;
+            return (data, piece);
+        }
+        self.write_opening(table, piece, data, carry)
     }
 
     /// Writes until the piece is full or nothing is left, and updates what is carried. Returns the
@@ -494,12 +577,11 @@ impl<const N: usize> Coder<N> {
             → StepBetween w (pixels_of N result.0.now) table.new self.new carry.new
             (kept_bytes result.1) }
     {
-        let mut piece = piece;
-        let mut rest = data;
+        let (mut rest, mut piece) = self.open(table, piece, data, carry);
         let mut now = *carry;
         while !piece.is_full() && !rest.is_empty() {
             let (count, after) =
-                self.write_front::<STYLE, ROOM>(style, table, &mut piece, rest, now);
+                Coder::<N>::write_front::<STYLE, ROOM>(style, table, &mut piece, rest, now);
             now = after;
             rest = skip(rest, N * count);
         }
@@ -510,7 +592,7 @@ impl<const N: usize> Coder<N> {
     /// Writes the repeats that are carried at the end, if there are any.
     #[inline(always)]
     pub(super) fn write_last<const ROOM: usize>(
-        &mut self,
+        &self,
         table: &mut PixelTable,
         piece: &mut Piece<ROOM>,
         carry: Carry,
@@ -520,12 +602,12 @@ impl<const N: usize> Coder<N> {
         requires room { piece.old.end < ROOM - PAST }
         ensures end { piece.new.end ≤ piece.old.end + RUNS_AT_ONCE + 1 }
         ensures written { (w : Writing)
-            → StepBetween w [] table.old self.old carry (kept_bytes piece.old)
+            → StepBetween w [] table.old self.now carry (kept_bytes piece.old)
             → w.ahead ≡ kept_bytes piece.new }
     {
         if carry.count > 0 {
-            self.take_over(carry);
-            self.write_runs(table, piece, &[], usize::from(carry.count));
+            let mut coder = Coder::<N>::after(self.style, carry);
+            coder.write_runs(table, piece, &[], usize::from(carry.count));
         }
     }
 }

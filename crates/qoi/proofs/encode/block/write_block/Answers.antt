@@ -5,26 +5,21 @@ use Rattle.qoi.specs.declared.types.Style.TheVariants.{Places}
 use Rattle.qoi.specs.Qoi.{RgbaPixel, IsPixel, hash}
 use Rattle.qoi.specs.Raw.{IsChannels}
 use Rattle.qoi.specs.inner.BlockState.{State, lanes_of}
-use Rattle.qoi.specs.declared.encode.planes.Planes.{Planes}
 use Rattle.qoi.specs.inner.BlockBytes.{sizes}
 use Rattle.qoi.specs.inner.Blocks.{BetweenBlocks, last_pixel, all_repeat}
 use Rattle.qoi.specs.inner.Planes.{AreOpaque, block_pixels}
 use Rattle.qoi.specs.inner.Spelling.{IsLastOf}
 use Rattle.qoi.specs.inner.Stands.{stand_tests}
 use Rattle.qoi.specs.inner.Table.{Holds}
-use Rattle.qoi.proofs.format.SamePixels.{same_pixel}
 use Rattle.qoi.proofs.encoding.BlockPuts.{hashes_below}
 use Rattle.qoi.proofs.encoding.BlockStep.{ready, first_repeats, group_stored, block_step}
+use Rattle.qoi.proofs.encoding.LastOfPlanes.{last_of_planes}
 use Rattle.qoi.proofs.encoding.PackedBlock.{block_sixteen, block_words}
 use Rattle.qoi.proofs.encoding.PaddedBlock.{padded_front}
 use Rattle.qoi.proofs.encoding.RereadLanes.{read_back}
 use Rattle.qoi.proofs.encoding.StoredBlock.{sizes_few}
 use Rattle.qoi.proofs.encoding.OpaqueBlock.{sizes_opaque}
 use Rattle.qoi.proofs.encode.block.write_block.Goals as goal
-
--- the last pixel of the block before
-last_of_planes : (q : RgbaPixel) (p : Planes) → IsLastOf q p → q ≡ last_pixel p
-last_of_planes q p is = same_pixel q (last_pixel p) (sym is.red) (sym is.green) (sym is.blue) (sym is.alpha)
 
 -- a chunk has at most as many bytes as a pixel has channels, and one more
 sizes_in : (n : ℕ) (s : State) (q : RgbaPixel) (ps : List RgbaPixel) (xs : List ℕ) → IsChannels n → (n ≡ 3 → AreOpaque ps) → (n ≡ 3 → q.a ≡ 255)

@@ -1,8 +1,23 @@
 -- A step further.
-use Rattle.std.proofs.Common.{◌≡◌, ◌-◌, ◌*◌, ◌%◌, ◌<◌, length, ap, ◌∙◌, arith}
+use Rattle.std.proofs.Common.{◌≡◌, true, false, ◌-◌, ◌*◌, ◌%◌, ◌<◌, length, sym, ap, ◌∙◌, arith}
+use Rattle.std.proofs.lemmas.Bool.{true≢false}
 use Rattle.std.proofs.lemmas.List.{length-drop}
 use Rattle.qoi.proofs.encoding.GroupRuns.{some_bytes, whole_rest}
 use Rattle.qoi.proofs.encode.coder.Coder.fill.Goals as goal
+
+pub loop-style-init : goal.loop-style-init
+loop-style-init g c =
+    let front = c.open-piece.ensures in
+    record {
+      end = front.end;
+      begun = front.begun;
+      left = front.some.0;
+      some = front.some.1;
+      whole = front.whole;
+      few = front.few;
+      opaque = front.opaque;
+      written = λ w _ b. front.written w b;
+    }
 
 pub loop-style-preserved : goal.loop-style-preserved
 loop-style-preserved g c =
@@ -14,12 +29,20 @@ loop-style-preserved g c =
     let channels = c.args.self.now.channels in
     let size : length c.skip-rest.result.now ≡ length rest - n * count = ap length c.skip-rest.ensures ∙ length-drop (n * count) rest in
     let some : 0 < n * count = some_bytes n count channels step.some in
+    let begun = i.begun (c.is_full.ensures.room c.loop-style-test.true) (omega arith) in
     record {
       end = omega (arith, step.end, c.is_full.ensures.room c.loop-style-test.true);
+      begun = λ _ _. begun;
       left = omega (arith, size, i.left);
       some = λ _. omega (arith, size, i.left, some, step.inside);
       whole = ap (λ k. k % n) size ∙ whole_rest n count (length rest) channels i.whole step.inside;
       few = step.few;
       opaque = step.opaque;
-      written = λ w is b. rw c.skip-rest.ensures (step.written w is (i.written w is b));
+      written = λ w is b.
+          let now = i.written w is b in
+          rw c.skip-rest.ensures (record {
+            style_is = now.style_is;
+            opening = λ no. absurd (true≢false (sym begun ∙ no));
+            by_blocks = λ _. step.written w is (now.by_blocks begun);
+          });
     }

@@ -1,5 +1,5 @@
 -- The pixels up to here are written, but for the repeats that are carried.
-use Rattle.std.proofs.Common.{◌≡◌, ◌+◌, ◌-◌, ◌%◌, ◌<◌, ◌≤◌, length, slice_index}
+use Rattle.std.proofs.Common.{◌≡◌, true, ◌+◌, ◌-◌, ◌%◌, ◌<◌, ◌≤◌, length, slice_index}
 use Rattle.qoi.specs.declared.encode.block.TheConstants.{BLOCK_MAX}
 use Rattle.qoi.specs.declared.encode.piece.TheConstants.{PAST}
 use Rattle.qoi.specs.Qoi.{run_max}
@@ -12,13 +12,14 @@ use Rattle.qoi.proofs.encode.coder.Coder.fill.Given as goal
 abbrev pub invariant-loop-style : goal.invariant-loop-style
 invariant-loop-style g l = record {
   end : l.piece.end < g.row.ROOM - PAST + BLOCK_MAX;
+  begun : l.piece.end < g.row.ROOM - PAST → 0 < length l.rest → l.self.begun ≡ true;
   left : length l.rest ≤ length l.data;
   some : g.row.ROOM - PAST ≤ l.piece.end → length l.rest < length l.data;
   whole : length l.rest % g.row.N ≡ 0;
   few : l.now.count < run_max;
   opaque : g.row.N ≡ 3 → slice_index l.now.before.a 15 ≡ 255;
   written : (w : Writing) → w.list.style ≡ l.style
-      → StepBetween w (pixels_of g.row.N l.data) l.initial.table l.initial.self l.initial.now (kept_bytes l.initial.piece)
+      → StepBetween w (pixels_of g.row.N l.data) l.fn.table l.fn.self l.fn.carry (kept_bytes l.fn.piece)
       → StepBetween w (pixels_of g.row.N l.rest) l.table l.self l.now (kept_bytes l.piece);
 }
 

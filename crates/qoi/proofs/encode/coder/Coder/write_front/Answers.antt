@@ -1,49 +1,48 @@
 -- A block, or a group.
-use Rattle.std.proofs.Common.{◌≡◌, ◌-◌, ◌/◌, true, length, take, slice_index, sym, ap, ◌∙◌, arith}
-use Rattle.std.proofs.lemmas.Bool.{true≢false, and_parts}
+use Rattle.std.proofs.Common.{◌≡◌, ◌-◌, ◌/◌, true, false, length, take, slice_index, sym, ap, ◌∙◌, arith}
 use Rattle.qoi.specs.declared.encode.planes.Planes.{Planes}
 use Rattle.qoi.specs.Raw.{pixels_of}
-use Rattle.qoi.specs.inner.Blocks.{all_repeat, last_pixel, padded}
-use Rattle.qoi.proofs.encoding.CoderLink.{step_blocks}
+use Rattle.qoi.specs.inner.Blocks.{FitsBlock, all_repeat, last_pixel, padded}
+use Rattle.qoi.specs.inner.Planes.{block_pixels}
+use Rattle.qoi.proofs.encoding.CoderLink.{begun_in_tight, in_blocks}
 use Rattle.qoi.proofs.encoding.FrontBlock.{repeats_first, last_opaque}
 use Rattle.qoi.proofs.encode.coder.Coder.write_front.Goals as goal
 
-pub returns-then-takes-clause-opaque : goal.returns-then-takes-clause-opaque
-returns-then-takes-clause-opaque g c = λ three.
-    let block = c.first-block.result in
-    ap (λ (x : Planes). slice_index x.a 15) c.write_block.ensures.before
-    ∙ last_opaque block.words block.planes block.packed block.planes_are (c.first-block.ensures.opaque three)
+pub returns-then-repeats-clause-opaque : goal.returns-then-repeats-clause-opaque
+returns-then-repeats-clause-opaque g c = λ three. ap (λ (x : Planes). slice_index x.a 15) c.write_long_group.ensures.before ∙ c.requires.opaque three
 
-pub returns-then-takes-clause-written : goal.returns-then-takes-clause-written
-returns-then-takes-clause-written g c = λ w style b.
-    let block = c.first-block.ensures in
-    let fits = c.takes.ensures c.args.carry.before block.opaque block.changes c.if-takes.true in
-    let begun = c.args.self.now.begun in
-    record {
-      style_is = b.style_is;
-      opening = λ no. absurd (true≢false no);
-      by_blocks = λ _. c.write_block.ensures.written w begun style fits (step_blocks b (c.goes_by_block.ensures c.if-goes_by_block.true));
-    }
-
-pub returns-then-self-repeats-clause-opaque : goal.returns-then-self-repeats-clause-opaque
-returns-then-self-repeats-clause-opaque g c = λ three. ap (λ (x : Planes). slice_index x.a 15) c.write_long_group.ensures.before ∙ c.requires.opaque three
-
-pub returns-then-self-repeats-clause-written : goal.returns-then-self-repeats-clause-written
-returns-then-self-repeats-clause-written g c = λ w style b.
-    let begun : c.args.self.now.begun ≡ true = (and_parts c.args.self.now.begun c.repeats.result c.if-self-repeats.true).0 in
-    record {
-      style_is = b.style_is;
-      opening = λ no. absurd (true≢false (sym begun ∙ no));
-      by_blocks = λ _. c.write_long_group.ensures.written w c.args.table.now (b.by_blocks begun);
-    }
+pub returns-then-repeats-clause-written : goal.returns-then-repeats-clause-written
+returns-then-repeats-clause-written g c = λ w style b. in_blocks (c.write_long_group.ensures.written w b.begun c.args.table.now b.between)
 
 pub write_long_group-requires : goal.write_long_group-requires
 write_long_group-requires g c =
     let n = g.row.N in
     let raw = c.args.data.now in
     let q = last_pixel c.args.carry.before in
-    let both = and_parts c.args.self.now.begun c.repeats.result c.if-self-repeats.true in
     let all : all_repeat q (padded (take 16 (pixels_of n raw)) (16 - length raw / n)) ≡ true =
-    sym (ap (all_repeat q) c.first-block.ensures.pixels) ∙ sym (c.repeats.ensures c.args.carry.before c.first-block.ensures.changes) ∙ both.1 in
-    let first = repeats_first n raw q (16 - length raw / n) c.args.self.now.channels c.requires.whole c.requires.some all in
-    (omega arith, (c.args.self.now.channels, (first, (c.requires.whole, (c.requires.some, (c.requires.few, (c.requires.opaque, c.requires.room)))))))
+    sym (ap (all_repeat q) c.first-block.ensures.pixels) ∙ sym (c.repeats.ensures c.args.carry.before c.first-block.ensures.changes) ∙ c.if-repeats.true in
+    let first = repeats_first n raw q (16 - length raw / n) c.requires.channels c.requires.whole c.requires.some all in
+    (omega arith, (c.requires.channels, (first, (c.requires.whole, (c.requires.some, (c.requires.few, (c.requires.opaque, c.requires.room)))))))
+
+pub returns-then-may_name_other-clause-written : goal.returns-then-may_name_other-clause-written
+returns-then-may_name_other-clause-written g c = λ w style b.
+    let tight = style ∙ c.may_name_other.ensures.tight c.if-may_name_other.true in
+    c.write_group.ensures.written w tight (begun_in_tight b tight)
+
+pub returns-clause-opaque : goal.returns-clause-opaque
+returns-clause-opaque g c = λ three.
+    let block = c.first-block.result in
+    ap (λ (x : Planes). slice_index x.a 15) c.write_block.ensures.before
+    ∙ last_opaque block.words block.planes block.packed block.planes_are (c.first-block.ensures.opaque three)
+
+pub returns-clause-written : goal.returns-clause-written
+returns-clause-written g c = λ w style b.
+    let block = c.first-block.ensures in
+    let before = c.args.carry.before in
+    let fits : FitsBlock g.row.N c.args.style c.args.table.now before (block_pixels c.first-block.result.words) c.first-block.result.changes = record {
+      changes = block.changes;
+      opaque = block.opaque;
+      mixed = sym (c.repeats.ensures before block.changes) ∙ c.if-repeats.false;
+      no_blank = c.may_name_other.ensures.none before block.changes c.if-may_name_other.false;
+    } in
+    in_blocks (c.write_block.ensures.written w b.begun style fits b.between)

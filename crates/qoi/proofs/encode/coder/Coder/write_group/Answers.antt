@@ -1,5 +1,5 @@
 -- The repeats and a fresh pixel.
-use Rattle.std.proofs.Common.{◌++◌, replicate}
+use Rattle.std.proofs.Common.{◌≡◌, true, ◌++◌, replicate}
 use Rattle.qoi.specs.Raw.{pixels_of}
 use Rattle.qoi.specs.inner.CoderLoop.{CoderBetween}
 use Rattle.qoi.specs.inner.Piece.{kept_bytes}
@@ -9,7 +9,8 @@ pub returns-clause-some : goal.returns-clause-some
 returns-clause-some g c = c.write_next-count.ensures.some c.requires.some
 
 pub returns-clause-written : goal.returns-clause-written
-returns-clause-written g c = λ w b.
-    let start : CoderBetween w (replicate c.from.result c.take_over.new.self.last ++ pixels_of g.row.N c.args.data.now) c.args.table.now c.take_over.new.self (kept_bytes c.args.piece.now)
-    = rw c.from.ensures (c.take_over.ensures.between w _ _ _ b) in
-    c.carry.ensures.between w _ _ _ (c.write_next-count.ensures.written w start)
+returns-clause-written g c = λ w tight b.
+    let start : CoderBetween w (replicate c.from.result c.after-coder.result.last ++ pixels_of g.row.N c.args.data.now) c.args.table.now c.after-coder.result (kept_bytes c.args.piece.now)
+    = rw c.from.ensures (c.after-coder.ensures.between w _ _ _ tight b) in
+    let begun : c.write_next-count.new.self.begun ≡ true = c.write_next-count.ensures.begun c.after-coder.ensures.begun in
+    (c.carry.ensures.between w _ _ _ (c.write_next-count.ensures.written w start)).by_blocks begun

@@ -11,6 +11,7 @@ use Rattle.qoi.specs.inner.Blocks.{last_pixel}
 use Rattle.qoi.specs.inner.CarryLoop.{CarryBetween}
 use Rattle.qoi.specs.inner.Piece.{kept_bytes}
 use Rattle.qoi.proofs.encoding.CarriedRuns.{blocks_on}
+use Rattle.qoi.proofs.encoding.CoderLink.{begun_by_repeat}
 use Rattle.qoi.proofs.encoding.FrontBlock.{repeats_some}
 use Rattle.qoi.proofs.encoding.GroupRuns.{NearGroup, near_group, pixel_ahead}
 use Rattle.qoi.proofs.encode.coder.Coder.write_long_group.Given.{Over}
@@ -57,7 +58,7 @@ returns-clause-some g c =
     c.requires.channels c.requires.repeats ends (omega (arith, c.from-carried.ensures, c.requires.few))
 
 pub returns-clause-written : goal.returns-clause-written
-returns-clause-written g c = λ w table b.
+returns-clause-written g c = λ w begun table b.
     let n = g.row.N in
     let raw = c.args.data.now in
     let carry = c.args.carry in
@@ -65,7 +66,7 @@ returns-clause-written g c = λ w table b.
     let count = c.from-carried.result + ahead in
     let group = near g (goal.at.returns-clause-written g c).After-repeats_of-ahead in
     let later = pixels_of n (drop (n * ahead) raw) in
-    let start = subst (λ x. CarryBetween true w x table carry (kept_bytes c.args.piece.now)) group.pixels b in
+    let start = subst (λ x. CarryBetween true w x table carry (kept_bytes c.args.piece.now)) group.pixels (begun_by_repeat begun b c.requires.repeats) in
     let few : slice_get later 0 ≡ Some (last_pixel carry.before) → count % 62 ≤ 45 = λ e. (elim group.ends as (λ _. count % 62 ≤ 45) [
       | inl other ↦ absurd (other e)
       | inr full ↦ omega (arith, full, c.from-carried.ensures, c.requires.few)
