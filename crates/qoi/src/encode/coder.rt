@@ -272,6 +272,25 @@ impl<const N: usize> Coder<N> {
         count + 1
     }
 
+    /// Writes the only pixel of an image, since to pad it to a block would take longer.
+    #[inline(never)]
+    pub(super) fn write_only<'p, const ROOM: usize>(
+        &mut self,
+        table: &mut PixelTable,
+        piece: Piece<'p, ROOM>,
+        data: &[u8],
+    ) -> Piece<'p, ROOM>
+        requires one { length «data».now ≡ N }
+        requires room { piece.end + RUNS_AT_ONCE + 1 + chunk_max ≤ ROOM }
+        ensures end { result.end ≤ piece.entry.end + RUNS_AT_ONCE + 1 + chunk_max }
+        ensures written { (w : Writing) → CoderBetween w (pixels_of N «data».now) table.old
+            self.old (kept_bytes piece.entry) → w.ahead ≡ kept_bytes result }
+    {
+        let mut piece = piece;
+        self.write_next(table, &mut piece, data, 0);
+        piece
+    }
+
     /// What is carried after the coder's last pixel, once it is written: nothing.
     #[inline(always)]
     pub(super) fn carry(&self) -> Carry
@@ -290,9 +309,8 @@ impl<const N: usize> Coder<N> {
         }
     }
 
-    // Whether the front goes by blocks: once a fresh pixel came, or if the next one is fresh. Not an
-    // image's only pixel, since to pad it would take longer; nor in style `Tight` the first fresh
-    // pixel.
+    // Whether the front goes by blocks: once a fresh pixel came or, but in style `Tight`, if the
+    // next one is fresh.
     #[inline(always)]
     fn goes_by_blocks(&self, data: &[u8]) -> bool
         ensures fresh { IsTrue result → self.now.begun ≡ false
@@ -304,7 +322,7 @@ impl<const N: usize> Coder<N> {
             Reference | Places => true,
             Tight => false,
         };
-        self.begun || (may_open && data.len() > N && !begins_with::<N>(data, self.last))
+        self.begun || (may_open && !begins_with::<N>(data, self.last))
     }
 
     // Whether in style `Tight` a pixel of the block may be given by another index position than its

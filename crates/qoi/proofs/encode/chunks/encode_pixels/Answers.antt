@@ -10,6 +10,14 @@ use Rattle.qoi.proofs.encoding.PieceByPiece.{piece_starts, piece_filled, piece_f
 use Rattle.qoi.proofs.encoding.PieceSent.{kept_length}
 use Rattle.qoi.proofs.encode.chunks.encode_pixels.Goals as goal
 
+pub returns-then-data-clause-written : goal.returns-then-data-clause-written
+returns-then-data-clause-written g c =
+    let new = c.new-coder.ensures in
+    let state = new.state c.new-table.result c.new-table.ensures in
+    let starts = piece_starts _ g.met.W.Writer.laws c.requires.channels (λ i. omega (arith, c.type_inv.data i)) c.requires.whole
+    (omega (arith, kept_length c.args.piece, c.requires.room)) new.style state (λ w b. c.carry-carry.ensures.between w _ _ _ b) in
+    piece_ends starts (λ w b. c.write_only.ensures.written w (b.opening state.begun_is).between)
+
 pub loop-rest-init : goal.loop-rest-init
 loop-rest-init g c =
     let new = c.new-coder.ensures in
