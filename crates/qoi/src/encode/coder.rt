@@ -330,7 +330,8 @@ impl<const N: usize> Coder<N> {
     #[inline(always)]
     fn may_name_other(style: Style, table: &PixelTable, block: Block) -> bool
         ensures tight { IsTrue result → style ≡ Tight }
-        ensures none { (before : Planes) → ChangesFrom before (block_pixels block.words) block.changes
+        ensures none { (before : Planes)
+            → ChangesFrom before (block_pixels block.words) block.changes
             → IsFalse result → style ≡ Tight
             → MissesNoBlank table.now before (block_pixels block.words) }
     {
@@ -562,15 +563,16 @@ impl<const N: usize> Coder<N> {
             self.begun = true;
             return (data, piece);
         }
-        self.write_opening(table, piece, data, carry)
+        let (rest, piece) = self.write_opening(table, piece, data, carry);
+        (rest, piece)
     }
 
     /// Writes until the piece is full or nothing is left, and updates what is carried. Returns the
     /// rest, and the piece.
     ///
     /// The coder's style is passed, too, since it is a constant where this is called. `STYLE` is a
-    /// number for it, so that each style has a loop of its own. The piece is a value, so that the
-    /// compiler keeps it in registers.
+    /// number for it, so that each style has a loop of its own. The piece is a value, and taken apart
+    /// at once, so that the compiler keeps its fields in registers.
     pub(super) fn fill<'a, 'p, const STYLE: u8, const ROOM: usize>(
         &mut self,
         style: Style,
@@ -595,11 +597,13 @@ impl<const N: usize> Coder<N> {
             → StepBetween w (pixels_of N result.0.now) table.new self.new carry.new
             (kept_bytes result.1) }
     {
-        let (mut rest, mut piece) = self.open(table, piece, data, carry);
+        let Piece { bytes, end } = piece;
+        let (mut rest, mut piece) = self.open(table, Piece { bytes, end }, data, carry);
         let mut now = *carry;
         while !piece.is_full() && !rest.is_empty() {
-            let (count, after) =
-                Coder::<N>::write_front::<STYLE, ROOM>(style, table, &mut piece, rest, now);
+            let (count, after) = Coder::<N>::write_front::<STYLE, ROOM>(
+                style, table, &mut piece, rest, now,
+            );
             now = after;
             rest = skip(rest, N * count);
         }

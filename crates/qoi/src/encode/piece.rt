@@ -43,7 +43,7 @@ pub(super) const REPEATS_AT_ONCE: usize = RUNS_AT_ONCE * QOI_RUN_MAX;
 /// nothing. A full piece has `ROOM - PAST` bytes.
 #[derive(Drop)]
 pub(super) struct Piece<'a, const ROOM: usize> {
-    bytes: &'a mut [u8],
+    pub(super) bytes: &'a mut [u8],
     pub(super) end: usize,
     ghost large: { 2 * PAST ≤ ROOM },
     ghost within: { end ≤ ROOM },

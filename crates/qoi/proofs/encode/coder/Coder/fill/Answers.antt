@@ -1,5 +1,5 @@
 -- A step further.
-use Rattle.std.proofs.Common.{◌≡◌, true, false, ◌-◌, ◌*◌, ◌%◌, ◌<◌, length, sym, ap, ◌∙◌, arith}
+use Rattle.std.proofs.Common.{◌≡◌, ◌-◌, ◌*◌, ◌%◌, ◌<◌, length, sym, ap, ◌∙◌, arith}
 use Rattle.std.proofs.lemmas.Bool.{true≢false}
 use Rattle.std.proofs.lemmas.List.{length-drop}
 use Rattle.qoi.proofs.encoding.GroupRuns.{some_bytes, whole_rest}

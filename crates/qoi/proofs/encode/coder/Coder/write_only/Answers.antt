@@ -1,5 +1,5 @@
 -- No pixel is left.
-use Rattle.std.proofs.Common.{◌≡◌, ◌*◌, [], ◌∷◌, drop, length, arith, subst}
+use Rattle.std.proofs.Common.{◌≡◌, ◌*◌, [], drop, arith, subst}
 use Rattle.std.proofs.lemmas.List.{length-drop}
 use Rattle.qoi.specs.Raw.{pixels_of}
 use Rattle.qoi.specs.inner.CoderLoop.{CoderBetween}
