@@ -531,42 +531,6 @@ impl<const N: usize> Coder<N> {
         (rest, piece)
     }
 
-    // Writes what opens an image and doesn't go by blocks, if it is at the front, as
-    // `write_opening` does.
-    #[inline(always)]
-    fn open<'a, 'p, const ROOM: usize>(
-        &mut self,
-        table: &mut PixelTable,
-        piece: Piece<'p, ROOM>,
-        data: &'a [u8],
-        carry: &mut Carry,
-    ) -> (&'a [u8], Piece<'p, ROOM>)
-        requires whole { length «data».now % N ≡ 0 }
-        requires few { carry.old.count < run_max }
-        requires opaque { N ≡ 3 → slice_index carry.old.before.a 15 ≡ 255 }
-        requires room { piece.end < ROOM - PAST }
-        ensures end { result.1.end < ROOM - PAST + BLOCK_MAX }
-        ensures some { (length result.0.now ≤ length «data».entry.now) × (ROOM - PAST ≤ result.1.end
-            → length result.0.now < length «data».entry.now) }
-        ensures whole { length result.0.now % N ≡ 0 }
-        ensures few { carry.new.count < run_max }
-        ensures opaque { N ≡ 3 → slice_index carry.new.before.a 15 ≡ 255 }
-        ensures begun { result.1.end < ROOM - PAST → 0 < length result.0.now
-            → self.new.begun ≡ true }
-        ensures written { (w : Writing)
-            → StepBetween w (pixels_of N «data».entry.now) table.old self.old carry.old
-            (kept_bytes piece.entry)
-            → StepBetween w (pixels_of N result.0.now) table.new self.new carry.new
-            (kept_bytes result.1) }
-    {
-        if self.goes_by_blocks(data) {
-            self.begun = true;
-            return (data, piece);
-        }
-        let (rest, piece) = self.write_opening(table, piece, data, carry);
-        (rest, piece)
-    }
-
     /// Writes until the piece is full or nothing is left, and updates what is carried. Returns the
     /// rest, and the piece.
     ///
@@ -598,7 +562,13 @@ impl<const N: usize> Coder<N> {
             (kept_bytes result.1) }
     {
         let Piece { bytes, end } = piece;
-        let (mut rest, mut piece) = self.open(table, Piece { bytes, end }, data, carry);
+        let piece = Piece { bytes, end };
+        let (mut rest, mut piece) = if self.goes_by_blocks(data) {
+            self.begun = true;
+            (data, piece)
+        } else {
+            self.write_opening(table, piece, data, carry)
+        };
         let mut now = *carry;
         while !piece.is_full() && !rest.is_empty() {
             let (count, after) = Coder::<N>::write_front::<STYLE, ROOM>(

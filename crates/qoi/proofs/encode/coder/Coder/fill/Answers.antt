@@ -1,23 +1,38 @@
 -- A step further.
-use Rattle.std.proofs.Common.{◌≡◌, ◌-◌, ◌*◌, ◌%◌, ◌<◌, length, sym, ap, ◌∙◌, arith}
+use Rattle.std.proofs.Common.{◌≡◌, ◌-◌, ◌*◌, ◌%◌, ◌<◌, length, refl, sym, ap, ◌∙◌, arith}
 use Rattle.std.proofs.lemmas.Bool.{true≢false}
 use Rattle.std.proofs.lemmas.List.{length-drop}
+use Rattle.qoi.proofs.encoding.CoderLink.{opened}
 use Rattle.qoi.proofs.encoding.GroupRuns.{some_bytes, whole_rest}
+use Rattle.qoi.proofs.encode.coder.Coder.fill.Goals.{then-goes_by_blocks, else-goes_by_blocks}
 use Rattle.qoi.proofs.encode.coder.Coder.fill.Goals as goal
 
 pub loop-style-init : goal.loop-style-init
-loop-style-init g c =
-    let front = c.open-piece.ensures in
-    record {
-      end = front.end;
-      begun = front.begun;
-      left = front.some.0;
-      some = front.some.1;
-      whole = front.whole;
-      few = front.few;
-      opaque = front.opaque;
-      written = λ w _ b. front.written w b;
-    }
+loop-style-init g c = elim c.if-goes_by_blocks.branch [
+  | then-goes_by_blocks way ↦ (let by = c.goes_by_blocks.ensures in
+      let is = way.if-goes_by_blocks.true in
+      rw (way.self-is, way.table-is, way.carry-is, way.piece-is) (record {
+        end = omega (arith, c.requires.room);
+        begun = λ _ _. refl;
+        left = omega arith;
+        some = λ full. absurd (omega (arith, c.requires.room, full));
+        whole = c.requires.whole;
+        few = c.requires.few;
+        opaque = c.requires.opaque;
+        written = λ w _ b. opened b (by.fresh is) (by.tight is) refl refl;
+      }))
+  | else-goes_by_blocks way ↦ (let front = way.write_opening.ensures in
+      rw (way.self-is, way.table-is, way.carry-is, way.piece-is) (record {
+        end = front.end;
+        begun = front.begun;
+        left = front.some.0;
+        some = front.some.1;
+        whole = front.whole;
+        few = front.few;
+        opaque = front.opaque;
+        written = λ w _ b. front.written w b;
+      }))
+]
 
 pub loop-style-preserved : goal.loop-style-preserved
 loop-style-preserved g c =
