@@ -8,32 +8,36 @@ use Rattle.std.proofs.lemmas.Simd.{swz_l}
 use lib.Lanes.{all_below, digits_l, number_l, Each1}
 use Rattle.qoi.specs.declared.encode.fours.TheConstants.{ORDERS, TOTALS}
 use Rattle.qoi.specs.inner.Fours.{total, order_of, size_at, close_bytes}
-use Rattle.qoi.proofs.format.Entries.{entry, entry_or}
+use Rattle.qoi.proofs.format.Entries.{entry}
 use Rattle.qoi.proofs.encoding.Shuffles.{are_positions, at, shuffled, four_bytes, part_of}
+
+-- the positions of an entry, of which the first has the lowest byte
+abbrev places : ℕ → List ℕ
+places i = digits_l 256 16 (get_or ORDERS i 0)
 
 -- positions in a vector, of which the first are the order that four codes mean
 abbrev is_order : ℕ → List ℕ → Bool
 is_order i js = bytes_eq (take (total i) js) (order_of i) && are_positions js
 
 -- each entry of the table is
-entry_is : (i : ℕ) → i < 256 → is_order i (get_or ORDERS i []) ≡ true
-entry_is i lt = entry_or [] ORDERS is_order 0 0 256 i i (omega arith) refl (omega arith) lt (omega arith)
+entry_is : (i : ℕ) → i < 256 → is_order i (places i) ≡ true
+entry_is i lt = entry ORDERS (λ j n. is_order j (digits_l 256 16 n)) 0 0 256 i i (omega arith) refl (omega arith) lt (omega arith)
 
 -- it is the order
-pub entry_order : (i : ℕ) → i < 256 → take (total i) (get_or ORDERS i []) ≡ order_of i
-entry_order i lt = same_text _ _ (sym (and_parts _ (are_positions (get_or ORDERS i [])) (entry_is i lt)).0)
+pub entry_order : (i : ℕ) → i < 256 → take (total i) (places i) ≡ order_of i
+entry_order i lt = same_text _ _ (sym (and_parts _ (are_positions (places i)) (entry_is i lt)).0)
 
 -- and has positions alone
-entry_positions : (i : ℕ) → i < 256 → are_positions (get_or ORDERS i []) ≡ true
-entry_positions i lt = (and_parts (bytes_eq (take (total i) (get_or ORDERS i [])) (order_of i)) _ (entry_is i lt)).1
+entry_positions : (i : ℕ) → i < 256 → are_positions (places i) ≡ true
+entry_positions i lt = (and_parts (bytes_eq (take (total i) (places i)) (order_of i)) _ (entry_is i lt)).1
 
 -- each is in a vector
-pub entry_below : (i : ℕ) → i < 256 → all_below 16 (get_or ORDERS i []) ≡ true
-entry_below i lt = (and_parts _ (eqb (length (get_or ORDERS i [])) 16) (entry_positions i lt)).0
+pub entry_below : (i : ℕ) → i < 256 → all_below 16 (places i) ≡ true
+entry_below i lt = (and_parts _ (eqb (length (places i)) 16) (entry_positions i lt)).0
 
 -- there are sixteen
-pub entry_long : (i : ℕ) → i < 256 → length (get_or ORDERS i []) ≡ 16
-entry_long i lt = eqb-true _ _ (and_parts (all_below 16 (get_or ORDERS i [])) _ (entry_positions i lt)).1
+pub entry_long : (i : ℕ) → i < 256 → length (places i) ≡ 16
+entry_long i lt = eqb-true _ _ (and_parts (all_below 16 (places i)) _ (entry_positions i lt)).1
 
 -- each total is right
 pub entry_total : (i : ℕ) → i < 256 → get_or TOTALS i 0 ≡ total i

@@ -1,6 +1,6 @@
 -- Repeats' bytes and sizes.
 use Rattle.std.proofs.Common.{◌≡◌, ℕ, zero, suc, ◌+◌, ◌%◌, Bool, true, false, IsTrue, ◌&&◌, ◌==◌, ◌-◌, ◌≤◌, List, [], ◌∷◌, ◌++◌, length, map, drop, replicate, bit_and, if◌then◌else◌, refl, ap, ◌∙◌, arith, subst}
-use Rattle.std.specs.Prelude.{max}
+use Rattle.std.specs.Prelude.{max, min}
 use Rattle.std.specs.List.{range_with_len}
 use lib.Lanes.{zip2, pick_l}
 use Rattle.std.proofs.lemmas.Nat.{and_mask, and_le_r}
@@ -64,14 +64,14 @@ one_byte l is e =
     ap (λ b. size_by b (fits_luma l) (keeps l)) (or_true l.stands (fits_diff l) fits)
 
 -- a size, or none if both masks are set
-none_if : (r m : Bool) (s : ℕ) → s ≤ 5 → (r ≡ true → s ≡ 1) → bit_and s (255 - bit_and (mask r) (mask m)) ≡ (s + bit_and (mask r) (mask m)) % 256
-none_if true true s few one = omega (arith, and_le_r s 0, one refl)
-none_if true false s few one = and_mask s 8 ∙ omega arith
-none_if false true s few one = and_mask s 8 ∙ omega arith
-none_if false false s few one = and_mask s 8 ∙ omega arith
+none_if : (r m : Bool) (s : ℕ) → s ≤ 5 → (r ≡ true → s ≡ 1) → min s (255 - bit_and (mask r) (mask m)) ≡ (s + bit_and (mask r) (mask m)) % 256
+none_if true true s few one = omega (arith, one refl)
+none_if true false s few one = omega arith
+none_if false true s few one = omega arith
+none_if false false s few one = omega arith
 
 -- lane by lane
-sizes_laid : (ls : List Lane) → AreLanes ls → zip2 bit_and (map size_of ls) (map not_8 (zip2 bit_and (map rep_mask ls) (mores ls))) ≡ sizes ls
+sizes_laid : (ls : List Lane) → AreLanes ls → zip2 min (map size_of ls) (map not_8 (zip2 bit_and (map rep_mask ls) (mores ls))) ≡ sizes ls
 sizes_laid [] are = refl
 sizes_laid (l ∷ ls) are = λ i.
     none_if (is_rep l) (goes_on ls) (size_of l) (size_small l.stands (fits_diff l) (fits_luma l) (keeps l)) (one_byte l are.0) i ∷ sizes_laid ls are.1 i
@@ -83,10 +83,10 @@ all_mores (l ∷ ls) e = mores_are l ls
 
 -- the sizes, with none for repeats that go on
 pub sizes_are : (ls : List Lane) (ss rs ms : List ℕ) → AreBy ls size_of ss → AreBy ls rep_mask rs → ms ≡ drop 1 rs ++ 255 ∷ []
-    → zip2 bit_and ss (map not_8 (zip2 bit_and rs ms)) ≡ sizes ls
+    → zip2 min ss (map not_8 (zip2 bit_and rs ms)) ≡ sizes ls
 sizes_are ls ss rs ms s r e =
     let m : ms ≡ mores ls = e ∙ ap (λ z. drop 1 z ++ 255 ∷ []) r.is ∙ all_mores ls s.long in
-    (λ i. zip2 bit_and (s.is i) (map not_8 (zip2 bit_and (r.is i) (m i)))) ∙ sizes_laid ls s.are
+    (λ i. zip2 min (s.is i) (map not_8 (zip2 bit_and (r.is i) (m i)))) ∙ sizes_laid ls s.are
 
 -- the lanes one sooner, and then 255
 pub one_sooner : (xs : List ℕ) → length xs ≡ 16 → pick_l 0 (xs ++ replicate 16 255) (range_with_len 1 16) ≡ drop 1 xs ++ 255 ∷ []

@@ -28,6 +28,9 @@ use crate::packed::Packed;
 use crate::types::Style::{self, Places, Reference, Tight};
 use crate::utils::{pick, skip};
 
+// The number that stands for each style where the last pixels are written.
+const TAIL: u8 = 3;
+
 /// What is known between two pixels: the style; the pixel `last`; `begun`, whether a fresh pixel
 /// came, one that differs from the pixel before it; and `placed`, whether `last` was written as its
 /// index position, with no repeat since. Between two blocks only style and `begun` count: what is
@@ -452,16 +455,16 @@ impl<const N: usize> Coder<N> {
 
     // Writes what is at the front of raw bytes: a block, but for the repeats at its end; if its
     // pixels repeat, full runs of the repeats there; or repeats and the fresh pixel after them, if
-    // in style `Tight` a pixel may be given by another index position than its own. Returns how
-    // many pixels came, and what is carried.
+    // in style `Tight` a pixel may be given by another index position than its own. Returns the
+    // rest, and what is carried.
     #[inline(always)]
-    fn write_front<const STYLE: u8, const ROOM: usize>(
+    fn write_front<'a, const STYLE: u8, const ROOM: usize>(
         style: Style,
         table: &mut PixelTable,
         piece: &mut Piece<ROOM>,
-        data: &[u8],
+        data: &'a [u8],
         carry: Carry,
-    ) -> (usize, Carry)
+    ) -> (&'a [u8], Carry)
         requires channels { IsChannels N }
         requires whole { length «data».now % N ≡ 0 }
         requires some { 0 < length «data».now }
@@ -469,23 +472,64 @@ impl<const N: usize> Coder<N> {
         requires opaque { N ≡ 3 → slice_index carry.before.a 15 ≡ 255 }
         requires room { piece.old.end < ROOM - PAST }
         ensures end { piece.new.end ≤ piece.old.end + BLOCK_MAX }
-        ensures inside { N * result.0 ≤ length «data».now }
-        ensures some { 0 < result.0 }
+        ensures less { length result.0.now < length «data».entry.now }
+        ensures whole { length result.0.now % N ≡ 0 }
         ensures few { result.1.count < run_max }
         ensures opaque { N ≡ 3 → slice_index result.1.before.a 15 ≡ 255 }
         ensures written { (w : Writing) → w.list.style ≡ style
-            → InBlocks w (pixels_of N «data».now) table.old carry (kept_bytes piece.old)
-            → InBlocks w (pixels_of N (drop (N * result.0) «data».now)) table.new result.1
-            (kept_bytes piece.new) }
+            → InBlocks w (pixels_of N «data».entry.now) table.old carry (kept_bytes piece.old)
+            → InBlocks w (pixels_of N result.0.now) table.new result.1 (kept_bytes piece.new) }
     {
         let block = Block::first::<N>(data, carry.before);
         if block.repeats() {
-            return Coder::<N>::write_long_group(piece, data, carry);
+            let (count, after) = Coder::<N>::write_long_group(piece, data, carry);
+            return (skip(data, N * count), after);
         }
         if Coder::<N>::may_name_other(style, table, block) {
-            return Coder::<N>::write_group(table, piece, data, carry);
+            let (count, after) = Coder::<N>::write_group(table, piece, data, carry);
+            return (skip(data, N * count), after);
         }
-        Coder::<N>::write_block::<STYLE, ROOM>(style, table, piece, data, block, carry)
+        let (count, after) = Coder::<N>::write_block::<STYLE, ROOM>(
+            style, table, piece, data, block, carry,
+        );
+        (skip(data, N * count), after)
+    }
+
+    // Writes the last pixels, of which there are fewer than a block has, unless the piece is full
+    // before. Returns the rest, and the piece, and updates what is carried.
+    #[inline(never)]
+    fn write_tail<'a, 'p, const ROOM: usize>(
+        style: Style,
+        table: &mut PixelTable,
+        piece: Piece<'p, ROOM>,
+        data: &'a [u8],
+        carry: &mut Carry,
+    ) -> (&'a [u8], Piece<'p, ROOM>)
+        requires channels { IsChannels N }
+        requires whole { length «data».now % N ≡ 0 }
+        requires few { carry.old.count < run_max }
+        requires opaque { N ≡ 3 → slice_index carry.old.before.a 15 ≡ 255 }
+        requires room { piece.end < ROOM - PAST }
+        ensures end { result.1.end < ROOM - PAST + BLOCK_MAX }
+        ensures all { result.1.end < ROOM - PAST → length result.0.now ≡ 0 }
+        ensures some { ROOM - PAST ≤ result.1.end → length result.0.now < length «data».entry.now }
+        ensures whole { length result.0.now % N ≡ 0 }
+        ensures few { carry.new.count < run_max }
+        ensures opaque { N ≡ 3 → slice_index carry.new.before.a 15 ≡ 255 }
+        ensures written { (w : Writing) → w.list.style ≡ style
+            → InBlocks w (pixels_of N «data».entry.now) table.old carry.old (kept_bytes piece.entry)
+            → InBlocks w (pixels_of N result.0.now) table.new carry.new (kept_bytes result.1) }
+    {
+        let mut piece = piece;
+        let mut rest = data;
+        while !piece.is_full() && !rest.is_empty() {
+            let (after, now) = Coder::<N>::write_front::<TAIL, ROOM>(
+                style, table, &mut piece, rest, *carry,
+            );
+            *carry = now;
+            rest = after;
+        }
+        (rest, piece)
     }
 
     // Writes the repeats that open an image, and the fresh pixel after them if it doesn't go by
@@ -570,15 +614,20 @@ impl<const N: usize> Coder<N> {
             self.write_opening(table, piece, data, carry)
         };
         let mut now = *carry;
-        while !piece.is_full() && !rest.is_empty() {
-            let (count, after) = Coder::<N>::write_front::<STYLE, ROOM>(
+        // A block has sixteen pixels. Those that are left are written elsewhere, so that this loop
+        // needn't ask for how many there are.
+        while !piece.is_full() && rest.len() >= 16 * N {
+            let (after, carried) = Coder::<N>::write_front::<STYLE, ROOM>(
                 style, table, &mut piece, rest, now,
             );
-            now = after;
-            rest = skip(rest, N * count);
+            now = carried;
+            rest = after;
         }
         *carry = now;
-        (rest, piece)
+        if piece.is_full() || rest.is_empty() {
+            return (rest, piece);
+        }
+        Coder::<N>::write_tail(style, table, piece, rest, carry)
     }
 
     /// Writes the repeats that are carried at the end, if there are any.

@@ -153,7 +153,7 @@ fn with_none(size: u8x16, rep: u8x16) -> u8x16
     ensures { (ls : List Lane) → AreBy ls size_of size → AreBy ls (λ l. mask (is_rep l)) rep
         → result ≡ sizes ls }
 {
-    size & !(rep & next_repeats(rep))
+    lesser(size, !(rep & next_repeats(rep)))
 }
 
 /// Spells out sixteen pixels, where `stands` says which stand at their index positions, and `carry`

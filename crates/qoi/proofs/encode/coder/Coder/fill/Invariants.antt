@@ -9,8 +9,8 @@ use Rattle.qoi.specs.inner.CoderLoop.{Writing}
 use Rattle.qoi.specs.inner.Piece.{kept_bytes}
 use Rattle.qoi.proofs.encode.coder.Coder.fill.Given as goal
 
-abbrev pub invariant-loop-style : goal.invariant-loop-style
-invariant-loop-style g l = record {
+abbrev pub invariant-loop-table : goal.invariant-loop-table
+invariant-loop-table g l = record {
   end : l.piece.end < g.row.ROOM - PAST + BLOCK_MAX;
   begun : l.piece.end < g.row.ROOM - PAST → 0 < length l.rest → l.self.begun ≡ true;
   left : length l.rest ≤ length l.data;
@@ -18,10 +18,10 @@ invariant-loop-style g l = record {
   whole : length l.rest % g.row.N ≡ 0;
   few : l.now.count < run_max;
   opaque : g.row.N ≡ 3 → slice_index l.now.before.a 15 ≡ 255;
-  written : (w : Writing) → w.list.style ≡ l.style
+  written : (w : Writing) → w.list.style ≡ l.fn.style
       → StepBetween w (pixels_of g.row.N l.data) l.fn.table l.fn.self l.fn.carry (kept_bytes l.fn.piece)
       → StepBetween w (pixels_of g.row.N l.rest) l.table l.self l.now (kept_bytes l.piece);
 }
 
-abbrev pub decreases-loop-style : goal.decreases-loop-style
-decreases-loop-style g l = length l.rest
+abbrev pub decreases-loop-table : goal.decreases-loop-table
+decreases-loop-table g l = length l.rest

@@ -8,14 +8,8 @@ use Rattle.qoi.proofs.encoding.CoderLink.{begun_in_tight, in_blocks}
 use Rattle.qoi.proofs.encoding.FrontBlock.{repeats_first, last_opaque}
 use Rattle.qoi.proofs.encode.coder.Coder.write_front.Goals as goal
 
-pub returns-then-repeats-clause-opaque : goal.returns-then-repeats-clause-opaque
-returns-then-repeats-clause-opaque g c = λ three. ap (λ (x : Planes). slice_index x.a 15) c.write_long_group.ensures.before ∙ c.requires.opaque three
-
-pub returns-then-repeats-clause-written : goal.returns-then-repeats-clause-written
-returns-then-repeats-clause-written g c = λ w style b. in_blocks (c.write_long_group.ensures.written w b.begun c.args.table.now b.between)
-
-pub write_long_group-requires : goal.write_long_group-requires
-write_long_group-requires g c =
+pub write_long_group-count-requires : goal.write_long_group-count-requires
+write_long_group-count-requires g c =
     let n = g.row.N in
     let raw = c.args.data.now in
     let q = last_pixel c.args.carry.before in
@@ -24,15 +18,19 @@ write_long_group-requires g c =
     let first = repeats_first n raw q (16 - length raw / n) c.requires.channels c.requires.whole c.requires.some all in
     (omega arith, (c.requires.channels, (first, (c.requires.whole, (c.requires.some, (c.requires.few, (c.requires.opaque, c.requires.room)))))))
 
+pub returns-then-repeats-clause-written : goal.returns-then-repeats-clause-written
+returns-then-repeats-clause-written g c = λ w style b.
+    rw c.skip.ensures (in_blocks (c.write_long_group-count.ensures.written w b.begun c.args.table.now b.between))
+
 pub returns-then-may_name_other-clause-written : goal.returns-then-may_name_other-clause-written
 returns-then-may_name_other-clause-written g c = λ w style b.
     let tight = style ∙ c.may_name_other.ensures.tight c.if-may_name_other.true in
-    c.write_group.ensures.written w tight (begun_in_tight b tight)
+    rw c.skip-then-may_name_other.ensures (c.write_group-count.ensures.written w tight (begun_in_tight b tight))
 
 pub returns-clause-opaque : goal.returns-clause-opaque
 returns-clause-opaque g c = λ three.
     let block = c.first-block.result in
-    ap (λ (x : Planes). slice_index x.a 15) c.write_block.ensures.before
+    ap (λ (x : Planes). slice_index x.a 15) c.write_block-count.ensures.before
     ∙ last_opaque block.words block.planes block.packed block.planes_are (c.first-block.ensures.opaque three)
 
 pub returns-clause-written : goal.returns-clause-written
@@ -45,4 +43,4 @@ returns-clause-written g c = λ w style b.
       mixed = sym (c.repeats.ensures before block.changes) ∙ c.if-repeats.false;
       no_blank = c.may_name_other.ensures.none before block.changes c.if-may_name_other.false;
     } in
-    in_blocks (c.write_block.ensures.written w b.begun style fits b.between)
+    rw c.skip-2.ensures (in_blocks (c.write_block-count.ensures.written w b.begun style fits b.between))
