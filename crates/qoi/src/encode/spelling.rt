@@ -133,7 +133,7 @@ fn with_runs(first: u8x16, rep: u8x16, count: u8x16) -> u8x16
         → AreBy ls (λ l. mask (is_rep l)) rep → count ≡ counts c (map is_rep ls)
         → result ≡ firsts c ls }
 {
-    greater(first, rep & (count + u8x16::splat(0xbf)))
+    greater(first, lesser(rep, count + u8x16::splat(0xbf)))
 }
 
 // Whether the next lane repeats, or there is none.
@@ -153,7 +153,7 @@ fn with_none(size: u8x16, rep: u8x16) -> u8x16
     ensures { (ls : List Lane) → AreBy ls size_of size → AreBy ls (λ l. mask (is_rep l)) rep
         → result ≡ sizes ls }
 {
-    lesser(size, !(rep & next_repeats(rep)))
+    lesser(size, !lesser(rep, next_repeats(rep)))
 }
 
 /// Spells out sixteen pixels, where `stands` says which stand at their index positions, and `carry`
