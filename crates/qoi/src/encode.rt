@@ -306,8 +306,7 @@ impl<'a> Encoder<'a> {
             });
         }
         let mut writer = BytesMut::new(buf);
-        let n = encode_to_memory(&mut writer, self.style, &self.header, self.data)?;
-        Ok(n)
+        encode_to_memory(&mut writer, self.style, &self.header, self.data)
     }
 
     /// Encodes the image into a new vector, which holds only the file.

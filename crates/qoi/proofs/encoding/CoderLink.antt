@@ -69,15 +69,20 @@ pub opening_start : {N : ℕ} {w : Writing} {pixels : List RgbaPixel} {table : L
 opening_start {coder = coder} {carry} o not_yet fresh =
     blocks_start carry false o.between not_yet (λ _. fresh) o.last_is o.none o.placed_is
 
+-- it goes by blocks, where a fresh pixel came or the next one is
+pub stays_in_blocks : {N : ℕ} {w : Writing} {pixels : List RgbaPixel} {table : List RgbaPixel} {coder : Coder N} {carry : Carry} {kept : List ℕ}
+    → coder.style ≡ w.list.style → coder.begun ≡ true → InBlocks w pixels table carry kept → StepBetween w pixels table coder carry kept
+stays_in_blocks style begun b = record {
+  style_is = style;
+  opening = λ no. absurd (true≢false (sym begun ∙ no));
+  by_blocks = λ _. b;
+}
+
 -- it goes by blocks if the next pixel is fresh, but in style Tight
 pub opened : {N : ℕ} {w : Writing} {pixels : List RgbaPixel} {table : List RgbaPixel} {coder next : Coder N} {carry : Carry} {kept : List ℕ}
     → StepBetween w pixels table coder carry kept → (coder.begun ≡ false → slice_get pixels 0 ≢ Some coder.last) → (coder.style ≡ Tight → coder.begun ≡ true)
     → next.style ≡ coder.style → next.begun ≡ true → StepBetween w pixels table next carry kept
-opened {w = w} {pixels} {table} {coder} {next} {carry} {kept} b fresh tight style begun = record {
-  style_is = style ∙ b.style_is;
-  opening = λ no. absurd (true≢false (sym begun ∙ no));
-  by_blocks = λ _. go coder.begun refl;
-}
+opened {w = w} {pixels} {table} {coder} {next} {carry} {kept} b fresh tight style begun = stays_in_blocks (style ∙ b.style_is) begun (go coder.begun refl)
   where
     go : (x : Bool) → coder.begun ≡ x → InBlocks w pixels table carry kept
     go true is = b.by_blocks is

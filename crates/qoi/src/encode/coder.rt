@@ -28,13 +28,14 @@ use crate::packed::Packed;
 use crate::types::Style::{self, Places, Reference, Tight};
 use crate::utils::{pick, skip};
 
-// The number that stands for each style where the last pixels are written.
+// The number for all styles where the last pixels are written, which need no loop for each.
 const TAIL: u8 = 3;
 
 /// What is known between two pixels: the style; the pixel `last`; `begun`, whether a fresh pixel
 /// came, one that differs from the pixel before it; and `placed`, whether `last` was written as its
-/// index position, with no repeat since. Between two blocks only style and `begun` count: what is
-/// carried tells the others. The table is passed beside it, so that these few stay in registers.
+/// index position, with no repeat since. Between two blocks only style and `begun` count, which may
+/// then also say that the next pixel is fresh: what is carried tells the others. The table is passed
+/// beside it, so that these few stay in registers.
 #[derive(Drop)]
 pub(super) struct Coder<const N: usize> {
     style: Style,

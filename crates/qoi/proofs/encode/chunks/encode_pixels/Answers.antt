@@ -6,29 +6,36 @@ use Rattle.qoi.specs.Raw.{pixels_of}
 use Rattle.qoi.specs.inner.CarryLoop.{StepBetween}
 use Rattle.qoi.specs.inner.Piece.{kept_bytes}
 use Rattle.qoi.proofs.encoding.GroupRuns.{none_of_few}
-use Rattle.qoi.proofs.encoding.PieceByPiece.{piece_starts, piece_filled, piece_fits, piece_went, piece_part, piece_ends}
+use Rattle.qoi.proofs.encoding.PieceByPiece.{PieceBetween, piece_starts, piece_filled, piece_fits, piece_went, piece_part, piece_ends}
 use Rattle.qoi.proofs.encoding.PieceSent.{kept_length}
+use Rattle.qoi.proofs.encode.chunks.encode_pixels.Given.{Over}
+use Rattle.qoi.proofs.encode.chunks.encode_pixels.Goals.{After-carry-carry}
 use Rattle.qoi.proofs.encode.chunks.encode_pixels.Goals as goal
+
+-- before the first pixel
+starts : (g : Over) (c : After-carry-carry g)
+    → PieceBetween g.W.Writer.wrote g.W.Writer.room (record { style = c.args.style; front = kept_bytes c.args.piece; start = c.args.writer.now; raw = c.args.data.now }) c.args.data.now
+    c.new-table.result c.new-coder.result c.carry-carry.result (kept_bytes c.args.piece) c.args.writer.now
+starts g c =
+    let new = c.new-coder.ensures in
+    piece_starts _ g.met.W.Writer.laws c.requires.channels (λ i. omega (arith, c.type_inv.data i)) c.requires.whole
+    (omega (arith, kept_length c.args.piece, c.requires.room)) new.style (new.state c.new-table.result c.new-table.ensures)
+    (λ w b. c.carry-carry.ensures.between w _ _ _ b)
 
 pub returns-then-data-clause-written : goal.returns-then-data-clause-written
 returns-then-data-clause-written g c =
-    let new = c.new-coder.ensures in
-    let state = new.state c.new-table.result c.new-table.ensures in
-    let starts = piece_starts _ g.met.W.Writer.laws c.requires.channels (λ i. omega (arith, c.type_inv.data i)) c.requires.whole
-    (omega (arith, kept_length c.args.piece, c.requires.room)) new.style state (λ w b. c.carry-carry.ensures.between w _ _ _ b) in
-    piece_ends starts (λ w b. c.write_only.ensures.written w (b.opening state.begun_is).between)
+    let state = c.new-coder.ensures.state c.new-table.result c.new-table.ensures in
+    piece_ends (starts g (goal.at.returns-then-data-clause-written g c).After-carry-carry) (λ w b. c.write_only.ensures.written w (b.opening state.begun_is).between)
 
 pub loop-rest-init : goal.loop-rest-init
 loop-rest-init g c =
-    let new = c.new-coder.ensures in
     let carry = c.carry-carry.ensures in
     record {
       end = c.requires.not_full;
       whole = c.requires.whole;
       few = omega (arith, carry.count);
       opaque = carry.opaque;
-      state = piece_starts _ g.met.W.Writer.laws c.requires.channels (λ i. omega (arith, c.type_inv.data i)) c.requires.whole
-          (omega (arith, kept_length c.args.piece, c.requires.room)) new.style (new.state c.new-table.result c.new-table.ensures) (λ w b. carry.between w _ _ _ b);
+      state = starts g (goal.at.loop-rest-init g c).After-carry-carry;
     }
 
 pub returns-then-not-is_full-clause-written : goal.returns-then-not-is_full-clause-written

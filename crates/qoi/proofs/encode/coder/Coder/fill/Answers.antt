@@ -1,9 +1,7 @@
 -- A step further.
-use Rattle.std.proofs.Common.{◌≡◌, ◌-◌, ◌*◌, ◌%◌, ◌<◌, length, refl, sym, ap, ◌∙◌, arith}
-use Rattle.std.proofs.lemmas.Bool.{true≢false, eqb-false}
-use Rattle.std.proofs.lemmas.List.{length-drop}
-use Rattle.qoi.proofs.encoding.CoderLink.{opened}
-use Rattle.qoi.proofs.encoding.GroupRuns.{some_bytes, whole_rest}
+use Rattle.std.proofs.Common.{◌<◌, length, refl, sym, arith}
+use Rattle.std.proofs.lemmas.Bool.{eqb-false}
+use Rattle.qoi.proofs.encoding.CoderLink.{opened, stays_in_blocks}
 use Rattle.qoi.proofs.encode.coder.Coder.fill.Goals.{then-goes_by_blocks, else-goes_by_blocks}
 use Rattle.qoi.proofs.encode.coder.Coder.fill.Goals as goal
 
@@ -49,11 +47,7 @@ loop-table-preserved g c =
       opaque = step.opaque;
       written = λ w is b.
           let now = i.written w is b in
-          record {
-            style_is = now.style_is;
-            opening = λ no. absurd (true≢false (sym begun ∙ no));
-            by_blocks = λ _. step.written w is (now.by_blocks begun);
-          };
+          stays_in_blocks now.style_is begun (step.written w is (now.by_blocks begun));
     }
 
 pub returns-clause-written : goal.returns-clause-written
@@ -63,8 +57,4 @@ returns-clause-written g c = λ w is b.
     let some : 0 < length c.loop-table.rest.now = omega (arith, none) in
     let begun = i.begun (c.is_full-2.ensures.room c.if-is_full.false) some in
     let now = i.written w is b in
-    record {
-      style_is = now.style_is;
-      opening = λ no. absurd (true≢false (sym begun ∙ no));
-      by_blocks = λ _. c.write_tail.ensures.written w is (now.by_blocks begun);
-    }
+    stays_in_blocks now.style_is begun (c.write_tail.ensures.written w is (now.by_blocks begun))
