@@ -1,6 +1,7 @@
 -- Repeats that come while some are carried: the full runs of all are written, and those that are left
 -- are carried.
 use Rattle.std.proofs.Common.{◌≡◌, inr, ℕ, zero, suc, Some, ◌+◌, ◌*◌, ◌/◌, ◌%◌, ◌<◌, ◌≤◌, true, ◌&&◌, nat_eq, nat_lt, List, ◌++◌, replicate, refl, sym, ap, ◌∙◌, subst, arith, append-nil}
+use Rattle.std.proofs.Math.Bool.{and-true}
 use Rattle.std.proofs.lemmas.Bool.{lt-ltb, ne_eqb}
 use Rattle.std.specs.List.{slice_get}
 use Rattle.qoi.specs.declared.chunk.Chunk.TheVariants.{Run}
@@ -93,3 +94,13 @@ blocks_on {w} {rest} {table} {kept} carry after n k sum small same placed few b 
       placed_is = λ is. (λ i. b.placed_is is i && no_full k after.count small i) ∙ ap (λ m. carry.placed && nat_lt m 62) (sym sum) ∙ sym placed;
       few = λ e. few (e ∙ ap Some (sym last));
     }
+
+-- A block of repeats more is carried, too.
+pub block_carried : {w : Writing} {rest table : List RgbaPixel} {kept : List ℕ} (carry : Carry) → carry.count ≤ 29
+    → CarryBetween true w (replicate 16 (last_pixel carry.before) ++ rest) table carry kept
+    → CarryBetween true w rest table (record carry { count = carry.count + 16 }) kept
+block_carried {w} {rest} {table} {kept} carry few b =
+    let after : Carry = record carry { count = carry.count + 16 } in
+    let short : nat_lt (carry.count + 16) 62 ≡ true = lt-ltb (carry.count + 16) 62 (omega arith) in
+    subst (CarryBetween true w rest table after) (append-nil kept)
+    (blocks_on carry after 16 0 (omega arith) (omega arith) refl (sym (and-true carry.placed) ∙ ap (λ z. carry.placed && z) (sym short)) (λ _. omega arith) b)

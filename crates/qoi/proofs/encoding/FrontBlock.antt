@@ -2,6 +2,7 @@
 use Rattle.std.proofs.Common.{◌≡◌, ◌≢◌, ◌⊎◌, inl, inr, ℕ, zero, suc, ◌+◌, true, Some, replicate, ◌*◌, ◌/◌, ◌%◌, ◌<◌, ◌≤◌, List, [], ◌∷◌, ◌++◌, length, take, drop, min, slice_index, refl, sym, ap, ◌∙◌, arith, take-append-drop}
 use Rattle.std.proofs.Math.ListN.{drop_of_length-le}
 use Rattle.std.proofs.lemmas.Bool.{cases_lt}
+use Rattle.std.proofs.lemmas.List.{length-take-le}
 use Rattle.qoi.specs.declared.encode.planes.Planes.{Planes}
 use Rattle.qoi.specs.declared.encode.planes.Words.{Words}
 use Rattle.std.proofs.lemmas.Bool.{and_parts}
@@ -77,6 +78,24 @@ repeats_first n bytes q pads is whole some all =
     let rest = take 15 ps ++ replicate pads (final p (take 15 ps)) in
     let first : p ≡ q = pixel_eq-true p q (and_parts (pixel_eq p q) (all_repeat q rest) (sym (ap (λ x. all_repeat q (padded (take 16 x) pads)) ahead) ∙ all)).0 in
     ap (λ x. slice_get x 0) ahead ∙ ap Some first
+
+-- pixels that repeat one are copies of it
+copies_of : (q : RgbaPixel) (ps : List RgbaPixel) → all_repeat q ps ≡ true → ps ≡ replicate (length ps) q
+copies_of q [] all = refl
+copies_of q (p ∷ ps) all =
+    let is = and_parts (pixel_eq p q) (all_repeat q ps) all in
+    λ i. pixel_eq-true p q is.0 i ∷ copies_of q ps is.1 i
+
+-- a block at the front that repeats a pixel, and the pixels after it
+pub repeats_front : (n : ℕ) (bytes : List ℕ) (q : RgbaPixel) → IsChannels n → length bytes % n ≡ 0 → 16 * n ≤ length bytes
+    → all_repeat q (take 16 (pixels_of n bytes)) ≡ true → pixels_of n bytes ≡ replicate 16 q ++ pixels_of n (drop (16 * n) bytes)
+repeats_front n bytes q is whole enough all =
+    let pixels = pixels_of n bytes in
+    let many : 16 ≤ length bytes / n = by_channels (λ k. 16 * k ≤ length bytes → 16 ≤ length bytes / k) is (λ e. omega arith) (λ e. omega arith) enough in
+    let size : n * in_front n bytes ≡ 16 * n = by_channels (λ k. 16 ≤ length bytes / k → k * in_front k bytes ≡ 16 * k) is (λ m. omega arith) (λ m. omega arith) many in
+    let count : length pixels ≡ length bytes / n = length-pixels_of n (length bytes / n) bytes is (whole_pixels n (length bytes) is whole) in
+    let sixteen : length (take 16 pixels) ≡ 16 = length-take-le 16 pixels (omega (arith, count, many)) in
+    front_pixels n bytes is whole ∙ (λ i. (copies_of q (take 16 pixels) all ∙ ap (λ k. replicate k q) sixteen) i ++ pixels_of n (drop (size i) bytes))
 
 -- if the first pixel repeats one, at least one repeat is counted
 pub repeats_some : (n : ℕ) (bytes : List ℕ) (q : RgbaPixel) (carry count most : ℕ) → IsChannels n → slice_get (pixels_of n bytes) 0 ≡ Some q

@@ -3,6 +3,7 @@
 ghost use Rattle.std.specs.Prelude.{◌≡◌, ◌≢◌, ◌⊎◌, ℕ, Bool, ◌+◌, ◌-◌, ◌*◌, ◌%◌, ◌<◌, ◌≤◌, false, List, [], ◌∷◌, ◌++◌, Option, None, Some, length, drop, replicate, slice_get, slice_index, take, ◌/◌, true, IsTrue, IsFalse};
 ghost use Rattle.qoi.specs.declared.chunk.Chunk.{Chunk};
 ghost use Rattle.qoi.specs.declared.encode.block.TheConstants.{BLOCK_MAX};
+ghost use Rattle.qoi.specs.declared.encode.coder.TheConstants.{FEW_CARRIED};
 ghost use Rattle.qoi.specs.declared.encode.piece.TheConstants.{PAST, RUNS_AT_ONCE, REPEATS_AT_ONCE};
 ghost use Rattle.qoi.specs.declared.types.Style.TheVariants.{Tight};
 ghost use Rattle.qoi.specs.Qoi.{RgbaPixel, Past, run_max, chunk_max, previous, seen, hash, IsChunk, bytes_of};
@@ -31,6 +32,10 @@ use crate::utils::{pick, skip};
 // The number for all styles where the last pixels are written, which need no loop for each.
 const TAIL: u8 = 3;
 
+// The most repeats that may be carried for a block of sixteen more to be carried, too: up to fifteen
+// more at the front of the next block still make a run of fewer than 62.
+const FEW_CARRIED: u8 = 29;
+
 /// What is known between two pixels: the style; the pixel `last`; `begun`, whether a fresh pixel
 /// came, one that differs from the pixel before it; and `placed`, whether `last` was written as its
 /// index position, with no repeat since. Between two blocks only style and `begun` count, which may
@@ -47,7 +52,7 @@ pub(super) struct Coder<const N: usize> {
 }
 
 impl<const N: usize> Coder<N> {
-    ghost use Rattle.qoi.specs.inner.Blocks.{ChangesFrom, FitsBlock, MissesNoBlank, padded, last_pixel};
+    ghost use Rattle.qoi.specs.inner.Blocks.{ChangesFrom, FitsBlock, MissesNoBlank, all_repeat, padded, last_pixel};
     ghost use Rattle.qoi.specs.inner.CarryLoop.{CarryBetween, InBlocks, StepBetween};
     ghost use Rattle.qoi.specs.inner.CoderLoop.{CoderAfter, single, Writing, CoderBetween, BytesBetween};
     ghost use Rattle.qoi.specs.inner.Spelling.{IsLastOf};
@@ -386,6 +391,27 @@ impl<const N: usize> Coder<N> {
         )
     }
 
+    // Carries the block of repeats at the front, too. Returns the rest, and what is carried.
+    #[inline(always)]
+    fn carry_block(data: &[u8], carry: Carry) -> (&[u8], Carry)
+        requires channels { IsChannels N }
+        requires whole { length «data».now % N ≡ 0 }
+        requires enough { 16 * N ≤ length «data».now }
+        requires repeats { all_repeat (last_pixel carry.before) (take 16 (pixels_of N «data».now))
+            ≡ true }
+        requires few { carry.count ≤ FEW_CARRIED }
+        ensures less { length result.0.now < length «data».entry.now }
+        ensures whole { length result.0.now % N ≡ 0 }
+        ensures few { result.1.count < run_max }
+        ensures before { result.1.before ≡ carry.before }
+        ensures written { (w : Writing) (begun : Bool) (table : List RgbaPixel) (kept : List ℕ)
+            → CarryBetween begun w (pixels_of N «data».entry.now) table carry kept
+            → CarryBetween true w (pixels_of N result.0.now) table result.1 kept }
+    {
+        let count = carry.count + 16;
+        (skip(data, 16 * N), Carry { count, ..carry })
+    }
+
     // Writes the full runs of the repeats at the front, after those that are carried; the others are
     // carried. Returns how many pixels came, and what is carried.
     #[inline(always)]
@@ -483,6 +509,10 @@ impl<const N: usize> Coder<N> {
     {
         let block = Block::first::<N>(data, carry.before);
         if block.repeats() {
+            // In three channels most groups are short.
+            if N == 3 && carry.count <= FEW_CARRIED && data.len() >= 16 * N {
+                return Coder::<N>::carry_block(data, carry);
+            }
             let (count, after) = Coder::<N>::write_long_group(piece, data, carry);
             return (skip(data, N * count), after);
         }
