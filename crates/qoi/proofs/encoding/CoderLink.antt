@@ -78,6 +78,33 @@ stays_in_blocks style begun b = record {
   by_blocks = λ _. b;
 }
 
+-- of what is carried, only the last pixel, the number of its repeats and whether it is placed count
+pub same_carried : {N : ℕ} {w : Writing} {pixels : List RgbaPixel} {table : List RgbaPixel} {coder : Coder N} {carry : Carry} {kept : List ℕ} (next : Carry)
+    → ((q : RgbaPixel) → IsLastOf q carry.before → IsLastOf q next.before) → next.count ≡ carry.count → next.placed ≡ carry.placed
+    → StepBetween w pixels table coder carry kept → StepBetween w pixels table coder next kept
+same_carried next last count placed b = record {
+  style_is = b.style_is;
+  opening = λ no.
+      let o = b.opening no in
+      record { between = o.between; last_is = last _ o.last_is; none = count ∙ o.none; placed_is = placed ∙ o.placed_is };
+  by_blocks = λ yes.
+      let i = b.by_blocks yes in
+      let c = i.between in
+      record {
+        begun = i.begun;
+        between = record {
+          state = c.state;
+          carrying = c.carrying;
+          table_is = c.table_is;
+          before_is = last _ c.before_is;
+          carry_is = c.carry_is ∙ sym count;
+          placed_is = λ p. c.placed_is p ∙ sym placed;
+          few = λ e. omega (arith, count, c.few e);
+        };
+        in_tight = i.in_tight;
+      };
+}
+
 -- it goes by blocks if the next pixel is fresh, but in style Tight
 pub opened : {N : ℕ} {w : Writing} {pixels : List RgbaPixel} {table : List RgbaPixel} {coder next : Coder N} {carry : Carry} {kept : List ℕ}
     → StepBetween w pixels table coder carry kept → (coder.begun ≡ false → slice_get pixels 0 ≢ Some coder.last) → (coder.style ≡ Tight → coder.begun ≡ true)

@@ -18,7 +18,7 @@ use crate::encode::changes::{Changes, all_set, find_changes};
 use crate::encode::lanes::{blanks, is_zero, places, store_lanes};
 use crate::encode::named::name_single;
 use crate::encode::packing::first_sixteen;
-use crate::encode::planes::{Planes, Words, make_planes};
+use crate::encode::planes::{Planes, Words, known_alpha, make_planes};
 use crate::encode::spelling::{Spelled, spell_block};
 use crate::encode::stands::put_block;
 use crate::encode::stores::put_sixteen;
@@ -169,6 +169,23 @@ pub(super) struct Carry {
 }
 
 impl Carry {
+    /// The same, in three channels with alpha as a constant.
+    #[inline(always)]
+    pub(super) fn with_known_alpha<const N: usize>(self) -> Carry
+        requires { N ≡ 3 → slice_index self.before.a 15 ≡ 255 }
+        ensures opaque { N ≡ 3 → slice_index result.before.a 15 ≡ 255 }
+        ensures last { (q : RgbaPixel) → IsLastOf q self.before → IsLastOf q result.before }
+        ensures same { (result.count ≡ self.count) × (result.placed ≡ self.placed) }
+    {
+        Carry {
+            before: Planes {
+                a: known_alpha::<N>(self.before.a),
+                ..self.before
+            },
+            ..self
+        }
+    }
+
     // The byte of the repeats before a fresh pixel: that of a run; in style `Places`, of a single
     // repeat, the index position, if the chunk before isn't that position. If there are none, it
     // isn't used.

@@ -644,7 +644,7 @@ impl<const N: usize> Coder<N> {
         } else {
             self.write_opening(table, piece, data, carry)
         };
-        let mut now = *carry;
+        let mut now = carry.with_known_alpha::<N>();
         // A block has sixteen pixels. Those that are left are written elsewhere, so that this loop
         // needn't ask for how many there are.
         while !piece.is_full() && rest.len() >= 16 * N {

@@ -1,7 +1,6 @@
 -- A block of repeats more is carried.
-use Rattle.std.proofs.Common.{true, ◌++◌, Some, replicate, sym, ap, ◌∙◌, subst}
+use Rattle.std.proofs.Common.{true, ap, subst}
 use Rattle.std.specs.List.{slice_get}
-use Rattle.qoi.specs.Raw.{pixels_of}
 use Rattle.qoi.specs.inner.Blocks.{last_pixel}
 use Rattle.qoi.specs.inner.CarryLoop.{CarryBetween}
 use Rattle.qoi.proofs.encoding.CarriedRuns.{block_carried}

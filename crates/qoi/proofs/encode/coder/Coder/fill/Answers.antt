@@ -1,36 +1,42 @@
 -- A step further.
-use Rattle.std.proofs.Common.{◌<◌, length, refl, sym, arith}
+use Rattle.std.proofs.Common.{◌<◌, length, refl, sym, arith, subst}
 use Rattle.std.proofs.lemmas.Bool.{eqb-false}
-use Rattle.qoi.proofs.encoding.CoderLink.{opened, stays_in_blocks}
+use Rattle.qoi.specs.declared.encode.block.Carry.{Carry}
+use Rattle.qoi.specs.Qoi.{run_max}
+use Rattle.qoi.proofs.encoding.CoderLink.{opened, same_carried, stays_in_blocks}
 use Rattle.qoi.proofs.encode.coder.Coder.fill.Goals.{then-goes_by_blocks, else-goes_by_blocks}
 use Rattle.qoi.proofs.encode.coder.Coder.fill.Goals as goal
 
 pub loop-table-init : goal.loop-table-init
-loop-table-init g c = elim c.if-goes_by_blocks.branch [
-  | then-goes_by_blocks way ↦ (let by = c.goes_by_blocks.ensures in
-      let is = way.if-goes_by_blocks.true in
-      rw (way.self-is, way.table-is, way.carry-is, way.piece-is) (record {
-        end = omega (arith, c.requires.room);
-        begun = λ _ _. refl;
-        left = omega arith;
-        some = λ full. absurd (omega (arith, c.requires.room, full));
-        whole = c.requires.whole;
-        few = c.requires.few;
-        opaque = c.requires.opaque;
-        written = λ w _ b. opened b (by.fresh is) (by.tight is) refl refl;
-      }))
-  | else-goes_by_blocks way ↦ (let front = way.write_opening.ensures in
-      rw (way.self-is, way.table-is, way.carry-is, way.piece-is) (record {
-        end = front.end;
-        begun = front.begun;
-        left = front.some.0;
-        some = front.some.1;
-        whole = front.whole;
-        few = front.few;
-        opaque = front.opaque;
-        written = λ w _ b. front.written w b;
-      }))
-]
+loop-table-init g c =
+    let known = c.with_known_alpha-now.ensures in
+    let now = c.with_known_alpha-now.result in
+    let few : c.if-goes_by_blocks.carry.count < run_max → now.count < run_max = λ l. omega (arith, known.same.0, l) in
+    elim c.if-goes_by_blocks.branch [
+      | then-goes_by_blocks way ↦ (let by = c.goes_by_blocks.ensures in
+          let is = way.if-goes_by_blocks.true in
+          rw (way.self-is, way.table-is, way.piece-is) (record {
+            end = omega (arith, c.requires.room);
+            begun = λ _ _. refl;
+            left = omega arith;
+            some = λ full. absurd (omega (arith, c.requires.room, full));
+            whole = c.requires.whole;
+            few = few (subst (λ (x : Carry). x.count < run_max) (sym way.carry-is) c.requires.few);
+            opaque = known.opaque;
+            written = λ w _ b. same_carried now known.last known.same.0 known.same.1 (rw way.carry-is (opened b (by.fresh is) (by.tight is) refl refl));
+          }))
+      | else-goes_by_blocks way ↦ (let front = way.write_opening.ensures in
+          rw (way.self-is, way.table-is, way.piece-is) (record {
+            end = front.end;
+            begun = front.begun;
+            left = front.some.0;
+            some = front.some.1;
+            whole = front.whole;
+            few = few (subst (λ (x : Carry). x.count < run_max) (sym way.carry-is) front.few);
+            opaque = known.opaque;
+            written = λ w _ b. same_carried now known.last known.same.0 known.same.1 (rw way.carry-is (front.written w b));
+          }))
+    ]
 
 pub loop-table-preserved : goal.loop-table-preserved
 loop-table-preserved g c =
