@@ -67,3 +67,4 @@ pub mod StoredParts
 pub mod SwappedPixels
 pub mod TightOut
 pub mod WordPlanes
+pub mod WrittenHeader

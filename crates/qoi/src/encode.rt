@@ -35,9 +35,9 @@ mod stands;
 mod stores;
 mod table;
 
-use crate::consts::QOI_PADDING;
+use crate::consts::{QOI_HEADER_SIZE, QOI_PADDING};
 use crate::encode::chunks::encode_chunks;
-use crate::encode::piece::{FULL_ROOM, Piece, SMALL_ROOM};
+use crate::encode::piece::{FULL_ROOM, Piece, SMALL_ROOM, TINY_ROOM};
 use crate::error::{Error, Result};
 use crate::header::{Header, max_len};
 use crate::types::{Channels, ColorSpace, Style};
@@ -49,6 +49,9 @@ use std::marker::Model;
 // An image of so many raw bytes goes to memory through a piece of 4096 bytes, a smaller one through
 // a piece of 512.
 const LARGE_IMAGE: usize = 4096;
+
+// An image of fewer raw bytes goes to memory through a piece of 128 bytes.
+const SMALL_IMAGE: usize = 128;
 
 // Writes the file of an image through a piece with this room, and returns how many bytes it has.
 fn encode_image<W: Writer, const ROOM: usize>(
@@ -71,7 +74,7 @@ fn encode_image<W: Writer, const ROOM: usize>(
     let room = writer.capacity();
     let mut bytes = [0; ROOM];
     let mut piece = Piece::<ROOM>::new(&mut bytes);
-    piece.keep(&header.encode());
+    piece.keep(&header.encode()[..QOI_HEADER_SIZE]);
     let mut piece = encode_chunks(writer, piece, style, header.channels, data)?;
     piece.keep(&QOI_PADDING);
     piece.finish(writer)?;
@@ -96,6 +99,9 @@ fn encode_to_memory<W: Writer>(
         × IsFileOf style header.now «data».now bytes
         × WroteBeginning W.wrote writer.old bytes writer.new) }
 {
+    if data.len() < SMALL_IMAGE {
+        return encode_image::<W, TINY_ROOM>(writer, style, header, data);
+    }
     if data.len() < LARGE_IMAGE {
         return encode_image::<W, SMALL_ROOM>(writer, style, header, data);
     }

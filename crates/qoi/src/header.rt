@@ -6,6 +6,7 @@ ghost use Rattle.qoi.specs.declared.header.Header.{Header};
 use crate::consts::{QOI_HEADER_SIZE, QOI_MAGIC, QOI_PADDING_SIZE, QOI_PIXELS_MAX};
 use crate::error::{Error, Result};
 use crate::types::{Channels, ColorSpace};
+use std::simd::prelude::*;
 
 /// The size of an image, its number of channels and its color space (QOI specification 1.0, "QOI
 /// Header").
@@ -66,18 +67,20 @@ impl Header {
         })
     }
 
-    // The fourteen bytes of the header.
-    pub(crate) fn encode(&self) -> [u8; QOI_HEADER_SIZE]
-        ensures { result ≡ header_bytes self.now }
+    // The fourteen bytes of the header, and two that mean nothing.
+    pub(crate) fn encode(&self) -> [u8; 16]
+        ensures { take header_size result ≡ header_bytes self.now }
     {
-        let [m0, m1, m2, m3] = QOI_MAGIC.to_be_bytes();
-        let [w0, w1, w2, w3] = self.width.to_be_bytes();
-        let [h0, h1, h2, h3] = self.height.to_be_bytes();
-        let channels = self.channels.as_u8();
-        let colorspace = self.colorspace.as_u8();
-        [
-            m0, m1, m2, m3, w0, w1, w2, w3, h0, h1, h2, h3, channels, colorspace,
-        ]
+        let channels = u32::from(self.channels.as_u8());
+        let colorspace = u32::from(self.colorspace.as_u8());
+        // A file's numbers have the highest byte first.
+        let numbers = [QOI_MAGIC, self.width, self.height, channels + 256 * colorspace];
+        let bytes = u32x4::from_array(numbers).to_le_bytes();
+        let ordered: u8x16 = bytes.shuffle(
+            bytes,
+            [3, 2, 1, 0, 7, 6, 5, 4, 11, 10, 9, 8, 12, 13, 14, 15],
+        );
+        ordered.to_array()
     }
 
     // The header at the front of the bytes, or the first refusal: the length, the channels, the

@@ -1,6 +1,6 @@
 -- Repeats that come while some are carried: the full runs of all are written, and those that are left
 -- are carried.
-use Rattle.std.proofs.Common.{◌≡◌, inr, ℕ, zero, suc, Some, ◌+◌, ◌*◌, ◌/◌, ◌%◌, ◌<◌, ◌≤◌, true, ◌&&◌, nat_eq, nat_lt, List, ◌++◌, replicate, refl, sym, ap, ◌∙◌, subst, arith, append-nil}
+use Rattle.std.proofs.Common.{◌≡◌, inl, inr, ℕ, zero, suc, Some, ◌+◌, ◌*◌, ◌/◌, ◌%◌, ◌<◌, ◌≤◌, true, ◌&&◌, nat_eq, nat_lt, List, [], ◌++◌, replicate, refl, sym, ap, ◌∙◌, subst, arith, append-nil}
 use Rattle.std.proofs.Math.Bool.{and-true}
 use Rattle.std.proofs.lemmas.Bool.{lt-ltb, ne_eqb}
 use Rattle.std.specs.List.{slice_get}
@@ -16,10 +16,10 @@ use Rattle.qoi.specs.inner.CoderLoop.{StillToWrite, Writing}
 use Rattle.qoi.specs.inner.CoderState.{last_chunk}
 use Rattle.qoi.proofs.format.ChunkSteps.{previous_repeats, repeats_after}
 use Rattle.qoi.proofs.encoding.BlockWritten.{still_begun, repeats_held}
-use Rattle.qoi.proofs.encoding.CoderSteps.{bytes_next}
+use Rattle.qoi.proofs.encoding.CoderSteps.{bytes_next, none_ahead}
 use Rattle.qoi.proofs.encoding.LaneBits.{not_lt}
 use Rattle.qoi.proofs.encoding.LastOfPlanes.{last_of_planes}
-use Rattle.qoi.proofs.encoding.StillToWrite.{runs_next}
+use Rattle.qoi.proofs.encoding.StillToWrite.{runs_next, none_todo}
 use Rattle.qoi.proofs.encoding.StyledGroup.{styled_runs, placed_repeats}
 
 -- k full runs
@@ -104,3 +104,21 @@ block_carried {w} {rest} {table} {kept} carry few b =
     let short : nat_lt (carry.count + 16) 62 ≡ true = lt-ltb (carry.count + 16) 62 (omega arith) in
     subst (CarryBetween true w rest table after) (append-nil kept)
     (blocks_on carry after 16 0 (omega arith) (omega arith) refl (sym (and-true carry.placed) ∙ ap (λ z. carry.placed && z) (sym short)) (λ _. omega arith) b)
+
+-- At the end of the pixels what is carried is the last run.
+pub carried_last : {w : Writing} {table : List RgbaPixel} {kept : List ℕ} (carry : Carry) → CarryBetween true w [] table carry kept
+    → w.ahead ≡ kept ++ chunk_bytes (runs_by (Run 1) carry.count)
+carried_last {w} {kept = kept} carry b =
+    let style = w.list.style in
+    let c = b.carrying in
+    let p = previous c.past in
+    let n = b.state.carry in
+    let ahead : replicate n b.state.last ++ [] ≡ replicate n p ++ [] = ap (λ z. replicate n z ++ []) (sym c.last_is) in
+    let next = runs_next w.list n [] (subst (λ x. StillToWrite w.list c.past x c.between.todo) ahead c.between.to_write) (inl (λ e. cc e)) in
+    let group = replicate n p ++ c.past in
+    let last = last_chunk c.before (runs_by (Run 1) n) in
+    let runs = kept ++ chunk_bytes (runs_by (Run 1) n) in
+    none_ahead w last next.2 (bytes_next w.ahead kept runs (runs_by (Run 1) n) (styled style group last next.0)
+    (c.between.ahead_is ∙ ap (λ cs. kept ++ chunk_bytes (styled style c.past c.before cs)) next.1
+    ∙ ap (λ cs. kept ++ chunk_bytes cs) (styled_runs style c.past c.before n next.0 (Run 1) (λ _. inl (none_todo w.list next.2, refl)))) refl)
+    ∙ ap (λ m. kept ++ chunk_bytes (runs_by (Run 1) m)) b.carry_is

@@ -76,6 +76,14 @@ counted_on p pixels rest n more e w = count_of p pixels (drop more rest) (n + mo
 pub whole_rest : (n count len : ℕ) → IsChannels n → len % n ≡ 0 → n * count ≤ len → (len - n * count) % n ≡ 0
 whole_rest n count len is = by_channels (λ k. len % k ≡ 0 → k * count ≤ len → (len - k * count) % k ≡ 0) is (λ a b. omega arith) (λ a b. omega arith)
 
+-- the rest has so many pixels fewer
+pub fewer_left : (n count len : ℕ) → IsChannels n → n * count ≤ len → (len - n * count) / n + count ≡ len / n
+fewer_left n count len is = by_channels (λ k. k * count ≤ len → (len - k * count) / k + count ≡ len / k) is (λ a. omega arith) (λ a. omega arith)
+
+-- no more pixels than their bytes allow
+pub few_pixels : (n most len : ℕ) → IsChannels n → len ≤ n * most → len / n ≤ most
+few_pixels n most len is = by_channels (λ k. len ≤ k * most → len / k ≤ most) is (λ a. omega arith) (λ a. omega arith)
+
 -- dropping k pixels drops their bytes
 pub pixels_drop : (n k : ℕ) (bytes : List ℕ) → IsChannels n → n * k ≤ length bytes → drop k (pixels_of n bytes) ≡ pixels_of n (drop (n * k) bytes)
 pixels_drop n k bytes is inside =

@@ -32,6 +32,9 @@ use crate::utils::{pick, skip};
 // The number for all styles where the last pixels are written, which need no loop for each.
 const TAIL: u8 = 3;
 
+/// The most pixels of an image that are written one by one: fewer than a block has.
+pub(super) const FEW_PIXELS: usize = 15;
+
 // The most repeats that may be carried for a block of sixteen more to be carried, too: up to fifteen
 // more at the front of the next block still make a run of fewer than 62.
 const FEW_CARRIED: u8 = 29;
@@ -194,7 +197,8 @@ impl<const N: usize> Coder<N> {
         requires whole { length «data».now % N ≡ 0 }
         requires few { carry ≤ REPEATS_AT_ONCE }
         requires room { piece.old.end + RUNS_AT_ONCE < ROOM }
-        ensures end { piece.new.end ≤ piece.old.end + RUNS_AT_ONCE + 1 }
+        ensures end { piece.new.end ≤ piece.old.end + (carry + result) / run_max + 1 }
+        ensures few { carry + result ≤ REPEATS_AT_ONCE }
         ensures inside { N * result ≤ length «data».now }
         ensures last { self.new.last ≡ self.old.last }
         ensures begun { self.new.begun ≡ self.old.begun }
@@ -233,6 +237,7 @@ impl<const N: usize> Coder<N> {
         requires few { carry < REPEATS_AT_ONCE }
         requires room { piece.old.end + RUNS_AT_ONCE < ROOM }
         ensures end { piece.new.end ≤ piece.old.end + RUNS_AT_ONCE + 1 }
+        ensures each { piece.new.end ≤ piece.old.end + (carry + result) }
         ensures inside { N * result ≤ length «data».now }
         ensures last { self.new.last ≡ self.old.last }
         ensures begun { self.new.begun ≡ self.old.begun }
@@ -264,6 +269,7 @@ impl<const N: usize> Coder<N> {
         requires few { carry < REPEATS_AT_ONCE }
         requires room { piece.old.end + RUNS_AT_ONCE + 1 + chunk_max ≤ ROOM }
         ensures end { piece.new.end ≤ piece.old.end + RUNS_AT_ONCE + 1 + chunk_max }
+        ensures each { piece.new.end ≤ piece.old.end + chunk_max * (carry + result) }
         ensures inside { N * result ≤ length «data».now }
         ensures some { 0 < length «data».now → 0 < result }
         ensures begun { self.old.begun ≡ true → self.new.begun ≡ true }
@@ -281,22 +287,27 @@ impl<const N: usize> Coder<N> {
         count + 1
     }
 
-    /// Writes the only pixel of an image, since to pad it to a block would take longer.
+    /// Writes an image of few pixels, one by one: to pad them to a block would take longer.
     #[inline(never)]
-    pub(super) fn write_only<'p, const ROOM: usize>(
+    pub(super) fn write_few<'p, const ROOM: usize>(
         &mut self,
         table: &mut PixelTable,
         piece: Piece<'p, ROOM>,
         data: &[u8],
     ) -> Piece<'p, ROOM>
-        requires one { length «data».now ≡ N }
-        requires room { piece.end + RUNS_AT_ONCE + 1 + chunk_max ≤ ROOM }
-        ensures end { result.end ≤ piece.entry.end + RUNS_AT_ONCE + 1 + chunk_max }
+        requires whole { length «data».now % N ≡ 0 }
+        requires few { length «data».now ≤ N * FEW_PIXELS }
+        requires room { piece.end < ROOM - PAST }
+        ensures end { result.end < ROOM - PAST + chunk_max * FEW_PIXELS }
         ensures written { (w : Writing) → CoderBetween w (pixels_of N «data».now) table.old
             self.old (kept_bytes piece.entry) → w.ahead ≡ kept_bytes result }
     {
         let mut piece = piece;
-        self.write_next(table, &mut piece, data, 0);
+        let mut rest = data;
+        while !rest.is_empty() {
+            let count = self.write_next(table, &mut piece, rest, 0);
+            rest = skip(rest, N * count);
+        }
         piece
     }
 
@@ -663,23 +674,14 @@ impl<const N: usize> Coder<N> {
 
     /// Writes the repeats that are carried at the end, if there are any.
     #[inline(always)]
-    pub(super) fn write_last<const ROOM: usize>(
-        &self,
-        table: &mut PixelTable,
-        piece: &mut Piece<ROOM>,
-        carry: Carry,
-    )
+    pub(super) fn write_last<const ROOM: usize>(&self, piece: &mut Piece<ROOM>, carry: Carry)
         requires few { carry.count < run_max }
-        requires opaque { N ≡ 3 → slice_index carry.before.a 15 ≡ 255 }
         requires room { piece.old.end < ROOM - PAST }
-        ensures end { piece.new.end ≤ piece.old.end + RUNS_AT_ONCE + 1 }
-        ensures written { (w : Writing)
-            → StepBetween w [] table.old self.now carry (kept_bytes piece.old)
+        ensures end { piece.new.end ≤ piece.old.end + 1 }
+        ensures written { (w : Writing) (table : List RgbaPixel)
+            → StepBetween w [] table self.now carry (kept_bytes piece.old)
             → w.ahead ≡ kept_bytes piece.new }
     {
-        if carry.count > 0 {
-            let mut coder = Coder::<N>::after(self.style, carry);
-            coder.write_runs(table, piece, &[], usize::from(carry.count));
-        }
+        piece.keep_run(usize::from(carry.count), QOI_OP_RUN);
     }
 }

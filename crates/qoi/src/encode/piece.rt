@@ -33,6 +33,9 @@ pub(super) const FULL_ROOM: usize = 4096 + PAST;
 /// good part of the time.
 pub(super) const SMALL_ROOM: usize = 512 + PAST;
 
+/// The least room, of a piece of 128 bytes, for a tiny image that goes to memory.
+pub(super) const TINY_ROOM: usize = 128 + PAST;
+
 /// The most runs that are kept at a time, stored at once as a vector.
 pub(super) const RUNS_AT_ONCE: usize = 16;
 

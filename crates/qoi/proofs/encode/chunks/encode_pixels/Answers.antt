@@ -1,31 +1,47 @@
 -- A piece at a time.
-use Rattle.std.proofs.Common.{◌≡◌, ◌-◌, [], arith, subst}
+use Rattle.std.proofs.Common.{◌≡◌, ℕ, ◌-◌, [], replicate, refl, arith, subst}
 use Rattle.std.proofs.lemmas.Result.{err_from_is_err_and}
 use Rattle.qoi.specs.declared.encode.piece.TheConstants.{PAST}
+use Rattle.qoi.specs.declared.encode.block.Carry.{Carry}
+use Rattle.qoi.specs.declared.encode.coder.Coder.{Coder}
+use Rattle.qoi.specs.declared.encode.planes.Planes.{Planes}
 use Rattle.qoi.specs.Raw.{pixels_of}
 use Rattle.qoi.specs.inner.CarryLoop.{StepBetween}
+use Rattle.qoi.specs.inner.CoderLoop.{Writing, CoderBetween}
 use Rattle.qoi.specs.inner.Piece.{kept_bytes}
+use Rattle.qoi.proofs.encoding.CoderLink.{step_start}
 use Rattle.qoi.proofs.encoding.GroupRuns.{none_of_few}
 use Rattle.qoi.proofs.encoding.PieceByPiece.{PieceBetween, piece_starts, piece_filled, piece_fits, piece_went, piece_part, piece_ends}
 use Rattle.qoi.proofs.encoding.PieceSent.{kept_length}
 use Rattle.qoi.proofs.encode.chunks.encode_pixels.Given.{Over}
-use Rattle.qoi.proofs.encode.chunks.encode_pixels.Goals.{After-carry-carry}
+use Rattle.qoi.proofs.encode.chunks.encode_pixels.Goals.{After-new-coder}
 use Rattle.qoi.proofs.encode.chunks.encode_pixels.Goals as goal
 
+-- nothing is carried after the coder's last pixel
+abbrev nothing : {N : ℕ} → Coder N → Carry
+nothing coder =
+    let px = coder.last in
+    let before : Planes = record { r = replicate 16 px.r; g = replicate 16 px.g; b = replicate 16 px.b; a = replicate 16 px.a } in
+    record { before = before; count = 0; placed = coder.placed }
+
 -- before the first pixel
-starts : (g : Over) (c : After-carry-carry g)
+starts : (g : Over) (c : After-new-coder g) (carry : Carry)
+    → ((w : Writing) → CoderBetween w (pixels_of g.row.N c.args.data.now) c.new-table.result c.new-coder.result (kept_bytes c.args.piece)
+    → StepBetween w (pixels_of g.row.N c.args.data.now) c.new-table.result c.new-coder.result carry (kept_bytes c.args.piece))
     → PieceBetween g.W.Writer.wrote g.W.Writer.room (record { style = c.args.style; front = kept_bytes c.args.piece; start = c.args.writer.now; raw = c.args.data.now }) c.args.data.now
-    c.new-table.result c.new-coder.result c.carry-carry.result (kept_bytes c.args.piece) c.args.writer.now
-starts g c =
+    c.new-table.result c.new-coder.result carry (kept_bytes c.args.piece) c.args.writer.now
+starts g c carry =
     let new = c.new-coder.ensures in
     piece_starts _ g.met.W.Writer.laws c.requires.channels (λ i. omega (arith, c.type_inv.data i)) c.requires.whole
     (omega (arith, kept_length c.args.piece, c.requires.room)) new.style (new.state c.new-table.result c.new-table.ensures)
-    (λ w b. c.carry-carry.ensures.between w _ _ _ b)
 
 pub returns-then-data-clause-written : goal.returns-then-data-clause-written
 returns-then-data-clause-written g c =
+    let coder = c.new-coder.result in
     let state = c.new-coder.ensures.state c.new-table.result c.new-table.ensures in
-    piece_ends (starts g (goal.at.returns-then-data-clause-written g c).After-carry-carry) (λ w b. c.write_only.ensures.written w (b.opening state.begun_is).between)
+    let at_start = starts g (goal.at.returns-then-data-clause-written g c).After-new-coder (nothing coder)
+    (λ w b. step_start (nothing coder) b (record { red = refl; green = refl; blue = refl; alpha = refl }) refl refl) in
+    piece_ends at_start (λ w b. c.write_few.ensures.written w (b.opening state.begun_is).between)
 
 pub loop-rest-init : goal.loop-rest-init
 loop-rest-init g c =
@@ -35,7 +51,7 @@ loop-rest-init g c =
       whole = c.requires.whole;
       few = omega (arith, carry.count);
       opaque = carry.opaque;
-      state = starts g (goal.at.loop-rest-init g c).After-carry-carry;
+      state = starts g (goal.at.loop-rest-init g c).After-new-coder c.carry-carry.result (λ w b. carry.between w _ _ _ b);
     }
 
 pub returns-then-not-is_full-clause-written : goal.returns-then-not-is_full-clause-written
@@ -44,7 +60,7 @@ returns-then-not-is_full-clause-written g c =
     let room = c.is_full.ensures.room c.if-not-is_full.true in
     let none : pixels_of g.row.N fill.result.0.now ≡ [] = none_of_few g.row.N fill.result.0.now c.requires.channels (omega (arith, fill.ensures.all room, c.requires.channels)) in
     piece_ends (piece_filled c.loop-rest.invariant.state fill.ensures.written)
-    (λ w b. c.write_last.ensures.written w (subst (λ x. StepBetween w x fill.new.table fill.new.self fill.new.carry (kept_bytes fill.result.1)) none b))
+    (λ w b. c.write_last.ensures.written w _ (subst (λ x. StepBetween w x fill.new.table fill.new.self fill.new.carry (kept_bytes fill.result.1)) none b))
 
 pub send-requires : goal.send-requires
 send-requires g c =

@@ -32,6 +32,9 @@ keep_runs-requires g c = (omega arith, (c.requires.room, omega (arith, (near g (
 pub returns-clause-end : goal.returns-clause-end
 returns-clause-end g c = omega (arith, c.keep_runs.ensures.end, (near g (goal.at.returns-clause-end g c).After-repeats_by_call-ahead).few, c.requires.few)
 
+pub returns-clause-few : goal.returns-clause-few
+returns-clause-few g c = omega (arith, (near g (goal.at.returns-clause-few g c).After-repeats_by_call-ahead).few, c.requires.few)
+
 pub returns-clause-inside : goal.returns-clause-inside
 returns-clause-inside g c = (near g (goal.at.returns-clause-inside g c).After-repeats_by_call-ahead).within
 
