@@ -43,12 +43,10 @@ pub mod LaneTests
 pub mod Lanewise
 pub mod LastCount
 pub mod LastOfPlanes
-pub mod LastPixels
 pub mod NamedLanes
 pub mod OpaqueBlock
 pub mod OverlaidRuns
 pub mod PackedBlock
-pub mod PaddedBlock
 pub mod PlacesOut
 pub mod PlaneWords
 pub mod PrefixSums

@@ -10,7 +10,7 @@ use Rattle.qoi.specs.declared.types.Style.{Style}
 use Rattle.qoi.specs.declared.types.Style.TheVariants.{Reference, Places, Tight}
 use Rattle.qoi.specs.Qoi.{RgbaPixel, pixel_eq}
 use Rattle.qoi.specs.inner.BlockLanes.{mask}
-use Rattle.qoi.specs.inner.Blocks.{BetweenBlocks, all_repeat, padded}
+use Rattle.qoi.specs.inner.Blocks.{BetweenBlocks, all_repeat}
 use Rattle.qoi.specs.inner.BlockState.{State, Carrying, lanes_of, is_rep, group_bytes, next_state, more_of, end_state, block_bytes, NoneBlank, CarryGoesOn, flushed_state, next_by}
 use Rattle.qoi.specs.inner.CoderLoop.{Writing}
 use Rattle.qoi.specs.inner.Counts.{counts}
@@ -20,9 +20,8 @@ use Rattle.qoi.specs.inner.Stands.{put_all, stand_tests}
 use Rattle.qoi.specs.inner.Table.{Holds}
 use Rattle.qoi.proofs.format.SamePixels.{pixel_eq-true, pixel_eq-from}
 use Rattle.qoi.proofs.encoding.BlockOut.{carry_few}
-use Rattle.qoi.proofs.encoding.BlockWritten.{flushed}
+use Rattle.qoi.proofs.encoding.BlockWritten.{flushed, block_written}
 use Rattle.qoi.proofs.encoding.LastCount.{last_count}
-use Rattle.qoi.proofs.encoding.PaddedBlock.{padded_carry, padded_last, padded_placed, padded_holds, padded_written}
 use Rattle.qoi.proofs.encoding.SpelledBlock.{lanes_long}
 use Rattle.qoi.proofs.encoding.StyledBlock.{firsts_in_anew}
 
@@ -225,44 +224,35 @@ end_placed s (p ∷ ps) mixed = go (end_placed t ps) (all_repeat p ps) refl
         let later : suc (length ps) - 1 - (end_state t ps).carry ≡ suc (length ps - 1 - (end_state t ps).carry) = omega arith in
         before rest ∙ sym (ap (λ n. get_or tests n false) later)
 
--- over a block of these pixels, of which the last `pads` are padding
-pub block_step : {begun : Bool} (w : Writing) (style : Style) (s : State) (ps rest all : List RgbaPixel) (pads : ℕ) (x : Spelled) (p : Planes) (table : List RgbaPixel) (placed : Bool) (kept next : List ℕ)
-    → w.list.style ≡ style → all ≡ padded ps pads → 0 < length ps → AreSixteen all → all_repeat s.last all ≡ false → ArePlanes all p
-    → Ready begun w style s all (ps ++ rest) x kept → Holds table (put_all s.held all)
+-- over a block of these pixels
+pub block_step : {begun : Bool} (w : Writing) (style : Style) (s : State) (rest all : List RgbaPixel) (x : Spelled) (p : Planes) (table : List RgbaPixel) (placed : Bool) (kept next : List ℕ)
+    → w.list.style ≡ style → AreSixteen all → all_repeat s.last all ≡ false → ArePlanes all p
+    → Ready begun w style s all (all ++ rest) x kept → Holds table (put_all s.held all)
     → ((t : State) → t.held ≡ s.held → t.last ≡ s.last → style ≡ Tight → NoneBlank t all)
     → (style ≡ Places → placed ≡ get_or (stand_tests s.held all) (15 - slice_index x.count 15 % 16) false)
     → ((t : State) → HasSpelled style t all x → t.last ≡ s.last → t.carry ≤ 45 → next ≡ kept ++ block_bytes style t all)
-    → (pads ≤ slice_index x.count 15 % 16) × BetweenBlocks true w rest table p (slice_index x.count 15 % 16 - pads) placed next
-block_step w style s ps rest all pads x p table placed kept next style_is pad_is some sixteen mixed planes r holds none named bytes =
+    → BetweenBlocks true w rest table p (slice_index x.count 15 % 16) placed next
+block_step w style s rest all x p table placed kept next style_is sixteen mixed planes r holds none named bytes =
     let t = r.state in
     let long = sixteen.long in
     let few : t.carry + length all < 62 = (let f = r.few in omega arith) in
-    let done = padded_written t ps rest all pads pad_is some r.carrying r.goes_on_is few (λ tight. none t r.held_is r.last_is (sym style_is ∙ tight)) in
+    let done = block_written t all rest (omega arith) r.carrying r.goes_on_is few (λ tight. none t r.held_is r.last_is (sym style_is ∙ tight)) in
     let same : kept ++ block_bytes w.list.style t all ≡ next = ap (λ z. kept ++ block_bytes z t all) style_is ∙ sym (bytes t r.spelled r.last_is r.few) in
-    let carried : (end_state t all).carry ≡ (end_state t ps).carry + pads =
-    ap (λ (xs : List RgbaPixel). (end_state t xs).carry) pad_is ∙ padded_carry t ps pads some in
-    let last : (end_state t all).last ≡ (end_state t ps).last =
-    ap (λ (xs : List RgbaPixel). (end_state t xs).last) pad_is ∙ padded_last t ps pads some in
-    let names : (end_state t all).placed ≡ (end_state t ps).placed =
-    ap (λ (xs : List RgbaPixel). (end_state t xs).placed) pad_is ∙ padded_placed t ps pads some in
     let counted = last_counted t r.spelled in
     let mixed_lanes : all_repeat t.last all ≡ false = subst (λ q. all_repeat q all ≡ false) (sym r.last_is) mixed in
     let below = carry_below t t.last all refl mixed_lanes in
     let at_lane : length all - 1 - (end_state t all).carry ≡ 15 - slice_index x.count 15 % 16 = omega arith in
     let stood : (end_state t all).placed ≡ get_or (stand_tests s.held all) (15 - slice_index x.count 15 % 16) false =
     end_placed t all mixed_lanes ∙ (λ i. get_or (stand_tests (r.held_is i) all) (at_lane i) false) in
-    let holds_all : Holds table (end_state t all).held = subst (Holds table) (sym (end_held t all ∙ ap (λ h. put_all h all) r.held_is)) holds in (
-      omega arith,
-      record {
-        state = end_state t ps;
-        carrying = subst (Carrying true w (end_state t ps) rest) same done;
-        table_is = padded_holds table t ps pads some (subst (λ (xs : List RgbaPixel). Holds table (end_state t xs).held) pad_is holds_all);
-        before_is = subst (λ q. IsLastOf q p) last (end_last t all p sixteen planes);
-        carry_is = omega arith;
-        placed_is = λ places. sym names ∙ stood ∙ sym (named (sym style_is ∙ places));
-        few = λ _. omega arith;
-      },
-    )
+    record {
+      state = end_state t all;
+      carrying = subst (Carrying true w (end_state t all) rest) same done;
+      table_is = subst (Holds table) (sym (end_held t all ∙ ap (λ h. put_all h all) r.held_is)) holds;
+      before_is = end_last t all p sixteen planes;
+      carry_is = omega arith;
+      placed_is = λ places. stood ∙ sym (named (sym style_is ∙ places));
+      few = λ _. omega arith;
+    }
   where
     last_counted : (t : State) → HasSpelled style t all x → slice_index x.count 15 ≡ (end_state t all).carry
     last_counted t h =

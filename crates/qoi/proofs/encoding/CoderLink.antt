@@ -1,5 +1,5 @@
 -- From the state between two pixels to that between two blocks, and what is carried.
-use Rattle.std.proofs.Common.{◌≡◌, ◌≢◌, ◌<◌, ℕ, Bool, true, false, List, [], replicate, Some, ◌++◌, refl, sym, ap, ◌∙◌, subst, arith, append_assoc}
+use Rattle.std.proofs.Common.{◌≡◌, ◌≢◌, ◌<◌, ◌≤◌, length, ℕ, Bool, true, false, List, [], replicate, Some, ◌++◌, refl, sym, ap, ◌∙◌, subst, arith, append_assoc}
 use Rattle.qoi.specs.declared.encode.block.Carry.{Carry}
 use Rattle.qoi.specs.declared.encode.coder.Coder.{Coder}
 use Rattle.qoi.specs.declared.types.Style.TheVariants.{Places, Tight}
@@ -102,14 +102,16 @@ same_carried next last count placed b = record {
           few = λ e. omega (arith, count, c.few e);
         };
         in_tight = i.in_tight;
+        whole = i.whole;
       };
 }
 
 -- it goes by blocks if the next pixel is fresh, but in style Tight
 pub opened : {N : ℕ} {w : Writing} {pixels : List RgbaPixel} {table : List RgbaPixel} {coder next : Coder N} {carry : Carry} {kept : List ℕ}
-    → StepBetween w pixels table coder carry kept → (coder.begun ≡ false → slice_get pixels 0 ≢ Some coder.last) → (coder.style ≡ Tight → coder.begun ≡ true)
+    → StepBetween w pixels table coder carry kept → (coder.begun ≡ false → slice_get pixels 0 ≢ Some coder.last) → (coder.begun ≡ false → 16 ≤ length pixels)
+    → (coder.style ≡ Tight → coder.begun ≡ true)
     → next.style ≡ coder.style → next.begun ≡ true → StepBetween w pixels table next carry kept
-opened {w = w} {pixels} {table} {coder} {next} {carry} {kept} b fresh tight style begun = stays_in_blocks (style ∙ b.style_is) begun (go coder.begun refl)
+opened {w = w} {pixels} {table} {coder} {next} {carry} {kept} b fresh whole tight style begun = stays_in_blocks (style ∙ b.style_is) begun (go coder.begun refl)
   where
     go : (x : Bool) → coder.begun ≡ x → InBlocks w pixels table carry kept
     go true is = b.by_blocks is
@@ -117,6 +119,7 @@ opened {w = w} {pixels} {table} {coder} {next} {carry} {kept} b fresh tight styl
       begun = false;
       between = opening_start (b.opening is) is (fresh is);
       in_tight = λ t. sym is ∙ tight (b.style_is ∙ t);
+      whole = λ _. whole is;
     }
 
 module _ {w : Writing} {pixels : List RgbaPixel} {table : List RgbaPixel} {carry : Carry} {kept : List ℕ} where
@@ -140,7 +143,15 @@ module _ {w : Writing} {pixels : List RgbaPixel} {table : List RgbaPixel} {carry
 
   -- a fresh pixel came
   pub in_blocks : CarryBetween true w pixels table carry kept → InBlocks w pixels table carry kept
-  in_blocks b = record { begun = true; between = b; in_tight = λ _. refl }
+  in_blocks b = record { begun = true; between = b; in_tight = λ _. refl; whole = λ no. absurd (true≢false no) }
+
+  -- a fresh pixel came, if fewer pixels than a block has are left
+  pub begun_by_few : InBlocks w pixels table carry kept → length pixels < 16 → CarryBetween true w pixels table carry kept
+  begun_by_few b few = go b.begun refl
+    where
+      go : (begun : Bool) → b.begun ≡ begun → CarryBetween true w pixels table carry kept
+      go true is = subst (λ x. CarryBetween x w pixels table carry kept) is b.between
+      go false is = absurd (omega (arith, b.whole is, few))
 
 -- it goes by blocks, if repeats are carried
 pub carries_in_blocks : {N : ℕ} {w : Writing} {pixels : List RgbaPixel} {table : List RgbaPixel} {coder : Coder N} {carry : Carry} {kept : List ℕ}
@@ -222,6 +233,7 @@ step_sent {w = w} {pixels} {table} {coder} {carry} {bytes} b gone kept split = g
                 few = blocks.few;
               };
               in_tight = step.in_tight;
+              whole = step.whole;
             };
           },
         )

@@ -1,6 +1,6 @@
 -- The block at the front of raw bytes, and the bytes after it.
 use Rattle.std.proofs.Common.{◌≡◌, ◌≢◌, ◌⊎◌, inl, inr, ℕ, zero, suc, ◌+◌, true, Some, replicate, ◌*◌, ◌/◌, ◌%◌, ◌<◌, ◌≤◌, List, [], ◌∷◌, ◌++◌, length, take, drop, min, slice_index, refl, sym, ap, ◌∙◌, arith, take-append-drop}
-use Rattle.std.proofs.Math.ListN.{drop_of_length-le}
+use Rattle.std.proofs.Math.Nat.{mul_comm}
 use Rattle.std.proofs.lemmas.Bool.{cases_lt}
 use Rattle.std.proofs.lemmas.List.{length-take-le}
 use Rattle.qoi.specs.declared.encode.planes.Planes.{Planes}
@@ -8,54 +8,31 @@ use Rattle.qoi.specs.declared.encode.planes.Words.{Words}
 use Rattle.std.proofs.lemmas.Bool.{and_parts}
 use Rattle.std.specs.List.{slice_get}
 use Rattle.qoi.specs.Qoi.{RgbaPixel, pixel_eq, rgba}
-use Rattle.qoi.specs.inner.Blocks.{all_repeat, padded, final}
+use Rattle.qoi.specs.inner.Blocks.{all_repeat}
 use Rattle.qoi.proofs.format.SamePixels.{pixel_eq-true}
 use Rattle.qoi.specs.Raw.{IsChannels, pixels_of}
 use Rattle.qoi.specs.inner.Planes.{AreOpaque, ArePacked, ArePlanes, alphas, block_pixels}
 use Rattle.qoi.proofs.format.RawPixels.{length-pixels_of}
 use Rattle.qoi.proofs.format.WholePixels.{by_channels, whole_pixels}
-use Rattle.qoi.proofs.encoding.GroupRuns.{pixels_drop, pixel_ahead}
+use Rattle.qoi.proofs.encoding.GroupRuns.{few_pixels, pixels_drop, pixel_ahead}
 use Rattle.qoi.proofs.encoding.PackedBlock.{block_sixteen}
 
--- how many pixels of raw bytes their first block has
-abbrev pub in_front : ℕ → List ℕ → ℕ
-in_front n bytes = min (length bytes / n) 16
+-- the pixels of raw bytes are those of the block at the front, and then those of the bytes after it
+pub front_pixels : (n : ℕ) (bytes : List ℕ) → IsChannels n → 16 * n ≤ length bytes
+    → pixels_of n bytes ≡ take 16 (pixels_of n bytes) ++ pixels_of n (drop (16 * n) bytes)
+front_pixels n bytes is enough =
+    let size : n * 16 ≡ 16 * n = mul_comm n 16 in
+    sym (take-append-drop 16 (pixels_of n bytes))
+    ∙ ap (λ x. take 16 (pixels_of n bytes) ++ x) (pixels_drop n 16 bytes is (omega arith) ∙ ap (λ k. pixels_of n (drop k bytes)) size)
 
--- the first pixels of some
-pub some_front : (ps : List RgbaPixel) → ps ≢ [] → 0 < length (take 16 ps)
-some_front [] some = absurd (some refl)
-some_front (p ∷ ps) some = omega arith
+-- a block has bytes
+pub some_in_block : (n len : ℕ) → IsChannels n → 16 * n ≤ len → 0 < len
+some_in_block n len is = by_channels (λ k. 16 * k ≤ len → 0 < len) is (λ l. omega arith) (λ l. omega arith)
 
-module _ (n : ℕ) (bytes : List ℕ) (is : IsChannels n) (whole : length bytes % n ≡ 0) where
-  abbrev pixels : List RgbaPixel
-  pixels = pixels_of n bytes
-
-  -- the block is within the bytes
-  pub front_inside : n * in_front n bytes ≤ length bytes
-  front_inside = by_channels (λ k. k * min (length bytes / k) 16 ≤ length bytes) is (omega arith) (omega arith)
-
-  -- if there are bytes, it has some
-  pub front_some : 0 < length bytes → 0 < in_front n bytes
-  front_some = by_channels (λ k. length bytes % k ≡ 0 → 0 < length bytes → 0 < min (length bytes / k) 16) is (λ w l. omega arith) (λ w l. omega arith) whole
-
-  -- the pixels of the bytes are those of the block and then those of the bytes after it
-  pub front_pixels : pixels ≡ take 16 pixels ++ pixels_of n (drop (n * in_front n bytes) bytes)
-  front_pixels = sym (take-append-drop 16 pixels) ∙ ap (λ x. take 16 pixels ++ x) (go (cases_lt (length bytes / n) 16))
-    where
-      count : length pixels ≡ length bytes / n
-      count = length-pixels_of n (length bytes / n) bytes is (whole_pixels n (length bytes) is whole)
-
-      after : drop (in_front n bytes) pixels ≡ pixels_of n (drop (n * in_front n bytes) bytes)
-      after = pixels_drop n (in_front n bytes) bytes is front_inside
-
-      go : (length bytes / n < 16) ⊎ (16 ≤ length bytes / n) → drop 16 pixels ≡ pixels_of n (drop (n * in_front n bytes) bytes)
-      go (inl few) =
-          let all : drop 16 pixels ≡ [] = drop_of_length-le pixels {i = 16} (omega (arith, count)) in
-          let none : drop (in_front n bytes) pixels ≡ [] = drop_of_length-le pixels {i = in_front n bytes} (omega (arith, count)) in
-          all ∙ sym none ∙ after
-      go (inr many) =
-          let sixteen : 16 ≡ in_front n bytes = omega arith in
-          ap (λ k. drop k pixels) sixteen ∙ after
+-- fewer bytes than a block has are fewer pixels
+pub fewer_pixels : (n : ℕ) (bytes : List ℕ) → IsChannels n → length bytes % n ≡ 0 → length bytes < 16 * n → length (pixels_of n bytes) < 16
+fewer_pixels n bytes is whole few =
+    omega (arith, few_pixels n (length bytes) is few, length-pixels_of n (length bytes / n) bytes is (whole_pixels n (length bytes) is whole))
 
 -- alpha of an opaque pixel among others
 opaque_at : (ps : List RgbaPixel) (k : ℕ) → k < length ps → AreOpaque ps → slice_index (alphas ps) k ≡ 255
@@ -69,14 +46,13 @@ last_opaque w x packed planes opaque =
     ap (λ z. slice_index z 15) planes.a_is ∙ opaque_at (block_pixels w) 15 (omega (arith, (block_sixteen w packed).long)) opaque
 
 -- if the block at the front repeats a pixel, the first pixel is that
-pub repeats_first : (n : ℕ) (bytes : List ℕ) (q : RgbaPixel) (pads : ℕ) → IsChannels n → length bytes % n ≡ 0 → 0 < length bytes
-    → all_repeat q (padded (take 16 (pixels_of n bytes)) pads) ≡ true → slice_get (pixels_of n bytes) 0 ≡ Some q
-repeats_first n bytes q pads is whole some all =
+pub repeats_first : (n : ℕ) (bytes : List ℕ) (q : RgbaPixel) → IsChannels n → length bytes % n ≡ 0 → 0 < length bytes
+    → all_repeat q (take 16 (pixels_of n bytes)) ≡ true → slice_get (pixels_of n bytes) 0 ≡ Some q
+repeats_first n bytes q is whole some all =
     let ahead = pixel_ahead n bytes is whole some in
     let p = rgba (take n bytes) in
     let ps = pixels_of n (drop n bytes) in
-    let rest = take 15 ps ++ replicate pads (final p (take 15 ps)) in
-    let first : p ≡ q = pixel_eq-true p q (and_parts (pixel_eq p q) (all_repeat q rest) (sym (ap (λ x. all_repeat q (padded (take 16 x) pads)) ahead) ∙ all)).0 in
+    let first : p ≡ q = pixel_eq-true p q (and_parts (pixel_eq p q) (all_repeat q (take 15 ps)) (sym (ap (λ x. all_repeat q (take 16 x)) ahead) ∙ all)).0 in
     ap (λ x. slice_get x 0) ahead ∙ ap Some first
 
 -- pixels that repeat one are copies of it
@@ -92,10 +68,9 @@ pub repeats_front : (n : ℕ) (bytes : List ℕ) (q : RgbaPixel) → IsChannels 
 repeats_front n bytes q is whole enough all =
     let pixels = pixels_of n bytes in
     let many : 16 ≤ length bytes / n = by_channels (λ k. 16 * k ≤ length bytes → 16 ≤ length bytes / k) is (λ e. omega arith) (λ e. omega arith) enough in
-    let size : n * in_front n bytes ≡ 16 * n = by_channels (λ k. 16 ≤ length bytes / k → k * in_front k bytes ≡ 16 * k) is (λ m. omega arith) (λ m. omega arith) many in
     let count : length pixels ≡ length bytes / n = length-pixels_of n (length bytes / n) bytes is (whole_pixels n (length bytes) is whole) in
     let sixteen : length (take 16 pixels) ≡ 16 = length-take-le 16 pixels (omega (arith, count, many)) in
-    front_pixels n bytes is whole ∙ (λ i. (copies_of q (take 16 pixels) all ∙ ap (λ k. replicate k q) sixteen) i ++ pixels_of n (drop (size i) bytes))
+    front_pixels n bytes is enough ∙ ap (λ x. x ++ pixels_of n (drop (16 * n) bytes)) (copies_of q (take 16 pixels) all ∙ ap (λ k. replicate k q) sixteen)
 
 -- if the first pixel repeats one, at least one repeat is counted
 pub repeats_some : (n : ℕ) (bytes : List ℕ) (q : RgbaPixel) (carry count most : ℕ) → IsChannels n → slice_get (pixels_of n bytes) 0 ≡ Some q

@@ -80,9 +80,9 @@ whole_rest n count len is = by_channels (λ k. len % k ≡ 0 → k * count ≤ l
 pub fewer_left : (n count len : ℕ) → IsChannels n → n * count ≤ len → (len - n * count) / n + count ≡ len / n
 fewer_left n count len is = by_channels (λ k. k * count ≤ len → (len - k * count) / k + count ≡ len / k) is (λ a. omega arith) (λ a. omega arith)
 
--- no more pixels than their bytes allow
-pub few_pixels : (n most len : ℕ) → IsChannels n → len ≤ n * most → len / n ≤ most
-few_pixels n most len is = by_channels (λ k. len ≤ k * most → len / k ≤ most) is (λ a. omega arith) (λ a. omega arith)
+-- fewer bytes than a block has are fewer pixels
+pub few_pixels : (n len : ℕ) → IsChannels n → len < 16 * n → len / n < 16
+few_pixels n len is = by_channels (λ k. len < 16 * k → len / k < 16) is (λ a. omega arith) (λ a. omega arith)
 
 -- dropping k pixels drops their bytes
 pub pixels_drop : (n k : ℕ) (bytes : List ℕ) → IsChannels n → n * k ≤ length bytes → drop k (pixels_of n bytes) ≡ pixels_of n (drop (n * k) bytes)

@@ -6,8 +6,8 @@ use Rattle.std.proofs.lemmas.List.{take-append-drop, length-take-le}
 use Rattle.qoi.specs.Qoi.{RgbaPixel, IsPixel, AreBytes}
 use Rattle.qoi.specs.Raw.{IsChannels, pixels_of, pixels_of_3, pixels_of_4}
 use Rattle.qoi.specs.inner.Packed.{word}
-use Rattle.qoi.specs.inner.Planes.{pixels_of_words}
-use Rattle.qoi.proofs.format.RawPixels.{pixels_of_are}
+use Rattle.qoi.specs.inner.Planes.{AreOpaque, pixels_of_words}
+use Rattle.qoi.proofs.format.RawPixels.{pixels_of_are, opaque_3}
 use Rattle.qoi.proofs.format.WholePixels.{by_channels}
 use Rattle.qoi.proofs.encoding.CoderSteps.{all_bytes}
 use Rattle.qoi.proofs.encoding.FourFours.{four_fours}
@@ -25,8 +25,13 @@ all_first P zero ps a = tt
 all_first P (suc n) [] a = tt
 all_first P (suc n) (p ∷ ps) a = (a.0, all_first P n ps a.1)
 
+-- in three channels the first sixteen are opaque
+pub opaque_first : (n : ℕ) (bytes : List ℕ) → n ≡ 3 → AreOpaque (take 16 (pixels_of n bytes))
+opaque_first n bytes three =
+    all_first (λ (p : RgbaPixel). p.a ≡ 255) 16 (pixels_of n bytes) (subst (λ k. AreOpaque (pixels_of k bytes)) (sym three) (opaque_3 bytes))
+
 -- n bytes a pixel
-enough : (n k : ℕ) (bytes : List ℕ) → IsChannels n → n * k ≤ length bytes → k ≤ length (pixels_of n bytes)
+pub enough : (n k : ℕ) (bytes : List ℕ) → IsChannels n → n * k ≤ length bytes → k ≤ length (pixels_of n bytes)
 enough n k bytes is = by_channels (λ m. m * k ≤ length bytes → k ≤ length (pixels_of m bytes)) is (three k bytes) (four k bytes)
   where
     three : (k : ℕ) (bytes : List ℕ) → 3 * k ≤ length bytes → k ≤ length (pixels_of_3 bytes)

@@ -35,21 +35,6 @@ abbrev pub all_repeat : RgbaPixel → List RgbaPixel → Bool
 all_repeat q [] = true
 all_repeat q (p ∷ ps) = pixel_eq p q && all_repeat q ps
 
--- the last of these pixels, or the one before them
-abbrev pub final : RgbaPixel → List RgbaPixel → RgbaPixel
-final q [] = q
-final q (p ∷ ps) = final p ps
-
--- these pixels, and n repeats of the last of them
-abbrev pub padded : List RgbaPixel → ℕ → List RgbaPixel
-padded ps n = ps ++ replicate n (final blank ps)
-
--- the pixel at an index, or the last one if the index is past it, or else q
-abbrev pub nth_or_last : RgbaPixel → List RgbaPixel → ℕ → RgbaPixel
-nth_or_last q [] k = q
-nth_or_last q (p ∷ ps) zero = p
-nth_or_last q (p ∷ ps) (suc k) = nth_or_last p ps k
-
 -- from whatever the table holds, no fresh pixel is transparent black that isn't at its position
 abbrev pub MissesNoBlank : List RgbaPixel → Planes → List RgbaPixel → Type 0
 MissesNoBlank table before ps = (s : State) → Holds table s.held → IsLastOf s.last before → NoneBlank s ps

@@ -1,12 +1,13 @@
 //! Sixteen pixels, a block, and the chunks of a block, but for the repeats that it ends with.
-ghost use Rattle.std.specs.Prelude.{◌≡◌, ℕ, Bool, true, false, ◌+◌, ◌-◌, ◌≤◌, ◌<◌, List, [], ◌∷◌, ◌++◌, length, map, take, slice_index, slice_index_or, ◌/◌, ◌%◌, IsTrue, IsFalse};
+ghost use Rattle.std.specs.Prelude.{◌≡◌, ℕ, Bool, true, false, ◌+◌, ◌-◌, ◌*◌, ◌≤◌, ◌<◌, List, [], ◌∷◌, ◌++◌, length, map, take, slice_index, slice_index_or, ◌/◌, ◌%◌, IsTrue, IsFalse};
 ghost use Rattle.qoi.specs.declared.encode.block.TheConstants.{BLOCK_ROOM, BLOCK_MAX};
 ghost use Rattle.qoi.specs.declared.types.Style.TheVariants.{Places};
 ghost use Rattle.qoi.specs.Qoi.{RgbaPixel, IsPixel, run_max, hash};
 ghost use Rattle.qoi.specs.Raw.{IsChannels, pixels_of};
 ghost use Rattle.qoi.specs.inner.BlockLanes.{mask};
 ghost use Rattle.qoi.specs.inner.BlockState.{State, NoneBlank, group_bytes};
-ghost use Rattle.qoi.specs.inner.Blocks.{BetweenBlocks, ChangesFrom, FitsBlock, MissesNoBlank, padded, last_pixel, all_repeat};
+ghost use Rattle.qoi.specs.inner.Blocks.{ChangesFrom, FitsBlock, MissesNoBlank, last_pixel, all_repeat};
+ghost use Rattle.qoi.specs.inner.CarryLoop.{CarryBetween};
 ghost use Rattle.qoi.specs.inner.CoderLoop.{Writing};
 ghost use Rattle.qoi.specs.inner.Planes.{ArePacked, ArePlanes, AreOpaque, block_pixels};
 ghost use Rattle.qoi.specs.inner.Spelling.{IsLastOf, HasSpelled};
@@ -61,17 +62,15 @@ impl Block {
         }
     }
 
-    /// The block at the front of raw bytes; if they have fewer than sixteen pixels, it is padded
-    /// with repeats of the last one. The pixels of `before` come before it.
+    /// The block at the front of raw bytes. The pixels of `before` come before it.
     #[inline(always)]
     pub(super) fn first<const N: usize>(bytes: &[u8], before: Planes) -> Block
         requires channels { IsChannels N }
         requires whole { length bytes.now % N ≡ 0 }
-        requires some { 0 < length bytes.now }
+        requires enough { 16 * N ≤ length bytes.now }
         requires opaque { N ≡ 3 → slice_index before.a 15 ≡ 255 }
         ensures changes { ChangesFrom before (block_pixels result.words) result.changes }
-        ensures pixels { block_pixels result.words
-            ≡ padded (take 16 (pixels_of N bytes.now)) (16 - length bytes.now / N) }
+        ensures pixels { block_pixels result.words ≡ take 16 (pixels_of N bytes.now) }
         ensures opaque { N ≡ 3 → AreOpaque (block_pixels result.words) }
     {
         Block::new::<N>(first_sixteen::<N>(bytes), before)
@@ -239,14 +238,11 @@ pub(super) fn write_block<const N: usize, const STYLE: u8, const ROOM: usize>(
     ensures near { (at ≤ result.0) × (result.0 ≤ at + BLOCK_MAX) }
     ensures few { result.1.count < 16 }
     ensures before { result.1.before ≡ block.planes }
-    ensures written { (w : Writing) (begun : Bool) (pads : ℕ) (ps rest : List RgbaPixel)
+    ensures written { (w : Writing) (begun : Bool) (rest : List RgbaPixel)
         → w.list.style ≡ style
-        → block_pixels block.words ≡ padded ps pads → 0 < length ps
         → FitsBlock N style table.old carry.before (block_pixels block.words) block.changes
-        → BetweenBlocks begun w (ps ++ rest) table.old carry.before carry.count carry.placed
-        (take at out.old)
-        → (pads ≤ result.1.count) × BetweenBlocks true w rest table.new block.planes
-        (result.1.count - pads) result.1.placed (take result.0 out.new) }
+        → CarryBetween begun w (block_pixels block.words ++ rest) table.old carry (take at out.old)
+        → CarryBetween true w rest table.new result.1 (take result.0 out.new) }
 {
     let places = places(block.planes);
     store_lanes::<ROOM>(places, out, at, carry.byte(style));

@@ -1,12 +1,12 @@
 //! The chunks of an image, through a piece to a writer (QOI specification 1.0, "Data").
 ghost use Rattle.std.specs.Prelude.{◌≡◌, ◌+◌, ◌-◌, ◌*◌, ◌/◌, ◌%◌, ◌<◌, ◌≤◌, length, IfOk, IfErr};
 ghost use Rattle.qoi.specs.declared.encode.piece.TheConstants.{PAST};
-ghost use Rattle.qoi.specs.declared.encode.coder.TheConstants.{FEW_PIXELS};
+ghost use Rattle.qoi.specs.declared.encode.coder.TheConstants.{FEW_MAX};
 ghost use Rattle.qoi.specs.Qoi.{chunk_max, channels_number};
 ghost use Rattle.qoi.specs.Raw.{IsChannels, pixels_of};
 ghost use Rattle.qoi.specs.inner.Piece.{WroteChunks, BeganChunks};
 
-use crate::encode::coder::{Coder, FEW_PIXELS};
+use crate::encode::coder::Coder;
 use crate::encode::piece::Piece;
 use crate::encode::table::PixelTable;
 use crate::error::Result;
@@ -27,7 +27,7 @@ fn encode_pixels<'p, W: Writer, const N: usize, const STYLE: u8, const ROOM: usi
     requires not_full { piece.end < ROOM - PAST }
     requires room { piece.end + (length «data».now + length «data».now / N)
         ≤ W.room writer.old }
-    ensures end { IfOk result (λ p. p.end < ROOM - PAST + chunk_max * FEW_PIXELS) }
+    ensures end { IfOk result (λ p. p.end < ROOM - PAST + FEW_MAX) }
     ensures written { IfOk result (WroteChunks W.wrote style (pixels_of N «data».now)
         writer.old piece.entry writer.new) }
     ensures refused { IfErr result (λ e. W.IsFault e
@@ -35,8 +35,8 @@ fn encode_pixels<'p, W: Writer, const N: usize, const STYLE: u8, const ROOM: usi
 {
     let mut table = PixelTable::new();
     let mut coder = Coder::<N>::new(style);
-    if data.len() <= N * FEW_PIXELS {
-        return Ok(coder.write_few(&mut table, piece, data));
+    if data.len() < 16 * N {
+        return Ok(coder.write_few(&mut table, piece, data, 0));
     }
     let mut carry = coder.carry();
     let mut piece = piece;
@@ -64,7 +64,7 @@ pub(super) fn encode_chunks<'p, W: Writer, const ROOM: usize>(
     requires not_full { piece.end < ROOM - PAST }
     requires room { piece.end
         + (length «data».now + length «data».now / channels_number channels) ≤ W.room writer.old }
-    ensures end { IfOk result (λ p. p.end < ROOM - PAST + chunk_max * FEW_PIXELS) }
+    ensures end { IfOk result (λ p. p.end < ROOM - PAST + FEW_MAX) }
     ensures written { IfOk result (WroteChunks W.wrote style
         (pixels_of (channels_number channels) «data».now) writer.old piece.entry writer.new) }
     ensures refused { IfErr result (λ e. W.IsFault e × BeganChunks W.wrote style

@@ -3,7 +3,7 @@
 ghost use Rattle.std.specs.Prelude.{◌≡◌, ◌≢◌, ◌⊎◌, ℕ, Bool, ◌+◌, ◌-◌, ◌*◌, ◌%◌, ◌<◌, ◌≤◌, false, List, [], ◌∷◌, ◌++◌, Option, None, Some, length, drop, replicate, slice_get, slice_index, take, ◌/◌, true, IsTrue, IsFalse};
 ghost use Rattle.qoi.specs.declared.chunk.Chunk.{Chunk};
 ghost use Rattle.qoi.specs.declared.encode.block.TheConstants.{BLOCK_MAX};
-ghost use Rattle.qoi.specs.declared.encode.coder.TheConstants.{FEW_CARRIED};
+ghost use Rattle.qoi.specs.declared.encode.coder.TheConstants.{FEW_CARRIED, FEW_MAX};
 ghost use Rattle.qoi.specs.declared.encode.piece.TheConstants.{PAST, RUNS_AT_ONCE, REPEATS_AT_ONCE};
 ghost use Rattle.qoi.specs.declared.types.Style.TheVariants.{Tight};
 ghost use Rattle.qoi.specs.Qoi.{RgbaPixel, Past, run_max, chunk_max, previous, seen, hash, IsChunk, bytes_of};
@@ -20,7 +20,6 @@ ghost use Rattle.qoi.specs.inner.Table.{Holds};
 use crate::consts::{QOI_OP_RUN, QOI_RUN_MAX};
 use crate::encode::block::{Block, Carry};
 use crate::encode::fresh::spell_pixel;
-use crate::encode::packing::without_pads;
 use crate::encode::piece::{Piece, REPEATS_AT_ONCE};
 use crate::encode::planes::Planes;
 use crate::encode::runs::{begins_with, repeats_by_call, repeats_of};
@@ -29,11 +28,8 @@ use crate::packed::Packed;
 use crate::types::Style::{self, Places, Reference, Tight};
 use crate::utils::{pick, skip};
 
-// The number for all styles where the last pixels are written, which need no loop for each.
-const TAIL: u8 = 3;
-
-/// The most pixels of an image that are written one by one: fewer than a block has.
-pub(super) const FEW_PIXELS: usize = 15;
+/// The most bytes of the chunks of fewer pixels than a block has, and of the runs before them.
+pub(super) const FEW_MAX: usize = 92;
 
 // The most repeats that may be carried for a block of sixteen more to be carried, too: up to fifteen
 // more at the front of the next block still make a run of fewer than 62.
@@ -55,7 +51,7 @@ pub(super) struct Coder<const N: usize> {
 }
 
 impl<const N: usize> Coder<N> {
-    ghost use Rattle.qoi.specs.inner.Blocks.{ChangesFrom, FitsBlock, MissesNoBlank, all_repeat, padded, last_pixel};
+    ghost use Rattle.qoi.specs.inner.Blocks.{ChangesFrom, FitsBlock, MissesNoBlank, all_repeat, last_pixel};
     ghost use Rattle.qoi.specs.inner.CarryLoop.{CarryBetween, InBlocks, StepBetween};
     ghost use Rattle.qoi.specs.inner.CoderLoop.{CoderAfter, single, Writing, CoderBetween, BytesBetween};
     ghost use Rattle.qoi.specs.inner.Spelling.{IsLastOf};
@@ -269,7 +265,7 @@ impl<const N: usize> Coder<N> {
         requires few { carry < REPEATS_AT_ONCE }
         requires room { piece.old.end + RUNS_AT_ONCE + 1 + chunk_max ≤ ROOM }
         ensures end { piece.new.end ≤ piece.old.end + RUNS_AT_ONCE + 1 + chunk_max }
-        ensures each { piece.new.end ≤ piece.old.end + chunk_max * (carry + result) }
+        ensures each { carry ≡ 0 → piece.new.end ≤ piece.old.end + chunk_max * result }
         ensures inside { N * result ≤ length «data».now }
         ensures some { 0 < length «data».now → 0 < result }
         ensures begun { self.old.begun ≡ true → self.new.begun ≡ true }
@@ -287,26 +283,34 @@ impl<const N: usize> Coder<N> {
         count + 1
     }
 
-    /// Writes an image of few pixels, one by one: to pad them to a block would take longer.
+    /// Writes the `carry` repeats that came before, and fewer pixels than a block has, one by one.
     #[inline(never)]
     pub(super) fn write_few<'p, const ROOM: usize>(
         &mut self,
         table: &mut PixelTable,
         piece: Piece<'p, ROOM>,
         data: &[u8],
+        carry: usize,
     ) -> Piece<'p, ROOM>
         requires whole { length «data».now % N ≡ 0 }
-        requires few { length «data».now ≤ N * FEW_PIXELS }
+        requires few { length «data».now < 16 * N }
+        requires carried { carry < REPEATS_AT_ONCE }
+        requires some { 0 < carry → 0 < length «data».now }
         requires room { piece.end < ROOM - PAST }
-        ensures end { result.end < ROOM - PAST + chunk_max * FEW_PIXELS }
-        ensures written { (w : Writing) → CoderBetween w (pixels_of N «data».now) table.old
-            self.old (kept_bytes piece.entry) → w.ahead ≡ kept_bytes result }
+        ensures end { result.end < ROOM - PAST + FEW_MAX }
+        ensures begun { self.old.begun ≡ true → self.new.begun ≡ true }
+        ensures written { (w : Writing) → CoderBetween w
+            (replicate carry self.old.last ++ pixels_of N «data».now) table.old self.old
+            (kept_bytes piece.entry)
+            → CoderBetween w [] table.new self.new (kept_bytes result) }
     {
         let mut piece = piece;
         let mut rest = data;
+        let mut carry = carry;
         while !rest.is_empty() {
-            let count = self.write_next(table, &mut piece, rest, 0);
+            let count = self.write_next(table, &mut piece, rest, carry);
             rest = skip(rest, N * count);
+            carry = 0;
         }
         piece
     }
@@ -330,11 +334,12 @@ impl<const N: usize> Coder<N> {
     }
 
     // Whether the front goes by blocks: once a fresh pixel came or, but in style `Tight`, if the
-    // next one is fresh.
+    // next one is fresh and there is a whole block.
     #[inline(always)]
     fn goes_by_blocks(&self, data: &[u8]) -> bool
         ensures fresh { IsTrue result → self.now.begun ≡ false
             → slice_get (pixels_of N «data».now) 0 ≢ Some self.now.last }
+        ensures whole { IsTrue result → self.now.begun ≡ false → 16 * N ≤ length «data».now }
         ensures tight { IsTrue result → self.now.style ≡ Tight → self.now.begun ≡ true }
         ensures not_yet { IsFalse result → self.now.begun ≡ false }
     {
@@ -342,7 +347,7 @@ impl<const N: usize> Coder<N> {
             Reference | Places => true,
             Tight => false,
         };
-        self.begun || (may_open && !begins_with::<N>(data, self.last))
+        self.begun || (may_open && data.len() >= 16 * N && !begins_with::<N>(data, self.last))
     }
 
     // Whether in style `Tight` a pixel of the block may be given by another index position than its
@@ -361,45 +366,37 @@ impl<const N: usize> Coder<N> {
         }
     }
 
-    // Writes the block at the front, but for the repeats at its end. Returns how many pixels it
-    // has, and what is carried.
+    // Writes the block at the front, but for the repeats at its end. Returns what is carried.
     #[inline(always)]
-    fn write_block<const STYLE: u8, const ROOM: usize>(
+    fn write_block<'a, const STYLE: u8, const ROOM: usize>(
         style: Style,
         table: &mut PixelTable,
         piece: &mut Piece<ROOM>,
-        data: &[u8],
+        data: &'a [u8],
         block: Block,
         carry: Carry,
-    ) -> (usize, Carry)
+    ) -> (&'a [u8], Carry)
         requires channels { IsChannels N }
         requires whole { length «data».now % N ≡ 0 }
-        requires some { 0 < length «data».now }
+        requires enough { 16 * N ≤ length «data».now }
         requires few { carry.count < run_max }
         requires opaque { N ≡ 3 → slice_index carry.before.a 15 ≡ 255 }
         requires room { piece.old.end < ROOM - PAST }
-        requires pixels { block_pixels block.words
-            ≡ padded (take 16 (pixels_of N «data».now)) (16 - length «data».now / N) }
+        requires pixels { block_pixels block.words ≡ take 16 (pixels_of N «data».now) }
         ensures end { piece.new.end ≤ piece.old.end + BLOCK_MAX }
-        ensures inside { N * result.0 ≤ length «data».now }
-        ensures some { 0 < result.0 }
+        ensures less { length result.0.now < length «data».entry.now }
+        ensures whole { length result.0.now % N ≡ 0 }
         ensures few { result.1.count < run_max }
         ensures before { result.1.before ≡ block.planes }
         ensures written { (w : Writing) (begun : Bool) → w.list.style ≡ style
             → FitsBlock N style table.old carry.before (block_pixels block.words) block.changes
-            → CarryBetween begun w (pixels_of N «data».now) table.old carry (kept_bytes piece.old)
-            → CarryBetween true w (pixels_of N (drop (N * result.0) «data».now)) table.new
-            result.1 (kept_bytes piece.new) }
+            → CarryBetween begun w (pixels_of N «data».entry.now) table.old carry
+            (kept_bytes piece.old)
+            → CarryBetween true w (pixels_of N result.0.now) table.new result.1
+            (kept_bytes piece.new) }
     {
         let after = piece.keep_block::<N, STYLE>(style, table, block, carry);
-        let (count, left) = without_pads::<N>(data, after.count);
-        (
-            count,
-            Carry {
-                count: left,
-                ..after
-            },
-        )
+        (skip(data, 16 * N), after)
     }
 
     // Carries the block of repeats at the front, too. Returns the rest, and what is carried.
@@ -491,9 +488,9 @@ impl<const N: usize> Coder<N> {
         (count, coder.carry())
     }
 
-    // Writes what is at the front of raw bytes: a block, but for the repeats at its end; if its
-    // pixels repeat, full runs of the repeats there; or repeats and the fresh pixel after them, if
-    // in style `Tight` a pixel may be given by another index position than its own. Returns the
+    // Writes what is at the front of raw bytes: a block, but for the repeats at its end; if all
+    // repeat, the full runs of the repeats there, if any; or repeats and the fresh pixel after them,
+    // if in style `Tight` a pixel may be given by another index position than its own. Returns the
     // rest, and what is carried.
     #[inline(always)]
     fn write_front<'a, const STYLE: u8, const ROOM: usize>(
@@ -505,7 +502,7 @@ impl<const N: usize> Coder<N> {
     ) -> (&'a [u8], Carry)
         requires channels { IsChannels N }
         requires whole { length «data».now % N ≡ 0 }
-        requires some { 0 < length «data».now }
+        requires enough { 16 * N ≤ length «data».now }
         requires few { carry.count < run_max }
         requires opaque { N ≡ 3 → slice_index carry.before.a 15 ≡ 255 }
         requires room { piece.old.end < ROOM - PAST }
@@ -521,7 +518,7 @@ impl<const N: usize> Coder<N> {
         let block = Block::first::<N>(data, carry.before);
         if block.repeats() {
             // In three channels most groups are short.
-            if N == 3 && carry.count <= FEW_CARRIED && data.len() >= 16 * N {
+            if N == 3 && carry.count <= FEW_CARRIED {
                 return Coder::<N>::carry_block(data, carry);
             }
             let (count, after) = Coder::<N>::write_long_group(piece, data, carry);
@@ -531,52 +528,42 @@ impl<const N: usize> Coder<N> {
             let (count, after) = Coder::<N>::write_group(table, piece, data, carry);
             return (skip(data, N * count), after);
         }
-        let (count, after) = Coder::<N>::write_block::<STYLE, ROOM>(
-            style, table, piece, data, block, carry,
-        );
-        (skip(data, N * count), after)
+        Coder::<N>::write_block::<STYLE, ROOM>(style, table, piece, data, block, carry)
     }
 
-    // Writes the last pixels, of which there are fewer than a block has, unless the piece is full
-    // before. Returns the rest, and the piece, and updates what is carried.
-    #[inline(never)]
-    fn write_tail<'a, 'p, const ROOM: usize>(
+    // Writes the last pixels, of which there are fewer than a block has, and the repeats that are
+    // carried. Returns the piece, and updates what is carried: nothing.
+    #[inline(always)]
+    fn write_tail<'p, const ROOM: usize>(
         style: Style,
         table: &mut PixelTable,
         piece: Piece<'p, ROOM>,
-        data: &'a [u8],
+        data: &[u8],
         carry: &mut Carry,
-    ) -> (&'a [u8], Piece<'p, ROOM>)
+    ) -> Piece<'p, ROOM>
         requires channels { IsChannels N }
         requires whole { length «data».now % N ≡ 0 }
-        requires few { carry.old.count < run_max }
+        requires some { 0 < length «data».now }
+        requires few { length «data».now < 16 * N }
+        requires carried { carry.old.count < run_max }
         requires opaque { N ≡ 3 → slice_index carry.old.before.a 15 ≡ 255 }
         requires room { piece.end < ROOM - PAST }
-        ensures end { result.1.end < ROOM - PAST + BLOCK_MAX }
-        ensures all { result.1.end < ROOM - PAST → length result.0.now ≡ 0 }
-        ensures some { ROOM - PAST ≤ result.1.end → length result.0.now < length «data».entry.now }
-        ensures whole { length result.0.now % N ≡ 0 }
+        ensures end { result.end < ROOM - PAST + FEW_MAX }
         ensures few { carry.new.count < run_max }
         ensures opaque { N ≡ 3 → slice_index carry.new.before.a 15 ≡ 255 }
         ensures written { (w : Writing) → w.list.style ≡ style
-            → InBlocks w (pixels_of N «data».entry.now) table.old carry.old (kept_bytes piece.entry)
-            → InBlocks w (pixels_of N result.0.now) table.new carry.new (kept_bytes result.1) }
+            → CarryBetween true w (pixels_of N «data».now) table.old carry.old
+            (kept_bytes piece.entry) → InBlocks w [] table.new carry.new (kept_bytes result) }
     {
-        let mut piece = piece;
-        let mut rest = data;
-        while !piece.is_full() && !rest.is_empty() {
-            let (after, now) = Coder::<N>::write_front::<TAIL, ROOM>(
-                style, table, &mut piece, rest, *carry,
-            );
-            *carry = now;
-            rest = after;
-        }
-        (rest, piece)
+        let mut coder = Coder::<N>::after(style, *carry);
+        let piece = coder.write_few(table, piece, data, usize::from(carry.count));
+        *carry = coder.carry();
+        piece
     }
 
-    // Writes the repeats that open an image, and the fresh pixel after them if it doesn't go by
-    // blocks. Returns the rest, which goes by blocks unless the piece is full or nothing is left,
-    // and the piece. Updates what is carried: nothing.
+    // Writes the repeats that open an image, and what comes after them until it goes by blocks.
+    // Returns the rest, which goes by blocks unless the piece is full or nothing is left, and the
+    // piece. Updates what is carried: nothing.
     #[inline(never)]
     fn write_opening<'a, 'p, const ROOM: usize>(
         &mut self,
@@ -586,6 +573,7 @@ impl<const N: usize> Coder<N> {
         carry: &mut Carry,
     ) -> (&'a [u8], Piece<'p, ROOM>)
         requires whole { length «data».now % N ≡ 0 }
+        requires not_yet { self.old.begun ≡ false }
         requires few { carry.old.count < run_max }
         requires opaque { N ≡ 3 → slice_index carry.old.before.a 15 ≡ 255 }
         requires room { piece.end < ROOM - PAST }
@@ -606,7 +594,7 @@ impl<const N: usize> Coder<N> {
         let mut piece = piece;
         let mut rest = data;
         while !piece.is_full() && !rest.is_empty() {
-            if self.goes_by_blocks(rest) {
+            if rest.len() >= 16 * N && self.goes_by_blocks(rest) {
                 self.begun = true;
                 return (rest, piece);
             }
@@ -635,7 +623,7 @@ impl<const N: usize> Coder<N> {
         requires few { carry.old.count < run_max }
         requires opaque { N ≡ 3 → slice_index carry.old.before.a 15 ≡ 255 }
         requires room { piece.end < ROOM - PAST }
-        ensures end { result.1.end < ROOM - PAST + BLOCK_MAX }
+        ensures end { result.1.end < ROOM - PAST + FEW_MAX }
         ensures all { result.1.end < ROOM - PAST → length result.0.now ≡ 0 }
         ensures some { ROOM - PAST ≤ result.1.end → length result.0.now < length «data».entry.now }
         ensures whole { length result.0.now % N ≡ 0 }
@@ -656,8 +644,7 @@ impl<const N: usize> Coder<N> {
             self.write_opening(table, piece, data, carry)
         };
         let mut now = carry.with_known_alpha::<N>();
-        // A block has sixteen pixels. Those that are left are written elsewhere, so that this loop
-        // needn't ask for how many there are.
+        // A block has sixteen pixels. Those that are left are written one by one.
         while !piece.is_full() && rest.len() >= 16 * N {
             let (after, carried) = Coder::<N>::write_front::<STYLE, ROOM>(
                 style, table, &mut piece, rest, now,
@@ -669,7 +656,8 @@ impl<const N: usize> Coder<N> {
         if piece.is_full() || rest.is_empty() {
             return (rest, piece);
         }
-        Coder::<N>::write_tail(style, table, piece, rest, carry)
+        let piece = Coder::<N>::write_tail(style, table, piece, rest, carry);
+        (&[], piece)
     }
 
     /// Writes the repeats that are carried at the end, if there are any.

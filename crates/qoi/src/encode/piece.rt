@@ -54,7 +54,7 @@ pub(super) struct Piece<'a, const ROOM: usize> {
 }
 
 impl<'a, const ROOM: usize> Piece<'a, ROOM> {
-    ghost use Rattle.qoi.specs.inner.Blocks.{BetweenBlocks, FitsBlock, padded};
+    ghost use Rattle.qoi.specs.inner.Blocks.{FitsBlock};
     ghost use Rattle.qoi.specs.inner.CarryLoop.{CarryBetween};
     ghost use Rattle.qoi.specs.inner.CoderLoop.{Writing};
     ghost use Rattle.qoi.specs.inner.Piece.{kept_bytes};
@@ -164,12 +164,12 @@ impl<'a, const ROOM: usize> Piece<'a, ROOM> {
         ensures end { self.new.end ≤ self.old.end + BLOCK_MAX }
         ensures few { result.count < 16 }
         ensures before { result.before ≡ block.planes }
-        ensures written { (w : Writing) (begun : Bool) (pads : ℕ) (ps rest : List RgbaPixel)
-            → w.list.style ≡ style → block_pixels block.words ≡ padded ps pads → 0 < length ps
+        ensures written { (w : Writing) (begun : Bool) (rest : List RgbaPixel)
+            → w.list.style ≡ style
             → FitsBlock N style table.old carry.before (block_pixels block.words) block.changes
-            → CarryBetween begun w (ps ++ rest) table.old carry (kept_bytes self.old)
-            → (pads ≤ result.count) × BetweenBlocks true w rest table.new block.planes
-            (result.count - pads) result.placed (kept_bytes self.new) }
+            → CarryBetween begun w (block_pixels block.words ++ rest) table.old carry
+            (kept_bytes self.old)
+            → CarryBetween true w rest table.new result (kept_bytes self.new) }
     {
         let (end, after) = write_block::<N, STYLE, ROOM>(
             style, table, self.bytes, self.end, block, carry,

@@ -10,6 +10,7 @@ use Rattle.qoi.specs.inner.CarryLoop.{StepBetween}
 use Rattle.qoi.specs.inner.CoderLoop.{Writing, CoderBetween}
 use Rattle.qoi.specs.inner.Piece.{kept_bytes}
 use Rattle.qoi.proofs.encoding.CoderLink.{step_start}
+use Rattle.qoi.proofs.encoding.CoderSteps.{all_written}
 use Rattle.qoi.proofs.encoding.GroupRuns.{none_of_few}
 use Rattle.qoi.proofs.encoding.PieceByPiece.{PieceBetween, piece_starts, piece_filled, piece_fits, piece_went, piece_part, piece_ends}
 use Rattle.qoi.proofs.encoding.PieceSent.{kept_length}
@@ -41,7 +42,7 @@ returns-then-data-clause-written g c =
     let state = c.new-coder.ensures.state c.new-table.result c.new-table.ensures in
     let at_start = starts g (goal.at.returns-then-data-clause-written g c).After-new-coder (nothing coder)
     (λ w b. step_start (nothing coder) b (record { red = refl; green = refl; blue = refl; alpha = refl }) refl refl) in
-    piece_ends at_start (λ w b. c.write_few.ensures.written w (b.opening state.begun_is).between)
+    piece_ends at_start (λ w b. all_written (c.write_few.ensures.written w (b.opening state.begun_is).between))
 
 pub loop-rest-init : goal.loop-rest-init
 loop-rest-init g c =

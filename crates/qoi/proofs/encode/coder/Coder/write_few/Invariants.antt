@@ -1,5 +1,7 @@
--- The pixels up to here are written, each as at most five bytes.
-use Rattle.std.proofs.Common.{◌≡◌, ◌+◌, ◌-◌, ◌*◌, ◌/◌, ◌%◌, ◌≤◌, length}
+-- The pixels up to here are written, each as at most five bytes, and after the first step the repeats
+-- that were carried.
+use Rattle.std.proofs.Common.{◌≡◌, true, ◌+◌, ◌*◌, ◌/◌, ◌%◌, ◌<◌, ◌≤◌, ◌++◌, length, replicate}
+use Rattle.qoi.specs.declared.encode.piece.TheConstants.{REPEATS_AT_ONCE, RUNS_AT_ONCE}
 use Rattle.qoi.specs.Qoi.{chunk_max}
 use Rattle.qoi.specs.Raw.{pixels_of}
 use Rattle.qoi.specs.inner.CoderLoop.{Writing, CoderBetween}
@@ -8,11 +10,15 @@ use Rattle.qoi.proofs.encode.coder.Coder.write_few.Given as goal
 
 abbrev pub invariant-loop-rest : goal.invariant-loop-rest
 invariant-loop-rest g l = record {
-  end : l.piece.end + chunk_max * (length l.rest / g.row.N) ≤ l.initial.piece.end + chunk_max * (length l.data / g.row.N);
-  left : length l.rest ≤ length l.data;
+  end : l.piece.end + chunk_max * (length l.rest / g.row.N) ≤ l.initial.piece.end + (RUNS_AT_ONCE + 1) + chunk_max * (length l.data / g.row.N);
+  first : 0 < l.carry → l.piece.end + chunk_max * (length l.rest / g.row.N) ≤ l.initial.piece.end + chunk_max * (length l.data / g.row.N);
+  carried : l.carry < REPEATS_AT_ONCE;
+  some : 0 < l.carry → 0 < length l.rest;
+  begun : l.initial.self.begun ≡ true → l.self.begun ≡ true;
   whole : length l.rest % g.row.N ≡ 0;
-  written : (w : Writing) → CoderBetween w (pixels_of g.row.N l.data) l.initial.table l.initial.self (kept_bytes l.initial.piece)
-      → CoderBetween w (pixels_of g.row.N l.rest) l.table l.self (kept_bytes l.piece);
+  written : (w : Writing)
+      → CoderBetween w (replicate l.initial.carry l.initial.self.last ++ pixels_of g.row.N l.data) l.initial.table l.initial.self (kept_bytes l.initial.piece)
+      → CoderBetween w (replicate l.carry l.self.last ++ pixels_of g.row.N l.rest) l.table l.self (kept_bytes l.piece);
 }
 
 abbrev pub decreases-loop-rest : goal.decreases-loop-rest

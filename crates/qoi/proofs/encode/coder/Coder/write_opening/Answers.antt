@@ -1,15 +1,26 @@
 -- Repeats and a fresh pixel further, or blocks begin.
-use Rattle.std.proofs.Common.{◌≡◌, ◌-◌, ◌*◌, ◌%◌, ◌<◌, length, refl, sym, ap, ◌∙◌, arith}
+use Rattle.std.proofs.Common.{◌≡◌, false, ◌-◌, ◌*◌, ◌%◌, ◌<◌, length, refl, sym, ap, ◌∙◌, arith}
 use Rattle.std.proofs.lemmas.Bool.{eqb-false}
 use Rattle.std.proofs.lemmas.List.{length-drop}
-use Rattle.qoi.proofs.encoding.CoderLink.{opened}
+use Rattle.std.proofs.Math.Nat.{mul_comm}
+use Rattle.qoi.proofs.encoding.ReadBlock.{enough}
+use Rattle.qoi.proofs.encoding.CoderLink.{opened, step_start}
 use Rattle.qoi.proofs.encoding.GroupRuns.{some_bytes, whole_rest}
 use Rattle.qoi.proofs.encode.coder.Coder.write_opening.Goals as goal
 
 pub returns-then-goes_by_blocks-clause-written : goal.returns-then-goes_by_blocks-clause-written
 returns-then-goes_by_blocks-clause-written g c = λ w b.
     let by = c.goes_by_blocks.ensures in
-    opened (c.loop-self.invariant.written w b) (by.fresh c.if-goes_by_blocks.true) (by.tight c.if-goes_by_blocks.true) refl refl
+    let o = c.loop-self.invariant.written w b in
+    let is = c.if-goes_by_blocks.true in
+    let n = g.row.N in
+    let many = λ (no : c.loop-self.self.begun ≡ false). enough n 16 c.loop-self.rest.now c.args.self.now.channels (omega (arith, mul_comm n 16, by.whole is no)) in
+    opened (step_start c.loop-self.carry o.between o.last_is o.none o.placed_is) (by.fresh is) many (by.tight is) refl refl
+
+pub returns-clause-written : goal.returns-clause-written
+returns-clause-written g c = λ w b.
+    let o = c.loop-self.invariant.written w b in
+    step_start c.loop-self.carry o.between o.last_is o.none o.placed_is
 
 pub loop-self-preserved : goal.loop-self-preserved
 loop-self-preserved g c =
@@ -28,7 +39,10 @@ loop-self-preserved g c =
       whole = ap (λ k. k % n) size ∙ whole_rest n count (length rest) channels i.whole step.inside;
       few = omega (arith, c.carry.ensures.count);
       opaque = c.carry.ensures.opaque;
-      written = λ w b.
-          let start = ((i.written w b).opening (c.goes_by_blocks.ensures.not_yet c.if-goes_by_blocks.false)).between in
-          rw c.skip-rest.ensures (c.carry.ensures.between w _ _ _ (step.written w start));
+      written = λ w b. record {
+        between = rw c.skip-rest.ensures (step.written w (i.written w b).between);
+        last_is = c.carry.ensures.before;
+        none = c.carry.ensures.count;
+        placed_is = c.carry.ensures.placed;
+      };
     }

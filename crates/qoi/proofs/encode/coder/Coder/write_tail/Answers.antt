@@ -1,28 +1,13 @@
--- A front further.
-use Rattle.std.proofs.Common.{arith}
+-- The repeats that are carried, and the last pixels.
+use Rattle.std.proofs.Common.{◌≡◌, true, ◌++◌, replicate}
+use Rattle.qoi.specs.Raw.{pixels_of}
+use Rattle.qoi.specs.inner.CoderLoop.{CoderBetween}
+use Rattle.qoi.specs.inner.Piece.{kept_bytes}
 use Rattle.qoi.proofs.encode.coder.Coder.write_tail.Goals as goal
 
-pub loop-style-init : goal.loop-style-init
-loop-style-init g c = record {
-  end = omega (arith, c.requires.room);
-  left = omega arith;
-  some = λ full. absurd (omega (arith, c.requires.room, full));
-  whole = c.requires.whole;
-  few = c.requires.few;
-  opaque = c.requires.opaque;
-  written = λ w _ b. b;
-}
-
-pub loop-style-preserved : goal.loop-style-preserved
-loop-style-preserved g c =
-    let i = c.loop-style.invariant in
-    let step = c.write_front.ensures in
-    record {
-      end = omega (arith, step.end, c.is_full.ensures.room c.loop-style-test.true);
-      left = omega (arith, step.less, i.left);
-      some = λ _. omega (arith, step.less, i.left);
-      whole = step.whole;
-      few = step.few;
-      opaque = step.opaque;
-      written = λ w is b. step.written w is (i.written w is b);
-    }
+pub returns-clause-written : goal.returns-clause-written
+returns-clause-written g c = λ w style b.
+    let start : CoderBetween w (replicate c.from.result c.after-coder.result.last ++ pixels_of g.row.N c.args.data.now) c.args.table.now c.after-coder.result (kept_bytes c.args.piece)
+    = rw c.from.ensures (c.after-coder.ensures.between w _ _ _ style b) in
+    let begun : c.write_few-piece.new.self.begun ≡ true = c.write_few-piece.ensures.begun c.after-coder.ensures.begun in
+    (c.carry.ensures.between w _ _ _ (c.write_few-piece.ensures.written w start)).by_blocks begun
