@@ -74,7 +74,12 @@ impl Header {
         let channels = u32::from(self.channels.as_u8());
         let colorspace = u32::from(self.colorspace.as_u8());
         // A file's numbers have the highest byte first.
-        let numbers = [QOI_MAGIC, self.width, self.height, channels + 256 * colorspace];
+        let numbers = [
+            QOI_MAGIC,
+            self.width,
+            self.height,
+            channels + 256 * colorspace,
+        ];
         let bytes = u32x4::from_array(numbers).to_le_bytes();
         let ordered: u8x16 = bytes.shuffle(
             bytes,

@@ -1,5 +1,5 @@
 -- Four numbers whose bytes are those of a header, the first three turned around.
-use Rattle.std.proofs.Common.{◌≡◌, ℕ, ◌+◌, ◌*◌, ◌/◌, ◌%◌, ◌<◌, List, [], ◌∷◌, ◌++◌, take, map, refl, ap, ◌∙◌, arith}
+use Rattle.std.proofs.Common.{◌≡◌, ℕ, ◌+◌, ◌*◌, ◌/◌, ◌%◌, ◌<◌, List, [], ◌∷◌, take, map, ap, ◌∙◌, arith}
 use Rattle.std.specs.Int.{byte_at}
 use lib.Lanes.{number_l, digits_l}
 use Rattle.qoi.specs.declared.header.Header.{Header}

@@ -1,10 +1,10 @@
 -- The state between two blocks of sixteen pixels.
-use Rattle.std.specs.Prelude.{◌≡◌, ℕ, zero, suc, Bool, true, false, ◌&&◌, List, [], ◌∷◌, ◌++◌, replicate, slice_get, slice_index, Some, ◌≤◌}
+use Rattle.std.specs.Prelude.{◌≡◌, ℕ, Bool, true, false, ◌&&◌, List, [], ◌∷◌, slice_get, slice_index, Some, ◌≤◌}
 use Rattle.qoi.specs.declared.encode.changes.Changes.{Changes}
 use Rattle.qoi.specs.declared.encode.planes.Planes.{Planes}
 use Rattle.qoi.specs.declared.types.Style.{Style}
 use Rattle.qoi.specs.declared.types.Style.TheVariants.{Places, Tight}
-use Rattle.qoi.specs.Qoi.{RgbaPixel, blank, pixel, pixel_eq}
+use Rattle.qoi.specs.Qoi.{RgbaPixel, pixel, pixel_eq}
 use Rattle.qoi.specs.inner.BlockState.{State, Carrying, NoneBlank, lanes_of}
 use Rattle.qoi.specs.inner.CoderLoop.{Writing}
 use Rattle.qoi.specs.inner.LaneVectors.{AreChanges}

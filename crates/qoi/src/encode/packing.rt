@@ -5,7 +5,6 @@ ghost use Rattle.qoi.specs.inner.Packed.{word};
 ghost use Rattle.qoi.specs.inner.Planes.{AreOpaque, block_pixels};
 
 use crate::encode::planes::Words;
-
 use crate::utils::skip;
 use std::simd::prelude::*;
 

@@ -1,5 +1,5 @@
 -- A block further.
-use Rattle.std.proofs.Common.{◌++◌, sym, ap, ◌∙◌, subst}
+use Rattle.std.proofs.Common.{◌++◌, sym, ◌∙◌, subst}
 use Rattle.qoi.specs.Raw.{pixels_of}
 use Rattle.qoi.specs.inner.CarryLoop.{CarryBetween}
 use Rattle.qoi.specs.inner.Piece.{kept_bytes}

@@ -1,13 +1,13 @@
 -- Repeats and a fresh pixel further, until no pixel is left.
-use Rattle.std.proofs.Common.{◌≡◌, ◌≤◌, ◌+◌, ◌-◌, ◌*◌, ◌/◌, ◌%◌, ◌<◌, ◌⊎◌, inl, inr, [], ◌++◌, length, replicate, sym, ap, ◌∙◌, arith, subst}
-use Rattle.std.proofs.lemmas.Bool.{cases_lt, eqb-false, eqb-true}
+use Rattle.std.proofs.Common.{◌≡◌, ◌≤◌, ◌+◌, ◌-◌, ◌*◌, ◌/◌, ◌%◌, inl, inr, [], ◌++◌, length, replicate, sym, ap, ◌∙◌, arith, subst}
+use Rattle.std.proofs.lemmas.Bool.{cases_lt, eqb-true}
 use Rattle.std.proofs.lemmas.List.{length-drop}
 use Rattle.qoi.specs.declared.encode.piece.TheConstants.{RUNS_AT_ONCE}
 use Rattle.qoi.specs.Qoi.{chunk_max}
 use Rattle.qoi.specs.Raw.{pixels_of}
 use Rattle.qoi.specs.inner.CoderLoop.{CoderBetween}
 use Rattle.qoi.specs.inner.Piece.{kept_bytes}
-use Rattle.qoi.proofs.encoding.GroupRuns.{none_of_few, some_bytes, whole_rest, fewer_left, few_pixels}
+use Rattle.qoi.proofs.encoding.GroupRuns.{none_of_few, whole_rest, fewer_left, few_pixels}
 use Rattle.qoi.proofs.encode.coder.Coder.write_few.Goals as goal
 
 pub write_next-count-requires : goal.write_next-count-requires

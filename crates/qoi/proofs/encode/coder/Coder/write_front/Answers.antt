@@ -1,5 +1,5 @@
 -- A block, or a group.
-use Rattle.std.proofs.Common.{◌≡◌, ◌-◌, ◌/◌, true, length, take, slice_index, sym, ap, ◌∙◌, arith}
+use Rattle.std.proofs.Common.{◌≡◌, true, length, take, slice_index, sym, ap, ◌∙◌, arith}
 use Rattle.qoi.specs.declared.encode.planes.Planes.{Planes}
 use Rattle.qoi.specs.Raw.{pixels_of}
 use Rattle.qoi.specs.inner.Blocks.{FitsBlock, all_repeat, last_pixel}
