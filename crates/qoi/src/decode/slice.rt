@@ -11,13 +11,17 @@ ghost use Rattle.qoi.specs.inner.Filling.{filling, DecoderBetween};
 
 use crate::consts::{QOI_PADDING, QOI_PADDING_SIZE};
 use crate::decode::chunks::{Chunks, Reached, image_to_buf, image_to_vec};
-use crate::decode::fast::{OUTPUT_ROOM, Progress};
+use crate::decode::fast::Progress;
 use crate::decode::hashed::Hashed;
 use crate::decode::one_chunk::decode_chunk;
 use crate::decode::output::RUN_ROOM;
 use crate::decode::reader::Bytes;
 use crate::decode::table::{SizedTerms, SmallTermTable, TermTable};
 use crate::error::{Error, Result};
+
+// An output of fewer bytes is filled chunk by chunk, with every test: to set the fast loop's table to
+// zero would take longer.
+const SMALL_OUTPUT: usize = 160;
 
 // What is left between two chunks: the last pixel, the bytes ahead, and how much of the output is
 // written.
@@ -160,8 +164,8 @@ impl<'a, const N: usize, const F: usize> Chunks<N, F> for Bytes<'a> {
     }
 }
 
-// Decodes chunks until an output is full that is too small for the fast loop, and returns the
-// bytes after them. `None` if the file is cut.
+// Decodes chunks until a small output is full, and returns the bytes after them. `None` if the file
+// is cut.
 fn small_chunks<'a, const N: usize, const F: usize>(
     data: &'a [u8],
     out: &mut [u8],
@@ -208,7 +212,7 @@ pub(super) fn slice_image<'a, const N: usize, const F: usize>(
         ReadsImage F N (length out.old / N) (Some «data».entry.now) (Some rest.now) out.new) }
     ensures refused { IfErr result (RefusesBytes (length out.old / N) «data».entry.now) }
 {
-    if out.len() < OUTPUT_ROOM {
+    if out.len() < SMALL_OUTPUT {
         return small_image::<N, F>(data, out);
     }
     let mut bytes = Bytes(data);
