@@ -1,6 +1,5 @@
 //! Encoding, into buffers, vectors and writers.
 ghost use Rattle.std.specs.Prelude.{◌≡◌, ℕ, ◌*◌, ◌<◌, ◌≤◌, List, length, ◌⊎◌, Ok, Err, IsErrOf, IsOk, IsOkUnless, IfOk, IfErr};
-ghost use Rattle.std.specs.Io.KnownBytes.{Appends};
 ghost use Rattle.qoi.specs.declared.header.Header.{Header};
 ghost use Rattle.qoi.specs.declared.encode.piece.TheConstants.{PAST, FULL_ROOM};
 ghost use Rattle.qoi.specs.declared.error.Error.{Error};
@@ -14,7 +13,7 @@ ghost use Rattle.qoi.specs.Encoded.{max_len, max_file_len, image_header, measure
 ghost use Rattle.qoi.specs.Errors.{IsIoError};
 ghost use Rattle.qoi.specs.EncoderState.{free_encoder};
 ghost use Rattle.qoi.specs.Sent.{IsFileFor, MakesFile, PutsFile, SendsFile, SendsPart};
-ghost use Rattle.qoi.specs.writers.Writes.{AppendsBeginning, WroteBeginning};
+ghost use Rattle.qoi.specs.writers.Writes.{WroteBeginning};
 
 mod block;
 mod changes;

@@ -5,7 +5,6 @@ ghost use Rattle.std.specs.Io.KnownBytes.{Consumes};
 ghost use Rattle.qoi.specs.Qoi.{end_marker, run_max};
 ghost use Rattle.qoi.specs.Raw.{IsChannels};
 ghost use Rattle.qoi.specs.Decoding.{StreamsPixels, ReadsImage};
-ghost use Rattle.qoi.specs.declared.error.Error.{Error};
 ghost use Rattle.qoi.specs.inner.Chunks.{RefusesChunks, RefusesAfter};
 ghost use Rattle.qoi.specs.inner.Filling.{filling, DecoderBetween};
 ghost use Rattle.qoi.specs.declared.decode.chunks.TheConstants.{STEP};

@@ -2,7 +2,7 @@
 ghost use Rattle.std.specs.Prelude.{◌≡◌, ◌+◌, ◌-◌, ◌*◌, ◌/◌, ◌%◌, ◌<◌, ◌≤◌, length, IfOk, IfErr};
 ghost use Rattle.qoi.specs.declared.encode.piece.TheConstants.{PAST};
 ghost use Rattle.qoi.specs.declared.encode.coder.TheConstants.{FEW_MAX};
-ghost use Rattle.qoi.specs.Qoi.{chunk_max, channels_number};
+ghost use Rattle.qoi.specs.Qoi.{channels_number};
 ghost use Rattle.qoi.specs.Raw.{IsChannels, pixels_of};
 ghost use Rattle.qoi.specs.inner.Piece.{WroteChunks, BeganChunks};
 

@@ -14,7 +14,7 @@ ghost use Rattle.qoi.specs.Styles.{choice_in};
 ghost use Rattle.qoi.specs.inner.CoderState.{held_in, last_chunk};
 ghost use Rattle.qoi.specs.inner.FreshPixel.{HasBytes};
 ghost use Rattle.qoi.specs.inner.Piece.{kept_bytes};
-ghost use Rattle.qoi.specs.inner.Planes.{AreOpaque, block_pixels};
+ghost use Rattle.qoi.specs.inner.Planes.{block_pixels};
 ghost use Rattle.qoi.specs.inner.Table.{Holds};
 
 use crate::consts::{QOI_OP_RUN, QOI_RUN_MAX};
@@ -366,7 +366,8 @@ impl<const N: usize> Coder<N> {
         }
     }
 
-    // Writes the block at the front, but for the repeats at its end. Returns what is carried.
+    // Writes the block at the front, but for the repeats at its end. Returns the rest, and what is
+    // carried.
     #[inline(always)]
     fn write_block<'a, const STYLE: u8, const ROOM: usize>(
         style: Style,

@@ -1,16 +1,15 @@
 //! Small examples of definitions, computed, for numbers, orders and sides that no other law fixes.
-ghost use Rattle.std.specs.Prelude.{◌≡◌, ℕ, ◌++◌, List, [], ◌∷◌, length, Option, replicate, codes, Ok, Err, None, Some, true, false};
+ghost use Rattle.std.specs.Prelude.{◌≡◌, ℕ, ◌++◌, [], ◌∷◌, length, replicate, codes, Ok, Err, Some, true, false};
 ghost use Rattle.qoi.specs.declared.error.Error.{Error};
-ghost use Rattle.qoi.specs.declared.header.Header.{Header};
 ghost use Rattle.qoi.specs.declared.types.Channels.{Channels};
 ghost use Rattle.qoi.specs.declared.types.ColorSpace.{ColorSpace};
 ghost use Rattle.qoi.specs.declared.chunk.Chunk.TheVariants.{Place, Diff, Luma, Run, Rgb, Rgba};
 ghost use Rattle.qoi.specs.Qoi.{AreBytes, IsChunk, bytes_of, chunk_max, default_header, end_marker, header_bytes, IsValid, marker_size, pixel, pixel_count, rgba, tried_header};
 ghost use Rattle.qoi.specs.Errors.{IsIoError, IsReaderFault, IsErrorOfCut, IsErrorOfWrong};
 ghost use Rattle.qoi.specs.Raw.{IsChannels, without_fourth, pixels_of, byte_count, image_byte_count, HasImageLength, capped_byte_count, AreOpaque, HasChannels};
-ghost use Rattle.qoi.specs.Verdicts.{IsPartOfChunk, IsWhole, IsCut, IsWrong};
+ghost use Rattle.qoi.specs.Verdicts.{IsWhole, IsCut, IsWrong};
 ghost use Rattle.qoi.specs.Decoding.{least_byte_count, RefusesBuffer, RefusesMarker, RefusesBytes, RefusesTaken, RefusesTakenMarker, RefusesTakenHeader};
-ghost use Rattle.qoi.specs.DecoderState.{DecoderState, output_byte_count, TakesWithin};
+ghost use Rattle.qoi.specs.DecoderState.{output_byte_count, TakesWithin};
 ghost use Rattle.qoi.specs.Runs.{IsCount};
 ghost use Rattle.qoi.specs.Written.{fresh, noted};
 ghost use Rattle.qoi.specs.writers.Writes.{StandsAfter};
