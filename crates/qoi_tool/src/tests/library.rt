@@ -27,6 +27,7 @@ mod pixel;
 mod reader;
 mod refusals;
 mod runs;
+mod saves;
 mod second_images;
 mod std_streams;
 mod streams;
