@@ -3,7 +3,7 @@ ghost use Rattle.std.specs.Prelude.{◌≡◌, ◌+◌, ◌<◌, ◌≤◌, IsTr
 ghost use Rattle.std.specs.Vec.{vec_len, vec_capacity};
 ghost use Rattle.std.specs.Io.KnownBytes.{Consumes};
 ghost use Rattle.qoi.specs.Raw.{IsChannels};
-ghost use Rattle.qoi.specs.Qoi.{end_marker};
+ghost use Rattle.qoi.specs.Qoi.{Past, end_marker};
 ghost use Rattle.qoi.specs.Decoding.{StreamsPixels, ReadsImage, RefusesMarker, RefusesBytes};
 ghost use Rattle.qoi.specs.Verdicts.{AreCut};
 ghost use Rattle.qoi.specs.declared.decode.output.TheConstants.{RUN_ROOM};
@@ -45,14 +45,14 @@ fn last_chunks<'a, const N: usize, const F: usize, const RUN_FITS: bool, const S
     at: usize,
 ) -> Option<Left<'a>>
     requires channels { IsChannels N }
-    requires between { (n : ℕ) × (start : Option (List ℕ))
-        × DecoderBetween F N n (Consumes start (Some «data».now))
+    requires between { (gone : Past) × (n : ℕ) × (start : Option (List ℕ))
+        × DecoderBetween F N gone n (Consumes start (Some «data».now))
         (filling table.old last out.old at) }
-    ensures between { (n : ℕ) (start : Option (List ℕ))
-        → DecoderBetween F N n (Consumes start (Some «data».entry.now))
+    ensures between { (gone : Past) (n : ℕ) (start : Option (List ℕ))
+        → DecoderBetween F N gone n (Consumes start (Some «data».entry.now))
         (filling table.old last out.old at)
-        → MatchOption result ((all : ℕ) → n ≤ all → IfSome start (AreCut all))
-        (λ left. DecoderBetween F N n (Consumes start (Some left.rest.now))
+        → MatchOption result ((all : ℕ) → length gone + n ≤ all → IfSome start (AreCut all))
+        (λ left. DecoderBetween F N gone n (Consumes start (Some left.rest.now))
         (filling table.new left.last out.new left.at)) }
     ensures below { IsTrue RUN_FITS → at < length out.old
         → IfSome result (λ left. left.at < length out.new) }
@@ -86,14 +86,14 @@ fn slice_chunks<'a, const N: usize, const F: usize, const RUN_FITS: bool>(
     at: usize,
 ) -> Option<Left<'a>>
     requires channels { IsChannels N }
-    requires between { (n : ℕ) × (start : Option (List ℕ))
-        × DecoderBetween F N n (Consumes start (Some «data».now))
+    requires between { (gone : Past) × (n : ℕ) × (start : Option (List ℕ))
+        × DecoderBetween F N gone n (Consumes start (Some «data».now))
         (filling table.old last out.old at) }
-    ensures between { (n : ℕ) (start : Option (List ℕ))
-        → DecoderBetween F N n (Consumes start (Some «data».entry.now))
+    ensures between { (gone : Past) (n : ℕ) (start : Option (List ℕ))
+        → DecoderBetween F N gone n (Consumes start (Some «data».entry.now))
         (filling table.old last out.old at)
-        → MatchOption result ((all : ℕ) → n ≤ all → IfSome start (AreCut all))
-        (λ left. DecoderBetween F N n (Consumes start (Some left.rest.now))
+        → MatchOption result ((all : ℕ) → length gone + n ≤ all → IfSome start (AreCut all))
+        (λ left. DecoderBetween F N gone n (Consumes start (Some left.rest.now))
         (filling table.new left.last out.new left.at)) }
     ensures below { IsTrue RUN_FITS → at < length out.old
         → IfSome result (λ left. left.at < length out.new) }

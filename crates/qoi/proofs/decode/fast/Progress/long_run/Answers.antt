@@ -10,7 +10,7 @@ use Rattle.qoi.proofs.decode.fast.Progress.long_run.Goals.{then-out-self-ge-RUN_
 use Rattle.qoi.proofs.decode.fast.Progress.long_run.Goals as goal
 
 pub returns-clause-between : goal.returns-clause-between
-returns-clause-between g c n before h =
+returns-clause-between g c gone n before h =
     let now = c.args.self in
     let bytes = c.args.bytes.now in
     let is = c.requires.channels in

@@ -9,7 +9,7 @@ use Rattle.qoi.proofs.decoding.FastSteps.{short_count, next_byte, fast_step}
 use Rattle.qoi.proofs.decode.fast.Progress.short_chunk.Goals as goal
 
 pub returns-clause-between : goal.returns-clause-between
-returns-clause-between g c n before h =
+returns-clause-between g c gone n before h =
     let now = c.args.self in
     let bytes = c.args.bytes.now in
     let is = c.requires.channels in
