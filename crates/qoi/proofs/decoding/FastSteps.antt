@@ -38,7 +38,7 @@ short_count c b size is short one run =
     ]
 
 -- after copies of a pixel the output ends where a pixel does, if it did before
-whole_after : (c at count : ℕ) → IsChannels c → at % c ≡ 0 → (at + c * count) % c ≡ 0
+pub whole_after : (c at count : ℕ) → IsChannels c → at % c ≡ 0 → (at + c * count) % c ≡ 0
 whole_after c at count is = by_channels (λ d. at % d ≡ 0 → (at + d * count) % d ≡ 0) is (λ p. omega arith) (λ p. omega arith)
 
 -- the byte after a short chunk: two past a luma's first byte, one past any other's

@@ -5,14 +5,14 @@ use Rattle.std.proofs.lemmas.List.{length-replicate, take-append-le}
 use lib.Seq.{take-append_seam}
 use Rattle.qoi.specs.declared.chunk.Chunk.{Chunk}
 use Rattle.qoi.specs.declared.decode.chunks.TheConstants.{STEP}
-use Rattle.qoi.specs.Qoi.{Past, AreBytes, Each, chunk_bytes, start, times, then_chunk, then_chunks}
+use Rattle.qoi.specs.Qoi.{Past, AreBytes, Each, chunk_bytes, start, then_chunk, then_chunks}
 use Rattle.qoi.specs.Raw.{IsChannels}
 use Rattle.qoi.specs.Decoding.{HasTaken}
 use Rattle.qoi.specs.Verdicts.{AreCut, EndsBefore}
 use Rattle.qoi.specs.inner.Hashed.{pixel_of_lanes, HoldsSeen}
-use Rattle.qoi.specs.inner.Filling.{Filling, filling, DecodesChunk, DecoderBetween}
+use Rattle.qoi.specs.inner.Filling.{Filling, filling, DecoderBetween}
 use Rattle.qoi.proofs.format.WholePixels.{by_channels, whole_pixels}
-use Rattle.qoi.proofs.decoding.LeastBytes.{pixels_most, times_most}
+use Rattle.qoi.proofs.decoding.LeastBytes.{pixels_most}
 use Rattle.qoi.proofs.decoding.Progress.{fewer, few_left, start_between}
 
 -- chunks that stand after fewer than m pixels stand after fewer than n, if that is no less
@@ -88,21 +88,6 @@ pub whole_sizes : {f c : ℕ} {gone : Past} {n : ℕ} {Taken : List ℕ → Type
 whole_sizes {c = c} {n = n} {now = now} is s =
     let size = length now.buffer.out in
     (by_channels (λ k. size ≡ k * n → size % k ≡ 0) is (λ e. omega arith) (λ e. omega arith) s.filled.room, s.whole)
-
--- a chunk that is put where any run has room leaves room
-pub room_left : {f c : ℕ} {gone : Past} {n : ℕ} {Taken : List ℕ → Type 0} {old new : Filling} {bytes : List ℕ} → IsChannels c → DecoderBetween f c gone n Taken old
-    → old.buffer.at + 256 ≤ length old.buffer.out → DecodesChunk f c bytes old new → new.buffer.at < length new.buffer.out
-room_left {c = c} {n = n} {old = old} {new = new} is s room g =
-    let past = s.recent in
-    let k = times g.chunk in
-    let after = g.decodes.filled n past s.filled in
-    let copies = replicate k (pixel_of_lanes new.last) in
-    let many : length (copies ++ past) ≡ k + length past = omega (arith, length-append copies past, length-replicate k (pixel_of_lanes new.last)) in
-    let few : k ≤ 62 = times_most g.chunk g.is_chunk in
-    let at : new.buffer.at ≡ c * min n (k + length past) = after.at_is ∙ ap (λ m. c * min n m) many in
-    let P : ℕ → Type 0 = λ j. old.buffer.at ≡ j * min n (length past) → length old.buffer.out ≡ j * n → new.buffer.at ≡ j * min n (k + length past)
-    → length new.buffer.out ≡ j * n → new.buffer.at < length new.buffer.out in
-    by_channels P is (λ a b d e. omega (arith, room, few)) (λ a b d e. omega (arith, room, few)) s.filled.at_is s.filled.room at after.room
 
 -- if there is room and fewer bytes are left than an end marker has, the bytes are cut for an image
 -- of any more pixels

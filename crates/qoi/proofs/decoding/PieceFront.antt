@@ -13,6 +13,7 @@ use Rattle.qoi.specs.Raw.{IsChannels, pixel_bytes, output}
 use Rattle.qoi.specs.Verdicts.{IsWhole}
 use Rattle.qoi.specs.Images.{front_image}
 use Rattle.qoi.specs.Reading.{StandsAhead}
+use Rattle.qoi.specs.DecoderState.{TakesAtMost}
 use Rattle.qoi.specs.inner.Pieces.{kept, GivesPieces}
 use Rattle.qoi.proofs.format.Appended.{length-meaning}
 use Rattle.qoi.proofs.format.ChunkSteps.{given as pixels_after, then_chunks_given, then_chunks-append}
@@ -22,6 +23,7 @@ use Rattle.qoi.proofs.decoding.Ahead.{image_read}
 use Rattle.qoi.proofs.decoding.FrontImage.{image_is}
 use Rattle.qoi.proofs.decoding.ImageSize.{channels_are}
 use Rattle.qoi.proofs.decoding.PieceSteps.{longer, kept_long}
+use Rattle.qoi.proofs.decoding.TakenBytes.{bytes_within, read_within}
 
 -- a reading that goes on is the beginning of one that reaches n pixels
 begins : (n : ℕ) (past : Past) (cs ds : List Chunk) (x y : List ℕ) → AreChunks cs → AreChunks ds → chunk_bytes cs ++ x ≡ chunk_bytes ds ++ y
@@ -47,6 +49,18 @@ few_gone f c n l gone given kept undecoded is e kept_is size some =
     let many : length (given ++ kept) ≡ c * length gone = ap length e ∙ length-output f c (reverse gone) is ∙ ap (λ k. c * k) (length-reverse gone) in
     by_channels (λ k. length (given ++ kept) ≡ k * length gone → length given + (l + undecoded) ≡ k * n → length gone < n) is
     (λ a b. omega (arith, length-append given kept, kept_is, some)) (λ a b. omega (arith, length-append given kept, kept_is, some)) many size
+
+-- for n pixels at most 5n + 8 bytes were taken
+pub pieces_within : (f c n : ℕ) (start now : Option (List ℕ)) (given : List ℕ) (p : Pieces) → IsChannels c → GivesPieces f c n start now given p
+    → TakesAtMost (5 * n + 8) start now
+pieces_within f c n start now given p is h =
+    elim (cases_lt 0 p.undecoded) [
+      | inl some ↦
+          let (gone, stands, e) = h.goes_on some in
+          let few : length gone < n = few_gone f c n _ gone given (kept p) p.undecoded is e (kept_long p h.within) h.size some in
+          (chunk_bytes stands.cs, stands.taken, omega (arith, bytes_within [] stands.cs stands.chunks, ap length stands.pixels, few))
+      | inr none ↦ read_within f c n start now (given ++ kept p) (h.ends (omega (arith, none)))
+    ]
 
 -- the image's pixels are those that are gone and others
 more_pixels : (n : ℕ) (cs more : List Chunk) (gone : Past) → then_chunks [] cs ≡ gone → length gone < n

@@ -16,7 +16,7 @@ use Rattle.qoi.specs.inner.Filling.{HasSeen, filling, DecoderBetween}
 use Rattle.qoi.specs.inner.Pieces.{kept, KeepsWithin, StandsAfter, GivesPieces}
 use Rattle.qoi.proofs.format.ChunkSteps.{times_some}
 use Rattle.qoi.proofs.format.WholePixels.{by_channels, length-output, take_whole}
-use Rattle.qoi.proofs.decoding.Progress.{fewer}
+use Rattle.qoi.proofs.decoding.Progress.{fewer, none_written}
 use Rattle.qoi.proofs.decoding.StreamReads.{take-read}
 
 -- chunks give no fewer pixels
@@ -48,7 +48,7 @@ opens {f} {c} {gone} {Taken} {table} {last} n out is s size = record {
   filled = record { room = size; at_is = none; same = refl };
   has_seen = subst (HasSeen (filling table last out 0)) (sym s.pixels) (record { table_is = s.table_is; last_is = s.last_is });
   within = omega arith;
-  whole = by_channels (λ k. 0 % k ≡ 0) is refl refl;
+  whole = none_written c is;
 }
   where
     none : 0 ≡ c * min n 0
@@ -272,3 +272,11 @@ joined d m out long short front rest is size some long_is short_is =
 -- how many bytes are kept
 pub kept_long : (p : Pieces) → KeepsWithin p → length (kept p) ≡ p.to - p.from
 kept_long p within = length-take-le (p.to - p.from) (drop p.from p.bytes) (omega (arith, within, length-drop p.from p.bytes))
+
+-- so many whole pixels, and an output that begins
+pub times_whole : (c q size : ℕ) → IsChannels c → size ≡ c * q → (size % c ≡ 0) × (0 % c ≡ 0)
+times_whole c q size is e = (by_channels (λ k. size ≡ k * q → size % k ≡ 0) is (λ s. omega arith) (λ s. omega arith) e, none_written c is)
+
+-- what whole pixels are left of whole ones
+pub minus_whole : (c a b : ℕ) → IsChannels c → a % c ≡ 0 → b % c ≡ 0 → (a - b) % c ≡ 0
+minus_whole c a b is = by_channels (λ k. a % k ≡ 0 → b % k ≡ 0 → (a - b) % k ≡ 0) is (λ h g. omega arith) (λ h g. omega arith)

@@ -14,8 +14,9 @@ use Rattle.qoi.specs.DecoderState.{DecoderState, output_byte_count}
 use Rattle.qoi.specs.PixelReader.{PixelsState, pixels_left, HasGiven, RefusesPixels}
 use Rattle.qoi.specs.inner.Chunks.{RefusesChunks}
 use Rattle.qoi.specs.inner.Pieces.{bytes_left, GivesPieces}
-use Rattle.qoi.proofs.decoding.PieceFront.{front_given}
+use Rattle.qoi.proofs.decoding.PieceFront.{front_given, pieces_within}
 use Rattle.qoi.proofs.decoding.PieceSteps.{none_kept}
+use Rattle.qoi.proofs.decoding.ImageSize.{channels_are}
 use Rattle.qoi.proofs.decoding.Promised.{has_decoded, has_refused}
 
 -- how many bytes an image has
@@ -26,17 +27,19 @@ byte_bounds h Rgba valid = (omega (arith, valid), omega (arith, valid))
 -- what was given
 pub has_given : {R : Type 0} (d : DecoderState R) (start now : Option (List ℕ)) (given : List ℕ) (p : PixelsState R)
     → GivesPieces (channels_number d.header.channels) (channels_number d.channels) (pixel_count d.header) start now given p.pieces
-    → p.header ≡ d.header → p.channels ≡ d.channels → 3 ≤ output_byte_count d → HasGiven d start now given p
+    → p.header ≡ d.header → p.channels ≡ d.channels → p.refused ≡ false → 3 ≤ output_byte_count d → HasGiven d start now given p
 unfolding pixels_left
-has_given d start now given p h same chosen some =
+has_given d start now given p h same chosen going some =
     let n = pixel_count d.header in
     let k = channels_number d.channels in
     let all : length given + bytes_left p.pieces ≡ output_byte_count d = h.size ∙ mul_comm k n in
     record {
+      going = going;
       pieces = h;
       header = same;
       channels = chosen;
       left = all;
+      within = pieces_within (channels_number d.header.channels) k n start now given p.pieces (channels_are d.channels k refl) h;
       front = front_given d.channels d.header start now given p.pieces h;
       whole = λ none.
           let q = p.pieces in
@@ -44,14 +47,6 @@ has_given d start now given p h same chosen some =
           has_decoded d start now given (omega (arith, all, none), omega (arith, all, none, some))
           (subst (ReadsImage (channels_number d.header.channels) k n start now) (none_kept q given empty) (h.ends (omega (arith, none))));
     }
-
--- how many bytes are left
-pub left_fits : {R : Type 0} (d : DecoderState R) (start now : Option (List ℕ)) (given : List ℕ) (p : PixelsState R) → HasGiven d start now given p → IsValid p.header
-    → bytes_left p.pieces < 2 ^ 64
-unfolding pixels_left
-left_fits d start now given p h valid =
-    let bound = (byte_bounds d.header d.channels (subst IsValid h.header valid)).1 in
-    omega (arith, h.left, bound)
 
 -- an image that is refused
 pub refuses_pixels : {R : Type 0} (in_memory : Bool) (d : DecoderState R) (start now : Option (List ℕ)) (e : Error)

@@ -27,6 +27,10 @@ pub fewer : {f c n : ℕ} {b : Buffer} {past : Past} → IsChannels c → HasFil
 fewer {c = c} {n = n} {b = b} {past = past} is h inside =
     (counts c n (length past) 0 b.at (length b.out) is h.room h.at_is inside (omega arith)).below
 
+-- none is a whole number of pixels
+pub none_written : (c : ℕ) → IsChannels c → 0 % c ≡ 0
+none_written c is = by_channels (λ k. 0 % k ≡ 0) is refl refl
+
 -- before the first chunk
 pub start_between : (f c : ℕ) (Taken : List ℕ → Type 0) (table : List ℕ) (last : ℕ) (out : List ℕ) → IsChannels c → length out % c ≡ 0
     → HoldsSeen table [] → pixel_of_lanes last ≡ start → Taken [] → DecoderBetween f c [] (length out / c) Taken (filling table last out 0)
@@ -40,7 +44,7 @@ start_between f c Taken table last out is whole blank opaque none_taken = record
   filled = record { room = whole_pixels c (length out) is whole; at_is = none c is; same = refl };
   has_seen = record { table_is = blank; last_is = opaque };
   within = omega arith;
-  whole = by_channels (λ k. 0 % k ≡ 0) is refl refl;
+  whole = none_written c is;
 }
   where
     none : (c : ℕ) → IsChannels c → 0 ≡ c * min (length out / c) 0

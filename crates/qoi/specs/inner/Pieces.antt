@@ -1,5 +1,5 @@
 -- What stands between two pieces of an image.
-use Rattle.std.specs.Prelude.{◌≡◌, ℕ, ◌+◌, ◌-◌, ◌*◌, ◌<◌, ◌≤◌, List, [], ◌++◌, length, take, drop, reverse, Option}
+use Rattle.std.specs.Prelude.{◌≡◌, ℕ, ◌+◌, ◌-◌, ◌*◌, ◌%◌, ◌<◌, ◌≤◌, List, [], ◌++◌, length, take, drop, reverse, Option}
 use Rattle.std.specs.Io.KnownBytes.{Consumes}
 use Rattle.qoi.specs.declared.chunk.Chunk.{Chunk}
 use Rattle.qoi.specs.declared.decode.pieces.Pieces.{Pieces}
@@ -19,6 +19,10 @@ bytes_left p = (p.to - p.from) + p.undecoded
 -- the kept bytes lie in their array
 abbrev pub KeepsWithin : Pieces → Type 0
 KeepsWithin p = (p.from ≤ p.to) × (p.to ≤ length p.bytes)
+
+-- and those that aren't decoded are whole pixels
+abbrev pub KeepsPixels : ℕ → Pieces → Type 0
+KeepsPixels channels p = KeepsWithin p × (p.undecoded % channels ≡ 0)
 
 -- Chunks of these pixels were taken, and table and last pixel are theirs. `Taken` says which bytes
 -- were taken.

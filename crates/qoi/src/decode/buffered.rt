@@ -1,12 +1,12 @@
 //! Decoding an image from a reader with a buffer of its own.
-ghost use Rattle.std.specs.Prelude.{ℕ, ◌+◌, ◌<◌, ◌≤◌, List, [], length, IsTrue, IsFalse, false, Option, IfOk, OnErr};
+ghost use Rattle.std.specs.Prelude.{ℕ, ◌≡◌, ◌+◌, ◌%◌, ◌<◌, ◌≤◌, List, [], length, IsTrue, IsFalse, false, Option, IfOk, OnErr};
 ghost use Rattle.std.specs.Io.KnownBytes.{Consumes};
 ghost use Rattle.qoi.specs.Qoi.{Past};
 ghost use Rattle.qoi.specs.Raw.{IsChannels};
 ghost use Rattle.qoi.specs.Verdicts.{EndsBefore};
 ghost use Rattle.qoi.specs.Decoding.{HasTaken};
 ghost use Rattle.qoi.specs.declared.decode.output.TheConstants.{RUN_ROOM};
-ghost use Rattle.qoi.specs.inner.Filling.{filling, DecoderBetween};
+ghost use Rattle.qoi.specs.inner.Filling.{IsWholePixels, filling, DecoderBetween};
 
 use crate::decode::chunks::{Chunks, Reached};
 use crate::decode::fast::{OUTPUT_ROOM, Progress};
@@ -40,6 +40,8 @@ fn chunks_in_buffer<R: BufRead, const N: usize, const F: usize>(
         (filling table.new now.last out.new now.at)) }
     ensures on { IfOk result (λ now. at ≤ now.at) }
     ensures below { at < length out.old → IfOk result (λ now. now.at < length out.new) }
+    ensures within { IfOk result (λ now. now.at ≤ length out.new) }
+    ensures whole { at % N ≡ 0 → IfOk result (λ now. now.at % N ≡ 0) }
     ensures failed { OnErr result
         (Consumes (R.remaining reader.old) (R.remaining reader.new) []) }
     ensures unfilled { OnErr result (at < length out.old) }
@@ -69,9 +71,8 @@ fn decode_chunks<R: BufRead, const N: usize, const F: usize, const RUN_FITS: boo
     at: usize,
 ) -> io::Result<Reached>
     requires channels { IsChannels N }
-    requires between { (gone : Past) × (n : ℕ) × (start : Option (List ℕ))
-        × DecoderBetween F N gone n (Consumes start (R.remaining reader.old))
-        (filling table.old last out.old at) }
+    requires within { at ≤ length out.old }
+    requires whole { IsWholePixels N (length out.old) at }
     ensures between { (gone : Past) (n : ℕ) (start : Option (List ℕ))
         → DecoderBetween F N gone n (Consumes start (R.remaining reader.old))
         (filling table.old last out.old at)
@@ -81,6 +82,8 @@ fn decode_chunks<R: BufRead, const N: usize, const F: usize, const RUN_FITS: boo
         → IfOk result (λ now. now.at < length out.new) }
     ensures filled { IsTrue RUN_FITS → IfOk result (λ now. length out.new < now.at + RUN_ROOM) }
     ensures full { IsFalse RUN_FITS → IfOk result (λ now. length out.new ≤ now.at) }
+    ensures within { IfOk result (λ now. now.at ≤ length out.new) }
+    ensures whole { IfOk result (λ now. now.at % N ≡ 0) }
     ensures failed { (gone : Past) (n : ℕ) (start : Option (List ℕ))
         → DecoderBetween F N gone n (Consumes start (R.remaining reader.old))
         (filling table.old last out.old at)

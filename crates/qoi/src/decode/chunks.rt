@@ -6,7 +6,7 @@ ghost use Rattle.qoi.specs.Qoi.{Past, end_marker, run_max};
 ghost use Rattle.qoi.specs.Raw.{IsChannels, output};
 ghost use Rattle.qoi.specs.Decoding.{StreamsPixels, ReadsImage};
 ghost use Rattle.qoi.specs.inner.Chunks.{RefusesChunks, RefusesAfter};
-ghost use Rattle.qoi.specs.inner.Filling.{filling, DecoderBetween};
+ghost use Rattle.qoi.specs.inner.Filling.{IsWholePixels, filling, DecoderBetween};
 ghost use Rattle.qoi.specs.declared.decode.chunks.TheConstants.{STEP};
 ghost use Rattle.qoi.specs.declared.decode.output.TheConstants.{RUN_ROOM};
 
@@ -44,9 +44,8 @@ pub(super) trait Chunks<const N: usize, const F: usize>: Sized {
         at: usize,
     ) -> Result<Reached>
         requires channels { IsChannels N }
-        requires between { (gone : Past) × (n : ℕ) × (start : Option (List ℕ))
-            × DecoderBetween F N gone n (Consumes start (ahead self.old))
-            (filling table.old last out.old at) }
+        requires within { at ≤ length out.old }
+        requires whole { IsWholePixels N (length out.old) at }
         ensures between { (gone : Past) (n : ℕ) (start : Option (List ℕ))
             → DecoderBetween F N gone n (Consumes start (ahead self.old))
             (filling table.old last out.old at)
@@ -54,6 +53,8 @@ pub(super) trait Chunks<const N: usize, const F: usize>: Sized {
             (filling table.new now.last out.new now.at)) }
         ensures below { at < length out.old → IfOk result (λ now. now.at < length out.new) }
         ensures filled { IfOk result (λ now. length out.new < now.at + RUN_ROOM) }
+        ensures within { IfOk result (λ now. now.at ≤ length out.new) }
+        ensures whole { IfOk result (λ now. now.at % N ≡ 0) }
         ensures refused { (gone : Past) (n : ℕ) (start : Option (List ℕ))
             → DecoderBetween F N gone n (Consumes start (ahead self.old))
             (filling table.old last out.old at)
@@ -69,9 +70,8 @@ pub(super) trait Chunks<const N: usize, const F: usize>: Sized {
         at: usize,
     ) -> Result<()>
         requires channels { IsChannels N }
-        requires between { (gone : Past) × (n : ℕ) × (start : Option (List ℕ))
-            × DecoderBetween F N gone n (Consumes start (ahead self.old))
-            (filling table.old last out.old at) }
+        requires within { at ≤ length out.old }
+        requires whole { IsWholePixels N (length out.old) at }
         ensures read { (gone : Past) (n : ℕ) (start : Option (List ℕ))
             → DecoderBetween F N gone n (Consumes start (ahead self.old))
             (filling table.old last out.old at)

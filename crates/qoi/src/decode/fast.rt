@@ -1,6 +1,6 @@
 //! The loop over chunks in memory while input and output have room ahead for four short ones and a
 //! full one, which is tested once for all five. It can go on from any pixel.
-ghost use Rattle.std.specs.Prelude.{◌≡◌, ◌↔◌, IsTrue, ℕ, ◌+◌, ◌-◌, ◌*◌, ◌/◌, ◌<◌, ◌≤◌, List, length};
+ghost use Rattle.std.specs.Prelude.{◌≡◌, ◌↔◌, IsTrue, ℕ, ◌+◌, ◌-◌, ◌*◌, ◌/◌, ◌%◌, ◌<◌, ◌≤◌, List, length};
 ghost use Rattle.qoi.specs.Qoi.{Past, run_tag, rgb_tag};
 ghost use Rattle.qoi.specs.Raw.{IsChannels};
 ghost use Rattle.qoi.specs.declared.decode.output.TheConstants.{RUN_ROOM};
@@ -60,6 +60,7 @@ impl Progress {
         ensures between { (gone : Past) (n : ℕ) (before : List ℕ)
             → FastBetween F N gone n before bytes.now self table.old out.old
             → FastBetween F N gone n before bytes.now result table.new out.new }
+        ensures whole { self.at % N ≡ 0 → result.at % N ≡ 0 }
         ensures taken { (self.taken < result.taken) × (result.taken ≤ self.taken + 2) }
         ensures written { (self.at ≤ result.at) × (result.at ≤ self.at + 16) }
         ensures byte { result.next < 256 }
@@ -93,6 +94,7 @@ impl Progress {
         ensures between { (gone : Past) (n : ℕ) (before : List ℕ)
             → FastBetween F N gone n before bytes.now self table.old out.old
             → FastBetween F N gone n before bytes.now result table.new out.new }
+        ensures whole { self.at % N ≡ 0 → result.at % N ≡ 0 }
         ensures taken { (self.taken ≤ result.taken) × (result.taken ≤ self.taken + 8) }
         ensures some { result.next ≤ run_tag - 1 + 16 / N → self.taken < result.taken }
         ensures written { (self.at ≤ result.at) × (result.at ≤ self.at + 64) }
@@ -131,6 +133,7 @@ impl Progress {
         ensures between { (gone : Past) (n : ℕ) (before : List ℕ)
             → FastBetween F N gone n before bytes.now self table.old out.old
             → FastBetween F N gone n before bytes.now result table.new out.new }
+        ensures whole { self.at % N ≡ 0 → result.at % N ≡ 0 }
         ensures taken { (self.taken < result.taken) × (result.taken ≤ self.taken + 5) }
         ensures written { self.at ≤ result.at }
         ensures most { result.at ≤ self.at + 4 }
@@ -164,6 +167,7 @@ impl Progress {
         ensures between { (gone : Past) (n : ℕ) (before : List ℕ)
             → FastBetween F N gone n before bytes.now self table.old out.old
             → FastBetween F N gone n before bytes.now result table.new out.new }
+        ensures whole { self.at % N ≡ 0 → result.at % N ≡ 0 }
         ensures taken { result.taken ≡ self.taken + 1 }
         ensures written { self.at ≤ result.at }
         ensures below { result.at < length out.old }
@@ -203,7 +207,9 @@ impl Progress {
             (filling table.new result.last out.new result.at) }
         ensures within { result.taken ≤ length bytes.now }
         ensures written { at ≤ result.at }
+        ensures inside { at ≤ length out.old → result.at ≤ length out.new }
         ensures below { at < length out.old → result.at < length out.new }
+        ensures whole { at % N ≡ 0 → result.at % N ≡ 0 }
     {
         let mut now = Progress {
             last,

@@ -1,5 +1,5 @@
 //! The loops over the pieces of an image: what is decoded before a caller asks for it is kept.
-ghost use Rattle.std.specs.Prelude.{◌≡◌, ℕ, ◌+◌, ◌-◌, ◌*◌, ◌^◌, ◌<◌, ◌≤◌, List, [], ◌++◌, length, take, drop, reverse, min, Option, IfOk, IfErr, OnOk};
+ghost use Rattle.std.specs.Prelude.{◌≡◌, ℕ, ◌+◌, ◌-◌, ◌*◌, ◌%◌, ◌^◌, ◌<◌, ◌≤◌, List, [], ◌++◌, length, take, drop, reverse, min, Option, IfOk, IfErr, OnOk};
 ghost use Rattle.std.specs.Io.KnownBytes.{Consumes};
 ghost use Rattle.qoi.specs.Qoi.{Past};
 ghost use Rattle.qoi.specs.Raw.{IsChannels, output};
@@ -42,9 +42,7 @@ fn rest_of_image<R: Chunks<N, F>, const N: usize, const F: usize>(
 ) -> Result<()>
     requires channels { IsChannels N }
     requires within { size ≤ length out.old }
-    requires between { (gone : Past) × (n : ℕ) × (start : Option (List ℕ))
-        × DecoderBetween F N gone n (Consumes start (R.ahead reader.old))
-        (filling table.old last (take size out.old) 0) }
+    requires whole { size % N ≡ 0 }
     ensures read { (gone : Past) (n : ℕ) (start : Option (List ℕ))
         → DecoderBetween F N gone n (Consumes start (R.ahead reader.old))
         (filling table.old last (take size out.old) 0)
@@ -60,7 +58,7 @@ fn rest_of_image<R: Chunks<N, F>, const N: usize, const F: usize>(
 }
 
 impl Pieces {
-    ghost use Rattle.qoi.specs.inner.Pieces.{kept, bytes_left, KeepsWithin, GivesPieces};
+    ghost use Rattle.qoi.specs.inner.Pieces.{kept, bytes_left, KeepsWithin, KeepsPixels, GivesPieces};
 
     /// At the beginning of an image of `size` bytes.
     pub(super) fn new(size: usize) -> Pieces
@@ -68,6 +66,8 @@ impl Pieces {
         ensures start { (f c n : ℕ) (start : Option (List ℕ)) → IsChannels c → size ≡ c * n
             → GivesPieces f c n start start [] result }
         ensures left { bytes_left result ≡ size }
+        ensures within { KeepsWithin result }
+        ensures undecoded { result.undecoded ≡ size }
     {
         Pieces {
             table: TermTable::new(),
@@ -87,6 +87,18 @@ impl Pieces {
         ensures { result ≡ bytes_left self.now }
     {
         self.to - self.from + self.undecoded
+    }
+
+    /// Drops what is kept: no more of the image is given, and as many bytes are left of it as before
+    /// the piece that was refused.
+    #[cold]
+    pub(super) fn refuse(&mut self, left: usize)
+        ensures left { bytes_left self.new ≡ left }
+        ensures within { KeepsWithin self.new }
+    {
+        self.from = 0;
+        self.to = 0;
+        self.undecoded = left;
     }
 
     // Gives kept bytes into the front of `out`, and returns how many.
@@ -114,8 +126,7 @@ impl Pieces {
         requires channels { IsChannels N }
         requires none { 0 < length out.old → self.old.from ≡ self.old.to }
         requires fits { length out.old ≤ bytes_left self.old }
-        requires known { (n : ℕ) × (start : Option (List ℕ)) × (given : List ℕ)
-            × GivesPieces F N n start (R.ahead reader.old) given self.old }
+        requires pixels { KeepsPixels N self.old }
         ensures read { (n : ℕ) (start : Option (List ℕ)) (given : List ℕ)
             → GivesPieces F N n start (R.ahead reader.old) given self.old
             → IfOk result (λ size.
@@ -126,7 +137,8 @@ impl Pieces {
         ensures within { IfOk result (λ size. size ≤ length out.new) }
         ensures few { IfOk result (λ size. length out.new < size + IN_PLACE) }
         ensures none { IfOk result (λ size. 0 < length out.old → self.new.from ≡ self.new.to) }
-        ensures fits { IfOk result (λ size. length out.new ≤ size + bytes_left self.new) }
+        ensures pixels { IfOk result (λ size. KeepsPixels N self.new) }
+        ensures left { IfOk result (λ size. size + bytes_left self.new ≡ bytes_left self.old) }
     {
         if out.len() < IN_PLACE {
             return Ok(0);
@@ -146,8 +158,7 @@ impl Pieces {
         requires channels { IsChannels N }
         requires none { self.old.from ≡ self.old.to }
         requires some { 0 < self.old.undecoded }
-        requires known { (n : ℕ) × (start : Option (List ℕ)) × (given : List ℕ)
-            × GivesPieces F N n start (R.ahead reader.old) given self.old }
+        requires pixels { KeepsPixels N self.old }
         ensures read { (n : ℕ) (start : Option (List ℕ)) (given : List ℕ)
             → GivesPieces F N n start (R.ahead reader.old) given self.old
             → OnOk result (GivesPieces F N n start (R.ahead reader.new) given self.new) }
@@ -155,6 +166,8 @@ impl Pieces {
             → GivesPieces F N n start (R.ahead reader.old) given self.old
             → IfErr result (RefusesChunks R.in_memory n start (R.ahead reader.new)) }
         ensures enough { OnOk result (min self.old.undecoded IN_PLACE ≤ self.new.to - self.new.from) }
+        ensures pixels { OnOk result (KeepsPixels N self.new) }
+        ensures left { OnOk result (bytes_left self.new ≡ bytes_left self.old) }
     {
         self.from = 0;
         if KEPT < self.undecoded {
@@ -182,14 +195,15 @@ impl Pieces {
         requires none { 0 < length out.old → self.old.from ≡ self.old.to }
         requires short { length out.old ≤ IN_PLACE }
         requires fits { length out.old ≤ bytes_left self.old }
-        requires known { (n : ℕ) × (start : Option (List ℕ)) × (given : List ℕ)
-            × GivesPieces F N n start (R.ahead reader.old) given self.old }
+        requires pixels { KeepsPixels N self.old }
         ensures read { (n : ℕ) (start : Option (List ℕ)) (given : List ℕ)
             → GivesPieces F N n start (R.ahead reader.old) given self.old
             → OnOk result (GivesPieces F N n start (R.ahead reader.new) (given ++ out.new) self.new) }
         ensures refused { (n : ℕ) (start : Option (List ℕ)) (given : List ℕ)
             → GivesPieces F N n start (R.ahead reader.old) given self.old
             → IfErr result (RefusesChunks R.in_memory n start (R.ahead reader.new)) }
+        ensures pixels { OnOk result (KeepsPixels N self.new) }
+        ensures left { OnOk result (length out.new + bytes_left self.new ≡ bytes_left self.old) }
     {
         if out.is_empty() {
             return Ok(());
@@ -207,14 +221,15 @@ impl Pieces {
     ) -> Result<()>
         requires channels { IsChannels N }
         requires fits { length out.old ≤ bytes_left self.old }
-        requires known { (n : ℕ) × (start : Option (List ℕ)) × (given : List ℕ)
-            × GivesPieces F N n start (R.ahead reader.old) given self.old }
+        requires pixels { KeepsPixels N self.old }
         ensures read { (n : ℕ) (start : Option (List ℕ)) (given : List ℕ)
             → GivesPieces F N n start (R.ahead reader.old) given self.old
             → OnOk result (GivesPieces F N n start (R.ahead reader.new) (given ++ out.new) self.new) }
         ensures refused { (n : ℕ) (start : Option (List ℕ)) (given : List ℕ)
             → GivesPieces F N n start (R.ahead reader.old) given self.old
             → IfErr result (RefusesChunks R.in_memory n start (R.ahead reader.new)) }
+        ensures pixels { OnOk result (KeepsPixels N self.new) }
+        ensures left { OnOk result (length out.new + bytes_left self.new ≡ bytes_left self.old) }
     {
         let done = self.give(out);
         let more = self.long_piece::<R, N, F>(reader, &mut out[done..])?;

@@ -106,6 +106,8 @@ pub(super) fn next_chunk<R: Read, const N: usize, const F: usize, const RUN_FITS
         (filling table.new decoded.last out.new decoded.at))) }
     ensures whole { IfOk result (λ decoded. decoded.at % N ≡ 0) }
     ensures within { IfOk result (λ decoded. (at < decoded.at) × (decoded.at ≤ length out.new)) }
+    ensures below { at + RUN_ROOM ≤ length out.old
+        → IfOk result (λ decoded. decoded.at < length out.new) }
     ensures failed { OnErr result (HasTaken (R.remaining reader.old) (R.remaining reader.new)
         IsPartOfChunk) }
 {
@@ -142,9 +144,8 @@ fn decode_chunks<R: Read, const N: usize, const F: usize, const RUN_FITS: bool>(
     at: usize,
 ) -> io::Result<Reached>
     requires channels { IsChannels N }
-    requires between { (gone : Past) × (n : ℕ) × (start : Option (List ℕ))
-        × DecoderBetween F N gone n (Consumes start (R.remaining reader.old))
-        (filling table.old last out.old at) }
+    requires within { at ≤ length out.old }
+    requires whole { IsWholePixels N (length out.old) at }
     ensures between { (gone : Past) (n : ℕ) (start : Option (List ℕ))
         → DecoderBetween F N gone n (Consumes start (R.remaining reader.old))
         (filling table.old last out.old at)
@@ -154,6 +155,8 @@ fn decode_chunks<R: Read, const N: usize, const F: usize, const RUN_FITS: bool>(
         → IfOk result (λ now. now.at < length out.new) }
     ensures filled { IsTrue RUN_FITS → IfOk result (λ now. length out.new < now.at + RUN_ROOM) }
     ensures full { IsFalse RUN_FITS → IfOk result (λ now. length out.new ≤ now.at) }
+    ensures within { IfOk result (λ now. now.at ≤ length out.new) }
+    ensures whole { IfOk result (λ now. now.at % N ≡ 0) }
     ensures failed { (gone : Past) (n : ℕ) (start : Option (List ℕ))
         → DecoderBetween F N gone n (Consumes start (R.remaining reader.old))
         (filling table.old last out.old at)

@@ -1,8 +1,8 @@
 -- The decoder's channels are handed on.
-use Rattle.std.proofs.Common.{ℕ, List, Option, refl, sym, ap, ◌∙◌}
+use Rattle.std.proofs.Common.{◌≡◌, ℕ, List, Option, refl, sym, ap, ◌∙◌, subst}
 use Rattle.qoi.proofs.Results.{on_ok_of}
 use Rattle.qoi.specs.Qoi.{channels_number, pixel_count}
-use Rattle.qoi.specs.inner.Pieces.{GivesPieces}
+use Rattle.qoi.specs.inner.Pieces.{KeepsPixels, GivesPieces}
 use Rattle.qoi.proofs.decoding.PixelPieces.{pieces_as}
 use Rattle.qoi.proofs.decode.Decoder.next_piece.Given.{Over}
 use Rattle.qoi.proofs.decode.Decoder.next_piece.Goals.{After-as_u8-file_channels}
@@ -17,8 +17,17 @@ before g c start given h =
     pieces_as (c.as_u8-file_channels.ensures ∙ ap (λ s. channels_number s.header.channels) c.self.view_is)
     (c.as_u8-channels.ensures ∙ ap (λ s. channels_number s.channels) c.self.view_is) (ap (λ s. g.R.Reader.ahead s.reader) c.self.view_is) refl h
 
-pub decode_piece-requires-clause-known : goal.decode_piece-requires-clause-known
-decode_piece-requires-clause-known g c = (_, _, _, before g (goal.at.decode_piece-requires-clause-known g c).After-as_u8-file_channels _ _ c.requires.known.2)
+-- the decoder's channels, as the reader is asked for them
+asked : (g : Over) (c : After-as_u8-file_channels g) → c.as_u8-channels.result ≡ channels_number c.args.self.now.channels
+asked g c = c.as_u8-channels.ensures ∙ ap (λ s. channels_number s.channels) c.self.view_is
+
+pub decode_piece-requires-clause-pixels : goal.decode_piece-requires-clause-pixels
+decode_piece-requires-clause-pixels g c =
+    subst (λ k. KeepsPixels k c.args.pieces.now) (sym (asked g (goal.at.decode_piece-requires-clause-pixels g c).After-as_u8-file_channels)) c.requires.pixels
+
+pub returns-clause-pixels : goal.returns-clause-pixels
+returns-clause-pixels g c =
+    on_ok_of _ (subst (λ k. KeepsPixels k c.decode_piece.new.pieces) (asked g (goal.at.returns-clause-pixels g c).After-as_u8-file_channels)) c.decode_piece.ensures.pixels
 
 pub returns-clause-read : goal.returns-clause-read
 returns-clause-read g c start given h =

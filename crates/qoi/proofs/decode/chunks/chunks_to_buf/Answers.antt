@@ -5,7 +5,7 @@ use Rattle.std.proofs.KnownBytes.{Consumes-nil}
 use Rattle.qoi.proofs.Results.{on_ok_of}
 use Rattle.qoi.specs.inner.Chunks.{RefusesChunks}
 use Rattle.qoi.specs.inner.Filling.{filling, DecoderBetween}
-use Rattle.qoi.proofs.decoding.Progress.{none_more, first_streams, start_between}
+use Rattle.qoi.proofs.decoding.Progress.{none_more, none_written, first_streams, start_between}
 use Rattle.qoi.proofs.decode.chunks.chunks_to_buf.Given.{Over}
 use Rattle.qoi.proofs.decode.chunks.chunks_to_buf.Goals.{After-start}
 use Rattle.qoi.proofs.decode.chunks.chunks_to_buf.Goals as goal
@@ -16,8 +16,8 @@ before : (g : Over) (c : After-start g) → DecoderBetween g.row.F g.row.N [] (l
 before g c = start_between g.row.F g.row.N (Consumes (g.R.Chunks.ahead c.args.reader.now) (g.R.Chunks.ahead c.args.reader.now)) _ _ c.args.out.now
     c.requires.channels c.requires.whole c.new-table.ensures c.start.ensures (Consumes-nil _)
 
-pub all_chunks-requires-clause-between : goal.all_chunks-requires-clause-between
-all_chunks-requires-clause-between g c = ([], _, _, before g (goal.at.all_chunks-requires-clause-between g c).After-start)
+pub all_chunks-requires-clause-whole : goal.all_chunks-requires-clause-whole
+all_chunks-requires-clause-whole g c = (c.requires.whole, none_written g.row.N c.requires.channels)
 
 pub returns-clause-read : goal.returns-clause-read
 returns-clause-read g c = on_ok_of _ first_streams (c.all_chunks.ensures.read [] _ _ (before g (goal.at.returns-clause-read g c).After-start))

@@ -4,7 +4,7 @@ use Rattle.std.specs.Io.KnownBytes.{Consumes}
 use Rattle.std.proofs.KnownBytes.{Consumes-nil}
 use Rattle.std.proofs.lemmas.Result.{err_from_is_err_and}
 use Rattle.qoi.specs.inner.Filling.{filling, DecoderBetween}
-use Rattle.qoi.proofs.decoding.Grown.{grown, growing_start, growing_on, lent_back, some_channels, whole_step, fewer_pixels, none_whole, at_most, written_most}
+use Rattle.qoi.proofs.decoding.Grown.{grown, growing_start, growing_on, lent_back, some_channels, whole_sizes, whole_step, fewer_pixels, none_whole, at_most, written_most}
 use Rattle.qoi.specs.Decoding.{StreamsPixels}
 use Rattle.qoi.proofs.Results.{on_ok_of}
 use Rattle.qoi.proofs.decoding.Progress.{none_more, first_streams}
@@ -47,13 +47,11 @@ loop-out-init g c = record {
       c.requires.channels (sym c.args.out.now.ok.0 ∙ c.requires.empty) c.new-table.ensures c.start-last.ensures (Consumes-nil _);
 }
 
-pub some_chunks-requires-clause-between : goal.some_chunks-requires-clause-between
-some_chunks-requires-clause-between g c = (
-  [],
-  c.grow.new.out.len / g.row.N,
-  g.R.Chunks.ahead c.args.reader.now,
-  before g (goal.at.some_chunks-requires-clause-between g c).After-deref_mut,
-)
+pub some_chunks-requires-clause-within : goal.some_chunks-requires-clause-within
+some_chunks-requires-clause-within g c = (before g (goal.at.some_chunks-requires-clause-within g c).After-deref_mut).within
+
+pub some_chunks-requires-clause-whole : goal.some_chunks-requires-clause-whole
+some_chunks-requires-clause-whole g c = whole_sizes c.requires.channels (before g (goal.at.some_chunks-requires-clause-whole g c).After-deref_mut)
 
 pub returns-in_err-now-clause-refused : goal.returns-in_err-now-clause-refused
 returns-in_err-now-clause-refused g c =
@@ -81,13 +79,11 @@ loop-out-preserved g c =
       growing = growing_on c.some_chunks.new.out _ c.requires.channels (c.in_ok-now.ensures.between [] _ _ (before g at)) left (lent_back _ _ _ size);
     }
 
-pub all_chunks-requires-clause-between : goal.all_chunks-requires-clause-between
-all_chunks-requires-clause-between g c = (
-  [],
-  c.args.size / g.row.N,
-  g.R.Chunks.ahead c.args.reader.now,
-  before_last g (goal.at.all_chunks-requires-clause-between g c).After-deref_mut-2,
-)
+pub all_chunks-requires-clause-within : goal.all_chunks-requires-clause-within
+all_chunks-requires-clause-within g c = (before_last g (goal.at.all_chunks-requires-clause-within g c).After-deref_mut-2).within
+
+pub all_chunks-requires-clause-whole : goal.all_chunks-requires-clause-whole
+all_chunks-requires-clause-whole g c = whole_sizes c.requires.channels (before_last g (goal.at.all_chunks-requires-clause-whole g c).After-deref_mut-2)
 
 pub returns-clause-read : goal.returns-clause-read
 returns-clause-read g c =

@@ -1,11 +1,12 @@
 -- The chunks fill the front, and the marker follows or is refused.
-use Rattle.std.proofs.Common.{◌≡◌, ◌+◌, ◌++◌, take, drop, length, reverse, OnOk, arith, sym, ap, ◌∙◌, subst}
+use Rattle.std.proofs.Common.{◌≡◌, ◌+◌, ◌%◌, ◌++◌, take, drop, length, reverse, OnOk, arith, sym, ap, ◌∙◌, subst}
 use Rattle.std.proofs.lemmas.List.{length-take-le}
 use lib.Seq.{take-append_seam}
 use Rattle.std.proofs.lemmas.Result.{err_from_is_err_and}
 use Rattle.qoi.specs.Raw.{output}
 use Rattle.qoi.specs.Decoding.{ReadsImage}
 use Rattle.qoi.proofs.Results.{on_ok_of}
+use Rattle.qoi.proofs.decoding.Progress.{none_written}
 use Rattle.qoi.proofs.decoding.PieceSteps.{with_marker}
 use Rattle.qoi.proofs.decoding.StreamReads.{after_refused}
 use Rattle.qoi.proofs.decode.pieces.rest_of_image.Goals as goal
@@ -27,3 +28,7 @@ returns-clause-read g c gone n start h =
 pub returns-clause-refused : goal.returns-clause-refused
 returns-clause-refused g c gone n start h =
     after_refused g.R.Chunks.in_memory g.row.F g.row.N (length gone + n) _ _ _ _ c.marker.result (c.in_ok-all_chunks.ensures.read gone n start h) c.marker.ensures.refused
+
+pub all_chunks-requires-clause-whole : goal.all_chunks-requires-clause-whole
+all_chunks-requires-clause-whole g c =
+    (ap (λ k. k % g.row.N) (length-take-le c.args.size c.args.out.now c.requires.within) ∙ c.requires.whole, none_written g.row.N c.requires.channels)

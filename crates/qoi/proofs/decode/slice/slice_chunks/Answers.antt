@@ -1,5 +1,5 @@
 -- The fast loop's chunks are taken, and then others.
-use Rattle.std.proofs.Common.{ℕ, List, Option, Some, take, ap, ◌++◌, ◌∙◌, sym, take-append-drop, arith}
+use Rattle.std.proofs.Common.{ℕ, ◌%◌, List, Option, Some, take, ap, ◌++◌, ◌∙◌, sym, take-append-drop, arith}
 use Rattle.std.specs.Io.KnownBytes.{Consumes}
 use Rattle.qoi.specs.Qoi.{Past}
 use Rattle.qoi.specs.inner.Filling.{filling, DecoderBetween}
@@ -21,8 +21,9 @@ after g c gone n start h =
 
 pub last_chunks-requires : goal.last_chunks-requires
 last_chunks-requires g c =
-    let known = c.requires.between in
-    (omega arith, (c.requires.channels, (known.0, known.1, known.2, after g (goal.at.last_chunks-requires g c).After-split_at known.0 known.1 known.2 known.3)))
+    let fast = c.fast_chunks-now in
+    let size = ap (λ k. k % g.row.N) fast.auto.out ∙ c.requires.whole.0 in
+    (omega arith, (c.requires.channels, (fast.ensures.inside c.requires.within, (size, fast.ensures.whole c.requires.whole.1))))
 
 pub returns-clause-between : goal.returns-clause-between
 returns-clause-between g c gone n start h = c.last_chunks.ensures.between gone n start (after g (goal.at.returns-clause-between g c).After-split_at gone n start h)

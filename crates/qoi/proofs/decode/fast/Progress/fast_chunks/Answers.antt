@@ -11,7 +11,9 @@ loop-now-preserved-then-is_short g c =
       byte = short.byte;
       within = omega (arith, short.taken, c.loop-now-test.true, c.if-bytes-lt-INPUT_ROOM.false);
       written = omega (arith, before.written, short.written);
-      below = λ inside. omega (arith, short.written, c.loop-now-test.true, c.if-bytes-lt-INPUT_ROOM.false, c.short_chunks-now.auto.out);
+      inside = λ _. omega (arith, short.written, c.loop-now-test.true, c.if-bytes-lt-INPUT_ROOM.false, c.short_chunks-now.auto.out);
+      below = λ _. omega (arith, short.written, c.loop-now-test.true, c.if-bytes-lt-INPUT_ROOM.false, c.short_chunks-now.auto.out);
+      whole = λ whole. short.whole (before.whole whole);
     }
 
 pub loop-now-preserved-then-now : goal.loop-now-preserved-then-now
@@ -24,7 +26,9 @@ loop-now-preserved-then-now g c =
       byte = full.byte;
       within = omega (arith, full.taken, short.taken, c.loop-now-test.true, c.if-bytes-lt-INPUT_ROOM.false);
       written = omega (arith, before.written, short.written, full.written);
-      below = λ inside. omega (arith, short.written, full.most, c.loop-now-test.true, c.if-bytes-lt-INPUT_ROOM.false, c.short_chunks-now.auto.out, c.full_chunk-now.auto.out);
+      inside = λ _. omega (arith, short.written, full.most, c.loop-now-test.true, c.if-bytes-lt-INPUT_ROOM.false, c.short_chunks-now.auto.out, c.full_chunk-now.auto.out);
+      below = λ _. omega (arith, short.written, full.most, c.loop-now-test.true, c.if-bytes-lt-INPUT_ROOM.false, c.short_chunks-now.auto.out, c.full_chunk-now.auto.out);
+      whole = λ whole. full.whole (short.whole (before.whole whole));
     }
 
 pub loop-now-preserved : goal.loop-now-preserved
@@ -37,5 +41,7 @@ loop-now-preserved g c =
       byte = run.byte;
       within = omega (arith, run.taken, short.taken, c.loop-now-test.true, c.if-bytes-lt-INPUT_ROOM.false);
       written = omega (arith, before.written, short.written, run.written);
-      below = λ inside. omega (arith, run.below, c.long_run-now.auto.out);
+      inside = λ _. omega (arith, run.below, c.long_run-now.auto.out);
+      below = λ _. omega (arith, run.below, c.long_run-now.auto.out);
+      whole = λ whole. run.whole (short.whole (before.whole whole));
     }

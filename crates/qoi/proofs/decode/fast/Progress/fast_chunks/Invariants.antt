@@ -1,5 +1,5 @@
 -- Chunks were taken, and their pixels written and seen.
-use Rattle.std.proofs.Common.{ℕ, ◌+◌, ◌-◌, ◌<◌, ◌≤◌, List, length}
+use Rattle.std.proofs.Common.{◌≡◌, ℕ, ◌+◌, ◌-◌, ◌%◌, ◌<◌, ◌≤◌, List, length}
 use Rattle.qoi.specs.Qoi.{Past}
 use Rattle.qoi.specs.inner.Filling.{filling, DecoderBetween, IsFrontAfter, FastBetween}
 use Rattle.qoi.proofs.decode.fast.Progress.fast_chunks.Given as goal
@@ -11,7 +11,9 @@ invariant-loop-now g l = record {
   byte : l.now.next < 256;
   within : l.now.taken < length l.bytes;
   written : l.fn.at ≤ l.now.at;
+  inside : l.fn.at ≤ length l.initial.out → l.now.at ≤ length l.out;
   below : l.fn.at < length l.initial.out → l.now.at < length l.out;
+  whole : l.fn.at % g.row.N ≡ 0 → l.now.at % g.row.N ≡ 0;
 }
 
 abbrev pub decreases-loop-now : goal.decreases-loop-now

@@ -4,7 +4,7 @@ use Rattle.std.proofs.lemmas.Result.{err_from_is_err_and}
 use Rattle.qoi.specs.declared.decode.pieces.Pieces.{Pieces}
 use Rattle.qoi.specs.Raw.{IsChannels}
 use Rattle.qoi.specs.inner.Pieces.{bytes_left, GivesPieces}
-use Rattle.qoi.proofs.decoding.PieceSteps.{Lent, lent, whole_front, front_most, long_read}
+use Rattle.qoi.proofs.decoding.PieceSteps.{Lent, lent, whole_front, front_most, long_read, times_whole, minus_whole}
 use Rattle.qoi.proofs.decode.pieces.Pieces.long_piece.Goals as goal
 
 -- the whole pixels at the front are lent
@@ -16,11 +16,13 @@ front_lent {c = c} p out is h none fits long =
     let most = front_most c out is in
     lent (length out / c) (take (length out / c * c) out) is h same (omega (arith, same, fits, long)) (whole_front c out is) (omega (arith, same, fits, most.0))
 
-pub some_chunks-requires-clause-between : goal.some_chunks-requires-clause-between
-some_chunks-requires-clause-between g c =
-    let known = c.requires.known in
-    let l = front_lent c.args.self.now c.args.out.now c.requires.channels known.3 c.requires.none c.requires.fits (omega (arith, c.if-out-lt-IN_PLACE.false)) in
-    (l.gone, length c.args.out.now / g.row.N, known.1, l.before)
+pub some_chunks-requires-clause-whole : goal.some_chunks-requires-clause-whole
+some_chunks-requires-clause-whole g c =
+    times_whole g.row.N _ _ c.requires.channels (whole_front g.row.N c.args.out.now c.requires.channels)
+
+pub returns-clause-pixels : goal.returns-clause-pixels
+returns-clause-pixels g c =
+    (c.requires.pixels.0, minus_whole g.row.N c.args.self.now.undecoded c.in_ok-now.now.at c.requires.channels c.requires.pixels.1 c.in_ok-now.ensures.whole)
 
 pub returns-in_err-now-clause-refused : goal.returns-in_err-now-clause-refused
 returns-in_err-now-clause-refused g c n start given h =

@@ -16,25 +16,10 @@ given_on p new size k few is h = gives p new k is (omega (arith, few)) h
 kept_size : (p : Pieces) → KeepsWithin p → length (kept p) ≡ p.to - p.from
 kept_size p within = length-take-le (p.to - p.from) (drop p.from p.bytes) (omega (arith, within, length-drop p.from p.bytes))
 
-pub long_piece-requires-clause-known : goal.long_piece-requires-clause-known
-long_piece-requires-clause-known g c =
-    let known = c.requires.known in
-    (known.0, known.1, _, given_on c.args.self.now c.give-done.new.self _ c.give-done.result c.give-done.ensures.size c.give-done.ensures.state known.3)
-
 pub returns-in_err-more-clause-refused : goal.returns-in_err-more-clause-refused
 returns-in_err-more-clause-refused g c n start given h =
     let p = err_from_is_err_and c.from_residual.result c.from_residual.ensures.1 in
     rw (p.1, p.2) (c.in_err-more.ensures.refused n start _ (given_on c.args.self.now c.give-done.new.self _ c.give-done.result c.give-done.ensures.size c.give-done.ensures.state h))
-
-pub short_piece-requires-clause-known : goal.short_piece-requires-clause-known
-short_piece-requires-clause-known g c =
-    let known = c.requires.known in (
-      known.0,
-      known.1,
-      _,
-      c.in_ok-more.ensures.read _ _ _
-          (given_on c.args.self.now c.give-done.new.self _ c.give-done.result c.give-done.ensures.size c.give-done.ensures.state known.3),
-    )
 
 pub returns-clause-refused : goal.returns-clause-refused
 returns-clause-refused g c n start given h =
