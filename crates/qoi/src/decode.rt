@@ -145,6 +145,14 @@ impl<'a> Decoder<Bytes<'a>> {
     {
         self.reader.as_slice()
     }
+
+    /// Gives back the undecoded tail of the bytes, as `data` shows it, for as long as the bytes
+    /// live: the next file may stand there.
+    pub fn into_data(self) -> &'a [u8]
+        ensures { result.now ≡ self.entry.reader }
+    {
+        self.reader.0
+    }
 }
 
 impl<R: Read + Drop> Decoder<R> {
