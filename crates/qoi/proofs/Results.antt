@@ -1,5 +1,5 @@
 -- Facts on results.
-use Rattle.std.proofs.Common.{Result, Ok, Err, OnErr}
+use Rattle.std.proofs.Common.{Result, Ok, Err, OnOk, OnErr}
 
 -- what holds, holds if a result is an error
 pub on_err : {T E P : Type 0} (r : Result T E) → P → OnErr r P
@@ -10,3 +10,8 @@ on_err (Err e) p = p
 pub on_err_of : {T E P Q : Type 0} (r : Result T E) → (P → Q) → OnErr r P → OnErr r Q
 on_err_of (Ok x) f p = tt
 on_err_of (Err e) f p = f p
+
+-- what holds of a success can be weakened
+pub on_ok_of : {T E P Q : Type 0} (r : Result T E) → (P → Q) → OnOk r P → OnOk r Q
+on_ok_of (Ok x) f p = f p
+on_ok_of (Err e) f p = tt

@@ -9,6 +9,9 @@ pub mod Grown
 pub mod ImageSize
 pub mod LeastBytes
 pub mod OneFile
+pub mod PieceFront
+pub mod PieceSteps
+pub mod PixelPieces
 pub mod Progress
 pub mod Promised
 pub mod Refusals

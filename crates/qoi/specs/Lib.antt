@@ -9,6 +9,7 @@ pub mod DecoderState
 pub mod Reading
 pub mod Images
 pub mod Decoded
+pub mod PixelReader
 -- The list that is written.
 pub mod Runs
 pub mod Written

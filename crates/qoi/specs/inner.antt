@@ -8,6 +8,7 @@ pub mod FreshPixel
 pub mod Hashed
 pub mod Packed
 pub mod Piece
+pub mod Pieces
 pub mod Steps
 pub mod Table
 -- Sixteen pixels at a time: in planes, lanes of chunks, counted repeats, the state between two

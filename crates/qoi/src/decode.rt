@@ -16,11 +16,15 @@ mod fast;
 mod hashed;
 mod one_chunk;
 mod output;
+mod pieces;
+mod pixel_reader;
 mod reader;
 mod slice;
 mod stream;
 mod table;
 
+pub use crate::decode::pieces::Pieces;
+pub use crate::decode::pixel_reader::{PieceReader, PixelReader};
 pub use crate::decode::reader::{Buffered, Bytes, Reader};
 use crate::error::{Error, Result};
 use crate::header::Header;
@@ -146,6 +150,14 @@ impl<'a> Decoder<Bytes<'a>> {
         ensures { result.now ≡ self.now.reader }
     {
         self.reader.as_slice()
+    }
+
+    /// Gives back the undecoded tail of the bytes, as `data` shows it, for as long as the bytes
+    /// live: the next file may stand there.
+    pub fn into_data(self) -> &'a [u8]
+        ensures { result.now ≡ self.entry.reader }
+    {
+        self.reader.0
     }
 }
 

@@ -34,7 +34,7 @@ mod types;
 mod utils;
 mod writers;
 
-pub use crate::decode::{Decoder, decode_header, decode_to_buf, decode_to_vec};
+pub use crate::decode::{Decoder, PixelReader, decode_header, decode_to_buf, decode_to_vec};
 pub use crate::encode::{Encoder, encode_max_len, encode_to_buf, encode_to_vec};
 pub use crate::error::{Error, Result};
 pub use crate::header::Header;

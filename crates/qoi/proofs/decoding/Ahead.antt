@@ -60,7 +60,7 @@ fault_ahead false h old new e bytes (cs, rest, whole) told refused =
     whole_is_io_error (pixel_count h) bytes cs rest new e whole (subst (λ z. RefusesImage false (pixel_count h) z new e) told refused)
 
 -- what is read from known bytes is an image at their front, and what follows it is left
-image_read : (channels : Channels) (h : Header) (bytes : List ℕ) (left : Option (List ℕ)) (out : List ℕ)
+pub image_read : (channels : Channels) (h : Header) (bytes : List ℕ) (left : Option (List ℕ)) (out : List ℕ)
     → ReadsImage (channels_number h.channels) (channels_number channels) (pixel_count h) (Some bytes) left out
     → (rest : List ℕ) × (left ≡ Some rest) × IsImage channels bytes h rest out
 image_read channels h bytes left out r =

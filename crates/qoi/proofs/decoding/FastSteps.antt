@@ -38,7 +38,7 @@ short_count c b size is short one run =
     ]
 
 -- after copies of a pixel the output ends where a pixel does, if it did before
-whole_after : (c at count : ℕ) → IsChannels c → at % c ≡ 0 → (at + c * count) % c ≡ 0
+pub whole_after : (c at count : ℕ) → IsChannels c → at % c ≡ 0 → (at + c * count) % c ≡ 0
 whole_after c at count is = by_channels (λ d. at % d ≡ 0 → (at + d * count) % d ≡ 0) is (λ p. omega arith) (λ p. omega arith)
 
 -- the byte after a short chunk: two past a luma's first byte, one past any other's
@@ -48,19 +48,19 @@ next_byte true bytes taken size next s e = let at : taken + 1 + size ≡ taken +
 next_byte false bytes taken size next s e = let at : taken + 1 + size ≡ taken + 1 = omega (arith, s) in rw at e
 
 -- a chunk more was taken, its pixel put at its index position and written `count` times
-pub fast_step : {f c n : ℕ} {front bytes table table' out out' : List ℕ} (now new : Progress) (count : ℕ) → IsChannels c → FastBetween f c n front bytes now table out
+pub fast_step : {f c : ℕ} {gone : Past} {n : ℕ} {front bytes table table' out out' : List ℕ} (now new : Progress) (count : ℕ) → IsChannels c → FastBetween f c gone n front bytes now table out
     → now.at < length out → now.at + c * count ≤ length out → length out' ≡ length out → new.at ≡ now.at + c * count
     → ((past : Past) → HoldsSeen table past → HoldsSeen table' (pixel_of_lanes new.last ∷ past))
     → HasWritten f c (upto out now.at) (upto out' (now.at + c * count)) (replicate count (pixel_of_lanes new.last))
     → new.next ≡ get_or bytes new.taken 0 → (k : ℕ) → new.taken ≡ now.taken + k
     → (PutsCopies f c (pixel_of_lanes new.last) count (filling table now.last out now.at) (filling table' new.last out' (now.at + c * count))
     → DecodesChunk f c (take k (drop now.taken bytes)) (filling table now.last out now.at) (filling table' new.last out' (now.at + c * count)))
-    → FastBetween f c n front bytes new table' out'
-fast_step {f} {c} {n} {front} {bytes} {table} {table'} {out} {out'} now new count is h inside fits size end put written next k taken decodes =
+    → FastBetween f c gone n front bytes new table' out'
+fast_step {f} {c} {gone} {n} {front} {bytes} {table} {table'} {out} {out'} now new count is h inside fits size end put written next k taken decodes =
     let copies = λ (m : ℕ) (past : Past) (s : HasFilled f c m (upto out now.at) past). filled_copies f c m out out' now.at count (pixel_of_lanes new.last) past is inside fits size written s in
     let decoded = decodes (record { last_is = refl; table = put; filled = copies }) in
     record {
-      between = subst (λ at. DecoderBetween f c n (IsFrontAfter front bytes new.taken) (filling table' new.last out' at)) (sym end)
+      between = subst (λ at. DecoderBetween f c gone n (IsFrontAfter front bytes new.taken) (filling table' new.last out' at)) (sym end)
           (goes_on {old = filling table now.last out now.at} {new = filling table' new.last out' (now.at + c * count)} is h.between inside decoded
           (λ before is_front. ap (λ z. z ++ take k (drop now.taken bytes)) is_front ∙ append_assoc front (take now.taken bytes) (take k (drop now.taken bytes))
           ∙ ap (λ z. front ++ z) (sym (take-add now.taken k bytes) ∙ ap (λ m. take m bytes) (sym taken)))

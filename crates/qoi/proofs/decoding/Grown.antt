@@ -5,14 +5,14 @@ use Rattle.std.proofs.lemmas.List.{length-replicate, take-append-le}
 use lib.Seq.{take-append_seam}
 use Rattle.qoi.specs.declared.chunk.Chunk.{Chunk}
 use Rattle.qoi.specs.declared.decode.chunks.TheConstants.{STEP}
-use Rattle.qoi.specs.Qoi.{Past, AreBytes, Each, chunk_bytes, start, times, then_chunk, then_chunks}
+use Rattle.qoi.specs.Qoi.{Past, AreBytes, Each, chunk_bytes, start, then_chunk, then_chunks}
 use Rattle.qoi.specs.Raw.{IsChannels}
 use Rattle.qoi.specs.Decoding.{HasTaken}
 use Rattle.qoi.specs.Verdicts.{AreCut, EndsBefore}
 use Rattle.qoi.specs.inner.Hashed.{pixel_of_lanes, HoldsSeen}
-use Rattle.qoi.specs.inner.Filling.{Filling, filling, DecodesChunk, DecoderBetween}
+use Rattle.qoi.specs.inner.Filling.{Filling, filling, DecoderBetween}
 use Rattle.qoi.proofs.format.WholePixels.{by_channels, whole_pixels}
-use Rattle.qoi.proofs.decoding.LeastBytes.{pixels_most, times_most}
+use Rattle.qoi.proofs.decoding.LeastBytes.{pixels_most}
 use Rattle.qoi.proofs.decoding.Progress.{fewer, few_left, start_between}
 
 -- chunks that stand after fewer than m pixels stand after fewer than n, if that is no less
@@ -25,11 +25,11 @@ more_pixels : (c m n size more : ℕ) → IsChannels c → size ≡ c * m → si
 more_pixels c m n size more is = by_channels (λ k. size ≡ k * m → size + more ≡ k * n → m ≤ n) is (λ a b. omega arith) (λ a b. omega arith)
 
 -- a buffer that isn't full may have bytes more
-grows : {f c m : ℕ} {Taken : List ℕ → Type 0} {table : List ℕ} {last : ℕ} {out : List ℕ} {at : ℕ} → IsChannels c
-    → DecoderBetween f c m Taken (filling table last out at) → at < length out → (n : ℕ) (more : List ℕ) → length out + length more ≡ c * n
-    → DecoderBetween f c n Taken (filling table last (out ++ more) at)
-grows {c = c} {m = m} {out = out} {at = at} is s inside n more size =
-    let past = then_chunks [] s.cs in
+grows : {f c : ℕ} {gone : Past} {m : ℕ} {Taken : List ℕ → Type 0} {table : List ℕ} {last : ℕ} {out : List ℕ} {at : ℕ} → IsChannels c
+    → DecoderBetween f c gone m Taken (filling table last out at) → at < length out → (n : ℕ) (more : List ℕ) → length out + length more ≡ c * n
+    → DecoderBetween f c gone n Taken (filling table last (out ++ more) at)
+grows {c = c} {gone = gone} {m = m} {out = out} {at = at} is s inside n more size =
+    let past = s.recent in
     let below : length past < m = fewer is s.filled inside in
     let most : m ≤ n = more_pixels c m n (length out) (length more) is s.filled.room size in
     let same : min m (length past) ≡ min n (length past) = omega (arith, below, most) in
@@ -37,7 +37,9 @@ grows {c = c} {m = m} {out = out} {at = at} is s inside n more size =
     record {
       cs = s.cs;
       chunks = s.chunks;
-      stays_below = stays_more m n most [] s.cs s.stays_below;
+      recent = s.recent;
+      pixels = s.pixels;
+      stays_below = stays_more (length gone + m) (length gone + n) (omega (arith, most)) [] s.cs s.stays_below;
       taken = s.taken;
       filled = record {
         room = size_is ∙ size;
@@ -52,7 +54,7 @@ grows {c = c} {m = m} {out = out} {at = at} is s inside n more size =
 -- what stands between two chunks, however many bytes the buffer gets
 abbrev pub Growing : ℕ → ℕ → (List ℕ → Type 0) → List ℕ → ℕ → List ℕ → ℕ → Type 0
 Growing f c Taken table last out at = (n : ℕ) (more : List ℕ) → length out + length more ≡ c * n
-    → DecoderBetween f c n Taken (filling table last (out ++ more) at)
+    → DecoderBetween f c [] n Taken (filling table last (out ++ more) at)
 
 -- before the first chunk
 pub growing_start : (f c : ℕ) (Taken : List ℕ → Type 0) (table : List ℕ) (last : ℕ) (out : List ℕ) → IsChannels c → length out ≡ 0
@@ -60,16 +62,16 @@ pub growing_start : (f c : ℕ) (Taken : List ℕ → Type 0) (table : List ℕ)
 growing_start f c Taken table last [] is empty blank opaque none n more size =
     let many : length more / c ≡ n = by_channels (λ k. 0 + length more ≡ k * n → length more / k ≡ n) is (λ e. omega arith) (λ e. omega arith) size in
     let whole : length more % c ≡ 0 = by_channels (λ k. 0 + length more ≡ k * n → length more % k ≡ 0) is (λ e. omega arith) (λ e. omega arith) size in
-    subst (λ k. DecoderBetween f c k Taken (filling table last more 0)) many (start_between f c Taken table last more is whole blank opaque none)
+    subst (λ k. DecoderBetween f c [] k Taken (filling table last more 0)) many (start_between f c Taken table last more is whole blank opaque none)
 growing_start f c Taken table last (x ∷ out) is empty blank opaque none n more size = absurd (omega arith)
 
 -- with zeros up to a size
 pub grown : {f c : ℕ} {Taken : List ℕ → Type 0} {table : List ℕ} {last : ℕ} {at : ℕ} (old new : List ℕ) (len size : ℕ) → IsChannels c → Growing f c Taken table last old at
-    → len ≡ length old → len ≤ size → size % c ≡ 0 → new ≡ old ++ replicate (size - len) 0 → DecoderBetween f c (size / c) Taken (filling table last new at)
+    → len ≡ length old → len ≤ size → size % c ≡ 0 → new ≡ old ++ replicate (size - len) 0 → DecoderBetween f c [] (size / c) Taken (filling table last new at)
 grown {f} {c} {Taken} {table} {last} {at} old new len size is g len_is within whole new_is =
     let zeros : List ℕ = replicate (size - len) 0 in
     let all : length old + length zeros ≡ c * (size / c) = omega (arith, len_is, within, length-replicate {A = ℕ} (size - len) 0) ∙ whole_pixels c size is whole in
-    subst (λ z. DecoderBetween f c (size / c) Taken (filling table last z at)) (sym new_is) (g (size / c) zeros all)
+    subst (λ z. DecoderBetween f c [] (size / c) Taken (filling table last z at)) (sym new_is) (g (size / c) zeros all)
 
 -- a vector that lent itself whole holds what was written
 pub lent_back : (len : ℕ) (buf items : List ℕ) → len ≡ length buf → take len (buf ++ drop (length buf) items) ≡ buf
@@ -77,41 +79,28 @@ lent_back len buf items size = ap (λ k. take k (buf ++ drop (length buf) items)
 
 -- after a step that left room
 pub growing_on : {f c m : ℕ} {Taken : List ℕ → Type 0} {table : List ℕ} {last : ℕ} {at : ℕ} (out items : List ℕ) → IsChannels c
-    → DecoderBetween f c m Taken (filling table last out at) → at < length out → items ≡ out → Growing f c Taken table last items at
+    → DecoderBetween f c [] m Taken (filling table last out at) → at < length out → items ≡ out → Growing f c Taken table last items at
 growing_on {f} {c} {m} {Taken} {table} {last} {at} out items is s inside same = subst (λ z. Growing f c Taken table last z at) (sym same) (grows is s inside)
 
 -- both are whole pixels
-pub whole_sizes : {f c n : ℕ} {Taken : List ℕ → Type 0} {now : Filling} → IsChannels c → DecoderBetween f c n Taken now
+pub whole_sizes : {f c : ℕ} {gone : Past} {n : ℕ} {Taken : List ℕ → Type 0} {now : Filling} → IsChannels c → DecoderBetween f c gone n Taken now
     → (length now.buffer.out % c ≡ 0) × (now.buffer.at % c ≡ 0)
 whole_sizes {c = c} {n = n} {now = now} is s =
     let size = length now.buffer.out in
     (by_channels (λ k. size ≡ k * n → size % k ≡ 0) is (λ e. omega arith) (λ e. omega arith) s.filled.room, s.whole)
 
--- a chunk that is put where any run has room leaves room
-pub room_left : {f c n : ℕ} {Taken : List ℕ → Type 0} {old new : Filling} {bytes : List ℕ} → IsChannels c → DecoderBetween f c n Taken old
-    → old.buffer.at + 256 ≤ length old.buffer.out → DecodesChunk f c bytes old new → new.buffer.at < length new.buffer.out
-room_left {c = c} {n = n} {old = old} {new = new} is s room g =
-    let past = then_chunks [] s.cs in
-    let k = times g.chunk in
-    let after = g.decodes.filled n past s.filled in
-    let copies = replicate k (pixel_of_lanes new.last) in
-    let many : length (copies ++ past) ≡ k + length past = omega (arith, length-append copies past, length-replicate k (pixel_of_lanes new.last)) in
-    let few : k ≤ 62 = times_most g.chunk g.is_chunk in
-    let at : new.buffer.at ≡ c * min n (k + length past) = after.at_is ∙ ap (λ m. c * min n m) many in
-    let P : ℕ → Type 0 = λ j. old.buffer.at ≡ j * min n (length past) → length old.buffer.out ≡ j * n → new.buffer.at ≡ j * min n (k + length past)
-    → length new.buffer.out ≡ j * n → new.buffer.at < length new.buffer.out in
-    by_channels P is (λ a b d e. omega (arith, room, few)) (λ a b d e. omega (arith, room, few)) s.filled.at_is s.filled.room at after.room
-
 -- if there is room and fewer bytes are left than an end marker has, the bytes are cut for an image
 -- of any more pixels
-pub few_left_more : {f c n : ℕ} {table : List ℕ} {last : ℕ} {out : List ℕ} {at : ℕ} (start : Option (List ℕ)) (rest : List ℕ) → IsChannels c
-    → DecoderBetween f c n (Consumes start (Some rest)) (filling table last out at) → at < length out → AreBytes rest → length rest < 8
-    → (k : ℕ) → n ≤ k → IfSome start (AreCut k)
-few_left_more {f} {c} {n} {table} {last} {out} {at} start rest is s inside fits few k more =
-    let zeros : List ℕ = replicate (c * k - length out) 0 in
-    let least : length out ≤ c * k = by_channels (λ j. length out ≡ j * n → length out ≤ j * k) is (λ e. omega (arith, more)) (λ e. omega (arith, more)) s.filled.room in
-    let size : length out + length zeros ≡ c * k = omega (arith, least, length-replicate {A = ℕ} (c * k - length out) 0) in
-    few_left start rest is (grows is s inside k zeros size) (omega (arith, inside, length-append out zeros)) fits few
+pub few_left_more : {f c : ℕ} {gone : Past} {n : ℕ} {table : List ℕ} {last : ℕ} {out : List ℕ} {at : ℕ} (start : Option (List ℕ)) (rest : List ℕ) → IsChannels c
+    → DecoderBetween f c gone n (Consumes start (Some rest)) (filling table last out at) → at < length out → AreBytes rest → length rest < 8
+    → (k : ℕ) → length gone + n ≤ k → IfSome start (AreCut k)
+few_left_more {f} {c} {gone} {n} {table} {last} {out} {at} start rest is s inside fits few k more =
+    let m = k - length gone in
+    let zeros : List ℕ = replicate (c * m - length out) 0 in
+    let least : length out ≤ c * m = by_channels (λ j. length out ≡ j * n → length out ≤ j * m) is (λ e. omega (arith, more)) (λ e. omega (arith, more)) s.filled.room in
+    let size : length out + length zeros ≡ c * m = omega (arith, least, length-replicate {A = ℕ} (c * m - length out) 0) in
+    let all : length gone + m ≡ k = omega (arith, more) in
+    subst (λ j. IfSome start (AreCut j)) all (few_left start rest is (grows is s inside m zeros size) (omega (arith, inside, length-append out zeros)) fits few)
 
 -- a channel or more
 pub some_channels : (c : ℕ) → IsChannels c → 0 < c
@@ -144,16 +133,17 @@ pub taken_more : (m n : ℕ) (old new : Option (List ℕ)) → m ≤ n → HasTa
 taken_more m n old new more (taken, took, ends) = (taken, took, ends_more m n taken more ends)
 
 -- what is written is at most 248 bytes for each byte ahead
-pub written_most : {f c n : ℕ} {now : Filling} (start new : Option (List ℕ)) → IsChannels c → DecoderBetween f c n (Consumes start new) now
+pub written_most : {f c : ℕ} {gone : Past} {n : ℕ} {now : Filling} (start new : Option (List ℕ)) → IsChannels c → DecoderBetween f c gone n (Consumes start new) now
     → IfSome start (λ bytes. now.buffer.at ≤ 248 * length bytes)
 written_most None new is s = tt
 written_most (Some bytes) None is s = absurd s.taken
-written_most {c = c} {n = n} {now = now} (Some bytes) (Some rest) is s =
-    let past = then_chunks [] s.cs in
+written_most {c = c} {gone = gone} {n = n} {now = now} (Some bytes) (Some rest) is s =
+    let past = s.recent in
     let many = pixels_most [] s.cs s.chunks in
+    let fewer : length past ≤ length (then_chunks [] s.cs) = omega (arith, ap length s.pixels, length-append s.recent gone) in
     let size : length bytes ≡ length (chunk_bytes s.cs) + length rest = ap length s.taken ∙ length-append (chunk_bytes s.cs) rest in
     let P : ℕ → Type 0 = λ k. now.buffer.at ≡ k * min n (length past) → now.buffer.at ≤ 248 * length bytes in
-    by_channels P is (λ e. omega (arith, many, size)) (λ e. omega (arith, many, size)) s.filled.at_is
+    by_channels P is (λ e. omega (arith, many, fewer, size)) (λ e. omega (arith, many, fewer, size)) s.filled.at_is
 
 -- so is what has some bytes more, and these
 pub at_most : (start : Option (List ℕ)) (few many more : ℕ) → many ≤ few + more → IfSome start (λ bytes. few ≤ 248 * length bytes)

@@ -1,38 +1,50 @@
 -- A decoder between two chunks: what it has taken, filled and seen.
-use Rattle.std.proofs.Common.{◌≡◌, ℕ, suc, ◌*◌, ◌/◌, ◌%◌, ◌<◌, ◌≤◌, inl, inr, List, [], ◌∷◌, ◌++◌, length, take, replicate, min, Option, None, Some, IfSome, arith, refl, sym, ap, ◌∙◌, subst, append_assoc, append-nil, length-append}
-use Rattle.qoi.specs.Qoi.{Past, AreBytes, start, bytes_of, chunk_bytes, pixel_after, times, then_chunk, then_chunks, meaning, Reaches}
+use Rattle.std.proofs.Common.{◌≡◌, ℕ, suc, ◌+◌, ◌*◌, ◌/◌, ◌%◌, ◌<◌, ◌≤◌, inl, inr, List, [], ◌∷◌, ◌++◌, length, take, replicate, reverse, min, Option, None, Some, IfSome, arith, refl, sym, ap, ◌∙◌, subst, append_assoc, append-nil, length-append}
+use Rattle.qoi.specs.Qoi.{RgbaPixel, Past, AreBytes, start, bytes_of, chunk_bytes, pixel_after, times, then_chunks, meaning, Reaches}
 use Rattle.std.specs.Io.KnownBytes.{Consumes}
 use Rattle.std.proofs.KnownBytes.{Consumes-trans}
-use Rattle.qoi.specs.Raw.{IsChannels, output}
+use Rattle.qoi.specs.Raw.{IsChannels, pixel_bytes, output}
 use Rattle.qoi.specs.inner.Filling.{Buffer, Filling, filling, HasFilled, DecodesChunk, DecoderBetween, IsFrontAfter}
 use Rattle.qoi.specs.inner.Hashed.{pixel_of_lanes, HoldsSeen}
 use Rattle.qoi.specs.Verdicts.{IsPartOfChunk, EndsBefore, AreCut}
 use Rattle.qoi.specs.Decoding.{StreamsPixels}
 use Rattle.qoi.proofs.format.ChunkSteps.{times_some, then_chunks-append, each_append}
 use Rattle.std.proofs.lemmas.Grind.{flat_map-append}
+use Rattle.std.proofs.lemmas.List.{length-reverse, reverse-append}
+use Rattle.std.proofs.Math.Seq.{take-append-add}
 use Rattle.qoi.proofs.format.SomeVerdict.{reading_of}
 use Rattle.qoi.proofs.format.Appended.{are_chunks_append, chunk_bytes-last, length-meaning}
 use Rattle.qoi.proofs.format.WholePixels.{by_channels, whole_pixels}
 use Rattle.qoi.proofs.decoding.FilledBuffer.{counts, filled_all}
 use Rattle.qoi.proofs.format.SeenTable.{previous_copies}
 
+-- no pixels more
+pub none_more : (n : ℕ) → length {A = RgbaPixel} [] + n ≡ n
+none_more n = omega arith
+
 -- fewer than n pixels were decoded, if there is room for more
 pub fewer : {f c n : ℕ} {b : Buffer} {past : Past} → IsChannels c → HasFilled f c n b past → b.at < length b.out → length past < n
 fewer {c = c} {n = n} {b = b} {past = past} is h inside =
     (counts c n (length past) 0 b.at (length b.out) is h.room h.at_is inside (omega arith)).below
 
+-- none is a whole number of pixels
+pub none_written : (c : ℕ) → IsChannels c → 0 % c ≡ 0
+none_written c is = by_channels (λ k. 0 % k ≡ 0) is refl refl
+
 -- before the first chunk
 pub start_between : (f c : ℕ) (Taken : List ℕ → Type 0) (table : List ℕ) (last : ℕ) (out : List ℕ) → IsChannels c → length out % c ≡ 0
-    → HoldsSeen table [] → pixel_of_lanes last ≡ start → Taken [] → DecoderBetween f c (length out / c) Taken (filling table last out 0)
+    → HoldsSeen table [] → pixel_of_lanes last ≡ start → Taken [] → DecoderBetween f c [] (length out / c) Taken (filling table last out 0)
 start_between f c Taken table last out is whole blank opaque none_taken = record {
   cs = [];
   chunks = tt;
+  recent = [];
+  pixels = refl;
   stays_below = tt;
   taken = none_taken;
   filled = record { room = whole_pixels c (length out) is whole; at_is = none c is; same = refl };
   has_seen = record { table_is = blank; last_is = opaque };
   within = omega arith;
-  whole = by_channels (λ k. 0 % k ≡ 0) is refl refl;
+  whole = none_written c is;
 }
   where
     none : (c : ℕ) → IsChannels c → 0 ≡ c * min (length out / c) 0
@@ -40,55 +52,68 @@ start_between f c Taken table last out is whole blank opaque none_taken = record
         (omega arith)
 
 -- one more chunk, its pixels written and seen
-pub goes_on : {f c n : ℕ} {Taken Taken' : List ℕ → Type 0} {old new : Filling} {bytes : List ℕ} → IsChannels c → DecoderBetween f c n Taken old
+pub goes_on : {f c : ℕ} {gone : Past} {n : ℕ} {Taken Taken' : List ℕ → Type 0} {old new : Filling} {bytes : List ℕ} → IsChannels c → DecoderBetween f c gone n Taken old
     → old.buffer.at < length old.buffer.out → DecodesChunk f c bytes old new
-    → ((before : List ℕ) → Taken before → Taken' (before ++ bytes)) → new.buffer.at ≤ length new.buffer.out → new.buffer.at % c ≡ 0 → DecoderBetween f c n Taken' new
-goes_on {f} {c} {n} {Taken} {Taken'} {old} {new} {bytes} is s inside g takes within whole =
+    → ((before : List ℕ) → Taken before → Taken' (before ++ bytes)) → new.buffer.at ≤ length new.buffer.out → new.buffer.at % c ≡ 0 → DecoderBetween f c gone n Taken' new
+goes_on {f} {c} {gone} {n} {Taken} {Taken'} {old} {new} {bytes} is s inside g takes within whole =
     let chunk = g.chunk in
     let past = then_chunks [] s.cs in
     let pushed = then_chunks-append [] s.cs (chunk ∷ []) in
     let has_seen = g.decodes.has_seen past s.has_seen in
     let pixel_is : pixel_of_lanes new.last ≡ pixel_after past chunk = has_seen.last_is ∙ previous_copies (times chunk) (pixel_after past chunk) past (times_some chunk g.is_chunk) in
-    let filled : HasFilled f c n new.buffer (then_chunk past chunk) =
-    subst (λ p. HasFilled f c n new.buffer (replicate (times chunk) p ++ past)) pixel_is (g.decodes.filled n past s.filled) in
+    let copies = replicate (times chunk) (pixel_after past chunk) in
+    let filled : HasFilled f c n new.buffer (copies ++ s.recent) =
+    subst (λ p. HasFilled f c n new.buffer (replicate (times chunk) p ++ s.recent)) pixel_is (g.decodes.filled n s.recent s.filled) in
+    let below : length past < length gone + n = omega (arith, fewer is s.filled inside, ap length s.pixels, length-append s.recent gone) in
     record {
       cs = s.cs ++ chunk ∷ [];
       chunks = are_chunks_append s.cs (chunk ∷ []) s.chunks (g.is_chunk, tt);
-      stays_below = each_append (λ past c. length past < n) [] s.cs (chunk ∷ []) s.stays_below (fewer is s.filled inside, tt);
+      recent = copies ++ s.recent;
+      pixels = pushed ∙ ap (λ z. copies ++ z) s.pixels ∙ sym (append_assoc copies s.recent gone);
+      stays_below = each_append (λ past c. length past < length gone + n) [] s.cs (chunk ∷ []) s.stays_below (below, tt);
       taken = subst Taken' (ap (λ z. chunk_bytes s.cs ++ z) g.bytes_are ∙ sym (chunk_bytes-last s.cs chunk)) (takes (chunk_bytes s.cs) s.taken);
-      filled = rw pushed filled;
+      filled = filled;
       has_seen = rw pushed has_seen;
       within = within;
       whole = whole;
     }
 
 -- if the buffer is full, the chunks reach n pixels, and it holds the first n
-reads_all : {f c n : ℕ} {Taken : List ℕ → Type 0} {now : Filling} → IsChannels c → (s : DecoderBetween f c n Taken now) → length now.buffer.out ≤ now.buffer.at
-    → Reaches n s.cs × (now.buffer.out ≡ output f c (take n (meaning s.cs)))
-reads_all {f} {c} {n} {Taken} {now} is s full =
-    let all = filled_all f c n now.buffer (then_chunks [] s.cs) is s.filled full in
-    (record { stays_below = s.stays_below; enough = rw length-meaning all.0 }, all.1)
+reads_all : {f c : ℕ} {gone : Past} {n : ℕ} {Taken : List ℕ → Type 0} {now : Filling} → IsChannels c → (s : DecoderBetween f c gone n Taken now) → length now.buffer.out ≤ now.buffer.at
+    → Reaches (length gone + n) s.cs × (output f c (reverse gone) ++ now.buffer.out ≡ output f c (take (length gone + n) (meaning s.cs)))
+reads_all {f} {c} {gone} {n} {Taken} {now} is s full =
+    let all = filled_all f c n now.buffer s.recent is s.filled full in
+    let size : length (then_chunks [] s.cs) ≡ length s.recent + length gone = ap length s.pixels ∙ length-append s.recent gone in
+    let parts : meaning s.cs ≡ reverse gone ++ reverse s.recent = ap reverse s.pixels ∙ reverse-append s.recent gone in
+    let front : take (length gone + n) (meaning s.cs) ≡ reverse gone ++ take n (reverse s.recent) =
+    ap (take (length gone + n)) parts ∙ ap (λ k. take (k + n) (reverse gone ++ reverse s.recent)) (sym (length-reverse gone))
+    ∙ take-append-add (reverse gone) (reverse s.recent) n in (
+      record { stays_below = s.stays_below; enough = rw length-meaning (omega (arith, all.0, size)) },
+      ap (λ z. output f c (reverse gone) ++ z) all.1 ∙ sym (flat_map-append (pixel_bytes f c) (reverse gone) (take n (reverse s.recent)))
+          ∙ sym (ap (output f c) front),
+    )
 
 -- what was taken, said in another way
-pub taken_as : {f c n : ℕ} {Taken Taken' : List ℕ → Type 0} {now : Filling} → (s : DecoderBetween f c n Taken now) → Taken' (chunk_bytes s.cs) → DecoderBetween f c n Taken' now
-taken_as s taken = record { cs = s.cs; chunks = s.chunks; stays_below = s.stays_below; taken = taken; filled = s.filled; has_seen = s.has_seen; within = s.within; whole = s.whole }
+pub taken_as : {f c : ℕ} {gone : Past} {n : ℕ} {Taken Taken' : List ℕ → Type 0} {now : Filling} → (s : DecoderBetween f c gone n Taken now) → Taken' (chunk_bytes s.cs) → DecoderBetween f c gone n Taken' now
+taken_as s taken = record { cs = s.cs; chunks = s.chunks; recent = s.recent; pixels = s.pixels; stays_below = s.stays_below; taken = taken; filled = s.filled; has_seen = s.has_seen; within = s.within; whole = s.whole }
 
 -- no byte of a slice was taken yet
-pub front_of_none : {f c n : ℕ} {Taken : List ℕ → Type 0} {now : Filling} (bytes : List ℕ) → (s : DecoderBetween f c n Taken now) → DecoderBetween f c n (IsFrontAfter (chunk_bytes s.cs) bytes 0) now
+pub front_of_none : {f c : ℕ} {gone : Past} {n : ℕ} {Taken : List ℕ → Type 0} {now : Filling} (bytes : List ℕ) → (s : DecoderBetween f c gone n Taken now) → DecoderBetween f c gone n (IsFrontAfter (chunk_bytes s.cs) bytes 0) now
 front_of_none bytes s = taken_as s (sym (append-nil (chunk_bytes s.cs)))
 
 -- the front of what a reader showed was taken
-pub front_consumed : {f c n : ℕ} {now : Filling} (old middle new : Option (List ℕ)) (before bytes : List ℕ) (size : ℕ) → Consumes old middle before → Consumes middle new (take size bytes)
-    → DecoderBetween f c n (IsFrontAfter before bytes size) now → DecoderBetween f c n (Consumes old new) now
+pub front_consumed : {f c : ℕ} {gone : Past} {n : ℕ} {now : Filling} (old middle new : Option (List ℕ)) (before bytes : List ℕ) (size : ℕ) → Consumes old middle before → Consumes middle new (take size bytes)
+    → DecoderBetween f c gone n (IsFrontAfter before bytes size) now → DecoderBetween f c gone n (Consumes old new) now
 front_consumed old middle new before bytes size so_far took s =
     taken_as s (subst (Consumes old new) (sym s.taken) (Consumes-trans old middle new before (take size bytes) so_far took))
 
 -- if there is room and fewer bytes are left than an end marker has, the bytes are cut
-pub few_left : {f c n : ℕ} {now : Filling} (start : Option (List ℕ)) (rest : List ℕ) → IsChannels c → DecoderBetween f c n (Consumes start (Some rest)) now
-    → now.buffer.at < length now.buffer.out → AreBytes rest → length rest < 8 → IfSome start (AreCut n)
+pub few_left : {f c : ℕ} {gone : Past} {n : ℕ} {now : Filling} (start : Option (List ℕ)) (rest : List ℕ) → IsChannels c → DecoderBetween f c gone n (Consumes start (Some rest)) now
+    → now.buffer.at < length now.buffer.out → AreBytes rest → length rest < 8 → IfSome start (AreCut (length gone + n))
 few_left None rest is s inside fits few = tt
-few_left {n = n} (Some bytes) rest is s inside fits few =
-    let r = reading_of (suc (length rest)) n (then_chunks [] s.cs) rest (omega arith) fits in
+few_left {gone = gone} {n = n} (Some bytes) rest is s inside fits few =
+    let m = length gone + n in
+    let r = reading_of (suc (length rest)) m (then_chunks [] s.cs) rest (omega arith) fits in
     let all = s.cs ++ r.found in
     let pushed = then_chunks-append [] s.cs r.found in
     let short : length r.rest ≤ length rest = omega (arith, ap length r.split, length-append (chunk_bytes r.found) r.rest) in (
@@ -97,7 +122,7 @@ few_left {n = n} (Some bytes) rest is s inside fits few =
       record {
         has = record {
           chunks = are_chunks_append s.cs r.found s.chunks r.chunks;
-          stays_below = each_append (λ past c. length past < n) [] s.cs r.found s.stays_below r.stays_below;
+          stays_below = each_append (λ past c. length past < m) [] s.cs r.found s.stays_below r.stays_below;
           split = s.taken ∙ ap (λ z. chunk_bytes s.cs ++ z) r.split ∙ sym (append_assoc (chunk_bytes s.cs) (chunk_bytes r.found) r.rest)
               ∙ ap (λ z. z ++ r.rest) (sym (flat_map-append bytes_of s.cs r.found));
         };
@@ -109,19 +134,24 @@ few_left {n = n} (Some bytes) rest is s inside fits few =
     )
 
 -- the chunks of a stream whose pixels fill the buffer
-pub streams_pixels : {f c n : ℕ} {old new : Option (List ℕ)} {now : Filling} → IsChannels c → DecoderBetween f c n (Consumes old new) now
+pub streams_pixels : {f c : ℕ} {gone : Past} {n : ℕ} {old new : Option (List ℕ)} {now : Filling} → IsChannels c → DecoderBetween f c gone n (Consumes old new) now
     → length now.buffer.out ≤ now.buffer.at
-    → StreamsPixels f c n old new now.buffer.out
+    → StreamsPixels f c (length gone + n) old new (output f c (reverse gone) ++ now.buffer.out)
 streams_pixels is s full =
     let all = reads_all is s full in
     record { cs = s.cs; chunks = s.chunks; reaches = all.0; taken = subst (Consumes _ _) (sym (append-nil (chunk_bytes s.cs))) s.taken; out_is = all.1 }
 
+-- the same with none before them
+pub first_streams : {f c n : ℕ} {old new : Option (List ℕ)} {out : List ℕ} → StreamsPixels f c (length {A = RgbaPixel} [] + n) old new (output f c (reverse []) ++ out)
+    → StreamsPixels f c n old new out
+first_streams {f} {c} {n} {old} {new} {out} s = subst (λ k. StreamsPixels f c k old new out) (none_more n) s
+
 -- if a stream gives no whole chunk, what was taken ends before n pixels
-pub stream_ends : {f c n : ℕ} (old middle new : Option (List ℕ)) (part : List ℕ) {now : Filling} → IsChannels c → DecoderBetween f c n (Consumes old middle) now
+pub stream_ends : {f c : ℕ} {gone : Past} {n : ℕ} (old middle new : Option (List ℕ)) (part : List ℕ) {now : Filling} → IsChannels c → DecoderBetween f c gone n (Consumes old middle) now
     → now.buffer.at < length now.buffer.out → Consumes middle new part → IsPartOfChunk part
-    → (taken : List ℕ) × Consumes old new taken × EndsBefore n taken
-stream_ends old middle new part is s inside took is_part = (
+    → (taken : List ℕ) × Consumes old new taken × EndsBefore (length gone + n) taken
+stream_ends {gone = gone} old middle new part is s inside took is_part = (
   chunk_bytes s.cs ++ part,
   Consumes-trans old middle new (chunk_bytes s.cs) part s.taken took,
-  (s.cs, part, record { chunks = s.chunks; stays_below = s.stays_below; split = refl }, rw length-meaning (fewer is s.filled inside), is_part),
+  (s.cs, part, record { chunks = s.chunks; stays_below = s.stays_below; split = refl }, rw length-meaning (omega (arith, fewer is s.filled inside, ap length s.pixels, length-append s.recent gone)), is_part),
 )

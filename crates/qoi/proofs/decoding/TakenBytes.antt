@@ -18,7 +18,7 @@ length-then_chunk : (past : Past) (c : Chunk) → length (then_chunk past c) ≡
 length-then_chunk past c = omega (arith, length-append (replicate (times c) (pixel_after past c)) past, length-replicate (times c) (pixel_after past c))
 
 -- each pixel takes five bytes at most
-bytes_within : (past : Past) (cs : List Chunk) → AreChunks cs → length (chunk_bytes cs) + 5 * length past ≤ 5 * length (then_chunks past cs)
+pub bytes_within : (past : Past) (cs : List Chunk) → AreChunks cs → length (chunk_bytes cs) + 5 * length past ≤ 5 * length (then_chunks past cs)
 bytes_within past [] h = omega arith
 bytes_within past (c ∷ cs) h =
     omega (

@@ -60,13 +60,16 @@ pub record DecodesChunk (file_channels channels : ℕ) (bytes : List ℕ) (old n
   pub bytes_are : bytes ≡ bytes_of chunk
   pub decodes : Decodes file_channels channels chunk old new
 
--- Chunks were taken, and their pixels seen and written. `Taken` says which bytes were taken.
-pub record DecoderBetween (file_channels channels n : ℕ) (Taken : List ℕ → Type 0) (now : Filling) : Type 0 where
+-- Chunks were taken, and their pixels seen; they are those that are gone, and recent ones, which were
+-- written. `Taken` says which bytes were taken.
+pub record DecoderBetween (file_channels channels : ℕ) (gone : Past) (n : ℕ) (Taken : List ℕ → Type 0) (now : Filling) : Type 0 where
   pub cs : List Chunk
   pub chunks : AreChunks cs
-  pub stays_below : StayBelow n cs
+  pub recent : Past
+  pub pixels : then_chunks [] cs ≡ recent ++ gone
+  pub stays_below : StayBelow (length gone + n) cs
   pub taken : Taken (chunk_bytes cs)
-  pub filled : HasFilled file_channels channels n now.buffer (then_chunks [] cs)
+  pub filled : HasFilled file_channels channels n now.buffer recent
   pub has_seen : HasSeen now (then_chunks [] cs)
   pub within : now.buffer.at ≤ length now.buffer.out
   pub whole : now.buffer.at % channels ≡ 0
@@ -76,6 +79,6 @@ abbrev pub IsFrontAfter : List ℕ → List ℕ → ℕ → List ℕ → Type 0
 IsFrontAfter before bytes size taken = taken ≡ before ++ take size bytes
 
 -- `DecoderBetween` for the fast loop over these bytes, which also has the byte that comes next
-pub record FastBetween (file_channels channels n : ℕ) (before bytes : List ℕ) (now : Progress) (table out : List ℕ) : Type 0 where
-  pub between : DecoderBetween file_channels channels n (IsFrontAfter before bytes now.taken) (filling table now.last out now.at)
+pub record FastBetween (file_channels channels : ℕ) (gone : Past) (n : ℕ) (before bytes : List ℕ) (now : Progress) (table out : List ℕ) : Type 0 where
+  pub between : DecoderBetween file_channels channels gone n (IsFrontAfter before bytes now.taken) (filling table now.last out now.at)
   pub next_is : now.next ≡ slice_index bytes now.taken

@@ -1,11 +1,12 @@
 //! Decoding an image from a reader with a buffer of its own.
-ghost use Rattle.std.specs.Prelude.{ℕ, ◌+◌, ◌<◌, ◌≤◌, List, [], length, IsTrue, IsFalse, false, Option, IfOk, OnErr};
+ghost use Rattle.std.specs.Prelude.{ℕ, ◌≡◌, ◌+◌, ◌%◌, ◌<◌, ◌≤◌, List, [], length, IsTrue, IsFalse, false, Option, IfOk, OnErr};
 ghost use Rattle.std.specs.Io.KnownBytes.{Consumes};
+ghost use Rattle.qoi.specs.Qoi.{Past};
 ghost use Rattle.qoi.specs.Raw.{IsChannels};
 ghost use Rattle.qoi.specs.Verdicts.{EndsBefore};
 ghost use Rattle.qoi.specs.Decoding.{HasTaken};
 ghost use Rattle.qoi.specs.declared.decode.output.TheConstants.{RUN_ROOM};
-ghost use Rattle.qoi.specs.inner.Filling.{filling, DecoderBetween};
+ghost use Rattle.qoi.specs.inner.Filling.{IsWholePixels, filling, DecoderBetween};
 
 use crate::decode::chunks::{Chunks, Reached};
 use crate::decode::fast::{OUTPUT_ROOM, Progress};
@@ -32,13 +33,15 @@ fn chunks_in_buffer<R: BufRead, const N: usize, const F: usize>(
 ) -> io::Result<Reached>
     requires channels { IsChannels N }
     requires within { at ≤ length out.old }
-    ensures between { (n : ℕ) (start : Option (List ℕ))
-        → DecoderBetween F N n (Consumes start (R.remaining reader.old))
+    ensures between { (gone : Past) (n : ℕ) (start : Option (List ℕ))
+        → DecoderBetween F N gone n (Consumes start (R.remaining reader.old))
         (filling table.old last out.old at)
-        → IfOk result (λ now. DecoderBetween F N n (Consumes start (R.remaining reader.new))
+        → IfOk result (λ now. DecoderBetween F N gone n (Consumes start (R.remaining reader.new))
         (filling table.new now.last out.new now.at)) }
     ensures on { IfOk result (λ now. at ≤ now.at) }
     ensures below { at < length out.old → IfOk result (λ now. now.at < length out.new) }
+    ensures within { IfOk result (λ now. now.at ≤ length out.new) }
+    ensures whole { at % N ≡ 0 → IfOk result (λ now. now.at % N ≡ 0) }
     ensures failed { OnErr result
         (Consumes (R.remaining reader.old) (R.remaining reader.new) []) }
     ensures unfilled { OnErr result (at < length out.old) }
@@ -68,22 +71,23 @@ fn decode_chunks<R: BufRead, const N: usize, const F: usize, const RUN_FITS: boo
     at: usize,
 ) -> io::Result<Reached>
     requires channels { IsChannels N }
-    requires between { (n : ℕ) × (start : Option (List ℕ))
-        × DecoderBetween F N n (Consumes start (R.remaining reader.old))
-        (filling table.old last out.old at) }
-    ensures between { (n : ℕ) (start : Option (List ℕ))
-        → DecoderBetween F N n (Consumes start (R.remaining reader.old))
+    requires within { at ≤ length out.old }
+    requires whole { IsWholePixels N (length out.old) at }
+    ensures between { (gone : Past) (n : ℕ) (start : Option (List ℕ))
+        → DecoderBetween F N gone n (Consumes start (R.remaining reader.old))
         (filling table.old last out.old at)
-        → IfOk result (λ now. DecoderBetween F N n (Consumes start (R.remaining reader.new))
+        → IfOk result (λ now. DecoderBetween F N gone n (Consumes start (R.remaining reader.new))
         (filling table.new now.last out.new now.at)) }
     ensures below { IsTrue RUN_FITS → at < length out.old
         → IfOk result (λ now. now.at < length out.new) }
     ensures filled { IsTrue RUN_FITS → IfOk result (λ now. length out.new < now.at + RUN_ROOM) }
     ensures full { IsFalse RUN_FITS → IfOk result (λ now. length out.new ≤ now.at) }
-    ensures failed { (n : ℕ) (start : Option (List ℕ))
-        → DecoderBetween F N n (Consumes start (R.remaining reader.old))
+    ensures within { IfOk result (λ now. now.at ≤ length out.new) }
+    ensures whole { IfOk result (λ now. now.at % N ≡ 0) }
+    ensures failed { (gone : Past) (n : ℕ) (start : Option (List ℕ))
+        → DecoderBetween F N gone n (Consumes start (R.remaining reader.old))
         (filling table.old last out.old at)
-        → OnErr result (HasTaken start (R.remaining reader.new) (EndsBefore n)) }
+        → OnErr result (HasTaken start (R.remaining reader.new) (EndsBefore (length gone + n))) }
 {
     let least = if RUN_FITS { RUN_ROOM } else { 1 };
     let mut last = last;

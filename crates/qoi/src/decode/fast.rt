@@ -1,7 +1,7 @@
 //! The loop over chunks in memory while input and output have room ahead for four short ones and a
 //! full one, which is tested once for all five. It can go on from any pixel.
-ghost use Rattle.std.specs.Prelude.{◌≡◌, ◌↔◌, IsTrue, ℕ, ◌+◌, ◌-◌, ◌*◌, ◌/◌, ◌<◌, ◌≤◌, List, length};
-ghost use Rattle.qoi.specs.Qoi.{run_tag, rgb_tag};
+ghost use Rattle.std.specs.Prelude.{◌≡◌, ◌↔◌, IsTrue, ℕ, ◌+◌, ◌-◌, ◌*◌, ◌/◌, ◌%◌, ◌<◌, ◌≤◌, List, length};
+ghost use Rattle.qoi.specs.Qoi.{Past, run_tag, rgb_tag};
 ghost use Rattle.qoi.specs.Raw.{IsChannels};
 ghost use Rattle.qoi.specs.declared.decode.output.TheConstants.{RUN_ROOM};
 
@@ -57,9 +57,10 @@ impl Progress {
         requires input { self.taken + 3 ≤ length bytes.now }
         requires room { self.at + 16 ≤ length out.old }
         requires short { self.next ≤ run_tag - 1 + 16 / N }
-        ensures between { (n : ℕ) (before : List ℕ)
-            → FastBetween F N n before bytes.now self table.old out.old
-            → FastBetween F N n before bytes.now result table.new out.new }
+        ensures between { (gone : Past) (n : ℕ) (before : List ℕ)
+            → FastBetween F N gone n before bytes.now self table.old out.old
+            → FastBetween F N gone n before bytes.now result table.new out.new }
+        ensures whole { self.at % N ≡ 0 → result.at % N ≡ 0 }
         ensures taken { (self.taken < result.taken) × (result.taken ≤ self.taken + 2) }
         ensures written { (self.at ≤ result.at) × (result.at ≤ self.at + 16) }
         ensures byte { result.next < 256 }
@@ -90,9 +91,10 @@ impl Progress {
         requires input { self.taken + 9 ≤ length bytes.now }
         requires room { self.at + 64 ≤ length out.old }
         requires byte { self.next < 256 }
-        ensures between { (n : ℕ) (before : List ℕ)
-            → FastBetween F N n before bytes.now self table.old out.old
-            → FastBetween F N n before bytes.now result table.new out.new }
+        ensures between { (gone : Past) (n : ℕ) (before : List ℕ)
+            → FastBetween F N gone n before bytes.now self table.old out.old
+            → FastBetween F N gone n before bytes.now result table.new out.new }
+        ensures whole { self.at % N ≡ 0 → result.at % N ≡ 0 }
         ensures taken { (self.taken ≤ result.taken) × (result.taken ≤ self.taken + 8) }
         ensures some { result.next ≤ run_tag - 1 + 16 / N → self.taken < result.taken }
         ensures written { (self.at ≤ result.at) × (result.at ≤ self.at + 64) }
@@ -128,9 +130,10 @@ impl Progress {
         requires input { self.taken + 6 ≤ length bytes.now }
         requires room { self.at + 16 ≤ length out.old }
         requires full { (rgb_tag ≤ self.next) × (self.next < 256) }
-        ensures between { (n : ℕ) (before : List ℕ)
-            → FastBetween F N n before bytes.now self table.old out.old
-            → FastBetween F N n before bytes.now result table.new out.new }
+        ensures between { (gone : Past) (n : ℕ) (before : List ℕ)
+            → FastBetween F N gone n before bytes.now self table.old out.old
+            → FastBetween F N gone n before bytes.now result table.new out.new }
+        ensures whole { self.at % N ≡ 0 → result.at % N ≡ 0 }
         ensures taken { (self.taken < result.taken) × (result.taken ≤ self.taken + 5) }
         ensures written { self.at ≤ result.at }
         ensures most { result.at ≤ self.at + 4 }
@@ -161,9 +164,10 @@ impl Progress {
         requires input { self.taken + 2 ≤ length bytes.now }
         requires room { self.at + N * (self.next - (run_tag - 1)) < length out.old }
         requires run { (run_tag ≤ self.next) × (self.next < rgb_tag) }
-        ensures between { (n : ℕ) (before : List ℕ)
-            → FastBetween F N n before bytes.now self table.old out.old
-            → FastBetween F N n before bytes.now result table.new out.new }
+        ensures between { (gone : Past) (n : ℕ) (before : List ℕ)
+            → FastBetween F N gone n before bytes.now self table.old out.old
+            → FastBetween F N gone n before bytes.now result table.new out.new }
+        ensures whole { self.at % N ≡ 0 → result.at % N ≡ 0 }
         ensures taken { result.taken ≡ self.taken + 1 }
         ensures written { self.at ≤ result.at }
         ensures below { result.at < length out.old }
@@ -196,14 +200,16 @@ impl Progress {
         at: usize,
     ) -> Progress
         requires channels { IsChannels N }
-        ensures between { (n : ℕ) (before : List ℕ)
-            → DecoderBetween F N n (IsFrontAfter before bytes.now 0)
+        ensures between { (gone : Past) (n : ℕ) (before : List ℕ)
+            → DecoderBetween F N gone n (IsFrontAfter before bytes.now 0)
             (filling table.old last out.old at)
-            → DecoderBetween F N n (IsFrontAfter before bytes.now result.taken)
+            → DecoderBetween F N gone n (IsFrontAfter before bytes.now result.taken)
             (filling table.new result.last out.new result.at) }
         ensures within { result.taken ≤ length bytes.now }
         ensures written { at ≤ result.at }
+        ensures inside { at ≤ length out.old → result.at ≤ length out.new }
         ensures below { at < length out.old → result.at < length out.new }
+        ensures whole { at % N ≡ 0 → result.at % N ≡ 0 }
     {
         let mut now = Progress {
             last,

@@ -63,6 +63,7 @@ pub(super) fn decode_chunk<const N: usize, const F: usize, const RUN_FITS: bool,
         (filling table.new result.last out.new result.at) }
     ensures whole { result.at % N ≡ 0 }
     ensures within { (at < result.at) × (result.at ≤ length out.new) }
+    ensures below { at + RUN_ROOM ≤ length out.old → result.at < length out.new }
 {
     let b1 = bytes[0];
     let (last, taken) = match b1 {

@@ -155,6 +155,7 @@ pub(super) fn fill<const N: usize, const F: usize, const RUN_FITS: bool>(
         → HasFilled F N n (upto out.new result) (replicate count (pixel_of_lanes px) ++ past) }
     ensures whole { result % N ≡ 0 }
     ensures within { (at < result) × (result ≤ length out.new) }
+    ensures below { at + RUN_ROOM ≤ length out.old → result < length out.new }
 {
     let room = known_room::<RUN_FITS>(out.len(), at);
     if count <= BLOCK / N {

@@ -1,7 +1,7 @@
 //! Decoding an image from a stream.
 ghost use Rattle.std.specs.Prelude.{◌≡◌, ℕ, ◌+◌, ◌%◌, ◌<◌, ◌≤◌, List, [], ◌∷◌, length, IsTrue, IsFalse, false, Option, IfOk, IfErr, OnOk, OnErr};
 ghost use Rattle.std.specs.Io.KnownBytes.{Consumes};
-ghost use Rattle.qoi.specs.Qoi.{AreBytes, end_marker};
+ghost use Rattle.qoi.specs.Qoi.{Past, AreBytes, end_marker};
 ghost use Rattle.qoi.specs.Raw.{IsChannels};
 ghost use Rattle.qoi.specs.declared.decode.output.TheConstants.{RUN_ROOM};
 ghost use Rattle.qoi.specs.Verdicts.{IsPartOfChunk, EndsBefore};
@@ -106,6 +106,8 @@ pub(super) fn next_chunk<R: Read, const N: usize, const F: usize, const RUN_FITS
         (filling table.new decoded.last out.new decoded.at))) }
     ensures whole { IfOk result (λ decoded. decoded.at % N ≡ 0) }
     ensures within { IfOk result (λ decoded. (at < decoded.at) × (decoded.at ≤ length out.new)) }
+    ensures below { at + RUN_ROOM ≤ length out.old
+        → IfOk result (λ decoded. decoded.at < length out.new) }
     ensures failed { OnErr result (HasTaken (R.remaining reader.old) (R.remaining reader.new)
         IsPartOfChunk) }
 {
@@ -142,22 +144,23 @@ fn decode_chunks<R: Read, const N: usize, const F: usize, const RUN_FITS: bool>(
     at: usize,
 ) -> io::Result<Reached>
     requires channels { IsChannels N }
-    requires between { (n : ℕ) × (start : Option (List ℕ))
-        × DecoderBetween F N n (Consumes start (R.remaining reader.old))
-        (filling table.old last out.old at) }
-    ensures between { (n : ℕ) (start : Option (List ℕ))
-        → DecoderBetween F N n (Consumes start (R.remaining reader.old))
+    requires within { at ≤ length out.old }
+    requires whole { IsWholePixels N (length out.old) at }
+    ensures between { (gone : Past) (n : ℕ) (start : Option (List ℕ))
+        → DecoderBetween F N gone n (Consumes start (R.remaining reader.old))
         (filling table.old last out.old at)
-        → IfOk result (λ now. DecoderBetween F N n (Consumes start (R.remaining reader.new))
+        → IfOk result (λ now. DecoderBetween F N gone n (Consumes start (R.remaining reader.new))
         (filling table.new now.last out.new now.at)) }
     ensures below { IsTrue RUN_FITS → at < length out.old
         → IfOk result (λ now. now.at < length out.new) }
     ensures filled { IsTrue RUN_FITS → IfOk result (λ now. length out.new < now.at + RUN_ROOM) }
     ensures full { IsFalse RUN_FITS → IfOk result (λ now. length out.new ≤ now.at) }
-    ensures failed { (n : ℕ) (start : Option (List ℕ))
-        → DecoderBetween F N n (Consumes start (R.remaining reader.old))
+    ensures within { IfOk result (λ now. now.at ≤ length out.new) }
+    ensures whole { IfOk result (λ now. now.at % N ≡ 0) }
+    ensures failed { (gone : Past) (n : ℕ) (start : Option (List ℕ))
+        → DecoderBetween F N gone n (Consumes start (R.remaining reader.old))
         (filling table.old last out.old at)
-        → OnErr result (HasTaken start (R.remaining reader.new) (EndsBefore n)) }
+        → OnErr result (HasTaken start (R.remaining reader.new) (EndsBefore (length gone + n))) }
 {
     let least = if RUN_FITS { RUN_ROOM } else { 1 };
     let mut last = last;

@@ -17,6 +17,7 @@ mod errors;
 mod exact;
 mod facts;
 mod faults;
+mod following;
 mod generated;
 mod lengths;
 mod memory;

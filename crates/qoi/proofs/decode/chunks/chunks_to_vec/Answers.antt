@@ -1,10 +1,14 @@
 -- Each step is filled, but for less than a run, before the vector grows.
-use Rattle.std.proofs.Common.{◌≡◌, ◌-◌, ◌/◌, ◌%◌, ◌<◌, ◌++◌, length, replicate, sym, ap, ◌∙◌, arith}
+use Rattle.std.proofs.Common.{◌≡◌, [], ◌-◌, ◌/◌, ◌%◌, ◌<◌, ◌++◌, length, replicate, OnOk, IfErr, sym, ap, ◌∙◌, subst, arith}
 use Rattle.std.specs.Io.KnownBytes.{Consumes}
 use Rattle.std.proofs.KnownBytes.{Consumes-nil}
 use Rattle.std.proofs.lemmas.Result.{err_from_is_err_and}
 use Rattle.qoi.specs.inner.Filling.{filling, DecoderBetween}
-use Rattle.qoi.proofs.decoding.Grown.{grown, growing_start, growing_on, lent_back, some_channels, whole_step, fewer_pixels, none_whole, at_most, written_most}
+use Rattle.qoi.proofs.decoding.Grown.{grown, growing_start, growing_on, lent_back, some_channels, whole_sizes, whole_step, fewer_pixels, none_whole, at_most, written_most}
+use Rattle.qoi.specs.Decoding.{StreamsPixels}
+use Rattle.qoi.proofs.Results.{on_ok_of}
+use Rattle.qoi.proofs.decoding.Progress.{none_more, first_streams}
+use Rattle.qoi.specs.inner.Chunks.{RefusesChunks}
 use Rattle.qoi.proofs.decode.chunks.chunks_to_vec.Given.{Over}
 use Rattle.qoi.proofs.decode.chunks.chunks_to_vec.Goals.{After-deref_mut, After-deref_mut-2}
 use Rattle.qoi.proofs.decode.chunks.chunks_to_vec.Goals as goal
@@ -14,7 +18,7 @@ whole : (g : Over) (c : After-deref_mut g) → c.grow.new.out.len % g.row.N ≡ 
 whole g c = whole_step g.row.N c.loop-out.out.len c.grow.new.out.len c.requires.channels c.loop-out.invariant.whole (omega (arith, c.grow.ensures.len, c.len-in-loop-out.ensures))
 
 -- before a step is decoded
-before : (g : Over) (c : After-deref_mut g) → DecoderBetween g.row.F g.row.N (c.grow.new.out.len / g.row.N)
+before : (g : Over) (c : After-deref_mut g) → DecoderBetween g.row.F g.row.N [] (c.grow.new.out.len / g.row.N)
     (Consumes (g.R.Chunks.ahead c.args.reader.now) (g.R.Chunks.ahead c.loop-out.reader))
     (filling c.loop-out.table c.loop-out.last c.deref_mut.result.now c.loop-out.at)
 before g c =
@@ -24,7 +28,7 @@ before g c =
     (c.deref_mut.ensures.value ∙ c.grow.ensures.items ∙ ap (λ z. old.items ++ replicate (z - old.len) 0) (sym c.grow.ensures.len))
 
 -- before the last step is
-before_last : (g : Over) (c : After-deref_mut-2 g) → DecoderBetween g.row.F g.row.N (c.args.size / g.row.N)
+before_last : (g : Over) (c : After-deref_mut-2 g) → DecoderBetween g.row.F g.row.N [] (c.args.size / g.row.N)
     (Consumes (g.R.Chunks.ahead c.args.reader.now) (g.R.Chunks.ahead c.loop-out.reader))
     (filling c.loop-out.table c.loop-out.last c.deref_mut-2.result.now c.loop-out.at)
 before_last g c =
@@ -43,12 +47,11 @@ loop-out-init g c = record {
       c.requires.channels (sym c.args.out.now.ok.0 ∙ c.requires.empty) c.new-table.ensures c.start-last.ensures (Consumes-nil _);
 }
 
-pub some_chunks-requires-clause-between : goal.some_chunks-requires-clause-between
-some_chunks-requires-clause-between g c = (
-  c.grow.new.out.len / g.row.N,
-  g.R.Chunks.ahead c.args.reader.now,
-  before g (goal.at.some_chunks-requires-clause-between g c).After-deref_mut,
-)
+pub some_chunks-requires-clause-within : goal.some_chunks-requires-clause-within
+some_chunks-requires-clause-within g c = (before g (goal.at.some_chunks-requires-clause-within g c).After-deref_mut).within
+
+pub some_chunks-requires-clause-whole : goal.some_chunks-requires-clause-whole
+some_chunks-requires-clause-whole g c = whole_sizes c.requires.channels (before g (goal.at.some_chunks-requires-clause-whole g c).After-deref_mut)
 
 pub returns-in_err-now-clause-refused : goal.returns-in_err-now-clause-refused
 returns-in_err-now-clause-refused g c =
@@ -56,7 +59,7 @@ returns-in_err-now-clause-refused g c =
     let p = err_from_is_err_and c.from_residual.result c.from_residual.ensures.1 in
     let fewer = fewer_pixels g.row.N c.grow.new.out.len c.args.size c.requires.channels
     (omega (arith, c.loop-out-test.true, c.len.ensures, c.grow.ensures.len, c.len-in-loop-out.ensures)) in
-    rw (p.1, p.2) (c.in_err-now.ensures.refused _ _ (before g at) _ fewer)
+    rw (p.1, p.2) (c.in_err-now.ensures.refused [] _ _ (before g at) _ (rw (none_more (c.grow.new.out.len / g.row.N)) fewer))
 
 pub loop-out-preserved : goal.loop-out-preserved
 loop-out-preserved g c =
@@ -73,15 +76,30 @@ loop-out-preserved g c =
       room = omega (arith, i.room, c.grow.ensures.capacity);
       within = omega (arith, left, size);
       filled = omega (arith, c.in_ok-now.ensures.filled, size);
-      growing = growing_on c.some_chunks.new.out _ c.requires.channels (c.in_ok-now.ensures.between _ _ (before g at)) left (lent_back _ _ _ size);
+      growing = growing_on c.some_chunks.new.out _ c.requires.channels (c.in_ok-now.ensures.between [] _ _ (before g at)) left (lent_back _ _ _ size);
     }
 
-pub all_chunks-requires-clause-between : goal.all_chunks-requires-clause-between
-all_chunks-requires-clause-between g c = (
-  c.args.size / g.row.N,
-  g.R.Chunks.ahead c.args.reader.now,
-  before_last g (goal.at.all_chunks-requires-clause-between g c).After-deref_mut-2,
-)
+pub all_chunks-requires-clause-within : goal.all_chunks-requires-clause-within
+all_chunks-requires-clause-within g c = (before_last g (goal.at.all_chunks-requires-clause-within g c).After-deref_mut-2).within
+
+pub all_chunks-requires-clause-whole : goal.all_chunks-requires-clause-whole
+all_chunks-requires-clause-whole g c = whole_sizes c.requires.channels (before_last g (goal.at.all_chunks-requires-clause-whole g c).After-deref_mut-2)
+
+pub returns-clause-read : goal.returns-clause-read
+returns-clause-read g c =
+    let at = (goal.at.returns-clause-read g c).After-deref_mut-2 in
+    let out = c.all_chunks.new.out in
+    let start = g.R.Chunks.ahead c.args.reader.now in
+    let now = g.R.Chunks.ahead c.all_chunks.new.self in
+    let back = lent_back c.grow-2.new.out.len out c.grow-2.new.out.items (omega (arith, c.all_chunks.auto.out, c.deref_mut-2.ensures.len)) in
+    subst (λ z. OnOk c.all_chunks.result (StreamsPixels g.row.F g.row.N (c.args.size / g.row.N) start now z)) (sym back)
+    (on_ok_of _ first_streams (c.all_chunks.ensures.read [] _ _ (before_last g at)))
+
+pub returns-clause-refused : goal.returns-clause-refused
+returns-clause-refused g c =
+    let at = (goal.at.returns-clause-refused g c).After-deref_mut-2 in
+    subst (λ k. IfErr c.all_chunks.result (RefusesChunks g.R.Chunks.in_memory k (g.R.Chunks.ahead c.args.reader.now) (g.R.Chunks.ahead c.all_chunks.new.self)))
+    (none_more (c.args.size / g.row.N)) (c.all_chunks.ensures.refused [] _ _ (before_last g at))
 
 pub returns-in_err-now-clause-grown : goal.returns-in_err-now-clause-grown
 returns-in_err-now-clause-grown g c =

@@ -1,6 +1,8 @@
 -- The copies are written; if there isn't room for all, the buffer becomes full.
-use Rattle.std.proofs.Common.{◌<◌, ◌≤◌, length, arith}
+use Rattle.std.proofs.Common.{ℕ, ◌*◌, ◌<◌, ◌≤◌, length, arith}
+use Rattle.qoi.specs.Raw.{IsChannels}
 use Rattle.qoi.specs.inner.Hashed.{pixel_of_lanes}
+use Rattle.qoi.proofs.format.WholePixels.{by_channels}
 use Rattle.qoi.proofs.decoding.FilledBuffer.{filled_copies, filled_end, block_fits, run_fits, copies_fit, copies_end}
 use Rattle.qoi.proofs.decode.output.fill.Goals.{then-count+else-room-ge-BLOCK, else-count+else-room-ge-RUN_ROOM}
 use Rattle.qoi.proofs.decode.output.fill.Goals as goal
@@ -33,3 +35,20 @@ returns-clause-filled g c n past h =
     (rw (c.min-all.ensures, left, c.write_pixels.auto.out) ends)
     (filled_copies g.row.F g.row.N n c.args.out.now c.write_pixels.new.out at all _ past is c.requires.inside
     (rw (c.min-all.ensures, left) (copies_fit g.row.N at c.args.count size is within)) c.write_pixels.auto.out c.write_pixels.ensures h)
+
+-- the pixels of a run have fewer bytes than any run's blocks
+run_below : (c k : ℕ) → IsChannels c → k ≤ 62 → c * k ≤ 248
+run_below c k is = by_channels (λ d. k ≤ 62 → d * k ≤ 248) is (λ most. omega arith) (λ most. omega arith)
+
+pub returns-then-room-ge-BLOCK-clause-below : goal.returns-then-room-ge-BLOCK-clause-below
+returns-then-room-ge-BLOCK-clause-below g c room =
+    omega (arith, room, run_below g.row.N c.args.count c.requires.channels c.requires.some.1, c.requires.size, c.write_block.auto.out)
+
+pub returns-then-room-ge-RUN_ROOM-clause-below : goal.returns-then-room-ge-RUN_ROOM-clause-below
+returns-then-room-ge-RUN_ROOM-clause-below g c room =
+    omega (arith, room, run_below g.row.N c.args.count c.requires.channels c.requires.some.1, c.requires.size, c.write_run.auto.out)
+
+pub returns-clause-below : goal.returns-clause-below
+returns-clause-below g c room =
+    let few : c.min-all.result ≤ 62 = omega (arith, c.min-all.ensures, c.requires.some) in
+    omega (arith, room, run_below g.row.N c.min-all.result c.requires.channels few, c.write_pixels.auto.out)

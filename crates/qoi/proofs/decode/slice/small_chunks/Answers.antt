@@ -1,23 +1,26 @@
 -- Between chunks from the first one on.
-use Rattle.std.proofs.Common.{◌/◌, Some, length, refl, arith}
+use Rattle.std.proofs.Common.{[], ◌/◌, Some, length, refl, arith}
 use Rattle.std.specs.Io.KnownBytes.{Consumes}
 use Rattle.std.proofs.KnownBytes.{Consumes-nil}
 use Rattle.qoi.specs.inner.Filling.{filling, DecoderBetween}
-use Rattle.qoi.proofs.decoding.Progress.{start_between, streams_pixels}
+use Rattle.qoi.proofs.decoding.Progress.{none_written, start_between, streams_pixels, first_streams}
 use Rattle.qoi.proofs.decode.slice.small_chunks.Given.{Over}
 use Rattle.qoi.proofs.decode.slice.small_chunks.Goals.{After-start-start}
 use Rattle.qoi.proofs.decode.slice.small_chunks.Goals as goal
 
 -- before the first chunk
-before : (g : Over) (c : After-start-start g) → DecoderBetween g.row.F g.row.N (length c.args.out.now / g.row.N) (Consumes (Some c.args.data.now) (Some c.args.data.now))
+before : (g : Over) (c : After-start-start g) → DecoderBetween g.row.F g.row.N [] (length c.args.out.now / g.row.N) (Consumes (Some c.args.data.now) (Some c.args.data.now))
     (filling c.new-table.result c.start-start.result c.args.out.now 0)
 before g c = start_between g.row.F g.row.N (Consumes (Some c.args.data.now) (Some c.args.data.now)) _ _ c.args.out.now
     c.requires.channels c.requires.whole c.new-table.ensures c.start-start.ensures (Consumes-nil (Some c.args.data.now))
 
+pub last_chunks-requires : goal.last_chunks-requires
+last_chunks-requires g c = (omega arith, (c.requires.channels, (omega arith, (c.requires.whole, none_written g.row.N c.requires.channels))))
+
 pub returns-in_default : goal.returns-in_default
-returns-in_default g c = c.in_default.ensures.between _ (Some c.args.data.now) (before g (goal.at.returns-in_default g c).After-start-start) _ (omega arith)
+returns-in_default g c = c.in_default.ensures.between [] _ (Some c.args.data.now) (before g (goal.at.returns-in_default g c).After-start-start) _ (omega arith)
 
 pub returns : goal.returns
 returns g c =
-    streams_pixels c.requires.channels
-    (c.in-Some.ensures.between _ (Some c.args.data.now) (before g (goal.at.returns g c).After-start-start)) (c.in-Some.ensures.full refl)
+    first_streams (streams_pixels c.requires.channels
+    (c.in-Some.ensures.between [] _ (Some c.args.data.now) (before g (goal.at.returns g c).After-start-start)) (c.in-Some.ensures.full refl))

@@ -7,11 +7,13 @@ loop-now-preserved-then-is_short g c =
     let before = c.loop-now.invariant in
     let short = c.short_chunks-now.ensures in
     record {
-      between = λ n front h. short.between n front (before.between n front h);
+      between = λ gone n front h. short.between gone n front (before.between gone n front h);
       byte = short.byte;
       within = omega (arith, short.taken, c.loop-now-test.true, c.if-bytes-lt-INPUT_ROOM.false);
       written = omega (arith, before.written, short.written);
-      below = λ inside. omega (arith, short.written, c.loop-now-test.true, c.if-bytes-lt-INPUT_ROOM.false, c.short_chunks-now.auto.out);
+      inside = λ _. omega (arith, short.written, c.loop-now-test.true, c.if-bytes-lt-INPUT_ROOM.false, c.short_chunks-now.auto.out);
+      below = λ _. omega (arith, short.written, c.loop-now-test.true, c.if-bytes-lt-INPUT_ROOM.false, c.short_chunks-now.auto.out);
+      whole = λ whole. short.whole (before.whole whole);
     }
 
 pub loop-now-preserved-then-now : goal.loop-now-preserved-then-now
@@ -20,11 +22,13 @@ loop-now-preserved-then-now g c =
     let short = c.short_chunks-now.ensures in
     let full = c.full_chunk-now.ensures in
     record {
-      between = λ n front h. full.between n front (short.between n front (before.between n front h));
+      between = λ gone n front h. full.between gone n front (short.between gone n front (before.between gone n front h));
       byte = full.byte;
       within = omega (arith, full.taken, short.taken, c.loop-now-test.true, c.if-bytes-lt-INPUT_ROOM.false);
       written = omega (arith, before.written, short.written, full.written);
-      below = λ inside. omega (arith, short.written, full.most, c.loop-now-test.true, c.if-bytes-lt-INPUT_ROOM.false, c.short_chunks-now.auto.out, c.full_chunk-now.auto.out);
+      inside = λ _. omega (arith, short.written, full.most, c.loop-now-test.true, c.if-bytes-lt-INPUT_ROOM.false, c.short_chunks-now.auto.out, c.full_chunk-now.auto.out);
+      below = λ _. omega (arith, short.written, full.most, c.loop-now-test.true, c.if-bytes-lt-INPUT_ROOM.false, c.short_chunks-now.auto.out, c.full_chunk-now.auto.out);
+      whole = λ whole. full.whole (short.whole (before.whole whole));
     }
 
 pub loop-now-preserved : goal.loop-now-preserved
@@ -33,9 +37,11 @@ loop-now-preserved g c =
     let short = c.short_chunks-now.ensures in
     let run = c.long_run-now.ensures in
     record {
-      between = λ n front h. run.between n front (short.between n front (before.between n front h));
+      between = λ gone n front h. run.between gone n front (short.between gone n front (before.between gone n front h));
       byte = run.byte;
       within = omega (arith, run.taken, short.taken, c.loop-now-test.true, c.if-bytes-lt-INPUT_ROOM.false);
       written = omega (arith, before.written, short.written, run.written);
-      below = λ inside. omega (arith, run.below, c.long_run-now.auto.out);
+      inside = λ _. omega (arith, run.below, c.long_run-now.auto.out);
+      below = λ _. omega (arith, run.below, c.long_run-now.auto.out);
+      whole = λ whole. run.whole (short.whole (before.whole whole));
     }

@@ -1,18 +1,18 @@
 -- The pixel has the chunk's channels, except alpha for an RGB chunk.
-use Rattle.std.proofs.Common.{◌≡◌, ◌+◌, ◌-◌, ◌≤◌, inl, inr, take, drop, length, get_or, arith, sym, ap, ◌∙◌}
+use Rattle.std.proofs.Common.{◌≡◌, ◌+◌, ◌-◌, ◌%◌, ◌≤◌, inl, inr, take, drop, length, get_or, arith, sym, ap, ◌∙◌}
 use Rattle.std.proofs.lemmas.Bool.{cases_lt}
 use Rattle.std.proofs.lemmas.Bool.Decides.{nat_tests}
 use Rattle.std.proofs.lemmas.List.{get_or-drop, length-drop}
 use Rattle.qoi.specs.declared.decode.fast.Progress.{Progress}
 use Rattle.qoi.specs.Qoi.{AreBytes}
-use Rattle.qoi.proofs.format.WholePixels.{take_whole}
+use Rattle.qoi.proofs.format.WholePixels.{by_channels, take_whole}
 use Rattle.qoi.proofs.decoding.FilledBuffer.{block_fits}
 use Rattle.qoi.proofs.decoding.FirstChunk.{decodes_rgb, decodes_rgba}
 use Rattle.qoi.proofs.decoding.FastSteps.{in_block, fast_step}
 use Rattle.qoi.proofs.decode.fast.Progress.full_chunk.Goals as goal
 
 pub returns-clause-between : goal.returns-clause-between
-returns-clause-between g c n before h =
+returns-clause-between g c gone n before h =
     let now = c.args.self in
     let bytes = c.args.bytes.now in
     let is = c.requires.channels in
@@ -35,3 +35,7 @@ returns-clause-between g c n before h =
           let is_rgba : get_or rest 0 0 ≡ 255 = omega (arith, first, rgba, c.requires.full) in
           step 5 (grind (arith, nat_tests)) (decodes_rgba rest long fits is_rgba (pixel.rgba is_rgba))
     ]
+
+pub returns-clause-whole : goal.returns-clause-whole
+returns-clause-whole g c whole =
+    by_channels (λ k. c.args.self.at % k ≡ 0 → (c.args.self.at + k) % k ≡ 0) c.requires.channels (λ w. omega arith) (λ w. omega arith) whole

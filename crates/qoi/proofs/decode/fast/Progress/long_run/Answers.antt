@@ -5,12 +5,12 @@ use Rattle.qoi.specs.declared.decode.fast.Progress.{Progress}
 use Rattle.qoi.specs.inner.Filling.{upto, HasWritten}
 use Rattle.qoi.specs.inner.Hashed.{pixel_of_lanes}
 use Rattle.qoi.proofs.decoding.FirstChunk.{decodes_run}
-use Rattle.qoi.proofs.decoding.FastSteps.{fast_step}
+use Rattle.qoi.proofs.decoding.FastSteps.{whole_after, fast_step}
 use Rattle.qoi.proofs.decode.fast.Progress.long_run.Goals.{then-out-self-ge-RUN_ROOM, else-out-self-ge-RUN_ROOM}
 use Rattle.qoi.proofs.decode.fast.Progress.long_run.Goals as goal
 
 pub returns-clause-between : goal.returns-clause-between
-returns-clause-between g c n before h =
+returns-clause-between g c gone n before h =
     let now = c.args.self in
     let bytes = c.args.bytes.now in
     let is = c.requires.channels in
@@ -26,3 +26,6 @@ returns-clause-between g c n before h =
     elim c.if-out-self-ge-RUN_ROOM.branch [ then-out-self-ge-RUN_ROOM w ↦ rw w.out-is w.write_run.ensures | else-out-self-ge-RUN_ROOM w ↦ rw w.out-is w.write_late_run.ensures ] in
     fast_step now new count is h (omega (arith, c.requires.room)) (omega (arith, c.requires.room)) c.if-out-self-ge-RUN_ROOM.auto.out refl c.put.ensures written c.from.ensures 1 refl
     (decodes_run rest count long (sym first ∙ sym often) some most)
+
+pub returns-clause-whole : goal.returns-clause-whole
+returns-clause-whole g c whole = whole_after g.row.N c.args.self.at (c.args.self.next - 191) c.requires.channels whole

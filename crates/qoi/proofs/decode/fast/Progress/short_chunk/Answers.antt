@@ -1,15 +1,15 @@
 -- The chunk's pixel is the sum, its copies are those of the block, and the byte after it is picked.
-use Rattle.std.proofs.Common.{◌≡◌, ◌+◌, ◌<◌, ◌≤◌, drop, length, get_or, arith, sym, ap, ◌∙◌}
+use Rattle.std.proofs.Common.{◌≡◌, ◌+◌, ◌%◌, ◌<◌, ◌≤◌, drop, length, get_or, arith, sym, ap, ◌∙◌, subst}
 use Rattle.std.proofs.lemmas.List.{get_or-drop, length-drop}
 use Rattle.qoi.specs.declared.decode.fast.Progress.{Progress}
 use Rattle.qoi.specs.inner.Hashed.{pixel_of_lanes}
 use Rattle.qoi.proofs.decoding.FilledBuffer.{block_fits}
 use Rattle.qoi.proofs.decoding.FirstChunk.{size_of, decodes_short}
-use Rattle.qoi.proofs.decoding.FastSteps.{short_count, next_byte, fast_step}
+use Rattle.qoi.proofs.decoding.FastSteps.{short_count, whole_after, next_byte, fast_step}
 use Rattle.qoi.proofs.decode.fast.Progress.short_chunk.Goals as goal
 
 pub returns-clause-between : goal.returns-clause-between
-returns-clause-between g c n before h =
+returns-clause-between g c gone n before h =
     let now = c.args.self in
     let bytes = c.args.bytes.now in
     let is = c.requires.channels in
@@ -31,3 +31,9 @@ returns-clause-between g c n before h =
       luma = c.after_short-last.ensures.luma;
       run = c.after_short-last.ensures.run;
     }))
+
+pub returns-clause-whole : goal.returns-clause-whole
+returns-clause-whole g c whole =
+    let is = c.requires.channels in
+    let s = short_count g.row.N c.args.self.next c.advance.result is c.requires.short c.advance.ensures.once c.advance.ensures.run in
+    subst (λ k. (c.args.self.at + k) % g.row.N ≡ 0) (sym s.size_is) (whole_after g.row.N c.args.self.at s.count is whole)

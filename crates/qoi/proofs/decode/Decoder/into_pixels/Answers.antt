@@ -1,0 +1,15 @@
+-- Nothing was given yet.
+use Rattle.std.proofs.Common.{refl, arith, ◌∙◌}
+use Rattle.std.proofs.Math.Nat.{mul_comm}
+use Rattle.qoi.specs.Qoi.{channels_number, pixel_count}
+use Rattle.qoi.proofs.decoding.ImageSize.{channels_are}
+use Rattle.qoi.proofs.decoding.PixelPieces.{has_given}
+use Rattle.qoi.proofs.decode.Decoder.into_pixels.Goals as goal
+
+pub returns-clause-start : goal.returns-clause-start
+returns-clause-start g c =
+    let d = c.args.self in
+    let n = pixel_count d.header in
+    let k = channels_number d.channels in
+    let size = c.required_buf_len-size.ensures in
+    has_given d _ _ _ _ (c.new.ensures.start (channels_number d.header.channels) k n _ (channels_are d.channels k refl) (size.bytes ∙ mul_comm n k)) refl refl refl (omega (arith, size.bytes, size.some))

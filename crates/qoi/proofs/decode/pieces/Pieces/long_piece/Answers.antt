@@ -1,0 +1,42 @@
+-- What was lent is decoded.
+use Rattle.std.proofs.Common.{◌≡◌, ℕ, ◌*◌, ◌/◌, ◌<◌, ◌≤◌, List, take, length, Option, arith}
+use Rattle.std.proofs.lemmas.Result.{err_from_is_err_and}
+use Rattle.qoi.specs.declared.decode.pieces.Pieces.{Pieces}
+use Rattle.qoi.specs.Raw.{IsChannels}
+use Rattle.qoi.specs.inner.Pieces.{bytes_left, GivesPieces}
+use Rattle.qoi.proofs.decoding.PieceSteps.{Lent, lent, whole_front, front_most, long_read, times_whole, minus_whole}
+use Rattle.qoi.proofs.decode.pieces.Pieces.long_piece.Goals as goal
+
+-- the whole pixels at the front are lent
+front_lent : {f c n : ℕ} {start old : Option (List ℕ)} {given : List ℕ} (p : Pieces) (out : List ℕ) → IsChannels c → GivesPieces f c n start old given p
+    → (0 < length out → p.from ≡ p.to) → length out ≤ bytes_left p → 1536 ≤ length out
+    → Lent f c n (length out / c) start old given p (take (length out / c * c) out)
+front_lent {c = c} p out is h none fits long =
+    let same = none (omega (arith, long)) in
+    let most = front_most c out is in
+    lent (length out / c) (take (length out / c * c) out) is h same (omega (arith, same, fits, long)) (whole_front c out is) (omega (arith, same, fits, most.0))
+
+pub some_chunks-requires-clause-whole : goal.some_chunks-requires-clause-whole
+some_chunks-requires-clause-whole g c =
+    times_whole g.row.N _ _ c.requires.channels (whole_front g.row.N c.args.out.now c.requires.channels)
+
+pub returns-clause-pixels : goal.returns-clause-pixels
+returns-clause-pixels g c =
+    (c.requires.pixels.0, minus_whole g.row.N c.args.self.now.undecoded c.in_ok-now.now.at c.requires.channels c.requires.pixels.1 c.in_ok-now.ensures.whole)
+
+pub returns-in_err-now-clause-refused : goal.returns-in_err-now-clause-refused
+returns-in_err-now-clause-refused g c n start given h =
+    let p = err_from_is_err_and c.from_residual.result c.from_residual.ensures.1 in
+    let l = front_lent c.args.self.now c.args.out.now c.requires.channels h c.requires.none c.requires.fits (omega (arith, c.if-out-lt-IN_PLACE.false)) in
+    rw (p.1, p.2) (c.in_err-now.ensures.refused l.gone _ _ l.before n l.most)
+
+pub returns-clause-read : goal.returns-clause-read
+returns-clause-read g c n start given h =
+    let out = c.args.out.now in
+    let long : 1536 ≤ length out = omega (arith, c.if-out-lt-IN_PLACE.false) in
+    let l = front_lent c.args.self.now out c.requires.channels h c.requires.none c.requires.fits long in
+    let most = front_most g.row.N out c.requires.channels in
+    let same = c.requires.none (omega (arith, long)) in
+    let size : length c.some_chunks.new.out ≡ length (take (length out / g.row.N * g.row.N) out) = c.some_chunks.auto.out in
+    long_read c.some_chunks.new.out _ _ c.requires.channels h same l (c.in_ok-now.ensures.between l.gone _ _ l.before)
+    (c.in_ok-now.ensures.below (omega (arith, most, long))) (omega (arith, size, most.0, c.requires.fits, same))

@@ -1,0 +1,66 @@
+-- More bytes of the image are read, until none are left.
+use Rattle.std.proofs.Common.{◌≡◌, [], ◌++◌, take, Result, Ok, Err, IsErrOf, refl, sym, ap, ◌∙◌, subst, append_assoc, append-nil, arith}
+use Rattle.std.proofs.lemmas.Result.{err_from_is_err_and}
+use Rattle.qoi.specs.declared.error.Error.TheVariants.{UnexpectedBufferEnd}
+use Rattle.qoi.specs.Decoded.{HasDecoded}
+use Rattle.qoi.specs.PixelReader.{HasGiven, IsSpent}
+use Rattle.qoi.proofs.decode.pixel_reader.PixelReader.finish.Goals as goal
+
+-- a success is no error
+not_err : {T E : Type 0} (r : Result T E) (x : T) (e : E) → r ≡ Ok x → IsErrOf r e → ⊥
+not_err r x e is h = cc
+
+pub loop-buf-init : goal.loop-buf-init
+loop-buf-init g c = record {
+  read = λ d start given h. ([], subst (λ z. HasGiven d start (g.R.Reader.ahead c.args.self.reader) z c.args.self) (sym (append-nil given)) h);
+  same = (refl, refl);
+  spent = λ is. refl;
+}
+
+pub loop-buf-smaller : goal.loop-buf-smaller
+loop-buf-smaller g c = omega (arith, c.in_ok-read.ensures.left, c.in_ok-read.ensures.size, c.left.ensures, c.loop-buf-test.true)
+
+pub loop-buf-preserved : goal.loop-buf-preserved
+loop-buf-preserved g c =
+    let i = c.loop-buf.invariant in
+    let piece = take c.in_ok-read.field-0 c.read.new.buf in
+    let same = c.in_ok-read.ensures.unchanged in
+    record {
+      read = λ d start given h.
+          let (rest, before) = i.read d start given h in (
+            rest ++ piece,
+            subst (λ z. HasGiven d start (g.R.Reader.ahead c.read.new.self.reader) z c.read.new.self) (append_assoc given rest piece)
+                (c.in_ok-read.ensures.read d start (given ++ rest) before),
+          );
+      same = (same.0 ∙ i.same.0, same.1 ∙ i.same.1);
+      spent = λ is. absurd (not_err c.read.result c.in_ok-read.field-0 _ c.in_ok-read.was
+          (c.read.ensures.again (subst IsSpent (sym (i.spent is)) is) (omega arith)).0);
+    }
+
+pub returns-in_err-read-clause-refused : goal.returns-in_err-read-clause-refused
+returns-in_err-read-clause-refused g c d start given h =
+    let p = err_from_is_err_and c.from_residual.result c.from_residual.ensures.1 in
+    let (rest, before) = c.loop-buf.invariant.read d start given h in
+    rw (p.1, p.2) (_, c.in_err-read.ensures.refused d start (given ++ rest) before)
+
+pub returns-in_err-read-clause-again : goal.returns-in_err-read-clause-again
+returns-in_err-read-clause-again g c is =
+    let p = err_from_is_err_and c.from_residual.result c.from_residual.ensures.1 in
+    let again = (c.in_err-read.ensures.again (subst IsSpent (sym (c.loop-buf.invariant.spent is)) is) (omega arith)).0 in
+    let e : c.in_err-read.field-0.0 ≡ UnexpectedBufferEnd = cc again in
+    rw (p.1, p.2) (ap Err e)
+
+pub returns-clause-finished : goal.returns-clause-finished
+returns-clause-finished g c d start given h =
+    let (rest, all) = c.loop-buf.invariant.read d start given h in
+    (rest, subst (λ z. HasDecoded d start (g.R.Reader.ahead z.reader) (given ++ rest)) (sym c.into_decoder.ensures) (all.whole (omega (arith, c.left.ensures, c.loop-buf-test.false))))
+
+pub returns-clause-same : goal.returns-clause-same
+returns-clause-same g c =
+    let i = c.loop-buf.invariant in
+    rw c.into_decoder.ensures (rw (i.same.0, i.same.1) refl)
+
+pub returns-clause-again : goal.returns-clause-again
+returns-clause-again g c is =
+    let now : IsSpent c.loop-buf.self = subst IsSpent (sym (c.loop-buf.invariant.spent is)) is in
+    absurd (omega (arith, now.1, c.left.ensures, c.loop-buf-test.false))

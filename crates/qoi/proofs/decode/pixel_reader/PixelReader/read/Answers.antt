@@ -1,0 +1,37 @@
+-- A piece more is given, or the image is refused.
+use Rattle.std.proofs.Common.{◌≡◌, ◌++◌, take, drop, length, arith, refl, sym, ap, ◌∙◌, subst}
+use Rattle.std.proofs.lemmas.List.{length-take-le}
+use lib.Seq.{take-append_seam}
+use Rattle.qoi.specs.Qoi.{IsValid, pixel_count}
+use Rattle.qoi.specs.PixelReader.{PixelsState, HasGiven}
+use Rattle.qoi.specs.inner.Chunks.{RefusesChunks}
+use Rattle.qoi.proofs.decoding.PixelPieces.{byte_bounds, has_given, pieces_of, refuses_pixels}
+use Rattle.qoi.proofs.decode.pixel_reader.PixelReader.read.Goals as goal
+
+pub returns-in-Ok-clause-read : goal.returns-in-Ok-clause-read
+returns-in-Ok-clause-read g c d start given h =
+    let header = ap (λ s. s.header) c.self.view_is ∙ h.header in
+    let chosen = ap (λ s. s.channels) c.self.view_is ∙ h.channels in
+    let ahead = ap (λ s. g.R.Reader.ahead s.reader) c.self.view_is in
+    let pieces = ap (λ s. s.pieces) c.self.view_is in
+    let going = ap (λ s. s.refused) c.self.view_is ∙ h.going in
+    let after = pieces_of (sym header) (sym chosen) refl refl (c.in-Ok.ensures.read start given (pieces_of header chosen ahead pieces h.pieces)) in
+    let out = c.next_piece.new.out in
+    let size : c.min-size.result ≡ length out = omega (arith, c.next_piece.auto.out, length-take-le c.min-size.result c.args.buf.now (omega (arith, c.min-size.ensures))) in
+    let front = ap (λ k. take k (out ++ drop c.min-size.result c.args.buf.now)) size ∙ take-append_seam out (drop c.min-size.result c.args.buf.now) in
+    let valid : IsValid d.header = subst IsValid header c.self.invariant.0 in
+    let same = c.next_piece.ensures.unchanged in
+    let e = c.next_piece.new.self in
+    let then : PixelsState _ = record { reader = e.reader; header = e.header; channels = e.channels; pieces = c.next_piece.new.pieces; refused = c.self.inside.refused } in
+    subst (λ z. HasGiven d start (g.R.Reader.ahead e.reader) (given ++ z) then) (sym front)
+    (has_given d start _ (given ++ out) then after (ap (λ s. s.header) same ∙ header) (ap (λ s. s.channels) same ∙ chosen) going (byte_bounds d.header d.channels valid).0)
+
+pub returns-in-Err-clause-refused : goal.returns-in-Err-clause-refused
+returns-in-Err-clause-refused g c d start given h =
+    let header = ap (λ s. s.header) c.self.view_is ∙ h.header in
+    let chosen = ap (λ s. s.channels) c.self.view_is ∙ h.channels in
+    let ahead = ap (λ s. g.R.Reader.ahead s.reader) c.self.view_is in
+    let pieces = ap (λ s. s.pieces) c.self.view_is in
+    refuses_pixels g.R.Reader.in_memory d start _ c.in-Err.e
+    (subst (λ k. RefusesChunks g.R.Reader.in_memory (pixel_count k) start (g.R.Reader.ahead c.next_piece.new.self.reader) c.in-Err.e) header
+    (c.in-Err.ensures.refused start given (pieces_of header chosen ahead pieces h.pieces)))

@@ -1,0 +1,105 @@
+-- The pieces so far are the beginning of an image that stands ahead.
+use Rattle.std.proofs.Common.{◌≡◌, ℕ, ◌+◌, ◌-◌, ◌*◌, ◌<◌, ◌≤◌, inl, inr, List, [], ◌∷◌, ◌++◌, length, take, reverse, Option, None, Some, IfSome, arith, refl, sym, ap, ◌∙◌, subst, append_assoc, length-append}
+use Rattle.std.proofs.lemmas.List.{length-reverse, reverse-append, reverse-reverse}
+use Rattle.std.proofs.lemmas.Bool.{cases_lt}
+use Rattle.std.proofs.lemmas.Grind.{flat_map-append}
+use Rattle.std.proofs.Math.Seq.{take-append_seam, take-append-add}
+use Rattle.qoi.specs.declared.chunk.Chunk.{Chunk}
+use Rattle.qoi.specs.declared.header.Header.{Header}
+use Rattle.qoi.specs.declared.types.Channels.{Channels}
+use Rattle.qoi.specs.declared.decode.pieces.Pieces.{Pieces}
+use Rattle.qoi.specs.Qoi.{Past, AreChunks, bytes_of, chunk_bytes, end_marker, then_chunk, then_chunks, meaning, channels_number, pixel_count}
+use Rattle.qoi.specs.Raw.{IsChannels, pixel_bytes, output}
+use Rattle.qoi.specs.Verdicts.{IsWhole}
+use Rattle.qoi.specs.Images.{front_image}
+use Rattle.qoi.specs.Reading.{StandsAhead}
+use Rattle.qoi.specs.DecoderState.{TakesAtMost}
+use Rattle.qoi.specs.inner.Pieces.{kept, GivesPieces}
+use Rattle.qoi.proofs.format.Appended.{length-meaning}
+use Rattle.qoi.proofs.format.ChunkSteps.{given as pixels_after, then_chunks_given, then_chunks-append}
+use Rattle.qoi.proofs.format.ChunksApart.{chunks_apart}
+use Rattle.qoi.proofs.format.WholePixels.{by_channels, length-output}
+use Rattle.qoi.proofs.decoding.Ahead.{image_read}
+use Rattle.qoi.proofs.decoding.FrontImage.{image_is}
+use Rattle.qoi.proofs.decoding.ImageSize.{channels_are}
+use Rattle.qoi.proofs.decoding.PieceSteps.{longer, kept_long}
+use Rattle.qoi.proofs.decoding.TakenBytes.{bytes_within, read_within}
+
+-- a reading that goes on is the beginning of one that reaches n pixels
+begins : (n : ℕ) (past : Past) (cs ds : List Chunk) (x y : List ℕ) → AreChunks cs → AreChunks ds → chunk_bytes cs ++ x ≡ chunk_bytes ds ++ y
+    → length (then_chunks past cs) < n → n ≤ length (then_chunks past ds) → (more : List Chunk) × (ds ≡ cs ++ more)
+begins n past [] ds x y hc hd e short enough = (ds, refl)
+begins n past (c ∷ cs) [] x y hc hd e short enough = absurd (omega (arith, longer past (c ∷ cs), short, enough))
+begins n past (c ∷ cs) (d ∷ ds) x y hc hd e short enough =
+    let f : bytes_of c ++ (chunk_bytes cs ++ x) ≡ bytes_of d ++ (chunk_bytes ds ++ y) =
+    sym (append_assoc (bytes_of c) (chunk_bytes cs) x) ∙ e ∙ append_assoc (bytes_of d) (chunk_bytes ds) y in
+    let first = chunks_apart c d (chunk_bytes cs ++ x) (chunk_bytes ds ++ y) hc.0 hd.0 f in
+    let on = begins n (then_chunk past c) cs ds x y hc.1 hd.1 first.1 short
+    (subst (λ b. n ≤ length (then_chunks (then_chunk past b) ds)) (sym first.0) enough) in
+    (on.0, ap (λ b. b ∷ ds) (sym first.0) ∙ ap (λ z. c ∷ z) on.1)
+
+-- what stands at the front
+seam : {A : Type 0} (xs ys zs : List A) → zs ≡ xs ++ ys → xs ≡ take (length xs) zs
+seam xs ys zs e = sym (ap (take (length xs)) e ∙ take-append_seam xs ys)
+
+-- fewer pixels are gone than there are
+few_gone : (f c n l : ℕ) (gone : Past) (given kept : List ℕ) (undecoded : ℕ) → IsChannels c → given ++ kept ≡ output f c (reverse gone) → length kept ≡ l
+    → length given + (l + undecoded) ≡ c * n → 0 < undecoded → length gone < n
+few_gone f c n l gone given kept undecoded is e kept_is size some =
+    let many : length (given ++ kept) ≡ c * length gone = ap length e ∙ length-output f c (reverse gone) is ∙ ap (λ k. c * k) (length-reverse gone) in
+    by_channels (λ k. length (given ++ kept) ≡ k * length gone → length given + (l + undecoded) ≡ k * n → length gone < n) is
+    (λ a b. omega (arith, length-append given kept, kept_is, some)) (λ a b. omega (arith, length-append given kept, kept_is, some)) many size
+
+-- for n pixels at most 5n + 8 bytes were taken
+pub pieces_within : (f c n : ℕ) (start now : Option (List ℕ)) (given : List ℕ) (p : Pieces) → IsChannels c → GivesPieces f c n start now given p
+    → TakesAtMost (5 * n + 8) start now
+pieces_within f c n start now given p is h =
+    elim (cases_lt 0 p.undecoded) [
+      | inl some ↦
+          let (gone, stands, e) = h.goes_on some in
+          let few : length gone < n = few_gone f c n _ gone given (kept p) p.undecoded is e (kept_long p h.within) h.size some in
+          (chunk_bytes stands.cs, stands.taken, omega (arith, bytes_within [] stands.cs stands.chunks, ap length stands.pixels, few))
+      | inr none ↦ read_within f c n start now (given ++ kept p) (h.ends (omega (arith, none)))
+    ]
+
+-- the image's pixels are those that are gone and others
+more_pixels : (n : ℕ) (cs more : List Chunk) (gone : Past) → then_chunks [] cs ≡ gone → length gone < n
+    → take n (meaning (cs ++ more)) ≡ reverse gone ++ take (n - length gone) (pixels_after gone more)
+more_pixels n cs more gone is few =
+    let all : meaning (cs ++ more) ≡ reverse gone ++ pixels_after gone more =
+    ap reverse (then_chunks-append [] cs more ∙ ap (λ z. then_chunks z more) is ∙ then_chunks_given gone more)
+    ∙ reverse-append (reverse (pixels_after gone more)) gone ∙ ap (λ z. reverse gone ++ z) (reverse-reverse (pixels_after gone more)) in
+    let count : n ≡ length (reverse gone) + (n - length gone) = omega (arith, length-reverse gone, few) in
+    ap (take n) all ∙ ap (λ k. take k (reverse gone ++ pixels_after gone more)) count ∙ take-append-add (reverse gone) (pixels_after gone more) (n - length gone)
+
+-- the pieces so far are the beginning of the image
+pub front_given : (channels : Channels) (h : Header) (start now : Option (List ℕ)) (given : List ℕ) (p : Pieces)
+    → GivesPieces (channels_number h.channels) (channels_number channels) (pixel_count h) start now given p
+    → IfSome start (λ bytes. StandsAhead h bytes → given ≡ take (length given) (front_image channels h bytes))
+unfolding StandsAhead
+front_given channels h None now given p s = tt
+front_given channels h (Some bytes) now given p s = λ (ds, rest, whole).
+    elim (cases_lt 0 p.undecoded) [
+      | inl some ↦ going ds rest whole now given p s some
+      | inr none ↦ let read = image_read channels h bytes now (given ++ kept p) (s.ends (omega (arith, none))) in
+          seam given (kept p) _ (sym (image_is channels h bytes read.0 (given ++ kept p) read.2))
+    ]
+  where
+    going : (ds : List Chunk) (rest : List ℕ) → IsWhole (pixel_count h) bytes ds rest → (now : Option (List ℕ)) (given : List ℕ) (p : Pieces)
+        → GivesPieces (channels_number h.channels) (channels_number channels) (pixel_count h) (Some bytes) now given p → 0 < p.undecoded
+        → given ≡ take (length given) (front_image channels h bytes)
+    going ds rest whole None given p s some = let (gone, stands, e) = s.goes_on some in absurd stands.taken
+    going ds rest whole (Some left) given p s some =
+        let f = channels_number h.channels in
+        let c = channels_number channels in
+        let n = pixel_count h in
+        let (gone, stands, e) = s.goes_on some in
+        let few : length gone < n = few_gone f c n _ gone given (kept p) p.undecoded (channels_are channels c refl) e (kept_long p s.within) s.size some in
+        let b = begins n [] stands.cs ds left (end_marker ++ rest) stands.chunks whole.has.chunks (sym stands.taken ∙ whole.has.split)
+        (omega (arith, few, ap length stands.pixels)) (omega (arith, whole.enough, length-meaning ds)) in
+        let pixels = ap (λ z. take n (meaning z)) b.1 ∙ more_pixels n stands.cs b.0 gone stands.pixels few in
+        let others = output f c (take (n - length gone) (pixels_after gone b.0)) in
+        let image : front_image channels h bytes ≡ output f c (reverse gone) ++ others =
+        sym (image_is channels h bytes rest (output f c (take n (meaning ds))) (record { cs = ds; whole = whole; out_is = refl }))
+        ∙ ap (output f c) pixels ∙ flat_map-append (pixel_bytes f c) (reverse gone) (take (n - length gone) (pixels_after gone b.0)) in
+        seam given (kept p ++ others) _ (image ∙ ap (λ z. z ++ others) (sym e) ∙ append_assoc given (kept p) others)

@@ -1,0 +1,58 @@
+-- What a contract sees of an image that is decoded piece by piece.
+use Rattle.std.specs.Prelude.{◌≡◌, ℕ, ◌+◌, ◌*◌, ◌<◌, List, length, take, Bool, true, false, Option, IfSome}
+use Rattle.qoi.specs.declared.types.Channels.{Channels}
+use Rattle.qoi.specs.declared.error.Error.{Error}
+use Rattle.qoi.specs.declared.header.Header.{Header}
+use Rattle.qoi.specs.declared.decode.pieces.Pieces.{Pieces}
+use Rattle.qoi.specs.Qoi.{channels_number, pixel_count, chunk_max, marker_size}
+use Rattle.qoi.specs.DecoderState.{DecoderState, output_byte_count, TakesAtMost}
+use Rattle.qoi.specs.Images.{front_image}
+use Rattle.qoi.specs.Reading.{StandsAhead}
+use Rattle.qoi.specs.Decoded.{HasDecoded, HasRefused}
+use Rattle.qoi.specs.inner.Pieces.{GivesPieces, bytes_left}
+
+-- the reader as it stands, the header of the file, the channels of the output, what stands between two
+-- pieces, and whether the image was refused
+pub record PixelsState (R : Type 0) : Type 0 where
+  pub reader : R
+  pub header : Header
+  pub channels : Channels
+  pub pieces : Pieces
+  pub refused : Bool
+
+-- the decoder as it stands
+abbrev pub as_decoder : {R : Type 0} → PixelsState R → DecoderState R
+as_decoder p = record { reader = p.reader; header = p.header; channels = p.channels }
+
+-- how many bytes of the image weren't read yet
+unfoldable pub pixels_left : {R : Type 0} → PixelsState R → ℕ
+pixels_left p = bytes_left p.pieces
+
+-- Of the image that the decoder d, with the bytes `start` ahead, decodes, `given` were read so far,
+-- and `now` is ahead.
+pub record HasGiven {R : Type 0} (d : DecoderState R) (start now : Option (List ℕ)) (given : List ℕ) (p : PixelsState R) : Type 0 where
+  -- the image wasn't refused
+  pub going : p.refused ≡ false
+  -- chunks at the front of `start` were taken, and these are the first bytes of their pixels
+  pub pieces : GivesPieces (channels_number d.header.channels) (channels_number d.channels) (pixel_count d.header) start now given p.pieces
+  -- header and channels are the decoder's
+  pub header : p.header ≡ d.header
+  pub channels : p.channels ≡ d.channels
+  -- the image has as many bytes as were read and are left
+  pub left : length given + pixels_left p ≡ output_byte_count d
+  -- of an image that stands ahead, the bytes that were read are the first ones
+  pub front : IfSome start (λ bytes. StandsAhead d.header bytes → given ≡ take (length given) (front_image d.channels d.header bytes))
+  -- for n pixels at most 5n + 8 bytes were taken
+  pub within : TakesAtMost (chunk_max * pixel_count d.header + marker_size) start now
+  -- if none are left, the decoder's image was decoded, and they are its bytes
+  pub whole : pixels_left p ≡ 0 → HasDecoded d start now given
+
+-- The image was refused: some of it is left, and no more of it is read.
+abbrev pub IsSpent : {R : Type 0} → PixelsState R → Type 0
+IsSpent p = (p.refused ≡ true) × (0 < pixels_left p)
+
+-- The decoder's image was refused with the error e. A slice's bytes are those before the image, and how it is
+-- left isn't said; of a stream `new` is ahead.
+abbrev pub RefusesPixels : {R : Type 0} → Bool → DecoderState R → Option (List ℕ) → Option (List ℕ) → Error → Type 0
+RefusesPixels true d start new e = HasRefused true d start start e
+RefusesPixels false d start new e = HasRefused false d start new e

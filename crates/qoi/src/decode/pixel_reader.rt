@@ -1,0 +1,319 @@
+//! Decoding an image piece by piece.
+ghost use Rattle.std.specs.Prelude.{◌≡◌, ℕ, ◌+◌, ◌-◌, ◌*◌, ◌%◌, ◌<◌, ◌≤◌, List, [], ◌++◌, length, take, drop, min, Option, Some, Ok, true, false, IsTrue, IfOk, IfErr, OnOk, OnErr, IsErrOf};
+ghost use Rattle.std.specs.Io.KnownBytes.{Keeps};
+ghost use Rattle.qoi.specs.Qoi.{channels_number, pixel_count};
+ghost use Rattle.qoi.specs.Raw.{AreChannels};
+ghost use Rattle.qoi.specs.DecoderState.{DecoderState, output_byte_count};
+ghost use Rattle.qoi.specs.declared.error.Error.{Error};
+ghost use Rattle.qoi.specs.Decoded.{HasDecoded};
+ghost use Rattle.qoi.specs.inner.Chunks.{RefusesChunks};
+ghost use Rattle.qoi.specs.inner.Pieces.{bytes_left, KeepsPixels, GivesPieces};
+ghost use Rattle.qoi.specs.PixelReader.{as_decoder, pixels_left, HasGiven, RefusesPixels, IsSpent};
+
+use crate::decode::Decoder;
+use crate::decode::pieces::Pieces;
+use crate::decode::reader::{Buffered, Bytes, Reader};
+use crate::error::{Error, Result};
+use crate::header::Header;
+use crate::types::Channels;
+use std::io::{BufRead, Read};
+use std::marker::Model;
+
+/// A reader whose images can be decoded piece by piece.
+pub trait PieceReader: Reader {
+    /// Decodes the next bytes of an image, until `out` is full; with the last ones it takes the
+    /// end marker.
+    fn decode_piece(
+        &mut self,
+        pieces: &mut Pieces,
+        out: &mut [u8],
+        channels: u8,
+        file_channels: u8,
+    ) -> Result<()>
+        requires channels { AreChannels file_channels channels }
+        requires fits { length out.old ≤ bytes_left pieces.old }
+        requires pixels { KeepsPixels channels pieces.old }
+        ensures read { (n : ℕ) (start : Option (List ℕ)) (given : List ℕ)
+            → GivesPieces file_channels channels n start (Self.ahead self.old) given pieces.old
+            → OnOk result (GivesPieces file_channels channels n start (Self.ahead self.new)
+            (given ++ out.new) pieces.new) }
+        ensures refused { (n : ℕ) (start : Option (List ℕ)) (given : List ℕ)
+            → GivesPieces file_channels channels n start (Self.ahead self.old) given pieces.old
+            → IfErr result (RefusesChunks Self.in_memory n start (Self.ahead self.new)) }
+        ensures pixels { OnOk result (KeepsPixels channels pieces.new) }
+        ensures left { OnOk result (length out.new + bytes_left pieces.new ≡ bytes_left pieces.old) }
+        ensures kept { IsTrue Self.in_memory
+            → OnErr result (Keeps (Self.ahead self.old) (Self.ahead self.new)) };
+}
+
+// Decodes the next bytes of an image in memory.
+fn piece_of_bytes(
+    bytes: &mut Bytes,
+    pieces: &mut Pieces,
+    out: &mut [u8],
+    channels: u8,
+    file_channels: u8,
+) -> Result<()>
+    requires channels { AreChannels file_channels channels }
+    requires fits { length out.old ≤ bytes_left pieces.old }
+    requires pixels { KeepsPixels channels pieces.old }
+    ensures read { (n : ℕ) (start : Option (List ℕ)) (given : List ℕ)
+        → GivesPieces file_channels channels n start (Some bytes.old) given pieces.old
+        → OnOk result (GivesPieces file_channels channels n start (Some bytes.new)
+        (given ++ out.new) pieces.new) }
+    ensures refused { (n : ℕ) (start : Option (List ℕ)) (given : List ℕ)
+        → GivesPieces file_channels channels n start (Some bytes.old) given pieces.old
+        → IfErr result (RefusesChunks true n start (Some bytes.new)) }
+    ensures pixels { OnOk result (KeepsPixels channels pieces.new) }
+    ensures left { OnOk result (length out.new + bytes_left pieces.new ≡ bytes_left pieces.old) }
+{
+    match (channels, file_channels) {
+        (3, 3) => pieces.next_piece::<Bytes, 3, 3>(bytes, out),
+        (3, 4) => pieces.next_piece::<Bytes, 3, 3>(bytes, out),
+        (4, 3) => pieces.next_piece::<Bytes, 4, 3>(bytes, out),
+        (4, 4) => pieces.next_piece::<Bytes, 4, 4>(bytes, out),
+        _ => Err(Error::InvalidChannels { channels }),
+    }
+}
+
+impl<'a> PieceReader for Bytes<'a> {
+    fn decode_piece(
+        &mut self,
+        pieces: &mut Pieces,
+        out: &mut [u8],
+        channels: u8,
+        file_channels: u8,
+    ) -> Result<()> {
+        let mut bytes = Bytes(self.0);
+        piece_of_bytes(&mut bytes, pieces, out, channels, file_channels)?;
+        self.0 = bytes.0;
+        Ok(())
+    }
+}
+
+impl<R: Read> PieceReader for R {
+    fn decode_piece(
+        &mut self,
+        pieces: &mut Pieces,
+        out: &mut [u8],
+        channels: u8,
+        file_channels: u8,
+    ) -> Result<()> {
+        match (channels, file_channels) {
+            (3, 3) => pieces.next_piece::<R, 3, 3>(self, out),
+            (3, 4) => pieces.next_piece::<R, 3, 3>(self, out),
+            (4, 3) => pieces.next_piece::<R, 4, 3>(self, out),
+            (4, 4) => pieces.next_piece::<R, 4, 4>(self, out),
+            _ => Err(Error::InvalidChannels { channels }),
+        }
+    }
+}
+
+impl<R: BufRead> PieceReader for Buffered<R> {
+    fn decode_piece(
+        &mut self,
+        pieces: &mut Pieces,
+        out: &mut [u8],
+        channels: u8,
+        file_channels: u8,
+    ) -> Result<()> {
+        match (channels, file_channels) {
+            (3, 3) => pieces.next_piece::<Buffered<R>, 3, 3>(self, out),
+            (3, 4) => pieces.next_piece::<Buffered<R>, 3, 3>(self, out),
+            (4, 3) => pieces.next_piece::<Buffered<R>, 4, 3>(self, out),
+            (4, 4) => pieces.next_piece::<Buffered<R>, 4, 4>(self, out),
+            _ => Err(Error::InvalidChannels { channels }),
+        }
+    }
+}
+
+/// Hands out the raw bytes of one image piece by piece, so that it needn't fit into memory (QOI
+/// specification 1.0, "Data" and "Chunks"). Nothing is allocated; a reader has some 5 KB.
+///
+/// A contract sees the reader, the header, the channels of the output, what stands between two
+/// pieces, and whether the image was refused.
+#[derive(Drop)]
+pub struct PixelReader<R> {
+    decoder: Decoder<R>,
+    pieces: Pieces,
+    refused: bool,
+}
+
+impl<R> Model for PixelReader<R> {
+    ghost use Rattle.std.specs.Prelude.{◌≡◌, ◌%◌, ◌≤◌, false};
+    ghost use Rattle.qoi.specs.Qoi.{channels_number, IsValid};
+    ghost use Rattle.qoi.specs.DecoderState.{output_byte_count};
+    ghost use Rattle.qoi.specs.inner.Pieces.{bytes_left, KeepsWithin};
+    ghost use Rattle.qoi.specs.PixelReader.{PixelsState};
+
+    ghost Value = { PixelsState R };
+
+    ghost view = { λ p. record { reader = p.decoder.reader; header = p.decoder.header; channels = p.decoder.channels; pieces = p.pieces; refused = p.refused } };
+
+    ghost invariant = { λ p. IsValid p.decoder.header × KeepsWithin p.pieces × (bytes_left p.pieces ≤ output_byte_count p.decoder) × (p.refused ≡ false → p.pieces.undecoded % channels_number p.decoder.channels ≡ 0) };
+}
+
+impl<R: PieceReader> Decoder<R> {
+    /// Starts the decoding of the image ahead, in the decoder's channels, piece by piece. Nothing is
+    /// read yet.
+    pub fn into_pixels(self) -> PixelReader<R>
+        ensures start { HasGiven self (R.ahead self.reader) (R.ahead result.reader) [] result }
+        ensures same { as_decoder result ≡ self }
+    {
+        let size = self.required_buf_len();
+        PixelReader {
+            decoder: self,
+            pieces: Pieces::new(size),
+            refused: false,
+        }
+    }
+
+    // Decodes the next bytes of the image, until `out` is full.
+    fn next_piece(&mut self, pieces: &mut Pieces, out: &mut [u8]) -> Result<()>
+        requires fits { length out.old ≤ bytes_left pieces.old }
+        requires pixels { KeepsPixels (channels_number self.old.channels) pieces.old }
+        ensures read { (start : Option (List ℕ)) (given : List ℕ)
+            → GivesPieces (channels_number self.old.header.channels)
+            (channels_number self.old.channels) (pixel_count self.old.header) start
+            (R.ahead self.old.reader) given pieces.old
+            → OnOk result (GivesPieces (channels_number self.old.header.channels)
+            (channels_number self.old.channels) (pixel_count self.old.header) start
+            (R.ahead self.new.reader) (given ++ out.new) pieces.new) }
+        ensures refused { (start : Option (List ℕ)) (given : List ℕ)
+            → GivesPieces (channels_number self.old.header.channels)
+            (channels_number self.old.channels) (pixel_count self.old.header) start
+            (R.ahead self.old.reader) given pieces.old
+            → IfErr result (RefusesChunks R.in_memory (pixel_count self.old.header) start
+            (R.ahead self.new.reader)) }
+        ensures pixels { OnOk result
+            (KeepsPixels (channels_number self.old.channels) pieces.new) }
+        ensures left { OnOk result (length out.new + bytes_left pieces.new ≡ bytes_left pieces.old) }
+        ensures kept { IsTrue R.in_memory
+            → OnErr result (Keeps (R.ahead self.old.reader) (R.ahead self.new.reader)) }
+        ensures unchanged { self.new ≡ record self.old { reader = self.new.reader } }
+    {
+        let channels = self.channels.as_u8();
+        let file_channels = self.header.channels.as_u8();
+        self.reader
+            .decode_piece(pieces, out, channels, file_channels)
+    }
+}
+
+impl<R: PieceReader> PixelReader<R> {
+    /// The file's header.
+    pub fn header(&self) -> &Header
+        ensures { result.now ≡ self.now.header }
+    {
+        self.decoder.header()
+    }
+
+    /// The channels of the raw bytes.
+    pub fn channels(&self) -> Channels
+        ensures { result ≡ self.now.channels }
+    {
+        self.decoder.channels()
+    }
+
+    /// How many raw bytes of the image weren't read yet: none after the last ones, and some for ever
+    /// after a refusal.
+    #[tactic(auto, unfolding(crate::specs::PixelReader::pixels_left))]
+    pub fn left(&self) -> usize
+        ensures { result ≡ pixels_left self.now }
+    {
+        self.pieces.left()
+    }
+
+    /// Reads the next raw bytes into the front of `buf`: as many as it has, or as are left of the
+    /// image. Returns how many; none once all were read. With the last ones the end marker is taken,
+    /// and no byte past it.
+    ///
+    /// Refusals are those of `Decoder::decode_to_buf`, but for `OutputBufferTooSmall`, and come at
+    /// the latest with the last bytes. After a refusal the bytes of `buf` may be overwritten, as
+    /// many as would have been read; a slice's tail is as before the call, and a stream stands after
+    /// the bytes that were read. `left` is as before, and no more of the image can be read: each
+    /// further `read` into a buffer that isn't empty returns `UnexpectedBufferEnd`.
+    #[tactic(auto, unfolding(crate::specs::PixelReader::pixels_left))]
+    pub fn read(&mut self, buf: &mut [u8]) -> Result<usize>
+        // A success: the bytes follow those that were read before.
+        ensures read { (d : DecoderState R) (start : Option (List ℕ)) (given : List ℕ)
+            → HasGiven d start (R.ahead self.old.reader) given self.old
+            → IfOk result (λ size.
+            HasGiven d start (R.ahead self.new.reader) (given ++ take size buf.new) self.new) }
+        ensures size { IfOk result (λ size. size ≡ min (length buf.old) (pixels_left self.old)) }
+        ensures left { IfOk result (λ size. pixels_left self.new + size ≡ pixels_left self.old) }
+        ensures none { min (length buf.old) (pixels_left self.old) ≡ 0
+            → (result ≡ Ok 0) × (self.new ≡ self.old) }
+
+        // The refusals: those of the image, and then no more of it is read.
+        ensures refused { (d : DecoderState R) (start : Option (List ℕ)) (given : List ℕ)
+            → HasGiven d start (R.ahead self.old.reader) given self.old
+            → IfErr result (RefusesPixels R.in_memory d start (R.ahead self.new.reader)) }
+        ensures spent { OnErr result
+            (IsSpent self.new × (pixels_left self.new ≡ pixels_left self.old)) }
+        ensures again { IsSpent self.old → 0 < length buf.old
+            → IsErrOf result Error.UnexpectedBufferEnd
+            × (self.new ≡ self.old) × (buf.new ≡ buf.old) }
+
+        // What stays: bytes in memory after a refusal, later bytes of the buffer, header and channels.
+        ensures kept { IsTrue R.in_memory
+            → OnErr result (Keeps (R.ahead self.old.reader) (R.ahead self.new.reader)) }
+        ensures later { drop (pixels_left self.old) buf.new ≡ drop (pixels_left self.old) buf.old }
+        ensures unchanged { (self.new.header ≡ self.old.header)
+            × (self.new.channels ≡ self.old.channels) }
+    {
+        let left = self.pieces.left();
+        let size = buf.len().min(left);
+        if size == 0 {
+            return Ok(0);
+        }
+        if self.refused {
+            return Err(Error::UnexpectedBufferEnd);
+        }
+        match self.decoder.next_piece(&mut self.pieces, &mut buf[..size]) {
+            Ok(()) => Ok(size),
+            Err(e) => {
+                self.refused = true;
+                self.pieces.refuse(left);
+                Err(e)
+            }
+        }
+    }
+
+    /// Gives back the decoder, whose reader is as it stands: behind the end marker if none are left,
+    /// so that the decoder goes on there. Before that call `finish` instead, which takes the rest.
+    pub fn into_decoder(self) -> Decoder<R>
+        ensures { result ≡ as_decoder self }
+    {
+        self.decoder
+    }
+}
+
+impl<R: PieceReader + Drop> PixelReader<R> {
+    /// Takes what is left of the image, and the end marker, without handing the bytes out: a file is
+    /// checked, or its end found, in no memory. Gives back the decoder, which goes on behind the end
+    /// marker.
+    ///
+    /// Refusals are those of `read`, after one of them too. After a refusal the decoder is dropped
+    /// with its reader, so no contract can say where that stood.
+    pub fn finish(mut self) -> Result<Decoder<R>>
+        // A success: the bytes that were read, and others, are the image.
+        ensures finished { (d : DecoderState R) (start : Option (List ℕ)) (given : List ℕ)
+            → HasGiven d start (R.ahead self.reader) given self
+            → IfOk result (λ decoder. (rest : List ℕ)
+            × HasDecoded d start (R.ahead decoder.reader) (given ++ rest)) }
+        ensures same { IfOk result (λ decoder.
+            decoder ≡ record (as_decoder self) { reader = decoder.reader }) }
+
+        // The refusals: those of the image, now or before.
+        ensures refused { (d : DecoderState R) (start : Option (List ℕ)) (given : List ℕ)
+            → HasGiven d start (R.ahead self.reader) given self
+            → IfErr result (λ e. (new : Option (List ℕ)) × RefusesPixels R.in_memory d start new e) }
+        ensures again { IsSpent self → IsErrOf result Error.UnexpectedBufferEnd }
+    {
+        let mut buf = [0; 4096];
+        while self.left() > 0 {
+            self.read(&mut buf)?;
+        }
+        Ok(self.into_decoder())
+    }
+}

@@ -1,0 +1,94 @@
+//! Files that stand one after the other: each with what follows it. `count_files` alone has a proof
+//! file: its loop's invariant and measure.
+ghost use Rattle.std.specs.Prelude.{◌≡◌, ◌<◌, ℕ, List, length, Some, IfOk};
+ghost use Rattle.qoi.specs.Images.{file_image, file_rest};
+
+use crate::tests::fakes::{ONE_RGB_PIXEL, PIXEL};
+use crate::tests::library::support::{assert_bytes, assert_number};
+use qoi::{Decoder, Error};
+use std::alloc::Global;
+use std::io::{BufRead, BufReader};
+
+/// The raw bytes of the next file, and what follows it.
+pub fn next<'a>(alloc: Global, bytes: &'a [u8]) -> Result<(Vec<u8>, &'a [u8]), Error>
+    ensures image { IfOk result (λ x. x.0.items ≡ file_image bytes.entry.now) }
+    ensures rest { IfOk result (λ x. x.1.now ≡ file_rest bytes.entry.now) }
+    ensures shorter { IfOk result (λ x. length x.1.now < length bytes.entry.now) }
+{
+    let mut decoder = Decoder::new(bytes)?;
+    let raw = decoder.decode_to_vec(alloc)?;
+    Ok((raw, decoder.into_data()))
+}
+
+/// The same from a reader with a buffer.
+pub fn next_buffered<R: BufRead + Drop>(alloc: Global, reader: R) -> Result<(Vec<u8>, R), Error>
+    ensures image { (bytes : List ℕ) → R.remaining reader ≡ Some bytes
+        → IfOk result (λ x. x.0.items ≡ file_image bytes) }
+    ensures rest { (bytes : List ℕ) → R.remaining reader ≡ Some bytes
+        → IfOk result (λ x. R.remaining x.1 ≡ Some (file_rest bytes)) }
+{
+    let mut decoder = Decoder::from_buf_read(reader)?;
+    let raw = decoder.decode_to_vec(alloc)?;
+    Ok((raw, decoder.into_reader()))
+}
+
+/// The second file of a reader with a buffer.
+pub fn second_buffered<R: BufRead + Drop>(alloc: Global, reader: R) -> Result<Vec<u8>, Error>
+    ensures { (bytes : List ℕ) → R.remaining reader ≡ Some bytes
+        → IfOk result (λ raw. raw.items ≡ file_image (file_rest bytes)) }
+{
+    let (_, reader) = next_buffered(alloc, reader)?;
+    let (raw, _) = next_buffered(alloc, reader)?;
+    Ok(raw)
+}
+
+/// The second file.
+pub fn second(alloc: Global, bytes: &[u8]) -> Result<Vec<u8>, Error>
+    ensures { IfOk result (λ raw. raw.items ≡ file_image (file_rest bytes.now)) }
+{
+    let (_, rest) = next(alloc, bytes)?;
+    let (raw, _) = next(alloc, rest)?;
+    Ok(raw)
+}
+
+/// The first two files, and what follows them.
+pub fn both<'a>(alloc: Global, bytes: &'a [u8]) -> Result<(Vec<u8>, Vec<u8>, &'a [u8]), Error>
+    ensures first { IfOk result (λ x. x.0.items ≡ file_image bytes.entry.now) }
+    ensures second { IfOk result (λ x. x.1.items ≡ file_image (file_rest bytes.entry.now)) }
+    ensures rest { IfOk result (λ x. x.2.now ≡ file_rest (file_rest bytes.entry.now)) }
+{
+    let (first, rest) = next(alloc, bytes)?;
+    let (second, rest) = next(alloc, rest)?;
+    Ok((first, second, rest))
+}
+
+/// How many files stand one after the other.
+pub fn count_files(alloc: Global, bytes: &[u8]) -> Result<usize, Error> {
+    let mut count = 0;
+    let mut rest = bytes;
+    while !rest.is_empty() {
+        let (_, after) = next(alloc, rest)?;
+        rest = after;
+        count += 1;
+    }
+    Ok(count)
+}
+
+#[test]
+fn three_files(rt: HostRuntime) -> Result<(), Error> {
+    let alloc = rt.alloc();
+    let mut bytes = Vec::new(alloc);
+    for _ in 0..3 {
+        bytes.extend_from_slice(&ONE_RGB_PIXEL)?;
+    }
+    let (first, rest) = next(alloc, &bytes)?;
+    assert_bytes(&rt, &first, &PIXEL);
+    assert_number(&rt, rest.len(), 52);
+    assert_bytes(&rt, &second(alloc, &bytes)?, &PIXEL);
+    let (_, _, rest) = both(alloc, &bytes)?;
+    assert_bytes(&rt, rest, &ONE_RGB_PIXEL);
+    assert_number(&rt, count_files(alloc, &bytes)?, 3);
+    let reader = BufReader::new(alloc, bytes.as_slice())?;
+    assert_bytes(&rt, &second_buffered(alloc, reader)?, &PIXEL);
+    Ok(())
+}
