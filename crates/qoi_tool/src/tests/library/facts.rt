@@ -1,4 +1,5 @@
-//! What users want to know of compositions of the calls. `file_ahead` alone has a proof file.
+//! What users want to know of compositions of the calls. `file_ahead` and `decoded_unless` alone have
+//! a proof file.
 ghost use Rattle.std.specs.Prelude.{◌≡◌, ◌+◌, ◌≤◌, ℕ, List, length, slice_set, Option, Some, IfOk};
 ghost use Rattle.qoi.specs.declared.header.Header.{Header};
 ghost use Rattle.qoi.specs.declared.types.Channels.{Channels};
