@@ -76,7 +76,7 @@ pub fn two_saved(
     Ok((one, two))
 }
 
-/// The same by offset.
+/// The same, encoded by the library's calls.
 pub fn two_at_offsets(
     alloc: Global,
     first: &[u8],
@@ -95,7 +95,7 @@ pub fn two_at_offsets(
     Ok((one, two))
 }
 
-/// The same by the library's calls: the second decoder goes on where the first one ended.
+/// The same, decoded by the library's calls: the second goes on where the first one ended.
 pub fn two_encoded(
     alloc: Global,
     first: &[u8],
@@ -132,6 +132,9 @@ fn two_in_a_vector(rt: HostRuntime) -> Result<(), Error> {
     let alloc = rt.alloc();
     let other = [1, 2, 3];
     let (one, two) = two_saved(alloc, &PIXEL, &other, 1, 1)?;
+    assert_bytes(&rt, &one, &PIXEL);
+    assert_bytes(&rt, &two, &other);
+    let (one, two) = two_at_offsets(alloc, &PIXEL, &other, 1, 1)?;
     assert_bytes(&rt, &one, &PIXEL);
     assert_bytes(&rt, &two, &other);
     let (one, two) = two_encoded(alloc, &other, &PIXEL, 1, 1)?;
