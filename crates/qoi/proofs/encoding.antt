@@ -12,7 +12,7 @@ pub mod PixelBlock
 pub mod PlacedLists
 pub mod Spelled
 pub mod RunBytes
-pub mod StillToWrite
+pub mod ListAhead
 pub mod StreamSent
 pub mod StyledGroup
 pub mod StyleLists

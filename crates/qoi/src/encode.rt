@@ -16,6 +16,7 @@ ghost use Rattle.qoi.specs.Sent.{IsFileFor, MakesFile, PutsFile, SendsFile, Send
 ghost use Rattle.qoi.specs.writers.Writes.{WroteBeginning};
 
 mod block;
+mod carry;
 mod changes;
 mod chunks;
 mod coder;

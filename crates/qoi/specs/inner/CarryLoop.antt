@@ -1,35 +1,58 @@
--- The state of the coder's loop over blocks.
-use Rattle.std.specs.Prelude.{◌≡◌, ◌≤◌, ℕ, Bool, true, false, List, length}
-use Rattle.qoi.specs.declared.encode.block.Carry.{Carry}
+-- The state between two blocks, by what is carried from one to the next.
+use Rattle.std.specs.Prelude.{◌≡◌, ◌≢◌, ◌≤◌, ℕ, true, false, List, length, slice_get, Option, Some}
+use Rattle.qoi.specs.declared.chunk.Chunk.{Chunk}
+use Rattle.qoi.specs.declared.encode.carry.Carry.{Carry}
 use Rattle.qoi.specs.declared.encode.coder.Coder.{Coder}
-use Rattle.qoi.specs.declared.types.Style.TheVariants.{Tight}
-use Rattle.qoi.specs.Qoi.{RgbaPixel}
-use Rattle.qoi.specs.inner.Blocks.{BetweenBlocks}
-use Rattle.qoi.specs.inner.CoderLoop.{Writing, CoderBetween}
+use Rattle.qoi.specs.declared.types.Style.{Style}
+use Rattle.qoi.specs.declared.types.Style.TheVariants.{Places, Tight}
+use Rattle.qoi.specs.Qoi.{RgbaPixel, Past, previous, hash}
+use Rattle.qoi.specs.Styles.{some_fresh, names}
+use Rattle.qoi.specs.inner.CoderLoop.{Ahead, CoderAfter}
+use Rattle.qoi.specs.inner.CoderState.{held_in}
 use Rattle.qoi.specs.inner.Spelling.{IsLastOf}
+use Rattle.qoi.specs.inner.Table.{Holds}
 
--- between two blocks, by what is carried from one to the next
-abbrev pub CarryBetween : Bool → Writing → List RgbaPixel → List RgbaPixel → Carry → List ℕ → Type 0
-CarryBetween begun w rest table carry kept = BetweenBlocks begun w rest table carry.before carry.count carry.placed kept
+-- What is carried, and the table, after these pixels and this chunk: what `CoderAfter` says of a
+-- coder.
+pub record CarryAfter {N : ℕ} (style : Style) (past : Past) (before : Option Chunk) (table : List RgbaPixel) (carry : Carry N) : Type 0 where
+  pub table_is : Holds table (held_in style past)
+  pub last_is : IsLastOf (previous past) carry.before
+  pub placed_is : style ≡ Places → carry.placed ≡ names before (hash (previous past))
+
+-- nothing is carried, and the next pixel is fresh and begins a block, but not in style Tight
+pub record OpensBlock (style : Style) (past : Past) (n : ℕ) (rest : List RgbaPixel) : Type 0 where
+  pub none : n ≡ 0
+  pub fresh : slice_get rest 0 ≢ Some (previous past)
+  pub whole : 16 ≤ length rest
+  pub other : style ≢ Tight
+
+-- A fresh pixel came, or the next one opens a block. If the next pixel repeats the last, so few
+-- repeats are carried that a run of less than 62 ends in the next block.
+pub record GoesByBlocks (style : Style) (past : Past) (n : ℕ) (rest : List RgbaPixel) : Type 0 where
+  pub opens : some_fresh past ≡ false → OpensBlock style past n rest
+  pub few : slice_get rest 0 ≡ Some (previous past) → n ≤ 45
+
+-- Between two blocks: the carried repeats are still to be written, and the pixels `rest`.
+pub record InBlocks {N : ℕ} (style : Style) (ahead : List ℕ) (rest : List RgbaPixel) (table : List RgbaPixel) (carry : Carry N) (kept : List ℕ) : Type 0 where
+  pub past : Past
+  pub before : Option Chunk
+  pub to_write : Ahead style ahead past before carry.count rest kept
+  pub state : CarryAfter style past before table carry
+  pub by_blocks : GoesByBlocks style past carry.count rest
 
 -- nothing is carried after the coder's last pixel
-pub record Opening {N : ℕ} (w : Writing) (rest : List RgbaPixel) (table : List RgbaPixel) (coder : Coder N) (carry : Carry) (kept : List ℕ) : Type 0 where
-  pub between : CoderBetween w rest table coder kept
+pub record CarriesNone {N : ℕ} (coder : Coder N) (carry : Carry N) : Type 0 where
+  pub count_is : carry.count ≡ 0
   pub last_is : IsLastOf coder.last carry.before
-  pub none : carry.count ≡ 0
   pub placed_is : carry.placed ≡ coder.placed
-
--- Between two blocks: a fresh pixel came or, but in style Tight, the next one is fresh, and there is
--- a block.
-pub record InBlocks (w : Writing) (rest : List RgbaPixel) (table : List RgbaPixel) (carry : Carry) (kept : List ℕ) : Type 0 where
-  pub begun : Bool
-  pub between : CarryBetween begun w rest table carry kept
-  pub in_tight : w.list.style ≡ Tight → begun ≡ true
-  pub whole : begun ≡ false → 16 ≤ length rest
 
 -- Between two steps of the coder's loop: once it goes by blocks, what is carried says which pixel is
 -- the last; before that nothing is carried.
-pub record StepBetween {N : ℕ} (w : Writing) (rest : List RgbaPixel) (table : List RgbaPixel) (coder : Coder N) (carry : Carry) (kept : List ℕ) : Type 0 where
-  pub style_is : coder.style ≡ w.list.style
-  pub opening : coder.begun ≡ false → Opening w rest table coder carry kept
-  pub by_blocks : coder.begun ≡ true → InBlocks w rest table carry kept
+pub record StepBetween {N : ℕ} (style : Style) (ahead : List ℕ) (rest : List RgbaPixel) (table : List RgbaPixel) (coder : Coder N) (carry : Carry N) (kept : List ℕ) : Type 0 where
+  pub past : Past
+  pub before : Option Chunk
+  pub to_write : Ahead style ahead past before carry.count rest kept
+  pub state : CarryAfter style past before table carry
+  pub style_is : coder.style ≡ style
+  pub opening : coder.begun ≡ false → CarriesNone coder carry × CoderAfter past before table coder
+  pub by_blocks : coder.begun ≡ true → GoesByBlocks style past carry.count rest

@@ -5,6 +5,7 @@ ghost use Rattle.qoi.specs.declared.chunk.Chunk.{Chunk};
 ghost use Rattle.qoi.specs.declared.encode.block.TheConstants.{BLOCK_MAX};
 ghost use Rattle.qoi.specs.declared.encode.coder.TheConstants.{FEW_CARRIED, FEW_MAX};
 ghost use Rattle.qoi.specs.declared.encode.piece.TheConstants.{PAST, RUNS_AT_ONCE, REPEATS_AT_ONCE};
+ghost use Rattle.qoi.specs.declared.types.Style.{Style};
 ghost use Rattle.qoi.specs.declared.types.Style.TheVariants.{Tight};
 ghost use Rattle.qoi.specs.Qoi.{RgbaPixel, Past, run_max, chunk_max, previous, seen, hash, IsChunk, bytes_of};
 ghost use Rattle.qoi.specs.Raw.{IsChannels, IsChannels-prop, pixels_of};
@@ -14,11 +15,12 @@ ghost use Rattle.qoi.specs.Styles.{choice_in};
 ghost use Rattle.qoi.specs.inner.CoderState.{held_in, last_chunk};
 ghost use Rattle.qoi.specs.inner.FreshPixel.{HasBytes};
 ghost use Rattle.qoi.specs.inner.Piece.{kept_bytes};
-ghost use Rattle.qoi.specs.inner.Planes.{block_pixels};
+ghost use Rattle.qoi.specs.inner.Planes.{AreOpaque, block_pixels};
 ghost use Rattle.qoi.specs.inner.Table.{Holds};
 
 use crate::consts::{QOI_OP_RUN, QOI_RUN_MAX};
-use crate::encode::block::{Block, Carry};
+use crate::encode::block::Block;
+use crate::encode::carry::Carry;
 use crate::encode::fresh::spell_pixel;
 use crate::encode::piece::{Piece, REPEATS_AT_ONCE};
 use crate::encode::planes::Planes;
@@ -52,8 +54,8 @@ pub(super) struct Coder<const N: usize> {
 
 impl<const N: usize> Coder<N> {
     ghost use Rattle.qoi.specs.inner.Blocks.{ChangesFrom, FitsBlock, MissesNoBlank, all_repeat, last_pixel};
-    ghost use Rattle.qoi.specs.inner.CarryLoop.{CarryBetween, InBlocks, StepBetween};
-    ghost use Rattle.qoi.specs.inner.CoderLoop.{CoderAfter, single, Writing, CoderBetween, BytesBetween};
+    ghost use Rattle.qoi.specs.inner.CarryLoop.{InBlocks, CarriesNone, StepBetween};
+    ghost use Rattle.qoi.specs.inner.CoderLoop.{CoderAfter, single, CoderBetween};
     ghost use Rattle.qoi.specs.inner.Spelling.{IsLastOf};
 
     /// The coder before the first pixel, as if opaque black came before.
@@ -72,14 +74,12 @@ impl<const N: usize> Coder<N> {
 
     // The coder after a fresh pixel, from what is carried; the carried repeats then still come.
     #[inline(always)]
-    fn after(style: Style, carry: Carry) -> Coder<N>
-        requires channels { IsChannels N }
-        requires opaque { N ≡ 3 → slice_index carry.before.a 15 ≡ 255 }
+    fn after(style: Style, carry: Carry<N>) -> Coder<N>
+        ensures style { result.style ≡ style }
         ensures begun { result.begun ≡ true }
-        ensures last { result.last ≡ last_pixel carry.before }
-        ensures between { (w : Writing) (rest table : List RgbaPixel) (kept : List ℕ)
-            → w.list.style ≡ style → CarryBetween true w rest table carry kept
-            → CoderBetween w (replicate carry.count result.last ++ rest) table result kept }
+        ensures between { (ahead : List ℕ) (rest table : List RgbaPixel) (kept : List ℕ)
+            → (style ≡ Tight) ⊎ (length rest < 16) → InBlocks style ahead rest table carry.entry kept
+            → CoderBetween ahead carry.entry.count rest table result kept }
     {
         Coder {
             style,
@@ -159,11 +159,11 @@ impl<const N: usize> Coder<N> {
         requires room { piece.old.end + chunk_max ≤ ROOM }
         requires opaque { N ≡ 3 → px.a ≡ 255 }
         ensures end { piece.new.end ≤ piece.old.end + chunk_max }
-        ensures last { self.new.last ≡ px }
+        ensures style { self.new.style ≡ self.old.style }
         ensures begun { self.new.begun ≡ true }
-        ensures written { (w : Writing) (rest : List RgbaPixel) → px ≢ self.old.last
-            → CoderBetween w (px ∷ rest) table.old self.old (kept_bytes piece.old)
-            → CoderBetween w rest table.new self.new (kept_bytes piece.new) }
+        ensures written { (ahead : List ℕ) (rest : List RgbaPixel) → px ≢ self.old.last
+            → CoderBetween ahead 0 (px ∷ rest) table.old self.old (kept_bytes piece.old)
+            → CoderBetween ahead 0 rest table.new self.new (kept_bytes piece.new) }
     {
         let place = px.hash_index();
         let stands = table.at(place).is_same(px);
@@ -196,14 +196,15 @@ impl<const N: usize> Coder<N> {
         ensures end { piece.new.end ≤ piece.old.end + (carry + result) / run_max + 1 }
         ensures few { carry + result ≤ REPEATS_AT_ONCE }
         ensures inside { N * result ≤ length «data».now }
-        ensures last { self.new.last ≡ self.old.last }
-        ensures begun { self.new.begun ≡ self.old.begun }
+        ensures same { (self.new.last ≡ self.old.last) × (self.new.style ≡ self.old.style)
+            × (self.new.begun ≡ self.old.begun) }
         ensures stops { (slice_get (pixels_of N (drop (N * result) «data».now)) 0
             ≢ Some self.old.last) ⊎ (carry + result ≡ REPEATS_AT_ONCE) }
-        ensures written { (w : Writing) → CoderBetween w
-            (replicate carry self.old.last ++ pixels_of N «data».now) table.old self.old
+        ensures written { (ahead : List ℕ)
+            → CoderBetween ahead carry (pixels_of N «data».now) table.old self.old
             (kept_bytes piece.old)
-            → BytesBetween w (drop (N * result) «data».now) table.new self.new piece.new }
+            → CoderBetween ahead 0 (pixels_of N (drop (N * result) «data».now)) table.new self.new
+            (kept_bytes piece.new) }
     {
         let (near, _) = data.split_at(data.len().min(N * (REPEATS_AT_ONCE - carry)));
         // If more than 992 repeat, 992 are counted: sixteen runs of 62, so `one` isn't used.
@@ -235,14 +236,15 @@ impl<const N: usize> Coder<N> {
         ensures end { piece.new.end ≤ piece.old.end + RUNS_AT_ONCE + 1 }
         ensures each { piece.new.end ≤ piece.old.end + (carry + result) }
         ensures inside { N * result ≤ length «data».now }
-        ensures last { self.new.last ≡ self.old.last }
-        ensures begun { self.new.begun ≡ self.old.begun }
+        ensures same { (self.new.last ≡ self.old.last) × (self.new.style ≡ self.old.style)
+            × (self.new.begun ≡ self.old.begun) }
         ensures stops { (slice_get (pixels_of N (drop (N * result) «data».now)) 0
             ≢ Some self.old.last) ⊎ (carry + result ≡ REPEATS_AT_ONCE) }
-        ensures written { (w : Writing) → CoderBetween w
-            (replicate carry self.old.last ++ pixels_of N «data».now) table.old self.old
+        ensures written { (ahead : List ℕ)
+            → CoderBetween ahead carry (pixels_of N «data».now) table.old self.old
             (kept_bytes piece.old)
-            → BytesBetween w (drop (N * result) «data».now) table.new self.new piece.new }
+            → CoderBetween ahead 0 (pixels_of N (drop (N * result) «data».now)) table.new self.new
+            (kept_bytes piece.new) }
     {
         if carry > 0 || begins_with::<N>(data, self.last) {
             return self.write_runs(table, piece, data, carry);
@@ -268,11 +270,13 @@ impl<const N: usize> Coder<N> {
         ensures each { carry ≡ 0 → piece.new.end ≤ piece.old.end + chunk_max * result }
         ensures inside { N * result ≤ length «data».now }
         ensures some { 0 < length «data».now → 0 < result }
+        ensures style { self.new.style ≡ self.old.style }
         ensures begun { self.old.begun ≡ true → self.new.begun ≡ true }
-        ensures written { (w : Writing) → CoderBetween w
-            (replicate carry self.old.last ++ pixels_of N «data».now) table.old self.old
+        ensures written { (ahead : List ℕ)
+            → CoderBetween ahead carry (pixels_of N «data».now) table.old self.old
             (kept_bytes piece.old)
-            → BytesBetween w (drop (N * result) «data».now) table.new self.new piece.new }
+            → CoderBetween ahead 0 (pixels_of N (drop (N * result) «data».now)) table.new self.new
+            (kept_bytes piece.new) }
     {
         let count = self.write_repeats(table, piece, data, carry);
         let after = skip(data, N * count);
@@ -298,11 +302,12 @@ impl<const N: usize> Coder<N> {
         requires some { 0 < carry → 0 < length «data».now }
         requires room { piece.end < ROOM - PAST }
         ensures end { result.end < ROOM - PAST + FEW_MAX }
+        ensures style { self.new.style ≡ self.old.style }
         ensures begun { self.old.begun ≡ true → self.new.begun ≡ true }
-        ensures written { (w : Writing) → CoderBetween w
-            (replicate carry self.old.last ++ pixels_of N «data».now) table.old self.old
+        ensures written { (ahead : List ℕ)
+            → CoderBetween ahead carry (pixels_of N «data».now) table.old self.old
             (kept_bytes piece.entry)
-            → CoderBetween w [] table.new self.new (kept_bytes result) }
+            → CoderBetween ahead 0 [] table.new self.new (kept_bytes result) }
     {
         let mut piece = piece;
         let mut rest = data;
@@ -317,14 +322,8 @@ impl<const N: usize> Coder<N> {
 
     /// What is carried after the coder's last pixel, once it is written: nothing.
     #[inline(always)]
-    pub(super) fn carry(&self) -> Carry
-        ensures count { result.count ≡ 0 }
-        ensures before { IsLastOf self.now.last result.before }
-        ensures placed { result.placed ≡ self.now.placed }
-        ensures opaque { N ≡ 3 → slice_index result.before.a 15 ≡ 255 }
-        ensures between { (w : Writing) (rest table : List RgbaPixel) (kept : List ℕ)
-            → CoderBetween w rest table self.now kept
-            → StepBetween w rest table self.now result kept }
+    pub(super) fn carry(&self) -> Carry<N>
+        ensures { CarriesNone self.now result }
     {
         Carry {
             before: Planes::splat(self.last),
@@ -375,25 +374,22 @@ impl<const N: usize> Coder<N> {
         piece: &mut Piece<ROOM>,
         data: &'a [u8],
         block: Block,
-        carry: Carry,
-    ) -> (&'a [u8], Carry)
-        requires channels { IsChannels N }
+        carry: Carry<N>,
+    ) -> (&'a [u8], Carry<N>)
         requires whole { length «data».now % N ≡ 0 }
         requires enough { 16 * N ≤ length «data».now }
-        requires few { carry.count < run_max }
-        requires opaque { N ≡ 3 → slice_index carry.before.a 15 ≡ 255 }
         requires room { piece.old.end < ROOM - PAST }
+        requires opaque { N ≡ 3 → AreOpaque (block_pixels block.words) }
         requires pixels { block_pixels block.words ≡ take 16 (pixels_of N «data».now) }
         ensures end { piece.new.end ≤ piece.old.end + BLOCK_MAX }
         ensures less { length result.0.now < length «data».entry.now }
         ensures whole { length result.0.now % N ≡ 0 }
-        ensures few { result.1.count < run_max }
-        ensures before { result.1.before ≡ block.planes }
-        ensures written { (w : Writing) (begun : Bool) → w.list.style ≡ style
-            → FitsBlock N style table.old carry.before (block_pixels block.words) block.changes
-            → CarryBetween begun w (pixels_of N «data».entry.now) table.old carry
+        ensures written { (ahead : List ℕ)
+            → FitsBlock style table.old carry.entry.before (block_pixels block.words)
+            block.changes
+            → InBlocks style ahead (pixels_of N «data».entry.now) table.old carry.entry
             (kept_bytes piece.old)
-            → CarryBetween true w (pixels_of N result.0.now) table.new result.1
+            → InBlocks style ahead (pixels_of N result.0.now) table.new result.1
             (kept_bytes piece.new) }
     {
         let after = piece.keep_block::<N, STYLE>(style, table, block, carry);
@@ -402,8 +398,7 @@ impl<const N: usize> Coder<N> {
 
     // Carries the block of repeats at the front, too. Returns the rest, and what is carried.
     #[inline(always)]
-    fn carry_block(data: &[u8], carry: Carry) -> (&[u8], Carry)
-        requires channels { IsChannels N }
+    fn carry_block(data: &[u8], carry: Carry<N>) -> (&[u8], Carry<N>)
         requires whole { length «data».now % N ≡ 0 }
         requires enough { 16 * N ≤ length «data».now }
         requires repeats { all_repeat (last_pixel carry.before) (take 16 (pixels_of N «data».now))
@@ -411,14 +406,16 @@ impl<const N: usize> Coder<N> {
         requires few { carry.count ≤ FEW_CARRIED }
         ensures less { length result.0.now < length «data».entry.now }
         ensures whole { length result.0.now % N ≡ 0 }
-        ensures few { result.1.count < run_max }
-        ensures before { result.1.before ≡ carry.before }
-        ensures written { (w : Writing) (begun : Bool) (table : List RgbaPixel) (kept : List ℕ)
-            → CarryBetween begun w (pixels_of N «data».entry.now) table carry kept
-            → CarryBetween true w (pixels_of N result.0.now) table result.1 kept }
+        ensures written { (style : Style) (ahead : List ℕ) (table : List RgbaPixel) (kept : List ℕ)
+            → InBlocks style ahead (pixels_of N «data».entry.now) table carry.entry kept
+            → InBlocks style ahead (pixels_of N result.0.now) table result.1 kept }
     {
-        let count = carry.count + 16;
-        (skip(data, 16 * N), Carry { count, ..carry })
+        let after = Carry {
+            before: carry.before,
+            count: carry.count + 16,
+            placed: carry.placed,
+        };
+        (skip(data, 16 * N), after)
     }
 
     // Writes the full runs of the repeats at the front, after those that are carried; the others are
@@ -427,23 +424,19 @@ impl<const N: usize> Coder<N> {
     fn write_long_group<const ROOM: usize>(
         piece: &mut Piece<ROOM>,
         data: &[u8],
-        carry: Carry,
-    ) -> (usize, Carry)
-        requires channels { IsChannels N }
+        carry: Carry<N>,
+    ) -> (usize, Carry<N>)
         requires repeats { slice_get (pixels_of N «data».now) 0 ≡ Some (last_pixel carry.before) }
         requires whole { length «data».now % N ≡ 0 }
         requires some { 0 < length «data».now }
-        requires few { carry.count < run_max }
-        requires opaque { N ≡ 3 → slice_index carry.before.a 15 ≡ 255 }
         requires room { piece.old.end < ROOM - PAST }
         ensures end { piece.new.end ≤ piece.old.end + BLOCK_MAX }
         ensures inside { N * result.0 ≤ length «data».now }
         ensures some { 0 < result.0 }
-        ensures few { result.1.count < run_max }
-        ensures before { result.1.before ≡ carry.before }
-        ensures written { (w : Writing) (begun : Bool) (table : List RgbaPixel)
-            → CarryBetween begun w (pixels_of N «data».now) table carry (kept_bytes piece.old)
-            → CarryBetween true w (pixels_of N (drop (N * result.0) «data».now)) table result.1
+        ensures written { (style : Style) (ahead : List ℕ) (table : List RgbaPixel)
+            → InBlocks style ahead (pixels_of N «data».now) table carry.entry
+            (kept_bytes piece.old)
+            → InBlocks style ahead (pixels_of N (drop (N * result.0) «data».now)) table result.1
             (kept_bytes piece.new) }
     {
         let carried = usize::from(carry.count);
@@ -466,22 +459,18 @@ impl<const N: usize> Coder<N> {
         table: &mut PixelTable,
         piece: &mut Piece<ROOM>,
         data: &[u8],
-        carry: Carry,
-    ) -> (usize, Carry)
-        requires channels { IsChannels N }
+        carry: Carry<N>,
+    ) -> (usize, Carry<N>)
         requires whole { length «data».now % N ≡ 0 }
         requires some { 0 < length «data».now }
-        requires few { carry.count < run_max }
-        requires opaque { N ≡ 3 → slice_index carry.before.a 15 ≡ 255 }
         requires room { piece.old.end < ROOM - PAST }
         ensures end { piece.new.end ≤ piece.old.end + BLOCK_MAX }
         ensures inside { N * result.0 ≤ length «data».now }
         ensures some { 0 < result.0 }
-        ensures few { result.1.count < run_max }
-        ensures opaque { N ≡ 3 → slice_index result.1.before.a 15 ≡ 255 }
-        ensures written { (w : Writing) → w.list.style ≡ Tight
-            → CarryBetween true w (pixels_of N «data».now) table.old carry (kept_bytes piece.old)
-            → InBlocks w (pixels_of N (drop (N * result.0) «data».now)) table.new result.1
+        ensures written { (ahead : List ℕ)
+            → InBlocks Tight ahead (pixels_of N «data».now) table.old carry.entry
+            (kept_bytes piece.old)
+            → InBlocks Tight ahead (pixels_of N (drop (N * result.0) «data».now)) table.new result.1
             (kept_bytes piece.new) }
     {
         let mut coder = Coder::<N>::after(Tight, carry);
@@ -499,24 +488,21 @@ impl<const N: usize> Coder<N> {
         table: &mut PixelTable,
         piece: &mut Piece<ROOM>,
         data: &'a [u8],
-        carry: Carry,
-    ) -> (&'a [u8], Carry)
-        requires channels { IsChannels N }
+        carry: Carry<N>,
+    ) -> (&'a [u8], Carry<N>)
         requires whole { length «data».now % N ≡ 0 }
         requires enough { 16 * N ≤ length «data».now }
-        requires few { carry.count < run_max }
-        requires opaque { N ≡ 3 → slice_index carry.before.a 15 ≡ 255 }
         requires room { piece.old.end < ROOM - PAST }
         ensures end { piece.new.end ≤ piece.old.end + BLOCK_MAX }
         ensures less { length result.0.now < length «data».entry.now }
         ensures whole { length result.0.now % N ≡ 0 }
-        ensures few { result.1.count < run_max }
-        ensures opaque { N ≡ 3 → slice_index result.1.before.a 15 ≡ 255 }
-        ensures written { (w : Writing) → w.list.style ≡ style
-            → InBlocks w (pixels_of N «data».entry.now) table.old carry (kept_bytes piece.old)
-            → InBlocks w (pixels_of N result.0.now) table.new result.1 (kept_bytes piece.new) }
+        ensures written { (ahead : List ℕ)
+            → InBlocks style ahead (pixels_of N «data».entry.now) table.old carry.entry
+            (kept_bytes piece.old)
+            → InBlocks style ahead (pixels_of N result.0.now) table.new result.1
+            (kept_bytes piece.new) }
     {
-        let block = Block::first::<N>(data, carry.before);
+        let block = Block::first::<N>(data, carry);
         if block.repeats() {
             // In three channels most groups are short.
             if N == 3 && carry.count <= FEW_CARRIED {
@@ -540,21 +526,17 @@ impl<const N: usize> Coder<N> {
         table: &mut PixelTable,
         piece: Piece<'p, ROOM>,
         data: &[u8],
-        carry: &mut Carry,
+        carry: &mut Carry<N>,
     ) -> Piece<'p, ROOM>
-        requires channels { IsChannels N }
         requires whole { length «data».now % N ≡ 0 }
         requires some { 0 < length «data».now }
         requires few { length «data».now < 16 * N }
-        requires carried { carry.old.count < run_max }
-        requires opaque { N ≡ 3 → slice_index carry.old.before.a 15 ≡ 255 }
         requires room { piece.end < ROOM - PAST }
         ensures end { result.end < ROOM - PAST + FEW_MAX }
-        ensures few { carry.new.count < run_max }
-        ensures opaque { N ≡ 3 → slice_index carry.new.before.a 15 ≡ 255 }
-        ensures written { (w : Writing) → w.list.style ≡ style
-            → CarryBetween true w (pixels_of N «data».now) table.old carry.old
-            (kept_bytes piece.entry) → InBlocks w [] table.new carry.new (kept_bytes result) }
+        ensures written { (ahead : List ℕ)
+            → InBlocks style ahead (pixels_of N «data».now) table.old carry.old
+            (kept_bytes piece.entry)
+            → InBlocks style ahead [] table.new carry.new (kept_bytes result) }
     {
         let mut coder = Coder::<N>::after(style, *carry);
         let piece = coder.write_few(table, piece, data, usize::from(carry.count));
@@ -571,25 +553,21 @@ impl<const N: usize> Coder<N> {
         table: &mut PixelTable,
         piece: Piece<'p, ROOM>,
         data: &'a [u8],
-        carry: &mut Carry,
+        carry: &mut Carry<N>,
     ) -> (&'a [u8], Piece<'p, ROOM>)
         requires whole { length «data».now % N ≡ 0 }
         requires not_yet { self.old.begun ≡ false }
-        requires few { carry.old.count < run_max }
-        requires opaque { N ≡ 3 → slice_index carry.old.before.a 15 ≡ 255 }
         requires room { piece.end < ROOM - PAST }
         ensures end { result.1.end < ROOM - PAST + BLOCK_MAX }
         ensures some { (length result.0.now ≤ length «data».entry.now) × (ROOM - PAST ≤ result.1.end
             → length result.0.now < length «data».entry.now) }
         ensures whole { length result.0.now % N ≡ 0 }
-        ensures few { carry.new.count < run_max }
-        ensures opaque { N ≡ 3 → slice_index carry.new.before.a 15 ≡ 255 }
         ensures begun { result.1.end < ROOM - PAST → 0 < length result.0.now
             → self.new.begun ≡ true }
-        ensures written { (w : Writing)
-            → StepBetween w (pixels_of N «data».entry.now) table.old self.old carry.old
+        ensures written { (style : Style) (ahead : List ℕ)
+            → StepBetween style ahead (pixels_of N «data».entry.now) table.old self.old carry.old
             (kept_bytes piece.entry)
-            → StepBetween w (pixels_of N result.0.now) table.new self.new carry.new
+            → StepBetween style ahead (pixels_of N result.0.now) table.new self.new carry.new
             (kept_bytes result.1) }
     {
         let mut piece = piece;
@@ -618,22 +596,18 @@ impl<const N: usize> Coder<N> {
         table: &mut PixelTable,
         piece: Piece<'p, ROOM>,
         data: &'a [u8],
-        carry: &mut Carry,
+        carry: &mut Carry<N>,
     ) -> (&'a [u8], Piece<'p, ROOM>)
         requires whole { length «data».now % N ≡ 0 }
-        requires few { carry.old.count < run_max }
-        requires opaque { N ≡ 3 → slice_index carry.old.before.a 15 ≡ 255 }
         requires room { piece.end < ROOM - PAST }
         ensures end { result.1.end < ROOM - PAST + FEW_MAX }
         ensures all { result.1.end < ROOM - PAST → length result.0.now ≡ 0 }
         ensures some { ROOM - PAST ≤ result.1.end → length result.0.now < length «data».entry.now }
         ensures whole { length result.0.now % N ≡ 0 }
-        ensures few { carry.new.count < run_max }
-        ensures opaque { N ≡ 3 → slice_index carry.new.before.a 15 ≡ 255 }
-        ensures written { (w : Writing) → w.list.style ≡ style
-            → StepBetween w (pixels_of N «data».entry.now) table.old self.old carry.old
+        ensures written { (ahead : List ℕ)
+            → StepBetween style ahead (pixels_of N «data».entry.now) table.old self.old carry.old
             (kept_bytes piece.entry)
-            → StepBetween w (pixels_of N result.0.now) table.new self.new carry.new
+            → StepBetween style ahead (pixels_of N result.0.now) table.new self.new carry.new
             (kept_bytes result.1) }
     {
         let Piece { bytes, end } = piece;
@@ -644,7 +618,7 @@ impl<const N: usize> Coder<N> {
         } else {
             self.write_opening(table, piece, data, carry)
         };
-        let mut now = carry.with_known_alpha::<N>();
+        let mut now = carry.with_known_alpha();
         // A block has sixteen pixels. Those that are left are written one by one.
         while !piece.is_full() && rest.len() >= 16 * N {
             let (after, carried) = Coder::<N>::write_front::<STYLE, ROOM>(
@@ -663,13 +637,12 @@ impl<const N: usize> Coder<N> {
 
     /// Writes the repeats that are carried at the end, if there are any.
     #[inline(always)]
-    pub(super) fn write_last<const ROOM: usize>(&self, piece: &mut Piece<ROOM>, carry: Carry)
-        requires few { carry.count < run_max }
+    pub(super) fn write_last<const ROOM: usize>(&self, piece: &mut Piece<ROOM>, carry: Carry<N>)
         requires room { piece.old.end < ROOM - PAST }
         ensures end { piece.new.end ≤ piece.old.end + 1 }
-        ensures written { (w : Writing) (table : List RgbaPixel)
-            → StepBetween w [] table self.now carry (kept_bytes piece.old)
-            → w.ahead ≡ kept_bytes piece.new }
+        ensures written { (style : Style) (ahead : List ℕ) (table : List RgbaPixel)
+            → StepBetween style ahead [] table self.now carry.entry (kept_bytes piece.old)
+            → ahead ≡ kept_bytes piece.new }
     {
         piece.keep_run(usize::from(carry.count), QOI_OP_RUN);
     }

@@ -1,6 +1,6 @@
 //! The bytes of a file that are kept before they go to a writer.
 ghost use lib.Lanes.{digits_l};
-ghost use Rattle.std.specs.Prelude.{◌≡◌, Bool, true, ◌+◌, ◌-◌, ◌*◌, ◌/◌, ◌^◌, ◌<◌, ◌≤◌, List, [], ◌∷◌, ◌++◌, length, take, drop, replicate, slice_index, IsTrue, IsFalse, OnOk, IfErr};
+ghost use Rattle.std.specs.Prelude.{◌≡◌, ℕ, ◌+◌, ◌-◌, ◌*◌, ◌/◌, ◌^◌, ◌<◌, ◌≤◌, List, [], ◌∷◌, ◌++◌, length, take, drop, replicate, slice_index, IsTrue, IsFalse, OnOk, IfErr};
 ghost use Rattle.std.specs.List.{copy_within};
 ghost use Rattle.qoi.specs.declared.chunk.Chunk.{Chunk};
 ghost use Rattle.qoi.specs.declared.chunk.Chunk.TheVariants.{Run};
@@ -12,7 +12,8 @@ ghost use Rattle.qoi.specs.Runs.{runs_by};
 ghost use Rattle.qoi.specs.writers.Writes.{WroteBeginning};
 
 use crate::consts::{QOI_OP_RUN, QOI_RUN_MAX};
-use crate::encode::block::{Block, Carry, write_block};
+use crate::encode::block::{Block, write_block};
+use crate::encode::carry::Carry;
 use crate::encode::table::PixelTable;
 use crate::error::Result;
 use crate::types::Style;
@@ -55,10 +56,9 @@ pub(super) struct Piece<'a, const ROOM: usize> {
 
 impl<'a, const ROOM: usize> Piece<'a, ROOM> {
     ghost use Rattle.qoi.specs.inner.Blocks.{FitsBlock};
-    ghost use Rattle.qoi.specs.inner.CarryLoop.{CarryBetween};
-    ghost use Rattle.qoi.specs.inner.CoderLoop.{Writing};
+    ghost use Rattle.qoi.specs.inner.CarryLoop.{InBlocks};
     ghost use Rattle.qoi.specs.inner.Piece.{kept_bytes};
-    ghost use Rattle.qoi.specs.inner.Planes.{block_pixels};
+    ghost use Rattle.qoi.specs.inner.Planes.{AreOpaque, block_pixels};
 
     /// An empty piece in this room.
     #[inline(always)]
@@ -155,21 +155,17 @@ impl<'a, const ROOM: usize> Piece<'a, ROOM> {
         style: Style,
         table: &mut PixelTable,
         block: Block,
-        carry: Carry,
-    ) -> Carry
-        requires channels { IsChannels N }
-        requires few { carry.count < run_max }
-        requires opaque { N ≡ 3 → slice_index carry.before.a 15 ≡ 255 }
+        carry: Carry<N>,
+    ) -> Carry<N>
+        requires opaque { N ≡ 3 → AreOpaque (block_pixels block.words) }
         requires room { self.old.end < ROOM - PAST }
         ensures end { self.new.end ≤ self.old.end + BLOCK_MAX }
-        ensures few { result.count < 16 }
-        ensures before { result.before ≡ block.planes }
-        ensures written { (w : Writing) (begun : Bool) (rest : List RgbaPixel)
-            → w.list.style ≡ style
-            → FitsBlock N style table.old carry.before (block_pixels block.words) block.changes
-            → CarryBetween begun w (block_pixels block.words ++ rest) table.old carry
+        ensures written { (ahead : List ℕ) (rest : List RgbaPixel)
+            → FitsBlock style table.old carry.entry.before (block_pixels block.words)
+            block.changes
+            → InBlocks style ahead (block_pixels block.words ++ rest) table.old carry.entry
             (kept_bytes self.old)
-            → CarryBetween true w rest table.new result (kept_bytes self.new) }
+            → InBlocks style ahead rest table.new result (kept_bytes self.new) }
     {
         let (end, after) = write_block::<N, STYLE, ROOM>(
             style, table, self.bytes, self.end, block, carry,

@@ -2,15 +2,14 @@
 use Rattle.std.proofs.Common.{◌≡◌, ℕ, ◌-◌, [], replicate, refl, arith, subst}
 use Rattle.std.proofs.lemmas.Result.{err_from_is_err_and}
 use Rattle.qoi.specs.declared.encode.piece.TheConstants.{PAST}
-use Rattle.qoi.specs.declared.encode.block.Carry.{Carry}
+use Rattle.qoi.specs.declared.encode.carry.Carry.{Carry}
 use Rattle.qoi.specs.declared.encode.coder.Coder.{Coder}
 use Rattle.qoi.specs.declared.encode.planes.Planes.{Planes}
 use Rattle.qoi.specs.Raw.{pixels_of}
-use Rattle.qoi.specs.inner.CarryLoop.{StepBetween}
-use Rattle.qoi.specs.inner.CoderLoop.{Writing, CoderBetween}
+use Rattle.qoi.specs.inner.CarryLoop.{CarriesNone, StepBetween}
 use Rattle.qoi.specs.inner.Piece.{kept_bytes}
-use Rattle.qoi.proofs.encoding.CoderLink.{step_start}
-use Rattle.qoi.proofs.encoding.CoderSteps.{all_written}
+use Rattle.qoi.proofs.encoding.CoderLink.{still_opening}
+use Rattle.qoi.proofs.encoding.CoderSteps.{none_left}
 use Rattle.qoi.proofs.encoding.GroupRuns.{none_of_few}
 use Rattle.qoi.proofs.encoding.PieceByPiece.{PieceBetween, piece_starts, piece_filled, piece_fits, piece_went, piece_part, piece_ends}
 use Rattle.qoi.proofs.encoding.PieceSent.{kept_length}
@@ -19,30 +18,35 @@ use Rattle.qoi.proofs.encode.chunks.encode_pixels.Goals.{After-new-coder}
 use Rattle.qoi.proofs.encode.chunks.encode_pixels.Goals as goal
 
 -- nothing is carried after the coder's last pixel
-abbrev nothing : {N : ℕ} → Coder N → Carry
+abbrev nothing : {N : ℕ} → Coder N → Carry N
 nothing coder =
     let px = coder.last in
     let before : Planes = record { r = replicate 16 px.r; g = replicate 16 px.g; b = replicate 16 px.b; a = replicate 16 px.a } in
-    record { before = before; count = 0; placed = coder.placed }
+    record {
+      before = before;
+      count = 0;
+      placed = coder.placed;
+      channels = coder.channels;
+      few = omega arith;
+      opaque = λ three. coder.opaque three;
+    }
 
 -- before the first pixel
-starts : (g : Over) (c : After-new-coder g) (carry : Carry)
-    → ((w : Writing) → CoderBetween w (pixels_of g.row.N c.args.data.now) c.new-table.result c.new-coder.result (kept_bytes c.args.piece)
-    → StepBetween w (pixels_of g.row.N c.args.data.now) c.new-table.result c.new-coder.result carry (kept_bytes c.args.piece))
+starts : (g : Over) (c : After-new-coder g) (carry : Carry g.row.N) → CarriesNone c.new-coder.result carry
     → PieceBetween g.W.Writer.wrote g.W.Writer.room (record { style = c.args.style; front = kept_bytes c.args.piece; start = c.args.writer.now; raw = c.args.data.now }) c.args.data.now
     c.new-table.result c.new-coder.result carry (kept_bytes c.args.piece) c.args.writer.now
-starts g c carry =
+starts g c carry none =
     let new = c.new-coder.ensures in
     piece_starts _ g.met.W.Writer.laws c.requires.channels (λ i. omega (arith, c.type_inv.data i)) c.requires.whole
-    (omega (arith, kept_length c.args.piece, c.requires.room)) new.style (new.state c.new-table.result c.new-table.ensures)
+    (omega (arith, kept_length c.args.piece, c.requires.room)) new.style (new.state c.new-table.result c.new-table.ensures) none
 
 pub returns-then-data-clause-written : goal.returns-then-data-clause-written
 returns-then-data-clause-written g c =
     let coder = c.new-coder.result in
     let state = c.new-coder.ensures.state c.new-table.result c.new-table.ensures in
-    let at_start = starts g (goal.at.returns-then-data-clause-written g c).After-new-coder (nothing coder)
-    (λ w b. step_start (nothing coder) b (record { red = refl; green = refl; blue = refl; alpha = refl }) refl refl) in
-    piece_ends at_start (λ w b. all_written (c.write_few.ensures.written w (b.opening state.begun_is).between))
+    let none : CarriesNone coder (nothing coder) = record { count_is = refl; last_is = record { red = refl; green = refl; blue = refl; alpha = refl }; placed_is = refl } in
+    let at_start = starts g (goal.at.returns-then-data-clause-written g c).After-new-coder (nothing coder) none in
+    piece_ends at_start (λ ahead b. none_left (c.write_few.ensures.written ahead (still_opening b state.begun_is)).to_write)
 
 pub loop-rest-init : goal.loop-rest-init
 loop-rest-init g c =
@@ -50,9 +54,7 @@ loop-rest-init g c =
     record {
       end = c.requires.not_full;
       whole = c.requires.whole;
-      few = omega (arith, carry.count);
-      opaque = carry.opaque;
-      state = starts g (goal.at.loop-rest-init g c).After-new-coder c.carry-carry.result (λ w b. carry.between w _ _ _ b);
+      state = starts g (goal.at.loop-rest-init g c).After-new-coder c.carry-carry.result carry;
     }
 
 pub returns-then-not-is_full-clause-written : goal.returns-then-not-is_full-clause-written
@@ -61,7 +63,8 @@ returns-then-not-is_full-clause-written g c =
     let room = c.is_full.ensures.room c.if-not-is_full.true in
     let none : pixels_of g.row.N fill.result.0.now ≡ [] = none_of_few g.row.N fill.result.0.now c.requires.channels (omega (arith, fill.ensures.all room, c.requires.channels)) in
     piece_ends (piece_filled c.loop-rest.invariant.state fill.ensures.written)
-    (λ w b. c.write_last.ensures.written w _ (subst (λ x. StepBetween w x fill.new.table fill.new.self fill.new.carry (kept_bytes fill.result.1)) none b))
+    (λ ahead b. c.write_last.ensures.written c.args.style ahead _
+    (subst (λ x. StepBetween c.args.style ahead x fill.new.table fill.new.self fill.new.carry (kept_bytes fill.result.1)) none b))
 
 pub send-requires : goal.send-requires
 send-requires g c =
@@ -76,8 +79,6 @@ loop-rest-preserved g c =
     record {
       end = omega (arith, c.in_ok-send.ensures.end, fill.end, c.args.piece.large);
       whole = fill.whole;
-      few = fill.few;
-      opaque = fill.opaque;
       state = piece_went (piece_filled c.loop-rest.invariant.state fill.written) (g.row.ROOM - PAST) c.in_ok-send.ensures.written c.in_ok-send.ensures.kept;
     }
 

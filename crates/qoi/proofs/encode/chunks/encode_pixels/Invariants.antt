@@ -10,8 +10,6 @@ abbrev pub invariant-loop-rest : goal.invariant-loop-rest
 invariant-loop-rest g l = record {
   end : l.piece.end < g.row.ROOM - PAST;
   whole : length l.rest % g.row.N ≡ 0;
-  few : l.carry.count < run_max;
-  opaque : g.row.N ≡ 3 → slice_index l.carry.before.a 15 ≡ 255;
   state : PieceBetween g.W.Writer.wrote g.W.Writer.room
       (record { start = l.initial.writer; front = kept_bytes l.initial.piece; style = l.fn.style; raw = l.data })
       l.rest l.table l.coder l.carry (kept_bytes l.piece) l.writer;

@@ -1,13 +1,12 @@
 -- A step further.
 use Rattle.std.proofs.Common.{◌≡◌, false, ◌*◌, ◌<◌, ◌≤◌, [], length, refl, sym, arith, subst}
 use Rattle.std.proofs.lemmas.Bool.{eqb-false}
-use Rattle.qoi.specs.declared.encode.block.Carry.{Carry}
+use Rattle.qoi.specs.declared.encode.carry.Carry.{Carry}
 use Rattle.std.proofs.Math.Nat.{mul_comm}
 use Rattle.qoi.specs.Qoi.{run_max}
 use Rattle.qoi.specs.Raw.{pixels_of}
 use Rattle.qoi.proofs.encoding.ReadBlock.{enough}
-use Rattle.qoi.proofs.encoding.CoderLink.{opened, begun_by_few, same_carried, stays_in_blocks}
-use Rattle.qoi.proofs.encoding.FrontBlock.{fewer_pixels}
+use Rattle.qoi.proofs.encoding.CoderLink.{opened, same_carried, now_in_blocks, stays_in_blocks}
 use Rattle.qoi.proofs.encoding.GroupRuns.{none_of_few}
 use Rattle.qoi.proofs.encode.coder.Coder.fill.Given.{Over}
 use Rattle.qoi.proofs.encode.coder.Coder.fill.Goals.{After-is_full-2, then-goes_by_blocks, else-goes_by_blocks, then-loop-table-test+else-rest, else-loop-table-test}
@@ -17,7 +16,6 @@ pub loop-table-init : goal.loop-table-init
 loop-table-init g c =
     let known = c.with_known_alpha-now.ensures in
     let now = c.with_known_alpha-now.result in
-    let few : c.if-goes_by_blocks.carry.count < run_max → now.count < run_max = λ l. omega (arith, known.same.0, l) in
     elim c.if-goes_by_blocks.branch [
       | then-goes_by_blocks way ↦ (let by = c.goes_by_blocks.ensures in
           let is = way.if-goes_by_blocks.true in
@@ -30,9 +28,7 @@ loop-table-init g c =
             left = omega arith;
             some = λ full. absurd (omega (arith, c.requires.room, full));
             whole = c.requires.whole;
-            few = few (subst (λ (x : Carry). x.count < run_max) (sym way.carry-is) c.requires.few);
-            opaque = known.opaque;
-            written = λ w _ b. same_carried now known.last known.same.0 known.same.1 (rw way.carry-is (opened b (by.fresh is) (many (by.whole is)) (by.tight is) refl refl));
+            written = λ ahead b. same_carried {carry = c.if-goes_by_blocks.carry} (rw way.carry-is (opened b _ (by.fresh is) (many (by.whole is)) (by.tight is) refl refl)) now known.last known.same.0 known.same.1;
           }))
       | else-goes_by_blocks way ↦ (let front = way.write_opening.ensures in
           rw (way.self-is, way.table-is, way.piece-is) (record {
@@ -41,9 +37,7 @@ loop-table-init g c =
             left = front.some.0;
             some = front.some.1;
             whole = front.whole;
-            few = few (subst (λ (x : Carry). x.count < run_max) (sym way.carry-is) front.few);
-            opaque = known.opaque;
-            written = λ w _ b. same_carried now known.last known.same.0 known.same.1 (rw way.carry-is (front.written w b));
+            written = λ ahead b. same_carried {carry = c.if-goes_by_blocks.carry} (rw way.carry-is (front.written c.args.style ahead b)) now known.last known.same.0 known.same.1;
           }))
     ]
 
@@ -58,11 +52,9 @@ loop-table-preserved g c =
       left = omega (arith, step.less, i.left);
       some = λ _. omega (arith, step.less, i.left);
       whole = step.whole;
-      few = step.few;
-      opaque = step.opaque;
-      written = λ w is b.
-          let now = i.written w is b in
-          stays_in_blocks now.style_is begun (step.written w is (now.by_blocks begun));
+      written = λ ahead b.
+          let now = i.written ahead b in
+          stays_in_blocks now.style_is begun (step.written ahead (now_in_blocks now begun));
     }
 
 -- no whole block is left
@@ -74,21 +66,19 @@ few_left g c room = elim c.loop-table-test.branch [
 
 pub write_tail-piece-requires : goal.write_tail-piece-requires
 write_tail-piece-requires g c =
-    let i = c.loop-table.invariant in
     let few = few_left g (goal.at.write_tail-piece-requires g c).After-is_full-2 c.if-is_full.false in
     let none = eqb-false (length c.loop-table.rest.now) 0 (sym c.if-is_empty.ensures) in
-    (omega arith, (c.args.self.now.channels, (i.whole, (omega (arith, none), (few, (i.few, (i.opaque, c.is_full-2.ensures.room c.if-is_full.false)))))))
+    (omega arith, (omega arith, (c.loop-table.invariant.whole, (omega (arith, none), (few, c.is_full-2.ensures.room c.if-is_full.false)))))
 
 pub returns-clause-written : goal.returns-clause-written
-returns-clause-written g c = λ w is b.
+returns-clause-written g c = λ ahead b.
     let i = c.loop-table.invariant in
     let rest = c.loop-table.rest.now in
     let channels = c.args.self.now.channels in
     let none = eqb-false (length rest) 0 (sym c.if-is_empty.ensures) in
     let some : 0 < length rest = omega (arith, none) in
     let begun = i.begun (c.is_full-2.ensures.room c.if-is_full.false) some in
-    let now = i.written w is b in
+    let now = i.written ahead b in
     let few = few_left g (goal.at.returns-clause-written g c).After-is_full-2 c.if-is_full.false in
-    let between = begun_by_few (now.by_blocks begun) (fewer_pixels g.row.N rest channels i.whole few) in
     let nothing : pixels_of g.row.N [] ≡ [] = none_of_few g.row.N [] channels (omega (arith, channels)) in
-    rw nothing (stays_in_blocks now.style_is begun (c.write_tail-piece.ensures.written w is between))
+    rw nothing (stays_in_blocks now.style_is begun (c.write_tail-piece.ensures.written ahead (now_in_blocks now begun)))

@@ -1,5 +1,5 @@
 -- Repeats and a fresh pixel further, until no pixel is left.
-use Rattle.std.proofs.Common.{◌≡◌, ◌≤◌, ◌+◌, ◌-◌, ◌*◌, ◌/◌, ◌%◌, inl, inr, [], ◌++◌, length, replicate, sym, ap, ◌∙◌, arith, subst}
+use Rattle.std.proofs.Common.{◌≡◌, ◌≤◌, ◌+◌, ◌-◌, ◌*◌, ◌/◌, ◌%◌, inl, inr, [], length, sym, ap, ◌∙◌, arith, subst}
 use Rattle.std.proofs.lemmas.Bool.{cases_lt, eqb-true}
 use Rattle.std.proofs.lemmas.List.{length-drop}
 use Rattle.qoi.specs.declared.encode.piece.TheConstants.{RUNS_AT_ONCE}
@@ -38,7 +38,8 @@ loop-rest-preserved g c =
       some = λ some. absurd (omega (arith, some));
       begun = λ is. step.begun (i.begun is);
       whole = ap (λ k. k % n) size ∙ whole_rest n count (length rest) channels i.whole step.inside;
-      written = λ w b. rw c.skip-rest.ensures (step.written w (i.written w b));
+      style = step.style ∙ i.style;
+      written = λ ahead b. rw c.skip-rest.ensures (step.written ahead (i.written ahead b));
     }
 
 pub returns-clause-end : goal.returns-clause-end
@@ -47,7 +48,7 @@ returns-clause-end g c =
     omega (arith, few, c.loop-rest.invariant.end, c.requires.room)
 
 pub returns-clause-written : goal.returns-clause-written
-returns-clause-written g c = λ w b.
+returns-clause-written g c = λ ahead b.
     let rest = c.loop-rest.rest.now in
     let i = c.loop-rest.invariant in
     let channels = c.args.self.now.channels in
@@ -57,5 +58,5 @@ returns-clause-written g c = λ w b.
       | inl some ↦ absurd (omega (arith, i.some some, empty))
       | inr zero ↦ omega (arith, zero)
     ] in
-    let all : replicate c.loop-rest.carry c.loop-rest.self.last ++ pixels_of g.row.N rest ≡ [] = λ j. replicate (no_carry j) c.loop-rest.self.last ++ none j in
-    subst (λ x. CoderBetween w x c.loop-rest.table c.loop-rest.self (kept_bytes c.loop-rest.piece)) all (i.written w b)
+    subst (λ k. CoderBetween ahead k [] c.loop-rest.table c.loop-rest.self (kept_bytes c.loop-rest.piece)) no_carry
+    (subst (λ x. CoderBetween ahead c.loop-rest.carry x c.loop-rest.table c.loop-rest.self (kept_bytes c.loop-rest.piece)) none (i.written ahead b))

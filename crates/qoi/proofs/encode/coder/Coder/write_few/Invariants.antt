@@ -1,10 +1,10 @@
 -- The pixels up to here are written, each as at most five bytes, and after the first step the repeats
 -- that were carried.
-use Rattle.std.proofs.Common.{◌≡◌, true, ◌+◌, ◌*◌, ◌/◌, ◌%◌, ◌<◌, ◌≤◌, ◌++◌, length, replicate}
+use Rattle.std.proofs.Common.{◌≡◌, ℕ, List, true, ◌+◌, ◌*◌, ◌/◌, ◌%◌, ◌<◌, ◌≤◌, length}
 use Rattle.qoi.specs.declared.encode.piece.TheConstants.{REPEATS_AT_ONCE, RUNS_AT_ONCE}
 use Rattle.qoi.specs.Qoi.{chunk_max}
 use Rattle.qoi.specs.Raw.{pixels_of}
-use Rattle.qoi.specs.inner.CoderLoop.{Writing, CoderBetween}
+use Rattle.qoi.specs.inner.CoderLoop.{CoderBetween}
 use Rattle.qoi.specs.inner.Piece.{kept_bytes}
 use Rattle.qoi.proofs.encode.coder.Coder.write_few.Given as goal
 
@@ -16,9 +16,9 @@ invariant-loop-rest g l = record {
   some : 0 < l.carry → 0 < length l.rest;
   begun : l.initial.self.begun ≡ true → l.self.begun ≡ true;
   whole : length l.rest % g.row.N ≡ 0;
-  written : (w : Writing)
-      → CoderBetween w (replicate l.initial.carry l.initial.self.last ++ pixels_of g.row.N l.data) l.initial.table l.initial.self (kept_bytes l.initial.piece)
-      → CoderBetween w (replicate l.carry l.self.last ++ pixels_of g.row.N l.rest) l.table l.self (kept_bytes l.piece);
+  style : l.self.style ≡ l.initial.self.style;
+  written : (ahead : List ℕ) → CoderBetween ahead l.initial.carry (pixels_of g.row.N l.data) l.initial.table l.initial.self (kept_bytes l.initial.piece)
+      → CoderBetween ahead l.carry (pixels_of g.row.N l.rest) l.table l.self (kept_bytes l.piece);
 }
 
 abbrev pub decreases-loop-rest : goal.decreases-loop-rest

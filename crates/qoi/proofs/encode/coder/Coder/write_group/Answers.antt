@@ -1,16 +1,13 @@
 -- The repeats and a fresh pixel.
-use Rattle.std.proofs.Common.{◌≡◌, true, ◌++◌, replicate}
-use Rattle.qoi.specs.Raw.{pixels_of}
-use Rattle.qoi.specs.inner.CoderLoop.{CoderBetween}
-use Rattle.qoi.specs.inner.Piece.{kept_bytes}
+use Rattle.std.proofs.Common.{inl, refl, ◌∙◌}
+use Rattle.qoi.proofs.encoding.CoderLink.{step_start, now_in_blocks}
 use Rattle.qoi.proofs.encode.coder.Coder.write_group.Goals as goal
 
 pub returns-clause-some : goal.returns-clause-some
 returns-clause-some g c = c.write_next-count.ensures.some c.requires.some
 
 pub returns-clause-written : goal.returns-clause-written
-returns-clause-written g c = λ w tight b.
-    let start : CoderBetween w (replicate c.from.result c.after-coder.result.last ++ pixels_of g.row.N c.args.data.now) c.args.table.now c.after-coder.result (kept_bytes c.args.piece.now)
-    = rw c.from.ensures (c.after-coder.ensures.between w _ _ _ tight b) in
-    let begun : c.write_next-count.new.self.begun ≡ true = c.write_next-count.ensures.begun c.after-coder.ensures.begun in
-    (c.carry.ensures.between w _ _ _ (c.write_next-count.ensures.written w start)).by_blocks begun
+returns-clause-written g c = λ ahead b.
+    let next = c.write_next-count.ensures in
+    let step = step_start (next.style ∙ c.after-coder.ensures.style) (next.written ahead (rw c.from.ensures (c.after-coder.ensures.between ahead _ _ _ (inl refl) b))) c.carry.ensures in
+    now_in_blocks step (next.begun c.after-coder.ensures.begun)

@@ -11,7 +11,7 @@ use Rattle.qoi.proofs.encoding.GroupRuns.{whole_rest, drop_next, pixel_ahead}
 use Rattle.qoi.proofs.encode.coder.Coder.write_next.Goals as goal
 
 pub returns-clause-written : goal.returns-clause-written
-returns-clause-written g c w b =
+returns-clause-written g c all b =
     let raw = c.args.data.now in
     let channels = c.args.self.now.channels in
     let n = c.write_repeats-count.result in
@@ -19,7 +19,7 @@ returns-clause-written g c w b =
     let later = drop (g.row.N * n) raw in
     let last_part = c.skip-after.result.now in
     let back : last_part ≡ later = c.skip-after.ensures in
-    let one = c.write_repeats-count.ensures.written w b in
+    let one = c.write_repeats-count.ensures.written all b in
     let last = c.write_repeats-count.new.self.last in
     let some : 0 < length later = (let other : length last_part ≢ 0 = eqb-false (length last_part) 0 (sym c.is_empty.ensures ∙ c.if-is_empty.false) in
     omega (arith, ap length back)) in
@@ -34,8 +34,8 @@ returns-clause-written g c w b =
       | inl other ↦ other
       | inr all ↦ absurd (c.if-carry-count-eq-REPEATS_AT_ONCE.false all)
     ] in
-    let differs : px ≢ last = λ e. first (ap (λ x. slice_get x 0) ahead ∙ ap (λ x. Some x) (e ∙ c.write_repeats-count.ensures.last)) in
-    let stand = subst (λ x. CoderBetween w x c.write_repeats-count.new.table c.write_repeats-count.new.self (kept_bytes c.write_repeats-count.new.piece)) ahead one in
-    let done = c.write_pixel.ensures.written w (pixels_of g.row.N (drop g.row.N later)) differs stand in
-    subst (λ xs. CoderBetween w (pixels_of g.row.N xs) c.write_pixel.new.table c.write_pixel.new.self (kept_bytes c.write_pixel.new.piece))
+    let differs : px ≢ last = λ e. first (ap (λ x. slice_get x 0) ahead ∙ ap (λ x. Some x) (e ∙ c.write_repeats-count.ensures.same.0)) in
+    let stand = subst (λ x. CoderBetween all 0 x c.write_repeats-count.new.table c.write_repeats-count.new.self (kept_bytes c.write_repeats-count.new.piece)) ahead one in
+    let done = c.write_pixel.ensures.written all (pixels_of g.row.N (drop g.row.N later)) differs stand in
+    subst (λ xs. CoderBetween all 0 (pixels_of g.row.N xs) c.write_pixel.new.table c.write_pixel.new.self (kept_bytes c.write_pixel.new.piece))
     (drop_next g.row.N n raw channels) done

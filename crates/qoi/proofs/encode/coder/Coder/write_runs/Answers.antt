@@ -1,5 +1,5 @@
 -- The repeats that are looked at, and their runs.
-use Rattle.std.proofs.Common.{◌≡◌, ◌≢◌, ◌⊎◌, inl, inr, ◌+◌, ◌-◌, ◌%◌, ◌*◌, [], ◌∷◌, ◌++◌, drop, replicate, Some, refl, sym, ap, ◌∙◌, arith, subst}
+use Rattle.std.proofs.Common.{◌≡◌, ◌≢◌, ◌⊎◌, inl, inr, ◌+◌, ◌-◌, ◌%◌, ◌*◌, [], ◌∷◌, drop, Some, refl, sym, ap, ◌∙◌, arith, subst}
 use Rattle.std.proofs.lemmas.List.{length-drop}
 use Rattle.std.specs.List.{slice_get}
 use Rattle.qoi.specs.declared.chunk.Chunk.{Chunk}
@@ -9,7 +9,6 @@ use Rattle.qoi.specs.Qoi.{bytes_of}
 use Rattle.qoi.specs.Raw.{pixels_of}
 use Rattle.qoi.specs.Runs.{IsCount}
 use Rattle.qoi.specs.inner.CoderLoop.{single}
-use Rattle.qoi.proofs.format.ChunkSteps.{repeats_after}
 use Rattle.qoi.proofs.encoding.CoderSteps.{group_written}
 use Rattle.qoi.proofs.encoding.GroupRuns.{NearGroup, near_group, none_of_few, some_pixels}
 use Rattle.qoi.proofs.encode.coder.Coder.write_runs.Given.{Over}
@@ -44,7 +43,7 @@ returns-clause-stops g c =
     elim group.ends [ inl other ↦ inl other | inr e ↦ inr (omega (arith, e, c.requires.few)) ]
 
 pub returns-clause-written : goal.returns-clause-written
-returns-clause-written g c w b =
+returns-clause-written g c ahead b =
     let n = c.repeats_by_call-ahead.result in
     let k = c.args.carry in
     let coder = c.args.self.now in
@@ -70,7 +69,5 @@ returns-clause-written g c w b =
         inr (some_pixels g.row.N later coder.channels group.whole (omega (arith, size, x.if-ahead-data.false, group.within)), refl),
       )
     ] in
-    let split : replicate k coder.last ++ pixels_of g.row.N raw ≡ replicate (k + n) coder.last ++ rest =
-    ap (λ x. replicate k coder.last ++ x) group.pixels ∙ repeats_after k n coder.last rest in
-    group_written b (k + n) rest one.0 {next_table = c.update_after_repeats.new.table} {next_coder = c.update_after_repeats.new.self} split ends (λ _. one.2)
+    group_written b n rest one.0 group.pixels ends (λ _. one.2)
     (c.keep_runs.ensures.kept one.0 one.1) c.update_after_repeats.ensures.same.1 c.update_after_repeats.ensures.state
