@@ -8,6 +8,7 @@ pub mod GroupRuns
 pub mod NotedPixels
 pub mod PieceByPiece
 pub mod PieceSent
+pub mod PixelsIn
 pub mod PixelBlock
 pub mod PlacedLists
 pub mod Spelled

@@ -21,6 +21,7 @@ pub mod Counts
 pub mod Each
 pub mod Fours
 pub mod LaneVectors
+pub mod Pixels
 pub mod Planes
 pub mod Spelling
 pub mod Stands

@@ -28,6 +28,7 @@ mod lanes;
 mod named;
 mod packing;
 pub(crate) mod piece;
+mod pixels;
 mod planes;
 pub(crate) mod runs;
 mod spelling;

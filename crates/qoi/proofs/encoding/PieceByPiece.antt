@@ -33,21 +33,21 @@ abbrev all_of : {W : Type 0} → ℕ → Sending W → List ℕ
 all_of n s = s.front ++ chunk_bytes (written_list s.style (pixels_of n s.raw))
 
 -- All of that went to the writer but what is ahead: the bytes that are kept, and those of the
--- chunks that are still to be written, for the raw bytes `rest`.
-pub record PieceBetween {W : Type 0} (wrote : W → List ℕ → W → Type 0) (room : W → ℕ) {n : ℕ} (s : Sending W) (rest : List ℕ)
+-- chunks that are still to be written, for the pixels `rest`.
+pub record PieceBetween {W : Type 0} (wrote : W → List ℕ → W → Type 0) (room : W → ℕ) {n : ℕ} (s : Sending W) (rest : List RgbaPixel)
     (table : List RgbaPixel) (coder : Coder n) (carry : Carry n) (kept : List ℕ) (buf : W) : Type 0 where
   pub laws : WriterLaws wrote room
   pub list : WrittenIn s.style (pixels_of n s.raw) (written_list s.style (pixels_of n s.raw))
   pub fits : length (all_of n s) ≤ room s.start
   pub ahead : List ℕ
   pub went : WroteBut wrote s.start (all_of n s) ahead buf
-  pub between : StepBetween s.style ahead (pixels_of n rest) table coder carry kept
+  pub between : StepBetween s.style ahead rest table coder carry kept
 
 module _ {W : Type 0} {wrote : W → List ℕ → W → Type 0} {room : W → ℕ} {n : ℕ} where
   -- before the first pixel
   pub piece_starts : {table : List RgbaPixel} {coder : Coder n} {carry : Carry n} (s : Sending W) → WriterLaws wrote room → IsChannels n → AreBytes s.raw → length s.raw % n ≡ 0
       → length s.front + (length s.raw + length s.raw / n) ≤ room s.start → coder.style ≡ s.style → CoderAfter [] None table coder → CarriesNone coder carry
-      → PieceBetween wrote room s s.raw table coder carry s.front s.start
+      → PieceBetween wrote room s (pixels_of n s.raw) table coder carry s.front s.start
   piece_starts {table} {coder} {carry} s laws channels are whole enough style_is state none =
       let pixels = pixels_of n s.raw in
       let pixels_are = pixels_of_are n s.raw channels (all_bytes s.raw are) in
@@ -65,12 +65,12 @@ module _ {W : Type 0} {wrote : W → List ℕ → W → Type 0} {room : W → �
             (coder_starts pixels s.front table coder pixels_are state)) none;
       }
 
-  module _ {s : Sending W} {rest : List ℕ} {table : List RgbaPixel} {coder : Coder n} {carry : Carry n} {kept : List ℕ} {buf : W}
+  module _ {s : Sending W} {rest : List RgbaPixel} {table : List RgbaPixel} {coder : Coder n} {carry : Carry n} {kept : List ℕ} {buf : W}
       (p : PieceBetween wrote room s rest table coder carry kept buf) where
     -- the coder went on
-    pub piece_filled : {rest' : List ℕ} {table' : List RgbaPixel} {coder' : Coder n} {carry' : Carry n} {kept' : List ℕ}
-        → ((ahead : List ℕ) → StepBetween s.style ahead (pixels_of n rest) table coder carry kept
-        → StepBetween s.style ahead (pixels_of n rest') table' coder' carry' kept')
+    pub piece_filled : {rest' : List RgbaPixel} {table' : List RgbaPixel} {coder' : Coder n} {carry' : Carry n} {kept' : List ℕ}
+        → ((ahead : List ℕ) → StepBetween s.style ahead rest table coder carry kept
+        → StepBetween s.style ahead rest' table' coder' carry' kept')
         → PieceBetween wrote room s rest' table' coder' carry' kept' buf
     piece_filled went_on = record {
       laws = p.laws;
@@ -82,7 +82,7 @@ module _ {W : Type 0} {wrote : W → List ℕ → W → Type 0} {room : W → �
     }
 
     -- at the end all but what is kept went
-    pub piece_ends : {kept' : List ℕ} → ((ahead : List ℕ) → StepBetween s.style ahead (pixels_of n rest) table coder carry kept → ahead ≡ kept')
+    pub piece_ends : {kept' : List ℕ} → ((ahead : List ℕ) → StepBetween s.style ahead rest table coder carry kept → ahead ≡ kept')
         → (cs : List Chunk) × WrittenIn s.style (pixels_of n s.raw) cs × WroteBut wrote s.start (s.front ++ chunk_bytes cs) kept' buf
     piece_ends went_on = (
       written_list s.style (pixels_of n s.raw),
@@ -93,7 +93,7 @@ module _ {W : Type 0} {wrote : W → List ℕ → W → Type 0} {room : W → �
     -- the kept bytes are the first `size` and the others
     module _ (size : ℕ) where
       abbrev sent_first : (ahead : List ℕ) × (p.ahead ≡ take size kept ++ ahead)
-          × StepBetween s.style ahead (pixels_of n rest) table coder carry (drop size kept)
+          × StepBetween s.style ahead rest table coder carry (drop size kept)
       sent_first = step_sent p.between (take size kept) (drop size kept) (sym (take-append-drop size kept))
 
       -- there is room for the first
@@ -115,7 +115,7 @@ module _ {W : Type 0} {wrote : W → List ℕ → W → Type 0} {room : W → �
         fits = p.fits;
         ahead = sent_first.0;
         went = wrote_next p.laws s.start buf now (all_of n s) p.ahead (take size kept) sent_first.0 p.went sent_first.1 went;
-        between = subst (StepBetween s.style sent_first.0 (pixels_of n rest) table coder carry) (sym is) sent_first.2;
+        between = subst (StepBetween s.style sent_first.0 rest table coder carry) (sym is) sent_first.2;
       }
 
       -- a beginning of them is

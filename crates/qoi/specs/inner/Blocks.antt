@@ -1,5 +1,5 @@
 -- What a block of sixteen pixels must meet.
-use Rattle.std.specs.Prelude.{◌≡◌, ℕ, Bool, true, false, ◌&&◌, List, [], ◌∷◌, slice_index}
+use Rattle.std.specs.Prelude.{◌≡◌, Bool, true, false, ◌&&◌, List, [], ◌∷◌, slice_index}
 use Rattle.qoi.specs.declared.encode.changes.Changes.{Changes}
 use Rattle.qoi.specs.declared.encode.planes.Planes.{Planes}
 use Rattle.qoi.specs.declared.types.Style.{Style}

@@ -1,13 +1,16 @@
 //! Sixteen pixels, a block, and the chunks of a block, but for the repeats that it ends with.
 ghost use Rattle.std.specs.Prelude.{◌≡◌, ℕ, Bool, true, false, ◌+◌, ◌-◌, ◌*◌, ◌≤◌, ◌<◌, List, [], ◌∷◌, ◌++◌, length, map, take, slice_index, slice_index_or, ◌/◌, ◌%◌, IsTrue, IsFalse};
 ghost use Rattle.qoi.specs.declared.encode.block.TheConstants.{BLOCK_ROOM, BLOCK_MAX};
+ghost use Rattle.qoi.specs.declared.encode.piece.TheConstants.{PAST};
 ghost use Rattle.qoi.specs.declared.types.Style.TheVariants.{Places};
 ghost use Rattle.qoi.specs.Qoi.{RgbaPixel, IsPixel, run_max, hash};
-ghost use Rattle.qoi.specs.Raw.{IsChannels, pixels_of};
+ghost use Rattle.qoi.specs.Raw.{IsChannels};
 ghost use Rattle.qoi.specs.inner.BlockLanes.{mask};
 ghost use Rattle.qoi.specs.inner.BlockState.{State, NoneBlank, group_bytes};
 ghost use Rattle.qoi.specs.inner.Blocks.{ChangesFrom, FitsBlock, MissesNoBlank, last_pixel, all_repeat};
 ghost use Rattle.qoi.specs.inner.CarryLoop.{InBlocks};
+ghost use Rattle.qoi.specs.inner.Piece.{kept_bytes};
+ghost use Rattle.qoi.specs.inner.Pixels.{pixels_in};
 ghost use Rattle.qoi.specs.inner.Planes.{ArePacked, ArePlanes, AreOpaque, block_pixels};
 ghost use Rattle.qoi.specs.inner.Spelling.{IsLastOf, HasSpelled};
 ghost use Rattle.qoi.specs.inner.Stands.{stand_tests};
@@ -18,6 +21,8 @@ use crate::encode::changes::{Changes, all_set, find_changes};
 use crate::encode::lanes::{blanks, is_zero, places, store_lanes};
 use crate::encode::named::name_single;
 use crate::encode::packing::first_sixteen;
+use crate::encode::piece::Piece;
+use crate::encode::pixels::Pixels;
 use crate::encode::planes::{Planes, Words, make_planes};
 use crate::encode::spelling::{Spelled, spell_block};
 use crate::encode::stands::put_block;
@@ -59,16 +64,15 @@ impl Block {
         }
     }
 
-    /// The block at the front of raw bytes, which comes after the block that is carried.
+    /// The block at the front, which comes after the block that is carried.
     #[inline(always)]
-    pub(super) fn first<const N: usize>(bytes: &[u8], carry: Carry<N>) -> Block
-        requires whole { length bytes.now % N ≡ 0 }
-        requires enough { 16 * N ≤ length bytes.now }
+    pub(super) fn first<const N: usize>(raw: Pixels<N>, carry: Carry<N>) -> Block
+        requires { 16 ≤ length (pixels_in raw) }
         ensures changes { ChangesFrom carry.entry.before (block_pixels result.words) result.changes }
-        ensures pixels { block_pixels result.words ≡ take 16 (pixels_of N bytes.now) }
+        ensures pixels { block_pixels result.words ≡ take 16 (pixels_in raw.entry) }
         ensures opaque { N ≡ 3 → AreOpaque (block_pixels result.words) }
     {
-        Block::new::<N>(first_sixteen::<N>(bytes), carry)
+        Block::new::<N>(first_sixteen::<N>(raw.bytes), carry)
     }
 
     /// Whether all sixteen pixels repeat the last one of the block before.
@@ -159,35 +163,32 @@ impl Block {
     }
 }
 
-/// Stores the chunks of a block that doesn't repeat whole, from `at` on, but for the repeats at its
-/// end. Returns where the chunks end, and what is carried then. `STYLE` and `ROOM` give each loop
-/// that calls it a function of its own, which the compiler inlines there.
+/// Appends the chunks of a block that doesn't repeat whole, but for the repeats at its end. Returns
+/// what is carried then. `STYLE` and `ROOM` give each loop that calls it a function of its own, which
+/// the compiler inlines there.
 #[inline]
 pub(super) fn write_block<const N: usize, const STYLE: u8, const ROOM: usize>(
     style: Style,
     table: &mut PixelTable,
-    out: &mut [u8],
-    at: usize,
+    piece: &mut Piece<ROOM>,
     block: Block,
     carry: Carry<N>,
-) -> (usize, Carry<N>)
+) -> Carry<N>
     requires opaque { N ≡ 3 → AreOpaque (block_pixels block.words) }
-    requires size { length out.old ≡ ROOM }
-    requires room { at + BLOCK_ROOM ≤ ROOM }
-    ensures same { length out.new ≡ length out.old }
-    ensures near { (at ≤ result.0) × (result.0 ≤ at + BLOCK_MAX) }
+    requires room { piece.old.end < ROOM - PAST }
+    ensures end { piece.new.end ≤ piece.old.end + BLOCK_MAX }
     ensures written { (ahead : List ℕ) (rest : List RgbaPixel)
-        → FitsBlock style table.old carry.entry.before (block_pixels block.words)
-        block.changes
+        → FitsBlock style table.old carry.entry.before (block_pixels block.words) block.changes
         → InBlocks style ahead (block_pixels block.words ++ rest) table.old carry.entry
-        (take at out.old)
-        → InBlocks style ahead rest table.new result.1 (take result.0 out.new) }
+        (kept_bytes piece.old)
+        → InBlocks style ahead rest table.new result (kept_bytes piece.new) }
 {
     let places = places(block.planes);
-    store_lanes::<ROOM>(places, out, at, carry.byte(style));
+    let out = &mut *piece.bytes;
+    store_lanes::<ROOM>(places, out, piece.end, carry.byte(style));
     let stands = put_block(table, &out[ROOM - 16..], block.words);
     let x = block.spell(style, stands, places, carry);
-    let start = carry.end(at, x.rep.to_array()[0]);
-    let end = put_sixteen::<N>(out, start, x, block.planes);
-    (end, block.carry(style, x, stands))
+    let start = carry.end(piece.end, x.rep.to_array()[0]);
+    piece.end = put_sixteen::<N>(out, start, x, block.planes);
+    block.carry(style, x, stands)
 }

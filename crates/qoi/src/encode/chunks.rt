@@ -8,6 +8,7 @@ ghost use Rattle.qoi.specs.inner.Piece.{WroteChunks, BeganChunks};
 
 use crate::encode::coder::Coder;
 use crate::encode::piece::Piece;
+use crate::encode::pixels::Pixels;
 use crate::encode::table::PixelTable;
 use crate::error::Result;
 use crate::types::Channels::{self, Rgb, Rgba};
@@ -35,12 +36,12 @@ fn encode_pixels<'p, W: Writer, const N: usize, const STYLE: u8, const ROOM: usi
 {
     let mut table = PixelTable::new();
     let mut coder = Coder::<N>::new(style);
-    if data.len() < 16 * N {
-        return Ok(coder.write_few(&mut table, piece, data, 0));
+    let mut rest = Pixels::<N>::new(data);
+    if !rest.has_block() {
+        return Ok(coder.write_few(&mut table, piece, rest, 0));
     }
     let mut carry = coder.carry();
     let mut piece = piece;
-    let mut rest = data;
     loop {
         (rest, piece) = coder.fill::<STYLE, ROOM>(style, &mut table, piece, rest, &mut carry);
         if !piece.is_full() {

@@ -8,7 +8,7 @@ ghost use Rattle.qoi.specs.declared.encode.piece.TheConstants.{PAST, RUNS_AT_ONC
 ghost use Rattle.qoi.specs.declared.types.Style.{Style};
 ghost use Rattle.qoi.specs.declared.types.Style.TheVariants.{Tight};
 ghost use Rattle.qoi.specs.Qoi.{RgbaPixel, Past, run_max, chunk_max, previous, seen, hash, IsChunk, bytes_of};
-ghost use Rattle.qoi.specs.Raw.{IsChannels, IsChannels-prop, pixels_of};
+ghost use Rattle.qoi.specs.Raw.{IsChannels, IsChannels-prop};
 ghost use Rattle.qoi.specs.Runs.{runs_by};
 ghost use Rattle.qoi.specs.Written.{IsFirst};
 ghost use Rattle.qoi.specs.Styles.{choice_in};
@@ -19,16 +19,17 @@ ghost use Rattle.qoi.specs.inner.Planes.{AreOpaque, block_pixels};
 ghost use Rattle.qoi.specs.inner.Table.{Holds};
 
 use crate::consts::{QOI_OP_RUN, QOI_RUN_MAX};
-use crate::encode::block::Block;
+use crate::encode::block::{Block, write_block};
 use crate::encode::carry::Carry;
 use crate::encode::fresh::spell_pixel;
 use crate::encode::piece::{Piece, REPEATS_AT_ONCE};
+use crate::encode::pixels::Pixels;
 use crate::encode::planes::Planes;
-use crate::encode::runs::{begins_with, repeats_by_call, repeats_of};
+use crate::encode::runs::{repeats_by_call, repeats_of};
 use crate::encode::table::PixelTable;
 use crate::packed::Packed;
 use crate::types::Style::{self, Places, Reference, Tight};
-use crate::utils::{pick, skip};
+use crate::utils::pick;
 
 /// The most bytes of the chunks of fewer pixels than a block has, and of the runs before them.
 pub(super) const FEW_MAX: usize = 92;
@@ -56,7 +57,7 @@ impl<const N: usize> Coder<N> {
     ghost use Rattle.qoi.specs.inner.Blocks.{ChangesFrom, FitsBlock, MissesNoBlank, all_repeat, last_pixel};
     ghost use Rattle.qoi.specs.inner.CarryLoop.{InBlocks, CarriesNone, StepBetween};
     ghost use Rattle.qoi.specs.inner.CoderLoop.{CoderAfter, single, CoderBetween};
-    ghost use Rattle.qoi.specs.inner.Spelling.{IsLastOf};
+    ghost use Rattle.qoi.specs.inner.Pixels.{pixels_in};
 
     /// The coder before the first pixel, as if opaque black came before.
     pub(super) fn new(style: Style) -> Coder<N>
@@ -180,37 +181,40 @@ impl<const N: usize> Coder<N> {
         piece.keep_chunk::<N>(px.number(), number, pick(stands, 1, size));
     }
 
-    // Writes the `carry` repeats that came before these raw bytes and the repeats at their front,
-    // at most 992 in all. Returns how many of the latter.
+    // Writes the `carry` repeats that came before these pixels and the repeats at their front, at
+    // most 992 in all. Returns how many of the latter. If there are none, that is seen at the first
+    // pixel.
     #[inline(always)]
     fn write_runs<const ROOM: usize>(
         &mut self,
         table: &mut PixelTable,
         piece: &mut Piece<ROOM>,
-        data: &[u8],
+        raw: Pixels<N>,
         carry: usize,
     ) -> usize
-        requires whole { length «data».now % N ≡ 0 }
-        requires few { carry ≤ REPEATS_AT_ONCE }
+        requires few { carry < REPEATS_AT_ONCE }
         requires room { piece.old.end + RUNS_AT_ONCE < ROOM }
-        ensures end { piece.new.end ≤ piece.old.end + (carry + result) / run_max + 1 }
+        ensures end { piece.new.end ≤ piece.old.end + RUNS_AT_ONCE + 1 }
+        ensures each { piece.new.end ≤ piece.old.end + (carry + result) }
         ensures few { carry + result ≤ REPEATS_AT_ONCE }
-        ensures inside { N * result ≤ length «data».now }
+        ensures inside { result ≤ length (pixels_in raw.entry) }
         ensures same { (self.new.last ≡ self.old.last) × (self.new.style ≡ self.old.style)
             × (self.new.begun ≡ self.old.begun) }
-        ensures stops { (slice_get (pixels_of N (drop (N * result) «data».now)) 0
-            ≢ Some self.old.last) ⊎ (carry + result ≡ REPEATS_AT_ONCE) }
+        ensures stops { (slice_get (drop result (pixels_in raw.entry)) 0 ≢ Some self.old.last)
+            ⊎ (carry + result ≡ REPEATS_AT_ONCE) }
         ensures written { (ahead : List ℕ)
-            → CoderBetween ahead carry (pixels_of N «data».now) table.old self.old
+            → CoderBetween ahead carry (pixels_in raw.entry) table.old self.old
             (kept_bytes piece.old)
-            → CoderBetween ahead 0 (pixels_of N (drop (N * result) «data».now)) table.new self.new
+            → CoderBetween ahead 0 (drop result (pixels_in raw.entry)) table.new self.new
             (kept_bytes piece.new) }
     {
-        let (near, _) = data.split_at(data.len().min(N * (REPEATS_AT_ONCE - carry)));
+        if carry == 0 && !raw.begin_with(self.last) {
+            return 0;
+        }
         // If more than 992 repeat, 992 are counted: sixteen runs of 62, so `one` isn't used.
-        let ahead = repeats_by_call::<N>(near, self.last);
+        let ahead = repeats_by_call::<N>(raw.near(REPEATS_AT_ONCE - carry), self.last);
         let count = carry + ahead;
-        let one = if N * ahead == data.len() {
+        let one = if raw.ends_after(ahead) {
             // An index position stands for a repeat only if a fresh pixel follows.
             QOI_OP_RUN
         } else {
@@ -221,70 +225,38 @@ impl<const N: usize> Coder<N> {
         ahead
     }
 
-    // The same as `write_runs`, but if there are no repeats, that is seen at the first pixel.
+    // Writes the `carry` repeats that came before these pixels, the repeats at their front, and the
+    // fresh pixel after them, if there is one and fewer than 992 repeats were written. Returns the
+    // rest.
     #[inline(always)]
-    fn write_repeats<const ROOM: usize>(
+    fn write_next<'a, const ROOM: usize>(
         &mut self,
         table: &mut PixelTable,
         piece: &mut Piece<ROOM>,
-        data: &[u8],
+        raw: Pixels<'a, N>,
         carry: usize,
-    ) -> usize
-        requires whole { length «data».now % N ≡ 0 }
-        requires few { carry < REPEATS_AT_ONCE }
-        requires room { piece.old.end + RUNS_AT_ONCE < ROOM }
-        ensures end { piece.new.end ≤ piece.old.end + RUNS_AT_ONCE + 1 }
-        ensures each { piece.new.end ≤ piece.old.end + (carry + result) }
-        ensures inside { N * result ≤ length «data».now }
-        ensures same { (self.new.last ≡ self.old.last) × (self.new.style ≡ self.old.style)
-            × (self.new.begun ≡ self.old.begun) }
-        ensures stops { (slice_get (pixels_of N (drop (N * result) «data».now)) 0
-            ≢ Some self.old.last) ⊎ (carry + result ≡ REPEATS_AT_ONCE) }
-        ensures written { (ahead : List ℕ)
-            → CoderBetween ahead carry (pixels_of N «data».now) table.old self.old
-            (kept_bytes piece.old)
-            → CoderBetween ahead 0 (pixels_of N (drop (N * result) «data».now)) table.new self.new
-            (kept_bytes piece.new) }
-    {
-        if carry > 0 || begins_with::<N>(data, self.last) {
-            return self.write_runs(table, piece, data, carry);
-        }
-        0
-    }
-
-    // Writes the `carry` repeats that came before these raw bytes, the repeats at their front, and
-    // the fresh pixel after them, if there is one and fewer than 992 repeats were written. Returns
-    // how many pixels of the raw bytes were written.
-    #[inline(always)]
-    fn write_next<const ROOM: usize>(
-        &mut self,
-        table: &mut PixelTable,
-        piece: &mut Piece<ROOM>,
-        data: &[u8],
-        carry: usize,
-    ) -> usize
-        requires whole { length «data».now % N ≡ 0 }
+    ) -> Pixels<'a, N>
         requires few { carry < REPEATS_AT_ONCE }
         requires room { piece.old.end + RUNS_AT_ONCE + 1 + chunk_max ≤ ROOM }
         ensures end { piece.new.end ≤ piece.old.end + RUNS_AT_ONCE + 1 + chunk_max }
-        ensures each { carry ≡ 0 → piece.new.end ≤ piece.old.end + chunk_max * result }
-        ensures inside { N * result ≤ length «data».now }
-        ensures some { 0 < length «data».now → 0 < result }
+        ensures each { carry ≡ 0 → piece.new.end + chunk_max * length (pixels_in result)
+            ≤ piece.old.end + chunk_max * length (pixels_in raw.entry) }
+        ensures less { pixels_in raw.entry ≢ []
+            → length (pixels_in result) < length (pixels_in raw.entry) }
         ensures style { self.new.style ≡ self.old.style }
         ensures begun { self.old.begun ≡ true → self.new.begun ≡ true }
         ensures written { (ahead : List ℕ)
-            → CoderBetween ahead carry (pixels_of N «data».now) table.old self.old
+            → CoderBetween ahead carry (pixels_in raw.entry) table.old self.old
             (kept_bytes piece.old)
-            → CoderBetween ahead 0 (pixels_of N (drop (N * result) «data».now)) table.new self.new
-            (kept_bytes piece.new) }
+            → CoderBetween ahead 0 (pixels_in result) table.new self.new (kept_bytes piece.new) }
     {
-        let count = self.write_repeats(table, piece, data, carry);
-        let after = skip(data, N * count);
+        let count = self.write_runs(table, piece, raw, carry);
+        let after = raw.skip(count);
         if carry + count == REPEATS_AT_ONCE || after.is_empty() {
-            return count;
+            return after;
         }
-        self.write_pixel(table, piece, Packed::read::<N>(after));
-        count + 1
+        self.write_pixel(table, piece, after.first());
+        after.skip(1)
     }
 
     /// Writes the `carry` repeats that came before, and fewer pixels than a block has, one by one.
@@ -293,28 +265,26 @@ impl<const N: usize> Coder<N> {
         &mut self,
         table: &mut PixelTable,
         piece: Piece<'p, ROOM>,
-        data: &[u8],
+        raw: Pixels<N>,
         carry: usize,
     ) -> Piece<'p, ROOM>
-        requires whole { length «data».now % N ≡ 0 }
-        requires few { length «data».now < 16 * N }
+        requires few { length (pixels_in raw) < 16 }
         requires carried { carry < REPEATS_AT_ONCE }
-        requires some { 0 < carry → 0 < length «data».now }
+        requires some { 0 < carry → pixels_in raw ≢ [] }
         requires room { piece.end < ROOM - PAST }
         ensures end { result.end < ROOM - PAST + FEW_MAX }
         ensures style { self.new.style ≡ self.old.style }
         ensures begun { self.old.begun ≡ true → self.new.begun ≡ true }
         ensures written { (ahead : List ℕ)
-            → CoderBetween ahead carry (pixels_of N «data».now) table.old self.old
+            → CoderBetween ahead carry (pixels_in raw.entry) table.old self.old
             (kept_bytes piece.entry)
             → CoderBetween ahead 0 [] table.new self.new (kept_bytes result) }
     {
         let mut piece = piece;
-        let mut rest = data;
+        let mut rest = raw;
         let mut carry = carry;
         while !rest.is_empty() {
-            let count = self.write_next(table, &mut piece, rest, carry);
-            rest = skip(rest, N * count);
+            rest = self.write_next(table, &mut piece, rest, carry);
             carry = 0;
         }
         piece
@@ -335,10 +305,11 @@ impl<const N: usize> Coder<N> {
     // Whether the front goes by blocks: once a fresh pixel came or, but in style `Tight`, if the
     // next one is fresh and there is a whole block.
     #[inline(always)]
-    fn goes_by_blocks(&self, data: &[u8]) -> bool
+    fn goes_by_blocks(&self, raw: Pixels<N>) -> bool
         ensures fresh { IsTrue result → self.now.begun ≡ false
-            → slice_get (pixels_of N «data».now) 0 ≢ Some self.now.last }
-        ensures whole { IsTrue result → self.now.begun ≡ false → 16 * N ≤ length «data».now }
+            → slice_get (pixels_in raw.entry) 0 ≢ Some self.now.last }
+        ensures whole { IsTrue result → self.now.begun ≡ false
+            → 16 ≤ length (pixels_in raw.entry) }
         ensures tight { IsTrue result → self.now.style ≡ Tight → self.now.begun ≡ true }
         ensures not_yet { IsFalse result → self.now.begun ≡ false }
     {
@@ -346,7 +317,7 @@ impl<const N: usize> Coder<N> {
             Reference | Places => true,
             Tight => false,
         };
-        self.begun || (may_open && data.len() >= 16 * N && !begins_with::<N>(data, self.last))
+        self.begun || (may_open && raw.has_block() && !raw.begin_with(self.last))
     }
 
     // Whether in style `Tight` a pixel of the block may be given by another index position than its
@@ -365,83 +336,43 @@ impl<const N: usize> Coder<N> {
         }
     }
 
-    // Writes the block at the front, but for the repeats at its end. Returns the rest, and what is
-    // carried.
-    #[inline(always)]
-    fn write_block<'a, const STYLE: u8, const ROOM: usize>(
-        style: Style,
-        table: &mut PixelTable,
-        piece: &mut Piece<ROOM>,
-        data: &'a [u8],
-        block: Block,
-        carry: Carry<N>,
-    ) -> (&'a [u8], Carry<N>)
-        requires whole { length «data».now % N ≡ 0 }
-        requires enough { 16 * N ≤ length «data».now }
-        requires room { piece.old.end < ROOM - PAST }
-        requires opaque { N ≡ 3 → AreOpaque (block_pixels block.words) }
-        requires pixels { block_pixels block.words ≡ take 16 (pixels_of N «data».now) }
-        ensures end { piece.new.end ≤ piece.old.end + BLOCK_MAX }
-        ensures less { length result.0.now < length «data».entry.now }
-        ensures whole { length result.0.now % N ≡ 0 }
-        ensures written { (ahead : List ℕ)
-            → FitsBlock style table.old carry.entry.before (block_pixels block.words)
-            block.changes
-            → InBlocks style ahead (pixels_of N «data».entry.now) table.old carry.entry
-            (kept_bytes piece.old)
-            → InBlocks style ahead (pixels_of N result.0.now) table.new result.1
-            (kept_bytes piece.new) }
-    {
-        let after = piece.keep_block::<N, STYLE>(style, table, block, carry);
-        (skip(data, 16 * N), after)
-    }
-
     // Carries the block of repeats at the front, too. Returns the rest, and what is carried.
     #[inline(always)]
-    fn carry_block(data: &[u8], carry: Carry<N>) -> (&[u8], Carry<N>)
-        requires whole { length «data».now % N ≡ 0 }
-        requires enough { 16 * N ≤ length «data».now }
-        requires repeats { all_repeat (last_pixel carry.before) (take 16 (pixels_of N «data».now))
-            ≡ true }
+    fn carry_block(raw: Pixels<N>, carry: Carry<N>) -> (Pixels<N>, Carry<N>)
+        requires enough { 16 ≤ length (pixels_in raw) }
+        requires repeats { all_repeat (last_pixel carry.before) (take 16 (pixels_in raw)) ≡ true }
         requires few { carry.count ≤ FEW_CARRIED }
-        ensures less { length result.0.now < length «data».entry.now }
-        ensures whole { length result.0.now % N ≡ 0 }
+        ensures less { length (pixels_in result.0) < length (pixels_in raw.entry) }
         ensures written { (style : Style) (ahead : List ℕ) (table : List RgbaPixel) (kept : List ℕ)
-            → InBlocks style ahead (pixels_of N «data».entry.now) table carry.entry kept
-            → InBlocks style ahead (pixels_of N result.0.now) table result.1 kept }
+            → InBlocks style ahead (pixels_in raw.entry) table carry.entry kept
+            → InBlocks style ahead (pixels_in result.0) table result.1 kept }
     {
         let after = Carry {
             before: carry.before,
             count: carry.count + 16,
             placed: carry.placed,
         };
-        (skip(data, 16 * N), after)
+        (raw.skip(16), after)
     }
 
     // Writes the full runs of the repeats at the front, after those that are carried; the others are
-    // carried. Returns how many pixels came, and what is carried.
+    // carried. Returns the rest, and what is carried.
     #[inline(always)]
-    fn write_long_group<const ROOM: usize>(
+    fn write_long_group<'a, const ROOM: usize>(
         piece: &mut Piece<ROOM>,
-        data: &[u8],
+        raw: Pixels<'a, N>,
         carry: Carry<N>,
-    ) -> (usize, Carry<N>)
-        requires repeats { slice_get (pixels_of N «data».now) 0 ≡ Some (last_pixel carry.before) }
-        requires whole { length «data».now % N ≡ 0 }
-        requires some { 0 < length «data».now }
+    ) -> (Pixels<'a, N>, Carry<N>)
+        requires repeats { slice_get (pixels_in raw) 0 ≡ Some (last_pixel carry.before) }
         requires room { piece.old.end < ROOM - PAST }
         ensures end { piece.new.end ≤ piece.old.end + BLOCK_MAX }
-        ensures inside { N * result.0 ≤ length «data».now }
-        ensures some { 0 < result.0 }
+        ensures less { length (pixels_in result.0) < length (pixels_in raw.entry) }
         ensures written { (style : Style) (ahead : List ℕ) (table : List RgbaPixel)
-            → InBlocks style ahead (pixels_of N «data».now) table carry.entry
-            (kept_bytes piece.old)
-            → InBlocks style ahead (pixels_of N (drop (N * result.0) «data».now)) table result.1
-            (kept_bytes piece.new) }
+            → InBlocks style ahead (pixels_in raw.entry) table carry.entry (kept_bytes piece.old)
+            → InBlocks style ahead (pixels_in result.0) table result.1 (kept_bytes piece.new) }
     {
         let carried = usize::from(carry.count);
-        let (near, _) = data.split_at(data.len().min(N * (REPEATS_AT_ONCE - carried)));
-        let ahead = repeats_of::<N>(near, Packed::read::<N>(data));
+        let ahead = repeats_of::<N>(raw.near(REPEATS_AT_ONCE - carried), raw.first());
         let count = carried + ahead;
         piece.keep_full_runs(count / QOI_RUN_MAX);
         let after = Carry {
@@ -449,73 +380,66 @@ impl<const N: usize> Coder<N> {
             count: (count % QOI_RUN_MAX) as u8,
             placed: carry.placed & (count < QOI_RUN_MAX),
         };
-        (ahead, after)
+        (raw.skip(ahead), after)
     }
 
-    // Writes the repeats at the front and the fresh pixel after them, in style `Tight`. Returns how
-    // many pixels came, and what is carried.
+    // Writes the repeats at the front and the fresh pixel after them, in style `Tight`. Returns the
+    // rest, and what is carried.
     #[inline(always)]
-    fn write_group<const ROOM: usize>(
+    fn write_group<'a, const ROOM: usize>(
         table: &mut PixelTable,
         piece: &mut Piece<ROOM>,
-        data: &[u8],
+        raw: Pixels<'a, N>,
         carry: Carry<N>,
-    ) -> (usize, Carry<N>)
-        requires whole { length «data».now % N ≡ 0 }
-        requires some { 0 < length «data».now }
+    ) -> (Pixels<'a, N>, Carry<N>)
+        requires some { pixels_in raw ≢ [] }
         requires room { piece.old.end < ROOM - PAST }
         ensures end { piece.new.end ≤ piece.old.end + BLOCK_MAX }
-        ensures inside { N * result.0 ≤ length «data».now }
-        ensures some { 0 < result.0 }
+        ensures less { length (pixels_in result.0) < length (pixels_in raw.entry) }
         ensures written { (ahead : List ℕ)
-            → InBlocks Tight ahead (pixels_of N «data».now) table.old carry.entry
+            → InBlocks Tight ahead (pixels_in raw.entry) table.old carry.entry
             (kept_bytes piece.old)
-            → InBlocks Tight ahead (pixels_of N (drop (N * result.0) «data».now)) table.new result.1
-            (kept_bytes piece.new) }
+            → InBlocks Tight ahead (pixels_in result.0) table.new result.1 (kept_bytes piece.new) }
     {
         let mut coder = Coder::<N>::after(Tight, carry);
-        let count = coder.write_next(table, piece, data, usize::from(carry.count));
-        (count, coder.carry())
+        let rest = coder.write_next(table, piece, raw, usize::from(carry.count));
+        (rest, coder.carry())
     }
 
-    // Writes what is at the front of raw bytes: a block, but for the repeats at its end; if all
-    // repeat, the full runs of the repeats there, if any; or repeats and the fresh pixel after them,
-    // if in style `Tight` a pixel may be given by another index position than its own. Returns the
-    // rest, and what is carried.
+    // Writes what is at the front: a block, but for the repeats at its end; if all repeat, the full
+    // runs of the repeats there, if any; or repeats and the fresh pixel after them, if in style
+    // `Tight` a pixel may be given by another index position than its own. Returns the rest, and
+    // what is carried.
     #[inline(always)]
     fn write_front<'a, const STYLE: u8, const ROOM: usize>(
         style: Style,
         table: &mut PixelTable,
         piece: &mut Piece<ROOM>,
-        data: &'a [u8],
+        raw: Pixels<'a, N>,
         carry: Carry<N>,
-    ) -> (&'a [u8], Carry<N>)
-        requires whole { length «data».now % N ≡ 0 }
-        requires enough { 16 * N ≤ length «data».now }
+    ) -> (Pixels<'a, N>, Carry<N>)
+        requires enough { 16 ≤ length (pixels_in raw) }
         requires room { piece.old.end < ROOM - PAST }
         ensures end { piece.new.end ≤ piece.old.end + BLOCK_MAX }
-        ensures less { length result.0.now < length «data».entry.now }
-        ensures whole { length result.0.now % N ≡ 0 }
+        ensures less { length (pixels_in result.0) < length (pixels_in raw.entry) }
         ensures written { (ahead : List ℕ)
-            → InBlocks style ahead (pixels_of N «data».entry.now) table.old carry.entry
+            → InBlocks style ahead (pixels_in raw.entry) table.old carry.entry
             (kept_bytes piece.old)
-            → InBlocks style ahead (pixels_of N result.0.now) table.new result.1
-            (kept_bytes piece.new) }
+            → InBlocks style ahead (pixels_in result.0) table.new result.1 (kept_bytes piece.new) }
     {
-        let block = Block::first::<N>(data, carry);
+        let block = Block::first::<N>(raw, carry);
         if block.repeats() {
             // In three channels most groups are short.
             if N == 3 && carry.count <= FEW_CARRIED {
-                return Coder::<N>::carry_block(data, carry);
+                return Coder::<N>::carry_block(raw, carry);
             }
-            let (count, after) = Coder::<N>::write_long_group(piece, data, carry);
-            return (skip(data, N * count), after);
+            return Coder::<N>::write_long_group(piece, raw, carry);
         }
         if Coder::<N>::may_name_other(style, table, block) {
-            let (count, after) = Coder::<N>::write_group(table, piece, data, carry);
-            return (skip(data, N * count), after);
+            return Coder::<N>::write_group(table, piece, raw, carry);
         }
-        Coder::<N>::write_block::<STYLE, ROOM>(style, table, piece, data, block, carry)
+        let after = write_block::<N, STYLE, ROOM>(style, table, piece, block, carry);
+        (raw.skip(16), after)
     }
 
     // Writes the last pixels, of which there are fewer than a block has, and the repeats that are
@@ -525,21 +449,20 @@ impl<const N: usize> Coder<N> {
         style: Style,
         table: &mut PixelTable,
         piece: Piece<'p, ROOM>,
-        data: &[u8],
+        raw: Pixels<N>,
         carry: &mut Carry<N>,
     ) -> Piece<'p, ROOM>
-        requires whole { length «data».now % N ≡ 0 }
-        requires some { 0 < length «data».now }
-        requires few { length «data».now < 16 * N }
+        requires some { pixels_in raw ≢ [] }
+        requires few { length (pixels_in raw) < 16 }
         requires room { piece.end < ROOM - PAST }
         ensures end { result.end < ROOM - PAST + FEW_MAX }
         ensures written { (ahead : List ℕ)
-            → InBlocks style ahead (pixels_of N «data».now) table.old carry.old
+            → InBlocks style ahead (pixels_in raw.entry) table.old carry.old
             (kept_bytes piece.entry)
             → InBlocks style ahead [] table.new carry.new (kept_bytes result) }
     {
         let mut coder = Coder::<N>::after(style, *carry);
-        let piece = coder.write_few(table, piece, data, usize::from(carry.count));
+        let piece = coder.write_few(table, piece, raw, usize::from(carry.count));
         *carry = coder.carry();
         piece
     }
@@ -552,34 +475,32 @@ impl<const N: usize> Coder<N> {
         &mut self,
         table: &mut PixelTable,
         piece: Piece<'p, ROOM>,
-        data: &'a [u8],
+        raw: Pixels<'a, N>,
         carry: &mut Carry<N>,
-    ) -> (&'a [u8], Piece<'p, ROOM>)
-        requires whole { length «data».now % N ≡ 0 }
+    ) -> (Pixels<'a, N>, Piece<'p, ROOM>)
         requires not_yet { self.old.begun ≡ false }
         requires room { piece.end < ROOM - PAST }
         ensures end { result.1.end < ROOM - PAST + BLOCK_MAX }
-        ensures some { (length result.0.now ≤ length «data».entry.now) × (ROOM - PAST ≤ result.1.end
-            → length result.0.now < length «data».entry.now) }
-        ensures whole { length result.0.now % N ≡ 0 }
-        ensures begun { result.1.end < ROOM - PAST → 0 < length result.0.now
+        ensures some { (length (pixels_in result.0) ≤ length (pixels_in raw.entry))
+            × (ROOM - PAST ≤ result.1.end
+            → length (pixels_in result.0) < length (pixels_in raw.entry)) }
+        ensures begun { result.1.end < ROOM - PAST → pixels_in result.0 ≢ []
             → self.new.begun ≡ true }
         ensures written { (style : Style) (ahead : List ℕ)
-            → StepBetween style ahead (pixels_of N «data».entry.now) table.old self.old carry.old
+            → StepBetween style ahead (pixels_in raw.entry) table.old self.old carry.old
             (kept_bytes piece.entry)
-            → StepBetween style ahead (pixels_of N result.0.now) table.new self.new carry.new
+            → StepBetween style ahead (pixels_in result.0) table.new self.new carry.new
             (kept_bytes result.1) }
     {
         let mut piece = piece;
-        let mut rest = data;
+        let mut rest = raw;
         while !piece.is_full() && !rest.is_empty() {
-            if rest.len() >= 16 * N && self.goes_by_blocks(rest) {
+            if rest.has_block() && self.goes_by_blocks(rest) {
                 self.begun = true;
                 return (rest, piece);
             }
-            let count = self.write_next(table, &mut piece, rest, 0);
+            rest = self.write_next(table, &mut piece, rest, 0);
             *carry = self.carry();
-            rest = skip(rest, N * count);
         }
         (rest, piece)
     }
@@ -595,32 +516,31 @@ impl<const N: usize> Coder<N> {
         style: Style,
         table: &mut PixelTable,
         piece: Piece<'p, ROOM>,
-        data: &'a [u8],
+        raw: Pixels<'a, N>,
         carry: &mut Carry<N>,
-    ) -> (&'a [u8], Piece<'p, ROOM>)
-        requires whole { length «data».now % N ≡ 0 }
+    ) -> (Pixels<'a, N>, Piece<'p, ROOM>)
         requires room { piece.end < ROOM - PAST }
         ensures end { result.1.end < ROOM - PAST + FEW_MAX }
-        ensures all { result.1.end < ROOM - PAST → length result.0.now ≡ 0 }
-        ensures some { ROOM - PAST ≤ result.1.end → length result.0.now < length «data».entry.now }
-        ensures whole { length result.0.now % N ≡ 0 }
+        ensures all { result.1.end < ROOM - PAST → pixels_in result.0 ≡ [] }
+        ensures some { ROOM - PAST ≤ result.1.end
+            → length (pixels_in result.0) < length (pixels_in raw.entry) }
         ensures written { (ahead : List ℕ)
-            → StepBetween style ahead (pixels_of N «data».entry.now) table.old self.old carry.old
+            → StepBetween style ahead (pixels_in raw.entry) table.old self.old carry.old
             (kept_bytes piece.entry)
-            → StepBetween style ahead (pixels_of N result.0.now) table.new self.new carry.new
+            → StepBetween style ahead (pixels_in result.0) table.new self.new carry.new
             (kept_bytes result.1) }
     {
         let Piece { bytes, end } = piece;
         let piece = Piece { bytes, end };
-        let (mut rest, mut piece) = if self.goes_by_blocks(data) {
+        let (mut rest, mut piece) = if self.goes_by_blocks(raw) {
             self.begun = true;
-            (data, piece)
+            (raw, piece)
         } else {
-            self.write_opening(table, piece, data, carry)
+            self.write_opening(table, piece, raw, carry)
         };
         let mut now = carry.with_known_alpha();
         // A block has sixteen pixels. Those that are left are written one by one.
-        while !piece.is_full() && rest.len() >= 16 * N {
+        while !piece.is_full() && rest.has_block() {
             let (after, carried) = Coder::<N>::write_front::<STYLE, ROOM>(
                 style, table, &mut piece, rest, now,
             );
@@ -632,7 +552,7 @@ impl<const N: usize> Coder<N> {
             return (rest, piece);
         }
         let piece = Coder::<N>::write_tail(style, table, piece, rest, carry);
-        (&[], piece)
+        (Pixels { bytes: &[] }, piece)
     }
 
     /// Writes the repeats that are carried at the end, if there are any.

@@ -4,7 +4,6 @@ ghost use Rattle.std.specs.Prelude.{◌≡◌, ℕ, ◌+◌, ◌-◌, ◌*◌, �
 ghost use Rattle.std.specs.List.{copy_within};
 ghost use Rattle.qoi.specs.declared.chunk.Chunk.{Chunk};
 ghost use Rattle.qoi.specs.declared.chunk.Chunk.TheVariants.{Run};
-ghost use Rattle.qoi.specs.declared.encode.block.TheConstants.{BLOCK_MAX};
 ghost use Rattle.qoi.specs.declared.encode.piece.TheConstants.{PAST, RUNS_AT_ONCE, REPEATS_AT_ONCE};
 ghost use Rattle.qoi.specs.Qoi.{RgbaPixel, run_max, chunk_max, bytes_of, chunk_bytes};
 ghost use Rattle.qoi.specs.Raw.{IsChannels};
@@ -12,11 +11,7 @@ ghost use Rattle.qoi.specs.Runs.{runs_by};
 ghost use Rattle.qoi.specs.writers.Writes.{WroteBeginning};
 
 use crate::consts::{QOI_OP_RUN, QOI_RUN_MAX};
-use crate::encode::block::{Block, write_block};
-use crate::encode::carry::Carry;
-use crate::encode::table::PixelTable;
 use crate::error::Result;
-use crate::types::Style;
 use crate::utils::{copy_after, pick};
 use crate::writers::Writer;
 use std::simd::prelude::*;
@@ -55,10 +50,7 @@ pub(super) struct Piece<'a, const ROOM: usize> {
 }
 
 impl<'a, const ROOM: usize> Piece<'a, ROOM> {
-    ghost use Rattle.qoi.specs.inner.Blocks.{FitsBlock};
-    ghost use Rattle.qoi.specs.inner.CarryLoop.{InBlocks};
     ghost use Rattle.qoi.specs.inner.Piece.{kept_bytes};
-    ghost use Rattle.qoi.specs.inner.Planes.{AreOpaque, block_pixels};
 
     /// An empty piece in this room.
     #[inline(always)]
@@ -145,33 +137,6 @@ impl<'a, const ROOM: usize> Piece<'a, ROOM> {
     {
         self.keep_full_runs(count / QOI_RUN_MAX);
         self.keep_run(count % QOI_RUN_MAX, one);
-    }
-
-    /// Appends the chunks of a block that doesn't repeat whole, but for the repeats at its end, as
-    /// `write_block` stores them.
-    #[inline(always)]
-    pub(super) fn keep_block<const N: usize, const STYLE: u8>(
-        &mut self,
-        style: Style,
-        table: &mut PixelTable,
-        block: Block,
-        carry: Carry<N>,
-    ) -> Carry<N>
-        requires opaque { N ≡ 3 → AreOpaque (block_pixels block.words) }
-        requires room { self.old.end < ROOM - PAST }
-        ensures end { self.new.end ≤ self.old.end + BLOCK_MAX }
-        ensures written { (ahead : List ℕ) (rest : List RgbaPixel)
-            → FitsBlock style table.old carry.entry.before (block_pixels block.words)
-            block.changes
-            → InBlocks style ahead (block_pixels block.words ++ rest) table.old carry.entry
-            (kept_bytes self.old)
-            → InBlocks style ahead rest table.new result (kept_bytes self.new) }
-    {
-        let (end, after) = write_block::<N, STYLE, ROOM>(
-            style, table, self.bytes, self.end, block, carry,
-        );
-        self.end = end;
-        after
     }
 
     /// Sends a full piece to a writer; the bytes after it are kept.

@@ -1,12 +1,11 @@
 -- The repeats that are carried, and the last pixels.
 use Rattle.std.proofs.Common.{inr, ◌∙◌}
 use Rattle.qoi.proofs.encoding.CoderLink.{step_start, now_in_blocks}
-use Rattle.qoi.proofs.encoding.FrontBlock.{fewer_pixels}
 use Rattle.qoi.proofs.encode.coder.Coder.write_tail.Goals as goal
 
 pub returns-clause-written : goal.returns-clause-written
 returns-clause-written g c = λ ahead b.
-    let few = fewer_pixels g.row.N c.args.data.now c.args.carry.now.channels c.requires.whole c.requires.few in
     let wrote = c.write_few-piece.ensures in
-    let step = step_start (wrote.style ∙ c.after-coder.ensures.style) (wrote.written ahead (rw c.from.ensures (c.after-coder.ensures.between ahead _ _ _ (inr few) b))) c.carry.ensures in
+    let step = step_start (wrote.style ∙ c.after-coder.ensures.style)
+    (wrote.written ahead (rw c.from.ensures (c.after-coder.ensures.between ahead _ _ _ (inr c.requires.few) b))) c.carry.ensures in
     now_in_blocks step (wrote.begun c.after-coder.ensures.begun)
