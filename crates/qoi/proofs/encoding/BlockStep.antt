@@ -257,10 +257,8 @@ block_step style ahead s rest all x p table carry kept next sixteen mixed planes
         last_is = subst (λ q. IsLastOf q carry.before) (sym done.last_is) last;
         placed_is = λ places. named places ∙ sym stood ∙ done.placed_is ∙ ap (λ q. names done.before (hash q)) (sym done.last_is);
       };
-      by_blocks = record {
-        opens = λ no. absurd (true≢false (sym done.begun_is ∙ no));
-        few = λ _. omega (arith, carried, below, long);
-      };
+      opens = λ no. absurd (true≢false (sym done.begun_is ∙ no));
+      few = λ _. omega (arith, carried, below, long);
     }
   where
     last_counted : (t : State) → HasSpelled style t all x → slice_index x.count 15 ≡ (end_state t all).carry

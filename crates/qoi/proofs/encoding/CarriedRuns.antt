@@ -51,10 +51,8 @@ blocks_on {style = style} {ahead} {rest} {table} {kept} carry after n k sum smal
         placed_is = λ is. placed ∙ ap (λ m. carry.placed && nat_lt m 62) sum ∙ ap (λ z. carry.placed && z) (sym (no_full k after.count small))
             ∙ placed_repeats (62 * k) b.past b.before carry.placed (b.state.placed_is is);
       };
-      by_blocks = record {
-        opens = λ no. absurd (true≢false (sym (still_begun (62 * k) b.past begun) ∙ no));
-        few = λ e. few (e ∙ ap Some (again ∙ sym last));
-      };
+      opens = λ no. absurd (true≢false (sym (still_begun (62 * k) b.past begun) ∙ no));
+      few = λ e. few (e ∙ ap Some (again ∙ sym last));
     }
 
 -- A block of repeats more is carried, too.

@@ -3,18 +3,15 @@ use Rattle.std.proofs.Common.{◌≡◌, ℕ, ◌+◌, ◌*◌, ◌/◌, ◌%◌
 use Rattle.std.proofs.Math.Nat.{mul_comm}
 use Rattle.std.proofs.lemmas.List.{length-take-le}
 use Rattle.qoi.specs.declared.chunk.Chunk.{Chunk}
-use Rattle.qoi.specs.declared.encode.carry.Carry.{Carry}
 use Rattle.qoi.specs.declared.encode.coder.Coder.{Coder}
 use Rattle.qoi.specs.declared.types.Style.{Style}
 use Rattle.qoi.specs.Qoi.{AreBytes, RgbaPixel, chunk_bytes}
 use Rattle.qoi.specs.Raw.{IsChannels, pixels_of}
 use Rattle.qoi.specs.Styles.{WrittenIn}
 use Rattle.qoi.specs.writers.Writes.{WriterLaws, WroteBut, WroteBeginning}
-use Rattle.qoi.specs.inner.CarryLoop.{CarriesNone, StepBetween}
 use Rattle.qoi.specs.inner.CoderLoop.{CoderAfter, CoderBetween}
 use Rattle.qoi.proofs.format.WholePixels.{whole_pixels}
 use Rattle.qoi.proofs.format.RawPixels.{pixels_of_are, pixels_of_have, length-pixels_of}
-use Rattle.qoi.proofs.encoding.CoderLink.{step_start, step_sent}
 use Rattle.qoi.proofs.encoding.CoderSteps.{all_bytes, coder_starts}
 use Rattle.qoi.proofs.encoding.StyleLists.{style_fits, list_written}
 use Rattle.qoi.proofs.encoding.WriterProgress.{wrote_none, wrote_next, wrote_part, left_fits}
@@ -32,23 +29,28 @@ pub record Sending (W : Type 0) : Type 0 where
 abbrev all_of : {W : Type 0} → ℕ → Sending W → List ℕ
 all_of n s = s.front ++ chunk_bytes (written_list s.style (pixels_of n s.raw))
 
--- All of that went to the writer but what is ahead: the bytes that are kept, and those of the
--- chunks that are still to be written, for the pixels `rest`.
-pub record PieceBetween {W : Type 0} (wrote : W → List ℕ → W → Type 0) (room : W → ℕ) {n : ℕ} (s : Sending W) (rest : List RgbaPixel)
-    (table : List RgbaPixel) (coder : Coder n) (carry : Carry n) (kept : List ℕ) (buf : W) : Type 0 where
+-- All of that went to the writer but what is ahead, of which `State` says that it is the bytes that
+-- are kept and those that are still to be written.
+pub record PieceBetween {W : Type 0} (wrote : W → List ℕ → W → Type 0) (room : W → ℕ) (n : ℕ) (s : Sending W) (State : List ℕ → List ℕ → Type 0)
+    (kept : List ℕ) (buf : W) : Type 0 where
   pub laws : WriterLaws wrote room
   pub list : WrittenIn s.style (pixels_of n s.raw) (written_list s.style (pixels_of n s.raw))
   pub fits : length (all_of n s) ≤ room s.start
   pub ahead : List ℕ
   pub went : WroteBut wrote s.start (all_of n s) ahead buf
-  pub between : StepBetween s.style ahead rest table coder carry kept
+  pub between : State ahead kept
+
+-- the first bytes that are kept may go
+abbrev pub MaySend : (List ℕ → List ℕ → Type 0) → Type 0
+MaySend State = (ahead kept : List ℕ) → State ahead kept → (gone left : List ℕ) → kept ≡ gone ++ left
+    → (later : List ℕ) × (ahead ≡ gone ++ later) × State later left
 
 module _ {W : Type 0} {wrote : W → List ℕ → W → Type 0} {room : W → ℕ} {n : ℕ} where
   -- before the first pixel
-  pub piece_starts : {table : List RgbaPixel} {coder : Coder n} {carry : Carry n} (s : Sending W) → WriterLaws wrote room → IsChannels n → AreBytes s.raw → length s.raw % n ≡ 0
-      → length s.front + (length s.raw + length s.raw / n) ≤ room s.start → coder.style ≡ s.style → CoderAfter [] None table coder → CarriesNone coder carry
-      → PieceBetween wrote room s (pixels_of n s.raw) table coder carry s.front s.start
-  piece_starts {table} {coder} {carry} s laws channels are whole enough style_is state none =
+  pub piece_starts : {table : List RgbaPixel} {coder : Coder n} (s : Sending W) → WriterLaws wrote room → IsChannels n → AreBytes s.raw → length s.raw % n ≡ 0
+      → length s.front + (length s.raw + length s.raw / n) ≤ room s.start → coder.style ≡ s.style → CoderAfter [] None table coder
+      → PieceBetween wrote room n s (λ ahead kept. CoderBetween ahead 0 (pixels_of n s.raw) table coder kept) s.front s.start
+  piece_starts {table} {coder} s laws channels are whole enough style_is state =
       let pixels = pixels_of n s.raw in
       let pixels_are = pixels_of_are n s.raw channels (all_bytes s.raw are) in
       let list = list_written s.style pixels pixels_are in
@@ -61,28 +63,19 @@ module _ {W : Type 0} {wrote : W → List ℕ → W → Type 0} {room : W → �
         fits = omega (arith, length-append s.front (chunk_bytes (written_list s.style pixels)), fits, enough, size, mul_comm (length s.raw / n) n);
         ahead = all_of n s;
         went = wrote_none laws s.start (all_of n s);
-        between = step_start style_is (subst (λ z. CoderBetween (s.front ++ chunk_bytes (written_list z pixels)) 0 pixels table coder s.front) style_is
-            (coder_starts pixels s.front table coder pixels_are state)) none;
+        between = subst (λ z. CoderBetween (s.front ++ chunk_bytes (written_list z pixels)) 0 pixels table coder s.front) style_is
+            (coder_starts pixels s.front table coder pixels_are state);
       }
 
-  module _ {s : Sending W} {rest : List RgbaPixel} {table : List RgbaPixel} {coder : Coder n} {carry : Carry n} {kept : List ℕ} {buf : W}
-      (p : PieceBetween wrote room s rest table coder carry kept buf) where
-    -- the coder went on
-    pub piece_filled : {rest' : List RgbaPixel} {table' : List RgbaPixel} {coder' : Coder n} {carry' : Carry n} {kept' : List ℕ}
-        → ((ahead : List ℕ) → StepBetween s.style ahead rest table coder carry kept
-        → StepBetween s.style ahead rest' table' coder' carry' kept')
-        → PieceBetween wrote room s rest' table' coder' carry' kept' buf
-    piece_filled went_on = record {
-      laws = p.laws;
-      list = p.list;
-      fits = p.fits;
-      ahead = p.ahead;
-      went = p.went;
-      between = went_on p.ahead p.between;
-    }
+  module _ {s : Sending W} {State : List ℕ → List ℕ → Type 0} {kept : List ℕ} {buf : W} (p : PieceBetween wrote room n s State kept buf) where
+    -- more was written into the piece
+    pub piece_filled : (Next : List ℕ → List ℕ → Type 0) {kept' : List ℕ} → ((ahead : List ℕ) → State ahead kept → Next ahead kept')
+        → PieceBetween wrote room n s Next kept' buf
+    piece_filled Next went_on =
+        record { laws = p.laws; list = p.list; fits = p.fits; ahead = p.ahead; went = p.went; between = went_on p.ahead p.between }
 
     -- at the end all but what is kept went
-    pub piece_ends : {kept' : List ℕ} → ((ahead : List ℕ) → StepBetween s.style ahead rest table coder carry kept → ahead ≡ kept')
+    pub piece_ends : {kept' : List ℕ} → ((ahead : List ℕ) → State ahead kept → ahead ≡ kept')
         → (cs : List Chunk) × WrittenIn s.style (pixels_of n s.raw) cs × WroteBut wrote s.start (s.front ++ chunk_bytes cs) kept' buf
     piece_ends went_on = (
       written_list s.style (pixels_of n s.raw),
@@ -91,10 +84,9 @@ module _ {W : Type 0} {wrote : W → List ℕ → W → Type 0} {room : W → �
     )
 
     -- the kept bytes are the first `size` and the others
-    module _ (size : ℕ) where
-      abbrev sent_first : (ahead : List ℕ) × (p.ahead ≡ take size kept ++ ahead)
-          × StepBetween s.style ahead rest table coder carry (drop size kept)
-      sent_first = step_sent p.between (take size kept) (drop size kept) (sym (take-append-drop size kept))
+    module _ (sends : MaySend State) (size : ℕ) where
+      abbrev sent_first : (ahead : List ℕ) × (p.ahead ≡ take size kept ++ ahead) × State ahead (drop size kept)
+      sent_first = sends p.ahead kept p.between (take size kept) (drop size kept) (sym (take-append-drop size kept))
 
       -- there is room for the first
       pub piece_fits : size ≤ length kept → size ≤ room buf
@@ -108,14 +100,14 @@ module _ {W : Type 0} {wrote : W → List ℕ → W → Type 0} {room : W → �
 
       -- they are sent
       pub piece_went : {now : W} {kept' : List ℕ} → wrote buf (take size kept) now → kept' ≡ drop size kept
-          → PieceBetween wrote room s rest table coder carry kept' now
+          → PieceBetween wrote room n s State kept' now
       piece_went {now} {kept'} went is = record {
         laws = p.laws;
         list = p.list;
         fits = p.fits;
         ahead = sent_first.0;
         went = wrote_next p.laws s.start buf now (all_of n s) p.ahead (take size kept) sent_first.0 p.went sent_first.1 went;
-        between = subst (StepBetween s.style sent_first.0 rest table coder carry) (sym is) sent_first.2;
+        between = subst (State sent_first.0) (sym is) sent_first.2;
       }
 
       -- a beginning of them is

@@ -1,5 +1,5 @@
 -- The state between two blocks, by what is carried from one to the next.
-use Rattle.std.specs.Prelude.{◌≡◌, ◌≢◌, ◌≤◌, ℕ, true, false, List, length, slice_get, Option, Some}
+use Rattle.std.specs.Prelude.{◌≡◌, ◌≢◌, ◌≤◌, ℕ, false, List, length, slice_get, Option, Some}
 use Rattle.qoi.specs.declared.chunk.Chunk.{Chunk}
 use Rattle.qoi.specs.declared.encode.carry.Carry.{Carry}
 use Rattle.qoi.specs.declared.encode.coder.Coder.{Coder}
@@ -7,7 +7,7 @@ use Rattle.qoi.specs.declared.types.Style.{Style}
 use Rattle.qoi.specs.declared.types.Style.TheVariants.{Places, Tight}
 use Rattle.qoi.specs.Qoi.{RgbaPixel, Past, previous, hash}
 use Rattle.qoi.specs.Styles.{some_fresh, names}
-use Rattle.qoi.specs.inner.CoderLoop.{Ahead, CoderAfter}
+use Rattle.qoi.specs.inner.CoderLoop.{Ahead}
 use Rattle.qoi.specs.inner.CoderState.{held_in}
 use Rattle.qoi.specs.inner.Spelling.{IsLastOf}
 use Rattle.qoi.specs.inner.Table.{Holds}
@@ -19,40 +19,23 @@ pub record CarryAfter {N : ℕ} (style : Style) (past : Past) (before : Option C
   pub last_is : IsLastOf (previous past) carry.before
   pub placed_is : style ≡ Places → carry.placed ≡ names before (hash (previous past))
 
--- nothing is carried, and the next pixel is fresh and begins a block, but not in style Tight
-pub record OpensBlock (style : Style) (past : Past) (n : ℕ) (rest : List RgbaPixel) : Type 0 where
-  pub none : n ≡ 0
-  pub fresh : slice_get rest 0 ≢ Some (previous past)
+-- the next pixel is fresh and begins a block, but not in style Tight
+pub record OpensBlock (style : Style) (last : RgbaPixel) (rest : List RgbaPixel) : Type 0 where
+  pub fresh : slice_get rest 0 ≢ Some last
   pub whole : 16 ≤ length rest
   pub other : style ≢ Tight
 
--- A fresh pixel came, or the next one opens a block. If the next pixel repeats the last, so few
--- repeats are carried that a run of less than 62 ends in the next block.
-pub record GoesByBlocks (style : Style) (past : Past) (n : ℕ) (rest : List RgbaPixel) : Type 0 where
-  pub opens : some_fresh past ≡ false → OpensBlock style past n rest
-  pub few : slice_get rest 0 ≡ Some (previous past) → n ≤ 45
+-- a fresh pixel came, or the next one opens a block
+abbrev pub GoesByBlocks : {N : ℕ} → Coder N → List RgbaPixel → Type 0
+GoesByBlocks coder rest = coder.begun ≡ false → OpensBlock coder.style coder.last rest
 
--- Between two blocks: the carried repeats are still to be written, and the pixels `rest`.
+-- Between two blocks: the carried repeats are still to be written, and the pixels `rest`. A fresh
+-- pixel came; or nothing is carried, and the next pixel opens a block. If the next pixel repeats the
+-- last, so few repeats are carried that a run of less than 62 ends in the next block.
 pub record InBlocks {N : ℕ} (style : Style) (ahead : List ℕ) (rest : List RgbaPixel) (table : List RgbaPixel) (carry : Carry N) (kept : List ℕ) : Type 0 where
   pub past : Past
   pub before : Option Chunk
   pub to_write : Ahead style ahead past before carry.count rest kept
   pub state : CarryAfter style past before table carry
-  pub by_blocks : GoesByBlocks style past carry.count rest
-
--- nothing is carried after the coder's last pixel
-pub record CarriesNone {N : ℕ} (coder : Coder N) (carry : Carry N) : Type 0 where
-  pub count_is : carry.count ≡ 0
-  pub last_is : IsLastOf coder.last carry.before
-  pub placed_is : carry.placed ≡ coder.placed
-
--- Between two steps of the coder's loop: once it goes by blocks, what is carried says which pixel is
--- the last; before that nothing is carried.
-pub record StepBetween {N : ℕ} (style : Style) (ahead : List ℕ) (rest : List RgbaPixel) (table : List RgbaPixel) (coder : Coder N) (carry : Carry N) (kept : List ℕ) : Type 0 where
-  pub past : Past
-  pub before : Option Chunk
-  pub to_write : Ahead style ahead past before carry.count rest kept
-  pub state : CarryAfter style past before table carry
-  pub style_is : coder.style ≡ style
-  pub opening : coder.begun ≡ false → CarriesNone coder carry × CoderAfter past before table coder
-  pub by_blocks : coder.begun ≡ true → GoesByBlocks style past carry.count rest
+  pub opens : some_fresh past ≡ false → (carry.count ≡ 0) × OpensBlock style (previous past) rest
+  pub few : slice_get rest 0 ≡ Some (previous past) → carry.count ≤ 45

@@ -40,12 +40,22 @@ fn encode_pixels<'p, W: Writer, const N: usize, const STYLE: u8, const ROOM: usi
     if !rest.has_block() {
         return Ok(coder.write_few(&mut table, piece, rest, 0));
     }
-    let mut carry = coder.carry();
     let mut piece = piece;
-    loop {
-        (rest, piece) = coder.fill::<STYLE, ROOM>(style, &mut table, piece, rest, &mut carry);
+    while !coder.goes_by_blocks(rest) {
+        (rest, piece) = coder.write_opening(&mut table, piece, rest);
         if !piece.is_full() {
-            coder.write_last(&mut piece, carry);
+            break;
+        }
+        piece.send(writer)?;
+    }
+    if rest.is_empty() {
+        return Ok(piece);
+    }
+    let mut carry = coder.carry();
+    loop {
+        (rest, piece) = Coder::<N>::fill::<STYLE, ROOM>(style, &mut table, piece, rest, &mut carry);
+        if !piece.is_full() {
+            Coder::<N>::write_last(&mut piece, carry);
             return Ok(piece);
         }
         piece.send(writer)?;

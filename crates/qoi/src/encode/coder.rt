@@ -40,9 +40,8 @@ const FEW_CARRIED: u8 = 29;
 
 /// What is known between two pixels: the style; the pixel `last`; `begun`, whether a fresh pixel
 /// came, one that differs from the pixel before it; and `placed`, whether `last` was written as its
-/// index position, with no repeat since. Between two blocks only style and `begun` count, which may
-/// then also say that the next pixel is fresh: what is carried tells the others. The table is passed
-/// beside it, so that these few stay in registers.
+/// index position, with no repeat since. Between two blocks `Carry` says what is known. The table is
+/// passed beside it, so that these few stay in registers.
 #[derive(Drop)]
 pub(super) struct Coder<const N: usize> {
     style: Style,
@@ -55,7 +54,7 @@ pub(super) struct Coder<const N: usize> {
 
 impl<const N: usize> Coder<N> {
     ghost use Rattle.qoi.specs.inner.Blocks.{ChangesFrom, FitsBlock, MissesNoBlank, all_repeat, last_pixel};
-    ghost use Rattle.qoi.specs.inner.CarryLoop.{InBlocks, CarriesNone, StepBetween};
+    ghost use Rattle.qoi.specs.inner.CarryLoop.{GoesByBlocks, InBlocks};
     ghost use Rattle.qoi.specs.inner.CoderLoop.{CoderAfter, single, CoderBetween};
     ghost use Rattle.qoi.specs.inner.Pixels.{pixels_in};
 
@@ -293,7 +292,9 @@ impl<const N: usize> Coder<N> {
     /// What is carried after the coder's last pixel, once it is written: nothing.
     #[inline(always)]
     pub(super) fn carry(&self) -> Carry<N>
-        ensures { CarriesNone self.now result }
+        ensures { (ahead : List ℕ) (rest table : List RgbaPixel) (kept : List ℕ)
+            → GoesByBlocks self.now rest → CoderBetween ahead 0 rest table self.now kept
+            → InBlocks self.now.style ahead rest table result kept }
     {
         Carry {
             before: Planes::splat(self.last),
@@ -302,16 +303,11 @@ impl<const N: usize> Coder<N> {
         }
     }
 
-    // Whether the front goes by blocks: once a fresh pixel came or, but in style `Tight`, if the
-    // next one is fresh and there is a whole block.
+    /// Whether the front goes by blocks: once a fresh pixel came or, but in style `Tight`, if the
+    /// next one is fresh and there is a whole block.
     #[inline(always)]
-    fn goes_by_blocks(&self, raw: Pixels<N>) -> bool
-        ensures fresh { IsTrue result → self.now.begun ≡ false
-            → slice_get (pixels_in raw.entry) 0 ≢ Some self.now.last }
-        ensures whole { IsTrue result → self.now.begun ≡ false
-            → 16 ≤ length (pixels_in raw.entry) }
-        ensures tight { IsTrue result → self.now.style ≡ Tight → self.now.begun ≡ true }
-        ensures not_yet { IsFalse result → self.now.begun ≡ false }
+    pub(super) fn goes_by_blocks(&self, raw: Pixels<N>) -> bool
+        ensures { IsTrue result → GoesByBlocks self.now (pixels_in raw.entry) }
     {
         let may_open = match self.style {
             Reference | Places => true,
@@ -467,77 +463,62 @@ impl<const N: usize> Coder<N> {
         piece
     }
 
-    // Writes the repeats that open an image, and what comes after them until it goes by blocks.
-    // Returns the rest, which goes by blocks unless the piece is full or nothing is left, and the
-    // piece. Updates what is carried: nothing.
+    /// Writes what opens an image, pixel by pixel, until it goes by blocks, the piece is full or
+    /// nothing is left. Returns the rest, and the piece.
     #[inline(never)]
-    fn write_opening<'a, 'p, const ROOM: usize>(
+    pub(super) fn write_opening<'a, 'p, const ROOM: usize>(
         &mut self,
         table: &mut PixelTable,
         piece: Piece<'p, ROOM>,
         raw: Pixels<'a, N>,
-        carry: &mut Carry<N>,
     ) -> (Pixels<'a, N>, Piece<'p, ROOM>)
-        requires not_yet { self.old.begun ≡ false }
-        requires room { piece.end < ROOM - PAST }
+        requires { piece.end < ROOM - PAST }
         ensures end { result.1.end < ROOM - PAST + BLOCK_MAX }
-        ensures some { (length (pixels_in result.0) ≤ length (pixels_in raw.entry))
-            × (ROOM - PAST ≤ result.1.end
-            → length (pixels_in result.0) < length (pixels_in raw.entry)) }
-        ensures begun { result.1.end < ROOM - PAST → pixels_in result.0 ≢ []
-            → self.new.begun ≡ true }
-        ensures written { (style : Style) (ahead : List ℕ)
-            → StepBetween style ahead (pixels_in raw.entry) table.old self.old carry.old
-            (kept_bytes piece.entry)
-            → StepBetween style ahead (pixels_in result.0) table.new self.new carry.new
-            (kept_bytes result.1) }
+        ensures less { ROOM - PAST ≤ result.1.end
+            → length (pixels_in result.0) < length (pixels_in raw.entry) }
+        ensures stops { result.1.end < ROOM - PAST → pixels_in result.0 ≢ []
+            → GoesByBlocks self.new (pixels_in result.0) }
+        ensures style { self.new.style ≡ self.old.style }
+        ensures written { (ahead : List ℕ)
+            → CoderBetween ahead 0 (pixels_in raw.entry) table.old self.old (kept_bytes piece.entry)
+            → CoderBetween ahead 0 (pixels_in result.0) table.new self.new (kept_bytes result.1) }
     {
         let mut piece = piece;
         let mut rest = raw;
         while !piece.is_full() && !rest.is_empty() {
-            if rest.has_block() && self.goes_by_blocks(rest) {
-                self.begun = true;
+            if self.goes_by_blocks(rest) {
                 return (rest, piece);
             }
             rest = self.write_next(table, &mut piece, rest, 0);
-            *carry = self.carry();
         }
         (rest, piece)
     }
 
-    /// Writes until the piece is full or nothing is left, and updates what is carried. Returns the
-    /// rest, and the piece.
+    /// Writes by blocks until the piece is full or nothing is left, and updates what is carried.
+    /// Returns the rest, and the piece.
     ///
-    /// The coder's style is passed, too, since it is a constant where this is called. `STYLE` is a
-    /// number for it, so that each style has a loop of its own. The piece is a value, and taken apart
-    /// at once, so that the compiler keeps its fields in registers.
+    /// `STYLE` is a number for the style, so that each has a loop of its own. The piece is a value,
+    /// and taken apart at once, so that the compiler keeps its fields in registers.
     pub(super) fn fill<'a, 'p, const STYLE: u8, const ROOM: usize>(
-        &mut self,
         style: Style,
         table: &mut PixelTable,
         piece: Piece<'p, ROOM>,
         raw: Pixels<'a, N>,
         carry: &mut Carry<N>,
     ) -> (Pixels<'a, N>, Piece<'p, ROOM>)
-        requires room { piece.end < ROOM - PAST }
+        requires { piece.end < ROOM - PAST }
         ensures end { result.1.end < ROOM - PAST + FEW_MAX }
         ensures all { result.1.end < ROOM - PAST → pixels_in result.0 ≡ [] }
-        ensures some { ROOM - PAST ≤ result.1.end
+        ensures less { ROOM - PAST ≤ result.1.end
             → length (pixels_in result.0) < length (pixels_in raw.entry) }
         ensures written { (ahead : List ℕ)
-            → StepBetween style ahead (pixels_in raw.entry) table.old self.old carry.old
+            → InBlocks style ahead (pixels_in raw.entry) table.old carry.old
             (kept_bytes piece.entry)
-            → StepBetween style ahead (pixels_in result.0) table.new self.new carry.new
-            (kept_bytes result.1) }
+            → InBlocks style ahead (pixels_in result.0) table.new carry.new (kept_bytes result.1) }
     {
         let Piece { bytes, end } = piece;
-        let piece = Piece { bytes, end };
-        let (mut rest, mut piece) = if self.goes_by_blocks(raw) {
-            self.begun = true;
-            (raw, piece)
-        } else {
-            self.write_opening(table, piece, raw, carry)
-        };
+        let mut piece = Piece { bytes, end };
+        let mut rest = raw;
         let mut now = carry.with_known_alpha();
         // A block has sixteen pixels. Those that are left are written one by one.
         while !piece.is_full() && rest.has_block() {
@@ -557,11 +538,11 @@ impl<const N: usize> Coder<N> {
 
     /// Writes the repeats that are carried at the end, if there are any.
     #[inline(always)]
-    pub(super) fn write_last<const ROOM: usize>(&self, piece: &mut Piece<ROOM>, carry: Carry<N>)
-        requires room { piece.old.end < ROOM - PAST }
+    pub(super) fn write_last<const ROOM: usize>(piece: &mut Piece<ROOM>, carry: Carry<N>)
+        requires { piece.old.end < ROOM - PAST }
         ensures end { piece.new.end ≤ piece.old.end + 1 }
         ensures written { (style : Style) (ahead : List ℕ) (table : List RgbaPixel)
-            → StepBetween style ahead [] table self.now carry.entry (kept_bytes piece.old)
+            → InBlocks style ahead [] table carry.entry (kept_bytes piece.old)
             → ahead ≡ kept_bytes piece.new }
     {
         piece.keep_run(usize::from(carry.count), QOI_OP_RUN);

@@ -50,7 +50,7 @@ returns-clause-written g c = λ ahead rest fits b.
       to_write = b.to_write;
       last_is = refl;
       begun_is = refl;
-      opens = λ no. (let o = b.by_blocks.opens no in (o.none, o.fresh));
+      opens = λ no. ((b.opens no).0, (b.opens no).1.fresh);
       held_is = λ _. refl;
       placed_is = refl;
     } in
@@ -61,7 +61,7 @@ returns-clause-written g c = λ ahead rest fits b.
     let x = c.spell-x.result in
     let rep = slice_index x.rep 0 in
     let q_is : q ≡ last_pixel carry.before = last_of_planes q carry.before b.state.last_is in
-    let now = ready style ahead s all rest x _ carry.placed (last_pixel carry.before) carry.count _ _ c.args.carry.few b.by_blocks.few start
+    let now = ready style ahead s all rest x _ carry.placed (last_pixel carry.before) carry.count _ _ c.args.carry.few b.few start
     spelled sixteen refl q_is refl placed
     (group_stored style (rep == 0) carry.placed (last_pixel carry.before) carry.count c.args.piece.now.end c.end-start.result c.byte.result c.args.piece.now.bytes.now c.store_lanes.new.out
     (omega (arith, c.args.piece.now.within, c.args.piece.now.room)) c.store_lanes.ensures.stored c.byte.ensures

@@ -1,8 +1,8 @@
 -- The pixels up to here are written, but for the repeats that are carried.
-use Rattle.std.proofs.Common.{◌≡◌, ◌≢◌, ℕ, List, [], true, ◌+◌, ◌-◌, ◌<◌, ◌≤◌, length}
+use Rattle.std.proofs.Common.{ℕ, List, ◌+◌, ◌-◌, ◌<◌, ◌≤◌, length}
 use Rattle.qoi.specs.declared.encode.block.TheConstants.{BLOCK_MAX}
 use Rattle.qoi.specs.declared.encode.piece.TheConstants.{PAST}
-use Rattle.qoi.specs.inner.CarryLoop.{StepBetween}
+use Rattle.qoi.specs.inner.CarryLoop.{InBlocks}
 use Rattle.qoi.specs.inner.Piece.{kept_bytes}
 use Rattle.qoi.specs.inner.Pixels.{pixels_in}
 use Rattle.qoi.proofs.encode.coder.Coder.fill.Given as goal
@@ -10,11 +10,10 @@ use Rattle.qoi.proofs.encode.coder.Coder.fill.Given as goal
 abbrev pub invariant-loop-rest : goal.invariant-loop-rest
 invariant-loop-rest g l = record {
   end : l.piece.end < g.row.ROOM - PAST + BLOCK_MAX;
-  begun : l.piece.end < g.row.ROOM - PAST → pixels_in l.rest ≢ [] → l.self.begun ≡ true;
   left : length (pixels_in l.rest) ≤ length (pixels_in l.raw);
-  some : g.row.ROOM - PAST ≤ l.piece.end → length (pixels_in l.rest) < length (pixels_in l.raw);
-  written : (ahead : List ℕ) → StepBetween l.fn.style ahead (pixels_in l.raw) l.fn.table l.fn.self l.fn.carry (kept_bytes l.fn.piece)
-      → StepBetween l.fn.style ahead (pixels_in l.rest) l.table l.self l.now (kept_bytes l.piece);
+  less : g.row.ROOM - PAST ≤ l.piece.end → length (pixels_in l.rest) < length (pixels_in l.raw);
+  written : (ahead : List ℕ) → InBlocks l.fn.style ahead (pixels_in l.raw) l.fn.table l.fn.carry (kept_bytes l.fn.piece)
+      → InBlocks l.fn.style ahead (pixels_in l.rest) l.table l.now (kept_bytes l.piece);
 }
 
 abbrev pub decreases-loop-rest : goal.decreases-loop-rest
