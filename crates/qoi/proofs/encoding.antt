@@ -36,6 +36,7 @@ pub mod FourChunks
 pub mod FourFours
 pub mod FrontBlock
 pub mod FourOrders
+pub mod ImagePieces
 pub mod LaneBits
 pub mod LaneChunk
 pub mod LaneMasks

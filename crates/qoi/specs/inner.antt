@@ -7,6 +7,7 @@ pub mod Filling
 pub mod FreshPixel
 pub mod Hashed
 pub mod Packed
+pub mod Pending
 pub mod Piece
 pub mod Steps
 pub mod Table

@@ -225,20 +225,20 @@ end_placed s (p ∷ ps) mixed = go (end_placed t ps) (all_repeat p ps) refl
         before rest ∙ sym (ap (λ n. get_or tests n false) later)
 
 -- over a block of these pixels
-pub block_step : {N : ℕ} (style : Style) (ahead : List ℕ) (s : State) (rest all : List RgbaPixel) (x : Spelled) (p : Planes) (table : List RgbaPixel) (carry : Carry N) (kept next : List ℕ)
+pub block_step : {N : ℕ} (style : Style) (ahead : List ℕ) (n : ℕ) (s : State) (rest more all : List RgbaPixel) (x : Spelled) (p : Planes) (table : List RgbaPixel) (carry : Carry N) (kept next : List ℕ)
     → AreSixteen all → all_repeat s.last all ≡ false → ArePlanes all p
-    → Ready style ahead s all (all ++ rest) x kept → Holds table (put_all s.held all)
+    → Ready style ahead s all (all ++ (rest ++ more)) x kept → Holds table (put_all s.held all)
     → ((t : State) → t.held ≡ s.held → t.last ≡ s.last → style ≡ Tight → NoneBlank t all)
     → carry.before ≡ p → carry.count ≡ slice_index x.count 15 % 16
     → (style ≡ Places → carry.placed ≡ get_or (stand_tests s.held all) (15 - carry.count) false)
     → ((t : State) → HasSpelled style t all x → t.last ≡ s.last → t.carry ≤ 45 → next ≡ kept ++ block_bytes style t all)
-    → InBlocks style ahead rest table carry next
-block_step style ahead s rest all x p table carry kept next sixteen mixed planes r holds none before_is count_is named bytes =
+    → InBlocks style ahead n rest more table carry next
+block_step style ahead n s rest more all x p table carry kept next sixteen mixed planes r holds none before_is count_is named bytes =
     let t = r.state in
     let end = end_state t all in
     let long = sixteen.long in
     let few : t.carry + length all < 62 = (let f = r.few in omega arith) in
-    let done = block_written t all rest (omega arith) r.carrying r.goes_on_is few (none t r.held_is r.last_is) in
+    let done = block_written t all (rest ++ more) (omega arith) r.carrying r.goes_on_is few (none t r.held_is r.last_is) in
     let counted = last_counted t r.spelled in
     let mixed_lanes : all_repeat t.last all ≡ false = subst (λ q. all_repeat q all ≡ false) (sym r.last_is) mixed in
     let below = carry_below t t.last all refl mixed_lanes in
@@ -250,8 +250,8 @@ block_step style ahead s rest all x p table carry kept next sixteen mixed planes
     record {
       past = done.past;
       before = done.before;
-      to_write = subst (λ n. Ahead style ahead done.past done.before n rest next) carried
-          (subst (Ahead style ahead done.past done.before end.carry rest) (sym (bytes t r.spelled r.last_is r.few)) done.to_write);
+      to_write = subst (λ k. Ahead style ahead done.past done.before k (rest ++ more) next) carried
+          (subst (Ahead style ahead done.past done.before end.carry (rest ++ more)) (sym (bytes t r.spelled r.last_is r.few)) done.to_write);
       state = record {
         table_is = λ i l. holds i l ∙ ap Some (ap (λ h. seen h i) (sym (end_held t all ∙ ap (λ h. put_all h all) r.held_is)) ∙ done.held_is i);
         last_is = subst (λ q. IsLastOf q carry.before) (sym done.last_is) last;

@@ -1,6 +1,6 @@
 -- Repeats that come while some are carried: the full runs of all are written, and those that are left
 -- are carried.
-use Rattle.std.proofs.Common.{◌≡◌, ℕ, zero, suc, Some, ◌+◌, ◌*◌, ◌<◌, ◌≤◌, true, ◌&&◌, nat_eq, nat_lt, List, ◌++◌, replicate, refl, sym, ap, ◌∙◌, subst, arith, append-nil}
+use Rattle.std.proofs.Common.{◌≡◌, ℕ, zero, suc, Some, ◌+◌, ◌*◌, ◌<◌, ◌≤◌, true, ◌&&◌, nat_eq, nat_lt, List, ◌++◌, replicate, refl, sym, ap, ◌∙◌, subst, arith, append-nil, append_assoc}
 use Rattle.std.proofs.Math.Bool.{and-true}
 use Rattle.std.proofs.lemmas.Bool.{true≢false, lt-ltb, ne_eqb}
 use Rattle.std.specs.List.{slice_get}
@@ -27,24 +27,25 @@ no_full zero r few = sym (lt-ltb (62 * 0 + r) 62 (omega (arith, few)))
 no_full (suc k) r few = ne_eqb (62 * suc k) 0 (λ e. omega arith) ∙ sym (not_lt (62 * suc k + r) 62 (omega arith))
 
 -- n repeats more come, which make k full runs with those that are carried
-pub blocks_on : {N : ℕ} {style : Style} {ahead : List ℕ} {rest table : List RgbaPixel} {kept : List ℕ} (carry after : Carry N) (n k : ℕ)
+pub blocks_on : {N : ℕ} {style : Style} {ahead : List ℕ} {size : ℕ} {rest more table : List RgbaPixel} {kept : List ℕ} (carry after : Carry N) (n k : ℕ)
     → carry.count + n ≡ 62 * k + after.count → after.count < 62 → after.before ≡ carry.before
     → after.placed ≡ carry.placed && nat_lt (carry.count + n) 62 → (slice_get rest 0 ≡ Some (last_pixel carry.before) → after.count ≤ 45)
     → slice_get (replicate n (last_pixel carry.before) ++ rest) 0 ≡ Some (last_pixel carry.before)
-    → InBlocks style ahead (replicate n (last_pixel carry.before) ++ rest) table carry kept
-    → InBlocks style ahead rest table after (kept ++ chunk_bytes (replicate k (Run 62)))
-blocks_on {style = style} {ahead} {rest} {table} {kept} carry after n k sum small same placed few first b =
+    → InBlocks style ahead size (replicate n (last_pixel carry.before) ++ rest) more table carry kept
+    → InBlocks style ahead size rest more table after (kept ++ chunk_bytes (replicate k (Run 62)))
+blocks_on {style = style} {ahead} {size} {rest} {more} {table} {kept} carry after n k sum small same placed few first b =
     let q = previous b.past in
     let last : last_pixel carry.before ≡ q = last_carried b.state in
     let begun = begun_by_repeat b first in
     let group = replicate (62 * k) q ++ b.past in
     let named = last_chunk b.before (runs_by (Run 1) (62 * k)) in
     let again : previous group ≡ q = previous_repeats (62 * k) b.past in
-    let all = over_repeats n rest (subst (λ p. Ahead style ahead b.past b.before carry.count (replicate n p ++ rest) kept) last b.to_write) in
+    let front = append_assoc (replicate n (last_pixel carry.before)) rest more ∙ ap (λ p. replicate n p ++ (rest ++ more)) last in
+    let all = over_repeats n (rest ++ more) (subst (λ ps. Ahead style ahead b.past b.before carry.count ps kept) front b.to_write) in
     record {
       past = group;
       before = named;
-      to_write = over_full_runs k after.count rest (subst (λ m. Ahead style ahead b.past b.before m rest kept) sum all);
+      to_write = over_full_runs k after.count (rest ++ more) (subst (λ m. Ahead style ahead b.past b.before m (rest ++ more) kept) sum all);
       state = record {
         table_is = λ i l. b.state.table_is i l ∙ ap Some (sym (repeats_held style (62 * k) b.past begun i));
         last_is = subst (λ p. IsLastOf p after.before) (sym again) (rw same b.state.last_is);
@@ -56,12 +57,12 @@ blocks_on {style = style} {ahead} {rest} {table} {kept} carry after n k sum smal
     }
 
 -- A block of repeats more is carried, too.
-pub block_carried : {N : ℕ} {style : Style} {ahead : List ℕ} {rest table : List RgbaPixel} {kept : List ℕ} (carry after : Carry N) → carry.count ≤ 29
+pub block_carried : {N : ℕ} {style : Style} {ahead : List ℕ} {size : ℕ} {rest more table : List RgbaPixel} {kept : List ℕ} (carry after : Carry N) → carry.count ≤ 29
     → after.count ≡ carry.count + 16 → after.before ≡ carry.before → after.placed ≡ carry.placed
-    → InBlocks style ahead (replicate 16 (last_pixel carry.before) ++ rest) table carry kept
-    → InBlocks style ahead rest table after kept
-block_carried {style = style} {ahead} {rest} {table} {kept} carry after few count before placed b =
+    → InBlocks style ahead size (replicate 16 (last_pixel carry.before) ++ rest) more table carry kept
+    → InBlocks style ahead size rest more table after kept
+block_carried {style = style} {ahead} {size} {rest} {more} {table} {kept} carry after few count before placed b =
     let short : nat_lt (carry.count + 16) 62 ≡ true = lt-ltb (carry.count + 16) 62 (omega arith) in
-    subst (InBlocks style ahead rest table after) (append-nil kept)
+    subst (InBlocks style ahead size rest more table after) (append-nil kept)
     (blocks_on carry after 16 0 (omega arith) (omega arith) before (placed ∙ sym (and-true carry.placed) ∙ ap (λ z. carry.placed && z) (sym short))
     (λ _. omega arith) refl b)

@@ -1,5 +1,5 @@
 -- What is carried between two blocks, and a piece that is sent.
-use Rattle.std.proofs.Common.{◌≡◌, ◌⊎◌, inl, inr, ◌<◌, length, ℕ, true, List, Some, ◌++◌, sym, ap, ◌∙◌, arith}
+use Rattle.std.proofs.Common.{◌≡◌, ◌≢◌, ◌⊎◌, inl, inr, ◌<◌, length, ℕ, true, List, [], ◌∷◌, Some, ◌++◌, refl, sym, ap, ◌∙◌, arith}
 use Rattle.std.proofs.lemmas.Bool.{true_from_ne_false}
 use Rattle.std.specs.List.{slice_get}
 use Rattle.qoi.specs.declared.encode.carry.Carry.{Carry}
@@ -20,24 +20,38 @@ pub last_carried : {N : ℕ} {style : Style} {past : Past} {before : _} {table :
     → last_pixel carry.before ≡ previous past
 last_carried {past = past} {carry = carry} s = sym (last_of_planes (previous past) carry.before s.last_is)
 
-module _ {N : ℕ} {style : Style} {ahead : List ℕ} {pixels : List RgbaPixel} {table : List RgbaPixel} {carry : Carry N} {kept : List ℕ}
-    (b : InBlocks style ahead pixels table carry kept) where
+-- what stands first doesn't depend on what follows
+pub first_more : (ps more : List RgbaPixel) → 0 < length ps → slice_get (ps ++ more) 0 ≡ slice_get ps 0
+first_more [] more some = absurd (omega (arith, some))
+first_more (p ∷ ps) more some = refl
+
+-- there is a pixel, and so there is if others follow
+pub some_length : (ps : List RgbaPixel) → ps ≢ [] → 0 < length ps
+some_length [] some = absurd (some refl)
+some_length (p ∷ ps) some = omega arith
+
+pub more_some : (ps more : List RgbaPixel) → ps ≢ [] → ps ++ more ≢ []
+more_some [] more some = absurd (some refl)
+more_some (p ∷ ps) more some = λ e. (let no : ◌≡◌ {A = List RgbaPixel} (p ∷ (ps ++ more)) [] = e in cc)
+
+module _ {N : ℕ} {style : Style} {ahead : List ℕ} {n : ℕ} {pixels more : List RgbaPixel} {table : List RgbaPixel} {carry : Carry N} {kept : List ℕ}
+    (b : InBlocks style ahead n pixels more table carry kept) where
   -- a fresh pixel came, if the next one doesn't open a block
-  begun_by : (OpensBlock style (previous b.past) pixels → ⊥) → some_fresh b.past ≡ true
+  begun_by : (OpensBlock style (previous b.past) n pixels → ⊥) → some_fresh b.past ≡ true
   begun_by never = true_from_ne_false (some_fresh b.past) (λ e. never (b.opens e).1)
 
   -- so if it repeats the last
   pub begun_by_repeat : slice_get pixels 0 ≡ Some (last_pixel carry.before) → some_fresh b.past ≡ true
   begun_by_repeat first = begun_by (λ o. o.fresh (first ∙ ap Some (last_carried b.state)))
 
-  -- and in style Tight, or if fewer pixels than a block has are left
-  pub begun_at_end : (style ≡ Tight) ⊎ (length pixels < 16) → some_fresh b.past ≡ true
+  -- and in style Tight, or if fewer than n pixels are left
+  pub begun_at_end : (style ≡ Tight) ⊎ (length pixels < n) → some_fresh b.past ≡ true
   begun_at_end (inl tight) = begun_by (λ o. o.other tight)
   begun_at_end (inr few) = begun_by (λ o. absurd (omega (arith, o.whole, few)))
 
   -- of what is carried, only the last pixel, the number of its repeats and whether it is placed count
   pub same_carried : (next : Carry N) → ((q : RgbaPixel) → IsLastOf q carry.before → IsLastOf q next.before) → next.count ≡ carry.count
-      → next.placed ≡ carry.placed → InBlocks style ahead pixels table next kept
+      → next.placed ≡ carry.placed → InBlocks style ahead n pixels more table next kept
   same_carried next last count placed = record {
     past = b.past;
     before = b.before;
@@ -47,14 +61,7 @@ module _ {N : ℕ} {style : Style} {ahead : List ℕ} {pixels : List RgbaPixel} 
     few = λ e. omega (arith, count, b.few e);
   }
 
-  -- once the first bytes that are kept are gone, the same holds of the others
-  pub blocks_sent : (gone left : List ℕ) → kept ≡ gone ++ left
-      → (later : List ℕ) × (ahead ≡ gone ++ later) × InBlocks style later pixels table carry left
-  blocks_sent gone left split =
-      let sent = over_sent gone left split b.to_write in
-      (sent.0, sent.1, record { past = b.past; before = b.before; to_write = sent.2; state = b.state; opens = b.opens; few = b.few })
-
--- the same between two pixels
+-- once the first bytes that are kept are gone, the same holds of the others
 pub coder_sent : {N : ℕ} {ahead : List ℕ} {n : ℕ} {pixels : List RgbaPixel} {table : List RgbaPixel} {coder : Coder N} {kept : List ℕ}
     → CoderBetween ahead n pixels table coder kept → (gone left : List ℕ) → kept ≡ gone ++ left
     → (later : List ℕ) × (ahead ≡ gone ++ later) × CoderBetween later n pixels table coder left

@@ -218,6 +218,24 @@ module _ {N : ℕ} {ahead : List ℕ} {carried : ℕ} {pixels : List RgbaPixel} 
         state = state b.past b.before b.state;
       }
 
+  -- Its full runs are written, and r repeats are left.
+  pub fulls_written : (n k r : ℕ) (rest : List RgbaPixel) {next_table : List RgbaPixel} {next_coder : Coder N} {next : List ℕ}
+      → pixels ≡ replicate n coder.last ++ rest → carried + n ≡ 62 * k + r
+      → next ≡ bytes ++ chunk_bytes (replicate k (Run 62)) → next_coder.style ≡ coder.style
+      → ((past : Past) (before : Option Chunk) → CoderAfter past before table coder
+      → CoderAfter (replicate (62 * k) (previous past) ++ past) (last_chunk before (runs_by (Run 1) (62 * k))) next_table next_coder)
+      → CoderBetween ahead r rest next_table next_coder next
+  fulls_written n k r rest {next_table} {next_coder} {next} split sum written same state =
+      let q = previous b.past in
+      let joined = over_repeats n rest (subst (λ x. Ahead coder.style ahead b.past b.before carried x bytes)
+      (split ∙ ap (λ p. replicate n p ++ rest) b.state.last_is) b.to_write) in
+      record {
+        past = replicate (62 * k) q ++ b.past;
+        before = last_chunk b.before (runs_by (Run 1) (62 * k));
+        to_write = rw (same, written) (over_full_runs k r rest (subst (λ m. Ahead coder.style ahead b.past b.before m rest bytes) sum joined));
+        state = state b.past b.before b.state;
+      }
+
 -- The chunk of a fresh pixel is written.
 pub fresh_written : {N : ℕ} {ahead : List ℕ} {p : RgbaPixel} {rest : List RgbaPixel} {table : List RgbaPixel} {coder : Coder N} {bytes : List ℕ}
     (b : CoderBetween ahead 0 (p ∷ rest) table coder bytes) (c : Chunk) {next_table : List RgbaPixel} {next_coder : Coder N} {next : List ℕ}

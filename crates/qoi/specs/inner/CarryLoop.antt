@@ -1,8 +1,9 @@
 -- The state between two blocks, by what is carried from one to the next.
-use Rattle.std.specs.Prelude.{◌≡◌, ◌≢◌, ◌≤◌, ℕ, false, List, length, slice_get, Option, Some}
+use Rattle.std.specs.Prelude.{◌≡◌, ◌≢◌, ◌≤◌, ◌++◌, ℕ, false, List, length, slice_get, Option, Some}
 use Rattle.qoi.specs.declared.chunk.Chunk.{Chunk}
 use Rattle.qoi.specs.declared.encode.carry.Carry.{Carry}
 use Rattle.qoi.specs.declared.encode.coder.Coder.{Coder}
+use Rattle.qoi.specs.declared.encode.coder.TheConstants.{FRONT_CARRIED}
 use Rattle.qoi.specs.declared.types.Style.{Style}
 use Rattle.qoi.specs.declared.types.Style.TheVariants.{Places, Tight}
 use Rattle.qoi.specs.Qoi.{RgbaPixel, Past, previous, hash}
@@ -19,23 +20,26 @@ pub record CarryAfter {N : ℕ} (style : Style) (past : Past) (before : Option C
   pub last_is : IsLastOf (previous past) carry.before
   pub placed_is : style ≡ Places → carry.placed ≡ names before (hash (previous past))
 
--- the next pixel is fresh and begins a block, but not in style Tight
-pub record OpensBlock (style : Style) (last : RgbaPixel) (rest : List RgbaPixel) : Type 0 where
+-- the next pixel is fresh, and n pixels or more come, but not in style Tight
+pub record OpensBlock (style : Style) (last : RgbaPixel) (n : ℕ) (rest : List RgbaPixel) : Type 0 where
   pub fresh : slice_get rest 0 ≢ Some last
-  pub whole : 16 ≤ length rest
+  pub whole : n ≤ length rest
   pub other : style ≢ Tight
 
--- a fresh pixel came, or the next one opens a block
-abbrev pub GoesByBlocks : {N : ℕ} → Coder N → List RgbaPixel → Type 0
-GoesByBlocks coder rest = coder.begun ≡ false → OpensBlock coder.style coder.last rest
+-- A fresh pixel came; or no repeats are to be written, and the next pixel opens a block. If the next
+-- pixel repeats the last, so few are to be written that a run of less than 62 ends in its block.
+pub record GoesByBlocks {N : ℕ} (coder : Coder N) (count n : ℕ) (rest : List RgbaPixel) : Type 0 where
+  pub opens : coder.begun ≡ false → (count ≡ 0) × OpensBlock coder.style coder.last n rest
+  pub few : slice_get rest 0 ≡ Some coder.last → count ≤ FRONT_CARRIED
 
--- Between two blocks: the carried repeats are still to be written, and the pixels `rest`. A fresh
--- pixel came; or nothing is carried, and the next pixel opens a block. If the next pixel repeats the
--- last, so few repeats are carried that a run of less than 62 ends in the next block.
-pub record InBlocks {N : ℕ} (style : Style) (ahead : List ℕ) (rest : List RgbaPixel) (table : List RgbaPixel) (carry : Carry N) (kept : List ℕ) : Type 0 where
+-- Between two blocks: the carried repeats are still to be written, the pixels `rest`, and then
+-- others. A fresh pixel came; or nothing is carried, none of n pixels was written, and the next one
+-- opens a block. If it repeats the last, so few repeats are carried that a run of less than 62 ends in
+-- the next block.
+pub record InBlocks {N : ℕ} (style : Style) (ahead : List ℕ) (n : ℕ) (rest more table : List RgbaPixel) (carry : Carry N) (kept : List ℕ) : Type 0 where
   pub past : Past
   pub before : Option Chunk
-  pub to_write : Ahead style ahead past before carry.count rest kept
+  pub to_write : Ahead style ahead past before carry.count (rest ++ more) kept
   pub state : CarryAfter style past before table carry
-  pub opens : some_fresh past ≡ false → (carry.count ≡ 0) × OpensBlock style (previous past) rest
-  pub few : slice_get rest 0 ≡ Some (previous past) → carry.count ≤ 45
+  pub opens : some_fresh past ≡ false → (carry.count ≡ 0) × OpensBlock style (previous past) n rest
+  pub few : slice_get rest 0 ≡ Some (previous past) → carry.count ≤ FRONT_CARRIED

@@ -177,11 +177,11 @@ pub(super) fn write_block<const N: usize, const STYLE: u8, const ROOM: usize>(
     requires opaque { N ≡ 3 → AreOpaque (block_pixels block.words) }
     requires room { piece.old.end < ROOM - PAST }
     ensures end { piece.new.end ≤ piece.old.end + BLOCK_MAX }
-    ensures written { (ahead : List ℕ) (rest : List RgbaPixel)
+    ensures written { (ahead : List ℕ) (n : ℕ) (rest more : List RgbaPixel)
         → FitsBlock style table.old carry.entry.before (block_pixels block.words) block.changes
-        → InBlocks style ahead (block_pixels block.words ++ rest) table.old carry.entry
+        → InBlocks style ahead n (block_pixels block.words ++ rest) more table.old carry.entry
         (kept_bytes piece.old)
-        → InBlocks style ahead rest table.new result (kept_bytes piece.new) }
+        → InBlocks style ahead n rest more table.new result (kept_bytes piece.new) }
 {
     let places = places(block.planes);
     let out = &mut *piece.bytes;

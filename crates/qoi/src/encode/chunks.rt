@@ -37,29 +37,15 @@ fn encode_pixels<'p, W: Writer, const N: usize, const STYLE: u8, const ROOM: usi
     let mut table = PixelTable::new();
     let mut coder = Coder::<N>::new(style);
     let mut rest = Pixels::<N>::new(data);
-    if !rest.has_block() {
-        return Ok(coder.write_few(&mut table, piece, rest, 0));
-    }
+    let mut count = 0;
     let mut piece = piece;
-    while !coder.goes_by_blocks(rest) {
-        (rest, piece) = coder.write_opening(&mut table, piece, rest);
-        if !piece.is_full() {
-            break;
+    while rest.has_block() {
+        (rest, piece) = coder.write_some::<STYLE, ROOM>(style, &mut table, piece, rest, &mut count);
+        if piece.is_full() {
+            piece.send(writer)?;
         }
-        piece.send(writer)?;
     }
-    if rest.is_empty() {
-        return Ok(piece);
-    }
-    let mut carry = coder.carry();
-    loop {
-        (rest, piece) = Coder::<N>::fill::<STYLE, ROOM>(style, &mut table, piece, rest, &mut carry);
-        if !piece.is_full() {
-            Coder::<N>::write_last(&mut piece, carry);
-            return Ok(piece);
-        }
-        piece.send(writer)?;
-    }
+    Ok(coder.write_few(&mut table, piece, rest, count))
 }
 
 /// Writes an image's raw bytes as chunks into the piece, and sends a full piece to the writer each

@@ -31,12 +31,17 @@ use crate::packed::Packed;
 use crate::types::Style::{self, Places, Reference, Tight};
 use crate::utils::pick;
 
-/// The most bytes of the chunks of fewer pixels than a block has, and of the runs before them.
-pub(super) const FEW_MAX: usize = 92;
+/// The most bytes of the chunks of fewer pixels than a block has, and of the runs before and after
+/// them.
+pub(super) const FEW_MAX: usize = 93;
 
 // The most repeats that may be carried for a block of sixteen more to be carried, too: up to fifteen
 // more at the front of the next block still make a run of fewer than 62.
 const FEW_CARRIED: u8 = 29;
+
+// The most repeats that may be carried if the next pixel repeats, too, and the front goes by blocks:
+// a run of fewer than 62 ends in the next block.
+const FRONT_CARRIED: usize = 45;
 
 /// What is known between two pixels: the style; the pixel `last`; `begun`, whether a fresh pixel
 /// came, one that differs from the pixel before it; and `placed`, whether `last` was written as its
@@ -44,10 +49,10 @@ const FEW_CARRIED: u8 = 29;
 /// passed beside it, so that these few stay in registers.
 #[derive(Drop)]
 pub(super) struct Coder<const N: usize> {
-    style: Style,
-    last: Packed,
-    begun: bool,
-    placed: bool,
+    pub(super) style: Style,
+    pub(super) last: Packed,
+    pub(super) begun: bool,
+    pub(super) placed: bool,
     ghost channels: { IsChannels N } by { IsChannels-prop N },
     ghost opaque: { N ≡ 3 → last.a ≡ 255 },
 }
@@ -77,9 +82,10 @@ impl<const N: usize> Coder<N> {
     fn after(style: Style, carry: Carry<N>) -> Coder<N>
         ensures style { result.style ≡ style }
         ensures begun { result.begun ≡ true }
-        ensures between { (ahead : List ℕ) (rest table : List RgbaPixel) (kept : List ℕ)
-            → (style ≡ Tight) ⊎ (length rest < 16) → InBlocks style ahead rest table carry.entry kept
-            → CoderBetween ahead carry.entry.count rest table result kept }
+        ensures between { (ahead : List ℕ) (n : ℕ) (rest more table : List RgbaPixel)
+            (kept : List ℕ) → (style ≡ Tight) ⊎ (length rest < n)
+            → InBlocks style ahead n rest more table carry.entry kept
+            → CoderBetween ahead carry.entry.count (rest ++ more) table result kept }
     {
         Coder {
             style,
@@ -181,8 +187,9 @@ impl<const N: usize> Coder<N> {
     }
 
     // Writes the `carry` repeats that came before these pixels and the repeats at their front, at
-    // most 992 in all. Returns how many of the latter. If there are none, that is seen at the first
-    // pixel.
+    // most 992 in all; but if no pixel is left then, only their full runs. Returns how many of the
+    // latter there are, and how many repeats are still to be written. If there are none, that is seen
+    // at the first pixel.
     #[inline(always)]
     fn write_runs<const ROOM: usize>(
         &mut self,
@@ -190,43 +197,46 @@ impl<const N: usize> Coder<N> {
         piece: &mut Piece<ROOM>,
         raw: Pixels<N>,
         carry: usize,
-    ) -> usize
+    ) -> (usize, usize)
         requires few { carry < REPEATS_AT_ONCE }
         requires room { piece.old.end + RUNS_AT_ONCE < ROOM }
         ensures end { piece.new.end ≤ piece.old.end + RUNS_AT_ONCE + 1 }
-        ensures each { piece.new.end ≤ piece.old.end + (carry + result) }
-        ensures few { carry + result ≤ REPEATS_AT_ONCE }
-        ensures inside { result ≤ length (pixels_in raw.entry) }
+        ensures each { piece.new.end ≤ piece.old.end + (carry + result.0) }
+        ensures few { carry + result.0 ≤ REPEATS_AT_ONCE }
+        ensures inside { result.0 ≤ length (pixels_in raw.entry) }
+        ensures left { result.1 < run_max }
+        ensures none { drop result.0 (pixels_in raw.entry) ≢ [] → result.1 ≡ 0 }
         ensures same { (self.new.last ≡ self.old.last) × (self.new.style ≡ self.old.style)
             × (self.new.begun ≡ self.old.begun) }
-        ensures stops { (slice_get (drop result (pixels_in raw.entry)) 0 ≢ Some self.old.last)
-            ⊎ (carry + result ≡ REPEATS_AT_ONCE) }
-        ensures written { (ahead : List ℕ)
-            → CoderBetween ahead carry (pixels_in raw.entry) table.old self.old
+        ensures stops { (slice_get (drop result.0 (pixels_in raw.entry)) 0 ≢ Some self.old.last)
+            ⊎ (carry + result.0 ≡ REPEATS_AT_ONCE) }
+        ensures written { (ahead : List ℕ) (more : List RgbaPixel)
+            → CoderBetween ahead carry (pixels_in raw.entry ++ more) table.old self.old
             (kept_bytes piece.old)
-            → CoderBetween ahead 0 (drop result (pixels_in raw.entry)) table.new self.new
-            (kept_bytes piece.new) }
+            → CoderBetween ahead result.1 (drop result.0 (pixels_in raw.entry) ++ more) table.new
+            self.new (kept_bytes piece.new) }
     {
         if carry == 0 && !raw.begin_with(self.last) {
-            return 0;
+            return (0, 0);
         }
-        // If more than 992 repeat, 992 are counted: sixteen runs of 62, so `one` isn't used.
         let ahead = repeats_by_call::<N>(raw.near(REPEATS_AT_ONCE - carry), self.last);
         let count = carry + ahead;
-        let one = if raw.ends_after(ahead) {
-            // An index position stands for a repeat only if a fresh pixel follows.
-            QOI_OP_RUN
-        } else {
-            self.single_repeat_byte(count)
-        };
-        piece.keep_runs(count, one);
+        if raw.ends_after(ahead) {
+            // Others may follow.
+            let runs = count / QOI_RUN_MAX;
+            piece.keep_full_runs(runs);
+            self.update_after_repeats(table, QOI_RUN_MAX * runs);
+            return (ahead, count % QOI_RUN_MAX);
+        }
+        // If more than 992 repeat, 992 are counted: sixteen runs of 62, so the single one isn't used.
+        piece.keep_runs(count, self.single_repeat_byte(count));
         self.update_after_repeats(table, count);
-        ahead
+        (ahead, 0)
     }
 
     // Writes the `carry` repeats that came before these pixels, the repeats at their front, and the
-    // fresh pixel after them, if there is one and fewer than 992 repeats were written. Returns the
-    // rest.
+    // fresh pixel after them; but if none is left or 992 repeat, only full runs. Returns the rest,
+    // and how many repeats are still to be written.
     #[inline(always)]
     fn write_next<'a, const ROOM: usize>(
         &mut self,
@@ -234,31 +244,35 @@ impl<const N: usize> Coder<N> {
         piece: &mut Piece<ROOM>,
         raw: Pixels<'a, N>,
         carry: usize,
-    ) -> Pixels<'a, N>
+    ) -> (Pixels<'a, N>, usize)
+        requires some { pixels_in raw ≢ [] }
         requires few { carry < REPEATS_AT_ONCE }
         requires room { piece.old.end + RUNS_AT_ONCE + 1 + chunk_max ≤ ROOM }
         ensures end { piece.new.end ≤ piece.old.end + RUNS_AT_ONCE + 1 + chunk_max }
-        ensures each { carry ≡ 0 → piece.new.end + chunk_max * length (pixels_in result)
+        ensures each { carry ≡ 0 → piece.new.end + chunk_max * length (pixels_in result.0)
             ≤ piece.old.end + chunk_max * length (pixels_in raw.entry) }
-        ensures less { pixels_in raw.entry ≢ []
-            → length (pixels_in result) < length (pixels_in raw.entry) }
+        ensures less { length (pixels_in result.0) < length (pixels_in raw.entry) }
+        ensures left { result.1 < run_max }
+        ensures none { pixels_in result.0 ≢ [] → result.1 ≡ 0 }
         ensures style { self.new.style ≡ self.old.style }
         ensures begun { self.old.begun ≡ true → self.new.begun ≡ true }
-        ensures written { (ahead : List ℕ)
-            → CoderBetween ahead carry (pixels_in raw.entry) table.old self.old
+        ensures written { (ahead : List ℕ) (more : List RgbaPixel)
+            → CoderBetween ahead carry (pixels_in raw.entry ++ more) table.old self.old
             (kept_bytes piece.old)
-            → CoderBetween ahead 0 (pixels_in result) table.new self.new (kept_bytes piece.new) }
+            → CoderBetween ahead result.1 (pixels_in result.0 ++ more) table.new self.new
+            (kept_bytes piece.new) }
     {
-        let count = self.write_runs(table, piece, raw, carry);
+        let (count, left) = self.write_runs(table, piece, raw, carry);
         let after = raw.skip(count);
         if carry + count == REPEATS_AT_ONCE || after.is_empty() {
-            return after;
+            return (after, left);
         }
         self.write_pixel(table, piece, after.first());
-        after.skip(1)
+        (after.skip(1), 0)
     }
 
-    /// Writes the `carry` repeats that came before, and fewer pixels than a block has, one by one.
+    /// Writes the `carry` repeats that came before, and an image's last pixels, fewer than a block
+    /// has, one by one.
     #[inline(never)]
     pub(super) fn write_few<'p, const ROOM: usize>(
         &mut self,
@@ -268,52 +282,54 @@ impl<const N: usize> Coder<N> {
         carry: usize,
     ) -> Piece<'p, ROOM>
         requires few { length (pixels_in raw) < 16 }
-        requires carried { carry < REPEATS_AT_ONCE }
-        requires some { 0 < carry → pixels_in raw ≢ [] }
+        requires carried { carry < run_max }
         requires room { piece.end < ROOM - PAST }
         ensures end { result.end < ROOM - PAST + FEW_MAX }
-        ensures style { self.new.style ≡ self.old.style }
-        ensures begun { self.old.begun ≡ true → self.new.begun ≡ true }
         ensures written { (ahead : List ℕ)
             → CoderBetween ahead carry (pixels_in raw.entry) table.old self.old
-            (kept_bytes piece.entry)
-            → CoderBetween ahead 0 [] table.new self.new (kept_bytes result) }
+            (kept_bytes piece.entry) → ahead ≡ kept_bytes result }
     {
         let mut piece = piece;
         let mut rest = raw;
         let mut carry = carry;
         while !rest.is_empty() {
-            rest = self.write_next(table, &mut piece, rest, carry);
-            carry = 0;
+            (rest, carry) = self.write_next(table, &mut piece, rest, carry);
         }
+        piece.keep_run(carry, QOI_OP_RUN);
         piece
     }
 
-    /// What is carried after the coder's last pixel, once it is written: nothing.
+    /// What is carried after the coder's last pixel, and `count` repeats that aren't written yet.
     #[inline(always)]
-    pub(super) fn carry(&self) -> Carry<N>
-        ensures { (ahead : List ℕ) (rest table : List RgbaPixel) (kept : List ℕ)
-            → GoesByBlocks self.now rest → CoderBetween ahead 0 rest table self.now kept
-            → InBlocks self.now.style ahead rest table result kept }
+    pub(super) fn carry(&self, count: usize) -> Carry<N>
+        requires { count < run_max }
+        ensures { (ahead : List ℕ) (n : ℕ) (rest more table : List RgbaPixel) (kept : List ℕ)
+            → GoesByBlocks self.now count n rest
+            → CoderBetween ahead count (rest ++ more) table self.now kept
+            → InBlocks self.now.style ahead n rest more table result kept }
     {
         Carry {
             before: Planes::splat(self.last),
-            count: 0,
+            count: count as u8,
             placed: self.placed,
         }
     }
 
-    /// Whether the front goes by blocks: once a fresh pixel came or, but in style `Tight`, if the
-    /// next one is fresh and there is a whole block.
+    /// Whether the front goes by blocks, if there is one: once a fresh pixel came or, but in style
+    /// `Tight`, if the next one is fresh; and if not too many repeats came that aren't written yet.
     #[inline(always)]
-    pub(super) fn goes_by_blocks(&self, raw: Pixels<N>) -> bool
-        ensures { IsTrue result → GoesByBlocks self.now (pixels_in raw.entry) }
+    pub(super) fn goes_by_blocks(&self, raw: Pixels<N>, count: usize) -> bool
+        ensures { IsTrue result
+            → GoesByBlocks self.now count (length (pixels_in raw.entry)) (pixels_in raw.entry) }
     {
         let may_open = match self.style {
-            Reference | Places => true,
+            Reference | Places => count == 0,
             Tight => false,
         };
-        self.begun || (may_open && raw.has_block() && !raw.begin_with(self.last))
+        if self.begun && count <= FRONT_CARRIED {
+            return true;
+        }
+        (self.begun | may_open) && !raw.begin_with(self.last)
     }
 
     // Whether in style `Tight` a pixel of the block may be given by another index position than its
@@ -339,9 +355,9 @@ impl<const N: usize> Coder<N> {
         requires repeats { all_repeat (last_pixel carry.before) (take 16 (pixels_in raw)) ≡ true }
         requires few { carry.count ≤ FEW_CARRIED }
         ensures less { length (pixels_in result.0) < length (pixels_in raw.entry) }
-        ensures written { (style : Style) (ahead : List ℕ) (table : List RgbaPixel) (kept : List ℕ)
-            → InBlocks style ahead (pixels_in raw.entry) table carry.entry kept
-            → InBlocks style ahead (pixels_in result.0) table result.1 kept }
+        ensures written { (style : Style) (ahead : List ℕ) (n : ℕ) (more table : List RgbaPixel)
+            (kept : List ℕ) → InBlocks style ahead n (pixels_in raw.entry) more table carry.entry kept
+            → InBlocks style ahead n (pixels_in result.0) more table result.1 kept }
     {
         let after = Carry {
             before: carry.before,
@@ -363,9 +379,11 @@ impl<const N: usize> Coder<N> {
         requires room { piece.old.end < ROOM - PAST }
         ensures end { piece.new.end ≤ piece.old.end + BLOCK_MAX }
         ensures less { length (pixels_in result.0) < length (pixels_in raw.entry) }
-        ensures written { (style : Style) (ahead : List ℕ) (table : List RgbaPixel)
-            → InBlocks style ahead (pixels_in raw.entry) table carry.entry (kept_bytes piece.old)
-            → InBlocks style ahead (pixels_in result.0) table result.1 (kept_bytes piece.new) }
+        ensures written { (style : Style) (ahead : List ℕ) (n : ℕ) (more table : List RgbaPixel)
+            → InBlocks style ahead n (pixels_in raw.entry) more table carry.entry
+            (kept_bytes piece.old)
+            → InBlocks style ahead n (pixels_in result.0) more table result.1
+            (kept_bytes piece.new) }
     {
         let carried = usize::from(carry.count);
         let ahead = repeats_of::<N>(raw.near(REPEATS_AT_ONCE - carried), raw.first());
@@ -392,14 +410,15 @@ impl<const N: usize> Coder<N> {
         requires room { piece.old.end < ROOM - PAST }
         ensures end { piece.new.end ≤ piece.old.end + BLOCK_MAX }
         ensures less { length (pixels_in result.0) < length (pixels_in raw.entry) }
-        ensures written { (ahead : List ℕ)
-            → InBlocks Tight ahead (pixels_in raw.entry) table.old carry.entry
+        ensures written { (ahead : List ℕ) (n : ℕ) (more : List RgbaPixel)
+            → InBlocks Tight ahead n (pixels_in raw.entry) more table.old carry.entry
             (kept_bytes piece.old)
-            → InBlocks Tight ahead (pixels_in result.0) table.new result.1 (kept_bytes piece.new) }
+            → InBlocks Tight ahead n (pixels_in result.0) more table.new result.1
+            (kept_bytes piece.new) }
     {
         let mut coder = Coder::<N>::after(Tight, carry);
-        let rest = coder.write_next(table, piece, raw, usize::from(carry.count));
-        (rest, coder.carry())
+        let (rest, count) = coder.write_next(table, piece, raw, usize::from(carry.count));
+        (rest, coder.carry(count))
     }
 
     // Writes what is at the front: a block, but for the repeats at its end; if all repeat, the full
@@ -418,10 +437,11 @@ impl<const N: usize> Coder<N> {
         requires room { piece.old.end < ROOM - PAST }
         ensures end { piece.new.end ≤ piece.old.end + BLOCK_MAX }
         ensures less { length (pixels_in result.0) < length (pixels_in raw.entry) }
-        ensures written { (ahead : List ℕ)
-            → InBlocks style ahead (pixels_in raw.entry) table.old carry.entry
+        ensures written { (ahead : List ℕ) (n : ℕ) (more : List RgbaPixel)
+            → InBlocks style ahead n (pixels_in raw.entry) more table.old carry.entry
             (kept_bytes piece.old)
-            → InBlocks style ahead (pixels_in result.0) table.new result.1 (kept_bytes piece.new) }
+            → InBlocks style ahead n (pixels_in result.0) more table.new result.1
+            (kept_bytes piece.new) }
     {
         let block = Block::first::<N>(raw, carry);
         if block.repeats() {
@@ -438,89 +458,33 @@ impl<const N: usize> Coder<N> {
         (raw.skip(16), after)
     }
 
-    // Writes the last pixels, of which there are fewer than a block has, and the repeats that are
-    // carried. Returns the piece, and updates what is carried: nothing.
+    // Writes by blocks until the piece is full or fewer pixels than a block has are left, and updates
+    // what is carried. Returns the rest, and the piece.
+    //
+    // `STYLE` is a number for the style, so that each has a loop of its own. The piece is a value,
+    // and taken apart at once, so that the compiler keeps its fields in registers.
     #[inline(always)]
-    fn write_tail<'p, const ROOM: usize>(
+    fn fill<'a, 'p, const STYLE: u8, const ROOM: usize>(
         style: Style,
         table: &mut PixelTable,
         piece: Piece<'p, ROOM>,
-        raw: Pixels<N>,
+        raw: Pixels<'a, N>,
         carry: &mut Carry<N>,
-    ) -> Piece<'p, ROOM>
-        requires some { pixels_in raw ≢ [] }
-        requires few { length (pixels_in raw) < 16 }
+    ) -> (Pixels<'a, N>, Piece<'p, ROOM>)
+        requires enough { 16 ≤ length (pixels_in raw) }
         requires room { piece.end < ROOM - PAST }
-        ensures end { result.end < ROOM - PAST + FEW_MAX }
-        ensures written { (ahead : List ℕ)
-            → InBlocks style ahead (pixels_in raw.entry) table.old carry.old
-            (kept_bytes piece.entry)
-            → InBlocks style ahead [] table.new carry.new (kept_bytes result) }
-    {
-        let mut coder = Coder::<N>::after(style, *carry);
-        let piece = coder.write_few(table, piece, raw, usize::from(carry.count));
-        *carry = coder.carry();
-        piece
-    }
-
-    /// Writes what opens an image, pixel by pixel, until it goes by blocks, the piece is full or
-    /// nothing is left. Returns the rest, and the piece.
-    #[inline(never)]
-    pub(super) fn write_opening<'a, 'p, const ROOM: usize>(
-        &mut self,
-        table: &mut PixelTable,
-        piece: Piece<'p, ROOM>,
-        raw: Pixels<'a, N>,
-    ) -> (Pixels<'a, N>, Piece<'p, ROOM>)
-        requires { piece.end < ROOM - PAST }
         ensures end { result.1.end < ROOM - PAST + BLOCK_MAX }
-        ensures less { ROOM - PAST ≤ result.1.end
-            → length (pixels_in result.0) < length (pixels_in raw.entry) }
-        ensures stops { result.1.end < ROOM - PAST → pixels_in result.0 ≢ []
-            → GoesByBlocks self.new (pixels_in result.0) }
-        ensures style { self.new.style ≡ self.old.style }
-        ensures written { (ahead : List ℕ)
-            → CoderBetween ahead 0 (pixels_in raw.entry) table.old self.old (kept_bytes piece.entry)
-            → CoderBetween ahead 0 (pixels_in result.0) table.new self.new (kept_bytes result.1) }
-    {
-        let mut piece = piece;
-        let mut rest = raw;
-        while !piece.is_full() && !rest.is_empty() {
-            if self.goes_by_blocks(rest) {
-                return (rest, piece);
-            }
-            rest = self.write_next(table, &mut piece, rest, 0);
-        }
-        (rest, piece)
-    }
-
-    /// Writes by blocks until the piece is full or nothing is left, and updates what is carried.
-    /// Returns the rest, and the piece.
-    ///
-    /// `STYLE` is a number for the style, so that each has a loop of its own. The piece is a value,
-    /// and taken apart at once, so that the compiler keeps its fields in registers.
-    pub(super) fn fill<'a, 'p, const STYLE: u8, const ROOM: usize>(
-        style: Style,
-        table: &mut PixelTable,
-        piece: Piece<'p, ROOM>,
-        raw: Pixels<'a, N>,
-        carry: &mut Carry<N>,
-    ) -> (Pixels<'a, N>, Piece<'p, ROOM>)
-        requires { piece.end < ROOM - PAST }
-        ensures end { result.1.end < ROOM - PAST + FEW_MAX }
-        ensures all { result.1.end < ROOM - PAST → pixels_in result.0 ≡ [] }
-        ensures less { ROOM - PAST ≤ result.1.end
-            → length (pixels_in result.0) < length (pixels_in raw.entry) }
-        ensures written { (ahead : List ℕ)
-            → InBlocks style ahead (pixels_in raw.entry) table.old carry.old
+        ensures less { length (pixels_in result.0) < length (pixels_in raw.entry) }
+        ensures written { (ahead : List ℕ) (n : ℕ) (more : List RgbaPixel)
+            → InBlocks style ahead n (pixels_in raw.entry) more table.old carry.old
             (kept_bytes piece.entry)
-            → InBlocks style ahead (pixels_in result.0) table.new carry.new (kept_bytes result.1) }
+            → InBlocks style ahead n (pixels_in result.0) more table.new carry.new
+            (kept_bytes result.1) }
     {
         let Piece { bytes, end } = piece;
         let mut piece = Piece { bytes, end };
         let mut rest = raw;
         let mut now = carry.with_known_alpha();
-        // A block has sixteen pixels. Those that are left are written one by one.
         while !piece.is_full() && rest.has_block() {
             let (after, carried) = Coder::<N>::write_front::<STYLE, ROOM>(
                 style, table, &mut piece, rest, now,
@@ -529,22 +493,69 @@ impl<const N: usize> Coder<N> {
             rest = after;
         }
         *carry = now;
-        if piece.is_full() || rest.is_empty() {
-            return (rest, piece);
-        }
-        let piece = Coder::<N>::write_tail(style, table, piece, rest, carry);
-        (Pixels { bytes: &[] }, piece)
+        (rest, piece)
     }
 
-    /// Writes the repeats that are carried at the end, if there are any.
-    #[inline(always)]
-    pub(super) fn write_last<const ROOM: usize>(piece: &mut Piece<ROOM>, carry: Carry<N>)
-        requires { piece.old.end < ROOM - PAST }
-        ensures end { piece.new.end ≤ piece.old.end + 1 }
-        ensures written { (style : Style) (ahead : List ℕ) (table : List RgbaPixel)
-            → InBlocks style ahead [] table carry.entry (kept_bytes piece.old)
-            → ahead ≡ kept_bytes piece.new }
+    // What doesn't go by blocks: `write_next`, once.
+    #[inline(never)]
+    fn write_open<'a, 'p, const ROOM: usize>(
+        &mut self,
+        table: &mut PixelTable,
+        piece: Piece<'p, ROOM>,
+        raw: Pixels<'a, N>,
+        count: &mut usize,
+    ) -> (Pixels<'a, N>, Piece<'p, ROOM>)
+        requires some { pixels_in raw ≢ [] }
+        requires few { count.old < run_max }
+        requires room { piece.end < ROOM - PAST }
+        ensures end { result.1.end < ROOM - PAST + BLOCK_MAX }
+        ensures less { length (pixels_in result.0) < length (pixels_in raw.entry) }
+        ensures few { count.new < run_max }
+        ensures style { self.new.style ≡ self.old.style }
+        ensures written { (ahead : List ℕ) (more : List RgbaPixel)
+            → CoderBetween ahead count.old (pixels_in raw.entry ++ more) table.old self.old
+            (kept_bytes piece.entry)
+            → CoderBetween ahead count.new (pixels_in result.0 ++ more) table.new self.new
+            (kept_bytes result.1) }
     {
-        piece.keep_run(usize::from(carry.count), QOI_OP_RUN);
+        let mut piece = piece;
+        let (rest, left) = self.write_next(table, &mut piece, raw, *count);
+        *count = left;
+        (rest, piece)
+    }
+
+    /// Writes what is at the front: blocks, until the piece is full or fewer pixels than a block has
+    /// are left; or repeats and the fresh pixel after them. Returns the rest, and the piece; updates
+    /// `count`, how many repeats came that aren't written yet. Any pixels may follow.
+    pub(super) fn write_some<'a, 'p, const STYLE: u8, const ROOM: usize>(
+        &mut self,
+        style: Style,
+        table: &mut PixelTable,
+        piece: Piece<'p, ROOM>,
+        raw: Pixels<'a, N>,
+        count: &mut usize,
+    ) -> (Pixels<'a, N>, Piece<'p, ROOM>)
+        requires style { self.old.style ≡ style }
+        requires enough { 16 ≤ length (pixels_in raw) }
+        requires few { count.old < run_max }
+        requires room { piece.end < ROOM - PAST }
+        ensures end { result.1.end < ROOM - PAST + BLOCK_MAX }
+        ensures less { length (pixels_in result.0) < length (pixels_in raw.entry) }
+        ensures few { count.new < run_max }
+        ensures style { self.new.style ≡ style }
+        ensures written { (ahead : List ℕ) (more : List RgbaPixel)
+            → CoderBetween ahead count.old (pixels_in raw.entry ++ more) table.old self.old
+            (kept_bytes piece.entry)
+            → CoderBetween ahead count.new (pixels_in result.0 ++ more) table.new self.new
+            (kept_bytes result.1) }
+    {
+        if !self.goes_by_blocks(raw, *count) {
+            return self.write_open(table, piece, raw, count);
+        }
+        let mut carry = self.carry(*count);
+        let (rest, piece) = Coder::<N>::fill::<STYLE, ROOM>(style, table, piece, raw, &mut carry);
+        *self = Coder::after(style, carry);
+        *count = usize::from(carry.count);
+        (rest, piece)
     }
 }

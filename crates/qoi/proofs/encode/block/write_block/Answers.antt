@@ -1,11 +1,14 @@
 -- The repeats before the block, if a fresh pixel follows them, and the block's chunks.
-use Rattle.std.proofs.Common.{◌≡◌, ◌==◌, eqb-true, inl, inr, false, ℕ, ◌+◌, ◌≤◌, List, ◌++◌, map, take, slice_index, arith, refl, sym, ap, ◌∙◌, subst}
+use Rattle.std.proofs.Common.{◌≡◌, ◌==◌, eqb-true, inl, inr, false, ℕ, ◌+◌, ◌≤◌, List, ◌++◌, map, ◌<◌, length, take, slice_index, arith, refl, sym, ap, ◌∙◌, subst, append_assoc, length-append}
+use Rattle.std.specs.List.{slice_get}
 use Rattle.qoi.specs.declared.types.Style.TheVariants.{Places}
 use Rattle.qoi.specs.Qoi.{RgbaPixel, IsPixel, previous, hash}
 use Rattle.qoi.specs.Raw.{IsChannels}
 use Rattle.qoi.specs.Styles.{some_fresh, names}
 use Rattle.qoi.specs.inner.BlockState.{State, lanes_of}
+use Rattle.qoi.specs.inner.CoderLoop.{Ahead}
 use Rattle.qoi.specs.inner.CoderState.{held_in}
+use Rattle.qoi.specs.inner.Piece.{kept_bytes}
 use Rattle.qoi.specs.inner.BlockBytes.{sizes}
 use Rattle.qoi.specs.inner.Blocks.{last_pixel, all_repeat}
 use Rattle.qoi.specs.inner.Planes.{AreOpaque, block_pixels}
@@ -15,6 +18,7 @@ use Rattle.qoi.specs.inner.Table.{Holds}
 use Rattle.qoi.proofs.encoding.BlockPuts.{hashes_below}
 use Rattle.qoi.proofs.encoding.BlockStep.{ready, first_repeats, group_stored, block_step}
 use Rattle.qoi.proofs.encoding.BlockWritten.{Carrying}
+use Rattle.qoi.proofs.encoding.CoderLink.{first_more}
 use Rattle.qoi.proofs.encoding.LastOfPlanes.{last_of_planes}
 use Rattle.qoi.proofs.encoding.PackedBlock.{block_sixteen, block_words}
 use Rattle.qoi.proofs.encoding.RereadLanes.{read_back}
@@ -35,7 +39,7 @@ put_block-stands-requires-clause-below g c = λ k lt.
     omega (arith, hashes_below (block_pixels w) k, ap (λ z. slice_index z k) (read_back g.row.ROOM c.store_lanes.new.out c.places-places.result (c.store_lanes.ensures.same ∙ c.args.piece.now.room) c.store_lanes.ensures.lanes ∙ at))
 
 pub returns-clause-written : goal.returns-clause-written
-returns-clause-written g c = λ ahead rest fits b.
+returns-clause-written g c = λ ahead n rest more fits b.
     let style = c.args.style in
     let carry = c.args.carry in
     let q = previous b.past in
@@ -44,13 +48,17 @@ returns-clause-written g c = λ ahead rest fits b.
     let all : List RgbaPixel = block_pixels words in
     let sixteen = block_sixteen words c.args.block.packed in
     let planes = c.args.block.planes_are in
-    let start : Carrying (some_fresh b.past) style ahead s (all ++ rest) (take c.args.piece.now.end c.args.piece.now.bytes.now) = record {
+    let later = rest ++ more in
+    let assoc : (all ++ rest) ++ more ≡ all ++ later = append_assoc all rest more in
+    let some : 0 < length (all ++ rest) = omega (arith, length-append all rest, sixteen.long) in
+    let first : slice_get (all ++ later) 0 ≡ slice_get (all ++ rest) 0 = ap (λ x. slice_get x 0) (sym assoc) ∙ first_more (all ++ rest) more some in
+    let start : Carrying (some_fresh b.past) style ahead s (all ++ later) (take c.args.piece.now.end c.args.piece.now.bytes.now) = record {
       past = b.past;
       before = b.before;
-      to_write = b.to_write;
+      to_write = subst (λ ps. Ahead style ahead b.past b.before carry.count ps (kept_bytes c.args.piece.now)) assoc b.to_write;
       last_is = refl;
       begun_is = refl;
-      opens = λ no. ((b.opens no).0, (b.opens no).1.fresh);
+      opens = λ no. ((b.opens no).0, λ e. (b.opens no).1.fresh (sym first ∙ e));
       held_is = λ _. refl;
       placed_is = refl;
     } in
@@ -61,14 +69,14 @@ returns-clause-written g c = λ ahead rest fits b.
     let x = c.spell-x.result in
     let rep = slice_index x.rep 0 in
     let q_is : q ≡ last_pixel carry.before = last_of_planes q carry.before b.state.last_is in
-    let now = ready style ahead s all rest x _ carry.placed (last_pixel carry.before) carry.count _ _ c.args.carry.few b.few start
+    let now = ready style ahead s all later x _ carry.placed (last_pixel carry.before) carry.count _ _ c.args.carry.few (λ e. b.few (sym first ∙ e)) start
     spelled sixteen refl q_is refl placed
     (group_stored style (rep == 0) carry.placed (last_pixel carry.before) carry.count c.args.piece.now.end c.end-start.result c.byte.result c.args.piece.now.bytes.now c.store_lanes.new.out
     (omega (arith, c.args.piece.now.within, c.args.piece.now.room)) c.store_lanes.ensures.stored c.byte.ensures
     (λ e. c.end-start.ensures.stays (omega (arith, first_repeats s all x spelled sixteen e, c.args.carry.few)))
     (λ e. c.end-start.ensures.stays (omega (arith, e)))
     (λ e some. c.end-start.ensures.some (omega (arith, eqb-true rep 0 e, some)))) in
-    block_step style ahead s rest all x c.args.block.planes c.put_block-stands.new.table c.carry.result _ _ sixteen
+    block_step style ahead n s rest more all x c.args.block.planes c.put_block-stands.new.table c.carry.result _ _ sixteen
     (subst (λ q. all_repeat q all ≡ false) (sym q_is) fits.mixed) planes now put.holds
     (λ t held same tight. fits.no_blank tight t (subst (Holds c.args.table.now) (sym held) b.state.table_is) (subst (λ q. IsLastOf q carry.before) (sym same) b.state.last_is))
     c.carry.ensures.before c.carry.ensures.count (λ is. c.carry.ensures.placed (stand_tests s.held all) is put.stands_are)

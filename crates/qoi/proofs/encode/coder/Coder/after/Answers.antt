@@ -4,7 +4,7 @@ use Rattle.qoi.proofs.encoding.CoderLink.{last_carried, begun_at_end}
 use Rattle.qoi.proofs.encode.coder.Coder.after.Goals as goal
 
 pub returns-clause-between : goal.returns-clause-between
-returns-clause-between g c = λ ahead rest table kept last b. record {
+returns-clause-between g c = λ ahead n rest more table kept last b. record {
   past = b.past;
   before = b.before;
   to_write = b.to_write;

@@ -1,8 +1,8 @@
 -- The pixels up to here are written, each as at most five bytes, and after the first step the repeats
 -- that were carried.
-use Rattle.std.proofs.Common.{◌≡◌, ◌≢◌, ℕ, List, [], true, ◌+◌, ◌*◌, ◌<◌, ◌≤◌, length}
-use Rattle.qoi.specs.declared.encode.piece.TheConstants.{REPEATS_AT_ONCE, RUNS_AT_ONCE}
-use Rattle.qoi.specs.Qoi.{chunk_max}
+use Rattle.std.proofs.Common.{◌≢◌, ℕ, List, [], ◌+◌, ◌*◌, ◌<◌, ◌≤◌, length}
+use Rattle.qoi.specs.declared.encode.piece.TheConstants.{RUNS_AT_ONCE}
+use Rattle.qoi.specs.Qoi.{chunk_max, run_max}
 use Rattle.qoi.specs.inner.CoderLoop.{CoderBetween}
 use Rattle.qoi.specs.inner.Piece.{kept_bytes}
 use Rattle.qoi.specs.inner.Pixels.{pixels_in}
@@ -11,11 +11,8 @@ use Rattle.qoi.proofs.encode.coder.Coder.write_few.Given as goal
 abbrev pub invariant-loop-rest : goal.invariant-loop-rest
 invariant-loop-rest g l = record {
   end : l.piece.end + chunk_max * length (pixels_in l.rest) ≤ l.initial.piece.end + (RUNS_AT_ONCE + 1) + chunk_max * length (pixels_in l.raw);
-  first : 0 < l.carry → l.piece.end + chunk_max * length (pixels_in l.rest) ≤ l.initial.piece.end + chunk_max * length (pixels_in l.raw);
-  carried : l.carry < REPEATS_AT_ONCE;
-  some : 0 < l.carry → pixels_in l.rest ≢ [];
-  begun : l.initial.self.begun ≡ true → l.self.begun ≡ true;
-  style : l.self.style ≡ l.initial.self.style;
+  first : 0 < l.carry → pixels_in l.rest ≢ [] → l.piece.end + chunk_max * length (pixels_in l.rest) ≤ l.initial.piece.end + chunk_max * length (pixels_in l.raw);
+  carried : l.carry < run_max;
   written : (ahead : List ℕ) → CoderBetween ahead l.initial.carry (pixels_in l.raw) l.initial.table l.initial.self (kept_bytes l.initial.piece)
       → CoderBetween ahead l.carry (pixels_in l.rest) l.table l.self (kept_bytes l.piece);
 }

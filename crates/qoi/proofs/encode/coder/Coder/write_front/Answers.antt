@@ -16,14 +16,14 @@ write_long_group-requires g c =
     (omega arith, (omega arith, (omega arith, (repeats_first (pixels_in c.args.raw) q c.requires.enough all, c.requires.room))))
 
 pub returns-then-may_name_other-clause-written : goal.returns-then-may_name_other-clause-written
-returns-then-may_name_other-clause-written g c = λ ahead b.
+returns-then-may_name_other-clause-written g c = λ ahead n more b.
     let tight = c.may_name_other.ensures.tight c.if-may_name_other.true in
     let group = c.write_group in
-    let start = subst (λ s. InBlocks s ahead (pixels_in c.args.raw) c.args.table.now c.args.carry (kept_bytes c.args.piece.now)) tight b in
-    subst (λ s. InBlocks s ahead (pixels_in group.result.0) group.new.table group.result.1 (kept_bytes group.new.piece)) (sym tight) (group.ensures.written ahead start)
+    let start = subst (λ s. InBlocks s ahead n (pixels_in c.args.raw) more c.args.table.now c.args.carry (kept_bytes c.args.piece.now)) tight b in
+    subst (λ s. InBlocks s ahead n (pixels_in group.result.0) more group.new.table group.result.1 (kept_bytes group.new.piece)) (sym tight) (group.ensures.written ahead n more start)
 
 pub returns-clause-written : goal.returns-clause-written
-returns-clause-written g c = λ ahead b.
+returns-clause-written g c = λ ahead n more b.
     let block = c.first-block.ensures in
     let before = c.args.carry.before in
     let after = drop 16 (pixels_in c.args.raw) in
@@ -33,5 +33,5 @@ returns-clause-written g c = λ ahead b.
       no_blank = c.may_name_other.ensures.none before block.changes c.if-may_name_other.false;
     } in
     let front = sym (take-append-drop 16 (pixels_in c.args.raw)) ∙ ap (λ ps. ps ++ after) (sym block.pixels) in
-    rw c.skip.ensures.rest (c.write_block-after.ensures.written ahead after fits
-    (subst (λ ps. InBlocks c.args.style ahead ps c.args.table.now c.args.carry (kept_bytes c.args.piece.now)) front b))
+    rw c.skip.ensures.rest (c.write_block-after.ensures.written ahead n after more fits
+    (subst (λ ps. InBlocks c.args.style ahead n ps more c.args.table.now c.args.carry (kept_bytes c.args.piece.now)) front b))

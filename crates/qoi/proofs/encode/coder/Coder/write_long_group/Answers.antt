@@ -44,14 +44,14 @@ returns-clause-less g c =
     omega (arith, c.skip.ensures.size, some)
 
 pub returns-clause-written : goal.returns-clause-written
-returns-clause-written g c = λ style all table b.
+returns-clause-written g c = λ style all n more table b.
     let carry = c.args.carry in
     let ahead = c.repeats_of-ahead.result in
     let count = c.from-carried.result + ahead in
     let group = near g (goal.at.returns-clause-written g c).After-repeats_of-ahead in
     let later = drop ahead (pixels_in c.args.raw) in
     let first = subst (λ x. slice_get x 0 ≡ Some (last_pixel carry.before)) group.same c.requires.repeats in
-    let start = subst (λ x. InBlocks style all x table carry (kept_bytes c.args.piece.now)) group.same b in
+    let start = subst (λ x. InBlocks style all n x more table carry (kept_bytes c.args.piece.now)) group.same b in
     let few : slice_get later 0 ≡ Some (last_pixel carry.before) → count % 62 ≤ 45 = λ e. (elim group.ends as (λ _. count % 62 ≤ 45) [
       | inl other ↦ absurd (other e)
       | inr full ↦ omega (arith, full, c.from-carried.ensures, carry.few)

@@ -1,18 +1,17 @@
 -- The repeats that are looked at, and their runs.
-use Rattle.std.proofs.Common.{◌≡◌, ◌≢◌, ◌⊎◌, inl, inr, ◌+◌, ◌-◌, ◌%◌, ◌<◌, [], ◌∷◌, drop, Some, refl, sym, ap, ◌∙◌, arith, subst}
+use Rattle.std.proofs.Common.{◌≡◌, ◌≢◌, ◌⊎◌, inl, inr, ◌+◌, ◌-◌, ◌/◌, ◌%◌, ◌<◌, List, [], ◌++◌, drop, replicate, append_assoc, Some, refl, sym, ap, ◌∙◌, arith, subst}
 use Rattle.std.proofs.lemmas.Bool.{true≢false}
 use Rattle.std.specs.List.{slice_get}
-use Rattle.qoi.specs.declared.chunk.Chunk.{Chunk}
-use Rattle.qoi.specs.declared.chunk.Chunk.TheVariants.{Run}
 use Rattle.qoi.specs.declared.encode.piece.TheConstants.{REPEATS_AT_ONCE}
-use Rattle.qoi.specs.Qoi.{bytes_of}
+use Rattle.qoi.specs.Qoi.{RgbaPixel}
 use Rattle.qoi.specs.Runs.{IsCount}
 use Rattle.qoi.specs.inner.CoderLoop.{single}
 use Rattle.qoi.specs.inner.Pixels.{pixels_in}
-use Rattle.qoi.proofs.encoding.CoderSteps.{group_written}
+use Rattle.qoi.proofs.encoding.CoderLink.{first_more, more_some, some_length}
+use Rattle.qoi.proofs.encoding.CoderSteps.{group_written, fulls_written}
 use Rattle.qoi.proofs.encoding.PixelsIn.{NearGroup, near_group, near_some}
 use Rattle.qoi.proofs.encode.coder.Coder.write_runs.Given.{Over}
-use Rattle.qoi.proofs.encode.coder.Coder.write_runs.Goals.{After-repeats_by_call-ahead, else-carry-eq0-via-then-carry-eq0+else-not-begin_with, else-carry-eq0-via-else-carry-eq0, then-ends_after, else-ends_after}
+use Rattle.qoi.proofs.encode.coder.Coder.write_runs.Goals.{After-repeats_by_call-ahead, else-carry-eq0-via-then-carry-eq0+else-not-begin_with, else-carry-eq0-via-else-carry-eq0}
 use Rattle.qoi.proofs.encode.coder.Coder.write_runs.Goals as goal
 
 -- the repeats stand ahead
@@ -53,25 +52,32 @@ returns-clause-stops g c =
     let group = near g (goal.at.returns-clause-stops g c).After-repeats_by_call-ahead in
     elim group.ends [ inl other ↦ inl other | inr e ↦ inr (omega (arith, e, c.requires.few)) ]
 
+-- and so the pixels that follow
+ahead_is : (g : Over) (c : After-repeats_by_call-ahead g) (more : List RgbaPixel)
+    → pixels_in c.args.raw ++ more ≡ replicate c.repeats_by_call-ahead.result c.args.self.now.last ++ (drop c.repeats_by_call-ahead.result (pixels_in c.args.raw) ++ more)
+ahead_is g c more = ap (λ ps. ps ++ more) (near g c).same ∙ append_assoc (replicate c.repeats_by_call-ahead.result c.args.self.now.last) (drop c.repeats_by_call-ahead.result (pixels_in c.args.raw)) more
+
+pub returns-then-ends_after-clause-written : goal.returns-then-ends_after-clause-written
+returns-then-ends_after-clause-written g c all more b =
+    let n = c.repeats_by_call-ahead.result in
+    let count = c.args.carry + n in
+    fulls_written b n (count / 62) (count % 62) (drop n (pixels_in c.args.raw) ++ more) (ahead_is g (goal.at.returns-then-ends_after-clause-written g c).After-repeats_by_call-ahead more)
+    (omega arith) c.keep_full_runs.ensures.kept c.update_after_repeats.ensures.same.1 c.update_after_repeats.ensures.state
+
 pub returns-clause-written : goal.returns-clause-written
-returns-clause-written g c all b =
+returns-clause-written g c all more b =
     let n = c.repeats_by_call-ahead.result in
     let k = c.args.carry in
     let coder = c.args.self.now in
-    let group = near g (goal.at.returns-clause-written g c).After-repeats_by_call-ahead in
+    let here = (goal.at.returns-clause-written g c).After-repeats_by_call-ahead in
+    let group = near g here in
     let rest = drop n (pixels_in c.args.raw) in
+    let later = rest ++ more in
+    let some : rest ≢ [] = λ none. true≢false (sym (c.ends_after.ensures.1 none) ∙ c.if-ends_after.false) in
+    let first : slice_get later 0 ≡ slice_get rest 0 = first_more rest more (some_length rest some) in
     let full : n ≡ REPEATS_AT_ONCE - k → (k + n) % 62 ≡ 0 = λ e. omega (arith, e, c.requires.few) in
-    let ends : (slice_get rest 0 ≢ Some coder.last) ⊎ ((k + n) % 62 ≡ 0) =
-    elim group.ends as (λ _. (slice_get rest 0 ≢ Some coder.last) ⊎ ((k + n) % 62 ≡ 0)) [ inl other ↦ inl other | inr e ↦ inr (full e) ] in
-    let one : (one : Chunk) × (bytes_of one ≡ c.if-ends_after.one ∷ [])
-    × (((rest ≡ []) × (one ≡ Run 1)) ⊎ ((rest ≢ []) × (one ≡ single coder (k + n))))
-    = elim c.if-ends_after.branch [
-      | then-ends_after x ↦ (Run 1, ap (λ z. z ∷ []) (sym x.one-is), inl (c.ends_after.ensures.0 x.if-ends_after.true, refl))
-      | else-ends_after x ↦ (
-        single coder (k + n),
-        x.single_repeat_byte-one.ensures ∙ ap (λ z. z ∷ []) (sym x.one-is),
-        inr (λ none. true≢false (sym (c.ends_after.ensures.1 none) ∙ x.if-ends_after.false), refl),
-      )
-    ] in
-    group_written b n rest one.0 group.same ends (λ _. one.2)
-    (c.keep_runs.ensures.kept one.0 one.1) c.update_after_repeats.ensures.same.1 c.update_after_repeats.ensures.state
+    let ends : (slice_get later 0 ≢ Some coder.last) ⊎ ((k + n) % 62 ≡ 0) =
+    elim group.ends as (λ _. (slice_get later 0 ≢ Some coder.last) ⊎ ((k + n) % 62 ≡ 0)) [ inl other ↦ inl (λ e. other (sym first ∙ e)) | inr e ↦ inr (full e) ] in
+    let one = single coder (k + n) in
+    group_written b n later one (ahead_is g here more) ends (λ _. inr (more_some rest more some, refl))
+    (c.keep_runs.ensures.kept one c.single_repeat_byte.ensures) c.update_after_repeats-2.ensures.same.1 c.update_after_repeats-2.ensures.state

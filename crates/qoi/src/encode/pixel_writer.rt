@@ -1,0 +1,462 @@
+//! Encoding of one image whose raw bytes come piece by piece.
+ghost use Rattle.std.specs.Prelude.{◌≡◌, ℕ, ◌+◌, ◌-◌, ◌*◌, ◌%◌, ◌<◌, ◌≤◌, List, [], ◌++◌, Option, length, ◌⊎◌, IfOk, IfErr, OnOk, false};
+ghost use Rattle.std.specs.Io.KnownBytes.{Appends};
+ghost use Rattle.qoi.specs.declared.encode.block.TheConstants.{BLOCK_MAX};
+ghost use Rattle.qoi.specs.declared.encode.piece.TheConstants.{PAST, FULL_ROOM};
+ghost use Rattle.qoi.specs.declared.error.Error.{Error};
+ghost use Rattle.qoi.specs.declared.types.Channels.{Channels};
+ghost use Rattle.qoi.specs.Qoi.{RgbaPixel, IsValid, channels_number, header_bytes};
+ghost use Rattle.qoi.specs.Raw.{IsChannels, pixels_of, image_byte_count};
+ghost use Rattle.qoi.specs.EncoderState.{EncoderState};
+ghost use Rattle.qoi.specs.Errors.{IsIoError};
+ghost use Rattle.qoi.specs.writers.Writes.{AppendsBeginning};
+ghost use Rattle.qoi.specs.inner.Piece.{kept_bytes};
+ghost use Rattle.qoi.specs.inner.Pending.{PendingBetween, BeganFile, WroteFile};
+
+use crate::consts::{QOI_HEADER_SIZE, QOI_PADDING};
+use crate::encode::coder::Coder;
+use crate::encode::pending::{Held, Pending};
+use crate::encode::piece::{FULL_ROOM, Piece, TINY_ROOM};
+use crate::encode::pixels::Pixels;
+use crate::error::{Error, Result};
+use crate::header::Header;
+use crate::types::Channels::{self, Rgb, Rgba};
+use crate::types::Style::{self, Places, Reference, Tight};
+use crate::writers::{GenericWriter, Writer};
+use std::alloc::Global;
+use std::io;
+use std::io::{ErrorKind, Write};
+
+// Sends the header to a writer of the standard library.
+fn send_header<W: Write>(writer: &mut W, header: &Header) -> Result<()>
+    ensures written { OnOk result
+        (Appends (W.contents writer.old) (W.contents writer.new) (header_bytes header.now)) }
+    ensures refused { IfErr result IsIoError }
+{
+    let mut writer = GenericWriter::new(writer);
+    writer.write_many(&header.encode()[..QOI_HEADER_SIZE])?;
+    Ok(())
+}
+
+// Sends a full piece to a writer of the standard library, if there is one; the bytes after it are
+// kept.
+#[inline(always)]
+fn make_room<W: Write, const ROOM: usize>(writer: &mut W, piece: &mut Piece<ROOM>) -> Result<()>
+    requires { piece.old.end < ROOM - PAST + BLOCK_MAX }
+    ensures end { OnOk result (piece.new.end < ROOM - PAST) }
+    ensures written { OnOk result ((gone : List ℕ)
+        × (kept_bytes piece.old ≡ gone ++ kept_bytes piece.new)
+        × Appends (W.contents writer.old) (W.contents writer.new) gone) }
+    ensures refused { IfErr result (λ e. IsIoError e × AppendsBeginning
+        (W.contents writer.old) (W.contents writer.new) (kept_bytes piece.old)) }
+{
+    if !piece.is_full() {
+        return Ok(());
+    }
+    let mut writer = GenericWriter::new(writer);
+    piece.send(&mut writer)?;
+    Ok(())
+}
+
+// Sends what a piece keeps to a writer of the standard library. Doesn't empty the piece.
+#[inline(never)]
+fn send_all<W: Write, const ROOM: usize>(writer: &mut W, piece: &mut Piece<ROOM>) -> Result<()>
+    ensures written { OnOk result
+        (Appends (W.contents writer.old) (W.contents writer.new) (kept_bytes piece.old)) }
+    ensures refused { IfErr result (λ e. IsIoError e × AppendsBeginning
+        (W.contents writer.old) (W.contents writer.new) (kept_bytes piece.old)) }
+{
+    let mut writer = GenericWriter::new(writer);
+    piece.finish(&mut writer)?;
+    Ok(())
+}
+
+// Writes whole pixels, but for fewer than a block has at their end. Returns those, and the piece.
+#[inline(never)]
+fn write_whole<'a, 'p, W: Write, const N: usize, const STYLE: u8, const ROOM: usize>(
+    writer: &mut W,
+    style: Style,
+    pending: &mut Pending,
+    piece: Piece<'p, ROOM>,
+    data: &'a [u8],
+) -> Result<(&'a [u8], Piece<'p, ROOM>)>
+    requires channels { IsChannels N }
+    requires whole { length «data».now % N ≡ 0 }
+    requires opaque { N ≡ 3 → pending.old.last.a ≡ 255 }
+    requires room { piece.end < ROOM - PAST + BLOCK_MAX }
+    ensures end { IfOk result (λ r. r.1.end < ROOM - PAST + BLOCK_MAX) }
+    ensures few { IfOk result (λ r. length r.0.now < 16 * N) }
+    ensures within { IfOk result (λ r. length r.0.now ≤ length «data».entry.now) }
+    ensures less { IfOk result (λ r. 16 * N ≤ length «data».entry.now
+        → length r.0.now < length «data».entry.now) }
+    ensures whole { IfOk result (λ r. length r.0.now % N ≡ 0) }
+    ensures opaque { N ≡ 3 → pending.new.last.a ≡ 255 }
+    ensures written { (e : EncoderState) (before : Option (List ℕ)) (rest : List RgbaPixel)
+        → e.style ≡ style
+        → PendingBetween N e before (W.contents writer.old) (pixels_of N «data».entry.now ++ rest)
+        pending.old (kept_bytes piece.entry)
+        → IfOk result (λ r. PendingBetween N e before (W.contents writer.new)
+        (pixels_of N r.0.now ++ rest) pending.new (kept_bytes r.1)) }
+    ensures refused { IfErr result (λ error. IsIoError error
+        × ((e : EncoderState) (before : Option (List ℕ)) (rest : List RgbaPixel)
+        → e.style ≡ style
+        → PendingBetween N e before (W.contents writer.old) (pixels_of N «data».entry.now ++ rest)
+        pending.old (kept_bytes piece.entry)
+        → BeganFile e before (W.contents writer.new))) }
+{
+    let mut coder = Coder::<N> {
+        style,
+        last: pending.last,
+        begun: pending.begun,
+        placed: pending.placed,
+    };
+    let mut count = pending.carry;
+    let mut piece = piece;
+    let mut rest = Pixels::<N>::new(data);
+    while rest.has_block() {
+        make_room(writer, &mut piece)?;
+        (rest, piece) = coder.write_some::<STYLE, ROOM>(
+            style,
+            &mut pending.table,
+            piece,
+            rest,
+            &mut count,
+        );
+    }
+    pending.last = coder.last;
+    pending.begun = coder.begun;
+    pending.placed = coder.placed;
+    pending.carry = count;
+    Ok((rest.bytes, piece))
+}
+
+// Takes raw bytes: writes what comes before the last pixels, fewer than a block has, and holds
+// those.
+fn take_raw<W: Write, const N: usize, const STYLE: u8, const ROOM: usize>(
+    writer: &mut W,
+    style: Style,
+    pending: &mut Pending,
+    held: &mut Held,
+    room: &mut [u8],
+    raw: &[u8],
+) -> Result<()>
+    requires channels { IsChannels N }
+    requires opaque { N ≡ 3 → pending.old.last.a ≡ 255 }
+    requires short { length held.old < 16 * N }
+    requires piece { 2 * PAST ≤ ROOM }
+    requires room { length room.old ≡ ROOM }
+    ensures opaque { N ≡ 3 → pending.new.last.a ≡ 255 }
+    ensures short { length held.new < 16 * N }
+    ensures count { OnOk result
+        (length held.new % N ≡ (length held.old + length raw.now) % N) }
+    ensures written { (e : EncoderState) (before : Option (List ℕ)) (more : List ℕ)
+        → e.style ≡ style
+        → PendingBetween N e before (W.contents writer.old)
+        (pixels_of N (held.old ++ (raw.now ++ more))) pending.old []
+        → OnOk result (PendingBetween N e before (W.contents writer.new)
+        (pixels_of N (held.new ++ more)) pending.new []) }
+    ensures refused { IfErr result (λ error. IsIoError error
+        × ((e : EncoderState) (before : Option (List ℕ)) (more : List ℕ)
+        → e.style ≡ style
+        → PendingBetween N e before (W.contents writer.old)
+        (pixels_of N (held.old ++ (raw.now ++ more))) pending.old []
+        → BeganFile e before (W.contents writer.new))) }
+{
+    if held.len() + raw.len() < 16 * N {
+        held.push(raw);
+        return Ok(());
+    }
+    let mut piece = Piece::<ROOM>::new(room);
+    let mut rest = raw;
+    while held.len() > 0 && held.len() + rest.len() >= 16 * N {
+        let (front, after) = rest.split_at(16 * N - held.len());
+        held.push(front);
+        rest = after;
+        let block = held.block();
+        held.replace(&[]);
+        let (left, now) = write_whole::<W, N, STYLE, ROOM>(
+            writer,
+            style,
+            pending,
+            piece,
+            &block[..16 * N],
+        )?;
+        piece = now;
+        held.replace(left);
+    }
+    if held.len() > 0 {
+        held.push(rest);
+        send_all(writer, &mut piece)?;
+        return Ok(());
+    }
+    let (pixels, part) = rest.split_at(rest.len() - rest.len() % N);
+    let (left, mut piece) = write_whole::<W, N, STYLE, ROOM>(
+        writer, style, pending, piece, pixels,
+    )?;
+    held.push(left);
+    held.push(part);
+    send_all(writer, &mut piece)?;
+    Ok(())
+}
+
+// Writes the last pixels and the end marker.
+fn write_last<W: Write, const N: usize>(
+    writer: &mut W,
+    style: Style,
+    pending: &mut Pending,
+    held: &[u8],
+) -> Result<()>
+    requires channels { IsChannels N }
+    requires opaque { N ≡ 3 → pending.old.last.a ≡ 255 }
+    requires whole { length held.now % N ≡ 0 }
+    requires short { length held.now < 16 * N }
+    ensures written { (e : EncoderState) (before : Option (List ℕ)) → e.style ≡ style
+        → PendingBetween N e before (W.contents writer.old) (pixels_of N held.now) pending.old []
+        → OnOk result (WroteFile e before (W.contents writer.new)) }
+    ensures refused { IfErr result IsIoError }
+{
+    let mut room = [0; TINY_ROOM];
+    let piece = Piece::<TINY_ROOM>::new(&mut room);
+    let mut coder = Coder::<N> {
+        style,
+        last: pending.last,
+        begun: pending.begun,
+        placed: pending.placed,
+    };
+    let mut piece = coder.write_few(
+        &mut pending.table,
+        piece,
+        Pixels::<N>::new(held),
+        pending.carry,
+    );
+    piece.keep(&QOI_PADDING);
+    send_all(writer, &mut piece)?;
+    Ok(())
+}
+
+// `take_raw` for these channels and this style.
+fn take_any<W: Write>(
+    writer: &mut W,
+    channels: Channels,
+    style: Style,
+    pending: &mut Pending,
+    held: &mut Held,
+    room: &mut [u8],
+    raw: &[u8],
+) -> Result<()>
+    requires room { length room.old ≡ FULL_ROOM }
+    requires opaque { channels_number channels ≡ 3 → pending.old.last.a ≡ 255 }
+    requires short { length held.old < 16 * channels_number channels }
+    ensures opaque { channels_number channels ≡ 3 → pending.new.last.a ≡ 255 }
+    ensures short { length held.new < 16 * channels_number channels }
+    ensures count { OnOk result (length held.new % channels_number channels
+        ≡ (length held.old + length raw.now) % channels_number channels) }
+    ensures written { (e : EncoderState) (before : Option (List ℕ)) (more : List ℕ)
+        → e.style ≡ style
+        → PendingBetween (channels_number channels) e before (W.contents writer.old)
+        (pixels_of (channels_number channels) (held.old ++ (raw.now ++ more))) pending.old []
+        → OnOk result (PendingBetween (channels_number channels) e before (W.contents writer.new)
+        (pixels_of (channels_number channels) (held.new ++ more)) pending.new []) }
+    ensures refused { IfErr result (λ error. IsIoError error
+        × ((e : EncoderState) (before : Option (List ℕ)) (more : List ℕ)
+        → e.style ≡ style
+        → PendingBetween (channels_number channels) e before (W.contents writer.old)
+        (pixels_of (channels_number channels) (held.old ++ (raw.now ++ more))) pending.old []
+        → BeganFile e before (W.contents writer.new))) }
+{
+    // The numbers of styles are those of the calls that take a whole image, so that both share the
+    // coder's loops.
+    match (channels, style) {
+        (Rgb, Reference) => take_raw::<W, 3, 0, FULL_ROOM>(
+            writer, Reference, pending, held, room, raw,
+        ),
+        (Rgb, Places) => take_raw::<W, 3, 1, FULL_ROOM>(writer, Places, pending, held, room, raw),
+        (Rgb, Tight) => take_raw::<W, 3, 2, FULL_ROOM>(writer, Tight, pending, held, room, raw),
+        (Rgba, Reference) => take_raw::<W, 4, 0, FULL_ROOM>(
+            writer, Reference, pending, held, room, raw,
+        ),
+        (Rgba, Places) => take_raw::<W, 4, 1, FULL_ROOM>(writer, Places, pending, held, room, raw),
+        (Rgba, Tight) => take_raw::<W, 4, 2, FULL_ROOM>(writer, Tight, pending, held, room, raw),
+    }
+}
+
+// `write_last` for these channels.
+fn write_any<W: Write>(
+    writer: &mut W,
+    channels: Channels,
+    style: Style,
+    pending: &mut Pending,
+    held: &[u8],
+) -> Result<()>
+    requires opaque { channels_number channels ≡ 3 → pending.old.last.a ≡ 255 }
+    requires whole { length held.now % channels_number channels ≡ 0 }
+    requires short { length held.now < 16 * channels_number channels }
+    ensures written { (e : EncoderState) (before : Option (List ℕ)) → e.style ≡ style
+        → PendingBetween (channels_number channels) e before (W.contents writer.old)
+        (pixels_of (channels_number channels) held.now) pending.old []
+        → OnOk result (WroteFile e before (W.contents writer.new)) }
+    ensures refused { IfErr result IsIoError }
+{
+    match channels {
+        Rgb => write_last::<W, 3>(writer, style, pending, held),
+        Rgba => write_last::<W, 4>(writer, style, pending, held),
+    }
+}
+
+/// Writes the file of one image, whose raw bytes come piece by piece: that of `Encoder` for all of
+/// them, in memory that doesn't grow with the image.
+#[derive(Drop)]
+pub struct PixelWriter<W> {
+    writer: W,
+    header: Header,
+    style: Style,
+    left: usize,
+    failed: bool,
+    pending: Pending,
+    held: Held,
+    room: Box<[u8; FULL_ROOM]>,
+    ghost valid: { IsValid header },
+    ghost left_of: { left ≤ image_byte_count header },
+    ghost short: { length held < 16 * channels_number header.channels },
+    ghost opaque: { channels_number header.channels ≡ 3 → pending.last.a ≡ 255 },
+    ghost whole: { failed ≡ false
+        → (length held + left) % channels_number header.channels ≡ 0 },
+}
+
+impl<W: Write + Drop> PixelWriter<W> {
+    ghost use Rattle.qoi.specs.Sent.{SendsFile};
+    ghost use Rattle.qoi.specs.PixelWriter.{HasTaken, HasRefused, and_raw};
+
+    /// Sends the header of the image to the writer.
+    ///
+    /// `InvalidImageDimensions` if width times height is 0 or above 400,000,000; `OutOfMemory` if an
+    /// allocation of some 4 KiB fails, the only one; `IoError` as in `Encoder::encode_to_stream`.
+    pub fn new(alloc: Global, header: Header, style: Style, writer: W) -> Result<PixelWriter<W>>
+        ensures made { IfOk result (HasTaken W.contents
+            (record { raw = []; header = header; style = style }) (W.contents writer)) }
+        ensures refused { IfErr result (λ e. IsIoError e
+            ⊎ (e ≡ Error.InvalidImageDimensions header.width header.height)
+            ⊎ (e ≡ Error.OutOfMemory)) }
+    {
+        let header = Header::try_new(
+            header.width,
+            header.height,
+            header.channels,
+            header.colorspace,
+        )?;
+        let room = Box::new(alloc, [0; FULL_ROOM])?;
+        let mut writer = writer;
+        send_header(&mut writer, &header)?;
+        Ok(PixelWriter {
+            writer,
+            header,
+            style,
+            left: header.n_bytes(),
+            failed: false,
+            pending: Pending::new(),
+            held: Held::new(),
+            room,
+        })
+    }
+
+    /// Takes the next raw bytes, any number of them, and sends the chunks of all pixels that came
+    /// but for fewer than sixteen, and but for repeats whose run may go on.
+    ///
+    /// `InvalidImageLength`, with the number of all bytes that came, if there are more than the image
+    /// has; then none of them is taken. `IoError` if the writer reports a fault or takes no byte;
+    /// then each further call refuses with an `IoError`.
+    pub fn write(&mut self, raw: &[u8]) -> Result<()>
+        ensures taken { (e : EncoderState) (before : Option (List ℕ))
+            → HasTaken W.contents e before self.old
+            → OnOk result (HasTaken W.contents (and_raw e raw.now) before self.new) }
+        ensures refused { (e : EncoderState) (before : Option (List ℕ))
+            → HasTaken W.contents e before self.old
+            → IfErr result (HasRefused W.contents e raw.now before self.new) }
+    {
+        if self.failed {
+            return Err(failed_before());
+        }
+        if raw.len() > self.left {
+            let size = self.taken() + raw.len();
+            return Err(wrong_length(&self.header, size));
+        }
+        self.failed = true;
+        let room = &mut *self.room;
+        take_any(
+            &mut self.writer,
+            self.header.channels,
+            self.style,
+            &mut self.pending,
+            &mut self.held,
+            room,
+            raw,
+        )?;
+        self.failed = false;
+        self.left -= raw.len();
+        Ok(())
+    }
+
+    // How many raw bytes came.
+    fn taken(&self) -> usize
+        ensures { result + self.now.left ≡ image_byte_count self.now.header }
+    {
+        self.header.n_bytes() - self.left
+    }
+
+    /// Sends the rest of the file, and gives the writer back.
+    ///
+    /// `InvalidImageLength`, with the number of bytes that came, if some are missing; `IoError` as
+    /// in `write`. The writer is then dropped.
+    pub fn finish(self) -> Result<W>
+        ensures sent { (e : EncoderState) (before : Option (List ℕ))
+            → HasTaken W.contents e before self
+            → IfOk result (λ w. (n : ℕ) × SendsFile e before (W.contents w) n) }
+        ensures refused { (e : EncoderState) (before : Option (List ℕ))
+            → HasTaken W.contents e before self
+            → IfErr result (λ error. IsIoError error
+            ⊎ ((error ≡ Error.InvalidImageLength (length e.raw) e.header.width e.header.height)
+            × (length e.raw < image_byte_count e.header))) }
+    {
+        if self.failed {
+            return Err(failed_before());
+        }
+        if self.left > 0 {
+            let size = self.taken();
+            return Err(wrong_length(&self.header, size));
+        }
+        let PixelWriter {
+            mut writer,
+            header,
+            style,
+            mut pending,
+            held,
+            ..
+        } = self;
+        write_any(
+            &mut writer,
+            header.channels,
+            style,
+            &mut pending,
+            held.bytes(),
+        )?;
+        Ok(writer)
+    }
+}
+
+// The refusal of so many raw bytes.
+fn wrong_length(header: &Header, size: usize) -> Error
+    ensures { result ≡ Error.InvalidImageLength size header.now.width header.now.height }
+{
+    Error::InvalidImageLength {
+        size,
+        width: header.width,
+        height: header.height,
+    }
+}
+
+// The refusal after a fault.
+fn failed_before() -> Error
+    ensures { IsIoError result }
+{
+    Error::IoError(io::Error::new(ErrorKind::BrokenPipe, "an earlier write failed"))
+}
