@@ -8,7 +8,7 @@ use Rattle.qoi.specs.Raw.{pixels_of, image_byte_count}
 use Rattle.qoi.specs.EncoderState.{EncoderState}
 use Rattle.qoi.specs.Errors.{IsIoError}
 use Rattle.qoi.specs.Sent.{SendsPart}
-use Rattle.qoi.specs.inner.Pending.{PendingBetween}
+use Rattle.qoi.specs.inner.Pending.{ImageBetween}
 
 -- the same with these raw bytes more
 abbrev pub and_raw : EncoderState → List ℕ → EncoderState
@@ -23,7 +23,7 @@ pub record HasTaken {W : Type 0} (contents : W → Option (List ℕ)) (e : Encod
   pub size : length e.raw + p.left ≡ image_byte_count e.header
   pub are : AreBytes e.raw
   pub writes : (more : List ℕ) → length more ≡ p.left → AreBytes more
-      → PendingBetween (channels_number p.header.channels) (and_raw e more) before (contents p.writer)
+      → ImageBetween (and_raw e more) before (contents p.writer)
       (pixels_of (channels_number p.header.channels) (p.held ++ more)) p.pending []
 
 -- It failed: the writer has got a beginning of the file of each image whose raw bytes begin with

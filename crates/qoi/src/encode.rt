@@ -16,6 +16,7 @@ ghost use Rattle.qoi.specs.Sent.{IsFileFor, MakesFile, PutsFile, SendsFile, Send
 ghost use Rattle.qoi.specs.writers.Writes.{WroteBeginning};
 
 mod block;
+mod blocks;
 mod carry;
 mod changes;
 mod chunks;
@@ -25,6 +26,7 @@ mod each;
 mod fours;
 pub(crate) mod fresh;
 mod lanes;
+mod last;
 mod named;
 mod packing;
 mod pending;
@@ -38,7 +40,7 @@ mod stands;
 mod stores;
 mod table;
 
-use crate::consts::{QOI_HEADER_SIZE, QOI_PADDING};
+use crate::consts::QOI_HEADER_SIZE;
 use crate::encode::chunks::encode_chunks;
 use crate::encode::piece::{FULL_ROOM, Piece, SMALL_ROOM, TINY_ROOM};
 pub use crate::encode::pixel_writer::PixelWriter;
@@ -79,8 +81,7 @@ fn encode_image<W: Writer, const ROOM: usize>(
     let mut bytes = [0; ROOM];
     let mut piece = Piece::<ROOM>::new(&mut bytes);
     piece.keep(&header.encode()[..QOI_HEADER_SIZE]);
-    let mut piece = encode_chunks(writer, piece, style, header.channels, data)?;
-    piece.keep(&QOI_PADDING);
+    let mut piece = encode_chunks(writer, piece.open(), style, header.channels, data)?;
     piece.finish(writer)?;
     Ok(room - writer.capacity())
 }

@@ -3,7 +3,7 @@ use Rattle.std.proofs.Common.{◌≡◌, ◌≢◌, ◌⊎◌, inl, inr, ◌<◌
 use Rattle.std.proofs.lemmas.Bool.{true_from_ne_false}
 use Rattle.std.specs.List.{slice_get}
 use Rattle.qoi.specs.declared.encode.carry.Carry.{Carry}
-use Rattle.qoi.specs.declared.encode.coder.Coder.{Coder}
+use Rattle.qoi.specs.declared.encode.last.LastPixel.{LastPixel}
 use Rattle.qoi.specs.declared.types.Style.{Style}
 use Rattle.qoi.specs.declared.types.Style.TheVariants.{Tight}
 use Rattle.qoi.specs.Qoi.{RgbaPixel, Past, previous}
@@ -62,9 +62,9 @@ module _ {N : ℕ} {style : Style} {ahead : List ℕ} {n : ℕ} {pixels more : L
   }
 
 -- once the first bytes that are kept are gone, the same holds of the others
-pub coder_sent : {N : ℕ} {ahead : List ℕ} {n : ℕ} {pixels : List RgbaPixel} {table : List RgbaPixel} {coder : Coder N} {kept : List ℕ}
-    → CoderBetween ahead n pixels table coder kept → (gone left : List ℕ) → kept ≡ gone ++ left
-    → (later : List ℕ) × (ahead ≡ gone ++ later) × CoderBetween later n pixels table coder left
+pub coder_sent : {style : Style} {ahead : List ℕ} {pixels : List RgbaPixel} {table : List RgbaPixel} {last : LastPixel} {kept : List ℕ}
+    → CoderBetween style ahead pixels table last kept → (gone left : List ℕ) → kept ≡ gone ++ left
+    → (later : List ℕ) × (ahead ≡ gone ++ later) × CoderBetween style later pixels table last left
 coder_sent b gone left split =
     let sent = over_sent gone left split b.to_write in
     (sent.0, sent.1, record { past = b.past; before = b.before; to_write = sent.2; state = b.state })

@@ -5,7 +5,7 @@ use Rattle.std.specs.List.{AllByRecursion, slice_get}
 use Rattle.std.proofs.lemmas.Grind.{flat_map-append}
 use Rattle.qoi.specs.declared.chunk.Chunk.{Chunk}
 use Rattle.qoi.specs.declared.chunk.Chunk.TheVariants.{Run}
-use Rattle.qoi.specs.declared.encode.coder.Coder.{Coder}
+use Rattle.qoi.specs.declared.encode.last.LastPixel.{LastPixel}
 use Rattle.qoi.specs.declared.types.Style.{Style}
 use Rattle.qoi.specs.declared.types.Style.TheVariants.{Reference, Places, Tight}
 use Rattle.qoi.specs.Qoi.{AreBytes, RgbaPixel, IsPixel, Past, previous, hash, IsChunk, bytes_of, chunk_bytes}
@@ -163,13 +163,13 @@ pub last_run : {style : Style} {ahead : List ℕ} {past : Past} {before : Option
 last_run {n = n} b = none_left (over_group n [] (Run 1) b (inl (λ e. cc)) (λ _. inl (refl, refl)))
 
 -- before the first pixel, after bytes that stand in front of the chunks
-pub coder_starts : {N : ℕ} (image : List RgbaPixel) (front : List ℕ) (table : List RgbaPixel) (coder : Coder N)
-    → AllByRecursion IsPixel image → CoderAfter [] None table coder
-    → CoderBetween (front ++ chunk_bytes (written_list coder.style image)) 0 image table coder front
-coder_starts image front table coder are state = record {
+pub coder_starts : (style : Style) (image : List RgbaPixel) (front : List ℕ) (table : List RgbaPixel) (last : LastPixel)
+    → AllByRecursion IsPixel image → last.repeats ≡ 0 → CoderAfter style [] None table last
+    → CoderBetween style (front ++ chunk_bytes (written_list style image)) image table last front
+coder_starts style image front table last are none state = record {
   past = [];
   before = None;
-  to_write = record { are = are; before_is = is_pixel_start; ahead_is = refl };
+  to_write = rw none (record { are = are; before_is = is_pixel_start; ahead_is = refl });
   state = state;
 }
 
@@ -180,70 +180,71 @@ single_same Reference begun placed named place n is = refl
 single_same Places begun placed named place n is = ap (λ b. single_chunk Places begun b place n) (is refl)
 single_same Tight begun placed named place n is = refl
 
-module _ {N : ℕ} {ahead : List ℕ} {carried : ℕ} {pixels : List RgbaPixel} {table : List RgbaPixel} {coder : Coder N} {bytes : List ℕ}
-    (b : CoderBetween ahead carried pixels table coder bytes) where
-  -- the pixel before is the coder's last
-  last_before : previous b.past ≡ coder.last
+module _ {style : Style} {ahead : List ℕ} {pixels : List RgbaPixel} {table : List RgbaPixel} {last : LastPixel} {bytes : List ℕ}
+    (b : CoderBetween style ahead pixels table last bytes) where
+  -- the pixel before is the last
+  last_before : previous b.past ≡ last.px
   last_before = sym b.state.last_is
 
+  -- the repeats at the front join those that came
+  joined : (n : ℕ) (rest : List RgbaPixel) → pixels ≡ replicate n last.px ++ rest → Ahead style ahead b.past b.before (last.repeats + n) rest bytes
+  joined n rest split = over_repeats n rest (subst (λ x. Ahead style ahead b.past b.before last.repeats x bytes)
+      (split ∙ ap (λ p. replicate n p ++ rest) b.state.last_is) b.to_write)
+
   -- The runs of a group are written.
-  pub group_written : (n : ℕ) (rest : List RgbaPixel) (one : Chunk) {next_table : List RgbaPixel} {next_coder : Coder N} {next : List ℕ}
-      → pixels ≡ replicate n coder.last ++ rest
-      → (slice_get rest 0 ≢ Some coder.last) ⊎ ((carried + n) % 62 ≡ 0)
-      → ((carried + n) % 62 ≡ 1 → ((rest ≡ []) × (one ≡ Run 1)) ⊎ ((rest ≢ []) × (one ≡ single coder (carried + n))))
-      → next ≡ bytes ++ chunk_bytes (runs_by one (carried + n)) → next_coder.style ≡ coder.style
-      → ((past : Past) (before : Option Chunk) → CoderAfter past before table coder
-      → CoderAfter (replicate (carried + n) (previous past) ++ past) (last_chunk before (runs_by (Run 1) (carried + n))) next_table next_coder)
-      → CoderBetween ahead 0 rest next_table next_coder next
-  group_written n rest one {next_table} {next_coder} {next} split ends one_is written same state =
+  pub group_written : (n : ℕ) (rest : List RgbaPixel) (one : Chunk) {next_table : List RgbaPixel} {next : LastPixel} {next_bytes : List ℕ}
+      → pixels ≡ replicate n last.px ++ rest
+      → (slice_get rest 0 ≢ Some last.px) ⊎ ((last.repeats + n) % 62 ≡ 0)
+      → ((last.repeats + n) % 62 ≡ 1 → ((rest ≡ []) × (one ≡ Run 1)) ⊎ ((rest ≢ []) × (one ≡ single style last (last.repeats + n))))
+      → next_bytes ≡ bytes ++ chunk_bytes (runs_by one (last.repeats + n)) → next.repeats ≡ 0
+      → ((past : Past) (before : Option Chunk) → CoderAfter style past before table last
+      → CoderAfter style (replicate (last.repeats + n) (previous past) ++ past) (last_chunk before (runs_by (Run 1) (last.repeats + n))) next_table next)
+      → CoderBetween style ahead rest next_table next next_bytes
+  group_written n rest one {next_table} {next} {next_bytes} split ends one_is written none state =
       let q = previous b.past in
+      let count = last.repeats + n in
       let named = names b.before (hash q) in
-      let joined = over_repeats n rest (subst (λ x. Ahead coder.style ahead b.past b.before carried x bytes)
-      (split ∙ ap (λ p. replicate n p ++ rest) b.state.last_is) b.to_write) in
-      let stops : (slice_get rest 0 ≢ Some q) ⊎ ((carried + n) % 62 ≡ 0) = elim ends [
+      let stops : (slice_get rest 0 ≢ Some q) ⊎ (count % 62 ≡ 0) = elim ends [
         | inl other ↦ inl (λ e. other (e ∙ ap Some last_before))
         | inr full ↦ inr full
       ] in
-      let single_is : single coder (carried + n) ≡ single_chunk coder.style (some_fresh b.past) named (hash q) (carried + n) =
-      single_same coder.style coder.begun coder.placed named (hash coder.last) (carried + n) b.state.placed_is
-      ∙ (λ i. single_chunk coder.style (b.state.begun_is i) named (hash (b.state.last_is i)) (carried + n)) in
-      let over = over_group (carried + n) rest one joined stops (λ e. elim (one_is e) [
+      let single_is : single style last count ≡ single_chunk style (some_fresh b.past) named (hash q) count =
+      single_same style last.begun last.placed named (hash last.px) count b.state.placed_is
+      ∙ (λ i. single_chunk style (b.state.begun_is i) named (hash (b.state.last_is i)) count) in
+      let over = over_group count rest one (joined n rest split) stops (λ e. elim (one_is e) [
         | inl end ↦ inl end
         | inr some ↦ inr (some.0, some.1 ∙ single_is)
       ]) in
       record {
-        past = replicate (carried + n) q ++ b.past;
-        before = last_chunk b.before (runs_by (Run 1) (carried + n));
-        to_write = rw (same, written) over;
+        past = replicate count q ++ b.past;
+        before = last_chunk b.before (runs_by (Run 1) count);
+        to_write = rw (none, written) over;
         state = state b.past b.before b.state;
       }
 
-  -- Its full runs are written, and r repeats are left.
-  pub fulls_written : (n k r : ℕ) (rest : List RgbaPixel) {next_table : List RgbaPixel} {next_coder : Coder N} {next : List ℕ}
-      → pixels ≡ replicate n coder.last ++ rest → carried + n ≡ 62 * k + r
-      → next ≡ bytes ++ chunk_bytes (replicate k (Run 62)) → next_coder.style ≡ coder.style
-      → ((past : Past) (before : Option Chunk) → CoderAfter past before table coder
-      → CoderAfter (replicate (62 * k) (previous past) ++ past) (last_chunk before (runs_by (Run 1) (62 * k))) next_table next_coder)
-      → CoderBetween ahead r rest next_table next_coder next
-  fulls_written n k r rest {next_table} {next_coder} {next} split sum written same state =
-      let q = previous b.past in
-      let joined = over_repeats n rest (subst (λ x. Ahead coder.style ahead b.past b.before carried x bytes)
-      (split ∙ ap (λ p. replicate n p ++ rest) b.state.last_is) b.to_write) in
-      record {
-        past = replicate (62 * k) q ++ b.past;
-        before = last_chunk b.before (runs_by (Run 1) (62 * k));
-        to_write = rw (same, written) (over_full_runs k r rest (subst (λ m. Ahead coder.style ahead b.past b.before m rest bytes) sum joined));
-        state = state b.past b.before b.state;
-      }
+  -- Its full runs are written, and other repeats are left.
+  pub fulls_written : (n k : ℕ) (rest : List RgbaPixel) {next_table : List RgbaPixel} {next : LastPixel} {next_bytes : List ℕ}
+      → pixels ≡ replicate n last.px ++ rest → last.repeats + n ≡ 62 * k + next.repeats
+      → next_bytes ≡ bytes ++ chunk_bytes (replicate k (Run 62))
+      → ((past : Past) (before : Option Chunk) → CoderAfter style past before table last
+      → CoderAfter style (replicate (62 * k) (previous past) ++ past) (last_chunk before (runs_by (Run 1) (62 * k))) next_table next)
+      → CoderBetween style ahead rest next_table next next_bytes
+  fulls_written n k rest {next_table} {next} {next_bytes} split sum written state = record {
+    past = replicate (62 * k) (previous b.past) ++ b.past;
+    before = last_chunk b.before (runs_by (Run 1) (62 * k));
+    to_write = rw written (over_full_runs k next.repeats rest (subst (λ m. Ahead style ahead b.past b.before m rest bytes) sum (joined n rest split)));
+    state = state b.past b.before b.state;
+  }
 
 -- The chunk of a fresh pixel is written.
-pub fresh_written : {N : ℕ} {ahead : List ℕ} {p : RgbaPixel} {rest : List RgbaPixel} {table : List RgbaPixel} {coder : Coder N} {bytes : List ℕ}
-    (b : CoderBetween ahead 0 (p ∷ rest) table coder bytes) (c : Chunk) {next_table : List RgbaPixel} {next_coder : Coder N} {next : List ℕ}
-    → p ≢ coder.last → IsChunk c → choice_in coder.style b.past p c → next ≡ bytes ++ bytes_of c
-    → next_coder.style ≡ coder.style → CoderAfter (p ∷ b.past) (Some c) next_table next_coder → CoderBetween ahead 0 rest next_table next_coder next
-fresh_written {p = p} {rest} b c differs is choice written same state = record {
+pub fresh_written : {style : Style} {ahead : List ℕ} {p : RgbaPixel} {rest : List RgbaPixel} {table : List RgbaPixel} {last : LastPixel} {bytes : List ℕ}
+    (b : CoderBetween style ahead (p ∷ rest) table last bytes) (c : Chunk) {next_table : List RgbaPixel} {next : LastPixel} {next_bytes : List ℕ}
+    → p ≢ last.px → last.repeats ≡ 0 → IsChunk c → choice_in style b.past p c → next_bytes ≡ bytes ++ bytes_of c
+    → next.repeats ≡ 0 → CoderAfter style (p ∷ b.past) (Some c) next_table next → CoderBetween style ahead rest next_table next next_bytes
+fresh_written {style} {ahead} {p} {rest} {bytes = bytes} b c differs none is choice written left state = record {
   past = p ∷ b.past;
   before = Some c;
-  to_write = rw (same, written) (over_fresh p rest c b.to_write (λ e. differs (e ∙ sym b.state.last_is)) is choice);
+  to_write = rw (left, written) (over_fresh p rest c (subst (λ n. Ahead style ahead b.past b.before n (p ∷ rest) bytes) none b.to_write)
+      (λ e. differs (e ∙ sym b.state.last_is)) is choice);
   state = state;
 }

@@ -1,30 +1,25 @@
 -- An image whose raw bytes come piece by piece, from one state to the next.
-use Rattle.std.proofs.Common.{◌≡◌, false, ℕ, ◌+◌, ◌-◌, ◌*◌, ◌/◌, ◌%◌, ◌<◌, ◌≤◌, List, [], ◌∷◌, ◌++◌, length, take, drop, arith, length-append, take-append-drop, Option, refl, sym, ap, ◌∙◌, subst, append_assoc, append-nil}
+use Rattle.std.proofs.Common.{◌≡◌, ℕ, ◌+◌, ◌-◌, ◌*◌, ◌/◌, ◌%◌, ◌<◌, ◌≤◌, List, [], ◌∷◌, ◌++◌, length, take, drop, arith, length-append, take-append-drop, Option, None, refl, sym, ap, ◌∙◌, subst, append_assoc, append-nil}
 use Rattle.std.specs.Io.KnownBytes.{Appends}
 use Rattle.std.proofs.KnownBytes.{Appends-trans}
 use Rattle.std.proofs.Math.Nat.{mul_comm}
 use Rattle.std.proofs.lemmas.List.{length-take-le}
-use Rattle.qoi.specs.declared.encode.coder.Coder.{Coder}
 use Rattle.qoi.specs.declared.encode.pending.Pending.{Pending}
 use Rattle.qoi.specs.declared.encode.pixels.Pixels.{Pixels}
-use Rattle.qoi.specs.declared.types.Style.{Style}
-use Rattle.qoi.specs.Qoi.{RgbaPixel, AreBytes, start, channels_number, header_bytes, chunk_bytes, end_marker, file}
+use Rattle.qoi.specs.Qoi.{RgbaPixel, AreBytes, channels_number, header_bytes, chunk_bytes, end_marker, file}
 use Rattle.qoi.specs.Raw.{IsChannels, pixels_of}
 use Rattle.qoi.specs.WrittenList.{written_list}
 use Rattle.qoi.specs.Encoded.{image_pixels}
 use Rattle.qoi.specs.EncoderState.{EncoderState}
 use Rattle.qoi.specs.writers.Writes.{AppendsBeginning}
-use Rattle.qoi.specs.inner.CoderLoop.{Ahead, CoderBetween}
-use Rattle.qoi.specs.inner.CoderState.{held_in}
-use Rattle.qoi.specs.inner.Table.{Holds}
-use Rattle.qoi.specs.inner.Pending.{ImageBetween, PendingBetween, BeganFile, WroteFile}
+use Rattle.qoi.specs.inner.CoderLoop.{CoderAfter, CoderBetween}
+use Rattle.qoi.specs.inner.Pending.{ImageBetween, BeganFile, WroteFile}
 use Rattle.qoi.specs.inner.Pixels.{pixels_in}
 use Rattle.qoi.proofs.format.RawPixels.{pixels_of-append, pixels_of_are, length-pixels_of}
 use Rattle.qoi.proofs.format.WholePixels.{by_channels, whole_pixels}
 use Rattle.qoi.proofs.decoding.ImageSize.{channels_are}
 use Rattle.qoi.proofs.encoding.CoderLink.{coder_sent}
 use Rattle.qoi.proofs.encoding.CoderSteps.{all_bytes, coder_starts}
-use Rattle.qoi.proofs.encoding.CoderTable.{none_held as first_held}
 use Rattle.qoi.proofs.encoding.StyleLists.{list_written}
 
 -- header and chunks
@@ -35,17 +30,16 @@ front_of e = header_bytes e.header ++ chunk_bytes (written_list e.style (image_p
 file_is : (e : EncoderState) → file e.header (written_list e.style (image_pixels e.header e.raw)) ≡ front_of e ++ end_marker
 file_is e = sym (append_assoc (header_bytes e.header) (chunk_bytes (written_list e.style (image_pixels e.header e.raw))) end_marker)
 
-module _ {N : ℕ} {e : EncoderState} {before now : Option (List ℕ)} {n : ℕ} {rest table : List RgbaPixel} {coder : Coder N} {kept : List ℕ}
-    (b : ImageBetween e before now n rest table coder kept) where
+module _ {e : EncoderState} {before now : Option (List ℕ)} {rest : List RgbaPixel} {p : Pending} {kept : List ℕ} (b : ImageBetween e before now rest p kept) where
   -- the coder went on
-  pub image_on : {n' : ℕ} {rest' table' : List RgbaPixel} {coder' : Coder N} {kept' : List ℕ}
-      → ((ahead : List ℕ) → CoderBetween ahead n rest table coder kept → CoderBetween ahead n' rest' table' coder' kept')
-      → ImageBetween e before now n' rest' table' coder' kept'
+  pub image_on : {rest' : List RgbaPixel} {p' : Pending} {kept' : List ℕ}
+      → ((ahead : List ℕ) → CoderBetween e.style ahead rest p.table p.last kept → CoderBetween e.style ahead rest' p'.table p'.last kept')
+      → ImageBetween e before now rest' p' kept'
   image_on on = record { ahead = b.ahead; went = b.went; between = on b.ahead b.between }
 
   -- the first bytes that are kept were sent
   pub image_sent : (next : Option (List ℕ)) (gone kept' : List ℕ) → kept ≡ gone ++ kept' → Appends now next gone
-      → ImageBetween e before next n rest table coder kept'
+      → ImageBetween e before next rest p kept'
   image_sent next gone kept' split sent =
       let s = coder_sent b.between gone kept' split in
       let w = b.went in
@@ -59,6 +53,10 @@ module _ {N : ℕ} {e : EncoderState} {before now : Option (List ℕ)} {n : ℕ}
         };
         between = s.2;
       }
+
+  -- all of them were
+  pub image_emptied : (next : Option (List ℕ)) → Appends now next kept → ImageBetween e before next rest p []
+  image_emptied next sent = image_sent next kept [] (sym (append-nil kept)) sent
 
   -- a beginning of them was
   pub image_part : (next : Option (List ℕ)) → AppendsBeginning now next kept → BeganFile e before next
@@ -80,7 +78,7 @@ module _ {N : ℕ} {e : EncoderState} {before now : Option (List ℕ)} {n : ℕ}
       )
 
   -- all of them and the end marker were, and nothing was ahead
-  pub image_ends : (next : Option (List ℕ)) (all : List ℕ) → ((ahead : List ℕ) → CoderBetween ahead n rest table coder kept → ahead ≡ all)
+  pub image_ends : (next : Option (List ℕ)) (all : List ℕ) → ((ahead : List ℕ) → CoderBetween e.style ahead rest p.table p.last kept → ahead ≡ all)
       → Appends now next (all ++ end_marker) → WroteFile e before next
   image_ends next all on sent =
       let w = b.went in
@@ -91,22 +89,6 @@ module _ {N : ℕ} {e : EncoderState} {before now : Option (List ℕ)} {n : ℕ}
             (sym (file_is e ∙ ap (λ z. z ++ end_marker) (w.split ∙ ap (λ z. w.gone ++ z) is) ∙ append_assoc w.gone all end_marker))
             (Appends-trans before now next w.gone (all ++ end_marker) w.appended sent),
       )
-
--- a coder with the same fields
-pub same_coder : {N : ℕ} {ahead : List ℕ} {n : ℕ} {rest : List RgbaPixel} {table : List RgbaPixel} {coder : Coder N} {kept : List ℕ} (other : Coder N)
-    → other.style ≡ coder.style → other.last ≡ coder.last → other.begun ≡ coder.begun → other.placed ≡ coder.placed
-    → CoderBetween ahead n rest table coder kept → CoderBetween ahead n rest table other kept
-same_coder {ahead = ahead} {n} {rest} {table} {kept = kept} other style last begun placed b = record {
-  past = b.past;
-  before = b.before;
-  to_write = subst (λ s. Ahead s ahead b.past b.before n rest kept) (sym style) b.to_write;
-  state = record {
-    table_is = subst (λ s. Holds table (held_in s b.past)) (sym style) b.state.table_is;
-    last_is = last ∙ b.state.last_is;
-    begun_is = begun ∙ b.state.begun_is;
-    placed_is = λ is. placed ∙ b.state.placed_is (sym style ∙ is);
-  };
-}
 
 -- the bytes of whole pixels
 pub count_in : (n : ℕ) (bytes : List ℕ) → IsChannels n → length bytes % n ≡ 0 → length bytes ≡ n * length (pixels_of n bytes)
@@ -129,26 +111,6 @@ few_pixels n bytes is whole few =
 -- no more pixels, and no more bytes
 pub no_more_bytes : (n p q : ℕ) → IsChannels n → p ≤ q → n * p ≤ n * q
 no_more_bytes n p q is = by_channels (λ m. p ≤ q → m * p ≤ m * q) is (λ a. omega arith) (λ a. omega arith)
-
--- the coder that goes on from what is pending
-abbrev pub coder_of : {N : ℕ} (style : Style) (p : Pending) → IsChannels N → (N ≡ 3 → p.last.a ≡ 255) → Coder N
-coder_of style p channels opaque = record { style = style; last = p.last; begun = p.begun; placed = p.placed; channels = channels; opaque = opaque }
-
-module _ {N : ℕ} {e : EncoderState} {before now : Option (List ℕ)} {rest : List RgbaPixel} {p : Pending} {kept : List ℕ}
-    (b : PendingBetween N e before now rest p kept) where
-  -- it goes on
-  pub pending_image : (channels : IsChannels N) (opaque : N ≡ 3 → p.last.a ≡ 255)
-      → ImageBetween e before now p.carry rest p.table (coder_of e.style p channels opaque) kept
-  pending_image channels opaque =
-      b.goes_on (coder_of e.style p channels opaque) (record { style_is = refl; last_is = refl; begun_is = refl; placed_is = refl })
-
-  -- a beginning of what is kept was sent
-  pub pending_part : IsChannels N → (N ≡ 3 → p.last.a ≡ 255) → (next : Option (List ℕ)) → AppendsBeginning now next kept → BeganFile e before next
-  pending_part channels opaque next part = image_part (pending_image channels opaque) next part
-
-  -- all of it was
-  pub pending_sent : (next : Option (List ℕ)) → Appends now next kept → PendingBetween N e before next rest p []
-  pending_sent next sent = record { goes_on = λ coder r. image_sent (b.goes_on coder r) next kept [] (sym (append-nil kept)) sent }
 
 -- whole pixels in front of other raw bytes
 pub whole_ahead : (n : ℕ) (xs ys : List ℕ) → IsChannels n → length xs % n ≡ 0 → pixels_of n (xs ++ ys) ≡ pixels_of n xs ++ pixels_of n ys
@@ -192,26 +154,15 @@ count_part n r left part is = by_channels (λ m. left % m ≡ 0 → part ≡ r -
     (λ a b. omega arith) (λ a b. omega arith)
 
 -- before the first raw byte, once the header was sent
-pub image_starts : (e : EncoderState) (before now : Option (List ℕ)) (p : Pending) (n : ℕ) → n ≡ channels_number e.header.channels → AreBytes e.raw
-    → Appends before now (header_bytes e.header) → Holds p.table [] → p.last ≡ start → p.begun ≡ false → p.placed ≡ false → p.carry ≡ 0
-    → PendingBetween n e before now (pixels_of n e.raw) p []
-image_starts e before now p n n_is are sent table last begun placed carry =
+pub image_starts : (e : EncoderState) (before now : Option (List ℕ)) (p : Pending) → AreBytes e.raw → Appends before now (header_bytes e.header)
+    → p.last.repeats ≡ 0 → CoderAfter e.style [] None p.table p.last
+    → ImageBetween e before now (image_pixels e.header e.raw) p []
+image_starts e before now p are sent none state =
     let k = channels_number e.header.channels in
     let pixels = image_pixels e.header e.raw in
     let pixels_are = pixels_of_are k e.raw (channels_are e.header.channels k refl) (all_bytes e.raw are) in
-    let ahead = chunk_bytes (written_list e.style pixels) in
     record {
-      goes_on = λ coder r. record {
-        ahead = ahead;
-        went = record { list = list_written e.style pixels pixels_are; gone = header_bytes e.header; split = refl; appended = sent };
-        between = subst (λ m. CoderBetween ahead m (pixels_of n e.raw) p.table coder []) (sym carry)
-            (subst (λ ps. CoderBetween ahead 0 ps p.table coder []) (ap (λ m. pixels_of m e.raw) (sym n_is))
-            (subst (λ s. CoderBetween (chunk_bytes (written_list s pixels)) 0 pixels p.table coder []) r.style_is
-            (coder_starts pixels [] p.table coder pixels_are (record {
-              table_is = first_held coder.style p.table table;
-              last_is = r.last_is ∙ last;
-              begun_is = r.begun_is ∙ begun;
-              placed_is = λ _. r.placed_is ∙ placed;
-            }))));
-      };
+      ahead = chunk_bytes (written_list e.style pixels);
+      went = record { list = list_written e.style pixels pixels_are; gone = header_bytes e.header; split = refl; appended = sent };
+      between = coder_starts e.style pixels [] p.table p.last pixels_are none state;
     }

@@ -1,9 +1,8 @@
 -- An image's chunks that go through a piece to a writer.
-use Rattle.std.proofs.Common.{◌≡◌, ℕ, ◌+◌, ◌*◌, ◌/◌, ◌%◌, ◌≤◌, List, [], ◌++◌, length, take, drop, None, sym, ap, subst, arith, length-append, take-append-drop}
+use Rattle.std.proofs.Common.{◌≡◌, ℕ, ◌+◌, ◌*◌, ◌/◌, ◌%◌, ◌≤◌, List, [], ◌++◌, length, None, sym, ap, subst, arith, length-append, append-nil}
 use Rattle.std.proofs.Math.Nat.{mul_comm}
-use Rattle.std.proofs.lemmas.List.{length-take-le}
 use Rattle.qoi.specs.declared.chunk.Chunk.{Chunk}
-use Rattle.qoi.specs.declared.encode.coder.Coder.{Coder}
+use Rattle.qoi.specs.declared.encode.last.LastPixel.{LastPixel}
 use Rattle.qoi.specs.declared.types.Style.{Style}
 use Rattle.qoi.specs.Qoi.{AreBytes, RgbaPixel, chunk_bytes}
 use Rattle.qoi.specs.Raw.{IsChannels, pixels_of}
@@ -47,10 +46,10 @@ MaySend State = (ahead kept : List ℕ) → State ahead kept → (gone left : Li
 
 module _ {W : Type 0} {wrote : W → List ℕ → W → Type 0} {room : W → ℕ} {n : ℕ} where
   -- before the first pixel
-  pub piece_starts : {table : List RgbaPixel} {coder : Coder n} (s : Sending W) → WriterLaws wrote room → IsChannels n → AreBytes s.raw → length s.raw % n ≡ 0
-      → length s.front + (length s.raw + length s.raw / n) ≤ room s.start → coder.style ≡ s.style → CoderAfter [] None table coder
-      → PieceBetween wrote room n s (λ ahead kept. CoderBetween ahead 0 (pixels_of n s.raw) table coder kept) s.front s.start
-  piece_starts {table} {coder} s laws channels are whole enough style_is state =
+  pub piece_starts : {table : List RgbaPixel} {last : LastPixel} (s : Sending W) → WriterLaws wrote room → IsChannels n → AreBytes s.raw → length s.raw % n ≡ 0
+      → length s.front + (length s.raw + length s.raw / n) ≤ room s.start → last.repeats ≡ 0 → CoderAfter s.style [] None table last
+      → PieceBetween wrote room n s (λ ahead kept. CoderBetween s.style ahead (pixels_of n s.raw) table last kept) s.front s.start
+  piece_starts {table} {last} s laws channels are whole enough none state =
       let pixels = pixels_of n s.raw in
       let pixels_are = pixels_of_are n s.raw channels (all_bytes s.raw are) in
       let list = list_written s.style pixels pixels_are in
@@ -63,8 +62,7 @@ module _ {W : Type 0} {wrote : W → List ℕ → W → Type 0} {room : W → �
         fits = omega (arith, length-append s.front (chunk_bytes (written_list s.style pixels)), fits, enough, size, mul_comm (length s.raw / n) n);
         ahead = all_of n s;
         went = wrote_none laws s.start (all_of n s);
-        between = subst (λ z. CoderBetween (s.front ++ chunk_bytes (written_list z pixels)) 0 pixels table coder s.front) style_is
-            (coder_starts pixels s.front table coder pixels_are state);
+        between = coder_starts s.style pixels s.front table last pixels_are none state;
       }
 
   module _ {s : Sending W} {State : List ℕ → List ℕ → Type 0} {kept : List ℕ} {buf : W} (p : PieceBetween wrote room n s State kept buf) where
@@ -83,38 +81,31 @@ module _ {W : Type 0} {wrote : W → List ℕ → W → Type 0} {room : W → �
       subst (λ z. WroteBut wrote s.start (all_of n s) z buf) (went_on p.ahead p.between) p.went,
     )
 
-    -- the kept bytes are the first `size` and the others
-    module _ (sends : MaySend State) (size : ℕ) where
-      abbrev sent_first : (ahead : List ℕ) × (p.ahead ≡ take size kept ++ ahead) × State ahead (drop size kept)
-      sent_first = sends p.ahead kept p.between (take size kept) (drop size kept) (sym (take-append-drop size kept))
+    -- there is room for the kept bytes
+    pub piece_fits : MaySend State → length kept ≤ room buf
+    piece_fits sends =
+        let sent = sends p.ahead kept p.between kept [] (sym (append-nil kept)) in
+        omega (arith, left_fits p.laws s.start buf (all_of n s) p.ahead p.went p.fits, ap length sent.1, length-append kept sent.0)
 
-      -- there is room for the first
-      pub piece_fits : size ≤ length kept → size ≤ room buf
-      piece_fits enough = omega (
-        arith,
-        left_fits p.laws s.start buf (all_of n s) p.ahead p.went p.fits,
-        ap length sent_first.1,
-        length-append (take size kept) sent_first.0,
-        length-take-le size kept enough,
-      )
+    -- the first of them are sent
+    pub piece_went : MaySend State → {now : W} {kept' : List ℕ} → WroteBut wrote buf kept kept' now → PieceBetween wrote room n s State kept' now
+    piece_went sends {now} {kept'} w =
+        let sent = sends p.ahead kept p.between w.front kept' w.split in
+        record {
+          laws = p.laws;
+          list = p.list;
+          fits = p.fits;
+          ahead = sent.0;
+          went = wrote_next p.laws s.start buf now (all_of n s) p.ahead w.front sent.0 p.went sent.1 w.went;
+          between = sent.2;
+        }
 
-      -- they are sent
-      pub piece_went : {now : W} {kept' : List ℕ} → wrote buf (take size kept) now → kept' ≡ drop size kept
-          → PieceBetween wrote room n s State kept' now
-      piece_went {now} {kept'} went is = record {
-        laws = p.laws;
-        list = p.list;
-        fits = p.fits;
-        ahead = sent_first.0;
-        went = wrote_next p.laws s.start buf now (all_of n s) p.ahead (take size kept) sent_first.0 p.went sent_first.1 went;
-        between = subst (State sent_first.0) (sym is) sent_first.2;
-      }
-
-      -- a beginning of them is
-      pub piece_part : {now : W} → WroteBeginning wrote buf (take size kept) now
-          → (cs : List Chunk) × WrittenIn s.style (pixels_of n s.raw) cs × WroteBeginning wrote s.start (s.front ++ chunk_bytes cs) now
-      piece_part {now} some = (
-        written_list s.style (pixels_of n s.raw),
-        p.list,
-        wrote_part p.laws s.start buf now (all_of n s) p.ahead (take size kept) sent_first.0 p.went sent_first.1 some,
-      )
+    -- a beginning of them is
+    pub piece_part : MaySend State → {now : W} → WroteBeginning wrote buf kept now
+        → (cs : List Chunk) × WrittenIn s.style (pixels_of n s.raw) cs × WroteBeginning wrote s.start (s.front ++ chunk_bytes cs) now
+    piece_part sends {now} some =
+        let sent = sends p.ahead kept p.between kept [] (sym (append-nil kept)) in (
+          written_list s.style (pixels_of n s.raw),
+          p.list,
+          wrote_part p.laws s.start buf now (all_of n s) p.ahead kept sent.0 p.went sent.1 some,
+        )

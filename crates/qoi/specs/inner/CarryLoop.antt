@@ -2,8 +2,8 @@
 use Rattle.std.specs.Prelude.{◌≡◌, ◌≢◌, ◌≤◌, ◌++◌, ℕ, false, List, length, slice_get, Option, Some}
 use Rattle.qoi.specs.declared.chunk.Chunk.{Chunk}
 use Rattle.qoi.specs.declared.encode.carry.Carry.{Carry}
-use Rattle.qoi.specs.declared.encode.coder.Coder.{Coder}
-use Rattle.qoi.specs.declared.encode.coder.TheConstants.{FRONT_CARRIED}
+use Rattle.qoi.specs.declared.encode.blocks.TheConstants.{FRONT_CARRIED}
+use Rattle.qoi.specs.declared.encode.last.LastPixel.{LastPixel}
 use Rattle.qoi.specs.declared.types.Style.{Style}
 use Rattle.qoi.specs.declared.types.Style.TheVariants.{Places, Tight}
 use Rattle.qoi.specs.Qoi.{RgbaPixel, Past, previous, hash}
@@ -28,9 +28,9 @@ pub record OpensBlock (style : Style) (last : RgbaPixel) (n : ℕ) (rest : List 
 
 -- A fresh pixel came; or no repeats are to be written, and the next pixel opens a block. If the next
 -- pixel repeats the last, so few are to be written that a run of less than 62 ends in its block.
-pub record GoesByBlocks {N : ℕ} (coder : Coder N) (count n : ℕ) (rest : List RgbaPixel) : Type 0 where
-  pub opens : coder.begun ≡ false → (count ≡ 0) × OpensBlock coder.style coder.last n rest
-  pub few : slice_get rest 0 ≡ Some coder.last → count ≤ FRONT_CARRIED
+pub record GoesByBlocks (style : Style) (last : LastPixel) (n : ℕ) (rest : List RgbaPixel) : Type 0 where
+  pub opens : last.begun ≡ false → (last.repeats ≡ 0) × OpensBlock style last.px n rest
+  pub few : slice_get rest 0 ≡ Some last.px → last.repeats ≤ FRONT_CARRIED
 
 -- Between two blocks: the carried repeats are still to be written, the pixels `rest`, and then
 -- others. A fresh pixel came; or nothing is carried, none of n pixels was written, and the next one

@@ -2,7 +2,7 @@
 use Rattle.std.specs.Prelude.{◌≡◌, ℕ, List, ◌++◌, Option}
 use Rattle.std.specs.List.{AllByRecursion}
 use Rattle.qoi.specs.declared.chunk.Chunk.{Chunk}
-use Rattle.qoi.specs.declared.encode.coder.Coder.{Coder}
+use Rattle.qoi.specs.declared.encode.last.LastPixel.{LastPixel}
 use Rattle.qoi.specs.declared.types.Style.{Style}
 use Rattle.qoi.specs.declared.types.Style.TheVariants.{Places}
 use Rattle.qoi.specs.Qoi.{RgbaPixel, IsPixel, Past, previous, hash, chunk_bytes}
@@ -19,22 +19,22 @@ pub record Ahead (style : Style) (ahead : List ℕ) (past : Past) (before : Opti
   pub before_is : IsPixel (previous past)
   pub ahead_is : ahead ≡ kept ++ chunk_bytes (styled style past before (list_after (chosen style) past n rest))
 
--- What a coder and its table keep after these pixels and this chunk: the pixels that the style puts
--- at their positions, the last pixel, whether a fresh one came, and in style Places whether the
--- chunk names the last pixel's position.
-pub record CoderAfter {N : ℕ} (past : Past) (before : Option Chunk) (table : List RgbaPixel) (coder : Coder N) : Type 0 where
-  pub table_is : Holds table (held_in coder.style past)
-  pub last_is : coder.last ≡ previous past
-  pub begun_is : coder.begun ≡ some_fresh past
-  pub placed_is : coder.style ≡ Places → coder.placed ≡ names before (hash (previous past))
+-- What a table holds, and what is known of the last pixel, after these pixels and this chunk: the
+-- pixels that the style puts at their positions, that pixel, whether a fresh one came, and in style
+-- Places whether the chunk names the last pixel's position.
+pub record CoderAfter (style : Style) (past : Past) (before : Option Chunk) (table : List RgbaPixel) (last : LastPixel) : Type 0 where
+  pub table_is : Holds table (held_in style past)
+  pub last_is : last.px ≡ previous past
+  pub begun_is : last.begun ≡ some_fresh past
+  pub placed_is : style ≡ Places → last.placed ≡ names before (hash (previous past))
 
--- `single_chunk` for a group of n repeats of the coder's last pixel
-abbrev pub single : {N : ℕ} → Coder N → ℕ → Chunk
-single coder n = single_chunk coder.style coder.begun coder.placed (hash coder.last) n
+-- `single_chunk` for a group of n repeats of the last pixel
+abbrev pub single : Style → LastPixel → ℕ → Chunk
+single style last n = single_chunk style last.begun last.placed (hash last.px) n
 
--- Between two pixels: n repeats of the last one are still to be written, and the pixels `rest`.
-pub record CoderBetween {N : ℕ} (ahead : List ℕ) (n : ℕ) (rest : List RgbaPixel) (table : List RgbaPixel) (coder : Coder N) (kept : List ℕ) : Type 0 where
+-- Between two pixels: repeats of the last one are still to be written, and the pixels `rest`.
+pub record CoderBetween (style : Style) (ahead : List ℕ) (rest : List RgbaPixel) (table : List RgbaPixel) (last : LastPixel) (kept : List ℕ) : Type 0 where
   pub past : Past
   pub before : Option Chunk
-  pub to_write : Ahead coder.style ahead past before n rest kept
-  pub state : CoderAfter past before table coder
+  pub to_write : Ahead style ahead past before last.repeats rest kept
+  pub state : CoderAfter style past before table last

@@ -2,9 +2,7 @@
 use Rattle.std.specs.Prelude.{◌≡◌, ℕ, List, ◌++◌, Option}
 use Rattle.std.specs.Io.KnownBytes.{Appends}
 use Rattle.qoi.specs.declared.chunk.Chunk.{Chunk}
-use Rattle.qoi.specs.declared.encode.coder.Coder.{Coder}
 use Rattle.qoi.specs.declared.encode.pending.Pending.{Pending}
-use Rattle.qoi.specs.declared.types.Style.{Style}
 use Rattle.qoi.specs.Qoi.{RgbaPixel, header_bytes, chunk_bytes, file}
 use Rattle.qoi.specs.Styles.{WrittenIn}
 use Rattle.qoi.specs.WrittenList.{written_list}
@@ -21,22 +19,11 @@ pub record WentBut (e : EncoderState) (before now : Option (List ℕ)) (ahead : 
   pub appended : Appends before now gone
 
 -- Between two pixels of an image: all went but the bytes that are kept, and those that are still to
--- be written, for n repeats of the last pixel and the pixels `rest`.
-pub record ImageBetween {N : ℕ} (e : EncoderState) (before now : Option (List ℕ)) (n : ℕ) (rest table : List RgbaPixel) (coder : Coder N) (kept : List ℕ) : Type 0 where
+-- be written, for what is pending and the pixels `rest`.
+pub record ImageBetween (e : EncoderState) (before now : Option (List ℕ)) (rest : List RgbaPixel) (p : Pending) (kept : List ℕ) : Type 0 where
   pub ahead : List ℕ
   pub went : WentBut e before now ahead
-  pub between : CoderBetween ahead n rest table coder kept
-
--- the coder knows what is pending
-pub record Resumes {N : ℕ} (style : Style) (p : Pending) (coder : Coder N) : Type 0 where
-  pub style_is : coder.style ≡ style
-  pub last_is : coder.last ≡ p.last
-  pub begun_is : coder.begun ≡ p.begun
-  pub placed_is : coder.placed ≡ p.placed
-
--- the same for a coder that goes on from what is pending
-pub record PendingBetween (n : ℕ) (e : EncoderState) (before now : Option (List ℕ)) (rest : List RgbaPixel) (p : Pending) (kept : List ℕ) : Type 0 where
-  pub goes_on : (coder : Coder n) → Resumes e.style p coder → ImageBetween e before now p.carry rest p.table coder kept
+  pub between : CoderBetween e.style ahead rest p.table p.last kept
 
 -- the file of the image was appended
 abbrev pub WroteFile : EncoderState → Option (List ℕ) → Option (List ℕ) → Type 0

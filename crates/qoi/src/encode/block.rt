@@ -1,7 +1,6 @@
 //! Sixteen pixels, a block, and the chunks of a block, but for the repeats that it ends with.
-ghost use Rattle.std.specs.Prelude.{◌≡◌, ℕ, Bool, true, false, ◌+◌, ◌-◌, ◌*◌, ◌≤◌, ◌<◌, List, [], ◌∷◌, ◌++◌, length, map, take, slice_index, slice_index_or, ◌/◌, ◌%◌, IsTrue, IsFalse};
-ghost use Rattle.qoi.specs.declared.encode.block.TheConstants.{BLOCK_ROOM, BLOCK_MAX};
-ghost use Rattle.qoi.specs.declared.encode.piece.TheConstants.{PAST};
+ghost use Rattle.std.specs.Prelude.{◌≡◌, ℕ, Bool, true, false, ◌+◌, ◌-◌, ◌≤◌, ◌<◌, List, [], ◌∷◌, ◌++◌, length, map, take, slice_index, slice_index_or, ◌/◌, ◌%◌, IsTrue, IsFalse};
+ghost use Rattle.qoi.specs.declared.encode.block.TheConstants.{BLOCK_ROOM};
 ghost use Rattle.qoi.specs.declared.types.Style.TheVariants.{Places};
 ghost use Rattle.qoi.specs.Qoi.{RgbaPixel, IsPixel, run_max, hash};
 ghost use Rattle.qoi.specs.Raw.{IsChannels};
@@ -21,7 +20,7 @@ use crate::encode::changes::{Changes, all_set, find_changes};
 use crate::encode::lanes::{blanks, is_zero, places, store_lanes};
 use crate::encode::named::name_single;
 use crate::encode::packing::first_sixteen;
-use crate::encode::piece::Piece;
+use crate::encode::piece::{OpenPiece, Piece};
 use crate::encode::pixels::Pixels;
 use crate::encode::planes::{Planes, Words, make_planes};
 use crate::encode::spelling::{Spelled, spell_block};
@@ -32,10 +31,8 @@ use crate::packed::Packed;
 use crate::types::Style::{self, Places, Reference, Tight};
 use std::simd::prelude::*;
 
-/// The most bytes of a block's chunks, and of the run before them.
-pub(super) const BLOCK_MAX: usize = 81;
-
-/// The room for them, and for what is stored after them and means nothing.
+/// The room for a block's chunks and the run before them, which have 81 bytes at most, and for what
+/// is stored after them and means nothing.
 pub(super) const BLOCK_ROOM: usize = 96;
 
 /// Sixteen pixels, packed and in planes, and the changes from the pixels before them.
@@ -167,28 +164,26 @@ impl Block {
 /// what is carried then. `STYLE` and `ROOM` give each loop that calls it a function of its own, which
 /// the compiler inlines there.
 #[inline]
-pub(super) fn write_block<const N: usize, const STYLE: u8, const ROOM: usize>(
+pub(super) fn write_block<'p, const N: usize, const STYLE: u8, const ROOM: usize>(
     style: Style,
     table: &mut PixelTable,
-    piece: &mut Piece<ROOM>,
+    piece: OpenPiece<'p, ROOM>,
     block: Block,
     carry: Carry<N>,
-) -> Carry<N>
-    requires opaque { N ≡ 3 → AreOpaque (block_pixels block.words) }
-    requires room { piece.old.end < ROOM - PAST }
-    ensures end { piece.new.end ≤ piece.old.end + BLOCK_MAX }
-    ensures written { (ahead : List ℕ) (n : ℕ) (rest more : List RgbaPixel)
+) -> (Carry<N>, Piece<'p, ROOM>)
+    requires { N ≡ 3 → AreOpaque (block_pixels block.words) }
+    ensures { (ahead : List ℕ) (n : ℕ) (rest more : List RgbaPixel)
         → FitsBlock style table.old carry.entry.before (block_pixels block.words) block.changes
         → InBlocks style ahead n (block_pixels block.words ++ rest) more table.old carry.entry
-        (kept_bytes piece.old)
-        → InBlocks style ahead n rest more table.new result (kept_bytes piece.new) }
+        (kept_bytes piece.entry.piece)
+        → InBlocks style ahead n rest more table.new result.0 (kept_bytes result.1) }
 {
+    let Piece { bytes, end } = piece.piece;
     let places = places(block.planes);
-    let out = &mut *piece.bytes;
-    store_lanes::<ROOM>(places, out, piece.end, carry.byte(style));
-    let stands = put_block(table, &out[ROOM - 16..], block.words);
+    store_lanes::<ROOM>(places, bytes, end, carry.byte(style));
+    let stands = put_block(table, &bytes[ROOM - 16..], block.words);
     let x = block.spell(style, stands, places, carry);
-    let start = carry.end(piece.end, x.rep.to_array()[0]);
-    piece.end = put_sixteen::<N>(out, start, x, block.planes);
-    block.carry(style, x, stands)
+    let start = carry.end(end, x.rep.to_array()[0]);
+    let end = put_sixteen::<N>(bytes, start, x, block.planes);
+    (block.carry(style, x, stands), Piece { bytes, end })
 }

@@ -1,43 +1,16 @@
 //! What is kept of an image between two calls that take raw bytes of it.
-ghost use Rattle.std.specs.Prelude.{◌≡◌, ◌+◌, ◌≤◌, ◌<◌, [], ◌++◌, length, take, false};
-ghost use Rattle.qoi.specs.Qoi.{run_max, start};
-ghost use Rattle.qoi.specs.inner.Table.{Holds};
+ghost use Rattle.std.specs.Prelude.{◌≡◌, ◌+◌, ◌≤◌, [], ◌++◌, length, take};
 
+use crate::encode::last::LastPixel;
 use crate::encode::table::PixelTable;
-use crate::packed::Packed;
 use crate::utils::copy_after;
 use std::marker::Model;
 
-/// What is known between two calls: the table; the last pixel that was written or repeated, whether
-/// a fresh one came, and whether it was written as its index position; and how many repeats of it
-/// came that aren't written yet.
+/// What is known between two calls: the table, and the last pixel that was written or repeated.
 #[derive(Drop)]
 pub(super) struct Pending {
     pub(super) table: PixelTable,
-    pub(super) last: Packed,
-    pub(super) begun: bool,
-    pub(super) placed: bool,
-    pub(super) carry: usize,
-    ghost few: { carry < run_max },
-}
-
-impl Pending {
-    /// Before the first pixel.
-    pub(super) fn new() -> Pending
-        ensures table { Holds result.table [] }
-        ensures last { result.last ≡ start }
-        ensures begun { result.begun ≡ false }
-        ensures placed { result.placed ≡ false }
-        ensures carry { result.carry ≡ 0 }
-    {
-        Pending {
-            table: PixelTable::new(),
-            last: Packed::start(),
-            begun: false,
-            placed: false,
-            carry: 0,
-        }
-    }
+    pub(super) last: LastPixel,
 }
 
 /// Raw bytes that are held back, at most as many as a block of four channels has.

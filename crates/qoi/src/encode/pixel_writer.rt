@@ -1,23 +1,25 @@
 //! Encoding of one image whose raw bytes come piece by piece.
 ghost use Rattle.std.specs.Prelude.{◌≡◌, ℕ, ◌+◌, ◌-◌, ◌*◌, ◌%◌, ◌<◌, ◌≤◌, List, [], ◌++◌, Option, length, ◌⊎◌, IfOk, IfErr, OnOk, false};
 ghost use Rattle.std.specs.Io.KnownBytes.{Appends};
-ghost use Rattle.qoi.specs.declared.encode.block.TheConstants.{BLOCK_MAX};
 ghost use Rattle.qoi.specs.declared.encode.piece.TheConstants.{PAST, FULL_ROOM};
 ghost use Rattle.qoi.specs.declared.error.Error.{Error};
 ghost use Rattle.qoi.specs.declared.types.Channels.{Channels};
-ghost use Rattle.qoi.specs.Qoi.{RgbaPixel, IsValid, channels_number, header_bytes};
+ghost use Rattle.qoi.specs.Qoi.{RgbaPixel, IsValid, channels_number, header_bytes, end_marker};
 ghost use Rattle.qoi.specs.Raw.{IsChannels, pixels_of, image_byte_count};
 ghost use Rattle.qoi.specs.EncoderState.{EncoderState};
 ghost use Rattle.qoi.specs.Errors.{IsIoError};
 ghost use Rattle.qoi.specs.writers.Writes.{AppendsBeginning};
 ghost use Rattle.qoi.specs.inner.Piece.{kept_bytes};
-ghost use Rattle.qoi.specs.inner.Pending.{PendingBetween, BeganFile, WroteFile};
+ghost use Rattle.qoi.specs.inner.Pending.{ImageBetween, BeganFile, WroteFile};
 
-use crate::consts::{QOI_HEADER_SIZE, QOI_PADDING};
+use crate::consts::QOI_HEADER_SIZE;
+use crate::encode::blocks::write_some;
 use crate::encode::coder::Coder;
+use crate::encode::last::LastPixel;
 use crate::encode::pending::{Held, Pending};
-use crate::encode::piece::{FULL_ROOM, Piece, TINY_ROOM};
+use crate::encode::piece::{FULL_ROOM, OpenPiece, Piece, TINY_ROOM};
 use crate::encode::pixels::Pixels;
+use crate::encode::table::PixelTable;
 use crate::error::{Error, Result};
 use crate::header::Header;
 use crate::types::Channels::{self, Rgb, Rgba};
@@ -38,33 +40,43 @@ fn send_header<W: Write>(writer: &mut W, header: &Header) -> Result<()>
     Ok(())
 }
 
-// Sends a full piece to a writer of the standard library, if there is one; the bytes after it are
-// kept.
+// Sends a full piece to a writer of the standard library, if there is one, and returns the bytes
+// after it.
 #[inline(always)]
-fn make_room<W: Write, const ROOM: usize>(writer: &mut W, piece: &mut Piece<ROOM>) -> Result<()>
-    requires { piece.old.end < ROOM - PAST + BLOCK_MAX }
-    ensures end { OnOk result (piece.new.end < ROOM - PAST) }
-    ensures written { OnOk result ((gone : List ℕ)
-        × (kept_bytes piece.old ≡ gone ++ kept_bytes piece.new)
+fn make_room<'p, W: Write, const ROOM: usize>(
+    writer: &mut W,
+    piece: Piece<'p, ROOM>,
+) -> Result<OpenPiece<'p, ROOM>>
+    ensures written { IfOk result (λ p. (gone : List ℕ)
+        × (kept_bytes piece.entry ≡ gone ++ kept_bytes p.piece)
         × Appends (W.contents writer.old) (W.contents writer.new) gone) }
     ensures refused { IfErr result (λ e. IsIoError e × AppendsBeginning
-        (W.contents writer.old) (W.contents writer.new) (kept_bytes piece.old)) }
+        (W.contents writer.old) (W.contents writer.new) (kept_bytes piece.entry)) }
 {
-    if !piece.is_full() {
-        return Ok(());
-    }
     let mut writer = GenericWriter::new(writer);
-    piece.send(&mut writer)?;
-    Ok(())
+    let piece = piece.make_room(&mut writer)?;
+    Ok(piece)
 }
 
-// Sends what a piece keeps to a writer of the standard library. Doesn't empty the piece.
+// Sends what a piece keeps to a writer of the standard library.
 #[inline(never)]
 fn send_all<W: Write, const ROOM: usize>(writer: &mut W, piece: &mut Piece<ROOM>) -> Result<()>
     ensures written { OnOk result
         (Appends (W.contents writer.old) (W.contents writer.new) (kept_bytes piece.old)) }
     ensures refused { IfErr result (λ e. IsIoError e × AppendsBeginning
         (W.contents writer.old) (W.contents writer.new) (kept_bytes piece.old)) }
+{
+    let mut writer = GenericWriter::new(writer);
+    piece.flush(&mut writer)?;
+    Ok(())
+}
+
+// Sends what a piece keeps, and then the end marker.
+fn send_last<W: Write, const ROOM: usize>(writer: &mut W, piece: &mut Piece<ROOM>) -> Result<()>
+    ensures written { OnOk result (Appends (W.contents writer.old) (W.contents writer.new)
+        (kept_bytes piece.old ++ end_marker)) }
+    ensures refused { IfErr result (λ e. IsIoError e × AppendsBeginning
+        (W.contents writer.old) (W.contents writer.new) (kept_bytes piece.old ++ end_marker)) }
 {
     let mut writer = GenericWriter::new(writer);
     piece.finish(&mut writer)?;
@@ -77,56 +89,46 @@ fn write_whole<'a, 'p, W: Write, const N: usize, const STYLE: u8, const ROOM: us
     writer: &mut W,
     style: Style,
     pending: &mut Pending,
-    piece: Piece<'p, ROOM>,
+    piece: OpenPiece<'p, ROOM>,
     data: &'a [u8],
-) -> Result<(&'a [u8], Piece<'p, ROOM>)>
+) -> Result<(&'a [u8], OpenPiece<'p, ROOM>)>
     requires channels { IsChannels N }
     requires whole { length «data».now % N ≡ 0 }
-    requires opaque { N ≡ 3 → pending.old.last.a ≡ 255 }
-    requires room { piece.end < ROOM - PAST + BLOCK_MAX }
-    ensures end { IfOk result (λ r. r.1.end < ROOM - PAST + BLOCK_MAX) }
+    requires opaque { N ≡ 3 → pending.old.last.px.a ≡ 255 }
     ensures few { IfOk result (λ r. length r.0.now < 16 * N) }
     ensures within { IfOk result (λ r. length r.0.now ≤ length «data».entry.now) }
     ensures less { IfOk result (λ r. 16 * N ≤ length «data».entry.now
         → length r.0.now < length «data».entry.now) }
     ensures whole { IfOk result (λ r. length r.0.now % N ≡ 0) }
-    ensures opaque { N ≡ 3 → pending.new.last.a ≡ 255 }
+    ensures opaque { N ≡ 3 → pending.new.last.px.a ≡ 255 }
     ensures written { (e : EncoderState) (before : Option (List ℕ)) (rest : List RgbaPixel)
         → e.style ≡ style
-        → PendingBetween N e before (W.contents writer.old) (pixels_of N «data».entry.now ++ rest)
-        pending.old (kept_bytes piece.entry)
-        → IfOk result (λ r. PendingBetween N e before (W.contents writer.new)
-        (pixels_of N r.0.now ++ rest) pending.new (kept_bytes r.1)) }
+        → ImageBetween e before (W.contents writer.old) (pixels_of N «data».entry.now ++ rest)
+        pending.old (kept_bytes piece.entry.piece)
+        → IfOk result (λ r. ImageBetween e before (W.contents writer.new)
+        (pixels_of N r.0.now ++ rest) pending.new (kept_bytes r.1.piece)) }
     ensures refused { IfErr result (λ error. IsIoError error
         × ((e : EncoderState) (before : Option (List ℕ)) (rest : List RgbaPixel)
         → e.style ≡ style
-        → PendingBetween N e before (W.contents writer.old) (pixels_of N «data».entry.now ++ rest)
-        pending.old (kept_bytes piece.entry)
+        → ImageBetween e before (W.contents writer.old) (pixels_of N «data».entry.now ++ rest)
+        pending.old (kept_bytes piece.entry.piece)
         → BeganFile e before (W.contents writer.new))) }
 {
-    let mut coder = Coder::<N> {
-        style,
-        last: pending.last,
-        begun: pending.begun,
-        placed: pending.placed,
-    };
-    let mut count = pending.carry;
+    let mut coder = Coder::<N>::new(pending.last);
     let mut piece = piece;
     let mut rest = Pixels::<N>::new(data);
     while rest.has_block() {
-        make_room(writer, &mut piece)?;
-        (rest, piece) = coder.write_some::<STYLE, ROOM>(
+        let (after, filled) = write_some::<N, STYLE, ROOM>(
+            &mut coder,
             style,
             &mut pending.table,
             piece,
             rest,
-            &mut count,
         );
+        rest = after;
+        piece = make_room(writer, filled)?;
     }
     pending.last = coder.last;
-    pending.begun = coder.begun;
-    pending.placed = coder.placed;
-    pending.carry = count;
     Ok((rest.bytes, piece))
 }
 
@@ -141,24 +143,24 @@ fn take_raw<W: Write, const N: usize, const STYLE: u8, const ROOM: usize>(
     raw: &[u8],
 ) -> Result<()>
     requires channels { IsChannels N }
-    requires opaque { N ≡ 3 → pending.old.last.a ≡ 255 }
+    requires opaque { N ≡ 3 → pending.old.last.px.a ≡ 255 }
     requires short { length held.old < 16 * N }
     requires piece { 2 * PAST ≤ ROOM }
     requires room { length room.old ≡ ROOM }
-    ensures opaque { N ≡ 3 → pending.new.last.a ≡ 255 }
+    ensures opaque { N ≡ 3 → pending.new.last.px.a ≡ 255 }
     ensures short { length held.new < 16 * N }
     ensures count { OnOk result
         (length held.new % N ≡ (length held.old + length raw.now) % N) }
     ensures written { (e : EncoderState) (before : Option (List ℕ)) (more : List ℕ)
         → e.style ≡ style
-        → PendingBetween N e before (W.contents writer.old)
+        → ImageBetween e before (W.contents writer.old)
         (pixels_of N (held.old ++ (raw.now ++ more))) pending.old []
-        → OnOk result (PendingBetween N e before (W.contents writer.new)
+        → OnOk result (ImageBetween e before (W.contents writer.new)
         (pixels_of N (held.new ++ more)) pending.new []) }
     ensures refused { IfErr result (λ error. IsIoError error
         × ((e : EncoderState) (before : Option (List ℕ)) (more : List ℕ)
         → e.style ≡ style
-        → PendingBetween N e before (W.contents writer.old)
+        → ImageBetween e before (W.contents writer.old)
         (pixels_of N (held.old ++ (raw.now ++ more))) pending.old []
         → BeganFile e before (W.contents writer.new))) }
 {
@@ -166,7 +168,7 @@ fn take_raw<W: Write, const N: usize, const STYLE: u8, const ROOM: usize>(
         held.push(raw);
         return Ok(());
     }
-    let mut piece = Piece::<ROOM>::new(room);
+    let mut piece = Piece::<ROOM>::new(room).open();
     let mut rest = raw;
     while held.len() > 0 && held.len() + rest.len() >= 16 * N {
         let (front, after) = rest.split_at(16 * N - held.len());
@@ -186,7 +188,7 @@ fn take_raw<W: Write, const N: usize, const STYLE: u8, const ROOM: usize>(
     }
     if held.len() > 0 {
         held.push(rest);
-        send_all(writer, &mut piece)?;
+        send_all(writer, &mut piece.piece)?;
         return Ok(());
     }
     let (pixels, part) = rest.split_at(rest.len() - rest.len() % N);
@@ -195,7 +197,7 @@ fn take_raw<W: Write, const N: usize, const STYLE: u8, const ROOM: usize>(
     )?;
     held.push(left);
     held.push(part);
-    send_all(writer, &mut piece)?;
+    send_all(writer, &mut piece.piece)?;
     Ok(())
 }
 
@@ -207,30 +209,19 @@ fn write_last<W: Write, const N: usize>(
     held: &[u8],
 ) -> Result<()>
     requires channels { IsChannels N }
-    requires opaque { N ≡ 3 → pending.old.last.a ≡ 255 }
+    requires opaque { N ≡ 3 → pending.old.last.px.a ≡ 255 }
     requires whole { length held.now % N ≡ 0 }
     requires short { length held.now < 16 * N }
     ensures written { (e : EncoderState) (before : Option (List ℕ)) → e.style ≡ style
-        → PendingBetween N e before (W.contents writer.old) (pixels_of N held.now) pending.old []
+        → ImageBetween e before (W.contents writer.old) (pixels_of N held.now) pending.old []
         → OnOk result (WroteFile e before (W.contents writer.new)) }
     ensures refused { IfErr result IsIoError }
 {
     let mut room = [0; TINY_ROOM];
-    let piece = Piece::<TINY_ROOM>::new(&mut room);
-    let mut coder = Coder::<N> {
-        style,
-        last: pending.last,
-        begun: pending.begun,
-        placed: pending.placed,
-    };
-    let mut piece = coder.write_few(
-        &mut pending.table,
-        piece,
-        Pixels::<N>::new(held),
-        pending.carry,
-    );
-    piece.keep(&QOI_PADDING);
-    send_all(writer, &mut piece)?;
+    let piece = Piece::<TINY_ROOM>::new(&mut room).open();
+    let mut coder = Coder::<N>::new(pending.last);
+    let mut piece = coder.write_few(style, &mut pending.table, piece, Pixels::<N>::new(held));
+    send_last(writer, &mut piece)?;
     Ok(())
 }
 
@@ -245,22 +236,22 @@ fn take_any<W: Write>(
     raw: &[u8],
 ) -> Result<()>
     requires room { length room.old ≡ FULL_ROOM }
-    requires opaque { channels_number channels ≡ 3 → pending.old.last.a ≡ 255 }
+    requires opaque { channels_number channels ≡ 3 → pending.old.last.px.a ≡ 255 }
     requires short { length held.old < 16 * channels_number channels }
-    ensures opaque { channels_number channels ≡ 3 → pending.new.last.a ≡ 255 }
+    ensures opaque { channels_number channels ≡ 3 → pending.new.last.px.a ≡ 255 }
     ensures short { length held.new < 16 * channels_number channels }
     ensures count { OnOk result (length held.new % channels_number channels
         ≡ (length held.old + length raw.now) % channels_number channels) }
     ensures written { (e : EncoderState) (before : Option (List ℕ)) (more : List ℕ)
         → e.style ≡ style
-        → PendingBetween (channels_number channels) e before (W.contents writer.old)
+        → ImageBetween e before (W.contents writer.old)
         (pixels_of (channels_number channels) (held.old ++ (raw.now ++ more))) pending.old []
-        → OnOk result (PendingBetween (channels_number channels) e before (W.contents writer.new)
+        → OnOk result (ImageBetween e before (W.contents writer.new)
         (pixels_of (channels_number channels) (held.new ++ more)) pending.new []) }
     ensures refused { IfErr result (λ error. IsIoError error
         × ((e : EncoderState) (before : Option (List ℕ)) (more : List ℕ)
         → e.style ≡ style
-        → PendingBetween (channels_number channels) e before (W.contents writer.old)
+        → ImageBetween e before (W.contents writer.old)
         (pixels_of (channels_number channels) (held.old ++ (raw.now ++ more))) pending.old []
         → BeganFile e before (W.contents writer.new))) }
 {
@@ -288,11 +279,11 @@ fn write_any<W: Write>(
     pending: &mut Pending,
     held: &[u8],
 ) -> Result<()>
-    requires opaque { channels_number channels ≡ 3 → pending.old.last.a ≡ 255 }
+    requires opaque { channels_number channels ≡ 3 → pending.old.last.px.a ≡ 255 }
     requires whole { length held.now % channels_number channels ≡ 0 }
     requires short { length held.now < 16 * channels_number channels }
     ensures written { (e : EncoderState) (before : Option (List ℕ)) → e.style ≡ style
-        → PendingBetween (channels_number channels) e before (W.contents writer.old)
+        → ImageBetween e before (W.contents writer.old)
         (pixels_of (channels_number channels) held.now) pending.old []
         → OnOk result (WroteFile e before (W.contents writer.new)) }
     ensures refused { IfErr result IsIoError }
@@ -318,7 +309,7 @@ pub struct PixelWriter<W> {
     ghost valid: { IsValid header },
     ghost left_of: { left ≤ image_byte_count header },
     ghost short: { length held < 16 * channels_number header.channels },
-    ghost opaque: { channels_number header.channels ≡ 3 → pending.last.a ≡ 255 },
+    ghost opaque: { channels_number header.channels ≡ 3 → pending.last.px.a ≡ 255 },
     ghost whole: { failed ≡ false
         → (length held + left) % channels_number header.channels ≡ 0 },
 }
@@ -353,7 +344,10 @@ impl<W: Write + Drop> PixelWriter<W> {
             style,
             left: header.n_bytes(),
             failed: false,
-            pending: Pending::new(),
+            pending: Pending {
+                table: PixelTable::new(),
+                last: LastPixel::start(),
+            },
             held: Held::new(),
             room,
         })

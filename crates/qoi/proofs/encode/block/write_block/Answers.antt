@@ -36,10 +36,10 @@ pub put_block-stands-requires-clause-below : goal.put_block-stands-requires-clau
 put_block-stands-requires-clause-below g c = λ k lt.
     let w = c.args.block.words in
     let at = c.places-places.ensures (block_pixels w) (block_sixteen w c.args.block.packed) c.args.block.planes_are in
-    omega (arith, hashes_below (block_pixels w) k, ap (λ z. slice_index z k) (read_back g.row.ROOM c.store_lanes.new.out c.places-places.result (c.store_lanes.ensures.same ∙ c.args.piece.now.room) c.store_lanes.ensures.lanes ∙ at))
+    omega (arith, hashes_below (block_pixels w) k, ap (λ z. slice_index z k) (read_back g.row.ROOM c.store_lanes.new.out c.places-places.result (c.store_lanes.ensures.same ∙ c.args.piece.piece.room) c.store_lanes.ensures.lanes ∙ at))
 
-pub returns-clause-written : goal.returns-clause-written
-returns-clause-written g c = λ ahead n rest more fits b.
+pub returns : goal.returns
+returns g c = λ ahead n rest more fits b.
     let style = c.args.style in
     let carry = c.args.carry in
     let q = previous b.past in
@@ -52,10 +52,10 @@ returns-clause-written g c = λ ahead n rest more fits b.
     let assoc : (all ++ rest) ++ more ≡ all ++ later = append_assoc all rest more in
     let some : 0 < length (all ++ rest) = omega (arith, length-append all rest, sixteen.long) in
     let first : slice_get (all ++ later) 0 ≡ slice_get (all ++ rest) 0 = ap (λ x. slice_get x 0) (sym assoc) ∙ first_more (all ++ rest) more some in
-    let start : Carrying (some_fresh b.past) style ahead s (all ++ later) (take c.args.piece.now.end c.args.piece.now.bytes.now) = record {
+    let start : Carrying (some_fresh b.past) style ahead s (all ++ later) (take c.args.piece.piece.end c.args.piece.piece.bytes.now) = record {
       past = b.past;
       before = b.before;
-      to_write = subst (λ ps. Ahead style ahead b.past b.before carry.count ps (kept_bytes c.args.piece.now)) assoc b.to_write;
+      to_write = subst (λ ps. Ahead style ahead b.past b.before carry.count ps (kept_bytes c.args.piece.piece)) assoc b.to_write;
       last_is = refl;
       begun_is = refl;
       opens = λ no. ((b.opens no).0, λ e. (b.opens no).1.fresh (sym first ∙ e));
@@ -63,7 +63,7 @@ returns-clause-written g c = λ ahead n rest more fits b.
       placed_is = refl;
     } in
     let at : c.places-places.result ≡ map hash all = c.places-places.ensures all sixteen planes in
-    let put = c.put_block-stands.ensures s.held all b.state.table_is sixteen (block_words words c.args.block.packed) (read_back g.row.ROOM c.store_lanes.new.out c.places-places.result (c.store_lanes.ensures.same ∙ c.args.piece.now.room) c.store_lanes.ensures.lanes ∙ at) in
+    let put = c.put_block-stands.ensures s.held all b.state.table_is sixteen (block_words words c.args.block.packed) (read_back g.row.ROOM c.store_lanes.new.out c.places-places.result (c.store_lanes.ensures.same ∙ c.args.piece.piece.room) c.store_lanes.ensures.lanes ∙ at) in
     let placed : style ≡ Places → s.placed ≡ carry.placed = λ is. sym (b.state.placed_is is) in
     let spelled = c.spell-x.ensures s b.to_write.before_is b.state.last_is fits.changes refl placed put.stands_are at in
     let x = c.spell-x.result in
@@ -71,8 +71,8 @@ returns-clause-written g c = λ ahead n rest more fits b.
     let q_is : q ≡ last_pixel carry.before = last_of_planes q carry.before b.state.last_is in
     let now = ready style ahead s all later x _ carry.placed (last_pixel carry.before) carry.count _ _ c.args.carry.few (λ e. b.few (sym first ∙ e)) start
     spelled sixteen refl q_is refl placed
-    (group_stored style (rep == 0) carry.placed (last_pixel carry.before) carry.count c.args.piece.now.end c.end-start.result c.byte.result c.args.piece.now.bytes.now c.store_lanes.new.out
-    (omega (arith, c.args.piece.now.within, c.args.piece.now.room)) c.store_lanes.ensures.stored c.byte.ensures
+    (group_stored style (rep == 0) carry.placed (last_pixel carry.before) carry.count c.args.piece.piece.end c.end-start.result c.byte.result c.args.piece.piece.bytes.now c.store_lanes.new.out
+    (omega (arith, c.args.piece.piece.within, c.args.piece.piece.room)) c.store_lanes.ensures.stored c.byte.ensures
     (λ e. c.end-start.ensures.stays (omega (arith, first_repeats s all x spelled sixteen e, c.args.carry.few)))
     (λ e. c.end-start.ensures.stays (omega (arith, e)))
     (λ e some. c.end-start.ensures.some (omega (arith, eqb-true rep 0 e, some)))) in
@@ -80,5 +80,5 @@ returns-clause-written g c = λ ahead n rest more fits b.
     (subst (λ q. all_repeat q all ≡ false) (sym q_is) fits.mixed) planes now put.holds
     (λ t held same tight. fits.no_blank tight t (subst (Holds c.args.table.now) (sym held) b.state.table_is) (subst (λ q. IsLastOf q carry.before) (sym same) b.state.last_is))
     c.carry.ensures.before c.carry.ensures.count (λ is. c.carry.ensures.placed (stand_tests s.held all) is put.stands_are)
-    (λ t same last_is few. c.put_sixteen-piece.ensures.written style t all sixteen (subst IsPixel (sym last_is) b.to_write.before_is) planes same (omega arith)
-    (sizes_in g.row.N t t.last all x.size carry.channels c.requires.opaque (λ three. ap (λ z. z.a) (last_is ∙ q_is) ∙ carry.opaque three) same.size_is))
+    (λ t same last_is few. c.put_sixteen-end.ensures.written style t all sixteen (subst IsPixel (sym last_is) b.to_write.before_is) planes same (omega arith)
+    (sizes_in g.row.N t t.last all x.size carry.channels c.requires (λ three. ap (λ z. z.a) (last_is ∙ q_is) ∙ carry.opaque three) same.size_is))

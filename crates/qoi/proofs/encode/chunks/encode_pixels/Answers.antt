@@ -1,72 +1,62 @@
 -- A piece at a time.
-use Rattle.std.proofs.Common.{◌-◌, ◌++◌, [], sym, ◌∙◌, arith, subst, append-nil}
+use Rattle.std.proofs.Common.{◌++◌, [], sym, ap, ◌∙◌, arith, subst, append-nil}
 use Rattle.std.proofs.lemmas.Result.{err_from_is_err_and}
-use Rattle.qoi.specs.declared.encode.piece.TheConstants.{PAST}
+use Rattle.qoi.specs.Qoi.{start}
 use Rattle.qoi.specs.inner.CoderLoop.{CoderBetween}
 use Rattle.qoi.specs.inner.Piece.{kept_bytes}
 use Rattle.qoi.specs.inner.Pixels.{pixels_in}
 use Rattle.qoi.proofs.encoding.CoderLink.{coder_sent}
-use Rattle.qoi.proofs.encoding.PieceByPiece.{PieceBetween, piece_starts, piece_filled, piece_fits, piece_went, piece_part, piece_ends}
+use Rattle.qoi.proofs.encoding.PieceByPiece.{Sending, PieceBetween, piece_starts, piece_filled, piece_fits, piece_went, piece_part, piece_ends}
 use Rattle.qoi.proofs.encoding.PieceSent.{kept_length}
 use Rattle.qoi.proofs.encode.chunks.encode_pixels.Given.{Over}
-use Rattle.qoi.proofs.encode.chunks.encode_pixels.Goals.{After-write_some}
+use Rattle.qoi.proofs.encode.chunks.encode_pixels.Goals.{After-write_some-filled}
 use Rattle.qoi.proofs.encode.chunks.encode_pixels.Goals as goal
 
-pub loop-style-init : goal.loop-style-init
-loop-style-init g c =
-    let new = c.new-coder.ensures in
+pub new-coder-requires : goal.new-coder-requires
+unfolding start
+new-coder-requires g c = (omega arith, (c.requires.channels, λ _. ap (λ p. p.a) c.start.ensures.px))
+
+pub loop-coder-init : goal.loop-coder-init
+loop-coder-init g c =
+    let first = c.start.ensures in
+    let state = first.state c.args.style c.new-table.result c.new-table.ensures in
+    let sending : Sending g.row.W.Denot = record { style = c.args.style; front = kept_bytes c.args.piece.piece; start = c.args.writer.now; raw = c.args.data.now } in
+    let begins = piece_starts sending g.met.W.Writer.laws c.requires.channels (λ i. omega (arith, c.type_inv.data i)) c.requires.whole
+    (omega (arith, kept_length c.args.piece.piece, c.requires.room)) first.none state in
     record {
-      end = c.requires.not_full;
-      style = new.style;
-      few = omega arith;
-      state = subst (λ ps. PieceBetween g.W.Writer.wrote g.W.Writer.room g.row.N
-          (record { style = c.args.style; front = kept_bytes c.args.piece; start = c.args.writer.now; raw = c.args.data.now })
-          (λ ahead kept. CoderBetween ahead 0 ps c.new-table.result c.new-coder.result kept) (kept_bytes c.args.piece) c.args.writer.now)
-          (sym (append-nil (pixels_in c.new-rest.result) ∙ c.new-rest.ensures))
-          (piece_starts _ g.met.W.Writer.laws c.requires.channels (λ i. omega (arith, c.type_inv.data i)) c.requires.whole
-          (omega (arith, kept_length c.args.piece, c.requires.room)) new.style (new.state c.new-table.result c.new-table.ensures));
+      state = subst (λ last. PieceBetween g.W.Writer.wrote g.W.Writer.room g.row.N sending
+          (λ ahead kept. CoderBetween c.args.style ahead (pixels_in c.new-rest.result ++ []) c.new-table.result last kept) (kept_bytes c.args.piece.piece) c.args.writer.now)
+          (sym c.new-coder.ensures)
+          (subst (λ ps. PieceBetween g.W.Writer.wrote g.W.Writer.room g.row.N sending
+          (λ ahead kept. CoderBetween c.args.style ahead ps c.new-table.result c.start.result kept) (kept_bytes c.args.piece.piece) c.args.writer.now)
+          (sym (append-nil (pixels_in c.new-rest.result) ∙ c.new-rest.ensures)) begins);
     }
 
 -- some is written
-wrote : (g : Over) (c : After-write_some g)
-    → PieceBetween g.W.Writer.wrote g.W.Writer.room g.row.N (record { style = c.args.style; front = kept_bytes c.args.piece; start = c.args.writer.now; raw = c.args.data.now })
-    (λ ahead kept. CoderBetween ahead c.write_some.new.count (pixels_in c.write_some.result.0 ++ []) c.write_some.new.table c.write_some.new.self kept)
-    (kept_bytes c.write_some.result.1) c.loop-style.writer
-wrote g c = piece_filled c.loop-style.invariant.state _ (λ ahead b. c.write_some.ensures.written ahead [] b)
+wrote : (g : Over) (c : After-write_some-filled g)
+    → PieceBetween g.W.Writer.wrote g.W.Writer.room g.row.N (record { style = c.args.style; front = kept_bytes c.args.piece.piece; start = c.args.writer.now; raw = c.args.data.now })
+    (λ ahead kept. CoderBetween c.args.style ahead (pixels_in c.write_some-filled.result.0 ++ []) c.write_some-filled.new.table c.write_some-filled.new.coder.last kept)
+    (kept_bytes c.write_some-filled.result.1) c.loop-coder.writer
+wrote g c = piece_filled c.loop-coder.invariant.state _ (λ ahead b. c.write_some-filled.ensures.written ahead [] b)
 
-pub send-requires : goal.send-requires
-send-requires g c =
-    let full = c.is_full.ensures.full c.if-is_full.true in
-    let now = wrote g (goal.at.send-requires g c).After-write_some in
-    (omega arith, (full, piece_fits now (λ _ _ b. coder_sent b) (g.row.ROOM - PAST) (omega (arith, kept_length c.write_some.result.1, full))))
+pub make_room-requires : goal.make_room-requires
+make_room-requires g c =
+    let now = wrote g (goal.at.make_room-requires g c).After-write_some-filled in
+    (omega arith, omega (arith, kept_length c.write_some-filled.result.1, piece_fits now (λ _ _ b. coder_sent b)))
 
-pub loop-style-preserved-in-Continue-1 : goal.loop-style-preserved-in-Continue-1
-loop-style-preserved-in-Continue-1 g c =
-    let now = wrote g (goal.at.loop-style-preserved-in-Continue-1 g c).After-write_some in
-    record {
-      end = omega (arith, c.in_ok-send.ensures.end, c.write_some.ensures.end, c.args.piece.large);
-      style = c.write_some.ensures.style;
-      few = c.write_some.ensures.few;
-      state = piece_went now (λ _ _ b. coder_sent b) (g.row.ROOM - PAST) c.in_ok-send.ensures.written c.in_ok-send.ensures.kept;
-    }
-
-pub loop-style-preserved : goal.loop-style-preserved
-loop-style-preserved g c = record {
-  end = c.is_full.ensures.room c.if-is_full.false;
-  style = c.write_some.ensures.style;
-  few = c.write_some.ensures.few;
-  state = wrote g (goal.at.loop-style-preserved g c).After-write_some;
+pub loop-coder-preserved : goal.loop-coder-preserved
+loop-coder-preserved g c = record {
+  state = piece_went (wrote g (goal.at.loop-coder-preserved g c).After-write_some-filled) (λ _ _ b. coder_sent b) c.in_ok-piece.ensures.written;
 }
 
-pub returns-in_err-send-clause-refused : goal.returns-in_err-send-clause-refused
-returns-in_err-send-clause-refused g c =
+pub returns-in_err-piece-clause-refused : goal.returns-in_err-piece-clause-refused
+returns-in_err-piece-clause-refused g c =
     let e = err_from_is_err_and c.from_residual.result c.from_residual.ensures.1 in
-    let r = c.in_err-send.ensures.refused in
-    let now = wrote g (goal.at.returns-in_err-send-clause-refused g c).After-write_some in
-    let part = piece_part now (λ _ _ b. coder_sent b) (g.row.ROOM - PAST) r.1 in
-    rw (e.1, e.2) (r.0, part)
+    let r = c.in_err-piece.ensures.refused in
+    let now = wrote g (goal.at.returns-in_err-piece-clause-refused g c).After-write_some-filled in
+    rw (e.1, e.2) (r.0, piece_part now (λ _ _ b. coder_sent b) r.1)
 
 pub returns-clause-written : goal.returns-clause-written
 returns-clause-written g c =
-    piece_ends c.loop-style.invariant.state (λ ahead b. c.write_few.ensures.written ahead
-    (subst (λ ps. CoderBetween ahead c.loop-style.count ps c.loop-style.table c.loop-style.coder (kept_bytes c.loop-style.piece)) (append-nil (pixels_in c.loop-style.rest)) b))
+    piece_ends c.loop-coder.invariant.state (λ ahead b. c.write_few.ensures.written ahead
+    (subst (λ ps. CoderBetween c.args.style ahead ps c.loop-coder.table c.loop-coder.coder.last (kept_bytes c.loop-coder.piece.piece)) (append-nil (pixels_in c.loop-coder.rest)) b))

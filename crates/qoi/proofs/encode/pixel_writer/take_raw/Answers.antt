@@ -3,8 +3,8 @@ use Rattle.std.proofs.Common.{◌≡◌, ◌+◌, ◌%◌, ◌++◌, [], length,
 use Rattle.std.proofs.lemmas.Result.{err_from_is_err_and}
 use Rattle.qoi.specs.Raw.{pixels_of}
 use Rattle.qoi.specs.inner.Piece.{kept_bytes}
-use Rattle.qoi.specs.inner.Pending.{PendingBetween}
-use Rattle.qoi.proofs.encoding.ImagePieces.{count_on, count_part, block_ahead, pixels_ahead, none_held, whole_ahead, pending_part, pending_sent}
+use Rattle.qoi.specs.inner.Pending.{ImageBetween}
+use Rattle.qoi.proofs.encoding.ImagePieces.{count_on, count_part, block_ahead, pixels_ahead, none_held, whole_ahead, image_part, image_emptied}
 use Rattle.qoi.proofs.encode.pixel_writer.take_raw.Goals as goal
 
 pub returns-in_err-left-clause-refused : goal.returns-in_err-left-clause-refused
@@ -22,7 +22,7 @@ returns-in_err-left-clause-refused g c =
           _ c.requires.channels (omega (arith, c.len-in-loop-held-3.ensures.count)) i.short
           (omega (arith, c.if-len-rest.true, c.len-in-loop-held-2.ensures.count)) split.front split.back c.push-in-loop-held.ensures c.block-block.ensures in
           r.1 e before (pixels_of n (after ++ more)) style
-          (subst (λ x. PendingBetween n e before (g.W.Write.contents c.loop-held.writer) x c.loop-held.pending (kept_bytes c.loop-held.piece)) ahead (i.written e before more style b)),
+          (subst (λ x. ImageBetween e before (g.W.Write.contents c.loop-held.writer) x c.loop-held.pending (kept_bytes c.loop-held.piece.piece)) ahead (i.written e before more style b)),
     )
 
 pub loop-held-preserved : goal.loop-held-preserved
@@ -34,7 +34,6 @@ loop-held-preserved g c =
     let after = c.split_at.result.1.now in
     let left = c.in_ok-left.left.now in
     record {
-      end = step.end;
       left = omega (arith, split.back_len, i.left);
       short = omega (arith, ap length c.replace-in-loop-held.ensures, step.few);
       count = ap (λ k. (k + length after) % n) (ap length c.replace-in-loop-held.ensures)
@@ -46,8 +45,8 @@ loop-held-preserved g c =
           _ c.requires.channels (omega (arith, c.len-in-loop-held-3.ensures.count)) i.short
           (omega (arith, c.if-len-rest.true, c.len-in-loop-held-2.ensures.count)) split.front split.back c.push-in-loop-held.ensures c.block-block.ensures in
           let now = step.written e before (pixels_of n (after ++ more)) style
-          (subst (λ x. PendingBetween n e before (g.W.Write.contents c.loop-held.writer) x c.loop-held.pending (kept_bytes c.loop-held.piece)) ahead (i.written e before more style b)) in
-          subst (λ x. PendingBetween n e before (g.W.Write.contents c.write_whole.new.writer) x c.write_whole.new.pending (kept_bytes c.in_ok-left.now))
+          (subst (λ x. ImageBetween e before (g.W.Write.contents c.loop-held.writer) x c.loop-held.pending (kept_bytes c.loop-held.piece.piece)) ahead (i.written e before more style b)) in
+          subst (λ x. ImageBetween e before (g.W.Write.contents c.write_whole.new.writer) x c.write_whole.new.pending (kept_bytes c.in_ok-left.now.piece))
           (sym (ap (λ z. pixels_of n (z ++ (after ++ more))) c.replace-in-loop-held.ensures ∙ whole_ahead n left (after ++ more) c.requires.channels step.whole)) now;
     }
 
@@ -59,7 +58,7 @@ returns-in_err-send_all-clause-refused g c =
     rw (e.1, e.2) (
       r.0,
       λ e before more style b.
-          pending_part (i.written e before more style b) c.requires.channels i.opaque (g.W.Write.contents c.send_all.new.writer) r.1,
+          image_part (i.written e before more style b) (g.W.Write.contents c.send_all.new.writer) r.1,
     )
 
 pub returns-then-len-gt0-clause-written : goal.returns-then-len-gt0-clause-written
@@ -68,8 +67,8 @@ returns-then-len-gt0-clause-written g c = λ e before more style b.
     let i = c.loop-held.invariant in
     let held = c.loop-held.held in
     let rest = c.loop-held.rest.now in
-    let sent = pending_sent (i.written e before more style b) (g.W.Write.contents c.send_all.new.writer) c.in_ok-send_all.ensures.written in
-    subst (λ x. PendingBetween n e before (g.W.Write.contents c.send_all.new.writer) x c.loop-held.pending [])
+    let sent = image_emptied (i.written e before more style b) (g.W.Write.contents c.send_all.new.writer) c.in_ok-send_all.ensures.written in
+    subst (λ x. ImageBetween e before (g.W.Write.contents c.send_all.new.writer) x c.loop-held.pending [])
     (ap (pixels_of n) (sym (append_assoc held rest more) ∙ ap (λ z. z ++ more) (sym c.push-then-len-gt0.ensures))) sent
 
 pub returns-in_err-left-2-clause-refused : goal.returns-in_err-left-2-clause-refused
@@ -86,7 +85,7 @@ returns-in_err-left-2-clause-refused g c =
           let ahead = pixels_ahead n c.loop-held.held c.loop-held.rest.now more c.split_at-2.result.0.now part _ c.requires.channels
           (omega (arith, c.len-2.ensures.count, c.if-len-gt0.false)) (omega arith) split.front split.back in
           r.1 e before (pixels_of n (part ++ more)) style
-          (subst (λ x. PendingBetween n e before (g.W.Write.contents c.loop-held.writer) x c.loop-held.pending (kept_bytes c.loop-held.piece)) ahead (i.written e before more style b)),
+          (subst (λ x. ImageBetween e before (g.W.Write.contents c.loop-held.writer) x c.loop-held.pending (kept_bytes c.loop-held.piece.piece)) ahead (i.written e before more style b)),
     )
 
 pub returns-in_err-send_all-2-clause-refused : goal.returns-in_err-send_all-2-clause-refused
@@ -103,8 +102,8 @@ returns-in_err-send_all-2-clause-refused g c =
           let ahead = pixels_ahead n c.loop-held.held c.loop-held.rest.now more c.split_at-2.result.0.now part _ c.requires.channels
           (omega (arith, c.len-2.ensures.count, c.if-len-gt0.false)) (omega arith) split.front split.back in
           let now = c.in_ok-left-2.ensures.written e before (pixels_of n (part ++ more)) style
-          (subst (λ x. PendingBetween n e before (g.W.Write.contents c.loop-held.writer) x c.loop-held.pending (kept_bytes c.loop-held.piece)) ahead (i.written e before more style b)) in
-          pending_part now c.requires.channels c.in_ok-left-2.ensures.opaque (g.W.Write.contents c.send_all-2.new.writer) r.1,
+          (subst (λ x. ImageBetween e before (g.W.Write.contents c.loop-held.writer) x c.loop-held.pending (kept_bytes c.loop-held.piece.piece)) ahead (i.written e before more style b)) in
+          image_part now (g.W.Write.contents c.send_all-2.new.writer) r.1,
     )
 
 pub returns-then-len-gt0-clause-count : goal.returns-then-len-gt0-clause-count
@@ -135,9 +134,9 @@ returns-clause-written g c = λ e before more style b.
     let none : length held ≡ 0 = omega (arith, c.len-2.ensures.count, c.if-len-gt0.false) in
     let ahead = pixels_ahead n held c.loop-held.rest.now more c.split_at-2.result.0.now part _ c.requires.channels none (omega arith) split.front split.back in
     let now = step.written e before (pixels_of n (part ++ more)) style
-    (subst (λ x. PendingBetween n e before (g.W.Write.contents c.loop-held.writer) x c.loop-held.pending (kept_bytes c.loop-held.piece)) ahead (i.written e before more style b)) in
-    let sent = pending_sent now (g.W.Write.contents c.send_all-2.new.writer) c.in_ok-send_all-2.ensures.written in
+    (subst (λ x. ImageBetween e before (g.W.Write.contents c.loop-held.writer) x c.loop-held.pending (kept_bytes c.loop-held.piece.piece)) ahead (i.written e before more style b)) in
+    let sent = image_emptied now (g.W.Write.contents c.send_all-2.new.writer) c.in_ok-send_all-2.ensures.written in
     let last : c.push-3.new.self ++ more ≡ left ++ (part ++ more) =
     ap (λ z. z ++ more) (c.push-3.ensures ∙ ap (λ z. z ++ part) (c.push-2.ensures ∙ ap (λ z. z ++ left) (none_held held none))) ∙ append_assoc left part more in
-    subst (λ x. PendingBetween n e before (g.W.Write.contents c.send_all-2.new.writer) x c.write_whole-2.new.pending [])
+    subst (λ x. ImageBetween e before (g.W.Write.contents c.send_all-2.new.writer) x c.write_whole-2.new.pending [])
     (sym (ap (pixels_of n) last ∙ whole_ahead n left (part ++ more) c.requires.channels step.whole)) sent

@@ -3,54 +3,57 @@ use Rattle.std.proofs.Common.{◌≡◌, ◌*◌, ◌<◌, ◌++◌, false, inl,
 use Rattle.std.proofs.lemmas.Bool.{true≢false, cases_lt}
 use Rattle.std.proofs.lemmas.Result.{err_from_is_err_and}
 use Rattle.qoi.specs.Raw.{pixels_of}
+use Rattle.qoi.specs.EncoderState.{EncoderState}
 use Rattle.qoi.specs.inner.CoderLoop.{CoderBetween}
 use Rattle.qoi.specs.inner.Piece.{kept_bytes}
+use Rattle.qoi.specs.inner.Pending.{ImageBetween}
 use Rattle.qoi.specs.inner.Pixels.{pixels_in}
-use Rattle.qoi.proofs.encoding.ImagePieces.{image_on, image_sent, image_part, same_coder, coder_of, pending_image, bytes_in, count_in, few_bytes, no_more_bytes}
+use Rattle.qoi.proofs.encoding.ImagePieces.{image_on, image_sent, image_part, bytes_in, count_in, few_bytes, no_more_bytes}
 use Rattle.qoi.proofs.encode.pixel_writer.write_whole.Given.{Over}
-use Rattle.qoi.proofs.encode.pixel_writer.write_whole.Goals.{After-has_block}
+use Rattle.qoi.proofs.encode.pixel_writer.write_whole.Goals.{After-has_block, After-write_some-filled}
 use Rattle.qoi.proofs.encode.pixel_writer.write_whole.Goals as goal
 
 pub loop-style-init : goal.loop-style-init
 loop-style-init g c =
     let p = c.args.pending.now in
     record {
-      end = c.requires.room;
       left = omega (arith, ap length c.new-rest.ensures);
-      few = p.few;
-      style = refl;
       last = refl;
       written = λ e before rest style b.
-          let coder = coder_of e.style p c.requires.channels c.requires.opaque in
-          image_on (pending_image b c.requires.channels c.requires.opaque) (λ ahead s. same_coder _ (sym style) refl refl refl
-          (subst (λ ps. CoderBetween ahead p.carry (ps ++ rest) p.table coder (kept_bytes c.args.piece)) (sym c.new-rest.ensures) s));
+          image_on b (λ ahead s. subst (λ last. CoderBetween e.style ahead (pixels_in c.new-rest.result ++ rest) p.table last (kept_bytes c.args.piece.piece)) (sym c.new-coder.ensures)
+          (subst (λ ps. CoderBetween e.style ahead (ps ++ rest) p.table p.last (kept_bytes c.args.piece.piece)) (sym c.new-rest.ensures) s));
     }
 
-pub returns-in_err-make_room-clause-refused : goal.returns-in_err-make_room-clause-refused
-returns-in_err-make_room-clause-refused g c =
+-- some is written
+wrote : (g : Over) (c : After-write_some-filled g) (e : EncoderState) (before : _) (rest : _) → e.style ≡ c.args.style
+    → ImageBetween e before (g.W.Write.contents c.args.writer.now) (pixels_of g.row.N c.args.data.now ++ rest) c.args.pending.now (kept_bytes c.args.piece.piece)
+    → ImageBetween e before (g.W.Write.contents c.loop-style.writer) (pixels_in c.write_some-filled.result.0 ++ rest)
+    (record { table = c.write_some-filled.new.table; last = c.write_some-filled.new.coder.last }) (kept_bytes c.write_some-filled.result.1)
+wrote g c e before rest style b =
+    image_on (c.loop-style.invariant.written e before rest style b) (λ ahead s.
+    subst (λ z. CoderBetween z ahead (pixels_in c.write_some-filled.result.0 ++ rest) c.write_some-filled.new.table c.write_some-filled.new.coder.last (kept_bytes c.write_some-filled.result.1)) (sym style)
+    (c.write_some-filled.ensures.written ahead rest
+    (subst (λ z. CoderBetween z ahead (pixels_in c.loop-style.rest ++ rest) c.loop-style.pending.table c.loop-style.coder.last (kept_bytes c.loop-style.piece.piece)) style s)))
+
+pub returns-in_err-piece-clause-refused : goal.returns-in_err-piece-clause-refused
+returns-in_err-piece-clause-refused g c =
     let e = err_from_is_err_and c.from_residual.result c.from_residual.ensures.1 in
-    let r = c.in_err-make_room.ensures.refused in
+    let r = c.in_err-piece.ensures.refused in
     rw (e.1, e.2) (
       r.0,
       λ e before rest style b.
-          image_part (c.loop-style.invariant.written e before rest style b) (g.W.Write.contents c.make_room.new.writer) r.1,
+          image_part (wrote g (goal.at.returns-in_err-piece-clause-refused g c).After-write_some-filled e before rest style b) (g.W.Write.contents c.make_room.new.writer) r.1,
     )
 
 pub loop-style-preserved : goal.loop-style-preserved
 loop-style-preserved g c =
-    let i = c.loop-style.invariant in
-    let sent = c.in_ok-make_room.ensures.written in
-    let step = c.write_some.ensures in
+    let sent = c.in_ok-piece.ensures.written in
     record {
-      end = step.end;
-      left = omega (arith, step.less, i.left);
-      few = step.few;
-      style = step.style;
-      last = i.last;
+      left = omega (arith, c.write_some-filled.ensures.less, c.loop-style.invariant.left);
+      last = c.loop-style.invariant.last;
       written = λ e before rest style b.
-          let now = i.written e before rest style b in
-          image_on (image_sent now (g.W.Write.contents c.make_room.new.writer) sent.0 (kept_bytes c.make_room.new.piece) sent.1 sent.2)
-          (λ ahead. step.written ahead rest);
+          image_sent (wrote g (goal.at.loop-style-preserved g c).After-write_some-filled e before rest style b) (g.W.Write.contents c.make_room.new.writer)
+          sent.0 (kept_bytes c.in_ok-piece.piece.piece) sent.1 sent.2;
     }
 
 -- fewer bytes than a block has are left
@@ -73,10 +76,3 @@ pub returns-clause-within : goal.returns-clause-within
 returns-clause-within g c =
     let raw = c.loop-style.rest in
     omega (arith, bytes_in raw, count_in g.row.N c.args.data.now raw.channels c.requires.whole, no_more_bytes g.row.N (length (pixels_in raw)) (length (pixels_of g.row.N c.args.data.now)) raw.channels c.loop-style.invariant.left)
-
-pub returns-clause-written : goal.returns-clause-written
-returns-clause-written g c = λ e before rest style b. record {
-  goes_on = λ coder r.
-      image_on (c.loop-style.invariant.written e before rest style b)
-      (λ ahead. same_coder coder (r.style_is ∙ style ∙ sym c.loop-style.invariant.style) r.last_is r.begun_is r.placed_is);
-}

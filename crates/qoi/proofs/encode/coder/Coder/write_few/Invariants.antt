@@ -2,7 +2,7 @@
 -- that were carried.
 use Rattle.std.proofs.Common.{◌≢◌, ℕ, List, [], ◌+◌, ◌*◌, ◌<◌, ◌≤◌, length}
 use Rattle.qoi.specs.declared.encode.piece.TheConstants.{RUNS_AT_ONCE}
-use Rattle.qoi.specs.Qoi.{chunk_max, run_max}
+use Rattle.qoi.specs.Qoi.{chunk_max}
 use Rattle.qoi.specs.inner.CoderLoop.{CoderBetween}
 use Rattle.qoi.specs.inner.Piece.{kept_bytes}
 use Rattle.qoi.specs.inner.Pixels.{pixels_in}
@@ -10,11 +10,10 @@ use Rattle.qoi.proofs.encode.coder.Coder.write_few.Given as goal
 
 abbrev pub invariant-loop-rest : goal.invariant-loop-rest
 invariant-loop-rest g l = record {
-  end : l.piece.end + chunk_max * length (pixels_in l.rest) ≤ l.initial.piece.end + (RUNS_AT_ONCE + 1) + chunk_max * length (pixels_in l.raw);
-  first : 0 < l.carry → pixels_in l.rest ≢ [] → l.piece.end + chunk_max * length (pixels_in l.rest) ≤ l.initial.piece.end + chunk_max * length (pixels_in l.raw);
-  carried : l.carry < run_max;
-  written : (ahead : List ℕ) → CoderBetween ahead l.initial.carry (pixels_in l.raw) l.initial.table l.initial.self (kept_bytes l.initial.piece)
-      → CoderBetween ahead l.carry (pixels_in l.rest) l.table l.self (kept_bytes l.piece);
+  end : l.piece.end + chunk_max * length (pixels_in l.rest) ≤ l.fn.piece.piece.end + (RUNS_AT_ONCE + 1) + chunk_max * length (pixels_in l.raw);
+  first : 0 < l.self.last.repeats → pixels_in l.rest ≢ [] → l.piece.end + chunk_max * length (pixels_in l.rest) ≤ l.fn.piece.piece.end + chunk_max * length (pixels_in l.raw);
+  written : (ahead : List ℕ) → CoderBetween l.fn.style ahead (pixels_in l.raw) l.fn.table l.fn.self.last (kept_bytes l.fn.piece.piece)
+      → CoderBetween l.fn.style ahead (pixels_in l.rest) l.table l.self.last (kept_bytes l.piece);
 }
 
 abbrev pub decreases-loop-rest : goal.decreases-loop-rest

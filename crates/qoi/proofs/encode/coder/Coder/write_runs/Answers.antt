@@ -11,73 +11,71 @@ use Rattle.qoi.proofs.encoding.CoderLink.{first_more, more_some, some_length}
 use Rattle.qoi.proofs.encoding.CoderSteps.{group_written, fulls_written}
 use Rattle.qoi.proofs.encoding.PixelsIn.{NearGroup, near_group, near_some}
 use Rattle.qoi.proofs.encode.coder.Coder.write_runs.Given.{Over}
-use Rattle.qoi.proofs.encode.coder.Coder.write_runs.Goals.{After-repeats_by_call-ahead, else-carry-eq0-via-then-carry-eq0+else-not-begin_with, else-carry-eq0-via-else-carry-eq0}
+use Rattle.qoi.proofs.encode.coder.Coder.write_runs.Goals.{After-repeats_by_call-ahead, else-carried-eq0-via-then-carried-eq0+else-not-begin_with, else-carried-eq0-via-else-carried-eq0}
 use Rattle.qoi.proofs.encode.coder.Coder.write_runs.Goals as goal
 
 -- the repeats stand ahead
-near : (g : Over) (c : After-repeats_by_call-ahead g) → NearGroup c.args.self.now.last (REPEATS_AT_ONCE - c.args.carry) (pixels_in c.args.raw) c.repeats_by_call-ahead.result
+near : (g : Over) (c : After-repeats_by_call-ahead g) → NearGroup c.args.self.now.last.px (REPEATS_AT_ONCE - c.args.self.now.last.repeats) (pixels_in c.args.raw) c.repeats_by_call-ahead.result
 near g c =
     let n = c.repeats_by_call-ahead.result in
-    near_group c.args.self.now.last (REPEATS_AT_ONCE - c.args.carry) n (pixels_in c.args.raw)
-    (subst (λ ps. IsCount c.args.self.now.last ps n) c.near.ensures c.repeats_by_call-ahead.ensures.counted)
+    near_group c.args.self.now.last.px (REPEATS_AT_ONCE - c.args.self.now.last.repeats) n (pixels_in c.args.raw)
+    (subst (λ ps. IsCount c.args.self.now.last.px ps n) c.near.ensures c.repeats_by_call-ahead.ensures.counted)
 
 -- if none is carried, there is one ahead
-some_come : (g : Over) (c : After-repeats_by_call-ahead g) → 0 < c.args.carry + c.repeats_by_call-ahead.result
-some_come g c = elim c.else-carry-eq0.branch [
-  | else-carry-eq0-via-then-carry-eq0+else-not-begin_with w ↦ (let first = w.begin_with.ensures.0 w.if-not-begin_with.false in
-      omega (arith, near_some c.args.self.now.last _ _ (pixels_in c.args.raw) (near g c) first (omega (arith, c.requires.few))))
-  | else-carry-eq0-via-else-carry-eq0 w ↦ omega (arith, w.if-carry-eq0.false)
+some_come : (g : Over) (c : After-repeats_by_call-ahead g) → 0 < c.args.self.now.last.repeats + c.repeats_by_call-ahead.result
+some_come g c = elim c.else-carried-eq0.branch [
+  | else-carried-eq0-via-then-carried-eq0+else-not-begin_with w ↦ (let first = w.begin_with.ensures.0 w.if-not-begin_with.false in
+      omega (arith, near_some c.args.self.now.last.px _ _ (pixels_in c.args.raw) (near g c) first (omega (arith, c.args.self.now.last.few))))
+  | else-carried-eq0-via-else-carried-eq0 w ↦ omega (arith, w.if-carried-eq0.false)
 ]
 
 pub keep_runs-requires : goal.keep_runs-requires
-keep_runs-requires g c = (omega arith, (c.requires.room, omega (arith, (near g (goal.at.keep_runs-requires g c).After-repeats_by_call-ahead).few, c.requires.few)))
+keep_runs-requires g c = (omega arith, (c.requires.room, omega (arith, (near g (goal.at.keep_runs-requires g c).After-repeats_by_call-ahead).few, c.args.self.now.last.few)))
 
 pub ends_after-requires : goal.ends_after-requires
 ends_after-requires g c = (omega arith, (near g (goal.at.ends_after-requires g c).After-repeats_by_call-ahead).within)
 
 pub returns-clause-end : goal.returns-clause-end
-returns-clause-end g c = omega (arith, c.keep_runs.ensures.end, (near g (goal.at.returns-clause-end g c).After-repeats_by_call-ahead).few, c.requires.few)
+returns-clause-end g c = omega (arith, c.keep_runs.ensures.end, (near g (goal.at.returns-clause-end g c).After-repeats_by_call-ahead).few, c.args.self.now.last.few)
 
 pub returns-clause-each : goal.returns-clause-each
 returns-clause-each g c = omega (arith, c.keep_runs.ensures.end, some_come g (goal.at.returns-clause-each g c).After-repeats_by_call-ahead)
 
-pub returns-clause-few : goal.returns-clause-few
-returns-clause-few g c = omega (arith, (near g (goal.at.returns-clause-few g c).After-repeats_by_call-ahead).few, c.requires.few)
-
 pub returns-clause-inside : goal.returns-clause-inside
 returns-clause-inside g c = (near g (goal.at.returns-clause-inside g c).After-repeats_by_call-ahead).within
 
-pub returns-clause-stops : goal.returns-clause-stops
-returns-clause-stops g c =
-    let group = near g (goal.at.returns-clause-stops g c).After-repeats_by_call-ahead in
-    elim group.ends [ inl other ↦ inl other | inr e ↦ inr (omega (arith, e, c.requires.few)) ]
+-- if the next pixel repeats, too, as many were counted as may be
+pub returns-clause-some : goal.returns-clause-some
+returns-clause-some g c = λ repeats.
+    (let group = near g (goal.at.returns-clause-some g c).After-repeats_by_call-ahead in
+    elim group.ends [ inl other ↦ absurd (other repeats) | inr full ↦ omega (arith, full, c.args.self.now.last.few) ])
 
 -- and so the pixels that follow
 ahead_is : (g : Over) (c : After-repeats_by_call-ahead g) (more : List RgbaPixel)
-    → pixels_in c.args.raw ++ more ≡ replicate c.repeats_by_call-ahead.result c.args.self.now.last ++ (drop c.repeats_by_call-ahead.result (pixels_in c.args.raw) ++ more)
-ahead_is g c more = ap (λ ps. ps ++ more) (near g c).same ∙ append_assoc (replicate c.repeats_by_call-ahead.result c.args.self.now.last) (drop c.repeats_by_call-ahead.result (pixels_in c.args.raw)) more
+    → pixels_in c.args.raw ++ more ≡ replicate c.repeats_by_call-ahead.result c.args.self.now.last.px ++ (drop c.repeats_by_call-ahead.result (pixels_in c.args.raw) ++ more)
+ahead_is g c more = ap (λ ps. ps ++ more) (near g c).same ∙ append_assoc (replicate c.repeats_by_call-ahead.result c.args.self.now.last.px) (drop c.repeats_by_call-ahead.result (pixels_in c.args.raw)) more
 
 pub returns-then-ends_after-clause-written : goal.returns-then-ends_after-clause-written
 returns-then-ends_after-clause-written g c all more b =
     let n = c.repeats_by_call-ahead.result in
-    let count = c.args.carry + n in
-    fulls_written b n (count / 62) (count % 62) (drop n (pixels_in c.args.raw) ++ more) (ahead_is g (goal.at.returns-then-ends_after-clause-written g c).After-repeats_by_call-ahead more)
-    (omega arith) c.keep_full_runs.ensures.kept c.update_after_repeats.ensures.same.1 c.update_after_repeats.ensures.state
+    let count = c.args.self.now.last.repeats + n in
+    fulls_written b n (count / 62) (drop n (pixels_in c.args.raw) ++ more) (ahead_is g (goal.at.returns-then-ends_after-clause-written g c).After-repeats_by_call-ahead more)
+    (omega (arith, c.update_after_repeats.ensures.left)) c.keep_full_runs.ensures.kept c.update_after_repeats.ensures.state
 
 pub returns-clause-written : goal.returns-clause-written
 returns-clause-written g c all more b =
     let n = c.repeats_by_call-ahead.result in
-    let k = c.args.carry in
-    let coder = c.args.self.now in
+    let last = c.args.self.now.last in
+    let count = last.repeats + n in
     let here = (goal.at.returns-clause-written g c).After-repeats_by_call-ahead in
     let group = near g here in
     let rest = drop n (pixels_in c.args.raw) in
     let later = rest ++ more in
     let some : rest ≢ [] = λ none. true≢false (sym (c.ends_after.ensures.1 none) ∙ c.if-ends_after.false) in
     let first : slice_get later 0 ≡ slice_get rest 0 = first_more rest more (some_length rest some) in
-    let full : n ≡ REPEATS_AT_ONCE - k → (k + n) % 62 ≡ 0 = λ e. omega (arith, e, c.requires.few) in
-    let ends : (slice_get later 0 ≢ Some coder.last) ⊎ ((k + n) % 62 ≡ 0) =
-    elim group.ends as (λ _. (slice_get later 0 ≢ Some coder.last) ⊎ ((k + n) % 62 ≡ 0)) [ inl other ↦ inl (λ e. other (sym first ∙ e)) | inr e ↦ inr (full e) ] in
-    let one = single coder (k + n) in
+    let full : n ≡ REPEATS_AT_ONCE - last.repeats → count % 62 ≡ 0 = λ e. omega (arith, e, last.few) in
+    let ends : (slice_get later 0 ≢ Some last.px) ⊎ (count % 62 ≡ 0) =
+    elim group.ends as (λ _. (slice_get later 0 ≢ Some last.px) ⊎ (count % 62 ≡ 0)) [ inl other ↦ inl (λ e. other (sym first ∙ e)) | inr e ↦ inr (full e) ] in
+    let one = single c.args.style last count in
     group_written b n later one (ahead_is g here more) ends (λ _. inr (more_some rest more some, refl))
-    (c.keep_runs.ensures.kept one c.single_repeat_byte.ensures) c.update_after_repeats-2.ensures.same.1 c.update_after_repeats-2.ensures.state
+    (c.keep_runs.ensures.kept one c.single_repeat_byte.ensures) c.update_after_repeats-2.ensures.left c.update_after_repeats-2.ensures.state

@@ -2,7 +2,7 @@
 use Rattle.std.proofs.Common.{◌≡◌, ◌+◌, ◌%◌, ◌++◌, [], length, refl, sym, ap, ◌∙◌, subst, arith, append-nil}
 use Rattle.qoi.specs.Qoi.{IsValid, channels_number, file}
 use Rattle.qoi.specs.Raw.{pixels_of, image_byte_count}
-use Rattle.qoi.specs.inner.Pending.{PendingBetween}
+use Rattle.qoi.specs.inner.Pending.{ImageBetween}
 use Rattle.qoi.proofs.FileOf.{file_of, sends_file}
 use Rattle.qoi.proofs.encode.pixel_writer.PixelWriter.finish.Goals as goal
 
@@ -20,8 +20,8 @@ returns-clause-sent g c = λ e before t.
     let none : p.left ≡ 0 = omega (arith, c.if-self-gt0.false) in
     let size : length e.raw ≡ image_byte_count e.header = omega (arith, t.size, none) in
     let last = t.writes [] (sym none) (λ i. omega arith) in
-    let same = subst (λ x. PendingBetween n (record e { raw = x }) before (g.W.Write.contents p.writer) (pixels_of n (p.held ++ [])) p.pending []) (append-nil e.raw) last in
-    let held = subst (λ x. PendingBetween n e before (g.W.Write.contents p.writer) (pixels_of n x) p.pending []) (append-nil p.held ∙ sym c.bytes.ensures) same in
+    let same = subst (λ x. ImageBetween (record e { raw = x }) before (g.W.Write.contents p.writer) (pixels_of n (p.held ++ [])) p.pending []) (append-nil e.raw) last in
+    let held = subst (λ x. ImageBetween e before (g.W.Write.contents p.writer) (pixels_of n x) p.pending []) (append-nil p.held ∙ sym c.bytes.ensures) same in
     let wrote = c.in_ok-write_any.ensures.written e before (sym t.style_is) held in
     let valid : IsValid e.header = subst IsValid t.header_is p.valid in
     let theirs = file_of e.header e.raw valid size e.style t.are wrote.0 wrote.1 in

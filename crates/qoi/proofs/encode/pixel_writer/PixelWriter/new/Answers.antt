@@ -7,8 +7,9 @@ use Rattle.qoi.specs.declared.types.Channels.TheVariants.{Rgb, Rgba}
 use Rattle.qoi.specs.declared.header.Header.{Header}
 use Rattle.qoi.specs.Qoi.{RgbaPixel, channels_number, header_bytes, pixel_count, start, IsValid}
 use Rattle.qoi.specs.Raw.{pixels_of, image_byte_count}
+use Rattle.qoi.specs.declared.encode.pending.Pending.{Pending}
 use Rattle.qoi.specs.EncoderState.{EncoderState}
-use Rattle.qoi.specs.inner.Pending.{PendingBetween}
+use Rattle.qoi.specs.inner.Pending.{ImageBetween}
 use Rattle.qoi.proofs.decoding.Promised.{capped_is}
 use Rattle.qoi.proofs.format.HeaderBytes.{tried_says}
 use Rattle.qoi.proofs.encoding.ImagePieces.{image_starts}
@@ -36,7 +37,7 @@ invariant_of-result g c =
       valid = valid;
       left_of = omega (arith, count);
       short = omega (arith, none, some_channels h.channels);
-      opaque = λ _. ap (λ (p : RgbaPixel). p.a) c.new-2.ensures.last;
+      opaque = λ _. ap (λ (p : RgbaPixel). p.a) c.start.ensures.px;
       whole = λ _. ap (λ k. k % channels_number h.channels) (let all : length c.new-3.result + c.n_bytes.result ≡ image_byte_count h = omega (arith, none, count) in all)
           ∙ mul-mod_left (pixel_count h) (channels_number h.channels);
     }
@@ -45,7 +46,6 @@ pub returns-clause-made : goal.returns-clause-made
 returns-clause-made g c =
     let h = c.in_ok-header.header in
     let said = says g (goal.at.returns-clause-made g c).After-new-3 in
-    let new = c.new-2.ensures in
     record {
       header_is = sym said.0;
       style_is = refl;
@@ -56,8 +56,9 @@ returns-clause-made g c =
           let e : EncoderState = record { raw = more; header = c.args.header; style = c.args.style } in
           let n = channels_number h.channels in
           let sent = subst (λ k. Appends (g.W.Write.contents c.args.writer) (g.W.Write.contents c.send_header.new.writer) (header_bytes k)) (sym said.0) c.in_ok-send_header.ensures.written in
-          let start = image_starts e (g.W.Write.contents c.args.writer) (g.W.Write.contents c.send_header.new.writer) c.new-2.result n
-          (ap (λ (k : Header). channels_number k.channels) (sym said.0)) are sent new.table new.last new.begun new.placed new.carry in
-          subst (λ x. PendingBetween n e (g.W.Write.contents c.args.writer) (g.W.Write.contents c.send_header.new.writer) (pixels_of n (x ++ more)) c.new-2.result [])
-          (sym c.new-3.ensures) start;
+          let pending : Pending = record { table = c.new-2.result; last = c.start.result } in
+          let start = image_starts e (g.W.Write.contents c.args.writer) (g.W.Write.contents c.send_header.new.writer) pending are sent
+          c.start.ensures.none (c.start.ensures.state c.args.style c.new-2.result c.new-2.ensures) in
+          subst (λ x. ImageBetween e (g.W.Write.contents c.args.writer) (g.W.Write.contents c.send_header.new.writer) (pixels_of n (x ++ more)) pending [])
+          (sym c.new-3.ensures) (subst (λ (k : Header). ImageBetween e (g.W.Write.contents c.args.writer) (g.W.Write.contents c.send_header.new.writer) (pixels_of (channels_number k.channels) more) pending []) said.0 start);
     }

@@ -3,7 +3,7 @@ use Rattle.std.proofs.Common.{◌≡◌, ◌++◌, [], inl, length, refl, sym, s
 use Rattle.std.proofs.lemmas.Result.{err_from_is_err_and}
 use Rattle.qoi.specs.Qoi.{IsValid, AreBytes, channels_number, file}
 use Rattle.qoi.specs.Raw.{pixels_of}
-use Rattle.qoi.specs.inner.Pending.{PendingBetween}
+use Rattle.qoi.specs.inner.Pending.{ImageBetween}
 use Rattle.qoi.proofs.FileOf.{file_of, sends_part}
 use Rattle.qoi.proofs.decoding.StreamReads.{bytes_append}
 use Rattle.qoi.proofs.encode.pixel_writer.PixelWriter.write.Goals as goal
@@ -23,7 +23,7 @@ returns-in_err-take_any-clause-refused g c = λ e before t.
         part = λ more size are.
             let all = record e { raw = (e.raw ++ raw) ++ more } in
             let left : length (raw ++ more) ≡ p.left = omega (arith, size, length-append (e.raw ++ raw) more, length-append e.raw raw, length-append raw more, t.size) in
-            let start = subst (λ x. PendingBetween n (record e { raw = x }) before (g.W.Write.contents p.writer) (pixels_of n (p.held ++ (raw ++ more))) p.pending [])
+            let start = subst (λ x. ImageBetween (record e { raw = x }) before (g.W.Write.contents p.writer) (pixels_of n (p.held ++ (raw ++ more))) p.pending [])
             (sym (append_assoc e.raw raw more)) (t.writes (raw ++ more) left (bytes_append raw more raw_are are)) in
             let began = r.1 all before more (sym t.style_is) start in
             let all_are = bytes_append (e.raw ++ raw) more (bytes_append e.raw raw t.are raw_are) are in
@@ -47,7 +47,7 @@ returns-clause-taken g c = λ e before t.
       are = bytes_append e.raw raw t.are raw_are;
       writes = λ more size are.
           let left : length (raw ++ more) ≡ p.left = omega (arith, size, length-append raw more, c.if-raw-self.false) in
-          let start = subst (λ x. PendingBetween n (record e { raw = x }) before (g.W.Write.contents p.writer) (pixels_of n (p.held ++ (raw ++ more))) p.pending [])
+          let start = subst (λ x. ImageBetween (record e { raw = x }) before (g.W.Write.contents p.writer) (pixels_of n (p.held ++ (raw ++ more))) p.pending [])
           (sym (append_assoc e.raw raw more)) (t.writes (raw ++ more) left (bytes_append raw more raw_are are)) in
           c.in_ok-take_any.ensures.written (record e { raw = (e.raw ++ raw) ++ more }) before more (sym t.style_is) start;
     }

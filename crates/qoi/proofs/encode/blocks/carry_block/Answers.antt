@@ -5,7 +5,7 @@ use Rattle.qoi.specs.inner.CarryLoop.{InBlocks}
 use Rattle.qoi.specs.inner.Pixels.{pixels_in}
 use Rattle.qoi.proofs.encoding.CarriedRuns.{block_carried}
 use Rattle.qoi.proofs.encoding.FrontBlock.{repeats_front}
-use Rattle.qoi.proofs.encode.coder.Coder.carry_block.Goals as goal
+use Rattle.qoi.proofs.encode.blocks.carry_block.Goals as goal
 
 pub returns-clause-written : goal.returns-clause-written
 returns-clause-written g c = λ style ahead n more table kept b.
