@@ -26,11 +26,17 @@ pub record HasTaken {W : Type 0} (contents : W → Option (List ℕ)) (e : Encod
       → ImageBetween (and_raw e more) before (contents p.writer)
       (pixels_of (channels_number p.header.channels) (p.held ++ more)) p.pending []
 
--- It failed: the writer has got a beginning of the file of each image whose raw bytes begin with
--- those of e.
+-- A beginning of the file of each image whose raw bytes begin with those of e was sent.
+abbrev pub SendsSome : EncoderState → Option (List ℕ) → Option (List ℕ) → Type 0
+SendsSome e before now = (more : List ℕ) → length (e.raw ++ more) ≡ image_byte_count e.header → AreBytes more → SendsPart (and_raw e more) before now
+
+-- The pixel writer was made with the style and header of e, over such a writer, and failed after it
+-- was given the raw bytes of e.
 pub record HasFailed {W : Type 0} (contents : W → Option (List ℕ)) (e : EncoderState) (before : Option (List ℕ)) (p : PixelWriter W) : Type 0 where
+  pub header_is : p.header ≡ e.header
+  pub style_is : p.style ≡ e.style
   pub fails : p.failed ≡ true
-  pub part : (more : List ℕ) → length (e.raw ++ more) ≡ image_byte_count e.header → AreBytes more → SendsPart (and_raw e more) before (contents p.writer)
+  pub part : SendsSome e before (contents p.writer)
 
 -- The error of a pixel writer that had taken the raw bytes of e, and was given others.
 abbrev pub HasRefused : {W : Type 0} → (W → Option (List ℕ)) → EncoderState → List ℕ → Option (List ℕ) → PixelWriter W → Error → Type 0

@@ -29,6 +29,7 @@ mod lanes;
 mod last;
 mod named;
 mod packing;
+mod parts;
 mod pending;
 pub(crate) mod piece;
 mod pixel_writer;

@@ -1,29 +1,23 @@
 //! Encoding of one image whose raw bytes come piece by piece.
-ghost use Rattle.std.specs.Prelude.{◌≡◌, ℕ, ◌+◌, ◌-◌, ◌*◌, ◌%◌, ◌<◌, ◌≤◌, List, [], ◌++◌, Option, length, ◌⊎◌, IfOk, IfErr, OnOk, false};
+ghost use Rattle.std.specs.Prelude.{◌≡◌, ℕ, ◌+◌, ◌*◌, ◌%◌, ◌<◌, ◌≤◌, List, [], Option, length, ◌⊎◌, Err, IfOk, IfErr, IsErrAnd, OnOk, false};
 ghost use Rattle.std.specs.Io.KnownBytes.{Appends};
-ghost use Rattle.qoi.specs.declared.encode.piece.TheConstants.{PAST, FULL_ROOM};
+ghost use Rattle.qoi.specs.declared.encode.piece.TheConstants.{FULL_ROOM};
 ghost use Rattle.qoi.specs.declared.error.Error.{Error};
 ghost use Rattle.qoi.specs.declared.types.Channels.{Channels};
-ghost use Rattle.qoi.specs.Qoi.{RgbaPixel, IsValid, channels_number, header_bytes, end_marker};
-ghost use Rattle.qoi.specs.Raw.{IsChannels, pixels_of, image_byte_count};
+ghost use Rattle.qoi.specs.Qoi.{IsValid, channels_number, header_bytes, tried_header};
+ghost use Rattle.qoi.specs.Raw.{image_byte_count};
 ghost use Rattle.qoi.specs.EncoderState.{EncoderState};
 ghost use Rattle.qoi.specs.Errors.{IsIoError};
-ghost use Rattle.qoi.specs.writers.Writes.{AppendsBeginning};
-ghost use Rattle.qoi.specs.inner.Piece.{kept_bytes};
-ghost use Rattle.qoi.specs.inner.Pending.{ImageBetween, BeganFile, WroteFile};
 
 use crate::consts::QOI_HEADER_SIZE;
-use crate::encode::blocks::write_some;
-use crate::encode::coder::Coder;
 use crate::encode::last::LastPixel;
+use crate::encode::parts::{take_any, write_any};
 use crate::encode::pending::{Held, Pending};
-use crate::encode::piece::{FULL_ROOM, OpenPiece, Piece, TINY_ROOM};
-use crate::encode::pixels::Pixels;
+use crate::encode::piece::FULL_ROOM;
 use crate::encode::table::PixelTable;
 use crate::error::{Error, Result};
 use crate::header::Header;
-use crate::types::Channels::{self, Rgb, Rgba};
-use crate::types::Style::{self, Places, Reference, Tight};
+use crate::types::Style;
 use crate::writers::{GenericWriter, Writer};
 use std::alloc::Global;
 use std::io;
@@ -38,260 +32,6 @@ fn send_header<W: Write>(writer: &mut W, header: &Header) -> Result<()>
     let mut writer = GenericWriter::new(writer);
     writer.write_many(&header.encode()[..QOI_HEADER_SIZE])?;
     Ok(())
-}
-
-// Sends a full piece to a writer of the standard library, if there is one, and returns the bytes
-// after it.
-#[inline(always)]
-fn make_room<'p, W: Write, const ROOM: usize>(
-    writer: &mut W,
-    piece: Piece<'p, ROOM>,
-) -> Result<OpenPiece<'p, ROOM>>
-    ensures written { IfOk result (λ p. (gone : List ℕ)
-        × (kept_bytes piece.entry ≡ gone ++ kept_bytes p.piece)
-        × Appends (W.contents writer.old) (W.contents writer.new) gone) }
-    ensures refused { IfErr result (λ e. IsIoError e × AppendsBeginning
-        (W.contents writer.old) (W.contents writer.new) (kept_bytes piece.entry)) }
-{
-    let mut writer = GenericWriter::new(writer);
-    let piece = piece.make_room(&mut writer)?;
-    Ok(piece)
-}
-
-// Sends what a piece keeps to a writer of the standard library.
-#[inline(never)]
-fn send_all<W: Write, const ROOM: usize>(writer: &mut W, piece: &mut Piece<ROOM>) -> Result<()>
-    ensures written { OnOk result
-        (Appends (W.contents writer.old) (W.contents writer.new) (kept_bytes piece.old)) }
-    ensures refused { IfErr result (λ e. IsIoError e × AppendsBeginning
-        (W.contents writer.old) (W.contents writer.new) (kept_bytes piece.old)) }
-{
-    let mut writer = GenericWriter::new(writer);
-    piece.flush(&mut writer)?;
-    Ok(())
-}
-
-// Sends what a piece keeps, and then the end marker.
-fn send_last<W: Write, const ROOM: usize>(writer: &mut W, piece: &mut Piece<ROOM>) -> Result<()>
-    ensures written { OnOk result (Appends (W.contents writer.old) (W.contents writer.new)
-        (kept_bytes piece.old ++ end_marker)) }
-    ensures refused { IfErr result (λ e. IsIoError e × AppendsBeginning
-        (W.contents writer.old) (W.contents writer.new) (kept_bytes piece.old ++ end_marker)) }
-{
-    let mut writer = GenericWriter::new(writer);
-    piece.finish(&mut writer)?;
-    Ok(())
-}
-
-// Writes whole pixels, but for fewer than a block has at their end. Returns those, and the piece.
-#[inline(never)]
-fn write_whole<'a, 'p, W: Write, const N: usize, const STYLE: u8, const ROOM: usize>(
-    writer: &mut W,
-    style: Style,
-    pending: &mut Pending,
-    piece: OpenPiece<'p, ROOM>,
-    data: &'a [u8],
-) -> Result<(&'a [u8], OpenPiece<'p, ROOM>)>
-    requires channels { IsChannels N }
-    requires whole { length «data».now % N ≡ 0 }
-    requires opaque { N ≡ 3 → pending.old.last.px.a ≡ 255 }
-    ensures few { IfOk result (λ r. length r.0.now < 16 * N) }
-    ensures within { IfOk result (λ r. length r.0.now ≤ length «data».entry.now) }
-    ensures less { IfOk result (λ r. 16 * N ≤ length «data».entry.now
-        → length r.0.now < length «data».entry.now) }
-    ensures whole { IfOk result (λ r. length r.0.now % N ≡ 0) }
-    ensures opaque { N ≡ 3 → pending.new.last.px.a ≡ 255 }
-    ensures written { (e : EncoderState) (before : Option (List ℕ)) (rest : List RgbaPixel)
-        → e.style ≡ style
-        → ImageBetween e before (W.contents writer.old) (pixels_of N «data».entry.now ++ rest)
-        pending.old (kept_bytes piece.entry.piece)
-        → IfOk result (λ r. ImageBetween e before (W.contents writer.new)
-        (pixels_of N r.0.now ++ rest) pending.new (kept_bytes r.1.piece)) }
-    ensures refused { IfErr result (λ error. IsIoError error
-        × ((e : EncoderState) (before : Option (List ℕ)) (rest : List RgbaPixel)
-        → e.style ≡ style
-        → ImageBetween e before (W.contents writer.old) (pixels_of N «data».entry.now ++ rest)
-        pending.old (kept_bytes piece.entry.piece)
-        → BeganFile e before (W.contents writer.new))) }
-{
-    let mut coder = Coder::<N>::new(pending.last);
-    let mut piece = piece;
-    let mut rest = Pixels::<N>::new(data);
-    while rest.has_block() {
-        let (after, filled) = write_some::<N, STYLE, ROOM>(
-            &mut coder,
-            style,
-            &mut pending.table,
-            piece,
-            rest,
-        );
-        rest = after;
-        piece = make_room(writer, filled)?;
-    }
-    pending.last = coder.last;
-    Ok((rest.bytes, piece))
-}
-
-// Takes raw bytes: writes what comes before the last pixels, fewer than a block has, and holds
-// those.
-fn take_raw<W: Write, const N: usize, const STYLE: u8, const ROOM: usize>(
-    writer: &mut W,
-    style: Style,
-    pending: &mut Pending,
-    held: &mut Held,
-    room: &mut [u8],
-    raw: &[u8],
-) -> Result<()>
-    requires channels { IsChannels N }
-    requires opaque { N ≡ 3 → pending.old.last.px.a ≡ 255 }
-    requires short { length held.old < 16 * N }
-    requires piece { 2 * PAST ≤ ROOM }
-    requires room { length room.old ≡ ROOM }
-    ensures opaque { N ≡ 3 → pending.new.last.px.a ≡ 255 }
-    ensures short { length held.new < 16 * N }
-    ensures count { OnOk result
-        (length held.new % N ≡ (length held.old + length raw.now) % N) }
-    ensures written { (e : EncoderState) (before : Option (List ℕ)) (more : List ℕ)
-        → e.style ≡ style
-        → ImageBetween e before (W.contents writer.old)
-        (pixels_of N (held.old ++ (raw.now ++ more))) pending.old []
-        → OnOk result (ImageBetween e before (W.contents writer.new)
-        (pixels_of N (held.new ++ more)) pending.new []) }
-    ensures refused { IfErr result (λ error. IsIoError error
-        × ((e : EncoderState) (before : Option (List ℕ)) (more : List ℕ)
-        → e.style ≡ style
-        → ImageBetween e before (W.contents writer.old)
-        (pixels_of N (held.old ++ (raw.now ++ more))) pending.old []
-        → BeganFile e before (W.contents writer.new))) }
-{
-    if held.len() + raw.len() < 16 * N {
-        held.push(raw);
-        return Ok(());
-    }
-    let mut piece = Piece::<ROOM>::new(room).open();
-    let mut rest = raw;
-    while held.len() > 0 && held.len() + rest.len() >= 16 * N {
-        let (front, after) = rest.split_at(16 * N - held.len());
-        held.push(front);
-        rest = after;
-        let block = held.block();
-        held.replace(&[]);
-        let (left, now) = write_whole::<W, N, STYLE, ROOM>(
-            writer,
-            style,
-            pending,
-            piece,
-            &block[..16 * N],
-        )?;
-        piece = now;
-        held.replace(left);
-    }
-    if held.len() > 0 {
-        held.push(rest);
-        send_all(writer, &mut piece.piece)?;
-        return Ok(());
-    }
-    let (pixels, part) = rest.split_at(rest.len() - rest.len() % N);
-    let (left, mut piece) = write_whole::<W, N, STYLE, ROOM>(
-        writer, style, pending, piece, pixels,
-    )?;
-    held.push(left);
-    held.push(part);
-    send_all(writer, &mut piece.piece)?;
-    Ok(())
-}
-
-// Writes the last pixels and the end marker.
-fn write_last<W: Write, const N: usize>(
-    writer: &mut W,
-    style: Style,
-    pending: &mut Pending,
-    held: &[u8],
-) -> Result<()>
-    requires channels { IsChannels N }
-    requires opaque { N ≡ 3 → pending.old.last.px.a ≡ 255 }
-    requires whole { length held.now % N ≡ 0 }
-    requires short { length held.now < 16 * N }
-    ensures written { (e : EncoderState) (before : Option (List ℕ)) → e.style ≡ style
-        → ImageBetween e before (W.contents writer.old) (pixels_of N held.now) pending.old []
-        → OnOk result (WroteFile e before (W.contents writer.new)) }
-    ensures refused { IfErr result IsIoError }
-{
-    let mut room = [0; TINY_ROOM];
-    let piece = Piece::<TINY_ROOM>::new(&mut room).open();
-    let mut coder = Coder::<N>::new(pending.last);
-    let mut piece = coder.write_few(style, &mut pending.table, piece, Pixels::<N>::new(held));
-    send_last(writer, &mut piece)?;
-    Ok(())
-}
-
-// `take_raw` for these channels and this style.
-fn take_any<W: Write>(
-    writer: &mut W,
-    channels: Channels,
-    style: Style,
-    pending: &mut Pending,
-    held: &mut Held,
-    room: &mut [u8],
-    raw: &[u8],
-) -> Result<()>
-    requires room { length room.old ≡ FULL_ROOM }
-    requires opaque { channels_number channels ≡ 3 → pending.old.last.px.a ≡ 255 }
-    requires short { length held.old < 16 * channels_number channels }
-    ensures opaque { channels_number channels ≡ 3 → pending.new.last.px.a ≡ 255 }
-    ensures short { length held.new < 16 * channels_number channels }
-    ensures count { OnOk result (length held.new % channels_number channels
-        ≡ (length held.old + length raw.now) % channels_number channels) }
-    ensures written { (e : EncoderState) (before : Option (List ℕ)) (more : List ℕ)
-        → e.style ≡ style
-        → ImageBetween e before (W.contents writer.old)
-        (pixels_of (channels_number channels) (held.old ++ (raw.now ++ more))) pending.old []
-        → OnOk result (ImageBetween e before (W.contents writer.new)
-        (pixels_of (channels_number channels) (held.new ++ more)) pending.new []) }
-    ensures refused { IfErr result (λ error. IsIoError error
-        × ((e : EncoderState) (before : Option (List ℕ)) (more : List ℕ)
-        → e.style ≡ style
-        → ImageBetween e before (W.contents writer.old)
-        (pixels_of (channels_number channels) (held.old ++ (raw.now ++ more))) pending.old []
-        → BeganFile e before (W.contents writer.new))) }
-{
-    // The numbers of styles are those of the calls that take a whole image, so that both share the
-    // coder's loops.
-    match (channels, style) {
-        (Rgb, Reference) => take_raw::<W, 3, 0, FULL_ROOM>(
-            writer, Reference, pending, held, room, raw,
-        ),
-        (Rgb, Places) => take_raw::<W, 3, 1, FULL_ROOM>(writer, Places, pending, held, room, raw),
-        (Rgb, Tight) => take_raw::<W, 3, 2, FULL_ROOM>(writer, Tight, pending, held, room, raw),
-        (Rgba, Reference) => take_raw::<W, 4, 0, FULL_ROOM>(
-            writer, Reference, pending, held, room, raw,
-        ),
-        (Rgba, Places) => take_raw::<W, 4, 1, FULL_ROOM>(writer, Places, pending, held, room, raw),
-        (Rgba, Tight) => take_raw::<W, 4, 2, FULL_ROOM>(writer, Tight, pending, held, room, raw),
-    }
-}
-
-// `write_last` for these channels.
-fn write_any<W: Write>(
-    writer: &mut W,
-    channels: Channels,
-    style: Style,
-    pending: &mut Pending,
-    held: &[u8],
-) -> Result<()>
-    requires opaque { channels_number channels ≡ 3 → pending.old.last.px.a ≡ 255 }
-    requires whole { length held.now % channels_number channels ≡ 0 }
-    requires short { length held.now < 16 * channels_number channels }
-    ensures written { (e : EncoderState) (before : Option (List ℕ)) → e.style ≡ style
-        → ImageBetween e before (W.contents writer.old)
-        (pixels_of (channels_number channels) held.now) pending.old []
-        → OnOk result (WroteFile e before (W.contents writer.new)) }
-    ensures refused { IfErr result IsIoError }
-{
-    match channels {
-        Rgb => write_last::<W, 3>(writer, style, pending, held),
-        Rgba => write_last::<W, 4>(writer, style, pending, held),
-    }
 }
 
 /// Writes the file of one image, whose raw bytes come piece by piece: that of `Encoder` for all of
@@ -315,19 +55,21 @@ pub struct PixelWriter<W> {
 }
 
 impl<W: Write + Drop> PixelWriter<W> {
+    ghost use Rattle.qoi.specs.Encoded.{image_file};
     ghost use Rattle.qoi.specs.Sent.{SendsFile};
-    ghost use Rattle.qoi.specs.PixelWriter.{HasTaken, HasRefused, and_raw};
+    ghost use Rattle.qoi.specs.PixelWriter.{HasTaken, HasFailed, HasRefused, SendsSome, and_raw};
 
     /// Sends the header of the image to the writer.
     ///
-    /// `InvalidImageDimensions` if width times height is 0 or above 400,000,000; `OutOfMemory` if an
-    /// allocation of some 4 KiB fails, the only one; `IoError` as in `Encoder::encode_to_stream`.
+    /// `InvalidImageDimensions` if width times height is 0 or above 400,000,000; `OutOfMemory` if the
+    /// only allocation fails, of some 4 KiB; `IoError` as in `Encoder::encode_to_stream`. The writer
+    /// is then dropped.
     pub fn new(alloc: Global, header: Header, style: Style, writer: W) -> Result<PixelWriter<W>>
         ensures made { IfOk result (HasTaken W.contents
             (record { raw = []; header = header; style = style }) (W.contents writer)) }
-        ensures refused { IfErr result (λ e. IsIoError e
-            ⊎ (e ≡ Error.InvalidImageDimensions header.width header.height)
-            ⊎ (e ≡ Error.OutOfMemory)) }
+        ensures refused { IfErr result (λ e.
+            (tried_header header.width header.height header.channels header.colorspace ≡ Err e)
+            ⊎ (IsValid header × (IsIoError e ⊎ (e ≡ Error.OutOfMemory)))) }
     {
         let header = Header::try_new(
             header.width,
@@ -353,19 +95,52 @@ impl<W: Write + Drop> PixelWriter<W> {
         })
     }
 
+    /// The header that was sent.
+    pub fn header(&self) -> &Header
+        ensures { (e : EncoderState) (before : Option (List ℕ))
+            → HasTaken W.contents e before self.now ⊎ HasFailed W.contents e before self.now
+            → result.now ≡ e.header }
+    {
+        &self.header
+    }
+
+    /// The style of the file.
+    pub fn style(&self) -> Style
+        ensures { (e : EncoderState) (before : Option (List ℕ))
+            → HasTaken W.contents e before self.now ⊎ HasFailed W.contents e before self.now
+            → result ≡ e.style }
+    {
+        self.style
+    }
+
+    /// How many raw bytes of the image don't come yet.
+    pub fn left(&self) -> usize
+        ensures { (e : EncoderState) (before : Option (List ℕ))
+            → HasTaken W.contents e before self.now
+            → length e.raw + result ≡ image_byte_count e.header }
+    {
+        self.left
+    }
+
     /// Takes the next raw bytes, any number of them, and sends the chunks of all pixels that came
-    /// but for fewer than sixteen, and but for repeats whose run may go on.
+    /// but for fewer than sixteen, and but for repeats whose run may go on. It doesn't flush.
     ///
     /// `InvalidImageLength`, with the number of all bytes that came, if there are more than the image
     /// has; then none of them is taken. `IoError` if the writer reports a fault or takes no byte;
-    /// then each further call refuses with an `IoError`.
+    /// then a beginning of the file was sent, and each further call refuses with an `IoError`.
     pub fn write(&mut self, raw: &[u8]) -> Result<()>
+        // A success: these raw bytes came, too.
         ensures taken { (e : EncoderState) (before : Option (List ℕ))
             → HasTaken W.contents e before self.old
             → OnOk result (HasTaken W.contents (and_raw e raw.now) before self.new) }
+
+        // The refusals: a fault, or too many bytes; and any call after a fault.
         ensures refused { (e : EncoderState) (before : Option (List ℕ))
             → HasTaken W.contents e before self.old
             → IfErr result (HasRefused W.contents e raw.now before self.new) }
+        ensures spent { (e : EncoderState) (before : Option (List ℕ))
+            → HasFailed W.contents e before self.old
+            → IsErrAnd result IsIoError × HasFailed W.contents e before self.new }
     {
         if self.failed {
             return Err(failed_before());
@@ -400,16 +175,24 @@ impl<W: Write + Drop> PixelWriter<W> {
     /// Sends the rest of the file, and gives the writer back.
     ///
     /// `InvalidImageLength`, with the number of bytes that came, if some are missing; `IoError` as
-    /// in `write`. The writer is then dropped.
+    /// in `write`. The writer is then dropped: if `left` isn't 0, `into_writer` gives it back.
     pub fn finish(self) -> Result<W>
+        // A success: all raw bytes came, and the file was sent, which `file` says as a function.
         ensures sent { (e : EncoderState) (before : Option (List ℕ))
             → HasTaken W.contents e before self
             → IfOk result (λ w. (n : ℕ) × SendsFile e before (W.contents w) n) }
+        ensures file { (e : EncoderState) (before : Option (List ℕ))
+            → HasTaken W.contents e before self → IfOk result (λ w.
+            Appends before (W.contents w) (image_file e.style e.header e.raw)) }
+
+        // The refusals: a fault, or too few bytes; and after a fault any call.
         ensures refused { (e : EncoderState) (before : Option (List ℕ))
             → HasTaken W.contents e before self
             → IfErr result (λ error. IsIoError error
             ⊎ ((error ≡ Error.InvalidImageLength (length e.raw) e.header.width e.header.height)
             × (length e.raw < image_byte_count e.header))) }
+        ensures spent { (e : EncoderState) (before : Option (List ℕ))
+            → HasFailed W.contents e before self → IsErrAnd result IsIoError }
     {
         if self.failed {
             return Err(failed_before());
@@ -435,6 +218,15 @@ impl<W: Write + Drop> PixelWriter<W> {
         )?;
         Ok(writer)
     }
+
+    /// The writer as it stands: with a beginning of the file behind what it had.
+    pub fn into_writer(self) -> W
+        ensures { (e : EncoderState) (before : Option (List ℕ))
+            → HasTaken W.contents e before self ⊎ HasFailed W.contents e before self
+            → SendsSome e before (W.contents result) }
+    {
+        self.writer
+    }
 }
 
 // The refusal of so many raw bytes.
@@ -452,5 +244,5 @@ fn wrong_length(header: &Header, size: usize) -> Error
 fn failed_before() -> Error
     ensures { IsIoError result }
 {
-    Error::IoError(io::Error::new(ErrorKind::BrokenPipe, "an earlier write failed"))
+    Error::IoError(io::Error::from(ErrorKind::BrokenPipe))
 }

@@ -1,5 +1,6 @@
 -- All raw bytes came.
 use Rattle.std.proofs.Common.{◌≡◌, ◌+◌, ◌%◌, ◌++◌, [], length, refl, sym, ap, ◌∙◌, subst, arith, append-nil}
+use Rattle.std.specs.Io.KnownBytes.{Appends}
 use Rattle.qoi.specs.Qoi.{IsValid, channels_number, file}
 use Rattle.qoi.specs.Raw.{pixels_of, image_byte_count}
 use Rattle.qoi.specs.inner.Pending.{ImageBetween}
@@ -26,3 +27,8 @@ returns-clause-sent g c = λ e before t.
     let valid : IsValid e.header = subst IsValid t.header_is p.valid in
     let theirs = file_of e.header e.raw valid size e.style t.are wrote.0 wrote.1 in
     (length (file e.header wrote.0), sends_file e (file e.header wrote.0) before (g.W.Write.contents c.write_any.new.writer) _ theirs refl wrote.2)
+
+pub returns-clause-file : goal.returns-clause-file
+returns-clause-file g c = λ e before t.
+    let sent = returns-clause-sent g c e before t in
+    subst (Appends before (g.W.Write.contents c.write_any.new.writer)) sent.1.is sent.1.sent

@@ -19,6 +19,8 @@ returns-in_err-take_any-clause-refused g c = λ e before t.
     rw (err.1, err.2) (inl (
       r.0,
       record {
+        header_is = t.header_is;
+        style_is = t.style_is;
         fails = refl;
         part = λ more size are.
             let all = record e { raw = (e.raw ++ raw) ++ more } in

@@ -9,9 +9,9 @@ use Rattle.qoi.specs.inner.Piece.{kept_bytes}
 use Rattle.qoi.specs.inner.Pending.{ImageBetween}
 use Rattle.qoi.specs.inner.Pixels.{pixels_in}
 use Rattle.qoi.proofs.encoding.ImagePieces.{image_on, image_sent, image_part, bytes_in, count_in, few_bytes, no_more_bytes}
-use Rattle.qoi.proofs.encode.pixel_writer.write_whole.Given.{Over}
-use Rattle.qoi.proofs.encode.pixel_writer.write_whole.Goals.{After-has_block, After-write_some-filled}
-use Rattle.qoi.proofs.encode.pixel_writer.write_whole.Goals as goal
+use Rattle.qoi.proofs.encode.parts.write_whole.Given.{Over}
+use Rattle.qoi.proofs.encode.parts.write_whole.Goals.{After-has_block, After-write_some-filled}
+use Rattle.qoi.proofs.encode.parts.write_whole.Goals as goal
 
 pub loop-style-init : goal.loop-style-init
 loop-style-init g c =

@@ -3,7 +3,7 @@ use Rattle.std.proofs.Common.{rules}
 use Rattle.std.proofs.lemmas.Result.{err_from_is_err_and}
 use Rattle.qoi.specs.writers.GenericWriter.{stream_writer}
 use Rattle.qoi.proofs.encoding.StreamSent.{appends_as}
-use Rattle.qoi.proofs.encode.pixel_writer.make_room.Goals as goal
+use Rattle.qoi.proofs.encode.parts.make_room.Goals as goal
 
 pub returns-in_err-piece-clause-refused : goal.returns-in_err-piece-clause-refused
 returns-in_err-piece-clause-refused g c =

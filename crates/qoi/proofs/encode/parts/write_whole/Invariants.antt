@@ -6,7 +6,7 @@ use Rattle.qoi.specs.EncoderState.{EncoderState}
 use Rattle.qoi.specs.inner.Piece.{kept_bytes}
 use Rattle.qoi.specs.inner.Pending.{ImageBetween}
 use Rattle.qoi.specs.inner.Pixels.{pixels_in}
-use Rattle.qoi.proofs.encode.pixel_writer.write_whole.Given as goal
+use Rattle.qoi.proofs.encode.parts.write_whole.Given as goal
 
 abbrev pub invariant-loop-style : goal.invariant-loop-style
 invariant-loop-style g l = record {

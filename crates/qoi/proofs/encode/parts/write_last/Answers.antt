@@ -5,7 +5,7 @@ use Rattle.qoi.specs.inner.Piece.{kept_bytes}
 use Rattle.qoi.specs.inner.Pixels.{pixels_in}
 use Rattle.qoi.specs.Raw.{pixels_of}
 use Rattle.qoi.proofs.encoding.ImagePieces.{image_ends, few_pixels}
-use Rattle.qoi.proofs.encode.pixel_writer.write_last.Goals as goal
+use Rattle.qoi.proofs.encode.parts.write_last.Goals as goal
 
 pub write_few-piece-requires : goal.write_few-piece-requires
 write_few-piece-requires g c =

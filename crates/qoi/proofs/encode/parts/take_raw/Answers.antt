@@ -5,7 +5,7 @@ use Rattle.qoi.specs.Raw.{pixels_of}
 use Rattle.qoi.specs.inner.Piece.{kept_bytes}
 use Rattle.qoi.specs.inner.Pending.{ImageBetween}
 use Rattle.qoi.proofs.encoding.ImagePieces.{count_on, count_part, block_ahead, pixels_ahead, none_held, whole_ahead, image_part, image_emptied}
-use Rattle.qoi.proofs.encode.pixel_writer.take_raw.Goals as goal
+use Rattle.qoi.proofs.encode.parts.take_raw.Goals as goal
 
 pub returns-in_err-left-clause-refused : goal.returns-in_err-left-clause-refused
 returns-in_err-left-clause-refused g c =

@@ -4,7 +4,7 @@ use Rattle.qoi.specs.Raw.{pixels_of}
 use Rattle.qoi.specs.EncoderState.{EncoderState}
 use Rattle.qoi.specs.inner.Piece.{kept_bytes}
 use Rattle.qoi.specs.inner.Pending.{ImageBetween}
-use Rattle.qoi.proofs.encode.pixel_writer.take_raw.Given as goal
+use Rattle.qoi.proofs.encode.parts.take_raw.Given as goal
 
 abbrev pub invariant-loop-held : goal.invariant-loop-held
 invariant-loop-held g l = record {
