@@ -8,11 +8,12 @@ pub mod GroupRuns
 pub mod NotedPixels
 pub mod PieceByPiece
 pub mod PieceSent
+pub mod PixelsIn
 pub mod PixelBlock
 pub mod PlacedLists
 pub mod Spelled
 pub mod RunBytes
-pub mod StillToWrite
+pub mod ListAhead
 pub mod StreamSent
 pub mod StyledGroup
 pub mod StyleLists
@@ -35,6 +36,7 @@ pub mod FourChunks
 pub mod FourFours
 pub mod FrontBlock
 pub mod FourOrders
+pub mod ImagePieces
 pub mod LaneBits
 pub mod LaneChunk
 pub mod LaneMasks

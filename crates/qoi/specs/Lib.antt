@@ -23,6 +23,7 @@ pub mod WrittenList
 pub mod Encoded
 pub mod EncoderState
 pub mod Sent
+pub mod PixelWriter
 pub mod Tiles
 -- Errors and their texts.
 pub mod Errors

@@ -7,6 +7,7 @@ pub mod Filling
 pub mod FreshPixel
 pub mod Hashed
 pub mod Packed
+pub mod Pending
 pub mod Piece
 pub mod Pieces
 pub mod Steps
@@ -22,6 +23,7 @@ pub mod Counts
 pub mod Each
 pub mod Fours
 pub mod LaneVectors
+pub mod Pixels
 pub mod Planes
 pub mod Spelling
 pub mod Stands

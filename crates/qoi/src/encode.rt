@@ -16,6 +16,8 @@ ghost use Rattle.qoi.specs.Sent.{IsFileFor, MakesFile, PutsFile, SendsFile, Send
 ghost use Rattle.qoi.specs.writers.Writes.{WroteBeginning};
 
 mod block;
+mod blocks;
+mod carry;
 mod changes;
 mod chunks;
 mod coder;
@@ -24,9 +26,14 @@ mod each;
 mod fours;
 pub(crate) mod fresh;
 mod lanes;
+mod last;
 mod named;
 mod packing;
+mod parts;
+mod pending;
 pub(crate) mod piece;
+mod pixel_writer;
+mod pixels;
 mod planes;
 pub(crate) mod runs;
 mod spelling;
@@ -34,9 +41,10 @@ mod stands;
 mod stores;
 mod table;
 
-use crate::consts::{QOI_HEADER_SIZE, QOI_PADDING};
+use crate::consts::QOI_HEADER_SIZE;
 use crate::encode::chunks::encode_chunks;
 use crate::encode::piece::{FULL_ROOM, Piece, SMALL_ROOM, TINY_ROOM};
+pub use crate::encode::pixel_writer::PixelWriter;
 use crate::error::{Error, Result};
 use crate::header::{Header, max_len};
 use crate::types::{Channels, ColorSpace, Style};
@@ -74,8 +82,7 @@ fn encode_image<W: Writer, const ROOM: usize>(
     let mut bytes = [0; ROOM];
     let mut piece = Piece::<ROOM>::new(&mut bytes);
     piece.keep(&header.encode()[..QOI_HEADER_SIZE]);
-    let mut piece = encode_chunks(writer, piece, style, header.channels, data)?;
-    piece.keep(&QOI_PADDING);
+    let mut piece = encode_chunks(writer, piece.open(), style, header.channels, data)?;
     piece.finish(writer)?;
     Ok(room - writer.capacity())
 }

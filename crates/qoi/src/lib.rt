@@ -35,7 +35,7 @@ mod utils;
 mod writers;
 
 pub use crate::decode::{Decoder, PixelReader, decode_header, decode_to_buf, decode_to_vec};
-pub use crate::encode::{Encoder, encode_max_len, encode_to_buf, encode_to_vec};
+pub use crate::encode::{Encoder, PixelWriter, encode_max_len, encode_to_buf, encode_to_vec};
 pub use crate::error::{Error, Result};
 pub use crate::header::Header;
 pub use crate::types::{Channels, ColorSpace, Style};

@@ -103,7 +103,7 @@ has_refused in_memory d old new e r = record {
 }
 
 -- the number of an image's bytes is exact for a valid header
-capped_is : (h : Header) → IsValid h → capped_byte_count h ≡ image_byte_count h
+pub capped_is : (h : Header) → IsValid h → capped_byte_count h ≡ image_byte_count h
 capped_is h valid = exact h.channels (pixel_count h) valid.1
   where
     exact : (c : Channels) (n : ℕ) → n ≤ 400000000 → min (n * channels_number c) (2 ^ 64 - 1) ≡ n * channels_number c

@@ -1,18 +1,20 @@
 -- From one block of sixteen pixels to the next.
-use Rattle.std.proofs.Common.{◌≡◌, ◌&&◌, ◌%◌, ◌≢◌, ℕ, zero, suc, ◌+◌, ◌-◌, ◌<◌, ◌≤◌, ◌==◌, Bool, true, false, List, [], ◌∷◌, ◌++◌, length, map, get_or, take, slice_index, Option, None, Some, refl, sym, ap, ◌∙◌, arith, subst}
+use Rattle.std.proofs.Common.{◌≡◌, ◌&&◌, ◌%◌, ◌≢◌, ℕ, zero, suc, ◌+◌, ◌-◌, ◌<◌, ◌≤◌, ◌==◌, Bool, true, false, List, [], ◌∷◌, ◌++◌, length, map, get_or, take, slice_index, Some, refl, sym, ap, ◌∙◌, arith, subst}
 use Rattle.std.proofs.lemmas.Bool.{true≢false, and_parts}
 use Rattle.std.proofs.lemmas.List.{length-map, length-take-le, take-take, take_at}
-use Rattle.std.proofs.lemmas.Option.{same_Some}
 use Rattle.std.specs.List.{slice_get}
+use Rattle.qoi.specs.declared.encode.carry.Carry.{Carry}
 use Rattle.qoi.specs.declared.encode.planes.Planes.{Planes}
 use Rattle.qoi.specs.declared.encode.spelling.Spelled.{Spelled}
 use Rattle.qoi.specs.declared.types.Style.{Style}
 use Rattle.qoi.specs.declared.types.Style.TheVariants.{Reference, Places, Tight}
-use Rattle.qoi.specs.Qoi.{RgbaPixel, pixel_eq}
+use Rattle.qoi.specs.Qoi.{RgbaPixel, pixel_eq, seen, hash}
+use Rattle.qoi.specs.Styles.{names}
 use Rattle.qoi.specs.inner.BlockLanes.{mask}
-use Rattle.qoi.specs.inner.Blocks.{BetweenBlocks, all_repeat}
-use Rattle.qoi.specs.inner.BlockState.{State, Carrying, lanes_of, is_rep, group_bytes, next_state, more_of, end_state, block_bytes, NoneBlank, CarryGoesOn, flushed_state, next_by}
-use Rattle.qoi.specs.inner.CoderLoop.{Writing}
+use Rattle.qoi.specs.inner.Blocks.{all_repeat}
+use Rattle.qoi.specs.inner.BlockState.{State, lanes_of, is_rep, group_bytes, next_state, more_of, end_state, block_bytes, NoneBlank, CarryGoesOn, flushed_state, next_by}
+use Rattle.qoi.specs.inner.CarryLoop.{InBlocks}
+use Rattle.qoi.specs.inner.CoderLoop.{Ahead}
 use Rattle.qoi.specs.inner.Counts.{counts}
 use Rattle.qoi.specs.inner.Planes.{AreSixteen, ArePlanes}
 use Rattle.qoi.specs.inner.Spelling.{HasSpelled, IsLastOf}
@@ -20,7 +22,7 @@ use Rattle.qoi.specs.inner.Stands.{put_all, stand_tests}
 use Rattle.qoi.specs.inner.Table.{Holds}
 use Rattle.qoi.proofs.format.SamePixels.{pixel_eq-true, pixel_eq-from}
 use Rattle.qoi.proofs.encoding.BlockOut.{carry_few}
-use Rattle.qoi.proofs.encoding.BlockWritten.{flushed, block_written}
+use Rattle.qoi.proofs.encoding.BlockWritten.{Carrying, flushed, block_written}
 use Rattle.qoi.proofs.encoding.LastCount.{last_count}
 use Rattle.qoi.proofs.encoding.SpelledBlock.{lanes_long}
 use Rattle.qoi.proofs.encoding.StyledBlock.{firsts_in_anew}
@@ -57,11 +59,12 @@ spelled_anew style s p ps x e h = record {
 }
 
 -- The repeats before the block are written, if a fresh pixel follows them: the state from which its
--- chunks are written, with the same pixels put and the same last pixel. The pixels `ahead` begin as
--- the block does.
-pub record Ready (begun : Bool) (w : Writing) (style : Style) (s : State) (ps ahead : List RgbaPixel) (x : Spelled) (kept : List ℕ) : Type 0 where
+-- chunks are written, with the same pixels put and the same last pixel. The pixels that still come
+-- begin as the block does.
+pub record Ready (style : Style) (ahead : List ℕ) (s : State) (ps pixels : List RgbaPixel) (x : Spelled) (kept : List ℕ) : Type 0 where
+  pub begun : Bool
   pub state : State
-  pub carrying : Carrying begun w state ahead kept
+  pub carrying : Carrying begun style ahead state pixels kept
   pub goes_on_is : CarryGoesOn state ps
   pub few : state.carry ≤ 45
   pub spelled : HasSpelled style state ps x
@@ -104,25 +107,21 @@ same_group Places a b q n e = ap (λ z. group_bytes Places z q n) (e refl)
 same_group Tight a b q n e = refl
 
 -- from the state before the block
-pub ready : {begun : Bool} (w : Writing) (style : Style) (s : State) (ps ahead : List RgbaPixel) (x : Spelled) (fresh placed : Bool) (q : RgbaPixel) (n : ℕ) (kept next : List ℕ)
-    → w.list.style ≡ style → s.carry < 62 → (slice_get ahead 0 ≡ Some s.last → s.carry ≤ 45) → Carrying begun w s ahead kept → slice_get ahead 0 ≡ slice_get ps 0 → HasSpelled style s ps x → AreSixteen ps
+pub ready : {begun : Bool} (style : Style) (ahead : List ℕ) (s : State) (ps rest : List RgbaPixel) (x : Spelled) (fresh placed : Bool) (q : RgbaPixel) (n : ℕ) (kept next : List ℕ)
+    → s.carry < 62 → (slice_get (ps ++ rest) 0 ≡ Some s.last → s.carry ≤ 45) → Carrying begun style ahead s (ps ++ rest) kept → HasSpelled style s ps x → AreSixteen ps
     → fresh ≡ (slice_index x.rep 0 == 0) → s.last ≡ q → s.carry ≡ n → (style ≡ Places → s.placed ≡ placed) → StoredGroup style fresh placed q n kept next
-    → Ready begun w style s ps ahead x next
-ready w style s [] ahead x is_fresh placed q n kept next same small few c begins h sixteen fresh_is last_is n_is placed_is run = absurd (let l = sixteen.long in omega arith)
-ready w style s (p ∷ ps) [] x is_fresh placed q n kept next same small few c begins h sixteen fresh_is last_is n_is placed_is run =
-    absurd (let no : ◌≡◌ {A = Option RgbaPixel} None (Some p) = begins in cc)
-ready {begun} w style s (p ∷ ps) (a ∷ more) x is_fresh placed q n kept next same small few c begins h sixteen fresh_is last_is n_is placed_is run = go (pixel_eq p s.last) refl
+    → Ready style ahead s ps (ps ++ rest) x next
+ready style ahead s [] rest x is_fresh placed q n kept next small few c h sixteen fresh_is last_is n_is placed_is run = absurd (let l = sixteen.long in omega arith)
+ready {begun} style ahead s (p ∷ ps) rest x is_fresh placed q n kept next small few c h sixteen fresh_is last_is n_is placed_is run = go (pixel_eq p s.last) refl
   where
     fresh_by : (b : Bool) → pixel_eq p s.last ≡ b → is_fresh ≡ (mask b == 0)
     fresh_by b e = fresh_is ∙ ap (λ z. z == 0) (ap (λ z. slice_index z 0) h.rep_is ∙ ap mask e)
 
-    same_front : a ≡ p
-    same_front = same_Some a p begins
-
-    stays : next ≡ kept → CarryGoesOn s (p ∷ ps) → s.carry ≤ 45 → Ready begun w style s (p ∷ ps) (a ∷ more) x next
+    stays : next ≡ kept → CarryGoesOn s (p ∷ ps) → s.carry ≤ 45 → Ready style ahead s (p ∷ ps) (p ∷ (ps ++ rest)) x next
     stays never on fits = record {
+      begun = begun;
       state = s;
-      carrying = subst (Carrying begun w s (a ∷ more)) (sym never) c;
+      carrying = subst (Carrying begun style ahead s (p ∷ (ps ++ rest))) (sym never) c;
       goes_on_is = on;
       few = fits;
       spelled = h;
@@ -130,17 +129,18 @@ ready {begun} w style s (p ∷ ps) (a ∷ more) x is_fresh placed q n kept next 
       last_is = refl;
     }
 
-    fresh : pixel_eq p s.last ≡ false → (k : ℕ) → s.carry ≡ k → Ready begun w style s (p ∷ ps) (a ∷ more) x next
+    fresh : pixel_eq p s.last ≡ false → (k : ℕ) → s.carry ≡ k → Ready style ahead s (p ∷ ps) (p ∷ (ps ++ rest)) x next
     fresh e zero no_carry = stays (run.none (sym n_is ∙ no_carry)) (λ some. absurd (omega arith)) (omega (arith, no_carry))
     fresh e (suc k) some =
-        let differs : a ≢ s.last = λ same. true≢false (sym (pixel_eq-from p s.last (sym same_front ∙ same)) ∙ e) in
+        let differs : p ≢ s.last = λ same. true≢false (sym (pixel_eq-from p s.last same) ∙ e) in
         let n_suc : suc k ≡ n = sym some ∙ n_is in
-        let bytes : kept ++ group_bytes w.list.style s.placed s.last (suc k) ≡ next =
-        (λ i. kept ++ group_bytes (same i) s.placed (last_is i) (n_suc i)) ∙ ap (λ z. kept ++ z) (same_group style s.placed placed q n placed_is)
+        let bytes : kept ++ group_bytes style s.placed s.last (suc k) ≡ next =
+        (λ i. kept ++ group_bytes style s.placed (last_is i) (n_suc i)) ∙ ap (λ z. kept ++ z) (same_group style s.placed placed q n placed_is)
         ∙ sym (run.some (fresh_by false e) (omega arith)) in
         record {
+          begun = true;
           state = flushed_state s;
-          carrying = subst (Carrying begun w (flushed_state s) (a ∷ more)) bytes (flushed s k a more c differs some (omega arith));
+          carrying = subst (Carrying true style ahead (flushed_state s) (p ∷ (ps ++ rest))) bytes (flushed s p (ps ++ rest) k c differs some (omega arith));
           goes_on_is = λ some. absurd (omega arith);
           few = omega arith;
           spelled = spelled_anew style s p ps x e h;
@@ -148,8 +148,8 @@ ready {begun} w style s (p ∷ ps) (a ∷ more) x is_fresh placed q n kept next 
           last_is = refl;
         }
 
-    go : (b : Bool) → pixel_eq p s.last ≡ b → Ready begun w style s (p ∷ ps) (a ∷ more) x next
-    go true e = let same = pixel_eq-true p s.last e in stays (run.stays (fresh_by true e)) (λ some. same) (few (ap Some (same_front ∙ same)))
+    go : (b : Bool) → pixel_eq p s.last ≡ b → Ready style ahead s (p ∷ ps) (p ∷ (ps ++ rest)) x next
+    go true e = let same = pixel_eq-true p s.last e in stays (run.stays (fresh_by true e)) (λ some. same) (few (ap Some same))
     go false e = fresh e s.carry refl
 
 -- as many repeats are carried after pixels as came
@@ -225,33 +225,40 @@ end_placed s (p ∷ ps) mixed = go (end_placed t ps) (all_repeat p ps) refl
         before rest ∙ sym (ap (λ n. get_or tests n false) later)
 
 -- over a block of these pixels
-pub block_step : {begun : Bool} (w : Writing) (style : Style) (s : State) (rest all : List RgbaPixel) (x : Spelled) (p : Planes) (table : List RgbaPixel) (placed : Bool) (kept next : List ℕ)
-    → w.list.style ≡ style → AreSixteen all → all_repeat s.last all ≡ false → ArePlanes all p
-    → Ready begun w style s all (all ++ rest) x kept → Holds table (put_all s.held all)
+pub block_step : {N : ℕ} (style : Style) (ahead : List ℕ) (n : ℕ) (s : State) (rest more all : List RgbaPixel) (x : Spelled) (p : Planes) (table : List RgbaPixel) (carry : Carry N) (kept next : List ℕ)
+    → AreSixteen all → all_repeat s.last all ≡ false → ArePlanes all p
+    → Ready style ahead s all (all ++ (rest ++ more)) x kept → Holds table (put_all s.held all)
     → ((t : State) → t.held ≡ s.held → t.last ≡ s.last → style ≡ Tight → NoneBlank t all)
-    → (style ≡ Places → placed ≡ get_or (stand_tests s.held all) (15 - slice_index x.count 15 % 16) false)
+    → carry.before ≡ p → carry.count ≡ slice_index x.count 15 % 16
+    → (style ≡ Places → carry.placed ≡ get_or (stand_tests s.held all) (15 - carry.count) false)
     → ((t : State) → HasSpelled style t all x → t.last ≡ s.last → t.carry ≤ 45 → next ≡ kept ++ block_bytes style t all)
-    → BetweenBlocks true w rest table p (slice_index x.count 15 % 16) placed next
-block_step w style s rest all x p table placed kept next style_is sixteen mixed planes r holds none named bytes =
+    → InBlocks style ahead n rest more table carry next
+block_step style ahead n s rest more all x p table carry kept next sixteen mixed planes r holds none before_is count_is named bytes =
     let t = r.state in
+    let end = end_state t all in
     let long = sixteen.long in
     let few : t.carry + length all < 62 = (let f = r.few in omega arith) in
-    let done = block_written t all rest (omega arith) r.carrying r.goes_on_is few (λ tight. none t r.held_is r.last_is (sym style_is ∙ tight)) in
-    let same : kept ++ block_bytes w.list.style t all ≡ next = ap (λ z. kept ++ block_bytes z t all) style_is ∙ sym (bytes t r.spelled r.last_is r.few) in
+    let done = block_written t all (rest ++ more) (omega arith) r.carrying r.goes_on_is few (none t r.held_is r.last_is) in
     let counted = last_counted t r.spelled in
     let mixed_lanes : all_repeat t.last all ≡ false = subst (λ q. all_repeat q all ≡ false) (sym r.last_is) mixed in
     let below = carry_below t t.last all refl mixed_lanes in
-    let at_lane : length all - 1 - (end_state t all).carry ≡ 15 - slice_index x.count 15 % 16 = omega arith in
-    let stood : (end_state t all).placed ≡ get_or (stand_tests s.held all) (15 - slice_index x.count 15 % 16) false =
+    let at_lane : length all - 1 - end.carry ≡ 15 - carry.count = omega arith in
+    let stood : end.placed ≡ get_or (stand_tests s.held all) (15 - carry.count) false =
     end_placed t all mixed_lanes ∙ (λ i. get_or (stand_tests (r.held_is i) all) (at_lane i) false) in
+    let carried : end.carry ≡ carry.count = omega arith in
+    let last = subst (λ z. IsLastOf end.last z) (sym before_is) (end_last t all p sixteen planes) in
     record {
-      state = end_state t all;
-      carrying = subst (Carrying true w (end_state t all) rest) same done;
-      table_is = subst (Holds table) (sym (end_held t all ∙ ap (λ h. put_all h all) r.held_is)) holds;
-      before_is = end_last t all p sixteen planes;
-      carry_is = omega arith;
-      placed_is = λ places. stood ∙ sym (named (sym style_is ∙ places));
-      few = λ _. omega arith;
+      past = done.past;
+      before = done.before;
+      to_write = subst (λ k. Ahead style ahead done.past done.before k (rest ++ more) next) carried
+          (subst (Ahead style ahead done.past done.before end.carry (rest ++ more)) (sym (bytes t r.spelled r.last_is r.few)) done.to_write);
+      state = record {
+        table_is = λ i l. holds i l ∙ ap Some (ap (λ h. seen h i) (sym (end_held t all ∙ ap (λ h. put_all h all) r.held_is)) ∙ done.held_is i);
+        last_is = subst (λ q. IsLastOf q carry.before) (sym done.last_is) last;
+        placed_is = λ places. named places ∙ sym stood ∙ done.placed_is ∙ ap (λ q. names done.before (hash q)) (sym done.last_is);
+      };
+      opens = λ no. absurd (true≢false (sym done.begun_is ∙ no));
+      few = λ _. omega (arith, carried, below, long);
     }
   where
     last_counted : (t : State) → HasSpelled style t all x → slice_index x.count 15 ≡ (end_state t all).carry

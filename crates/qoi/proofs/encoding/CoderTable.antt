@@ -27,7 +27,7 @@ place_bytes i alpha l = λ j. small i l j ∷ []
     small i l = omega arith
 
 -- a fresh pixel that stands at its index position is given by it
-place_chosen : (style : Style) (past : Past) (p : RgbaPixel) → seen (held_in style past) (hash p) ≡ p → choice_in style past p (Place (hash p))
+pub place_chosen : (style : Style) (past : Past) (p : RgbaPixel) → seen (held_in style past) (hash p) ≡ p → choice_in style past p (Place (hash p))
 place_chosen Reference past p is = record { place = λ _. refl; spelled = λ other. absurd (other is) }
 place_chosen Places past p is = record { place = λ _. refl; spelled = λ other. absurd (other is) }
 place_chosen Tight past p is = record { place = λ _. refl; unseen = λ other. absurd (other is); spelled = λ other. absurd (other is) }

@@ -1,7 +1,7 @@
 -- Kept bytes that are sent to a writer: a full piece, and then those after it.
 use Rattle.std.proofs.Common.{◌≡◌, ℕ, ◌+◌, ◌-◌, ◌≤◌, List, [], ◌++◌, length, take, drop, Result, Ok, Err, OnOk, IfErr, sym, ap, ◌∙◌, subst, append-nil, take-append-drop, arith}
 use Rattle.std.specs.List.{copy_within}
-use Rattle.std.proofs.lemmas.List.{drop-take, length-drop, length-take-le, take-append-le}
+use Rattle.std.proofs.lemmas.List.{drop-take, length-drop, length-take-le, take-append-le, take-take}
 use Rattle.std.proofs.lemmas.List.Edits.{paste_all}
 use Rattle.qoi.specs.declared.encode.piece.Piece.{Piece}
 use Rattle.qoi.specs.inner.Piece.{kept_bytes}
@@ -36,6 +36,16 @@ module _ {W : Type 0} {wrote : W → List ℕ → W → Type 0} {room : W → �
   none_but a next old now is same =
       subst (λ s. WroteBut wrote a (kept_bytes old) (kept_bytes s) next) (sym is)
       (subst (λ w. WroteBut wrote a (kept_bytes old) (kept_bytes old) w) (sym same) (wrote_none laws a (kept_bytes old)))
+
+  -- a full piece was sent, and the bytes after it stand at the front
+  pub front_sent : (a b : W) (old new : List ℕ) (piece size end : ℕ) → length old ≡ size → piece ≤ end → end ≤ size → wrote a (take piece old) b
+      → new ≡ copy_within old piece size 0 → WroteBut wrote a (take end old) (take (end - piece) new) b
+  front_sent a b old new piece size end long full within went moved = record {
+    front = take piece old;
+    split = sym (take-append-drop piece (take end old))
+        ∙ (λ i. take-take piece end old full i ++ sym (ap (take (end - piece)) moved ∙ moved_front old piece size end long full within) i);
+    went = went;
+  }
 
   -- then the rest was sent
   pub rest_sent : {T E : Type 0} (r : Result T E) (a b next : W) (all rest : List ℕ) → WroteBut wrote a all rest b → OnOk r (wrote b rest next)

@@ -13,7 +13,7 @@ use Rattle.qoi.specs.inner.CoderState.{single_chunk, last_chunk}
 use Rattle.qoi.proofs.format.ChunkSteps.{previous_repeats, repeats_after, then_other}
 use Rattle.qoi.proofs.encoding.CoderTable.{fresh_repeats}
 use Rattle.qoi.proofs.encoding.GroupRuns.{not_one}
-use Rattle.qoi.proofs.encoding.StillToWrite.{runs_none}
+use Rattle.qoi.proofs.encoding.ListAhead.{runs_none}
 
 -- the chunk before the rest of a group that has this number of runs of 62
 abbrev before_rest : Option Chunk → ℕ → Option Chunk

@@ -90,7 +90,7 @@ module _ (Choice : Past → RgbaPixel → Chunk → Type 0) (choose : Past → R
   fresh_joined p group rest cs rs more c w = subst₂ (λ x y. WrittenBy Choice x y) (joined p p 0 group rest refl) (chunks_split cs rs more c) w
 
   -- a written list of the pixels before a group extends to one of the image, whatever pixels follow
-  pub written_after : (rest : List RgbaPixel) (past : Past) (n : ℕ) (cs : List Chunk) → WrittenBy Choice (reverse past) cs → RunMayFollow cs
+  written_after : (rest : List RgbaPixel) (past : Past) (n : ℕ) (cs : List Chunk) → WrittenBy Choice (reverse past) cs → RunMayFollow cs
       → IsPixel (previous past) → AllByRecursion IsPixel rest
       → WrittenBy Choice (reverse (replicate n (previous past) ++ past) ++ rest) (cs ++ list_after choose past n rest)
   unfolding list_after

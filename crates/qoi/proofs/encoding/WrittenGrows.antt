@@ -10,7 +10,10 @@ use Rattle.qoi.specs.Runs.{last_by, runs_by}
 use Rattle.qoi.specs.Written.{IsAllowedAfter, IsFullBefore, RunsFollowFull, WrittenBy}
 use Rattle.qoi.specs.Styles.{is_run}
 use Rattle.qoi.proofs.format.ChunkSteps.{previous_repeats, repeats_after, right_from, full_other, full_before, then_other, then_chunks-append, each_append}
-pub use Rattle.qoi.specs.inner.CoderLoop.{RunMayFollow}
+
+-- a run of any length may follow the list
+abbrev pub RunMayFollow : List Chunk → Type 0
+RunMayFollow cs = (n : ℕ) → RunsFollowFull (cs ++ Run n ∷ [])
 
 -- what holds throughout two lists holds throughout both joined
 pub all_append : {A : Type 0} (P : A → Type 0) (xs ys : List A) → AllByRecursion P xs → AllByRecursion P ys → AllByRecursion P (xs ++ ys)
@@ -99,7 +102,7 @@ module _ (Choice : Past → RgbaPixel → Chunk → Type 0) where
   )
 
   -- and `m` times 62 as `m` runs
-  pub full_runs : (m : ℕ) (past : Past) (q : RgbaPixel) (cs : List Chunk) → q ≡ previous past → WrittenBy Choice (reverse past) cs → RunMayFollow cs
+  full_runs : (m : ℕ) (past : Past) (q : RgbaPixel) (cs : List Chunk) → q ≡ previous past → WrittenBy Choice (reverse past) cs → RunMayFollow cs
       → WrittenBy Choice (reverse (replicate (m * 62) q ++ past)) (cs ++ replicate m (Run 62)) × RunMayFollow (cs ++ replicate m (Run 62))
   full_runs zero past q cs is w may = rw (append-nil cs) (w, may)
   full_runs (suc m) past q cs is w may =

@@ -1,7 +1,7 @@
 -- The pixels of raw bytes: they are pixels, of as many channels, and give the bytes back.
-use Rattle.std.proofs.Common.{◌≡◌, inl, inr, ℕ, zero, suc, ◌*◌, ◌<◌, List, [], ◌∷◌, ◌++◌, length, refl, ap, ◌∙◌, arith}
+use Rattle.std.proofs.Common.{◌≡◌, inl, inr, ℕ, zero, suc, ◌*◌, ◌<◌, List, [], ◌∷◌, ◌++◌, length, refl, ap, arith}
 use Rattle.std.specs.List.{AllByRecursion}
-use Rattle.qoi.specs.Qoi.{RgbaPixel, IsPixel, pixel, rgba}
+use Rattle.qoi.specs.Qoi.{RgbaPixel, IsPixel, pixel}
 use Rattle.qoi.specs.Raw.{IsChannels, output, pixels_of_3, pixels_of_4, pixels_of, AreOpaque, HasChannels}
 use Rattle.qoi.proofs.format.WholePixels.{by_channels}
 
@@ -80,24 +80,3 @@ pub pixels_of-append : (channels n : ℕ) (xs ys : List ℕ) → IsChannels chan
     → pixels_of channels (xs ++ ys) ≡ pixels_of channels xs ++ pixels_of channels ys
 pixels_of-append channels n xs ys is = by_channels (λ c. length xs ≡ c * n → pixels_of c (xs ++ ys) ≡ pixels_of c xs ++ pixels_of c ys) is
     (append_3 xs ys n) (append_4 xs ys n)
-
--- the pixel of three bytes
-one_3 : (bytes : List ℕ) → length bytes ≡ 3 → pixels_of_3 bytes ≡ rgba bytes ∷ []
-one_3 (r ∷ g ∷ b ∷ []) e = refl
-one_3 _ e = absurd (omega arith)
-
--- the pixel of four bytes
-one_4 : (bytes : List ℕ) → length bytes ≡ 4 → pixels_of_4 bytes ≡ rgba bytes ∷ []
-one_4 (r ∷ g ∷ b ∷ a ∷ []) e = refl
-one_4 _ e = absurd (omega arith)
-
--- the pixel of as many bytes as there are channels
-pixels_of-one : (channels : ℕ) (bytes : List ℕ) → IsChannels channels → length bytes ≡ channels → pixels_of channels bytes ≡ rgba bytes ∷ []
-pixels_of-one channels bytes is = by_channels (λ c. length bytes ≡ c → pixels_of c bytes ≡ rgba bytes ∷ []) is (one_3 bytes) (one_4 bytes)
-
--- the first pixel of bytes, and the others
-pub pixels_of-next : (channels : ℕ) (bytes rest : List ℕ) → IsChannels channels → length bytes ≡ channels
-    → pixels_of channels (bytes ++ rest) ≡ rgba bytes ∷ pixels_of channels rest
-pixels_of-next channels bytes rest k h =
-    pixels_of-append channels 1 bytes rest k (omega arith)
-    ∙ ap (λ x. x ++ pixels_of channels rest) (pixels_of-one channels bytes k h)

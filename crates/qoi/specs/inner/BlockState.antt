@@ -1,21 +1,11 @@
 -- What a block of pixels writes, and the state between two pixels with repeats that are still to
 -- be written.
-use Rattle.std.specs.Prelude.{◌≡◌, ◌≢◌, ℕ, suc, Bool, true, false, ◌<◌, ◌==◌, List, [], ◌∷◌, ◌++◌, replicate, Option, Some, slice_get, if◌then◌else◌}
-use Rattle.qoi.specs.declared.chunk.Chunk.{Chunk}
+use Rattle.std.specs.Prelude.{◌≡◌, ◌≢◌, ℕ, suc, Bool, true, false, ◌<◌, ◌==◌, List, [], ◌∷◌, ◌++◌, if◌then◌else◌}
 use Rattle.qoi.specs.declared.chunk.Chunk.TheVariants.{Run}
 use Rattle.qoi.specs.declared.types.Style.{Style}
-use Rattle.qoi.specs.Qoi.{RgbaPixel, Past, previous, pixel_eq, blank, seen, hash, bytes_of, chunk_bytes}
-use Rattle.qoi.specs.Styles.{some_fresh, names, styled}
-use Rattle.qoi.specs.inner.CoderState.{held_in, single_chunk}
-use Rattle.qoi.specs.inner.CoderLoop.{Writing, StillToWrite}
+use Rattle.qoi.specs.Qoi.{RgbaPixel, Past, pixel_eq, blank, seen, hash, bytes_of}
+use Rattle.qoi.specs.inner.CoderState.{single_chunk}
 use Rattle.qoi.specs.inner.BlockLanes.{Lane, lane_bytes}
-
--- Between two pixels: `past` have come, `before` is the last chunk, `rest` still come, and the
--- bytes ahead are those that are kept and those of the chunks that are still to be written.
-pub record Between (w : Writing) (past : Past) (before : Option Chunk) (rest : List RgbaPixel) (kept : List ℕ) : Type 0 where
-  pub todo : List Chunk
-  pub to_write : StillToWrite w.list past rest todo
-  pub ahead_is : w.ahead ≡ kept ++ chunk_bytes (styled w.list.style past before todo)
 
 -- what is known beside the bytes: the pixels that were put, the last pixel, how many repeats of
 -- it are still to be written, and whether the chunk before those names its position
@@ -24,21 +14,6 @@ pub record State : Type 0 where
   pub last : RgbaPixel
   pub carry : ℕ
   pub placed : Bool
-
--- a fresh pixel came; or else the next one is fresh, and no repeats are carried
-abbrev pub HasBegun : Bool → Past → State → List RgbaPixel → Type 0
-HasBegun true past s rest = some_fresh past ≡ true
-HasBegun false past s rest = (s.carry ≡ 0) × (slice_get rest 0 ≢ Some s.last)
-
--- Written up to `carry` repeats of the last pixel, which have come: as if they still came.
-pub record Carrying (begun : Bool) (w : Writing) (s : State) (rest : List RgbaPixel) (kept : List ℕ) : Type 0 where
-  pub past : Past
-  pub before : Option Chunk
-  pub between : Between w past before (replicate s.carry s.last ++ rest) kept
-  pub last_is : previous past ≡ s.last
-  pub begun_is : HasBegun begun past s rest
-  pub held_is : (i : ℕ) → seen s.held i ≡ seen (held_in w.list.style past) i
-  pub placed_is : s.placed ≡ names before (hash s.last)
 
 -- the lane repeats the pixel before it
 abbrev pub is_rep : Lane → Bool

@@ -1,38 +1,38 @@
 //! Sixteen pixels, a block, and the chunks of a block, but for the repeats that it ends with.
-ghost use Rattle.std.specs.Prelude.{◌≡◌, Bool, true, false, ◌+◌, ◌-◌, ◌*◌, ◌≤◌, ◌<◌, List, [], ◌∷◌, ◌++◌, length, map, take, slice_index, slice_index_or, ◌/◌, ◌%◌, IsTrue, IsFalse};
-ghost use Rattle.qoi.specs.declared.encode.block.TheConstants.{BLOCK_ROOM, BLOCK_MAX};
+ghost use Rattle.std.specs.Prelude.{◌≡◌, ℕ, Bool, true, false, ◌+◌, ◌-◌, ◌≤◌, ◌<◌, List, [], ◌∷◌, ◌++◌, length, map, take, slice_index, slice_index_or, ◌/◌, ◌%◌, IsTrue, IsFalse};
+ghost use Rattle.qoi.specs.declared.encode.block.TheConstants.{BLOCK_ROOM};
 ghost use Rattle.qoi.specs.declared.types.Style.TheVariants.{Places};
 ghost use Rattle.qoi.specs.Qoi.{RgbaPixel, IsPixel, run_max, hash};
-ghost use Rattle.qoi.specs.Raw.{IsChannels, pixels_of};
+ghost use Rattle.qoi.specs.Raw.{IsChannels};
 ghost use Rattle.qoi.specs.inner.BlockLanes.{mask};
 ghost use Rattle.qoi.specs.inner.BlockState.{State, NoneBlank, group_bytes};
 ghost use Rattle.qoi.specs.inner.Blocks.{ChangesFrom, FitsBlock, MissesNoBlank, last_pixel, all_repeat};
-ghost use Rattle.qoi.specs.inner.CarryLoop.{CarryBetween};
-ghost use Rattle.qoi.specs.inner.CoderLoop.{Writing};
+ghost use Rattle.qoi.specs.inner.CarryLoop.{InBlocks};
+ghost use Rattle.qoi.specs.inner.Piece.{kept_bytes};
+ghost use Rattle.qoi.specs.inner.Pixels.{pixels_in};
 ghost use Rattle.qoi.specs.inner.Planes.{ArePacked, ArePlanes, AreOpaque, block_pixels};
 ghost use Rattle.qoi.specs.inner.Spelling.{IsLastOf, HasSpelled};
 ghost use Rattle.qoi.specs.inner.Stands.{stand_tests};
 ghost use Rattle.qoi.specs.inner.Table.{Holds};
 
-use crate::consts::QOI_OP_RUN;
+use crate::encode::carry::Carry;
 use crate::encode::changes::{Changes, all_set, find_changes};
 use crate::encode::lanes::{blanks, is_zero, places, store_lanes};
 use crate::encode::named::name_single;
 use crate::encode::packing::first_sixteen;
-use crate::encode::planes::{Planes, Words, known_alpha, make_planes};
+use crate::encode::piece::{OpenPiece, Piece};
+use crate::encode::pixels::Pixels;
+use crate::encode::planes::{Planes, Words, make_planes};
 use crate::encode::spelling::{Spelled, spell_block};
 use crate::encode::stands::put_block;
 use crate::encode::stores::put_sixteen;
 use crate::encode::table::PixelTable;
 use crate::packed::Packed;
 use crate::types::Style::{self, Places, Reference, Tight};
-use crate::utils::pick;
 use std::simd::prelude::*;
 
-/// The most bytes of a block's chunks, and of the run before them.
-pub(super) const BLOCK_MAX: usize = 81;
-
-/// The room for them, and for what is stored after them and means nothing.
+/// The room for a block's chunks and the run before them, which have 81 bytes at most, and for what
+/// is stored after them and means nothing.
 pub(super) const BLOCK_ROOM: usize = 96;
 
 /// Sixteen pixels, packed and in planes, and the changes from the pixels before them.
@@ -46,34 +46,30 @@ pub(super) struct Block {
 }
 
 impl Block {
-    /// The block of sixteen packed pixels, which come after those of `before`.
+    /// The block of sixteen packed pixels, which come after the block that is carried.
     #[inline(always)]
-    pub(super) fn new<const N: usize>(words: Words, before: Planes) -> Block
-        requires pixels { N ≡ 3 → AreOpaque (block_pixels words) }
-        requires opaque { N ≡ 3 → slice_index before.a 15 ≡ 255 }
+    fn new<const N: usize>(words: Words, carry: Carry<N>) -> Block
+        requires { N ≡ 3 → AreOpaque (block_pixels words) }
         ensures words { result.words ≡ words }
-        ensures changes { ChangesFrom before (block_pixels words) result.changes }
+        ensures changes { ChangesFrom carry.entry.before (block_pixels words) result.changes }
     {
         let planes = make_planes::<N>(words);
         Block {
             words,
             planes,
-            changes: find_changes::<N>(before, planes),
+            changes: find_changes::<N>(carry.before, planes),
         }
     }
 
-    /// The block at the front of raw bytes. The pixels of `before` come before it.
+    /// The block at the front, which comes after the block that is carried.
     #[inline(always)]
-    pub(super) fn first<const N: usize>(bytes: &[u8], before: Planes) -> Block
-        requires channels { IsChannels N }
-        requires whole { length bytes.now % N ≡ 0 }
-        requires enough { 16 * N ≤ length bytes.now }
-        requires opaque { N ≡ 3 → slice_index before.a 15 ≡ 255 }
-        ensures changes { ChangesFrom before (block_pixels result.words) result.changes }
-        ensures pixels { block_pixels result.words ≡ take 16 (pixels_of N bytes.now) }
+    pub(super) fn first<const N: usize>(raw: Pixels<N>, carry: Carry<N>) -> Block
+        requires { 16 ≤ length (pixels_in raw) }
+        ensures changes { ChangesFrom carry.entry.before (block_pixels result.words) result.changes }
+        ensures pixels { block_pixels result.words ≡ take 16 (pixels_in raw.entry) }
         ensures opaque { N ≡ 3 → AreOpaque (block_pixels result.words) }
     {
-        Block::new::<N>(first_sixteen::<N>(bytes), before)
+        Block::new::<N>(first_sixteen::<N>(raw.bytes), carry)
     }
 
     /// Whether all sixteen pixels repeat the last one of the block before.
@@ -119,11 +115,16 @@ impl Block {
     // The chunks of the block, of which those pixels that `stands` says stand at their index
     // positions, `places`.
     #[inline(always)]
-    fn spell(self, style: Style, stands: u8x16, places: u8x16, carry: Carry) -> Spelled
-        requires { carry.count < run_max }
-        ensures { (s : State) → IsPixel s.last → IsLastOf s.last carry.before
-            → ChangesFrom carry.before (block_pixels self.words) self.changes
-            → s.carry ≡ carry.count → (style ≡ Places → s.placed ≡ carry.placed)
+    fn spell<const N: usize>(
+        self,
+        style: Style,
+        stands: u8x16,
+        places: u8x16,
+        carry: Carry<N>,
+    ) -> Spelled
+        ensures { (s : State) → IsPixel s.last → IsLastOf s.last carry.entry.before
+            → ChangesFrom carry.entry.before (block_pixels self.words) self.changes
+            → s.carry ≡ carry.entry.count → (style ≡ Places → s.placed ≡ carry.entry.placed)
             → stands ≡ map mask (stand_tests s.held (block_pixels self.words))
             → places ≡ map hash (block_pixels self.words)
             → HasSpelled style s (block_pixels self.words) result }
@@ -137,7 +138,9 @@ impl Block {
 
     // What is carried after the block's chunks.
     #[inline(always)]
-    fn carry(self, style: Style, x: Spelled, stands: u8x16) -> Carry
+    fn carry<const N: usize>(self, style: Style, x: Spelled, stands: u8x16) -> Carry<N>
+        requires channels { IsChannels N }
+        requires opaque { N ≡ 3 → AreOpaque (block_pixels self.words) }
         ensures before { result.before ≡ self.planes }
         ensures count { result.count ≡ slice_index x.count 15 % 16 }
         ensures placed { (stood : List Bool) → style ≡ Places → stands ≡ map mask stood
@@ -157,98 +160,30 @@ impl Block {
     }
 }
 
-/// What is carried from block to block: the planes of the last one; how many repeats of its last
-/// pixel came that aren't stored yet; and, in style `Places`, whether the chunk before them names
-/// that pixel's index position.
-#[derive(Clone, Copy)]
-pub(super) struct Carry {
-    pub(super) before: Planes,
-    pub(super) count: u8,
-    pub(super) placed: bool,
-}
-
-impl Carry {
-    /// The same, in three channels with alpha as a constant.
-    #[inline(always)]
-    pub(super) fn with_known_alpha<const N: usize>(self) -> Carry
-        requires { N ≡ 3 → slice_index self.before.a 15 ≡ 255 }
-        ensures opaque { N ≡ 3 → slice_index result.before.a 15 ≡ 255 }
-        ensures last { (q : RgbaPixel) → IsLastOf q self.before → IsLastOf q result.before }
-        ensures same { (result.count ≡ self.count) × (result.placed ≡ self.placed) }
-    {
-        Carry {
-            before: Planes {
-                a: known_alpha::<N>(self.before.a),
-                ..self.before
-            },
-            ..self
-        }
-    }
-
-    // The byte of the repeats before a fresh pixel: that of a run; in style `Places`, of a single
-    // repeat, the index position, if the chunk before isn't that position. If there are none, it
-    // isn't used.
-    #[inline(always)]
-    fn byte(self, style: Style) -> u8
-        requires { self.count < run_max }
-        ensures { 0 < self.count
-            → group_bytes style self.placed (last_pixel self.before) self.count ≡ result ∷ [] }
-    {
-        let run = QOI_OP_RUN - 1 + self.count;
-        match style {
-            Reference | Tight => run,
-            Places => pick(
-                (self.count == 1) & !self.placed,
-                self.before.last().hash_index(),
-                run,
-            ),
-        }
-    }
-
-    // Where the byte of the repeats ends, which stands at `at`. It doesn't count if there are no
-    // repeats, or if the next pixel repeats, too; `rep` is 255 then, else 0.
-    #[inline(always)]
-    fn end(self, at: usize, rep: u8) -> usize
-        requires room { at < usize.MAX }
-        ensures stays { self.count ≤ rep → result ≡ at }
-        ensures some { rep < self.count → result ≡ at + 1 }
-    {
-        at + usize::from(self.count > rep)
-    }
-}
-
-/// Stores the chunks of a block that doesn't repeat whole, from `at` on, but for the repeats at its
-/// end. Returns where the chunks end, and what is carried then. `STYLE` and `ROOM` give each loop
-/// that calls it a function of its own, which the compiler inlines there.
+/// Appends the chunks of a block that doesn't repeat whole, but for the repeats at its end. Returns
+/// what is carried then. `STYLE` and `ROOM` give each loop that calls it a function of its own, which
+/// the compiler inlines there.
 #[inline]
-pub(super) fn write_block<const N: usize, const STYLE: u8, const ROOM: usize>(
+pub(super) fn write_block<'p, const N: usize, const STYLE: u8, const ROOM: usize>(
     style: Style,
     table: &mut PixelTable,
-    out: &mut [u8],
-    at: usize,
+    piece: OpenPiece<'p, ROOM>,
     block: Block,
-    carry: Carry,
-) -> (usize, Carry)
-    requires channels { IsChannels N }
-    requires few { carry.count < run_max }
-    requires opaque { N ≡ 3 → slice_index carry.before.a 15 ≡ 255 }
-    requires size { length out.old ≡ ROOM }
-    requires room { at + BLOCK_ROOM ≤ ROOM }
-    ensures same { length out.new ≡ length out.old }
-    ensures near { (at ≤ result.0) × (result.0 ≤ at + BLOCK_MAX) }
-    ensures few { result.1.count < 16 }
-    ensures before { result.1.before ≡ block.planes }
-    ensures written { (w : Writing) (begun : Bool) (rest : List RgbaPixel)
-        → w.list.style ≡ style
-        → FitsBlock N style table.old carry.before (block_pixels block.words) block.changes
-        → CarryBetween begun w (block_pixels block.words ++ rest) table.old carry (take at out.old)
-        → CarryBetween true w rest table.new result.1 (take result.0 out.new) }
+    carry: Carry<N>,
+) -> (Carry<N>, Piece<'p, ROOM>)
+    requires { N ≡ 3 → AreOpaque (block_pixels block.words) }
+    ensures { (ahead : List ℕ) (n : ℕ) (rest more : List RgbaPixel)
+        → FitsBlock style table.old carry.entry.before (block_pixels block.words) block.changes
+        → InBlocks style ahead n (block_pixels block.words ++ rest) more table.old carry.entry
+        (kept_bytes piece.entry.piece)
+        → InBlocks style ahead n rest more table.new result.0 (kept_bytes result.1) }
 {
+    let Piece { bytes, end } = piece.piece;
     let places = places(block.planes);
-    store_lanes::<ROOM>(places, out, at, carry.byte(style));
-    let stands = put_block(table, &out[ROOM - 16..], block.words);
+    store_lanes::<ROOM>(places, bytes, end, carry.byte(style));
+    let stands = put_block(table, &bytes[ROOM - 16..], block.words);
     let x = block.spell(style, stands, places, carry);
-    let start = carry.end(at, x.rep.to_array()[0]);
-    let end = put_sixteen::<N>(out, start, x, block.planes);
-    (end, block.carry(style, x, stands))
+    let start = carry.end(end, x.rep.to_array()[0]);
+    let end = put_sixteen::<N>(bytes, start, x, block.planes);
+    (block.carry(style, x, stands), Piece { bytes, end })
 }

@@ -1,13 +1,14 @@
 //! The chunks of an image, through a piece to a writer (QOI specification 1.0, "Data").
-ghost use Rattle.std.specs.Prelude.{◌≡◌, ◌+◌, ◌-◌, ◌*◌, ◌/◌, ◌%◌, ◌<◌, ◌≤◌, length, IfOk, IfErr};
-ghost use Rattle.qoi.specs.declared.encode.piece.TheConstants.{PAST};
-ghost use Rattle.qoi.specs.declared.encode.coder.TheConstants.{FEW_MAX};
+ghost use Rattle.std.specs.Prelude.{◌≡◌, ◌+◌, ◌/◌, ◌%◌, ◌≤◌, length, IfOk, IfErr};
 ghost use Rattle.qoi.specs.Qoi.{channels_number};
 ghost use Rattle.qoi.specs.Raw.{IsChannels, pixels_of};
 ghost use Rattle.qoi.specs.inner.Piece.{WroteChunks, BeganChunks};
 
+use crate::encode::blocks::write_some;
 use crate::encode::coder::Coder;
-use crate::encode::piece::Piece;
+use crate::encode::last::LastPixel;
+use crate::encode::piece::{OpenPiece, Piece};
+use crate::encode::pixels::Pixels;
 use crate::encode::table::PixelTable;
 use crate::error::Result;
 use crate::types::Channels::{self, Rgb, Rgba};
@@ -18,57 +19,50 @@ use crate::writers::Writer;
 // of its own: one for all would test the style at each pixel.
 fn encode_pixels<'p, W: Writer, const N: usize, const STYLE: u8, const ROOM: usize>(
     writer: &mut W,
-    piece: Piece<'p, ROOM>,
+    piece: OpenPiece<'p, ROOM>,
     style: Style,
     data: &[u8],
 ) -> Result<Piece<'p, ROOM>>
     requires channels { IsChannels N }
     requires whole { length «data».now % N ≡ 0 }
-    requires not_full { piece.end < ROOM - PAST }
-    requires room { piece.end + (length «data».now + length «data».now / N)
+    requires room { piece.piece.end + (length «data».now + length «data».now / N)
         ≤ W.room writer.old }
-    ensures end { IfOk result (λ p. p.end < ROOM - PAST + FEW_MAX) }
     ensures written { IfOk result (WroteChunks W.wrote style (pixels_of N «data».now)
-        writer.old piece.entry writer.new) }
+        writer.old piece.entry.piece writer.new) }
     ensures refused { IfErr result (λ e. W.IsFault e
-        × BeganChunks W.wrote style (pixels_of N «data».now) writer.old piece.entry writer.new) }
+        × BeganChunks W.wrote style (pixels_of N «data».now)
+        writer.old piece.entry.piece writer.new) }
 {
     let mut table = PixelTable::new();
-    let mut coder = Coder::<N>::new(style);
-    if data.len() < 16 * N {
-        return Ok(coder.write_few(&mut table, piece, data, 0));
-    }
-    let mut carry = coder.carry();
+    let mut coder = Coder::<N>::new(LastPixel::start());
+    let mut rest = Pixels::<N>::new(data);
     let mut piece = piece;
-    let mut rest = data;
-    loop {
-        (rest, piece) = coder.fill::<STYLE, ROOM>(style, &mut table, piece, rest, &mut carry);
-        if !piece.is_full() {
-            coder.write_last(&mut piece, carry);
-            return Ok(piece);
-        }
-        piece.send(writer)?;
+    while rest.has_block() {
+        let (after, filled) = write_some::<N, STYLE, ROOM>(
+            &mut coder, style, &mut table, piece, rest,
+        );
+        rest = after;
+        piece = filled.make_room(writer)?;
     }
+    Ok(coder.write_few(style, &mut table, piece, rest))
 }
 
 /// Writes an image's raw bytes as chunks into the piece, and sends a full piece to the writer each
 /// time there is one. Returns the piece with what is left at the end; it may be full.
 pub(super) fn encode_chunks<'p, W: Writer, const ROOM: usize>(
     writer: &mut W,
-    piece: Piece<'p, ROOM>,
+    piece: OpenPiece<'p, ROOM>,
     style: Style,
     channels: Channels,
     data: &[u8],
 ) -> Result<Piece<'p, ROOM>>
     requires whole { length «data».now % channels_number channels ≡ 0 }
-    requires not_full { piece.end < ROOM - PAST }
-    requires room { piece.end
+    requires room { piece.piece.end
         + (length «data».now + length «data».now / channels_number channels) ≤ W.room writer.old }
-    ensures end { IfOk result (λ p. p.end < ROOM - PAST + FEW_MAX) }
     ensures written { IfOk result (WroteChunks W.wrote style
-        (pixels_of (channels_number channels) «data».now) writer.old piece.entry writer.new) }
+        (pixels_of (channels_number channels) «data».now) writer.old piece.entry.piece writer.new) }
     ensures refused { IfErr result (λ e. W.IsFault e × BeganChunks W.wrote style
-        (pixels_of (channels_number channels) «data».now) writer.old piece.entry writer.new) }
+        (pixels_of (channels_number channels) «data».now) writer.old piece.entry.piece writer.new) }
 {
     // A loop for each pair, in which channels and style are constants.
     match (channels, style) {

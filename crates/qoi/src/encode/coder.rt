@@ -1,140 +1,121 @@
-//! Writes pixels, a block of sixteen at a time or a group of repeats, as chunks into a piece (QOI
-//! specification 1.0, "Data" and "Chunks").
-ghost use Rattle.std.specs.Prelude.{◌≡◌, ◌≢◌, ◌⊎◌, ℕ, Bool, ◌+◌, ◌-◌, ◌*◌, ◌%◌, ◌<◌, ◌≤◌, false, List, [], ◌∷◌, ◌++◌, Option, None, Some, length, drop, replicate, slice_get, slice_index, take, ◌/◌, true, IsTrue, IsFalse};
+//! Writes pixels one by one, and groups of repeats, as chunks into a piece (QOI specification 1.0,
+//! "Data" and "Chunks").
+ghost use Rattle.std.specs.Prelude.{◌≡◌, ◌≢◌, ◌⊎◌, ℕ, ◌+◌, ◌*◌, ◌<◌, ◌≤◌, true, List, [], ◌∷◌, ◌++◌, Option, Some, length, drop, replicate, slice_get, IsTrue};
 ghost use Rattle.qoi.specs.declared.chunk.Chunk.{Chunk};
-ghost use Rattle.qoi.specs.declared.encode.block.TheConstants.{BLOCK_MAX};
-ghost use Rattle.qoi.specs.declared.encode.coder.TheConstants.{FEW_CARRIED, FEW_MAX};
-ghost use Rattle.qoi.specs.declared.encode.piece.TheConstants.{PAST, RUNS_AT_ONCE, REPEATS_AT_ONCE};
+ghost use Rattle.qoi.specs.declared.encode.piece.TheConstants.{RUNS_AT_ONCE};
+ghost use Rattle.qoi.specs.declared.types.Style.{Style};
 ghost use Rattle.qoi.specs.declared.types.Style.TheVariants.{Tight};
-ghost use Rattle.qoi.specs.Qoi.{RgbaPixel, Past, run_max, chunk_max, previous, seen, hash, IsChunk, bytes_of};
-ghost use Rattle.qoi.specs.Raw.{IsChannels, IsChannels-prop, pixels_of};
+ghost use Rattle.qoi.specs.Qoi.{RgbaPixel, Past, run_max, chunk_max, marker_size, previous, seen, hash, IsChunk, bytes_of};
+ghost use Rattle.qoi.specs.Raw.{IsChannels, IsChannels-prop};
 ghost use Rattle.qoi.specs.Runs.{runs_by};
 ghost use Rattle.qoi.specs.Written.{IsFirst};
 ghost use Rattle.qoi.specs.Styles.{choice_in};
+ghost use Rattle.qoi.specs.inner.CoderLoop.{CoderAfter, CoderBetween, single};
 ghost use Rattle.qoi.specs.inner.CoderState.{held_in, last_chunk};
 ghost use Rattle.qoi.specs.inner.FreshPixel.{HasBytes};
 ghost use Rattle.qoi.specs.inner.Piece.{kept_bytes};
-ghost use Rattle.qoi.specs.inner.Planes.{block_pixels};
 ghost use Rattle.qoi.specs.inner.Table.{Holds};
 
 use crate::consts::{QOI_OP_RUN, QOI_RUN_MAX};
-use crate::encode::block::{Block, Carry};
 use crate::encode::fresh::spell_pixel;
-use crate::encode::piece::{Piece, REPEATS_AT_ONCE};
-use crate::encode::planes::Planes;
-use crate::encode::runs::{begins_with, repeats_by_call, repeats_of};
+use crate::encode::last::LastPixel;
+use crate::encode::piece::{OpenPiece, Piece, REPEATS_AT_ONCE};
+use crate::encode::pixels::Pixels;
+use crate::encode::runs::repeats_by_call;
 use crate::encode::table::PixelTable;
 use crate::packed::Packed;
 use crate::types::Style::{self, Places, Reference, Tight};
-use crate::utils::{pick, skip};
+use crate::utils::pick;
 
-/// The most bytes of the chunks of fewer pixels than a block has, and of the runs before them.
-pub(super) const FEW_MAX: usize = 92;
-
-// The most repeats that may be carried for a block of sixteen more to be carried, too: up to fifteen
-// more at the front of the next block still make a run of fewer than 62.
-const FEW_CARRIED: u8 = 29;
-
-/// What is known between two pixels: the style; the pixel `last`; `begun`, whether a fresh pixel
-/// came, one that differs from the pixel before it; and `placed`, whether `last` was written as its
-/// index position, with no repeat since. Between two blocks only style and `begun` count, which may
-/// then also say that the next pixel is fresh: what is carried tells the others. The table is passed
-/// beside it, so that these few stay in registers.
+/// Writes pixels of `N` channels one by one, after this last one. The table is passed beside it, so
+/// that these few stay in registers, and so is the style, which is a constant where loops are
+/// called.
 #[derive(Drop)]
 pub(super) struct Coder<const N: usize> {
-    style: Style,
-    last: Packed,
-    begun: bool,
-    placed: bool,
+    pub(super) last: LastPixel,
     ghost channels: { IsChannels N } by { IsChannels-prop N },
-    ghost opaque: { N ≡ 3 → last.a ≡ 255 },
+    ghost opaque: { N ≡ 3 → last.px.a ≡ 255 },
 }
 
 impl<const N: usize> Coder<N> {
-    ghost use Rattle.qoi.specs.inner.Blocks.{ChangesFrom, FitsBlock, MissesNoBlank, all_repeat, last_pixel};
-    ghost use Rattle.qoi.specs.inner.CarryLoop.{CarryBetween, InBlocks, StepBetween};
-    ghost use Rattle.qoi.specs.inner.CoderLoop.{CoderAfter, single, Writing, CoderBetween, BytesBetween};
-    ghost use Rattle.qoi.specs.inner.Spelling.{IsLastOf};
+    ghost use Rattle.qoi.specs.inner.Pixels.{pixels_in};
 
-    /// The coder before the first pixel, as if opaque black came before.
-    pub(super) fn new(style: Style) -> Coder<N>
-        requires { IsChannels N }
-        ensures style { result.style ≡ style }
-        ensures state { (t : List RgbaPixel) → Holds t [] → CoderAfter [] None t result }
-    {
-        Coder {
-            style,
-            last: Packed::start(),
-            begun: false,
-            placed: false,
-        }
-    }
-
-    // The coder after a fresh pixel, from what is carried; the carried repeats then still come.
+    /// The coder after this pixel.
     #[inline(always)]
-    fn after(style: Style, carry: Carry) -> Coder<N>
+    pub(super) fn new(last: LastPixel) -> Coder<N>
         requires channels { IsChannels N }
-        requires opaque { N ≡ 3 → slice_index carry.before.a 15 ≡ 255 }
-        ensures begun { result.begun ≡ true }
-        ensures last { result.last ≡ last_pixel carry.before }
-        ensures between { (w : Writing) (rest table : List RgbaPixel) (kept : List ℕ)
-            → w.list.style ≡ style → CarryBetween true w rest table carry kept
-            → CoderBetween w (replicate carry.count result.last ++ rest) table result kept }
+        requires opaque { N ≡ 3 → last.px.a ≡ 255 }
+        ensures { result.last ≡ last }
     {
-        Coder {
-            style,
-            last: carry.before.last(),
-            begun: true,
-            placed: carry.placed,
-        }
+        Coder { last }
     }
 
     // The byte of the single repeat left of `count` after runs of 62, before a fresh pixel; unused
     // if none or several are left. A run of 1; in style `Places` the index position, if a fresh
     // pixel came earlier and the chunk before isn't that position (a run of 62 never is).
     #[inline(always)]
-    fn single_repeat_byte(&self, count: usize) -> u8
-        ensures { bytes_of (single self.now count) ≡ result ∷ [] }
+    fn single_repeat_byte(&self, style: Style, count: usize) -> u8
+        ensures { bytes_of (single style self.now.last count) ≡ result ∷ [] }
     {
-        let named = self.begun & ((count > 1) | !self.placed);
-        match self.style {
+        let named = self.last.begun & ((count > 1) | !self.last.placed);
+        match style {
             Reference | Tight => QOI_OP_RUN,
-            Places => pick(named, self.last.hash_index(), QOI_OP_RUN),
+            Places => pick(named, self.last.px.hash_index(), QOI_OP_RUN),
         }
     }
 
-    // Updates the table and `placed` for `count` repeats, none or more. Only style `Tight` puts the
-    // pixel at its position; that changes the table only before the first fresh pixel.
+    // Updates table and last pixel after `count` repeats were written, none or more, and `left` are
+    // left. Only style `Tight` puts the pixel at its position; that changes the table only before
+    // the first fresh pixel.
     #[inline(always)]
-    fn update_after_repeats(&mut self, table: &mut PixelTable, count: usize)
-        ensures same { (self.new.last ≡ self.old.last) × (self.new.style ≡ self.old.style)
-            × (self.new.begun ≡ self.old.begun) }
+    fn update_after_repeats(
+        &mut self,
+        style: Style,
+        table: &mut PixelTable,
+        count: usize,
+        left: usize,
+    )
+        requires { left < run_max }
+        ensures same { (self.new.last.px ≡ self.old.last.px)
+            × (self.new.last.begun ≡ self.old.last.begun) }
+        ensures left { self.new.last.repeats ≡ left }
         ensures state { (past : Past) (before : Option Chunk)
-            → CoderAfter past before table.old self.old
-            → CoderAfter (replicate count (previous past) ++ past)
-            (last_chunk before (runs_by (Chunk.Run 1) count)) table.new self.new }
+            → CoderAfter style past before table.old self.old.last
+            → CoderAfter style (replicate count (previous past) ++ past)
+            (last_chunk before (runs_by (Chunk.Run 1) count)) table.new self.new.last }
     {
-        match self.style {
+        match style {
             Reference | Places => {}
-            Tight => table.put_if(count > 0, self.last.hash_index(), self.last),
+            Tight => table.put_if(count > 0, self.last.px.hash_index(), self.last.px),
         }
-        self.placed = self.placed & (count == 0);
+        self.last = LastPixel {
+            px: self.last.px,
+            begun: self.last.begun,
+            placed: self.last.placed & (count == 0),
+            repeats: left,
+        };
     }
 
     // The chunk, as number and size, of a fresh pixel that isn't at its index position: the one
     // that is passed; but in style `Tight`, for transparent black, the least position that holds
     // it (no pixel was put there), if there is one.
     #[inline(always)]
-    fn chunk_if_absent(&self, table: &PixelTable, px: Packed, number: u32, size: u32) -> (u32, u32)
+    fn chunk_if_absent(
+        style: Style,
+        table: &PixelTable,
+        px: Packed,
+        number: u32,
+        size: u32,
+    ) -> (u32, u32)
         ensures few { size ≤ N + 1 → result.1 ≤ N + 1 }
         ensures choice { (past : Past) (alpha : ℕ) (c : Chunk)
-            → Holds table.now (held_in self.now.style past)
+            → Holds table.now (held_in style past)
             → IsChunk c → HasBytes alpha number size c → IsFirst past px c
-            → seen (held_in self.now.style past) (hash px) ≢ px
+            → seen (held_in style past) (hash px) ≢ px
             → (d : Chunk) × IsChunk d × HasBytes alpha result.0 result.1 d
-            × choice_in self.now.style past px d }
+            × choice_in style past px d }
     {
-        match self.style {
+        match style {
             Reference | Places => (number, size),
             Tight => {
                 if px.is_same(Packed::blank()) {
@@ -152,525 +133,157 @@ impl<const N: usize> Coder<N> {
     #[inline(always)]
     fn write_pixel<const ROOM: usize>(
         &mut self,
+        style: Style,
         table: &mut PixelTable,
         piece: &mut Piece<ROOM>,
         px: Packed,
     )
-        requires room { piece.old.end + chunk_max ≤ ROOM }
+        requires room { piece.old.end + (chunk_max + marker_size) ≤ ROOM }
         requires opaque { N ≡ 3 → px.a ≡ 255 }
         ensures end { piece.new.end ≤ piece.old.end + chunk_max }
-        ensures last { self.new.last ≡ px }
-        ensures begun { self.new.begun ≡ true }
-        ensures written { (w : Writing) (rest : List RgbaPixel) → px ≢ self.old.last
-            → CoderBetween w (px ∷ rest) table.old self.old (kept_bytes piece.old)
-            → CoderBetween w rest table.new self.new (kept_bytes piece.new) }
+        ensures begun { (self.new.last.begun ≡ true) × (self.new.last.repeats ≡ 0) }
+        ensures written { (ahead : List ℕ) (rest : List RgbaPixel) → px ≢ self.old.last.px
+            → self.old.last.repeats ≡ 0
+            → CoderBetween style ahead (px ∷ rest) table.old self.old.last (kept_bytes piece.old)
+            → CoderBetween style ahead rest table.new self.new.last (kept_bytes piece.new) }
     {
         let place = px.hash_index();
         let stands = table.at(place).is_same(px);
-        let (number, size) = spell_pixel::<N>(self.last, px);
-        let (number, size) = self.chunk_if_absent(table, px, number, size);
+        let (number, size) = spell_pixel::<N>(self.last.px, px);
+        let (number, size) = Coder::<N>::chunk_if_absent(style, table, px, number, size);
         table.put(place, px);
-        *self = Coder {
-            style: self.style,
-            last: px,
+        self.last = LastPixel {
+            px,
             begun: true,
             placed: stands,
+            repeats: 0,
         };
         let number = pick(stands, u32::from(place), number);
         piece.keep_chunk::<N>(px.number(), number, pick(stands, 1, size));
     }
 
-    // Writes the `carry` repeats that came before these raw bytes and the repeats at their front,
-    // at most 992 in all. Returns how many of the latter.
+    // Writes the repeats that came before these pixels and those at their front, at most 992 in
+    // all; but if no pixel is left then, only their full runs. Returns how many there are at the
+    // front. If there are none at all, that is seen at the first pixel.
     #[inline(always)]
     fn write_runs<const ROOM: usize>(
         &mut self,
+        style: Style,
         table: &mut PixelTable,
         piece: &mut Piece<ROOM>,
-        data: &[u8],
-        carry: usize,
+        raw: Pixels<N>,
     ) -> usize
-        requires whole { length «data».now % N ≡ 0 }
-        requires few { carry ≤ REPEATS_AT_ONCE }
-        requires room { piece.old.end + RUNS_AT_ONCE < ROOM }
-        ensures end { piece.new.end ≤ piece.old.end + (carry + result) / run_max + 1 }
-        ensures few { carry + result ≤ REPEATS_AT_ONCE }
-        ensures inside { N * result ≤ length «data».now }
-        ensures last { self.new.last ≡ self.old.last }
-        ensures begun { self.new.begun ≡ self.old.begun }
-        ensures stops { (slice_get (pixels_of N (drop (N * result) «data».now)) 0
-            ≢ Some self.old.last) ⊎ (carry + result ≡ REPEATS_AT_ONCE) }
-        ensures written { (w : Writing) → CoderBetween w
-            (replicate carry self.old.last ++ pixels_of N «data».now) table.old self.old
+        requires room { piece.old.end + (RUNS_AT_ONCE + marker_size) < ROOM }
+        ensures end { piece.new.end ≤ piece.old.end + RUNS_AT_ONCE + 1 }
+        ensures each { piece.new.end ≤ piece.old.end + (self.old.last.repeats + result) }
+        ensures inside { result ≤ length (pixels_in raw.entry) }
+        ensures none { drop result (pixels_in raw.entry) ≢ [] → self.new.last.repeats ≡ 0 }
+        ensures some { slice_get (drop result (pixels_in raw.entry)) 0 ≡ Some self.old.last.px
+            → 0 < result }
+        ensures same { (self.new.last.px ≡ self.old.last.px)
+            × (self.new.last.begun ≡ self.old.last.begun) }
+        ensures written { (ahead : List ℕ) (more : List RgbaPixel)
+            → CoderBetween style ahead (pixels_in raw.entry ++ more) table.old self.old.last
             (kept_bytes piece.old)
-            → BytesBetween w (drop (N * result) «data».now) table.new self.new piece.new }
+            → CoderBetween style ahead (drop result (pixels_in raw.entry) ++ more) table.new
+            self.new.last (kept_bytes piece.new) }
     {
-        let (near, _) = data.split_at(data.len().min(N * (REPEATS_AT_ONCE - carry)));
-        // If more than 992 repeat, 992 are counted: sixteen runs of 62, so `one` isn't used.
-        let ahead = repeats_by_call::<N>(near, self.last);
-        let count = carry + ahead;
-        let one = if N * ahead == data.len() {
-            // An index position stands for a repeat only if a fresh pixel follows.
-            QOI_OP_RUN
-        } else {
-            self.single_repeat_byte(count)
-        };
-        piece.keep_runs(count, one);
-        self.update_after_repeats(table, count);
+        let carried = self.last.repeats;
+        if carried == 0 && !raw.begin_with(self.last.px) {
+            return 0;
+        }
+        let ahead = repeats_by_call::<N>(raw.near(REPEATS_AT_ONCE - carried), self.last.px);
+        let count = carried + ahead;
+        if raw.ends_after(ahead) {
+            // Others may follow.
+            let runs = count / QOI_RUN_MAX;
+            piece.keep_full_runs(runs);
+            self.update_after_repeats(style, table, QOI_RUN_MAX * runs, count % QOI_RUN_MAX);
+            return ahead;
+        }
+        // If more than 992 repeat, 992 are counted: sixteen runs of 62, so the single one isn't used.
+        piece.keep_runs(count, self.single_repeat_byte(style, count));
+        self.update_after_repeats(style, table, count, 0);
         ahead
     }
 
-    // The same as `write_runs`, but if there are no repeats, that is seen at the first pixel.
+    /// Writes the repeats that came before these pixels, those at their front, and the fresh pixel
+    /// after them; but if none is left or 992 repeat, only full runs. Returns the rest.
     #[inline(always)]
-    fn write_repeats<const ROOM: usize>(
+    pub(super) fn write_next<'a, const ROOM: usize>(
         &mut self,
+        style: Style,
         table: &mut PixelTable,
         piece: &mut Piece<ROOM>,
-        data: &[u8],
-        carry: usize,
-    ) -> usize
-        requires whole { length «data».now % N ≡ 0 }
-        requires few { carry < REPEATS_AT_ONCE }
-        requires room { piece.old.end + RUNS_AT_ONCE < ROOM }
-        ensures end { piece.new.end ≤ piece.old.end + RUNS_AT_ONCE + 1 }
-        ensures each { piece.new.end ≤ piece.old.end + (carry + result) }
-        ensures inside { N * result ≤ length «data».now }
-        ensures last { self.new.last ≡ self.old.last }
-        ensures begun { self.new.begun ≡ self.old.begun }
-        ensures stops { (slice_get (pixels_of N (drop (N * result) «data».now)) 0
-            ≢ Some self.old.last) ⊎ (carry + result ≡ REPEATS_AT_ONCE) }
-        ensures written { (w : Writing) → CoderBetween w
-            (replicate carry self.old.last ++ pixels_of N «data».now) table.old self.old
-            (kept_bytes piece.old)
-            → BytesBetween w (drop (N * result) «data».now) table.new self.new piece.new }
-    {
-        if carry > 0 || begins_with::<N>(data, self.last) {
-            return self.write_runs(table, piece, data, carry);
-        }
-        0
-    }
-
-    // Writes the `carry` repeats that came before these raw bytes, the repeats at their front, and
-    // the fresh pixel after them, if there is one and fewer than 992 repeats were written. Returns
-    // how many pixels of the raw bytes were written.
-    #[inline(always)]
-    fn write_next<const ROOM: usize>(
-        &mut self,
-        table: &mut PixelTable,
-        piece: &mut Piece<ROOM>,
-        data: &[u8],
-        carry: usize,
-    ) -> usize
-        requires whole { length «data».now % N ≡ 0 }
-        requires few { carry < REPEATS_AT_ONCE }
-        requires room { piece.old.end + RUNS_AT_ONCE + 1 + chunk_max ≤ ROOM }
+        raw: Pixels<'a, N>,
+    ) -> Pixels<'a, N>
+        requires some { pixels_in raw ≢ [] }
+        requires room { piece.old.end + (RUNS_AT_ONCE + 1 + chunk_max + marker_size) ≤ ROOM }
         ensures end { piece.new.end ≤ piece.old.end + RUNS_AT_ONCE + 1 + chunk_max }
-        ensures each { carry ≡ 0 → piece.new.end ≤ piece.old.end + chunk_max * result }
-        ensures inside { N * result ≤ length «data».now }
-        ensures some { 0 < length «data».now → 0 < result }
-        ensures begun { self.old.begun ≡ true → self.new.begun ≡ true }
-        ensures written { (w : Writing) → CoderBetween w
-            (replicate carry self.old.last ++ pixels_of N «data».now) table.old self.old
+        ensures each { self.old.last.repeats ≡ 0
+            → piece.new.end + chunk_max * length (pixels_in result)
+            ≤ piece.old.end + chunk_max * length (pixels_in raw.entry) }
+        ensures less { length (pixels_in result) < length (pixels_in raw.entry) }
+        ensures none { pixels_in result ≢ [] → self.new.last.repeats ≡ 0 }
+        ensures begun { self.old.last.begun ≡ true → self.new.last.begun ≡ true }
+        ensures written { (ahead : List ℕ) (more : List RgbaPixel)
+            → CoderBetween style ahead (pixels_in raw.entry ++ more) table.old self.old.last
             (kept_bytes piece.old)
-            → BytesBetween w (drop (N * result) «data».now) table.new self.new piece.new }
+            → CoderBetween style ahead (pixels_in result ++ more) table.new self.new.last
+            (kept_bytes piece.new) }
     {
-        let count = self.write_repeats(table, piece, data, carry);
-        let after = skip(data, N * count);
-        if carry + count == REPEATS_AT_ONCE || after.is_empty() {
-            return count;
+        let count = self.write_runs(style, table, piece, raw);
+        let after = raw.skip(count);
+        if after.is_empty() || after.begin_with(self.last.px) {
+            return after;
         }
-        self.write_pixel(table, piece, Packed::read::<N>(after));
-        count + 1
+        self.write_pixel(style, table, piece, after.first());
+        after.skip(1)
     }
 
-    /// Writes the `carry` repeats that came before, and fewer pixels than a block has, one by one.
+    /// Writes the repeats that came before, and an image's last pixels, fewer than a block has, one
+    /// by one.
     #[inline(never)]
     pub(super) fn write_few<'p, const ROOM: usize>(
         &mut self,
+        style: Style,
         table: &mut PixelTable,
-        piece: Piece<'p, ROOM>,
-        data: &[u8],
-        carry: usize,
+        piece: OpenPiece<'p, ROOM>,
+        raw: Pixels<N>,
     ) -> Piece<'p, ROOM>
-        requires whole { length «data».now % N ≡ 0 }
-        requires few { length «data».now < 16 * N }
-        requires carried { carry < REPEATS_AT_ONCE }
-        requires some { 0 < carry → 0 < length «data».now }
-        requires room { piece.end < ROOM - PAST }
-        ensures end { result.end < ROOM - PAST + FEW_MAX }
-        ensures begun { self.old.begun ≡ true → self.new.begun ≡ true }
-        ensures written { (w : Writing) → CoderBetween w
-            (replicate carry self.old.last ++ pixels_of N «data».now) table.old self.old
-            (kept_bytes piece.entry)
-            → CoderBetween w [] table.new self.new (kept_bytes result) }
+        requires few { length (pixels_in raw) < 16 }
+        ensures written { (ahead : List ℕ)
+            → CoderBetween style ahead (pixels_in raw.entry) table.old self.old.last
+            (kept_bytes piece.entry.piece) → ahead ≡ kept_bytes result }
     {
-        let mut piece = piece;
-        let mut rest = data;
-        let mut carry = carry;
+        let mut piece = piece.piece;
+        let mut rest = raw;
         while !rest.is_empty() {
-            let count = self.write_next(table, &mut piece, rest, carry);
-            rest = skip(rest, N * count);
-            carry = 0;
+            rest = self.write_next(style, table, &mut piece, rest);
         }
+        piece.keep_run(self.last.repeats, QOI_OP_RUN);
         piece
     }
 
-    /// What is carried after the coder's last pixel, once it is written: nothing.
-    #[inline(always)]
-    pub(super) fn carry(&self) -> Carry
-        ensures count { result.count ≡ 0 }
-        ensures before { IsLastOf self.now.last result.before }
-        ensures placed { result.placed ≡ self.now.placed }
-        ensures opaque { N ≡ 3 → slice_index result.before.a 15 ≡ 255 }
-        ensures between { (w : Writing) (rest table : List RgbaPixel) (kept : List ℕ)
-            → CoderBetween w rest table self.now kept
-            → StepBetween w rest table self.now result kept }
-    {
-        Carry {
-            before: Planes::splat(self.last),
-            count: 0,
-            placed: self.placed,
-        }
-    }
-
-    // Whether the front goes by blocks: once a fresh pixel came or, but in style `Tight`, if the
-    // next one is fresh and there is a whole block.
-    #[inline(always)]
-    fn goes_by_blocks(&self, data: &[u8]) -> bool
-        ensures fresh { IsTrue result → self.now.begun ≡ false
-            → slice_get (pixels_of N «data».now) 0 ≢ Some self.now.last }
-        ensures whole { IsTrue result → self.now.begun ≡ false → 16 * N ≤ length «data».now }
-        ensures tight { IsTrue result → self.now.style ≡ Tight → self.now.begun ≡ true }
-        ensures not_yet { IsFalse result → self.now.begun ≡ false }
-    {
-        let may_open = match self.style {
-            Reference | Places => true,
-            Tight => false,
-        };
-        self.begun || (may_open && data.len() >= 16 * N && !begins_with::<N>(data, self.last))
-    }
-
-    // Whether in style `Tight` a pixel of the block may be given by another index position than its
-    // own.
-    #[inline(always)]
-    fn may_name_other(style: Style, table: &PixelTable, block: Block) -> bool
-        ensures tight { IsTrue result → style ≡ Tight }
-        ensures none { (before : Planes)
-            → ChangesFrom before (block_pixels block.words) block.changes
-            → IsFalse result → style ≡ Tight
-            → MissesNoBlank table.now before (block_pixels block.words) }
-    {
-        match style {
-            Reference | Places => false,
-            Tight => block.may_miss_blank(table),
-        }
-    }
-
-    // Writes the block at the front, but for the repeats at its end. Returns the rest, and what is
-    // carried.
-    #[inline(always)]
-    fn write_block<'a, const STYLE: u8, const ROOM: usize>(
-        style: Style,
-        table: &mut PixelTable,
-        piece: &mut Piece<ROOM>,
-        data: &'a [u8],
-        block: Block,
-        carry: Carry,
-    ) -> (&'a [u8], Carry)
-        requires channels { IsChannels N }
-        requires whole { length «data».now % N ≡ 0 }
-        requires enough { 16 * N ≤ length «data».now }
-        requires few { carry.count < run_max }
-        requires opaque { N ≡ 3 → slice_index carry.before.a 15 ≡ 255 }
-        requires room { piece.old.end < ROOM - PAST }
-        requires pixels { block_pixels block.words ≡ take 16 (pixels_of N «data».now) }
-        ensures end { piece.new.end ≤ piece.old.end + BLOCK_MAX }
-        ensures less { length result.0.now < length «data».entry.now }
-        ensures whole { length result.0.now % N ≡ 0 }
-        ensures few { result.1.count < run_max }
-        ensures before { result.1.before ≡ block.planes }
-        ensures written { (w : Writing) (begun : Bool) → w.list.style ≡ style
-            → FitsBlock N style table.old carry.before (block_pixels block.words) block.changes
-            → CarryBetween begun w (pixels_of N «data».entry.now) table.old carry
-            (kept_bytes piece.old)
-            → CarryBetween true w (pixels_of N result.0.now) table.new result.1
-            (kept_bytes piece.new) }
-    {
-        let after = piece.keep_block::<N, STYLE>(style, table, block, carry);
-        (skip(data, 16 * N), after)
-    }
-
-    // Carries the block of repeats at the front, too. Returns the rest, and what is carried.
-    #[inline(always)]
-    fn carry_block(data: &[u8], carry: Carry) -> (&[u8], Carry)
-        requires channels { IsChannels N }
-        requires whole { length «data».now % N ≡ 0 }
-        requires enough { 16 * N ≤ length «data».now }
-        requires repeats { all_repeat (last_pixel carry.before) (take 16 (pixels_of N «data».now))
-            ≡ true }
-        requires few { carry.count ≤ FEW_CARRIED }
-        ensures less { length result.0.now < length «data».entry.now }
-        ensures whole { length result.0.now % N ≡ 0 }
-        ensures few { result.1.count < run_max }
-        ensures before { result.1.before ≡ carry.before }
-        ensures written { (w : Writing) (begun : Bool) (table : List RgbaPixel) (kept : List ℕ)
-            → CarryBetween begun w (pixels_of N «data».entry.now) table carry kept
-            → CarryBetween true w (pixels_of N result.0.now) table result.1 kept }
-    {
-        let count = carry.count + 16;
-        (skip(data, 16 * N), Carry { count, ..carry })
-    }
-
-    // Writes the full runs of the repeats at the front, after those that are carried; the others are
-    // carried. Returns how many pixels came, and what is carried.
-    #[inline(always)]
-    fn write_long_group<const ROOM: usize>(
-        piece: &mut Piece<ROOM>,
-        data: &[u8],
-        carry: Carry,
-    ) -> (usize, Carry)
-        requires channels { IsChannels N }
-        requires repeats { slice_get (pixels_of N «data».now) 0 ≡ Some (last_pixel carry.before) }
-        requires whole { length «data».now % N ≡ 0 }
-        requires some { 0 < length «data».now }
-        requires few { carry.count < run_max }
-        requires opaque { N ≡ 3 → slice_index carry.before.a 15 ≡ 255 }
-        requires room { piece.old.end < ROOM - PAST }
-        ensures end { piece.new.end ≤ piece.old.end + BLOCK_MAX }
-        ensures inside { N * result.0 ≤ length «data».now }
-        ensures some { 0 < result.0 }
-        ensures few { result.1.count < run_max }
-        ensures before { result.1.before ≡ carry.before }
-        ensures written { (w : Writing) (begun : Bool) (table : List RgbaPixel)
-            → CarryBetween begun w (pixels_of N «data».now) table carry (kept_bytes piece.old)
-            → CarryBetween true w (pixels_of N (drop (N * result.0) «data».now)) table result.1
-            (kept_bytes piece.new) }
-    {
-        let carried = usize::from(carry.count);
-        let (near, _) = data.split_at(data.len().min(N * (REPEATS_AT_ONCE - carried)));
-        let ahead = repeats_of::<N>(near, Packed::read::<N>(data));
-        let count = carried + ahead;
-        piece.keep_full_runs(count / QOI_RUN_MAX);
-        let after = Carry {
-            before: carry.before,
-            count: (count % QOI_RUN_MAX) as u8,
-            placed: carry.placed & (count < QOI_RUN_MAX),
-        };
-        (ahead, after)
-    }
-
-    // Writes the repeats at the front and the fresh pixel after them, in style `Tight`. Returns how
-    // many pixels came, and what is carried.
-    #[inline(always)]
-    fn write_group<const ROOM: usize>(
-        table: &mut PixelTable,
-        piece: &mut Piece<ROOM>,
-        data: &[u8],
-        carry: Carry,
-    ) -> (usize, Carry)
-        requires channels { IsChannels N }
-        requires whole { length «data».now % N ≡ 0 }
-        requires some { 0 < length «data».now }
-        requires few { carry.count < run_max }
-        requires opaque { N ≡ 3 → slice_index carry.before.a 15 ≡ 255 }
-        requires room { piece.old.end < ROOM - PAST }
-        ensures end { piece.new.end ≤ piece.old.end + BLOCK_MAX }
-        ensures inside { N * result.0 ≤ length «data».now }
-        ensures some { 0 < result.0 }
-        ensures few { result.1.count < run_max }
-        ensures opaque { N ≡ 3 → slice_index result.1.before.a 15 ≡ 255 }
-        ensures written { (w : Writing) → w.list.style ≡ Tight
-            → CarryBetween true w (pixels_of N «data».now) table.old carry (kept_bytes piece.old)
-            → InBlocks w (pixels_of N (drop (N * result.0) «data».now)) table.new result.1
-            (kept_bytes piece.new) }
-    {
-        let mut coder = Coder::<N>::after(Tight, carry);
-        let count = coder.write_next(table, piece, data, usize::from(carry.count));
-        (count, coder.carry())
-    }
-
-    // Writes what is at the front of raw bytes: a block, but for the repeats at its end; if all
-    // repeat, the full runs of the repeats there, if any; or repeats and the fresh pixel after them,
-    // if in style `Tight` a pixel may be given by another index position than its own. Returns the
-    // rest, and what is carried.
-    #[inline(always)]
-    fn write_front<'a, const STYLE: u8, const ROOM: usize>(
-        style: Style,
-        table: &mut PixelTable,
-        piece: &mut Piece<ROOM>,
-        data: &'a [u8],
-        carry: Carry,
-    ) -> (&'a [u8], Carry)
-        requires channels { IsChannels N }
-        requires whole { length «data».now % N ≡ 0 }
-        requires enough { 16 * N ≤ length «data».now }
-        requires few { carry.count < run_max }
-        requires opaque { N ≡ 3 → slice_index carry.before.a 15 ≡ 255 }
-        requires room { piece.old.end < ROOM - PAST }
-        ensures end { piece.new.end ≤ piece.old.end + BLOCK_MAX }
-        ensures less { length result.0.now < length «data».entry.now }
-        ensures whole { length result.0.now % N ≡ 0 }
-        ensures few { result.1.count < run_max }
-        ensures opaque { N ≡ 3 → slice_index result.1.before.a 15 ≡ 255 }
-        ensures written { (w : Writing) → w.list.style ≡ style
-            → InBlocks w (pixels_of N «data».entry.now) table.old carry (kept_bytes piece.old)
-            → InBlocks w (pixels_of N result.0.now) table.new result.1 (kept_bytes piece.new) }
-    {
-        let block = Block::first::<N>(data, carry.before);
-        if block.repeats() {
-            // In three channels most groups are short.
-            if N == 3 && carry.count <= FEW_CARRIED {
-                return Coder::<N>::carry_block(data, carry);
-            }
-            let (count, after) = Coder::<N>::write_long_group(piece, data, carry);
-            return (skip(data, N * count), after);
-        }
-        if Coder::<N>::may_name_other(style, table, block) {
-            let (count, after) = Coder::<N>::write_group(table, piece, data, carry);
-            return (skip(data, N * count), after);
-        }
-        Coder::<N>::write_block::<STYLE, ROOM>(style, table, piece, data, block, carry)
-    }
-
-    // Writes the last pixels, of which there are fewer than a block has, and the repeats that are
-    // carried. Returns the piece, and updates what is carried: nothing.
-    #[inline(always)]
-    fn write_tail<'p, const ROOM: usize>(
-        style: Style,
-        table: &mut PixelTable,
-        piece: Piece<'p, ROOM>,
-        data: &[u8],
-        carry: &mut Carry,
-    ) -> Piece<'p, ROOM>
-        requires channels { IsChannels N }
-        requires whole { length «data».now % N ≡ 0 }
-        requires some { 0 < length «data».now }
-        requires few { length «data».now < 16 * N }
-        requires carried { carry.old.count < run_max }
-        requires opaque { N ≡ 3 → slice_index carry.old.before.a 15 ≡ 255 }
-        requires room { piece.end < ROOM - PAST }
-        ensures end { result.end < ROOM - PAST + FEW_MAX }
-        ensures few { carry.new.count < run_max }
-        ensures opaque { N ≡ 3 → slice_index carry.new.before.a 15 ≡ 255 }
-        ensures written { (w : Writing) → w.list.style ≡ style
-            → CarryBetween true w (pixels_of N «data».now) table.old carry.old
-            (kept_bytes piece.entry) → InBlocks w [] table.new carry.new (kept_bytes result) }
-    {
-        let mut coder = Coder::<N>::after(style, *carry);
-        let piece = coder.write_few(table, piece, data, usize::from(carry.count));
-        *carry = coder.carry();
-        piece
-    }
-
-    // Writes the repeats that open an image, and what comes after them until it goes by blocks.
-    // Returns the rest, which goes by blocks unless the piece is full or nothing is left, and the
-    // piece. Updates what is carried: nothing.
+    /// `write_next`, into a piece that isn't full.
     #[inline(never)]
-    fn write_opening<'a, 'p, const ROOM: usize>(
-        &mut self,
-        table: &mut PixelTable,
-        piece: Piece<'p, ROOM>,
-        data: &'a [u8],
-        carry: &mut Carry,
-    ) -> (&'a [u8], Piece<'p, ROOM>)
-        requires whole { length «data».now % N ≡ 0 }
-        requires not_yet { self.old.begun ≡ false }
-        requires few { carry.old.count < run_max }
-        requires opaque { N ≡ 3 → slice_index carry.old.before.a 15 ≡ 255 }
-        requires room { piece.end < ROOM - PAST }
-        ensures end { result.1.end < ROOM - PAST + BLOCK_MAX }
-        ensures some { (length result.0.now ≤ length «data».entry.now) × (ROOM - PAST ≤ result.1.end
-            → length result.0.now < length «data».entry.now) }
-        ensures whole { length result.0.now % N ≡ 0 }
-        ensures few { carry.new.count < run_max }
-        ensures opaque { N ≡ 3 → slice_index carry.new.before.a 15 ≡ 255 }
-        ensures begun { result.1.end < ROOM - PAST → 0 < length result.0.now
-            → self.new.begun ≡ true }
-        ensures written { (w : Writing)
-            → StepBetween w (pixels_of N «data».entry.now) table.old self.old carry.old
-            (kept_bytes piece.entry)
-            → StepBetween w (pixels_of N result.0.now) table.new self.new carry.new
-            (kept_bytes result.1) }
-    {
-        let mut piece = piece;
-        let mut rest = data;
-        while !piece.is_full() && !rest.is_empty() {
-            if rest.len() >= 16 * N && self.goes_by_blocks(rest) {
-                self.begun = true;
-                return (rest, piece);
-            }
-            let count = self.write_next(table, &mut piece, rest, 0);
-            *carry = self.carry();
-            rest = skip(rest, N * count);
-        }
-        (rest, piece)
-    }
-
-    /// Writes until the piece is full or nothing is left, and updates what is carried. Returns the
-    /// rest, and the piece.
-    ///
-    /// The coder's style is passed, too, since it is a constant where this is called. `STYLE` is a
-    /// number for it, so that each style has a loop of its own. The piece is a value, and taken apart
-    /// at once, so that the compiler keeps its fields in registers.
-    pub(super) fn fill<'a, 'p, const STYLE: u8, const ROOM: usize>(
+    pub(super) fn write_open<'a, 'p, const ROOM: usize>(
         &mut self,
         style: Style,
         table: &mut PixelTable,
-        piece: Piece<'p, ROOM>,
-        data: &'a [u8],
-        carry: &mut Carry,
-    ) -> (&'a [u8], Piece<'p, ROOM>)
-        requires whole { length «data».now % N ≡ 0 }
-        requires few { carry.old.count < run_max }
-        requires opaque { N ≡ 3 → slice_index carry.old.before.a 15 ≡ 255 }
-        requires room { piece.end < ROOM - PAST }
-        ensures end { result.1.end < ROOM - PAST + FEW_MAX }
-        ensures all { result.1.end < ROOM - PAST → length result.0.now ≡ 0 }
-        ensures some { ROOM - PAST ≤ result.1.end → length result.0.now < length «data».entry.now }
-        ensures whole { length result.0.now % N ≡ 0 }
-        ensures few { carry.new.count < run_max }
-        ensures opaque { N ≡ 3 → slice_index carry.new.before.a 15 ≡ 255 }
-        ensures written { (w : Writing) → w.list.style ≡ style
-            → StepBetween w (pixels_of N «data».entry.now) table.old self.old carry.old
-            (kept_bytes piece.entry)
-            → StepBetween w (pixels_of N result.0.now) table.new self.new carry.new
+        piece: OpenPiece<'p, ROOM>,
+        raw: Pixels<'a, N>,
+    ) -> (Pixels<'a, N>, Piece<'p, ROOM>)
+        requires { pixels_in raw ≢ [] }
+        ensures less { length (pixels_in result.0) < length (pixels_in raw.entry) }
+        ensures written { (ahead : List ℕ) (more : List RgbaPixel)
+            → CoderBetween style ahead (pixels_in raw.entry ++ more) table.old self.old.last
+            (kept_bytes piece.entry.piece)
+            → CoderBetween style ahead (pixels_in result.0 ++ more) table.new self.new.last
             (kept_bytes result.1) }
     {
-        let Piece { bytes, end } = piece;
-        let piece = Piece { bytes, end };
-        let (mut rest, mut piece) = if self.goes_by_blocks(data) {
-            self.begun = true;
-            (data, piece)
-        } else {
-            self.write_opening(table, piece, data, carry)
-        };
-        let mut now = carry.with_known_alpha::<N>();
-        // A block has sixteen pixels. Those that are left are written one by one.
-        while !piece.is_full() && rest.len() >= 16 * N {
-            let (after, carried) = Coder::<N>::write_front::<STYLE, ROOM>(
-                style, table, &mut piece, rest, now,
-            );
-            now = carried;
-            rest = after;
-        }
-        *carry = now;
-        if piece.is_full() || rest.is_empty() {
-            return (rest, piece);
-        }
-        let piece = Coder::<N>::write_tail(style, table, piece, rest, carry);
-        (&[], piece)
-    }
-
-    /// Writes the repeats that are carried at the end, if there are any.
-    #[inline(always)]
-    pub(super) fn write_last<const ROOM: usize>(&self, piece: &mut Piece<ROOM>, carry: Carry)
-        requires few { carry.count < run_max }
-        requires room { piece.old.end < ROOM - PAST }
-        ensures end { piece.new.end ≤ piece.old.end + 1 }
-        ensures written { (w : Writing) (table : List RgbaPixel)
-            → StepBetween w [] table self.now carry (kept_bytes piece.old)
-            → w.ahead ≡ kept_bytes piece.new }
-    {
-        piece.keep_run(usize::from(carry.count), QOI_OP_RUN);
+        let mut piece = piece.piece;
+        let rest = self.write_next(style, table, &mut piece, raw);
+        (rest, piece)
     }
 }

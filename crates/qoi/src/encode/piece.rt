@@ -1,21 +1,17 @@
 //! The bytes of a file that are kept before they go to a writer.
 ghost use lib.Lanes.{digits_l};
-ghost use Rattle.std.specs.Prelude.{◌≡◌, Bool, true, ◌+◌, ◌-◌, ◌*◌, ◌/◌, ◌^◌, ◌<◌, ◌≤◌, List, [], ◌∷◌, ◌++◌, length, take, drop, replicate, slice_index, IsTrue, IsFalse, OnOk, IfErr};
+ghost use Rattle.std.specs.Prelude.{◌≡◌, ℕ, ◌+◌, ◌-◌, ◌*◌, ◌/◌, ◌^◌, ◌<◌, ◌≤◌, List, [], ◌∷◌, ◌++◌, length, take, drop, replicate, slice_index, IsTrue, IsFalse, OnOk, IfOk, IfErr};
 ghost use Rattle.std.specs.List.{copy_within};
 ghost use Rattle.qoi.specs.declared.chunk.Chunk.{Chunk};
 ghost use Rattle.qoi.specs.declared.chunk.Chunk.TheVariants.{Run};
-ghost use Rattle.qoi.specs.declared.encode.block.TheConstants.{BLOCK_MAX};
 ghost use Rattle.qoi.specs.declared.encode.piece.TheConstants.{PAST, RUNS_AT_ONCE, REPEATS_AT_ONCE};
-ghost use Rattle.qoi.specs.Qoi.{RgbaPixel, run_max, chunk_max, bytes_of, chunk_bytes};
+ghost use Rattle.qoi.specs.Qoi.{RgbaPixel, run_max, chunk_max, marker_size, end_marker, bytes_of, chunk_bytes};
 ghost use Rattle.qoi.specs.Raw.{IsChannels};
 ghost use Rattle.qoi.specs.Runs.{runs_by};
-ghost use Rattle.qoi.specs.writers.Writes.{WroteBeginning};
+ghost use Rattle.qoi.specs.writers.Writes.{WroteBut, WroteBeginning};
 
-use crate::consts::{QOI_OP_RUN, QOI_RUN_MAX};
-use crate::encode::block::{Block, Carry, write_block};
-use crate::encode::table::PixelTable;
+use crate::consts::{QOI_OP_RUN, QOI_PADDING, QOI_RUN_MAX};
 use crate::error::Result;
-use crate::types::Style;
 use crate::utils::{copy_after, pick};
 use crate::writers::Writer;
 use std::simd::prelude::*;
@@ -43,22 +39,25 @@ pub(super) const RUNS_AT_ONCE: usize = 16;
 pub(super) const REPEATS_AT_ONCE: usize = RUNS_AT_ONCE * QOI_RUN_MAX;
 
 /// Bytes that are kept: the first `end` ones of a room of `ROOM` bytes. Those after them mean
-/// nothing. A full piece has `ROOM - PAST` bytes.
+/// nothing, and there is room for the end marker. A full piece has `ROOM - PAST` bytes.
 #[derive(Drop)]
 pub(super) struct Piece<'a, const ROOM: usize> {
     pub(super) bytes: &'a mut [u8],
     pub(super) end: usize,
     ghost large: { 2 * PAST ≤ ROOM },
-    ghost within: { end ≤ ROOM },
+    ghost within: { end + marker_size ≤ ROOM },
     ghost room: { length bytes.now ≡ ROOM },
 }
 
+/// A piece that isn't full: there is room for the chunks of a block, or of fewer pixels.
+#[derive(Drop)]
+pub(super) struct OpenPiece<'a, const ROOM: usize> {
+    pub(super) piece: Piece<'a, ROOM>,
+    ghost not_full: { piece.end < ROOM - PAST },
+}
+
 impl<'a, const ROOM: usize> Piece<'a, ROOM> {
-    ghost use Rattle.qoi.specs.inner.Blocks.{FitsBlock};
-    ghost use Rattle.qoi.specs.inner.CarryLoop.{CarryBetween};
-    ghost use Rattle.qoi.specs.inner.CoderLoop.{Writing};
     ghost use Rattle.qoi.specs.inner.Piece.{kept_bytes};
-    ghost use Rattle.qoi.specs.inner.Planes.{block_pixels};
 
     /// An empty piece in this room.
     #[inline(always)]
@@ -82,11 +81,20 @@ impl<'a, const ROOM: usize> Piece<'a, ROOM> {
         self.end >= ROOM - PAST
     }
 
+    /// The piece, which isn't full.
+    #[inline(always)]
+    pub(super) fn open(self) -> OpenPiece<'a, ROOM>
+        requires { self.end < ROOM - PAST }
+        ensures { kept_bytes result.piece ≡ kept_bytes self.entry }
+    {
+        OpenPiece { piece: self }
+    }
+
     /// Appends these bytes.
     #[inline(always)]
     pub(super) fn keep(&mut self, v: &[u8])
-        requires { self.old.end + length v.now ≤ ROOM }
-        ensures kept { kept_bytes self.new ≡ kept_bytes self.old ++ v.now }
+        requires { self.old.end + (length v.now + marker_size) ≤ ROOM }
+        ensures { kept_bytes self.new ≡ kept_bytes self.old ++ v.now }
     {
         self.end = copy_after(self.bytes, self.end, v);
     }
@@ -95,7 +103,7 @@ impl<'a, const ROOM: usize> Piece<'a, ROOM> {
     #[inline(always)]
     pub(super) fn keep_chunk<const N: usize>(&mut self, px: u32, number: u32, size: u32)
         requires channels { IsChannels N }
-        requires room { self.old.end + chunk_max ≤ ROOM }
+        requires room { self.old.end + (chunk_max + marker_size) ≤ ROOM }
         requires few { size ≤ N + 1 }
         ensures kept { kept_bytes self.new
             ≡ kept_bytes self.old ++ take size (digits_l 256 4 number ++ (px / 2 ^ 24) ∷ []) }
@@ -107,7 +115,7 @@ impl<'a, const ROOM: usize> Piece<'a, ROOM> {
     /// Appends the run of fewer than 62 repeats, if there are any; a single one is the byte `one`.
     #[inline(always)]
     pub(super) fn keep_run(&mut self, count: usize, one: u8)
-        requires room { self.old.end < ROOM }
+        requires room { self.old.end + marker_size < ROOM }
         requires few { count < run_max }
         ensures kept { (c : Chunk) → bytes_of c ≡ one ∷ []
             → kept_bytes self.new ≡ kept_bytes self.old ++ chunk_bytes (runs_by c count) }
@@ -120,7 +128,7 @@ impl<'a, const ROOM: usize> Piece<'a, ROOM> {
     /// Appends runs of 62 repeats, at most sixteen.
     #[inline(always)]
     pub(super) fn keep_full_runs(&mut self, runs: usize)
-        requires room { self.old.end + RUNS_AT_ONCE < ROOM }
+        requires room { self.old.end + (RUNS_AT_ONCE + marker_size) ≤ ROOM }
         requires few { runs ≤ RUNS_AT_ONCE }
         ensures kept { kept_bytes self.new
             ≡ kept_bytes self.old ++ chunk_bytes (replicate runs (Run run_max)) }
@@ -137,7 +145,7 @@ impl<'a, const ROOM: usize> Piece<'a, ROOM> {
     /// byte `one`.
     #[inline(always)]
     pub(super) fn keep_runs(&mut self, count: usize, one: u8)
-        requires room { self.old.end + RUNS_AT_ONCE < ROOM }
+        requires room { self.old.end + (RUNS_AT_ONCE + marker_size) < ROOM }
         requires few { count ≤ REPEATS_AT_ONCE }
         ensures kept { (c : Chunk) → bytes_of c ≡ one ∷ []
             → kept_bytes self.new ≡ kept_bytes self.old ++ chunk_bytes (runs_by c count) }
@@ -145,37 +153,6 @@ impl<'a, const ROOM: usize> Piece<'a, ROOM> {
     {
         self.keep_full_runs(count / QOI_RUN_MAX);
         self.keep_run(count % QOI_RUN_MAX, one);
-    }
-
-    /// Appends the chunks of a block that doesn't repeat whole, but for the repeats at its end, as
-    /// `write_block` stores them.
-    #[inline(always)]
-    pub(super) fn keep_block<const N: usize, const STYLE: u8>(
-        &mut self,
-        style: Style,
-        table: &mut PixelTable,
-        block: Block,
-        carry: Carry,
-    ) -> Carry
-        requires channels { IsChannels N }
-        requires few { carry.count < run_max }
-        requires opaque { N ≡ 3 → slice_index carry.before.a 15 ≡ 255 }
-        requires room { self.old.end < ROOM - PAST }
-        ensures end { self.new.end ≤ self.old.end + BLOCK_MAX }
-        ensures few { result.count < 16 }
-        ensures before { result.before ≡ block.planes }
-        ensures written { (w : Writing) (begun : Bool) (rest : List RgbaPixel)
-            → w.list.style ≡ style
-            → FitsBlock N style table.old carry.before (block_pixels block.words) block.changes
-            → CarryBetween begun w (block_pixels block.words ++ rest) table.old carry
-            (kept_bytes self.old)
-            → CarryBetween true w rest table.new result (kept_bytes self.new) }
-    {
-        let (end, after) = write_block::<N, STYLE, ROOM>(
-            style, table, self.bytes, self.end, block, carry,
-        );
-        self.end = end;
-        after
     }
 
     /// Sends a full piece to a writer; the bytes after it are kept.
@@ -196,19 +173,67 @@ impl<'a, const ROOM: usize> Piece<'a, ROOM> {
         Ok(())
     }
 
-    /// Sends all the bytes to a writer, a full piece first if there is one. Doesn't empty `self`.
+    /// Sends a full piece to a writer, if there is one, and returns the bytes after it.
     #[inline(always)]
-    pub(super) fn finish<W: Writer>(&mut self, writer: &mut W) -> Result<()>
+    pub(super) fn make_room<W: Writer>(self, writer: &mut W) -> Result<OpenPiece<'a, ROOM>>
+        requires { self.end ≤ W.room writer.old }
+        ensures written { IfOk result (λ p. WroteBut W.wrote writer.old (kept_bytes self.entry)
+            (kept_bytes p.piece) writer.new) }
+        ensures refused { IfErr result (λ e. W.IsFault e
+            × WroteBeginning W.wrote writer.old (kept_bytes self.entry) writer.new) }
+    {
+        let mut piece = self;
+        if piece.is_full() {
+            piece.send(writer)?;
+        }
+        Ok(piece.open())
+    }
+
+    /// Sends all the bytes to a writer. Doesn't empty the piece.
+    #[inline(always)]
+    pub(super) fn flush<W: Writer>(&mut self, writer: &mut W) -> Result<()>
         requires { self.old.end ≤ W.room writer.old }
         ensures written { OnOk result (W.wrote writer.old (kept_bytes self.old) writer.new) }
         ensures refused { IfErr result (λ e. W.IsFault e
             × WroteBeginning W.wrote writer.old (kept_bytes self.old) writer.new) }
     {
-        if self.is_full() {
-            self.send(writer)?;
-        }
-        writer.write_many(&self.bytes[..self.end])
+        send_kept::<W, ROOM>(writer, self.bytes, self.end)
     }
+
+    /// Sends all the bytes to a writer, and then the end marker. Doesn't empty the piece.
+    #[inline(always)]
+    pub(super) fn finish<W: Writer>(&mut self, writer: &mut W) -> Result<()>
+        requires { self.old.end + marker_size ≤ W.room writer.old }
+        ensures written { OnOk result
+            (W.wrote writer.old (kept_bytes self.old ++ end_marker) writer.new) }
+        ensures refused { IfErr result (λ e. W.IsFault e
+            × WroteBeginning W.wrote writer.old (kept_bytes self.old ++ end_marker) writer.new) }
+    {
+        let end = copy_after(self.bytes, self.end, &QOI_PADDING);
+        send_kept::<W, ROOM>(writer, self.bytes, end)
+    }
+}
+
+// Sends the first `end` bytes to a writer, a full piece first if there are as many.
+#[inline(always)]
+fn send_kept<W: Writer, const ROOM: usize>(
+    writer: &mut W,
+    bytes: &mut [u8],
+    end: usize,
+) -> Result<()>
+    requires large { 2 * PAST ≤ ROOM }
+    requires size { length bytes.old ≡ ROOM }
+    requires within { end ≤ ROOM }
+    requires room { end ≤ W.room writer.old }
+    ensures written { OnOk result (W.wrote writer.old (take end bytes.old) writer.new) }
+    ensures refused { IfErr result (λ e. W.IsFault e
+        × WroteBeginning W.wrote writer.old (take end bytes.old) writer.new) }
+{
+    if end < ROOM - PAST {
+        return writer.write_many(&bytes[..end]);
+    }
+    send_front::<W, ROOM>(writer, bytes)?;
+    writer.write_many(&bytes[..end - (ROOM - PAST)])
 }
 
 // Sends a full piece to a writer, and moves the bytes after it to the front.

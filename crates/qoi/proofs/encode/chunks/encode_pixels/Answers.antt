@@ -1,89 +1,62 @@
 -- A piece at a time.
-use Rattle.std.proofs.Common.{◌≡◌, ℕ, ◌-◌, [], replicate, refl, arith, subst}
+use Rattle.std.proofs.Common.{◌++◌, [], sym, ap, ◌∙◌, arith, subst, append-nil}
 use Rattle.std.proofs.lemmas.Result.{err_from_is_err_and}
-use Rattle.qoi.specs.declared.encode.piece.TheConstants.{PAST}
-use Rattle.qoi.specs.declared.encode.block.Carry.{Carry}
-use Rattle.qoi.specs.declared.encode.coder.Coder.{Coder}
-use Rattle.qoi.specs.declared.encode.planes.Planes.{Planes}
-use Rattle.qoi.specs.Raw.{pixels_of}
-use Rattle.qoi.specs.inner.CarryLoop.{StepBetween}
-use Rattle.qoi.specs.inner.CoderLoop.{Writing, CoderBetween}
+use Rattle.qoi.specs.Qoi.{start}
+use Rattle.qoi.specs.inner.CoderLoop.{CoderBetween}
 use Rattle.qoi.specs.inner.Piece.{kept_bytes}
-use Rattle.qoi.proofs.encoding.CoderLink.{step_start}
-use Rattle.qoi.proofs.encoding.CoderSteps.{all_written}
-use Rattle.qoi.proofs.encoding.GroupRuns.{none_of_few}
-use Rattle.qoi.proofs.encoding.PieceByPiece.{PieceBetween, piece_starts, piece_filled, piece_fits, piece_went, piece_part, piece_ends}
+use Rattle.qoi.specs.inner.Pixels.{pixels_in}
+use Rattle.qoi.proofs.encoding.CoderLink.{coder_sent}
+use Rattle.qoi.proofs.encoding.PieceByPiece.{Sending, PieceBetween, piece_starts, piece_filled, piece_fits, piece_went, piece_part, piece_ends}
 use Rattle.qoi.proofs.encoding.PieceSent.{kept_length}
 use Rattle.qoi.proofs.encode.chunks.encode_pixels.Given.{Over}
-use Rattle.qoi.proofs.encode.chunks.encode_pixels.Goals.{After-new-coder}
+use Rattle.qoi.proofs.encode.chunks.encode_pixels.Goals.{After-write_some-filled}
 use Rattle.qoi.proofs.encode.chunks.encode_pixels.Goals as goal
 
--- nothing is carried after the coder's last pixel
-abbrev nothing : {N : ℕ} → Coder N → Carry
-nothing coder =
-    let px = coder.last in
-    let before : Planes = record { r = replicate 16 px.r; g = replicate 16 px.g; b = replicate 16 px.b; a = replicate 16 px.a } in
-    record { before = before; count = 0; placed = coder.placed }
+pub new-coder-requires : goal.new-coder-requires
+unfolding start
+new-coder-requires g c = (omega arith, (c.requires.channels, λ _. ap (λ p. p.a) c.start.ensures.px))
 
--- before the first pixel
-starts : (g : Over) (c : After-new-coder g) (carry : Carry)
-    → ((w : Writing) → CoderBetween w (pixels_of g.row.N c.args.data.now) c.new-table.result c.new-coder.result (kept_bytes c.args.piece)
-    → StepBetween w (pixels_of g.row.N c.args.data.now) c.new-table.result c.new-coder.result carry (kept_bytes c.args.piece))
-    → PieceBetween g.W.Writer.wrote g.W.Writer.room (record { style = c.args.style; front = kept_bytes c.args.piece; start = c.args.writer.now; raw = c.args.data.now }) c.args.data.now
-    c.new-table.result c.new-coder.result carry (kept_bytes c.args.piece) c.args.writer.now
-starts g c carry =
-    let new = c.new-coder.ensures in
-    piece_starts _ g.met.W.Writer.laws c.requires.channels (λ i. omega (arith, c.type_inv.data i)) c.requires.whole
-    (omega (arith, kept_length c.args.piece, c.requires.room)) new.style (new.state c.new-table.result c.new-table.ensures)
-
-pub returns-then-data-clause-written : goal.returns-then-data-clause-written
-returns-then-data-clause-written g c =
-    let coder = c.new-coder.result in
-    let state = c.new-coder.ensures.state c.new-table.result c.new-table.ensures in
-    let at_start = starts g (goal.at.returns-then-data-clause-written g c).After-new-coder (nothing coder)
-    (λ w b. step_start (nothing coder) b (record { red = refl; green = refl; blue = refl; alpha = refl }) refl refl) in
-    piece_ends at_start (λ w b. all_written (c.write_few.ensures.written w (b.opening state.begun_is).between))
-
-pub loop-rest-init : goal.loop-rest-init
-loop-rest-init g c =
-    let carry = c.carry-carry.ensures in
+pub loop-coder-init : goal.loop-coder-init
+loop-coder-init g c =
+    let first = c.start.ensures in
+    let state = first.state c.args.style c.new-table.result c.new-table.ensures in
+    let sending : Sending g.row.W.Denot = record { style = c.args.style; front = kept_bytes c.args.piece.piece; start = c.args.writer.now; raw = c.args.data.now } in
+    let begins = piece_starts sending g.met.W.Writer.laws c.requires.channels (λ i. omega (arith, c.type_inv.data i)) c.requires.whole
+    (omega (arith, kept_length c.args.piece.piece, c.requires.room)) first.none state in
     record {
-      end = c.requires.not_full;
-      whole = c.requires.whole;
-      few = omega (arith, carry.count);
-      opaque = carry.opaque;
-      state = starts g (goal.at.loop-rest-init g c).After-new-coder c.carry-carry.result (λ w b. carry.between w _ _ _ b);
+      state = subst (λ last. PieceBetween g.W.Writer.wrote g.W.Writer.room g.row.N sending
+          (λ ahead kept. CoderBetween c.args.style ahead (pixels_in c.new-rest.result ++ []) c.new-table.result last kept) (kept_bytes c.args.piece.piece) c.args.writer.now)
+          (sym c.new-coder.ensures)
+          (subst (λ ps. PieceBetween g.W.Writer.wrote g.W.Writer.room g.row.N sending
+          (λ ahead kept. CoderBetween c.args.style ahead ps c.new-table.result c.start.result kept) (kept_bytes c.args.piece.piece) c.args.writer.now)
+          (sym (append-nil (pixels_in c.new-rest.result) ∙ c.new-rest.ensures)) begins);
     }
 
-pub returns-then-not-is_full-clause-written : goal.returns-then-not-is_full-clause-written
-returns-then-not-is_full-clause-written g c =
-    let fill = c.fill in
-    let room = c.is_full.ensures.room c.if-not-is_full.true in
-    let none : pixels_of g.row.N fill.result.0.now ≡ [] = none_of_few g.row.N fill.result.0.now c.requires.channels (omega (arith, fill.ensures.all room, c.requires.channels)) in
-    piece_ends (piece_filled c.loop-rest.invariant.state fill.ensures.written)
-    (λ w b. c.write_last.ensures.written w _ (subst (λ x. StepBetween w x fill.new.table fill.new.self fill.new.carry (kept_bytes fill.result.1)) none b))
+-- some is written
+wrote : (g : Over) (c : After-write_some-filled g)
+    → PieceBetween g.W.Writer.wrote g.W.Writer.room g.row.N (record { style = c.args.style; front = kept_bytes c.args.piece.piece; start = c.args.writer.now; raw = c.args.data.now })
+    (λ ahead kept. CoderBetween c.args.style ahead (pixels_in c.write_some-filled.result.0 ++ []) c.write_some-filled.new.table c.write_some-filled.new.coder.last kept)
+    (kept_bytes c.write_some-filled.result.1) c.loop-coder.writer
+wrote g c = piece_filled c.loop-coder.invariant.state _ (λ ahead b. c.write_some-filled.ensures.written ahead [] b)
 
-pub send-requires : goal.send-requires
-send-requires g c =
-    let full = c.is_full.ensures.full c.if-not-is_full.false in
-    let room = piece_fits (piece_filled c.loop-rest.invariant.state c.fill.ensures.written) (g.row.ROOM - PAST)
-    (omega (arith, kept_length c.fill.result.1, full)) in
-    (omega arith, (full, room))
+pub make_room-requires : goal.make_room-requires
+make_room-requires g c =
+    let now = wrote g (goal.at.make_room-requires g c).After-write_some-filled in
+    (omega arith, omega (arith, kept_length c.write_some-filled.result.1, piece_fits now (λ _ _ b. coder_sent b)))
 
-pub loop-rest-preserved : goal.loop-rest-preserved
-loop-rest-preserved g c =
-    let fill = c.fill.ensures in
-    record {
-      end = omega (arith, c.in_ok-send.ensures.end, fill.end, c.args.piece.large);
-      whole = fill.whole;
-      few = fill.few;
-      opaque = fill.opaque;
-      state = piece_went (piece_filled c.loop-rest.invariant.state fill.written) (g.row.ROOM - PAST) c.in_ok-send.ensures.written c.in_ok-send.ensures.kept;
-    }
+pub loop-coder-preserved : goal.loop-coder-preserved
+loop-coder-preserved g c = record {
+  state = piece_went (wrote g (goal.at.loop-coder-preserved g c).After-write_some-filled) (λ _ _ b. coder_sent b) c.in_ok-piece.ensures.written;
+}
 
-pub returns-in_err-send-clause-refused : goal.returns-in_err-send-clause-refused
-returns-in_err-send-clause-refused g c =
+pub returns-in_err-piece-clause-refused : goal.returns-in_err-piece-clause-refused
+returns-in_err-piece-clause-refused g c =
     let e = err_from_is_err_and c.from_residual.result c.from_residual.ensures.1 in
-    let r = c.in_err-send.ensures.refused in
-    let part = piece_part (piece_filled c.loop-rest.invariant.state c.fill.ensures.written) (g.row.ROOM - PAST) r.1 in
-    rw (e.1, e.2) (r.0, part)
+    let r = c.in_err-piece.ensures.refused in
+    let now = wrote g (goal.at.returns-in_err-piece-clause-refused g c).After-write_some-filled in
+    rw (e.1, e.2) (r.0, piece_part now (λ _ _ b. coder_sent b) r.1)
+
+pub returns-clause-written : goal.returns-clause-written
+returns-clause-written g c =
+    piece_ends c.loop-coder.invariant.state (λ ahead b. c.write_few.ensures.written ahead
+    (subst (λ ps. CoderBetween c.args.style ahead ps c.loop-coder.table c.loop-coder.coder.last (kept_bytes c.loop-coder.piece.piece)) (append-nil (pixels_in c.loop-coder.rest)) b))

@@ -1,21 +1,17 @@
--- The coder stands between two steps, and the piece isn't full.
-use Rattle.std.proofs.Common.{◌≡◌, ◌-◌, ◌%◌, ◌<◌, length, slice_index}
-use Rattle.qoi.specs.declared.encode.piece.TheConstants.{PAST}
-use Rattle.qoi.specs.Qoi.{run_max}
+-- The coder stands between two pixels.
+use Rattle.std.proofs.Common.{[], ◌++◌, length}
+use Rattle.qoi.specs.inner.CoderLoop.{CoderBetween}
 use Rattle.qoi.specs.inner.Piece.{kept_bytes}
+use Rattle.qoi.specs.inner.Pixels.{pixels_in}
 use Rattle.qoi.proofs.encoding.PieceByPiece.{PieceBetween}
 use Rattle.qoi.proofs.encode.chunks.encode_pixels.Given as goal
 
-abbrev pub invariant-loop-rest : goal.invariant-loop-rest
-invariant-loop-rest g l = record {
-  end : l.piece.end < g.row.ROOM - PAST;
-  whole : length l.rest % g.row.N ≡ 0;
-  few : l.carry.count < run_max;
-  opaque : g.row.N ≡ 3 → slice_index l.carry.before.a 15 ≡ 255;
-  state : PieceBetween g.W.Writer.wrote g.W.Writer.room
-      (record { start = l.initial.writer; front = kept_bytes l.initial.piece; style = l.fn.style; raw = l.data })
-      l.rest l.table l.coder l.carry (kept_bytes l.piece) l.writer;
+abbrev pub invariant-loop-coder : goal.invariant-loop-coder
+invariant-loop-coder g l = record {
+  state : PieceBetween g.W.Writer.wrote g.W.Writer.room g.row.N
+      (record { start = l.initial.writer; front = kept_bytes l.fn.piece.piece; style = l.fn.style; raw = l.data })
+      (λ ahead kept. CoderBetween l.fn.style ahead (pixels_in l.rest ++ []) l.table l.coder.last kept) (kept_bytes l.piece.piece) l.writer;
 }
 
-abbrev pub decreases-loop-rest : goal.decreases-loop-rest
-decreases-loop-rest g l = length l.rest
+abbrev pub decreases-loop-coder : goal.decreases-loop-coder
+decreases-loop-coder g l = length (pixels_in l.rest)

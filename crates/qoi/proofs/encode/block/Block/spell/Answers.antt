@@ -17,7 +17,7 @@ plain style s ps x (inr e) h = subst (λ z. HasSpelled z s ps x) (sym e)
     (record { rep_is = h.rep_is; first_is = h.first_is; second_is = h.second_is; size_is = h.size_is; count_is = h.count_is })
 
 pub returns-in-Reference : goal.returns-in-Reference
-returns-in-Reference c = λ s last before changes carry placed stands places.
+returns-in-Reference g c = λ s last before changes carry placed stands places.
     let words = c.args.self.words in
     let ps : List RgbaPixel = block_pixels words in
     let sixteen = block_sixteen words c.args.self.packed in
@@ -25,7 +25,7 @@ returns-in-Reference c = λ s last before changes carry placed stands places.
     plain c.args.style s ps c.spell_block-x.result c.in-Reference.is (c.spell_block-x.ensures s ps carry (changes s before) block)
 
 pub returns-in-Places : goal.returns-in-Places
-returns-in-Places c = λ s last before changes carry placed stands places.
+returns-in-Places g c = λ s last before changes carry placed stands places.
     let words = c.args.self.words in
     let ps : List RgbaPixel = block_pixels words in
     let sixteen = block_sixteen words c.args.self.packed in

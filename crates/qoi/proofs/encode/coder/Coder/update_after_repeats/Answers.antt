@@ -13,10 +13,10 @@ use Rattle.qoi.proofs.encode.coder.Coder.update_after_repeats.Goals.{in-Referenc
 pub returns-clause-state : goal.returns-clause-state
 returns-clause-state g c past before s =
     let n = c.args.count in
-    let style = c.args.self.now.style in
+    let style = c.args.style in
     let pixels = replicate n (previous past) ++ past in
     record {
-      table_is = elim c.match-self.branch [
+      table_is = elim c.match-style.branch [
         | in-Reference w ↦ subst (λ t. Holds t (held_in style pixels)) (sym w.table-is)
             (repeats_unput style n past c.args.table.now w.in-Reference.is s.table_is)
         | in-Tight w ↦ (let held = rw w.in-Tight.is at s.table_is in
@@ -27,5 +27,5 @@ returns-clause-state g c past before s =
       ];
       last_is = s.last_is ∙ sym (previous_repeats n past);
       begun_is = s.begun_is ∙ sym (ap has_pixel (fresh_repeats n past));
-      placed_is = λ is. placed_repeats n past before c.args.self.now.placed (s.placed_is is);
+      placed_is = λ is. placed_repeats n past before c.args.self.now.last.placed (s.placed_is is);
     }

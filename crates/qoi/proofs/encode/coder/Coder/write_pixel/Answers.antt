@@ -2,7 +2,7 @@
 use Rattle.std.proofs.Common.{◌≡◌, ◌≢◌, ◌/◌, ◌^◌, refl, sym, ap, ◌∙◌, arith, subst, take, ◌++◌, [], ◌∷◌, if◌then◌else◌}
 use lib.Lanes.{digits_l}
 use Rattle.qoi.specs.Qoi.{IsPixel, hash, seen}
-use Rattle.qoi.specs.Styles.{has_pixel, choice_in}
+use Rattle.qoi.specs.Styles.{has_pixel}
 use Rattle.qoi.specs.inner.CoderState.{held_in}
 use Rattle.qoi.specs.inner.Piece.{kept_bytes}
 use Rattle.qoi.proofs.encoding.CoderTable.{fresh_chosen, fresh_held}
@@ -11,12 +11,12 @@ use Rattle.qoi.proofs.encoding.NotedPixels.{fresh_more}
 use Rattle.qoi.proofs.encode.coder.Coder.write_pixel.Goals as goal
 
 pub returns-clause-written : goal.returns-clause-written
-returns-clause-written g c w rest differs b =
+returns-clause-written g c ahead rest differs none b =
     let p = c.args.px in
-    let style = c.args.self.now.style in
+    let style = c.args.style in
     let past = b.past in
     let state = b.state in
-    let last : IsPixel c.args.self.now.last = subst IsPixel (sym state.last_is) b.to_write.before in
+    let last : IsPixel c.args.self.now.last.px = subst IsPixel (sym state.last_is) b.to_write.before_is in
     let spells = c.spell_pixel-number.ensures.spelled last in
     let chunk = spells.0 in
     let spelled = spells.1 in
@@ -35,7 +35,7 @@ returns-clause-written g c w rest differs b =
     let kept = kept_bytes c.args.piece.now in
     let bytes = c.keep_chunk.ensures.kept ∙ (λ j. kept ++ take (c.pick.ensures j) (digits_l 256 4 (number_is j) ++ alpha j ∷ []))
     ∙ ap (λ z. kept ++ z) d.2 in
-    fresh_written b p rest d.0 refl differs d.1 (subst (λ s. choice_in s past p d.0) b.style_is d.3) bytes refl
+    fresh_written b d.0 differs none d.1 d.3 bytes refl
     (record {
       table_is = fresh_held style past c.args.table.now c.put.new.self p new state.table_is c.put.ensures;
       last_is = refl;

@@ -1,76 +1,81 @@
 -- The repeats that are looked at, and their runs.
-use Rattle.std.proofs.Common.{◌≡◌, ◌≢◌, ◌⊎◌, inl, inr, ◌+◌, ◌-◌, ◌%◌, ◌*◌, [], ◌∷◌, ◌++◌, drop, replicate, Some, refl, sym, ap, ◌∙◌, arith, subst}
-use Rattle.std.proofs.lemmas.List.{length-drop}
+use Rattle.std.proofs.Common.{◌≡◌, ◌≢◌, ◌⊎◌, inl, inr, ◌+◌, ◌-◌, ◌/◌, ◌%◌, ◌<◌, List, [], ◌++◌, drop, replicate, append_assoc, Some, refl, sym, ap, ◌∙◌, arith, subst}
+use Rattle.std.proofs.lemmas.Bool.{true≢false}
 use Rattle.std.specs.List.{slice_get}
-use Rattle.qoi.specs.declared.chunk.Chunk.{Chunk}
-use Rattle.qoi.specs.declared.chunk.Chunk.TheVariants.{Run}
 use Rattle.qoi.specs.declared.encode.piece.TheConstants.{REPEATS_AT_ONCE}
-use Rattle.qoi.specs.Qoi.{bytes_of}
-use Rattle.qoi.specs.Raw.{pixels_of}
+use Rattle.qoi.specs.Qoi.{RgbaPixel}
 use Rattle.qoi.specs.Runs.{IsCount}
 use Rattle.qoi.specs.inner.CoderLoop.{single}
-use Rattle.qoi.proofs.format.ChunkSteps.{repeats_after}
-use Rattle.qoi.proofs.encoding.CoderSteps.{group_written}
-use Rattle.qoi.proofs.encoding.GroupRuns.{NearGroup, near_group, none_of_few, some_pixels}
+use Rattle.qoi.specs.inner.Pixels.{pixels_in}
+use Rattle.qoi.proofs.encoding.CoderLink.{first_more, more_some, some_length}
+use Rattle.qoi.proofs.encoding.CoderSteps.{group_written, fulls_written}
+use Rattle.qoi.proofs.encoding.PixelsIn.{NearGroup, near_group, near_some}
 use Rattle.qoi.proofs.encode.coder.Coder.write_runs.Given.{Over}
-use Rattle.qoi.proofs.encode.coder.Coder.write_runs.Goals.{After-repeats_by_call-ahead, then-ahead-data, else-ahead-data}
+use Rattle.qoi.proofs.encode.coder.Coder.write_runs.Goals.{After-repeats_by_call-ahead, else-carried-eq0-via-then-carried-eq0+else-not-begin_with, else-carried-eq0-via-else-carried-eq0}
 use Rattle.qoi.proofs.encode.coder.Coder.write_runs.Goals as goal
 
 -- the repeats stand ahead
-near : (g : Over) (c : After-repeats_by_call-ahead g) → NearGroup g.row.N c.args.data.now c.args.self.now.last (REPEATS_AT_ONCE - c.args.carry) c.repeats_by_call-ahead.result
+near : (g : Over) (c : After-repeats_by_call-ahead g) → NearGroup c.args.self.now.last.px (REPEATS_AT_ONCE - c.args.self.now.last.repeats) (pixels_in c.args.raw) c.repeats_by_call-ahead.result
 near g c =
     let n = c.repeats_by_call-ahead.result in
-    let counted = subst (λ xs. IsCount c.args.self.now.last (pixels_of g.row.N xs) n) c.split_at.ensures.front c.repeats_by_call-ahead.ensures.counted in
-    near_group g.row.N c.args.data.now c.args.self.now.last (REPEATS_AT_ONCE - c.args.carry) n _ c.args.self.now.channels c.requires.whole c.min.ensures counted
+    near_group c.args.self.now.last.px (REPEATS_AT_ONCE - c.args.self.now.last.repeats) n (pixels_in c.args.raw)
+    (subst (λ ps. IsCount c.args.self.now.last.px ps n) c.near.ensures c.repeats_by_call-ahead.ensures.counted)
 
-pub repeats_by_call-ahead-requires-clause-opaque : goal.repeats_by_call-ahead-requires-clause-opaque
-repeats_by_call-ahead-requires-clause-opaque g c = c.args.self.now.opaque
+-- if none is carried, there is one ahead
+some_come : (g : Over) (c : After-repeats_by_call-ahead g) → 0 < c.args.self.now.last.repeats + c.repeats_by_call-ahead.result
+some_come g c = elim c.else-carried-eq0.branch [
+  | else-carried-eq0-via-then-carried-eq0+else-not-begin_with w ↦ (let first = w.begin_with.ensures.0 w.if-not-begin_with.false in
+      omega (arith, near_some c.args.self.now.last.px _ _ (pixels_in c.args.raw) (near g c) first (omega (arith, c.args.self.now.last.few))))
+  | else-carried-eq0-via-else-carried-eq0 w ↦ omega (arith, w.if-carried-eq0.false)
+]
 
 pub keep_runs-requires : goal.keep_runs-requires
-keep_runs-requires g c = (omega arith, (c.requires.room, omega (arith, (near g (goal.at.keep_runs-requires g c).After-repeats_by_call-ahead).few, c.requires.few)))
+keep_runs-requires g c = (omega arith, (c.requires.room, omega (arith, (near g (goal.at.keep_runs-requires g c).After-repeats_by_call-ahead).few, c.args.self.now.last.few)))
+
+pub ends_after-requires : goal.ends_after-requires
+ends_after-requires g c = (omega arith, (near g (goal.at.ends_after-requires g c).After-repeats_by_call-ahead).within)
 
 pub returns-clause-end : goal.returns-clause-end
-returns-clause-end g c = omega (arith, c.keep_runs.ensures.end, (near g (goal.at.returns-clause-end g c).After-repeats_by_call-ahead).few, c.requires.few)
+returns-clause-end g c = omega (arith, c.keep_runs.ensures.end, (near g (goal.at.returns-clause-end g c).After-repeats_by_call-ahead).few, c.args.self.now.last.few)
 
-pub returns-clause-few : goal.returns-clause-few
-returns-clause-few g c = omega (arith, (near g (goal.at.returns-clause-few g c).After-repeats_by_call-ahead).few, c.requires.few)
+pub returns-clause-each : goal.returns-clause-each
+returns-clause-each g c = omega (arith, c.keep_runs.ensures.end, some_come g (goal.at.returns-clause-each g c).After-repeats_by_call-ahead)
 
 pub returns-clause-inside : goal.returns-clause-inside
 returns-clause-inside g c = (near g (goal.at.returns-clause-inside g c).After-repeats_by_call-ahead).within
 
-pub returns-clause-stops : goal.returns-clause-stops
-returns-clause-stops g c =
-    let group = near g (goal.at.returns-clause-stops g c).After-repeats_by_call-ahead in
-    elim group.ends [ inl other ↦ inl other | inr e ↦ inr (omega (arith, e, c.requires.few)) ]
+-- if the next pixel repeats, too, as many were counted as may be
+pub returns-clause-some : goal.returns-clause-some
+returns-clause-some g c = λ repeats.
+    (let group = near g (goal.at.returns-clause-some g c).After-repeats_by_call-ahead in
+    elim group.ends [ inl other ↦ absurd (other repeats) | inr full ↦ omega (arith, full, c.args.self.now.last.few) ])
+
+-- and so the pixels that follow
+ahead_is : (g : Over) (c : After-repeats_by_call-ahead g) (more : List RgbaPixel)
+    → pixels_in c.args.raw ++ more ≡ replicate c.repeats_by_call-ahead.result c.args.self.now.last.px ++ (drop c.repeats_by_call-ahead.result (pixels_in c.args.raw) ++ more)
+ahead_is g c more = ap (λ ps. ps ++ more) (near g c).same ∙ append_assoc (replicate c.repeats_by_call-ahead.result c.args.self.now.last.px) (drop c.repeats_by_call-ahead.result (pixels_in c.args.raw)) more
+
+pub returns-then-ends_after-clause-written : goal.returns-then-ends_after-clause-written
+returns-then-ends_after-clause-written g c all more b =
+    let n = c.repeats_by_call-ahead.result in
+    let count = c.args.self.now.last.repeats + n in
+    fulls_written b n (count / 62) (drop n (pixels_in c.args.raw) ++ more) (ahead_is g (goal.at.returns-then-ends_after-clause-written g c).After-repeats_by_call-ahead more)
+    (omega (arith, c.update_after_repeats.ensures.left)) c.keep_full_runs.ensures.kept c.update_after_repeats.ensures.state
 
 pub returns-clause-written : goal.returns-clause-written
-returns-clause-written g c w b =
+returns-clause-written g c all more b =
     let n = c.repeats_by_call-ahead.result in
-    let k = c.args.carry in
-    let coder = c.args.self.now in
-    let raw = c.args.data.now in
-    let group = near g (goal.at.returns-clause-written g c).After-repeats_by_call-ahead in
-    let later = drop (g.row.N * n) raw in
-    let rest = pixels_of g.row.N later in
-    let size = length-drop (g.row.N * n) raw in
-    let full : n ≡ REPEATS_AT_ONCE - k → (k + n) % 62 ≡ 0 = λ e. omega (arith, e, c.requires.few) in
-    let ends : (slice_get rest 0 ≢ Some coder.last) ⊎ ((k + n) % 62 ≡ 0) =
-    elim group.ends as (λ _. (slice_get rest 0 ≢ Some coder.last) ⊎ ((k + n) % 62 ≡ 0)) [ inl other ↦ inl other | inr e ↦ inr (full e) ] in
-    let one : (one : Chunk) × (bytes_of one ≡ c.if-ahead-data.one ∷ [])
-    × (((rest ≡ []) × (one ≡ Run 1)) ⊎ ((rest ≢ []) × (one ≡ single coder (k + n))))
-    = elim c.if-ahead-data.branch [
-      | then-ahead-data x ↦ (
-        Run 1,
-        ap (λ z. z ∷ []) (sym x.one-is),
-        inl (none_of_few g.row.N later coder.channels (omega (arith, size, x.if-ahead-data.true, coder.channels)), refl),
-      )
-      | else-ahead-data x ↦ (
-        single coder (k + n),
-        x.single_repeat_byte-one.ensures ∙ ap (λ z. z ∷ []) (sym x.one-is),
-        inr (some_pixels g.row.N later coder.channels group.whole (omega (arith, size, x.if-ahead-data.false, group.within)), refl),
-      )
-    ] in
-    let split : replicate k coder.last ++ pixels_of g.row.N raw ≡ replicate (k + n) coder.last ++ rest =
-    ap (λ x. replicate k coder.last ++ x) group.pixels ∙ repeats_after k n coder.last rest in
-    group_written b (k + n) rest one.0 {next_table = c.update_after_repeats.new.table} {next_coder = c.update_after_repeats.new.self} split ends (λ _. one.2)
-    (c.keep_runs.ensures.kept one.0 one.1) c.update_after_repeats.ensures.same.1 c.update_after_repeats.ensures.state
+    let last = c.args.self.now.last in
+    let count = last.repeats + n in
+    let here = (goal.at.returns-clause-written g c).After-repeats_by_call-ahead in
+    let group = near g here in
+    let rest = drop n (pixels_in c.args.raw) in
+    let later = rest ++ more in
+    let some : rest ≢ [] = λ none. true≢false (sym (c.ends_after.ensures.1 none) ∙ c.if-ends_after.false) in
+    let first : slice_get later 0 ≡ slice_get rest 0 = first_more rest more (some_length rest some) in
+    let full : n ≡ REPEATS_AT_ONCE - last.repeats → count % 62 ≡ 0 = λ e. omega (arith, e, last.few) in
+    let ends : (slice_get later 0 ≢ Some last.px) ⊎ (count % 62 ≡ 0) =
+    elim group.ends as (λ _. (slice_get later 0 ≢ Some last.px) ⊎ (count % 62 ≡ 0)) [ inl other ↦ inl (λ e. other (sym first ∙ e)) | inr e ↦ inr (full e) ] in
+    let one = single c.args.style last count in
+    group_written b n later one (ahead_is g here more) ends (λ _. inr (more_some rest more some, refl))
+    (c.keep_runs.ensures.kept one c.single_repeat_byte.ensures) c.update_after_repeats-2.ensures.left c.update_after_repeats-2.ensures.state

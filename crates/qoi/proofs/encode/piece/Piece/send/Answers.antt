@@ -1,5 +1,5 @@
 -- A full piece was sent, and the bytes after it stand at the front.
-use Rattle.std.proofs.Common.{◌-◌, sym, subst}
+use Rattle.std.proofs.Common.{◌-◌, sym, subst, arith}
 use Rattle.std.proofs.lemmas.List.{take-take}
 use Rattle.std.proofs.lemmas.Result.{err_from_is_err_and}
 use Rattle.qoi.specs.declared.encode.piece.TheConstants.{PAST}
@@ -26,4 +26,4 @@ returns-clause-written g c =
 pub returns-clause-kept : goal.returns-clause-kept
 returns-clause-kept g c =
     let s = c.args.self.now in
-    rw c.in_ok-send_front.ensures.moved (moved_front s.bytes.now (g.row.ROOM - PAST) g.row.ROOM s.end s.room c.requires.full s.within)
+    rw c.in_ok-send_front.ensures.moved (moved_front s.bytes.now (g.row.ROOM - PAST) g.row.ROOM s.end s.room c.requires.full (omega (arith, s.within)))

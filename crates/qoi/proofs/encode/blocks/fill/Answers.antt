@@ -1,0 +1,35 @@
+-- A step further.
+use Rattle.std.proofs.Common.{inl, inr, refl, sym, ◌∙◌, arith, subst}
+use Rattle.std.proofs.lemmas.Bool.{true≢false}
+use Rattle.qoi.specs.inner.CarryLoop.{InBlocks}
+use Rattle.qoi.specs.inner.Pixels.{pixels_in}
+use Rattle.qoi.proofs.encoding.CoderLink.{same_carried}
+use Rattle.qoi.proofs.encode.blocks.fill.Goals.{then-loop-rest-test+else-has_block, else-loop-rest-test}
+use Rattle.qoi.proofs.encode.blocks.fill.Goals as goal
+
+pub loop-rest-init : goal.loop-rest-init
+loop-rest-init g c =
+    let known = c.with_known_alpha-now.ensures in
+    record {
+      less = inr (refl, c.args.piece.not_full);
+      written = λ ahead n more b. same_carried b c.with_known_alpha-now.result known.last known.same.0 known.same.1;
+    }
+
+pub loop-rest-preserved : goal.loop-rest-preserved
+loop-rest-preserved g c =
+    let i = c.loop-rest.invariant in
+    let step = c.write_front.ensures in
+    record {
+      less = inl (elim i.less [ inl less ↦ omega (arith, step.less, less) | inr same ↦ omega (arith, step.less, same.0) ]);
+      written = λ ahead n more b.
+          step.written ahead n more (subst (InBlocks c.args.style ahead n (pixels_in c.loop-rest.rest) more c.loop-rest.table c.loop-rest.now) (sym c.open.ensures) (i.written ahead n more b));
+    }
+
+pub returns-clause-less : goal.returns-clause-less
+returns-clause-less g c = elim c.loop-rest.invariant.less [
+  | inl less ↦ less
+  | inr same ↦ elim c.loop-rest-test.branch [
+    | then-loop-rest-test+else-has_block w ↦ absurd (true≢false (sym (w.has_block.ensures.1 (omega (arith, same.0, c.requires))) ∙ w.if-has_block.false))
+    | else-loop-rest-test w ↦ absurd (omega (arith, c.is_full.ensures.full w.loop-rest-test.false, same.1))
+  ]
+]

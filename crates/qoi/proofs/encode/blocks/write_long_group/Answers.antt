@@ -1,0 +1,60 @@
+-- Full runs are kept, and the repeats that are left are carried.
+use Rattle.std.proofs.Common.{◌≡◌, inl, inr, ◌+◌, ◌-◌, ◌%◌, ◌/◌, ◌≤◌, ◌&&◌, nat_lt, Option, None, Some, take, drop, refl, sym, ap, ◌∙◌, arith, subst}
+use Rattle.std.proofs.lemmas.Option.{same_Some}
+use Rattle.std.specs.List.{slice_get}
+use Rattle.qoi.specs.declared.encode.piece.TheConstants.{REPEATS_AT_ONCE}
+use Rattle.qoi.specs.Qoi.{RgbaPixel}
+use Rattle.qoi.specs.Runs.{IsCount}
+use Rattle.qoi.specs.inner.Blocks.{last_pixel}
+use Rattle.qoi.specs.inner.CarryLoop.{InBlocks}
+use Rattle.qoi.specs.inner.Piece.{kept_bytes}
+use Rattle.qoi.specs.inner.Pixels.{pixels_in}
+use Rattle.qoi.proofs.encoding.CarriedRuns.{blocks_on}
+use Rattle.qoi.proofs.encoding.PixelsIn.{NearGroup, near_group, near_some}
+use Rattle.qoi.proofs.encode.blocks.write_long_group.Given.{Over}
+use Rattle.qoi.proofs.encode.blocks.write_long_group.Goals.{After-repeats_of-ahead}
+use Rattle.qoi.proofs.encode.blocks.write_long_group.Goals as goal
+
+-- the repeats stand ahead
+near : (g : Over) (c : After-repeats_of-ahead g)
+    → NearGroup (last_pixel c.args.carry.before) (REPEATS_AT_ONCE - c.from-carried.result) (pixels_in c.args.raw) c.repeats_of-ahead.result
+near g c =
+    let n = c.repeats_of-ahead.result in
+    near_group (last_pixel c.args.carry.before) (REPEATS_AT_ONCE - c.from-carried.result) n (pixels_in c.args.raw)
+    (subst (λ p. IsCount p (take (REPEATS_AT_ONCE - c.from-carried.result) (pixels_in c.args.raw)) n) (same_Some _ _ (sym (ap (λ ps. slice_get ps 0) c.first.ensures.first) ∙ c.requires)) (subst (λ ps. IsCount c.first.result ps n) c.near.ensures c.repeats_of-ahead.ensures.counted))
+
+pub first-requires : goal.first-requires
+first-requires g c = (omega arith, λ none. (let no : ◌≡◌ {A = Option RgbaPixel} None (Some (last_pixel c.args.carry.before)) = sym (ap (λ ps. slice_get ps 0) none) ∙ c.requires in cc))
+
+pub repeats_of-ahead-requires-clause-opaque : goal.repeats_of-ahead-requires-clause-opaque
+repeats_of-ahead-requires-clause-opaque g c = c.first.ensures.opaque
+
+pub keep_full_runs-requires : goal.keep_full_runs-requires
+keep_full_runs-requires g c =
+    let few = (near g (goal.at.keep_full_runs-requires g c).After-repeats_of-ahead).few in
+    (omega arith, (omega (arith, c.args.piece.not_full), omega (arith, few, c.from-carried.ensures, c.args.carry.few)))
+
+pub skip-requires : goal.skip-requires
+skip-requires g c = (omega arith, (near g (goal.at.skip-requires g c).After-repeats_of-ahead).within)
+
+pub returns-clause-less : goal.returns-clause-less
+returns-clause-less g c =
+    let group = near g (goal.at.returns-clause-less g c).After-repeats_of-ahead in
+    let some = near_some _ _ _ _ group c.requires (omega (arith, c.from-carried.ensures, c.args.carry.few)) in
+    omega (arith, c.skip.ensures.size, some)
+
+pub returns-clause-written : goal.returns-clause-written
+returns-clause-written g c = λ style all n more table b.
+    let carry = c.args.carry in
+    let ahead = c.repeats_of-ahead.result in
+    let count = c.from-carried.result + ahead in
+    let group = near g (goal.at.returns-clause-written g c).After-repeats_of-ahead in
+    let later = drop ahead (pixels_in c.args.raw) in
+    let first = subst (λ x. slice_get x 0 ≡ Some (last_pixel carry.before)) group.same c.requires in
+    let start = subst (λ x. InBlocks style all n x more table carry (kept_bytes c.args.piece.piece)) group.same b in
+    let few : slice_get later 0 ≡ Some (last_pixel carry.before) → count % 62 ≤ 45 = λ e. (elim group.ends as (λ _. count % 62 ≤ 45) [
+      | inl other ↦ absurd (other e)
+      | inr full ↦ omega (arith, full, c.from-carried.ensures, carry.few)
+    ]) in
+    rw (c.skip.ensures.rest, c.keep_full_runs.ensures.kept) (blocks_on carry _ ahead (count / 62) (omega (arith, c.from-carried.ensures)) (omega arith) refl
+    (ap (λ k. carry.placed && nat_lt (k + ahead) 62) c.from-carried.ensures) few first start)

@@ -1,0 +1,22 @@
+-- What went is a beginning of the file, whatever raw bytes follow.
+use Rattle.std.proofs.Common.{inl, inr, [], ◌++◌, refl, subst, arith, length-append}
+use Rattle.std.proofs.KnownBytes.{Appends-nil}
+use Rattle.qoi.specs.Qoi.{IsValid, file}
+use Rattle.qoi.specs.PixelWriter.{and_raw}
+use Rattle.qoi.proofs.FileOf.{file_of, sends_part}
+use Rattle.qoi.proofs.decoding.StreamReads.{bytes_append}
+use Rattle.qoi.proofs.encoding.ImagePieces.{image_part}
+use Rattle.qoi.proofs.encode.pixel_writer.PixelWriter.into_writer.Goals as goal
+
+pub returns : goal.returns
+returns g c = λ e before state.
+    (let p = c.args.self in
+    let now = g.W.Write.contents p.writer in
+    elim state [
+      | inl t ↦ λ more size are.
+          (let all = and_raw e more in
+          let began = image_part (t.writes more (omega (arith, size, length-append e.raw more, t.size)) are) now ([], [], refl, Appends-nil now) in
+          sends_part all (file e.header began.0) before now
+          (file_of e.header (e.raw ++ more) (subst IsValid t.header_is p.valid) size e.style (bytes_append e.raw more t.are are) began.0 began.1) began.2)
+      | inr f ↦ f.part
+    ])

@@ -1,0 +1,55 @@
+-- Raw bytes more.
+use Rattle.std.proofs.Common.{◌≡◌, ◌++◌, [], inl, length, refl, sym, subst, arith, append_assoc, length-append}
+use Rattle.std.proofs.lemmas.Result.{err_from_is_err_and}
+use Rattle.qoi.specs.Qoi.{IsValid, AreBytes, channels_number, file}
+use Rattle.qoi.specs.Raw.{pixels_of}
+use Rattle.qoi.specs.inner.Pending.{ImageBetween}
+use Rattle.qoi.proofs.FileOf.{file_of, sends_part}
+use Rattle.qoi.proofs.decoding.StreamReads.{bytes_append}
+use Rattle.qoi.proofs.encode.pixel_writer.PixelWriter.write.Goals as goal
+
+pub returns-in_err-take_any-clause-refused : goal.returns-in_err-take_any-clause-refused
+returns-in_err-take_any-clause-refused g c = λ e before t.
+    let p = c.args.self.now in
+    let raw = c.args.raw.now in
+    let n = channels_number p.header.channels in
+    let err = err_from_is_err_and c.from_residual.result c.from_residual.ensures.1 in
+    let r = c.in_err-take_any.ensures.refused in
+    let raw_are : AreBytes raw = λ i. omega (arith, c.type_inv.raw i) in
+    rw (err.1, err.2) (inl (
+      r.0,
+      record {
+        header_is = t.header_is;
+        style_is = t.style_is;
+        fails = refl;
+        part = λ more size are.
+            let all = record e { raw = (e.raw ++ raw) ++ more } in
+            let left : length (raw ++ more) ≡ p.left = omega (arith, size, length-append (e.raw ++ raw) more, length-append e.raw raw, length-append raw more, t.size) in
+            let start = subst (λ x. ImageBetween (record e { raw = x }) before (g.W.Write.contents p.writer) (pixels_of n (p.held ++ (raw ++ more))) p.pending [])
+            (sym (append_assoc e.raw raw more)) (t.writes (raw ++ more) left (bytes_append raw more raw_are are)) in
+            let began = r.1 all before more (sym t.style_is) start in
+            let all_are = bytes_append (e.raw ++ raw) more (bytes_append e.raw raw t.are raw_are) are in
+            let valid : IsValid e.header = subst IsValid t.header_is p.valid in
+            sends_part all (file e.header began.0) before (g.W.Write.contents c.take_any.new.writer)
+            (file_of e.header ((e.raw ++ raw) ++ more) valid size e.style all_are began.0 began.1) began.2;
+      },
+    ))
+
+pub returns-clause-taken : goal.returns-clause-taken
+returns-clause-taken g c = λ e before t.
+    let p = c.args.self.now in
+    let raw = c.args.raw.now in
+    let n = channels_number p.header.channels in
+    let raw_are : AreBytes raw = λ i. omega (arith, c.type_inv.raw i) in
+    record {
+      header_is = t.header_is;
+      style_is = t.style_is;
+      works = refl;
+      size = omega (arith, t.size, length-append e.raw raw, c.if-raw-self.false);
+      are = bytes_append e.raw raw t.are raw_are;
+      writes = λ more size are.
+          let left : length (raw ++ more) ≡ p.left = omega (arith, size, length-append raw more, c.if-raw-self.false) in
+          let start = subst (λ x. ImageBetween (record e { raw = x }) before (g.W.Write.contents p.writer) (pixels_of n (p.held ++ (raw ++ more))) p.pending [])
+          (sym (append_assoc e.raw raw more)) (t.writes (raw ++ more) left (bytes_append raw more raw_are are)) in
+          c.in_ok-take_any.ensures.written (record e { raw = (e.raw ++ raw) ++ more }) before more (sym t.style_is) start;
+    }

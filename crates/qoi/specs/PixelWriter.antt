@@ -1,0 +1,46 @@
+-- What a pixel writer promises.
+use Rattle.std.specs.Prelude.{◌≡◌, ℕ, ◌+◌, List, [], ◌++◌, length, Option, true, false, ◌⊎◌, ◌<◌}
+use Rattle.qoi.specs.declared.error.Error.{Error}
+use Rattle.qoi.specs.declared.error.Error.TheVariants.{InvalidImageLength}
+use Rattle.qoi.specs.declared.encode.pixel_writer.PixelWriter.{PixelWriter}
+use Rattle.qoi.specs.Qoi.{AreBytes, channels_number}
+use Rattle.qoi.specs.Raw.{pixels_of, image_byte_count}
+use Rattle.qoi.specs.EncoderState.{EncoderState}
+use Rattle.qoi.specs.Errors.{IsIoError}
+use Rattle.qoi.specs.Sent.{SendsPart}
+use Rattle.qoi.specs.inner.Pending.{ImageBetween}
+
+-- the same with these raw bytes more
+abbrev pub and_raw : EncoderState → List ℕ → EncoderState
+and_raw e raw = record e { raw = e.raw ++ raw }
+
+-- The pixel writer was made with the style and header of e, over a writer that had the bytes
+-- `before`, if those are known, and took the raw bytes of e.
+pub record HasTaken {W : Type 0} (contents : W → Option (List ℕ)) (e : EncoderState) (before : Option (List ℕ)) (p : PixelWriter W) : Type 0 where
+  pub header_is : p.header ≡ e.header
+  pub style_is : p.style ≡ e.style
+  pub works : p.failed ≡ false
+  pub size : length e.raw + p.left ≡ image_byte_count e.header
+  pub are : AreBytes e.raw
+  pub writes : (more : List ℕ) → length more ≡ p.left → AreBytes more
+      → ImageBetween (and_raw e more) before (contents p.writer)
+      (pixels_of (channels_number p.header.channels) (p.held ++ more)) p.pending []
+
+-- A beginning of the file of each image whose raw bytes begin with those of e was sent.
+abbrev pub SendsSome : EncoderState → Option (List ℕ) → Option (List ℕ) → Type 0
+SendsSome e before now = (more : List ℕ) → length (e.raw ++ more) ≡ image_byte_count e.header → AreBytes more → SendsPart (and_raw e more) before now
+
+-- The pixel writer was made with the style and header of e, over such a writer, and failed after it
+-- was given the raw bytes of e.
+pub record HasFailed {W : Type 0} (contents : W → Option (List ℕ)) (e : EncoderState) (before : Option (List ℕ)) (p : PixelWriter W) : Type 0 where
+  pub header_is : p.header ≡ e.header
+  pub style_is : p.style ≡ e.style
+  pub fails : p.failed ≡ true
+  pub part : SendsSome e before (contents p.writer)
+
+-- The error of a pixel writer that had taken the raw bytes of e, and was given others.
+abbrev pub HasRefused : {W : Type 0} → (W → Option (List ℕ)) → EncoderState → List ℕ → Option (List ℕ) → PixelWriter W → Error → Type 0
+HasRefused contents e raw before p error =
+    (IsIoError error × HasFailed contents (and_raw e raw) before p)
+    ⊎ ((error ≡ InvalidImageLength (length (e.raw ++ raw)) e.header.width e.header.height)
+    × (image_byte_count e.header < length (e.raw ++ raw)) × HasTaken contents e before p)

@@ -1,0 +1,74 @@
+//! What is carried from one block of sixteen pixels to the next.
+ghost use Rattle.std.specs.Prelude.{◌≡◌, ◌+◌, ◌*◌, ◌≤◌, ◌<◌, [], ◌∷◌, slice_index};
+ghost use Rattle.qoi.specs.Qoi.{RgbaPixel, run_max};
+ghost use Rattle.qoi.specs.Raw.{IsChannels, IsChannels-prop};
+ghost use Rattle.qoi.specs.inner.BlockState.{group_bytes};
+ghost use Rattle.qoi.specs.inner.Blocks.{last_pixel};
+ghost use Rattle.qoi.specs.inner.Spelling.{IsLastOf};
+
+use crate::consts::QOI_OP_RUN;
+use crate::encode::planes::{Planes, known_alpha};
+use crate::types::Style::{self, Places, Reference, Tight};
+use crate::utils::pick;
+
+/// What is carried from block to block: the planes of the last one; how many repeats of its last
+/// pixel came that aren't stored yet; and, in style `Places`, whether the chunk before them names
+/// that pixel's index position.
+#[derive(Clone, Copy)]
+pub(super) struct Carry<const N: usize> {
+    pub(super) before: Planes,
+    pub(super) count: u8,
+    pub(super) placed: bool,
+    ghost channels: { IsChannels N } by { IsChannels-prop N },
+    ghost few: { count < run_max },
+    ghost opaque: { N ≡ 3 → slice_index before.a 15 ≡ 255 },
+}
+
+impl<const N: usize> Carry<N> {
+    /// The same, in three channels with alpha as a constant.
+    #[inline(always)]
+    pub(super) fn with_known_alpha(self) -> Carry<N>
+        ensures last { (q : RgbaPixel) → IsLastOf q self.entry.before → IsLastOf q result.before }
+        ensures same { (result.count ≡ self.entry.count) × (result.placed ≡ self.entry.placed) }
+    {
+        Carry {
+            before: Planes {
+                a: known_alpha::<N>(self.before.a),
+                ..self.before
+            },
+            count: self.count,
+            placed: self.placed,
+        }
+    }
+
+    /// The byte of the repeats before a fresh pixel: that of a run; in style `Places`, of a single
+    /// repeat, the index position, if the chunk before isn't that position. If there are none, it
+    /// isn't used.
+    #[inline(always)]
+    pub(super) fn byte(self, style: Style) -> u8
+        ensures { 0 < self.entry.count
+            → group_bytes style self.entry.placed (last_pixel self.entry.before) self.entry.count
+            ≡ result ∷ [] }
+    {
+        let run = QOI_OP_RUN - 1 + self.count;
+        match style {
+            Reference | Tight => run,
+            Places => pick(
+                (self.count == 1) & !self.placed,
+                self.before.last().hash_index(),
+                run,
+            ),
+        }
+    }
+
+    /// Where the byte of the repeats ends, which stands at `at`. It doesn't count if there are no
+    /// repeats, or if the next pixel repeats, too; `rep` is 255 then, else 0.
+    #[inline(always)]
+    pub(super) fn end(self, at: usize, rep: u8) -> usize
+        requires room { at < usize.MAX }
+        ensures stays { self.entry.count ≤ rep → result ≡ at }
+        ensures some { rep < self.entry.count → result ≡ at + 1 }
+    {
+        at + usize::from(self.count > rep)
+    }
+}

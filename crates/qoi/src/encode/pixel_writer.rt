@@ -1,0 +1,248 @@
+//! Encoding of one image whose raw bytes come piece by piece.
+ghost use Rattle.std.specs.Prelude.{◌≡◌, ℕ, ◌+◌, ◌*◌, ◌%◌, ◌<◌, ◌≤◌, List, [], Option, length, ◌⊎◌, Err, IfOk, IfErr, IsErrAnd, OnOk, false};
+ghost use Rattle.std.specs.Io.KnownBytes.{Appends};
+ghost use Rattle.qoi.specs.declared.encode.piece.TheConstants.{FULL_ROOM};
+ghost use Rattle.qoi.specs.declared.error.Error.{Error};
+ghost use Rattle.qoi.specs.declared.types.Channels.{Channels};
+ghost use Rattle.qoi.specs.Qoi.{IsValid, channels_number, header_bytes, tried_header};
+ghost use Rattle.qoi.specs.Raw.{image_byte_count};
+ghost use Rattle.qoi.specs.EncoderState.{EncoderState};
+ghost use Rattle.qoi.specs.Errors.{IsIoError};
+
+use crate::consts::QOI_HEADER_SIZE;
+use crate::encode::last::LastPixel;
+use crate::encode::parts::{take_any, write_any};
+use crate::encode::pending::{Held, Pending};
+use crate::encode::piece::FULL_ROOM;
+use crate::encode::table::PixelTable;
+use crate::error::{Error, Result};
+use crate::header::Header;
+use crate::types::Style;
+use crate::writers::{GenericWriter, Writer};
+use std::alloc::Global;
+use std::io;
+use std::io::{ErrorKind, Write};
+
+// Sends the header to a writer of the standard library.
+fn send_header<W: Write>(writer: &mut W, header: &Header) -> Result<()>
+    ensures written { OnOk result
+        (Appends (W.contents writer.old) (W.contents writer.new) (header_bytes header.now)) }
+    ensures refused { IfErr result IsIoError }
+{
+    let mut writer = GenericWriter::new(writer);
+    writer.write_many(&header.encode()[..QOI_HEADER_SIZE])?;
+    Ok(())
+}
+
+/// Writes the file of one image, whose raw bytes come piece by piece: that of `Encoder` for all of
+/// them, in memory that doesn't grow with the image.
+#[derive(Drop)]
+pub struct PixelWriter<W> {
+    writer: W,
+    header: Header,
+    style: Style,
+    left: usize,
+    failed: bool,
+    pending: Pending,
+    held: Held,
+    room: Box<[u8; FULL_ROOM]>,
+    ghost valid: { IsValid header },
+    ghost left_of: { left ≤ image_byte_count header },
+    ghost short: { length held < 16 * channels_number header.channels },
+    ghost opaque: { channels_number header.channels ≡ 3 → pending.last.px.a ≡ 255 },
+    ghost whole: { failed ≡ false
+        → (length held + left) % channels_number header.channels ≡ 0 },
+}
+
+impl<W: Write + Drop> PixelWriter<W> {
+    ghost use Rattle.qoi.specs.Encoded.{image_file};
+    ghost use Rattle.qoi.specs.Sent.{SendsFile};
+    ghost use Rattle.qoi.specs.PixelWriter.{HasTaken, HasFailed, HasRefused, SendsSome, and_raw};
+
+    /// Sends the header of the image to the writer.
+    ///
+    /// `InvalidImageDimensions` if width times height is 0 or above 400,000,000; `OutOfMemory` if the
+    /// only allocation fails, of some 4 KiB; `IoError` as in `Encoder::encode_to_stream`. The writer
+    /// is then dropped.
+    pub fn new(alloc: Global, header: Header, style: Style, writer: W) -> Result<PixelWriter<W>>
+        ensures made { IfOk result (HasTaken W.contents
+            (record { raw = []; header = header; style = style }) (W.contents writer)) }
+        ensures refused { IfErr result (λ e.
+            (tried_header header.width header.height header.channels header.colorspace ≡ Err e)
+            ⊎ (IsValid header × (IsIoError e ⊎ (e ≡ Error.OutOfMemory)))) }
+    {
+        let header = Header::try_new(
+            header.width,
+            header.height,
+            header.channels,
+            header.colorspace,
+        )?;
+        let room = Box::new(alloc, [0; FULL_ROOM])?;
+        let mut writer = writer;
+        send_header(&mut writer, &header)?;
+        Ok(PixelWriter {
+            writer,
+            header,
+            style,
+            left: header.n_bytes(),
+            failed: false,
+            pending: Pending {
+                table: PixelTable::new(),
+                last: LastPixel::start(),
+            },
+            held: Held::new(),
+            room,
+        })
+    }
+
+    /// The header that was sent.
+    pub fn header(&self) -> &Header
+        ensures { (e : EncoderState) (before : Option (List ℕ))
+            → HasTaken W.contents e before self.now ⊎ HasFailed W.contents e before self.now
+            → result.now ≡ e.header }
+    {
+        &self.header
+    }
+
+    /// The style of the file.
+    pub fn style(&self) -> Style
+        ensures { (e : EncoderState) (before : Option (List ℕ))
+            → HasTaken W.contents e before self.now ⊎ HasFailed W.contents e before self.now
+            → result ≡ e.style }
+    {
+        self.style
+    }
+
+    /// How many raw bytes of the image don't come yet.
+    pub fn left(&self) -> usize
+        ensures { (e : EncoderState) (before : Option (List ℕ))
+            → HasTaken W.contents e before self.now
+            → length e.raw + result ≡ image_byte_count e.header }
+    {
+        self.left
+    }
+
+    /// Takes the next raw bytes, any number of them, and sends the chunks of all pixels that came
+    /// but for fewer than sixteen, and but for repeats whose run may go on. It doesn't flush.
+    ///
+    /// `InvalidImageLength`, with the number of all bytes that came, if there are more than the image
+    /// has; then none of them is taken. `IoError` if the writer reports a fault or takes no byte;
+    /// then a beginning of the file was sent, and each further call refuses with an `IoError`.
+    pub fn write(&mut self, raw: &[u8]) -> Result<()>
+        // A success: these raw bytes came, too.
+        ensures taken { (e : EncoderState) (before : Option (List ℕ))
+            → HasTaken W.contents e before self.old
+            → OnOk result (HasTaken W.contents (and_raw e raw.now) before self.new) }
+
+        // The refusals: a fault, or too many bytes; and any call after a fault.
+        ensures refused { (e : EncoderState) (before : Option (List ℕ))
+            → HasTaken W.contents e before self.old
+            → IfErr result (HasRefused W.contents e raw.now before self.new) }
+        ensures spent { (e : EncoderState) (before : Option (List ℕ))
+            → HasFailed W.contents e before self.old
+            → IsErrAnd result IsIoError × HasFailed W.contents e before self.new }
+    {
+        if self.failed {
+            return Err(failed_before());
+        }
+        if raw.len() > self.left {
+            let size = self.taken() + raw.len();
+            return Err(wrong_length(&self.header, size));
+        }
+        self.failed = true;
+        let room = &mut *self.room;
+        take_any(
+            &mut self.writer,
+            self.header.channels,
+            self.style,
+            &mut self.pending,
+            &mut self.held,
+            room,
+            raw,
+        )?;
+        self.failed = false;
+        self.left -= raw.len();
+        Ok(())
+    }
+
+    // How many raw bytes came.
+    fn taken(&self) -> usize
+        ensures { result + self.now.left ≡ image_byte_count self.now.header }
+    {
+        self.header.n_bytes() - self.left
+    }
+
+    /// Sends the rest of the file, and gives the writer back.
+    ///
+    /// `InvalidImageLength`, with the number of bytes that came, if some are missing; `IoError` as
+    /// in `write`. The writer is then dropped: if `left` isn't 0, `into_writer` gives it back.
+    pub fn finish(self) -> Result<W>
+        // A success: all raw bytes came, and the file was sent, which `file` says as a function.
+        ensures sent { (e : EncoderState) (before : Option (List ℕ))
+            → HasTaken W.contents e before self
+            → IfOk result (λ w. (n : ℕ) × SendsFile e before (W.contents w) n) }
+        ensures file { (e : EncoderState) (before : Option (List ℕ))
+            → HasTaken W.contents e before self → IfOk result (λ w.
+            Appends before (W.contents w) (image_file e.style e.header e.raw)) }
+
+        // The refusals: a fault, or too few bytes; and after a fault any call.
+        ensures refused { (e : EncoderState) (before : Option (List ℕ))
+            → HasTaken W.contents e before self
+            → IfErr result (λ error. IsIoError error
+            ⊎ ((error ≡ Error.InvalidImageLength (length e.raw) e.header.width e.header.height)
+            × (length e.raw < image_byte_count e.header))) }
+        ensures spent { (e : EncoderState) (before : Option (List ℕ))
+            → HasFailed W.contents e before self → IsErrAnd result IsIoError }
+    {
+        if self.failed {
+            return Err(failed_before());
+        }
+        if self.left > 0 {
+            let size = self.taken();
+            return Err(wrong_length(&self.header, size));
+        }
+        let PixelWriter {
+            mut writer,
+            header,
+            style,
+            mut pending,
+            held,
+            ..
+        } = self;
+        write_any(
+            &mut writer,
+            header.channels,
+            style,
+            &mut pending,
+            held.bytes(),
+        )?;
+        Ok(writer)
+    }
+
+    /// The writer as it stands: with a beginning of the file behind what it had.
+    pub fn into_writer(self) -> W
+        ensures { (e : EncoderState) (before : Option (List ℕ))
+            → HasTaken W.contents e before self ⊎ HasFailed W.contents e before self
+            → SendsSome e before (W.contents result) }
+    {
+        self.writer
+    }
+}
+
+// The refusal of so many raw bytes.
+fn wrong_length(header: &Header, size: usize) -> Error
+    ensures { result ≡ Error.InvalidImageLength size header.now.width header.now.height }
+{
+    Error::InvalidImageLength {
+        size,
+        width: header.width,
+        height: header.height,
+    }
+}
+
+// The refusal after a fault.
+fn failed_before() -> Error
+    ensures { IsIoError result }
+{
+    Error::IoError(io::Error::from(ErrorKind::BrokenPipe))
+}

@@ -1,0 +1,96 @@
+//! Raw bytes of whole pixels.
+ghost use Rattle.std.specs.Prelude.{◌≡◌, ◌≢◌, ◌↔◌, ◌+◌, ◌*◌, ◌%◌, ◌≤◌, [], ◌∷◌, length, take, drop, IsTrue, slice_get, Some};
+ghost use Rattle.qoi.specs.declared.encode.piece.TheConstants.{REPEATS_AT_ONCE};
+ghost use Rattle.qoi.specs.Raw.{IsChannels, IsChannels-prop, pixels_of};
+
+use crate::encode::piece::REPEATS_AT_ONCE;
+use crate::encode::runs::begins_with;
+use crate::packed::Packed;
+use crate::utils::skip;
+
+/// Raw bytes of whole pixels, which have `N` bytes each.
+#[derive(Clone, Copy)]
+pub(super) struct Pixels<'a, const N: usize> {
+    pub(super) bytes: &'a [u8],
+    ghost channels: { IsChannels N } by { IsChannels-prop N },
+    ghost whole: { length bytes.now % N ≡ 0 },
+}
+
+impl<'a, const N: usize> Pixels<'a, N> {
+    ghost use Rattle.qoi.specs.inner.Pixels.{pixels_in};
+
+    /// The pixels of raw bytes.
+    #[inline(always)]
+    pub(super) fn new(bytes: &'a [u8]) -> Pixels<'a, N>
+        requires channels { IsChannels N }
+        requires whole { length bytes.now % N ≡ 0 }
+        ensures { pixels_in result ≡ pixels_of N bytes.entry.now }
+    {
+        Pixels { bytes }
+    }
+
+    /// Whether there is none.
+    #[inline(always)]
+    pub(super) fn is_empty(self) -> bool
+        ensures { IsTrue result ↔ (pixels_in self.entry ≡ []) }
+    {
+        self.bytes.is_empty()
+    }
+
+    /// Whether there are as many as a block has.
+    #[inline(always)]
+    pub(super) fn has_block(self) -> bool
+        ensures { IsTrue result ↔ (16 ≤ length (pixels_in self.entry)) }
+    {
+        self.bytes.len() >= 16 * N
+    }
+
+    /// Whether there are `count`, and no more.
+    #[inline(always)]
+    pub(super) fn ends_after(self, count: usize) -> bool
+        requires { count ≤ length (pixels_in self) }
+        ensures { IsTrue result ↔ (drop count (pixels_in self.entry) ≡ []) }
+    {
+        N * count == self.bytes.len()
+    }
+
+    /// The first one.
+    #[inline(always)]
+    pub(super) fn first(self) -> Packed
+        requires { pixels_in self ≢ [] }
+        ensures first { pixels_in self.entry ≡ result ∷ drop 1 (pixels_in self.entry) }
+        ensures opaque { N ≡ 3 → result.a ≡ 255 }
+    {
+        Packed::read::<N>(self.bytes)
+    }
+
+    /// Whether this one stands at the front.
+    #[inline(always)]
+    pub(super) fn begin_with(self, px: Packed) -> bool
+        ensures { IsTrue result ↔ (slice_get (pixels_in self.entry) 0 ≡ Some px) }
+    {
+        begins_with::<N>(self.bytes, px)
+    }
+
+    /// The bytes of the first `most` pixels, or all if there are fewer.
+    #[inline(always)]
+    pub(super) fn near(self, most: usize) -> &'a [u8]
+        requires { most ≤ REPEATS_AT_ONCE }
+        ensures { pixels_of N result.now ≡ take most (pixels_in self.entry) }
+    {
+        let (near, _) = self.bytes.split_at(self.bytes.len().min(N * most));
+        near
+    }
+
+    /// Those after the first `count`.
+    #[inline(always)]
+    pub(super) fn skip(self, count: usize) -> Pixels<'a, N>
+        requires { count ≤ length (pixels_in self) }
+        ensures rest { pixels_in result ≡ drop count (pixels_in self.entry) }
+        ensures size { length (pixels_in result) + count ≡ length (pixels_in self.entry) }
+    {
+        Pixels {
+            bytes: skip(self.bytes, N * count),
+        }
+    }
+}
