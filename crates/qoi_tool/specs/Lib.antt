@@ -1,4 +1,5 @@
 pub mod Answers
+pub mod CutTiles
 pub mod Faults
 pub mod Files
 pub mod Lines
