@@ -1,0 +1,326 @@
+//! Images whose raw bytes come piece by piece: their files are those of the plain encoder, whatever
+//! the pieces are; refusals; writers that fail, and memory that does.
+ghost use Rattle.std.specs.Prelude.{◌<◌};
+
+use crate::tests::fakes::{Bad, End, NONE, ONE_RGB_PIXEL, PIXEL, Sink, take_memory};
+use crate::tests::library::support::generator::{Numbers, Rgba, START, drawn};
+use crate::tests::library::support::images::{Image, row};
+use crate::tests::library::support::{
+    assert_bytes, assert_fails, assert_header, assert_number, assert_refused,
+};
+use qoi::{Channels, ColorSpace, Error, Header, PixelWriter, Result, Style};
+use std::alloc::Global;
+use std::io::ErrorKind;
+use std::process::Abort;
+
+// How many raw bytes come at a time: always as many, or as many as a source of numbers gives.
+#[derive(Clone, Copy)]
+enum Pieces {
+    Of(usize),
+    Changing(u32),
+}
+
+// Hands an image over in these pieces, and tests that as many bytes are left each time as don't
+// come yet.
+fn written(
+    rt: &impl Abort,
+    alloc: Global,
+    image: &Image,
+    pieces: Pieces,
+    writer: Sink,
+) -> Result<Sink> {
+    let mut pixels = PixelWriter::new(alloc, image.header, image.style, writer)?;
+    assert_header(rt, pixels.header(), &image.header);
+    assert!(rt; pixels.style() == image.style);
+    let mut numbers = Numbers::new(0x91ece5);
+    let mut rest = image.raw.as_slice();
+    for _ in 0..=image.raw.len() {
+        assert_number(rt, pixels.left(), rest.len());
+        if rest.is_empty() {
+            break;
+        }
+        let size = match pieces {
+            Pieces::Of(size) => size,
+            Pieces::Changing(most) => numbers.below(most.max(1)) as usize,
+        };
+        let (piece, after) = rest.split_at(size.min(rest.len()));
+        pixels.write(piece)?;
+        rest = after;
+    }
+    // The changing pieces may be empty.
+    pixels.write(rest)?;
+    pixels.finish()
+}
+
+// The writer gets the image's file in pieces of each of these sizes.
+fn assert_written(rt: &impl Abort, alloc: Global, image: &Image, sizes: &[usize]) {
+    for size in sizes {
+        let writer = Sink::new(alloc, usize::MAX, NONE).expect(rt, "refused");
+        let writer = written(rt, alloc, image, Pieces::Of(*size), writer).expect(rt, "refused");
+        assert_bytes(rt, &writer.got, &image.file);
+    }
+    let writer = Sink::new(alloc, usize::MAX, NONE).expect(rt, "refused");
+    let writer = written(rt, alloc, image, Pieces::Changing(200), writer).expect(rt, "refused");
+    assert_bytes(rt, &writer.got, &image.file);
+}
+
+// The same in each style.
+fn assert_styles(rt: &impl Abort, alloc: Global, header: Header, pixels: &[Rgba], sizes: &[usize]) {
+    for style in [Style::Reference, Style::Places, Style::Tight] {
+        let image = Image::of(alloc, header, style, pixels).expect(rt, "refused");
+        assert_written(rt, alloc, &image, sizes);
+    }
+}
+
+// Images of drawn pixels.
+fn assert_drawn(rt: &impl Abort, alloc: Global, seed: u64, counts: &[u32], sizes: &[usize]) {
+    let mut numbers = Numbers::new(seed);
+    for count in counts {
+        for channels in [Channels::Rgb, Channels::Rgba] {
+            let pixels = drawn(alloc, &mut numbers, channels, *count as usize);
+            let header = row(*count, channels);
+            assert_styles(rt, alloc, header, &pixels.expect(rt, "refused"), sizes);
+        }
+    }
+}
+
+// Pieces of each size from a byte up to those of six blocks.
+#[test]
+fn pieces_of_each_size(rt: HostRuntime) -> Result<()> {
+    let mut sizes = Vec::new(rt.alloc());
+    for size in 1..=300 {
+        sizes.push(size)?;
+    }
+    assert_drawn(&rt, rt.alloc(), 0x0dd5, &[200, 517], &sizes);
+    Ok(())
+}
+
+// Images of fewer pixels than two blocks have.
+#[test]
+fn small_images(rt: HostRuntime) {
+    for seed in 1..20 {
+        for count in 1..33u32 {
+            assert_drawn(&rt, rt.alloc(), seed, &[count], &[1, 3, 7, 48, 64]);
+        }
+    }
+}
+
+// Images whose files are several pieces of 4096 bytes long.
+#[test]
+fn large_images(rt: HostRuntime) {
+    let sizes = [63, 64, 192, 4095, 4096, 30_000, usize::MAX];
+    assert_drawn(&rt, rt.alloc(), 0x1a46e, &[5000, 20_000], &sizes);
+}
+
+// Black opens the image, and is seen again later; a run goes on over many pieces; another run ends
+// the image. The numbers of repeats are about those of whole runs.
+#[test]
+fn runs_over_pieces(rt: HostRuntime) -> Result<()> {
+    let alloc = rt.alloc();
+    let (red, gray) = ([200, 0, 0, 255], [7, 7, 7, 255]);
+    for opening in [0usize, 1, 15, 16, 61, 62, 63, 124, 500, 2000] {
+        for repeats in [0usize, 1, 44, 45, 46, 60, 61, 62, 63, 123, 1000, 1500] {
+            let mut pixels = Vec::new(alloc);
+            pixels.resize(opening, START)?;
+            pixels.push(red)?;
+            pixels.resize(pixels.len().saturating_add(repeats), red)?;
+            pixels.extend_from_slice(&[gray, START, gray, red])?;
+            pixels.resize(pixels.len().saturating_add(repeats), red)?;
+            for channels in [Channels::Rgb, Channels::Rgba] {
+                let header = row(pixels.len() as u32, channels);
+                assert_styles(&rt, alloc, header, &pixels, &[21, 64, 96, 1000]);
+            }
+        }
+    }
+    Ok(())
+}
+
+// The calls that a writer gets: the header; what each piece makes, or none for bytes that are held;
+// the rest. None of them is a flush.
+#[test]
+fn calls_of_the_writer(rt: HostRuntime) -> Result<()> {
+    let alloc = rt.alloc();
+    let sink = Sink::new(alloc, usize::MAX, NONE)?;
+    let mut pixels = PixelWriter::new(alloc, Header::default(), Style::Reference, sink)?;
+    pixels.write(&PIXEL[..1])?;
+    pixels.write(&PIXEL[1..])?;
+    let sink = pixels.finish()?;
+    assert_bytes(&rt, &sink.got, &ONE_RGB_PIXEL);
+    assert_number(&rt, sink.calls, 2);
+    Ok(())
+}
+
+// What came behind other bytes of the writer stands behind them.
+#[test]
+fn behind_other_bytes(rt: HostRuntime) -> Result<()> {
+    let alloc = rt.alloc();
+    let mut file = Vec::new(alloc);
+    file.extend_from_slice(&[1, 2, 3])?;
+    let mut pixels = PixelWriter::new(alloc, Header::default(), Style::Tight, file)?;
+    pixels.write(&PIXEL)?;
+    let file = pixels.finish()?;
+    let mut all = Vec::new(alloc);
+    all.extend_from_slice(&[1, 2, 3])?;
+    all.extend_from_slice(&ONE_RGB_PIXEL)?;
+    assert_bytes(&rt, &file, &all);
+    Ok(())
+}
+
+// More bytes than the image has are refused, and nothing is taken; fewer are refused at the end.
+#[test]
+fn other_lengths(rt: HostRuntime) -> Result<()> {
+    let alloc = rt.alloc();
+    let header = Header::try_new(2, 2, Channels::Rgb, ColorSpace::Srgb)?;
+    let mut pixels = PixelWriter::new(alloc, header, Style::Reference, Vec::new(alloc))?;
+    pixels.write(&[1, 2, 3, 4, 5])?;
+    let more = pixels.write(&[1, 2, 3, 4, 5, 6, 7, 8]).err();
+    assert_refused(&rt, alloc, more, "invalid image length: 13 bytes for 2x2");
+    assert_number(&rt, pixels.left(), 7);
+    pixels.write(&[1, 2, 3, 4, 5, 6])?;
+    let fewer = pixels.finish().err();
+    assert_refused(&rt, alloc, fewer, "invalid image length: 11 bytes for 2x2");
+    Ok(())
+}
+
+// A writer can be had back before all bytes came: it has a beginning of the file.
+#[test]
+fn unfinished(rt: HostRuntime) -> Result<()> {
+    let alloc = rt.alloc();
+    let sink = Sink::new(alloc, usize::MAX, NONE)?;
+    let mut pixels = PixelWriter::new(alloc, row(100, Channels::Rgb), Style::Reference, sink)?;
+    pixels.write(&[9; 90])?;
+    assert_number(&rt, pixels.left(), 210);
+    let sink = pixels.into_writer();
+    // The header, and the first pixel's luma chunk.
+    let begun = [
+        0x71, 0x6f, 0x69, 0x66, 0, 0, 0, 100, 0, 0, 0, 1, 3, 0, 0xa9, 0x88,
+    ];
+    assert_bytes(&rt, &sink.got, &begun);
+    Ok(())
+}
+
+// A header of no pixels, or of too many, is refused before anything is sent.
+#[test]
+fn invalid_headers(rt: HostRuntime) -> Result<()> {
+    let alloc = rt.alloc();
+    for (width, height) in [(0, 1), (1, 0), (20_001, 20_000)] {
+        let header = Header {
+            width,
+            height,
+            ..Header::default()
+        };
+        let mut sink = Sink::new(alloc, usize::MAX, NONE)?;
+        let refusal = PixelWriter::new(alloc, header, Style::Places, &mut sink).err();
+        let text = format!(in alloc; "invalid image dimensions: {width}x{height}")?;
+        assert_refused(&rt, alloc, refusal, text.as_str());
+        assert_number(&rt, sink.calls, 0);
+    }
+    Ok(())
+}
+
+// After a fault each further call refuses, and the writer gets no other call.
+fn assert_spent(rt: &impl Abort, pixels: PixelWriter<Sink>, calls: usize) -> Sink {
+    let mut pixels = pixels;
+    assert_fails(rt, pixels.write(&[1]).err(), ErrorKind::BrokenPipe);
+    assert_fails(rt, pixels.write(&[]).err(), ErrorKind::BrokenPipe);
+    let sink = pixels.into_writer();
+    assert_number(rt, sink.calls, calls);
+    sink
+}
+
+// Hands the image over in pieces to a writer whose call of this number ends so. Returns what came
+// of it: the fault, and the pixel writer after it, unless it was made or finished then.
+fn failed(
+    rt: &impl Abort,
+    alloc: Global,
+    image: &Image,
+    bad: Bad,
+) -> (Option<Error>, Option<PixelWriter<Sink>>) {
+    let sink = Sink::new(alloc, usize::MAX, bad).expect(rt, "refused");
+    let mut pixels = match PixelWriter::new(alloc, image.header, image.style, sink) {
+        Ok(pixels) => pixels,
+        Err(fault) => return (Some(fault), None),
+    };
+    for piece in image.raw.chunks(700) {
+        if let Err(fault) = pixels.write(piece) {
+            return (Some(fault), Some(pixels));
+        }
+    }
+    (pixels.finish().err(), None)
+}
+
+// Pixels of which none comes again while it is noted: RGB chunks alone.
+fn steps(alloc: Global, count: usize) -> Result<Vec<Rgba>> {
+    let mut pixels = Vec::new(alloc);
+    let [mut r, mut g, mut b, a] = START;
+    for _ in 0..count {
+        r = r.wrapping_add(3);
+        g = g.wrapping_add(100);
+        b = b.wrapping_add(7);
+        pixels.push([r, g, b, a])?;
+    }
+    Ok(pixels)
+}
+
+// Each call of a writer fails in turn, or takes no byte: the first is that of the header.
+#[test]
+fn failing_writers(rt: HostRuntime) -> Result<()> {
+    let alloc = rt.alloc();
+    let pixels = steps(alloc, 3000)?;
+    let image = Image::of(alloc, row(3000, Channels::Rgba), Style::Reference, &pixels)?;
+    for (end, kind) in [
+        (End::Fault, ErrorKind::BrokenPipe),
+        (End::Interruption, ErrorKind::Interrupted),
+        (End::NoByte, ErrorKind::WriteZero),
+    ] {
+        let mut bad = Bad { call: 1, end };
+        for _ in 0..100 {
+            let (fault, spent) = failed(&rt, alloc, &image, bad);
+            if fault.is_none() {
+                break;
+            }
+            assert_fails(&rt, fault, kind);
+            if let Some(pixels) = spent {
+                let sink = assert_spent(&rt, pixels, bad.call);
+                assert!(&rt; image.file.starts_with(&sink.got));
+            }
+            bad.call = bad.call.saturating_add(1);
+        }
+        // The calls that send the header, 18 pieces of which each has a block, and the end.
+        assert_number(&rt, bad.call, 21);
+    }
+    Ok(())
+}
+
+// Writes the pixel while all memory is taken but for one block of `spare` bytes.
+fn starved(alloc: Global, spare: usize, file: &mut [u8]) -> Result<()> {
+    let block: Vec<u8> = Vec::with_capacity(alloc, spare)?;
+    let held = take_memory(alloc, 2)?;
+    drop(block);
+    let made = PixelWriter::new(alloc, Header::default(), Style::Reference, file);
+    let ended = match made {
+        Ok(mut pixels) => match pixels.write(&PIXEL) {
+            Ok(()) => pixels.finish().err(),
+            Err(fault) => Some(fault),
+        },
+        Err(refusal) => Some(refusal),
+    };
+    drop(held);
+    match ended {
+        Some(refusal) => Err(refusal),
+        None => Ok(()),
+    }
+}
+
+// The first allocation is refused, and nothing was sent; when it is granted, there is no second
+// one.
+#[test]
+fn each_allocation(rt: HostRuntime) {
+    let alloc = rt.alloc();
+    let mut file = [0xaa; 26];
+    let refusal = starved(alloc, 0, &mut file).err();
+    assert_refused(&rt, alloc, refusal, "out of memory");
+    assert_bytes(&rt, &file, &[0xaa; 26]);
+    starved(alloc, 4224, &mut file).expect(&rt, "refused");
+    assert_bytes(&rt, &file, &ONE_RGB_PIXEL);
+}
