@@ -83,7 +83,8 @@ static KEEPING(c_keep) {
 
 encode port_encode_buffer, port_encode_vector, port_encode_slice, port_encode_growing, port_encode_places,
     port_encode_tight;
-decode port_decode_buffer, port_decode_vector, port_decode_stream, port_decode_stream_buffered, port_decode_buf_read;
+decode port_decode_buffer, port_decode_vector, port_decode_stream, port_decode_stream_buffered, port_decode_buf_read,
+    port_decode_rows, port_decode_rows_buf_read;
 keep port_keep;
 
 #define ENCODES(who, call) {who, .encode = call}
@@ -122,6 +123,9 @@ static const struct row { const char *name; int vector, channels, style; struct 
     {"`from_stream` of a `BufReader`", .ways = {CRATE_DECODES(crate_decode_stream_buffered),
         DECODES("port", port_decode_stream_buffered)}},
     {"`from_stream` of a slice", .ways = {CRATE_DECODES(crate_decode_stream), DECODES("port", port_decode_stream)}},
+    {"row by row", .ways = {DECODES("`decode_to_buf`", port_decode_buffer), DECODES("port", port_decode_rows)}},
+    {"row by row from a `BufReader`", .ways = {DECODES("`from_buf_read`", port_decode_buf_read),
+        DECODES("port", port_decode_rows_buf_read)}},
 };
 enum { ROWS = sizeof rows / sizeof *rows, WAYS = 3, MOST = 4000 };
 
