@@ -89,8 +89,8 @@ impl Pieces {
         self.to - self.from + self.undecoded
     }
 
-    /// Drops what is kept: no more of the image is given, and as many bytes are left of it as before
-    /// the piece that was refused.
+    /// Drops what is kept: no more of the image is given, and as many bytes are left of it as
+    /// before the piece that was refused.
     #[cold]
     pub(super) fn refuse(&mut self, left: usize)
         ensures left { bytes_left self.new ≡ left }
@@ -165,7 +165,8 @@ impl Pieces {
         ensures refused { (n : ℕ) (start : Option (List ℕ)) (given : List ℕ)
             → GivesPieces F N n start (R.ahead reader.old) given self.old
             → IfErr result (RefusesChunks R.in_memory n start (R.ahead reader.new)) }
-        ensures enough { OnOk result (min self.old.undecoded IN_PLACE ≤ self.new.to - self.new.from) }
+        ensures enough { OnOk result
+            (min self.old.undecoded IN_PLACE ≤ self.new.to - self.new.from) }
         ensures pixels { OnOk result (KeepsPixels N self.new) }
         ensures left { OnOk result (bytes_left self.new ≡ bytes_left self.old) }
     {
@@ -198,7 +199,8 @@ impl Pieces {
         requires pixels { KeepsPixels N self.old }
         ensures read { (n : ℕ) (start : Option (List ℕ)) (given : List ℕ)
             → GivesPieces F N n start (R.ahead reader.old) given self.old
-            → OnOk result (GivesPieces F N n start (R.ahead reader.new) (given ++ out.new) self.new) }
+            → OnOk result
+            (GivesPieces F N n start (R.ahead reader.new) (given ++ out.new) self.new) }
         ensures refused { (n : ℕ) (start : Option (List ℕ)) (given : List ℕ)
             → GivesPieces F N n start (R.ahead reader.old) given self.old
             → IfErr result (RefusesChunks R.in_memory n start (R.ahead reader.new)) }
@@ -224,7 +226,8 @@ impl Pieces {
         requires pixels { KeepsPixels N self.old }
         ensures read { (n : ℕ) (start : Option (List ℕ)) (given : List ℕ)
             → GivesPieces F N n start (R.ahead reader.old) given self.old
-            → OnOk result (GivesPieces F N n start (R.ahead reader.new) (given ++ out.new) self.new) }
+            → OnOk result
+            (GivesPieces F N n start (R.ahead reader.new) (given ++ out.new) self.new) }
         ensures refused { (n : ℕ) (start : Option (List ℕ)) (given : List ℕ)
             → GivesPieces F N n start (R.ahead reader.old) given self.old
             → IfErr result (RefusesChunks R.in_memory n start (R.ahead reader.new)) }

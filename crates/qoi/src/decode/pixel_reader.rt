@@ -41,7 +41,8 @@ pub trait PieceReader: Reader {
             → GivesPieces file_channels channels n start (Self.ahead self.old) given pieces.old
             → IfErr result (RefusesChunks Self.in_memory n start (Self.ahead self.new)) }
         ensures pixels { OnOk result (KeepsPixels channels pieces.new) }
-        ensures left { OnOk result (length out.new + bytes_left pieces.new ≡ bytes_left pieces.old) }
+        ensures left { OnOk result
+            (length out.new + bytes_left pieces.new ≡ bytes_left pieces.old) }
         ensures kept { IsTrue Self.in_memory
             → OnErr result (Keeps (Self.ahead self.old) (Self.ahead self.new)) };
 }
@@ -148,14 +149,23 @@ impl<R> Model for PixelReader<R> {
 
     ghost Value = { PixelsState R };
 
-    ghost view = { λ p. record { reader = p.decoder.reader; header = p.decoder.header; channels = p.decoder.channels; pieces = p.pieces; refused = p.refused } };
+    ghost view = { λ p. record {
+      reader = p.decoder.reader;
+      header = p.decoder.header;
+      channels = p.decoder.channels;
+      pieces = p.pieces;
+      refused = p.refused;
+    } };
 
-    ghost invariant = { λ p. IsValid p.decoder.header × KeepsWithin p.pieces × (bytes_left p.pieces ≤ output_byte_count p.decoder) × (p.refused ≡ false → p.pieces.undecoded % channels_number p.decoder.channels ≡ 0) };
+    ghost invariant = { λ p. IsValid p.decoder.header × KeepsWithin p.pieces
+        × (bytes_left p.pieces ≤ output_byte_count p.decoder)
+        × (p.refused ≡ false
+        → p.pieces.undecoded % channels_number p.decoder.channels ≡ 0) };
 }
 
 impl<R: PieceReader> Decoder<R> {
-    /// Starts the decoding of the image ahead, in the decoder's channels, piece by piece. Nothing is
-    /// read yet.
+    /// Starts the decoding of the image ahead, in the decoder's channels, piece by piece. Nothing
+    /// is read yet.
     pub fn into_pixels(self) -> PixelReader<R>
         ensures start { HasGiven self (R.ahead self.reader) (R.ahead result.reader) [] result }
         ensures same { as_decoder result ≡ self }
@@ -187,7 +197,8 @@ impl<R: PieceReader> Decoder<R> {
             (R.ahead self.new.reader)) }
         ensures pixels { OnOk result
             (KeepsPixels (channels_number self.old.channels) pieces.new) }
-        ensures left { OnOk result (length out.new + bytes_left pieces.new ≡ bytes_left pieces.old) }
+        ensures left { OnOk result
+            (length out.new + bytes_left pieces.new ≡ bytes_left pieces.old) }
         ensures kept { IsTrue R.in_memory
             → OnErr result (Keeps (R.ahead self.old.reader) (R.ahead self.new.reader)) }
         ensures unchanged { self.new ≡ record self.old { reader = self.new.reader } }
@@ -214,8 +225,8 @@ impl<R: PieceReader> PixelReader<R> {
         self.decoder.channels()
     }
 
-    /// How many raw bytes of the image weren't read yet: none after the last ones, and some for ever
-    /// after a refusal.
+    /// How many raw bytes of the image weren't read yet: none after the last ones, and some for
+    /// ever after a refusal.
     #[tactic(auto, unfolding(crate::specs::PixelReader::pixels_left))]
     pub fn left(&self) -> usize
         ensures { result ≡ pixels_left self.now }
@@ -224,14 +235,14 @@ impl<R: PieceReader> PixelReader<R> {
     }
 
     /// Reads the next raw bytes into the front of `buf`: as many as it has, or as are left of the
-    /// image. Returns how many; none once all were read. With the last ones the end marker is taken,
-    /// and no byte past it.
+    /// image. Returns how many; none once all were read. With the last ones the end marker is
+    /// taken, and no byte past it.
     ///
     /// Refusals are those of `Decoder::decode_to_buf`, but for `OutputBufferTooSmall`, and come at
     /// the latest with the last bytes. After a refusal the bytes of `buf` may be overwritten, as
-    /// many as would have been read; a slice's tail is as before the call, and a stream stands after
-    /// the bytes that were read. `left` is as before, and no more of the image can be read: each
-    /// further `read` into a buffer that isn't empty returns `UnexpectedBufferEnd`.
+    /// many as would have been read; a slice's tail is as before the call, and a stream stands
+    /// after the bytes that were read. `left` is as before, and no more of the image can be read:
+    /// each further `read` into a buffer that isn't empty returns `UnexpectedBufferEnd`.
     #[tactic(auto, unfolding(crate::specs::PixelReader::pixels_left))]
     pub fn read(&mut self, buf: &mut [u8]) -> Result<usize>
         // A success: the bytes follow those that were read before.
@@ -254,7 +265,8 @@ impl<R: PieceReader> PixelReader<R> {
             → IsErrOf result Error.UnexpectedBufferEnd
             × (self.new ≡ self.old) × (buf.new ≡ buf.old) }
 
-        // What stays: bytes in memory after a refusal, later bytes of the buffer, header and channels.
+        // What stays: bytes in memory after a refusal, later bytes of the buffer, header and
+        // channels.
         ensures kept { IsTrue R.in_memory
             → OnErr result (Keeps (R.ahead self.old.reader) (R.ahead self.new.reader)) }
         ensures later { drop (pixels_left self.old) buf.new ≡ drop (pixels_left self.old) buf.old }
@@ -279,8 +291,8 @@ impl<R: PieceReader> PixelReader<R> {
         }
     }
 
-    /// Gives back the decoder, whose reader is as it stands: behind the end marker if none are left,
-    /// so that the decoder goes on there. Before that call `finish` instead, which takes the rest.
+    /// Gives back the decoder, whose reader is as it stands: behind the end marker if no bytes are
+    /// left, so that the decoder goes on there. Before that call `finish`, which takes the rest.
     pub fn into_decoder(self) -> Decoder<R>
         ensures { result ≡ as_decoder self }
     {
@@ -289,9 +301,9 @@ impl<R: PieceReader> PixelReader<R> {
 }
 
 impl<R: PieceReader + Drop> PixelReader<R> {
-    /// Takes what is left of the image, and the end marker, without handing the bytes out: a file is
-    /// checked, or its end found, in no memory. Gives back the decoder, which goes on behind the end
-    /// marker.
+    /// Takes what is left of the image, and the end marker, without handing the bytes out: a file
+    /// is checked, or its end found, in no memory. Gives back the decoder, which goes on behind the
+    /// end marker.
     ///
     /// Refusals are those of `read`, after one of them too. After a refusal the decoder is dropped
     /// with its reader, so no contract can say where that stood.
@@ -307,7 +319,8 @@ impl<R: PieceReader + Drop> PixelReader<R> {
         // The refusals: those of the image, now or before.
         ensures refused { (d : DecoderState R) (start : Option (List ℕ)) (given : List ℕ)
             → HasGiven d start (R.ahead self.reader) given self
-            → IfErr result (λ e. (new : Option (List ℕ)) × RefusesPixels R.in_memory d start new e) }
+            → IfErr result (λ e. (new : Option (List ℕ))
+            × RefusesPixels R.in_memory d start new e) }
         ensures again { IsSpent self → IsErrOf result Error.UnexpectedBufferEnd }
     {
         let mut buf = [0; 4096];

@@ -114,7 +114,7 @@ fn pieces_of_each_length(rt: HostRuntime) {
     }
 }
 
-// Parts of a pixel and of a run, about the room of any run, about what is kept, and the whole image.
+// Parts of a pixel and of a run, about the room of any run, about what is kept, and the image.
 #[test]
 fn pieces_of_long_images(rt: HostRuntime) {
     let alloc = rt.alloc();
