@@ -157,6 +157,12 @@ next_row stride k raw given row size is =
     sym (drop_at given row (stride * k) size) ∙ ap (drop (stride * k)) is ∙ ap (λ n. drop (stride * k) (take (n + stride) raw)) size
     ∙ drop-take (stride * k) stride raw
 
+-- one row more at the front
+pub front_more : (stride k : ℕ) (raw : List ℕ) → take (stride * (k + 1)) raw ≡ take (stride * k) raw ++ row_bytes stride raw k
+front_more stride k raw =
+    let more : stride * (k + 1) ≡ stride * k + stride = omega (arith, mul-suc stride k) in
+    ap (λ n. take n raw) more ∙ take-add (stride * k) stride raw
+
 -- a rectangle of the first rows is one of the picture
 pub of_first_rows : (stride top left rows size : ℕ) (front more : List ℕ) → stride * (top + rows) ≤ length front
     → rectangle stride top left rows size (front ++ more) ≡ rectangle stride top left rows size front
@@ -173,7 +179,7 @@ of_first_rows stride top left (suc rows) size front more inside =
     ∙ ap (λ z. rectangle stride top left rows size front ++ take size (drop left z)) row
 
 -- Bytes `row` were put into `old` where the part of row top + rows stands.
-module _ (stride top left rows size : ℕ) (old new row : List ℕ) (fits : left + size ≤ stride) (inside : stride * (top + (rows + 1)) ≤ length old)
+module _ (stride top left rows size : ℕ) (old new row : List ℕ) (fits : left + size ≤ stride) (inside : stride * (top + rows) + stride ≤ length old)
     (many : length row ≡ size)
     (is : new ≡ take (stride * (top + rows) + left) old ++ (row ++ drop size (drop (stride * (top + rows) + left) old))) where
   abbrev at : ℕ
@@ -186,7 +192,7 @@ module _ (stride top left rows size : ℕ) (old new row : List ℕ) (fits : left
   later = drop size (drop at old)
 
   before_end : at + size ≤ length old
-  before_end = omega (arith, fits, inside, row_end stride (top + rows) (top + (rows + 1)) (omega arith))
+  before_end = omega (arith, fits, inside)
 
   length-front : length front ≡ at
   length-front = omega (arith, before_end, length-take at old)

@@ -1,5 +1,5 @@
 //! Laws on rows and rectangles of raw bytes: an image's, or any others of rows of one length.
-ghost use Rattle.std.specs.Prelude.{◌≡◌, ℕ, ◌+◌, ◌*◌, ◌<◌, ◌≤◌, List, ◌++◌, length, take, drop, slice_index};
+ghost use Rattle.std.specs.Prelude.{◌≡◌, ℕ, ◌+◌, ◌*◌, ◌<◌, ◌≤◌, List, [], ◌++◌, length, take, drop, slice_index};
 ghost use Rattle.qoi.specs.Rectangles.{row_bytes, rectangle, KeepsOutside};
 
 /// The whole picture is a rectangle of itself, a row is a rectangle of one row, a rectangle of a
@@ -33,8 +33,8 @@ pub fn rectangles_within()
         ≡ slice_index raw (stride * (top + i) + left + j) }
 {}
 
-/// Rows that come one after the other: what follows k rows is row k, and a rectangle of the rows
-/// that came is one of the picture.
+/// Rows that come one after the other: what follows k rows is row k, a rectangle of the rows that
+/// came is one of the picture, and one row more adds its part.
 pub fn rows_that_come()
     ensures next { (stride k : ℕ) (raw given row : List ℕ) → length given ≡ stride * k
         → given ++ row ≡ take (length given + stride) raw → row ≡ row_bytes stride raw k }
@@ -42,6 +42,11 @@ pub fn rows_that_come()
         → stride * (top + rows) ≤ length front
         → rectangle stride top left rows size (front ++ more)
         ≡ rectangle stride top left rows size front }
+    ensures fits { (stride k rows : ℕ) → k < rows → stride * k + stride ≤ stride * rows }
+    ensures front { (stride k : ℕ) (raw : List ℕ) → take (stride * (k + 1)) raw
+        ≡ take (stride * k) raw ++ row_bytes stride raw k }
+    ensures none { (stride top left size : ℕ) (raw : List ℕ)
+        → rectangle stride top left 0 size raw ≡ [] }
     ensures more { (stride top left rows size : ℕ) (raw : List ℕ)
         → rectangle stride top left (rows + 1) size raw
         ≡ rectangle stride top left rows size raw
@@ -52,13 +57,13 @@ pub fn rows_that_come()
 /// bytes outside of it stay.
 pub fn rows_are_put()
     ensures put { (stride top left rows size : ℕ) (old new row : List ℕ) → left + size ≤ stride
-        → stride * (top + (rows + 1)) ≤ length old → length row ≡ size
+        → stride * (top + rows) + stride ≤ length old → length row ≡ size
         → new ≡ take (stride * (top + rows) + left) old
         ++ (row ++ drop size (drop (stride * (top + rows) + left) old))
         → rectangle stride top left (rows + 1) size new
         ≡ rectangle stride top left rows size old ++ row }
     ensures stays { (stride top left rows size : ℕ) (start old new row : List ℕ)
-        → left + size ≤ stride → stride * (top + (rows + 1)) ≤ length old → length row ≡ size
+        → left + size ≤ stride → stride * (top + rows) + stride ≤ length old → length row ≡ size
         → new ≡ take (stride * (top + rows) + left) old
         ++ (row ++ drop size (drop (stride * (top + rows) + left) old))
         → KeepsOutside stride top left rows size start old

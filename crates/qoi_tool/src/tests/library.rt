@@ -26,6 +26,7 @@ mod packs;
 mod pieces;
 mod pixel;
 mod reader;
+mod rectangles;
 mod refusals;
 mod runs;
 mod second_images;
