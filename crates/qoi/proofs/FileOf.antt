@@ -29,7 +29,7 @@ use Rattle.qoi.proofs.decoding.Ahead.{stands_after}
 use Rattle.qoi.proofs.decoding.FrontImage.{file_image_is, file_rest_is}
 use Rattle.qoi.proofs.decoding.ImageSize.{channels_are}
 use Rattle.qoi.proofs.decoding.OneFile.{decodes_file}
-use Rattle.qoi.proofs.decoding.Tiles.{tile_put, sent_kept, sent_known}
+use Rattle.qoi.proofs.decoding.Tiles.{tile_put, sent_image, sent_kept, sent_known, sent_stay}
 use Rattle.qoi.proofs.format.ImageHeader.{accepted_says}
 use Rattle.qoi.proofs.format.RawPixels.{pixels_of_are, pixels_of_have, length-pixels_of, output-pixels_of}
 use Rattle.qoi.specs.writers.Writes.{WriterLaws, WroteBut, WroteBeginning}
@@ -369,6 +369,8 @@ sends_file e bytes old new n f is sent = record {
   sent = sent;
   is = f.is_image_file;
   counts = counts_file e bytes n f is;
+  image = sent_image e.style e.header e.raw bytes old new f sent;
+  stay = sent_stay bytes old new sent;
   put = λ before after was is. tile_put e.style e.header e.raw bytes before after f (sent_known bytes old new sent before after was is);
   kept = sent_kept bytes old new sent;
 }

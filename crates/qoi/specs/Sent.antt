@@ -10,6 +10,7 @@ use Rattle.qoi.specs.declared.types.Style.TheVariants.{Reference, Places, Tight}
 use Rattle.qoi.specs.declared.header.Header.{Header}
 use Rattle.qoi.specs.Qoi.{colorspace_at, colorspace_number}
 use Rattle.qoi.specs.Encoded.{image_file, image_header, IsFileLength, IsFileOf, IsShortest}
+use Rattle.qoi.specs.Images.{file_image}
 use Rattle.qoi.specs.EncoderState.{EncoderState, free_encoder}
 use Rattle.qoi.specs.Tiles.{HasTile}
 use Rattle.qoi.specs.writers.Writes.{AppendsBeginning}
@@ -73,9 +74,13 @@ pub record SendsFile (e : EncoderState) (old new : Option (List ℕ)) (n : ℕ) 
   pub is : bytes ≡ image_file e.style e.header e.raw
   -- how many bytes the file has
   pub counts : HasFileLength e n
-  -- so the image is a tile at the end of the writer's bytes
+  -- so the image, these raw bytes, is read from where it was put
+  pub image : (raw before : List ℕ) → raw ≡ e.raw → old ≡ Some before → IfSome new (λ after. file_image (drop (length before) after) ≡ raw)
+  -- the writer's bytes before it stay
+  pub stay : (before : List ℕ) → old ≡ Some before → IfSome new (λ after. take (length before) after ≡ before)
+  -- it is a tile at their end
   pub put : (before after : List ℕ) → old ≡ Some before → new ≡ Some after → HasTile after (length before) e.raw
-  -- and those before it stay
+  -- and tiles before it stay
   pub kept : IfSome old (λ before. IfSome new (λ after. (offset : ℕ) (tile : List ℕ) → HasTile before offset tile → HasTile after offset tile))
 
 -- The encoder sends a beginning of its file to a writer.

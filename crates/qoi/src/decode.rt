@@ -1,5 +1,5 @@
 //! Decoding, from slices, from streams and from readers with a buffer.
-ghost use Rattle.std.specs.Prelude.{◌≡◌, ◌*◌, ◌<◌, ◌≤◌, length, take, drop, Some, ◌+◌, IfOk, IfErr, IsErrOf, ◌⊎◌, Ok, Err};
+ghost use Rattle.std.specs.Prelude.{◌≡◌, ℕ, ◌*◌, ◌-◌, ◌<◌, ◌≤◌, List, length, take, drop, Some, ◌+◌, IfOk, IfErr, IsErr, IsErrOf, ◌⊎◌, Ok, Err};
 ghost use Rattle.qoi.specs.declared.header.Header.{Header};
 ghost use Rattle.qoi.specs.declared.error.Error.{Error};
 ghost use Rattle.qoi.specs.Qoi.{header_of, file};
@@ -7,6 +7,7 @@ ghost use Rattle.qoi.specs.Decoding.{RefusesBuffer};
 ghost use Rattle.qoi.specs.DecoderState.{output_byte_count};
 ghost use Rattle.qoi.specs.Decoded.{HasHeader, HasRefusedHeader, HasDecoded, HasRefused, HasDecodedFile, HasRefusedFile};
 ghost use Rattle.qoi.specs.Raw.{capped_byte_count, image_byte_count};
+ghost use Rattle.qoi.specs.Sent.{IsFileFor};
 
 mod buffered;
 mod chunks;
@@ -85,6 +86,11 @@ pub fn decode_to_vec(alloc: Global, data: &[u8]) -> Result<(Header, Vec<u8>)>
     // The refusals: memory runs out after a valid header, or the bytes are refused.
     ensures refused { IfErr result (λ e. HasRefusedFile «data».now e
         ⊎ ((e ≡ Error.OutOfMemory) × (h : Header) × (header_of «data».now ≡ Ok h))) }
+
+    // What `encode_to_vec` made is refused without its last byte.
+    ensures without_last { (raw whole : List ℕ) (width height : ℕ)
+        → IsFileFor raw width height whole → «data».now ≡ take (length whole - 1) whole
+        → IsErr result }
 {
     let mut decoder = Decoder::<Bytes>::new(data)?;
     let out = decoder.decode_to_vec(alloc)?;

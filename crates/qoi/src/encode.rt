@@ -7,7 +7,7 @@ ghost use Rattle.qoi.specs.declared.types.Channels.{Channels};
 ghost use Rattle.qoi.specs.declared.types.ColorSpace.{ColorSpace};
 ghost use Rattle.qoi.specs.declared.types.Style.{Style};
 ghost use Rattle.qoi.specs.declared.types.Style.TheVariants.{Reference, Places, Tight};
-ghost use Rattle.qoi.specs.Qoi.{IsValid};
+ghost use Rattle.qoi.specs.Qoi.{IsValid, pixels_max};
 ghost use Rattle.qoi.specs.Raw.{image_byte_count};
 ghost use Rattle.qoi.specs.Encoded.{max_len, max_file_len, image_header, measured, with_number, IsFileOf};
 ghost use Rattle.qoi.specs.Errors.{IsIoError};
@@ -176,6 +176,13 @@ pub fn encode_to_vec(alloc: Global, data: &[u8], width: u32, height: u32) -> Res
     ensures refused { IfErr result (λ e. (image_header «data».now width height ≡ Err e)
         ⊎ ((e ≡ Error.OutOfMemory) × (h : Header)
         × (image_header «data».now width height ≡ Ok h))) }
+
+    // Raw bytes of the right number for a valid size are refused only if memory runs out.
+    ensures accepts { 1 ≤ width * height → width * height ≤ pixels_max
+        → (length «data».now ≡ width * height * 3) ⊎ (length «data».now ≡ width * height * 4)
+        → IsOkUnless result Error.OutOfMemory }
+    ensures accepts_header { (h : Header) → IsValid h → h.width ≡ width → h.height ≡ height
+        → length «data».now ≡ image_byte_count h → IsOkUnless result Error.OutOfMemory }
 {
     Encoder::new(data, width, height)?.encode_to_vec(alloc)
 }

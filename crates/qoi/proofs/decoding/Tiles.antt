@@ -1,7 +1,8 @@
 -- Files at offsets of longer bytes: they are put, stay, and are read.
-use Rattle.std.proofs.Common.{◌≡◌, ◌+◌, ◌-◌, ◌≤◌, ℕ, List, [], ◌++◌, Option, None, Some, IfSome, length, drop, arith, ap, sym, ◌∙◌}
+use Rattle.std.proofs.Common.{◌≡◌, ◌+◌, ◌-◌, ◌≤◌, ℕ, List, [], ◌++◌, Option, None, Some, IfSome, length, take, drop, refl, arith, ap, sym, ◌∙◌}
 use Rattle.std.proofs.lemmas.List.{append_assoc, append-nil, length-append, length-drop, drop-append-le}
 use Rattle.std.proofs.Math.Seq.{drop-append_seam}
+use lib.Seq.{take-append_seam}
 use Rattle.std.specs.Io.KnownBytes.{Appends}
 use Rattle.qoi.specs.declared.header.Header.{Header}
 use Rattle.qoi.specs.declared.types.Style.{Style}
@@ -53,3 +54,17 @@ pub sent_kept : (bytes : List ℕ) (old new : Option (List ℕ)) → Appends old
 sent_kept bytes None new sent = tt
 sent_kept bytes (Some before) None sent = tt
 sent_kept bytes (Some before) (Some after) sent = λ offset tile t. tile_kept tile before after bytes offset sent t
+
+-- a file that was appended is read from where it was put
+pub sent_image : (style : Style) (h : Header) (own bytes : List ℕ) (old new : Option (List ℕ)) → IsFileOf style h own bytes → Appends old new bytes
+    → (raw before : List ℕ) → raw ≡ own → old ≡ Some before → IfSome new (λ after. file_image (drop (length before) after) ≡ raw)
+sent_image style h own bytes old None f sent raw before is was = tt
+sent_image style h own bytes old (Some after) f sent raw before is was =
+    tile_read after own (length before) (tile_put style h own bytes before after f (sent_known bytes old (Some after) sent before after was refl)) ∙ sym is
+
+-- the bytes before stay
+pub sent_stay : (bytes : List ℕ) (old new : Option (List ℕ)) → Appends old new bytes
+    → (before : List ℕ) → old ≡ Some before → IfSome new (λ after. take (length before) after ≡ before)
+sent_stay bytes old None sent before was = tt
+sent_stay bytes old (Some after) sent before was =
+    ap (take (length before)) (sent_known bytes old (Some after) sent before after was refl) ∙ take-append_seam before bytes

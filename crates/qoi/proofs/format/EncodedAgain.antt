@@ -1,5 +1,5 @@
--- A decoded image can be encoded again.
-use Rattle.std.proofs.Common.{◌≡◌, ℕ, ◌*◌, ◌/◌, ◌%◌, ◌<◌, ◌≤◌, List, length, min, arith, refl, ap, ◌∙◌, Ok, Err}
+-- Raw bytes of the right number are accepted: a decoded image can be encoded again.
+use Rattle.std.proofs.Common.{◌≡◌, ℕ, ◌*◌, ◌/◌, ◌%◌, ◌<◌, ◌≤◌, ◌⊎◌, inl, inr, List, length, min, arith, refl, sym, ap, ◌∙◌, Ok, Err}
 use Rattle.std.specs.Prelude.{◌==◌, if◌then◌else◌, Result}
 use Rattle.std.proofs.Math.Nat.{mul-mod_right, mul-div_cancel_left}
 use Rattle.qoi.specs.declared.error.Error.{Error}
@@ -42,3 +42,18 @@ pub size_accepted : (raw : List ℕ) (width height : ℕ) (channels : Channels) 
     → image_header raw width height ≡ Ok (record { width = width; height = height; channels = channels; colorspace = Srgb })
 size_accepted raw width height channels some few size =
     encoded_again (record { width = width; height = height; channels = channels; colorspace = Srgb }) raw (some, few) size
+
+-- so they aren't refused
+pub size_not_refused : (raw : List ℕ) (width height : ℕ) (e : Error) → 1 ≤ width * height → width * height ≤ pixels_max
+    → (length raw ≡ width * height * 3) ⊎ (length raw ≡ width * height * 4) → image_header raw width height ≡ Err e → ⊥
+size_not_refused raw width height e some few (inl three) refused = let found = size_accepted raw width height Rgb some few three in cc
+size_not_refused raw width height e some few (inr four) refused = let found = size_accepted raw width height Rgba some few four in cc
+
+-- nor are those of a header's image
+pub header_not_refused : (h : Header) (raw : List ℕ) (width height : ℕ) (e : Error) → IsValid h → h.width ≡ width → h.height ≡ height
+    → length raw ≡ image_byte_count h → image_header raw width height ≡ Err e → ⊥
+header_not_refused h raw width height e valid wide high size refused =
+    let same : image_header raw width height ≡ image_header raw h.width h.height =
+    ap (λ w. image_header raw w height) (sym wide) ∙ ap (image_header raw h.width) (sym high) in
+    let found = encoded_again h raw valid size in
+    cc

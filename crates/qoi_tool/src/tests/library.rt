@@ -29,6 +29,7 @@ mod reader;
 mod rectangles;
 mod refusals;
 mod runs;
+mod saves;
 mod second_images;
 mod std_streams;
 mod streams;

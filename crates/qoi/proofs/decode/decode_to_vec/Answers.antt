@@ -35,3 +35,6 @@ returns-clause-decoded c =
     subst (λ (k : Header). HasDecodedFile c.args.data.now k c.in_ok-out.out.items) (sym same)
     (has_decoded_file c.args.data.now d c.decode_to_vec.new.self.reader c.in_ok-out.out.items
     (λ i. omega (arith, c.type_inv.data i)) accepted.header accepted.channels (cc accepted.after) c.in_ok-out.ensures.decoded)
+
+pub returns-clause-without_last : goal.returns-clause-without_last
+returns-clause-without_last c raw whole width height own part = absurd ((returns-clause-decoded c).not_without_last _ whole own.makes part)

@@ -1,11 +1,14 @@
 //! Functions of one's own, each with a contract, that are put together: files and images are
 //! functions of each other's bytes. None has a proof file.
-ghost use Rattle.std.specs.Prelude.{◌≡◌, ◌*◌, ◌≤◌, ◌<◌, ◌++◌, ℕ, List, length, drop, Some, Ok, IfOk, IfErr, OnOk};
+ghost use Rattle.std.specs.Prelude.{◌≡◌, ◌*◌, ◌≤◌, ◌<◌, ◌++◌, ℕ, List, length, drop, true, Some, Ok, IfOk, IfErr, IsErr, OnOk};
 ghost use Rattle.std.specs.Io.KnownBytes.{Appends};
+ghost use Rattle.qoi.specs.declared.error.Error.{Error};
 ghost use Rattle.qoi.specs.declared.header.Header.{Header};
 ghost use Rattle.qoi.specs.declared.types.Channels.{Channels};
 ghost use Rattle.qoi.specs.declared.types.Style.{Style};
 ghost use Rattle.qoi.specs.declared.types.Style.TheVariants.{Reference};
+ghost use Rattle.qoi.specs.Qoi.{IsValid, pixels_max};
+ghost use Rattle.qoi.specs.Raw.{image_byte_count};
 ghost use Rattle.qoi.specs.Images.{file_image};
 ghost use Rattle.qoi.specs.Encoded.{image_file, image_header};
 
@@ -170,6 +173,39 @@ pub fn without_last(alloc: Global, raw: &[u8], width: u32, height: u32) -> Resul
     }
 }
 
+/// So is one of the free call, from which its last byte was popped.
+pub fn popped(alloc: Global, raw: &[u8], width: u32, height: u32) -> Result<Error, Error> {
+    let mut file = encode_to_vec(alloc, raw, width, height)?;
+    file.pop();
+    match decode_to_vec(alloc, &file) {
+        Ok(_) => unreachable!(),
+        Err(refusal) => Ok(refusal),
+    }
+}
+
+/// The same, asked of the result.
+pub fn popped_is_err(alloc: Global, raw: &[u8], width: u32, height: u32) -> Result<bool, Error>
+    ensures { IfOk result (λ refused. refused ≡ true) }
+{
+    let mut file = encode_to_vec(alloc, raw, width, height)?;
+    file.pop();
+    Ok(decode_to_vec(alloc, &file).is_err())
+}
+
+/// The same, as the result.
+pub fn popped_result(
+    alloc: Global,
+    raw: &[u8],
+    width: u32,
+    height: u32,
+) -> Result<Result<(Header, Vec<u8>), Error>, Error>
+    ensures { IfOk result (λ decoded. IsErr decoded) }
+{
+    let mut file = encode_to_vec(alloc, raw, width, height)?;
+    file.pop();
+    Ok(decode_to_vec(alloc, &file))
+}
+
 /// The alpha of the first pixel of a file with three channels, read as four, is 255.
 pub fn first_alpha(alloc: Global, file: &[u8]) -> Result<(Header, u8), Error>
     ensures { IfOk result (λ x. x.0.channels ≡ Channels.Rgb → x.1 ≡ 255) }
@@ -195,6 +231,23 @@ pub fn of_right_length(
         Ok(encoder) => encoder.encode_to_vec(alloc),
         Err(_) => unreachable!(),
     }
+}
+
+/// They are refused only if memory runs out: three bytes for each pixel.
+pub fn of_size(alloc: Global, raw: &[u8], width: u32, height: u32) -> Result<Vec<u8>, Error>
+    ensures { 1 ≤ width * height → width * height ≤ pixels_max
+        → length raw.now ≡ width * height * 3 → IfErr result (λ e. e ≡ Error.OutOfMemory) }
+{
+    let file = encode_to_vec(alloc, raw, width, height)?;
+    Ok(file)
+}
+
+/// So are as many as a valid header says.
+pub fn of_header(alloc: Global, raw: &[u8], header: &Header) -> Result<Vec<u8>, Error>
+    ensures { IsValid header.now → length raw.now ≡ image_byte_count header.now
+        → IfErr result (λ e. e ≡ Error.OutOfMemory) }
+{
+    encode_to_vec(alloc, raw, header.width, header.height)
 }
 
 #[test]
@@ -224,6 +277,11 @@ fn refused_and_accepted(rt: HostRuntime) -> Result<(), Error> {
     let alloc = rt.alloc();
     let refusal = without_last(alloc, &PIXEL, 1, 1)?;
     assert!(rt; matches!(refusal, Error::UnexpectedBufferEnd));
+    let refusal = popped(alloc, &PIXEL, 1, 1)?;
+    assert!(rt; matches!(refusal, Error::UnexpectedBufferEnd));
+    assert!(rt; popped_is_err(alloc, &PIXEL, 1, 1)?);
+    let refused = popped_result(alloc, &PIXEL, 1, 1)?;
+    assert!(rt; matches!(refused, Err(Error::UnexpectedBufferEnd)));
     let (header, alpha) = first_alpha(alloc, &ONE_RGB_PIXEL)?;
     assert_number(&rt, header.n_pixels(), 1);
     assert_number(&rt, alpha as usize, 255);
@@ -231,6 +289,9 @@ fn refused_and_accepted(rt: HostRuntime) -> Result<(), Error> {
     assert_bytes(&rt, &of_right_length(alloc, &PIXEL, 1, 1)?, &[]);
     let file = of_right_length(alloc, &[0, 0, 0, 255], 1, 1)?;
     assert_number(&rt, file.len(), 23);
+    assert_bytes(&rt, &of_size(alloc, &PIXEL, 1, 1)?, &ONE_RGB_PIXEL);
+    let file = of_header(alloc, &PIXEL, &Header::default())?;
+    assert_bytes(&rt, &file, &ONE_RGB_PIXEL);
     Ok(())
 }
 

@@ -1,6 +1,6 @@
-//! What an encoder refuses by the number of raw bytes, and the greatest lengths of files.
-use crate::tests::library::support::assert_number;
-use qoi::{Encoder, Error, encode_max_len};
+//! Refused sizes, numbers of raw bytes and color spaces, and the greatest headers and files.
+use crate::tests::library::support::{assert_number, assert_refused};
+use qoi::{Channels, ColorSpace, Encoder, Error, Header, Result, encode_max_len};
 
 // Why so many raw bytes are refused.
 fn refusal(size: usize, width: u32, height: u32) -> Option<Error> {
@@ -51,4 +51,56 @@ fn greatest_lengths(rt: HostRuntime) {
     ] {
         assert_number(&rt, encode_max_len(width, height, channels), length);
     }
+}
+
+// A header of this size, which is refused by its dimensions alone.
+fn tried(width: u32, height: u32) -> Result<Header> {
+    Header::try_new(width, height, Channels::Rgba, ColorSpace::Linear)
+}
+
+// No pixel, and one more than there may be; as many as there may be are accepted.
+#[test]
+fn sizes_of_headers(rt: HostRuntime) {
+    assert!(rt;
+        matches!(
+            tried(0, 5),
+            Err(Error::InvalidImageDimensions {
+                width: 0,
+                height: 5
+            })
+        )
+    );
+    assert!(rt;
+        matches!(
+            tried(400_000_001, 1),
+            Err(Error::InvalidImageDimensions {
+                width: 400_000_001,
+                height: 1
+            })
+        )
+    );
+    assert!(rt; tried(20_000, 20_000).is_ok());
+    let text = "invalid image dimensions: 0x5";
+    assert_refused(&rt, rt.alloc(), tried(0, 5).err(), text);
+}
+
+// The number of pixels fits into 64 bits, that of the raw bytes doesn't.
+#[test]
+fn greatest_headers(rt: HostRuntime) {
+    for channels in [Channels::Rgb, Channels::Rgba] {
+        let header = Header {
+            width: u32::MAX,
+            height: u32::MAX,
+            channels,
+            ..Header::default()
+        };
+        assert_number(&rt, header.n_pixels(), 18_446_744_065_119_617_025);
+        assert_number(&rt, header.n_bytes(), 18_446_744_073_709_551_615);
+    }
+}
+
+#[test]
+fn color_space_of_two(rt: HostRuntime) {
+    let text = "invalid color space: 2 (expected 0 or 1)";
+    assert_refused(&rt, rt.alloc(), ColorSpace::try_from(2).err(), text);
 }

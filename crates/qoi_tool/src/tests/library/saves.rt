@@ -1,0 +1,144 @@
+//! A function of one's own that saves an image to any writer, and one that loads it: what was
+//! saved comes back, also of two images in one vector. None has a proof file.
+ghost use Rattle.std.specs.Prelude.{◌≡◌, ℕ, List, length, take, drop, Some, IfOk, IfSome};
+ghost use Rattle.qoi.specs.Images.{file_image};
+
+use crate::tests::fakes::{ONE_RGB_PIXEL, PIXEL};
+use crate::tests::library::support::{assert_bytes, assert_number};
+use qoi::{Decoder, Encoder, Error, decode_to_vec};
+use std::alloc::Global;
+use std::io::Write;
+
+/// Saved. If the writer's bytes are known, those before it stay, and the image is read after them.
+pub fn save<W: Write>(out: &mut W, raw: &[u8], width: u32, height: u32) -> Result<usize, Error>
+    ensures saved { (old : List ℕ) → W.contents out.old ≡ Some old → IfOk result (λ n.
+        IfSome (W.contents out.new) (λ new. file_image (drop (length old) new) ≡ raw.now)) }
+    ensures stay { (old : List ℕ) → W.contents out.old ≡ Some old → IfOk result (λ n.
+        IfSome (W.contents out.new) (λ new. take (length old) new ≡ old)) }
+{
+    let n = Encoder::new(raw, width, height)?.encode_to_stream(out)?;
+    Ok(n)
+}
+
+/// Loaded. The image of a file.
+pub fn load(alloc: Global, file: &[u8]) -> Result<Vec<u8>, Error>
+    ensures { IfOk result (λ raw. raw.items ≡ file_image file.now) }
+{
+    let (_, raw) = decode_to_vec(alloc, file)?;
+    Ok(raw)
+}
+
+/// Saved to a vector and loaded from its slice.
+pub fn saved_and_loaded(
+    alloc: Global,
+    raw: &[u8],
+    width: u32,
+    height: u32,
+) -> Result<Vec<u8>, Error>
+    ensures { IfOk result (λ back. back.items ≡ raw.now) }
+{
+    let mut out = Vec::new(alloc);
+    save(&mut out, raw, width, height)?;
+    load(alloc, &out)
+}
+
+/// Saved after what a vector holds, and loaded from there.
+pub fn saved_after(
+    alloc: Global,
+    out: &mut Vec<u8>,
+    raw: &[u8],
+    width: u32,
+    height: u32,
+) -> Result<Vec<u8>, Error>
+    ensures { IfOk result (λ back. back.items ≡ raw.now) }
+{
+    let start = out.len();
+    save(out, raw, width, height)?;
+    load(alloc, &out[start..])
+}
+
+/// Two images saved to one vector, one after the other, and both loaded back.
+pub fn two_saved(
+    alloc: Global,
+    first: &[u8],
+    second: &[u8],
+    width: u32,
+    height: u32,
+) -> Result<(Vec<u8>, Vec<u8>), Error>
+    ensures { IfOk result (λ x. (x.0.items ≡ first.now) × (x.1.items ≡ second.now)) }
+{
+    let mut out = Vec::new(alloc);
+    save(&mut out, first, width, height)?;
+    let middle = out.len();
+    save(&mut out, second, width, height)?;
+    let one = load(alloc, &out[..middle])?;
+    let two = load(alloc, &out[middle..])?;
+    Ok((one, two))
+}
+
+/// The same, encoded by the library's calls.
+pub fn two_at_offsets(
+    alloc: Global,
+    first: &[u8],
+    second: &[u8],
+    width: u32,
+    height: u32,
+) -> Result<(Vec<u8>, Vec<u8>), Error>
+    ensures { IfOk result (λ x. (x.0.items ≡ first.now) × (x.1.items ≡ second.now)) }
+{
+    let mut out = Vec::new(alloc);
+    Encoder::new(first, width, height)?.encode_to_stream(&mut out)?;
+    let middle = out.len();
+    Encoder::new(second, width, height)?.encode_to_stream(&mut out)?;
+    let one = load(alloc, &out[..middle])?;
+    let two = load(alloc, &out[middle..])?;
+    Ok((one, two))
+}
+
+/// The same, decoded by the library's calls: the second goes on where the first one ended.
+pub fn two_encoded(
+    alloc: Global,
+    first: &[u8],
+    second: &[u8],
+    width: u32,
+    height: u32,
+) -> Result<(Vec<u8>, Vec<u8>), Error>
+    ensures { IfOk result (λ x. (x.0.items ≡ first.now) × (x.1.items ≡ second.now)) }
+{
+    let mut out = Vec::new(alloc);
+    Encoder::new(first, width, height)?.encode_to_stream(&mut out)?;
+    Encoder::new(second, width, height)?.encode_to_stream(&mut out)?;
+    let mut decoder = Decoder::new(&out)?;
+    let one = decoder.decode_to_vec(alloc)?;
+    let (_, two) = decode_to_vec(alloc, decoder.data())?;
+    Ok((one, two))
+}
+
+#[test]
+fn saved_to_a_vector(rt: HostRuntime) -> Result<(), Error> {
+    let alloc = rt.alloc();
+    assert_bytes(&rt, &saved_and_loaded(alloc, &PIXEL, 1, 1)?, &PIXEL);
+    let mut out = Vec::from_slice(alloc, &[1, 2, 3])?;
+    assert_bytes(&rt, &saved_after(alloc, &mut out, &PIXEL, 1, 1)?, &PIXEL);
+    let mut all = Vec::from_slice(alloc, &[1, 2, 3])?;
+    all.extend_from_slice(&ONE_RGB_PIXEL)?;
+    assert_bytes(&rt, &out, &all);
+    assert_number(&rt, save(&mut out, &PIXEL, 1, 1)?, 26);
+    Ok(())
+}
+
+#[test]
+fn two_in_a_vector(rt: HostRuntime) -> Result<(), Error> {
+    let alloc = rt.alloc();
+    let other = [1, 2, 3];
+    let (one, two) = two_saved(alloc, &PIXEL, &other, 1, 1)?;
+    assert_bytes(&rt, &one, &PIXEL);
+    assert_bytes(&rt, &two, &other);
+    let (one, two) = two_at_offsets(alloc, &PIXEL, &other, 1, 1)?;
+    assert_bytes(&rt, &one, &PIXEL);
+    assert_bytes(&rt, &two, &other);
+    let (one, two) = two_encoded(alloc, &other, &PIXEL, 1, 1)?;
+    assert_bytes(&rt, &one, &other);
+    assert_bytes(&rt, &two, &PIXEL);
+    Ok(())
+}
