@@ -16,6 +16,7 @@ pub mod PackedPixels
 pub mod PartOfChunk
 pub mod PixelBlocks
 pub mod RawPixels
+pub mod RectangleLaws
 pub mod SamePixels
 pub mod SeenTable
 pub mod SetLast

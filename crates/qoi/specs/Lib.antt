@@ -10,6 +10,8 @@ pub mod Reading
 pub mod Images
 pub mod Decoded
 pub mod PixelReader
+-- Rows and rectangles of raw bytes.
+pub mod Rectangles
 -- The list that is written.
 pub mod Runs
 pub mod Written

@@ -2,5 +2,6 @@
 
 pub mod examples;
 pub mod reading;
+pub mod rectangles;
 pub mod surface;
 pub mod writing;

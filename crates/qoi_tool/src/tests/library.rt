@@ -28,6 +28,7 @@ mod pixel;
 mod pixel_readers;
 mod pixel_writer;
 mod reader;
+mod rectangles;
 mod refusals;
 mod row_callers;
 mod runs;

@@ -1,10 +1,15 @@
-//! Files that stand one after the other: each with what follows it. `count_files` alone has a proof
-//! file: its loop's invariant and measure.
-ghost use Rattle.std.specs.Prelude.{◌≡◌, ◌<◌, ℕ, List, length, Some, IfOk};
+//! Files that stand one after the other: each with what follows it, and its length. Only
+//! `count_files` and `file_length` have proof files: a loop's invariant and measure, and what a length
+//! has to do with a file.
+ghost use Rattle.std.specs.Prelude.{◌≡◌, ◌<◌, ℕ, List, ◌++◌, length, Some, IfSome, IfOk};
+ghost use Rattle.qoi.specs.declared.chunk.Chunk.{Chunk};
+ghost use Rattle.qoi.specs.declared.header.Header.{Header};
 ghost use Rattle.qoi.specs.Images.{file_image, file_rest};
+ghost use Rattle.qoi.specs.Qoi.{IsFile, file};
 
 use crate::tests::fakes::{ONE_RGB_PIXEL, PIXEL};
 use crate::tests::library::support::{assert_bytes, assert_number};
+use qoi::laws::reading::files_are_read;
 use qoi::{Decoder, Error};
 use std::alloc::Global;
 use std::io::{BufRead, BufReader};
@@ -62,6 +67,23 @@ pub fn both<'a>(alloc: Global, bytes: &'a [u8]) -> Result<(Vec<u8>, Vec<u8>, &'a
     Ok((first, second, rest))
 }
 
+/// How many bytes the file at the front has; none if no file stands there. Nothing is allocated.
+pub fn file_length(bytes: &[u8]) -> Option<usize>
+    ensures is_file { IfSome result (λ n. (h : Header) × (cs : List Chunk) × (rest : List ℕ)
+        × IsFile h cs × (bytes.now ≡ file h cs ++ rest) × (n ≡ length (file h cs))) }
+    ensures found { (h : Header) (cs : List Chunk) (rest : List ℕ) → IsFile h cs
+        → bytes.now ≡ file h cs ++ rest → result ≡ Some (length (file h cs)) }
+{
+    files_are_read();
+    let Ok(decoder) = Decoder::new(bytes) else {
+        return None;
+    };
+    match decoder.into_pixels().finish() {
+        Ok(decoder) => Some(bytes.len() - decoder.into_data().len()),
+        Err(_) => None,
+    }
+}
+
 /// How many files stand one after the other.
 pub fn count_files(alloc: Global, bytes: &[u8]) -> Result<usize, Error> {
     let mut count = 0;
@@ -88,6 +110,9 @@ fn three_files(rt: HostRuntime) -> Result<(), Error> {
     let (_, _, rest) = both(alloc, &bytes)?;
     assert_bytes(&rt, rest, &ONE_RGB_PIXEL);
     assert_number(&rt, count_files(alloc, &bytes)?, 3);
+    assert!(rt; file_length(&bytes) == Some(26));
+    assert!(rt; file_length(&bytes[..25]).is_none());
+    assert!(rt; file_length(&bytes[1..]).is_none());
     let reader = BufReader::new(alloc, bytes.as_slice())?;
     assert_bytes(&rt, &second_buffered(alloc, reader)?, &PIXEL);
     Ok(())

@@ -1,0 +1,282 @@
+-- Rows and rectangles of raw bytes: what they hold, how they are put together, and what is put in.
+use Rattle.std.proofs.Common.{◌≡◌, ◌≢◌, ◌<◌, ◌≤◌, ◌+◌, ◌-◌, ◌*◌, ◌⊎◌, ℕ, zero, suc, List, [], ◌++◌, length, take, drop, get_or, inl, inr, ⊎_elim, refl, sym, ◌∙◌, ap, arith}
+use Rattle.std.proofs.lemmas.List.{append_assoc, append-nil, length-append, length-drop, length-take, take-append-drop, drop-drop, drop-take, take-take, take_all, take_at, drop_at, take-append-le, drop-append-le, get_or-take, get_or-drop, get_or_append_left, get_or-append_right}
+use Rattle.std.proofs.Math.Nat.{add-suc, mul-suc, mul-zero, mul_comm, mul-add}
+use Rattle.std.proofs.Math.Seq.{take-add}
+use Rattle.std.proofs.lemmas.Bool.{cases_eq, cases_lt}
+use Rattle.std.proofs.lemmas.Nat.{row_fits}
+use Rattle.qoi.specs.Rectangles.{row_bytes, rectangle, IsOutside, KeepsOutside}
+
+-- one row more ends within the rows
+pub row_end : (stride k rows : ℕ) → k < rows → stride * k + stride ≤ stride * rows
+row_end stride k rows below =
+    omega (arith, row_fits k stride rows stride below (omega arith), mul_comm stride k, mul_comm stride rows)
+
+-- the part of a row stands in the raw bytes
+pub part_stands : (stride left size k : ℕ) (raw : List ℕ) → left + size ≤ stride
+    → take size (drop left (row_bytes stride raw k)) ≡ take size (drop (stride * k + left) raw)
+part_stands stride left size k raw fits =
+    let m = stride - left in
+    let split : stride ≡ left + m = omega arith in
+    let row = drop (stride * k) raw in
+    ap (λ n. take size (drop left (take n row))) split ∙ ap (take size) (drop-take left m row)
+    ∙ take-take size m (drop left row) (omega arith) ∙ ap (take size) (drop-drop left (stride * k) raw)
+
+-- it has `size` bytes
+pub length-part : (stride left size k : ℕ) (raw : List ℕ) → left + size ≤ stride → stride * k + stride ≤ length raw
+    → length (take size (drop left (row_bytes stride raw k))) ≡ size
+length-part stride left size k raw fits inside =
+    omega (arith, ap length (part_stands stride left size k raw fits), length-take size (drop (stride * k + left) raw), length-drop (stride * k + left) raw)
+
+-- one row more
+pub row_more : (stride top left rows size : ℕ) (raw : List ℕ)
+    → rectangle stride top left (rows + 1) size raw ≡ rectangle stride top left rows size raw ++ take size (drop left (row_bytes stride raw (top + rows)))
+unfolding rectangle
+row_more stride top left rows size raw = let more : rows + 1 ≡ suc rows = omega arith in ap (λ n. rectangle stride top left n size raw) more
+
+-- rows follow one another
+pub rows_follow : (stride top left m n size : ℕ) (raw : List ℕ)
+    → rectangle stride top left (m + n) size raw ≡ rectangle stride top left m size raw ++ rectangle stride (top + m) left n size raw
+unfolding rectangle
+rows_follow stride top left m zero size raw =
+    let none : m + 0 ≡ m = omega arith in
+    ap (λ k. rectangle stride top left k size raw) none ∙ sym (append-nil (rectangle stride top left m size raw))
+rows_follow stride top left m (suc n) size raw =
+    let next : top + (m + n) ≡ top + m + n = omega arith in
+    ap (λ k. rectangle stride top left k size raw) (add-suc m n)
+    ∙ ap (λ z. z ++ take size (drop left (row_bytes stride raw (top + (m + n))))) (rows_follow stride top left m n size raw)
+    ∙ append_assoc (rectangle stride top left m size raw) (rectangle stride (top + m) left n size raw) _
+    ∙ ap (λ k. rectangle stride top left m size raw ++ (rectangle stride (top + m) left n size raw ++ take size (drop left (row_bytes stride raw k)))) next
+
+-- a rectangle of no rows is empty
+pub no_rows : (stride top left size : ℕ) (raw : List ℕ) → rectangle stride top left 0 size raw ≡ []
+unfolding rectangle
+no_rows stride top left size raw = refl
+
+-- a rectangle of one row is the part of that row
+pub one_row : (stride top left size : ℕ) (raw : List ℕ) → rectangle stride top left 1 size raw ≡ take size (drop left (row_bytes stride raw top))
+one_row stride top left size raw =
+    let none : top + 0 ≡ top = omega arith in
+    row_more stride top left 0 size raw ∙ ap (λ z. z ++ take size (drop left (row_bytes stride raw (top + 0)))) (no_rows stride top left size raw)
+    ∙ ap (λ k. take size (drop left (row_bytes stride raw k))) none
+
+-- a rectangle that lies within the rows has `size` bytes of each
+pub length-rectangle : (stride top left rows size : ℕ) (raw : List ℕ) → left + size ≤ stride → stride * (top + rows) ≤ length raw
+    → length (rectangle stride top left rows size raw) ≡ size * rows
+unfolding rectangle
+length-rectangle stride top left zero size raw fits inside = omega arith
+length-rectangle stride top left (suc rows) size raw fits inside =
+    let below = row_end stride (top + rows) (top + suc rows) (omega arith) in
+    let before = length-rectangle stride top left rows size raw fits (omega (arith, inside, below)) in
+    let last = length-part stride left size (top + rows) raw fits (omega (arith, inside, below)) in
+    omega (
+      arith,
+      before,
+      last,
+      mul-suc size rows,
+      length-append (rectangle stride top left rows size raw) (take size (drop left (row_bytes stride raw (top + rows)))),
+    )
+
+-- whole rows are one stretch of the raw bytes
+pub whole_rows : (stride top rows : ℕ) (raw : List ℕ) → rectangle stride top 0 rows stride raw ≡ take (stride * rows) (drop (stride * top) raw)
+unfolding rectangle
+whole_rows stride top zero raw = ap (λ n. take n (drop (stride * top) raw)) (sym (mul-zero stride))
+whole_rows stride top (suc rows) raw =
+    let at : stride * (top + rows) ≡ stride * top + stride * rows = mul-add stride top rows in
+    ap (λ z. z ++ take stride (take stride (drop (stride * (top + rows)) raw))) (whole_rows stride top rows raw)
+    ∙ ap (λ z. take (stride * rows) (drop (stride * top) raw) ++ z) (take-take stride stride (drop (stride * (top + rows)) raw) (omega arith))
+    ∙ ap (λ n. take (stride * rows) (drop (stride * top) raw) ++ take stride (drop n raw)) at
+    ∙ ap (λ z. take (stride * rows) (drop (stride * top) raw) ++ take stride z) (sym (drop-drop (stride * rows) (stride * top) raw))
+    ∙ sym (take-add (stride * rows) stride (drop (stride * top) raw))
+    ∙ ap (λ n. take n (drop (stride * top) raw)) (sym (mul-suc stride rows))
+
+-- the whole picture is a rectangle of itself
+pub whole_picture : (stride rows : ℕ) (raw : List ℕ) → length raw ≡ stride * rows → rectangle stride 0 0 rows stride raw ≡ raw
+whole_picture stride rows raw size =
+    whole_rows stride 0 rows raw ∙ ap (λ n. take (stride * rows) (drop n raw)) (mul-zero stride) ∙ take_all (stride * rows) raw (omega (arith, size))
+
+-- a row of the picture is a rectangle of one row
+pub picture_row : (stride k : ℕ) (raw : List ℕ) → rectangle stride k 0 1 stride raw ≡ row_bytes stride raw k
+picture_row stride k raw = one_row stride k 0 stride raw ∙ take-take stride stride (drop (stride * k) raw) (omega arith)
+
+-- row i of a rectangle is a part of row top + i
+pub row_of_rectangle : (stride top left rows size i : ℕ) (raw : List ℕ) → left + size ≤ stride → stride * (top + rows) ≤ length raw → i < rows
+    → row_bytes size (rectangle stride top left rows size raw) i ≡ take size (drop left (row_bytes stride raw (top + i)))
+row_of_rectangle stride top left rows size i raw fits inside below =
+    let n = rows - (i + 1) in
+    let split : rows ≡ i + (1 + n) = omega arith in
+    let upper = row_end stride (top + i) (top + rows) (omega arith) in
+    let front = rectangle stride top left i size raw in
+    let row = take size (drop left (row_bytes stride raw (top + i))) in
+    let later = rectangle stride (top + i + 1) left n size raw in
+    let parts : rectangle stride top left rows size raw ≡ front ++ (row ++ later) =
+    ap (λ k. rectangle stride top left k size raw) split ∙ rows_follow stride top left i (1 + n) size raw
+    ∙ ap (λ z. front ++ z) (rows_follow stride (top + i) left 1 n size raw)
+    ∙ ap (λ z. front ++ (z ++ later)) (one_row stride (top + i) left size raw) in
+    ap (λ z. take size (drop (size * i) z)) parts
+    ∙ ap (take size) (drop_at front (row ++ later) (size * i) (length-rectangle stride top left i size raw fits (omega (arith, inside, upper))))
+    ∙ take_at row later size (length-part stride left size (top + i) raw fits (omega (arith, inside, upper)))
+
+-- a part of a part of a row is a part of the row
+pub part_of_part : (left size l s : ℕ) (row : List ℕ) → l + s ≤ size → take s (drop l (take size (drop left row))) ≡ take s (drop (left + l) row)
+part_of_part left size l s row fits =
+    let m = size - l in
+    let split : size ≡ l + m = omega arith in
+    ap (λ n. take s (drop l (take n (drop left row)))) split ∙ ap (take s) (drop-take l m (drop left row))
+    ∙ take-take s m (drop l (drop left row)) (omega arith) ∙ ap (take s) (drop-drop l left row)
+
+-- a rectangle of a rectangle is one of the picture
+pub rectangle_of_rectangle : (stride top left rows size t l r s : ℕ) (raw : List ℕ) → left + size ≤ stride → stride * (top + rows) ≤ length raw
+    → l + s ≤ size → t + r ≤ rows
+    → rectangle size t l r s (rectangle stride top left rows size raw) ≡ rectangle stride (top + t) (left + l) r s raw
+unfolding rectangle
+rectangle_of_rectangle stride top left rows size t l zero s raw fits inside within below = refl
+rectangle_of_rectangle stride top left rows size t l (suc r) s raw fits inside within below =
+    let inner = rectangle stride top left rows size raw in
+    let at : top + (t + r) ≡ top + t + r = omega arith in
+    ap (λ z. z ++ take s (drop l (row_bytes size inner (t + r))))
+    (rectangle_of_rectangle stride top left rows size t l r s raw fits inside within (omega (arith, below)))
+    ∙ ap (λ z. rectangle stride (top + t) (left + l) r s raw ++ take s (drop l z))
+    (row_of_rectangle stride top left rows size (t + r) raw fits inside (omega (arith, below)))
+    ∙ ap (λ z. rectangle stride (top + t) (left + l) r s raw ++ z) (part_of_part left size l s (row_bytes stride raw (top + (t + r))) within)
+    ∙ ap (λ k. rectangle stride (top + t) (left + l) r s raw ++ take s (drop (left + l) (row_bytes stride raw k))) at
+
+-- a byte of a rectangle is the picture's
+pub byte_of_rectangle : (stride top left rows size i j : ℕ) (raw : List ℕ) → left + size ≤ stride → stride * (top + rows) ≤ length raw → i < rows
+    → j < size → get_or (rectangle stride top left rows size raw) (size * i + j) 0 ≡ get_or raw (stride * (top + i) + left + j) 0
+byte_of_rectangle stride top left rows size i j raw fits inside below within =
+    let inner = rectangle stride top left rows size raw in
+    sym (get_or-drop (size * i) inner j 0) ∙ sym (get_or-take size (drop (size * i) inner) j 0 within)
+    ∙ ap (λ z. get_or z j 0) (row_of_rectangle stride top left rows size i raw fits inside below ∙ part_stands stride left size (top + i) raw fits)
+    ∙ get_or-take size (drop (stride * (top + i) + left) raw) j 0 within ∙ get_or-drop (stride * (top + i) + left) raw j 0
+
+-- the row that follows k rows is row k
+pub next_row : (stride k : ℕ) (raw given row : List ℕ) → length given ≡ stride * k → given ++ row ≡ take (length given + stride) raw
+    → row ≡ row_bytes stride raw k
+next_row stride k raw given row size is =
+    sym (drop_at given row (stride * k) size) ∙ ap (drop (stride * k)) is ∙ ap (λ n. drop (stride * k) (take (n + stride) raw)) size
+    ∙ drop-take (stride * k) stride raw
+
+-- one row more at the front
+pub front_more : (stride k : ℕ) (raw : List ℕ) → take (stride * (k + 1)) raw ≡ take (stride * k) raw ++ row_bytes stride raw k
+front_more stride k raw =
+    let more : stride * (k + 1) ≡ stride * k + stride = omega (arith, mul-suc stride k) in
+    ap (λ n. take n raw) more ∙ take-add (stride * k) stride raw
+
+-- a rectangle of the first rows is one of the picture
+pub of_first_rows : (stride top left rows size : ℕ) (front more : List ℕ) → stride * (top + rows) ≤ length front
+    → rectangle stride top left rows size (front ++ more) ≡ rectangle stride top left rows size front
+unfolding rectangle
+of_first_rows stride top left zero size front more inside = refl
+of_first_rows stride top left (suc rows) size front more inside =
+    let below = row_end stride (top + rows) (top + suc rows) (omega arith) in
+    let at = stride * (top + rows) in
+    let row : row_bytes stride (front ++ more) (top + rows) ≡ row_bytes stride front (top + rows) =
+    ap (take stride) (drop-append-le at front more (omega (arith, inside, below)))
+    ∙ take-append-le stride (drop at front) more (omega (arith, inside, below, length-drop at front)) in
+    ap (λ z. z ++ take size (drop left (row_bytes stride (front ++ more) (top + rows))))
+    (of_first_rows stride top left rows size front more (omega (arith, inside, below)))
+    ∙ ap (λ z. rectangle stride top left rows size front ++ take size (drop left z)) row
+
+-- Bytes `row` were put into `old` where the part of row top + rows stands.
+module _ (stride top left rows size : ℕ) (old new row : List ℕ) (fits : left + size ≤ stride) (inside : stride * (top + rows) + stride ≤ length old)
+    (many : length row ≡ size)
+    (is : new ≡ take (stride * (top + rows) + left) old ++ (row ++ drop size (drop (stride * (top + rows) + left) old))) where
+  abbrev at : ℕ
+  at = stride * (top + rows) + left
+
+  abbrev front : List ℕ
+  front = take at old
+
+  abbrev later : List ℕ
+  later = drop size (drop at old)
+
+  before_end : at + size ≤ length old
+  before_end = omega (arith, fits, inside)
+
+  length-front : length front ≡ at
+  length-front = omega (arith, before_end, length-take at old)
+
+  -- one more row of the rectangle holds them, and the rows before it are as before
+  pub rows_put : rectangle stride top left (rows + 1) size new ≡ rectangle stride top left rows size old ++ row
+  rows_put =
+      let begun : stride * (top + rows) ≤ length front = omega (arith, length-front) in
+      row_more stride top left rows size new
+      ∙ ap (λ z. z ++ take size (drop left (row_bytes stride new (top + rows))))
+      (ap (rectangle stride top left rows size) is ∙ of_first_rows stride top left rows size front (row ++ later) begun
+      ∙ sym (of_first_rows stride top left rows size front (drop at old) begun) ∙ ap (rectangle stride top left rows size) (take-append-drop at old))
+      ∙ ap (λ z. rectangle stride top left rows size old ++ z)
+      (part_stands stride left size (top + rows) new fits ∙ ap (λ z. take size (drop at z)) is
+      ∙ ap (take size) (drop_at front (row ++ later) at length-front) ∙ take_at row later size many)
+
+  -- as many bytes as before
+  length-put : length new ≡ length old
+  length-put = omega (
+    arith,
+    ap length is,
+    length-append front (row ++ later),
+    length-append row later,
+    length-front,
+    many,
+    before_end,
+    length-drop size (drop at old),
+    length-drop at old,
+  )
+
+  -- a byte before them stays
+  before : (p : ℕ) → p < at → get_or new p 0 ≡ get_or old p 0
+  before p below = ap (λ z. get_or z p 0) is ∙ get_or_append_left front (row ++ drop size (drop at old)) 0 p (omega (arith, below, length-front))
+      ∙ get_or-take at old p 0 below
+
+  -- so does a byte behind them
+  behind : (p : ℕ) → at + size ≤ p → get_or new p 0 ≡ get_or old p 0
+  behind p above =
+      let same : at + (size + (p - at - size)) ≡ p = omega (arith, above) in
+      ap (λ z. get_or z p 0) is ∙ get_or-append_right front (row ++ drop size (drop at old)) at p 0 length-front (omega (arith, above))
+      ∙ get_or-append_right row (drop size (drop at old)) size (p - at) 0 many (omega (arith, above))
+      ∙ get_or-drop size (drop at old) (p - at - size) 0 ∙ get_or-drop at old (size + (p - at - size)) 0 ∙ ap (λ q. get_or old q 0) same
+
+  -- a byte of an earlier or a later row stays
+  other_row : (i j : ℕ) → j < stride → i ≢ top + rows → get_or new (stride * i + j) 0 ≡ get_or old (stride * i + j) 0
+  other_row i j within other = ⊎_elim
+      (λ earlier. before (stride * i + j) (omega (arith, within, row_end stride i (top + rows) earlier)))
+      (λ after. behind (stride * i + j) (omega (arith, fits, row_end stride (top + rows) i (later_row after))))
+      (cases_lt i (top + rows))
+    where
+      later_row : top + rows ≤ i → top + rows < i
+      later_row after = omega (arith, after, other)
+
+  -- a byte of this row that isn't in the rectangle stays
+  this_row : (j : ℕ) → (j < left) ⊎ (left + size ≤ j) → get_or new (stride * (top + rows) + j) 0 ≡ get_or old (stride * (top + rows) + j) 0
+  this_row j (inl early) = before (stride * (top + rows) + j) (omega (arith, early))
+  this_row j (inr late) = behind (stride * (top + rows) + j) (omega (arith, late))
+
+  -- beside the rectangle all bytes of all rows stay
+  beside : (i j : ℕ) → j < stride → (j < left) ⊎ (left + size ≤ j) → get_or new (stride * i + j) 0 ≡ get_or old (stride * i + j) 0
+  beside i j within next = ⊎_elim
+      (λ same. ap (λ k. get_or new (stride * k + j) 0) same ∙ this_row j next ∙ ap (λ k. get_or old (stride * k + j) 0) (sym same))
+      (λ other. other_row i j within other)
+      (cases_eq i (top + rows))
+
+  -- a byte outside of the rectangle with this row stays
+  stays : (i j : ℕ) → j < stride → IsOutside top left (rows + 1) size i j → get_or new (stride * i + j) 0 ≡ get_or old (stride * i + j) 0
+  stays i j within (inl above) = other_row i j within (omega (arith, above))
+  stays i j within (inr (inl below)) = other_row i j within (omega (arith, below))
+  stays i j within (inr (inr next)) = beside i j within next
+
+  -- it is outside of the rectangle without this row, too
+  outside_less : (i j : ℕ) → IsOutside top left (rows + 1) size i j → IsOutside top left rows size i j
+  outside_less i j (inl above) = inl above
+  outside_less i j (inr (inl below)) = inr (inl (omega (arith, below)))
+  outside_less i j (inr (inr next)) = inr (inr next)
+
+  -- all bytes outside of the rectangle stay, as they did before
+  pub outside_put : {start : List ℕ} → KeepsOutside stride top left rows size start old → KeepsOutside stride top left (rows + 1) size start new
+  outside_put k = record {
+    length_is = length-put ∙ k.length_is;
+    same = λ i j within out. stays i j within out ∙ k.same i j within (outside_less i j out);
+  }
+
+-- nothing was put in yet
+pub keeps_all : (stride top left rows size : ℕ) (raw : List ℕ) → KeepsOutside stride top left rows size raw raw
+keeps_all stride top left rows size raw = record { length_is = refl; same = λ i j within out. refl }
