@@ -241,10 +241,9 @@ impl<const N: usize> Coder<N> {
         after.skip(1)
     }
 
-    /// Writes the repeats that came before, and an image's last pixels, fewer than a block has, one
-    /// by one.
+    // `write_few`, one by one.
     #[inline(never)]
-    pub(super) fn write_few<'p, const ROOM: usize>(
+    fn write_each<'p, const ROOM: usize>(
         &mut self,
         style: Style,
         table: &mut PixelTable,
@@ -261,6 +260,28 @@ impl<const N: usize> Coder<N> {
         while !rest.is_empty() {
             rest = self.write_next(style, table, &mut piece, rest);
         }
+        piece.keep_run(self.last.repeats, QOI_OP_RUN);
+        piece
+    }
+
+    /// Writes the repeats that came before, and an image's last pixels, fewer than a block has.
+    #[inline(always)]
+    pub(super) fn write_few<'p, const ROOM: usize>(
+        &mut self,
+        style: Style,
+        table: &mut PixelTable,
+        piece: OpenPiece<'p, ROOM>,
+        raw: Pixels<N>,
+    ) -> Piece<'p, ROOM>
+        requires few { length (pixels_in raw) < 16 }
+        ensures written { (ahead : List ℕ)
+            → CoderBetween style ahead (pixels_in raw.entry) table.old self.old.last
+            (kept_bytes piece.entry.piece) → ahead ≡ kept_bytes result }
+    {
+        if !raw.is_empty() {
+            return self.write_each(style, table, piece, raw);
+        }
+        let mut piece = piece.piece;
         piece.keep_run(self.last.repeats, QOI_OP_RUN);
         piece
     }
