@@ -241,9 +241,10 @@ impl<const N: usize> Coder<N> {
         after.skip(1)
     }
 
-    // `write_few`, one by one.
+    /// Writes the repeats that came before, and an image's last pixels, fewer than a block has, one
+    /// by one.
     #[inline(never)]
-    fn write_each<'p, const ROOM: usize>(
+    pub(super) fn write_few<'p, const ROOM: usize>(
         &mut self,
         style: Style,
         table: &mut PixelTable,
@@ -264,23 +265,16 @@ impl<const N: usize> Coder<N> {
         piece
     }
 
-    /// Writes the repeats that came before, and an image's last pixels, fewer than a block has.
+    /// Writes the repeats that came before, if no pixel follows.
     #[inline(always)]
-    pub(super) fn write_few<'p, const ROOM: usize>(
-        &mut self,
-        style: Style,
-        table: &mut PixelTable,
+    pub(super) fn write_last<'p, const ROOM: usize>(
+        &self,
         piece: OpenPiece<'p, ROOM>,
-        raw: Pixels<N>,
     ) -> Piece<'p, ROOM>
-        requires few { length (pixels_in raw) < 16 }
-        ensures written { (ahead : List ℕ)
-            → CoderBetween style ahead (pixels_in raw.entry) table.old self.old.last
-            (kept_bytes piece.entry.piece) → ahead ≡ kept_bytes result }
+        ensures { (style : Style) (ahead : List ℕ) (table : List RgbaPixel)
+            → CoderBetween style ahead [] table self.now.last (kept_bytes piece.entry.piece)
+            → ahead ≡ kept_bytes result }
     {
-        if !raw.is_empty() {
-            return self.write_each(style, table, piece, raw);
-        }
         let mut piece = piece.piece;
         piece.keep_run(self.last.repeats, QOI_OP_RUN);
         piece

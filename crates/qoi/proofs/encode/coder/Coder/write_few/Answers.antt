@@ -1,16 +1,39 @@
--- If no pixel is left, only the last run is.
-use Rattle.std.proofs.Common.{◌≡◌, [], refl, sym, ◌∙◌, subst}
+-- Repeats and a fresh pixel further, until no pixel is left; then the last run.
+use Rattle.std.proofs.Common.{◌≡◌, ◌≢◌, ◌≤◌, ◌+◌, ◌*◌, inl, inr, [], length, refl, sym, ◌∙◌, arith, subst, append-nil}
+use Rattle.std.proofs.lemmas.Bool.{true≢false, cases_lt}
 use Rattle.qoi.specs.declared.chunk.Chunk.TheVariants.{Run}
+use Rattle.qoi.specs.declared.encode.piece.TheConstants.{RUNS_AT_ONCE}
+use Rattle.qoi.specs.Qoi.{chunk_max}
 use Rattle.qoi.specs.inner.CoderLoop.{CoderBetween}
 use Rattle.qoi.specs.inner.Piece.{kept_bytes}
 use Rattle.qoi.specs.inner.Pixels.{pixels_in}
 use Rattle.qoi.proofs.encoding.CoderSteps.{last_run}
 use Rattle.qoi.proofs.encode.coder.Coder.write_few.Goals as goal
 
+pub loop-rest-preserved : goal.loop-rest-preserved
+loop-rest-preserved g c =
+    let style = c.args.style in
+    let i = c.loop-rest.invariant in
+    let next = c.write_next-rest in
+    let step = next.ensures in
+    let some : pixels_in c.loop-rest.rest ≢ [] = λ none. true≢false (sym (c.is_empty.ensures.1 none) ∙ c.loop-rest-test.true) in
+    let near : next.new.piece.end + chunk_max * length (pixels_in next.result)
+    ≤ c.args.piece.piece.end + (RUNS_AT_ONCE + 1) + chunk_max * length (pixels_in c.args.raw) = elim (cases_lt 0 c.loop-rest.self.last.repeats) [
+      | inl carried ↦ omega (arith, step.end, step.less, i.first carried some)
+      | inr none ↦ omega (arith, step.each (omega (arith, none)), i.end)
+    ] in
+    record {
+      end = near;
+      first = λ left some. absurd (omega (arith, left, step.none some));
+      written = λ ahead b.
+          subst (λ ps. CoderBetween style ahead ps next.new.table next.new.self.last (kept_bytes next.new.piece)) (append-nil (pixels_in next.result))
+          (step.written ahead [] (subst (λ ps. CoderBetween style ahead ps c.loop-rest.table c.loop-rest.self.last (kept_bytes c.loop-rest.piece)) (sym (append-nil (pixels_in c.loop-rest.rest))) (i.written ahead b)));
+    }
+
 pub returns : goal.returns
 returns g c = record {
   written = λ ahead b.
-      (let none : pixels_in c.args.raw ≡ [] = c.is_empty.ensures.0 c.if-not-is_empty.false in
-      let end = subst (λ ps. CoderBetween c.args.style ahead ps c.args.table.now c.args.self.now.last (kept_bytes c.args.piece.piece)) none b in
+      (let none : pixels_in c.loop-rest.rest ≡ [] = c.is_empty.ensures.0 c.loop-rest-test.false in
+      let end = subst (λ ps. CoderBetween c.args.style ahead ps c.loop-rest.table c.loop-rest.self.last (kept_bytes c.loop-rest.piece)) none (c.loop-rest.invariant.written ahead b) in
       last_run end.to_write ∙ sym (c.keep_run.ensures.kept (Run 1) refl));
 }
