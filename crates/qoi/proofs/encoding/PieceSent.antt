@@ -31,6 +31,10 @@ module _ {W : Type 0} {wrote : W → List ℕ → W → Type 0} {room : W → �
     went = subst (wrote a (take piece (kept_bytes old))) (sym same) went;
   }
 
+  -- a beginning of the first ones is one of all
+  pub part_of_all : (a b : W) (n : ℕ) (all : List ℕ) → WroteBeginning wrote a (take n all) b → WroteBeginning wrote a all b
+  part_of_all a b n all some = wrote_part laws a a b all all (take n all) (drop n all) (wrote_none laws a all) (sym (take-append-drop n all)) some
+
   -- none of them was sent
   pub none_but : {size : ℕ} (a next : W) (old now : Piece size) → now ≡ old → next ≡ a → WroteBut wrote a (kept_bytes old) (kept_bytes now) next
   none_but a next old now is same =

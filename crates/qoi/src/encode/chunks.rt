@@ -38,11 +38,17 @@ fn encode_pixels<'p, W: Writer, const N: usize, const STYLE: u8, const ROOM: usi
     let mut rest = Pixels::<N>::new(data);
     let mut piece = piece;
     while rest.has_block() {
-        let (after, filled) = write_some::<N, STYLE, ROOM>(
+        let (after, mut filled) = write_some::<N, STYLE, ROOM>(
             &mut coder, style, &mut table, piece, rest,
         );
+        if filled.is_full() {
+            filled.send(writer)?;
+        }
         rest = after;
-        piece = filled.make_room(writer)?;
+        piece = filled.open();
+    }
+    if rest.is_empty() {
+        return Ok(coder.write_last(piece));
     }
     Ok(coder.write_few(style, &mut table, piece, rest))
 }

@@ -265,6 +265,21 @@ impl<const N: usize> Coder<N> {
         piece
     }
 
+    /// Writes the repeats that came before, if no pixel follows.
+    #[inline(always)]
+    pub(super) fn write_last<'p, const ROOM: usize>(
+        &self,
+        piece: OpenPiece<'p, ROOM>,
+    ) -> Piece<'p, ROOM>
+        ensures { (style : Style) (ahead : List ℕ) (table : List RgbaPixel)
+            → CoderBetween style ahead [] table self.now.last (kept_bytes piece.entry.piece)
+            → ahead ≡ kept_bytes result }
+    {
+        let mut piece = piece.piece;
+        piece.keep_run(self.last.repeats, QOI_OP_RUN);
+        piece
+    }
+
     /// `write_next`, into a piece that isn't full.
     #[inline(never)]
     pub(super) fn write_open<'a, 'p, const ROOM: usize>(

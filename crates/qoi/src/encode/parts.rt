@@ -1,6 +1,6 @@
 //! The chunks of an image whose raw bytes come in parts, through a piece to a writer (QOI
 //! specification 1.0, "Data").
-ghost use Rattle.std.specs.Prelude.{◌≡◌, ℕ, ◌+◌, ◌*◌, ◌%◌, ◌<◌, ◌≤◌, List, [], ◌++◌, Option, length, IfOk, IfErr, OnOk};
+ghost use Rattle.std.specs.Prelude.{◌≡◌, ℕ, ◌+◌, ◌-◌, ◌*◌, ◌%◌, ◌<◌, ◌≤◌, List, [], ◌++◌, Option, length, IfOk, IfErr, OnOk};
 ghost use Rattle.std.specs.Io.KnownBytes.{Appends};
 ghost use Rattle.qoi.specs.declared.encode.piece.TheConstants.{PAST, FULL_ROOM};
 ghost use Rattle.qoi.specs.Qoi.{RgbaPixel, channels_number, end_marker};
@@ -22,22 +22,20 @@ use crate::types::Style::{self, Places, Reference, Tight};
 use crate::writers::GenericWriter;
 use std::io::Write;
 
-// Sends a full piece to a writer of the standard library, if there is one, and returns the bytes
-// after it.
+// Sends a full piece to a writer of the standard library; the bytes after it are kept.
 #[inline(always)]
-fn make_room<'p, W: Write, const ROOM: usize>(
-    writer: &mut W,
-    piece: Piece<'p, ROOM>,
-) -> Result<OpenPiece<'p, ROOM>>
-    ensures written { IfOk result (λ p. (gone : List ℕ)
-        × (kept_bytes piece.entry ≡ gone ++ kept_bytes p.piece)
+fn send_piece<W: Write, const ROOM: usize>(writer: &mut W, piece: &mut Piece<ROOM>) -> Result<()>
+    requires { ROOM - PAST ≤ piece.old.end }
+    ensures room { OnOk result (piece.new.end < ROOM - PAST) }
+    ensures written { OnOk result ((gone : List ℕ)
+        × (kept_bytes piece.old ≡ gone ++ kept_bytes piece.new)
         × Appends (W.contents writer.old) (W.contents writer.new) gone) }
     ensures refused { IfErr result (λ e. IsIoError e × AppendsBeginning
-        (W.contents writer.old) (W.contents writer.new) (kept_bytes piece.entry)) }
+        (W.contents writer.old) (W.contents writer.new) (kept_bytes piece.old)) }
 {
     let mut writer = GenericWriter::new(writer);
-    let piece = piece.make_room(&mut writer)?;
-    Ok(piece)
+    piece.send(&mut writer)?;
+    Ok(())
 }
 
 // Sends what a piece keeps to a writer of the standard library.
@@ -100,15 +98,18 @@ fn write_whole<'a, 'p, W: Write, const N: usize, const STYLE: u8, const ROOM: us
     let mut piece = piece;
     let mut rest = Pixels::<N>::new(data);
     while rest.has_block() {
-        let (after, filled) = write_some::<N, STYLE, ROOM>(
+        let (after, mut filled) = write_some::<N, STYLE, ROOM>(
             &mut coder,
             style,
             &mut pending.table,
             piece,
             rest,
         );
+        if filled.is_full() {
+            send_piece(writer, &mut filled)?;
+        }
         rest = after;
-        piece = make_room(writer, filled)?;
+        piece = filled.open();
     }
     pending.last = coder.last;
     Ok((rest.bytes, piece))

@@ -1,6 +1,6 @@
 //! The bytes of a file that are kept before they go to a writer.
 ghost use lib.Lanes.{digits_l};
-ghost use Rattle.std.specs.Prelude.{◌≡◌, ℕ, ◌+◌, ◌-◌, ◌*◌, ◌/◌, ◌^◌, ◌<◌, ◌≤◌, List, [], ◌∷◌, ◌++◌, length, take, drop, replicate, slice_index, IsTrue, IsFalse, OnOk, IfOk, IfErr};
+ghost use Rattle.std.specs.Prelude.{◌≡◌, ℕ, ◌+◌, ◌-◌, ◌*◌, ◌/◌, ◌^◌, ◌<◌, ◌≤◌, List, [], ◌∷◌, ◌++◌, length, take, drop, replicate, slice_index, IsTrue, IsFalse, OnOk, IfErr};
 ghost use Rattle.std.specs.List.{copy_within};
 ghost use Rattle.qoi.specs.declared.chunk.Chunk.{Chunk};
 ghost use Rattle.qoi.specs.declared.chunk.Chunk.TheVariants.{Run};
@@ -8,7 +8,7 @@ ghost use Rattle.qoi.specs.declared.encode.piece.TheConstants.{PAST, RUNS_AT_ONC
 ghost use Rattle.qoi.specs.Qoi.{RgbaPixel, run_max, chunk_max, marker_size, end_marker, bytes_of, chunk_bytes};
 ghost use Rattle.qoi.specs.Raw.{IsChannels};
 ghost use Rattle.qoi.specs.Runs.{runs_by};
-ghost use Rattle.qoi.specs.writers.Writes.{WroteBut, WroteBeginning};
+ghost use Rattle.qoi.specs.writers.Writes.{WroteBeginning};
 
 use crate::consts::{QOI_OP_RUN, QOI_PADDING, QOI_RUN_MAX};
 use crate::error::Result;
@@ -164,29 +164,13 @@ impl<'a, const ROOM: usize> Piece<'a, ROOM> {
             (W.wrote writer.old (take (ROOM - PAST) (kept_bytes self.old)) writer.new) }
         ensures kept { OnOk result
             (kept_bytes self.new ≡ drop (ROOM - PAST) (kept_bytes self.old)) }
-        ensures end { OnOk result (self.new.end + (ROOM - PAST) ≡ self.old.end) }
-        ensures refused { IfErr result (λ e. W.IsFault e × WroteBeginning W.wrote writer.old
-            (take (ROOM - PAST) (kept_bytes self.old)) writer.new) }
+        ensures room { OnOk result (self.new.end < ROOM - PAST) }
+        ensures refused { IfErr result (λ e. W.IsFault e
+            × WroteBeginning W.wrote writer.old (kept_bytes self.old) writer.new) }
     {
         send_front::<W, ROOM>(writer, self.bytes)?;
         self.end -= ROOM - PAST;
         Ok(())
-    }
-
-    /// Sends a full piece to a writer, if there is one, and returns the bytes after it.
-    #[inline(always)]
-    pub(super) fn make_room<W: Writer>(self, writer: &mut W) -> Result<OpenPiece<'a, ROOM>>
-        requires { self.end ≤ W.room writer.old }
-        ensures written { IfOk result (λ p. WroteBut W.wrote writer.old (kept_bytes self.entry)
-            (kept_bytes p.piece) writer.new) }
-        ensures refused { IfErr result (λ e. W.IsFault e
-            × WroteBeginning W.wrote writer.old (kept_bytes self.entry) writer.new) }
-    {
-        let mut piece = self;
-        if piece.is_full() {
-            piece.send(writer)?;
-        }
-        Ok(piece.open())
     }
 
     /// Sends all the bytes to a writer. Doesn't empty the piece.

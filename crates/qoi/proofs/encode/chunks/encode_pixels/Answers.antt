@@ -1,15 +1,17 @@
 -- A piece at a time.
-use Rattle.std.proofs.Common.{◌++◌, [], sym, ap, ◌∙◌, arith, subst, append-nil}
+use Rattle.std.proofs.Common.{◌≡◌, ◌-◌, ◌++◌, [], sym, ap, ◌∙◌, arith, subst, append-nil}
 use Rattle.std.proofs.lemmas.Result.{err_from_is_err_and}
+use Rattle.qoi.specs.declared.encode.piece.TheConstants.{PAST}
 use Rattle.qoi.specs.Qoi.{start}
+use Rattle.qoi.specs.writers.Writes.{WroteBut}
 use Rattle.qoi.specs.inner.CoderLoop.{CoderBetween}
 use Rattle.qoi.specs.inner.Piece.{kept_bytes}
 use Rattle.qoi.specs.inner.Pixels.{pixels_in}
 use Rattle.qoi.proofs.encoding.CoderLink.{coder_sent}
 use Rattle.qoi.proofs.encoding.PieceByPiece.{Sending, PieceBetween, piece_starts, piece_filled, piece_fits, piece_went, piece_part, piece_ends}
-use Rattle.qoi.proofs.encoding.PieceSent.{kept_length}
+use Rattle.qoi.proofs.encoding.PieceSent.{kept_length, sent_but, none_but}
 use Rattle.qoi.proofs.encode.chunks.encode_pixels.Given.{Over}
-use Rattle.qoi.proofs.encode.chunks.encode_pixels.Goals.{After-write_some-filled}
+use Rattle.qoi.proofs.encode.chunks.encode_pixels.Goals.{After-write_some-filled, then-is_full+in_ok-send, else-is_full}
 use Rattle.qoi.proofs.encode.chunks.encode_pixels.Goals as goal
 
 pub new-coder-requires : goal.new-coder-requires
@@ -39,22 +41,40 @@ wrote : (g : Over) (c : After-write_some-filled g)
     (kept_bytes c.write_some-filled.result.1) c.loop-coder.writer
 wrote g c = piece_filled c.loop-coder.invariant.state _ (λ ahead b. c.write_some-filled.ensures.written ahead [] b)
 
-pub make_room-requires : goal.make_room-requires
-make_room-requires g c =
-    let now = wrote g (goal.at.make_room-requires g c).After-write_some-filled in
-    (omega arith, omega (arith, kept_length c.write_some-filled.result.1, piece_fits now (λ _ _ b. coder_sent b)))
+pub send-requires : goal.send-requires
+send-requires g c =
+    let full = c.is_full.ensures.full c.if-is_full.true in
+    let now = wrote g (goal.at.send-requires g c).After-write_some-filled in
+    (omega arith, (full, omega (arith, full, kept_length c.write_some-filled.result.1, piece_fits now (λ _ _ b. coder_sent b))))
 
 pub loop-coder-preserved : goal.loop-coder-preserved
-loop-coder-preserved g c = record {
-  state = piece_went (wrote g (goal.at.loop-coder-preserved g c).After-write_some-filled) (λ _ _ b. coder_sent b) c.in_ok-piece.ensures.written;
-}
+loop-coder-preserved g c =
+    let laws = g.met.W.Writer.laws in
+    let a = c.loop-coder.writer in
+    let old = c.write_some-filled.result.1 in
+    let but : WroteBut g.W.Writer.wrote a (kept_bytes old) (kept_bytes c.if-is_full.filled) c.if-is_full.writer = elim c.if-is_full.branch [
+      | then-is_full+in_ok-send w ↦
+          sent_but laws a w.send.new.writer c.if-is_full.writer old w.send.new.self c.if-is_full.filled (g.row.ROOM - PAST) w.filled-is w.writer-is
+          w.in_ok-send.ensures.written w.in_ok-send.ensures.kept
+      | else-is_full w ↦ none_but laws a c.if-is_full.writer old c.if-is_full.filled w.filled-is w.writer-is
+    ] in
+    record {
+      state = piece_went (wrote g (goal.at.loop-coder-preserved g c).After-write_some-filled) (λ _ _ b. coder_sent b)
+          (subst (λ z. WroteBut g.W.Writer.wrote a (kept_bytes old) z c.if-is_full.writer) (sym c.open-piece.ensures) but);
+    }
 
-pub returns-in_err-piece-clause-refused : goal.returns-in_err-piece-clause-refused
-returns-in_err-piece-clause-refused g c =
+pub returns-in_err-send-clause-refused : goal.returns-in_err-send-clause-refused
+returns-in_err-send-clause-refused g c =
     let e = err_from_is_err_and c.from_residual.result c.from_residual.ensures.1 in
-    let r = c.in_err-piece.ensures.refused in
-    let now = wrote g (goal.at.returns-in_err-piece-clause-refused g c).After-write_some-filled in
+    let r = c.in_err-send.ensures.refused in
+    let now = wrote g (goal.at.returns-in_err-send-clause-refused g c).After-write_some-filled in
     rw (e.1, e.2) (r.0, piece_part now (λ _ _ b. coder_sent b) r.1)
+
+pub returns-then-is_empty-clause-written : goal.returns-then-is_empty-clause-written
+returns-then-is_empty-clause-written g c =
+    let none : pixels_in c.loop-coder.rest ++ [] ≡ [] = append-nil (pixels_in c.loop-coder.rest) ∙ c.is_empty.ensures.0 c.if-is_empty.true in
+    piece_ends c.loop-coder.invariant.state (λ ahead b. c.write_last.ensures c.args.style ahead c.loop-coder.table
+    (subst (λ ps. CoderBetween c.args.style ahead ps c.loop-coder.table c.loop-coder.coder.last (kept_bytes c.loop-coder.piece.piece)) none b))
 
 pub returns-clause-written : goal.returns-clause-written
 returns-clause-written g c =

@@ -3,6 +3,7 @@ use Rattle.std.proofs.Common.{◌≡◌, ◌*◌, ◌<◌, ◌++◌, false, inl,
 use Rattle.std.proofs.lemmas.Bool.{true≢false, cases_lt}
 use Rattle.std.proofs.lemmas.Result.{err_from_is_err_and}
 use Rattle.qoi.specs.Raw.{pixels_of}
+use Rattle.qoi.specs.declared.encode.pending.Pending.{Pending}
 use Rattle.qoi.specs.EncoderState.{EncoderState}
 use Rattle.qoi.specs.inner.CoderLoop.{CoderBetween}
 use Rattle.qoi.specs.inner.Piece.{kept_bytes}
@@ -10,7 +11,7 @@ use Rattle.qoi.specs.inner.Pending.{ImageBetween}
 use Rattle.qoi.specs.inner.Pixels.{pixels_in}
 use Rattle.qoi.proofs.encoding.ImagePieces.{image_on, image_sent, image_part, bytes_in, count_in, few_bytes, no_more_bytes}
 use Rattle.qoi.proofs.encode.parts.write_whole.Given.{Over}
-use Rattle.qoi.proofs.encode.parts.write_whole.Goals.{After-has_block, After-write_some-filled}
+use Rattle.qoi.proofs.encode.parts.write_whole.Goals.{After-has_block, After-write_some-filled, then-is_full+in_ok-send_piece, else-is_full}
 use Rattle.qoi.proofs.encode.parts.write_whole.Goals as goal
 
 pub loop-style-init : goal.loop-style-init
@@ -35,25 +36,35 @@ wrote g c e before rest style b =
     (c.write_some-filled.ensures.written ahead rest
     (subst (λ z. CoderBetween z ahead (pixels_in c.loop-style.rest ++ rest) c.loop-style.pending.table c.loop-style.coder.last (kept_bytes c.loop-style.piece.piece)) style s)))
 
-pub returns-in_err-piece-clause-refused : goal.returns-in_err-piece-clause-refused
-returns-in_err-piece-clause-refused g c =
+pub returns-in_err-send_piece-clause-refused : goal.returns-in_err-send_piece-clause-refused
+returns-in_err-send_piece-clause-refused g c =
     let e = err_from_is_err_and c.from_residual.result c.from_residual.ensures.1 in
-    let r = c.in_err-piece.ensures.refused in
+    let r = c.in_err-send_piece.ensures.refused in
     rw (e.1, e.2) (
       r.0,
       λ e before rest style b.
-          image_part (wrote g (goal.at.returns-in_err-piece-clause-refused g c).After-write_some-filled e before rest style b) (g.W.Write.contents c.make_room.new.writer) r.1,
+          image_part (wrote g (goal.at.returns-in_err-send_piece-clause-refused g c).After-write_some-filled e before rest style b) (g.W.Write.contents c.send_piece.new.writer) r.1,
     )
 
 pub loop-style-preserved : goal.loop-style-preserved
 loop-style-preserved g c =
-    let sent = c.in_ok-piece.ensures.written in
+    let here = (goal.at.loop-style-preserved g c).After-write_some-filled in
     record {
       left = omega (arith, c.write_some-filled.ensures.less, c.loop-style.invariant.left);
       last = c.loop-style.invariant.last;
       written = λ e before rest style b.
-          image_sent (wrote g (goal.at.loop-style-preserved g c).After-write_some-filled e before rest style b) (g.W.Write.contents c.make_room.new.writer)
-          sent.0 (kept_bytes c.in_ok-piece.piece.piece) sent.1 sent.2;
+          (let now = wrote g here e before rest style b in
+          let p : Pending = record { table = c.write_some-filled.new.table; last = c.write_some-filled.new.coder.last } in
+          let ps = pixels_in c.write_some-filled.result.0 ++ rest in
+          let after : ImageBetween e before (g.W.Write.contents c.if-is_full.writer) ps p (kept_bytes c.if-is_full.filled) = elim c.if-is_full.branch [
+            | then-is_full+in_ok-send_piece w ↦ (let sent = w.in_ok-send_piece.ensures.written in
+                subst (λ v. ImageBetween e before (g.W.Write.contents v) ps p (kept_bytes c.if-is_full.filled)) (sym w.writer-is)
+                (subst (λ x. ImageBetween e before (g.W.Write.contents w.send_piece.new.writer) ps p (kept_bytes x)) (sym w.filled-is)
+                (image_sent now (g.W.Write.contents w.send_piece.new.writer) sent.0 (kept_bytes w.send_piece.new.piece) sent.1 sent.2)))
+            | else-is_full w ↦ subst (λ v. ImageBetween e before (g.W.Write.contents v) ps p (kept_bytes c.if-is_full.filled)) (sym w.writer-is)
+                (subst (λ x. ImageBetween e before (g.W.Write.contents c.loop-style.writer) ps p (kept_bytes x)) (sym w.filled-is) now)
+          ] in
+          subst (λ k. ImageBetween e before (g.W.Write.contents c.if-is_full.writer) ps p k) (sym c.open-piece.ensures) after);
     }
 
 -- fewer bytes than a block has are left

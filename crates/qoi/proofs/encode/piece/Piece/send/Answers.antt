@@ -3,8 +3,9 @@ use Rattle.std.proofs.Common.{◌-◌, sym, subst, arith}
 use Rattle.std.proofs.lemmas.List.{take-take}
 use Rattle.std.proofs.lemmas.Result.{err_from_is_err_and}
 use Rattle.qoi.specs.declared.encode.piece.TheConstants.{PAST}
+use Rattle.qoi.specs.inner.Piece.{kept_bytes}
 use Rattle.qoi.specs.writers.Writes.{WroteBeginning}
-use Rattle.qoi.proofs.encoding.PieceSent.{moved_front}
+use Rattle.qoi.proofs.encoding.PieceSent.{moved_front, part_of_all}
 use Rattle.qoi.proofs.encode.piece.Piece.send.Goals as goal
 
 pub returns-in_err-send_front-clause-refused : goal.returns-in_err-send_front-clause-refused
@@ -12,9 +13,11 @@ returns-in_err-send_front-clause-refused g c =
     let p = err_from_is_err_and c.from_residual.result c.from_residual.ensures.1 in
     let r = c.in_err-send_front.ensures.refused in
     let s = c.args.self.now in
+    let full = g.row.ROOM - PAST in
     rw (p.1, p.2) (
       r.0,
-      subst (λ z. WroteBeginning g.W.Writer.wrote c.args.writer.now z c.send_front.new.writer) (sym (take-take (g.row.ROOM - PAST) s.end s.bytes.now c.requires.full)) r.1,
+      part_of_all g.met.W.Writer.laws c.args.writer.now c.send_front.new.writer full (kept_bytes s)
+          (subst (λ z. WroteBeginning g.W.Writer.wrote c.args.writer.now z c.send_front.new.writer) (sym (take-take full s.end s.bytes.now c.requires.full)) r.1),
     )
 
 pub returns-clause-written : goal.returns-clause-written
