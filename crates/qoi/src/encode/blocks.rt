@@ -24,12 +24,12 @@ use crate::encode::runs::repeats_of;
 use crate::encode::table::PixelTable;
 use crate::types::Style::{self, Places, Reference, Tight};
 
-// The most repeats that may be carried for a block of sixteen more to be carried, too: up to fifteen
-// more at the front of the next block still make a run of fewer than 62.
+// The most repeats that may be carried for a block of sixteen more to be carried, too: up to
+// fifteen more at the front of the next block still make a run of fewer than 62.
 const FEW_CARRIED: u8 = 29;
 
-// The most repeats that may be carried if the next pixel repeats, too, and the front goes by blocks:
-// a run of fewer than 62 ends in the next block.
+// The most repeats that may be carried if the next pixel repeats, too, and the front goes by
+// blocks: a run of fewer than 62 ends in the next block.
 const FRONT_CARRIED: usize = 45;
 
 // Whether the front goes by blocks, if there is one: once a fresh pixel came or, but in style
@@ -82,7 +82,8 @@ fn coder_after<const N: usize>(carry: Carry<N>) -> Coder<N>
     Coder { last }
 }
 
-// Whether in style `Tight` a pixel of the block may be given by another index position than its own.
+// Whether in style `Tight` a pixel of the block may be given by another index position than its
+// own.
 #[inline(always)]
 fn may_name_other(style: Style, table: &PixelTable, block: Block) -> bool
     ensures tight { IsTrue result → style ≡ Tight }
@@ -166,9 +167,10 @@ fn write_group<'a, 'p, const N: usize, const ROOM: usize>(
     (rest, carried(&coder), piece)
 }
 
-// Writes what is at the front: a block, but for the repeats at its end; if all repeat, the full runs
-// of the repeats there, if any; or repeats and the fresh pixel after them, if in style `Tight` a
-// pixel may be given by another index position than its own. Returns the rest, and what is carried.
+// Writes what is at the front: a block, but for the repeats at its end; if all repeat, the full
+// runs of the repeats there, if any; or repeats and the fresh pixel after them, if in style `Tight`
+// a pixel may be given by another index position than its own. Returns the rest, and what is
+// carried.
 #[inline(always)]
 fn write_front<'a, 'p, const N: usize, const STYLE: u8, const ROOM: usize>(
     style: Style,
@@ -204,8 +206,8 @@ fn write_front<'a, 'p, const N: usize, const STYLE: u8, const ROOM: usize>(
 // Writes by blocks until the piece is full or fewer pixels than a block has are left. Returns the
 // rest, and what is carried.
 //
-// `STYLE` is a number for the style, so that each has a loop of its own. The piece is a value, so that
-// the compiler keeps its fields in registers.
+// `STYLE` is a number for the style, so that each has a loop of its own. The piece is a value, so
+// that the compiler keeps its fields in registers.
 #[inline(always)]
 fn fill<'a, 'p, const N: usize, const STYLE: u8, const ROOM: usize>(
     style: Style,

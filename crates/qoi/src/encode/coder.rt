@@ -201,7 +201,7 @@ impl<const N: usize> Coder<N> {
             self.update_after_repeats(style, table, QOI_RUN_MAX * runs, count % QOI_RUN_MAX);
             return ahead;
         }
-        // If more than 992 repeat, 992 are counted: sixteen runs of 62, so the single one isn't used.
+        // If more than 992 repeat, 992 are counted: sixteen runs of 62, and no single one.
         piece.keep_runs(count, self.single_repeat_byte(style, count));
         self.update_after_repeats(style, table, count, 0);
         ahead

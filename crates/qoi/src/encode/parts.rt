@@ -207,8 +207,8 @@ fn write_last<W: Write, const N: usize>(
     Ok(())
 }
 
-/// Takes raw bytes of an image with these channels, in this style: writes what comes before the last
-/// pixels, fewer than a block has, and holds those.
+/// Takes raw bytes of an image with these channels, in this style: writes what comes before the
+/// last pixels, fewer than a block has, and holds those.
 pub(super) fn take_any<W: Write>(
     writer: &mut W,
     channels: Channels,

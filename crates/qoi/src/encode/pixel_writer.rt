@@ -61,9 +61,9 @@ impl<W: Write + Drop> PixelWriter<W> {
 
     /// Sends the header of the image to the writer.
     ///
-    /// `InvalidImageDimensions` if width times height is 0 or above 400,000,000; `OutOfMemory` if the
-    /// only allocation fails, of some 4 KiB; `IoError` as in `Encoder::encode_to_stream`. The writer
-    /// is then dropped.
+    /// `InvalidImageDimensions` if width times height is 0 or above 400,000,000; `OutOfMemory` if
+    /// the only allocation fails, of some 4 KiB; `IoError` as in `Encoder::encode_to_stream`. The
+    /// writer is then dropped.
     pub fn new(alloc: Global, header: Header, style: Style, writer: W) -> Result<PixelWriter<W>>
         ensures made { IfOk result (HasTaken W.contents
             (record { raw = []; header = header; style = style }) (W.contents writer)) }
@@ -125,8 +125,8 @@ impl<W: Write + Drop> PixelWriter<W> {
     /// Takes the next raw bytes, any number of them, and sends the chunks of all pixels that came
     /// but for fewer than sixteen, and but for repeats whose run may go on. It doesn't flush.
     ///
-    /// `InvalidImageLength`, with the number of all bytes that came, if there are more than the image
-    /// has; then none of them is taken. `IoError` if the writer reports a fault or takes no byte;
+    /// `InvalidImageLength`, with the number of all bytes that came, if there are more than the
+    /// image has; then none of them is taken. `IoError` if the writer reports a fault or takes no byte;
     /// then a beginning of the file was sent, and each further call refuses with an `IoError`.
     pub fn write(&mut self, raw: &[u8]) -> Result<()>
         // A success: these raw bytes came, too.

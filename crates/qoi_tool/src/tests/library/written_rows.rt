@@ -1,5 +1,5 @@
-//! Callers of the pixel writer, proved by the contracts of its calls alone: an image's raw bytes come
-//! in parts, and the file is that of the whole image.
+//! Callers of the pixel writer, proved by the contracts of its calls alone: an image's raw bytes
+//! come in parts, and the file is that of the whole image.
 ghost use Rattle.std.specs.Prelude.{◌≡◌, ◌++◌, ◌<◌, List, length, Some, IfOk, OnOk};
 ghost use Rattle.std.specs.Io.KnownBytes.{Appends};
 ghost use Rattle.qoi.specs.Encoded.{image_file};
