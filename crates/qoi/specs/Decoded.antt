@@ -16,6 +16,7 @@ use Rattle.qoi.specs.Verdicts.{IsWhole, AreCut, AreWrong}
 use Rattle.qoi.specs.Decoding.{DecodesFile, ReadsImage, RefusesImage, RefusesFile, TakesHeader, RefusesStreamHeader, least_byte_count}
 use Rattle.qoi.specs.EncoderState.{EncoderState}
 use Rattle.qoi.specs.Sent.{MakesFile}
+use Rattle.qoi.specs.Tiles.{HasTile}
 use Rattle.qoi.specs.DecoderState.{DecoderState, output_byte_count, TakesAtMost}
 use Rattle.qoi.specs.Reading.{IsDecoderOf, IsImage, StandsAhead}
 use Rattle.qoi.specs.Images.{front_image, front_rest, file_image, file_rest}
@@ -101,6 +102,12 @@ pub record HasDecodedFile (bytes : List ℕ) (h : Header) (out : List ℕ) : Typ
   -- header and image are functions of the bytes
   pub header : header_of bytes ≡ Ok h
   pub image : out ≡ file_image bytes
+  -- they stay the same, whatever is appended; and that is left, too
+  pub header_then : (more : List ℕ) → header_of (bytes ++ more) ≡ Ok h
+  pub image_then : (more : List ℕ) → file_image (bytes ++ more) ≡ out
+  pub rest_then : (more : List ℕ) → file_rest (bytes ++ more) ≡ file_rest bytes ++ more
+  -- appended to others, the bytes have the file as a tile
+  pub put : (before after : List ℕ) → after ≡ before ++ bytes → HasTile after (length before) out
   -- there are `n_bytes` raw bytes
   pub size : HasImageLength (capped_byte_count h) out
   -- for each of the bytes at most 62 pixels, and 248 raw bytes

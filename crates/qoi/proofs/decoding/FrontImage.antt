@@ -17,6 +17,7 @@ use Rattle.qoi.specs.Reading.{IsImage}
 use Rattle.qoi.specs.Images.{front_chunk, chunks_after, front_chunks, front_image, front_rest, image_by, rest_by, file_image, file_rest}
 use Rattle.qoi.proofs.decoding.Ahead.{header_read_from}
 use Rattle.qoi.proofs.decoding.LeastBytes.{nine_taken}
+use Rattle.qoi.proofs.decoding.OneFile.{decodes_more}
 use Rattle.qoi.proofs.decoding.StreamVerdicts.{rgb_is_without_fourth}
 use Rattle.qoi.proofs.format.Appended.{length-meaning}
 use Rattle.qoi.proofs.format.OneVerdict.{StayBelowAfter}
@@ -111,6 +112,11 @@ pub file_rest_is : (bytes : List ℕ) (h : Header) (rest out : List ℕ) → Dec
 unfolding file_rest
 file_rest_is bytes h rest out d =
     rest_is h.channels h (drop header_size bytes) rest out (own_image bytes h rest out d) ∙ ap (λ r. rest_by r (drop header_size bytes)) (sym d.header)
+
+-- what is appended to a file is left, too
+pub file_rest_then : (bytes more : List ℕ) (h : Header) (rest out : List ℕ) → DecodesFile bytes h rest out → file_rest (bytes ++ more) ≡ file_rest bytes ++ more
+file_rest_then bytes more h rest out f =
+    sym (file_rest_is (bytes ++ more) h (rest ++ more) out (decodes_more bytes more h rest out f)) ∙ ap (λ z. z ++ more) (file_rest_is bytes h rest out f)
 
 -- after a header that was read stand the file's image and what follows the file
 pub image_after : (channels : Channels) (h : Header) (bytes : List ℕ) → header_of bytes ≡ Ok h → channels ≡ h.channels

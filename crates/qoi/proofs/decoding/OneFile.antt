@@ -80,6 +80,11 @@ decodes_read h bytes rest out fits read r =
     let front = file_from_whole h r.cs bytes rest fits read whole in
     decodes_file h r.cs bytes rest out front.0 front.1 r.out_is
 
+-- what is appended never changes the reading
+pub decodes_more : (bytes more : List ℕ) (h : Header) (rest out : List ℕ) → DecodesFile bytes h rest out → DecodesFile (bytes ++ more) h (rest ++ more) out
+decodes_more bytes more h rest out f =
+    decodes_file h f.cs (bytes ++ more) (rest ++ more) out f.is_file (ap (λ z. z ++ more) f.split ∙ append_assoc (file h f.cs) rest more) f.out_is
+
 -- so they are when a decoder reads it, in the file's own channels
 pub decodes_after : (bytes : List ℕ) (d : DecoderState (List ℕ)) (rest out : List ℕ) → AreBytes bytes → header_of bytes ≡ Ok d.header
     → d.channels ≡ d.header.channels → d.reader ≡ drop header_size bytes

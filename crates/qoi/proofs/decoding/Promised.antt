@@ -20,13 +20,14 @@ use Rattle.qoi.specs.Encoded.{IsFileOf}
 use Rattle.qoi.specs.Verdicts.{IsWhole}
 use Rattle.qoi.proofs.decoding.Ahead.{decoder_of, fault_ahead, file_ahead, header_front, header_read_from, file_from_image, fourth_of_image, image_not_cut, image_not_wrong, image_read_from}
 use Rattle.qoi.proofs.decoding.LeastBytes.{whole_holds}
-use Rattle.qoi.proofs.decoding.FrontImage.{file_image_is, image_after_read, front_read, nine_read, some_pixels, three_read}
+use Rattle.qoi.proofs.decoding.FrontImage.{file_image_is, file_rest_then, image_after_read, front_read, nine_read, some_pixels, three_read}
 use Rattle.qoi.proofs.decoding.ImageSize.{bounded_by}
-use Rattle.qoi.proofs.decoding.OneFile.{decodes_after, file_has_header, file_is_whole, header_is_one}
+use Rattle.qoi.proofs.decoding.OneFile.{decodes_after, decodes_more, file_has_header, file_is_whole, header_is_one}
 use Rattle.qoi.proofs.format.HeaderBytes.{header_front as header_at_front}
 use Rattle.qoi.proofs.format.OneVerdict.{whole_not_cut, whole_not_wrong}
 use Rattle.qoi.proofs.decoding.RefusedBytes.{cut_in_memory, end_is_cut, wrong_in_memory, padding_is_only_wrong, refused_for_cut, refused_for_wrong}
 use Rattle.qoi.proofs.decoding.Refusals.{whole_not_refused, whole_not_refused_in}
+use Rattle.qoi.proofs.decoding.Tiles.{file_put}
 use Rattle.qoi.proofs.decoding.TakenBytes.{read_within, refused_within}
 
 -- what holds of known bytes
@@ -132,6 +133,10 @@ has_decoded_file bytes d left out fits read own after decoded =
       decodes = (left, f);
       header = read;
       image = file_image_is bytes h left out f;
+      header_then = λ more. (decodes_more bytes more h left out f).header;
+      image_then = λ more. sym (file_image_is (bytes ++ more) h (left ++ more) out (decodes_more bytes more h left out f));
+      rest_then = λ more. file_rest_then bytes more h left out f;
+      put = λ before after is. file_put bytes h left out before after f is;
       size = (size ∙ sym (capped_is h f.is_file.valid), decoded.size.1);
       per_byte = bounded_by (pixel_count h) (length out) h.channels d.reader bytes decoded.enough
           (omega (arith, ap length after, length-drop header_size bytes)) (omega (arith, size));

@@ -1,47 +1,50 @@
 -- Files at offsets of longer bytes: they are put, stay, and are read.
-use Rattle.std.proofs.Common.{◌≡◌, ◌+◌, ◌-◌, ◌≤◌, ℕ, List, [], ◌++◌, Option, None, Some, IfSome, length, take, drop, refl, arith, ap, sym, ◌∙◌}
-use Rattle.std.proofs.lemmas.List.{append_assoc, append-nil, length-append, length-drop, drop-append-le}
+use Rattle.std.proofs.Common.{◌≡◌, ◌+◌, ◌-◌, ◌≤◌, ℕ, List, [], ◌++◌, Option, None, Some, IfSome, length, take, drop, refl, arith, ap, sym, subst, ◌∙◌}
+use Rattle.std.proofs.lemmas.List.{append-nil, length-append, length-drop, drop-append-le}
 use Rattle.std.proofs.Math.Seq.{drop-append_seam}
 use lib.Seq.{take-append_seam}
 use Rattle.std.specs.Io.KnownBytes.{Appends}
 use Rattle.qoi.specs.declared.header.Header.{Header}
 use Rattle.qoi.specs.declared.types.Style.{Style}
 use Rattle.qoi.specs.Encoded.{IsFileOf}
+use Rattle.qoi.specs.Qoi.{file}
+use Rattle.qoi.specs.Decoding.{DecodesFile}
 use Rattle.qoi.specs.Images.{file_image}
 use Rattle.qoi.specs.Tiles.{HasTile}
+use Rattle.qoi.proofs.decoding.Ahead.{file_ahead}
+use Rattle.qoi.proofs.decoding.FrontImage.{file_image_is}
+use Rattle.qoi.proofs.decoding.OneFile.{decodes_more}
+
+-- a file at an offset
+tile_of : (bytes raw : List ℕ) (offset : ℕ) (h : Header) (rest : List ℕ) → DecodesFile (drop offset bytes) h rest raw → HasTile bytes offset raw
+tile_of bytes raw offset h rest f = record { header = h; rest = rest; decodes = f; image = sym (file_image_is (drop offset bytes) h rest raw f) }
 
 -- a tile lies within the bytes
 pub tile_within : (bytes raw : List ℕ) (offset : ℕ) → HasTile bytes offset raw → offset ≤ length bytes
 tile_within bytes raw offset t =
-    let size : length bytes - offset ≡ length t.front + length t.rest = sym (length-drop offset bytes) ∙ ap length t.stands ∙ length-append t.front t.rest in
-    omega (arith, size, t.is_file.is_file.long)
+    let size = length-append (file t.header t.decodes.cs) t.rest in
+    omega (arith, length-drop offset bytes, ap length t.decodes.split, size)
 
 -- a file that is appended is a tile at the end
+pub file_put : (bytes : List ℕ) (h : Header) (rest raw old new : List ℕ) → DecodesFile bytes h rest raw → new ≡ old ++ bytes → HasTile new (length old) raw
+file_put bytes h rest raw old new f is =
+    let at : drop (length old) new ≡ bytes = ap (drop (length old)) is ∙ drop-append_seam old bytes in
+    tile_of new raw (length old) h rest (subst (λ z. DecodesFile z h rest raw) (sym at) f)
+
+-- likewise the file of an image
 pub tile_put : (style : Style) (h : Header) (raw bytes old new : List ℕ) → IsFileOf style h raw bytes → new ≡ old ++ bytes → HasTile new (length old) raw
-tile_put style h raw bytes old new f is = record {
-  style = style;
-  header = h;
-  front = bytes;
-  rest = [];
-  is_file = f;
-  stands = ap (λ z. drop (length old) z) is ∙ drop-append_seam old bytes ∙ sym (append-nil bytes);
-}
+tile_put style h raw bytes old new f is = file_put bytes h [] raw old new (file_ahead style h raw bytes [] bytes f (sym (append-nil bytes))) is
 
 -- and tiles before it stay where they are, whatever is appended
 pub tile_kept : (tile old new more : List ℕ) (offset : ℕ) → new ≡ old ++ more → HasTile old offset tile → HasTile new offset tile
-tile_kept tile old new more offset is t = record {
-  style = t.style;
-  header = t.header;
-  front = t.front;
-  rest = t.rest ++ more;
-  is_file = t.is_file;
-  stands = ap (λ z. drop offset z) is ∙ drop-append-le offset old more (tile_within old tile offset t) ∙ ap (λ z. z ++ more) t.stands
-      ∙ append_assoc t.front t.rest more;
-}
+tile_kept tile old new more offset is t =
+    let at : drop offset new ≡ drop offset old ++ more = ap (drop offset) is ∙ drop-append-le offset old more (tile_within old tile offset t) in
+    tile_of new tile offset t.header (t.rest ++ more)
+    (subst (λ z. DecodesFile z t.header (t.rest ++ more) tile) (sym at) (decodes_more (drop offset old) more t.header t.rest tile t.decodes))
 
 -- its image is read at its offset
 pub tile_read : (bytes raw : List ℕ) (offset : ℕ) → HasTile bytes offset raw → file_image (drop offset bytes) ≡ raw
-tile_read bytes raw offset t = ap file_image t.stands ∙ t.is_file.read_back.image_then t.rest
+tile_read bytes raw offset t = t.image
 
 -- what a writer has whose bytes are known, before and after more were appended
 pub sent_known : (bytes : List ℕ) (old new : Option (List ℕ)) → Appends old new bytes → (before after : List ℕ) → old ≡ Some before → new ≡ Some after

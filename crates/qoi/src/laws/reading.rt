@@ -81,6 +81,18 @@ pub fn files_are_read()
         (output (channels_number h.channels) (channels_number h.channels) (file_pixels h cs)) }
 {}
 
+/// What was decoded from bytes is decoded from them whatever is appended, and that is left, too.
+pub fn files_may_be_followed()
+    ensures decoded { (bytes more : List ℕ) (h : Header) (rest out : List ℕ)
+        → DecodesFile bytes h rest out → DecodesFile (bytes ++ more) h (rest ++ more) out }
+    ensures header { (bytes more : List ℕ) (h : Header) (rest out : List ℕ)
+        → DecodesFile bytes h rest out → header_of (bytes ++ more) ≡ Ok h }
+    ensures image { (bytes more : List ℕ) (h : Header) (rest out : List ℕ)
+        → DecodesFile bytes h rest out → file_image (bytes ++ more) ≡ out }
+    ensures rest { (bytes more : List ℕ) (h : Header) (rest out : List ℕ)
+        → DecodesFile bytes h rest out → file_rest (bytes ++ more) ≡ file_rest bytes ++ more }
+{}
+
 /// The image that bytes begin with, and what follows it, are functions of the bytes; likewise those
 /// of a file.
 pub fn images_are_functions()
@@ -121,11 +133,13 @@ pub fn image_files_are_read()
         → image_header raw width height ≡ Ok h → IsReadBack h raw (image_file style h raw) }
 {}
 
-/// A file after other bytes is a tile there, tiles stay whatever is appended, and the image of a
+/// A file after other bytes, of any origin, is a tile there, tiles stay whatever is appended, and the image of a
 /// tile is read at its offset.
 pub fn tiles_stay()
     ensures put { (style : Style) (h : Header) (raw bytes old new : List ℕ)
         → IsFileOf style h raw bytes → new ≡ old ++ bytes → HasTile new (length old) raw }
+    ensures put_file { (bytes : List ℕ) (h : Header) (rest raw old new : List ℕ)
+        → DecodesFile bytes h rest raw → new ≡ old ++ bytes → HasTile new (length old) raw }
     ensures kept { (tile old new more : List ℕ) (offset : ℕ) → new ≡ old ++ more
         → HasTile old offset tile → HasTile new offset tile }
     ensures read { (bytes raw : List ℕ) (offset : ℕ) → HasTile bytes offset raw

@@ -1,5 +1,5 @@
 //! Callers that keep several files in one slice (a pack): the image of the file at an offset comes
-//! back, whatever follows it. `put_three` alone has a proof file, of two lines.
+//! back, whatever follows it. `put_many` alone has a proof file: its loop's invariant.
 ghost use Rattle.std.specs.Prelude.{◌≡◌, ℕ, List, ◌++◌, length, drop, Option, Some, IfOk, OnOk};
 ghost use Rattle.qoi.specs.declared.header.Header.{Header};
 ghost use Rattle.qoi.specs.declared.types.Style.{Style};
@@ -9,6 +9,7 @@ ghost use Rattle.qoi.specs.Tiles.{HasTile};
 
 use crate::tests::fakes::{ONE_RGB_PIXEL, PIXEL};
 use crate::tests::library::support::{assert_bytes, assert_number};
+use qoi::laws::reading::tiles_stay;
 use qoi::{Decoder, Encoder, Error, decode_to_vec, encode_to_vec};
 use std::alloc::Global;
 use std::io::Read;
@@ -159,6 +160,37 @@ pub fn put(atlas: &mut Vec<u8>, raw: &[u8], width: u32, height: u32) -> Result<u
     Ok(offset)
 }
 
+/// A file of any origin is put at the end of an atlas, if it is one, and its offset returned; the
+/// tiles before it stay.
+pub fn put_file(alloc: Global, atlas: &mut Vec<u8>, file: &[u8]) -> Result<usize, Error>
+    ensures put { IfOk result (λ offset. HasTile atlas.new.items offset (file_image file.now)) }
+    ensures kept { (offset : ℕ) (tile : List ℕ) → HasTile atlas.old.items offset tile
+        → OnOk result (HasTile atlas.new.items offset tile) }
+{
+    tiles_stay();
+    let offset = atlas.len();
+    decode_to_vec(alloc, file)?;
+    atlas.extend_from_slice(file)?;
+    Ok(offset)
+}
+
+/// What was decoded from a file is decoded again from an atlas that the file was put into, with a
+/// byte behind it.
+pub fn decoded_again(
+    alloc: Global,
+    atlas: &mut Vec<u8>,
+    file: &[u8],
+) -> Result<(Vec<u8>, Vec<u8>), Error>
+    ensures { IfOk result (λ x. x.1.items ≡ x.0.items) }
+{
+    let (_, raw) = decode_to_vec(alloc, file)?;
+    let offset = atlas.len();
+    atlas.extend_from_slice(file)?;
+    atlas.push(1)?;
+    let (_, again) = decode_to_vec(alloc, &atlas[offset..])?;
+    Ok((raw, again))
+}
+
 /// A tile is read back from its offset.
 pub fn get(alloc: Global, atlas: &[u8], offset: usize) -> Result<Vec<u8>, Error>
     ensures { (tile : List ℕ) → HasTile atlas.now offset tile
@@ -170,6 +202,40 @@ pub fn get(alloc: Global, atlas: &[u8], offset: usize) -> Result<Vec<u8>, Error>
     let mut decoder = Decoder::new(&atlas[offset..])?;
     let back = decoder.decode_to_vec(alloc)?;
     Ok(back)
+}
+
+/// Two tiles are put at the end of an atlas, and the first one's offset returned.
+pub fn put_two(
+    atlas: &mut Vec<u8>,
+    first: &[u8],
+    second: &[u8],
+    width: u32,
+    height: u32,
+) -> Result<usize, Error>
+    ensures { IfOk result (λ offset. HasTile atlas.new.items offset first.now) }
+{
+    let offset = put(atlas, first, width, height)?;
+    put(atlas, second, width, height)?;
+    Ok(offset)
+}
+
+/// A tile is put at the end of an atlas, and its offset returned; another is put behind it, `count`
+/// times.
+pub fn put_many(
+    atlas: &mut Vec<u8>,
+    first: &[u8],
+    other: &[u8],
+    count: usize,
+    width: u32,
+    height: u32,
+) -> Result<usize, Error>
+    ensures { IfOk result (λ offset. HasTile atlas.new.items offset first.now) }
+{
+    let offset = put(atlas, first, width, height)?;
+    for _ in 0..count {
+        put(atlas, other, width, height)?;
+    }
+    Ok(offset)
 }
 
 /// Three tiles are put at the end of an atlas, and their offsets returned.
@@ -250,6 +316,15 @@ fn of_an_atlas(rt: HostRuntime) -> Result<(), Error> {
     assert_number(&rt, atlas.len(), 26 + 24);
     let at = put_image(&mut atlas, &PIXEL, 1, 1)?;
     assert_bytes(&rt, &tile_at(alloc, &atlas, at)?, &PIXEL);
+    let offset = put_two(&mut atlas, &other, &PIXEL, 1, 1)?;
+    assert_bytes(&rt, &get(alloc, &atlas, offset)?, &other);
+    let offset = put_many(&mut atlas, &other, &PIXEL, 3, 1, 1)?;
+    assert_bytes(&rt, &get(alloc, &atlas, offset)?, &other);
+    let offset = put_file(alloc, &mut atlas, &ONE_RGB_PIXEL)?;
+    assert_bytes(&rt, &get(alloc, &atlas, offset)?, &PIXEL);
+    let (raw, again) = decoded_again(alloc, &mut atlas, &ONE_RGB_PIXEL)?;
+    assert_bytes(&rt, &raw, &PIXEL);
+    assert_bytes(&rt, &again, &PIXEL);
     let (first, second, third) = three_tiles(alloc, &PIXEL, &other, &PIXEL, 1, 1)?;
     assert_bytes(&rt, &first, &PIXEL);
     assert_bytes(&rt, &second, &other);
