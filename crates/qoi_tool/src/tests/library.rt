@@ -11,6 +11,7 @@ mod calls;
 mod choices;
 mod chunks;
 mod decoder;
+mod encoded_again;
 mod encoder;
 mod equations;
 mod errors;
