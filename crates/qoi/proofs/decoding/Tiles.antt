@@ -1,5 +1,5 @@
 -- Files at offsets of longer bytes: they are put, stay, and are read.
-use Rattle.std.proofs.Common.{◌≡◌, ◌+◌, ◌-◌, ◌≤◌, ℕ, List, [], ◌++◌, Option, None, Some, IfSome, length, take, drop, refl, arith, ap, sym, subst, ◌∙◌}
+use Rattle.std.proofs.Common.{◌≡◌, ◌≤◌, ℕ, List, [], ◌++◌, Option, None, Some, IfSome, length, take, drop, refl, arith, ap, sym, subst, ◌∙◌}
 use Rattle.std.proofs.lemmas.List.{append-nil, length-append, length-drop, drop-append-le}
 use Rattle.std.proofs.Math.Seq.{drop-append_seam}
 use lib.Seq.{take-append_seam}

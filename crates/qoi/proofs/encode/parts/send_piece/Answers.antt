@@ -1,8 +1,6 @@
 -- A full piece was appended, or a beginning of it.
-use Rattle.std.proofs.Common.{rules, ◌-◌, ◌++◌, take, sym, ap, ◌∙◌, take-append-drop}
+use Rattle.std.proofs.Common.{rules}
 use Rattle.std.proofs.lemmas.Result.{err_from_is_err_and}
-use Rattle.qoi.specs.declared.encode.piece.TheConstants.{PAST}
-use Rattle.qoi.specs.inner.Piece.{kept_bytes}
 use Rattle.qoi.specs.writers.GenericWriter.{stream_writer}
 use Rattle.qoi.proofs.encoding.StreamSent.{appends_as}
 use Rattle.qoi.proofs.encode.parts.send_piece.Goals as goal
