@@ -1,10 +1,10 @@
 -- Rows and rectangles of raw bytes: what they hold, how they are put together, and what is put in.
-use Rattle.std.proofs.Common.{◌≡◌, ◌≢◌, ◌<◌, ◌≤◌, ◌+◌, ◌-◌, ◌*◌, ◌⊎◌, ℕ, zero, suc, List, [], ◌++◌, length, take, drop, get_or, inl, inr, ⊎_elim, refl, sym, ◌∙◌, ap, arith}
-use Rattle.std.proofs.lemmas.List.{append_assoc, append-nil, length-append, length-drop, length-take, take-append-drop, drop-drop, drop-take, take-take, take_all, take_at, drop_at, take-append-le, drop-append-le, get_or-take, get_or-drop, get_or_append_left, get_or-append_right}
-use Rattle.std.proofs.Math.Nat.{add-suc, mul-suc, mul-zero, mul_comm, mul-add}
+use Rattle.std.proofs.Common.{◌≡◌, ◌≢◌, ◌<◌, ◌≤◌, ◌+◌, ◌-◌, ◌*◌, ◌/◌, ◌%◌, ◌⊎◌, ℕ, zero, suc, List, [], ◌++◌, length, take, drop, get_or, inl, inr, ⊎_elim, refl, sym, ◌∙◌, ap, arith}
+use Rattle.std.proofs.lemmas.List.{ext_get_or, append_assoc, append-nil, length-append, length-drop, length-take, take-append-drop, drop-drop, drop-take, take-take, take_all, take_at, drop_at, take-append-le, drop-append-le, get_or-take, get_or-drop, get_or_append_left, get_or-append_right}
+use Rattle.std.proofs.Math.Nat.{add-suc, div-add-mod, mod-lt, mul-add, mul-suc, mul-zero, mul_comm, zero-mul}
 use Rattle.std.proofs.Math.Seq.{take-add}
 use Rattle.std.proofs.lemmas.Bool.{cases_eq, cases_lt}
-use Rattle.std.proofs.lemmas.Nat.{row_fits}
+use Rattle.std.proofs.lemmas.Nat.{mul-le, row_fits}
 use Rattle.qoi.specs.Rectangles.{row_bytes, rectangle, IsOutside, KeepsOutside}
 
 -- one row more ends within the rows
@@ -280,3 +280,52 @@ module _ (stride top left rows size : ℕ) (old new row : List ℕ) (fits : left
 -- nothing was put in yet
 pub keeps_all : (stride top left rows size : ℕ) (raw : List ℕ) → KeepsOutside stride top left rows size raw raw
 keeps_all stride top left rows size raw = record { length_is = refl; same = λ i j within out. refl }
+
+-- a byte of a picture is one of a row
+some_bytes : (stride height p : ℕ) → p < stride * height → 0 < stride
+some_bytes zero height p below = absurd (omega (arith, below, zero-mul height))
+some_bytes (suc n) height p below = omega arith
+
+-- Two pictures that have the same rectangle, and the same bytes outside of it.
+module _ (stride top left rows size height : ℕ) (old new : List ℕ) (within : left + size ≤ stride) (below : top + rows ≤ height)
+    (many : length old ≡ stride * height) (kept : KeepsOutside stride top left rows size old new)
+    (held : rectangle stride top left rows size new ≡ rectangle stride top left rows size old) where
+  -- a byte of the rectangle is the same
+  same_inside : (a b : ℕ) → a < rows → b < size → get_or new (stride * (top + a) + left + b) 0 ≡ get_or old (stride * (top + a) + left + b) 0
+  same_inside a b row byte =
+      let fits : stride * (top + rows) ≤ length old = omega (arith, many, mul-le stride (top + rows) stride height (omega arith) below) in
+      sym (byte_of_rectangle stride top left rows size a b new within (omega (arith, fits, kept.length_is)) row byte)
+      ∙ ap (λ z. get_or z (size * a + b) 0) held ∙ byte_of_rectangle stride top left rows size a b old within fits row byte
+
+  -- so is byte j of row i, if it is one of the rectangle
+  same_there : (i j : ℕ) → top ≤ i → i < top + rows → left ≤ j → j < left + size → get_or new (stride * i + j) 0 ≡ get_or old (stride * i + j) 0
+  same_there i j first last start end =
+      let row : top + (i - top) ≡ i = omega (arith, first) in
+      let at : stride * (top + (i - top)) + left + (j - left) ≡ stride * i + j =
+      ap (λ n. stride * n + left + (j - left)) row ∙ omega (arith, start) in
+      ap (λ p. get_or new p 0) (sym at) ∙ same_inside (i - top) (j - left) (omega (arith, first, last)) (omega (arith, start, end))
+      ∙ ap (λ p. get_or old p 0) at
+
+  -- and any other
+  same_byte : (i j : ℕ) → j < stride → get_or new (stride * i + j) 0 ≡ get_or old (stride * i + j) 0
+  same_byte i j byte = ⊎_elim
+      (λ above. kept.same i j byte (inl above))
+      (λ first. ⊎_elim
+      (λ last. ⊎_elim
+      (λ before. kept.same i j byte (inr (inr (inl before))))
+      (λ start. ⊎_elim
+      (λ end. same_there i j first last start end)
+      (λ after. kept.same i j byte (inr (inr (inr after))))
+      (cases_lt j (left + size)))
+      (cases_lt j left))
+      (λ later. kept.same i j byte (inr (inl later)))
+      (cases_lt i (top + rows)))
+      (cases_lt i top)
+
+  -- so the pictures are the same
+  pub same_picture : new ≡ old
+  same_picture = ext_get_or 0 new old kept.length_is (λ p inside.
+      let size_is : p < stride * height = omega (arith, inside, kept.length_is, many) in
+      let some : 0 < stride = some_bytes stride height p size_is in
+      let at = div-add-mod p stride in
+      ap (λ q. get_or new q 0) (sym at) ∙ same_byte (p / stride) (p % stride) (mod-lt p some) ∙ ap (λ q. get_or old q 0) at)

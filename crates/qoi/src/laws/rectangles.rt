@@ -54,7 +54,7 @@ pub fn rows_that_come()
 {}
 
 /// Bytes that are put where the part of one more row stands: the rectangle holds them, and all
-/// bytes outside of it stay.
+/// bytes outside of it stay. The rectangle and what is outside of it are the whole picture.
 pub fn rows_are_put()
     ensures put { (stride top left rows size : ℕ) (old new row : List ℕ) → left + size ≤ stride
         → stride * (top + rows) + stride ≤ length old → length row ≡ size
@@ -68,6 +68,11 @@ pub fn rows_are_put()
         ++ (row ++ drop size (drop (stride * (top + rows) + left) old))
         → KeepsOutside stride top left rows size start old
         → KeepsOutside stride top left (rows + 1) size start new }
+    ensures same { (stride top left rows size height : ℕ) (old new : List ℕ)
+        → left + size ≤ stride → top + rows ≤ height → length old ≡ stride * height
+        → KeepsOutside stride top left rows size old new
+        → rectangle stride top left rows size new ≡ rectangle stride top left rows size old
+        → new ≡ old }
     ensures all { (stride top left rows size : ℕ) (raw : List ℕ)
         → KeepsOutside stride top left rows size raw raw }
 {}
