@@ -82,7 +82,7 @@ static KEEPING(c_keep) {
 }
 
 encode port_encode_buffer, port_encode_vector, port_encode_slice, port_encode_growing, port_encode_places,
-    port_encode_tight;
+    port_encode_tight, port_encode_rows;
 decode port_decode_buffer, port_decode_vector, port_decode_stream, port_decode_stream_buffered, port_decode_buf_read,
     port_decode_rows, port_decode_rows_buf_read;
 keep port_keep;
@@ -111,6 +111,7 @@ static const struct row { const char *name; int vector, channels, style; struct 
         CRATE_ENCODES(crate_encode_vector), ENCODES("port", port_encode_vector)}},
     {"encoding to a writer, a slice", .ways = {CRATE_ENCODES(crate_encode_slice), ENCODES("port", port_encode_slice)}},
     {"encoding to a writer, a vector", .ways = {CRATE_ENCODES(crate_encode_growing), ENCODES("port", port_encode_growing)}},
+    {"row by row to a writer, a slice", .ways = {ENCODES("at once", port_encode_slice), ENCODES("port", port_encode_rows)}},
     {"style `Places`", .style = 1, .ways = {ENCODES("`Reference`", port_encode_buffer), ENCODES("port", port_encode_places)}},
     {"style `Tight`", .style = 1, .ways = {ENCODES("`Reference`", port_encode_buffer), ENCODES("port", port_encode_tight)}},
     {"decoding into a buffer", .ways = OF_SLICE},
@@ -123,8 +124,8 @@ static const struct row { const char *name; int vector, channels, style; struct 
     {"`from_stream` of a `BufReader`", .ways = {CRATE_DECODES(crate_decode_stream_buffered),
         DECODES("port", port_decode_stream_buffered)}},
     {"`from_stream` of a slice", .ways = {CRATE_DECODES(crate_decode_stream), DECODES("port", port_decode_stream)}},
-    {"row by row", .ways = {DECODES("`decode_to_buf`", port_decode_buffer), DECODES("port", port_decode_rows)}},
-    {"row by row from a `BufReader`", .ways = {DECODES("`from_buf_read`", port_decode_buf_read),
+    {"decoding row by row", .ways = {DECODES("`decode_to_buf`", port_decode_buffer), DECODES("port", port_decode_rows)}},
+    {"decoding row by row from a `BufReader`", .ways = {DECODES("`from_buf_read`", port_decode_buf_read),
         DECODES("port", port_decode_rows_buf_read)}},
 };
 enum { ROWS = sizeof rows / sizeof *rows, WAYS = 3, MOST = 4000 };

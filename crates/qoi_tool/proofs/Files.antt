@@ -1,8 +1,6 @@
 -- Files one after the other, taken from the front.
-use Rattle.std.proofs.Common.{◌≡◌, ◌+◌, ◌-◌, ◌<◌, ◌≤◌, ℕ, List, [], ◌∷◌, ◌++◌, length, take, drop, map, arith, ap, sym, ◌∙◌, refl, subst}
-use Rattle.std.proofs.lemmas.List.{map-append, append_assoc, append-nil, length-append, length-drop, drop-append-le, take_rest}
-use Rattle.std.proofs.Math.Seq.{drop-append_seam}
-use Rattle.std.proofs.lemmas.List.Prefix.{end_rest}
+use Rattle.std.proofs.Common.{◌≡◌, ◌+◌, ◌<◌, ℕ, List, [], ◌∷◌, ◌++◌, length, map, arith, ap, sym, ◌∙◌, refl, subst}
+use Rattle.std.proofs.lemmas.List.{map-append, append_assoc, append-nil, length-append}
 use Rattle.qoi.specs.declared.header.Header.{Header}
 use Rattle.qoi.specs.declared.chunk.Chunk.{Chunk}
 use Rattle.qoi.specs.Qoi.{channels_number, header_bytes, chunk_bytes, end_marker, file, file_pixels}
@@ -18,12 +16,6 @@ rest_is_shorter bytes h rest raw d =
     length-append (header_bytes h) (chunk_bytes d.cs ++ end_marker) in
     let marked : length (chunk_bytes d.cs ++ end_marker) ≡ length (chunk_bytes d.cs) + 8 = length-append (chunk_bytes d.cs) end_marker in
     omega (arith, all, front, marked)
-
--- if the last n bytes are as many as follow a file, they are what follows it
-pub end_is_rest : (bytes : List ℕ) (h : Header) (rest raw : List ℕ) (n : ℕ) → DecodesFile bytes h rest raw → n ≡ length rest
-    → take (length bytes - (length bytes - n)) (drop (length bytes - n) bytes) ≡ rest
-end_is_rest bytes h rest raw n d e =
-    take_rest bytes (length bytes - n) ∙ (ap (λ i. drop (length bytes - i) bytes) e ∙ end_rest bytes rest (file h d.cs) d.split)
 
 -- an image more at the end of the list, or at the front of those that follow
 pub map_of_more : {V : Type 0} (f : V → List ℕ) (old new : List V) (v : V) (all : List (List ℕ)) → new ≡ old ++ (v ∷ [])

@@ -65,7 +65,8 @@ impl Block {
     #[inline(always)]
     pub(super) fn first<const N: usize>(raw: Pixels<N>, carry: Carry<N>) -> Block
         requires { 16 ≤ length (pixels_in raw) }
-        ensures changes { ChangesFrom carry.entry.before (block_pixels result.words) result.changes }
+        ensures changes { ChangesFrom carry.entry.before (block_pixels result.words)
+            result.changes }
         ensures pixels { block_pixels result.words ≡ take 16 (pixels_in raw.entry) }
         ensures opaque { N ≡ 3 → AreOpaque (block_pixels result.words) }
     {

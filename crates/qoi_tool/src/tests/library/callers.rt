@@ -374,9 +374,7 @@ pub fn all_images(alloc: Global, bytes: &[u8]) -> Result<Vec<Vec<u8>>, Error>
     while !rest.is_empty() {
         let mut decoder = Decoder::new(rest)?;
         images.push(decoder.decode_to_vec(alloc)?)?;
-        // `data` borrows from the decoder: what goes on to the next turn is its length.
-        let left = decoder.data().len();
-        rest = &rest[rest.len() - left..];
+        rest = decoder.into_data();
     }
     Ok(images)
 }

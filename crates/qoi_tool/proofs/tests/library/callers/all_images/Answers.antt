@@ -3,7 +3,7 @@ use Rattle.std.proofs.Common.{◌≡◌, ◌<◌, ◌≤◌, ℕ, List, [], ◌�
 use Rattle.std.proofs.lemmas.List.{drop_all}
 use Rattle.qoi.specs.Qoi.{header_size}
 use Rattle.qoi_tool.specs.Files.{AreFiles}
-use Rattle.qoi_tool.proofs.Files.{rest_is_shorter, end_is_rest, map_of_more, images_are_one}
+use Rattle.qoi_tool.proofs.Files.{rest_is_shorter, map_of_more, images_are_one}
 use Rattle.qoi_tool.proofs.tests.library.callers.all_images.Goals as goal
 
 pub loop-rest-smaller : goal.loop-rest-smaller
@@ -14,7 +14,7 @@ loop-rest-smaller c =
     let read = c.in_ok-decode_to_vec.ensures.decoded.file bytes (drop header_size bytes) c.in_ok-decoder.ensures.accepted.made c.in_ok-decoder.ensures.accepted.after in
     let stands = read.1 in
     let left : c.decode_to_vec.new.self.reader ≡ read.0 = cc in
-    let next = end_is_rest bytes h read.0 raw (length c.data-left.result.now) read.2 (ap length (c.data-left.ensures ∙ left)) in
+    let next : c.into_data-rest.result.now ≡ read.0 = c.into_data-rest.ensures ∙ left in
     subst (λ (z : List ℕ). length z < length bytes) (sym next) (rest_is_shorter bytes h read.0 raw read.2)
 
 pub loop-rest-preserved : goal.loop-rest-preserved
@@ -25,7 +25,7 @@ loop-rest-preserved c = λ more files.
     let read = c.in_ok-decode_to_vec.ensures.decoded.file bytes (drop header_size bytes) c.in_ok-decoder.ensures.accepted.made c.in_ok-decoder.ensures.accepted.after in
     let stands = read.1 in
     let left : c.decode_to_vec.new.self.reader ≡ read.0 = cc in
-    let next = end_is_rest bytes h read.0 image.items (length c.data-left.result.now) read.2 (ap length (c.data-left.ensures ∙ left)) in
+    let next : c.into_data-rest.result.now ≡ read.0 = c.into_data-rest.ensures ∙ left in
     subst (AreFiles c.args.bytes.now)
     (sym (map_of_more (λ (v : Vec ℕ Global). v.items) c.loop-rest.images.items c.push.new.self.items image more c.in_ok-push.ensures.items))
     (c.loop-rest.invariant (image.items ∷ more) (h, read.0, read.2, subst (λ (z : List ℕ). AreFiles z more) next files))
