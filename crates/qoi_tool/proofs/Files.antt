@@ -1,6 +1,6 @@
 -- Files one after the other, taken from the front.
 use Rattle.std.proofs.Common.{◌≡◌, ◌+◌, ◌<◌, ℕ, List, [], ◌∷◌, ◌++◌, length, map, arith, ap, sym, ◌∙◌, refl, subst}
-use Rattle.std.proofs.lemmas.List.{map-append, append_assoc, append-nil, length-append}
+use Rattle.std.proofs.lemmas.List.{map-append, append_assoc, length-append}
 use Rattle.qoi.specs.declared.header.Header.{Header}
 use Rattle.qoi.specs.declared.chunk.Chunk.{Chunk}
 use Rattle.qoi.specs.Qoi.{channels_number, header_bytes, chunk_bytes, end_marker, file, file_pixels}

@@ -111,8 +111,8 @@ fn three_files(rt: HostRuntime) -> Result<(), Error> {
     assert_bytes(&rt, rest, &ONE_RGB_PIXEL);
     assert_number(&rt, count_files(alloc, &bytes)?, 3);
     assert!(rt; file_length(&bytes) == Some(26));
-    assert!(rt; file_length(&bytes[..25]).is_none());
-    assert!(rt; file_length(&bytes[1..]).is_none());
+    assert!(rt; file_length(&ONE_RGB_PIXEL[..25]).is_none());
+    assert!(rt; file_length(&ONE_RGB_PIXEL[1..]).is_none());
     let reader = BufReader::new(alloc, bytes.as_slice())?;
     assert_bytes(&rt, &second_buffered(alloc, reader)?, &PIXEL);
     Ok(())
