@@ -1,4 +1,5 @@
 -- Lemmas on the format: headers, pixels, index positions, chunks and files.
+pub mod AddedTerms
 pub mod Appended
 pub mod ChunkSteps
 pub mod ChunksApart
@@ -15,6 +16,7 @@ pub mod OneVerdict
 pub mod PackedPixels
 pub mod PartOfChunk
 pub mod PixelBlocks
+pub mod PutTerms
 pub mod RawPixels
 pub mod RectangleLaws
 pub mod SamePixels

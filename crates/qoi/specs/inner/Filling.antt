@@ -78,6 +78,10 @@ pub record DecoderBetween (file_channels channels : ℕ) (gone : Past) (n : ℕ)
 abbrev pub IsFrontAfter : List ℕ → List ℕ → ℕ → List ℕ → Type 0
 IsFrontAfter before bytes size taken = taken ≡ before ++ take size bytes
 
+-- the same, with `count` bytes more taken
+abbrev pub further : ℕ → Progress → Progress
+further count p = record { last = p.last; taken = p.taken + count; at = p.at; next = p.next }
+
 -- `DecoderBetween` for the fast loop over these bytes, which also has the byte that comes next
 pub record FastBetween (file_channels channels : ℕ) (gone : Past) (n : ℕ) (before bytes : List ℕ) (now : Progress) (table out : List ℕ) : Type 0 where
   pub between : DecoderBetween file_channels channels gone n (IsFrontAfter before bytes now.taken) (filling table now.last out now.at)

@@ -1,33 +1,43 @@
 -- Pixels as single numbers that hold their index positions too.
-use Rattle.std.specs.Prelude.{◌≡◌, ℕ, ◌+◌, ◌*◌, ◌/◌, ◌%◌, ◌^◌, ◌<◌, List, slice_index}
-use Rattle.qoi.specs.Qoi.{RgbaPixel, Past, pixel, positions, hash, seen}
+use Rattle.std.specs.Prelude.{◌≡◌, ℕ, ◌+◌, ◌*◌, ◌/◌, ◌%◌, ◌^◌, ◌<◌, ◌≤◌, List, length, slice_index}
+use Rattle.qoi.specs.Qoi.{RgbaPixel, Past, pixel, positions, diff_tag, luma_tag, run_tag, hash, seen}
 
--- numbers for red, green and blue in lanes of 16 bits of 64, the lowest first
-abbrev pub lanes : ℕ → ℕ → ℕ → ℕ
-lanes r g b = r + g * 2 ^ 16 + b * 2 ^ 32
+-- the pixel of four lanes of 16 bits, red in the lowest
+abbrev pub pixel_of_four : ℕ → RgbaPixel
+pixel_of_four l = pixel (l % 2 ^ 8) (l / 2 ^ 16 % 2 ^ 8) (l / 2 ^ 32 % 2 ^ 8) (l / 2 ^ 48 % 2 ^ 8)
 
--- the pixel of a number of 64 bits: a channel is the low eight bits of each lane, whatever stands
--- above them
-abbrev pub pixel_of_lanes : ℕ → RgbaPixel
-pixel_of_lanes s = pixel (s % 2 ^ 8) (s / 2 ^ 16 % 2 ^ 8) (s / 2 ^ 32 % 2 ^ 8) (s / 2 ^ 48 % 2 ^ 8)
-
--- nothing stands above the channels
+-- each of the four lanes has a byte, and nothing else
 abbrev pub IsPlain : ℕ → Type 0
-IsPlain s = s ≡ lanes (s % 2 ^ 8) (s / 2 ^ 16 % 2 ^ 8) (s / 2 ^ 32 % 2 ^ 8) + s / 2 ^ 48 % 2 ^ 8 * 2 ^ 48
+IsPlain l = l ≡ l % 2 ^ 8 + l / 2 ^ 16 % 2 ^ 8 * 2 ^ 16 + l / 2 ^ 32 % 2 ^ 8 * 2 ^ 32 + l / 2 ^ 48 % 2 ^ 8 * 2 ^ 48
 
--- the six highest bits of the number are the index position of its pixel, and the two below them
--- are 0
+-- the pixel of a number of 64 bits: each channel has eight of them, whatever stands in the others
+abbrev pub pixel_of_lanes : ℕ → RgbaPixel
+pixel_of_lanes s = pixel (s / 2 ^ 24 % 2 ^ 8) (s / 2 ^ 40 % 2 ^ 8) (s / 2 ^ 56 % 2 ^ 8) (s / 2 ^ 16 % 2 ^ 8)
+
+-- the eight lowest bits of the number are four times the index position of its pixel
 abbrev pub IsHashed : ℕ → Type 0
-IsHashed s = s / 2 ^ 56 ≡ 4 * hash (pixel_of_lanes s)
+IsHashed s = s % 2 ^ 8 ≡ 4 * hash (pixel_of_lanes s)
 
 -- the bits of such a number that say the pixel and its index position
 abbrev pub lane_mask : ℕ
-lane_mask = 0xffff00ff00ff00ff
+lane_mask = 0xff00ff00ffff00ff
 
 -- what is added to such a number, so that red, green and blue grow by these: the index position
 -- grows with them
 abbrev pub step : ℕ → ℕ → ℕ → ℕ
-step r g b = lanes r g b + (3 * r + 5 * g + 7 * b) % positions * 2 ^ 58
+step r g b = 4 * (3 * r + 5 * g + 7 * b) % 2 ^ 8 + r * 2 ^ 24 + g * 2 ^ 40 + b % 2 ^ 8 * 2 ^ 56
+
+-- t is what the first byte b of a difference, a luma or a run adds to the number of the last pixel
+pub record IsAdded (b t : ℕ) : Type 0 where
+  pub diff : diff_tag ≤ b → b < luma_tag → t ≡ step (b / 16 % 4 + 254) (b / 4 % 4 + 254) (b % 4 + 254)
+  pub luma : luma_tag ≤ b → b < run_tag → t ≡ step (b % 64 + 216) (b % 64 + 224) (b % 64 + 216)
+  pub run : run_tag ≤ b → t ≡ 0
+
+-- The first numbers are those of pixels, one for each index position, and each later one is what a
+-- first byte adds.
+pub record AreTerms (numbers : List ℕ) : Type 0 where
+  pub places : (i : ℕ) → i < positions → IsHashed (slice_index numbers i)
+  pub others : (i : ℕ) → positions ≤ i → i < length numbers → IsAdded i (slice_index numbers i)
 
 -- The numbers hold, at each index position, the pixel that is seen there of these pixels, which
 -- were put there one after the other.

@@ -1,192 +1,199 @@
-//! What the first byte of a chunk does to the last pixel, and how many bytes its pixels have.
-ghost use Rattle.std.specs.Prelude.{◌≡◌, ◌+◌, ◌*◌, ◌-◌, ◌/◌, ◌%◌, ◌<◌, ◌≤◌};
+//! What the bytes of a chunk do to the last pixel, and how many bytes its pixels have.
+ghost use Rattle.std.specs.Prelude.{◌≡◌, IsTrue, ℕ, ◌+◌, ◌*◌, ◌-◌, ◌/◌, ◌%◌, ◌^◌, ◌<◌, ◌≤◌, nat_le, nat_lt, ◌&&◌, length, slice_index};
 ghost use Rattle.qoi.specs.Qoi.{diff_tag, luma_tag, run_tag, rgb_tag};
 ghost use Rattle.qoi.specs.Raw.{IsChannels};
-ghost use Rattle.qoi.specs.inner.Hashed.{step, lane_mask};
+ghost use Rattle.qoi.specs.inner.Hashed.{step, lane_mask, IsAdded};
 
-// Four tables indexed by byte, one after the other. One array needs one address in the decoder's
-// loop.
+use crate::consts::QOI_OP_LUMA;
+
+// What a first byte adds to four times the index position (bits 0 to 7), and to red (24 to 31),
+// green (40 to 47) and blue (56 to 63). The chunk of an index position adds nothing: it stands for
+// the pixel there, which is black and transparent at first.
 #[rattlefmt::skip]
-static STEPS: [u64; 1024] = [
-    // What a first byte adds to red (bits 0 to 15), green (16 to 31), blue (32 to 47) and the index
-    // position (58 to 63). The chunk of an index position adds nothing.
+static ADDED: [u64; 256] = [
     0, 0, 0, 0, 0, 0, 0, 0, 0, 0, 0, 0, 0, 0, 0, 0, 0, 0, 0, 0, 0, 0, 0, 0, 0, 0, 0, 0, 0, 0, 0, 0,
     0, 0, 0, 0, 0, 0, 0, 0, 0, 0, 0, 0, 0, 0, 0, 0, 0, 0, 0, 0, 0, 0, 0, 0, 0, 0, 0, 0, 0, 0, 0, 0,
     // A difference: for its bits 5-4, 3-2 and 1-0, as numbers r, g and b from 0 to 3, r + 254, g +
-    // 254 and b + 254; and 3 (r + 254) + 5 (g + 254) + 7 (b + 254) modulo 64.
-    0x8800_00fe_00fe_00fe, 0xa400_00ff_00fe_00fe, 0xc000_0100_00fe_00fe, 0xdc00_0101_00fe_00fe,
-    0x9c00_00fe_00ff_00fe, 0xb800_00ff_00ff_00fe, 0xd400_0100_00ff_00fe, 0xf000_0101_00ff_00fe,
-    0xb000_00fe_0100_00fe, 0xcc00_00ff_0100_00fe, 0xe800_0100_0100_00fe, 0x0400_0101_0100_00fe,
-    0xc400_00fe_0101_00fe, 0xe000_00ff_0101_00fe, 0xfc00_0100_0101_00fe, 0x1800_0101_0101_00fe,
-    0x9400_00fe_00fe_00ff, 0xb000_00ff_00fe_00ff, 0xcc00_0100_00fe_00ff, 0xe800_0101_00fe_00ff,
-    0xa800_00fe_00ff_00ff, 0xc400_00ff_00ff_00ff, 0xe000_0100_00ff_00ff, 0xfc00_0101_00ff_00ff,
-    0xbc00_00fe_0100_00ff, 0xd800_00ff_0100_00ff, 0xf400_0100_0100_00ff, 0x1000_0101_0100_00ff,
-    0xd000_00fe_0101_00ff, 0xec00_00ff_0101_00ff, 0x0800_0100_0101_00ff, 0x2400_0101_0101_00ff,
-    0xa000_00fe_00fe_0100, 0xbc00_00ff_00fe_0100, 0xd800_0100_00fe_0100, 0xf400_0101_00fe_0100,
-    0xb400_00fe_00ff_0100, 0xd000_00ff_00ff_0100, 0xec00_0100_00ff_0100, 0x0800_0101_00ff_0100,
-    0xc800_00fe_0100_0100, 0xe400_00ff_0100_0100, 0x0000_0100_0100_0100, 0x1c00_0101_0100_0100,
-    0xdc00_00fe_0101_0100, 0xf800_00ff_0101_0100, 0x1400_0100_0101_0100, 0x3000_0101_0101_0100,
-    0xac00_00fe_00fe_0101, 0xc800_00ff_00fe_0101, 0xe400_0100_00fe_0101, 0x0000_0101_00fe_0101,
-    0xc000_00fe_00ff_0101, 0xdc00_00ff_00ff_0101, 0xf800_0100_00ff_0101, 0x1400_0101_00ff_0101,
-    0xd400_00fe_0100_0101, 0xf000_00ff_0100_0101, 0x0c00_0100_0100_0101, 0x2800_0101_0100_0101,
-    0xe800_00fe_0101_0101, 0x0400_00ff_0101_0101, 0x2000_0100_0101_0101, 0x3c00_0101_0101_0101,
-    // A luma: for its low six bits, as a number d, d + 216, d + 224 and d + 216; and 3 (d + 216) +
-    // 5 (d + 224) + 7 (d + 216) modulo 64.
-    0x4000_00d8_00e0_00d8, 0x7c00_00d9_00e1_00d9, 0xb800_00da_00e2_00da, 0xf400_00db_00e3_00db,
-    0x3000_00dc_00e4_00dc, 0x6c00_00dd_00e5_00dd, 0xa800_00de_00e6_00de, 0xe400_00df_00e7_00df,
-    0x2000_00e0_00e8_00e0, 0x5c00_00e1_00e9_00e1, 0x9800_00e2_00ea_00e2, 0xd400_00e3_00eb_00e3,
-    0x1000_00e4_00ec_00e4, 0x4c00_00e5_00ed_00e5, 0x8800_00e6_00ee_00e6, 0xc400_00e7_00ef_00e7,
-    0x0000_00e8_00f0_00e8, 0x3c00_00e9_00f1_00e9, 0x7800_00ea_00f2_00ea, 0xb400_00eb_00f3_00eb,
-    0xf000_00ec_00f4_00ec, 0x2c00_00ed_00f5_00ed, 0x6800_00ee_00f6_00ee, 0xa400_00ef_00f7_00ef,
-    0xe000_00f0_00f8_00f0, 0x1c00_00f1_00f9_00f1, 0x5800_00f2_00fa_00f2, 0x9400_00f3_00fb_00f3,
-    0xd000_00f4_00fc_00f4, 0x0c00_00f5_00fd_00f5, 0x4800_00f6_00fe_00f6, 0x8400_00f7_00ff_00f7,
-    0xc000_00f8_0100_00f8, 0xfc00_00f9_0101_00f9, 0x3800_00fa_0102_00fa, 0x7400_00fb_0103_00fb,
-    0xb000_00fc_0104_00fc, 0xec00_00fd_0105_00fd, 0x2800_00fe_0106_00fe, 0x6400_00ff_0107_00ff,
-    0xa000_0100_0108_0100, 0xdc00_0101_0109_0101, 0x1800_0102_010a_0102, 0x5400_0103_010b_0103,
-    0x9000_0104_010c_0104, 0xcc00_0105_010d_0105, 0x0800_0106_010e_0106, 0x4400_0107_010f_0107,
-    0x8000_0108_0110_0108, 0xbc00_0109_0111_0109, 0xf800_010a_0112_010a, 0x3400_010b_0113_010b,
-    0x7000_010c_0114_010c, 0xac00_010d_0115_010d, 0xe800_010e_0116_010e, 0x2400_010f_0117_010f,
-    0x6000_0110_0118_0110, 0x9c00_0111_0119_0111, 0xd800_0112_011a_0112, 0x1400_0113_011b_0113,
-    0x5000_0114_011c_0114, 0x8c00_0115_011d_0115, 0xc800_0116_011e_0116, 0x0400_0117_011f_0117,
+    // 254 and, modulo 256, b + 254; and 4 (3 (r + 254) + 5 (g + 254) + 7 (b + 254)) modulo 256.
+    0xfe00_fe00_fe00_0088, 0xff00_fe00_fe00_00a4, 0x0000_fe00_fe00_00c0, 0x0100_fe00_fe00_00dc,
+    0xfe00_ff00_fe00_009c, 0xff00_ff00_fe00_00b8, 0x0000_ff00_fe00_00d4, 0x0100_ff00_fe00_00f0,
+    0xfe01_0000_fe00_00b0, 0xff01_0000_fe00_00cc, 0x0001_0000_fe00_00e8, 0x0101_0000_fe00_0004,
+    0xfe01_0100_fe00_00c4, 0xff01_0100_fe00_00e0, 0x0001_0100_fe00_00fc, 0x0101_0100_fe00_0018,
+    0xfe00_fe00_ff00_0094, 0xff00_fe00_ff00_00b0, 0x0000_fe00_ff00_00cc, 0x0100_fe00_ff00_00e8,
+    0xfe00_ff00_ff00_00a8, 0xff00_ff00_ff00_00c4, 0x0000_ff00_ff00_00e0, 0x0100_ff00_ff00_00fc,
+    0xfe01_0000_ff00_00bc, 0xff01_0000_ff00_00d8, 0x0001_0000_ff00_00f4, 0x0101_0000_ff00_0010,
+    0xfe01_0100_ff00_00d0, 0xff01_0100_ff00_00ec, 0x0001_0100_ff00_0008, 0x0101_0100_ff00_0024,
+    0xfe00_fe01_0000_00a0, 0xff00_fe01_0000_00bc, 0x0000_fe01_0000_00d8, 0x0100_fe01_0000_00f4,
+    0xfe00_ff01_0000_00b4, 0xff00_ff01_0000_00d0, 0x0000_ff01_0000_00ec, 0x0100_ff01_0000_0008,
+    0xfe01_0001_0000_00c8, 0xff01_0001_0000_00e4, 0x0001_0001_0000_0000, 0x0101_0001_0000_001c,
+    0xfe01_0101_0000_00dc, 0xff01_0101_0000_00f8, 0x0001_0101_0000_0014, 0x0101_0101_0000_0030,
+    0xfe00_fe01_0100_00ac, 0xff00_fe01_0100_00c8, 0x0000_fe01_0100_00e4, 0x0100_fe01_0100_0000,
+    0xfe00_ff01_0100_00c0, 0xff00_ff01_0100_00dc, 0x0000_ff01_0100_00f8, 0x0100_ff01_0100_0014,
+    0xfe01_0001_0100_00d4, 0xff01_0001_0100_00f0, 0x0001_0001_0100_000c, 0x0101_0001_0100_0028,
+    0xfe01_0101_0100_00e8, 0xff01_0101_0100_0004, 0x0001_0101_0100_0020, 0x0101_0101_0100_003c,
+    // A luma: for its low six bits, as a number d, d + 216, d + 224 and, modulo 256, d + 216; and
+    // 4 (3 (d + 216) + 5 (d + 224) + 7 (d + 216)) modulo 256.
+    0xd800_e000_d800_0040, 0xd900_e100_d900_007c, 0xda00_e200_da00_00b8, 0xdb00_e300_db00_00f4,
+    0xdc00_e400_dc00_0030, 0xdd00_e500_dd00_006c, 0xde00_e600_de00_00a8, 0xdf00_e700_df00_00e4,
+    0xe000_e800_e000_0020, 0xe100_e900_e100_005c, 0xe200_ea00_e200_0098, 0xe300_eb00_e300_00d4,
+    0xe400_ec00_e400_0010, 0xe500_ed00_e500_004c, 0xe600_ee00_e600_0088, 0xe700_ef00_e700_00c4,
+    0xe800_f000_e800_0000, 0xe900_f100_e900_003c, 0xea00_f200_ea00_0078, 0xeb00_f300_eb00_00b4,
+    0xec00_f400_ec00_00f0, 0xed00_f500_ed00_002c, 0xee00_f600_ee00_0068, 0xef00_f700_ef00_00a4,
+    0xf000_f800_f000_00e0, 0xf100_f900_f100_001c, 0xf200_fa00_f200_0058, 0xf300_fb00_f300_0094,
+    0xf400_fc00_f400_00d0, 0xf500_fd00_f500_000c, 0xf600_fe00_f600_0048, 0xf700_ff00_f700_0084,
+    0xf801_0000_f800_00c0, 0xf901_0100_f900_00fc, 0xfa01_0200_fa00_0038, 0xfb01_0300_fb00_0074,
+    0xfc01_0400_fc00_00b0, 0xfd01_0500_fd00_00ec, 0xfe01_0600_fe00_0028, 0xff01_0700_ff00_0064,
+    0x0001_0801_0000_00a0, 0x0101_0901_0100_00dc, 0x0201_0a01_0200_0018, 0x0301_0b01_0300_0054,
+    0x0401_0c01_0400_0090, 0x0501_0d01_0500_00cc, 0x0601_0e01_0600_0008, 0x0701_0f01_0700_0044,
+    0x0801_1001_0800_0080, 0x0901_1101_0900_00bc, 0x0a01_1201_0a00_00f8, 0x0b01_1301_0b00_0034,
+    0x0c01_1401_0c00_0070, 0x0d01_1501_0d00_00ac, 0x0e01_1601_0e00_00e8, 0x0f01_1701_0f00_0024,
+    0x1001_1801_1000_0060, 0x1101_1901_1100_009c, 0x1201_1a01_1200_00d8, 0x1301_1b01_1300_0014,
+    0x1401_1c01_1400_0050, 0x1501_1d01_1500_008c, 0x1601_1e01_1600_00c8, 0x1701_1f01_1700_0004,
     // A run adds nothing.
     0, 0, 0, 0, 0, 0, 0, 0, 0, 0, 0, 0, 0, 0, 0, 0, 0, 0, 0, 0, 0, 0, 0, 0, 0, 0, 0, 0, 0, 0, 0, 0,
     0, 0, 0, 0, 0, 0, 0, 0, 0, 0, 0, 0, 0, 0, 0, 0, 0, 0, 0, 0, 0, 0, 0, 0, 0, 0, 0, 0, 0, 0, 0, 0,
-    // What it keeps of the last pixel: the chunk of an index position nothing.
+];
+
+// Five tables indexed by byte, one after the other. One array needs one address in the decoder's
+// loop.
+#[rattlefmt::skip]
+static STEPS: [u64; 1280] = [
+    // What the second byte of a luma adds: for its high and its low four bits, as numbers r and b,
+    // r to red, b to blue, and 4 (3 r + 7 b) modulo 256 to four times the index position.
+    0, 0x0100_0000_0000_001c, 0x0200_0000_0000_0038, 0x0300_0000_0000_0054,
+    0x0400_0000_0000_0070, 0x0500_0000_0000_008c, 0x0600_0000_0000_00a8, 0x0700_0000_0000_00c4,
+    0x0800_0000_0000_00e0, 0x0900_0000_0000_00fc, 0x0a00_0000_0000_0018, 0x0b00_0000_0000_0034,
+    0x0c00_0000_0000_0050, 0x0d00_0000_0000_006c, 0x0e00_0000_0000_0088, 0x0f00_0000_0000_00a4,
+    0x0000_0000_0100_000c, 0x0100_0000_0100_0028, 0x0200_0000_0100_0044, 0x0300_0000_0100_0060,
+    0x0400_0000_0100_007c, 0x0500_0000_0100_0098, 0x0600_0000_0100_00b4, 0x0700_0000_0100_00d0,
+    0x0800_0000_0100_00ec, 0x0900_0000_0100_0008, 0x0a00_0000_0100_0024, 0x0b00_0000_0100_0040,
+    0x0c00_0000_0100_005c, 0x0d00_0000_0100_0078, 0x0e00_0000_0100_0094, 0x0f00_0000_0100_00b0,
+    0x0000_0000_0200_0018, 0x0100_0000_0200_0034, 0x0200_0000_0200_0050, 0x0300_0000_0200_006c,
+    0x0400_0000_0200_0088, 0x0500_0000_0200_00a4, 0x0600_0000_0200_00c0, 0x0700_0000_0200_00dc,
+    0x0800_0000_0200_00f8, 0x0900_0000_0200_0014, 0x0a00_0000_0200_0030, 0x0b00_0000_0200_004c,
+    0x0c00_0000_0200_0068, 0x0d00_0000_0200_0084, 0x0e00_0000_0200_00a0, 0x0f00_0000_0200_00bc,
+    0x0000_0000_0300_0024, 0x0100_0000_0300_0040, 0x0200_0000_0300_005c, 0x0300_0000_0300_0078,
+    0x0400_0000_0300_0094, 0x0500_0000_0300_00b0, 0x0600_0000_0300_00cc, 0x0700_0000_0300_00e8,
+    0x0800_0000_0300_0004, 0x0900_0000_0300_0020, 0x0a00_0000_0300_003c, 0x0b00_0000_0300_0058,
+    0x0c00_0000_0300_0074, 0x0d00_0000_0300_0090, 0x0e00_0000_0300_00ac, 0x0f00_0000_0300_00c8,
+    0x0000_0000_0400_0030, 0x0100_0000_0400_004c, 0x0200_0000_0400_0068, 0x0300_0000_0400_0084,
+    0x0400_0000_0400_00a0, 0x0500_0000_0400_00bc, 0x0600_0000_0400_00d8, 0x0700_0000_0400_00f4,
+    0x0800_0000_0400_0010, 0x0900_0000_0400_002c, 0x0a00_0000_0400_0048, 0x0b00_0000_0400_0064,
+    0x0c00_0000_0400_0080, 0x0d00_0000_0400_009c, 0x0e00_0000_0400_00b8, 0x0f00_0000_0400_00d4,
+    0x0000_0000_0500_003c, 0x0100_0000_0500_0058, 0x0200_0000_0500_0074, 0x0300_0000_0500_0090,
+    0x0400_0000_0500_00ac, 0x0500_0000_0500_00c8, 0x0600_0000_0500_00e4, 0x0700_0000_0500_0000,
+    0x0800_0000_0500_001c, 0x0900_0000_0500_0038, 0x0a00_0000_0500_0054, 0x0b00_0000_0500_0070,
+    0x0c00_0000_0500_008c, 0x0d00_0000_0500_00a8, 0x0e00_0000_0500_00c4, 0x0f00_0000_0500_00e0,
+    0x0000_0000_0600_0048, 0x0100_0000_0600_0064, 0x0200_0000_0600_0080, 0x0300_0000_0600_009c,
+    0x0400_0000_0600_00b8, 0x0500_0000_0600_00d4, 0x0600_0000_0600_00f0, 0x0700_0000_0600_000c,
+    0x0800_0000_0600_0028, 0x0900_0000_0600_0044, 0x0a00_0000_0600_0060, 0x0b00_0000_0600_007c,
+    0x0c00_0000_0600_0098, 0x0d00_0000_0600_00b4, 0x0e00_0000_0600_00d0, 0x0f00_0000_0600_00ec,
+    0x0000_0000_0700_0054, 0x0100_0000_0700_0070, 0x0200_0000_0700_008c, 0x0300_0000_0700_00a8,
+    0x0400_0000_0700_00c4, 0x0500_0000_0700_00e0, 0x0600_0000_0700_00fc, 0x0700_0000_0700_0018,
+    0x0800_0000_0700_0034, 0x0900_0000_0700_0050, 0x0a00_0000_0700_006c, 0x0b00_0000_0700_0088,
+    0x0c00_0000_0700_00a4, 0x0d00_0000_0700_00c0, 0x0e00_0000_0700_00dc, 0x0f00_0000_0700_00f8,
+    0x0000_0000_0800_0060, 0x0100_0000_0800_007c, 0x0200_0000_0800_0098, 0x0300_0000_0800_00b4,
+    0x0400_0000_0800_00d0, 0x0500_0000_0800_00ec, 0x0600_0000_0800_0008, 0x0700_0000_0800_0024,
+    0x0800_0000_0800_0040, 0x0900_0000_0800_005c, 0x0a00_0000_0800_0078, 0x0b00_0000_0800_0094,
+    0x0c00_0000_0800_00b0, 0x0d00_0000_0800_00cc, 0x0e00_0000_0800_00e8, 0x0f00_0000_0800_0004,
+    0x0000_0000_0900_006c, 0x0100_0000_0900_0088, 0x0200_0000_0900_00a4, 0x0300_0000_0900_00c0,
+    0x0400_0000_0900_00dc, 0x0500_0000_0900_00f8, 0x0600_0000_0900_0014, 0x0700_0000_0900_0030,
+    0x0800_0000_0900_004c, 0x0900_0000_0900_0068, 0x0a00_0000_0900_0084, 0x0b00_0000_0900_00a0,
+    0x0c00_0000_0900_00bc, 0x0d00_0000_0900_00d8, 0x0e00_0000_0900_00f4, 0x0f00_0000_0900_0010,
+    0x0000_0000_0a00_0078, 0x0100_0000_0a00_0094, 0x0200_0000_0a00_00b0, 0x0300_0000_0a00_00cc,
+    0x0400_0000_0a00_00e8, 0x0500_0000_0a00_0004, 0x0600_0000_0a00_0020, 0x0700_0000_0a00_003c,
+    0x0800_0000_0a00_0058, 0x0900_0000_0a00_0074, 0x0a00_0000_0a00_0090, 0x0b00_0000_0a00_00ac,
+    0x0c00_0000_0a00_00c8, 0x0d00_0000_0a00_00e4, 0x0e00_0000_0a00_0000, 0x0f00_0000_0a00_001c,
+    0x0000_0000_0b00_0084, 0x0100_0000_0b00_00a0, 0x0200_0000_0b00_00bc, 0x0300_0000_0b00_00d8,
+    0x0400_0000_0b00_00f4, 0x0500_0000_0b00_0010, 0x0600_0000_0b00_002c, 0x0700_0000_0b00_0048,
+    0x0800_0000_0b00_0064, 0x0900_0000_0b00_0080, 0x0a00_0000_0b00_009c, 0x0b00_0000_0b00_00b8,
+    0x0c00_0000_0b00_00d4, 0x0d00_0000_0b00_00f0, 0x0e00_0000_0b00_000c, 0x0f00_0000_0b00_0028,
+    0x0000_0000_0c00_0090, 0x0100_0000_0c00_00ac, 0x0200_0000_0c00_00c8, 0x0300_0000_0c00_00e4,
+    0x0400_0000_0c00_0000, 0x0500_0000_0c00_001c, 0x0600_0000_0c00_0038, 0x0700_0000_0c00_0054,
+    0x0800_0000_0c00_0070, 0x0900_0000_0c00_008c, 0x0a00_0000_0c00_00a8, 0x0b00_0000_0c00_00c4,
+    0x0c00_0000_0c00_00e0, 0x0d00_0000_0c00_00fc, 0x0e00_0000_0c00_0018, 0x0f00_0000_0c00_0034,
+    0x0000_0000_0d00_009c, 0x0100_0000_0d00_00b8, 0x0200_0000_0d00_00d4, 0x0300_0000_0d00_00f0,
+    0x0400_0000_0d00_000c, 0x0500_0000_0d00_0028, 0x0600_0000_0d00_0044, 0x0700_0000_0d00_0060,
+    0x0800_0000_0d00_007c, 0x0900_0000_0d00_0098, 0x0a00_0000_0d00_00b4, 0x0b00_0000_0d00_00d0,
+    0x0c00_0000_0d00_00ec, 0x0d00_0000_0d00_0008, 0x0e00_0000_0d00_0024, 0x0f00_0000_0d00_0040,
+    0x0000_0000_0e00_00a8, 0x0100_0000_0e00_00c4, 0x0200_0000_0e00_00e0, 0x0300_0000_0e00_00fc,
+    0x0400_0000_0e00_0018, 0x0500_0000_0e00_0034, 0x0600_0000_0e00_0050, 0x0700_0000_0e00_006c,
+    0x0800_0000_0e00_0088, 0x0900_0000_0e00_00a4, 0x0a00_0000_0e00_00c0, 0x0b00_0000_0e00_00dc,
+    0x0c00_0000_0e00_00f8, 0x0d00_0000_0e00_0014, 0x0e00_0000_0e00_0030, 0x0f00_0000_0e00_004c,
+    0x0000_0000_0f00_00b4, 0x0100_0000_0f00_00d0, 0x0200_0000_0f00_00ec, 0x0300_0000_0f00_0008,
+    0x0400_0000_0f00_0024, 0x0500_0000_0f00_0040, 0x0600_0000_0f00_005c, 0x0700_0000_0f00_0078,
+    0x0800_0000_0f00_0094, 0x0900_0000_0f00_00b0, 0x0a00_0000_0f00_00cc, 0x0b00_0000_0f00_00e8,
+    0x0c00_0000_0f00_0004, 0x0d00_0000_0f00_0020, 0x0e00_0000_0f00_003c, 0x0f00_0000_0f00_0058,
+    // What a first byte keeps of the last pixel: the chunk of an index position nothing.
     0, 0, 0, 0, 0, 0, 0, 0, 0, 0, 0, 0, 0, 0, 0, 0, 0, 0, 0, 0, 0, 0, 0, 0, 0, 0, 0, 0, 0, 0, 0, 0,
     0, 0, 0, 0, 0, 0, 0, 0, 0, 0, 0, 0, 0, 0, 0, 0, 0, 0, 0, 0, 0, 0, 0, 0, 0, 0, 0, 0, 0, 0, 0, 0,
     // Any other byte keeps the channels and the index position, without what stands above red,
-    // green and blue in their lanes.
-    0xffff_00ff_00ff_00ff, 0xffff_00ff_00ff_00ff, 0xffff_00ff_00ff_00ff, 0xffff_00ff_00ff_00ff,
-    0xffff_00ff_00ff_00ff, 0xffff_00ff_00ff_00ff, 0xffff_00ff_00ff_00ff, 0xffff_00ff_00ff_00ff,
-    0xffff_00ff_00ff_00ff, 0xffff_00ff_00ff_00ff, 0xffff_00ff_00ff_00ff, 0xffff_00ff_00ff_00ff,
-    0xffff_00ff_00ff_00ff, 0xffff_00ff_00ff_00ff, 0xffff_00ff_00ff_00ff, 0xffff_00ff_00ff_00ff,
-    0xffff_00ff_00ff_00ff, 0xffff_00ff_00ff_00ff, 0xffff_00ff_00ff_00ff, 0xffff_00ff_00ff_00ff,
-    0xffff_00ff_00ff_00ff, 0xffff_00ff_00ff_00ff, 0xffff_00ff_00ff_00ff, 0xffff_00ff_00ff_00ff,
-    0xffff_00ff_00ff_00ff, 0xffff_00ff_00ff_00ff, 0xffff_00ff_00ff_00ff, 0xffff_00ff_00ff_00ff,
-    0xffff_00ff_00ff_00ff, 0xffff_00ff_00ff_00ff, 0xffff_00ff_00ff_00ff, 0xffff_00ff_00ff_00ff,
-    0xffff_00ff_00ff_00ff, 0xffff_00ff_00ff_00ff, 0xffff_00ff_00ff_00ff, 0xffff_00ff_00ff_00ff,
-    0xffff_00ff_00ff_00ff, 0xffff_00ff_00ff_00ff, 0xffff_00ff_00ff_00ff, 0xffff_00ff_00ff_00ff,
-    0xffff_00ff_00ff_00ff, 0xffff_00ff_00ff_00ff, 0xffff_00ff_00ff_00ff, 0xffff_00ff_00ff_00ff,
-    0xffff_00ff_00ff_00ff, 0xffff_00ff_00ff_00ff, 0xffff_00ff_00ff_00ff, 0xffff_00ff_00ff_00ff,
-    0xffff_00ff_00ff_00ff, 0xffff_00ff_00ff_00ff, 0xffff_00ff_00ff_00ff, 0xffff_00ff_00ff_00ff,
-    0xffff_00ff_00ff_00ff, 0xffff_00ff_00ff_00ff, 0xffff_00ff_00ff_00ff, 0xffff_00ff_00ff_00ff,
-    0xffff_00ff_00ff_00ff, 0xffff_00ff_00ff_00ff, 0xffff_00ff_00ff_00ff, 0xffff_00ff_00ff_00ff,
-    0xffff_00ff_00ff_00ff, 0xffff_00ff_00ff_00ff, 0xffff_00ff_00ff_00ff, 0xffff_00ff_00ff_00ff,
-    0xffff_00ff_00ff_00ff, 0xffff_00ff_00ff_00ff, 0xffff_00ff_00ff_00ff, 0xffff_00ff_00ff_00ff,
-    0xffff_00ff_00ff_00ff, 0xffff_00ff_00ff_00ff, 0xffff_00ff_00ff_00ff, 0xffff_00ff_00ff_00ff,
-    0xffff_00ff_00ff_00ff, 0xffff_00ff_00ff_00ff, 0xffff_00ff_00ff_00ff, 0xffff_00ff_00ff_00ff,
-    0xffff_00ff_00ff_00ff, 0xffff_00ff_00ff_00ff, 0xffff_00ff_00ff_00ff, 0xffff_00ff_00ff_00ff,
-    0xffff_00ff_00ff_00ff, 0xffff_00ff_00ff_00ff, 0xffff_00ff_00ff_00ff, 0xffff_00ff_00ff_00ff,
-    0xffff_00ff_00ff_00ff, 0xffff_00ff_00ff_00ff, 0xffff_00ff_00ff_00ff, 0xffff_00ff_00ff_00ff,
-    0xffff_00ff_00ff_00ff, 0xffff_00ff_00ff_00ff, 0xffff_00ff_00ff_00ff, 0xffff_00ff_00ff_00ff,
-    0xffff_00ff_00ff_00ff, 0xffff_00ff_00ff_00ff, 0xffff_00ff_00ff_00ff, 0xffff_00ff_00ff_00ff,
-    0xffff_00ff_00ff_00ff, 0xffff_00ff_00ff_00ff, 0xffff_00ff_00ff_00ff, 0xffff_00ff_00ff_00ff,
-    0xffff_00ff_00ff_00ff, 0xffff_00ff_00ff_00ff, 0xffff_00ff_00ff_00ff, 0xffff_00ff_00ff_00ff,
-    0xffff_00ff_00ff_00ff, 0xffff_00ff_00ff_00ff, 0xffff_00ff_00ff_00ff, 0xffff_00ff_00ff_00ff,
-    0xffff_00ff_00ff_00ff, 0xffff_00ff_00ff_00ff, 0xffff_00ff_00ff_00ff, 0xffff_00ff_00ff_00ff,
-    0xffff_00ff_00ff_00ff, 0xffff_00ff_00ff_00ff, 0xffff_00ff_00ff_00ff, 0xffff_00ff_00ff_00ff,
-    0xffff_00ff_00ff_00ff, 0xffff_00ff_00ff_00ff, 0xffff_00ff_00ff_00ff, 0xffff_00ff_00ff_00ff,
-    0xffff_00ff_00ff_00ff, 0xffff_00ff_00ff_00ff, 0xffff_00ff_00ff_00ff, 0xffff_00ff_00ff_00ff,
-    0xffff_00ff_00ff_00ff, 0xffff_00ff_00ff_00ff, 0xffff_00ff_00ff_00ff, 0xffff_00ff_00ff_00ff,
-    0xffff_00ff_00ff_00ff, 0xffff_00ff_00ff_00ff, 0xffff_00ff_00ff_00ff, 0xffff_00ff_00ff_00ff,
-    0xffff_00ff_00ff_00ff, 0xffff_00ff_00ff_00ff, 0xffff_00ff_00ff_00ff, 0xffff_00ff_00ff_00ff,
-    0xffff_00ff_00ff_00ff, 0xffff_00ff_00ff_00ff, 0xffff_00ff_00ff_00ff, 0xffff_00ff_00ff_00ff,
-    0xffff_00ff_00ff_00ff, 0xffff_00ff_00ff_00ff, 0xffff_00ff_00ff_00ff, 0xffff_00ff_00ff_00ff,
-    0xffff_00ff_00ff_00ff, 0xffff_00ff_00ff_00ff, 0xffff_00ff_00ff_00ff, 0xffff_00ff_00ff_00ff,
-    0xffff_00ff_00ff_00ff, 0xffff_00ff_00ff_00ff, 0xffff_00ff_00ff_00ff, 0xffff_00ff_00ff_00ff,
-    0xffff_00ff_00ff_00ff, 0xffff_00ff_00ff_00ff, 0xffff_00ff_00ff_00ff, 0xffff_00ff_00ff_00ff,
-    0xffff_00ff_00ff_00ff, 0xffff_00ff_00ff_00ff, 0xffff_00ff_00ff_00ff, 0xffff_00ff_00ff_00ff,
-    0xffff_00ff_00ff_00ff, 0xffff_00ff_00ff_00ff, 0xffff_00ff_00ff_00ff, 0xffff_00ff_00ff_00ff,
-    0xffff_00ff_00ff_00ff, 0xffff_00ff_00ff_00ff, 0xffff_00ff_00ff_00ff, 0xffff_00ff_00ff_00ff,
-    0xffff_00ff_00ff_00ff, 0xffff_00ff_00ff_00ff, 0xffff_00ff_00ff_00ff, 0xffff_00ff_00ff_00ff,
-    0xffff_00ff_00ff_00ff, 0xffff_00ff_00ff_00ff, 0xffff_00ff_00ff_00ff, 0xffff_00ff_00ff_00ff,
-    0xffff_00ff_00ff_00ff, 0xffff_00ff_00ff_00ff, 0xffff_00ff_00ff_00ff, 0xffff_00ff_00ff_00ff,
-    0xffff_00ff_00ff_00ff, 0xffff_00ff_00ff_00ff, 0xffff_00ff_00ff_00ff, 0xffff_00ff_00ff_00ff,
-    0xffff_00ff_00ff_00ff, 0xffff_00ff_00ff_00ff, 0xffff_00ff_00ff_00ff, 0xffff_00ff_00ff_00ff,
-    0xffff_00ff_00ff_00ff, 0xffff_00ff_00ff_00ff, 0xffff_00ff_00ff_00ff, 0xffff_00ff_00ff_00ff,
-    // Which bits of the byte after it count: all eight for lumas, else none.
+    // green and the index position.
+    0xff00_ff00_ffff_00ff, 0xff00_ff00_ffff_00ff, 0xff00_ff00_ffff_00ff, 0xff00_ff00_ffff_00ff,
+    0xff00_ff00_ffff_00ff, 0xff00_ff00_ffff_00ff, 0xff00_ff00_ffff_00ff, 0xff00_ff00_ffff_00ff,
+    0xff00_ff00_ffff_00ff, 0xff00_ff00_ffff_00ff, 0xff00_ff00_ffff_00ff, 0xff00_ff00_ffff_00ff,
+    0xff00_ff00_ffff_00ff, 0xff00_ff00_ffff_00ff, 0xff00_ff00_ffff_00ff, 0xff00_ff00_ffff_00ff,
+    0xff00_ff00_ffff_00ff, 0xff00_ff00_ffff_00ff, 0xff00_ff00_ffff_00ff, 0xff00_ff00_ffff_00ff,
+    0xff00_ff00_ffff_00ff, 0xff00_ff00_ffff_00ff, 0xff00_ff00_ffff_00ff, 0xff00_ff00_ffff_00ff,
+    0xff00_ff00_ffff_00ff, 0xff00_ff00_ffff_00ff, 0xff00_ff00_ffff_00ff, 0xff00_ff00_ffff_00ff,
+    0xff00_ff00_ffff_00ff, 0xff00_ff00_ffff_00ff, 0xff00_ff00_ffff_00ff, 0xff00_ff00_ffff_00ff,
+    0xff00_ff00_ffff_00ff, 0xff00_ff00_ffff_00ff, 0xff00_ff00_ffff_00ff, 0xff00_ff00_ffff_00ff,
+    0xff00_ff00_ffff_00ff, 0xff00_ff00_ffff_00ff, 0xff00_ff00_ffff_00ff, 0xff00_ff00_ffff_00ff,
+    0xff00_ff00_ffff_00ff, 0xff00_ff00_ffff_00ff, 0xff00_ff00_ffff_00ff, 0xff00_ff00_ffff_00ff,
+    0xff00_ff00_ffff_00ff, 0xff00_ff00_ffff_00ff, 0xff00_ff00_ffff_00ff, 0xff00_ff00_ffff_00ff,
+    0xff00_ff00_ffff_00ff, 0xff00_ff00_ffff_00ff, 0xff00_ff00_ffff_00ff, 0xff00_ff00_ffff_00ff,
+    0xff00_ff00_ffff_00ff, 0xff00_ff00_ffff_00ff, 0xff00_ff00_ffff_00ff, 0xff00_ff00_ffff_00ff,
+    0xff00_ff00_ffff_00ff, 0xff00_ff00_ffff_00ff, 0xff00_ff00_ffff_00ff, 0xff00_ff00_ffff_00ff,
+    0xff00_ff00_ffff_00ff, 0xff00_ff00_ffff_00ff, 0xff00_ff00_ffff_00ff, 0xff00_ff00_ffff_00ff,
+    0xff00_ff00_ffff_00ff, 0xff00_ff00_ffff_00ff, 0xff00_ff00_ffff_00ff, 0xff00_ff00_ffff_00ff,
+    0xff00_ff00_ffff_00ff, 0xff00_ff00_ffff_00ff, 0xff00_ff00_ffff_00ff, 0xff00_ff00_ffff_00ff,
+    0xff00_ff00_ffff_00ff, 0xff00_ff00_ffff_00ff, 0xff00_ff00_ffff_00ff, 0xff00_ff00_ffff_00ff,
+    0xff00_ff00_ffff_00ff, 0xff00_ff00_ffff_00ff, 0xff00_ff00_ffff_00ff, 0xff00_ff00_ffff_00ff,
+    0xff00_ff00_ffff_00ff, 0xff00_ff00_ffff_00ff, 0xff00_ff00_ffff_00ff, 0xff00_ff00_ffff_00ff,
+    0xff00_ff00_ffff_00ff, 0xff00_ff00_ffff_00ff, 0xff00_ff00_ffff_00ff, 0xff00_ff00_ffff_00ff,
+    0xff00_ff00_ffff_00ff, 0xff00_ff00_ffff_00ff, 0xff00_ff00_ffff_00ff, 0xff00_ff00_ffff_00ff,
+    0xff00_ff00_ffff_00ff, 0xff00_ff00_ffff_00ff, 0xff00_ff00_ffff_00ff, 0xff00_ff00_ffff_00ff,
+    0xff00_ff00_ffff_00ff, 0xff00_ff00_ffff_00ff, 0xff00_ff00_ffff_00ff, 0xff00_ff00_ffff_00ff,
+    0xff00_ff00_ffff_00ff, 0xff00_ff00_ffff_00ff, 0xff00_ff00_ffff_00ff, 0xff00_ff00_ffff_00ff,
+    0xff00_ff00_ffff_00ff, 0xff00_ff00_ffff_00ff, 0xff00_ff00_ffff_00ff, 0xff00_ff00_ffff_00ff,
+    0xff00_ff00_ffff_00ff, 0xff00_ff00_ffff_00ff, 0xff00_ff00_ffff_00ff, 0xff00_ff00_ffff_00ff,
+    0xff00_ff00_ffff_00ff, 0xff00_ff00_ffff_00ff, 0xff00_ff00_ffff_00ff, 0xff00_ff00_ffff_00ff,
+    0xff00_ff00_ffff_00ff, 0xff00_ff00_ffff_00ff, 0xff00_ff00_ffff_00ff, 0xff00_ff00_ffff_00ff,
+    0xff00_ff00_ffff_00ff, 0xff00_ff00_ffff_00ff, 0xff00_ff00_ffff_00ff, 0xff00_ff00_ffff_00ff,
+    0xff00_ff00_ffff_00ff, 0xff00_ff00_ffff_00ff, 0xff00_ff00_ffff_00ff, 0xff00_ff00_ffff_00ff,
+    0xff00_ff00_ffff_00ff, 0xff00_ff00_ffff_00ff, 0xff00_ff00_ffff_00ff, 0xff00_ff00_ffff_00ff,
+    0xff00_ff00_ffff_00ff, 0xff00_ff00_ffff_00ff, 0xff00_ff00_ffff_00ff, 0xff00_ff00_ffff_00ff,
+    0xff00_ff00_ffff_00ff, 0xff00_ff00_ffff_00ff, 0xff00_ff00_ffff_00ff, 0xff00_ff00_ffff_00ff,
+    0xff00_ff00_ffff_00ff, 0xff00_ff00_ffff_00ff, 0xff00_ff00_ffff_00ff, 0xff00_ff00_ffff_00ff,
+    0xff00_ff00_ffff_00ff, 0xff00_ff00_ffff_00ff, 0xff00_ff00_ffff_00ff, 0xff00_ff00_ffff_00ff,
+    0xff00_ff00_ffff_00ff, 0xff00_ff00_ffff_00ff, 0xff00_ff00_ffff_00ff, 0xff00_ff00_ffff_00ff,
+    0xff00_ff00_ffff_00ff, 0xff00_ff00_ffff_00ff, 0xff00_ff00_ffff_00ff, 0xff00_ff00_ffff_00ff,
+    0xff00_ff00_ffff_00ff, 0xff00_ff00_ffff_00ff, 0xff00_ff00_ffff_00ff, 0xff00_ff00_ffff_00ff,
+    0xff00_ff00_ffff_00ff, 0xff00_ff00_ffff_00ff, 0xff00_ff00_ffff_00ff, 0xff00_ff00_ffff_00ff,
+    0xff00_ff00_ffff_00ff, 0xff00_ff00_ffff_00ff, 0xff00_ff00_ffff_00ff, 0xff00_ff00_ffff_00ff,
+    0xff00_ff00_ffff_00ff, 0xff00_ff00_ffff_00ff, 0xff00_ff00_ffff_00ff, 0xff00_ff00_ffff_00ff,
+    0xff00_ff00_ffff_00ff, 0xff00_ff00_ffff_00ff, 0xff00_ff00_ffff_00ff, 0xff00_ff00_ffff_00ff,
+    0xff00_ff00_ffff_00ff, 0xff00_ff00_ffff_00ff, 0xff00_ff00_ffff_00ff, 0xff00_ff00_ffff_00ff,
+    0xff00_ff00_ffff_00ff, 0xff00_ff00_ffff_00ff, 0xff00_ff00_ffff_00ff, 0xff00_ff00_ffff_00ff,
+    0xff00_ff00_ffff_00ff, 0xff00_ff00_ffff_00ff, 0xff00_ff00_ffff_00ff, 0xff00_ff00_ffff_00ff,
+    0xff00_ff00_ffff_00ff, 0xff00_ff00_ffff_00ff, 0xff00_ff00_ffff_00ff, 0xff00_ff00_ffff_00ff,
+    // What counts of that: all bits after the first byte of a luma, else none.
     0, 0, 0, 0, 0, 0, 0, 0, 0, 0, 0, 0, 0, 0, 0, 0, 0, 0, 0, 0, 0, 0, 0, 0, 0, 0, 0, 0, 0, 0, 0, 0,
     0, 0, 0, 0, 0, 0, 0, 0, 0, 0, 0, 0, 0, 0, 0, 0, 0, 0, 0, 0, 0, 0, 0, 0, 0, 0, 0, 0, 0, 0, 0, 0,
     0, 0, 0, 0, 0, 0, 0, 0, 0, 0, 0, 0, 0, 0, 0, 0, 0, 0, 0, 0, 0, 0, 0, 0, 0, 0, 0, 0, 0, 0, 0, 0,
     0, 0, 0, 0, 0, 0, 0, 0, 0, 0, 0, 0, 0, 0, 0, 0, 0, 0, 0, 0, 0, 0, 0, 0, 0, 0, 0, 0, 0, 0, 0, 0,
-    255, 255, 255, 255, 255, 255, 255, 255, 255, 255, 255, 255, 255, 255, 255, 255,
-    255, 255, 255, 255, 255, 255, 255, 255, 255, 255, 255, 255, 255, 255, 255, 255,
-    255, 255, 255, 255, 255, 255, 255, 255, 255, 255, 255, 255, 255, 255, 255, 255,
-    255, 255, 255, 255, 255, 255, 255, 255, 255, 255, 255, 255, 255, 255, 255, 255,
+    u64::MAX, u64::MAX, u64::MAX, u64::MAX, u64::MAX, u64::MAX, u64::MAX, u64::MAX,
+    u64::MAX, u64::MAX, u64::MAX, u64::MAX, u64::MAX, u64::MAX, u64::MAX, u64::MAX,
+    u64::MAX, u64::MAX, u64::MAX, u64::MAX, u64::MAX, u64::MAX, u64::MAX, u64::MAX,
+    u64::MAX, u64::MAX, u64::MAX, u64::MAX, u64::MAX, u64::MAX, u64::MAX, u64::MAX,
+    u64::MAX, u64::MAX, u64::MAX, u64::MAX, u64::MAX, u64::MAX, u64::MAX, u64::MAX,
+    u64::MAX, u64::MAX, u64::MAX, u64::MAX, u64::MAX, u64::MAX, u64::MAX, u64::MAX,
+    u64::MAX, u64::MAX, u64::MAX, u64::MAX, u64::MAX, u64::MAX, u64::MAX, u64::MAX,
+    u64::MAX, u64::MAX, u64::MAX, u64::MAX, u64::MAX, u64::MAX, u64::MAX, u64::MAX,
     0, 0, 0, 0, 0, 0, 0, 0, 0, 0, 0, 0, 0, 0, 0, 0, 0, 0, 0, 0, 0, 0, 0, 0, 0, 0, 0, 0, 0, 0, 0, 0,
     0, 0, 0, 0, 0, 0, 0, 0, 0, 0, 0, 0, 0, 0, 0, 0, 0, 0, 0, 0, 0, 0, 0, 0, 0, 0, 0, 0, 0, 0, 0, 0,
-    // What that byte adds: for its high and its low four bits, as numbers r and b, r to red, b to
-    // blue, and 3 r + 7 b modulo 64 to the index position.
-    0, 0x1c00_0001_0000_0000, 0x3800_0002_0000_0000, 0x5400_0003_0000_0000,
-    0x7000_0004_0000_0000, 0x8c00_0005_0000_0000, 0xa800_0006_0000_0000, 0xc400_0007_0000_0000,
-    0xe000_0008_0000_0000, 0xfc00_0009_0000_0000, 0x1800_000a_0000_0000, 0x3400_000b_0000_0000,
-    0x5000_000c_0000_0000, 0x6c00_000d_0000_0000, 0x8800_000e_0000_0000, 0xa400_000f_0000_0000,
-    0x0c00_0000_0000_0001, 0x2800_0001_0000_0001, 0x4400_0002_0000_0001, 0x6000_0003_0000_0001,
-    0x7c00_0004_0000_0001, 0x9800_0005_0000_0001, 0xb400_0006_0000_0001, 0xd000_0007_0000_0001,
-    0xec00_0008_0000_0001, 0x0800_0009_0000_0001, 0x2400_000a_0000_0001, 0x4000_000b_0000_0001,
-    0x5c00_000c_0000_0001, 0x7800_000d_0000_0001, 0x9400_000e_0000_0001, 0xb000_000f_0000_0001,
-    0x1800_0000_0000_0002, 0x3400_0001_0000_0002, 0x5000_0002_0000_0002, 0x6c00_0003_0000_0002,
-    0x8800_0004_0000_0002, 0xa400_0005_0000_0002, 0xc000_0006_0000_0002, 0xdc00_0007_0000_0002,
-    0xf800_0008_0000_0002, 0x1400_0009_0000_0002, 0x3000_000a_0000_0002, 0x4c00_000b_0000_0002,
-    0x6800_000c_0000_0002, 0x8400_000d_0000_0002, 0xa000_000e_0000_0002, 0xbc00_000f_0000_0002,
-    0x2400_0000_0000_0003, 0x4000_0001_0000_0003, 0x5c00_0002_0000_0003, 0x7800_0003_0000_0003,
-    0x9400_0004_0000_0003, 0xb000_0005_0000_0003, 0xcc00_0006_0000_0003, 0xe800_0007_0000_0003,
-    0x0400_0008_0000_0003, 0x2000_0009_0000_0003, 0x3c00_000a_0000_0003, 0x5800_000b_0000_0003,
-    0x7400_000c_0000_0003, 0x9000_000d_0000_0003, 0xac00_000e_0000_0003, 0xc800_000f_0000_0003,
-    0x3000_0000_0000_0004, 0x4c00_0001_0000_0004, 0x6800_0002_0000_0004, 0x8400_0003_0000_0004,
-    0xa000_0004_0000_0004, 0xbc00_0005_0000_0004, 0xd800_0006_0000_0004, 0xf400_0007_0000_0004,
-    0x1000_0008_0000_0004, 0x2c00_0009_0000_0004, 0x4800_000a_0000_0004, 0x6400_000b_0000_0004,
-    0x8000_000c_0000_0004, 0x9c00_000d_0000_0004, 0xb800_000e_0000_0004, 0xd400_000f_0000_0004,
-    0x3c00_0000_0000_0005, 0x5800_0001_0000_0005, 0x7400_0002_0000_0005, 0x9000_0003_0000_0005,
-    0xac00_0004_0000_0005, 0xc800_0005_0000_0005, 0xe400_0006_0000_0005, 0x0000_0007_0000_0005,
-    0x1c00_0008_0000_0005, 0x3800_0009_0000_0005, 0x5400_000a_0000_0005, 0x7000_000b_0000_0005,
-    0x8c00_000c_0000_0005, 0xa800_000d_0000_0005, 0xc400_000e_0000_0005, 0xe000_000f_0000_0005,
-    0x4800_0000_0000_0006, 0x6400_0001_0000_0006, 0x8000_0002_0000_0006, 0x9c00_0003_0000_0006,
-    0xb800_0004_0000_0006, 0xd400_0005_0000_0006, 0xf000_0006_0000_0006, 0x0c00_0007_0000_0006,
-    0x2800_0008_0000_0006, 0x4400_0009_0000_0006, 0x6000_000a_0000_0006, 0x7c00_000b_0000_0006,
-    0x9800_000c_0000_0006, 0xb400_000d_0000_0006, 0xd000_000e_0000_0006, 0xec00_000f_0000_0006,
-    0x5400_0000_0000_0007, 0x7000_0001_0000_0007, 0x8c00_0002_0000_0007, 0xa800_0003_0000_0007,
-    0xc400_0004_0000_0007, 0xe000_0005_0000_0007, 0xfc00_0006_0000_0007, 0x1800_0007_0000_0007,
-    0x3400_0008_0000_0007, 0x5000_0009_0000_0007, 0x6c00_000a_0000_0007, 0x8800_000b_0000_0007,
-    0xa400_000c_0000_0007, 0xc000_000d_0000_0007, 0xdc00_000e_0000_0007, 0xf800_000f_0000_0007,
-    0x6000_0000_0000_0008, 0x7c00_0001_0000_0008, 0x9800_0002_0000_0008, 0xb400_0003_0000_0008,
-    0xd000_0004_0000_0008, 0xec00_0005_0000_0008, 0x0800_0006_0000_0008, 0x2400_0007_0000_0008,
-    0x4000_0008_0000_0008, 0x5c00_0009_0000_0008, 0x7800_000a_0000_0008, 0x9400_000b_0000_0008,
-    0xb000_000c_0000_0008, 0xcc00_000d_0000_0008, 0xe800_000e_0000_0008, 0x0400_000f_0000_0008,
-    0x6c00_0000_0000_0009, 0x8800_0001_0000_0009, 0xa400_0002_0000_0009, 0xc000_0003_0000_0009,
-    0xdc00_0004_0000_0009, 0xf800_0005_0000_0009, 0x1400_0006_0000_0009, 0x3000_0007_0000_0009,
-    0x4c00_0008_0000_0009, 0x6800_0009_0000_0009, 0x8400_000a_0000_0009, 0xa000_000b_0000_0009,
-    0xbc00_000c_0000_0009, 0xd800_000d_0000_0009, 0xf400_000e_0000_0009, 0x1000_000f_0000_0009,
-    0x7800_0000_0000_000a, 0x9400_0001_0000_000a, 0xb000_0002_0000_000a, 0xcc00_0003_0000_000a,
-    0xe800_0004_0000_000a, 0x0400_0005_0000_000a, 0x2000_0006_0000_000a, 0x3c00_0007_0000_000a,
-    0x5800_0008_0000_000a, 0x7400_0009_0000_000a, 0x9000_000a_0000_000a, 0xac00_000b_0000_000a,
-    0xc800_000c_0000_000a, 0xe400_000d_0000_000a, 0x0000_000e_0000_000a, 0x1c00_000f_0000_000a,
-    0x8400_0000_0000_000b, 0xa000_0001_0000_000b, 0xbc00_0002_0000_000b, 0xd800_0003_0000_000b,
-    0xf400_0004_0000_000b, 0x1000_0005_0000_000b, 0x2c00_0006_0000_000b, 0x4800_0007_0000_000b,
-    0x6400_0008_0000_000b, 0x8000_0009_0000_000b, 0x9c00_000a_0000_000b, 0xb800_000b_0000_000b,
-    0xd400_000c_0000_000b, 0xf000_000d_0000_000b, 0x0c00_000e_0000_000b, 0x2800_000f_0000_000b,
-    0x9000_0000_0000_000c, 0xac00_0001_0000_000c, 0xc800_0002_0000_000c, 0xe400_0003_0000_000c,
-    0x0000_0004_0000_000c, 0x1c00_0005_0000_000c, 0x3800_0006_0000_000c, 0x5400_0007_0000_000c,
-    0x7000_0008_0000_000c, 0x8c00_0009_0000_000c, 0xa800_000a_0000_000c, 0xc400_000b_0000_000c,
-    0xe000_000c_0000_000c, 0xfc00_000d_0000_000c, 0x1800_000e_0000_000c, 0x3400_000f_0000_000c,
-    0x9c00_0000_0000_000d, 0xb800_0001_0000_000d, 0xd400_0002_0000_000d, 0xf000_0003_0000_000d,
-    0x0c00_0004_0000_000d, 0x2800_0005_0000_000d, 0x4400_0006_0000_000d, 0x6000_0007_0000_000d,
-    0x7c00_0008_0000_000d, 0x9800_0009_0000_000d, 0xb400_000a_0000_000d, 0xd000_000b_0000_000d,
-    0xec00_000c_0000_000d, 0x0800_000d_0000_000d, 0x2400_000e_0000_000d, 0x4000_000f_0000_000d,
-    0xa800_0000_0000_000e, 0xc400_0001_0000_000e, 0xe000_0002_0000_000e, 0xfc00_0003_0000_000e,
-    0x1800_0004_0000_000e, 0x3400_0005_0000_000e, 0x5000_0006_0000_000e, 0x6c00_0007_0000_000e,
-    0x8800_0008_0000_000e, 0xa400_0009_0000_000e, 0xc000_000a_0000_000e, 0xdc00_000b_0000_000e,
-    0xf800_000c_0000_000e, 0x1400_000d_0000_000e, 0x3000_000e_0000_000e, 0x4c00_000f_0000_000e,
-    0xb400_0000_0000_000f, 0xd000_0001_0000_000f, 0xec00_0002_0000_000f, 0x0800_0003_0000_000f,
-    0x2400_0004_0000_000f, 0x4000_0005_0000_000f, 0x5c00_0006_0000_000f, 0x7800_0007_0000_000f,
-    0x9400_0008_0000_000f, 0xb000_0009_0000_000f, 0xcc00_000a_0000_000f, 0xe800_000b_0000_000f,
-    0x0400_000c_0000_000f, 0x2000_000d_0000_000f, 0x3c00_000e_0000_000f, 0x5800_000f_0000_000f,
-];
-
-// How many bytes the pixels of a chunk have in three channels, by its first byte: 3 of one pixel,
-// and 3 for each pixel of a run.
-#[rattlefmt::skip]
-static ADVANCE3: [u64; 256] = [
+    // How many bytes the pixels of a chunk have in three channels, by its first byte: 3 of one
+    // pixel, and 3 for each pixel of a run.
     3, 3, 3, 3, 3, 3, 3, 3, 3, 3, 3, 3, 3, 3, 3, 3,
     3, 3, 3, 3, 3, 3, 3, 3, 3, 3, 3, 3, 3, 3, 3, 3,
     3, 3, 3, 3, 3, 3, 3, 3, 3, 3, 3, 3, 3, 3, 3, 3,
@@ -203,12 +210,7 @@ static ADVANCE3: [u64; 256] = [
     51, 54, 57, 60, 63, 66, 69, 72, 75, 78, 81, 84, 87, 90, 93, 96,
     99, 102, 105, 108, 111, 114, 117, 120, 123, 126, 129, 132, 135, 138, 141, 144,
     147, 150, 153, 156, 159, 162, 165, 168, 171, 174, 177, 180, 183, 186, 3, 3,
-];
-
-// How many bytes the pixels of a chunk have in four channels, by its first byte: 4 of one pixel,
-// and 4 for each pixel of a run.
-#[rattlefmt::skip]
-static ADVANCE4: [u64; 256] = [
+    // The same in four channels.
     4, 4, 4, 4, 4, 4, 4, 4, 4, 4, 4, 4, 4, 4, 4, 4,
     4, 4, 4, 4, 4, 4, 4, 4, 4, 4, 4, 4, 4, 4, 4, 4,
     4, 4, 4, 4, 4, 4, 4, 4, 4, 4, 4, 4, 4, 4, 4, 4,
@@ -227,21 +229,34 @@ static ADVANCE4: [u64; 256] = [
     196, 200, 204, 208, 212, 216, 220, 224, 228, 232, 236, 240, 244, 248, 4, 4,
 ];
 
-// What a first byte adds (QOI specification 1.0, "QOI_OP_DIFF" and "QOI_OP_LUMA").
+/// Whether a chunk with this first byte is a luma.
 #[inline(always)]
-pub(super) fn added(b1: usize) -> u64
-    requires { b1 < 256 }
-    ensures place { b1 < diff_tag → result ≡ 0 }
-    ensures diff { diff_tag ≤ b1 → b1 < luma_tag
-        → result ≡ step (b1 / 16 % 4 + 254) (b1 / 4 % 4 + 254) (b1 % 4 + 254) }
-    ensures luma { luma_tag ≤ b1 → b1 < run_tag
-        → result ≡ step (b1 % 64 + 216) (b1 % 64 + 224) (b1 % 64 + 216) }
-    ensures run { run_tag ≤ b1 → result ≡ 0 }
+pub(super) fn is_luma(b1: u8) -> bool
+    ensures { result ≡ (nat_le luma_tag b1 && nat_lt b1 run_tag) }
 {
-    STEPS[b1]
+    b1.wrapping_sub(QOI_OP_LUMA) < 64
 }
 
-// What a first byte keeps of the last pixel.
+/// What the first bytes add, and 0 for those of index positions.
+#[inline(always)]
+pub(super) fn all_added() -> [u64; 256]
+    ensures places { (i : ℕ) → i < diff_tag → slice_index result i ≡ 0 }
+    ensures others { (i : ℕ) → diff_tag ≤ i → i < 256 → IsAdded i (slice_index result i) }
+{
+    ADDED
+}
+
+/// What a first byte adds that isn't an index position's (QOI specification 1.0, "QOI_OP_DIFF" and
+/// "QOI_OP_LUMA").
+#[inline(always)]
+pub(super) fn added(b1: usize) -> u64
+    requires { (diff_tag ≤ b1) × (b1 < 256) }
+    ensures { IsAdded b1 result }
+{
+    ADDED[b1]
+}
+
+/// What a first byte keeps of the last pixel.
 #[inline(always)]
 pub(super) fn kept(b1: usize) -> u64
     requires { b1 < 256 }
@@ -251,27 +266,27 @@ pub(super) fn kept(b1: usize) -> u64
     STEPS[256 + b1]
 }
 
-// Which bits of the byte after it count.
+/// What counts of the number that the byte after it adds.
 #[inline(always)]
 pub(super) fn second(b1: usize) -> u64
     requires { b1 < 256 }
+    ensures luma { luma_tag ≤ b1 → b1 < run_tag → result ≡ 2 ^ 64 - 1 }
     ensures before { b1 < luma_tag → result ≡ 0 }
-    ensures luma { luma_tag ≤ b1 → b1 < run_tag → result ≡ 255 }
     ensures after { run_tag ≤ b1 → result ≡ 0 }
 {
     STEPS[512 + b1]
 }
 
-// What the second byte of a luma adds (QOI specification 1.0, "QOI_OP_LUMA").
+/// What the second byte of a luma adds (QOI specification 1.0, "QOI_OP_LUMA").
 #[inline(always)]
 pub(super) fn nibbles(b2: usize) -> u64
     requires { b2 < 256 }
     ensures { result ≡ step (b2 / 16) 0 (b2 % 16) }
 {
-    STEPS[768 + b2]
+    STEPS[b2]
 }
 
-// How many bytes the pixels of a chunk have in `N` channels.
+/// How many bytes the pixels of a chunk have in `N` channels.
 #[inline(always)]
 pub(super) fn advance<const N: usize>(b1: usize) -> usize
     requires channels { IsChannels N }
@@ -281,8 +296,8 @@ pub(super) fn advance<const N: usize>(b1: usize) -> usize
     ensures full { rgb_tag ≤ b1 → result ≡ N }
 {
     if N == 3 {
-        ADVANCE3[b1] as usize
+        STEPS[768 + b1] as usize
     } else {
-        ADVANCE4[b1] as usize
+        STEPS[1024 + b1] as usize
     }
 }

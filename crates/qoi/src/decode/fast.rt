@@ -1,14 +1,13 @@
 //! The loop over chunks in memory while input and output have room ahead for four short ones and a
 //! full one, which is tested once for all five. It can go on from any pixel.
-ghost use Rattle.std.specs.Prelude.{◌≡◌, ◌↔◌, IsTrue, ℕ, ◌+◌, ◌-◌, ◌*◌, ◌/◌, ◌%◌, ◌<◌, ◌≤◌, List, length};
+ghost use Rattle.std.specs.Prelude.{◌≡◌, ◌↔◌, IsTrue, ℕ, ◌+◌, ◌-◌, ◌*◌, ◌/◌, ◌%◌, ◌<◌, ◌≤◌, ◌^◌, List, length};
 ghost use Rattle.qoi.specs.Qoi.{Past, run_tag, rgb_tag};
 ghost use Rattle.qoi.specs.Raw.{IsChannels};
 ghost use Rattle.qoi.specs.declared.decode.output.TheConstants.{RUN_ROOM};
 
 use crate::consts::{QOI_OP_RGB, QOI_OP_RGBA, QOI_OP_RUN};
-use crate::decode::deltas::advance;
+use crate::decode::deltas::{advance, is_luma};
 use crate::decode::hashed::Hashed;
-use crate::decode::one_chunk::is_luma;
 use crate::decode::output::{RUN_ROOM, write_block, write_late_run, write_run};
 use crate::decode::table::TermTable;
 use crate::utils::pick;
@@ -27,55 +26,76 @@ pub(super) struct Progress {
     pub(super) last: Hashed,
     pub(super) taken: usize,
     pub(super) at: usize,
-    // As a `usize` its comparison was made twice, as a `u8` it was widened at each use.
-    pub(super) next: u32,
+    pub(super) next: u8,
 }
 
 // Whether a chunk with this first byte is short: an index position, a difference, a luma, or a run
 // that a block of sixteen bytes holds.
 #[inline(always)]
-fn is_short<const N: usize>(b1: u32) -> bool
+fn is_short<const N: usize>(b1: u8) -> bool
     requires { IsChannels N }
     ensures { IsTrue result ↔ (b1 ≤ run_tag - 1 + 16 / N) }
 {
-    b1 <= (QOI_OP_RUN as u32 - 1) + (16 / N) as u32
+    b1 <= (QOI_OP_RUN - 1) + (16 / N) as u8
 }
 
 impl Progress {
-    ghost use Rattle.qoi.specs.inner.Filling.{IsFrontAfter, filling, DecoderBetween, FastBetween};
+    ghost use Rattle.qoi.specs.inner.Filling.{IsFrontAfter, filling, further, DecoderBetween, FastBetween};
+
+    // The same, with `count` bytes more taken.
+    #[inline(always)]
+    fn further(self, count: usize) -> Progress
+        requires { self.taken + count < 2 ^ 64 }
+        ensures { result ≡ further count self }
+    {
+        Progress {
+            last: self.last,
+            taken: self.taken + count,
+            at: self.at,
+            next: self.next,
+        }
+    }
 
     // Decodes a short chunk, without a jump. Its block of output is written whole, and what goes
     // past its pixels is written again later.
+    //
+    // Of the bytes that are taken, `DONE` aren't counted in `taken`, and one more isn't after the
+    // call: the first bytes of a row of chunks are added at its end. So from chunk to chunk only the
+    // second bytes of lumas are added, which is a cycle for two more additions.
     #[inline(always)]
-    fn short_chunk<const N: usize, const F: usize>(
+    fn short_chunk<const N: usize, const F: usize, const DONE: usize>(
         self,
         table: &mut TermTable,
         bytes: &[u8],
         out: &mut [u8],
     ) -> Progress
         requires channels { IsChannels N }
-        requires input { self.taken + 3 ≤ length bytes.now }
+        requires done { DONE < 4 }
+        requires input { self.taken + DONE + 3 ≤ length bytes.now }
         requires room { self.at + 16 ≤ length out.old }
         requires short { self.next ≤ run_tag - 1 + 16 / N }
         ensures between { (gone : Past) (n : ℕ) (before : List ℕ)
-            → FastBetween F N gone n before bytes.now self table.old out.old
-            → FastBetween F N gone n before bytes.now result table.new out.new }
+            → FastBetween F N gone n before bytes.now (further DONE self) table.old out.old
+            → FastBetween F N gone n before bytes.now (further (DONE + 1) result) table.new out.new }
         ensures whole { self.at % N ≡ 0 → result.at % N ≡ 0 }
-        ensures taken { (self.taken < result.taken) × (result.taken ≤ self.taken + 2) }
+        ensures taken { (self.taken ≤ result.taken) × (result.taken ≤ self.taken + 1) }
         ensures written { (self.at ≤ result.at) × (result.at ≤ self.at + 16) }
         ensures byte { result.next < 256 }
     {
         let b1 = self.next as usize;
-        let (one, two) = (bytes[self.taken + 1], bytes[self.taken + 2]);
-        let last = self.last.after_short(table.at(b1), b1, one);
+        let (one, two) = (
+            bytes[self.taken + (DONE + 1)],
+            bytes[self.taken + (DONE + 2)],
+        );
+        let last = self.last.after_short(table, b1, one);
         table.put(last);
         write_block::<N, F>(out, self.at, last);
         let luma = is_luma(self.next);
         Progress {
             last,
-            taken: self.taken + 1 + usize::from(luma),
+            taken: self.taken + usize::from(luma),
             at: self.at + advance::<N>(b1),
-            next: u32::from(pick(luma, two, one)),
+            next: pick(luma, two, one),
         }
     }
 
@@ -103,19 +123,19 @@ impl Progress {
         if !is_short::<N>(self.next) {
             return self;
         }
-        let one = self.short_chunk::<N, F>(table, bytes, out);
+        let one = self.short_chunk::<N, F, 0>(table, bytes, out);
         if !is_short::<N>(one.next) {
-            return one;
+            return one.further(1);
         }
-        let two = one.short_chunk::<N, F>(table, bytes, out);
+        let two = one.short_chunk::<N, F, 1>(table, bytes, out);
         if !is_short::<N>(two.next) {
-            return two;
+            return two.further(2);
         }
-        let three = two.short_chunk::<N, F>(table, bytes, out);
+        let three = two.short_chunk::<N, F, 2>(table, bytes, out);
         if !is_short::<N>(three.next) {
-            return three;
+            return three.further(3);
         }
-        three.short_chunk::<N, F>(table, bytes, out)
+        three.short_chunk::<N, F, 3>(table, bytes, out).further(4)
     }
 
     // Decodes an RGB or RGBA chunk.
@@ -142,12 +162,12 @@ impl Progress {
         let last = self.last.after_full(&bytes[self.taken..]);
         table.put(last);
         write_block::<N, F>(out, self.at, last);
-        let taken = self.taken + 4 + usize::from(self.next == QOI_OP_RGBA as u32);
+        let taken = self.taken + 4 + usize::from(self.next == QOI_OP_RGBA);
         Progress {
             last,
             taken,
             at: self.at + N,
-            next: u32::from(bytes[taken]),
+            next: bytes[taken],
         }
     }
 
@@ -173,7 +193,7 @@ impl Progress {
         ensures below { result.at < length out.old }
         ensures byte { result.next < 256 }
     {
-        let count = (self.next - (QOI_OP_RUN as u32 - 1)) as usize;
+        let count = (self.next - (QOI_OP_RUN - 1)) as usize;
         table.put(self.last);
         if RUN_ROOM <= out.len() - self.at {
             write_run::<N, F>(out, self.at, self.last, count);
@@ -184,7 +204,7 @@ impl Progress {
             last: self.last,
             taken: self.taken + 1,
             at: self.at + N * count,
-            next: u32::from(bytes[self.taken + 1]),
+            next: bytes[self.taken + 1],
         }
     }
 
@@ -220,7 +240,7 @@ impl Progress {
         if bytes.len() < INPUT_ROOM || out.len() < OUTPUT_ROOM {
             return now;
         }
-        now.next = u32::from(bytes[0]);
+        now.next = bytes[0];
         let far = bytes.len() - INPUT_ROOM;
         let top = out.len() - OUTPUT_ROOM;
         while now.taken <= far && now.at <= top {
@@ -228,7 +248,7 @@ impl Progress {
             if is_short::<N>(now.next) {
                 continue;
             }
-            if now.next >= QOI_OP_RGB as u32 {
+            if now.next >= QOI_OP_RGB {
                 now = now.full_chunk::<N, F>(table, bytes, out);
             } else if advance::<N>(now.next as usize) < out.len() - now.at {
                 now = now.long_run::<N, F>(table, bytes, out);

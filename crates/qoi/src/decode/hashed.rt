@@ -1,21 +1,22 @@
 //! Pixels as single numbers that hold their index positions too.
 ghost use Rattle.std.specs.Prelude.{◌≡◌, ℕ, ◌+◌, ◌*◌, ◌/◌, ◌%◌, ◌^◌, ◌<◌, ◌≤◌, length, take, slice_index, replicate};
-ghost use Rattle.qoi.specs.Qoi.{pixel, start, blank, hash, positions, diff_tag, luma_tag, run_tag, rgb_tag, rgba_tag, after_diff, after_luma};
+ghost use Rattle.qoi.specs.Qoi.{Past, seen, pixel, start, hash, positions, diff_tag, luma_tag, run_tag, rgb_tag, rgba_tag, after_diff, after_luma};
 ghost use Rattle.qoi.specs.Raw.{IsChannels, output};
-ghost use Rattle.qoi.specs.inner.Hashed.{pixel_of_lanes, IsPlain};
+ghost use Rattle.qoi.specs.inner.Hashed.{pixel_of_lanes, pixel_of_four, IsPlain, IsHashed, HoldsSeen};
 
 use crate::consts::QOI_OP_RGB;
-use crate::decode::deltas::{added, kept, nibbles, second};
+use crate::decode::deltas::{kept, nibbles, second};
+use crate::decode::table::SizedTerms;
 use std::marker::Model;
 use std::simd::{Simd, u8x4, u8x16, u16x4, u64x2};
 
-// 3 * 2^58 + 5 * 2^42 + 7 * 2^26 + 11 * 2^10: the six highest bits of its product with a pixel in
-// lanes of 16 bits are the six lowest ones of 3 r + 5 g + 7 b + 11 a.
+// 4 * (3 * 2^56 + 5 * 2^40 + 7 * 2^24 + 11 * 2^8): the eight highest bits of its product with a pixel
+// in lanes of 16 bits are the eight lowest ones of 4 (3 r + 5 g + 7 b + 11 a).
 const HASH_FACTOR: u64 = 0x0c00_1400_1c00_2c00;
 
-/// A pixel and its index position in 64 bits: red, green, blue and alpha from bits 0, 16, 32 and 48
-/// on, and the position in the six highest bits. Above red, green and blue stand eight bits each
-/// that count for nothing, so that sums of channels need not be cut.
+/// A pixel and its index position in 64 bits: four times the position in the eight lowest ones, and
+/// alpha, red, green and blue from bits 16, 24, 40 and 56 on. Above position, red and green stand
+/// eight bits each that count for nothing, so that sums need not be cut.
 ///
 /// A contract sees the number, whose pixel is `pixel_of_lanes`.
 #[derive(Clone, Copy)]
@@ -37,18 +38,11 @@ impl Model for Hashed {
 }
 
 impl Hashed {
-    /// Transparent black.
-    pub(super) fn blank() -> Hashed
-        ensures { result ≡ 0 }
-    {
-        Hashed(0)
-    }
-
     /// Opaque black, the pixel before the first one.
     pub(super) fn start() -> Hashed
         ensures { pixel_of_lanes result ≡ start }
     {
-        Hashed(0xd4ff_0000_0000_0000)
+        Hashed(0xff_00d4)
     }
 
     /// The index position of the pixel, 0 to 63 (QOI specification 1.0, "Chunks").
@@ -57,16 +51,26 @@ impl Hashed {
         ensures position { result ≡ hash (pixel_of_lanes self) }
         ensures within { result < positions }
     {
-        (self.0 >> 58) as usize
+        (self.0 % 256 / 4) as usize
     }
 
-    // The pixel of four lanes, above whose channels nothing stands.
+    /// The number.
+    #[inline(always)]
+    pub(super) fn number(self) -> u64
+        ensures is { result ≡ self }
+        ensures hashed { IsHashed result }
+    {
+        self.0
+    }
+
+    // The pixel of four lanes of 16 bits, above whose channels nothing stands.
     #[inline(always)]
     fn of_lanes(lanes: u64) -> Hashed
         requires { IsPlain lanes }
-        ensures { pixel_of_lanes result ≡ pixel_of_lanes lanes }
+        ensures { pixel_of_lanes result ≡ pixel_of_four lanes }
     {
-        Hashed(lanes + (lanes.wrapping_mul(HASH_FACTOR) >> 58 << 58))
+        let place = lanes.wrapping_mul(HASH_FACTOR) >> 56;
+        Hashed(place + (lanes >> 48 << 16) + (lanes << 24))
     }
 
     /// A pixel of four channels.
@@ -79,26 +83,27 @@ impl Hashed {
     }
 
     /// The pixel after an index position, a difference, a luma or a run: `b1` is its first byte,
-    /// `b2` the byte after that, which counts only for a luma, and `held` what the index position
-    /// holds, or 0 for another chunk (QOI specification 1.0, "Chunks"). One sum, without a jump.
+    /// `b2` the byte after that, which counts only for a luma (QOI specification 1.0, "Chunks"). One
+    /// sum, without a jump. What the table holds is known last, so it is loaded and added last.
     #[inline(always)]
-    pub(super) fn after_short(self, held: Hashed, b1: usize, b2: u8) -> Hashed
-        requires byte { b1 < 256 }
-        requires none { diff_tag ≤ b1 → held ≡ 0 }
-        ensures place { b1 < diff_tag → result ≡ held }
+    pub(super) fn after_short<const SIZE: usize>(
+        self,
+        table: &SizedTerms<SIZE>,
+        b1: usize,
+        b2: u8,
+    ) -> Hashed
+        requires { b1 < 256 }
+        ensures place { b1 < diff_tag → (past : Past) → HoldsSeen table.now past
+            → pixel_of_lanes result ≡ seen past b1 }
         ensures diff { diff_tag ≤ b1 → b1 < luma_tag
             → pixel_of_lanes result ≡ after_diff (pixel_of_lanes self) b1 }
         ensures luma { luma_tag ≤ b1 → b1 < run_tag
             → pixel_of_lanes result ≡ after_luma (pixel_of_lanes self) b1 b2 }
         ensures run { run_tag ≤ b1 → pixel_of_lanes result ≡ pixel_of_lanes self }
     {
-        let more = nibbles(masked(b2, second(b1)));
-        Hashed(
-            (self.0 & kept(b1))
-                .wrapping_add(held.0)
-                .wrapping_add(added(b1))
-                .wrapping_add(more),
-        )
+        let own = self.0 & kept(b1);
+        let more = nibbles(b2 as usize) & second(b1);
+        Hashed(own.wrapping_add(more).wrapping_add(table.at(b1)))
     }
 
     /// The pixel of the RGB or RGBA chunk that the bytes begin with; after an RGB chunk alpha stays
@@ -115,7 +120,7 @@ impl Hashed {
     {
         let four = four_lanes(&bytes[1..5]);
         if bytes[0] == QOI_OP_RGB {
-            let alpha = self.0 % 0x100_0000_0000_0000 >> 48 << 48;
+            let alpha = self.0 % 0x100_0000 >> 16 << 48;
             return Hashed::of_lanes(four % 0x1_0000_0000_0000 + alpha);
         }
         Hashed::of_lanes(four)
@@ -131,31 +136,21 @@ impl Hashed {
         let lanes = if N == 3 || F == 4 {
             self.0
         } else {
-            self.0 % 0x1_0000_0000_0000 + 0x00ff_0000_0000_0000
+            self.0 % 0x1_0000 + 0xff_0000 + (self.0 >> 24 << 24)
         };
         let bytes = u64x2::from_array([lanes, 0]).to_le_bytes();
         if N == 4 {
-            return bytes.swizzle([0, 2, 4, 6, 0, 2, 4, 6, 0, 2, 4, 6, 0, 2, 4, 6]);
+            return bytes.swizzle([3, 5, 7, 2, 3, 5, 7, 2, 3, 5, 7, 2, 3, 5, 7, 2]);
         }
-        bytes.swizzle([0, 2, 4, 0, 2, 4, 0, 2, 4, 0, 2, 4, 0, 2, 4, 0])
+        bytes.swizzle([3, 5, 7, 3, 5, 7, 3, 5, 7, 3, 5, 7, 3, 5, 7, 3])
     }
-}
-
-// The bits of a byte that count.
-#[inline(always)]
-fn masked(byte: u8, mask: u64) -> usize
-    ensures all { mask ≡ 255 → result ≡ byte }
-    ensures none { mask ≡ 0 → result ≡ 0 }
-    ensures within { result < 256 }
-{
-    (u64::from(byte) & mask) as usize
 }
 
 // Four bytes, read at once, in lanes of 16 bits.
 #[inline(always)]
 fn four_lanes(bytes: &[u8]) -> u64
     requires { 4 ≤ length bytes.now }
-    ensures pixel { pixel_of_lanes result ≡ pixel (slice_index bytes.now 0)
+    ensures pixel { pixel_of_four result ≡ pixel (slice_index bytes.now 0)
         (slice_index bytes.now 1) (slice_index bytes.now 2) (slice_index bytes.now 3) }
     ensures plain { IsPlain result }
 {

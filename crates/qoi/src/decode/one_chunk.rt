@@ -1,24 +1,16 @@
 //! How one chunk is decoded.
-ghost use Rattle.std.specs.Prelude.{◌≡◌, IsTrue, ◌+◌, ◌%◌, ◌-◌, ◌<◌, ◌≤◌, length, take, nat_le, nat_lt, ◌&&◌};
-ghost use Rattle.qoi.specs.Qoi.{luma_tag, run_tag, rgb_tag};
+ghost use Rattle.std.specs.Prelude.{◌≡◌, IsTrue, ◌+◌, ◌%◌, ◌-◌, ◌<◌, ◌≤◌, length, take};
+ghost use Rattle.qoi.specs.Qoi.{run_tag, rgb_tag};
 ghost use Rattle.qoi.specs.declared.decode.output.TheConstants.{RUN_ROOM};
 ghost use Rattle.qoi.specs.Raw.{IsChannels};
 ghost use Rattle.qoi.specs.inner.Filling.{IsWholePixels, DecodesChunk, filling};
 
 use crate::chunk::QOI_OP_RUN_END;
-use crate::consts::{QOI_OP_LUMA, QOI_OP_RGB, QOI_OP_RGBA, QOI_OP_RUN};
-use crate::decode::deltas::advance;
+use crate::consts::{QOI_OP_RGB, QOI_OP_RGBA, QOI_OP_RUN};
+use crate::decode::deltas::{advance, is_luma};
 use crate::decode::hashed::Hashed;
 use crate::decode::output::fill;
 use crate::decode::table::SizedTerms;
-
-/// Whether a chunk with this first byte is a luma.
-#[inline(always)]
-pub(super) fn is_luma(b1: u32) -> bool
-    ensures { result ≡ (nat_le luma_tag b1 && nat_lt b1 run_tag) }
-{
-    b1.wrapping_sub(QOI_OP_LUMA as u32) < 64
-}
 
 // How many pixels a chunk has, by its first byte.
 #[inline(always)]
@@ -70,9 +62,8 @@ pub(super) fn decode_chunk<const N: usize, const F: usize, const RUN_FITS: bool,
         QOI_OP_RGB => (last.after_full(bytes), 4),
         QOI_OP_RGBA => (last.after_full(bytes), 5),
         _ => {
-            let held = table.at(b1 as usize);
-            let size = 1 + usize::from(is_luma(u32::from(b1)));
-            (last.after_short(held, b1 as usize, bytes[1]), size)
+            let size = 1 + usize::from(is_luma(b1));
+            (last.after_short(table, b1 as usize, bytes[1]), size)
         }
     };
     table.put(last);

@@ -178,7 +178,7 @@ fn small_chunks<'a, const N: usize, const F: usize>(
         (λ rest. StreamsPixels F N (length out.old / N)
         (Some «data».entry.now) (Some rest.now) out.new) }
 {
-    let mut table = SmallTermTable::new();
+    let mut table = SmallTermTable::new_small();
     let start = Hashed::start();
     let Some(left) = last_chunks::<N, F, false, _>(&mut table, start, data, out, 0) else {
         return None;

@@ -10,8 +10,9 @@ ghost use Rattle.qoi.specs.inner.Filling.{IsWholePixels, DecodesChunk, DecoderBe
 
 use crate::consts::{QOI_OP_RGB, QOI_PADDING, QOI_PADDING_SIZE};
 use crate::decode::chunks::{Chunks, Reached};
+use crate::decode::deltas::is_luma;
 use crate::decode::hashed::Hashed;
-use crate::decode::one_chunk::{Decoded, decode_chunk, is_luma};
+use crate::decode::one_chunk::{Decoded, decode_chunk};
 use crate::decode::output::RUN_ROOM;
 use crate::decode::table::TermTable;
 use crate::error::{Error, Result};
@@ -112,7 +113,7 @@ pub(super) fn next_chunk<R: Read, const N: usize, const F: usize, const RUN_FITS
         IsPartOfChunk) }
 {
     let b1 = read_one(reader)?;
-    if is_luma(u32::from(b1)) {
+    if is_luma(b1) {
         let b2 = read_one(reader)?;
         let bytes = [b1, b2, 0, 0, 0, 0, 0, 0];
         return Ok(decode_chunk::<N, F, RUN_FITS, _>(table, last, &bytes, out, at));

@@ -2,61 +2,80 @@
 //! "Chunks": the running array of previously seen pixels).
 ghost use Rattle.std.specs.Prelude.{◌≡◌, ◌<◌, ◌≤◌, [], ◌∷◌};
 ghost use Rattle.qoi.specs.Qoi.{Past, positions, seen};
-ghost use Rattle.qoi.specs.inner.Hashed.{pixel_of_lanes, HoldsSeen};
+ghost use Rattle.qoi.specs.inner.Hashed.{pixel_of_lanes, IsHashed, IsAdded, HoldsSeen};
 
+use crate::decode::deltas::{added, all_added};
 use crate::decode::hashed::Hashed;
 use std::marker::Model;
 
-/// What the decoders' sum takes from the index positions: for each first byte of a chunk a number,
-/// the pixel at the index position that it names, or 0 if it names none. The last number stands
-/// for all first bytes after it, too.
+/// What the decoders' sum takes by the first byte of a chunk: the pixel at the index position that
+/// it names, or what another byte adds. Further bytes than the table has numbers for are looked up
+/// elsewhere.
 ///
 /// A contract sees the list of the numbers.
 #[derive(Drop)]
 pub(super) struct SizedTerms<const SIZE: usize> {
-    numbers: [Hashed; SIZE],
+    numbers: [u64; SIZE],
 }
 
 /// A number for each first byte, so that no test is needed.
 pub(super) type TermTable = SizedTerms<256>;
 
-/// A single 0 after the index positions, for an output so small that zeroing more would take a
-/// good part of the time.
-pub(super) type SmallTermTable = SizedTerms<65>;
+/// The index positions alone, for an output so small that setting more numbers would take a good
+/// part of the time.
+pub(super) type SmallTermTable = SizedTerms<64>;
 
 impl<const SIZE: usize> Model for SizedTerms<SIZE> {
-    ghost use Rattle.std.specs.Prelude.{◌≡◌, ◌<◌, ◌≤◌, ℕ, List, length, slice_index};
+    ghost use Rattle.std.specs.Prelude.{◌≡◌, ◌≤◌, ℕ, List, length};
     ghost use Rattle.qoi.specs.Qoi.{positions};
+    ghost use Rattle.qoi.specs.inner.Hashed.{AreTerms};
 
     ghost Value = { List ℕ };
 
     ghost view = { λ t. t.numbers };
 
-    ghost invariant = { λ t. (length t.numbers ≡ SIZE) × (positions < SIZE)
-        × ((i : ℕ) → positions ≤ i → slice_index t.numbers i ≡ 0) };
+    ghost invariant = { λ t. (length t.numbers ≡ SIZE) × (positions ≤ SIZE) × AreTerms t.numbers };
 }
 
-impl<const SIZE: usize> SizedTerms<SIZE> {
+impl SizedTerms<256> {
     /// Transparent black at each index position.
-    pub(super) fn new() -> SizedTerms<SIZE>
-        requires { (positions < SIZE) × (SIZE ≤ 256) }
+    pub(super) fn new() -> SizedTerms<256>
         ensures { HoldsSeen result [] }
     {
         SizedTerms {
-            numbers: [Hashed::blank(); SIZE],
+            numbers: all_added(),
         }
     }
+}
 
-    /// What is held at the index position that a chunk's first byte names, or 0 for another chunk.
+impl SizedTerms<64> {
+    /// Transparent black at each index position.
+    pub(super) fn new_small() -> SizedTerms<64>
+        ensures { HoldsSeen result [] }
+    {
+        SizedTerms { numbers: [0; 64] }
+    }
+}
+
+impl<const SIZE: usize> SizedTerms<SIZE> {
+    /// What is held at the index position that a chunk's first byte names, or what another first
+    /// byte adds.
     #[inline(always)]
-    pub(super) fn at(&self, b1: usize) -> Hashed
+    pub(super) fn at(&self, b1: usize) -> u64
         requires { b1 < 256 }
+        ensures hashed { b1 < positions → IsHashed result }
         ensures place { b1 < positions → (past : Past) → HoldsSeen self.now past
             → pixel_of_lanes result ≡ seen past b1 }
-        ensures none { positions ≤ b1 → result ≡ 0 }
+        ensures other { positions ≤ b1 → IsAdded b1 result }
     {
-        let numbers = self.numbers.as_slice();
-        numbers[b1.min(numbers.len() - 1)]
+        if SIZE == 256 {
+            return self.numbers[b1];
+        }
+        if b1 < SIZE {
+            self.numbers[b1]
+        } else {
+            added(b1)
+        }
     }
 
     /// Puts a pixel at its index position.
@@ -65,6 +84,6 @@ impl<const SIZE: usize> SizedTerms<SIZE> {
         ensures { (past : Past) → HoldsSeen self.old past
             → HoldsSeen self.new (pixel_of_lanes px ∷ past) }
     {
-        self.numbers[px.position()] = px;
+        self.numbers[px.position()] = px.number();
     }
 }

@@ -22,6 +22,7 @@ mod following;
 mod generated;
 mod lengths;
 mod memory;
+mod neighbours;
 mod ours;
 mod packs;
 mod pieces;

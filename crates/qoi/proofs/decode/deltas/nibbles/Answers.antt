@@ -6,4 +6,4 @@ use Rattle.qoi.proofs.format.Entries.{entry}
 use Rattle.qoi.proofs.decode.deltas.nibbles.Goals as goal
 
 pub returns : goal.returns
-returns c = eqb-true _ _ (entry STEPS (λ b x. eqb x (step (b / 16) 0 (b % 16))) 768 0 256 c.args.b2 _ refl refl (omega arith) c.requires (omega arith))
+returns c = eqb-true _ _ (entry STEPS (λ b x. eqb x (step (b / 16) 0 (b % 16))) 0 0 256 c.args.b2 c.args.b2 (omega arith) refl (omega arith) c.requires (omega arith))

@@ -31,12 +31,12 @@ returns-clause-decodes g c =
       | in_default w ↦
           let taken : c.match-b1.last.1 ≡ w.from-size.result + 1 = search rules in
           let px : c.match-b1.last.0 ≡ w.after_short.result = search rules in
-          let luma : w.is_luma.result ≡ (nat_le 128 first && nat_lt first 192) = rw w.from.ensures at w.is_luma.ensures in
+          let luma : w.is_luma.result ≡ (nat_le 128 first && nat_lt first 192) = w.is_luma.ensures in
           let below : first < 254 = search rules in
           decodes_short {old = old} {new = new} bytes first (get_or bytes 1 0) c.match-b1.last.1 c.times.result (omega (arith, c.requires.long)) refl refl below (fits 1)
           (size_of first _ w.from-size.result c.times.result w.is_luma.result luma w.from-size.ensures taken c.times.ensures.one (λ l. c.times.ensures.run l below))
           (record {
-            place = λ l past h. ap pixel_of_lanes (px ∙ w.after_short.ensures.place l) ∙ w.at-held.ensures.place l past h;
+            place = λ l past h. ap pixel_of_lanes px ∙ w.after_short.ensures.place l past h;
             diff = λ l h. ap pixel_of_lanes px ∙ w.after_short.ensures.diff l h;
             luma = λ l h. ap pixel_of_lanes px ∙ w.after_short.ensures.luma l h;
             run = λ l. ap pixel_of_lanes px ∙ w.after_short.ensures.run l;

@@ -10,9 +10,9 @@ use Rattle.qoi.proofs.decode.slice.small_chunks.Goals as goal
 
 -- before the first chunk
 before : (g : Over) (c : After-start-start g) → DecoderBetween g.row.F g.row.N [] (length c.args.out.now / g.row.N) (Consumes (Some c.args.data.now) (Some c.args.data.now))
-    (filling c.new-table.result c.start-start.result c.args.out.now 0)
+    (filling c.new_small-table.result c.start-start.result c.args.out.now 0)
 before g c = start_between g.row.F g.row.N (Consumes (Some c.args.data.now) (Some c.args.data.now)) _ _ c.args.out.now
-    c.requires.channels c.requires.whole c.new-table.ensures c.start-start.ensures (Consumes-nil (Some c.args.data.now))
+    c.requires.channels c.requires.whole c.new_small-table.ensures c.start-start.ensures (Consumes-nil (Some c.args.data.now))
 
 pub last_chunks-requires : goal.last_chunks-requires
 last_chunks-requires g c = (omega arith, (c.requires.channels, (omega arith, (c.requires.whole, none_written g.row.N c.requires.channels))))

@@ -16,8 +16,8 @@ loop-now-preserved-then-is_short g c =
       whole = λ whole. short.whole (before.whole whole);
     }
 
-pub loop-now-preserved-then-now : goal.loop-now-preserved-then-now
-loop-now-preserved-then-now g c =
+pub loop-now-preserved-then-now-ge-QOI_OP_RGB : goal.loop-now-preserved-then-now-ge-QOI_OP_RGB
+loop-now-preserved-then-now-ge-QOI_OP_RGB g c =
     let before = c.loop-now.invariant in
     let short = c.short_chunks-now.ensures in
     let full = c.full_chunk-now.ensures in

@@ -1,5 +1,5 @@
 -- The pixel has the chunk's channels, except alpha for an RGB chunk.
-use Rattle.std.proofs.Common.{◌≡◌, ◌+◌, ◌-◌, ◌%◌, ◌≤◌, inl, inr, take, drop, length, get_or, arith, sym, ap, ◌∙◌}
+use Rattle.std.proofs.Common.{◌≡◌, ◌+◌, ◌-◌, ◌%◌, ◌≤◌, inl, inr, take, drop, length, get_or, arith, refl, sym, ap, ◌∙◌}
 use Rattle.std.proofs.lemmas.Bool.{cases_lt}
 use Rattle.std.proofs.lemmas.Bool.Decides.{nat_tests}
 use Rattle.std.proofs.lemmas.List.{get_or-drop, length-drop}
@@ -25,8 +25,8 @@ returns-clause-between g c gone n before h =
     let first : now.next ≡ get_or rest 0 0 = h.next_is ∙ ap (λ i. get_or bytes i 0) (omega arith) ∙ sym (get_or-drop now.taken bytes 0 0) in
     let pixel = rw whole at c.after_full-last.ensures in
     let from = c.from.ensures in
-    let new : Progress = record { last = c.after_full-last.result; taken = now.taken + 4 + c.from.result; at = now.at + g.row.N; next = c.from-2.result } in
-    let step = fast_step {table' = c.put.new.self} {out' = c.write_block.new.out} now new 1 is h (omega (arith, c.requires.room)) room c.write_block.auto.out (omega arith) c.put.ensures (c.write_block.ensures 1 one) c.from-2.ensures in
+    let new : Progress = record { last = c.after_full-last.result; taken = now.taken + 4 + c.from.result; at = now.at + g.row.N; next = _ } in
+    let step = fast_step {table' = c.put.new.self} {out' = c.write_block.new.out} now new 1 is h (omega (arith, c.requires.room)) room c.write_block.auto.out (omega arith) c.put.ensures (c.write_block.ensures 1 one) refl in
     elim (cases_lt now.next 255) [
       | inl rgb ↦
           let is_rgb : get_or rest 0 0 ≡ 254 = omega (arith, first, rgb, c.requires.full) in

@@ -24,7 +24,7 @@ returns-clause-between g c gone n before h =
     let new : Progress = record { last = now.last; taken = now.taken + 1; at = now.at + g.row.N * count; next = _ } in
     let written : HasWritten g.row.F g.row.N (upto c.args.out.now now.at) (upto c.if-out-self-ge-RUN_ROOM.out (now.at + g.row.N * count)) (replicate count (pixel_of_lanes now.last)) =
     elim c.if-out-self-ge-RUN_ROOM.branch [ then-out-self-ge-RUN_ROOM w ↦ rw w.out-is w.write_run.ensures | else-out-self-ge-RUN_ROOM w ↦ rw w.out-is w.write_late_run.ensures ] in
-    fast_step now new count is h (omega (arith, c.requires.room)) (omega (arith, c.requires.room)) c.if-out-self-ge-RUN_ROOM.auto.out refl c.put.ensures written c.from.ensures 1 refl
+    fast_step now new count is h (omega (arith, c.requires.room)) (omega (arith, c.requires.room)) c.if-out-self-ge-RUN_ROOM.auto.out refl c.put.ensures written refl 1 refl
     (decodes_run rest count long (sym first ∙ sym often) some most)
 
 pub returns-clause-whole : goal.returns-clause-whole

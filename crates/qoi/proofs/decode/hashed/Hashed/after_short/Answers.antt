@@ -1,85 +1,102 @@
 -- The sum in each of its four cases.
-use Rattle.std.proofs.Common.{◌≡◌, ℕ, ◌+◌, ◌*◌, ◌/◌, ◌%◌, ◌^◌, ◌<◌, ◌≤◌, inl, inr, arith, sym, subst, ap, ◌∙◌}
+use Rattle.std.proofs.Common.{◌≡◌, ℕ, ◌+◌, ◌*◌, ◌/◌, ◌%◌, ◌^◌, ◌<◌, ◌≤◌, inl, inr, ◌⊎◌, arith, sym, subst, ap, ◌∙◌}
 use Rattle.std.specs.Int.Bits.{bit_and, and_zero_r}
 use Rattle.std.proofs.lemmas.Bool.{cases_lt}
+use Rattle.std.proofs.lemmas.Nat.{and_mask}
 use Rattle.qoi.specs.Qoi.{after_diff, after_luma}
-use Rattle.qoi.specs.inner.Hashed.{lanes, pixel_of_lanes, IsHashed, step}
+use Rattle.qoi.specs.inner.Hashed.{pixel_of_lanes, IsHashed}
 use Rattle.qoi.proofs.format.SamePixels.{same_pixel}
 use Rattle.qoi.proofs.format.HashedPixels.{Sum, sum_is}
+use Rattle.qoi.proofs.decode.hashed.Hashed.after_short.Given.{Over}
+use Rattle.qoi.proofs.decode.hashed.Hashed.after_short.Goals.{After-at}
 use Rattle.qoi.proofs.decode.hashed.Hashed.after_short.Goals as goal
 
+-- what the second byte adds
+abbrev more : (g : Over) → After-at g → ℕ
+more g c = bit_and c.nibbles.result c.second.result
+
 -- the number
-abbrev total : goal.After-added → ℕ
-total c = (((bit_and c.self.inside.0 c.kept.result + c.held.inside.0) % 2 ^ 64 + c.added.result) % 2 ^ 64 + c.nibbles-more.result) % 2 ^ 64
+abbrev total : (g : Over) → After-at g → ℕ
+total g c = ((bit_and c.self.inside.0 c.kept.result + more g c) % 2 ^ 64 + c.at.result) % 2 ^ 64
+
+-- of a luma it counts
+luma_more : (g : Over) (c : After-at g) → 128 ≤ c.args.b1 → c.args.b1 < 192 → more g c ≡ c.nibbles.result
+luma_more g c low high = ap (λ m. bit_and c.nibbles.result m) (c.second.ensures.luma low high) ∙ omega (arith, and_mask c.nibbles.result 64, c.nibbles.type_inv)
+
+other_more : (g : Over) (c : After-at g) → (c.args.b1 < 128) ⊎ (192 ≤ c.args.b1) → more g c ≡ 0
+other_more g c other = elim other [
+  | inl l ↦ ap (λ m. bit_and c.nibbles.result m) (c.second.ensures.before l) ∙ and_zero_r c.nibbles.result
+  | inr l ↦ ap (λ m. bit_and c.nibbles.result m) (c.second.ensures.after l) ∙ and_zero_r c.nibbles.result
+]
 
 -- a sum of what both bytes add
-moved_by : (c : goal.After-added) (r g b k : ℕ) → 64 ≤ c.args.b1 → r ≤ 1000 → g ≤ 1000 → b ≤ 1000 → k % 64 ≡ (3 * r + 5 * g + 7 * b) % 64
-    → c.added.result + c.nibbles-more.result ≡ lanes r g b + k * 2 ^ 58 → Sum c.self.inside.0 (total c) r g b
-moved_by c r g b k low lr lg lb position e =
-    let none : c.held.inside.0 ≡ 0 = c.held.view_is ∙ c.requires.none low in
+moved_by : (g : Over) (c : After-at g) (x y z k d : ℕ) → 64 ≤ c.args.b1 → x ≤ 1000 → y ≤ 1000 → z ≤ 1000 → k ≤ 1000 → d ≤ 1000 → k % 64 ≡ (3 * x + 5 * y + 7 * z) % 64
+    → d % 2 ^ 8 ≡ z % 2 ^ 8 → c.at.result + more g c ≡ 4 * k + x * 2 ^ 24 + y * 2 ^ 40 + d * 2 ^ 56 → Sum c.self.inside.0 (total g c) x y z
+moved_by g c x y z k d low lx ly lz lk ld position blue e =
     let all = ap (λ m. bit_and c.self.inside.0 m) (c.kept.ensures.other low) in
-    sum_is c.self.inside.0 (total c) r g b k (omega arith) c.self.invariant lr lg lb position (omega (arith, none, all, e))
+    sum_is c.self.inside.0 (total g c) x y z k d (omega arith) c.self.invariant lx ly lz lk ld position blue (omega (arith, all, e))
 
 -- a difference
-diff_sum : (c : goal.After-added) → 64 ≤ c.args.b1 → c.args.b1 < 128
-    → Sum c.self.inside.0 (total c) (c.args.b1 / 16 % 4 + 254) (c.args.b1 / 4 % 4 + 254) (c.args.b1 % 4 + 254)
-diff_sum c low high =
-    let d = c.added.ensures.diff low high in
-    let n = c.nibbles-more.ensures in
-    let m = c.masked.ensures.none (c.second.ensures.before high) in
-    moved_by c _ _ _ ((3 * (c.args.b1 / 16 % 4 + 254) + 5 * (c.args.b1 / 4 % 4 + 254) + 7 * (c.args.b1 % 4 + 254)) % 64) low
-    (omega arith) (omega arith) (omega arith) (omega arith) (omega (arith, d, n, m))
+diff_sum : (g : Over) (c : After-at g) → 64 ≤ c.args.b1 → c.args.b1 < 128
+    → Sum c.self.inside.0 (total g c) (c.args.b1 / 16 % 4 + 254) (c.args.b1 / 4 % 4 + 254) (c.args.b1 % 4 + 254)
+diff_sum g c low high =
+    let d = (c.at.ensures.other low).diff low high in
+    let m = other_more g c (inl high) in
+    moved_by g c _ _ _ ((3 * (c.args.b1 / 16 % 4 + 254) + 5 * (c.args.b1 / 4 % 4 + 254) + 7 * (c.args.b1 % 4 + 254)) % 64) ((c.args.b1 % 4 + 254) % 2 ^ 8) low
+    (omega arith) (omega arith) (omega arith) (omega arith) (omega arith) (omega arith) (omega arith) (omega (arith, d, m))
 
 -- a luma
-luma_sum : (c : goal.After-added) → 128 ≤ c.args.b1 → c.args.b1 < 192
-    → Sum c.self.inside.0 (total c) (c.args.b1 % 64 + c.args.b2 / 16 + 216) (c.args.b1 % 64 + 224) (c.args.b1 % 64 + c.args.b2 % 16 + 216)
-luma_sum c low high =
-    let d = c.added.ensures.luma low high in
-    let m = c.masked.ensures.all (c.second.ensures.luma low high) in
-    let n = c.nibbles-more.ensures ∙ ap (λ e. step (e / 16) 0 (e % 16)) m in
+luma_sum : (g : Over) (c : After-at g) → 128 ≤ c.args.b1 → c.args.b1 < 192
+    → Sum c.self.inside.0 (total g c) (c.args.b1 % 64 + c.args.b2 / 16 + 216) (c.args.b1 % 64 + 224) (c.args.b1 % 64 + c.args.b2 % 16 + 216)
+luma_sum g c low high =
+    let first : 64 ≤ c.args.b1 = omega (arith, low) in
+    let d = (c.at.ensures.other first).luma low high in
+    let n = luma_more g c low high ∙ c.nibbles.ensures in
     let byte = c.ranges.b2.fits in
-    moved_by c _ _ _ ((3 * (c.args.b1 % 64 + 216) + 5 * (c.args.b1 % 64 + 224) + 7 * (c.args.b1 % 64 + 216)) % 64
-    + (3 * (c.args.b2 / 16) + 5 * 0 + 7 * (c.args.b2 % 16)) % 64) (omega (arith, low))
-    (omega (arith, byte)) (omega arith) (omega arith) (omega arith) (omega (arith, d, n))
+    moved_by g c _ _ _ ((3 * (c.args.b1 % 64 + 216) + 5 * (c.args.b1 % 64 + 224) + 7 * (c.args.b1 % 64 + 216)) % 64
+    + (3 * (c.args.b2 / 16) + 5 * 0 + 7 * (c.args.b2 % 16)) % 64) ((c.args.b1 % 64 + 216) % 2 ^ 8 + c.args.b2 % 16) first
+    (omega (arith, byte)) (omega arith) (omega arith) (omega arith) (omega arith) (omega arith) (omega arith) (omega (arith, d, n))
 
 -- a run adds nothing
-run_sum : (c : goal.After-added) → 192 ≤ c.args.b1 → Sum c.self.inside.0 (total c) 0 0 0
-run_sum c low =
-    let d = c.added.ensures.run low in
-    let n = c.nibbles-more.ensures in
-    let m = c.masked.ensures.none (c.second.ensures.after low) in
-    moved_by c 0 0 0 0 (omega (arith, low)) (omega arith) (omega arith) (omega arith) (omega arith) (omega (arith, d, n, m))
+run_sum : (g : Over) (c : After-at g) → 192 ≤ c.args.b1 → Sum c.self.inside.0 (total g c) 0 0 0
+run_sum g c low =
+    let first : 64 ≤ c.args.b1 = omega (arith, low) in
+    let d = (c.at.ensures.other first).run low in
+    let m = other_more g c (inr low) in
+    moved_by g c 0 0 0 0 0 first (omega arith) (omega arith) (omega arith) (omega arith) (omega arith) (omega arith) (omega arith) (omega (arith, d, m))
 
 -- for an index position the sum is what it holds
-place_sum : (c : goal.After-added) → c.args.b1 < 64 → total c ≡ c.held.inside.0
-place_sum c high =
-    let d = c.added.ensures.place high in
-    let n = c.nibbles-more.ensures in
-    let m = c.masked.ensures.none (c.second.ensures.before (omega (arith, high))) in
+place_sum : (g : Over) (c : After-at g) → c.args.b1 < 64 → total g c ≡ c.at.result
+place_sum g c high =
+    let m = other_more g c (inl (omega (arith, high))) in
     let none : bit_and c.self.inside.0 c.kept.result ≡ 0 = ap (λ m. bit_and c.self.inside.0 m) (c.kept.ensures.place high) ∙ and_zero_r c.self.inside.0 in
-    omega (arith, d, n, m, none)
+    let fits = c.at.type_inv in
+    omega (arith, m, none, fits)
 
 pub invariant_of-result : goal.invariant_of-result
-invariant_of-result c = elim (cases_lt c.args.b1 64) [
-  | inl place ↦ subst IsHashed (sym (place_sum c place)) c.held.invariant
+invariant_of-result g c = elim (cases_lt c.args.b1 64) [
+  | inl place ↦ subst IsHashed (sym (place_sum g c place)) (c.at.ensures.hashed place)
   | inr other ↦ elim (cases_lt c.args.b1 128) [
-    | inl diff ↦ (diff_sum c other diff).is_hashed
+    | inl diff ↦ (diff_sum g c other diff).is_hashed
     | inr high ↦ elim (cases_lt c.args.b1 192) [
-      | inl luma ↦ (luma_sum c high luma).is_hashed
-      | inr run ↦ (run_sum c run).is_hashed
+      | inl luma ↦ (luma_sum g c high luma).is_hashed
+      | inr run ↦ (run_sum g c run).is_hashed
     ]
   ]
 ]
 
 pub returns-clause-diff : goal.returns-clause-diff
 unfolding after_diff
-returns-clause-diff c low high = subst (λ s. pixel_of_lanes (total c) ≡ after_diff (pixel_of_lanes s) c.args.b1) c.self.view_is (diff_sum c low high).pixel_is
+returns-clause-diff g c low high = subst (λ s. pixel_of_lanes (total g c) ≡ after_diff (pixel_of_lanes s) c.args.b1) c.self.view_is (diff_sum g c low high).pixel_is
 
 pub returns-clause-luma : goal.returns-clause-luma
 unfolding after_luma
-returns-clause-luma c low high =
-    subst (λ s. pixel_of_lanes (total c) ≡ after_luma (pixel_of_lanes s) c.args.b1 c.args.b2) c.self.view_is (luma_sum c low high).pixel_is
+returns-clause-luma g c low high =
+    subst (λ s. pixel_of_lanes (total g c) ≡ after_luma (pixel_of_lanes s) c.args.b1 c.args.b2) c.self.view_is (luma_sum g c low high).pixel_is
 
 pub returns-clause-run : goal.returns-clause-run
-returns-clause-run c low =
-    (run_sum c low).pixel_is ∙ same_pixel _ _ (omega arith) (omega arith) (omega arith) (omega arith) ∙ ap pixel_of_lanes c.self.view_is
+returns-clause-run g c low =
+    (run_sum g c low).pixel_is ∙ same_pixel _ _ (omega arith) (omega arith) (omega arith) (omega arith) ∙ ap pixel_of_lanes c.self.view_is
+
+pub returns-clause-place : goal.returns-clause-place
+returns-clause-place g c high past h = ap pixel_of_lanes (place_sum g c high) ∙ c.at.ensures.place high past h

@@ -1,0 +1,263 @@
+//! Each kind of chunk after each other kind, at each of 64 offsets; lists of one kind that end
+//! anywhere; index positions that are named as soon as a pixel was put there. The pixels are known
+//! from the rules by which the chunks are made.
+use crate::tests::library::support::assert_given;
+use crate::tests::library::support::decodings::Decoding;
+use crate::tests::library::support::generator::{Rgba, START, place};
+use crate::tests::library::support::images::{file_of, row, seen_raw};
+use qoi::{Channels, Decoder, Result};
+use std::alloc::Global;
+use std::process::Abort;
+
+// The kinds of chunk; of runs, how many pixels they have.
+#[derive(Clone, Copy)]
+enum Kind {
+    Place,
+    Diff,
+    Luma,
+    Rgb,
+    Rgba,
+    Run(u8),
+}
+
+// Each kind; runs that a block of sixteen bytes holds in four channels, in three, and in none.
+#[rattlefmt::skip]
+const KINDS: [Kind; 10] = [Kind::Place, Kind::Diff, Kind::Luma, Kind::Rgb, Kind::Rgba,
+    Kind::Run(1), Kind::Run(4), Kind::Run(5), Kind::Run(6), Kind::Run(62)];
+
+// The last of the pixels whose index position is `i`, or transparent black.
+fn seen(pixels: &[Rgba], i: usize) -> Rgba {
+    let mut found = [0; 4];
+    for px in pixels {
+        if place(*px) == i {
+            found = *px;
+        }
+    }
+    found
+}
+
+// Chunks, and the pixels that they mean.
+#[derive(Drop)]
+struct List {
+    chunks: Vec<u8>,
+    pixels: Vec<Rgba>,
+}
+
+impl List {
+    // No chunks.
+    fn new(alloc: Global) -> List {
+        List {
+            chunks: Vec::new(alloc),
+            pixels: Vec::new(alloc),
+        }
+    }
+
+    // The last pixel.
+    fn last(&self) -> Rgba {
+        match self.pixels.last() {
+            Some(px) => *px,
+            None => START,
+        }
+    }
+
+    // Adds a chunk of one pixel.
+    fn put(&mut self, chunk: &[u8], px: Rgba) -> Result<()> {
+        self.chunks.extend_from_slice(chunk)?;
+        self.pixels.push(px)?;
+        Ok(())
+    }
+
+    // Adds an RGBA chunk.
+    fn put_full(&mut self, px: Rgba) -> Result<()> {
+        let [r, g, b, a] = px;
+        self.put(&[0xff, r, g, b, a], px)
+    }
+
+    // Names an index position.
+    fn name(&mut self, i: usize) -> Result<()> {
+        let px = seen(&self.pixels, i);
+        self.put(&[(i % 64) as u8], px)
+    }
+
+    // Adds a run of `n` pixels.
+    fn repeat(&mut self, n: u8) -> Result<()> {
+        let px = self.last();
+        self.chunks.push(0xbfu8.wrapping_add(n))?;
+        for _ in 0..n {
+            self.pixels.push(px)?;
+        }
+        Ok(())
+    }
+
+    // Adds a difference: 1 to 4 of its three parts stand for -2 to 1.
+    fn differ(&mut self, six: u8) -> Result<()> {
+        let [r, g, b, a] = self.last();
+        let (dr, dg, db) = (six / 16 % 4, six / 4 % 4, six % 4);
+        let px = [
+            r.wrapping_sub(2).wrapping_add(dr),
+            g.wrapping_sub(2).wrapping_add(dg),
+            b.wrapping_sub(2).wrapping_add(db),
+            a,
+        ];
+        self.put(&[0x40 + six % 64], px)
+    }
+
+    // Adds a luma: green moves by -32 to 31, red and blue by -8 to 7 more.
+    fn differ_more(&mut self, six: u8, second: u8) -> Result<()> {
+        let [r, g, b, a] = self.last();
+        let vg = (six % 64).wrapping_sub(32);
+        let px = [
+            r.wrapping_add(vg).wrapping_sub(8).wrapping_add(second / 16),
+            g.wrapping_add(vg),
+            b.wrapping_add(vg).wrapping_sub(8).wrapping_add(second % 16),
+            a,
+        ];
+        self.put(&[0x80 + six % 64, second], px)
+    }
+
+    // Adds a chunk of a kind, which is another for other `n`. An index position is that of one of
+    // the eight pixels before.
+    fn add(&mut self, kind: Kind, n: u8) -> Result<()> {
+        let (x, y, z) = (n.wrapping_mul(37), n.wrapping_mul(91), n.wrapping_mul(151));
+        match kind {
+            Kind::Place => {
+                let back = usize::from(n % 8) + 1;
+                match self.pixels.get(self.pixels.len().saturating_sub(back)) {
+                    Some(px) => self.name(place(*px)),
+                    None => self.name(0),
+                }
+            }
+            Kind::Diff => self.differ(x % 64),
+            Kind::Luma => self.differ_more(x % 64, y),
+            Kind::Rgb => {
+                let [_, _, _, a] = self.last();
+                self.put(&[0xfe, x, y, z], [x, y, z, a])
+            }
+            Kind::Rgba => self.put_full([x, y, z, n]),
+            Kind::Run(count) => self.repeat(count),
+        }
+    }
+
+    // The list's file, under a header of three or of four channels, is decoded into three and four.
+    fn check_in(&self, rt: &impl Abort, alloc: Global, own: Channels) {
+        let header = row(self.pixels.len() as u32, own);
+        let file = file_of(alloc, header, &self.chunks).expect(rt, "refused");
+        for channels in [Channels::Rgb, Channels::Rgba] {
+            let raw = seen_raw(alloc, &self.pixels, own, channels).expect(rt, "refused");
+            let mut decoder = Decoder::new(&file)
+                .expect(rt, "refused")
+                .with_channels(channels);
+            assert_given(rt, decoder.decode_to_vec(alloc), &raw);
+        }
+    }
+
+    // The same from each kind of reader.
+    fn check_readers(&self, rt: &impl Abort, alloc: Global, own: Channels) {
+        let header = row(self.pixels.len() as u32, own);
+        let file = file_of(alloc, header, &self.chunks).expect(rt, "refused");
+        for channels in [Channels::Rgb, Channels::Rgba] {
+            let raw = seen_raw(alloc, &self.pixels, own, channels).expect(rt, "refused");
+            let decoding = Decoding {
+                bytes: &file,
+                header,
+                channels,
+            };
+            decoding.check(rt, alloc, &raw, &[]);
+        }
+    }
+
+    // Under both headers.
+    fn check(&self, rt: &impl Abort, alloc: Global) {
+        self.check_in(rt, alloc, Channels::Rgb);
+        self.check_in(rt, alloc, Channels::Rgba);
+    }
+}
+
+// `front` chunks of a byte, then the two, then thirty small ones.
+fn with_two(alloc: Global, front: u8, first: Kind, second: Kind) -> Result<List> {
+    let mut list = List::new(alloc);
+    for n in 0..front {
+        let kind = if n % 5 == 3 { Kind::Place } else { Kind::Diff };
+        list.add(kind, n)?;
+    }
+    list.add(first, front)?;
+    list.add(second, front.wrapping_add(101))?;
+    for n in 0..30u8 {
+        let kind = if n % 3 == 0 { Kind::Luma } else { Kind::Place };
+        list.add(kind, n)?;
+    }
+    Ok(list)
+}
+
+#[test]
+fn each_kind_after_each(rt: HostRuntime) {
+    let alloc = rt.alloc();
+    for first in KINDS {
+        for second in KINDS {
+            for front in 0..64u8 {
+                let list = with_two(alloc, front, first, second).expect(&rt, "refused");
+                list.check(&rt, alloc);
+            }
+        }
+    }
+}
+
+// Six full chunks, then `n` of a kind, and one more.
+fn of_one_kind(alloc: Global, kind: Kind, n: u8, end: Kind) -> Result<List> {
+    let mut list = List::new(alloc);
+    for full in 0..6u8 {
+        list.add(Kind::Rgba, full)?;
+    }
+    for i in 0..n {
+        list.add(kind, i)?;
+    }
+    list.add(end, n)?;
+    Ok(list)
+}
+
+#[test]
+fn kinds_end_anywhere(rt: HostRuntime) {
+    let alloc = rt.alloc();
+    for kind in KINDS {
+        for end in [Kind::Place, Kind::Luma, Kind::Rgba, Kind::Run(62)] {
+            for n in 0..40u8 {
+                let list = of_one_kind(alloc, kind, n, end).expect(&rt, "refused");
+                list.check_readers(&rt, alloc, Channels::Rgb);
+                list.check_readers(&rt, alloc, Channels::Rgba);
+            }
+        }
+    }
+}
+
+// Another pixel stands at the index position where a chunk puts its own; then that one is named,
+// after it the pixel before it, and it again.
+fn named_again(alloc: Global, kind: Kind, n: u8) -> Result<List> {
+    let before = [n, n.wrapping_mul(3), n.wrapping_mul(5), 0xff - n % 4];
+    let mut trial = List::new(alloc);
+    trial.put_full(before)?;
+    trial.add(kind, n)?;
+    let [r, g, b, a] = trial.last();
+    let mut list = List::new(alloc);
+    // 5 times 64 is 0 modulo 64.
+    list.put_full([r, g.wrapping_add(64), b, a])?;
+    list.put_full(before)?;
+    list.add(kind, n)?;
+    for px in [[r, g, b, a], before, [r, g, b, a]] {
+        list.name(place(px))?;
+    }
+    for more in 0..30u8 {
+        list.add(Kind::Diff, more)?;
+    }
+    Ok(list)
+}
+
+#[test]
+fn named_as_soon_as_put(rt: HostRuntime) {
+    let alloc = rt.alloc();
+    for kind in [Kind::Diff, Kind::Luma, Kind::Rgb, Kind::Rgba] {
+        for n in 0..=255u8 {
+            let list = named_again(alloc, kind, n).expect(&rt, "refused");
+            list.check(&rt, alloc);
+        }
+    }
+}
