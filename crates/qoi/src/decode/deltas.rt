@@ -239,11 +239,12 @@ pub(super) fn is_luma(b1: u8) -> bool
 
 /// What the first bytes add, and 0 for those of index positions.
 #[inline(always)]
-pub(super) fn all_added() -> [u64; 256]
-    ensures places { (i : ℕ) → i < diff_tag → slice_index result i ≡ 0 }
-    ensures others { (i : ℕ) → diff_tag ≤ i → i < 256 → IsAdded i (slice_index result i) }
+pub(super) fn all_added() -> &'static [u64]
+    ensures size { length result.now ≡ 256 }
+    ensures places { (i : ℕ) → i < diff_tag → slice_index result.now i ≡ 0 }
+    ensures others { (i : ℕ) → diff_tag ≤ i → i < 256 → IsAdded i (slice_index result.now i) }
 {
-    ADDED
+    &ADDED
 }
 
 /// What a first byte adds that isn't an index position's (QOI specification 1.0, "QOI_OP_DIFF" and

@@ -1,5 +1,5 @@
-//! The loop over chunks in memory while input and output have room ahead for four short ones and a
-//! full one, which is tested once for all five. It can go on from any pixel.
+//! The loop over chunks in memory while input and output have room ahead for eight short ones and a
+//! full one, which is tested once for all nine. It can go on from any pixel.
 ghost use Rattle.std.specs.Prelude.{◌≡◌, ◌↔◌, IsTrue, ℕ, ◌+◌, ◌-◌, ◌*◌, ◌/◌, ◌%◌, ◌<◌, ◌≤◌, ◌^◌, List, length};
 ghost use Rattle.qoi.specs.Qoi.{Past, run_tag, rgb_tag};
 ghost use Rattle.qoi.specs.Raw.{IsChannels};
@@ -8,19 +8,20 @@ ghost use Rattle.qoi.specs.declared.decode.output.TheConstants.{RUN_ROOM};
 use crate::consts::{QOI_OP_RGB, QOI_OP_RGBA, QOI_OP_RUN};
 use crate::decode::deltas::{advance, is_luma};
 use crate::decode::hashed::Hashed;
+use crate::decode::one_chunk::Decoded;
 use crate::decode::output::{RUN_ROOM, write_block, write_late_run, write_run};
 use crate::decode::table::TermTable;
 use crate::utils::pick;
 
-// Bytes of four short chunks, of which each has two at most, of an RGBA chunk and of the byte after
+// Bytes of eight short chunks, of which each has two at most, of an RGBA chunk and of the byte after
 // it.
-const INPUT_ROOM: usize = 14;
+const INPUT_ROOM: usize = 22;
 
-// Bytes of room for the blocks of four short chunks and of a full one.
-pub(super) const OUTPUT_ROOM: usize = 80;
+// Bytes of room for the blocks of eight short chunks and of a full one.
+pub(super) const OUTPUT_ROOM: usize = 144;
 
-/// What a decoder has between two chunks: the last pixel, how many bytes are taken, where the
-/// output stopped, and the byte that comes next (0 if input or output is too short for the loop).
+/// What the loop has between two chunks: the last pixel, how many bytes are taken, where the output
+/// stopped, and the byte that comes next.
 #[derive(Clone, Copy)]
 pub(super) struct Progress {
     pub(super) last: Hashed,
@@ -138,6 +139,34 @@ impl Progress {
         three.short_chunk::<N, F, 3>(table, bytes, out).further(4)
     }
 
+    // The same, but eight at most.
+    #[inline(always)]
+    fn short_row<const N: usize, const F: usize>(
+        self,
+        table: &mut TermTable,
+        bytes: &[u8],
+        out: &mut [u8],
+    ) -> Progress
+        requires channels { IsChannels N }
+        requires input { self.taken + 17 ≤ length bytes.now }
+        requires room { self.at + 128 ≤ length out.old }
+        requires byte { self.next < 256 }
+        ensures between { (gone : Past) (n : ℕ) (before : List ℕ)
+            → FastBetween F N gone n before bytes.now self table.old out.old
+            → FastBetween F N gone n before bytes.now result table.new out.new }
+        ensures whole { self.at % N ≡ 0 → result.at % N ≡ 0 }
+        ensures taken { (self.taken ≤ result.taken) × (result.taken ≤ self.taken + 16) }
+        ensures some { result.next ≤ run_tag - 1 + 16 / N → self.taken < result.taken }
+        ensures written { (self.at ≤ result.at) × (result.at ≤ self.at + 128) }
+        ensures byte { result.next < 256 }
+    {
+        let four = self.short_chunks::<N, F>(table, bytes, out);
+        if !is_short::<N>(four.next) {
+            return four;
+        }
+        four.short_chunks::<N, F>(table, bytes, out)
+    }
+
     // Decodes an RGB or RGBA chunk.
     #[inline(always)]
     fn full_chunk<const N: usize, const F: usize>(
@@ -218,7 +247,7 @@ impl Progress {
         bytes: &[u8],
         out: &mut [u8],
         at: usize,
-    ) -> Progress
+    ) -> Decoded
         requires channels { IsChannels N }
         ensures between { (gone : Past) (n : ℕ) (before : List ℕ)
             → DecoderBetween F N gone n (IsFrontAfter before bytes.now 0)
@@ -231,20 +260,19 @@ impl Progress {
         ensures below { at < length out.old → result.at < length out.new }
         ensures whole { at % N ≡ 0 → result.at % N ≡ 0 }
     {
+        if bytes.len() < INPUT_ROOM || out.len() < OUTPUT_ROOM {
+            return Decoded { taken: 0, last, at };
+        }
         let mut now = Progress {
             last,
             taken: 0,
             at,
-            next: 0,
+            next: bytes[0],
         };
-        if bytes.len() < INPUT_ROOM || out.len() < OUTPUT_ROOM {
-            return now;
-        }
-        now.next = bytes[0];
         let far = bytes.len() - INPUT_ROOM;
         let top = out.len() - OUTPUT_ROOM;
         while now.taken <= far && now.at <= top {
-            now = now.short_chunks::<N, F>(table, bytes, out);
+            now = now.short_row::<N, F>(table, bytes, out);
             if is_short::<N>(now.next) {
                 continue;
             }
@@ -256,6 +284,10 @@ impl Progress {
                 break;
             }
         }
-        now
+        Decoded {
+            taken: now.taken,
+            last: now.last,
+            at: now.at,
+        }
     }
 }

@@ -25,7 +25,7 @@ fn times(b1: u8) -> usize
     }
 }
 
-/// What a chunk leaves: how many bytes it has, the pixel that is the last one then, and where the
+/// What chunks leave: how many bytes they have, the pixel that is the last one then, and where the
 /// output stopped.
 #[derive(Clone, Copy)]
 pub(super) struct Decoded {

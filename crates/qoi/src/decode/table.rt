@@ -42,9 +42,9 @@ impl SizedTerms<256> {
     pub(super) fn new() -> SizedTerms<256>
         ensures { HoldsSeen result [] }
     {
-        SizedTerms {
-            numbers: all_added(),
-        }
+        let mut numbers = [0; 256];
+        numbers.copy_from_slice(all_added());
+        SizedTerms { numbers }
     }
 }
 

@@ -5,36 +5,36 @@ use Rattle.qoi.proofs.decode.fast.Progress.fast_chunks.Goals as goal
 pub loop-now-preserved-then-is_short : goal.loop-now-preserved-then-is_short
 loop-now-preserved-then-is_short g c =
     let before = c.loop-now.invariant in
-    let short = c.short_chunks-now.ensures in
+    let short = c.short_row-now.ensures in
     record {
       between = λ gone n front h. short.between gone n front (before.between gone n front h);
       byte = short.byte;
       within = omega (arith, short.taken, c.loop-now-test.true, c.if-bytes-lt-INPUT_ROOM.false);
       written = omega (arith, before.written, short.written);
-      inside = λ _. omega (arith, short.written, c.loop-now-test.true, c.if-bytes-lt-INPUT_ROOM.false, c.short_chunks-now.auto.out);
-      below = λ _. omega (arith, short.written, c.loop-now-test.true, c.if-bytes-lt-INPUT_ROOM.false, c.short_chunks-now.auto.out);
+      inside = λ _. omega (arith, short.written, c.loop-now-test.true, c.if-bytes-lt-INPUT_ROOM.false, c.short_row-now.auto.out);
+      below = λ _. omega (arith, short.written, c.loop-now-test.true, c.if-bytes-lt-INPUT_ROOM.false, c.short_row-now.auto.out);
       whole = λ whole. short.whole (before.whole whole);
     }
 
 pub loop-now-preserved-then-now-ge-QOI_OP_RGB : goal.loop-now-preserved-then-now-ge-QOI_OP_RGB
 loop-now-preserved-then-now-ge-QOI_OP_RGB g c =
     let before = c.loop-now.invariant in
-    let short = c.short_chunks-now.ensures in
+    let short = c.short_row-now.ensures in
     let full = c.full_chunk-now.ensures in
     record {
       between = λ gone n front h. full.between gone n front (short.between gone n front (before.between gone n front h));
       byte = full.byte;
       within = omega (arith, full.taken, short.taken, c.loop-now-test.true, c.if-bytes-lt-INPUT_ROOM.false);
       written = omega (arith, before.written, short.written, full.written);
-      inside = λ _. omega (arith, short.written, full.most, c.loop-now-test.true, c.if-bytes-lt-INPUT_ROOM.false, c.short_chunks-now.auto.out, c.full_chunk-now.auto.out);
-      below = λ _. omega (arith, short.written, full.most, c.loop-now-test.true, c.if-bytes-lt-INPUT_ROOM.false, c.short_chunks-now.auto.out, c.full_chunk-now.auto.out);
+      inside = λ _. omega (arith, short.written, full.most, c.loop-now-test.true, c.if-bytes-lt-INPUT_ROOM.false, c.short_row-now.auto.out, c.full_chunk-now.auto.out);
+      below = λ _. omega (arith, short.written, full.most, c.loop-now-test.true, c.if-bytes-lt-INPUT_ROOM.false, c.short_row-now.auto.out, c.full_chunk-now.auto.out);
       whole = λ whole. full.whole (short.whole (before.whole whole));
     }
 
 pub loop-now-preserved : goal.loop-now-preserved
 loop-now-preserved g c =
     let before = c.loop-now.invariant in
-    let short = c.short_chunks-now.ensures in
+    let short = c.short_row-now.ensures in
     let run = c.long_run-now.ensures in
     record {
       between = λ gone n front h. run.between gone n front (short.between gone n front (before.between gone n front h));
