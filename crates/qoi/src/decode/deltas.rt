@@ -237,7 +237,7 @@ pub(super) fn is_luma(b1: u8) -> bool
     b1.wrapping_sub(QOI_OP_LUMA) < 64
 }
 
-/// What the first bytes add, and 0 for those of index positions.
+/// What the first bytes add, and 0 for those of index positions: a slice, to be copied at once.
 #[inline(always)]
 pub(super) fn all_added() -> &'static [u64]
     ensures size { length result.now ≡ 256 }

@@ -13,8 +13,8 @@ use crate::decode::output::{RUN_ROOM, write_block, write_late_run, write_run};
 use crate::decode::table::TermTable;
 use crate::utils::pick;
 
-// Bytes of eight short chunks, of which each has two at most, of an RGBA chunk and of the byte after
-// it.
+// Bytes of eight short chunks, of which each has two at most, of an RGBA chunk and of the byte
+// after it.
 const INPUT_ROOM: usize = 22;
 
 // Bytes of room for the blocks of eight short chunks and of a full one.
@@ -60,9 +60,9 @@ impl Progress {
     // Decodes a short chunk, without a jump. Its block of output is written whole, and what goes
     // past its pixels is written again later.
     //
-    // Of the bytes that are taken, `DONE` aren't counted in `taken`, and one more isn't after the
-    // call: the first bytes of a row of chunks are added at its end. So from chunk to chunk only the
-    // second bytes of lumas are added, which is a cycle for two more additions.
+    // The first bytes of the `DONE` chunks before it are taken and not yet counted in `taken`, and
+    // after the call its own isn't, either: a row counts them at its end. So from chunk to chunk
+    // only the second byte of a luma is added, and the next byte's address is known a cycle sooner.
     #[inline(always)]
     fn short_chunk<const N: usize, const F: usize, const DONE: usize>(
         self,
@@ -77,7 +77,8 @@ impl Progress {
         requires short { self.next ≤ run_tag - 1 + 16 / N }
         ensures between { (gone : Past) (n : ℕ) (before : List ℕ)
             → FastBetween F N gone n before bytes.now (further DONE self) table.old out.old
-            → FastBetween F N gone n before bytes.now (further (DONE + 1) result) table.new out.new }
+            → FastBetween F N gone n before bytes.now
+            (further (DONE + 1) result) table.new out.new }
         ensures whole { self.at % N ≡ 0 → result.at % N ≡ 0 }
         ensures taken { (self.taken ≤ result.taken) × (result.taken ≤ self.taken + 1) }
         ensures written { (self.at ≤ result.at) × (result.at ≤ self.at + 16) }

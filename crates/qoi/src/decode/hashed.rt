@@ -10,8 +10,8 @@ use crate::decode::table::SizedTerms;
 use std::marker::Model;
 use std::simd::{Simd, u8x4, u8x16, u16x4, u64x2};
 
-// 4 * (3 * 2^56 + 5 * 2^40 + 7 * 2^24 + 11 * 2^8): the eight highest bits of its product with a pixel
-// in lanes of 16 bits are the eight lowest ones of 4 (3 r + 5 g + 7 b + 11 a).
+// 4 * (3 * 2^56 + 5 * 2^40 + 7 * 2^24 + 11 * 2^8): the eight highest bits of its product with a
+// pixel in lanes of 16 bits are the eight lowest ones of 4 (3 r + 5 g + 7 b + 11 a).
 const HASH_FACTOR: u64 = 0x0c00_1400_1c00_2c00;
 
 /// A pixel and its index position in 64 bits: four times the position in the eight lowest ones, and
@@ -83,8 +83,8 @@ impl Hashed {
     }
 
     /// The pixel after an index position, a difference, a luma or a run: `b1` is its first byte,
-    /// `b2` the byte after that, which counts only for a luma (QOI specification 1.0, "Chunks"). One
-    /// sum, without a jump. What the table holds is known last, so it is loaded and added last.
+    /// `b2` the byte after that, which counts only for a luma (QOI specification 1.0, "Chunks").
+    /// One sum, without a jump. What the table holds is known last, so it is added last.
     #[inline(always)]
     pub(super) fn after_short<const SIZE: usize>(
         self,

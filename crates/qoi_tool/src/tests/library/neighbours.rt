@@ -5,7 +5,7 @@ use crate::tests::library::support::assert_given;
 use crate::tests::library::support::decodings::Decoding;
 use crate::tests::library::support::generator::{Rgba, START, place};
 use crate::tests::library::support::images::{file_of, row, seen_raw};
-use qoi::{Channels, Decoder, Result};
+use qoi::{Channels, Decoder, Header, Result};
 use std::alloc::Global;
 use std::process::Abort;
 
@@ -89,7 +89,7 @@ impl List {
         Ok(())
     }
 
-    // Adds a difference: 1 to 4 of its three parts stand for -2 to 1.
+    // Adds a difference: red, green and blue move by -2 to 1 each.
     fn differ(&mut self, six: u8) -> Result<()> {
         let [r, g, b, a] = self.last();
         let (dr, dg, db) = (six / 16 % 4, six / 4 % 4, six % 4);
@@ -102,7 +102,7 @@ impl List {
         self.put(&[0x40 + six % 64], px)
     }
 
-    // Adds a luma: green moves by -32 to 31, red and blue by -8 to 7 more.
+    // Adds a luma: green moves by -32 to 31, red and blue by that and by -8 to 7 more.
     fn differ_more(&mut self, six: u8, second: u8) -> Result<()> {
         let [r, g, b, a] = self.last();
         let vg = (six % 64).wrapping_sub(32);
@@ -115,17 +115,22 @@ impl List {
         self.put(&[0x80 + six % 64, second], px)
     }
 
+    // The index position of the pixel `back` pixels before, or 0.
+    fn place_before(&self, back: usize) -> usize {
+        match self.pixels.get(self.pixels.len().saturating_sub(back)) {
+            Some(px) => place(*px),
+            None => 0,
+        }
+    }
+
     // Adds a chunk of a kind, which is another for other `n`. An index position is that of one of
     // the eight pixels before.
     fn add(&mut self, kind: Kind, n: u8) -> Result<()> {
         let (x, y, z) = (n.wrapping_mul(37), n.wrapping_mul(91), n.wrapping_mul(151));
         match kind {
             Kind::Place => {
-                let back = usize::from(n % 8) + 1;
-                match self.pixels.get(self.pixels.len().saturating_sub(back)) {
-                    Some(px) => self.name(place(*px)),
-                    None => self.name(0),
-                }
+                let i = self.place_before(usize::from(n % 8) + 1);
+                self.name(i)
             }
             Kind::Diff => self.differ(x % 64),
             Kind::Luma => self.differ_more(x % 64, y),
@@ -138,10 +143,17 @@ impl List {
         }
     }
 
-    // The list's file, under a header of three or of four channels, is decoded into three and four.
-    fn check_in(&self, rt: &impl Abort, alloc: Global, own: Channels) {
-        let header = row(self.pixels.len() as u32, own);
+    // The list's file, under a header of these channels, and that header.
+    fn file(&self, rt: &impl Abort, alloc: Global, own: Channels) -> (Header, Vec<u8>) {
+        let count = u32::try_from(self.pixels.len()).expect(rt, "too many");
+        let header = row(count, own);
         let file = file_of(alloc, header, &self.chunks).expect(rt, "refused");
+        (header, file)
+    }
+
+    // The file, under a header of three or of four channels, is decoded into three and four.
+    fn check_in(&self, rt: &impl Abort, alloc: Global, own: Channels) {
+        let (header, file) = self.file(rt, alloc, own);
         for channels in [Channels::Rgb, Channels::Rgba] {
             let raw = seen_raw(alloc, &self.pixels, own, channels).expect(rt, "refused");
             let mut decoder = Decoder::new(&file)
@@ -153,8 +165,7 @@ impl List {
 
     // The same from each kind of reader.
     fn check_readers(&self, rt: &impl Abort, alloc: Global, own: Channels) {
-        let header = row(self.pixels.len() as u32, own);
-        let file = file_of(alloc, header, &self.chunks).expect(rt, "refused");
+        let (header, file) = self.file(rt, alloc, own);
         for channels in [Channels::Rgb, Channels::Rgba] {
             let raw = seen_raw(alloc, &self.pixels, own, channels).expect(rt, "refused");
             let decoding = Decoding {
