@@ -1,5 +1,5 @@
 -- Facts on results.
-use Rattle.std.proofs.Common.{Result, Ok, Err, OnOk, OnErr}
+use Rattle.std.proofs.Common.{Result, Ok, Err, IfOk, OnOk, OnErr}
 
 -- what holds, holds if a result is an error
 pub on_err : {T E P : Type 0} (r : Result T E) → P → OnErr r P
@@ -15,3 +15,8 @@ on_err_of (Err e) f p = f p
 pub on_ok_of : {T E P Q : Type 0} (r : Result T E) → (P → Q) → OnOk r P → OnOk r Q
 on_ok_of (Ok x) f p = f p
 on_ok_of (Err e) f p = tt
+
+-- the same of what a success has
+pub if_ok_of : {T E : Type 0} {P Q : T → Type 0} (r : Result T E) → ((x : T) → P x → Q x) → IfOk r P → IfOk r Q
+if_ok_of (Ok x) f p = f x p
+if_ok_of (Err e) f p = tt

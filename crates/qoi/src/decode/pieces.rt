@@ -14,11 +14,12 @@ use crate::decode::table::TermTable;
 use crate::error::Result;
 
 /// How many bytes are decoded at once where a piece has no room for the blocks of any run: whole
-/// pixels of three channels and of four.
-const KEPT: usize = 3072;
+/// pixels of three channels and of four. Few, so that the copy of a piece goes to memory while the
+/// next ones are decoded.
+const KEPT: usize = 1296;
 
 /// A piece of at least so many bytes is decoded in place.
-const IN_PLACE: usize = 1536;
+const IN_PLACE: usize = 1040;
 
 /// What stands between two pieces of an image: the table, the last pixel, bytes that are decoded
 /// and weren't given yet, and how many bytes aren't decoded.
@@ -101,9 +102,9 @@ impl Pieces {
         self.undecoded = left;
     }
 
-    // Gives kept bytes into the front of `out`, and returns how many.
+    /// Gives kept bytes into the front of `out`, and returns how many.
     #[inline]
-    fn give(&mut self, out: &mut [u8]) -> usize
+    pub(super) fn give(&mut self, out: &mut [u8]) -> usize
         requires { KeepsWithin self.old }
         ensures size { result ≡ min (length out.old) (self.old.to - self.old.from) }
         ensures given { out.new ≡ take result (kept self.old) ++ drop result out.old }
@@ -124,7 +125,7 @@ impl Pieces {
         out: &mut [u8],
     ) -> Result<usize>
         requires channels { IsChannels N }
-        requires none { 0 < length out.old → self.old.from ≡ self.old.to }
+        requires none { self.old.from ≡ self.old.to }
         requires fits { length out.old ≤ bytes_left self.old }
         requires pixels { KeepsPixels N self.old }
         ensures read { (n : ℕ) (start : Option (List ℕ)) (given : List ℕ)
@@ -136,7 +137,7 @@ impl Pieces {
             → IfErr result (RefusesChunks R.in_memory n start (R.ahead reader.new)) }
         ensures within { IfOk result (λ size. size ≤ length out.new) }
         ensures few { IfOk result (λ size. length out.new < size + IN_PLACE) }
-        ensures none { IfOk result (λ size. 0 < length out.old → self.new.from ≡ self.new.to) }
+        ensures none { IfOk result (λ size. self.new.from ≡ self.new.to) }
         ensures pixels { IfOk result (λ size. KeepsPixels N self.new) }
         ensures left { IfOk result (λ size. size + bytes_left self.new ≡ bytes_left self.old) }
     {
@@ -185,57 +186,35 @@ impl Pieces {
         Ok(())
     }
 
-    // Fills a short `out`.
-    #[inline]
-    fn short_piece<R: Chunks<N, F>, const N: usize, const F: usize>(
+    /// Decodes the next bytes of an image, while none are kept: into the front of `out`, and
+    /// returns how many; the rest of `out`, and more, are kept.
+    pub(super) fn decode_more<R: Chunks<N, F>, const N: usize, const F: usize>(
         &mut self,
         reader: &mut R,
         out: &mut [u8],
-    ) -> Result<()>
+    ) -> Result<usize>
         requires channels { IsChannels N }
-        requires none { 0 < length out.old → self.old.from ≡ self.old.to }
-        requires short { length out.old ≤ IN_PLACE }
+        requires none { self.old.from ≡ self.old.to }
         requires fits { length out.old ≤ bytes_left self.old }
         requires pixels { KeepsPixels N self.old }
         ensures read { (n : ℕ) (start : Option (List ℕ)) (given : List ℕ)
             → GivesPieces F N n start (R.ahead reader.old) given self.old
-            → OnOk result
-            (GivesPieces F N n start (R.ahead reader.new) (given ++ out.new) self.new) }
+            → IfOk result (λ size.
+            GivesPieces F N n start (R.ahead reader.new) (given ++ take size out.new) self.new) }
         ensures refused { (n : ℕ) (start : Option (List ℕ)) (given : List ℕ)
             → GivesPieces F N n start (R.ahead reader.old) given self.old
             → IfErr result (RefusesChunks R.in_memory n start (R.ahead reader.new)) }
+        ensures within { IfOk result (λ size. size ≤ length out.new) }
+        ensures enough { IfOk result (λ size.
+            length out.new ≤ size + (self.new.to - self.new.from)) }
         ensures pixels { OnOk result (KeepsPixels N self.new) }
-        ensures left { OnOk result (length out.new + bytes_left self.new ≡ bytes_left self.old) }
+        ensures left { IfOk result (λ size. size + bytes_left self.new ≡ bytes_left self.old) }
     {
-        if out.is_empty() {
-            return Ok(());
+        let size = self.long_piece::<R, N, F>(reader, out)?;
+        if size == out.len() {
+            return Ok(size);
         }
         self.decode_on::<R, N, F>(reader)?;
-        self.give(out);
-        Ok(())
-    }
-
-    /// Fills `out` with the next bytes of an image, of which as many weren't given yet.
-    pub(super) fn next_piece<R: Chunks<N, F>, const N: usize, const F: usize>(
-        &mut self,
-        reader: &mut R,
-        out: &mut [u8],
-    ) -> Result<()>
-        requires channels { IsChannels N }
-        requires fits { length out.old ≤ bytes_left self.old }
-        requires pixels { KeepsPixels N self.old }
-        ensures read { (n : ℕ) (start : Option (List ℕ)) (given : List ℕ)
-            → GivesPieces F N n start (R.ahead reader.old) given self.old
-            → OnOk result
-            (GivesPieces F N n start (R.ahead reader.new) (given ++ out.new) self.new) }
-        ensures refused { (n : ℕ) (start : Option (List ℕ)) (given : List ℕ)
-            → GivesPieces F N n start (R.ahead reader.old) given self.old
-            → IfErr result (RefusesChunks R.in_memory n start (R.ahead reader.new)) }
-        ensures pixels { OnOk result (KeepsPixels N self.new) }
-        ensures left { OnOk result (length out.new + bytes_left self.new ≡ bytes_left self.old) }
-    {
-        let done = self.give(out);
-        let more = self.long_piece::<R, N, F>(reader, &mut out[done..])?;
-        self.short_piece::<R, N, F>(reader, &mut out[done + more..])
+        Ok(size)
     }
 }

@@ -21,28 +21,32 @@ use std::marker::Model;
 
 /// A reader whose images can be decoded piece by piece.
 pub trait PieceReader: Reader {
-    /// Decodes the next bytes of an image, until `out` is full; with the last ones it takes the
-    /// end marker.
+    /// Decodes the next bytes of an image, while none are kept: into the front of `out`, and
+    /// returns how many; the rest of `out`, and more, are kept. With the last ones it takes the end
+    /// marker.
     fn decode_piece(
         &mut self,
         pieces: &mut Pieces,
         out: &mut [u8],
         channels: u8,
         file_channels: u8,
-    ) -> Result<()>
+    ) -> Result<usize>
         requires channels { AreChannels file_channels channels }
+        requires none { pieces.old.from ≡ pieces.old.to }
         requires fits { length out.old ≤ bytes_left pieces.old }
         requires pixels { KeepsPixels channels pieces.old }
         ensures read { (n : ℕ) (start : Option (List ℕ)) (given : List ℕ)
             → GivesPieces file_channels channels n start (Self.ahead self.old) given pieces.old
-            → OnOk result (GivesPieces file_channels channels n start (Self.ahead self.new)
-            (given ++ out.new) pieces.new) }
+            → IfOk result (λ size. GivesPieces file_channels channels n start
+            (Self.ahead self.new) (given ++ take size out.new) pieces.new) }
         ensures refused { (n : ℕ) (start : Option (List ℕ)) (given : List ℕ)
             → GivesPieces file_channels channels n start (Self.ahead self.old) given pieces.old
             → IfErr result (RefusesChunks Self.in_memory n start (Self.ahead self.new)) }
+        ensures within { IfOk result (λ size. size ≤ length out.new) }
+        ensures enough { IfOk result (λ size.
+            length out.new ≤ size + (pieces.new.to - pieces.new.from)) }
         ensures pixels { OnOk result (KeepsPixels channels pieces.new) }
-        ensures left { OnOk result
-            (length out.new + bytes_left pieces.new ≡ bytes_left pieces.old) }
+        ensures left { IfOk result (λ size. size + bytes_left pieces.new ≡ bytes_left pieces.old) }
         ensures kept { IsTrue Self.in_memory
             → OnErr result (Keeps (Self.ahead self.old) (Self.ahead self.new)) };
 }
@@ -54,25 +58,29 @@ fn piece_of_bytes(
     out: &mut [u8],
     channels: u8,
     file_channels: u8,
-) -> Result<()>
+) -> Result<usize>
     requires channels { AreChannels file_channels channels }
+    requires none { pieces.old.from ≡ pieces.old.to }
     requires fits { length out.old ≤ bytes_left pieces.old }
     requires pixels { KeepsPixels channels pieces.old }
     ensures read { (n : ℕ) (start : Option (List ℕ)) (given : List ℕ)
         → GivesPieces file_channels channels n start (Some bytes.old) given pieces.old
-        → OnOk result (GivesPieces file_channels channels n start (Some bytes.new)
-        (given ++ out.new) pieces.new) }
+        → IfOk result (λ size. GivesPieces file_channels channels n start
+        (Some bytes.new) (given ++ take size out.new) pieces.new) }
     ensures refused { (n : ℕ) (start : Option (List ℕ)) (given : List ℕ)
         → GivesPieces file_channels channels n start (Some bytes.old) given pieces.old
         → IfErr result (RefusesChunks true n start (Some bytes.new)) }
+    ensures within { IfOk result (λ size. size ≤ length out.new) }
+    ensures enough { IfOk result (λ size.
+        length out.new ≤ size + (pieces.new.to - pieces.new.from)) }
     ensures pixels { OnOk result (KeepsPixels channels pieces.new) }
-    ensures left { OnOk result (length out.new + bytes_left pieces.new ≡ bytes_left pieces.old) }
+    ensures left { IfOk result (λ size. size + bytes_left pieces.new ≡ bytes_left pieces.old) }
 {
     match (channels, file_channels) {
-        (3, 3) => pieces.next_piece::<Bytes, 3, 3>(bytes, out),
-        (3, 4) => pieces.next_piece::<Bytes, 3, 3>(bytes, out),
-        (4, 3) => pieces.next_piece::<Bytes, 4, 3>(bytes, out),
-        (4, 4) => pieces.next_piece::<Bytes, 4, 4>(bytes, out),
+        (3, 3) => pieces.decode_more::<Bytes, 3, 3>(bytes, out),
+        (3, 4) => pieces.decode_more::<Bytes, 3, 3>(bytes, out),
+        (4, 3) => pieces.decode_more::<Bytes, 4, 3>(bytes, out),
+        (4, 4) => pieces.decode_more::<Bytes, 4, 4>(bytes, out),
         _ => Err(Error::InvalidChannels { channels }),
     }
 }
@@ -84,11 +92,11 @@ impl<'a> PieceReader for Bytes<'a> {
         out: &mut [u8],
         channels: u8,
         file_channels: u8,
-    ) -> Result<()> {
+    ) -> Result<usize> {
         let mut bytes = Bytes(self.0);
-        piece_of_bytes(&mut bytes, pieces, out, channels, file_channels)?;
+        let size = piece_of_bytes(&mut bytes, pieces, out, channels, file_channels)?;
         self.0 = bytes.0;
-        Ok(())
+        Ok(size)
     }
 }
 
@@ -99,12 +107,12 @@ impl<R: Read> PieceReader for R {
         out: &mut [u8],
         channels: u8,
         file_channels: u8,
-    ) -> Result<()> {
+    ) -> Result<usize> {
         match (channels, file_channels) {
-            (3, 3) => pieces.next_piece::<R, 3, 3>(self, out),
-            (3, 4) => pieces.next_piece::<R, 3, 3>(self, out),
-            (4, 3) => pieces.next_piece::<R, 4, 3>(self, out),
-            (4, 4) => pieces.next_piece::<R, 4, 4>(self, out),
+            (3, 3) => pieces.decode_more::<R, 3, 3>(self, out),
+            (3, 4) => pieces.decode_more::<R, 3, 3>(self, out),
+            (4, 3) => pieces.decode_more::<R, 4, 3>(self, out),
+            (4, 4) => pieces.decode_more::<R, 4, 4>(self, out),
             _ => Err(Error::InvalidChannels { channels }),
         }
     }
@@ -117,19 +125,19 @@ impl<R: BufRead> PieceReader for Buffered<R> {
         out: &mut [u8],
         channels: u8,
         file_channels: u8,
-    ) -> Result<()> {
+    ) -> Result<usize> {
         match (channels, file_channels) {
-            (3, 3) => pieces.next_piece::<Buffered<R>, 3, 3>(self, out),
-            (3, 4) => pieces.next_piece::<Buffered<R>, 3, 3>(self, out),
-            (4, 3) => pieces.next_piece::<Buffered<R>, 4, 3>(self, out),
-            (4, 4) => pieces.next_piece::<Buffered<R>, 4, 4>(self, out),
+            (3, 3) => pieces.decode_more::<Buffered<R>, 3, 3>(self, out),
+            (3, 4) => pieces.decode_more::<Buffered<R>, 3, 3>(self, out),
+            (4, 3) => pieces.decode_more::<Buffered<R>, 4, 3>(self, out),
+            (4, 4) => pieces.decode_more::<Buffered<R>, 4, 4>(self, out),
             _ => Err(Error::InvalidChannels { channels }),
         }
     }
 }
 
 /// Hands out the raw bytes of one image piece by piece, so that it needn't fit into memory (QOI
-/// specification 1.0, "Data" and "Chunks"). Nothing is allocated; a reader has some 5 KB.
+/// specification 1.0, "Data" and "Chunks"). Nothing is allocated; a reader has some 3 KB.
 ///
 /// A contract sees the reader, the header, the channels of the output, what stands between two
 /// pieces, and whether the image was refused.
@@ -178,7 +186,47 @@ impl<R: PieceReader> Decoder<R> {
         }
     }
 
-    // Decodes the next bytes of the image, until `out` is full.
+    // Decodes the next bytes of the image, while none are kept: into the front of `out`, and
+    // returns how many; the rest of `out`, and more, are kept. Not inlined: what `read` does for
+    // bytes that are kept is then a few instructions.
+    #[inline(never)]
+    fn decode_more(&mut self, pieces: &mut Pieces, out: &mut [u8]) -> Result<usize>
+        requires none { pieces.old.from ≡ pieces.old.to }
+        requires fits { length out.old ≤ bytes_left pieces.old }
+        requires pixels { KeepsPixels (channels_number self.old.channels) pieces.old }
+        ensures read { (start : Option (List ℕ)) (given : List ℕ)
+            → GivesPieces (channels_number self.old.header.channels)
+            (channels_number self.old.channels) (pixel_count self.old.header) start
+            (R.ahead self.old.reader) given pieces.old
+            → IfOk result (λ size. GivesPieces (channels_number self.old.header.channels)
+            (channels_number self.old.channels) (pixel_count self.old.header) start
+            (R.ahead self.new.reader) (given ++ take size out.new) pieces.new) }
+        ensures refused { (start : Option (List ℕ)) (given : List ℕ)
+            → GivesPieces (channels_number self.old.header.channels)
+            (channels_number self.old.channels) (pixel_count self.old.header) start
+            (R.ahead self.old.reader) given pieces.old
+            → IfErr result (RefusesChunks R.in_memory (pixel_count self.old.header) start
+            (R.ahead self.new.reader)) }
+        ensures within { IfOk result (λ size. size ≤ length out.new) }
+        ensures enough { IfOk result (λ size.
+            length out.new ≤ size + (pieces.new.to - pieces.new.from)) }
+        ensures pixels { OnOk result
+            (KeepsPixels (channels_number self.old.channels) pieces.new) }
+        ensures left { IfOk result (λ size.
+            size + bytes_left pieces.new ≡ bytes_left pieces.old) }
+        ensures kept { IsTrue R.in_memory
+            → OnErr result (Keeps (R.ahead self.old.reader) (R.ahead self.new.reader)) }
+        ensures unchanged { self.new ≡ record self.old { reader = self.new.reader } }
+    {
+        let channels = self.channels.as_u8();
+        let file_channels = self.header.channels.as_u8();
+        self.reader
+            .decode_piece(pieces, out, channels, file_channels)
+    }
+
+    // Fills `out` with the next bytes of the image: with what is kept, with more that is decoded in
+    // place, and with what is then kept.
+    #[inline(always)]
     fn next_piece(&mut self, pieces: &mut Pieces, out: &mut [u8]) -> Result<()>
         requires fits { length out.old ≤ bytes_left pieces.old }
         requires pixels { KeepsPixels (channels_number self.old.channels) pieces.old }
@@ -203,10 +251,13 @@ impl<R: PieceReader> Decoder<R> {
             → OnErr result (Keeps (R.ahead self.old.reader) (R.ahead self.new.reader)) }
         ensures unchanged { self.new ≡ record self.old { reader = self.new.reader } }
     {
-        let channels = self.channels.as_u8();
-        let file_channels = self.header.channels.as_u8();
-        self.reader
-            .decode_piece(pieces, out, channels, file_channels)
+        let done = pieces.give(out);
+        if done == out.len() {
+            return Ok(());
+        }
+        let more = self.decode_more(pieces, &mut out[done..])?;
+        pieces.give(&mut out[done + more..]);
+        Ok(())
     }
 }
 

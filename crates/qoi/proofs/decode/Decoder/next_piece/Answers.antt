@@ -1,41 +1,55 @@
--- The decoder's channels are handed on.
-use Rattle.std.proofs.Common.{◌≡◌, ℕ, List, Option, refl, sym, ap, ◌∙◌, subst}
-use Rattle.qoi.proofs.Results.{on_ok_of}
+-- What was kept, what was decoded in place, and what is kept then.
+use Rattle.std.proofs.Common.{◌≡◌, ℕ, ◌+◌, ◌-◌, ◌≤◌, List, ◌++◌, take, drop, length, min, Option, arith, sym, ap, ◌∙◌, subst, append_assoc, append-nil}
+use Rattle.std.proofs.lemmas.List.{length-take-le}
+use Rattle.std.proofs.lemmas.Result.{err_from_is_err_and}
+use Rattle.std.proofs.Math.ListN.{drop_of_length-le}
+use Rattle.qoi.specs.declared.decode.pieces.Pieces.{Pieces}
 use Rattle.qoi.specs.Qoi.{channels_number, pixel_count}
-use Rattle.qoi.specs.inner.Pieces.{KeepsPixels, GivesPieces}
-use Rattle.qoi.proofs.decoding.PixelPieces.{pieces_as}
-use Rattle.qoi.proofs.decode.Decoder.next_piece.Given.{Over}
-use Rattle.qoi.proofs.decode.Decoder.next_piece.Goals.{After-as_u8-file_channels}
+use Rattle.qoi.specs.inner.Pieces.{kept, GivesPieces}
+use Rattle.qoi.proofs.decoding.PieceSteps.{gives, joined, kept_long}
 use Rattle.qoi.proofs.decode.Decoder.next_piece.Goals as goal
 
--- as the reader is asked
-before : (g : Over) (c : After-as_u8-file_channels g) (start : Option (List ℕ)) (given : List ℕ)
-    → GivesPieces (channels_number c.args.self.now.header.channels) (channels_number c.args.self.now.channels) (pixel_count c.args.self.now.header) start
-    (g.R.Reader.ahead c.args.self.now.reader) given c.args.pieces.now
-    → GivesPieces c.as_u8-file_channels.result c.as_u8-channels.result (pixel_count c.args.self.now.header) start (g.R.Reader.ahead c.self.inside.reader) given c.args.pieces.now
-before g c start given h =
-    pieces_as (c.as_u8-file_channels.ensures ∙ ap (λ s. channels_number s.header.channels) c.self.view_is)
-    (c.as_u8-channels.ensures ∙ ap (λ s. channels_number s.channels) c.self.view_is) (ap (λ s. g.R.Reader.ahead s.reader) c.self.view_is) refl h
+-- after what was kept
+given_on : {f c n : ℕ} {start now : Option (List ℕ)} {given : List ℕ} (p new : Pieces) (size k : ℕ) → k ≡ min size (p.to - p.from) → new ≡ record p { from = p.from + k }
+    → GivesPieces f c n start now given p → GivesPieces f c n start now (given ++ take k (kept p)) new
+given_on p new size k few is h = gives p new k is (omega (arith, few)) h
 
--- the decoder's channels, as the reader is asked for them
-asked : (g : Over) (c : After-as_u8-file_channels g) → c.as_u8-channels.result ≡ channels_number c.args.self.now.channels
-asked g c = c.as_u8-channels.ensures ∙ ap (λ s. channels_number s.channels) c.self.view_is
+-- an output that what is kept fills
+filled : (out new front : List ℕ) (k : ℕ) → new ≡ front ++ drop k out → length out ≤ k → new ≡ front
+filled out new front k is all = is ∙ ap (λ z. front ++ z) (drop_of_length-le out all) ∙ append-nil front
 
-pub decode_piece-requires-clause-pixels : goal.decode_piece-requires-clause-pixels
-decode_piece-requires-clause-pixels g c =
-    subst (λ k. KeepsPixels k c.args.pieces.now) (sym (asked g (goal.at.decode_piece-requires-clause-pixels g c).After-as_u8-file_channels)) c.requires.pixels
+pub returns-then-done-out-clause-read : goal.returns-then-done-out-clause-read
+returns-then-done-out-clause-read g c start given h =
+    let p = c.args.pieces.now in
+    let give = c.give-done.ensures in
+    let all : length c.args.out.now ≤ c.give-done.result = omega (arith, c.if-done-out.true, c.give-done.auto.out) in
+    subst (λ z. GivesPieces (channels_number c.args.self.now.header.channels) (channels_number c.args.self.now.channels) (pixel_count c.args.self.now.header) start (g.R.Reader.ahead c.args.self.now.reader) (given ++ z) c.give-done.new.self) (sym (filled c.args.out.now c.give-done.new.out (take c.give-done.result (kept p)) c.give-done.result give.given all))
+    (given_on p c.give-done.new.self _ c.give-done.result give.size give.state h)
 
-pub returns-clause-pixels : goal.returns-clause-pixels
-returns-clause-pixels g c =
-    on_ok_of _ (subst (λ k. KeepsPixels k c.decode_piece.new.pieces) (asked g (goal.at.returns-clause-pixels g c).After-as_u8-file_channels)) c.decode_piece.ensures.pixels
+pub returns-in_err-more-clause-refused : goal.returns-in_err-more-clause-refused
+returns-in_err-more-clause-refused g c start given h =
+    let p = err_from_is_err_and c.from_residual.result c.from_residual.ensures.1 in
+    rw (p.1, p.2) (c.in_err-more.ensures.refused start _ (given_on c.args.pieces.now c.give-done.new.self _ c.give-done.result c.give-done.ensures.size c.give-done.ensures.state h))
 
 pub returns-clause-read : goal.returns-clause-read
 returns-clause-read g c start given h =
-    let file = c.as_u8-file_channels.ensures ∙ ap (λ s. channels_number s.header.channels) c.self.view_is in
-    let channels = c.as_u8-channels.ensures ∙ ap (λ s. channels_number s.channels) c.self.view_is in
-    on_ok_of _ (pieces_as (sym file) (sym channels) refl refl)
-    (c.decode_piece.ensures.read _ start given (before g (goal.at.returns-clause-read g c).After-as_u8-file_channels start given h))
-
-pub returns-clause-refused : goal.returns-clause-refused
-returns-clause-refused g c start given h =
-    c.decode_piece.ensures.refused _ start given (before g (goal.at.returns-clause-refused g c).After-as_u8-file_channels start given h)
+    let p = c.args.pieces.now in
+    let d = c.give-done.result in
+    let m = c.in_ok-more.more in
+    let front = take d (kept p) in
+    let long = c.decode_more.new.out in
+    let short = c.give.new.out in
+    let after = c.decode_more.new.pieces in
+    let h1 = given_on p c.give-done.new.self _ d c.give-done.ensures.size c.give-done.ensures.state h in
+    let h2 = c.in_ok-more.ensures.read start _ h1 in
+    let h3 = given_on after c.give.new.self _ c.give.result c.give.ensures.size c.give.ensures.state h2 in
+    let size : length front ≡ d = length-take-le d (kept p) (omega (arith, c.give-done.ensures.size, kept_long p h.within)) in
+    let all : length _ ≤ c.give.result = omega (arith, c.give.ensures.size, c.in_ok-more.ensures.enough, c.give.auto.out) in
+    let last : short ≡ take c.give.result (kept after) = filled _ short (take c.give.result (kept after)) c.give.result c.give.ensures.given all in
+    let parts = joined d m c.give-done.new.out long short front (drop d c.args.out.now) c.give-done.ensures.given size c.in_ok-more.ensures.within c.decode_more.auto.out c.give.auto.out in
+    let f = channels_number c.args.self.now.header.channels in
+    let k = channels_number c.args.self.now.channels in
+    let count = pixel_count c.args.self.now.header in
+    subst (λ z. GivesPieces f k count start (g.R.Reader.ahead c.decode_more.new.self.reader) z c.give.new.self)
+    (ap (λ z. ((given ++ front) ++ take m long) ++ z) (sym last) ∙ ap (λ z. z ++ short) (append_assoc given front (take m long))
+    ∙ append_assoc given (front ++ take m long) short ∙ ap (λ z. given ++ z) (sym parts)) h3

@@ -1,5 +1,5 @@
 -- What was lent is decoded.
-use Rattle.std.proofs.Common.{◌≡◌, ℕ, ◌*◌, ◌/◌, ◌<◌, ◌≤◌, List, take, length, Option, arith}
+use Rattle.std.proofs.Common.{◌≡◌, ℕ, ◌*◌, ◌/◌, ◌≤◌, List, take, length, Option, arith}
 use Rattle.std.proofs.lemmas.Result.{err_from_is_err_and}
 use Rattle.qoi.specs.declared.decode.pieces.Pieces.{Pieces}
 use Rattle.qoi.specs.Raw.{IsChannels}
@@ -9,12 +9,11 @@ use Rattle.qoi.proofs.decode.pieces.Pieces.long_piece.Goals as goal
 
 -- the whole pixels at the front are lent
 front_lent : {f c n : ℕ} {start old : Option (List ℕ)} {given : List ℕ} (p : Pieces) (out : List ℕ) → IsChannels c → GivesPieces f c n start old given p
-    → (0 < length out → p.from ≡ p.to) → length out ≤ bytes_left p → 1536 ≤ length out
+    → p.from ≡ p.to → length out ≤ bytes_left p → 1040 ≤ length out
     → Lent f c n (length out / c) start old given p (take (length out / c * c) out)
 front_lent {c = c} p out is h none fits long =
-    let same = none (omega (arith, long)) in
     let most = front_most c out is in
-    lent (length out / c) (take (length out / c * c) out) is h same (omega (arith, same, fits, long)) (whole_front c out is) (omega (arith, same, fits, most.0))
+    lent (length out / c) (take (length out / c * c) out) is h none (omega (arith, none, fits, long)) (whole_front c out is) (omega (arith, none, fits, most.0))
 
 pub some_chunks-requires-clause-whole : goal.some_chunks-requires-clause-whole
 some_chunks-requires-clause-whole g c =
@@ -33,10 +32,10 @@ returns-in_err-now-clause-refused g c n start given h =
 pub returns-clause-read : goal.returns-clause-read
 returns-clause-read g c n start given h =
     let out = c.args.out.now in
-    let long : 1536 ≤ length out = omega (arith, c.if-out-lt-IN_PLACE.false) in
+    let long : 1040 ≤ length out = omega (arith, c.if-out-lt-IN_PLACE.false) in
     let l = front_lent c.args.self.now out c.requires.channels h c.requires.none c.requires.fits long in
     let most = front_most g.row.N out c.requires.channels in
-    let same = c.requires.none (omega (arith, long)) in
+    let same = c.requires.none in
     let size : length c.some_chunks.new.out ≡ length (take (length out / g.row.N * g.row.N) out) = c.some_chunks.auto.out in
     long_read c.some_chunks.new.out _ _ c.requires.channels h same l (c.in_ok-now.ensures.between l.gone _ _ l.before)
     (c.in_ok-now.ensures.below (omega (arith, most, long))) (omega (arith, size, most.0, c.requires.fits, same))

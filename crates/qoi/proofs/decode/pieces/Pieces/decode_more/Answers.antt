@@ -1,0 +1,1 @@
+-- A long piece, and what is kept for the rest.
