@@ -167,6 +167,7 @@ fn write_more<'a, 'p, W: Write, const N: usize, const STYLE: u8, const ROOM: usi
 }
 
 // `take_any` for `N` channels, if there is no room. `STYLE` is a number for each style.
+#[inline(never)]
 fn take_raw<W: Write, const N: usize, const STYLE: u8, const ROOM: usize>(
     writer: &mut W,
     style: Style,
@@ -229,45 +230,6 @@ fn write_last<W: Write, const N: usize, const STYLE: u8, const ROOM: usize>(
     Ok(())
 }
 
-// `take_any` if there is no room for the bytes beside those that are held.
-#[inline(never)]
-fn take_many<W: Write>(
-    writer: &mut W,
-    channels: Channels,
-    style: Style,
-    kept: &mut Kept,
-    raw: &[u8],
-) -> Result<()>
-    requires opaque { channels_number channels ≡ 3 → kept.old.pending.last.px.a ≡ 255 }
-    ensures opaque { channels_number channels ≡ 3 → kept.new.pending.last.px.a ≡ 255 }
-    ensures count { OnOk result (length kept.new.held % channels_number channels
-        ≡ (length kept.old.held + length raw.now) % channels_number channels) }
-    ensures written { OnOk result (GoesOn (channels_number channels) style
-        (W.contents writer.old) kept.old.pending [] kept.old.held raw.now
-        (W.contents writer.new) kept.new.pending [] kept.new.held []) }
-    ensures refused { IfErr result (λ e. IsIoError e × BreaksOff (channels_number channels) style
-        (W.contents writer.old) kept.old.pending [] kept.old.held raw.now
-        (W.contents writer.new)) }
-{
-    let pending = &mut kept.pending;
-    let held = &mut kept.held;
-    let room = &mut kept.room;
-    // The numbers of styles are those of the calls that take a whole image, so that both share the
-    // coder's loops.
-    match (channels, style) {
-        (Rgb, Reference) => take_raw::<W, 3, 0, FULL_ROOM>(
-            writer, Reference, pending, held, room, raw,
-        ),
-        (Rgb, Places) => take_raw::<W, 3, 1, FULL_ROOM>(writer, Places, pending, held, room, raw),
-        (Rgb, Tight) => take_raw::<W, 3, 2, FULL_ROOM>(writer, Tight, pending, held, room, raw),
-        (Rgba, Reference) => take_raw::<W, 4, 0, FULL_ROOM>(
-            writer, Reference, pending, held, room, raw,
-        ),
-        (Rgba, Places) => take_raw::<W, 4, 1, FULL_ROOM>(writer, Places, pending, held, room, raw),
-        (Rgba, Tight) => take_raw::<W, 4, 2, FULL_ROOM>(writer, Tight, pending, held, room, raw),
-    }
-}
-
 /// Takes raw bytes of an image with these channels, in this style: holds them if there is room,
 /// else writes those that were held first.
 #[inline(always)]
@@ -293,7 +255,23 @@ pub(super) fn take_any<W: Write>(
         kept.held.push(raw);
         return Ok(());
     }
-    take_many(writer, channels, style, kept, raw)
+    let pending = &mut kept.pending;
+    let held = &mut kept.held;
+    let room = &mut kept.room;
+    // The numbers of styles are those of the calls that take a whole image, so that both share the
+    // coder's loops.
+    match (channels, style) {
+        (Rgb, Reference) => take_raw::<W, 3, 0, FULL_ROOM>(
+            writer, Reference, pending, held, room, raw,
+        ),
+        (Rgb, Places) => take_raw::<W, 3, 1, FULL_ROOM>(writer, Places, pending, held, room, raw),
+        (Rgb, Tight) => take_raw::<W, 3, 2, FULL_ROOM>(writer, Tight, pending, held, room, raw),
+        (Rgba, Reference) => take_raw::<W, 4, 0, FULL_ROOM>(
+            writer, Reference, pending, held, room, raw,
+        ),
+        (Rgba, Places) => take_raw::<W, 4, 1, FULL_ROOM>(writer, Places, pending, held, room, raw),
+        (Rgba, Tight) => take_raw::<W, 4, 2, FULL_ROOM>(writer, Tight, pending, held, room, raw),
+    }
 }
 
 /// Writes an image's last raw bytes, which were held, and the end marker.

@@ -55,7 +55,7 @@ impl<W: Write + Drop> PixelWriter<W> {
     /// Sends the header of the image to the writer.
     ///
     /// `InvalidImageDimensions` if width times height is 0 or above 400,000,000; `OutOfMemory` if
-    /// the only allocation fails, of some 4 KiB; `IoError` as in `Encoder::encode_to_stream`. The
+    /// the only allocation fails, of some 13 KB; `IoError` as in `Encoder::encode_to_stream`. The
     /// writer is then dropped.
     pub fn new(alloc: Global, header: Header, style: Style, writer: W) -> Result<PixelWriter<W>>
         ensures made { IfOk result (HasTaken W.contents
@@ -110,8 +110,10 @@ impl<W: Write + Drop> PixelWriter<W> {
         self.left
     }
 
-    /// Takes the next raw bytes, any number of them, and sends the chunks of all pixels that came
-    /// but for fewer than sixteen, and but for repeats whose run may go on. It doesn't flush.
+    /// Takes the next raw bytes, any number of them. Up to 8,256 are held, so that several short
+    /// rows are encoded at once. If there is no room for these, or they are more than 4,128, those
+    /// that were held are encoded and sent, and if they are many, these too, but for fewer than
+    /// sixteen pixels. Repeats whose run may go on aren't sent. It doesn't flush.
     ///
     /// `InvalidImageLength`, with the number of all bytes that came, if there are more than the
     /// image has; then none of them is taken. `IoError` if the writer reports a fault or takes no byte;

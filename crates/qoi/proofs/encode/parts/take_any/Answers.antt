@@ -1,5 +1,5 @@
 -- In each arm the loop's own promise.
-use Rattle.qoi.proofs.encode.parts.take_many.Goals as goal
+use Rattle.qoi.proofs.encode.parts.take_any.Goals as goal
 
 pub returns-in-Rgb-Reference-clause-refused : goal.returns-in-Rgb-Reference-clause-refused
 returns-in-Rgb-Reference-clause-refused g c = rw (c.in-Rgb-Reference.is-0, c.in-Rgb-Reference.is-1) c.take_raw.ensures.refused
