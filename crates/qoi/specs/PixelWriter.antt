@@ -24,7 +24,7 @@ pub record HasTaken {W : Type 0} (contents : W → Option (List ℕ)) (e : Encod
   pub are : AreBytes e.raw
   pub writes : (more : List ℕ) → length more ≡ p.left → AreBytes more
       → ImageBetween (and_raw e more) before (contents p.writer)
-      (pixels_of (channels_number p.header.channels) (p.held ++ more)) p.pending []
+      (pixels_of (channels_number p.header.channels) (p.kept.value.held ++ more)) p.kept.value.pending []
 
 -- A beginning of the file of each image whose raw bytes begin with those of e was sent.
 abbrev pub SendsSome : EncoderState → Option (List ℕ) → Option (List ℕ) → Type 0

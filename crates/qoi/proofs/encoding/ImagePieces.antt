@@ -1,8 +1,7 @@
 -- An image whose raw bytes come piece by piece, from one state to the next.
-use Rattle.std.proofs.Common.{◌≡◌, ℕ, ◌+◌, ◌-◌, ◌*◌, ◌/◌, ◌%◌, ◌<◌, ◌≤◌, List, [], ◌∷◌, ◌++◌, length, take, drop, arith, length-append, take-append-drop, Option, None, refl, sym, ap, ◌∙◌, subst, append_assoc, append-nil}
+use Rattle.std.proofs.Common.{◌≡◌, ◌⊎◌, inl, inr, ℕ, ◌+◌, ◌-◌, ◌*◌, ◌/◌, ◌%◌, ◌<◌, ◌≤◌, List, [], ◌∷◌, ◌++◌, length, take, drop, arith, length-append, take-append-drop, Option, None, refl, sym, ap, ◌∙◌, subst, append_assoc, append-nil}
 use Rattle.std.specs.Io.KnownBytes.{Appends}
 use Rattle.std.proofs.KnownBytes.{Appends-trans}
-use Rattle.std.proofs.Math.Nat.{mul_comm}
 use Rattle.std.proofs.lemmas.List.{length-take-le}
 use Rattle.qoi.specs.declared.encode.pending.Pending.{Pending}
 use Rattle.qoi.specs.declared.encode.pixels.Pixels.{Pixels}
@@ -116,17 +115,34 @@ no_more_bytes n p q is = by_channels (λ m. p ≤ q → m * p ≤ m * q) is (λ 
 pub whole_ahead : (n : ℕ) (xs ys : List ℕ) → IsChannels n → length xs % n ≡ 0 → pixels_of n (xs ++ ys) ≡ pixels_of n xs ++ pixels_of n ys
 whole_ahead n xs ys is whole = pixels_of-append n (length xs / n) xs ys is (whole_pixels n (length xs) is whole)
 
--- raw bytes that are held, and those that make a block of them
-pub block_ahead : (n : ℕ) (h r more block front after pushed : List ℕ) (k : ℕ) → IsChannels n → k ≡ 16 * n - length h → length h < 16 * n
-    → 16 * n ≤ length h + length r → front ≡ take k r → after ≡ drop k r → pushed ≡ h ++ front → take (length pushed) block ≡ pushed
-    → pixels_of n (h ++ (r ++ more)) ≡ pixels_of n (take (16 * n) block) ++ pixels_of n (after ++ more)
-block_ahead n h r more block front after pushed k is k_is short enough front_is after_is pushed_is block_is =
-    let size : length pushed ≡ 16 * n = omega (arith, ap length pushed_is, length-append h front, ap length front_is, length-take-le k r (omega (arith, k_is, enough)), k_is, short) in
-    let joined : h ++ (r ++ more) ≡ pushed ++ (after ++ more) =
+-- the raw bytes that are held, and as many as their last block needs, are whole pixels
+whole_blocks : (n h k : ℕ) → IsChannels n → k ≡ (16 * n - h % (16 * n)) % (16 * n) → (h + k) % n ≡ 0
+whole_blocks n h k is = by_channels (λ m. k ≡ (16 * m - h % (16 * m)) % (16 * m) → (h + k) % m ≡ 0) is (λ a. omega arith) (λ a. omega arith)
+
+-- if more bytes come than are held, there are as many
+pub fills_block : (n h r : ℕ) → IsChannels n → h ≤ 8256 → (8256 < 2 * r) ⊎ (8256 < h + r) → (16 * n - h % (16 * n)) % (16 * n) ≤ r
+fills_block n h r is most many = by_channels (λ m. (16 * m - h % (16 * m)) % (16 * m) ≤ r) is
+    (elim many [ inl half ↦ omega (arith, half) | inr all ↦ omega (arith, all, most) ])
+    (elim many [ inl half ↦ omega (arith, half) | inr all ↦ omega (arith, all, most) ])
+
+-- if none are held, there are those of a block
+pub has_block : (n h r : ℕ) → IsChannels n → (8256 < 2 * r) ⊎ (8256 < h + r) → h ≡ 0 → 16 * n ≤ r
+has_block n h r is many none = by_channels (λ m. 16 * m ≤ r) is
+    (elim many [ inl half ↦ omega (arith, half) | inr all ↦ omega (arith, all, none) ])
+    (elim many [ inl half ↦ omega (arith, half) | inr all ↦ omega (arith, all, none) ])
+
+-- raw bytes that are held, and those that their last block needs
+pub block_ahead : (n : ℕ) (h r more bytes front after : List ℕ) (k : ℕ) → IsChannels n → k ≡ (16 * n - length h % (16 * n)) % (16 * n)
+    → (16 * n - length h % (16 * n)) % (16 * n) ≤ length r → front ≡ take k r → after ≡ drop k r → bytes ≡ h ++ front
+    → pixels_of n (h ++ (r ++ more)) ≡ pixels_of n bytes ++ pixels_of n (after ++ more)
+block_ahead n h r more bytes front after k is k_is enough front_is after_is bytes_is =
+    let size : length bytes ≡ length h + k = ap length bytes_is ∙ length-append h front
+    ∙ ap (λ z. length h + z) (ap length front_is ∙ length-take-le k r (subst (λ z. z ≤ length r) (sym k_is) enough)) in
+    let whole : length bytes % n ≡ 0 = ap (λ m. m % n) size ∙ whole_blocks n (length h) k is k_is in
+    let joined : h ++ (r ++ more) ≡ bytes ++ (after ++ more) =
     ap (λ z. h ++ (z ++ more)) (sym (take-append-drop k r) ∙ (λ i. sym front_is i ++ sym after_is i)) ∙ ap (λ z. h ++ z) (append_assoc front after more)
-    ∙ sym (append_assoc h front (after ++ more)) ∙ ap (λ z. z ++ (after ++ more)) (sym pushed_is) in
-    ap (pixels_of n) joined ∙ pixels_of-append n 16 pushed (after ++ more) is (size ∙ mul_comm 16 n)
-    ∙ ap (λ z. pixels_of n z ++ pixels_of n (after ++ more)) (sym block_is ∙ ap (λ k. take k block) size)
+    ∙ sym (append_assoc h front (after ++ more)) ∙ ap (λ z. z ++ (after ++ more)) (sym bytes_is) in
+    ap (pixels_of n) joined ∙ whole_ahead n bytes (after ++ more) is whole
 
 -- raw bytes while none are held: whole pixels, and a part of one
 pub pixels_ahead : (n : ℕ) (h r more front after : List ℕ) (k : ℕ) → IsChannels n → length h ≡ 0 → k ≡ length r - length r % n

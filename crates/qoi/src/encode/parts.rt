@@ -2,23 +2,24 @@
 //! specification 1.0, "Data").
 ghost use Rattle.std.specs.Prelude.{◌≡◌, ℕ, ◌+◌, ◌-◌, ◌*◌, ◌%◌, ◌<◌, ◌≤◌, List, [], ◌++◌, Option, length, IfOk, IfErr, OnOk};
 ghost use Rattle.std.specs.Io.KnownBytes.{Appends};
-ghost use Rattle.qoi.specs.declared.encode.piece.TheConstants.{PAST, FULL_ROOM};
+ghost use Rattle.qoi.specs.declared.encode.piece.TheConstants.{PAST};
 ghost use Rattle.qoi.specs.Qoi.{RgbaPixel, channels_number, end_marker};
 ghost use Rattle.qoi.specs.Raw.{IsChannels, pixels_of};
 ghost use Rattle.qoi.specs.EncoderState.{EncoderState};
 ghost use Rattle.qoi.specs.Errors.{IsIoError};
 ghost use Rattle.qoi.specs.writers.Writes.{AppendsBeginning};
 ghost use Rattle.qoi.specs.inner.Piece.{kept_bytes};
-ghost use Rattle.qoi.specs.inner.Pending.{ImageBetween, BeganFile, WroteFile};
+ghost use Rattle.qoi.specs.inner.Pending.{ImageBetween, BeganFile, WroteFile, GoesOn, BreaksOff};
 
 use crate::encode::blocks::write_some;
 use crate::encode::coder::Coder;
-use crate::encode::pending::{Held, Pending};
-use crate::encode::piece::{FULL_ROOM, OpenPiece, Piece, TINY_ROOM};
+use crate::encode::pending::{Held, Kept, Pending};
+use crate::encode::piece::{FULL_ROOM, OpenPiece, Piece};
 use crate::encode::pixels::Pixels;
 use crate::error::Result;
 use crate::types::Channels::{self, Rgb, Rgba};
 use crate::types::Style::{self, Places, Reference, Tight};
+use crate::utils::copy_after;
 use crate::writers::GenericWriter;
 use std::io::Write;
 
@@ -115,7 +116,58 @@ fn write_whole<'a, 'p, W: Write, const N: usize, const STYLE: u8, const ROOM: us
     Ok((rest.bytes, piece))
 }
 
-// `take_any` for `N` channels. `STYLE` is a number for each style.
+// Writes the raw bytes that are held and as many of these as their last block needs, or else whole
+// pixels of these; and holds the pixels that are left, fewer than a block has. Returns the rest.
+#[inline(always)]
+fn write_more<'a, 'p, W: Write, const N: usize, const STYLE: u8, const ROOM: usize>(
+    writer: &mut W,
+    style: Style,
+    pending: &mut Pending,
+    held: &mut Held,
+    piece: OpenPiece<'p, ROOM>,
+    raw: &'a [u8],
+) -> Result<(&'a [u8], OpenPiece<'p, ROOM>)>
+    requires channels { IsChannels N }
+    requires opaque { N ≡ 3 → pending.old.last.px.a ≡ 255 }
+    requires enough { (16 * N - length held.old % (16 * N)) % (16 * N) ≤ length raw.now }
+    requires block { length held.old ≡ 0 → 16 * N ≤ length raw.now }
+    ensures opaque { N ≡ 3 → pending.new.last.px.a ≡ 255 }
+    ensures less { IfOk result (λ r. length held.new + length r.0.now
+        < length held.old + length raw.entry.now) }
+    ensures count { IfOk result (λ r. (length held.new + length r.0.now) % N
+        ≡ (length held.old + length raw.entry.now) % N) }
+    ensures written { IfOk result (λ r. GoesOn N style
+        (W.contents writer.old) pending.old (kept_bytes piece.entry.piece) held.old raw.entry.now
+        (W.contents writer.new) pending.new (kept_bytes r.1.piece) held.new r.0.now) }
+    ensures refused { IfErr result (λ e. IsIoError e × BreaksOff N style (W.contents writer.old)
+        pending.old (kept_bytes piece.entry.piece) held.old raw.entry.now
+        (W.contents writer.new)) }
+{
+    if held.len() == 0 {
+        let (pixels, part) = raw.split_at(raw.len() - raw.len() % N);
+        let (left, piece) = write_whole::<W, N, STYLE, ROOM>(
+            writer, style, pending, piece, pixels,
+        )?;
+        held.push(left);
+        return Ok((part, piece));
+    }
+    let (front, rest) = raw.split_at((16 * N - held.len() % (16 * N)) % (16 * N));
+    held.push(front);
+    let (left, piece) = write_whole::<W, N, STYLE, ROOM>(
+        writer,
+        style,
+        pending,
+        piece,
+        held.bytes(),
+    )?;
+    let mut few = [0; 64];
+    let count = copy_after(&mut few, 0, left);
+    held.replace(&few[..count]);
+    Ok((rest, piece))
+}
+
+// `take_any` for `N` channels, if there is no room. `STYLE` is a number for each style.
+#[inline(never)]
 fn take_raw<W: Write, const N: usize, const STYLE: u8, const ROOM: usize>(
     writer: &mut W,
     style: Style,
@@ -126,118 +178,86 @@ fn take_raw<W: Write, const N: usize, const STYLE: u8, const ROOM: usize>(
 ) -> Result<()>
     requires channels { IsChannels N }
     requires opaque { N ≡ 3 → pending.old.last.px.a ≡ 255 }
-    requires short { length held.old < 16 * N }
     requires piece { 2 * PAST ≤ ROOM }
     requires room { length room.old ≡ ROOM }
     ensures opaque { N ≡ 3 → pending.new.last.px.a ≡ 255 }
-    ensures short { length held.new < 16 * N }
-    ensures count { OnOk result
-        (length held.new % N ≡ (length held.old + length raw.now) % N) }
-    ensures written { (e : EncoderState) (before : Option (List ℕ)) (more : List ℕ)
-        → e.style ≡ style
-        → ImageBetween e before (W.contents writer.old)
-        (pixels_of N (held.old ++ (raw.now ++ more))) pending.old []
-        → OnOk result (ImageBetween e before (W.contents writer.new)
-        (pixels_of N (held.new ++ more)) pending.new []) }
-    ensures refused { IfErr result (λ error. IsIoError error
-        × ((e : EncoderState) (before : Option (List ℕ)) (more : List ℕ)
-        → e.style ≡ style
-        → ImageBetween e before (W.contents writer.old)
-        (pixels_of N (held.old ++ (raw.now ++ more))) pending.old []
-        → BeganFile e before (W.contents writer.new))) }
+    ensures count { OnOk result (length held.new % N ≡ (length held.old + length raw.now) % N) }
+    ensures written { OnOk result (GoesOn N style
+        (W.contents writer.old) pending.old [] held.old raw.now
+        (W.contents writer.new) pending.new [] held.new []) }
+    ensures refused { IfErr result (λ e. IsIoError e × BreaksOff N style
+        (W.contents writer.old) pending.old [] held.old raw.now (W.contents writer.new)) }
 {
-    if held.len() + raw.len() < 16 * N {
-        held.push(raw);
-        return Ok(());
-    }
     let mut piece = Piece::<ROOM>::new(room).open();
     let mut rest = raw;
-    while held.len() > 0 && held.len() + rest.len() >= 16 * N {
-        let (front, after) = rest.split_at(16 * N - held.len());
-        held.push(front);
-        rest = after;
-        let block = held.block();
-        held.replace(&[]);
-        let (left, now) = write_whole::<W, N, STYLE, ROOM>(
-            writer,
-            style,
-            pending,
-            piece,
-            &block[..16 * N],
-        )?;
-        piece = now;
-        held.replace(left);
+    while !held.takes(rest.len()) {
+        (rest, piece) = write_more::<W, N, STYLE, ROOM>(writer, style, pending, held, piece, rest)?;
     }
-    if held.len() > 0 {
-        held.push(rest);
-        send_all(writer, &mut piece.piece)?;
-        return Ok(());
-    }
-    let (pixels, part) = rest.split_at(rest.len() - rest.len() % N);
-    let (left, mut piece) = write_whole::<W, N, STYLE, ROOM>(
-        writer, style, pending, piece, pixels,
-    )?;
-    held.push(left);
-    held.push(part);
+    held.push(rest);
     send_all(writer, &mut piece.piece)?;
     Ok(())
 }
 
 // `write_any` for `N` channels.
-fn write_last<W: Write, const N: usize>(
+fn write_last<W: Write, const N: usize, const STYLE: u8, const ROOM: usize>(
     writer: &mut W,
     style: Style,
     pending: &mut Pending,
-    held: &[u8],
+    held: &Held,
+    room: &mut [u8],
 ) -> Result<()>
     requires channels { IsChannels N }
     requires opaque { N ≡ 3 → pending.old.last.px.a ≡ 255 }
     requires whole { length held.now % N ≡ 0 }
-    requires short { length held.now < 16 * N }
+    requires piece { 2 * PAST ≤ ROOM }
+    requires room { length room.old ≡ ROOM }
     ensures written { (e : EncoderState) (before : Option (List ℕ)) → e.style ≡ style
         → ImageBetween e before (W.contents writer.old) (pixels_of N held.now) pending.old []
         → OnOk result (WroteFile e before (W.contents writer.new)) }
     ensures refused { IfErr result IsIoError }
 {
-    let mut room = [0; TINY_ROOM];
-    let piece = Piece::<TINY_ROOM>::new(&mut room).open();
+    let piece = Piece::<ROOM>::new(room).open();
+    let (left, piece) = write_whole::<W, N, STYLE, ROOM>(
+        writer,
+        style,
+        pending,
+        piece,
+        held.bytes(),
+    )?;
     let mut coder = Coder::<N>::new(pending.last);
-    let mut piece = coder.write_few(style, &mut pending.table, piece, Pixels::<N>::new(held));
+    let mut piece = coder.write_few(style, &mut pending.table, piece, Pixels::<N>::new(left));
     send_last(writer, &mut piece)?;
     Ok(())
 }
 
-/// Takes raw bytes of an image with these channels, in this style: writes what comes before the
-/// last pixels, fewer than a block has, and holds those.
+/// Takes raw bytes of an image with these channels, in this style: holds them if there is room,
+/// else writes those that were held first.
+#[inline(always)]
 pub(super) fn take_any<W: Write>(
     writer: &mut W,
     channels: Channels,
     style: Style,
-    pending: &mut Pending,
-    held: &mut Held,
-    room: &mut [u8],
+    kept: &mut Kept,
     raw: &[u8],
 ) -> Result<()>
-    requires room { length room.old ≡ FULL_ROOM }
-    requires opaque { channels_number channels ≡ 3 → pending.old.last.px.a ≡ 255 }
-    requires short { length held.old < 16 * channels_number channels }
-    ensures opaque { channels_number channels ≡ 3 → pending.new.last.px.a ≡ 255 }
-    ensures short { length held.new < 16 * channels_number channels }
-    ensures count { OnOk result (length held.new % channels_number channels
-        ≡ (length held.old + length raw.now) % channels_number channels) }
-    ensures written { (e : EncoderState) (before : Option (List ℕ)) (more : List ℕ)
-        → e.style ≡ style
-        → ImageBetween e before (W.contents writer.old)
-        (pixels_of (channels_number channels) (held.old ++ (raw.now ++ more))) pending.old []
-        → OnOk result (ImageBetween e before (W.contents writer.new)
-        (pixels_of (channels_number channels) (held.new ++ more)) pending.new []) }
-    ensures refused { IfErr result (λ error. IsIoError error
-        × ((e : EncoderState) (before : Option (List ℕ)) (more : List ℕ)
-        → e.style ≡ style
-        → ImageBetween e before (W.contents writer.old)
-        (pixels_of (channels_number channels) (held.old ++ (raw.now ++ more))) pending.old []
-        → BeganFile e before (W.contents writer.new))) }
+    requires opaque { channels_number channels ≡ 3 → kept.old.pending.last.px.a ≡ 255 }
+    ensures opaque { channels_number channels ≡ 3 → kept.new.pending.last.px.a ≡ 255 }
+    ensures count { OnOk result (length kept.new.held % channels_number channels
+        ≡ (length kept.old.held + length raw.now) % channels_number channels) }
+    ensures written { OnOk result (GoesOn (channels_number channels) style
+        (W.contents writer.old) kept.old.pending [] kept.old.held raw.now
+        (W.contents writer.new) kept.new.pending [] kept.new.held []) }
+    ensures refused { IfErr result (λ e. IsIoError e × BreaksOff (channels_number channels) style
+        (W.contents writer.old) kept.old.pending [] kept.old.held raw.now
+        (W.contents writer.new)) }
 {
+    if kept.held.takes(raw.len()) {
+        kept.held.push(raw);
+        return Ok(());
+    }
+    let pending = &mut kept.pending;
+    let held = &mut kept.held;
+    let room = &mut kept.room;
     // The numbers of styles are those of the calls that take a whole image, so that both share the
     // coder's loops.
     match (channels, style) {
@@ -254,25 +274,34 @@ pub(super) fn take_any<W: Write>(
     }
 }
 
-/// Writes an image's last pixels, which were held, and the end marker.
+/// Writes an image's last raw bytes, which were held, and the end marker.
 pub(super) fn write_any<W: Write>(
     writer: &mut W,
     channels: Channels,
     style: Style,
-    pending: &mut Pending,
-    held: &[u8],
+    kept: &mut Kept,
 ) -> Result<()>
-    requires opaque { channels_number channels ≡ 3 → pending.old.last.px.a ≡ 255 }
-    requires whole { length held.now % channels_number channels ≡ 0 }
-    requires short { length held.now < 16 * channels_number channels }
+    requires opaque { channels_number channels ≡ 3 → kept.old.pending.last.px.a ≡ 255 }
+    requires whole { length kept.old.held % channels_number channels ≡ 0 }
     ensures written { (e : EncoderState) (before : Option (List ℕ)) → e.style ≡ style
         → ImageBetween e before (W.contents writer.old)
-        (pixels_of (channels_number channels) held.now) pending.old []
+        (pixels_of (channels_number channels) kept.old.held) kept.old.pending []
         → OnOk result (WroteFile e before (W.contents writer.new)) }
     ensures refused { IfErr result IsIoError }
 {
-    match channels {
-        Rgb => write_last::<W, 3>(writer, style, pending, held),
-        Rgba => write_last::<W, 4>(writer, style, pending, held),
+    let pending = &mut kept.pending;
+    let held = &kept.held;
+    let room = &mut kept.room;
+    match (channels, style) {
+        (Rgb, Reference) => write_last::<W, 3, 0, FULL_ROOM>(
+            writer, Reference, pending, held, room,
+        ),
+        (Rgb, Places) => write_last::<W, 3, 1, FULL_ROOM>(writer, Places, pending, held, room),
+        (Rgb, Tight) => write_last::<W, 3, 2, FULL_ROOM>(writer, Tight, pending, held, room),
+        (Rgba, Reference) => write_last::<W, 4, 0, FULL_ROOM>(
+            writer, Reference, pending, held, room,
+        ),
+        (Rgba, Places) => write_last::<W, 4, 1, FULL_ROOM>(writer, Places, pending, held, room),
+        (Rgba, Tight) => write_last::<W, 4, 2, FULL_ROOM>(writer, Tight, pending, held, room),
     }
 }

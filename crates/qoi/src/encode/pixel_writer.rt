@@ -1,7 +1,6 @@
 //! Encoding of one image whose raw bytes come piece by piece.
 ghost use Rattle.std.specs.Prelude.{◌≡◌, ℕ, ◌+◌, ◌*◌, ◌%◌, ◌<◌, ◌≤◌, List, [], Option, length, ◌⊎◌, Err, IfOk, IfErr, IsErrAnd, OnOk, false};
 ghost use Rattle.std.specs.Io.KnownBytes.{Appends};
-ghost use Rattle.qoi.specs.declared.encode.piece.TheConstants.{FULL_ROOM};
 ghost use Rattle.qoi.specs.declared.error.Error.{Error};
 ghost use Rattle.qoi.specs.declared.types.Channels.{Channels};
 ghost use Rattle.qoi.specs.Qoi.{IsValid, channels_number, header_bytes, tried_header};
@@ -10,11 +9,8 @@ ghost use Rattle.qoi.specs.EncoderState.{EncoderState};
 ghost use Rattle.qoi.specs.Errors.{IsIoError};
 
 use crate::consts::QOI_HEADER_SIZE;
-use crate::encode::last::LastPixel;
 use crate::encode::parts::{take_any, write_any};
-use crate::encode::pending::{Held, Pending};
-use crate::encode::piece::FULL_ROOM;
-use crate::encode::table::PixelTable;
+use crate::encode::pending::Kept;
 use crate::error::{Error, Result};
 use crate::header::Header;
 use crate::types::Style;
@@ -43,15 +39,12 @@ pub struct PixelWriter<W> {
     style: Style,
     left: usize,
     failed: bool,
-    pending: Pending,
-    held: Held,
-    room: Box<[u8; FULL_ROOM]>,
+    kept: Box<Kept>,
     ghost valid: { IsValid header },
     ghost left_of: { left ≤ image_byte_count header },
-    ghost short: { length held < 16 * channels_number header.channels },
-    ghost opaque: { channels_number header.channels ≡ 3 → pending.last.px.a ≡ 255 },
+    ghost opaque: { channels_number header.channels ≡ 3 → kept.value.pending.last.px.a ≡ 255 },
     ghost whole: { failed ≡ false
-        → (length held + left) % channels_number header.channels ≡ 0 },
+        → (length kept.value.held + left) % channels_number header.channels ≡ 0 },
 }
 
 impl<W: Write + Drop> PixelWriter<W> {
@@ -62,7 +55,7 @@ impl<W: Write + Drop> PixelWriter<W> {
     /// Sends the header of the image to the writer.
     ///
     /// `InvalidImageDimensions` if width times height is 0 or above 400,000,000; `OutOfMemory` if
-    /// the only allocation fails, of some 4 KiB; `IoError` as in `Encoder::encode_to_stream`. The
+    /// the only allocation fails, of some 13 KB; `IoError` as in `Encoder::encode_to_stream`. The
     /// writer is then dropped.
     pub fn new(alloc: Global, header: Header, style: Style, writer: W) -> Result<PixelWriter<W>>
         ensures made { IfOk result (HasTaken W.contents
@@ -77,7 +70,7 @@ impl<W: Write + Drop> PixelWriter<W> {
             header.channels,
             header.colorspace,
         )?;
-        let room = Box::new(alloc, [0; FULL_ROOM])?;
+        let kept = Box::new(alloc, Kept::new())?;
         let mut writer = writer;
         send_header(&mut writer, &header)?;
         Ok(PixelWriter {
@@ -86,12 +79,7 @@ impl<W: Write + Drop> PixelWriter<W> {
             style,
             left: header.n_bytes(),
             failed: false,
-            pending: Pending {
-                table: PixelTable::new(),
-                last: LastPixel::start(),
-            },
-            held: Held::new(),
-            room,
+            kept,
         })
     }
 
@@ -122,8 +110,10 @@ impl<W: Write + Drop> PixelWriter<W> {
         self.left
     }
 
-    /// Takes the next raw bytes, any number of them, and sends the chunks of all pixels that came
-    /// but for fewer than sixteen, and but for repeats whose run may go on. It doesn't flush.
+    /// Takes the next raw bytes, any number of them. Up to 8,256 are held, so that several short
+    /// rows are encoded at once. If there is no room for these, or they are more than 4,128, those
+    /// that were held are encoded and sent, and if they are many, these too, but for fewer than
+    /// sixteen pixels. Repeats whose run may go on aren't sent. It doesn't flush.
     ///
     /// `InvalidImageLength`, with the number of all bytes that came, if there are more than the
     /// image has; then none of them is taken. `IoError` if the writer reports a fault or takes no byte;
@@ -150,14 +140,12 @@ impl<W: Write + Drop> PixelWriter<W> {
             return Err(wrong_length(&self.header, size));
         }
         self.failed = true;
-        let room = &mut *self.room;
+        let kept = &mut *self.kept;
         take_any(
             &mut self.writer,
             self.header.channels,
             self.style,
-            &mut self.pending,
-            &mut self.held,
-            room,
+            kept,
             raw,
         )?;
         self.failed = false;
@@ -205,17 +193,10 @@ impl<W: Write + Drop> PixelWriter<W> {
             mut writer,
             header,
             style,
-            mut pending,
-            held,
+            mut kept,
             ..
         } = self;
-        write_any(
-            &mut writer,
-            header.channels,
-            style,
-            &mut pending,
-            held.bytes(),
-        )?;
+        write_any(&mut writer, header.channels, style, &mut kept)?;
         Ok(writer)
     }
 

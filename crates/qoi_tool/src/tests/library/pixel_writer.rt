@@ -59,9 +59,12 @@ fn assert_written(rt: &impl Abort, alloc: Global, image: &Image, sizes: &[usize]
         let writer = written(rt, alloc, image, Pieces::Of(*size), writer).expect(rt, "refused");
         assert_bytes(rt, &writer.got, &image.file);
     }
-    let writer = Sink::new(alloc, usize::MAX, NONE).expect(rt, "refused");
-    let writer = written(rt, alloc, image, Pieces::Changing(200), writer).expect(rt, "refused");
-    assert_bytes(rt, &writer.got, &image.file);
+    for most in [200, 6000] {
+        let writer = Sink::new(alloc, usize::MAX, NONE).expect(rt, "refused");
+        let pieces = Pieces::Changing(most);
+        let writer = written(rt, alloc, image, pieces, writer).expect(rt, "refused");
+        assert_bytes(rt, &writer.got, &image.file);
+    }
 }
 
 // The same in each style.
@@ -84,14 +87,15 @@ fn assert_drawn(rt: &impl Abort, alloc: Global, seed: u64, counts: &[u32], sizes
     }
 }
 
-// Pieces of each size from a byte up to those of six blocks.
+// Pieces of each size from a byte up to those of six blocks: of an image that is held whole, and of
+// one that isn't.
 #[test]
 fn pieces_of_each_size(rt: HostRuntime) -> Result<()> {
     let mut sizes = Vec::new(rt.alloc());
     for size in 1..=300 {
         sizes.push(size)?;
     }
-    assert_drawn(&rt, rt.alloc(), 0x0dd5, &[200, 517], &sizes);
+    assert_drawn(&rt, rt.alloc(), 0x0dd5, &[200, 2800], &sizes);
     Ok(())
 }
 
@@ -105,10 +109,26 @@ fn small_images(rt: HostRuntime) {
     }
 }
 
-// Images whose files are several pieces of 4096 bytes long.
+// Images whose files are several pieces of 4096 bytes long. At most 8256 raw bytes are held, none of
+// more than 4128 at once.
 #[test]
 fn large_images(rt: HostRuntime) {
-    let sizes = [63, 64, 192, 4095, 4096, 30_000, usize::MAX];
+    let sizes = [
+        63,
+        64,
+        192,
+        1032,
+        4095,
+        4096,
+        4127,
+        4128,
+        4129,
+        8255,
+        8256,
+        8257,
+        30_000,
+        usize::MAX,
+    ];
     assert_drawn(&rt, rt.alloc(), 0x1a46e, &[5000, 20_000], &sizes);
 }
 
@@ -135,8 +155,8 @@ fn runs_over_pieces(rt: HostRuntime) -> Result<()> {
     Ok(())
 }
 
-// The calls that a writer gets: the header; what each piece makes, or none for bytes that are held;
-// the rest. None of them is a flush.
+// The calls that a writer gets: the header; none for bytes that are held; the rest. None of them is
+// a flush.
 #[test]
 fn calls_of_the_writer(rt: HostRuntime) -> Result<()> {
     let alloc = rt.alloc();
@@ -182,7 +202,8 @@ fn other_lengths(rt: HostRuntime) -> Result<()> {
     Ok(())
 }
 
-// A writer can be had back before all bytes came: it has a beginning of the file.
+// A writer can be had back before all bytes came: it has a beginning of the file, the header alone
+// while all are held.
 #[test]
 fn unfinished(rt: HostRuntime) -> Result<()> {
     let alloc = rt.alloc();
@@ -190,12 +211,22 @@ fn unfinished(rt: HostRuntime) -> Result<()> {
     let mut pixels = PixelWriter::new(alloc, row(100, Channels::Rgb), Style::Reference, sink)?;
     pixels.write(&[9; 90])?;
     assert_number(&rt, pixels.left(), 210);
-    let sink = pixels.into_writer();
-    // The header, and the first pixel's luma chunk.
-    let begun = [
-        0x71, 0x6f, 0x69, 0x66, 0, 0, 0, 100, 0, 0, 0, 1, 3, 0, 0xa9, 0x88,
+    let begun = [0x71, 0x6f, 0x69, 0x66, 0, 0, 0, 100, 0, 0, 0, 1, 3, 0];
+    assert_bytes(&rt, &pixels.into_writer().got, &begun);
+
+    let sink = Sink::new(alloc, usize::MAX, NONE)?;
+    let mut pixels = PixelWriter::new(alloc, row(2000, Channels::Rgb), Style::Reference, sink)?;
+    pixels.write(&[9; 90])?;
+    pixels.write(&[9; 4150])?;
+    assert_number(&rt, pixels.left(), 1760);
+    // The header, the first pixel's luma chunk, and the full runs of 1400 pixels.
+    let mut begun = Vec::new(alloc);
+    let front = [
+        0x71, 0x6f, 0x69, 0x66, 0, 0, 7, 0xd0, 0, 0, 0, 1, 3, 0, 0xa9, 0x88,
     ];
-    assert_bytes(&rt, &sink.got, &begun);
+    begun.extend_from_slice(&front)?;
+    begun.resize(38, 0xfd)?;
+    assert_bytes(&rt, &pixels.into_writer().got, &begun);
     Ok(())
 }
 
@@ -241,7 +272,7 @@ fn failed(
         Ok(pixels) => pixels,
         Err(fault) => return (Some(fault), None),
     };
-    for piece in image.raw.chunks(700) {
+    for piece in image.raw.chunks(3000) {
         if let Err(fault) = pixels.write(piece) {
             return (Some(fault), Some(pixels));
         }
@@ -266,8 +297,13 @@ fn steps(alloc: Global, count: usize) -> Result<Vec<Rgba>> {
 #[test]
 fn failing_writers(rt: HostRuntime) -> Result<()> {
     let alloc = rt.alloc();
-    let pixels = steps(alloc, 3000)?;
-    let image = Image::of(alloc, row(3000, Channels::Rgba), Style::Reference, &pixels)?;
+    let pixels = steps(alloc, 12_000)?;
+    let image = Image::of(
+        alloc,
+        row(12_000, Channels::Rgba),
+        Style::Reference,
+        &pixels,
+    )?;
     for (end, kind) in [
         (End::Fault, ErrorKind::BrokenPipe),
         (End::Interruption, ErrorKind::Interrupted),
@@ -286,8 +322,9 @@ fn failing_writers(rt: HostRuntime) -> Result<()> {
             }
             bad.call = bad.call.saturating_add(1);
         }
-        // The calls that send the header, 18 pieces of which each has a block, and the end.
-        assert_number(&rt, bad.call, 21);
+        // The call that sends the header; two or three for each of five times at which two pieces
+        // that were held are written; two for the end. The one after them isn't reached.
+        assert_number(&rt, bad.call, 18);
     }
     Ok(())
 }
@@ -321,6 +358,6 @@ fn each_allocation(rt: HostRuntime) {
     let refusal = starved(alloc, 0, &mut file).err();
     assert_refused(&rt, alloc, refusal, "out of memory");
     assert_bytes(&rt, &file, &[0xaa; 26]);
-    starved(alloc, 4224, &mut file).expect(&rt, "refused");
+    starved(alloc, 12_760, &mut file).expect(&rt, "refused");
     assert_bytes(&rt, &file, &ONE_RGB_PIXEL);
 }

@@ -1,21 +1,16 @@
 -- The raw bytes up to here came.
-use Rattle.std.proofs.Common.{◌≡◌, ℕ, ◌+◌, ◌<◌, ◌≤◌, ◌%◌, ◌*◌, ◌++◌, [], List, Option, length}
-use Rattle.qoi.specs.Raw.{pixels_of}
-use Rattle.qoi.specs.EncoderState.{EncoderState}
+use Rattle.std.proofs.Common.{◌≡◌, ◌+◌, ◌%◌, [], length}
 use Rattle.qoi.specs.inner.Piece.{kept_bytes}
-use Rattle.qoi.specs.inner.Pending.{ImageBetween}
+use Rattle.qoi.specs.inner.Pending.{GoesOn}
 use Rattle.qoi.proofs.encode.parts.take_raw.Given as goal
 
-abbrev pub invariant-loop-held : goal.invariant-loop-held
-invariant-loop-held g l = record {
-  left : length l.rest ≤ length l.raw;
-  short : length l.held < 16 * g.row.N;
+abbrev pub invariant-loop-style : goal.invariant-loop-style
+invariant-loop-style g l = record {
   count : (length l.held + length l.rest) % g.row.N ≡ (length l.fn.held + length l.raw) % g.row.N;
   opaque : g.row.N ≡ 3 → l.pending.last.px.a ≡ 255;
-  written : (e : EncoderState) (before : Option (List ℕ)) (more : List ℕ) → e.style ≡ l.fn.style
-      → ImageBetween e before (g.W.Write.contents l.fn.writer) (pixels_of g.row.N (l.fn.held ++ (l.raw ++ more))) l.fn.pending []
-      → ImageBetween e before (g.W.Write.contents l.writer) (pixels_of g.row.N (l.held ++ (l.rest ++ more))) l.pending (kept_bytes l.piece.piece);
+  written : GoesOn g.row.N l.fn.style (g.W.Write.contents l.fn.writer) l.fn.pending [] l.fn.held l.raw
+      (g.W.Write.contents l.writer) l.pending (kept_bytes l.piece.piece) l.held l.rest;
 }
 
-abbrev pub decreases-loop-held : goal.decreases-loop-held
-decreases-loop-held g l = length l.held + length l.rest
+abbrev pub decreases-loop-style : goal.decreases-loop-style
+decreases-loop-style g l = length l.held + length l.rest

@@ -1,51 +1,43 @@
 -- Before the first raw byte.
-use Rattle.std.proofs.Common.{[], ◌++◌, ◌≡◌, ◌<◌, ◌+◌, ◌%◌, length, refl, sym, ap, ◌∙◌, subst, arith}
+use Rattle.std.proofs.Common.{[], ◌++◌, ◌≡◌, ◌+◌, ◌%◌, length, refl, sym, ap, ◌∙◌, subst, arith}
 use Rattle.std.proofs.Math.Nat.{mul-mod_left}
 use Rattle.std.specs.Io.KnownBytes.{Appends}
-use Rattle.qoi.specs.declared.types.Channels.{Channels}
-use Rattle.qoi.specs.declared.types.Channels.TheVariants.{Rgb, Rgba}
 use Rattle.qoi.specs.declared.header.Header.{Header}
 use Rattle.qoi.specs.Qoi.{RgbaPixel, channels_number, header_bytes, pixel_count, start, IsValid}
 use Rattle.qoi.specs.Raw.{pixels_of, image_byte_count}
-use Rattle.qoi.specs.declared.encode.pending.Pending.{Pending}
+use Rattle.qoi.specs.declared.encode.pending.Kept.{Kept}
 use Rattle.qoi.specs.EncoderState.{EncoderState}
 use Rattle.qoi.specs.inner.Pending.{ImageBetween}
 use Rattle.qoi.proofs.decoding.Promised.{capped_is}
 use Rattle.qoi.proofs.format.HeaderBytes.{tried_says}
 use Rattle.qoi.proofs.encoding.ImagePieces.{image_starts}
 use Rattle.qoi.proofs.encode.pixel_writer.PixelWriter.new.Given.{Over}
-use Rattle.qoi.proofs.encode.pixel_writer.PixelWriter.new.Goals.{After-new-3}
+use Rattle.qoi.proofs.encode.pixel_writer.PixelWriter.new.Goals.{After-n_bytes}
 use Rattle.qoi.proofs.encode.pixel_writer.PixelWriter.new.Goals as goal
 
--- there are channels
-some_channels : (k : Channels) → 0 < channels_number k
-some_channels Rgb = omega arith
-some_channels Rgba = omega arith
-
 -- the header is valid
-says : (g : Over) (c : After-new-3 g) → (c.args.header ≡ c.in_ok-header.header) × IsValid c.in_ok-header.header
+says : (g : Over) (c : After-n_bytes g) → (c.args.header ≡ c.in_ok-header.header) × IsValid c.in_ok-header.header
 says g c = tried_says _ _ _ _ c.in_ok-header.header (sym c.try_new.ensures ∙ c.in_ok-header.was)
 
 pub invariant_of-result : goal.invariant_of-result
 unfolding start
 invariant_of-result g c =
     let h = c.in_ok-header.header in
-    let valid = (says g (goal.at.invariant_of-result g c).After-new-3).1 in
+    let valid = (says g (goal.at.invariant_of-result g c).After-n_bytes).1 in
     let count = c.n_bytes.ensures ∙ capped_is h valid in
-    let none : length c.new-3.result ≡ 0 = ap length c.new-3.ensures in
+    let none : length c.in_ok-kept.kept.value.held ≡ 0 = ap (λ (k : Kept). length k.held) c.in_ok-kept.ensures.ok ∙ ap length c.new.ensures.held in
     record {
       valid = valid;
       left_of = omega (arith, count);
-      short = omega (arith, none, some_channels h.channels);
-      opaque = λ _. ap (λ (p : RgbaPixel). p.a) c.start.ensures.px;
-      whole = λ _. ap (λ k. k % channels_number h.channels) (let all : length c.new-3.result + c.n_bytes.result ≡ image_byte_count h = omega (arith, none, count) in all)
+      opaque = λ _. ap (λ (k : Kept). k.pending.last.px.a) c.in_ok-kept.ensures.ok ∙ ap (λ (p : RgbaPixel). p.a) c.new.ensures.last.0;
+      whole = λ _. ap (λ k. k % channels_number h.channels) (let all : length c.in_ok-kept.kept.value.held + c.n_bytes.result ≡ image_byte_count h = omega (arith, none, count) in all)
           ∙ mul-mod_left (pixel_count h) (channels_number h.channels);
     }
 
 pub returns-clause-made : goal.returns-clause-made
 returns-clause-made g c =
     let h = c.in_ok-header.header in
-    let said = says g (goal.at.returns-clause-made g c).After-new-3 in
+    let said = says g (goal.at.returns-clause-made g c).After-n_bytes in
     record {
       header_is = sym said.0;
       style_is = refl;
@@ -56,9 +48,11 @@ returns-clause-made g c =
           let e : EncoderState = record { raw = more; header = c.args.header; style = c.args.style } in
           let n = channels_number h.channels in
           let sent = subst (λ k. Appends (g.W.Write.contents c.args.writer) (g.W.Write.contents c.send_header.new.writer) (header_bytes k)) (sym said.0) c.in_ok-send_header.ensures.written in
-          let pending : Pending = record { table = c.new-2.result; last = c.start.result } in
-          let start = image_starts e (g.W.Write.contents c.args.writer) (g.W.Write.contents c.send_header.new.writer) pending are sent
-          c.start.ensures.none (c.start.ensures.state c.args.style c.new-2.result c.new-2.ensures) in
-          subst (λ x. ImageBetween e (g.W.Write.contents c.args.writer) (g.W.Write.contents c.send_header.new.writer) (pixels_of n (x ++ more)) pending [])
-          (sym c.new-3.ensures) (subst (λ (k : Header). ImageBetween e (g.W.Write.contents c.args.writer) (g.W.Write.contents c.send_header.new.writer) (pixels_of (channels_number k.channels) more) pending []) said.0 start);
+          let kept = c.new.result in
+          let start = image_starts e (g.W.Write.contents c.args.writer) (g.W.Write.contents c.send_header.new.writer) kept.pending are sent
+          c.new.ensures.last.1 (c.new.ensures.state c.args.style) in
+          let here = subst (λ x. ImageBetween e (g.W.Write.contents c.args.writer) (g.W.Write.contents c.send_header.new.writer) (pixels_of n (x ++ more)) kept.pending [])
+          (sym c.new.ensures.held) (subst (λ (k : Header). ImageBetween e (g.W.Write.contents c.args.writer) (g.W.Write.contents c.send_header.new.writer) (pixels_of (channels_number k.channels) more) kept.pending []) said.0 start) in
+          subst (λ (k : Kept). ImageBetween e (g.W.Write.contents c.args.writer) (g.W.Write.contents c.send_header.new.writer) (pixels_of n (k.held ++ more)) k.pending [])
+          (sym c.in_ok-kept.ensures.ok) here;
     }

@@ -3,10 +3,29 @@ use Rattle.std.proofs.Common.{◌≡◌, ◌++◌, [], inl, length, refl, sym, s
 use Rattle.std.proofs.lemmas.Result.{err_from_is_err_and}
 use Rattle.qoi.specs.Qoi.{IsValid, AreBytes, channels_number, file}
 use Rattle.qoi.specs.Raw.{pixels_of}
+use Rattle.qoi.specs.declared.encode.pending.Kept.{Kept}
+use Rattle.qoi.specs.EncoderState.{EncoderState}
 use Rattle.qoi.specs.inner.Pending.{ImageBetween}
 use Rattle.qoi.proofs.FileOf.{file_of, sends_part}
 use Rattle.qoi.proofs.decoding.StreamReads.{bytes_append}
+use Rattle.qoi.proofs.encode.pixel_writer.PixelWriter.write.Given.{Over}
+use Rattle.qoi.proofs.encode.pixel_writer.PixelWriter.write.Goals.{After-deref_mut-kept}
 use Rattle.qoi.proofs.encode.pixel_writer.PixelWriter.write.Goals as goal
+
+-- the image with other bytes after these, before them
+starts : (g : Over) (c : After-deref_mut-kept g) (e : EncoderState) (before : _) (more : _)
+    → ImageBetween (record e { raw = e.raw ++ (c.args.raw.now ++ more) }) before (g.W.Write.contents c.args.self.now.writer)
+    (pixels_of (channels_number c.args.self.now.header.channels) (c.args.self.now.kept.value.held ++ (c.args.raw.now ++ more))) c.args.self.now.kept.value.pending []
+    → ImageBetween (record e { raw = (e.raw ++ c.args.raw.now) ++ more }) before (g.W.Write.contents c.args.self.now.writer)
+    (pixels_of (channels_number c.args.self.now.header.channels) (c.deref_mut-kept.result.now.held ++ (c.args.raw.now ++ more))) c.deref_mut-kept.result.now.pending []
+starts g c e before more b =
+    let p = c.args.self.now in
+    let raw = c.args.raw.now in
+    let n = channels_number p.header.channels in
+    subst (λ (k : Kept). ImageBetween (record e { raw = (e.raw ++ raw) ++ more }) before (g.W.Write.contents p.writer) (pixels_of n (k.held ++ (raw ++ more))) k.pending [])
+    (sym c.deref_mut-kept.ensures.value)
+    (subst (λ x. ImageBetween (record e { raw = x }) before (g.W.Write.contents p.writer) (pixels_of n (p.kept.value.held ++ (raw ++ more))) p.kept.value.pending [])
+    (sym (append_assoc e.raw raw more)) b)
 
 pub returns-in_err-take_any-clause-refused : goal.returns-in_err-take_any-clause-refused
 returns-in_err-take_any-clause-refused g c = λ e before t.
@@ -25,8 +44,7 @@ returns-in_err-take_any-clause-refused g c = λ e before t.
         part = λ more size are.
             let all = record e { raw = (e.raw ++ raw) ++ more } in
             let left : length (raw ++ more) ≡ p.left = omega (arith, size, length-append (e.raw ++ raw) more, length-append e.raw raw, length-append raw more, t.size) in
-            let start = subst (λ x. ImageBetween (record e { raw = x }) before (g.W.Write.contents p.writer) (pixels_of n (p.held ++ (raw ++ more))) p.pending [])
-            (sym (append_assoc e.raw raw more)) (t.writes (raw ++ more) left (bytes_append raw more raw_are are)) in
+            let start = starts g (goal.at.returns-in_err-take_any-clause-refused g c).After-deref_mut-kept e before more (t.writes (raw ++ more) left (bytes_append raw more raw_are are)) in
             let began = r.1 all before more (sym t.style_is) start in
             let all_are = bytes_append (e.raw ++ raw) more (bytes_append e.raw raw t.are raw_are) are in
             let valid : IsValid e.header = subst IsValid t.header_is p.valid in
@@ -49,7 +67,6 @@ returns-clause-taken g c = λ e before t.
       are = bytes_append e.raw raw t.are raw_are;
       writes = λ more size are.
           let left : length (raw ++ more) ≡ p.left = omega (arith, size, length-append raw more, c.if-raw-self.false) in
-          let start = subst (λ x. ImageBetween (record e { raw = x }) before (g.W.Write.contents p.writer) (pixels_of n (p.held ++ (raw ++ more))) p.pending [])
-          (sym (append_assoc e.raw raw more)) (t.writes (raw ++ more) left (bytes_append raw more raw_are are)) in
+          let start = starts g (goal.at.returns-clause-taken g c).After-deref_mut-kept e before more (t.writes (raw ++ more) left (bytes_append raw more raw_are are)) in
           c.in_ok-take_any.ensures.written (record e { raw = (e.raw ++ raw) ++ more }) before more (sym t.style_is) start;
     }
