@@ -1,7 +1,7 @@
 //! Sixteen pixels, a block, and the chunks of a block, but for the repeats that it ends with.
 ghost use Rattle.std.specs.Prelude.{◌≡◌, ℕ, Bool, true, false, ◌+◌, ◌-◌, ◌≤◌, ◌<◌, List, [], ◌∷◌, ◌++◌, length, map, take, slice_index, slice_index_or, ◌/◌, ◌%◌, IsTrue, IsFalse};
 ghost use Rattle.qoi.specs.declared.encode.block.TheConstants.{BLOCK_ROOM};
-ghost use Rattle.qoi.specs.declared.types.Style.TheVariants.{Places};
+ghost use Rattle.qoi.specs.declared.types.Style.TheVariants.{Places, Tight};
 ghost use Rattle.qoi.specs.Qoi.{RgbaPixel, IsPixel, run_max, hash};
 ghost use Rattle.qoi.specs.Raw.{IsChannels};
 ghost use Rattle.qoi.specs.inner.BlockLanes.{mask};
@@ -17,7 +17,7 @@ ghost use Rattle.qoi.specs.inner.Table.{Holds};
 
 use crate::encode::carry::Carry;
 use crate::encode::changes::{Changes, all_set, find_changes};
-use crate::encode::lanes::{blanks, is_zero, places, store_lanes};
+use crate::encode::lanes::{blanks, places, store_lanes, where_is};
 use crate::encode::named::name_single;
 use crate::encode::packing::first_sixteen;
 use crate::encode::piece::{OpenPiece, Piece};
@@ -46,21 +46,6 @@ pub(super) struct Block {
 }
 
 impl Block {
-    /// The block of sixteen packed pixels, which come after the block that is carried.
-    #[inline(always)]
-    fn new<const N: usize>(words: Words, carry: Carry<N>) -> Block
-        requires { N ≡ 3 → AreOpaque (block_pixels words) }
-        ensures words { result.words ≡ words }
-        ensures changes { ChangesFrom carry.entry.before (block_pixels words) result.changes }
-    {
-        let planes = make_planes::<N>(words);
-        Block {
-            words,
-            planes,
-            changes: find_changes::<N>(carry.before, planes),
-        }
-    }
-
     /// The block at the front, which comes after the block that is carried.
     #[inline(always)]
     pub(super) fn first<const N: usize>(raw: Pixels<N>, carry: Carry<N>) -> Block
@@ -70,7 +55,13 @@ impl Block {
         ensures pixels { block_pixels result.words ≡ take 16 (pixels_in raw.entry) }
         ensures opaque { N ≡ 3 → AreOpaque (block_pixels result.words) }
     {
-        Block::new::<N>(first_sixteen::<N>(raw.bytes), carry)
+        let words = first_sixteen::<N>(raw.bytes);
+        let planes = make_planes::<N>(words);
+        Block {
+            words,
+            planes,
+            changes: find_changes::<N>(carry.before, planes),
+        }
     }
 
     /// Whether all sixteen pixels repeat the last one of the block before.
@@ -82,14 +73,19 @@ impl Block {
         all_set(self.changes.rep)
     }
 
-    /// Whether a fresh pixel of the block may be transparent black that doesn't stand at its index
-    /// position.
+    /// Whether in style `Tight` a fresh pixel of the block may be given by another index position
+    /// than its own: if it may be transparent black that doesn't stand at its position.
     #[inline(always)]
-    pub(super) fn may_miss_blank(self, table: &PixelTable) -> bool
-        ensures { (before : Planes) → ChangesFrom before (block_pixels self.words) self.changes
-            → IsFalse result → MissesNoBlank table.now before (block_pixels self.words) }
+    pub(super) fn may_miss_blank(self, style: Style, table: &PixelTable) -> bool
+        ensures tight { IsTrue result → style ≡ Tight }
+        ensures none { (before : Planes) → ChangesFrom before (block_pixels self.words) self.changes
+            → IsFalse result → style ≡ Tight
+            → MissesNoBlank table.now before (block_pixels self.words) }
     {
-        !(self.has_no_fresh_blank() || self.keeps_blank(table))
+        match style {
+            Reference | Places => false,
+            Tight => !(self.has_no_fresh_blank() || self.keeps_blank(table)),
+        }
     }
 
     // Whether no fresh pixel of the block is transparent black.
@@ -109,7 +105,7 @@ impl Block {
         ensures { IsTrue result → (s : State) → Holds table.now s.held
             → NoneBlank s (block_pixels self.words) }
     {
-        let elsewhere = !is_zero(places(self.planes));
+        let elsewhere = !where_is(places(self.planes), 0);
         table.at(0).is_same(Packed::blank()) & all_set(blanks(self.planes) | elsewhere)
     }
 

@@ -58,7 +58,7 @@ fn carried<const N: usize>(coder: &Coder<N>) -> Carry<N>
         → InBlocks style ahead n rest more table result kept }
 {
     Carry {
-        before: Planes::splat(coder.last.px),
+        before: Planes::splat::<N>(coder.last.px),
         count: coder.last.repeats as u8,
         placed: coder.last.placed,
     }
@@ -80,21 +80,6 @@ fn coder_after<const N: usize>(carry: Carry<N>) -> Coder<N>
         repeats: usize::from(carry.count),
     };
     Coder { last }
-}
-
-// Whether in style `Tight` a pixel of the block may be given by another index position than its
-// own.
-#[inline(always)]
-fn may_name_other(style: Style, table: &PixelTable, block: Block) -> bool
-    ensures tight { IsTrue result → style ≡ Tight }
-    ensures none { (before : Planes) → ChangesFrom before (block_pixels block.words) block.changes
-        → IsFalse result → style ≡ Tight
-        → MissesNoBlank table.now before (block_pixels block.words) }
-{
-    match style {
-        Reference | Places => false,
-        Tight => block.may_miss_blank(table),
-    }
 }
 
 // Carries the block of repeats at the front, too. Returns the rest, and what is carried.
@@ -196,7 +181,7 @@ fn write_front<'a, 'p, const N: usize, const STYLE: u8, const ROOM: usize>(
         }
         return write_long_group(piece, raw, carry);
     }
-    if may_name_other(style, table, block) {
+    if block.may_miss_blank(style, table) {
         return write_group(table, piece, raw, carry);
     }
     let (after, piece) = write_block::<N, STYLE, ROOM>(style, table, piece, block, carry);
@@ -226,7 +211,7 @@ fn fill<'a, 'p, const N: usize, const STYLE: u8, const ROOM: usize>(
 {
     let mut piece = piece.piece;
     let mut rest = raw;
-    let mut now = carry.with_known_alpha();
+    let mut now = carry;
     while !piece.is_full() && rest.has_block() {
         (rest, now, piece) = write_front::<N, STYLE, ROOM>(style, table, piece.open(), rest, now);
     }
@@ -251,7 +236,9 @@ pub(super) fn write_some<'a, 'p, const N: usize, const STYLE: u8, const ROOM: us
         (kept_bytes result.1) }
 {
     if !goes_by_blocks(style, coder.last, raw) {
-        return coder.write_open(style, table, piece, raw);
+        let mut piece = piece.piece;
+        let rest = coder.write_next(style, table, &mut piece, raw);
+        return (rest, piece);
     }
     let carry = carried(coder);
     let (rest, after, piece) = fill::<N, STYLE, ROOM>(style, table, piece, raw, carry);

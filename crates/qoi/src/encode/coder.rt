@@ -279,26 +279,4 @@ impl<const N: usize> Coder<N> {
         piece.keep_run(self.last.repeats, QOI_OP_RUN);
         piece
     }
-
-    /// `write_next`, into a piece that isn't full.
-    #[inline(never)]
-    pub(super) fn write_open<'a, 'p, const ROOM: usize>(
-        &mut self,
-        style: Style,
-        table: &mut PixelTable,
-        piece: OpenPiece<'p, ROOM>,
-        raw: Pixels<'a, N>,
-    ) -> (Pixels<'a, N>, Piece<'p, ROOM>)
-        requires { pixels_in raw ≢ [] }
-        ensures less { length (pixels_in result.0) < length (pixels_in raw.entry) }
-        ensures written { (ahead : List ℕ) (more : List RgbaPixel)
-            → CoderBetween style ahead (pixels_in raw.entry ++ more) table.old self.old.last
-            (kept_bytes piece.entry.piece)
-            → CoderBetween style ahead (pixels_in result.0 ++ more) table.new self.new.last
-            (kept_bytes result.1) }
-    {
-        let mut piece = piece.piece;
-        let rest = self.write_next(style, table, &mut piece, raw);
-        (rest, piece)
-    }
 }

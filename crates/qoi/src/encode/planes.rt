@@ -30,14 +30,15 @@ pub(super) struct Planes {
 impl Planes {
     /// The planes of sixteen times this pixel.
     #[inline(always)]
-    pub(super) fn splat(px: Packed) -> Planes
+    pub(super) fn splat<const N: usize>(px: Packed) -> Planes
+        requires { N ≡ 3 → px.a ≡ 255 }
         ensures { IsLastOf px result }
     {
         Planes {
             r: u8x16::splat(px.r()),
             g: u8x16::splat(px.g()),
             b: u8x16::splat(px.b()),
-            a: u8x16::splat(px.a()),
+            a: known_alpha::<N>(u8x16::splat(px.a())),
         }
     }
 

@@ -3,17 +3,11 @@ use Rattle.std.proofs.Common.{inl, inr, refl, sym, ◌∙◌, arith, subst}
 use Rattle.std.proofs.lemmas.Bool.{true≢false}
 use Rattle.qoi.specs.inner.CarryLoop.{InBlocks}
 use Rattle.qoi.specs.inner.Pixels.{pixels_in}
-use Rattle.qoi.proofs.encoding.CoderLink.{same_carried}
 use Rattle.qoi.proofs.encode.blocks.fill.Goals.{then-loop-rest-test+else-has_block, else-loop-rest-test}
 use Rattle.qoi.proofs.encode.blocks.fill.Goals as goal
 
 pub loop-rest-init : goal.loop-rest-init
-loop-rest-init g c =
-    let known = c.with_known_alpha-now.ensures in
-    record {
-      less = inr (refl, c.args.piece.not_full);
-      written = λ ahead n more b. same_carried b c.with_known_alpha-now.result known.last known.same.0 known.same.1;
-    }
+loop-rest-init g c = record { less = inr (refl, c.args.piece.not_full); written = λ ahead n more b. b }
 
 pub loop-rest-preserved : goal.loop-rest-preserved
 loop-rest-preserved g c =
