@@ -21,7 +21,7 @@ use crate::encode::lanes::{blanks, places, store_lanes, where_is};
 use crate::encode::named::name_single;
 use crate::encode::packing::first_sixteen;
 use crate::encode::piece::{OpenPiece, Piece};
-use crate::encode::pixels::Pixels;
+use crate::encode::pixels::FrontBlock;
 use crate::encode::planes::{Planes, Words, make_planes};
 use crate::encode::spelling::{Spelled, spell_block};
 use crate::encode::stands::put_block;
@@ -48,14 +48,13 @@ pub(super) struct Block {
 impl Block {
     /// The block at the front, which comes after the block that is carried.
     #[inline(always)]
-    pub(super) fn first<const N: usize>(raw: Pixels<N>, carry: Carry<N>) -> Block
-        requires { 16 ≤ length (pixels_in raw) }
+    pub(super) fn first<const N: usize>(front: FrontBlock<N>, carry: Carry<N>) -> Block
         ensures changes { ChangesFrom carry.entry.before (block_pixels result.words)
             result.changes }
-        ensures pixels { block_pixels result.words ≡ take 16 (pixels_in raw.entry) }
+        ensures pixels { block_pixels result.words ≡ take 16 (pixels_in front.entry.raw) }
         ensures opaque { N ≡ 3 → AreOpaque (block_pixels result.words) }
     {
-        let words = first_sixteen::<N>(raw.bytes);
+        let words = first_sixteen::<N>(front.raw.bytes);
         let planes = make_planes::<N>(words);
         Block {
             words,

@@ -18,7 +18,7 @@ use crate::encode::carry::Carry;
 use crate::encode::coder::Coder;
 use crate::encode::last::LastPixel;
 use crate::encode::piece::{OpenPiece, Piece, REPEATS_AT_ONCE};
-use crate::encode::pixels::Pixels;
+use crate::encode::pixels::{FrontBlock, Pixels};
 use crate::encode::planes::Planes;
 use crate::encode::runs::repeats_of;
 use crate::encode::table::PixelTable;
@@ -84,13 +84,13 @@ fn coder_after<const N: usize>(carry: Carry<N>) -> Coder<N>
 
 // Carries the block of repeats at the front, too. Returns the rest, and what is carried.
 #[inline(always)]
-fn carry_block<const N: usize>(raw: Pixels<N>, carry: Carry<N>) -> (Pixels<N>, Carry<N>)
-    requires enough { 16 ≤ length (pixels_in raw) }
-    requires repeats { all_repeat (last_pixel carry.before) (take 16 (pixels_in raw)) ≡ true }
+fn carry_block<const N: usize>(front: FrontBlock<N>, carry: Carry<N>) -> (Pixels<N>, Carry<N>)
+    requires repeats { all_repeat (last_pixel carry.before) (take 16 (pixels_in front.raw)) ≡ true }
     requires few { carry.count ≤ FEW_CARRIED }
-    ensures less { length (pixels_in result.0) < length (pixels_in raw.entry) }
+    ensures less { length (pixels_in result.0) < length (pixels_in front.entry.raw) }
     ensures written { (style : Style) (ahead : List ℕ) (n : ℕ) (more table : List RgbaPixel)
-        (kept : List ℕ) → InBlocks style ahead n (pixels_in raw.entry) more table carry.entry kept
+        (kept : List ℕ)
+        → InBlocks style ahead n (pixels_in front.entry.raw) more table carry.entry kept
         → InBlocks style ahead n (pixels_in result.0) more table result.1 kept }
 {
     let after = Carry {
@@ -98,7 +98,7 @@ fn carry_block<const N: usize>(raw: Pixels<N>, carry: Carry<N>) -> (Pixels<N>, C
         count: carry.count + 16,
         placed: carry.placed,
     };
-    (raw.skip(16), after)
+    (front.raw.skip(16), after)
 }
 
 // Writes the full runs of the repeats at the front, after those that are carried; the others are
@@ -161,31 +161,30 @@ fn write_front<'a, 'p, const N: usize, const STYLE: u8, const ROOM: usize>(
     style: Style,
     table: &mut PixelTable,
     piece: OpenPiece<'p, ROOM>,
-    raw: Pixels<'a, N>,
+    front: FrontBlock<'a, N>,
     carry: Carry<N>,
 ) -> (Pixels<'a, N>, Carry<N>, Piece<'p, ROOM>)
-    requires { 16 ≤ length (pixels_in raw) }
-    ensures less { length (pixels_in result.0) < length (pixels_in raw.entry) }
+    ensures less { length (pixels_in result.0) < length (pixels_in front.entry.raw) }
     ensures written { (ahead : List ℕ) (n : ℕ) (more : List RgbaPixel)
-        → InBlocks style ahead n (pixels_in raw.entry) more table.old carry.entry
+        → InBlocks style ahead n (pixels_in front.entry.raw) more table.old carry.entry
         (kept_bytes piece.entry.piece)
         → InBlocks style ahead n (pixels_in result.0) more table.new result.1
         (kept_bytes result.2) }
 {
-    let block = Block::first::<N>(raw, carry);
+    let block = Block::first::<N>(front, carry);
     if block.repeats() {
         // In three channels most groups are short.
         if N == 3 && carry.count <= FEW_CARRIED {
-            let (rest, after) = carry_block(raw, carry);
+            let (rest, after) = carry_block(front, carry);
             return (rest, after, piece.piece);
         }
-        return write_long_group(piece, raw, carry);
+        return write_long_group(piece, front.raw, carry);
     }
     if block.may_miss_blank(style, table) {
-        return write_group(table, piece, raw, carry);
+        return write_group(table, piece, front.raw, carry);
     }
     let (after, piece) = write_block::<N, STYLE, ROOM>(style, table, piece, block, carry);
-    (raw.skip(16), after, piece)
+    (front.raw.skip(16), after, piece)
 }
 
 // Writes by blocks until the piece is full or fewer pixels than a block has are left. Returns the
@@ -213,7 +212,13 @@ fn fill<'a, 'p, const N: usize, const STYLE: u8, const ROOM: usize>(
     let mut rest = raw;
     let mut now = carry;
     while !piece.is_full() && rest.has_block() {
-        (rest, now, piece) = write_front::<N, STYLE, ROOM>(style, table, piece.open(), rest, now);
+        (rest, now, piece) = write_front::<N, STYLE, ROOM>(
+            style,
+            table,
+            piece.open(),
+            rest.front(),
+            now,
+        );
     }
     (rest, now, piece)
 }

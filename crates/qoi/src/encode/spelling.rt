@@ -75,10 +75,8 @@ fn fits_luma(far: Steps, keep: u8x16) -> u8x16
     ensures { (ls : List Lane) → AreFar ls far → AreBy ls keep_mask keep
         → AreBy ls luma_mask result }
 {
-    where_is(
-        ((far.r | far.b) & u8x16::splat(0xf0)) | (far.g & u8x16::splat(0xc0)),
-        0,
-    ) & keep
+    let above = ((far.r | far.b) & u8x16::splat(0xf0)) | (far.g & u8x16::splat(0xc0));
+    where_is(above, 0) & keep
 }
 
 // The difference chunks of steps that fit.

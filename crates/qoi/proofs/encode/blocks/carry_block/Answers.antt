@@ -10,5 +10,5 @@ use Rattle.qoi.proofs.encode.blocks.carry_block.Goals as goal
 pub returns-clause-written : goal.returns-clause-written
 returns-clause-written g c = λ style ahead n more table kept b.
     let carry = c.args.carry in
-    let front = repeats_front (pixels_in c.args.raw) (last_pixel carry.before) c.requires.enough c.requires.repeats in
+    let front = repeats_front (pixels_in c.args.front.raw) (last_pixel carry.before) c.args.front.enough c.requires.repeats in
     rw c.skip.ensures.rest (block_carried carry _ c.requires.few refl refl refl (subst (λ ps. InBlocks style ahead n ps more table carry kept) front b))

@@ -26,8 +26,8 @@ near g c =
 pub first-requires : goal.first-requires
 first-requires g c = (omega arith, λ none. (let no : ◌≡◌ {A = Option RgbaPixel} None (Some (last_pixel c.args.carry.before)) = sym (ap (λ ps. slice_get ps 0) none) ∙ c.requires in cc))
 
-pub repeats_of-ahead-requires-clause-opaque : goal.repeats_of-ahead-requires-clause-opaque
-repeats_of-ahead-requires-clause-opaque g c = c.first.ensures.opaque
+pub repeats_of-ahead-requires : goal.repeats_of-ahead-requires
+repeats_of-ahead-requires g c = (omega arith, c.first.ensures.opaque)
 
 pub keep_full_runs-requires : goal.keep_full_runs-requires
 keep_full_runs-requires g c =

@@ -3,13 +3,10 @@ use Rattle.std.proofs.Common.{arith}
 use Rattle.std.proofs.Math.Nat.{mul_comm}
 use Rattle.qoi.specs.inner.Planes.{block_pixels}
 use Rattle.qoi.proofs.encoding.PackedBlock.{block_sixteen, block_words}
-use Rattle.qoi.proofs.encoding.PixelsIn.{bytes_within}
 use Rattle.qoi.proofs.encode.block.Block.first.Goals as goal
 
 pub first_sixteen-words-requires-clause-enough : goal.first_sixteen-words-requires-clause-enough
-first_sixteen-words-requires-clause-enough g c =
-    let raw = c.args.raw in
-    omega (arith, bytes_within g.row.N 16 raw.bytes.now raw.channels raw.whole c.requires, mul_comm 16 g.row.N)
+first_sixteen-words-requires-clause-enough g c = omega (arith, c.args.front.long, mul_comm 16 g.row.N)
 
 pub invariant_of-result : goal.invariant_of-result
 invariant_of-result g c =
