@@ -242,7 +242,7 @@ pub(super) fn write_some<'a, 'p, const N: usize, const STYLE: u8, const ROOM: us
 {
     if !goes_by_blocks(style, coder.last, raw) {
         let mut piece = piece.piece;
-        let rest = coder.write_next(style, table, &mut piece, raw);
+        let rest = coder.write_open(style, table, &mut piece, raw);
         return (rest, piece);
     }
     let carry = carried(coder);

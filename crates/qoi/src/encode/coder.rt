@@ -194,15 +194,15 @@ impl<const N: usize> Coder<N> {
         }
         let ahead = repeats_by_call::<N>(raw.near(REPEATS_AT_ONCE - carried), self.last.px);
         let count = carried + ahead;
+        let (runs, left) = (count / QOI_RUN_MAX, count % QOI_RUN_MAX);
+        piece.keep_full_runs(runs);
         if raw.ends_after(ahead) {
             // Others may follow.
-            let runs = count / QOI_RUN_MAX;
-            piece.keep_full_runs(runs);
-            self.update_after_repeats(style, table, QOI_RUN_MAX * runs, count % QOI_RUN_MAX);
+            self.update_after_repeats(style, table, QOI_RUN_MAX * runs, left);
             return ahead;
         }
         // If more than 992 repeat, 992 are counted: sixteen runs of 62, and no single one.
-        piece.keep_runs(count, self.single_repeat_byte(style, count));
+        piece.keep_run(left, self.single_repeat_byte(style, count));
         self.update_after_repeats(style, table, count, 0);
         ahead
     }
@@ -278,5 +278,25 @@ impl<const N: usize> Coder<N> {
         let mut piece = piece.piece;
         piece.keep_run(self.last.repeats, QOI_OP_RUN);
         piece
+    }
+    /// `write_next` as a function of its own: a loop that has it inlined is slower.
+    #[inline(never)]
+    pub(super) fn write_open<'a, const ROOM: usize>(
+        &mut self,
+        style: Style,
+        table: &mut PixelTable,
+        piece: &mut Piece<ROOM>,
+        raw: Pixels<'a, N>,
+    ) -> Pixels<'a, N>
+        requires some { pixels_in raw ≢ [] }
+        requires room { piece.old.end + (RUNS_AT_ONCE + 1 + chunk_max + marker_size) ≤ ROOM }
+        ensures less { length (pixels_in result) < length (pixels_in raw.entry) }
+        ensures written { (ahead : List ℕ) (more : List RgbaPixel)
+            → CoderBetween style ahead (pixels_in raw.entry ++ more) table.old self.old.last
+            (kept_bytes piece.old)
+            → CoderBetween style ahead (pixels_in result ++ more) table.new self.new.last
+            (kept_bytes piece.new) }
+    {
+        self.write_next(style, table, piece, raw)
     }
 }

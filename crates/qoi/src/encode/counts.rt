@@ -2,7 +2,7 @@
 ghost use Rattle.std.specs.Prelude.{◌≡◌, ◌+◌, ◌<◌, Bool, List, length, map};
 ghost use Rattle.qoi.specs.Qoi.{run_max};
 ghost use Rattle.qoi.specs.inner.BlockLanes.{mask};
-ghost use Rattle.qoi.specs.inner.Counts.{counts, AreMost, AreStamps};
+ghost use Rattle.qoi.specs.inner.Counts.{counts, AreMost};
 
 use crate::encode::lanes::{greater, later};
 use std::simd::prelude::*;
@@ -31,17 +31,6 @@ fn running_most(v: u8x16) -> u8x16
     greater(eight, zero.shuffle(eight, EIGHT_ON))
 }
 
-// 64 and the lane's number, in each lane that doesn't repeat; else 0.
-#[inline(always)]
-fn stamps(rep: u8x16) -> u8x16
-    ensures { (rs : List Bool) → length rs ≡ 16 → rep ≡ map mask rs → AreStamps rs result }
-{
-    let lanes = u8x16::from_array([
-        64, 65, 66, 67, 68, 69, 70, 71, 72, 73, 74, 75, 76, 77, 78, 79,
-    ]);
-    lanes & !rep
-}
-
 /// How many repeats end with each lane, after `carry` repeats that came before: the lane's number
 /// less that of the last one which doesn't repeat.
 #[inline(always)]
@@ -49,9 +38,10 @@ pub(super) fn count_repeats(rep: u8x16, carry: u8) -> u8x16
     requires { carry < run_max }
     ensures { (rs : List Bool) → length rs ≡ 16 → rep ≡ map mask rs → result ≡ counts carry rs }
 {
-    let most = greater(running_most(stamps(rep)), u8x16::splat(63 - carry));
+    // 64 and the lane's number; then the same in each lane that doesn't repeat, else 0.
     let lanes = u8x16::from_array([
         64, 65, 66, 67, 68, 69, 70, 71, 72, 73, 74, 75, 76, 77, 78, 79,
     ]);
+    let most = greater(running_most(lanes & !rep), u8x16::splat(63 - carry));
     lanes - most
 }

@@ -141,20 +141,6 @@ impl<'a, const ROOM: usize> Piece<'a, ROOM> {
         self.end += runs;
     }
 
-    /// Appends the runs of at most 992 repeats; a single one that is left after runs of 62 is the
-    /// byte `one`.
-    #[inline(always)]
-    pub(super) fn keep_runs(&mut self, count: usize, one: u8)
-        requires room { self.old.end + (RUNS_AT_ONCE + marker_size) < ROOM }
-        requires few { count ≤ REPEATS_AT_ONCE }
-        ensures kept { (c : Chunk) → bytes_of c ≡ one ∷ []
-            → kept_bytes self.new ≡ kept_bytes self.old ++ chunk_bytes (runs_by c count) }
-        ensures end { self.new.end ≤ self.old.end + count / run_max + 1 }
-    {
-        self.keep_full_runs(count / QOI_RUN_MAX);
-        self.keep_run(count % QOI_RUN_MAX, one);
-    }
-
     /// Sends a full piece to a writer; the bytes after it are kept.
     #[inline(always)]
     pub(super) fn send<W: Writer>(&mut self, writer: &mut W) -> Result<()>

@@ -6,10 +6,12 @@ use Rattle.qoi.specs.declared.encode.piece.TheConstants.{REPEATS_AT_ONCE}
 use Rattle.qoi.specs.Qoi.{RgbaPixel}
 use Rattle.qoi.specs.Runs.{IsCount}
 use Rattle.qoi.specs.inner.CoderLoop.{single}
+use Rattle.qoi.specs.inner.Piece.{kept_bytes}
 use Rattle.qoi.specs.inner.Pixels.{pixels_in}
 use Rattle.qoi.proofs.encoding.CoderLink.{first_more, more_some, some_length}
 use Rattle.qoi.proofs.encoding.CoderSteps.{group_written, fulls_written}
 use Rattle.qoi.proofs.encoding.PixelsIn.{NearGroup, near_group, near_some}
+use Rattle.qoi.proofs.encoding.RunBytes.{runs_written}
 use Rattle.qoi.proofs.encode.coder.Coder.write_runs.Given.{Over}
 use Rattle.qoi.proofs.encode.coder.Coder.write_runs.Goals.{After-repeats_by_call-ahead, else-carried-eq0-via-then-carried-eq0+else-not-begin_with, else-carried-eq0-via-else-carried-eq0}
 use Rattle.qoi.proofs.encode.coder.Coder.write_runs.Goals as goal
@@ -29,17 +31,17 @@ some_come g c = elim c.else-carried-eq0.branch [
   | else-carried-eq0-via-else-carried-eq0 w ↦ omega (arith, w.if-carried-eq0.false)
 ]
 
-pub keep_runs-requires : goal.keep_runs-requires
-keep_runs-requires g c = (omega arith, (c.requires.room, omega (arith, (near g (goal.at.keep_runs-requires g c).After-repeats_by_call-ahead).few, c.args.self.now.last.few)))
+pub keep_full_runs-requires : goal.keep_full_runs-requires
+keep_full_runs-requires g c = (omega arith, (omega (arith, c.requires.room), omega (arith, (near g (goal.at.keep_full_runs-requires g c).After-repeats_by_call-ahead).few, c.args.self.now.last.few)))
 
 pub ends_after-requires : goal.ends_after-requires
 ends_after-requires g c = (omega arith, (near g (goal.at.ends_after-requires g c).After-repeats_by_call-ahead).within)
 
 pub returns-clause-end : goal.returns-clause-end
-returns-clause-end g c = omega (arith, c.keep_runs.ensures.end, (near g (goal.at.returns-clause-end g c).After-repeats_by_call-ahead).few, c.args.self.now.last.few)
+returns-clause-end g c = omega (arith, c.keep_full_runs.ensures.end, c.keep_run.ensures.end, (near g (goal.at.returns-clause-end g c).After-repeats_by_call-ahead).few, c.args.self.now.last.few)
 
 pub returns-clause-each : goal.returns-clause-each
-returns-clause-each g c = omega (arith, c.keep_runs.ensures.end, some_come g (goal.at.returns-clause-each g c).After-repeats_by_call-ahead)
+returns-clause-each g c = omega (arith, c.keep_full_runs.ensures.end, c.keep_run.ensures.end, some_come g (goal.at.returns-clause-each g c).After-repeats_by_call-ahead)
 
 pub returns-clause-inside : goal.returns-clause-inside
 returns-clause-inside g c = (near g (goal.at.returns-clause-inside g c).After-repeats_by_call-ahead).within
@@ -78,4 +80,4 @@ returns-clause-written g c all more b =
     elim group.ends as (λ _. (slice_get later 0 ≢ Some last.px) ⊎ (count % 62 ≡ 0)) [ inl other ↦ inl (λ e. other (sym first ∙ e)) | inr e ↦ inr (full e) ] in
     let one = single c.args.style last count in
     group_written b n later one (ahead_is g here more) ends (λ _. inr (more_some rest more some, refl))
-    (c.keep_runs.ensures.kept one c.single_repeat_byte.ensures) c.update_after_repeats-2.ensures.left c.update_after_repeats-2.ensures.state
+    (runs_written one count (kept_bytes c.args.piece.now) _ _ c.keep_full_runs.ensures.kept (c.keep_run.ensures.kept one c.single_repeat_byte.ensures)) c.update_after_repeats-2.ensures.left c.update_after_repeats-2.ensures.state
