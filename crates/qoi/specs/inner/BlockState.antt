@@ -1,6 +1,6 @@
 -- What a block of pixels writes, and the state between two pixels with repeats that are still to
 -- be written.
-use Rattle.std.specs.Prelude.{◌≡◌, ◌≢◌, ℕ, suc, Bool, true, false, ◌<◌, ◌==◌, List, [], ◌∷◌, ◌++◌, if◌then◌else◌}
+use Rattle.std.specs.Prelude.{◌≢◌, ℕ, suc, Bool, true, false, ◌==◌, List, [], ◌∷◌, ◌++◌, if◌then◌else◌}
 use Rattle.qoi.specs.declared.chunk.Chunk.TheVariants.{Run}
 use Rattle.qoi.specs.declared.types.Style.{Style}
 use Rattle.qoi.specs.Qoi.{RgbaPixel, Past, pixel_eq, blank, seen, hash, bytes_of}

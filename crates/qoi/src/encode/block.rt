@@ -1,11 +1,11 @@
 //! Sixteen pixels, a block, and the chunks of a block, but for the repeats that it ends with.
-ghost use Rattle.std.specs.Prelude.{◌≡◌, ℕ, Bool, true, false, ◌+◌, ◌-◌, ◌≤◌, ◌<◌, List, [], ◌∷◌, ◌++◌, length, map, take, slice_index, slice_index_or, ◌/◌, ◌%◌, IsTrue, IsFalse};
+ghost use Rattle.std.specs.Prelude.{◌≡◌, ℕ, Bool, false, ◌+◌, ◌-◌, ◌<◌, List, ◌++◌, map, take, slice_index, slice_index_or, ◌/◌, ◌%◌, IsTrue, IsFalse};
 ghost use Rattle.qoi.specs.declared.encode.block.TheConstants.{BLOCK_ROOM};
 ghost use Rattle.qoi.specs.declared.types.Style.TheVariants.{Places, Tight};
-ghost use Rattle.qoi.specs.Qoi.{RgbaPixel, IsPixel, run_max, hash};
+ghost use Rattle.qoi.specs.Qoi.{RgbaPixel, IsPixel, hash};
 ghost use Rattle.qoi.specs.Raw.{IsChannels};
 ghost use Rattle.qoi.specs.inner.BlockLanes.{mask};
-ghost use Rattle.qoi.specs.inner.BlockState.{State, NoneBlank, group_bytes};
+ghost use Rattle.qoi.specs.inner.BlockState.{State, NoneBlank};
 ghost use Rattle.qoi.specs.inner.Blocks.{ChangesFrom, FitsBlock, MissesNoBlank, last_pixel, all_repeat};
 ghost use Rattle.qoi.specs.inner.CarryLoop.{InBlocks};
 ghost use Rattle.qoi.specs.inner.Piece.{kept_bytes};

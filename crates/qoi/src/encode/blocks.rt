@@ -1,16 +1,14 @@
 //! Writes what is at the front of an image's pixels into a piece: blocks of sixteen, and between
 //! two of them repeats are carried (QOI specification 1.0, "Data" and "Chunks").
-ghost use Rattle.std.specs.Prelude.{◌≡◌, ◌≢◌, ◌⊎◌, ℕ, ◌<◌, ◌≤◌, true, List, [], ◌++◌, Some, length, slice_get, take, IsTrue, IsFalse};
-ghost use Rattle.qoi.specs.declared.encode.blocks.TheConstants.{FEW_CARRIED};
+ghost use Rattle.std.specs.Prelude.{◌≡◌, ◌≢◌, ◌⊎◌, ℕ, ◌<◌, ◌≤◌, true, List, [], ◌++◌, Some, length, slice_get, IsTrue};
 ghost use Rattle.qoi.specs.declared.types.Style.{Style};
 ghost use Rattle.qoi.specs.declared.types.Style.TheVariants.{Tight};
 ghost use Rattle.qoi.specs.Qoi.{RgbaPixel};
-ghost use Rattle.qoi.specs.inner.Blocks.{ChangesFrom, MissesNoBlank, all_repeat, last_pixel};
+ghost use Rattle.qoi.specs.inner.Blocks.{last_pixel};
 ghost use Rattle.qoi.specs.inner.CarryLoop.{GoesByBlocks, InBlocks};
 ghost use Rattle.qoi.specs.inner.CoderLoop.{CoderBetween};
 ghost use Rattle.qoi.specs.inner.Piece.{kept_bytes};
 ghost use Rattle.qoi.specs.inner.Pixels.{pixels_in};
-ghost use Rattle.qoi.specs.inner.Planes.{block_pixels};
 
 use crate::consts::QOI_RUN_MAX;
 use crate::encode::block::{Block, write_block};
@@ -23,10 +21,6 @@ use crate::encode::planes::Planes;
 use crate::encode::runs::repeats_of;
 use crate::encode::table::PixelTable;
 use crate::types::Style::{self, Places, Reference, Tight};
-
-// The most repeats that may be carried for a block of sixteen more to be carried, too: up to
-// fifteen more at the front of the next block still make a run of fewer than 62.
-const FEW_CARRIED: u8 = 29;
 
 // The most repeats that may be carried if the next pixel repeats, too, and the front goes by
 // blocks: a run of fewer than 62 ends in the next block.
@@ -80,25 +74,6 @@ fn coder_after<const N: usize>(carry: Carry<N>) -> Coder<N>
         repeats: usize::from(carry.count),
     };
     Coder { last }
-}
-
-// Carries the block of repeats at the front, too. Returns the rest, and what is carried.
-#[inline(always)]
-fn carry_block<const N: usize>(front: FrontBlock<N>, carry: Carry<N>) -> (Pixels<N>, Carry<N>)
-    requires repeats { all_repeat (last_pixel carry.before) (take 16 (pixels_in front.raw)) ≡ true }
-    requires few { carry.count ≤ FEW_CARRIED }
-    ensures less { length (pixels_in result.0) < length (pixels_in front.entry.raw) }
-    ensures written { (style : Style) (ahead : List ℕ) (n : ℕ) (more table : List RgbaPixel)
-        (kept : List ℕ)
-        → InBlocks style ahead n (pixels_in front.entry.raw) more table carry.entry kept
-        → InBlocks style ahead n (pixels_in result.0) more table result.1 kept }
-{
-    let after = Carry {
-        before: carry.before,
-        count: carry.count + 16,
-        placed: carry.placed,
-    };
-    (front.raw.skip(16), after)
 }
 
 // Writes the full runs of the repeats at the front, after those that are carried; the others are
@@ -173,11 +148,6 @@ fn write_front<'a, 'p, const N: usize, const STYLE: u8, const ROOM: usize>(
 {
     let block = Block::first::<N>(front, carry);
     if block.repeats() {
-        // In three channels most groups are short.
-        if N == 3 && carry.count <= FEW_CARRIED {
-            let (rest, after) = carry_block(front, carry);
-            return (rest, after, piece.piece);
-        }
         return write_long_group(piece, front.raw, carry);
     }
     if block.may_miss_blank(style, table) {

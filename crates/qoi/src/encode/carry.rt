@@ -1,5 +1,5 @@
 //! What is carried from one block of sixteen pixels to the next.
-ghost use Rattle.std.specs.Prelude.{◌≡◌, ◌+◌, ◌*◌, ◌≤◌, ◌<◌, [], ◌∷◌, slice_index};
+ghost use Rattle.std.specs.Prelude.{◌≡◌, ◌+◌, ◌≤◌, ◌<◌, [], ◌∷◌, slice_index};
 ghost use Rattle.qoi.specs.Qoi.{run_max};
 ghost use Rattle.qoi.specs.Raw.{IsChannels, IsChannels-prop};
 ghost use Rattle.qoi.specs.inner.BlockState.{group_bytes};

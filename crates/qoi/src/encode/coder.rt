@@ -1,6 +1,6 @@
 //! Writes pixels one by one, and groups of repeats, as chunks into a piece (QOI specification 1.0,
 //! "Data" and "Chunks").
-ghost use Rattle.std.specs.Prelude.{◌≡◌, ◌≢◌, ◌⊎◌, ℕ, ◌+◌, ◌*◌, ◌<◌, ◌≤◌, true, List, [], ◌∷◌, ◌++◌, Option, Some, length, drop, replicate, slice_get, IsTrue};
+ghost use Rattle.std.specs.Prelude.{◌≡◌, ◌≢◌, ℕ, ◌+◌, ◌*◌, ◌<◌, ◌≤◌, true, List, [], ◌∷◌, ◌++◌, Option, Some, length, drop, replicate, slice_get};
 ghost use Rattle.qoi.specs.declared.chunk.Chunk.{Chunk};
 ghost use Rattle.qoi.specs.declared.encode.piece.TheConstants.{RUNS_AT_ONCE};
 ghost use Rattle.qoi.specs.declared.types.Style.{Style};
@@ -21,7 +21,7 @@ use crate::encode::fresh::spell_pixel;
 use crate::encode::last::LastPixel;
 use crate::encode::piece::{OpenPiece, Piece, REPEATS_AT_ONCE};
 use crate::encode::pixels::Pixels;
-use crate::encode::runs::repeats_by_call;
+use crate::encode::runs::repeats_of;
 use crate::encode::table::PixelTable;
 use crate::packed::Packed;
 use crate::types::Style::{self, Places, Reference, Tight};
@@ -192,7 +192,7 @@ impl<const N: usize> Coder<N> {
         if carried == 0 && !raw.begin_with(self.last.px) {
             return 0;
         }
-        let ahead = repeats_by_call::<N>(raw.near(REPEATS_AT_ONCE - carried), self.last.px);
+        let ahead = repeats_of::<N>(raw.near(REPEATS_AT_ONCE - carried), self.last.px);
         let count = carried + ahead;
         let (runs, left) = (count / QOI_RUN_MAX, count % QOI_RUN_MAX);
         piece.keep_full_runs(runs);

@@ -1,6 +1,6 @@
 //! Chunks of at most five bytes, each stored on its own: where the sizes of those before it say.
 ghost use lib.Lanes.{digits_l};
-ghost use Rattle.std.specs.Prelude.{◌≡◌, ◌+◌, ◌*◌, ◌/◌, ◌%◌, ◌^◌, ◌≤◌, ◌<◌, ℕ, List, ◌++◌, length, take, drop, slice_index};
+ghost use Rattle.std.specs.Prelude.{◌≡◌, ◌+◌, ◌*◌, ◌/◌, ◌%◌, ◌^◌, ◌≤◌, ◌<◌, ℕ, List, ◌++◌, length, take, slice_index};
 ghost use Rattle.qoi.specs.inner.Each.{AreStarts, HoldChunks, four_parts, eight_parts};
 ghost use Rattle.qoi.specs.inner.Stores.{AreSizes, AreChunkSizes, first_sum, sixteen_chunks};
 

@@ -1,6 +1,6 @@
 //! Chunks of at most four bytes, stored four at a time: one shuffle moves their bytes together.
 ghost use lib.Lanes.{all_below, digits_l};
-ghost use Rattle.std.specs.Prelude.{◌≡◌, ◌+◌, ◌≤◌, ◌<◌, ℕ, List, [], ◌∷◌, ◌++◌, length, take, slice_index, IsTrue};
+ghost use Rattle.std.specs.Prelude.{◌≡◌, ◌+◌, ◌≤◌, ◌<◌, ℕ, List, [], ◌∷◌, ◌++◌, length, take, IsTrue};
 ghost use Rattle.qoi.specs.inner.Fours.{HaveCodes, AreCodes, joined, total, order_of, close_bytes};
 ghost use Rattle.qoi.specs.inner.Stores.{sixteen_chunks};
 

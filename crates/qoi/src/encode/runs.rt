@@ -19,17 +19,7 @@ pub fn repeats<const N: usize>(data: &[u8], px: Pixel<N>) -> usize
     ensures { IsCount (rgba px.entry) (pixels_of N «data».now) result }
 {
     let (whole, _) = data.split_at(data.len() - data.len() % N);
-    repeats_by_call::<N>(Pixels::new(whole), px.packed())
-}
-
-/// `repeats_of` as a function of its own, for callers that don't need their own copy.
-#[inline(never)]
-pub(super) fn repeats_by_call<const N: usize>(raw: Pixels<N>, px: Packed) -> usize
-    requires { N ≡ 3 → px.a ≡ 255 }
-    ensures within { result ≤ length raw.entry.bytes.now }
-    ensures counted { IsCount px (pixels_in raw.entry) result }
-{
-    repeats_of::<N>(raw, px)
+    repeats_of::<N>(Pixels::new(whole), px.packed())
 }
 
 /// How many pixels at the front equal `px`: counted by blocks of sixteen pixels, and then pixel by

@@ -1,5 +1,4 @@
 -- Sixteen pixels have so many bytes.
-use Rattle.std.proofs.Common.{arith}
 use Rattle.qoi.proofs.encoding.PixelsIn.{bytes_within}
 use Rattle.qoi.proofs.encode.pixels.Pixels.front.Goals as goal
 
