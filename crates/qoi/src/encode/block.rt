@@ -157,8 +157,8 @@ impl Block {
 }
 
 /// Appends the chunks of a block that doesn't repeat whole, but for the repeats at its end. Returns
-/// what is carried then. `STYLE` and `ROOM` give each loop that calls it a function of its own, which
-/// the compiler inlines there.
+/// what is carried then. `STYLE` and `ROOM` give each loop that calls it a function of its own,
+/// which the compiler inlines there.
 #[inline]
 pub(super) fn write_block<'p, const N: usize, const STYLE: u8, const ROOM: usize>(
     style: Style,

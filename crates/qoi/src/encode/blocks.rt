@@ -1,6 +1,6 @@
 //! Writes what is at the front of an image's pixels into a piece: blocks of sixteen, and between
 //! two of them repeats are carried (QOI specification 1.0, "Data" and "Chunks").
-ghost use Rattle.std.specs.Prelude.{◌≡◌, ◌≢◌, ◌⊎◌, ℕ, ◌<◌, ◌≤◌, true, List, [], ◌++◌, Some, length, slice_get, IsTrue};
+ghost use Rattle.std.specs.Prelude.{◌≡◌, ◌⊎◌, ℕ, ◌<◌, ◌≤◌, true, List, [], ◌++◌, Some, length, slice_get, IsTrue};
 ghost use Rattle.qoi.specs.declared.types.Style.{Style};
 ghost use Rattle.qoi.specs.declared.types.Style.TheVariants.{Tight};
 ghost use Rattle.qoi.specs.Qoi.{RgbaPixel};
@@ -16,7 +16,7 @@ use crate::encode::carry::Carry;
 use crate::encode::coder::Coder;
 use crate::encode::last::LastPixel;
 use crate::encode::piece::{OpenPiece, Piece, REPEATS_AT_ONCE};
-use crate::encode::pixels::{FrontBlock, Pixels};
+use crate::encode::pixels::{FrontBlock, PixelOf, Pixels};
 use crate::encode::planes::Planes;
 use crate::encode::runs::repeats_of;
 use crate::encode::table::PixelTable;
@@ -52,7 +52,7 @@ fn carried<const N: usize>(coder: &Coder<N>) -> Carry<N>
         → InBlocks style ahead n rest more table result kept }
 {
     Carry {
-        before: Planes::splat::<N>(coder.last.px),
+        before: Planes::splat::<N>(PixelOf { px: coder.last.px }),
         count: coder.last.repeats as u8,
         placed: coder.last.placed,
     }
@@ -110,20 +110,19 @@ fn write_long_group<'a, 'p, const N: usize, const ROOM: usize>(
 fn write_group<'a, 'p, const N: usize, const ROOM: usize>(
     table: &mut PixelTable,
     piece: OpenPiece<'p, ROOM>,
-    raw: Pixels<'a, N>,
+    front: FrontBlock<'a, N>,
     carry: Carry<N>,
 ) -> (Pixels<'a, N>, Carry<N>, Piece<'p, ROOM>)
-    requires { pixels_in raw ≢ [] }
-    ensures less { length (pixels_in result.0) < length (pixels_in raw.entry) }
+    ensures less { length (pixels_in result.0) < length (pixels_in front.entry.raw) }
     ensures written { (ahead : List ℕ) (n : ℕ) (more : List RgbaPixel)
-        → InBlocks Tight ahead n (pixels_in raw.entry) more table.old carry.entry
+        → InBlocks Tight ahead n (pixels_in front.entry.raw) more table.old carry.entry
         (kept_bytes piece.entry.piece)
         → InBlocks Tight ahead n (pixels_in result.0) more table.new result.1
         (kept_bytes result.2) }
 {
     let mut piece = piece.piece;
     let mut coder = coder_after(carry);
-    let rest = coder.write_next(Tight, table, &mut piece, raw);
+    let rest = coder.write_next(Tight, table, &mut piece, front.raw);
     (rest, carried(&coder), piece)
 }
 
@@ -151,7 +150,7 @@ fn write_front<'a, 'p, const N: usize, const STYLE: u8, const ROOM: usize>(
         return write_long_group(piece, front.raw, carry);
     }
     if block.may_miss_blank(style, table) {
-        return write_group(table, piece, front.raw, carry);
+        return write_group(table, piece, front, carry);
     }
     let (after, piece) = write_block::<N, STYLE, ROOM>(style, table, piece, block, carry);
     (front.raw.skip(16), after, piece)

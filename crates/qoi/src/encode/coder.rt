@@ -20,7 +20,7 @@ use crate::consts::{QOI_OP_RUN, QOI_RUN_MAX};
 use crate::encode::fresh::spell_pixel;
 use crate::encode::last::LastPixel;
 use crate::encode::piece::{OpenPiece, Piece, REPEATS_AT_ONCE};
-use crate::encode::pixels::Pixels;
+use crate::encode::pixels::{PixelOf, Pixels};
 use crate::encode::runs::repeats_of;
 use crate::encode::table::PixelTable;
 use crate::packed::Packed;
@@ -128,7 +128,7 @@ impl<const N: usize> Coder<N> {
         }
     }
 
-    // Writes the fresh pixel `px`: by its index position if it stands there, else as
+    // Writes the fresh pixel `next`: by its index position if it stands there, else as
     // `chunk_if_absent` has it. Then puts it at its position, and it is the last pixel.
     #[inline(always)]
     fn write_pixel<const ROOM: usize>(
@@ -136,17 +136,18 @@ impl<const N: usize> Coder<N> {
         style: Style,
         table: &mut PixelTable,
         piece: &mut Piece<ROOM>,
-        px: Packed,
+        next: PixelOf<N>,
     )
-        requires room { piece.old.end + (chunk_max + marker_size) ≤ ROOM }
-        requires opaque { N ≡ 3 → px.a ≡ 255 }
+        requires { piece.old.end + (chunk_max + marker_size) ≤ ROOM }
         ensures end { piece.new.end ≤ piece.old.end + chunk_max }
         ensures begun { (self.new.last.begun ≡ true) × (self.new.last.repeats ≡ 0) }
-        ensures written { (ahead : List ℕ) (rest : List RgbaPixel) → px ≢ self.old.last.px
-            → self.old.last.repeats ≡ 0
-            → CoderBetween style ahead (px ∷ rest) table.old self.old.last (kept_bytes piece.old)
+        ensures written { (ahead : List ℕ) (rest : List RgbaPixel)
+            → next.entry.px ≢ self.old.last.px → self.old.last.repeats ≡ 0
+            → CoderBetween style ahead (next.entry.px ∷ rest) table.old self.old.last
+            (kept_bytes piece.old)
             → CoderBetween style ahead rest table.new self.new.last (kept_bytes piece.new) }
     {
+        let px = next.px;
         let place = px.hash_index();
         let stands = table.at(place).is_same(px);
         let (number, size) = spell_pixel::<N>(self.last.px, px);
@@ -192,7 +193,10 @@ impl<const N: usize> Coder<N> {
         if carried == 0 && !raw.begin_with(self.last.px) {
             return 0;
         }
-        let ahead = repeats_of::<N>(raw.near(REPEATS_AT_ONCE - carried), self.last.px);
+        let ahead = repeats_of::<N>(
+            raw.near(REPEATS_AT_ONCE - carried),
+            PixelOf { px: self.last.px },
+        );
         let count = carried + ahead;
         let (runs, left) = (count / QOI_RUN_MAX, count % QOI_RUN_MAX);
         piece.keep_full_runs(runs);

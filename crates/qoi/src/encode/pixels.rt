@@ -15,6 +15,13 @@ pub(super) struct Pixels<'a, const N: usize> {
     ghost whole: { length bytes.now % N ≡ 0 },
 }
 
+/// A pixel of `N` channels: in three it is opaque.
+#[derive(Clone, Copy)]
+pub(super) struct PixelOf<const N: usize> {
+    pub(super) px: Packed,
+    ghost opaque: { N ≡ 3 → px.a ≡ 255 },
+}
+
 /// Pixels that begin with a block: sixteen or more.
 #[derive(Clone, Copy)]
 pub(super) struct FrontBlock<'a, const N: usize> {
@@ -72,12 +79,13 @@ impl<'a, const N: usize> Pixels<'a, N> {
 
     /// The first one.
     #[inline(always)]
-    pub(super) fn first(self) -> Packed
+    pub(super) fn first(self) -> PixelOf<N>
         requires { pixels_in self ≢ [] }
-        ensures first { pixels_in self.entry ≡ result ∷ drop 1 (pixels_in self.entry) }
-        ensures opaque { N ≡ 3 → result.a ≡ 255 }
+        ensures { pixels_in self.entry ≡ result.px ∷ drop 1 (pixels_in self.entry) }
     {
-        Packed::read::<N>(self.bytes)
+        PixelOf {
+            px: Packed::read::<N>(self.bytes),
+        }
     }
 
     /// Whether this one stands at the front.

@@ -6,6 +6,7 @@ ghost use Rattle.qoi.specs.inner.Blocks.{last_pixel};
 ghost use Rattle.qoi.specs.inner.Planes.{AreFour, ArePacked, AreSixteen, AreFourWords, AreBlockWords, channel_words, ArePlanes, AreOpaque};
 ghost use Rattle.qoi.specs.inner.Spelling.{IsLastOf};
 
+use crate::encode::pixels::PixelOf;
 use crate::packed::Packed;
 use std::simd::prelude::*;
 
@@ -30,10 +31,10 @@ pub(super) struct Planes {
 impl Planes {
     /// The planes of sixteen times this pixel.
     #[inline(always)]
-    pub(super) fn splat<const N: usize>(px: Packed) -> Planes
-        requires { N ≡ 3 → px.a ≡ 255 }
-        ensures { IsLastOf px result }
+    pub(super) fn splat<const N: usize>(pixel: PixelOf<N>) -> Planes
+        ensures { IsLastOf pixel.entry.px result }
     {
+        let px = pixel.px;
         Planes {
             r: u8x16::splat(px.r()),
             g: u8x16::splat(px.g()),

@@ -6,7 +6,7 @@ ghost use Rattle.qoi.specs.Raw.{IsChannels, output, pixels_of};
 ghost use Rattle.qoi.specs.Runs.{IsCount};
 ghost use Rattle.qoi.specs.inner.Pixels.{pixels_in};
 
-use crate::encode::pixels::{FrontBlock, Pixels};
+use crate::encode::pixels::{FrontBlock, PixelOf, Pixels};
 use crate::packed::Packed;
 use crate::pixel::Pixel;
 use crate::utils::skip;
@@ -19,17 +19,17 @@ pub fn repeats<const N: usize>(data: &[u8], px: Pixel<N>) -> usize
     ensures { IsCount (rgba px.entry) (pixels_of N «data».now) result }
 {
     let (whole, _) = data.split_at(data.len() - data.len() % N);
-    repeats_of::<N>(Pixels::new(whole), px.packed())
+    repeats_of::<N>(Pixels::new(whole), PixelOf { px: px.packed() })
 }
 
-/// How many pixels at the front equal `px`: counted by blocks of sixteen pixels, and then pixel by
-/// pixel.
+/// How many pixels at the front equal this one: counted by blocks of sixteen pixels, and then pixel
+/// by pixel.
 #[inline(always)]
-pub(super) fn repeats_of<const N: usize>(raw: Pixels<N>, px: Packed) -> usize
-    requires { N ≡ 3 → px.a ≡ 255 }
+pub(super) fn repeats_of<const N: usize>(raw: Pixels<N>, pixel: PixelOf<N>) -> usize
     ensures within { result ≤ length raw.entry.bytes.now }
-    ensures counted { IsCount px (pixels_in raw.entry) result }
+    ensures counted { IsCount pixel.entry.px (pixels_in raw.entry) result }
 {
+    let px = pixel.px;
     let mut count = 0;
     let mut rest = raw;
     while rest.has_block() {

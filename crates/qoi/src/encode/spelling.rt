@@ -127,8 +127,8 @@ fn sizes_of(fits: Fits, stands: u8x16) -> u8x16
     size + (!fits.keep & !one & u8x16::splat(1))
 }
 
-// The first bytes, with those of runs for repeats. The lesser of a mask and a byte is the byte where
-// the mask is set, else 0; of `&` the compiler would make a blend, which takes longer.
+// The first bytes, with those of runs for repeats. The lesser of a mask and a byte is the byte
+// where the mask is set, else 0; of `&` the compiler would make a blend, which takes longer.
 #[inline(always)]
 fn with_runs(first: u8x16, rep: u8x16, count: u8x16) -> u8x16
     ensures { (ls : List Lane) (c : ℕ) → AreBy ls first_of first
@@ -138,8 +138,8 @@ fn with_runs(first: u8x16, rep: u8x16, count: u8x16) -> u8x16
     greater(first, lesser(rep, count + u8x16::splat(0xbf)))
 }
 
-// The sizes, with 0 for a repeat that another one follows, or no lane. As for `with_runs`, `&` would
-// take longer.
+// The sizes, with 0 for a repeat that another one follows, or no lane. As for `with_runs`, `&`
+// would take longer.
 #[inline(always)]
 fn with_none(size: u8x16, rep: u8x16) -> u8x16
     ensures { (ls : List Lane) → AreBy ls size_of size → AreBy ls (λ l. mask (is_rep l)) rep

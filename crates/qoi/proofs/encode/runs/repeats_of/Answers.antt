@@ -19,17 +19,17 @@ loop-rest-init g c = record { within = omega (arith, pixels_few g.row.N c.args.r
 
 pub returns-then-more-lt16-clause-counted : goal.returns-then-more-lt16-clause-counted
 returns-then-more-lt16-clause-counted g c =
-    counted_on c.args.px _ _ c.loop-rest.count c.repeats_in_block-more.result c.loop-rest.invariant.same
-    (subst (λ r. IsCount c.args.px (pixels_in r) c.repeats_in_block-more.result) c.front.ensures (c.repeats_in_block-more.ensures.counted c.if-more-lt16.true))
+    counted_on c.args.pixel.px _ _ c.loop-rest.count c.repeats_in_block-more.result c.loop-rest.invariant.same
+    (subst (λ r. IsCount c.args.pixel.px (pixels_in r) c.repeats_in_block-more.result) c.front.ensures (c.repeats_in_block-more.ensures.counted c.if-more-lt16.true))
 
 pub loop-rest-preserved : goal.loop-rest-preserved
 loop-rest-preserved g c =
     let all : c.repeats_in_block-more.result ≡ 16 = omega (arith, c.repeats_in_block-more.ensures.within, c.if-more-lt16.false) in
     let after = c.skip-rest.ensures in
-    subst (λ more. RepeatsSoFar (length c.args.raw.bytes.now) (pixels_in c.args.raw) (pixels_in c.skip-rest.result) c.args.px (c.loop-rest.count + more)) (sym all)
-    (repeats_on (length c.args.raw.bytes.now) 16 (pixels_in c.args.raw) (pixels_in c.loop-rest.rest) (pixels_in c.skip-rest.result) c.args.px c.loop-rest.count c.loop-rest.invariant
-    after.size (block_more c.args.px _ _ (subst (λ r. Repeats c.args.px (pixels_in r)) c.front.ensures (c.repeats_in_block-more.ensures.all all)) after.rest))
+    subst (λ more. RepeatsSoFar (length c.args.raw.bytes.now) (pixels_in c.args.raw) (pixels_in c.skip-rest.result) c.args.pixel.px (c.loop-rest.count + more)) (sym all)
+    (repeats_on (length c.args.raw.bytes.now) 16 (pixels_in c.args.raw) (pixels_in c.loop-rest.rest) (pixels_in c.skip-rest.result) c.args.pixel.px c.loop-rest.count c.loop-rest.invariant
+    after.size (block_more c.args.pixel.px _ _ (subst (λ r. Repeats c.args.pixel.px (pixels_in r)) c.front.ensures (c.repeats_in_block-more.ensures.all all)) after.rest))
 
 pub returns-clause-counted : goal.returns-clause-counted
 returns-clause-counted g c =
-    counted_on c.args.px _ _ c.loop-rest.count c.count_pixels.result c.loop-rest.invariant.same c.count_pixels.ensures.counted
+    counted_on c.args.pixel.px _ _ c.loop-rest.count c.count_pixels.result c.loop-rest.invariant.same c.count_pixels.ensures.counted
