@@ -2,7 +2,7 @@
 use Rattle.std.proofs.Common.{◌≡◌, ◌-◌, Bool, true, false, not, ◌||◌, ◌&&◌, ◌==◌, List, [], ◌∷◌, map, bit_or, if◌then◌else◌, refl, sym, ap, ap₂, ◌∙◌}
 use Rattle.std.proofs.lemmas.Bool.{and_parts, true≢false}
 use Rattle.qoi.specs.Qoi.{RgbaPixel, pixel_eq, blank, seen, hash}
-use Rattle.qoi.specs.inner.BlockLanes.{Lane, IsLane, mask, zero_mask}
+use Rattle.qoi.specs.inner.BlockLanes.{Lane, IsLane, mask}
 use Rattle.qoi.specs.inner.BlockState.{State, lanes_of, is_rep, next_state, more_of, NoneBlank}
 use Rattle.qoi.specs.inner.Counts.{all_true}
 use Rattle.qoi.proofs.format.SamePixels.{pixel_eq-true, pixel_eq-from, pixel_eq-ne}
@@ -13,7 +13,7 @@ abbrev pub is_blank : RgbaPixel → Bool
 is_blank p = pixel_eq p blank
 
 -- so is a lane's, if all its channels are 0
-pub blank_lane : (l : Lane) → IsLane l → zero_mask (bit_or (bit_or (bit_or l.px.r l.px.g) l.px.b) l.px.a) ≡ mask (is_blank l.px)
+pub blank_lane : (l : Lane) → IsLane l → mask (bit_or (bit_or (bit_or l.px.r l.px.g) l.px.b) l.px.a == 0) ≡ mask (is_blank l.px)
 unfolding pixel_eq blank
 blank_lane l is =
     let p = l.px in

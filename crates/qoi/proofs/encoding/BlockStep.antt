@@ -12,7 +12,7 @@ use Rattle.qoi.specs.Qoi.{RgbaPixel, pixel_eq, seen, hash}
 use Rattle.qoi.specs.Styles.{names}
 use Rattle.qoi.specs.inner.BlockLanes.{mask}
 use Rattle.qoi.specs.inner.Blocks.{all_repeat}
-use Rattle.qoi.specs.inner.BlockState.{State, lanes_of, is_rep, group_bytes, next_state, more_of, end_state, block_bytes, NoneBlank, CarryGoesOn, flushed_state, next_by}
+use Rattle.qoi.specs.inner.BlockState.{State, lanes_of, is_rep, group_bytes, next_state, more_of, block_bytes, NoneBlank, next_by}
 use Rattle.qoi.specs.inner.CarryLoop.{InBlocks}
 use Rattle.qoi.specs.inner.CoderLoop.{Ahead}
 use Rattle.qoi.specs.inner.Counts.{counts}
@@ -22,8 +22,8 @@ use Rattle.qoi.specs.inner.Stands.{put_all, stand_tests}
 use Rattle.qoi.specs.inner.Table.{Holds}
 use Rattle.qoi.proofs.format.SamePixels.{pixel_eq-true, pixel_eq-from}
 use Rattle.qoi.proofs.encoding.BlockOut.{carry_few}
-use Rattle.qoi.proofs.encoding.BlockWritten.{Carrying, flushed, block_written}
-use Rattle.qoi.proofs.encoding.LastCount.{last_count}
+use Rattle.qoi.proofs.encoding.BlockWritten.{Carrying, flushed, block_written, CarryGoesOn, flushed_state}
+use Rattle.qoi.proofs.encoding.LastCount.{last_count, end_state}
 use Rattle.qoi.proofs.encoding.SpelledBlock.{lanes_long}
 use Rattle.qoi.proofs.encoding.StyledBlock.{firsts_in_anew}
 

@@ -21,9 +21,19 @@ use Rattle.qoi.proofs.encoding.CoderSteps.{over_repeat, over_group, over_fresh}
 use Rattle.qoi.proofs.encoding.CoderTable.{place_chosen, spelled_out}
 use Rattle.qoi.proofs.encoding.WrittenExists.{spells_no_place}
 use Rattle.qoi.specs.inner.BlockLanes.{lane_bytes}
-use Rattle.qoi.specs.inner.BlockState.{State, lane_of, group_bytes, next_by, step_by, next_state, step_bytes, more_of, end_state, block_bytes, NoneBlank, CarryGoesOn, flushed_state}
+use Rattle.qoi.specs.inner.BlockState.{State, lane_of, group_bytes, next_by, step_by, next_state, step_bytes, more_of, block_bytes, NoneBlank}
 use Rattle.qoi.proofs.encoding.BlockOut.{carry_few}
 use Rattle.qoi.proofs.encoding.LaneChunk.{spelled_lane}
+use Rattle.qoi.proofs.encoding.LastCount.{end_state}
+
+-- repeats are carried only if the next pixel is one
+abbrev pub CarryGoesOn : State → List RgbaPixel → Type 0
+CarryGoesOn s [] = Unit {0}
+CarryGoesOn s (p ∷ ps) = 0 < s.carry → p ≡ s.last
+
+-- the state once the carried repeats are written, before a fresh pixel
+abbrev pub flushed_state : State → State
+flushed_state s = record { held = s.held; last = s.last; carry = 0; placed = false }
 
 -- a group of fewer than 62 repeats
 runs_few : (one : Chunk) (n : ℕ) → n < 62 → runs_by one n ≡ last_by one n

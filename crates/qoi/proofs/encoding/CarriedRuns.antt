@@ -1,7 +1,6 @@
 -- Repeats that come while some are carried: the full runs of all are written, and those that are left
 -- are carried.
-use Rattle.std.proofs.Common.{◌≡◌, ℕ, zero, suc, Some, ◌+◌, ◌*◌, ◌<◌, ◌≤◌, true, ◌&&◌, nat_eq, nat_lt, List, ◌++◌, replicate, refl, sym, ap, ◌∙◌, subst, arith, append-nil, append_assoc}
-use Rattle.std.proofs.Math.Bool.{and-true}
+use Rattle.std.proofs.Common.{◌≡◌, ℕ, zero, suc, Some, ◌+◌, ◌*◌, ◌<◌, ◌≤◌, ◌&&◌, nat_eq, nat_lt, List, ◌++◌, replicate, sym, ap, ◌∙◌, subst, arith, append_assoc}
 use Rattle.std.proofs.lemmas.Bool.{true≢false, lt-ltb, ne_eqb}
 use Rattle.std.specs.List.{slice_get}
 use Rattle.qoi.specs.declared.chunk.Chunk.TheVariants.{Run}
@@ -55,14 +54,3 @@ blocks_on {style = style} {ahead} {size} {rest} {more} {table} {kept} carry afte
       opens = λ no. absurd (true≢false (sym (still_begun (62 * k) b.past begun) ∙ no));
       few = λ e. few (e ∙ ap Some (again ∙ sym last));
     }
-
--- A block of repeats more is carried, too.
-pub block_carried : {N : ℕ} {style : Style} {ahead : List ℕ} {size : ℕ} {rest more table : List RgbaPixel} {kept : List ℕ} (carry after : Carry N) → carry.count ≤ 29
-    → after.count ≡ carry.count + 16 → after.before ≡ carry.before → after.placed ≡ carry.placed
-    → InBlocks style ahead size (replicate 16 (last_pixel carry.before) ++ rest) more table carry kept
-    → InBlocks style ahead size rest more table after kept
-block_carried {style = style} {ahead} {size} {rest} {more} {table} {kept} carry after few count before placed b =
-    let short : nat_lt (carry.count + 16) 62 ≡ true = lt-ltb (carry.count + 16) 62 (omega arith) in
-    subst (InBlocks style ahead size rest more table after) (append-nil kept)
-    (blocks_on carry after 16 0 (omega arith) (omega arith) before (placed ∙ sym (and-true carry.placed) ∙ ap (λ z. carry.placed && z) (sym short))
-    (λ _. omega arith) refl b)

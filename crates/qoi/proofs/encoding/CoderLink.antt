@@ -11,7 +11,6 @@ use Rattle.qoi.specs.Styles.{some_fresh}
 use Rattle.qoi.specs.inner.Blocks.{last_pixel}
 use Rattle.qoi.specs.inner.CarryLoop.{CarryAfter, OpensBlock, InBlocks}
 use Rattle.qoi.specs.inner.CoderLoop.{CoderBetween}
-use Rattle.qoi.specs.inner.Spelling.{IsLastOf}
 use Rattle.qoi.proofs.encoding.CoderSteps.{over_sent}
 use Rattle.qoi.proofs.encoding.LastOfPlanes.{last_of_planes}
 
@@ -48,18 +47,6 @@ module _ {N : ℕ} {style : Style} {ahead : List ℕ} {n : ℕ} {pixels more : L
   pub begun_at_end : (style ≡ Tight) ⊎ (length pixels < n) → some_fresh b.past ≡ true
   begun_at_end (inl tight) = begun_by (λ o. o.other tight)
   begun_at_end (inr few) = begun_by (λ o. absurd (omega (arith, o.whole, few)))
-
-  -- of what is carried, only the last pixel, the number of its repeats and whether it is placed count
-  pub same_carried : (next : Carry N) → ((q : RgbaPixel) → IsLastOf q carry.before → IsLastOf q next.before) → next.count ≡ carry.count
-      → next.placed ≡ carry.placed → InBlocks style ahead n pixels more table next kept
-  same_carried next last count placed = record {
-    past = b.past;
-    before = b.before;
-    to_write = rw count b.to_write;
-    state = record { table_is = b.state.table_is; last_is = last _ b.state.last_is; placed_is = λ is. placed ∙ b.state.placed_is is };
-    opens = λ no. (count ∙ (b.opens no).0, (b.opens no).1);
-    few = λ e. omega (arith, count, b.few e);
-  }
 
 -- once the first bytes that are kept are gone, the same holds of the others
 pub coder_sent : {style : Style} {ahead : List ℕ} {pixels : List RgbaPixel} {table : List RgbaPixel} {last : LastPixel} {kept : List ℕ}

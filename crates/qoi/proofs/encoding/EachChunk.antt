@@ -1,45 +1,42 @@
 -- Chunks as numbers: four bytes, and alpha above them.
-use Rattle.std.proofs.Common.{◌≡◌, ℕ, zero, suc, ◌+◌, ◌*◌, ◌/◌, ◌%◌, ◌<◌, ◌≤◌, List, [], ◌∷◌, ◌++◌, length, take, drop, replicate, slice_index, append_assoc, w8, w32, Fits, ap, ◌∙◌, arith}
+use Rattle.std.proofs.Common.{◌≡◌, ℕ, zero, suc, ◌+◌, ◌*◌, ◌/◌, ◌%◌, ◌<◌, ◌≤◌, List, [], ◌∷◌, ◌++◌, length, take, drop, replicate, slice_index, map, refl, append_assoc, w8, w32, Fits, ap, ◌∙◌, arith}
+use Rattle.std.specs.List.{AllByRecursion}
 use Rattle.std.proofs.lemmas.List.{take-append-le}
 use lib.Lanes.{digits_l, number_l, pick_l, Each1}
 use Rattle.qoi.specs.declared.encode.planes.Words.{Words}
-use Rattle.qoi.specs.Qoi.{IsPixel, pixel}
+use Rattle.qoi.specs.Qoi.{RgbaPixel, IsPixel, pixel}
 use Rattle.qoi.specs.inner.Packed.{word}
+use Rattle.qoi.specs.inner.Planes.{AreSixteen, ArePlanes, AreBlockWords}
 use Rattle.qoi.specs.inner.Each.{HoldChunks, four_parts, eight_parts}
 use Rattle.qoi.specs.inner.Stores.{chunk_of, four_chunks, sixteen_chunks}
-use Rattle.qoi.proofs.encoding.PlaneWords.{four_words}
 use Rattle.qoi.proofs.encoding.Shuffles.{number_bytes, four_bytes}
 
--- four bytes, each with three zeros above it
-abbrev wide : ℕ → ℕ → ℕ → ℕ → List ℕ
-wide a b c d = a ∷ 0 ∷ 0 ∷ 0 ∷ b ∷ 0 ∷ 0 ∷ 0 ∷ c ∷ 0 ∷ 0 ∷ 0 ∷ d ∷ 0 ∷ 0 ∷ 0 ∷ []
+-- a byte as the red of a pixel that is 0 otherwise
+abbrev wide : ℕ → RgbaPixel
+wide a = pixel a 0 0 0
 
--- they are the numbers
-wide_is : (a b c d : ℕ) → a < 256 → b < 256 → c < 256 → d < 256 → digits_l 4294967296 4 (number_l 256 (wide a b c d)) ≡ a ∷ b ∷ c ∷ d ∷ []
-wide_is a b c d la lb lc ld =
-    let is : (x : ℕ) → x < 256 → IsPixel (pixel x 0 0 0) = λ x lx. record { r = lx; g = omega arith; b = omega arith; a = omega arith } in
-    let same : (x : ℕ) → word (pixel x 0 0 0) ≡ x = λ x. omega arith in
-    four_words (pixel a 0 0 0) (pixel b 0 0 0) (pixel c 0 0 0) (pixel d 0 0 0) (is a la) (is b lb) (is c lc) (is d ld)
-    ∙ (λ i. same a i ∷ same b i ∷ same c i ∷ same d i ∷ [])
+-- it is the packed pixel
+narrow : (a : ℕ) → word (wide a) ≡ a
+narrow a = omega arith
 
--- four bytes of sixteen, with zeros between them
-abbrev spread : List ℕ → ℕ → List ℕ
-spread xs k = digits_l 4294967296 4 (number_l 256 (pick_l 0 (xs ++ replicate 16 0)
-    (k ∷ 16 ∷ 16 ∷ 16 ∷ (k + 1) ∷ 16 ∷ 16 ∷ 16 ∷ (k + 2) ∷ 16 ∷ 16 ∷ 16 ∷ (k + 3) ∷ 16 ∷ 16 ∷ 16 ∷ [])))
+-- they are pixels
+are_pixels : (xs : List ℕ) → Each1 (Fits w8) xs → AllByRecursion IsPixel (map wide xs)
+are_pixels [] f = tt
+are_pixels (x ∷ xs) f = (record { r = f.0.fits; g = omega arith; b = omega arith; a = omega arith }, are_pixels xs f.1)
 
 -- sixteen bytes as numbers
-pub widened_are : (xs : List ℕ) → length xs ≡ 16 → Each1 (Fits w8) xs
-    → (spread xs 0 ≡ take 4 xs) × (spread xs 4 ≡ take 4 (drop 4 xs)) × (spread xs 8 ≡ take 4 (drop 8 xs)) × (spread xs 12 ≡ take 4 (drop 12 xs))
-widened_are (x0 ∷ x1 ∷ x2 ∷ x3 ∷ x4 ∷ x5 ∷ x6 ∷ x7 ∷ x8 ∷ x9 ∷ x10 ∷ x11 ∷ x12 ∷ x13 ∷ x14 ∷ x15 ∷ []) e f =
-    let g = f.1.1.1.1 in
-    let h = g.1.1.1.1 in
-    let i = h.1.1.1.1 in (
-      wide_is x0 x1 x2 x3 f.0.fits f.1.0.fits f.1.1.0.fits f.1.1.1.0.fits,
-      wide_is x4 x5 x6 x7 g.0.fits g.1.0.fits g.1.1.0.fits g.1.1.1.0.fits,
-      wide_is x8 x9 x10 x11 h.0.fits h.1.0.fits h.1.1.0.fits h.1.1.1.0.fits,
-      wide_is x12 x13 x14 x15 i.0.fits i.1.0.fits i.1.1.0.fits i.1.1.1.0.fits,
+pub widened_are : (xs : List ℕ) (w : Words) → length xs ≡ 16 → Each1 (Fits w8) xs
+    → ((ps : List RgbaPixel) → AreSixteen ps → ArePlanes ps (record { r = xs; g = replicate 16 0; b = replicate 16 0; a = replicate 16 0 }) → AreBlockWords ps w)
+    → (w.one ≡ take 4 xs) × (w.two ≡ take 4 (drop 4 xs)) × (w.three ≡ take 4 (drop 8 xs)) × (w.four ≡ take 4 (drop 12 xs))
+widened_are (x0 ∷ x1 ∷ x2 ∷ x3 ∷ x4 ∷ x5 ∷ x6 ∷ x7 ∷ x8 ∷ x9 ∷ x10 ∷ x11 ∷ x12 ∷ x13 ∷ x14 ∷ x15 ∷ []) w e f made =
+    let xs : List ℕ = x0 ∷ x1 ∷ x2 ∷ x3 ∷ x4 ∷ x5 ∷ x6 ∷ x7 ∷ x8 ∷ x9 ∷ x10 ∷ x11 ∷ x12 ∷ x13 ∷ x14 ∷ x15 ∷ [] in
+    let is = made (map wide xs) (record { long = refl; are = are_pixels xs f }) (record { r_is = refl; g_is = refl; b_is = refl; a_is = refl }) in (
+      is.one_are ∙ (λ i. narrow x0 i ∷ narrow x1 i ∷ narrow x2 i ∷ narrow x3 i ∷ []),
+      is.two_are ∙ (λ i. narrow x4 i ∷ narrow x5 i ∷ narrow x6 i ∷ narrow x7 i ∷ []),
+      is.three_are ∙ (λ i. narrow x8 i ∷ narrow x9 i ∷ narrow x10 i ∷ narrow x11 i ∷ []),
+      is.four_are ∙ (λ i. narrow x12 i ∷ narrow x13 i ∷ narrow x14 i ∷ narrow x15 i ∷ []),
     )
-widened_are xs e f = absurd (omega arith)
+widened_are xs w e f made = absurd (omega arith)
 
 -- the number of a number's four bytes and those of what is above
 whole : (n r : ℕ) → n < 4294967296 → r < 4294967296 → number_l 256 (digits_l 256 4 n ++ digits_l 256 4 r) ≡ n + 4294967296 * r

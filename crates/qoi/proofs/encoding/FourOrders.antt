@@ -35,10 +35,6 @@ entry_positions i lt = (and_parts (bytes_eq (take (total i) (places i)) (order_o
 pub entry_below : (i : ℕ) → i < 256 → all_below 16 (places i) ≡ true
 entry_below i lt = (and_parts _ (eqb (length (places i)) 16) (entry_positions i lt)).0
 
--- there are sixteen
-pub entry_long : (i : ℕ) → i < 256 → length (places i) ≡ 16
-entry_long i lt = eqb-true _ _ (and_parts (all_below 16 (places i)) _ (entry_positions i lt)).1
-
 -- each total is right
 pub entry_total : (i : ℕ) → i < 256 → get_or TOTALS i 0 ≡ total i
 entry_total i lt = eqb-true _ _ (entry TOTALS (λ b x. eqb x (total b)) 0 0 256 i i (omega arith) refl (omega arith) lt (omega arith))

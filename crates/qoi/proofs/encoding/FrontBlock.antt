@@ -1,7 +1,6 @@
--- The block at the front of pixels, and the pixels after it.
-use Rattle.std.proofs.Common.{◌≡◌, ℕ, zero, suc, true, Some, replicate, ◌<◌, ◌≤◌, List, [], ◌∷◌, ◌++◌, length, take, drop, slice_index, refl, sym, ap, ◌∙◌, arith, take-append-drop}
+-- The block at the front of pixels.
+use Rattle.std.proofs.Common.{◌≡◌, ℕ, zero, suc, true, Some, ◌<◌, ◌≤◌, List, [], ◌∷◌, length, take, slice_index, ap, ◌∙◌, arith}
 use Rattle.std.proofs.lemmas.Bool.{and_parts}
-use Rattle.std.proofs.lemmas.List.{length-take-le}
 use Rattle.std.specs.List.{slice_get}
 use Rattle.qoi.specs.declared.encode.planes.Planes.{Planes}
 use Rattle.qoi.specs.declared.encode.planes.Words.{Words}
@@ -26,16 +25,3 @@ last_opaque w x packed planes opaque =
 pub repeats_first : (ps : List RgbaPixel) (q : RgbaPixel) → 16 ≤ length ps → all_repeat q (take 16 ps) ≡ true → slice_get ps 0 ≡ Some q
 repeats_first [] q enough all = absurd (omega arith)
 repeats_first (p ∷ ps) q enough all = ap Some (pixel_eq-true p q (and_parts (pixel_eq p q) (all_repeat q (take 15 ps)) all).0)
-
--- pixels that repeat one are copies of it
-copies_of : (q : RgbaPixel) (ps : List RgbaPixel) → all_repeat q ps ≡ true → ps ≡ replicate (length ps) q
-copies_of q [] all = refl
-copies_of q (p ∷ ps) all =
-    let is = and_parts (pixel_eq p q) (all_repeat q ps) all in
-    λ i. pixel_eq-true p q is.0 i ∷ copies_of q ps is.1 i
-
--- a block at the front that repeats a pixel, and the pixels after it
-pub repeats_front : (ps : List RgbaPixel) (q : RgbaPixel) → 16 ≤ length ps → all_repeat q (take 16 ps) ≡ true → ps ≡ replicate 16 q ++ drop 16 ps
-repeats_front ps q enough all =
-    sym (take-append-drop 16 ps)
-    ∙ ap (λ x. x ++ drop 16 ps) (copies_of q (take 16 ps) all ∙ ap (λ k. replicate k q) (length-take-le 16 ps enough))

@@ -1,7 +1,7 @@
 -- The pixels that repeat at the front of bytes, and the runs of a group.
 use Rattle.std.proofs.Common.{◌≡◌, ◌≢◌, inl, inr, ℕ, zero, suc, ◌+◌, ◌-◌, ◌*◌, ◌%◌, ◌<◌, ◌≤◌, List, [], ◌∷◌, ◌++◌, length, take, drop, replicate, false, ◌==◌, Some, refl, sym, ap, ◌∙◌, arith, take-append-drop}
 use Rattle.std.proofs.Math.Seq.{drop-append_seam}
-use Rattle.std.proofs.lemmas.List.{length-replicate, length-drop, length-take-le}
+use Rattle.std.proofs.lemmas.List.{length-replicate, length-take-le}
 use Rattle.std.proofs.lemmas.Bool.{ne_eqb}
 use Rattle.std.specs.List.{slice_get}
 use Rattle.qoi.specs.Qoi.{RgbaPixel}
@@ -36,29 +36,18 @@ count_of p pixels rest n e other = record {
     first zero = refl
     first (suc n) = first n
 
--- The first `count` pixels of the bytes are p, and `rest` are the bytes after them.
-pub record RepeatsSoFar (n : ℕ) (bytes rest : List ℕ) (p : RgbaPixel) (count : ℕ) : Type 0 where
-  pub size : n * count + length rest ≡ length bytes
-  pub same : pixels_of n bytes ≡ replicate count p ++ pixels_of n rest
+-- The first `count` of these pixels are p, and `rest` those after them; there are at most `most`.
+pub record RepeatsSoFar (most : ℕ) (pixels rest : List RgbaPixel) (p : RgbaPixel) (count : ℕ) : Type 0 where
+  pub within : count + length rest ≤ most
+  pub same : pixels ≡ replicate count p ++ rest
 
--- no more pixels than bytes
-pub counted_within : (n count more len : ℕ) → IsChannels n → n * count + more ≡ len → count + more ≤ len
-counted_within n count more len is = by_channels (λ k. k * count + more ≡ len → count + more ≤ len) is (λ s. omega arith) (λ s. omega arith)
-
--- sixteen pixels more are p
-pub repeats_block : (n : ℕ) (bytes rest after : List ℕ) (p : RgbaPixel) (count : ℕ) → IsChannels n → RepeatsSoFar n bytes rest p count → n * 16 ≤ length rest
-    → after ≡ drop (n * 16) rest → pixels_of n rest ≡ replicate 16 p ++ pixels_of n (drop (n * 16) rest)
-    → RepeatsSoFar n bytes after p (count + 16)
-repeats_block n bytes rest after p count is w room later block = record {
-  size = sums n is (omega (arith, ap length later, length-drop (n * 16) rest)) w.size;
-  same = w.same ∙ ap (λ x. replicate count p ++ x) (block ∙ ap (λ x. replicate 16 p ++ pixels_of n x) (sym later))
-      ∙ repeats_after count 16 p (pixels_of n after);
+-- n pixels more are p
+pub repeats_on : (most n : ℕ) (pixels rest after : List RgbaPixel) (p : RgbaPixel) (count : ℕ) → RepeatsSoFar most pixels rest p count → length after + n ≡ length rest
+    → rest ≡ replicate n p ++ after → RepeatsSoFar most pixels after p (count + n)
+repeats_on most n pixels rest after p count w size more = record {
+  within = omega (arith, w.within);
+  same = w.same ∙ ap (λ x. replicate count p ++ x) more ∙ repeats_after count n p after;
 }
-  where
-    sums : (n : ℕ) → IsChannels n → length after + n * 16 ≡ length rest → n * count + length rest ≡ length bytes
-        → n * (count + 16) + length after ≡ length bytes
-    sums n is = by_channels (λ k. length after + k * 16 ≡ length rest → k * count + length rest ≡ length bytes
-        → k * (count + 16) + length after ≡ length bytes) is (λ a b. omega arith) (λ a b. omega arith)
 
 -- the member at index k is the first after k members
 pub nth_first : (k : ℕ) (xs : List RgbaPixel) → slice_get xs k ≡ slice_get (drop k xs) 0

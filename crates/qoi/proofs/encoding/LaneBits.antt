@@ -6,7 +6,7 @@ use Rattle.std.proofs.lemmas.Nat.{and_mask, and_comm, and_le_l, or_comm, or_lt, 
 use Rattle.std.proofs.lemmas.Nat.Bits.{and_high_mask}
 use Rattle.qoi.specs.Qoi.{hash}
 use Rattle.qoi.proofs.format.SamePixels.{hash_below}
-use Rattle.qoi.specs.inner.BlockLanes.{Lane, IsLane, mask, zero_mask, step_of, near, far, keeps, fits_diff, fits_luma, diff_of, keep_mask, diff_mask, luma_mask, stand_mask, first_of, second_of, size_of, size_by}
+use Rattle.qoi.specs.inner.BlockLanes.{Lane, IsLane, mask, step_of, near, far, keeps, fits_diff, fits_luma, diff_of, keep_mask, diff_mask, luma_mask, stand_mask, first_of, second_of, size_of, size_by}
 use Rattle.qoi.proofs.encoding.LaneChunk.{three_small}
 
 -- what is at least a number is not below it
@@ -87,7 +87,7 @@ small_test x y z lx ly lz =
 
 -- which lanes a Diff gives
 pub diff_lane : (l : Lane) → IsLane l
-    → bit_and (zero_mask (bit_and (bit_or (bit_or (near l).r (near l).g) (near l).b) 252)) (keep_mask l) ≡ diff_mask l
+    → bit_and (mask (bit_and (bit_or (bit_or (near l).r (near l).g) (near l).b) 252 == 0)) (keep_mask l) ≡ diff_mask l
 diff_lane l is = and_masks _ (keeps l) ∙ ap (λ b. mask (b && keeps l)) (small_test (near l).r (near l).g (near l).b (omega arith) (omega arith) (omega arith))
 
 -- the test of a Luma
@@ -100,7 +100,7 @@ wide_test x y z lx ly lz =
 
 -- which lanes a Luma gives
 pub luma_lane : (l : Lane) → IsLane l
-    → bit_and (zero_mask (bit_or (bit_and (bit_or (far l).r (far l).b) 240) (bit_and (far l).g 192))) (keep_mask l) ≡ luma_mask l
+    → bit_and (mask (bit_or (bit_and (bit_or (far l).r (far l).b) 240) (bit_and (far l).g 192) == 0)) (keep_mask l) ≡ luma_mask l
 luma_lane l is = and_masks _ (keeps l) ∙ ap (λ b. mask (b && keeps l)) (wide_test (far l).r (far l).g (far l).b (omega arith) (omega arith) (omega arith))
 
 -- nothing is added

@@ -3,13 +3,19 @@ use Rattle.std.proofs.Common.{◌≡◌, ◌↔◌, ℕ, ◌+◌, ◌*◌, ◌%�
 use Rattle.std.proofs.lemmas.Bool.{lt-ltb, true≢false}
 use borrow.Author.Tests.{ltb-true}
 use Rattle.qoi.specs.declared.chunk.Chunk.{Chunk}
-use Rattle.qoi.specs.Qoi.{RgbaPixel, IsPixel, bytes_of}
+use Rattle.qoi.specs.Qoi.{RgbaPixel, IsPixel, Past, previous, IsChunk, bytes_of}
 use Rattle.qoi.specs.Written.{IsFirst}
 use Rattle.qoi.specs.WrittenList.{diff_bits, luma_bits, spelled}
 use Rattle.qoi.specs.inner.Steps.{steps, diff_steps, luma_steps}
 use Rattle.qoi.proofs.format.SamePixels.{same_pixel}
 use Rattle.qoi.proofs.encoding.Spelled.{FitsDiff, FitsLuma, spelled_chunk, spelled_first}
-use Rattle.qoi.specs.inner.BlockLanes.{Lane, IsLane, step_of, near, far, keeps, fits_diff, fits_luma, first_by, second_by, size_by, SpelledLane}
+use Rattle.qoi.specs.inner.BlockLanes.{Lane, IsLane, step_of, near, far, keeps, fits_diff, fits_luma, first_by, second_by, size_by, lane_bytes}
+
+-- a chunk of these bytes is the first that spells out the lane's pixel
+pub record SpelledLane (l : Lane) (c : Chunk) : Type 0 where
+  pub chunk : IsChunk c
+  pub bytes : lane_bytes l ≡ bytes_of c
+  pub first : (past : Past) → previous past ≡ l.before → IsFirst past l.px c
 
 -- what four tests say
 pub three_small : (a b c m n k x : ℕ) → IsTrue ((nat_lt a m && (nat_lt b n && nat_lt c k)) && (x == 0)) → (a < m) × (b < n) × (c < k) × (x ≡ 0)

@@ -1,8 +1,8 @@
 -- Masks of bytes, the lesser and the greater of bytes, lane by lane.
 use Rattle.std.proofs.Common.{◌≡◌, ℕ, zero, suc, Bool, true, false, eqb, ltb, ◌==◌, cond, List, [], ◌∷◌, length, map, replicate, refl, ◌∙◌, arith}
-use Rattle.std.specs.Prelude.{min, max, not}
+use Rattle.std.specs.Prelude.{min, max}
 use lib.Lanes.{zip2, sel_l, top}
-use Rattle.qoi.specs.inner.BlockLanes.{mask, zero_mask}
+use Rattle.qoi.specs.inner.BlockLanes.{mask}
 
 -- 255 if both are the same
 abbrev pub same : ℕ → ℕ → ℕ
@@ -18,34 +18,12 @@ picked true x y = refl
 picked false x y = refl
 
 -- which of n bytes are y
-are_n : (y n : ℕ) (xs : List ℕ) → length xs ≡ n
+pub lanes_are : (y n : ℕ) (xs : List ℕ) → length xs ≡ n
     → sel_l (map (top 7) (zip2 same xs (replicate n y))) (replicate n 255) (replicate n 0) ≡ map (λ x. mask (x == y)) xs
-are_n y zero [] e = refl
-are_n y zero (x ∷ xs) e = absurd (omega arith)
-are_n y (suc n) [] e = absurd (omega arith)
-are_n y (suc n) (x ∷ xs) e = λ i. picked (eqb x y) 255 0 i ∷ are_n y n xs (omega arith) i
-
--- which of sixteen bytes are 0
-pub zero_lanes : (xs : List ℕ) → length xs ≡ 16 → sel_l (map (top 7) (zip2 same xs (replicate 16 0))) (replicate 16 255) (replicate 16 0) ≡ map zero_mask xs
-zero_lanes xs e = are_n 0 16 xs e
-
--- which of them are 1
-pub one_lanes : (xs : List ℕ) → length xs ≡ 16
-    → sel_l (map (top 7) (zip2 same xs (replicate 16 1))) (replicate 16 255) (replicate 16 0) ≡ map (λ x. mask (x == 1)) xs
-one_lanes xs e = are_n 1 16 xs e
-
--- the other choice
-other : (b : Bool) → cond (top 7 (cond b 255 0)) 0 255 ≡ mask (not b)
-other true = refl
-other false = refl
-
--- which of n bytes aren't y
-pub other_lanes : (y n : ℕ) (xs : List ℕ) → length xs ≡ n
-    → sel_l (map (top 7) (zip2 same xs (replicate n y))) (replicate n 0) (replicate n 255) ≡ map (λ x. mask (not (x == y))) xs
-other_lanes y zero [] e = refl
-other_lanes y zero (x ∷ xs) e = absurd (omega arith)
-other_lanes y (suc n) [] e = absurd (omega arith)
-other_lanes y (suc n) (x ∷ xs) e = λ i. other (eqb x y) i ∷ other_lanes y n xs (omega arith) i
+lanes_are y zero [] e = refl
+lanes_are y zero (x ∷ xs) e = absurd (omega arith)
+lanes_are y (suc n) [] e = absurd (omega arith)
+lanes_are y (suc n) (x ∷ xs) e = λ i. picked (eqb x y) 255 0 i ∷ lanes_are y n xs (omega arith) i
 
 -- the lesser of two
 less : (a b : ℕ) → cond (top 7 (cond (ltb a b) 255 0)) a b ≡ min a b

@@ -1,9 +1,12 @@
 -- One lane: whether it repeats, and its index position.
-use Rattle.std.proofs.Common.{◌≡◌, ◌≢◌, ◌⊎◌, inl, inr, ℕ, ◌+◌, ◌-◌, ◌%◌, ◌<◌, nat_lt, ◌&&◌, ◌==◌, bit_and, bit_or, List, [], ◌∷◌, ◌++◌, length, map, take, slice_index, refl, sym, ap, ap₂, ◌∙◌, arith}
+use Rattle.std.proofs.Common.{◌≡◌, ◌≢◌, ◌⊎◌, inl, inr, ℕ, ◌+◌, ◌-◌, ◌%◌, ◌<◌, ◌≤◌, nat_lt, ◌&&◌, ◌==◌, bit_and, bit_or, List, [], ◌∷◌, ◌++◌, length, length-drop, map, take, drop, slice_index, refl, sym, ap, ap₂, ◌∙◌, arith}
 use Rattle.std.proofs.lemmas.Bool.{cases_eq, eq-eqb, ne_eqb}
+use Rattle.std.proofs.lemmas.List.{length-append, drop-append-le}
 use Rattle.std.proofs.lemmas.Nat.{and_mask}
+use Rattle.std.proofs.lemmas.Simd.{pick_l-range_with_len}
+use Rattle.std.proofs.Math.Seq.{take-append-add}
 use Rattle.qoi.specs.Qoi.{RgbaPixel, Past, pixel_eq, hash}
-use Rattle.qoi.specs.inner.BlockLanes.{Lane, IsLane, mask, zero_mask, step_of}
+use Rattle.qoi.specs.inner.BlockLanes.{Lane, IsLane, mask, step_of}
 use Rattle.qoi.specs.inner.BlockState.{is_rep, lanes_of}
 use Rattle.std.specs.List.{range_with_len}
 use lib.Lanes.{pick_l}
@@ -18,7 +21,7 @@ no_step p q lp lq = go (cases_eq p q)
     go (inr n) = sym (one_zero _) ∙ ne_eqb _ _ (λ e. n (omega arith)) ∙ sym (ne_eqb p q n)
 
 -- a lane repeats if all its steps are 0
-pub repeat_lane : (l : Lane) → IsLane l → zero_mask (bit_or (bit_or (bit_or (step_of l).r (step_of l).g) (step_of l).b) (step_of l).a) ≡ mask (is_rep l)
+pub repeat_lane : (l : Lane) → IsLane l → mask (bit_or (bit_or (bit_or (step_of l).r (step_of l).g) (step_of l).b) (step_of l).a == 0) ≡ mask (is_rep l)
 unfolding pixel_eq
 repeat_lane l is =
     let p = is.px_is in
@@ -36,12 +39,23 @@ pub place_lane : (l : Lane) → IsLane l → (let r = l.px.r in let g = l.px.g i
 unfolding hash
 place_lane l is = and_mask _ 6 ∙ omega arith
 
+-- sixteen lanes of two vectors, from the n-th on
+pub lanes_from : (n : ℕ) (xs ys : List ℕ) → n ≤ 16 → length xs ≡ 16 → length ys ≡ 16 → pick_l 0 (xs ++ ys) (range_with_len n 16) ≡ drop n xs ++ take n ys
+lanes_from n xs ys few e f =
+    let rest : length (drop n xs) + n ≡ 16 = omega (arith, length-drop n xs) in
+    pick_l-range_with_len 0 (xs ++ ys) n 16 (omega (arith, length-append xs ys))
+    ∙ ap (take 16) (drop-append-le n xs ys (omega (arith, e)))
+    ∙ (λ i. take (sym rest i) (drop n xs ++ ys))
+    ∙ take-append-add (drop n xs) ys n
+
+-- the last of sixteen lanes
+last_lane : (xs : List ℕ) → length xs ≡ 16 → drop 15 xs ≡ slice_index xs 15 ∷ []
+last_lane (x0 ∷ x1 ∷ x2 ∷ x3 ∷ x4 ∷ x5 ∷ x6 ∷ x7 ∷ x8 ∷ x9 ∷ x10 ∷ x11 ∷ x12 ∷ x13 ∷ x14 ∷ x15 ∷ []) e = refl
+last_lane xs e = absurd (omega arith)
+
 -- a vector's lanes, one further on
-pub one_later : (xs ys : List ℕ) → length xs ≡ 16 → length ys ≡ 16
-    → pick_l 0 (xs ++ ys) (range_with_len 15 16) ≡ slice_index xs 15 ∷ take 15 ys
-one_later (x0 ∷ x1 ∷ x2 ∷ x3 ∷ x4 ∷ x5 ∷ x6 ∷ x7 ∷ x8 ∷ x9 ∷ x10 ∷ x11 ∷ x12 ∷ x13 ∷ x14 ∷ x15 ∷ []) (y0 ∷ y1 ∷ y2 ∷ y3 ∷ y4 ∷ y5 ∷ y6 ∷ y7 ∷ y8 ∷ y9 ∷ y10 ∷ y11 ∷ y12 ∷ y13 ∷ y14 ∷ y15 ∷ []) e f = refl
-one_later (x0 ∷ x1 ∷ x2 ∷ x3 ∷ x4 ∷ x5 ∷ x6 ∷ x7 ∷ x8 ∷ x9 ∷ x10 ∷ x11 ∷ x12 ∷ x13 ∷ x14 ∷ x15 ∷ []) ys e f = absurd (omega arith)
-one_later xs ys e f = absurd (omega arith)
+pub one_later : (xs ys : List ℕ) → length xs ≡ 16 → length ys ≡ 16 → pick_l 0 (xs ++ ys) (range_with_len 15 16) ≡ slice_index xs 15 ∷ take 15 ys
+one_later xs ys e f = lanes_from 15 xs ys (omega arith) e f ∙ ap (λ z. z ++ take 15 ys) (last_lane xs e)
 
 -- what stands before the lanes of pixels is the pixel before them, and then they
 pub befores : (f : RgbaPixel → ℕ) (held : Past) (q : RgbaPixel) (ps : List RgbaPixel) → map (λ (l : Lane). f l.before) (lanes_of held q ps) ≡ take (length ps) (f q ∷ map f ps)

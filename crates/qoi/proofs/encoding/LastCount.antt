@@ -2,10 +2,15 @@
 use Rattle.std.proofs.Common.{◌≡◌, ℕ, suc, Bool, true, false, List, [], ◌∷◌, length, map, get_or, if◌then◌else◌, refl, sym, ap, ◌∙◌}
 use Rattle.std.proofs.lemmas.Bool.{true≢false}
 use Rattle.qoi.specs.Qoi.{RgbaPixel, pixel_eq}
-use Rattle.qoi.specs.inner.BlockState.{State, lanes_of, is_rep, goes_on, next_by, next_state, more_of, end_state}
+use Rattle.qoi.specs.inner.BlockState.{State, lanes_of, is_rep, goes_on, next_by, next_state, more_of}
 use Rattle.qoi.specs.inner.BlockLanes.{Lane}
 use Rattle.qoi.specs.inner.Counts.{counts}
 use Rattle.qoi.proofs.encoding.BlockOut.{goes_is}
+
+-- the state after all pixels
+abbrev pub end_state : State → List RgbaPixel → State
+end_state s [] = s
+end_state s (p ∷ ps) = end_state (next_state s p (more_of p ps)) ps
 
 -- what the last of these counts, after c repeats
 abbrev last_of : ℕ → List Bool → ℕ

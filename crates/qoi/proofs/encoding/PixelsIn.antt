@@ -1,5 +1,5 @@
 -- The pixels of whole raw bytes: how many there are, and those at the front.
-use Rattle.std.proofs.Common.{◌≡◌, ◌≢◌, ◌⊎◌, inl, inr, ℕ, zero, suc, ◌*◌, ◌/◌, ◌%◌, ◌<◌, ◌≤◌, List, [], ◌∷◌, ◌++◌, length, take, drop, replicate, min, Some, refl, sym, ap, ◌∙◌, arith, take-append-drop}
+use Rattle.std.proofs.Common.{◌≡◌, ◌≢◌, ◌⊎◌, inl, inr, ℕ, zero, suc, ◌-◌, ◌*◌, ◌/◌, ◌%◌, ◌<◌, ◌≤◌, List, [], ◌∷◌, ◌++◌, length, take, drop, replicate, min, Some, refl, sym, ap, ◌∙◌, arith, take-append-drop, append-nil, length-drop}
 use Rattle.std.proofs.Math.Seq.{take-length}
 use Rattle.std.proofs.lemmas.Bool.{cases_lt}
 use Rattle.std.proofs.lemmas.List.{length-take-le, take-append-le}
@@ -8,6 +8,7 @@ use Rattle.qoi.specs.Qoi.{RgbaPixel}
 use Rattle.qoi.specs.Raw.{IsChannels, pixels_of}
 use Rattle.qoi.specs.Runs.{IsCount}
 use Rattle.qoi.proofs.format.RawPixels.{length-pixels_of, pixels_of-append}
+use Rattle.qoi.proofs.encoding.GroupRuns.{none_of_few}
 use Rattle.qoi.proofs.format.WholePixels.{by_channels, whole_pixels, take_whole}
 
 -- n bytes a pixel
@@ -28,6 +29,26 @@ pixels_within n k bytes is whole inside =
     let size = byte_count n bytes is whole in
     by_channels (λ c. length bytes ≡ c * length (pixels_of n bytes) → c * k ≤ length bytes → k ≤ length (pixels_of n bytes)) is
     (λ e l. omega arith) (λ e l. omega arith) size inside
+
+-- there are no more pixels than bytes
+pub pixels_few : (n : ℕ) (bytes : List ℕ) → IsChannels n → length bytes % n ≡ 0 → length (pixels_of n bytes) ≤ length bytes
+pixels_few n bytes is whole =
+    by_channels (λ c. length bytes ≡ c * length (pixels_of n bytes) → length (pixels_of n bytes) ≤ length bytes) is (λ e. omega arith) (λ e. omega arith) (byte_count n bytes is whole)
+
+-- bytes of less than a pixel at the end change no pixel
+pub whole_part : (n : ℕ) (bytes : List ℕ) → IsChannels n → pixels_of n (take (length bytes - length bytes % n) bytes) ≡ pixels_of n bytes
+whole_part n bytes is =
+    let len = length bytes in
+    let m = len - len % n in
+    let near = take m bytes in
+    let size : length near ≡ n * (len / n) = length-take-le m bytes (omega arith) ∙ by_channels (λ c. len - len % c ≡ c * (len / c)) is (omega arith) (omega arith) in
+    let few : len - m < n = by_channels (λ c. len - (len - len % c) < c) is (omega arith) (omega arith) in
+    sym (ap (pixels_of n) (sym (take-append-drop m bytes)) ∙ pixels_of-append n (len / n) near (drop m bytes) is size
+    ∙ ap (λ z. pixels_of n near ++ z) (none_of_few n (drop m bytes) is (omega (arith, length-drop m bytes, few))) ∙ append-nil (pixels_of n near))
+
+-- the bytes of so many pixels, or of all, are whole pixels
+pub near_whole : (n most len : ℕ) → IsChannels n → len % n ≡ 0 → min len (n * most) % n ≡ 0
+near_whole n most len is = by_channels (λ c. len % c ≡ 0 → min len (c * most) % c ≡ 0) is (λ e. omega arith) (λ e. omega arith)
 
 -- the bytes of the first pixels, or all if there are fewer
 pub pixels_near : (n most m : ℕ) (bytes : List ℕ) → IsChannels n → length bytes % n ≡ 0 → m ≡ min (length bytes) (n * most)

@@ -1,9 +1,7 @@
 -- Sixteen pixels, a block, in lanes: the bytes of the chunk that gives each after the one before it.
-use Rattle.std.specs.Prelude.{◌≡◌, ℕ, Bool, ◌+◌, ◌*◌, ◌%◌, ◌&&◌, ◌||◌, ◌==◌, nat_lt, List, [], ◌∷◌, take, if◌then◌else◌}
+use Rattle.std.specs.Prelude.{ℕ, Bool, ◌+◌, ◌*◌, ◌%◌, ◌&&◌, ◌||◌, ◌==◌, nat_lt, List, [], ◌∷◌, take, if◌then◌else◌}
 use Rattle.std.specs.List.{AllByRecursion}
-use Rattle.qoi.specs.declared.chunk.Chunk.{Chunk}
-use Rattle.qoi.specs.Qoi.{RgbaPixel, IsPixel, Past, previous, hash, IsChunk, bytes_of}
-use Rattle.qoi.specs.Written.{IsFirst}
+use Rattle.qoi.specs.Qoi.{RgbaPixel, IsPixel, hash}
 use Rattle.qoi.specs.inner.Steps.{steps, diff_steps, luma_steps}
 
 -- a lane: a pixel, the pixel before it, and whether the table holds the pixel at its position
@@ -24,10 +22,6 @@ AreLanes ls = AllByRecursion IsLane ls
 -- 255 or 0
 abbrev pub mask : Bool → ℕ
 mask b = if b then 255 else 0
-
--- 255 for 0, else 0
-abbrev pub zero_mask : ℕ → ℕ
-zero_mask x = mask (x == 0)
 
 -- what is added to the pixel before
 abbrev pub step_of : Lane → RgbaPixel
@@ -92,12 +86,6 @@ size_of l = size_by (l.stands || fits_diff l) (fits_luma l) (keeps l)
 -- the bytes of a lane's chunk
 abbrev pub lane_bytes : Lane → List ℕ
 lane_bytes l = take (size_of l) (first_of l ∷ second_of l ∷ l.px.g ∷ l.px.b ∷ l.px.a ∷ [])
-
--- a chunk of these bytes is the first that spells out the lane's pixel
-pub record SpelledLane (l : Lane) (c : Chunk) : Type 0 where
-  pub chunk : IsChunk c
-  pub bytes : lane_bytes l ≡ bytes_of c
-  pub first : (past : Past) → previous past ≡ l.before → IsFirst past l.px c
 
 -- whether alpha stays, as a byte
 abbrev pub keep_mask : Lane → ℕ

@@ -1,6 +1,6 @@
 -- What a block of pixels writes, and the state between two pixels with repeats that are still to
 -- be written.
-use Rattle.std.specs.Prelude.{◌≡◌, ◌≢◌, ℕ, suc, Bool, true, false, ◌<◌, ◌==◌, List, [], ◌∷◌, ◌++◌, if◌then◌else◌}
+use Rattle.std.specs.Prelude.{◌≢◌, ℕ, suc, Bool, true, false, ◌==◌, List, [], ◌∷◌, ◌++◌, if◌then◌else◌}
 use Rattle.qoi.specs.declared.chunk.Chunk.TheVariants.{Run}
 use Rattle.qoi.specs.declared.types.Style.{Style}
 use Rattle.qoi.specs.Qoi.{RgbaPixel, Past, pixel_eq, blank, seen, hash, bytes_of}
@@ -65,11 +65,6 @@ abbrev pub more_of : RgbaPixel → List RgbaPixel → Bool
 more_of p [] = true
 more_of p (q ∷ qs) = pixel_eq q p
 
--- the state after all of them
-abbrev pub end_state : State → List RgbaPixel → State
-end_state s [] = s
-end_state s (p ∷ ps) = end_state (next_state s p (more_of p ps)) ps
-
 -- what is written for all of them
 abbrev pub block_bytes : Style → State → List RgbaPixel → List ℕ
 block_bytes style s [] = []
@@ -79,12 +74,3 @@ block_bytes style s (p ∷ ps) = step_bytes style s p (more_of p ps) ++ block_by
 abbrev pub NoneBlank : State → List RgbaPixel → Type 0
 NoneBlank s [] = Unit {0}
 NoneBlank s (p ∷ ps) = (p ≢ s.last → seen s.held (hash p) ≢ p → p ≢ blank) × NoneBlank (next_state s p (more_of p ps)) ps
-
--- repeats are carried only if the next pixel is one
-abbrev pub CarryGoesOn : State → List RgbaPixel → Type 0
-CarryGoesOn s [] = Unit {0}
-CarryGoesOn s (p ∷ ps) = 0 < s.carry → p ≡ s.last
-
--- the state once the carried repeats are written, before a fresh pixel
-abbrev pub flushed_state : State → State
-flushed_state s = record { held = s.held; last = s.last; carry = 0; placed = false }

@@ -1,11 +1,11 @@
 //! Sixteen pixels, a block, and the chunks of a block, but for the repeats that it ends with.
-ghost use Rattle.std.specs.Prelude.{◌≡◌, ℕ, Bool, true, false, ◌+◌, ◌-◌, ◌≤◌, ◌<◌, List, [], ◌∷◌, ◌++◌, length, map, take, slice_index, slice_index_or, ◌/◌, ◌%◌, IsTrue, IsFalse};
+ghost use Rattle.std.specs.Prelude.{◌≡◌, ℕ, Bool, false, ◌+◌, ◌-◌, ◌<◌, List, ◌++◌, map, take, slice_index, slice_index_or, ◌/◌, ◌%◌, IsTrue, IsFalse};
 ghost use Rattle.qoi.specs.declared.encode.block.TheConstants.{BLOCK_ROOM};
-ghost use Rattle.qoi.specs.declared.types.Style.TheVariants.{Places};
-ghost use Rattle.qoi.specs.Qoi.{RgbaPixel, IsPixel, run_max, hash};
+ghost use Rattle.qoi.specs.declared.types.Style.TheVariants.{Places, Tight};
+ghost use Rattle.qoi.specs.Qoi.{RgbaPixel, IsPixel, hash};
 ghost use Rattle.qoi.specs.Raw.{IsChannels};
 ghost use Rattle.qoi.specs.inner.BlockLanes.{mask};
-ghost use Rattle.qoi.specs.inner.BlockState.{State, NoneBlank, group_bytes};
+ghost use Rattle.qoi.specs.inner.BlockState.{State, NoneBlank};
 ghost use Rattle.qoi.specs.inner.Blocks.{ChangesFrom, FitsBlock, MissesNoBlank, last_pixel, all_repeat};
 ghost use Rattle.qoi.specs.inner.CarryLoop.{InBlocks};
 ghost use Rattle.qoi.specs.inner.Piece.{kept_bytes};
@@ -17,11 +17,11 @@ ghost use Rattle.qoi.specs.inner.Table.{Holds};
 
 use crate::encode::carry::Carry;
 use crate::encode::changes::{Changes, all_set, find_changes};
-use crate::encode::lanes::{blanks, is_zero, places, store_lanes};
+use crate::encode::lanes::{blanks, places, store_lanes, where_is};
 use crate::encode::named::name_single;
 use crate::encode::packing::first_sixteen;
 use crate::encode::piece::{OpenPiece, Piece};
-use crate::encode::pixels::Pixels;
+use crate::encode::pixels::FrontBlock;
 use crate::encode::planes::{Planes, Words, make_planes};
 use crate::encode::spelling::{Spelled, spell_block};
 use crate::encode::stands::put_block;
@@ -46,31 +46,21 @@ pub(super) struct Block {
 }
 
 impl Block {
-    /// The block of sixteen packed pixels, which come after the block that is carried.
+    /// The block at the front, which comes after the block that is carried.
     #[inline(always)]
-    fn new<const N: usize>(words: Words, carry: Carry<N>) -> Block
-        requires { N ≡ 3 → AreOpaque (block_pixels words) }
-        ensures words { result.words ≡ words }
-        ensures changes { ChangesFrom carry.entry.before (block_pixels words) result.changes }
+    pub(super) fn first<const N: usize>(front: FrontBlock<N>, carry: Carry<N>) -> Block
+        ensures changes { ChangesFrom carry.entry.before (block_pixels result.words)
+            result.changes }
+        ensures pixels { block_pixels result.words ≡ take 16 (pixels_in front.entry.raw) }
+        ensures opaque { N ≡ 3 → AreOpaque (block_pixels result.words) }
     {
+        let words = first_sixteen::<N>(front.raw.bytes);
         let planes = make_planes::<N>(words);
         Block {
             words,
             planes,
             changes: find_changes::<N>(carry.before, planes),
         }
-    }
-
-    /// The block at the front, which comes after the block that is carried.
-    #[inline(always)]
-    pub(super) fn first<const N: usize>(raw: Pixels<N>, carry: Carry<N>) -> Block
-        requires { 16 ≤ length (pixels_in raw) }
-        ensures changes { ChangesFrom carry.entry.before (block_pixels result.words)
-            result.changes }
-        ensures pixels { block_pixels result.words ≡ take 16 (pixels_in raw.entry) }
-        ensures opaque { N ≡ 3 → AreOpaque (block_pixels result.words) }
-    {
-        Block::new::<N>(first_sixteen::<N>(raw.bytes), carry)
     }
 
     /// Whether all sixteen pixels repeat the last one of the block before.
@@ -82,14 +72,19 @@ impl Block {
         all_set(self.changes.rep)
     }
 
-    /// Whether a fresh pixel of the block may be transparent black that doesn't stand at its index
-    /// position.
+    /// Whether in style `Tight` a fresh pixel of the block may be given by another index position
+    /// than its own: if it may be transparent black that doesn't stand at its position.
     #[inline(always)]
-    pub(super) fn may_miss_blank(self, table: &PixelTable) -> bool
-        ensures { (before : Planes) → ChangesFrom before (block_pixels self.words) self.changes
-            → IsFalse result → MissesNoBlank table.now before (block_pixels self.words) }
+    pub(super) fn may_miss_blank(self, style: Style, table: &PixelTable) -> bool
+        ensures tight { IsTrue result → style ≡ Tight }
+        ensures none { (before : Planes) → ChangesFrom before (block_pixels self.words) self.changes
+            → IsFalse result → style ≡ Tight
+            → MissesNoBlank table.now before (block_pixels self.words) }
     {
-        !(self.has_no_fresh_blank() || self.keeps_blank(table))
+        match style {
+            Reference | Places => false,
+            Tight => !(self.has_no_fresh_blank() || self.keeps_blank(table)),
+        }
     }
 
     // Whether no fresh pixel of the block is transparent black.
@@ -109,7 +104,7 @@ impl Block {
         ensures { IsTrue result → (s : State) → Holds table.now s.held
             → NoneBlank s (block_pixels self.words) }
     {
-        let elsewhere = !is_zero(places(self.planes));
+        let elsewhere = !where_is(places(self.planes), 0);
         table.at(0).is_same(Packed::blank()) & all_set(blanks(self.planes) | elsewhere)
     }
 
@@ -162,8 +157,8 @@ impl Block {
 }
 
 /// Appends the chunks of a block that doesn't repeat whole, but for the repeats at its end. Returns
-/// what is carried then. `STYLE` and `ROOM` give each loop that calls it a function of its own, which
-/// the compiler inlines there.
+/// what is carried then. `STYLE` and `ROOM` give each loop that calls it a function of its own,
+/// which the compiler inlines there.
 #[inline]
 pub(super) fn write_block<'p, const N: usize, const STYLE: u8, const ROOM: usize>(
     style: Style,

@@ -1,16 +1,14 @@
 //! Writes what is at the front of an image's pixels into a piece: blocks of sixteen, and between
 //! two of them repeats are carried (QOI specification 1.0, "Data" and "Chunks").
-ghost use Rattle.std.specs.Prelude.{◌≡◌, ◌≢◌, ◌⊎◌, ℕ, ◌<◌, ◌≤◌, true, List, [], ◌++◌, Some, length, slice_get, take, IsTrue, IsFalse};
-ghost use Rattle.qoi.specs.declared.encode.blocks.TheConstants.{FEW_CARRIED};
+ghost use Rattle.std.specs.Prelude.{◌≡◌, ◌⊎◌, ℕ, ◌<◌, ◌≤◌, true, List, [], ◌++◌, Some, length, slice_get, IsTrue};
 ghost use Rattle.qoi.specs.declared.types.Style.{Style};
 ghost use Rattle.qoi.specs.declared.types.Style.TheVariants.{Tight};
 ghost use Rattle.qoi.specs.Qoi.{RgbaPixel};
-ghost use Rattle.qoi.specs.inner.Blocks.{ChangesFrom, MissesNoBlank, all_repeat, last_pixel};
+ghost use Rattle.qoi.specs.inner.Blocks.{last_pixel};
 ghost use Rattle.qoi.specs.inner.CarryLoop.{GoesByBlocks, InBlocks};
 ghost use Rattle.qoi.specs.inner.CoderLoop.{CoderBetween};
 ghost use Rattle.qoi.specs.inner.Piece.{kept_bytes};
 ghost use Rattle.qoi.specs.inner.Pixels.{pixels_in};
-ghost use Rattle.qoi.specs.inner.Planes.{block_pixels};
 
 use crate::consts::QOI_RUN_MAX;
 use crate::encode::block::{Block, write_block};
@@ -18,15 +16,11 @@ use crate::encode::carry::Carry;
 use crate::encode::coder::Coder;
 use crate::encode::last::LastPixel;
 use crate::encode::piece::{OpenPiece, Piece, REPEATS_AT_ONCE};
-use crate::encode::pixels::Pixels;
+use crate::encode::pixels::{FrontBlock, PixelOf, Pixels};
 use crate::encode::planes::Planes;
 use crate::encode::runs::repeats_of;
 use crate::encode::table::PixelTable;
 use crate::types::Style::{self, Places, Reference, Tight};
-
-// The most repeats that may be carried for a block of sixteen more to be carried, too: up to
-// fifteen more at the front of the next block still make a run of fewer than 62.
-const FEW_CARRIED: u8 = 29;
 
 // The most repeats that may be carried if the next pixel repeats, too, and the front goes by
 // blocks: a run of fewer than 62 ends in the next block.
@@ -58,7 +52,7 @@ fn carried<const N: usize>(coder: &Coder<N>) -> Carry<N>
         → InBlocks style ahead n rest more table result kept }
 {
     Carry {
-        before: Planes::splat(coder.last.px),
+        before: Planes::splat::<N>(PixelOf { px: coder.last.px }),
         count: coder.last.repeats as u8,
         placed: coder.last.placed,
     }
@@ -80,40 +74,6 @@ fn coder_after<const N: usize>(carry: Carry<N>) -> Coder<N>
         repeats: usize::from(carry.count),
     };
     Coder { last }
-}
-
-// Whether in style `Tight` a pixel of the block may be given by another index position than its
-// own.
-#[inline(always)]
-fn may_name_other(style: Style, table: &PixelTable, block: Block) -> bool
-    ensures tight { IsTrue result → style ≡ Tight }
-    ensures none { (before : Planes) → ChangesFrom before (block_pixels block.words) block.changes
-        → IsFalse result → style ≡ Tight
-        → MissesNoBlank table.now before (block_pixels block.words) }
-{
-    match style {
-        Reference | Places => false,
-        Tight => block.may_miss_blank(table),
-    }
-}
-
-// Carries the block of repeats at the front, too. Returns the rest, and what is carried.
-#[inline(always)]
-fn carry_block<const N: usize>(raw: Pixels<N>, carry: Carry<N>) -> (Pixels<N>, Carry<N>)
-    requires enough { 16 ≤ length (pixels_in raw) }
-    requires repeats { all_repeat (last_pixel carry.before) (take 16 (pixels_in raw)) ≡ true }
-    requires few { carry.count ≤ FEW_CARRIED }
-    ensures less { length (pixels_in result.0) < length (pixels_in raw.entry) }
-    ensures written { (style : Style) (ahead : List ℕ) (n : ℕ) (more table : List RgbaPixel)
-        (kept : List ℕ) → InBlocks style ahead n (pixels_in raw.entry) more table carry.entry kept
-        → InBlocks style ahead n (pixels_in result.0) more table result.1 kept }
-{
-    let after = Carry {
-        before: carry.before,
-        count: carry.count + 16,
-        placed: carry.placed,
-    };
-    (raw.skip(16), after)
 }
 
 // Writes the full runs of the repeats at the front, after those that are carried; the others are
@@ -150,20 +110,19 @@ fn write_long_group<'a, 'p, const N: usize, const ROOM: usize>(
 fn write_group<'a, 'p, const N: usize, const ROOM: usize>(
     table: &mut PixelTable,
     piece: OpenPiece<'p, ROOM>,
-    raw: Pixels<'a, N>,
+    front: FrontBlock<'a, N>,
     carry: Carry<N>,
 ) -> (Pixels<'a, N>, Carry<N>, Piece<'p, ROOM>)
-    requires { pixels_in raw ≢ [] }
-    ensures less { length (pixels_in result.0) < length (pixels_in raw.entry) }
+    ensures less { length (pixels_in result.0) < length (pixels_in front.entry.raw) }
     ensures written { (ahead : List ℕ) (n : ℕ) (more : List RgbaPixel)
-        → InBlocks Tight ahead n (pixels_in raw.entry) more table.old carry.entry
+        → InBlocks Tight ahead n (pixels_in front.entry.raw) more table.old carry.entry
         (kept_bytes piece.entry.piece)
         → InBlocks Tight ahead n (pixels_in result.0) more table.new result.1
         (kept_bytes result.2) }
 {
     let mut piece = piece.piece;
     let mut coder = coder_after(carry);
-    let rest = coder.write_next(Tight, table, &mut piece, raw);
+    let rest = coder.write_next(Tight, table, &mut piece, front.raw);
     (rest, carried(&coder), piece)
 }
 
@@ -176,31 +135,25 @@ fn write_front<'a, 'p, const N: usize, const STYLE: u8, const ROOM: usize>(
     style: Style,
     table: &mut PixelTable,
     piece: OpenPiece<'p, ROOM>,
-    raw: Pixels<'a, N>,
+    front: FrontBlock<'a, N>,
     carry: Carry<N>,
 ) -> (Pixels<'a, N>, Carry<N>, Piece<'p, ROOM>)
-    requires { 16 ≤ length (pixels_in raw) }
-    ensures less { length (pixels_in result.0) < length (pixels_in raw.entry) }
+    ensures less { length (pixels_in result.0) < length (pixels_in front.entry.raw) }
     ensures written { (ahead : List ℕ) (n : ℕ) (more : List RgbaPixel)
-        → InBlocks style ahead n (pixels_in raw.entry) more table.old carry.entry
+        → InBlocks style ahead n (pixels_in front.entry.raw) more table.old carry.entry
         (kept_bytes piece.entry.piece)
         → InBlocks style ahead n (pixels_in result.0) more table.new result.1
         (kept_bytes result.2) }
 {
-    let block = Block::first::<N>(raw, carry);
+    let block = Block::first::<N>(front, carry);
     if block.repeats() {
-        // In three channels most groups are short.
-        if N == 3 && carry.count <= FEW_CARRIED {
-            let (rest, after) = carry_block(raw, carry);
-            return (rest, after, piece.piece);
-        }
-        return write_long_group(piece, raw, carry);
+        return write_long_group(piece, front.raw, carry);
     }
-    if may_name_other(style, table, block) {
-        return write_group(table, piece, raw, carry);
+    if block.may_miss_blank(style, table) {
+        return write_group(table, piece, front, carry);
     }
     let (after, piece) = write_block::<N, STYLE, ROOM>(style, table, piece, block, carry);
-    (raw.skip(16), after, piece)
+    (front.raw.skip(16), after, piece)
 }
 
 // Writes by blocks until the piece is full or fewer pixels than a block has are left. Returns the
@@ -226,9 +179,15 @@ fn fill<'a, 'p, const N: usize, const STYLE: u8, const ROOM: usize>(
 {
     let mut piece = piece.piece;
     let mut rest = raw;
-    let mut now = carry.with_known_alpha();
+    let mut now = carry;
     while !piece.is_full() && rest.has_block() {
-        (rest, now, piece) = write_front::<N, STYLE, ROOM>(style, table, piece.open(), rest, now);
+        (rest, now, piece) = write_front::<N, STYLE, ROOM>(
+            style,
+            table,
+            piece.open(),
+            rest.front(),
+            now,
+        );
     }
     (rest, now, piece)
 }
@@ -251,7 +210,9 @@ pub(super) fn write_some<'a, 'p, const N: usize, const STYLE: u8, const ROOM: us
         (kept_bytes result.1) }
 {
     if !goes_by_blocks(style, coder.last, raw) {
-        return coder.write_open(style, table, piece, raw);
+        let mut piece = piece.piece;
+        let rest = coder.write_open(style, table, &mut piece, raw);
+        return (rest, piece);
     }
     let carry = carried(coder);
     let (rest, after, piece) = fill::<N, STYLE, ROOM>(style, table, piece, raw, carry);

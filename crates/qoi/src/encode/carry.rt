@@ -1,13 +1,12 @@
 //! What is carried from one block of sixteen pixels to the next.
-ghost use Rattle.std.specs.Prelude.{◌≡◌, ◌+◌, ◌*◌, ◌≤◌, ◌<◌, [], ◌∷◌, slice_index};
-ghost use Rattle.qoi.specs.Qoi.{RgbaPixel, run_max};
+ghost use Rattle.std.specs.Prelude.{◌≡◌, ◌+◌, ◌≤◌, ◌<◌, [], ◌∷◌, slice_index};
+ghost use Rattle.qoi.specs.Qoi.{run_max};
 ghost use Rattle.qoi.specs.Raw.{IsChannels, IsChannels-prop};
 ghost use Rattle.qoi.specs.inner.BlockState.{group_bytes};
 ghost use Rattle.qoi.specs.inner.Blocks.{last_pixel};
-ghost use Rattle.qoi.specs.inner.Spelling.{IsLastOf};
 
 use crate::consts::QOI_OP_RUN;
-use crate::encode::planes::{Planes, known_alpha};
+use crate::encode::planes::Planes;
 use crate::types::Style::{self, Places, Reference, Tight};
 use crate::utils::pick;
 
@@ -25,22 +24,6 @@ pub(super) struct Carry<const N: usize> {
 }
 
 impl<const N: usize> Carry<N> {
-    /// The same, in three channels with alpha as a constant.
-    #[inline(always)]
-    pub(super) fn with_known_alpha(self) -> Carry<N>
-        ensures last { (q : RgbaPixel) → IsLastOf q self.entry.before → IsLastOf q result.before }
-        ensures same { (result.count ≡ self.entry.count) × (result.placed ≡ self.entry.placed) }
-    {
-        Carry {
-            before: Planes {
-                a: known_alpha::<N>(self.before.a),
-                ..self.before
-            },
-            count: self.count,
-            placed: self.placed,
-        }
-    }
-
     /// The byte of the repeats before a fresh pixel: that of a run; in style `Places`, of a single
     /// repeat, the index position, if the chunk before isn't that position. If there are none, it
     /// isn't used.

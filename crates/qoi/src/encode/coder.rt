@@ -1,6 +1,6 @@
 //! Writes pixels one by one, and groups of repeats, as chunks into a piece (QOI specification 1.0,
 //! "Data" and "Chunks").
-ghost use Rattle.std.specs.Prelude.{◌≡◌, ◌≢◌, ◌⊎◌, ℕ, ◌+◌, ◌*◌, ◌<◌, ◌≤◌, true, List, [], ◌∷◌, ◌++◌, Option, Some, length, drop, replicate, slice_get, IsTrue};
+ghost use Rattle.std.specs.Prelude.{◌≡◌, ◌≢◌, ℕ, ◌+◌, ◌*◌, ◌<◌, ◌≤◌, true, List, [], ◌∷◌, ◌++◌, Option, Some, length, drop, replicate, slice_get};
 ghost use Rattle.qoi.specs.declared.chunk.Chunk.{Chunk};
 ghost use Rattle.qoi.specs.declared.encode.piece.TheConstants.{RUNS_AT_ONCE};
 ghost use Rattle.qoi.specs.declared.types.Style.{Style};
@@ -20,8 +20,8 @@ use crate::consts::{QOI_OP_RUN, QOI_RUN_MAX};
 use crate::encode::fresh::spell_pixel;
 use crate::encode::last::LastPixel;
 use crate::encode::piece::{OpenPiece, Piece, REPEATS_AT_ONCE};
-use crate::encode::pixels::Pixels;
-use crate::encode::runs::repeats_by_call;
+use crate::encode::pixels::{PixelOf, Pixels};
+use crate::encode::runs::repeats_of;
 use crate::encode::table::PixelTable;
 use crate::packed::Packed;
 use crate::types::Style::{self, Places, Reference, Tight};
@@ -128,7 +128,7 @@ impl<const N: usize> Coder<N> {
         }
     }
 
-    // Writes the fresh pixel `px`: by its index position if it stands there, else as
+    // Writes the fresh pixel `next`: by its index position if it stands there, else as
     // `chunk_if_absent` has it. Then puts it at its position, and it is the last pixel.
     #[inline(always)]
     fn write_pixel<const ROOM: usize>(
@@ -136,17 +136,18 @@ impl<const N: usize> Coder<N> {
         style: Style,
         table: &mut PixelTable,
         piece: &mut Piece<ROOM>,
-        px: Packed,
+        next: PixelOf<N>,
     )
-        requires room { piece.old.end + (chunk_max + marker_size) ≤ ROOM }
-        requires opaque { N ≡ 3 → px.a ≡ 255 }
+        requires { piece.old.end + (chunk_max + marker_size) ≤ ROOM }
         ensures end { piece.new.end ≤ piece.old.end + chunk_max }
         ensures begun { (self.new.last.begun ≡ true) × (self.new.last.repeats ≡ 0) }
-        ensures written { (ahead : List ℕ) (rest : List RgbaPixel) → px ≢ self.old.last.px
-            → self.old.last.repeats ≡ 0
-            → CoderBetween style ahead (px ∷ rest) table.old self.old.last (kept_bytes piece.old)
+        ensures written { (ahead : List ℕ) (rest : List RgbaPixel)
+            → next.entry.px ≢ self.old.last.px → self.old.last.repeats ≡ 0
+            → CoderBetween style ahead (next.entry.px ∷ rest) table.old self.old.last
+            (kept_bytes piece.old)
             → CoderBetween style ahead rest table.new self.new.last (kept_bytes piece.new) }
     {
+        let px = next.px;
         let place = px.hash_index();
         let stands = table.at(place).is_same(px);
         let (number, size) = spell_pixel::<N>(self.last.px, px);
@@ -192,17 +193,20 @@ impl<const N: usize> Coder<N> {
         if carried == 0 && !raw.begin_with(self.last.px) {
             return 0;
         }
-        let ahead = repeats_by_call::<N>(raw.near(REPEATS_AT_ONCE - carried), self.last.px);
+        let ahead = repeats_of::<N>(
+            raw.near(REPEATS_AT_ONCE - carried),
+            PixelOf { px: self.last.px },
+        );
         let count = carried + ahead;
+        let (runs, left) = (count / QOI_RUN_MAX, count % QOI_RUN_MAX);
+        piece.keep_full_runs(runs);
         if raw.ends_after(ahead) {
             // Others may follow.
-            let runs = count / QOI_RUN_MAX;
-            piece.keep_full_runs(runs);
-            self.update_after_repeats(style, table, QOI_RUN_MAX * runs, count % QOI_RUN_MAX);
+            self.update_after_repeats(style, table, QOI_RUN_MAX * runs, left);
             return ahead;
         }
         // If more than 992 repeat, 992 are counted: sixteen runs of 62, and no single one.
-        piece.keep_runs(count, self.single_repeat_byte(style, count));
+        piece.keep_run(left, self.single_repeat_byte(style, count));
         self.update_after_repeats(style, table, count, 0);
         ahead
     }
@@ -279,26 +283,24 @@ impl<const N: usize> Coder<N> {
         piece.keep_run(self.last.repeats, QOI_OP_RUN);
         piece
     }
-
-    /// `write_next`, into a piece that isn't full.
+    /// `write_next` as a function of its own: a loop that has it inlined is slower.
     #[inline(never)]
-    pub(super) fn write_open<'a, 'p, const ROOM: usize>(
+    pub(super) fn write_open<'a, const ROOM: usize>(
         &mut self,
         style: Style,
         table: &mut PixelTable,
-        piece: OpenPiece<'p, ROOM>,
+        piece: &mut Piece<ROOM>,
         raw: Pixels<'a, N>,
-    ) -> (Pixels<'a, N>, Piece<'p, ROOM>)
-        requires { pixels_in raw ≢ [] }
-        ensures less { length (pixels_in result.0) < length (pixels_in raw.entry) }
+    ) -> Pixels<'a, N>
+        requires some { pixels_in raw ≢ [] }
+        requires room { piece.old.end + (RUNS_AT_ONCE + 1 + chunk_max + marker_size) ≤ ROOM }
+        ensures less { length (pixels_in result) < length (pixels_in raw.entry) }
         ensures written { (ahead : List ℕ) (more : List RgbaPixel)
             → CoderBetween style ahead (pixels_in raw.entry ++ more) table.old self.old.last
-            (kept_bytes piece.entry.piece)
-            → CoderBetween style ahead (pixels_in result.0 ++ more) table.new self.new.last
-            (kept_bytes result.1) }
+            (kept_bytes piece.old)
+            → CoderBetween style ahead (pixels_in result ++ more) table.new self.new.last
+            (kept_bytes piece.new) }
     {
-        let mut piece = piece.piece;
-        let rest = self.write_next(style, table, &mut piece, raw);
-        (rest, piece)
+        self.write_next(style, table, piece, raw)
     }
 }

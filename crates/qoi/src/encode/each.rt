@@ -1,45 +1,12 @@
 //! Chunks of at most five bytes, each stored on its own: where the sizes of those before it say.
 ghost use lib.Lanes.{digits_l};
-ghost use Rattle.std.specs.Prelude.{◌≡◌, ◌+◌, ◌*◌, ◌/◌, ◌%◌, ◌^◌, ◌≤◌, ◌<◌, ℕ, List, ◌++◌, length, take, drop, slice_index};
+ghost use Rattle.std.specs.Prelude.{◌≡◌, ◌+◌, ◌*◌, ◌/◌, ◌%◌, ◌^◌, ◌≤◌, ◌<◌, ℕ, List, ◌++◌, length, take, slice_index};
 ghost use Rattle.qoi.specs.inner.Each.{AreStarts, HoldChunks, four_parts, eight_parts};
 ghost use Rattle.qoi.specs.inner.Stores.{AreSizes, AreChunkSizes, first_sum, sixteen_chunks};
 
 use crate::encode::lanes::{halves, lesser};
-use crate::encode::planes::Words;
+use crate::encode::planes::{Planes, Words, make_words};
 use std::simd::prelude::*;
-
-// Sixteen bytes as numbers.
-#[inline(always)]
-fn widened(bytes: u8x16) -> Words
-    ensures { (result.one ≡ take 4 bytes) × (result.two ≡ take 4 (drop 4 bytes))
-        × (result.three ≡ take 4 (drop 8 bytes)) × (result.four ≡ take 4 (drop 12 bytes)) }
-{
-    let zero = u8x16::splat(0);
-    let n0: u8x16 = bytes.shuffle(
-        zero,
-        [0, 16, 16, 16, 1, 16, 16, 16, 2, 16, 16, 16, 3, 16, 16, 16],
-    );
-    let n1: u8x16 = bytes.shuffle(
-        zero,
-        [4, 16, 16, 16, 5, 16, 16, 16, 6, 16, 16, 16, 7, 16, 16, 16],
-    );
-    let n2: u8x16 = bytes.shuffle(
-        zero,
-        [8, 16, 16, 16, 9, 16, 16, 16, 10, 16, 16, 16, 11, 16, 16, 16],
-    );
-    let n3: u8x16 = bytes.shuffle(
-        zero,
-        [
-            12, 16, 16, 16, 13, 16, 16, 16, 14, 16, 16, 16, 15, 16, 16, 16,
-        ],
-    );
-    Words {
-        one: u32x4::from_le_bytes(n0),
-        two: u32x4::from_le_bytes(n1),
-        three: u32x4::from_le_bytes(n2),
-        four: u32x4::from_le_bytes(n3),
-    }
-}
 
 // Four numbers, each with an alpha above it.
 #[inline(always)]
@@ -130,7 +97,13 @@ pub(super) fn put_each(out: &mut [u8], at: usize, size: u8x16, words: Words, alp
     ensures written { ((k : ℕ) → slice_index size k ≤ 5)
         → take result out.new ≡ take at out.old ++ sixteen_chunks size words alpha }
 {
-    let a = widened(alpha);
+    let none = u8x16::splat(0);
+    let a = make_words(Planes {
+        r: alpha,
+        g: none,
+        b: none,
+        a: none,
+    });
     let one = with_alphas(words.one, a.one);
     let two = with_alphas(words.two, a.two);
     let three = with_alphas(words.three, a.three);

@@ -1,6 +1,6 @@
 //! Chunks of at most four bytes, stored four at a time: one shuffle moves their bytes together.
 ghost use lib.Lanes.{all_below, digits_l};
-ghost use Rattle.std.specs.Prelude.{◌≡◌, ◌+◌, ◌≤◌, ◌<◌, ℕ, List, [], ◌∷◌, ◌++◌, length, take, slice_index, IsTrue};
+ghost use Rattle.std.specs.Prelude.{◌≡◌, ◌+◌, ◌≤◌, ◌<◌, ℕ, List, [], ◌∷◌, ◌++◌, length, take, IsTrue};
 ghost use Rattle.qoi.specs.inner.Fours.{HaveCodes, AreCodes, joined, total, order_of, close_bytes};
 ghost use Rattle.qoi.specs.inner.Stores.{sixteen_chunks};
 
@@ -176,28 +176,17 @@ fn bytes_of(number: u128) -> u8x16
 
 // The order for four codes.
 #[inline(always)]
-fn order(codes: usize) -> u8x16
-    requires { codes < 256 }
+fn order(codes: u8) -> u8x16
     ensures order { take (total codes) result ≡ order_of codes }
     ensures long { length result ≡ 16 }
     ensures below { IsTrue (all_below 16 result) }
 {
-    bytes_of(ORDERS[codes])
-}
-
-// How many bytes they mean.
-#[inline(always)]
-fn total_of(codes: usize) -> usize
-    requires { codes < 256 }
-    ensures { result ≡ total codes }
-{
-    usize::from(TOTALS[codes])
+    bytes_of(ORDERS[codes as usize])
 }
 
 // The bytes of four numbers, moved together.
 #[inline(always)]
-fn together(numbers: u32x4, codes: usize) -> u8x16
-    requires { codes < 256 }
+fn together(numbers: u32x4, codes: u8) -> u8x16
     ensures long { length result ≡ 16 }
     ensures close { take (total codes) result ≡ close_bytes codes numbers }
 {
@@ -206,26 +195,23 @@ fn together(numbers: u32x4, codes: usize) -> u8x16
 
 // Stores them, and returns where they end.
 #[inline(always)]
-fn put_four(out: &mut [u8], at: usize, codes: usize, numbers: u32x4) -> usize
-    requires codes { codes < 256 }
-    requires room { at + 16 ≤ length out.old }
+fn put_four(out: &mut [u8], at: usize, codes: u8, numbers: u32x4) -> usize
+    requires { at + 16 ≤ length out.old }
     ensures same { length out.new ≡ length out.old }
     ensures near { (at ≤ result) × (result ≤ at + 16) }
     ensures written { take result out.new ≡ take at out.old ++ close_bytes codes numbers }
 {
     together(numbers, codes).copy_to_slice(&mut out[at..at + 16]);
-    at + total_of(codes)
+    at + usize::from(TOTALS[codes as usize])
 }
 
 // Eight codes, each the low bits of a byte, as two numbers of four.
 #[inline(always)]
-fn join(codes: u64) -> [usize; 2]
-    ensures below { (slice_index result 0 < 256) × (slice_index result 1 < 256) }
-    ensures joined { (cs : List ℕ) → AreCodes cs codes
-        → result ≡ joined cs 0 ∷ joined cs 4 ∷ [] }
+fn join(codes: u64) -> [u8; 2]
+    ensures { (cs : List ℕ) → AreCodes cs codes → result ≡ joined cs 0 ∷ joined cs 4 ∷ [] }
 {
     let sums = codes.wrapping_mul(0x0104_1040);
-    [((sums >> 24) % 256) as usize, (sums >> 56) as usize]
+    [((sums >> 24) % 256) as u8, (sums >> 56) as u8]
 }
 
 /// Stores the chunks of sixteen pixels from `at` on, and returns where they end, if each has at

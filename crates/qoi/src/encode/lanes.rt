@@ -1,9 +1,9 @@
 //! Sixteen pixels, a byte of each in the lanes of a vector: the steps from the pixels before them,
 //! which of them repeat, and their index positions (QOI specification 1.0, "Chunks").
 ghost use lib.Lanes.{number_l, zip2};
-ghost use Rattle.std.specs.Prelude.{◌≡◌, ◌<◌, ◌+◌, ◌-◌, ◌%◌, ℕ, List, [], ◌∷◌, ◌++◌, min, max, map, length, take, drop, slice_index};
+ghost use Rattle.std.specs.Prelude.{◌≡◌, ◌<◌, ◌+◌, ◌-◌, ◌%◌, ◌==◌, ℕ, List, [], ◌∷◌, ◌++◌, min, max, map, length, take, drop, slice_index};
 ghost use Rattle.qoi.specs.Qoi.{RgbaPixel, blank, hash, pixel_eq};
-ghost use Rattle.qoi.specs.inner.BlockLanes.{Lane, mask, zero_mask, step_of};
+ghost use Rattle.qoi.specs.inner.BlockLanes.{Lane, mask, step_of};
 ghost use Rattle.qoi.specs.inner.Planes.{AreSixteen, ArePlanes};
 ghost use Rattle.qoi.specs.inner.LaneVectors.{AreBy, AreSteps};
 ghost use Rattle.qoi.specs.inner.BlockState.{is_rep};
@@ -20,12 +20,12 @@ pub(super) struct Steps {
     pub(super) b: u8x16,
 }
 
-/// 255 in each lane that is 0, else 0.
+/// 255 in each lane that is `n`, else 0.
 #[inline(always)]
-pub(super) fn is_zero(v: u8x16) -> u8x16
-    ensures { result ≡ map zero_mask v }
+pub(super) fn where_is(v: u8x16, n: u8) -> u8x16
+    ensures { result ≡ map (λ x. mask (x == n)) v }
 {
-    v.simd_eq(u8x16::splat(0))
+    v.simd_eq(u8x16::splat(n))
         .select(u8x16::splat(255), u8x16::splat(0))
 }
 
@@ -83,7 +83,7 @@ pub(super) fn repeating(d: Steps, alpha: u8x16) -> u8x16
     ensures { (ls : List Lane) → AreSteps ls d → AreBy ls (λ l. (step_of l).a) alpha
         → AreBy ls (λ l. mask (is_rep l)) result }
 {
-    is_zero(d.r | d.g | d.b | alpha)
+    where_is(d.r | d.g | d.b | alpha, 0)
 }
 
 /// The index positions, from 3, 5, 7 and 11 times red, green, blue and alpha.
@@ -119,5 +119,5 @@ pub(super) fn blanks(p: Planes) -> u8x16
     ensures { (ps : List RgbaPixel) → AreSixteen ps → ArePlanes ps p
         → result ≡ map (λ p. mask (pixel_eq p blank)) ps }
 {
-    is_zero(p.r | p.g | p.b | p.a)
+    where_is(p.r | p.g | p.b | p.a, 0)
 }

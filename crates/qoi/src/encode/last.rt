@@ -4,15 +4,16 @@ ghost use Rattle.qoi.specs.Qoi.{run_max, start};
 
 use crate::packed::Packed;
 
-/// The last pixel that came, `px`; `begun`, whether a fresh pixel came, one that differs from the
-/// pixel before it; `placed`, whether `px` was written as its index position, with no repeat since;
-/// and `repeats`, how many repeats of it came that aren't written yet: fewer than a full run has.
+/// The last pixel that came, `px`; `repeats`, how many repeats of it came that aren't written yet:
+/// fewer than a full run has; `begun`, whether a fresh pixel came, one that differs from the pixel
+/// before it; and `placed`, whether `px` was written as its index position, with no repeat since.
+/// The count stands first: so the zeros of the start are stored as they are read.
 #[derive(Clone, Copy)]
 pub(super) struct LastPixel {
+    pub(super) repeats: usize,
     pub(super) px: Packed,
     pub(super) begun: bool,
     pub(super) placed: bool,
-    pub(super) repeats: usize,
     ghost few: { repeats < run_max },
 }
 

@@ -1,5 +1,5 @@
 //! Single repeats among sixteen pixels that are given by their index position, in style `Places`.
-ghost use Rattle.std.specs.Prelude.{◌≡◌, List, ◌∷◌, ◌==◌, take, map};
+ghost use Rattle.std.specs.Prelude.{◌≡◌, List, ◌∷◌, take, map};
 ghost use Rattle.qoi.specs.declared.types.Style.TheVariants.{Reference, Places};
 ghost use Rattle.qoi.specs.Qoi.{RgbaPixel, hash};
 ghost use Rattle.qoi.specs.inner.BlockLanes.{mask};
@@ -8,19 +8,10 @@ ghost use Rattle.qoi.specs.inner.Planes.{AreSixteen};
 ghost use Rattle.qoi.specs.inner.Spelling.{HasSpelled};
 ghost use Rattle.qoi.specs.inner.Stands.{stand_tests};
 
-use crate::encode::lanes::{later, lesser};
+use crate::encode::lanes::{later, lesser, where_is};
 use crate::encode::spelling::Spelled;
 use crate::utils::pick;
 use std::simd::prelude::*;
-
-// 255 in each lane that is 1, else 0.
-#[inline(always)]
-fn is_one(v: u8x16) -> u8x16
-    ensures { result ≡ map (λ n. mask (n == 1)) v }
-{
-    v.simd_eq(u8x16::splat(1))
-        .select(u8x16::splat(255), u8x16::splat(0))
-}
 
 // Whether the pixel before each lane stood at its index position; before the first lane, whether
 // the chunk there names that position.
@@ -40,7 +31,7 @@ pub(super) fn name_single(x: Spelled, stands: u8x16, places: u8x16, placed: bool
         → stands ≡ map mask (stand_tests s.held ps) → places ≡ map hash ps
         → HasSpelled Reference s ps x → HasSpelled Places s ps result }
 {
-    let singles = x.rep & is_one(x.count) & !stood(placed, stands);
+    let singles = x.rep & where_is(x.count, 1) & !stood(placed, stands);
     Spelled {
         first: lesser(x.first, places | !singles),
         ..x

@@ -1,11 +1,11 @@
 //! The bytes of a file that are kept before they go to a writer.
 ghost use lib.Lanes.{digits_l};
-ghost use Rattle.std.specs.Prelude.{◌≡◌, ℕ, ◌+◌, ◌-◌, ◌*◌, ◌/◌, ◌^◌, ◌<◌, ◌≤◌, List, [], ◌∷◌, ◌++◌, length, take, drop, replicate, slice_index, IsTrue, IsFalse, OnOk, IfErr};
+ghost use Rattle.std.specs.Prelude.{◌≡◌, ◌+◌, ◌-◌, ◌*◌, ◌/◌, ◌^◌, ◌<◌, ◌≤◌, [], ◌∷◌, ◌++◌, length, take, drop, replicate, IsTrue, IsFalse, OnOk, IfErr};
 ghost use Rattle.std.specs.List.{copy_within};
 ghost use Rattle.qoi.specs.declared.chunk.Chunk.{Chunk};
 ghost use Rattle.qoi.specs.declared.chunk.Chunk.TheVariants.{Run};
 ghost use Rattle.qoi.specs.declared.encode.piece.TheConstants.{PAST, RUNS_AT_ONCE, REPEATS_AT_ONCE};
-ghost use Rattle.qoi.specs.Qoi.{RgbaPixel, run_max, chunk_max, marker_size, end_marker, bytes_of, chunk_bytes};
+ghost use Rattle.qoi.specs.Qoi.{run_max, chunk_max, marker_size, end_marker, bytes_of, chunk_bytes};
 ghost use Rattle.qoi.specs.Raw.{IsChannels};
 ghost use Rattle.qoi.specs.Runs.{runs_by};
 ghost use Rattle.qoi.specs.writers.Writes.{WroteBeginning};
@@ -139,20 +139,6 @@ impl<'a, const ROOM: usize> Piece<'a, ROOM> {
             &mut self.bytes[self.end..self.end + RUNS_AT_ONCE],
         );
         self.end += runs;
-    }
-
-    /// Appends the runs of at most 992 repeats; a single one that is left after runs of 62 is the
-    /// byte `one`.
-    #[inline(always)]
-    pub(super) fn keep_runs(&mut self, count: usize, one: u8)
-        requires room { self.old.end + (RUNS_AT_ONCE + marker_size) < ROOM }
-        requires few { count ≤ REPEATS_AT_ONCE }
-        ensures kept { (c : Chunk) → bytes_of c ≡ one ∷ []
-            → kept_bytes self.new ≡ kept_bytes self.old ++ chunk_bytes (runs_by c count) }
-        ensures end { self.new.end ≤ self.old.end + count / run_max + 1 }
-    {
-        self.keep_full_runs(count / QOI_RUN_MAX);
-        self.keep_run(count % QOI_RUN_MAX, one);
     }
 
     /// Sends a full piece to a writer; the bytes after it are kept.

@@ -4,7 +4,6 @@ ghost use Rattle.qoi.specs.declared.encode.piece.TheConstants.{REPEATS_AT_ONCE};
 ghost use Rattle.qoi.specs.Raw.{IsChannels, IsChannels-prop, pixels_of};
 
 use crate::encode::piece::REPEATS_AT_ONCE;
-use crate::encode::runs::begins_with;
 use crate::packed::Packed;
 use crate::utils::skip;
 
@@ -14,6 +13,21 @@ pub(super) struct Pixels<'a, const N: usize> {
     pub(super) bytes: &'a [u8],
     ghost channels: { IsChannels N } by { IsChannels-prop N },
     ghost whole: { length bytes.now % N ≡ 0 },
+}
+
+/// A pixel of `N` channels: in three it is opaque.
+#[derive(Clone, Copy)]
+pub(super) struct PixelOf<const N: usize> {
+    pub(super) px: Packed,
+    ghost opaque: { N ≡ 3 → px.a ≡ 255 },
+}
+
+/// Pixels that begin with a block: sixteen or more.
+#[derive(Clone, Copy)]
+pub(super) struct FrontBlock<'a, const N: usize> {
+    pub(super) raw: Pixels<'a, N>,
+    ghost enough: { 16 ≤ length (pixels_of N raw.bytes.now) },
+    ghost long: { N * 16 ≤ length raw.bytes.now },
 }
 
 impl<'a, const N: usize> Pixels<'a, N> {
@@ -45,6 +59,15 @@ impl<'a, const N: usize> Pixels<'a, N> {
         self.bytes.len() >= 16 * N
     }
 
+    /// These, of which there are so many.
+    #[inline(always)]
+    pub(super) fn front(self) -> FrontBlock<'a, N>
+        requires { 16 ≤ length (pixels_in self) }
+        ensures { result.raw ≡ self.entry }
+    {
+        FrontBlock { raw: self }
+    }
+
     /// Whether there are `count`, and no more.
     #[inline(always)]
     pub(super) fn ends_after(self, count: usize) -> bool
@@ -56,12 +79,13 @@ impl<'a, const N: usize> Pixels<'a, N> {
 
     /// The first one.
     #[inline(always)]
-    pub(super) fn first(self) -> Packed
+    pub(super) fn first(self) -> PixelOf<N>
         requires { pixels_in self ≢ [] }
-        ensures first { pixels_in self.entry ≡ result ∷ drop 1 (pixels_in self.entry) }
-        ensures opaque { N ≡ 3 → result.a ≡ 255 }
+        ensures { pixels_in self.entry ≡ result.px ∷ drop 1 (pixels_in self.entry) }
     {
-        Packed::read::<N>(self.bytes)
+        PixelOf {
+            px: Packed::read::<N>(self.bytes),
+        }
     }
 
     /// Whether this one stands at the front.
@@ -69,17 +93,17 @@ impl<'a, const N: usize> Pixels<'a, N> {
     pub(super) fn begin_with(self, px: Packed) -> bool
         ensures { IsTrue result ↔ (slice_get (pixels_in self.entry) 0 ≡ Some px) }
     {
-        begins_with::<N>(self.bytes, px)
+        self.bytes.len() >= N && Packed::read::<N>(self.bytes).is_same(px)
     }
 
-    /// The bytes of the first `most` pixels, or all if there are fewer.
+    /// The first `most` pixels, or all if there are fewer.
     #[inline(always)]
-    pub(super) fn near(self, most: usize) -> &'a [u8]
+    pub(super) fn near(self, most: usize) -> Pixels<'a, N>
         requires { most ≤ REPEATS_AT_ONCE }
-        ensures { pixels_of N result.now ≡ take most (pixels_in self.entry) }
+        ensures { pixels_in result ≡ take most (pixels_in self.entry) }
     {
         let (near, _) = self.bytes.split_at(self.bytes.len().min(N * most));
-        near
+        Pixels { bytes: near }
     }
 
     /// Those after the first `count`.

@@ -6,6 +6,7 @@ ghost use Rattle.qoi.specs.inner.Blocks.{last_pixel};
 ghost use Rattle.qoi.specs.inner.Planes.{AreFour, ArePacked, AreSixteen, AreFourWords, AreBlockWords, channel_words, ArePlanes, AreOpaque};
 ghost use Rattle.qoi.specs.inner.Spelling.{IsLastOf};
 
+use crate::encode::pixels::PixelOf;
 use crate::packed::Packed;
 use std::simd::prelude::*;
 
@@ -30,14 +31,15 @@ pub(super) struct Planes {
 impl Planes {
     /// The planes of sixteen times this pixel.
     #[inline(always)]
-    pub(super) fn splat(px: Packed) -> Planes
-        ensures { IsLastOf px result }
+    pub(super) fn splat<const N: usize>(pixel: PixelOf<N>) -> Planes
+        ensures { IsLastOf pixel.entry.px result }
     {
+        let px = pixel.px;
         Planes {
             r: u8x16::splat(px.r()),
             g: u8x16::splat(px.g()),
             b: u8x16::splat(px.b()),
-            a: u8x16::splat(px.a()),
+            a: known_alpha::<N>(u8x16::splat(px.a())),
         }
     }
 

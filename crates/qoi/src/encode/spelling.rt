@@ -1,6 +1,6 @@
 //! The chunks of sixteen pixels, a lane for each: first and second bytes, and sizes (QOI
 //! specification 1.0, "Chunks"). A repeat has a run's byte if a fresh pixel follows, else none.
-ghost use Rattle.std.specs.Prelude.{◌≡◌, ◌<◌, ℕ, List, [], ◌∷◌, ◌++◌, drop, map};
+ghost use Rattle.std.specs.Prelude.{◌≡◌, ◌<◌, ℕ, List, map};
 ghost use Rattle.qoi.specs.declared.types.Style.TheVariants.{Reference};
 ghost use Rattle.qoi.specs.Qoi.{RgbaPixel, run_max, hash};
 ghost use Rattle.qoi.specs.inner.BlockBytes.{firsts, sizes};
@@ -12,7 +12,7 @@ ghost use Rattle.qoi.specs.inner.Spelling.{IsBlock, HasSpelled};
 
 use crate::encode::changes::Changes;
 use crate::encode::counts::count_repeats;
-use crate::encode::lanes::{Steps, greater, is_zero, lesser};
+use crate::encode::lanes::{Steps, greater, lesser, where_is};
 use std::simd::prelude::*;
 
 /// Which pixels fit a difference chunk, which fit a luma, and which keep alpha: 255 or 0.
@@ -66,7 +66,7 @@ fn fits_diff(near: Steps, keep: u8x16) -> u8x16
     ensures { (ls : List Lane) → AreNear ls near → AreBy ls keep_mask keep
         → AreBy ls diff_mask result }
 {
-    is_zero((near.r | near.g | near.b) & u8x16::splat(0xfc)) & keep
+    where_is((near.r | near.g | near.b) & u8x16::splat(0xfc), 0) & keep
 }
 
 // Which pixels a luma chunk gives.
@@ -75,7 +75,8 @@ fn fits_luma(far: Steps, keep: u8x16) -> u8x16
     ensures { (ls : List Lane) → AreFar ls far → AreBy ls keep_mask keep
         → AreBy ls luma_mask result }
 {
-    is_zero(((far.r | far.b) & u8x16::splat(0xf0)) | (far.g & u8x16::splat(0xc0))) & keep
+    let above = ((far.r | far.b) & u8x16::splat(0xf0)) | (far.g & u8x16::splat(0xc0));
+    where_is(above, 0) & keep
 }
 
 // The difference chunks of steps that fit.
@@ -126,8 +127,8 @@ fn sizes_of(fits: Fits, stands: u8x16) -> u8x16
     size + (!fits.keep & !one & u8x16::splat(1))
 }
 
-// The first bytes, with those of runs for repeats. The lesser of a mask and a byte is the byte where
-// the mask is set, else 0; of `&` the compiler would make a blend, which takes longer.
+// The first bytes, with those of runs for repeats. The lesser of a mask and a byte is the byte
+// where the mask is set, else 0; of `&` the compiler would make a blend, which takes longer.
 #[inline(always)]
 fn with_runs(first: u8x16, rep: u8x16, count: u8x16) -> u8x16
     ensures { (ls : List Lane) (c : ℕ) → AreBy ls first_of first
@@ -137,25 +138,19 @@ fn with_runs(first: u8x16, rep: u8x16, count: u8x16) -> u8x16
     greater(first, lesser(rep, count + u8x16::splat(0xbf)))
 }
 
-// Whether the next lane repeats, or there is none.
-#[inline(always)]
-fn next_repeats(rep: u8x16) -> u8x16
-    ensures { result ≡ drop 1 rep ++ 255 ∷ [] }
-{
-    rep.shuffle(
-        u8x16::splat(255),
-        [1, 2, 3, 4, 5, 6, 7, 8, 9, 10, 11, 12, 13, 14, 15, 16],
-    )
-}
-
-// The sizes, with 0 for a repeat that another one follows, or no lane. As for `with_runs`, `&` would
-// take longer.
+// The sizes, with 0 for a repeat that another one follows, or no lane. As for `with_runs`, `&`
+// would take longer.
 #[inline(always)]
 fn with_none(size: u8x16, rep: u8x16) -> u8x16
     ensures { (ls : List Lane) → AreBy ls size_of size → AreBy ls (λ l. mask (is_rep l)) rep
         → result ≡ sizes ls }
 {
-    lesser(size, !lesser(rep, next_repeats(rep)))
+    // Whether the next lane repeats, or there is none.
+    let next = rep.shuffle(
+        u8x16::splat(255),
+        [1, 2, 3, 4, 5, 6, 7, 8, 9, 10, 11, 12, 13, 14, 15, 16],
+    );
+    lesser(size, !lesser(rep, next))
 }
 
 /// Spells out sixteen pixels, where `stands` says which stand at their index positions, and `carry`
@@ -174,7 +169,7 @@ pub(super) fn spell_block(
         → HasSpelled Reference s ps result }
 {
     let rep = changes.rep;
-    let keep = is_zero(changes.alpha);
+    let keep = where_is(changes.alpha, 0);
     let near = near_steps(changes.steps);
     let far = far_steps(changes.steps);
     let fits = Fits {

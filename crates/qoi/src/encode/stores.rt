@@ -1,9 +1,8 @@
 //! The chunks of sixteen pixels, stored one after the other.
-ghost use Rattle.std.specs.Prelude.{◌≡◌, ◌≢◌, ◌+◌, ◌≤◌, ◌<◌, ◌==◌, ℕ, List, ◌++◌, length, map, not, take, slice_index, IsTrue};
+ghost use Rattle.std.specs.Prelude.{◌≡◌, ◌≢◌, ◌+◌, ◌≤◌, ◌<◌, ℕ, List, ◌++◌, length, take, slice_index, IsTrue};
 ghost use Rattle.qoi.specs.declared.types.Style.{Style};
 ghost use Rattle.qoi.specs.Qoi.{RgbaPixel, IsPixel, run_max};
 ghost use Rattle.qoi.specs.Raw.{IsChannels};
-ghost use Rattle.qoi.specs.inner.BlockLanes.{mask};
 ghost use Rattle.qoi.specs.inner.BlockState.{State, block_bytes};
 ghost use Rattle.qoi.specs.inner.Planes.{AreSixteen, ArePlanes};
 ghost use Rattle.qoi.specs.inner.Spelling.{HasSpelled};
@@ -11,18 +10,10 @@ ghost use Rattle.qoi.specs.inner.Spelling.{HasSpelled};
 use crate::encode::changes::all_set;
 use crate::encode::each::put_each;
 use crate::encode::fours::put_fours;
+use crate::encode::lanes::where_is;
 use crate::encode::planes::{Planes, make_words};
 use crate::encode::spelling::Spelled;
 use std::simd::prelude::*;
-
-// 255 in each lane that isn't 5, else 0.
-#[inline(always)]
-fn other_than_five(v: u8x16) -> u8x16
-    ensures { result ≡ map (λ n. mask (not (n == 5))) v }
-{
-    v.simd_eq(u8x16::splat(5))
-        .select(u8x16::splat(0), u8x16::splat(255))
-}
 
 // Whether each chunk has at most four bytes. Only RGBA chunks have five.
 #[inline(always)]
@@ -30,7 +21,7 @@ fn are_short<const N: usize>(size: u8x16) -> bool
     ensures { IsTrue result → ((k : ℕ) → slice_index size k ≤ N + 1)
         → (k : ℕ) → slice_index size k ≢ 5 }
 {
-    N == 3 || all_set(other_than_five(size))
+    N == 3 || all_set(!where_is(size, 5))
 }
 
 /// Stores the chunks of sixteen pixels from `at` on, and returns where they end.

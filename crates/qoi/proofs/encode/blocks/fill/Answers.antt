@@ -1,28 +1,26 @@
 -- A step further.
-use Rattle.std.proofs.Common.{inl, inr, refl, sym, ◌∙◌, arith, subst}
+use Rattle.std.proofs.Common.{inl, inr, length, refl, sym, ap, ◌∙◌, arith, subst}
 use Rattle.std.proofs.lemmas.Bool.{true≢false}
 use Rattle.qoi.specs.inner.CarryLoop.{InBlocks}
+use Rattle.qoi.specs.inner.Piece.{kept_bytes}
 use Rattle.qoi.specs.inner.Pixels.{pixels_in}
-use Rattle.qoi.proofs.encoding.CoderLink.{same_carried}
 use Rattle.qoi.proofs.encode.blocks.fill.Goals.{then-loop-rest-test+else-has_block, else-loop-rest-test}
 use Rattle.qoi.proofs.encode.blocks.fill.Goals as goal
 
 pub loop-rest-init : goal.loop-rest-init
-loop-rest-init g c =
-    let known = c.with_known_alpha-now.ensures in
-    record {
-      less = inr (refl, c.args.piece.not_full);
-      written = λ ahead n more b. same_carried b c.with_known_alpha-now.result known.last known.same.0 known.same.1;
-    }
+loop-rest-init g c = record { less = inr (refl, c.args.piece.not_full); written = λ ahead n more b. b }
 
 pub loop-rest-preserved : goal.loop-rest-preserved
 loop-rest-preserved g c =
     let i = c.loop-rest.invariant in
     let step = c.write_front.ensures in
+    let front = c.front.ensures in
+    let size = ap (λ r. length (pixels_in r)) front in
     record {
-      less = inl (elim i.less [ inl less ↦ omega (arith, step.less, less) | inr same ↦ omega (arith, step.less, same.0) ]);
-      written = λ ahead n more b.
-          step.written ahead n more (subst (InBlocks c.args.style ahead n (pixels_in c.loop-rest.rest) more c.loop-rest.table c.loop-rest.now) (sym c.open.ensures) (i.written ahead n more b));
+      less = inl (elim i.less [ inl less ↦ omega (arith, step.less, size, less) | inr same ↦ omega (arith, step.less, size, same.0) ]);
+      written = λ ahead n more b. step.written ahead n more
+          (subst (λ r. InBlocks c.args.style ahead n (pixels_in r) more c.loop-rest.table c.loop-rest.now (kept_bytes c.open.result.piece)) (sym front)
+          (subst (InBlocks c.args.style ahead n (pixels_in c.loop-rest.rest) more c.loop-rest.table c.loop-rest.now) (sym c.open.ensures) (i.written ahead n more b)));
     }
 
 pub returns-clause-less : goal.returns-clause-less

@@ -11,27 +11,27 @@ use Rattle.qoi.proofs.encode.blocks.write_front.Goals as goal
 pub write_long_group-requires : goal.write_long_group-requires
 write_long_group-requires g c =
     let q = last_pixel c.args.carry.before in
-    let all : all_repeat q (take 16 (pixels_in c.args.raw)) ≡ true =
+    let all : all_repeat q (take 16 (pixels_in c.args.front.raw)) ≡ true =
     sym (ap (all_repeat q) c.first-block.ensures.pixels) ∙ sym (c.repeats.ensures c.args.carry.before c.first-block.ensures.changes) ∙ c.if-repeats.true in
-    (omega arith, (omega arith, (omega arith, (omega arith, repeats_first (pixels_in c.args.raw) q c.requires all))))
+    (omega arith, (omega arith, (omega arith, (omega arith, repeats_first (pixels_in c.args.front.raw) q c.args.front.enough all))))
 
-pub returns-then-may_name_other-clause-written : goal.returns-then-may_name_other-clause-written
-returns-then-may_name_other-clause-written g c = λ ahead n more b.
-    let tight = c.may_name_other.ensures.tight c.if-may_name_other.true in
+pub returns-then-may_miss_blank-clause-written : goal.returns-then-may_miss_blank-clause-written
+returns-then-may_miss_blank-clause-written g c = λ ahead n more b.
+    let tight = c.may_miss_blank.ensures.tight c.if-may_miss_blank.true in
     let group = c.write_group in
-    let start = subst (λ s. InBlocks s ahead n (pixels_in c.args.raw) more c.args.table.now c.args.carry (kept_bytes c.args.piece.piece)) tight b in
+    let start = subst (λ s. InBlocks s ahead n (pixels_in c.args.front.raw) more c.args.table.now c.args.carry (kept_bytes c.args.piece.piece)) tight b in
     subst (λ s. InBlocks s ahead n (pixels_in group.result.0) more group.new.table group.result.1 (kept_bytes group.result.2)) (sym tight) (group.ensures.written ahead n more start)
 
 pub returns-clause-written : goal.returns-clause-written
 returns-clause-written g c = λ ahead n more b.
     let block = c.first-block.ensures in
     let before = c.args.carry.before in
-    let after = drop 16 (pixels_in c.args.raw) in
+    let after = drop 16 (pixels_in c.args.front.raw) in
     let fits : FitsBlock c.args.style c.args.table.now before (block_pixels c.first-block.result.words) c.first-block.result.changes = record {
       changes = block.changes;
       mixed = sym (c.repeats.ensures before block.changes) ∙ c.if-repeats.false;
-      no_blank = c.may_name_other.ensures.none before block.changes c.if-may_name_other.false;
+      no_blank = c.may_miss_blank.ensures.none before block.changes c.if-may_miss_blank.false;
     } in
-    let front = sym (take-append-drop 16 (pixels_in c.args.raw)) ∙ ap (λ ps. ps ++ after) (sym block.pixels) in
+    let front = sym (take-append-drop 16 (pixels_in c.args.front.raw)) ∙ ap (λ ps. ps ++ after) (sym block.pixels) in
     rw c.skip.ensures.rest (c.write_block-piece.ensures ahead n after more fits
     (subst (λ ps. InBlocks c.args.style ahead n ps more c.args.table.now c.args.carry (kept_bytes c.args.piece.piece)) front b))

@@ -21,13 +21,10 @@ near : (g : Over) (c : After-repeats_of-ahead g)
 near g c =
     let n = c.repeats_of-ahead.result in
     near_group (last_pixel c.args.carry.before) (REPEATS_AT_ONCE - c.from-carried.result) n (pixels_in c.args.raw)
-    (subst (λ p. IsCount p (take (REPEATS_AT_ONCE - c.from-carried.result) (pixels_in c.args.raw)) n) (same_Some _ _ (sym (ap (λ ps. slice_get ps 0) c.first.ensures.first) ∙ c.requires)) (subst (λ ps. IsCount c.first.result ps n) c.near.ensures c.repeats_of-ahead.ensures.counted))
+    (subst (λ p. IsCount p (take (REPEATS_AT_ONCE - c.from-carried.result) (pixels_in c.args.raw)) n) (same_Some _ _ (sym (ap (λ ps. slice_get ps 0) c.first.ensures) ∙ c.requires)) (subst (λ ps. IsCount c.first.result.px ps n) c.near.ensures c.repeats_of-ahead.ensures.counted))
 
 pub first-requires : goal.first-requires
-first-requires g c = (omega arith, λ none. (let no : ◌≡◌ {A = Option RgbaPixel} None (Some (last_pixel c.args.carry.before)) = sym (ap (λ ps. slice_get ps 0) none) ∙ c.requires in cc))
-
-pub repeats_of-ahead-requires-clause-opaque : goal.repeats_of-ahead-requires-clause-opaque
-repeats_of-ahead-requires-clause-opaque g c = c.first.ensures.opaque
+first-requires g c = (omega arith, (omega arith, λ none. (let no : ◌≡◌ {A = Option RgbaPixel} None (Some (last_pixel c.args.carry.before)) = sym (ap (λ ps. slice_get ps 0) none) ∙ c.requires in cc)))
 
 pub keep_full_runs-requires : goal.keep_full_runs-requires
 keep_full_runs-requires g c =

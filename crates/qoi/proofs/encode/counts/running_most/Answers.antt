@@ -1,7 +1,8 @@
 -- Four shifts, each twice as far.
-use Rattle.std.proofs.Common.{arith, refl, ap, ◌∙◌}
+use Rattle.std.proofs.Common.{ℕ, List, replicate, arith, refl, ap, ◌∙◌}
 use Rattle.std.specs.Prelude.{max}
 use lib.Lanes.{zip2}
+use Rattle.qoi.proofs.encoding.LaneTests.{lanes_from}
 use Rattle.qoi.proofs.encoding.RunningMost.{one_most, twice_most, long_next}
 use Rattle.qoi.proofs.encode.counts.running_most.Goals as goal
 
@@ -11,13 +12,14 @@ returns c =
     let f1 = c.greater-two.result in
     let f2 = c.greater-four.result in
     let f4 = c.greater-eight.result in
-    let e1 = c.greater-two.ensures ∙ ap (zip2 max x) c.later_1.ensures in
-    let e2 = c.greater-four.ensures ∙ ap (zip2 max f1) c.later_2.ensures in
-    let e4 = c.greater-eight.ensures ∙ ap (zip2 max f2) c.later_4.ensures in
-    let e8 = c.greater.ensures ∙ ap (zip2 max f4) c.later_8.ensures in
+    let on = λ (n : ℕ) (xs : List ℕ). lanes_from n (replicate 16 0) xs in
+    let e1 = c.greater-two.ensures ∙ ap (zip2 max x) c.later.ensures in
     let l1 = long_next x f1 1 (omega arith) c.fits-v.0 e1 in
+    let e2 = c.greater-four.ensures ∙ ap (zip2 max f1) (on 14 f1 (omega arith) refl l1) in
     let l2 = long_next f1 f2 2 (omega arith) l1 e2 in
+    let e4 = c.greater-eight.ensures ∙ ap (zip2 max f2) (on 12 f2 (omega arith) refl l2) in
     let l4 = long_next f2 f4 4 (omega arith) l2 e4 in
+    let e8 = c.greater.ensures ∙ ap (zip2 max f4) (on 8 f4 (omega arith) refl l4) in
     record {
       long = long_next f4 c.greater.result 8 (omega arith) l4 e8;
       most = twice_most x f4 c.greater.result 8 16 (omega arith) refl l4

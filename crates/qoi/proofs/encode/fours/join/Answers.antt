@@ -2,5 +2,5 @@
 use Rattle.qoi.proofs.encoding.FourChunks.{codes_joined}
 use Rattle.qoi.proofs.encode.fours.join.Goals as goal
 
-pub returns-clause-joined : goal.returns-clause-joined
-returns-clause-joined c = λ cs are. codes_joined cs c.args.codes are
+pub returns : goal.returns
+returns c = λ cs are. codes_joined cs c.args.codes are

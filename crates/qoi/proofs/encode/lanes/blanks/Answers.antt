@@ -15,5 +15,5 @@ returns c = λ ps sixteen are.
     let g = plane (λ (p : RgbaPixel). p.g) c.args.p.g are.g_is in
     let b = plane (λ (p : RgbaPixel). p.b) c.args.p.b are.b_is in
     let a = plane (λ (p : RgbaPixel). p.a) c.args.p.a are.a_is in
-    let all = each (λ l. mask (is_blank l.px)) (again c.is_zero.result c.is_zero.ensures (one _ (two _ (two _ (two _ r g) b) a))) blank_lane in
+    let all = each (λ l. mask (is_blank l.px)) (again c.where_is.result c.where_is.ensures (one _ (two _ (two _ (two _ r g) b) a))) blank_lane in
     all.is ∙ themselves (λ p. mask (is_blank p)) [] (pixel 0 0 0 0) ps

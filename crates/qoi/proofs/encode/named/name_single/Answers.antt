@@ -13,7 +13,7 @@ pub returns : goal.returns
 returns c = λ s ps sixteen placed stands places h.
     let ls : List Lane = lanes_of s.held s.last ps in
     let at : c.args.places ≡ map (λ l. hash l.px) ls = places ∙ sym (themselves hash s.held s.last ps) in
-    let ones : c.is_one.result ≡ map (λ n. mask (n == 1)) (counts s.carry (map is_rep ls)) = c.is_one.ensures ∙ ap (map (λ n. mask (n == 1))) h.count_is in
+    let ones : c.where_is.result ≡ map (λ n. mask (n == 1)) (counts s.carry (map is_rep ls)) = c.where_is.ensures ∙ ap (map (λ n. mask (n == 1))) h.count_is in
     let before : c.stood.result ≡ stoods s.placed ls =
     c.stood.ensures ∙ (λ i. mask (sym placed i) ∷ take 15 ((stands ∙ sym (stands_lanes s.held s.last ps)) i))
     ∙ stoods_are 15 s.placed ls (lanes_long s.held s.last ps ∙ sixteen.long) in

@@ -18,7 +18,7 @@ returns-then-this-eq3 g c =
     let b = c.same_in_part-second.result in
     let d = c.same_in_part-third.result in
     let bits = bits_of_3 _ _ a b d
-    (rw c.if-this-eq3.true refl) (omega (arith, c.requires.long, c.if-this-eq3.true))
+    (rw c.if-this-eq3.true refl) (omega (arith, c.args.front.long, c.if-this-eq3.true))
     first.few second.few third.few first.bits second.bits third.bits in
     let power = ap (λ n. 2 ^ (n * 16) - 1) c.if-this-eq3.true in (
       (λ is.
@@ -37,7 +37,7 @@ returns-then-this-eq3 g c =
 
 pub returns : goal.returns
 returns g c =
-    let four : g.row.N ≡ 4 = omega (arith, c.requires.channels, c.if-this-eq3.false) in
+    let four : g.row.N ≡ 4 = omega (arith, c.args.front.raw.channels, c.if-this-eq3.false) in
     let first = c.same_in_part-first.ensures in
     let second = c.same_in_part-second.ensures in
     let third = c.same_in_part-third.ensures in
@@ -47,7 +47,7 @@ returns g c =
     let d = c.same_in_part-third.result in
     let f = c.same_in_part.result in
     let bits = bits_of_4 _ _ a b d f
-    (rw four (refl {a = 64})) (omega (arith, c.requires.long, four))
+    (rw four (refl {a = 64})) (omega (arith, c.args.front.long, four))
     first.few second.few third.few fourth.few first.bits second.bits third.bits fourth.bits in
     let power = ap (λ n. 2 ^ (n * 16) - 1) four in (
       (λ is.

@@ -1,13 +1,39 @@
--- The loop ends at another pixel, or if no whole pixel is left.
-use Rattle.std.proofs.Common.{◌≡◌, false, true, arith}
-use Rattle.qoi.specs.Raw.{pixels_of}
-use Rattle.qoi.proofs.encoding.GroupRuns.{count_of, counted_within}
+-- The loop ends at another pixel, or if none is left.
+use Rattle.std.proofs.Common.{◌≡◌, ◌≤◌, List, [], ◌∷◌, Some, length, drop, false, true, refl, sym, ap, ◌∙◌, arith}
+use Rattle.std.proofs.lemmas.Option.{same_Some}
+use Rattle.std.specs.List.{slice_get}
+use Rattle.qoi.specs.Qoi.{RgbaPixel}
+use Rattle.qoi.specs.inner.Pixels.{pixels_in}
+use Rattle.qoi.proofs.encoding.GroupRuns.{count_of, repeats_on}
+use Rattle.qoi.proofs.encoding.PixelsIn.{pixels_few}
 use Rattle.qoi.proofs.encode.runs.count_pixels.Goals as goal
+
+-- the first of them
+first_is : (p : RgbaPixel) (ps : List RgbaPixel) → slice_get ps 0 ≡ Some p → ps ≡ p ∷ drop 1 ps
+first_is p [] e = absurd (let no = e in cc)
+first_is p (q ∷ ps) e = ap (λ z. z ∷ ps) (same_Some _ _ e)
+
+-- so there is one
+first_some : (p : RgbaPixel) (ps : List RgbaPixel) → slice_get ps 0 ≡ Some p → 1 ≤ length ps
+first_some p [] e = absurd (let no = e in cc)
+first_some p (q ∷ ps) e = omega arith
+
+pub skip-rest-requires : goal.skip-rest-requires
+skip-rest-requires g c = (omega arith, first_some c.args.px (pixels_in c.loop-rest.rest) (c.loop-rest-test.ensures.0 refl))
+
+pub overflow_add-count : goal.overflow_add-count
+overflow_add-count g c =
+    let raw = c.args.raw in
+    omega (arith, c.skip-rest.ensures.size, c.loop-rest.invariant.within, pixels_few g.row.N raw.bytes.now raw.channels raw.whole)
+
+pub loop-rest-preserved : goal.loop-rest-preserved
+loop-rest-preserved g c =
+    let after = c.skip-rest.ensures in
+    let first = first_is c.args.px (pixels_in c.loop-rest.rest) (c.loop-rest-test.ensures.0 refl) in
+    repeats_on _ 1 (pixels_in c.args.raw) (pixels_in c.loop-rest.rest) (pixels_in c.skip-rest.result) c.args.px c.loop-rest.count c.loop-rest.invariant
+    after.size (first ∙ ap (λ z. c.args.px ∷ z) (sym after.rest))
 
 pub returns-clause-counted : goal.returns-clause-counted
 returns-clause-counted g c =
-    count_of c.args.px (pixels_of g.row.N c.args.data.now) (pixels_of g.row.N c.loop-rest.rest.now) c.loop-rest.count c.loop-rest.invariant.same
+    count_of c.args.px (pixels_in c.args.raw) (pixels_in c.loop-rest.rest) c.loop-rest.count c.loop-rest.invariant.same
     (λ e. let no : false ≡ true = c.loop-rest-test.ensures.1 e in cc)
-
-pub returns-clause-within : goal.returns-clause-within
-returns-clause-within g c = omega (arith, counted_within _ c.loop-rest.count _ _ c.requires c.loop-rest.invariant.size)

@@ -6,4 +6,4 @@ use Rattle.qoi.proofs.encode.spelling.fits_diff.Goals as goal
 pub returns : goal.returns
 returns c = λ ls s keep.
     let w = two _ (two _ (two _ s.r_is s.g_is) s.b_is) (flat 252 s.r_is) in
-    each _ (two _ (again _ c.is_zero.ensures (one _ w)) keep) diff_lane
+    each _ (two _ (again _ c.where_is.ensures (one _ w)) keep) diff_lane

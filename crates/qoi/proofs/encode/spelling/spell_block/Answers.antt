@@ -1,9 +1,9 @@
 -- The vectors, lane by lane.
-use Rattle.std.proofs.Common.{List, map, sym, ap, ◌∙◌}
+use Rattle.std.proofs.Common.{◌==◌, List, map, sym, ap, ◌∙◌}
 use Rattle.std.proofs.lemmas.List.{length-map}
 use Rattle.std.proofs.lemmas.Simd.{map-map}
 use Rattle.qoi.specs.Qoi.{RgbaPixel, hash}
-use Rattle.qoi.specs.inner.BlockLanes.{Lane, mask, zero_mask}
+use Rattle.qoi.specs.inner.BlockLanes.{Lane, mask}
 use Rattle.qoi.specs.inner.BlockState.{lanes_of, is_rep}
 use Rattle.qoi.specs.inner.Counts.{counts}
 use Rattle.qoi.specs.inner.LaneVectors.{AreFits}
@@ -17,10 +17,10 @@ returns c = λ s ps carry changes b.
     let red = plane_by s ps b.sixteen.long b.sixteen.are b.last_is (λ (p : RgbaPixel). p.r) c.args.red b.red_is in
     let d = changes.steps_are in
     let rep = changes.rep_is in
-    let keep = again c.is_zero-keep.result c.is_zero-keep.ensures (one zero_mask changes.alpha_is) in
+    let keep = again c.where_is-keep.result c.where_is-keep.ensures (one (λ x. mask (x == 0)) changes.alpha_is) in
     let near = c.near_steps-near.ensures ls d in
     let far = c.far_steps-far.ensures ls d in
-    let fits : AreFits ls (record { diff = c.fits_diff.result; luma = c.fits_luma.result; keep = c.is_zero-keep.result }) = record { diff_is = c.fits_diff.ensures ls near keep; luma_is = c.fits_luma.ensures ls far keep; keep_is = keep } in
+    let fits : AreFits ls (record { diff = c.fits_diff.result; luma = c.fits_luma.result; keep = c.where_is-keep.result }) = record { diff_is = c.fits_diff.ensures ls near keep; luma_is = c.fits_luma.ensures ls far keep; keep_is = keep } in
     let stands = stands_by s ps b.sixteen.long b.sixteen.are b.last_is c.args.stands b.stands_are in
     let places = plane_by s ps b.sixteen.long b.sixteen.are b.last_is hash c.args.places b.places_are in
     let first = c.first_bytes-first.ensures ls near far fits places stands in

@@ -1,10 +1,25 @@
--- Sixteen pixels have so many bytes.
+-- The planes of packed pixels, and the changes from those before.
 use Rattle.std.proofs.Common.{arith}
 use Rattle.std.proofs.Math.Nat.{mul_comm}
-use Rattle.qoi.proofs.encoding.PixelsIn.{bytes_within}
+use Rattle.qoi.specs.inner.Planes.{block_pixels}
+use Rattle.qoi.proofs.encoding.PackedBlock.{block_sixteen, block_words}
 use Rattle.qoi.proofs.encode.block.Block.first.Goals as goal
 
-pub first_sixteen-requires-clause-enough : goal.first_sixteen-requires-clause-enough
-first_sixteen-requires-clause-enough g c =
-    let raw = c.args.raw in
-    omega (arith, bytes_within g.row.N 16 raw.bytes.now raw.channels raw.whole c.requires, mul_comm 16 g.row.N)
+pub first_sixteen-words-requires-clause-enough : goal.first_sixteen-words-requires-clause-enough
+first_sixteen-words-requires-clause-enough g c = omega (arith, c.args.front.long, mul_comm 16 g.row.N)
+
+pub invariant_of-result : goal.invariant_of-result
+invariant_of-result g c =
+    let w = c.first_sixteen-words.result in
+    let packed = c.make_planes-planes.ensures.packed in
+    record {
+      packed = packed;
+      planes_are = c.make_planes-planes.ensures.planes (block_pixels w) (block_sixteen w packed) (block_words w packed) c.first_sixteen-words.ensures.opaque;
+    }
+
+pub returns-clause-changes : goal.returns-clause-changes
+returns-clause-changes g c =
+    let w = c.first_sixteen-words.result in
+    let packed = c.make_planes-planes.ensures.packed in
+    let planes = c.make_planes-planes.ensures.planes (block_pixels w) (block_sixteen w packed) (block_words w packed) c.first_sixteen-words.ensures.opaque in
+    c.find_changes.ensures (block_pixels w) (block_sixteen w packed) planes

@@ -4,7 +4,7 @@ use Rattle.std.proofs.lemmas.Bool.{and_parts}
 use Rattle.std.proofs.lemmas.List.{length-map}
 use Rattle.std.proofs.lemmas.Simd.{map-map}
 use Rattle.qoi.specs.Qoi.{RgbaPixel, pixel, hash}
-use Rattle.qoi.specs.inner.BlockLanes.{mask, zero_mask}
+use Rattle.qoi.specs.inner.BlockLanes.{mask}
 use Rattle.qoi.specs.inner.Planes.{block_pixels}
 use Rattle.qoi.proofs.encoding.BlankLanes.{is_blank, or_not, is_elsewhere, blank_stays}
 use Rattle.qoi.proofs.encoding.LaneTests.{themselves}
@@ -21,7 +21,7 @@ returns c = λ holds s table.
     let both = and_parts c.is_same.result c.all_set.result holds in
     let by = λ (f : RgbaPixel → ℕ) (xs : List ℕ) (e : xs ≡ map f ps). plane_by before ps sixteen.long sixteen.are before_is f xs e in
     let black = by (λ p. mask (is_blank p)) c.blanks.result (c.blanks.ensures ps sixteen planes) in
-    let zero = again c.is_zero-elsewhere.result c.is_zero-elsewhere.ensures (one zero_mask (by hash c.places.result (c.places.ensures ps sixteen planes))) in
+    let zero = again c.where_is-elsewhere.result c.where_is-elsewhere.ensures (one (λ x. mask (x == 0)) (by hash c.places.result (c.places.ensures ps sixteen planes))) in
     let all = each (λ l. mask (is_elsewhere l.px)) (two _ black (one not_8 zero)) (λ l is. or_not (is_blank l.px) (hash l.px == 0)) in
     let set = all.is ∙ themselves (λ p. mask (is_elsewhere p)) [] (pixel 0 0 0 0) ps ∙ sym (map-map mask is_elsewhere ps) in
     blank_stays s ps (sym (c.at.ensures s.held table) ∙ c.is_same.ensures.0 both.0 ∙ c.blank.ensures)

@@ -12,7 +12,7 @@ use Rattle.qoi.proofs.encode.coder.Coder.write_pixel.Goals as goal
 
 pub returns-clause-written : goal.returns-clause-written
 returns-clause-written g c ahead rest differs none b =
-    let p = c.args.px in
+    let p = c.args.next.px in
     let style = c.args.style in
     let past = b.past in
     let state = b.state in

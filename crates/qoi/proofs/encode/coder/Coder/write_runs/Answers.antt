@@ -6,68 +6,70 @@ use Rattle.qoi.specs.declared.encode.piece.TheConstants.{REPEATS_AT_ONCE}
 use Rattle.qoi.specs.Qoi.{RgbaPixel}
 use Rattle.qoi.specs.Runs.{IsCount}
 use Rattle.qoi.specs.inner.CoderLoop.{single}
+use Rattle.qoi.specs.inner.Piece.{kept_bytes}
 use Rattle.qoi.specs.inner.Pixels.{pixels_in}
 use Rattle.qoi.proofs.encoding.CoderLink.{first_more, more_some, some_length}
 use Rattle.qoi.proofs.encoding.CoderSteps.{group_written, fulls_written}
 use Rattle.qoi.proofs.encoding.PixelsIn.{NearGroup, near_group, near_some}
+use Rattle.qoi.proofs.encoding.RunBytes.{runs_written}
 use Rattle.qoi.proofs.encode.coder.Coder.write_runs.Given.{Over}
-use Rattle.qoi.proofs.encode.coder.Coder.write_runs.Goals.{After-repeats_by_call-ahead, else-carried-eq0-via-then-carried-eq0+else-not-begin_with, else-carried-eq0-via-else-carried-eq0}
+use Rattle.qoi.proofs.encode.coder.Coder.write_runs.Goals.{After-repeats_of-ahead, else-carried-eq0-via-then-carried-eq0+else-not-begin_with, else-carried-eq0-via-else-carried-eq0}
 use Rattle.qoi.proofs.encode.coder.Coder.write_runs.Goals as goal
 
 -- the repeats stand ahead
-near : (g : Over) (c : After-repeats_by_call-ahead g) → NearGroup c.args.self.now.last.px (REPEATS_AT_ONCE - c.args.self.now.last.repeats) (pixels_in c.args.raw) c.repeats_by_call-ahead.result
+near : (g : Over) (c : After-repeats_of-ahead g) → NearGroup c.args.self.now.last.px (REPEATS_AT_ONCE - c.args.self.now.last.repeats) (pixels_in c.args.raw) c.repeats_of-ahead.result
 near g c =
-    let n = c.repeats_by_call-ahead.result in
+    let n = c.repeats_of-ahead.result in
     near_group c.args.self.now.last.px (REPEATS_AT_ONCE - c.args.self.now.last.repeats) n (pixels_in c.args.raw)
-    (subst (λ ps. IsCount c.args.self.now.last.px ps n) c.near.ensures c.repeats_by_call-ahead.ensures.counted)
+    (subst (λ ps. IsCount c.args.self.now.last.px ps n) c.near.ensures c.repeats_of-ahead.ensures.counted)
 
 -- if none is carried, there is one ahead
-some_come : (g : Over) (c : After-repeats_by_call-ahead g) → 0 < c.args.self.now.last.repeats + c.repeats_by_call-ahead.result
+some_come : (g : Over) (c : After-repeats_of-ahead g) → 0 < c.args.self.now.last.repeats + c.repeats_of-ahead.result
 some_come g c = elim c.else-carried-eq0.branch [
   | else-carried-eq0-via-then-carried-eq0+else-not-begin_with w ↦ (let first = w.begin_with.ensures.0 w.if-not-begin_with.false in
       omega (arith, near_some c.args.self.now.last.px _ _ (pixels_in c.args.raw) (near g c) first (omega (arith, c.args.self.now.last.few))))
   | else-carried-eq0-via-else-carried-eq0 w ↦ omega (arith, w.if-carried-eq0.false)
 ]
 
-pub keep_runs-requires : goal.keep_runs-requires
-keep_runs-requires g c = (omega arith, (c.requires.room, omega (arith, (near g (goal.at.keep_runs-requires g c).After-repeats_by_call-ahead).few, c.args.self.now.last.few)))
+pub keep_full_runs-requires : goal.keep_full_runs-requires
+keep_full_runs-requires g c = (omega arith, (omega (arith, c.requires.room), omega (arith, (near g (goal.at.keep_full_runs-requires g c).After-repeats_of-ahead).few, c.args.self.now.last.few)))
 
 pub ends_after-requires : goal.ends_after-requires
-ends_after-requires g c = (omega arith, (near g (goal.at.ends_after-requires g c).After-repeats_by_call-ahead).within)
+ends_after-requires g c = (omega arith, (near g (goal.at.ends_after-requires g c).After-repeats_of-ahead).within)
 
 pub returns-clause-end : goal.returns-clause-end
-returns-clause-end g c = omega (arith, c.keep_runs.ensures.end, (near g (goal.at.returns-clause-end g c).After-repeats_by_call-ahead).few, c.args.self.now.last.few)
+returns-clause-end g c = omega (arith, c.keep_full_runs.ensures.end, c.keep_run.ensures.end, (near g (goal.at.returns-clause-end g c).After-repeats_of-ahead).few, c.args.self.now.last.few)
 
 pub returns-clause-each : goal.returns-clause-each
-returns-clause-each g c = omega (arith, c.keep_runs.ensures.end, some_come g (goal.at.returns-clause-each g c).After-repeats_by_call-ahead)
+returns-clause-each g c = omega (arith, c.keep_full_runs.ensures.end, c.keep_run.ensures.end, some_come g (goal.at.returns-clause-each g c).After-repeats_of-ahead)
 
 pub returns-clause-inside : goal.returns-clause-inside
-returns-clause-inside g c = (near g (goal.at.returns-clause-inside g c).After-repeats_by_call-ahead).within
+returns-clause-inside g c = (near g (goal.at.returns-clause-inside g c).After-repeats_of-ahead).within
 
 -- if the next pixel repeats, too, as many were counted as may be
 pub returns-clause-some : goal.returns-clause-some
 returns-clause-some g c = λ repeats.
-    (let group = near g (goal.at.returns-clause-some g c).After-repeats_by_call-ahead in
+    (let group = near g (goal.at.returns-clause-some g c).After-repeats_of-ahead in
     elim group.ends [ inl other ↦ absurd (other repeats) | inr full ↦ omega (arith, full, c.args.self.now.last.few) ])
 
 -- and so the pixels that follow
-ahead_is : (g : Over) (c : After-repeats_by_call-ahead g) (more : List RgbaPixel)
-    → pixels_in c.args.raw ++ more ≡ replicate c.repeats_by_call-ahead.result c.args.self.now.last.px ++ (drop c.repeats_by_call-ahead.result (pixels_in c.args.raw) ++ more)
-ahead_is g c more = ap (λ ps. ps ++ more) (near g c).same ∙ append_assoc (replicate c.repeats_by_call-ahead.result c.args.self.now.last.px) (drop c.repeats_by_call-ahead.result (pixels_in c.args.raw)) more
+ahead_is : (g : Over) (c : After-repeats_of-ahead g) (more : List RgbaPixel)
+    → pixels_in c.args.raw ++ more ≡ replicate c.repeats_of-ahead.result c.args.self.now.last.px ++ (drop c.repeats_of-ahead.result (pixels_in c.args.raw) ++ more)
+ahead_is g c more = ap (λ ps. ps ++ more) (near g c).same ∙ append_assoc (replicate c.repeats_of-ahead.result c.args.self.now.last.px) (drop c.repeats_of-ahead.result (pixels_in c.args.raw)) more
 
 pub returns-then-ends_after-clause-written : goal.returns-then-ends_after-clause-written
 returns-then-ends_after-clause-written g c all more b =
-    let n = c.repeats_by_call-ahead.result in
+    let n = c.repeats_of-ahead.result in
     let count = c.args.self.now.last.repeats + n in
-    fulls_written b n (count / 62) (drop n (pixels_in c.args.raw) ++ more) (ahead_is g (goal.at.returns-then-ends_after-clause-written g c).After-repeats_by_call-ahead more)
+    fulls_written b n (count / 62) (drop n (pixels_in c.args.raw) ++ more) (ahead_is g (goal.at.returns-then-ends_after-clause-written g c).After-repeats_of-ahead more)
     (omega (arith, c.update_after_repeats.ensures.left)) c.keep_full_runs.ensures.kept c.update_after_repeats.ensures.state
 
 pub returns-clause-written : goal.returns-clause-written
 returns-clause-written g c all more b =
-    let n = c.repeats_by_call-ahead.result in
+    let n = c.repeats_of-ahead.result in
     let last = c.args.self.now.last in
     let count = last.repeats + n in
-    let here = (goal.at.returns-clause-written g c).After-repeats_by_call-ahead in
+    let here = (goal.at.returns-clause-written g c).After-repeats_of-ahead in
     let group = near g here in
     let rest = drop n (pixels_in c.args.raw) in
     let later = rest ++ more in
@@ -78,4 +80,4 @@ returns-clause-written g c all more b =
     elim group.ends as (λ _. (slice_get later 0 ≢ Some last.px) ⊎ (count % 62 ≡ 0)) [ inl other ↦ inl (λ e. other (sym first ∙ e)) | inr e ↦ inr (full e) ] in
     let one = single c.args.style last count in
     group_written b n later one (ahead_is g here more) ends (λ _. inr (more_some rest more some, refl))
-    (c.keep_runs.ensures.kept one c.single_repeat_byte.ensures) c.update_after_repeats-2.ensures.left c.update_after_repeats-2.ensures.state
+    (runs_written one count (kept_bytes c.args.piece.now) _ _ c.keep_full_runs.ensures.kept (c.keep_run.ensures.kept one c.single_repeat_byte.ensures)) c.update_after_repeats-2.ensures.left c.update_after_repeats-2.ensures.state
