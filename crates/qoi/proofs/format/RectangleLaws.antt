@@ -1,11 +1,11 @@
 -- Rows and rectangles of raw bytes: what they hold, how they are put together, and what is put in.
-use Rattle.std.proofs.Common.{◌≡◌, ◌≢◌, ◌<◌, ◌≤◌, ◌+◌, ◌-◌, ◌*◌, ◌/◌, ◌%◌, ◌⊎◌, ℕ, zero, suc, List, [], ◌++◌, length, take, drop, get_or, inl, inr, ⊎_elim, refl, sym, ◌∙◌, ap, arith}
+use Rattle.std.proofs.Common.{◌≡◌, ◌≢◌, ◌<◌, ◌≤◌, ◌+◌, ◌-◌, ◌*◌, ◌/◌, ◌%◌, ◌⊎◌, ℕ, zero, suc, List, [], ◌++◌, length, take, drop, get_or, inl, inr, ⊎_elim, refl, sym, subst, ◌∙◌, ap, arith}
 use Rattle.std.proofs.lemmas.List.{ext_get_or, append_assoc, append-nil, length-append, length-drop, length-take, take-append-drop, drop-drop, drop-take, take-take, take_all, take_at, drop_at, take-append-le, drop-append-le, get_or-take, get_or-drop, get_or_append_left, get_or-append_right}
 use Rattle.std.proofs.Math.Nat.{add-suc, div-add-mod, mod-lt, mul-add, mul-suc, mul-zero, mul_comm, zero-mul}
 use Rattle.std.proofs.Math.Seq.{take-add}
 use Rattle.std.proofs.lemmas.Bool.{cases_eq, cases_lt}
 use Rattle.std.proofs.lemmas.Nat.{mul-le, row_fits}
-use Rattle.qoi.specs.Rectangles.{row_bytes, rectangle, IsOutside, KeepsOutside}
+use Rattle.qoi.specs.Rectangles.{row_bytes, rectangle, with_tile, IsOutside, KeepsOutside}
 
 -- one row more ends within the rows
 pub row_end : (stride k rows : ℕ) → k < rows → stride * k + stride ≤ stride * rows
@@ -280,6 +280,60 @@ module _ (stride top left rows size : ℕ) (old new row : List ℕ) (fits : left
 -- nothing was put in yet
 pub keeps_all : (stride top left rows size : ℕ) (raw : List ℕ) → KeepsOutside stride top left rows size raw raw
 keeps_all stride top left rows size raw = record { length_is = refl; same = λ i j within out. refl }
+
+-- with no row of a tile the picture is as before
+pub with_no_row : (stride top left size : ℕ) (tile raw : List ℕ) → with_tile stride top left 0 size tile raw ≡ raw
+unfolding with_tile
+with_no_row stride top left size tile raw = refl
+
+-- with one row more
+pub with_next_row : (stride top left rows size : ℕ) (tile raw : List ℕ)
+    → with_tile stride top left (rows + 1) size tile raw
+    ≡ take (stride * (top + rows) + left) (with_tile stride top left rows size tile raw)
+    ++ (row_bytes size tile rows ++ drop size (drop (stride * (top + rows) + left) (with_tile stride top left rows size tile raw)))
+unfolding with_tile
+with_next_row stride top left rows size tile raw =
+    let more : rows + 1 ≡ suc rows = omega arith in ap (λ n. with_tile stride top left n size tile raw) more
+
+-- the first rows of a tile stand in the rectangle, and bytes outside of it stay
+rows_with_tile : (stride top left rows size : ℕ) (tile raw : List ℕ) → left + size ≤ stride → stride * (top + rows) ≤ length raw → size * rows ≤ length tile
+    → (rectangle stride top left rows size (with_tile stride top left rows size tile raw) ≡ take (size * rows) tile)
+    × KeepsOutside stride top left rows size raw (with_tile stride top left rows size tile raw)
+rows_with_tile stride top left zero size tile raw fits inside long = (
+  no_rows stride top left size _ ∙ ap (λ n. take n tile) (sym (mul-zero size)),
+  subst (λ z. KeepsOutside stride top left 0 size raw z) (sym (with_no_row stride top left size tile raw)) (keeps_all stride top left 0 size raw),
+)
+rows_with_tile stride top left (suc rows) size tile raw fits inside long =
+    let below = row_end stride (top + rows) (top + suc rows) (omega arith) in
+    let n = rows + 1 in
+    let more : n ≡ suc rows = omega arith in
+    let held = rows_with_tile stride top left rows size tile raw fits (omega (arith, inside, below)) (omega (arith, long, mul-suc size rows)) in
+    let old = with_tile stride top left rows size tile raw in
+    let new = with_tile stride top left n size tile raw in
+    let row = row_bytes size tile rows in
+    let ends : stride * (top + rows) + stride ≤ length old = omega (arith, inside, below, held.1.length_is) in
+    let many : length row ≡ size =
+    omega (arith, length-take size (drop (size * rows) tile), length-drop (size * rows) tile, long, mul-suc size rows) in
+    let is = with_next_row stride top left rows size tile raw in
+    subst
+    (λ k. (rectangle stride top left k size (with_tile stride top left k size tile raw) ≡ take (size * k) tile)
+    × KeepsOutside stride top left k size raw (with_tile stride top left k size tile raw))
+    more (
+      rows_put stride top left rows size old new row fits ends many is ∙ ap (λ z. z ++ row) held.0 ∙ sym (front_more size rows tile),
+      outside_put stride top left rows size old new row fits ends many is held.1,
+    )
+
+-- a tile that was put in stands in the rectangle
+pub tile_stands : (stride top left rows size : ℕ) (tile raw : List ℕ) → left + size ≤ stride → stride * (top + rows) ≤ length raw → length tile ≡ size * rows
+    → rectangle stride top left rows size (with_tile stride top left rows size tile raw) ≡ tile
+tile_stands stride top left rows size tile raw fits inside many =
+    (rows_with_tile stride top left rows size tile raw fits inside (omega (arith, many))).0 ∙ take_all (size * rows) tile (omega (arith, many))
+
+-- and all bytes outside of it stay
+pub outside_tile : (stride top left rows size : ℕ) (tile raw : List ℕ) → left + size ≤ stride → stride * (top + rows) ≤ length raw → length tile ≡ size * rows
+    → KeepsOutside stride top left rows size raw (with_tile stride top left rows size tile raw)
+outside_tile stride top left rows size tile raw fits inside many =
+    (rows_with_tile stride top left rows size tile raw fits inside (omega (arith, many))).1
 
 -- a byte of a picture is one of a row
 some_bytes : (stride height p : ℕ) → p < stride * height → 0 < stride

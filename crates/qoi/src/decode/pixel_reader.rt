@@ -1,11 +1,13 @@
 //! Decoding an image piece by piece.
-ghost use Rattle.std.specs.Prelude.{◌≡◌, ℕ, ◌+◌, ◌-◌, ◌*◌, ◌%◌, ◌<◌, ◌≤◌, List, [], ◌++◌, length, take, drop, min, Option, Some, Ok, true, false, IsTrue, IfOk, IfErr, OnOk, OnErr, IsErrOf};
+ghost use Rattle.std.specs.Prelude.{◌≡◌, ℕ, ◌+◌, ◌-◌, ◌*◌, ◌%◌, ◌<◌, ◌≤◌, List, [], ◌++◌, length, take, drop, min, Option, Some, Ok, true, false, IsTrue, IfSome, IfOk, IfErr, OnOk, OnErr, IsErrOf};
 ghost use Rattle.std.specs.Io.KnownBytes.{Keeps};
 ghost use Rattle.qoi.specs.Qoi.{channels_number, pixel_count};
 ghost use Rattle.qoi.specs.Raw.{AreChannels};
 ghost use Rattle.qoi.specs.DecoderState.{DecoderState, output_byte_count};
 ghost use Rattle.qoi.specs.declared.error.Error.{Error};
 ghost use Rattle.qoi.specs.Decoded.{HasDecoded};
+ghost use Rattle.qoi.specs.Images.{front_image, front_rest};
+ghost use Rattle.qoi.specs.Reading.{StandsAhead};
 ghost use Rattle.qoi.specs.inner.Chunks.{RefusesChunks};
 ghost use Rattle.qoi.specs.inner.Pieces.{bytes_left, KeepsPixels, GivesPieces};
 ghost use Rattle.qoi.specs.PixelReader.{as_decoder, pixels_left, HasGiven, RefusesPixels, IsSpent};
@@ -176,6 +178,8 @@ impl<R: PieceReader> Decoder<R> {
     /// is read yet.
     pub fn into_pixels(self) -> PixelReader<R>
         ensures start { HasGiven self (R.ahead self.reader) (R.ahead result.reader) [] result }
+        ensures fresh { HasGiven (as_decoder result) (R.ahead result.reader)
+            (R.ahead result.reader) [] result }
         ensures same { as_decoder result ≡ self }
     {
         let size = self.required_buf_len();
@@ -301,6 +305,12 @@ impl<R: PieceReader> PixelReader<R> {
             → HasGiven d start (R.ahead self.old.reader) given self.old
             → IfOk result (λ size.
             HasGiven d start (R.ahead self.new.reader) (given ++ take size buf.new) self.new) }
+        // Of an image that stands ahead they are those behind the bytes that were read before.
+        ensures follows { (d : DecoderState R) (bytes given : List ℕ)
+            → HasGiven d (Some bytes) (R.ahead self.old.reader) given self.old
+            → StandsAhead d.header bytes
+            → IfOk result (λ size. take size buf.new
+            ≡ take size (drop (length given) (front_image d.channels d.header bytes))) }
         ensures size { IfOk result (λ size. size ≡ min (length buf.old) (pixels_left self.old)) }
         ensures left { IfOk result (λ size. pixels_left self.new + size ≡ pixels_left self.old) }
         ensures none { min (length buf.old) (pixels_left self.old) ≡ 0
@@ -364,6 +374,11 @@ impl<R: PieceReader + Drop> PixelReader<R> {
             → HasGiven d start (R.ahead self.reader) given self
             → IfOk result (λ decoder. (rest : List ℕ)
             × HasDecoded d start (R.ahead decoder.reader) (given ++ rest)) }
+        // If nothing was read before, the image stood ahead, and the decoder goes on behind it.
+        ensures passed { HasGiven (as_decoder self) (R.ahead self.reader) (R.ahead self.reader) []
+            self → IfOk result (λ decoder. IfSome (R.ahead self.reader) (λ bytes.
+            StandsAhead self.header bytes
+            × (R.ahead decoder.reader ≡ Some (front_rest self.header bytes)))) }
         ensures same { IfOk result (λ decoder.
             decoder ≡ record (as_decoder self) { reader = decoder.reader }) }
 
@@ -372,6 +387,9 @@ impl<R: PieceReader + Drop> PixelReader<R> {
             → HasGiven d start (R.ahead self.reader) given self
             → IfErr result (λ e. (new : Option (List ℕ))
             × RefusesPixels R.in_memory d start new e) }
+        ensures missing { HasGiven (as_decoder self) (R.ahead self.reader) (R.ahead self.reader) []
+            self → IsTrue R.in_memory → OnErr result (IfSome (R.ahead self.reader) (λ bytes.
+            StandsAhead self.header bytes → ⊥)) }
         ensures again { IsSpent self → IsErrOf result Error.UnexpectedBufferEnd }
     {
         let mut buf = [0; 4096];

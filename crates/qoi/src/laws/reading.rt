@@ -12,7 +12,7 @@ ghost use Rattle.qoi.specs.Encoded.{IsFileOf, IsReadBack, image_file, image_head
 ghost use Rattle.qoi.specs.Tiles.{HasTile};
 ghost use Rattle.qoi.specs.Verdicts.{IsPartOfChunk, IsWhole, IsCut, IsWrong};
 ghost use Rattle.qoi.specs.Decoding.{DecodesFile};
-ghost use Rattle.qoi.specs.Reading.{IsImage};
+ghost use Rattle.qoi.specs.Reading.{IsImage, StandsAhead};
 ghost use Rattle.qoi.specs.Images.{front_image, front_rest, file_image, file_rest};
 
 /// No chunk's bytes begin another's, and a part of a chunk begins with no whole chunk.
@@ -79,6 +79,13 @@ pub fn files_are_read()
         → bytes ≡ file h cs ++ rest
         → DecodesFile bytes h rest
         (output (channels_number h.channels) (channels_number h.channels) (file_pixels h cs)) }
+    ensures begins { (h : Header) (cs : List Chunk) (rest : List ℕ) → IsFile h cs
+        → (header_of (file h cs ++ rest) ≡ Ok h)
+        × StandsAhead h (drop header_size (file h cs ++ rest))
+        × (file_rest (file h cs ++ rest) ≡ rest) }
+    ensures stands { (bytes : List ℕ) (h : Header) → AreBytes bytes → header_of bytes ≡ Ok h
+        → StandsAhead h (drop header_size bytes) → (header_of bytes ≡ Ok h)
+        × (cs : List Chunk) × IsFile h cs × (bytes ≡ file h cs ++ file_rest bytes) }
 {}
 
 /// What was decoded from bytes is decoded from them whatever is appended, and that is left, too.
@@ -101,6 +108,9 @@ pub fn images_are_functions()
         → (out ≡ front_image channels h bytes) × (rest ≡ front_rest h bytes) }
     ensures file { (bytes : List ℕ) (h : Header) (rest out : List ℕ) → DecodesFile bytes h rest out
         → (out ≡ file_image bytes) × (rest ≡ file_rest bytes) }
+    ensures decoded { (bytes : List ℕ) (h : Header) (rest out : List ℕ)
+        → DecodesFile bytes h rest out → DecodesFile bytes h rest out × (out ≡ file_image bytes)
+        × (rest ≡ file_rest bytes) × StandsAhead h (drop header_size bytes) }
 {}
 
 /// Raw bytes of a valid header's image, as decoding gives them, are accepted by an encoder with its

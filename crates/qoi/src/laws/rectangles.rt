@@ -1,6 +1,6 @@
 //! Laws on rows and rectangles of raw bytes: an image's, or any others of rows of one length.
 ghost use Rattle.std.specs.Prelude.{◌≡◌, ℕ, ◌+◌, ◌*◌, ◌<◌, ◌≤◌, List, [], ◌++◌, length, take, drop, slice_index};
-ghost use Rattle.qoi.specs.Rectangles.{row_bytes, rectangle, KeepsOutside};
+ghost use Rattle.qoi.specs.Rectangles.{row_bytes, rectangle, with_tile, KeepsOutside};
 
 /// The whole picture is a rectangle of itself, a row is a rectangle of one row, a rectangle of a
 /// rectangle is one of the picture, and rows follow one another.
@@ -54,7 +54,8 @@ pub fn rows_that_come()
 {}
 
 /// Bytes that are put where the part of one more row stands: the rectangle holds them, and all
-/// bytes outside of it stay. The rectangle and what is outside of it are the whole picture.
+/// bytes outside of it stay. The rectangle and what is outside of it are the whole picture. A tile
+/// that was put in row by row stands there, and all bytes outside of it stay.
 pub fn rows_are_put()
     ensures put { (stride top left rows size : ℕ) (old new row : List ℕ) → left + size ≤ stride
         → stride * (top + rows) + stride ≤ length old → length row ≡ size
@@ -75,4 +76,19 @@ pub fn rows_are_put()
         → new ≡ old }
     ensures all { (stride top left rows size : ℕ) (raw : List ℕ)
         → KeepsOutside stride top left rows size raw raw }
+    ensures no_row { (stride top left size : ℕ) (tile raw : List ℕ)
+        → with_tile stride top left 0 size tile raw ≡ raw }
+    ensures next_row { (stride top left rows size : ℕ) (tile raw : List ℕ)
+        → with_tile stride top left (rows + 1) size tile raw
+        ≡ take (stride * (top + rows) + left) (with_tile stride top left rows size tile raw)
+        ++ (row_bytes size tile rows ++ drop size (drop (stride * (top + rows) + left)
+        (with_tile stride top left rows size tile raw))) }
+    ensures tile { (stride top left rows size : ℕ) (tile raw : List ℕ) → left + size ≤ stride
+        → stride * (top + rows) ≤ length raw → length tile ≡ size * rows
+        → rectangle stride top left rows size (with_tile stride top left rows size tile raw)
+        ≡ tile }
+    ensures outside { (stride top left rows size : ℕ) (tile raw : List ℕ) → left + size ≤ stride
+        → stride * (top + rows) ≤ length raw → length tile ≡ size * rows
+        → KeepsOutside stride top left rows size raw
+        (with_tile stride top left rows size tile raw) }
 {}

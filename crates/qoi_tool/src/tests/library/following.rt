@@ -1,6 +1,6 @@
 //! Files that stand one after the other: each with what follows it, and its length. Only
-//! `count_files` and `file_length` have proof files: a loop's invariant and measure, and what a length
-//! has to do with a file.
+//! `count_files` and `file_length` have proof files: a loop's invariant and measure, and one goal,
+//! that a file stands at the front.
 ghost use Rattle.std.specs.Prelude.{◌≡◌, ◌<◌, ℕ, List, ◌++◌, length, Some, IfSome, IfOk};
 ghost use Rattle.qoi.specs.declared.chunk.Chunk.{Chunk};
 ghost use Rattle.qoi.specs.declared.header.Header.{Header};

@@ -1,5 +1,6 @@
 //! Callers that cut a rectangle out of a picture, in memory or while its rows are decoded, and that
-//! paste one into a picture. Proof files have the loops' invariants, and a line or two for each step.
+//! paste one into a picture. Proof files have the loops' invariants; `cut_rows` and `cut_file` have
+//! answers, too.
 ghost use Rattle.std.specs.Prelude.{◌≡◌, ◌+◌, ◌*◌, ◌≤◌, ◌<◌, ◌^◌, ℕ, List, [], ◌++◌, length, Some, IsTrue, IfOk, OnOk};
 ghost use Rattle.qoi.specs.declared.header.Header.{Header};
 ghost use Rattle.qoi.specs.Qoi.{channels_number};

@@ -1,5 +1,5 @@
 -- By the lemmas on rectangles.
-use Rattle.qoi.proofs.format.RectangleLaws.{rows_put, outside_put, same_picture, keeps_all}
+use Rattle.qoi.proofs.format.RectangleLaws.{rows_put, outside_put, same_picture, keeps_all, with_no_row, with_next_row, tile_stands, outside_tile}
 use Rattle.qoi.proofs.laws.rectangles.rows_are_put.Goals as goal
 
 pub returns : goal.returns
@@ -8,4 +8,8 @@ returns c = record {
   stays = λ stride top left rows size start old new row fits inside many is k. outside_put stride top left rows size old new row fits inside many is k;
   same = same_picture;
   all = keeps_all;
+  no_row = with_no_row;
+  next_row = with_next_row;
+  tile = tile_stands;
+  outside = outside_tile;
 }

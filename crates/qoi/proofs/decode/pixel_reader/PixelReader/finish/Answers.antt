@@ -1,14 +1,41 @@
 -- More bytes of the image are read, until none are left.
-use Rattle.std.proofs.Common.{◌≡◌, [], ◌++◌, take, Result, Ok, Err, IsErrOf, refl, sym, ap, ◌∙◌, subst, append_assoc, append-nil, arith}
+use Rattle.std.proofs.Common.{◌≡◌, List, ℕ, [], ◌++◌, take, Bool, true, false, IsTrue, Option, None, Some, IfSome, Result, Ok, Err, IsErrOf, refl, sym, ap, ◌∙◌, subst, append_assoc, append-nil, arith}
 use Rattle.std.proofs.lemmas.Result.{err_from_is_err_and}
 use Rattle.qoi.specs.declared.error.Error.TheVariants.{UnexpectedBufferEnd}
+use Rattle.qoi.specs.declared.error.Error.{Error}
 use Rattle.qoi.specs.Decoded.{HasDecoded}
-use Rattle.qoi.specs.PixelReader.{HasGiven, IsSpent}
+use Rattle.qoi.specs.DecoderState.{DecoderState}
+use Rattle.qoi.specs.Images.{front_image, front_rest}
+use Rattle.qoi.specs.Reading.{StandsAhead}
+use Rattle.qoi.specs.PixelReader.{as_decoder, HasGiven, IsSpent, RefusesPixels}
 use Rattle.qoi.proofs.decode.pixel_reader.PixelReader.finish.Goals as goal
 
 -- a success is no error
 not_err : {T E : Type 0} (r : Result T E) (x : T) (e : E) → r ≡ Ok x → IsErrOf r e → ⊥
 not_err r x e is h = cc
+
+-- what holds of a value if there is one
+if_some_of : (o : Option (List ℕ)) (Q : List ℕ → Type 0) → ((bytes : List ℕ) → o ≡ Some bytes → Q bytes) → IfSome o Q
+if_some_of None Q h = tt
+if_some_of (Some bytes) Q h = h bytes refl
+
+-- a decoded image stood ahead, and its decoder goes on behind it
+passed_of : {R : Type 0} (d : DecoderState R) (start now : Option (List ℕ)) (out : List ℕ) → HasDecoded d start now out
+    → IfSome start (λ bytes. StandsAhead d.header bytes × (now ≡ Some (front_rest d.header bytes)))
+unfolding StandsAhead
+passed_of d start now out h = if_some_of start _ (λ bytes known.
+    let (rest, left, image) = h.rest bytes known in
+    let is = subst (λ o. IfSome o (λ z. (out ≡ front_image d.channels d.header z) × (now ≡ Some (front_rest d.header z)))) known h.image in
+    ((image.cs, rest, image.whole), is.1))
+
+-- a refused image in memory didn't stand ahead
+missing_of : {R : Type 0} (in_memory : Bool) (d : DecoderState R) (start new : Option (List ℕ)) (e : Error) → IsTrue in_memory → RefusesPixels in_memory d start new e
+    → IfSome start (λ bytes. StandsAhead d.header bytes → ⊥)
+unfolding StandsAhead
+missing_of true d start new e held h = if_some_of start _ (λ bytes known stands.
+    let (cs, rest, whole) = stands in
+    h.not_whole held bytes rest cs known whole)
+missing_of false d start new e held h = absurd (cc)
 
 pub loop-buf-init : goal.loop-buf-init
 loop-buf-init g c = record {
@@ -43,6 +70,14 @@ returns-in_err-read-clause-refused g c d start given h =
     let (rest, before) = c.loop-buf.invariant.read d start given h in
     rw (p.1, p.2) (_, c.in_err-read.ensures.refused d start (given ++ rest) before)
 
+pub returns-in_err-read-clause-missing : goal.returns-in_err-read-clause-missing
+returns-in_err-read-clause-missing g c fresh held =
+    let p = err_from_is_err_and c.from_residual.result c.from_residual.ensures.1 in
+    let d = as_decoder c.args.self in
+    let start = g.R.Reader.ahead c.args.self.reader in
+    let (rest, before) = c.loop-buf.invariant.read d start [] fresh in
+    rw p.1 (missing_of g.R.Reader.in_memory d start _ _ held (c.in_err-read.ensures.refused d start rest before))
+
 pub returns-in_err-read-clause-again : goal.returns-in_err-read-clause-again
 returns-in_err-read-clause-again g c is =
     let p = err_from_is_err_and c.from_residual.result c.from_residual.ensures.1 in
@@ -54,6 +89,13 @@ pub returns-clause-finished : goal.returns-clause-finished
 returns-clause-finished g c d start given h =
     let (rest, all) = c.loop-buf.invariant.read d start given h in
     (rest, subst (λ z. HasDecoded d start (g.R.Reader.ahead z.reader) (given ++ rest)) (sym c.into_decoder.ensures) (all.whole (omega (arith, c.left.ensures, c.loop-buf-test.false))))
+
+pub returns-clause-passed : goal.returns-clause-passed
+returns-clause-passed g c fresh =
+    let d = as_decoder c.args.self in
+    let start = g.R.Reader.ahead c.args.self.reader in
+    let (rest, all) = returns-clause-finished g c d start [] fresh in
+    passed_of d start _ rest all
 
 pub returns-clause-same : goal.returns-clause-same
 returns-clause-same g c =

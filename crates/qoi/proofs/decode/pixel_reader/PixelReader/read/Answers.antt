@@ -1,12 +1,23 @@
 -- A piece more is given, or the image is refused.
-use Rattle.std.proofs.Common.{◌≡◌, ◌++◌, take, drop, length, arith, refl, sym, ap, ◌∙◌, subst}
-use Rattle.std.proofs.lemmas.List.{length-take-le}
+use Rattle.std.proofs.Common.{◌≡◌, ◌++◌, List, ℕ, Some, take, drop, length, arith, refl, sym, ap, ◌∙◌, subst}
+use Rattle.std.proofs.lemmas.List.{length-append, length-take, length-take-le, drop_at, drop-take}
 use lib.Seq.{take-append_seam}
+use Rattle.qoi.specs.declared.header.Header.{Header}
+use Rattle.qoi.specs.declared.types.Channels.{Channels}
+use Rattle.qoi.specs.Images.{front_image}
 use Rattle.qoi.specs.Qoi.{IsValid, pixel_count}
 use Rattle.qoi.specs.PixelReader.{PixelsState, HasGiven}
 use Rattle.qoi.specs.inner.Chunks.{RefusesChunks}
 use Rattle.qoi.proofs.decoding.PixelPieces.{byte_bounds, has_given, pieces_of, refuses_pixels}
 use Rattle.qoi.proofs.decode.pixel_reader.PixelReader.read.Goals as goal
+
+-- of the front of an image the piece after the first bytes is the image's
+piece_follows : (channels : Channels) (h : Header) (bytes given piece : List ℕ) → given ++ piece ≡ take (length (given ++ piece)) (front_image channels h bytes)
+    → piece ≡ take (length piece) (drop (length given) (front_image channels h bytes))
+piece_follows channels h bytes given piece front =
+    sym (drop_at given piece (length given) refl) ∙ ap (drop (length given)) front
+    ∙ ap (λ n. drop (length given) (take n (front_image channels h bytes))) (length-append given piece)
+    ∙ drop-take (length given) (length piece) (front_image channels h bytes)
 
 pub returns-in-Ok-clause-read : goal.returns-in-Ok-clause-read
 returns-in-Ok-clause-read g c d start given h =
@@ -25,6 +36,15 @@ returns-in-Ok-clause-read g c d start given h =
     let then : PixelsState _ = record { reader = e.reader; header = e.header; channels = e.channels; pieces = c.next_piece.new.pieces; refused = c.self.inside.refused } in
     subst (λ z. HasGiven d start (g.R.Reader.ahead e.reader) (given ++ z) then) (sym front)
     (has_given d start _ (given ++ out) then after (ap (λ s. s.header) same ∙ header) (ap (λ s. s.channels) same ∙ chosen) going (byte_bounds d.header d.channels valid).0)
+
+pub returns-in-Ok-clause-follows : goal.returns-in-Ok-clause-follows
+returns-in-Ok-clause-follows g c d bytes given h stands =
+    let size = c.min-size.result in
+    let piece = take size (c.next_piece.new.out ++ drop size c.args.buf.now) in
+    let many : length piece ≡ size =
+    omega (arith, c.next_piece.auto.out, length-take size c.args.buf.now, length-take size (c.next_piece.new.out ++ drop size c.args.buf.now), length-append c.next_piece.new.out (drop size c.args.buf.now), c.min-size.ensures) in
+    let after = returns-in-Ok-clause-read g c d (Some bytes) given h in
+    rw many at (piece_follows d.channels d.header bytes given piece (after.front stands))
 
 pub returns-in-Err-clause-refused : goal.returns-in-Err-clause-refused
 returns-in-Err-clause-refused g c d start given h =

@@ -5,7 +5,6 @@ use Rattle.qoi.specs.Reading.{StandsAhead}
 use Rattle.qoi_tool.proofs.tests.library.rectangles.cut_file.Goals as goal
 
 pub returns : goal.returns
-unfolding StandsAhead
 returns c h rest raw f =
     let d = c.in_ok-decoder.decoder in
     let file = c.args.file.now in
@@ -15,10 +14,10 @@ returns c h rest raw f =
     let same : d.header ≡ h = cc in
     let left = made.after in
     let after : d.reader ≡ drop header_size file = cc in
-    let stands : StandsAhead d.header d.reader = rw (same, after) (f.cs, rest, f.whole) in
+    let (whole, image, behind, stands_there) = c.images_are_functions.ensures.decoded file h rest raw f in
+    let stands : StandsAhead d.header d.reader = rw (same, after) stands_there in
     let tile = c.in_ok-tile.ensures d d.reader c.into_pixels.ensures.start stands in
     let ahead = made.image.0 in
-    let image = (c.images_are_functions.ensures.file file h rest raw f).0 in
     let size = c.in_ok-row.ensures.len in
     let lent = c.deref_mut.ensures.len in
     let counted = c.stride_of-stride.ensures in

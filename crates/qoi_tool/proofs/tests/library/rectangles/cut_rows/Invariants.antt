@@ -9,8 +9,10 @@ use Rattle.qoi_tool.proofs.tests.library.rectangles.cut_rows.Given as goal
 
 abbrev pub invariant-loop-k : goal.invariant-loop-k
 invariant-loop-k g l = record {
-  rows : (d : DecoderState _) (bytes : List ℕ) → HasGiven d (Some bytes) (g.R.Reader.ahead l.initial.pixels.reader) [] l.initial.pixels
-      → (given : List ℕ) × (length given ≡ length l.row * l.k) × HasGiven d (Some bytes) (g.R.Reader.ahead l.pixels.reader) given l.pixels;
+  given : List ℕ;
+  size : length given ≡ length l.row * l.k;
+  read : (d : DecoderState _) (bytes : List ℕ) → HasGiven d (Some bytes) (g.R.Reader.ahead l.initial.pixels.reader) [] l.initial.pixels
+      → HasGiven d (Some bytes) (g.R.Reader.ahead l.pixels.reader) given l.pixels;
   tile : (d : DecoderState _) (bytes : List ℕ) → HasGiven d (Some bytes) (g.R.Reader.ahead l.initial.pixels.reader) [] l.initial.pixels
       → StandsAhead d.header bytes
       → l.tile.items ≡ rectangle (length l.row) l.area.top l.area.left (l.k - l.area.top) l.area.size (front_image d.channels d.header bytes);
