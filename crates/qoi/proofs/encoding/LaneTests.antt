@@ -48,14 +48,10 @@ lanes_from n xs ys few e f =
     ∙ (λ i. take (sym rest i) (drop n xs ++ ys))
     ∙ take-append-add (drop n xs) ys n
 
--- the last of sixteen lanes
-last_lane : (xs : List ℕ) → length xs ≡ 16 → drop 15 xs ≡ slice_index xs 15 ∷ []
-last_lane (x0 ∷ x1 ∷ x2 ∷ x3 ∷ x4 ∷ x5 ∷ x6 ∷ x7 ∷ x8 ∷ x9 ∷ x10 ∷ x11 ∷ x12 ∷ x13 ∷ x14 ∷ x15 ∷ []) e = refl
-last_lane xs e = absurd (omega arith)
-
 -- a vector's lanes, one further on
 pub one_later : (xs ys : List ℕ) → length xs ≡ 16 → length ys ≡ 16 → pick_l 0 (xs ++ ys) (range_with_len 15 16) ≡ slice_index xs 15 ∷ take 15 ys
-one_later xs ys e f = lanes_from 15 xs ys (omega arith) e f ∙ ap (λ z. z ++ take 15 ys) (last_lane xs e)
+one_later (x0 ∷ x1 ∷ x2 ∷ x3 ∷ x4 ∷ x5 ∷ x6 ∷ x7 ∷ x8 ∷ x9 ∷ x10 ∷ x11 ∷ x12 ∷ x13 ∷ x14 ∷ x15 ∷ []) ys e f = lanes_from 15 (x0 ∷ x1 ∷ x2 ∷ x3 ∷ x4 ∷ x5 ∷ x6 ∷ x7 ∷ x8 ∷ x9 ∷ x10 ∷ x11 ∷ x12 ∷ x13 ∷ x14 ∷ x15 ∷ []) ys (omega arith) e f
+one_later xs ys e f = absurd (omega arith)
 
 -- what stands before the lanes of pixels is the pixel before them, and then they
 pub befores : (f : RgbaPixel → ℕ) (held : Past) (q : RgbaPixel) (ps : List RgbaPixel) → map (λ (l : Lane). f l.before) (lanes_of held q ps) ≡ take (length ps) (f q ∷ map f ps)

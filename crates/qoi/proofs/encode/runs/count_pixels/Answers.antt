@@ -1,5 +1,5 @@
 -- The loop ends at another pixel, or if none is left.
-use Rattle.std.proofs.Common.{◌≡◌, ◌≤◌, List, [], ◌∷◌, Some, length, drop, false, true, refl, sym, ap, ◌∙◌, arith}
+use Rattle.std.proofs.Common.{◌≡◌, List, [], ◌∷◌, Some, length, drop, false, true, refl, sym, ap, ◌∙◌, arith}
 use Rattle.std.proofs.lemmas.Option.{same_Some}
 use Rattle.std.specs.List.{slice_get}
 use Rattle.qoi.specs.Qoi.{RgbaPixel}
@@ -13,18 +13,12 @@ first_is : (p : RgbaPixel) (ps : List RgbaPixel) → slice_get ps 0 ≡ Some p �
 first_is p [] e = absurd (let no = e in cc)
 first_is p (q ∷ ps) e = ap (λ z. z ∷ ps) (same_Some _ _ e)
 
--- so there is one
-first_some : (p : RgbaPixel) (ps : List RgbaPixel) → slice_get ps 0 ≡ Some p → 1 ≤ length ps
-first_some p [] e = absurd (let no = e in cc)
-first_some p (q ∷ ps) e = omega arith
-
 pub skip-rest-requires : goal.skip-rest-requires
-skip-rest-requires g c = (omega arith, first_some c.args.px (pixels_in c.loop-rest.rest) (c.loop-rest-test.ensures.0 refl))
+skip-rest-requires g c = (omega arith, omega (arith, ap length (first_is c.args.px (pixels_in c.loop-rest.rest) (c.loop-rest-test.ensures.0 refl))))
 
 pub overflow_add-count : goal.overflow_add-count
 overflow_add-count g c =
-    let raw = c.args.raw in
-    omega (arith, c.skip-rest.ensures.size, c.loop-rest.invariant.within, pixels_few g.row.N raw.bytes.now raw.channels raw.whole)
+    omega (arith, c.skip-rest.ensures.size, c.loop-rest.invariant.within, pixels_few g.row.N c.args.raw.bytes.now c.args.raw.channels c.args.raw.whole)
 
 pub loop-rest-preserved : goal.loop-rest-preserved
 loop-rest-preserved g c =

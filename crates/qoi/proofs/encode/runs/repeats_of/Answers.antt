@@ -7,13 +7,6 @@ use Rattle.qoi.proofs.encoding.GroupRuns.{RepeatsSoFar, repeats_on, counted_on}
 use Rattle.qoi.proofs.encoding.PixelsIn.{pixels_few}
 use Rattle.qoi.proofs.encode.runs.repeats_of.Goals as goal
 
--- sixteen pixels repeat, and others come after them
-abbrev Repeats : RgbaPixel → List RgbaPixel → Type 0
-Repeats p rest = rest ≡ replicate 16 p ++ drop 16 rest
-
-block_more : (p : RgbaPixel) (rest after : List RgbaPixel) → Repeats p rest → after ≡ drop 16 rest → rest ≡ replicate 16 p ++ after
-block_more p rest after e d = e ∙ ap (λ z. replicate 16 p ++ z) (sym d)
-
 pub loop-rest-init : goal.loop-rest-init
 loop-rest-init g c = record { within = omega (arith, pixels_few g.row.N c.args.raw.bytes.now c.args.raw.channels c.args.raw.whole); same = refl }
 
@@ -26,9 +19,11 @@ pub loop-rest-preserved : goal.loop-rest-preserved
 loop-rest-preserved g c =
     let all : c.repeats_in_block-more.result ≡ 16 = omega (arith, c.repeats_in_block-more.ensures.within, c.if-more-lt16.false) in
     let after = c.skip-rest.ensures in
+    let p : RgbaPixel = c.args.pixel.px in
     subst (λ more. RepeatsSoFar (length c.args.raw.bytes.now) (pixels_in c.args.raw) (pixels_in c.skip-rest.result) c.args.pixel.px (c.loop-rest.count + more)) (sym all)
     (repeats_on (length c.args.raw.bytes.now) 16 (pixels_in c.args.raw) (pixels_in c.loop-rest.rest) (pixels_in c.skip-rest.result) c.args.pixel.px c.loop-rest.count c.loop-rest.invariant
-    after.size (block_more c.args.pixel.px _ _ (subst (λ r. Repeats c.args.pixel.px (pixels_in r)) c.front.ensures (c.repeats_in_block-more.ensures.all all)) after.rest))
+    after.size (subst (λ r. pixels_in r ≡ replicate 16 p ++ drop 16 (pixels_in r)) c.front.ensures (c.repeats_in_block-more.ensures.all all)
+    ∙ ap (λ (z : List RgbaPixel). replicate 16 p ++ z) (sym after.rest)))
 
 pub returns-clause-counted : goal.returns-clause-counted
 returns-clause-counted g c =
