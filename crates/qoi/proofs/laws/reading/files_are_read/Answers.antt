@@ -3,7 +3,7 @@ use Rattle.std.proofs.Common.{List, ℕ, ◌++◌, refl, sym, subst, ◌≡◌}
 use Rattle.qoi.specs.declared.header.Header.{Header}
 use Rattle.qoi.specs.declared.chunk.Chunk.{Chunk}
 use Rattle.qoi.specs.Images.{file_rest}
-use Rattle.qoi.specs.Qoi.{AreBytes, IsFile, file, header_size, header_of}
+use Rattle.qoi.specs.Qoi.{IsFile, file}
 use Rattle.qoi.specs.Reading.{StandsAhead}
 use Rattle.qoi.proofs.decoding.FrontImage.{file_rest_is}
 use Rattle.qoi.proofs.decoding.OneFile.{file_has_header, file_is_whole, file_from_whole, decodes_file}
