@@ -58,13 +58,11 @@ pub(super) fn decode_chunk<const N: usize, const F: usize, const RUN_FITS: bool,
     ensures below { at + RUN_ROOM ≤ length out.old → result.at < length out.new }
 {
     let b1 = bytes[0];
-    let (last, taken) = match b1 {
-        QOI_OP_RGB => (last.after_full(bytes), 4),
-        QOI_OP_RGBA => (last.after_full(bytes), 5),
-        _ => {
-            let size = 1 + usize::from(is_luma(b1));
-            (last.after_short(table, b1 as usize, bytes[1]), size)
-        }
+    let (last, taken) = if b1 < QOI_OP_RGB {
+        let size = 1 + usize::from(is_luma(b1));
+        (last.after_short(table, b1 as usize, bytes[1]), size)
+    } else {
+        (last.after_full(bytes), 4 + usize::from(b1 == QOI_OP_RGBA))
     };
     table.put(last);
     let size = advance::<N>(b1 as usize);

@@ -158,7 +158,8 @@ pub(super) fn fill<const N: usize, const F: usize, const RUN_FITS: bool>(
     ensures below { at + RUN_ROOM ≤ length out.old → result < length out.new }
 {
     let room = known_room::<RUN_FITS>(out.len(), at);
-    if count <= BLOCK / N {
+    // By the size, so that `count` is computed for long runs alone.
+    if size <= BLOCK {
         if BLOCK <= room {
             write_block::<N, F>(out, at, px);
             return at + size;
@@ -167,7 +168,7 @@ pub(super) fn fill<const N: usize, const F: usize, const RUN_FITS: bool>(
         write_run::<N, F>(out, at, px, count);
         return at + size;
     }
-    let all = count.min(room / N);
+    let all = (size / N).min(room / N);
     write_pixels::<N, F>(out, at, px, all);
     at + N * all
 }

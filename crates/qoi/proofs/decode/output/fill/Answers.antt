@@ -1,18 +1,27 @@
 -- The copies are written; if there isn't room for all, the buffer becomes full.
-use Rattle.std.proofs.Common.{ℕ, ◌*◌, ◌<◌, ◌≤◌, length, arith}
+use Rattle.std.proofs.Common.{◌≡◌, ℕ, ◌*◌, ◌/◌, ◌<◌, ◌≤◌, length, arith, ap, ◌∙◌}
 use Rattle.qoi.specs.Raw.{IsChannels}
 use Rattle.qoi.specs.inner.Hashed.{pixel_of_lanes}
 use Rattle.qoi.proofs.format.WholePixels.{by_channels}
 use Rattle.qoi.proofs.decoding.FilledBuffer.{filled_copies, filled_end, block_fits, run_fits, copies_fit, copies_end}
-use Rattle.qoi.proofs.decode.output.fill.Goals.{then-count+else-room-ge-BLOCK, else-count+else-room-ge-RUN_ROOM}
+use Rattle.qoi.proofs.decode.output.fill.Goals.{then-size-le-BLOCK+else-room-ge-BLOCK, else-size-le-BLOCK+else-room-ge-RUN_ROOM}
 use Rattle.qoi.proofs.decode.output.fill.Goals as goal
+
+-- a block holds the pixels
+in_block : (c k size : ℕ) → IsChannels c → size ≡ c * k → size ≤ 16 → k ≤ 16 / c
+in_block c k size is e most = by_channels (λ d. d * k ≤ 16 → k ≤ 16 / d) is (λ l. omega arith) (λ l. omega arith) (omega (arith, e, most))
+
+-- how many pixels have so many bytes
+pixels_of : (c k size : ℕ) → IsChannels c → size ≡ c * k → size / c ≡ k
+pixels_of c k size is e = ap (λ z. z / c) e ∙ by_channels (λ d. d * k / d ≡ k) is (omega arith) (omega arith)
 
 pub returns-then-room-ge-BLOCK-clause-filled : goal.returns-then-room-ge-BLOCK-clause-filled
 returns-then-room-ge-BLOCK-clause-filled g c n past h =
     let at = c.args.at in
     let count = c.args.count in
-    let fits = block_fits g.row.N at count (length c.args.out.now) c.requires.channels c.if-count.true (omega (arith, c.if-room-ge-BLOCK.true, c.requires.inside)) in
-    rw c.requires.size (filled_copies g.row.F g.row.N n c.args.out.now c.write_block.new.out at count _ past c.requires.channels c.requires.inside fits c.write_block.auto.out (c.write_block.ensures count c.if-count.true) h)
+    let few = in_block g.row.N count c.args.size c.requires.channels c.requires.size c.if-size-le-BLOCK.true in
+    let fits = block_fits g.row.N at count (length c.args.out.now) c.requires.channels few (omega (arith, c.if-room-ge-BLOCK.true, c.requires.inside)) in
+    rw c.requires.size (filled_copies g.row.F g.row.N n c.args.out.now c.write_block.new.out at count _ past c.requires.channels c.requires.inside fits c.write_block.auto.out (c.write_block.ensures count few) h)
 
 pub returns-then-room-ge-RUN_ROOM-clause-filled : goal.returns-then-room-ge-RUN_ROOM-clause-filled
 returns-then-room-ge-RUN_ROOM-clause-filled g c n past h =
@@ -28,13 +37,14 @@ returns-clause-filled g c n past h =
     let all = c.min-all.result in
     let is = c.requires.channels in
     let within : at ≤ size = omega (arith, c.requires.inside) in
-    let few : c.known_room-room.result < 256 = elim c.if-count.branch [ then-count+else-room-ge-BLOCK w ↦ omega arith | else-count+else-room-ge-RUN_ROOM w ↦ omega arith ] in
+    let quot = pixels_of g.row.N c.args.count c.args.size is c.requires.size in
+    let few : c.known_room-room.result < 256 = elim c.if-size-le-BLOCK.branch [ then-size-le-BLOCK+else-room-ge-BLOCK w ↦ omega arith | else-size-le-BLOCK+else-room-ge-RUN_ROOM w ↦ omega arith ] in
     let left = c.known_room-room.ensures.all few in
     let ends = copies_end g.row.N at c.args.count size is c.requires.whole.0 c.requires.whole.1 within in
-    filled_end g.row.F g.row.N n c.write_pixels.new.out _ all c.args.count (pixel_of_lanes c.args.px) past is (omega (arith, c.min-all.ensures))
-    (rw (c.min-all.ensures, left, c.write_pixels.auto.out) ends)
+    filled_end g.row.F g.row.N n c.write_pixels.new.out _ all c.args.count (pixel_of_lanes c.args.px) past is (omega (arith, c.min-all.ensures, quot))
+    (rw (c.min-all.ensures, quot, left, c.write_pixels.auto.out) ends)
     (filled_copies g.row.F g.row.N n c.args.out.now c.write_pixels.new.out at all _ past is c.requires.inside
-    (rw (c.min-all.ensures, left) (copies_fit g.row.N at c.args.count size is within)) c.write_pixels.auto.out c.write_pixels.ensures h)
+    (rw (c.min-all.ensures, quot, left) (copies_fit g.row.N at c.args.count size is within)) c.write_pixels.auto.out c.write_pixels.ensures h)
 
 -- the pixels of a run have fewer bytes than any run's blocks
 run_below : (c k : ℕ) → IsChannels c → k ≤ 62 → c * k ≤ 248
@@ -50,5 +60,5 @@ returns-then-room-ge-RUN_ROOM-clause-below g c room =
 
 pub returns-clause-below : goal.returns-clause-below
 returns-clause-below g c room =
-    let few : c.min-all.result ≤ 62 = omega (arith, c.min-all.ensures, c.requires.some) in
+    let few : c.min-all.result ≤ 62 = omega (arith, c.min-all.ensures, pixels_of g.row.N c.args.count c.args.size c.requires.channels c.requires.size, c.requires.some) in
     omega (arith, room, run_below g.row.N c.min-all.result c.requires.channels few, c.write_pixels.auto.out)
