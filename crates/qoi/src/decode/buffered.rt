@@ -106,7 +106,7 @@ impl<R: BufRead, const N: usize, const F: usize> Chunks<N, F> for Buffered<R> {
 
     ghost in_memory = { false };
 
-    #[inline(never)]
+    #[inline(always)]
     fn some_chunks(
         &mut self,
         table: &mut TermTable,

@@ -127,7 +127,7 @@ impl<'a, const N: usize, const F: usize> Chunks<N, F> for Bytes<'a> {
 
     ghost in_memory = { true };
 
-    #[inline(never)]
+    #[inline(always)]
     fn some_chunks(
         &mut self,
         table: &mut TermTable,
