@@ -106,7 +106,6 @@ impl<R: BufRead, const N: usize, const F: usize> Chunks<N, F> for Buffered<R> {
 
     ghost in_memory = { false };
 
-    // First what the buffer shows: a call that goes on in the middle of it seldom reads a chunk.
     #[inline(always)]
     fn some_chunks(
         &mut self,
@@ -115,8 +114,7 @@ impl<R: BufRead, const N: usize, const F: usize> Chunks<N, F> for Buffered<R> {
         out: &mut [u8],
         at: usize,
     ) -> Result<Reached> {
-        let first = chunks_in_buffer::<R, N, F>(&mut self.0, table, last, out, at)?;
-        let now = decode_chunks::<R, N, F, true>(&mut self.0, table, first.last, out, first.at)?;
+        let now = decode_chunks::<R, N, F, true>(&mut self.0, table, last, out, at)?;
         Ok(now)
     }
 

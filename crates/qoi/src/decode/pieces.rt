@@ -14,12 +14,11 @@ use crate::decode::table::TermTable;
 use crate::error::Result;
 
 /// How many bytes are decoded at once where a piece has no room for the blocks of any run: whole
-/// pixels of three channels and of four. Few, so that the copy of a piece goes to memory while the
-/// next ones are decoded.
-const KEPT: usize = 1296;
+/// pixels of three channels and of four.
+const KEPT: usize = 3072;
 
 /// A piece of at least so many bytes is decoded in place.
-const IN_PLACE: usize = 1040;
+const IN_PLACE: usize = 1536;
 
 /// What stands between two pieces of an image: the table, the last pixel, bytes that are decoded
 /// and weren't given yet, and how many bytes aren't decoded.

@@ -139,7 +139,7 @@ impl<R: BufRead> PieceReader for Buffered<R> {
 }
 
 /// Hands out the raw bytes of one image piece by piece, so that it needn't fit into memory (QOI
-/// specification 1.0, "Data" and "Chunks"). Nothing is allocated; a reader has some 3 KB.
+/// specification 1.0, "Data" and "Chunks"). Nothing is allocated; a reader has some 5 KB.
 ///
 /// A contract sees the reader, the header, the channels of the output, what stands between two
 /// pieces, and whether the image was refused.

@@ -121,7 +121,7 @@ fn pieces_of_long_images(rt: HostRuntime) {
     for channels in [Channels::Rgb, Channels::Rgba] {
         for width in [1u32, 2, 85, 86, 256, 900, 6000] {
             let image = drawn_row(&rt, alloc, 0x10a6, width, channels);
-            for most in [255, 1039, 1040, 1043, 1296, 4096, 20000, image.raw.len()] {
+            for most in [255, 1535, 1536, 1539, 3072, 4096, 20000, image.raw.len()] {
                 for changing in [false, true] {
                     let lengths = Lengths { most, changing };
                     assert_pieces(&rt, alloc, &image.file, channels, &image.raw, lengths);
@@ -144,7 +144,7 @@ fn pieces_in_other_channels(rt: HostRuntime) {
         let image = Image::of(alloc, row(2000, own), Style::Reference, &pixels);
         let image = image.expect(&rt, "refused");
         let raw = seen_raw(alloc, &pixels, own, channels).expect(&rt, "refused");
-        for most in [1, 7, 1040, 5000usize] {
+        for most in [1, 7, 1536, 5000usize] {
             let lengths = Lengths {
                 most,
                 changing: true,
@@ -226,7 +226,7 @@ fn wrong_markers(rt: HostRuntime) {
         if let Some(byte) = file.get_mut(at) {
             *byte ^= 2;
         }
-        for size in [1usize, 255, 1040, 6000] {
+        for size in [1usize, 255, 1536, 6000] {
             let mut buf = vec![in alloc; 0u8; size].expect(&rt, "refused");
             let mut slice = Decoder::new(&file).expect(&rt, "refused").into_pixels();
             let (refusal, left) = refusal_of(&mut slice, &mut buf);

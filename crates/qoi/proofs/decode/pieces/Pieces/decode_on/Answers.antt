@@ -13,13 +13,13 @@ use Rattle.qoi.proofs.decode.pieces.Pieces.decode_on.Goals as goal
 
 -- all room is lent
 all_lent : {f c n : ℕ} {start old : Option (List ℕ)} {given : List ℕ} (p : Pieces) → IsChannels c → GivesPieces f c n start old given p
-    → p.from ≡ p.to → length p.bytes ≡ 1296 → 1296 < p.undecoded → Lent f c n (1296 / c) start old given p p.bytes
+    → p.from ≡ p.to → length p.bytes ≡ 3072 → 3072 < p.undecoded → Lent f c n (3072 / c) start old given p p.bytes
 all_lent {c = c} p is h same size long =
-    lent (1296 / c) p.bytes is h same (omega (arith, long)) (size ∙ by_channels (λ k. 1296 ≡ k * (1296 / k)) is refl refl) (omega (arith, size, long))
+    lent (3072 / c) p.bytes is h same (omega (arith, long)) (size ∙ by_channels (λ k. 3072 ≡ k * (3072 / k)) is refl refl) (omega (arith, size, long))
 
 -- room for the rest is
 rest_lent : {f c n : ℕ} {start old : Option (List ℕ)} {given : List ℕ} (p : Pieces) → IsChannels c → GivesPieces f c n start old given p
-    → p.from ≡ p.to → length p.bytes ≡ 1296 → 0 < p.undecoded → p.undecoded ≤ 1296
+    → p.from ≡ p.to → length p.bytes ≡ 3072 → 0 < p.undecoded → p.undecoded ≤ 3072
     → Lent f c n (p.undecoded / c) start old given p (take p.undecoded p.bytes)
 rest_lent {c = c} p is h same size some short =
     let front = length-take-le p.undecoded p.bytes (omega (arith, size, short)) in
@@ -27,9 +27,9 @@ rest_lent {c = c} p is h same size some short =
 
 pub some_chunks-requires-clause-whole : goal.some_chunks-requires-clause-whole
 some_chunks-requires-clause-whole g c =
-    let size : length c.args.self.now.bytes ≡ 1296 = omega arith in
-    times_whole g.row.N (1296 / g.row.N) (length c.args.self.now.bytes) c.requires.channels
-    (size ∙ by_channels (λ k. 1296 ≡ k * (1296 / k)) c.requires.channels refl refl)
+    let size : length c.args.self.now.bytes ≡ 3072 = omega arith in
+    times_whole g.row.N (3072 / g.row.N) (length c.args.self.now.bytes) c.requires.channels
+    (size ∙ by_channels (λ k. 3072 ≡ k * (3072 / k)) c.requires.channels refl refl)
 
 pub returns-then-self-gt-KEPT-clause-pixels : goal.returns-then-self-gt-KEPT-clause-pixels
 returns-then-self-gt-KEPT-clause-pixels g c = (
@@ -48,7 +48,7 @@ returns-in_err-now-clause-refused g c n start given h =
 
 pub returns-then-self-gt-KEPT-clause-read : goal.returns-then-self-gt-KEPT-clause-read
 returns-then-self-gt-KEPT-clause-read g c n start given h =
-    let size : length c.args.self.now.bytes ≡ 1296 = omega arith in
+    let size : length c.args.self.now.bytes ≡ 3072 = omega arith in
     let l = all_lent c.args.self.now c.requires.channels h c.requires.none size (omega (arith, c.if-self-gt-KEPT.true)) in
     kept_read c.some_chunks.new.out _ c.requires.channels h c.requires.none l (c.in_ok-now.ensures.between l.gone _ _ l.before)
     (c.in_ok-now.ensures.below (omega (arith, size))) (omega (arith, size, c.some_chunks.auto.out, c.if-self-gt-KEPT.true))
@@ -63,8 +63,8 @@ returns-in_err-rest_of_image-clause-refused g c n start given h =
 
 pub returns-clause-read : goal.returns-clause-read
 returns-clause-read g c n start given h =
-    let size : length c.args.self.now.bytes ≡ 1296 = omega arith in
-    let short : c.args.self.now.undecoded ≤ 1296 = omega (arith, c.if-self-gt-KEPT.false) in
+    let size : length c.args.self.now.bytes ≡ 3072 = omega arith in
+    let short : c.args.self.now.undecoded ≤ 3072 = omega (arith, c.if-self-gt-KEPT.false) in
     let l = rest_lent c.args.self.now c.requires.channels h c.requires.none size c.requires.some short in
     rest_read c.rest_of_image.new.out c.requires.channels h c.requires.none l (c.in_ok-rest_of_image.ensures.read l.gone _ _ l.before)
     (omega (arith, short, size, c.rest_of_image.auto.out)) (rest_whole c.requires.channels h c.requires.none c.requires.some)

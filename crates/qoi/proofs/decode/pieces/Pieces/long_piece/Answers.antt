@@ -9,7 +9,7 @@ use Rattle.qoi.proofs.decode.pieces.Pieces.long_piece.Goals as goal
 
 -- the whole pixels at the front are lent
 front_lent : {f c n : ℕ} {start old : Option (List ℕ)} {given : List ℕ} (p : Pieces) (out : List ℕ) → IsChannels c → GivesPieces f c n start old given p
-    → p.from ≡ p.to → length out ≤ bytes_left p → 1040 ≤ length out
+    → p.from ≡ p.to → length out ≤ bytes_left p → 1536 ≤ length out
     → Lent f c n (length out / c) start old given p (take (length out / c * c) out)
 front_lent {c = c} p out is h none fits long =
     let most = front_most c out is in
@@ -32,7 +32,7 @@ returns-in_err-now-clause-refused g c n start given h =
 pub returns-clause-read : goal.returns-clause-read
 returns-clause-read g c n start given h =
     let out = c.args.out.now in
-    let long : 1040 ≤ length out = omega (arith, c.if-out-lt-IN_PLACE.false) in
+    let long : 1536 ≤ length out = omega (arith, c.if-out-lt-IN_PLACE.false) in
     let l = front_lent c.args.self.now out c.requires.channels h c.requires.none c.requires.fits long in
     let most = front_most g.row.N out c.requires.channels in
     let same = c.requires.none in

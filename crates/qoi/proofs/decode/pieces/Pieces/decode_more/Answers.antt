@@ -1,1 +1,0 @@
--- A long piece, and what is kept for the rest.
