@@ -20,7 +20,7 @@ use crate::error::Result;
 use crate::types::Channels::{self, Rgb, Rgba};
 use crate::types::Style::{self, Places, Reference, Tight};
 use crate::utils::copy_after;
-use crate::writers::GenericWriter;
+use crate::writers::{GenericWriter, Writer};
 use std::io::Write;
 
 // Sends a full piece to a writer of the standard library; the bytes after it are kept.
@@ -39,16 +39,16 @@ fn send_piece<W: Write, const ROOM: usize>(writer: &mut W, piece: &mut Piece<ROO
     Ok(())
 }
 
-// Sends what a piece keeps to a writer of the standard library.
+/// Sends bytes to a writer of the standard library.
 #[inline(never)]
-fn send_all<W: Write, const ROOM: usize>(writer: &mut W, piece: &mut Piece<ROOM>) -> Result<()>
+pub(super) fn send_bytes<W: Write>(writer: &mut W, bytes: &[u8]) -> Result<()>
     ensures written { OnOk result
-        (Appends (W.contents writer.old) (W.contents writer.new) (kept_bytes piece.old)) }
+        (Appends (W.contents writer.old) (W.contents writer.new) bytes.now) }
     ensures refused { IfErr result (λ e. IsIoError e × AppendsBeginning
-        (W.contents writer.old) (W.contents writer.new) (kept_bytes piece.old)) }
+        (W.contents writer.old) (W.contents writer.new) bytes.now) }
 {
     let mut writer = GenericWriter::new(writer);
-    piece.flush(&mut writer)?;
+    writer.write_many(bytes)?;
     Ok(())
 }
 
@@ -194,7 +194,7 @@ fn take_raw<W: Write, const N: usize, const STYLE: u8, const ROOM: usize>(
         (rest, piece) = write_more::<W, N, STYLE, ROOM>(writer, style, pending, held, piece, rest)?;
     }
     held.push(rest);
-    send_all(writer, &mut piece.piece)?;
+    send_bytes(writer, piece.piece.kept())?;
     Ok(())
 }
 

@@ -159,15 +159,12 @@ impl<'a, const ROOM: usize> Piece<'a, ROOM> {
         Ok(())
     }
 
-    /// Sends all the bytes to a writer. Doesn't empty the piece.
+    /// The bytes.
     #[inline(always)]
-    pub(super) fn flush<W: Writer>(&mut self, writer: &mut W) -> Result<()>
-        requires { self.old.end ≤ W.room writer.old }
-        ensures written { OnOk result (W.wrote writer.old (kept_bytes self.old) writer.new) }
-        ensures refused { IfErr result (λ e. W.IsFault e
-            × WroteBeginning W.wrote writer.old (kept_bytes self.old) writer.new) }
+    pub(super) fn kept(&self) -> &[u8]
+        ensures { result.now ≡ kept_bytes self.now }
     {
-        send_kept::<W, ROOM>(writer, self.bytes, self.end)
+        &self.bytes[..self.end]
     }
 
     /// Sends all the bytes to a writer, and then the end marker. Doesn't empty the piece.

@@ -3,32 +3,20 @@ ghost use Rattle.std.specs.Prelude.{◌≡◌, ℕ, ◌+◌, ◌*◌, ◌%◌, �
 ghost use Rattle.std.specs.Io.KnownBytes.{Appends};
 ghost use Rattle.qoi.specs.declared.error.Error.{Error};
 ghost use Rattle.qoi.specs.declared.types.Channels.{Channels};
-ghost use Rattle.qoi.specs.Qoi.{IsValid, channels_number, header_bytes, tried_header};
+ghost use Rattle.qoi.specs.Qoi.{IsValid, channels_number, tried_header};
 ghost use Rattle.qoi.specs.Raw.{image_byte_count};
 ghost use Rattle.qoi.specs.EncoderState.{EncoderState};
 ghost use Rattle.qoi.specs.Errors.{IsIoError};
 
 use crate::consts::QOI_HEADER_SIZE;
-use crate::encode::parts::{take_any, write_any};
+use crate::encode::parts::{send_bytes, take_any, write_any};
 use crate::encode::pending::Kept;
 use crate::error::{Error, Result};
 use crate::header::Header;
 use crate::types::Style;
-use crate::writers::{GenericWriter, Writer};
 use std::alloc::Global;
 use std::io;
 use std::io::{ErrorKind, Write};
-
-// Sends the header to a writer of the standard library.
-fn send_header<W: Write>(writer: &mut W, header: &Header) -> Result<()>
-    ensures written { OnOk result
-        (Appends (W.contents writer.old) (W.contents writer.new) (header_bytes header.now)) }
-    ensures refused { IfErr result IsIoError }
-{
-    let mut writer = GenericWriter::new(writer);
-    writer.write_many(&header.encode()[..QOI_HEADER_SIZE])?;
-    Ok(())
-}
 
 /// Writes the file of one image, whose raw bytes come piece by piece: that of `Encoder` for all of
 /// them, in memory that doesn't grow with the image.
@@ -72,7 +60,7 @@ impl<W: Write + Drop> PixelWriter<W> {
         )?;
         let kept = Box::new(alloc, Kept::new())?;
         let mut writer = writer;
-        send_header(&mut writer, &header)?;
+        send_bytes(&mut writer, &header.encode()[..QOI_HEADER_SIZE])?;
         Ok(PixelWriter {
             writer,
             header,
@@ -111,9 +99,9 @@ impl<W: Write + Drop> PixelWriter<W> {
     }
 
     /// Takes the next raw bytes, any number of them. Up to 8,256 are held, so that several short
-    /// rows are encoded at once. If there is no room for these, or they are more than 4,128, those
-    /// that were held are encoded and sent, and if they are many, these too, but for fewer than
-    /// sixteen pixels. Repeats whose run may go on aren't sent. It doesn't flush.
+    /// rows are encoded at once. If there is no room for these, those that are held are encoded and
+    /// sent. More than 4,128 are never held: they are encoded and sent, too, but for fewer than
+    /// sixteen pixels. Repeats whose run may go on aren't sent yet. It doesn't flush.
     ///
     /// `InvalidImageLength`, with the number of all bytes that came, if there are more than the
     /// image has; then none of them is taken. `IoError` if the writer reports a fault or takes no byte;

@@ -1,7 +1,9 @@
 -- What came is written or held.
 use Rattle.std.proofs.Common.{◌++◌, [], length, sym, ap, ◌∙◌, arith, subst, append_assoc}
 use Rattle.std.proofs.lemmas.Result.{err_from_is_err_and}
+use Rattle.std.specs.Io.KnownBytes.{Appends}
 use Rattle.qoi.specs.Raw.{pixels_of}
+use Rattle.qoi.specs.writers.Writes.{AppendsBeginning}
 use Rattle.qoi.specs.inner.Pending.{ImageBetween}
 use Rattle.qoi.proofs.encoding.ImagePieces.{fills_block, has_block, image_part, image_emptied}
 use Rattle.qoi.proofs.encode.parts.take_raw.Goals as goal
@@ -34,14 +36,16 @@ loop-style-preserved g c =
       written = λ e before more style b. step.written e before more style (c.loop-style.invariant.written e before more style b);
     }
 
-pub returns-in_err-send_all-clause-refused : goal.returns-in_err-send_all-clause-refused
-returns-in_err-send_all-clause-refused g c =
-    let e = err_from_is_err_and c.from_residual-in_err-send_all.result c.from_residual-in_err-send_all.ensures.1 in
-    let r = c.in_err-send_all.ensures.refused in
-    rw (e.1, e.2) (r.0, λ e before more style b. image_part (c.loop-style.invariant.written e before more style b) (g.W.Write.contents c.send_all.new.writer) r.1)
+pub returns-in_err-send_bytes-clause-refused : goal.returns-in_err-send_bytes-clause-refused
+returns-in_err-send_bytes-clause-refused g c =
+    let e = err_from_is_err_and c.from_residual-in_err-send_bytes.result c.from_residual-in_err-send_bytes.ensures.1 in
+    let r = c.in_err-send_bytes.ensures.refused in
+    let all = subst (AppendsBeginning (g.W.Write.contents c.loop-style.writer) (g.W.Write.contents c.send_bytes.new.writer)) c.kept.ensures r.1 in
+    rw (e.1, e.2) (r.0, λ e before more style b. image_part (c.loop-style.invariant.written e before more style b) (g.W.Write.contents c.send_bytes.new.writer) all)
 
 pub returns-clause-written : goal.returns-clause-written
 returns-clause-written g c = λ e before more style b.
-    let sent = image_emptied (c.loop-style.invariant.written e before more style b) (g.W.Write.contents c.send_all.new.writer) c.in_ok-send_all.ensures.written in
-    subst (λ x. ImageBetween e before (g.W.Write.contents c.send_all.new.writer) x c.loop-style.pending [])
+    let all = subst (Appends (g.W.Write.contents c.loop-style.writer) (g.W.Write.contents c.send_bytes.new.writer)) c.kept.ensures c.in_ok-send_bytes.ensures.written in
+    let sent = image_emptied (c.loop-style.invariant.written e before more style b) (g.W.Write.contents c.send_bytes.new.writer) all in
+    subst (λ x. ImageBetween e before (g.W.Write.contents c.send_bytes.new.writer) x c.loop-style.pending [])
     (ap (pixels_of g.row.N) (sym (append_assoc c.loop-style.held c.loop-style.rest.now more) ∙ ap (λ z. z ++ more) (sym c.push.ensures))) sent

@@ -47,12 +47,12 @@ returns-clause-made g c =
       writes = λ more size are.
           let e : EncoderState = record { raw = more; header = c.args.header; style = c.args.style } in
           let n = channels_number h.channels in
-          let sent = subst (λ k. Appends (g.W.Write.contents c.args.writer) (g.W.Write.contents c.send_header.new.writer) (header_bytes k)) (sym said.0) c.in_ok-send_header.ensures.written in
+          let sent = subst (λ k. Appends (g.W.Write.contents c.args.writer) (g.W.Write.contents c.send_bytes.new.writer) (header_bytes k)) (sym said.0) (subst (Appends (g.W.Write.contents c.args.writer) (g.W.Write.contents c.send_bytes.new.writer)) c.encode.ensures c.in_ok-send_bytes.ensures.written) in
           let kept = c.new.result in
-          let start = image_starts e (g.W.Write.contents c.args.writer) (g.W.Write.contents c.send_header.new.writer) kept.pending are sent
+          let start = image_starts e (g.W.Write.contents c.args.writer) (g.W.Write.contents c.send_bytes.new.writer) kept.pending are sent
           c.new.ensures.last.1 (c.new.ensures.state c.args.style) in
-          let here = subst (λ x. ImageBetween e (g.W.Write.contents c.args.writer) (g.W.Write.contents c.send_header.new.writer) (pixels_of n (x ++ more)) kept.pending [])
-          (sym c.new.ensures.held) (subst (λ (k : Header). ImageBetween e (g.W.Write.contents c.args.writer) (g.W.Write.contents c.send_header.new.writer) (pixels_of (channels_number k.channels) more) kept.pending []) said.0 start) in
-          subst (λ (k : Kept). ImageBetween e (g.W.Write.contents c.args.writer) (g.W.Write.contents c.send_header.new.writer) (pixels_of n (k.held ++ more)) k.pending [])
+          let here = subst (λ x. ImageBetween e (g.W.Write.contents c.args.writer) (g.W.Write.contents c.send_bytes.new.writer) (pixels_of n (x ++ more)) kept.pending [])
+          (sym c.new.ensures.held) (subst (λ (k : Header). ImageBetween e (g.W.Write.contents c.args.writer) (g.W.Write.contents c.send_bytes.new.writer) (pixels_of (channels_number k.channels) more) kept.pending []) said.0 start) in
+          subst (λ (k : Kept). ImageBetween e (g.W.Write.contents c.args.writer) (g.W.Write.contents c.send_bytes.new.writer) (pixels_of n (k.held ++ more)) k.pending [])
           (sym c.in_ok-kept.ensures.ok) here;
     }
