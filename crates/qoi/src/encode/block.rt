@@ -1,6 +1,5 @@
 //! Sixteen pixels, a block, and the chunks of a block, but for the repeats that it ends with.
 ghost use Rattle.std.specs.Prelude.{◌≡◌, ℕ, Bool, false, ◌+◌, ◌-◌, ◌<◌, List, ◌++◌, map, take, slice_index, slice_index_or, ◌/◌, ◌%◌, IsTrue, IsFalse};
-ghost use Rattle.qoi.specs.declared.encode.block.TheConstants.{BLOCK_ROOM};
 ghost use Rattle.qoi.specs.declared.types.Style.TheVariants.{Places, Tight};
 ghost use Rattle.qoi.specs.Qoi.{RgbaPixel, IsPixel, hash};
 ghost use Rattle.qoi.specs.Raw.{IsChannels};
@@ -30,10 +29,6 @@ use crate::encode::table::PixelTable;
 use crate::packed::Packed;
 use crate::types::Style::{self, Places, Reference, Tight};
 use std::simd::prelude::*;
-
-/// The room for a block's chunks and the run before them, which have 81 bytes at most, and for what
-/// is stored after them and means nothing.
-pub(super) const BLOCK_ROOM: usize = 96;
 
 /// Sixteen pixels, packed and in planes, and the changes from the pixels before them.
 #[derive(Clone, Copy)]
