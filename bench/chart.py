@@ -33,7 +33,7 @@ def svg(found, head):
     """The picture. `found` has the ratio of each kind of picture for each row."""
     kinds = list(next(iter(found.values())))
     most = max(max(it.values()) for it in found.values())
-    width, height = LEFT + int(most * UNIT) + 45, TOP + len(found) * (len(kinds) * BAR + GAP) + 24
+    width, height = LEFT + int(most * UNIT) + 45, TOP + len(found) * (len(kinds) * BAR + GAP) + 40
     lines = list(legend(kinds))
     y = TOP
     for name, by in found.items():
@@ -44,7 +44,8 @@ def svg(found, head):
         y += GAP
     one = LEFT + UNIT
     lines.append(f'<line x1="{one}" y1="{TOP - 8}" x2="{one}" y2="{y - 4}" stroke="#b03030" stroke-dasharray="4 3"/>')
-    lines.append(text(LEFT, y + 10, "1: the faster of the C library and the Rust crate; of calls over a writer or reader, the crate"))
+    lines.append(text(LEFT, y + 10, "1: the faster of the C library and the Rust crate"))
+    lines.append(text(LEFT, y + 25, "(of calls over a writer or a reader, the crate)"))
     body = "\n".join(lines)
     return (f'<svg xmlns="http://www.w3.org/2000/svg" width="{width}" height="{height}" font-family="sans-serif" '
             f'font-size="12">\n<title>{head}</title>\n<rect width="100%" height="100%" fill="white"/>\n{body}\n</svg>\n')
