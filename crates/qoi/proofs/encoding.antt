@@ -44,7 +44,6 @@ pub mod LaneStamps
 pub mod LaneTests
 pub mod Lanewise
 pub mod LastCount
-pub mod LastOfPlanes
 pub mod NamedLanes
 pub mod OpaqueBlock
 pub mod OverlaidRuns

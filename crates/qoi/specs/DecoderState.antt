@@ -1,8 +1,8 @@
 -- What a contract sees of a decoder.
-use Rattle.std.specs.Prelude.{ℕ, ◌+◌, ◌*◌, ◌≤◌, List, Option, length}
+use Rattle.std.specs.Prelude.{ℕ, ◌≤◌, List, Option, length}
 use Rattle.qoi.specs.declared.types.Channels.{Channels}
 use Rattle.qoi.specs.declared.header.Header.{Header}
-use Rattle.qoi.specs.Qoi.{channels_number, pixel_count, chunk_max, marker_size}
+use Rattle.qoi.specs.Qoi.{channels_number}
 use Rattle.qoi.specs.Decoding.{HasTaken}
 use Rattle.qoi.specs.Raw.{byte_count}
 
@@ -19,7 +19,3 @@ output_byte_count d = byte_count d.header (channels_number d.channels)
 -- at most `most` bytes were taken
 abbrev pub TakesAtMost : ℕ → Option (List ℕ) → Option (List ℕ) → Type 0
 TakesAtMost most old new = HasTaken old new (λ taken. length taken ≤ most)
-
--- at most five bytes for each pixel, and the end marker's eight, were taken from the bytes ahead
-abbrev pub TakesWithin : {R : Type 0} → (R → Option (List ℕ)) → DecoderState R → DecoderState R → Type 0
-TakesWithin ahead old new = TakesAtMost (chunk_max * pixel_count old.header + marker_size) (ahead old.reader) (ahead new.reader)

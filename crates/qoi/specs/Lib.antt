@@ -2,6 +2,7 @@
 pub mod Qoi
 -- Raw bytes and pixels.
 pub mod Raw
+pub mod ProductHash
 -- Which bytes are accepted, and what decoding returns.
 pub mod Verdicts
 pub mod Decoding
@@ -21,6 +22,7 @@ pub mod Shortest
 pub mod Tight
 -- The list of each style, and the file of an image.
 pub mod Styles
+pub mod Steps
 pub mod WrittenList
 pub mod Encoded
 pub mod EncoderState

@@ -10,7 +10,7 @@ use Rattle.qoi.specs.Runs.{runs_by}
 use Rattle.qoi.specs.Written.{noted}
 use Rattle.qoi.specs.Tight.{least_unseen}
 use Rattle.qoi.specs.Styles.{in_style}
-use Rattle.qoi.specs.inner.Steps.{steps, diff_steps, luma_steps}
+use Rattle.qoi.specs.Steps.{steps, diff_steps, luma_steps}
 
 -- the steps of a Diff, cut to its bits
 abbrev pub diff_bits : RgbaPixel → RgbaPixel

@@ -1,5 +1,5 @@
 -- What readers' loops refuse, states of loops, what the table of index positions holds, pixels as
--- single numbers, steps from pixel to pixel, and kept bytes.
+-- single numbers, and kept bytes.
 pub mod Chunks
 pub mod CoderState
 pub mod CoderLoop
@@ -10,7 +10,6 @@ pub mod Packed
 pub mod Pending
 pub mod Piece
 pub mod Pieces
-pub mod Steps
 pub mod Table
 -- Sixteen pixels at a time: in planes, lanes of chunks, counted repeats, the state between two
 -- blocks, pixels put into the table, and stored chunks.

@@ -11,8 +11,15 @@ use Rattle.qoi.proofs.format.SamePixels.{pixel_eq-true, hash_below}
 use Rattle.qoi.proofs.encoding.GroupRuns.{not_one}
 use Rattle.qoi.specs.inner.BlockLanes.{Lane, mask, near, step_of, keeps, fits_diff, fits_luma, first_of, second_of, size_of, size_by}
 use Rattle.qoi.specs.inner.BlockState.{State, lane_of, lanes_of, is_rep, goes_on, group_bytes, next_by, step_by, next_state, more_of, block_bytes}
-use Rattle.qoi.specs.inner.BlockBytes.{firsts, sizes, chunks_of}
+use Rattle.qoi.specs.inner.BlockBytes.{firsts, sizes}
 use Rattle.qoi.proofs.encoding.LaneChunk.{from_small}
+
+-- the chunks of these lanes, whose first bytes and sizes are given, one after the other
+abbrev pub chunks_of : List Lane → List ℕ → List ℕ → List ℕ
+chunks_of [] fs ss = []
+chunks_of (l ∷ ls) [] ss = []
+chunks_of (l ∷ ls) (f ∷ fs) [] = []
+chunks_of (l ∷ ls) (f ∷ fs) (s ∷ ss) = take s (f ∷ second_of l ∷ l.px.g ∷ l.px.b ∷ l.px.a ∷ []) ++ chunks_of ls fs ss
 
 -- one of two holds if the second does
 pub or_true : (a b : Bool) → b ≡ true → (a || b) ≡ true

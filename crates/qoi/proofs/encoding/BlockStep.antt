@@ -11,16 +11,16 @@ use Rattle.qoi.specs.declared.types.Style.TheVariants.{Reference, Places, Tight}
 use Rattle.qoi.specs.Qoi.{RgbaPixel, pixel_eq, seen, hash}
 use Rattle.qoi.specs.Styles.{names}
 use Rattle.qoi.specs.inner.BlockLanes.{mask}
-use Rattle.qoi.specs.inner.Blocks.{all_repeat}
+use Rattle.qoi.specs.inner.Blocks.{all_repeat, last_pixel}
 use Rattle.qoi.specs.inner.BlockState.{State, lanes_of, is_rep, group_bytes, next_state, more_of, block_bytes, NoneBlank, next_by}
 use Rattle.qoi.specs.inner.CarryLoop.{InBlocks}
 use Rattle.qoi.specs.inner.CoderLoop.{Ahead}
 use Rattle.qoi.specs.inner.Counts.{counts}
 use Rattle.qoi.specs.inner.Planes.{AreSixteen, ArePlanes}
-use Rattle.qoi.specs.inner.Spelling.{HasSpelled, IsLastOf}
+use Rattle.qoi.specs.inner.Spelling.{HasSpelled}
 use Rattle.qoi.specs.inner.Stands.{put_all, stand_tests}
 use Rattle.qoi.specs.inner.Table.{Holds}
-use Rattle.qoi.proofs.format.SamePixels.{pixel_eq-true, pixel_eq-from}
+use Rattle.qoi.proofs.format.SamePixels.{same_pixel, pixel_eq-true, pixel_eq-from}
 use Rattle.qoi.proofs.encoding.BlockOut.{carry_few}
 use Rattle.qoi.proofs.encoding.BlockWritten.{Carrying, flushed, block_written, CarryGoesOn, flushed_state}
 use Rattle.qoi.proofs.encoding.LastCount.{last_count, end_state}
@@ -33,13 +33,10 @@ end_held s [] = refl
 end_held s (p ∷ ps) = end_held (next_state s p (more_of p ps)) ps
 
 -- the last pixel is the last of them
-pub end_last : (s : State) (ps : List RgbaPixel) (x : Planes) → AreSixteen ps → ArePlanes ps x → IsLastOf (end_state s ps).last x
-end_last s (p0 ∷ p1 ∷ p2 ∷ p3 ∷ p4 ∷ p5 ∷ p6 ∷ p7 ∷ p8 ∷ p9 ∷ p10 ∷ p11 ∷ p12 ∷ p13 ∷ p14 ∷ p15 ∷ []) x sixteen are = record {
-  red = ap (λ z. slice_index z 15) are.r_is;
-  green = ap (λ z. slice_index z 15) are.g_is;
-  blue = ap (λ z. slice_index z 15) are.b_is;
-  alpha = ap (λ z. slice_index z 15) are.a_is;
-}
+pub end_last : (s : State) (ps : List RgbaPixel) (x : Planes) → AreSixteen ps → ArePlanes ps x → (end_state s ps).last ≡ last_pixel x
+end_last s (p0 ∷ p1 ∷ p2 ∷ p3 ∷ p4 ∷ p5 ∷ p6 ∷ p7 ∷ p8 ∷ p9 ∷ p10 ∷ p11 ∷ p12 ∷ p13 ∷ p14 ∷ p15 ∷ []) x sixteen are =
+    same_pixel p15 (last_pixel x) (sym (ap (λ z. slice_index z 15) are.r_is)) (sym (ap (λ z. slice_index z 15) are.g_is))
+    (sym (ap (λ z. slice_index z 15) are.b_is)) (sym (ap (λ z. slice_index z 15) are.a_is))
 end_last s ps x sixteen are = absurd (let l = sixteen.long in omega arith)
 
 -- before a fresh lane what was counted doesn't matter
@@ -246,7 +243,7 @@ block_step style ahead n s rest more all x p table carry kept next sixteen mixed
     let stood : end.placed ≡ get_or (stand_tests s.held all) (15 - carry.count) false =
     end_placed t all mixed_lanes ∙ (λ i. get_or (stand_tests (r.held_is i) all) (at_lane i) false) in
     let carried : end.carry ≡ carry.count = omega arith in
-    let last = subst (λ z. IsLastOf end.last z) (sym before_is) (end_last t all p sixteen planes) in
+    let last = subst (λ z. end.last ≡ last_pixel z) (sym before_is) (end_last t all p sixteen planes) in
     record {
       past = done.past;
       before = done.before;
@@ -254,7 +251,7 @@ block_step style ahead n s rest more all x p table carry kept next sixteen mixed
           (subst (Ahead style ahead done.past done.before end.carry (rest ++ more)) (sym (bytes t r.spelled r.last_is r.few)) done.to_write);
       state = record {
         table_is = λ i l. holds i l ∙ ap Some (ap (λ h. seen h i) (sym (end_held t all ∙ ap (λ h. put_all h all) r.held_is)) ∙ done.held_is i);
-        last_is = subst (λ q. IsLastOf q carry.before) (sym done.last_is) last;
+        last_is = done.last_is ∙ last;
         placed_is = λ places. named places ∙ sym stood ∙ done.placed_is ∙ ap (λ q. names done.before (hash q)) (sym done.last_is);
       };
       opens = λ no. absurd (true≢false (sym done.begun_is ∙ no));

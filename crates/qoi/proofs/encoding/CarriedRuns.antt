@@ -12,7 +12,6 @@ use Rattle.qoi.specs.inner.Blocks.{last_pixel}
 use Rattle.qoi.specs.inner.CarryLoop.{InBlocks}
 use Rattle.qoi.specs.inner.CoderLoop.{Ahead}
 use Rattle.qoi.specs.inner.CoderState.{last_chunk}
-use Rattle.qoi.specs.inner.Spelling.{IsLastOf}
 use Rattle.qoi.proofs.format.ChunkSteps.{previous_repeats}
 use Rattle.qoi.proofs.encoding.BlockWritten.{still_begun, repeats_held}
 use Rattle.qoi.proofs.encoding.CoderLink.{last_carried, begun_by_repeat}
@@ -47,7 +46,7 @@ blocks_on {style = style} {ahead} {size} {rest} {more} {table} {kept} carry afte
       to_write = over_full_runs k after.count (rest ++ more) (subst (λ m. Ahead style ahead b.past b.before m (rest ++ more) kept) sum all);
       state = record {
         table_is = λ i l. b.state.table_is i l ∙ ap Some (sym (repeats_held style (62 * k) b.past begun i));
-        last_is = subst (λ p. IsLastOf p after.before) (sym again) (rw same b.state.last_is);
+        last_is = again ∙ (rw same b.state.last_is);
         placed_is = λ is. placed ∙ ap (λ m. carry.placed && nat_lt m 62) sum ∙ ap (λ z. carry.placed && z) (sym (no_full k after.count small))
             ∙ placed_repeats (62 * k) b.past b.before carry.placed (b.state.placed_is is);
       };

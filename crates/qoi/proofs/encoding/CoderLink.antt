@@ -12,12 +12,11 @@ use Rattle.qoi.specs.inner.Blocks.{last_pixel}
 use Rattle.qoi.specs.inner.CarryLoop.{CarryAfter, OpensBlock, InBlocks}
 use Rattle.qoi.specs.inner.CoderLoop.{CoderBetween}
 use Rattle.qoi.proofs.encoding.CoderSteps.{over_sent}
-use Rattle.qoi.proofs.encoding.LastOfPlanes.{last_of_planes}
 
 -- the last pixel is that of the planes
 pub last_carried : {N : ℕ} {style : Style} {past : Past} {before : _} {table : List RgbaPixel} {carry : Carry N} → CarryAfter style past before table carry
     → last_pixel carry.before ≡ previous past
-last_carried {past = past} {carry = carry} s = sym (last_of_planes (previous past) carry.before s.last_is)
+last_carried s = sym s.last_is
 
 -- what stands first doesn't depend on what follows
 pub first_more : (ps more : List RgbaPixel) → 0 < length ps → slice_get (ps ++ more) 0 ≡ slice_get ps 0

@@ -5,8 +5,9 @@ use Rattle.std.specs.List.{slice_get}
 use Rattle.qoi.specs.declared.encode.planes.Planes.{Planes}
 use Rattle.qoi.specs.declared.encode.planes.Words.{Words}
 use Rattle.qoi.specs.Qoi.{RgbaPixel, pixel_eq}
+use Rattle.qoi.specs.Raw.{AreOpaque}
 use Rattle.qoi.specs.inner.Blocks.{all_repeat}
-use Rattle.qoi.specs.inner.Planes.{AreOpaque, ArePacked, ArePlanes, alphas, block_pixels}
+use Rattle.qoi.specs.inner.Planes.{ArePacked, ArePlanes, alphas, block_pixels}
 use Rattle.qoi.proofs.format.SamePixels.{pixel_eq-true}
 use Rattle.qoi.proofs.encoding.PackedBlock.{block_sixteen}
 

@@ -6,7 +6,7 @@ use Rattle.qoi.specs.declared.chunk.Chunk.{Chunk}
 use Rattle.qoi.specs.Qoi.{RgbaPixel, IsPixel, Past, previous, IsChunk, bytes_of}
 use Rattle.qoi.specs.Written.{IsFirst}
 use Rattle.qoi.specs.WrittenList.{diff_bits, luma_bits, spelled}
-use Rattle.qoi.specs.inner.Steps.{steps, diff_steps, luma_steps}
+use Rattle.qoi.specs.Steps.{steps, diff_steps, luma_steps}
 use Rattle.qoi.proofs.format.SamePixels.{same_pixel}
 use Rattle.qoi.proofs.encoding.Spelled.{FitsDiff, FitsLuma, spelled_chunk, spelled_first}
 use Rattle.qoi.specs.inner.BlockLanes.{Lane, IsLane, step_of, near, far, keeps, fits_diff, fits_luma, first_by, second_by, size_by, lane_bytes}

@@ -8,9 +8,9 @@ use Rattle.std.proofs.lemmas.List.FromFn.{get_or-range_with_len}
 use Rattle.std.proofs.lemmas.Simd.{get_or-zip2, length-zip2, get_or-replicate}
 use lib.Lanes.{zip2}
 use Rattle.qoi.specs.inner.BlockLanes.{mask}
-use Rattle.qoi.specs.inner.Counts.{AreMost, AreStamps, counts}
+use Rattle.qoi.specs.inner.Counts.{AreMost, counts}
 use Rattle.qoi.proofs.encoding.Lanewise.{not_8}
-use Rattle.qoi.proofs.encoding.RunningMost.{less, counted}
+use Rattle.qoi.proofs.encoding.RunningMost.{AreStamps, less, counted}
 
 -- 64 and the numbers of the lanes
 abbrev numbers : List ℕ

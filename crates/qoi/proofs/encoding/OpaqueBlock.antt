@@ -2,10 +2,11 @@
 use Rattle.std.proofs.Common.{◌≡◌, ℕ, zero, suc, ◌+◌, ◌%◌, ◌≤◌, ◌||◌, Bool, true, false, List, [], ◌∷◌, length, replicate, slice_index, bit_and, refl, arith}
 use Rattle.std.proofs.lemmas.Bool.{eq-eqb}
 use Rattle.qoi.specs.Qoi.{RgbaPixel, Past}
+use Rattle.qoi.specs.Raw.{AreOpaque}
 use Rattle.qoi.specs.inner.BlockBytes.{sizes}
 use Rattle.qoi.specs.inner.BlockLanes.{mask, step_of, fits_diff, fits_luma, keeps, size_by}
 use Rattle.qoi.specs.inner.BlockState.{lane_of, lanes_of, is_rep, goes_on}
-use Rattle.qoi.specs.inner.Planes.{AreOpaque, alphas}
+use Rattle.qoi.specs.inner.Planes.{alphas}
 
 -- their alpha plane is 255 throughout
 pub alphas_opaque : (n : ℕ) (ps : List RgbaPixel) → length ps ≡ n → AreOpaque ps → alphas ps ≡ replicate n 255

@@ -5,7 +5,7 @@ use Rattle.std.specs.List.{range_with_len}
 use lib.Lanes.{zip2, pick_l}
 use Rattle.std.proofs.lemmas.Nat.{and_comm, and_mask}
 use Rattle.qoi.specs.inner.BlockLanes.{Lane, IsLane, AreLanes, mask, is_small, keeps, fits_diff, fits_luma, first_of, size_by, size_of}
-use Rattle.qoi.specs.inner.Steps.{steps, diff_steps}
+use Rattle.qoi.specs.Steps.{steps, diff_steps}
 use Rattle.qoi.specs.inner.LaneVectors.{AreBy}
 use Rattle.qoi.specs.inner.BlockState.{is_rep, goes_on}
 use Rattle.qoi.specs.inner.Counts.{counts}

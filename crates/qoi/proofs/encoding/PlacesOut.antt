@@ -12,9 +12,9 @@ use Rattle.qoi.proofs.encoding.GroupRuns.{not_one}
 use Rattle.qoi.specs.inner.CoderState.{single_chunk}
 use Rattle.qoi.specs.inner.BlockLanes.{Lane, mask, near, far, keeps, fits_diff, fits_luma, first_of, first_by, size_of}
 use Rattle.qoi.specs.inner.BlockState.{State, lane_of, lanes_of, is_rep, goes_on, group_bytes, next_by, step_by, next_state, more_of, block_bytes}
-use Rattle.qoi.specs.inner.BlockBytes.{placed_firsts, sizes, chunks_of}
+use Rattle.qoi.specs.inner.BlockBytes.{placed_firsts, sizes}
 use Rattle.qoi.proofs.encoding.LaneBits.{or_mask}
-use Rattle.qoi.proofs.encoding.BlockOut.{repeat_size, repeat_first, run_byte, none_and, size_small, chunk_of, goes_is, carry_few}
+use Rattle.qoi.proofs.encoding.BlockOut.{chunks_of, repeat_size, repeat_first, run_byte, none_and, size_small, chunk_of, goes_is, carry_few}
 
 -- a first byte is one
 first_byte : (st d l k : Bool) (h : ℕ) (s w : RgbaPixel) → h < 64 → (if st then h else first_by d l k s w) < 256

@@ -4,9 +4,9 @@ use Rattle.std.specs.List.{AllByRecursion}
 use Rattle.std.proofs.Math.Nat.{mul_comm}
 use Rattle.std.proofs.lemmas.List.{take-append-drop, length-take-le}
 use Rattle.qoi.specs.Qoi.{RgbaPixel, IsPixel, AreBytes}
-use Rattle.qoi.specs.Raw.{IsChannels, pixels_of, pixels_of_3, pixels_of_4}
+use Rattle.qoi.specs.Raw.{IsChannels, pixels_of, pixels_of_3, pixels_of_4, AreOpaque}
 use Rattle.qoi.specs.inner.Packed.{word}
-use Rattle.qoi.specs.inner.Planes.{AreOpaque, pixels_of_words}
+use Rattle.qoi.specs.inner.Planes.{pixels_of_words}
 use Rattle.qoi.proofs.format.RawPixels.{pixels_of_are, opaque_3}
 use Rattle.qoi.proofs.format.WholePixels.{by_channels}
 use Rattle.qoi.proofs.encoding.CoderSteps.{all_bytes}

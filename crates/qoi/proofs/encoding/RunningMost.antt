@@ -5,7 +5,11 @@ use Rattle.std.proofs.lemmas.Bool.{cases_lt}
 use Rattle.std.proofs.lemmas.List.{get_or-take, get_or-append_right, length-append, length-take-le}
 use Rattle.std.proofs.lemmas.Simd.{get_or-zip2, length-replicate, length-zip2}
 use lib.Lanes.{zip2}
-use Rattle.qoi.specs.inner.Counts.{IsMost, AreMost, AreStamps, counts}
+use Rattle.qoi.specs.inner.Counts.{IsMost, AreMost, counts}
+
+-- 0 at a repeat, else 64 and the index
+abbrev pub AreStamps : List Bool → List ℕ → Type 0
+AreStamps rs xs = (length xs ≡ 16) × ((k : ℕ) → k < 16 → slice_index xs k ≡ (if get_or rs k true then 0 else 64 + k))
 
 -- the lanes, s further on
 abbrev shifted : ℕ → List ℕ → List ℕ

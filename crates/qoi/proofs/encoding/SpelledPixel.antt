@@ -7,7 +7,7 @@ use Rattle.qoi.specs.Qoi.{RgbaPixel, IsPixel}
 use Rattle.qoi.specs.Raw.{IsChannels}
 use Rattle.qoi.specs.inner.BlockLanes.{Lane, near, far, keeps, is_small, is_wide, fits_diff, fits_luma, first_by, second_by, size_by, diff_of, lane_bytes}
 use Rattle.qoi.specs.inner.FreshPixel.{SpellsOut}
-use Rattle.qoi.specs.inner.Steps.{steps, diff_steps, luma_steps}
+use Rattle.qoi.specs.Steps.{steps, diff_steps, luma_steps}
 use Rattle.qoi.specs.inner.Packed.{word}
 use Rattle.qoi.proofs.encoding.LaneChunk.{three_small, spelled_lane}
 

@@ -5,7 +5,7 @@ use Rattle.std.specs.List.{AllByRecursion}
 use lib.Lanes.{sum_l, number_l, zip2}
 use Rattle.qoi.specs.declared.encode.planes.Words.{Words}
 use Rattle.qoi.specs.Qoi.{RgbaPixel, IsPixel, pixel, hash}
-use Rattle.qoi.specs.inner.BlockBytes.{firsts, sizes, chunks_of}
+use Rattle.qoi.specs.inner.BlockBytes.{firsts, sizes}
 use Rattle.qoi.specs.inner.BlockLanes.{Lane, AreLanes, mask, fits_luma, fits_diff, keeps, near, far, first_of, second_of, second_by, first_by, size_by}
 use Rattle.qoi.specs.inner.BlockState.{is_rep, goes_on}
 use Rattle.qoi.specs.inner.Packed.{word}
@@ -13,6 +13,7 @@ use Rattle.qoi.specs.inner.Planes.{AreBlockWords, reds, greens, blues, alphas}
 use Rattle.qoi.specs.inner.Stores.{AreSizes, chunk_of, four_chunks, sixteen_chunks}
 use Rattle.std.proofs.lemmas.Nat.{and_le_r}
 use Rattle.qoi.proofs.format.SamePixels.{hash_below}
+use Rattle.qoi.proofs.encoding.BlockOut.{chunks_of}
 use Rattle.qoi.proofs.encoding.SizeHalves.{chunk_is}
 
 -- each lane's chunk as a pixel: first and second byte, green and blue

@@ -5,11 +5,11 @@ use Rattle.std.specs.List.{AllByRecursion}
 use Rattle.qoi.specs.declared.types.Style.{Style}
 use Rattle.qoi.specs.declared.types.Style.TheVariants.{Reference, Places, Tight}
 use Rattle.qoi.specs.Qoi.{RgbaPixel, IsPixel, hash}
-use Rattle.qoi.specs.inner.BlockBytes.{placed_firsts, firsts_in, sizes, chunks_of}
+use Rattle.qoi.specs.inner.BlockBytes.{placed_firsts, firsts_in, sizes}
 use Rattle.qoi.specs.inner.BlockLanes.{Lane, AreLanes, mask, near, far, fits_diff, fits_luma, keeps, first_of}
 use Rattle.qoi.specs.inner.BlockState.{State, lanes_of, is_rep, goes_on, block_bytes}
 use Rattle.qoi.proofs.format.SamePixels.{hash_below}
-use Rattle.qoi.proofs.encoding.BlockOut.{firsts_anew, out_is}
+use Rattle.qoi.proofs.encoding.BlockOut.{chunks_of, firsts_anew, out_is}
 use Rattle.qoi.proofs.encoding.PlacesOut.{placed_fresh, places_out_is}
 use Rattle.qoi.proofs.encoding.StoredBlock.{chunk_pixels, second_small, first_small, over_small, pixels_are, firsts_long}
 use Rattle.qoi.proofs.encoding.TightOut.{tight_out}

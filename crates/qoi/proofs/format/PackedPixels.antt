@@ -5,7 +5,8 @@ use Rattle.std.specs.Int.Bits.{bit_and, bit_or, and_zero_r, or_zero_l, or_zero_r
 use Rattle.std.proofs.lemmas.Nat.{and_block, and_mask, or_block}
 use Rattle.qoi.specs.Qoi.{AreBytes, RgbaPixel, IsPixel, rgba, hash}
 use Rattle.qoi.proofs.format.SamePixels.{same_pixel}
-use Rattle.qoi.specs.inner.Packed.{word, pixel_of_word, spread, product_hash}
+use Rattle.qoi.specs.ProductHash.{spread, product_hash}
+use Rattle.qoi.specs.inner.Packed.{word, pixel_of_word}
 
 -- a pixel packed and unpacked
 pub unpacked : (p : RgbaPixel) → IsPixel p → pixel_of_word (word p) ≡ p

@@ -1,10 +1,10 @@
 -- The bytes that a block's vectors have for each lane.
-use Rattle.std.specs.Prelude.{ℕ, suc, Bool, ◌+◌, ◌-◌, ◌%◌, ◌==◌, min, List, [], ◌∷◌, ◌++◌, take, max, if◌then◌else◌}
+use Rattle.std.specs.Prelude.{ℕ, suc, Bool, ◌+◌, ◌-◌, ◌%◌, ◌==◌, min, List, [], ◌∷◌, max, if◌then◌else◌}
 use Rattle.std.specs.Int.Bits.{bit_and, bit_or}
 use Rattle.qoi.specs.declared.types.Style.{Style}
 use Rattle.qoi.specs.declared.types.Style.TheVariants.{Reference, Places, Tight}
 use Rattle.qoi.specs.Qoi.{hash}
-use Rattle.qoi.specs.inner.BlockLanes.{Lane, mask, first_of, second_of, size_of}
+use Rattle.qoi.specs.inner.BlockLanes.{Lane, mask, first_of, size_of}
 use Rattle.qoi.specs.inner.BlockState.{is_rep, goes_on}
 
 -- first bytes: a repeat's is that of a run, after c repeats
@@ -18,13 +18,6 @@ firsts c (l ∷ ls) =
 abbrev pub sizes : List Lane → List ℕ
 sizes [] = []
 sizes (l ∷ ls) = (size_of l + bit_and (mask (is_rep l)) (mask (goes_on ls))) % 256 ∷ sizes ls
-
--- the chunks of these bytes, one after the other
-abbrev pub chunks_of : List Lane → List ℕ → List ℕ → List ℕ
-chunks_of [] fs ss = []
-chunks_of (l ∷ ls) [] ss = []
-chunks_of (l ∷ ls) (f ∷ fs) [] = []
-chunks_of (l ∷ ls) (f ∷ fs) (s ∷ ss) = take s (f ∷ second_of l ∷ l.px.g ∷ l.px.b ∷ l.px.a ∷ []) ++ chunks_of ls fs ss
 
 -- In style Places: a single repeat before a fresh pixel is the index position, if the chunk
 -- before it isn't. `q` is whether the pixel before the lane stands at its position.

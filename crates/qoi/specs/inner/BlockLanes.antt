@@ -2,7 +2,7 @@
 use Rattle.std.specs.Prelude.{ℕ, Bool, ◌+◌, ◌*◌, ◌%◌, ◌&&◌, ◌||◌, ◌==◌, nat_lt, List, [], ◌∷◌, take, if◌then◌else◌}
 use Rattle.std.specs.List.{AllByRecursion}
 use Rattle.qoi.specs.Qoi.{RgbaPixel, IsPixel, hash}
-use Rattle.qoi.specs.inner.Steps.{steps, diff_steps, luma_steps}
+use Rattle.qoi.specs.Steps.{steps, diff_steps, luma_steps}
 
 -- a lane: a pixel, the pixel before it, and whether the table holds the pixel at its position
 pub record Lane : Type 0 where

@@ -7,7 +7,6 @@ use Rattle.qoi.specs.declared.types.Style.TheVariants.{Tight}
 use Rattle.qoi.specs.Qoi.{RgbaPixel, pixel, pixel_eq}
 use Rattle.qoi.specs.inner.BlockState.{State, NoneBlank, lanes_of}
 use Rattle.qoi.specs.inner.LaneVectors.{AreChanges}
-use Rattle.qoi.specs.inner.Spelling.{IsLastOf}
 use Rattle.qoi.specs.inner.Table.{Holds}
 
 -- the last of sixteen pixels
@@ -21,11 +20,11 @@ all_repeat q (p ∷ ps) = pixel_eq p q && all_repeat q ps
 
 -- from whatever the table holds, no fresh pixel is transparent black that isn't at its position
 abbrev pub MissesNoBlank : List RgbaPixel → Planes → List RgbaPixel → Type 0
-MissesNoBlank table before ps = (s : State) → Holds table s.held → IsLastOf s.last before → NoneBlank s ps
+MissesNoBlank table before ps = (s : State) → Holds table s.held → s.last ≡ last_pixel before → NoneBlank s ps
 
 -- the steps from the pixels before to these, and which of these repeat
 abbrev pub ChangesFrom : Planes → List RgbaPixel → Changes → Type 0
-ChangesFrom before ps x = (s : State) → IsLastOf s.last before → AreChanges (lanes_of s.held s.last ps) x
+ChangesFrom before ps x = (s : State) → s.last ≡ last_pixel before → AreChanges (lanes_of s.held s.last ps) x
 
 -- what a block of pixels must meet, after the block `before`, to be written as one
 pub record FitsBlock (style : Style) (table : List RgbaPixel) (before : Planes) (ps : List RgbaPixel) (x : Changes) : Type 0 where

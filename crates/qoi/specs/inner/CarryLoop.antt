@@ -8,16 +8,16 @@ use Rattle.qoi.specs.declared.types.Style.{Style}
 use Rattle.qoi.specs.declared.types.Style.TheVariants.{Places, Tight}
 use Rattle.qoi.specs.Qoi.{RgbaPixel, Past, previous, hash}
 use Rattle.qoi.specs.Styles.{some_fresh, names}
+use Rattle.qoi.specs.inner.Blocks.{last_pixel}
 use Rattle.qoi.specs.inner.CoderLoop.{Ahead}
 use Rattle.qoi.specs.inner.CoderState.{held_in}
-use Rattle.qoi.specs.inner.Spelling.{IsLastOf}
 use Rattle.qoi.specs.inner.Table.{Holds}
 
 -- What is carried, and the table, after these pixels and this chunk: what `CoderAfter` says of a
 -- coder.
 pub record CarryAfter {N : ℕ} (style : Style) (past : Past) (before : Option Chunk) (table : List RgbaPixel) (carry : Carry N) : Type 0 where
   pub table_is : Holds table (held_in style past)
-  pub last_is : IsLastOf (previous past) carry.before
+  pub last_is : previous past ≡ last_pixel carry.before
   pub placed_is : style ≡ Places → carry.placed ≡ names before (hash (previous past))
 
 -- the next pixel is fresh, and n pixels or more come, but not in style Tight

@@ -1,5 +1,5 @@
 -- The repeats that each lane counts.
-use Rattle.std.specs.Prelude.{◌≡◌, ℕ, suc, ◌+◌, ◌<◌, ◌≤◌, ◌⊎◌, Bool, true, false, List, [], ◌∷◌, length, slice_index, get_or, if◌then◌else◌, ◌&&◌}
+use Rattle.std.specs.Prelude.{◌≡◌, ℕ, suc, ◌+◌, ◌<◌, ◌≤◌, ◌⊎◌, Bool, true, false, List, [], ◌∷◌, slice_index, ◌&&◌}
 
 -- how many repeats end with each lane, with those that came before
 abbrev pub counts : ℕ → List Bool → List ℕ
@@ -15,10 +15,6 @@ pub record IsMost (xs : List ℕ) (w k m : ℕ) : Type 0 where
 -- of each of sixteen
 abbrev pub AreMost : List ℕ → ℕ → List ℕ → Type 0
 AreMost xs w ms = (k : ℕ) → k < 16 → IsMost xs w k (slice_index ms k)
-
--- 0 at a repeat, else 64 and the index
-abbrev pub AreStamps : List Bool → List ℕ → Type 0
-AreStamps rs xs = (length xs ≡ 16) × ((k : ℕ) → k < 16 → slice_index xs k ≡ (if get_or rs k true then 0 else 64 + k))
 
 -- all hold
 abbrev pub all_true : List Bool → Bool

@@ -70,7 +70,3 @@ pub record ArePlanes (ps : List RgbaPixel) (p : Planes) : Type 0 where
   pub g_is : p.g ≡ greens ps
   pub b_is : p.b ≡ blues ps
   pub a_is : p.a ≡ alphas ps
-
--- each of these pixels is opaque
-abbrev pub AreOpaque : List RgbaPixel → Type 0
-AreOpaque ps = AllByRecursion (λ (p : RgbaPixel). p.a ≡ 255) ps

@@ -1,6 +1,5 @@
 -- What a block's vectors start from, and what they become.
-use Rattle.std.specs.Prelude.{◌≡◌, ℕ, List, map, slice_index}
-use Rattle.qoi.specs.declared.encode.planes.Planes.{Planes}
+use Rattle.std.specs.Prelude.{◌≡◌, ℕ, List, map}
 use Rattle.qoi.specs.declared.encode.spelling.Spelled.{Spelled}
 use Rattle.qoi.specs.declared.types.Style.{Style}
 use Rattle.qoi.specs.Qoi.{RgbaPixel, IsPixel, hash}
@@ -10,13 +9,6 @@ use Rattle.qoi.specs.inner.BlockState.{State, lanes_of, is_rep}
 use Rattle.qoi.specs.inner.Counts.{counts}
 use Rattle.qoi.specs.inner.Planes.{AreSixteen, reds}
 use Rattle.qoi.specs.inner.Stands.{stand_tests}
-
--- the last of sixteen pixels
-pub record IsLastOf (q : RgbaPixel) (p : Planes) : Type 0 where
-  pub red : slice_index p.r 15 ≡ q.r
-  pub green : slice_index p.g 15 ≡ q.g
-  pub blue : slice_index p.b 15 ≡ q.b
-  pub alpha : slice_index p.a 15 ≡ q.a
 
 -- A block's pixels after the last one of the state: red of each, which of them stand at their index
 -- positions, and these positions.

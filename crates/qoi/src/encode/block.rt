@@ -2,15 +2,15 @@
 ghost use Rattle.std.specs.Prelude.{◌≡◌, ℕ, Bool, false, ◌+◌, ◌-◌, ◌<◌, List, ◌++◌, map, take, slice_index, slice_index_or, ◌/◌, ◌%◌, IsTrue, IsFalse};
 ghost use Rattle.qoi.specs.declared.types.Style.TheVariants.{Places, Tight};
 ghost use Rattle.qoi.specs.Qoi.{RgbaPixel, IsPixel, hash};
-ghost use Rattle.qoi.specs.Raw.{IsChannels};
+ghost use Rattle.qoi.specs.Raw.{IsChannels, AreOpaque};
 ghost use Rattle.qoi.specs.inner.BlockLanes.{mask};
 ghost use Rattle.qoi.specs.inner.BlockState.{State, NoneBlank};
 ghost use Rattle.qoi.specs.inner.Blocks.{ChangesFrom, FitsBlock, MissesNoBlank, last_pixel, all_repeat};
 ghost use Rattle.qoi.specs.inner.CarryLoop.{InBlocks};
 ghost use Rattle.qoi.specs.inner.Piece.{kept_bytes};
 ghost use Rattle.qoi.specs.inner.Pixels.{pixels_in};
-ghost use Rattle.qoi.specs.inner.Planes.{ArePacked, ArePlanes, AreOpaque, block_pixels};
-ghost use Rattle.qoi.specs.inner.Spelling.{IsLastOf, HasSpelled};
+ghost use Rattle.qoi.specs.inner.Planes.{ArePacked, ArePlanes, block_pixels};
+ghost use Rattle.qoi.specs.inner.Spelling.{HasSpelled};
 ghost use Rattle.qoi.specs.inner.Stands.{stand_tests};
 ghost use Rattle.qoi.specs.inner.Table.{Holds};
 
@@ -86,7 +86,7 @@ impl Block {
     #[inline(always)]
     fn has_no_fresh_blank(self) -> bool
         ensures { (before : Planes) → ChangesFrom before (block_pixels self.words) self.changes
-            → IsTrue result → (s : State) → IsLastOf s.last before
+            → IsTrue result → (s : State) → s.last ≡ last_pixel before
             → NoneBlank s (block_pixels self.words) }
     {
         all_set(self.changes.rep | !blanks(self.planes))
@@ -113,7 +113,7 @@ impl Block {
         places: u8x16,
         carry: Carry<N>,
     ) -> Spelled
-        ensures { (s : State) → IsPixel s.last → IsLastOf s.last carry.entry.before
+        ensures { (s : State) → IsPixel s.last → s.last ≡ last_pixel carry.entry.before
             → ChangesFrom carry.entry.before (block_pixels self.words) self.changes
             → s.carry ≡ carry.entry.count → (style ≡ Places → s.placed ≡ carry.entry.placed)
             → stands ≡ map mask (stand_tests s.held (block_pixels self.words))

@@ -4,7 +4,7 @@ ghost use Rattle.qoi.specs.declared.chunk.Chunk.{Chunk};
 ghost use Rattle.qoi.specs.Qoi.{IsPixel};
 ghost use Rattle.qoi.specs.Raw.{IsChannels};
 ghost use Rattle.qoi.specs.inner.FreshPixel.{SpellsOut};
-ghost use Rattle.qoi.specs.inner.Steps.{steps, diff_steps, luma_steps};
+ghost use Rattle.qoi.specs.Steps.{steps, diff_steps, luma_steps};
 
 use crate::consts::{QOI_OP_DIFF, QOI_OP_LUMA, QOI_OP_RGB, QOI_OP_RGBA};
 use crate::packed::Packed;

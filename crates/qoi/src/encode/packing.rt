@@ -1,8 +1,8 @@
 //! The first sixteen pixels of raw bytes, packed.
 ghost use Rattle.std.specs.Prelude.{◌≡◌, ◌*◌, ◌≤◌, length, take, drop, map};
-ghost use Rattle.qoi.specs.Raw.{IsChannels, pixels_of};
+ghost use Rattle.qoi.specs.Raw.{IsChannels, pixels_of, AreOpaque};
 ghost use Rattle.qoi.specs.inner.Packed.{word};
-ghost use Rattle.qoi.specs.inner.Planes.{AreOpaque, block_pixels};
+ghost use Rattle.qoi.specs.inner.Planes.{block_pixels};
 
 use crate::encode::planes::Words;
 use crate::utils::skip;

@@ -2,9 +2,9 @@
 ghost use lib.Lanes.{digits_l, number_l};
 ghost use Rattle.std.specs.Prelude.{◌≡◌, ◌^◌, List, ◌++◌, take, drop, replicate, slice_index};
 ghost use Rattle.qoi.specs.Qoi.{RgbaPixel};
+ghost use Rattle.qoi.specs.Raw.{AreOpaque};
 ghost use Rattle.qoi.specs.inner.Blocks.{last_pixel};
-ghost use Rattle.qoi.specs.inner.Planes.{AreFour, ArePacked, AreSixteen, AreFourWords, AreBlockWords, channel_words, ArePlanes, AreOpaque};
-ghost use Rattle.qoi.specs.inner.Spelling.{IsLastOf};
+ghost use Rattle.qoi.specs.inner.Planes.{AreFour, ArePacked, AreSixteen, AreFourWords, AreBlockWords, channel_words, ArePlanes};
 
 use crate::encode::pixels::PixelOf;
 use crate::packed::Packed;
@@ -32,7 +32,7 @@ impl Planes {
     /// The planes of sixteen times this pixel.
     #[inline(always)]
     pub(super) fn splat<const N: usize>(pixel: PixelOf<N>) -> Planes
-        ensures { IsLastOf pixel.entry.px result }
+        ensures { last_pixel result ≡ pixel.entry.px }
     {
         let px = pixel.px;
         Planes {

@@ -9,7 +9,7 @@ ghost use Rattle.qoi.specs.Errors.{IsIoError, IsReaderFault, IsErrorOfCut, IsErr
 ghost use Rattle.qoi.specs.Raw.{IsChannels, without_fourth, pixels_of, byte_count, image_byte_count, HasImageLength, capped_byte_count, AreOpaque, HasChannels};
 ghost use Rattle.qoi.specs.Verdicts.{IsWhole, IsCut, IsWrong};
 ghost use Rattle.qoi.specs.Decoding.{least_byte_count, RefusesBuffer, RefusesMarker, RefusesBytes, RefusesTaken, RefusesTakenMarker, RefusesTakenHeader};
-ghost use Rattle.qoi.specs.DecoderState.{output_byte_count, TakesWithin};
+ghost use Rattle.qoi.specs.DecoderState.{output_byte_count, TakesAtMost};
 ghost use Rattle.qoi.specs.Runs.{IsCount};
 ghost use Rattle.qoi.specs.Written.{fresh, noted};
 ghost use Rattle.qoi.specs.writers.Writes.{StandsAfter};
@@ -251,27 +251,15 @@ pub fn error_examples()
     ensures not_wrong { IsErrorOfWrong false Error.UnexpectedBufferEnd → ⊥ }
 {}
 
-/// How many bytes a decoder gives and takes for one pixel.
+/// How many bytes a decoder gives for one pixel, and at most takes.
 pub fn decoder_examples()
     ensures four { (reader : ℕ) → output_byte_count (record {
       reader = reader;
       header = default_header;
       channels = Channels.Rgba;
     }) ≡ 4 }
-    ensures within { TakesWithin (λ bytes. bytes)
-        (record {
-          reader = Some (replicate 13 0);
-          header = default_header;
-          channels = Channels.Rgb;
-        })
-        (record { reader = Some []; header = default_header; channels = Channels.Rgb }) }
-    ensures beyond { TakesWithin (λ bytes. bytes)
-        (record {
-          reader = Some (replicate 14 0);
-          header = default_header;
-          channels = Channels.Rgb;
-        })
-        (record { reader = Some []; header = default_header; channels = Channels.Rgb }) → ⊥ }
+    ensures within { TakesAtMost 13 (Some (replicate 13 0)) (Some []) }
+    ensures beyond { TakesAtMost 13 (Some (replicate 14 0)) (Some []) → ⊥ }
 {}
 
 /// Repeats and fresh pixels, and bytes that are written after others.

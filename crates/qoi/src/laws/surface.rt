@@ -9,7 +9,7 @@ ghost use Rattle.qoi.specs.declared.types.ColorSpace.{ColorSpace};
 ghost use Rattle.qoi.specs.declared.types.Style.{Style};
 ghost use Rattle.qoi.specs.declared.chunk.Chunk.{Chunk};
 ghost use Rattle.qoi.specs.Qoi.{RgbaPixel, IsPixel, hash, pixel_after, Past, previous, rgba, channels_number, colorspace_number};
-ghost use Rattle.qoi.specs.inner.Packed.{product_hash};
+ghost use Rattle.qoi.specs.ProductHash.{product_hash};
 ghost use Rattle.qoi.specs.Raw.{IsChannels};
 
 use crate::chunk::Chunk;

@@ -3,7 +3,7 @@ use Rattle.std.proofs.Common.{◌≡◌, ◌==◌, eqb-true, inl, inr, false, �
 use Rattle.std.specs.List.{slice_get}
 use Rattle.qoi.specs.declared.types.Style.TheVariants.{Places}
 use Rattle.qoi.specs.Qoi.{RgbaPixel, IsPixel, previous, hash}
-use Rattle.qoi.specs.Raw.{IsChannels}
+use Rattle.qoi.specs.Raw.{IsChannels, AreOpaque}
 use Rattle.qoi.specs.Styles.{some_fresh, names}
 use Rattle.qoi.specs.inner.BlockState.{State, lanes_of}
 use Rattle.qoi.specs.inner.CoderLoop.{Ahead}
@@ -11,15 +11,13 @@ use Rattle.qoi.specs.inner.CoderState.{held_in}
 use Rattle.qoi.specs.inner.Piece.{kept_bytes}
 use Rattle.qoi.specs.inner.BlockBytes.{sizes}
 use Rattle.qoi.specs.inner.Blocks.{last_pixel, all_repeat}
-use Rattle.qoi.specs.inner.Planes.{AreOpaque, block_pixels}
-use Rattle.qoi.specs.inner.Spelling.{IsLastOf}
+use Rattle.qoi.specs.inner.Planes.{block_pixels}
 use Rattle.qoi.specs.inner.Stands.{stand_tests}
 use Rattle.qoi.specs.inner.Table.{Holds}
 use Rattle.qoi.proofs.encoding.BlockPuts.{hashes_below}
 use Rattle.qoi.proofs.encoding.BlockStep.{ready, first_repeats, group_stored, block_step}
 use Rattle.qoi.proofs.encoding.BlockWritten.{Carrying}
 use Rattle.qoi.proofs.encoding.CoderLink.{first_more}
-use Rattle.qoi.proofs.encoding.LastOfPlanes.{last_of_planes}
 use Rattle.qoi.proofs.encoding.PackedBlock.{block_sixteen, block_words}
 use Rattle.qoi.proofs.encoding.RereadLanes.{read_back}
 use Rattle.qoi.proofs.encoding.StoredBlock.{sizes_few}
@@ -68,7 +66,7 @@ returns g c = λ ahead n rest more fits b.
     let spelled = c.spell-x.ensures s b.to_write.before_is b.state.last_is fits.changes refl placed put.stands_are at in
     let x = c.spell-x.result in
     let rep = slice_index x.rep 0 in
-    let q_is : q ≡ last_pixel carry.before = last_of_planes q carry.before b.state.last_is in
+    let q_is : q ≡ last_pixel carry.before = b.state.last_is in
     let now = ready style ahead s all later x _ carry.placed (last_pixel carry.before) carry.count _ _ c.args.carry.few (λ e. b.few (sym first ∙ e)) start
     spelled sixteen refl q_is refl placed
     (group_stored style (rep == 0) carry.placed (last_pixel carry.before) carry.count c.args.piece.piece.end c.end-start.result c.byte.result c.args.piece.piece.bytes.now c.store_lanes.new.out
@@ -78,7 +76,7 @@ returns g c = λ ahead n rest more fits b.
     (λ e some. c.end-start.ensures.some (omega (arith, eqb-true rep 0 e, some)))) in
     block_step style ahead n s rest more all x c.args.block.planes c.put_block-stands.new.table c.carry.result _ _ sixteen
     (subst (λ q. all_repeat q all ≡ false) (sym q_is) fits.mixed) planes now put.holds
-    (λ t held same tight. fits.no_blank tight t (subst (Holds c.args.table.now) (sym held) b.state.table_is) (subst (λ q. IsLastOf q carry.before) (sym same) b.state.last_is))
+    (λ t held same tight. fits.no_blank tight t (subst (Holds c.args.table.now) (sym held) b.state.table_is) (same ∙ b.state.last_is))
     c.carry.ensures.before c.carry.ensures.count (λ is. c.carry.ensures.placed (stand_tests s.held all) is put.stands_are)
     (λ t same last_is few. c.put_sixteen-end.ensures.written style t all sixteen (subst IsPixel (sym last_is) b.to_write.before_is) planes same (omega arith)
     (sizes_in g.row.N t t.last all x.size carry.channels c.requires (λ three. ap (λ z. z.a) (last_is ∙ q_is) ∙ carry.opaque three) same.size_is))

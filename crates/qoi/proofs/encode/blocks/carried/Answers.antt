@@ -2,7 +2,6 @@
 use Rattle.std.proofs.Common.{◌++◌, Some, sym, ap, ◌∙◌, arith, subst}
 use Rattle.qoi.specs.inner.CarryLoop.{OpensBlock}
 use Rattle.qoi.specs.inner.CoderLoop.{Ahead}
-use Rattle.qoi.specs.inner.Spelling.{IsLastOf}
 use Rattle.qoi.proofs.encode.blocks.carried.Goals as goal
 
 pub returns : goal.returns
@@ -12,7 +11,7 @@ returns g c = λ style ahead n rest more table kept goes b. record {
   to_write = subst (λ k. Ahead style ahead b.past b.before k (rest ++ more) kept) (omega (arith, c.args.coder.now.last.few)) b.to_write;
   state = record {
     table_is = b.state.table_is;
-    last_is = subst (λ q. IsLastOf q c.splat.result) b.state.last_is c.splat.ensures;
+    last_is = sym (c.splat.ensures ∙ b.state.last_is);
     placed_is = b.state.placed_is;
   };
   opens = λ no. (let o = goes.opens (b.state.begun_is ∙ no) in (omega (arith, o.0), subst (λ q. OpensBlock style q n rest) b.state.last_is o.1));

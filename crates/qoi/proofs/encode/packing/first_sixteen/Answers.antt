@@ -1,8 +1,7 @@
 -- Four pixels at a time.
 use Rattle.std.proofs.Common.{ℕ, List, map, take, arith, sym, subst, ap, ◌∙◌}
-use Rattle.qoi.specs.Raw.{pixels_of}
+use Rattle.qoi.specs.Raw.{pixels_of, AreOpaque}
 use Rattle.qoi.specs.inner.Packed.{word}
-use Rattle.qoi.specs.inner.Planes.{AreOpaque}
 use Rattle.qoi.proofs.encoding.ReadBlock.{sixteen_read, opaque_first}
 use Rattle.qoi.proofs.encode.packing.first_sixteen.Goals as goal
 

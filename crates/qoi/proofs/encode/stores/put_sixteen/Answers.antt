@@ -6,13 +6,13 @@ use Rattle.qoi.specs.declared.encode.planes.Words.{Words}
 use Rattle.qoi.specs.declared.encode.spelling.Spelled.{Spelled}
 use Rattle.qoi.specs.declared.types.Style.{Style}
 use Rattle.qoi.specs.Qoi.{RgbaPixel, IsPixel, run_max}
-use Rattle.qoi.specs.inner.BlockBytes.{chunks_of}
 use Rattle.qoi.specs.inner.BlockLanes.{Lane}
 use Rattle.qoi.specs.inner.BlockState.{State, lanes_of, block_bytes}
 use Rattle.qoi.specs.inner.Fours.{HaveCodes, HasCode}
 use Rattle.qoi.specs.inner.Planes.{AreSixteen, ArePlanes, AreBlockWords}
 use Rattle.qoi.specs.inner.Spelling.{HasSpelled}
 use Rattle.qoi.specs.inner.Stores.{sixteen_chunks}
+use Rattle.qoi.proofs.encoding.BlockOut.{chunks_of}
 use Rattle.qoi.proofs.encoding.LaneTests.{themselves}
 use Rattle.qoi.proofs.encoding.SizeCodes.{sizes_coded}
 use Rattle.qoi.proofs.encoding.SpelledBlock.{lanes_long, lanes_are}

@@ -19,6 +19,6 @@ returns c = λ before changes.
     let sixteen = block_sixteen c.args.self.words c.args.self.packed in
     let s : State = record { held = []; last = q; carry = 0; placed = false } in
     let ls : List Lane = lanes_of [] q ps in
-    let rep = (changes s (record { red = refl; green = refl; blue = refl; alpha = refl })).rep_is in
+    let rep = (changes s refl).rep_is in
     c.all_set.ensures (map is_rep ls) (length-map ls is_rep ∙ lanes_long [] q ps ∙ sixteen.long) (rep.is ∙ sym (map-map mask is_rep ls))
     ∙ all_lanes [] q q ps refl
