@@ -47,10 +47,13 @@ fn encode_pixels<'p, W: Writer, const N: usize, const STYLE: u8, const ROOM: usi
         rest = after;
         piece = filled.open();
     }
+    let mut last = piece.piece;
     if rest.is_empty() {
-        return Ok(coder.write_last(piece));
+        coder.write_last(&mut last);
+    } else {
+        coder.write_few(style, &mut table, &mut last, rest);
     }
-    Ok(coder.write_few(style, &mut table, piece, rest))
+    Ok(last)
 }
 
 /// Writes an image's raw bytes as chunks into the piece, and sends a full piece to the writer each

@@ -1,8 +1,8 @@
 //! Writes pixels one by one, and groups of repeats, as chunks into a piece (QOI specification 1.0,
 //! "Data" and "Chunks").
-ghost use Rattle.std.specs.Prelude.{◌≡◌, ◌≢◌, ℕ, ◌+◌, ◌*◌, ◌<◌, ◌≤◌, true, List, [], ◌∷◌, ◌++◌, Option, Some, length, drop, replicate, slice_get};
+ghost use Rattle.std.specs.Prelude.{◌≡◌, ◌≢◌, ℕ, ◌+◌, ◌-◌, ◌*◌, ◌<◌, ◌≤◌, true, List, [], ◌∷◌, ◌++◌, Option, Some, length, drop, replicate, slice_get};
 ghost use Rattle.qoi.specs.declared.chunk.Chunk.{Chunk};
-ghost use Rattle.qoi.specs.declared.encode.piece.TheConstants.{RUNS_AT_ONCE};
+ghost use Rattle.qoi.specs.declared.encode.piece.TheConstants.{PAST, RUNS_AT_ONCE};
 ghost use Rattle.qoi.specs.declared.types.Style.{Style};
 ghost use Rattle.qoi.specs.declared.types.Style.TheVariants.{Tight};
 ghost use Rattle.qoi.specs.Qoi.{RgbaPixel, Past, run_max, chunk_max, marker_size, previous, seen, hash, IsChunk, bytes_of};
@@ -19,7 +19,7 @@ ghost use Rattle.qoi.specs.inner.Table.{Holds};
 use crate::consts::{QOI_OP_RUN, QOI_RUN_MAX};
 use crate::encode::fresh::spell_pixel;
 use crate::encode::last::LastPixel;
-use crate::encode::piece::{OpenPiece, Piece, REPEATS_AT_ONCE};
+use crate::encode::piece::{Piece, REPEATS_AT_ONCE};
 use crate::encode::pixels::{PixelOf, Pixels};
 use crate::encode::runs::repeats_of;
 use crate::encode::table::PixelTable;
@@ -248,41 +248,37 @@ impl<const N: usize> Coder<N> {
     /// Writes the repeats that came before, and an image's last pixels, fewer than a block has, one
     /// by one.
     #[inline(never)]
-    pub(super) fn write_few<'p, const ROOM: usize>(
+    pub(super) fn write_few<const ROOM: usize>(
         &mut self,
         style: Style,
         table: &mut PixelTable,
-        piece: OpenPiece<'p, ROOM>,
+        piece: &mut Piece<ROOM>,
         raw: Pixels<N>,
-    ) -> Piece<'p, ROOM>
+    )
         requires few { length (pixels_in raw) < 16 }
+        requires not_full { piece.old.end < ROOM - PAST }
         ensures written { (ahead : List ℕ)
             → CoderBetween style ahead (pixels_in raw.entry) table.old self.old.last
-            (kept_bytes piece.entry.piece) → ahead ≡ kept_bytes result }
+            (kept_bytes piece.old) → ahead ≡ kept_bytes piece.new }
     {
-        let mut piece = piece.piece;
         let mut rest = raw;
         while !rest.is_empty() {
-            rest = self.write_next(style, table, &mut piece, rest);
+            rest = self.write_next(style, table, piece, rest);
         }
         piece.keep_run(self.last.repeats, QOI_OP_RUN);
-        piece
     }
 
     /// Writes the repeats that came before, if no pixel follows.
     #[inline(always)]
-    pub(super) fn write_last<'p, const ROOM: usize>(
-        &self,
-        piece: OpenPiece<'p, ROOM>,
-    ) -> Piece<'p, ROOM>
+    pub(super) fn write_last<const ROOM: usize>(&self, piece: &mut Piece<ROOM>)
+        requires { piece.old.end < ROOM - PAST }
         ensures { (style : Style) (ahead : List ℕ) (table : List RgbaPixel)
-            → CoderBetween style ahead [] table self.now.last (kept_bytes piece.entry.piece)
-            → ahead ≡ kept_bytes result }
+            → CoderBetween style ahead [] table self.now.last (kept_bytes piece.old)
+            → ahead ≡ kept_bytes piece.new }
     {
-        let mut piece = piece.piece;
         piece.keep_run(self.last.repeats, QOI_OP_RUN);
-        piece
     }
+
     /// `write_next` as a function of its own: a loop that has it inlined is slower.
     #[inline(never)]
     pub(super) fn write_open<'a, const ROOM: usize>(

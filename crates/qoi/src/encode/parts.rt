@@ -225,7 +225,13 @@ fn write_last<W: Write, const N: usize, const STYLE: u8, const ROOM: usize>(
         held.bytes(),
     )?;
     let mut coder = Coder::<N>::new(pending.last);
-    let mut piece = coder.write_few(style, &mut pending.table, piece, Pixels::<N>::new(left));
+    let mut piece = piece.piece;
+    coder.write_few(
+        style,
+        &mut pending.table,
+        &mut piece,
+        Pixels::<N>::new(left),
+    );
     send_last(writer, &mut piece)?;
     Ok(())
 }

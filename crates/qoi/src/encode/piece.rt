@@ -176,31 +176,13 @@ impl<'a, const ROOM: usize> Piece<'a, ROOM> {
         ensures refused { IfErr result (λ e. W.IsFault e
             × WroteBeginning W.wrote writer.old (kept_bytes self.old ++ end_marker) writer.new) }
     {
-        let end = copy_after(self.bytes, self.end, &QOI_PADDING);
-        send_kept::<W, ROOM>(writer, self.bytes, end)
+        let mut end = copy_after(self.bytes, self.end, &QOI_PADDING);
+        if end >= ROOM - PAST {
+            send_front::<W, ROOM>(writer, self.bytes)?;
+            end -= ROOM - PAST;
+        }
+        writer.write_many(&self.bytes[..end])
     }
-}
-
-// Sends the first `end` bytes to a writer, a full piece first if there are as many.
-#[inline(always)]
-fn send_kept<W: Writer, const ROOM: usize>(
-    writer: &mut W,
-    bytes: &mut [u8],
-    end: usize,
-) -> Result<()>
-    requires large { 2 * PAST ≤ ROOM }
-    requires size { length bytes.old ≡ ROOM }
-    requires within { end ≤ ROOM }
-    requires room { end ≤ W.room writer.old }
-    ensures written { OnOk result (W.wrote writer.old (take end bytes.old) writer.new) }
-    ensures refused { IfErr result (λ e. W.IsFault e
-        × WroteBeginning W.wrote writer.old (take end bytes.old) writer.new) }
-{
-    if end < ROOM - PAST {
-        return writer.write_many(&bytes[..end]);
-    }
-    send_front::<W, ROOM>(writer, bytes)?;
-    writer.write_many(&bytes[..end - (ROOM - PAST)])
 }
 
 // Sends a full piece to a writer, and moves the bytes after it to the front.

@@ -1,8 +1,8 @@
 -- A piece at a time.
-use Rattle.std.proofs.Common.{◌≡◌, ◌-◌, ◌++◌, [], sym, ap, ◌∙◌, arith, subst, append-nil}
+use Rattle.std.proofs.Common.{◌-◌, ◌++◌, ℕ, List, [], sym, ap, ◌∙◌, arith, subst, append-nil}
 use Rattle.std.proofs.lemmas.Result.{err_from_is_err_and}
 use Rattle.qoi.specs.declared.encode.piece.TheConstants.{PAST}
-use Rattle.qoi.specs.Qoi.{start}
+use Rattle.qoi.specs.Qoi.{RgbaPixel, start}
 use Rattle.qoi.specs.writers.Writes.{WroteBut}
 use Rattle.qoi.specs.inner.CoderLoop.{CoderBetween}
 use Rattle.qoi.specs.inner.Piece.{kept_bytes}
@@ -11,7 +11,7 @@ use Rattle.qoi.proofs.encoding.CoderLink.{coder_sent}
 use Rattle.qoi.proofs.encoding.PieceByPiece.{Sending, PieceBetween, piece_starts, piece_filled, piece_fits, piece_went, piece_part, piece_ends}
 use Rattle.qoi.proofs.encoding.PieceSent.{kept_length, sent_but, none_but}
 use Rattle.qoi.proofs.encode.chunks.encode_pixels.Given.{Over}
-use Rattle.qoi.proofs.encode.chunks.encode_pixels.Goals.{After-write_some-filled, then-is_full+in_ok-send, else-is_full}
+use Rattle.qoi.proofs.encode.chunks.encode_pixels.Goals.{After-write_some-filled, then-is_full+in_ok-send, else-is_full, then-is_empty, else-is_empty}
 use Rattle.qoi.proofs.encode.chunks.encode_pixels.Goals as goal
 
 pub new-coder-requires : goal.new-coder-requires
@@ -70,13 +70,13 @@ returns-in_err-send-clause-refused g c =
     let now = wrote g (goal.at.returns-in_err-send-clause-refused g c).After-write_some-filled in
     rw (e.1, e.2) (r.0, piece_part now (λ _ _ b. coder_sent b) r.1)
 
-pub returns-then-is_empty-clause-written : goal.returns-then-is_empty-clause-written
-returns-then-is_empty-clause-written g c =
-    let none : pixels_in c.loop-coder.rest ++ [] ≡ [] = append-nil (pixels_in c.loop-coder.rest) ∙ c.is_empty.ensures.0 c.if-is_empty.true in
-    piece_ends c.loop-coder.invariant.state (λ ahead b. c.write_last.ensures c.args.style ahead c.loop-coder.table
-    (subst (λ ps. CoderBetween c.args.style ahead ps c.loop-coder.table c.loop-coder.coder.last (kept_bytes c.loop-coder.piece.piece)) none b))
-
 pub returns-clause-written : goal.returns-clause-written
 returns-clause-written g c =
-    piece_ends c.loop-coder.invariant.state (λ ahead b. c.write_few.ensures.written ahead
-    (subst (λ ps. CoderBetween c.args.style ahead ps c.loop-coder.table c.loop-coder.coder.last (kept_bytes c.loop-coder.piece.piece)) (append-nil (pixels_in c.loop-coder.rest)) b))
+    let between : List ℕ → List RgbaPixel → Type 0 = λ ahead ps. CoderBetween c.args.style ahead ps c.loop-coder.table c.loop-coder.coder.last (kept_bytes c.loop-coder.piece.piece) in
+    let all = append-nil (pixels_in c.loop-coder.rest) in
+    piece_ends c.loop-coder.invariant.state (λ ahead b. elim c.if-is_empty.branch [
+      | then-is_empty w ↦
+          w.write_last.ensures c.args.style ahead c.loop-coder.table (subst (between ahead) (all ∙ c.is_empty.ensures.0 w.if-is_empty.true) b)
+          ∙ ap kept_bytes (sym w.last-is)
+      | else-is_empty w ↦ w.write_few.ensures.written ahead (subst (between ahead) all b) ∙ ap kept_bytes (sym w.last-is)
+    ])

@@ -18,7 +18,7 @@ loop-rest-preserved g c =
     let step = next.ensures in
     let some : pixels_in c.loop-rest.rest ≢ [] = λ none. true≢false (sym (c.is_empty.ensures.1 none) ∙ c.loop-rest-test.true) in
     let near : next.new.piece.end + chunk_max * length (pixels_in next.result)
-    ≤ c.args.piece.piece.end + (RUNS_AT_ONCE + 1) + chunk_max * length (pixels_in c.args.raw) = elim (cases_lt 0 c.loop-rest.self.last.repeats) [
+    ≤ c.args.piece.now.end + (RUNS_AT_ONCE + 1) + chunk_max * length (pixels_in c.args.raw) = elim (cases_lt 0 c.loop-rest.self.last.repeats) [
       | inl carried ↦ omega (arith, step.end, step.less, i.first carried some)
       | inr none ↦ omega (arith, step.each (omega (arith, none)), i.end)
     ] in
