@@ -171,17 +171,17 @@ long_read {f} {c} {n} {m} {start} {old} {new} {given} {p} {out} {table} {last} n
       ends = λ none. absurd (omega (arith, none, inside, fits));
     }
 
--- chunks were decoded that are kept
+-- chunks were decoded into the front of what is kept
 pub kept_read : {f c n m : ℕ} {start old new : Option (List ℕ)} {given : List ℕ} {p : Pieces} {out : List ℕ} {table : List ℕ} {last : ℕ}
-    (now : List ℕ) (at : ℕ) → IsChannels c → GivesPieces f c n start old given p → p.from ≡ p.to → (l : Lent f c n m start old given p out)
+    (now rest : List ℕ) (at : ℕ) → IsChannels c → GivesPieces f c n start old given p → p.from ≡ p.to → (l : Lent f c n m start old given p out)
     → DecoderBetween f c l.gone m (Consumes start new) (filling table last now at) → at < length now → length now < p.undecoded
-    → GivesPieces f c n start new given (record { table = table; last = last; bytes = now; from = 0; to = at; undecoded = p.undecoded - at })
-kept_read {f} {c} {n} {m} {start} {old} {new} {given} {p} {out} {table} {last} now at is h same l after inside fits =
+    → GivesPieces f c n start new given (record { table = table; last = last; bytes = now ++ rest; from = 0; to = at; undecoded = p.undecoded - at })
+kept_read {f} {c} {n} {m} {start} {old} {new} {given} {p} {out} {table} {last} now rest at is h same l after inside fits =
     let (all, stands, e) = closes given now at is after inside l.so_far in
     record {
-      within = (omega arith, omega (arith, inside));
+      within = (omega arith, omega (arith, inside, length-append now rest));
       size = kept_size (length given) (p.to - p.from) p.undecoded at (c * n) (omega (arith, same)) h.size (omega (arith, inside, fits));
-      goes_on = λ some. (all, stands, ap (λ k. given ++ take k now) (none_off at) ∙ e);
+      goes_on = λ some. (all, stands, ap (λ k. given ++ take k (now ++ rest)) (none_off at) ∙ ap (λ z. given ++ z) (take-append-le at now rest (omega (arith, inside))) ∙ e);
       ends = λ none. absurd (omega (arith, none, inside, fits));
     }
   where

@@ -114,7 +114,8 @@ impl<R: BufRead, const N: usize, const F: usize> Chunks<N, F> for Buffered<R> {
         out: &mut [u8],
         at: usize,
     ) -> Result<Reached> {
-        let now = decode_chunks::<R, N, F, true>(&mut self.0, table, last, out, at)?;
+        let front = chunks_in_buffer::<R, N, F>(&mut self.0, table, last, out, at)?;
+        let now = decode_chunks::<R, N, F, true>(&mut self.0, table, front.last, out, front.at)?;
         Ok(now)
     }
 

@@ -4,11 +4,12 @@ ghost use Rattle.std.specs.Io.KnownBytes.{Consumes};
 ghost use Rattle.qoi.specs.Qoi.{Past};
 ghost use Rattle.qoi.specs.Raw.{IsChannels, output};
 ghost use Rattle.qoi.specs.Decoding.{ReadsImage};
-ghost use Rattle.qoi.specs.declared.decode.pieces.TheConstants.{IN_PLACE};
+ghost use Rattle.qoi.specs.declared.decode.pieces.TheConstants.{KEPT, IN_PLACE};
+ghost use Rattle.qoi.specs.declared.decode.output.TheConstants.{RUN_ROOM};
 ghost use Rattle.qoi.specs.inner.Chunks.{RefusesChunks};
 ghost use Rattle.qoi.specs.inner.Filling.{filling, DecoderBetween};
 
-use crate::decode::chunks::Chunks;
+use crate::decode::chunks::{Chunks, Reached};
 use crate::decode::hashed::Hashed;
 use crate::decode::table::TermTable;
 use crate::error::Result;
@@ -17,8 +18,12 @@ use crate::error::Result;
 /// pixels of three channels and of four.
 const KEPT: usize = 3072;
 
-/// A piece of at least so many bytes is decoded in place.
+/// A piece of at least so many bytes is decoded in place, but for its last ones.
 const IN_PLACE: usize = 1536;
+
+/// How many bytes are decoded at once for those last ones: they have room for the blocks of any run
+/// twice, so that enough are decoded and few are copied.
+const AFTER_LONG: usize = 528;
 
 /// What stands between two pieces of an image: the table, the last pixel, bytes that are decoded
 /// and weren't given yet, and how many bytes aren't decoded.
@@ -30,6 +35,48 @@ pub struct Pieces {
     from: usize,
     to: usize,
     undecoded: usize,
+}
+
+// How many bytes to decode at once, and to keep, for a piece of `size` bytes.
+#[inline]
+fn kept_room(size: usize) -> usize
+    ensures some { 2 * RUN_ROOM ≤ result }
+    ensures within { result ≤ KEPT }
+    ensures whole { result % 12 ≡ 0 }
+    ensures enough { size < IN_PLACE → IN_PLACE + RUN_ROOM ≤ result }
+    ensures after { IN_PLACE ≤ size → 2 * RUN_ROOM + 16 ≤ result }
+{
+    if size < IN_PLACE { KEPT } else { AFTER_LONG }
+}
+
+// Decodes chunks into the first `size` bytes of `out`, as long as those have room for the blocks of
+// any run.
+fn front_of_image<R: Chunks<N, F>, const N: usize, const F: usize>(
+    reader: &mut R,
+    table: &mut TermTable,
+    last: Hashed,
+    out: &mut [u8],
+    size: usize,
+) -> Result<Reached>
+    requires channels { IsChannels N }
+    requires some { 0 < size }
+    requires within { size ≤ length out.old }
+    requires whole { size % N ≡ 0 }
+    ensures between { (gone : Past) (n : ℕ) (start : Option (List ℕ))
+        → DecoderBetween F N gone n (Consumes start (R.ahead reader.old))
+        (filling table.old last (take size out.old) 0)
+        → IfOk result (λ now. DecoderBetween F N gone n (Consumes start (R.ahead reader.new))
+        (filling table.new now.last (take size out.new) now.at)) }
+    ensures below { IfOk result (λ now. now.at < size) }
+    ensures filled { IfOk result (λ now. size < now.at + RUN_ROOM) }
+    ensures whole { IfOk result (λ now. now.at % N ≡ 0) }
+    ensures refused { (gone : Past) (n : ℕ) (start : Option (List ℕ))
+        → DecoderBetween F N gone n (Consumes start (R.ahead reader.old))
+        (filling table.old last (take size out.old) 0)
+        → (all : ℕ) → length gone + n ≤ all
+        → IfErr result (RefusesChunks R.in_memory all start (R.ahead reader.new)) }
+{
+    reader.some_chunks(table, last, &mut out[..size], 0)
 }
 
 // Decodes the rest of an image into the first `size` bytes of `out`, and takes the end marker.
@@ -136,6 +183,8 @@ impl Pieces {
             → IfErr result (RefusesChunks R.in_memory n start (R.ahead reader.new)) }
         ensures within { IfOk result (λ size. size ≤ length out.new) }
         ensures few { IfOk result (λ size. length out.new < size + IN_PLACE) }
+        ensures last { IN_PLACE ≤ length out.new
+            → IfOk result (λ size. length out.new < size + (RUN_ROOM + 3)) }
         ensures none { IfOk result (λ size. self.new.from ≡ self.new.to) }
         ensures pixels { IfOk result (λ size. KeepsPixels N self.new) }
         ensures left { IfOk result (λ size. size + bytes_left self.new ≡ bytes_left self.old) }
@@ -150,12 +199,16 @@ impl Pieces {
         Ok(now.at)
     }
 
-    // Decodes chunks that are kept, and at the end of the image the end marker.
+    // Decodes chunks that are kept, into `room` bytes or, near the end of the image, all of its
+    // rest, and then the end marker.
     fn decode_on<R: Chunks<N, F>, const N: usize, const F: usize>(
         &mut self,
         reader: &mut R,
+        room: usize,
     ) -> Result<()>
         requires channels { IsChannels N }
+        requires room { (0 < room) × (room ≤ KEPT) }
+        requires whole { room % N ≡ 0 }
         requires none { self.old.from ≡ self.old.to }
         requires some { 0 < self.old.undecoded }
         requires pixels { KeepsPixels N self.old }
@@ -166,13 +219,19 @@ impl Pieces {
             → GivesPieces F N n start (R.ahead reader.old) given self.old
             → IfErr result (RefusesChunks R.in_memory n start (R.ahead reader.new)) }
         ensures enough { OnOk result
-            (min self.old.undecoded IN_PLACE ≤ self.new.to - self.new.from) }
+            (min self.old.undecoded (room - RUN_ROOM) ≤ self.new.to - self.new.from) }
         ensures pixels { OnOk result (KeepsPixels N self.new) }
         ensures left { OnOk result (bytes_left self.new ≡ bytes_left self.old) }
     {
         self.from = 0;
         if KEPT < self.undecoded {
-            let now = reader.some_chunks(&mut self.table, self.last, &mut self.bytes, 0)?;
+            let now = front_of_image::<R, N, F>(
+                reader,
+                &mut self.table,
+                self.last,
+                &mut self.bytes,
+                room,
+            )?;
             self.last = now.last;
             self.to = now.at;
             self.undecoded -= now.at;
@@ -213,7 +272,8 @@ impl Pieces {
         if size == out.len() {
             return Ok(size);
         }
-        self.decode_on::<R, N, F>(reader)?;
+        let room = kept_room(out.len());
+        self.decode_on::<R, N, F>(reader, room)?;
         Ok(size)
     }
 }

@@ -1,6 +1,13 @@
 -- What a long piece left is decoded, and kept.
+use Rattle.std.proofs.Common.{◌≡◌, ◌%◌, arith}
 use Rattle.std.proofs.lemmas.Result.{err_from_is_err_and}
+use Rattle.qoi.proofs.format.WholePixels.{by_channels}
 use Rattle.qoi.proofs.decode.pieces.Pieces.decode_more.Goals as goal
+
+pub decode_on-requires-clause-whole : goal.decode_on-requires-clause-whole
+decode_on-requires-clause-whole g c =
+    let twelve = c.kept_room-room.ensures.whole in
+    by_channels (λ k. c.kept_room-room.result % k ≡ 0) c.requires.channels (omega (arith, twelve)) (omega (arith, twelve))
 
 pub returns-in_err-decode_on-clause-refused : goal.returns-in_err-decode_on-clause-refused
 returns-in_err-decode_on-clause-refused g c n start given h =

@@ -23,6 +23,10 @@ pub returns-clause-pixels : goal.returns-clause-pixels
 returns-clause-pixels g c =
     (c.requires.pixels.0, minus_whole g.row.N c.args.self.now.undecoded c.in_ok-now.now.at c.requires.channels c.requires.pixels.1 c.in_ok-now.ensures.whole)
 
+pub returns-clause-last : goal.returns-clause-last
+returns-clause-last g c long =
+    omega (arith, (front_most g.row.N c.args.out.now c.requires.channels).1, c.some_chunks.auto.out, c.in_ok-now.ensures.filled)
+
 pub returns-in_err-now-clause-refused : goal.returns-in_err-now-clause-refused
 returns-in_err-now-clause-refused g c n start given h =
     let p = err_from_is_err_and c.from_residual.result c.from_residual.ensures.1 in
