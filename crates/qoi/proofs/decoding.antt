@@ -4,6 +4,7 @@ pub mod Blocks
 pub mod FastSteps
 pub mod FilledBuffer
 pub mod FirstChunk
+pub mod FrontFile
 pub mod FrontImage
 pub mod Grown
 pub mod ImageSize
@@ -16,6 +17,7 @@ pub mod Progress
 pub mod Promised
 pub mod Refusals
 pub mod RefusedBytes
+pub mod Rows
 pub mod StreamReads
 pub mod StreamVerdicts
 pub mod TakenBytes

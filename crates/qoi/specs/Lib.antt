@@ -9,6 +9,7 @@ pub mod Decoding
 pub mod DecoderState
 pub mod Reading
 pub mod Images
+pub mod FrontFile
 pub mod Decoded
 pub mod PixelReader
 -- Rows and rectangles of raw bytes.

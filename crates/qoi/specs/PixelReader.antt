@@ -7,7 +7,6 @@ use Rattle.qoi.specs.declared.decode.pieces.Pieces.{Pieces}
 use Rattle.qoi.specs.Qoi.{channels_number, pixel_count, chunk_max, marker_size}
 use Rattle.qoi.specs.DecoderState.{DecoderState, output_byte_count, TakesAtMost}
 use Rattle.qoi.specs.Images.{front_image}
-use Rattle.qoi.specs.Reading.{StandsAhead}
 use Rattle.qoi.specs.Decoded.{HasDecoded, HasRefused}
 use Rattle.qoi.specs.inner.Pieces.{GivesPieces, bytes_left}
 
@@ -40,12 +39,18 @@ pub record HasGiven {R : Type 0} (d : DecoderState R) (start now : Option (List 
   pub channels : p.channels ≡ d.channels
   -- the image has as many bytes as were read and are left
   pub left : length given + pixels_left p ≡ output_byte_count d
-  -- of an image that stands ahead, the bytes that were read are the first ones
-  pub front : IfSome start (λ bytes. StandsAhead d.header bytes → given ≡ take (length given) (front_image d.channels d.header bytes))
+  -- the bytes that were read are the first ones of the image ahead
+  pub front : IfSome start (λ bytes. given ≡ take (length given) (front_image d.channels d.header bytes))
   -- for n pixels at most 5n + 8 bytes were taken
   pub within : TakesAtMost (chunk_max * pixel_count d.header + marker_size) start now
   -- if none are left, the decoder's image was decoded, and they are its bytes
   pub whole : pixels_left p ≡ 0 → HasDecoded d start now given
+
+-- Of that image k rows of `stride` bytes were read.
+pub record HasRows {R : Type 0} (d : DecoderState R) (start now : Option (List ℕ)) (stride k : ℕ) (p : PixelsState R) : Type 0 where
+  pub given : List ℕ
+  pub size : length given ≡ stride * k
+  pub read : HasGiven d start now given p
 
 -- The image was refused: some of it is left, and no more of it is read.
 abbrev pub IsSpent : {R : Type 0} → PixelsState R → Type 0

@@ -10,6 +10,10 @@ use Rattle.qoi.specs.Errors.{IsIoError}
 use Rattle.qoi.specs.Sent.{SendsPart}
 use Rattle.qoi.specs.inner.Pending.{ImageBetween}
 
+-- how many raw bytes of the image don't come yet
+abbrev pub raw_left : {W : Type 0} → PixelWriter W → ℕ
+raw_left p = p.left
+
 -- the same with these raw bytes more
 abbrev pub and_raw : EncoderState → List ℕ → EncoderState
 and_raw e raw = record e { raw = e.raw ++ raw }

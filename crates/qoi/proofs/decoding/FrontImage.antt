@@ -18,6 +18,7 @@ use Rattle.qoi.specs.Images.{front_chunk, chunks_after, front_chunks, front_imag
 use Rattle.qoi.proofs.decoding.Ahead.{header_read_from}
 use Rattle.qoi.proofs.decoding.LeastBytes.{nine_taken}
 use Rattle.qoi.proofs.decoding.OneFile.{decodes_more}
+use Rattle.qoi.proofs.decoding.PieceSteps.{longer}
 use Rattle.qoi.proofs.decoding.StreamVerdicts.{rgb_is_without_fourth}
 use Rattle.qoi.proofs.format.Appended.{length-meaning}
 use Rattle.qoi.proofs.format.OneVerdict.{StayBelowAfter}
@@ -72,6 +73,38 @@ after_is (suc left) n past (c ∷ cs) x hc below enough room =
     ∙ ap (λ z. F c (drop (length (bytes_of c)) z)) split
     ∙ ap (F c) (drop-append_seam (bytes_of c) rest)
     ∙ ap (λ z. c ∷ z) more
+
+-- chunks at the front that reach no n pixels are the first ones that are found there
+after_begins : (left n : ℕ) (past : Past) (cs : List Chunk) (x : List ℕ) → AreChunks cs → length (then_chunks past cs) < n → n ≤ length past + left
+    → (more : List Chunk) × (chunks_after left n past (chunk_bytes cs ++ x) ≡ cs ++ more)
+unfolding chunks_after
+after_begins left n past [] x hc short room = (chunks_after left n past x, refl)
+after_begins zero n past (c ∷ cs) x hc short room = absurd (omega (arith, longer past (c ∷ cs), short, room))
+after_begins (suc left) n past (c ∷ cs) x hc short room =
+    let bytes = chunk_bytes (c ∷ cs) ++ x in
+    let rest = chunk_bytes cs ++ x in
+    let split : bytes ≡ bytes_of c ++ rest = append_assoc (bytes_of c) (chunk_bytes cs) x in
+    let front : front_chunk bytes ≡ c = ap front_chunk split ∙ front_is c rest hc.0 in
+    let F : Chunk → List ℕ → List Chunk = λ d z. d ∷ chunks_after left n (then_chunk past d) z in
+    let few : length past < n = omega (arith, longer past (c ∷ cs), short) in
+    let (more, is) = after_begins left n (then_chunk past c) cs x hc.1 short (omega (arith, room, grows past c hc.0)) in (
+      more,
+      if_fails n (length past) [] (F (front_chunk bytes) (drop (length (bytes_of (front_chunk bytes))) bytes)) few
+          ∙ ap (λ d. F d (drop (length (bytes_of d)) bytes)) front
+          ∙ ap (λ z. F c (drop (length (bytes_of c)) z)) split
+          ∙ ap (F c) (drop-append_seam (bytes_of c) rest)
+          ∙ ap (λ z. c ∷ z) is,
+    )
+
+-- so an image's bytes begin with the pixels of chunks at the front
+pub image_begins : (channels : Channels) (h : Header) (cs : List Chunk) (left : List ℕ) → AreChunks cs → length (then_chunks [] cs) < pixel_count h
+    → (more : List Chunk) × (front_image channels h (chunk_bytes cs ++ left)
+    ≡ output (channels_number h.channels) (channels_number channels) (take (pixel_count h) (meaning (cs ++ more))))
+unfolding front_image front_chunks
+image_begins channels h cs left are short =
+    let n = pixel_count h in
+    let (more, is) = after_begins n n [] cs left are short (omega arith) in
+    (more, ap (λ ds. output (channels_number h.channels) (channels_number channels) (take n (meaning ds))) is)
 
 -- so for whole bytes these are the chunks
 front_chunks_are : (h : Header) (bytes : List ℕ) (cs : List Chunk) (rest : List ℕ) → IsWhole (pixel_count h) bytes cs rest

@@ -20,23 +20,10 @@ use Rattle.qoi.proofs.format.ChunkSteps.{given as pixels_after, then_chunks_give
 use Rattle.qoi.proofs.format.ChunksApart.{chunks_apart}
 use Rattle.qoi.proofs.format.WholePixels.{by_channels, length-output}
 use Rattle.qoi.proofs.decoding.Ahead.{image_read}
-use Rattle.qoi.proofs.decoding.FrontImage.{image_is}
+use Rattle.qoi.proofs.decoding.FrontImage.{image_begins, image_is}
 use Rattle.qoi.proofs.decoding.ImageSize.{channels_are}
 use Rattle.qoi.proofs.decoding.PieceSteps.{longer, kept_long}
 use Rattle.qoi.proofs.decoding.TakenBytes.{bytes_within, read_within}
-
--- a reading that goes on is the beginning of one that reaches n pixels
-begins : (n : ℕ) (past : Past) (cs ds : List Chunk) (x y : List ℕ) → AreChunks cs → AreChunks ds → chunk_bytes cs ++ x ≡ chunk_bytes ds ++ y
-    → length (then_chunks past cs) < n → n ≤ length (then_chunks past ds) → (more : List Chunk) × (ds ≡ cs ++ more)
-begins n past [] ds x y hc hd e short enough = (ds, refl)
-begins n past (c ∷ cs) [] x y hc hd e short enough = absurd (omega (arith, longer past (c ∷ cs), short, enough))
-begins n past (c ∷ cs) (d ∷ ds) x y hc hd e short enough =
-    let f : bytes_of c ++ (chunk_bytes cs ++ x) ≡ bytes_of d ++ (chunk_bytes ds ++ y) =
-    sym (append_assoc (bytes_of c) (chunk_bytes cs) x) ∙ e ∙ append_assoc (bytes_of d) (chunk_bytes ds) y in
-    let first = chunks_apart c d (chunk_bytes cs ++ x) (chunk_bytes ds ++ y) hc.0 hd.0 f in
-    let on = begins n (then_chunk past c) cs ds x y hc.1 hd.1 first.1 short
-    (subst (λ b. n ≤ length (then_chunks (then_chunk past b) ds)) (sym first.0) enough) in
-    (on.0, ap (λ b. b ∷ ds) (sym first.0) ∙ ap (λ z. c ∷ z) on.1)
 
 -- what stands at the front
 seam : {A : Type 0} (xs ys zs : List A) → zs ≡ xs ++ ys → xs ≡ take (length xs) zs
@@ -75,31 +62,27 @@ more_pixels n cs more gone is few =
 -- the pieces so far are the beginning of the image
 pub front_given : (channels : Channels) (h : Header) (start now : Option (List ℕ)) (given : List ℕ) (p : Pieces)
     → GivesPieces (channels_number h.channels) (channels_number channels) (pixel_count h) start now given p
-    → IfSome start (λ bytes. StandsAhead h bytes → given ≡ take (length given) (front_image channels h bytes))
-unfolding StandsAhead
+    → IfSome start (λ bytes. given ≡ take (length given) (front_image channels h bytes))
 front_given channels h None now given p s = tt
-front_given channels h (Some bytes) now given p s = λ (ds, rest, whole).
+front_given channels h (Some bytes) now given p s =
     elim (cases_lt 0 p.undecoded) [
-      | inl some ↦ going ds rest whole now given p s some
+      | inl some ↦ going now given p s some
       | inr none ↦ let read = image_read channels h bytes now (given ++ kept p) (s.ends (omega (arith, none))) in
           seam given (kept p) _ (sym (image_is channels h bytes read.0 (given ++ kept p) read.2))
     ]
   where
-    going : (ds : List Chunk) (rest : List ℕ) → IsWhole (pixel_count h) bytes ds rest → (now : Option (List ℕ)) (given : List ℕ) (p : Pieces)
-        → GivesPieces (channels_number h.channels) (channels_number channels) (pixel_count h) (Some bytes) now given p → 0 < p.undecoded
-        → given ≡ take (length given) (front_image channels h bytes)
-    going ds rest whole None given p s some = let (gone, stands, e) = s.goes_on some in absurd stands.taken
-    going ds rest whole (Some left) given p s some =
+    going : (now : Option (List ℕ)) (given : List ℕ) (p : Pieces) → GivesPieces (channels_number h.channels) (channels_number channels) (pixel_count h) (Some bytes) now given p
+        → 0 < p.undecoded → given ≡ take (length given) (front_image channels h bytes)
+    going None given p s some = let (gone, stands, e) = s.goes_on some in absurd stands.taken
+    going (Some left) given p s some =
         let f = channels_number h.channels in
         let c = channels_number channels in
         let n = pixel_count h in
         let (gone, stands, e) = s.goes_on some in
         let few : length gone < n = few_gone f c n _ gone given (kept p) p.undecoded (channels_are channels c refl) e (kept_long p s.within) s.size some in
-        let b = begins n [] stands.cs ds left (end_marker ++ rest) stands.chunks whole.has.chunks (sym stands.taken ∙ whole.has.split)
-        (omega (arith, few, ap length stands.pixels)) (omega (arith, whole.enough, length-meaning ds)) in
-        let pixels = ap (λ z. take n (meaning z)) b.1 ∙ more_pixels n stands.cs b.0 gone stands.pixels few in
-        let others = output f c (take (n - length gone) (pixels_after gone b.0)) in
+        let (more, is) = image_begins channels h stands.cs left stands.chunks (omega (arith, few, ap length stands.pixels)) in
+        let others = output f c (take (n - length gone) (pixels_after gone more)) in
         let image : front_image channels h bytes ≡ output f c (reverse gone) ++ others =
-        sym (image_is channels h bytes rest (output f c (take n (meaning ds))) (record { cs = ds; whole = whole; out_is = refl }))
-        ∙ ap (output f c) pixels ∙ flat_map-append (pixel_bytes f c) (reverse gone) (take (n - length gone) (pixels_after gone b.0)) in
+        ap (front_image channels h) stands.taken ∙ is ∙ ap (output f c) (more_pixels n stands.cs more gone stands.pixels few)
+        ∙ flat_map-append (pixel_bytes f c) (reverse gone) (take (n - length gone) (pixels_after gone more)) in
         seam given (kept p ++ others) _ (image ∙ ap (λ z. z ++ others) (sym e) ∙ append_assoc given (kept p) others)

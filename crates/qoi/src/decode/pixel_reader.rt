@@ -10,7 +10,8 @@ ghost use Rattle.qoi.specs.Images.{front_image, front_rest};
 ghost use Rattle.qoi.specs.Reading.{StandsAhead};
 ghost use Rattle.qoi.specs.inner.Chunks.{RefusesChunks};
 ghost use Rattle.qoi.specs.inner.Pieces.{bytes_left, KeepsPixels, GivesPieces};
-ghost use Rattle.qoi.specs.PixelReader.{as_decoder, pixels_left, HasGiven, RefusesPixels, IsSpent};
+ghost use Rattle.qoi.specs.PixelReader.{as_decoder, pixels_left, HasGiven, HasRows, RefusesPixels, IsSpent};
+ghost use Rattle.qoi.specs.Rectangles.{row_bytes};
 
 use crate::decode::Decoder;
 use crate::decode::pieces::Pieces;
@@ -180,6 +181,8 @@ impl<R: PieceReader> Decoder<R> {
         ensures start { HasGiven self (R.ahead self.reader) (R.ahead result.reader) [] result }
         ensures fresh { HasGiven (as_decoder result) (R.ahead result.reader)
             (R.ahead result.reader) [] result }
+        ensures rows { (stride : ℕ)
+            → HasRows self (R.ahead self.reader) (R.ahead result.reader) stride 0 result }
         ensures same { as_decoder result ≡ self }
     {
         let size = self.required_buf_len();
@@ -305,12 +308,20 @@ impl<R: PieceReader> PixelReader<R> {
             → HasGiven d start (R.ahead self.old.reader) given self.old
             → IfOk result (λ size.
             HasGiven d start (R.ahead self.new.reader) (given ++ take size buf.new) self.new) }
-        // Of an image that stands ahead they are those behind the bytes that were read before.
+        // In the image they are those behind the bytes that were read before.
         ensures follows { (d : DecoderState R) (bytes given : List ℕ)
             → HasGiven d (Some bytes) (R.ahead self.old.reader) given self.old
-            → StandsAhead d.header bytes
             → IfOk result (λ size. take size buf.new
             ≡ take size (drop (length given) (front_image d.channels d.header bytes))) }
+        // A buffer of a row that is filled: behind k rows of the image it is row k.
+        ensures rows { (d : DecoderState R) (start : Option (List ℕ)) (stride k : ℕ)
+            → HasRows d start (R.ahead self.old.reader) stride k self.old
+            → length buf.old ≡ stride → IfOk result (λ size. stride ≤ size
+            → HasRows d start (R.ahead self.new.reader) stride (k + 1) self.new) }
+        ensures row { (d : DecoderState R) (bytes : List ℕ) (stride k : ℕ)
+            → HasRows d (Some bytes) (R.ahead self.old.reader) stride k self.old
+            → length buf.old ≡ stride → IfOk result (λ size. stride ≤ size
+            → buf.new ≡ row_bytes stride (front_image d.channels d.header bytes) k) }
         ensures size { IfOk result (λ size. size ≡ min (length buf.old) (pixels_left self.old)) }
         ensures left { IfOk result (λ size. pixels_left self.new + size ≡ pixels_left self.old) }
         ensures none { min (length buf.old) (pixels_left self.old) ≡ 0

@@ -38,7 +38,7 @@ pub struct PixelWriter<W> {
 impl<W: Write + Drop> PixelWriter<W> {
     ghost use Rattle.qoi.specs.Encoded.{image_file};
     ghost use Rattle.qoi.specs.Sent.{SendsFile};
-    ghost use Rattle.qoi.specs.PixelWriter.{HasTaken, HasFailed, HasRefused, SendsSome, and_raw};
+    ghost use Rattle.qoi.specs.PixelWriter.{HasTaken, HasFailed, HasRefused, SendsSome, and_raw, raw_left};
 
     /// Sends the header of the image to the writer.
     ///
@@ -91,7 +91,8 @@ impl<W: Write + Drop> PixelWriter<W> {
 
     /// How many raw bytes of the image don't come yet.
     pub fn left(&self) -> usize
-        ensures { (e : EncoderState) (before : Option (List ℕ))
+        ensures left { result ≡ raw_left self.now }
+        ensures of_image { (e : EncoderState) (before : Option (List ℕ))
             → HasTaken W.contents e before self.now
             → length e.raw + result ≡ image_byte_count e.header }
     {
@@ -111,6 +112,7 @@ impl<W: Write + Drop> PixelWriter<W> {
         ensures taken { (e : EncoderState) (before : Option (List ℕ))
             → HasTaken W.contents e before self.old
             → OnOk result (HasTaken W.contents (and_raw e raw.now) before self.new) }
+        ensures left { OnOk result (raw_left self.new + length raw.now ≡ raw_left self.old) }
 
         // The refusals: a fault, or too many bytes; and any call after a fault.
         ensures refused { (e : EncoderState) (before : Option (List ℕ))

@@ -1,5 +1,5 @@
 -- Nothing was given yet.
-use Rattle.std.proofs.Common.{refl, arith, ◌∙◌}
+use Rattle.std.proofs.Common.{refl, arith, ◌∙◌, []}
 use Rattle.std.proofs.Math.Nat.{mul_comm}
 use Rattle.qoi.specs.Qoi.{channels_number, pixel_count}
 use Rattle.qoi.proofs.decoding.ImageSize.{channels_are}
@@ -16,3 +16,6 @@ returns-clause-start g c =
 
 pub returns-clause-fresh : goal.returns-clause-fresh
 returns-clause-fresh = returns-clause-start
+
+pub returns-clause-rows : goal.returns-clause-rows
+returns-clause-rows g c stride = record { given = []; size = omega arith; read = returns-clause-start g c }

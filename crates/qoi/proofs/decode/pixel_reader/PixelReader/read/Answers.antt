@@ -1,6 +1,6 @@
 -- A piece more is given, or the image is refused.
 use Rattle.std.proofs.Common.{◌≡◌, ◌++◌, List, ℕ, Some, take, drop, length, arith, refl, sym, ap, ◌∙◌, subst}
-use Rattle.std.proofs.lemmas.List.{length-append, length-take, length-take-le, drop_at, drop-take}
+use Rattle.std.proofs.lemmas.List.{length-append, length-drop, length-take, length-take-le, drop_at, drop-take}
 use lib.Seq.{take-append_seam}
 use Rattle.qoi.specs.declared.header.Header.{Header}
 use Rattle.qoi.specs.declared.types.Channels.{Channels}
@@ -8,6 +8,7 @@ use Rattle.qoi.specs.Images.{front_image}
 use Rattle.qoi.specs.Qoi.{IsValid, pixel_count}
 use Rattle.qoi.specs.PixelReader.{PixelsState, HasGiven}
 use Rattle.qoi.specs.inner.Chunks.{RefusesChunks}
+use Rattle.qoi.proofs.decoding.Rows.{row_more, row_next}
 use Rattle.qoi.proofs.decoding.PixelPieces.{byte_bounds, has_given, pieces_of, refuses_pixels}
 use Rattle.qoi.proofs.decode.pixel_reader.PixelReader.read.Goals as goal
 
@@ -38,13 +39,28 @@ returns-in-Ok-clause-read g c d start given h =
     (has_given d start _ (given ++ out) then after (ap (λ s. s.header) same ∙ header) (ap (λ s. s.channels) same ∙ chosen) going (byte_bounds d.header d.channels valid).0)
 
 pub returns-in-Ok-clause-follows : goal.returns-in-Ok-clause-follows
-returns-in-Ok-clause-follows g c d bytes given h stands =
+returns-in-Ok-clause-follows g c d bytes given h =
     let size = c.min-size.result in
     let piece = take size (c.next_piece.new.out ++ drop size c.args.buf.now) in
     let many : length piece ≡ size =
     omega (arith, c.next_piece.auto.out, length-take size c.args.buf.now, length-take size (c.next_piece.new.out ++ drop size c.args.buf.now), length-append c.next_piece.new.out (drop size c.args.buf.now), c.min-size.ensures) in
     let after = returns-in-Ok-clause-read g c d (Some bytes) given h in
-    rw many at (piece_follows d.channels d.header bytes given piece (after.front stands))
+    rw many at (piece_follows d.channels d.header bytes given piece after.front)
+
+pub returns-in-Ok-clause-rows : goal.returns-in-Ok-clause-rows
+returns-in-Ok-clause-rows g c d start stride k h long fills =
+    let size = c.min-size.result in
+    let row = c.next_piece.new.out ++ drop size c.args.buf.now in
+    row_more d start _ stride k size h.given row _ (returns-in-Ok-clause-read g c d start h.given h.read) h.size
+    (omega (arith, c.next_piece.auto.out, length-take size c.args.buf.now, length-append c.next_piece.new.out (drop size c.args.buf.now), length-drop size c.args.buf.now, c.min-size.ensures, long)) fills
+
+pub returns-in-Ok-clause-row : goal.returns-in-Ok-clause-row
+returns-in-Ok-clause-row g c d bytes stride k h long fills =
+    let size = c.min-size.result in
+    let row = c.next_piece.new.out ++ drop size c.args.buf.now in
+    row_next (front_image d.channels d.header bytes) h.given row stride k size (returns-in-Ok-clause-follows g c d bytes h.given h.read) h.size
+    (omega (arith, c.next_piece.auto.out, length-take size c.args.buf.now, length-append c.next_piece.new.out (drop size c.args.buf.now), length-drop size c.args.buf.now, c.min-size.ensures, long))
+    (omega (arith, fills, c.min-size.ensures, long))
 
 pub returns-in-Err-clause-refused : goal.returns-in-Err-clause-refused
 returns-in-Err-clause-refused g c d start given h =

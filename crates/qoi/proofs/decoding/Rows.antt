@@ -1,0 +1,22 @@
+-- A row more of an image is read.
+use Rattle.std.proofs.Common.{◌≡◌, ℕ, ◌+◌, ◌*◌, ◌≤◌, List, ◌++◌, length, take, drop, Option, arith, sym, ap, ◌∙◌, length-append}
+use Rattle.std.proofs.lemmas.List.{length-take, take_all}
+use Rattle.std.proofs.Math.Nat.{mul-suc}
+use Rattle.qoi.specs.DecoderState.{DecoderState}
+use Rattle.qoi.specs.PixelReader.{PixelsState, HasGiven, HasRows}
+use Rattle.qoi.specs.Rectangles.{row_bytes}
+
+-- what fills a buffer of a row is a row more
+pub row_more : {R : Type 0} (d : DecoderState R) (start now : Option (List ℕ)) (stride k size : ℕ) (given row : List ℕ) (p : PixelsState R)
+    → HasGiven d start now (given ++ take size row) p → length given ≡ stride * k → length row ≡ stride → stride ≤ size → HasRows d start now stride (k + 1) p
+row_more d start now stride k size given row p h before long fills = record {
+  given = given ++ take size row;
+  size = omega (arith, before, length-append given (take size row), ap length (take_all size row (omega (arith, long, fills))), long, mul-suc stride k);
+  read = h;
+}
+
+-- and it is the next one
+pub row_next : (image given row : List ℕ) (stride k size : ℕ) → take size row ≡ take size (drop (length given) image) → length given ≡ stride * k
+    → length row ≡ stride → size ≡ stride → row ≡ row_bytes stride image k
+row_next image given row stride k size follows before long is =
+    sym (take_all size row (omega (arith, long, is))) ∙ follows ∙ ap (λ n. take n (drop (length given) image)) is ∙ ap (λ n. take stride (drop n image)) before

@@ -1,0 +1,14 @@
+-- The file that bytes begin with.
+use Rattle.std.specs.Prelude.{◌≡◌, ℕ, ◌+◌, List, ◌++◌, length}
+use Rattle.qoi.specs.declared.header.Header.{Header}
+use Rattle.qoi.specs.declared.chunk.Chunk.{Chunk}
+use Rattle.qoi.specs.Qoi.{IsFile, file}
+use Rattle.qoi.specs.Images.{file_rest}
+
+-- A file stands at the front of the bytes, and `file_rest` follows it.
+pub record BeginsWithFile (bytes : List ℕ) : Type 0 where
+  pub header : Header
+  pub cs : List Chunk
+  pub is_file : IsFile header cs
+  pub split : bytes ≡ file header cs ++ file_rest bytes
+  pub size : length (file header cs) + length (file_rest bytes) ≡ length bytes
