@@ -8,7 +8,7 @@ use Rattle.qoi.specs.inner.Chunks.{RefusesChunks}
 use Rattle.qoi.specs.inner.Pieces.{GivesPieces}
 use Rattle.qoi.proofs.format.WholePixels.{by_channels}
 use Rattle.qoi.proofs.decoding.Progress.{none_written}
-use Rattle.qoi.proofs.decoding.PieceSteps.{Lent, lent, kept_read, rest_count, rest_read, rest_whole, times_whole, minus_whole}
+use Rattle.qoi.proofs.decoding.PieceSteps.{Lent, lent, kept_read, rest_count, rest_read, rest_whole, times_fillable, minus_whole}
 use Rattle.qoi.proofs.decode.pieces.Pieces.decode_on.Goals as goal
 
 -- all room is lent
@@ -25,16 +25,15 @@ rest_lent {c = c} p is h same size some short =
     let front = length-take-le p.undecoded p.bytes (omega (arith, size, short)) in
     lent (p.undecoded / c) (take p.undecoded p.bytes) is h same some (front ∙ rest_whole is h same some) (omega (arith, front))
 
-pub some_chunks-requires-clause-whole : goal.some_chunks-requires-clause-whole
-some_chunks-requires-clause-whole g c =
+pub some_chunks-requires : goal.some_chunks-requires
+some_chunks-requires g c =
     let size : length c.args.self.now.bytes ≡ 3072 = omega arith in
-    times_whole g.row.N (3072 / g.row.N) (length c.args.self.now.bytes) c.requires.channels
-    (size ∙ by_channels (λ k. 3072 ≡ k * (3072 / k)) c.requires.channels refl refl)
+    times_fillable (3072 / g.row.N) c.requires.channels (size ∙ by_channels (λ k. 3072 ≡ k * (3072 / k)) c.requires.channels refl refl)
 
 pub returns-then-self-gt-KEPT-clause-pixels : goal.returns-then-self-gt-KEPT-clause-pixels
 returns-then-self-gt-KEPT-clause-pixels g c = (
-  (omega arith, omega (arith, c.in_ok-now.ensures.within)),
-  minus_whole g.row.N c.args.self.now.undecoded c.in_ok-now.now.at c.requires.channels c.requires.pixels.1 c.in_ok-now.ensures.whole,
+  (omega arith, omega (arith, c.in_ok-now.ensures.read.fillable.within)),
+  minus_whole g.row.N c.args.self.now.undecoded c.in_ok-now.now.at c.requires.channels c.requires.pixels.1 c.in_ok-now.ensures.read.fillable.whole.1,
 )
 
 pub returns-clause-pixels : goal.returns-clause-pixels
@@ -50,8 +49,8 @@ pub returns-then-self-gt-KEPT-clause-read : goal.returns-then-self-gt-KEPT-claus
 returns-then-self-gt-KEPT-clause-read g c n start given h =
     let size : length c.args.self.now.bytes ≡ 3072 = omega arith in
     let l = all_lent c.args.self.now c.requires.channels h c.requires.none size (omega (arith, c.if-self-gt-KEPT.true)) in
-    kept_read c.some_chunks.new.out _ c.requires.channels h c.requires.none l (c.in_ok-now.ensures.between l.gone _ _ l.before)
-    (c.in_ok-now.ensures.below (omega (arith, size))) (omega (arith, size, c.some_chunks.auto.out, c.if-self-gt-KEPT.true))
+    kept_read c.some_chunks.new.out _ c.requires.channels h c.requires.none l (c.in_ok-now.ensures.read.goes_on.between l.gone _ _ l.before)
+    (c.in_ok-now.ensures.read.below refl (omega (arith, size))) (omega (arith, size, c.some_chunks.auto.out, c.if-self-gt-KEPT.true))
 
 pub returns-in_err-rest_of_image-clause-refused : goal.returns-in_err-rest_of_image-clause-refused
 returns-in_err-rest_of_image-clause-refused g c n start given h =
