@@ -1,12 +1,14 @@
 -- A chunk more, while there is room ahead.
-use Rattle.std.proofs.Common.{◌≡◌, ℕ, ◌+◌, ◌-◌, ◌*◌, ◌/◌, ◌%◌, ◌<◌, ◌≤◌, inl, inr, List, ◌++◌, length, take, drop, get_or, replicate, Bool, true, false, cond, arith, refl, sym, ap, ◌∙◌, subst, ◌∷◌, append_assoc}
+use Rattle.std.proofs.Common.{◌≡◌, ℕ, ◌+◌, ◌-◌, ◌*◌, ◌/◌, ◌%◌, ◌<◌, ◌≤◌, inl, inr, List, ◌++◌, length, take, drop, get_or, replicate, Bool, true, false, cond, nat_eq, arith, refl, sym, ap, ◌∙◌, subst, ◌∷◌, append_assoc}
 use Rattle.std.proofs.lemmas.Bool.{cases_lt}
+use Rattle.std.proofs.lemmas.Bool.Decides.{nat_tests}
+use Rattle.std.proofs.lemmas.List.{get_or-drop}
 use Rattle.std.proofs.Math.Seq.{take-add}
 use mir.Val.{bool_byte}
 use Rattle.qoi.specs.declared.decode.fast.Progress.{Progress}
 use Rattle.qoi.specs.Qoi.{Past}
 use Rattle.qoi.specs.Raw.{IsChannels}
-use Rattle.qoi.specs.inner.Filling.{upto, filling, HasWritten, HasFilled, DecodesChunk, DecoderBetween, IsFrontAfter, FastBetween}
+use Rattle.qoi.specs.inner.Filling.{upto, filling, further, IsFillable, HasWritten, HasFilled, DecodesChunk, DecoderBetween, IsFrontAfter, Fast, fast, FastStep}
 use Rattle.qoi.specs.inner.Hashed.{pixel_of_lanes, HoldsSeen}
 use Rattle.qoi.proofs.format.WholePixels.{by_channels}
 use Rattle.qoi.proofs.decoding.FilledBuffer.{filled_copies}
@@ -47,23 +49,76 @@ pub next_byte : (luma : Bool) (bytes : List ℕ) (taken size next : ℕ) → siz
 next_byte true bytes taken size next s e = let at : taken + 1 + size ≡ taken + 2 = omega (arith, s) in rw at e
 next_byte false bytes taken size next s e = let at : taken + 1 + size ≡ taken + 1 = omega (arith, s) in rw at e
 
--- a chunk more was taken, its pixel put at its index position and written `count` times
-pub fast_step : {f c : ℕ} {gone : Past} {n : ℕ} {front bytes table table' out out' : List ℕ} (now new : Progress) (count : ℕ) → IsChannels c → FastBetween f c gone n front bytes now table out
-    → now.at < length out → now.at + c * count ≤ length out → length out' ≡ length out → new.at ≡ now.at + c * count
+-- a luma has one byte more
+pub one_more : (luma : Bool) (size : ℕ) → size ≡ bool_byte luma → size ≤ 1
+one_more true size s = omega (arith, s)
+one_more false size s = omega (arith, s)
+
+-- an RGBA chunk has one byte more
+pub full_size : (b size : ℕ) → b < 256 → size ≡ bool_byte (nat_eq b 255) → (b < 255 → size ≡ 0) × (255 ≤ b → size ≡ 1)
+full_size b size low is = (λ less. grind (arith, nat_tests), λ more. grind (arith, nat_tests))
+
+-- a chunk was taken, its pixel put at its index position and written `count` times
+pub fast_step : {f c input room : ℕ} {bytes table table' out out' : List ℕ} (now new : Progress) (count : ℕ) → IsChannels c → now.at % c ≡ 0
+    → now.at < length out → now.at + c * count ≤ length out → length out' ≡ length out → new.at ≡ now.at + c * count → c * count ≤ room
     → ((past : Past) → HoldsSeen table past → HoldsSeen table' (pixel_of_lanes new.last ∷ past))
     → HasWritten f c (upto out now.at) (upto out' (now.at + c * count)) (replicate count (pixel_of_lanes new.last))
-    → new.next ≡ get_or bytes new.taken 0 → (k : ℕ) → new.taken ≡ now.taken + k
-    → (PutsCopies f c (pixel_of_lanes new.last) count (filling table now.last out now.at) (filling table' new.last out' (now.at + c * count))
+    → new.next ≡ get_or bytes new.taken 0 → new.next < 256 → (k : ℕ) → new.taken ≡ now.taken + k → 0 < k → k ≤ input
+    → (now.next ≡ get_or (drop now.taken bytes) 0 0
+    → PutsCopies f c (pixel_of_lanes new.last) count (filling table now.last out now.at) (filling table' new.last out' (now.at + c * count))
     → DecodesChunk f c (take k (drop now.taken bytes)) (filling table now.last out now.at) (filling table' new.last out' (now.at + c * count)))
-    → FastBetween f c gone n front bytes new table' out'
-fast_step {f} {c} {gone} {n} {front} {bytes} {table} {table'} {out} {out'} now new count is h inside fits size end put written next k taken decodes =
+    → FastStep f c input room bytes (fast now table out) (fast new table' out')
+fast_step {f} {c} {bytes = bytes} {table} {table'} {out} {out'} now new count is whole inside fits size end few put written next byte k taken some most decodes =
     let copies = λ (m : ℕ) (past : Past) (s : HasFilled f c m (upto out now.at) past). filled_copies f c m out out' now.at count (pixel_of_lanes new.last) past is inside fits size written s in
-    let decoded = decodes (record { last_is = refl; table = put; filled = copies }) in
+    let ends_whole = whole_after c now.at count is whole in
     record {
-      between = subst (λ at. DecoderBetween f c gone n (IsFrontAfter front bytes new.taken) (filling table' new.last out' at)) (sym end)
-          (goes_on {old = filling table now.last out now.at} {new = filling table' new.last out' (now.at + c * count)} is h.between inside decoded
-          (λ before is_front. ap (λ z. z ++ take k (drop now.taken bytes)) is_front ∙ append_assoc front (take now.taken bytes) (take k (drop now.taken bytes))
-          ∙ ap (λ z. front ++ z) (sym (take-add now.taken k bytes) ∙ ap (λ m. take m bytes) (sym taken)))
-          (rw size fits) (whole_after c now.at count is h.between.whole));
-      next_is = next;
+      between = λ gone n front h.
+          let first : now.next ≡ get_or (drop now.taken bytes) 0 0 = h.next_is ∙ ap (λ i. get_or bytes i 0) (omega arith) ∙ sym (get_or-drop now.taken bytes 0 0) in
+          let decoded = decodes first (record { last_is = refl; table = put; filled = copies }) in
+          record {
+            between = subst (λ at. DecoderBetween f c gone n (IsFrontAfter front bytes new.taken) (filling table' new.last out' at)) (sym end)
+                (goes_on {old = filling table now.last out now.at} {new = filling table' new.last out' (now.at + c * count)} is h.between inside decoded
+                (λ before is_front. ap (λ z. z ++ take k (drop now.taken bytes)) is_front ∙ append_assoc front (take now.taken bytes) (take k (drop now.taken bytes))
+                ∙ ap (λ z. front ++ z) (sym (take-add now.taken k bytes) ∙ ap (λ m. take m bytes) (sym taken)))
+                (rw size fits) ends_whole);
+            next_is = next;
+          };
+      taken = (omega (arith, taken), omega (arith, taken, most));
+      some = λ short. omega (arith, taken, some);
+      written = (omega (arith, end), omega (arith, end, few));
+      whole = rw end ends_whole;
+      byte = byte;
+    }
+
+-- the output can still be filled after a step
+pub fillable_after : {f c input room : ℕ} {bytes : List ℕ} {old new : Fast} → FastStep f c input room bytes old new → IsFillable c (upto old.out old.now.at)
+    → length new.out ≡ length old.out → new.now.at ≤ length new.out → IsFillable c (upto new.out new.now.at)
+fillable_after {c = c} step h size within = record { three_or_four = h.three_or_four; within = within; whole = (ap (λ k. k % c) size ∙ h.whole.0, step.whole) }
+
+-- two steps are one
+pub step_then : {f c i j k r s t : ℕ} {bytes : List ℕ} {old middle new : Fast} → FastStep f c i r bytes old middle → FastStep f c j s bytes middle new → i + j ≤ k → r + s ≤ t
+    → FastStep f c k t bytes old new
+step_then a b taken written = record {
+  between = λ gone n front h. b.between gone n front (a.between gone n front h);
+  taken = (omega (arith, a.taken, b.taken), omega (arith, a.taken, b.taken, taken));
+  some = λ short. omega (arith, a.taken, b.some short);
+  written = (omega (arith, a.written, b.written), omega (arith, a.written, b.written, written));
+  whole = b.whole;
+  byte = b.byte;
+}
+
+-- none of the bytes that are taken is left out at first
+pub step_at_first : {f c i r k t : ℕ} {bytes table out : List ℕ} {new : Fast} (p : Progress) → FastStep f c i r bytes (fast (further 0 p) table out) new → i ≤ k → r ≤ t
+    → FastStep f c k t bytes (fast p table out) new
+step_at_first {f} {c} {i} {r} {k} {t} {bytes} {table} {out} {new} p step taken written =
+    let to : (n : ℕ) → Progress = λ n. record { last = p.last; taken = n; at = p.at; next = p.next } in
+    let same : p.taken + 0 ≡ p.taken = omega arith in
+    let from = subst (λ n. FastStep f c i r bytes (fast (to n) table out) new) same step in
+    record {
+      between = from.between;
+      taken = (from.taken.0, omega (arith, from.taken, taken));
+      some = from.some;
+      written = (from.written.0, omega (arith, from.written, written));
+      whole = from.whole;
+      byte = from.byte;
     }

@@ -1,5 +1,5 @@
 -- A buffer that grows while it is decoded into.
-use Rattle.std.proofs.Common.{◌≡◌, ℕ, ◌+◌, ◌-◌, ◌*◌, ◌/◌, ◌%◌, ◌<◌, ◌≤◌, List, Option, None, Some, IfSome, [], ◌∷◌, ◌++◌, length, take, drop, replicate, min, arith, sym, ap, ◌∙◌, subst, length-append}
+use Rattle.std.proofs.Common.{◌≡◌, ℕ, ◌+◌, ◌-◌, ◌*◌, ◌/◌, ◌%◌, ◌<◌, ◌≤◌, List, false, Option, None, Some, IfSome, [], ◌∷◌, ◌++◌, length, take, drop, replicate, min, arith, sym, ap, ◌∙◌, subst, length-append}
 use Rattle.std.specs.Io.KnownBytes.{Consumes}
 use Rattle.std.proofs.lemmas.List.{length-replicate, take-append-le}
 use lib.Seq.{take-append_seam}
@@ -7,13 +7,15 @@ use Rattle.qoi.specs.declared.chunk.Chunk.{Chunk}
 use Rattle.qoi.specs.declared.decode.chunks.TheConstants.{STEP}
 use Rattle.qoi.specs.Qoi.{Past, AreBytes, Each, chunk_bytes, start, then_chunk, then_chunks}
 use Rattle.qoi.specs.Raw.{IsChannels}
-use Rattle.qoi.specs.Decoding.{HasTaken}
-use Rattle.qoi.specs.Verdicts.{AreCut, EndsBefore}
+use Rattle.qoi.specs.Verdicts.{IsPartOfChunk, AreCut, EndsBefore}
+use Rattle.qoi.specs.declared.error.Error.TheVariants.{IoError}
 use Rattle.qoi.specs.inner.Hashed.{pixel_of_lanes, HoldsSeen}
-use Rattle.qoi.specs.inner.Filling.{Filling, filling, DecoderBetween}
+use Rattle.qoi.specs.inner.Filling.{Filling, filling, IsFillable, DecoderBetween}
+use Rattle.qoi.specs.inner.Chunks.{GoesOn, RefusesFilling}
 use Rattle.qoi.proofs.format.WholePixels.{by_channels, whole_pixels}
 use Rattle.qoi.proofs.decoding.LeastBytes.{pixels_most}
-use Rattle.qoi.proofs.decoding.Progress.{fewer, few_left, start_between}
+use Rattle.qoi.proofs.decoding.Progress.{fewer, few_left, start_between, stream_ends}
+use Rattle.qoi.proofs.decoding.StreamReads.{cut_before}
 
 -- chunks that stand after fewer than m pixels stand after fewer than n, if that is no less
 stays_more : (m n : ℕ) → m ≤ n → (past : Past) (cs : List Chunk) → Each (λ past c. length past < m) past cs → Each (λ past c. length past < n) past cs
@@ -82,12 +84,12 @@ pub growing_on : {f c m : ℕ} {Taken : List ℕ → Type 0} {table : List ℕ} 
     → DecoderBetween f c [] m Taken (filling table last out at) → at < length out → items ≡ out → Growing f c Taken table last items at
 growing_on {f} {c} {m} {Taken} {table} {last} {at} out items is s inside same = subst (λ z. Growing f c Taken table last z at) (sym same) (grows is s inside)
 
--- both are whole pixels
-pub whole_sizes : {f c : ℕ} {gone : Past} {n : ℕ} {Taken : List ℕ → Type 0} {now : Filling} → IsChannels c → DecoderBetween f c gone n Taken now
-    → (length now.buffer.out % c ≡ 0) × (now.buffer.at % c ≡ 0)
-whole_sizes {c = c} {n = n} {now = now} is s =
+-- what stands between two chunks can be filled
+pub between_fillable : {f c : ℕ} {gone : Past} {n : ℕ} {Taken : List ℕ → Type 0} {now : Filling} → IsChannels c → DecoderBetween f c gone n Taken now → IsFillable c now.buffer
+between_fillable {c = c} {n = n} {now = now} is s =
     let size = length now.buffer.out in
-    (by_channels (λ k. size ≡ k * n → size % k ≡ 0) is (λ e. omega arith) (λ e. omega arith) s.filled.room, s.whole)
+    let whole = by_channels (λ k. size ≡ k * n → size % k ≡ 0) is (λ e. omega arith) (λ e. omega arith) s.filled.room in
+    record { three_or_four = is; within = s.within; whole = (whole, s.whole) }
 
 -- if there is room and fewer bytes are left than an end marker has, the bytes are cut for an image
 -- of any more pixels
@@ -128,9 +130,12 @@ ends_more m n bytes more (cs, part, has, short, is_part) = (
   is_part,
 )
 
--- the same of what was taken
-pub taken_more : (m n : ℕ) (old new : Option (List ℕ)) → m ≤ n → HasTaken old new (EndsBefore m) → HasTaken old new (EndsBefore n)
-taken_more m n old new more (taken, took, ends) = (taken, took, ends_more m n taken more ends)
+-- if a stream gives no whole chunk, it is refused
+pub stream_refused : {f c : ℕ} {ahead middle : Option (List ℕ)} {old now : Filling} (new : Option (List ℕ)) (part : List ℕ) → IsChannels c → GoesOn f c ahead middle old now
+    → now.buffer.at < length now.buffer.out → Consumes middle new part → IsPartOfChunk part → (e : _) → RefusesFilling f c false ahead new old (IoError e)
+stream_refused new part is on inside took is_part e gone n first h all more =
+    let (taken, so_far, ends) = stream_ends first _ new part is (on.between gone n first h) inside took is_part in
+    (taken, so_far, cut_before all taken (ends_more (length gone + n) all taken more ends))
 
 -- what is written is at most 248 bytes for each byte ahead
 pub written_most : {f c : ℕ} {gone : Past} {n : ℕ} {now : Filling} (start new : Option (List ℕ)) → IsChannels c → DecoderBetween f c gone n (Consumes start new) now

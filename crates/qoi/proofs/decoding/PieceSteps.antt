@@ -12,11 +12,11 @@ use Rattle.qoi.specs.declared.decode.pieces.Pieces.{Pieces}
 use Rattle.qoi.specs.Qoi.{Past, Each, AreChunks, chunk_bytes, end_marker, pixel_after, times, then_chunk, then_chunks}
 use Rattle.qoi.specs.Raw.{IsChannels, pixel_bytes, output}
 use Rattle.qoi.specs.Decoding.{StreamsPixels, ReadsImage}
-use Rattle.qoi.specs.inner.Filling.{HasSeen, filling, DecoderBetween}
+use Rattle.qoi.specs.inner.Filling.{HasSeen, IsFillable, upto, filling, DecoderBetween}
 use Rattle.qoi.specs.inner.Pieces.{kept, KeepsWithin, StandsAfter, GivesPieces}
 use Rattle.qoi.proofs.format.ChunkSteps.{times_some}
 use Rattle.qoi.proofs.format.WholePixels.{by_channels, length-output, take_whole}
-use Rattle.qoi.proofs.decoding.Progress.{fewer, none_written}
+use Rattle.qoi.proofs.decoding.Progress.{fewer, none_written, fillable_whole}
 use Rattle.qoi.proofs.decoding.StreamReads.{take-read}
 
 -- chunks give no fewer pixels
@@ -273,9 +273,9 @@ joined d m out long short front rest is size some long_is short_is =
 pub kept_long : (p : Pieces) → KeepsWithin p → length (kept p) ≡ p.to - p.from
 kept_long p within = length-take-le (p.to - p.from) (drop p.from p.bytes) (omega (arith, within, length-drop p.from p.bytes))
 
--- so many whole pixels, and an output that begins
-pub times_whole : (c q size : ℕ) → IsChannels c → size ≡ c * q → (size % c ≡ 0) × (0 % c ≡ 0)
-times_whole c q size is e = (by_channels (λ k. size ≡ k * q → size % k ≡ 0) is (λ s. omega arith) (λ s. omega arith) e, none_written c is)
+-- an output of so many whole pixels can be filled from its first byte
+pub times_fillable : {c : ℕ} {out : List ℕ} (q : ℕ) → IsChannels c → length out ≡ c * q → IsFillable c (upto out 0)
+times_fillable {out = out} q is e = fillable_whole is (by_channels (λ k. length out ≡ k * q → length out % k ≡ 0) is (λ s. omega arith) (λ s. omega arith) e)
 
 -- what whole pixels are left of whole ones
 pub minus_whole : (c a b : ℕ) → IsChannels c → a % c ≡ 0 → b % c ≡ 0 → (a - b) % c ≡ 0

@@ -1,10 +1,11 @@
 -- A decoder between two chunks: what it has taken, filled and seen.
-use Rattle.std.proofs.Common.{◌≡◌, ℕ, suc, ◌+◌, ◌*◌, ◌/◌, ◌%◌, ◌<◌, ◌≤◌, inl, inr, List, [], ◌∷◌, ◌++◌, length, take, replicate, reverse, min, Option, None, Some, IfSome, arith, refl, sym, ap, ◌∙◌, subst, append_assoc, append-nil, length-append}
+use Rattle.std.proofs.Common.{◌≡◌, ℕ, suc, ◌+◌, ◌*◌, ◌/◌, ◌%◌, ◌<◌, ◌≤◌, inl, inr, List, [], ◌∷◌, ◌++◌, length, take, replicate, reverse, min, false, Option, None, Some, IfSome, arith, refl, sym, ap, ◌∙◌, subst, append_assoc, append-nil, length-append}
 use Rattle.qoi.specs.Qoi.{RgbaPixel, Past, AreBytes, start, bytes_of, chunk_bytes, pixel_after, times, then_chunks, meaning, Reaches}
 use Rattle.std.specs.Io.KnownBytes.{Consumes}
 use Rattle.std.proofs.KnownBytes.{Consumes-trans}
 use Rattle.qoi.specs.Raw.{IsChannels, pixel_bytes, output}
-use Rattle.qoi.specs.inner.Filling.{Buffer, Filling, filling, HasFilled, DecodesChunk, DecoderBetween, IsFrontAfter}
+use Rattle.qoi.specs.inner.Filling.{Buffer, Filling, upto, filling, HasFilled, IsFillable, DecodesChunk, DecoderBetween, IsFrontAfter, TakesFront}
+use Rattle.qoi.specs.inner.Chunks.{GoesOn, TakesChunks, FillsOutput}
 use Rattle.qoi.specs.inner.Hashed.{pixel_of_lanes, HoldsSeen}
 use Rattle.qoi.specs.Verdicts.{IsPartOfChunk, EndsBefore, AreCut}
 use Rattle.qoi.specs.Decoding.{StreamsPixels}
@@ -30,6 +31,10 @@ fewer {c = c} {n = n} {b = b} {past = past} is h inside =
 -- none is a whole number of pixels
 pub none_written : (c : ℕ) → IsChannels c → 0 % c ≡ 0
 none_written c is = by_channels (λ k. 0 % k ≡ 0) is refl refl
+
+-- an output of whole pixels can be filled from its first byte
+pub fillable_whole : {c : ℕ} {out : List ℕ} → IsChannels c → length out % c ≡ 0 → IsFillable c (upto out 0)
+fillable_whole is whole = record { three_or_four = is; within = omega arith; whole = (whole, none_written _ is) }
 
 -- before the first chunk
 pub start_between : (f c : ℕ) (Taken : List ℕ → Type 0) (table : List ℕ) (last : ℕ) (out : List ℕ) → IsChannels c → length out % c ≡ 0
@@ -78,6 +83,14 @@ goes_on {f} {c} {gone} {n} {Taken} {Taken'} {old} {new} {bytes} is s inside g ta
       whole = whole;
     }
 
+-- the same of a chunk that was taken from the bytes ahead
+pub takes_chunk : {f c : ℕ} {ahead middle rest : Option (List ℕ)} {old now new : Filling} {bytes : List ℕ} → IsChannels c → GoesOn f c ahead middle old now
+    → now.buffer.at < length now.buffer.out → DecodesChunk f c bytes now new → Consumes middle rest bytes → IsFillable c new.buffer → GoesOn f c ahead rest old new
+takes_chunk {middle = middle} {rest = rest} {bytes = bytes} is on inside decoded took to = record {
+  between = λ gone n first h.
+      goes_on is (on.between gone n first h) inside decoded (λ before so_far. Consumes-trans first middle rest before bytes so_far took) to.within to.whole.1;
+}
+
 -- if the buffer is full, the chunks reach n pixels, and it holds the first n
 reads_all : {f c : ℕ} {gone : Past} {n : ℕ} {Taken : List ℕ → Type 0} {now : Filling} → IsChannels c → (s : DecoderBetween f c gone n Taken now) → length now.buffer.out ≤ now.buffer.at
     → Reaches (length gone + n) s.cs × (output f c (reverse gone) ++ now.buffer.out ≡ output f c (take (length gone + n) (meaning s.cs)))
@@ -102,10 +115,13 @@ pub front_of_none : {f c : ℕ} {gone : Past} {n : ℕ} {Taken : List ℕ → Ty
 front_of_none bytes s = taken_as s (sym (append-nil (chunk_bytes s.cs)))
 
 -- the front of what a reader showed was taken
-pub front_consumed : {f c : ℕ} {gone : Past} {n : ℕ} {now : Filling} (old middle new : Option (List ℕ)) (before bytes : List ℕ) (size : ℕ) → Consumes old middle before → Consumes middle new (take size bytes)
-    → DecoderBetween f c gone n (IsFrontAfter before bytes size) now → DecoderBetween f c gone n (Consumes old new) now
-front_consumed old middle new before bytes size so_far took s =
-    taken_as s (subst (Consumes old new) (sym s.taken) (Consumes-trans old middle new before (take size bytes) so_far took))
+pub front_taken : {f c : ℕ} {ahead rest : Option (List ℕ)} {old new : Filling} (bytes : List ℕ) (size : ℕ) → TakesFront f c bytes size old new → Consumes ahead rest (take size bytes)
+    → GoesOn f c ahead rest old new
+front_taken {ahead = ahead} {rest = rest} bytes size fast took = record {
+  between = λ gone n first h.
+      let s = fast gone n (chunk_bytes h.cs) (front_of_none bytes h) in
+      taken_as s (subst (Consumes first rest) (sym s.taken) (Consumes-trans first ahead rest (chunk_bytes h.cs) (take size bytes) h.taken took));
+}
 
 -- if there is room and fewer bytes are left than an end marker has, the bytes are cut
 pub few_left : {f c : ℕ} {gone : Past} {n : ℕ} {now : Filling} (start : Option (List ℕ)) (rest : List ℕ) → IsChannels c → DecoderBetween f c gone n (Consumes start (Some rest)) now
@@ -140,6 +156,10 @@ pub streams_pixels : {f c : ℕ} {gone : Past} {n : ℕ} {old new : Option (List
 streams_pixels is s full =
     let all = reads_all is s full in
     record { cs = s.cs; chunks = s.chunks; reaches = all.0; taken = subst (Consumes _ _) (sym (append-nil (chunk_bytes s.cs))) s.taken; out_is = all.1 }
+
+-- the same of all chunks that fill a buffer
+pub fills_output : {f c : ℕ} {ahead rest : Option (List ℕ)} {old new : Filling} → TakesChunks f c false ahead rest old new → FillsOutput f c ahead rest old new.buffer.out
+fills_output t gone n first h = streams_pixels t.fillable.three_or_four (t.goes_on.between gone n first h) (t.full refl)
 
 -- the same with none before them
 pub first_streams : {f c n : ℕ} {old new : Option (List ℕ)} {out : List ℕ} → StreamsPixels f c (length {A = RgbaPixel} [] + n) old new (output f c (reverse []) ++ out)

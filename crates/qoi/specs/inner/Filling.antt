@@ -1,10 +1,10 @@
 -- A buffer that is filled with pixels, and the state of a decoder between two chunks.
-use Rattle.std.specs.Prelude.{◌≡◌, ℕ, ◌*◌, ◌%◌, ◌+◌, ◌≤◌, List, [], ◌++◌, length, take, reverse, replicate, min, slice_index}
+use Rattle.std.specs.Prelude.{◌≡◌, ℕ, ◌-◌, ◌*◌, ◌/◌, ◌%◌, ◌+◌, ◌<◌, ◌≤◌, List, [], ◌++◌, length, take, reverse, replicate, min, slice_index}
 use Rattle.qoi.specs.declared.chunk.Chunk.{Chunk}
 use Rattle.qoi.specs.declared.decode.fast.Progress.{Progress}
-use Rattle.qoi.specs.Qoi.{RgbaPixel, Past, previous, IsChunk, AreChunks, bytes_of, chunk_bytes, times, then_chunk, then_chunks, StayBelow}
+use Rattle.qoi.specs.Qoi.{RgbaPixel, Past, run_tag, previous, IsChunk, AreChunks, bytes_of, chunk_bytes, times, then_chunk, then_chunks, StayBelow}
 use Rattle.qoi.specs.inner.Hashed.{pixel_of_lanes, HoldsSeen}
-use Rattle.qoi.specs.Raw.{output}
+use Rattle.qoi.specs.Raw.{IsChannels, output}
 
 -- a buffer, and how many of its bytes are written
 pub record Buffer : Type 0 where
@@ -30,6 +30,12 @@ pub record HasFilled (file_channels channels n : ℕ) (b : Buffer) (past : Past)
 -- both are numbers of bytes of whole pixels
 abbrev pub IsWholePixels : ℕ → ℕ → ℕ → Type 0
 IsWholePixels channels size at = (size % channels ≡ 0) × (at % channels ≡ 0)
+
+-- the buffer can be filled with pixels from where it stops
+pub record IsFillable (channels : ℕ) (b : Buffer) : Type 0 where
+  pub three_or_four : IsChannels channels
+  pub within : b.at ≤ length b.out
+  pub whole : IsWholePixels channels (length b.out) b.at
 
 -- what a decoder has between two chunks: the numbers in the table, that of the last pixel, and the
 -- output
@@ -78,6 +84,11 @@ pub record DecoderBetween (file_channels channels : ℕ) (gone : Past) (n : ℕ)
 abbrev pub IsFrontAfter : List ℕ → List ℕ → ℕ → List ℕ → Type 0
 IsFrontAfter before bytes size taken = taken ≡ before ++ take size bytes
 
+-- the first `size` bytes were taken, as chunks after those before them
+abbrev pub TakesFront : ℕ → ℕ → List ℕ → ℕ → Filling → Filling → Type 0
+TakesFront f c bytes size old new = (gone : Past) (n : ℕ) (before : List ℕ)
+    → DecoderBetween f c gone n (IsFrontAfter before bytes 0) old → DecoderBetween f c gone n (IsFrontAfter before bytes size) new
+
 -- the same, with `count` bytes more taken
 abbrev pub further : ℕ → Progress → Progress
 further count p = record { last = p.last; taken = p.taken + count; at = p.at; next = p.next }
@@ -86,3 +97,31 @@ further count p = record { last = p.last; taken = p.taken + count; at = p.at; ne
 pub record FastBetween (file_channels channels : ℕ) (gone : Past) (n : ℕ) (before bytes : List ℕ) (now : Progress) (table out : List ℕ) : Type 0 where
   pub between : DecoderBetween file_channels channels gone n (IsFrontAfter before bytes now.taken) (filling table now.last out now.at)
   pub next_is : now.next ≡ slice_index bytes now.taken
+
+-- the fast loop may read so many bytes ahead, and write so many
+pub record HasAhead (channels input room : ℕ) (bytes out : List ℕ) (now : Progress) : Type 0 where
+  pub three_or_four : IsChannels channels
+  pub whole : now.at % channels ≡ 0
+  pub byte : now.next < 256
+  pub input_is : now.taken + input ≤ length bytes
+  pub room_is : now.at + room ≤ length out
+
+-- what the fast loop has between two chunks, with the table and the output
+pub record Fast : Type 0 where
+  pub now : Progress
+  pub table : List ℕ
+  pub out : List ℕ
+
+-- all three
+abbrev pub fast : Progress → List ℕ → List ℕ → Fast
+fast now table out = record { now = now; table = table; out = out }
+
+-- a step of the fast loop: how far it goes on at most, and that it does if a short chunk comes next
+pub record FastStep (file_channels channels input room : ℕ) (bytes : List ℕ) (old new : Fast) : Type 0 where
+  pub between : (gone : Past) (n : ℕ) (before : List ℕ) → FastBetween file_channels channels gone n before bytes old.now old.table old.out
+      → FastBetween file_channels channels gone n before bytes new.now new.table new.out
+  pub taken : (old.now.taken ≤ new.now.taken) × (new.now.taken ≤ old.now.taken + input)
+  pub some : new.now.next ≤ run_tag - 1 + 16 / channels → old.now.taken < new.now.taken
+  pub written : (old.now.at ≤ new.now.at) × (new.now.at ≤ old.now.at + room)
+  pub whole : new.now.at % channels ≡ 0
+  pub byte : new.now.next < 256

@@ -1,12 +1,9 @@
 //! Decoding an image from a reader with a buffer of its own.
-ghost use Rattle.std.specs.Prelude.{ℕ, ◌≡◌, ◌+◌, ◌%◌, ◌<◌, ◌≤◌, List, [], length, IsTrue, IsFalse, false, Option, IfOk, OnErr};
+ghost use Rattle.std.specs.Prelude.{◌<◌, ◌≤◌, [], length, false, IfOk, IfErr, OnErr};
 ghost use Rattle.std.specs.Io.KnownBytes.{Consumes};
-ghost use Rattle.qoi.specs.Qoi.{Past};
-ghost use Rattle.qoi.specs.Raw.{IsChannels};
-ghost use Rattle.qoi.specs.Verdicts.{EndsBefore};
-ghost use Rattle.qoi.specs.Decoding.{HasTaken};
-ghost use Rattle.qoi.specs.declared.decode.output.TheConstants.{RUN_ROOM};
-ghost use Rattle.qoi.specs.inner.Filling.{IsWholePixels, filling, DecoderBetween};
+ghost use Rattle.qoi.specs.declared.error.Error.{Error};
+ghost use Rattle.qoi.specs.inner.Chunks.{GoesOn, TakesChunks, RefusesFilling};
+ghost use Rattle.qoi.specs.inner.Filling.{IsFillable, upto, filling};
 
 use crate::decode::chunks::{Chunks, Reached};
 use crate::decode::fast::{OUTPUT_ROOM, Progress};
@@ -31,17 +28,12 @@ fn chunks_in_buffer<R: BufRead, const N: usize, const F: usize>(
     out: &mut [u8],
     at: usize,
 ) -> io::Result<Reached>
-    requires channels { IsChannels N }
-    requires within { at ≤ length out.old }
-    ensures between { (gone : Past) (n : ℕ) (start : Option (List ℕ))
-        → DecoderBetween F N gone n (Consumes start (R.remaining reader.old))
-        (filling table.old last out.old at)
-        → IfOk result (λ now. DecoderBetween F N gone n (Consumes start (R.remaining reader.new))
-        (filling table.new now.last out.new now.at)) }
+    requires { IsFillable N (upto out.old at) }
+    ensures between { IfOk result (λ now. GoesOn F N (R.remaining reader.old) (R.remaining reader.new)
+        (filling table.old last out.old at) (filling table.new now.last out.new now.at)) }
     ensures on { IfOk result (λ now. at ≤ now.at) }
     ensures below { at < length out.old → IfOk result (λ now. now.at < length out.new) }
-    ensures within { IfOk result (λ now. now.at ≤ length out.new) }
-    ensures whole { at % N ≡ 0 → IfOk result (λ now. now.at % N ≡ 0) }
+    ensures fillable { IfOk result (λ now. IsFillable N (upto out.new now.at)) }
     ensures failed { OnErr result
         (Consumes (R.remaining reader.old) (R.remaining reader.new) []) }
     ensures unfilled { OnErr result (at < length out.old) }
@@ -70,24 +62,13 @@ fn decode_chunks<R: BufRead, const N: usize, const F: usize, const RUN_FITS: boo
     out: &mut [u8],
     at: usize,
 ) -> io::Result<Reached>
-    requires channels { IsChannels N }
-    requires within { at ≤ length out.old }
-    requires whole { IsWholePixels N (length out.old) at }
-    ensures between { (gone : Past) (n : ℕ) (start : Option (List ℕ))
-        → DecoderBetween F N gone n (Consumes start (R.remaining reader.old))
-        (filling table.old last out.old at)
-        → IfOk result (λ now. DecoderBetween F N gone n (Consumes start (R.remaining reader.new))
-        (filling table.new now.last out.new now.at)) }
-    ensures below { IsTrue RUN_FITS → at < length out.old
-        → IfOk result (λ now. now.at < length out.new) }
-    ensures filled { IsTrue RUN_FITS → IfOk result (λ now. length out.new < now.at + RUN_ROOM) }
-    ensures full { IsFalse RUN_FITS → IfOk result (λ now. length out.new ≤ now.at) }
-    ensures within { IfOk result (λ now. now.at ≤ length out.new) }
-    ensures whole { IfOk result (λ now. now.at % N ≡ 0) }
-    ensures failed { (gone : Past) (n : ℕ) (start : Option (List ℕ))
-        → DecoderBetween F N gone n (Consumes start (R.remaining reader.old))
-        (filling table.old last out.old at)
-        → OnErr result (HasTaken start (R.remaining reader.new) (EndsBefore (length gone + n))) }
+    requires { IsFillable N (upto out.old at) }
+    ensures read { IfOk result (λ now. TakesChunks F N RUN_FITS
+        (R.remaining reader.old) (R.remaining reader.new)
+        (filling table.old last out.old at) (filling table.new now.last out.new now.at)) }
+    ensures refused { IfErr result (λ e. RefusesFilling F N false
+        (R.remaining reader.old) (R.remaining reader.new)
+        (filling table.old last out.old at) (Error.IoError e)) }
 {
     let least = if RUN_FITS { RUN_ROOM } else { 1 };
     let mut last = last;

@@ -1,12 +1,12 @@
 //! The loops of every kind of reader: into a buffer, and into a vector that grows.
-ghost use Rattle.std.specs.Prelude.{◌≡◌, ℕ, ◌+◌, ◌-◌, ◌*◌, ◌/◌, ◌%◌, ◌<◌, ◌≤◌, List, ◌++◌, length, replicate, reverse, Option, Bool, IfSome, IfOk, IfErr, OnOk};
+ghost use Rattle.std.specs.Prelude.{◌≡◌, ℕ, ◌+◌, ◌-◌, ◌*◌, ◌/◌, ◌%◌, ◌≤◌, List, ◌++◌, length, replicate, Option, Bool, true, IfSome, IfOk, IfErr, OnOk};
 ghost use Rattle.std.specs.Vec.{vec_len, vec_capacity};
 ghost use Rattle.std.specs.Io.KnownBytes.{Consumes};
-ghost use Rattle.qoi.specs.Qoi.{Past, end_marker, run_max};
-ghost use Rattle.qoi.specs.Raw.{IsChannels, output};
+ghost use Rattle.qoi.specs.Qoi.{end_marker, run_max};
+ghost use Rattle.qoi.specs.Raw.{IsChannels};
 ghost use Rattle.qoi.specs.Decoding.{StreamsPixels, ReadsImage};
-ghost use Rattle.qoi.specs.inner.Chunks.{RefusesChunks, RefusesAfter};
-ghost use Rattle.qoi.specs.inner.Filling.{IsWholePixels, filling, DecoderBetween};
+ghost use Rattle.qoi.specs.inner.Chunks.{RefusesChunks, RefusesAfter, TakesChunks, FillsOutput, RefusesFilling};
+ghost use Rattle.qoi.specs.inner.Filling.{IsFillable, upto, filling};
 ghost use Rattle.qoi.specs.declared.decode.chunks.TheConstants.{STEP};
 ghost use Rattle.qoi.specs.declared.decode.output.TheConstants.{RUN_ROOM};
 
@@ -43,23 +43,11 @@ pub(super) trait Chunks<const N: usize, const F: usize>: Sized {
         out: &mut [u8],
         at: usize,
     ) -> Result<Reached>
-        requires channels { IsChannels N }
-        requires within { at ≤ length out.old }
-        requires whole { IsWholePixels N (length out.old) at }
-        ensures between { (gone : Past) (n : ℕ) (start : Option (List ℕ))
-            → DecoderBetween F N gone n (Consumes start (ahead self.old))
-            (filling table.old last out.old at)
-            → IfOk result (λ now. DecoderBetween F N gone n (Consumes start (ahead self.new))
-            (filling table.new now.last out.new now.at)) }
-        ensures below { at < length out.old → IfOk result (λ now. now.at < length out.new) }
-        ensures filled { IfOk result (λ now. length out.new < now.at + RUN_ROOM) }
-        ensures within { IfOk result (λ now. now.at ≤ length out.new) }
-        ensures whole { IfOk result (λ now. now.at % N ≡ 0) }
-        ensures refused { (gone : Past) (n : ℕ) (start : Option (List ℕ))
-            → DecoderBetween F N gone n (Consumes start (ahead self.old))
-            (filling table.old last out.old at)
-            → (all : ℕ) → length gone + n ≤ all
-            → IfErr result (RefusesChunks in_memory all start (ahead self.new)) };
+        requires { IsFillable N (upto out.old at) }
+        ensures read { IfOk result (λ now. TakesChunks F N true (ahead self.old) (ahead self.new)
+            (filling table.old last out.old at) (filling table.new now.last out.new now.at)) }
+        ensures refused { IfErr result (RefusesFilling F N in_memory
+            (ahead self.old) (ahead self.new) (filling table.old last out.old at)) };
 
     /// The same until `out` is full; takes no byte past the last chunk.
     fn all_chunks(
@@ -69,18 +57,11 @@ pub(super) trait Chunks<const N: usize, const F: usize>: Sized {
         out: &mut [u8],
         at: usize,
     ) -> Result<()>
-        requires channels { IsChannels N }
-        requires within { at ≤ length out.old }
-        requires whole { IsWholePixels N (length out.old) at }
-        ensures read { (gone : Past) (n : ℕ) (start : Option (List ℕ))
-            → DecoderBetween F N gone n (Consumes start (ahead self.old))
-            (filling table.old last out.old at)
-            → OnOk result (StreamsPixels F N (length gone + n) start (ahead self.new)
-            (output F N (reverse gone) ++ out.new)) }
-        ensures refused { (gone : Past) (n : ℕ) (start : Option (List ℕ))
-            → DecoderBetween F N gone n (Consumes start (ahead self.old))
-            (filling table.old last out.old at)
-            → IfErr result (RefusesChunks in_memory (length gone + n) start (ahead self.new)) };
+        requires { IsFillable N (upto out.old at) }
+        ensures read { OnOk result (FillsOutput F N (ahead self.old) (ahead self.new)
+            (filling table.old last out.old at) out.new) }
+        ensures refused { IfErr result (RefusesFilling F N in_memory
+            (ahead self.old) (ahead self.new) (filling table.old last out.old at)) };
 
     /// Takes the end marker, or refuses the bytes ahead.
     fn marker(&mut self) -> Result<()>

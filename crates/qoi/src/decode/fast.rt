@@ -1,9 +1,8 @@
 //! The loop over chunks in memory while input and output have room ahead for eight short ones and a
 //! full one, which is tested once for all nine. It can go on from any pixel.
-ghost use Rattle.std.specs.Prelude.{◌≡◌, ◌↔◌, IsTrue, ℕ, ◌+◌, ◌-◌, ◌*◌, ◌/◌, ◌%◌, ◌<◌, ◌≤◌, ◌^◌, List, length};
-ghost use Rattle.qoi.specs.Qoi.{Past, run_tag, rgb_tag};
+ghost use Rattle.std.specs.Prelude.{◌≡◌, ◌↔◌, IsTrue, ◌+◌, ◌-◌, ◌*◌, ◌/◌, ◌<◌, ◌≤◌, ◌^◌, length};
+ghost use Rattle.qoi.specs.Qoi.{run_tag, rgb_tag};
 ghost use Rattle.qoi.specs.Raw.{IsChannels};
-ghost use Rattle.qoi.specs.declared.decode.output.TheConstants.{RUN_ROOM};
 
 use crate::consts::{QOI_OP_RGB, QOI_OP_RGBA, QOI_OP_RUN};
 use crate::decode::deltas::{advance, is_luma};
@@ -41,7 +40,7 @@ fn is_short<const N: usize>(b1: u8) -> bool
 }
 
 impl Progress {
-    ghost use Rattle.qoi.specs.inner.Filling.{IsFrontAfter, filling, further, DecoderBetween, FastBetween};
+    ghost use Rattle.qoi.specs.inner.Filling.{IsFillable, upto, filling, further, TakesFront, HasAhead, fast, FastStep};
 
     // The same, with `count` bytes more taken.
     #[inline(always)]
@@ -70,19 +69,11 @@ impl Progress {
         bytes: &[u8],
         out: &mut [u8],
     ) -> Progress
-        requires channels { IsChannels N }
         requires done { DONE < 4 }
-        requires input { self.taken + DONE + 3 ≤ length bytes.now }
-        requires room { self.at + 16 ≤ length out.old }
+        requires ahead { HasAhead N 3 16 bytes.now out.old (further DONE self) }
         requires short { self.next ≤ run_tag - 1 + 16 / N }
-        ensures between { (gone : Past) (n : ℕ) (before : List ℕ)
-            → FastBetween F N gone n before bytes.now (further DONE self) table.old out.old
-            → FastBetween F N gone n before bytes.now
-            (further (DONE + 1) result) table.new out.new }
-        ensures whole { self.at % N ≡ 0 → result.at % N ≡ 0 }
-        ensures taken { (self.taken ≤ result.taken) × (result.taken ≤ self.taken + 1) }
-        ensures written { (self.at ≤ result.at) × (result.at ≤ self.at + 16) }
-        ensures byte { result.next < 256 }
+        ensures { FastStep F N 2 16 bytes.now (fast (further DONE self) table.old out.old)
+            (fast (further (DONE + 1) result) table.new out.new) }
     {
         let b1 = self.next as usize;
         let (one, two) = (
@@ -109,18 +100,9 @@ impl Progress {
         bytes: &[u8],
         out: &mut [u8],
     ) -> Progress
-        requires channels { IsChannels N }
-        requires input { self.taken + 9 ≤ length bytes.now }
-        requires room { self.at + 64 ≤ length out.old }
-        requires byte { self.next < 256 }
-        ensures between { (gone : Past) (n : ℕ) (before : List ℕ)
-            → FastBetween F N gone n before bytes.now self table.old out.old
-            → FastBetween F N gone n before bytes.now result table.new out.new }
-        ensures whole { self.at % N ≡ 0 → result.at % N ≡ 0 }
-        ensures taken { (self.taken ≤ result.taken) × (result.taken ≤ self.taken + 8) }
-        ensures some { result.next ≤ run_tag - 1 + 16 / N → self.taken < result.taken }
-        ensures written { (self.at ≤ result.at) × (result.at ≤ self.at + 64) }
-        ensures byte { result.next < 256 }
+        requires { HasAhead N 9 64 bytes.now out.old self }
+        ensures { FastStep F N 8 64 bytes.now
+            (fast self table.old out.old) (fast result table.new out.new) }
     {
         if !is_short::<N>(self.next) {
             return self;
@@ -148,18 +130,9 @@ impl Progress {
         bytes: &[u8],
         out: &mut [u8],
     ) -> Progress
-        requires channels { IsChannels N }
-        requires input { self.taken + 17 ≤ length bytes.now }
-        requires room { self.at + 128 ≤ length out.old }
-        requires byte { self.next < 256 }
-        ensures between { (gone : Past) (n : ℕ) (before : List ℕ)
-            → FastBetween F N gone n before bytes.now self table.old out.old
-            → FastBetween F N gone n before bytes.now result table.new out.new }
-        ensures whole { self.at % N ≡ 0 → result.at % N ≡ 0 }
-        ensures taken { (self.taken ≤ result.taken) × (result.taken ≤ self.taken + 16) }
-        ensures some { result.next ≤ run_tag - 1 + 16 / N → self.taken < result.taken }
-        ensures written { (self.at ≤ result.at) × (result.at ≤ self.at + 128) }
-        ensures byte { result.next < 256 }
+        requires { HasAhead N 17 128 bytes.now out.old self }
+        ensures { FastStep F N 16 128 bytes.now
+            (fast self table.old out.old) (fast result table.new out.new) }
     {
         let four = self.short_chunks::<N, F>(table, bytes, out);
         if !is_short::<N>(four.next) {
@@ -176,18 +149,11 @@ impl Progress {
         bytes: &[u8],
         out: &mut [u8],
     ) -> Progress
-        requires channels { IsChannels N }
-        requires input { self.taken + 6 ≤ length bytes.now }
-        requires room { self.at + 16 ≤ length out.old }
-        requires full { (rgb_tag ≤ self.next) × (self.next < 256) }
-        ensures between { (gone : Past) (n : ℕ) (before : List ℕ)
-            → FastBetween F N gone n before bytes.now self table.old out.old
-            → FastBetween F N gone n before bytes.now result table.new out.new }
-        ensures whole { self.at % N ≡ 0 → result.at % N ≡ 0 }
-        ensures taken { (self.taken < result.taken) × (result.taken ≤ self.taken + 5) }
-        ensures written { self.at ≤ result.at }
-        ensures most { result.at ≤ self.at + 4 }
-        ensures byte { result.next < 256 }
+        requires ahead { HasAhead N 6 16 bytes.now out.old self }
+        requires full { rgb_tag ≤ self.next }
+        ensures step { FastStep F N 5 4 bytes.now
+            (fast self table.old out.old) (fast result table.new out.new) }
+        ensures on { self.taken < result.taken }
     {
         let last = self.last.after_full(&bytes[self.taken..]);
         table.put(last);
@@ -210,18 +176,12 @@ impl Progress {
         bytes: &[u8],
         out: &mut [u8],
     ) -> Progress
-        requires channels { IsChannels N }
-        requires input { self.taken + 2 ≤ length bytes.now }
-        requires room { self.at + N * (self.next - (run_tag - 1)) < length out.old }
+        requires ahead { HasAhead N 2 (N * (self.next - (run_tag - 1)) + 1) bytes.now out.old self }
         requires run { (run_tag ≤ self.next) × (self.next < rgb_tag) }
-        ensures between { (gone : Past) (n : ℕ) (before : List ℕ)
-            → FastBetween F N gone n before bytes.now self table.old out.old
-            → FastBetween F N gone n before bytes.now result table.new out.new }
-        ensures whole { self.at % N ≡ 0 → result.at % N ≡ 0 }
-        ensures taken { result.taken ≡ self.taken + 1 }
-        ensures written { self.at ≤ result.at }
-        ensures below { result.at < length out.old }
-        ensures byte { result.next < 256 }
+        ensures step { FastStep F N 1 (N * (self.next - (run_tag - 1))) bytes.now
+            (fast self table.old out.old) (fast result table.new out.new) }
+        ensures on { self.taken < result.taken }
+        ensures below { result.at < length out.new }
     {
         let count = (self.next - (QOI_OP_RUN - 1)) as usize;
         table.put(self.last);
@@ -249,17 +209,13 @@ impl Progress {
         out: &mut [u8],
         at: usize,
     ) -> Decoded
-        requires channels { IsChannels N }
-        ensures between { (gone : Past) (n : ℕ) (before : List ℕ)
-            → DecoderBetween F N gone n (IsFrontAfter before bytes.now 0)
-            (filling table.old last out.old at)
-            → DecoderBetween F N gone n (IsFrontAfter before bytes.now result.taken)
-            (filling table.new result.last out.new result.at) }
+        requires { IsFillable N (upto out.old at) }
+        ensures between { TakesFront F N bytes.now result.taken
+            (filling table.old last out.old at) (filling table.new result.last out.new result.at) }
         ensures within { result.taken ≤ length bytes.now }
         ensures written { at ≤ result.at }
-        ensures inside { at ≤ length out.old → result.at ≤ length out.new }
         ensures below { at < length out.old → result.at < length out.new }
-        ensures whole { at % N ≡ 0 → result.at % N ≡ 0 }
+        ensures fillable { IsFillable N (upto out.new result.at) }
     {
         if bytes.len() < INPUT_ROOM || out.len() < OUTPUT_ROOM {
             return Decoded { taken: 0, last, at };

@@ -1,12 +1,12 @@
 //! The loops over the pieces of an image: what is decoded before a caller asks for it is kept.
-ghost use Rattle.std.specs.Prelude.{◌≡◌, ℕ, ◌+◌, ◌-◌, ◌*◌, ◌%◌, ◌^◌, ◌<◌, ◌≤◌, List, [], ◌++◌, length, take, drop, reverse, min, Option, IfOk, IfErr, OnOk};
+ghost use Rattle.std.specs.Prelude.{true, ◌≡◌, ℕ, ◌+◌, ◌-◌, ◌*◌, ◌%◌, ◌^◌, ◌<◌, ◌≤◌, List, [], ◌++◌, length, take, drop, reverse, min, Option, IfOk, IfErr, OnOk};
 ghost use Rattle.std.specs.Io.KnownBytes.{Consumes};
 ghost use Rattle.qoi.specs.Qoi.{Past};
 ghost use Rattle.qoi.specs.Raw.{IsChannels, output};
 ghost use Rattle.qoi.specs.Decoding.{ReadsImage};
 ghost use Rattle.qoi.specs.declared.decode.pieces.TheConstants.{KEPT, IN_PLACE};
 ghost use Rattle.qoi.specs.declared.decode.output.TheConstants.{RUN_ROOM};
-ghost use Rattle.qoi.specs.inner.Chunks.{RefusesChunks};
+ghost use Rattle.qoi.specs.inner.Chunks.{RefusesChunks, TakesChunks, RefusesFilling};
 ghost use Rattle.qoi.specs.inner.Filling.{filling, DecoderBetween};
 
 use crate::decode::chunks::{Chunks, Reached};
@@ -62,19 +62,13 @@ fn front_of_image<R: Chunks<N, F>, const N: usize, const F: usize>(
     requires some { 0 < size }
     requires within { size ≤ length out.old }
     requires whole { size % N ≡ 0 }
-    ensures between { (gone : Past) (n : ℕ) (start : Option (List ℕ))
-        → DecoderBetween F N gone n (Consumes start (R.ahead reader.old))
+    ensures read { IfOk result (λ now. TakesChunks F N true (R.ahead reader.old) (R.ahead reader.new)
         (filling table.old last (take size out.old) 0)
-        → IfOk result (λ now. DecoderBetween F N gone n (Consumes start (R.ahead reader.new))
         (filling table.new now.last (take size out.new) now.at)) }
     ensures below { IfOk result (λ now. now.at < size) }
     ensures filled { IfOk result (λ now. size < now.at + RUN_ROOM) }
-    ensures whole { IfOk result (λ now. now.at % N ≡ 0) }
-    ensures refused { (gone : Past) (n : ℕ) (start : Option (List ℕ))
-        → DecoderBetween F N gone n (Consumes start (R.ahead reader.old))
-        (filling table.old last (take size out.old) 0)
-        → (all : ℕ) → length gone + n ≤ all
-        → IfErr result (RefusesChunks R.in_memory all start (R.ahead reader.new)) }
+    ensures refused { IfErr result (RefusesFilling F N R.in_memory
+        (R.ahead reader.old) (R.ahead reader.new) (filling table.old last (take size out.old) 0)) }
 {
     reader.some_chunks(table, last, &mut out[..size], 0)
 }

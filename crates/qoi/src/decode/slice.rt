@@ -1,13 +1,13 @@
 //! Decoding an image from bytes in memory.
-ghost use Rattle.std.specs.Prelude.{◌≡◌, ◌+◌, ◌<◌, ◌≤◌, IsTrue, IsFalse, ℕ, ◌/◌, ◌%◌, ◌++◌, List, length, true, Option, Some, IfSome, MatchOption, IfOk, IfErr};
+ghost use Rattle.std.specs.Prelude.{◌≡◌, ◌≤◌, ◌/◌, ◌%◌, ◌++◌, length, true, Some, IfSome, IfNone, MatchOption, IfOk, IfErr};
 ghost use Rattle.std.specs.Vec.{vec_len, vec_capacity};
-ghost use Rattle.std.specs.Io.KnownBytes.{Consumes};
 ghost use Rattle.qoi.specs.Raw.{IsChannels};
-ghost use Rattle.qoi.specs.Qoi.{Past, end_marker};
+ghost use Rattle.qoi.specs.Qoi.{end_marker};
 ghost use Rattle.qoi.specs.Decoding.{StreamsPixels, ReadsImage, RefusesMarker, RefusesBytes};
 ghost use Rattle.qoi.specs.Verdicts.{AreCut};
-ghost use Rattle.qoi.specs.declared.decode.output.TheConstants.{RUN_ROOM};
-ghost use Rattle.qoi.specs.inner.Filling.{IsWholePixels, filling, DecoderBetween};
+ghost use Rattle.qoi.specs.declared.error.Error.{Error};
+ghost use Rattle.qoi.specs.inner.Chunks.{TakesChunks, RefusesFilling};
+ghost use Rattle.qoi.specs.inner.Filling.{IsFillable, upto, filling};
 
 use crate::consts::{QOI_PADDING, QOI_PADDING_SIZE};
 use crate::decode::chunks::{Chunks, Reached, image_to_buf, image_to_vec};
@@ -44,21 +44,13 @@ fn last_chunks<'a, const N: usize, const F: usize, const RUN_FITS: bool, const S
     out: &mut [u8],
     at: usize,
 ) -> Option<Left<'a>>
-    requires channels { IsChannels N }
-    requires within { at ≤ length out.old }
-    requires whole { IsWholePixels N (length out.old) at }
-    ensures between { (gone : Past) (n : ℕ) (start : Option (List ℕ))
-        → DecoderBetween F N gone n (Consumes start (Some «data».entry.now))
-        (filling table.old last out.old at)
-        → MatchOption result ((all : ℕ) → length gone + n ≤ all → IfSome start (AreCut all))
-        (λ left. DecoderBetween F N gone n (Consumes start (Some left.rest.now))
-        (filling table.new left.last out.new left.at)) }
-    ensures below { IsTrue RUN_FITS → at < length out.old
-        → IfSome result (λ left. left.at < length out.new) }
-    ensures filled { IsTrue RUN_FITS → IfSome result (λ left. length out.new < left.at + RUN_ROOM) }
-    ensures full { IsFalse RUN_FITS → IfSome result (λ left. length out.new ≤ left.at) }
-    ensures within { IfSome result (λ left. left.at ≤ length out.new) }
-    ensures whole { IfSome result (λ left. left.at % N ≡ 0) }
+    requires { IsFillable N (upto out.old at) }
+    ensures read { IfSome result (λ left. TakesChunks F N RUN_FITS
+        (Some «data».entry.now) (Some left.rest.now)
+        (filling table.old last out.old at) (filling table.new left.last out.new left.at)) }
+    ensures refused { IfNone result (RefusesFilling F N true
+        (Some «data».entry.now) (Some «data».entry.now)
+        (filling table.old last out.old at) Error.UnexpectedBufferEnd) }
 {
     let least = if RUN_FITS { RUN_ROOM } else { 1 };
     let mut last = last;
@@ -86,21 +78,13 @@ fn slice_chunks<'a, const N: usize, const F: usize, const RUN_FITS: bool>(
     out: &mut [u8],
     at: usize,
 ) -> Option<Left<'a>>
-    requires channels { IsChannels N }
-    requires within { at ≤ length out.old }
-    requires whole { IsWholePixels N (length out.old) at }
-    ensures between { (gone : Past) (n : ℕ) (start : Option (List ℕ))
-        → DecoderBetween F N gone n (Consumes start (Some «data».entry.now))
-        (filling table.old last out.old at)
-        → MatchOption result ((all : ℕ) → length gone + n ≤ all → IfSome start (AreCut all))
-        (λ left. DecoderBetween F N gone n (Consumes start (Some left.rest.now))
-        (filling table.new left.last out.new left.at)) }
-    ensures below { IsTrue RUN_FITS → at < length out.old
-        → IfSome result (λ left. left.at < length out.new) }
-    ensures filled { IsTrue RUN_FITS → IfSome result (λ left. length out.new < left.at + RUN_ROOM) }
-    ensures full { IsFalse RUN_FITS → IfSome result (λ left. length out.new ≤ left.at) }
-    ensures within { IfSome result (λ left. left.at ≤ length out.new) }
-    ensures whole { IfSome result (λ left. left.at % N ≡ 0) }
+    requires { IsFillable N (upto out.old at) }
+    ensures read { IfSome result (λ left. TakesChunks F N RUN_FITS
+        (Some «data».entry.now) (Some left.rest.now)
+        (filling table.old last out.old at) (filling table.new left.last out.new left.at)) }
+    ensures refused { IfNone result (RefusesFilling F N true
+        (Some «data».entry.now) (Some «data».entry.now)
+        (filling table.old last out.old at) Error.UnexpectedBufferEnd) }
 {
     let now = Progress::fast_chunks::<N, F>(table, last, data, out, at);
     let (_, rest) = data.split_at(now.taken);

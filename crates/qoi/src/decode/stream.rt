@@ -1,12 +1,14 @@
 //! Decoding an image from a stream.
-ghost use Rattle.std.specs.Prelude.{◌≡◌, ℕ, ◌+◌, ◌%◌, ◌<◌, ◌≤◌, List, [], ◌∷◌, length, IsTrue, IsFalse, false, Option, IfOk, IfErr, OnOk, OnErr};
+ghost use Rattle.std.specs.Prelude.{◌≡◌, ◌+◌, ◌%◌, ◌<◌, ◌≤◌, [], ◌∷◌, length, IsTrue, false, IfOk, IfErr, OnOk, OnErr};
 ghost use Rattle.std.specs.Io.KnownBytes.{Consumes};
-ghost use Rattle.qoi.specs.Qoi.{Past, AreBytes, end_marker};
+ghost use Rattle.qoi.specs.Qoi.{AreBytes, end_marker};
 ghost use Rattle.qoi.specs.Raw.{IsChannels};
+ghost use Rattle.qoi.specs.declared.error.Error.{Error};
 ghost use Rattle.qoi.specs.declared.decode.output.TheConstants.{RUN_ROOM};
-ghost use Rattle.qoi.specs.Verdicts.{IsPartOfChunk, EndsBefore};
+ghost use Rattle.qoi.specs.Verdicts.{IsPartOfChunk};
 ghost use Rattle.qoi.specs.Decoding.{HasTaken, RefusesTakenMarker};
-ghost use Rattle.qoi.specs.inner.Filling.{IsWholePixels, DecodesChunk, DecoderBetween, filling};
+ghost use Rattle.qoi.specs.inner.Chunks.{TakesChunks, RefusesFilling};
+ghost use Rattle.qoi.specs.inner.Filling.{IsFillable, IsWholePixels, DecodesChunk, upto, filling};
 
 use crate::consts::{QOI_OP_RGB, QOI_PADDING, QOI_PADDING_SIZE};
 use crate::decode::chunks::{Chunks, Reached};
@@ -144,24 +146,13 @@ fn decode_chunks<R: Read, const N: usize, const F: usize, const RUN_FITS: bool>(
     out: &mut [u8],
     at: usize,
 ) -> io::Result<Reached>
-    requires channels { IsChannels N }
-    requires within { at ≤ length out.old }
-    requires whole { IsWholePixels N (length out.old) at }
-    ensures between { (gone : Past) (n : ℕ) (start : Option (List ℕ))
-        → DecoderBetween F N gone n (Consumes start (R.remaining reader.old))
-        (filling table.old last out.old at)
-        → IfOk result (λ now. DecoderBetween F N gone n (Consumes start (R.remaining reader.new))
-        (filling table.new now.last out.new now.at)) }
-    ensures below { IsTrue RUN_FITS → at < length out.old
-        → IfOk result (λ now. now.at < length out.new) }
-    ensures filled { IsTrue RUN_FITS → IfOk result (λ now. length out.new < now.at + RUN_ROOM) }
-    ensures full { IsFalse RUN_FITS → IfOk result (λ now. length out.new ≤ now.at) }
-    ensures within { IfOk result (λ now. now.at ≤ length out.new) }
-    ensures whole { IfOk result (λ now. now.at % N ≡ 0) }
-    ensures failed { (gone : Past) (n : ℕ) (start : Option (List ℕ))
-        → DecoderBetween F N gone n (Consumes start (R.remaining reader.old))
-        (filling table.old last out.old at)
-        → OnErr result (HasTaken start (R.remaining reader.new) (EndsBefore (length gone + n))) }
+    requires { IsFillable N (upto out.old at) }
+    ensures read { IfOk result (λ now. TakesChunks F N RUN_FITS
+        (R.remaining reader.old) (R.remaining reader.new)
+        (filling table.old last out.old at) (filling table.new now.last out.new now.at)) }
+    ensures refused { IfErr result (λ e. RefusesFilling F N false
+        (R.remaining reader.old) (R.remaining reader.new)
+        (filling table.old last out.old at) (Error.IoError e)) }
 {
     let least = if RUN_FITS { RUN_ROOM } else { 1 };
     let mut last = last;

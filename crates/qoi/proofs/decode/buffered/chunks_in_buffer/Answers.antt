@@ -2,15 +2,14 @@
 use Rattle.std.proofs.Common.{subst}
 use Rattle.std.specs.Io.BufRead.{FillKeeps}
 use Rattle.std.proofs.BufReadLemmas.{Consumes_shown}
-use Rattle.qoi.specs.inner.Filling.{filling}
-use Rattle.qoi.proofs.decoding.Progress.{front_of_none, front_consumed}
+use Rattle.qoi.proofs.decoding.Progress.{front_taken}
 use Rattle.qoi.proofs.decode.buffered.chunks_in_buffer.Goals as goal
 
 pub returns-clause-between : goal.returns-clause-between
-returns-clause-between g c gone n start h =
+returns-clause-between g c =
     let shown = c.in_ok-bytes.bytes.now in
     let fast = c.fast_chunks-now in
     let rested = c.fill_buf.follows.lender-at-none in
     let filled = subst (FillKeeps _ (g.R.Read.remaining rested) (g.R.BufRead.consumable_len rested)) c.in_ok-bytes.was c.fill_buf.follows.holds-at-none in
     let moved = Consumes_shown _ _ _ _ shown fast.result.taken fast.ensures.within c.in_ok-bytes.ensures.front c.in_ok-bytes.ensures.end filled.0 filled.1 c.consume.ensures.bytes in
-    front_consumed {now = filling fast.new.table fast.result.last fast.new.out fast.result.at} _ _ _ _ shown fast.result.taken h.taken moved.0 (fast.ensures.between gone n _ (front_of_none shown h))
+    front_taken shown fast.result.taken fast.ensures.between moved.0

@@ -1,14 +1,14 @@
 -- Each step is filled, but for less than a run, before the vector grows.
-use Rattle.std.proofs.Common.{◌≡◌, [], ◌-◌, ◌/◌, ◌%◌, ◌<◌, ◌++◌, length, replicate, OnOk, IfErr, sym, ap, ◌∙◌, subst, arith}
+use Rattle.std.proofs.Common.{◌≡◌, [], ◌-◌, ◌/◌, ◌%◌, ◌<◌, ◌++◌, length, replicate, OnOk, refl, sym, ap, ◌∙◌, subst, arith}
 use Rattle.std.specs.Io.KnownBytes.{Consumes}
 use Rattle.std.proofs.KnownBytes.{Consumes-nil}
-use Rattle.std.proofs.lemmas.Result.{err_from_is_err_and}
+use Rattle.std.proofs.lemmas.Result.{err_from_is_err_and, IfErr-weaker}
+use Rattle.qoi.specs.inner.Chunks.{RefusesFilling}
 use Rattle.qoi.specs.inner.Filling.{filling, DecoderBetween}
-use Rattle.qoi.proofs.decoding.Grown.{grown, growing_start, growing_on, lent_back, some_channels, whole_sizes, whole_step, fewer_pixels, none_whole, at_most, written_most}
+use Rattle.qoi.proofs.decoding.Grown.{grown, growing_start, growing_on, lent_back, some_channels, between_fillable, whole_step, fewer_pixels, none_whole, at_most, written_most}
 use Rattle.qoi.specs.Decoding.{StreamsPixels}
 use Rattle.qoi.proofs.Results.{on_ok_of}
 use Rattle.qoi.proofs.decoding.Progress.{none_more, first_streams}
-use Rattle.qoi.specs.inner.Chunks.{RefusesChunks}
 use Rattle.qoi.proofs.decode.chunks.chunks_to_vec.Given.{Over}
 use Rattle.qoi.proofs.decode.chunks.chunks_to_vec.Goals.{After-deref_mut, After-deref_mut-2}
 use Rattle.qoi.proofs.decode.chunks.chunks_to_vec.Goals as goal
@@ -47,11 +47,8 @@ loop-out-init g c = record {
       c.requires.channels (sym c.args.out.now.ok.0 ∙ c.requires.empty) c.new-table.ensures c.start-last.ensures (Consumes-nil _);
 }
 
-pub some_chunks-requires-clause-within : goal.some_chunks-requires-clause-within
-some_chunks-requires-clause-within g c = (before g (goal.at.some_chunks-requires-clause-within g c).After-deref_mut).within
-
-pub some_chunks-requires-clause-whole : goal.some_chunks-requires-clause-whole
-some_chunks-requires-clause-whole g c = whole_sizes c.requires.channels (before g (goal.at.some_chunks-requires-clause-whole g c).After-deref_mut)
+pub some_chunks-requires : goal.some_chunks-requires
+some_chunks-requires g c = between_fillable c.requires.channels (before g (goal.at.some_chunks-requires g c).After-deref_mut)
 
 pub returns-in_err-now-clause-refused : goal.returns-in_err-now-clause-refused
 returns-in_err-now-clause-refused g c =
@@ -68,22 +65,19 @@ loop-out-preserved g c =
     let at = (goal.at.loop-out-preserved g c).After-deref_mut in
     let inside : c.loop-out.at < length c.deref_mut.result.now =
     omega (arith, some, i.within, c.deref_mut.ensures.len, c.grow.ensures.len, c.len-in-loop-out.ensures) in
-    let left = c.in_ok-now.ensures.below inside in
+    let left = c.in_ok-now.ensures.read.below refl inside in
     let size : c.grow.new.out.len ≡ length c.some_chunks.new.out = omega (arith, c.some_chunks.auto.out, c.deref_mut.ensures.len) in
     record {
       whole = whole g at;
       fits = omega (arith, c.loop-out-test.true, c.len.ensures, c.grow.ensures.len, c.len-in-loop-out.ensures);
       room = omega (arith, i.room, c.grow.ensures.capacity);
       within = omega (arith, left, size);
-      filled = omega (arith, c.in_ok-now.ensures.filled, size);
-      growing = growing_on c.some_chunks.new.out _ c.requires.channels (c.in_ok-now.ensures.between [] _ _ (before g at)) left (lent_back _ _ _ size);
+      filled = omega (arith, c.in_ok-now.ensures.read.filled refl, size);
+      growing = growing_on c.some_chunks.new.out _ c.requires.channels (c.in_ok-now.ensures.read.goes_on.between [] _ _ (before g at)) left (lent_back _ _ _ size);
     }
 
-pub all_chunks-requires-clause-within : goal.all_chunks-requires-clause-within
-all_chunks-requires-clause-within g c = (before_last g (goal.at.all_chunks-requires-clause-within g c).After-deref_mut-2).within
-
-pub all_chunks-requires-clause-whole : goal.all_chunks-requires-clause-whole
-all_chunks-requires-clause-whole g c = whole_sizes c.requires.channels (before_last g (goal.at.all_chunks-requires-clause-whole g c).After-deref_mut-2)
+pub all_chunks-requires : goal.all_chunks-requires
+all_chunks-requires g c = between_fillable c.requires.channels (before_last g (goal.at.all_chunks-requires g c).After-deref_mut-2)
 
 pub returns-clause-read : goal.returns-clause-read
 returns-clause-read g c =
@@ -93,13 +87,13 @@ returns-clause-read g c =
     let now = g.R.Chunks.ahead c.all_chunks.new.self in
     let back = lent_back c.grow-2.new.out.len out c.grow-2.new.out.items (omega (arith, c.all_chunks.auto.out, c.deref_mut-2.ensures.len)) in
     subst (λ z. OnOk c.all_chunks.result (StreamsPixels g.row.F g.row.N (c.args.size / g.row.N) start now z)) (sym back)
-    (on_ok_of _ first_streams (c.all_chunks.ensures.read [] _ _ (before_last g at)))
+    (on_ok_of _ (λ all. first_streams (all [] _ _ (before_last g at))) c.all_chunks.ensures.read)
 
 pub returns-clause-refused : goal.returns-clause-refused
 returns-clause-refused g c =
     let at = (goal.at.returns-clause-refused g c).After-deref_mut-2 in
-    subst (λ k. IfErr c.all_chunks.result (RefusesChunks g.R.Chunks.in_memory k (g.R.Chunks.ahead c.args.reader.now) (g.R.Chunks.ahead c.all_chunks.new.self)))
-    (none_more (c.args.size / g.row.N)) (c.all_chunks.ensures.refused [] _ _ (before_last g at))
+    IfErr-weaker c.all_chunks.result (RefusesFilling g.row.F g.row.N g.R.Chunks.in_memory (g.R.Chunks.ahead c.loop-out.reader) (g.R.Chunks.ahead c.all_chunks.new.self)
+    (filling c.loop-out.table c.loop-out.last c.deref_mut-2.result.now c.loop-out.at)) _ (λ e all. all [] _ _ (before_last g at) _ (omega arith)) c.all_chunks.ensures.refused
 
 pub returns-in_err-now-clause-grown : goal.returns-in_err-now-clause-grown
 returns-in_err-now-clause-grown g c =

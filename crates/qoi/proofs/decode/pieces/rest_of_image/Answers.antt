@@ -6,7 +6,7 @@ use Rattle.std.proofs.lemmas.Result.{err_from_is_err_and}
 use Rattle.qoi.specs.Raw.{output}
 use Rattle.qoi.specs.Decoding.{ReadsImage}
 use Rattle.qoi.proofs.Results.{on_ok_of}
-use Rattle.qoi.proofs.decoding.Progress.{none_written}
+use Rattle.qoi.proofs.decoding.Progress.{fillable_whole}
 use Rattle.qoi.proofs.decoding.PieceSteps.{with_marker}
 use Rattle.qoi.proofs.decoding.StreamReads.{after_refused}
 use Rattle.qoi.proofs.decode.pieces.rest_of_image.Goals as goal
@@ -14,7 +14,7 @@ use Rattle.qoi.proofs.decode.pieces.rest_of_image.Goals as goal
 pub returns-in_err-all_chunks-clause-refused : goal.returns-in_err-all_chunks-clause-refused
 returns-in_err-all_chunks-clause-refused g c gone n start h =
     let p = err_from_is_err_and c.from_residual.result c.from_residual.ensures.1 in
-    rw (p.1, p.2) (c.in_err-all_chunks.ensures.refused gone n start h)
+    rw (p.1, p.2) (c.in_err-all_chunks.ensures.refused gone n start h _ (omega arith))
 
 pub returns-clause-read : goal.returns-clause-read
 returns-clause-read g c gone n start h =
@@ -29,6 +29,5 @@ pub returns-clause-refused : goal.returns-clause-refused
 returns-clause-refused g c gone n start h =
     after_refused g.R.Chunks.in_memory g.row.F g.row.N (length gone + n) _ _ _ _ c.marker.result (c.in_ok-all_chunks.ensures.read gone n start h) c.marker.ensures.refused
 
-pub all_chunks-requires-clause-whole : goal.all_chunks-requires-clause-whole
-all_chunks-requires-clause-whole g c =
-    (ap (λ k. k % g.row.N) (length-take-le c.args.size c.args.out.now c.requires.within) ∙ c.requires.whole, none_written g.row.N c.requires.channels)
+pub all_chunks-requires : goal.all_chunks-requires
+all_chunks-requires g c = fillable_whole c.requires.channels (ap (λ k. k % g.row.N) (length-take-le c.args.size c.args.out.now c.requires.within) ∙ c.requires.whole)

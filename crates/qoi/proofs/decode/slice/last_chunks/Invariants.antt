@@ -1,18 +1,16 @@
 -- Chunks were taken after those before, and their pixels written and seen.
-use Rattle.std.proofs.Common.{ℕ, ◌-◌, ◌<◌, ◌≤◌, List, Option, Some, length}
-use Rattle.std.specs.Io.KnownBytes.{Consumes}
-use Rattle.qoi.specs.Qoi.{Past, AreBytes}
-use Rattle.qoi.specs.inner.Filling.{IsWholePixels, filling, DecoderBetween}
+use Rattle.std.proofs.Common.{◌-◌, ◌<◌, ◌≤◌, Some, length}
+use Rattle.qoi.specs.Qoi.{AreBytes}
+use Rattle.qoi.specs.inner.Chunks.{GoesOn}
+use Rattle.qoi.specs.inner.Filling.{IsFillable, upto, filling}
 use Rattle.qoi.proofs.decode.slice.last_chunks.Given as goal
 
 abbrev pub invariant-loop-out : goal.invariant-loop-out
 invariant-loop-out g l = record {
   fits : AreBytes l.rest;
-  within : l.at ≤ length l.out;
-  whole : IsWholePixels g.row.N (length l.out) l.at;
+  fillable : IsFillable g.row.N (upto l.out l.at);
   below : 256 ≤ l.least → l.fn.at < length l.initial.out → l.at < length l.out;
-  between : (gone : Past) (n : ℕ) (start : Option (List ℕ)) → DecoderBetween g.row.F g.row.N gone n (Consumes start (Some l.fn.data)) (filling l.initial.table l.fn.last l.initial.out l.fn.at)
-      → DecoderBetween g.row.F g.row.N gone n (Consumes start (Some l.rest)) (filling l.table l.last l.out l.at);
+  goes_on : GoesOn g.row.F g.row.N (Some l.fn.data) (Some l.rest) (filling l.initial.table l.fn.last l.initial.out l.fn.at) (filling l.table l.last l.out l.at);
 }
 
 abbrev pub decreases-loop-out : goal.decreases-loop-out

@@ -1,9 +1,9 @@
 -- Between chunks from the first one on.
-use Rattle.std.proofs.Common.{[], ◌/◌, Some, length, refl, arith}
+use Rattle.std.proofs.Common.{[], ◌/◌, Some, length, arith}
 use Rattle.std.specs.Io.KnownBytes.{Consumes}
 use Rattle.std.proofs.KnownBytes.{Consumes-nil}
 use Rattle.qoi.specs.inner.Filling.{filling, DecoderBetween}
-use Rattle.qoi.proofs.decoding.Progress.{none_written, start_between, streams_pixels, first_streams}
+use Rattle.qoi.proofs.decoding.Progress.{fillable_whole, start_between, fills_output, first_streams}
 use Rattle.qoi.proofs.decode.slice.small_chunks.Given.{Over}
 use Rattle.qoi.proofs.decode.slice.small_chunks.Goals.{After-start-start}
 use Rattle.qoi.proofs.decode.slice.small_chunks.Goals as goal
@@ -15,12 +15,11 @@ before g c = start_between g.row.F g.row.N (Consumes (Some c.args.data.now) (Som
     c.requires.channels c.requires.whole c.new_small-table.ensures c.start-start.ensures (Consumes-nil (Some c.args.data.now))
 
 pub last_chunks-requires : goal.last_chunks-requires
-last_chunks-requires g c = (omega arith, (c.requires.channels, (omega arith, (c.requires.whole, none_written g.row.N c.requires.channels))))
+last_chunks-requires g c = (omega arith, fillable_whole c.requires.channels c.requires.whole)
 
 pub returns-in_default : goal.returns-in_default
-returns-in_default g c = c.in_default.ensures.between [] _ (Some c.args.data.now) (before g (goal.at.returns-in_default g c).After-start-start) _ (omega arith)
+returns-in_default g c = c.in_default.ensures.refused [] _ (Some c.args.data.now) (before g (goal.at.returns-in_default g c).After-start-start) _ (omega arith)
 
 pub returns : goal.returns
 returns g c =
-    first_streams (streams_pixels c.requires.channels
-    (c.in-Some.ensures.between [] _ (Some c.args.data.now) (before g (goal.at.returns g c).After-start-start)) (c.in-Some.ensures.full refl))
+    first_streams (fills_output c.in-Some.ensures.read [] _ (Some c.args.data.now) (before g (goal.at.returns g c).After-start-start))

@@ -1,17 +1,15 @@
 -- Chunks were taken after those before, and their pixels written and seen.
-use Rattle.std.proofs.Common.{ℕ, ◌-◌, ◌<◌, ◌≤◌, List, Option, length}
-use Rattle.std.specs.Io.KnownBytes.{Consumes}
-use Rattle.qoi.specs.Qoi.{Past}
-use Rattle.qoi.specs.inner.Filling.{IsWholePixels, filling, DecoderBetween}
+use Rattle.std.proofs.Common.{◌-◌, ◌<◌, ◌≤◌, length}
+use Rattle.qoi.specs.inner.Chunks.{GoesOn}
+use Rattle.qoi.specs.inner.Filling.{IsFillable, upto, filling}
 use Rattle.qoi.proofs.decode.stream.decode_chunks.Given as goal
 
 abbrev pub invariant-loop-at : goal.invariant-loop-at
 invariant-loop-at g l = record {
-  within : l.at ≤ length l.out;
-  whole : IsWholePixels g.row.N (length l.out) l.at;
+  fillable : IsFillable g.row.N (upto l.out l.at);
   below : 256 ≤ l.least → l.fn.at < length l.initial.out → l.at < length l.out;
-  between : (gone : Past) (n : ℕ) (start : Option (List ℕ)) → DecoderBetween g.row.F g.row.N gone n (Consumes start (g.R.Read.remaining l.initial.reader)) (filling l.initial.table l.fn.last l.initial.out l.fn.at)
-      → DecoderBetween g.row.F g.row.N gone n (Consumes start (g.R.Read.remaining l.reader)) (filling l.table l.last l.out l.at);
+  goes_on : GoesOn g.row.F g.row.N (g.R.Read.remaining l.initial.reader) (g.R.Read.remaining l.reader)
+      (filling l.initial.table l.fn.last l.initial.out l.fn.at) (filling l.table l.last l.out l.at);
 }
 
 abbrev pub decreases-loop-at : goal.decreases-loop-at

@@ -1,7 +1,7 @@
 -- Chunks were taken, and their pixels written and seen.
-use Rattle.std.proofs.Common.{◌≡◌, ℕ, ◌+◌, ◌-◌, ◌%◌, ◌<◌, ◌≤◌, List, length}
+use Rattle.std.proofs.Common.{ℕ, ◌+◌, ◌-◌, ◌<◌, ◌≤◌, List, length}
 use Rattle.qoi.specs.Qoi.{Past}
-use Rattle.qoi.specs.inner.Filling.{filling, DecoderBetween, IsFrontAfter, FastBetween}
+use Rattle.qoi.specs.inner.Filling.{upto, filling, IsFillable, DecoderBetween, IsFrontAfter, FastBetween}
 use Rattle.qoi.proofs.decode.fast.Progress.fast_chunks.Given as goal
 
 abbrev pub invariant-loop-now : goal.invariant-loop-now
@@ -11,9 +11,8 @@ invariant-loop-now g l = record {
   byte : l.now.next < 256;
   within : l.now.taken < length l.bytes;
   written : l.fn.at ≤ l.now.at;
-  inside : l.fn.at ≤ length l.initial.out → l.now.at ≤ length l.out;
   below : l.fn.at < length l.initial.out → l.now.at < length l.out;
-  whole : l.fn.at % g.row.N ≡ 0 → l.now.at % g.row.N ≡ 0;
+  fillable : IsFillable g.row.N (upto l.out l.now.at);
 }
 
 abbrev pub decreases-loop-now : goal.decreases-loop-now

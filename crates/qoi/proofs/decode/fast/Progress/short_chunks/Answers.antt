@@ -1,37 +1,30 @@
 -- One chunk after the other.
-use Rattle.std.proofs.Common.{◌≡◌, ℕ, ◌+◌, List, arith, subst}
-use Rattle.qoi.specs.declared.decode.fast.Progress.{Progress}
-use Rattle.qoi.specs.Qoi.{Past}
-use Rattle.qoi.specs.inner.Filling.{further, FastBetween}
+use Rattle.std.proofs.Common.{arith}
+use Rattle.qoi.specs.inner.Filling.{further, fast, FastStep}
+use Rattle.qoi.proofs.decoding.FastSteps.{step_then, step_at_first}
+use Rattle.qoi.proofs.decode.fast.Progress.short_chunks.Given.{Over}
+use Rattle.qoi.proofs.decode.fast.Progress.short_chunks.Goals.{After-short_chunk-two}
 use Rattle.qoi.proofs.decode.fast.Progress.short_chunks.Goals as goal
 
--- none of the bytes that are taken is left out at first
-from_none : {f c : ℕ} {gone : Past} {n : ℕ} {front bytes table out : List ℕ} (p : Progress) → FastBetween f c gone n front bytes p table out → FastBetween f c gone n front bytes (further 0 p) table out
-from_none {f} {c} {gone} {n} {front} {bytes} {table} {out} p h =
-    let same : p.taken ≡ p.taken + 0 = omega arith in
-    let to : (k : ℕ) → Progress = λ k. record { last = p.last; taken = k; at = p.at; next = p.next } in
-    subst (λ k. FastBetween f c gone n front bytes (to k) table out) same h
+-- two chunks
+two : (g : Over) (c : After-short_chunk-two g) → FastStep g.row.F g.row.N 4 32 c.args.bytes.now (fast (further 0 c.args.self) c.args.table.now c.args.out.now)
+    (fast (further 2 c.short_chunk-two.result) c.short_chunk-two.new.table c.short_chunk-two.new.out)
+two g c = step_then c.short_chunk-one.ensures c.short_chunk-two.ensures (omega arith) (omega arith)
 
-pub returns-then-not-is_short-2-clause-between : goal.returns-then-not-is_short-2-clause-between
-returns-then-not-is_short-2-clause-between g c gone n before h = rw c.further.ensures (c.short_chunk-one.ensures.between gone n before (from_none c.args.self h))
+pub returns-then-not-is_short-2 : goal.returns-then-not-is_short-2
+returns-then-not-is_short-2 g c = rw c.further.ensures (step_at_first c.args.self c.short_chunk-one.ensures (omega arith) (omega arith))
 
-pub returns-then-not-is_short-3-clause-between : goal.returns-then-not-is_short-3-clause-between
-returns-then-not-is_short-3-clause-between g c gone n before h =
-    rw c.further-then-not-is_short-3.ensures (c.short_chunk-two.ensures.between gone n before (c.short_chunk-one.ensures.between gone n before (from_none c.args.self h)))
+pub returns-then-not-is_short-3 : goal.returns-then-not-is_short-3
+returns-then-not-is_short-3 g c =
+    rw c.further-then-not-is_short-3.ensures (step_at_first c.args.self (two g (goal.at.returns-then-not-is_short-3 g c).After-short_chunk-two) (omega arith) (omega arith))
 
-pub returns-then-not-is_short-4-clause-between : goal.returns-then-not-is_short-4-clause-between
-returns-then-not-is_short-4-clause-between g c gone n before h =
-    rw c.further-then-not-is_short-4.ensures (c.short_chunk-three.ensures.between gone n before (c.short_chunk-two.ensures.between gone n before (c.short_chunk-one.ensures.between gone n before (from_none c.args.self h))))
+pub returns-then-not-is_short-4 : goal.returns-then-not-is_short-4
+returns-then-not-is_short-4 g c =
+    let three = step_then {k = 6} {t = 48} (two g (goal.at.returns-then-not-is_short-4 g c).After-short_chunk-two) c.short_chunk-three.ensures (omega arith) (omega arith) in
+    rw c.further-then-not-is_short-4.ensures (step_at_first c.args.self three (omega arith) (omega arith))
 
-pub returns-clause-between : goal.returns-clause-between
-returns-clause-between g c gone n before h =
-    rw c.further-2.ensures (c.short_chunk.ensures.between gone n before (c.short_chunk-three.ensures.between gone n before (c.short_chunk-two.ensures.between gone n before (c.short_chunk-one.ensures.between gone n before (from_none c.args.self h)))))
-
-pub returns-then-not-is_short-3-clause-whole : goal.returns-then-not-is_short-3-clause-whole
-returns-then-not-is_short-3-clause-whole g c whole = rw c.further-then-not-is_short-3.ensures (c.short_chunk-two.ensures.whole (c.short_chunk-one.ensures.whole whole))
-
-pub returns-then-not-is_short-4-clause-whole : goal.returns-then-not-is_short-4-clause-whole
-returns-then-not-is_short-4-clause-whole g c whole = rw c.further-then-not-is_short-4.ensures (c.short_chunk-three.ensures.whole (c.short_chunk-two.ensures.whole (c.short_chunk-one.ensures.whole whole)))
-
-pub returns-clause-whole : goal.returns-clause-whole
-returns-clause-whole g c whole = rw c.further-2.ensures (c.short_chunk.ensures.whole (c.short_chunk-three.ensures.whole (c.short_chunk-two.ensures.whole (c.short_chunk-one.ensures.whole whole))))
+pub returns : goal.returns
+returns g c =
+    let three = step_then {k = 6} {t = 48} (two g (goal.at.returns g c).After-short_chunk-two) c.short_chunk-three.ensures (omega arith) (omega arith) in
+    let four = step_then {k = 8} {t = 64} three c.short_chunk.ensures (omega arith) (omega arith) in
+    rw c.further-2.ensures (step_at_first c.args.self four (omega arith) (omega arith))

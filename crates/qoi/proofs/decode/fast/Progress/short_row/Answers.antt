@@ -1,8 +1,7 @@
 -- Four chunks, and four more.
+use Rattle.std.proofs.Common.{arith}
+use Rattle.qoi.proofs.decoding.FastSteps.{step_then}
 use Rattle.qoi.proofs.decode.fast.Progress.short_row.Goals as goal
 
-pub returns-clause-between : goal.returns-clause-between
-returns-clause-between g c gone n before h = c.short_chunks.ensures.between gone n before (c.short_chunks-four.ensures.between gone n before h)
-
-pub returns-clause-whole : goal.returns-clause-whole
-returns-clause-whole g c whole = c.short_chunks.ensures.whole (c.short_chunks-four.ensures.whole whole)
+pub returns : goal.returns
+returns g c = step_then c.short_chunks-four.ensures c.short_chunks.ensures (omega arith) (omega arith)

@@ -30,7 +30,7 @@ rest_lent {c = c} p is h same size some short =
 pub returns-then-self-gt-KEPT-clause-pixels : goal.returns-then-self-gt-KEPT-clause-pixels
 returns-then-self-gt-KEPT-clause-pixels g c = (
   (omega arith, omega (arith, c.in_ok-now.ensures.below, c.requires.room.1)),
-  minus_whole g.row.N c.args.self.now.undecoded c.in_ok-now.now.at c.requires.channels c.requires.pixels.1 c.in_ok-now.ensures.whole,
+  minus_whole g.row.N c.args.self.now.undecoded c.in_ok-now.now.at c.requires.channels c.requires.pixels.1 c.in_ok-now.ensures.read.fillable.whole.1,
 )
 
 pub returns-clause-pixels : goal.returns-clause-pixels
@@ -54,7 +54,7 @@ returns-then-self-gt-KEPT-clause-read g c n start given h =
     let now = c.in_ok-now.now in
     subst (λ z. GivesPieces g.row.F g.row.N n start (g.R.Chunks.ahead c.front_of_image.new.reader) given
     (record { table = c.front_of_image.new.table; last = now.last; bytes = z; from = 0; to = now.at; undecoded = c.args.self.now.undecoded - now.at })) (take-append-drop c.args.room out)
-    (kept_read (take c.args.room out) (drop c.args.room out) now.at c.requires.channels h c.requires.none l (c.in_ok-now.ensures.between l.gone _ _ l.before)
+    (kept_read (take c.args.room out) (drop c.args.room out) now.at c.requires.channels h c.requires.none l (c.in_ok-now.ensures.read.goes_on.between l.gone _ _ l.before)
     (omega (arith, front, c.in_ok-now.ensures.below)) (omega (arith, front, c.if-self-gt-KEPT.true, c.requires.room.1)))
 
 pub returns-in_err-rest_of_image-clause-refused : goal.returns-in_err-rest_of_image-clause-refused
