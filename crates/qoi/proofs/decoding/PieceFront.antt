@@ -1,5 +1,5 @@
--- The pieces so far are the beginning of an image that stands ahead.
-use Rattle.std.proofs.Common.{◌≡◌, ℕ, ◌+◌, ◌-◌, ◌*◌, ◌<◌, ◌≤◌, inl, inr, List, [], ◌∷◌, ◌++◌, length, take, reverse, Option, None, Some, IfSome, arith, refl, sym, ap, ◌∙◌, subst, append_assoc, length-append}
+-- The pieces so far are the beginning of the image ahead.
+use Rattle.std.proofs.Common.{◌≡◌, ℕ, ◌+◌, ◌-◌, ◌*◌, ◌<◌, inl, inr, List, [], ◌++◌, length, take, reverse, Option, None, Some, IfSome, arith, refl, sym, ap, ◌∙◌, append_assoc, length-append}
 use Rattle.std.proofs.lemmas.List.{length-reverse, reverse-append, reverse-reverse}
 use Rattle.std.proofs.lemmas.Bool.{cases_lt}
 use Rattle.std.proofs.lemmas.Grind.{flat_map-append}
@@ -8,21 +8,17 @@ use Rattle.qoi.specs.declared.chunk.Chunk.{Chunk}
 use Rattle.qoi.specs.declared.header.Header.{Header}
 use Rattle.qoi.specs.declared.types.Channels.{Channels}
 use Rattle.qoi.specs.declared.decode.pieces.Pieces.{Pieces}
-use Rattle.qoi.specs.Qoi.{Past, AreChunks, bytes_of, chunk_bytes, end_marker, then_chunk, then_chunks, meaning, channels_number, pixel_count}
+use Rattle.qoi.specs.Qoi.{Past, chunk_bytes, then_chunks, meaning, channels_number, pixel_count}
 use Rattle.qoi.specs.Raw.{IsChannels, pixel_bytes, output}
-use Rattle.qoi.specs.Verdicts.{IsWhole}
 use Rattle.qoi.specs.Images.{front_image}
-use Rattle.qoi.specs.Reading.{StandsAhead}
 use Rattle.qoi.specs.DecoderState.{TakesAtMost}
 use Rattle.qoi.specs.inner.Pieces.{kept, GivesPieces}
-use Rattle.qoi.proofs.format.Appended.{length-meaning}
 use Rattle.qoi.proofs.format.ChunkSteps.{given as pixels_after, then_chunks_given, then_chunks-append}
-use Rattle.qoi.proofs.format.ChunksApart.{chunks_apart}
 use Rattle.qoi.proofs.format.WholePixels.{by_channels, length-output}
 use Rattle.qoi.proofs.decoding.Ahead.{image_read}
 use Rattle.qoi.proofs.decoding.FrontImage.{image_begins, image_is}
 use Rattle.qoi.proofs.decoding.ImageSize.{channels_are}
-use Rattle.qoi.proofs.decoding.PieceSteps.{longer, kept_long}
+use Rattle.qoi.proofs.decoding.PieceSteps.{kept_long}
 use Rattle.qoi.proofs.decoding.TakenBytes.{bytes_within, read_within}
 
 -- what stands at the front

@@ -1,6 +1,6 @@
 -- A row more of an image is read.
 use Rattle.std.proofs.Common.{◌≡◌, ℕ, ◌+◌, ◌*◌, ◌≤◌, List, ◌++◌, length, take, drop, Option, arith, sym, ap, ◌∙◌, length-append}
-use Rattle.std.proofs.lemmas.List.{length-take, take_all}
+use Rattle.std.proofs.lemmas.List.{take_all}
 use Rattle.std.proofs.Math.Nat.{mul-suc}
 use Rattle.qoi.specs.DecoderState.{DecoderState}
 use Rattle.qoi.specs.PixelReader.{PixelsState, HasGiven, HasRows}

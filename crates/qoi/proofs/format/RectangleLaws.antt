@@ -34,6 +34,22 @@ pub row_more : (stride top left rows size : ℕ) (raw : List ℕ)
 unfolding rectangle
 row_more stride top left rows size raw = let more : rows + 1 ≡ suc rows = omega arith in ap (λ n. rectangle stride top left n size raw) more
 
+-- the rows from `top` on, of those that came: row k is kept
+pub row_kept : (stride top left size k : ℕ) (raw : List ℕ) → top ≤ k
+    → rectangle stride top left (k + 1 - top) size raw ≡ rectangle stride top left (k - top) size raw ++ take size (drop left (row_bytes stride raw k))
+row_kept stride top left size k raw below =
+    let up : k + 1 - top ≡ k - top + 1 = omega (arith, below) in
+    let at : top + (k - top) ≡ k = omega (arith, below) in
+    ap (λ n. rectangle stride top left n size raw) up ∙ row_more stride top left (k - top) size raw
+    ∙ ap (λ n. rectangle stride top left (k - top) size raw ++ take size (drop left (row_bytes stride raw n))) at
+
+-- or it comes before them
+pub row_skipped : (stride top left size k : ℕ) (raw : List ℕ) → k < top
+    → rectangle stride top left (k + 1 - top) size raw ≡ rectangle stride top left (k - top) size raw
+row_skipped stride top left size k raw before =
+    let same : k + 1 - top ≡ k - top = omega (arith, before) in
+    ap (λ n. rectangle stride top left n size raw) same
+
 -- rows follow one another
 pub rows_follow : (stride top left m n size : ℕ) (raw : List ℕ)
     → rectangle stride top left (m + n) size raw ≡ rectangle stride top left m size raw ++ rectangle stride (top + m) left n size raw

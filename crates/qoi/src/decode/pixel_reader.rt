@@ -388,8 +388,10 @@ impl<R: PieceReader + Drop> PixelReader<R> {
         // If nothing was read before, the image stood ahead, and the decoder goes on behind it.
         ensures passed { HasGiven (as_decoder self) (R.ahead self.reader) (R.ahead self.reader) []
             self → IfOk result (λ decoder. IfSome (R.ahead self.reader) (λ bytes.
-            StandsAhead self.header bytes
-            × (R.ahead decoder.reader ≡ Some (front_rest self.header bytes)))) }
+            StandsAhead self.header bytes)) }
+        ensures behind { HasGiven (as_decoder self) (R.ahead self.reader) (R.ahead self.reader) []
+            self → IfOk result (λ decoder. IfSome (R.ahead self.reader) (λ bytes.
+            R.ahead decoder.reader ≡ Some (front_rest self.header bytes))) }
         ensures same { IfOk result (λ decoder.
             decoder ≡ record (as_decoder self) { reader = decoder.reader }) }
 

@@ -1,5 +1,5 @@
 //! Laws on rows and rectangles of raw bytes: an image's, or any others of rows of one length.
-ghost use Rattle.std.specs.Prelude.{◌≡◌, ℕ, ◌+◌, ◌*◌, ◌<◌, ◌≤◌, List, [], ◌++◌, length, take, drop, slice_index};
+ghost use Rattle.std.specs.Prelude.{◌≡◌, ℕ, ◌+◌, ◌-◌, ◌*◌, ◌<◌, ◌≤◌, List, [], ◌++◌, length, take, drop, slice_index};
 ghost use Rattle.qoi.specs.Rectangles.{row_bytes, rectangle, with_tile, KeepsOutside};
 
 /// The whole picture is a rectangle of itself, a row is a rectangle of one row, a rectangle of a
@@ -34,7 +34,8 @@ pub fn rectangles_within()
 {}
 
 /// Rows that come one after the other: what follows k rows is row k, a rectangle of the rows that
-/// came is one of the picture, and one row more adds its part.
+/// came is one of the picture, and one row more adds its part. Of all rows that came, those from row
+/// `top` on: row k is one of them, or comes before.
 pub fn rows_that_come()
     ensures next { (stride k : ℕ) (raw given row : List ℕ) → length given ≡ stride * k
         → given ++ row ≡ take (length given + stride) raw → row ≡ row_bytes stride raw k }
@@ -51,6 +52,13 @@ pub fn rows_that_come()
         → rectangle stride top left (rows + 1) size raw
         ≡ rectangle stride top left rows size raw
         ++ take size (drop left (row_bytes stride raw (top + rows))) }
+    ensures kept { (stride top left size k : ℕ) (raw : List ℕ) → top ≤ k
+        → rectangle stride top left (k + 1 - top) size raw
+        ≡ rectangle stride top left (k - top) size raw
+        ++ take size (drop left (row_bytes stride raw k)) }
+    ensures skipped { (stride top left size k : ℕ) (raw : List ℕ) → k < top
+        → rectangle stride top left (k + 1 - top) size raw
+        ≡ rectangle stride top left (k - top) size raw }
 {}
 
 /// Bytes that are put where the part of one more row stands: the rectangle holds them, and all

@@ -1,18 +1,14 @@
 //! Callers that cut a rectangle out of a picture, in memory or while its rows are decoded, and that
-//! paste one into a picture. Proof files have the loops' invariants; `cut_rows` and `cut_file` have
-//! answers, too.
-ghost use Rattle.std.specs.Prelude.{◌≡◌, ◌+◌, ◌*◌, ◌≤◌, ◌<◌, ◌^◌, ℕ, List, [], ◌++◌, length, Some, IsTrue, IfOk, OnOk};
+//! paste one into a picture. The loops' invariants are their only proof files.
+ghost use Rattle.std.specs.Prelude.{◌≡◌, ◌+◌, ◌-◌, ◌*◌, ◌≤◌, ◌<◌, ◌^◌, ℕ, List, length, Option, Some, Ok, IsTrue, IfOk, OnOk};
 ghost use Rattle.qoi.specs.declared.header.Header.{Header};
-ghost use Rattle.qoi.specs.Qoi.{channels_number};
+ghost use Rattle.qoi.specs.Qoi.{channels_number, header_of};
 ghost use Rattle.qoi.specs.DecoderState.{DecoderState};
-ghost use Rattle.qoi.specs.Reading.{StandsAhead};
-ghost use Rattle.qoi.specs.Decoding.{DecodesFile};
-ghost use Rattle.qoi.specs.Images.{front_image};
-ghost use Rattle.qoi.specs.PixelReader.{HasGiven};
+ghost use Rattle.qoi.specs.Images.{front_image, file_image};
+ghost use Rattle.qoi.specs.PixelReader.{HasRows};
 ghost use Rattle.qoi.specs.Rectangles.{row_bytes, rectangle, KeepsOutside};
 
 use crate::tests::library::support::assert_bytes;
-use qoi::laws::reading::images_are_functions;
 use qoi::laws::rectangles::{rows_are_put, rows_that_come};
 use qoi::parts::PieceReader;
 use qoi::{Decoder, Error, Header, PixelReader, encode_to_vec};
@@ -82,20 +78,33 @@ pub fn stride_of(header: &Header) -> usize
 
 /// Decodes the next row of an image.
 pub fn next_row<R: PieceReader>(pixels: &mut PixelReader<R>, row: &mut [u8]) -> Result<(), Error>
-    ensures given { (d : DecoderState R) (bytes given : List ℕ)
-        → HasGiven d (Some bytes) (R.ahead pixels.old.reader) given pixels.old
-        → OnOk result
-        (HasGiven d (Some bytes) (R.ahead pixels.new.reader) (given ++ row.new) pixels.new) }
-    ensures row { (d : DecoderState R) (bytes given : List ℕ) (k : ℕ)
-        → HasGiven d (Some bytes) (R.ahead pixels.old.reader) given pixels.old
-        → StandsAhead d.header bytes → length given ≡ length row.old * k
-        → OnOk result
-        (row.new ≡ row_bytes (length row.old) (front_image d.channels d.header bytes) k) }
+    ensures rows { (d : DecoderState R) (start : Option (List ℕ)) (stride k : ℕ)
+        → HasRows d start (R.ahead pixels.old.reader) stride k pixels.old
+        → length row.old ≡ stride
+        → OnOk result (HasRows d start (R.ahead pixels.new.reader) stride (k + 1) pixels.new) }
+    ensures row { (d : DecoderState R) (bytes : List ℕ) (stride k : ℕ)
+        → HasRows d (Some bytes) (R.ahead pixels.old.reader) stride k pixels.old
+        → length row.old ≡ stride
+        → OnOk result (row.new ≡ row_bytes stride (front_image d.channels d.header bytes) k) }
 {
-    rows_that_come();
     let size = pixels.read(row)?;
     if size < row.len() {
         return Err(Error::UnexpectedBufferEnd);
+    }
+    Ok(())
+}
+
+// Keeps the part of row k, if the area has that row.
+fn keep(tile: &mut Vec<u8>, row: &[u8], k: usize, area: Area) -> Result<(), Error>
+    requires { area.left + area.size ≤ length row.now }
+    ensures { (stride : ℕ) (raw : List ℕ) → row.now ≡ row_bytes stride raw k
+        → tile.old.items ≡ rectangle stride area.top area.left (k - area.top) area.size raw
+        → OnOk result (tile.new.items
+        ≡ rectangle stride area.top area.left (k + 1 - area.top) area.size raw) }
+{
+    rows_that_come();
+    if k >= area.top {
+        tile.extend_from_slice(&row[area.left..area.left + area.size])?;
     }
     Ok(())
 }
@@ -110,8 +119,7 @@ pub fn cut_rows<R: PieceReader + Drop>(
     requires below { area.top + area.rows < 2 ^ 64 }
     requires within { area.left + area.size ≤ length row.old }
     ensures { (d : DecoderState R) (bytes : List ℕ)
-        → HasGiven d (Some bytes) (R.ahead pixels.reader) [] pixels
-        → StandsAhead d.header bytes
+        → HasRows d (Some bytes) (R.ahead pixels.reader) (length row.old) 0 pixels
         → IfOk result (λ tile. tile.items ≡ rectangle (length row.old) area.top area.left
         area.rows area.size (front_image d.channels d.header bytes)) }
 {
@@ -119,20 +127,17 @@ pub fn cut_rows<R: PieceReader + Drop>(
     let mut tile = Vec::new(alloc);
     for k in 0..area.top + area.rows {
         next_row(&mut pixels, row)?;
-        if k >= area.top {
-            tile.extend_from_slice(&row[area.left..area.left + area.size])?;
-        }
+        keep(&mut tile, row, k, area)?;
     }
     Ok(tile)
 }
 
 /// A tile cut out of the image of a file, in the memory of one row and the tile.
 pub fn cut_file(alloc: Global, file: &[u8], area: Area) -> Result<Vec<u8>, Error>
-    ensures { (h : Header) (rest raw : List ℕ) → DecodesFile file.now h rest raw
+    ensures { (h : Header) → header_of file.now ≡ Ok h
         → IfOk result (λ tile. tile.items ≡ rectangle (h.width * channels_number h.channels)
-        area.top area.left area.rows area.size raw) }
+        area.top area.left area.rows area.size (file_image file.now)) }
 {
-    images_are_functions();
     let decoder = Decoder::new(file)?;
     let stride = stride_of(decoder.header());
     if !area.lies_within(decoder.header().height as usize, stride) {

@@ -19,14 +19,18 @@ if_some_of : (o : Option (List ℕ)) (Q : List ℕ → Type 0) → ((bytes : Lis
 if_some_of None Q h = tt
 if_some_of (Some bytes) Q h = h bytes refl
 
--- a decoded image stood ahead, and its decoder goes on behind it
+-- a decoded image stood ahead
 passed_of : {R : Type 0} (d : DecoderState R) (start now : Option (List ℕ)) (out : List ℕ) → HasDecoded d start now out
-    → IfSome start (λ bytes. StandsAhead d.header bytes × (now ≡ Some (front_rest d.header bytes)))
+    → IfSome start (λ bytes. StandsAhead d.header bytes)
 unfolding StandsAhead
 passed_of d start now out h = if_some_of start _ (λ bytes known.
-    let (rest, left, image) = h.rest bytes known in
-    let is = subst (λ o. IfSome o (λ z. (out ≡ front_image d.channels d.header z) × (now ≡ Some (front_rest d.header z)))) known h.image in
-    ((image.cs, rest, image.whole), is.1))
+    let (rest, left, image) = h.rest bytes known in (image.cs, rest, image.whole))
+
+-- and its decoder goes on behind it
+behind_of : {R : Type 0} (d : DecoderState R) (start now : Option (List ℕ)) (out : List ℕ) → HasDecoded d start now out
+    → IfSome start (λ bytes. now ≡ Some (front_rest d.header bytes))
+behind_of d start now out h = if_some_of start _ (λ bytes known.
+    let is = subst (λ o. IfSome o (λ z. (out ≡ front_image d.channels d.header z) × (now ≡ Some (front_rest d.header z)))) known h.image in is.1)
 
 -- a refused image in memory didn't stand ahead
 missing_of : {R : Type 0} (in_memory : Bool) (d : DecoderState R) (start new : Option (List ℕ)) (e : Error) → IsTrue in_memory → RefusesPixels in_memory d start new e
@@ -96,6 +100,13 @@ returns-clause-passed g c fresh =
     let start = g.R.Reader.ahead c.args.self.reader in
     let (rest, all) = returns-clause-finished g c d start [] fresh in
     passed_of d start _ rest all
+
+pub returns-clause-behind : goal.returns-clause-behind
+returns-clause-behind g c fresh =
+    let d = as_decoder c.args.self in
+    let start = g.R.Reader.ahead c.args.self.reader in
+    let (rest, all) = returns-clause-finished g c d start [] fresh in
+    behind_of d start _ rest all
 
 pub returns-clause-same : goal.returns-clause-same
 returns-clause-same g c =
