@@ -17,7 +17,7 @@ use Rattle.qoi.specs.Written.{Written}
 use Rattle.qoi.specs.Styles.{WrittenIn}
 use Rattle.qoi.specs.Decoding.{DecodesFile}
 use Rattle.qoi.specs.WrittenList.{written_list}
-use Rattle.qoi.proofs.encoding.CoderSteps.{all_bytes}
+use Rattle.qoi.proofs.encoding.coder.CoderSteps.{all_bytes}
 use Rattle.qoi.specs.Encoded.{max_file_len, image_header, image_pixels, image_file, Spans, IsNearShortest, IsFileBy, IsAsReference, IsShortIn, IsReadBack, IsFileOf, IsShortest}
 use Rattle.std.specs.Prelude.{Option, drop, Ok}
 use Rattle.std.specs.Io.KnownBytes.{Appends}
@@ -33,8 +33,8 @@ use Rattle.qoi.proofs.decoding.Tiles.{tile_put, sent_image, sent_kept, sent_know
 use Rattle.qoi.proofs.format.ImageHeader.{accepted_says}
 use Rattle.qoi.proofs.format.RawPixels.{pixels_of_are, pixels_of_have, length-pixels_of, output-pixels_of}
 use Rattle.qoi.specs.writers.Writes.{WriterLaws, WroteBut, WroteBeginning}
-use Rattle.qoi.proofs.encoding.WriterProgress.{wrote_next, wrote_part, wrote_all, left_fits}
-use Rattle.qoi.proofs.encoding.StyleLists.{list_written, style_chunks, style_means, style_unique, style_reaches, style_fits, style_length, style_apart, style_regular, style_upper, places_as_long}
+use Rattle.qoi.proofs.encoding.piece.WriterProgress.{wrote_next, wrote_part, wrote_all, left_fits}
+use Rattle.qoi.proofs.encoding.styles.StyleLists.{list_written, style_chunks, style_means, style_unique, style_reaches, style_fits, style_length, style_apart, style_regular, style_upper, places_as_long}
 use Rattle.qoi.proofs.shortness.RegularLists.{no_blank_regular}
 use Rattle.qoi.proofs.shortness.Lower.{lower}
 use Rattle.qoi.proofs.shortness.TightLists.{lower0, tight_exact}

@@ -1,6 +1,5 @@
 -- Lemmas on decoding.
 pub mod Ahead
-pub mod Blocks
 pub mod FastSteps
 pub mod FilledBuffer
 pub mod FirstChunk
@@ -22,3 +21,4 @@ pub mod StreamReads
 pub mod StreamVerdicts
 pub mod TakenBytes
 pub mod Tiles
+pub mod Vectors

@@ -8,7 +8,6 @@ pub mod Entries
 pub mod HashedPixels
 pub mod HeaderBytes
 pub mod ImageHeader
-pub mod Lanes
 pub mod LaneRuns
 pub mod LaneBytes
 pub mod LaneWords
@@ -20,6 +19,7 @@ pub mod PutTerms
 pub mod RawPixels
 pub mod RectangleLaws
 pub mod SamePixels
+pub mod SameBits
 pub mod SeenTable
 pub mod SetLast
 pub mod SomeVerdict

@@ -19,8 +19,8 @@ pub record TakesPixels (tail : List ℕ) (file_channels channels n : ℕ) (old n
   pub out_is : out ≡ output file_channels channels (take n (meaning cs))
 
 -- the same if nothing else was taken
-abbrev pub StreamsPixels : ℕ → ℕ → ℕ → Option (List ℕ) → Option (List ℕ) → List ℕ → Type 0
-StreamsPixels = TakesPixels []
+abbrev pub TakesImagePixels : ℕ → ℕ → ℕ → Option (List ℕ) → Option (List ℕ) → List ℕ → Type 0
+TakesImagePixels = TakesPixels []
 
 -- the same if the end marker was taken after them
 abbrev pub ReadsImage : ℕ → ℕ → ℕ → Option (List ℕ) → Option (List ℕ) → List ℕ → Type 0

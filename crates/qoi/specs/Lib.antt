@@ -11,6 +11,7 @@ pub mod Reading
 pub mod Images
 pub mod FrontFile
 pub mod Decoded
+pub mod ReaderPieces
 pub mod PixelReader
 -- Rows and rectangles of raw bytes.
 pub mod Rectangles
@@ -28,6 +29,7 @@ pub mod WrittenList
 pub mod Encoded
 pub mod EncoderState
 pub mod Sent
+pub mod WriterPieces
 pub mod PixelWriter
 pub mod Tiles
 -- Errors and their texts.

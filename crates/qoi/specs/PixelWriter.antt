@@ -8,7 +8,7 @@ use Rattle.qoi.specs.Raw.{pixels_of, image_byte_count}
 use Rattle.qoi.specs.EncoderState.{EncoderState}
 use Rattle.qoi.specs.Errors.{IsIoError}
 use Rattle.qoi.specs.Sent.{SendsPart}
-use Rattle.qoi.specs.inner.Pending.{ImageBetween}
+use Rattle.qoi.specs.WriterPieces.{ImageBetween}
 
 -- how many raw bytes of the image don't come yet
 abbrev pub raw_left : {W : Type 0} → PixelWriter W → ℕ

@@ -46,8 +46,8 @@ pub record GivesFresh (Choice : Past → RgbaPixel → Chunk → Type 0) (past :
   pub is_fresh : pixel_after past c ≢ previous past
   pub is_chosen : Choice past (pixel_after past c) c
 
--- a run may stand anywhere, and each other chunk gives a fresh pixel by the choice; so each repeat
--- is given by a run
+-- any run is allowed (`RunsFollowFull` says which follow others), and any other chunk that gives a
+-- fresh pixel by the choice; so repeats are given by runs alone
 abbrev pub IsAllowedAfter : (Past → RgbaPixel → Chunk → Type 0) → Past → Chunk → Type 0
 IsAllowedAfter Choice past (Run n) = Unit {0}
 IsAllowedAfter Choice past c = GivesFresh Choice past c

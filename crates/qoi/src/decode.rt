@@ -18,15 +18,15 @@ mod fast;
 mod hashed;
 mod one_chunk;
 mod output;
-mod pieces;
 mod pixel_reader;
 mod reader;
 mod slice;
 mod stream;
 mod table;
 
-pub use crate::decode::pieces::Pieces;
-pub use crate::decode::pixel_reader::{PieceReader, PixelReader};
+pub use crate::decode::pixel_reader::PixelReader;
+pub use crate::decode::pixel_reader::piece_reader::PieceReader;
+pub use crate::decode::pixel_reader::pieces::Pieces;
 pub use crate::decode::reader::{Buffered, Bytes, Reader};
 use crate::error::{Error, Result};
 use crate::header::Header;

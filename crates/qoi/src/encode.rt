@@ -18,27 +18,14 @@ ghost use Rattle.qoi.specs.writers.Writes.{WroteBeginning};
 mod block;
 mod blocks;
 mod carry;
-mod changes;
 mod chunks;
 mod coder;
-mod counts;
-mod each;
-mod fours;
 pub(crate) mod fresh;
-mod lanes;
-mod last;
-mod named;
-mod packing;
-mod parts;
-mod pending;
+mod last_pixel;
 pub(crate) mod piece;
 mod pixel_writer;
 mod pixels;
-mod planes;
 pub(crate) mod runs;
-mod spelling;
-mod stands;
-mod stores;
 mod table;
 
 use crate::consts::QOI_HEADER_SIZE;
@@ -58,7 +45,7 @@ use std::marker::Model;
 const LARGE_IMAGE: usize = 4096;
 
 // An image of fewer raw bytes goes to memory through a piece of 128 bytes.
-const SMALL_IMAGE: usize = 128;
+const TINY_IMAGE: usize = 128;
 
 // Writes the file of an image through a piece with this room, and returns how many bytes it has.
 fn encode_image<W: Writer, const ROOM: usize>(
@@ -81,7 +68,7 @@ fn encode_image<W: Writer, const ROOM: usize>(
     let room = writer.capacity();
     let mut bytes = [0; ROOM];
     let mut piece = Piece::<ROOM>::new(&mut bytes);
-    piece.keep(&header.encode()[..QOI_HEADER_SIZE]);
+    piece.append(&header.encode()[..QOI_HEADER_SIZE]);
     let mut piece = encode_chunks(writer, piece.open(), style, header.channels, data)?;
     piece.finish(writer)?;
     Ok(room - writer.capacity())
@@ -105,7 +92,7 @@ fn encode_to_memory<W: Writer>(
         × IsFileOf style header.now «data».now bytes
         × WroteBeginning W.wrote writer.old bytes writer.new) }
 {
-    if data.len() < SMALL_IMAGE {
+    if data.len() < TINY_IMAGE {
         return encode_image::<W, TINY_ROOM>(writer, style, header, data);
     }
     if data.len() < LARGE_IMAGE {
@@ -305,7 +292,7 @@ impl<'a> Encoder<'a> {
     ///
     /// `OutputBufferTooSmall` exactly if the buffer is shorter than `required_buf_len`, even if the
     /// file would fit; then the buffer is untouched.
-    #[tactic(auto, using(crate::proofs::encoding::BufferFilled::buffer_filled))]
+    #[tactic(auto, using(crate::proofs::encoding::piece::BufferFilled::buffer_filled))]
     pub fn encode_to_buf(&self, buf: &mut [u8]) -> Result<usize>
         // A success: the file stands in the front of the buffer, and later bytes stay.
         ensures encoded { IfOk result (PutsFile self.now buf.old buf.new) }

@@ -153,7 +153,7 @@ impl Packed {
     /// The `PART`th sixteen of the bytes that the pixel has when it is written sixteen times in `N`
     /// channels.
     #[inline(always)]
-    pub(crate) fn block<const N: usize, const PART: usize>(self) -> u8x16
+    pub(crate) fn repeated<const N: usize, const PART: usize>(self) -> u8x16
         requires channels { IsChannels N }
         requires part { PART < N }
         ensures bytes { result ≡ take 16 (drop (16 * PART) (output N N (replicate 16 self))) }

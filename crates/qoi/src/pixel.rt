@@ -8,7 +8,7 @@ ghost use Rattle.qoi.specs.Qoi.{bytes_of, rgba, hash, positions, after_diff, aft
 ghost use Rattle.qoi.specs.Raw.{IsChannels};
 
 use crate::encode::fresh::spell_pixel;
-use crate::encode::piece::put_chunk;
+use crate::encode::piece::store_chunk;
 use crate::error::Result;
 use crate::packed::Packed;
 use crate::writers::Writer;
@@ -232,7 +232,7 @@ impl<const N: usize> Pixel<N> {
         let px = self.packed();
         let (number, size) = spell_pixel::<N>(px_prev.packed(), px);
         let mut bytes = [0; 8];
-        let end = put_chunk::<N>(&mut bytes, 0, px.number(), number, size);
+        let end = store_chunk::<N>(&mut bytes, 0, px.number(), number, size);
         writer.write_many(&bytes[..end])
     }
 

@@ -24,15 +24,15 @@ pub record ShortCount (c b size : ℕ) : Type 0 where
   pub fits : count ≤ 16 / c
   pub low : b < 254
 
--- a block holds a pixel, and five at most
-pub in_block : (c : ℕ) → IsChannels c → (1 ≤ 16 / c) × (16 / c ≤ 5)
-in_block c is = by_channels (λ d. (1 ≤ 16 / d) × (16 / d ≤ 5)) is (omega arith, omega arith) (omega arith, omega arith)
+-- a vector holds a pixel, and five at most
+pub in_vector : (c : ℕ) → IsChannels c → (1 ≤ 16 / c) × (16 / c ≤ 5)
+in_vector c is = by_channels (λ d. (1 ≤ 16 / d) × (16 / d ≤ 5)) is (omega arith, omega arith) (omega arith, omega arith)
 
 -- each short chunk has some
 pub short_count : (c b size : ℕ) → IsChannels c → b ≤ 191 + 16 / c → (b < 192 → size ≡ c) → (192 ≤ b → b < 254 → size ≡ c * (b - 191))
     → ShortCount c b size
 short_count c b size is short one run =
-    let block = in_block c is in
+    let block = in_vector c is in
     elim (cases_lt b 192) [
       | inl less ↦ record { count = 1; size_is = omega (arith, one less); once = λ l. refl; often = λ l. absurd (omega arith); fits = block.0; low = omega arith }
       | inr more ↦ let low : b < 254 = omega arith in

@@ -77,12 +77,12 @@ filled_copies f c n out new at count p past is inside fits size w h =
     let listed = filled_list f c n out new at past (replicate count p) is inside (rw many fits) size (rw many w.same) h in
     rw (many, reverse-replicate count p) at listed
 
--- the room that the blocks of any run have is enough for its pixels
+-- the room that the vectors of any run have is enough for its pixels
 pub run_fits : (c at count len : ℕ) → IsChannels c → count ≤ 62 → at + 256 ≤ len → at + c * count ≤ len
 run_fits c at count len is = by_channels (λ d. count ≤ 62 → at + 256 ≤ len → at + d * count ≤ len) is (λ p q. omega arith)
     (λ p q. omega arith)
 
--- the copies that a block holds fit if it does
+-- the copies that a vector holds fit if it does
 pub block_fits : (c at count len : ℕ) → IsChannels c → count ≤ 16 / c → at + 16 ≤ len → at + c * count ≤ len
 block_fits c at count len is = by_channels (λ d. count ≤ 16 / d → at + 16 ≤ len → at + d * count ≤ len) is (λ p q. omega arith)
     (λ p q. omega arith)

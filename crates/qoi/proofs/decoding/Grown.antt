@@ -4,14 +4,14 @@ use Rattle.std.specs.Io.KnownBytes.{Consumes}
 use Rattle.std.proofs.lemmas.List.{length-replicate, take-append-le}
 use lib.Seq.{take-append_seam}
 use Rattle.qoi.specs.declared.chunk.Chunk.{Chunk}
-use Rattle.qoi.specs.declared.decode.chunks.TheConstants.{STEP}
+use Rattle.qoi.specs.declared.decode.chunks.TheConstants.{GROWTH}
 use Rattle.qoi.specs.Qoi.{Past, AreBytes, Each, chunk_bytes, start, then_chunk, then_chunks}
 use Rattle.qoi.specs.Raw.{IsChannels}
 use Rattle.qoi.specs.Verdicts.{IsPartOfChunk, AreCut, EndsBefore}
 use Rattle.qoi.specs.declared.error.Error.TheVariants.{IoError}
 use Rattle.qoi.specs.inner.Hashed.{pixel_of_lanes, HoldsSeen}
 use Rattle.qoi.specs.inner.Filling.{Filling, filling, IsFillable, DecoderBetween}
-use Rattle.qoi.specs.inner.Chunks.{GoesOn, RefusesFilling}
+use Rattle.qoi.specs.inner.Chunks.{TakesMore, RefusesFilling}
 use Rattle.qoi.proofs.format.WholePixels.{by_channels, whole_pixels}
 use Rattle.qoi.proofs.decoding.LeastBytes.{pixels_most}
 use Rattle.qoi.proofs.decoding.Progress.{fewer, few_left, start_between, stream_ends}
@@ -109,8 +109,8 @@ pub some_channels : (c : ℕ) → IsChannels c → 0 < c
 some_channels c is = by_channels (λ k. 0 < k) is (omega arith) (omega arith)
 
 -- a step is whole pixels
-pub whole_step : (c len new : ℕ) → IsChannels c → len % c ≡ 0 → new ≡ len + STEP * c → new % c ≡ 0
-whole_step c len new is = by_channels (λ k. len % k ≡ 0 → new ≡ len + STEP * k → new % k ≡ 0) is (λ a b. omega arith) (λ a b. omega arith)
+pub whole_step : (c len new : ℕ) → IsChannels c → len % c ≡ 0 → new ≡ len + GROWTH * c → new % c ≡ 0
+whole_step c len new is = by_channels (λ k. len % k ≡ 0 → new ≡ len + GROWTH * k → new % k ≡ 0) is (λ a b. omega arith) (λ a b. omega arith)
 
 -- fewer bytes are no more pixels
 pub fewer_pixels : (c few many : ℕ) → IsChannels c → few ≤ many → few / c ≤ many / c
@@ -131,7 +131,7 @@ ends_more m n bytes more (cs, part, has, short, is_part) = (
 )
 
 -- if a stream gives no whole chunk, it is refused
-pub stream_refused : {f c : ℕ} {ahead middle : Option (List ℕ)} {old now : Filling} (new : Option (List ℕ)) (part : List ℕ) → IsChannels c → GoesOn f c ahead middle old now
+pub stream_refused : {f c : ℕ} {ahead middle : Option (List ℕ)} {old now : Filling} (new : Option (List ℕ)) (part : List ℕ) → IsChannels c → TakesMore f c ahead middle old now
     → now.buffer.at < length now.buffer.out → Consumes middle new part → IsPartOfChunk part → (e : _) → RefusesFilling f c false ahead new old (IoError e)
 stream_refused new part is on inside took is_part e gone n first h all more =
     let (taken, so_far, ends) = stream_ends first _ new part is (on.between gone n first h) inside took is_part in

@@ -8,12 +8,12 @@ use Rattle.std.proofs.Math.Seq.{take-add}
 use borrow.Rule.Slice.PartMut.{put_mid, mid_of, mid_len, same_len_mid}
 use Rattle.std.proofs.lemmas.Grind.{flat_map-append}
 use Rattle.qoi.specs.declared.chunk.Chunk.{Chunk}
-use Rattle.qoi.specs.declared.decode.pieces.Pieces.{Pieces}
+use Rattle.qoi.specs.declared.decode.pixel_reader.pieces.Pieces.{Pieces}
 use Rattle.qoi.specs.Qoi.{Past, Each, AreChunks, chunk_bytes, end_marker, pixel_after, times, then_chunk, then_chunks}
 use Rattle.qoi.specs.Raw.{IsChannels, pixel_bytes, output}
-use Rattle.qoi.specs.Decoding.{StreamsPixels, ReadsImage}
+use Rattle.qoi.specs.Decoding.{TakesImagePixels, ReadsImage}
 use Rattle.qoi.specs.inner.Filling.{HasSeen, IsFillable, upto, filling, DecoderBetween}
-use Rattle.qoi.specs.inner.Pieces.{kept, KeepsWithin, StandsAfter, GivesPieces}
+use Rattle.qoi.specs.ReaderPieces.{kept, KeepsWithin, DecoderAfter, GivesPieces}
 use Rattle.qoi.proofs.format.ChunkSteps.{times_some}
 use Rattle.qoi.proofs.format.WholePixels.{by_channels, length-output, take_whole}
 use Rattle.qoi.proofs.decoding.Progress.{fewer, none_written, fillable_whole}
@@ -37,7 +37,7 @@ stay_within m past (c ∷ cs) are most =
 
 -- pixels that are gone, and an empty output
 pub opens : {f c : ℕ} {gone : Past} {Taken : List ℕ → Type 0} {table : List ℕ} {last : ℕ} (n : ℕ) (out : List ℕ) → IsChannels c
-    → StandsAfter Taken table last gone → length out ≡ c * n → DecoderBetween f c gone n Taken (filling table last out 0)
+    → DecoderAfter Taken table last gone → length out ≡ c * n → DecoderBetween f c gone n Taken (filling table last out 0)
 opens {f} {c} {gone} {Taken} {table} {last} n out is s size = record {
   cs = s.cs;
   chunks = s.chunks;
@@ -56,7 +56,7 @@ opens {f} {c} {gone} {Taken} {table} {last} n out is s size = record {
 
 -- what stands after an output that isn't full
 abbrev pub Closed : (f c : ℕ) (gone : Past) (Taken : List ℕ → Type 0) (table : List ℕ) (last : ℕ) (given out : List ℕ) (at : ℕ) → Type 0
-Closed f c gone Taken table last given out at = (all : Past) × StandsAfter Taken table last all × (given ++ take at out ≡ output f c (reverse all))
+Closed f c gone Taken table last given out at = (all : Past) × DecoderAfter Taken table last all × (given ++ take at out ≡ output f c (reverse all))
 
 pub closes : {f c : ℕ} {gone : Past} {m : ℕ} {Taken : List ℕ → Type 0} {table : List ℕ} {last : ℕ} (given out : List ℕ) (at : ℕ) → IsChannels c
     → DecoderBetween f c gone m Taken (filling table last out at) → at < length out → given ≡ output f c (reverse gone)
@@ -97,7 +97,7 @@ gone_most f c n m gone given undecoded is so_far all some =
     (λ a b d. omega arith) (λ a b d. omega arith) size all some
 
 -- the end marker after the chunks
-pub with_marker : {f c n : ℕ} {old middle new : Option (List ℕ)} {out : List ℕ} → StreamsPixels f c n old middle out → Consumes middle new end_marker
+pub with_marker : {f c n : ℕ} {old middle new : Option (List ℕ)} {out : List ℕ} → TakesImagePixels f c n old middle out → Consumes middle new end_marker
     → ReadsImage f c n old new out
 with_marker {old = old} {middle = middle} {new = new} s took = record {
   cs = s.cs;

@@ -5,10 +5,10 @@ use Rattle.std.specs.Io.KnownBytes.{Consumes}
 use Rattle.std.proofs.KnownBytes.{Consumes-trans}
 use Rattle.qoi.specs.Raw.{IsChannels, pixel_bytes, output}
 use Rattle.qoi.specs.inner.Filling.{Buffer, Filling, upto, filling, HasFilled, IsFillable, DecodesChunk, DecoderBetween, IsFrontAfter, TakesFront}
-use Rattle.qoi.specs.inner.Chunks.{GoesOn, TakesChunks, FillsOutput}
+use Rattle.qoi.specs.inner.Chunks.{TakesMore, TakesChunks, FillsOutput}
 use Rattle.qoi.specs.inner.Hashed.{pixel_of_lanes, HoldsSeen}
 use Rattle.qoi.specs.Verdicts.{IsPartOfChunk, EndsBefore, AreCut}
-use Rattle.qoi.specs.Decoding.{StreamsPixels}
+use Rattle.qoi.specs.Decoding.{TakesImagePixels}
 use Rattle.qoi.proofs.format.ChunkSteps.{times_some, then_chunks-append, each_append}
 use Rattle.std.proofs.lemmas.Grind.{flat_map-append}
 use Rattle.std.proofs.lemmas.List.{length-reverse, reverse-append}
@@ -84,8 +84,8 @@ goes_on {f} {c} {gone} {n} {Taken} {Taken'} {old} {new} {bytes} is s inside g ta
     }
 
 -- the same of a chunk that was taken from the bytes ahead
-pub takes_chunk : {f c : ℕ} {ahead middle rest : Option (List ℕ)} {old now new : Filling} {bytes : List ℕ} → IsChannels c → GoesOn f c ahead middle old now
-    → now.buffer.at < length now.buffer.out → DecodesChunk f c bytes now new → Consumes middle rest bytes → IsFillable c new.buffer → GoesOn f c ahead rest old new
+pub takes_chunk : {f c : ℕ} {ahead middle rest : Option (List ℕ)} {old now new : Filling} {bytes : List ℕ} → IsChannels c → TakesMore f c ahead middle old now
+    → now.buffer.at < length now.buffer.out → DecodesChunk f c bytes now new → Consumes middle rest bytes → IsFillable c new.buffer → TakesMore f c ahead rest old new
 takes_chunk {middle = middle} {rest = rest} {bytes = bytes} is on inside decoded took to = record {
   between = λ gone n first h.
       goes_on is (on.between gone n first h) inside decoded (λ before so_far. Consumes-trans first middle rest before bytes so_far took) to.within to.whole.1;
@@ -116,7 +116,7 @@ front_of_none bytes s = taken_as s (sym (append-nil (chunk_bytes s.cs)))
 
 -- the front of what a reader showed was taken
 pub front_taken : {f c : ℕ} {ahead rest : Option (List ℕ)} {old new : Filling} (bytes : List ℕ) (size : ℕ) → TakesFront f c bytes size old new → Consumes ahead rest (take size bytes)
-    → GoesOn f c ahead rest old new
+    → TakesMore f c ahead rest old new
 front_taken {ahead = ahead} {rest = rest} bytes size fast took = record {
   between = λ gone n first h.
       let s = fast gone n (chunk_bytes h.cs) (front_of_none bytes h) in
@@ -152,7 +152,7 @@ few_left {gone = gone} {n = n} (Some bytes) rest is s inside fits few =
 -- the chunks of a stream whose pixels fill the buffer
 pub streams_pixels : {f c : ℕ} {gone : Past} {n : ℕ} {old new : Option (List ℕ)} {now : Filling} → IsChannels c → DecoderBetween f c gone n (Consumes old new) now
     → length now.buffer.out ≤ now.buffer.at
-    → StreamsPixels f c (length gone + n) old new (output f c (reverse gone) ++ now.buffer.out)
+    → TakesImagePixels f c (length gone + n) old new (output f c (reverse gone) ++ now.buffer.out)
 streams_pixels is s full =
     let all = reads_all is s full in
     record { cs = s.cs; chunks = s.chunks; reaches = all.0; taken = subst (Consumes _ _) (sym (append-nil (chunk_bytes s.cs))) s.taken; out_is = all.1 }
@@ -162,9 +162,9 @@ pub fills_output : {f c : ℕ} {ahead rest : Option (List ℕ)} {old new : Filli
 fills_output t gone n first h = streams_pixels t.fillable.three_or_four (t.goes_on.between gone n first h) (t.full refl)
 
 -- the same with none before them
-pub first_streams : {f c n : ℕ} {old new : Option (List ℕ)} {out : List ℕ} → StreamsPixels f c (length {A = RgbaPixel} [] + n) old new (output f c (reverse []) ++ out)
-    → StreamsPixels f c n old new out
-first_streams {f} {c} {n} {old} {new} {out} s = subst (λ k. StreamsPixels f c k old new out) (none_more n) s
+pub first_streams : {f c n : ℕ} {old new : Option (List ℕ)} {out : List ℕ} → TakesImagePixels f c (length {A = RgbaPixel} [] + n) old new (output f c (reverse []) ++ out)
+    → TakesImagePixels f c n old new out
+first_streams {f} {c} {n} {old} {new} {out} s = subst (λ k. TakesImagePixels f c k old new out) (none_more n) s
 
 -- if a stream gives no whole chunk, what was taken ends before n pixels
 pub stream_ends : {f c : ℕ} {gone : Past} {n : ℕ} (old middle new : Option (List ℕ)) (part : List ℕ) {now : Filling} → IsChannels c → DecoderBetween f c gone n (Consumes old middle) now

@@ -15,7 +15,7 @@ use Rattle.qoi.proofs.format.ChunksApart.{chunks_apart}
 use Rattle.std.proofs.lemmas.Bool.{cases_lt}
 use Rattle.qoi.specs.Qoi.{AreBytes, IsChunk, AreChunks, bytes_of, chunk_bytes, Reaches}
 use Rattle.qoi.specs.Verdicts.{IsPartOfChunk, EndsBefore, AreCut}
-use Rattle.qoi.specs.Decoding.{StreamsPixels, RefusesBytes, RefusesMarker, RefusesTaken, RefusesTakenMarker}
+use Rattle.qoi.specs.Decoding.{TakesImagePixels, RefusesBytes, RefusesMarker, RefusesTaken, RefusesTakenMarker}
 use Rattle.qoi.specs.inner.Chunks.{RefusesAfter, RefusesChunks}
 use Rattle.qoi.proofs.format.PartOfChunk.{byte_and, part_luma, part_rgb, part_rgba}
 
@@ -122,7 +122,7 @@ refused_after n cs chunks reaches taken InvalidPadding (eight, other) = (
 refused_after n cs chunks reaches taken _ none = none
 
 -- what was taken if the marker was refused
-marker_refused : {T : Type 0} (f c n : ℕ) (old now new : Option (List ℕ)) (out : List ℕ) (r : Result T Error) → StreamsPixels f c n old now out
+marker_refused : {T : Type 0} (f c n : ℕ) (old now new : Option (List ℕ)) (out : List ℕ) (r : Result T Error) → TakesImagePixels f c n old now out
     → IfErr r (λ e. (taken : List ℕ) × Consumes now new taken × RefusesTakenMarker taken e)
     → IfErr r (λ e. (taken : List ℕ) × Consumes old new taken × RefusesTaken n taken e)
 marker_refused f c n old now new out r s why =
@@ -161,7 +161,7 @@ bytes_refused n bytes rest cs chunks reaches split InvalidPadding (eight, more, 
 bytes_refused n bytes rest cs chunks reaches split _ none = none
 
 -- the same, if they are known
-known_refused : (f c n : ℕ) (old now : Option (List ℕ)) (out : List ℕ) → StreamsPixels f c n old now out → (e : Error)
+known_refused : (f c n : ℕ) (old now : Option (List ℕ)) (out : List ℕ) → TakesImagePixels f c n old now out → (e : Error)
     → IfSome now (λ rest. RefusesMarker rest e) → IfSome old (λ bytes. RefusesBytes n bytes e)
 known_refused f c n None now out s e why = tt
 known_refused f c n (Some bytes) None out s e why = absurd s.taken
@@ -169,7 +169,7 @@ known_refused f c n (Some bytes) (Some rest) out s e why =
     bytes_refused n bytes rest s.cs s.chunks s.reaches (s.taken ∙ ap (λ z. z ++ rest) (append-nil (chunk_bytes s.cs))) e why
 
 -- why an image is refused whose marker is refused, whatever the reader
-pub after_refused : {T : Type 0} (in_memory : Bool) (f c n : ℕ) (old now new : Option (List ℕ)) (out : List ℕ) (r : Result T Error) → StreamsPixels f c n old now out
+pub after_refused : {T : Type 0} (in_memory : Bool) (f c n : ℕ) (old now new : Option (List ℕ)) (out : List ℕ) (r : Result T Error) → TakesImagePixels f c n old now out
     → IfErr r (RefusesAfter in_memory now new) → IfErr r (RefusesChunks in_memory n old new)
 after_refused true f c n old now new out r s why =
     IfErr-weaker r (RefusesAfter true now new) (RefusesChunks true n old new) (λ e is. known_refused f c n old now out s e is) why

@@ -10,9 +10,9 @@ use Rattle.qoi.specs.Written.{noted, IsChoice, IsAllowedAfter, Written}
 use Rattle.qoi.specs.Raw.{HasChannels}
 use Rattle.qoi.specs.Regular.{NamesPixelThere, Regular, Begins}
 use Rattle.qoi.proofs.format.SamePixels.{cases_pixel}
-use Rattle.qoi.proofs.encoding.NotedPixels.{seen_same, seen_other}
+use Rattle.qoi.proofs.encoding.lists.NotedPixels.{seen_same, seen_other}
 use Rattle.qoi.proofs.format.ChunkSteps.{given, then_chunks_given}
-use Rattle.qoi.proofs.encoding.WrittenGrows.{all_back, all_reverse}
+use Rattle.qoi.proofs.encoding.lists.WrittenGrows.{all_back, all_reverse}
 
 -- an index chunk that is chosen names the index position of its pixel
 place_named : (past : Past) (i : ℕ) → IsChoice past (seen past i) (Place i) → hash (seen past i) ≡ i

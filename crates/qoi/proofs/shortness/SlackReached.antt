@@ -4,7 +4,7 @@ use Rattle.qoi.specs.declared.chunk.Chunk.TheVariants.{Run, Rgb, Rgba}
 use Rattle.qoi.specs.Qoi.{RgbaPixel, IsPixel, Past, pixel, pixel_eq, start, blank, previous, hash}
 use Rattle.qoi.specs.Written.{noted, IsChoice, GivesFresh, Written}
 use Rattle.qoi.specs.Steps.{steps, diff_steps, luma_steps}
-use Rattle.qoi.proofs.encoding.Spelled.{first_rgb, first_rgba}
+use Rattle.qoi.proofs.encoding.coder.Spelled.{first_rgb, first_rgba}
 
 -- different reds make different pixels
 pub red_differs : (p q : RgbaPixel) → p.r ≢ q.r → p ≢ q

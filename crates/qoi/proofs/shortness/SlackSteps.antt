@@ -10,7 +10,7 @@ use Rattle.qoi.specs.Written.{fresh, noted}
 use Rattle.qoi.specs.Shortest.{is_start, slack}
 use Rattle.qoi.specs.Encoded.{OpensBlack}
 use Rattle.qoi.proofs.format.SamePixels.{cases_pixel, pixel_eq-same, pixel_eq-from}
-use Rattle.qoi.proofs.encoding.NotedPixels.{fresh_repeat, fresh_more, noted_repeat, noted_fresh, seen_same, seen_other}
+use Rattle.qoi.proofs.encoding.lists.NotedPixels.{fresh_repeat, fresh_more, noted_repeat, noted_fresh, seen_same, seen_other}
 
 -- the image so far opens with opaque black
 abbrev opens : Past → Bool

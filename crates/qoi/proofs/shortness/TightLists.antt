@@ -11,7 +11,7 @@ use Rattle.qoi.specs.Written.{GivesFresh, IsAllowedAfter, WrittenBy}
 use Rattle.qoi.specs.Styles.{is_run}
 use Rattle.qoi.specs.Tight.{is_unseen, least_unseen, IsTightChoice, least0, floor0}
 use Rattle.qoi.proofs.format.SamePixels.{cases_pixel, pixel_eq-from, pixel_eq-ne}
-use Rattle.qoi.proofs.encoding.TightChoice.{unseen_blank, unseen_or, unseen_some, by_tight}
+use Rattle.qoi.proofs.encoding.styles.TightChoice.{unseen_blank, unseen_or, unseen_some, by_tight}
 use Rattle.qoi.proofs.shortness.Costs.{least_low, least_seen, cost_fresh, cost_repeat}
 use Rattle.qoi.proofs.shortness.Lower.{least_bounds, lower_by}
 use Rattle.qoi.proofs.shortness.Upper.{first_least, upper_by}

@@ -11,10 +11,10 @@ use Rattle.qoi.specs.Shortest.{some_diff, some_luma, some_rgb, least, trailing_r
 use Rattle.qoi.proofs.format.SamePixels.{cases_pixel, same_pixel}
 use Rattle.qoi.specs.Styles.{is_run}
 use Rattle.qoi.proofs.format.ChunkSteps.{times_other, right_other, then_other}
-use Rattle.qoi.proofs.encoding.WrittenGrows.{all_reverse}
+use Rattle.qoi.proofs.encoding.lists.WrittenGrows.{all_reverse}
 use Rattle.qoi.proofs.shortness.Costs.{some_diff-true, some_luma-true, some_rgb-true, least_low, least_over_1, least_over_2, least_over_4, cost_fresh, cost_run, repeats_run, repeats_fresh}
 use Rattle.qoi.proofs.shortness.SlackSteps.{slack_at, slack_is, slack_more, slack_grows}
-use Rattle.qoi.proofs.encoding.WrittenShape.{channels_before, chunk_fits, choice_rgba}
+use Rattle.qoi.proofs.encoding.lists.WrittenShape.{channels_before, chunk_fits, choice_rgba}
 
 -- if the first chunk is no Diff, no Diff gives the pixel
 no_diff : (past : Past) (p : RgbaPixel) (c : Chunk) → IsFirst past p c → 1 < rank c → some_diff (previous past) p ≡ false

@@ -6,7 +6,7 @@ use Rattle.qoi.specs.declared.error.Error.{Error}
 use Rattle.qoi.specs.declared.decode.output.TheConstants.{RUN_ROOM}
 use Rattle.qoi.specs.Qoi.{Past}
 use Rattle.qoi.specs.Raw.{output}
-use Rattle.qoi.specs.Decoding.{StreamsPixels, HasTaken, RefusesBytes, RefusesMarker, RefusesTaken, RefusesTakenMarker}
+use Rattle.qoi.specs.Decoding.{TakesImagePixels, HasTaken, RefusesBytes, RefusesMarker, RefusesTaken, RefusesTakenMarker}
 use Rattle.qoi.specs.inner.Filling.{Filling, IsFillable, DecoderBetween}
 
 -- Why chunks of n pixels and the end marker are refused, which begin with the bytes `start`: in memory
@@ -21,13 +21,13 @@ RefusesAfter true old new e = IfSome old (λ bytes. RefusesMarker bytes e)
 RefusesAfter false old new e = HasTaken old new (λ taken. RefusesTakenMarker taken e)
 
 -- chunks were taken from the bytes ahead, after those before them
-pub record GoesOn (file_channels channels : ℕ) (ahead rest : Option (List ℕ)) (old new : Filling) : Type 0 where
+pub record TakesMore (file_channels channels : ℕ) (ahead rest : Option (List ℕ)) (old new : Filling) : Type 0 where
   pub between : (gone : Past) (n : ℕ) (start : Option (List ℕ)) → DecoderBetween file_channels channels gone n (Consumes start ahead) old
       → DecoderBetween file_channels channels gone n (Consumes start rest) new
 
--- the same until the output is full or, if `runs_fit`, until the blocks of a run may not fit
+-- the same until the output is full or, if `runs_fit`, until the vectors of a run may not fit
 pub record TakesChunks (file_channels channels : ℕ) (runs_fit : Bool) (ahead rest : Option (List ℕ)) (old new : Filling) : Type 0 where
-  pub goes_on : GoesOn file_channels channels ahead rest old new
+  pub goes_on : TakesMore file_channels channels ahead rest old new
   pub fillable : IsFillable channels new.buffer
   pub below : IsTrue runs_fit → old.buffer.at < length old.buffer.out → new.buffer.at < length new.buffer.out
   pub filled : IsTrue runs_fit → length new.buffer.out < new.buffer.at + RUN_ROOM
@@ -36,7 +36,7 @@ pub record TakesChunks (file_channels channels : ℕ) (runs_fit : Bool) (ahead r
 -- the same until the output is full, of pixels that follow those that are gone
 abbrev pub FillsOutput : ℕ → ℕ → Option (List ℕ) → Option (List ℕ) → Filling → List ℕ → Type 0
 FillsOutput f c ahead rest old out = (gone : Past) (n : ℕ) (start : Option (List ℕ)) → DecoderBetween f c gone n (Consumes start ahead) old
-    → StreamsPixels f c (length gone + n) start rest (output f c (reverse gone) ++ out)
+    → TakesImagePixels f c (length gone + n) start rest (output f c (reverse gone) ++ out)
 
 -- chunks are refused for any image of the pixels that are gone and those that fit, or of more
 abbrev pub RefusesFilling : ℕ → ℕ → Bool → Option (List ℕ) → Option (List ℕ) → Filling → Error → Type 0

@@ -2,7 +2,7 @@
 ghost use Rattle.std.specs.Prelude.{◌<◌, ◌≤◌, [], length, false, IfOk, IfErr, OnErr};
 ghost use Rattle.std.specs.Io.KnownBytes.{Consumes};
 ghost use Rattle.qoi.specs.declared.error.Error.{Error};
-ghost use Rattle.qoi.specs.inner.Chunks.{GoesOn, TakesChunks, RefusesFilling};
+ghost use Rattle.qoi.specs.inner.Chunks.{TakesMore, TakesChunks, RefusesFilling};
 ghost use Rattle.qoi.specs.inner.Filling.{IsFillable, upto, filling};
 
 use crate::decode::chunks::{Chunks, Reached};
@@ -29,7 +29,8 @@ fn chunks_in_buffer<R: BufRead, const N: usize, const F: usize>(
     at: usize,
 ) -> io::Result<Reached>
     requires { IsFillable N (upto out.old at) }
-    ensures between { IfOk result (λ now. GoesOn F N (R.remaining reader.old) (R.remaining reader.new)
+    ensures between { IfOk result (λ now. TakesMore F N
+        (R.remaining reader.old) (R.remaining reader.new)
         (filling table.old last out.old at) (filling table.new now.last out.new now.at)) }
     ensures on { IfOk result (λ now. at ≤ now.at) }
     ensures below { at < length out.old → IfOk result (λ now. now.at < length out.new) }
@@ -51,7 +52,7 @@ fn chunks_in_buffer<R: BufRead, const N: usize, const F: usize>(
 }
 
 // Decodes chunks from a reader with a buffer, after the pixel `last` and the first `at` bytes of
-// `out`: if `RUN_FITS`, as long as `out` has room for the blocks of any run, else until it is full.
+// `out`: if `RUN_FITS`, as long as any run's vectors have room in `out`, else until it is full.
 // Takes no byte past the last chunk. Each turn reads one chunk, which may stand across two fillings
 // of the buffer, and then takes those that the buffer shows.
 #[inline(always)]

@@ -4,10 +4,10 @@ ghost use Rattle.std.specs.Vec.{vec_len, vec_capacity};
 ghost use Rattle.std.specs.Io.KnownBytes.{Consumes};
 ghost use Rattle.qoi.specs.Qoi.{end_marker, run_max};
 ghost use Rattle.qoi.specs.Raw.{IsChannels};
-ghost use Rattle.qoi.specs.Decoding.{StreamsPixels, ReadsImage};
+ghost use Rattle.qoi.specs.Decoding.{TakesImagePixels, ReadsImage};
 ghost use Rattle.qoi.specs.inner.Chunks.{RefusesChunks, RefusesAfter, TakesChunks, FillsOutput, RefusesFilling};
 ghost use Rattle.qoi.specs.inner.Filling.{IsFillable, upto, filling};
-ghost use Rattle.qoi.specs.declared.decode.chunks.TheConstants.{STEP};
+ghost use Rattle.qoi.specs.declared.decode.chunks.TheConstants.{GROWTH};
 ghost use Rattle.qoi.specs.declared.decode.output.TheConstants.{RUN_ROOM};
 
 use crate::decode::hashed::Hashed;
@@ -15,7 +15,7 @@ use crate::decode::table::TermTable;
 use crate::error::Result;
 
 /// By how many pixels a vector grows, before they are decoded: few enough to stay in the cache.
-const STEP: usize = 16384;
+const GROWTH: usize = 16384;
 
 /// What a loop over chunks reached: the last pixel, and where the output stopped.
 #[derive(Clone, Copy)]
@@ -33,7 +33,7 @@ pub(super) trait Chunks<const N: usize, const F: usize>: Sized {
     ghost in_memory: { Bool };
 
     /// Decodes chunks, after the pixel `last` and the first `at` bytes of `out`, as long as `out`
-    /// has room for the blocks of any run. Returns what it reached.
+    /// has room for the vectors of any run. Returns what it reached.
     ///
     /// Chunks that are refused are refused for any image of more pixels than fit, too.
     fn some_chunks(
@@ -75,7 +75,7 @@ pub(super) trait Chunks<const N: usize, const F: usize>: Sized {
 #[inline]
 fn grow<const N: usize>(out: &mut Vec<u8>, size: usize)
     requires more { vec_len out.old ≤ size }
-    requires step { size ≤ vec_len out.old + STEP * N }
+    requires step { size ≤ vec_len out.old + GROWTH * N }
     requires room { size ≤ vec_capacity out.old }
     ensures items { out.new.items ≡ out.old.items ++ replicate (size - vec_len out.old) 0 }
     ensures len { vec_len out.new ≡ size }
@@ -91,7 +91,7 @@ fn chunks_to_buf<R: Chunks<N, F>, const N: usize, const F: usize>(
 ) -> Result<()>
     requires channels { IsChannels N }
     requires whole { length out.old % N ≡ 0 }
-    ensures read { OnOk result (StreamsPixels F N (length out.old / N)
+    ensures read { OnOk result (TakesImagePixels F N (length out.old / N)
         (R.ahead reader.old) (R.ahead reader.new) out.new) }
     ensures refused { IfErr result (RefusesChunks R.in_memory (length out.old / N)
         (R.ahead reader.old) (R.ahead reader.new)) }
@@ -112,20 +112,20 @@ fn chunks_to_vec<R: Chunks<N, F>, const N: usize, const F: usize>(
     requires whole { size % N ≡ 0 }
     requires empty { vec_len out.old ≡ 0 }
     requires room { size ≤ vec_capacity out.old }
-    ensures read { OnOk result (StreamsPixels F N (size / N)
+    ensures read { OnOk result (TakesImagePixels F N (size / N)
         (R.ahead reader.old) (R.ahead reader.new) out.new.items) }
     ensures refused { IfErr result (RefusesChunks R.in_memory (size / N)
         (R.ahead reader.old) (R.ahead reader.new)) }
     // Whatever the size, the vector has at most 248 bytes for each byte ahead, and those of a step
     // and `RUN_ROOM`.
     ensures grown { IfSome (R.ahead reader.old) (λ bytes.
-        vec_len out.new ≤ 4 * run_max * length bytes + (STEP * N + RUN_ROOM)) }
+        vec_len out.new ≤ 4 * run_max * length bytes + (GROWTH * N + RUN_ROOM)) }
 {
     let mut table = TermTable::new();
     let mut last = Hashed::start();
     let mut at = 0;
-    while STEP * N < size - out.len() {
-        let more = out.len() + STEP * N;
+    while GROWTH * N < size - out.len() {
+        let more = out.len() + GROWTH * N;
         grow::<N>(out, more);
         let now = reader.some_chunks(&mut table, last, out, at)?;
         last = now.last;

@@ -57,7 +57,7 @@ static ADDED: [u64; 256] = [
 // Five tables indexed by byte, one after the other. One array needs one address in the decoder's
 // loop.
 #[rattlefmt::skip]
-static STEPS: [u64; 1280] = [
+static BYTE_TABLES: [u64; 1280] = [
     // What the second byte of a luma adds: for its high and its low four bits, as numbers r and b,
     // r to red, b to blue, and 4 (3 r + 7 b) modulo 256 to four times the index position.
     0, 0x0100_0000_0000_001c, 0x0200_0000_0000_0038, 0x0300_0000_0000_0054,
@@ -259,32 +259,32 @@ pub(super) fn added(b1: usize) -> u64
 
 /// What a first byte keeps of the last pixel.
 #[inline(always)]
-pub(super) fn kept(b1: usize) -> u64
+pub(super) fn kept_mask(b1: usize) -> u64
     requires { b1 < 256 }
     ensures place { b1 < diff_tag → result ≡ 0 }
     ensures other { diff_tag ≤ b1 → result ≡ lane_mask }
 {
-    STEPS[256 + b1]
+    BYTE_TABLES[256 + b1]
 }
 
 /// What counts of the number that the byte after it adds.
 #[inline(always)]
-pub(super) fn second(b1: usize) -> u64
+pub(super) fn second_mask(b1: usize) -> u64
     requires { b1 < 256 }
     ensures luma { luma_tag ≤ b1 → b1 < run_tag → result ≡ 2 ^ 64 - 1 }
     ensures before { b1 < luma_tag → result ≡ 0 }
     ensures after { run_tag ≤ b1 → result ≡ 0 }
 {
-    STEPS[512 + b1]
+    BYTE_TABLES[512 + b1]
 }
 
 /// What the second byte of a luma adds (QOI specification 1.0, "QOI_OP_LUMA").
 #[inline(always)]
-pub(super) fn nibbles(b2: usize) -> u64
+pub(super) fn second_added(b2: usize) -> u64
     requires { b2 < 256 }
     ensures { result ≡ step (b2 / 16) 0 (b2 % 16) }
 {
-    STEPS[b2]
+    BYTE_TABLES[b2]
 }
 
 /// How many bytes the pixels of a chunk have in `N` channels.
@@ -297,8 +297,8 @@ pub(super) fn advance<const N: usize>(b1: usize) -> usize
     ensures full { rgb_tag ≤ b1 → result ≡ N }
 {
     if N == 3 {
-        STEPS[768 + b1] as usize
+        BYTE_TABLES[768 + b1] as usize
     } else {
-        STEPS[1024 + b1] as usize
+        BYTE_TABLES[1024 + b1] as usize
     }
 }

@@ -8,7 +8,7 @@ use crate::consts::{QOI_OP_RGB, QOI_OP_RGBA, QOI_OP_RUN};
 use crate::decode::deltas::{advance, is_luma};
 use crate::decode::hashed::Hashed;
 use crate::decode::one_chunk::Decoded;
-use crate::decode::output::{RUN_ROOM, write_block, write_late_run, write_run};
+use crate::decode::output::{RUN_ROOM, store_late_run, store_run, store_vector};
 use crate::decode::table::TermTable;
 use crate::utils::pick;
 
@@ -16,7 +16,7 @@ use crate::utils::pick;
 // after it.
 const INPUT_ROOM: usize = 22;
 
-// Bytes of room for the blocks of eight short chunks and of a full one.
+// Bytes of room for the vectors of eight short chunks and of a full one.
 pub(super) const OUTPUT_ROOM: usize = 144;
 
 /// What the loop has between two chunks: the last pixel, how many bytes are taken, where the output
@@ -30,7 +30,7 @@ pub(super) struct Progress {
 }
 
 // Whether a chunk with this first byte is short: an index position, a difference, a luma, or a run
-// that a block of sixteen bytes holds.
+// that a vector of sixteen bytes holds.
 #[inline(always)]
 fn is_short<const N: usize>(b1: u8) -> bool
     requires { IsChannels N }
@@ -56,12 +56,12 @@ impl Progress {
         }
     }
 
-    // Decodes a short chunk, without a jump. Its block of output is written whole, and what goes
+    // Decodes a short chunk, without a jump. Its vector of output is written whole, and what goes
     // past its pixels is written again later.
     //
-    // The first bytes of the `DONE` chunks before it are taken and not yet counted in `taken`, and
-    // after the call its own isn't, either: a row counts them at its end. So from chunk to chunk
-    // only the second byte of a luma is added, and the next byte's address is known a cycle sooner.
+    // `taken` doesn't count the first bytes of the `DONE` chunks before it nor, after the call, its
+    // own: a row adds them at its end. So from chunk to chunk only the second byte of a luma is
+    // added, and the next byte's address is known a cycle sooner.
     #[inline(always)]
     fn short_chunk<const N: usize, const F: usize, const DONE: usize>(
         self,
@@ -82,7 +82,7 @@ impl Progress {
         );
         let last = self.last.after_short(table, b1, one);
         table.put(last);
-        write_block::<N, F>(out, self.at, last);
+        store_vector::<N, F>(out, self.at, last);
         let luma = is_luma(self.next);
         Progress {
             last,
@@ -157,7 +157,7 @@ impl Progress {
     {
         let last = self.last.after_full(&bytes[self.taken..]);
         table.put(last);
-        write_block::<N, F>(out, self.at, last);
+        store_vector::<N, F>(out, self.at, last);
         let taken = self.taken + 4 + usize::from(self.next == QOI_OP_RGBA);
         Progress {
             last,
@@ -167,7 +167,7 @@ impl Progress {
         }
     }
 
-    // Decodes a run that a block doesn't hold, and that doesn't fill the output: by the blocks of
+    // Decodes a run that a vector doesn't hold, and that doesn't fill the output: by the vectors of
     // any run, if those have room.
     #[inline(always)]
     fn long_run<const N: usize, const F: usize>(
@@ -186,9 +186,9 @@ impl Progress {
         let count = (self.next - (QOI_OP_RUN - 1)) as usize;
         table.put(self.last);
         if RUN_ROOM <= out.len() - self.at {
-            write_run::<N, F>(out, self.at, self.last, count);
+            store_run::<N, F>(out, self.at, self.last, count);
         } else {
-            write_late_run::<N, F>(out, self.at, self.last, count);
+            store_late_run::<N, F>(out, self.at, self.last, count);
         }
         Progress {
             last: self.last,

@@ -5,7 +5,7 @@ ghost use Rattle.qoi.specs.Raw.{IsChannels, output};
 ghost use Rattle.qoi.specs.inner.Hashed.{pixel_of_lanes, pixel_of_four, IsPlain, IsHashed, HoldsSeen};
 
 use crate::consts::QOI_OP_RGB;
-use crate::decode::deltas::{kept, nibbles, second};
+use crate::decode::deltas::{kept_mask, second_added, second_mask};
 use crate::decode::table::SizedTerms;
 use std::marker::Model;
 use std::simd::{Simd, u8x4, u8x16, u16x4, u64x2};
@@ -101,8 +101,8 @@ impl Hashed {
             → pixel_of_lanes result ≡ after_luma (pixel_of_lanes self) b1 b2 }
         ensures run { run_tag ≤ b1 → pixel_of_lanes result ≡ pixel_of_lanes self }
     {
-        let own = self.0 & kept(b1);
-        let more = nibbles(b2 as usize) & second(b1);
+        let own = self.0 & kept_mask(b1);
+        let more = second_added(b2 as usize) & second_mask(b1);
         Hashed(own.wrapping_add(more).wrapping_add(table.at(b1)))
     }
 
@@ -129,7 +129,7 @@ impl Hashed {
     /// The first sixteen bytes of the pixel when it is written again and again in `N` channels, of
     /// a file of `F` channels.
     #[inline(always)]
-    pub(super) fn block<const N: usize, const F: usize>(self) -> u8x16
+    pub(super) fn repeated<const N: usize, const F: usize>(self) -> u8x16
         requires { IsChannels N }
         ensures { result ≡ take 16 (output F N (replicate 6 (pixel_of_lanes self))) }
     {

@@ -1,4 +1,4 @@
-//! How one chunk is decoded.
+//! How one chunk is decoded. What its bytes do to the last pixel stands in `hashed` and `deltas`.
 ghost use Rattle.std.specs.Prelude.{◌≡◌, IsTrue, ◌+◌, ◌%◌, ◌-◌, ◌<◌, ◌≤◌, length, take};
 ghost use Rattle.qoi.specs.Qoi.{run_tag, rgb_tag};
 ghost use Rattle.qoi.specs.declared.decode.output.TheConstants.{RUN_ROOM};
@@ -34,7 +34,7 @@ pub(super) struct Decoded {
     pub(super) at: usize,
 }
 
-/// Decodes the first chunk of the bytes. If `RUN_FITS`, the output has room for the blocks of any
+/// Decodes the first chunk of the bytes. If `RUN_FITS`, the output has room for the vectors of any
 /// run; else how much it has is tested. The second byte is read even if the chunk has only one.
 #[inline(always)]
 pub(super) fn decode_chunk<const N: usize, const F: usize, const RUN_FITS: bool, const SIZE: usize>(

@@ -1,29 +1,29 @@
-//! What the decoders' loops write to the output: pixels, by blocks of sixteen bytes.
+//! What the decoders' loops store in the output: pixels, by vectors of sixteen bytes.
 ghost use Rattle.std.specs.Prelude.{◌≡◌, IsTrue, ◌+◌, ◌*◌, ◌/◌, ◌%◌, ◌-◌, ◌<◌, ◌≤◌, ℕ, [], ◌∷◌, ◌++◌, length, replicate};
 ghost use Rattle.qoi.specs.Qoi.{Past, run_max};
-ghost use Rattle.qoi.specs.declared.decode.output.TheConstants.{BLOCK, RUN_ROOM};
+ghost use Rattle.qoi.specs.declared.decode.output.TheConstants.{VECTOR, RUN_ROOM};
 ghost use Rattle.qoi.specs.Raw.{IsChannels};
 ghost use Rattle.qoi.specs.inner.Filling.{upto, HasWritten, HasFilled, IsWholePixels};
 ghost use Rattle.qoi.specs.inner.Hashed.{pixel_of_lanes};
 
 use crate::decode::hashed::Hashed;
 
-/// How many bytes a block has: as many as a vector register holds.
-pub(super) const BLOCK: usize = 16;
+/// How many bytes a vector has: those of a register.
+pub(super) const VECTOR: usize = 16;
 
-/// The bytes of room in which the blocks of any run may be written: sixteen blocks of sixteen
+/// The bytes of room in which the vectors of any run may be stored: sixteen vectors of sixteen
 /// bytes.
 pub(super) const RUN_ROOM: usize = 256;
 
-// Writes a pixel at `at` in `N` channels, of a file of `F` channels.
+// Stores a pixel at `at` in `N` channels, of a file of `F` channels.
 #[inline(always)]
-fn write_pixel<const N: usize, const F: usize>(out: &mut [u8], at: usize, px: Hashed)
+fn store_pixel<const N: usize, const F: usize>(out: &mut [u8], at: usize, px: Hashed)
     requires channels { IsChannels N }
     requires room { at + N ≤ length out.old }
     ensures { HasWritten F N (upto out.old at) (upto out.new (at + N)) (pixel_of_lanes px ∷ []) }
 {
     // One by one: a copied slice is stored on the stack, and loading it again from there stalls.
-    let bytes = px.block::<N, F>().to_array();
+    let bytes = px.repeated::<N, F>().to_array();
     out[at] = bytes[0];
     out[at + 1] = bytes[1];
     out[at + 2] = bytes[2];
@@ -32,37 +32,38 @@ fn write_pixel<const N: usize, const F: usize>(out: &mut [u8], at: usize, px: Ha
     }
 }
 
-/// Writes a block of sixteen bytes at `at`: the pixel as often as it fits and, in three channels, a
-/// byte more. What goes past the pixels that the caller counts is written again later.
+/// Stores a vector of sixteen bytes at `at`: the pixel as often as it fits and, in three channels,
+/// a byte more. What goes past the pixels that the caller counts is written again later.
 #[inline(always)]
-pub(super) fn write_block<const N: usize, const F: usize>(out: &mut [u8], at: usize, px: Hashed)
+pub(super) fn store_vector<const N: usize, const F: usize>(out: &mut [u8], at: usize, px: Hashed)
     requires channels { IsChannels N }
-    requires room { at + BLOCK ≤ length out.old }
-    ensures { (count : ℕ) → count ≤ BLOCK / N → HasWritten F N (upto out.old at)
+    requires room { at + VECTOR ≤ length out.old }
+    ensures { (count : ℕ) → count ≤ VECTOR / N → HasWritten F N (upto out.old at)
         (upto out.new (at + N * count)) (replicate count (pixel_of_lanes px)) }
 {
-    px.block::<N, F>().copy_to_slice(&mut out[at..at + BLOCK]);
+    px.repeated::<N, F>()
+        .copy_to_slice(&mut out[at..at + VECTOR]);
 }
 
-// Writes four blocks, each at the end of the whole pixels of the one before.
+// Stores four vectors, each at the end of the whole pixels of the one before.
 #[inline(always)]
-fn write_four_blocks<const N: usize, const F: usize>(out: &mut [u8], at: usize, px: Hashed)
+fn store_four_vectors<const N: usize, const F: usize>(out: &mut [u8], at: usize, px: Hashed)
     requires channels { IsChannels N }
-    requires room { at + 4 * BLOCK ≤ length out.old }
-    ensures { (count : ℕ) → count ≤ 4 * (BLOCK / N) → HasWritten F N (upto out.old at)
+    requires room { at + 4 * VECTOR ≤ length out.old }
+    ensures { (count : ℕ) → count ≤ 4 * (VECTOR / N) → HasWritten F N (upto out.old at)
         (upto out.new (at + N * count)) (replicate count (pixel_of_lanes px)) }
 {
-    let one = BLOCK / N;
-    write_block::<N, F>(out, at, px);
-    write_block::<N, F>(out, at + N * one, px);
-    write_block::<N, F>(out, at + N * (2 * one), px);
-    write_block::<N, F>(out, at + N * (3 * one), px);
+    let one = VECTOR / N;
+    store_vector::<N, F>(out, at, px);
+    store_vector::<N, F>(out, at + N * one, px);
+    store_vector::<N, F>(out, at + N * (2 * one), px);
+    store_vector::<N, F>(out, at + N * (3 * one), px);
 }
 
-/// Writes a pixel `count` times from `at` on: by four blocks or, if those don't hold the run, by
+/// Stores a pixel `count` times from `at` on: by four vectors or, if those don't hold the run, by
 /// sixteen, which hold any. What goes past its pixels is written again later.
 #[inline(always)]
-pub(super) fn write_run<const N: usize, const F: usize>(
+pub(super) fn store_run<const N: usize, const F: usize>(
     out: &mut [u8],
     at: usize,
     px: Hashed,
@@ -74,19 +75,19 @@ pub(super) fn write_run<const N: usize, const F: usize>(
     ensures { HasWritten F N (upto out.old at)
         (upto out.new (at + N * count)) (replicate count (pixel_of_lanes px)) }
 {
-    let four = 4 * (BLOCK / N);
-    write_four_blocks::<N, F>(out, at, px);
+    let four = 4 * (VECTOR / N);
+    store_four_vectors::<N, F>(out, at, px);
     if count > four {
-        write_four_blocks::<N, F>(out, at + N * four, px);
-        write_four_blocks::<N, F>(out, at + N * (2 * four), px);
-        write_four_blocks::<N, F>(out, at + N * (3 * four), px);
+        store_four_vectors::<N, F>(out, at + N * four, px);
+        store_four_vectors::<N, F>(out, at + N * (2 * four), px);
+        store_four_vectors::<N, F>(out, at + N * (3 * four), px);
     }
 }
 
-// Writes a pixel `count` times from `at` on: by blocks while a whole one has room, and then one by
+// Stores a pixel `count` times from `at` on: by vectors while a whole one has room, and then one by
 // one.
 #[inline(always)]
-fn write_pixels<const N: usize, const F: usize>(out: &mut [u8], at: usize, px: Hashed, count: usize)
+fn store_pixels<const N: usize, const F: usize>(out: &mut [u8], at: usize, px: Hashed, count: usize)
     requires channels { IsChannels N }
     requires room { at + N * count ≤ length out.old }
     ensures { HasWritten F N (upto out.old at)
@@ -95,20 +96,20 @@ fn write_pixels<const N: usize, const F: usize>(out: &mut [u8], at: usize, px: H
     let mut done = 0;
     while done < count {
         let next = at + N * done;
-        if BLOCK <= out.len() - next {
-            write_block::<N, F>(out, next, px);
-            done += (count - done).min(BLOCK / N);
+        if VECTOR <= out.len() - next {
+            store_vector::<N, F>(out, next, px);
+            done += (count - done).min(VECTOR / N);
         } else {
-            write_pixel::<N, F>(out, next, px);
+            store_pixel::<N, F>(out, next, px);
             done += 1;
         }
     }
 }
 
-/// Writes a run near the end of the output, where the blocks of any run may have no room. Not
+/// Stores a run near the end of the output, where the vectors of any run may have no room. Not
 /// inlined: inside the fast loop, which seldom needs it, it makes each chunk slower.
 #[inline(never)]
-pub(super) fn write_late_run<const N: usize, const F: usize>(
+pub(super) fn store_late_run<const N: usize, const F: usize>(
     out: &mut [u8],
     at: usize,
     px: Hashed,
@@ -119,11 +120,11 @@ pub(super) fn write_late_run<const N: usize, const F: usize>(
     ensures { HasWritten F N (upto out.old at)
         (upto out.new (at + N * count)) (replicate count (pixel_of_lanes px)) }
 {
-    write_pixels::<N, F>(out, at, px, count);
+    store_pixels::<N, F>(out, at, px, count);
 }
 
 // How many bytes of room to rely on after the first `at`: all that there are, or if `RUN_FITS` just
-// those of the blocks of any run, without a test.
+// those of the vectors of any run, without a test.
 #[inline(always)]
 fn known_room<const RUN_FITS: bool>(size: usize, at: usize) -> usize
     requires within { at ≤ size }
@@ -134,9 +135,9 @@ fn known_room<const RUN_FITS: bool>(size: usize, at: usize) -> usize
     if RUN_FITS { RUN_ROOM } else { size - at }
 }
 
-/// Writes a pixel `count` times from `at` on, or as often as there is room, and returns where it
+/// Stores a pixel `count` times from `at` on, or as often as there is room, and returns where it
 /// stopped. Together, the `count` pixels have `size` bytes. If `RUN_FITS`, there is room for the
-/// blocks of any run, and how much there is isn't tested.
+/// vectors of any run, and how much there is isn't tested.
 #[inline(always)]
 pub(super) fn fill<const N: usize, const F: usize, const RUN_FITS: bool>(
     out: &mut [u8],
@@ -159,16 +160,16 @@ pub(super) fn fill<const N: usize, const F: usize, const RUN_FITS: bool>(
 {
     let room = known_room::<RUN_FITS>(out.len(), at);
     // By the size, so that `count` is computed for long runs alone.
-    if size <= BLOCK {
-        if BLOCK <= room {
-            write_block::<N, F>(out, at, px);
+    if size <= VECTOR {
+        if VECTOR <= room {
+            store_vector::<N, F>(out, at, px);
             return at + size;
         }
     } else if RUN_ROOM <= room {
-        write_run::<N, F>(out, at, px, count);
+        store_run::<N, F>(out, at, px, count);
         return at + size;
     }
     let all = (size / N).min(room / N);
-    write_pixels::<N, F>(out, at, px, all);
+    store_pixels::<N, F>(out, at, px, all);
     at + N * all
 }

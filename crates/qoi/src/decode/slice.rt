@@ -3,7 +3,7 @@ ghost use Rattle.std.specs.Prelude.{◌≡◌, ◌≤◌, ◌/◌, ◌%◌, ◌+
 ghost use Rattle.std.specs.Vec.{vec_len, vec_capacity};
 ghost use Rattle.qoi.specs.Raw.{IsChannels};
 ghost use Rattle.qoi.specs.Qoi.{end_marker};
-ghost use Rattle.qoi.specs.Decoding.{StreamsPixels, ReadsImage, RefusesMarker, RefusesBytes};
+ghost use Rattle.qoi.specs.Decoding.{TakesImagePixels, ReadsImage, RefusesMarker, RefusesBytes};
 ghost use Rattle.qoi.specs.Verdicts.{AreCut};
 ghost use Rattle.qoi.specs.declared.error.Error.{Error};
 ghost use Rattle.qoi.specs.inner.Chunks.{TakesChunks, RefusesFilling};
@@ -19,8 +19,8 @@ use crate::decode::reader::Bytes;
 use crate::decode::table::{SizedTerms, SmallTermTable, TermTable};
 use crate::error::{Error, Result};
 
-// An output of fewer bytes is filled chunk by chunk, with every test: to set the fast loop's table to
-// zero would take longer.
+// An output of fewer bytes is filled chunk by chunk, with every test: to set the fast loop's table
+// to zero would take longer.
 const SMALL_OUTPUT: usize = 160;
 
 // What is left between two chunks: the last pixel, the bytes ahead, and how much of the output is
@@ -33,11 +33,11 @@ struct Left<'a> {
 }
 
 // Decodes chunks one by one, with every test, after the pixel `last` and the first `at` bytes of
-// `out`: if `RUN_FITS`, as long as `out` has room for the blocks of any run, else until it is full.
+// `out`: if `RUN_FITS`, as long as any run's vectors have room in `out`, else until it is full.
 // `None` if fewer than eight bytes are left before that: the file is cut, since its end marker
 // alone has eight.
 #[inline(never)]
-fn last_chunks<'a, const N: usize, const F: usize, const RUN_FITS: bool, const SIZE: usize>(
+fn careful_chunks<'a, const N: usize, const F: usize, const RUN_FITS: bool, const SIZE: usize>(
     table: &mut SizedTerms<SIZE>,
     last: Hashed,
     data: &'a [u8],
@@ -88,7 +88,7 @@ fn slice_chunks<'a, const N: usize, const F: usize, const RUN_FITS: bool>(
 {
     let now = Progress::fast_chunks::<N, F>(table, last, data, out, at);
     let (_, rest) = data.split_at(now.taken);
-    last_chunks::<N, F, RUN_FITS, _>(table, now.last, rest, out, now.at)
+    careful_chunks::<N, F, RUN_FITS, _>(table, now.last, rest, out, now.at)
 }
 
 // Checks that the end marker stands at the front, and returns the bytes after it.
@@ -159,12 +159,12 @@ fn small_chunks<'a, const N: usize, const F: usize>(
     requires channels { IsChannels N }
     requires whole { length out.old % N ≡ 0 }
     ensures { MatchOption result (AreCut (length out.old / N) «data».entry.now)
-        (λ rest. StreamsPixels F N (length out.old / N)
+        (λ rest. TakesImagePixels F N (length out.old / N)
         (Some «data».entry.now) (Some rest.now) out.new) }
 {
     let mut table = SmallTermTable::new_small();
     let start = Hashed::start();
-    let Some(left) = last_chunks::<N, F, false, _>(&mut table, start, data, out, 0) else {
+    let Some(left) = careful_chunks::<N, F, false, _>(&mut table, start, data, out, 0) else {
         return None;
     };
     Some(left.rest)

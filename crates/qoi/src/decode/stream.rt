@@ -90,7 +90,7 @@ fn read_one<R: Read>(reader: &mut R) -> io::Result<u8>
 }
 
 // Reads one chunk from a stream, and no byte past it, and decodes it. If `RUN_FITS`, the output has
-// room for the blocks of any run.
+// room for the vectors of any run.
 #[inline(always)]
 pub(super) fn next_chunk<R: Read, const N: usize, const F: usize, const RUN_FITS: bool>(
     reader: &mut R,
@@ -137,7 +137,7 @@ pub(super) fn next_chunk<R: Read, const N: usize, const F: usize, const RUN_FITS
 }
 
 // Decodes chunks from a stream, after the pixel `last` and the first `at` bytes of `out`: if
-// `RUN_FITS`, as long as `out` has room for the blocks of any run, else until it is full. Takes no
+// `RUN_FITS`, as long as `out` has room for the vectors of any run, else until it is full. Takes no
 // byte past the last chunk. Returns the last pixel, and where in `out` it stopped.
 fn decode_chunks<R: Read, const N: usize, const F: usize, const RUN_FITS: bool>(
     reader: &mut R,

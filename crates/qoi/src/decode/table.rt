@@ -1,5 +1,5 @@
-//! The pixels that the 64 index positions hold, as the decoders keep them (QOI specification 1.0,
-//! "Chunks": the running array of previously seen pixels).
+//! The pixels that the 64 index positions hold (QOI specification 1.0, "Chunks": the running array
+//! of previously seen pixels), as numbers, and the numbers that other first bytes add.
 ghost use Rattle.std.specs.Prelude.{◌≡◌, ◌<◌, ◌≤◌, [], ◌∷◌};
 ghost use Rattle.qoi.specs.Qoi.{Past, positions, seen};
 ghost use Rattle.qoi.specs.inner.Hashed.{pixel_of_lanes, IsHashed, IsAdded, HoldsSeen};
@@ -9,8 +9,7 @@ use crate::decode::hashed::Hashed;
 use std::marker::Model;
 
 /// What the decoders' sum takes by the first byte of a chunk: the pixel at the index position that
-/// it names, or what another byte adds. Further bytes than the table has numbers for are looked up
-/// elsewhere.
+/// it names, or what another byte adds. For bytes from `SIZE` on, `added` knows the number.
 ///
 /// A contract sees the list of the numbers.
 #[derive(Drop)]

@@ -1,30 +1,42 @@
-//! Sixteen pixels, a block, and the chunks of a block, but for the repeats that it ends with.
+//! Sixteen pixels, a block, and the chunks of a block, but for the repeats that it ends with. The
+//! files below `block` stand in this order on its way: `reading`, `planes`, `steps`, `positions`,
+//! `spelling` (with `counting` and `single_repeats`), `storing`. They work on vectors, `lanes`.
 ghost use Rattle.std.specs.Prelude.{◌≡◌, ℕ, Bool, false, ◌+◌, ◌-◌, ◌<◌, List, ◌++◌, map, take, slice_index, slice_index_or, ◌/◌, ◌%◌, IsTrue, IsFalse};
 ghost use Rattle.qoi.specs.declared.types.Style.TheVariants.{Places, Tight};
 ghost use Rattle.qoi.specs.Qoi.{RgbaPixel, IsPixel, hash};
 ghost use Rattle.qoi.specs.Raw.{IsChannels, AreOpaque};
-ghost use Rattle.qoi.specs.inner.BlockLanes.{mask};
-ghost use Rattle.qoi.specs.inner.BlockState.{State, NoneBlank};
-ghost use Rattle.qoi.specs.inner.Blocks.{ChangesFrom, FitsBlock, MissesNoBlank, last_pixel, all_repeat};
-ghost use Rattle.qoi.specs.inner.CarryLoop.{InBlocks};
+ghost use Rattle.qoi.specs.inner.block.Lanes.{mask};
+ghost use Rattle.qoi.specs.inner.block.State.{State, NoneBlank};
+ghost use Rattle.qoi.specs.inner.block.Block.{ChangesFrom, FitsBlock, MissesNoBlank, last_pixel, all_repeat};
+ghost use Rattle.qoi.specs.inner.BlockLoop.{InBlocks};
 ghost use Rattle.qoi.specs.inner.Piece.{kept_bytes};
 ghost use Rattle.qoi.specs.inner.Pixels.{pixels_in};
-ghost use Rattle.qoi.specs.inner.Planes.{ArePacked, ArePlanes, block_pixels};
-ghost use Rattle.qoi.specs.inner.Spelling.{HasSpelled};
-ghost use Rattle.qoi.specs.inner.Stands.{stand_tests};
+ghost use Rattle.qoi.specs.inner.block.Planes.{ArePacked, ArePlanes, block_pixels};
+ghost use Rattle.qoi.specs.inner.block.Spelling.{HasSpelled};
+ghost use Rattle.qoi.specs.inner.block.Positions.{stand_tests};
 ghost use Rattle.qoi.specs.inner.Table.{Holds};
 
+mod counting;
+mod lanes;
+pub(super) mod planes;
+mod positions;
+mod reading;
+mod single_repeats;
+mod spelling;
+mod steps;
+mod storing;
+
+use crate::encode::block::lanes::{all_set, where_is};
+use crate::encode::block::planes::{Planes, Words, make_planes};
+use crate::encode::block::positions::{blanks, index_positions, put_block, store_places_and_run};
+use crate::encode::block::reading::first_sixteen;
+use crate::encode::block::single_repeats::name_single;
+use crate::encode::block::spelling::{Spelled, spell_block};
+use crate::encode::block::steps::{Changes, find_changes};
+use crate::encode::block::storing::store_sixteen;
 use crate::encode::carry::Carry;
-use crate::encode::changes::{Changes, all_set, find_changes};
-use crate::encode::lanes::{blanks, places, store_lanes, where_is};
-use crate::encode::named::name_single;
-use crate::encode::packing::first_sixteen;
 use crate::encode::piece::{OpenPiece, Piece};
 use crate::encode::pixels::FrontBlock;
-use crate::encode::planes::{Planes, Words, make_planes};
-use crate::encode::spelling::{Spelled, spell_block};
-use crate::encode::stands::put_block;
-use crate::encode::stores::put_sixteen;
 use crate::encode::table::PixelTable;
 use crate::packed::Packed;
 use crate::types::Style::{self, Places, Reference, Tight};
@@ -78,7 +90,7 @@ impl Block {
     {
         match style {
             Reference | Places => false,
-            Tight => !(self.has_no_fresh_blank() || self.keeps_blank(table)),
+            Tight => !(self.has_no_fresh_blank() || self.blank_stays(table)),
         }
     }
 
@@ -95,11 +107,11 @@ impl Block {
     // Whether transparent black stands at its index position, where no other pixel of the block is
     // put.
     #[inline(always)]
-    fn keeps_blank(self, table: &PixelTable) -> bool
+    fn blank_stays(self, table: &PixelTable) -> bool
         ensures { IsTrue result → (s : State) → Holds table.now s.held
             → NoneBlank s (block_pixels self.words) }
     {
-        let elsewhere = !where_is(places(self.planes), 0);
+        let elsewhere = !where_is(index_positions(self.planes), 0);
         table.at(0).is_same(Packed::blank()) & all_set(blanks(self.planes) | elsewhere)
     }
 
@@ -152,10 +164,10 @@ impl Block {
 }
 
 /// Appends the chunks of a block that doesn't repeat whole, but for the repeats at its end. Returns
-/// what is carried then. `STYLE` and `ROOM` give each loop that calls it a function of its own,
+/// what is carried then. `COPY` and `ROOM` give each loop that calls it a function of its own,
 /// which the compiler inlines there.
 #[inline]
-pub(super) fn write_block<'p, const N: usize, const STYLE: u8, const ROOM: usize>(
+pub(super) fn write_block<'p, const N: usize, const COPY: u8, const ROOM: usize>(
     style: Style,
     table: &mut PixelTable,
     piece: OpenPiece<'p, ROOM>,
@@ -170,11 +182,11 @@ pub(super) fn write_block<'p, const N: usize, const STYLE: u8, const ROOM: usize
         → InBlocks style ahead n rest more table.new result.0 (kept_bytes result.1) }
 {
     let Piece { bytes, end } = piece.piece;
-    let places = places(block.planes);
-    store_lanes::<ROOM>(places, bytes, end, carry.byte(style));
+    let places = index_positions(block.planes);
+    store_places_and_run::<ROOM>(places, bytes, end, carry.run_byte(style));
     let stands = put_block(table, &bytes[ROOM - 16..], block.words);
     let x = block.spell(style, stands, places, carry);
-    let start = carry.end(end, x.rep.to_array()[0]);
-    let end = put_sixteen::<N>(bytes, start, x, block.planes);
+    let start = carry.run_end(end, x.rep.to_array()[0]);
+    let end = store_sixteen::<N>(bytes, start, x, block.planes);
     (block.carry(style, x, stands), Piece { bytes, end })
 }

@@ -4,20 +4,20 @@ ghost use Rattle.std.specs.Prelude.{◌≡◌, ◌⊎◌, ℕ, ◌<◌, ◌≤�
 ghost use Rattle.qoi.specs.declared.types.Style.{Style};
 ghost use Rattle.qoi.specs.declared.types.Style.TheVariants.{Tight};
 ghost use Rattle.qoi.specs.Qoi.{RgbaPixel};
-ghost use Rattle.qoi.specs.inner.Blocks.{last_pixel};
-ghost use Rattle.qoi.specs.inner.CarryLoop.{GoesByBlocks, InBlocks};
+ghost use Rattle.qoi.specs.inner.block.Block.{last_pixel};
+ghost use Rattle.qoi.specs.inner.BlockLoop.{GoesByBlocks, InBlocks};
 ghost use Rattle.qoi.specs.inner.CoderLoop.{CoderBetween};
 ghost use Rattle.qoi.specs.inner.Piece.{kept_bytes};
 ghost use Rattle.qoi.specs.inner.Pixels.{pixels_in};
 
 use crate::consts::QOI_RUN_MAX;
+use crate::encode::block::planes::Planes;
 use crate::encode::block::{Block, write_block};
 use crate::encode::carry::Carry;
 use crate::encode::coder::Coder;
-use crate::encode::last::LastPixel;
+use crate::encode::last_pixel::LastPixel;
 use crate::encode::piece::{OpenPiece, Piece, REPEATS_AT_ONCE};
 use crate::encode::pixels::{FrontBlock, PixelOf, Pixels};
-use crate::encode::planes::Planes;
 use crate::encode::runs::repeats_of;
 use crate::encode::table::PixelTable;
 use crate::types::Style::{self, Places, Reference, Tight};
@@ -93,9 +93,9 @@ fn write_long_group<'a, 'p, const N: usize, const ROOM: usize>(
 {
     let mut piece = piece.piece;
     let carried = usize::from(carry.count);
-    let ahead = repeats_of::<N>(raw.near(REPEATS_AT_ONCE - carried), raw.first());
+    let ahead = repeats_of::<N>(raw.at_most(REPEATS_AT_ONCE - carried), raw.first());
     let count = carried + ahead;
-    piece.keep_full_runs(count / QOI_RUN_MAX);
+    piece.append_full_runs(count / QOI_RUN_MAX);
     let after = Carry {
         before: carry.before,
         count: (count % QOI_RUN_MAX) as u8,
@@ -131,7 +131,7 @@ fn write_group<'a, 'p, const N: usize, const ROOM: usize>(
 // a pixel may be given by another index position than its own. Returns the rest, and what is
 // carried.
 #[inline(always)]
-fn write_front<'a, 'p, const N: usize, const STYLE: u8, const ROOM: usize>(
+fn write_front<'a, 'p, const N: usize, const COPY: u8, const ROOM: usize>(
     style: Style,
     table: &mut PixelTable,
     piece: OpenPiece<'p, ROOM>,
@@ -152,17 +152,17 @@ fn write_front<'a, 'p, const N: usize, const STYLE: u8, const ROOM: usize>(
     if block.may_miss_blank(style, table) {
         return write_group(table, piece, front, carry);
     }
-    let (after, piece) = write_block::<N, STYLE, ROOM>(style, table, piece, block, carry);
+    let (after, piece) = write_block::<N, COPY, ROOM>(style, table, piece, block, carry);
     (front.raw.skip(16), after, piece)
 }
 
 // Writes by blocks until the piece is full or fewer pixels than a block has are left. Returns the
 // rest, and what is carried.
 //
-// `STYLE` is a number for the style, so that each has a loop of its own. The piece is a value, so
+// `COPY` is a number for the style, so that each has a loop of its own. The piece is a value, so
 // that the compiler keeps its fields in registers.
 #[inline(always)]
-fn fill<'a, 'p, const N: usize, const STYLE: u8, const ROOM: usize>(
+fn fill<'a, 'p, const N: usize, const COPY: u8, const ROOM: usize>(
     style: Style,
     table: &mut PixelTable,
     piece: OpenPiece<'p, ROOM>,
@@ -181,7 +181,7 @@ fn fill<'a, 'p, const N: usize, const STYLE: u8, const ROOM: usize>(
     let mut rest = raw;
     let mut now = carry;
     while !piece.is_full() && rest.has_block() {
-        (rest, now, piece) = write_front::<N, STYLE, ROOM>(
+        (rest, now, piece) = write_front::<N, COPY, ROOM>(
             style,
             table,
             piece.open(),
@@ -194,7 +194,7 @@ fn fill<'a, 'p, const N: usize, const STYLE: u8, const ROOM: usize>(
 
 /// Writes what is at the front: blocks, until the piece is full or fewer pixels than a block has
 /// are left; or repeats and the fresh pixel after them. Returns the rest. Any pixels may follow.
-pub(super) fn write_some<'a, 'p, const N: usize, const STYLE: u8, const ROOM: usize>(
+pub(super) fn write_some<'a, 'p, const N: usize, const COPY: u8, const ROOM: usize>(
     coder: &mut Coder<N>,
     style: Style,
     table: &mut PixelTable,
@@ -215,7 +215,7 @@ pub(super) fn write_some<'a, 'p, const N: usize, const STYLE: u8, const ROOM: us
         return (rest, piece);
     }
     let carry = carried(coder);
-    let (rest, after, piece) = fill::<N, STYLE, ROOM>(style, table, piece, raw, carry);
+    let (rest, after, piece) = fill::<N, COPY, ROOM>(style, table, piece, raw, carry);
     *coder = coder_after(after);
     (rest, piece)
 }

@@ -2,11 +2,11 @@
 ghost use Rattle.std.specs.Prelude.{◌≡◌, ◌+◌, ◌≤◌, ◌<◌, [], ◌∷◌, slice_index};
 ghost use Rattle.qoi.specs.Qoi.{run_max};
 ghost use Rattle.qoi.specs.Raw.{IsChannels, IsChannels-prop};
-ghost use Rattle.qoi.specs.inner.BlockState.{group_bytes};
-ghost use Rattle.qoi.specs.inner.Blocks.{last_pixel};
+ghost use Rattle.qoi.specs.inner.block.State.{group_bytes};
+ghost use Rattle.qoi.specs.inner.block.Block.{last_pixel};
 
 use crate::consts::QOI_OP_RUN;
-use crate::encode::planes::Planes;
+use crate::encode::block::planes::Planes;
 use crate::types::Style::{self, Places, Reference, Tight};
 use crate::utils::pick;
 
@@ -24,11 +24,11 @@ pub(super) struct Carry<const N: usize> {
 }
 
 impl<const N: usize> Carry<N> {
-    /// The byte of the repeats before a fresh pixel: that of a run; in style `Places`, of a single
-    /// repeat, the index position, if the chunk before isn't that position. If there are none, it
-    /// isn't used.
+    /// The byte of the run that goes over from the blocks before, if a fresh pixel follows. In style
+    /// `Places` a single repeat has the byte of its index position, if the chunk before isn't that
+    /// position. The byte isn't used if there are no repeats.
     #[inline(always)]
-    pub(super) fn byte(self, style: Style) -> u8
+    pub(super) fn run_byte(self, style: Style) -> u8
         ensures { 0 < self.entry.count
             → group_bytes style self.entry.placed (last_pixel self.entry.before) self.entry.count
             ≡ result ∷ [] }
@@ -44,10 +44,10 @@ impl<const N: usize> Carry<N> {
         }
     }
 
-    /// Where the byte of the repeats ends, which stands at `at`. It doesn't count if there are no
+    /// Where the run's byte ends, which stands at `at`. It doesn't count if there are no
     /// repeats, or if the next pixel repeats, too; `rep` is 255 then, else 0.
     #[inline(always)]
-    pub(super) fn end(self, at: usize, rep: u8) -> usize
+    pub(super) fn run_end(self, at: usize, rep: u8) -> usize
         requires room { at < usize.MAX }
         ensures stays { self.entry.count ≤ rep → result ≡ at }
         ensures some { rep < self.entry.count → result ≡ at + 1 }

@@ -6,7 +6,7 @@ ghost use Rattle.qoi.specs.inner.Piece.{WroteChunks, BeganChunks};
 
 use crate::encode::blocks::write_some;
 use crate::encode::coder::Coder;
-use crate::encode::last::LastPixel;
+use crate::encode::last_pixel::LastPixel;
 use crate::encode::piece::{OpenPiece, Piece};
 use crate::encode::pixels::Pixels;
 use crate::encode::table::PixelTable;
@@ -15,9 +15,9 @@ use crate::types::Channels::{self, Rgb, Rgba};
 use crate::types::Style::{self, Places, Reference, Tight};
 use crate::writers::Writer;
 
-// `encode_chunks` for `N` channels. `STYLE` is a number for each style, so that each has a function
+// `encode_chunks` for `N` channels. `COPY` is a number for each style, so that each has a function
 // of its own: one for all would test the style at each pixel.
-fn encode_pixels<'p, W: Writer, const N: usize, const STYLE: u8, const ROOM: usize>(
+fn encode_pixels<'p, W: Writer, const N: usize, const COPY: u8, const ROOM: usize>(
     writer: &mut W,
     piece: OpenPiece<'p, ROOM>,
     style: Style,
@@ -38,7 +38,7 @@ fn encode_pixels<'p, W: Writer, const N: usize, const STYLE: u8, const ROOM: usi
     let mut rest = Pixels::<N>::new(data);
     let mut piece = piece;
     while rest.has_block() {
-        let (after, mut filled) = write_some::<N, STYLE, ROOM>(
+        let (after, mut filled) = write_some::<N, COPY, ROOM>(
             &mut coder, style, &mut table, piece, rest,
         );
         if filled.is_full() {

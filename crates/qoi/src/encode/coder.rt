@@ -12,13 +12,13 @@ ghost use Rattle.qoi.specs.Written.{IsFirst};
 ghost use Rattle.qoi.specs.Styles.{choice_in};
 ghost use Rattle.qoi.specs.inner.CoderLoop.{CoderAfter, CoderBetween, single};
 ghost use Rattle.qoi.specs.inner.CoderState.{held_in, last_chunk};
-ghost use Rattle.qoi.specs.inner.FreshPixel.{HasBytes};
+ghost use Rattle.qoi.specs.inner.SpelledOut.{HasBytes};
 ghost use Rattle.qoi.specs.inner.Piece.{kept_bytes};
 ghost use Rattle.qoi.specs.inner.Table.{Holds};
 
 use crate::consts::{QOI_OP_RUN, QOI_RUN_MAX};
 use crate::encode::fresh::spell_pixel;
-use crate::encode::last::LastPixel;
+use crate::encode::last_pixel::LastPixel;
 use crate::encode::piece::{Piece, REPEATS_AT_ONCE};
 use crate::encode::pixels::{PixelOf, Pixels};
 use crate::encode::runs::repeats_of;
@@ -160,7 +160,7 @@ impl<const N: usize> Coder<N> {
             repeats: 0,
         };
         let number = pick(stands, u32::from(place), number);
-        piece.keep_chunk::<N>(px.number(), number, pick(stands, 1, size));
+        piece.append_chunk::<N>(px.number(), number, pick(stands, 1, size));
     }
 
     // Writes the repeats that came before these pixels and those at their front, at most 992 in
@@ -194,19 +194,19 @@ impl<const N: usize> Coder<N> {
             return 0;
         }
         let ahead = repeats_of::<N>(
-            raw.near(REPEATS_AT_ONCE - carried),
+            raw.at_most(REPEATS_AT_ONCE - carried),
             PixelOf { px: self.last.px },
         );
         let count = carried + ahead;
         let (runs, left) = (count / QOI_RUN_MAX, count % QOI_RUN_MAX);
-        piece.keep_full_runs(runs);
+        piece.append_full_runs(runs);
         if raw.ends_after(ahead) {
             // Others may follow.
             self.update_after_repeats(style, table, QOI_RUN_MAX * runs, left);
             return ahead;
         }
         // If more than 992 repeat, 992 are counted: sixteen runs of 62, and no single one.
-        piece.keep_run(left, self.single_repeat_byte(style, count));
+        piece.append_run(left, self.single_repeat_byte(style, count));
         self.update_after_repeats(style, table, count, 0);
         ahead
     }
@@ -265,7 +265,7 @@ impl<const N: usize> Coder<N> {
         while !rest.is_empty() {
             rest = self.write_next(style, table, piece, rest);
         }
-        piece.keep_run(self.last.repeats, QOI_OP_RUN);
+        piece.append_run(self.last.repeats, QOI_OP_RUN);
     }
 
     /// Writes the repeats that came before, if no pixel follows.
@@ -276,7 +276,7 @@ impl<const N: usize> Coder<N> {
             → CoderBetween style ahead [] table self.now.last (kept_bytes piece.old)
             → ahead ≡ kept_bytes piece.new }
     {
-        piece.keep_run(self.last.repeats, QOI_OP_RUN);
+        piece.append_run(self.last.repeats, QOI_OP_RUN);
     }
 
     /// `write_next` as a function of its own: a loop that has it inlined is slower.

@@ -3,7 +3,7 @@ ghost use Rattle.std.specs.Prelude.{◌≡◌, ◌+◌, ◌≤◌};
 ghost use Rattle.qoi.specs.declared.chunk.Chunk.{Chunk};
 ghost use Rattle.qoi.specs.Qoi.{IsPixel};
 ghost use Rattle.qoi.specs.Raw.{IsChannels};
-ghost use Rattle.qoi.specs.inner.FreshPixel.{SpellsOut};
+ghost use Rattle.qoi.specs.inner.SpelledOut.{SpellsOut};
 ghost use Rattle.qoi.specs.Steps.{steps, diff_steps, luma_steps};
 
 use crate::consts::{QOI_OP_DIFF, QOI_OP_LUMA, QOI_OP_RGB, QOI_OP_RGBA};
@@ -64,16 +64,19 @@ pub(crate) fn spell_pixel<const N: usize>(last: Packed, px: Packed) -> (u32, u32
     if (N == 4) & (steps.a() != 0) {
         return (full + u32::from(QOI_OP_RGBA), 5);
     }
-    let near = diff_steps(steps);
-    if (near.r() < 4) & (near.g() < 4) & (near.b() < 4) {
-        let low = u32::from(near.g()) * 4 + u32::from(near.b());
-        return (u32::from(QOI_OP_DIFF) + u32::from(near.r()) * 16 + low, 1);
-    }
-    let far = luma_steps(steps);
-    if (far.r() < 16) & (far.g() < 64) & (far.b() < 16) {
-        let second = u32::from(far.r()) * 16 + u32::from(far.b());
+    let as_diff = diff_steps(steps);
+    if (as_diff.r() < 4) & (as_diff.g() < 4) & (as_diff.b() < 4) {
+        let low = u32::from(as_diff.g()) * 4 + u32::from(as_diff.b());
         return (
-            u32::from(QOI_OP_LUMA) + u32::from(far.g()) + second * 256,
+            u32::from(QOI_OP_DIFF) + u32::from(as_diff.r()) * 16 + low,
+            1,
+        );
+    }
+    let as_luma = luma_steps(steps);
+    if (as_luma.r() < 16) & (as_luma.g() < 64) & (as_luma.b() < 16) {
+        let second = u32::from(as_luma.r()) * 16 + u32::from(as_luma.b());
+        return (
+            u32::from(QOI_OP_LUMA) + u32::from(as_luma.g()) + second * 256,
             2,
         );
     }

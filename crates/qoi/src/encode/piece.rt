@@ -92,16 +92,16 @@ impl<'a, const ROOM: usize> Piece<'a, ROOM> {
 
     /// Appends these bytes.
     #[inline(always)]
-    pub(super) fn keep(&mut self, v: &[u8])
+    pub(super) fn append(&mut self, v: &[u8])
         requires { self.old.end + (length v.now + marker_size) ≤ ROOM }
         ensures { kept_bytes self.new ≡ kept_bytes self.old ++ v.now }
     {
         self.end = copy_after(self.bytes, self.end, v);
     }
 
-    /// Appends a chunk of `size` bytes, as `put_chunk` stores it.
+    /// Appends a chunk of `size` bytes, as `store_chunk` stores it.
     #[inline(always)]
-    pub(super) fn keep_chunk<const N: usize>(&mut self, px: u32, number: u32, size: u32)
+    pub(super) fn append_chunk<const N: usize>(&mut self, px: u32, number: u32, size: u32)
         requires channels { IsChannels N }
         requires room { self.old.end + (chunk_max + marker_size) ≤ ROOM }
         requires few { size ≤ N + 1 }
@@ -109,12 +109,12 @@ impl<'a, const ROOM: usize> Piece<'a, ROOM> {
             ≡ kept_bytes self.old ++ take size (digits_l 256 4 number ++ (px / 2 ^ 24) ∷ []) }
         ensures end { self.new.end ≡ self.old.end + size }
     {
-        self.end = put_chunk::<N>(self.bytes, self.end, px, number, size);
+        self.end = store_chunk::<N>(self.bytes, self.end, px, number, size);
     }
 
     /// Appends the run of fewer than 62 repeats, if there are any; a single one is the byte `one`.
     #[inline(always)]
-    pub(super) fn keep_run(&mut self, count: usize, one: u8)
+    pub(super) fn append_run(&mut self, count: usize, one: u8)
         requires room { self.old.end + marker_size < ROOM }
         requires few { count < run_max }
         ensures kept { (c : Chunk) → bytes_of c ≡ one ∷ []
@@ -127,7 +127,7 @@ impl<'a, const ROOM: usize> Piece<'a, ROOM> {
 
     /// Appends runs of 62 repeats, at most sixteen.
     #[inline(always)]
-    pub(super) fn keep_full_runs(&mut self, runs: usize)
+    pub(super) fn append_full_runs(&mut self, runs: usize)
         requires room { self.old.end + (RUNS_AT_ONCE + marker_size) ≤ ROOM }
         requires few { runs ≤ RUNS_AT_ONCE }
         ensures kept { kept_bytes self.new
@@ -205,7 +205,7 @@ fn send_front<W: Writer, const ROOM: usize>(writer: &mut W, bytes: &mut [u8]) ->
 /// lowest ones of the number and, if there is a fifth, the pixel's alpha. Bytes after the chunk may
 /// change.
 #[inline(always)]
-pub(crate) fn put_chunk<const N: usize>(
+pub(crate) fn store_chunk<const N: usize>(
     out: &mut [u8],
     at: usize,
     px: u32,

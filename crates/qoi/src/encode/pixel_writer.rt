@@ -8,9 +8,12 @@ ghost use Rattle.qoi.specs.Raw.{image_byte_count};
 ghost use Rattle.qoi.specs.EncoderState.{EncoderState};
 ghost use Rattle.qoi.specs.Errors.{IsIoError};
 
+mod kept;
+mod pieces;
+
 use crate::consts::QOI_HEADER_SIZE;
-use crate::encode::parts::{send_bytes, take_any, write_any};
-use crate::encode::pending::Kept;
+use crate::encode::pixel_writer::kept::Kept;
+use crate::encode::pixel_writer::pieces::{send_bytes, take_any, write_any};
 use crate::error::{Error, Result};
 use crate::header::Header;
 use crate::types::Style;

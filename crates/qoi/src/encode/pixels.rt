@@ -98,12 +98,12 @@ impl<'a, const N: usize> Pixels<'a, N> {
 
     /// The first `most` pixels, or all if there are fewer.
     #[inline(always)]
-    pub(super) fn near(self, most: usize) -> Pixels<'a, N>
+    pub(super) fn at_most(self, most: usize) -> Pixels<'a, N>
         requires { most ≤ REPEATS_AT_ONCE }
         ensures { pixels_in result ≡ take most (pixels_in self.entry) }
     {
-        let (near, _) = self.bytes.split_at(self.bytes.len().min(N * most));
-        Pixels { bytes: near }
+        let (front, _) = self.bytes.split_at(self.bytes.len().min(N * most));
+        Pixels { bytes: front }
     }
 
     /// Those after the first `count`.

@@ -1,4 +1,4 @@
-//! Repeats of a pixel in raw bytes.
+//! Counts the repeats of a pixel in raw bytes. `carry`, `blocks` and `coder` write their runs.
 ghost use lib.Lanes.{mask_l, zip2};
 ghost use Rattle.std.specs.Prelude.{nat_eq, ◌≡◌, ◌↔◌, ◌+◌, ◌-◌, ◌*◌, ◌^◌, ◌≤◌, ◌<◌, ◌++◌, length, take, drop, replicate, IsTrue};
 ghost use Rattle.qoi.specs.Qoi.{rgba};
@@ -118,6 +118,6 @@ fn same_in_part<const N: usize, const PART: usize>(front: FrontBlock<N>, px: Pac
 {
     let part = skip(front.raw.bytes, 16 * PART);
     u8x16::from_slice(part)
-        .simd_eq(px.block::<N, PART>())
+        .simd_eq(px.repeated::<N, PART>())
         .to_bitmask()
 }

@@ -155,7 +155,7 @@ pub fn written_is_near_shortest()
 
 /// An index position holds the same whether every pixel is put at its position, or only the first
 /// one and each that differs from the pixel before it.
-#[tactic(auto, using(crate::proofs::encoding::TightChoice::seen_first_and_fresh))]
+#[tactic(auto, using(crate::proofs::encoding::styles::TightChoice::seen_first_and_fresh))]
 pub fn repeats_put_nothing()
     ensures { (past : Past) (i : ℕ) → seen (first_and_fresh past) i ≡ seen past i }
 {}

@@ -7,9 +7,9 @@ use Rattle.qoi.specs.declared.types.Channels.TheVariants.{Rgb, Rgba}
 use Rattle.qoi.specs.Qoi.{channels_number, pixel_count, header_bytes, end_marker, file, chunk_bytes}
 use Rattle.qoi.specs.inner.Piece.{kept_bytes}
 use Rattle.qoi.proofs.FileOf.{file_of, text_fits, max_is_exact, chunks_part, marker_kept, last_fits, last_part, file_went, file_counts}
-use Rattle.qoi.proofs.encoding.PieceSent.{kept_length}
+use Rattle.qoi.proofs.encoding.piece.PieceSent.{kept_length}
 use Rattle.qoi.proofs.encode.encode_image.Given.{Over}
-use Rattle.qoi.proofs.encode.encode_image.Goals.{After-keep, After-open}
+use Rattle.qoi.proofs.encode.encode_image.Goals.{After-append, After-open}
 use Rattle.qoi.proofs.encode.encode_image.Goals as goal
 
 -- there are channels
@@ -19,22 +19,22 @@ some_channels Rgba = omega arith
 
 -- the header is kept
 front_is : (g : Over) (c : After-open g) → kept_bytes c.open.result.piece ≡ header_bytes c.args.header.now
-front_is g c = c.open.ensures ∙ c.keep.ensures ∙ ap (λ z. z ++ take 14 c.encode.result) c.new-piece.ensures ∙ c.encode.ensures
+front_is g c = c.open.ensures ∙ c.append.ensures ∙ ap (λ z. z ++ take 14 c.encode.result) c.new-piece.ensures ∙ c.encode.ensures
 
-pub keep-requires : goal.keep-requires
-keep-requires g c =
+pub append-requires : goal.append-requires
+append-requires g c =
     let none = kept_length c.new-piece.result in
     let few = ap length c.encode.ensures in
     let start = ap length c.new-piece.ensures in (omega arith, omega (arith, c.requires.piece))
 
 -- it has fourteen bytes
-fourteen : (g : Over) (c : After-keep g) → c.keep.new.self.end ≡ 14
+fourteen : (g : Over) (c : After-append g) → c.append.new.self.end ≡ 14
 fourteen g c =
     let none = ap length c.new-piece.ensures in
-    omega (arith, kept_length c.keep.new.self, ap length c.keep.ensures, length-append (kept_bytes c.new-piece.result) (take 14 c.encode.result), none, ap length c.encode.ensures)
+    omega (arith, kept_length c.append.new.self, ap length c.append.ensures, length-append (kept_bytes c.new-piece.result) (take 14 c.encode.result), none, ap length c.encode.ensures)
 
 pub open-requires : goal.open-requires
-open-requires g c = (omega arith, (omega arith, omega (arith, fourteen g (goal.at.open-requires g c).After-keep, c.requires.piece)))
+open-requires g c = (omega arith, (omega arith, omega (arith, fourteen g (goal.at.open-requires g c).After-append, c.requires.piece)))
 
 pub encode_chunks-requires : goal.encode_chunks-requires
 encode_chunks-requires g c =

@@ -1,10 +1,10 @@
 //! Pixels that are put at their index positions, one after the other (QOI specification 1.0,
-//! "Chunks"). Repeats too: they put what stands there.
+//! "Chunks"). A repeat is put, too: its position holds it already.
 ghost use Rattle.std.specs.Prelude.{◌≡◌, ◌<◌, ◌≤◌, ◌+◌, ℕ, List, [], ◌∷◌, length, map, slice_index};
 ghost use Rattle.qoi.specs.Qoi.{RgbaPixel, IsPixel, Past, seen, hash};
 ghost use Rattle.qoi.specs.inner.Packed.{word};
-ghost use Rattle.qoi.specs.inner.Planes.{AreFourWords};
-ghost use Rattle.qoi.specs.inner.Stands.{HasPut};
+ghost use Rattle.qoi.specs.inner.block.Planes.{AreFourWords};
+ghost use Rattle.qoi.specs.inner.block.Positions.{HasPut};
 ghost use Rattle.qoi.specs.inner.Table.{Holds};
 
 use crate::encode::table::PixelTable;

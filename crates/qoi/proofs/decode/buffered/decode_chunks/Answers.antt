@@ -2,7 +2,7 @@
 use Rattle.std.proofs.Common.{[], ◌%◌, ◌<◌, length, arith, ap, ◌∙◌}
 use Rattle.qoi.proofs.Results.{if_err}
 use Rattle.qoi.specs.inner.Filling.{filling, IsFillable}
-use Rattle.qoi.specs.inner.Chunks.{GoesOn}
+use Rattle.qoi.specs.inner.Chunks.{TakesMore}
 use Rattle.qoi.proofs.format.PartOfChunk.{part_empty}
 use Rattle.qoi.proofs.decoding.Progress.{takes_chunk}
 use Rattle.qoi.proofs.decoding.Grown.{stream_refused}
@@ -25,7 +25,7 @@ fillable g c = record {
 }
 
 -- a chunk more was taken
-more : (g : Over) (c : In_ok-decoded g) → GoesOn g.row.F g.row.N (g.R.Read.remaining c.args.reader.now) (g.R.Read.remaining c.next_chunk.new.reader)
+more : (g : Over) (c : In_ok-decoded g) → TakesMore g.row.F g.row.N (g.R.Read.remaining c.args.reader.now) (g.R.Read.remaining c.next_chunk.new.reader)
     (filling c.args.table.now c.args.last c.args.out.now c.args.at) (filling c.next_chunk.new.table c.in_ok-decoded.decoded.last c.next_chunk.new.out c.in_ok-decoded.decoded.at)
 more g c =
     let inside : c.loop-out.at < length c.loop-out.out = elim c.if-this-ne0.branch [ then-this-ne0 w ↦ omega arith | else-this-ne0 w ↦ omega arith ] in

@@ -6,7 +6,7 @@ use Rattle.std.proofs.lemmas.Result.{err_from_is_err_and, IfErr-weaker}
 use Rattle.qoi.specs.inner.Chunks.{RefusesFilling}
 use Rattle.qoi.specs.inner.Filling.{filling, DecoderBetween}
 use Rattle.qoi.proofs.decoding.Grown.{grown, growing_start, growing_on, lent_back, some_channels, between_fillable, whole_step, fewer_pixels, none_whole, at_most, written_most}
-use Rattle.qoi.specs.Decoding.{StreamsPixels}
+use Rattle.qoi.specs.Decoding.{TakesImagePixels}
 use Rattle.qoi.proofs.Results.{on_ok_of}
 use Rattle.qoi.proofs.decoding.Progress.{none_more, first_streams}
 use Rattle.qoi.proofs.decode.chunks.chunks_to_vec.Given.{Over}
@@ -86,7 +86,7 @@ returns-clause-read g c =
     let start = g.R.Chunks.ahead c.args.reader.now in
     let now = g.R.Chunks.ahead c.all_chunks.new.self in
     let back = lent_back c.grow-2.new.out.len out c.grow-2.new.out.items (omega (arith, c.all_chunks.auto.out, c.deref_mut-2.ensures.len)) in
-    subst (λ z. OnOk c.all_chunks.result (StreamsPixels g.row.F g.row.N (c.args.size / g.row.N) start now z)) (sym back)
+    subst (λ z. OnOk c.all_chunks.result (TakesImagePixels g.row.F g.row.N (c.args.size / g.row.N) start now z)) (sym back)
     (on_ok_of _ (λ all. first_streams (all [] _ _ (before_last g at))) c.all_chunks.ensures.read)
 
 pub returns-clause-refused : goal.returns-clause-refused

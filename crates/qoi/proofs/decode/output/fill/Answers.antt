@@ -4,31 +4,31 @@ use Rattle.qoi.specs.Raw.{IsChannels}
 use Rattle.qoi.specs.inner.Hashed.{pixel_of_lanes}
 use Rattle.qoi.proofs.format.WholePixels.{by_channels}
 use Rattle.qoi.proofs.decoding.FilledBuffer.{filled_copies, filled_end, block_fits, run_fits, copies_fit, copies_end}
-use Rattle.qoi.proofs.decode.output.fill.Goals.{then-size-le-BLOCK+else-room-ge-BLOCK, else-size-le-BLOCK+else-room-ge-RUN_ROOM}
+use Rattle.qoi.proofs.decode.output.fill.Goals.{then-size-le-VECTOR+else-room-ge-VECTOR, else-size-le-VECTOR+else-room-ge-RUN_ROOM}
 use Rattle.qoi.proofs.decode.output.fill.Goals as goal
 
--- a block holds the pixels
-in_block : (c k size : ℕ) → IsChannels c → size ≡ c * k → size ≤ 16 → k ≤ 16 / c
-in_block c k size is e most = by_channels (λ d. d * k ≤ 16 → k ≤ 16 / d) is (λ l. omega arith) (λ l. omega arith) (omega (arith, e, most))
+-- a vector holds the pixels
+in_vector : (c k size : ℕ) → IsChannels c → size ≡ c * k → size ≤ 16 → k ≤ 16 / c
+in_vector c k size is e most = by_channels (λ d. d * k ≤ 16 → k ≤ 16 / d) is (λ l. omega arith) (λ l. omega arith) (omega (arith, e, most))
 
 -- how many pixels have so many bytes
 pixels_of : (c k size : ℕ) → IsChannels c → size ≡ c * k → size / c ≡ k
 pixels_of c k size is e = ap (λ z. z / c) e ∙ by_channels (λ d. d * k / d ≡ k) is (omega arith) (omega arith)
 
-pub returns-then-room-ge-BLOCK-clause-filled : goal.returns-then-room-ge-BLOCK-clause-filled
-returns-then-room-ge-BLOCK-clause-filled g c n past h =
+pub returns-then-room-ge-VECTOR-clause-filled : goal.returns-then-room-ge-VECTOR-clause-filled
+returns-then-room-ge-VECTOR-clause-filled g c n past h =
     let at = c.args.at in
     let count = c.args.count in
-    let few = in_block g.row.N count c.args.size c.requires.channels c.requires.size c.if-size-le-BLOCK.true in
-    let fits = block_fits g.row.N at count (length c.args.out.now) c.requires.channels few (omega (arith, c.if-room-ge-BLOCK.true, c.requires.inside)) in
-    rw c.requires.size (filled_copies g.row.F g.row.N n c.args.out.now c.write_block.new.out at count _ past c.requires.channels c.requires.inside fits c.write_block.auto.out (c.write_block.ensures count few) h)
+    let few = in_vector g.row.N count c.args.size c.requires.channels c.requires.size c.if-size-le-VECTOR.true in
+    let fits = block_fits g.row.N at count (length c.args.out.now) c.requires.channels few (omega (arith, c.if-room-ge-VECTOR.true, c.requires.inside)) in
+    rw c.requires.size (filled_copies g.row.F g.row.N n c.args.out.now c.store_vector.new.out at count _ past c.requires.channels c.requires.inside fits c.store_vector.auto.out (c.store_vector.ensures count few) h)
 
 pub returns-then-room-ge-RUN_ROOM-clause-filled : goal.returns-then-room-ge-RUN_ROOM-clause-filled
 returns-then-room-ge-RUN_ROOM-clause-filled g c n past h =
     let at = c.args.at in
     let count = c.args.count in
     let fits = run_fits g.row.N at count (length c.args.out.now) c.requires.channels c.requires.some.1 (omega (arith, c.if-room-ge-RUN_ROOM.true, c.requires.inside)) in
-    rw c.requires.size (filled_copies g.row.F g.row.N n c.args.out.now c.write_run.new.out at count _ past c.requires.channels c.requires.inside fits c.write_run.auto.out c.write_run.ensures h)
+    rw c.requires.size (filled_copies g.row.F g.row.N n c.args.out.now c.store_run.new.out at count _ past c.requires.channels c.requires.inside fits c.store_run.auto.out c.store_run.ensures h)
 
 pub returns-clause-filled : goal.returns-clause-filled
 returns-clause-filled g c n past h =
@@ -38,27 +38,27 @@ returns-clause-filled g c n past h =
     let is = c.requires.channels in
     let within : at ≤ size = omega (arith, c.requires.inside) in
     let quot = pixels_of g.row.N c.args.count c.args.size is c.requires.size in
-    let few : c.known_room-room.result < 256 = elim c.if-size-le-BLOCK.branch [ then-size-le-BLOCK+else-room-ge-BLOCK w ↦ omega arith | else-size-le-BLOCK+else-room-ge-RUN_ROOM w ↦ omega arith ] in
+    let few : c.known_room-room.result < 256 = elim c.if-size-le-VECTOR.branch [ then-size-le-VECTOR+else-room-ge-VECTOR w ↦ omega arith | else-size-le-VECTOR+else-room-ge-RUN_ROOM w ↦ omega arith ] in
     let left = c.known_room-room.ensures.all few in
     let ends = copies_end g.row.N at c.args.count size is c.requires.whole.0 c.requires.whole.1 within in
-    filled_end g.row.F g.row.N n c.write_pixels.new.out _ all c.args.count (pixel_of_lanes c.args.px) past is (omega (arith, c.min-all.ensures, quot))
-    (rw (c.min-all.ensures, quot, left, c.write_pixels.auto.out) ends)
-    (filled_copies g.row.F g.row.N n c.args.out.now c.write_pixels.new.out at all _ past is c.requires.inside
-    (rw (c.min-all.ensures, quot, left) (copies_fit g.row.N at c.args.count size is within)) c.write_pixels.auto.out c.write_pixels.ensures h)
+    filled_end g.row.F g.row.N n c.store_pixels.new.out _ all c.args.count (pixel_of_lanes c.args.px) past is (omega (arith, c.min-all.ensures, quot))
+    (rw (c.min-all.ensures, quot, left, c.store_pixels.auto.out) ends)
+    (filled_copies g.row.F g.row.N n c.args.out.now c.store_pixels.new.out at all _ past is c.requires.inside
+    (rw (c.min-all.ensures, quot, left) (copies_fit g.row.N at c.args.count size is within)) c.store_pixels.auto.out c.store_pixels.ensures h)
 
--- the pixels of a run have fewer bytes than any run's blocks
+-- the pixels of a run have fewer bytes than any run's vectors
 run_below : (c k : ℕ) → IsChannels c → k ≤ 62 → c * k ≤ 248
 run_below c k is = by_channels (λ d. k ≤ 62 → d * k ≤ 248) is (λ most. omega arith) (λ most. omega arith)
 
-pub returns-then-room-ge-BLOCK-clause-below : goal.returns-then-room-ge-BLOCK-clause-below
-returns-then-room-ge-BLOCK-clause-below g c room =
-    omega (arith, room, run_below g.row.N c.args.count c.requires.channels c.requires.some.1, c.requires.size, c.write_block.auto.out)
+pub returns-then-room-ge-VECTOR-clause-below : goal.returns-then-room-ge-VECTOR-clause-below
+returns-then-room-ge-VECTOR-clause-below g c room =
+    omega (arith, room, run_below g.row.N c.args.count c.requires.channels c.requires.some.1, c.requires.size, c.store_vector.auto.out)
 
 pub returns-then-room-ge-RUN_ROOM-clause-below : goal.returns-then-room-ge-RUN_ROOM-clause-below
 returns-then-room-ge-RUN_ROOM-clause-below g c room =
-    omega (arith, room, run_below g.row.N c.args.count c.requires.channels c.requires.some.1, c.requires.size, c.write_run.auto.out)
+    omega (arith, room, run_below g.row.N c.args.count c.requires.channels c.requires.some.1, c.requires.size, c.store_run.auto.out)
 
 pub returns-clause-below : goal.returns-clause-below
 returns-clause-below g c room =
     let few : c.min-all.result ≤ 62 = omega (arith, c.min-all.ensures, pixels_of g.row.N c.args.count c.args.size c.requires.channels c.requires.size, c.requires.some) in
-    omega (arith, room, run_below g.row.N c.min-all.result c.requires.channels few, c.write_pixels.auto.out)
+    omega (arith, room, run_below g.row.N c.min-all.result c.requires.channels few, c.store_pixels.auto.out)

@@ -3,14 +3,14 @@ use Rattle.std.proofs.Common.{Some, take, ap, ◌++◌, ◌∙◌, sym, take-app
 use Rattle.std.specs.Io.KnownBytes.{Consumes}
 use Rattle.qoi.proofs.Results.{if_some_of, if_none_of}
 use Rattle.qoi.specs.inner.Filling.{filling}
-use Rattle.qoi.specs.inner.Chunks.{GoesOn}
+use Rattle.qoi.specs.inner.Chunks.{TakesMore}
 use Rattle.qoi.proofs.decoding.Progress.{front_taken}
 use Rattle.qoi.proofs.decode.slice.slice_chunks.Given.{Over}
 use Rattle.qoi.proofs.decode.slice.slice_chunks.Goals.{After-split_at}
 use Rattle.qoi.proofs.decode.slice.slice_chunks.Goals as goal
 
 -- after the fast loop
-after : (g : Over) (c : After-split_at g) → GoesOn g.row.F g.row.N (Some c.args.data.now) (Some c.split_at.result.1.now)
+after : (g : Over) (c : After-split_at g) → TakesMore g.row.F g.row.N (Some c.args.data.now) (Some c.split_at.result.1.now)
     (filling c.args.table.now c.args.last c.args.out.now c.args.at) (filling c.fast_chunks-now.new.table c.fast_chunks-now.result.last c.fast_chunks-now.new.out c.fast_chunks-now.result.at)
 after g c =
     let bytes = c.args.data.now in
@@ -19,21 +19,21 @@ after g c =
     sym (take-append-drop size bytes) ∙ ap (λ z. take size bytes ++ z) (sym c.split_at.ensures.back) in
     front_taken bytes size c.fast_chunks-now.ensures.between took
 
-pub last_chunks-requires : goal.last_chunks-requires
-last_chunks-requires g c = (omega arith, c.fast_chunks-now.ensures.fillable)
+pub careful_chunks-requires : goal.careful_chunks-requires
+careful_chunks-requires g c = (omega arith, c.fast_chunks-now.ensures.fillable)
 
 pub returns-clause-read : goal.returns-clause-read
 returns-clause-read g c =
     let so_far = after g (goal.at.returns-clause-read g c).After-split_at in
-    if_some_of c.last_chunks.result (λ left r. record {
+    if_some_of c.careful_chunks.result (λ left r. record {
       goes_on = record { between = λ gone n start h. r.goes_on.between gone n start (so_far.between gone n start h) };
       fillable = r.fillable;
       below = λ fits inside. r.below fits (c.fast_chunks-now.ensures.below inside);
       filled = r.filled;
       full = r.full;
-    }) c.last_chunks.ensures.read
+    }) c.careful_chunks.ensures.read
 
 pub returns-clause-refused : goal.returns-clause-refused
 returns-clause-refused g c =
     let so_far = after g (goal.at.returns-clause-refused g c).After-split_at in
-    if_none_of c.last_chunks.result (λ r gone n start h. r gone n start (so_far.between gone n start h)) c.last_chunks.ensures.refused
+    if_none_of c.careful_chunks.result (λ r gone n start h. r gone n start (so_far.between gone n start h)) c.careful_chunks.ensures.refused

@@ -14,8 +14,8 @@ before : (g : Over) (c : After-start-start g) → DecoderBetween g.row.F g.row.N
 before g c = start_between g.row.F g.row.N (Consumes (Some c.args.data.now) (Some c.args.data.now)) _ _ c.args.out.now
     c.requires.channels c.requires.whole c.new_small-table.ensures c.start-start.ensures (Consumes-nil (Some c.args.data.now))
 
-pub last_chunks-requires : goal.last_chunks-requires
-last_chunks-requires g c = (omega arith, fillable_whole c.requires.channels c.requires.whole)
+pub careful_chunks-requires : goal.careful_chunks-requires
+careful_chunks-requires g c = (omega arith, fillable_whole c.requires.channels c.requires.whole)
 
 pub returns-in_default : goal.returns-in_default
 returns-in_default g c = c.in_default.ensures.refused [] _ (Some c.args.data.now) (before g (goal.at.returns-in_default g c).After-start-start) _ (omega arith)

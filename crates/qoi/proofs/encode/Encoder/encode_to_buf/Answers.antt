@@ -2,7 +2,7 @@
 use Rattle.std.proofs.Common.{rules, arith}
 use Rattle.std.proofs.lemmas.Result.{IfOk-weaker}
 use Rattle.qoi.proofs.FileOf.{own_file, puts_file}
-use Rattle.qoi.proofs.encoding.BufferFilled.{buffer_filled}
+use Rattle.qoi.proofs.encoding.piece.BufferFilled.{buffer_filled}
 use Rattle.qoi.proofs.encode.Encoder.encode_to_buf.Goals as goal
 
 pub returns-clause-encoded : goal.returns-clause-encoded

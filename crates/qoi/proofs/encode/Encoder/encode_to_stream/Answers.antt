@@ -3,7 +3,7 @@ use Rattle.std.proofs.Common.{rules}
 use Rattle.std.proofs.lemmas.Result.{err_from_is_err_and}
 use Rattle.qoi.specs.writers.GenericWriter.{stream_writer}
 use Rattle.qoi.proofs.FileOf.{own_file, sends_file, sends_part}
-use Rattle.qoi.proofs.encoding.StreamSent.{appends_as}
+use Rattle.qoi.proofs.encoding.piece.StreamSent.{appends_as}
 use Rattle.qoi.proofs.encode.Encoder.encode_to_stream.Goals as goal
 
 pub returns-in_err-n-clause-refused : goal.returns-in_err-n-clause-refused

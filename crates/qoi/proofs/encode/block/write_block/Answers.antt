@@ -5,23 +5,23 @@ use Rattle.qoi.specs.declared.types.Style.TheVariants.{Places}
 use Rattle.qoi.specs.Qoi.{RgbaPixel, IsPixel, previous, hash}
 use Rattle.qoi.specs.Raw.{IsChannels, AreOpaque}
 use Rattle.qoi.specs.Styles.{some_fresh, names}
-use Rattle.qoi.specs.inner.BlockState.{State, lanes_of}
+use Rattle.qoi.specs.inner.block.State.{State, lanes_of}
 use Rattle.qoi.specs.inner.CoderLoop.{Ahead}
 use Rattle.qoi.specs.inner.CoderState.{held_in}
 use Rattle.qoi.specs.inner.Piece.{kept_bytes}
-use Rattle.qoi.specs.inner.BlockBytes.{sizes}
-use Rattle.qoi.specs.inner.Blocks.{last_pixel, all_repeat}
-use Rattle.qoi.specs.inner.Planes.{block_pixels}
-use Rattle.qoi.specs.inner.Stands.{stand_tests}
+use Rattle.qoi.specs.inner.block.Bytes.{sizes}
+use Rattle.qoi.specs.inner.block.Block.{last_pixel, all_repeat}
+use Rattle.qoi.specs.inner.block.Planes.{block_pixels}
+use Rattle.qoi.specs.inner.block.Positions.{stand_tests}
 use Rattle.qoi.specs.inner.Table.{Holds}
-use Rattle.qoi.proofs.encoding.BlockPuts.{hashes_below}
-use Rattle.qoi.proofs.encoding.BlockStep.{ready, first_repeats, group_stored, block_step}
-use Rattle.qoi.proofs.encoding.BlockWritten.{Carrying}
-use Rattle.qoi.proofs.encoding.CoderLink.{first_more}
-use Rattle.qoi.proofs.encoding.PackedBlock.{block_sixteen, block_words}
-use Rattle.qoi.proofs.encoding.RereadLanes.{read_back}
-use Rattle.qoi.proofs.encoding.StoredBlock.{sizes_few}
-use Rattle.qoi.proofs.encoding.OpaqueBlock.{sizes_opaque}
+use Rattle.qoi.proofs.encoding.blocks.BlockPuts.{hashes_below}
+use Rattle.qoi.proofs.encoding.blocks.BlockStep.{ready, first_repeats, group_stored, block_step}
+use Rattle.qoi.proofs.encoding.blocks.BlockWritten.{Carrying}
+use Rattle.qoi.proofs.encoding.coder.CoderLink.{first_more}
+use Rattle.qoi.proofs.encoding.blocks.PackedBlock.{block_sixteen, block_words}
+use Rattle.qoi.proofs.encoding.lanes.RereadLanes.{read_back}
+use Rattle.qoi.proofs.encoding.stores.StoredBlock.{sizes_few}
+use Rattle.qoi.proofs.encoding.blocks.OpaqueBlock.{sizes_opaque}
 use Rattle.qoi.proofs.encode.block.write_block.Goals as goal
 
 -- a chunk has at most as many bytes as a pixel has channels, and one more
@@ -33,8 +33,8 @@ sizes_in n s q ps xs (inr four) opaque last e k = omega (arith, sizes_few (lanes
 pub put_block-stands-requires-clause-below : goal.put_block-stands-requires-clause-below
 put_block-stands-requires-clause-below g c = λ k lt.
     let w = c.args.block.words in
-    let at = c.places-places.ensures (block_pixels w) (block_sixteen w c.args.block.packed) c.args.block.planes_are in
-    omega (arith, hashes_below (block_pixels w) k, ap (λ z. slice_index z k) (read_back g.row.ROOM c.store_lanes.new.out c.places-places.result (c.store_lanes.ensures.same ∙ c.args.piece.piece.room) c.store_lanes.ensures.lanes ∙ at))
+    let at = c.index_positions-places.ensures (block_pixels w) (block_sixteen w c.args.block.packed) c.args.block.planes_are in
+    omega (arith, hashes_below (block_pixels w) k, ap (λ z. slice_index z k) (read_back g.row.ROOM c.store_places_and_run.new.out c.index_positions-places.result (c.store_places_and_run.ensures.same ∙ c.args.piece.piece.room) c.store_places_and_run.ensures.lanes ∙ at))
 
 pub returns : goal.returns
 returns g c = λ ahead n rest more fits b.
@@ -60,8 +60,8 @@ returns g c = λ ahead n rest more fits b.
       held_is = λ _. refl;
       placed_is = refl;
     } in
-    let at : c.places-places.result ≡ map hash all = c.places-places.ensures all sixteen planes in
-    let put = c.put_block-stands.ensures s.held all b.state.table_is sixteen (block_words words c.args.block.packed) (read_back g.row.ROOM c.store_lanes.new.out c.places-places.result (c.store_lanes.ensures.same ∙ c.args.piece.piece.room) c.store_lanes.ensures.lanes ∙ at) in
+    let at : c.index_positions-places.result ≡ map hash all = c.index_positions-places.ensures all sixteen planes in
+    let put = c.put_block-stands.ensures s.held all b.state.table_is sixteen (block_words words c.args.block.packed) (read_back g.row.ROOM c.store_places_and_run.new.out c.index_positions-places.result (c.store_places_and_run.ensures.same ∙ c.args.piece.piece.room) c.store_places_and_run.ensures.lanes ∙ at) in
     let placed : style ≡ Places → s.placed ≡ carry.placed = λ is. sym (b.state.placed_is is) in
     let spelled = c.spell-x.ensures s b.to_write.before_is b.state.last_is fits.changes refl placed put.stands_are at in
     let x = c.spell-x.result in
@@ -69,14 +69,14 @@ returns g c = λ ahead n rest more fits b.
     let q_is : q ≡ last_pixel carry.before = b.state.last_is in
     let now = ready style ahead s all later x _ carry.placed (last_pixel carry.before) carry.count _ _ c.args.carry.few (λ e. b.few (sym first ∙ e)) start
     spelled sixteen refl q_is refl placed
-    (group_stored style (rep == 0) carry.placed (last_pixel carry.before) carry.count c.args.piece.piece.end c.end-start.result c.byte.result c.args.piece.piece.bytes.now c.store_lanes.new.out
-    (omega (arith, c.args.piece.piece.within, c.args.piece.piece.room)) c.store_lanes.ensures.stored c.byte.ensures
-    (λ e. c.end-start.ensures.stays (omega (arith, first_repeats s all x spelled sixteen e, c.args.carry.few)))
-    (λ e. c.end-start.ensures.stays (omega (arith, e)))
-    (λ e some. c.end-start.ensures.some (omega (arith, eqb-true rep 0 e, some)))) in
+    (group_stored style (rep == 0) carry.placed (last_pixel carry.before) carry.count c.args.piece.piece.end c.run_end-start.result c.run_byte.result c.args.piece.piece.bytes.now c.store_places_and_run.new.out
+    (omega (arith, c.args.piece.piece.within, c.args.piece.piece.room)) c.store_places_and_run.ensures.stored c.run_byte.ensures
+    (λ e. c.run_end-start.ensures.stays (omega (arith, first_repeats s all x spelled sixteen e, c.args.carry.few)))
+    (λ e. c.run_end-start.ensures.stays (omega (arith, e)))
+    (λ e some. c.run_end-start.ensures.some (omega (arith, eqb-true rep 0 e, some)))) in
     block_step style ahead n s rest more all x c.args.block.planes c.put_block-stands.new.table c.carry.result _ _ sixteen
     (subst (λ q. all_repeat q all ≡ false) (sym q_is) fits.mixed) planes now put.holds
     (λ t held same tight. fits.no_blank tight t (subst (Holds c.args.table.now) (sym held) b.state.table_is) (same ∙ b.state.last_is))
     c.carry.ensures.before c.carry.ensures.count (λ is. c.carry.ensures.placed (stand_tests s.held all) is put.stands_are)
-    (λ t same last_is few. c.put_sixteen-end.ensures.written style t all sixteen (subst IsPixel (sym last_is) b.to_write.before_is) planes same (omega arith)
+    (λ t same last_is few. c.store_sixteen-end.ensures.written style t all sixteen (subst IsPixel (sym last_is) b.to_write.before_is) planes same (omega arith)
     (sizes_in g.row.N t t.last all x.size carry.channels c.requires (λ three. ap (λ z. z.a) (last_is ∙ q_is) ∙ carry.opaque three) same.size_is))

@@ -1,6 +1,6 @@
 -- The same, as planes.
 use Rattle.std.proofs.Common.{◌++◌, Some, sym, ap, ◌∙◌, arith, subst}
-use Rattle.qoi.specs.inner.CarryLoop.{OpensBlock}
+use Rattle.qoi.specs.inner.BlockLoop.{OpensBlock}
 use Rattle.qoi.specs.inner.CoderLoop.{Ahead}
 use Rattle.qoi.proofs.encode.blocks.carried.Goals as goal
 

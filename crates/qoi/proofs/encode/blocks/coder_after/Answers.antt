@@ -1,7 +1,7 @@
 -- A fresh pixel came.
 use Rattle.std.proofs.Common.{sym, subst, ◌++◌, ◌∙◌}
 use Rattle.qoi.specs.inner.CoderLoop.{Ahead}
-use Rattle.qoi.proofs.encoding.CoderLink.{last_carried, begun_at_end}
+use Rattle.qoi.proofs.encoding.coder.CoderLink.{last_carried, begun_at_end}
 use Rattle.qoi.proofs.encode.blocks.coder_after.Goals as goal
 
 pub returns-clause-between : goal.returns-clause-between

@@ -1,7 +1,7 @@
 -- A step further.
 use Rattle.std.proofs.Common.{inl, inr, length, refl, sym, ap, ◌∙◌, arith, subst}
 use Rattle.std.proofs.lemmas.Bool.{true≢false}
-use Rattle.qoi.specs.inner.CarryLoop.{InBlocks}
+use Rattle.qoi.specs.inner.BlockLoop.{InBlocks}
 use Rattle.qoi.specs.inner.Piece.{kept_bytes}
 use Rattle.qoi.specs.inner.Pixels.{pixels_in}
 use Rattle.qoi.proofs.encode.blocks.fill.Goals.{then-loop-rest-test+else-has_block, else-loop-rest-test}

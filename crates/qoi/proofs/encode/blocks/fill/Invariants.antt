@@ -2,7 +2,7 @@
 use Rattle.std.proofs.Common.{◌≡◌, ◌⊎◌, ℕ, List, ◌-◌, ◌<◌, length}
 use Rattle.qoi.specs.declared.encode.piece.TheConstants.{PAST}
 use Rattle.qoi.specs.Qoi.{RgbaPixel}
-use Rattle.qoi.specs.inner.CarryLoop.{InBlocks}
+use Rattle.qoi.specs.inner.BlockLoop.{InBlocks}
 use Rattle.qoi.specs.inner.Piece.{kept_bytes}
 use Rattle.qoi.specs.inner.Pixels.{pixels_in}
 use Rattle.qoi.proofs.encode.blocks.fill.Given as goal

@@ -1,11 +1,11 @@
 -- A block, or a group.
 use Rattle.std.proofs.Common.{◌≡◌, true, ◌++◌, take, drop, sym, ap, ◌∙◌, arith, subst, take-append-drop}
-use Rattle.qoi.specs.inner.Blocks.{FitsBlock, all_repeat, last_pixel}
-use Rattle.qoi.specs.inner.CarryLoop.{InBlocks}
+use Rattle.qoi.specs.inner.block.Block.{FitsBlock, all_repeat, last_pixel}
+use Rattle.qoi.specs.inner.BlockLoop.{InBlocks}
 use Rattle.qoi.specs.inner.Piece.{kept_bytes}
 use Rattle.qoi.specs.inner.Pixels.{pixels_in}
-use Rattle.qoi.specs.inner.Planes.{block_pixels}
-use Rattle.qoi.proofs.encoding.FrontBlock.{repeats_first}
+use Rattle.qoi.specs.inner.block.Planes.{block_pixels}
+use Rattle.qoi.proofs.encoding.blocks.FrontBlock.{repeats_first}
 use Rattle.qoi.proofs.encode.blocks.write_front.Goals as goal
 
 pub write_long_group-requires : goal.write_long_group-requires

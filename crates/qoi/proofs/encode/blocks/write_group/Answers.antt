@@ -4,7 +4,7 @@ use Rattle.std.proofs.lemmas.Bool.{true≢false}
 use Rattle.std.specs.List.{slice_get}
 use Rattle.qoi.specs.declared.types.Style.TheVariants.{Tight}
 use Rattle.qoi.specs.Qoi.{RgbaPixel}
-use Rattle.qoi.specs.inner.CarryLoop.{GoesByBlocks}
+use Rattle.qoi.specs.inner.BlockLoop.{GoesByBlocks}
 use Rattle.qoi.specs.inner.Pixels.{pixels_in}
 use Rattle.qoi.proofs.encode.blocks.write_group.Goals as goal
 

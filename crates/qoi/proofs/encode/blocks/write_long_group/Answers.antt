@@ -5,12 +5,12 @@ use Rattle.std.specs.List.{slice_get}
 use Rattle.qoi.specs.declared.encode.piece.TheConstants.{REPEATS_AT_ONCE}
 use Rattle.qoi.specs.Qoi.{RgbaPixel}
 use Rattle.qoi.specs.Runs.{IsCount}
-use Rattle.qoi.specs.inner.Blocks.{last_pixel}
-use Rattle.qoi.specs.inner.CarryLoop.{InBlocks}
+use Rattle.qoi.specs.inner.block.Block.{last_pixel}
+use Rattle.qoi.specs.inner.BlockLoop.{InBlocks}
 use Rattle.qoi.specs.inner.Piece.{kept_bytes}
 use Rattle.qoi.specs.inner.Pixels.{pixels_in}
-use Rattle.qoi.proofs.encoding.CarriedRuns.{blocks_on}
-use Rattle.qoi.proofs.encoding.PixelsIn.{NearGroup, near_group, near_some}
+use Rattle.qoi.proofs.encoding.lists.CarriedRuns.{blocks_on}
+use Rattle.qoi.proofs.encoding.coder.PixelsIn.{NearGroup, near_group, near_some}
 use Rattle.qoi.proofs.encode.blocks.write_long_group.Given.{Over}
 use Rattle.qoi.proofs.encode.blocks.write_long_group.Goals.{After-repeats_of-ahead}
 use Rattle.qoi.proofs.encode.blocks.write_long_group.Goals as goal
@@ -21,14 +21,14 @@ near : (g : Over) (c : After-repeats_of-ahead g)
 near g c =
     let n = c.repeats_of-ahead.result in
     near_group (last_pixel c.args.carry.before) (REPEATS_AT_ONCE - c.from-carried.result) n (pixels_in c.args.raw)
-    (subst (λ p. IsCount p (take (REPEATS_AT_ONCE - c.from-carried.result) (pixels_in c.args.raw)) n) (same_Some _ _ (sym (ap (λ ps. slice_get ps 0) c.first.ensures) ∙ c.requires)) (subst (λ ps. IsCount c.first.result.px ps n) c.near.ensures c.repeats_of-ahead.ensures.counted))
+    (subst (λ p. IsCount p (take (REPEATS_AT_ONCE - c.from-carried.result) (pixels_in c.args.raw)) n) (same_Some _ _ (sym (ap (λ ps. slice_get ps 0) c.first.ensures) ∙ c.requires)) (subst (λ ps. IsCount c.first.result.px ps n) c.at_most.ensures c.repeats_of-ahead.ensures.counted))
 
 pub first-requires : goal.first-requires
 first-requires g c = (omega arith, (omega arith, λ none. (let no : ◌≡◌ {A = Option RgbaPixel} None (Some (last_pixel c.args.carry.before)) = sym (ap (λ ps. slice_get ps 0) none) ∙ c.requires in cc)))
 
-pub keep_full_runs-requires : goal.keep_full_runs-requires
-keep_full_runs-requires g c =
-    let few = (near g (goal.at.keep_full_runs-requires g c).After-repeats_of-ahead).few in
+pub append_full_runs-requires : goal.append_full_runs-requires
+append_full_runs-requires g c =
+    let few = (near g (goal.at.append_full_runs-requires g c).After-repeats_of-ahead).few in
     (omega arith, (omega (arith, c.args.piece.not_full), omega (arith, few, c.from-carried.ensures, c.args.carry.few)))
 
 pub skip-requires : goal.skip-requires
@@ -53,5 +53,5 @@ returns-clause-written g c = λ style all n more table b.
       | inl other ↦ absurd (other e)
       | inr full ↦ omega (arith, full, c.from-carried.ensures, carry.few)
     ]) in
-    rw (c.skip.ensures.rest, c.keep_full_runs.ensures.kept) (blocks_on carry _ ahead (count / 62) (omega (arith, c.from-carried.ensures)) (omega arith) refl
+    rw (c.skip.ensures.rest, c.append_full_runs.ensures.kept) (blocks_on carry _ ahead (count / 62) (omega (arith, c.from-carried.ensures)) (omega arith) refl
     (ap (λ k. carry.placed && nat_lt (k + ahead) 62) c.from-carried.ensures) few first start)

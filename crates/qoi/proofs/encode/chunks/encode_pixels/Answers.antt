@@ -7,9 +7,9 @@ use Rattle.qoi.specs.writers.Writes.{WroteBut}
 use Rattle.qoi.specs.inner.CoderLoop.{CoderBetween}
 use Rattle.qoi.specs.inner.Piece.{kept_bytes}
 use Rattle.qoi.specs.inner.Pixels.{pixels_in}
-use Rattle.qoi.proofs.encoding.CoderLink.{coder_sent}
-use Rattle.qoi.proofs.encoding.PieceByPiece.{Sending, PieceBetween, piece_starts, piece_filled, piece_fits, piece_went, piece_part, piece_ends}
-use Rattle.qoi.proofs.encoding.PieceSent.{kept_length, sent_but, none_but}
+use Rattle.qoi.proofs.encoding.coder.CoderLink.{coder_sent}
+use Rattle.qoi.proofs.encoding.piece.PieceByPiece.{Sending, PieceBetween, piece_starts, piece_filled, piece_fits, piece_went, piece_part, piece_ends}
+use Rattle.qoi.proofs.encoding.piece.PieceSent.{kept_length, sent_but, none_but}
 use Rattle.qoi.proofs.encode.chunks.encode_pixels.Given.{Over}
 use Rattle.qoi.proofs.encode.chunks.encode_pixels.Goals.{After-write_some-filled, then-is_full+in_ok-send, else-is_full, then-is_empty, else-is_empty}
 use Rattle.qoi.proofs.encode.chunks.encode_pixels.Goals as goal

@@ -3,7 +3,7 @@ use Rattle.std.proofs.Common.{[], ◌++◌, length}
 use Rattle.qoi.specs.inner.CoderLoop.{CoderBetween}
 use Rattle.qoi.specs.inner.Piece.{kept_bytes}
 use Rattle.qoi.specs.inner.Pixels.{pixels_in}
-use Rattle.qoi.proofs.encoding.PieceByPiece.{PieceBetween}
+use Rattle.qoi.proofs.encoding.piece.PieceByPiece.{PieceBetween}
 use Rattle.qoi.proofs.encode.chunks.encode_pixels.Given as goal
 
 abbrev pub invariant-loop-coder : goal.invariant-loop-coder

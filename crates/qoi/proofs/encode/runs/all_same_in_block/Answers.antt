@@ -2,7 +2,7 @@
 use Rattle.std.proofs.Common.{◌≡◌, ◌∙◌, ◌+◌, ◌-◌, ◌*◌, ◌^◌, ◌≤◌, ◌<◌, ◌%◌, ℕ, nat_eq, eqb-true, ap, sym, arith, refl}
 use Rattle.std.proofs.lemmas.Nat.{and_le_l, and_le_r}
 use Rattle.std.specs.Int.Bits.{bit_and}
-use Rattle.qoi.proofs.encoding.PixelBlock.{bits_of_3, bits_of_4}
+use Rattle.qoi.proofs.encoding.coder.PixelBlock.{bits_of_3, bits_of_4}
 use Rattle.qoi.proofs.encode.runs.all_same_in_block.Goals as goal
 
 -- two numbers of at most n have no other bits than what is left of them, if that is n

@@ -4,8 +4,8 @@ use Rattle.std.proofs.lemmas.Option.{same_Some}
 use Rattle.std.specs.List.{slice_get}
 use Rattle.qoi.specs.Qoi.{RgbaPixel}
 use Rattle.qoi.specs.inner.Pixels.{pixels_in}
-use Rattle.qoi.proofs.encoding.GroupRuns.{count_of, repeats_on}
-use Rattle.qoi.proofs.encoding.PixelsIn.{pixels_few}
+use Rattle.qoi.proofs.encoding.lists.GroupRuns.{count_of, repeats_on}
+use Rattle.qoi.proofs.encoding.coder.PixelsIn.{pixels_few}
 use Rattle.qoi.proofs.encode.runs.count_pixels.Goals as goal
 
 -- the first of them

@@ -4,7 +4,7 @@ use Rattle.qoi.specs.Qoi.{rgba}
 use Rattle.qoi.specs.Raw.{pixels_of}
 use Rattle.qoi.specs.Runs.{IsCount}
 use Rattle.qoi.specs.inner.Pixels.{pixels_in}
-use Rattle.qoi.proofs.encoding.PixelsIn.{whole_part}
+use Rattle.qoi.proofs.encoding.coder.PixelsIn.{whole_part}
 use Rattle.qoi.proofs.encode.runs.repeats.Goals as goal
 
 pub returns : goal.returns

@@ -1,7 +1,7 @@
 -- The first clear bit is in the first pixel that differs.
 use Rattle.std.proofs.Common.{◌++◌, replicate, sym, ap, ◌∙◌}
-use Rattle.qoi.proofs.encoding.GroupRuns.{pixels_drop}
-use Rattle.qoi.proofs.encoding.PixelBlock.{front_of, whole_block}
+use Rattle.qoi.proofs.encoding.lists.GroupRuns.{pixels_drop}
+use Rattle.qoi.proofs.encoding.coder.PixelBlock.{front_of, whole_block}
 use Rattle.qoi.proofs.encode.runs.repeats_in_block.Goals as goal
 
 pub returns : goal.returns

@@ -3,8 +3,8 @@ use Rattle.std.proofs.Common.{◌≡◌, ◌+◌, ◌++◌, List, length, drop, 
 use Rattle.qoi.specs.Qoi.{RgbaPixel}
 use Rattle.qoi.specs.Runs.{IsCount}
 use Rattle.qoi.specs.inner.Pixels.{pixels_in}
-use Rattle.qoi.proofs.encoding.GroupRuns.{RepeatsSoFar, repeats_on, counted_on}
-use Rattle.qoi.proofs.encoding.PixelsIn.{pixels_few}
+use Rattle.qoi.proofs.encoding.lists.GroupRuns.{RepeatsSoFar, repeats_on, counted_on}
+use Rattle.qoi.proofs.encoding.coder.PixelsIn.{pixels_few}
 use Rattle.qoi.proofs.encode.runs.repeats_of.Goals as goal
 
 pub loop-rest-init : goal.loop-rest-init

@@ -1,6 +1,6 @@
 -- The bits of the parts, one after the other.
 use Rattle.std.proofs.Common.{◌≡◌, arith, refl}
-use Rattle.qoi.proofs.encoding.PixelBlock.{bits_of_3, bits_of_4}
+use Rattle.qoi.proofs.encoding.coder.PixelBlock.{bits_of_3, bits_of_4}
 use Rattle.qoi.proofs.encode.runs.same_in_block.Goals as goal
 
 pub returns-then-this-eq3 : goal.returns-then-this-eq3

@@ -1,6 +1,6 @@
 -- A header's bytes.
 use Rattle.std.proofs.Common.{◌∙◌, arith}
-use Rattle.qoi.proofs.encoding.WrittenHeader.{header_written}
+use Rattle.qoi.proofs.encoding.piece.WrittenHeader.{header_written}
 use Rattle.qoi.proofs.header.Header.encode.Goals as goal
 
 pub returns : goal.returns

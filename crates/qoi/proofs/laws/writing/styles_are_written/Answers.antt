@@ -2,7 +2,7 @@
 use Rattle.std.proofs.Common.{refl, sym, subst}
 use Rattle.qoi.specs.Written.{WrittenBy, Written}
 use Rattle.qoi.specs.Tight.{IsTightChoice}
-use Rattle.qoi.proofs.encoding.StyleLists.{places_as_long}
+use Rattle.qoi.proofs.encoding.styles.StyleLists.{places_as_long}
 use Rattle.qoi.proofs.laws.writing.styles_are_written.Goals as goal
 
 pub returns : goal.returns

@@ -1,7 +1,7 @@
 -- By the bounds on all lists, and on that of the tight choices.
 use Rattle.std.proofs.Common.{arith, ◌∙◌}
 use Rattle.qoi.specs.declared.types.Style.TheVariants.{Tight}
-use Rattle.qoi.proofs.encoding.StyleLists.{style_length}
+use Rattle.qoi.proofs.encoding.styles.StyleLists.{style_length}
 use Rattle.qoi.proofs.shortness.TightLists.{lower0, tight_exact, floor0_high}
 use Rattle.qoi.proofs.laws.writing.tight_is_shortest.Goals as goal
 

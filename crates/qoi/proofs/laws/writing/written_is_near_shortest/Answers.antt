@@ -1,7 +1,7 @@
 -- By the lower and the upper bound.
 use Rattle.std.proofs.Common.{arith}
 use Rattle.qoi.proofs.shortness.Lower.{lower}
-use Rattle.qoi.proofs.encoding.StyleLists.{style_upper}
+use Rattle.qoi.proofs.encoding.styles.StyleLists.{style_upper}
 use Rattle.qoi.proofs.laws.writing.written_is_near_shortest.Goals as goal
 
 pub returns : goal.returns

@@ -7,7 +7,7 @@ use Rattle.qoi.specs.Qoi.{AreBytes}
 use Rattle.qoi.proofs.format.WholePixels.{by_channels, take_whole}
 use Rattle.qoi.proofs.decoding.FilledBuffer.{block_fits}
 use Rattle.qoi.proofs.decoding.FirstChunk.{decodes_rgb, decodes_rgba}
-use Rattle.qoi.proofs.decoding.FastSteps.{in_block, full_size, fast_step}
+use Rattle.qoi.proofs.decoding.FastSteps.{in_vector, full_size, fast_step}
 use Rattle.qoi.proofs.decode.fast.Progress.full_chunk.Goals as goal
 
 pub returns-clause-step : goal.returns-clause-step
@@ -17,7 +17,7 @@ returns-clause-step g c =
     let bytes = c.args.bytes.now in
     let is = ahead.three_or_four in
     let size = full_size now.next c.from.result ahead.byte c.from.ensures in
-    let one = (in_block g.row.N is).0 in
+    let one = (in_vector g.row.N is).0 in
     let room = block_fits g.row.N now.at 1 (length c.args.out.now) is one ahead.room_is in
     let few = by_channels (λ k. k * 1 ≤ 4) is (omega arith) (omega arith) in
     let rest = drop now.taken bytes in
@@ -26,8 +26,8 @@ returns-clause-step g c =
     let fits : AreBytes rest = λ i. rw (get_or-drop now.taken bytes i 0) (omega (arith, c.type_inv.bytes (now.taken + i))) in
     let pixel = rw whole at c.after_full-last.ensures in
     let new : Progress = record { last = c.after_full-last.result; taken = now.taken + 4 + c.from.result; at = now.at + g.row.N; next = get_or bytes (now.taken + 4 + c.from.result) 0 } in
-    let step = fast_step {f = g.row.F} {input = 5} {room = 4} {bytes = bytes} {table' = c.put.new.self} {out' = c.write_block.new.out} now new 1 is ahead.whole (omega (arith, ahead.room_is)) room c.write_block.auto.out (omega arith) few c.put.ensures
-    (c.write_block.ensures 1 one) refl (omega (arith, c.type_inv.bytes (now.taken + 4 + c.from.result))) in
+    let step = fast_step {f = g.row.F} {input = 5} {room = 4} {bytes = bytes} {table' = c.put.new.self} {out' = c.store_vector.new.out} now new 1 is ahead.whole (omega (arith, ahead.room_is)) room c.store_vector.auto.out (omega arith) few c.put.ensures
+    (c.store_vector.ensures 1 one) refl (omega (arith, c.type_inv.bytes (now.taken + 4 + c.from.result))) in
     elim (cases_lt now.next 255) [
       | inl rgb ↦ step 4 (omega (arith, size.0 rgb)) (omega arith) (omega arith) (λ first.
           let is_rgb : get_or rest 0 0 ≡ 254 = omega (arith, first, rgb, c.requires.full) in

@@ -22,6 +22,6 @@ returns-clause-step g c =
     let often : count + 191 ≡ now.next = omega (arith, c.requires.run) in
     let new : Progress = record { last = now.last; taken = now.taken + 1; at = now.at + g.row.N * count; next = _ } in
     let written : HasWritten g.row.F g.row.N (upto c.args.out.now now.at) (upto c.if-out-self-ge-RUN_ROOM.out (now.at + g.row.N * count)) (replicate count (pixel_of_lanes now.last)) =
-    elim c.if-out-self-ge-RUN_ROOM.branch [ then-out-self-ge-RUN_ROOM w ↦ rw w.out-is w.write_run.ensures | else-out-self-ge-RUN_ROOM w ↦ rw w.out-is w.write_late_run.ensures ] in
+    elim c.if-out-self-ge-RUN_ROOM.branch [ then-out-self-ge-RUN_ROOM w ↦ rw w.out-is w.store_run.ensures | else-out-self-ge-RUN_ROOM w ↦ rw w.out-is w.store_late_run.ensures ] in
     fast_step now new count is ahead.whole (omega (arith, ahead.room_is)) (omega (arith, ahead.room_is)) c.if-out-self-ge-RUN_ROOM.auto.out refl (omega arith) c.put.ensures written refl (omega arith) 1 refl
     (omega arith) (omega arith) (λ first. decodes_run rest count long (sym first ∙ sym often) some most)

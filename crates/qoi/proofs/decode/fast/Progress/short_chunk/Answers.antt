@@ -1,4 +1,4 @@
--- The chunk's pixel is the sum, its copies are those of the block, and the byte after it is picked.
+-- The chunk's pixel is the sum, its copies are those of the vector, and the byte after it is picked.
 use Rattle.std.proofs.Common.{◌≡◌, ◌+◌, ◌<◌, ◌≤◌, cond, drop, length, get_or, arith, sym, ap, ◌∙◌}
 use Rattle.std.proofs.lemmas.List.{get_or-drop, length-drop}
 use Rattle.qoi.specs.declared.decode.fast.Progress.{Progress}
@@ -31,8 +31,8 @@ returns g c =
     let next = next_byte c.is_luma-luma.result bytes now.taken c.from.result c.pick.result c.from.ensures picked ∙ ap (λ i. get_or bytes i 0) (sym to) in
     let new : Progress = record { last = c.after_short-last.result; taken = c.args.self.taken + c.from.result + (g.row.DONE + 1); at = now.at + c.advance.result; next = c.pick.result } in
     let second : get_or bytes (now.taken + 1) 0 ≡ get_or bytes (c.args.self.taken + (g.row.DONE + 1)) 0 = ap (λ i. get_or bytes i 0) (sym at_one) in
-    fast_step now new s.count is ahead.whole (omega (arith, ahead.room_is)) room c.write_block.auto.out (ap (λ k. now.at + k) s.size_is) (omega (arith, few)) c.put.ensures
-    (c.write_block.ensures s.count s.fits) next (omega arith) (1 + c.from.result) (omega arith) (omega arith) (omega (arith, one_more c.is_luma-luma.result c.from.result c.from.ensures))
+    fast_step now new s.count is ahead.whole (omega (arith, ahead.room_is)) room c.store_vector.auto.out (ap (λ k. now.at + k) s.size_is) (omega (arith, few)) c.put.ensures
+    (c.store_vector.ensures s.count s.fits) next (omega arith) (1 + c.from.result) (omega arith) (omega arith) (omega (arith, one_more c.is_luma-luma.result c.from.result c.from.ensures))
     (λ first. decodes_short rest now.next (get_or bytes (now.taken + 1) 0) (1 + c.from.result) s.count long first (sym (get_or-drop now.taken bytes 1 0)) s.low byte size
     (record {
       place = λ l past h. c.after_short-last.ensures.place l past h;

@@ -13,27 +13,27 @@ use Rattle.qoi.proofs.decode.hashed.Hashed.after_short.Goals as goal
 
 -- what the second byte adds
 abbrev more : (g : Over) → After-at g → ℕ
-more g c = bit_and c.nibbles.result c.second.result
+more g c = bit_and c.second_added.result c.second_mask.result
 
 -- the number
 abbrev total : (g : Over) → After-at g → ℕ
-total g c = ((bit_and c.self.inside.0 c.kept.result + more g c) % 2 ^ 64 + c.at.result) % 2 ^ 64
+total g c = ((bit_and c.self.inside.0 c.kept_mask.result + more g c) % 2 ^ 64 + c.at.result) % 2 ^ 64
 
 -- of a luma it counts
-luma_more : (g : Over) (c : After-at g) → 128 ≤ c.args.b1 → c.args.b1 < 192 → more g c ≡ c.nibbles.result
-luma_more g c low high = ap (λ m. bit_and c.nibbles.result m) (c.second.ensures.luma low high) ∙ omega (arith, and_mask c.nibbles.result 64, c.nibbles.type_inv)
+luma_more : (g : Over) (c : After-at g) → 128 ≤ c.args.b1 → c.args.b1 < 192 → more g c ≡ c.second_added.result
+luma_more g c low high = ap (λ m. bit_and c.second_added.result m) (c.second_mask.ensures.luma low high) ∙ omega (arith, and_mask c.second_added.result 64, c.second_added.type_inv)
 
 other_more : (g : Over) (c : After-at g) → (c.args.b1 < 128) ⊎ (192 ≤ c.args.b1) → more g c ≡ 0
 other_more g c other = elim other [
-  | inl l ↦ ap (λ m. bit_and c.nibbles.result m) (c.second.ensures.before l) ∙ and_zero_r c.nibbles.result
-  | inr l ↦ ap (λ m. bit_and c.nibbles.result m) (c.second.ensures.after l) ∙ and_zero_r c.nibbles.result
+  | inl l ↦ ap (λ m. bit_and c.second_added.result m) (c.second_mask.ensures.before l) ∙ and_zero_r c.second_added.result
+  | inr l ↦ ap (λ m. bit_and c.second_added.result m) (c.second_mask.ensures.after l) ∙ and_zero_r c.second_added.result
 ]
 
 -- a sum of what both bytes add
 moved_by : (g : Over) (c : After-at g) (x y z k d : ℕ) → 64 ≤ c.args.b1 → x ≤ 1000 → y ≤ 1000 → z ≤ 1000 → k ≤ 1000 → d ≤ 1000 → k % 64 ≡ (3 * x + 5 * y + 7 * z) % 64
     → d % 2 ^ 8 ≡ z % 2 ^ 8 → c.at.result + more g c ≡ 4 * k + x * 2 ^ 24 + y * 2 ^ 40 + d * 2 ^ 56 → Sum c.self.inside.0 (total g c) x y z
 moved_by g c x y z k d low lx ly lz lk ld position blue e =
-    let all = ap (λ m. bit_and c.self.inside.0 m) (c.kept.ensures.other low) in
+    let all = ap (λ m. bit_and c.self.inside.0 m) (c.kept_mask.ensures.other low) in
     sum_is c.self.inside.0 (total g c) x y z k d (omega arith) c.self.invariant lx ly lz lk ld position blue (omega (arith, all, e))
 
 -- a difference
@@ -51,7 +51,7 @@ luma_sum : (g : Over) (c : After-at g) → 128 ≤ c.args.b1 → c.args.b1 < 192
 luma_sum g c low high =
     let first : 64 ≤ c.args.b1 = omega (arith, low) in
     let d = (c.at.ensures.other first).luma low high in
-    let n = luma_more g c low high ∙ c.nibbles.ensures in
+    let n = luma_more g c low high ∙ c.second_added.ensures in
     let byte = c.ranges.b2.fits in
     moved_by g c _ _ _ ((3 * (c.args.b1 % 64 + 216) + 5 * (c.args.b1 % 64 + 224) + 7 * (c.args.b1 % 64 + 216)) % 64
     + (3 * (c.args.b2 / 16) + 5 * 0 + 7 * (c.args.b2 % 16)) % 64) ((c.args.b1 % 64 + 216) % 2 ^ 8 + c.args.b2 % 16) first
@@ -69,7 +69,7 @@ run_sum g c low =
 place_sum : (g : Over) (c : After-at g) → c.args.b1 < 64 → total g c ≡ c.at.result
 place_sum g c high =
     let m = other_more g c (inl (omega (arith, high))) in
-    let none : bit_and c.self.inside.0 c.kept.result ≡ 0 = ap (λ m. bit_and c.self.inside.0 m) (c.kept.ensures.place high) ∙ and_zero_r c.self.inside.0 in
+    let none : bit_and c.self.inside.0 c.kept_mask.result ≡ 0 = ap (λ m. bit_and c.self.inside.0 m) (c.kept_mask.ensures.place high) ∙ and_zero_r c.self.inside.0 in
     let fits = c.at.type_inv in
     omega (arith, m, none, fits)
 

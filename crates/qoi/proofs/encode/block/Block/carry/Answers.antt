@@ -1,6 +1,6 @@
 -- If the block is opaque, so is its last pixel.
 use Rattle.std.proofs.Common.{arith}
-use Rattle.qoi.proofs.encoding.FrontBlock.{last_opaque}
+use Rattle.qoi.proofs.encoding.blocks.FrontBlock.{last_opaque}
 use Rattle.qoi.proofs.encode.block.Block.carry.Goals as goal
 
 pub invariant_of-result : goal.invariant_of-result

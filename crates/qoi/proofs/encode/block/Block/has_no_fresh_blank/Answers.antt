@@ -3,14 +3,14 @@ use Rattle.std.proofs.Common.{List, map, sym, ◌∙◌}
 use Rattle.std.proofs.lemmas.List.{length-map}
 use Rattle.std.proofs.lemmas.Simd.{map-map}
 use Rattle.qoi.specs.Qoi.{RgbaPixel}
-use Rattle.qoi.specs.inner.BlockLanes.{Lane, mask}
-use Rattle.qoi.specs.inner.BlockState.{lanes_of, is_rep}
-use Rattle.qoi.specs.inner.LaneVectors.{AreBy}
-use Rattle.qoi.specs.inner.Planes.{block_pixels}
-use Rattle.qoi.proofs.encoding.BlankLanes.{is_blank, or_not, is_plain, plain_lanes}
-use Rattle.qoi.proofs.encoding.LaneTests.{themselves}
-use Rattle.qoi.proofs.encoding.Lanewise.{two, one, each, not_8}
-use Rattle.qoi.proofs.encoding.PackedBlock.{block_sixteen}
+use Rattle.qoi.specs.inner.block.Lanes.{Lane, mask}
+use Rattle.qoi.specs.inner.block.State.{lanes_of, is_rep}
+use Rattle.qoi.specs.inner.block.LaneVectors.{AreBy}
+use Rattle.qoi.specs.inner.block.Planes.{block_pixels}
+use Rattle.qoi.proofs.encoding.lanes.BlankLanes.{is_blank, or_not, is_plain, plain_lanes}
+use Rattle.qoi.proofs.encoding.lanes.LaneTests.{themselves}
+use Rattle.qoi.proofs.encoding.lanes.Lanewise.{two, one, each, not_8}
+use Rattle.qoi.proofs.encoding.blocks.PackedBlock.{block_sixteen}
 use Rattle.qoi.proofs.encode.block.Block.has_no_fresh_blank.Goals as goal
 
 pub returns : goal.returns

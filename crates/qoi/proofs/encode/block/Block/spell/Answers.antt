@@ -1,13 +1,13 @@
 -- The vectors, in each style.
 use Rattle.std.proofs.Common.{◌≡◌, ◌⊎◌, inl, inr, List, sym, subst}
-use Rattle.qoi.specs.declared.encode.spelling.Spelled.{Spelled}
+use Rattle.qoi.specs.declared.encode.block.spelling.Spelled.{Spelled}
 use Rattle.qoi.specs.declared.types.Style.{Style}
 use Rattle.qoi.specs.declared.types.Style.TheVariants.{Reference, Tight}
 use Rattle.qoi.specs.Qoi.{RgbaPixel}
-use Rattle.qoi.specs.inner.BlockState.{State}
-use Rattle.qoi.specs.inner.Planes.{block_pixels}
-use Rattle.qoi.specs.inner.Spelling.{IsBlock, HasSpelled}
-use Rattle.qoi.proofs.encoding.PackedBlock.{block_sixteen}
+use Rattle.qoi.specs.inner.block.State.{State}
+use Rattle.qoi.specs.inner.block.Planes.{block_pixels}
+use Rattle.qoi.specs.inner.block.Spelling.{IsBlock, HasSpelled}
+use Rattle.qoi.proofs.encoding.blocks.PackedBlock.{block_sixteen}
 use Rattle.qoi.proofs.encode.block.Block.spell.Goals as goal
 
 -- in style Tight a block is spelled out as in style Reference

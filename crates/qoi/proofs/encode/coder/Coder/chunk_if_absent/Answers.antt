@@ -3,8 +3,8 @@ use Rattle.std.proofs.Common.{◌≢◌, sym, ◌∙◌}
 use Rattle.std.proofs.lemmas.Bool.{true≢false}
 use Rattle.qoi.specs.declared.chunk.Chunk.TheVariants.{Place}
 use Rattle.qoi.specs.Qoi.{seen, hash, blank}
-use Rattle.qoi.proofs.encoding.CoderTable.{place_bytes, spelled_out}
-use Rattle.qoi.proofs.encoding.TightChoice.{blank_chosen, spelled_chosen}
+use Rattle.qoi.proofs.encoding.coder.CoderTable.{place_bytes, spelled_out}
+use Rattle.qoi.proofs.encoding.styles.TightChoice.{blank_chosen, spelled_chosen}
 use Rattle.qoi.proofs.encode.coder.Coder.chunk_if_absent.Goals as goal
 
 pub returns-in-Reference-clause-choice : goal.returns-in-Reference-clause-choice

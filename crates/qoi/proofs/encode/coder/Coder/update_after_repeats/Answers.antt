@@ -5,8 +5,8 @@ use Rattle.qoi.specs.Styles.{has_pixel}
 use Rattle.qoi.specs.inner.CoderState.{held_in}
 use Rattle.qoi.specs.inner.Table.{Holds}
 use Rattle.qoi.proofs.format.ChunkSteps.{previous_repeats}
-use Rattle.qoi.proofs.encoding.CoderTable.{fresh_repeats, repeats_unput, repeats_put}
-use Rattle.qoi.proofs.encoding.StyledGroup.{placed_repeats}
+use Rattle.qoi.proofs.encoding.coder.CoderTable.{fresh_repeats, repeats_unput, repeats_put}
+use Rattle.qoi.proofs.encoding.styles.StyledGroup.{placed_repeats}
 use Rattle.qoi.proofs.encode.coder.Coder.update_after_repeats.Goals as goal
 use Rattle.qoi.proofs.encode.coder.Coder.update_after_repeats.Goals.{in-Reference, in-Tight}
 

@@ -7,7 +7,7 @@ use Rattle.qoi.specs.Qoi.{chunk_max}
 use Rattle.qoi.specs.inner.CoderLoop.{CoderBetween}
 use Rattle.qoi.specs.inner.Piece.{kept_bytes}
 use Rattle.qoi.specs.inner.Pixels.{pixels_in}
-use Rattle.qoi.proofs.encoding.CoderSteps.{last_run}
+use Rattle.qoi.proofs.encoding.coder.CoderSteps.{last_run}
 use Rattle.qoi.proofs.encode.coder.Coder.write_few.Goals as goal
 
 pub loop-rest-preserved : goal.loop-rest-preserved
@@ -35,5 +35,5 @@ returns g c = record {
   written = λ ahead b.
       (let none : pixels_in c.loop-rest.rest ≡ [] = c.is_empty.ensures.0 c.loop-rest-test.false in
       let end = subst (λ ps. CoderBetween c.args.style ahead ps c.loop-rest.table c.loop-rest.self.last (kept_bytes c.loop-rest.piece)) none (c.loop-rest.invariant.written ahead b) in
-      last_run end.to_write ∙ sym (c.keep_run.ensures.kept (Run 1) refl));
+      last_run end.to_write ∙ sym (c.append_run.ensures.kept (Run 1) refl));
 }

@@ -5,9 +5,9 @@ use Rattle.qoi.specs.Qoi.{IsPixel, hash, seen}
 use Rattle.qoi.specs.Styles.{has_pixel}
 use Rattle.qoi.specs.inner.CoderState.{held_in}
 use Rattle.qoi.specs.inner.Piece.{kept_bytes}
-use Rattle.qoi.proofs.encoding.CoderTable.{fresh_chosen, fresh_held}
-use Rattle.qoi.proofs.encoding.CoderSteps.{fresh_written}
-use Rattle.qoi.proofs.encoding.NotedPixels.{fresh_more}
+use Rattle.qoi.proofs.encoding.coder.CoderTable.{fresh_chosen, fresh_held}
+use Rattle.qoi.proofs.encoding.coder.CoderSteps.{fresh_written}
+use Rattle.qoi.proofs.encoding.lists.NotedPixels.{fresh_more}
 use Rattle.qoi.proofs.encode.coder.Coder.write_pixel.Goals as goal
 
 pub returns-clause-written : goal.returns-clause-written
@@ -33,7 +33,7 @@ returns-clause-written g c ahead rest differs none b =
     let is : IsPixel p = c.number.ensures.bytes in
     let alpha : c.number.result / 2 ^ 24 ≡ p.a = omega (arith, is.r, is.g, is.b, is.a, c.number.ensures.number) in
     let kept = kept_bytes c.args.piece.now in
-    let bytes = c.keep_chunk.ensures.kept ∙ (λ j. kept ++ take (c.pick.ensures j) (digits_l 256 4 (number_is j) ++ alpha j ∷ []))
+    let bytes = c.append_chunk.ensures.kept ∙ (λ j. kept ++ take (c.pick.ensures j) (digits_l 256 4 (number_is j) ++ alpha j ∷ []))
     ∙ ap (λ z. kept ++ z) d.2 in
     fresh_written b d.0 differs none d.1 d.3 bytes refl
     (record {

@@ -8,10 +8,10 @@ use Rattle.qoi.specs.Runs.{IsCount}
 use Rattle.qoi.specs.inner.CoderLoop.{single}
 use Rattle.qoi.specs.inner.Piece.{kept_bytes}
 use Rattle.qoi.specs.inner.Pixels.{pixels_in}
-use Rattle.qoi.proofs.encoding.CoderLink.{first_more, more_some, some_length}
-use Rattle.qoi.proofs.encoding.CoderSteps.{group_written, fulls_written}
-use Rattle.qoi.proofs.encoding.PixelsIn.{NearGroup, near_group, near_some}
-use Rattle.qoi.proofs.encoding.RunBytes.{runs_written}
+use Rattle.qoi.proofs.encoding.coder.CoderLink.{first_more, more_some, some_length}
+use Rattle.qoi.proofs.encoding.coder.CoderSteps.{group_written, fulls_written}
+use Rattle.qoi.proofs.encoding.coder.PixelsIn.{NearGroup, near_group, near_some}
+use Rattle.qoi.proofs.encoding.lists.RunBytes.{runs_written}
 use Rattle.qoi.proofs.encode.coder.Coder.write_runs.Given.{Over}
 use Rattle.qoi.proofs.encode.coder.Coder.write_runs.Goals.{After-repeats_of-ahead, else-carried-eq0-via-then-carried-eq0+else-not-begin_with, else-carried-eq0-via-else-carried-eq0}
 use Rattle.qoi.proofs.encode.coder.Coder.write_runs.Goals as goal
@@ -21,7 +21,7 @@ near : (g : Over) (c : After-repeats_of-ahead g) → NearGroup c.args.self.now.l
 near g c =
     let n = c.repeats_of-ahead.result in
     near_group c.args.self.now.last.px (REPEATS_AT_ONCE - c.args.self.now.last.repeats) n (pixels_in c.args.raw)
-    (subst (λ ps. IsCount c.args.self.now.last.px ps n) c.near.ensures c.repeats_of-ahead.ensures.counted)
+    (subst (λ ps. IsCount c.args.self.now.last.px ps n) c.at_most.ensures c.repeats_of-ahead.ensures.counted)
 
 -- if none is carried, there is one ahead
 some_come : (g : Over) (c : After-repeats_of-ahead g) → 0 < c.args.self.now.last.repeats + c.repeats_of-ahead.result
@@ -31,17 +31,17 @@ some_come g c = elim c.else-carried-eq0.branch [
   | else-carried-eq0-via-else-carried-eq0 w ↦ omega (arith, w.if-carried-eq0.false)
 ]
 
-pub keep_full_runs-requires : goal.keep_full_runs-requires
-keep_full_runs-requires g c = (omega arith, (omega (arith, c.requires.room), omega (arith, (near g (goal.at.keep_full_runs-requires g c).After-repeats_of-ahead).few, c.args.self.now.last.few)))
+pub append_full_runs-requires : goal.append_full_runs-requires
+append_full_runs-requires g c = (omega arith, (omega (arith, c.requires.room), omega (arith, (near g (goal.at.append_full_runs-requires g c).After-repeats_of-ahead).few, c.args.self.now.last.few)))
 
 pub ends_after-requires : goal.ends_after-requires
 ends_after-requires g c = (omega arith, (near g (goal.at.ends_after-requires g c).After-repeats_of-ahead).within)
 
 pub returns-clause-end : goal.returns-clause-end
-returns-clause-end g c = omega (arith, c.keep_full_runs.ensures.end, c.keep_run.ensures.end, (near g (goal.at.returns-clause-end g c).After-repeats_of-ahead).few, c.args.self.now.last.few)
+returns-clause-end g c = omega (arith, c.append_full_runs.ensures.end, c.append_run.ensures.end, (near g (goal.at.returns-clause-end g c).After-repeats_of-ahead).few, c.args.self.now.last.few)
 
 pub returns-clause-each : goal.returns-clause-each
-returns-clause-each g c = omega (arith, c.keep_full_runs.ensures.end, c.keep_run.ensures.end, some_come g (goal.at.returns-clause-each g c).After-repeats_of-ahead)
+returns-clause-each g c = omega (arith, c.append_full_runs.ensures.end, c.append_run.ensures.end, some_come g (goal.at.returns-clause-each g c).After-repeats_of-ahead)
 
 pub returns-clause-inside : goal.returns-clause-inside
 returns-clause-inside g c = (near g (goal.at.returns-clause-inside g c).After-repeats_of-ahead).within
@@ -62,7 +62,7 @@ returns-then-ends_after-clause-written g c all more b =
     let n = c.repeats_of-ahead.result in
     let count = c.args.self.now.last.repeats + n in
     fulls_written b n (count / 62) (drop n (pixels_in c.args.raw) ++ more) (ahead_is g (goal.at.returns-then-ends_after-clause-written g c).After-repeats_of-ahead more)
-    (omega (arith, c.update_after_repeats.ensures.left)) c.keep_full_runs.ensures.kept c.update_after_repeats.ensures.state
+    (omega (arith, c.update_after_repeats.ensures.left)) c.append_full_runs.ensures.kept c.update_after_repeats.ensures.state
 
 pub returns-clause-written : goal.returns-clause-written
 returns-clause-written g c all more b =
@@ -80,4 +80,4 @@ returns-clause-written g c all more b =
     elim group.ends as (λ _. (slice_get later 0 ≢ Some last.px) ⊎ (count % 62 ≡ 0)) [ inl other ↦ inl (λ e. other (sym first ∙ e)) | inr e ↦ inr (full e) ] in
     let one = single c.args.style last count in
     group_written b n later one (ahead_is g here more) ends (λ _. inr (more_some rest more some, refl))
-    (runs_written one count (kept_bytes c.args.piece.now) _ _ c.keep_full_runs.ensures.kept (c.keep_run.ensures.kept one c.single_repeat_byte.ensures)) c.update_after_repeats-2.ensures.left c.update_after_repeats-2.ensures.state
+    (runs_written one count (kept_bytes c.args.piece.now) _ _ c.append_full_runs.ensures.kept (c.append_run.ensures.kept one c.single_repeat_byte.ensures)) c.update_after_repeats-2.ensures.left c.update_after_repeats-2.ensures.state

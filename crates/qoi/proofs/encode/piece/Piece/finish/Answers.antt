@@ -6,8 +6,8 @@ use Rattle.qoi.specs.declared.encode.piece.TheConstants.{PAST}
 use Rattle.qoi.specs.Qoi.{end_marker}
 use Rattle.qoi.specs.inner.Piece.{kept_bytes}
 use Rattle.qoi.specs.writers.Writes.{WroteBut, WroteBeginning}
-use Rattle.qoi.proofs.encoding.PieceSent.{front_sent, rest_sent, rest_refused}
-use Rattle.qoi.proofs.encoding.WriterProgress.{wrote_none, wrote_part}
+use Rattle.qoi.proofs.encoding.piece.PieceSent.{front_sent, rest_sent, rest_refused}
+use Rattle.qoi.proofs.encoding.piece.WriterProgress.{wrote_none, wrote_part}
 use Rattle.qoi.proofs.encode.piece.Piece.finish.Given.{Over}
 use Rattle.qoi.proofs.encode.piece.Piece.finish.Goals.{Joined-end, then-end+in_ok-send_front, else-end}
 use Rattle.qoi.proofs.encode.piece.Piece.finish.Goals as goal

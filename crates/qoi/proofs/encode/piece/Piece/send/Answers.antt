@@ -5,7 +5,7 @@ use Rattle.std.proofs.lemmas.Result.{err_from_is_err_and}
 use Rattle.qoi.specs.declared.encode.piece.TheConstants.{PAST}
 use Rattle.qoi.specs.inner.Piece.{kept_bytes}
 use Rattle.qoi.specs.writers.Writes.{WroteBeginning}
-use Rattle.qoi.proofs.encoding.PieceSent.{moved_front, part_of_all}
+use Rattle.qoi.proofs.encoding.piece.PieceSent.{moved_front, part_of_all}
 use Rattle.qoi.proofs.encode.piece.Piece.send.Goals as goal
 
 pub returns-in_err-send_front-clause-refused : goal.returns-in_err-send_front-clause-refused

@@ -3,8 +3,8 @@ use Rattle.std.proofs.Common.{◌≡◌, ◌+◌, ◌%◌, ◌++◌, [], length,
 use Rattle.std.specs.Io.KnownBytes.{Appends}
 use Rattle.qoi.specs.Qoi.{IsValid, channels_number, file}
 use Rattle.qoi.specs.Raw.{pixels_of, image_byte_count}
-use Rattle.qoi.specs.declared.encode.pending.Kept.{Kept}
-use Rattle.qoi.specs.inner.Pending.{ImageBetween}
+use Rattle.qoi.specs.declared.encode.pixel_writer.kept.Kept.{Kept}
+use Rattle.qoi.specs.WriterPieces.{ImageBetween}
 use Rattle.qoi.proofs.FileOf.{file_of, sends_file}
 use Rattle.qoi.proofs.encode.pixel_writer.PixelWriter.finish.Goals as goal
 

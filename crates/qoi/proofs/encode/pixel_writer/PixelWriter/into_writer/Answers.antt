@@ -5,7 +5,7 @@ use Rattle.qoi.specs.Qoi.{IsValid, file}
 use Rattle.qoi.specs.PixelWriter.{and_raw}
 use Rattle.qoi.proofs.FileOf.{file_of, sends_part}
 use Rattle.qoi.proofs.decoding.StreamReads.{bytes_append}
-use Rattle.qoi.proofs.encoding.ImagePieces.{image_part}
+use Rattle.qoi.proofs.encoding.piece.ImagePieces.{image_part}
 use Rattle.qoi.proofs.encode.pixel_writer.PixelWriter.into_writer.Goals as goal
 
 pub returns : goal.returns

@@ -5,12 +5,12 @@ use Rattle.std.specs.Io.KnownBytes.{Appends}
 use Rattle.qoi.specs.declared.header.Header.{Header}
 use Rattle.qoi.specs.Qoi.{RgbaPixel, channels_number, header_bytes, pixel_count, start, IsValid}
 use Rattle.qoi.specs.Raw.{pixels_of, image_byte_count}
-use Rattle.qoi.specs.declared.encode.pending.Kept.{Kept}
+use Rattle.qoi.specs.declared.encode.pixel_writer.kept.Kept.{Kept}
 use Rattle.qoi.specs.EncoderState.{EncoderState}
-use Rattle.qoi.specs.inner.Pending.{ImageBetween}
+use Rattle.qoi.specs.WriterPieces.{ImageBetween}
 use Rattle.qoi.proofs.decoding.Promised.{capped_is}
 use Rattle.qoi.proofs.format.HeaderBytes.{tried_says}
-use Rattle.qoi.proofs.encoding.ImagePieces.{image_starts}
+use Rattle.qoi.proofs.encoding.piece.ImagePieces.{image_starts}
 use Rattle.qoi.proofs.encode.pixel_writer.PixelWriter.new.Given.{Over}
 use Rattle.qoi.proofs.encode.pixel_writer.PixelWriter.new.Goals.{After-n_bytes}
 use Rattle.qoi.proofs.encode.pixel_writer.PixelWriter.new.Goals as goal

@@ -3,9 +3,9 @@ use Rattle.std.proofs.Common.{◌≡◌, ◌++◌, [], inl, length, refl, sym, s
 use Rattle.std.proofs.lemmas.Result.{err_from_is_err_and}
 use Rattle.qoi.specs.Qoi.{IsValid, AreBytes, channels_number, file}
 use Rattle.qoi.specs.Raw.{pixels_of}
-use Rattle.qoi.specs.declared.encode.pending.Kept.{Kept}
+use Rattle.qoi.specs.declared.encode.pixel_writer.kept.Kept.{Kept}
 use Rattle.qoi.specs.EncoderState.{EncoderState}
-use Rattle.qoi.specs.inner.Pending.{ImageBetween}
+use Rattle.qoi.specs.WriterPieces.{ImageBetween}
 use Rattle.qoi.proofs.FileOf.{file_of, sends_part}
 use Rattle.qoi.proofs.decoding.StreamReads.{bytes_append}
 use Rattle.qoi.proofs.encode.pixel_writer.PixelWriter.write.Given.{Over}

@@ -1,5 +1,5 @@
 -- Sixteen pixels have so many bytes.
-use Rattle.qoi.proofs.encoding.PixelsIn.{bytes_within}
+use Rattle.qoi.proofs.encoding.coder.PixelsIn.{bytes_within}
 use Rattle.qoi.proofs.encode.pixels.Pixels.front.Goals as goal
 
 pub invariant_of-result : goal.invariant_of-result

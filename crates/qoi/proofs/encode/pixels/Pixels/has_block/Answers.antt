@@ -1,7 +1,7 @@
 -- Sixteen pixels have so many bytes.
 use Rattle.std.proofs.Common.{◌*◌, length, arith}
 use Rattle.std.proofs.lemmas.Bool.{leb-true, le-leb}
-use Rattle.qoi.proofs.encoding.PixelsIn.{bytes_within, pixels_within}
+use Rattle.qoi.proofs.encoding.coder.PixelsIn.{bytes_within, pixels_within}
 use Rattle.std.proofs.Math.Nat.{mul_comm}
 use Rattle.qoi.proofs.encode.pixels.Pixels.has_block.Goals as goal
 

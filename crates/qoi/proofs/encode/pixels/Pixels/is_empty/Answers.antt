@@ -3,8 +3,8 @@ use Rattle.std.proofs.Common.{◌≡◌, ◌*◌, length, sym, ap, ◌∙◌, ar
 use Rattle.std.proofs.lemmas.Bool.{eqb-true, eq-eqb}
 use Rattle.qoi.specs.Raw.{pixels_of}
 use Rattle.qoi.proofs.format.WholePixels.{by_channels}
-use Rattle.qoi.proofs.encoding.GroupRuns.{none_of_few}
-use Rattle.qoi.proofs.encoding.PixelsIn.{byte_count}
+use Rattle.qoi.proofs.encoding.lists.GroupRuns.{none_of_few}
+use Rattle.qoi.proofs.encoding.coder.PixelsIn.{byte_count}
 use Rattle.qoi.proofs.encode.pixels.Pixels.is_empty.Goals as goal
 
 pub returns : goal.returns

@@ -3,8 +3,8 @@ use Rattle.std.proofs.Common.{◌≡◌, length, drop, ◌%◌, sym, ap, ◌∙�
 use Rattle.std.proofs.lemmas.List.{length-drop}
 use Rattle.qoi.specs.Raw.{pixels_of}
 use Rattle.qoi.specs.inner.Pixels.{pixels_in}
-use Rattle.qoi.proofs.encoding.GroupRuns.{whole_rest, pixels_drop}
-use Rattle.qoi.proofs.encoding.PixelsIn.{bytes_within}
+use Rattle.qoi.proofs.encoding.lists.GroupRuns.{whole_rest, pixels_drop}
+use Rattle.qoi.proofs.encoding.coder.PixelsIn.{bytes_within}
 use Rattle.qoi.proofs.encode.pixels.Pixels.skip.Goals as goal
 
 pub overflow_mul-count : goal.overflow_mul-count

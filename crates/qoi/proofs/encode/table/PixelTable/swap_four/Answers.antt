@@ -1,6 +1,6 @@
 -- Four pixels, one after the other.
 use Rattle.std.proofs.Common.{◌≡◌, ◌+◌, ℕ, slice_index, [], ◌∷◌, rules, subst}
-use Rattle.qoi.proofs.encoding.SwappedPixels.{Swapped, four_swapped}
+use Rattle.qoi.proofs.encoding.blocks.SwappedPixels.{Swapped, four_swapped}
 use Rattle.qoi.proofs.encode.table.PixelTable.swap_four.Goals as goal
 
 pub returns : goal.returns

@@ -1,9 +1,0 @@
--- Each entry of the table is right.
-use Rattle.std.proofs.Common.{◌/◌, ◌%◌, eqb, eqb-true, arith, refl}
-use Rattle.qoi.specs.inner.Hashed.{step}
-use Rattle.qoi.specs.declared.decode.deltas.TheConstants.{STEPS}
-use Rattle.qoi.proofs.format.Entries.{entry}
-use Rattle.qoi.proofs.decode.deltas.nibbles.Goals as goal
-
-pub returns : goal.returns
-returns c = eqb-true _ _ (entry STEPS (λ b x. eqb x (step (b / 16) 0 (b % 16))) 0 0 256 c.args.b2 c.args.b2 (omega arith) refl (omega arith) c.requires (omega arith))

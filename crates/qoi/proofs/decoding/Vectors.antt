@@ -1,0 +1,140 @@
+-- Sixteen bytes at a time.
+use Rattle.std.proofs.Common.{◌≡◌, [], ◌∷◌, ℕ, ◌+◌, ◌-◌, ◌*◌, ◌/◌, ◌≤◌, List, ◌++◌, length, take, drop, set, get_or, replicate, arith, refl, sym, ap, ◌∙◌, append-nil, append_assoc}
+use Rattle.std.proofs.lemmas.List.{take-take, length-take-le, length-drop, length-set, length-replicate, take-replicate, replicate-append-replicate}
+use Rattle.std.proofs.lemmas.Grind.{flat_map-append, take-set_at}
+use Rattle.std.proofs.Math.Seq.{take-append-add}
+use Rattle.std.proofs.lemmas.Simd.{put_chunk_whole}
+use Rattle.std.proofs.lemmas.Slice.{take-put_mid}
+use borrow.Rule.Slice.PartMut.{put_mid}
+use lib.Lanes.{put_chunk}
+use Rattle.qoi.specs.Qoi.{RgbaPixel}
+use Rattle.qoi.specs.Raw.{IsChannels, pixel_bytes, output}
+use Rattle.qoi.specs.inner.Filling.{upto, HasWritten}
+use Rattle.qoi.proofs.format.WholePixels.{by_channels, take-output}
+
+-- the whole pixels of a vector
+whole_of : (f c : ℕ) (p : RgbaPixel) (bytes : List ℕ) → IsChannels c → bytes ≡ take 16 (output f c (replicate 6 p))
+    → (take (c * (16 / c)) bytes ≡ output f c (replicate (16 / c) p)) × (c * (16 / c) ≤ 16) × (length bytes ≡ 16)
+whole_of f c p bytes is = by_channels (λ d. bytes ≡ take 16 (output f d (replicate 6 p))
+    → (take (d * (16 / d)) bytes ≡ output f d (replicate (16 / d) p)) × (d * (16 / d) ≤ 16) × (length bytes ≡ 16)) is (λ e. rw e (refl, omega arith, refl))
+    (λ e. rw e (refl, omega arith, refl))
+
+-- the front of a piece that was written stands after what was written before
+front_written : (at size c : ℕ) (out piece : List ℕ) → length piece ≡ size → at + size ≤ length out → c ≤ size
+    → take (at + c) (put_mid at (at + size - at) out piece) ≡ take at out ++ take c piece
+front_written at size c out piece is room within =
+    let new = put_mid at (at + size - at) out piece in
+    let all : take (at + size) new ≡ take at out ++ piece = take-put_mid at (at + size - at) out piece (at + size) (omega (arith, is)) (omega arith) in
+    let front : length (take at out) ≡ at = length-take-le at out (omega arith) in
+    sym (take-take (at + c) (at + size) new (omega arith)) ∙ ap (take (at + c)) all ∙ ap (λ n. take (n + c) (take at out ++ piece)) (sym front)
+    ∙ take-append-add (take at out) piece c
+
+-- the whole pixels of a vector stand after what was written before
+whole_written : (f c : ℕ) (p : RgbaPixel) (out bytes : List ℕ) (at : ℕ) → IsChannels c → at + 16 ≤ length out → bytes ≡ take 16 (output f c (replicate 6 p))
+    → take (at + c * (16 / c)) (put_mid at (at + 16 - at) out (put_chunk 0 (take (at + 16 - at) (drop at out)) bytes)) ≡ take at out ++ output f c
+    (replicate (16 / c) p)
+whole_written f c p out bytes at is room e =
+    let whole = whole_of f c p bytes is e in
+    let size : at + 16 - at ≡ 16 = omega arith in
+    let part = take (at + 16 - at) (drop at out) in
+    let held : length part ≡ length bytes = omega (
+      arith,
+      whole.2,
+      size,
+      length-take-le (at + 16 - at) (drop at out) (omega (arith, length-drop at out)),
+      length-drop at out,
+    ) in
+    let put : put_chunk 0 part bytes ≡ bytes = put_chunk_whole part bytes held in
+    front_written at 16 (c * (16 / c)) out (put_chunk 0 part bytes) (ap length put ∙ whole.2) room whole.1
+    ∙ ap (λ z. take at out ++ take (c * (16 / c)) z) put ∙ ap (λ z. take at out ++ z) whole.0
+
+-- copies of a pixel were written, and then more of them
+pub written_copies : {f c : ℕ} {old mid new : List ℕ} (p : RgbaPixel) (at j k n : ℕ) → IsChannels c → n ≡ j + k
+    → HasWritten f c (upto old at) (upto mid (at + c * j)) (replicate j p)
+    → HasWritten f c (upto mid (at + c * j)) (upto new (at + c * j + c * k)) (replicate k p) → HasWritten f c (upto old at) (upto new (at + c * n)) (replicate n p)
+written_copies {f} {c} {old} {mid} {new} p at j k n is sum first more =
+    let end : at + c * j + c * k ≡ at + c * n = after_both c at j k n is sum in
+    let bytes : output f c (replicate j p) ++ output f c (replicate k p) ≡ output f c (replicate n p) =
+    sym (flat_map-append (pixel_bytes f c) (replicate j p) (replicate k p)) ∙ ap (output f c) (replicate-append-replicate j k p ∙ ap (λ m. replicate m p) (sym sum)) in
+    record {
+      at_is = ap (λ m. at + c * m) (sym (length-replicate n p));
+      same = ap (λ m. take m new) (sym end) ∙ more.same ∙ ap (λ z. z ++ output f c (replicate k p)) first.same
+          ∙ append_assoc (take at old) (output f c (replicate j p)) (output f c (replicate k p)) ∙ ap (λ z. take at old ++ z) bytes;
+    }
+  where
+    after_both : (c at j k n : ℕ) → IsChannels c → n ≡ j + k → at + c * j + c * k ≡ at + c * n
+    after_both c at j k n is = by_channels (λ d. n ≡ j + k → at + d * j + d * k ≡ at + d * n) is (λ sum. omega arith)
+        (λ sum. omega arith)
+
+-- fewer of the copies were written too
+written_fewer : {f c : ℕ} {old new : List ℕ} (p : RgbaPixel) (at most count : ℕ) → IsChannels c → count ≤ most → at ≤ length old
+    → HasWritten f c (upto old at) (upto new (at + c * most)) (replicate most p) → HasWritten f c (upto old at) (upto new (at + c * count)) (replicate count p)
+written_fewer {f} {c} {old} {new} p at most count is le within all =
+    let bytes = output f c (replicate most p) in
+    let front : length (take at old) ≡ at = length-take-le at old within in
+    record {
+      at_is = ap (λ m. at + c * m) (sym (length-replicate count p));
+      same = sym (take-take (at + c * count) (at + c * most) new (ends c at count most is le)) ∙ ap (take (at + c * count)) all.same
+          ∙ ap (λ n. take (n + c * count) (take at old ++ bytes)) (sym front) ∙ take-append-add (take at old) bytes (c * count)
+          ∙ ap (λ z. take at old ++ z) (take-output f c count (replicate most p) is (omega (arith, le, length-replicate most p))
+          ∙ ap (output f c) (take-replicate count most p le));
+    }
+  where
+    ends : (c at count most : ℕ) → IsChannels c → count ≤ most → at + c * count ≤ at + c * most
+    ends c at count most is = by_channels (λ d. count ≤ most → at + d * count ≤ at + d * most) is (λ le. omega arith)
+        (λ le. omega arith)
+
+-- copies of a pixel, as many as a vector has room for
+pub vector_written : (f c : ℕ) (p : RgbaPixel) (out bytes : List ℕ) (at count : ℕ) → IsChannels c → at + 16 ≤ length out
+    → bytes ≡ take 16 (output f c (replicate 6 p)) → count ≤ 16 / c
+    → HasWritten f c (upto out at) (upto (put_mid at (at + 16 - at) out (put_chunk 0 (take (at + 16 - at) (drop at out)) bytes)) (at + c * count)) (replicate count p)
+vector_written f c p out bytes at count is room e le =
+    written_fewer p at (16 / c) count is le (omega arith) (record {
+      at_is = ap (λ m. at + c * m) (sym (length-replicate (16 / c) p));
+      same = whole_written f c p out bytes at is room e;
+    })
+
+-- three bytes stored one by one
+three_put : (at : ℕ) (out : List ℕ) (x y z : ℕ) → at + 3 ≤ length out → take (at + 3) (set (set (set out at x) (at + 1) y) (at + 2) z) ≡ take at out ++ x ∷ y ∷ z ∷ []
+three_put at out x y z room = grind (arith, take-set_at, length-set, append_assoc)
+
+-- and four
+four_put : (at : ℕ) (out : List ℕ) (w x y z : ℕ) → at + 4 ≤ length out → take (at + 4) (set (set (set (set out at w) (at + 1) x) (at + 2) y) (at + 3) z) ≡ take at out ++ w ∷ x ∷ y ∷ z ∷ []
+four_put at out w x y z room = grind (arith, take-set_at, length-set, append_assoc)
+
+-- a pixel of three bytes alone
+pub three_bytes_written : (f c : ℕ) (p : RgbaPixel) (out bytes : List ℕ) (at : ℕ) → c ≡ 3 → at + c ≤ length out
+    → bytes ≡ take 16 (output f c (replicate 6 p))
+    → HasWritten f c (upto out at) (upto (set (set (set out at (get_or bytes 0 0)) (at + 1) (get_or bytes 1 0)) (at + 2) (get_or bytes 2 0)) (at + c)) (p ∷ [])
+three_bytes_written f c p out bytes at e room is = rw (is, e) (record { at_is = omega arith; same = three_put at out _ _ _ (omega (arith, room, e)) })
+
+-- a pixel of four bytes alone
+pub four_bytes_written : (f c : ℕ) (p : RgbaPixel) (out bytes : List ℕ) (at : ℕ) → c ≡ 4 → at + c ≤ length out
+    → bytes ≡ take 16 (output f c (replicate 6 p))
+    → HasWritten f c (upto out at) (upto (set (set (set (set out at (get_or bytes 0 0)) (at + 1) (get_or bytes 1 0)) (at + 2) (get_or bytes 2 0)) (at + 3) (get_or bytes 3 0)) (at + c)) (p ∷ [])
+four_bytes_written f c p out bytes at e room is = rw (is, e) (record { at_is = omega arith; same = four_put at out _ _ _ _ (omega (arith, room, e)) })
+
+-- no copies
+pub written_none : (f c : ℕ) (old : List ℕ) (at : ℕ) (p : RgbaPixel) → HasWritten f c (upto old at) (upto old (at + c * 0)) (replicate 0 p)
+written_none f c old at p = record { at_is = refl; same = let none : at + c * 0 ≡ at = omega arith in rw none (sym (append-nil (take at old))) }
+
+-- one of them
+pub written_one : {f c : ℕ} {old new : List ℕ} (p : RgbaPixel) (at : ℕ) → HasWritten f c (upto old at) (upto new (at + c)) (p ∷ [])
+    → HasWritten f c (upto old at) (upto new (at + c * 1)) (replicate 1 p)
+written_one {c = c} p at w = let one : at + c * 1 ≡ at + c = omega arith in rw one w
+
+-- k copies were written four times, one after the other; so any number up to all
+pub four_written : {f c : ℕ} {o0 o1 o2 o3 o4 : List ℕ} (p : RgbaPixel) (at k count : ℕ) → IsChannels c → at ≤ length o0 → count ≤ 4 * k
+    → HasWritten f c (upto o0 at) (upto o1 (at + c * k)) (replicate k p)
+    → HasWritten f c (upto o1 (at + c * k)) (upto o2 (at + c * k + c * k)) (replicate k p)
+    → HasWritten f c (upto o2 (at + c * (2 * k))) (upto o3 (at + c * (2 * k) + c * k)) (replicate k p)
+    → HasWritten f c (upto o3 (at + c * (3 * k))) (upto o4 (at + c * (3 * k) + c * k)) (replicate k p)
+    → HasWritten f c (upto o0 at) (upto o4 (at + c * count)) (replicate count p)
+four_written p at k count is within le w1 w2 w3 w4 =
+    let two = written_copies p at k k (2 * k) is (omega arith) w1 w2 in
+    let three = written_copies p at (2 * k) k (3 * k) is (omega arith) two w3 in
+    written_fewer p at (4 * k) count is le within (written_copies p at (3 * k) k (4 * k) is (omega arith) three w4)
+
+-- sixteen vectors have room for the longest run
+pub vectors_enough : (c count : ℕ) → IsChannels c → count ≤ 62 → count ≤ 4 * (4 * (16 / c))
+vectors_enough c count is = by_channels (λ d. count ≤ 62 → count ≤ 4 * (4 * (16 / d))) is (λ le. omega arith) (λ le. omega arith)

@@ -1,0 +1,20 @@
+-- Four pixels at a time.
+use Rattle.std.proofs.Common.{◌∙◌}
+use Rattle.qoi.proofs.encoding.blocks.FourFours.{four_words_of}
+use Rattle.qoi.proofs.encoding.blocks.OpaqueBlock.{alphas_opaque}
+use Rattle.qoi.proofs.encoding.lanes.WordPlanes.{sixteen_planes}
+use Rattle.qoi.proofs.encode.block.planes.make_planes.Goals as goal
+
+pub returns-clause-planes : goal.returns-clause-planes
+returns-clause-planes g c = λ ps s are opaque.
+    let f = four_words_of ps c.args.w s are in
+    let planes = sixteen_planes ps c.by_channel.result c.by_channel-2.result c.by_channel-3.result c.by_channel-4.result s
+    (c.by_channel.ensures.channels _ f.one) (c.by_channel-2.ensures.channels _ f.two) (c.by_channel-3.ensures.channels _ f.three)
+    (c.by_channel-4.ensures.channels _ f.four) in
+    let a = c.both_halves-2.ensures.1 ∙ planes.a_is in
+    record {
+      r_is = c.both_halves.ensures.0 ∙ planes.r_is;
+      g_is = c.both_halves.ensures.1 ∙ planes.g_is;
+      b_is = c.both_halves-2.ensures.0 ∙ planes.b_is;
+      a_is = c.known_alpha.ensures.all (λ three. a ∙ alphas_opaque 16 ps s.long (opaque three)) ∙ a;
+    }

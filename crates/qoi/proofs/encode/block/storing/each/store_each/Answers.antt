@@ -1,0 +1,53 @@
+-- Twice eight chunks.
+use Rattle.std.proofs.Common.{◌≡◌, ◌≤◌, ℕ, List, [], ◌∷◌, ◌++◌, take, drop, length, replicate, slice_index, append_assoc, arith, ap, ◌∙◌, subst, length-drop}
+use Rattle.std.specs.Prelude.{min}
+use lib.Lanes.{number_l, zip2}
+use Rattle.std.proofs.lemmas.List.{length-take-le}
+use Rattle.qoi.specs.inner.block.Each.{HoldChunks, eight_parts}
+use Rattle.qoi.specs.inner.block.Storing.{AreChunkSizes}
+use Rattle.qoi.proofs.encoding.stores.EachChunk.{widened_are, twice_eight}
+use Rattle.qoi.proofs.encoding.stores.StoredBlock.{take_few, drop_few, lesser_few, lesser_most, eight_sizes}
+use Rattle.qoi.proofs.encode.block.storing.each.store_each.Goals as goal
+
+-- the sizes of eight of sixteen lanes, none above five
+cut_sizes : (xs ss part : List ℕ) (n : ℕ) → ss ≡ zip2 min xs (replicate 16 5) → length part ≡ 8
+    → (((k : ℕ) → slice_index ss k ≤ 5) → (k : ℕ) → slice_index part k ≤ 5) → n ≡ number_l 256 part → AreChunkSizes n
+cut_sizes xs ss part n cut long of is =
+    let few : (k : ℕ) → slice_index part k ≤ 5 = of (λ k. omega (arith, ap (λ z. slice_index z k) cut, lesser_most 16 5 xs k)) in
+    record { ss = part; are = eight_sizes part n long few is; few = few }
+
+pub store_eight-end-requires-clause-sizes : goal.store_eight-end-requires-clause-sizes
+store_eight-end-requires-clause-sizes c =
+    let ss : List ℕ = c.lesser.result in
+    cut_sizes c.args.size ss (take 8 ss) _ c.lesser.ensures (length-take-le 8 ss (omega arith)) (take_few 8 5 ss)
+    (ap (λ z. slice_index z 0) c.halves-sizes.ensures)
+
+pub store_eight-requires-clause-sizes : goal.store_eight-requires-clause-sizes
+store_eight-requires-clause-sizes c =
+    let ss : List ℕ = c.lesser.result in
+    cut_sizes c.args.size ss (drop 8 ss) _ c.lesser.ensures (omega (arith, length-drop 8 ss)) (drop_few 8 5 ss)
+    (ap (λ z. slice_index z 1) c.halves-sizes.ensures)
+
+pub returns-clause-written : goal.returns-clause-written
+returns-clause-written c = λ few.
+    let ss : List ℕ = c.args.size in
+    let w = c.args.words in
+    let alphas : List ℕ = c.args.alpha in
+    let m1 : List ℕ = c.with_alphas-one.result in
+    let m2 : List ℕ = c.with_alphas-two.result in
+    let m3 : List ℕ = c.with_alphas-three.result in
+    let m4 : List ℕ = c.with_alphas-four.result in
+    let a = widened_are c.args.alpha c.make_words-a.result c.fits-alpha.0 c.fits-alpha.1 c.make_words-a.ensures in
+    let halves : c.halves-sizes.result ≡ number_l 256 (take 8 ss) ∷ number_l 256 (drop 8 ss) ∷ [] =
+    c.halves-sizes.ensures ∙ ap (λ z. number_l 256 (take 8 z) ∷ number_l 256 (drop 8 z) ∷ []) (c.lesser.ensures ∙ lesser_few 16 5 ss c.fits-size.0 few) in
+    let first = c.store_eight-end.ensures.written (take 8 ss)
+    (eight_sizes (take 8 ss) _ (length-take-le 8 ss (omega arith)) (take_few 8 5 ss few) (ap (λ z. slice_index z 0) halves)) (take_few 8 5 ss few) in
+    let second = c.store_eight.ensures.written (drop 8 ss)
+    (eight_sizes (drop 8 ss) _ (omega (arith, length-drop 8 ss)) (drop_few 8 5 ss few) (ap (λ z. slice_index z 1) halves)) (drop_few 8 5 ss few) in
+    let low = eight_parts (take 8 ss) m1 m2 in
+    let high = eight_parts (drop 8 ss) m3 m4 in
+    let front = take c.args.at c.args.out.now in
+    second ∙ ap (λ z. z ++ high) first ∙ append_assoc front low high
+    ∙ ap (λ z. front ++ z) (twice_eight ss alphas w m1 m2 m3 m4 c.fits-size.0 few c.fits-alpha.0 c.fits-alpha.1
+    (subst (HoldChunks m1 w.one) a.0 c.with_alphas-one.ensures) (subst (HoldChunks m2 w.two) a.1 c.with_alphas-two.ensures)
+    (subst (HoldChunks m3 w.three) a.2 c.with_alphas-three.ensures) (subst (HoldChunks m4 w.four) a.3 c.with_alphas-four.ensures))

@@ -1,0 +1,60 @@
+-- Sixteen chunks, in either way.
+use Rattle.std.proofs.Common.{◌≡◌, ◌≢◌, ◌+◌, ◌<◌, ℕ, List, ◌++◌, length, map, slice_index, take, arith, sym, ap, ◌∙◌, subst}
+use Rattle.std.specs.List.{AllByRecursion}
+use Rattle.qoi.specs.declared.encode.block.planes.Planes.{Planes}
+use Rattle.qoi.specs.declared.encode.block.planes.Words.{Words}
+use Rattle.qoi.specs.declared.encode.block.spelling.Spelled.{Spelled}
+use Rattle.qoi.specs.declared.types.Style.{Style}
+use Rattle.qoi.specs.Qoi.{RgbaPixel, IsPixel, run_max}
+use Rattle.qoi.specs.inner.block.Lanes.{Lane}
+use Rattle.qoi.specs.inner.block.State.{State, lanes_of, block_bytes}
+use Rattle.qoi.specs.inner.block.Shuffled.{HaveCodes, HasCode}
+use Rattle.qoi.specs.inner.block.Planes.{AreSixteen, ArePlanes, AreBlockWords}
+use Rattle.qoi.specs.inner.block.Spelling.{HasSpelled}
+use Rattle.qoi.specs.inner.block.Storing.{sixteen_chunks}
+use Rattle.qoi.proofs.encoding.blocks.ReferenceBytes.{chunks_of}
+use Rattle.qoi.proofs.encoding.lanes.LaneTests.{themselves}
+use Rattle.qoi.proofs.encoding.stores.SizeCodes.{sizes_coded}
+use Rattle.qoi.proofs.encoding.blocks.SpelledBlock.{lanes_long, lanes_are}
+use Rattle.qoi.proofs.encoding.stores.StoredBlock.{chunk_pixels, pixels_long, first_plane, second_plane, green_plane, blue_plane, sizes_long, sixteen_parts}
+use Rattle.qoi.proofs.encoding.blocks.StyledBlock.{firsts_in_long, pixels_in, out_in}
+use Rattle.qoi.proofs.encode.block.storing.store_sixteen.Goals as goal
+
+-- sixteen chunks of what is spelled out are the block's
+block_is : (style : Style) (s : State) (ps : List RgbaPixel) (x : Spelled) (p : Planes) (words : Words) → AreSixteen ps → IsPixel s.last → ArePlanes ps p → HasSpelled style s ps x → s.carry + 16 < run_max
+    → ((qs : List RgbaPixel) → AreSixteen qs → ArePlanes qs (record { r = x.first; g = x.second; b = p.g; a = p.b }) → AreBlockWords qs words)
+    → sixteen_chunks x.size words p.a ≡ block_bytes style s ps
+block_is style s ps x p words sixteen last planes spelled carry made =
+    let ls : List Lane = lanes_of s.held s.last ps in
+    let fs : List ℕ = x.first in
+    let long : length ls ≡ 16 = lanes_long s.held s.last ps ∙ sixteen.long in
+    let long_first : length fs ≡ 16 = ap length spelled.first_is ∙ firsts_in_long style s.placed s.carry ls ∙ long in
+    let long_size : length x.size ≡ 16 = ap length spelled.size_is ∙ sizes_long ls ∙ long in
+    let same : length fs ≡ length ls = long_first ∙ sym long in
+    let own : (f : RgbaPixel → ℕ) (xs : List ℕ) → xs ≡ map f ps → xs ≡ map (λ (l : Lane). f l.px) ls = λ f xs is. is ∙ sym (themselves f s.held s.last ps) in
+    let pixels : AllByRecursion IsPixel (chunk_pixels ls fs) = subst (λ z. AllByRecursion IsPixel (chunk_pixels ls z)) (sym spelled.first_is)
+    (pixels_in style s.placed s.carry ls (lanes_are s.held s.last ps last sixteen.are)) in
+    let words_are = made (chunk_pixels ls fs) (record { long = pixels_long ls fs same ∙ long; are = pixels }) (record {
+      r_is = first_plane ls fs same;
+      g_is = spelled.second_is ∙ second_plane ls fs same;
+      b_is = own (λ q. q.g) p.g planes.g_is ∙ green_plane ls fs same;
+      a_is = own (λ q. q.b) p.b planes.b_is ∙ blue_plane ls fs same;
+    }) in
+    sixteen_parts ls fs x.size p.a words long long_first long_size (own (λ q. q.a) p.a planes.a_is) pixels words_are
+    ∙ (λ i. chunks_of ls (spelled.first_is i) (spelled.size_is i)) ∙ out_in style s ps sixteen.are (omega (arith, sixteen.long, carry))
+
+-- its sizes have codes if none is 5
+have_codes : (style : Style) (s : State) (ps : List RgbaPixel) (x : Spelled) → AreSixteen ps → HasSpelled style s ps x → ((k : ℕ) → slice_index x.size k ≢ 5) → HaveCodes x.size
+have_codes style s ps x sixteen spelled none = λ k.
+    let is = ap (λ z. slice_index z k) spelled.size_is in
+    subst HasCode (sym is) (sizes_coded s.held s.last ps sixteen.are k (λ e. none k (is ∙ e)))
+
+pub returns-then-are_short-clause-written : goal.returns-then-are_short-clause-written
+returns-then-are_short-clause-written g c = λ style s ps sixteen last planes spelled carry few.
+    c.store_shuffled.ensures.written c.args.p.a (have_codes style s ps c.args.x sixteen spelled (c.are_short.ensures c.if-are_short.true few))
+    ∙ ap (λ z. take c.args.at c.args.out.now ++ z) (block_is style s ps c.args.x c.args.p c.make_words-words.result sixteen last planes spelled carry c.make_words-words.ensures)
+
+pub returns-else-are_short-clause-written : goal.returns-else-are_short-clause-written
+returns-else-are_short-clause-written g c = λ style s ps sixteen last planes spelled carry few.
+    c.store_each.ensures.written (λ k. omega (arith, few k, c.requires.channels))
+    ∙ ap (λ z. take c.args.at c.args.out.now ++ z) (block_is style s ps c.args.x c.args.p c.make_words-words.result sixteen last planes spelled carry c.make_words-words.ensures)

@@ -1,6 +1,0 @@
--- Each lane less the one before.
-use Rattle.qoi.proofs.encoding.Lanewise.{two, again}
-use Rattle.qoi.proofs.encode.lanes.channel_steps.Goals as goal
-
-pub returns-clause-steps : goal.returns-clause-steps
-returns-clause-steps c = λ ls f v w. two _ v (again _ c.later.ensures w)

@@ -1,6 +1,0 @@
--- Lane by lane.
-use Rattle.qoi.proofs.encoding.LaneMasks.{greater_lanes}
-use Rattle.qoi.proofs.encode.lanes.greater.Goals as goal
-
-pub returns : goal.returns
-returns c = greater_lanes c.args.v c.args.w

@@ -1,9 +1,0 @@
--- First bytes of repeats, lane by lane.
-use Rattle.std.proofs.Common.{ap, ◌∙◌}
-use lib.Lanes.{zip2}
-use Rattle.std.specs.Prelude.{max}
-use Rattle.qoi.proofs.encoding.OverlaidRuns.{firsts_are}
-use Rattle.qoi.proofs.encode.spelling.with_runs.Goals as goal
-
-pub returns : goal.returns
-returns c = λ ls n f r e. c.greater.ensures ∙ ap (zip2 max c.args.first) c.lesser.ensures ∙ firsts_are ls n c.args.first c.args.rep c.args.count f r e

@@ -1,0 +1,17 @@
+-- Lemmas on sixteen pixels at a time: what they write, and what is carried.
+pub mod AllRepeat
+pub mod BlockPuts
+pub mod BlockStep
+pub mod BlockWritten
+pub mod FourFours
+pub mod FrontBlock
+pub mod LastCount
+pub mod OpaqueBlock
+pub mod PackedBlock
+pub mod PlacesBytes
+pub mod ReadBlock
+pub mod ReferenceBytes
+pub mod SpelledBlock
+pub mod StyledBlock
+pub mod SwappedPixels
+pub mod TightBytes

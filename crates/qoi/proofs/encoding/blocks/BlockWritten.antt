@@ -1,0 +1,316 @@
+-- A block of pixels is written, lane by lane.
+use Rattle.std.proofs.Common.{◌≡◌, ◌≢◌, ◌⊎◌, inl, inr, ℕ, zero, suc, ◌+◌, ◌%◌, ◌/◌, ◌<◌, Bool, true, false, ◌==◌, List, [], ◌∷◌, ◌++◌, length, replicate, Option, Some, refl, sym, ap, ◌∙◌, arith, subst, append_assoc, append-nil, if◌then◌else◌}
+use Rattle.std.specs.List.{AllByRecursion, slice_get}
+use Rattle.std.proofs.lemmas.Bool.{true≢false, true_from_ne_false, eq-eqb}
+use Rattle.std.proofs.lemmas.Option.{same_Some}
+use Rattle.qoi.specs.declared.chunk.Chunk.{Chunk}
+use Rattle.qoi.specs.declared.chunk.Chunk.TheVariants.{Place, Run}
+use Rattle.qoi.specs.declared.types.Style.{Style}
+use Rattle.qoi.specs.declared.types.Style.TheVariants.{Reference, Places, Tight}
+use Rattle.qoi.specs.Qoi.{RgbaPixel, IsPixel, Past, previous, pixel_eq, blank, seen, hash, IsChunk, bytes_of, chunk_bytes}
+use Rattle.qoi.specs.Runs.{runs_by, last_by}
+use Rattle.qoi.specs.Written.{fresh, IsFirst}
+use Rattle.qoi.specs.Styles.{has_pixel, some_fresh, names, choice_in}
+use Rattle.qoi.specs.inner.CoderState.{held_in, single_chunk, last_chunk}
+use Rattle.qoi.specs.inner.CoderLoop.{Ahead}
+use Rattle.qoi.proofs.format.ChunkSteps.{previous_repeats}
+use Rattle.qoi.proofs.format.SamePixels.{pixel_eq-true, pixel_eq-from, pixel_eq-ne, hash_below, cases_pixel}
+use Rattle.qoi.proofs.encoding.lists.NotedPixels.{fresh_repeat, fresh_more, seen_same}
+use Rattle.qoi.proofs.encoding.lists.GroupRuns.{not_one}
+use Rattle.qoi.proofs.encoding.coder.CoderSteps.{over_repeat, over_group, over_fresh}
+use Rattle.qoi.proofs.encoding.coder.CoderTable.{place_chosen, spelled_out}
+use Rattle.qoi.proofs.encoding.lists.WrittenExists.{spells_no_place}
+use Rattle.qoi.specs.inner.block.Lanes.{lane_bytes}
+use Rattle.qoi.specs.inner.block.State.{State, lane_of, group_bytes, next_by, step_by, next_state, step_bytes, more_of, block_bytes, NoneBlank}
+use Rattle.qoi.proofs.encoding.blocks.ReferenceBytes.{carry_few}
+use Rattle.qoi.proofs.encoding.lanes.LaneChunk.{spelled_lane}
+use Rattle.qoi.proofs.encoding.blocks.LastCount.{end_state}
+
+-- repeats are carried only if the next pixel is one
+abbrev pub CarryGoesOn : State → List RgbaPixel → Type 0
+CarryGoesOn s [] = Unit {0}
+CarryGoesOn s (p ∷ ps) = 0 < s.carry → p ≡ s.last
+
+-- the state once the carried repeats are written, before a fresh pixel
+abbrev pub flushed_state : State → State
+flushed_state s = record { held = s.held; last = s.last; carry = 0; placed = false }
+
+-- a group of fewer than 62 repeats
+runs_few : (one : Chunk) (n : ℕ) → n < 62 → runs_by one n ≡ last_by one n
+unfolding runs_by
+runs_few one n l = let q : n / 62 ≡ 0 = omega arith in let r : n % 62 ≡ n = omega arith in
+    λ i. replicate (q i) (Run 62) ++ last_by one (r i)
+
+-- Written up to `carry` repeats of the last pixel, which have come. `begun` says whether a fresh
+-- pixel came; if not, the next one is fresh, and no repeats are carried.
+pub record Carrying (begun : Bool) (style : Style) (ahead : List ℕ) (s : State) (rest : List RgbaPixel) (kept : List ℕ) : Type 0 where
+  pub past : Past
+  pub before : Option Chunk
+  pub to_write : Ahead style ahead past before s.carry rest kept
+  pub last_is : previous past ≡ s.last
+  pub begun_is : some_fresh past ≡ begun
+  pub opens : begun ≡ false → (s.carry ≡ 0) × (slice_get rest 0 ≢ Some s.last)
+  pub held_is : (i : ℕ) → seen s.held i ≡ seen (held_in style past) i
+  pub placed_is : s.placed ≡ names before (hash s.last)
+
+-- A group of fewer than 62 repeats is written, before a fresh pixel.
+group_next : {style : Style} {ahead : List ℕ} {past : Past} {before : Option Chunk} {kept : List ℕ} (k : ℕ) (p : RgbaPixel) (more : List RgbaPixel)
+    (placed : Bool) (q : RgbaPixel) → Ahead style ahead past before (suc k) (p ∷ more) kept → p ≢ previous past → k < 61 → some_fresh past ≡ true
+    → previous past ≡ q → placed ≡ names before (hash q)
+    → Ahead style ahead (replicate (suc k) (previous past) ++ past) (last_chunk before (runs_by (Run 1) (suc k))) 0 (p ∷ more)
+    (kept ++ group_bytes style placed q (suc k))
+group_next {style} {ahead} {past} {before} {kept} k p more placed q b differs few begun last_is placed_is =
+    subst (λ z. Ahead style ahead (replicate (suc k) (previous past) ++ past) (last_chunk before (runs_by (Run 1) (suc k))) 0 (p ∷ more) (kept ++ z))
+    (bytes_are k few)
+    (over_group (suc k) (p ∷ more) (one (suc k)) b (inl (λ e. differs (same_Some _ _ e))) (λ _. inr (λ none. cc none, refl)))
+  where
+    one : ℕ → Chunk
+    one n = single_chunk style (some_fresh past) (names before (hash (previous past))) (hash (previous past)) n
+
+    placed_of : names before (hash (previous past)) ≡ placed
+    placed_of = ap (λ z. names before (hash z)) last_is ∙ sym placed_is
+
+    bytes_are : (k : ℕ) → k < 61 → chunk_bytes (runs_by (one (suc k)) (suc k)) ≡ group_bytes style placed q (suc k)
+    bytes_are zero l =
+        ap chunk_bytes (runs_few (one 1) 1 (omega arith)) ∙ append-nil (bytes_of (one 1))
+        ∙ (λ i. bytes_of (single_chunk style (begun i) (placed_of i) (hash (last_is i)) 1))
+    bytes_are (suc k) l =
+        ap chunk_bytes (runs_few (one (suc (suc k))) (suc (suc k)) (omega arith)) ∙ append-nil (bytes_of (Run (suc (suc k))))
+        ∙ sym (ap (λ b. bytes_of (if b then single_chunk style true placed (hash q) 1 else Run (suc (suc k)))) (not_one k))
+
+-- the table, into which repeats are put too
+
+-- once a fresh pixel came, the last of them is the last pixel
+fresh_first : (past : Past) → some_fresh past ≡ true → (i : ℕ) → hash (previous past) ≡ i → seen (fresh past) i ≡ previous past
+fresh_first [] b i h = absurd (let no : false ≡ true = b in cc)
+fresh_first (p ∷ past) b i h = go (fresh_first past) (cases_pixel p (previous past))
+  where
+    go : (some_fresh past ≡ true → (i : ℕ) → hash (previous past) ≡ i → seen (fresh past) i ≡ previous past)
+        → (p ≡ previous past) ⊎ (p ≢ previous past) → seen (fresh (p ∷ past)) i ≡ p
+    go before (inl e) =
+        let f = fresh_repeat past p e in
+        ap (λ x. seen x i) f ∙ before (sym (ap has_pixel f) ∙ b) i (sym (ap hash e) ∙ h) ∙ sym e
+    go before (inr n) = ap (λ x. seen x i) (fresh_more past p n) ∙ seen_same (fresh past) p i h
+
+-- so in each style the last pixel stands at its position
+stands_there : (style : Style) (past : Past) → some_fresh past ≡ true → (i : ℕ) → hash (previous past) ≡ i → seen (held_in style past) i ≡ previous past
+stands_there Reference past b i h = fresh_first past b i h
+stands_there Places past b i h = fresh_first past b i h
+stands_there Tight [] b i h = absurd (let no : false ≡ true = b in cc)
+stands_there Tight (p ∷ past) b i h = seen_same past p i h
+
+-- putting what stands there changes nothing
+put_again : (held : Past) (p : RgbaPixel) → ((i : ℕ) → hash p ≡ i → seen held i ≡ p) → (i : ℕ) → seen (p ∷ held) i ≡ seen held i
+put_again held p there i = go (hash p == i) refl
+  where
+    go : (b : Bool) → (hash p == i) ≡ b → (if hash p == i then p else seen held i) ≡ seen held i
+    go true e = rw e (sym (there i (grind arith)))
+    go false e = rw e refl
+
+-- a repeat that has come changes nothing that is seen
+repeat_held : (style : Style) (past : Past) → some_fresh past ≡ true → (i : ℕ) → seen (held_in style (previous past ∷ past)) i ≡ seen (held_in style past) i
+repeat_held Reference past b i = ap (λ x. seen x i) (fresh_repeat past (previous past) refl)
+repeat_held Places past b i = ap (λ x. seen x i) (fresh_repeat past (previous past) refl)
+repeat_held Tight past b i = put_again past (previous past) (stands_there Tight past b) i
+
+-- repeats leave it so that a fresh pixel came
+pub still_begun : (n : ℕ) (past : Past) → some_fresh past ≡ true → some_fresh (replicate n (previous past) ++ past) ≡ true
+still_begun zero past b = b
+still_begun (suc n) past b =
+    ap has_pixel (fresh_repeat (replicate n (previous past) ++ past) (previous past) (sym (previous_repeats n past))) ∙ still_begun n past b
+
+-- nor do several
+pub repeats_held : (style : Style) (n : ℕ) (past : Past) → some_fresh past ≡ true → (i : ℕ)
+    → seen (held_in style (replicate n (previous past) ++ past)) i ≡ seen (held_in style past) i
+repeats_held style zero past b i = refl
+repeats_held style (suc n) past b i =
+    let q = replicate n (previous past) ++ past in
+    ap (λ z. seen (held_in style (z ∷ q)) i) (sym (previous_repeats n past)) ∙ repeat_held style q (still_begun n past b) i ∙ repeats_held style n past b i
+
+-- a fresh pixel is put in each style
+fresh_held_in : (style : Style) (past : Past) (p : RgbaPixel) → p ≢ previous past → held_in style (p ∷ past) ≡ p ∷ held_in style past
+fresh_held_in Reference past p n = fresh_more past p n
+fresh_held_in Places past p n = fresh_more past p n
+fresh_held_in Tight past p n = refl
+
+-- after a fresh pixel one came
+fresh_begun : (past : Past) (p : RgbaPixel) → p ≢ previous past → some_fresh (p ∷ past) ≡ true
+fresh_begun past p n = ap has_pixel (fresh_more past p n)
+
+-- a pixel put into tables that hold the same
+put_same : (p : RgbaPixel) (xs ys : Past) → ((i : ℕ) → seen xs i ≡ seen ys i) → (i : ℕ) → seen (p ∷ xs) i ≡ seen (p ∷ ys) i
+put_same p xs ys same i = ap (λ z. if hash p == i then p else z) (same i)
+
+-- the last chunk of a group names no position
+run_last : (k : ℕ) (before : Option Chunk) (i : ℕ) → k < 61 → names (last_chunk before (runs_by (Run 1) (suc k))) i ≡ false
+run_last zero before i l = ap (λ cs. names (last_chunk before cs) i) (runs_few (Run 1) 1 (omega arith))
+run_last (suc k) before i l = ap (λ cs. names (last_chunk before cs) i) (runs_few (Run 1) (suc (suc k)) (omega arith))
+
+-- one lane
+
+-- how a fresh pixel that isn't at its position is given, if it isn't transparent black in style
+-- Tight
+chosen : (style : Style) (past : Past) (p : RgbaPixel) (c : Chunk) → IsFirst past p c → seen (held_in style past) (hash p) ≢ p → (style ≡ Tight → p ≢ blank)
+    → choice_in style past p c
+chosen Reference past p c first differs none = spelled_out Reference past p c (inl refl) first differs
+chosen Places past p c first differs none = spelled_out Places past p c (inr refl) first differs
+chosen Tight past p c first differs none = record {
+  place = λ e. absurd (differs e);
+  unseen = λ _ e. absurd (none refl e);
+  spelled = λ _ _. first;
+}
+
+module _ {begun : Bool} {style : Style} {ahead : List ℕ} (s : State) (p : RgbaPixel) (tail : List RgbaPixel) {kept : List ℕ} where
+  -- if the next pixel repeats, a fresh one came
+  begun_at : (c : Carrying begun style ahead s (p ∷ tail) kept) → p ≡ s.last → some_fresh c.past ≡ true
+  begun_at c e = c.begun_is ∙ true_from_ne_false begun (λ no. (c.opens no).1 (ap Some e))
+
+  -- if repeats are carried, one came
+  begun_carried : (c : Carrying begun style ahead s (p ∷ tail) kept) (k : ℕ) → s.carry ≡ suc k → some_fresh c.past ≡ true
+  begun_carried c k some = c.begun_is ∙ true_from_ne_false begun (λ no. absurd (omega (arith, (c.opens no).0, some)))
+
+  -- a repeat that another one follows, or nothing, is carried
+  repeat_on : Carrying begun style ahead s (p ∷ tail) kept → p ≡ s.last → Carrying true style ahead (next_by true true s p) tail (kept ++ [])
+  repeat_on c e =
+      let has = begun_at c e in
+      record {
+        past = c.past;
+        before = c.before;
+        to_write = subst (Ahead style ahead c.past c.before (suc s.carry) tail) (sym (append-nil kept)) (over_repeat c.to_write (e ∙ sym c.last_is));
+        last_is = c.last_is ∙ sym e;
+        begun_is = begun_at c e;
+        opens = λ no. absurd (true≢false no);
+        held_is = λ i. put_again s.held p (λ j h. c.held_is j ∙ stands_there style c.past has j (ap hash (c.last_is ∙ sym e) ∙ h) ∙ c.last_is ∙ sym e) i ∙ c.held_is i;
+        placed_is = c.placed_is ∙ ap (λ q. names c.before (hash q)) (sym e);
+      }
+
+  -- a fresh pixel is written
+  fresh_one : Carrying begun style ahead s (p ∷ tail) kept → p ≢ s.last → s.carry ≡ 0 → (style ≡ Tight → seen s.held (hash p) ≢ p → p ≢ blank) → (more : Bool)
+      → Carrying true style ahead (next_by false more s p) tail (kept ++ lane_bytes (lane_of s.held s.last p))
+  fresh_one c n zero_carry none more = by_place (cases_pixel (seen s.held (hash p)) p)
+    where
+      start : Ahead style ahead c.past c.before 0 (p ∷ tail) kept
+      start = subst (λ k. Ahead style ahead c.past c.before k (p ∷ tail) kept) zero_carry c.to_write
+
+      differs : p ≢ previous c.past
+      differs e = n (e ∙ c.last_is)
+
+      after : (d : Chunk) → IsChunk d → choice_in style c.past p d → lane_bytes (lane_of s.held s.last p) ≡ bytes_of d
+          → pixel_eq (seen s.held (hash p)) p ≡ names (Some d) (hash p)
+          → Carrying true style ahead (next_by false more s p) tail (kept ++ lane_bytes (lane_of s.held s.last p))
+      after d is choice bytes named = record {
+        past = p ∷ c.past;
+        before = Some d;
+        to_write = subst (λ b. Ahead style ahead (p ∷ c.past) (Some d) 0 tail (kept ++ b)) (sym bytes) (over_fresh p tail d start differs is choice);
+        last_is = refl;
+        begun_is = fresh_begun c.past p differs;
+        opens = λ no. absurd (true≢false no);
+        held_is = λ i. put_same p s.held (held_in style c.past) c.held_is i ∙ ap (λ x. seen x i) (sym (fresh_held_in style c.past p differs));
+        placed_is = named;
+      }
+
+      by_place : (seen s.held (hash p) ≡ p) ⊎ (seen s.held (hash p) ≢ p) → Carrying true style ahead (next_by false more s p) tail (kept ++ lane_bytes (lane_of s.held s.last p))
+      by_place (inl there) =
+          let t = pixel_eq-from _ p there in
+          after (Place (hash p)) (hash_below p) (place_chosen style c.past p (sym (c.held_is (hash p)) ∙ there)) (rw t refl) (t ∙ sym (eq-eqb (hash p) (hash p) refl))
+      by_place (inr away) =
+          let f = pixel_eq-ne _ p away in
+          let are : AllByRecursion IsPixel (p ∷ tail) = start.are in
+          let l = spelled_lane (lane_of s.held s.last p) (record { px_is = are.0; before_is = subst IsPixel c.last_is start.before_is }) f in
+          let first = l.1.first c.past c.last_is in
+          after l.0 l.1.chunk (chosen style c.past p l.0 first (λ e. away (c.held_is (hash p) ∙ e)) (λ t. none t away)) l.1.bytes
+          (f ∙ sym (spells_no_place l.0 (hash p) first.spells))
+
+  -- a repeat before a fresh pixel: the group is written
+  repeat_end : Carrying begun style ahead s (p ∷ tail) kept → p ≡ s.last → (q : RgbaPixel) (more : List RgbaPixel) → tail ≡ q ∷ more → q ≢ p → s.carry < 61
+      → Carrying true style ahead (next_by true false s p) tail (kept ++ group_bytes style s.placed p (suc s.carry))
+  repeat_end c e q more next differs few =
+      let has = begun_at c e in
+      let p_is : previous c.past ≡ p = c.last_is ∙ sym e in
+      let joined = subst (λ z. Ahead style ahead c.past c.before (suc s.carry) z kept) next (over_repeat c.to_write (sym p_is)) in
+      record {
+        past = replicate (suc s.carry) (previous c.past) ++ c.past;
+        before = last_chunk c.before (runs_by (Run 1) (suc s.carry));
+        to_write = rw next (group_next s.carry q more s.placed p joined (λ same. differs (same ∙ p_is)) few has p_is
+            (c.placed_is ∙ ap (λ z. names c.before (hash z)) (sym e)));
+        last_is = p_is;
+        begun_is = still_begun (suc s.carry) c.past has;
+        opens = λ no. absurd (true≢false no);
+        held_is = λ i. put_again s.held p (λ j h. c.held_is j ∙ stands_there style c.past has j (ap hash p_is ∙ h) ∙ p_is) i ∙ c.held_is i
+            ∙ sym (repeats_held style (suc s.carry) c.past has i);
+        placed_is = sym (run_last s.carry c.before (hash p) few);
+      }
+
+  -- the carried repeats before a fresh pixel are written
+  pub flushed : (k : ℕ) → Carrying begun style ahead s (p ∷ tail) kept → p ≢ s.last → s.carry ≡ suc k → k < 61
+      → Carrying true style ahead (flushed_state s) (p ∷ tail) (kept ++ group_bytes style s.placed s.last (suc k))
+  flushed k c differs some few =
+      let has = begun_carried c k some in
+      let start = subst (λ n. Ahead style ahead c.past c.before n (p ∷ tail) kept) some c.to_write in
+      record {
+        past = replicate (suc k) (previous c.past) ++ c.past;
+        before = last_chunk c.before (runs_by (Run 1) (suc k));
+        to_write = group_next k p tail s.placed s.last start (λ same. differs (same ∙ c.last_is)) few has c.last_is c.placed_is;
+        last_is = c.last_is;
+        begun_is = still_begun (suc k) c.past has;
+        opens = λ no. absurd (true≢false no);
+        held_is = λ i. c.held_is i ∙ sym (repeats_held style (suc k) c.past has i);
+        placed_is = sym (run_last k c.before (hash s.last) few);
+      }
+
+-- all of them
+
+-- after a lane repeats are carried only if the next pixel is one
+carry_on : (s : State) (p : RgbaPixel) (ps : List RgbaPixel) → CarryGoesOn (next_state s p (more_of p ps)) ps
+carry_on s p [] = tt
+carry_on s p (q ∷ qs) = go (pixel_eq p s.last) (pixel_eq q p) refl
+  where
+    go : (b m : Bool) → pixel_eq q p ≡ m → 0 < (next_by b m s p).carry → q ≡ p
+    go true true e some = pixel_eq-true q p e
+    go true false e some = absurd (omega arith)
+    go false m e some = absurd (omega arith)
+
+-- what is not above 0 is 0
+none_at : (n : ℕ) → (0 < n → ⊥) → n ≡ 0
+none_at zero never = refl
+none_at (suc n) never = absurd (never (omega arith))
+
+module _ (style : Style) (ahead : List ℕ) (s : State) (p : RgbaPixel) (kept : List ℕ) (few : s.carry < 61) where
+  -- after a lane: from whether it repeats, and whether the next one does
+  abbrev After : Bool → Bool → List RgbaPixel → Type 0
+  After b m tail = Carrying true style ahead (next_by b m s p) tail (kept ++ step_by b m style s p)
+
+  -- over a repeat
+  over_same : {begun : Bool} (ps rest : List RgbaPixel) → Carrying begun style ahead s (p ∷ (ps ++ rest)) kept → p ≡ s.last → After true (more_of p ps) (ps ++ rest)
+  over_same [] rest c e = repeat_on s p rest c e
+  over_same (q ∷ qs) rest c e = go (cases_pixel q p)
+    where
+      go : (q ≡ p) ⊎ (q ≢ p) → After true (pixel_eq q p) (q ∷ (qs ++ rest))
+      go (inl same) = subst (λ m. After true m (q ∷ (qs ++ rest))) (sym (pixel_eq-from q p same)) (repeat_on s p (q ∷ (qs ++ rest)) c e)
+      go (inr other) = subst (λ m. After true m (q ∷ (qs ++ rest))) (sym (pixel_eq-ne q p other))
+          (repeat_end s p (q ∷ (qs ++ rest)) c e q (qs ++ rest) refl other few)
+
+  -- over a lane's pixel
+  over_lane : {begun : Bool} (ps rest : List RgbaPixel) → Carrying begun style ahead s (p ∷ (ps ++ rest)) kept → (0 < s.carry → p ≡ s.last)
+      → (style ≡ Tight → p ≢ s.last → seen s.held (hash p) ≢ p → p ≢ blank) → After (pixel_eq p s.last) (more_of p ps) (ps ++ rest)
+  over_lane ps rest c on none = go (cases_pixel p s.last)
+    where
+      go : (p ≡ s.last) ⊎ (p ≢ s.last) → After (pixel_eq p s.last) (more_of p ps) (ps ++ rest)
+      go (inl e) = subst (λ b. After b (more_of p ps) (ps ++ rest)) (sym (pixel_eq-from p s.last e)) (over_same ps rest c e)
+      go (inr n) = subst (λ b. After b (more_of p ps) (ps ++ rest)) (sym (pixel_eq-ne p s.last n))
+          (fresh_one s p (ps ++ rest) c n (none_at s.carry (λ some. n (on some))) (λ t away. none t n away) (more_of p ps))
+
+-- A block's pixels are written, but for the repeats at their end.
+pub block_written : {begun : Bool} {style : Style} {ahead : List ℕ} (s : State) (ps rest : List RgbaPixel) {kept : List ℕ} → 0 < length ps
+    → Carrying begun style ahead s (ps ++ rest) kept → CarryGoesOn s ps → s.carry + length ps < 62 → (style ≡ Tight → NoneBlank s ps)
+    → Carrying true style ahead (end_state s ps) rest (kept ++ block_bytes style s ps)
+block_written s [] rest some c on few none = absurd (omega arith)
+block_written {style = style} {ahead} s (p ∷ []) rest {kept} some c on few none =
+    subst (λ b. Carrying true style ahead (next_state s p true) rest (kept ++ b)) (sym (append-nil (step_bytes style s p true)))
+    (over_lane style ahead s p kept (omega arith) [] rest c on (λ t. (none t).0))
+block_written {begun} {style} {ahead} s (p ∷ q ∷ ps) rest {kept} some c on few none =
+    let m = more_of p (q ∷ ps) in
+    let next = next_state s p m in
+    let one = over_lane style ahead s p kept (omega arith) (q ∷ ps) rest c on (λ t. (none t).0) in
+    subst (Carrying true style ahead (end_state next (q ∷ ps)) rest) (append_assoc kept (step_bytes style s p m) (block_bytes style next (q ∷ ps)))
+    (block_written {begun = true} next (q ∷ ps) rest (omega arith) one (carry_on s p (q ∷ ps)) (omega (arith, carry_few (pixel_eq p s.last) m s p)) (λ t. (none t).1))

@@ -1,0 +1,15 @@
+-- Lemmas on vectors of sixteen bytes, lane by lane.
+pub mod BlankLanes
+pub mod LaneBits
+pub mod LaneChunk
+pub mod LaneMasks
+pub mod LaneStamps
+pub mod LaneTests
+pub mod Lanewise
+pub mod NamedLanes
+pub mod OverlaidRuns
+pub mod PlaneWords
+pub mod RereadLanes
+pub mod RunningMost
+pub mod StandMasks
+pub mod WordPlanes

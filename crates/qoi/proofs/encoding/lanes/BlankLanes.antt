@@ -1,0 +1,64 @@
+-- Transparent black among sixteen pixels.
+use Rattle.std.proofs.Common.{◌≡◌, ◌-◌, Bool, true, false, not, ◌||◌, ◌&&◌, ◌==◌, List, [], ◌∷◌, map, bit_or, if◌then◌else◌, refl, sym, ap, ap₂, ◌∙◌}
+use Rattle.std.proofs.lemmas.Bool.{and_parts, true≢false}
+use Rattle.qoi.specs.Qoi.{RgbaPixel, pixel_eq, blank, seen, hash}
+use Rattle.qoi.specs.inner.block.Lanes.{Lane, IsLane, mask}
+use Rattle.qoi.specs.inner.block.State.{State, lanes_of, is_rep, next_state, more_of, NoneBlank}
+use Rattle.qoi.specs.inner.block.Counting.{all_true}
+use Rattle.qoi.proofs.format.SamePixels.{pixel_eq-true, pixel_eq-from, pixel_eq-ne}
+use Rattle.qoi.proofs.encoding.lanes.LaneBits.{or_below, one_zero}
+
+-- a pixel is transparent black
+abbrev pub is_blank : RgbaPixel → Bool
+is_blank p = pixel_eq p blank
+
+-- so is a lane's, if all its channels are 0
+pub blank_lane : (l : Lane) → IsLane l → mask (bit_or (bit_or (bit_or l.px.r l.px.g) l.px.b) l.px.a == 0) ≡ mask (is_blank l.px)
+unfolding pixel_eq blank
+blank_lane l is =
+    let p = l.px in
+    ap mask (one_zero _ ∙ or_below 0 (bit_or (bit_or p.r p.g) p.b) p.a
+    ∙ ap₂ ◌&&◌ (or_below 0 (bit_or p.r p.g) p.b ∙ ap₂ ◌&&◌ (or_below 0 p.r p.g ∙ ap₂ ◌&&◌ (sym (one_zero p.r)) (sym (one_zero p.g))) (sym (one_zero p.b))) (sym (one_zero p.a)))
+
+-- one of two, of which the second fails
+pub or_not : (a b : Bool) → bit_or (mask a) (255 - mask b) ≡ mask (a || not b)
+or_not true true = refl
+or_not true false = refl
+or_not false true = refl
+or_not false false = refl
+
+-- a lane repeats or isn't transparent black
+abbrev pub is_plain : Lane → Bool
+is_plain l = is_rep l || not (is_blank l.px)
+
+-- if each does, no fresh pixel is transparent black
+pub plain_lanes : (s : State) (ps : List RgbaPixel) → all_true (map is_plain (lanes_of s.held s.last ps)) ≡ true → NoneBlank s ps
+plain_lanes s [] all = tt
+plain_lanes s (p ∷ ps) all =
+    let a = and_parts (pixel_eq p s.last || not (is_blank p)) (all_true (map is_plain (lanes_of (p ∷ s.held) p ps))) all in (
+      λ fresh away same. true≢false (sym a.0 ∙ ap₂ ◌||◌ (pixel_eq-ne p s.last fresh) (ap not (pixel_eq-from p blank same))),
+      plain_lanes (next_state s p (more_of p ps)) ps a.1,
+    )
+
+-- a pixel is transparent black or doesn't have its index position
+abbrev pub is_elsewhere : RgbaPixel → Bool
+is_elsewhere p = is_blank p || not (hash p == 0)
+
+-- transparent black has index position 0
+blank_place : hash blank ≡ 0
+unfolding hash blank
+blank_place = refl
+
+-- if each is, transparent black stays at its index position
+pub blank_stays : (s : State) (ps : List RgbaPixel) → seen s.held 0 ≡ blank → all_true (map is_elsewhere ps) ≡ true → NoneBlank s ps
+blank_stays s [] there all = tt
+blank_stays s (p ∷ ps) there all =
+    let a = and_parts (is_elsewhere p) (all_true (map is_elsewhere ps)) all in (
+      λ fresh away same. away (ap (seen s.held) (ap hash same ∙ blank_place) ∙ there ∙ sym same),
+      blank_stays (next_state s p (more_of p ps)) ps (put (is_blank p) (hash p == 0) refl refl a.0) a.1,
+    )
+  where
+    put : (b h : Bool) → is_blank p ≡ b → (hash p == 0) ≡ h → (b || not h) ≡ true → (if hash p == 0 then p else seen s.held 0) ≡ blank
+    put b false eb eh t = rw eh there
+    put true true eb eh t = rw eh (pixel_eq-true p blank eb)
+    put false true eb eh t = absurd (true≢false (sym t))

@@ -1,0 +1,55 @@
+-- Repeats that come while some are carried: the full runs of all are written, and those that are left
+-- are carried.
+use Rattle.std.proofs.Common.{◌≡◌, ℕ, zero, suc, Some, ◌+◌, ◌*◌, ◌<◌, ◌≤◌, ◌&&◌, nat_eq, nat_lt, List, ◌++◌, replicate, sym, ap, ◌∙◌, subst, arith, append_assoc}
+use Rattle.std.proofs.lemmas.Bool.{true≢false, lt-ltb, ne_eqb}
+use Rattle.std.specs.List.{slice_get}
+use Rattle.qoi.specs.declared.chunk.Chunk.TheVariants.{Run}
+use Rattle.qoi.specs.declared.encode.carry.Carry.{Carry}
+use Rattle.qoi.specs.declared.types.Style.{Style}
+use Rattle.qoi.specs.Qoi.{RgbaPixel, previous, chunk_bytes}
+use Rattle.qoi.specs.Runs.{runs_by}
+use Rattle.qoi.specs.inner.block.Block.{last_pixel}
+use Rattle.qoi.specs.inner.BlockLoop.{InBlocks}
+use Rattle.qoi.specs.inner.CoderLoop.{Ahead}
+use Rattle.qoi.specs.inner.CoderState.{last_chunk}
+use Rattle.qoi.proofs.format.ChunkSteps.{previous_repeats}
+use Rattle.qoi.proofs.encoding.blocks.BlockWritten.{still_begun, repeats_held}
+use Rattle.qoi.proofs.encoding.coder.CoderLink.{last_carried, begun_by_repeat}
+use Rattle.qoi.proofs.encoding.coder.CoderSteps.{over_repeats, over_full_runs}
+use Rattle.qoi.proofs.encoding.lanes.LaneBits.{not_lt}
+use Rattle.qoi.proofs.encoding.styles.StyledGroup.{placed_repeats}
+
+-- whether there are no full runs
+no_full : (k r : ℕ) → r < 62 → nat_eq (62 * k) 0 ≡ nat_lt (62 * k + r) 62
+no_full zero r few = sym (lt-ltb (62 * 0 + r) 62 (omega (arith, few)))
+no_full (suc k) r few = ne_eqb (62 * suc k) 0 (λ e. omega arith) ∙ sym (not_lt (62 * suc k + r) 62 (omega arith))
+
+-- n repeats more come, which make k full runs with those that are carried
+pub blocks_on : {N : ℕ} {style : Style} {ahead : List ℕ} {size : ℕ} {rest more table : List RgbaPixel} {kept : List ℕ} (carry after : Carry N) (n k : ℕ)
+    → carry.count + n ≡ 62 * k + after.count → after.count < 62 → after.before ≡ carry.before
+    → after.placed ≡ carry.placed && nat_lt (carry.count + n) 62 → (slice_get rest 0 ≡ Some (last_pixel carry.before) → after.count ≤ 45)
+    → slice_get (replicate n (last_pixel carry.before) ++ rest) 0 ≡ Some (last_pixel carry.before)
+    → InBlocks style ahead size (replicate n (last_pixel carry.before) ++ rest) more table carry kept
+    → InBlocks style ahead size rest more table after (kept ++ chunk_bytes (replicate k (Run 62)))
+blocks_on {style = style} {ahead} {size} {rest} {more} {table} {kept} carry after n k sum small same placed few first b =
+    let q = previous b.past in
+    let last : last_pixel carry.before ≡ q = last_carried b.state in
+    let begun = begun_by_repeat b first in
+    let group = replicate (62 * k) q ++ b.past in
+    let named = last_chunk b.before (runs_by (Run 1) (62 * k)) in
+    let again : previous group ≡ q = previous_repeats (62 * k) b.past in
+    let front = append_assoc (replicate n (last_pixel carry.before)) rest more ∙ ap (λ p. replicate n p ++ (rest ++ more)) last in
+    let all = over_repeats n (rest ++ more) (subst (λ ps. Ahead style ahead b.past b.before carry.count ps kept) front b.to_write) in
+    record {
+      past = group;
+      before = named;
+      to_write = over_full_runs k after.count (rest ++ more) (subst (λ m. Ahead style ahead b.past b.before m (rest ++ more) kept) sum all);
+      state = record {
+        table_is = λ i l. b.state.table_is i l ∙ ap Some (sym (repeats_held style (62 * k) b.past begun i));
+        last_is = again ∙ (rw same b.state.last_is);
+        placed_is = λ is. placed ∙ ap (λ m. carry.placed && nat_lt m 62) sum ∙ ap (λ z. carry.placed && z) (sym (no_full k after.count small))
+            ∙ placed_repeats (62 * k) b.past b.before carry.placed (b.state.placed_is is);
+      };
+      opens = λ no. absurd (true≢false (sym (still_begun (62 * k) b.past begun) ∙ no));
+      few = λ e. few (e ∙ ap Some (again ∙ sym last));
+    }

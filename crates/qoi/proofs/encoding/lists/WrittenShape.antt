@@ -1,0 +1,111 @@
+-- What a written list looks like: no two neighbours name one index position, each chunk adds
+-- pixels, and its length is bounded.
+use Rattle.std.proofs.Common.{◌≡◌, inl, inr, ℕ, ◌+◌, ◌*◌, ◌<◌, ◌≤◌, List, [], ◌∷◌, ◌++◌, length, reverse, refl, sym, ap, ◌∙◌, eqb, add-mul, arith}
+use Rattle.std.proofs.lemmas.List.{reverse-reverse, length-append, length-replicate}
+use Rattle.std.proofs.lemmas.Bool.{cond_both}
+use Rattle.qoi.specs.declared.chunk.Chunk.{Chunk}
+use Rattle.qoi.specs.declared.chunk.Chunk.TheVariants.{Place, Diff, Luma, Run, Rgb, Rgba}
+use Rattle.qoi.specs.Qoi.{RgbaPixel, Past, previous, start, seen, hash, IsChunk, AreChunks, bytes_of, chunk_bytes, pixel_after, times, then_chunk, then_chunks, Each}
+use Rattle.qoi.specs.Raw.{AreOpaque, HasChannels}
+use Rattle.qoi.specs.Written.{noted, IsFirst, IsChoice, IsAllowedAfter, WrittenBy}
+use Rattle.qoi.proofs.format.SamePixels.{cases_pixel, same_pixel}
+use Rattle.qoi.proofs.format.ChunkSteps.{times_some, then_chunks_given, length-then_chunks, given, meaning_given, each_back}
+use Rattle.qoi.proofs.encoding.lists.WrittenGrows.{all_back, all_reverse}
+
+-- an index position holds the same after being named
+pub seen_again : (past : Past) (i : ℕ) → seen (seen past i ∷ past) i ≡ seen past i
+seen_again past i = cond_both (eqb (hash (seen past i)) i) (seen past i) (seen past i) (λ x. x ≡ seen past i) (λ _. refl) (λ _. refl)
+
+-- two neighbours never name one index position
+pub apart_by : (Choice : Past → RgbaPixel → Chunk → Type 0) (image : List RgbaPixel) (cs front rest : List Chunk) (i : ℕ) → WrittenBy Choice image cs
+    → cs ≡ front ++ Place i ∷ Place i ∷ rest → ⊥
+apart_by Choice image cs front rest i w e =
+    let r : Each (IsAllowedAfter Choice) [] (front ++ Place i ∷ Place i ∷ rest) = rw e at w.allowed in
+    let s = each_back (IsAllowedAfter Choice) [] front (Place i ∷ Place i ∷ rest) r in
+    s.1.0.is_fresh (seen_again (then_chunks [] front) i)
+
+-- there are at least as many pixels after chunks
+length_grows : (past : Past) (cs : List Chunk) → length past ≤ length (then_chunks past cs)
+length_grows past cs = let l = length-then_chunks past cs in omega arith
+
+-- before each chunk there are fewer pixels than at the end
+pub stay_below : (past : Past) (cs : List Chunk) (n : ℕ) → AreChunks cs → length (then_chunks past cs) ≡ n → Each (λ past c. length past < n) past cs
+stay_below past [] n a e = tt
+stay_below past (c ∷ cs) n a e =
+    let s = times_some c a.0 in
+    let g = length_grows (then_chunk past c) cs in
+    let l : length (then_chunk past c) ≡ times c + length past = simp (length-append, length-replicate) in
+    (omega arith, stay_below (then_chunk past c) cs n a.1 e)
+
+-- the pixel before the next one is opaque, if all are
+opaque_previous : (past : Past) → AreOpaque past → (previous past).a ≡ 255
+unfolding start
+opaque_previous [] h = refl
+opaque_previous (p ∷ past) h = h.0
+
+-- the pixels before chunks are opaque, if those after them are
+opaque_before : (past : Past) (cs : List Chunk) → AreOpaque (then_chunks past cs) → AreOpaque past
+opaque_before past cs h = all_back (λ p. p.a ≡ 255) (reverse (given past cs)) past (rw (then_chunks_given past cs) at h)
+
+-- if alpha stays, a pixel isn't spelled out by an Rgba
+no_rgba : (past : Past) (r g b a : ℕ) → IsChunk (Rgba r g b a) → a ≡ (previous past).a → IsFirst past (pixel_after past (Rgba r g b a)) (Rgba r g b a) → ⊥
+no_rgba past r g b a i e f =
+    let l = f.first (Rgb r g b) (i.0, i.1, i.2) (omega arith) (same_pixel _ _ refl refl refl (sym e)) in
+    omega arith
+
+-- pixels before chunks have as many channels as those after them
+pub channels_before : (channels : ℕ) (past : Past) (cs : List Chunk) → HasChannels (then_chunks past cs) channels → HasChannels past channels
+channels_before channels past cs (inl e) = inl e
+channels_before channels past cs (inr (e, h)) = inr (e, opaque_before past cs h)
+
+module _ (Choice : Past → RgbaPixel → Chunk → Type 0) (rgba_first : (past : Past) (r g b a : ℕ) → Choice past (pixel_after past (Rgba r g b a)) (Rgba r g b a)
+    → IsFirst past (pixel_after past (Rgba r g b a)) (Rgba r g b a)) where
+  -- a chunk has at most a byte a pixel more than its pixels' raw bytes
+  pub chunk_fits : (channels : ℕ) (past : Past) (c : Chunk) → IsChunk c → HasChannels (then_chunk past c) channels → IsAllowedAfter Choice past c
+      → length (bytes_of c) ≤ times c * channels + times c
+  chunk_fits channels past (Place i) k h r = omega arith
+  chunk_fits channels past (Diff d) k h r = omega arith
+  chunk_fits channels past (Luma d e) k (inl s) r = omega arith
+  chunk_fits channels past (Luma d e) k (inr s) r = let t = s.0 in omega arith
+  chunk_fits channels past (Run n) k h r = let l = k.0 in omega arith
+  chunk_fits channels past (Rgb x y z) k (inl s) r = omega arith
+  chunk_fits channels past (Rgb x y z) k (inr s) r = let t = s.0 in omega arith
+  chunk_fits channels past (Rgba x y z w) k (inl s) r = omega arith
+  chunk_fits channels past (Rgba x y z w) k (inr s) r =
+      absurd (no_rgba past x y z w k (s.1.0 ∙ sym (opaque_previous past s.1.1)) (rgba_first past x y z w r.is_chosen))
+
+  -- so have chunks
+  chunks_fit : (channels : ℕ) (past : Past) (cs : List Chunk) → AreChunks cs → HasChannels (then_chunks past cs) channels → Each (IsAllowedAfter Choice) past cs
+      → length (chunk_bytes cs) ≤ length (given past cs) * channels + length (given past cs)
+  chunks_fit channels past [] k h r = omega arith
+  chunks_fit channels past (c ∷ cs) k h r =
+      let one = chunk_fits channels past c k.0 (channels_before channels (then_chunk past c) cs h) r.0 in
+      let more = chunks_fit channels (then_chunk past c) cs k.1 h r.1 in
+      let l : length (given past (c ∷ cs)) ≡ times c + length (given (then_chunk past c) cs) = simp (length-append, length-replicate) in
+      let t : length (chunk_bytes (c ∷ cs)) ≡ length (bytes_of c) + length (chunk_bytes cs) = simp length-append in
+      let m = add-mul (times c) (length (given (then_chunk past c) cs)) channels in
+      rw (l, t) (omega arith)
+
+  -- a written list has at most a byte a pixel more than the raw bytes
+  pub fits_by : (image : List RgbaPixel) (channels n : ℕ) (cs : List Chunk) → HasChannels image channels → length image ≡ n → WrittenBy Choice image cs
+      → length (chunk_bytes cs) ≤ n * channels + n
+  fits_by image channels n cs h e w =
+      let g : length (given [] cs) ≡ n = ap length (sym (meaning_given cs) ∙ w.means) ∙ e in
+      let k = chunks_fit channels [] cs w.chunks (back h) w.allowed in
+      rw g at k
+    where
+      past_is : reverse image ≡ then_chunks [] cs
+      past_is = ap reverse (sym w.means) ∙ reverse-reverse (then_chunks [] cs)
+
+      back : HasChannels image channels → HasChannels (then_chunks [] cs) channels
+      back (inl s) = inl s
+      back (inr s) = inr (s.0, rw past_is at (all_reverse (λ p. p.a ≡ 255) image s.1))
+
+-- an Rgba that is chosen is the first that spells its pixel out
+pub choice_rgba : (past : Past) (r g b a : ℕ) → IsChoice past (pixel_after past (Rgba r g b a)) (Rgba r g b a)
+    → IsFirst past (pixel_after past (Rgba r g b a)) (Rgba r g b a)
+choice_rgba past r g b a w = elim (cases_pixel (noted past (hash (pixel_after past (Rgba r g b a)))) (pixel_after past (Rgba r g b a))) as
+    (λ _. IsFirst past (pixel_after past (Rgba r g b a)) (Rgba r g b a)) [
+      | inl is ↦ absurd (let e = w.place is in cc)
+      | inr n ↦ w.spelled n
+    ]

@@ -1,0 +1,209 @@
+-- A block's chunks, of which each is stored from a number.
+use Rattle.std.proofs.Common.{◌≡◌, ℕ, zero, suc, ◌+◌, ◌*◌, ◌%◌, ◌<◌, ◌≤◌, ◌||◌, if◌then◌else◌, Bool, true, false, List, [], ◌∷◌, ◌++◌, length, map, take, drop, replicate, slice_index, append_assoc, append-nil, bit_and, refl, sym, ap, ◌∙◌, arith}
+use Rattle.std.specs.Prelude.{min, max}
+use Rattle.std.specs.List.{AllByRecursion}
+use lib.Lanes.{sum_l, number_l, zip2}
+use Rattle.qoi.specs.declared.encode.block.planes.Words.{Words}
+use Rattle.qoi.specs.Qoi.{RgbaPixel, IsPixel, pixel, hash}
+use Rattle.qoi.specs.inner.block.Bytes.{firsts, sizes}
+use Rattle.qoi.specs.inner.block.Lanes.{Lane, AreLanes, mask, fits_luma, fits_diff, same_alpha, as_diff, as_luma, first_of, second_of, second_by, first_by, size_by}
+use Rattle.qoi.specs.inner.block.State.{is_rep, goes_on}
+use Rattle.qoi.specs.inner.Packed.{word}
+use Rattle.qoi.specs.inner.block.Planes.{AreBlockWords, reds, greens, blues, alphas}
+use Rattle.qoi.specs.inner.block.Storing.{AreSizes, chunk_of, four_chunks, sixteen_chunks}
+use Rattle.std.proofs.lemmas.Nat.{and_le_r}
+use Rattle.qoi.proofs.format.SamePixels.{hash_below}
+use Rattle.qoi.proofs.encoding.blocks.ReferenceBytes.{chunks_of}
+use Rattle.qoi.proofs.encoding.stores.SizeHalves.{chunk_is}
+
+-- each lane's chunk as a pixel: first and second byte, green and blue
+abbrev pub chunk_pixels : List Lane → List ℕ → List RgbaPixel
+chunk_pixels [] fs = []
+chunk_pixels (l ∷ ls) [] = []
+chunk_pixels (l ∷ ls) (f ∷ fs) = pixel f (second_of l) l.px.g l.px.b ∷ chunk_pixels ls fs
+
+-- there are as many as lanes
+pub pixels_long : (ls : List Lane) (fs : List ℕ) → length fs ≡ length ls → length (chunk_pixels ls fs) ≡ length ls
+pixels_long [] fs e = refl
+pixels_long (l ∷ ls) [] e = absurd (omega arith)
+pixels_long (l ∷ ls) (f ∷ fs) e = ap (λ n. suc n) (pixels_long ls fs (omega arith))
+
+-- the first bytes
+pub first_plane : (ls : List Lane) (fs : List ℕ) → length fs ≡ length ls → fs ≡ reds (chunk_pixels ls fs)
+first_plane [] [] e = refl
+first_plane [] (f ∷ fs) e = absurd (omega arith)
+first_plane (l ∷ ls) [] e = absurd (omega arith)
+first_plane (l ∷ ls) (f ∷ fs) e = ap (λ z. f ∷ z) (first_plane ls fs (omega arith))
+
+-- the second bytes
+pub second_plane : (ls : List Lane) (fs : List ℕ) → length fs ≡ length ls → map second_of ls ≡ greens (chunk_pixels ls fs)
+second_plane [] fs e = refl
+second_plane (l ∷ ls) [] e = absurd (omega arith)
+second_plane (l ∷ ls) (f ∷ fs) e = ap (λ z. second_of l ∷ z) (second_plane ls fs (omega arith))
+
+-- green
+pub green_plane : (ls : List Lane) (fs : List ℕ) → length fs ≡ length ls → map (λ l. l.px.g) ls ≡ blues (chunk_pixels ls fs)
+green_plane [] fs e = refl
+green_plane (l ∷ ls) [] e = absurd (omega arith)
+green_plane (l ∷ ls) (f ∷ fs) e = ap (λ z. l.px.g ∷ z) (green_plane ls fs (omega arith))
+
+-- and blue
+pub blue_plane : (ls : List Lane) (fs : List ℕ) → length fs ≡ length ls → map (λ l. l.px.b) ls ≡ alphas (chunk_pixels ls fs)
+blue_plane [] fs e = refl
+blue_plane (l ∷ ls) [] e = absurd (omega arith)
+blue_plane (l ∷ ls) (f ∷ fs) e = ap (λ z. l.px.b ∷ z) (blue_plane ls fs (omega arith))
+
+-- a second byte is one
+pub second_small : (b : Bool) (w p : RgbaPixel) → IsPixel p → second_by b w p < 256
+second_small true w p i = omega arith
+second_small false w p i = i.r
+
+-- a first byte is one
+pub first_small : (st d l k : Bool) (h : ℕ) (s w : RgbaPixel) → h < 64 → (if st then h else first_by d l k s w) < 256
+first_small true d l k h s w lt = omega arith
+first_small false true l k h s w lt = omega arith
+first_small false false true k h s w lt = omega arith
+first_small false false false true h s w lt = omega arith
+first_small false false false false h s w lt = omega arith
+
+-- a first byte, or that of a run
+pub over_small : (f m x : ℕ) → f < 256 → max f (bit_and m (x % 256)) < 256
+over_small f m x l = omega (arith, and_le_r m (x % 256))
+
+-- first bytes and lanes make pixels
+pub pixels_are : (c : ℕ) (ls : List Lane) → AreLanes ls → AllByRecursion IsPixel (chunk_pixels ls (firsts c ls))
+pixels_are c [] a = tt
+pixels_are c (l ∷ ls) a =
+    let n = if is_rep l then suc c else 0 in
+    let i = a.0.px_is in (
+      record {
+        r = over_small (first_of l) (mask (is_rep l)) (n + 191) (first_small l.stands (fits_diff l) (fits_luma l) (same_alpha l) (hash l.px) (as_diff l) (as_luma l) (hash_below l.px));
+        g = second_small (fits_luma l) (as_luma l) l.px i;
+        b = i.g;
+        a = i.b;
+      },
+      pixels_are n ls a.1,
+    )
+
+-- there are as many first bytes as lanes
+pub firsts_long : (c : ℕ) (ls : List Lane) → length (firsts c ls) ≡ length ls
+firsts_long c [] = refl
+firsts_long c (l ∷ ls) = ap (λ n. suc n) (firsts_long (if is_rep l then suc c else 0) ls)
+
+-- and sizes
+pub sizes_long : (ls : List Lane) → length (sizes ls) ≡ length ls
+sizes_long [] = refl
+sizes_long (l ∷ ls) = ap (λ n. suc n) (sizes_long ls)
+
+-- a size is at most 5, less one for a repeat that goes on
+one_few : (st l k r g : Bool) → (size_by st l k + bit_and (mask r) (mask g)) % 256 ≤ 5
+one_few true l k true true = omega arith
+one_few true l k true false = omega arith
+one_few true l k false true = omega arith
+one_few true l k false false = omega arith
+one_few false true k true true = omega arith
+one_few false true k true false = omega arith
+one_few false true k false true = omega arith
+one_few false true k false false = omega arith
+one_few false false true true true = omega arith
+one_few false false true true false = omega arith
+one_few false false true false true = omega arith
+one_few false false true false false = omega arith
+one_few false false false true true = omega arith
+one_few false false false true false = omega arith
+one_few false false false false true = omega arith
+one_few false false false false false = omega arith
+
+-- each of them
+pub sizes_few : (ls : List Lane) (k : ℕ) → slice_index (sizes ls) k ≤ 5
+sizes_few [] k = omega arith
+sizes_few (l ∷ ls) zero = one_few (l.stands || fits_diff l) (fits_luma l) (same_alpha l) (is_rep l) (goes_on ls)
+sizes_few (l ∷ ls) (suc k) = sizes_few ls k
+
+-- the first of few
+pub take_few : (n m : ℕ) (ss : List ℕ) → ((k : ℕ) → slice_index ss k ≤ m) → (k : ℕ) → slice_index (take n ss) k ≤ m
+take_few zero m ss few k = omega arith
+take_few (suc n) m [] few k = omega arith
+take_few (suc n) m (s ∷ ss) few zero = few 0
+take_few (suc n) m (s ∷ ss) few (suc k) = take_few n m ss (λ j. few (suc j)) k
+
+-- the others
+pub drop_few : (n m : ℕ) (ss : List ℕ) → ((k : ℕ) → slice_index ss k ≤ m) → (k : ℕ) → slice_index (drop n ss) k ≤ m
+drop_few zero m ss few k = few k
+drop_few (suc n) m [] few k = omega arith
+drop_few (suc n) m (s ∷ ss) few k = drop_few n m ss (λ j. few (suc j)) k
+
+-- the sum of the first n
+pub first_few : (n : ℕ) (ss : List ℕ) → ((k : ℕ) → slice_index ss k ≤ 5) → sum_l (take n ss) ≤ 5 * n
+first_few zero ss few = omega arith
+first_few (suc n) [] few = omega arith
+first_few (suc n) (s ∷ ss) few = omega (arith, few 0, first_few n ss (λ k. few (suc k)))
+
+-- the lesser of each size and a number that none is more than
+pub lesser_few : (n m : ℕ) (ss : List ℕ) → length ss ≡ n → ((k : ℕ) → slice_index ss k ≤ m) → zip2 min ss (replicate n m) ≡ ss
+lesser_few zero m [] long few = refl
+lesser_few zero m (s ∷ ss) long few = absurd (omega arith)
+lesser_few (suc n) m [] long few = absurd (omega arith)
+lesser_few (suc n) m (s ∷ ss) long few =
+    let same : min s m ≡ s = omega (arith, few 0) in
+    λ i. same i ∷ lesser_few n m ss (omega arith) (λ k. few (suc k)) i
+
+-- it is at most that number, whatever the sizes are
+pub lesser_most : (n m : ℕ) (ss : List ℕ) (k : ℕ) → slice_index (zip2 min ss (replicate n m)) k ≤ m
+lesser_most n m [] k = omega arith
+lesser_most zero m (s ∷ ss) k = omega arith
+lesser_most (suc n) m (s ∷ ss) zero = omega arith
+lesser_most (suc n) m (s ∷ ss) (suc k) = lesser_most n m ss k
+
+-- their sum
+sum_few : (ss : List ℕ) → ((k : ℕ) → slice_index ss k ≤ 5) → sum_l ss ≤ 5 * length ss
+sum_few [] few = omega arith
+sum_few (s ∷ ss) few = omega (arith, few 0, sum_few ss (λ k. few (suc k)))
+
+-- eight sizes as bytes of a number
+pub eight_sizes : (ss : List ℕ) (n : ℕ) → length ss ≡ 8 → ((k : ℕ) → slice_index ss k ≤ 5) → n ≡ number_l 256 ss → AreSizes ss n
+eight_sizes ss n long few is = record { eight = long; few = omega (arith, sum_few ss few); is = is }
+
+-- a lane's chunk of s bytes, of which f is the first
+abbrev lane_chunk : Lane → ℕ → ℕ → List ℕ
+lane_chunk l f s = take s (f ∷ second_of l ∷ l.px.g ∷ l.px.b ∷ l.px.a ∷ [])
+
+-- it is stored from the pixel of its first four bytes
+one_part : (l : Lane) (f s : ℕ) → IsPixel (pixel f (second_of l) l.px.g l.px.b) → chunk_of s (word (pixel f (second_of l) l.px.g l.px.b)) l.px.a ≡ lane_chunk l f s
+one_part l f s i = chunk_is (pixel f (second_of l) l.px.g l.px.b) l.px.a s i
+
+-- four parts and what follows
+regroup : (a b c d e : List ℕ) → (a ++ (b ++ (c ++ d))) ++ e ≡ a ++ (b ++ (c ++ (d ++ e)))
+regroup a b c d e = append_assoc a (b ++ (c ++ d)) e ∙ ap (λ z. a ++ z) (append_assoc b (c ++ d) e ∙ ap (λ z. b ++ z) (append_assoc c d e))
+
+-- four lanes' chunks, and those that follow
+four_parts : (k l m n : Lane) (e f g h s t u v : ℕ) (ls : List Lane) (fs ss : List ℕ)
+    → AllByRecursion IsPixel (chunk_pixels (k ∷ l ∷ m ∷ n ∷ ls) (e ∷ f ∷ g ∷ h ∷ fs))
+    → four_chunks (s ∷ t ∷ u ∷ v ∷ []) (map word (chunk_pixels (k ∷ l ∷ m ∷ n ∷ []) (e ∷ f ∷ g ∷ h ∷ []))) (map (λ (l : Lane). l.px.a) (k ∷ l ∷ m ∷ n ∷ [])) 0 ++ chunks_of ls fs ss
+    ≡ chunks_of (k ∷ l ∷ m ∷ n ∷ ls) (e ∷ f ∷ g ∷ h ∷ fs) (s ∷ t ∷ u ∷ v ∷ ss)
+four_parts k l m n e f g h s t u v ls fs ss i =
+    (λ j. (one_part k e s i.0 j ++ (one_part l f t i.1.0 j ++ (one_part m g u i.1.1.0 j ++ one_part n h v i.1.1.1.0 j))) ++ chunks_of ls fs ss)
+    ∙ regroup (lane_chunk k e s) (lane_chunk l f t) (lane_chunk m g u) (lane_chunk n h v) (chunks_of ls fs ss)
+
+-- all sixteen
+pub sixteen_parts : (ls : List Lane) (fs ss bs : List ℕ) (words : Words) → length ls ≡ 16 → length fs ≡ 16 → length ss ≡ 16
+    → bs ≡ map (λ l. l.px.a) ls → AllByRecursion IsPixel (chunk_pixels ls fs) → AreBlockWords (chunk_pixels ls fs) words
+    → sixteen_chunks ss words bs ≡ chunks_of ls fs ss
+sixteen_parts (l0 ∷ l1 ∷ l2 ∷ l3 ∷ l4 ∷ l5 ∷ l6 ∷ l7 ∷ l8 ∷ l9 ∷ l10 ∷ l11 ∷ l12 ∷ l13 ∷ l14 ∷ l15 ∷ []) (f0 ∷ f1 ∷ f2 ∷ f3 ∷ f4 ∷ f5 ∷ f6 ∷ f7 ∷ f8 ∷ f9 ∷ f10 ∷ f11 ∷ f12 ∷ f13 ∷ f14 ∷ f15 ∷ []) (s0 ∷ s1 ∷ s2 ∷ s3 ∷ s4 ∷ s5 ∷ s6 ∷ s7 ∷ s8 ∷ s9 ∷ s10 ∷ s11 ∷ s12 ∷ s13 ∷ s14 ∷ s15 ∷ []) bs words ll lf ls ea i are =
+    let all : List ℕ = s0 ∷ s1 ∷ s2 ∷ s3 ∷ s4 ∷ s5 ∷ s6 ∷ s7 ∷ s8 ∷ s9 ∷ s10 ∷ s11 ∷ s12 ∷ s13 ∷ s14 ∷ s15 ∷ [] in
+    let bytes : List ℕ = map (λ (l : Lane). l.px.a) (l0 ∷ l1 ∷ l2 ∷ l3 ∷ l4 ∷ l5 ∷ l6 ∷ l7 ∷ l8 ∷ l9 ∷ l10 ∷ l11 ∷ l12 ∷ l13 ∷ l14 ∷ l15 ∷ []) in
+    let c0 = four_chunks all (map word (chunk_pixels (l0 ∷ l1 ∷ l2 ∷ l3 ∷ []) (f0 ∷ f1 ∷ f2 ∷ f3 ∷ []))) bytes 0 in
+    let c1 = four_chunks all (map word (chunk_pixels (l4 ∷ l5 ∷ l6 ∷ l7 ∷ []) (f4 ∷ f5 ∷ f6 ∷ f7 ∷ []))) bytes 4 in
+    let c2 = four_chunks all (map word (chunk_pixels (l8 ∷ l9 ∷ l10 ∷ l11 ∷ []) (f8 ∷ f9 ∷ f10 ∷ f11 ∷ []))) bytes 8 in
+    let c3 = four_chunks all (map word (chunk_pixels (l12 ∷ l13 ∷ l14 ∷ l15 ∷ []) (f12 ∷ f13 ∷ f14 ∷ f15 ∷ []))) bytes 12 in
+    let rest3 = four_parts l12 l13 l14 l15 f12 f13 f14 f15 s12 s13 s14 s15 [] [] [] i.1.1.1.1.1.1.1.1.1.1.1.1 in
+    let rest2 = four_parts l8 l9 l10 l11 f8 f9 f10 f11 s8 s9 s10 s11 (l12 ∷ l13 ∷ l14 ∷ l15 ∷ []) (f12 ∷ f13 ∷ f14 ∷ f15 ∷ []) (s12 ∷ s13 ∷ s14 ∷ s15 ∷ []) i.1.1.1.1.1.1.1.1 in
+    let rest1 = four_parts l4 l5 l6 l7 f4 f5 f6 f7 s4 s5 s6 s7 (l8 ∷ l9 ∷ l10 ∷ l11 ∷ l12 ∷ l13 ∷ l14 ∷ l15 ∷ []) (f8 ∷ f9 ∷ f10 ∷ f11 ∷ f12 ∷ f13 ∷ f14 ∷ f15 ∷ []) (s8 ∷ s9 ∷ s10 ∷ s11 ∷ s12 ∷ s13 ∷ s14 ∷ s15 ∷ []) i.1.1.1.1 in
+    let rest0 = four_parts l0 l1 l2 l3 f0 f1 f2 f3 s0 s1 s2 s3 (l4 ∷ l5 ∷ l6 ∷ l7 ∷ l8 ∷ l9 ∷ l10 ∷ l11 ∷ l12 ∷ l13 ∷ l14 ∷ l15 ∷ []) (f4 ∷ f5 ∷ f6 ∷ f7 ∷ f8 ∷ f9 ∷ f10 ∷ f11 ∷ f12 ∷ f13 ∷ f14 ∷ f15 ∷ []) (s4 ∷ s5 ∷ s6 ∷ s7 ∷ s8 ∷ s9 ∷ s10 ∷ s11 ∷ s12 ∷ s13 ∷ s14 ∷ s15 ∷ []) i in
+    (λ j. four_chunks all (are.one_are j) (ea j) 0 ++ (four_chunks all (are.two_are j) (ea j) 4
+    ++ (four_chunks all (are.three_are j) (ea j) 8 ++ four_chunks all (are.four_are j) (ea j) 12)))
+    ∙ ap (λ z. c0 ++ (c1 ++ (c2 ++ z))) (sym (append-nil c3) ∙ rest3)
+    ∙ ap (λ z. c0 ++ (c1 ++ z)) rest2 ∙ ap (λ z. c0 ++ z) rest1 ∙ rest0
+sixteen_parts (l0 ∷ l1 ∷ l2 ∷ l3 ∷ l4 ∷ l5 ∷ l6 ∷ l7 ∷ l8 ∷ l9 ∷ l10 ∷ l11 ∷ l12 ∷ l13 ∷ l14 ∷ l15 ∷ []) (f0 ∷ f1 ∷ f2 ∷ f3 ∷ f4 ∷ f5 ∷ f6 ∷ f7 ∷ f8 ∷ f9 ∷ f10 ∷ f11 ∷ f12 ∷ f13 ∷ f14 ∷ f15 ∷ []) ss bs words ll lf ls ea i are = absurd (omega arith)
+sixteen_parts (l0 ∷ l1 ∷ l2 ∷ l3 ∷ l4 ∷ l5 ∷ l6 ∷ l7 ∷ l8 ∷ l9 ∷ l10 ∷ l11 ∷ l12 ∷ l13 ∷ l14 ∷ l15 ∷ []) fs ss bs words ll lf ls ea i are = absurd (omega arith)
+sixteen_parts ls fs ss bs words ll lf ls2 ea i are = absurd (omega arith)

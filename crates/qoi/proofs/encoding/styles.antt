@@ -1,0 +1,6 @@
+-- Lemmas on what each style chooses.
+pub mod Choices
+pub mod PlacedLists
+pub mod StyleLists
+pub mod StyledGroup
+pub mod TightChoice

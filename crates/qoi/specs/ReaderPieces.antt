@@ -1,0 +1,46 @@
+-- What stands between two pieces of an image.
+use Rattle.std.specs.Prelude.{◌≡◌, ℕ, ◌+◌, ◌-◌, ◌*◌, ◌%◌, ◌<◌, ◌≤◌, List, [], ◌++◌, length, take, drop, reverse, Option}
+use Rattle.std.specs.Io.KnownBytes.{Consumes}
+use Rattle.qoi.specs.declared.chunk.Chunk.{Chunk}
+use Rattle.qoi.specs.declared.decode.pixel_reader.pieces.Pieces.{Pieces}
+use Rattle.qoi.specs.Qoi.{Past, previous, AreChunks, chunk_bytes, then_chunks}
+use Rattle.qoi.specs.Raw.{output}
+use Rattle.qoi.specs.Decoding.{ReadsImage}
+use Rattle.qoi.specs.inner.Hashed.{pixel_of_lanes, HoldsSeen}
+
+-- the bytes that are decoded and weren't given yet
+abbrev pub kept : Pieces → List ℕ
+kept p = take (p.to - p.from) (drop p.from p.bytes)
+
+-- how many bytes of the image weren't given yet
+abbrev pub bytes_left : Pieces → ℕ
+bytes_left p = (p.to - p.from) + p.undecoded
+
+-- the kept bytes lie in their array
+abbrev pub KeepsWithin : Pieces → Type 0
+KeepsWithin p = (p.from ≤ p.to) × (p.to ≤ length p.bytes)
+
+-- and those that aren't decoded are whole pixels
+abbrev pub KeepsPixels : ℕ → Pieces → Type 0
+KeepsPixels channels p = KeepsWithin p × (p.undecoded % channels ≡ 0)
+
+-- Chunks of these pixels were taken, and table and last pixel are theirs. `Taken` says which bytes
+-- were taken.
+pub record DecoderAfter (Taken : List ℕ → Type 0) (table : List ℕ) (last : ℕ) (gone : Past) : Type 0 where
+  pub cs : List Chunk
+  pub chunks : AreChunks cs
+  pub pixels : then_chunks [] cs ≡ gone
+  pub taken : Taken (chunk_bytes cs)
+  pub table_is : HoldsSeen table gone
+  pub last_is : pixel_of_lanes last ≡ previous gone
+
+-- Of an image of n pixels, which begins with the bytes `start`, these bytes were given, and `now` is
+-- ahead.
+pub record GivesPieces (file_channels channels n : ℕ) (start now : Option (List ℕ)) (given : List ℕ) (p : Pieces) : Type 0 where
+  pub within : KeepsWithin p
+  pub size : length given + bytes_left p ≡ channels * n
+  -- pixels are missing, and all bytes of those so far were given or are kept
+  pub goes_on : 0 < p.undecoded → (gone : Past) × DecoderAfter (Consumes start now) p.table p.last gone
+      × (given ++ kept p ≡ output file_channels channels (reverse gone))
+  -- or the image and the end marker were read
+  pub ends : p.undecoded ≡ 0 → ReadsImage file_channels channels n start now (given ++ kept p)

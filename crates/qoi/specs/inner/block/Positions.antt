@@ -1,0 +1,41 @@
+-- Pixels that are put at their index positions, one after the other, and which of them stood there.
+use Rattle.std.specs.Prelude.{◌≡◌, ℕ, Bool, List, [], ◌∷◌, map}
+use Rattle.qoi.specs.Qoi.{RgbaPixel, Past, seen, hash, pixel_eq}
+use Rattle.qoi.specs.inner.block.Lanes.{mask}
+use Rattle.qoi.specs.inner.block.Planes.{AreFourWords}
+use Rattle.qoi.specs.inner.Table.{Holds}
+
+-- what is seen at each pixel's index position when it is put
+abbrev pub seen_before : Past → List RgbaPixel → List RgbaPixel
+seen_before held [] = []
+seen_before held (p ∷ ps) = seen held (hash p) ∷ seen_before (p ∷ held) ps
+
+-- the pixels that were put, once all are
+abbrev pub put_all : Past → List RgbaPixel → Past
+put_all held [] = held
+put_all held (p ∷ ps) = put_all (p ∷ held) ps
+
+-- whether each is the same as the one beside it
+abbrev pub all_same : List RgbaPixel → List RgbaPixel → List Bool
+all_same [] ps = []
+all_same (q ∷ qs) [] = []
+all_same (q ∷ qs) (p ∷ ps) = pixel_eq q p ∷ all_same qs ps
+
+-- whether each stands at its index position when it is put
+abbrev pub stand_tests : Past → List RgbaPixel → List Bool
+stand_tests held ps = all_same (seen_before held ps) ps
+
+-- each four times, as a byte
+abbrev pub four_times : List Bool → List ℕ
+four_times [] = []
+four_times (b ∷ bs) = mask b ∷ mask b ∷ mask b ∷ mask b ∷ four_times bs
+
+-- four pixels were put: what was found, and what the table holds then
+pub record HasPut (held : Past) (ps : List RgbaPixel) (found : List ℕ) (table : List RgbaPixel) : Type 0 where
+  pub found_are : AreFourWords (seen_before held ps) found
+  pub holds : Holds table (put_all held ps)
+
+-- sixteen pixels were put: which of them stood there, and what the table holds then
+pub record HasPutBlock (held : Past) (ps : List RgbaPixel) (stands : List ℕ) (table : List RgbaPixel) : Type 0 where
+  pub stands_are : stands ≡ map mask (stand_tests held ps)
+  pub holds : Holds table (put_all held ps)

@@ -1,0 +1,129 @@
+//! Readers whose images are decoded piece by piece.
+ghost use Rattle.std.specs.Io.KnownBytes.{Keeps};
+ghost use Rattle.std.specs.Prelude.{◌≡◌, ℕ, ◌+◌, ◌-◌, ◌<◌, ◌≤◌, List, ◌++◌, length, take, Option, Some, Ok, true, IsTrue, IfOk, IfErr, OnOk, OnErr};
+ghost use Rattle.qoi.specs.Raw.{AreChannels};
+ghost use Rattle.qoi.specs.ReaderPieces.{bytes_left, KeepsPixels, GivesPieces};
+ghost use Rattle.qoi.specs.declared.error.Error.{Error};
+ghost use Rattle.qoi.specs.inner.Chunks.{RefusesChunks};
+
+use crate::decode::pixel_reader::pieces::Pieces;
+use crate::decode::reader::{Buffered, Bytes, Reader};
+use crate::error::{Error, Result};
+use std::io::{BufRead, Read};
+
+/// A reader whose images can be decoded piece by piece.
+pub trait PieceReader: Reader {
+    /// Decodes the next bytes of an image, while none are kept: into the front of `out`, and
+    /// returns how many; the rest of `out`, and more, are kept. With the last ones it takes the end
+    /// marker.
+    fn decode_piece(
+        &mut self,
+        pieces: &mut Pieces,
+        out: &mut [u8],
+        channels: u8,
+        file_channels: u8,
+    ) -> Result<usize>
+        requires channels { AreChannels file_channels channels }
+        requires none { pieces.old.from ≡ pieces.old.to }
+        requires fits { length out.old ≤ bytes_left pieces.old }
+        requires pixels { KeepsPixels channels pieces.old }
+        ensures read { (n : ℕ) (start : Option (List ℕ)) (given : List ℕ)
+            → GivesPieces file_channels channels n start (Self.ahead self.old) given pieces.old
+            → IfOk result (λ size. GivesPieces file_channels channels n start
+            (Self.ahead self.new) (given ++ take size out.new) pieces.new) }
+        ensures refused { (n : ℕ) (start : Option (List ℕ)) (given : List ℕ)
+            → GivesPieces file_channels channels n start (Self.ahead self.old) given pieces.old
+            → IfErr result (RefusesChunks Self.in_memory n start (Self.ahead self.new)) }
+        ensures within { IfOk result (λ size. size ≤ length out.new) }
+        ensures enough { IfOk result (λ size.
+            length out.new ≤ size + (pieces.new.to - pieces.new.from)) }
+        ensures pixels { OnOk result (KeepsPixels channels pieces.new) }
+        ensures left { IfOk result (λ size. size + bytes_left pieces.new ≡ bytes_left pieces.old) }
+        ensures kept { IsTrue Self.in_memory
+            → OnErr result (Keeps (Self.ahead self.old) (Self.ahead self.new)) };
+}
+
+// Decodes the next bytes of an image in memory.
+fn piece_of_bytes(
+    bytes: &mut Bytes,
+    pieces: &mut Pieces,
+    out: &mut [u8],
+    channels: u8,
+    file_channels: u8,
+) -> Result<usize>
+    requires channels { AreChannels file_channels channels }
+    requires none { pieces.old.from ≡ pieces.old.to }
+    requires fits { length out.old ≤ bytes_left pieces.old }
+    requires pixels { KeepsPixels channels pieces.old }
+    ensures read { (n : ℕ) (start : Option (List ℕ)) (given : List ℕ)
+        → GivesPieces file_channels channels n start (Some bytes.old) given pieces.old
+        → IfOk result (λ size. GivesPieces file_channels channels n start
+        (Some bytes.new) (given ++ take size out.new) pieces.new) }
+    ensures refused { (n : ℕ) (start : Option (List ℕ)) (given : List ℕ)
+        → GivesPieces file_channels channels n start (Some bytes.old) given pieces.old
+        → IfErr result (RefusesChunks true n start (Some bytes.new)) }
+    ensures within { IfOk result (λ size. size ≤ length out.new) }
+    ensures enough { IfOk result (λ size.
+        length out.new ≤ size + (pieces.new.to - pieces.new.from)) }
+    ensures pixels { OnOk result (KeepsPixels channels pieces.new) }
+    ensures left { IfOk result (λ size. size + bytes_left pieces.new ≡ bytes_left pieces.old) }
+{
+    match (channels, file_channels) {
+        (3, 3) => pieces.decode_more::<Bytes, 3, 3>(bytes, out),
+        (3, 4) => pieces.decode_more::<Bytes, 3, 3>(bytes, out),
+        (4, 3) => pieces.decode_more::<Bytes, 4, 3>(bytes, out),
+        (4, 4) => pieces.decode_more::<Bytes, 4, 4>(bytes, out),
+        _ => Err(Error::InvalidChannels { channels }),
+    }
+}
+
+impl<'a> PieceReader for Bytes<'a> {
+    fn decode_piece(
+        &mut self,
+        pieces: &mut Pieces,
+        out: &mut [u8],
+        channels: u8,
+        file_channels: u8,
+    ) -> Result<usize> {
+        let mut bytes = Bytes(self.0);
+        let size = piece_of_bytes(&mut bytes, pieces, out, channels, file_channels)?;
+        self.0 = bytes.0;
+        Ok(size)
+    }
+}
+
+impl<R: Read> PieceReader for R {
+    fn decode_piece(
+        &mut self,
+        pieces: &mut Pieces,
+        out: &mut [u8],
+        channels: u8,
+        file_channels: u8,
+    ) -> Result<usize> {
+        match (channels, file_channels) {
+            (3, 3) => pieces.decode_more::<R, 3, 3>(self, out),
+            (3, 4) => pieces.decode_more::<R, 3, 3>(self, out),
+            (4, 3) => pieces.decode_more::<R, 4, 3>(self, out),
+            (4, 4) => pieces.decode_more::<R, 4, 4>(self, out),
+            _ => Err(Error::InvalidChannels { channels }),
+        }
+    }
+}
+
+impl<R: BufRead> PieceReader for Buffered<R> {
+    fn decode_piece(
+        &mut self,
+        pieces: &mut Pieces,
+        out: &mut [u8],
+        channels: u8,
+        file_channels: u8,
+    ) -> Result<usize> {
+        match (channels, file_channels) {
+            (3, 3) => pieces.decode_more::<Buffered<R>, 3, 3>(self, out),
+            (3, 4) => pieces.decode_more::<Buffered<R>, 3, 3>(self, out),
+            (4, 3) => pieces.decode_more::<Buffered<R>, 4, 3>(self, out),
+            (4, 4) => pieces.decode_more::<Buffered<R>, 4, 4>(self, out),
+            _ => Err(Error::InvalidChannels { channels }),
+        }
+    }
+}

@@ -1,0 +1,274 @@
+//! The loops over the pieces of an image: what is decoded before a caller asks for it is kept.
+ghost use Rattle.std.specs.Io.KnownBytes.{Consumes};
+ghost use Rattle.std.specs.Prelude.{true, ◌≡◌, ℕ, ◌+◌, ◌-◌, ◌*◌, ◌%◌, ◌^◌, ◌<◌, ◌≤◌, List, [], ◌++◌, length, take, drop, reverse, min, Option, IfOk, IfErr, OnOk};
+ghost use Rattle.qoi.specs.Decoding.{ReadsImage};
+ghost use Rattle.qoi.specs.Qoi.{Past};
+ghost use Rattle.qoi.specs.Raw.{IsChannels, output};
+ghost use Rattle.qoi.specs.declared.decode.output.TheConstants.{RUN_ROOM};
+ghost use Rattle.qoi.specs.declared.decode.pixel_reader.pieces.TheConstants.{KEPT, IN_PLACE};
+ghost use Rattle.qoi.specs.inner.Chunks.{RefusesChunks, TakesChunks, RefusesFilling};
+ghost use Rattle.qoi.specs.inner.Filling.{filling, DecoderBetween};
+
+use crate::decode::chunks::{Chunks, Reached};
+use crate::decode::hashed::Hashed;
+use crate::decode::table::TermTable;
+use crate::error::Result;
+
+/// How many bytes are decoded at once where a piece has no room for the vectors of any run: whole
+/// pixels of three channels and of four.
+const KEPT: usize = 3072;
+
+/// A piece of at least so many bytes is decoded in place, but for its last ones.
+const IN_PLACE: usize = 1536;
+
+/// How many bytes are decoded at once for those last ones: they have room for the vectors of any
+/// run twice, so that enough are decoded and few are copied.
+const AFTER_LONG: usize = 528;
+
+/// What stands between two pieces of an image: the table, the last pixel, bytes that are decoded
+/// and weren't given yet, and how many bytes aren't decoded.
+#[derive(Drop)]
+pub struct Pieces {
+    table: TermTable,
+    last: Hashed,
+    bytes: [u8; KEPT],
+    from: usize,
+    to: usize,
+    undecoded: usize,
+}
+
+// How many bytes to decode at once, and to keep, for a piece of `size` bytes.
+#[inline]
+fn kept_room(size: usize) -> usize
+    ensures some { 2 * RUN_ROOM ≤ result }
+    ensures within { result ≤ KEPT }
+    ensures whole { result % 12 ≡ 0 }
+    ensures enough { size < IN_PLACE → IN_PLACE + RUN_ROOM ≤ result }
+    ensures after { IN_PLACE ≤ size → 2 * RUN_ROOM + 16 ≤ result }
+{
+    if size < IN_PLACE { KEPT } else { AFTER_LONG }
+}
+
+// Decodes chunks into the first `size` bytes of `out`, as long as those have room for the vectors
+// of any run.
+fn front_of_image<R: Chunks<N, F>, const N: usize, const F: usize>(
+    reader: &mut R,
+    table: &mut TermTable,
+    last: Hashed,
+    out: &mut [u8],
+    size: usize,
+) -> Result<Reached>
+    requires channels { IsChannels N }
+    requires some { 0 < size }
+    requires within { size ≤ length out.old }
+    requires whole { size % N ≡ 0 }
+    ensures read { IfOk result (λ now. TakesChunks F N true
+        (R.ahead reader.old) (R.ahead reader.new)
+        (filling table.old last (take size out.old) 0)
+        (filling table.new now.last (take size out.new) now.at)) }
+    ensures below { IfOk result (λ now. now.at < size) }
+    ensures filled { IfOk result (λ now. size < now.at + RUN_ROOM) }
+    ensures refused { IfErr result (RefusesFilling F N R.in_memory
+        (R.ahead reader.old) (R.ahead reader.new) (filling table.old last (take size out.old) 0)) }
+{
+    reader.some_chunks(table, last, &mut out[..size], 0)
+}
+
+// Decodes the rest of an image into the first `size` bytes of `out`, and takes the end marker.
+fn rest_of_image<R: Chunks<N, F>, const N: usize, const F: usize>(
+    reader: &mut R,
+    table: &mut TermTable,
+    last: Hashed,
+    out: &mut [u8],
+    size: usize,
+) -> Result<()>
+    requires channels { IsChannels N }
+    requires within { size ≤ length out.old }
+    requires whole { size % N ≡ 0 }
+    ensures read { (gone : Past) (n : ℕ) (start : Option (List ℕ))
+        → DecoderBetween F N gone n (Consumes start (R.ahead reader.old))
+        (filling table.old last (take size out.old) 0)
+        → OnOk result (ReadsImage F N (length gone + n) start (R.ahead reader.new)
+        (output F N (reverse gone) ++ take size out.new)) }
+    ensures refused { (gone : Past) (n : ℕ) (start : Option (List ℕ))
+        → DecoderBetween F N gone n (Consumes start (R.ahead reader.old))
+        (filling table.old last (take size out.old) 0)
+        → IfErr result (RefusesChunks R.in_memory (length gone + n) start (R.ahead reader.new)) }
+{
+    reader.all_chunks(table, last, &mut out[..size], 0)?;
+    reader.marker()
+}
+
+impl Pieces {
+    ghost use Rattle.qoi.specs.ReaderPieces.{kept, bytes_left, KeepsWithin, KeepsPixels, GivesPieces};
+
+    /// At the beginning of an image of `size` bytes.
+    pub(super) fn new(size: usize) -> Pieces
+        requires { 0 < size }
+        ensures start { (f c n : ℕ) (start : Option (List ℕ)) → IsChannels c → size ≡ c * n
+            → GivesPieces f c n start start [] result }
+        ensures left { bytes_left result ≡ size }
+        ensures within { KeepsWithin result }
+        ensures undecoded { result.undecoded ≡ size }
+    {
+        Pieces {
+            table: TermTable::new(),
+            last: Hashed::start(),
+            bytes: [0; KEPT],
+            from: 0,
+            to: 0,
+            undecoded: size,
+        }
+    }
+
+    /// How many bytes of the image weren't given yet.
+    #[inline]
+    pub(super) fn left(&self) -> usize
+        requires within { KeepsWithin self.now }
+        requires fits { bytes_left self.now < 2 ^ 64 }
+        ensures { result ≡ bytes_left self.now }
+    {
+        self.to - self.from + self.undecoded
+    }
+
+    /// Drops what is kept: no more of the image is given, and as many bytes are left of it as
+    /// before the piece that was refused.
+    #[cold]
+    pub(super) fn refuse(&mut self, left: usize)
+        ensures left { bytes_left self.new ≡ left }
+        ensures within { KeepsWithin self.new }
+    {
+        self.from = 0;
+        self.to = 0;
+        self.undecoded = left;
+    }
+
+    /// Gives kept bytes into the front of `out`, and returns how many.
+    #[inline]
+    pub(super) fn give(&mut self, out: &mut [u8]) -> usize
+        requires { KeepsWithin self.old }
+        ensures size { result ≡ min (length out.old) (self.old.to - self.old.from) }
+        ensures given { out.new ≡ take result (kept self.old) ++ drop result out.old }
+        ensures state { self.new ≡ record self.old { from = self.old.from + result } }
+    {
+        let size = out.len().min(self.to - self.from);
+        out[..size].copy_from_slice(&self.bytes[self.from..self.from + size]);
+        self.from += size;
+        size
+    }
+
+    // Decodes chunks into the front of `out` as long as any run has room, and returns how many
+    // bytes; none if `out` is short.
+    #[inline]
+    fn long_piece<R: Chunks<N, F>, const N: usize, const F: usize>(
+        &mut self,
+        reader: &mut R,
+        out: &mut [u8],
+    ) -> Result<usize>
+        requires channels { IsChannels N }
+        requires none { self.old.from ≡ self.old.to }
+        requires fits { length out.old ≤ bytes_left self.old }
+        requires pixels { KeepsPixels N self.old }
+        ensures read { (n : ℕ) (start : Option (List ℕ)) (given : List ℕ)
+            → GivesPieces F N n start (R.ahead reader.old) given self.old
+            → IfOk result (λ size.
+            GivesPieces F N n start (R.ahead reader.new) (given ++ take size out.new) self.new) }
+        ensures refused { (n : ℕ) (start : Option (List ℕ)) (given : List ℕ)
+            → GivesPieces F N n start (R.ahead reader.old) given self.old
+            → IfErr result (RefusesChunks R.in_memory n start (R.ahead reader.new)) }
+        ensures within { IfOk result (λ size. size ≤ length out.new) }
+        ensures few { IfOk result (λ size. length out.new < size + IN_PLACE) }
+        ensures last { IN_PLACE ≤ length out.new
+            → IfOk result (λ size. length out.new < size + (RUN_ROOM + 3)) }
+        ensures none { IfOk result (λ size. self.new.from ≡ self.new.to) }
+        ensures pixels { IfOk result (λ size. KeepsPixels N self.new) }
+        ensures left { IfOk result (λ size. size + bytes_left self.new ≡ bytes_left self.old) }
+    {
+        if out.len() < IN_PLACE {
+            return Ok(0);
+        }
+        let size = out.len() / N * N;
+        let now = reader.some_chunks(&mut self.table, self.last, &mut out[..size], 0)?;
+        self.last = now.last;
+        self.undecoded -= now.at;
+        Ok(now.at)
+    }
+
+    // Decodes chunks that are kept, into `room` bytes or, near the end of the image, all of its
+    // rest, and then the end marker.
+    fn decode_on<R: Chunks<N, F>, const N: usize, const F: usize>(
+        &mut self,
+        reader: &mut R,
+        room: usize,
+    ) -> Result<()>
+        requires channels { IsChannels N }
+        requires room { (0 < room) × (room ≤ KEPT) }
+        requires whole { room % N ≡ 0 }
+        requires none { self.old.from ≡ self.old.to }
+        requires some { 0 < self.old.undecoded }
+        requires pixels { KeepsPixels N self.old }
+        ensures read { (n : ℕ) (start : Option (List ℕ)) (given : List ℕ)
+            → GivesPieces F N n start (R.ahead reader.old) given self.old
+            → OnOk result (GivesPieces F N n start (R.ahead reader.new) given self.new) }
+        ensures refused { (n : ℕ) (start : Option (List ℕ)) (given : List ℕ)
+            → GivesPieces F N n start (R.ahead reader.old) given self.old
+            → IfErr result (RefusesChunks R.in_memory n start (R.ahead reader.new)) }
+        ensures enough { OnOk result
+            (min self.old.undecoded (room - RUN_ROOM) ≤ self.new.to - self.new.from) }
+        ensures pixels { OnOk result (KeepsPixels N self.new) }
+        ensures left { OnOk result (bytes_left self.new ≡ bytes_left self.old) }
+    {
+        self.from = 0;
+        if KEPT < self.undecoded {
+            let now = front_of_image::<R, N, F>(
+                reader,
+                &mut self.table,
+                self.last,
+                &mut self.bytes,
+                room,
+            )?;
+            self.last = now.last;
+            self.to = now.at;
+            self.undecoded -= now.at;
+            return Ok(());
+        }
+        let size = self.undecoded;
+        rest_of_image::<R, N, F>(reader, &mut self.table, self.last, &mut self.bytes, size)?;
+        self.to = size;
+        self.undecoded = 0;
+        Ok(())
+    }
+
+    /// Decodes the next bytes of an image, while none are kept: into the front of `out`, and
+    /// returns how many; the rest of `out`, and more, are kept.
+    pub(super) fn decode_more<R: Chunks<N, F>, const N: usize, const F: usize>(
+        &mut self,
+        reader: &mut R,
+        out: &mut [u8],
+    ) -> Result<usize>
+        requires channels { IsChannels N }
+        requires none { self.old.from ≡ self.old.to }
+        requires fits { length out.old ≤ bytes_left self.old }
+        requires pixels { KeepsPixels N self.old }
+        ensures read { (n : ℕ) (start : Option (List ℕ)) (given : List ℕ)
+            → GivesPieces F N n start (R.ahead reader.old) given self.old
+            → IfOk result (λ size.
+            GivesPieces F N n start (R.ahead reader.new) (given ++ take size out.new) self.new) }
+        ensures refused { (n : ℕ) (start : Option (List ℕ)) (given : List ℕ)
+            → GivesPieces F N n start (R.ahead reader.old) given self.old
+            → IfErr result (RefusesChunks R.in_memory n start (R.ahead reader.new)) }
+        ensures within { IfOk result (λ size. size ≤ length out.new) }
+        ensures enough { IfOk result (λ size.
+            length out.new ≤ size + (self.new.to - self.new.from)) }
+        ensures pixels { OnOk result (KeepsPixels N self.new) }
+        ensures left { IfOk result (λ size. size + bytes_left self.new ≡ bytes_left self.old) }
+    {
+        let size = self.long_piece::<R, N, F>(reader, out)?;
+        if size == out.len() {
+            return Ok(size);
+        }
+        let room = kept_room(out.len());
+        self.decode_on::<R, N, F>(reader, room)?;
+        Ok(size)
+    }
+}

@@ -1,0 +1,47 @@
+//! Repeats of sixteen pixels, counted lane by lane.
+ghost use Rattle.std.specs.Prelude.{◌≡◌, ◌<◌, Bool, List, length, map};
+ghost use Rattle.qoi.specs.Qoi.{run_max};
+ghost use Rattle.qoi.specs.inner.block.Counting.{counts, AreMost};
+ghost use Rattle.qoi.specs.inner.block.Lanes.{mask};
+
+use crate::encode::block::lanes::{greater, later};
+use std::simd::prelude::*;
+
+// The lanes two, four and eight further on, after lanes of another vector.
+const TWO_ON: [usize; 16] = [
+    14, 15, 16, 17, 18, 19, 20, 21, 22, 23, 24, 25, 26, 27, 28, 29,
+];
+
+const FOUR_ON: [usize; 16] = [
+    12, 13, 14, 15, 16, 17, 18, 19, 20, 21, 22, 23, 24, 25, 26, 27,
+];
+
+const EIGHT_ON: [usize; 16] = [8, 9, 10, 11, 12, 13, 14, 15, 16, 17, 18, 19, 20, 21, 22, 23];
+
+// In each lane the greatest up to it.
+#[inline(always)]
+fn running_most(v: u8x16) -> u8x16
+    ensures most { AreMost v 16 result }
+    ensures long { length result ≡ 16 }
+{
+    let zero = u8x16::splat(0);
+    let two = greater(v, later(zero, v));
+    let four = greater(two, zero.shuffle(two, TWO_ON));
+    let eight = greater(four, zero.shuffle(four, FOUR_ON));
+    greater(eight, zero.shuffle(eight, EIGHT_ON))
+}
+
+/// How many repeats end with each lane, after `carry` repeats that came before: the lane's number
+/// less that of the last one which doesn't repeat.
+#[inline(always)]
+pub(in crate::encode) fn count_repeats(rep: u8x16, carry: u8) -> u8x16
+    requires { carry < run_max }
+    ensures { (rs : List Bool) → length rs ≡ 16 → rep ≡ map mask rs → result ≡ counts carry rs }
+{
+    // 64 and the lane's number; then the same in each lane that doesn't repeat, else 0.
+    let lanes = u8x16::from_array([
+        64, 65, 66, 67, 68, 69, 70, 71, 72, 73, 74, 75, 76, 77, 78, 79,
+    ]);
+    let most = greater(running_most(lanes & !rep), u8x16::splat(63 - carry));
+    lanes - most
+}

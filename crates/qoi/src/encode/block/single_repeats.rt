@@ -1,0 +1,44 @@
+//! Single repeats among sixteen pixels that are given by their index position, in style `Places`.
+ghost use Rattle.std.specs.Prelude.{◌≡◌, List, ◌∷◌, take, map};
+ghost use Rattle.qoi.specs.Qoi.{RgbaPixel, hash};
+ghost use Rattle.qoi.specs.declared.types.Style.TheVariants.{Reference, Places};
+ghost use Rattle.qoi.specs.inner.block.Lanes.{mask};
+ghost use Rattle.qoi.specs.inner.block.Planes.{AreSixteen};
+ghost use Rattle.qoi.specs.inner.block.Positions.{stand_tests};
+ghost use Rattle.qoi.specs.inner.block.Spelling.{HasSpelled};
+ghost use Rattle.qoi.specs.inner.block.State.{State};
+
+use crate::encode::block::lanes::{later, lesser, where_is};
+use crate::encode::block::spelling::Spelled;
+use crate::utils::pick;
+use std::simd::prelude::*;
+
+// Whether the pixel before each lane stood at its index position; before the first lane, whether
+// the chunk there names that position.
+#[inline(always)]
+fn stood(placed: bool, stands: u8x16) -> u8x16
+    ensures { result ≡ mask placed ∷ take 15 stands }
+{
+    later(u8x16::splat(pick(placed, 255, 0)), stands)
+}
+
+/// Gives each single repeat before a fresh pixel by its index position, if the chunk before it
+/// isn't that position. `placed` says whether the chunk before the block names the position of the
+/// pixel before the block.
+#[inline(always)]
+pub(in crate::encode) fn name_single(
+    x: Spelled,
+    stands: u8x16,
+    places: u8x16,
+    placed: bool,
+) -> Spelled
+    ensures { (s : State) (ps : List RgbaPixel) → AreSixteen ps → s.placed ≡ placed
+        → stands ≡ map mask (stand_tests s.held ps) → places ≡ map hash ps
+        → HasSpelled Reference s ps x → HasSpelled Places s ps result }
+{
+    let singles = x.rep & where_is(x.count, 1) & !stood(placed, stands);
+    Spelled {
+        first: lesser(x.first, places | !singles),
+        ..x
+    }
+}

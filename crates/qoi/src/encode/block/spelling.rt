@@ -1,0 +1,189 @@
+//! The chunks of sixteen pixels, a lane for each: first and second bytes, and sizes (QOI
+//! specification 1.0, "Chunks"). A repeat has a run's byte if a fresh pixel follows, else none.
+ghost use Rattle.std.specs.Prelude.{◌≡◌, ◌<◌, ℕ, List, map};
+ghost use Rattle.qoi.specs.Qoi.{RgbaPixel, run_max, hash};
+ghost use Rattle.qoi.specs.declared.types.Style.TheVariants.{Reference};
+ghost use Rattle.qoi.specs.inner.block.Bytes.{firsts, sizes};
+ghost use Rattle.qoi.specs.inner.block.Counting.{counts};
+ghost use Rattle.qoi.specs.inner.block.LaneVectors.{AreBy, AreSteps, AreAsDiff, AreAsLuma, AreFits, AreChanges};
+ghost use Rattle.qoi.specs.inner.block.Lanes.{Lane, mask, diff_of, as_diff, same_alpha_mask, diff_mask, luma_mask, stand_mask, first_of, second_of, size_of};
+ghost use Rattle.qoi.specs.inner.block.Spelling.{IsBlock, HasSpelled};
+ghost use Rattle.qoi.specs.inner.block.State.{State, lanes_of, is_rep};
+
+use crate::encode::block::counting::count_repeats;
+use crate::encode::block::lanes::{greater, lesser, where_is};
+use crate::encode::block::steps::{Changes, Steps};
+use std::simd::prelude::*;
+
+/// Which pixels fit a difference chunk, which fit a luma, and which keep alpha: 255 or 0.
+#[derive(Clone, Copy)]
+pub(in crate::encode) struct Fits {
+    pub(in crate::encode) diff: u8x16,
+    pub(in crate::encode) luma: u8x16,
+    pub(in crate::encode) same_alpha: u8x16,
+}
+
+/// Of each of sixteen pixels: whether it repeats, 255 or 0; its chunk's first byte, the second one,
+/// if it has one, and its size; and how many repeats end with it.
+#[derive(Clone, Copy)]
+pub(in crate::encode) struct Spelled {
+    pub(in crate::encode) rep: u8x16,
+    pub(in crate::encode) first: u8x16,
+    pub(in crate::encode) second: u8x16,
+    pub(in crate::encode) size: u8x16,
+    pub(in crate::encode) count: u8x16,
+}
+
+// Steps as a difference chunk has them: with 2 added.
+#[inline(always)]
+fn diff_steps(d: Steps) -> Steps
+    ensures { (ls : List Lane) → AreSteps ls d → AreAsDiff ls result }
+{
+    let two = u8x16::splat(2);
+    Steps {
+        r: d.r + two,
+        g: d.g + two,
+        b: d.b + two,
+    }
+}
+
+// Steps as a luma chunk has them: green's plus 32; red's and blue's minus green's, plus 8.
+#[inline(always)]
+fn luma_steps(d: Steps) -> Steps
+    ensures { (ls : List Lane) → AreSteps ls d → AreAsLuma ls result }
+{
+    let eight = u8x16::splat(8);
+    Steps {
+        r: d.r - d.g + eight,
+        g: d.g + u8x16::splat(32),
+        b: d.b - d.g + eight,
+    }
+}
+
+// Which pixels a difference chunk gives.
+#[inline(always)]
+fn fits_diff(as_diff: Steps, same_alpha: u8x16) -> u8x16
+    ensures { (ls : List Lane) → AreAsDiff ls as_diff → AreBy ls same_alpha_mask same_alpha
+        → AreBy ls diff_mask result }
+{
+    where_is((as_diff.r | as_diff.g | as_diff.b) & u8x16::splat(0xfc), 0) & same_alpha
+}
+
+// Which pixels a luma chunk gives.
+#[inline(always)]
+fn fits_luma(as_luma: Steps, same_alpha: u8x16) -> u8x16
+    ensures { (ls : List Lane) → AreAsLuma ls as_luma → AreBy ls same_alpha_mask same_alpha
+        → AreBy ls luma_mask result }
+{
+    let above = ((as_luma.r | as_luma.b) & u8x16::splat(0xf0)) | (as_luma.g & u8x16::splat(0xc0));
+    where_is(above, 0) & same_alpha
+}
+
+// The difference chunks of steps that fit.
+#[inline(always)]
+fn diffs(steps: Steps) -> u8x16
+    ensures { (ls : List Lane) → AreAsDiff ls steps → AreBy ls (λ l. diff_of (as_diff l)) result }
+{
+    let t = steps.r + steps.r;
+    let t = t + t + steps.g;
+    let t = t + t;
+    t + t + steps.b + u8x16::splat(0x40)
+}
+
+// The first byte of each fresh pixel's chunk: as numbers, index position, difference, luma, RGB and
+// RGBA stand in this order, so it is the least that applies.
+#[inline(always)]
+fn first_bytes(as_diff: Steps, as_luma: Steps, fits: Fits, places: u8x16, stands: u8x16) -> u8x16
+    ensures { (ls : List Lane) → AreAsDiff ls as_diff → AreAsLuma ls as_luma → AreFits ls fits
+        → AreBy ls (λ l. hash l.px) places → AreBy ls stand_mask stands
+        → AreBy ls first_of result }
+{
+    let full = u8x16::splat(0xff) + fits.same_alpha;
+    let first = lesser((as_luma.g + u8x16::splat(0x80)) | !fits.luma, full);
+    lesser(lesser(first, diffs(as_diff) | !fits.diff), places | !stands)
+}
+
+// The second byte: that of a luma, or red.
+#[inline(always)]
+fn second_bytes(as_luma: Steps, red: u8x16, luma: u8x16) -> u8x16
+    ensures { (ls : List Lane) → AreAsLuma ls as_luma → AreBy ls (λ l. l.px.r) red
+        → AreBy ls luma_mask luma → AreBy ls second_of result }
+{
+    let second = (as_luma.r << u8x16::splat(4)) + as_luma.b;
+    (luma & second) | (!luma & red)
+}
+
+// How many bytes each fresh pixel's chunk has.
+#[inline(always)]
+fn sizes_of(fits: Fits, stands: u8x16) -> u8x16
+    ensures { (ls : List Lane) → AreFits ls fits → AreBy ls stand_mask stands
+        → AreBy ls size_of result }
+{
+    let one = stands | fits.diff;
+    let size = lesser(
+        u8x16::splat(4) + fits.luma + fits.luma,
+        u8x16::splat(1) | !one,
+    );
+    size + (!fits.same_alpha & !one & u8x16::splat(1))
+}
+
+// The first bytes, with those of runs for repeats. The lesser of a mask and a byte is the byte
+// where the mask is set, else 0; of `&` the compiler would make a blend, which takes longer.
+#[inline(always)]
+fn with_runs(first: u8x16, rep: u8x16, count: u8x16) -> u8x16
+    ensures { (ls : List Lane) (c : ℕ) → AreBy ls first_of first
+        → AreBy ls (λ l. mask (is_rep l)) rep → count ≡ counts c (map is_rep ls)
+        → result ≡ firsts c ls }
+{
+    greater(first, lesser(rep, count + u8x16::splat(0xbf)))
+}
+
+// The sizes, with 0 for a repeat that another one follows, or no lane. As for `with_runs`, `&`
+// would take longer.
+#[inline(always)]
+fn with_none(size: u8x16, rep: u8x16) -> u8x16
+    ensures { (ls : List Lane) → AreBy ls size_of size → AreBy ls (λ l. mask (is_rep l)) rep
+        → result ≡ sizes ls }
+{
+    // Whether the next lane repeats, or there is none.
+    let next = rep.shuffle(
+        u8x16::splat(255),
+        [1, 2, 3, 4, 5, 6, 7, 8, 9, 10, 11, 12, 13, 14, 15, 16],
+    );
+    lesser(size, !lesser(rep, next))
+}
+
+/// Spells out sixteen pixels, where `stands` says which stand at their index positions, and `carry`
+/// repeats came before that aren't written yet.
+#[inline(always)]
+pub(in crate::encode) fn spell_block(
+    changes: Changes,
+    red: u8x16,
+    stands: u8x16,
+    places: u8x16,
+    carry: u8,
+) -> Spelled
+    requires { carry < run_max }
+    ensures { (s : State) (ps : List RgbaPixel) → s.carry ≡ carry
+        → AreChanges (lanes_of s.held s.last ps) changes → IsBlock s ps red stands places
+        → HasSpelled Reference s ps result }
+{
+    let rep = changes.rep;
+    let same_alpha = where_is(changes.alpha, 0);
+    let as_diff = diff_steps(changes.steps);
+    let as_luma = luma_steps(changes.steps);
+    let fits = Fits {
+        diff: fits_diff(as_diff, same_alpha),
+        luma: fits_luma(as_luma, same_alpha),
+        same_alpha,
+    };
+    let first = first_bytes(as_diff, as_luma, fits, places, stands);
+    let count = count_repeats(rep, carry);
+    Spelled {
+        rep,
+        first: with_runs(first, rep, count),
+        second: second_bytes(as_luma, red, fits.luma),
+        size: with_none(sizes_of(fits, stands), rep),
+        count,
+    }
+}

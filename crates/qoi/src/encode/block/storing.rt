@@ -1,0 +1,57 @@
+//! The chunks of sixteen pixels, stored one after the other.
+ghost use Rattle.std.specs.Prelude.{◌≡◌, ◌≢◌, ◌+◌, ◌≤◌, ◌<◌, ℕ, List, ◌++◌, length, take, slice_index, IsTrue};
+ghost use Rattle.qoi.specs.Qoi.{RgbaPixel, IsPixel, run_max};
+ghost use Rattle.qoi.specs.Raw.{IsChannels};
+ghost use Rattle.qoi.specs.declared.types.Style.{Style};
+ghost use Rattle.qoi.specs.inner.block.Planes.{AreSixteen, ArePlanes};
+ghost use Rattle.qoi.specs.inner.block.Spelling.{HasSpelled};
+ghost use Rattle.qoi.specs.inner.block.State.{State, block_bytes};
+
+mod each;
+mod shuffled;
+
+use crate::encode::block::lanes::{all_set, where_is};
+use crate::encode::block::planes::{Planes, make_words};
+use crate::encode::block::spelling::Spelled;
+use crate::encode::block::storing::each::store_each;
+use crate::encode::block::storing::shuffled::store_shuffled;
+use std::simd::prelude::*;
+
+// Whether each chunk has at most four bytes. Only RGBA chunks have five.
+#[inline(always)]
+fn are_short<const N: usize>(size: u8x16) -> bool
+    ensures { IsTrue result → ((k : ℕ) → slice_index size k ≤ N + 1)
+        → (k : ℕ) → slice_index size k ≢ 5 }
+{
+    N == 3 || all_set(!where_is(size, 5))
+}
+
+/// Stores the chunks of sixteen pixels from `at` on, and returns where they end.
+#[inline(always)]
+pub(in crate::encode) fn store_sixteen<const N: usize>(
+    out: &mut [u8],
+    at: usize,
+    x: Spelled,
+    p: Planes,
+) -> usize
+    requires channels { IsChannels N }
+    requires room { at + 83 ≤ length out.old }
+    ensures same { length out.new ≡ length out.old }
+    ensures near { (at ≤ result) × (result ≤ at + 80) }
+    ensures written { (style : Style) (s : State) (ps : List RgbaPixel) → AreSixteen ps
+        → IsPixel s.last → ArePlanes ps p → HasSpelled style s ps x → s.carry + 16 < run_max
+        → ((k : ℕ) → slice_index x.size k ≤ N + 1)
+        → take result out.new ≡ take at out.old ++ block_bytes style s ps }
+{
+    let words = make_words(Planes {
+        r: x.first,
+        g: x.second,
+        b: p.g,
+        a: p.b,
+    });
+    if are_short::<N>(x.size) {
+        store_shuffled(out, at, x.size, words)
+    } else {
+        store_each(out, at, x.size, words, p.a)
+    }
+}

@@ -1,0 +1,129 @@
+//! What is kept of an image between two calls that take raw bytes of it.
+ghost use Rattle.std.specs.Prelude.{◌≡◌, ◌⊎◌, ◌+◌, ◌*◌, ◌<◌, ◌≤◌, [], ◌++◌, length, None, IsTrue, IsFalse};
+ghost use Rattle.qoi.specs.Qoi.{start};
+ghost use Rattle.qoi.specs.declared.types.Style.{Style};
+ghost use Rattle.qoi.specs.inner.CoderLoop.{CoderAfter};
+
+use crate::encode::last_pixel::LastPixel;
+use crate::encode::piece::FULL_ROOM;
+use crate::encode::table::PixelTable;
+use crate::utils::copy_after;
+use std::marker::Model;
+
+/// How many raw bytes are held at most: whole blocks of three channels, and of four.
+pub(super) const HELD_MOST: usize = 8256;
+
+/// What is kept between two calls, and the room of a piece, whose bytes mean nothing then.
+#[derive(Drop)]
+pub(super) struct Kept {
+    pub(super) pending: Pending,
+    pub(super) held: Held,
+    pub(super) room: [u8; FULL_ROOM],
+}
+
+impl Kept {
+    /// What is kept before the first raw byte.
+    pub(super) fn new() -> Kept
+        ensures held { result.held ≡ [] }
+        ensures last { (result.pending.last.px ≡ start) × (result.pending.last.repeats ≡ 0) }
+        ensures state { (style : Style)
+            → CoderAfter style [] None result.pending.table result.pending.last }
+    {
+        Kept {
+            pending: Pending {
+                table: PixelTable::new(),
+                last: LastPixel::start(),
+            },
+            held: Held::new(),
+            room: [0; FULL_ROOM],
+        }
+    }
+}
+
+/// What is known between two calls: the table, and the last pixel that was written or repeated.
+#[derive(Drop)]
+pub(super) struct Pending {
+    pub(super) table: PixelTable,
+    pub(super) last: LastPixel,
+}
+
+/// Raw bytes that came and aren't encoded yet.
+///
+/// A contract sees their list.
+#[derive(Drop)]
+pub(super) struct Held {
+    bytes: [u8; HELD_MOST],
+    len: usize,
+}
+
+impl Model for Held {
+    ghost use Rattle.std.specs.Prelude.{ℕ, ◌≤◌, List, take};
+    ghost use Rattle.qoi.specs.declared.encode.pixel_writer.kept.TheConstants.{HELD_MOST};
+
+    ghost Value = { List ℕ };
+
+    ghost view = { λ s. take s.len s.bytes };
+
+    ghost invariant = { λ s. s.len ≤ HELD_MOST };
+}
+
+impl Held {
+    ghost use Rattle.qoi.specs.declared.encode.pixel_writer.kept.TheConstants.{HELD_MOST};
+
+    /// None.
+    pub(super) fn new() -> Held
+        ensures { result ≡ [] }
+    {
+        Held {
+            bytes: [0; HELD_MOST],
+            len: 0,
+        }
+    }
+
+    /// Whether so many more are held: there is room for them, and they don't take half of all the
+    /// room, since it takes time to copy them.
+    #[inline(always)]
+    pub(super) fn takes(&self, count: usize) -> bool
+        ensures most { length self.now ≤ HELD_MOST }
+        ensures room { IsTrue result → length self.now + count ≤ HELD_MOST }
+        ensures many { IsFalse result
+            → (HELD_MOST < 2 * count) ⊎ (HELD_MOST < length self.now + count) }
+    {
+        count <= HELD_MOST / 2 && count <= HELD_MOST - self.len
+    }
+
+    /// How many there are.
+    #[inline(always)]
+    pub(super) fn len(&self) -> usize
+        ensures count { result ≡ length self.now }
+        ensures most { length self.now ≤ HELD_MOST }
+    {
+        self.len
+    }
+
+    /// Holds these, too.
+    #[inline(always)]
+    pub(super) fn push(&mut self, raw: &[u8])
+        requires { length self.old + length raw.now ≤ HELD_MOST }
+        ensures { self.new ≡ self.old ++ raw.now }
+    {
+        self.len = copy_after(&mut self.bytes, self.len, raw);
+    }
+
+    /// Holds these in place of the others.
+    #[inline(always)]
+    pub(super) fn replace(&mut self, raw: &[u8])
+        requires { length raw.now ≤ HELD_MOST }
+        ensures { self.new ≡ raw.now }
+    {
+        self.len = copy_after(&mut self.bytes, 0, raw);
+    }
+
+    /// They.
+    #[inline(always)]
+    pub(super) fn bytes(&self) -> &[u8]
+        ensures { result.now ≡ self.now }
+    {
+        &self.bytes[..self.len]
+    }
+}
