@@ -1,5 +1,5 @@
 //! Callers that cut a rectangle out of a picture, in memory or while its rows are decoded, and that
-//! paste one into a picture. The loops' invariants are their only proof files.
+//! paste one into a picture. Proof files have the loops' invariants; `cut_rows` has answers, too.
 ghost use Rattle.std.specs.Prelude.{◌≡◌, ◌+◌, ◌-◌, ◌*◌, ◌≤◌, ◌<◌, ◌^◌, ℕ, List, length, Option, Some, Ok, IsTrue, IfOk, OnOk};
 ghost use Rattle.qoi.specs.declared.header.Header.{Header};
 ghost use Rattle.qoi.specs.Qoi.{channels_number, header_of};
@@ -10,7 +10,7 @@ ghost use Rattle.qoi.specs.Rectangles.{row_bytes, rectangle, KeepsOutside};
 
 use crate::tests::library::support::assert_bytes;
 use qoi::laws::rectangles::{rows_are_put, rows_that_come};
-use qoi::parts::PieceReader;
+use qoi::parts::{Bytes, PieceReader};
 use qoi::{Decoder, Error, Header, PixelReader, encode_to_vec};
 use std::alloc::Global;
 
@@ -110,20 +110,20 @@ fn keep(tile: &mut Vec<u8>, row: &[u8], k: usize, area: Area) -> Result<(), Erro
 }
 
 /// A tile cut out of an image while its rows, as long as `row`, are decoded.
-pub fn cut_rows<R: PieceReader + Drop>(
+pub fn cut_rows(
     alloc: Global,
-    mut pixels: PixelReader<R>,
+    decoder: Decoder<Bytes<'_>>,
     row: &mut [u8],
     area: Area,
 ) -> Result<Vec<u8>, Error>
     requires below { area.top + area.rows < 2 ^ 64 }
     requires within { area.left + area.size ≤ length row.old }
-    ensures { (d : DecoderState R) (bytes : List ℕ)
-        → HasRows d (Some bytes) (R.ahead pixels.reader) (length row.old) 0 pixels
-        → IfOk result (λ tile. tile.items ≡ rectangle (length row.old) area.top area.left
-        area.rows area.size (front_image d.channels d.header bytes)) }
+    ensures { IfOk result (λ tile. tile.items ≡ rectangle (length row.old) area.top area.left
+        area.rows area.size
+        (front_image decoder.entry.channels decoder.entry.header decoder.entry.reader)) }
 {
     rows_that_come();
+    let mut pixels = decoder.into_pixels();
     let mut tile = Vec::new(alloc);
     for k in 0..area.top + area.rows {
         next_row(&mut pixels, row)?;
@@ -144,7 +144,7 @@ pub fn cut_file(alloc: Global, file: &[u8], area: Area) -> Result<Vec<u8>, Error
         return Err(Error::UnexpectedBufferEnd);
     }
     let mut row = vec![in alloc; 0u8; stride]?;
-    let tile = cut_rows(alloc, decoder.into_pixels(), &mut row, area)?;
+    let tile = cut_rows(alloc, decoder, &mut row, area)?;
     Ok(tile)
 }
 
