@@ -106,7 +106,7 @@ pub record HasDecodedFile (bytes : List ℕ) (h : Header) (out : List ℕ) : Typ
   pub header_then : (more : List ℕ) → header_of (bytes ++ more) ≡ Ok h
   pub image_then : (more : List ℕ) → file_image (bytes ++ more) ≡ out
   pub rest_then : (more : List ℕ) → file_rest (bytes ++ more) ≡ file_rest bytes ++ more
-  -- appended to others, the bytes have the file as a tile
+  -- behind other bytes, the file is a tile
   pub put : (before after : List ℕ) → after ≡ before ++ bytes → HasTile after (length before) out
   -- there are `n_bytes` raw bytes
   pub size : HasImageLength (capped_byte_count h) out

@@ -68,10 +68,10 @@ pub record IsEncoded (Lists : List RgbaPixel → List Chunk → Type 0) (h : Hea
   pub written : Lists (image_pixels h raw) cs
   pub bytes_are : bytes ≡ file h cs
 
--- The file of the image, by the rule `Lists` of which lists are written for an image: the header is
--- valid, and there are as many raw bytes as it says; there is one file, of at least 23 bytes and at
--- most `max_file_len`; it comes back whatever follows it; another color space changes its one byte
--- alone; and no two neighbouring chunks of its list name the same index position.
+-- The file of the image, if `Lists` says which lists are written for an image. The header is valid,
+-- and there are as many raw bytes as it says. There is one file, of at least 23 bytes and at most
+-- `max_file_len`. It comes back whatever follows it. Another color space changes one byte alone. No
+-- two neighbouring chunks of its list name the same index position.
 pub record IsFileBy (Lists : List RgbaPixel → List Chunk → Type 0) (h : Header) (raw bytes : List ℕ) : Type 0 where
   pub valid : IsValid h
   pub size : length raw ≡ image_byte_count h

@@ -23,12 +23,12 @@ pub record PixelsState (R : Type 0) : Type 0 where
 abbrev pub as_decoder : {R : Type 0} → PixelsState R → DecoderState R
 as_decoder p = record { reader = p.reader; header = p.header; channels = p.channels }
 
--- how many bytes of the image weren't read yet
+-- how many bytes of the image are unread
 unfoldable pub pixels_left : {R : Type 0} → PixelsState R → ℕ
 pixels_left p = bytes_left p.pieces
 
--- Of the image that the decoder d, with the bytes `start` ahead, decodes, `given` were read so far,
--- and `now` is ahead.
+-- The decoder d decodes an image from `start`. The raw bytes `given` were read of it so far, and `now`
+-- is ahead.
 pub record HasGiven {R : Type 0} (d : DecoderState R) (start now : Option (List ℕ)) (given : List ℕ) (p : PixelsState R) : Type 0 where
   -- the image wasn't refused
   pub going : p.refused ≡ false
@@ -56,8 +56,8 @@ pub record HasRows {R : Type 0} (d : DecoderState R) (start now : Option (List �
 abbrev pub IsSpent : {R : Type 0} → PixelsState R → Type 0
 IsSpent p = (p.refused ≡ true) × (0 < pixels_left p)
 
--- The decoder's image was refused with the error e. A slice's bytes are those before the image, and how it is
--- left isn't said; of a stream `new` is ahead.
+-- The decoder's image, which began at `start`, was refused with the error e. Of a stream `new` is ahead; of a
+-- slice `new` isn't used.
 abbrev pub RefusesPixels : {R : Type 0} → Bool → DecoderState R → Option (List ℕ) → Option (List ℕ) → Error → Type 0
 RefusesPixels true d start new e = HasRefused true d start start e
 RefusesPixels false d start new e = HasRefused false d start new e

@@ -10,7 +10,7 @@ use Rattle.qoi.specs.Errors.{IsIoError}
 use Rattle.qoi.specs.Sent.{SendsPart}
 use Rattle.qoi.specs.WriterPieces.{ImageBetween}
 
--- how many raw bytes of the image don't come yet
+-- how many raw bytes of the image haven't come yet
 abbrev pub raw_left : {W : Type 0} → PixelWriter W → ℕ
 raw_left p = p.left
 

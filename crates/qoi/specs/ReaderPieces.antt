@@ -8,11 +8,11 @@ use Rattle.qoi.specs.Raw.{output}
 use Rattle.qoi.specs.Decoding.{ReadsImage}
 use Rattle.qoi.specs.inner.Hashed.{pixel_of_lanes, HoldsSeen}
 
--- the bytes that are decoded and weren't given yet
+-- the bytes that are decoded and aren't given yet
 abbrev pub kept : Pieces → List ℕ
 kept p = take (p.to - p.from) (drop p.from p.bytes)
 
--- how many bytes of the image weren't given yet
+-- how many bytes of the image aren't given yet
 abbrev pub bytes_left : Pieces → ℕ
 bytes_left p = (p.to - p.from) + p.undecoded
 

@@ -21,6 +21,6 @@ unfoldable pub StandsAhead : Header → List ℕ → Type 0
 StandsAhead h bytes = (cs : List Chunk) × (rest : List ℕ) × IsWhole (pixel_count h) bytes cs rest
 
 -- The source is the bytes of the decoder's header, which is valid, and then `ahead`; and the
--- decoder's channels are the file's own. That its reader has `ahead` isn't part of it.
+-- decoder's channels are the file's own. It says nothing of the decoder's reader.
 unfoldable pub IsDecoderOf : {R : Type 0} → DecoderState R → List ℕ → List ℕ → Type 0
 IsDecoderOf d source ahead = (source ≡ header_bytes d.header ++ ahead) × IsValid d.header × (d.channels ≡ d.header.channels)

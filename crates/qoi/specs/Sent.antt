@@ -1,6 +1,7 @@
 -- What an encoding call promises: the one file of the encoder's image was made, put into a buffer,
--- or sent to a writer. Of each record the first fields say what it means; the others follow from
--- them, and are what callers need who compare the files of several calls.
+-- or sent to a writer. A record's meaning is its fields up to `same` (`HasFileLength`), `file`
+-- (`MakesFile`), `new_is` (`PutsFile`), `sent` (`SendsFile`, `SendsPart`) and `makes`
+-- (`IsFileFor`). The other fields follow from these; callers need them at hand.
 use Rattle.std.specs.Prelude.{◌≡◌, ℕ, ◌≤◌, List, ◌++◌, take, drop, length, slice_set, Option, Some, IfSome, Ok}
 use Rattle.std.specs.Io.KnownBytes.{Appends}
 use Rattle.qoi.specs.declared.types.ColorSpace.{ColorSpace}

@@ -230,7 +230,7 @@ impl<R: BufRead + Drop> Decoder<Buffered<R>> {
     ///
     /// A decoder goes over the bytes that the reader's buffer shows, and takes those of whole
     /// chunks and never a byte past the end marker. With a buffer of some kilobytes, as in a
-    /// `BufReader`, it is as fast as from a slice.
+    /// `BufReader`, it is nearly as fast as from a slice.
     pub fn from_buf_read(reader: R) -> Result<Decoder<Buffered<R>>>
         // A success: the fourteen bytes of a valid header were taken. (`R.ahead`, of which the
         // methods speak, is `R.remaining` of the reader that is buffered.)

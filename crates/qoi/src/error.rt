@@ -23,7 +23,8 @@ pub enum Error {
         width: u32,
         height: u32,
     },
-    /// The number of raw bytes, `size`, isn't a multiple of the number of pixels.
+    /// The number of raw bytes, `size`, isn't a multiple of the number of pixels; of a
+    /// `PixelWriter`, it isn't the image's.
     InvalidImageLength {
         size: usize,
         width: u32,

@@ -1,5 +1,5 @@
 -- A header and an image behind it are a file.
-use Rattle.std.proofs.Common.{◌≡◌, ℕ, ◌+◌, List, ◌++◌, length, drop, Ok, refl, sym, ap, ◌∙◌, subst, length-append}
+use Rattle.std.proofs.Common.{◌≡◌, ℕ, List, ◌++◌, length, drop, Ok, refl, sym, ap, ◌∙◌, subst, length-append}
 use Rattle.qoi.specs.declared.header.Header.{Header}
 use Rattle.qoi.specs.Qoi.{AreBytes, file, header_of, header_size, pixel_count}
 use Rattle.qoi.specs.Verdicts.{IsWhole}

@@ -167,8 +167,8 @@ impl<R: PieceReader> PixelReader<R> {
         self.decoder.channels()
     }
 
-    /// How many raw bytes of the image weren't read yet: none after the last ones, and some for
-    /// ever after a refusal.
+    /// How many raw bytes of the image are unread: none after the last ones, and some for ever after
+    /// a refusal.
     #[tactic(auto, unfolding(crate::specs::PixelReader::pixels_left))]
     pub fn left(&self) -> usize
         ensures { result ≡ pixels_left self.now }

@@ -1,6 +1,6 @@
-//! Sixteen pixels, a block, and the chunks of a block, but for the repeats that it ends with. The
-//! files below `block` stand in this order on its way: `reading`, `planes`, `steps`, `positions`,
-//! `spelling` (with `counting` and `single_repeats`), `storing`. They work on vectors, `lanes`.
+//! A block, which is sixteen pixels, and its chunks without the repeats at its end. A block goes
+//! through the files below in this order: `reading`, `planes`, `steps`, `positions`, `spelling`
+//! (with `counting` and `single_repeats`), `storing`. `lanes` has what they do with vectors.
 ghost use Rattle.std.specs.Prelude.{◌≡◌, ℕ, Bool, false, ◌+◌, ◌-◌, ◌<◌, List, ◌++◌, map, take, slice_index, slice_index_or, ◌/◌, ◌%◌, IsTrue, IsFalse};
 ghost use Rattle.qoi.specs.declared.types.Style.TheVariants.{Places, Tight};
 ghost use Rattle.qoi.specs.Qoi.{RgbaPixel, IsPixel, hash};
@@ -28,7 +28,7 @@ mod storing;
 
 use crate::encode::block::lanes::{all_set, where_is};
 use crate::encode::block::planes::{Planes, Words, make_planes};
-use crate::encode::block::positions::{blanks, index_positions, put_block, store_places_and_run};
+use crate::encode::block::positions::{blanks, index_positions, put_block, store_places};
 use crate::encode::block::reading::first_sixteen;
 use crate::encode::block::single_repeats::name_single;
 use crate::encode::block::spelling::{Spelled, spell_block};
@@ -115,8 +115,7 @@ impl Block {
         table.at(0).is_same(Packed::blank()) & all_set(blanks(self.planes) | elsewhere)
     }
 
-    // The chunks of the block, of which those pixels that `stands` says stand at their index
-    // positions, `places`.
+    // The block's chunks. `stands` marks the pixels that stand at their index positions, `places`.
     #[inline(always)]
     fn spell<const N: usize>(
         self,
@@ -183,7 +182,8 @@ pub(super) fn write_block<'p, const N: usize, const COPY: u8, const ROOM: usize>
 {
     let Piece { bytes, end } = piece.piece;
     let places = index_positions(block.planes);
-    store_places_and_run::<ROOM>(places, bytes, end, carry.run_byte(style));
+    store_places::<ROOM>(places, bytes);
+    carry.store_run(style, bytes, end);
     let stands = put_block(table, &bytes[ROOM - 16..], block.words);
     let x = block.spell(style, stands, places, carry);
     let start = carry.run_end(end, x.rep.to_array()[0]);

@@ -26,7 +26,7 @@ use crate::types::Style::{self, Places, Reference, Tight};
 // blocks: a run of fewer than 62 ends in the next block.
 const FRONT_CARRIED: usize = 45;
 
-// Whether the front goes by blocks, if there is one: once a fresh pixel came or, but in style
+// Whether the front goes by blocks, if there is one: once a fresh pixel came or, except in style
 // `Tight`, if the next one is fresh; and if not too many repeats came that aren't written yet.
 #[inline(always)]
 fn goes_by_blocks<const N: usize>(style: Style, last: LastPixel, raw: Pixels<N>) -> bool
@@ -76,8 +76,8 @@ fn coder_after<const N: usize>(carry: Carry<N>) -> Coder<N>
     Coder { last }
 }
 
-// Writes the full runs of the repeats at the front, after those that are carried; the others are
-// carried. Returns the rest, and what is carried.
+// Writes the full runs of the carried repeats and those at the front; the others are carried.
+// Returns the rest, and what is carried.
 #[inline(always)]
 fn write_long_group<'a, 'p, const N: usize, const ROOM: usize>(
     piece: OpenPiece<'p, ROOM>,

@@ -1,5 +1,6 @@
-//! What is carried from one block of sixteen pixels to the next.
-ghost use Rattle.std.specs.Prelude.{◌≡◌, ◌+◌, ◌≤◌, ◌<◌, [], ◌∷◌, slice_index};
+//! What is carried from one block of sixteen pixels to the next, and the byte of a run that goes
+//! over two blocks or more.
+ghost use Rattle.std.specs.Prelude.{◌≡◌, ◌+◌, ◌≤◌, ◌<◌, [], ◌∷◌, ◌++◌, length, take, drop, slice_index};
 ghost use Rattle.qoi.specs.Qoi.{run_max};
 ghost use Rattle.qoi.specs.Raw.{IsChannels, IsChannels-prop};
 ghost use Rattle.qoi.specs.inner.block.State.{group_bytes};
@@ -24,11 +25,11 @@ pub(super) struct Carry<const N: usize> {
 }
 
 impl<const N: usize> Carry<N> {
-    /// The byte of the run that goes over from the blocks before, if a fresh pixel follows. In style
-    /// `Places` a single repeat has the byte of its index position, if the chunk before isn't that
-    /// position. The byte isn't used if there are no repeats.
+    // The byte of the run that goes over from the blocks before, if a fresh pixel follows. In style
+    // `Places` a single repeat has the byte of its index position, if the chunk before isn't that
+    // position. The byte isn't used if there are no repeats.
     #[inline(always)]
-    pub(super) fn run_byte(self, style: Style) -> u8
+    fn run_byte(self, style: Style) -> u8
         ensures { 0 < self.entry.count
             → group_bytes style self.entry.placed (last_pixel self.entry.before) self.entry.count
             ≡ result ∷ [] }
@@ -44,8 +45,23 @@ impl<const N: usize> Carry<N> {
         }
     }
 
-    /// Where the run's byte ends, which stands at `at`. It doesn't count if there are no
-    /// repeats, or if the next pixel repeats, too; `rep` is 255 then, else 0.
+    /// Stores at `at` the byte of the run that goes over from the blocks before. It is stored in
+    /// any case; whether it is kept is known later (`run_end`).
+    #[inline(always)]
+    pub(super) fn store_run(self, style: Style, out: &mut [u8], at: usize)
+        requires { at < length out.old }
+        ensures same { length out.new ≡ length out.old }
+        ensures run { 0 < self.entry.count → take (at + 1) out.new
+            ≡ take at out.old
+            ++ group_bytes style self.entry.placed (last_pixel self.entry.before) self.entry.count }
+        ensures front { take at out.new ≡ take at out.old }
+        ensures later { drop (at + 1) out.new ≡ drop (at + 1) out.old }
+    {
+        out[at] = self.run_byte(style);
+    }
+
+    /// Where the run's byte, which stands at `at`, ends. The byte is dropped if there are no
+    /// repeats, or if the next pixel repeats (`rep` is 255 if it does, else 0).
     #[inline(always)]
     pub(super) fn run_end(self, at: usize, rep: u8) -> usize
         requires room { at < usize.MAX }

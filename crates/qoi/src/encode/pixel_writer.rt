@@ -92,7 +92,7 @@ impl<W: Write + Drop> PixelWriter<W> {
         self.style
     }
 
-    /// How many raw bytes of the image don't come yet.
+    /// How many raw bytes of the image haven't come yet.
     pub fn left(&self) -> usize
         ensures left { result ≡ raw_left self.now }
         ensures of_image { (e : EncoderState) (before : Option (List ℕ))
@@ -103,8 +103,8 @@ impl<W: Write + Drop> PixelWriter<W> {
     }
 
     /// Takes the next raw bytes, any number of them. Up to 8,256 are held, so that several short
-    /// rows are encoded at once. If there is no room for these, those that are held are encoded and
-    /// sent. More than 4,128 are never held: they are encoded and sent, too, but for fewer than
+    /// rows are encoded at once. If there is no room for a call's bytes, those that are held are
+    /// encoded and sent. If a call brings more than 4,128, so are its own, but for fewer than
     /// sixteen pixels. Repeats whose run may go on aren't sent yet. It doesn't flush.
     ///
     /// `InvalidImageLength`, with the number of all bytes that came, if there are more than the

@@ -1,4 +1,5 @@
-//! Counts the repeats of a pixel in raw bytes. `carry`, `blocks` and `coder` write their runs.
+//! Counts the repeats of a pixel in raw bytes. Their runs are written in `carry`, `block/spelling`,
+//! `blocks` and `coder`.
 ghost use lib.Lanes.{mask_l, zip2};
 ghost use Rattle.std.specs.Prelude.{nat_eq, ◌≡◌, ◌↔◌, ◌+◌, ◌-◌, ◌*◌, ◌^◌, ◌≤◌, ◌<◌, ◌++◌, length, take, drop, replicate, IsTrue};
 ghost use Rattle.qoi.specs.Qoi.{rgba};

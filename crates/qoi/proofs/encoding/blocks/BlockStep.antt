@@ -1,7 +1,7 @@
 -- From one block of sixteen pixels to the next.
 use Rattle.std.proofs.Common.{◌≡◌, ◌&&◌, ◌%◌, ◌≢◌, ℕ, zero, suc, ◌+◌, ◌-◌, ◌<◌, ◌≤◌, ◌==◌, Bool, true, false, List, [], ◌∷◌, ◌++◌, length, map, get_or, take, slice_index, Some, refl, sym, ap, ◌∙◌, arith, subst}
 use Rattle.std.proofs.lemmas.Bool.{true≢false, and_parts}
-use Rattle.std.proofs.lemmas.List.{length-map, length-take-le, take-take, take_at}
+use Rattle.std.proofs.lemmas.List.{length-map}
 use Rattle.std.specs.List.{slice_get}
 use Rattle.qoi.specs.declared.encode.carry.Carry.{Carry}
 use Rattle.qoi.specs.declared.encode.block.planes.Planes.{Planes}
@@ -75,17 +75,15 @@ pub record StoredGroup (style : Style) (fresh placed : Bool) (q : RgbaPixel) (n 
   pub some : fresh ≡ true → 0 < n → new ≡ old ++ group_bytes style placed q n
 
 -- their byte is stored at `at`, and counts if it ends at `end`
-pub group_stored : (style : Style) (fresh placed : Bool) (q : RgbaPixel) (n at end byte : ℕ) (old new : List ℕ)
-    → at ≤ length old → take (at + 1) new ≡ take at old ++ byte ∷ [] → (0 < n → group_bytes style placed q n ≡ byte ∷ [])
+pub group_stored : (style : Style) (fresh placed : Bool) (q : RgbaPixel) (n at end : ℕ) (old new : List ℕ)
+    → take at new ≡ take at old → (0 < n → take (at + 1) new ≡ take at old ++ group_bytes style placed q n)
     → (fresh ≡ false → end ≡ at) → (n ≡ 0 → end ≡ at) → (fresh ≡ true → 0 < n → end ≡ at + 1)
     → StoredGroup style fresh placed q n (take at old) (take end new)
-group_stored style fresh placed q n at end byte old new room stored group stays none some =
-    let kept : take at new ≡ take at old = sym (take-take at (at + 1) new (omega arith)) ∙ ap (take at) stored ∙ take_at (take at old) (byte ∷ []) at (length-take-le at old room) in
-    record {
-      stays = λ e. ap (λ m. take m new) (stays e) ∙ kept;
-      none = λ e. ap (λ m. take m new) (none e) ∙ kept;
-      some = λ e lt. ap (λ m. take m new) (some e lt) ∙ stored ∙ ap (λ z. take at old ++ z) (sym (group lt));
-    }
+group_stored style fresh placed q n at end old new kept run stays none some = record {
+  stays = λ e. ap (λ m. take m new) (stays e) ∙ kept;
+  none = λ e. ap (λ m. take m new) (none e) ∙ kept;
+  some = λ e lt. ap (λ m. take m new) (some e lt) ∙ run lt;
+}
 
 -- a first lane that isn't 0 is 255
 pub first_repeats : {style : Style} (s : State) (ps : List RgbaPixel) (x : Spelled) → HasSpelled style s ps x → AreSixteen ps

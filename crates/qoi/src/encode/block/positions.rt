@@ -1,6 +1,6 @@
 //! The index positions of sixteen pixels, and which of these pixels the table held there already
 //! (QOI specification 1.0, "Chunks").
-ghost use Rattle.std.specs.Prelude.{◌≡◌, ◌<◌, ◌+◌, ◌-◌, ℕ, List, [], ◌∷◌, ◌++◌, map, length, take, drop, slice_index, Bool};
+ghost use Rattle.std.specs.Prelude.{◌≡◌, ◌<◌, ◌≤◌, ◌-◌, ℕ, List, ◌++◌, map, length, take, drop, slice_index, Bool};
 ghost use Rattle.qoi.specs.Qoi.{RgbaPixel, blank, hash, pixel_eq, Past};
 ghost use Rattle.qoi.specs.inner.Table.{Holds};
 ghost use Rattle.qoi.specs.inner.block.Lanes.{mask};
@@ -24,24 +24,18 @@ pub(in crate::encode) fn index_positions(p: Planes) -> u8x16
     (u + u + s) & u8x16::splat(63)
 }
 
-/// Stores index positions in the last sixteen bytes of `out`, which has `ROOM` bytes, and then, at
-/// `at`, the byte of the run that is carried. To read a position from there is faster than to take
-/// it from the vector. The compiler would take it if it knew that the byte is none of these.
+/// Stores index positions in the last sixteen bytes of `out`, which has `ROOM` bytes. To read a
+/// position from there is faster than to take it from the vector. The compiler would take it if no
+/// byte were stored between, of which it can't tell that it is none of these (`Carry::store_run`).
 #[inline(always)]
-pub(in crate::encode) fn store_places_and_run<const ROOM: usize>(
-    v: u8x16,
-    out: &mut [u8],
-    at: usize,
-    byte: u8,
-)
+pub(in crate::encode) fn store_places<const ROOM: usize>(v: u8x16, out: &mut [u8])
     requires size { length out.old ≡ ROOM }
-    requires room { at + 16 < ROOM }
+    requires room { 16 ≤ ROOM }
     ensures same { length out.new ≡ length out.old }
-    ensures stored { take (at + 1) out.new ≡ take at out.old ++ byte ∷ [] }
+    ensures front { take (ROOM - 16) out.new ≡ take (ROOM - 16) out.old }
     ensures lanes { drop (ROOM - 16) out.new ≡ v }
 {
     v.copy_to_slice(&mut out[ROOM - 16..]);
-    out[at] = byte;
 }
 
 /// 255 in each lane whose pixel is transparent black, else 0.

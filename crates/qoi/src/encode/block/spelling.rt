@@ -138,7 +138,7 @@ fn with_runs(first: u8x16, rep: u8x16, count: u8x16) -> u8x16
     greater(first, lesser(rep, count + u8x16::splat(0xbf)))
 }
 
-// The sizes, with 0 for a repeat that another one follows, or no lane. As for `with_runs`, `&`
+// The sizes, with 0 for a repeat before another one, or in the last lane. As for `with_runs`, `&`
 // would take longer.
 #[inline(always)]
 fn with_none(size: u8x16, rep: u8x16) -> u8x16

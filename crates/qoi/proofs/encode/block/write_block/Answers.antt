@@ -1,11 +1,12 @@
 -- The repeats before the block, if a fresh pixel follows them, and the block's chunks.
-use Rattle.std.proofs.Common.{◌≡◌, ◌==◌, eqb-true, inl, inr, false, ℕ, ◌+◌, ◌≤◌, List, ◌++◌, map, ◌<◌, length, take, slice_index, arith, refl, sym, ap, ◌∙◌, subst, append_assoc, length-append}
+use Rattle.std.proofs.Common.{◌≡◌, ◌==◌, eqb-true, inl, inr, false, ℕ, ◌+◌, ◌-◌, ◌≤◌, List, ◌++◌, map, ◌<◌, length, take, slice_index, arith, refl, sym, ap, ◌∙◌, subst, append_assoc, length-append}
+use Rattle.std.proofs.lemmas.List.{take-take}
 use Rattle.std.specs.List.{slice_get}
 use Rattle.qoi.specs.declared.types.Style.TheVariants.{Places}
 use Rattle.qoi.specs.Qoi.{RgbaPixel, IsPixel, previous, hash}
 use Rattle.qoi.specs.Raw.{IsChannels, AreOpaque}
 use Rattle.qoi.specs.Styles.{some_fresh, names}
-use Rattle.qoi.specs.inner.block.State.{State, lanes_of}
+use Rattle.qoi.specs.inner.block.State.{State, group_bytes, lanes_of}
 use Rattle.qoi.specs.inner.CoderLoop.{Ahead}
 use Rattle.qoi.specs.inner.CoderState.{held_in}
 use Rattle.qoi.specs.inner.Piece.{kept_bytes}
@@ -19,7 +20,7 @@ use Rattle.qoi.proofs.encoding.blocks.BlockStep.{ready, first_repeats, group_sto
 use Rattle.qoi.proofs.encoding.blocks.BlockWritten.{Carrying}
 use Rattle.qoi.proofs.encoding.coder.CoderLink.{first_more}
 use Rattle.qoi.proofs.encoding.blocks.PackedBlock.{block_sixteen, block_words}
-use Rattle.qoi.proofs.encoding.lanes.RereadLanes.{read_back}
+use Rattle.qoi.proofs.encoding.lanes.RereadLanes.{read_back, end_stays}
 use Rattle.qoi.proofs.encoding.stores.StoredBlock.{sizes_few}
 use Rattle.qoi.proofs.encoding.blocks.OpaqueBlock.{sizes_opaque}
 use Rattle.qoi.proofs.encode.block.write_block.Goals as goal
@@ -33,8 +34,10 @@ sizes_in n s q ps xs (inr four) opaque last e k = omega (arith, sizes_few (lanes
 pub put_block-stands-requires-clause-below : goal.put_block-stands-requires-clause-below
 put_block-stands-requires-clause-below g c = λ k lt.
     let w = c.args.block.words in
+    let v = c.index_positions-places.result in
     let at = c.index_positions-places.ensures (block_pixels w) (block_sixteen w c.args.block.packed) c.args.block.planes_are in
-    omega (arith, hashes_below (block_pixels w) k, ap (λ z. slice_index z k) (read_back g.row.ROOM c.store_places_and_run.new.out c.index_positions-places.result (c.store_places_and_run.ensures.same ∙ c.args.piece.piece.room) c.store_places_and_run.ensures.lanes ∙ at))
+    let lanes = end_stays g.row.ROOM c.args.piece.piece.end c.store_places.new.out c.store_run.new.out v (omega (arith, c.args.piece.not_full)) c.store_run.ensures.later c.store_places.ensures.lanes in
+    omega (arith, hashes_below (block_pixels w) k, ap (λ z. slice_index z k) (read_back g.row.ROOM c.store_run.new.out v (c.store_run.ensures.same ∙ c.store_places.ensures.same ∙ c.args.piece.piece.room) lanes ∙ at))
 
 pub returns : goal.returns
 returns g c = λ ahead n rest more fits b.
@@ -60,8 +63,14 @@ returns g c = λ ahead n rest more fits b.
       held_is = λ _. refl;
       placed_is = refl;
     } in
+    let end = c.args.piece.piece.end in
+    let v = c.index_positions-places.result in
+    let lanes = end_stays g.row.ROOM end c.store_places.new.out c.store_run.new.out v (omega (arith, c.args.piece.not_full)) c.store_run.ensures.later c.store_places.ensures.lanes in
+    let low : end ≤ g.row.ROOM - 16 = omega (arith, c.args.piece.not_full) in
+    let front : take end c.store_places.new.out ≡ take end c.args.piece.piece.bytes.now =
+    sym (take-take end (g.row.ROOM - 16) c.store_places.new.out low) ∙ ap (take end) c.store_places.ensures.front ∙ take-take end (g.row.ROOM - 16) c.args.piece.piece.bytes.now low in
     let at : c.index_positions-places.result ≡ map hash all = c.index_positions-places.ensures all sixteen planes in
-    let put = c.put_block-stands.ensures s.held all b.state.table_is sixteen (block_words words c.args.block.packed) (read_back g.row.ROOM c.store_places_and_run.new.out c.index_positions-places.result (c.store_places_and_run.ensures.same ∙ c.args.piece.piece.room) c.store_places_and_run.ensures.lanes ∙ at) in
+    let put = c.put_block-stands.ensures s.held all b.state.table_is sixteen (block_words words c.args.block.packed) (read_back g.row.ROOM c.store_run.new.out v (c.store_run.ensures.same ∙ c.store_places.ensures.same ∙ c.args.piece.piece.room) lanes ∙ at) in
     let placed : style ≡ Places → s.placed ≡ carry.placed = λ is. sym (b.state.placed_is is) in
     let spelled = c.spell-x.ensures s b.to_write.before_is b.state.last_is fits.changes refl placed put.stands_are at in
     let x = c.spell-x.result in
@@ -69,8 +78,8 @@ returns g c = λ ahead n rest more fits b.
     let q_is : q ≡ last_pixel carry.before = b.state.last_is in
     let now = ready style ahead s all later x _ carry.placed (last_pixel carry.before) carry.count _ _ c.args.carry.few (λ e. b.few (sym first ∙ e)) start
     spelled sixteen refl q_is refl placed
-    (group_stored style (rep == 0) carry.placed (last_pixel carry.before) carry.count c.args.piece.piece.end c.run_end-start.result c.run_byte.result c.args.piece.piece.bytes.now c.store_places_and_run.new.out
-    (omega (arith, c.args.piece.piece.within, c.args.piece.piece.room)) c.store_places_and_run.ensures.stored c.run_byte.ensures
+    (group_stored style (rep == 0) carry.placed (last_pixel carry.before) carry.count end c.run_end-start.result c.args.piece.piece.bytes.now c.store_run.new.out
+    (c.store_run.ensures.front ∙ front) (λ some. c.store_run.ensures.run some ∙ ap (λ z. z ++ group_bytes style carry.placed (last_pixel carry.before) carry.count) front)
     (λ e. c.run_end-start.ensures.stays (omega (arith, first_repeats s all x spelled sixteen e, c.args.carry.few)))
     (λ e. c.run_end-start.ensures.stays (omega (arith, e)))
     (λ e some. c.run_end-start.ensures.some (omega (arith, eqb-true rep 0 e, some)))) in

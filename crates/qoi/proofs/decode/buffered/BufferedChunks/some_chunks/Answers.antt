@@ -1,5 +1,5 @@
 -- What the buffer shows is taken, and then other chunks; or the refusal is handed on.
-use Rattle.std.proofs.Common.{[], ◌+◌, sym, arith}
+use Rattle.std.proofs.Common.{[], sym, arith}
 use Rattle.std.proofs.lemmas.Result.{err_from_is_err_and}
 use Rattle.qoi.proofs.format.PartOfChunk.{part_empty}
 use Rattle.qoi.proofs.decoding.Grown.{stream_refused}

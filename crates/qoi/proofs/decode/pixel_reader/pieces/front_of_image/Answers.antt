@@ -1,5 +1,5 @@
 -- The front is filled, but for less than the vectors of a run.
-use Rattle.std.proofs.Common.{◌≡◌, ◌+◌, ◌%◌, ◌++◌, take, drop, length, arith, refl, true, sym, ap, ◌∙◌, subst}
+use Rattle.std.proofs.Common.{◌≡◌, ◌%◌, ◌++◌, take, drop, length, arith, refl, true, sym, ap, ◌∙◌, subst}
 use Rattle.std.proofs.lemmas.List.{length-take-le}
 use lib.Seq.{take-append_seam}
 use Rattle.std.specs.Prelude.{IfOk}
