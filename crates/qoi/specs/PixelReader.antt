@@ -46,11 +46,9 @@ pub record HasGiven {R : Type 0} (d : DecoderState R) (start now : Option (List 
   -- if none are left, the decoder's image was decoded, and they are its bytes
   pub whole : pixels_left p ≡ 0 → HasDecoded d start now given
 
--- Of that image k rows of `stride` bytes were read.
-pub record HasRows {R : Type 0} (d : DecoderState R) (start now : Option (List ℕ)) (stride k : ℕ) (p : PixelsState R) : Type 0 where
-  pub given : List ℕ
-  pub size : length given ≡ stride * k
-  pub read : HasGiven d start now given p
+-- Of that image k rows of `stride` bytes were read. It is no abbreviation, so that the prover passes it on whole.
+unfoldable pub HasRows : {R : Type 0} → DecoderState R → Option (List ℕ) → Option (List ℕ) → ℕ → ℕ → PixelsState R → Type 0
+HasRows d start now stride k p = (given : List ℕ) × (length given ≡ stride * k) × HasGiven d start now given p
 
 -- The image was refused: some of it is left, and no more of it is read.
 abbrev pub IsSpent : {R : Type 0} → PixelsState R → Type 0

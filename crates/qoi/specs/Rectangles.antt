@@ -8,7 +8,7 @@ abbrev pub row_bytes : ℕ → List ℕ → ℕ → List ℕ
 row_bytes stride raw k = take stride (drop (stride * k) raw)
 
 -- of each of `rows` rows, from row `top` on, the `size` bytes from byte `left` on
-unfoldable pub rectangle : ℕ → ℕ → ℕ → ℕ → ℕ → List ℕ → List ℕ
+abbrev pub rectangle : ℕ → ℕ → ℕ → ℕ → ℕ → List ℕ → List ℕ
 rectangle stride top left zero size raw = []
 rectangle stride top left (suc rows) size raw =
     rectangle stride top left rows size raw ++ take size (drop left (row_bytes stride raw (top + rows)))

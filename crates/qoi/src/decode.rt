@@ -5,8 +5,6 @@ ghost use Rattle.qoi.specs.declared.error.Error.{Error};
 ghost use Rattle.qoi.specs.Qoi.{header_of, file};
 ghost use Rattle.qoi.specs.Decoding.{RefusesBuffer};
 ghost use Rattle.qoi.specs.DecoderState.{output_byte_count};
-ghost use Rattle.qoi.specs.FrontFile.{BeginsWithFile};
-ghost use Rattle.qoi.specs.Reading.{StandsAhead};
 ghost use Rattle.qoi.specs.Decoded.{HasHeader, HasRefusedHeader, HasDecoded, HasRefused, HasDecodedFile, HasRefusedFile};
 ghost use Rattle.qoi.specs.Raw.{capped_byte_count, image_byte_count};
 ghost use Rattle.qoi.specs.Sent.{IsFileFor};
@@ -133,9 +131,6 @@ impl<'a> Decoder<Bytes<'a>> {
     pub fn new(data: &'a [u8]) -> Result<Decoder<Bytes<'a>>>
         // A success: the header at the front of the bytes was read.
         ensures accepted { IfOk result (λ d. HasHeader d (Some «data».entry.now) (Some d.reader)) }
-        // With an image behind the header, a file stands at the front of the bytes.
-        ensures file { IfOk result (λ d. StandsAhead d.header d.reader
-            → BeginsWithFile «data».entry.now) }
 
         // The refusals are those of the header.
         ensures refused { IfErr result (λ e. header_of «data».entry.now ≡ Err e) }

@@ -1,5 +1,4 @@
 pub mod Answers
-pub mod CutTiles
 pub mod Faults
 pub mod Files
 pub mod Lines

@@ -9,11 +9,12 @@ use Rattle.qoi.specs.Rectangles.{row_bytes}
 -- what fills a buffer of a row is a row more
 pub row_more : {R : Type 0} (d : DecoderState R) (start now : Option (List ℕ)) (stride k size : ℕ) (given row : List ℕ) (p : PixelsState R)
     → HasGiven d start now (given ++ take size row) p → length given ≡ stride * k → length row ≡ stride → stride ≤ size → HasRows d start now stride (k + 1) p
-row_more d start now stride k size given row p h before long fills = record {
-  given = given ++ take size row;
-  size = omega (arith, before, length-append given (take size row), ap length (take_all size row (omega (arith, long, fills))), long, mul-suc stride k);
-  read = h;
-}
+unfolding HasRows
+row_more d start now stride k size given row p h before long fills = (
+  given ++ take size row,
+  omega (arith, before, length-append given (take size row), ap length (take_all size row (omega (arith, long, fills))), long, mul-suc stride k),
+  h,
+)
 
 -- and it is the next one
 pub row_next : (image given row : List ℕ) (stride k size : ℕ) → take size row ≡ take size (drop (length given) image) → length given ≡ stride * k

@@ -31,7 +31,6 @@ length-part stride left size k raw fits inside =
 -- one row more
 pub row_more : (stride top left rows size : ℕ) (raw : List ℕ)
     → rectangle stride top left (rows + 1) size raw ≡ rectangle stride top left rows size raw ++ take size (drop left (row_bytes stride raw (top + rows)))
-unfolding rectangle
 row_more stride top left rows size raw = let more : rows + 1 ≡ suc rows = omega arith in ap (λ n. rectangle stride top left n size raw) more
 
 -- the rows from `top` on, of those that came: row k is kept
@@ -53,7 +52,6 @@ row_skipped stride top left size k raw before =
 -- rows follow one another
 pub rows_follow : (stride top left m n size : ℕ) (raw : List ℕ)
     → rectangle stride top left (m + n) size raw ≡ rectangle stride top left m size raw ++ rectangle stride (top + m) left n size raw
-unfolding rectangle
 rows_follow stride top left m zero size raw =
     let none : m + 0 ≡ m = omega arith in
     ap (λ k. rectangle stride top left k size raw) none ∙ sym (append-nil (rectangle stride top left m size raw))
@@ -65,8 +63,7 @@ rows_follow stride top left m (suc n) size raw =
     ∙ ap (λ k. rectangle stride top left m size raw ++ (rectangle stride (top + m) left n size raw ++ take size (drop left (row_bytes stride raw k)))) next
 
 -- a rectangle of no rows is empty
-pub no_rows : (stride top left size : ℕ) (raw : List ℕ) → rectangle stride top left 0 size raw ≡ []
-unfolding rectangle
+no_rows : (stride top left size : ℕ) (raw : List ℕ) → rectangle stride top left 0 size raw ≡ []
 no_rows stride top left size raw = refl
 
 -- a rectangle of one row is the part of that row
@@ -79,7 +76,6 @@ one_row stride top left size raw =
 -- a rectangle that lies within the rows has `size` bytes of each
 pub length-rectangle : (stride top left rows size : ℕ) (raw : List ℕ) → left + size ≤ stride → stride * (top + rows) ≤ length raw
     → length (rectangle stride top left rows size raw) ≡ size * rows
-unfolding rectangle
 length-rectangle stride top left zero size raw fits inside = omega arith
 length-rectangle stride top left (suc rows) size raw fits inside =
     let below = row_end stride (top + rows) (top + suc rows) (omega arith) in
@@ -95,7 +91,6 @@ length-rectangle stride top left (suc rows) size raw fits inside =
 
 -- whole rows are one stretch of the raw bytes
 pub whole_rows : (stride top rows : ℕ) (raw : List ℕ) → rectangle stride top 0 rows stride raw ≡ take (stride * rows) (drop (stride * top) raw)
-unfolding rectangle
 whole_rows stride top zero raw = ap (λ n. take n (drop (stride * top) raw)) (sym (mul-zero stride))
 whole_rows stride top (suc rows) raw =
     let at : stride * (top + rows) ≡ stride * top + stride * rows = mul-add stride top rows in
@@ -145,7 +140,6 @@ part_of_part left size l s row fits =
 pub rectangle_of_rectangle : (stride top left rows size t l r s : ℕ) (raw : List ℕ) → left + size ≤ stride → stride * (top + rows) ≤ length raw
     → l + s ≤ size → t + r ≤ rows
     → rectangle size t l r s (rectangle stride top left rows size raw) ≡ rectangle stride (top + t) (left + l) r s raw
-unfolding rectangle
 rectangle_of_rectangle stride top left rows size t l zero s raw fits inside within below = refl
 rectangle_of_rectangle stride top left rows size t l (suc r) s raw fits inside within below =
     let inner = rectangle stride top left rows size raw in
@@ -182,7 +176,6 @@ front_more stride k raw =
 -- a rectangle of the first rows is one of the picture
 pub of_first_rows : (stride top left rows size : ℕ) (front more : List ℕ) → stride * (top + rows) ≤ length front
     → rectangle stride top left rows size (front ++ more) ≡ rectangle stride top left rows size front
-unfolding rectangle
 of_first_rows stride top left zero size front more inside = refl
 of_first_rows stride top left (suc rows) size front more inside =
     let below = row_end stride (top + rows) (top + suc rows) (omega arith) in
@@ -316,7 +309,7 @@ rows_with_tile : (stride top left rows size : ℕ) (tile raw : List ℕ) → lef
     → (rectangle stride top left rows size (with_tile stride top left rows size tile raw) ≡ take (size * rows) tile)
     × KeepsOutside stride top left rows size raw (with_tile stride top left rows size tile raw)
 rows_with_tile stride top left zero size tile raw fits inside long = (
-  no_rows stride top left size _ ∙ ap (λ n. take n tile) (sym (mul-zero size)),
+  no_rows stride top left size raw ∙ ap (λ n. take n tile) (sym (mul-zero size)),
   subst (λ z. KeepsOutside stride top left 0 size raw z) (sym (with_no_row stride top left size tile raw)) (keeps_all stride top left 0 size raw),
 )
 rows_with_tile stride top left (suc rows) size tile raw fits inside long =

@@ -12,6 +12,9 @@ ghost use Rattle.qoi.specs.Encoded.{IsFileOf, IsReadBack, image_file, image_head
 ghost use Rattle.qoi.specs.Tiles.{HasTile};
 ghost use Rattle.qoi.specs.Verdicts.{IsPartOfChunk, IsWhole, IsCut, IsWrong};
 ghost use Rattle.qoi.specs.Decoding.{DecodesFile};
+ghost use Rattle.qoi.specs.Decoded.{HasHeader};
+ghost use Rattle.qoi.specs.DecoderState.{DecoderState};
+ghost use Rattle.qoi.specs.FrontFile.{BeginsWithFile, behind_files, BeginsWithFiles};
 ghost use Rattle.qoi.specs.Reading.{IsImage, StandsAhead};
 ghost use Rattle.qoi.specs.Images.{front_image, front_rest, file_image, file_rest};
 
@@ -83,9 +86,9 @@ pub fn files_are_read()
         → (header_of (file h cs ++ rest) ≡ Ok h)
         × StandsAhead h (drop header_size (file h cs ++ rest))
         × (file_rest (file h cs ++ rest) ≡ rest) }
-    ensures stands { (bytes : List ℕ) (h : Header) → AreBytes bytes → header_of bytes ≡ Ok h
-        → StandsAhead h (drop header_size bytes) → (header_of bytes ≡ Ok h)
-        × (cs : List Chunk) × IsFile h cs × (bytes ≡ file h cs ++ file_rest bytes) }
+    ensures stands { (d : DecoderState (List ℕ)) (bytes : List ℕ)
+        → HasHeader d (Some bytes) (Some d.reader) → StandsAhead d.header d.reader
+        → BeginsWithFile bytes }
 {}
 
 /// What was decoded from bytes is decoded from them whatever is appended, and that is left, too.
@@ -98,6 +101,16 @@ pub fn files_may_be_followed()
         → DecodesFile bytes h rest out → file_image (bytes ++ more) ≡ out }
     ensures rest { (bytes more : List ℕ) (h : Header) (rest out : List ℕ)
         → DecodesFile bytes h rest out → file_rest (bytes ++ more) ≡ file_rest bytes ++ more }
+{}
+
+/// Files that stand one after the other at the front of the bytes: none, and one more. The image of
+/// each stays whatever is appended.
+pub fn files_stay()
+    ensures none { (bytes : List ℕ) → BeginsWithFiles 0 bytes }
+    ensures more { (k : ℕ) (bytes : List ℕ) → BeginsWithFiles k bytes
+        → BeginsWithFile (behind_files k bytes) → BeginsWithFiles (k + 1) bytes }
+    ensures kept { (k : ℕ) (old new more : List ℕ) → new ≡ old ++ more → BeginsWithFiles (k + 1) old
+        → file_image (behind_files k new) ≡ file_image (behind_files k old) }
 {}
 
 /// The image that bytes begin with, and what follows it, are functions of the bytes; likewise those

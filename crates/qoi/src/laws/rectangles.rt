@@ -46,8 +46,6 @@ pub fn rows_that_come()
     ensures fits { (stride k rows : ℕ) → k < rows → stride * k + stride ≤ stride * rows }
     ensures front { (stride k : ℕ) (raw : List ℕ) → take (stride * (k + 1)) raw
         ≡ take (stride * k) raw ++ row_bytes stride raw k }
-    ensures none { (stride top left size : ℕ) (raw : List ℕ)
-        → rectangle stride top left 0 size raw ≡ [] }
     ensures more { (stride top left rows size : ℕ) (raw : List ℕ)
         → rectangle stride top left (rows + 1) size raw
         ≡ rectangle stride top left rows size raw

@@ -1,11 +1,11 @@
 //! Files that stand one after the other: each with what follows it, and its length. Only
-//! `count_files` and `file_length` have proof files: a loop's invariant and measure, and one goal,
-//! that a file stands at the front.
-ghost use Rattle.std.specs.Prelude.{◌≡◌, ◌<◌, ℕ, List, ◌++◌, length, Some, IfSome, IfOk};
+//! `count_files` has a proof file: its loop's invariant and measure.
+ghost use Rattle.std.specs.Prelude.{◌≡◌, ◌+◌, ◌<◌, ℕ, List, ◌++◌, length, Some, IfSome, IfOk};
 ghost use Rattle.qoi.specs.declared.chunk.Chunk.{Chunk};
 ghost use Rattle.qoi.specs.declared.header.Header.{Header};
 ghost use Rattle.qoi.specs.Images.{file_image, file_rest};
 ghost use Rattle.qoi.specs.Qoi.{IsFile, file};
+ghost use Rattle.qoi.specs.FrontFile.{BeginsWithFile};
 
 use crate::tests::fakes::{ONE_RGB_PIXEL, PIXEL};
 use crate::tests::library::support::{assert_bytes, assert_number};
@@ -69,8 +69,8 @@ pub fn both<'a>(alloc: Global, bytes: &'a [u8]) -> Result<(Vec<u8>, Vec<u8>, &'a
 
 /// How many bytes the file at the front has; none if no file stands there. Nothing is allocated.
 pub fn file_length(bytes: &[u8]) -> Option<usize>
-    ensures is_file { IfSome result (λ n. (h : Header) × (cs : List Chunk) × (rest : List ℕ)
-        × IsFile h cs × (bytes.now ≡ file h cs ++ rest) × (n ≡ length (file h cs))) }
+    ensures is_file { IfSome result (λ n. BeginsWithFile bytes.now
+        × (n + length (file_rest bytes.now) ≡ length bytes.now)) }
     ensures found { (h : Header) (cs : List Chunk) (rest : List ℕ) → IsFile h cs
         → bytes.now ≡ file h cs ++ rest → result ≡ Some (length (file h cs)) }
 {

@@ -1,5 +1,5 @@
 //! Callers that cut a rectangle out of a picture, in memory or while its rows are decoded, and that
-//! paste one into a picture. Proof files have the loops' invariants; `cut_rows` has answers, too.
+//! paste one into a picture. Only the loops have proof files, with their invariants.
 ghost use Rattle.std.specs.Prelude.{◌≡◌, ◌+◌, ◌-◌, ◌*◌, ◌≤◌, ◌<◌, ◌^◌, ℕ, List, length, Option, Some, Ok, IsTrue, IfOk, OnOk};
 ghost use Rattle.qoi.specs.declared.header.Header.{Header};
 ghost use Rattle.qoi.specs.Qoi.{channels_number, header_of};
@@ -122,7 +122,6 @@ pub fn cut_rows(
         area.rows area.size
         (front_image decoder.entry.channels decoder.entry.header decoder.entry.reader)) }
 {
-    rows_that_come();
     let mut pixels = decoder.into_pixels();
     let mut tile = Vec::new(alloc);
     for k in 0..area.top + area.rows {
@@ -197,6 +196,31 @@ fn a_tile_of_a_file(rt: HostRuntime) -> Result<(), Error> {
     );
     let wide = Area { size: 4, ..MIDDLE };
     let refused = cut_file(rt.alloc(), &file, wide);
+    assert!(rt; matches!(refused, Err(Error::UnexpectedBufferEnd)));
+    Ok(())
+}
+
+#[test]
+fn a_tile_of_nine_pixels(rt: HostRuntime) -> Result<(), Error> {
+    let alloc = rt.alloc();
+    let mut raw = [0; 27]; // three rows of three pixels of three channels
+    for i in 0..27 {
+        raw[i] = i as u8;
+    }
+    let file = encode_to_vec(alloc, &raw, 3, 3)?;
+    let lower_right = Area {
+        top: 1,
+        rows: 2,
+        left: 3,
+        size: 6,
+    };
+    let cut = [12, 13, 14, 15, 16, 17, 21, 22, 23, 24, 25, 26];
+    assert_bytes(&rt, &cut_file(alloc, &file, lower_right)?, &cut);
+    let high = Area {
+        rows: 3,
+        ..lower_right
+    };
+    let refused = cut_file(alloc, &file, high);
     assert!(rt; matches!(refused, Err(Error::UnexpectedBufferEnd)));
     Ok(())
 }

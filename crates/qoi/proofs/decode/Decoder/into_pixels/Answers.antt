@@ -2,6 +2,7 @@
 use Rattle.std.proofs.Common.{refl, arith, ◌∙◌, []}
 use Rattle.std.proofs.Math.Nat.{mul_comm}
 use Rattle.qoi.specs.Qoi.{channels_number, pixel_count}
+use Rattle.qoi.specs.PixelReader.{HasRows}
 use Rattle.qoi.proofs.decoding.ImageSize.{channels_are}
 use Rattle.qoi.proofs.decoding.PixelPieces.{has_given}
 use Rattle.qoi.proofs.decode.Decoder.into_pixels.Goals as goal
@@ -18,4 +19,5 @@ pub returns-clause-fresh : goal.returns-clause-fresh
 returns-clause-fresh = returns-clause-start
 
 pub returns-clause-rows : goal.returns-clause-rows
-returns-clause-rows g c stride = record { given = []; size = omega arith; read = returns-clause-start g c }
+unfolding HasRows
+returns-clause-rows g c stride = ([], omega arith, returns-clause-start g c)

@@ -1,10 +1,11 @@
 -- By the lemmas on a file's header and what follows it.
-use Rattle.std.proofs.Common.{List, ℕ, ◌++◌, refl, sym, subst, ◌≡◌}
+use Rattle.std.proofs.Common.{List, ℕ, ◌++◌, refl, sym, ◌≡◌}
 use Rattle.qoi.specs.declared.header.Header.{Header}
 use Rattle.qoi.specs.declared.chunk.Chunk.{Chunk}
 use Rattle.qoi.specs.Images.{file_rest}
 use Rattle.qoi.specs.Qoi.{IsFile, file}
 use Rattle.qoi.specs.Reading.{StandsAhead}
+use Rattle.qoi.proofs.decoding.FrontFile.{begins_with_file}
 use Rattle.qoi.proofs.decoding.FrontImage.{file_rest_is}
 use Rattle.qoi.proofs.decoding.OneFile.{file_has_header, file_is_whole, file_from_whole, decodes_file}
 use Rattle.qoi.proofs.laws.reading.files_are_read.Goals as goal
@@ -22,8 +23,5 @@ returns c = record {
   begins = λ h cs rest f.
       let bytes = file h cs ++ rest in
       (file_has_header h cs bytes rest f refl, (cs, rest, file_is_whole h cs bytes rest f refl), rest_of_file h cs bytes rest f refl);
-  stands = λ bytes h are header ahead.
-      let (cs, rest, whole) = ahead in
-      let (f, split) = file_from_whole h cs bytes rest are header whole in
-      (header, cs, f, subst (λ z. bytes ≡ file h cs ++ z) (sym (rest_of_file h cs bytes rest f split)) split);
+  stands = begins_with_file;
 }

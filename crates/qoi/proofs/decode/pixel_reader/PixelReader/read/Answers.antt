@@ -1,12 +1,13 @@
 -- A piece more is given, or the image is refused.
 use Rattle.std.proofs.Common.{◌≡◌, ◌++◌, List, ℕ, Some, take, drop, length, arith, refl, sym, ap, ◌∙◌, subst}
 use Rattle.std.proofs.lemmas.List.{length-append, length-drop, length-take, length-take-le, drop_at, drop-take}
+use Rattle.std.proofs.Math.Nat.{mul-suc}
 use lib.Seq.{take-append_seam}
 use Rattle.qoi.specs.declared.header.Header.{Header}
 use Rattle.qoi.specs.declared.types.Channels.{Channels}
 use Rattle.qoi.specs.Images.{front_image}
 use Rattle.qoi.specs.Qoi.{IsValid, pixel_count}
-use Rattle.qoi.specs.PixelReader.{PixelsState, HasGiven}
+use Rattle.qoi.specs.PixelReader.{PixelsState, HasGiven, HasRows}
 use Rattle.qoi.specs.inner.Chunks.{RefusesChunks}
 use Rattle.qoi.proofs.decoding.Rows.{row_more, row_next}
 use Rattle.qoi.proofs.decoding.PixelPieces.{byte_bounds, has_given, pieces_of, refuses_pixels}
@@ -47,18 +48,24 @@ returns-in-Ok-clause-follows g c d bytes given h =
     let after = returns-in-Ok-clause-read g c d (Some bytes) given h in
     rw many at (piece_follows d.channels d.header bytes given piece after.front)
 
+pub returns-then-size-eq0-clause-rows : goal.returns-then-size-eq0-clause-rows
+unfolding HasRows
+returns-then-size-eq0-clause-rows g c d start stride k (given, many, h) long none = (given, omega (arith, many, none, mul-suc stride k), h)
+
 pub returns-in-Ok-clause-rows : goal.returns-in-Ok-clause-rows
-returns-in-Ok-clause-rows g c d start stride k h long fills =
+unfolding HasRows
+returns-in-Ok-clause-rows g c d start stride k (given, many, h) long fills =
     let size = c.min-size.result in
     let row = c.next_piece.new.out ++ drop size c.args.buf.now in
-    row_more d start _ stride k size h.given row _ (returns-in-Ok-clause-read g c d start h.given h.read) h.size
+    row_more d start _ stride k size given row _ (returns-in-Ok-clause-read g c d start given h) many
     (omega (arith, c.next_piece.auto.out, length-take size c.args.buf.now, length-append c.next_piece.new.out (drop size c.args.buf.now), length-drop size c.args.buf.now, c.min-size.ensures, long)) fills
 
 pub returns-in-Ok-clause-row : goal.returns-in-Ok-clause-row
-returns-in-Ok-clause-row g c d bytes stride k h long fills =
+unfolding HasRows
+returns-in-Ok-clause-row g c d bytes stride k (given, many, h) long fills =
     let size = c.min-size.result in
     let row = c.next_piece.new.out ++ drop size c.args.buf.now in
-    row_next (front_image d.channels d.header bytes) h.given row stride k size (returns-in-Ok-clause-follows g c d bytes h.given h.read) h.size
+    row_next (front_image d.channels d.header bytes) given row stride k size (returns-in-Ok-clause-follows g c d bytes given h) many
     (omega (arith, c.next_piece.auto.out, length-take size c.args.buf.now, length-append c.next_piece.new.out (drop size c.args.buf.now), length-drop size c.args.buf.now, c.min-size.ensures, long))
     (omega (arith, fills, c.min-size.ensures, long))
 
