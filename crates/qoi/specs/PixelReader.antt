@@ -29,7 +29,7 @@ pixels_left p = bytes_left p.pieces
 
 -- The decoder d decodes an image from `start`. The raw bytes `given` were read of it so far, and `now`
 -- is ahead.
-pub record HasGiven {R : Type 0} (d : DecoderState R) (start now : Option (List ℕ)) (given : List ℕ) (p : PixelsState R) : Type 0 where
+pub record GivesSoFar {R : Type 0} (d : DecoderState R) (start now : Option (List ℕ)) (given : List ℕ) (p : PixelsState R) : Type 0 where
   -- the image wasn't refused
   pub going : p.refused ≡ false
   -- chunks at the front of `start` were taken, and these are the first bytes of their pixels
@@ -46,7 +46,11 @@ pub record HasGiven {R : Type 0} (d : DecoderState R) (start now : Option (List 
   -- if none are left, the decoder's image was decoded, and they are its bytes
   pub whole : pixels_left p ≡ 0 → HasDecoded d start now given
 
--- Of that image k rows of `stride` bytes were read. It is no abbreviation, so that the prover passes it on whole.
+-- The same. It is no abbreviation, so that the prover passes it on whole; nor is HasRows.
+unfoldable pub HasGiven : {R : Type 0} → DecoderState R → Option (List ℕ) → Option (List ℕ) → List ℕ → PixelsState R → Type 0
+HasGiven d start now given p = GivesSoFar d start now given p
+
+-- Of that image k rows of `stride` bytes were read.
 unfoldable pub HasRows : {R : Type 0} → DecoderState R → Option (List ℕ) → Option (List ℕ) → ℕ → ℕ → PixelsState R → Type 0
 HasRows d start now stride k p = (given : List ℕ) × (length given ≡ stride * k) × HasGiven d start now given p
 

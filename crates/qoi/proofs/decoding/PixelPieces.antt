@@ -28,7 +28,7 @@ byte_bounds h Rgba valid = (omega (arith, valid), omega (arith, valid))
 pub has_given : {R : Type 0} (d : DecoderState R) (start now : Option (List ℕ)) (given : List ℕ) (p : PixelsState R)
     → GivesPieces (channels_number d.header.channels) (channels_number d.channels) (pixel_count d.header) start now given p.pieces
     → p.header ≡ d.header → p.channels ≡ d.channels → p.refused ≡ false → 3 ≤ output_byte_count d → HasGiven d start now given p
-unfolding pixels_left
+unfolding pixels_left HasGiven
 has_given d start now given p h same chosen going some =
     let n = pixel_count d.header in
     let k = channels_number d.channels in

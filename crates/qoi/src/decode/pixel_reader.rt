@@ -171,7 +171,11 @@ impl<R: PieceReader> PixelReader<R> {
     /// a refusal.
     #[tactic(auto, unfolding(crate::specs::PixelReader::pixels_left))]
     pub fn left(&self) -> usize
-        ensures { result ≡ pixels_left self.now }
+        ensures left { result ≡ pixels_left self.now }
+        // If none are left, the decoder's image was decoded, and these are its bytes.
+        ensures all { (d : DecoderState R) (start : Option (List ℕ)) (given : List ℕ)
+            → HasGiven d start (R.ahead self.now.reader) given self.now → result ≡ 0
+            → HasDecoded d start (R.ahead self.now.reader) given }
     {
         self.pieces.left()
     }

@@ -49,7 +49,7 @@ loop-buf-init g c = record {
 }
 
 pub loop-buf-smaller : goal.loop-buf-smaller
-loop-buf-smaller g c = omega (arith, c.in_ok-read.ensures.left, c.in_ok-read.ensures.size, c.left.ensures, c.loop-buf-test.true)
+loop-buf-smaller g c = omega (arith, c.in_ok-read.ensures.left, c.in_ok-read.ensures.size, c.left.ensures.left, c.loop-buf-test.true)
 
 pub loop-buf-preserved : goal.loop-buf-preserved
 loop-buf-preserved g c =
@@ -90,9 +90,10 @@ returns-in_err-read-clause-again g c is =
     rw (p.1, p.2) (ap Err e)
 
 pub returns-clause-finished : goal.returns-clause-finished
+unfolding HasGiven
 returns-clause-finished g c d start given h =
     let (rest, all) = c.loop-buf.invariant.read d start given h in
-    (rest, subst (λ z. HasDecoded d start (g.R.Reader.ahead z.reader) (given ++ rest)) (sym c.into_decoder.ensures) (all.whole (omega (arith, c.left.ensures, c.loop-buf-test.false))))
+    (rest, subst (λ z. HasDecoded d start (g.R.Reader.ahead z.reader) (given ++ rest)) (sym c.into_decoder.ensures) (all.whole (omega (arith, c.left.ensures.left, c.loop-buf-test.false))))
 
 pub returns-clause-passed : goal.returns-clause-passed
 returns-clause-passed g c fresh =
@@ -116,4 +117,4 @@ returns-clause-same g c =
 pub returns-clause-again : goal.returns-clause-again
 returns-clause-again g c is =
     let now : IsSpent c.loop-buf.self = subst IsSpent (sym (c.loop-buf.invariant.spent is)) is in
-    absurd (omega (arith, now.1, c.left.ensures, c.loop-buf-test.false))
+    absurd (omega (arith, now.1, c.left.ensures.left, c.loop-buf-test.false))

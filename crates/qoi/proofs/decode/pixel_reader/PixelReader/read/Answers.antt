@@ -22,6 +22,7 @@ piece_follows channels h bytes given piece front =
     ∙ drop-take (length given) (length piece) (front_image channels h bytes)
 
 pub returns-in-Ok-clause-read : goal.returns-in-Ok-clause-read
+unfolding HasGiven
 returns-in-Ok-clause-read g c d start given h =
     let header = ap (λ s. s.header) c.self.view_is ∙ h.header in
     let chosen = ap (λ s. s.channels) c.self.view_is ∙ h.channels in
@@ -40,6 +41,7 @@ returns-in-Ok-clause-read g c d start given h =
     (has_given d start _ (given ++ out) then after (ap (λ s. s.header) same ∙ header) (ap (λ s. s.channels) same ∙ chosen) going (byte_bounds d.header d.channels valid).0)
 
 pub returns-in-Ok-clause-follows : goal.returns-in-Ok-clause-follows
+unfolding HasGiven
 returns-in-Ok-clause-follows g c d bytes given h =
     let size = c.min-size.result in
     let piece = take size (c.next_piece.new.out ++ drop size c.args.buf.now) in
@@ -69,7 +71,12 @@ returns-in-Ok-clause-row g c d bytes stride k (given, many, h) long fills =
     (omega (arith, c.next_piece.auto.out, length-take size c.args.buf.now, length-append c.next_piece.new.out (drop size c.args.buf.now), length-drop size c.args.buf.now, c.min-size.ensures, long))
     (omega (arith, fills, c.min-size.ensures, long))
 
+pub returns-then-self-clause-refused : goal.returns-then-self-clause-refused
+unfolding HasGiven
+returns-then-self-clause-refused g c d start given h = let going = ap (λ s. s.refused) c.self.view_is ∙ h.going in absurd (cc)
+
 pub returns-in-Err-clause-refused : goal.returns-in-Err-clause-refused
+unfolding HasGiven
 returns-in-Err-clause-refused g c d start given h =
     let header = ap (λ s. s.header) c.self.view_is ∙ h.header in
     let chosen = ap (λ s. s.channels) c.self.view_is ∙ h.channels in
