@@ -91,41 +91,12 @@ pub fn receive_buffered<R: BufRead + Drop>(alloc: Global, reader: R) -> Result<(
     Ok((raw, decoder.into_reader()))
 }
 
-/// Several files in one slice. The raw bytes of the images of two files, one after the other.
-pub fn two_images(alloc: Global, bytes: &[u8]) -> Result<(Vec<u8>, Vec<u8>), Error>
-    ensures { IfOk result (λ x. (h : Header) × (k : Header) × (middle : List ℕ) × (rest : List ℕ)
-        × (header_of bytes.now ≡ Ok h)
-        × ReadsImage (channels_number h.channels) (channels_number h.channels) (pixel_count h)
-        (Some (drop header_size bytes.now)) (Some middle) x.0.items
-        × DecodesFile middle k rest x.1.items) }
-{
-    let mut decoder = Decoder::new(bytes)?;
-    let first = decoder.decode_to_vec(alloc)?;
-    let (_, second) = decode_to_vec(alloc, decoder.data())?;
-    Ok((first, second))
-}
-
 /// There and back. The raw bytes of an image are encoded into a vector and decoded again, and are
 /// the same bytes.
 pub fn there_and_back(alloc: Global, raw: &[u8], width: u32, height: u32) -> Result<Vec<u8>, Error>
     ensures { IfOk result (λ back. back.items ≡ raw.now) }
 {
     let file = encode_to_vec(alloc, raw, width, height)?;
-    let (_, back) = decode_to_vec(alloc, &file)?;
-    Ok(back)
-}
-
-/// There and back in style `Tight`.
-pub fn tight_there_and_back(
-    alloc: Global,
-    raw: &[u8],
-    width: u32,
-    height: u32,
-) -> Result<Vec<u8>, Error>
-    ensures { IfOk result (λ back. back.items ≡ raw.now) }
-{
-    let encoder = Encoder::new(raw, width, height)?.with_style(Style::Tight);
-    let file = encoder.encode_to_vec(alloc)?;
     let (_, back) = decode_to_vec(alloc, &file)?;
     Ok(back)
 }
@@ -437,46 +408,6 @@ pub fn frame_store(
     Encoder::new(first, width, height)?.encode_to_stream(&mut store)?;
     Encoder::new(second, width, height)?.encode_to_stream(&mut store)?;
     two_frames(alloc, store.as_slice())
-}
-
-/// There and back through a buffer whose length is tested first. The raw bytes come back in its
-/// front.
-pub fn into_buffer<'a>(
-    alloc: Global,
-    buf: &'a mut [u8],
-    raw: &[u8],
-    width: u32,
-    height: u32,
-) -> Result<&'a [u8], Error>
-    ensures { IfOk result (λ back. back.now ≡ raw.now) }
-{
-    let file = encode_to_vec(alloc, raw, width, height)?;
-    let mut decoder = Decoder::new(&file)?;
-    let required = decoder.required_buf_len();
-    if buf.len() < required {
-        return Err(Error::OutputBufferTooSmall {
-            size: buf.len(),
-            required,
-        });
-    }
-    let size = decoder.decode_to_buf(buf)?;
-    Ok(&buf[..size])
-}
-
-/// There and back by the methods. The raw bytes come back.
-pub fn methods_there_and_back(
-    alloc: Global,
-    raw: &[u8],
-    width: u32,
-    height: u32,
-) -> Result<Vec<u8>, Error>
-    ensures { IfOk result (λ back. back.items ≡ raw.now) }
-{
-    let encoder = Encoder::new(raw, width, height)?;
-    let file = encoder.encode_to_vec(alloc)?;
-    let mut decoder = Decoder::new(&file)?;
-    let back = decoder.decode_to_vec(alloc)?;
-    Ok(back)
 }
 
 /// Memory. The raw bytes of a file are at most 248 for each of its bytes.

@@ -3,11 +3,10 @@
 use crate::tests::fakes::{Bad, End, ONE_RGB_PIXEL, PIXEL, Sink};
 use crate::tests::library::callers::{
     all_images, as_long, at_most, at_most_from, both_channels, both_images, bounded_bytes,
-    decoded_part, encoded_part, first_byte, frame_store, header_ahead, into_buffer, keep_and_try,
-    keep_twice, lengths, lengths_back, methods_there_and_back, more_needed, near_shortest,
-    no_longer, pack, pack_and_keep, pack_and_keep_in, pack_at_once, raw_bytes, receive,
-    receive_buffered, send, send_and_keep, shortest, space_byte, there_and_back, tight_part,
-    tight_there_and_back, two_frames_buffered, two_images,
+    decoded_part, encoded_part, first_byte, frame_store, header_ahead, keep_and_try, keep_twice,
+    lengths, lengths_back, more_needed, near_shortest, no_longer, pack, pack_and_keep,
+    pack_and_keep_in, pack_at_once, raw_bytes, receive, receive_buffered, send, send_and_keep,
+    shortest, space_byte, there_and_back, tight_part, two_frames_buffered,
 };
 use crate::tests::library::support::images::{file_of, row};
 use crate::tests::library::support::{
@@ -46,18 +45,11 @@ fn raw_bytes_of_a_file(rt: HostRuntime) {
 }
 
 #[test]
-fn there_and_back_again(rt: HostRuntime) {
-    let alloc = rt.alloc();
-    assert_given(&rt, there_and_back(alloc, &PIXEL, 1, 1), &PIXEL);
-    assert_given(&rt, tight_there_and_back(alloc, &PIXEL, 1, 1), &PIXEL);
-    assert_given(&rt, methods_there_and_back(alloc, &PIXEL, 1, 1), &PIXEL);
-}
-
-#[test]
 fn vectors(rt: HostRuntime) {
     let alloc = rt.alloc();
     assert_given(&rt, near_shortest(alloc, &PIXEL, 1, 1), &ONE_RGB_PIXEL);
     assert_given(&rt, shortest(alloc, &PIXEL, 1, 1), &ONE_RGB_PIXEL);
+    assert_given(&rt, there_and_back(alloc, &PIXEL, 1, 1), &PIXEL);
     assert!(rt; matches!(space_byte(alloc, &PIXEL, 1, 1), Ok(0)));
 }
 
@@ -178,7 +170,6 @@ fn lengths_in_all_styles_back(rt: HostRuntime) {
 
 #[test]
 fn many_files(rt: HostRuntime) {
-    assert_both(&rt, two_images(rt.alloc(), &files()), &PIXEL, &PIXEL);
     assert_both(&rt, both_images(rt.alloc(), &files()), &PIXEL, &PIXEL);
 }
 
@@ -188,27 +179,6 @@ fn frames_come_back(rt: HostRuntime) {
     assert_both(&rt, frames, &PIXEL, &[1, 2, 3]);
     let frames = two_frames_buffered(rt.alloc(), files().as_slice());
     assert_both(&rt, frames, &PIXEL, &PIXEL);
-}
-
-#[test]
-fn into_a_buffer(rt: HostRuntime) {
-    let alloc = rt.alloc();
-    assert_part(
-        &rt,
-        into_buffer(alloc, &mut [0xaa; 4], &PIXEL, 1, 1),
-        &PIXEL,
-    );
-    let mut buf = [0xaa; 2];
-    let short = into_buffer(alloc, &mut buf, &PIXEL, 1, 1);
-    assert!(rt;
-        matches!(
-            short,
-            Err(Error::OutputBufferTooSmall {
-                size: 2,
-                required: 3
-            })
-        )
-    );
 }
 
 #[test]

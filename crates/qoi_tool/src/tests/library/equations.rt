@@ -135,35 +135,6 @@ pub fn saved_as_and_loaded(
     load(alloc, &file)
 }
 
-/// By the free call and by the method: the same file.
-pub fn call_and_method(
-    alloc: Global,
-    raw: &[u8],
-    width: u32,
-    height: u32,
-) -> Result<(Vec<u8>, Vec<u8>), Error>
-    ensures { IfOk result (λ x. x.0.items ≡ x.1.items) }
-{
-    let first = encode_to_vec(alloc, raw, width, height)?;
-    let second = Encoder::new(raw, width, height)?.encode_to_vec(alloc)?;
-    Ok((first, second))
-}
-
-/// In a buffer and in a vector, by the free calls.
-pub fn buffer_and_vector(
-    alloc: Global,
-    buf: &mut [u8],
-    raw: &[u8],
-    width: u32,
-    height: u32,
-) -> Result<Vec<u8>, Error>
-    ensures { IfOk result (λ file. buf.new ≡ file.items ++ drop (length file.items) buf.old) }
-{
-    encode_to_buf(buf, raw, width, height)?;
-    let file = encode_to_vec(alloc, raw, width, height)?;
-    Ok(file)
-}
-
 /// A file that lacks its last byte is refused.
 pub fn without_last(alloc: Global, raw: &[u8], width: u32, height: u32) -> Result<Error, Error> {
     let file = Encoder::new(raw, width, height)?.encode_to_vec(alloc)?;
@@ -174,16 +145,6 @@ pub fn without_last(alloc: Global, raw: &[u8], width: u32, height: u32) -> Resul
 }
 
 /// So is one of the free call, from which its last byte was popped.
-pub fn popped(alloc: Global, raw: &[u8], width: u32, height: u32) -> Result<Error, Error> {
-    let mut file = encode_to_vec(alloc, raw, width, height)?;
-    file.pop();
-    match decode_to_vec(alloc, &file) {
-        Ok(_) => unreachable!(),
-        Err(refusal) => Ok(refusal),
-    }
-}
-
-/// The same, asked of the result.
 pub fn popped_is_err(alloc: Global, raw: &[u8], width: u32, height: u32) -> Result<bool, Error>
     ensures { IfOk result (λ refused. refused ≡ true) }
 {
@@ -263,21 +224,9 @@ fn twice_and_again(rt: HostRuntime) -> Result<(), Error> {
 }
 
 #[test]
-fn by_call_and_by_method(rt: HostRuntime) -> Result<(), Error> {
-    let alloc = rt.alloc();
-    let (first, second) = call_and_method(alloc, &PIXEL, 1, 1)?;
-    assert_bytes(&rt, &first, &ONE_RGB_PIXEL);
-    assert_bytes(&rt, &second, &ONE_RGB_PIXEL);
-    assert_bytes(&rt, &saved_as_and_loaded(alloc, &PIXEL, 1, 1)?, &PIXEL);
-    Ok(())
-}
-
-#[test]
 fn refused_and_accepted(rt: HostRuntime) -> Result<(), Error> {
     let alloc = rt.alloc();
     let refusal = without_last(alloc, &PIXEL, 1, 1)?;
-    assert!(rt; matches!(refusal, Error::UnexpectedBufferEnd));
-    let refusal = popped(alloc, &PIXEL, 1, 1)?;
     assert!(rt; matches!(refusal, Error::UnexpectedBufferEnd));
     assert!(rt; popped_is_err(alloc, &PIXEL, 1, 1)?);
     let refused = popped_result(alloc, &PIXEL, 1, 1)?;
@@ -299,20 +248,12 @@ fn refused_and_accepted(rt: HostRuntime) -> Result<(), Error> {
 fn saved_by_functions_of_our_own(rt: HostRuntime) -> Result<(), Error> {
     let alloc = rt.alloc();
     assert_bytes(&rt, &saved_and_loaded(alloc, &PIXEL, 1, 1)?, &PIXEL);
+    assert_bytes(&rt, &saved_as_and_loaded(alloc, &PIXEL, 1, 1)?, &PIXEL);
     let (first, second) = saved_twice(alloc, &PIXEL, 1, 1)?;
     assert_bytes(&rt, &first, &ONE_RGB_PIXEL);
     assert_bytes(&rt, &second, &ONE_RGB_PIXEL);
     let mut out = Vec::new(alloc);
     assert_number(&rt, save_to(&mut out, &PIXEL, 1, 1)?, 26);
     assert_bytes(&rt, &load_from(alloc, out.as_slice())?, &PIXEL);
-    Ok(())
-}
-
-#[test]
-fn in_a_buffer_too(rt: HostRuntime) -> Result<(), Error> {
-    let mut buf = [0xaa; 26];
-    let file = buffer_and_vector(rt.alloc(), &mut buf, &PIXEL, 1, 1)?;
-    assert_bytes(&rt, &file, &ONE_RGB_PIXEL);
-    assert_bytes(&rt, &buf, &ONE_RGB_PIXEL);
     Ok(())
 }

@@ -16,15 +16,6 @@ use qoi::{
 use std::alloc::Global;
 use std::io::{BufReader, Cursor, Read};
 
-/// The same bytes are the same image: by the free call twice.
-pub fn twice(alloc: Global, file: &[u8]) -> Result<(Vec<u8>, Vec<u8>), Error>
-    ensures { IfOk result (λ x. x.0.items ≡ x.1.items) }
-{
-    let (_, first) = decode_to_vec(alloc, file)?;
-    let (_, second) = decode_to_vec(alloc, file)?;
-    Ok((first, second))
-}
-
 /// The same bytes are the same image: into a vector and into a buffer.
 pub fn vector_and_buffer<'a>(
     alloc: Global,
@@ -96,15 +87,6 @@ pub fn size_with_image(
     Ok((header, back))
 }
 
-/// Headers. So has the header of the method's file.
-pub fn size_by_method(alloc: Global, raw: &[u8], width: u32, height: u32) -> Result<Header, Error>
-    ensures { IfOk result (λ h. (h.width ≡ width) × (h.height ≡ height)) }
-{
-    let file = Encoder::new(raw, width, height)?.encode_to_vec(alloc)?;
-    let header = decode_header(&file)?;
-    Ok(header)
-}
-
 /// Color spaces. In `Linear` the fourteenth byte is 1, and all else is as in `Srgb`.
 pub fn both_spaces(
     alloc: Global,
@@ -122,21 +104,6 @@ pub fn both_spaces(
 }
 
 /// Channels. An image of four channels, decoded in three, is its raw bytes without each fourth.
-pub fn rgb_of_rgba(
-    alloc: Global,
-    raw: &[u8],
-    width: u32,
-    height: u32,
-) -> Result<(Header, Vec<u8>), Error>
-    ensures { IfOk result (λ x. x.0.channels ≡ Channels.Rgba → x.1.items ≡ without_fourth raw.now) }
-{
-    let file = Encoder::new(raw, width, height)?.encode_to_vec(alloc)?;
-    let mut decoder = Decoder::new(&file)?.with_channels(Channels::Rgb);
-    let rgb = decoder.decode_to_vec(alloc)?;
-    Ok((*decoder.header(), rgb))
-}
-
-/// Channels. So is one that the free call encoded.
 pub fn rgb_of_own(
     alloc: Global,
     raw: &[u8],
@@ -292,9 +259,6 @@ pub fn by_clone_of_buffered(alloc: Global, file: &[u8]) -> Result<(Vec<u8>, Vec<
 #[test]
 fn the_same_image(rt: HostRuntime) -> Result<(), Error> {
     let alloc = rt.alloc();
-    let (first, second) = twice(alloc, &ONE_RGB_PIXEL)?;
-    assert_bytes(&rt, &first, &PIXEL);
-    assert_bytes(&rt, &second, &PIXEL);
     let mut buf = [0xaa; 4];
     let (first, second) = vector_and_buffer(alloc, &mut buf, &ONE_RGB_PIXEL)?;
     assert_bytes(&rt, &first, &PIXEL);
@@ -322,12 +286,10 @@ fn the_same_image_of_streams(rt: HostRuntime) -> Result<(), Error> {
 }
 
 #[test]
-fn headers_channels_and_lengths(rt: HostRuntime) -> Result<(), Error> {
+fn headers_and_lengths(rt: HostRuntime) -> Result<(), Error> {
     let alloc = rt.alloc();
     let (found, given) = header_back(alloc, &PIXEL, 1, 1)?;
     assert_header(&rt, &found, &given);
-    let (_, rgb) = rgb_of_rgba(alloc, &[1, 2, 3, 4], 1, 1)?;
-    assert_bytes(&rt, &rgb, &[1, 2, 3]);
     assert_number(&rt, took(alloc, &ONE_RGB_PIXEL)?, 0);
     assert_bytes(&rt, &encoded_again(alloc, &ONE_RGB_PIXEL)?, &ONE_RGB_PIXEL);
     Ok(())
@@ -355,12 +317,9 @@ fn sizes_and_spaces(rt: HostRuntime) -> Result<(), Error> {
 }
 
 #[test]
-fn sizes_and_channels_of_own_files(rt: HostRuntime) -> Result<(), Error> {
+fn channels_of_own_files(rt: HostRuntime) -> Result<(), Error> {
     let alloc = rt.alloc();
     let rgba = [1, 2, 3, 4, 5, 6, 7, 8];
-    let header = size_by_method(alloc, &rgba, 2, 1)?;
-    assert_number(&rt, header.width as usize, 2);
-    assert_number(&rt, header.height as usize, 1);
     let rgb = [1, 2, 3, 5, 6, 7];
     assert_bytes(&rt, &rgb_of_own(alloc, &rgba, 2, 1)?.1, &rgb);
     assert_bytes(&rt, &rgb_of_stream(alloc, &rgba, 2, 1)?.1, &rgb);

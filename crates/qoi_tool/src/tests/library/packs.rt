@@ -55,19 +55,6 @@ pub fn tile_at(alloc: Global, pack: &[u8], offset: usize) -> Result<Vec<u8>, Err
     Ok(tile)
 }
 
-/// The same by the method of a slice.
-pub fn tile_at_by_method(alloc: Global, pack: &[u8], offset: usize) -> Result<Vec<u8>, Error>
-    ensures { (style : Style) (h : Header) (raw bytes rest : List ℕ) → IsFileOf style h raw bytes
-        → drop offset pack.now ≡ bytes ++ rest → IfOk result (λ tile. tile.items ≡ raw) }
-{
-    if offset > pack.len() {
-        return Err(Error::UnexpectedBufferEnd);
-    }
-    let mut decoder = Decoder::new(&pack[offset..])?;
-    let tile = decoder.decode_to_vec(alloc)?;
-    Ok(tile)
-}
-
 /// The same of the second part of a pack.
 pub fn tile_after(alloc: Global, pack: &[u8], offset: usize) -> Result<Vec<u8>, Error>
     ensures { (style : Style) (h : Header) (raw bytes rest : List ℕ) → IsFileOf style h raw bytes
@@ -87,39 +74,6 @@ pub fn byte_after(alloc: Global, raw: &[u8], width: u32, height: u32) -> Result<
     let mut file = encode_to_vec(alloc, raw, width, height)?;
     file.push(1)?;
     let (_, back) = decode_to_vec(alloc, &file)?;
-    Ok(back)
-}
-
-/// The same by the methods.
-pub fn byte_after_by_methods(
-    alloc: Global,
-    raw: &[u8],
-    width: u32,
-    height: u32,
-) -> Result<Vec<u8>, Error>
-    ensures { IfOk result (λ back. back.items ≡ raw.now) }
-{
-    let mut file = Encoder::new(raw, width, height)?.encode_to_vec(alloc)?;
-    file.push(1)?;
-    let mut decoder = Decoder::new(&file)?;
-    let back = decoder.decode_to_vec(alloc)?;
-    Ok(back)
-}
-
-/// Two files in an atlas, of which the second is read back.
-pub fn second_of_two(
-    alloc: Global,
-    first: &[u8],
-    second: &[u8],
-    width: u32,
-    height: u32,
-) -> Result<Vec<u8>, Error>
-    ensures { IfOk result (λ back. back.items ≡ second.now) }
-{
-    let mut atlas = Vec::new(alloc);
-    let size = Encoder::new(first, width, height)?.encode_to_stream(&mut atlas)?;
-    Encoder::new(second, width, height)?.encode_to_stream(&mut atlas)?;
-    let (_, back) = decode_to_vec(alloc, &atlas[size..])?;
     Ok(back)
 }
 
@@ -287,7 +241,6 @@ fn of_a_file_and_more(rt: HostRuntime) -> Result<(), Error> {
     assert_bytes(&rt, &tile_by_method(alloc, &file)?, &PIXEL);
     assert_bytes(&rt, &tile_ahead(alloc, file.as_slice())?, &PIXEL);
     assert_bytes(&rt, &byte_after(alloc, &PIXEL, 1, 1)?, &PIXEL);
-    assert_bytes(&rt, &byte_after_by_methods(alloc, &PIXEL, 1, 1)?, &PIXEL);
     Ok(())
 }
 
@@ -298,7 +251,6 @@ fn at_an_offset(rt: HostRuntime) -> Result<(), Error> {
     pack.extend_from_slice(&ONE_RGB_PIXEL)?;
     pack.push(4)?;
     assert_bytes(&rt, &tile_at(alloc, &pack, 3)?, &PIXEL);
-    assert_bytes(&rt, &tile_at_by_method(alloc, &pack, 3)?, &PIXEL);
     assert_bytes(&rt, &tile_after(alloc, &pack, 3)?, &PIXEL);
     let past = tile_at(alloc, &pack, 31);
     assert!(rt; matches!(past, Err(Error::UnexpectedBufferEnd)));
@@ -309,7 +261,6 @@ fn at_an_offset(rt: HostRuntime) -> Result<(), Error> {
 fn of_an_atlas(rt: HostRuntime) -> Result<(), Error> {
     let alloc = rt.alloc();
     let other = [1, 2, 3];
-    assert_bytes(&rt, &second_of_two(alloc, &PIXEL, &other, 1, 1)?, &other);
     let mut atlas = Vec::from_slice(alloc, &ONE_RGB_PIXEL)?;
     assert_bytes(&rt, &appended(alloc, &mut atlas, &other, 1, 1)?, &other);
     // A file of one pixel has 22 bytes and a chunk: here an RGB of four bytes, and a luma of two.

@@ -63,6 +63,29 @@ fn by_pieces<R: PieceReader>(
     Ok(out)
 }
 
+// Reads the image of a decoder's file piece by piece, in these channels, and returns the decoder.
+fn assert_image<R: PieceReader + Drop>(
+    rt: &impl Abort,
+    alloc: Global,
+    decoder: Decoder<R>,
+    channels: Channels,
+    raw: &[u8],
+    lengths: Lengths,
+) -> Decoder<R> {
+    let mut pixels = decoder.with_channels(channels).into_pixels();
+    assert!(rt; pixels.channels() == channels);
+    assert_number(rt, pixels.left(), raw.len());
+    assert_given(rt, by_pieces(rt, alloc, &mut pixels, lengths), raw);
+    pixels.into_decoder()
+}
+
+// A file, and the two bytes that follow it.
+fn followed(alloc: Global, file: &[u8]) -> Result<Vec<u8>> {
+    let mut bytes = Vec::from_slice(alloc, file)?;
+    bytes.extend_from_slice(&[0x78, 0x79])?;
+    Ok(bytes)
+}
+
 // The image of a file that two bytes follow, from memory, a stream and a buffer, in these channels.
 fn assert_pieces(
     rt: &impl Abort,
@@ -72,25 +95,19 @@ fn assert_pieces(
     raw: &[u8],
     lengths: Lengths,
 ) {
-    let mut bytes = Vec::from_slice(alloc, file).expect(rt, "refused");
-    bytes.extend_from_slice(&[0x78, 0x79]).expect(rt, "refused");
-    let decoder = Decoder::new(&bytes).expect(rt, "refused");
-    let mut slice = decoder.with_channels(channels).into_pixels();
-    assert!(rt; slice.channels() == channels);
-    assert_number(rt, slice.left(), raw.len());
-    assert_given(rt, by_pieces(rt, alloc, &mut slice, lengths), raw);
-    assert_bytes(rt, slice.into_decoder().data(), &[0x78, 0x79]);
+    let bytes = followed(alloc, file).expect(rt, "refused");
+    let slice = Decoder::new(&bytes).expect(rt, "refused");
+    let slice = assert_image(rt, alloc, slice, channels, raw, lengths);
+    assert_bytes(rt, slice.data(), &[0x78, 0x79]);
     let source = Source::new(&bytes, lengths.most.max(1), NONE);
-    let decoder = Decoder::from_stream(source).expect(rt, "refused");
-    let mut stream = decoder.with_channels(channels).into_pixels();
-    assert_given(rt, by_pieces(rt, alloc, &mut stream, lengths), raw);
-    assert_bytes(rt, stream.into_decoder().reader().left, &[0x78, 0x79]);
+    let stream = Decoder::from_stream(source).expect(rt, "refused");
+    let stream = assert_image(rt, alloc, stream, channels, raw, lengths);
+    assert_bytes(rt, stream.reader().left, &[0x78, 0x79]);
     let reader = BufReader::with_capacity(alloc, lengths.most, bytes.as_slice());
-    let decoder = Decoder::from_buf_read(reader.expect(rt, "refused")).expect(rt, "refused");
-    let mut buffered = decoder.with_channels(channels).into_pixels();
-    assert_given(rt, by_pieces(rt, alloc, &mut buffered, lengths), raw);
+    let buffered = Decoder::from_buf_read(reader.expect(rt, "refused")).expect(rt, "refused");
+    let buffered = assert_image(rt, alloc, buffered, channels, raw, lengths);
     let mut rest = Vec::new(alloc);
-    let mut reader = buffered.into_decoder().into_reader();
+    let mut reader = buffered.into_reader();
     reader.read_to_end(&mut rest).expect(rt, "refused");
     assert_bytes(rt, &rest, &[0x78, 0x79]);
 }
@@ -188,31 +205,62 @@ fn refusal_of<R: PieceReader>(
     (None, 0)
 }
 
+// The pieces of a cut file are refused: by a slice as `UnexpectedBufferEnd`, by a reader as an i/o
+// error of this kind.
+fn assert_cut<R: PieceReader + Drop>(
+    rt: &impl Abort,
+    alloc: Global,
+    decoder: Decoder<R>,
+    kind: Option<ErrorKind>,
+) {
+    let mut pixels = decoder.into_pixels();
+    let (refusal, left) = refusal_of(&mut pixels, &mut [0; 700]);
+    match kind {
+        Some(kind) => assert_fails(rt, refusal, kind),
+        None => assert_refused(rt, alloc, refusal, CUT),
+    }
+    assert_spent(rt, alloc, pixels, left);
+}
+
 // Every beginning of a file is refused, from memory, from a stream and from a buffer.
 #[test]
 fn cut_pieces(rt: HostRuntime) {
     let alloc = rt.alloc();
     let image = drawn_row(&rt, alloc, 0xc07, 900, Channels::Rgba);
-    let mut buf = [0; 700];
     for end in 14..image.file.len() {
         let cut = &image.file[..end];
-        let mut slice = Decoder::new(cut).expect(&rt, "refused").into_pixels();
-        let (refusal, left) = refusal_of(&mut slice, &mut buf);
-        assert_refused(&rt, alloc, refusal, CUT);
-        assert_spent(&rt, alloc, slice, left);
+        assert_cut(&rt, alloc, Decoder::new(cut).expect(&rt, "refused"), None);
+        let kind = Some(ErrorKind::UnexpectedEof);
         let stream = Decoder::from_stream(cut).expect(&rt, "refused");
-        let mut stream = stream.into_pixels();
-        let (refusal, left) = refusal_of(&mut stream, &mut buf);
-        assert_fails(&rt, refusal, ErrorKind::UnexpectedEof);
-        assert_spent(&rt, alloc, stream, left);
+        assert_cut(&rt, alloc, stream, kind);
         let buffered = Decoder::from_buf_read(cut).expect(&rt, "refused");
-        let mut buffered = buffered.into_pixels();
-        let (refusal, left) = refusal_of(&mut buffered, &mut buf);
-        assert_fails(&rt, refusal, ErrorKind::UnexpectedEof);
-        assert_spent(&rt, alloc, buffered, left);
+        assert_cut(&rt, alloc, buffered, kind);
         let whole = Decoder::new(cut).expect(&rt, "refused").into_pixels();
         assert_refused(&rt, alloc, whole.finish().err(), CUT);
     }
+}
+
+// A file with one wrong byte, so many before its end.
+fn with_wrong_byte(alloc: Global, file: &[u8], before_end: usize) -> Result<Vec<u8>> {
+    let mut file = Vec::from_slice(alloc, file)?;
+    let at = file.len().saturating_sub(before_end);
+    if let Some(byte) = file.get_mut(at) {
+        *byte ^= 2;
+    }
+    Ok(file)
+}
+
+// The last piece is refused for the end marker.
+fn assert_wrong<R: PieceReader + Drop>(
+    rt: &impl Abort,
+    alloc: Global,
+    decoder: Decoder<R>,
+    buf: &mut [u8],
+) {
+    let mut pixels = decoder.into_pixels();
+    let (refusal, left) = refusal_of(&mut pixels, buf);
+    assert!(rt; matches!(refusal, Some(Error::InvalidPadding)));
+    assert_spent(rt, alloc, pixels, left);
 }
 
 // A wrong byte of the end marker is refused with the last bytes; a slice's tail is as before them.
@@ -221,22 +269,13 @@ fn wrong_markers(rt: HostRuntime) {
     let alloc = rt.alloc();
     let image = drawn_row(&rt, alloc, 0xbad, 2000, Channels::Rgb);
     for i in 1..=8usize {
-        let mut file = Vec::from_slice(alloc, &image.file).expect(&rt, "refused");
-        let at = file.len().saturating_sub(i);
-        if let Some(byte) = file.get_mut(at) {
-            *byte ^= 2;
-        }
+        let file = with_wrong_byte(alloc, &image.file, i).expect(&rt, "refused");
         for size in [1usize, 255, 1536, 6000] {
             let mut buf = vec![in alloc; 0u8; size].expect(&rt, "refused");
-            let mut slice = Decoder::new(&file).expect(&rt, "refused").into_pixels();
-            let (refusal, left) = refusal_of(&mut slice, &mut buf);
-            assert!(&rt; matches!(refusal, Some(Error::InvalidPadding)));
-            assert_spent(&rt, alloc, slice, left);
+            let slice = Decoder::new(&file).expect(&rt, "refused");
+            assert_wrong(&rt, alloc, slice, &mut buf);
             let stream = Decoder::from_stream(file.as_slice()).expect(&rt, "refused");
-            let mut stream = stream.into_pixels();
-            let (refusal, left) = refusal_of(&mut stream, &mut buf);
-            assert!(&rt; matches!(refusal, Some(Error::InvalidPadding)));
-            assert_spent(&rt, alloc, stream, left);
+            assert_wrong(&rt, alloc, stream, &mut buf);
         }
         let whole = Decoder::new(&file).expect(&rt, "refused").into_pixels();
         assert!(&rt; matches!(whole.finish(), Err(Error::InvalidPadding)));
@@ -285,30 +324,32 @@ fn images_one_after_the_other(rt: HostRuntime) {
     assert_bytes(&rt, second.into_decoder().data(), &[]);
 }
 
+// Reads a part of an image, and finishes it.
+fn finished<R: PieceReader + Drop>(
+    rt: &impl Abort,
+    decoder: Decoder<R>,
+    buf: &mut [u8],
+) -> Decoder<R> {
+    let mut pixels = decoder.into_pixels();
+    pixels.read(buf).expect(rt, "refused");
+    pixels.finish().expect(rt, "refused")
+}
+
 // An image of which a part was read is finished, from each kind of reader.
 #[test]
 fn images_that_are_finished(rt: HostRuntime) {
     let alloc = rt.alloc();
     let image = drawn_row(&rt, alloc, 0xf1215, 3000, Channels::Rgb);
-    let mut bytes = Vec::from_slice(alloc, &image.file).expect(&rt, "refused");
-    bytes
-        .extend_from_slice(&[0x78, 0x79])
-        .expect(&rt, "refused");
+    let bytes = followed(alloc, &image.file).expect(&rt, "refused");
     for size in [0usize, 1, 1000, 9000] {
         let mut buf = vec![in alloc; 0u8; size].expect(&rt, "refused");
-        let mut slice = Decoder::new(&bytes).expect(&rt, "refused").into_pixels();
-        slice.read(&mut buf).expect(&rt, "refused");
-        let decoder = slice.finish().expect(&rt, "refused");
-        assert_bytes(&rt, decoder.data(), &[0x78, 0x79]);
+        let slice = Decoder::new(&bytes).expect(&rt, "refused");
+        assert_bytes(&rt, finished(&rt, slice, &mut buf).data(), &[0x78, 0x79]);
         let stream = Decoder::from_stream(bytes.as_slice()).expect(&rt, "refused");
-        let mut stream = stream.into_pixels();
-        stream.read(&mut buf).expect(&rt, "refused");
-        let decoder = stream.finish().expect(&rt, "refused");
-        assert_bytes(&rt, decoder.into_reader(), &[0x78, 0x79]);
+        let rest = finished(&rt, stream, &mut buf).into_reader();
+        assert_bytes(&rt, rest, &[0x78, 0x79]);
         let buffered = Decoder::from_buf_read(bytes.as_slice()).expect(&rt, "refused");
-        let mut buffered = buffered.into_pixels();
-        buffered.read(&mut buf).expect(&rt, "refused");
-        let decoder = buffered.finish().expect(&rt, "refused");
-        assert_bytes(&rt, decoder.into_reader(), &[0x78, 0x79]);
+        let rest = finished(&rt, buffered, &mut buf).into_reader();
+        assert_bytes(&rt, rest, &[0x78, 0x79]);
     }
 }

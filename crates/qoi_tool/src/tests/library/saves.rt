@@ -1,6 +1,6 @@
 //! A function of one's own that saves an image to any writer, and one that loads it: what was
 //! saved comes back, also of two images in one vector. None has a proof file.
-ghost use Rattle.std.specs.Prelude.{◌≡◌, ℕ, List, length, take, drop, Some, IfOk, IfSome};
+ghost use Rattle.std.specs.Prelude.{◌≡◌, ◌≤◌, ℕ, List, length, take, drop, Some, IfOk, IfSome};
 ghost use Rattle.qoi.specs.Images.{file_image};
 
 use crate::tests::fakes::{ONE_RGB_PIXEL, PIXEL};
@@ -76,7 +76,26 @@ pub fn two_saved(
     Ok((one, two))
 }
 
-/// The same, encoded by the library's calls.
+/// Two images encoded into one vector by the library's calls, and where the second one begins.
+pub fn encoded_in_turn(
+    alloc: Global,
+    first: &[u8],
+    second: &[u8],
+    width: u32,
+    height: u32,
+) -> Result<(Vec<u8>, usize), Error>
+    ensures first { IfOk result (λ x. file_image (take x.1 x.0.items) ≡ first.now) }
+    ensures second { IfOk result (λ x. file_image (drop x.1 x.0.items) ≡ second.now) }
+    ensures within { IfOk result (λ x. x.1 ≤ length x.0.items) }
+{
+    let mut out = Vec::new(alloc);
+    Encoder::new(first, width, height)?.encode_to_stream(&mut out)?;
+    let middle = out.len();
+    Encoder::new(second, width, height)?.encode_to_stream(&mut out)?;
+    Ok((out, middle))
+}
+
+/// They are loaded back.
 pub fn two_at_offsets(
     alloc: Global,
     first: &[u8],
@@ -86,16 +105,13 @@ pub fn two_at_offsets(
 ) -> Result<(Vec<u8>, Vec<u8>), Error>
     ensures { IfOk result (λ x. (x.0.items ≡ first.now) × (x.1.items ≡ second.now)) }
 {
-    let mut out = Vec::new(alloc);
-    Encoder::new(first, width, height)?.encode_to_stream(&mut out)?;
-    let middle = out.len();
-    Encoder::new(second, width, height)?.encode_to_stream(&mut out)?;
+    let (out, middle) = encoded_in_turn(alloc, first, second, width, height)?;
     let one = load(alloc, &out[..middle])?;
     let two = load(alloc, &out[middle..])?;
     Ok((one, two))
 }
 
-/// The same, decoded by the library's calls: the second goes on where the first one ended.
+/// Encoded and decoded by the library's calls: the second goes on where the first one ended.
 pub fn two_encoded(
     alloc: Global,
     first: &[u8],
