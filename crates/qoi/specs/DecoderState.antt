@@ -3,7 +3,7 @@ use Rattle.std.specs.Prelude.{ℕ, ◌≤◌, List, Option, length}
 use Rattle.qoi.specs.declared.types.Channels.{Channels}
 use Rattle.qoi.specs.declared.header.Header.{Header}
 use Rattle.qoi.specs.Qoi.{channels_number}
-use Rattle.qoi.specs.Decoding.{HasTaken}
+use Rattle.qoi.specs.Decoding.{TakesBytes}
 use Rattle.qoi.specs.Raw.{byte_count}
 
 -- the reader as it stands, the header of the file, and the channels of the output
@@ -18,4 +18,4 @@ output_byte_count d = byte_count d.header (channels_number d.channels)
 
 -- at most `most` bytes were taken
 abbrev pub TakesAtMost : ℕ → Option (List ℕ) → Option (List ℕ) → Type 0
-TakesAtMost most old new = HasTaken old new (λ taken. length taken ≤ most)
+TakesAtMost most old new = TakesBytes old new (λ taken. length taken ≤ most)

@@ -27,8 +27,8 @@ abbrev pub ReadsImage : ℕ → ℕ → ℕ → Option (List ℕ) → Option (Li
 ReadsImage = TakesPixels end_marker
 
 -- bytes were taken, of which P holds
-abbrev pub HasTaken : Option (List ℕ) → Option (List ℕ) → (List ℕ → Type 0) → Type 0
-HasTaken old new P = (taken : List ℕ) × Consumes old new taken × P taken
+abbrev pub TakesBytes : Option (List ℕ) → Option (List ℕ) → (List ℕ → Type 0) → Type 0
+TakesBytes old new P = (taken : List ℕ) × Consumes old new taken × P taken
 
 -- why the bytes after the chunks are refused: fewer than eight, or eight other than the end marker
 abbrev pub RefusesMarker : List ℕ → Error → Type 0
@@ -63,7 +63,7 @@ least_byte_count n = (n + (run_max - 1)) / run_max + marker_size
 -- the bytes that were taken are cut, or they are wrong and end with the eight bytes.
 abbrev pub RefusesImage : Bool → ℕ → Option (List ℕ) → Option (List ℕ) → Error → Type 0
 RefusesImage true n old new e = Keeps old new × IfSome old (λ bytes. RefusesBytes n bytes e)
-RefusesImage false n old new e = HasTaken old new (λ taken. RefusesTaken n taken e)
+RefusesImage false n old new e = TakesBytes old new (λ taken. RefusesTaken n taken e)
 
 -- why a stream's header is refused, by the bytes that were taken: fewer than fourteen, or fourteen
 -- that are refused
@@ -78,7 +78,7 @@ abbrev pub ReadsHeader : Bool → Option (List ℕ) → Option (List ℕ) → Re
 ReadsHeader in_memory old new (Ok h) = (taken : List ℕ) × Consumes old new taken × (length taken ≡ header_size) × (header_of taken ≡ Ok h)
     × (taken ≡ header_bytes h) × IsValid h
 ReadsHeader true old new (Err e) = Keeps old new × IfSome old (λ bytes. header_of bytes ≡ Err e)
-ReadsHeader false old new (Err e) = HasTaken old new (λ taken. RefusesTakenHeader taken e)
+ReadsHeader false old new (Err e) = TakesBytes old new (λ taken. RefusesTakenHeader taken e)
 
 -- the fourteen bytes of a valid header were taken
 abbrev pub TakesHeader : Option (List ℕ) → Option (List ℕ) → Header → Type 0

@@ -11,8 +11,6 @@ pub mod Reading
 pub mod Images
 pub mod FrontFile
 pub mod Decoded
-pub mod ReaderPieces
-pub mod PixelReader
 -- Rows and rectangles of raw bytes.
 pub mod Rectangles
 -- The list that is written.
@@ -29,9 +27,9 @@ pub mod WrittenList
 pub mod Encoded
 pub mod EncoderState
 pub mod Sent
-pub mod WriterPieces
-pub mod PixelWriter
 pub mod Tiles
+-- Images piece by piece.
+pub mod pieces
 -- Errors and their texts.
 pub mod Errors
 pub mod ErrorText

@@ -12,7 +12,7 @@ use Rattle.qoi.specs.Qoi.{Past, chunk_bytes, then_chunks, meaning, channels_numb
 use Rattle.qoi.specs.Raw.{IsChannels, pixel_bytes, output}
 use Rattle.qoi.specs.Images.{front_image}
 use Rattle.qoi.specs.DecoderState.{TakesAtMost}
-use Rattle.qoi.specs.ReaderPieces.{kept, GivesPieces}
+use Rattle.qoi.specs.pieces.ReaderPieces.{kept, GivesPieces}
 use Rattle.qoi.proofs.format.ChunkSteps.{given as pixels_after, then_chunks_given, then_chunks-append}
 use Rattle.qoi.proofs.format.WholePixels.{by_channels, length-output}
 use Rattle.qoi.proofs.decoding.Ahead.{image_read}

@@ -13,7 +13,7 @@ use Rattle.qoi.specs.Qoi.{Past, Each, AreChunks, chunk_bytes, end_marker, pixel_
 use Rattle.qoi.specs.Raw.{IsChannels, pixel_bytes, output}
 use Rattle.qoi.specs.Decoding.{TakesImagePixels, ReadsImage}
 use Rattle.qoi.specs.inner.Filling.{HasSeen, IsFillable, upto, filling, DecoderBetween}
-use Rattle.qoi.specs.ReaderPieces.{kept, KeepsWithin, DecoderAfter, GivesPieces}
+use Rattle.qoi.specs.pieces.ReaderPieces.{kept, KeepsWithin, DecoderAfter, GivesPieces}
 use Rattle.qoi.proofs.format.ChunkSteps.{times_some}
 use Rattle.qoi.proofs.format.WholePixels.{by_channels, length-output, take_whole}
 use Rattle.qoi.proofs.decoding.Progress.{fewer, none_written, fillable_whole}

@@ -11,9 +11,9 @@ use Rattle.qoi.specs.Qoi.{channels_number, pixel_count, IsValid}
 use Rattle.qoi.specs.Raw.{byte_count}
 use Rattle.qoi.specs.Decoding.{ReadsImage}
 use Rattle.qoi.specs.DecoderState.{DecoderState, output_byte_count}
-use Rattle.qoi.specs.PixelReader.{PixelsState, pixels_left, HasGiven, RefusesPixels}
+use Rattle.qoi.specs.pieces.PixelReader.{PixelsState, pixels_left, HasGiven, RefusesPixels}
 use Rattle.qoi.specs.inner.Chunks.{RefusesChunks}
-use Rattle.qoi.specs.ReaderPieces.{bytes_left, GivesPieces}
+use Rattle.qoi.specs.pieces.ReaderPieces.{bytes_left, GivesPieces}
 use Rattle.qoi.proofs.decoding.PieceFront.{front_given, pieces_within}
 use Rattle.qoi.proofs.decoding.PieceSteps.{none_kept}
 use Rattle.qoi.proofs.decoding.ImageSize.{channels_are}

@@ -3,7 +3,7 @@ use Rattle.std.proofs.Common.{◌≡◌, ℕ, ◌+◌, ◌*◌, ◌≤◌, List,
 use Rattle.std.proofs.lemmas.List.{take_all}
 use Rattle.std.proofs.Math.Nat.{mul-suc}
 use Rattle.qoi.specs.DecoderState.{DecoderState}
-use Rattle.qoi.specs.PixelReader.{PixelsState, HasGiven, HasRows}
+use Rattle.qoi.specs.pieces.PixelReader.{PixelsState, HasGiven, HasRows}
 use Rattle.qoi.specs.Rectangles.{row_bytes}
 
 -- what fills a buffer of a row is a row more

@@ -6,19 +6,19 @@ use Rattle.qoi.specs.declared.error.Error.{Error}
 use Rattle.qoi.specs.declared.decode.output.TheConstants.{RUN_ROOM}
 use Rattle.qoi.specs.Qoi.{Past}
 use Rattle.qoi.specs.Raw.{output}
-use Rattle.qoi.specs.Decoding.{TakesImagePixels, HasTaken, RefusesBytes, RefusesMarker, RefusesTaken, RefusesTakenMarker}
+use Rattle.qoi.specs.Decoding.{TakesImagePixels, TakesBytes, RefusesBytes, RefusesMarker, RefusesTaken, RefusesTakenMarker}
 use Rattle.qoi.specs.inner.Filling.{Filling, IsFillable, DecoderBetween}
 
 -- Why chunks of n pixels and the end marker are refused, which begin with the bytes `start`: in memory
 -- these are cut or wrong, on a stream those that were taken are.
 abbrev pub RefusesChunks : Bool → ℕ → Option (List ℕ) → Option (List ℕ) → Error → Type 0
 RefusesChunks true n start new e = IfSome start (λ bytes. RefusesBytes n bytes e)
-RefusesChunks false n start new e = HasTaken start new (λ taken. RefusesTaken n taken e)
+RefusesChunks false n start new e = TakesBytes start new (λ taken. RefusesTaken n taken e)
 
 -- why the bytes after the chunks are refused, which aren't the end marker
 abbrev pub RefusesAfter : Bool → Option (List ℕ) → Option (List ℕ) → Error → Type 0
 RefusesAfter true old new e = IfSome old (λ bytes. RefusesMarker bytes e)
-RefusesAfter false old new e = HasTaken old new (λ taken. RefusesTakenMarker taken e)
+RefusesAfter false old new e = TakesBytes old new (λ taken. RefusesTakenMarker taken e)
 
 -- chunks were taken from the bytes ahead, after those before them
 pub record TakesMore (file_channels channels : ℕ) (ahead rest : Option (List ℕ)) (old new : Filling) : Type 0 where

@@ -4,9 +4,9 @@ ghost use Rattle.std.specs.Prelude.{◌≡◌, ℕ, ◌+◌, ◌-◌, ◌%◌, �
 ghost use Rattle.qoi.specs.Decoded.{HasDecoded};
 ghost use Rattle.qoi.specs.DecoderState.{DecoderState, output_byte_count};
 ghost use Rattle.qoi.specs.Images.{front_image, front_rest};
-ghost use Rattle.qoi.specs.PixelReader.{as_decoder, pixels_left, HasGiven, HasRows, RefusesPixels, IsSpent};
+ghost use Rattle.qoi.specs.pieces.PixelReader.{as_decoder, pixels_left, HasGiven, HasRows, RefusesPixels, IsSpent};
 ghost use Rattle.qoi.specs.Qoi.{channels_number, pixel_count};
-ghost use Rattle.qoi.specs.ReaderPieces.{bytes_left, KeepsPixels, GivesPieces};
+ghost use Rattle.qoi.specs.pieces.ReaderPieces.{bytes_left, KeepsPixels, GivesPieces};
 ghost use Rattle.qoi.specs.Reading.{StandsAhead};
 ghost use Rattle.qoi.specs.Rectangles.{row_bytes};
 ghost use Rattle.qoi.specs.declared.error.Error.{Error};
@@ -39,8 +39,8 @@ impl<R> Model for PixelReader<R> {
     ghost use Rattle.std.specs.Prelude.{◌≡◌, ◌%◌, ◌≤◌, false};
     ghost use Rattle.qoi.specs.Qoi.{channels_number, IsValid};
     ghost use Rattle.qoi.specs.DecoderState.{output_byte_count};
-    ghost use Rattle.qoi.specs.ReaderPieces.{bytes_left, KeepsWithin};
-    ghost use Rattle.qoi.specs.PixelReader.{PixelsState};
+    ghost use Rattle.qoi.specs.pieces.ReaderPieces.{bytes_left, KeepsWithin};
+    ghost use Rattle.qoi.specs.pieces.PixelReader.{PixelsState};
 
     ghost Value = { PixelsState R };
 
@@ -169,7 +169,7 @@ impl<R: PieceReader> PixelReader<R> {
 
     /// How many raw bytes of the image are unread: none after the last ones, and some for ever after
     /// a refusal.
-    #[tactic(auto, unfolding(crate::specs::PixelReader::pixels_left))]
+    #[tactic(auto, unfolding(crate::specs::pieces::PixelReader::pixels_left))]
     pub fn left(&self) -> usize
         ensures left { result ≡ pixels_left self.now }
         // If none are left, the decoder's image was decoded, and these are its bytes.
@@ -189,7 +189,7 @@ impl<R: PieceReader> PixelReader<R> {
     /// many as would have been read; a slice's tail is as before the call, and a stream stands
     /// after the bytes that were read. `left` is as before, and no more of the image can be read:
     /// each further `read` into a buffer that isn't empty returns `UnexpectedBufferEnd`.
-    #[tactic(auto, unfolding(crate::specs::PixelReader::pixels_left))]
+    #[tactic(auto, unfolding(crate::specs::pieces::PixelReader::pixels_left))]
     pub fn read(&mut self, buf: &mut [u8]) -> Result<usize>
         // A success: the bytes follow those that were read before.
         ensures read { (d : DecoderState R) (start : Option (List ℕ)) (given : List ℕ)

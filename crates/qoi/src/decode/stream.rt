@@ -6,7 +6,7 @@ ghost use Rattle.qoi.specs.Raw.{IsChannels};
 ghost use Rattle.qoi.specs.declared.error.Error.{Error};
 ghost use Rattle.qoi.specs.declared.decode.output.TheConstants.{RUN_ROOM};
 ghost use Rattle.qoi.specs.Verdicts.{IsPartOfChunk};
-ghost use Rattle.qoi.specs.Decoding.{HasTaken, RefusesTakenMarker};
+ghost use Rattle.qoi.specs.Decoding.{TakesBytes, RefusesTakenMarker};
 ghost use Rattle.qoi.specs.inner.Chunks.{TakesChunks, RefusesFilling};
 ghost use Rattle.qoi.specs.inner.Filling.{IsFillable, IsWholePixels, DecodesChunk, upto, filling};
 
@@ -34,7 +34,7 @@ fn ended() -> io::Error {
 fn read_rest<R: Read>(reader: &mut R, buf: &mut [u8]) -> io::Result<()>
     ensures read { OnOk result
         (Consumes (R.remaining reader.old) (R.remaining reader.new) buf.new) }
-    ensures failed { OnErr result (HasTaken (R.remaining reader.old) (R.remaining reader.new)
+    ensures failed { OnErr result (TakesBytes (R.remaining reader.old) (R.remaining reader.new)
         (λ taken. (length taken < length buf.old) × AreBytes taken)) }
     ensures bytes { AreBytes buf.new }
 {
@@ -56,7 +56,7 @@ fn read_rest<R: Read>(reader: &mut R, buf: &mut [u8]) -> io::Result<()>
 pub(super) fn read_exact<R: Read>(reader: &mut R, buf: &mut [u8]) -> io::Result<()>
     ensures read { OnOk result
         (Consumes (R.remaining reader.old) (R.remaining reader.new) buf.new) }
-    ensures failed { OnErr result (HasTaken (R.remaining reader.old) (R.remaining reader.new)
+    ensures failed { OnErr result (TakesBytes (R.remaining reader.old) (R.remaining reader.new)
         (λ taken. (length taken < length buf.old) × AreBytes taken)) }
     ensures bytes { AreBytes buf.new }
 {
@@ -104,14 +104,14 @@ pub(super) fn next_chunk<R: Read, const N: usize, const F: usize, const RUN_FITS
     requires inside { at < length out.old }
     requires room { IsTrue RUN_FITS → at + RUN_ROOM ≤ length out.old }
     ensures read { IfOk result (λ decoded.
-        HasTaken (R.remaining reader.old) (R.remaining reader.new)
+        TakesBytes (R.remaining reader.old) (R.remaining reader.new)
         (λ taken. DecodesChunk F N taken (filling table.old last out.old at)
         (filling table.new decoded.last out.new decoded.at))) }
     ensures whole { IfOk result (λ decoded. decoded.at % N ≡ 0) }
     ensures within { IfOk result (λ decoded. (at < decoded.at) × (decoded.at ≤ length out.new)) }
     ensures below { at + RUN_ROOM ≤ length out.old
         → IfOk result (λ decoded. decoded.at < length out.new) }
-    ensures failed { OnErr result (HasTaken (R.remaining reader.old) (R.remaining reader.new)
+    ensures failed { OnErr result (TakesBytes (R.remaining reader.old) (R.remaining reader.new)
         IsPartOfChunk) }
 {
     let b1 = read_one(reader)?;
@@ -173,7 +173,7 @@ fn decode_chunks<R: Read, const N: usize, const F: usize, const RUN_FITS: bool>(
 pub(super) fn stream_marker<R: Read>(reader: &mut R) -> Result<()>
     ensures read { OnOk result
         (Consumes (R.remaining reader.old) (R.remaining reader.new) end_marker) }
-    ensures refused { IfErr result (λ e. HasTaken (R.remaining reader.old) (R.remaining reader.new)
+    ensures refused { IfErr result (λ e. TakesBytes (R.remaining reader.old) (R.remaining reader.new)
         (λ taken. RefusesTakenMarker taken e)) }
 {
     let mut eight = [0; QOI_PADDING_SIZE];

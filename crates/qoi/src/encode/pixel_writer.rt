@@ -41,7 +41,7 @@ pub struct PixelWriter<W> {
 impl<W: Write + Drop> PixelWriter<W> {
     ghost use Rattle.qoi.specs.Encoded.{image_file};
     ghost use Rattle.qoi.specs.Sent.{SendsFile};
-    ghost use Rattle.qoi.specs.PixelWriter.{HasTaken, HasFailed, HasRefused, SendsSome, and_raw, raw_left};
+    ghost use Rattle.qoi.specs.pieces.PixelWriter.{HasTaken, HasFailed, RefusesRaw, SendsSome, and_raw, raw_left};
 
     /// Sends the header of the image to the writer.
     ///
@@ -120,7 +120,7 @@ impl<W: Write + Drop> PixelWriter<W> {
         // The refusals: a fault, or too many bytes; and any call after a fault.
         ensures refused { (e : EncoderState) (before : Option (List ℕ))
             → HasTaken W.contents e before self.old
-            → IfErr result (HasRefused W.contents e raw.now before self.new) }
+            → IfErr result (RefusesRaw W.contents e raw.now before self.new) }
         ensures spent { (e : EncoderState) (before : Option (List ℕ))
             → HasFailed W.contents e before self.old
             → IsErrAnd result IsIoError × HasFailed W.contents e before self.new }

@@ -12,7 +12,7 @@ use Rattle.qoi.specs.Encoded.{image_pixels}
 use Rattle.qoi.specs.EncoderState.{EncoderState}
 use Rattle.qoi.specs.writers.Writes.{AppendsBeginning}
 use Rattle.qoi.specs.inner.CoderLoop.{CoderAfter, CoderBetween}
-use Rattle.qoi.specs.WriterPieces.{ImageBetween, BeganFile, WroteFile}
+use Rattle.qoi.specs.pieces.WriterPieces.{ImageBetween, BeganFile, WroteFile}
 use Rattle.qoi.specs.inner.Pixels.{pixels_in}
 use Rattle.qoi.proofs.format.RawPixels.{pixels_of-append, pixels_of_are, length-pixels_of}
 use Rattle.qoi.proofs.format.WholePixels.{by_channels, whole_pixels}

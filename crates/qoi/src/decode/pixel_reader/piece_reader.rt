@@ -2,7 +2,7 @@
 ghost use Rattle.std.specs.Io.KnownBytes.{Keeps};
 ghost use Rattle.std.specs.Prelude.{◌≡◌, ℕ, ◌+◌, ◌-◌, ◌<◌, ◌≤◌, List, ◌++◌, length, take, Option, Some, Ok, true, IsTrue, IfOk, IfErr, OnOk, OnErr};
 ghost use Rattle.qoi.specs.Raw.{AreChannels};
-ghost use Rattle.qoi.specs.ReaderPieces.{bytes_left, KeepsPixels, GivesPieces};
+ghost use Rattle.qoi.specs.pieces.ReaderPieces.{bytes_left, KeepsPixels, GivesPieces};
 ghost use Rattle.qoi.specs.declared.error.Error.{Error};
 ghost use Rattle.qoi.specs.inner.Chunks.{RefusesChunks};
 

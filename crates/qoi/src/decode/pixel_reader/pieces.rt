@@ -100,7 +100,7 @@ fn rest_of_image<R: Chunks<N, F>, const N: usize, const F: usize>(
 }
 
 impl Pieces {
-    ghost use Rattle.qoi.specs.ReaderPieces.{kept, bytes_left, KeepsWithin, KeepsPixels, GivesPieces};
+    ghost use Rattle.qoi.specs.pieces.ReaderPieces.{kept, bytes_left, KeepsWithin, KeepsPixels, GivesPieces};
 
     /// At the beginning of an image of `size` bytes.
     pub(super) fn new(size: usize) -> Pieces

@@ -6,7 +6,7 @@ ghost use Rattle.qoi.specs.EncoderState.{EncoderState};
 ghost use Rattle.qoi.specs.Errors.{IsIoError};
 ghost use Rattle.qoi.specs.Qoi.{RgbaPixel, channels_number, end_marker};
 ghost use Rattle.qoi.specs.Raw.{IsChannels, pixels_of};
-ghost use Rattle.qoi.specs.WriterPieces.{ImageBetween, BeganFile, WroteFile, GoesOn, BreaksOff};
+ghost use Rattle.qoi.specs.pieces.WriterPieces.{ImageBetween, BeganFile, WroteFile, GoesOn, BreaksOff};
 ghost use Rattle.qoi.specs.declared.encode.piece.TheConstants.{PAST};
 ghost use Rattle.qoi.specs.writers.Writes.{AppendsBeginning};
 ghost use Rattle.qoi.specs.inner.Piece.{kept_bytes};

@@ -5,7 +5,7 @@ ghost use Rattle.qoi.specs.declared.header.Header.{Header};
 ghost use Rattle.qoi.specs.Qoi.{channels_number, header_of};
 ghost use Rattle.qoi.specs.DecoderState.{DecoderState};
 ghost use Rattle.qoi.specs.Images.{front_image, file_image};
-ghost use Rattle.qoi.specs.PixelReader.{HasRows};
+ghost use Rattle.qoi.specs.pieces.PixelReader.{HasRows};
 ghost use Rattle.qoi.specs.Rectangles.{row_bytes, rectangle, KeepsOutside};
 
 use crate::tests::library::support::assert_bytes;

@@ -2,7 +2,7 @@
 use Rattle.std.proofs.Common.{◌≡◌, ℕ, List, Option, refl, sym, ap, ◌∙◌, subst}
 use Rattle.qoi.proofs.Results.{if_ok_of, on_ok_of}
 use Rattle.qoi.specs.Qoi.{channels_number, pixel_count}
-use Rattle.qoi.specs.ReaderPieces.{KeepsPixels, GivesPieces}
+use Rattle.qoi.specs.pieces.ReaderPieces.{KeepsPixels, GivesPieces}
 use Rattle.qoi.proofs.decoding.PixelPieces.{pieces_as}
 use Rattle.qoi.proofs.decode.Decoder.decode_more.Given.{Over}
 use Rattle.qoi.proofs.decode.Decoder.decode_more.Goals.{After-as_u8-file_channels}

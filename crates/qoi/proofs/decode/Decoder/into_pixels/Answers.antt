@@ -2,7 +2,7 @@
 use Rattle.std.proofs.Common.{refl, arith, ◌∙◌, []}
 use Rattle.std.proofs.Math.Nat.{mul_comm}
 use Rattle.qoi.specs.Qoi.{channels_number, pixel_count}
-use Rattle.qoi.specs.PixelReader.{HasRows}
+use Rattle.qoi.specs.pieces.PixelReader.{HasRows}
 use Rattle.qoi.proofs.decoding.ImageSize.{channels_are}
 use Rattle.qoi.proofs.decoding.PixelPieces.{has_given}
 use Rattle.qoi.proofs.decode.Decoder.into_pixels.Goals as goal

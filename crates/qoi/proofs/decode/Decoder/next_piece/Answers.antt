@@ -5,7 +5,7 @@ use Rattle.std.proofs.lemmas.Result.{err_from_is_err_and}
 use Rattle.std.proofs.Math.ListN.{drop_of_length-le}
 use Rattle.qoi.specs.declared.decode.pixel_reader.pieces.Pieces.{Pieces}
 use Rattle.qoi.specs.Qoi.{channels_number, pixel_count}
-use Rattle.qoi.specs.ReaderPieces.{kept, GivesPieces}
+use Rattle.qoi.specs.pieces.ReaderPieces.{kept, GivesPieces}
 use Rattle.qoi.proofs.decoding.PieceSteps.{gives, joined, kept_long}
 use Rattle.qoi.proofs.decode.Decoder.next_piece.Goals as goal
 

@@ -7,7 +7,7 @@ use Rattle.qoi.specs.Decoded.{HasDecoded}
 use Rattle.qoi.specs.DecoderState.{DecoderState}
 use Rattle.qoi.specs.Images.{front_image, front_rest}
 use Rattle.qoi.specs.Reading.{StandsAhead}
-use Rattle.qoi.specs.PixelReader.{as_decoder, HasGiven, IsSpent, RefusesPixels}
+use Rattle.qoi.specs.pieces.PixelReader.{as_decoder, HasGiven, IsSpent, RefusesPixels}
 use Rattle.qoi.proofs.decode.pixel_reader.PixelReader.finish.Goals as goal
 
 -- a success is no error

@@ -1,7 +1,7 @@
 -- More bytes of the image were read, or it was refused before.
 use Rattle.std.proofs.Common.{◌≡◌, List, ◌++◌, ℕ, Option}
 use Rattle.qoi.specs.DecoderState.{DecoderState}
-use Rattle.qoi.specs.PixelReader.{pixels_left, HasGiven, IsSpent}
+use Rattle.qoi.specs.pieces.PixelReader.{pixels_left, HasGiven, IsSpent}
 use Rattle.qoi.proofs.decode.pixel_reader.PixelReader.finish.Given as goal
 
 abbrev pub invariant-loop-buf : goal.invariant-loop-buf

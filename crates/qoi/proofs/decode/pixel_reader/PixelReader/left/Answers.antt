@@ -1,6 +1,6 @@
 -- An image's bytes can be counted, and if none are left all were given.
 use Rattle.std.proofs.Common.{rules, arith}
-use Rattle.qoi.specs.PixelReader.{pixels_left, HasGiven}
+use Rattle.qoi.specs.pieces.PixelReader.{pixels_left, HasGiven}
 use Rattle.qoi.proofs.decoding.PixelPieces.{byte_bounds}
 use Rattle.qoi.proofs.decode.pixel_reader.PixelReader.left.Goals as goal
 

@@ -7,7 +7,7 @@ use Rattle.qoi.specs.declared.header.Header.{Header}
 use Rattle.qoi.specs.declared.types.Channels.{Channels}
 use Rattle.qoi.specs.Images.{front_image}
 use Rattle.qoi.specs.Qoi.{IsValid, pixel_count}
-use Rattle.qoi.specs.PixelReader.{PixelsState, HasGiven, HasRows}
+use Rattle.qoi.specs.pieces.PixelReader.{PixelsState, HasGiven, HasRows}
 use Rattle.qoi.specs.inner.Chunks.{RefusesChunks}
 use Rattle.qoi.proofs.decoding.Rows.{row_more, row_next}
 use Rattle.qoi.proofs.decoding.PixelPieces.{byte_bounds, has_given, pieces_of, refuses_pixels}

@@ -2,7 +2,7 @@
 use Rattle.std.proofs.Common.{inl, inr, [], ◌++◌, refl, subst, arith, length-append}
 use Rattle.std.proofs.KnownBytes.{Appends-nil}
 use Rattle.qoi.specs.Qoi.{IsValid, file}
-use Rattle.qoi.specs.PixelWriter.{and_raw}
+use Rattle.qoi.specs.pieces.PixelWriter.{and_raw}
 use Rattle.qoi.proofs.FileOf.{file_of, sends_part}
 use Rattle.qoi.proofs.decoding.StreamReads.{bytes_append}
 use Rattle.qoi.proofs.encoding.piece.ImagePieces.{image_part}

@@ -7,7 +7,7 @@ use Rattle.qoi.specs.Qoi.{RgbaPixel, channels_number, header_bytes, pixel_count,
 use Rattle.qoi.specs.Raw.{pixels_of, image_byte_count}
 use Rattle.qoi.specs.declared.encode.pixel_writer.kept.Kept.{Kept}
 use Rattle.qoi.specs.EncoderState.{EncoderState}
-use Rattle.qoi.specs.WriterPieces.{ImageBetween}
+use Rattle.qoi.specs.pieces.WriterPieces.{ImageBetween}
 use Rattle.qoi.proofs.decoding.Promised.{capped_is}
 use Rattle.qoi.proofs.format.HeaderBytes.{tried_says}
 use Rattle.qoi.proofs.encoding.piece.ImagePieces.{image_starts}

@@ -4,7 +4,7 @@ use Rattle.std.proofs.lemmas.Result.{err_from_is_err_and}
 use Rattle.std.specs.Io.KnownBytes.{Appends}
 use Rattle.qoi.specs.Raw.{pixels_of}
 use Rattle.qoi.specs.writers.Writes.{AppendsBeginning}
-use Rattle.qoi.specs.WriterPieces.{ImageBetween}
+use Rattle.qoi.specs.pieces.WriterPieces.{ImageBetween}
 use Rattle.qoi.proofs.encoding.piece.ImagePieces.{fills_block, has_block, image_part, image_emptied}
 use Rattle.qoi.proofs.encode.pixel_writer.pieces.take_raw.Goals as goal
 

@@ -1,7 +1,7 @@
 -- The raw bytes up to here came.
 use Rattle.std.proofs.Common.{◌≡◌, ◌+◌, ◌%◌, [], length}
 use Rattle.qoi.specs.inner.Piece.{kept_bytes}
-use Rattle.qoi.specs.WriterPieces.{GoesOn}
+use Rattle.qoi.specs.pieces.WriterPieces.{GoesOn}
 use Rattle.qoi.proofs.encode.pixel_writer.pieces.take_raw.Given as goal
 
 abbrev pub invariant-loop-style : goal.invariant-loop-style

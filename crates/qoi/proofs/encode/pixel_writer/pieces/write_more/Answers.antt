@@ -3,7 +3,7 @@ use Rattle.std.proofs.Common.{◌≡◌, ◌*◌, ◌%◌, ◌-◌, ◌++◌, sy
 use Rattle.std.proofs.lemmas.Result.{err_from_is_err_and}
 use Rattle.qoi.specs.Raw.{pixels_of}
 use Rattle.qoi.specs.inner.Piece.{kept_bytes}
-use Rattle.qoi.specs.WriterPieces.{ImageBetween}
+use Rattle.qoi.specs.pieces.WriterPieces.{ImageBetween}
 use Rattle.qoi.proofs.encoding.piece.ImagePieces.{block_ahead, pixels_ahead, none_held, whole_ahead}
 use Rattle.qoi.proofs.encode.pixel_writer.pieces.write_more.Given.{Over}
 use Rattle.qoi.proofs.encode.pixel_writer.pieces.write_more.Goals.{After-write_whole, After-write_whole-2}

@@ -7,7 +7,7 @@ use Rattle.qoi.specs.declared.encode.pixel_writer.kept.Pending.{Pending}
 use Rattle.qoi.specs.EncoderState.{EncoderState}
 use Rattle.qoi.specs.inner.CoderLoop.{CoderBetween}
 use Rattle.qoi.specs.inner.Piece.{kept_bytes}
-use Rattle.qoi.specs.WriterPieces.{ImageBetween}
+use Rattle.qoi.specs.pieces.WriterPieces.{ImageBetween}
 use Rattle.qoi.specs.inner.Pixels.{pixels_in}
 use Rattle.qoi.proofs.encoding.piece.ImagePieces.{image_on, image_sent, image_part, bytes_in, count_in, few_bytes, no_more_bytes}
 use Rattle.qoi.proofs.encode.pixel_writer.pieces.write_whole.Given.{Over}

@@ -4,7 +4,7 @@ use Rattle.qoi.specs.Qoi.{RgbaPixel}
 use Rattle.qoi.specs.Raw.{pixels_of}
 use Rattle.qoi.specs.EncoderState.{EncoderState}
 use Rattle.qoi.specs.inner.Piece.{kept_bytes}
-use Rattle.qoi.specs.WriterPieces.{ImageBetween}
+use Rattle.qoi.specs.pieces.WriterPieces.{ImageBetween}
 use Rattle.qoi.specs.inner.Pixels.{pixels_in}
 use Rattle.qoi.proofs.encode.pixel_writer.pieces.write_whole.Given as goal
 

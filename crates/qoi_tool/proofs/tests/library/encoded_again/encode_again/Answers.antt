@@ -5,7 +5,7 @@ use Rattle.qoi.specs.declared.header.Header.{Header}
 use Rattle.qoi.specs.Qoi.{header_of}
 use Rattle.qoi.specs.Encoded.{image_file}
 use Rattle.qoi.specs.Images.{file_image}
-use Rattle.qoi.specs.PixelReader.{as_decoder}
+use Rattle.qoi.specs.pieces.PixelReader.{as_decoder}
 use Rattle.qoi_tool.proofs.tests.library.encoded_again.encode_again.Goals as goal
 
 pub loop-pixels-preserved : goal.loop-pixels-preserved

@@ -1,7 +1,7 @@
 -- What was read so far was taken by the writer.
 use Rattle.std.proofs.Common.{ℕ, ◌<◌, List, Some, length}
-use Rattle.qoi.specs.PixelReader.{as_decoder, pixels_left, HasGiven}
-use Rattle.qoi.specs.PixelWriter.{HasTaken}
+use Rattle.qoi.specs.pieces.PixelReader.{as_decoder, pixels_left, HasGiven}
+use Rattle.qoi.specs.pieces.PixelWriter.{HasTaken}
 use Rattle.qoi_tool.proofs.tests.library.encoded_again.encode_again.Given as goal
 
 abbrev pub invariant-loop-pixels : goal.invariant-loop-pixels

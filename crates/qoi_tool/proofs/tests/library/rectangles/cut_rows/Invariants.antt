@@ -1,7 +1,7 @@
 -- k rows were decoded, and the tile holds the parts of those from row `top` on.
 use Rattle.std.proofs.Common.{◌≡◌, ◌-◌, Some, length}
 use Rattle.qoi.specs.Images.{front_image}
-use Rattle.qoi.specs.PixelReader.{HasRows}
+use Rattle.qoi.specs.pieces.PixelReader.{HasRows}
 use Rattle.qoi.specs.Rectangles.{rectangle}
 use Rattle.qoi_tool.proofs.tests.library.rectangles.cut_rows.Given as goal
 

@@ -1,6 +1,6 @@
 -- The vector holds what was read so far.
 use Rattle.std.proofs.Common.{Some}
-use Rattle.qoi.specs.PixelReader.{as_decoder, pixels_left, HasGiven}
+use Rattle.qoi.specs.pieces.PixelReader.{as_decoder, pixels_left, HasGiven}
 use Rattle.qoi_tool.proofs.tests.library.row_callers.copy_rows.Given as goal
 
 abbrev pub invariant-loop-pixels : goal.invariant-loop-pixels

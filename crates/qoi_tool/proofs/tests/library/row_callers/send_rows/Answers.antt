@@ -1,7 +1,7 @@
 -- A piece more was read and written.
 use Rattle.std.proofs.Common.{rules, ◌++◌, take, [], Some}
 use Rattle.std.proofs.KnownBytes.{Appends-nil, Appends-trans}
-use Rattle.qoi.specs.PixelReader.{as_decoder}
+use Rattle.qoi.specs.pieces.PixelReader.{as_decoder}
 use Rattle.qoi_tool.proofs.tests.library.row_callers.send_rows.Goals as goal
 
 pub loop-pixels-init : goal.loop-pixels-init

@@ -1,7 +1,7 @@
 -- What was read so far was written.
 use Rattle.std.proofs.Common.{ℕ, List, Some}
 use Rattle.std.specs.Io.KnownBytes.{Appends}
-use Rattle.qoi.specs.PixelReader.{as_decoder, pixels_left, HasGiven}
+use Rattle.qoi.specs.pieces.PixelReader.{as_decoder, pixels_left, HasGiven}
 use Rattle.qoi_tool.proofs.tests.library.row_callers.send_rows.Given as goal
 
 abbrev pub invariant-loop-pixels : goal.invariant-loop-pixels

@@ -1,6 +1,6 @@
 -- The rows up to here came.
 use Rattle.std.proofs.Common.{◌≡◌, ◌++◌, [], List, ℕ, Some, length}
-use Rattle.qoi.specs.PixelWriter.{HasTaken}
+use Rattle.qoi.specs.pieces.PixelWriter.{HasTaken}
 use Rattle.qoi_tool.proofs.tests.library.written_rows.write_rows.Given as goal
 
 abbrev pub invariant-loop-rest : goal.invariant-loop-rest

@@ -3,7 +3,7 @@ use Rattle.std.proofs.Common.{◌≡◌, ℕ, ◌*◌, ◌/◌, ◌≤◌, List,
 use Rattle.std.proofs.lemmas.Result.{err_from_is_err_and}
 use Rattle.qoi.specs.declared.decode.pixel_reader.pieces.Pieces.{Pieces}
 use Rattle.qoi.specs.Raw.{IsChannels}
-use Rattle.qoi.specs.ReaderPieces.{bytes_left, GivesPieces}
+use Rattle.qoi.specs.pieces.ReaderPieces.{bytes_left, GivesPieces}
 use Rattle.qoi.proofs.decoding.PieceSteps.{Lent, lent, whole_front, front_most, long_read, times_fillable, minus_whole}
 use Rattle.qoi.proofs.decode.pixel_reader.pieces.Pieces.long_piece.Goals as goal
 

@@ -8,7 +8,7 @@ use Rattle.qoi.specs.Qoi.{channels_number, pixel_count, chunk_max, marker_size}
 use Rattle.qoi.specs.DecoderState.{DecoderState, output_byte_count, TakesAtMost}
 use Rattle.qoi.specs.Images.{front_image}
 use Rattle.qoi.specs.Decoded.{HasDecoded, HasRefused}
-use Rattle.qoi.specs.ReaderPieces.{GivesPieces, bytes_left}
+use Rattle.qoi.specs.pieces.ReaderPieces.{GivesPieces, bytes_left}
 
 -- the reader as it stands, the header of the file, the channels of the output, what stands between two
 -- pieces, and whether the image was refused

@@ -8,7 +8,7 @@ use Rattle.qoi.specs.Raw.{pixels_of, image_byte_count}
 use Rattle.qoi.specs.EncoderState.{EncoderState}
 use Rattle.qoi.specs.Errors.{IsIoError}
 use Rattle.qoi.specs.Sent.{SendsPart}
-use Rattle.qoi.specs.WriterPieces.{ImageBetween}
+use Rattle.qoi.specs.pieces.WriterPieces.{ImageBetween}
 
 -- how many raw bytes of the image haven't come yet
 abbrev pub raw_left : {W : Type 0} → PixelWriter W → ℕ
@@ -43,8 +43,8 @@ pub record HasFailed {W : Type 0} (contents : W → Option (List ℕ)) (e : Enco
   pub part : SendsSome e before (contents p.writer)
 
 -- The error of a pixel writer that had taken the raw bytes of e, and was given others.
-abbrev pub HasRefused : {W : Type 0} → (W → Option (List ℕ)) → EncoderState → List ℕ → Option (List ℕ) → PixelWriter W → Error → Type 0
-HasRefused contents e raw before p error =
+abbrev pub RefusesRaw : {W : Type 0} → (W → Option (List ℕ)) → EncoderState → List ℕ → Option (List ℕ) → PixelWriter W → Error → Type 0
+RefusesRaw contents e raw before p error =
     (IsIoError error × HasFailed contents (and_raw e raw) before p)
     ⊎ ((error ≡ InvalidImageLength (length (e.raw ++ raw)) e.header.width e.header.height)
     × (image_byte_count e.header < length (e.raw ++ raw)) × HasTaken contents e before p)

@@ -1,0 +1,5 @@
+-- Images that are read or written piece by piece.
+pub mod ReaderPieces
+pub mod PixelReader
+pub mod WriterPieces
+pub mod PixelWriter
