@@ -1,6 +1,6 @@
 -- What every kind of reader promises of the chunks and the end marker that it takes. `in_memory` says
 -- whether its bytes stand in memory; how those are left after a refusal isn't said.
-use Rattle.std.specs.Prelude.{ℕ, ◌+◌, ◌<◌, ◌≤◌, List, ◌++◌, length, reverse, Bool, true, false, IsTrue, IsFalse, Option, IfSome}
+use Rattle.std.specs.Prelude.{ℕ, ◌+◌, ◌<◌, ◌≤◌, List, ◌++◌, length, reverse, Bool, true, false, IsTrue, IsFalse, Option, IfSome, MatchOption}
 use Rattle.std.specs.Io.KnownBytes.{Consumes}
 use Rattle.qoi.specs.declared.error.Error.{Error}
 use Rattle.qoi.specs.declared.decode.output.TheConstants.{RUN_ROOM}
@@ -42,3 +42,7 @@ FillsOutput f c ahead rest old out = (gone : Past) (n : ℕ) (start : Option (Li
 abbrev pub RefusesFilling : ℕ → ℕ → Bool → Option (List ℕ) → Option (List ℕ) → Filling → Error → Type 0
 RefusesFilling f c in_memory ahead rest old e = (gone : Past) (n : ℕ) (start : Option (List ℕ)) → DecoderBetween f c gone n (Consumes start ahead) old
     → (all : ℕ) → length gone + n ≤ all → RefusesChunks in_memory all start rest e
+
+-- the place for the error of a refusal has one, of which this holds
+abbrev pub HasFault : (Error → Type 0) → Option Error → Type 0
+HasFault Why fault = MatchOption fault ⊥ Why

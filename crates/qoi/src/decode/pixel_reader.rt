@@ -10,14 +10,14 @@ ghost use Rattle.qoi.specs.pieces.ReaderPieces.{bytes_left, KeepsPixels, GivesPi
 ghost use Rattle.qoi.specs.Reading.{StandsAhead};
 ghost use Rattle.qoi.specs.Rectangles.{row_bytes};
 ghost use Rattle.qoi.specs.declared.error.Error.{Error};
-ghost use Rattle.qoi.specs.inner.Chunks.{RefusesChunks};
+ghost use Rattle.qoi.specs.inner.Chunks.{RefusesChunks, HasFault};
 
 pub(super) mod piece_reader;
 pub(super) mod pieces;
 
 use crate::decode::Decoder;
 use crate::decode::pixel_reader::piece_reader::PieceReader;
-use crate::decode::pixel_reader::pieces::Pieces;
+use crate::decode::pixel_reader::pieces::{PieceResult, Pieces};
 use crate::error::{Error, Result};
 use crate::header::Header;
 use crate::types::Channels;
@@ -33,6 +33,8 @@ pub struct PixelReader<R> {
     decoder: Decoder<R>,
     pieces: Pieces,
     refused: bool,
+    // Where the error of a refusal stands until it is returned.
+    fault: Option<Error>,
 }
 
 impl<R> Model for PixelReader<R> {
@@ -58,6 +60,18 @@ impl<R> Model for PixelReader<R> {
         → p.pieces.undecoded % channels_number p.decoder.channels ≡ 0) };
 }
 
+// The error of a refusal.
+#[cold]
+#[inline(never)]
+fn fault_of(fault: Option<Error>) -> Error
+    ensures { IfSome fault (λ e. result ≡ e) }
+{
+    match fault {
+        Some(e) => e,
+        None => Error::UnexpectedBufferEnd,
+    }
+}
+
 impl<R: PieceReader> Decoder<R> {
     /// Starts the decoding of the image ahead, in the decoder's channels, piece by piece. Nothing
     /// is read yet.
@@ -74,6 +88,7 @@ impl<R: PieceReader> Decoder<R> {
             decoder: self,
             pieces: Pieces::new(size),
             refused: false,
+            fault: None,
         }
     }
 
@@ -81,7 +96,12 @@ impl<R: PieceReader> Decoder<R> {
     // returns how many; the rest of `out`, and more, are kept. Not inlined: what `read` does for
     // bytes that are kept is then a few instructions.
     #[inline(never)]
-    fn decode_more(&mut self, pieces: &mut Pieces, out: &mut [u8]) -> Result<usize>
+    fn decode_more(
+        &mut self,
+        pieces: &mut Pieces,
+        out: &mut [u8],
+        fault: &mut Option<Error>,
+    ) -> PieceResult<usize>
         requires none { pieces.old.from ≡ pieces.old.to }
         requires fits { length out.old ≤ bytes_left pieces.old }
         requires pixels { KeepsPixels (channels_number self.old.channels) pieces.old }
@@ -96,8 +116,8 @@ impl<R: PieceReader> Decoder<R> {
             → GivesPieces (channels_number self.old.header.channels)
             (channels_number self.old.channels) (pixel_count self.old.header) start
             (R.ahead self.old.reader) given pieces.old
-            → IfErr result (RefusesChunks R.in_memory (pixel_count self.old.header) start
-            (R.ahead self.new.reader)) }
+            → OnErr result (HasFault (RefusesChunks R.in_memory (pixel_count self.old.header)
+            start (R.ahead self.new.reader)) fault.new) }
         ensures within { IfOk result (λ size. size ≤ length out.new) }
         ensures enough { IfOk result (λ size.
             length out.new ≤ size + (pieces.new.to - pieces.new.from)) }
@@ -112,13 +132,18 @@ impl<R: PieceReader> Decoder<R> {
         let channels = self.channels.as_u8();
         let file_channels = self.header.channels.as_u8();
         self.reader
-            .decode_piece(pieces, out, channels, file_channels)
+            .decode_piece(pieces, out, channels, file_channels, fault)
     }
 
     // Fills `out` with the next bytes of the image: with what is kept, with more that is decoded in
     // place, and with what is then kept.
     #[inline(always)]
-    fn next_piece(&mut self, pieces: &mut Pieces, out: &mut [u8]) -> Result<()>
+    fn next_piece(
+        &mut self,
+        pieces: &mut Pieces,
+        out: &mut [u8],
+        fault: &mut Option<Error>,
+    ) -> PieceResult<()>
         requires fits { length out.old ≤ bytes_left pieces.old }
         requires pixels { KeepsPixels (channels_number self.old.channels) pieces.old }
         ensures read { (start : Option (List ℕ)) (given : List ℕ)
@@ -132,8 +157,8 @@ impl<R: PieceReader> Decoder<R> {
             → GivesPieces (channels_number self.old.header.channels)
             (channels_number self.old.channels) (pixel_count self.old.header) start
             (R.ahead self.old.reader) given pieces.old
-            → IfErr result (RefusesChunks R.in_memory (pixel_count self.old.header) start
-            (R.ahead self.new.reader)) }
+            → OnErr result (HasFault (RefusesChunks R.in_memory (pixel_count self.old.header)
+            start (R.ahead self.new.reader)) fault.new) }
         ensures pixels { OnOk result
             (KeepsPixels (channels_number self.old.channels) pieces.new) }
         ensures left { OnOk result
@@ -146,7 +171,7 @@ impl<R: PieceReader> Decoder<R> {
         if done == out.len() {
             return Ok(());
         }
-        let more = self.decode_more(pieces, &mut out[done..])?;
+        let more = self.decode_more(pieces, &mut out[done..], fault)?;
         pieces.give(&mut out[done + more..]);
         Ok(())
     }
@@ -241,12 +266,15 @@ impl<R: PieceReader> PixelReader<R> {
         if self.refused {
             return Err(Error::UnexpectedBufferEnd);
         }
-        match self.decoder.next_piece(&mut self.pieces, &mut buf[..size]) {
+        match self
+            .decoder
+            .next_piece(&mut self.pieces, &mut buf[..size], &mut self.fault)
+        {
             Ok(()) => Ok(size),
-            Err(e) => {
+            Err(_) => {
                 self.refused = true;
                 self.pieces.refuse(left);
-                Err(e)
+                Err(fault_of(self.fault.take()))
             }
         }
     }

@@ -4,25 +4,26 @@ ghost use Rattle.std.specs.Prelude.{◌≡◌, ℕ, ◌+◌, ◌-◌, ◌<◌, �
 ghost use Rattle.qoi.specs.Raw.{AreChannels};
 ghost use Rattle.qoi.specs.pieces.ReaderPieces.{bytes_left, KeepsPixels, GivesPieces};
 ghost use Rattle.qoi.specs.declared.error.Error.{Error};
-ghost use Rattle.qoi.specs.inner.Chunks.{RefusesChunks};
+ghost use Rattle.qoi.specs.inner.Chunks.{RefusesChunks, HasFault};
 
-use crate::decode::pixel_reader::pieces::Pieces;
+use crate::decode::pixel_reader::pieces::{PieceResult, Pieces, fail};
 use crate::decode::reader::{Buffered, Bytes, Reader};
-use crate::error::{Error, Result};
+use crate::error::Error;
 use std::io::{BufRead, Read};
 
 /// A reader whose images can be decoded piece by piece.
 pub trait PieceReader: Reader {
     /// Decodes the next bytes of an image, while none are kept: into the front of `out`, and
     /// returns how many; the rest of `out`, and more, are kept. With the last ones it takes the end
-    /// marker.
+    /// marker. After a refusal the error stands in `fault`.
     fn decode_piece(
         &mut self,
         pieces: &mut Pieces,
         out: &mut [u8],
         channels: u8,
         file_channels: u8,
-    ) -> Result<usize>
+        fault: &mut Option<Error>,
+    ) -> PieceResult<usize>
         requires channels { AreChannels file_channels channels }
         requires none { pieces.old.from ≡ pieces.old.to }
         requires fits { length out.old ≤ bytes_left pieces.old }
@@ -33,7 +34,8 @@ pub trait PieceReader: Reader {
             (Self.ahead self.new) (given ++ take size out.new) pieces.new) }
         ensures refused { (n : ℕ) (start : Option (List ℕ)) (given : List ℕ)
             → GivesPieces file_channels channels n start (Self.ahead self.old) given pieces.old
-            → IfErr result (RefusesChunks Self.in_memory n start (Self.ahead self.new)) }
+            → OnErr result
+            (HasFault (RefusesChunks Self.in_memory n start (Self.ahead self.new)) fault.new) }
         ensures within { IfOk result (λ size. size ≤ length out.new) }
         ensures enough { IfOk result (λ size.
             length out.new ≤ size + (pieces.new.to - pieces.new.from)) }
@@ -50,7 +52,8 @@ fn piece_of_bytes(
     out: &mut [u8],
     channels: u8,
     file_channels: u8,
-) -> Result<usize>
+    fault: &mut Option<Error>,
+) -> PieceResult<usize>
     requires channels { AreChannels file_channels channels }
     requires none { pieces.old.from ≡ pieces.old.to }
     requires fits { length out.old ≤ bytes_left pieces.old }
@@ -61,7 +64,7 @@ fn piece_of_bytes(
         (Some bytes.new) (given ++ take size out.new) pieces.new) }
     ensures refused { (n : ℕ) (start : Option (List ℕ)) (given : List ℕ)
         → GivesPieces file_channels channels n start (Some bytes.old) given pieces.old
-        → IfErr result (RefusesChunks true n start (Some bytes.new)) }
+        → OnErr result (HasFault (RefusesChunks true n start (Some bytes.new)) fault.new) }
     ensures within { IfOk result (λ size. size ≤ length out.new) }
     ensures enough { IfOk result (λ size.
         length out.new ≤ size + (pieces.new.to - pieces.new.from)) }
@@ -69,11 +72,11 @@ fn piece_of_bytes(
     ensures left { IfOk result (λ size. size + bytes_left pieces.new ≡ bytes_left pieces.old) }
 {
     match (channels, file_channels) {
-        (3, 3) => pieces.decode_more::<Bytes, 3, 3>(bytes, out),
-        (3, 4) => pieces.decode_more::<Bytes, 3, 3>(bytes, out),
-        (4, 3) => pieces.decode_more::<Bytes, 4, 3>(bytes, out),
-        (4, 4) => pieces.decode_more::<Bytes, 4, 4>(bytes, out),
-        _ => Err(Error::InvalidChannels { channels }),
+        (3, 3) => pieces.decode_more::<Bytes, 3, 3>(bytes, out, fault),
+        (3, 4) => pieces.decode_more::<Bytes, 3, 3>(bytes, out, fault),
+        (4, 3) => pieces.decode_more::<Bytes, 4, 3>(bytes, out, fault),
+        (4, 4) => pieces.decode_more::<Bytes, 4, 4>(bytes, out, fault),
+        _ => Err(fail(fault, Error::InvalidChannels { channels })),
     }
 }
 
@@ -84,9 +87,10 @@ impl<'a> PieceReader for Bytes<'a> {
         out: &mut [u8],
         channels: u8,
         file_channels: u8,
-    ) -> Result<usize> {
+        fault: &mut Option<Error>,
+    ) -> PieceResult<usize> {
         let mut bytes = Bytes(self.0);
-        let size = piece_of_bytes(&mut bytes, pieces, out, channels, file_channels)?;
+        let size = piece_of_bytes(&mut bytes, pieces, out, channels, file_channels, fault)?;
         self.0 = bytes.0;
         Ok(size)
     }
@@ -99,13 +103,14 @@ impl<R: Read> PieceReader for R {
         out: &mut [u8],
         channels: u8,
         file_channels: u8,
-    ) -> Result<usize> {
+        fault: &mut Option<Error>,
+    ) -> PieceResult<usize> {
         match (channels, file_channels) {
-            (3, 3) => pieces.decode_more::<R, 3, 3>(self, out),
-            (3, 4) => pieces.decode_more::<R, 3, 3>(self, out),
-            (4, 3) => pieces.decode_more::<R, 4, 3>(self, out),
-            (4, 4) => pieces.decode_more::<R, 4, 4>(self, out),
-            _ => Err(Error::InvalidChannels { channels }),
+            (3, 3) => pieces.decode_more::<R, 3, 3>(self, out, fault),
+            (3, 4) => pieces.decode_more::<R, 3, 3>(self, out, fault),
+            (4, 3) => pieces.decode_more::<R, 4, 3>(self, out, fault),
+            (4, 4) => pieces.decode_more::<R, 4, 4>(self, out, fault),
+            _ => Err(fail(fault, Error::InvalidChannels { channels })),
         }
     }
 }
@@ -117,13 +122,14 @@ impl<R: BufRead> PieceReader for Buffered<R> {
         out: &mut [u8],
         channels: u8,
         file_channels: u8,
-    ) -> Result<usize> {
+        fault: &mut Option<Error>,
+    ) -> PieceResult<usize> {
         match (channels, file_channels) {
-            (3, 3) => pieces.decode_more::<Buffered<R>, 3, 3>(self, out),
-            (3, 4) => pieces.decode_more::<Buffered<R>, 3, 3>(self, out),
-            (4, 3) => pieces.decode_more::<Buffered<R>, 4, 3>(self, out),
-            (4, 4) => pieces.decode_more::<Buffered<R>, 4, 4>(self, out),
-            _ => Err(Error::InvalidChannels { channels }),
+            (3, 3) => pieces.decode_more::<Buffered<R>, 3, 3>(self, out, fault),
+            (3, 4) => pieces.decode_more::<Buffered<R>, 3, 3>(self, out, fault),
+            (4, 3) => pieces.decode_more::<Buffered<R>, 4, 3>(self, out, fault),
+            (4, 4) => pieces.decode_more::<Buffered<R>, 4, 4>(self, out, fault),
+            _ => Err(fail(fault, Error::InvalidChannels { channels })),
         }
     }
 }

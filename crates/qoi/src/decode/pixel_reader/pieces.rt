@@ -1,18 +1,18 @@
 //! The loops over the pieces of an image: what is decoded before a caller asks for it is kept.
 ghost use Rattle.std.specs.Io.KnownBytes.{Consumes};
-ghost use Rattle.std.specs.Prelude.{true, ◌≡◌, ℕ, ◌+◌, ◌-◌, ◌*◌, ◌%◌, ◌^◌, ◌<◌, ◌≤◌, List, [], ◌++◌, length, take, drop, reverse, min, Option, IfOk, IfErr, OnOk};
+ghost use Rattle.std.specs.Prelude.{true, ◌≡◌, ℕ, ◌+◌, ◌-◌, ◌*◌, ◌%◌, ◌^◌, ◌<◌, ◌≤◌, List, [], ◌++◌, length, take, drop, reverse, min, Option, Some, IfOk, IfErr, OnOk, OnErr};
 ghost use Rattle.qoi.specs.Decoding.{ReadsImage};
 ghost use Rattle.qoi.specs.Qoi.{Past};
 ghost use Rattle.qoi.specs.Raw.{IsChannels, output};
 ghost use Rattle.qoi.specs.declared.decode.output.TheConstants.{RUN_ROOM};
 ghost use Rattle.qoi.specs.declared.decode.pixel_reader.pieces.TheConstants.{KEPT, IN_PLACE};
-ghost use Rattle.qoi.specs.inner.Chunks.{RefusesChunks, TakesChunks, RefusesFilling};
+ghost use Rattle.qoi.specs.inner.Chunks.{RefusesChunks, TakesChunks, RefusesFilling, HasFault};
 ghost use Rattle.qoi.specs.inner.Filling.{filling, DecoderBetween};
 
 use crate::decode::chunks::{Chunks, Reached};
 use crate::decode::hashed::Hashed;
 use crate::decode::table::TermTable;
-use crate::error::Result;
+use crate::error::{Error, Result};
 
 /// How many bytes are decoded at once where a piece has no room for the vectors of any run: whole
 /// pixels of three channels and of four.
@@ -35,6 +35,24 @@ pub struct Pieces {
     from: usize,
     to: usize,
     undecoded: usize,
+}
+
+/// A piece was refused. The error stands in a place of the caller's: a result with the error in it
+/// has 104 bytes, which would be written for each piece.
+#[derive(Clone, Copy)]
+pub struct Refused;
+
+/// What the loops over pieces return.
+pub type PieceResult<T> = std::result::Result<T, Refused>;
+
+// Puts the error of a refusal in its place.
+#[cold]
+#[inline(never)]
+pub(super) fn fail(fault: &mut Option<Error>, e: Error) -> Refused
+    ensures { fault.new ≡ Some e }
+{
+    *fault = Some(e);
+    Refused
 }
 
 // How many bytes to decode at once, and to keep, for a piece of `size` bytes.
@@ -164,7 +182,8 @@ impl Pieces {
         &mut self,
         reader: &mut R,
         out: &mut [u8],
-    ) -> Result<usize>
+        fault: &mut Option<Error>,
+    ) -> PieceResult<usize>
         requires channels { IsChannels N }
         requires none { self.old.from ≡ self.old.to }
         requires fits { length out.old ≤ bytes_left self.old }
@@ -175,7 +194,8 @@ impl Pieces {
             GivesPieces F N n start (R.ahead reader.new) (given ++ take size out.new) self.new) }
         ensures refused { (n : ℕ) (start : Option (List ℕ)) (given : List ℕ)
             → GivesPieces F N n start (R.ahead reader.old) given self.old
-            → IfErr result (RefusesChunks R.in_memory n start (R.ahead reader.new)) }
+            → OnErr result
+            (HasFault (RefusesChunks R.in_memory n start (R.ahead reader.new)) fault.new) }
         ensures within { IfOk result (λ size. size ≤ length out.new) }
         ensures few { IfOk result (λ size. length out.new < size + IN_PLACE) }
         ensures last { IN_PLACE ≤ length out.new
@@ -188,7 +208,10 @@ impl Pieces {
             return Ok(0);
         }
         let size = out.len() / N * N;
-        let now = reader.some_chunks(&mut self.table, self.last, &mut out[..size], 0)?;
+        let now = match reader.some_chunks(&mut self.table, self.last, &mut out[..size], 0) {
+            Ok(now) => now,
+            Err(e) => return Err(fail(fault, e)),
+        };
         self.last = now.last;
         self.undecoded -= now.at;
         Ok(now.at)
@@ -200,7 +223,8 @@ impl Pieces {
         &mut self,
         reader: &mut R,
         room: usize,
-    ) -> Result<()>
+        fault: &mut Option<Error>,
+    ) -> PieceResult<()>
         requires channels { IsChannels N }
         requires room { (0 < room) × (room ≤ KEPT) }
         requires whole { room % N ≡ 0 }
@@ -212,7 +236,8 @@ impl Pieces {
             → OnOk result (GivesPieces F N n start (R.ahead reader.new) given self.new) }
         ensures refused { (n : ℕ) (start : Option (List ℕ)) (given : List ℕ)
             → GivesPieces F N n start (R.ahead reader.old) given self.old
-            → IfErr result (RefusesChunks R.in_memory n start (R.ahead reader.new)) }
+            → OnErr result
+            (HasFault (RefusesChunks R.in_memory n start (R.ahead reader.new)) fault.new) }
         ensures enough { OnOk result
             (min self.old.undecoded (room - RUN_ROOM) ≤ self.new.to - self.new.from) }
         ensures pixels { OnOk result (KeepsPixels N self.new) }
@@ -220,20 +245,33 @@ impl Pieces {
     {
         self.from = 0;
         if KEPT < self.undecoded {
-            let now = front_of_image::<R, N, F>(
+            let front = front_of_image::<R, N, F>(
                 reader,
                 &mut self.table,
                 self.last,
                 &mut self.bytes,
                 room,
-            )?;
+            );
+            let now = match front {
+                Ok(now) => now,
+                Err(e) => return Err(fail(fault, e)),
+            };
             self.last = now.last;
             self.to = now.at;
             self.undecoded -= now.at;
             return Ok(());
         }
         let size = self.undecoded;
-        rest_of_image::<R, N, F>(reader, &mut self.table, self.last, &mut self.bytes, size)?;
+        let rest = rest_of_image::<R, N, F>(
+            reader,
+            &mut self.table,
+            self.last,
+            &mut self.bytes,
+            size,
+        );
+        if let Err(e) = rest {
+            return Err(fail(fault, e));
+        }
         self.to = size;
         self.undecoded = 0;
         Ok(())
@@ -245,7 +283,8 @@ impl Pieces {
         &mut self,
         reader: &mut R,
         out: &mut [u8],
-    ) -> Result<usize>
+        fault: &mut Option<Error>,
+    ) -> PieceResult<usize>
         requires channels { IsChannels N }
         requires none { self.old.from ≡ self.old.to }
         requires fits { length out.old ≤ bytes_left self.old }
@@ -256,19 +295,20 @@ impl Pieces {
             GivesPieces F N n start (R.ahead reader.new) (given ++ take size out.new) self.new) }
         ensures refused { (n : ℕ) (start : Option (List ℕ)) (given : List ℕ)
             → GivesPieces F N n start (R.ahead reader.old) given self.old
-            → IfErr result (RefusesChunks R.in_memory n start (R.ahead reader.new)) }
+            → OnErr result
+            (HasFault (RefusesChunks R.in_memory n start (R.ahead reader.new)) fault.new) }
         ensures within { IfOk result (λ size. size ≤ length out.new) }
         ensures enough { IfOk result (λ size.
             length out.new ≤ size + (self.new.to - self.new.from)) }
         ensures pixels { OnOk result (KeepsPixels N self.new) }
         ensures left { IfOk result (λ size. size + bytes_left self.new ≡ bytes_left self.old) }
     {
-        let size = self.long_piece::<R, N, F>(reader, out)?;
+        let size = self.long_piece::<R, N, F>(reader, out, fault)?;
         if size == out.len() {
             return Ok(size);
         }
         let room = kept_room(out.len());
-        self.decode_on::<R, N, F>(reader, room)?;
+        self.decode_on::<R, N, F>(reader, room, fault)?;
         Ok(size)
     }
 }

@@ -1,11 +1,11 @@
 -- What was kept, what was decoded in place, and what is kept then.
 use Rattle.std.proofs.Common.{◌≡◌, ℕ, ◌+◌, ◌-◌, ◌≤◌, List, ◌++◌, take, drop, length, min, Option, arith, sym, ap, ◌∙◌, subst, append_assoc, append-nil}
 use Rattle.std.proofs.lemmas.List.{length-take-le}
-use Rattle.std.proofs.lemmas.Result.{err_from_is_err_and}
 use Rattle.std.proofs.Math.ListN.{drop_of_length-le}
 use Rattle.qoi.specs.declared.decode.pixel_reader.pieces.Pieces.{Pieces}
 use Rattle.qoi.specs.Qoi.{channels_number, pixel_count}
 use Rattle.qoi.specs.pieces.ReaderPieces.{kept, GivesPieces}
+use Rattle.qoi.proofs.Results.{on_err}
 use Rattle.qoi.proofs.decoding.PieceSteps.{gives, joined, kept_long}
 use Rattle.qoi.proofs.decode.Decoder.next_piece.Goals as goal
 
@@ -28,8 +28,7 @@ returns-then-done-out-clause-read g c start given h =
 
 pub returns-in_err-more-clause-refused : goal.returns-in_err-more-clause-refused
 returns-in_err-more-clause-refused g c start given h =
-    let p = err_from_is_err_and c.from_residual.result c.from_residual.ensures.1 in
-    rw (p.1, p.2) (c.in_err-more.ensures.refused start _ (given_on c.args.pieces.now c.give-done.new.self _ c.give-done.result c.give-done.ensures.size c.give-done.ensures.state h))
+    on_err c.from_residual.result (c.in_err-more.ensures.refused start _ (given_on c.args.pieces.now c.give-done.new.self _ c.give-done.result c.give-done.ensures.size c.give-done.ensures.state h))
 
 pub returns-clause-read : goal.returns-clause-read
 returns-clause-read g c start given h =

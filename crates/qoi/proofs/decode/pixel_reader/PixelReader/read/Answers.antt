@@ -1,17 +1,23 @@
 -- A piece more is given, or the image is refused.
-use Rattle.std.proofs.Common.{◌≡◌, ◌++◌, List, ℕ, Some, take, drop, length, arith, refl, sym, ap, ◌∙◌, subst}
+use Rattle.std.proofs.Common.{◌≡◌, ◌++◌, List, ℕ, Option, Some, None, IfSome, take, drop, length, arith, refl, sym, ap, ◌∙◌, subst}
 use Rattle.std.proofs.lemmas.List.{length-append, length-drop, length-take, length-take-le, drop_at, drop-take}
 use Rattle.std.proofs.Math.Nat.{mul-suc}
 use lib.Seq.{take-append_seam}
+use Rattle.qoi.specs.declared.error.Error.{Error}
 use Rattle.qoi.specs.declared.header.Header.{Header}
 use Rattle.qoi.specs.declared.types.Channels.{Channels}
 use Rattle.qoi.specs.Images.{front_image}
 use Rattle.qoi.specs.Qoi.{IsValid, pixel_count}
 use Rattle.qoi.specs.pieces.PixelReader.{PixelsState, HasGiven, HasRows}
-use Rattle.qoi.specs.inner.Chunks.{RefusesChunks}
+use Rattle.qoi.specs.inner.Chunks.{RefusesChunks, HasFault}
 use Rattle.qoi.proofs.decoding.Rows.{row_more, row_next}
 use Rattle.qoi.proofs.decoding.PixelPieces.{byte_bounds, has_given, pieces_of, refuses_pixels}
 use Rattle.qoi.proofs.decode.pixel_reader.PixelReader.read.Goals as goal
+
+-- what holds of the error in its place, holds of the one that is returned
+fault_is : (Why : Error → Type 0) (fault : Option Error) (e : Error) → IfSome fault (λ f. e ≡ f) → HasFault Why fault → Why e
+fault_is Why (Some f) e is why = subst Why (sym is) why
+fault_is Why None e is why = absurd why
 
 -- of the front of an image the piece after the first bytes is the image's
 piece_follows : (channels : Channels) (h : Header) (bytes given piece : List ℕ) → given ++ piece ≡ take (length (given ++ piece)) (front_image channels h bytes)
@@ -82,6 +88,8 @@ returns-in-Err-clause-refused g c d start given h =
     let chosen = ap (λ s. s.channels) c.self.view_is ∙ h.channels in
     let ahead = ap (λ s. g.R.Reader.ahead s.reader) c.self.view_is in
     let pieces = ap (λ s. s.pieces) c.self.view_is in
-    refuses_pixels g.R.Reader.in_memory d start _ c.in-Err.e
-    (subst (λ k. RefusesChunks g.R.Reader.in_memory (pixel_count k) start (g.R.Reader.ahead c.next_piece.new.self.reader) c.in-Err.e) header
-    (c.in-Err.ensures.refused start given (pieces_of header chosen ahead pieces h.pieces)))
+    let ahead_now = g.R.Reader.ahead c.next_piece.new.self.reader in
+    refuses_pixels g.R.Reader.in_memory d start _ c.fault_of.result
+    (subst (λ k. RefusesChunks g.R.Reader.in_memory (pixel_count k) start ahead_now c.fault_of.result) header
+    (fault_is _ c.take.result c.fault_of.result c.fault_of.ensures (subst (HasFault (RefusesChunks g.R.Reader.in_memory (pixel_count c.self.inside.decoder.header) start ahead_now)) (sym c.take.ensures.value)
+    (c.in-Err.ensures.refused start given (pieces_of header chosen ahead pieces h.pieces)))))

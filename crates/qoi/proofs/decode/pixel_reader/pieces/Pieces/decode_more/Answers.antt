@@ -1,6 +1,6 @@
 -- What a long piece left is decoded, and kept.
 use Rattle.std.proofs.Common.{◌≡◌, ◌%◌, arith}
-use Rattle.std.proofs.lemmas.Result.{err_from_is_err_and}
+use Rattle.qoi.proofs.Results.{on_err}
 use Rattle.qoi.proofs.format.WholePixels.{by_channels}
 use Rattle.qoi.proofs.decode.pixel_reader.pieces.Pieces.decode_more.Goals as goal
 
@@ -11,9 +11,7 @@ decode_on-requires-clause-whole g c =
 
 pub returns-in_err-decode_on-clause-refused : goal.returns-in_err-decode_on-clause-refused
 returns-in_err-decode_on-clause-refused g c n start given h =
-    let r = c.from_residual-in_err-decode_on in
-    let p = err_from_is_err_and r.result r.ensures.1 in
-    rw (p.1, p.2) (c.in_err-decode_on.ensures.refused n start _ (c.in_ok-size.ensures.read n start given h))
+    on_err c.from_residual-in_err-decode_on.result (c.in_err-decode_on.ensures.refused n start _ (c.in_ok-size.ensures.read n start given h))
 
 pub returns-clause-read : goal.returns-clause-read
 returns-clause-read g c n start given h =

@@ -1,10 +1,9 @@
 -- What was lent is decoded, and at the end of the image the end marker is taken.
-use Rattle.std.proofs.Common.{◌≡◌, ℕ, ◌*◌, ◌/◌, ◌%◌, ◌<◌, ◌≤◌, ◌-◌, List, take, drop, take-append-drop, length, Option, arith, ◌∙◌, subst}
+use Rattle.std.proofs.Common.{◌≡◌, ℕ, ◌*◌, ◌/◌, ◌%◌, ◌<◌, ◌≤◌, ◌-◌, List, take, drop, take-append-drop, length, Option, arith, sym, ◌∙◌, subst}
 use Rattle.std.proofs.lemmas.List.{length-take-le}
-use Rattle.std.proofs.lemmas.Result.{err_from_is_err_and}
 use Rattle.qoi.specs.declared.decode.pixel_reader.pieces.Pieces.{Pieces}
 use Rattle.qoi.specs.Raw.{IsChannels}
-use Rattle.qoi.specs.inner.Chunks.{RefusesChunks}
+use Rattle.qoi.specs.inner.Chunks.{RefusesChunks, HasFault}
 use Rattle.qoi.specs.pieces.ReaderPieces.{GivesPieces}
 use Rattle.qoi.proofs.format.WholePixels.{by_channels}
 use Rattle.qoi.proofs.decoding.Progress.{none_written}
@@ -29,46 +28,46 @@ rest_lent {c = c} p is h same size some short =
 
 pub returns-then-self-gt-KEPT-clause-pixels : goal.returns-then-self-gt-KEPT-clause-pixels
 returns-then-self-gt-KEPT-clause-pixels g c = (
-  (omega arith, omega (arith, c.in_ok-now.ensures.below, c.requires.room.1)),
-  minus_whole g.row.N c.args.self.now.undecoded c.in_ok-now.now.at c.requires.channels c.requires.pixels.1 c.in_ok-now.ensures.read.fillable.whole.1,
+  (omega arith, omega (arith, c.in-Ok.ensures.below, c.requires.room.1)),
+  minus_whole g.row.N c.args.self.now.undecoded c.in-Ok.now.at c.requires.channels c.requires.pixels.1 c.in-Ok.ensures.read.fillable.whole.1,
 )
 
 pub returns-clause-pixels : goal.returns-clause-pixels
 returns-clause-pixels g c = ((omega arith, omega arith), none_written g.row.N c.requires.channels)
 
-pub returns-in_err-now-clause-refused : goal.returns-in_err-now-clause-refused
-returns-in_err-now-clause-refused g c n start given h =
-    let p = err_from_is_err_and c.from_residual.result c.from_residual.ensures.1 in
+pub returns-in-Err-clause-refused : goal.returns-in-Err-clause-refused
+returns-in-Err-clause-refused g c n start given h =
     let size : length c.args.self.now.bytes ≡ 3072 = omega arith in
     let within : c.args.room ≤ length c.args.self.now.bytes = omega (arith, size, c.requires.room.1) in
     let l = room_lent c.args.self.now c.args.room c.requires.channels h c.requires.none within c.requires.whole (omega (arith, c.if-self-gt-KEPT.true, c.requires.room.1)) in
-    rw (p.1, p.2) (c.in_err-now.ensures.refused l.gone _ _ l.before n l.most)
+    subst (HasFault (RefusesChunks g.R.Chunks.in_memory n start (g.R.Chunks.ahead c.front_of_image-front.new.reader))) (sym c.fail.ensures)
+    (c.in-Err.ensures.refused l.gone _ _ l.before n l.most)
 
 pub returns-then-self-gt-KEPT-clause-read : goal.returns-then-self-gt-KEPT-clause-read
 returns-then-self-gt-KEPT-clause-read g c n start given h =
     let old : length c.args.self.now.bytes ≡ 3072 = omega arith in
     let within : c.args.room ≤ length c.args.self.now.bytes = omega (arith, old, c.requires.room.1) in
     let l = room_lent c.args.self.now c.args.room c.requires.channels h c.requires.none within c.requires.whole (omega (arith, c.if-self-gt-KEPT.true, c.requires.room.1)) in
-    let out = c.front_of_image.new.out in
-    let front = length-take-le c.args.room out (omega (arith, within, c.front_of_image.auto.out)) in
-    let now = c.in_ok-now.now in
-    subst (λ z. GivesPieces g.row.F g.row.N n start (g.R.Chunks.ahead c.front_of_image.new.reader) given
-    (record { table = c.front_of_image.new.table; last = now.last; bytes = z; from = 0; to = now.at; undecoded = c.args.self.now.undecoded - now.at })) (take-append-drop c.args.room out)
-    (kept_read (take c.args.room out) (drop c.args.room out) now.at c.requires.channels h c.requires.none l (c.in_ok-now.ensures.read.goes_on.between l.gone _ _ l.before)
-    (omega (arith, front, c.in_ok-now.ensures.below)) (omega (arith, front, c.if-self-gt-KEPT.true, c.requires.room.1)))
+    let out = c.front_of_image-front.new.out in
+    let front = length-take-le c.args.room out (omega (arith, within, c.front_of_image-front.auto.out)) in
+    let now = c.in-Ok.now in
+    subst (λ z. GivesPieces g.row.F g.row.N n start (g.R.Chunks.ahead c.front_of_image-front.new.reader) given
+    (record { table = c.front_of_image-front.new.table; last = now.last; bytes = z; from = 0; to = now.at; undecoded = c.args.self.now.undecoded - now.at })) (take-append-drop c.args.room out)
+    (kept_read (take c.args.room out) (drop c.args.room out) now.at c.requires.channels h c.requires.none l (c.in-Ok.ensures.read.goes_on.between l.gone _ _ l.before)
+    (omega (arith, front, c.in-Ok.ensures.below)) (omega (arith, front, c.if-self-gt-KEPT.true, c.requires.room.1)))
 
-pub returns-in_err-rest_of_image-clause-refused : goal.returns-in_err-rest_of_image-clause-refused
-returns-in_err-rest_of_image-clause-refused g c n start given h =
-    let p = err_from_is_err_and c.from_residual-in_err-rest_of_image.result c.from_residual-in_err-rest_of_image.ensures.1 in
+pub returns-in-Err-rest-clause-refused : goal.returns-in-Err-rest-clause-refused
+returns-in-Err-rest-clause-refused g c n start given h =
     let l = rest_lent c.args.self.now c.requires.channels h c.requires.none (omega arith) c.requires.some (omega (arith, c.if-self-gt-KEPT.false)) in
     let count = rest_count c.requires.channels h c.requires.none l (rest_whole c.requires.channels h c.requires.none c.requires.some) in
-    rw (p.1, p.2) (subst (λ k. RefusesChunks g.R.Chunks.in_memory k start (g.R.Chunks.ahead c.rest_of_image.new.reader) c.in_err-rest_of_image.field-0.0) count
-    (c.in_err-rest_of_image.ensures.refused l.gone _ _ l.before))
+    subst (HasFault (RefusesChunks g.R.Chunks.in_memory n start (g.R.Chunks.ahead c.rest_of_image-rest.new.reader))) (sym c.fail-in-Err-rest.ensures)
+    (subst (λ k. RefusesChunks g.R.Chunks.in_memory k start (g.R.Chunks.ahead c.rest_of_image-rest.new.reader) c.in-Err-rest.e) count
+    (c.in-Err-rest.ensures.refused l.gone _ _ l.before))
 
 pub returns-clause-read : goal.returns-clause-read
 returns-clause-read g c n start given h =
     let size : length c.args.self.now.bytes ≡ 3072 = omega arith in
     let short : c.args.self.now.undecoded ≤ 3072 = omega (arith, c.if-self-gt-KEPT.false) in
     let l = rest_lent c.args.self.now c.requires.channels h c.requires.none size c.requires.some short in
-    rest_read c.rest_of_image.new.out c.requires.channels h c.requires.none l (c.in_ok-rest_of_image.ensures.read l.gone _ _ l.before)
-    (omega (arith, short, size, c.rest_of_image.auto.out)) (rest_whole c.requires.channels h c.requires.none c.requires.some)
+    rest_read c.rest_of_image-rest.new.out c.requires.channels h c.requires.none l (c.in_default.ensures.read l.gone _ _ l.before)
+    (omega (arith, short, size, c.rest_of_image-rest.auto.out)) (rest_whole c.requires.channels h c.requires.none c.requires.some)

@@ -1,8 +1,8 @@
 -- What was lent is decoded.
-use Rattle.std.proofs.Common.{◌≡◌, ℕ, ◌*◌, ◌/◌, ◌≤◌, List, take, length, Option, arith, refl}
-use Rattle.std.proofs.lemmas.Result.{err_from_is_err_and}
+use Rattle.std.proofs.Common.{◌≡◌, ℕ, ◌*◌, ◌/◌, ◌≤◌, List, take, length, Option, arith, refl, sym, subst}
 use Rattle.qoi.specs.declared.decode.pixel_reader.pieces.Pieces.{Pieces}
 use Rattle.qoi.specs.Raw.{IsChannels}
+use Rattle.qoi.specs.inner.Chunks.{RefusesChunks, HasFault}
 use Rattle.qoi.specs.pieces.ReaderPieces.{bytes_left, GivesPieces}
 use Rattle.qoi.proofs.decoding.PieceSteps.{Lent, lent, whole_front, front_most, long_read, times_fillable, minus_whole}
 use Rattle.qoi.proofs.decode.pixel_reader.pieces.Pieces.long_piece.Goals as goal
@@ -20,17 +20,17 @@ some_chunks-requires g c = times_fillable _ c.requires.channels (whole_front g.r
 
 pub returns-clause-pixels : goal.returns-clause-pixels
 returns-clause-pixels g c =
-    (c.requires.pixels.0, minus_whole g.row.N c.args.self.now.undecoded c.in_ok-now.now.at c.requires.channels c.requires.pixels.1 c.in_ok-now.ensures.read.fillable.whole.1)
+    (c.requires.pixels.0, minus_whole g.row.N c.args.self.now.undecoded c.in-Ok.now.at c.requires.channels c.requires.pixels.1 c.in-Ok.ensures.read.fillable.whole.1)
 
 pub returns-clause-last : goal.returns-clause-last
 returns-clause-last g c long =
-    omega (arith, (front_most g.row.N c.args.out.now c.requires.channels).1, c.some_chunks.auto.out, c.in_ok-now.ensures.read.filled refl)
+    omega (arith, (front_most g.row.N c.args.out.now c.requires.channels).1, c.some_chunks.auto.out, c.in-Ok.ensures.read.filled refl)
 
-pub returns-in_err-now-clause-refused : goal.returns-in_err-now-clause-refused
-returns-in_err-now-clause-refused g c n start given h =
-    let p = err_from_is_err_and c.from_residual.result c.from_residual.ensures.1 in
+pub returns-in-Err-clause-refused : goal.returns-in-Err-clause-refused
+returns-in-Err-clause-refused g c n start given h =
     let l = front_lent c.args.self.now c.args.out.now c.requires.channels h c.requires.none c.requires.fits (omega (arith, c.if-out-lt-IN_PLACE.false)) in
-    rw (p.1, p.2) (c.in_err-now.ensures.refused l.gone _ _ l.before n l.most)
+    subst (HasFault (RefusesChunks g.R.Chunks.in_memory n start (g.R.Chunks.ahead c.some_chunks.new.self))) (sym c.fail.ensures)
+    (c.in-Err.ensures.refused l.gone _ _ l.before n l.most)
 
 pub returns-clause-read : goal.returns-clause-read
 returns-clause-read g c n start given h =
@@ -40,5 +40,5 @@ returns-clause-read g c n start given h =
     let most = front_most g.row.N out c.requires.channels in
     let same = c.requires.none in
     let size : length c.some_chunks.new.out ≡ length (take (length out / g.row.N * g.row.N) out) = c.some_chunks.auto.out in
-    long_read c.some_chunks.new.out _ _ c.requires.channels h same l (c.in_ok-now.ensures.read.goes_on.between l.gone _ _ l.before)
-    (c.in_ok-now.ensures.read.below refl (omega (arith, most, long))) (omega (arith, size, most.0, c.requires.fits, same))
+    long_read c.some_chunks.new.out _ _ c.requires.channels h same l (c.in-Ok.ensures.read.goes_on.between l.gone _ _ l.before)
+    (c.in-Ok.ensures.read.below refl (omega (arith, most, long))) (omega (arith, size, most.0, c.requires.fits, same))
