@@ -6,7 +6,7 @@ ghost use Rattle.qoi_tool.specs.Words.{Asks, IsUsage, IsSide, channels_word, spa
 use qoi::{Channels, ColorSpace, Style};
 
 /// What the words ask for.
-#[derive(Clone, Copy, PartialEq, Eq, Debug)]
+#[derive(Clone, Copy)]
 pub enum Command {
     /// Decode a file into its raw bytes, in the file's own channels.
     Decode,

@@ -30,7 +30,7 @@ use std::process::ExitCode;
 use std::{env, io};
 
 /// Why the program ends without having done its work.
-#[derive(Debug, Drop)]
+#[derive(Drop)]
 pub enum Fault {
     /// The words aren't those of a command.
     Usage,

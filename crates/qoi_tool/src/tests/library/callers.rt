@@ -452,8 +452,8 @@ pub fn both_channels(alloc: Global, file: &[u8]) -> Result<(Vec<u8>, Vec<u8>), E
     ensures { IfOk result (λ x. x.0.items ≡ without_fourth x.1.items) }
 {
     let mut four = Decoder::new(file)?.with_channels(Channels::Rgba);
-    let mut three = Decoder::new(file)?.with_channels(Channels::Rgb);
     let rgba = four.decode_to_vec(alloc)?;
+    let mut three = Decoder::new(file)?.with_channels(Channels::Rgb);
     let rgb = three.decode_to_vec(alloc)?;
     Ok((rgb, rgba))
 }

@@ -10,7 +10,7 @@ use crate::tests::library::callers::{
 };
 use crate::tests::library::support::images::{file_of, row};
 use crate::tests::library::support::{
-    assert_bytes, assert_fails, assert_given, assert_header, assert_number,
+    assert_both, assert_bytes, assert_fails, assert_given, assert_header, assert_number,
 };
 use qoi::{Channels, Error, Header, Result, Style};
 use std::io::ErrorKind;
@@ -19,13 +19,6 @@ use std::process::Abort;
 // Compares a part of a buffer that a caller gives.
 fn assert_part(rt: &impl Abort, given: Result<&[u8]>, bytes: &[u8]) {
     assert_bytes(rt, given.expect(rt, "refused"), bytes);
-}
-
-// Compares two vectors that a caller gives.
-fn assert_both(rt: &impl Abort, given: Result<(Vec<u8>, Vec<u8>)>, first: &[u8], second: &[u8]) {
-    let (one, other) = given.expect(rt, "refused");
-    assert_bytes(rt, &one, first);
-    assert_bytes(rt, &other, second);
 }
 
 // The file twice.
@@ -177,6 +170,10 @@ fn many_files(rt: HostRuntime) {
 fn frames_come_back(rt: HostRuntime) {
     let frames = frame_store(rt.alloc(), &PIXEL, &[1, 2, 3], 1, 1);
     assert_both(&rt, frames, &PIXEL, &[1, 2, 3]);
+}
+
+#[test]
+fn buffered_frames_come_back(rt: HostRuntime) {
     let frames = two_frames_buffered(rt.alloc(), files().as_slice());
     assert_both(&rt, frames, &PIXEL, &PIXEL);
 }

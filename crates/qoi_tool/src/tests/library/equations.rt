@@ -13,7 +13,7 @@ ghost use Rattle.qoi.specs.Images.{file_image};
 ghost use Rattle.qoi.specs.Encoded.{image_file, image_header};
 
 use crate::tests::fakes::{ONE_RGB_PIXEL, PIXEL};
-use crate::tests::library::support::{assert_bytes, assert_number};
+use crate::tests::library::support::{assert_both, assert_given, assert_number};
 use qoi::laws::reading::{image_files_are_read, sizes_are_accepted};
 use qoi::{
     Channels, ColorSpace, Decoder, Encoder, Error, Header, decode_to_vec, encode_to_buf,
@@ -212,48 +212,57 @@ pub fn of_header(alloc: Global, raw: &[u8], header: &Header) -> Result<Vec<u8>, 
 }
 
 #[test]
-fn twice_and_again(rt: HostRuntime) -> Result<(), Error> {
-    let alloc = rt.alloc();
-    let (first, second) = encoded_twice(alloc, &PIXEL, 1, 1)?;
-    assert_bytes(&rt, &first, &ONE_RGB_PIXEL);
-    assert_bytes(&rt, &second, &ONE_RGB_PIXEL);
-    let (first, second) = again(alloc, &PIXEL, 1, 1)?;
-    assert_bytes(&rt, &first, &ONE_RGB_PIXEL);
-    assert_bytes(&rt, &second, &ONE_RGB_PIXEL);
-    Ok(())
+fn twice_and_again(rt: HostRuntime) {
+    let twice = encoded_twice(rt.alloc(), &PIXEL, 1, 1);
+    assert_both(&rt, twice, &ONE_RGB_PIXEL, &ONE_RGB_PIXEL);
+    let twice = again(rt.alloc(), &PIXEL, 1, 1);
+    assert_both(&rt, twice, &ONE_RGB_PIXEL, &ONE_RGB_PIXEL);
 }
 
 #[test]
-fn refused_and_accepted(rt: HostRuntime) -> Result<(), Error> {
+fn cut_files_are_refused(rt: HostRuntime) {
     let alloc = rt.alloc();
-    let refusal = without_last(alloc, &PIXEL, 1, 1)?;
-    assert!(rt; matches!(refusal, Error::UnexpectedBufferEnd));
-    assert!(rt; popped_is_err(alloc, &PIXEL, 1, 1)?);
-    let refused = popped_result(alloc, &PIXEL, 1, 1)?;
-    assert!(rt; matches!(refused, Err(Error::UnexpectedBufferEnd)));
-    let (header, alpha) = first_alpha(alloc, &ONE_RGB_PIXEL)?;
-    assert_number(&rt, header.n_pixels(), 1);
-    assert_number(&rt, alpha as usize, 255);
-    // The header of one pixel in four channels has four bytes.
-    assert_bytes(&rt, &of_right_length(alloc, &PIXEL, 1, 1)?, &[]);
-    let file = of_right_length(alloc, &[0, 0, 0, 255], 1, 1)?;
-    assert_number(&rt, file.len(), 23);
-    assert_bytes(&rt, &of_size(alloc, &PIXEL, 1, 1)?, &ONE_RGB_PIXEL);
-    let file = of_header(alloc, &PIXEL, &Header::default())?;
-    assert_bytes(&rt, &file, &ONE_RGB_PIXEL);
-    Ok(())
+    let refusal = without_last(alloc, &PIXEL, 1, 1);
+    assert!(rt; matches!(refusal, Ok(Error::UnexpectedBufferEnd)));
+    assert!(rt; matches!(popped_is_err(alloc, &PIXEL, 1, 1), Ok(true)));
+    let refused = popped_result(alloc, &PIXEL, 1, 1);
+    assert!(rt; matches!(refused, Ok(Err(Error::UnexpectedBufferEnd))));
 }
 
 #[test]
-fn saved_by_functions_of_our_own(rt: HostRuntime) -> Result<(), Error> {
+fn added_alpha(rt: HostRuntime) {
+    let first = first_alpha(rt.alloc(), &ONE_RGB_PIXEL);
+    assert!(rt; matches!(first, Ok((header, 255)) if header.n_pixels() == 1));
+}
+
+// The header of one pixel in four channels has four bytes.
+#[test]
+fn right_lengths_are_accepted(rt: HostRuntime) {
+    assert_given(&rt, of_right_length(rt.alloc(), &PIXEL, 1, 1), &[]);
+    let file = of_right_length(rt.alloc(), &[0, 0, 0, 255], 1, 1);
+    assert_number(&rt, file.expect(&rt, "refused").len(), 23);
+}
+
+#[test]
+fn valid_sizes_are_accepted(rt: HostRuntime) {
     let alloc = rt.alloc();
-    assert_bytes(&rt, &saved_and_loaded(alloc, &PIXEL, 1, 1)?, &PIXEL);
-    assert_bytes(&rt, &saved_as_and_loaded(alloc, &PIXEL, 1, 1)?, &PIXEL);
-    let (first, second) = saved_twice(alloc, &PIXEL, 1, 1)?;
-    assert_bytes(&rt, &first, &ONE_RGB_PIXEL);
-    assert_bytes(&rt, &second, &ONE_RGB_PIXEL);
-    let mut out = Vec::new(alloc);
-    assert_number(&rt, save_to(&mut out, &PIXEL, 1, 1)?, 26);
-    assert_bytes(&rt, &load_from(alloc, out.as_slice())?, &PIXEL);
-    Ok(())
+    assert_given(&rt, of_size(alloc, &PIXEL, 1, 1), &ONE_RGB_PIXEL);
+    let file = of_header(alloc, &PIXEL, &Header::default());
+    assert_given(&rt, file, &ONE_RGB_PIXEL);
+}
+
+#[test]
+fn saved_by_functions_of_our_own(rt: HostRuntime) {
+    let alloc = rt.alloc();
+    assert_given(&rt, saved_and_loaded(alloc, &PIXEL, 1, 1), &PIXEL);
+    assert_given(&rt, saved_as_and_loaded(alloc, &PIXEL, 1, 1), &PIXEL);
+    let twice = saved_twice(alloc, &PIXEL, 1, 1);
+    assert_both(&rt, twice, &ONE_RGB_PIXEL, &ONE_RGB_PIXEL);
+}
+
+#[test]
+fn to_a_writer_and_from_a_reader(rt: HostRuntime) {
+    let mut out = Vec::new(rt.alloc());
+    assert!(rt; matches!(save_to(&mut out, &PIXEL, 1, 1), Ok(26)));
+    assert_given(&rt, load_from(rt.alloc(), out.as_slice()), &PIXEL);
 }

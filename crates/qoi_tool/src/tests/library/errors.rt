@@ -1,5 +1,4 @@
 //! Texts for debugging, and an i/o error as the library's own.
-use crate::Fault;
 use crate::tests::library::support::assert_text;
 use qoi::parts::{Chunk, Pixel};
 use qoi::{Channels, ColorSpace, Error, Header, Style};
@@ -43,19 +42,15 @@ fn errors_are_shown(rt: HostRuntime) {
     }
 }
 
-// An i/o error of a kind alone, one with words of its own, and the program's faults.
+// An i/o error of a kind alone, and one with words of its own.
 #[test]
-fn faults_are_shown(rt: HostRuntime) {
+fn io_errors_are_shown(rt: HostRuntime) {
     let alloc = rt.alloc();
     let kind = Error::from(io::Error::from(io::ErrorKind::BrokenPipe));
     assert_shows(&rt, alloc, &kind, "IoError(Kind(BrokenPipe))");
     let named = Error::from(io::Error::new(io::ErrorKind::Other, "x"));
     let text = "IoError(Custom { kind: Other, error: \"x\" })";
     assert_shows(&rt, alloc, &named, text);
-    assert_shows(&rt, alloc, &Fault::Usage, "Usage");
-    let text = "Image(InvalidChannels { channels: 5 })";
-    let fault = Fault::Image(Error::InvalidChannels { channels: 5 });
-    assert_shows(&rt, alloc, &fault, text);
 }
 
 // An error of std's trait, through the bound.

@@ -7,7 +7,9 @@ ghost use Rattle.qoi.specs.Decoding.{DecodesFile};
 ghost use Rattle.qoi.specs.Raw.{without_fourth};
 
 use crate::tests::fakes::{ONE_RGB_PIXEL, PIXEL};
-use crate::tests::library::support::{assert_bytes, assert_header, assert_number};
+use crate::tests::library::support::{
+    assert_both, assert_bytes, assert_given, assert_header, assert_number,
+};
 use qoi::laws::reading::images_are_accepted;
 use qoi::{
     Channels, ColorSpace, Decoder, Encoder, Error, Header, decode_header, decode_to_buf,
@@ -15,6 +17,7 @@ use qoi::{
 };
 use std::alloc::Global;
 use std::io::{BufReader, Cursor, Read};
+use std::process::Abort;
 
 /// The same bytes are the same image: into a vector and into a buffer.
 pub fn vector_and_buffer<'a>(
@@ -97,8 +100,9 @@ pub fn both_spaces(
     ensures changed { IfOk result (λ x. x.1.items ≡ slice_set x.0.items 13 1) }
     ensures as_long { IfOk result (λ x. length x.1.items ≡ length x.0.items) }
 {
-    let srgb = Encoder::new(raw, width, height)?.encode_to_vec(alloc)?;
-    let encoder = Encoder::new(raw, width, height)?.with_colorspace(ColorSpace::Linear);
+    let encoder = Encoder::new(raw, width, height)?;
+    let srgb = encoder.encode_to_vec(alloc)?;
+    let encoder = encoder.with_colorspace(ColorSpace::Linear);
     let linear = encoder.encode_to_vec(alloc)?;
     Ok((srgb, linear))
 }
@@ -257,88 +261,100 @@ pub fn by_clone_of_buffered(alloc: Global, file: &[u8]) -> Result<(Vec<u8>, Vec<
 }
 
 #[test]
-fn the_same_image(rt: HostRuntime) -> Result<(), Error> {
-    let alloc = rt.alloc();
+fn the_same_image(rt: HostRuntime) {
     let mut buf = [0xaa; 4];
-    let (first, second) = vector_and_buffer(alloc, &mut buf, &ONE_RGB_PIXEL)?;
+    let both = vector_and_buffer(rt.alloc(), &mut buf, &ONE_RGB_PIXEL);
+    let (first, second) = both.expect(&rt, "refused");
     assert_bytes(&rt, &first, &PIXEL);
     assert_bytes(&rt, second, &PIXEL);
-    Ok(())
 }
 
 #[test]
-fn the_same_image_of_streams(rt: HostRuntime) -> Result<(), Error> {
+fn the_same_image_of_streams(rt: HostRuntime) {
+    let both = call_and_stream(rt.alloc(), &ONE_RGB_PIXEL);
+    assert_both(&rt, both, &PIXEL, &PIXEL);
+    let both = call_and_buffered(rt.alloc(), &ONE_RGB_PIXEL);
+    assert_both(&rt, both, &PIXEL, &PIXEL);
+}
+
+#[test]
+fn the_same_image_of_clones(rt: HostRuntime) {
     let alloc = rt.alloc();
-    let (_, second) = call_and_stream(alloc, &ONE_RGB_PIXEL)?;
-    assert_bytes(&rt, &second, &PIXEL);
-    let (_, second) = by_clone(alloc, &ONE_RGB_PIXEL)?;
-    assert_bytes(&rt, &second, &PIXEL);
-    let (_, second) = by_clone_of_cursor(alloc, &ONE_RGB_PIXEL)?;
-    assert_bytes(&rt, &second, &PIXEL);
-    let (_, second) = call_and_buffered(alloc, &ONE_RGB_PIXEL)?;
-    assert_bytes(&rt, &second, &PIXEL);
-    let (_, second) = by_clone_of_buffered(alloc, &ONE_RGB_PIXEL)?;
-    assert_bytes(&rt, &second, &PIXEL);
-    let (header, raw) = file_ahead(alloc, ONE_RGB_PIXEL.as_slice())?;
+    assert_both(&rt, by_clone(alloc, &ONE_RGB_PIXEL), &PIXEL, &PIXEL);
+    let both = by_clone_of_cursor(alloc, &ONE_RGB_PIXEL);
+    assert_both(&rt, both, &PIXEL, &PIXEL);
+    let both = by_clone_of_buffered(alloc, &ONE_RGB_PIXEL);
+    assert_both(&rt, both, &PIXEL, &PIXEL);
+}
+
+#[test]
+fn a_file_from_a_reader(rt: HostRuntime) {
+    let found = file_ahead(rt.alloc(), ONE_RGB_PIXEL.as_slice());
+    let (header, raw) = found.expect(&rt, "refused");
     assert_number(&rt, header.n_pixels(), 1);
     assert_bytes(&rt, &raw, &PIXEL);
-    Ok(())
 }
 
 #[test]
-fn headers_and_lengths(rt: HostRuntime) -> Result<(), Error> {
+fn headers_and_lengths(rt: HostRuntime) {
     let alloc = rt.alloc();
-    let (found, given) = header_back(alloc, &PIXEL, 1, 1)?;
+    let (found, given) = header_back(alloc, &PIXEL, 1, 1).expect(&rt, "refused");
     assert_header(&rt, &found, &given);
-    assert_number(&rt, took(alloc, &ONE_RGB_PIXEL)?, 0);
-    assert_bytes(&rt, &encoded_again(alloc, &ONE_RGB_PIXEL)?, &ONE_RGB_PIXEL);
-    Ok(())
+    assert!(rt; matches!(took(alloc, &ONE_RGB_PIXEL), Ok(0)));
+    assert_given(&rt, encoded_again(alloc, &ONE_RGB_PIXEL), &ONE_RGB_PIXEL);
 }
 
 #[test]
-fn sizes_and_spaces(rt: HostRuntime) -> Result<(), Error> {
-    let alloc = rt.alloc();
+fn sizes(rt: HostRuntime) {
     let wide = Header {
         width: 3,
         height: 2,
         ..Header::default()
     };
     let raw = [7; 18];
-    assert_header(&rt, &size_back(alloc, &raw, 3, 2)?, &wide);
-    let (header, back) = size_with_image(alloc, &raw, 3, 2)?;
+    let header = size_back(rt.alloc(), &raw, 3, 2).expect(&rt, "refused");
+    assert_header(&rt, &header, &wide);
+    let (header, back) = size_with_image(rt.alloc(), &raw, 3, 2).expect(&rt, "refused");
     assert_header(&rt, &header, &wide);
     assert_bytes(&rt, &back, &raw);
-    let (srgb, linear) = both_spaces(alloc, &PIXEL, 1, 1)?;
-    assert_bytes(&rt, &srgb, &ONE_RGB_PIXEL);
-    let mut changed = ONE_RGB_PIXEL;
-    changed[13] = 1;
-    assert_bytes(&rt, &linear, &changed);
-    Ok(())
 }
 
 #[test]
-fn channels_of_own_files(rt: HostRuntime) -> Result<(), Error> {
+fn spaces(rt: HostRuntime) {
+    let mut changed = ONE_RGB_PIXEL;
+    changed[13] = 1;
+    let both = both_spaces(rt.alloc(), &PIXEL, 1, 1);
+    assert_both(&rt, both, &ONE_RGB_PIXEL, &changed);
+}
+
+// Compares the image that comes with a header.
+fn assert_image(rt: &impl Abort, given: Result<(Header, Vec<u8>), Error>, raw: &[u8]) {
+    assert_bytes(rt, &given.expect(rt, "refused").1, raw);
+}
+
+#[test]
+fn channels_of_own_files(rt: HostRuntime) {
     let alloc = rt.alloc();
     let rgba = [1, 2, 3, 4, 5, 6, 7, 8];
     let rgb = [1, 2, 3, 5, 6, 7];
-    assert_bytes(&rt, &rgb_of_own(alloc, &rgba, 2, 1)?.1, &rgb);
-    assert_bytes(&rt, &rgb_of_stream(alloc, &rgba, 2, 1)?.1, &rgb);
-    assert_bytes(&rt, &rgba_of_rgba(alloc, &rgba, 2, 1)?.1, &rgba);
-    Ok(())
+    assert_image(&rt, rgb_of_own(alloc, &rgba, 2, 1), &rgb);
+    assert_image(&rt, rgb_of_stream(alloc, &rgba, 2, 1), &rgb);
+    assert_image(&rt, rgba_of_rgba(alloc, &rgba, 2, 1), &rgba);
 }
 
 #[test]
-fn own_files_are_decoded(rt: HostRuntime) -> Result<(), Error> {
+fn own_files_are_decoded(rt: HostRuntime) {
     let alloc = rt.alloc();
-    assert_number(&rt, made(alloc, &PIXEL, 1, 1)?, 3);
+    assert!(rt; matches!(made(alloc, &PIXEL, 1, 1), Ok(3)));
+    assert_given(&rt, decoded_unless(alloc, &PIXEL, 1, 1), &PIXEL);
+}
+
+#[test]
+fn own_files_are_decoded_into_buffers(rt: HostRuntime) {
+    let alloc = rt.alloc();
     let mut out = [0xaa; 4];
-    assert_number(&rt, into_long_buffer(alloc, &mut out, &PIXEL, 1, 1)?, 3);
+    assert!(rt; matches!(into_long_buffer(alloc, &mut out, &PIXEL, 1, 1), Ok(3)));
     assert_bytes(&rt, &out, &[0x0b, 0x79, 0xe7, 0xaa]);
-    assert_number(
-        &rt,
-        into_long_buffer(alloc, &mut out[..2], &PIXEL, 1, 1)?,
-        0,
-    );
-    assert_bytes(&rt, &decoded_unless(alloc, &PIXEL, 1, 1)?, &PIXEL);
-    Ok(())
+    let short = into_long_buffer(alloc, &mut out[..2], &PIXEL, 1, 1);
+    assert!(rt; matches!(short, Ok(0)));
 }

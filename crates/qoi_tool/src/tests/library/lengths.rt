@@ -120,6 +120,25 @@ fn written(rt: &impl Abort, alloc: Global, raw: &[u8], width: u32, style: Style)
     file.len().saturating_sub(22)
 }
 
+// The lengths of an image of up to 900 pixels in the three styles. Returns whether a file may be
+// longer than the floor, and whether this one is.
+fn assert_image(
+    rt: &impl Abort,
+    alloc: Global,
+    channels: Channels,
+    pixels: &[Rgba],
+) -> (bool, bool) {
+    let counted = Counted::of(pixels);
+    let raw = raw_of(alloc, channels, pixels).expect(rt, "memory");
+    let width = pixels.len().min(900) as u32;
+    let (least, slack) = (counted.floor, counted.slack(channels));
+    let size = written(rt, alloc, &raw, width, Style::Reference);
+    assert!(rt; least <= size && size <= least.saturating_add(slack));
+    assert!(rt; written(rt, alloc, &raw, width, Style::Places) == size);
+    assert!(rt; written(rt, alloc, &raw, width, Style::Tight) == counted.floor0);
+    (slack > 0, size > least)
+}
+
 // Draws 300 images of up to 900 pixels, at least 100,000 in all. If there are four channels, every
 // third has transparent black for each black. Some use their slack, and some don't.
 fn assert_lengths(rt: &impl Abort, alloc: Global, channels: Channels) {
@@ -131,17 +150,10 @@ fn assert_lengths(rt: &impl Abort, alloc: Global, channels: Channels) {
         if k % 3 == 0 && channels.is_rgba() {
             make_transparent(&mut pixels);
         }
-        let counted = Counted::of(&pixels);
-        let raw = raw_of(alloc, channels, &pixels).expect(rt, "memory");
-        let (least, slack) = (counted.floor, counted.slack(channels));
-        let size = written(rt, alloc, &raw, width, Style::Reference);
-        assert!(rt; least <= size && size <= least.saturating_add(slack));
-        assert!(rt; written(rt, alloc, &raw, width, Style::Places) == size);
-        assert!(rt; written(rt, alloc, &raw, width, Style::Tight) == counted.floor0);
-        if slack > 0 && size > least {
-            used = used.saturating_add(1);
-        } else if slack > 0 {
-            unused = unused.saturating_add(1);
+        match assert_image(rt, alloc, channels, &pixels) {
+            (true, true) => used = used.saturating_add(1),
+            (true, false) => unused = unused.saturating_add(1),
+            (false, _) => {}
         }
         all = all.saturating_add(pixels.len());
     }

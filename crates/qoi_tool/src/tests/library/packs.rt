@@ -8,11 +8,12 @@ ghost use Rattle.qoi.specs.Images.{file_image};
 ghost use Rattle.qoi.specs.Tiles.{HasTile};
 
 use crate::tests::fakes::{ONE_RGB_PIXEL, PIXEL};
-use crate::tests::library::support::{assert_bytes, assert_number};
+use crate::tests::library::support::{assert_both, assert_bytes, assert_given, assert_number};
 use qoi::laws::reading::tiles_stay;
 use qoi::{Decoder, Encoder, Error, decode_to_vec, encode_to_vec};
 use std::alloc::Global;
 use std::io::Read;
+use std::process::Abort;
 
 /// A file and what follows it, passed on to the free call.
 pub fn tile(alloc: Global, file: &[u8]) -> Result<Vec<u8>, Error>
@@ -74,22 +75,6 @@ pub fn byte_after(alloc: Global, raw: &[u8], width: u32, height: u32) -> Result<
     let mut file = encode_to_vec(alloc, raw, width, height)?;
     file.push(1)?;
     let (_, back) = decode_to_vec(alloc, &file)?;
-    Ok(back)
-}
-
-/// A tile is put after an atlas, and read back from where it was put.
-pub fn appended(
-    alloc: Global,
-    atlas: &mut Vec<u8>,
-    raw: &[u8],
-    width: u32,
-    height: u32,
-) -> Result<Vec<u8>, Error>
-    ensures { IfOk result (λ back. back.items ≡ raw.now) }
-{
-    let offset = atlas.len();
-    Encoder::new(raw, width, height)?.encode_to_stream(atlas)?;
-    let (_, back) = decode_to_vec(alloc, &atlas[offset..])?;
     Ok(back)
 }
 
@@ -156,6 +141,20 @@ pub fn get(alloc: Global, atlas: &[u8], offset: usize) -> Result<Vec<u8>, Error>
     let mut decoder = Decoder::new(&atlas[offset..])?;
     let back = decoder.decode_to_vec(alloc)?;
     Ok(back)
+}
+
+/// A tile is put after an atlas, and read back from where it was put.
+pub fn appended(
+    alloc: Global,
+    atlas: &mut Vec<u8>,
+    raw: &[u8],
+    width: u32,
+    height: u32,
+) -> Result<Vec<u8>, Error>
+    ensures { IfOk result (λ back. back.items ≡ raw.now) }
+{
+    let offset = put(atlas, raw, width, height)?;
+    get(alloc, atlas, offset)
 }
 
 /// Two tiles are put at the end of an atlas, and the first one's offset returned.
@@ -232,53 +231,77 @@ pub fn three_tiles(
     Ok((first, second, third))
 }
 
-#[test]
-fn of_a_file_and_more(rt: HostRuntime) -> Result<(), Error> {
-    let alloc = rt.alloc();
-    let mut file = Vec::from_slice(alloc, &ONE_RGB_PIXEL)?;
-    file.push(1)?;
-    assert_bytes(&rt, &tile(alloc, &file)?, &PIXEL);
-    assert_bytes(&rt, &tile_by_method(alloc, &file)?, &PIXEL);
-    assert_bytes(&rt, &tile_ahead(alloc, file.as_slice())?, &PIXEL);
-    assert_bytes(&rt, &byte_after(alloc, &PIXEL, 1, 1)?, &PIXEL);
-    Ok(())
+// A tile.
+const OTHER: [u8; 3] = [1, 2, 3];
+
+// The tile at an offset that a caller gives.
+fn assert_tile(
+    rt: &impl Abort,
+    alloc: Global,
+    atlas: &[u8],
+    offset: Result<usize, Error>,
+    tile: &[u8],
+) {
+    assert_given(rt, get(alloc, atlas, offset.expect(rt, "refused")), tile);
 }
 
 #[test]
-fn at_an_offset(rt: HostRuntime) -> Result<(), Error> {
+fn of_a_file_and_more(rt: HostRuntime) {
     let alloc = rt.alloc();
-    let mut pack = Vec::from_slice(alloc, &[1, 2, 3])?;
-    pack.extend_from_slice(&ONE_RGB_PIXEL)?;
-    pack.push(4)?;
-    assert_bytes(&rt, &tile_at(alloc, &pack, 3)?, &PIXEL);
-    assert_bytes(&rt, &tile_after(alloc, &pack, 3)?, &PIXEL);
+    let mut file = [1; 27];
+    file[..26].copy_from_slice(&ONE_RGB_PIXEL);
+    assert_given(&rt, tile(alloc, &file), &PIXEL);
+    assert_given(&rt, tile_by_method(alloc, &file), &PIXEL);
+    assert_given(&rt, tile_ahead(alloc, file.as_slice()), &PIXEL);
+    assert_given(&rt, byte_after(alloc, &PIXEL, 1, 1), &PIXEL);
+}
+
+#[test]
+fn at_an_offset(rt: HostRuntime) {
+    let alloc = rt.alloc();
+    let mut pack = [4; 30];
+    pack[3..29].copy_from_slice(&ONE_RGB_PIXEL);
+    assert_given(&rt, tile_at(alloc, &pack, 3), &PIXEL);
+    assert_given(&rt, tile_after(alloc, &pack, 3), &PIXEL);
     let past = tile_at(alloc, &pack, 31);
     assert!(rt; matches!(past, Err(Error::UnexpectedBufferEnd)));
-    Ok(())
 }
 
 #[test]
-fn of_an_atlas(rt: HostRuntime) -> Result<(), Error> {
+fn at_the_end_of_an_atlas(rt: HostRuntime) {
     let alloc = rt.alloc();
-    let other = [1, 2, 3];
-    let mut atlas = Vec::from_slice(alloc, &ONE_RGB_PIXEL)?;
-    assert_bytes(&rt, &appended(alloc, &mut atlas, &other, 1, 1)?, &other);
+    let mut atlas = Vec::from_slice(alloc, &ONE_RGB_PIXEL).expect(&rt, "refused");
+    assert_given(&rt, appended(alloc, &mut atlas, &OTHER, 1, 1), &OTHER);
     // A file of one pixel has 22 bytes and a chunk: here an RGB of four bytes, and a luma of two.
     assert_number(&rt, atlas.len(), 26 + 24);
-    let at = put_image(&mut atlas, &PIXEL, 1, 1)?;
-    assert_bytes(&rt, &tile_at(alloc, &atlas, at)?, &PIXEL);
-    let offset = put_two(&mut atlas, &other, &PIXEL, 1, 1)?;
-    assert_bytes(&rt, &get(alloc, &atlas, offset)?, &other);
-    let offset = put_many(&mut atlas, &other, &PIXEL, 3, 1, 1)?;
-    assert_bytes(&rt, &get(alloc, &atlas, offset)?, &other);
-    let offset = put_file(alloc, &mut atlas, &ONE_RGB_PIXEL)?;
-    assert_bytes(&rt, &get(alloc, &atlas, offset)?, &PIXEL);
-    let (raw, again) = decoded_again(alloc, &mut atlas, &ONE_RGB_PIXEL)?;
-    assert_bytes(&rt, &raw, &PIXEL);
-    assert_bytes(&rt, &again, &PIXEL);
-    let (first, second, third) = three_tiles(alloc, &PIXEL, &other, &PIXEL, 1, 1)?;
+    let at = put_image(&mut atlas, &PIXEL, 1, 1);
+    assert_tile(&rt, alloc, &atlas, at, &PIXEL);
+}
+
+#[test]
+fn before_other_tiles(rt: HostRuntime) {
+    let mut atlas = Vec::new(rt.alloc());
+    let offset = put_two(&mut atlas, &OTHER, &PIXEL, 1, 1);
+    assert_tile(&rt, rt.alloc(), &atlas, offset, &OTHER);
+    let offset = put_many(&mut atlas, &OTHER, &PIXEL, 3, 1, 1);
+    assert_tile(&rt, rt.alloc(), &atlas, offset, &OTHER);
+}
+
+#[test]
+fn files_in_an_atlas(rt: HostRuntime) {
+    let alloc = rt.alloc();
+    let mut atlas = Vec::new(alloc);
+    let offset = put_file(alloc, &mut atlas, &ONE_RGB_PIXEL);
+    assert_tile(&rt, alloc, &atlas, offset, &PIXEL);
+    let both = decoded_again(alloc, &mut atlas, &ONE_RGB_PIXEL);
+    assert_both(&rt, both, &PIXEL, &PIXEL);
+}
+
+#[test]
+fn three_in_an_atlas(rt: HostRuntime) {
+    let tiles = three_tiles(rt.alloc(), &PIXEL, &OTHER, &PIXEL, 1, 1);
+    let (first, second, third) = tiles.expect(&rt, "refused");
     assert_bytes(&rt, &first, &PIXEL);
-    assert_bytes(&rt, &second, &other);
+    assert_bytes(&rt, &second, &OTHER);
     assert_bytes(&rt, &third, &PIXEL);
-    Ok(())
 }

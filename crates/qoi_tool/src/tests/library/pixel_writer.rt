@@ -6,7 +6,7 @@ use crate::tests::fakes::{Bad, End, NONE, ONE_RGB_PIXEL, PIXEL, Sink, take_memor
 use crate::tests::library::support::generator::{Numbers, Rgba, START, drawn};
 use crate::tests::library::support::images::{Image, row};
 use crate::tests::library::support::{
-    assert_bytes, assert_fails, assert_header, assert_number, assert_refused,
+    assert_bytes, assert_fails, assert_given, assert_header, assert_number, assert_refused,
 };
 use qoi::{Channels, ColorSpace, Error, Header, PixelWriter, Result, Style};
 use std::alloc::Global;
@@ -52,18 +52,20 @@ fn written(
     pixels.finish()
 }
 
-// The writer gets the image's file in pieces of each of these sizes.
+// The writer gets the image's file in these pieces.
+fn assert_file(rt: &impl Abort, alloc: Global, image: &Image, pieces: Pieces) {
+    let writer = Sink::new(alloc, usize::MAX, NONE).expect(rt, "refused");
+    let writer = written(rt, alloc, image, pieces, writer).expect(rt, "refused");
+    assert_bytes(rt, &writer.got, &image.file);
+}
+
+// So it does in pieces of each of these sizes, and in changing ones.
 fn assert_written(rt: &impl Abort, alloc: Global, image: &Image, sizes: &[usize]) {
     for size in sizes {
-        let writer = Sink::new(alloc, usize::MAX, NONE).expect(rt, "refused");
-        let writer = written(rt, alloc, image, Pieces::Of(*size), writer).expect(rt, "refused");
-        assert_bytes(rt, &writer.got, &image.file);
+        assert_file(rt, alloc, image, Pieces::Of(*size));
     }
     for most in [200, 6000] {
-        let writer = Sink::new(alloc, usize::MAX, NONE).expect(rt, "refused");
-        let pieces = Pieces::Changing(most);
-        let writer = written(rt, alloc, image, pieces, writer).expect(rt, "refused");
-        assert_bytes(rt, &writer.got, &image.file);
+        assert_file(rt, alloc, image, Pieces::Changing(most));
     }
 }
 
@@ -132,22 +134,33 @@ fn large_images(rt: HostRuntime) {
     assert_drawn(&rt, rt.alloc(), 0x1a46e, &[5000, 20_000], &sizes);
 }
 
+// Black, red, gray, black, gray and red, with repeats of the first black and of both reds.
+fn with_runs(alloc: Global, opening: usize, repeats: usize) -> Result<Vec<Rgba>> {
+    let (red, gray) = ([200, 0, 0, 255], [7, 7, 7, 255]);
+    let mut pixels = Vec::new(alloc);
+    for (px, count) in [
+        (START, opening),
+        (red, repeats.saturating_add(1)),
+        (gray, 1),
+        (START, 1),
+        (gray, 1),
+        (red, repeats.saturating_add(1)),
+    ] {
+        pixels.resize(pixels.len().saturating_add(count), px)?;
+    }
+    Ok(pixels)
+}
+
 // Black opens the image, and is seen again later; a run goes on over many pieces; another run ends
 // the image. The numbers of repeats are about those of whole runs.
 #[test]
 fn runs_over_pieces(rt: HostRuntime) -> Result<()> {
     let alloc = rt.alloc();
-    let (red, gray) = ([200, 0, 0, 255], [7, 7, 7, 255]);
     for opening in [0usize, 1, 15, 16, 61, 62, 63, 124, 500, 2000] {
         for repeats in [0usize, 1, 44, 45, 46, 60, 61, 62, 63, 123, 1000, 1500] {
-            let mut pixels = Vec::new(alloc);
-            pixels.resize(opening, START)?;
-            pixels.push(red)?;
-            pixels.resize(pixels.len().saturating_add(repeats), red)?;
-            pixels.extend_from_slice(&[gray, START, gray, red])?;
-            pixels.resize(pixels.len().saturating_add(repeats), red)?;
+            let pixels = with_runs(alloc, opening, repeats)?;
             for channels in [Channels::Rgb, Channels::Rgba] {
-                let header = row(pixels.len() as u32, channels);
+                let header = row(pixels.len().min(6000) as u32, channels);
                 assert_styles(&rt, alloc, header, &pixels, &[21, 64, 96, 1000]);
             }
         }
@@ -172,18 +185,16 @@ fn calls_of_the_writer(rt: HostRuntime) -> Result<()> {
 
 // What came behind other bytes of the writer stands behind them.
 #[test]
-fn behind_other_bytes(rt: HostRuntime) -> Result<()> {
+fn behind_other_bytes(rt: HostRuntime) {
     let alloc = rt.alloc();
-    let mut file = Vec::new(alloc);
-    file.extend_from_slice(&[1, 2, 3])?;
-    let mut pixels = PixelWriter::new(alloc, Header::default(), Style::Tight, file)?;
-    pixels.write(&PIXEL)?;
-    let file = pixels.finish()?;
-    let mut all = Vec::new(alloc);
-    all.extend_from_slice(&[1, 2, 3])?;
-    all.extend_from_slice(&ONE_RGB_PIXEL)?;
-    assert_bytes(&rt, &file, &all);
-    Ok(())
+    let file = Vec::from_slice(alloc, &[1, 2, 3]).expect(&rt, "refused");
+    let pixels = PixelWriter::new(alloc, Header::default(), Style::Tight, file);
+    let mut pixels = pixels.expect(&rt, "refused");
+    pixels.write(&PIXEL).expect(&rt, "refused");
+    let mut all = [0; 29];
+    all[..3].copy_from_slice(&[1, 2, 3]);
+    all[3..].copy_from_slice(&ONE_RGB_PIXEL);
+    assert_given(&rt, pixels.finish(), &all);
 }
 
 // More bytes than the image has are refused, and nothing is taken; fewer are refused at the end.
@@ -202,32 +213,40 @@ fn other_lengths(rt: HostRuntime) -> Result<()> {
     Ok(())
 }
 
+// Writes pieces of an image of one row, of which so many bytes are left then, and takes the writer
+// back, which has these bytes.
+fn assert_begun(
+    rt: &impl Abort,
+    alloc: Global,
+    width: u32,
+    pieces: &[&[u8]],
+    left: usize,
+    begun: &[u8],
+) {
+    let sink = Sink::new(alloc, usize::MAX, NONE).expect(rt, "refused");
+    let header = row(width, Channels::Rgb);
+    let pixels = PixelWriter::new(alloc, header, Style::Reference, sink);
+    let mut pixels = pixels.expect(rt, "refused");
+    for piece in pieces {
+        pixels.write(piece).expect(rt, "refused");
+    }
+    assert_number(rt, pixels.left(), left);
+    assert_bytes(rt, &pixels.into_writer().got, begun);
+}
+
 // A writer can be had back before all bytes came: it has a beginning of the file, the header alone
 // while all are held.
 #[test]
-fn unfinished(rt: HostRuntime) -> Result<()> {
-    let alloc = rt.alloc();
-    let sink = Sink::new(alloc, usize::MAX, NONE)?;
-    let mut pixels = PixelWriter::new(alloc, row(100, Channels::Rgb), Style::Reference, sink)?;
-    pixels.write(&[9; 90])?;
-    assert_number(&rt, pixels.left(), 210);
+fn unfinished(rt: HostRuntime) {
     let begun = [0x71, 0x6f, 0x69, 0x66, 0, 0, 0, 100, 0, 0, 0, 1, 3, 0];
-    assert_bytes(&rt, &pixels.into_writer().got, &begun);
-
-    let sink = Sink::new(alloc, usize::MAX, NONE)?;
-    let mut pixels = PixelWriter::new(alloc, row(2000, Channels::Rgb), Style::Reference, sink)?;
-    pixels.write(&[9; 90])?;
-    pixels.write(&[9; 4150])?;
-    assert_number(&rt, pixels.left(), 1760);
+    assert_begun(&rt, rt.alloc(), 100, &[&[9; 90]], 210, &begun);
     // The header, the first pixel's luma chunk, and the full runs of 1400 pixels.
-    let mut begun = Vec::new(alloc);
-    let front = [
+    let mut begun = [0xfd; 38];
+    begun[..16].copy_from_slice(&[
         0x71, 0x6f, 0x69, 0x66, 0, 0, 7, 0xd0, 0, 0, 0, 1, 3, 0, 0xa9, 0x88,
-    ];
-    begun.extend_from_slice(&front)?;
-    begun.resize(38, 0xfd)?;
-    assert_bytes(&rt, &pixels.into_writer().got, &begun);
-    Ok(())
+    ]);
+    let pieces: [&[u8]; 2] = [&[9; 90], &[9; 4150]];
+    assert_begun(&rt, rt.alloc(), 2000, &pieces, 1760, &begun);
 }
 
 // A header of no pixels, or of too many, is refused before anything is sent.

@@ -4,10 +4,13 @@ ghost use Rattle.std.specs.Prelude.{◌≡◌, ◌≤◌, ℕ, List, length, tak
 ghost use Rattle.qoi.specs.Images.{file_image};
 
 use crate::tests::fakes::{ONE_RGB_PIXEL, PIXEL};
-use crate::tests::library::support::{assert_bytes, assert_number};
+use crate::tests::library::support::{assert_both, assert_given};
 use qoi::{Decoder, Encoder, Error, decode_to_vec};
 use std::alloc::Global;
 use std::io::Write;
+
+// An image of one pixel.
+const OTHER: [u8; 3] = [1, 2, 3];
 
 /// Saved. If the writer's bytes are known, those before it stay, and the image is read after them.
 pub fn save<W: Write>(out: &mut W, raw: &[u8], width: u32, height: u32) -> Result<usize, Error>
@@ -131,30 +134,21 @@ pub fn two_encoded(
 }
 
 #[test]
-fn saved_to_a_vector(rt: HostRuntime) -> Result<(), Error> {
+fn saved_to_a_vector(rt: HostRuntime) {
     let alloc = rt.alloc();
-    assert_bytes(&rt, &saved_and_loaded(alloc, &PIXEL, 1, 1)?, &PIXEL);
-    let mut out = Vec::from_slice(alloc, &[1, 2, 3])?;
-    assert_bytes(&rt, &saved_after(alloc, &mut out, &PIXEL, 1, 1)?, &PIXEL);
-    let mut all = Vec::from_slice(alloc, &[1, 2, 3])?;
-    all.extend_from_slice(&ONE_RGB_PIXEL)?;
-    assert_bytes(&rt, &out, &all);
-    assert_number(&rt, save(&mut out, &PIXEL, 1, 1)?, 26);
-    Ok(())
+    assert_given(&rt, saved_and_loaded(alloc, &PIXEL, 1, 1), &PIXEL);
+    let mut out = Vec::new(alloc);
+    assert_given(&rt, saved_after(alloc, &mut out, &PIXEL, 1, 1), &PIXEL);
+    assert_given(&rt, saved_after(alloc, &mut out, &OTHER, 1, 1), &OTHER);
+    assert!(rt; out.as_slice().starts_with(&ONE_RGB_PIXEL));
 }
 
 #[test]
-fn two_in_a_vector(rt: HostRuntime) -> Result<(), Error> {
+fn two_in_a_vector(rt: HostRuntime) {
     let alloc = rt.alloc();
-    let other = [1, 2, 3];
-    let (one, two) = two_saved(alloc, &PIXEL, &other, 1, 1)?;
-    assert_bytes(&rt, &one, &PIXEL);
-    assert_bytes(&rt, &two, &other);
-    let (one, two) = two_at_offsets(alloc, &PIXEL, &other, 1, 1)?;
-    assert_bytes(&rt, &one, &PIXEL);
-    assert_bytes(&rt, &two, &other);
-    let (one, two) = two_encoded(alloc, &other, &PIXEL, 1, 1)?;
-    assert_bytes(&rt, &one, &other);
-    assert_bytes(&rt, &two, &PIXEL);
-    Ok(())
+    assert_both(&rt, two_saved(alloc, &PIXEL, &OTHER, 1, 1), &PIXEL, &OTHER);
+    let both = two_at_offsets(alloc, &PIXEL, &OTHER, 1, 1);
+    assert_both(&rt, both, &PIXEL, &OTHER);
+    let both = two_encoded(alloc, &OTHER, &PIXEL, 1, 1);
+    assert_both(&rt, both, &OTHER, &PIXEL);
 }

@@ -23,6 +23,18 @@ pub fn assert_given(rt: &impl Abort, given: Result<Vec<u8>>, bytes: &[u8]) {
     assert_bytes(rt, &given.expect(rt, "refused"), bytes);
 }
 
+/// Compares two vectors that a call gives.
+pub fn assert_both(
+    rt: &impl Abort,
+    given: Result<(Vec<u8>, Vec<u8>)>,
+    first: &[u8],
+    second: &[u8],
+) {
+    let (one, other) = given.expect(rt, "refused");
+    assert_bytes(rt, &one, first);
+    assert_bytes(rt, &other, second);
+}
+
 /// Compares numbers.
 pub fn assert_number(rt: &impl Abort, found: usize, number: usize) {
     assert_eq!(rt; found, number);
