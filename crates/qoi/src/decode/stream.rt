@@ -173,7 +173,8 @@ fn decode_chunks<R: Read, const N: usize, const F: usize, const RUN_FITS: bool>(
 pub(super) fn stream_marker<R: Read>(reader: &mut R) -> Result<()>
     ensures read { OnOk result
         (Consumes (R.remaining reader.old) (R.remaining reader.new) end_marker) }
-    ensures refused { IfErr result (λ e. TakesBytes (R.remaining reader.old) (R.remaining reader.new)
+    ensures refused { IfErr result (λ e.
+        TakesBytes (R.remaining reader.old) (R.remaining reader.new)
         (λ taken. RefusesTakenMarker taken e)) }
 {
     let mut eight = [0; QOI_PADDING_SIZE];
