@@ -16,7 +16,7 @@ pub const CUT: &str = "unexpected input buffer end while decoding";
 const WRONG: &str = "invalid padding (stream end marker mismatch)";
 
 /// The call that decodes: `decode_to_buf` or `decode_to_vec`.
-#[derive(Clone, Copy, PartialEq, Eq)]
+#[derive(Clone, Copy)]
 pub enum Call {
     ToBuf,
     ToVec,
