@@ -70,7 +70,7 @@ pub record IsEncoded (Lists : List RgbaPixel → List Chunk → Type 0) (h : Hea
 
 -- The file of the image, if `Lists` says which lists are written for an image. The header is valid,
 -- and there are as many raw bytes as it says. There is one file, of at least 23 bytes and at most
--- `max_file_len`. It comes back whatever follows it. Another color space changes one byte alone. No
+-- `max_file_len`. The image comes back whatever follows. Another color space changes one byte alone. No
 -- two neighbouring chunks of its list name the same index position.
 pub record IsFileBy (Lists : List RgbaPixel → List Chunk → Type 0) (h : Header) (raw bytes : List ℕ) : Type 0 where
   pub valid : IsValid h

@@ -46,8 +46,9 @@ pub record GivesFresh (Choice : Past → RgbaPixel → Chunk → Type 0) (past :
   pub is_fresh : pixel_after past c ≢ previous past
   pub is_chosen : Choice past (pixel_after past c) c
 
--- any run is allowed (`RunsFollowFull` says which follow others), and any other chunk that gives a
--- fresh pixel by the choice; so repeats are given by runs alone
+-- What may follow the pixels so far: any run (`RunsFollowFull` says which follow others), and any
+-- other chunk that gives a fresh pixel by the choice. So repeats are given by runs alone; style Places
+-- then changes some (`Styles`).
 abbrev pub IsAllowedAfter : (Past → RgbaPixel → Chunk → Type 0) → Past → Chunk → Type 0
 IsAllowedAfter Choice past (Run n) = Unit {0}
 IsAllowedAfter Choice past c = GivesFresh Choice past c

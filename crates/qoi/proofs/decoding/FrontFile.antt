@@ -1,11 +1,11 @@
 -- A header and an image behind it are a file; and files stay whatever is appended.
-use Rattle.std.proofs.Common.{◌≡◌, ℕ, zero, suc, ◌+◌, ◌<◌, inl, inr, List, ◌++◌, length, drop, Some, arith, refl, sym, ap, ◌∙◌, subst, length-append}
+use Rattle.std.proofs.Common.{◌≡◌, ℕ, zero, suc, ◌+◌, ◌<◌, inl, inr, List, ◌++◌, length, drop, Option, Some, arith, refl, sym, ap, ◌∙◌, subst, length-append}
 use Rattle.std.proofs.lemmas.Bool.{cases_lt}
 use Rattle.qoi.specs.Qoi.{channels_number, file, file_pixels, header_bytes, header_size, IsFile}
 use Rattle.qoi.specs.Raw.{output}
 use Rattle.qoi.specs.Decoding.{DecodesFile}
 use Rattle.qoi.specs.DecoderState.{DecoderState}
-use Rattle.qoi.specs.Decoded.{HasHeader}
+use Rattle.qoi.specs.Decoded.{HasHeader, HasDecoded}
 use Rattle.qoi.specs.Images.{file_image, file_rest}
 use Rattle.qoi.specs.Reading.{IsDecoderOf, StandsAhead}
 use Rattle.qoi.specs.FrontFile.{BeginsWithFile, behind_files, BeginsWithFiles}
@@ -25,6 +25,14 @@ begins_with_file d bytes made (cs, rest, whole) =
     let left : rest ≡ file_rest bytes = file_rest_is bytes h rest _ (decodes_file h cs bytes rest _ f split refl) in
     let all : bytes ≡ file h cs ++ file_rest bytes = split ∙ ap (λ z. file h cs ++ z) left in
     record { header = h; cs = cs; is_file = f; split = all; size = sym (ap length all ∙ length-append (file h cs) (file_rest bytes)) }
+
+-- so do bytes of which a decoder took header and image
+pub decoded_file : (d : DecoderState (List ℕ)) (bytes : List ℕ) (new : Option (List ℕ)) (out : List ℕ) → HasHeader d (Some bytes) (Some d.reader)
+    → HasDecoded d (Some d.reader) new out → BeginsWithFile bytes
+unfolding StandsAhead
+decoded_file d bytes new out made decoded =
+    let (rest, left, is) = decoded.rest d.reader refl in
+    begins_with_file d bytes made (is.cs, rest, is.whole)
 
 -- the raw bytes of the file that they begin with
 front_raw : (bytes : List ℕ) → BeginsWithFile bytes → List ℕ

@@ -27,15 +27,15 @@ pub record OpensBlock (style : Style) (last : RgbaPixel) (n : ℕ) (rest : List 
   pub other : style ≢ Tight
 
 -- A fresh pixel came; or no repeats are to be written, and the next pixel opens a block. If the next
--- pixel repeats the last, so few are to be written that a run of less than 62 ends in its block.
+-- pixel repeats the last, so few are to be written that with a block's repeats they are fewer than 62.
 pub record GoesByBlocks (style : Style) (last : LastPixel) (n : ℕ) (rest : List RgbaPixel) : Type 0 where
   pub opens : last.begun ≡ false → (last.repeats ≡ 0) × OpensBlock style last.px n rest
   pub few : slice_get rest 0 ≡ Some last.px → last.repeats ≤ FRONT_CARRIED
 
 -- Between two blocks: the carried repeats are still to be written, the pixels `rest`, and then
--- others. A fresh pixel came; or nothing is carried, none of n pixels was written, and the next one
--- opens a block. If it repeats the last, so few repeats are carried that a run of less than 62 ends in
--- the next block.
+-- others. A fresh pixel came; or nothing is carried, none of the call's n pixels was written, and the
+-- next one opens a block. If it repeats the last, so few repeats are carried that with a block's they
+-- are fewer than 62.
 pub record InBlocks {N : ℕ} (style : Style) (ahead : List ℕ) (n : ℕ) (rest more table : List RgbaPixel) (carry : Carry N) (kept : List ℕ) : Type 0 where
   pub past : Past
   pub before : Option Chunk

@@ -54,7 +54,7 @@ HasGiven d start now given p = GivesSoFar d start now given p
 unfoldable pub HasRows : {R : Type 0} → DecoderState R → Option (List ℕ) → Option (List ℕ) → ℕ → ℕ → PixelsState R → Type 0
 HasRows d start now stride k p = (given : List ℕ) × (length given ≡ stride * k) × HasGiven d start now given p
 
--- The image was refused: some of it is left, and no more of it is read.
+-- The image was refused, and some of it is left.
 abbrev pub IsSpent : {R : Type 0} → PixelsState R → Type 0
 IsSpent p = (p.refused ≡ true) × (0 < pixels_left p)
 

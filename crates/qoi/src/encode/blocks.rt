@@ -23,11 +23,12 @@ use crate::encode::table::PixelTable;
 use crate::types::Style::{self, Places, Reference, Tight};
 
 // The most repeats that may be carried if the next pixel repeats, too, and the front goes by
-// blocks: a run of fewer than 62 ends in the next block.
+// blocks: with a block's repeats they are fewer than 62.
 const FRONT_CARRIED: usize = 45;
 
 // Whether the front goes by blocks, if there is one: once a fresh pixel came or, except in style
-// `Tight`, if the next one is fresh; and if not too many repeats came that aren't written yet.
+// `Tight`, if the next one is fresh; but not if over `FRONT_CARRIED` repeats wait and another
+// follows.
 #[inline(always)]
 fn goes_by_blocks<const N: usize>(style: Style, last: LastPixel, raw: Pixels<N>) -> bool
     ensures { IsTrue result

@@ -1,5 +1,5 @@
-//! What is carried from one block of sixteen pixels to the next, and the byte of a run that goes
-//! over two blocks or more.
+//! What is carried from one block of sixteen pixels to the next, and the byte of a run that ends
+//! where a block begins. A run that ends within the next block is its `block/spelling`'s.
 ghost use Rattle.std.specs.Prelude.{◌≡◌, ◌+◌, ◌≤◌, ◌<◌, [], ◌∷◌, ◌++◌, length, take, drop, slice_index};
 ghost use Rattle.qoi.specs.Qoi.{run_max};
 ghost use Rattle.qoi.specs.Raw.{IsChannels, IsChannels-prop};

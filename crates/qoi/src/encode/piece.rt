@@ -18,7 +18,7 @@ use std::simd::prelude::*;
 
 /// How many bytes of a piece's room come after a full piece: for what goes past it (the chunks of
 /// a block, runs, or the last chunks and the end marker), and for what is stored after that and
-/// means nothing.
+/// means nothing, such as a block's index positions.
 pub(super) const PAST: usize = 128;
 
 /// The room of a piece of 4096 bytes, for all images that go to a writer, and for large ones. A

@@ -1,5 +1,5 @@
-//! Counts the repeats of a pixel in raw bytes. Their runs are written in `carry`, `block/spelling`,
-//! `blocks` and `coder`.
+//! Counts the repeats of a pixel in raw bytes. Their runs are written by `block/spelling` within a
+//! block, by `carry` before one, by `blocks` over whole ones, and else by `coder`.
 ghost use lib.Lanes.{mask_l, zip2};
 ghost use Rattle.std.specs.Prelude.{nat_eq, ◌≡◌, ◌↔◌, ◌+◌, ◌-◌, ◌*◌, ◌^◌, ◌≤◌, ◌<◌, ◌++◌, length, take, drop, replicate, IsTrue};
 ghost use Rattle.qoi.specs.Qoi.{rgba};

@@ -1,5 +1,5 @@
 //! Laws on reading: bytes have one verdict, and files are read as they were put together.
-ghost use Rattle.std.specs.Prelude.{◌≡◌, ℕ, ◌+◌, ◌*◌, ◌<◌, ◌≤◌, ◌⊎◌, List, [], ◌∷◌, ◌++◌, length, drop, replicate, Ok, Err, Some};
+ghost use Rattle.std.specs.Prelude.{◌≡◌, ℕ, ◌+◌, ◌*◌, ◌<◌, ◌≤◌, ◌⊎◌, List, [], ◌∷◌, ◌++◌, length, drop, replicate, Ok, Err, Option, Some};
 ghost use Rattle.qoi.specs.declared.error.Error.{Error};
 ghost use Rattle.qoi.specs.declared.header.Header.{Header};
 ghost use Rattle.qoi.specs.declared.types.Channels.{Channels};
@@ -12,7 +12,7 @@ ghost use Rattle.qoi.specs.Encoded.{IsFileOf, IsReadBack, image_file, image_head
 ghost use Rattle.qoi.specs.Tiles.{HasTile};
 ghost use Rattle.qoi.specs.Verdicts.{IsPartOfChunk, IsWhole, IsCut, IsWrong};
 ghost use Rattle.qoi.specs.Decoding.{DecodesFile};
-ghost use Rattle.qoi.specs.Decoded.{HasHeader};
+ghost use Rattle.qoi.specs.Decoded.{HasHeader, HasDecoded};
 ghost use Rattle.qoi.specs.DecoderState.{DecoderState};
 ghost use Rattle.qoi.specs.FrontFile.{BeginsWithFile, behind_files, BeginsWithFiles};
 ghost use Rattle.qoi.specs.Reading.{IsImage, StandsAhead};
@@ -103,9 +103,12 @@ pub fn files_may_be_followed()
         → DecodesFile bytes h rest out → file_rest (bytes ++ more) ≡ file_rest bytes ++ more }
 {}
 
-/// Files that stand one after the other at the front of the bytes: none, and one more. The image of
-/// each stays whatever is appended.
+/// Bytes of which a file was decoded begin with one. Files that stand one after the other at the
+/// front of the bytes: none, and one more. The image of each stays whatever is appended.
 pub fn files_stay()
+    ensures decoded { (d : DecoderState (List ℕ)) (bytes : List ℕ) (new : Option (List ℕ))
+        (out : List ℕ) → HasHeader d (Some bytes) (Some d.reader)
+        → HasDecoded d (Some d.reader) new out → BeginsWithFile bytes }
     ensures none { (bytes : List ℕ) → BeginsWithFiles 0 bytes }
     ensures more { (k : ℕ) (bytes : List ℕ) → BeginsWithFiles k bytes
         → BeginsWithFile (behind_files k bytes) → BeginsWithFiles (k + 1) bytes }

@@ -65,7 +65,7 @@ abbrev pub more_of : RgbaPixel → List RgbaPixel → Bool
 more_of p [] = true
 more_of p (q ∷ qs) = pixel_eq q p
 
--- what is written for all of them
+-- what is written for a block's pixels, but for the repeats at its end
 abbrev pub block_bytes : Style → State → List RgbaPixel → List ℕ
 block_bytes style s [] = []
 block_bytes style s (p ∷ ps) = step_bytes style s p (more_of p ps) ++ block_bytes style (next_state s p (more_of p ps)) ps

@@ -25,8 +25,9 @@ pub(in crate::encode) fn index_positions(p: Planes) -> u8x16
 }
 
 /// Stores index positions in the last sixteen bytes of `out`, which has `ROOM` bytes. To read a
-/// position from there is faster than to take it from the vector. The compiler would take it if no
-/// byte were stored between, of which it can't tell that it is none of these (`Carry::store_run`).
+/// position from there is faster than to take it from the vector. The compiler would take it from
+/// the vector, but for the byte that is stored in between (`Carry::store_run`): for all it knows,
+/// that is one of these.
 #[inline(always)]
 pub(in crate::encode) fn store_places<const ROOM: usize>(v: u8x16, out: &mut [u8])
     requires size { length out.old ≡ ROOM }

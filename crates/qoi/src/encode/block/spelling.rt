@@ -1,5 +1,5 @@
 //! The chunks of sixteen pixels, a lane for each: first and second bytes, and sizes (QOI
-//! specification 1.0, "Chunks"). A repeat has a run's byte if a fresh pixel follows, else none.
+//! specification 1.0, "Chunks"). A repeat has a run's byte, and size 0 unless a fresh pixel follows.
 ghost use Rattle.std.specs.Prelude.{◌≡◌, ◌<◌, ℕ, List, map};
 ghost use Rattle.qoi.specs.Qoi.{RgbaPixel, run_max, hash};
 ghost use Rattle.qoi.specs.declared.types.Style.TheVariants.{Reference};

@@ -80,7 +80,7 @@ impl Held {
         }
     }
 
-    /// Whether so many more are held: there is room for them, and they don't take half of all the
+    /// Whether so many more are held: there is room for them, and they take at most half of all the
     /// room, since it takes time to copy them.
     #[inline(always)]
     pub(super) fn takes(&self, count: usize) -> bool

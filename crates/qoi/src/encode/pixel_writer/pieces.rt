@@ -116,8 +116,8 @@ fn write_whole<'a, 'p, W: Write, const N: usize, const COPY: u8, const ROOM: usi
     Ok((rest.bytes, piece))
 }
 
-// Writes the raw bytes that are held and as many of these as their last block needs, or else whole
-// pixels of these; and holds the pixels that are left, fewer than a block has. Returns the rest.
+// If raw bytes are held, writes them and as many of `raw` as their last block needs, else whole
+// pixels of `raw`. Holds the pixels that are left, fewer than a block has, and returns the rest.
 #[inline(always)]
 fn write_more<'a, 'p, W: Write, const N: usize, const COPY: u8, const ROOM: usize>(
     writer: &mut W,

@@ -19,7 +19,7 @@ fn with_alphas(numbers: u32x4, alphas: u32x4) -> [u64; 4]
     [first[0], first[1], second[0], second[1]]
 }
 
-// How many bytes the first chunks have, of eight: a byte for each, which counts its own chunk too.
+// Where each of eight chunks ends: a byte for each.
 #[inline(always)]
 fn ends(sizes: u64) -> u64
     ensures { (ss : List ℕ) → AreSizes ss sizes → (k : ℕ) → k < 8

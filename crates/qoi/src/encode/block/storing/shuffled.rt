@@ -10,7 +10,7 @@ use std::simd::prelude::*;
 
 // How the bytes of four numbers are moved together, of each the lowest ones: as many as four codes
 // of two bits say, which are 0, 1, 2 or 3 for 0, 1, 2 or 4 bytes. An order is a number, whose lowest
-// byte says where the first byte stands; the bytes after the last place are unused. Numbers of 128
+// byte says where the first byte stands; the bytes above those are unused. Numbers of 128
 // bits are aligned, so that a shuffle reads its order from memory itself.
 #[rattlefmt::skip]
 static ORDERS: [u128; 256] = [
