@@ -290,8 +290,8 @@ impl<R: PieceReader> PixelReader<R> {
 
 impl<R: PieceReader + Drop> PixelReader<R> {
     /// Takes what is left of the image, and the end marker, without handing the bytes out: a file
-    /// is checked, or its end found, in no memory. Gives back the decoder, which goes on behind the
-    /// end marker.
+    /// is checked, or its end found, without allocating. Gives back the decoder, which goes on behind
+    /// the end marker.
     ///
     /// Refusals are those of `read`, after one of them too. After a refusal the decoder is dropped
     /// with its reader, so no contract can say where that stood.

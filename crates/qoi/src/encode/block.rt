@@ -53,7 +53,7 @@ pub(super) struct Block {
 }
 
 impl Block {
-    /// The block at the front, which comes after the block that is carried.
+    /// The block at the front, after the last pixel that `carry` has.
     #[inline(always)]
     pub(super) fn first<const N: usize>(front: FrontBlock<N>, carry: Carry<N>) -> Block
         ensures changes { ChangesFrom carry.entry.before (block_pixels result.words)

@@ -27,8 +27,8 @@ use crate::types::Style::{self, Places, Reference, Tight};
 const FRONT_CARRIED: usize = 45;
 
 // Whether the front goes by blocks, if there is one: once a fresh pixel came or, except in style
-// `Tight`, if the next one is fresh; but not if over `FRONT_CARRIED` repeats wait and another
-// follows.
+// `Tight`, if no repeats wait and the next pixel is fresh; but not if over `FRONT_CARRIED` repeats
+// wait and another follows.
 #[inline(always)]
 fn goes_by_blocks<const N: usize>(style: Style, last: LastPixel, raw: Pixels<N>) -> bool
     ensures { IsTrue result

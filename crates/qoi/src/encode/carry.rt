@@ -1,5 +1,5 @@
 //! What is carried from one block of sixteen pixels to the next, and the byte of a run that ends
-//! where a block begins. A run that ends within the next block is its `block/spelling`'s.
+//! where a block begins. If it ends within the block, `block/spelling` gives the byte.
 ghost use Rattle.std.specs.Prelude.{◌≡◌, ◌+◌, ◌≤◌, ◌<◌, [], ◌∷◌, ◌++◌, length, take, drop, slice_index};
 ghost use Rattle.qoi.specs.Qoi.{run_max};
 ghost use Rattle.qoi.specs.Raw.{IsChannels, IsChannels-prop};
@@ -11,9 +11,9 @@ use crate::encode::block::planes::Planes;
 use crate::types::Style::{self, Places, Reference, Tight};
 use crate::utils::pick;
 
-/// What is carried from block to block: the planes of the last one; how many repeats of its last
-/// pixel came that aren't stored yet; and, in style `Places`, whether the chunk before them names
-/// that pixel's index position.
+/// What is carried from block to block: planes whose last pixel came last; how many repeats of it
+/// came that aren't stored yet; and, in style `Places`, whether the chunk before them names its
+/// index position.
 #[derive(Clone, Copy)]
 pub(super) struct Carry<const N: usize> {
     pub(super) before: Planes,

@@ -6,9 +6,9 @@ use crate::packed::Packed;
 
 /// The last pixel that came, `px`; `repeats`, how many repeats of it came that aren't written yet:
 /// fewer than a full run has; `begun`, whether a fresh pixel came, one that differs from the pixel
-/// before it; and `placed`, whether the chunk before those repeats names `px`'s index position. The
-/// count stands first, so that the zeros of the start are stored in the widths in which they are
-/// read.
+/// before it; and `placed`, in style `Places` whether the chunk before those repeats names `px`'s
+/// index position. The count stands first: else the zeros of the start are stored in other widths
+/// than they are read in, which is slower.
 #[derive(Clone, Copy)]
 pub(super) struct LastPixel {
     pub(super) repeats: usize,

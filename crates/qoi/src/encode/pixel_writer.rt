@@ -108,8 +108,9 @@ impl<W: Write + Drop> PixelWriter<W> {
     /// sixteen pixels. Repeats whose run may go on aren't sent yet. It doesn't flush.
     ///
     /// `InvalidImageLength`, with the number of all bytes that came, if there are more than the
-    /// image has; then none of them is taken. `IoError` if the writer reports a fault or takes no byte;
-    /// then a beginning of the file was sent, and each further call refuses with an `IoError`.
+    /// image has; then none of them is taken. `IoError` if the writer reports a fault or takes no
+    /// byte; then a beginning of the file was sent, and each further `write`, and `finish`, refuses
+    /// with an `IoError`.
     pub fn write(&mut self, raw: &[u8]) -> Result<()>
         // A success: these raw bytes came, too.
         ensures taken { (e : EncoderState) (before : Option (List ℕ))

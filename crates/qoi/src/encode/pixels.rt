@@ -59,7 +59,7 @@ impl<'a, const N: usize> Pixels<'a, N> {
         self.bytes.len() >= 16 * N
     }
 
-    /// These, of which there are so many.
+    /// These pixels, of which a block or more are left.
     #[inline(always)]
     pub(super) fn front(self) -> FrontBlock<'a, N>
         requires { 16 ≤ length (pixels_in self) }

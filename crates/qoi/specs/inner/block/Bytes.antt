@@ -14,7 +14,7 @@ firsts c (l ∷ ls) =
     let n = if is_rep l then suc c else 0 in
     max (first_of l) (bit_and (mask (is_rep l)) ((n + 191) % 256)) ∷ firsts n ls
 
--- sizes: 0 of a repeat that another follows, or none
+-- sizes: 0 of a repeat before another one, or at the end
 abbrev pub sizes : List Lane → List ℕ
 sizes [] = []
 sizes (l ∷ ls) = (size_of l + bit_and (mask (is_rep l)) (mask (goes_on ls))) % 256 ∷ sizes ls

@@ -12,7 +12,7 @@ use crate::encode::block::planes::{Planes, known_alpha};
 use std::simd::prelude::*;
 
 /// What is added to red, green and blue of the pixels before to give those of the pixels; it wraps
-/// at 256. Or the same as a difference or a luma chunk has it.
+/// at 256. Or these as a chunk stores them (`diff_steps`, `luma_steps`).
 #[derive(Clone, Copy)]
 pub(in crate::encode) struct Steps {
     pub(in crate::encode) r: u8x16,

@@ -43,6 +43,7 @@ pub(in crate::encode) fn store_sixteen<const N: usize>(
         → ((k : ℕ) → slice_index x.size k ≤ N + 1)
         → take result out.new ≡ take at out.old ++ block_bytes style s ps }
 {
+    // A lane's four bytes: the first, the second (a luma's, or red), green and blue.
     let words = make_words(Planes {
         r: x.first,
         g: x.second,

@@ -119,7 +119,7 @@ impl Held {
         self.len = copy_after(&mut self.bytes, 0, raw);
     }
 
-    /// They.
+    /// The bytes that are held.
     #[inline(always)]
     pub(super) fn bytes(&self) -> &[u8]
         ensures { result.now ≡ self.now }

@@ -9,9 +9,9 @@ use crate::encode::block::planes::Words;
 use std::simd::prelude::*;
 
 // How the bytes of four numbers are moved together, of each the lowest ones: as many as four codes
-// of two bits say, which are 0, 1, 2 or 3 for 0, 1, 2 or 4 bytes. An order is a number, whose lowest
-// byte says where the first byte stands; the bytes above those are unused. Numbers of 128
-// bits are aligned, so that a shuffle reads its order from memory itself.
+// of two bits say, which are 0, 1, 2 or 3 for 0, 1, 2 or 4 bytes. An order is a number of 128 bits.
+// Its bytes, the lowest first, say where each byte stands; those past the last one are unused. Such
+// numbers are aligned, so that a shuffle reads its order from memory itself.
 #[rattlefmt::skip]
 static ORDERS: [u128; 256] = [
     0x00000000_00000000_00000000_00000000, 0x00000000_00000000_00000000_00000000,
@@ -193,7 +193,7 @@ fn together(numbers: u32x4, codes: u8) -> u8x16
     numbers.to_le_bytes().swizzle_dyn_within::<16>(order(codes))
 }
 
-// Stores them, and returns where they end.
+// Stores the bytes of four numbers moved together, and returns where they end.
 #[inline(always)]
 fn store_four_shuffled(out: &mut [u8], at: usize, codes: u8, numbers: u32x4) -> usize
     requires { at + 16 ≤ length out.old }
