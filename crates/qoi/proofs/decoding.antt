@@ -7,6 +7,7 @@ pub mod FrontFile
 pub mod FrontImage
 pub mod Grown
 pub mod ImageSize
+pub mod InPlace
 pub mod LeastBytes
 pub mod OneFile
 pub mod PieceFront

@@ -8,7 +8,7 @@ use mir.Val.{bool_byte}
 use Rattle.qoi.specs.declared.decode.fast.Progress.{Progress}
 use Rattle.qoi.specs.Qoi.{Past}
 use Rattle.qoi.specs.Raw.{IsChannels}
-use Rattle.qoi.specs.inner.Filling.{upto, filling, further, IsFillable, HasWritten, HasFilled, DecodesChunk, DecoderBetween, IsFrontAfter, Fast, fast, FastStep}
+use Rattle.qoi.specs.inner.Filling.{upto, Filling, filling, further, IsFillable, HasWritten, HasFilled, DecodesChunk, DecoderBetween, IsFrontAfter, Fast, fast, FastStep, FastChunks}
 use Rattle.qoi.specs.inner.Hashed.{pixel_of_lanes, HoldsSeen}
 use Rattle.qoi.proofs.format.WholePixels.{by_channels}
 use Rattle.qoi.proofs.decoding.FilledBuffer.{filled_copies}
@@ -95,6 +95,18 @@ pub fillable_after : {f c input room : ℕ} {bytes : List ℕ} {old new : Fast} 
     → length new.out ≡ length old.out → new.now.at ≤ length new.out → IsFillable c (upto new.out new.now.at)
 fillable_after {c = c} step h size within = record { three_or_four = h.three_or_four; within = within; whole = (ap (λ k. k % c) size ∙ h.whole.0, step.whole) }
 
+-- a step more of the fast loop
+pub step_more : {f c input room taken : ℕ} {bytes : List ℕ} {old : Filling} {middle new : Fast} → FastChunks f c bytes taken old middle
+    → FastStep f c input room bytes middle new → new.now.taken < length bytes → length new.out ≡ length middle.out → new.now.at < length new.out
+    → FastChunks f c bytes taken old new
+step_more before step within size below = record {
+  between = λ gone n front h. step.between gone n front (before.between gone n front h);
+  within = within;
+  written = omega (arith, before.written, step.written);
+  below = λ _. below;
+  fillable = fillable_after step before.fillable size (omega (arith, below));
+}
+
 -- two steps are one
 pub step_then : {f c i j k r s t : ℕ} {bytes : List ℕ} {old middle new : Fast} → FastStep f c i r bytes old middle → FastStep f c j s bytes middle new → i + j ≤ k → r + s ≤ t
     → FastStep f c k t bytes old new
@@ -107,18 +119,21 @@ step_then a b taken written = record {
   byte = b.byte;
 }
 
+-- a step that goes on less far
+pub step_within : {f c i r k t : ℕ} {bytes : List ℕ} {old new : Fast} → FastStep f c i r bytes old new → i ≤ k → r ≤ t → FastStep f c k t bytes old new
+step_within step taken written = record {
+  between = step.between;
+  taken = (step.taken.0, omega (arith, step.taken, taken));
+  some = step.some;
+  written = (step.written.0, omega (arith, step.written, written));
+  whole = step.whole;
+  byte = step.byte;
+}
+
 -- none of the bytes that are taken is left out at first
 pub step_at_first : {f c i r k t : ℕ} {bytes table out : List ℕ} {new : Fast} (p : Progress) → FastStep f c i r bytes (fast (further 0 p) table out) new → i ≤ k → r ≤ t
     → FastStep f c k t bytes (fast p table out) new
 step_at_first {f} {c} {i} {r} {k} {t} {bytes} {table} {out} {new} p step taken written =
     let to : (n : ℕ) → Progress = λ n. record { last = p.last; taken = n; at = p.at; next = p.next } in
     let same : p.taken + 0 ≡ p.taken = omega arith in
-    let from = subst (λ n. FastStep f c i r bytes (fast (to n) table out) new) same step in
-    record {
-      between = from.between;
-      taken = (from.taken.0, omega (arith, from.taken, taken));
-      some = from.some;
-      written = (from.written.0, omega (arith, from.written, written));
-      whole = from.whole;
-      byte = from.byte;
-    }
+    step_within (subst (λ n. FastStep f c i r bytes (fast (to n) table out) new) same step) taken written

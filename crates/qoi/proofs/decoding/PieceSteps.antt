@@ -13,7 +13,8 @@ use Rattle.qoi.specs.Qoi.{Past, Each, AreChunks, chunk_bytes, end_marker, pixel_
 use Rattle.qoi.specs.Raw.{IsChannels, pixel_bytes, output}
 use Rattle.qoi.specs.Decoding.{TakesImagePixels, ReadsImage}
 use Rattle.qoi.specs.inner.Filling.{HasSeen, IsFillable, upto, filling, DecoderBetween}
-use Rattle.qoi.specs.pieces.ReaderPieces.{kept, KeepsWithin, DecoderAfter, GivesPieces}
+use Rattle.qoi.specs.pieces.InPlace.{TakesPiece}
+use Rattle.qoi.specs.pieces.ReaderPieces.{kept, bytes_left, KeepsWithin, DecoderAfter, GivesPieces}
 use Rattle.qoi.proofs.format.ChunkSteps.{times_some}
 use Rattle.qoi.proofs.format.WholePixels.{by_channels, length-output, take_whole}
 use Rattle.qoi.proofs.decoding.Progress.{fewer, none_written, fillable_whole}
@@ -144,6 +145,14 @@ front_most c out is =
     let near : length out < length out / c * c + 4 = by_channels (λ k. length out < length out / k * k + 4) is (omega arith) (omega arith) in
     (omega (arith, size, within), omega (arith, size, near))
 
+-- the whole pixels at the front of an output are lent
+pub front_lent : {f c n : ℕ} {start old : Option (List ℕ)} {given : List ℕ} (p : Pieces) (out : List ℕ) → IsChannels c → GivesPieces f c n start old given p
+    → p.from ≡ p.to → length out ≤ bytes_left p → 0 < length out
+    → Lent f c n (length out / c) start old given p (take (length out / c * c) out)
+front_lent {c = c} p out is h none fits some =
+    let most = front_most c out is in
+    lent (length out / c) (take (length out / c * c) out) is h none (omega (arith, none, fits, some)) (whole_front c out is) (omega (arith, none, fits, most.0))
+
 -- from the beginning on
 none_off : (n : ℕ) → n - 0 ≡ n
 none_off n = omega arith
@@ -170,6 +179,31 @@ long_read {f} {c} {n} {m} {start} {old} {new} {given} {p} {out} {table} {last} n
       goes_on = λ some. (all, stands, none_kept then more same ∙ ap (λ z. given ++ z) front ∙ e);
       ends = λ none. absurd (omega (arith, none, inside, fits));
     }
+
+-- a piece of what was lent was taken, and more is kept
+pub piece_read : {f c n m : ℕ} {start old new : Option (List ℕ)} {given : List ℕ} {p : Pieces} {out : List ℕ} {table : List ℕ} {last : ℕ}
+    (now rest bytes : List ℕ) (at from to : ℕ) → GivesPieces f c n start old given p → p.from ≡ p.to → (l : Lent f c n m start old given p out)
+    → TakesPiece f c l.gone (Consumes start new) table last (take at now ++ take (to - from) (drop from bytes)) → at ≤ length now → from ≤ to → to ≤ length bytes
+    → at + (to - from) < p.undecoded
+    → GivesPieces f c n start new (given ++ take at (now ++ rest)) (record { table = table; last = last; bytes = bytes; from = from; to = to; undecoded = p.undecoded - (at + (to - from)) })
+piece_read {f} {c} {n} {m} {start} {old} {new} {given} {p} {out} {table} {last} now rest bytes at from to h same l t inside forth within fits =
+    let front : take at (now ++ rest) ≡ take at now = take-append-le at now rest inside in
+    let more = take (to - from) (drop from bytes) in
+    let size : length (given ++ take at (now ++ rest)) ≡ length given + at =
+    length-append given (take at (now ++ rest)) ∙ ap (λ k. length given + k) (ap length front ∙ length-take-le at now inside) in
+    record {
+      within = (forth, within);
+      size = ap (λ k. k + (to - from + (p.undecoded - (at + (to - from))))) size ∙ kept_size (length given) (p.to - p.from) p.undecoded at (to - from) (c * n) (omega (arith, same)) h.size fits;
+      goes_on = λ some. (
+        t.all,
+        t.after,
+        append_assoc given (take at (now ++ rest)) more ∙ ap (λ z. given ++ (z ++ more)) front ∙ ap (λ z. z ++ (take at now ++ more)) l.so_far ∙ t.bytes_are,
+      );
+      ends = λ none. absurd (omega (arith, none, fits));
+    }
+  where
+    kept_size : (g l u a k t : ℕ) → l ≡ 0 → g + (l + u) ≡ t → a + k < u → g + a + (k + (u - (a + k))) ≡ t
+    kept_size g l u a k t none e le = omega arith
 
 -- chunks were decoded into the front of what is kept
 pub kept_read : {f c n m : ℕ} {start old new : Option (List ℕ)} {given : List ℕ} {p : Pieces} {out : List ℕ} {table : List ℕ} {last : ℕ}

@@ -67,7 +67,7 @@ written_copies {f} {c} {old} {mid} {new} p at j k n is sum first more =
         (λ sum. omega arith)
 
 -- fewer of the copies were written too
-written_fewer : {f c : ℕ} {old new : List ℕ} (p : RgbaPixel) (at most count : ℕ) → IsChannels c → count ≤ most → at ≤ length old
+pub written_fewer : {f c : ℕ} {old new : List ℕ} (p : RgbaPixel) (at most count : ℕ) → IsChannels c → count ≤ most → at ≤ length old
     → HasWritten f c (upto old at) (upto new (at + c * most)) (replicate most p) → HasWritten f c (upto old at) (upto new (at + c * count)) (replicate count p)
 written_fewer {f} {c} {old} {new} p at most count is le within all =
     let bytes = output f c (replicate most p) in

@@ -1,5 +1,5 @@
 -- A buffer that is filled with pixels, and the state of a decoder between two chunks.
-use Rattle.std.specs.Prelude.{◌≡◌, ℕ, ◌-◌, ◌*◌, ◌/◌, ◌%◌, ◌+◌, ◌<◌, ◌≤◌, List, [], ◌++◌, length, take, reverse, replicate, min, slice_index}
+use Rattle.std.specs.Prelude.{◌≡◌, ℕ, ◌-◌, ◌*◌, ◌/◌, ◌%◌, ◌+◌, ◌<◌, ◌≤◌, List, [], ◌++◌, length, take, reverse, replicate, min, slice_index, ◌⊎◌}
 use Rattle.qoi.specs.declared.chunk.Chunk.{Chunk}
 use Rattle.qoi.specs.declared.decode.fast.Progress.{Progress}
 use Rattle.qoi.specs.Qoi.{RgbaPixel, Past, run_tag, previous, IsChunk, AreChunks, bytes_of, chunk_bytes, times, then_chunk, then_chunks, StayBelow}
@@ -84,10 +84,14 @@ pub record DecoderBetween (file_channels channels : ℕ) (gone : Past) (n : ℕ)
 abbrev pub IsFrontAfter : List ℕ → List ℕ → ℕ → List ℕ → Type 0
 IsFrontAfter before bytes size taken = taken ≡ before ++ take size bytes
 
+-- bytes up to `to` were taken, as chunks after those up to `from`
+abbrev pub TakesOn : ℕ → ℕ → List ℕ → ℕ → ℕ → Filling → Filling → Type 0
+TakesOn f c bytes from to old new = (gone : Past) (n : ℕ) (before : List ℕ)
+    → DecoderBetween f c gone n (IsFrontAfter before bytes from) old → DecoderBetween f c gone n (IsFrontAfter before bytes to) new
+
 -- the first `size` bytes were taken, as chunks after those before them
 abbrev pub TakesFront : ℕ → ℕ → List ℕ → ℕ → Filling → Filling → Type 0
-TakesFront f c bytes size old new = (gone : Past) (n : ℕ) (before : List ℕ)
-    → DecoderBetween f c gone n (IsFrontAfter before bytes 0) old → DecoderBetween f c gone n (IsFrontAfter before bytes size) new
+TakesFront f c bytes size old new = TakesOn f c bytes 0 size old new
 
 -- the same, with `count` bytes more taken
 abbrev pub further : ℕ → Progress → Progress
@@ -116,6 +120,10 @@ pub record Fast : Type 0 where
 abbrev pub fast : Progress → List ℕ → List ℕ → Fast
 fast now table out = record { now = now; table = table; out = out }
 
+-- so many short chunks are decoded in a row at most
+abbrev pub IsRow : ℕ → Type 0
+IsRow n = (n ≡ 1) ⊎ (n ≡ 8)
+
 -- a step of the fast loop: how far it goes on at most, and that it does if a short chunk comes next
 pub record FastStep (file_channels channels input room : ℕ) (bytes : List ℕ) (old new : Fast) : Type 0 where
   pub between : (gone : Past) (n : ℕ) (before : List ℕ) → FastBetween file_channels channels gone n before bytes old.now old.table old.out
@@ -125,3 +133,12 @@ pub record FastStep (file_channels channels input room : ℕ) (bytes : List ℕ)
   pub written : (old.now.at ≤ new.now.at) × (new.now.at ≤ old.now.at + room)
   pub whole : new.now.at % channels ≡ 0
   pub byte : new.now.next < 256
+
+-- the fast loop took chunks after the first `taken` bytes, and stopped before the end of its bytes
+pub record FastChunks (file_channels channels : ℕ) (bytes : List ℕ) (taken : ℕ) (old : Filling) (new : Fast) : Type 0 where
+  pub between : (gone : Past) (n : ℕ) (before : List ℕ) → DecoderBetween file_channels channels gone n (IsFrontAfter before bytes taken) old
+      → FastBetween file_channels channels gone n before bytes new.now new.table new.out
+  pub within : new.now.taken < length bytes
+  pub written : old.buffer.at ≤ new.now.at
+  pub below : old.buffer.at < length old.buffer.out → new.now.at < length new.out
+  pub fillable : IsFillable channels (upto new.out new.now.at)

@@ -1,12 +1,14 @@
 //! Decoding an image from a reader with a buffer of its own.
-ghost use Rattle.std.specs.Prelude.{◌<◌, ◌≤◌, [], length, false, IfOk, IfErr, OnErr};
+ghost use Rattle.std.specs.Prelude.{◌≡◌, ◌%◌, ◌<◌, ◌≤◌, [], length, false, IfOk, IfErr, OnErr};
 ghost use Rattle.std.specs.Io.KnownBytes.{Consumes};
 ghost use Rattle.qoi.specs.declared.error.Error.{Error};
 ghost use Rattle.qoi.specs.inner.Chunks.{TakesMore, TakesChunks, RefusesFilling};
 ghost use Rattle.qoi.specs.inner.Filling.{IsFillable, upto, filling};
+ghost use Rattle.qoi.specs.pieces.InPlace.{TakesInPlace, IsInPlace};
+ghost use Rattle.qoi.specs.declared.decode.output.TheConstants.{RUN_ROOM};
 
 use crate::decode::chunks::{Chunks, Reached};
-use crate::decode::fast::{OUTPUT_ROOM, Progress};
+use crate::decode::fast::{InPlace, OUTPUT_ROOM, Progress};
 use crate::decode::hashed::Hashed;
 use crate::decode::output::RUN_ROOM;
 use crate::decode::reader::Buffered;
@@ -49,6 +51,32 @@ fn chunks_in_buffer<R: BufRead, const N: usize, const F: usize>(
         last: now.last,
         at: now.at,
     })
+}
+
+// Decodes chunks from what the reader's buffer shows into the front of a piece of an image, and
+// takes just those; a run that ends at its end or past it is stored whole in `kept`.
+#[inline(always)]
+fn place_from_buffer<R: BufRead, const N: usize, const F: usize>(
+    reader: &mut R,
+    table: &mut TermTable,
+    last: Hashed,
+    out: &mut [u8],
+    kept: &mut [u8],
+) -> io::Result<InPlace>
+    requires fillable { IsFillable N (upto out.old 0) }
+    requires some { 0 < length out.old }
+    requires room { (RUN_ROOM < length kept.old) × (length kept.old % N ≡ 0) }
+    ensures takes { IfOk result (λ now. TakesInPlace F N
+        (R.remaining reader.old) (R.remaining reader.new)
+        (filling table.old last out.old 0) table.new now out.new kept.new) }
+    ensures sizes { IfOk result (IsInPlace N (length out.new)) }
+    ensures failed { OnErr result
+        (Consumes (R.remaining reader.old) (R.remaining reader.new) []) }
+{
+    let bytes = reader.fill_buf()?;
+    let placed = Progress::chunks_in_place::<N, F>(table, last, bytes, out, kept);
+    reader.consume(placed.taken);
+    Ok(placed)
 }
 
 // Decodes chunks from a reader with a buffer, after the pixel `last` and the first `at` bytes of
@@ -111,6 +139,18 @@ impl<R: BufRead, const N: usize, const F: usize> Chunks<N, F> for Buffered<R> {
     ) -> Result<()> {
         decode_chunks::<R, N, F, false>(&mut self.0, table, last, out, at)?;
         Ok(())
+    }
+
+    #[inline(always)]
+    fn chunks_in_place(
+        &mut self,
+        table: &mut TermTable,
+        last: Hashed,
+        out: &mut [u8],
+        kept: &mut [u8],
+    ) -> Result<InPlace> {
+        let placed = place_from_buffer::<R, N, F>(&mut self.0, table, last, out, kept)?;
+        Ok(placed)
     }
 
     fn marker(&mut self) -> Result<()> {

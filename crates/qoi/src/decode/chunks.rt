@@ -1,5 +1,5 @@
 //! The loops of every kind of reader: into a buffer, and into a vector that grows.
-ghost use Rattle.std.specs.Prelude.{◌≡◌, ℕ, ◌+◌, ◌-◌, ◌*◌, ◌/◌, ◌%◌, ◌≤◌, List, ◌++◌, length, replicate, Option, Bool, true, IfSome, IfOk, IfErr, OnOk};
+ghost use Rattle.std.specs.Prelude.{◌≡◌, ℕ, ◌+◌, ◌-◌, ◌*◌, ◌/◌, ◌%◌, ◌<◌, ◌≤◌, List, ◌++◌, length, replicate, Option, Bool, true, IfSome, IfOk, IfErr, OnOk};
 ghost use Rattle.std.specs.Vec.{vec_len, vec_capacity};
 ghost use Rattle.std.specs.Io.KnownBytes.{Consumes};
 ghost use Rattle.qoi.specs.Qoi.{end_marker, run_max};
@@ -7,10 +7,13 @@ ghost use Rattle.qoi.specs.Raw.{IsChannels};
 ghost use Rattle.qoi.specs.Decoding.{TakesImagePixels, ReadsImage};
 ghost use Rattle.qoi.specs.inner.Chunks.{RefusesChunks, RefusesAfter, TakesChunks, FillsOutput, RefusesFilling};
 ghost use Rattle.qoi.specs.inner.Filling.{IsFillable, upto, filling};
+ghost use Rattle.qoi.specs.pieces.InPlace.{TakesInPlace, IsInPlace};
 ghost use Rattle.qoi.specs.declared.decode.chunks.TheConstants.{GROWTH};
 ghost use Rattle.qoi.specs.declared.decode.output.TheConstants.{RUN_ROOM};
 
+use crate::decode::fast::InPlace;
 use crate::decode::hashed::Hashed;
+use crate::decode::one_chunk::Decoded;
 use crate::decode::table::TermTable;
 use crate::error::Result;
 
@@ -62,6 +65,32 @@ pub(super) trait Chunks<const N: usize, const F: usize>: Sized {
             (filling table.old last out.old at) out.new) }
         ensures refused { IfErr result (RefusesFilling F N in_memory
             (ahead self.old) (ahead self.new) (filling table.old last out.old at)) };
+
+    /// Decodes chunks that stand in memory into the front of a piece of an image, after the pixel
+    /// `last`, and goes on near its end: a run that ends there or past it is stored whole in
+    /// `kept`. Without this method, and on a stream, none are decoded.
+    fn chunks_in_place(
+        &mut self,
+        table: &mut TermTable,
+        last: Hashed,
+        out: &mut [u8],
+        kept: &mut [u8],
+    ) -> Result<InPlace>
+        requires fillable { IsFillable N (upto out.old 0) }
+        requires some { 0 < length out.old }
+        requires room { (RUN_ROOM < length kept.old) × (length kept.old % N ≡ 0) }
+        ensures takes { IfOk result (λ now. TakesInPlace F N (ahead self.old) (ahead self.new)
+            (filling table.old last out.old 0) table.new now out.new kept.new) }
+        ensures sizes { IfOk result (IsInPlace N (length out.new)) }
+        ensures refused { IfErr result (RefusesFilling F N in_memory
+            (ahead self.old) (ahead self.new) (filling table.old last out.old 0)) }
+    {
+        Ok(InPlace::after(Decoded {
+            taken: 0,
+            last,
+            at: 0,
+        }))
+    }
 
     /// Takes the end marker, or refuses the bytes ahead.
     fn marker(&mut self) -> Result<()>

@@ -1,14 +1,19 @@
-//! The loop over chunks in memory while input and output have room ahead for eight short ones and a
-//! full one, which is tested once for all nine. It can go on from any pixel.
-ghost use Rattle.std.specs.Prelude.{◌≡◌, ◌↔◌, IsTrue, ◌+◌, ◌-◌, ◌*◌, ◌/◌, ◌<◌, ◌≤◌, ◌^◌, length};
-ghost use Rattle.qoi.specs.Qoi.{run_tag, rgb_tag};
+//! The loops over chunks in memory while input and output have room ahead: for eight short ones and
+//! a full one, which is tested once for all nine or, near the end of an output that goes on
+//! elsewhere, for one of each. They can go on from any pixel.
+ghost use Rattle.std.specs.Prelude.{◌≡◌, ◌↔◌, IsTrue, ◌+◌, ◌-◌, ◌*◌, ◌/◌, ◌%◌, ◌<◌, ◌≤◌, ◌^◌, ℕ, List, ◌++◌, length, take, drop, replicate};
+ghost use Rattle.qoi.specs.Qoi.{Past, run_tag, rgb_tag};
 ghost use Rattle.qoi.specs.Raw.{IsChannels};
+ghost use Rattle.qoi.specs.declared.decode.fast.TheConstants.{INPUT_ROOM};
+ghost use Rattle.qoi.specs.declared.decode.output.TheConstants.{RUN_ROOM};
+ghost use Rattle.qoi.specs.inner.Hashed.{pixel_of_lanes};
+ghost use Rattle.qoi.specs.pieces.InPlace.{TakesPiece, IsInPlace};
 
 use crate::consts::{QOI_OP_RGB, QOI_OP_RGBA, QOI_OP_RUN};
 use crate::decode::deltas::{advance, is_luma};
 use crate::decode::hashed::Hashed;
 use crate::decode::one_chunk::Decoded;
-use crate::decode::output::{RUN_ROOM, store_late_run, store_run, store_vector};
+use crate::decode::output::{RUN_ROOM, VECTOR, fill_rest, store_late_run, store_run, store_vector};
 use crate::decode::table::TermTable;
 use crate::utils::pick;
 
@@ -19,6 +24,10 @@ const INPUT_ROOM: usize = 22;
 // Bytes of room for the vectors of eight short chunks and of a full one.
 pub(super) const OUTPUT_ROOM: usize = 144;
 
+/// An output of fewer bytes that isn't the end of an image has room for few chunks: to enter the
+/// fast loop for them would take longer than to decode them with every test.
+pub(super) const FEW: usize = 528;
+
 /// What the loop has between two chunks: the last pixel, how many bytes are taken, where the output
 /// stopped, and the byte that comes next.
 #[derive(Clone, Copy)]
@@ -27,6 +36,35 @@ pub(super) struct Progress {
     pub(super) taken: usize,
     pub(super) at: usize,
     pub(super) next: u8,
+}
+
+/// What a piece leaves that was decoded in place: the last pixel, how many bytes were taken, where
+/// the output stopped, and where the bytes lie that are kept, if any.
+#[derive(Clone, Copy)]
+pub(super) struct InPlace {
+    pub(super) last: Hashed,
+    pub(super) taken: usize,
+    pub(super) at: usize,
+    pub(super) from: usize,
+    pub(super) to: usize,
+}
+
+impl InPlace {
+    ghost use Rattle.qoi.specs.pieces.InPlace.{stopped};
+
+    /// After these chunks, with nothing kept.
+    #[inline(always)]
+    pub(super) fn after(now: Decoded) -> InPlace
+        ensures { result ≡ stopped now }
+    {
+        InPlace {
+            last: now.last,
+            taken: now.taken,
+            at: now.at,
+            from: 0,
+            to: 0,
+        }
+    }
 }
 
 // Whether a chunk with this first byte is short: an index position, a difference, a luma, or a run
@@ -40,7 +78,7 @@ fn is_short<const N: usize>(b1: u8) -> bool
 }
 
 impl Progress {
-    ghost use Rattle.qoi.specs.inner.Filling.{IsFillable, upto, filling, further, TakesFront, HasAhead, fast, FastStep};
+    ghost use Rattle.qoi.specs.inner.Filling.{IsFillable, upto, filling, further, TakesOn, TakesFront, IsFrontAfter, DecoderBetween, HasWritten, IsRow, HasAhead, fast, FastStep};
 
     // The same, with `count` bytes more taken.
     #[inline(always)]
@@ -92,6 +130,24 @@ impl Progress {
         }
     }
 
+    // Decodes a short chunk, if one comes next.
+    #[inline(always)]
+    fn short_or_none<const N: usize, const F: usize>(
+        self,
+        table: &mut TermTable,
+        bytes: &[u8],
+        out: &mut [u8],
+    ) -> Progress
+        requires { HasAhead N 3 16 bytes.now out.old self }
+        ensures { FastStep F N 2 16 bytes.now
+            (fast self table.old out.old) (fast result table.new out.new) }
+    {
+        if !is_short::<N>(self.next) {
+            return self;
+        }
+        self.short_chunk::<N, F, 0>(table, bytes, out).further(1)
+    }
+
     // Decodes short chunks, as many as come one after the other, but four at most.
     #[inline(always)]
     fn short_chunks<const N: usize, const F: usize>(
@@ -122,18 +178,22 @@ impl Progress {
         three.short_chunk::<N, F, 3>(table, bytes, out).further(4)
     }
 
-    // The same, but eight at most.
+    // The same, but `ROW` at most: one or eight.
     #[inline(always)]
-    fn short_row<const N: usize, const F: usize>(
+    fn short_row<const N: usize, const F: usize, const ROW: usize>(
         self,
         table: &mut TermTable,
         bytes: &[u8],
         out: &mut [u8],
     ) -> Progress
-        requires { HasAhead N 17 128 bytes.now out.old self }
-        ensures { FastStep F N 16 128 bytes.now
+        requires row { IsRow ROW }
+        requires ahead { HasAhead N 17 (16 * ROW) bytes.now out.old self }
+        ensures { FastStep F N 16 (16 * ROW) bytes.now
             (fast self table.old out.old) (fast result table.new out.new) }
     {
+        if ROW == 1 {
+            return self.short_or_none::<N, F>(table, bytes, out);
+        }
         let four = self.short_chunks::<N, F>(table, bytes, out);
         if !is_short::<N>(four.next) {
             return four;
@@ -182,6 +242,10 @@ impl Progress {
             (fast self table.old out.old) (fast result table.new out.new) }
         ensures on { self.taken < result.taken }
         ensures below { result.at < length out.new }
+        ensures written { HasWritten F N (upto out.old self.at) (upto out.new result.at)
+            (replicate (self.next - (run_tag - 1)) (pixel_of_lanes self.last)) }
+        ensures kept { (result.last ≡ self.last) × (result.taken ≡ self.taken + 1)
+            × (result.at ≡ self.at + N * (self.next - (run_tag - 1))) }
     {
         let count = (self.next - (QOI_OP_RUN - 1)) as usize;
         table.put(self.last);
@@ -195,6 +259,56 @@ impl Progress {
             taken: self.taken + 1,
             at: self.at + N * count,
             next: bytes[self.taken + 1],
+        }
+    }
+
+    // Decodes chunks while input and output have room ahead for `ROW` short ones and a full one, from
+    // where other chunks stopped.
+    #[inline(always)]
+    fn chunks_ahead<const N: usize, const F: usize, const ROW: usize>(
+        table: &mut TermTable,
+        from: Decoded,
+        bytes: &[u8],
+        out: &mut [u8],
+    ) -> Decoded
+        requires row { IsRow ROW }
+        requires input { INPUT_ROOM ≤ length bytes.now }
+        requires room { 16 * ROW + 16 ≤ length out.old }
+        requires within { from.taken < length bytes.now }
+        requires fillable { IsFillable N (upto out.old from.at) }
+        ensures between { TakesOn F N bytes.now from.taken result.taken
+            (filling table.old from.last out.old from.at)
+            (filling table.new result.last out.new result.at) }
+        ensures within { result.taken < length bytes.now }
+        ensures written { from.at ≤ result.at }
+        ensures below { from.at < length out.old → result.at < length out.new }
+        ensures fillable { IsFillable N (upto out.new result.at) }
+    {
+        let mut now = Progress {
+            last: from.last,
+            taken: from.taken,
+            at: from.at,
+            next: bytes[from.taken],
+        };
+        let far = bytes.len() - INPUT_ROOM;
+        let top = out.len() - (VECTOR * ROW + VECTOR);
+        while now.taken <= far && now.at <= top {
+            now = now.short_row::<N, F, ROW>(table, bytes, out);
+            if is_short::<N>(now.next) {
+                continue;
+            }
+            if now.next >= QOI_OP_RGB {
+                now = now.full_chunk::<N, F>(table, bytes, out);
+            } else if advance::<N>(now.next as usize) < out.len() - now.at {
+                now = now.long_run::<N, F>(table, bytes, out);
+            } else {
+                break;
+            }
+        }
+        Decoded {
+            taken: now.taken,
+            last: now.last,
+            at: now.at,
         }
     }
 
@@ -217,34 +331,92 @@ impl Progress {
         ensures below { at < length out.old → result.at < length out.new }
         ensures fillable { IsFillable N (upto out.new result.at) }
     {
+        let none = Decoded { taken: 0, last, at };
         if bytes.len() < INPUT_ROOM || out.len() < OUTPUT_ROOM {
-            return Decoded { taken: 0, last, at };
+            return none;
         }
-        let mut now = Progress {
-            last,
-            taken: 0,
-            at,
-            next: bytes[0],
+        Progress::chunks_ahead::<N, F, 8>(table, none, bytes, out)
+    }
+
+    // Takes a run that goes on to the end of the output or past it, if one comes next: fills the
+    // output with it, and stores it whole in `kept`.
+    #[inline(always)]
+    fn last_run<const N: usize, const F: usize>(
+        table: &mut TermTable,
+        from: Decoded,
+        bytes: &[u8],
+        out: &mut [u8],
+        kept: &mut [u8],
+    ) -> InPlace
+        requires ahead { from.taken + 2 ≤ length bytes.now }
+        requires fillable { IsFillable N (upto out.old from.at) }
+        requires below { from.at < length out.old }
+        requires room { (RUN_ROOM < length kept.old) × (length kept.old % N ≡ 0) }
+        ensures takes { (gone : Past) (n : ℕ) (before : List ℕ)
+            → DecoderBetween F N gone n (IsFrontAfter before bytes.now from.taken)
+            (filling table.old from.last out.old from.at)
+            → TakesPiece F N gone (IsFrontAfter before bytes.now result.taken) table.new result.last
+            (take result.at out.new ++ take (result.to - result.from) (drop result.from kept.new)) }
+        ensures sizes { IsInPlace N (length out.new) result }
+        ensures within { result.taken ≤ length bytes.now }
+    {
+        let next = bytes[from.taken];
+        let size = advance::<N>(next as usize);
+        let rest = out.len() - from.at;
+        if next < QOI_OP_RUN || next >= QOI_OP_RGB || size < rest {
+            return InPlace::after(from);
+        }
+        let run = Progress {
+            last: from.last,
+            taken: from.taken,
+            at: 0,
+            next,
         };
-        let far = bytes.len() - INPUT_ROOM;
-        let top = out.len() - OUTPUT_ROOM;
-        while now.taken <= far && now.at <= top {
-            now = now.short_row::<N, F>(table, bytes, out);
-            if is_short::<N>(now.next) {
-                continue;
-            }
-            if now.next >= QOI_OP_RGB {
-                now = now.full_chunk::<N, F>(table, bytes, out);
-            } else if advance::<N>(now.next as usize) < out.len() - now.at {
-                now = now.long_run::<N, F>(table, bytes, out);
-            } else {
-                break;
-            }
-        }
-        Decoded {
-            taken: now.taken,
+        let now = run.long_run::<N, F>(table, bytes, kept);
+        fill_rest::<N, F>(out, from.at, from.last);
+        InPlace {
             last: now.last,
-            at: now.at,
+            taken: now.taken,
+            at: out.len(),
+            from: rest,
+            to: size,
         }
+    }
+
+    /// Decodes chunks from the front of the bytes into a piece of an image, and goes on near its
+    /// end: a run that ends there or past it is stored whole in `kept`.
+    #[inline(always)]
+    pub(super) fn chunks_in_place<const N: usize, const F: usize>(
+        table: &mut TermTable,
+        last: Hashed,
+        bytes: &[u8],
+        out: &mut [u8],
+        kept: &mut [u8],
+    ) -> InPlace
+        requires fillable { IsFillable N (upto out.old 0) }
+        requires some { 0 < length out.old }
+        requires room { (RUN_ROOM < length kept.old) × (length kept.old % N ≡ 0) }
+        ensures takes { (gone : Past) (n : ℕ) (before : List ℕ)
+            → DecoderBetween F N gone n (IsFrontAfter before bytes.now 0)
+            (filling table.old last out.old 0)
+            → TakesPiece F N gone (IsFrontAfter before bytes.now result.taken) table.new result.last
+            (take result.at out.new ++ take (result.to - result.from) (drop result.from kept.new)) }
+        ensures sizes { IsInPlace N (length out.new) result }
+        ensures within { result.taken ≤ length bytes.now }
+    {
+        let none = Decoded {
+            taken: 0,
+            last,
+            at: 0,
+        };
+        if bytes.len() < INPUT_ROOM || out.len() < OUTPUT_ROOM {
+            return InPlace::after(none);
+        }
+        let front = Progress::chunks_ahead::<N, F, 8>(table, none, bytes, out);
+        let near = Progress::chunks_ahead::<N, F, 1>(table, front, bytes, out);
+        if bytes.len() - near.taken < 2 {
+            return InPlace::after(near);
+        }
+        Progress::last_run::<N, F>(table, near, bytes, out, kept)
     }
 }

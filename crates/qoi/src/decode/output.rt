@@ -123,6 +123,30 @@ pub(super) fn store_late_run<const N: usize, const F: usize>(
     store_pixels::<N, F>(out, at, px, count);
 }
 
+/// Stores a pixel again and again from `at` on, as often as the output has room for it.
+#[inline(always)]
+pub(super) fn fill_rest<const N: usize, const F: usize>(out: &mut [u8], at: usize, px: Hashed)
+    requires channels { IsChannels N }
+    requires within { at ≤ length out.old }
+    ensures { HasWritten F N (upto out.old at)
+        (upto out.new (at + N * ((length out.old - at) / N)))
+        (replicate ((length out.old - at) / N) (pixel_of_lanes px)) }
+{
+    let one = VECTOR / N;
+    let count = (out.len() - at) / N;
+    let mut done = 0;
+    while VECTOR <= out.len() - (at + N * done) {
+        store_vector::<N, F>(out, at + N * done, px);
+        done += one;
+    }
+    if N == 4 && done > 0 {
+        // This vector ends where the output does.
+        store_vector::<N, F>(out, at + N * (count - one), px);
+    } else {
+        store_pixels::<N, F>(out, at + N * done, px, count - done);
+    }
+}
+
 // How many bytes of room to rely on after the first `at`: all that there are, or if `RUN_FITS` just
 // those of the vectors of any run, without a test.
 #[inline(always)]

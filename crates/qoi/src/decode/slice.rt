@@ -11,7 +11,7 @@ ghost use Rattle.qoi.specs.inner.Filling.{IsFillable, upto, filling};
 
 use crate::consts::{QOI_PADDING, QOI_PADDING_SIZE};
 use crate::decode::chunks::{Chunks, Reached, image_to_buf, image_to_vec};
-use crate::decode::fast::Progress;
+use crate::decode::fast::{FEW, InPlace, Progress};
 use crate::decode::hashed::Hashed;
 use crate::decode::one_chunk::decode_chunk;
 use crate::decode::output::RUN_ROOM;
@@ -69,7 +69,8 @@ fn careful_chunks<'a, const N: usize, const F: usize, const RUN_FITS: bool, cons
     Some(Left { last, rest, at })
 }
 
-// The same, by the fast loop while there is room ahead for it.
+// The same, by the fast loop while there is room ahead for it. It does without if `out` is the end
+// of a piece, which has room for few chunks.
 #[inline(always)]
 fn slice_chunks<'a, const N: usize, const F: usize, const RUN_FITS: bool>(
     table: &mut TermTable,
@@ -86,6 +87,9 @@ fn slice_chunks<'a, const N: usize, const F: usize, const RUN_FITS: bool>(
         (Some «data».entry.now) (Some «data».entry.now)
         (filling table.old last out.old at) Error.UnexpectedBufferEnd) }
 {
+    if RUN_FITS && out.len() < FEW {
+        return careful_chunks::<N, F, RUN_FITS, _>(table, last, data, out, at);
+    }
     let now = Progress::fast_chunks::<N, F>(table, last, data, out, at);
     let (_, rest) = data.split_at(now.taken);
     careful_chunks::<N, F, RUN_FITS, _>(table, now.last, rest, out, now.at)
@@ -142,6 +146,20 @@ impl<'a, const N: usize, const F: usize> Chunks<N, F> for Bytes<'a> {
         };
         self.0 = left.rest;
         Ok(())
+    }
+
+    #[inline(always)]
+    fn chunks_in_place(
+        &mut self,
+        table: &mut TermTable,
+        last: Hashed,
+        out: &mut [u8],
+        kept: &mut [u8],
+    ) -> Result<InPlace> {
+        let placed = Progress::chunks_in_place::<N, F>(table, last, self.0, out, kept);
+        let (_, rest) = self.0.split_at(placed.taken);
+        self.0 = rest;
+        Ok(placed)
     }
 
     fn marker(&mut self) -> Result<()> {

@@ -5,12 +5,13 @@ ghost use Rattle.qoi.specs.Decoding.{ReadsImage};
 ghost use Rattle.qoi.specs.Qoi.{Past};
 ghost use Rattle.qoi.specs.Raw.{IsChannels, output};
 ghost use Rattle.qoi.specs.declared.decode.output.TheConstants.{RUN_ROOM};
-ghost use Rattle.qoi.specs.declared.decode.pixel_reader.pieces.TheConstants.{KEPT, IN_PLACE};
+ghost use Rattle.qoi.specs.declared.decode.pixel_reader.pieces.TheConstants.{KEPT, IN_PLACE, LONG};
 ghost use Rattle.qoi.specs.inner.Chunks.{RefusesChunks, TakesChunks, RefusesFilling, HasFault};
 ghost use Rattle.qoi.specs.inner.Filling.{filling, DecoderBetween};
 
 use crate::decode::chunks::{Chunks, Reached};
 use crate::decode::hashed::Hashed;
+use crate::decode::output::RUN_ROOM;
 use crate::decode::table::TermTable;
 use crate::error::{Error, Result};
 
@@ -18,8 +19,12 @@ use crate::error::{Error, Result};
 /// pixels of three channels and of four.
 const KEPT: usize = 3072;
 
+/// A piece of at least so many bytes, but less than `LONG`, is decoded in place to the last chunk
+/// that stands in memory.
+const IN_PLACE: usize = 512;
+
 /// A piece of at least so many bytes is decoded in place, but for its last ones.
-const IN_PLACE: usize = 1536;
+const LONG: usize = 1536;
 
 /// How many bytes are decoded at once for those last ones: they have room for the vectors of any
 /// run twice, so that enough are decoded and few are copied.
@@ -55,16 +60,24 @@ pub(super) fn fail(fault: &mut Option<Error>, e: Error) -> Refused
     Refused
 }
 
-// How many bytes to decode at once, and to keep, for a piece of `size` bytes.
+// How many bytes to decode at once, and to keep, for a piece of `size` bytes of which so many are
+// done: just enough after chunks in place, else all that can be kept.
 #[inline]
-fn kept_room(size: usize) -> usize
-    ensures some { 2 * RUN_ROOM ≤ result }
+fn kept_room(size: usize, done: usize) -> usize
+    requires within { done ≤ size }
+    requires last { LONG ≤ size → size < done + (RUN_ROOM + 3) }
     ensures within { result ≤ KEPT }
     ensures whole { result % 12 ≡ 0 }
-    ensures enough { size < IN_PLACE → IN_PLACE + RUN_ROOM ≤ result }
-    ensures after { IN_PLACE ≤ size → 2 * RUN_ROOM + 16 ≤ result }
+    ensures enough { size - done + RUN_ROOM ≤ result }
 {
-    if size < IN_PLACE { KEPT } else { AFTER_LONG }
+    let rest = size - done;
+    if size >= LONG {
+        AFTER_LONG
+    } else if done == 0 || rest > RUN_ROOM {
+        KEPT
+    } else {
+        (rest + (RUN_ROOM + 11)) / 12 * 12
+    }
 }
 
 // Decodes chunks into the first `size` bytes of `out`, as long as those have room for the vectors
@@ -175,6 +188,57 @@ impl Pieces {
         size
     }
 
+    // Decodes chunks that stand in memory into `out`, and returns how many bytes: none if `out` is
+    // short or long. A run that ends at its end or past it is kept.
+    #[inline]
+    fn piece_in_place<R: Chunks<N, F>, const N: usize, const F: usize>(
+        &mut self,
+        reader: &mut R,
+        out: &mut [u8],
+        fault: &mut Option<Error>,
+    ) -> PieceResult<usize>
+        requires channels { IsChannels N }
+        requires none { self.old.from ≡ self.old.to }
+        requires fits { length out.old ≤ bytes_left self.old }
+        requires pixels { KeepsPixels N self.old }
+        ensures read { (n : ℕ) (start : Option (List ℕ)) (given : List ℕ)
+            → GivesPieces F N n start (R.ahead reader.old) given self.old
+            → IfOk result (λ size.
+            GivesPieces F N n start (R.ahead reader.new) (given ++ take size out.new) self.new) }
+        ensures refused { (n : ℕ) (start : Option (List ℕ)) (given : List ℕ)
+            → GivesPieces F N n start (R.ahead reader.old) given self.old
+            → OnErr result
+            (HasFault (RefusesChunks R.in_memory n start (R.ahead reader.new)) fault.new) }
+        ensures within { IfOk result (λ size. size ≤ length out.new) }
+        ensures long { LONG ≤ length out.new → IfOk result (λ size. size ≡ 0) }
+        ensures enough { IfOk result (λ size. self.new.from < self.new.to
+            → length out.new ≤ size + (self.new.to - self.new.from)) }
+        ensures pixels { IfOk result (λ size. KeepsPixels N self.new) }
+        ensures left { IfOk result (λ size. size + bytes_left self.new ≡ bytes_left self.old) }
+    {
+        if out.len() < IN_PLACE || out.len() >= LONG {
+            return Ok(0);
+        }
+        if self.undecoded - out.len() < RUN_ROOM {
+            return Ok(0);
+        }
+        let size = out.len() / N * N;
+        let placed = match reader.chunks_in_place(
+            &mut self.table,
+            self.last,
+            &mut out[..size],
+            &mut self.bytes,
+        ) {
+            Ok(placed) => placed,
+            Err(e) => return Err(fail(fault, e)),
+        };
+        self.last = placed.last;
+        self.from = placed.from;
+        self.to = placed.to;
+        self.undecoded -= placed.at + (placed.to - placed.from);
+        Ok(placed.at)
+    }
+
     // Decodes chunks into the front of `out` as long as any run has room, and returns how many
     // bytes; none if `out` is short.
     #[inline]
@@ -197,14 +261,14 @@ impl Pieces {
             → OnErr result
             (HasFault (RefusesChunks R.in_memory n start (R.ahead reader.new)) fault.new) }
         ensures within { IfOk result (λ size. size ≤ length out.new) }
-        ensures few { IfOk result (λ size. length out.new < size + IN_PLACE) }
-        ensures last { IN_PLACE ≤ length out.new
+        ensures few { IfOk result (λ size. length out.new < size + LONG) }
+        ensures last { LONG ≤ length out.new
             → IfOk result (λ size. length out.new < size + (RUN_ROOM + 3)) }
         ensures none { IfOk result (λ size. self.new.from ≡ self.new.to) }
         ensures pixels { IfOk result (λ size. KeepsPixels N self.new) }
         ensures left { IfOk result (λ size. size + bytes_left self.new ≡ bytes_left self.old) }
     {
-        if out.len() < IN_PLACE {
+        if out.len() < LONG {
             return Ok(0);
         }
         let size = out.len() / N * N;
@@ -303,11 +367,16 @@ impl Pieces {
         ensures pixels { OnOk result (KeepsPixels N self.new) }
         ensures left { IfOk result (λ size. size + bytes_left self.new ≡ bytes_left self.old) }
     {
-        let size = self.long_piece::<R, N, F>(reader, out, fault)?;
+        let placed = self.piece_in_place::<R, N, F>(reader, out, fault)?;
+        if self.from < self.to {
+            return Ok(placed);
+        }
+        let more = self.long_piece::<R, N, F>(reader, &mut out[placed..], fault)?;
+        let size = placed + more;
         if size == out.len() {
             return Ok(size);
         }
-        let room = kept_room(out.len());
+        let room = kept_room(out.len(), size);
         self.decode_on::<R, N, F>(reader, room, fault)?;
         Ok(size)
     }

@@ -19,21 +19,21 @@ after g c =
     sym (take-append-drop size bytes) ∙ ap (λ z. take size bytes ++ z) (sym c.split_at.ensures.back) in
     front_taken bytes size c.fast_chunks-now.ensures.between took
 
-pub careful_chunks-requires : goal.careful_chunks-requires
-careful_chunks-requires g c = (omega arith, c.fast_chunks-now.ensures.fillable)
+pub careful_chunks-requires-2 : goal.careful_chunks-requires-2
+careful_chunks-requires-2 g c = (omega arith, c.fast_chunks-now.ensures.fillable)
 
 pub returns-clause-read : goal.returns-clause-read
 returns-clause-read g c =
     let so_far = after g (goal.at.returns-clause-read g c).After-split_at in
-    if_some_of c.careful_chunks.result (λ left r. record {
+    if_some_of c.careful_chunks-2.result (λ left r. record {
       goes_on = record { between = λ gone n start h. r.goes_on.between gone n start (so_far.between gone n start h) };
       fillable = r.fillable;
       below = λ fits inside. r.below fits (c.fast_chunks-now.ensures.below inside);
       filled = r.filled;
       full = r.full;
-    }) c.careful_chunks.ensures.read
+    }) c.careful_chunks-2.ensures.read
 
 pub returns-clause-refused : goal.returns-clause-refused
 returns-clause-refused g c =
     let so_far = after g (goal.at.returns-clause-refused g c).After-split_at in
-    if_none_of c.careful_chunks.result (λ r gone n start h. r gone n start (so_far.between gone n start h)) c.careful_chunks.ensures.refused
+    if_none_of c.careful_chunks-2.result (λ r gone n start h. r gone n start (so_far.between gone n start h)) c.careful_chunks-2.ensures.refused

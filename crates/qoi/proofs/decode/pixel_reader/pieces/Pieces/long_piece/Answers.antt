@@ -1,19 +1,8 @@
 -- What was lent is decoded.
-use Rattle.std.proofs.Common.{◌≡◌, ℕ, ◌*◌, ◌/◌, ◌≤◌, List, take, length, Option, arith, refl, sym, subst}
-use Rattle.qoi.specs.declared.decode.pixel_reader.pieces.Pieces.{Pieces}
-use Rattle.qoi.specs.Raw.{IsChannels}
+use Rattle.std.proofs.Common.{◌≡◌, ◌*◌, ◌/◌, ◌≤◌, take, length, arith, refl, sym, subst}
 use Rattle.qoi.specs.inner.Chunks.{RefusesChunks, HasFault}
-use Rattle.qoi.specs.pieces.ReaderPieces.{bytes_left, GivesPieces}
-use Rattle.qoi.proofs.decoding.PieceSteps.{Lent, lent, whole_front, front_most, long_read, times_fillable, minus_whole}
+use Rattle.qoi.proofs.decoding.PieceSteps.{whole_front, front_lent, front_most, long_read, times_fillable, minus_whole}
 use Rattle.qoi.proofs.decode.pixel_reader.pieces.Pieces.long_piece.Goals as goal
-
--- the whole pixels at the front are lent
-front_lent : {f c n : ℕ} {start old : Option (List ℕ)} {given : List ℕ} (p : Pieces) (out : List ℕ) → IsChannels c → GivesPieces f c n start old given p
-    → p.from ≡ p.to → length out ≤ bytes_left p → 1536 ≤ length out
-    → Lent f c n (length out / c) start old given p (take (length out / c * c) out)
-front_lent {c = c} p out is h none fits long =
-    let most = front_most c out is in
-    lent (length out / c) (take (length out / c * c) out) is h none (omega (arith, none, fits, long)) (whole_front c out is) (omega (arith, none, fits, most.0))
 
 pub some_chunks-requires : goal.some_chunks-requires
 some_chunks-requires g c = times_fillable _ c.requires.channels (whole_front g.row.N c.args.out.now c.requires.channels)
@@ -28,15 +17,15 @@ returns-clause-last g c long =
 
 pub returns-in-Err-clause-refused : goal.returns-in-Err-clause-refused
 returns-in-Err-clause-refused g c n start given h =
-    let l = front_lent c.args.self.now c.args.out.now c.requires.channels h c.requires.none c.requires.fits (omega (arith, c.if-out-lt-IN_PLACE.false)) in
+    let l = front_lent c.args.self.now c.args.out.now c.requires.channels h c.requires.none c.requires.fits (omega (arith, c.if-out-lt-LONG.false)) in
     subst (HasFault (RefusesChunks g.R.Chunks.in_memory n start (g.R.Chunks.ahead c.some_chunks.new.self))) (sym c.fail.ensures)
     (c.in-Err.ensures.refused l.gone _ _ l.before n l.most)
 
 pub returns-clause-read : goal.returns-clause-read
 returns-clause-read g c n start given h =
     let out = c.args.out.now in
-    let long : 1536 ≤ length out = omega (arith, c.if-out-lt-IN_PLACE.false) in
-    let l = front_lent c.args.self.now out c.requires.channels h c.requires.none c.requires.fits long in
+    let long : 1536 ≤ length out = omega (arith, c.if-out-lt-LONG.false) in
+    let l = front_lent c.args.self.now out c.requires.channels h c.requires.none c.requires.fits (omega (arith, long)) in
     let most = front_most g.row.N out c.requires.channels in
     let same = c.requires.none in
     let size : length c.some_chunks.new.out ≡ length (take (length out / g.row.N * g.row.N) out) = c.some_chunks.auto.out in
