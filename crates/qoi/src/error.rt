@@ -35,11 +35,13 @@ pub enum Error {
         size: usize,
         required: usize,
     },
-    /// The input slice ends before header, chunks and end marker are whole.
+    /// The input slice ends before header, chunks and end marker are whole, or a `PixelReader`
+    /// refused the image before.
     UnexpectedBufferEnd,
     /// The eight bytes after the chunks aren't the end marker.
     InvalidPadding,
-    /// The reader or the writer reported a fault, the reader ended early, or a write took no byte.
+    /// The reader or the writer reported a fault, the reader ended early, or a write took no byte;
+    /// of a `PixelWriter`, now or before.
     IoError(io::Error),
     /// An allocation failed.
     OutOfMemory,

@@ -34,8 +34,8 @@ pub record GoesByBlocks (style : Style) (last : LastPixel) (n : ℕ) (rest : Lis
 
 -- Between two blocks: the carried repeats are still to be written, the pixels `rest`, and then
 -- others. A fresh pixel came; or nothing is carried, none of the call's n pixels was written, and the
--- next one opens a block. If it repeats the last, so few repeats are carried that with a block's they
--- are fewer than 62.
+-- next one opens a block. If the next pixel repeats the last, so few repeats are carried that with a
+-- block's they are fewer than 62.
 pub record InBlocks {N : ℕ} (style : Style) (ahead : List ℕ) (n : ℕ) (rest more table : List RgbaPixel) (carry : Carry N) (kept : List ℕ) : Type 0 where
   pub past : Past
   pub before : Option Chunk
