@@ -138,3 +138,8 @@ four_written p at k count is within le w1 w2 w3 w4 =
 -- sixteen vectors have room for the longest run
 pub vectors_enough : (c count : ℕ) → IsChannels c → count ≤ 62 → count ≤ 4 * (4 * (16 / c))
 vectors_enough c count is = by_channels (λ d. count ≤ 62 → count ≤ 4 * (4 * (16 / d))) is (λ le. omega arith) (λ le. omega arith)
+
+-- the copies of some vectors fit, if the vectors do
+pub vectors_fit : (c k at done more size : ℕ) → IsChannels c → more ≡ k * (16 / c) → at + c * done ≤ size → 16 * k ≤ size - (at + c * done) → at + c * (done + more) ≤ size
+vectors_fit c k at done more size is = by_channels (λ d. more ≡ k * (16 / d) → at + d * done ≤ size → 16 * k ≤ size - (at + d * done) → at + d * (done + more) ≤ size) is
+    (λ m a b. omega (arith, m, a, b)) (λ m a b. omega (arith, m, a, b))

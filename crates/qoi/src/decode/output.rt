@@ -123,6 +123,25 @@ pub(super) fn store_late_run<const N: usize, const F: usize>(
     store_pixels::<N, F>(out, at, px, count);
 }
 
+// Stores a pixel again and again from `at` on, while four vectors have room, and returns how often.
+#[inline(always)]
+fn fill_by_four<const N: usize, const F: usize>(out: &mut [u8], at: usize, px: Hashed) -> usize
+    requires channels { IsChannels N }
+    requires within { at ≤ length out.old }
+    ensures within { at + N * result ≤ length out.new }
+    ensures some { 0 < result → VECTOR / N ≤ result }
+    ensures written { HasWritten F N (upto out.old at)
+        (upto out.new (at + N * result)) (replicate result (pixel_of_lanes px)) }
+{
+    let four = 4 * (VECTOR / N);
+    let mut done = 0;
+    while 4 * VECTOR <= out.len() - (at + N * done) {
+        store_four_vectors::<N, F>(out, at + N * done, px);
+        done += four;
+    }
+    done
+}
+
 /// Stores a pixel again and again from `at` on, as often as the output has room for it.
 #[inline(always)]
 pub(super) fn fill_rest<const N: usize, const F: usize>(out: &mut [u8], at: usize, px: Hashed)
@@ -134,7 +153,7 @@ pub(super) fn fill_rest<const N: usize, const F: usize>(out: &mut [u8], at: usiz
 {
     let one = VECTOR / N;
     let count = (out.len() - at) / N;
-    let mut done = 0;
+    let mut done = fill_by_four::<N, F>(out, at, px);
     while VECTOR <= out.len() - (at + N * done) {
         store_vector::<N, F>(out, at + N * done, px);
         done += one;

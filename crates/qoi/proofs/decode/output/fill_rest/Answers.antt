@@ -1,14 +1,9 @@
 -- A vector more at each turn, and then what is left.
-use Rattle.std.proofs.Common.{◌≡◌, ℕ, ◌+◌, ◌-◌, ◌*◌, ◌/◌, ◌<◌, ◌≤◌, length, arith, refl}
+use Rattle.std.proofs.Common.{◌≡◌, ℕ, ◌+◌, ◌-◌, ◌*◌, ◌/◌, ◌<◌, ◌≤◌, length, arith, refl, ◌∙◌}
 use Rattle.qoi.specs.Raw.{IsChannels}
 use Rattle.qoi.proofs.format.WholePixels.{by_channels}
-use Rattle.qoi.proofs.decoding.Vectors.{written_copies, written_fewer}
+use Rattle.qoi.proofs.decoding.Vectors.{written_copies, written_fewer, vectors_fit}
 use Rattle.qoi.proofs.decode.output.fill_rest.Goals as goal
-
--- a vector's copies fit, if a vector does
-vector_fits : (c at done size : ℕ) → IsChannels c → at + c * done ≤ size → 16 ≤ size - (at + c * done) → at + c * (done + 16 / c) ≤ size
-vector_fits c at done size is = by_channels (λ d. at + d * done ≤ size → 16 ≤ size - (at + d * done) → at + d * (done + 16 / d) ≤ size) is
-    (λ a b. omega arith) (λ a b. omega arith)
 
 -- no more copies than fit
 copies_most : (c at done size : ℕ) → IsChannels c → at + c * done ≤ size → done ≤ (size - at) / c
@@ -23,7 +18,7 @@ loop-out-preserved g c =
     let done = c.loop-out.done in
     let one = 16 / g.row.N in
     let before = c.loop-out.invariant in (
-      vector_fits g.row.N c.args.at done _ c.requires.channels (omega (arith, before.0, c.store_vector.auto.out)) (omega (arith, c.loop-out-test.true, c.store_vector.auto.out)),
+      vectors_fit g.row.N 1 c.args.at done one _ c.requires.channels (omega arith) (omega (arith, before.0, c.store_vector.auto.out)) (omega (arith, c.loop-out-test.true, c.store_vector.auto.out)),
       λ some. omega arith,
       written_copies _ c.args.at done one (done + one) c.requires.channels refl before.2 (c.store_vector.ensures one (omega arith)),
     )
@@ -35,7 +30,7 @@ returns-then-done-gt0 g c =
     let count = (length c.args.out.now - c.args.at) / g.row.N in
     let is = c.requires.channels in
     let before = c.loop-out.invariant in
-    let size : length c.loop-out.out ≡ length c.args.out.now = c.loop-out.auto.out in
+    let size : length c.loop-out.out ≡ length c.args.out.now = c.loop-out.auto.out ∙ c.fill_by_four-done.auto.out in
     let most : done ≤ count = copies_most g.row.N c.args.at done _ is (omega (arith, before.0, size)) in
     let some : one ≤ done = before.1 (omega (arith, c.if-done-gt0.true)) in
     let last : count ≤ done + one = last_copies g.row.N c.args.at done _ is (omega (arith, c.loop-out-test.false, size)) in
@@ -46,5 +41,5 @@ pub returns-else-this-eq4 : goal.returns-else-this-eq4
 returns-else-this-eq4 g c =
     let done = c.loop-out.done in
     let count = (length c.args.out.now - c.args.at) / g.row.N in
-    let most : done ≤ count = copies_most g.row.N c.args.at done _ c.requires.channels (omega (arith, c.loop-out.invariant.0, c.loop-out.auto.out)) in
+    let most : done ≤ count = copies_most g.row.N c.args.at done _ c.requires.channels (omega (arith, c.loop-out.invariant.0, c.loop-out.auto.out, c.fill_by_four-done.auto.out)) in
     written_copies _ c.args.at done (count - done) count c.requires.channels (omega (arith, most)) c.loop-out.invariant.2 c.store_pixels.ensures

@@ -7,7 +7,7 @@ use Rattle.qoi.proofs.decode.output.fill_rest.Given as goal
 abbrev pub invariant-loop-out : goal.invariant-loop-out
 invariant-loop-out g l =
     (l.at + g.row.N * l.done ≤ length l.out) × (0 < l.done → 16 / g.row.N ≤ l.done)
-    × HasWritten g.row.F g.row.N (upto l.initial.out l.at) (upto l.out (l.at + g.row.N * l.done)) (replicate l.done (pixel_of_lanes l.px))
+    × HasWritten g.row.F g.row.N (upto l.fn.out l.at) (upto l.out (l.at + g.row.N * l.done)) (replicate l.done (pixel_of_lanes l.px))
 
 abbrev pub decreases-loop-out : goal.decreases-loop-out
 decreases-loop-out g l = length l.out - l.done
