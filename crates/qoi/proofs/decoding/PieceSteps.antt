@@ -284,6 +284,16 @@ gives {f} {c} {n} {start} {now} {given} p new k is few h =
     given_size : (g k l m u t : ℕ) → l ≡ k + m → g + (l + u) ≡ t → (g + k) + (m + u) ≡ t
     given_size g k l m u t parts e = omega arith
 
+-- a piece of two parts
+pub joined_two : (d : ℕ) (out long front rest : List ℕ) → out ≡ front ++ rest → length front ≡ d → length long ≡ length (mid_of d (length out - d) out)
+    → put_mid d (length out - d) out long ≡ front ++ long
+joined_two d out long front rest is size long_is =
+    let room : d ≤ length out = omega (arith, ap length is, length-append front rest, size) in
+    let long_size : length long ≡ length out - d = long_is ∙ mid_len d (length out) out (omega arith) in
+    sym (take_all (d + length long) (put_mid d (length out - d) out long) (omega (arith, same_len_mid d (length out - d) out long long_is, long_size, room)))
+    ∙ take-read d (length long) (length out - d) out long room (omega arith) ∙ ap (λ z. take d z ++ take (length long) long) is
+    ∙ ap (λ z. z ++ take (length long) long) (take_at front rest d size) ∙ ap (λ z. front ++ z) (take_all (length long) long (omega arith))
+
 -- a piece of three parts
 pub joined : (d m : ℕ) (out long short front rest : List ℕ) → out ≡ front ++ rest → length front ≡ d → m ≤ length long
     → length long ≡ length (mid_of d (length out - d) out)

@@ -172,7 +172,11 @@ impl<R: PieceReader> Decoder<R> {
             return Ok(());
         }
         let more = self.decode_more(pieces, &mut out[done..], fault)?;
-        pieces.give(&mut out[done + more..]);
+        let given = done + more;
+        if given == out.len() {
+            return Ok(());
+        }
+        pieces.give(&mut out[given..]);
         Ok(())
     }
 }

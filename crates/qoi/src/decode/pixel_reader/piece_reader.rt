@@ -6,7 +6,7 @@ ghost use Rattle.qoi.specs.pieces.ReaderPieces.{bytes_left, KeepsPixels, GivesPi
 ghost use Rattle.qoi.specs.declared.error.Error.{Error};
 ghost use Rattle.qoi.specs.inner.Chunks.{RefusesChunks, HasFault};
 
-use crate::decode::pixel_reader::pieces::{PieceResult, Pieces, fail};
+use crate::decode::pixel_reader::pieces::{PieceResult, Pieces, Refused, fail};
 use crate::decode::reader::{Buffered, Bytes, Reader};
 use crate::error::Error;
 use std::io::{BufRead, Read};
@@ -45,6 +45,16 @@ pub trait PieceReader: Reader {
             → OnErr result (Keeps (Self.ahead self.old) (Self.ahead self.new)) };
 }
 
+// Refuses a number of channels. Not inlined: a function that makes an error sets its bytes to zero
+// at each call.
+#[cold]
+#[inline(never)]
+fn refuse_channels(fault: &mut Option<Error>, channels: u8) -> Refused
+    ensures { fault.new ≡ Some (Error.InvalidChannels channels) }
+{
+    fail(fault, Error::InvalidChannels { channels })
+}
+
 // Decodes the next bytes of an image in memory.
 fn piece_of_bytes(
     bytes: &mut Bytes,
@@ -76,7 +86,7 @@ fn piece_of_bytes(
         (3, 4) => pieces.decode_more::<Bytes, 3, 3>(bytes, out, fault),
         (4, 3) => pieces.decode_more::<Bytes, 4, 3>(bytes, out, fault),
         (4, 4) => pieces.decode_more::<Bytes, 4, 4>(bytes, out, fault),
-        _ => Err(fail(fault, Error::InvalidChannels { channels })),
+        _ => Err(refuse_channels(fault, channels)),
     }
 }
 
@@ -89,10 +99,17 @@ impl<'a> PieceReader for Bytes<'a> {
         file_channels: u8,
         fault: &mut Option<Error>,
     ) -> PieceResult<usize> {
-        let mut bytes = Bytes(self.0);
-        let size = piece_of_bytes(&mut bytes, pieces, out, channels, file_channels, fault)?;
-        self.0 = bytes.0;
-        Ok(size)
+        let before = self.0;
+        match piece_of_bytes(self, pieces, out, channels, file_channels, fault) {
+            Ok(size) => Ok(size),
+            Err(refused) => {
+                // As a part of itself, so that address and length are copied one by one. If both are
+                // copied at once, each piece waits here until the stores of the last one are done.
+                let (_, all) = before.split_at(0);
+                self.0 = all;
+                Err(refused)
+            }
+        }
     }
 }
 
@@ -110,7 +127,7 @@ impl<R: Read> PieceReader for R {
             (3, 4) => pieces.decode_more::<R, 3, 3>(self, out, fault),
             (4, 3) => pieces.decode_more::<R, 4, 3>(self, out, fault),
             (4, 4) => pieces.decode_more::<R, 4, 4>(self, out, fault),
-            _ => Err(fail(fault, Error::InvalidChannels { channels })),
+            _ => Err(refuse_channels(fault, channels)),
         }
     }
 }
@@ -129,7 +146,7 @@ impl<R: BufRead> PieceReader for Buffered<R> {
             (3, 4) => pieces.decode_more::<Buffered<R>, 3, 3>(self, out, fault),
             (4, 3) => pieces.decode_more::<Buffered<R>, 4, 3>(self, out, fault),
             (4, 4) => pieces.decode_more::<Buffered<R>, 4, 4>(self, out, fault),
-            _ => Err(fail(fault, Error::InvalidChannels { channels })),
+            _ => Err(refuse_channels(fault, channels)),
         }
     }
 }

@@ -60,23 +60,34 @@ pub(super) fn fail(fault: &mut Option<Error>, e: Error) -> Refused
     Refused
 }
 
+// How many bytes are worth decoding in place, of a piece of which so many are done: the rest of one
+// that was begun in place, or a long one.
+#[inline(always)]
+fn least_room(done: usize) -> usize
+    ensures first { done ≡ 0 → result ≡ LONG }
+    ensures rest { 0 < done → result ≡ RUN_ROOM }
+    ensures run { (RUN_ROOM ≤ result) × (result ≤ LONG) }
+{
+    if done == 0 { LONG } else { RUN_ROOM }
+}
+
 // How many bytes to decode at once, and to keep, for a piece of `size` bytes of which so many are
 // done: just enough after chunks in place, else all that can be kept.
 #[inline]
 fn kept_room(size: usize, done: usize) -> usize
     requires within { done ≤ size }
-    requires last { LONG ≤ size → size < done + (RUN_ROOM + 3) }
+    requires last { 0 < done → size < done + (RUN_ROOM + 3) }
+    requires short { done ≡ 0 → size < LONG }
     ensures within { result ≤ KEPT }
     ensures whole { result % 12 ≡ 0 }
     ensures enough { size - done + RUN_ROOM ≤ result }
 {
-    let rest = size - done;
     if size >= LONG {
         AFTER_LONG
-    } else if done == 0 || rest > RUN_ROOM {
+    } else if done == 0 {
         KEPT
     } else {
-        (rest + (RUN_ROOM + 11)) / 12 * 12
+        (size - done + (RUN_ROOM + 11)) / 12 * 12
     }
 }
 
@@ -210,7 +221,6 @@ impl Pieces {
             → OnErr result
             (HasFault (RefusesChunks R.in_memory n start (R.ahead reader.new)) fault.new) }
         ensures within { IfOk result (λ size. size ≤ length out.new) }
-        ensures long { LONG ≤ length out.new → IfOk result (λ size. size ≡ 0) }
         ensures enough { IfOk result (λ size. self.new.from < self.new.to
             → length out.new ≤ size + (self.new.to - self.new.from)) }
         ensures pixels { IfOk result (λ size. KeepsPixels N self.new) }
@@ -240,12 +250,13 @@ impl Pieces {
     }
 
     // Decodes chunks into the front of `out` as long as any run has room, and returns how many
-    // bytes; none if `out` is short.
+    // bytes; none if `out` is short. Of its piece, `done` bytes were decoded before.
     #[inline]
     fn long_piece<R: Chunks<N, F>, const N: usize, const F: usize>(
         &mut self,
         reader: &mut R,
         out: &mut [u8],
+        done: usize,
         fault: &mut Option<Error>,
     ) -> PieceResult<usize>
         requires channels { IsChannels N }
@@ -262,13 +273,13 @@ impl Pieces {
             (HasFault (RefusesChunks R.in_memory n start (R.ahead reader.new)) fault.new) }
         ensures within { IfOk result (λ size. size ≤ length out.new) }
         ensures few { IfOk result (λ size. length out.new < size + LONG) }
-        ensures last { LONG ≤ length out.new
-            → IfOk result (λ size. length out.new < size + (RUN_ROOM + 3)) }
+        ensures last { IfOk result (λ size. 0 < done + size
+            → length out.new < size + (RUN_ROOM + 3)) }
         ensures none { IfOk result (λ size. self.new.from ≡ self.new.to) }
         ensures pixels { IfOk result (λ size. KeepsPixels N self.new) }
         ensures left { IfOk result (λ size. size + bytes_left self.new ≡ bytes_left self.old) }
     {
-        if out.len() < LONG {
+        if out.len() < least_room(done) {
             return Ok(0);
         }
         let size = out.len() / N * N;
@@ -371,7 +382,7 @@ impl Pieces {
         if self.from < self.to {
             return Ok(placed);
         }
-        let more = self.long_piece::<R, N, F>(reader, &mut out[placed..], fault)?;
+        let more = self.long_piece::<R, N, F>(reader, &mut out[placed..], placed, fault)?;
         let size = placed + more;
         if size == out.len() {
             return Ok(size);

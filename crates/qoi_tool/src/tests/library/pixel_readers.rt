@@ -148,6 +148,20 @@ fn pieces_of_long_images(rt: HostRuntime) {
     }
 }
 
+// As long as rows of icons, which are decoded in place if the file's bytes stand in memory. A buffer
+// of as many bytes mostly ends within a piece.
+#[test]
+fn pieces_of_rows_of_icons(rt: HostRuntime) {
+    let alloc = rt.alloc();
+    for channels in [Channels::Rgb, Channels::Rgba] {
+        let image = drawn_row(&rt, alloc, 0x1c05, 6000, channels);
+        for most in [512, 768, 1023, 1024, 1535usize] {
+            let lengths = Lengths::of(most);
+            assert_pieces(&rt, alloc, &image.file, channels, &image.raw, lengths);
+        }
+    }
+}
+
 // Into the other number of channels.
 #[test]
 fn pieces_in_other_channels(rt: HostRuntime) {

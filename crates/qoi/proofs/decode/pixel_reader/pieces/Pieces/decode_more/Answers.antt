@@ -12,12 +12,6 @@ decode_on-requires-clause-whole g c =
     let twelve = c.kept_room-room.ensures.whole in
     by_channels (λ k. c.kept_room-room.result % k ≡ 0) c.requires.channels (omega (arith, twelve)) (omega (arith, twelve))
 
-pub kept_room-room-requires-clause-last : goal.kept_room-room-requires-clause-last
-kept_room-room-requires-clause-last g c long =
-    let none : c.in_ok-placed.placed ≡ 0 = c.in_ok-placed.ensures.long (omega (arith, long, c.piece_in_place.auto.out)) in
-    let rest : length c.args.out.now - c.in_ok-placed.placed ≡ length c.long_piece.new.out = omega arith in
-    omega (arith, none, rest, c.in_ok-more.ensures.last (omega (arith, long, none, rest)))
-
 pub returns-in_err-decode_on-clause-refused : goal.returns-in_err-decode_on-clause-refused
 returns-in_err-decode_on-clause-refused g c n start given h =
     let placed = c.in_ok-placed.ensures.read n start given h in

@@ -17,14 +17,14 @@ returns-clause-last g c long =
 
 pub returns-in-Err-clause-refused : goal.returns-in-Err-clause-refused
 returns-in-Err-clause-refused g c n start given h =
-    let l = front_lent c.args.self.now c.args.out.now c.requires.channels h c.requires.none c.requires.fits (omega (arith, c.if-out-lt-LONG.false)) in
+    let l = front_lent c.args.self.now c.args.out.now c.requires.channels h c.requires.none c.requires.fits (omega (arith, c.if-out-least_room.false, c.least_room.ensures.run)) in
     subst (HasFault (RefusesChunks g.R.Chunks.in_memory n start (g.R.Chunks.ahead c.some_chunks.new.self))) (sym c.fail.ensures)
     (c.in-Err.ensures.refused l.gone _ _ l.before n l.most)
 
 pub returns-clause-read : goal.returns-clause-read
 returns-clause-read g c n start given h =
     let out = c.args.out.now in
-    let long : 1536 ≤ length out = omega (arith, c.if-out-lt-LONG.false) in
+    let long : 256 ≤ length out = omega (arith, c.if-out-least_room.false, c.least_room.ensures.run) in
     let l = front_lent c.args.self.now out c.requires.channels h c.requires.none c.requires.fits (omega (arith, long)) in
     let most = front_most g.row.N out c.requires.channels in
     let same = c.requires.none in
