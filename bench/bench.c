@@ -1,7 +1,7 @@
 /* Times the calls of qoi.h, of the Rust crate (if built with -DCRATE) and of the port on the same pictures, by turns.
 
-   bench time ROUNDS all|anew|buffers PICTURE..   a line for each way, "took", row, who, least seconds of a pass over
-                                                  all pictures; before it "wrong", row, who, and of how many
+   bench time ROUNDS all|anew|buffers PICTURE..   a line for each way, "took", row, who, seconds for all pictures, the
+                                                  least of each; before it "wrong", row, who, and of how many
                                                   pictures it made other bytes or pixels, if of any
    bench keep WHO COUNT PICTURE                   kilobytes that COUNT files take, which are made and kept, and the bytes
                                                   of one
@@ -189,17 +189,30 @@ static double now(void) {
     return t.tv_sec + t.tv_nsec * 1e-9;
 }
 
-/* Seconds of a pass over all pictures, which is repeated until it has about a million pixels. */
-static double pass(const struct row *row, const struct way *way) {
-    size_t pixels = 0;
-    for (int i = 0; i < count; i++) pixels += pictures[i].len / pictures[i].channels;
-    int repeats = 1 + 1000000 / pixels;
-    double start = now();
-    for (int r = 0; r < repeats; r++)
-        for (int i = 0; i < count; i++)
-            if (!called(row, way, &pictures[i], row->vector ? 0 : pictures[i].room)) fail(way->who, row->name);
-    return (now() - start) / repeats;
+static size_t pixels_of(int i) { return (size_t)pictures[i].width * pictures[i].height; }
+
+/* The least seconds of each picture so far. Those of fewer than `LARGE` pixels that follow each other are timed together,
+   again and again until they have about a million pixels. */
+enum { LARGE = 10000 };
+static void pass(const struct row *row, const struct way *way, double *least) {
+    for (int first = 0, end; first < count; first = end) {
+        size_t pixels = pixels_of(first);
+        int repeats = 1;
+        end = first + 1;
+        if (pixels < LARGE) {
+            for (; end < count && pixels_of(end) < LARGE; end++) pixels += pixels_of(end);
+            repeats += 1000000 / pixels;
+        }
+        double start = now();
+        for (int r = 0; r < repeats; r++)
+            for (int i = first; i < end; i++)
+                if (!called(row, way, &pictures[i], row->vector ? 0 : pictures[i].room)) fail(way->who, row->name);
+        double taken = (now() - start) / repeats;
+        if (taken < least[first]) least[first] = taken;
+    }
 }
+
+static double least[WAYS][MOST];
 
 static void time_row(const struct row *row, int rounds) {
     for (int w = 0; w < WAYS; w++) {
@@ -209,14 +222,16 @@ static void time_row(const struct row *row, int rounds) {
         if (wrong && !strcmp(way->who, "port")) fail("the port makes other bytes or pixels", row->name);
         if (wrong) printf("wrong\t%s\t%s\t%d\n", row->name, way->who, wrong);
     }
-    double least[WAYS] = {1e9, 1e9, 1e9};
-    for (int r = 0; r < rounds; r++)
-        for (int w = 0; w < WAYS; w++) {
-            double taken = row->ways[w].who ? pass(row, &row->ways[w]) : 0;
-            if (taken < least[w]) least[w] = taken;
-        }
     for (int w = 0; w < WAYS; w++)
-        if (row->ways[w].who) printf("took\t%s\t%s\t%.9f\n", row->name, row->ways[w].who, least[w]);
+        for (int i = 0; i < count; i++) least[w][i] = 1e9;
+    for (int r = 0; r < rounds; r++)
+        for (int w = 0; w < WAYS; w++)
+            if (row->ways[w].who) pass(row, &row->ways[w], least[w]);
+    for (int w = 0; w < WAYS; w++) {
+        double sum = 0;
+        for (int i = 0; i < count; i++) sum += least[w][i] < 1e9 ? least[w][i] : 0;
+        if (row->ways[w].who) printf("took\t%s\t%s\t%.9f\n", row->name, row->ways[w].who, sum);
+    }
 }
 
 static long kilobytes(const char *field) {

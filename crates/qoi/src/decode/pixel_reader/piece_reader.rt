@@ -103,8 +103,9 @@ impl<'a> PieceReader for Bytes<'a> {
         match piece_of_bytes(self, pieces, out, channels, file_channels, fault) {
             Ok(size) => Ok(size),
             Err(refused) => {
-                // As a part of itself, so that address and length are copied one by one. If both are
-                // copied at once, each piece waits here until the stores of the last one are done.
+                // Put back as a part of itself, so that `before` is read as address and length, one by
+                // one, as the last piece stored them. A load of both at once waits for those stores
+                // and all before them.
                 let (_, all) = before.split_at(0);
                 self.0 = all;
                 Err(refused)
