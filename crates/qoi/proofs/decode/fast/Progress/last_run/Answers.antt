@@ -15,7 +15,8 @@ returns-clause-takes g c gone n before h =
     let from = c.args.from in
     let run = c.long_run-now in
     let out = c.fill_rest.new.out in
-    let next = slice_index c.args.bytes.now from.taken in let count = next - 191 in
+    let next = slice_index c.args.bytes.now from.taken in
+    let count = next - 191 in
     let rest = times_rest g.row.N (length c.args.out.now) from.at is c.requires.fillable.whole.0 c.requires.fillable.whole.1 in
     let size = c.advance-size.ensures.run (omega (arith, c.if-next-lt-QOI_OP_RUN.false)) (omega (arith, c.if-next-ge-QOI_OP_RGB.false)) in
     let end : run.result.at ≡ g.row.N * count = omega (arith, run.ensures.kept.2) in

@@ -1,13 +1,7 @@
 -- One chunk, or four chunks and four more.
-use Rattle.std.proofs.Common.{◌≡◌, ℕ, inl, inr, arith}
-use Rattle.qoi.specs.inner.Filling.{IsRow}
+use Rattle.std.proofs.Common.{arith}
 use Rattle.qoi.proofs.decoding.FastSteps.{step_then, step_within}
 use Rattle.qoi.proofs.decode.fast.Progress.short_row.Goals as goal
-
--- a row that isn't of one chunk is of eight
-eight : (n : ℕ) → IsRow n → (n ≡ 1 → ⊥) → n ≡ 8
-eight n (inl one) other = absurd (other one)
-eight n (inr e) other = e
 
 pub returns-then-this-eq1 : goal.returns-then-this-eq1
 returns-then-this-eq1 g c = step_within c.short_or_none.ensures (omega arith) (omega arith)
