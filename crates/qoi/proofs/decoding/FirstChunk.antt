@@ -12,7 +12,7 @@ use Rattle.qoi.proofs.format.ChunkSteps.{times_some}
 use Rattle.qoi.proofs.format.SeenTable.{holds_seen_copies, previous_copies}
 
 -- the first byte
-front_1 : (bytes : List ℕ) → 1 ≤ length bytes → take 1 bytes ≡ get_or bytes 0 0 ∷ []
+pub front_1 : (bytes : List ℕ) → 1 ≤ length bytes → take 1 bytes ≡ get_or bytes 0 0 ∷ []
 front_1 [] l = absurd (omega arith)
 front_1 (a ∷ bytes) l = refl
 

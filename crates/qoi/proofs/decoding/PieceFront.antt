@@ -18,20 +18,12 @@ use Rattle.qoi.proofs.format.WholePixels.{by_channels, length-output}
 use Rattle.qoi.proofs.decoding.Ahead.{image_read}
 use Rattle.qoi.proofs.decoding.FrontImage.{image_begins, image_is}
 use Rattle.qoi.proofs.decoding.ImageSize.{channels_are}
-use Rattle.qoi.proofs.decoding.PieceSteps.{kept_long}
+use Rattle.qoi.proofs.decoding.PieceSteps.{still_goes}
 use Rattle.qoi.proofs.decoding.TakenBytes.{bytes_within, read_within}
 
 -- what stands at the front
 seam : {A : Type 0} (xs ys zs : List A) → zs ≡ xs ++ ys → xs ≡ take (length xs) zs
 seam xs ys zs e = sym (ap (take (length xs)) e ∙ take-append_seam xs ys)
-
--- fewer pixels are gone than there are
-few_gone : (f c n l : ℕ) (gone : Past) (given kept : List ℕ) (undecoded : ℕ) → IsChannels c → given ++ kept ≡ output f c (reverse gone) → length kept ≡ l
-    → length given + (l + undecoded) ≡ c * n → 0 < undecoded → length gone < n
-few_gone f c n l gone given kept undecoded is e kept_is size some =
-    let many : length (given ++ kept) ≡ c * length gone = ap length e ∙ length-output f c (reverse gone) is ∙ ap (λ k. c * k) (length-reverse gone) in
-    by_channels (λ k. length (given ++ kept) ≡ k * length gone → length given + (l + undecoded) ≡ k * n → length gone < n) is
-    (λ a b. omega (arith, length-append given kept, kept_is, some)) (λ a b. omega (arith, length-append given kept, kept_is, some)) many size
 
 -- for n pixels at most 5n + 8 bytes were taken
 pub pieces_within : (f c n : ℕ) (start now : Option (List ℕ)) (given : List ℕ) (p : Pieces) → IsChannels c → GivesPieces f c n start now given p
@@ -39,9 +31,9 @@ pub pieces_within : (f c n : ℕ) (start now : Option (List ℕ)) (given : List 
 pieces_within f c n start now given p is h =
     elim (cases_lt 0 p.undecoded) [
       | inl some ↦
-          let (gone, stands, e) = h.goes_on some in
-          let few : length gone < n = few_gone f c n _ gone given (kept p) p.undecoded is e (kept_long p h.within) h.size some in
-          (chunk_bytes stands.cs, stands.taken, omega (arith, bytes_within [] stands.cs stands.chunks, ap length stands.pixels, few))
+          let so_far = still_goes p is h some in
+          let stands = so_far.stands in
+          (chunk_bytes stands.cs, stands.taken, omega (arith, bytes_within [] stands.cs stands.chunks, ap length stands.pixels, so_far.fewer))
       | inr none ↦ read_within f c n start now (given ++ kept p) (h.ends (omega (arith, none)))
     ]
 
@@ -74,11 +66,13 @@ front_given channels h (Some bytes) now given p s =
         let f = channels_number h.channels in
         let c = channels_number channels in
         let n = pixel_count h in
-        let (gone, stands, e) = s.goes_on some in
-        let few : length gone < n = few_gone f c n _ gone given (kept p) p.undecoded (channels_are channels c refl) e (kept_long p s.within) s.size some in
+        let so_far = still_goes p (channels_are channels c refl) s some in
+        let gone = so_far.all in
+        let stands = so_far.stands in
+        let few = so_far.fewer in
         let (more, is) = image_begins channels h stands.cs left stands.chunks (omega (arith, few, ap length stands.pixels)) in
         let others = output f c (take (n - length gone) (pixels_after gone more)) in
         let image : front_image channels h bytes ≡ output f c (reverse gone) ++ others =
         ap (front_image channels h) stands.taken ∙ is ∙ ap (output f c) (more_pixels n stands.cs more gone stands.pixels few)
         ∙ flat_map-append (pixel_bytes f c) (reverse gone) (take (n - length gone) (pixels_after gone more)) in
-        seam given (kept p ++ others) _ (image ∙ ap (λ z. z ++ others) (sym e) ∙ append_assoc given (kept p) others)
+        seam given (so_far.ahead ++ others) _ (image ∙ ap (λ z. z ++ others) (sym so_far.bytes_are) ∙ append_assoc given so_far.ahead others)

@@ -2,20 +2,22 @@
 use Rattle.std.proofs.Common.{◌≡◌, ℕ, ◌+◌, ◌-◌, ◌*◌, ◌/◌, ◌%◌, ◌<◌, ◌≤◌, List, [], ◌∷◌, ◌++◌, length, take, drop, replicate, reverse, min, Option, arith, refl, sym, ap, ◌∙◌, subst, append_assoc, append-nil, length-append}
 use Rattle.std.specs.Io.KnownBytes.{Consumes}
 use Rattle.std.proofs.KnownBytes.{Consumes-trans}
-use Rattle.std.proofs.lemmas.List.{length-replicate, length-reverse, reverse-append, length-take-le, length-drop, take-append-le, take-take, take_all, take_at, drop-drop}
+use Rattle.std.proofs.lemmas.List.{length-replicate, length-reverse, reverse-append, length-take, length-take-le, length-drop, take-append-le, take-take, take_all, take_at, drop-drop}
 use Rattle.std.proofs.lemmas.Slice.{take-put_mid}
 use Rattle.std.proofs.Math.Seq.{take-add}
 use borrow.Rule.Slice.PartMut.{put_mid, mid_of, mid_len, same_len_mid}
 use Rattle.std.proofs.lemmas.Grind.{flat_map-append}
 use Rattle.qoi.specs.declared.chunk.Chunk.{Chunk}
+use Rattle.qoi.specs.declared.decode.fast.InPlace.{InPlace}
 use Rattle.qoi.specs.declared.decode.pixel_reader.pieces.Pieces.{Pieces}
-use Rattle.qoi.specs.Qoi.{Past, Each, AreChunks, chunk_bytes, end_marker, pixel_after, times, then_chunk, then_chunks}
+use Rattle.qoi.specs.Qoi.{Past, RgbaPixel, Each, AreChunks, chunk_bytes, end_marker, pixel_after, times, then_chunk, then_chunks}
 use Rattle.qoi.specs.Raw.{IsChannels, pixel_bytes, output}
 use Rattle.qoi.specs.Decoding.{TakesImagePixels, ReadsImage}
-use Rattle.qoi.specs.inner.Filling.{HasSeen, IsFillable, upto, filling, DecoderBetween}
-use Rattle.qoi.specs.pieces.InPlace.{TakesPiece}
-use Rattle.qoi.specs.pieces.ReaderPieces.{kept, bytes_left, KeepsWithin, DecoderAfter, GivesPieces}
-use Rattle.qoi.proofs.format.ChunkSteps.{times_some}
+use Rattle.qoi.specs.inner.Filling.{HasSeen, HasWritten, IsFillable, upto, filling, DecoderBetween}
+use Rattle.qoi.specs.inner.Hashed.{pixel_of_lanes}
+use Rattle.qoi.specs.pieces.InPlace.{TakesPiece, IsInPlace}
+use Rattle.qoi.specs.pieces.ReaderPieces.{kept, bytes_left, copies, KeepsWithin, KeepsNothing, AreWhole, DecoderAfter, GivesPieces}
+use Rattle.qoi.proofs.format.ChunkSteps.{times_some, reverse-replicate}
 use Rattle.qoi.proofs.format.WholePixels.{by_channels, length-output, take_whole}
 use Rattle.qoi.proofs.decoding.Progress.{fewer, none_written, fillable_whole}
 use Rattle.qoi.proofs.decoding.StreamReads.{take-read}
@@ -75,6 +77,12 @@ closes {f} {c} {gone} {m} {Taken} {table} {last} given out at is s inside so_far
           ∙ sym (flat_map-append (pixel_bytes f c) (reverse gone) (reverse recent)) ∙ sym (ap (output f c) (reverse-append recent gone)),
     )
 
+-- copies of a pixel come after the bytes of the pixels before them
+pub output_copies : (f c k : ℕ) (p : RgbaPixel) (past : Past) → output f c (reverse (replicate k p ++ past)) ≡ output f c (reverse past) ++ output f c (replicate k p)
+output_copies f c k p past =
+    ap (output f c) (reverse-append (replicate k p) past ∙ ap (λ z. reverse past ++ z) (reverse-replicate k p))
+    ∙ flat_map-append (pixel_bytes f c) (reverse past) (replicate k p)
+
 -- with nothing kept, what was given are the pixels that are gone
 pub none_kept : (p : Pieces) (given : List ℕ) → p.from ≡ p.to → given ++ kept p ≡ given
 none_kept p given same =
@@ -108,27 +116,135 @@ with_marker {old = old} {middle = middle} {new = new} s took = record {
   out_is = s.out_is;
 }
 
--- an output that is lent with nothing kept
-pub record Lent (f c n m : ℕ) (start old : Option (List ℕ)) (given : List ℕ) (p : Pieces) (out : List ℕ) : Type 0 where
+-- what stands at the front of an output stands at that of its whole pixels
+pub front_run : {f c : ℕ} {ps : List RgbaPixel} (before out : List ℕ) (run size : ℕ) → run ≤ size
+    → HasWritten f c (upto before 0) (upto out run) ps → HasWritten f c (upto before 0) (upto (take size out) run) ps
+front_run before out run size fits w = record { at_is = w.at_is; same = take-take run size out fits ∙ w.same }
+
+-- from the beginning on
+none_off : (n : ℕ) → n - 0 ≡ n
+none_off n = omega arith
+
+from_none : (n : ℕ) → n ≡ 0 + n
+from_none n = omega arith
+
+-- no bytes, no copies
+pub no_copies : (c run last : ℕ) (gone : Past) → IsChannels c → run ≡ 0 → copies c run last ++ gone ≡ gone
+no_copies c run last gone is none = ap (λ z. z ++ gone) (by_channels (λ d. run ≡ 0 → copies d run last ≡ []) is (λ e. rw e refl) (λ e. rw e refl) none)
+
+-- a run fits where the vectors of any run do
+run_fits : (c run size : ℕ) → IsChannels c → run ≤ c * 62 → 256 ≤ size → run ≤ size
+run_fits c run size is = by_channels (λ d. run ≤ d * 62 → 256 ≤ size → run ≤ size) is (λ a b. omega (arith, a, b)) (λ a b. omega (arith, a, b))
+
+only_undecoded : (g l u t : ℕ) → l ≡ 0 → g + (l + u) ≡ t → g + u ≡ t
+only_undecoded g l u t none e = omega arith
+
+kept_size : (g l u a t : ℕ) → l ≡ 0 → g + (l + u) ≡ t → a ≤ u → g + (a - 0 + (u - a)) ≡ t
+kept_size g l u a t none e le = omega arith
+
+-- an output that is lent with nothing kept, and `at` bytes of a run at its front
+pub record Lent (f c n m : ℕ) (start old : Option (List ℕ)) (given : List ℕ) (p : Pieces) (out : List ℕ) (at : ℕ) : Type 0 where
   pub gone : Past
-  pub before : DecoderBetween f c gone m (Consumes start old) (filling p.table p.last out 0)
+  pub before : DecoderBetween f c gone m (Consumes start old) (filling p.table p.last out at)
   pub so_far : given ≡ output f c (reverse gone)
   pub most : length gone + m ≤ n
 
 pub lent : {f c n : ℕ} {start old : Option (List ℕ)} {given : List ℕ} {p : Pieces} (m : ℕ) (out : List ℕ) → IsChannels c → GivesPieces f c n start old given p
-    → p.from ≡ p.to → 0 < p.undecoded → length out ≡ c * m → length out ≤ p.undecoded → Lent f c n m start old given p out
-lent {f} {c} {n} {start} {old} {given} {p} m out is h same some size fits =
+    → KeepsNothing p → 0 < p.undecoded → length out ≡ c * m → length out ≤ p.undecoded → Lent f c n m start old given p out 0
+lent {f} {c} {n} {start} {old} {given} {p} m out is h none some size fits =
     let (gone, stands, all) = h.goes_on some in
+    let so_far : given ≡ output f c (reverse gone) = sym (none_kept p given none.0) ∙ all in
+    record {
+      gone = gone;
+      before = opens m out is (subst (DecoderAfter (Consumes start old) p.table p.last) (no_copies c p.run p.last gone is none.1) stands) size;
+      so_far = so_far;
+      most = gone_most f c n m gone given p.undecoded is so_far (only_undecoded (length given) (p.to - p.from) p.undecoded (c * n) (omega (arith, none)) h.size) (subst (λ k. k ≤ p.undecoded) size fits);
+    }
+
+-- as many copies of the last pixel as are left of a run, at the front of an output
+begun : {f c : ℕ} {gone : Past} {Taken : List ℕ → Type 0} {table : List ℕ} {last : ℕ} (m run : ℕ) (before out : List ℕ) → IsChannels c
+    → DecoderAfter Taken table last (copies c run last ++ gone) → length out ≡ c * m → run % c ≡ 0 → run ≤ length out
+    → HasWritten f c (upto before 0) (upto out (0 + c * (run / c))) (replicate (run / c) (pixel_of_lanes last))
+    → DecoderBetween f c gone m Taken (filling table last out run)
+begun {f} {c} {gone} {Taken} {table} {last} m run before out is s size whole fits written =
+    let recent = copies c run last in
+    let many : run ≡ c * (run / c) = by_channels (λ d. run % d ≡ 0 → run ≡ d * (run / d)) is (λ e. omega (arith, e)) (λ e. omega (arith, e)) whole in
+    let few : run / c ≤ m = by_channels (λ d. run ≤ length out → length out ≡ d * m → run / d ≤ m) is (λ a b. omega (arith, a, b)) (λ a b. omega (arith, a, b)) fits size in
+    let count : length recent ≡ run / c = length-replicate (run / c) (pixel_of_lanes last) in
+    let bytes : take run out ≡ output f c recent = ap (λ k. take k out) (many ∙ from_none (c * (run / c))) ∙ written.same in
+    let long : length (output f c recent) ≡ run = length-output f c recent is ∙ ap (λ k. c * k) count ∙ sym many in
+    record {
+      cs = s.cs;
+      chunks = s.chunks;
+      recent = recent;
+      pixels = s.pixels;
+      stays_below = stay_within (length gone + m) [] s.cs s.chunks (omega (arith, ap length s.pixels, length-append recent gone, count, few));
+      taken = s.taken;
+      filled = record {
+        room = size;
+        at_is = many ∙ ap (λ k. c * k) (sym (least m (run / c) few) ∙ ap (λ k. min m k) (sym count));
+        same = bytes ∙ sym (take_all run (output f c recent) (omega (arith, long))) ∙ ap (λ z. take run (output f c z)) (sym (reverse-replicate (run / c) (pixel_of_lanes last)));
+      };
+      has_seen = subst (HasSeen (filling table last out run)) (sym s.pixels) (record { table_is = s.table_is; last_is = s.last_is });
+      within = fits;
+      whole = whole;
+    }
+  where
+    least : (m k : ℕ) → k ≤ m → min m k ≡ k
+    least m k le = omega (arith, le)
+
+-- the same between two pieces
+pub run_lent : {f c n : ℕ} {start old : Option (List ℕ)} {given : List ℕ} (p : Pieces) (m : ℕ) (before out : List ℕ) → IsChannels c → GivesPieces f c n start old given p
+    → p.from ≡ p.to → AreWhole c p → 256 ≤ length out → length out ≡ c * m → length out + 256 ≤ p.undecoded
+    → HasWritten f c (upto before 0) (upto out (0 + c * (p.run / c))) (replicate (p.run / c) (pixel_of_lanes p.last)) → Lent f c n m start old given p out p.run
+run_lent {f} {c} {n} {start} {old} {given} p m before out is h same whole long size fits written =
+    let (gone, stands, all) = h.goes_on (omega (arith, fits)) in
     let so_far : given ≡ output f c (reverse gone) = sym (none_kept p given same) ∙ all in
     record {
       gone = gone;
-      before = opens m out is stands size;
+      before = begun m p.run before out is stands size whole.1 (run_fits c p.run (length out) is whole.2 long) written;
       so_far = so_far;
-      most = gone_most f c n m gone given p.undecoded is so_far (only_undecoded (length given) (p.to - p.from) p.undecoded (c * n) (omega (arith, same)) h.size) (subst (λ k. k ≤ p.undecoded) size fits);
+      most = gone_most f c n m gone given p.undecoded is so_far (only_undecoded (length given) (p.to - p.from) p.undecoded (c * n) (omega (arith, same)) h.size)
+          (subst (λ k. k ≤ p.undecoded) size (omega (arith, fits)));
     }
-  where
-    only_undecoded : (g l u t : ℕ) → l ≡ 0 → g + (l + u) ≡ t → g + u ≡ t
-    only_undecoded g l u t none e = omega arith
+
+-- the same in the whole pixels of an output, of which so many bytes are lent
+pub piece_lent : {f c n : ℕ} {start old : Option (List ℕ)} {given : List ℕ} (p : Pieces) (before out : List ℕ) → IsChannels c → GivesPieces f c n start old given p
+    → p.from ≡ p.to → AreWhole c p → 512 ≤ length before → length before + 256 ≤ p.undecoded → length out ≡ length before
+    → HasWritten f c (upto before 0) (upto out (0 + c * (p.run / c))) (replicate (p.run / c) (pixel_of_lanes p.last))
+    → Lent f c n (length before / c) start old given p (take (length before / c * c) out) p.run
+piece_lent {c = c} p before out is h same whole long fits same_size written =
+    let size = length before / c * c in
+    let sizes : (size ≤ length before) × (256 ≤ size) × (size ≡ c * (length before / c)) =
+    by_channels (λ d. (length before / d * d ≤ length before) × (256 ≤ length before / d * d) × (length before / d * d ≡ d * (length before / d))) is
+    (omega arith, omega (arith, long), omega arith) (omega arith, omega (arith, long), omega arith) in
+    let all : length (take size out) ≡ size = length-take-le size out (omega (arith, same_size, sizes.0)) in
+    let run : 0 + c * (p.run / c) ≤ size = by_channels (λ d. p.run ≤ d * 62 → 0 + d * (p.run / d) ≤ size) is (λ a. omega (arith, a, sizes.1)) (λ a. omega (arith, a, sizes.1)) whole.2 in
+    run_lent p (length before / c) before (take size out) is h same whole (omega (arith, all, sizes.1)) (all ∙ sizes.2) (omega (arith, all, sizes.0, fits))
+    (front_run before out (0 + c * (p.run / c)) size run written)
+
+-- the rest of a run is kept
+pub run_kept : {f c n : ℕ} {start now : Option (List ℕ)} {given : List ℕ} (p : Pieces) (bytes : List ℕ) → IsChannels c → GivesPieces f c n start now given p
+    → p.from ≡ p.to → 0 < p.run → AreWhole c p → 256 ≤ length bytes
+    → HasWritten f c (upto p.bytes 0) (upto bytes (0 + c * (p.run / c))) (replicate (p.run / c) (pixel_of_lanes p.last))
+    → GivesPieces f c n start now given (record { table = p.table; last = p.last; bytes = bytes; from = 0; to = p.run; run = 0; undecoded = p.undecoded - p.run })
+run_kept {f} {c} {n} {start} {now} {given} p bytes is h same some whole room written =
+    let fits : p.run < p.undecoded = whole.3 some in
+    let (gone, stands, all) = h.goes_on (omega (arith, fits)) in
+    let recent = copies c p.run p.last in
+    let many : p.run ≡ c * (p.run / c) = by_channels (λ d. p.run % d ≡ 0 → p.run ≡ d * (p.run / d)) is (λ e. omega (arith, e)) (λ e. omega (arith, e)) whole.1 in
+    let stored : take (p.run - 0) bytes ≡ output f c recent = ap (λ k. take k bytes) (none_off p.run ∙ many ∙ from_none (c * (p.run / c))) ∙ written.same in
+    record {
+      within = (omega arith, omega (arith, room, run_fits c p.run (length bytes) is whole.2 room));
+      size = kept_size (length given) (p.to - p.from) p.undecoded p.run (c * n) (omega (arith, same)) h.size (omega (arith, fits));
+      goes_on = λ _. (
+        recent ++ gone,
+        subst (DecoderAfter (Consumes start now) p.table p.last) (sym (no_copies c 0 p.last (recent ++ gone) is refl)) stands,
+        ap (λ z. given ++ z) stored ∙ ap (λ z. z ++ output f c recent) (sym (none_kept p given same) ∙ all) ∙ sym (output_copies f c (p.run / c) (pixel_of_lanes p.last) gone),
+      );
+      behind = λ more. more;
+      ends = λ none. absurd (omega (arith, none, fits));
+    }
 
 -- whole pixels at the front of an output
 pub whole_front : (c : ℕ) (out : List ℕ) → IsChannels c → length (take (length out / c * c) out) ≡ c * (length out / c)
@@ -147,15 +263,11 @@ front_most c out is =
 
 -- the whole pixels at the front of an output are lent
 pub front_lent : {f c n : ℕ} {start old : Option (List ℕ)} {given : List ℕ} (p : Pieces) (out : List ℕ) → IsChannels c → GivesPieces f c n start old given p
-    → p.from ≡ p.to → length out ≤ bytes_left p → 0 < length out
-    → Lent f c n (length out / c) start old given p (take (length out / c * c) out)
+    → KeepsNothing p → length out ≤ bytes_left p → 0 < length out
+    → Lent f c n (length out / c) start old given p (take (length out / c * c) out) 0
 front_lent {c = c} p out is h none fits some =
     let most = front_most c out is in
     lent (length out / c) (take (length out / c * c) out) is h none (omega (arith, none, fits, some)) (whole_front c out is) (omega (arith, none, fits, most.0))
-
--- from the beginning on
-none_off : (n : ℕ) → n - 0 ≡ n
-none_off n = omega arith
 
 -- sizes before and after
 pub moved_size : (g k l u a t : ℕ) → g + (l + u) ≡ t → a ≤ u → k ≡ a → (g + k) + (l + (u - a)) ≡ t
@@ -163,68 +275,68 @@ moved_size g k l u a t e le same = omega arith
 
 -- chunks were decoded into what was lent
 pub long_read : {f c n m : ℕ} {start old new : Option (List ℕ)} {given : List ℕ} {p : Pieces} {out : List ℕ} {table : List ℕ} {last : ℕ}
-    (now rest : List ℕ) (at : ℕ) → IsChannels c → GivesPieces f c n start old given p → p.from ≡ p.to → (l : Lent f c n m start old given p out)
+    (now rest : List ℕ) (at : ℕ) → IsChannels c → GivesPieces f c n start old given p → KeepsNothing p → (l : Lent f c n m start old given p out 0)
     → DecoderBetween f c l.gone m (Consumes start new) (filling table last now at) → at < length now → length now ≤ p.undecoded
-    → GivesPieces f c n start new (given ++ take at (now ++ rest)) (record { table = table; last = last; bytes = p.bytes; from = p.from; to = p.to; undecoded = p.undecoded - at })
+    → GivesPieces f c n start new (given ++ take at (now ++ rest)) (record { table = table; last = last; bytes = p.bytes; from = p.from; to = p.to; run = p.run; undecoded = p.undecoded - at })
 long_read {f} {c} {n} {m} {start} {old} {new} {given} {p} {out} {table} {last} now rest at is h same l after inside fits =
     let (all, stands, e) = closes given now at is after inside l.so_far in
     let front : take at (now ++ rest) ≡ take at now = take-append-le at now rest (omega (arith, inside)) in
-    let then : Pieces = record { table = table; last = last; bytes = p.bytes; from = p.from; to = p.to; undecoded = p.undecoded - at } in
+    let then : Pieces = record { table = table; last = last; bytes = p.bytes; from = p.from; to = p.to; run = p.run; undecoded = p.undecoded - at } in
     let more = given ++ take at (now ++ rest) in
     let size : length more ≡ length given + at =
     length-append given (take at (now ++ rest)) ∙ ap (λ k. length given + k) (ap length front ∙ length-take-le at now (omega (arith, inside))) in
     record {
       within = h.within;
       size = ap (λ k. k + (p.to - p.from + (p.undecoded - at))) size ∙ moved_size (length given) at (p.to - p.from) p.undecoded at (c * n) h.size (omega (arith, inside, fits)) refl;
-      goes_on = λ some. (all, stands, none_kept then more same ∙ ap (λ z. given ++ z) front ∙ e);
+      goes_on = λ some. (all, subst (DecoderAfter (Consumes start new) table last) (sym (no_copies c p.run last all is same.1)) stands, none_kept then more same.0 ∙ ap (λ z. given ++ z) front ∙ e);
+      behind = λ some. omega (arith, some, same);
       ends = λ none. absurd (omega (arith, none, inside, fits));
     }
 
--- a piece of what was lent was taken, and more is kept
-pub piece_read : {f c n m : ℕ} {start old new : Option (List ℕ)} {given : List ℕ} {p : Pieces} {out : List ℕ} {table : List ℕ} {last : ℕ}
-    (now rest bytes : List ℕ) (at from to : ℕ) → GivesPieces f c n start old given p → p.from ≡ p.to → (l : Lent f c n m start old given p out)
-    → TakesPiece f c l.gone (Consumes start new) table last (take at now ++ take (to - from) (drop from bytes)) → at ≤ length now → from ≤ to → to ≤ length bytes
-    → at + (to - from) < p.undecoded
-    → GivesPieces f c n start new (given ++ take at (now ++ rest)) (record { table = table; last = last; bytes = bytes; from = from; to = to; undecoded = p.undecoded - (at + (to - from)) })
-piece_read {f} {c} {n} {m} {start} {old} {new} {given} {p} {out} {table} {last} now rest bytes at from to h same l t inside forth within fits =
+-- no more than the output's bytes are lent
+pub placed_most : (c : ℕ) (before out : List ℕ) → IsChannels c → length (take (length before / c * c) out) ≤ length before
+placed_most c before out is =
+    omega (arith, length-take (length before / c * c) out, by_channels (λ d. length before / d * d ≤ length before) is (omega arith) (omega arith))
+
+-- a piece of what was lent was taken
+pub piece_read : {f c n m : ℕ} {start old new : Option (List ℕ)} {given : List ℕ} {p : Pieces} {out : List ℕ} {table : List ℕ}
+    (now rest : List ℕ) (placed : InPlace) → IsChannels c → GivesPieces f c n start old given p → p.from ≡ p.to → (l : Lent f c n m start old given p out p.run)
+    → TakesPiece f c l.gone (Consumes start new) table now placed → IsInPlace c (length now) placed → length now + 256 ≤ p.undecoded
+    → GivesPieces f c n start new (given ++ take placed.at (now ++ rest))
+    (record { table = table; last = placed.last; bytes = p.bytes; from = p.from; to = p.to; run = placed.run; undecoded = p.undecoded - placed.at })
+piece_read {f} {c} {n} {m} {start} {old} {new} {given} {p} {out} {table} now rest placed is h same l t sizes fits =
+    let at = placed.at in
+    let inside = sizes.within in
     let front : take at (now ++ rest) ≡ take at now = take-append-le at now rest inside in
-    let more = take (to - from) (drop from bytes) in
-    let size : length (given ++ take at (now ++ rest)) ≡ length given + at =
-    length-append given (take at (now ++ rest)) ∙ ap (λ k. length given + k) (ap length front ∙ length-take-le at now inside) in
+    let then : Pieces = record { table = table; last = placed.last; bytes = p.bytes; from = p.from; to = p.to; run = placed.run; undecoded = p.undecoded - at } in
+    let more = given ++ take at (now ++ rest) in
+    let size : length more ≡ length given + at = length-append given (take at (now ++ rest)) ∙ ap (λ k. length given + k) (ap length front ∙ length-take-le at now inside) in
     record {
-      within = (forth, within);
-      size = ap (λ k. k + (to - from + (p.undecoded - (at + (to - from))))) size ∙ kept_size (length given) (p.to - p.from) p.undecoded at (to - from) (c * n) (omega (arith, same)) h.size fits;
-      goes_on = λ some. (
-        t.all,
-        t.after,
-        append_assoc given (take at (now ++ rest)) more ∙ ap (λ z. given ++ (z ++ more)) front ∙ ap (λ z. z ++ (take at now ++ more)) l.so_far ∙ t.bytes_are,
-      );
-      ends = λ none. absurd (omega (arith, none, fits));
+      within = h.within;
+      size = ap (λ k. k + (p.to - p.from + (p.undecoded - at))) size ∙ moved_size (length given) at (p.to - p.from) p.undecoded at (c * n) h.size (omega (arith, inside, fits)) refl;
+      goes_on = λ some. (t.all, t.after, none_kept then more same ∙ ap (λ z. given ++ z) front ∙ ap (λ z. z ++ take at now) l.so_far ∙ t.bytes_are);
+      behind = λ some. by_channels (λ d. placed.run ≤ d * 62 → placed.run < p.undecoded - at) is (λ a. omega (arith, a, inside, fits)) (λ a. omega (arith, a, inside, fits)) sizes.run_short;
+      ends = λ none. absurd (omega (arith, none, inside, fits));
     }
-  where
-    kept_size : (g l u a k t : ℕ) → l ≡ 0 → g + (l + u) ≡ t → a + k < u → g + a + (k + (u - (a + k))) ≡ t
-    kept_size g l u a k t none e le = omega arith
 
 -- chunks were decoded into the front of what is kept
 pub kept_read : {f c n m : ℕ} {start old new : Option (List ℕ)} {given : List ℕ} {p : Pieces} {out : List ℕ} {table : List ℕ} {last : ℕ}
-    (now rest : List ℕ) (at : ℕ) → IsChannels c → GivesPieces f c n start old given p → p.from ≡ p.to → (l : Lent f c n m start old given p out)
+    (now rest : List ℕ) (at : ℕ) → IsChannels c → GivesPieces f c n start old given p → KeepsNothing p → (l : Lent f c n m start old given p out 0)
     → DecoderBetween f c l.gone m (Consumes start new) (filling table last now at) → at < length now → length now < p.undecoded
-    → GivesPieces f c n start new given (record { table = table; last = last; bytes = now ++ rest; from = 0; to = at; undecoded = p.undecoded - at })
+    → GivesPieces f c n start new given (record { table = table; last = last; bytes = now ++ rest; from = 0; to = at; run = p.run; undecoded = p.undecoded - at })
 kept_read {f} {c} {n} {m} {start} {old} {new} {given} {p} {out} {table} {last} now rest at is h same l after inside fits =
     let (all, stands, e) = closes given now at is after inside l.so_far in
     record {
       within = (omega arith, omega (arith, inside, length-append now rest));
       size = kept_size (length given) (p.to - p.from) p.undecoded at (c * n) (omega (arith, same)) h.size (omega (arith, inside, fits));
-      goes_on = λ some. (all, stands, ap (λ k. given ++ take k (now ++ rest)) (none_off at) ∙ ap (λ z. given ++ z) (take-append-le at now rest (omega (arith, inside))) ∙ e);
+      goes_on = λ some. (all, subst (DecoderAfter (Consumes start new) table last) (sym (no_copies c p.run last all is same.1)) stands, ap (λ k. given ++ take k (now ++ rest)) (none_off at) ∙ ap (λ z. given ++ z) (take-append-le at now rest (omega (arith, inside))) ∙ e);
+      behind = λ some. omega (arith, some, same);
       ends = λ none. absurd (omega (arith, none, inside, fits));
     }
-  where
-    kept_size : (g l u a t : ℕ) → l ≡ 0 → g + (l + u) ≡ t → a ≤ u → g + (a - 0 + (u - a)) ≡ t
-    kept_size g l u a t none e le = omega arith
 
 -- the rest of the image are the pixels that are missing
 pub rest_count : {f c n m : ℕ} {start old : Option (List ℕ)} {given : List ℕ} {p : Pieces} {out : List ℕ} → IsChannels c → GivesPieces f c n start old given p
-    → p.from ≡ p.to → (l : Lent f c n m start old given p out) → p.undecoded ≡ c * m → length l.gone + m ≡ n
+    → KeepsNothing p → (l : Lent f c n m start old given p out 0) → p.undecoded ≡ c * m → length l.gone + m ≡ n
 rest_count {f} {c} {n} {m} {start} {old} {given} {p} is h same l all =
     gone_count f c n m l.gone given p.undecoded is l.so_far (only (length given) (p.to - p.from) p.undecoded (c * n) (omega (arith, same)) h.size) all
   where
@@ -233,10 +345,10 @@ rest_count {f} {c} {n} {m} {start} {old} {given} {p} is h same l all =
 
 -- the rest of the image was decoded and is kept, and the end marker was taken
 pub rest_read : {f c n m : ℕ} {start old new : Option (List ℕ)} {given : List ℕ} {p : Pieces} {out : List ℕ} {table : List ℕ} {last : ℕ}
-    (now : List ℕ) → IsChannels c → GivesPieces f c n start old given p → p.from ≡ p.to → (l : Lent f c n m start old given p out)
+    (now : List ℕ) → IsChannels c → GivesPieces f c n start old given p → KeepsNothing p → (l : Lent f c n m start old given p out 0)
     → ReadsImage f c (length l.gone + m) start new (output f c (reverse l.gone) ++ take p.undecoded now)
     → p.undecoded ≤ length now → p.undecoded ≡ c * m
-    → GivesPieces f c n start new given (record { table = table; last = last; bytes = now; from = 0; to = p.undecoded; undecoded = 0 })
+    → GivesPieces f c n start new given (record { table = table; last = last; bytes = now; from = 0; to = p.undecoded; run = p.run; undecoded = 0 })
 rest_read {f} {c} {n} {m} {start} {old} {new} {given} {p} {out} {table} {last} now is h same l read fits all =
     let none : p.to - p.from ≡ 0 = omega (arith, same) in
     let count : length l.gone + m ≡ n = rest_count is h same l all in
@@ -244,6 +356,7 @@ rest_read {f} {c} {n} {m} {start} {old} {new} {given} {p} {out} {table} {last} n
       within = (omega arith, fits);
       size = rest_size (length given) (p.to - p.from) p.undecoded (c * n) none h.size;
       goes_on = λ some. absurd (omega arith);
+      behind = λ some. absurd (omega arith);
       ends = λ _. subst (ReadsImage f c n start new) (ap (λ z. z ++ take p.undecoded now) (sym l.so_far) ∙ ap (λ k. given ++ take k now) (sym (none_off p.undecoded)))
           (subst (λ k. ReadsImage f c k start new (output f c (reverse l.gone) ++ take p.undecoded now)) count read);
     }
@@ -278,11 +391,46 @@ gives {f} {c} {n} {start} {now} {given} p new k is few h =
       within = (omega (arith, few, h.within), h.within.1);
       size = ap (λ z. z + (m + p.undecoded)) (length-append given (take k (kept p)) ∙ ap (λ z. length given + z) long) ∙ given_size (length given) k (p.to - p.from) m p.undecoded (c * n) parts h.size;
       goes_on = λ some. let (gone, stands, e) = h.goes_on some in (gone, stands, all ∙ e);
+      behind = h.behind;
       ends = λ none. subst (ReadsImage f c n start now) (sym all) (h.ends none);
     })
   where
     given_size : (g k l m u t : ℕ) → l ≡ k + m → g + (l + u) ≡ t → (g + k) + (m + u) ≡ t
     given_size g k l m u t parts e = omega arith
+
+-- how many bytes are kept
+pub kept_long : (p : Pieces) → KeepsWithin p → length (kept p) ≡ p.to - p.from
+kept_long p within = length-take-le (p.to - p.from) (drop p.from p.bytes) (omega (arith, within, length-drop p.from p.bytes))
+
+-- between two pieces, of an image that isn't decoded whole: the pixels of its chunks so far, and others
+-- are missing
+pub record GoesOn (f c n : ℕ) (Taken : List ℕ → Type 0) (table : List ℕ) (last : ℕ) (given : List ℕ) : Type 0 where
+  pub all : Past
+  pub stands : DecoderAfter Taken table last all
+  pub ahead : List ℕ
+  pub bytes_are : given ++ ahead ≡ output f c (reverse all)
+  pub fewer : length all < n
+
+pub still_goes : {f c n : ℕ} {start now : Option (List ℕ)} {given : List ℕ} (p : Pieces) → IsChannels c → GivesPieces f c n start now given p → 0 < p.undecoded
+    → GoesOn f c n (Consumes start now) p.table p.last given
+still_goes {f} {c} {n} {start} {now} {given} p is h some =
+    let (gone, stands, e) = h.goes_on some in
+    let k = p.run / c in
+    let px = pixel_of_lanes p.last in
+    let one = output f c (replicate k px) in
+    let bytes : given ++ (kept p ++ one) ≡ output f c (reverse (replicate k px ++ gone)) =
+    sym (append_assoc given (kept p) one) ∙ ap (λ z. z ++ one) e ∙ sym (output_copies f c k px gone) in
+    let size : length given + length (kept p) ≡ c * length gone =
+    sym (length-append given (kept p)) ∙ ap length e ∙ length-output f c (reverse gone) is ∙ ap (λ k. c * k) (length-reverse gone) in
+    let count : length (replicate k px ++ gone) ≡ k + length gone = length-append (replicate k px) gone ∙ ap (λ m. m + length gone) (length-replicate k px) in
+    record {
+      all = replicate k px ++ gone;
+      stands = stands;
+      ahead = kept p ++ one;
+      bytes_are = bytes;
+      fewer = by_channels (λ d. length given + length (kept p) ≡ d * length gone → length given + (p.to - p.from + p.undecoded) ≡ d * n → k ≡ p.run / d → length (replicate k px ++ gone) < n) is
+          (λ a b e. omega (arith, count, kept_long p h.within, h.behind some)) (λ a b e. omega (arith, count, kept_long p h.within, h.behind some)) size h.size refl;
+    }
 
 -- a piece of two parts
 pub joined_two : (d : ℕ) (out long front rest : List ℕ) → out ≡ front ++ rest → length front ≡ d → length long ≡ length (mid_of d (length out - d) out)
@@ -313,9 +461,11 @@ joined d m out long short front rest is size some long_is short_is =
     ∙ take-put_mid (d + m) j two short (d + m + length short) refl within
     ∙ ap (λ z. z ++ short) (take-read d m (length out - d) out long room some ∙ ap (λ z. take d z ++ take m long) is ∙ ap (λ z. z ++ take m long) (take_at front rest d size))
 
--- how many bytes are kept
-pub kept_long : (p : Pieces) → KeepsWithin p → length (kept p) ≡ p.to - p.from
-kept_long p within = length-take-le (p.to - p.from) (drop p.from p.bytes) (omega (arith, within, length-drop p.from p.bytes))
+-- two parts of a piece that were read
+pub read_two : (given front more : List ℕ) (i j : ℕ) → i ≤ length front → j ≤ length more
+    → (given ++ take i front) ++ take j more ≡ given ++ take (i + j) (put_mid i (length front - i) front more)
+read_two given front more i j within some =
+    append_assoc given (take i front) (take j more) ∙ ap (λ z. given ++ z) (sym (take-read i j (length front - i) front more within some))
 
 -- an output of so many whole pixels can be filled from its first byte
 pub times_fillable : {c : ℕ} {out : List ℕ} (q : ℕ) → IsChannels c → length out ≡ c * q → IsFillable c (upto out 0)

@@ -69,6 +69,7 @@ three_of_four h = record {
   within = h.within;
   size = h.size;
   goes_on = λ some. let (gone, stands, e) = h.goes_on some in (gone, stands, e);
+  behind = h.behind;
   ends = λ none. let r = h.ends none in record { cs = r.cs; chunks = r.chunks; reaches = r.reaches; taken = r.taken; out_is = r.out_is };
 }
 
@@ -78,6 +79,7 @@ four_as_three h = record {
   within = h.within;
   size = h.size;
   goes_on = λ some. let (gone, stands, e) = h.goes_on some in (gone, stands, e);
+  behind = h.behind;
   ends = λ none. let r = h.ends none in record { cs = r.cs; chunks = r.chunks; reaches = r.reaches; taken = r.taken; out_is = r.out_is };
 }
 

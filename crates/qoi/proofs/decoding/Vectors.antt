@@ -135,9 +135,28 @@ four_written p at k count is within le w1 w2 w3 w4 =
     let three = written_copies p at (2 * k) k (3 * k) is (omega arith) two w3 in
     written_fewer p at (4 * k) count is le within (written_copies p at (3 * k) k (4 * k) is (omega arith) three w4)
 
+-- k copies were written twice; so any number up to both
+pub two_written : {f c : ℕ} {o0 o1 o2 : List ℕ} (p : RgbaPixel) (at k count : ℕ) → IsChannels c → at ≤ length o0 → count ≤ 2 * k
+    → HasWritten f c (upto o0 at) (upto o1 (at + c * k)) (replicate k p)
+    → HasWritten f c (upto o1 (at + c * k)) (upto o2 (at + c * k + c * k)) (replicate k p)
+    → HasWritten f c (upto o0 at) (upto o2 (at + c * count)) (replicate count p)
+two_written p at k count is within le w1 w2 = written_fewer p at (2 * k) count is le within (written_copies p at k k (2 * k) is (omega arith) w1 w2)
+
+-- k copies were written from the front, and k up to the end
+pub ends_written : {f c : ℕ} {o0 o1 o2 : List ℕ} (p : RgbaPixel) (at k count : ℕ) → IsChannels c → at ≤ length o0 → k ≤ count → count ≤ 2 * k
+    → HasWritten f c (upto o0 at) (upto o1 (at + c * k)) (replicate k p)
+    → HasWritten f c (upto o1 (at + c * (count - k))) (upto o2 (at + c * (count - k) + c * k)) (replicate k p)
+    → HasWritten f c (upto o0 at) (upto o2 (at + c * count)) (replicate count p)
+ends_written p at k count is within most le w1 w2 =
+    written_copies p at (count - k) k count is (omega (arith, most)) (written_fewer p at k (count - k) is (omega (arith, le)) within w1) w2
+
 -- sixteen vectors have room for the longest run
 pub vectors_enough : (c count : ℕ) → IsChannels c → count ≤ 62 → count ≤ 4 * (4 * (16 / c))
 vectors_enough c count is = by_channels (λ d. count ≤ 62 → count ≤ 4 * (4 * (16 / d))) is (λ le. omega arith) (λ le. omega arith)
+
+-- eight vectors from both ends have room for the longest run
+pub most_by_eight : (c count : ℕ) → IsChannels c → count ≤ 62 → count ≤ 2 * (8 * (16 / c))
+most_by_eight c count is = by_channels (λ d. count ≤ 62 → count ≤ 2 * (8 * (16 / d))) is (λ le. omega arith) (λ le. omega arith)
 
 -- the copies of some vectors fit, if the vectors do
 pub vectors_fit : (c k at done more size : ℕ) → IsChannels c → more ≡ k * (16 / c) → at + c * done ≤ size → 16 * k ≤ size - (at + c * done) → at + c * (done + more) ≤ size

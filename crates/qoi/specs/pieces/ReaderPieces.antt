@@ -1,9 +1,9 @@
 -- What stands between two pieces of an image.
-use Rattle.std.specs.Prelude.{◌≡◌, ℕ, ◌+◌, ◌-◌, ◌*◌, ◌%◌, ◌<◌, ◌≤◌, List, [], ◌++◌, length, take, drop, reverse, Option}
+use Rattle.std.specs.Prelude.{◌≡◌, ℕ, ◌+◌, ◌-◌, ◌*◌, ◌%◌, ◌<◌, ◌≤◌, ◌/◌, List, [], ◌++◌, length, take, drop, reverse, replicate, Option}
 use Rattle.std.specs.Io.KnownBytes.{Consumes}
 use Rattle.qoi.specs.declared.chunk.Chunk.{Chunk}
 use Rattle.qoi.specs.declared.decode.pixel_reader.pieces.Pieces.{Pieces}
-use Rattle.qoi.specs.Qoi.{Past, previous, AreChunks, chunk_bytes, then_chunks}
+use Rattle.qoi.specs.Qoi.{Past, run_max, previous, AreChunks, chunk_bytes, then_chunks}
 use Rattle.qoi.specs.Raw.{output}
 use Rattle.qoi.specs.Decoding.{ReadsImage}
 use Rattle.qoi.specs.inner.Hashed.{pixel_of_lanes, HoldsSeen}
@@ -20,9 +20,21 @@ bytes_left p = (p.to - p.from) + p.undecoded
 abbrev pub KeepsWithin : Pieces → Type 0
 KeepsWithin p = (p.from ≤ p.to) × (p.to ≤ length p.bytes)
 
--- and those that aren't decoded are whole pixels
+-- nothing is kept, and nothing of a run is left
+abbrev pub KeepsNothing : Pieces → Type 0
+KeepsNothing p = (p.from ≡ p.to) × (p.run ≡ 0)
+
+-- those that aren't stored are whole pixels, and others follow those of a run
+abbrev pub AreWhole : ℕ → Pieces → Type 0
+AreWhole channels p = (p.undecoded % channels ≡ 0) × (p.run % channels ≡ 0) × (p.run ≤ channels * run_max) × (0 < p.run → p.run < p.undecoded)
+
+-- both
 abbrev pub KeepsPixels : ℕ → Pieces → Type 0
-KeepsPixels channels p = KeepsWithin p × (p.undecoded % channels ≡ 0)
+KeepsPixels channels p = KeepsWithin p × AreWhole channels p
+
+-- as many copies of a pixel as have so many bytes
+abbrev pub copies : ℕ → ℕ → ℕ → Past
+copies channels size last = replicate (size / channels) (pixel_of_lanes last)
 
 -- Chunks of these pixels were taken, and table and last pixel are theirs. `Taken` says which bytes
 -- were taken.
@@ -39,8 +51,10 @@ pub record DecoderAfter (Taken : List ℕ → Type 0) (table : List ℕ) (last :
 pub record GivesPieces (file_channels channels n : ℕ) (start now : Option (List ℕ)) (given : List ℕ) (p : Pieces) : Type 0 where
   pub within : KeepsWithin p
   pub size : length given + bytes_left p ≡ channels * n
-  -- pixels are missing, and all bytes of those so far were given or are kept
-  pub goes_on : 0 < p.undecoded → (gone : Past) × DecoderAfter (Consumes start now) p.table p.last gone
+  -- pixels are missing, and all bytes of those so far were given or are kept, but for those of a run
+  pub goes_on : 0 < p.undecoded → (gone : Past) × DecoderAfter (Consumes start now) p.table p.last (copies channels p.run p.last ++ gone)
       × (given ++ kept p ≡ output file_channels channels (reverse gone))
+  -- others follow those of a run
+  pub behind : 0 < p.undecoded → p.run < p.undecoded
   -- or the image and the end marker were read
   pub ends : p.undecoded ≡ 0 → ReadsImage file_channels channels n start now (given ++ kept p)

@@ -53,28 +53,27 @@ fn chunks_in_buffer<R: BufRead, const N: usize, const F: usize>(
     })
 }
 
-// Decodes chunks from what the reader's buffer shows into the front of a piece of an image, and
-// takes just those; a run that ends at its end or past it is stored whole in `kept`.
+// Decodes chunks from what the reader's buffer shows into a piece of an image, after the pixel `last`
+// and the first `at` bytes of `out`, and takes just those; a run may go on past its end.
 #[inline(always)]
 fn place_from_buffer<R: BufRead, const N: usize, const F: usize>(
     reader: &mut R,
     table: &mut TermTable,
     last: Hashed,
     out: &mut [u8],
-    kept: &mut [u8],
+    at: usize,
 ) -> io::Result<InPlace>
-    requires fillable { IsFillable N (upto out.old 0) }
-    requires some { 0 < length out.old }
-    requires room { (RUN_ROOM < length kept.old) × (length kept.old % N ≡ 0) }
+    requires fillable { IsFillable N (upto out.old at) }
+    requires below { at < length out.old }
     ensures takes { IfOk result (λ now. TakesInPlace F N
         (R.remaining reader.old) (R.remaining reader.new)
-        (filling table.old last out.old 0) table.new now out.new kept.new) }
+        (filling table.old last out.old at) table.new out.new now) }
     ensures sizes { IfOk result (IsInPlace N (length out.new)) }
     ensures failed { OnErr result
         (Consumes (R.remaining reader.old) (R.remaining reader.new) []) }
 {
     let bytes = reader.fill_buf()?;
-    let placed = Progress::chunks_in_place::<N, F>(table, last, bytes, out, kept);
+    let placed = Progress::chunks_in_place::<N, F>(table, last, bytes, out, at);
     reader.consume(placed.taken);
     Ok(placed)
 }
@@ -147,9 +146,9 @@ impl<R: BufRead, const N: usize, const F: usize> Chunks<N, F> for Buffered<R> {
         table: &mut TermTable,
         last: Hashed,
         out: &mut [u8],
-        kept: &mut [u8],
+        at: usize,
     ) -> Result<InPlace> {
-        let placed = place_from_buffer::<R, N, F>(&mut self.0, table, last, out, kept)?;
+        let placed = place_from_buffer::<R, N, F>(&mut self.0, table, last, out, at)?;
         Ok(placed)
     }
 

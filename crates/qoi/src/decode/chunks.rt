@@ -66,30 +66,25 @@ pub(super) trait Chunks<const N: usize, const F: usize>: Sized {
         ensures refused { IfErr result (RefusesFilling F N in_memory
             (ahead self.old) (ahead self.new) (filling table.old last out.old at)) };
 
-    /// Decodes chunks that stand in memory into the front of a piece of an image, after the pixel
-    /// `last`, and goes on near its end: a run that ends there or past it is stored whole in
-    /// `kept`. Without this method, and on a stream, none are decoded.
+    /// Decodes chunks that stand in memory into a piece of an image, after the pixel `last` and the
+    /// first `at` bytes of `out`, and goes on near its end: a run that goes on past it is taken.
+    /// Without this method, and on a stream, none are decoded.
     fn chunks_in_place(
         &mut self,
         table: &mut TermTable,
         last: Hashed,
         out: &mut [u8],
-        kept: &mut [u8],
+        at: usize,
     ) -> Result<InPlace>
-        requires fillable { IsFillable N (upto out.old 0) }
-        requires some { 0 < length out.old }
-        requires room { (RUN_ROOM < length kept.old) × (length kept.old % N ≡ 0) }
+        requires fillable { IsFillable N (upto out.old at) }
+        requires below { at < length out.old }
         ensures takes { IfOk result (λ now. TakesInPlace F N (ahead self.old) (ahead self.new)
-            (filling table.old last out.old 0) table.new now out.new kept.new) }
+            (filling table.old last out.old at) table.new out.new now) }
         ensures sizes { IfOk result (IsInPlace N (length out.new)) }
         ensures refused { IfErr result (RefusesFilling F N in_memory
-            (ahead self.old) (ahead self.new) (filling table.old last out.old 0)) }
+            (ahead self.old) (ahead self.new) (filling table.old last out.old at)) }
     {
-        Ok(InPlace::after(Decoded {
-            taken: 0,
-            last,
-            at: 0,
-        }))
+        Ok(InPlace::after(Decoded { taken: 0, last, at }))
     }
 
     /// Takes the end marker, or refuses the bytes ahead.

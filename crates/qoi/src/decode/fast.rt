@@ -4,7 +4,7 @@
 ghost use Rattle.std.specs.Prelude.{◌≡◌, ◌↔◌, IsTrue, ◌+◌, ◌-◌, ◌*◌, ◌/◌, ◌%◌, ◌<◌, ◌≤◌, ◌^◌, ℕ, List, ◌++◌, length, take, drop, replicate};
 ghost use Rattle.qoi.specs.Qoi.{Past, run_tag, rgb_tag};
 ghost use Rattle.qoi.specs.Raw.{IsChannels};
-ghost use Rattle.qoi.specs.declared.decode.fast.TheConstants.{INPUT_ROOM};
+ghost use Rattle.qoi.specs.declared.decode.fast.TheConstants.{INPUT_ROOM, OUTPUT_ROOM};
 ghost use Rattle.qoi.specs.declared.decode.output.TheConstants.{RUN_ROOM};
 ghost use Rattle.qoi.specs.inner.Hashed.{pixel_of_lanes};
 ghost use Rattle.qoi.specs.pieces.InPlace.{TakesPiece, IsInPlace};
@@ -13,7 +13,9 @@ use crate::consts::{QOI_OP_RGB, QOI_OP_RGBA, QOI_OP_RUN};
 use crate::decode::deltas::{advance, is_luma};
 use crate::decode::hashed::Hashed;
 use crate::decode::one_chunk::Decoded;
-use crate::decode::output::{RUN_ROOM, VECTOR, fill_rest, store_late_run, store_run, store_vector};
+use crate::decode::output::{
+    RUN_ROOM, VECTOR, store_exactly, store_late_run, store_run, store_vector,
+};
 use crate::decode::table::TermTable;
 use crate::utils::pick;
 
@@ -39,20 +41,19 @@ pub(super) struct Progress {
 }
 
 /// What a piece leaves that was decoded in place: the last pixel, how many bytes were taken, where
-/// the output stopped, and where the bytes lie that are kept, if any.
+/// the output stopped, and how many bytes of a run that goes on past its end are still to be given.
 #[derive(Clone, Copy)]
 pub(super) struct InPlace {
     pub(super) last: Hashed,
     pub(super) taken: usize,
     pub(super) at: usize,
-    pub(super) from: usize,
-    pub(super) to: usize,
+    pub(super) run: usize,
 }
 
 impl InPlace {
     ghost use Rattle.qoi.specs.pieces.InPlace.{stopped};
 
-    /// After these chunks, with nothing kept.
+    /// After these chunks, with nothing of a run left.
     #[inline(always)]
     pub(super) fn after(now: Decoded) -> InPlace
         ensures { result ≡ stopped now }
@@ -61,8 +62,7 @@ impl InPlace {
             last: now.last,
             taken: now.taken,
             at: now.at,
-            from: 0,
-            to: 0,
+            run: 0,
         }
     }
 }
@@ -75,6 +75,16 @@ fn is_short<const N: usize>(b1: u8) -> bool
     ensures { IsTrue result ↔ (b1 ≤ run_tag - 1 + 16 / N) }
 {
     b1 <= (QOI_OP_RUN - 1) + (16 / N) as u8
+}
+
+// Whether a chunk with this first byte is a run with at least so many bytes of pixels.
+#[inline(always)]
+fn is_run_to_end<const N: usize>(b1: u8, rest: usize) -> bool
+    requires { IsChannels N }
+    ensures { IsTrue result
+        → (run_tag ≤ b1) × (b1 < rgb_tag) × (rest ≤ N * (b1 - (run_tag - 1))) }
+{
+    QOI_OP_RUN <= b1 && b1 < QOI_OP_RGB && rest <= advance::<N>(b1 as usize)
 }
 
 impl Progress {
@@ -338,85 +348,94 @@ impl Progress {
         Progress::chunks_ahead::<N, F, 8>(table, none, bytes, out)
     }
 
-    // Takes a run that goes on to the end of the output or past it, if one comes next: fills the
-    // output with it, and stores it whole in `kept`.
+    // Decodes chunks from the front of the bytes, and near the end of the output one by one, unless
+    // a run to its end or past it comes next.
+    #[inline(always)]
+    fn chunks_to_end<const N: usize, const F: usize>(
+        table: &mut TermTable,
+        from: Decoded,
+        bytes: &[u8],
+        out: &mut [u8],
+    ) -> Decoded
+        requires input { INPUT_ROOM ≤ length bytes.now }
+        requires room { OUTPUT_ROOM ≤ length out.old }
+        requires within { from.taken < length bytes.now }
+        requires fillable { IsFillable N (upto out.old from.at) }
+        requires below { from.at < length out.old }
+        ensures between { TakesOn F N bytes.now from.taken result.taken
+            (filling table.old from.last out.old from.at)
+            (filling table.new result.last out.new result.at) }
+        ensures within { result.taken < length bytes.now }
+        ensures below { result.at < length out.new }
+        ensures fillable { IsFillable N (upto out.new result.at) }
+    {
+        let front = Progress::chunks_ahead::<N, F, 8>(table, from, bytes, out);
+        if is_run_to_end::<N>(bytes[front.taken], out.len() - front.at) {
+            return front;
+        }
+        Progress::chunks_ahead::<N, F, 1>(table, front, bytes, out)
+    }
+
+    // Takes a run that goes on to the end of the output or past it, if one comes next, and fills the
+    // output with it.
     #[inline(always)]
     fn last_run<const N: usize, const F: usize>(
         table: &mut TermTable,
         from: Decoded,
         bytes: &[u8],
         out: &mut [u8],
-        kept: &mut [u8],
     ) -> InPlace
-        requires ahead { from.taken + 2 ≤ length bytes.now }
+        requires ahead { from.taken < length bytes.now }
         requires fillable { IsFillable N (upto out.old from.at) }
         requires below { from.at < length out.old }
-        requires room { (RUN_ROOM < length kept.old) × (length kept.old % N ≡ 0) }
         ensures takes { (gone : Past) (n : ℕ) (before : List ℕ)
             → DecoderBetween F N gone n (IsFrontAfter before bytes.now from.taken)
             (filling table.old from.last out.old from.at)
-            → TakesPiece F N gone (IsFrontAfter before bytes.now result.taken) table.new result.last
-            (take result.at out.new ++ take (result.to - result.from) (drop result.from kept.new)) }
+            → TakesPiece F N gone (IsFrontAfter before bytes.now result.taken)
+            table.new out.new result }
         ensures sizes { IsInPlace N (length out.new) result }
         ensures within { result.taken ≤ length bytes.now }
     {
-        let next = bytes[from.taken];
-        let size = advance::<N>(next as usize);
+        let b1 = bytes[from.taken];
         let rest = out.len() - from.at;
-        if next < QOI_OP_RUN || next >= QOI_OP_RGB || size < rest {
+        if !is_run_to_end::<N>(b1, rest) {
             return InPlace::after(from);
         }
-        let run = Progress {
-            last: from.last,
-            taken: from.taken,
-            at: 0,
-            next,
-        };
-        let now = run.long_run::<N, F>(table, bytes, kept);
-        fill_rest::<N, F>(out, from.at, from.last);
+        table.put(from.last);
+        store_exactly::<N, F>(out, from.at, from.last, rest / N);
         InPlace {
-            last: now.last,
-            taken: now.taken,
+            last: from.last,
+            taken: from.taken + 1,
             at: out.len(),
-            from: rest,
-            to: size,
+            run: advance::<N>(b1 as usize) - rest,
         }
     }
 
-    /// Decodes chunks from the front of the bytes into a piece of an image, and goes on near its
-    /// end: a run that ends there or past it is stored whole in `kept`.
+    /// Decodes chunks from the front of the bytes into a piece of an image, after the pixel `last`
+    /// and the first `at` bytes, and goes on near its end: a run that goes on past it is taken.
     #[inline(always)]
     pub(super) fn chunks_in_place<const N: usize, const F: usize>(
         table: &mut TermTable,
         last: Hashed,
         bytes: &[u8],
         out: &mut [u8],
-        kept: &mut [u8],
+        at: usize,
     ) -> InPlace
-        requires fillable { IsFillable N (upto out.old 0) }
-        requires some { 0 < length out.old }
-        requires room { (RUN_ROOM < length kept.old) × (length kept.old % N ≡ 0) }
+        requires fillable { IsFillable N (upto out.old at) }
+        requires below { at < length out.old }
         ensures takes { (gone : Past) (n : ℕ) (before : List ℕ)
             → DecoderBetween F N gone n (IsFrontAfter before bytes.now 0)
-            (filling table.old last out.old 0)
-            → TakesPiece F N gone (IsFrontAfter before bytes.now result.taken) table.new result.last
-            (take result.at out.new ++ take (result.to - result.from) (drop result.from kept.new)) }
+            (filling table.old last out.old at)
+            → TakesPiece F N gone (IsFrontAfter before bytes.now result.taken)
+            table.new out.new result }
         ensures sizes { IsInPlace N (length out.new) result }
         ensures within { result.taken ≤ length bytes.now }
     {
-        let none = Decoded {
-            taken: 0,
-            last,
-            at: 0,
-        };
+        let none = Decoded { taken: 0, last, at };
         if bytes.len() < INPUT_ROOM || out.len() < OUTPUT_ROOM {
             return InPlace::after(none);
         }
-        let front = Progress::chunks_ahead::<N, F, 8>(table, none, bytes, out);
-        let near = Progress::chunks_ahead::<N, F, 1>(table, front, bytes, out);
-        if bytes.len() - near.taken < 2 {
-            return InPlace::after(near);
-        }
-        Progress::last_run::<N, F>(table, near, bytes, out, kept)
+        let near = Progress::chunks_to_end::<N, F>(table, none, bytes, out);
+        Progress::last_run::<N, F>(table, near, bytes, out)
     }
 }

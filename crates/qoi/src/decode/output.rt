@@ -45,19 +45,40 @@ pub(super) fn store_vector<const N: usize, const F: usize>(out: &mut [u8], at: u
         .copy_to_slice(&mut out[at..at + VECTOR]);
 }
 
-// Stores four vectors, each at the end of the whole pixels of the one before.
+// Stores two vectors, the second at the end of the whole pixels of the first.
+#[inline(always)]
+fn store_two_vectors<const N: usize, const F: usize>(out: &mut [u8], at: usize, px: Hashed)
+    requires channels { IsChannels N }
+    requires room { at + N * (2 * (VECTOR / N)) + VECTOR % N ≤ length out.old }
+    ensures { (count : ℕ) → count ≤ 2 * (VECTOR / N) → HasWritten F N (upto out.old at)
+        (upto out.new (at + N * count)) (replicate count (pixel_of_lanes px)) }
+{
+    store_vector::<N, F>(out, at, px);
+    store_vector::<N, F>(out, at + N * (VECTOR / N), px);
+}
+
+// The same with four.
 #[inline(always)]
 fn store_four_vectors<const N: usize, const F: usize>(out: &mut [u8], at: usize, px: Hashed)
     requires channels { IsChannels N }
-    requires room { at + 4 * VECTOR ≤ length out.old }
+    requires room { at + N * (4 * (VECTOR / N)) + VECTOR % N ≤ length out.old }
     ensures { (count : ℕ) → count ≤ 4 * (VECTOR / N) → HasWritten F N (upto out.old at)
         (upto out.new (at + N * count)) (replicate count (pixel_of_lanes px)) }
 {
-    let one = VECTOR / N;
-    store_vector::<N, F>(out, at, px);
-    store_vector::<N, F>(out, at + N * one, px);
-    store_vector::<N, F>(out, at + N * (2 * one), px);
-    store_vector::<N, F>(out, at + N * (3 * one), px);
+    store_two_vectors::<N, F>(out, at, px);
+    store_two_vectors::<N, F>(out, at + N * (2 * (VECTOR / N)), px);
+}
+
+// The same with eight.
+#[inline(always)]
+fn store_eight_vectors<const N: usize, const F: usize>(out: &mut [u8], at: usize, px: Hashed)
+    requires channels { IsChannels N }
+    requires room { at + N * (8 * (VECTOR / N)) + VECTOR % N ≤ length out.old }
+    ensures { (count : ℕ) → count ≤ 8 * (VECTOR / N) → HasWritten F N (upto out.old at)
+        (upto out.new (at + N * count)) (replicate count (pixel_of_lanes px)) }
+{
+    store_four_vectors::<N, F>(out, at, px);
+    store_four_vectors::<N, F>(out, at + N * (4 * (VECTOR / N)), px);
 }
 
 /// Stores a pixel `count` times from `at` on: by four vectors or, if those don't hold the run, by
@@ -106,8 +127,63 @@ fn store_pixels<const N: usize, const F: usize>(out: &mut [u8], at: usize, px: H
     }
 }
 
-/// Stores a run near the end of the output, where the vectors of any run may have no room. Not
-/// inlined: inside the fast loop, which seldom needs it, it makes each chunk slower.
+// Stores a pixel `count` times from `at` on, by vectors from the front and as many up to the end:
+// they meet, or overlap. In three channels a byte goes past the end.
+#[inline(always)]
+fn store_from_both_ends<const N: usize, const F: usize>(
+    out: &mut [u8],
+    at: usize,
+    px: Hashed,
+    count: usize,
+)
+    requires channels { IsChannels N }
+    requires room { at + N * count + VECTOR % N ≤ length out.old }
+    requires some { VECTOR / N ≤ count }
+    requires short { count ≤ run_max }
+    ensures { HasWritten F N (upto out.old at)
+        (upto out.new (at + N * count)) (replicate count (pixel_of_lanes px)) }
+{
+    let one = VECTOR / N;
+    if count <= 2 * one {
+        store_vector::<N, F>(out, at, px);
+        store_vector::<N, F>(out, at + N * (count - one), px);
+    } else if count <= 4 * one {
+        store_two_vectors::<N, F>(out, at, px);
+        store_two_vectors::<N, F>(out, at + N * (count - 2 * one), px);
+    } else if count <= 8 * one {
+        store_four_vectors::<N, F>(out, at, px);
+        store_four_vectors::<N, F>(out, at + N * (count - 4 * one), px);
+    } else {
+        store_eight_vectors::<N, F>(out, at, px);
+        store_eight_vectors::<N, F>(out, at + N * (count - 8 * one), px);
+    }
+}
+
+/// Stores a pixel `count` times from `at` on, and nothing past its last byte.
+#[inline(always)]
+pub(super) fn store_exactly<const N: usize, const F: usize>(
+    out: &mut [u8],
+    at: usize,
+    px: Hashed,
+    count: usize,
+)
+    requires channels { IsChannels N }
+    requires room { at + N * count ≤ length out.old }
+    requires short { count ≤ run_max }
+    ensures { HasWritten F N (upto out.old at)
+        (upto out.new (at + N * count)) (replicate count (pixel_of_lanes px)) }
+{
+    if count <= VECTOR / N {
+        store_pixels::<N, F>(out, at, px, count);
+    } else if N == 4 {
+        store_from_both_ends::<N, F>(out, at, px, count);
+    } else {
+        store_from_both_ends::<N, F>(out, at, px, count - 1);
+        store_pixel::<N, F>(out, at + N * (count - 1), px);
+    }
+}
+
+/// The same, not inlined: inside the fast loop, which seldom needs it, it makes each chunk slower.
 #[inline(never)]
 pub(super) fn store_late_run<const N: usize, const F: usize>(
     out: &mut [u8],
@@ -117,53 +193,11 @@ pub(super) fn store_late_run<const N: usize, const F: usize>(
 )
     requires channels { IsChannels N }
     requires room { at + N * count ≤ length out.old }
+    requires short { count ≤ run_max }
     ensures { HasWritten F N (upto out.old at)
         (upto out.new (at + N * count)) (replicate count (pixel_of_lanes px)) }
 {
-    store_pixels::<N, F>(out, at, px, count);
-}
-
-// Stores a pixel again and again from `at` on, while four vectors have room, and returns how often.
-#[inline(always)]
-fn fill_by_four<const N: usize, const F: usize>(out: &mut [u8], at: usize, px: Hashed) -> usize
-    requires channels { IsChannels N }
-    requires within { at ≤ length out.old }
-    ensures within { at + N * result ≤ length out.new }
-    ensures some { 0 < result → VECTOR / N ≤ result }
-    ensures written { HasWritten F N (upto out.old at)
-        (upto out.new (at + N * result)) (replicate result (pixel_of_lanes px)) }
-{
-    let four = 4 * (VECTOR / N);
-    let mut done = 0;
-    while 4 * VECTOR <= out.len() - (at + N * done) {
-        store_four_vectors::<N, F>(out, at + N * done, px);
-        done += four;
-    }
-    done
-}
-
-/// Stores a pixel again and again from `at` on, as often as the output has room for it.
-#[inline(always)]
-pub(super) fn fill_rest<const N: usize, const F: usize>(out: &mut [u8], at: usize, px: Hashed)
-    requires channels { IsChannels N }
-    requires within { at ≤ length out.old }
-    ensures { HasWritten F N (upto out.old at)
-        (upto out.new (at + N * ((length out.old - at) / N)))
-        (replicate ((length out.old - at) / N) (pixel_of_lanes px)) }
-{
-    let one = VECTOR / N;
-    let count = (out.len() - at) / N;
-    let mut done = fill_by_four::<N, F>(out, at, px);
-    while VECTOR <= out.len() - (at + N * done) {
-        store_vector::<N, F>(out, at + N * done, px);
-        done += one;
-    }
-    if N == 4 && done > 0 {
-        // This vector ends where the output does.
-        store_vector::<N, F>(out, at + N * (count - one), px);
-    } else {
-        store_pixels::<N, F>(out, at + N * done, px, count - done);
-    }
+    store_exactly::<N, F>(out, at, px, count);
 }
 
 // How many bytes of room to rely on after the first `at`: all that there are, or if `RUN_FITS` just

@@ -38,10 +38,10 @@ pub struct PixelReader<R> {
 }
 
 impl<R> Model for PixelReader<R> {
-    ghost use Rattle.std.specs.Prelude.{◌≡◌, ◌%◌, ◌≤◌, false};
+    ghost use Rattle.std.specs.Prelude.{◌≡◌, ◌≤◌, false};
     ghost use Rattle.qoi.specs.Qoi.{channels_number, IsValid};
     ghost use Rattle.qoi.specs.DecoderState.{output_byte_count};
-    ghost use Rattle.qoi.specs.pieces.ReaderPieces.{bytes_left, KeepsWithin};
+    ghost use Rattle.qoi.specs.pieces.ReaderPieces.{bytes_left, KeepsWithin, AreWhole};
     ghost use Rattle.qoi.specs.pieces.PixelReader.{PixelsState};
 
     ghost Value = { PixelsState R };
@@ -56,8 +56,7 @@ impl<R> Model for PixelReader<R> {
 
     ghost invariant = { λ p. IsValid p.decoder.header × KeepsWithin p.pieces
         × (bytes_left p.pieces ≤ output_byte_count p.decoder)
-        × (p.refused ≡ false
-        → p.pieces.undecoded % channels_number p.decoder.channels ≡ 0) };
+        × (p.refused ≡ false → AreWhole (channels_number p.decoder.channels) p.pieces) };
 }
 
 // The error of a refusal.

@@ -154,9 +154,9 @@ impl<'a, const N: usize, const F: usize> Chunks<N, F> for Bytes<'a> {
         table: &mut TermTable,
         last: Hashed,
         out: &mut [u8],
-        kept: &mut [u8],
+        at: usize,
     ) -> Result<InPlace> {
-        let placed = Progress::chunks_in_place::<N, F>(table, last, self.0, out, kept);
+        let placed = Progress::chunks_in_place::<N, F>(table, last, self.0, out, at);
         let (_, rest) = self.0.split_at(placed.taken);
         self.0 = rest;
         Ok(placed)

@@ -1,6 +1,6 @@
 //! The loops over the pieces of an image: what is decoded before a caller asks for it is kept.
 ghost use Rattle.std.specs.Io.KnownBytes.{Consumes};
-ghost use Rattle.std.specs.Prelude.{true, ◌≡◌, ℕ, ◌+◌, ◌-◌, ◌*◌, ◌%◌, ◌^◌, ◌<◌, ◌≤◌, List, [], ◌++◌, length, take, drop, reverse, min, Option, Some, IfOk, IfErr, OnOk, OnErr};
+ghost use Rattle.std.specs.Prelude.{true, ◌≡◌, ℕ, ◌+◌, ◌-◌, ◌*◌, ◌%◌, ◌^◌, ◌<◌, ◌≤◌, List, [], ◌++◌, length, take, drop, reverse, min, Option, Some, IsTrue, IfOk, IfErr, OnOk, OnErr};
 ghost use Rattle.qoi.specs.Decoding.{ReadsImage};
 ghost use Rattle.qoi.specs.Qoi.{Past};
 ghost use Rattle.qoi.specs.Raw.{IsChannels, output};
@@ -11,7 +11,7 @@ ghost use Rattle.qoi.specs.inner.Filling.{filling, DecoderBetween};
 
 use crate::decode::chunks::{Chunks, Reached};
 use crate::decode::hashed::Hashed;
-use crate::decode::output::RUN_ROOM;
+use crate::decode::output::{RUN_ROOM, store_run};
 use crate::decode::table::TermTable;
 use crate::error::{Error, Result};
 
@@ -30,8 +30,9 @@ const LONG: usize = 1536;
 /// run twice, so that enough are decoded and few are copied.
 const AFTER_LONG: usize = 528;
 
-/// What stands between two pieces of an image: the table, the last pixel, bytes that are decoded
-/// and weren't given yet, and how many bytes aren't decoded.
+/// What stands between two pieces of an image: the table, the last pixel, bytes that are stored and
+/// weren't given yet, and how many bytes aren't stored; of those the first `run` are copies of the
+/// last pixel.
 #[derive(Drop)]
 pub struct Pieces {
     table: TermTable,
@@ -39,6 +40,7 @@ pub struct Pieces {
     bytes: [u8; KEPT],
     from: usize,
     to: usize,
+    run: usize,
     undecoded: usize,
 }
 
@@ -142,7 +144,7 @@ fn rest_of_image<R: Chunks<N, F>, const N: usize, const F: usize>(
 }
 
 impl Pieces {
-    ghost use Rattle.qoi.specs.pieces.ReaderPieces.{kept, bytes_left, KeepsWithin, KeepsPixels, GivesPieces};
+    ghost use Rattle.qoi.specs.pieces.ReaderPieces.{kept, bytes_left, KeepsWithin, KeepsNothing, KeepsPixels, GivesPieces};
 
     /// At the beginning of an image of `size` bytes.
     pub(super) fn new(size: usize) -> Pieces
@@ -151,7 +153,7 @@ impl Pieces {
             → GivesPieces f c n start start [] result }
         ensures left { bytes_left result ≡ size }
         ensures within { KeepsWithin result }
-        ensures undecoded { result.undecoded ≡ size }
+        ensures undecoded { (result.undecoded ≡ size) × (result.run ≡ 0) }
     {
         Pieces {
             table: TermTable::new(),
@@ -159,6 +161,7 @@ impl Pieces {
             bytes: [0; KEPT],
             from: 0,
             to: 0,
+            run: 0,
             undecoded: size,
         }
     }
@@ -182,6 +185,7 @@ impl Pieces {
     {
         self.from = 0;
         self.to = 0;
+        self.run = 0;
         self.undecoded = left;
     }
 
@@ -193,16 +197,118 @@ impl Pieces {
         ensures given { out.new ≡ take result (kept self.old) ++ drop result out.old }
         ensures state { self.new ≡ record self.old { from = self.old.from + result } }
     {
+        if self.from == self.to {
+            return 0;
+        }
         let size = out.len().min(self.to - self.from);
         out[..size].copy_from_slice(&self.bytes[self.from..self.from + size]);
         self.from += size;
         size
     }
 
-    // Decodes chunks that stand in memory into `out`, and returns how many bytes: none if `out` is
-    // short or long. A run that ends at its end or past it is kept.
-    #[inline]
+    // Whether a piece of so many bytes is decoded in place to the last chunk that stands in memory:
+    // neither short nor long, and not at the end of the image.
+    #[inline(always)]
+    fn is_placed(&self, size: usize) -> bool
+        requires { size ≤ self.now.undecoded }
+        ensures { IsTrue result
+            → (IN_PLACE ≤ size) × (size + RUN_ROOM ≤ self.now.undecoded) }
+    {
+        IN_PLACE <= size && size < LONG && RUN_ROOM <= self.undecoded - size
+    }
+
+    // Gives the rest of a run and decodes chunks that stand in memory into such a piece, and returns
+    // how many bytes. A run may go on past its end.
+    #[inline(always)]
     fn piece_in_place<R: Chunks<N, F>, const N: usize, const F: usize>(
+        &mut self,
+        reader: &mut R,
+        out: &mut [u8],
+        fault: &mut Option<Error>,
+    ) -> PieceResult<usize>
+        requires channels { IsChannels N }
+        requires none { self.old.from ≡ self.old.to }
+        requires room { IN_PLACE ≤ length out.old }
+        requires fits { length out.old + RUN_ROOM ≤ self.old.undecoded }
+        requires pixels { KeepsPixels N self.old }
+        ensures read { (n : ℕ) (start : Option (List ℕ)) (given : List ℕ)
+            → GivesPieces F N n start (R.ahead reader.old) given self.old
+            → IfOk result (λ size.
+            GivesPieces F N n start (R.ahead reader.new) (given ++ take size out.new) self.new) }
+        ensures refused { (n : ℕ) (start : Option (List ℕ)) (given : List ℕ)
+            → GivesPieces F N n start (R.ahead reader.old) given self.old
+            → OnErr result
+            (HasFault (RefusesChunks R.in_memory n start (R.ahead reader.new)) fault.new) }
+        ensures within { IfOk result (λ size. size ≤ length out.new) }
+        ensures none { OnOk result (self.new.from ≡ self.new.to) }
+        ensures pixels { OnOk result (KeepsPixels N self.new) }
+        ensures left { IfOk result (λ size. size + bytes_left self.new ≡ bytes_left self.old) }
+    {
+        let size = out.len() / N * N;
+        store_run::<N, F>(out, 0, self.last, self.run / N);
+        let placed = match reader.chunks_in_place(
+            &mut self.table,
+            self.last,
+            &mut out[..size],
+            self.run,
+        ) {
+            Ok(placed) => placed,
+            Err(e) => return Err(fail(fault, e)),
+        };
+        self.last = placed.last;
+        self.run = placed.run;
+        self.undecoded -= placed.at;
+        Ok(placed.at)
+    }
+
+    // Stores the rest of a run in what is kept, while nothing else is.
+    #[cold]
+    #[inline(never)]
+    fn keep_run<const N: usize, const F: usize>(&mut self)
+        requires channels { IsChannels N }
+        requires none { self.old.from ≡ self.old.to }
+        requires some { 0 < self.old.run }
+        requires pixels { KeepsPixels N self.old }
+        ensures read { (n : ℕ) (start now : Option (List ℕ)) (given : List ℕ)
+            → GivesPieces F N n start now given self.old
+            → GivesPieces F N n start now given self.new }
+        ensures none { self.new.run ≡ 0 }
+        ensures pixels { KeepsPixels N self.new }
+        ensures left { bytes_left self.new ≡ bytes_left self.old }
+    {
+        store_run::<N, F>(&mut self.bytes, 0, self.last, self.run / N);
+        self.from = 0;
+        self.to = self.run;
+        self.undecoded -= self.run;
+        self.run = 0;
+    }
+
+    // Gives the rest of a run into the front of `out`, while nothing is kept, and returns how many
+    // bytes; keeps what has no room.
+    #[inline(always)]
+    fn give_run<const N: usize, const F: usize>(&mut self, out: &mut [u8]) -> usize
+        requires channels { IsChannels N }
+        requires none { self.old.from ≡ self.old.to }
+        requires pixels { KeepsPixels N self.old }
+        ensures read { (n : ℕ) (start now : Option (List ℕ)) (given : List ℕ)
+            → GivesPieces F N n start now given self.old
+            → GivesPieces F N n start now (given ++ take result out.new) self.new }
+        ensures within { result ≤ length out.new }
+        ensures none { result < length out.new → KeepsNothing self.new }
+        ensures pixels { KeepsPixels N self.new }
+        ensures left { result + bytes_left self.new ≡ bytes_left self.old }
+    {
+        if self.run == 0 {
+            return 0;
+        }
+        self.keep_run::<N, F>();
+        self.give(out)
+    }
+
+    // Gives the rest of a run and, if such a piece is decoded in place, what follows it, and returns
+    // how many bytes; keeps what has no room of a run.
+    #[inline(always)]
+    fn piece_front<R: Chunks<N, F>, const N: usize, const F: usize>(
         &mut self,
         reader: &mut R,
         out: &mut [u8],
@@ -221,32 +327,18 @@ impl Pieces {
             → OnErr result
             (HasFault (RefusesChunks R.in_memory n start (R.ahead reader.new)) fault.new) }
         ensures within { IfOk result (λ size. size ≤ length out.new) }
-        ensures enough { IfOk result (λ size. self.new.from < self.new.to
-            → length out.new ≤ size + (self.new.to - self.new.from)) }
-        ensures pixels { IfOk result (λ size. KeepsPixels N self.new) }
+        ensures none { IfOk result (λ size. size < length out.new → KeepsNothing self.new) }
+        ensures pixels { OnOk result (KeepsPixels N self.new) }
         ensures left { IfOk result (λ size. size + bytes_left self.new ≡ bytes_left self.old) }
     {
-        if out.len() < IN_PLACE || out.len() >= LONG {
-            return Ok(0);
+        if !self.is_placed(out.len()) {
+            return Ok(self.give_run::<N, F>(out));
         }
-        if self.undecoded - out.len() < RUN_ROOM {
-            return Ok(0);
+        let placed = self.piece_in_place::<R, N, F>(reader, out, fault)?;
+        if placed == out.len() {
+            return Ok(placed);
         }
-        let size = out.len() / N * N;
-        let placed = match reader.chunks_in_place(
-            &mut self.table,
-            self.last,
-            &mut out[..size],
-            &mut self.bytes,
-        ) {
-            Ok(placed) => placed,
-            Err(e) => return Err(fail(fault, e)),
-        };
-        self.last = placed.last;
-        self.from = placed.from;
-        self.to = placed.to;
-        self.undecoded -= placed.at + (placed.to - placed.from);
-        Ok(placed.at)
+        Ok(placed + self.give_run::<N, F>(&mut out[placed..]))
     }
 
     // Decodes chunks into the front of `out` as long as any run has room, and returns how many
@@ -260,7 +352,7 @@ impl Pieces {
         fault: &mut Option<Error>,
     ) -> PieceResult<usize>
         requires channels { IsChannels N }
-        requires none { self.old.from ≡ self.old.to }
+        requires none { KeepsNothing self.old }
         requires fits { length out.old ≤ bytes_left self.old }
         requires pixels { KeepsPixels N self.old }
         ensures read { (n : ℕ) (start : Option (List ℕ)) (given : List ℕ)
@@ -275,7 +367,7 @@ impl Pieces {
         ensures few { IfOk result (λ size. length out.new < size + LONG) }
         ensures last { IfOk result (λ size. 0 < done + size
             → length out.new < size + (RUN_ROOM + 3)) }
-        ensures none { IfOk result (λ size. self.new.from ≡ self.new.to) }
+        ensures none { OnOk result (KeepsNothing self.new) }
         ensures pixels { IfOk result (λ size. KeepsPixels N self.new) }
         ensures left { IfOk result (λ size. size + bytes_left self.new ≡ bytes_left self.old) }
     {
@@ -303,7 +395,7 @@ impl Pieces {
         requires channels { IsChannels N }
         requires room { (0 < room) × (room ≤ KEPT) }
         requires whole { room % N ≡ 0 }
-        requires none { self.old.from ≡ self.old.to }
+        requires none { KeepsNothing self.old }
         requires some { 0 < self.old.undecoded }
         requires pixels { KeepsPixels N self.old }
         ensures read { (n : ℕ) (start : Option (List ℕ)) (given : List ℕ)
@@ -378,12 +470,12 @@ impl Pieces {
         ensures pixels { OnOk result (KeepsPixels N self.new) }
         ensures left { IfOk result (λ size. size + bytes_left self.new ≡ bytes_left self.old) }
     {
-        let placed = self.piece_in_place::<R, N, F>(reader, out, fault)?;
-        if self.from < self.to {
-            return Ok(placed);
+        let done = self.piece_front::<R, N, F>(reader, out, fault)?;
+        if done == out.len() {
+            return Ok(done);
         }
-        let more = self.long_piece::<R, N, F>(reader, &mut out[placed..], placed, fault)?;
-        let size = placed + more;
+        let more = self.long_piece::<R, N, F>(reader, &mut out[done..], done, fault)?;
+        let size = done + more;
         if size == out.len() {
             return Ok(size);
         }

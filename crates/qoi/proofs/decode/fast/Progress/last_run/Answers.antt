@@ -1,28 +1,22 @@
--- The run is kept whole, and its first copies fill the output.
-use Rattle.std.proofs.Common.{◌≡◌, ◌-◌, ◌*◌, length, replicate, slice_index, arith, refl, subst}
-use Rattle.qoi.specs.inner.Filling.{upto, filling, HasWritten, IsFrontAfter, DecoderBetween}
-use Rattle.qoi.specs.inner.Hashed.{pixel_of_lanes}
-use Rattle.qoi.proofs.decoding.InPlace.{piece_stops, piece_ends, times_rest, fewer_copies}
+-- The first copies of the run fill the output.
+use Rattle.std.proofs.Common.{◌-◌, ◌++◌, length, slice_index, arith, refl, ap, ◌∙◌}
+use Rattle.qoi.specs.declared.chunk.Chunk.TheVariants.{Run}
+use Rattle.qoi.specs.Qoi.{bytes_of}
+use Rattle.qoi.proofs.decoding.InPlace.{piece_stops, piece_ends, next_taken, times_rest}
 use Rattle.qoi.proofs.decode.fast.Progress.last_run.Goals as goal
 
-pub returns-then-next-lt-QOI_OP_RUN-clause-takes : goal.returns-then-next-lt-QOI_OP_RUN-clause-takes
-returns-then-next-lt-QOI_OP_RUN-clause-takes g c gone n before h =
-    rw c.after.ensures (piece_stops c.args.out.now c.args.kept.now c.requires.fillable.three_or_four c.requires.below h)
+pub returns-then-not-is_run_to_end-clause-takes : goal.returns-then-not-is_run_to_end-clause-takes
+returns-then-not-is_run_to_end-clause-takes g c gone n before h =
+    rw c.after.ensures (piece_stops c.args.out.now c.args.from.taken c.requires.fillable.three_or_four c.requires.below h)
 
 pub returns-clause-takes : goal.returns-clause-takes
 returns-clause-takes g c gone n before h =
     let is = c.requires.fillable.three_or_four in
     let from = c.args.from in
-    let run = c.long_run-now in
-    let out = c.fill_rest.new.out in
-    let next = slice_index c.args.bytes.now from.taken in
-    let count = next - 191 in
+    let bytes = c.args.bytes.now in
+    let b1 = slice_index bytes from.taken in
+    let run = c.is_run_to_end.ensures c.if-not-is_run_to_end.false in
     let rest = times_rest g.row.N (length c.args.out.now) from.at is c.requires.fillable.whole.0 c.requires.fillable.whole.1 in
-    let size = c.advance-size.ensures.run (omega (arith, c.if-next-lt-QOI_OP_RUN.false)) (omega (arith, c.if-next-ge-QOI_OP_RGB.false)) in
-    let end : run.result.at ≡ g.row.N * count = omega (arith, run.ensures.kept.2) in
-    piece_ends (pixel_of_lanes from.last) c.args.out.now out c.args.kept.now run.new.out is c.requires.below h c.requires.room.1 (omega (arith, end, run.ensures.below))
-    (λ all m first. subst (λ at. DecoderBetween g.row.F g.row.N all m (IsFrontAfter before c.args.bytes.now run.result.taken) (filling run.new.table run.result.last run.new.out at)) end
-    (run.ensures.step.between all m before (record { between = first; next_is = refl })).between)
-    (subst (λ at. HasWritten g.row.F g.row.N (upto c.args.kept.now 0) (upto run.new.out at) (replicate count (pixel_of_lanes from.last))) end run.ensures.written)
-    c.fill_rest.ensures (fewer_copies g.row.N _ count _ _ is rest size (omega (arith, c.if-size-rest.false)))
-    (omega (arith, rest, c.fill_rest.auto.out, c.requires.below)) _ _ _ size rest (omega (arith, c.fill_rest.auto.out))
+    piece_ends _ (b1 - 191) c.args.out.now c.store_exactly.new.out _ is c.requires.below h (omega (arith, run)) (omega (arith, run)) c.put.ensures
+    (λ taken is_front. ap (λ z. z ++ bytes_of (Run (b1 - 191))) is_front ∙ next_taken before bytes from.taken (b1 - 191) c.requires.ahead (omega (arith, run)))
+    c.store_exactly.ensures (omega (arith, rest, c.requires.below, c.store_exactly.auto.out)) refl _ rest run.2 (omega (arith, c.advance.ensures.run run.0 run.1))

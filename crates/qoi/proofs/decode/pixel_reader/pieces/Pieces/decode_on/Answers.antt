@@ -4,7 +4,7 @@ use Rattle.std.proofs.lemmas.List.{length-take-le}
 use Rattle.qoi.specs.declared.decode.pixel_reader.pieces.Pieces.{Pieces}
 use Rattle.qoi.specs.Raw.{IsChannels}
 use Rattle.qoi.specs.inner.Chunks.{RefusesChunks, HasFault}
-use Rattle.qoi.specs.pieces.ReaderPieces.{GivesPieces}
+use Rattle.qoi.specs.pieces.ReaderPieces.{KeepsNothing, GivesPieces}
 use Rattle.qoi.proofs.format.WholePixels.{by_channels}
 use Rattle.qoi.proofs.decoding.Progress.{none_written}
 use Rattle.qoi.proofs.decoding.PieceSteps.{Lent, lent, kept_read, rest_count, rest_read, rest_whole, minus_whole}
@@ -12,7 +12,7 @@ use Rattle.qoi.proofs.decode.pixel_reader.pieces.Pieces.decode_on.Goals as goal
 
 -- the front of all room is lent
 room_lent : {f c n : ℕ} {start old : Option (List ℕ)} {given : List ℕ} (p : Pieces) (room : ℕ) → IsChannels c → GivesPieces f c n start old given p
-    → p.from ≡ p.to → room ≤ length p.bytes → room % c ≡ 0 → room < p.undecoded → Lent f c n (room / c) start old given p (take room p.bytes)
+    → KeepsNothing p → room ≤ length p.bytes → room % c ≡ 0 → room < p.undecoded → Lent f c n (room / c) start old given p (take room p.bytes) 0
 room_lent {c = c} p room is h same within whole long =
     let front = length-take-le room p.bytes within in
     let times = by_channels (λ k. room % k ≡ 0 → room ≡ k * (room / k)) is (λ e. omega (arith, e)) (λ e. omega (arith, e)) whole in
@@ -20,20 +20,24 @@ room_lent {c = c} p room is h same within whole long =
 
 -- room for the rest is
 rest_lent : {f c n : ℕ} {start old : Option (List ℕ)} {given : List ℕ} (p : Pieces) → IsChannels c → GivesPieces f c n start old given p
-    → p.from ≡ p.to → length p.bytes ≡ 3072 → 0 < p.undecoded → p.undecoded ≤ 3072
-    → Lent f c n (p.undecoded / c) start old given p (take p.undecoded p.bytes)
+    → KeepsNothing p → length p.bytes ≡ 3072 → 0 < p.undecoded → p.undecoded ≤ 3072
+    → Lent f c n (p.undecoded / c) start old given p (take p.undecoded p.bytes) 0
 rest_lent {c = c} p is h same size some short =
     let front = length-take-le p.undecoded p.bytes (omega (arith, size, short)) in
-    lent (p.undecoded / c) (take p.undecoded p.bytes) is h same some (front ∙ rest_whole is h same some) (omega (arith, front))
+    lent (p.undecoded / c) (take p.undecoded p.bytes) is h same some (front ∙ rest_whole is h same.0 some) (omega (arith, front))
 
 pub returns-then-self-gt-KEPT-clause-pixels : goal.returns-then-self-gt-KEPT-clause-pixels
-returns-then-self-gt-KEPT-clause-pixels g c = (
-  (omega arith, omega (arith, c.in-Ok.ensures.below, c.requires.room.1)),
-  minus_whole g.row.N c.args.self.now.undecoded c.in-Ok.now.at c.requires.channels c.requires.pixels.1 c.in-Ok.ensures.read.fillable.whole.1,
-)
+returns-then-self-gt-KEPT-clause-pixels g c =
+    let pixels = c.requires.pixels.1 in
+    let whole = minus_whole g.row.N c.args.self.now.undecoded c.in-Ok.now.at c.requires.channels pixels.0 c.in-Ok.ensures.read.fillable.whole.1 in (
+      (omega arith, omega (arith, c.in-Ok.ensures.below, c.requires.room.1)),
+      (whole, pixels.1, pixels.2, λ some. absurd (omega (arith, some, c.requires.none))),
+    )
 
 pub returns-clause-pixels : goal.returns-clause-pixels
-returns-clause-pixels g c = ((omega arith, omega arith), none_written g.row.N c.requires.channels)
+returns-clause-pixels g c =
+    let pixels = c.requires.pixels.1 in
+    ((omega arith, omega arith), (none_written g.row.N c.requires.channels, pixels.1, pixels.2, λ some. absurd (omega (arith, some, c.requires.none))))
 
 pub returns-in-Err-clause-refused : goal.returns-in-Err-clause-refused
 returns-in-Err-clause-refused g c n start given h =
@@ -52,14 +56,14 @@ returns-then-self-gt-KEPT-clause-read g c n start given h =
     let front = length-take-le c.args.room out (omega (arith, within, c.front_of_image-front.auto.out)) in
     let now = c.in-Ok.now in
     subst (λ z. GivesPieces g.row.F g.row.N n start (g.R.Chunks.ahead c.front_of_image-front.new.reader) given
-    (record { table = c.front_of_image-front.new.table; last = now.last; bytes = z; from = 0; to = now.at; undecoded = c.args.self.now.undecoded - now.at })) (take-append-drop c.args.room out)
+    (record { table = c.front_of_image-front.new.table; last = now.last; bytes = z; from = 0; to = now.at; run = c.args.self.now.run; undecoded = c.args.self.now.undecoded - now.at })) (take-append-drop c.args.room out)
     (kept_read (take c.args.room out) (drop c.args.room out) now.at c.requires.channels h c.requires.none l (c.in-Ok.ensures.read.goes_on.between l.gone _ _ l.before)
     (omega (arith, front, c.in-Ok.ensures.below)) (omega (arith, front, c.if-self-gt-KEPT.true, c.requires.room.1)))
 
 pub returns-in-Err-rest-clause-refused : goal.returns-in-Err-rest-clause-refused
 returns-in-Err-rest-clause-refused g c n start given h =
     let l = rest_lent c.args.self.now c.requires.channels h c.requires.none (omega arith) c.requires.some (omega (arith, c.if-self-gt-KEPT.false)) in
-    let count = rest_count c.requires.channels h c.requires.none l (rest_whole c.requires.channels h c.requires.none c.requires.some) in
+    let count = rest_count c.requires.channels h c.requires.none l (rest_whole c.requires.channels h c.requires.none.0 c.requires.some) in
     subst (HasFault (RefusesChunks g.R.Chunks.in_memory n start (g.R.Chunks.ahead c.rest_of_image-rest.new.reader))) (sym c.fail-in-Err-rest.ensures)
     (subst (λ k. RefusesChunks g.R.Chunks.in_memory k start (g.R.Chunks.ahead c.rest_of_image-rest.new.reader) c.in-Err-rest.e) count
     (c.in-Err-rest.ensures.refused l.gone _ _ l.before))
@@ -70,4 +74,4 @@ returns-clause-read g c n start given h =
     let short : c.args.self.now.undecoded ≤ 3072 = omega (arith, c.if-self-gt-KEPT.false) in
     let l = rest_lent c.args.self.now c.requires.channels h c.requires.none size c.requires.some short in
     rest_read c.rest_of_image-rest.new.out c.requires.channels h c.requires.none l (c.in_default.ensures.read l.gone _ _ l.before)
-    (omega (arith, short, size, c.rest_of_image-rest.auto.out)) (rest_whole c.requires.channels h c.requires.none c.requires.some)
+    (omega (arith, short, size, c.rest_of_image-rest.auto.out)) (rest_whole c.requires.channels h c.requires.none.0 c.requires.some)

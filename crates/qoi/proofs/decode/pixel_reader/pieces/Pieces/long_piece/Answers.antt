@@ -9,7 +9,9 @@ some_chunks-requires g c = times_fillable _ c.requires.channels (whole_front g.r
 
 pub returns-clause-pixels : goal.returns-clause-pixels
 returns-clause-pixels g c =
-    (c.requires.pixels.0, minus_whole g.row.N c.args.self.now.undecoded c.in-Ok.now.at c.requires.channels c.requires.pixels.1 c.in-Ok.ensures.read.fillable.whole.1)
+    let pixels = c.requires.pixels.1 in
+    let whole = minus_whole g.row.N c.args.self.now.undecoded c.in-Ok.now.at c.requires.channels pixels.0 c.in-Ok.ensures.read.fillable.whole.1 in
+    (c.requires.pixels.0, (whole, pixels.1, pixels.2, λ some. absurd (omega (arith, some, c.requires.none))))
 
 pub returns-clause-last : goal.returns-clause-last
 returns-clause-last g c long =

@@ -1,0 +1,9 @@
+-- Half of the vectors stand after the others.
+use Rattle.std.proofs.Common.{◌*◌, ◌/◌, arith}
+use Rattle.qoi.proofs.decoding.Vectors.{two_written}
+use Rattle.qoi.proofs.decode.output.store_eight_vectors.Goals as goal
+
+pub returns : goal.returns
+returns g c count le =
+    let k = 4 * (16 / g.row.N) in
+    two_written _ c.args.at k count c.requires.channels (omega (arith, c.requires.room)) (omega (arith, le)) (c.store_four_vectors.ensures k (omega arith)) (c.store_four_vectors-2.ensures k (omega arith))
