@@ -4,7 +4,7 @@
 ghost use Rattle.std.specs.Prelude.{◌≡◌, ◌↔◌, IsTrue, ◌+◌, ◌-◌, ◌*◌, ◌/◌, ◌%◌, ◌<◌, ◌≤◌, ◌^◌, ℕ, List, ◌++◌, length, take, drop, replicate};
 ghost use Rattle.qoi.specs.Qoi.{Past, run_tag, rgb_tag};
 ghost use Rattle.qoi.specs.Raw.{IsChannels};
-ghost use Rattle.qoi.specs.declared.decode.fast.TheConstants.{INPUT_ROOM, OUTPUT_ROOM};
+ghost use Rattle.qoi.specs.declared.decode.fast.TheConstants.{INPUT_ROOM};
 ghost use Rattle.qoi.specs.declared.decode.output.TheConstants.{RUN_ROOM};
 ghost use Rattle.qoi.specs.inner.Hashed.{pixel_of_lanes};
 ghost use Rattle.qoi.specs.pieces.InPlace.{TakesPiece, IsInPlace};
@@ -348,34 +348,6 @@ impl Progress {
         Progress::chunks_ahead::<N, F, 8>(table, none, bytes, out)
     }
 
-    // Decodes chunks from the front of the bytes, and near the end of the output one by one, unless
-    // a run to its end or past it comes next.
-    #[inline(always)]
-    fn chunks_to_end<const N: usize, const F: usize>(
-        table: &mut TermTable,
-        from: Decoded,
-        bytes: &[u8],
-        out: &mut [u8],
-    ) -> Decoded
-        requires input { INPUT_ROOM ≤ length bytes.now }
-        requires room { OUTPUT_ROOM ≤ length out.old }
-        requires within { from.taken < length bytes.now }
-        requires fillable { IsFillable N (upto out.old from.at) }
-        requires below { from.at < length out.old }
-        ensures between { TakesOn F N bytes.now from.taken result.taken
-            (filling table.old from.last out.old from.at)
-            (filling table.new result.last out.new result.at) }
-        ensures within { result.taken < length bytes.now }
-        ensures below { result.at < length out.new }
-        ensures fillable { IsFillable N (upto out.new result.at) }
-    {
-        let front = Progress::chunks_ahead::<N, F, 8>(table, from, bytes, out);
-        if is_run_to_end::<N>(bytes[front.taken], out.len() - front.at) {
-            return front;
-        }
-        Progress::chunks_ahead::<N, F, 1>(table, front, bytes, out)
-    }
-
     // Takes a run that goes on to the end of the output or past it, if one comes next, and fills the
     // output with it.
     #[inline(always)]
@@ -435,7 +407,13 @@ impl Progress {
         if bytes.len() < INPUT_ROOM || out.len() < OUTPUT_ROOM {
             return InPlace::after(none);
         }
-        let near = Progress::chunks_to_end::<N, F>(table, none, bytes, out);
+        let front = Progress::chunks_ahead::<N, F, 8>(table, none, bytes, out);
+        if is_run_to_end::<N>(bytes[front.taken], out.len() - front.at) {
+            // Not joined with the other way: what the loops return would be copied, and the copy
+            // waits for the stores before it.
+            return Progress::last_run::<N, F>(table, front, bytes, out);
+        }
+        let near = Progress::chunks_ahead::<N, F, 1>(table, front, bytes, out);
         Progress::last_run::<N, F>(table, near, bytes, out)
     }
 }

@@ -7,5 +7,9 @@ pub returns-then-bytes-lt-INPUT_ROOM-clause-takes : goal.returns-then-bytes-lt-I
 returns-then-bytes-lt-INPUT_ROOM-clause-takes g c gone n before h =
     rw c.after.ensures (piece_stops c.args.out.now 0 c.requires.fillable.three_or_four c.requires.below h)
 
+pub returns-then-is_run_to_end-clause-takes : goal.returns-then-is_run_to_end-clause-takes
+returns-then-is_run_to_end-clause-takes g c gone n before h = c.last_run.ensures.takes gone n before (c.chunks_ahead-front.ensures.between gone n before h)
+
 pub returns-clause-takes : goal.returns-clause-takes
-returns-clause-takes g c gone n before h = c.last_run.ensures.takes gone n before (c.chunks_to_end-near.ensures.between gone n before h)
+returns-clause-takes g c gone n before h =
+    c.last_run-2.ensures.takes gone n before (c.chunks_ahead-near.ensures.between gone n before (c.chunks_ahead-front.ensures.between gone n before h))
