@@ -7,13 +7,19 @@
                                                   of one
 
    A picture is a file of raw bytes, NAME.WIDTHxHEIGHTxCHANNELS.raw. Memory that is freed is used again; with `anew` each
-   large block comes from the system, and only calls into a new vector are timed; with `buffers` only calls into buffers. */
+   large block comes from the system, and only calls into a new vector are timed; with `buffers` only calls into buffers.
+
+   So many bytes as SHIFT says stand ahead of all code, so that it can be timed at several addresses. */
 #include <malloc.h>
 #include <stdint.h>
 #include <stdio.h>
 #include <stdlib.h>
 #include <string.h>
 #include <time.h>
+
+#define WORDS_OF(number) #number
+#define WORDS(number) WORDS_OF(number)
+__asm__(".text\n.skip " WORDS(SHIFT));
 
 static void *block; /* where qoi.h puts what it makes; NULL: in memory of its own */
 static void *take(size_t size) { return block ? block : malloc(size); }

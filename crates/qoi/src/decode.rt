@@ -14,6 +14,7 @@ mod chunks;
 mod deltas;
 mod fast;
 mod hashed;
+mod in_place;
 mod one_chunk;
 mod output;
 mod pixel_reader;

@@ -8,7 +8,7 @@ use Rattle.std.proofs.Math.Seq.{take-add}
 use borrow.Rule.Slice.PartMut.{put_mid, mid_of, mid_len, same_len_mid}
 use Rattle.std.proofs.lemmas.Grind.{flat_map-append}
 use Rattle.qoi.specs.declared.chunk.Chunk.{Chunk}
-use Rattle.qoi.specs.declared.decode.fast.InPlace.{InPlace}
+use Rattle.qoi.specs.declared.decode.in_place.InPlace.{InPlace}
 use Rattle.qoi.specs.declared.decode.pixel_reader.pieces.Pieces.{Pieces}
 use Rattle.qoi.specs.Qoi.{Past, RgbaPixel, Each, AreChunks, chunk_bytes, end_marker, pixel_after, times, then_chunk, then_chunks}
 use Rattle.qoi.specs.Raw.{IsChannels, pixel_bytes, output}
@@ -18,7 +18,7 @@ use Rattle.qoi.specs.inner.Hashed.{pixel_of_lanes}
 use Rattle.qoi.specs.pieces.InPlace.{TakesPiece, IsInPlace}
 use Rattle.qoi.specs.pieces.ReaderPieces.{kept, bytes_left, copies, KeepsWithin, KeepsNothing, AreWhole, DecoderAfter, GivesPieces}
 use Rattle.qoi.proofs.format.ChunkSteps.{times_some, reverse-replicate}
-use Rattle.qoi.proofs.format.WholePixels.{by_channels, length-output, take_whole}
+use Rattle.qoi.proofs.format.WholePixels.{by_channels, whole_pixels, length-output, take_whole}
 use Rattle.qoi.proofs.decoding.Progress.{fewer, none_written, fillable_whole}
 use Rattle.qoi.proofs.decoding.StreamReads.{take-read}
 
@@ -125,6 +125,7 @@ front_run before out run size fits w = record { at_is = w.at_is; same = take-tak
 none_off : (n : ℕ) → n - 0 ≡ n
 none_off n = omega arith
 
+-- so many bytes from the beginning on
 from_none : (n : ℕ) → n ≡ 0 + n
 from_none n = omega arith
 
@@ -136,11 +137,21 @@ no_copies c run last gone is none = ap (λ z. z ++ gone) (by_channels (λ d. run
 run_fits : (c run size : ℕ) → IsChannels c → run ≤ c * 62 → 256 ≤ size → run ≤ size
 run_fits c run size is = by_channels (λ d. run ≤ d * 62 → 256 ≤ size → run ≤ size) is (λ a b. omega (arith, a, b)) (λ a b. omega (arith, a, b))
 
+-- with nothing kept, what is left isn't decoded
 only_undecoded : (g l u t : ℕ) → l ≡ 0 → g + (l + u) ≡ t → g + u ≡ t
 only_undecoded g l u t none e = omega arith
 
+-- bytes that were not decoded are kept
 kept_size : (g l u a t : ℕ) → l ≡ 0 → g + (l + u) ≡ t → a ≤ u → g + (a - 0 + (u - a)) ≡ t
 kept_size g l u a t none e le = omega arith
+
+-- the whole pixels in so many bytes
+whole_within : (c size : ℕ) → IsChannels c → size / c * c ≤ size
+whole_within c size is = by_channels (λ k. size / k * k ≤ size) is (omega arith) (omega arith)
+
+-- those, counted by channels
+whole_times : (c size : ℕ) → IsChannels c → size / c * c ≡ c * (size / c)
+whole_times c size is = by_channels (λ k. size / k * k ≡ k * (size / k)) is (omega arith) (omega arith)
 
 -- an output that is lent with nothing kept, and `at` bytes of a run at its front
 pub record Lent (f c n m : ℕ) (start old : Option (List ℕ)) (given : List ℕ) (p : Pieces) (out : List ℕ) (at : ℕ) : Type 0 where
@@ -168,7 +179,7 @@ begun : {f c : ℕ} {gone : Past} {Taken : List ℕ → Type 0} {table : List �
     → DecoderBetween f c gone m Taken (filling table last out run)
 begun {f} {c} {gone} {Taken} {table} {last} m run before out is s size whole fits written =
     let recent = copies c run last in
-    let many : run ≡ c * (run / c) = by_channels (λ d. run % d ≡ 0 → run ≡ d * (run / d)) is (λ e. omega (arith, e)) (λ e. omega (arith, e)) whole in
+    let many : run ≡ c * (run / c) = whole_pixels c run is whole in
     let few : run / c ≤ m = by_channels (λ d. run ≤ length out → length out ≡ d * m → run / d ≤ m) is (λ a b. omega (arith, a, b)) (λ a b. omega (arith, a, b)) fits size in
     let count : length recent ≡ run / c = length-replicate (run / c) (pixel_of_lanes last) in
     let bytes : take run out ≡ output f c recent = ap (λ k. take k out) (many ∙ from_none (c * (run / c))) ∙ written.same in
@@ -215,12 +226,11 @@ pub piece_lent : {f c n : ℕ} {start old : Option (List ℕ)} {given : List ℕ
     → Lent f c n (length before / c) start old given p (take (length before / c * c) out) p.run
 piece_lent {c = c} p before out is h same whole long fits same_size written =
     let size = length before / c * c in
-    let sizes : (size ≤ length before) × (256 ≤ size) × (size ≡ c * (length before / c)) =
-    by_channels (λ d. (length before / d * d ≤ length before) × (256 ≤ length before / d * d) × (length before / d * d ≡ d * (length before / d))) is
-    (omega arith, omega (arith, long), omega arith) (omega arith, omega (arith, long), omega arith) in
-    let all : length (take size out) ≡ size = length-take-le size out (omega (arith, same_size, sizes.0)) in
-    let run : 0 + c * (p.run / c) ≤ size = by_channels (λ d. p.run ≤ d * 62 → 0 + d * (p.run / d) ≤ size) is (λ a. omega (arith, a, sizes.1)) (λ a. omega (arith, a, sizes.1)) whole.2 in
-    run_lent p (length before / c) before (take size out) is h same whole (omega (arith, all, sizes.1)) (all ∙ sizes.2) (omega (arith, all, sizes.0, fits))
+    let within = whole_within c (length before) is in
+    let room : 256 ≤ size = by_channels (λ d. 256 ≤ length before / d * d) is (omega (arith, long)) (omega (arith, long)) in
+    let all : length (take size out) ≡ size = length-take-le size out (omega (arith, same_size, within)) in
+    let run : 0 + c * (p.run / c) ≤ size = by_channels (λ d. p.run ≤ d * 62 → 0 + d * (p.run / d) ≤ size) is (λ a. omega (arith, a, room)) (λ a. omega (arith, a, room)) whole.2 in
+    run_lent p (length before / c) before (take size out) is h same whole (omega (arith, all, room)) (all ∙ whole_times c (length before) is) (omega (arith, all, within, fits))
     (front_run before out (0 + c * (p.run / c)) size run written)
 
 -- the rest of a run is kept
@@ -232,7 +242,7 @@ run_kept {f} {c} {n} {start} {now} {given} p bytes is h same some whole room wri
     let fits : p.run < p.undecoded = whole.3 some in
     let (gone, stands, all) = h.goes_on (omega (arith, fits)) in
     let recent = copies c p.run p.last in
-    let many : p.run ≡ c * (p.run / c) = by_channels (λ d. p.run % d ≡ 0 → p.run ≡ d * (p.run / d)) is (λ e. omega (arith, e)) (λ e. omega (arith, e)) whole.1 in
+    let many : p.run ≡ c * (p.run / c) = whole_pixels c p.run is whole.1 in
     let stored : take (p.run - 0) bytes ≡ output f c recent = ap (λ k. take k bytes) (none_off p.run ∙ many ∙ from_none (c * (p.run / c))) ∙ written.same in
     record {
       within = (omega arith, omega (arith, room, run_fits c p.run (length bytes) is whole.2 room));
@@ -249,14 +259,13 @@ run_kept {f} {c} {n} {start} {now} {given} p bytes is h same some whole room wri
 -- whole pixels at the front of an output
 pub whole_front : (c : ℕ) (out : List ℕ) → IsChannels c → length (take (length out / c * c) out) ≡ c * (length out / c)
 whole_front c out is =
-    let within : length out / c * c ≤ length out = by_channels (λ k. length out / k * k ≤ length out) is (omega arith) (omega arith) in
-    length-take-le (length out / c * c) out within
-    ∙ by_channels (λ k. length out / k * k ≡ k * (length out / k)) is (omega arith) (omega arith)
+    length-take-le (length out / c * c) out (whole_within c (length out) is)
+    ∙ whole_times c (length out) is
 
 -- most of an output
 pub front_most : (c : ℕ) (out : List ℕ) → IsChannels c → (length (take (length out / c * c) out) ≤ length out) × (length out < length (take (length out / c * c) out) + 4)
 front_most c out is =
-    let within : length out / c * c ≤ length out = by_channels (λ k. length out / k * k ≤ length out) is (omega arith) (omega arith) in
+    let within = whole_within c (length out) is in
     let size = length-take-le (length out / c * c) out within in
     let near : length out < length out / c * c + 4 = by_channels (λ k. length out < length out / k * k + 4) is (omega arith) (omega arith) in
     (omega (arith, size, within), omega (arith, size, near))
@@ -296,7 +305,7 @@ long_read {f} {c} {n} {m} {start} {old} {new} {given} {p} {out} {table} {last} n
 -- no more than the output's bytes are lent
 pub placed_most : (c : ℕ) (before out : List ℕ) → IsChannels c → length (take (length before / c * c) out) ≤ length before
 placed_most c before out is =
-    omega (arith, length-take (length before / c * c) out, by_channels (λ d. length before / d * d ≤ length before) is (omega arith) (omega arith))
+    omega (arith, length-take (length before / c * c) out, whole_within c (length before) is)
 
 -- a piece of what was lent was taken
 pub piece_read : {f c n m : ℕ} {start old new : Option (List ℕ)} {given : List ℕ} {p : Pieces} {out : List ℕ} {table : List ℕ}
@@ -338,10 +347,7 @@ kept_read {f} {c} {n} {m} {start} {old} {new} {given} {p} {out} {table} {last} n
 pub rest_count : {f c n m : ℕ} {start old : Option (List ℕ)} {given : List ℕ} {p : Pieces} {out : List ℕ} → IsChannels c → GivesPieces f c n start old given p
     → KeepsNothing p → (l : Lent f c n m start old given p out 0) → p.undecoded ≡ c * m → length l.gone + m ≡ n
 rest_count {f} {c} {n} {m} {start} {old} {given} {p} is h same l all =
-    gone_count f c n m l.gone given p.undecoded is l.so_far (only (length given) (p.to - p.from) p.undecoded (c * n) (omega (arith, same)) h.size) all
-  where
-    only : (g l u t : ℕ) → l ≡ 0 → g + (l + u) ≡ t → g + u ≡ t
-    only g l u t none e = omega arith
+    gone_count f c n m l.gone given p.undecoded is l.so_far (only_undecoded (length given) (p.to - p.from) p.undecoded (c * n) (omega (arith, same)) h.size) all
 
 -- the rest of the image was decoded and is kept, and the end marker was taken
 pub rest_read : {f c n m : ℕ} {start old new : Option (List ℕ)} {given : List ℕ} {p : Pieces} {out : List ℕ} {table : List ℕ} {last : ℕ}

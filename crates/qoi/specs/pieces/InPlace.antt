@@ -1,7 +1,7 @@
 -- A piece of an image that is decoded in place.
 use Rattle.std.specs.Prelude.{◌≡◌, ℕ, ◌*◌, ◌%◌, ◌≤◌, List, ◌++◌, take, reverse, Option}
 use Rattle.std.specs.Io.KnownBytes.{Consumes}
-use Rattle.qoi.specs.declared.decode.fast.InPlace.{InPlace}
+use Rattle.qoi.specs.declared.decode.in_place.InPlace.{InPlace}
 use Rattle.qoi.specs.declared.decode.one_chunk.Decoded.{Decoded}
 use Rattle.qoi.specs.Qoi.{Past, run_max}
 use Rattle.qoi.specs.Raw.{output}

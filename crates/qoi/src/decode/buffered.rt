@@ -8,8 +8,9 @@ ghost use Rattle.qoi.specs.pieces.InPlace.{TakesInPlace, IsInPlace};
 ghost use Rattle.qoi.specs.declared.decode.output.TheConstants.{RUN_ROOM};
 
 use crate::decode::chunks::{Chunks, Reached};
-use crate::decode::fast::{InPlace, OUTPUT_ROOM, Progress};
+use crate::decode::fast::{OUTPUT_ROOM, Progress};
 use crate::decode::hashed::Hashed;
+use crate::decode::in_place::{InPlace, chunks_in_place};
 use crate::decode::output::RUN_ROOM;
 use crate::decode::reader::Buffered;
 use crate::decode::stream::{next_chunk, stream_marker};
@@ -73,7 +74,7 @@ fn place_from_buffer<R: BufRead, const N: usize, const F: usize>(
         (Consumes (R.remaining reader.old) (R.remaining reader.new) []) }
 {
     let bytes = reader.fill_buf()?;
-    let placed = Progress::chunks_in_place::<N, F>(table, last, bytes, out, at);
+    let placed = chunks_in_place::<N, F>(table, last, bytes, out, at);
     reader.consume(placed.taken);
     Ok(placed)
 }

@@ -11,8 +11,8 @@ ghost use Rattle.qoi.specs.pieces.InPlace.{TakesInPlace, IsInPlace};
 ghost use Rattle.qoi.specs.declared.decode.chunks.TheConstants.{GROWTH};
 ghost use Rattle.qoi.specs.declared.decode.output.TheConstants.{RUN_ROOM};
 
-use crate::decode::fast::InPlace;
 use crate::decode::hashed::Hashed;
+use crate::decode::in_place::InPlace;
 use crate::decode::one_chunk::Decoded;
 use crate::decode::table::TermTable;
 use crate::error::Result;

@@ -11,8 +11,9 @@ ghost use Rattle.qoi.specs.inner.Filling.{IsFillable, upto, filling};
 
 use crate::consts::{QOI_PADDING, QOI_PADDING_SIZE};
 use crate::decode::chunks::{Chunks, Reached, image_to_buf, image_to_vec};
-use crate::decode::fast::{FEW, InPlace, Progress};
+use crate::decode::fast::{FEW, Progress};
 use crate::decode::hashed::Hashed;
+use crate::decode::in_place::{InPlace, chunks_in_place};
 use crate::decode::one_chunk::decode_chunk;
 use crate::decode::output::RUN_ROOM;
 use crate::decode::reader::Bytes;
@@ -156,7 +157,7 @@ impl<'a, const N: usize, const F: usize> Chunks<N, F> for Bytes<'a> {
         out: &mut [u8],
         at: usize,
     ) -> Result<InPlace> {
-        let placed = Progress::chunks_in_place::<N, F>(table, last, self.0, out, at);
+        let placed = chunks_in_place::<N, F>(table, last, self.0, out, at);
         let (_, rest) = self.0.split_at(placed.taken);
         self.0 = rest;
         Ok(placed)

@@ -1,11 +1,11 @@
 //! The loops over the pieces of an image: what is decoded before a caller asks for it is kept.
 ghost use Rattle.std.specs.Io.KnownBytes.{Consumes};
-ghost use Rattle.std.specs.Prelude.{true, ◌≡◌, ℕ, ◌+◌, ◌-◌, ◌*◌, ◌%◌, ◌^◌, ◌<◌, ◌≤◌, List, [], ◌++◌, length, take, drop, reverse, min, Option, Some, IsTrue, IfOk, IfErr, OnOk, OnErr};
+ghost use Rattle.std.specs.Prelude.{true, ◌≡◌, ◌↔◌, ℕ, ◌+◌, ◌-◌, ◌*◌, ◌%◌, ◌^◌, ◌<◌, ◌≤◌, List, [], ◌++◌, length, take, drop, reverse, min, Option, Some, IsTrue, IfOk, IfErr, OnOk, OnErr};
 ghost use Rattle.qoi.specs.Decoding.{ReadsImage};
 ghost use Rattle.qoi.specs.Qoi.{Past};
 ghost use Rattle.qoi.specs.Raw.{IsChannels, output};
 ghost use Rattle.qoi.specs.declared.decode.output.TheConstants.{RUN_ROOM};
-ghost use Rattle.qoi.specs.declared.decode.pixel_reader.pieces.TheConstants.{KEPT, IN_PLACE, LONG};
+ghost use Rattle.qoi.specs.declared.decode.pixel_reader.pieces.TheConstants.{KEPT, IN_PLACE};
 ghost use Rattle.qoi.specs.inner.Chunks.{RefusesChunks, TakesChunks, RefusesFilling, HasFault};
 ghost use Rattle.qoi.specs.inner.Filling.{filling, DecoderBetween};
 
@@ -19,16 +19,8 @@ use crate::error::{Error, Result};
 /// pixels of three channels and of four.
 const KEPT: usize = 3072;
 
-/// A piece of at least so many bytes, but less than `LONG`, is decoded in place to the last chunk
-/// that stands in memory.
+/// A piece of at least so many bytes is decoded in place.
 const IN_PLACE: usize = 512;
-
-/// A piece of at least so many bytes is decoded in place, but for its last ones.
-const LONG: usize = 1536;
-
-/// How many bytes are decoded at once for those last ones: they have room for the vectors of any
-/// run twice, so that enough are decoded and few are copied.
-const AFTER_LONG: usize = 528;
 
 /// What stands between two pieces of an image: the table, the last pixel, bytes that are stored and
 /// weren't given yet, and how many bytes aren't stored; of those the first `run` are copies of the
@@ -62,15 +54,14 @@ pub(super) fn fail(fault: &mut Option<Error>, e: Error) -> Refused
     Refused
 }
 
-// How many bytes are worth decoding in place, of a piece of which so many are done: the rest of one
-// that was begun in place, or a long one.
+// How many bytes are worth decoding in place, of a piece of which so many are done.
 #[inline(always)]
 fn least_room(done: usize) -> usize
-    ensures first { done ≡ 0 → result ≡ LONG }
+    ensures first { done ≡ 0 → result ≡ IN_PLACE }
     ensures rest { 0 < done → result ≡ RUN_ROOM }
-    ensures run { (RUN_ROOM ≤ result) × (result ≤ LONG) }
+    ensures run { (RUN_ROOM ≤ result) × (result ≤ IN_PLACE) }
 {
-    if done == 0 { LONG } else { RUN_ROOM }
+    if done == 0 { IN_PLACE } else { RUN_ROOM }
 }
 
 // How many bytes to decode at once, and to keep, for a piece of `size` bytes of which so many are
@@ -79,14 +70,12 @@ fn least_room(done: usize) -> usize
 fn kept_room(size: usize, done: usize) -> usize
     requires within { done ≤ size }
     requires last { 0 < done → size < done + (RUN_ROOM + 3) }
-    requires short { done ≡ 0 → size < LONG }
+    requires short { done ≡ 0 → size < IN_PLACE }
     ensures within { result ≤ KEPT }
     ensures whole { result % 12 ≡ 0 }
     ensures enough { size - done + RUN_ROOM ≤ result }
 {
-    if size >= LONG {
-        AFTER_LONG
-    } else if done == 0 {
+    if done == 0 {
         KEPT
     } else {
         (size - done + (RUN_ROOM + 11)) / 12 * 12
@@ -207,14 +196,14 @@ impl Pieces {
     }
 
     // Whether a piece of so many bytes is decoded in place to the last chunk that stands in memory:
-    // neither short nor long, and not at the end of the image.
+    // it isn't short, and not at the end of the image.
     #[inline(always)]
     fn is_placed(&self, size: usize) -> bool
         requires { size ≤ self.now.undecoded }
         ensures { IsTrue result
-            → (IN_PLACE ≤ size) × (size + RUN_ROOM ≤ self.now.undecoded) }
+            ↔ (IN_PLACE ≤ size) × (size + RUN_ROOM ≤ self.now.undecoded) }
     {
-        IN_PLACE <= size && size < LONG && RUN_ROOM <= self.undecoded - size
+        IN_PLACE <= size && RUN_ROOM <= self.undecoded - size
     }
 
     // Gives the rest of a run and decodes chunks that stand in memory into such a piece, and returns
@@ -364,7 +353,7 @@ impl Pieces {
             → OnErr result
             (HasFault (RefusesChunks R.in_memory n start (R.ahead reader.new)) fault.new) }
         ensures within { IfOk result (λ size. size ≤ length out.new) }
-        ensures few { IfOk result (λ size. length out.new < size + LONG) }
+        ensures few { IfOk result (λ size. length out.new < size + IN_PLACE) }
         ensures last { IfOk result (λ size. 0 < done + size
             → length out.new < size + (RUN_ROOM + 3)) }
         ensures none { OnOk result (KeepsNothing self.new) }

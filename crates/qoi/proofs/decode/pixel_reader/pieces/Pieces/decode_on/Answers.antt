@@ -5,7 +5,7 @@ use Rattle.qoi.specs.declared.decode.pixel_reader.pieces.Pieces.{Pieces}
 use Rattle.qoi.specs.Raw.{IsChannels}
 use Rattle.qoi.specs.inner.Chunks.{RefusesChunks, HasFault}
 use Rattle.qoi.specs.pieces.ReaderPieces.{KeepsNothing, GivesPieces}
-use Rattle.qoi.proofs.format.WholePixels.{by_channels}
+use Rattle.qoi.proofs.format.WholePixels.{whole_pixels}
 use Rattle.qoi.proofs.decoding.Progress.{none_written}
 use Rattle.qoi.proofs.decoding.PieceSteps.{Lent, lent, kept_read, rest_count, rest_read, rest_whole, minus_whole}
 use Rattle.qoi.proofs.decode.pixel_reader.pieces.Pieces.decode_on.Goals as goal
@@ -15,8 +15,7 @@ room_lent : {f c n : ℕ} {start old : Option (List ℕ)} {given : List ℕ} (p 
     → KeepsNothing p → room ≤ length p.bytes → room % c ≡ 0 → room < p.undecoded → Lent f c n (room / c) start old given p (take room p.bytes) 0
 room_lent {c = c} p room is h same within whole long =
     let front = length-take-le room p.bytes within in
-    let times = by_channels (λ k. room % k ≡ 0 → room ≡ k * (room / k)) is (λ e. omega (arith, e)) (λ e. omega (arith, e)) whole in
-    lent (room / c) (take room p.bytes) is h same (omega (arith, long)) (front ∙ times) (omega (arith, front, long))
+    lent (room / c) (take room p.bytes) is h same (omega (arith, long)) (front ∙ whole_pixels c room is whole) (omega (arith, front, long))
 
 -- room for the rest is
 rest_lent : {f c n : ℕ} {start old : Option (List ℕ)} {given : List ℕ} (p : Pieces) → IsChannels c → GivesPieces f c n start old given p

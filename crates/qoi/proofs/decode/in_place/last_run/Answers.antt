@@ -3,7 +3,7 @@ use Rattle.std.proofs.Common.{◌-◌, ◌++◌, length, slice_index, arith, ref
 use Rattle.qoi.specs.declared.chunk.Chunk.TheVariants.{Run}
 use Rattle.qoi.specs.Qoi.{bytes_of}
 use Rattle.qoi.proofs.decoding.InPlace.{piece_stops, piece_ends, next_taken, times_rest}
-use Rattle.qoi.proofs.decode.fast.Progress.last_run.Goals as goal
+use Rattle.qoi.proofs.decode.in_place.last_run.Goals as goal
 
 pub returns-then-not-is_run_to_end-clause-takes : goal.returns-then-not-is_run_to_end-clause-takes
 returns-then-not-is_run_to_end-clause-takes g c gone n before h =
@@ -15,7 +15,7 @@ returns-clause-takes g c gone n before h =
     let from = c.args.from in
     let bytes = c.args.bytes.now in
     let b1 = slice_index bytes from.taken in
-    let run = c.is_run_to_end.ensures c.if-not-is_run_to_end.false in
+    let run = c.is_run_to_end.ensures.0 c.if-not-is_run_to_end.false in
     let rest = times_rest g.row.N (length c.args.out.now) from.at is c.requires.fillable.whole.0 c.requires.fillable.whole.1 in
     piece_ends _ (b1 - 191) c.args.out.now c.store_exactly.new.out _ is c.requires.below h (omega (arith, run)) (omega (arith, run)) c.put.ensures
     (λ taken is_front. ap (λ z. z ++ bytes_of (Run (b1 - 191))) is_front ∙ next_taken before bytes from.taken (b1 - 191) c.requires.ahead (omega (arith, run)))

@@ -1,7 +1,7 @@
 -- One after the other.
 use Rattle.std.proofs.Common.{arith}
 use Rattle.qoi.proofs.decoding.InPlace.{piece_stops}
-use Rattle.qoi.proofs.decode.fast.Progress.chunks_in_place.Goals as goal
+use Rattle.qoi.proofs.decode.in_place.chunks_in_place.Goals as goal
 
 pub returns-then-bytes-lt-INPUT_ROOM-clause-takes : goal.returns-then-bytes-lt-INPUT_ROOM-clause-takes
 returns-then-bytes-lt-INPUT_ROOM-clause-takes g c gone n before h =
