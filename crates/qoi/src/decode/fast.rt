@@ -1,8 +1,8 @@
 //! The loops over chunks in memory while input and output have room ahead: for eight short ones and
 //! a full one, which is tested once for all nine or, near the end of an output that goes on
 //! elsewhere, for one of each. They can go on from any pixel.
-ghost use Rattle.std.specs.Prelude.{◌≡◌, ◌↔◌, IsTrue, ◌+◌, ◌-◌, ◌*◌, ◌/◌, ◌%◌, ◌<◌, ◌≤◌, ◌^◌, ℕ, List, ◌++◌, length, take, drop, replicate};
-ghost use Rattle.qoi.specs.Qoi.{Past, run_tag, rgb_tag};
+ghost use Rattle.std.specs.Prelude.{◌≡◌, ◌↔◌, IsTrue, ◌+◌, ◌-◌, ◌*◌, ◌/◌, ◌<◌, ◌≤◌, ◌^◌, length, replicate};
+ghost use Rattle.qoi.specs.Qoi.{run_tag, rgb_tag};
 ghost use Rattle.qoi.specs.Raw.{IsChannels};
 ghost use Rattle.qoi.specs.declared.decode.fast.TheConstants.{INPUT_ROOM};
 ghost use Rattle.qoi.specs.declared.decode.output.TheConstants.{RUN_ROOM};
@@ -48,7 +48,7 @@ fn is_short<const N: usize>(b1: u8) -> bool
 }
 
 impl Progress {
-    ghost use Rattle.qoi.specs.inner.Filling.{IsFillable, upto, filling, further, TakesOn, TakesFront, IsFrontAfter, DecoderBetween, HasWritten, IsRow, HasAhead, fast, FastStep};
+    ghost use Rattle.qoi.specs.inner.Filling.{IsFillable, upto, filling, further, TakesOn, TakesFront, HasWritten, IsRow, HasAhead, fast, FastStep};
 
     // The same, with `count` bytes more taken.
     #[inline(always)]

@@ -14,6 +14,7 @@ ghost use Rattle.qoi.specs.inner.Chunks.{RefusesChunks, HasFault};
 
 pub(super) mod piece_reader;
 pub(super) mod pieces;
+mod room;
 
 use crate::decode::Decoder;
 use crate::decode::pixel_reader::piece_reader::PieceReader;

@@ -7,7 +7,7 @@ use Rattle.qoi.specs.inner.Chunks.{TakesChunks}
 use Rattle.qoi.specs.inner.Filling.{filling}
 use Rattle.qoi.proofs.Results.{if_ok_of}
 use Rattle.qoi.proofs.decoding.Progress.{fillable_whole}
-use Rattle.qoi.proofs.decode.pixel_reader.pieces.front_of_image.Goals as goal
+use Rattle.qoi.proofs.decode.pixel_reader.room.front_of_image.Goals as goal
 
 pub some_chunks-requires : goal.some_chunks-requires
 some_chunks-requires g c = fillable_whole c.requires.channels (ap (λ k. k % g.row.N) (length-take-le c.args.size c.args.out.now c.requires.within) ∙ c.requires.whole)

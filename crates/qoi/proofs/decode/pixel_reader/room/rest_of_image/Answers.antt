@@ -9,7 +9,7 @@ use Rattle.qoi.proofs.Results.{on_ok_of}
 use Rattle.qoi.proofs.decoding.Progress.{fillable_whole}
 use Rattle.qoi.proofs.decoding.PieceSteps.{with_marker}
 use Rattle.qoi.proofs.decoding.StreamReads.{after_refused}
-use Rattle.qoi.proofs.decode.pixel_reader.pieces.rest_of_image.Goals as goal
+use Rattle.qoi.proofs.decode.pixel_reader.room.rest_of_image.Goals as goal
 
 pub returns-in_err-all_chunks-clause-refused : goal.returns-in_err-all_chunks-clause-refused
 returns-in_err-all_chunks-clause-refused g c gone n start h =

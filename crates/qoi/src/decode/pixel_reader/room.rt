@@ -1,0 +1,101 @@
+//! How many bytes of an image are decoded at once, and into which.
+ghost use Rattle.std.specs.Io.KnownBytes.{Consumes};
+ghost use Rattle.std.specs.Prelude.{true, ◌≡◌, ℕ, ◌+◌, ◌-◌, ◌%◌, ◌<◌, ◌≤◌, ◌++◌, length, take, reverse, Option, List, IfOk, IfErr, OnOk};
+ghost use Rattle.qoi.specs.Decoding.{ReadsImage};
+ghost use Rattle.qoi.specs.Qoi.{Past};
+ghost use Rattle.qoi.specs.Raw.{IsChannels, output};
+ghost use Rattle.qoi.specs.declared.decode.output.TheConstants.{RUN_ROOM};
+ghost use Rattle.qoi.specs.declared.decode.pixel_reader.room.TheConstants.{KEPT, IN_PLACE};
+ghost use Rattle.qoi.specs.inner.Chunks.{RefusesChunks, TakesChunks, RefusesFilling};
+ghost use Rattle.qoi.specs.inner.Filling.{filling, DecoderBetween};
+
+use crate::decode::chunks::{Chunks, Reached};
+use crate::decode::hashed::Hashed;
+use crate::decode::output::RUN_ROOM;
+use crate::decode::table::TermTable;
+use crate::error::Result;
+
+/// How many bytes are decoded at once where a piece has no room for the vectors of any run: whole
+/// pixels of three channels and of four.
+pub(super) const KEPT: usize = 3072;
+
+/// A piece of at least so many bytes is decoded in place.
+pub(super) const IN_PLACE: usize = 512;
+
+/// How many bytes are worth decoding in place, of a piece of which so many are done.
+#[inline(always)]
+pub(super) fn least_room(done: usize) -> usize
+    ensures first { done ≡ 0 → result ≡ IN_PLACE }
+    ensures rest { 0 < done → result ≡ RUN_ROOM }
+    ensures run { (RUN_ROOM ≤ result) × (result ≤ IN_PLACE) }
+{
+    if done == 0 { IN_PLACE } else { RUN_ROOM }
+}
+
+/// How many bytes to decode at once, and to keep, for a piece of `size` bytes of which so many are
+/// done: just enough after chunks in place, else all that can be kept.
+#[inline]
+pub(super) fn kept_room(size: usize, done: usize) -> usize
+    requires within { done ≤ size }
+    requires last { 0 < done → size < done + (RUN_ROOM + 3) }
+    requires short { done ≡ 0 → size < IN_PLACE }
+    ensures within { result ≤ KEPT }
+    ensures whole { result % 12 ≡ 0 }
+    ensures enough { size - done + RUN_ROOM ≤ result }
+{
+    if done == 0 {
+        KEPT
+    } else {
+        (size - done + (RUN_ROOM + 11)) / 12 * 12
+    }
+}
+
+/// Decodes chunks into the first `size` bytes of `out`, as long as those have room for the vectors
+/// of any run.
+pub(super) fn front_of_image<R: Chunks<N, F>, const N: usize, const F: usize>(
+    reader: &mut R,
+    table: &mut TermTable,
+    last: Hashed,
+    out: &mut [u8],
+    size: usize,
+) -> Result<Reached>
+    requires channels { IsChannels N }
+    requires some { 0 < size }
+    requires within { size ≤ length out.old }
+    requires whole { size % N ≡ 0 }
+    ensures read { IfOk result (λ now. TakesChunks F N true
+        (R.ahead reader.old) (R.ahead reader.new)
+        (filling table.old last (take size out.old) 0)
+        (filling table.new now.last (take size out.new) now.at)) }
+    ensures below { IfOk result (λ now. now.at < size) }
+    ensures filled { IfOk result (λ now. size < now.at + RUN_ROOM) }
+    ensures refused { IfErr result (RefusesFilling F N R.in_memory
+        (R.ahead reader.old) (R.ahead reader.new) (filling table.old last (take size out.old) 0)) }
+{
+    reader.some_chunks(table, last, &mut out[..size], 0)
+}
+
+/// Decodes the rest of an image into the first `size` bytes of `out`, and takes the end marker.
+pub(super) fn rest_of_image<R: Chunks<N, F>, const N: usize, const F: usize>(
+    reader: &mut R,
+    table: &mut TermTable,
+    last: Hashed,
+    out: &mut [u8],
+    size: usize,
+) -> Result<()>
+    requires channels { IsChannels N }
+    requires within { size ≤ length out.old }
+    requires whole { size % N ≡ 0 }
+    ensures read { (gone : Past) (n : ℕ) (start : Option (List ℕ))
+        → DecoderBetween F N gone n (Consumes start (R.ahead reader.old))
+        (filling table.old last (take size out.old) 0)
+        → OnOk result (ReadsImage F N (length gone + n) start (R.ahead reader.new)
+        (output F N (reverse gone) ++ take size out.new)) }
+    ensures refused { (gone : Past) (n : ℕ) (start : Option (List ℕ))
+        → DecoderBetween F N gone n (Consumes start (R.ahead reader.old))
+        (filling table.old last (take size out.old) 0)
+        → IfErr result (RefusesChunks R.in_memory (length gone + n) start (R.ahead reader.new)) }
+{
+    reader.all_chunks(table, last, &mut out[..size], 0)?;
+    reader.marker()
+}
