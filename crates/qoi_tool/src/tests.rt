@@ -11,7 +11,7 @@ use crate::tests::fakes::{Bad, End, NONE, ONE_RGB_PIXEL, PIXEL, Sink, Source, ta
 use crate::tests::library::support::examples::{
     BLACK_AS_PLACE, PLACE_RGBA, REPEAT, REPEAT_AS_PLACE, Written, files,
 };
-use crate::tests::library::support::{assert_bytes, assert_number};
+use crate::tests::library::support::{assert_bytes, assert_number, made};
 use crate::{Fault, report, run};
 use qoi::{Error, Style};
 use std::alloc::Global;
@@ -51,7 +51,7 @@ fn dec<R: Read>(alloc: Global, input: &mut R, output: &mut Sink) -> Result<(), F
 // Compares what the program writes for the bytes of its input.
 fn assert_writes(rt: &impl Abort, alloc: Global, words: &[&str], bytes: &[u8], wanted: &[u8]) {
     let mut input = Source::new(bytes, usize::MAX, NONE);
-    let mut output = Sink::new(alloc, usize::MAX, NONE).expect(rt, "refused");
+    let mut output = made::sink(rt, alloc, usize::MAX, NONE);
     assert!(rt; answer(alloc, words, &mut input, &mut output).is_ok());
     assert_bytes(rt, &output.got, wanted);
 }
@@ -68,7 +68,7 @@ fn assert_reports(
         assert!(rt; false, "no fault, not: {line}");
         return;
     };
-    let mut err = Sink::new(alloc, usize::MAX, NONE).expect(rt, "refused");
+    let mut err = made::sink(rt, alloc, usize::MAX, NONE);
     assert_eq!(rt; report(&fault, &mut err), status);
     assert_bytes(rt, &err.got, line.as_bytes());
     // What the writes return is ignored.
@@ -76,7 +76,7 @@ fn assert_reports(
         call: 1,
         end: End::Fault,
     };
-    let mut err = Sink::new(alloc, usize::MAX, bad).expect(rt, "refused");
+    let mut err = made::sink(rt, alloc, usize::MAX, bad);
     assert_eq!(rt; report(&fault, &mut err), status);
     assert!(rt; err.got.is_empty());
 }
@@ -91,7 +91,7 @@ fn assert_refuses(
     line: &str,
 ) {
     let mut input = Source::new(bytes, usize::MAX, NONE);
-    let mut output = Sink::new(alloc, usize::MAX, NONE).expect(rt, "refused");
+    let mut output = made::sink(rt, alloc, usize::MAX, NONE);
     let answer = answer(alloc, words, &mut input, &mut output);
     assert!(rt; output.got.is_empty());
     assert!(rt; status == 1 || input.calls == 0);
@@ -224,7 +224,7 @@ fn assert_io(
     match answer {
         Err(Fault::Image(Error::IoError(error))) => {
             assert!(rt; error.kind() == kind, "at call {call}");
-            let mut err = Sink::new(alloc, usize::MAX, NONE).expect(rt, "refused");
+            let mut err = made::sink(rt, alloc, usize::MAX, NONE);
             let fault = Fault::Image(Error::IoError(error));
             assert_eq!(rt; report(&fault, &mut err), 1);
             assert!(rt;
@@ -242,13 +242,13 @@ fn header_lines(rt: HostRuntime) {
     let alloc = rt.alloc();
     for most in [usize::MAX, 1] {
         let mut input = Source::new(&ONE_RGB_PIXEL, most, NONE);
-        let mut output = Sink::new(alloc, usize::MAX, NONE).expect(&rt, "refused");
+        let mut output = made::sink(&rt, alloc, usize::MAX, NONE);
         assert!(rt; answer(alloc, &["info"], &mut input, &mut output).is_ok());
         assert_bytes(&rt, &output.got, LINE);
         assert_number(&rt, input.left.len(), 12);
 
         let mut input = Source::new(&ONE_RGB_PIXEL[..13], most, NONE);
-        let mut output = Sink::new(alloc, usize::MAX, NONE).expect(&rt, "refused");
+        let mut output = made::sink(&rt, alloc, usize::MAX, NONE);
         let cut = answer(alloc, &["info"], &mut input, &mut output);
         assert_io(&rt, alloc, cut, ErrorKind::UnexpectedEof, 14);
         assert!(rt; output.got.is_empty());
@@ -271,14 +271,14 @@ fn failing_reader(rt: HostRuntime) {
     for (end, kind) in ends {
         for call in 1..28usize {
             let mut input = Source::new(&ONE_RGB_PIXEL, 1, Bad { call, end });
-            let mut output = Sink::new(alloc, usize::MAX, NONE).expect(&rt, "refused");
+            let mut output = made::sink(&rt, alloc, usize::MAX, NONE);
             let answer = dec(alloc, &mut input, &mut output);
             assert_io(&rt, alloc, answer, kind, call);
             assert_number(&rt, input.calls, call);
             assert!(rt; output.got.is_empty(), "at call {call}");
         }
         let mut input = Source::new(&ONE_RGB_PIXEL, 1, Bad { call: 28, end });
-        let mut output = Sink::new(alloc, usize::MAX, NONE).expect(&rt, "refused");
+        let mut output = made::sink(&rt, alloc, usize::MAX, NONE);
         assert!(rt; dec(alloc, &mut input, &mut output).is_ok());
         assert_number(&rt, input.calls, 27);
     }
@@ -298,11 +298,11 @@ fn own_words(rt: HostRuntime) {
     let commands: [&[&str]; 3] = [&["dec"], &["dec", "rgba"], &["info"]];
     for words in commands {
         let mut input = Source::new(&ONE_RGB_PIXEL, usize::MAX, bad);
-        let mut output = Sink::new(alloc, usize::MAX, NONE).expect(&rt, "refused");
+        let mut output = made::sink(&rt, alloc, usize::MAX, NONE);
         let refused = answer(alloc, words, &mut input, &mut output);
         assert_reports(&rt, alloc, refused, 1, line);
         let mut input = Source::new(&ONE_RGB_PIXEL, usize::MAX, NONE);
-        let mut output = Sink::new(alloc, usize::MAX, bad).expect(&rt, "refused");
+        let mut output = made::sink(&rt, alloc, usize::MAX, bad);
         let refused = answer(alloc, words, &mut input, &mut output);
         assert_reports(&rt, alloc, refused, 1, line);
     }
@@ -323,13 +323,13 @@ fn failing_writer(rt: HostRuntime) {
         for written in 0..3usize {
             let call = written + 1;
             let mut input = Source::new(&ONE_RGB_PIXEL, usize::MAX, NONE);
-            let mut output = Sink::new(alloc, 1, Bad { call, end }).expect(&rt, "refused");
+            let mut output = made::sink(&rt, alloc, 1, Bad { call, end });
             let answer = dec(alloc, &mut input, &mut output);
             assert_io(&rt, alloc, answer, kind, call);
             assert_bytes(&rt, &output.got, &PIXEL[..written]);
         }
         let mut input = Source::new(&ONE_RGB_PIXEL, usize::MAX, NONE);
-        let mut output = Sink::new(alloc, 1, Bad { call: 4, end }).expect(&rt, "refused");
+        let mut output = made::sink(&rt, alloc, 1, Bad { call: 4, end });
         assert!(rt; dec(alloc, &mut input, &mut output).is_ok());
         assert_bytes(&rt, &output.got, &PIXEL);
     }
@@ -347,8 +347,8 @@ fn assert_starved(
 ) {
     let words = given(alloc, some).expect(rt, "refused");
     let mut input = Source::new(&ONE_RGB_PIXEL, usize::MAX, NONE);
-    let mut output = Sink::new(alloc, usize::MAX, NONE).expect(rt, "refused");
-    let mut err = Sink::new(alloc, usize::MAX, NONE).expect(rt, "refused");
+    let mut output = made::sink(rt, alloc, usize::MAX, NONE);
+    let mut err = made::sink(rt, alloc, usize::MAX, NONE);
     let held = take_memory(alloc, 2).expect(rt, "refused");
     let found = match run(alloc, &words, &mut input, &mut output) {
         Ok(()) => 0,

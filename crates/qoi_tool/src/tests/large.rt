@@ -1,8 +1,9 @@
 //! An image of 20 million pixels in runs, there and back: by vectors, by streams and by the
 //! program.
-use crate::tests::fakes::{NONE, Sink, Source};
+use crate::tests::fakes::{NONE, Source};
+use crate::tests::library::support::made;
 use crate::tests::{answer, dec};
-use qoi::{Decoder, Encoder, Result, decode_to_vec, encode_to_vec};
+use qoi::{Result, decode_to_vec, encode_to_vec};
 use std::alloc::Global;
 use std::process::Abort;
 
@@ -20,8 +21,8 @@ fn raw_of(alloc: Global, n: usize) -> Result<Vec<u8>> {
 // The image's file, by a vector and by a stream.
 fn encoded(rt: &impl Abort, alloc: Global, raw: &[u8], width: u32, height: u32) -> Vec<u8> {
     let file = encode_to_vec(alloc, raw, width, height).expect(rt, "refused");
-    let mut sent = Sink::new(alloc, usize::MAX, NONE).expect(rt, "refused");
-    let encoder = Encoder::new(raw, width, height).expect(rt, "refused");
+    let mut sent = made::sink(rt, alloc, usize::MAX, NONE);
+    let encoder = made::encoder(rt, raw, width, height);
     let size = encoder.encode_to_stream(&mut sent).expect(rt, "refused");
     assert!(rt; size == file.len() && sent.got.as_slice() == file.as_slice());
     file
@@ -31,7 +32,7 @@ fn encoded(rt: &impl Abort, alloc: Global, raw: &[u8], width: u32, height: u32) 
 fn assert_comes_back(rt: &impl Abort, alloc: Global, file: &[u8], raw: &[u8]) {
     let found = decode_to_vec(alloc, file);
     assert!(rt; matches!(&found, Ok((_, found)) if found.as_slice() == raw));
-    let mut decoder = Decoder::from_stream(file).expect(rt, "refused");
+    let mut decoder = made::stream(rt, file);
     let found = decoder.decode_to_vec(alloc);
     assert!(rt; matches!(&found, Ok(found) if found.as_slice() == raw));
 }
@@ -40,11 +41,11 @@ fn assert_comes_back(rt: &impl Abort, alloc: Global, file: &[u8], raw: &[u8]) {
 // piece at once.
 fn assert_program(rt: &impl Abort, alloc: Global, raw: &[u8], words: &[&str], file: &[u8]) {
     let mut input = Source::new(raw, usize::MAX, NONE);
-    let mut output = Sink::new(alloc, 4095, NONE).expect(rt, "refused");
+    let mut output = made::sink(rt, alloc, 4095, NONE);
     assert!(rt; answer(alloc, words, &mut input, &mut output).is_ok());
     assert!(rt; output.got.as_slice() == file);
     let mut input = Source::new(file, usize::MAX, NONE);
-    let mut output = Sink::new(alloc, 4095, NONE).expect(rt, "refused");
+    let mut output = made::sink(rt, alloc, 4095, NONE);
     assert!(rt; dec(alloc, &mut input, &mut output).is_ok());
     assert!(rt; output.got.as_slice() == raw);
 }

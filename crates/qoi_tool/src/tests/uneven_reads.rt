@@ -1,7 +1,8 @@
 //! Files of about one and two mebibytes, from a reader that gives uneven parts.
 use crate::tests::dec;
-use crate::tests::fakes::{NONE, Sink};
-use crate::tests::library::support::images::{file_of, row};
+use crate::tests::fakes::NONE;
+use crate::tests::library::support::images::row;
+use crate::tests::library::support::made;
 use qoi::Channels;
 use std::io;
 use std::io::Read;
@@ -55,15 +56,14 @@ fn uneven_reads(rt: HostRuntime) {
         MOST - 1,
     ] {
         let pixels = size - AROUND;
-        let chunks = vec![in alloc; 0x7fu8; pixels as usize].expect(&rt, "refused");
-        let file = file_of(alloc, row(pixels, Channels::Rgb), &chunks).expect(&rt, "refused");
+        let chunks = made::filled(&rt, alloc, 0x7f, pixels as usize);
+        let file = made::file(&rt, alloc, row(pixels, Channels::Rgb), &chunks);
         let mut raw = Vec::new(alloc);
         for k in 1..=pixels {
-            raw.extend_from_slice(&[(k % 256) as u8; 3])
-                .expect(&rt, "refused");
+            made::append(&rt, &mut raw, &[(k % 256) as u8; 3]);
         }
         let mut input = Uneven::new(&file);
-        let mut output = Sink::new(alloc, usize::MAX, NONE).expect(&rt, "refused");
+        let mut output = made::sink(&rt, alloc, usize::MAX, NONE);
         assert!(rt; dec(alloc, &mut input, &mut output).is_ok());
         assert!(rt; output.got == raw);
         assert!(rt; input.asked <= MOST as usize);

@@ -1,7 +1,8 @@
 //! Images of few pixels, by the plain encoder: repeats, fresh pixels of each kind, and pixels that
 //! share an index position, in each lane of blocks of sixteen pixels and across their borders.
 use crate::tests::library::support::generator::{Numbers, Rgba, pixel};
-use crate::tests::library::support::images::{Image, row};
+use crate::tests::library::support::images::row;
+use crate::tests::library::support::made;
 use qoi::Channels::{Rgb, Rgba as Four};
 use qoi::{Channels, Result, Style};
 use std::alloc::Global;
@@ -36,9 +37,7 @@ const STYLES: [Style; 3] = [Style::Reference, Style::Places, Style::Tight];
 // Encodes a row of these pixels by each of the calls, and decodes it back.
 fn assert_row(rt: &impl Abort, alloc: Global, channels: Channels, style: Style, pixels: &[Rgba]) {
     let header = row(pixels.len().min(100) as u32, channels);
-    Image::of(alloc, header, style, pixels)
-        .expect(rt, "refused")
-        .check(rt, alloc);
+    made::image(rt, alloc, header, style, pixels).check(rt, alloc);
 }
 
 // The next 1 to 70 pixels: one of four is a repeat, and of the others each is one of the three.

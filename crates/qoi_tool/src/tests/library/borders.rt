@@ -3,8 +3,9 @@
 //! and output.
 use crate::tests::library::support::decodings::Decoding;
 use crate::tests::library::support::generator::Numbers;
-use crate::tests::library::support::images::{file_of, row, seen_raw};
+use crate::tests::library::support::images::row;
 use crate::tests::library::support::lists::add;
+use crate::tests::library::support::made;
 use crate::tests::library::support::reference::pixels_of;
 use qoi::{Channels, Result};
 use std::alloc::Global;
@@ -31,9 +32,9 @@ const REST: [u8; 20] = [
 // Decodes a file that 0 to 20 bytes follow, and refuses it without its last 1 to 20 bytes.
 fn assert_ends(rt: &impl Abort, alloc: Global, file: Decoding<'_>, raw: &[u8]) {
     for more in 0..=20usize {
-        let mut bytes = Vec::from_slice(alloc, file.bytes).expect(rt, "refused");
+        let mut bytes = made::bytes(rt, alloc, file.bytes);
         let rest = &REST[..more];
-        bytes.extend_from_slice(rest).expect(rt, "refused");
+        made::append(rt, &mut bytes, rest);
         let decoding = Decoding {
             bytes: &bytes,
             ..file
@@ -92,9 +93,9 @@ impl Drawing {
         let pixels = pixels_of(alloc, &self.chunks, n).expect(rt, "refused");
         for own in [Channels::Rgb, Channels::Rgba] {
             let header = row(n, own);
-            let file = file_of(alloc, header, &self.chunks).expect(rt, "refused");
+            let file = made::file(rt, alloc, header, &self.chunks);
             for channels in [Channels::Rgb, Channels::Rgba] {
-                let raw = seen_raw(alloc, &pixels, own, channels).expect(rt, "refused");
+                let raw = made::seen(rt, alloc, &pixels, own, channels);
                 let decoding = Decoding {
                     bytes: &file,
                     header,

@@ -2,8 +2,8 @@
 //! the examples, by each call, from a slice, from a stream and from a reader with a buffer.
 use crate::tests::library::support::decodings::{CUT, Decoding, after};
 use crate::tests::library::support::examples::files;
-use crate::tests::library::support::images::{Image, file_of, row};
-use crate::tests::library::support::{assert_bytes, assert_fails, assert_refused};
+use crate::tests::library::support::images::{Image, row};
+use crate::tests::library::support::{assert_bytes, assert_fails, assert_refused, made};
 use qoi::parts::Reader;
 use qoi::{Channels, Decoder, decode_header, decode_to_buf};
 use std::alloc::Global;
@@ -49,7 +49,7 @@ fn beginnings(rt: HostRuntime) {
 fn changed_markers(rt: HostRuntime) {
     for image in &files(rt.alloc()).expect(&rt, "refused") {
         for back in 1..9usize {
-            let mut changed = image.file.clone().expect(&rt, "refused");
+            let mut changed = made::bytes(&rt, rt.alloc(), &image.file);
             if let Some(byte) = changed.get_mut(image.file.len().saturating_sub(back)) {
                 *byte = byte.wrapping_add(1);
             }
@@ -65,8 +65,8 @@ fn followed(rt: HostRuntime) {
     let all: [&[u8]; 3] = [&[], &[0x78], &[0, 0, 0, 0, 0, 0, 0, 1, 0x78]];
     for image in &files(rt.alloc()).expect(&rt, "refused") {
         for rest in all {
-            let mut bytes = image.file.clone().expect(&rt, "refused");
-            bytes.extend_from_slice(rest).expect(&rt, "refused");
+            let mut bytes = made::bytes(&rt, rt.alloc(), &image.file);
+            made::append(&rt, &mut bytes, rest);
             decoding(image, &bytes).check(&rt, rt.alloc(), &image.raw, rest);
         }
     }
@@ -86,13 +86,13 @@ fn assert_no_room<R: Reader>(
 // The buffer is refused with this text from a slice, from both kinds of reader and by the free
 // call. The decoders have all bytes after the header left.
 fn assert_too_small(rt: &impl Abort, alloc: Global, file: &[u8], buf: &mut [u8], text: &str) {
-    let mut slice = Decoder::new(file).expect(rt, "refused");
+    let mut slice = made::slice(rt, file);
     assert_no_room(rt, alloc, &mut slice, buf, text);
     assert_bytes(rt, slice.data(), after(file, 14));
-    let mut stream = Decoder::from_stream(file).expect(rt, "refused");
+    let mut stream = made::stream(rt, file);
     assert_no_room(rt, alloc, &mut stream, buf, text);
     assert_bytes(rt, stream.into_reader(), after(file, 14));
-    let mut buffered = Decoder::from_buf_read(file).expect(rt, "refused");
+    let mut buffered = made::buffered(rt, file);
     assert_no_room(rt, alloc, &mut buffered, buf, text);
     assert_bytes(rt, buffered.into_reader(), after(file, 14));
     assert_refused(rt, alloc, decode_to_buf(buf, file).err(), text);
@@ -105,8 +105,8 @@ fn assert_short(rt: &impl Abort, alloc: Global, image: &Image) {
     let text = format!(in alloc;
         "output buffer size too small: {size} (required: {required})"
     ).expect(rt, "refused");
-    let before = vec![in alloc; 0xaau8; size].expect(rt, "refused");
-    let mut buf = before.clone().expect(rt, "refused");
+    let before = made::filled(rt, alloc, 0xaa, size);
+    let mut buf = made::bytes(rt, alloc, &before);
     assert_too_small(rt, alloc, &image.file, &mut buf, &text);
     assert_bytes(rt, &buf, &before);
 }
@@ -132,7 +132,7 @@ fn largest_image(rt: HostRuntime) {
 fn last_run(rt: HostRuntime) {
     for (width, chunks) in [(1, &[0xc0, 0xc0][..]), (100, &[0xfd, 0xfd, 0xfd])] {
         let header = row(width, Channels::Rgb);
-        let more = file_of(rt.alloc(), header, chunks).expect(&rt, "refused");
+        let more = made::file(&rt, rt.alloc(), header, chunks);
         let decoding = Decoding {
             bytes: &more,
             header,
@@ -141,7 +141,7 @@ fn last_run(rt: HostRuntime) {
         decoding.check_wrong(&rt, rt.alloc(), &[1]);
     }
     let header = row(100, Channels::Rgb);
-    let file = file_of(rt.alloc(), header, &[0xfd, 0xfd]).expect(&rt, "refused");
+    let file = made::file(&rt, rt.alloc(), header, &[0xfd, 0xfd]);
     let decoding = Decoding {
         bytes: &file,
         header,

@@ -1,12 +1,14 @@
 //! Files that are decoded from a reader's buffer: of each size, filled in each way, and at a bad
 //! call of `fill_buf` or of `read`.
 use crate::tests::fakes::{Bad, End, NONE, Shown, Source};
-use crate::tests::library::support::generator::{Numbers, drawn};
-use crate::tests::library::support::images::{Image, file_of, row};
-use crate::tests::library::support::{assert_bytes, assert_fails, assert_given, assert_number};
+use crate::tests::library::support::generator::Numbers;
+use crate::tests::library::support::images::{file_of, row};
+use crate::tests::library::support::{
+    assert_bytes, assert_decoded, assert_fails, assert_number, made,
+};
 use qoi::{Channels, Decoder, Error, Result, Style};
 use std::alloc::Global;
-use std::io::{BufRead, BufReader, Cursor, ErrorKind, Read};
+use std::io::{BufRead, BufReader, Cursor, ErrorKind};
 use std::process::Abort;
 
 // A chunk of each kind: RGB, a run of 1, a difference of 1, a luma of 6, RGBA, and the index
@@ -56,13 +58,11 @@ fn is_whole(taken: usize) -> bool {
 
 // Decodes two files of one image, each by a decoder of its own, and reads the two bytes after them.
 fn assert_two_files<R: BufRead + Drop>(rt: &impl Abort, alloc: Global, reader: R, image: &[u8]) {
-    let mut first = Decoder::from_buf_read(reader).expect(rt, "refused");
-    assert_given(rt, first.decode_to_vec(alloc), image);
-    let mut second = Decoder::from_buf_read(first.into_reader()).expect(rt, "refused");
-    assert_given(rt, second.decode_to_vec(alloc), image);
-    let mut rest = Vec::new(alloc);
-    let mut reader = second.into_reader();
-    reader.read_to_end(&mut rest).expect(rt, "refused");
+    let mut first = made::buffered(rt, reader);
+    assert_decoded(rt, alloc, &mut first, image);
+    let mut second = made::buffered(rt, first.into_reader());
+    assert_decoded(rt, alloc, &mut second, image);
+    let rest = made::rest(rt, alloc, second.into_reader());
     assert_bytes(rt, &rest, &[0x78, 0x79]);
 }
 
@@ -108,10 +108,8 @@ fn drawn_images(rt: HostRuntime) {
     for channels in [Channels::Rgb, Channels::Rgba] {
         for k in 0..12u32 {
             let width = 20 + 15 * k;
-            let pixels = drawn(alloc, &mut numbers, channels, width as usize);
-            let pixels = pixels.expect(&rt, "refused");
-            let image = Image::of(alloc, row(width, channels), Style::Reference, &pixels);
-            let image = image.expect(&rt, "refused");
+            let pixels = made::pixels(&rt, alloc, &mut numbers, channels, width as usize);
+            let image = made::image(&rt, alloc, row(width, channels), Style::Reference, &pixels);
             assert_each_buffer(&rt, alloc, &image.file, &image.raw);
         }
     }
@@ -123,12 +121,10 @@ fn drawn_images(rt: HostRuntime) {
 fn rest_of_the_buffer(rt: HostRuntime) {
     let alloc = rt.alloc();
     let mut bytes = file(alloc).expect(&rt, "refused");
-    bytes
-        .extend_from_slice(&[0x78, 0x79])
-        .expect(&rt, "refused");
+    made::append(&rt, &mut bytes, &[0x78, 0x79]);
     let source = Source::new(&bytes, 100, NONE);
-    let reader = BufReader::with_capacity(alloc, 100, source).expect(&rt, "refused");
-    let mut decoder = Decoder::from_buf_read(reader).expect(&rt, "refused");
+    let reader = made::buffer(&rt, alloc, 100, source);
+    let mut decoder = made::buffered(&rt, reader);
     decoder.decode_to_vec(alloc).expect(&rt, "refused");
     assert_bytes(&rt, decoder.reader().buffer(), &[0x78, 0x79]);
     let reader = decoder.into_reader();

@@ -1,5 +1,6 @@
 //! The kinds of chunk, over many values.
-use crate::tests::library::support::images::{Image, file_of, row};
+use crate::tests::library::support::images::{Image, row};
+use crate::tests::library::support::made;
 use qoi::{Channels, Header, Style};
 use std::alloc::Global;
 use std::process::Abort;
@@ -12,15 +13,15 @@ fn assert_encodes(
     (first, rest): (&[u8], &[u8]),
     (chunks, last): (&[u8], &[u8]),
 ) {
-    let mut raw = Vec::from_slice(alloc, first).expect(rt, "refused");
-    raw.extend_from_slice(rest).expect(rt, "refused");
-    let mut all = Vec::from_slice(alloc, chunks).expect(rt, "refused");
-    all.extend_from_slice(last).expect(rt, "refused");
+    let mut raw = made::bytes(rt, alloc, first);
+    made::append(rt, &mut raw, rest);
+    let mut all = made::bytes(rt, alloc, chunks);
+    made::append(rt, &mut all, last);
     let image = Image {
         header,
         style: Style::Reference,
         raw,
-        file: file_of(alloc, header, &all).expect(rt, "refused"),
+        file: made::file(rt, alloc, header, &all),
     };
     image.check(rt, alloc);
 }
@@ -41,9 +42,8 @@ fn assert_run(rt: &impl Abort, alloc: Global, n: u8, three: &[u8], four: &[u8]) 
 fn runs_at_the_start(rt: HostRuntime) {
     let (mut three, mut four) = (Vec::new(rt.alloc()), Vec::new(rt.alloc()));
     for n in 1..=124u8 {
-        three.extend_from_slice(&[0, 0, 0]).expect(&rt, "refused");
-        four.extend_from_slice(&[0, 0, 0, 255])
-            .expect(&rt, "refused");
+        made::append(&rt, &mut three, &[0, 0, 0]);
+        made::append(&rt, &mut four, &[0, 0, 0, 255]);
         assert_run(&rt, rt.alloc(), n, &three, &four);
     }
 }

@@ -2,9 +2,11 @@
 use crate::tests::fakes::{ONE_RGB_PIXEL, PIXEL};
 use crate::tests::library::support::decodings::{CUT, Decoding};
 use crate::tests::library::support::examples::{Given, given_table};
-use crate::tests::library::support::images::{file_of, row};
-use crate::tests::library::support::{assert_bytes, assert_given, assert_number, assert_refused};
-use qoi::{Channels, Decoder, Header};
+use crate::tests::library::support::images::row;
+use crate::tests::library::support::{
+    assert_bytes, assert_decoded, assert_number, assert_refused, made,
+};
+use qoi::{Channels, Header};
 use std::alloc::Global;
 use std::process::Abort;
 
@@ -17,9 +19,7 @@ fn assert_given_in(
     raw: &[u8],
 ) {
     let image = example.image(alloc).expect(rt, "refused");
-    let mut decoder = Decoder::new(&image.file)
-        .expect(rt, "refused")
-        .with_channels(channels);
+    let mut decoder = made::slice(rt, &image.file).with_channels(channels);
     let found = decoder.decode_to_vec(alloc).expect(rt, "refused");
     assert!(rt; found.as_slice() == raw, "{}", example.name);
     let decoding = Decoding {
@@ -41,15 +41,11 @@ fn given_examples(rt: HostRuntime) {
 
 #[test]
 fn cut_and_followed(rt: HostRuntime) {
-    let mut file = Vec::from_slice(rt.alloc(), &ONE_RGB_PIXEL).expect(&rt, "refused");
-    file.extend_from_slice(&[0x78, 0x79]).expect(&rt, "refused");
-    let mut decoder = Decoder::new(&file).expect(&rt, "refused");
+    let mut file = made::bytes(&rt, rt.alloc(), &ONE_RGB_PIXEL);
+    made::append(&rt, &mut file, &[0x78, 0x79]);
+    let mut decoder = made::slice(&rt, &file);
     let mut buf = [0xaa; 5];
-    assert_number(
-        &rt,
-        decoder.decode_to_buf(&mut buf).expect(&rt, "refused"),
-        3,
-    );
+    assert_number(&rt, made::decoded(&rt, &mut decoder, &mut buf), 3);
     assert_bytes(&rt, &buf, &[0x0b, 0x79, 0xe7, 0xaa, 0xaa]);
     assert_bytes(&rt, decoder.data(), &[0x78, 0x79]);
     let cut = Decoding {
@@ -65,12 +61,12 @@ fn cut_and_followed(rt: HostRuntime) {
 fn two_files_in_one_slice(rt: HostRuntime) {
     let alloc = rt.alloc();
     let second = [0x55, 0, 0, 0, 0, 0, 0, 0, 1];
-    let mut bytes = Vec::from_slice(alloc, &ONE_RGB_PIXEL).expect(&rt, "refused");
-    bytes.extend_from_slice(&second).expect(&rt, "refused");
-    let mut decoder = Decoder::new(&bytes).expect(&rt, "refused");
-    assert_given(&rt, decoder.decode_to_vec(alloc), &PIXEL);
+    let mut bytes = made::bytes(&rt, alloc, &ONE_RGB_PIXEL);
+    made::append(&rt, &mut bytes, &second);
+    let mut decoder = made::slice(&rt, &bytes);
+    assert_decoded(&rt, alloc, &mut decoder, &PIXEL);
     assert_bytes(&rt, decoder.data(), &second);
-    assert_given(&rt, decoder.decode_to_vec(alloc), &[0xff, 0xff, 0xff]);
+    assert_decoded(&rt, alloc, &mut decoder, &[0xff, 0xff, 0xff]);
     assert_bytes(&rt, decoder.data(), &[]);
     let third = decoder.decode_to_vec(alloc).err();
     assert_refused(&rt, alloc, third, CUT);
@@ -85,8 +81,8 @@ fn two_megapixels(rt: HostRuntime) {
         ..row(2000, Channels::Rgba)
     };
     let chunks = vec![in rt.alloc(); 0x11u8; 2_000_000].expect(&rt, "refused");
-    let blank = vec![in rt.alloc(); 0u8; 8_000_000].expect(&rt, "refused");
-    let file = file_of(rt.alloc(), header, &chunks).expect(&rt, "refused");
+    let blank = made::filled(&rt, rt.alloc(), 0, 8_000_000);
+    let file = made::file(&rt, rt.alloc(), header, &chunks);
     let decoding = Decoding {
         bytes: &file,
         header,

@@ -2,10 +2,12 @@
 use crate::tests::fakes::ONE_RGB_PIXEL;
 use crate::tests::library::support::examples::{self, Written, written_tables};
 use crate::tests::library::support::generator::Rgba;
-use crate::tests::library::support::images::{Image, file_of, row};
+use crate::tests::library::support::images::{Image, row};
 use crate::tests::library::support::plain::plain_chunks;
-use crate::tests::library::support::{assert_bytes, assert_given, assert_number, assert_refused};
-use qoi::{Channels, ColorSpace, Encoder, Header, Result, Style, encode_to_buf};
+use crate::tests::library::support::{
+    assert_bytes, assert_given, assert_number, assert_refused, made,
+};
+use qoi::{Channels, ColorSpace, Header, Result, Style, encode_to_buf};
 use std::alloc::Global;
 use std::process::Abort;
 
@@ -96,16 +98,16 @@ fn assert_reds(rt: &impl Abort, alloc: Global, but: u8, chunks: &[u8]) {
     let mut raw = Vec::new(alloc);
     for red in 1..65u8 {
         if red != but {
-            raw.extend_from_slice(&[red, 0, 0, 0]).expect(rt, "refused");
+            made::append(rt, &mut raw, &[red, 0, 0, 0]);
         }
     }
-    raw.extend_from_slice(&[0; 4]).expect(rt, "refused");
+    made::append(rt, &mut raw, &[0; 4]);
     let header = row(if but == 0 { 65 } else { 64 }, Channels::Rgba);
     let image = Image {
         header,
         style: Style::Tight,
         raw,
-        file: file_of(alloc, header, chunks).expect(rt, "refused"),
+        file: made::file(rt, alloc, header, chunks),
     };
     image.check(rt, alloc);
 }
@@ -113,19 +115,15 @@ fn assert_reds(rt: &impl Abort, alloc: Global, but: u8, chunks: &[u8]) {
 #[test]
 fn all_positions_seen(rt: HostRuntime) {
     // Each is 1 more than the one before it; no position is left, and black is spelled out.
-    let mut chunks = Vec::from_slice(rt.alloc(), &[0xff, 1, 0, 0, 0]).expect(&rt, "refused");
-    chunks.extend_from_slice(&[0x7a; 63]).expect(&rt, "refused");
-    chunks
-        .extend_from_slice(&[0xfe, 0, 0, 0])
-        .expect(&rt, "refused");
+    let mut chunks = made::bytes(&rt, rt.alloc(), &[0xff, 1, 0, 0, 0]);
+    made::append(&rt, &mut chunks, &[0x7a; 63]);
+    made::append(&rt, &mut chunks, &[0xfe, 0, 0, 0]);
     assert_reds(&rt, rt.alloc(), 0, &chunks);
     // Red 22 is 2 more than red 20; position 63, that of red 21, is left.
-    let mut chunks = Vec::from_slice(rt.alloc(), &[0xff, 1, 0, 0, 0]).expect(&rt, "refused");
-    chunks.extend_from_slice(&[0x7a; 19]).expect(&rt, "refused");
-    chunks
-        .extend_from_slice(&[0xa0, 0xa8])
-        .expect(&rt, "refused");
-    chunks.extend_from_slice(&[0x7a; 42]).expect(&rt, "refused");
+    let mut chunks = made::bytes(&rt, rt.alloc(), &[0xff, 1, 0, 0, 0]);
+    made::append(&rt, &mut chunks, &[0x7a; 19]);
+    made::append(&rt, &mut chunks, &[0xa0, 0xa8]);
+    made::append(&rt, &mut chunks, &[0x7a; 42]);
     chunks.push(0x3f).expect(&rt, "refused");
     assert_reds(&rt, rt.alloc(), 21, &chunks);
 }
@@ -135,14 +133,11 @@ fn all_positions_seen(rt: HostRuntime) {
 fn two_megapixels(rt: HostRuntime) {
     let (mut raw, mut chunks) = (Vec::new(rt.alloc()), Vec::new(rt.alloc()));
     for k in 0..2_000_000u32 {
-        raw.extend_from_slice(&[(k % 251) as u8; 3])
-            .expect(&rt, "refused");
+        made::append(&rt, &mut raw, &[(k % 251) as u8; 3]);
         if k == 0 {
             chunks.push(0xc0).expect(&rt, "refused");
         } else if k % 251 == 0 {
-            chunks
-                .extend_from_slice(&[0xa6, 0x88])
-                .expect(&rt, "refused");
+            made::append(&rt, &mut chunks, &[0xa6, 0x88]);
         } else {
             chunks.push(0x7f).expect(&rt, "refused");
         }
@@ -155,7 +150,7 @@ fn two_megapixels(rt: HostRuntime) {
         header,
         style: Style::Reference,
         raw,
-        file: file_of(rt.alloc(), header, &chunks).expect(&rt, "refused"),
+        file: made::file(&rt, rt.alloc(), header, &chunks),
     };
     assert_number(&rt, image.file.len(), 2_007_990);
     image.check(&rt, rt.alloc());

@@ -1,9 +1,11 @@
 //! An image with each kind of chunk, from readers and to writers that end one of their calls badly.
-use crate::tests::fakes::{Bad, End, Sink, Source};
+use crate::tests::fakes::{Bad, End, Source};
 use crate::tests::library::support::decodings::{CALLS, Call, Decoding, after};
 use crate::tests::library::support::images::row;
-use crate::tests::library::support::{assert_bytes, assert_fails, assert_given, assert_number};
-use qoi::{Channels, Decoder, Encoder, Result};
+use crate::tests::library::support::{
+    assert_bytes, assert_fails, assert_given, assert_number, made,
+};
+use qoi::{Channels, Decoder, Result};
 use std::alloc::Global;
 use std::io::ErrorKind;
 use std::process::Abort;
@@ -43,7 +45,7 @@ fn decoded(rt: &impl Abort, alloc: Global, reader: &mut Source<'_>, call: Call) 
         header: row(7, Channels::Rgba),
         channels: Channels::Rgba,
     };
-    let mut decoder = Decoder::from_stream(reader).expect(rt, "refused");
+    let mut decoder = made::stream(rt, reader);
     decoding.of(rt, alloc, &mut decoder, call)
 }
 
@@ -93,8 +95,8 @@ fn failing_reader(rt: HostRuntime) {
 // the encoding and is the last one.
 fn assert_writer_stops(rt: &impl Abort, alloc: Global, end: End, taken: usize, kind: ErrorKind) {
     let call = taken.saturating_add(1);
-    let mut writer = Sink::new(alloc, 1, Bad { call, end }).expect(rt, "refused");
-    let encoder = Encoder::new(&RAW, 7, 1).expect(rt, "refused");
+    let mut writer = made::sink(rt, alloc, 1, Bad { call, end });
+    let encoder = made::encoder(rt, &RAW, 7, 1);
     assert_fails(rt, encoder.encode_to_stream(&mut writer).err(), kind);
     assert_bytes(rt, &writer.got, &FILE[..taken.min(36)]);
     assert_number(rt, writer.calls, call);
@@ -102,8 +104,8 @@ fn assert_writer_stops(rt: &impl Abort, alloc: Global, end: End, taken: usize, k
 
 // A writer whose bad call never comes.
 fn assert_writer_ends(rt: &impl Abort, alloc: Global, end: End) {
-    let mut writer = Sink::new(alloc, 1, Bad { call: 37, end }).expect(rt, "refused");
-    let encoder = Encoder::new(&RAW, 7, 1).expect(rt, "refused");
+    let mut writer = made::sink(rt, alloc, 1, Bad { call: 37, end });
+    let encoder = made::encoder(rt, &RAW, 7, 1);
     let size = encoder.encode_to_stream(&mut writer).expect(rt, "refused");
     assert_number(rt, size, 36);
     assert_bytes(rt, &writer.got, &FILE);

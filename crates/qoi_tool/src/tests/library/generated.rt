@@ -1,8 +1,9 @@
 //! Generated images, by the plain encoder: their files in each style, there and back.
 ghost use Rattle.std.specs.Prelude.{◌<◌};
 
-use crate::tests::library::support::generator::{Numbers, Rgba, drawn};
-use crate::tests::library::support::images::{Image, row};
+use crate::tests::library::support::generator::{Numbers, Rgba};
+use crate::tests::library::support::images::row;
+use crate::tests::library::support::made;
 use qoi::{Channels, Header, Style};
 use std::alloc::Global;
 use std::process::Abort;
@@ -10,12 +11,12 @@ use std::process::Abort;
 // Encodes an image in each style. In `Places` its file is as long as in `Reference`, in `Tight` as
 // long or shorter. Returns by how much.
 fn assert_styles(rt: &impl Abort, alloc: Global, header: Header, pixels: &[Rgba]) -> usize {
-    let reference = Image::of(alloc, header, Style::Reference, pixels).expect(rt, "refused");
+    let reference = made::image(rt, alloc, header, Style::Reference, pixels);
     reference.check(rt, alloc);
-    let places = Image::of(alloc, header, Style::Places, pixels).expect(rt, "refused");
+    let places = made::image(rt, alloc, header, Style::Places, pixels);
     places.check(rt, alloc);
     assert!(rt; places.file.len() == reference.file.len());
-    let tight = Image::of(alloc, header, Style::Tight, pixels).expect(rt, "refused");
+    let tight = made::image(rt, alloc, header, Style::Tight, pixels);
     tight.check(rt, alloc);
     assert!(rt; tight.file.len() <= reference.file.len());
     reference.file.len().saturating_sub(tight.file.len())
@@ -37,7 +38,7 @@ fn assert_drawn(rt: &impl Abort, alloc: Global, channels: Channels, most: u32)
             ..row(1 + numbers.below(most), channels)
         };
         let n = header.width as usize * header.height as usize;
-        let pixels = drawn(alloc, &mut numbers, channels, n).expect(rt, "refused");
+        let pixels = made::pixels(rt, alloc, &mut numbers, channels, n);
         shorter = shorter.saturating_add(assert_styles(rt, alloc, header, &pixels));
         all = all.saturating_add(n);
     }

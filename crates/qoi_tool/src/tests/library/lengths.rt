@@ -1,7 +1,7 @@
 //! The number of bytes of an image's chunks, against lower bounds counted pixel by pixel.
-use crate::tests::library::support::generator::{Numbers, Rgba, START, drawn, place};
-use crate::tests::library::support::images::{raw_of, row};
-use qoi::{Channels, Encoder, Style};
+use crate::tests::library::support::generator::{Numbers, Rgba, START, place};
+use crate::tests::library::support::made;
+use qoi::{Channels, Style};
 use std::alloc::Global;
 use std::process::Abort;
 
@@ -113,9 +113,7 @@ impl Counted {
 
 // How many bytes the chunks of an image's file have, between the header's 14 and the marker's 8.
 fn written(rt: &impl Abort, alloc: Global, raw: &[u8], width: u32, style: Style) -> usize {
-    let encoder = Encoder::new(raw, width, 1)
-        .expect(rt, "an image")
-        .with_style(style);
+    let encoder = made::encoder(rt, raw, width, 1).with_style(style);
     let file = encoder.encode_to_vec(alloc).expect(rt, "memory");
     file.len().saturating_sub(22)
 }
@@ -129,7 +127,7 @@ fn assert_image(
     pixels: &[Rgba],
 ) -> (bool, bool) {
     let counted = Counted::of(pixels);
-    let raw = raw_of(alloc, channels, pixels).expect(rt, "memory");
+    let raw = made::raw(rt, alloc, channels, pixels);
     let width = pixels.len().min(900) as u32;
     let (least, slack) = (counted.floor, counted.slack(channels));
     let size = written(rt, alloc, &raw, width, Style::Reference);
@@ -146,7 +144,7 @@ fn assert_lengths(rt: &impl Abort, alloc: Global, channels: Channels) {
     let (mut all, mut used, mut unused) = (0usize, 0u32, 0u32);
     for k in 0..300u32 {
         let width = 1 + numbers.below(900);
-        let mut pixels = drawn(alloc, &mut numbers, channels, width as usize).expect(rt, "memory");
+        let mut pixels = made::pixels(rt, alloc, &mut numbers, channels, width as usize);
         if k % 3 == 0 && channels.is_rgba() {
             make_transparent(&mut pixels);
         }

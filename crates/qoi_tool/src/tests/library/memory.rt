@@ -3,11 +3,11 @@ use crate::tests::fakes::{ONE_RGB_PIXEL, PIXEL, take_memory};
 use crate::tests::library::support::decodings::CUT;
 use crate::tests::library::support::images::row;
 use crate::tests::library::support::{
-    assert_bytes, assert_given, assert_header, assert_number, assert_refused,
+    assert_bytes, assert_decoded, assert_given, assert_header, assert_number, assert_refused, made,
 };
 use qoi::parts::Reader;
 use qoi::{
-    Channels, ColorSpace, Decoder, Encoder, Error, Header, Result, decode_header, decode_to_buf,
+    Channels, ColorSpace, Decoder, Error, Header, Result, decode_header, decode_to_buf,
     decode_to_vec, encode_to_buf, encode_to_vec,
 };
 use std::alloc::{AllocError, Global};
@@ -113,7 +113,7 @@ fn large(alloc: Global, after: usize) -> Result<Vec<u8>> {
 // Both calls refuse the file with this text, and the decoder is as before. All memory but for
 // blocks of less than `least` bytes is taken.
 fn assert_large(rt: &impl Abort, alloc: Global, file: &[u8], least: usize, text: &str) {
-    let mut decoder = Decoder::new(file).expect(rt, "refused");
+    let mut decoder = made::slice(rt, file);
     let held = take_memory(alloc, least).expect(rt, "refused");
     let method = decoder.decode_to_vec(alloc).err();
     let free = decode_to_vec(alloc, file).err();
@@ -143,7 +143,7 @@ fn assert_encodes(rt: &impl Abort) {
     assert_number(rt, size, 26);
     assert_bytes(rt, &file, &ONE_RGB_PIXEL);
     let mut file = [0xaa; 26];
-    let encoder = Encoder::new(&PIXEL, 1, 1).expect(rt, "refused");
+    let encoder = made::encoder(rt, &PIXEL, 1, 1);
     let sent = encoder.encode_to_stream(&mut file.as_mut_slice());
     assert_number(rt, sent.expect(rt, "refused"), 26);
     assert_bytes(rt, &file, &ONE_RGB_PIXEL);
@@ -157,16 +157,12 @@ fn assert_decodes(rt: &impl Abort) {
     assert_header(rt, &own, &header);
     assert_bytes(rt, &buf, &PIXEL);
     let mut buf = [0xaa; 3];
-    let mut stream = Decoder::from_stream(&ONE_RGB_PIXEL[..]).expect(rt, "refused");
-    assert_number(rt, stream.decode_to_buf(&mut buf).expect(rt, "refused"), 3);
+    let mut stream = made::stream(rt, &ONE_RGB_PIXEL[..]);
+    assert_number(rt, made::decoded(rt, &mut stream, &mut buf), 3);
     assert_bytes(rt, &buf, &PIXEL);
     let mut buf = [0xaa; 3];
-    let mut buffered = Decoder::from_buf_read(&ONE_RGB_PIXEL[..]).expect(rt, "refused");
-    assert_number(
-        rt,
-        buffered.decode_to_buf(&mut buf).expect(rt, "refused"),
-        3,
-    );
+    let mut buffered = made::buffered(rt, &ONE_RGB_PIXEL[..]);
+    assert_number(rt, made::decoded(rt, &mut buffered, &mut buf), 3);
     assert_bytes(rt, &buf, &PIXEL);
 }
 
@@ -180,12 +176,12 @@ fn assert_clone_is_refused(rt: &impl Abort, decoder: &Decoder<Cursor<Vec<u8>>>) 
 #[test]
 fn calls_without_memory(rt: HostRuntime) {
     let alloc = rt.alloc();
-    let file = Vec::from_slice(alloc, &ONE_RGB_PIXEL).expect(&rt, "refused");
-    let mut decoder = Decoder::from_stream(Cursor::new(file)).expect(&rt, "refused");
+    let file = made::bytes(&rt, alloc, &ONE_RGB_PIXEL);
+    let mut decoder = made::stream(&rt, Cursor::new(file));
     let held = take_memory(alloc, 2).expect(&rt, "refused");
     assert_encodes(&rt);
     assert_decodes(&rt);
     assert_clone_is_refused(&rt, &decoder);
     drop(held);
-    assert_given(&rt, decoder.decode_to_vec(alloc), &PIXEL);
+    assert_decoded(&rt, alloc, &mut decoder, &PIXEL);
 }

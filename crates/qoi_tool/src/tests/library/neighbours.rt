@@ -1,11 +1,11 @@
 //! Each kind of chunk after each other kind, at each of 64 offsets; lists of one kind that end
 //! anywhere; index positions that are named as soon as a pixel was put there. The pixels are known
 //! from the rules by which the chunks are made.
-use crate::tests::library::support::assert_given;
 use crate::tests::library::support::decodings::Decoding;
 use crate::tests::library::support::generator::{Rgba, START, place};
-use crate::tests::library::support::images::{file_of, row, seen_raw};
-use qoi::{Channels, Decoder, Header, Result};
+use crate::tests::library::support::images::row;
+use crate::tests::library::support::{assert_decoded, made};
+use qoi::{Channels, Header, Result};
 use std::alloc::Global;
 use std::process::Abort;
 
@@ -147,7 +147,7 @@ impl List {
     fn file(&self, rt: &impl Abort, alloc: Global, own: Channels) -> (Header, Vec<u8>) {
         let count = u32::try_from(self.pixels.len()).expect(rt, "too many");
         let header = row(count, own);
-        let file = file_of(alloc, header, &self.chunks).expect(rt, "refused");
+        let file = made::file(rt, alloc, header, &self.chunks);
         (header, file)
     }
 
@@ -155,11 +155,9 @@ impl List {
     fn check_in(&self, rt: &impl Abort, alloc: Global, own: Channels) {
         let (header, file) = self.file(rt, alloc, own);
         for channels in [Channels::Rgb, Channels::Rgba] {
-            let raw = seen_raw(alloc, &self.pixels, own, channels).expect(rt, "refused");
-            let mut decoder = Decoder::new(&file)
-                .expect(rt, "refused")
-                .with_channels(channels);
-            assert_given(rt, decoder.decode_to_vec(alloc), &raw);
+            let raw = made::seen(rt, alloc, &self.pixels, own, channels);
+            let mut decoder = made::slice(rt, &file).with_channels(channels);
+            assert_decoded(rt, alloc, &mut decoder, &raw);
         }
     }
 
@@ -167,7 +165,7 @@ impl List {
     fn check_readers(&self, rt: &impl Abort, alloc: Global, own: Channels) {
         let (header, file) = self.file(rt, alloc, own);
         for channels in [Channels::Rgb, Channels::Rgba] {
-            let raw = seen_raw(alloc, &self.pixels, own, channels).expect(rt, "refused");
+            let raw = made::seen(rt, alloc, &self.pixels, own, channels);
             let decoding = Decoding {
                 bytes: &file,
                 header,

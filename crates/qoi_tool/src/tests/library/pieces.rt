@@ -1,8 +1,8 @@
 //! Files of about one and two pieces, by the plain encoder: chunks and end marker end just before,
 //! at and just after the end of a piece. A piece has 4096 bytes, or 512.
-use crate::tests::library::support::assert_number;
 use crate::tests::library::support::generator::{Rgba, START};
-use crate::tests::library::support::images::{Image, row};
+use crate::tests::library::support::images::row;
+use crate::tests::library::support::{assert_number, made};
 use qoi::Channels::{Rgb, Rgba as Four};
 use qoi::{Channels, Result, Style};
 use std::alloc::Global;
@@ -93,7 +93,7 @@ fn assert_sizes(rt: &impl Abort, alloc: Global, style: Style) {
             for size in least..=most {
                 let pixels = ending(alloc, tail, size).expect(rt, "refused");
                 let header = row(pixels.len().min(10_000) as u32, tail.channels);
-                let image = Image::of(alloc, header, style, &pixels).expect(rt, "refused");
+                let image = made::image(rt, alloc, header, style, &pixels);
                 assert_number(rt, image.file.len(), size.saturating_add(22));
                 image.check(rt, alloc);
                 image.check_pieces(rt, alloc);
@@ -116,7 +116,7 @@ fn writers_of_about_a_piece(rt: HostRuntime) {
     for size in [4074, 4075, 8170] {
         let pixels = ending(rt.alloc(), tail, size).expect(&rt, "refused");
         let header = row(pixels.len().min(10_000) as u32, tail.channels);
-        let image = Image::of(rt.alloc(), header, Style::Reference, &pixels).expect(&rt, "refused");
+        let image = made::image(&rt, rt.alloc(), header, Style::Reference, &pixels);
         for most in [4095, 4097] {
             image.sent(&rt, rt.alloc(), most);
         }

@@ -3,15 +3,15 @@
 //! be done after a refusal and after an image.
 use crate::tests::fakes::{Bad, End, NONE, ONE_RGB_PIXEL, PIXEL, Source};
 use crate::tests::library::support::decodings::{CUT, after};
-use crate::tests::library::support::generator::{Numbers, drawn};
-use crate::tests::library::support::images::{Image, row, seen_raw};
+use crate::tests::library::support::generator::Numbers;
+use crate::tests::library::support::images::{Image, row};
 use crate::tests::library::support::{
-    assert_bytes, assert_fails, assert_given, assert_number, assert_refused,
+    assert_bytes, assert_fails, assert_number, assert_refused, made,
 };
-use qoi::parts::PieceReader;
+use qoi::parts::{Bytes, PieceReader};
 use qoi::{Channels, Decoder, Error, PixelReader, Result, Style};
 use std::alloc::Global;
-use std::io::{BufReader, ErrorKind, Read};
+use std::io::ErrorKind;
 use std::process::Abort;
 
 // The lengths of the pieces: at most so many bytes, always as many or changing.
@@ -39,28 +39,32 @@ impl Lengths {
     }
 }
 
+// Reads the next bytes of an image, and returns how many.
+fn read<R: PieceReader>(rt: &impl Abort, pixels: &mut PixelReader<R>, buf: &mut [u8]) -> usize {
+    pixels.read(buf).expect(rt, "refused")
+}
+
 // Reads the raw bytes of an image piece by piece.
 fn by_pieces<R: PieceReader>(
     rt: &impl Abort,
     alloc: Global,
     pixels: &mut PixelReader<R>,
     lengths: Lengths,
-) -> Result<Vec<u8>> {
+) -> Vec<u8> {
     let mut out = Vec::new(alloc);
-    let mut buf = Vec::new(alloc);
     for _ in 0..u64::MAX {
-        buf.clear();
-        buf.resize(lengths.next(out.len()), 7)?;
+        let mut buf = made::filled(rt, alloc, 7, lengths.next(out.len()));
         let left = pixels.left();
-        let count = pixels.read(&mut buf)?;
+        let count = read(rt, pixels, &mut buf);
         assert_number(rt, count, left.min(buf.len()));
         assert_number(rt, pixels.left().saturating_add(count), left);
         if count == 0 {
             break;
         }
-        out.extend_from_slice(&buf[..count])?;
+        buf.truncate(count);
+        made::append(rt, &mut out, &buf);
     }
-    Ok(out)
+    out
 }
 
 // Reads the image of a decoder's file piece by piece, in these channels, and returns the decoder.
@@ -75,15 +79,15 @@ fn assert_image<R: PieceReader + Drop>(
     let mut pixels = decoder.with_channels(channels).into_pixels();
     assert!(rt; pixels.channels() == channels);
     assert_number(rt, pixels.left(), raw.len());
-    assert_given(rt, by_pieces(rt, alloc, &mut pixels, lengths), raw);
+    assert_bytes(rt, &by_pieces(rt, alloc, &mut pixels, lengths), raw);
     pixels.into_decoder()
 }
 
 // A file, and the two bytes that follow it.
-fn followed(alloc: Global, file: &[u8]) -> Result<Vec<u8>> {
-    let mut bytes = Vec::from_slice(alloc, file)?;
-    bytes.extend_from_slice(&[0x78, 0x79])?;
-    Ok(bytes)
+fn followed(rt: &impl Abort, alloc: Global, file: &[u8]) -> Vec<u8> {
+    let mut bytes = made::bytes(rt, alloc, file);
+    made::append(rt, &mut bytes, &[0x78, 0x79]);
+    bytes
 }
 
 // The image of a file that two bytes follow, from memory, a stream and a buffer, in these channels.
@@ -95,28 +99,24 @@ fn assert_pieces(
     raw: &[u8],
     lengths: Lengths,
 ) {
-    let bytes = followed(alloc, file).expect(rt, "refused");
-    let slice = Decoder::new(&bytes).expect(rt, "refused");
-    let slice = assert_image(rt, alloc, slice, channels, raw, lengths);
+    let bytes = followed(rt, alloc, file);
+    let slice = assert_image(rt, alloc, made::slice(rt, &bytes), channels, raw, lengths);
     assert_bytes(rt, slice.data(), &[0x78, 0x79]);
     let source = Source::new(&bytes, lengths.most.max(1), NONE);
-    let stream = Decoder::from_stream(source).expect(rt, "refused");
-    let stream = assert_image(rt, alloc, stream, channels, raw, lengths);
+    let stream = assert_image(rt, alloc, made::stream(rt, source), channels, raw, lengths);
     assert_bytes(rt, stream.reader().left, &[0x78, 0x79]);
-    let reader = BufReader::with_capacity(alloc, lengths.most, bytes.as_slice());
-    let buffered = Decoder::from_buf_read(reader.expect(rt, "refused")).expect(rt, "refused");
+    let reader = made::buffer(rt, alloc, lengths.most, bytes.as_slice());
+    let buffered = made::buffered(rt, reader);
     let buffered = assert_image(rt, alloc, buffered, channels, raw, lengths);
-    let mut rest = Vec::new(alloc);
-    let mut reader = buffered.into_reader();
-    reader.read_to_end(&mut rest).expect(rt, "refused");
+    let rest = made::rest(rt, alloc, buffered.into_reader());
     assert_bytes(rt, &rest, &[0x78, 0x79]);
 }
 
 // A row of drawn pixels, and its file.
 fn drawn_row(rt: &impl Abort, alloc: Global, seed: u64, width: u32, channels: Channels) -> Image {
     let mut numbers = Numbers::new(seed);
-    let pixels = drawn(alloc, &mut numbers, channels, width as usize).expect(rt, "refused");
-    Image::of(alloc, row(width, channels), Style::Reference, &pixels).expect(rt, "refused")
+    let pixels = made::pixels(rt, alloc, &mut numbers, channels, width as usize);
+    made::image(rt, alloc, row(width, channels), Style::Reference, &pixels)
 }
 
 #[test]
@@ -171,10 +171,9 @@ fn pieces_in_other_channels(rt: HostRuntime) {
         (Channels::Rgba, Channels::Rgb),
     ] {
         let mut numbers = Numbers::new(0x0743);
-        let pixels = drawn(alloc, &mut numbers, own, 2000).expect(&rt, "refused");
-        let image = Image::of(alloc, row(2000, own), Style::Reference, &pixels);
-        let image = image.expect(&rt, "refused");
-        let raw = seen_raw(alloc, &pixels, own, channels).expect(&rt, "refused");
+        let pixels = made::pixels(&rt, alloc, &mut numbers, own, 2000);
+        let image = made::image(&rt, alloc, row(2000, own), Style::Reference, &pixels);
+        let raw = made::seen(&rt, alloc, &pixels, own, channels);
         for most in [1, 7, 1536, 5000usize] {
             let lengths = Lengths {
                 most,
@@ -195,7 +194,7 @@ fn assert_spent<R: PieceReader + Drop>(
     assert!(rt; before > 0);
     assert_number(rt, pixels.left(), before);
     let mut buf = [7; 9];
-    assert_number(rt, pixels.read(&mut buf[..0]).expect(rt, "refused"), 0);
+    assert_number(rt, read(rt, &mut pixels, &mut []), 0);
     assert_refused(rt, alloc, pixels.read(&mut buf).err(), CUT);
     assert_bytes(rt, &buf, &[7; 9]);
     assert_number(rt, pixels.left(), before);
@@ -243,13 +242,11 @@ fn cut_pieces(rt: HostRuntime) {
     let image = drawn_row(&rt, alloc, 0xc07, 900, Channels::Rgba);
     for end in 14..image.file.len() {
         let cut = &image.file[..end];
-        assert_cut(&rt, alloc, Decoder::new(cut).expect(&rt, "refused"), None);
+        assert_cut(&rt, alloc, made::slice(&rt, cut), None);
         let kind = Some(ErrorKind::UnexpectedEof);
-        let stream = Decoder::from_stream(cut).expect(&rt, "refused");
-        assert_cut(&rt, alloc, stream, kind);
-        let buffered = Decoder::from_buf_read(cut).expect(&rt, "refused");
-        assert_cut(&rt, alloc, buffered, kind);
-        let whole = Decoder::new(cut).expect(&rt, "refused").into_pixels();
+        assert_cut(&rt, alloc, made::stream(&rt, cut), kind);
+        assert_cut(&rt, alloc, made::buffered(&rt, cut), kind);
+        let whole = made::slice(&rt, cut).into_pixels();
         assert_refused(&rt, alloc, whole.finish().err(), CUT);
     }
 }
@@ -285,39 +282,58 @@ fn wrong_markers(rt: HostRuntime) {
     for i in 1..=8usize {
         let file = with_wrong_byte(alloc, &image.file, i).expect(&rt, "refused");
         for size in [1usize, 255, 1536, 6000] {
-            let mut buf = vec![in alloc; 0u8; size].expect(&rt, "refused");
-            let slice = Decoder::new(&file).expect(&rt, "refused");
-            assert_wrong(&rt, alloc, slice, &mut buf);
-            let stream = Decoder::from_stream(file.as_slice()).expect(&rt, "refused");
-            assert_wrong(&rt, alloc, stream, &mut buf);
+            let mut buf = made::filled(&rt, alloc, 0, size);
+            assert_wrong(&rt, alloc, made::slice(&rt, &file), &mut buf);
+            assert_wrong(&rt, alloc, made::stream(&rt, file.as_slice()), &mut buf);
         }
-        let whole = Decoder::new(&file).expect(&rt, "refused").into_pixels();
+        let whole = made::slice(&rt, &file).into_pixels();
         assert!(&rt; matches!(whole.finish(), Err(Error::InvalidPadding)));
     }
 }
 
-// A reader that gives a byte a call fails at each call in turn. The bad call is the last one.
+// Reads pieces until the reader's fault, after which a read refuses. Returns the reader.
+fn faulty<'a>(rt: &impl Abort, alloc: Global, source: Source<'a>) -> Source<'a> {
+    let mut buf = [0; 500];
+    let mut pixels = made::stream(rt, source).into_pixels();
+    let (refusal, left) = refusal_of(&mut pixels, &mut buf);
+    assert_fails(rt, refusal, ErrorKind::BrokenPipe);
+    assert!(rt; left > 0);
+    assert_number(rt, pixels.left(), left);
+    assert_refused(rt, alloc, pixels.read(&mut buf).err(), CUT);
+    pixels.into_decoder().into_reader()
+}
+
+// A reader that gives a byte a call fails after so many bytes. The bad call is the last one.
+fn assert_stops(rt: &impl Abort, alloc: Global, file: &[u8], taken: usize) {
+    let call = taken.saturating_add(1);
+    let end = End::Fault;
+    let reader = faulty(rt, alloc, Source::new(file, 1, Bad { call, end }));
+    assert_number(rt, reader.calls, call);
+    assert_bytes(rt, reader.left, after(file, taken));
+}
+
+// It fails at each call in turn.
 #[test]
 fn failing_readers(rt: HostRuntime) {
     let alloc = rt.alloc();
     let image = drawn_row(&rt, alloc, 0xfa11, 1100, Channels::Rgba);
-    let mut buf = [0; 500];
     for taken in 14..image.file.len() {
-        let call = taken.saturating_add(1);
-        let end = End::Fault;
-        let source = Source::new(&image.file, 1, Bad { call, end });
-        let mut pixels = Decoder::from_stream(source)
-            .expect(&rt, "refused")
-            .into_pixels();
-        let (refusal, left) = refusal_of(&mut pixels, &mut buf);
-        assert_fails(&rt, refusal, ErrorKind::BrokenPipe);
-        assert!(&rt; left > 0);
-        assert_number(&rt, pixels.left(), left);
-        assert_refused(&rt, alloc, pixels.read(&mut buf).err(), CUT);
-        let reader = pixels.into_decoder().into_reader();
-        assert_number(&rt, reader.calls, call);
-        assert_bytes(&rt, reader.left, after(&image.file, taken));
+        assert_stops(&rt, alloc, &image.file, taken);
     }
+}
+
+// Reads this pixel into a longer buffer.
+fn assert_pixel<'a>(
+    rt: &impl Abort,
+    decoder: Decoder<Bytes<'a>>,
+    px: &[u8; 3],
+) -> Decoder<Bytes<'a>> {
+    let [r, g, b] = *px;
+    let mut buf = [7; 5];
+    let mut pixels = decoder.into_pixels();
+    assert_number(rt, read(rt, &mut pixels, &mut buf), 3);
+    assert_bytes(rt, &buf, &[r, g, b, 7, 7]);
+    pixels.into_decoder()
 }
 
 // A file of one pixel, then a difference from the start pixel and an end marker: two images.
@@ -327,15 +343,9 @@ fn images_one_after_the_other(rt: HostRuntime) {
     bytes[..26].copy_from_slice(&ONE_RGB_PIXEL);
     bytes[26] = 0x55;
     bytes[34] = 1;
-    let mut buf = [7; 5];
-    let mut first = Decoder::new(&bytes).expect(&rt, "refused").into_pixels();
-    assert_number(&rt, first.read(&mut buf).expect(&rt, "refused"), 3);
-    assert_bytes(&rt, &buf[..3], &PIXEL);
-    assert_bytes(&rt, &buf[3..], &[7; 2]);
-    let mut second = first.into_decoder().into_pixels();
-    assert_number(&rt, second.read(&mut buf).expect(&rt, "refused"), 3);
-    assert_bytes(&rt, &buf[..3], &[0xff; 3]);
-    assert_bytes(&rt, second.into_decoder().data(), &[]);
+    let second = assert_pixel(&rt, made::slice(&rt, &bytes), &PIXEL);
+    let rest = assert_pixel(&rt, second, &[0xff; 3]);
+    assert_bytes(&rt, rest.data(), &[]);
 }
 
 // Reads a part of an image, and finishes it.
@@ -345,8 +355,18 @@ fn finished<R: PieceReader + Drop>(
     buf: &mut [u8],
 ) -> Decoder<R> {
     let mut pixels = decoder.into_pixels();
-    pixels.read(buf).expect(rt, "refused");
+    read(rt, &mut pixels, buf);
     pixels.finish().expect(rt, "refused")
+}
+
+// What follows the file is left, by each kind of reader.
+fn assert_finished(rt: &impl Abort, bytes: &[u8], buf: &mut [u8]) {
+    let slice = finished(rt, made::slice(rt, bytes), buf);
+    assert_bytes(rt, slice.data(), &[0x78, 0x79]);
+    let stream = finished(rt, made::stream(rt, bytes), buf);
+    assert_bytes(rt, stream.into_reader(), &[0x78, 0x79]);
+    let buffered = finished(rt, made::buffered(rt, bytes), buf);
+    assert_bytes(rt, buffered.into_reader(), &[0x78, 0x79]);
 }
 
 // An image of which a part was read is finished, from each kind of reader.
@@ -354,16 +374,9 @@ fn finished<R: PieceReader + Drop>(
 fn images_that_are_finished(rt: HostRuntime) {
     let alloc = rt.alloc();
     let image = drawn_row(&rt, alloc, 0xf1215, 3000, Channels::Rgb);
-    let bytes = followed(alloc, &image.file).expect(&rt, "refused");
+    let bytes = followed(&rt, alloc, &image.file);
     for size in [0usize, 1, 1000, 9000] {
-        let mut buf = vec![in alloc; 0u8; size].expect(&rt, "refused");
-        let slice = Decoder::new(&bytes).expect(&rt, "refused");
-        assert_bytes(&rt, finished(&rt, slice, &mut buf).data(), &[0x78, 0x79]);
-        let stream = Decoder::from_stream(bytes.as_slice()).expect(&rt, "refused");
-        let rest = finished(&rt, stream, &mut buf).into_reader();
-        assert_bytes(&rt, rest, &[0x78, 0x79]);
-        let buffered = Decoder::from_buf_read(bytes.as_slice()).expect(&rt, "refused");
-        let rest = finished(&rt, buffered, &mut buf).into_reader();
-        assert_bytes(&rt, rest, &[0x78, 0x79]);
+        let mut buf = made::filled(&rt, alloc, 0, size);
+        assert_finished(&rt, &bytes, &mut buf);
     }
 }

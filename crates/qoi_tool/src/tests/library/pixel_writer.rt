@@ -6,11 +6,11 @@ use crate::tests::fakes::{Bad, End, NONE, ONE_RGB_PIXEL, PIXEL, Sink, take_memor
 use crate::tests::library::support::generator::{Numbers, Rgba, START, drawn};
 use crate::tests::library::support::images::{Image, row};
 use crate::tests::library::support::{
-    assert_bytes, assert_fails, assert_given, assert_header, assert_number, assert_refused,
+    assert_bytes, assert_fails, assert_given, assert_header, assert_number, assert_refused, made,
 };
 use qoi::{Channels, ColorSpace, Error, Header, PixelWriter, Result, Style};
 use std::alloc::Global;
-use std::io::ErrorKind;
+use std::io::{ErrorKind, Write};
 use std::process::Abort;
 
 // How many raw bytes come at a time: always as many, or as many as a source of numbers gives.
@@ -20,16 +20,26 @@ enum Pieces {
     Changing(u32),
 }
 
-// Hands an image over in these pieces, and tests that as many bytes are left each time as don't
-// come yet.
-fn written(
+// A pixel writer in front of a writer.
+fn before<W: Write + Drop>(
     rt: &impl Abort,
     alloc: Global,
-    image: &Image,
-    pieces: Pieces,
-    writer: Sink,
-) -> Result<Sink> {
-    let mut pixels = PixelWriter::new(alloc, image.header, image.style, writer)?;
+    header: Header,
+    style: Style,
+    writer: W,
+) -> PixelWriter<W> {
+    PixelWriter::new(alloc, header, style, writer).expect(rt, "refused")
+}
+
+// Hands over the next raw bytes.
+fn write<W: Write + Drop>(rt: &impl Abort, pixels: &mut PixelWriter<W>, piece: &[u8]) {
+    pixels.write(piece).expect(rt, "refused");
+}
+
+// Hands an image over in these pieces, and tests that as many bytes are left each time as don't
+// come yet.
+fn written(rt: &impl Abort, alloc: Global, image: &Image, pieces: Pieces, writer: Sink) -> Sink {
+    let mut pixels = before(rt, alloc, image.header, image.style, writer);
     assert_header(rt, pixels.header(), &image.header);
     assert!(rt; pixels.style() == image.style);
     let mut numbers = Numbers::new(0x91ece5);
@@ -44,18 +54,18 @@ fn written(
             Pieces::Changing(most) => numbers.below(most.max(1)) as usize,
         };
         let (piece, after) = rest.split_at(size.min(rest.len()));
-        pixels.write(piece)?;
+        write(rt, &mut pixels, piece);
         rest = after;
     }
     // The changing pieces may be empty.
-    pixels.write(rest)?;
-    pixels.finish()
+    write(rt, &mut pixels, rest);
+    pixels.finish().expect(rt, "refused")
 }
 
 // The writer gets the image's file in these pieces.
 fn assert_file(rt: &impl Abort, alloc: Global, image: &Image, pieces: Pieces) {
-    let writer = Sink::new(alloc, usize::MAX, NONE).expect(rt, "refused");
-    let writer = written(rt, alloc, image, pieces, writer).expect(rt, "refused");
+    let writer = made::sink(rt, alloc, usize::MAX, NONE);
+    let writer = written(rt, alloc, image, pieces, writer);
     assert_bytes(rt, &writer.got, &image.file);
 }
 
@@ -72,7 +82,7 @@ fn assert_written(rt: &impl Abort, alloc: Global, image: &Image, sizes: &[usize]
 // The same in each style.
 fn assert_styles(rt: &impl Abort, alloc: Global, header: Header, pixels: &[Rgba], sizes: &[usize]) {
     for style in [Style::Reference, Style::Places, Style::Tight] {
-        let image = Image::of(alloc, header, style, pixels).expect(rt, "refused");
+        let image = made::image(rt, alloc, header, style, pixels);
         assert_written(rt, alloc, &image, sizes);
     }
 }
@@ -171,26 +181,24 @@ fn runs_over_pieces(rt: HostRuntime) -> Result<()> {
 // The calls that a writer gets: the header; none for bytes that are held; the rest. None of them is
 // a flush.
 #[test]
-fn calls_of_the_writer(rt: HostRuntime) -> Result<()> {
+fn calls_of_the_writer(rt: HostRuntime) {
     let alloc = rt.alloc();
-    let sink = Sink::new(alloc, usize::MAX, NONE)?;
-    let mut pixels = PixelWriter::new(alloc, Header::default(), Style::Reference, sink)?;
-    pixels.write(&PIXEL[..1])?;
-    pixels.write(&PIXEL[1..])?;
-    let sink = pixels.finish()?;
+    let sink = made::sink(&rt, alloc, usize::MAX, NONE);
+    let mut pixels = before(&rt, alloc, Header::default(), Style::Reference, sink);
+    write(&rt, &mut pixels, &PIXEL[..1]);
+    write(&rt, &mut pixels, &PIXEL[1..]);
+    let sink = pixels.finish().expect(&rt, "refused");
     assert_bytes(&rt, &sink.got, &ONE_RGB_PIXEL);
     assert_number(&rt, sink.calls, 2);
-    Ok(())
 }
 
 // What came behind other bytes of the writer stands behind them.
 #[test]
 fn behind_other_bytes(rt: HostRuntime) {
     let alloc = rt.alloc();
-    let file = Vec::from_slice(alloc, &[1, 2, 3]).expect(&rt, "refused");
-    let pixels = PixelWriter::new(alloc, Header::default(), Style::Tight, file);
-    let mut pixels = pixels.expect(&rt, "refused");
-    pixels.write(&PIXEL).expect(&rt, "refused");
+    let file = made::bytes(&rt, alloc, &[1, 2, 3]);
+    let mut pixels = before(&rt, alloc, Header::default(), Style::Tight, file);
+    write(&rt, &mut pixels, &PIXEL);
     let mut all = [0; 29];
     all[..3].copy_from_slice(&[1, 2, 3]);
     all[3..].copy_from_slice(&ONE_RGB_PIXEL);
@@ -202,12 +210,12 @@ fn behind_other_bytes(rt: HostRuntime) {
 fn other_lengths(rt: HostRuntime) -> Result<()> {
     let alloc = rt.alloc();
     let header = Header::try_new(2, 2, Channels::Rgb, ColorSpace::Srgb)?;
-    let mut pixels = PixelWriter::new(alloc, header, Style::Reference, Vec::new(alloc))?;
-    pixels.write(&[1, 2, 3, 4, 5])?;
+    let mut pixels = before(&rt, alloc, header, Style::Reference, Vec::new(alloc));
+    write(&rt, &mut pixels, &[1, 2, 3, 4, 5]);
     let more = pixels.write(&[1, 2, 3, 4, 5, 6, 7, 8]).err();
     assert_refused(&rt, alloc, more, "invalid image length: 13 bytes for 2x2");
     assert_number(&rt, pixels.left(), 7);
-    pixels.write(&[1, 2, 3, 4, 5, 6])?;
+    write(&rt, &mut pixels, &[1, 2, 3, 4, 5, 6]);
     let fewer = pixels.finish().err();
     assert_refused(&rt, alloc, fewer, "invalid image length: 11 bytes for 2x2");
     Ok(())
@@ -223,12 +231,11 @@ fn assert_begun(
     left: usize,
     begun: &[u8],
 ) {
-    let sink = Sink::new(alloc, usize::MAX, NONE).expect(rt, "refused");
+    let sink = made::sink(rt, alloc, usize::MAX, NONE);
     let header = row(width, Channels::Rgb);
-    let pixels = PixelWriter::new(alloc, header, Style::Reference, sink);
-    let mut pixels = pixels.expect(rt, "refused");
+    let mut pixels = before(rt, alloc, header, Style::Reference, sink);
     for piece in pieces {
-        pixels.write(piece).expect(rt, "refused");
+        write(rt, &mut pixels, piece);
     }
     assert_number(rt, pixels.left(), left);
     assert_bytes(rt, &pixels.into_writer().got, begun);
@@ -286,7 +293,7 @@ fn failed(
     image: &Image,
     bad: Bad,
 ) -> (Option<Error>, Option<PixelWriter<Sink>>) {
-    let sink = Sink::new(alloc, usize::MAX, bad).expect(rt, "refused");
+    let sink = made::sink(rt, alloc, usize::MAX, bad);
     let mut pixels = match PixelWriter::new(alloc, image.header, image.style, sink) {
         Ok(pixels) => pixels,
         Err(fault) => return (Some(fault), None),

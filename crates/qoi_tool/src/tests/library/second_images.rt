@@ -3,7 +3,8 @@
 use crate::tests::fakes::{ONE_RGB_PIXEL, PIXEL};
 use crate::tests::library::support::decodings::{CUT, after};
 use crate::tests::library::support::{
-    assert_bytes, assert_fails, assert_given, assert_header, assert_number, assert_refused,
+    assert_bytes, assert_decoded, assert_fails, assert_given, assert_header, assert_number,
+    assert_refused, made,
 };
 use qoi::parts::Bytes;
 use qoi::{Decoder, Header};
@@ -23,7 +24,7 @@ fn two_files() -> [u8; 35] {
 // Decodes this pixel into the front of a longer buffer.
 fn assert_fills(rt: &impl Abort, decoder: &mut Decoder<Bytes<'_>>, pixel: &[u8; 3]) {
     let mut buf = [0xaa; 5];
-    let size = decoder.decode_to_buf(&mut buf).expect(rt, "refused");
+    let size = made::decoded(rt, decoder, &mut buf);
     assert_number(rt, size, 3);
     assert_bytes(rt, &buf[..3], pixel);
     assert_bytes(rt, &buf[3..], &[0xaa, 0xaa]);
@@ -32,7 +33,7 @@ fn assert_fills(rt: &impl Abort, decoder: &mut Decoder<Bytes<'_>>, pixel: &[u8; 
 #[test]
 fn buffers_from_a_slice(rt: HostRuntime) {
     let bytes = two_files();
-    let mut decoder = Decoder::new(&bytes).expect(&rt, "refused");
+    let mut decoder = made::slice(&rt, &bytes);
     assert_fills(&rt, &mut decoder, &PIXEL);
     assert_bytes(&rt, decoder.data(), after(&bytes, 26));
     assert_fills(&rt, &mut decoder, &[0xff; 3]);
@@ -46,8 +47,8 @@ fn buffers_from_a_slice(rt: HostRuntime) {
 fn vectors_from_a_stream(rt: HostRuntime) {
     let alloc = rt.alloc();
     let bytes = two_files();
-    let mut decoder = Decoder::from_stream(Cursor::new(&bytes[..])).expect(&rt, "refused");
-    assert_given(&rt, decoder.decode_to_vec(alloc), &PIXEL);
+    let mut decoder = made::stream(&rt, Cursor::new(&bytes[..]));
+    assert_decoded(&rt, alloc, &mut decoder, &PIXEL);
     assert_given(&rt, decoder.decode_to_vec(alloc), &[0xff; 3]);
     let third = decoder.decode_to_vec(alloc).err();
     assert_fails(&rt, third, ErrorKind::UnexpectedEof);

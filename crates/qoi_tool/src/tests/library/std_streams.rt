@@ -1,11 +1,11 @@
 //! The stream calls over the standard library's own readers and writers.
 use crate::tests::fakes::{NONE, Source};
 use crate::tests::library::support::images::{file_of, row};
-use crate::tests::library::support::{assert_bytes, assert_given, assert_number};
+use crate::tests::library::support::{assert_bytes, assert_decoded, assert_number, made};
 use qoi::parts::Reader;
-use qoi::{Channels, Decoder, Encoder, Result};
+use qoi::{Channels, Decoder, Result};
 use std::alloc::Global;
-use std::io::{BufRead, BufReader, BufWriter, Cursor, Read, Write};
+use std::io::{BufRead, BufWriter, Cursor, Read, Write};
 use std::process::Abort;
 
 // Six pixels of four channels.
@@ -36,43 +36,42 @@ fn two_images(alloc: Global) -> Result<Vec<u8>> {
 // Decodes the first image into a buffer and the second into a vector.
 fn assert_decodes<R: Reader>(rt: &impl Abort, alloc: Global, decoder: &mut Decoder<R>) {
     let mut buf = [0xaa; 24];
-    assert_number(
-        rt,
-        decoder.decode_to_buf(&mut buf).expect(rt, "refused"),
-        24,
-    );
+    assert_number(rt, made::decoded(rt, decoder, &mut buf), 24);
     assert_bytes(rt, &buf, &IMAGE);
-    assert_given(rt, decoder.decode_to_vec(alloc), &IMAGE);
+    assert_decoded(rt, alloc, decoder, &IMAGE);
 }
 
 // Reads the bytes after the images.
-fn assert_left<R: Read + Drop>(rt: &impl Abort, alloc: Global, mut reader: R) {
-    let mut rest = Vec::new(alloc);
-    reader.read_to_end(&mut rest).expect(rt, "refused");
-    assert_bytes(rt, &rest, &[0x78, 0x79]);
+fn assert_left<R: Read + Drop>(rt: &impl Abort, alloc: Global, reader: R) {
+    assert_bytes(rt, &made::rest(rt, alloc, reader), &[0x78, 0x79]);
 }
 
 // Decodes both images, and reads the bytes after them.
 fn assert_reads<R: Read + Drop>(rt: &impl Abort, alloc: Global, reader: R) {
-    let mut decoder = Decoder::from_stream(reader).expect(rt, "refused");
+    let mut decoder = made::stream(rt, reader);
     assert_decodes(rt, alloc, &mut decoder);
     assert_left(rt, alloc, decoder.into_reader());
 }
 
 // The same from the reader's buffer.
 fn assert_reads_buffer<R: BufRead + Drop>(rt: &impl Abort, alloc: Global, reader: R) {
-    let mut decoder = Decoder::from_buf_read(reader).expect(rt, "refused");
+    let mut decoder = made::buffered(rt, reader);
     assert_decodes(rt, alloc, &mut decoder);
     assert_left(rt, alloc, decoder.into_reader());
+}
+
+// Slices and cursors of them, as streams and as buffers.
+fn assert_slices(rt: &impl Abort, alloc: Global, bytes: &[u8]) {
+    assert_reads(rt, alloc, bytes);
+    assert_reads(rt, alloc, Cursor::new(bytes));
+    assert_reads_buffer(rt, alloc, bytes);
+    assert_reads_buffer(rt, alloc, Cursor::new(bytes));
 }
 
 #[test]
 fn slices_and_cursors_are_read(rt: HostRuntime) {
     let bytes = two_images(rt.alloc()).expect(&rt, "refused");
-    assert_reads(&rt, rt.alloc(), bytes.as_slice());
-    assert_reads(&rt, rt.alloc(), Cursor::new(bytes.as_slice()));
-    assert_reads_buffer(&rt, rt.alloc(), bytes.as_slice());
-    assert_reads_buffer(&rt, rt.alloc(), Cursor::new(bytes.as_slice()));
+    assert_slices(&rt, rt.alloc(), &bytes);
     assert_reads(&rt, rt.alloc(), Cursor::new(bytes));
 }
 
@@ -82,32 +81,20 @@ fn buffering_readers_are_read(rt: HostRuntime) {
     let alloc = rt.alloc();
     let bytes = two_images(alloc).expect(&rt, "refused");
     for capacity in [1, 2, 3, 5, 7, 100] {
-        let reader = BufReader::with_capacity(alloc, capacity, bytes.as_slice()).expect(
-            &rt, "refused",
-        );
+        let reader = made::buffer(&rt, alloc, capacity, bytes.as_slice());
         assert_reads(&rt, alloc, reader);
-        let reader = BufReader::with_capacity(alloc, capacity, bytes.as_slice()).expect(
-            &rt, "refused",
-        );
+        let reader = made::buffer(&rt, alloc, capacity, bytes.as_slice());
         assert_reads_buffer(&rt, alloc, reader);
         let source = Source::new(&bytes, 1, NONE);
-        assert_reads(
-            &rt,
-            alloc,
-            BufReader::with_capacity(alloc, capacity, source).expect(&rt, "refused"),
-        );
+        assert_reads(&rt, alloc, made::buffer(&rt, alloc, capacity, source));
         let source = Source::new(&bytes, 1, NONE);
-        assert_reads_buffer(
-            &rt,
-            alloc,
-            BufReader::with_capacity(alloc, capacity, source).expect(&rt, "refused"),
-        );
+        assert_reads_buffer(&rt, alloc, made::buffer(&rt, alloc, capacity, source));
     }
 }
 
 // Encodes the image to a writer, and flushes it.
 fn send<W: Write>(rt: &impl Abort, writer: &mut W) {
-    let encoder = Encoder::new(&IMAGE, 6, 1).expect(rt, "refused");
+    let encoder = made::encoder(rt, &IMAGE, 6, 1);
     assert_number(
         rt,
         encoder.encode_to_stream(writer).expect(rt, "refused"),

@@ -1,7 +1,7 @@
 //! Files that are decoded from a stream, which may end one of its calls badly.
 use crate::tests::fakes::{Bad, End, ONE_RGB_PIXEL, PIXEL, Source};
 use crate::tests::library::support::{
-    assert_bytes, assert_fails, assert_header, assert_number, assert_refused,
+    assert_bytes, assert_fails, assert_header, assert_number, assert_refused, made,
 };
 use qoi::{Channels, Decoder, Error, Header};
 use std::alloc::Global;
@@ -15,19 +15,11 @@ fn two_files_in_one_stream(rt: HostRuntime) {
     bytes[..26].copy_from_slice(&ONE_RGB_PIXEL);
     bytes[26] = 0x55;
     bytes[34] = 1;
-    let mut decoder = Decoder::from_stream(Cursor::new(&bytes[..])).expect(&rt, "refused");
+    let mut decoder = made::stream(&rt, Cursor::new(&bytes[..]));
     let mut buf = [0xaa; 5];
-    assert_number(
-        &rt,
-        decoder.decode_to_buf(&mut buf).expect(&rt, "refused"),
-        3,
-    );
+    assert_number(&rt, made::decoded(&rt, &mut decoder, &mut buf), 3);
     assert_bytes(&rt, &buf, &[0x0b, 0x79, 0xe7, 0xaa, 0xaa]);
-    assert_number(
-        &rt,
-        decoder.decode_to_buf(&mut buf).expect(&rt, "refused"),
-        3,
-    );
+    assert_number(&rt, made::decoded(&rt, &mut decoder, &mut buf), 3);
     assert_bytes(&rt, &buf, &[0xff, 0xff, 0xff, 0xaa, 0xaa]);
     let third = decoder.decode_to_buf(&mut buf).err();
     assert_fails(&rt, third, ErrorKind::UnexpectedEof);
@@ -37,7 +29,7 @@ fn two_files_in_one_stream(rt: HostRuntime) {
 // Decodes the pixel. What follows the end marker is left.
 fn assert_decodes(rt: &impl Abort, mut decoder: Decoder<&[u8]>) {
     let mut buf = [0xaa; 3];
-    assert_number(rt, decoder.decode_to_buf(&mut buf).expect(rt, "refused"), 3);
+    assert_number(rt, made::decoded(rt, &mut decoder, &mut buf), 3);
     assert_bytes(rt, &buf, &PIXEL);
     assert_bytes(rt, decoder.reader(), &[0x78, 0x79]);
     assert_bytes(rt, decoder.into_reader(), &[0x78, 0x79]);
@@ -49,7 +41,7 @@ fn clones(rt: HostRuntime) {
     let mut bytes = [0x78; 28];
     bytes[..26].copy_from_slice(&ONE_RGB_PIXEL);
     bytes[27] = 0x79;
-    let decoder = Decoder::from_stream(&bytes[..]).expect(&rt, "refused");
+    let decoder = made::stream(&rt, &bytes[..]);
     let cloned = decoder.clone().expect(&rt, "refused");
     assert_decodes(&rt, decoder);
     assert_decodes(&rt, cloned);
@@ -88,8 +80,8 @@ fn assert_stops(rt: &impl Abort, end: End, taken: usize, kind: ErrorKind) {
 fn assert_ends(rt: &impl Abort, end: End) {
     let mut reader = Source::new(&ONE_RGB_PIXEL, 1, Bad { call: 27, end });
     let mut buf = [0xaa; 3];
-    let mut decoder = Decoder::from_stream(&mut reader).expect(rt, "refused");
-    assert_number(rt, decoder.decode_to_buf(&mut buf).expect(rt, "refused"), 3);
+    let mut decoder = made::stream(rt, &mut reader);
+    assert_number(rt, made::decoded(rt, &mut decoder, &mut buf), 3);
     assert_bytes(rt, &buf, &PIXEL);
     assert_bytes(rt, decoder.into_reader().left, &[]);
 }

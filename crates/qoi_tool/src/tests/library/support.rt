@@ -5,10 +5,12 @@ pub mod examples;
 pub mod generator;
 pub mod images;
 pub mod lists;
+pub mod made;
 pub mod plain;
 pub mod reference;
 
-use qoi::{Error, Header, Result};
+use qoi::parts::Reader;
+use qoi::{Decoder, Error, Header, Result};
 use std::alloc::Global;
 use std::io::ErrorKind;
 use std::process::Abort;
@@ -21,6 +23,16 @@ pub fn assert_bytes(rt: &impl Abort, found: &[u8], bytes: &[u8]) {
 /// Compares bytes that a call gives.
 pub fn assert_given(rt: &impl Abort, given: Result<Vec<u8>>, bytes: &[u8]) {
     assert_bytes(rt, &given.expect(rt, "refused"), bytes);
+}
+
+/// Compares the image that a decoder decodes into a vector.
+pub fn assert_decoded<R: Reader>(
+    rt: &impl Abort,
+    alloc: Global,
+    decoder: &mut Decoder<R>,
+    image: &[u8],
+) {
+    assert_given(rt, decoder.decode_to_vec(alloc), image);
 }
 
 /// Compares two vectors that a call gives.

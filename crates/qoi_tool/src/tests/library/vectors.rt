@@ -5,10 +5,10 @@ ghost use Rattle.qoi.specs.Raw.{IsChannels};
 
 use crate::tests::fakes::{ONE_RGB_PIXEL, PIXEL};
 use crate::tests::library::support::decodings::{CUT, Decoding};
-use crate::tests::library::support::generator::{Numbers, drawn};
-use crate::tests::library::support::images::{Image, file_of, row};
+use crate::tests::library::support::generator::Numbers;
+use crate::tests::library::support::images::row;
 use crate::tests::library::support::{
-    assert_bytes, assert_fails, assert_given, assert_header, assert_number, assert_refused,
+    assert_bytes, assert_fails, assert_given, assert_header, assert_number, assert_refused, made,
 };
 use qoi::parts::{Buffered, Bytes, Reader};
 use qoi::{Channels, Decoder, Error, Header, Result, Style, encode_to_vec};
@@ -27,13 +27,12 @@ fn assert_exact(rt: &impl Abort, file: Result<Vec<u8>>) {
 #[test]
 fn files_take_their_length(rt: HostRuntime) {
     let alloc = rt.alloc();
-    let flat = vec![in alloc; 7u8; 300_000].expect(&rt, "refused");
+    let flat = made::filled(&rt, alloc, 7, 300_000);
     assert_exact(&rt, encode_to_vec(alloc, &flat, 1000, 100));
     assert_exact(&rt, encode_to_vec(alloc, &PIXEL, 1, 1));
     let mut numbers = Numbers::new(0xca9ac);
-    let pixels = drawn(alloc, &mut numbers, Channels::Rgba, 5000).expect(&rt, "refused");
-    let image = Image::of(alloc, row(5000, Channels::Rgba), Style::Tight, &pixels);
-    let image = image.expect(&rt, "refused");
+    let pixels = made::pixels(&rt, alloc, &mut numbers, Channels::Rgba, 5000);
+    let image = made::image(&rt, alloc, row(5000, Channels::Rgba), Style::Tight, &pixels);
     let encoder = image.encoder().expect(&rt, "refused");
     assert_exact(&rt, encoder.encode_to_vec(alloc));
 }
@@ -65,10 +64,8 @@ fn images_of_several_steps(rt: HostRuntime) {
         } else {
             Channels::Rgb
         };
-        let pixels = drawn(alloc, &mut numbers, channels, width as usize);
-        let pixels = pixels.expect(&rt, "refused");
-        let image = Image::of(alloc, row(width, channels), Style::Reference, &pixels);
-        let image = image.expect(&rt, "refused");
+        let pixels = made::pixels(&rt, alloc, &mut numbers, channels, width as usize);
+        let image = made::image(&rt, alloc, row(width, channels), Style::Reference, &pixels);
         assert_comes_back(&rt, alloc, image.header, &image.file, &image.raw);
     }
 }
@@ -89,8 +86,8 @@ fn runs_across_steps(rt: HostRuntime) {
     let chunks = runs(alloc, 1100).expect(&rt, "refused");
     for width in [68_201, 68_150] {
         let header = row(width, Channels::Rgb);
-        let file = file_of(alloc, header, &chunks).expect(&rt, "refused");
-        let mut raw = vec![in alloc; 0u8; 3 * width as usize].expect(&rt, "refused");
+        let file = made::file(&rt, alloc, header, &chunks);
+        let mut raw = made::filled(&rt, alloc, 0, 3 * width as usize);
         for px in raw.chunks_exact_mut(3) {
             px.copy_from_slice(&[1, 2, 3]);
         }

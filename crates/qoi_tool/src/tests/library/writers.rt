@@ -2,10 +2,12 @@
 //! badly.
 ghost use Rattle.std.specs.Prelude.{◌≤◌};
 
-use crate::tests::fakes::{Bad, End, NONE, ONE_RGB_PIXEL, PIXEL, Sink};
-use crate::tests::library::support::{assert_bytes, assert_fails, assert_number, assert_refused};
+use crate::tests::fakes::{Bad, End, NONE, ONE_RGB_PIXEL, PIXEL};
+use crate::tests::library::support::{
+    assert_bytes, assert_fails, assert_number, assert_refused, made,
+};
+use qoi::Result;
 use qoi::parts::{BytesMut, GenericWriter, Writer};
-use qoi::{Encoder, Result};
 use std::alloc::Global;
 use std::io::ErrorKind;
 use std::process::Abort;
@@ -36,7 +38,7 @@ fn buffers_take_bytes(rt: HostRuntime) {
 
 #[test]
 fn writers_take_bytes(rt: HostRuntime) {
-    let mut sent = Vec::from_slice(rt.alloc(), &[9]).expect(&rt, "refused");
+    let mut sent = made::bytes(&rt, rt.alloc(), &[9]);
     let mut writer = GenericWriter::new(&mut sent);
     assert_number(&rt, writer.capacity(), usize::MAX);
     write_four(&rt, &mut writer).expect(&rt, "refused");
@@ -45,8 +47,8 @@ fn writers_take_bytes(rt: HostRuntime) {
 
 // Encodes the pixel to a writer, which takes all of it in so many calls.
 fn assert_sends(rt: &impl Abort, alloc: Global, most: usize, bad: Bad, calls: usize) {
-    let mut writer = Sink::new(alloc, most, bad).expect(rt, "refused");
-    let encoder = Encoder::new(&PIXEL, 1, 1).expect(rt, "refused");
+    let mut writer = made::sink(rt, alloc, most, bad);
+    let encoder = made::encoder(rt, &PIXEL, 1, 1);
     assert_number(
         rt,
         encoder.encode_to_stream(&mut writer).expect(rt, "refused"),
@@ -67,8 +69,8 @@ fn one_piece(rt: HostRuntime) {
 // last one, and a beginning of the file has gone out.
 fn assert_stops(rt: &impl Abort, alloc: Global, end: End, gone: &[u8], kind: ErrorKind) {
     let call = gone.len().saturating_add(1);
-    let mut writer = Sink::new(alloc, 1, Bad { call, end }).expect(rt, "refused");
-    let encoder = Encoder::new(&PIXEL, 1, 1).expect(rt, "refused");
+    let mut writer = made::sink(rt, alloc, 1, Bad { call, end });
+    let encoder = made::encoder(rt, &PIXEL, 1, 1);
     assert_fails(rt, encoder.encode_to_stream(&mut writer).err(), kind);
     assert_bytes(rt, &writer.got, gone);
     assert_number(rt, writer.calls, call);
@@ -97,9 +99,7 @@ fn failing_writer(rt: HostRuntime) {
 #[test]
 fn own_words(rt: HostRuntime) {
     let end = End::Named;
-    let mut writer = Sink::new(rt.alloc(), 1, Bad { call: 5, end }).expect(&rt, "refused");
-    let refusal = Encoder::new(&PIXEL, 1, 1)
-        .expect(&rt, "refused")
-        .encode_to_stream(&mut writer);
+    let mut writer = made::sink(&rt, rt.alloc(), 1, Bad { call: 5, end });
+    let refusal = made::encoder(&rt, &PIXEL, 1, 1).encode_to_stream(&mut writer);
     assert_refused(&rt, rt.alloc(), refusal.err(), "i/o error: x");
 }

@@ -1,12 +1,12 @@
 //! Decoding by each call from a slice, from a stream and from a reader with a buffer, and the
 //! decoder's state after it.
 use crate::tests::library::support::{
-    assert_bytes, assert_fails, assert_given, assert_header, assert_number, assert_refused,
+    assert_bytes, assert_fails, assert_given, assert_header, assert_number, assert_refused, made,
 };
 use qoi::parts::Reader;
 use qoi::{Channels, Decoder, Header, Result, decode_to_buf, decode_to_vec};
 use std::alloc::Global;
-use std::io::{BufReader, ErrorKind, Read};
+use std::io::ErrorKind;
 use std::process::Abort;
 
 /// What is printed for bytes that end too early.
@@ -77,9 +77,7 @@ impl<'a> Decoding<'a> {
 
     // What is returned for a slice, of which these bytes are left then.
     fn of_slice(self, rt: &impl Abort, alloc: Global, call: Call, left: &[u8]) -> Result<Vec<u8>> {
-        let mut decoder = Decoder::new(self.bytes)
-            .expect(rt, "refused")
-            .with_channels(self.channels);
+        let mut decoder = made::slice(rt, self.bytes).with_channels(self.channels);
         let decoded = self.of(rt, alloc, &mut decoder, call);
         assert_bytes(rt, decoder.data(), left);
         decoded
@@ -87,9 +85,7 @@ impl<'a> Decoding<'a> {
 
     // What is returned for a stream, of which these bytes are left then.
     fn of_stream(self, rt: &impl Abort, alloc: Global, call: Call, left: &[u8]) -> Result<Vec<u8>> {
-        let mut decoder = Decoder::from_stream(self.bytes)
-            .expect(rt, "refused")
-            .with_channels(self.channels);
+        let mut decoder = made::stream(rt, self.bytes).with_channels(self.channels);
         let decoded = self.of(rt, alloc, &mut decoder, call);
         assert_bytes(rt, decoder.into_reader(), left);
         decoded
@@ -99,16 +95,10 @@ impl<'a> Decoding<'a> {
     // has 20 to 69 bytes, so that it ends at all places of a chunk.
     fn of_buffer(self, rt: &impl Abort, alloc: Global, call: Call, left: &[u8]) -> Result<Vec<u8>> {
         let capacity = 20 + self.bytes.len() % 50;
-        let reader = BufReader::with_capacity(alloc, capacity, self.bytes).expect(rt, "refused");
-        let mut decoder = Decoder::from_buf_read(reader)
-            .expect(rt, "refused")
-            .with_channels(self.channels);
+        let reader = made::buffer(rt, alloc, capacity, self.bytes);
+        let mut decoder = made::buffered(rt, reader).with_channels(self.channels);
         let decoded = self.of(rt, alloc, &mut decoder, call);
-        let mut rest = Vec::new(alloc);
-        decoder
-            .into_reader()
-            .read_to_end(&mut rest)
-            .expect(rt, "refused");
+        let rest = made::rest(rt, alloc, decoder.into_reader());
         assert_bytes(rt, &rest, left);
         decoded
     }
@@ -131,7 +121,7 @@ impl<'a> Decoding<'a> {
         let (header, raw) = decode_to_vec(alloc, self.bytes).expect(rt, "refused");
         assert_header(rt, &header, &self.header);
         assert_bytes(rt, &raw, image);
-        let mut buf = vec![in alloc; 0xaau8; image.len()].expect(rt, "refused");
+        let mut buf = made::filled(rt, alloc, 0xaa, image.len());
         assert_header(
             rt,
             &decode_to_buf(&mut buf, self.bytes).expect(rt, "refused"),

@@ -4,7 +4,7 @@ use crate::tests::library::support::decodings::Decoding;
 use crate::tests::library::support::generator::Rgba;
 use crate::tests::library::support::plain::plain_chunks;
 use crate::tests::library::support::{
-    assert_bytes, assert_fails, assert_given, assert_header, assert_number,
+    assert_bytes, assert_fails, assert_given, assert_header, assert_number, made,
 };
 use qoi::{Channels, Encoder, Header, Result, Style, encode_to_buf, encode_to_vec};
 use std::alloc::Global;
@@ -150,7 +150,7 @@ impl Image {
 
     /// Encodes the image to a writer that takes at most `most` bytes a call, and all of the file.
     pub fn sent(&self, rt: &impl Abort, alloc: Global, most: usize) -> Sink {
-        let mut writer = Sink::new(alloc, most, NONE).expect(rt, "refused");
+        let mut writer = made::sink(rt, alloc, most, NONE);
         let size = self
             .encoder()
             .expect(rt, "refused")
@@ -169,7 +169,7 @@ impl Image {
         for before in 0..calls {
             let call = before.saturating_add(1);
             let end = End::Fault;
-            let mut writer = Sink::new(alloc, usize::MAX, Bad { call, end }).expect(rt, "refused");
+            let mut writer = made::sink(rt, alloc, usize::MAX, Bad { call, end });
             let refusal = self
                 .encoder()
                 .expect(rt, "refused")
