@@ -1,5 +1,6 @@
 -- Lemmas on decoding.
 pub mod Ahead
+pub mod Appended
 pub mod FastSteps
 pub mod FilledBuffer
 pub mod FirstChunk
@@ -9,14 +10,17 @@ pub mod Grown
 pub mod ImageSize
 pub mod InPlace
 pub mod LeastBytes
+pub mod Marks
 pub mod OneFile
 pub mod PieceFront
 pub mod PieceSteps
 pub mod PixelPieces
+pub mod Places
 pub mod Progress
 pub mod Promised
 pub mod Refusals
 pub mod RefusedBytes
+pub mod RowIndexes
 pub mod Rows
 pub mod StreamReads
 pub mod StreamVerdicts

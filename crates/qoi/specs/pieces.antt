@@ -2,5 +2,7 @@
 pub mod ReaderPieces
 pub mod InPlace
 pub mod PixelReader
+pub mod Mark
+pub mod RowIndex
 pub mod WriterPieces
 pub mod PixelWriter

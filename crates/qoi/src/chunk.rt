@@ -6,14 +6,6 @@ ghost use Rattle.qoi.specs.Verdicts.{IsPartOfChunk};
 
 use crate::consts::{QOI_OP_DIFF, QOI_OP_INDEX, QOI_OP_LUMA, QOI_OP_RGB, QOI_OP_RGBA, QOI_OP_RUN};
 
-pub(crate) const QOI_OP_INDEX_END: u8 = QOI_OP_INDEX | 0x3f;
-
-pub(crate) const QOI_OP_DIFF_END: u8 = QOI_OP_DIFF | 0x3f;
-
-pub(crate) const QOI_OP_LUMA_END: u8 = QOI_OP_LUMA | 0x3f;
-// The bytes of runs of 63 and 64 are those of RGB and RGBA.
-pub(crate) const QOI_OP_RUN_END: u8 = QOI_OP_RUN | 0x3d;
-
 /// A chunk (QOI specification 1.0, "Chunks").
 #[derive(Clone, Copy, PartialEq, Eq, Debug)]
 pub enum Chunk {
@@ -48,16 +40,18 @@ pub fn read_chunk(data: &[u8]) -> Option<(Chunk, &[u8])>
     let [first, rest @ ..] = data else {
         return None;
     };
+    // Each kind's bytes end where the next one's begin: those of runs of 63 and 64 are RGB's and
+    // RGBA's.
     match *first {
-        QOI_OP_INDEX..=QOI_OP_INDEX_END => Some((Chunk::Place(*first), rest)),
-        QOI_OP_DIFF..=QOI_OP_DIFF_END => Some((Chunk::Diff(*first), rest)),
-        QOI_OP_LUMA..=QOI_OP_LUMA_END => {
+        QOI_OP_INDEX..QOI_OP_DIFF => Some((Chunk::Place(*first), rest)),
+        QOI_OP_DIFF..QOI_OP_LUMA => Some((Chunk::Diff(*first), rest)),
+        QOI_OP_LUMA..QOI_OP_RUN => {
             match rest {
                 [second, rest @ ..] => Some((Chunk::Luma(*first, *second), rest)),
                 _ => None,
             }
         }
-        QOI_OP_RUN..=QOI_OP_RUN_END => Some((Chunk::Run(*first - (QOI_OP_RUN - 1)), rest)),
+        QOI_OP_RUN..QOI_OP_RGB => Some((Chunk::Run(*first - (QOI_OP_RUN - 1)), rest)),
         QOI_OP_RGB => {
             match rest {
                 [r, g, b, rest @ ..] => Some((Chunk::Rgb(*r, *g, *b), rest)),

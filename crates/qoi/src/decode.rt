@@ -24,8 +24,10 @@ mod stream;
 mod table;
 
 pub use crate::decode::pixel_reader::PixelReader;
+pub use crate::decode::pixel_reader::mark::Mark;
 pub use crate::decode::pixel_reader::piece_reader::PieceReader;
 pub use crate::decode::pixel_reader::pieces::Pieces;
+pub use crate::decode::pixel_reader::row_index::RowIndex;
 pub use crate::decode::reader::{Buffered, Bytes, Reader};
 use crate::error::{Error, Result};
 use crate::header::Header;
@@ -70,9 +72,10 @@ pub fn decode_to_buf(buf: &mut [u8], data: &[u8]) -> Result<Header>
         → drop (image_byte_count h) buf.new ≡ drop (image_byte_count h) buf.old }
     ensures untouched { (e : Error) → header_of «data».now ≡ Err e → buf.new ≡ buf.old }
 {
-    let mut decoder = Decoder::new(data)?;
-    decoder.decode_to_buf(buf)?;
-    Ok(*decoder.header())
+    let mut image = Decoder::new(data)?;
+    let header = *image.header();
+    image.decode_to_buf(buf)?;
+    Ok(header)
 }
 
 /// Decodes a file into a vector, in the file's own channels, and returns its header too.
@@ -93,9 +96,10 @@ pub fn decode_to_vec(alloc: Global, data: &[u8]) -> Result<(Header, Vec<u8>)>
         → IsFileFor raw width height whole → «data».now ≡ take (length whole - 1) whole
         → IsErr result }
 {
-    let mut decoder = Decoder::<Bytes>::new(data)?;
-    let out = decoder.decode_to_vec(alloc)?;
-    Ok((*decoder.header(), out))
+    let mut image = Decoder::<Bytes>::new(data)?;
+    let header = *image.header();
+    let raw = image.decode_to_vec(alloc)?;
+    Ok((header, raw))
 }
 
 /// Decodes the image of a file, from a slice or from a reader (QOI specification 1.0, "File

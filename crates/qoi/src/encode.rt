@@ -22,6 +22,7 @@ mod chunks;
 mod coder;
 pub(crate) mod fresh;
 mod last_pixel;
+mod marked;
 pub(crate) mod piece;
 mod pixel_writer;
 mod pixels;

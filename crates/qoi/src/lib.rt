@@ -1,4 +1,7 @@
-//! A proved encoder and decoder for the QOI image format (QOI specification 1.0).
+//! A proved encoder and decoder for the QOI image format (QOI specification 1.0): a port of the
+//! Rust crate `qoi` 0.4.1 by Ivan Smirnov, copyright 2022, whose names, error texts and behaviour
+//! it follows, under the same licences (`LICENSE-MIT`, `LICENSE-APACHE`). From its code come the
+//! product in `hash_index` and the form of some short bodies.
 //!
 //! Raw bytes are the pixels row by row, three or four bytes a pixel: red, green, blue and, if there
 //! are four, alpha.
@@ -8,6 +11,8 @@
 //! - [`Encoder`] also takes a color space and a style, and writes to a `std::io::Write`.
 //! - [`Decoder`] also decodes into three or four channels, reads from a `std::io::BufRead` or,
 //!   more slowly, a `std::io::Read`, and gives what follows a file.
+//! - [`PixelReader`], of `Decoder::into_pixels`, and [`PixelWriter`] decode and encode images that
+//!   needn't fit into memory, piece by piece.
 //! - [`decode_header`] looks at the first fourteen bytes alone; [`encode_max_len`] is the most
 //!   bytes that an encoded image can have.
 //!
@@ -34,7 +39,9 @@ mod types;
 mod utils;
 mod writers;
 
-pub use crate::decode::{Decoder, PixelReader, decode_header, decode_to_buf, decode_to_vec};
+pub use crate::decode::{
+    Decoder, Mark, PixelReader, RowIndex, decode_header, decode_to_buf, decode_to_vec,
+};
 pub use crate::encode::{Encoder, PixelWriter, encode_max_len, encode_to_buf, encode_to_vec};
 pub use crate::error::{Error, Result};
 pub use crate::header::Header;

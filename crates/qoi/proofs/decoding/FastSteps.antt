@@ -39,15 +39,19 @@ short_count c b size is short one run =
           record { count = b - 191; size_is = run more low; once = λ l. absurd (omega arith); often = λ l. omega arith; fits = omega arith; low = low }
     ]
 
+-- the pixels of any run have fewer bytes than the vectors of any run
+pub run_below : (c b : ℕ) → IsChannels c → b < 254 → c * (b - 191) < 256
+run_below c b is low = by_channels (λ d. d * (b - 191) < 256) is (omega arith) (omega arith)
+
 -- after copies of a pixel the output ends where a pixel does, if it did before
 pub whole_after : (c at count : ℕ) → IsChannels c → at % c ≡ 0 → (at + c * count) % c ≡ 0
 whole_after c at count is = by_channels (λ d. at % d ≡ 0 → (at + d * count) % d ≡ 0) is (λ p. omega arith) (λ p. omega arith)
 
--- the byte after a short chunk: two past a luma's first byte, one past any other's
-pub next_byte : (luma : Bool) (bytes : List ℕ) (taken size next : ℕ) → size ≡ bool_byte luma
-    → next ≡ cond luma (get_or bytes (taken + 2) 0) (get_or bytes (taken + 1) 0) → next ≡ get_or bytes (taken + 1 + size) 0
-next_byte true bytes taken size next s e = let at : taken + 1 + size ≡ taken + 2 = omega (arith, s) in rw at e
-next_byte false bytes taken size next s e = let at : taken + 1 + size ≡ taken + 1 = omega (arith, s) in rw at e
+-- the byte after a chunk, of the two that may come there: after a luma, or an RGBA chunk, one more is taken
+pub next_byte : (more : Bool) (bytes : List ℕ) (one two size next : ℕ) → two ≡ one + 1 → size ≡ bool_byte more
+    → next ≡ cond more (get_or bytes two 0) (get_or bytes one 0) → next ≡ get_or bytes (one + size) 0
+next_byte true bytes one two size next after s e = let at : one + size ≡ two = omega (arith, s, after) in rw at e
+next_byte false bytes one two size next after s e = let at : one + size ≡ one = omega (arith, s) in rw at e
 
 -- a luma has one byte more
 pub one_more : (luma : Bool) (size : ℕ) → size ≡ bool_byte luma → size ≤ 1

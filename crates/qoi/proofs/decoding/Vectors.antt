@@ -123,18 +123,6 @@ pub written_one : {f c : ℕ} {old new : List ℕ} (p : RgbaPixel) (at : ℕ) �
     → HasWritten f c (upto old at) (upto new (at + c * 1)) (replicate 1 p)
 written_one {c = c} p at w = let one : at + c * 1 ≡ at + c = omega arith in rw one w
 
--- k copies were written four times, one after the other; so any number up to all
-pub four_written : {f c : ℕ} {o0 o1 o2 o3 o4 : List ℕ} (p : RgbaPixel) (at k count : ℕ) → IsChannels c → at ≤ length o0 → count ≤ 4 * k
-    → HasWritten f c (upto o0 at) (upto o1 (at + c * k)) (replicate k p)
-    → HasWritten f c (upto o1 (at + c * k)) (upto o2 (at + c * k + c * k)) (replicate k p)
-    → HasWritten f c (upto o2 (at + c * (2 * k))) (upto o3 (at + c * (2 * k) + c * k)) (replicate k p)
-    → HasWritten f c (upto o3 (at + c * (3 * k))) (upto o4 (at + c * (3 * k) + c * k)) (replicate k p)
-    → HasWritten f c (upto o0 at) (upto o4 (at + c * count)) (replicate count p)
-four_written p at k count is within le w1 w2 w3 w4 =
-    let two = written_copies p at k k (2 * k) is (omega arith) w1 w2 in
-    let three = written_copies p at (2 * k) k (3 * k) is (omega arith) two w3 in
-    written_fewer p at (4 * k) count is le within (written_copies p at (3 * k) k (4 * k) is (omega arith) three w4)
-
 -- k copies were written twice; so any number up to both
 pub two_written : {f c : ℕ} {o0 o1 o2 : List ℕ} (p : RgbaPixel) (at k count : ℕ) → IsChannels c → at ≤ length o0 → count ≤ 2 * k
     → HasWritten f c (upto o0 at) (upto o1 (at + c * k)) (replicate k p)
@@ -150,11 +138,7 @@ pub ends_written : {f c : ℕ} {o0 o1 o2 : List ℕ} (p : RgbaPixel) (at k count
 ends_written p at k count is within most le w1 w2 =
     written_copies p at (count - k) k count is (omega (arith, most)) (written_fewer p at k (count - k) is (omega (arith, le)) within w1) w2
 
--- sixteen vectors have room for the longest run
-pub vectors_enough : (c count : ℕ) → IsChannels c → count ≤ 62 → count ≤ 4 * (4 * (16 / c))
-vectors_enough c count is = by_channels (λ d. count ≤ 62 → count ≤ 4 * (4 * (16 / d))) is (λ le. omega arith) (λ le. omega arith)
-
--- eight vectors from both ends have room for the longest run
+-- eight vectors and eight more have room for the longest run
 pub most_by_eight : (c count : ℕ) → IsChannels c → count ≤ 62 → count ≤ 2 * (8 * (16 / c))
 most_by_eight c count is = by_channels (λ d. count ≤ 62 → count ≤ 2 * (8 * (16 / d))) is (λ le. omega arith) (λ le. omega arith)
 

@@ -2,6 +2,7 @@
 pub mod CoderLink
 pub mod CoderSteps
 pub mod CoderTable
+pub mod MarkedPixels
 pub mod PixelBlock
 pub mod PixelsIn
 pub mod Spelled

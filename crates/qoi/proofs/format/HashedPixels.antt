@@ -1,29 +1,22 @@
 -- Pixels as numbers that hold their index positions too.
-use Rattle.std.proofs.Common.{◌≡◌, ℕ, ◌+◌, ◌*◌, ◌/◌, ◌%◌, ◌^◌, ◌<◌, ◌≤◌, arith, sym, ap, ◌∙◌}
+use Rattle.std.proofs.Common.{◌≡◌, ℕ, ◌+◌, ◌-◌, ◌*◌, ◌/◌, ◌%◌, ◌^◌, ◌<◌, ◌≤◌, arith, refl, sym, ap, ◌∙◌}
 use Rattle.std.specs.Int.Bits.{bit_and, and_zero_r}
 use Rattle.std.proofs.lemmas.Nat.{and_block, and_mask}
-use Rattle.qoi.specs.Qoi.{RgbaPixel, hash, moved}
-use Rattle.qoi.specs.inner.Hashed.{pixel_of_lanes, IsHashed, lane_mask}
+use Rattle.qoi.specs.Qoi.{RgbaPixel, pixel, hash, moved}
+use Rattle.qoi.specs.inner.Hashed.{pixel_of_lanes, IsHashed, lane_mask, alpha_mask}
 use Rattle.qoi.proofs.format.SamePixels.{same_pixel}
-
--- the eight higher bits of sixteen
-high_half : (w : ℕ) → bit_and w 0xff00 ≡ w / 2 ^ 8 % 2 ^ 8 * 2 ^ 8
-high_half w = ap (λ z. bit_and z 0xff00) split ∙ and_block 8 (w / 2 ^ 8) 0xff (w % 2 ^ 8) 0 (omega arith) (omega arith) ∙ omega (arith, and_mask (w / 2 ^ 8) 8, and_zero_r (w % 2 ^ 8))
-  where
-    split : w ≡ w / 2 ^ 8 * 2 ^ 8 + w % 2 ^ 8
-    split = omega arith
 
 -- the bits of the mask, sixteen by sixteen
 mask_blocks : (a b g r : ℕ) → b < 2 ^ 16 → g < 2 ^ 16 → r < 2 ^ 16 → bit_and (((a * 2 ^ 16 + b) * 2 ^ 16 + g) * 2 ^ 16 + r) lane_mask
-    ≡ ((a / 2 ^ 8 % 2 ^ 8 * 2 ^ 8 * 2 ^ 16 + b / 2 ^ 8 % 2 ^ 8 * 2 ^ 8) * 2 ^ 16 + g % 2 ^ 16) * 2 ^ 16 + r % 2 ^ 8
+    ≡ ((a % 2 ^ 16 * 2 ^ 16 + b % 2 ^ 8) * 2 ^ 16 + g % 2 ^ 8) * 2 ^ 16 + r % 2 ^ 8
 mask_blocks a b g r lb lg lr =
-    and_block 16 ((a * 2 ^ 16 + b) * 2 ^ 16 + g) 0xff00ff00ffff r 0xff lr (omega arith)
-    ∙ ap (λ z. z * 2 ^ 16 + bit_and r 0xff) (and_block 16 (a * 2 ^ 16 + b) 0xff00ff00 g 0xffff lg (omega arith))
-    ∙ ap (λ z. (z * 2 ^ 16 + bit_and g 0xffff) * 2 ^ 16 + bit_and r 0xff) (and_block 16 a 0xff00 b 0xff00 lb (omega arith))
-    ∙ omega (arith, high_half a, high_half b, and_mask g 16, and_mask r 8)
+    and_block 16 ((a * 2 ^ 16 + b) * 2 ^ 16 + g) 0xffff00ff00ff r 0xff lr (omega arith)
+    ∙ ap (λ z. z * 2 ^ 16 + bit_and r 0xff) (and_block 16 (a * 2 ^ 16 + b) 0xffff00ff g 0xff lg (omega arith))
+    ∙ ap (λ z. (z * 2 ^ 16 + bit_and g 0xff) * 2 ^ 16 + bit_and r 0xff) (and_block 16 a 0xffff b 0xff lb (omega arith))
+    ∙ omega (arith, and_mask a 16, and_mask b 8, and_mask g 8, and_mask r 8)
 
--- the mask takes away what stands above position, red and green
-masked : (s : ℕ) → s < 2 ^ 64 → bit_and s lane_mask ≡ s % 2 ^ 8 + s / 2 ^ 16 % 2 ^ 16 * 2 ^ 16 + s / 2 ^ 40 % 2 ^ 8 * 2 ^ 40 + s / 2 ^ 56 * 2 ^ 56
+-- the mask takes away what stands above red, green and blue
+masked : (s : ℕ) → s < 2 ^ 64 → bit_and s lane_mask ≡ s % 2 ^ 8 + s / 2 ^ 16 % 2 ^ 8 * 2 ^ 16 + s / 2 ^ 32 % 2 ^ 8 * 2 ^ 32 + s / 2 ^ 48 * 2 ^ 48
 masked s l =
     ap (λ z. bit_and z lane_mask) split
     ∙ mask_blocks (s / 2 ^ 48) (s / 2 ^ 32 % 2 ^ 16) (s / 2 ^ 16 % 2 ^ 16) (s % 2 ^ 16) (omega arith) (omega arith) (omega arith)
@@ -31,6 +24,69 @@ masked s l =
   where
     split : s ≡ ((s / 2 ^ 48 * 2 ^ 16 + s / 2 ^ 32 % 2 ^ 16) * 2 ^ 16 + s / 2 ^ 16 % 2 ^ 16) * 2 ^ 16 + s % 2 ^ 16
     split = omega arith
+
+-- the other mask leaves alpha alone
+alpha_alone : (s : ℕ) → bit_and s alpha_mask ≡ s / 2 ^ 48 % 2 ^ 8 * 2 ^ 48
+alpha_alone s =
+    ap (λ z. bit_and z alpha_mask) split
+    ∙ and_block 48 (s / 2 ^ 48) 0xff (s % 2 ^ 48) 0 (omega arith) (omega arith)
+    ∙ omega (arith, and_mask (s / 2 ^ 48) 8, and_zero_r (s % 2 ^ 48))
+  where
+    split : s ≡ s / 2 ^ 48 * 2 ^ 48 + s % 2 ^ 48
+    split = omega arith
+
+-- a number to which alpha is added, and its pixel, whose other channels are those of four lanes
+pub record WithAlpha (t four a : ℕ) : Type 0 where
+  pub pixel_is : pixel_of_lanes t ≡ pixel (four % 2 ^ 8) (four / 2 ^ 16 % 2 ^ 8) (four / 2 ^ 32 % 2 ^ 8) a
+  pub is_hashed : IsHashed t
+
+-- alpha's share of the index position
+alpha_share : (r g b a place : ℕ) → place ≡ 4 * ((3 * r + 5 * g + 7 * b + 11 * 0) % 64) → (place + 44 * a) % 2 ^ 8 ≡ 4 * ((3 * r + 5 * g + 7 * b + 11 * a) % 64)
+alpha_share r g b a place e = omega (arith, e)
+
+-- the product with alpha alone is alpha and its share, which are added to a number without alpha
+product_is : (t w a : ℕ) → w / 2 ^ 48 % 2 ^ 8 ≡ 0 → t ≡ (a * 2 ^ 48 * 0x2c01 % 2 ^ 64 + w) % 2 ^ 64 → t ≡ (w % 2 ^ 48 + a * 2 ^ 48 + (w / 2 ^ 56 + 44 * a) * 2 ^ 56) % 2 ^ 64
+product_is t w a none e = omega (arith, none, e)
+
+-- the number of three lanes, with alpha
+with_alpha : (t w a : ℕ) → a < 2 ^ 8 → IsHashed w → w / 2 ^ 48 % 2 ^ 8 ≡ 0 → t ≡ (a * 2 ^ 48 * 0x2c01 % 2 ^ 64 + w) % 2 ^ 64 → WithAlpha t w a
+unfolding hash
+with_alpha t w a la hashed none e =
+    let sum = product_is t w a none e in
+    let red : t % 2 ^ 8 ≡ w % 2 ^ 8 = omega (arith, sum) in
+    let green : t / 2 ^ 16 % 2 ^ 8 ≡ w / 2 ^ 16 % 2 ^ 8 = omega (arith, sum) in
+    let blue : t / 2 ^ 32 % 2 ^ 8 ≡ w / 2 ^ 32 % 2 ^ 8 = omega (arith, sum) in
+    let alpha : t / 2 ^ 48 % 2 ^ 8 ≡ a = omega (arith, sum, la) in
+    let high : t / 2 ^ 56 ≡ (w / 2 ^ 56 + 44 * a) % 2 ^ 8 = omega (arith, sum, la) in
+    let px : pixel_of_lanes t ≡ pixel (w % 2 ^ 8) (w / 2 ^ 16 % 2 ^ 8) (w / 2 ^ 32 % 2 ^ 8) a = same_pixel _ _ red green blue alpha in
+    let place : w / 2 ^ 56 ≡ 4 * ((3 * (w % 2 ^ 8) + 5 * (w / 2 ^ 16 % 2 ^ 8) + 7 * (w / 2 ^ 32 % 2 ^ 8) + 11 * 0) % 64) = hashed ∙ ap (λ z. 4 * ((3 * (w % 2 ^ 8) + 5 * (w / 2 ^ 16 % 2 ^ 8) + 7 * (w / 2 ^ 32 % 2 ^ 8) + 11 * z) % 64)) none in
+    record {
+      pixel_is = px;
+      is_hashed = high ∙ alpha_share (w % 2 ^ 8) (w / 2 ^ 16 % 2 ^ 8) (w / 2 ^ 32 % 2 ^ 8) a (w / 2 ^ 56) place ∙ ap (λ p. 4 * hash p) (sym px);
+    }
+
+-- the number after an RGB chunk: three of the four lanes that are read, and the last pixel's alpha
+pub after_rgb : (s keep four read w : ℕ) → keep ≡ alpha_mask → read ≡ 2 ^ 48 - 1 → IsHashed w → pixel_of_lanes w ≡ pixel_of_lanes (bit_and four read)
+    → WithAlpha ((bit_and s keep * 0x2c01 % 2 ^ 64 + w) % 2 ^ 64) four (s / 2 ^ 48 % 2 ^ 8)
+after_rgb s keep four read w is_keep is_read hashed same =
+    let kept : bit_and s keep ≡ s / 2 ^ 48 % 2 ^ 8 * 2 ^ 48 = ap (λ m. bit_and s m) is_keep ∙ alpha_alone s in
+    let lanes : bit_and four read ≡ four % 2 ^ 48 = ap (λ m. bit_and four m) is_read ∙ and_mask four 48 in
+    let red : w % 2 ^ 8 ≡ four % 2 ^ 8 = omega (arith, ap (λ p. p.r) same, lanes) in
+    let green : w / 2 ^ 16 % 2 ^ 8 ≡ four / 2 ^ 16 % 2 ^ 8 = omega (arith, ap (λ p. p.g) same, lanes) in
+    let blue : w / 2 ^ 32 % 2 ^ 8 ≡ four / 2 ^ 32 % 2 ^ 8 = omega (arith, ap (λ p. p.b) same, lanes) in
+    let none : w / 2 ^ 48 % 2 ^ 8 ≡ 0 = omega (arith, ap (λ p. p.a) same, lanes) in
+    let with = with_alpha ((bit_and s keep * 0x2c01 % 2 ^ 64 + w) % 2 ^ 64) w (s / 2 ^ 48 % 2 ^ 8) (omega arith) hashed none (ap (λ k. (k * 0x2c01 % 2 ^ 64 + w) % 2 ^ 64) kept) in
+    record {
+      pixel_is = with.pixel_is ∙ same_pixel _ _ red green blue refl;
+      is_hashed = with.is_hashed;
+    }
+
+-- the number after an RGBA chunk: that of the four lanes
+pub after_rgba : (s keep w : ℕ) → keep ≡ 0 → IsHashed w → (bit_and s keep * 0x2c01 % 2 ^ 64 + w) % 2 ^ 64 ≡ w
+unfolding hash
+after_rgba s keep w is_keep hashed =
+    let kept : bit_and s keep ≡ 0 = ap (λ m. bit_and s m) is_keep ∙ and_zero_r s in
+    omega (arith, kept, hashed)
 
 -- the index position of a moved pixel
 hash_moved : (p : RgbaPixel) (r g b k : ℕ) → k % 64 ≡ (3 * r + 5 * g + 7 * b) % 64 → hash (moved p r g b) ≡ (hash p + k) % 64
@@ -42,48 +98,45 @@ pub record Sum (s t r g b : ℕ) : Type 0 where
   pub pixel_is : pixel_of_lanes t ≡ moved (pixel_of_lanes s) r g b
   pub is_hashed : IsHashed t
 
--- the lowest bits of a sum
-low_sum : (t x i k high : ℕ) → x ≡ 4 * i → t ≡ (x + 4 * k + high * 2 ^ 16) % 2 ^ 64 → t % 2 ^ 8 ≡ 4 * ((i + k) % 64)
-low_sum t x i k high is e =
-    let low : t % 2 ^ 8 ≡ (x + 4 * k) % 2 ^ 8 = omega (arith, e) in
-    omega (arith, low, is)
+-- the highest bits of a sum
+high_sum : (t u i k : ℕ) → u < 2 ^ 56 → t ≡ (u + (4 * i + 4 * k) * 2 ^ 56) % 2 ^ 64 → t / 2 ^ 56 ≡ 4 * ((i + k) % 64)
+high_sum t u i k lu e = omega (arith, lu, e)
 
 -- the lanes of a sum
-alpha_lane : (t u a high : ℕ) → u < 2 ^ 16 → a < 2 ^ 8 → t ≡ (u + a * 2 ^ 16 + high * 2 ^ 24) % 2 ^ 64 → t / 2 ^ 16 % 2 ^ 8 ≡ a
-alpha_lane t u a high lu la e = omega arith
+red_lane : (t x high : ℕ) → t ≡ (x + high * 2 ^ 16) % 2 ^ 64 → t % 2 ^ 8 ≡ x % 2 ^ 8
+red_lane t x high e = omega arith
 
-red_lane : (t u x high : ℕ) → u < 2 ^ 24 → t ≡ (u + x * 2 ^ 24 + high * 2 ^ 40) % 2 ^ 64 → t / 2 ^ 24 % 2 ^ 8 ≡ x % 2 ^ 8
-red_lane t u x high lu e = omega arith
-
-green_lane : (t u x high : ℕ) → u < 2 ^ 40 → t ≡ (u + x * 2 ^ 40 + high * 2 ^ 56) % 2 ^ 64 → t / 2 ^ 40 % 2 ^ 8 ≡ x % 2 ^ 8
+green_lane : (t u x high : ℕ) → u < 2 ^ 16 → t ≡ (u + x * 2 ^ 16 + high * 2 ^ 32) % 2 ^ 64 → t / 2 ^ 16 % 2 ^ 8 ≡ x % 2 ^ 8
 green_lane t u x high lu e = omega arith
 
-blue_lane : (t u x : ℕ) → u < 2 ^ 56 → t ≡ (u + x * 2 ^ 56) % 2 ^ 64 → t / 2 ^ 56 % 2 ^ 8 ≡ x % 2 ^ 8
-blue_lane t u x lu e = omega arith
+blue_lane : (t u x high : ℕ) → u < 2 ^ 32 → t ≡ (u + x * 2 ^ 32 + high * 2 ^ 48) % 2 ^ 64 → t / 2 ^ 32 % 2 ^ 8 ≡ x % 2 ^ 8
+blue_lane t u x high lu e = omega arith
+
+alpha_lane : (t u a high : ℕ) → u < 2 ^ 48 → a < 2 ^ 8 → t ≡ (u + a * 2 ^ 48 + high * 2 ^ 56) % 2 ^ 64 → t / 2 ^ 48 % 2 ^ 8 ≡ a
+alpha_lane t u a high lu la e = omega arith
 
 -- numbers that are added in their lanes move the pixel, and with it the index position
-pub sum_is : (s t r g b k c : ℕ) → s < 2 ^ 64 → IsHashed s → r ≤ 1000 → g ≤ 1000 → b ≤ 1000 → k ≤ 1000 → c ≤ 1000 → k % 64 ≡ (3 * r + 5 * g + 7 * b) % 64 → c % 2 ^ 8 ≡ b % 2 ^ 8
-    → t ≡ (bit_and s lane_mask + 4 * k + r * 2 ^ 24 + g * 2 ^ 40 + c * 2 ^ 56) % 2 ^ 64 → Sum s t r g b
-sum_is s t r g b k c l h lr lg lb lk lc position blue e =
-    let place = s % 2 ^ 8 + 4 * k in
-    let alpha = s / 2 ^ 16 % 2 ^ 8 in
-    let red = s / 2 ^ 24 % 2 ^ 8 + r in
-    let green = s / 2 ^ 40 % 2 ^ 8 + g in
-    let last = s / 2 ^ 56 % 2 ^ 8 + c in
-    let sum : t ≡ (place + alpha * 2 ^ 16 + red * 2 ^ 24 + green * 2 ^ 40 + last * 2 ^ 56) % 2 ^ 64 = e ∙ ap (λ z. z % 2 ^ 64) (by_parts s k r g c l) in
-    let ls : place < 2 ^ 16 = omega (arith, lk) in
-    let r_is = red_lane t (place + alpha * 2 ^ 16) red (green + last * 2 ^ 16) (omega (arith, ls)) (sum ∙ ap (λ z. z % 2 ^ 64) (omega arith)) in
-    let g_is = green_lane t (place + alpha * 2 ^ 16 + red * 2 ^ 24) green last (omega (arith, ls, lr)) sum in
-    let b_is = blue_lane t (place + alpha * 2 ^ 16 + red * 2 ^ 24 + green * 2 ^ 40) last (omega (arith, ls, lr, lg)) sum in
-    let a_is = alpha_lane t place alpha (red + green * 2 ^ 16 + last * 2 ^ 32) ls (omega arith) (sum ∙ ap (λ z. z % 2 ^ 64) (omega arith)) in
-    let px : pixel_of_lanes t ≡ moved (pixel_of_lanes s) r g b = same_pixel _ _ r_is g_is (b_is ∙ omega (arith, blue)) a_is in
-    let high = alpha + red * 2 ^ 8 + green * 2 ^ 24 + last * 2 ^ 40 in
-    let low : t % 2 ^ 8 ≡ 4 * ((hash (pixel_of_lanes s) + k) % 64) = low_sum t (s % 2 ^ 8) (hash (pixel_of_lanes s)) k high h (sum ∙ ap (λ z. z % 2 ^ 64) (omega arith)) in
+pub sum_is : (s t r g b k : ℕ) → s < 2 ^ 64 → IsHashed s → r ≤ 1000 → g ≤ 1000 → b ≤ 1000 → k % 64 ≡ (3 * r + 5 * g + 7 * b) % 64
+    → t ≡ (bit_and s lane_mask + r + g * 2 ^ 16 + b * 2 ^ 32 + 4 * k * 2 ^ 56) % 2 ^ 64 → Sum s t r g b
+sum_is s t r g b k l h lr lg lb position e =
+    let red = s % 2 ^ 8 + r in
+    let green = s / 2 ^ 16 % 2 ^ 8 + g in
+    let blue = s / 2 ^ 32 % 2 ^ 8 + b in
+    let alpha = s / 2 ^ 48 % 2 ^ 8 in
+    let place = s / 2 ^ 56 + 4 * k in
+    let sum : t ≡ (red + green * 2 ^ 16 + blue * 2 ^ 32 + alpha * 2 ^ 48 + place * 2 ^ 56) % 2 ^ 64 = e ∙ ap (λ z. z % 2 ^ 64) (by_parts s r g b k l) in
+    let r_is = red_lane t red (green + blue * 2 ^ 16 + alpha * 2 ^ 32 + place * 2 ^ 40) (sum ∙ ap (λ z. z % 2 ^ 64) (omega arith)) in
+    let g_is = green_lane t red green (blue + alpha * 2 ^ 16 + place * 2 ^ 24) (omega (arith, lr)) (sum ∙ ap (λ z. z % 2 ^ 64) (omega arith)) in
+    let b_is = blue_lane t (red + green * 2 ^ 16) blue (alpha + place * 2 ^ 8) (omega (arith, lr, lg)) (sum ∙ ap (λ z. z % 2 ^ 64) (omega arith)) in
+    let a_is = alpha_lane t (red + green * 2 ^ 16 + blue * 2 ^ 32) alpha place (omega (arith, lr, lg, lb)) (omega arith) sum in
+    let px : pixel_of_lanes t ≡ moved (pixel_of_lanes s) r g b = same_pixel _ _ r_is g_is b_is a_is in
+    let high : t / 2 ^ 56 ≡ 4 * ((hash (pixel_of_lanes s) + k) % 64) =
+    high_sum t (red + green * 2 ^ 16 + blue * 2 ^ 32 + alpha * 2 ^ 48) (hash (pixel_of_lanes s)) k (omega (arith, lr, lg, lb)) (sum ∙ ap (λ x. (red + green * 2 ^ 16 + blue * 2 ^ 32 + alpha * 2 ^ 48 + (x + 4 * k) * 2 ^ 56) % 2 ^ 64) h) in
     record {
       pixel_is = px;
-      is_hashed = low ∙ ap (λ i. 4 * i) (sym (ap hash px ∙ hash_moved (pixel_of_lanes s) r g b k position));
+      is_hashed = high ∙ ap (λ i. 4 * i) (sym (ap hash px ∙ hash_moved (pixel_of_lanes s) r g b k position));
     }
   where
-    by_parts : (s k r g c : ℕ) → s < 2 ^ 64 → bit_and s lane_mask + 4 * k + r * 2 ^ 24 + g * 2 ^ 40 + c * 2 ^ 56
-        ≡ s % 2 ^ 8 + 4 * k + s / 2 ^ 16 % 2 ^ 8 * 2 ^ 16 + (s / 2 ^ 24 % 2 ^ 8 + r) * 2 ^ 24 + (s / 2 ^ 40 % 2 ^ 8 + g) * 2 ^ 40 + (s / 2 ^ 56 % 2 ^ 8 + c) * 2 ^ 56
-    by_parts s k r g c l = omega (arith, l, masked s l)
+    by_parts : (s r g b k : ℕ) → s < 2 ^ 64 → bit_and s lane_mask + r + g * 2 ^ 16 + b * 2 ^ 32 + 4 * k * 2 ^ 56
+        ≡ s % 2 ^ 8 + r + (s / 2 ^ 16 % 2 ^ 8 + g) * 2 ^ 16 + (s / 2 ^ 32 % 2 ^ 8 + b) * 2 ^ 32 + s / 2 ^ 48 % 2 ^ 8 * 2 ^ 48 + (s / 2 ^ 56 + 4 * k) * 2 ^ 56
+    by_parts s r g b k l = omega (arith, l, masked s l)

@@ -1,7 +1,7 @@
 -- Rows and rectangles of raw bytes: what they hold, how they are put together, and what is put in.
 use Rattle.std.proofs.Common.{◌≡◌, ◌≢◌, ◌<◌, ◌≤◌, ◌+◌, ◌-◌, ◌*◌, ◌/◌, ◌%◌, ◌⊎◌, ℕ, zero, suc, List, [], ◌++◌, length, take, drop, get_or, inl, inr, ⊎_elim, refl, sym, subst, ◌∙◌, ap, arith}
 use Rattle.std.proofs.lemmas.List.{ext_get_or, append_assoc, append-nil, length-append, length-drop, length-take, take-append-drop, drop-drop, drop-take, take-take, take_all, take_at, drop_at, take-append-le, drop-append-le, get_or-take, get_or-drop, get_or_append_left, get_or-append_right}
-use Rattle.std.proofs.Math.Nat.{add-suc, div-add-mod, mod-lt, mul-add, mul-suc, mul-zero, mul_comm, zero-mul}
+use Rattle.std.proofs.Math.Nat.{add-suc, div-add-mod, mod-lt, mul-add, mul-suc, mul-zero, mul_comm, zero-mul, zero-add}
 use Rattle.std.proofs.Math.Seq.{take-add}
 use Rattle.std.proofs.lemmas.Bool.{cases_eq, cases_lt}
 use Rattle.std.proofs.lemmas.Nat.{mul-le, row_fits}
@@ -392,3 +392,33 @@ module _ (stride top left rows size height : ℕ) (old new : List ℕ) (within :
       let some : 0 < stride = some_bytes stride height p size_is in
       let at = div-add-mod p stride in
       ap (λ q. get_or new q 0) (sym at) ∙ same_byte (p / stride) (p % stride) (mod-lt p some) ∙ ap (λ q. get_or old q 0) at)
+
+-- a byte of the first rows is one of those rows
+row_below : (stride n p : ℕ) → p < stride * n → p / stride < n
+row_below stride n p below = elim (cases_lt (p / stride) n) [
+  | inl less ↦ less
+  | inr more ↦ absurd (omega (arith, mul-le stride n stride (p / stride) (omega arith) more, div-add-mod p stride, below))
+]
+
+-- rows above a rectangle stay
+rows_above : (stride top left rows size : ℕ) (old new : List ℕ) → KeepsOutside stride top left rows size old new → take (stride * top) new ≡ take (stride * top) old
+rows_above stride top left rows size old new k =
+    let m = stride * top in
+    ext_get_or 0 (take m new) (take m old) (omega (arith, length-take m new, length-take m old, k.length_is)) (λ p inside.
+    let within : p < m = omega (arith, inside, length-take m new) in
+    let at = div-add-mod p stride in
+    get_or-take m new p 0 within ∙ ap (λ q. get_or new q 0) (sym at)
+    ∙ k.same (p / stride) (p % stride) (mod-lt p (some_bytes stride top p within)) (inl (row_below stride top p within))
+    ∙ ap (λ q. get_or old q 0) at ∙ sym (get_or-take m old p 0 within))
+
+-- The first rows of a picture are those of another, and whole rows that were put in below them, too.
+pub rows_grow : (stride top rows : ℕ) (old new raw : List ℕ) → KeepsOutside stride top 0 rows stride old new
+    → rectangle stride 0 0 top stride old ≡ rectangle stride 0 0 top stride raw → rectangle stride top 0 rows stride new ≡ rectangle stride top 0 rows stride raw
+    → rectangle stride 0 0 (top + rows) stride new ≡ rectangle stride 0 0 (top + rows) stride raw
+rows_grow stride top rows old new raw k above here =
+    let front : (xs : List ℕ) → rectangle stride 0 0 top stride xs ≡ take (stride * top) xs =
+    λ xs. whole_rows stride 0 top xs ∙ ap (λ n. take (stride * top) (drop n xs)) (mul-zero stride) in
+    let all : (xs : List ℕ) → rectangle stride 0 0 (top + rows) stride xs ≡ rectangle stride 0 0 top stride xs ++ rectangle stride top 0 rows stride xs =
+    λ xs. rows_follow stride 0 0 top rows stride xs ∙ ap (λ n. rectangle stride 0 0 top stride xs ++ rectangle stride n 0 rows stride xs) (zero-add top) in
+    let same : rectangle stride 0 0 top stride new ≡ rectangle stride 0 0 top stride old = front new ∙ rows_above stride top 0 rows stride old new k ∙ sym (front old) in
+    all new ∙ ap (λ z. z ++ rectangle stride top 0 rows stride new) (same ∙ above) ∙ ap (λ z. rectangle stride 0 0 top stride raw ++ z) here ∙ sym (all raw)

@@ -9,7 +9,7 @@ use Rattle.qoi.specs.inner.Table.{Holds, first_blank}
 use Rattle.qoi.proofs.format.SamePixels.{hash_below, pixel_eq-from, pixel_eq-ne}
 
 -- an entry is what the table holds there
-held_at : (entries : List RgbaPixel) (past : Past) (i : ℕ) → length entries ≡ 64 → i < 64 → Holds entries past → get_or entries i blank ≡ seen past i
+pub held_at : (entries : List RgbaPixel) (past : Past) (i : ℕ) → length entries ≡ 64 → i < 64 → Holds entries past → get_or entries i blank ≡ seen past i
 held_at entries past i size l holds = same_Some _ _ (sym (slice_get-get_or entries i blank (omega arith)) ∙ holds i l)
 
 -- transparent black everywhere holds nothing

@@ -2,30 +2,31 @@
 use Rattle.std.specs.Prelude.{◌≡◌, ℕ, ◌+◌, ◌*◌, ◌/◌, ◌%◌, ◌^◌, ◌<◌, ◌≤◌, List, length, slice_index}
 use Rattle.qoi.specs.Qoi.{RgbaPixel, Past, pixel, positions, diff_tag, luma_tag, run_tag, hash, seen}
 
--- the pixel of four lanes of 16 bits, red in the lowest
-abbrev pub pixel_of_four : ℕ → RgbaPixel
-pixel_of_four l = pixel (l % 2 ^ 8) (l / 2 ^ 16 % 2 ^ 8) (l / 2 ^ 32 % 2 ^ 8) (l / 2 ^ 48 % 2 ^ 8)
+-- the pixel of four lanes of 16 bits, red in the lowest: each channel has the eight lower ones,
+-- whatever stands in the others
+abbrev pub pixel_of_lanes : ℕ → RgbaPixel
+pixel_of_lanes s = pixel (s % 2 ^ 8) (s / 2 ^ 16 % 2 ^ 8) (s / 2 ^ 32 % 2 ^ 8) (s / 2 ^ 48 % 2 ^ 8)
 
 -- each of the four lanes has a byte, and nothing else
 abbrev pub IsPlain : ℕ → Type 0
 IsPlain l = l ≡ l % 2 ^ 8 + l / 2 ^ 16 % 2 ^ 8 * 2 ^ 16 + l / 2 ^ 32 % 2 ^ 8 * 2 ^ 32 + l / 2 ^ 48 % 2 ^ 8 * 2 ^ 48
 
--- the pixel of a number of 64 bits: each channel has eight of them, whatever stands in the others
-abbrev pub pixel_of_lanes : ℕ → RgbaPixel
-pixel_of_lanes s = pixel (s / 2 ^ 24 % 2 ^ 8) (s / 2 ^ 40 % 2 ^ 8) (s / 2 ^ 56 % 2 ^ 8) (s / 2 ^ 16 % 2 ^ 8)
-
--- the eight lowest bits of the number are four times the index position of its pixel
+-- the eight highest bits of the number are four times the index position of its pixel
 abbrev pub IsHashed : ℕ → Type 0
-IsHashed s = s % 2 ^ 8 ≡ 4 * hash (pixel_of_lanes s)
+IsHashed s = s / 2 ^ 56 ≡ 4 * hash (pixel_of_lanes s)
 
 -- the bits of such a number that say the pixel and its index position
 abbrev pub lane_mask : ℕ
-lane_mask = 0xff00ff00ffff00ff
+lane_mask = 0xffff00ff00ff00ff
+
+-- those that say alpha
+abbrev pub alpha_mask : ℕ
+alpha_mask = 0xff000000000000
 
 -- what is added to such a number, so that red, green and blue grow by these: the index position
 -- grows with them
 abbrev pub step : ℕ → ℕ → ℕ → ℕ
-step r g b = 4 * (3 * r + 5 * g + 7 * b) % 2 ^ 8 + r * 2 ^ 24 + g * 2 ^ 40 + b % 2 ^ 8 * 2 ^ 56
+step r g b = r + g * 2 ^ 16 + b * 2 ^ 32 + 4 * (3 * r + 5 * g + 7 * b) % 2 ^ 8 * 2 ^ 56
 
 -- t is what the first byte b of a difference, a luma or a run adds to the number of the last pixel
 pub record IsAdded (b t : ℕ) : Type 0 where

@@ -6,6 +6,7 @@ pub mod Counting
 pub mod Each
 pub mod LaneVectors
 pub mod Lanes
+pub mod Marks
 pub mod Planes
 pub mod Positions
 pub mod Shuffled

@@ -1,8 +1,10 @@
--- What a pixel writer promises.
-use Rattle.std.specs.Prelude.{◌≡◌, ℕ, ◌+◌, List, [], ◌++◌, length, Option, true, false, ◌⊎◌, ◌<◌}
+-- What a contract sees of an image whose raw bytes come piece by piece, and what a pixel writer promises.
+use Rattle.std.specs.Prelude.{◌≡◌, ℕ, ◌+◌, List, ◌++◌, length, Option, Bool, true, false, ◌⊎◌, ◌<◌, ◌≤◌, []}
 use Rattle.qoi.specs.declared.error.Error.{Error}
 use Rattle.qoi.specs.declared.error.Error.TheVariants.{InvalidImageLength}
-use Rattle.qoi.specs.declared.encode.pixel_writer.PixelWriter.{PixelWriter}
+use Rattle.qoi.specs.declared.header.Header.{Header}
+use Rattle.qoi.specs.declared.types.Style.{Style}
+use Rattle.qoi.specs.declared.encode.pixel_writer.kept.Pending.{Pending}
 use Rattle.qoi.specs.Qoi.{AreBytes, channels_number}
 use Rattle.qoi.specs.Raw.{pixels_of, image_byte_count}
 use Rattle.qoi.specs.EncoderState.{EncoderState}
@@ -10,8 +12,19 @@ use Rattle.qoi.specs.Errors.{IsIoError}
 use Rattle.qoi.specs.Sent.{SendsPart}
 use Rattle.qoi.specs.pieces.WriterPieces.{ImageBetween}
 
+-- the writer as it stands, header and style of the file, how many raw bytes haven't come, whether the
+-- writer reported a fault, the raw bytes that are held, and what stands between two blocks
+pub record WriterState (W : Type 0) : Type 0 where
+  pub writer : W
+  pub header : Header
+  pub style : Style
+  pub left : ℕ
+  pub failed : Bool
+  pub held : List ℕ
+  pub pending : Pending
+
 -- how many raw bytes of the image haven't come yet
-abbrev pub raw_left : {W : Type 0} → PixelWriter W → ℕ
+abbrev pub raw_left : {W : Type 0} → WriterState W → ℕ
 raw_left p = p.left
 
 -- the same with these raw bytes more
@@ -20,7 +33,7 @@ and_raw e raw = record e { raw = e.raw ++ raw }
 
 -- The pixel writer was made with the style and header of e, over a writer that had the bytes
 -- `before`, if those are known, and took the raw bytes of e.
-pub record HasTaken {W : Type 0} (contents : W → Option (List ℕ)) (e : EncoderState) (before : Option (List ℕ)) (p : PixelWriter W) : Type 0 where
+pub record HasTaken {W : Type 0} (contents : W → Option (List ℕ)) (e : EncoderState) (before : Option (List ℕ)) (p : WriterState W) : Type 0 where
   pub header_is : p.header ≡ e.header
   pub style_is : p.style ≡ e.style
   pub works : p.failed ≡ false
@@ -28,22 +41,24 @@ pub record HasTaken {W : Type 0} (contents : W → Option (List ℕ)) (e : Encod
   pub are : AreBytes e.raw
   pub writes : (more : List ℕ) → length more ≡ p.left → AreBytes more
       → ImageBetween (and_raw e more) before (contents p.writer)
-      (pixels_of (channels_number p.header.channels) (p.kept.value.held ++ more)) p.kept.value.pending []
+      (pixels_of (channels_number p.header.channels) (p.held ++ more)) p.pending []
 
 -- A beginning of the file of each image whose raw bytes begin with those of e was sent.
 abbrev pub SendsSome : EncoderState → Option (List ℕ) → Option (List ℕ) → Type 0
 SendsSome e before now = (more : List ℕ) → length (e.raw ++ more) ≡ image_byte_count e.header → AreBytes more → SendsPart (and_raw e more) before now
 
 -- The pixel writer was made with the style and header of e, over such a writer, and failed after it
--- was given the raw bytes of e.
-pub record HasFailed {W : Type 0} (contents : W → Option (List ℕ)) (e : EncoderState) (before : Option (List ℕ)) (p : PixelWriter W) : Type 0 where
+-- was given the raw bytes of e, no more than the image has.
+pub record HasFailed {W : Type 0} (contents : W → Option (List ℕ)) (e : EncoderState) (before : Option (List ℕ)) (p : WriterState W) : Type 0 where
   pub header_is : p.header ≡ e.header
   pub style_is : p.style ≡ e.style
   pub fails : p.failed ≡ true
+  pub size : length e.raw ≤ image_byte_count e.header
   pub part : SendsSome e before (contents p.writer)
 
--- The error of a pixel writer that had taken the raw bytes of e, and was given others.
-abbrev pub RefusesRaw : {W : Type 0} → (W → Option (List ℕ)) → EncoderState → List ℕ → Option (List ℕ) → PixelWriter W → Error → Type 0
+-- The error of a pixel writer that had taken the raw bytes of e, and was given others: a fault if they
+-- fit, or that they are too many.
+abbrev pub RefusesRaw : {W : Type 0} → (W → Option (List ℕ)) → EncoderState → List ℕ → Option (List ℕ) → WriterState W → Error → Type 0
 RefusesRaw contents e raw before p error =
     (IsIoError error × HasFailed contents (and_raw e raw) before p)
     ⊎ ((error ≡ InvalidImageLength (length (e.raw ++ raw)) e.header.width e.header.height)

@@ -12,6 +12,14 @@ use Rattle.qoi.specs.inner.Hashed.{pixel_of_lanes, HoldsSeen}
 abbrev pub kept : Pieces → List ℕ
 kept p = take (p.to - p.from) (drop p.from p.bytes)
 
+-- how many there are
+abbrev pub kept_count : Pieces → ℕ
+kept_count p = p.to - p.from
+
+-- there are none
+abbrev pub KeepsNone : Pieces → Type 0
+KeepsNone p = p.from ≡ p.to
+
 -- how many bytes of the image aren't given yet
 abbrev pub bytes_left : Pieces → ℕ
 bytes_left p = (p.to - p.from) + p.undecoded

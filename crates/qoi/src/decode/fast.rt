@@ -47,6 +47,18 @@ fn is_short<const N: usize>(b1: u8) -> bool
     b1 <= (QOI_OP_RUN - 1) + (16 / N) as u8
 }
 
+// Whether a run with this first byte has fewer bytes of pixels than there is room for. If the vectors
+// of any run have room, `long_run` asks no more.
+#[inline(always)]
+#[tactic(auto, using(crate::proofs::decoding::FastSteps::run_below))]
+fn leaves_room<const N: usize>(b1: u8, room: usize) -> bool
+    requires channels { IsChannels N }
+    requires run { (run_tag ≤ b1) × (b1 < rgb_tag) }
+    ensures { IsTrue result ↔ (N * (b1 - (run_tag - 1)) < room) }
+{
+    RUN_ROOM <= room || advance::<N>(b1 as usize) < room
+}
+
 impl Progress {
     ghost use Rattle.qoi.specs.inner.Filling.{IsFillable, upto, filling, further, TakesOn, TakesFront, HasWritten, IsRow, HasAhead, fast, FastStep};
 
@@ -171,7 +183,9 @@ impl Progress {
         four.short_chunks::<N, F>(table, bytes, out)
     }
 
-    // Decodes an RGB or RGBA chunk.
+    // Decodes an RGB or RGBA chunk, without a jump between the two. The byte that comes next is one of
+    // two, which are loaded before it is known which. Not side by side: the compiler would load one
+    // byte, whose address waits.
     #[inline(always)]
     fn full_chunk<const N: usize, const F: usize>(
         self,
@@ -185,15 +199,19 @@ impl Progress {
             (fast self table.old out.old) (fast result table.new out.new) }
         ensures on { self.taken < result.taken }
     {
-        let last = self.last.after_full(&bytes[self.taken..]);
+        let four = bytes[self.taken + 4];
+        let last = self
+            .last
+            .after_full(self.next as usize, &bytes[self.taken..]);
         table.put(last);
         store_vector::<N, F>(out, self.at, last);
-        let taken = self.taken + 4 + usize::from(self.next == QOI_OP_RGBA);
+        let five = bytes[self.taken + 5];
+        let rgba = self.next == QOI_OP_RGBA;
         Progress {
             last,
-            taken,
+            taken: self.taken + 4 + usize::from(rgba),
             at: self.at + N,
-            next: bytes[taken],
+            next: pick(rgba, five, four),
         }
     }
 
@@ -269,7 +287,7 @@ impl Progress {
             }
             if now.next >= QOI_OP_RGB {
                 now = now.full_chunk::<N, F>(table, bytes, out);
-            } else if advance::<N>(now.next as usize) < out.len() - now.at {
+            } else if leaves_room::<N>(now.next, out.len() - now.at) {
                 now = now.long_run::<N, F>(table, bytes, out);
             } else {
                 break;

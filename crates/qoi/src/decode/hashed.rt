@@ -2,10 +2,9 @@
 ghost use Rattle.std.specs.Prelude.{◌≡◌, ℕ, ◌+◌, ◌*◌, ◌/◌, ◌%◌, ◌^◌, ◌<◌, ◌≤◌, length, take, slice_index, replicate};
 ghost use Rattle.qoi.specs.Qoi.{Past, seen, pixel, start, hash, positions, diff_tag, luma_tag, run_tag, rgb_tag, rgba_tag, after_diff, after_luma};
 ghost use Rattle.qoi.specs.Raw.{IsChannels, output};
-ghost use Rattle.qoi.specs.inner.Hashed.{pixel_of_lanes, pixel_of_four, IsPlain, IsHashed, HoldsSeen};
+ghost use Rattle.qoi.specs.inner.Hashed.{pixel_of_lanes, IsPlain, IsHashed, HoldsSeen};
 
-use crate::consts::QOI_OP_RGB;
-use crate::decode::deltas::{kept_mask, second_added, second_mask};
+use crate::decode::deltas::{full_kept_mask, kept_mask, read_mask, second_added, second_mask};
 use crate::decode::table::SizedTerms;
 use std::marker::Model;
 use std::simd::{Simd, u8x4, u8x16, u16x4, u64x2};
@@ -14,9 +13,13 @@ use std::simd::{Simd, u8x4, u8x16, u16x4, u64x2};
 // pixel in lanes of 16 bits are the eight lowest ones of 4 (3 r + 5 g + 7 b + 11 a).
 const HASH_FACTOR: u64 = 0x0c00_1400_1c00_2c00;
 
-/// A pixel and its index position in 64 bits: four times the position in the eight lowest ones, and
-/// alpha, red, green and blue from bits 16, 24, 40 and 56 on. Above position, red and green stand
-/// eight bits each that count for nothing, so that sums need not be cut.
+// 1 + 4 * 11 * 2^8: its product with alpha alone is alpha and its share of the index position.
+const ALPHA_FACTOR: u64 = 0x2c01;
+
+/// A pixel and its index position in 64 bits: red, green, blue and alpha from bits 0, 16, 32 and 48
+/// on, and four times the position in the eight highest ones. Above red, green and blue stand eight
+/// bits each that count for nothing, so that sums need not be cut; what the position carries is
+/// lost, and to alpha nothing is added.
 ///
 /// A contract sees the number, whose pixel is `pixel_of_lanes`.
 #[derive(Clone, Copy)]
@@ -42,7 +45,7 @@ impl Hashed {
     pub(super) fn start() -> Hashed
         ensures { pixel_of_lanes result ≡ start }
     {
-        Hashed(0xff_00d4)
+        Hashed(0xd4ff_0000_0000_0000)
     }
 
     /// The index position of the pixel, 0 to 63 (QOI specification 1.0, "Chunks").
@@ -51,7 +54,7 @@ impl Hashed {
         ensures position { result ≡ hash (pixel_of_lanes self) }
         ensures within { result < positions }
     {
-        (self.0 % 256 / 4) as usize
+        (self.0 >> 58) as usize
     }
 
     /// The number.
@@ -67,10 +70,10 @@ impl Hashed {
     #[inline(always)]
     fn of_lanes(lanes: u64) -> Hashed
         requires { IsPlain lanes }
-        ensures { pixel_of_lanes result ≡ pixel_of_four lanes }
+        ensures { pixel_of_lanes result ≡ pixel_of_lanes lanes }
     {
         let place = lanes.wrapping_mul(HASH_FACTOR) >> 56;
-        Hashed(place + (lanes >> 48 << 16) + (lanes << 24))
+        Hashed((place << 56) + lanes)
     }
 
     /// A pixel of four channels.
@@ -106,24 +109,22 @@ impl Hashed {
         Hashed(own.wrapping_add(more).wrapping_add(table.at(b1)))
     }
 
-    /// The pixel of the RGB or RGBA chunk that the bytes begin with; after an RGB chunk alpha stays
-    /// (QOI specification 1.0, "QOI_OP_RGB" and "QOI_OP_RGBA").
+    /// The pixel of the RGB or RGBA chunk that the bytes begin with, whose first byte is `b1`; after
+    /// an RGB chunk alpha stays (QOI specification 1.0, "QOI_OP_RGB" and "QOI_OP_RGBA"). One sum for
+    /// both, without a jump.
     #[inline(always)]
-    pub(super) fn after_full(self, bytes: &[u8]) -> Hashed
-        requires { 5 ≤ length bytes.now }
-        ensures rgb { slice_index bytes.now 0 ≡ rgb_tag
+    pub(super) fn after_full(self, b1: usize, bytes: &[u8]) -> Hashed
+        requires { (rgb_tag ≤ b1) × (b1 < 256) × (5 ≤ length bytes.now) }
+        ensures rgb { b1 ≡ rgb_tag
             → pixel_of_lanes result ≡ pixel (slice_index bytes.now 1) (slice_index bytes.now 2)
             (slice_index bytes.now 3) (pixel_of_lanes self).a }
-        ensures rgba { slice_index bytes.now 0 ≡ rgba_tag
+        ensures rgba { b1 ≡ rgba_tag
             → pixel_of_lanes result ≡ pixel (slice_index bytes.now 1) (slice_index bytes.now 2)
             (slice_index bytes.now 3) (slice_index bytes.now 4) }
     {
-        let four = four_lanes(&bytes[1..5]);
-        if bytes[0] == QOI_OP_RGB {
-            let alpha = self.0 % 0x100_0000 >> 16 << 48;
-            return Hashed::of_lanes(four % 0x1_0000_0000_0000 + alpha);
-        }
-        Hashed::of_lanes(four)
+        let own = (self.0 & full_kept_mask(b1)).wrapping_mul(ALPHA_FACTOR);
+        let read = Hashed::of_lanes(four_lanes(&bytes[1..5]) & read_mask(b1));
+        Hashed(own.wrapping_add(read.0))
     }
 
     /// The first sixteen bytes of the pixel when it is written again and again in `N` channels, of
@@ -136,13 +137,13 @@ impl Hashed {
         let lanes = if N == 3 || F == 4 {
             self.0
         } else {
-            self.0 % 0x1_0000 + 0xff_0000 + (self.0 >> 24 << 24)
+            self.0 % 0x1_0000_0000_0000 + 0xff_0000_0000_0000
         };
         let bytes = u64x2::from_array([lanes, 0]).to_le_bytes();
         if N == 4 {
-            return bytes.swizzle([3, 5, 7, 2, 3, 5, 7, 2, 3, 5, 7, 2, 3, 5, 7, 2]);
+            return bytes.swizzle([0, 2, 4, 6, 0, 2, 4, 6, 0, 2, 4, 6, 0, 2, 4, 6]);
         }
-        bytes.swizzle([3, 5, 7, 3, 5, 7, 3, 5, 7, 3, 5, 7, 3, 5, 7, 3])
+        bytes.swizzle([0, 2, 4, 0, 2, 4, 0, 2, 4, 0, 2, 4, 0, 2, 4, 0])
     }
 }
 
@@ -150,7 +151,7 @@ impl Hashed {
 #[inline(always)]
 fn four_lanes(bytes: &[u8]) -> u64
     requires { 4 ≤ length bytes.now }
-    ensures pixel { pixel_of_four result ≡ pixel (slice_index bytes.now 0)
+    ensures pixel { pixel_of_lanes result ≡ pixel (slice_index bytes.now 0)
         (slice_index bytes.now 1) (slice_index bytes.now 2) (slice_index bytes.now 3) }
     ensures plain { IsPlain result }
 {

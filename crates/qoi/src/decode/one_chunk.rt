@@ -5,7 +5,6 @@ ghost use Rattle.qoi.specs.declared.decode.output.TheConstants.{RUN_ROOM};
 ghost use Rattle.qoi.specs.Raw.{IsChannels};
 ghost use Rattle.qoi.specs.inner.Filling.{IsWholePixels, DecodesChunk, filling};
 
-use crate::chunk::QOI_OP_RUN_END;
 use crate::consts::{QOI_OP_RGB, QOI_OP_RGBA, QOI_OP_RUN};
 use crate::decode::deltas::{advance, is_luma};
 use crate::decode::hashed::Hashed;
@@ -20,7 +19,7 @@ fn times(b1: u8) -> usize
     ensures full { rgb_tag ≤ b1 → result ≡ 1 }
 {
     match b1 {
-        QOI_OP_RUN..=QOI_OP_RUN_END => (b1 - (QOI_OP_RUN - 1)) as usize,
+        QOI_OP_RUN..QOI_OP_RGB => (b1 - (QOI_OP_RUN - 1)) as usize,
         _ => 1,
     }
 }
@@ -62,7 +61,10 @@ pub(super) fn decode_chunk<const N: usize, const F: usize, const RUN_FITS: bool,
         let size = 1 + usize::from(is_luma(b1));
         (last.after_short(table, b1 as usize, bytes[1]), size)
     } else {
-        (last.after_full(bytes), 4 + usize::from(b1 == QOI_OP_RGBA))
+        (
+            last.after_full(b1 as usize, bytes),
+            4 + usize::from(b1 == QOI_OP_RGBA),
+        )
     };
     table.put(last);
     let size = advance::<N>(b1 as usize);

@@ -81,7 +81,7 @@ fn store_eight_vectors<const N: usize, const F: usize>(out: &mut [u8], at: usize
     store_four_vectors::<N, F>(out, at + N * (4 * (VECTOR / N)), px);
 }
 
-/// Stores a pixel `count` times from `at` on: by four vectors or, if those don't hold the run, by
+/// Stores a pixel `count` times from `at` on: by eight vectors or, if those don't hold the run, by
 /// sixteen, which hold any. What goes past its pixels is written again later.
 #[inline(always)]
 pub(super) fn store_run<const N: usize, const F: usize>(
@@ -96,12 +96,10 @@ pub(super) fn store_run<const N: usize, const F: usize>(
     ensures { HasWritten F N (upto out.old at)
         (upto out.new (at + N * count)) (replicate count (pixel_of_lanes px)) }
 {
-    let four = 4 * (VECTOR / N);
-    store_four_vectors::<N, F>(out, at, px);
-    if count > four {
-        store_four_vectors::<N, F>(out, at + N * four, px);
-        store_four_vectors::<N, F>(out, at + N * (2 * four), px);
-        store_four_vectors::<N, F>(out, at + N * (3 * four), px);
+    let eight = 8 * (VECTOR / N);
+    store_eight_vectors::<N, F>(out, at, px);
+    if count > eight {
+        store_eight_vectors::<N, F>(out, at + N * eight, px);
     }
 }
 

@@ -12,9 +12,12 @@ ghost use Rattle.qoi.specs.Rectangles.{row_bytes};
 ghost use Rattle.qoi.specs.declared.error.Error.{Error};
 ghost use Rattle.qoi.specs.inner.Chunks.{RefusesChunks, HasFault};
 
+pub(super) mod mark;
 pub(super) mod piece_reader;
 pub(super) mod pieces;
+mod place;
 mod room;
+pub(super) mod row_index;
 
 use crate::decode::Decoder;
 use crate::decode::pixel_reader::piece_reader::PieceReader;
@@ -182,6 +185,29 @@ impl<R: PieceReader> Decoder<R> {
 }
 
 impl<R: PieceReader> PixelReader<R> {
+    /// A second reader of the rest of the same image, over a clone of this one's source. If each
+    /// clone of the source equals it, as with a `&[u8]`, the readers are equal, and so is what was
+    /// read. A reader over `Bytes` is doubled by `mark` and `Mark::resume`.
+    ///
+    /// `OutOfMemory` if an allocation of the source's clone fails.
+    pub fn clone(&self) -> Result<PixelReader<R>>
+    where
+        R: Clone,
+        ensures cloned { IfOk result (λ p. (p ≡ record self.now { reader = p.reader })
+            × R.is_clone self.now.reader p.reader) }
+        ensures equal { ((reader : _) → R.is_clone self.now.reader reader
+            → reader ≡ self.now.reader)
+            → IfOk result (λ p. p ≡ self.now) }
+        ensures refused { IfErr result (λ e. e ≡ Error.OutOfMemory) }
+    {
+        Ok(PixelReader {
+            decoder: self.decoder.clone()?,
+            pieces: self.pieces.copied(),
+            refused: self.refused,
+            fault: None,
+        })
+    }
+
     /// The file's header.
     pub fn header(&self) -> &Header
         ensures { result.now ≡ self.now.header }
@@ -210,11 +236,12 @@ impl<R: PieceReader> PixelReader<R> {
     }
 
     /// Reads the next raw bytes into the front of `buf`: as many as it has, or as are left of the
-    /// image. Returns how many; none once all were read. With the last ones the end marker is
+    /// image. Returns how many; none once all were read. Up to 3,072 raw bytes are decoded ahead of
+    /// them, and kept for the next call. When the image's last bytes are decoded, the end marker is
     /// taken, and no byte past it.
     ///
-    /// Refusals are those of `Decoder::decode_to_buf`, but for `OutputBufferTooSmall`, and come at
-    /// the latest with the last bytes. After a refusal the bytes of `buf` may be overwritten, as
+    /// Refusals are those of `Decoder::decode_to_buf`, but for `OutputBufferTooSmall`. They come at
+    /// the latest with the last bytes, and up to 3,072 bytes earlier. After a refusal the bytes of `buf` may be overwritten, as
     /// many as would have been read; a slice's tail is as before the call, and a stream stands
     /// after the bytes that were read. `left` is as before, and no more of the image can be read:
     /// each further `read` into a buffer that isn't empty returns `UnexpectedBufferEnd`.

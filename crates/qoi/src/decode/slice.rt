@@ -19,6 +19,7 @@ use crate::decode::output::RUN_ROOM;
 use crate::decode::reader::Bytes;
 use crate::decode::table::{SizedTerms, SmallTermTable, TermTable};
 use crate::error::{Error, Result};
+use std::simd::prelude::*;
 
 // An output of fewer bytes is filled chunk by chunk, with every test: to set the fast loop's table
 // to zero would take longer.
@@ -105,7 +106,9 @@ fn slice_marker(data: &[u8]) -> Result<&[u8]>
         return Err(Error::UnexpectedBufferEnd);
     }
     let (eight, rest) = data.split_at(QOI_PADDING_SIZE);
-    if eight != QOI_PADDING.as_slice() {
+    // One comparison of a number, where the bytes would be compared one by one.
+    let number = Simd::<u64, 1>::from_le_bytes(u8x8::from_slice(eight)).to_array()[0];
+    if number != u64::from_le_bytes(QOI_PADDING) {
         return Err(Error::InvalidPadding);
     }
     Ok(rest)

@@ -1,6 +1,6 @@
 //! The pixels that the 64 index positions hold (QOI specification 1.0, "Chunks": the running array
 //! of previously seen pixels), as numbers, and the numbers that other first bytes add.
-ghost use Rattle.std.specs.Prelude.{◌≡◌, ◌<◌, ◌≤◌, [], ◌∷◌};
+ghost use Rattle.std.specs.Prelude.{◌≡◌, ◌≢◌, ◌<◌, ◌≤◌, ℕ, [], ◌∷◌, slice_index};
 ghost use Rattle.qoi.specs.Qoi.{Past, positions, seen};
 ghost use Rattle.qoi.specs.inner.Hashed.{pixel_of_lanes, IsHashed, IsAdded, HoldsSeen};
 
@@ -57,6 +57,15 @@ impl SizedTerms<64> {
 }
 
 impl<const SIZE: usize> SizedTerms<SIZE> {
+    /// The same numbers.
+    pub(super) fn copied(&self) -> SizedTerms<SIZE>
+        ensures { result ≡ self.now }
+    {
+        SizedTerms {
+            numbers: self.numbers,
+        }
+    }
+
     /// What is held at the index position that a chunk's first byte names, or what another first
     /// byte adds.
     #[inline(always)]
@@ -75,6 +84,15 @@ impl<const SIZE: usize> SizedTerms<SIZE> {
         } else {
             added(b1)
         }
+    }
+
+    /// Puts a pixel at an index position, which needn't be its own.
+    pub(super) fn set(&mut self, at: usize, px: Hashed)
+        requires { at < positions }
+        ensures here { slice_index self.new at ≡ px }
+        ensures others { (i : ℕ) → i ≢ at → slice_index self.new i ≡ slice_index self.old i }
+    {
+        self.numbers[at] = px.number();
     }
 
     /// Puts a pixel at its index position.

@@ -6,8 +6,9 @@ ghost use Rattle.qoi.specs.declared.types.Style.TheVariants.{Places, Tight};
 ghost use Rattle.qoi.specs.Qoi.{RgbaPixel, IsPixel, hash};
 ghost use Rattle.qoi.specs.Raw.{IsChannels, AreOpaque};
 ghost use Rattle.qoi.specs.inner.block.Lanes.{mask};
+ghost use Rattle.qoi.specs.inner.block.Marks.{fresh_marks};
 ghost use Rattle.qoi.specs.inner.block.State.{State, NoneBlank};
-ghost use Rattle.qoi.specs.inner.block.Block.{ChangesFrom, FitsBlock, MissesNoBlank, last_pixel, all_repeat};
+ghost use Rattle.qoi.specs.inner.block.Block.{ChangesFrom, FitsBlock, MissesNoBlank, last_pixel};
 ghost use Rattle.qoi.specs.inner.BlockLoop.{InBlocks};
 ghost use Rattle.qoi.specs.inner.Piece.{kept_bytes};
 ghost use Rattle.qoi.specs.inner.Pixels.{pixels_in};
@@ -26,7 +27,7 @@ mod spelling;
 mod steps;
 mod storing;
 
-use crate::encode::block::lanes::{all_set, where_is};
+use crate::encode::block::lanes::{all_set, unset_bits, where_is};
 use crate::encode::block::planes::{Planes, Words, make_planes};
 use crate::encode::block::positions::{blanks, index_positions, put_block, store_places};
 use crate::encode::block::reading::first_sixteen;
@@ -70,13 +71,13 @@ impl Block {
         }
     }
 
-    /// Whether all sixteen pixels repeat the last one of the block before.
+    /// A bit for each fresh pixel, the lowest for the first.
     #[inline(always)]
-    pub(super) fn repeats(self) -> bool
+    pub(super) fn marks(self) -> u64
         ensures { (before : Planes) → ChangesFrom before (block_pixels self.words) self.changes
-            → result ≡ all_repeat (last_pixel before) (block_pixels self.words) }
+            → result ≡ fresh_marks (last_pixel before) (block_pixels self.words) }
     {
-        all_set(self.changes.rep)
+        unset_bits(self.changes.rep)
     }
 
     /// Whether in style `Tight` a fresh pixel of the block may be given by another index position

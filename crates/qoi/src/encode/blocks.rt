@@ -1,10 +1,12 @@
 //! Writes what is at the front of an image's pixels into a piece: blocks of sixteen, and between
 //! two of them repeats are carried (QOI specification 1.0, "Data" and "Chunks").
-ghost use Rattle.std.specs.Prelude.{◌≡◌, ◌⊎◌, ℕ, ◌<◌, ◌≤◌, true, List, [], ◌++◌, Some, length, slice_get, IsTrue};
+ghost use Rattle.std.specs.Prelude.{◌≡◌, ◌⊎◌, ℕ, ◌<◌, ◌≤◌, ◌%◌, true, List, [], ◌++◌, Some, length, take, slice_get, IsTrue};
+ghost use Rattle.qoi.specs.declared.encode.carry.TheConstants.{FRONT_CARRIED};
 ghost use Rattle.qoi.specs.declared.types.Style.{Style};
 ghost use Rattle.qoi.specs.declared.types.Style.TheVariants.{Tight};
 ghost use Rattle.qoi.specs.Qoi.{RgbaPixel};
 ghost use Rattle.qoi.specs.inner.block.Block.{last_pixel};
+ghost use Rattle.qoi.specs.inner.block.Marks.{fresh_marks};
 ghost use Rattle.qoi.specs.inner.BlockLoop.{GoesByBlocks, InBlocks};
 ghost use Rattle.qoi.specs.inner.CoderLoop.{CoderBetween};
 ghost use Rattle.qoi.specs.inner.Piece.{kept_bytes};
@@ -13,18 +15,15 @@ ghost use Rattle.qoi.specs.inner.Pixels.{pixels_in};
 use crate::consts::QOI_RUN_MAX;
 use crate::encode::block::planes::Planes;
 use crate::encode::block::{Block, write_block};
-use crate::encode::carry::Carry;
+use crate::encode::carry::{Carry, FRONT_CARRIED};
 use crate::encode::coder::Coder;
 use crate::encode::last_pixel::LastPixel;
+use crate::encode::marked::{goes_by_marks, write_marked};
 use crate::encode::piece::{OpenPiece, Piece, REPEATS_AT_ONCE};
 use crate::encode::pixels::{FrontBlock, PixelOf, Pixels};
 use crate::encode::runs::repeats_of;
 use crate::encode::table::PixelTable;
 use crate::types::Style::{self, Places, Reference, Tight};
-
-// The most repeats that may be carried if the next pixel repeats, too, and the front goes by
-// blocks: with a block's repeats they are fewer than 62.
-const FRONT_CARRIED: usize = 45;
 
 // Whether the front goes by blocks, if there is one: once a fresh pixel came or, except in style
 // `Tight`, if no repeats wait and the next pixel is fresh; but not if over `FRONT_CARRIED` repeats
@@ -63,6 +62,8 @@ fn carried<const N: usize>(coder: &Coder<N>) -> Carry<N>
 #[inline(always)]
 fn coder_after<const N: usize>(carry: Carry<N>) -> Coder<N>
     ensures begun { result.last.begun ≡ true }
+    ensures px { result.last.px ≡ last_pixel carry.entry.before }
+    ensures repeats { result.last.repeats ≡ carry.entry.count }
     ensures between { (style : Style) (ahead : List ℕ) (n : ℕ) (rest more table : List RgbaPixel)
         (kept : List ℕ) → (style ≡ Tight) ⊎ (length rest < n)
         → InBlocks style ahead n rest more table carry.entry kept
@@ -127,10 +128,38 @@ fn write_group<'a, 'p, const N: usize, const ROOM: usize>(
     (rest, carried(&coder), piece)
 }
 
+// Writes a block, but for the repeats at its end, from one fresh pixel to the next; `marks` has a
+// bit for each. A fresh pixel came before it. Returns the rest, and what is carried.
+#[inline(always)]
+fn write_marked_block<'a, 'p, const N: usize, const ROOM: usize>(
+    style: Style,
+    table: &mut PixelTable,
+    piece: OpenPiece<'p, ROOM>,
+    front: FrontBlock<'a, N>,
+    carry: Carry<N>,
+    marks: u64,
+) -> (Pixels<'a, N>, Carry<N>, Piece<'p, ROOM>)
+    requires some { 0 < marks }
+    requires few { marks % 2 ≡ 0 → carry.count ≤ FRONT_CARRIED }
+    requires marks { marks ≡ fresh_marks (last_pixel carry.before) (take 16 (pixels_in front.raw)) }
+    ensures less { length (pixels_in result.0) < length (pixels_in front.entry.raw) }
+    ensures written { (ahead : List ℕ) (n : ℕ) (more : List RgbaPixel)
+        → length (pixels_in front.entry.raw) < n
+        → InBlocks style ahead n (pixels_in front.entry.raw) more table.old carry.entry
+        (kept_bytes piece.entry.piece)
+        → InBlocks style ahead n (pixels_in result.0) more table.new result.1
+        (kept_bytes result.2) }
+{
+    let mut piece = piece.piece;
+    let mut coder = coder_after(carry);
+    let rest = write_marked(&mut coder, style, table, &mut piece, front, marks);
+    (rest, carried(&coder), piece)
+}
+
 // Writes what is at the front: a block, but for the repeats at its end; if all repeat, the full
 // runs of the repeats there, if any; or repeats and the fresh pixel after them, if in style `Tight`
-// a pixel may be given by another index position than its own. Returns the rest, and what is
-// carried.
+// a pixel may be given by another index position than its own. `whole` has the call's pixels, of
+// which these are the rest. Returns the rest, and what is carried.
 #[inline(always)]
 fn write_front<'a, 'p, const N: usize, const COPY: u8, const ROOM: usize>(
     style: Style,
@@ -138,17 +167,23 @@ fn write_front<'a, 'p, const N: usize, const COPY: u8, const ROOM: usize>(
     piece: OpenPiece<'p, ROOM>,
     front: FrontBlock<'a, N>,
     carry: Carry<N>,
+    whole: Pixels<N>,
 ) -> (Pixels<'a, N>, Carry<N>, Piece<'p, ROOM>)
     ensures less { length (pixels_in result.0) < length (pixels_in front.entry.raw) }
     ensures written { (ahead : List ℕ) (n : ℕ) (more : List RgbaPixel)
+        → length (pixels_in whole.entry) ≤ n
         → InBlocks style ahead n (pixels_in front.entry.raw) more table.old carry.entry
         (kept_bytes piece.entry.piece)
         → InBlocks style ahead n (pixels_in result.0) more table.new result.1
         (kept_bytes result.2) }
 {
     let block = Block::first::<N>(front, carry);
-    if block.repeats() {
+    let marks = block.marks();
+    if marks == 0 {
         return write_long_group(piece, front.raw, carry);
+    }
+    if goes_by_marks(marks, carry, front.raw, whole) {
+        return write_marked_block(style, table, piece, front, carry, marks);
     }
     if block.may_miss_blank(style, table) {
         return write_group(table, piece, front, carry);
@@ -173,6 +208,7 @@ fn fill<'a, 'p, const N: usize, const COPY: u8, const ROOM: usize>(
     requires { 16 ≤ length (pixels_in raw) }
     ensures less { length (pixels_in result.0) < length (pixels_in raw.entry) }
     ensures written { (ahead : List ℕ) (n : ℕ) (more : List RgbaPixel)
+        → length (pixels_in raw.entry) ≤ n
         → InBlocks style ahead n (pixels_in raw.entry) more table.old carry.entry
         (kept_bytes piece.entry.piece)
         → InBlocks style ahead n (pixels_in result.0) more table.new result.1
@@ -188,6 +224,7 @@ fn fill<'a, 'p, const N: usize, const COPY: u8, const ROOM: usize>(
             piece.open(),
             rest.front(),
             now,
+            raw,
         );
     }
     (rest, now, piece)

@@ -11,6 +11,10 @@ use crate::encode::block::planes::Planes;
 use crate::types::Style::{self, Places, Reference, Tight};
 use crate::utils::pick;
 
+/// The most repeats that may be carried if the next pixel repeats, too, and the front goes by
+/// blocks: with a block's repeats they are fewer than 62.
+pub(super) const FRONT_CARRIED: usize = 45;
+
 /// What is carried from block to block: planes whose last pixel came last; how many repeats of it
 /// came that aren't stored yet; and, in style `Places`, whether the chunk before them names its
 /// index position.

@@ -1,6 +1,6 @@
 //! Writes pixels one by one, and groups of repeats, as chunks into a piece (QOI specification 1.0,
 //! "Data" and "Chunks").
-ghost use Rattle.std.specs.Prelude.{◌≡◌, ◌≢◌, ℕ, ◌+◌, ◌-◌, ◌*◌, ◌<◌, ◌≤◌, true, List, [], ◌∷◌, ◌++◌, Option, Some, length, drop, replicate, slice_get};
+ghost use Rattle.std.specs.Prelude.{◌≡◌, ◌≢◌, ℕ, ◌+◌, ◌-◌, ◌*◌, ◌<◌, ◌≤◌, true, List, [], ◌∷◌, ◌++◌, Option, Some, length, take, drop, replicate, slice_get};
 ghost use Rattle.qoi.specs.declared.chunk.Chunk.{Chunk};
 ghost use Rattle.qoi.specs.declared.encode.piece.TheConstants.{PAST, RUNS_AT_ONCE};
 ghost use Rattle.qoi.specs.declared.types.Style.{Style};
@@ -141,6 +141,7 @@ impl<const N: usize> Coder<N> {
         requires { piece.old.end + (chunk_max + marker_size) ≤ ROOM }
         ensures end { piece.new.end ≤ piece.old.end + chunk_max }
         ensures begun { (self.new.last.begun ≡ true) × (self.new.last.repeats ≡ 0) }
+        ensures px { self.new.last.px ≡ next.entry.px }
         ensures written { (ahead : List ℕ) (rest : List RgbaPixel)
             → next.entry.px ≢ self.old.last.px → self.old.last.repeats ≡ 0
             → CoderBetween style ahead (next.entry.px ∷ rest) table.old self.old.last
@@ -209,6 +210,40 @@ impl<const N: usize> Coder<N> {
         piece.append_run(left, self.single_repeat_byte(style, count));
         self.update_after_repeats(style, table, count, 0);
         ahead
+    }
+
+    /// Writes the repeats that came before these pixels and the first `ahead` ones, which repeat, too,
+    /// all as one run, and the fresh pixel after them. Returns the rest.
+    #[inline(always)]
+    pub(super) fn write_short_group<'a, const ROOM: usize>(
+        &mut self,
+        style: Style,
+        table: &mut PixelTable,
+        piece: &mut Piece<ROOM>,
+        raw: Pixels<'a, N>,
+        ahead: usize,
+    ) -> Pixels<'a, N>
+        requires few { self.old.last.repeats + ahead < run_max }
+        requires inside { ahead < length (pixels_in raw) }
+        requires repeat { take ahead (pixels_in raw) ≡ replicate ahead self.old.last.px }
+        requires fresh { slice_get (pixels_in raw) ahead ≢ Some self.old.last.px }
+        requires room { piece.old.end + (1 + chunk_max + marker_size) ≤ ROOM }
+        ensures end { piece.new.end ≤ piece.old.end + (1 + chunk_max) }
+        ensures begun { (self.new.last.begun ≡ true) × (self.new.last.repeats ≡ 0) }
+        ensures px { slice_get (pixels_in raw.entry) ahead ≡ Some self.new.last.px }
+        ensures rest { pixels_in result ≡ drop (ahead + 1) (pixels_in raw.entry) }
+        ensures written { (all : List ℕ) (more : List RgbaPixel)
+            → CoderBetween style all (pixels_in raw.entry ++ more) table.old self.old.last
+            (kept_bytes piece.old)
+            → CoderBetween style all (pixels_in result ++ more) table.new self.new.last
+            (kept_bytes piece.new) }
+    {
+        let count = self.last.repeats + ahead;
+        piece.append_run(count, self.single_repeat_byte(style, count));
+        self.update_after_repeats(style, table, count, 0);
+        let after = raw.skip(ahead);
+        self.write_pixel(style, table, piece, after.first());
+        after.skip(1)
     }
 
     /// Writes the repeats that came before these pixels, those at their front, and the fresh pixel

@@ -1,5 +1,5 @@
 //! Encoding of one image whose raw bytes come piece by piece.
-ghost use Rattle.std.specs.Prelude.{◌≡◌, ℕ, ◌+◌, ◌*◌, ◌%◌, ◌<◌, ◌≤◌, List, [], Option, length, ◌⊎◌, Err, IfOk, IfErr, IsErrAnd, OnOk, false};
+ghost use Rattle.std.specs.Prelude.{◌≡◌, ℕ, ◌+◌, ◌-◌, ◌*◌, ◌%◌, ◌<◌, ◌≤◌, List, [], Option, length, ◌⊎◌, Err, IfOk, IfErr, IsErrAnd, IsTrue, OnErr, OnOk, false};
 ghost use Rattle.std.specs.Io.KnownBytes.{Appends};
 ghost use Rattle.qoi.specs.declared.error.Error.{Error};
 ghost use Rattle.qoi.specs.declared.types.Channels.{Channels};
@@ -20,9 +20,14 @@ use crate::types::Style;
 use std::alloc::Global;
 use std::io;
 use std::io::{ErrorKind, Write};
+use std::marker::Model;
 
 /// Writes the file of one image, whose raw bytes come piece by piece: that of `Encoder` for all of
 /// them, in memory that doesn't grow with the image.
+///
+/// A contract sees the writer, header and style of the file, how many raw bytes haven't come,
+/// whether the writer reported a fault, the raw bytes that are held, and what stands between two
+/// blocks.
 #[derive(Drop)]
 pub struct PixelWriter<W> {
     writer: W,
@@ -31,16 +36,35 @@ pub struct PixelWriter<W> {
     left: usize,
     failed: bool,
     kept: Box<Kept>,
-    ghost valid: { IsValid header },
-    ghost left_of: { left ≤ image_byte_count header },
-    ghost opaque: { channels_number header.channels ≡ 3 → kept.value.pending.last.px.a ≡ 255 },
-    ghost whole: { failed ≡ false
-        → (length kept.value.held + left) % channels_number header.channels ≡ 0 },
+}
+
+impl<W> Model for PixelWriter<W> {
+    ghost use Rattle.std.specs.Prelude.{◌≡◌, ◌+◌, ◌%◌, ◌≤◌, length, false};
+    ghost use Rattle.qoi.specs.Qoi.{channels_number, IsValid};
+    ghost use Rattle.qoi.specs.Raw.{image_byte_count};
+    ghost use Rattle.qoi.specs.pieces.PixelWriter.{WriterState};
+
+    ghost Value = { WriterState W };
+
+    ghost view = { λ p. record {
+      writer = p.writer;
+      header = p.header;
+      style = p.style;
+      left = p.left;
+      failed = p.failed;
+      held = p.kept.value.held;
+      pending = p.kept.value.pending;
+    } };
+
+    ghost invariant = { λ p. IsValid p.header × (p.left ≤ image_byte_count p.header)
+        × (channels_number p.header.channels ≡ 3 → p.kept.value.pending.last.px.a ≡ 255)
+        × (p.failed ≡ false
+        → (length p.kept.value.held + p.left) % channels_number p.header.channels ≡ 0) };
 }
 
 impl<W: Write + Drop> PixelWriter<W> {
     ghost use Rattle.qoi.specs.Encoded.{image_file};
-    ghost use Rattle.qoi.specs.Sent.{SendsFile};
+    ghost use Rattle.qoi.specs.Sent.{SendsFile, SendsPart};
     ghost use Rattle.qoi.specs.pieces.PixelWriter.{HasTaken, HasFailed, RefusesRaw, SendsSome, and_raw, raw_left};
 
     /// Sends the header of the image to the writer.
@@ -108,9 +132,9 @@ impl<W: Write + Drop> PixelWriter<W> {
     /// Repeats whose run may go on aren't sent yet. It doesn't flush.
     ///
     /// `InvalidImageLength`, with the number of all bytes that came, if there are more than the
-    /// image has; then none of them is taken. `IoError` if the writer reports a fault or takes no
-    /// byte; then a beginning of the file was sent, and each further `write`, and `finish`, refuses
-    /// with an `IoError`.
+    /// image has; then none of them is taken, and nothing is sent. `IoError` if the writer reports a
+    /// fault or takes no byte; then a beginning of the file was sent, `left` is as before, and each
+    /// further `write`, and `finish`, refuses with an `IoError`.
     pub fn write(&mut self, raw: &[u8]) -> Result<()>
         // A success: these raw bytes came, too.
         ensures taken { (e : EncoderState) (before : Option (List ℕ))
@@ -118,13 +142,17 @@ impl<W: Write + Drop> PixelWriter<W> {
             → OnOk result (HasTaken W.contents (and_raw e raw.now) before self.new) }
         ensures left { OnOk result (raw_left self.new + length raw.now ≡ raw_left self.old) }
 
-        // The refusals: a fault, or too many bytes; and any call after a fault.
+        // The refusals: a fault, if the bytes fit, or too many bytes; and any call after a fault.
         ensures refused { (e : EncoderState) (before : Option (List ℕ))
             → HasTaken W.contents e before self.old
             → IfErr result (RefusesRaw W.contents e raw.now before self.new) }
         ensures spent { (e : EncoderState) (before : Option (List ℕ))
             → HasFailed W.contents e before self.old
             → IsErrAnd result IsIoError × HasFailed W.contents e before self.new }
+
+        // What they leave: all as it was, but after a fault.
+        ensures unchanged { IfErr result (λ e. IsIoError e ⊎ (self.new ≡ self.old)) }
+        ensures left_stays { OnErr result (raw_left self.new ≡ raw_left self.old) }
     {
         if self.failed {
             return Err(failed_before());
@@ -156,8 +184,9 @@ impl<W: Write + Drop> PixelWriter<W> {
 
     /// Sends the rest of the file, and gives the writer back.
     ///
-    /// `InvalidImageLength`, with the number of bytes that came, if some are missing; `IoError` as
-    /// in `write`. The writer is then dropped: if `left` isn't 0, `into_writer` gives it back.
+    /// `InvalidImageLength`, with the number of bytes that came, if some are missing, and then
+    /// nothing is sent; `IoError` as in `write`. After a refusal the writer is dropped, so while
+    /// `left` isn't 0 call `into_writer` to get it back.
     pub fn finish(self) -> Result<W>
         // A success: all raw bytes came, and the file was sent, which `file` says as a function.
         ensures sent { (e : EncoderState) (before : Option (List ℕ))
@@ -167,14 +196,41 @@ impl<W: Write + Drop> PixelWriter<W> {
             → HasTaken W.contents e before self → IfOk result (λ w.
             Appends before (W.contents w) (image_file e.style e.header e.raw)) }
 
-        // The refusals: a fault, or too few bytes; and after a fault any call.
+        // The refusals: a fault, if all bytes came, or too few bytes; and after a fault any call.
         ensures refused { (e : EncoderState) (before : Option (List ℕ))
             → HasTaken W.contents e before self
-            → IfErr result (λ error. IsIoError error
+            → IfErr result (λ error.
+            (IsIoError error × (length e.raw ≡ image_byte_count e.header))
             ⊎ ((error ≡ Error.InvalidImageLength (length e.raw) e.header.width e.header.height)
             × (length e.raw < image_byte_count e.header))) }
         ensures spent { (e : EncoderState) (before : Option (List ℕ))
             → HasFailed W.contents e before self → IsErrAnd result IsIoError }
+    {
+        let mut pixels = self;
+        pixels.send_rest()?;
+        Ok(pixels.writer)
+    }
+
+    // Sends the rest of the file. It is apart from `finish`, whose contract can't say what became of
+    // a writer that is dropped.
+    fn send_rest(&mut self) -> Result<()>
+        ensures sent { (e : EncoderState) (before : Option (List ℕ))
+            → HasTaken W.contents e before self.old
+            → OnOk result ((n : ℕ) × SendsFile e before (W.contents self.new.writer) n) }
+        ensures all { OnOk result (self.old.left ≡ 0) }
+
+        // The refusals: too few bytes, and then nothing is sent, or a fault.
+        ensures missing { IfErr result (λ error. IsIoError error
+            ⊎ ((error ≡ Error.InvalidImageLength
+            (image_byte_count self.old.header - self.old.left)
+            self.old.header.width self.old.header.height)
+            × (0 < self.old.left) × (self.new ≡ self.old))) }
+        ensures part { (e : EncoderState) (before : Option (List ℕ))
+            → HasTaken W.contents e before self.old
+            → IfErr result (λ error. IsIoError error
+            → (self.old.left ≡ 0) × SendsPart e before (W.contents self.new.writer)) }
+        ensures spent { IsTrue self.old.failed
+            → IsErrAnd result IsIoError × (self.new ≡ self.old) }
     {
         if self.failed {
             return Err(failed_before());
@@ -183,15 +239,9 @@ impl<W: Write + Drop> PixelWriter<W> {
             let size = self.taken();
             return Err(wrong_length(&self.header, size));
         }
-        let PixelWriter {
-            mut writer,
-            header,
-            style,
-            mut kept,
-            ..
-        } = self;
-        write_any(&mut writer, header.channels, style, &mut kept)?;
-        Ok(writer)
+        self.failed = true;
+        let kept = &mut *self.kept;
+        write_any(&mut self.writer, self.header.channels, self.style, kept)
     }
 
     /// The writer as it stands: with a beginning of the file behind what it had.

@@ -1,5 +1,5 @@
 //! Raw bytes of whole pixels.
-ghost use Rattle.std.specs.Prelude.{◌≡◌, ◌≢◌, ◌↔◌, ◌+◌, ◌*◌, ◌%◌, ◌≤◌, [], ◌∷◌, length, take, drop, IsTrue, slice_get, Some};
+ghost use Rattle.std.specs.Prelude.{◌≡◌, ◌≢◌, ◌↔◌, ◌+◌, ◌*◌, ◌%◌, ◌≤◌, ◌<◌, [], ◌∷◌, length, take, drop, IsTrue, slice_get, Some};
 ghost use Rattle.qoi.specs.declared.encode.piece.TheConstants.{REPEATS_AT_ONCE};
 ghost use Rattle.qoi.specs.Raw.{IsChannels, IsChannels-prop, pixels_of};
 
@@ -57,6 +57,15 @@ impl<'a, const N: usize> Pixels<'a, N> {
         ensures { IsTrue result ↔ (16 ≤ length (pixels_in self.entry)) }
     {
         self.bytes.len() >= 16 * N
+    }
+
+    /// Whether there are fewer than others.
+    #[inline(always)]
+    pub(super) fn are_fewer(self, than: Pixels<N>) -> bool
+        ensures { IsTrue result
+            → length (pixels_in self.entry) < length (pixels_in than.entry) }
+    {
+        self.bytes.len() < than.bytes.len()
     }
 
     /// These pixels, of which a block or more are left.

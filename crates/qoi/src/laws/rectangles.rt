@@ -61,7 +61,8 @@ pub fn rows_that_come()
 
 /// Bytes that are put where the part of one more row stands: the rectangle holds them, and all
 /// bytes outside of it stay. The rectangle and what is outside of it are the whole picture. A tile
-/// that was put in row by row stands there, and all bytes outside of it stay.
+/// that was put in row by row stands there, and all bytes outside of it stay. So does what stands
+/// above a tile of whole rows.
 pub fn rows_are_put()
     ensures put { (stride top left rows size : ℕ) (old new row : List ℕ) → left + size ≤ stride
         → stride * (top + rows) + stride ≤ length old → length row ≡ size
@@ -97,4 +98,10 @@ pub fn rows_are_put()
         → stride * (top + rows) ≤ length raw → length tile ≡ size * rows
         → KeepsOutside stride top left rows size raw
         (with_tile stride top left rows size tile raw) }
+    ensures grow { (stride top rows : ℕ) (old new raw : List ℕ)
+        → KeepsOutside stride top 0 rows stride old new
+        → rectangle stride 0 0 top stride old ≡ rectangle stride 0 0 top stride raw
+        → rectangle stride top 0 rows stride new ≡ rectangle stride top 0 rows stride raw
+        → rectangle stride 0 0 (top + rows) stride new
+        ≡ rectangle stride 0 0 (top + rows) stride raw }
 {}

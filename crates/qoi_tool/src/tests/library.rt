@@ -2,6 +2,8 @@
 //! proved callers, drawn images and files, broken files, readers, writers and memory that fail, and
 //! the standard library's readers and writers.
 
+mod any_row;
+mod any_rows;
 mod blocks;
 mod borders;
 mod broken;
@@ -33,6 +35,7 @@ mod reader;
 mod rectangles;
 mod refusals;
 mod row_callers;
+mod row_indexes;
 mod runs;
 mod saves;
 mod second_images;

@@ -14,15 +14,15 @@ use Rattle.qoi.proofs.decode.decode_to_buf.Goals as goal
 by_size : (n required : ℕ) (P Q : Type 0) → (n < required → P) → (required ≤ n → Q) → Q ⊎ P
 by_size n required P Q less enough = ⊎_elim (λ short. inr (less short)) (λ room. inl (enough room)) (cases_lt n required)
 
-pub returns-in_err-decoder-clause-refused : goal.returns-in_err-decoder-clause-refused
-returns-in_err-decoder-clause-refused c =
+pub returns-in_err-image-clause-refused : goal.returns-in_err-image-clause-refused
+returns-in_err-image-clause-refused c =
     let p = err_from_is_err_and c.from_residual.result c.from_residual.ensures.1 in
-    rw (p.1, p.2) (inl (has_refused_file _ _ (inl c.in_err-decoder.ensures.refused)))
+    rw (p.1, p.2) (inl (has_refused_file _ _ (inl c.in_err-image.ensures.refused)))
 
 pub returns-in_err-decode_to_buf-clause-refused : goal.returns-in_err-decode_to_buf-clause-refused
 returns-in_err-decode_to_buf-clause-refused c =
-    let d = c.in_ok-decoder.decoder in
-    let accepted = c.in_ok-decoder.ensures.accepted in
+    let d = c.in_ok-image.image in
+    let accepted = c.in_ok-image.ensures.accepted in
     let e = c.in_err-decode_to_buf.field-0.0 in
     let p = err_from_is_err_and c.from_residual-in_err-decode_to_buf.result c.from_residual-in_err-decode_to_buf.ensures.1 in
     let size : byte_count d.header (channels_number d.channels) ≡ image_byte_count d.header = ap (λ k. byte_count d.header (channels_number k)) accepted.channels in
@@ -40,12 +40,12 @@ returns-in_err-decode_to_buf-clause-refused c =
 
 pub returns-clause-decoded : goal.returns-clause-decoded
 returns-clause-decoded c =
-    let d = c.in_ok-decoder.decoder in
-    let accepted = c.in_ok-decoder.ensures.accepted in
+    let d = c.in_ok-image.image in
+    let accepted = c.in_ok-image.ensures.accepted in
     let rest = c.decode_to_buf.new.self.reader in
     let decoded = c.in_ok-decode_to_buf.ensures.decoded in
     let buf = c.decode_to_buf.new.buf in
-    let same : d.header ≡ c.header.result.now = cc in
+    let same : d.header ≡ c.header-header.result.now = cc in
     let size : c.in_ok-decode_to_buf.field-0 ≡ image_byte_count d.header = decoded.0 ∙ ap (λ k. byte_count d.header (channels_number k)) accepted.channels in
     let file = has_decoded_file c.args.data.now d rest (take (image_byte_count d.header) buf)
     (λ i. omega (arith, c.type_inv.data i)) accepted.header accepted.channels (cc accepted.after)

@@ -1,40 +1,38 @@
 -- A file is decoded as such; a refusal is the decoder's.
-use Rattle.std.proofs.Common.{◌≡◌, ◌∙◌, ap, sym, subst, inl, inr, ⊎_elim, arith}
+use Rattle.std.proofs.Common.{◌≡◌, sym, subst, inl, inr, ⊎_elim, arith}
 use Rattle.qoi.specs.declared.header.Header.{Header}
 use Rattle.std.proofs.lemmas.Result.{err_from_is_err_and}
 use Rattle.qoi.specs.Qoi.{pixel_count}
 use Rattle.qoi.specs.Decoding.{RefusesBytes}
 use Rattle.qoi.specs.Decoded.{HasDecodedFile}
-use Rattle.qoi.specs.DecoderState.{DecoderState}
-use Rattle.std.proofs.Common.{List, ℕ}
 use Rattle.qoi.proofs.decoding.Promised.{has_decoded_file, has_refused_file}
 use Rattle.qoi.proofs.decode.decode_to_vec.Goals as goal
 
-pub returns-in_err-decoder-clause-refused : goal.returns-in_err-decoder-clause-refused
-returns-in_err-decoder-clause-refused c =
+pub returns-in_err-image-clause-refused : goal.returns-in_err-image-clause-refused
+returns-in_err-image-clause-refused c =
     let p = err_from_is_err_and c.from_residual.result c.from_residual.ensures.1 in
-    rw (p.1, p.2) (inl (has_refused_file _ _ (inl c.in_err-decoder.ensures.refused)))
+    rw (p.1, p.2) (inl (has_refused_file _ _ (inl c.in_err-image.ensures.refused)))
 
-pub returns-in_err-out-clause-refused : goal.returns-in_err-out-clause-refused
-returns-in_err-out-clause-refused c =
-    let p = err_from_is_err_and c.from_residual-in_err-out.result c.from_residual-in_err-out.ensures.1 in
-    let d = c.in_ok-decoder.decoder in
-    let accepted = c.in_ok-decoder.ensures.accepted in
+pub returns-in_err-raw-clause-refused : goal.returns-in_err-raw-clause-refused
+returns-in_err-raw-clause-refused c =
+    let p = err_from_is_err_and c.from_residual-in_err-raw.result c.from_residual-in_err-raw.ensures.1 in
+    let d = c.in_ok-image.image in
+    let accepted = c.in_ok-image.ensures.accepted in
     rw (p.1, p.2) (⊎_elim (λ none. inr (none.0, d.header, accepted.header))
     (λ r. inl (has_refused_file _ _ (inr (
       d.header,
       accepted.header,
-      subst (λ z. RefusesBytes (pixel_count d.header) z c.in_err-out.field-0.0) (cc accepted.after) r.why.1,
-    )))) c.in_err-out.ensures.refused)
+      subst (λ z. RefusesBytes (pixel_count d.header) z c.in_err-raw.field-0.0) (cc accepted.after) r.why.1,
+    )))) c.in_err-raw.ensures.refused)
 
 pub returns-clause-decoded : goal.returns-clause-decoded
 returns-clause-decoded c =
-    let d = c.in_ok-decoder.decoder in
-    let accepted = c.in_ok-decoder.ensures.accepted in
-    let same : c.header.result.now ≡ d.header = c.header.ensures ∙ ap (λ (s : DecoderState (List ℕ)). s.header) c.in_ok-out.ensures.unchanged in
-    subst (λ (k : Header). HasDecodedFile c.args.data.now k c.in_ok-out.out.items) (sym same)
-    (has_decoded_file c.args.data.now d c.decode_to_vec.new.self.reader c.in_ok-out.out.items
-    (λ i. omega (arith, c.type_inv.data i)) accepted.header accepted.channels (cc accepted.after) c.in_ok-out.ensures.decoded)
+    let d = c.in_ok-image.image in
+    let accepted = c.in_ok-image.ensures.accepted in
+    let same : c.header-header.result.now ≡ d.header = c.header-header.ensures in
+    subst (λ (k : Header). HasDecodedFile c.args.data.now k c.in_ok-raw.raw.items) (sym same)
+    (has_decoded_file c.args.data.now d c.decode_to_vec.new.self.reader c.in_ok-raw.raw.items
+    (λ i. omega (arith, c.type_inv.data i)) accepted.header accepted.channels (cc accepted.after) c.in_ok-raw.ensures.decoded)
 
 pub returns-clause-without_last : goal.returns-clause-without_last
 returns-clause-without_last c raw whole width height own part = absurd ((returns-clause-decoded c).not_without_last _ whole own.makes part)

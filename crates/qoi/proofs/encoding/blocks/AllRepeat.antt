@@ -1,15 +1,11 @@
--- Blocks that repeat whole.
-use Rattle.std.proofs.Common.{◌≡◌, ◌≢◌, ◌⊎◌, inl, inr, ℕ, zero, suc, ◌+◌, ◌*◌, ◌%◌, ◌^◌, ◌&&◌, Bool, true, false, cond, eqb, List, [], ◌∷◌, length, map, replicate, refl, sym, ap, ◌∙◌, arith, w8}
+-- Lanes that repeat: whether all do, and which don't, as bits.
+use Rattle.std.proofs.Common.{◌≡◌, ◌≢◌, ◌⊎◌, inl, inr, ℕ, zero, suc, ◌+◌, ◌*◌, ◌%◌, ◌^◌, ◌&&◌, Bool, true, false, not, cond, eqb, List, [], ◌∷◌, length, map, replicate, refl, sym, ap, ◌∙◌, arith, w8}
 use Rattle.std.proofs.lemmas.Bool.{cases_eq, eq-eqb, ne_eqb}
 use Rattle.std.proofs.lemmas.List.{length-map}
 use Rattle.std.proofs.lemmas.Simd.{bitmask_splat}
 use lib.Lanes.{zip2, mask_l, top}
-use Rattle.qoi.specs.Qoi.{RgbaPixel, Past, pixel_eq}
 use Rattle.qoi.specs.inner.block.Lanes.{mask}
-use Rattle.qoi.specs.inner.block.Block.{all_repeat}
-use Rattle.qoi.specs.inner.block.State.{lanes_of, is_rep}
 use Rattle.qoi.specs.inner.block.Counting.{all_true}
-use Rattle.qoi.proofs.format.SamePixels.{pixel_eq-true}
 
 -- n bits that are set
 abbrev ones : ℕ → ℕ
@@ -47,14 +43,15 @@ all_bits bs xs long is =
     ∙ ap (λ n. eqb n 65535) (bitmask_splat w8 eqb (map mask bs) 16 255 (length-map bs mask ∙ long) (omega arith) ∙ ap mask_l (set_is bs))
     ∙ ap (λ n. eqb (mask_l bs) (ones n)) (sym long) ∙ mask_ones bs
 
--- what follows if the first holds
-both_by : (b : Bool) (x y : Bool) → (b ≡ true → x ≡ y) → (b && x) ≡ (b && y)
-both_by true x y e = e refl
-both_by false x y e = refl
+-- which bytes are 0
+unset_is : (bs : List Bool) → map (λ x. eqb x 0) (map mask bs) ≡ map not bs
+unset_is [] = refl
+unset_is (true ∷ bs) = ap (λ z. false ∷ z) (unset_is bs)
+unset_is (false ∷ bs) = ap (λ z. true ∷ z) (unset_is bs)
 
--- all lanes repeat exactly if all pixels are the one before them
-pub all_lanes : (held : Past) (q r : RgbaPixel) (ps : List RgbaPixel) → r ≡ q → all_true (map is_rep (lanes_of held r ps)) ≡ all_repeat q ps
-all_lanes held q r [] e = refl
-all_lanes held q r (p ∷ ps) e =
-    ap (λ z. pixel_eq p z && all_true (map is_rep (lanes_of (p ∷ held) p ps))) e
-    ∙ both_by (pixel_eq p q) _ _ (λ t. all_lanes (p ∷ held) q p ps (pixel_eq-true p q t))
+-- the bits of the lanes that are 0
+pub unset_marks : (bs : List Bool) (xs : List ℕ) → length bs ≡ 16 → xs ≡ map mask bs
+    → mask_l (map (top 7) (zip2 (λ a b. cond (eqb a b) 255 0) xs (replicate 16 0))) % 2 ^ 64 ≡ mask_l (map not bs)
+unset_marks bs xs long is =
+    ap (λ z. mask_l (map (top 7) (zip2 (λ a b. cond (eqb a b) 255 0) z (replicate 16 0))) % 2 ^ 64) is
+    ∙ bitmask_splat w8 eqb (map mask bs) 16 0 (length-map bs mask ∙ long) (omega arith) ∙ ap mask_l (unset_is bs)

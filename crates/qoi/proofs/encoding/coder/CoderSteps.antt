@@ -191,6 +191,21 @@ module _ {style : Style} {ahead : List ℕ} {pixels : List RgbaPixel} {table : L
   joined n rest split = over_repeats n rest (subst (λ x. Ahead style ahead b.past b.before last.repeats x bytes)
       (split ∙ ap (λ p. replicate n p ++ rest) b.state.last_is) b.to_write)
 
+  -- The repeats at the front are carried.
+  pub repeats_joined : (n : ℕ) (rest : List RgbaPixel) {next : LastPixel} → pixels ≡ replicate n last.px ++ rest → next.px ≡ last.px
+      → next.begun ≡ last.begun → next.placed ≡ last.placed → next.repeats ≡ last.repeats + n → CoderBetween style ahead rest table next bytes
+  repeats_joined n rest {next} split px begun placed repeats = record {
+    past = b.past;
+    before = b.before;
+    to_write = rw repeats (joined n rest split);
+    state = record {
+      table_is = b.state.table_is;
+      last_is = px ∙ b.state.last_is;
+      begun_is = begun ∙ b.state.begun_is;
+      placed_is = λ is. placed ∙ b.state.placed_is is;
+    };
+  }
+
   -- The runs of a group are written.
   pub group_written : (n : ℕ) (rest : List RgbaPixel) (one : Chunk) {next_table : List RgbaPixel} {next : LastPixel} {next_bytes : List ℕ}
       → pixels ≡ replicate n last.px ++ rest

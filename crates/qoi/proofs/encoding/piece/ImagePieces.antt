@@ -89,6 +89,23 @@ module _ {e : EncoderState} {before now : Option (List ℕ)} {rest : List RgbaPi
             (Appends-trans before now next w.gone (all ++ end_marker) w.appended sent),
       )
 
+  -- a beginning of all of them and the end marker was
+  pub image_ends_part : (next : Option (List ℕ)) (all : List ℕ) → ((ahead : List ℕ) → CoderBetween e.style ahead rest p.table p.last kept → ahead ≡ all)
+      → AppendsBeginning now next (all ++ end_marker) → BeganFile e before next
+  image_ends_part next all on part =
+      let w = b.went in
+      let is = on b.ahead b.between in (
+        written_list e.style (image_pixels e.header e.raw),
+        w.list,
+        (
+          w.gone ++ part.0,
+          part.1,
+          file_is e ∙ ap (λ z. z ++ end_marker) (w.split ∙ ap (λ z. w.gone ++ z) is) ∙ append_assoc w.gone all end_marker
+              ∙ ap (λ z. w.gone ++ z) part.2 ∙ sym (append_assoc w.gone part.0 part.1),
+          Appends-trans before now next w.gone part.0 w.appended part.3,
+        ),
+      )
+
 -- the bytes of whole pixels
 pub count_in : (n : ℕ) (bytes : List ℕ) → IsChannels n → length bytes % n ≡ 0 → length bytes ≡ n * length (pixels_of n bytes)
 count_in n bytes is whole =

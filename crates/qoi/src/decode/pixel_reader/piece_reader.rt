@@ -2,7 +2,7 @@
 ghost use Rattle.std.specs.Io.KnownBytes.{Keeps};
 ghost use Rattle.std.specs.Prelude.{◌≡◌, ℕ, ◌+◌, ◌-◌, ◌<◌, ◌≤◌, List, ◌++◌, length, take, Option, Some, Ok, true, IsTrue, IfOk, IfErr, OnOk, OnErr};
 ghost use Rattle.qoi.specs.Raw.{AreChannels};
-ghost use Rattle.qoi.specs.pieces.ReaderPieces.{bytes_left, KeepsPixels, GivesPieces};
+ghost use Rattle.qoi.specs.pieces.ReaderPieces.{bytes_left, kept_count, KeepsNone, KeepsPixels, GivesPieces};
 ghost use Rattle.qoi.specs.declared.error.Error.{Error};
 ghost use Rattle.qoi.specs.inner.Chunks.{RefusesChunks, HasFault};
 
@@ -15,7 +15,8 @@ use std::io::{BufRead, Read};
 pub trait PieceReader: Reader {
     /// Decodes the next bytes of an image, while none are kept: into the front of `out`, and
     /// returns how many; the rest of `out`, and more, are kept. With the last ones it takes the end
-    /// marker. After a refusal the error stands in `fault`.
+    /// marker. After a refusal the error stands in `fault`. Only `PixelReader` can call it, since
+    /// nobody else can make a `Pieces`.
     fn decode_piece(
         &mut self,
         pieces: &mut Pieces,
@@ -25,7 +26,7 @@ pub trait PieceReader: Reader {
         fault: &mut Option<Error>,
     ) -> PieceResult<usize>
         requires channels { AreChannels file_channels channels }
-        requires none { pieces.old.from ≡ pieces.old.to }
+        requires none { KeepsNone pieces.old }
         requires fits { length out.old ≤ bytes_left pieces.old }
         requires pixels { KeepsPixels channels pieces.old }
         ensures read { (n : ℕ) (start : Option (List ℕ)) (given : List ℕ)
@@ -38,7 +39,7 @@ pub trait PieceReader: Reader {
             (HasFault (RefusesChunks Self.in_memory n start (Self.ahead self.new)) fault.new) }
         ensures within { IfOk result (λ size. size ≤ length out.new) }
         ensures enough { IfOk result (λ size.
-            length out.new ≤ size + (pieces.new.to - pieces.new.from)) }
+            length out.new ≤ size + kept_count pieces.new) }
         ensures pixels { OnOk result (KeepsPixels channels pieces.new) }
         ensures left { IfOk result (λ size. size + bytes_left pieces.new ≡ bytes_left pieces.old) }
         ensures kept { IsTrue Self.in_memory
@@ -65,7 +66,7 @@ fn piece_of_bytes(
     fault: &mut Option<Error>,
 ) -> PieceResult<usize>
     requires channels { AreChannels file_channels channels }
-    requires none { pieces.old.from ≡ pieces.old.to }
+    requires none { KeepsNone pieces.old }
     requires fits { length out.old ≤ bytes_left pieces.old }
     requires pixels { KeepsPixels channels pieces.old }
     ensures read { (n : ℕ) (start : Option (List ℕ)) (given : List ℕ)
@@ -77,7 +78,7 @@ fn piece_of_bytes(
         → OnErr result (HasFault (RefusesChunks true n start (Some bytes.new)) fault.new) }
     ensures within { IfOk result (λ size. size ≤ length out.new) }
     ensures enough { IfOk result (λ size.
-        length out.new ≤ size + (pieces.new.to - pieces.new.from)) }
+        length out.new ≤ size + kept_count pieces.new) }
     ensures pixels { OnOk result (KeepsPixels channels pieces.new) }
     ensures left { IfOk result (λ size. size + bytes_left pieces.new ≡ bytes_left pieces.old) }
 {

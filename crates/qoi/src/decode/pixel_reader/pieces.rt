@@ -19,13 +19,13 @@ use crate::error::Error;
 /// last pixel.
 #[derive(Drop)]
 pub struct Pieces {
-    table: TermTable,
-    last: Hashed,
-    bytes: [u8; KEPT],
-    from: usize,
-    to: usize,
-    run: usize,
-    undecoded: usize,
+    pub(super) table: TermTable,
+    pub(super) last: Hashed,
+    pub(super) bytes: [u8; KEPT],
+    pub(super) from: usize,
+    pub(super) to: usize,
+    pub(super) run: usize,
+    pub(super) undecoded: usize,
 }
 
 /// A piece was refused. The error stands in a place of the caller's: a result with the error in it
@@ -66,6 +66,21 @@ impl Pieces {
             to: 0,
             run: 0,
             undecoded: size,
+        }
+    }
+
+    /// The same state.
+    pub(super) fn copied(&self) -> Pieces
+        ensures { result ≡ self.now }
+    {
+        Pieces {
+            table: self.table.copied(),
+            last: self.last,
+            bytes: self.bytes,
+            from: self.from,
+            to: self.to,
+            run: self.run,
+            undecoded: self.undecoded,
         }
     }
 

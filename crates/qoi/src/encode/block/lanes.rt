@@ -1,6 +1,6 @@
 //! Vectors of sixteen bytes: a lane for each of sixteen pixels.
-ghost use lib.Lanes.{number_l, zip2};
-ghost use Rattle.std.specs.Prelude.{◌≡◌, Bool, List, length, map, slice_index, ◌-◌, ◌==◌, [], ◌∷◌, min, max, take, drop};
+ghost use lib.Lanes.{number_l, mask_l, zip2};
+ghost use Rattle.std.specs.Prelude.{◌≡◌, Bool, List, length, map, slice_index, ◌-◌, ◌==◌, [], ◌∷◌, min, max, take, drop, not};
 ghost use Rattle.qoi.specs.inner.block.Counting.{all_true};
 ghost use Rattle.qoi.specs.inner.block.Lanes.{mask};
 
@@ -58,4 +58,13 @@ pub(in crate::encode) fn all_set(v: u8x16) -> bool
     ensures { (bs : List Bool) → length bs ≡ 16 → v ≡ map mask bs → result ≡ all_true bs }
 {
     v.simd_eq(u8x16::splat(255)).to_bitmask() == 0xffff
+}
+
+/// A bit for each lane of a mask that isn't set, the lowest for the first.
+#[inline(always)]
+pub(in crate::encode) fn unset_bits(v: u8x16) -> u64
+    ensures { (bs : List Bool) → length bs ≡ 16 → v ≡ map mask bs
+        → result ≡ mask_l (map not bs) }
+{
+    v.simd_eq(u8x16::splat(0)).to_bitmask()
 }

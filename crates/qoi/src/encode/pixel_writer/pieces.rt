@@ -209,10 +209,14 @@ fn write_last<W: Write, const N: usize, const COPY: u8, const ROOM: usize>(
     requires whole { length held.now % N ≡ 0 }
     requires piece { 2 * PAST ≤ ROOM }
     requires room { length room.old ≡ ROOM }
+    ensures opaque { N ≡ 3 → pending.new.last.px.a ≡ 255 }
     ensures written { (e : EncoderState) (before : Option (List ℕ)) → e.style ≡ style
         → ImageBetween e before (W.contents writer.old) (pixels_of N held.now) pending.old []
         → OnOk result (WroteFile e before (W.contents writer.new)) }
-    ensures refused { IfErr result IsIoError }
+    ensures refused { IfErr result (λ error. IsIoError error
+        × ((e : EncoderState) (before : Option (List ℕ)) → e.style ≡ style
+        → ImageBetween e before (W.contents writer.old) (pixels_of N held.now) pending.old []
+        → BeganFile e before (W.contents writer.new))) }
 {
     let piece = Piece::<ROOM>::new(room).open();
     let (left, piece) = write_whole::<W, N, COPY, ROOM>(
@@ -287,11 +291,17 @@ pub(super) fn write_any<W: Write>(
 ) -> Result<()>
     requires opaque { channels_number channels ≡ 3 → kept.old.pending.last.px.a ≡ 255 }
     requires whole { length kept.old.held % channels_number channels ≡ 0 }
+    ensures opaque { channels_number channels ≡ 3 → kept.new.pending.last.px.a ≡ 255 }
+    ensures held { kept.new.held ≡ kept.old.held }
     ensures written { (e : EncoderState) (before : Option (List ℕ)) → e.style ≡ style
         → ImageBetween e before (W.contents writer.old)
         (pixels_of (channels_number channels) kept.old.held) kept.old.pending []
         → OnOk result (WroteFile e before (W.contents writer.new)) }
-    ensures refused { IfErr result IsIoError }
+    ensures refused { IfErr result (λ error. IsIoError error
+        × ((e : EncoderState) (before : Option (List ℕ)) → e.style ≡ style
+        → ImageBetween e before (W.contents writer.old)
+        (pixels_of (channels_number channels) kept.old.held) kept.old.pending []
+        → BeganFile e before (W.contents writer.new))) }
 {
     let pending = &mut kept.pending;
     let held = &kept.held;

@@ -1,6 +1,6 @@
 //! Images of few pixels, by the plain encoder: repeats, fresh pixels of each kind, and pixels that
 //! share an index position, in each lane of blocks of sixteen pixels and across their borders.
-use crate::tests::library::support::generator::{Numbers, Rgba, pixel};
+use crate::tests::library::support::generator::{Groups, Numbers, Rgba, pixel};
 use crate::tests::library::support::images::row;
 use crate::tests::library::support::made;
 use qoi::Channels::{Rgb, Rgba as Four};
@@ -139,6 +139,47 @@ fn kinds_in_lanes(rt: HostRuntime) {
             for background in 2..5 {
                 for style in STYLES {
                     let pixels = one_other(rt.alloc(), &mut numbers, background, kind, lane).expect(
+                        &rt, "refused",
+                    );
+                    assert_row(&rt, rt.alloc(), Four, style, &pixels);
+                }
+            }
+        }
+    }
+}
+
+// Sixteen pixels of which one or two are fresh, after so many repeats, and a few more. In style
+// `Tight` a pixel comes before them: there blocks begin behind the first pixel.
+fn few_fresh(
+    alloc: Global,
+    numbers: &mut Numbers,
+    style: Style,
+    repeats: usize,
+    (first, second): (usize, usize),
+) -> Result<Vec<Rgba>> {
+    let letters = ALPHABETS[numbers.below(6) as usize].pixels;
+    let mut groups = Groups::new(alloc, letters);
+    if style == Style::Tight {
+        groups.add(numbers, 0)?;
+    }
+    groups.add_few(numbers, repeats, first, second)?;
+    for repeats in [4, 12] {
+        groups.add(numbers, repeats)?;
+    }
+    Ok(groups.pixels)
+}
+
+// Each two lanes of a block, and each lane alone, fresh after each number of repeats that may be
+// carried.
+#[test]
+fn few_fresh_pixels(rt: HostRuntime) {
+    let mut numbers = Numbers::new(0xf3e5);
+    for repeats in 0..62 {
+        for second in 0..16 {
+            for first in 0..=second {
+                for style in STYLES {
+                    let lanes = (first, second);
+                    let pixels = few_fresh(rt.alloc(), &mut numbers, style, repeats, lanes).expect(
                         &rt, "refused",
                     );
                     assert_row(&rt, rt.alloc(), Four, style, &pixels);

@@ -1,6 +1,6 @@
 //! Each kind of chunk after each other kind, at each of 64 offsets; lists of one kind that end
-//! anywhere; index positions that are named as soon as a pixel was put there. The pixels are known
-//! from the rules by which the chunks are made.
+//! anywhere; long runs near the end; each alpha after RGB chunks; index positions that are named as
+//! soon as a pixel was put there. The pixels are known from the rules by which the chunks are made.
 use crate::tests::library::support::decodings::Decoding;
 use crate::tests::library::support::generator::{Rgba, START, place};
 use crate::tests::library::support::images::row;
@@ -234,6 +234,63 @@ fn kinds_end_anywhere(rt: HostRuntime) {
                 list.check_readers(&rt, alloc, Channels::Rgb);
                 list.check_readers(&rt, alloc, Channels::Rgba);
             }
+        }
+    }
+}
+
+// Nine chunks of a byte, a run of `count` pixels, and `n` chunks of a byte.
+fn run_before(alloc: Global, count: u8, n: u8) -> Result<List> {
+    let mut list = List::new(alloc);
+    for front in 0..9u8 {
+        list.add(Kind::Diff, front)?;
+    }
+    list.add(Kind::Run(count), 0)?;
+    for i in 0..n {
+        list.add(Kind::Diff, i)?;
+    }
+    Ok(list)
+}
+
+// Runs that eight vectors of sixteen bytes just hold in four channels and in three, and those of a
+// pixel more; so many pixels before the end that those vectors, or any run's, have room or not.
+#[test]
+fn runs_near_the_end(rt: HostRuntime) {
+    let alloc = rt.alloc();
+    for count in [32, 33, 40, 41, 62] {
+        for n in 0..88u8 {
+            let list = run_before(alloc, count, n).expect(&rt, "refused");
+            list.check(&rt, alloc);
+        }
+    }
+}
+
+// After an RGBA chunk with alpha `a`, `n` RGB chunks, of which the last pixel is named after another
+// one; then a chunk of each kind, and thirty of a byte.
+fn alpha_kept(alloc: Global, a: u8, n: u8) -> Result<List> {
+    let mut list = List::new(alloc);
+    list.put_full([a, n, 7, a])?;
+    for i in 0..n {
+        list.add(Kind::Rgb, a.wrapping_add(i))?;
+    }
+    let last = place(list.last());
+    list.put_full([n, 7, a, !a])?;
+    list.name(last)?;
+    for kind in KINDS {
+        list.add(kind, a)?;
+    }
+    for more in 0..30u8 {
+        list.add(Kind::Diff, more)?;
+    }
+    Ok(list)
+}
+
+#[test]
+fn each_alpha_is_kept(rt: HostRuntime) {
+    let alloc = rt.alloc();
+    for a in 0..=255u8 {
+        for n in [1, 2, 9] {
+            let list = alpha_kept(alloc, a, n).expect(&rt, "refused");
+            list.check(&rt, alloc);
         }
     }
 }

@@ -261,7 +261,7 @@ fn with_wrong_byte(alloc: Global, file: &[u8], before_end: usize) -> Result<Vec<
     Ok(file)
 }
 
-// The last piece is refused for the end marker.
+// A piece is refused for the end marker.
 fn assert_wrong<R: PieceReader + Drop>(
     rt: &impl Abort,
     alloc: Global,
@@ -274,7 +274,7 @@ fn assert_wrong<R: PieceReader + Drop>(
     assert_spent(rt, alloc, pixels, left);
 }
 
-// A wrong byte of the end marker is refused with the last bytes; a slice's tail is as before them.
+// A wrong byte of the end marker is refused, with the last bytes at the latest.
 #[test]
 fn wrong_markers(rt: HostRuntime) {
     let alloc = rt.alloc();
@@ -289,6 +289,46 @@ fn wrong_markers(rt: HostRuntime) {
         let whole = made::slice(&rt, &file).into_pixels();
         assert!(&rt; matches!(whole.finish(), Err(Error::InvalidPadding)));
     }
+}
+
+// Reads an image with a wrong marker in pieces of this size. When it is refused, so many bytes are
+// left, at least and at most.
+fn assert_refused_at<R: PieceReader + Drop>(
+    rt: &impl Abort,
+    decoder: Decoder<R>,
+    buf: &mut [u8],
+    (least, most): (usize, usize),
+) {
+    let mut pixels = decoder.into_pixels();
+    let (refusal, left) = refusal_of(&mut pixels, buf);
+    assert!(rt; matches!(refusal, Some(Error::InvalidPadding)));
+    assert!(rt; least <= left && left <= most);
+}
+
+// Up to 3,072 bytes are decoded ahead of those that are read, and then the end marker. So an image
+// that has no more is refused at its first piece, and a larger one only when at most so many bytes
+// follow the piece. From a slice, a piece of 512 bytes or more is decoded alone if 256 bytes of the
+// image follow it.
+#[test]
+fn pieces_before_a_wrong_marker(rt: HostRuntime) {
+    let alloc = rt.alloc();
+    for (count, size, left) in [
+        (500u32, 3usize, (1500, 1500)),
+        (1024, 1, (3072, 3072)),
+        (1025, 1, (1, 3073)),
+        (2000, 3, (3, 3075)),
+    ] {
+        let image = drawn_row(&rt, alloc, 0xa4ead, count, Channels::Rgb);
+        let file = with_wrong_byte(alloc, &image.file, 1).expect(&rt, "refused");
+        let mut buf = made::filled(&rt, alloc, 0, size);
+        assert_refused_at(&rt, made::slice(&rt, &file), &mut buf, left);
+        assert_refused_at(&rt, made::stream(&rt, file.as_slice()), &mut buf, left);
+        assert_refused_at(&rt, made::buffered(&rt, file.as_slice()), &mut buf, left);
+    }
+    let image = drawn_row(&rt, alloc, 0xa4ead, 2000, Channels::Rgb);
+    let file = with_wrong_byte(alloc, &image.file, 8).expect(&rt, "refused");
+    let last = (1392, 1392);
+    assert_refused_at(&rt, made::slice(&rt, &file), &mut [0; 1536], last);
 }
 
 // Reads pieces until the reader's fault, after which a read refuses. Returns the reader.

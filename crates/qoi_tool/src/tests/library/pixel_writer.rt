@@ -3,7 +3,7 @@
 ghost use Rattle.std.specs.Prelude.{◌<◌};
 
 use crate::tests::fakes::{Bad, End, NONE, ONE_RGB_PIXEL, PIXEL, Sink, take_memory};
-use crate::tests::library::support::generator::{Numbers, Rgba, START, drawn};
+use crate::tests::library::support::generator::{Groups, Numbers, Rgba, START, drawn};
 use crate::tests::library::support::images::{Image, row};
 use crate::tests::library::support::{
     assert_bytes, assert_fails, assert_given, assert_header, assert_number, assert_refused, made,
@@ -178,6 +178,48 @@ fn runs_over_pieces(rt: HostRuntime) -> Result<()> {
     Ok(())
 }
 
+// So many fresh pixels; then blocks of which one or two pixels are fresh, in each two lanes, after up
+// to fifteen repeats.
+fn few_fresh(
+    alloc: Global,
+    numbers: &mut Numbers,
+    letters: [Rgba; 3],
+    ahead: usize,
+) -> Result<Vec<Rgba>> {
+    let mut groups = Groups::new(alloc, letters);
+    for _ in 0..ahead {
+        groups.add(numbers, 0)?;
+    }
+    for second in 0..16 {
+        for first in 0..=second {
+            for repeats in 0..16 {
+                groups.add_few(numbers, repeats, first, second)?;
+            }
+        }
+    }
+    Ok(groups.pixels)
+}
+
+// Blocks with few fresh pixels, over several pieces of 4096 bytes. In style `Tight` blocks begin
+// behind the first pixel.
+#[test]
+fn few_fresh_pixels(rt: HostRuntime) -> Result<()> {
+    let alloc = rt.alloc();
+    let mut numbers = Numbers::new(0x5ba25e);
+    for letters in [
+        [[10, 20, 30, 40], [10, 20, 30, 104], [11, 20, 30, 40]],
+        [START, [1, 99, 2, 255], [0, 0, 0, 0]],
+    ] {
+        for ahead in 0..2 {
+            let pixels = few_fresh(alloc, &mut numbers, letters, ahead)?;
+            let header = row(pixels.len().min(100_000) as u32, Channels::Rgba);
+            let sizes = [4096, 4130, 8192, usize::MAX];
+            assert_styles(&rt, alloc, header, &pixels, &sizes);
+        }
+    }
+    Ok(())
+}
+
 // The calls that a writer gets: the header; none for bytes that are held; the rest. None of them is
 // a flush.
 #[test]
@@ -205,12 +247,14 @@ fn behind_other_bytes(rt: HostRuntime) {
     assert_given(&rt, pixels.finish(), &all);
 }
 
-// More bytes than the image has are refused, and nothing is taken; fewer are refused at the end.
+// More bytes than the image has are refused, and nothing is taken; fewer are refused at the end. The
+// writer, which is lent, got the header in one call, and no other.
 #[test]
 fn other_lengths(rt: HostRuntime) -> Result<()> {
     let alloc = rt.alloc();
     let header = Header::try_new(2, 2, Channels::Rgb, ColorSpace::Srgb)?;
-    let mut pixels = before(&rt, alloc, header, Style::Reference, Vec::new(alloc));
+    let mut sink = made::sink(&rt, alloc, usize::MAX, NONE);
+    let mut pixels = before(&rt, alloc, header, Style::Reference, &mut sink);
     write(&rt, &mut pixels, &[1, 2, 3, 4, 5]);
     let more = pixels.write(&[1, 2, 3, 4, 5, 6, 7, 8]).err();
     assert_refused(&rt, alloc, more, "invalid image length: 13 bytes for 2x2");
@@ -218,6 +262,12 @@ fn other_lengths(rt: HostRuntime) -> Result<()> {
     write(&rt, &mut pixels, &[1, 2, 3, 4, 5, 6]);
     let fewer = pixels.finish().err();
     assert_refused(&rt, alloc, fewer, "invalid image length: 11 bytes for 2x2");
+    assert_number(&rt, sink.calls, 1);
+    assert_bytes(
+        &rt,
+        &sink.got,
+        &[0x71, 0x6f, 0x69, 0x66, 0, 0, 0, 2, 0, 0, 0, 2, 3, 0],
+    );
     Ok(())
 }
 
@@ -275,35 +325,26 @@ fn invalid_headers(rt: HostRuntime) -> Result<()> {
     Ok(())
 }
 
-// After a fault each further call refuses, and the writer gets no other call.
-fn assert_spent(rt: &impl Abort, pixels: PixelWriter<Sink>, calls: usize) -> Sink {
-    let mut pixels = pixels;
+// After a fault each further call refuses.
+fn assert_spent<W: Write + Drop>(rt: &impl Abort, mut pixels: PixelWriter<W>) {
     assert_fails(rt, pixels.write(&[1]).err(), ErrorKind::BrokenPipe);
     assert_fails(rt, pixels.write(&[]).err(), ErrorKind::BrokenPipe);
-    let sink = pixels.into_writer();
-    assert_number(rt, sink.calls, calls);
-    sink
+    assert_fails(rt, pixels.finish().err(), ErrorKind::BrokenPipe);
 }
 
-// Hands the image over in pieces to a writer whose call of this number ends so. Returns what came
-// of it: the fault, and the pixel writer after it, unless it was made or finished then.
-fn failed(
-    rt: &impl Abort,
-    alloc: Global,
-    image: &Image,
-    bad: Bad,
-) -> (Option<Error>, Option<PixelWriter<Sink>>) {
-    let sink = made::sink(rt, alloc, usize::MAX, bad);
+// Hands the image over in pieces to a writer, and returns its fault.
+fn fault_of(rt: &impl Abort, alloc: Global, image: &Image, sink: &mut Sink) -> Option<Error> {
     let mut pixels = match PixelWriter::new(alloc, image.header, image.style, sink) {
         Ok(pixels) => pixels,
-        Err(fault) => return (Some(fault), None),
+        Err(fault) => return Some(fault),
     };
     for piece in image.raw.chunks(3000) {
         if let Err(fault) = pixels.write(piece) {
-            return (Some(fault), Some(pixels));
+            assert_spent(rt, pixels);
+            return Some(fault);
         }
     }
-    (pixels.finish().err(), None)
+    pixels.finish().err()
 }
 
 // Pixels of which none comes again while it is noted: RGB chunks alone.
@@ -319,7 +360,8 @@ fn steps(alloc: Global, count: usize) -> Result<Vec<Rgba>> {
     Ok(pixels)
 }
 
-// Each call of a writer fails in turn, or takes no byte: the first is that of the header.
+// Each call of a lent writer fails in turn, or takes no byte, the first with the header, the last
+// ones in `finish`. It is the writer's last call, and a beginning of the file was sent.
 #[test]
 fn failing_writers(rt: HostRuntime) -> Result<()> {
     let alloc = rt.alloc();
@@ -337,15 +379,14 @@ fn failing_writers(rt: HostRuntime) -> Result<()> {
     ] {
         let mut bad = Bad { call: 1, end };
         for _ in 0..100 {
-            let (fault, spent) = failed(&rt, alloc, &image, bad);
+            let mut sink = made::sink(&rt, alloc, usize::MAX, bad);
+            let fault = fault_of(&rt, alloc, &image, &mut sink);
             if fault.is_none() {
                 break;
             }
             assert_fails(&rt, fault, kind);
-            if let Some(pixels) = spent {
-                let sink = assert_spent(&rt, pixels, bad.call);
-                assert!(&rt; image.file.starts_with(&sink.got));
-            }
+            assert_number(&rt, sink.calls, bad.call);
+            assert!(&rt; image.file.starts_with(&sink.got));
             bad.call = bad.call.saturating_add(1);
         }
         // The call that sends the header; two or three for each of five times at which two pieces

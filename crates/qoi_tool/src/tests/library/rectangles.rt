@@ -94,8 +94,8 @@ pub fn next_row<R: PieceReader>(pixels: &mut PixelReader<R>, row: &mut [u8]) -> 
     Ok(())
 }
 
-// Keeps the part of row k, if the area has that row.
-fn keep(tile: &mut Vec<u8>, row: &[u8], k: usize, area: Area) -> Result<(), Error>
+/// Keeps the part of row k, if the area has that row.
+pub fn keep(tile: &mut Vec<u8>, row: &[u8], k: usize, area: Area) -> Result<(), Error>
     requires { area.left + area.size ≤ length row.now }
     ensures { (stride : ℕ) (raw : List ℕ) → row.now ≡ row_bytes stride raw k
         → tile.old.items ≡ rectangle stride area.top area.left (k - area.top) area.size raw

@@ -1,11 +1,10 @@
--- Each vector stands after the one before.
+-- The second half of the vectors stands after the first.
 use Rattle.std.proofs.Common.{◌*◌, ◌/◌, arith}
-use Rattle.qoi.proofs.decoding.Vectors.{four_written, vectors_enough}
+use Rattle.qoi.proofs.decoding.Vectors.{two_written, most_by_eight}
 use Rattle.qoi.proofs.decode.output.store_run.Goals as goal
 
-pub returns-then-count-four : goal.returns-then-count-four
-returns-then-count-four g c =
-    let k = 4 * (16 / g.row.N) in
-    four_written _ c.args.at k c.args.count c.requires.channels (omega (arith, c.requires.room)) (vectors_enough g.row.N c.args.count c.requires.channels c.requires.short)
-    (c.store_four_vectors.ensures k (omega arith)) (c.store_four_vectors-then-count-four.ensures k (omega arith))
-    (c.store_four_vectors-then-count-four-2.ensures k (omega arith)) (c.store_four_vectors-then-count-four-3.ensures k (omega arith))
+pub returns-then-count-eight : goal.returns-then-count-eight
+returns-then-count-eight g c =
+    let k = 8 * (16 / g.row.N) in
+    two_written _ c.args.at k c.args.count c.requires.channels (omega (arith, c.requires.room)) (most_by_eight g.row.N c.args.count c.requires.channels c.requires.short)
+    (c.store_eight_vectors.ensures k (omega arith)) (c.store_eight_vectors-then-count-eight.ensures k (omega arith))

@@ -8,7 +8,7 @@ use Rattle.qoi.proofs.encode.blocks.fill.Goals.{then-loop-rest-test+else-has_blo
 use Rattle.qoi.proofs.encode.blocks.fill.Goals as goal
 
 pub loop-rest-init : goal.loop-rest-init
-loop-rest-init g c = record { less = inr (refl, c.args.piece.not_full); written = λ ahead n more b. b }
+loop-rest-init g c = record { less = inr (refl, c.args.piece.not_full); written = λ ahead n more whole b. b }
 
 pub loop-rest-preserved : goal.loop-rest-preserved
 loop-rest-preserved g c =
@@ -18,9 +18,9 @@ loop-rest-preserved g c =
     let size = ap (λ r. length (pixels_in r)) front in
     record {
       less = inl (elim i.less [ inl less ↦ omega (arith, step.less, size, less) | inr same ↦ omega (arith, step.less, size, same.0) ]);
-      written = λ ahead n more b. step.written ahead n more
+      written = λ ahead n more whole b. step.written ahead n more whole
           (subst (λ r. InBlocks c.args.style ahead n (pixels_in r) more c.loop-rest.table c.loop-rest.now (kept_bytes c.open.result.piece)) (sym front)
-          (subst (InBlocks c.args.style ahead n (pixels_in c.loop-rest.rest) more c.loop-rest.table c.loop-rest.now) (sym c.open.ensures) (i.written ahead n more b)));
+          (subst (InBlocks c.args.style ahead n (pixels_in c.loop-rest.rest) more c.loop-rest.table c.loop-rest.now) (sym c.open.ensures) (i.written ahead n more whole b)));
     }
 
 pub returns-clause-less : goal.returns-clause-less

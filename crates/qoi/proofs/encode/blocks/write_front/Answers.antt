@@ -1,35 +1,54 @@
 -- A block, or a group.
-use Rattle.std.proofs.Common.{◌≡◌, true, ◌++◌, take, drop, sym, ap, ◌∙◌, arith, subst, take-append-drop}
+use Rattle.std.proofs.Common.{◌≡◌, ◌<◌, true, ◌++◌, take, drop, refl, sym, ap, ◌∙◌, arith, subst, take-append-drop}
+use Rattle.std.proofs.lemmas.Bool.{eq-eqb, ne_eqb}
 use Rattle.qoi.specs.inner.block.Block.{FitsBlock, all_repeat, last_pixel}
 use Rattle.qoi.specs.inner.BlockLoop.{InBlocks}
 use Rattle.qoi.specs.inner.Piece.{kept_bytes}
 use Rattle.qoi.specs.inner.Pixels.{pixels_in}
 use Rattle.qoi.specs.inner.block.Planes.{block_pixels}
+use Rattle.qoi.specs.inner.block.Marks.{fresh_marks}
 use Rattle.qoi.proofs.encoding.blocks.FrontBlock.{repeats_first}
+use Rattle.qoi.proofs.encoding.coder.MarkedPixels.{all_unmarked}
 use Rattle.qoi.proofs.encode.blocks.write_front.Goals as goal
 
+-- no bit is set, so all repeat
 pub write_long_group-requires : goal.write_long_group-requires
 write_long_group-requires g c =
     let q = last_pixel c.args.carry.before in
+    let ps = block_pixels c.first-block.result.words in
+    let none : fresh_marks q ps ≡ 0 = sym (c.marks-marks.ensures c.args.carry.before c.first-block.ensures.changes) ∙ c.if-marks-eq0.true in
     let all : all_repeat q (take 16 (pixels_in c.args.front.raw)) ≡ true =
-    sym (ap (all_repeat q) c.first-block.ensures.pixels) ∙ sym (c.repeats.ensures c.args.carry.before c.first-block.ensures.changes) ∙ c.if-repeats.true in
+    sym (ap (all_repeat q) c.first-block.ensures.pixels) ∙ sym (all_unmarked q q ps refl) ∙ eq-eqb _ _ none in
     (omega arith, (omega arith, (omega arith, (omega arith, repeats_first (pixels_in c.args.front.raw) q c.args.front.enough all))))
 
+pub write_marked_block-requires : goal.write_marked_block-requires
+write_marked_block-requires g c =
+    let q = last_pixel c.args.carry.before in
+    let marks = c.marks-marks.ensures c.args.carry.before c.first-block.ensures.changes ∙ ap (fresh_marks q) c.first-block.ensures.pixels in
+    let some : 0 < c.marks-marks.result = omega (arith, c.if-marks-eq0.false) in
+    (omega arith, (omega arith, (omega arith, (omega arith, (omega arith, (some, (c.goes_by_marks.ensures.few c.if-goes_by_marks.true, marks)))))))
+
+pub returns-then-goes_by_marks-clause-written : goal.returns-then-goes_by_marks-clause-written
+returns-then-goes_by_marks-clause-written g c = λ ahead n more whole b.
+    c.write_marked_block.ensures.written ahead n more (omega (arith, c.goes_by_marks.ensures.later c.if-goes_by_marks.true, whole)) b
+
 pub returns-then-may_miss_blank-clause-written : goal.returns-then-may_miss_blank-clause-written
-returns-then-may_miss_blank-clause-written g c = λ ahead n more b.
+returns-then-may_miss_blank-clause-written g c = λ ahead n more whole b.
     let tight = c.may_miss_blank.ensures.tight c.if-may_miss_blank.true in
     let group = c.write_group in
     let start = subst (λ s. InBlocks s ahead n (pixels_in c.args.front.raw) more c.args.table.now c.args.carry (kept_bytes c.args.piece.piece)) tight b in
     subst (λ s. InBlocks s ahead n (pixels_in group.result.0) more group.new.table group.result.1 (kept_bytes group.result.2)) (sym tight) (group.ensures.written ahead n more start)
 
 pub returns-clause-written : goal.returns-clause-written
-returns-clause-written g c = λ ahead n more b.
+returns-clause-written g c = λ ahead n more whole b.
     let block = c.first-block.ensures in
     let before = c.args.carry.before in
+    let q = last_pixel before in
+    let ps = block_pixels c.first-block.result.words in
     let after = drop 16 (pixels_in c.args.front.raw) in
-    let fits : FitsBlock c.args.style c.args.table.now before (block_pixels c.first-block.result.words) c.first-block.result.changes = record {
+    let fits : FitsBlock c.args.style c.args.table.now before ps c.first-block.result.changes = record {
       changes = block.changes;
-      mixed = sym (c.repeats.ensures before block.changes) ∙ c.if-repeats.false;
+      mixed = sym (all_unmarked q q ps refl) ∙ ne_eqb _ _ (λ none. c.if-marks-eq0.false (c.marks-marks.ensures before block.changes ∙ none));
       no_blank = c.may_miss_blank.ensures.none before block.changes c.if-may_miss_blank.false;
     } in
     let front = sym (take-append-drop 16 (pixels_in c.args.front.raw)) ∙ ap (λ ps. ps ++ after) (sym block.pixels) in

@@ -1,5 +1,5 @@
 -- By the lemmas on rectangles.
-use Rattle.qoi.proofs.format.RectangleLaws.{rows_put, outside_put, same_picture, keeps_all, with_no_row, with_next_row, tile_stands, outside_tile}
+use Rattle.qoi.proofs.format.RectangleLaws.{rows_put, outside_put, same_picture, keeps_all, with_no_row, with_next_row, rows_grow, tile_stands, outside_tile}
 use Rattle.qoi.proofs.laws.rectangles.rows_are_put.Goals as goal
 
 pub returns : goal.returns
@@ -12,4 +12,5 @@ returns c = record {
   next_row = with_next_row;
   tile = tile_stands;
   outside = outside_tile;
+  grow = rows_grow;
 }

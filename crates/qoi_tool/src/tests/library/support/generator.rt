@@ -123,3 +123,54 @@ pub fn drawn(
     }
     Ok(pixels)
 }
+
+/// Fresh pixels with their repeats: each is one of the two of three letters that the one before
+/// isn't.
+#[derive(Drop)]
+pub struct Groups {
+    letters: [Rgba; 3],
+    letter: u32,
+    /// The pixels so far.
+    pub pixels: Vec<Rgba>,
+}
+
+impl Groups {
+    /// No pixels yet.
+    pub fn new(alloc: Global, letters: [Rgba; 3]) -> Groups {
+        Groups {
+            letters,
+            letter: 0,
+            pixels: Vec::new(alloc),
+        }
+    }
+
+    /// Adds a fresh pixel and so many repeats of it.
+    pub fn add(&mut self, numbers: &mut Numbers, repeats: usize) -> Result<()> {
+        self.letter = (self.letter % 3 + 1 + numbers.below(2)) % 3;
+        if let Some(px) = self.letters.get(self.letter as usize) {
+            let size = self.pixels.len().saturating_add(repeats).saturating_add(1);
+            self.pixels.resize(size, *px)?;
+        }
+        Ok(())
+    }
+
+    /// Adds whole blocks of sixteen pixels: up to sixteen fresh ones, of which the last is repeated
+    /// so many times; and then a block of which only the first and second of these lanes are fresh,
+    /// or a single one if both are the same.
+    pub fn add_few(
+        &mut self,
+        numbers: &mut Numbers,
+        repeats: usize,
+        first: usize,
+        second: usize,
+    ) -> Result<()> {
+        for _ in 0..15 - repeats % 16 {
+            self.add(numbers, 0)?;
+        }
+        self.add(numbers, repeats.saturating_add(first))?;
+        if first < second {
+            self.add(numbers, second - first - 1)?;
+        }
+        self.add(numbers, 15usize.saturating_sub(second))
+    }
+}

@@ -28,7 +28,7 @@ returns g c =
     let picked = c.pick.ensures ∙ ap (λ z. cond c.is_luma-luma.result z (get_or bytes (c.args.self.taken + (g.row.DONE + 1)) 0)) (ap (λ i. get_or bytes i 0) at_two)
     ∙ ap (λ z. cond c.is_luma-luma.result (get_or bytes (now.taken + 2) 0) z) (ap (λ i. get_or bytes i 0) at_one) in
     let to : c.args.self.taken + c.from.result + (g.row.DONE + 1) ≡ now.taken + 1 + c.from.result = omega arith in
-    let next = next_byte c.is_luma-luma.result bytes now.taken c.from.result c.pick.result c.from.ensures picked ∙ ap (λ i. get_or bytes i 0) (sym to) in
+    let next = next_byte c.is_luma-luma.result bytes (now.taken + 1) (now.taken + 2) c.from.result c.pick.result (omega arith) c.from.ensures picked ∙ ap (λ i. get_or bytes i 0) (sym to) in
     let new : Progress = record { last = c.after_short-last.result; taken = c.args.self.taken + c.from.result + (g.row.DONE + 1); at = now.at + c.advance.result; next = c.pick.result } in
     let second : get_or bytes (now.taken + 1) 0 ≡ get_or bytes (c.args.self.taken + (g.row.DONE + 1)) 0 = ap (λ i. get_or bytes i 0) (sym at_one) in
     fast_step now new s.count is ahead.whole (omega (arith, ahead.room_is)) room c.store_vector.auto.out (ap (λ k. now.at + k) s.size_is) (omega (arith, few)) c.put.ensures

@@ -1,9 +1,33 @@
--- Nothing stands above the channels, of which alpha may be the last pixel's.
-use Rattle.std.proofs.Common.{arith}
+-- Alpha and its share of the index position are added to what is read.
+use Rattle.std.proofs.Common.{◌≡◌, ◌∙◌, ap, arith, inl, inr, rules, slice_index, subst, sym}
+use Rattle.std.specs.Int.Bits.{bit_and}
+use Rattle.std.proofs.lemmas.Bool.{cases_lt}
+use Rattle.std.proofs.lemmas.Nat.{and_mask}
+use Rattle.qoi.specs.Qoi.{pixel}
+use Rattle.qoi.specs.inner.Hashed.{pixel_of_lanes, IsHashed}
+use Rattle.qoi.proofs.format.SamePixels.{same_pixel}
+use Rattle.qoi.proofs.format.HashedPixels.{after_rgb, after_rgba}
 use Rattle.qoi.proofs.decode.hashed.Hashed.after_full.Goals as goal
 
-pub of_lanes-requires : goal.of_lanes-requires
-of_lanes-requires c = omega (arith, c.four_lanes-four.ensures.plain)
+pub invariant_of-result : goal.invariant_of-result
+invariant_of-result c = elim (cases_lt c.args.b1 255) [
+  | inl less ↦ let is : c.args.b1 ≡ 254 = omega (arith, less, c.requires) in
+      (after_rgb c.self.inside.0 _ c.four_lanes.result _ c.read.inside.0 (c.full_kept_mask.ensures.rgb is) (c.read_mask.ensures.rgb is) c.read.invariant
+      (ap pixel_of_lanes c.read.view_is ∙ c.of_lanes-read.ensures)).is_hashed
+  | inr more ↦ let is : c.args.b1 ≡ 255 = omega (arith, more, c.requires) in
+      subst IsHashed (sym (after_rgba c.self.inside.0 _ c.read.inside.0 (c.full_kept_mask.ensures.rgba is) c.read.invariant)) c.read.invariant
+]
 
-pub of_lanes-requires-2 : goal.of_lanes-requires-2
-of_lanes-requires-2 c = c.four_lanes-four.ensures.plain
+pub returns-clause-rgb : goal.returns-clause-rgb
+returns-clause-rgb c is =
+    let read : pixel_of_lanes c.four_lanes.result ≡ pixel (slice_index c.args.bytes.now 1) (slice_index c.args.bytes.now 2) (slice_index c.args.bytes.now 3) (slice_index c.args.bytes.now 4) = search rules in
+    let with = after_rgb c.self.inside.0 _ c.four_lanes.result _ c.read.inside.0 (c.full_kept_mask.ensures.rgb is) (c.read_mask.ensures.rgb is) c.read.invariant
+    (ap pixel_of_lanes c.read.view_is ∙ c.of_lanes-read.ensures) in
+    with.pixel_is ∙ same_pixel _ _ (ap (λ p. p.r) read) (ap (λ p. p.g) read) (ap (λ p. p.b) read) (ap (λ s. (pixel_of_lanes s).a) c.self.view_is)
+
+pub returns-clause-rgba : goal.returns-clause-rgba
+returns-clause-rgba c is =
+    let lanes : pixel_of_lanes c.read.inside.0 ≡ pixel_of_lanes c.four_lanes.result =
+    ap pixel_of_lanes c.read.view_is ∙ c.of_lanes-read.ensures ∙ ap pixel_of_lanes (omega (arith, c.four_lanes.type_inv, ap (λ m. bit_and c.four_lanes.result m) (c.read_mask.ensures.rgba is), and_mask c.four_lanes.result 64)) in
+    let read : pixel_of_lanes c.four_lanes.result ≡ pixel (slice_index c.args.bytes.now 1) (slice_index c.args.bytes.now 2) (slice_index c.args.bytes.now 3) (slice_index c.args.bytes.now 4) = search rules in
+    ap pixel_of_lanes (after_rgba c.self.inside.0 _ c.read.inside.0 (c.full_kept_mask.ensures.rgba is) c.read.invariant) ∙ lanes ∙ read

@@ -30,11 +30,11 @@ other_more g c other = elim other [
 ]
 
 -- a sum of what both bytes add
-moved_by : (g : Over) (c : After-at g) (x y z k d : ℕ) → 64 ≤ c.args.b1 → x ≤ 1000 → y ≤ 1000 → z ≤ 1000 → k ≤ 1000 → d ≤ 1000 → k % 64 ≡ (3 * x + 5 * y + 7 * z) % 64
-    → d % 2 ^ 8 ≡ z % 2 ^ 8 → c.at.result + more g c ≡ 4 * k + x * 2 ^ 24 + y * 2 ^ 40 + d * 2 ^ 56 → Sum c.self.inside.0 (total g c) x y z
-moved_by g c x y z k d low lx ly lz lk ld position blue e =
+moved_by : (g : Over) (c : After-at g) (x y z k : ℕ) → 64 ≤ c.args.b1 → x ≤ 1000 → y ≤ 1000 → z ≤ 1000 → k % 64 ≡ (3 * x + 5 * y + 7 * z) % 64
+    → c.at.result + more g c ≡ x + y * 2 ^ 16 + z * 2 ^ 32 + 4 * k * 2 ^ 56 → Sum c.self.inside.0 (total g c) x y z
+moved_by g c x y z k low lx ly lz position e =
     let all = ap (λ m. bit_and c.self.inside.0 m) (c.kept_mask.ensures.other low) in
-    sum_is c.self.inside.0 (total g c) x y z k d (omega arith) c.self.invariant lx ly lz lk ld position blue (omega (arith, all, e))
+    sum_is c.self.inside.0 (total g c) x y z k (omega arith) c.self.invariant lx ly lz position (omega (arith, all, e))
 
 -- a difference
 diff_sum : (g : Over) (c : After-at g) → 64 ≤ c.args.b1 → c.args.b1 < 128
@@ -42,8 +42,8 @@ diff_sum : (g : Over) (c : After-at g) → 64 ≤ c.args.b1 → c.args.b1 < 128
 diff_sum g c low high =
     let d = (c.at.ensures.other low).diff low high in
     let m = other_more g c (inl high) in
-    moved_by g c _ _ _ ((3 * (c.args.b1 / 16 % 4 + 254) + 5 * (c.args.b1 / 4 % 4 + 254) + 7 * (c.args.b1 % 4 + 254)) % 64) ((c.args.b1 % 4 + 254) % 2 ^ 8) low
-    (omega arith) (omega arith) (omega arith) (omega arith) (omega arith) (omega arith) (omega arith) (omega (arith, d, m))
+    moved_by g c _ _ _ ((3 * (c.args.b1 / 16 % 4 + 254) + 5 * (c.args.b1 / 4 % 4 + 254) + 7 * (c.args.b1 % 4 + 254)) % 64) low
+    (omega arith) (omega arith) (omega arith) (omega arith) (omega (arith, d, m))
 
 -- a luma
 luma_sum : (g : Over) (c : After-at g) → 128 ≤ c.args.b1 → c.args.b1 < 192
@@ -54,8 +54,8 @@ luma_sum g c low high =
     let n = luma_more g c low high ∙ c.second_added.ensures in
     let byte = c.ranges.b2.fits in
     moved_by g c _ _ _ ((3 * (c.args.b1 % 64 + 216) + 5 * (c.args.b1 % 64 + 224) + 7 * (c.args.b1 % 64 + 216)) % 64
-    + (3 * (c.args.b2 / 16) + 5 * 0 + 7 * (c.args.b2 % 16)) % 64) ((c.args.b1 % 64 + 216) % 2 ^ 8 + c.args.b2 % 16) first
-    (omega (arith, byte)) (omega arith) (omega arith) (omega arith) (omega arith) (omega arith) (omega arith) (omega (arith, d, n))
+    + (3 * (c.args.b2 / 16) + 5 * 0 + 7 * (c.args.b2 % 16)) % 64) first
+    (omega (arith, byte)) (omega arith) (omega arith) (omega arith) (omega (arith, d, n))
 
 -- a run adds nothing
 run_sum : (g : Over) (c : After-at g) → 192 ≤ c.args.b1 → Sum c.self.inside.0 (total g c) 0 0 0
@@ -63,7 +63,7 @@ run_sum g c low =
     let first : 64 ≤ c.args.b1 = omega (arith, low) in
     let d = (c.at.ensures.other first).run low in
     let m = other_more g c (inr low) in
-    moved_by g c 0 0 0 0 0 first (omega arith) (omega arith) (omega arith) (omega arith) (omega arith) (omega arith) (omega arith) (omega (arith, d, m))
+    moved_by g c 0 0 0 0 first (omega arith) (omega arith) (omega arith) (omega arith) (omega (arith, d, m))
 
 -- for an index position the sum is what it holds
 place_sum : (g : Over) (c : After-at g) → c.args.b1 < 64 → total g c ≡ c.at.result

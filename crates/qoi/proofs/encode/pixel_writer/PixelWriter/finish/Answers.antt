@@ -1,36 +1,34 @@
--- All raw bytes came.
-use Rattle.std.proofs.Common.{◌≡◌, ◌+◌, ◌%◌, ◌++◌, [], length, refl, sym, ap, ◌∙◌, subst, arith, append-nil}
+-- The rest was sent, or refused.
+use Rattle.std.proofs.Common.{◌≡◌, ◌-◌, length, inl, inr, sym, ap, ◌∙◌, subst, arith}
+use Rattle.std.proofs.lemmas.Result.{err_from_is_err_and}
 use Rattle.std.specs.Io.KnownBytes.{Appends}
-use Rattle.qoi.specs.Qoi.{IsValid, channels_number, file}
-use Rattle.qoi.specs.Raw.{pixels_of, image_byte_count}
-use Rattle.qoi.specs.declared.encode.pixel_writer.kept.Kept.{Kept}
-use Rattle.qoi.specs.pieces.WriterPieces.{ImageBetween}
-use Rattle.qoi.proofs.FileOf.{file_of, sends_file}
+use Rattle.qoi.specs.declared.error.Error.TheVariants.{InvalidImageLength}
+use Rattle.qoi.specs.declared.header.Header.{Header}
+use Rattle.qoi.specs.Raw.{image_byte_count}
+use Rattle.qoi.specs.Sent.{SendsFile}
 use Rattle.qoi.proofs.encode.pixel_writer.PixelWriter.finish.Goals as goal
 
-pub write_any-requires-clause-whole : goal.write_any-requires-clause-whole
-write_any-requires-clause-whole g c =
-    let p = c.args.self in
-    let none : p.left ≡ 0 = omega (arith, c.if-self-gt0.false) in
-    ap (λ k. k % channels_number p.header.channels) (ap (λ (k : Kept). length k.held) c.deref_mut.ensures.value ∙ (let same : length p.kept.value.held ≡ length p.kept.value.held + p.left = omega (arith, none) in same))
-    ∙ p.whole c.if-self.false
+pub returns-in_err-send_rest-clause-refused : goal.returns-in_err-send_rest-clause-refused
+returns-in_err-send_rest-clause-refused g c = λ e before t.
+    let p = err_from_is_err_and c.from_residual.result c.from_residual.ensures.1 in
+    let error = c.in_err-send_rest.field-0.0 in
+    let left = c.args.self.left in
+    rw (p.1, p.2) (elim c.in_err-send_rest.ensures.missing [
+      | inl fault ↦ inl (fault, omega (arith, t.size, (c.in_err-send_rest.ensures.part e before t fault).0))
+      | inr few ↦ inr (
+        subst (λ (h : Header). error ≡ InvalidImageLength (image_byte_count h - left) h.width h.height) t.header_is few.0
+            ∙ ap (λ n. InvalidImageLength n e.header.width e.header.height)
+            (let came : image_byte_count e.header - left ≡ length e.raw = omega (arith, t.size) in came),
+        omega (arith, t.size, few.1),
+      )
+    ])
 
 pub returns-clause-sent : goal.returns-clause-sent
 returns-clause-sent g c = λ e before t.
-    let p = c.args.self in
-    let n = channels_number p.header.channels in
-    let none : p.left ≡ 0 = omega (arith, c.if-self-gt0.false) in
-    let size : length e.raw ≡ image_byte_count e.header = omega (arith, t.size, none) in
-    let last = t.writes [] (sym none) (λ i. omega arith) in
-    let same = subst (λ x. ImageBetween (record e { raw = x }) before (g.W.Write.contents p.writer) (pixels_of n (p.kept.value.held ++ [])) p.kept.value.pending []) (append-nil e.raw) last in
-    let held = subst (λ (k : Kept). ImageBetween e before (g.W.Write.contents p.writer) (pixels_of n k.held) k.pending []) (sym c.deref_mut.ensures.value)
-    (subst (λ x. ImageBetween e before (g.W.Write.contents p.writer) (pixels_of n x) p.kept.value.pending []) (append-nil p.kept.value.held) same) in
-    let wrote = c.in_ok-write_any.ensures.written e before (sym t.style_is) held in
-    let valid : IsValid e.header = subst IsValid t.header_is p.valid in
-    let theirs = file_of e.header e.raw valid size e.style t.are wrote.0 wrote.1 in
-    (length (file e.header wrote.0), sends_file e (file e.header wrote.0) before (g.W.Write.contents c.write_any.new.writer) _ theirs refl wrote.2)
+    let sent = c.in_ok-send_rest.ensures.sent e before t in
+    (sent.0, subst (λ w. SendsFile e before w sent.0) (sym (ap (λ s. g.W.Write.contents s.writer) c.pixels.view_is)) sent.1)
 
 pub returns-clause-file : goal.returns-clause-file
 returns-clause-file g c = λ e before t.
     let sent = returns-clause-sent g c e before t in
-    subst (Appends before (g.W.Write.contents c.write_any.new.writer)) sent.1.is sent.1.sent
+    subst (Appends before (g.W.Write.contents c.pixels.inside.writer)) sent.1.is sent.1.sent

@@ -25,14 +25,13 @@ invariant_of-result g c =
     let h = c.in_ok-header.header in
     let valid = (says g (goal.at.invariant_of-result g c).After-n_bytes).1 in
     let count = c.n_bytes.ensures ∙ capped_is h valid in
-    let none : length c.in_ok-kept.kept.value.held ≡ 0 = ap (λ (k : Kept). length k.held) c.in_ok-kept.ensures.ok ∙ ap length c.new.ensures.held in
-    record {
-      valid = valid;
-      left_of = omega (arith, count);
-      opaque = λ _. ap (λ (k : Kept). k.pending.last.px.a) c.in_ok-kept.ensures.ok ∙ ap (λ (p : RgbaPixel). p.a) c.new.ensures.last.0;
-      whole = λ _. ap (λ k. k % channels_number h.channels) (let all : length c.in_ok-kept.kept.value.held + c.n_bytes.result ≡ image_byte_count h = omega (arith, none, count) in all)
-          ∙ mul-mod_left (pixel_count h) (channels_number h.channels);
-    }
+    let none : length c.in_ok-kept.kept.value.held ≡ 0 = ap (λ (k : Kept). length k.held) c.in_ok-kept.ensures.ok ∙ ap length c.new.ensures.held in (
+      valid,
+      omega (arith, count),
+      λ _. ap (λ (k : Kept). k.pending.last.px.a) c.in_ok-kept.ensures.ok ∙ ap (λ (p : RgbaPixel). p.a) c.new.ensures.last.0,
+      λ _. ap (λ k. k % channels_number h.channels) (let all : length c.in_ok-kept.kept.value.held + c.n_bytes.result ≡ image_byte_count h = omega (arith, none, count) in all)
+          ∙ mul-mod_left (pixel_count h) (channels_number h.channels),
+    )
 
 pub returns-clause-made : goal.returns-clause-made
 returns-clause-made g c =

@@ -5,6 +5,7 @@ use Rattle.qoi.specs.Qoi.{IsValid, AreBytes, channels_number, file}
 use Rattle.qoi.specs.Raw.{pixels_of}
 use Rattle.qoi.specs.declared.encode.pixel_writer.kept.Kept.{Kept}
 use Rattle.qoi.specs.EncoderState.{EncoderState}
+use Rattle.qoi.specs.pieces.PixelWriter.{HasTaken}
 use Rattle.qoi.specs.pieces.WriterPieces.{ImageBetween}
 use Rattle.qoi.proofs.FileOf.{file_of, sends_part}
 use Rattle.qoi.proofs.decoding.StreamReads.{bytes_append}
@@ -14,12 +15,12 @@ use Rattle.qoi.proofs.encode.pixel_writer.PixelWriter.write.Goals as goal
 
 -- the image with other bytes after these, before them
 starts : (g : Over) (c : After-deref_mut-kept g) (e : EncoderState) (before : _) (more : _)
-    → ImageBetween (record e { raw = e.raw ++ (c.args.raw.now ++ more) }) before (g.W.Write.contents c.args.self.now.writer)
-    (pixels_of (channels_number c.args.self.now.header.channels) (c.args.self.now.kept.value.held ++ (c.args.raw.now ++ more))) c.args.self.now.kept.value.pending []
-    → ImageBetween (record e { raw = (e.raw ++ c.args.raw.now) ++ more }) before (g.W.Write.contents c.args.self.now.writer)
-    (pixels_of (channels_number c.args.self.now.header.channels) (c.deref_mut-kept.result.now.held ++ (c.args.raw.now ++ more))) c.deref_mut-kept.result.now.pending []
+    → ImageBetween (record e { raw = e.raw ++ (c.args.raw.now ++ more) }) before (g.W.Write.contents c.self.inside.writer)
+    (pixels_of (channels_number c.self.inside.header.channels) (c.self.inside.kept.value.held ++ (c.args.raw.now ++ more))) c.self.inside.kept.value.pending []
+    → ImageBetween (record e { raw = (e.raw ++ c.args.raw.now) ++ more }) before (g.W.Write.contents c.self.inside.writer)
+    (pixels_of (channels_number c.self.inside.header.channels) (c.deref_mut-kept.result.now.held ++ (c.args.raw.now ++ more))) c.deref_mut-kept.result.now.pending []
 starts g c e before more b =
-    let p = c.args.self.now in
+    let p = c.self.inside in
     let raw = c.args.raw.now in
     let n = channels_number p.header.channels in
     subst (λ (k : Kept). ImageBetween (record e { raw = (e.raw ++ raw) ++ more }) before (g.W.Write.contents p.writer) (pixels_of n (k.held ++ (raw ++ more))) k.pending [])
@@ -28,8 +29,9 @@ starts g c e before more b =
     (sym (append_assoc e.raw raw more)) b)
 
 pub returns-in_err-take_any-clause-refused : goal.returns-in_err-take_any-clause-refused
-returns-in_err-take_any-clause-refused g c = λ e before t.
-    let p = c.args.self.now in
+returns-in_err-take_any-clause-refused g c = λ e before taken.
+    let t = subst (HasTaken g.W.Write.contents e before) (sym c.self.view_is) taken in
+    let p = c.self.inside in
     let raw = c.args.raw.now in
     let n = channels_number p.header.channels in
     let err = err_from_is_err_and c.from_residual.result c.from_residual.ensures.1 in
@@ -41,21 +43,23 @@ returns-in_err-take_any-clause-refused g c = λ e before t.
         header_is = t.header_is;
         style_is = t.style_is;
         fails = refl;
+        size = omega (arith, t.size, length-append e.raw raw);
         part = λ more size are.
             let all = record e { raw = (e.raw ++ raw) ++ more } in
             let left : length (raw ++ more) ≡ p.left = omega (arith, size, length-append (e.raw ++ raw) more, length-append e.raw raw, length-append raw more, t.size) in
             let start = starts g (goal.at.returns-in_err-take_any-clause-refused g c).After-deref_mut-kept e before more (t.writes (raw ++ more) left (bytes_append raw more raw_are are)) in
             let began = r.1 all before more (sym t.style_is) start in
             let all_are = bytes_append (e.raw ++ raw) more (bytes_append e.raw raw t.are raw_are) are in
-            let valid : IsValid e.header = subst IsValid t.header_is p.valid in
+            let valid : IsValid e.header = subst IsValid t.header_is c.self.invariant.0 in
             sends_part all (file e.header began.0) before (g.W.Write.contents c.take_any.new.writer)
             (file_of e.header ((e.raw ++ raw) ++ more) valid size e.style all_are began.0 began.1) began.2;
       },
     ))
 
 pub returns-clause-taken : goal.returns-clause-taken
-returns-clause-taken g c = λ e before t.
-    let p = c.args.self.now in
+returns-clause-taken g c = λ e before taken.
+    let t = subst (HasTaken g.W.Write.contents e before) (sym c.self.view_is) taken in
+    let p = c.self.inside in
     let raw = c.args.raw.now in
     let n = channels_number p.header.channels in
     let raw_are : AreBytes raw = λ i. omega (arith, c.type_inv.raw i) in

@@ -20,6 +20,7 @@ loop-pixels-preserved g c =
     }
 
 pub returns : goal.returns
+unfolding file_image
 returns g c = λ h is.
     let i = c.loop-pixels.invariant in
     let header = c.into_pixels-pixels.result.header in

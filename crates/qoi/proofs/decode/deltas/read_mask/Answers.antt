@@ -1,0 +1,11 @@
+-- Each entry of the table is right.
+use Rattle.std.proofs.Common.{eqb, eqb-true, arith, refl, ◌-◌, ◌^◌}
+use Rattle.qoi.specs.declared.decode.deltas.TheConstants.{BYTE_TABLES}
+use Rattle.qoi.proofs.format.Entries.{entry}
+use Rattle.qoi.proofs.decode.deltas.read_mask.Goals as goal
+
+pub returns : goal.returns
+returns c = record {
+  rgb = λ is. eqb-true _ _ (entry BYTE_TABLES (λ b x. eqb x (2 ^ 48 - 1)) 1028 254 1 c.args.b1 _ refl refl (omega (arith, is)) (omega (arith, is)) (omega arith));
+  rgba = λ is. eqb-true _ _ (entry BYTE_TABLES (λ b x. eqb x (2 ^ 64 - 1)) 1028 255 1 c.args.b1 _ refl refl (omega (arith, is)) (omega (arith, is)) (omega arith));
+}

@@ -1,0 +1,36 @@
+-- The image is read whole, and the places are places of it.
+use Rattle.std.proofs.Common.{sym, ap, subst, inl, length, arith}
+use Rattle.std.proofs.lemmas.Result.{err_from_is_err_and}
+use Rattle.qoi.specs.Qoi.{pixel_count}
+use Rattle.qoi.specs.pieces.RowIndex.{ArePlaces}
+use Rattle.qoi.proofs.decoding.RowIndexes.{no_places, still_going, refused_header, row_index, row_index_then, stands_whole}
+use Rattle.qoi.proofs.decode.pixel_reader.row_index.RowIndex.new.Goals as goal
+
+pub loop-k-init : goal.loop-k-init
+loop-k-init c =
+    let h = c.in_ok-header.header in
+    record {
+      reads = c.in_ok-pixels.ensures.file h (sym c.in_ok-header.ensures.read);
+      are = subst (ArePlaces (pixel_count h) c.args.file.now) (sym c.in_ok-places.ensures.items) (no_places (pixel_count h) c.args.file.now);
+      few = omega (arith, ap length c.in_ok-places.ensures.items);
+    }
+
+pub keep_place-requires : goal.keep_place-requires
+keep_place-requires c =
+    let h = c.in_ok-header.header in
+    still_going h.channels h c.args.file.now c.skip_to.new.pixels (c.in_ok-skip_to.ensures.file h.channels h c.args.file.now c.loop-k.invariant.reads)
+
+pub returns-clause-index : goal.returns-clause-index
+returns-clause-index c =
+    let h = c.in_ok-header.header in
+    let read = c.in_ok-skip_to-2.ensures.file h.channels h c.args.file.now c.loop-k.invariant.reads in
+    row_index h c.args.file.now c.loop-k.places.items (sym c.in_ok-header.ensures.read) c.loop-k.invariant.are
+    (stands_whole h.channels h c.args.file.now c.skip_to-2.new.pixels read (omega (arith, c.in_ok-skip_to-2.ensures.most)))
+
+pub returns-clause-index_then : goal.returns-clause-index_then
+returns-clause-index_then c more = row_index_then c.args.file.now more c.loop-k.places.items (returns-clause-index c)
+
+pub returns-in_err-header-clause-refused : goal.returns-in_err-header-clause-refused
+returns-in_err-header-clause-refused c =
+    let p = err_from_is_err_and c.from_residual.result c.from_residual.ensures.1 in
+    rw (p.1, p.2) (inl (refused_header _ _ (sym c.in_err-header.ensures.read)))

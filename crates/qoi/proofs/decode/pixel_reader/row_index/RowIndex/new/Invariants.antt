@@ -1,0 +1,12 @@
+-- The reader is one of the file's image, and the places so far are places of it, one for each turn at most.
+use Rattle.std.proofs.Common.{◌≤◌, length}
+use Rattle.qoi.specs.Qoi.{pixel_count}
+use Rattle.qoi.specs.pieces.RowIndex.{ArePlaces, ReadsFile}
+use Rattle.qoi.proofs.decode.pixel_reader.row_index.RowIndex.new.Given as goal
+
+abbrev pub invariant-loop-k : goal.invariant-loop-k
+invariant-loop-k l = record {
+  reads : ReadsFile l.header.channels l.header l.file l.pixels;
+  are : ArePlaces (pixel_count l.header) l.file l.places.items;
+  few : length l.places.items ≤ l.k;
+}

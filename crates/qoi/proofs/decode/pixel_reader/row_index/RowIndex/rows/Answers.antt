@@ -1,0 +1,23 @@
+-- The image is that of the file, of so many bytes, in the file's own channels.
+use Rattle.std.proofs.Common.{◌≡◌, Some, IfOk, sym, ap, subst, drop}
+use Rattle.qoi.specs.declared.header.Header.{Header}
+use Rattle.qoi.specs.Images.{file_image, image_by}
+use Rattle.qoi.specs.Qoi.{header_size}
+use Rattle.qoi.specs.pieces.PixelReader.{HasRows}
+use Rattle.qoi.specs.pieces.RowIndex.{file_decoder, row_size}
+use Rattle.qoi.proofs.decoding.RowIndexes.{image_size}
+use Rattle.qoi.proofs.decode.pixel_reader.row_index.RowIndex.rows.Goals as goal
+
+pub returns-clause-rows : goal.returns-clause-rows
+returns-clause-rows c h is index =
+    let file = c.args.file.now in
+    let same : c.in_ok-header.header ≡ h = cc (c.in_ok-header.ensures.read, is) in
+    subst (λ (z : Header). IfOk c.rows_in.result (λ p. HasRows (file_decoder z.channels h file) (Some (drop header_size file)) (Some p.reader) (row_size z.channels h) c.args.first p)) same
+    (c.rows_in.ensures.rows h is index)
+
+pub returns-clause-image : goal.returns-clause-image
+unfolding file_image
+returns-clause-image c h is = sym (ap (λ r. image_by r (drop header_size c.args.file.now)) is)
+
+pub returns-clause-size : goal.returns-clause-size
+returns-clause-size c h is index = image_size h _ _ is index

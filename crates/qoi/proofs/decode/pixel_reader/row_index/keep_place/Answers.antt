@@ -1,0 +1,12 @@
+-- One place more.
+use Rattle.std.proofs.Common.{sym, subst}
+use Rattle.qoi.specs.Qoi.{pixel_count}
+use Rattle.qoi.specs.pieces.RowIndex.{ArePlaces}
+use Rattle.qoi.proofs.decoding.RowIndexes.{one_place_more}
+use Rattle.qoi.proofs.decode.pixel_reader.row_index.keep_place.Goals as goal
+
+pub returns-in_ok-push-clause-places : goal.returns-in_ok-push-clause-places
+returns-in_ok-push-clause-places c channels h reads are =
+    let n = pixel_count h in
+    subst (ArePlaces n c.args.file.now) (sym c.in_ok-push.ensures.items)
+    (one_place_more n c.args.file.now c.args.places.now.items c.of.result are (c.of.ensures channels h reads))

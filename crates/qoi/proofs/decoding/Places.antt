@@ -1,0 +1,191 @@
+-- Places in the image of a file, and the readers that go on there.
+use Rattle.std.proofs.Common.{◌≡◌, ◌≤◌, ◌<◌, ◌+◌, ◌*◌, ◌/◌, ◌%◌, ◌∙◌, ℕ, List, ◌++◌, length, drop, reverse, replicate, Some, Result, Ok, Err, IfOk, refl, sym, ap, subst, arith, inl, inr, [], append_assoc, length-append, length-drop, length-take}
+use Rattle.std.proofs.lemmas.List.{length-reverse, drop_at, drop-drop, drop-append-le}
+use Rattle.std.proofs.lemmas.Bool.{cases_lt}
+use Rattle.std.specs.Io.KnownBytes.{Consumes}
+use Rattle.qoi.specs.declared.error.Error.{Error}
+use Rattle.qoi.specs.declared.header.Header.{Header}
+use Rattle.qoi.specs.declared.types.Channels.{Channels}
+use Rattle.qoi.specs.declared.types.Channels.TheVariants.{Rgb, Rgba}
+use Rattle.qoi.specs.Qoi.{RgbaPixel, previous, channels_number, pixel_count, run_max, header_of, header_size, chunk_bytes, then_chunks}
+use Rattle.qoi.specs.Raw.{IsChannels, byte_count, output}
+use Rattle.qoi.specs.inner.Hashed.{pixel_of_lanes, HoldsSeen}
+use Rattle.qoi.specs.pieces.PixelReader.{PixelsState, pixels_left, HasGiven}
+use Rattle.qoi.specs.pieces.ReaderPieces.{kept, copies, DecoderAfter, GivesPieces}
+use Rattle.qoi.specs.pieces.RowIndex.{PlaceState, StandsAt, ReadsFile, IsPlaceOf, GoesOnAt, file_decoder}
+use Rattle.qoi.proofs.format.HeaderBytes.{header_front}
+use Rattle.qoi.proofs.format.WholePixels.{by_channels, whole_pixels, length-output}
+use Rattle.qoi.proofs.decoding.ImageSize.{channels_are}
+use Rattle.qoi.proofs.decoding.PieceSteps.{none_kept, kept_long, gone_count}
+use Rattle.qoi.proofs.decoding.PixelPieces.{byte_bounds, has_given}
+
+-- a header has its bytes
+pub header_fits : (file : List ℕ) (h : Header) → header_of file ≡ Ok h → header_size ≤ length file
+header_fits file h is = omega (arith, (header_front file h is).0, length-take header_size file)
+
+-- the copies of a run's pixel
+copies_of : (c run last m : ℕ) (p : RgbaPixel) → m ≡ run / c → p ≡ pixel_of_lanes last → replicate m p ≡ copies c run last
+copies_of c run last m p many is = ap (λ k. replicate k p) many ∙ ap (replicate (run / c)) is
+
+-- the place behind what a reader keeps is one of the file
+pub place_stands : (channels : Channels) (h : Header) (file : List ℕ) (p : PixelsState (List ℕ)) (m : PlaceState) → IsPlaceOf file p m → ReadsFile channels h file p
+    → StandsAt (pixel_count h) file m
+unfolding ReadsFile HasGiven
+place_stands channels h file p m s (is, given, r) =
+    let c = channels_number channels in
+    let f = channels_number h.channels in
+    let is_c = channels_are channels c refl in
+    let own : channels_number p.channels ≡ c = ap channels_number r.channels in
+    let (gone, stands, so_far) = r.pieces.goes_on s.some in
+    let run : m.run ≡ p.pieces.run / c = s.run ∙ ap (λ k. p.pieces.run / k) own in
+    let left : m.left ≡ p.pieces.undecoded / c = s.left ∙ ap (λ k. p.pieces.undecoded / k) own in
+    let whole : p.pieces.undecoded % c ≡ 0 = ap (λ k. p.pieces.undecoded % k) (sym own) ∙ s.whole in
+    let some : p.pieces.undecoded ≡ c * m.left = whole_pixels c p.pieces.undecoded is_c whole ∙ ap (λ k. c * k) (sym left) in
+    let size : length (given ++ kept p.pieces) + p.pieces.undecoded ≡ c * pixel_count h =
+    omega (arith, r.pieces.size, length-append given (kept p.pieces), kept_long p.pieces r.pieces.within) in
+    record {
+      cs = stands.cs;
+      rest = p.reader;
+      gone = gone;
+      chunks = stands.chunks;
+      split = stands.taken;
+      at = omega (arith, s.at, header_fits file h is, length-drop header_size file, ap length stands.taken, length-append (chunk_bytes stands.cs) p.reader);
+      pixels = stands.pixels ∙ ap (λ z. z ++ gone) (sym (copies_of c p.pieces.run p.pieces.last m.run m.last run s.last));
+      table = s.table (then_chunks [] stands.cs) (subst (HoldsSeen p.pieces.table) (sym stands.pixels) stands.table_is);
+      last = s.last ∙ stands.last_is ∙ ap previous (sym stands.pixels);
+      left = gone_count f c (pixel_count h) m.left gone (given ++ kept p.pieces) p.pieces.undecoded is_c so_far size some;
+    }
+
+-- the bytes of all pixels are those before the place and behind it
+all_bytes : (c gone left n given undecoded : ℕ) → IsChannels c → given ≡ c * gone → undecoded ≡ left * c → gone + left ≡ n → given + undecoded ≡ c * n
+all_bytes c gone left n given undecoded is g u all =
+    by_channels (λ k. given ≡ k * gone → undecoded ≡ left * k → given + undecoded ≡ k * n) is (λ a b. omega (arith, a, b, all)) (λ a b. omega (arith, a, b, all)) g u
+
+-- a run in bytes and back
+run_back : (c run bytes : ℕ) → IsChannels c → bytes ≡ run * c → run ≡ bytes / c
+run_back c run bytes is e = by_channels (λ k. bytes ≡ run * k → run ≡ bytes / k) is (λ a. omega (arith, a)) (λ a. omega (arith, a)) e
+
+-- fewer pixels have fewer bytes, and some have some
+fewer_bytes : (c run left bytes undecoded : ℕ) → IsChannels c → bytes ≡ run * c → undecoded ≡ left * c → run < left → bytes < undecoded
+fewer_bytes c run left bytes undecoded is a b less =
+    by_channels (λ k. bytes ≡ run * k → undecoded ≡ left * k → bytes < undecoded) is (λ p q. omega (arith, p, q, less)) (λ p q. omega (arith, p, q, less)) a b
+
+-- the file behind the place is the rest of its chunks
+rest_at : (file : List ℕ) (n : ℕ) (m : PlaceState) (p : StandsAt n file m) → drop m.at file ≡ p.rest
+rest_at file n m p =
+    ap (λ k. drop k file) p.at ∙ sym (drop-drop (length (chunk_bytes p.cs)) header_size file)
+    ∙ ap (drop (length (chunk_bytes p.cs))) p.split ∙ drop_at (chunk_bytes p.cs) p.rest (length (chunk_bytes p.cs)) refl
+
+-- a reader that goes on at a place of the file is one of its image
+pub place_resumes : (channels : Channels) (h : Header) (file : List ℕ) (m : PlaceState) (q : PixelsState (List ℕ)) → GoesOnAt channels h (drop m.at file) m q
+    → header_of file ≡ Ok h → StandsAt (pixel_count h) file m → ReadsFile channels h file q
+unfolding ReadsFile
+place_resumes channels h file m q s is p =
+    let c = channels_number channels in
+    let f = channels_number h.channels in
+    let n = pixel_count h in
+    let is_c = channels_are channels c refl in
+    let start = Some (drop header_size file) in
+    let given = output f c (reverse p.gone) in
+    let reader : q.reader ≡ p.rest = s.reader ∙ rest_at file n m p in
+    let same : replicate m.run m.last ≡ copies c q.pieces.run q.pieces.last = copies_of c q.pieces.run q.pieces.last m.run m.last (run_back c m.run q.pieces.run is_c s.run) (sym s.last) in
+    let all : then_chunks [] p.cs ≡ copies c q.pieces.run q.pieces.last ++ p.gone = p.pixels ∙ ap (λ z. z ++ p.gone) same in
+    let after : DecoderAfter (Consumes start (Some q.reader)) q.pieces.table q.pieces.last (copies c q.pieces.run q.pieces.last ++ p.gone) = record {
+      cs = p.cs;
+      chunks = p.chunks;
+      pixels = all;
+      taken = p.split ∙ ap (λ z. chunk_bytes p.cs ++ z) (sym reader);
+      table_is = subst (HoldsSeen q.pieces.table) all (s.table (then_chunks [] p.cs) p.table);
+      last_is = s.last ∙ p.last ∙ ap previous all;
+    } in
+    let size : length given ≡ c * length p.gone = length-output f c (reverse p.gone) is_c ∙ ap (λ k. c * k) (length-reverse p.gone) in
+    let more : q.pieces.run < q.pieces.undecoded = fewer_bytes c m.run m.left q.pieces.run q.pieces.undecoded is_c s.run s.left s.behind in
+    let pieces : GivesPieces f c n start (Some q.reader) given q.pieces = record {
+      within = s.within;
+      size = omega (arith, all_bytes c (length p.gone) m.left n (length given) q.pieces.undecoded is_c size s.left p.left, s.none);
+      goes_on = λ some. (p.gone, after, none_kept q.pieces given s.none);
+      behind = λ some. more;
+      ends = λ none. absurd (omega (arith, none, more));
+    } in
+    (is, given, has_given (file_decoder channels h file) start (Some q.reader) given q pieces s.header s.channels s.going (byte_bounds h channels s.valid).0)
+
+-- the place stands in the file
+pub place_within : (h : Header) (file : List ℕ) (m : PlaceState) → header_of file ≡ Ok h → StandsAt (pixel_count h) file m → (m.at ≤ length file) × (m.left ≤ pixel_count h)
+place_within h file m is p = (
+  omega (arith, p.at, header_fits file h is, length-drop header_size file, ap length p.split, length-append (chunk_bytes p.cs) p.rest),
+  omega (arith, p.left),
+)
+
+-- it is one of a longer file, too
+pub stands_then : (n : ℕ) (file more : List ℕ) (m : PlaceState) → header_size ≤ length file → StandsAt n file m → StandsAt n (file ++ more) m
+stands_then n file more m long p = record {
+  cs = p.cs;
+  rest = p.rest ++ more;
+  gone = p.gone;
+  chunks = p.chunks;
+  split = drop-append-le header_size file more long ∙ ap (λ z. z ++ more) p.split ∙ append_assoc (chunk_bytes p.cs) p.rest more;
+  at = p.at;
+  pixels = p.pixels;
+  table = p.table;
+  last = p.last;
+  left = p.left;
+}
+
+-- what is left at a place, in bytes
+left_at : (channels : Channels) (h : Header) (rest : List ℕ) (m : PlaceState) (q : PixelsState (List ℕ)) → GoesOnAt channels h rest m q → pixels_left q ≡ m.left * channels_number channels
+unfolding pixels_left
+left_at channels h rest m q s = omega (arith, s.none, s.left)
+
+-- the same of a reader that may be refused
+pub goes_on_in_file : (channels : Channels) (h : Header) (file : List ℕ) (m : PlaceState) (r : Result (PixelsState (List ℕ)) Error) → IfOk r (GoesOnAt channels h (drop m.at file) m)
+    → header_of file ≡ Ok h → StandsAt (pixel_count h) file m → IfOk r (ReadsFile channels h file)
+goes_on_in_file channels h file m (Ok q) s is p = place_resumes channels h file m q s is p
+goes_on_in_file channels h file m (Err e) s is p = tt
+
+pub goes_on_left : (channels : Channels) (h : Header) (rest : List ℕ) (m : PlaceState) (r : Result (PixelsState (List ℕ)) Error) → IfOk r (GoesOnAt channels h rest m)
+    → IfOk r (λ p. pixels_left p ≡ m.left * channels_number channels)
+goes_on_left channels h rest m (Ok q) s = left_at channels h rest m q s
+goes_on_left channels h rest m (Err e) s = tt
+
+-- pixels of a place in bytes: whole ones, no more than the image has, and a run of one chunk at most
+pub record PlaceBytes (channels : Channels) (h : Header) (run left : ℕ) : Type 0 where
+  pub most : left * channels_number channels ≤ byte_count h (channels_number channels)
+  pub whole : (left * channels_number channels) % channels_number channels ≡ 0
+  pub run_whole : (run * channels_number channels) % channels_number channels ≡ 0
+  pub run_short : run * channels_number channels ≤ channels_number channels * run_max
+  pub behind : run * channels_number channels < left * channels_number channels
+
+pub place_bytes : (channels : Channels) (h : Header) (run left : ℕ) → run < left → run ≤ run_max → left ≤ pixel_count h → PlaceBytes channels h run left
+place_bytes Rgb h run left behind short most = record {
+  most = omega (arith, most);
+  whole = omega arith;
+  run_whole = omega arith;
+  run_short = omega (arith, short);
+  behind = omega (arith, behind);
+}
+place_bytes Rgba h run left behind short most = record {
+  most = omega (arith, most);
+  whole = omega arith;
+  run_whole = omega arith;
+  run_short = omega (arith, short);
+  behind = omega (arith, behind);
+}
+
+-- and back: bytes of whole pixels
+pub record PlacePixels (c run undecoded : ℕ) : Type 0 where
+  pub behind : run / c < undecoded / c
+  pub short : run / c ≤ run_max
+
+pub place_pixels : (c run undecoded : ℕ) → IsChannels c → undecoded % c ≡ 0 → run % c ≡ 0 → run ≤ c * run_max → (0 < run → run < undecoded) → 0 < undecoded → PlacePixels c run undecoded
+place_pixels c run undecoded is whole run_whole short behind some =
+    by_channels (λ k. undecoded % k ≡ 0 → run % k ≡ 0 → run ≤ k * run_max → PlacePixels k run undecoded) is
+    (λ a b d. record { behind = by_three a b; short = omega (arith, d) }) (λ a b d. record { behind = by_four a b; short = omega (arith, d) }) whole run_whole short
+  where
+    less : run < undecoded
+    less = elim (cases_lt 0 run) [ inl more ↦ behind more | inr none ↦ omega (arith, none, some) ]
+
+    by_three : undecoded % 3 ≡ 0 → run % 3 ≡ 0 → run / 3 < undecoded / 3
+    by_three a b = omega (arith, a, b, less)
+
+    by_four : undecoded % 4 ≡ 0 → run % 4 ≡ 0 → run / 4 < undecoded / 4
+    by_four a b = omega (arith, a, b, less)

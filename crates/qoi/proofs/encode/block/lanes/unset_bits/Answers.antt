@@ -1,0 +1,6 @@
+-- The bits of the lanes that are 0.
+use Rattle.qoi.proofs.encoding.blocks.AllRepeat.{unset_marks}
+use Rattle.qoi.proofs.encode.block.lanes.unset_bits.Goals as goal
+
+pub returns : goal.returns
+returns c = λ bs long is. unset_marks bs c.args.v long is

@@ -1,0 +1,74 @@
+-- A group after the other; then the repeats at the end are carried.
+use Rattle.std.proofs.Common.{◌≡◌, inl, inr, ◌+◌, ◌-◌, ◌<◌, ◌++◌, replicate, append_assoc, length, take, drop, length-drop, drop-drop, refl, sym, ap, ◌∙◌, arith}
+use Rattle.std.proofs.lemmas.Bool.{cases_lt}
+use lib.Count.{count_trailing_zeros}
+use Rattle.qoi.specs.inner.block.Marks.{fresh_marks}
+use Rattle.qoi.specs.inner.Pixels.{pixels_in}
+use Rattle.qoi.proofs.encoding.coder.CoderSteps.{repeats_joined}
+use Rattle.qoi.proofs.encoding.coder.MarkedPixels.{marks_group, none_group}
+use Rattle.qoi.proofs.encode.marked.write_marked.Goals as goal
+
+pub loop-left-init : goal.loop-left-init
+loop-left-init g c = record {
+  lanes_few = omega arith;
+  enough = c.args.front.enough;
+  rest_is = refl;
+  marks_are = c.requires.marks;
+  few = c.requires.few;
+  begun = inl c.requires.some;
+  room = omega arith;
+  written = λ all more b. b;
+}
+
+pub write_short_group-rest-requires : goal.write_short_group-rest-requires
+write_short_group-rest-requires g c =
+    let i = c.loop-left.invariant in
+    let n = count_trailing_zeros 64 c.loop-left.left in
+    let group = marks_group c.loop-left.coder.last.px (pixels_in c.loop-left.rest) c.loop-left.count c.loop-left.left i.enough i.lanes_few i.marks_are (omega (arith, c.loop-left-test.true)) in
+    let few : c.loop-left.coder.last.repeats + n < 62 = elim (cases_lt 0 n) [
+      | inl some ↦ omega (arith, i.few (group.first some), group.inside, i.lanes_few)
+      | inr none ↦ omega (arith, none, c.loop-left.coder.last.few)
+    ] in
+    (omega arith, (omega arith, (omega arith, (few, (omega (arith, group.inside, i.enough), (group.repeats, (group.other, omega (arith, i.room, group.inside, c.requires.room))))))))
+
+pub overflow_sub-count : goal.overflow_sub-count
+overflow_sub-count g c =
+    let i = c.loop-left.invariant in
+    omega (arith, (marks_group c.loop-left.coder.last.px (pixels_in c.loop-left.rest) c.loop-left.count c.loop-left.left i.enough i.lanes_few i.marks_are (omega (arith, c.loop-left-test.true))).inside)
+
+pub loop-left-preserved : goal.loop-left-preserved
+loop-left-preserved g c =
+    let i = c.loop-left.invariant in
+    let n = count_trailing_zeros 64 c.loop-left.left in
+    let lanes = c.loop-left.count in
+    let rest = pixels_in c.loop-left.rest in
+    let group = marks_group c.loop-left.coder.last.px rest lanes c.loop-left.left i.enough i.lanes_few i.marks_are (omega (arith, c.loop-left-test.true)) in
+    let step = c.write_short_group-rest.ensures in
+    let left : lanes ≡ (n + 1) + (lanes - (n + 1)) = omega (arith, group.inside) in
+    record {
+      lanes_few = omega (arith, i.lanes_few);
+      enough = omega (arith, i.enough, ap length step.rest, length-drop (n + 1) rest, group.inside);
+      rest_is = ap (drop (lanes - (n + 1))) step.rest ∙ drop-drop (lanes - (n + 1)) (n + 1) rest ∙ ap (λ k. drop k rest) (omega (arith, left)) ∙ i.rest_is;
+      marks_are = group.later c.write_short_group-rest.new.self.last.px step.px
+          ∙ ap (λ ps. fresh_marks c.write_short_group-rest.new.self.last.px (take (lanes - (n + 1)) ps)) (sym step.rest);
+      few = λ _. omega (arith, step.begun.1);
+      begun = inr (step.begun.0, step.begun.1, omega (arith, group.inside, i.lanes_few));
+      room = omega (arith, i.room, step.end, group.inside);
+      written = λ all more b. step.written all more (i.written all more b);
+    }
+
+pub overflow_add-coder : goal.overflow_add-coder
+overflow_add-coder g c = omega (arith, c.loop-left.invariant.lanes_few, c.loop-left.coder.last.few)
+
+pub returns-clause-rest : goal.returns-clause-rest
+returns-clause-rest g c = c.skip.ensures.rest ∙ c.loop-left.invariant.rest_is
+
+pub returns-clause-written : goal.returns-clause-written
+returns-clause-written g c = λ all more b.
+    let i = c.loop-left.invariant in
+    let lanes = c.loop-left.count in
+    let rest = pixels_in c.loop-left.rest in
+    let q = c.loop-left.coder.last.px in
+    let split : rest ++ more ≡ replicate lanes q ++ (drop lanes rest ++ more) =
+    ap (λ ps. ps ++ more) (none_group q rest lanes i.enough (sym c.loop-left-test.false ∙ i.marks_are)) ∙ append_assoc (replicate lanes q) (drop lanes rest) more in
+    rw c.skip.ensures.rest (repeats_joined (i.written all more b) lanes (drop lanes rest ++ more) split refl refl refl refl)

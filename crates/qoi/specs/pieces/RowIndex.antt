@@ -1,0 +1,88 @@
+-- What an index of the rows of a file's image holds.
+use Rattle.std.specs.Prelude.{◌≡◌, ℕ, ◌+◌, ◌*◌, ◌%◌, ◌/◌, ◌-◌, ◌<◌, List, [], ◌++◌, length, drop, replicate, Some, Ok, false, All}
+use Rattle.qoi.specs.declared.chunk.Chunk.{Chunk}
+use Rattle.qoi.specs.declared.header.Header.{Header}
+use Rattle.qoi.specs.declared.types.Channels.{Channels}
+use Rattle.qoi.specs.Qoi.{Past, RgbaPixel, previous, channels_number, pixel_count, header_of, header_size, IsValid, AreChunks, chunk_bytes, then_chunks}
+use Rattle.qoi.specs.Reading.{StandsAhead}
+use Rattle.qoi.specs.inner.Hashed.{pixel_of_lanes, HoldsSeen}
+use Rattle.qoi.specs.inner.Table.{Holds}
+use Rattle.qoi.specs.DecoderState.{DecoderState}
+use Rattle.qoi.specs.pieces.ReaderPieces.{KeepsWithin}
+use Rattle.qoi.specs.pieces.PixelReader.{PixelsState, HasGiven}
+
+-- the decoder, into these channels, of the file with the header h at the front of the bytes
+abbrev pub file_decoder : Channels → Header → List ℕ → DecoderState (List ℕ)
+file_decoder channels h file = record { reader = drop header_size file; header = h; channels = channels }
+
+-- how many bytes a row of the image has in these channels
+abbrev pub row_size : Channels → Header → ℕ
+row_size channels h = h.width * channels_number channels
+
+-- A place between two chunks of a file: what its index positions hold, the last pixel, how many bytes of
+-- the file stand before it, how many pixels are to come, and how many of those are copies of the last
+-- pixel, from the run before the place.
+pub record PlaceState : Type 0 where
+  pub table : List RgbaPixel
+  pub last : RgbaPixel
+  pub at : ℕ
+  pub left : ℕ
+  pub run : ℕ
+
+-- the place is one of the file's image of n pixels: it stands behind these chunks, of whose pixels all but
+-- those of the run are `gone`
+pub record StandsAt (n : ℕ) (file : List ℕ) (m : PlaceState) : Type 0 where
+  pub cs : List Chunk
+  pub rest : List ℕ
+  pub gone : Past
+  pub chunks : AreChunks cs
+  pub split : drop header_size file ≡ chunk_bytes cs ++ rest
+  pub at : m.at ≡ header_size + length (chunk_bytes cs)
+  pub pixels : then_chunks [] cs ≡ replicate m.run m.last ++ gone
+  pub table : Holds m.table (then_chunks [] cs)
+  pub last : m.last ≡ previous (then_chunks [] cs)
+  pub left : length gone + m.left ≡ n
+
+-- all places are such
+unfoldable pub ArePlaces : ℕ → List ℕ → List PlaceState → Type 0
+ArePlaces n file places = All (StandsAt n file) places
+
+-- An image stands in the file, whole, and these are places of it.
+pub record IndexesFile (file : List ℕ) (places : List PlaceState) : Type 0 where
+  pub h : Header
+  pub header : header_of file ≡ Ok h
+  pub are : ArePlaces (pixel_count h) file places
+  pub whole : StandsAhead h (drop header_size file)
+
+-- The same. It is no abbreviation, so that the prover passes it on whole; nor is ReadsFile.
+unfoldable pub IsRowIndex : List ℕ → List PlaceState → Type 0
+IsRowIndex file places = IndexesFile file places
+
+-- Raw bytes of the file's image were read, in these channels, and the reader goes on behind them.
+unfoldable pub ReadsFile : Channels → Header → List ℕ → PixelsState (List ℕ) → Type 0
+ReadsFile channels h file p = (header_of file ≡ Ok h) × (given : List ℕ) × HasGiven (file_decoder channels h file) (Some (drop header_size file)) (Some p.reader) given p
+
+-- the place behind what a reader keeps, of which some pixels are to come
+pub record IsPlaceOf (file : List ℕ) (p : PixelsState (List ℕ)) (m : PlaceState) : Type 0 where
+  pub some : 0 < p.pieces.undecoded
+  pub whole : p.pieces.undecoded % channels_number p.channels ≡ 0
+  pub table : (past : Past) → HoldsSeen p.pieces.table past → Holds m.table past
+  pub last : m.last ≡ pixel_of_lanes p.pieces.last
+  pub at : m.at ≡ length file - length p.reader
+  pub left : m.left ≡ p.pieces.undecoded / channels_number p.channels
+  pub run : m.run ≡ p.pieces.run / channels_number p.channels
+
+-- a reader that goes on at a place, with these bytes ahead and into these channels
+pub record GoesOnAt (c : Channels) (h : Header) (rest : List ℕ) (m : PlaceState) (q : PixelsState (List ℕ)) : Type 0 where
+  pub valid : IsValid h
+  pub header : q.header ≡ h
+  pub channels : q.channels ≡ c
+  pub going : q.refused ≡ false
+  pub reader : q.reader ≡ rest
+  pub none : q.pieces.from ≡ q.pieces.to
+  pub within : KeepsWithin q.pieces
+  pub table : (past : Past) → Holds m.table past → HoldsSeen q.pieces.table past
+  pub last : pixel_of_lanes q.pieces.last ≡ m.last
+  pub left : q.pieces.undecoded ≡ m.left * channels_number c
+  pub run : q.pieces.run ≡ m.run * channels_number c
+  pub behind : m.run < m.left

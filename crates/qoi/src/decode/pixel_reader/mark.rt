@@ -1,0 +1,167 @@
+//! Places in images, from which decoding goes on.
+ghost use Rattle.std.specs.Prelude.{◌≡◌, ℕ, ◌-◌, ◌<◌, ◌≤◌, List, ◌++◌, length, drop, Some, Ok, Err, IsOk, IfOk};
+ghost use Rattle.qoi.specs.DecoderState.{DecoderState};
+ghost use Rattle.qoi.specs.Decoded.{HasHeader};
+ghost use Rattle.qoi.specs.Qoi.{IsValid};
+ghost use Rattle.qoi.specs.declared.error.Error.{Error};
+ghost use Rattle.qoi.specs.pieces.Mark.{mark_of, reader_at, marked_left, MarksGiven, MarksRows};
+ghost use Rattle.qoi.specs.pieces.PixelReader.{pixels_left, HasGiven, HasRows};
+
+use crate::decode::Decoder;
+use crate::decode::pixel_reader::PixelReader;
+use crate::decode::pixel_reader::pieces::Pieces;
+use crate::decode::reader::Bytes;
+use crate::error::{Error, Result};
+use crate::header::Header;
+use crate::types::Channels;
+use std::marker::Model;
+
+/// A place in the image of a slice's file, from which a `PixelReader` goes on, as often as you like.
+/// It has some 5 KB, holds no part of the slice, and needn't be dropped before it.
+///
+/// A contract sees how many bytes of the slice stand before the place, and the reader's state but
+/// for what is ahead.
+#[derive(Drop)]
+pub struct Mark {
+    at: usize,
+    header: Header,
+    channels: Channels,
+    pieces: Pieces,
+    refused: bool,
+}
+
+impl Model for Mark {
+    ghost use Rattle.std.specs.Prelude.{◌≡◌, ◌≤◌, false};
+    ghost use Rattle.qoi.specs.Qoi.{channels_number, IsValid};
+    ghost use Rattle.qoi.specs.Raw.{byte_count};
+    ghost use Rattle.qoi.specs.pieces.ReaderPieces.{bytes_left, KeepsWithin, AreWhole};
+    ghost use Rattle.qoi.specs.pieces.Mark.{MarkState};
+
+    ghost Value = { MarkState };
+
+    ghost view = { λ m. record {
+      at = m.at;
+      header = m.header;
+      channels = m.channels;
+      pieces = m.pieces;
+      refused = m.refused;
+    } };
+
+    ghost invariant = { λ m. IsValid m.header × KeepsWithin m.pieces
+        × (bytes_left m.pieces ≤ byte_count m.header (channels_number m.channels))
+        × (m.refused ≡ false → AreWhole (channels_number m.channels) m.pieces) };
+}
+
+impl<'a> PixelReader<Bytes<'a>> {
+    // A mark of the state, in this slice.
+    fn marked(&self, file: &[u8]) -> Mark
+        ensures state { result ≡ mark_of (length file.now - length self.now.reader) self.now }
+        ensures valid { IsValid result.header }
+    {
+        Mark {
+            at: file.len().saturating_sub(self.decoder.reader.0.len()),
+            header: self.decoder.header,
+            channels: self.decoder.channels,
+            pieces: self.pieces.copied(),
+            refused: self.refused,
+        }
+    }
+
+    /// A mark of the place where the reader stands in `file`, the slice that it reads. The mark
+    /// counts from the front of the slice, so bytes may be appended behind the file.
+    ///
+    /// In another slice, the mark stands as far from the end as the reader does from that of its own.
+    pub fn mark(&self, file: &[u8]) -> Mark
+        ensures state { result ≡ mark_of (length file.now - length self.now.reader) self.now }
+        // If the slice is that of the file, of which some decoder was made, the mark says what was
+        // read of the image.
+        ensures given { (d e : DecoderState (List ℕ)) (bytes given : List ℕ)
+            → HasHeader e (Some file.now) (Some bytes)
+            → HasGiven d (Some bytes) (Some self.now.reader) given self.now
+            → MarksGiven d bytes given result }
+        ensures rows { (d e : DecoderState (List ℕ)) (bytes : List ℕ) (stride k : ℕ)
+            → HasHeader e (Some file.now) (Some bytes)
+            → HasRows d (Some bytes) (Some self.now.reader) stride k self.now
+            → MarksRows d bytes stride k result }
+        // The same, whatever is appended.
+        ensures given_then { (d e : DecoderState (List ℕ)) (bytes given more : List ℕ)
+            → HasHeader e (Some file.now) (Some bytes)
+            → HasGiven d (Some bytes) (Some self.now.reader) given self.now
+            → MarksGiven d (bytes ++ more) given result }
+        ensures rows_then { (d e : DecoderState (List ℕ)) (bytes more : List ℕ) (stride k : ℕ)
+            → HasHeader e (Some file.now) (Some bytes)
+            → HasRows d (Some bytes) (Some self.now.reader) stride k self.now
+            → MarksRows d (bytes ++ more) stride k result }
+        ensures left { marked_left result ≡ pixels_left self.now }
+    {
+        self.marked(file)
+    }
+}
+
+impl Mark {
+    /// How many raw bytes of the image are unread behind the mark.
+    #[tactic(auto, unfolding(crate::specs::pieces::Mark::marked_left))]
+    pub fn left(&self) -> usize
+        ensures { result ≡ marked_left self.now }
+    {
+        self.pieces.left()
+    }
+
+    // A reader that goes on over these bytes.
+    fn over<'a>(&self, rest: &'a [u8]) -> PixelReader<Bytes<'a>>
+        ensures { result ≡ reader_at self.now rest.entry.now }
+    {
+        PixelReader {
+            decoder: Decoder {
+                reader: Bytes(rest),
+                header: self.header,
+                channels: self.channels,
+            },
+            pieces: self.pieces.copied(),
+            refused: self.refused,
+            fault: None,
+        }
+    }
+
+    // The same over the bytes of a slice behind the mark.
+    #[tactic(auto, unfolding(crate::specs::pieces::Mark::marked_left, crate::specs::pieces::PixelReader::pixels_left))]
+    fn goes_on<'a>(&self, file: &'a [u8]) -> Result<PixelReader<Bytes<'a>>>
+        ensures same { self.now.at ≤ length file.entry.now
+            → result ≡ Ok (reader_at self.now (drop self.now.at file.entry.now)) }
+        ensures refused { length file.entry.now < self.now.at
+            → result ≡ Err Error.UnexpectedBufferEnd }
+        ensures left { IfOk result (λ p. pixels_left p ≡ marked_left self.now) }
+    {
+        if file.len() < self.at {
+            return Err(Error::UnexpectedBufferEnd);
+        }
+        let (_, rest) = file.split_at(self.at);
+        Ok(self.over(rest))
+    }
+
+    /// A reader that goes on from the mark in the slice that was marked, or in one that begins with
+    /// it. In another slice it reads what the bytes there decode to, if it isn't refused.
+    ///
+    /// `UnexpectedBufferEnd` if the slice ends before the mark.
+    pub fn resume<'a>(&self, file: &'a [u8]) -> Result<PixelReader<Bytes<'a>>>
+        // The reader that was marked, with the bytes of the slice behind the mark ahead.
+        ensures same { self.now.at ≤ length file.entry.now
+            → result ≡ Ok (reader_at self.now (drop self.now.at file.entry.now)) }
+        ensures refused { length file.entry.now < self.now.at
+            → result ≡ Err Error.UnexpectedBufferEnd }
+        // If the slice is that of the file, of which some decoder can be made, what was read before
+        // the mark was read by this reader.
+        ensures given { (d e : DecoderState (List ℕ)) (bytes given : List ℕ)
+            → HasHeader e (Some file.entry.now) (Some bytes) → MarksGiven d bytes given self.now
+            → IfOk result (λ p. HasGiven d (Some bytes) (Some p.reader) given p) }
+        ensures rows { (d e : DecoderState (List ℕ)) (bytes : List ℕ) (stride k : ℕ)
+            → HasHeader e (Some file.entry.now) (Some bytes) → MarksRows d bytes stride k self.now
+            → IfOk result (λ p. HasRows d (Some bytes) (Some p.reader) stride k p) }
+        ensures accepts { (d e : DecoderState (List ℕ)) (bytes given : List ℕ)
+            → HasHeader e (Some file.entry.now) (Some bytes) → MarksGiven d bytes given self.now
+            → IsOk result }
+        ensures left { IfOk result (λ p. pixels_left p ≡ marked_left self.now) }
+    {
+        self.goes_on(file)
+    }
+}

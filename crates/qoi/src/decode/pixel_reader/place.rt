@@ -1,0 +1,202 @@
+//! Places in the image of a file, between two chunks.
+ghost use Rattle.std.specs.Prelude.{◌≡◌, ℕ, ◌*◌, ◌<◌, ◌≤◌, ◌+◌, List, length, drop, Ok, false, IsOk, IfOk};
+ghost use Rattle.qoi.specs.Qoi.{Past, channels_number, header_of, pixel_count, pixels_max, IsValid};
+ghost use Rattle.qoi.specs.declared.header.Header.{Header};
+ghost use Rattle.qoi.specs.declared.types.Channels.{Channels};
+ghost use Rattle.qoi.specs.inner.Hashed.{pixel_of_lanes, HoldsSeen};
+ghost use Rattle.qoi.specs.inner.Table.{Holds};
+ghost use Rattle.qoi.specs.pieces.PixelReader.{pixels_left};
+ghost use Rattle.qoi.specs.pieces.RowIndex.{StandsAt, ReadsFile, IsPlaceOf, GoesOnAt};
+
+use crate::decode::Decoder;
+use crate::decode::hashed::Hashed;
+use crate::decode::pixel_reader::PixelReader;
+use crate::decode::pixel_reader::pieces::Pieces;
+use crate::decode::pixel_reader::room::KEPT;
+use crate::decode::reader::Bytes;
+use crate::decode::table::TermTable;
+use crate::error::{Error, Result};
+use crate::header::Header;
+use crate::packed::Packed;
+use crate::types::Channels;
+use std::marker::Model;
+
+/// A place between two chunks of a file's image: the pixels that the index positions hold, the last
+/// pixel, how many bytes of the file stand before the place, how many pixels are to come, and how
+/// many of those are copies of the last pixel, from the run before the place.
+///
+/// It has 288 bytes. A contract sees these five.
+#[derive(Drop)]
+pub(super) struct Place {
+    table: [Packed; 64],
+    last: Packed,
+    at: usize,
+    left: usize,
+    run: usize,
+}
+
+impl Model for Place {
+    ghost use Rattle.std.specs.Prelude.{◌≡◌, ◌≤◌, ◌<◌, length};
+    ghost use Rattle.qoi.specs.Qoi.{run_max};
+    ghost use Rattle.qoi.specs.pieces.RowIndex.{PlaceState};
+
+    ghost Value = { PlaceState };
+
+    ghost view = { λ p. record {
+      table = p.table;
+      last = p.last;
+      at = p.at;
+      left = p.left;
+      run = p.run;
+    } };
+
+    ghost invariant = { λ p. (length p.table ≡ 64) × (p.run < p.left) × (p.run ≤ run_max) };
+}
+
+// The pixel of a number.
+fn packed(px: Hashed) -> Packed
+    ensures { result ≡ pixel_of_lanes px }
+{
+    let bytes = px.repeated::<4, 4>().to_array();
+    Packed::new(bytes[0], bytes[1], bytes[2], bytes[3])
+}
+
+// The number of a pixel.
+fn hashed(px: Packed) -> Hashed
+    ensures { pixel_of_lanes result ≡ px }
+{
+    Hashed::new(px.r(), px.g(), px.b(), px.a())
+}
+
+// The pixels that the index positions hold: each is what the chunk of its position gives.
+fn pixels_of(table: &TermTable) -> [Packed; 64]
+    ensures { (past : Past) → HoldsSeen table.now past → Holds result past }
+{
+    let mut pixels = [Packed::blank(); 64];
+    for i in 0..64 {
+        pixels[i] = packed(Hashed::start().after_short(table, i, 0));
+    }
+    pixels
+}
+
+// A table whose index positions hold these pixels.
+fn table_of(pixels: &[Packed; 64]) -> TermTable
+    ensures { (past : Past) → Holds pixels.now past → HoldsSeen result past }
+{
+    let mut table = TermTable::new();
+    for i in 0..64 {
+        table.set(i, hashed(pixels[i]));
+    }
+    table
+}
+
+/// How many raw bytes so many pixels have in these channels.
+pub(super) fn size_in(channels: Channels, pixels: usize) -> usize
+    requires { pixels ≤ pixels_max }
+    ensures { result ≡ pixels * channels_number channels }
+{
+    match channels {
+        Channels::Rgb => pixels * 3,
+        Channels::Rgba => pixels * 4,
+    }
+}
+
+impl Place {
+    // The place behind what a reader of the file keeps.
+    fn behind(file: &[u8], pixels: &PixelReader<Bytes<'_>>) -> Place
+        requires going { pixels.now.refused ≡ false }
+        requires some { 0 < pixels.now.pieces.undecoded }
+        ensures { IsPlaceOf file.now pixels.now result }
+    {
+        let channels = pixels.decoder.channels.as_u8() as usize;
+        Place {
+            table: pixels_of(&pixels.pieces.table),
+            last: packed(pixels.pieces.last),
+            at: file.len().saturating_sub(pixels.decoder.reader.0.len()),
+            left: pixels.pieces.undecoded / channels,
+            run: pixels.pieces.run / channels,
+        }
+    }
+
+    /// The place behind what a reader of the file keeps, which isn't the end of the image.
+    pub(super) fn of(file: &[u8], pixels: &PixelReader<Bytes<'_>>) -> Place
+        requires going { pixels.now.refused ≡ false }
+        requires some { 0 < pixels.now.pieces.undecoded }
+        ensures { (channels : Channels) (h : Header) → ReadsFile channels h file.now pixels.now
+            → StandsAt (pixel_count h) file.now result }
+    {
+        Place::behind(file, pixels)
+    }
+
+    /// How many pixels are to come.
+    pub(super) fn left(&self) -> usize
+        ensures { result ≡ self.now.left }
+    {
+        self.left
+    }
+
+    // A reader that goes on there, over the rest of a file.
+    fn over<'a>(&self, rest: &'a [u8], header: Header, channels: Channels) -> PixelReader<Bytes<'a>>
+        requires valid { IsValid header }
+        requires fits { self.now.left ≤ pixel_count header }
+        ensures { GoesOnAt channels header rest.entry.now self.now result }
+    {
+        PixelReader {
+            decoder: Decoder {
+                reader: Bytes(rest),
+                header,
+                channels,
+            },
+            pieces: Pieces {
+                table: table_of(&self.table),
+                last: hashed(self.last),
+                bytes: [0; KEPT],
+                from: 0,
+                to: 0,
+                run: size_in(channels, self.run),
+                undecoded: size_in(channels, self.left),
+            },
+            refused: false,
+            fault: None,
+        }
+    }
+
+    // The same in a file.
+    fn goes_on<'a>(
+        &self,
+        file: &'a [u8],
+        header: Header,
+        channels: Channels,
+    ) -> Result<PixelReader<Bytes<'a>>>
+        requires { IsValid header }
+        ensures goes { IfOk result
+            (GoesOnAt channels header (drop self.now.at file.entry.now) self.now) }
+        ensures accepts { self.now.at ≤ length file.entry.now
+            → self.now.left ≤ pixel_count header → IsOk result }
+    {
+        if file.len() < self.at || header.n_pixels() < self.left {
+            return Err(Error::UnexpectedBufferEnd);
+        }
+        let (_, rest) = file.split_at(self.at);
+        Ok(self.over(rest, header, channels))
+    }
+
+    /// A reader that goes on there in a file with this header, into these channels.
+    pub(super) fn resume<'a>(
+        &self,
+        file: &'a [u8],
+        header: Header,
+        channels: Channels,
+    ) -> Result<PixelReader<Bytes<'a>>>
+        requires { IsValid header }
+        ensures file { header_of file.entry.now ≡ Ok header
+            → StandsAt (pixel_count header) file.entry.now self.now
+            → IfOk result (ReadsFile channels header file.entry.now) }
+        ensures accepts { header_of file.entry.now ≡ Ok header
+            → StandsAt (pixel_count header) file.entry.now self.now → IsOk result }
+        ensures left { IfOk result (λ p.
+            pixels_left p ≡ self.now.left * channels_number channels) }
+    {
+        self.goes_on(file, header, channels)
+    }
+}

@@ -1,0 +1,247 @@
+//! Rows of an image, read from any of them on.
+ghost use Rattle.std.specs.Prelude.{◌≡◌, ℕ, ◌+◌, ◌-◌, ◌*◌, ◌/◌, ◌<◌, ◌≤◌, List, [], ◌++◌, ◌⊎◌, max, length, drop, Some, Ok, Err, true, false, IsOk, IfOk, IfErr, OnOk, IsErrOf};
+ghost use Rattle.qoi.specs.Decoded.{HasRefusedFile};
+ghost use Rattle.qoi.specs.DecoderState.{DecoderState};
+ghost use Rattle.qoi.specs.Images.{front_image, file_image};
+ghost use Rattle.qoi.specs.Qoi.{channels_number, header_of, header_size, pixel_count, pixels_max, IsValid};
+ghost use Rattle.qoi.specs.Raw.{image_byte_count};
+ghost use Rattle.qoi.specs.Reading.{StandsAhead};
+ghost use Rattle.qoi.specs.declared.error.Error.{Error};
+ghost use Rattle.qoi.specs.declared.header.Header.{Header};
+ghost use Rattle.qoi.specs.declared.types.Channels.{Channels};
+ghost use Rattle.qoi.specs.pieces.PixelReader.{pixels_left, HasGiven, HasRows, RefusesPixels};
+ghost use Rattle.qoi.specs.pieces.RowIndex.{file_decoder, row_size, ArePlaces, ReadsFile, IsRowIndex};
+
+use crate::decode::Decoder;
+use crate::decode::pixel_reader::PixelReader;
+use crate::decode::pixel_reader::place::{Place, size_in};
+use crate::decode::reader::Bytes;
+use crate::error::{Error, Result};
+use crate::header::Header;
+use crate::types::Channels;
+use std::alloc::Global;
+use std::marker::Model;
+
+/// Places in a file's image, so many rows apart, from which its rows are read without those above.
+/// It holds no part of the file.
+///
+/// An index of an image of `height` rows with a place each `every` rows holds
+/// 288 * ((`height` - 1) / `every`) bytes.
+///
+/// A contract sees the places.
+#[derive(Drop)]
+pub struct RowIndex {
+    every: u32,
+    places: Vec<Place>,
+}
+
+impl Model for RowIndex {
+    ghost use Rattle.std.specs.Prelude.{◌<◌, List};
+    ghost use Rattle.qoi.specs.pieces.RowIndex.{PlaceState};
+
+    ghost Value = { List PlaceState };
+
+    ghost view = { λ i. i.places.items };
+
+    ghost invariant = { λ i. 0 < i.every };
+}
+
+// How many pixels of an image are to come before a row, none from the last on.
+fn pixels_behind(header: &Header, row: u32) -> usize
+    requires { IsValid header.now }
+    ensures behind { result ≡ header.now.width * (header.now.height - row) }
+    ensures most { result ≤ pixel_count header.now }
+{
+    header.width as usize * header.height.saturating_sub(row) as usize
+}
+
+// How many raw bytes those are.
+fn bytes_behind(header: &Header, channels: Channels, row: u32) -> usize
+    requires { IsValid header.now }
+    ensures { result
+        ≡ header.now.width * (header.now.height - row) * channels_number channels }
+{
+    size_in(channels, pixels_behind(header, row))
+}
+
+// Reads raw bytes of an image until no more than so many are unread.
+fn read_to(pixels: &mut PixelReader<Bytes<'_>>, left: usize) -> Result<()>
+    ensures read { (d : DecoderState (List ℕ)) (bytes given : List ℕ)
+        → HasGiven d (Some bytes) (Some pixels.old.reader) given pixels.old
+        → OnOk result ((more : List ℕ)
+        × HasGiven d (Some bytes) (Some pixels.new.reader) (given ++ more) pixels.new) }
+    ensures left { left ≤ pixels_left pixels.old → OnOk result (pixels_left pixels.new ≡ left) }
+    ensures most { OnOk result (pixels_left pixels.new ≤ left) }
+    ensures refused { (d : DecoderState (List ℕ)) (bytes given : List ℕ)
+        → HasGiven d (Some bytes) (Some pixels.old.reader) given pixels.old
+        → IfErr result (RefusesPixels true d (Some bytes) (Some pixels.new.reader)) }
+{
+    let mut buf = [0; 4096];
+    while pixels.left() > left {
+        let size = buf.len().min(pixels.left() - left);
+        pixels.read(&mut buf[..size])?;
+    }
+    Ok(())
+}
+
+// The same of a file's image.
+fn skip_to(pixels: &mut PixelReader<Bytes<'_>>, left: usize) -> Result<()>
+    ensures file { (channels : Channels) (h : Header) (file : List ℕ)
+        → ReadsFile channels h file pixels.old
+        → OnOk result (ReadsFile channels h file pixels.new) }
+    ensures left { left ≤ pixels_left pixels.old → OnOk result (pixels_left pixels.new ≡ left) }
+    ensures most { OnOk result (pixels_left pixels.new ≤ left) }
+    ensures refused { (channels : Channels) (h : Header) (file : List ℕ)
+        → ReadsFile channels h file pixels.old → IfErr result (HasRefusedFile file) }
+    ensures accepts { (channels : Channels) (h : Header) (file : List ℕ)
+        → ReadsFile channels h file pixels.old → StandsAhead h (drop header_size file)
+        → IsOk result }
+{
+    read_to(pixels, left)
+}
+
+// A reader of the image of a file, into these channels.
+fn all_rows<'a>(file: &'a [u8], channels: Channels) -> Result<PixelReader<Bytes<'a>>>
+    ensures file { (h : Header) → header_of file.entry.now ≡ Ok h
+        → IfOk result (ReadsFile channels h file.entry.now) }
+    ensures left { (h : Header) → header_of file.entry.now ≡ Ok h
+        → IfOk result (λ p. pixels_left p ≡ pixel_count h * channels_number channels) }
+    ensures accepts { (h : Header) → header_of file.entry.now ≡ Ok h → IsOk result }
+{
+    let decoder = Decoder::new(file)?;
+    Ok(decoder.with_channels(channels).into_pixels())
+}
+
+// Keeps the place of a reader, unless the image ends there.
+fn keep_place(places: &mut Vec<Place>, file: &[u8], pixels: &PixelReader<Bytes<'_>>) -> Result<()>
+    requires { pixels.now.refused ≡ false }
+    ensures places { (channels : Channels) (h : Header) → ReadsFile channels h file.now pixels.now
+        → ArePlaces (pixel_count h) file.now places.old.items
+        → OnOk result (ArePlaces (pixel_count h) file.now places.new.items) }
+    ensures few { OnOk result (length places.new.items ≤ length places.old.items + 1) }
+    ensures refused { IfErr result (λ e. e ≡ Error.OutOfMemory) }
+{
+    if pixels.pieces.undecoded > 0 {
+        places.push(Place::of(file, pixels))?;
+    }
+    Ok(())
+}
+
+impl RowIndex {
+    /// An index of the image of the file at the front of the bytes, with a place each `every` rows,
+    /// or each row for 0. The image is decoded once, and no row of it is kept.
+    ///
+    /// The refusals are those of `decode_to_vec`. The memory is reserved at once, before the image
+    /// is decoded.
+    pub fn new(alloc: Global, file: &[u8], every: u32) -> Result<RowIndex>
+        // A success: an image stands in the file, and the index is one of it, and of each file that
+        // begins with it.
+        ensures index { IfOk result (IsRowIndex file.now) }
+        ensures index_then { (more : List ℕ) → IfOk result (IsRowIndex (file.now ++ more)) }
+        // It has no more places than this.
+        ensures few { (h : Header) → header_of file.now ≡ Ok h
+            → IfOk result (λ i. length i ≤ (h.height - 1) / max every 1) }
+        // The refusals: memory runs out after a valid header, or the bytes are refused.
+        ensures refused { IfErr result (λ e. HasRefusedFile file.now e
+            ⊎ ((e ≡ Error.OutOfMemory) × (h : Header) × (header_of file.now ≡ Ok h))) }
+    {
+        let header = Header::decode(file)?;
+        let every = every.max(1);
+        let count = header.height.saturating_sub(1) / every;
+        let mut places = Vec::with_capacity(alloc, count as usize)?;
+        let mut pixels = all_rows(file, header.channels)?;
+        for k in 0..count {
+            let row = every.saturating_mul(k + 1);
+            skip_to(&mut pixels, bytes_behind(&header, header.channels, row))?;
+            keep_place(&mut places, file, &pixels)?;
+        }
+        skip_to(&mut pixels, 0)?;
+        Ok(RowIndex { every, places })
+    }
+
+    // A reader from the last place above a row of the file's image, or from its first row.
+    fn above<'a>(
+        &self,
+        file: &'a [u8],
+        header: Header,
+        channels: Channels,
+        first: u32,
+    ) -> Result<PixelReader<Bytes<'a>>>
+        requires valid { IsValid header }
+        requires header { header_of file.now ≡ Ok header }
+        ensures file { IsRowIndex file.entry.now self.now
+            → IfOk result (ReadsFile channels header file.entry.now) }
+        ensures accepts { IsRowIndex file.entry.now self.now → IsOk result }
+        ensures left { IfOk result (λ p. header.width * (header.height - first)
+            * channels_number channels ≤ pixels_left p) }
+    {
+        let left = pixels_behind(&header, first);
+        let mut at = self.places.len().min((first / self.every) as usize);
+        while at > 0 {
+            at -= 1;
+            let place = &self.places[at];
+            if left <= place.left() {
+                return place.resume(file, header, channels);
+            }
+        }
+        all_rows(file, channels)
+    }
+
+    /// A reader that stands before row `first` of the image of the file of which the index was made,
+    /// or of one that begins with it, into the file's own channels. None of the rows above the last
+    /// place before that row is decoded, and nothing is allocated.
+    ///
+    /// `first` may be the height, behind the last row. Refusals: those of the header, and
+    /// `UnexpectedBufferEnd` if `first` is greater. With another file's index it reads wrong rows, or
+    /// is refused too.
+    pub fn rows<'a>(&self, file: &'a [u8], first: u32) -> Result<PixelReader<Bytes<'a>>>
+        // The reader has read `first` rows of the file's image.
+        ensures rows { (h : Header) → header_of file.entry.now ≡ Ok h
+            → IsRowIndex file.entry.now self.now → IfOk result (λ p. HasRows
+            (file_decoder h.channels h file.entry.now) (Some (drop header_size file.entry.now))
+            (Some p.reader) (row_size h.channels h) first p) }
+        ensures image { (h : Header) → header_of file.entry.now ≡ Ok h
+            → front_image h.channels h (drop header_size file.entry.now)
+            ≡ file_image file.entry.now }
+        ensures size { (h : Header) → header_of file.entry.now ≡ Ok h
+            → IsRowIndex file.entry.now self.now
+            → length (file_image file.entry.now) ≡ image_byte_count h }
+        // The refusals.
+        ensures accepts { (h : Header) → header_of file.entry.now ≡ Ok h
+            → IsRowIndex file.entry.now self.now → first ≤ h.height → IsOk result }
+        ensures high { (h : Header) → header_of file.entry.now ≡ Ok h → h.height < first
+            → IsErrOf result Error.UnexpectedBufferEnd }
+        ensures header { (e : Error) → header_of file.entry.now ≡ Err e → result ≡ Err e }
+    {
+        let header = Header::decode(file)?;
+        self.rows_in(file, header.channels, first)
+    }
+
+    /// The same into any channels.
+    pub fn rows_in<'a>(
+        &self,
+        file: &'a [u8],
+        channels: Channels,
+        first: u32,
+    ) -> Result<PixelReader<Bytes<'a>>>
+        // The reader has read `first` rows of the file's image in these channels.
+        ensures rows { (h : Header) → header_of file.entry.now ≡ Ok h
+            → IsRowIndex file.entry.now self.now → IfOk result (λ p. HasRows
+            (file_decoder channels h file.entry.now) (Some (drop header_size file.entry.now))
+            (Some p.reader) (row_size channels h) first p) }
+        // The refusals.
+        ensures accepts { (h : Header) → header_of file.entry.now ≡ Ok h
+            → IsRowIndex file.entry.now self.now → first ≤ h.height → IsOk result }
+        ensures high { (h : Header) → header_of file.entry.now ≡ Ok h → h.height < first
+            → IsErrOf result Error.UnexpectedBufferEnd }
+        ensures header { (e : Error) → header_of file.entry.now ≡ Err e → result ≡ Err e }
+    {
+        let header = Header::decode(file)?;
+        if first > header.height {
+            return Err(Error::UnexpectedBufferEnd);
+        }
+        let mut pixels = self.above(file, header, channels, first)?;
+        skip_to(&mut pixels, bytes_behind(&header, channels, first))?;
+        Ok(pixels)
+    }
+}
