@@ -1,8 +1,10 @@
-/* Times the calls of qoi.h, of the Rust crate (if built with -DCRATE) and of the port on the same pictures, by turns.
+/* Times the calls of qoi.h, of the Rust crate (if built with -DCRATE), of the port as it was before (-DBEFORE) and of the
+   port on the same pictures, by turns.
 
    bench time ROUNDS all|anew|buffers PICTURE..   a line for each way, "took", row, who, seconds for all pictures, the
                                                   least of each; before it "wrong", row, who, and of how many
                                                   pictures it made other bytes or pixels, if of any
+   bench chunks - - PICTURE..                     how many chunks the files have, and how many RGB and RGBA ones
    bench keep WHO COUNT PICTURE                   kilobytes that COUNT files take, which are made and kept, and the bytes
                                                   of one
 
@@ -105,14 +107,24 @@ keep crate_keep;
 #define CRATE_ENCODES(call) {NULL}
 #define CRATE_DECODES(call) {NULL}
 #endif
-#define OF_SLICE {DECODES("qoi.h", c_decode_buffer), CRATE_DECODES(crate_decode_buffer), DECODES("port", port_decode_buffer)}
+#ifdef BEFORE
+encode before_encode_buffer;
+decode before_decode_buffer;
+#define BEFORE_ENCODES(call) ENCODES("before", call)
+#define BEFORE_DECODES(call) DECODES("before", call)
+#else
+#define BEFORE_ENCODES(call) {NULL}
+#define BEFORE_DECODES(call) {NULL}
+#endif
+#define OF_SLICE {DECODES("qoi.h", c_decode_buffer), CRATE_DECODES(crate_decode_buffer), \
+    BEFORE_DECODES(before_decode_buffer), DECODES("port", port_decode_buffer)}
 
 struct way { const char *who; encode *encode; decode *decode; };
 
 /* What is timed, the port last. `vector`: the call makes a vector. `style`: the file may differ from that of qoi.h. */
-static const struct row { const char *name; int vector, channels, style; struct way ways[3]; } rows[] = {
+static const struct row { const char *name; int vector, channels, style; struct way ways[4]; } rows[] = {
     {"encoding into a buffer", .ways = {ENCODES("qoi.h", c_encode_buffer), CRATE_ENCODES(crate_encode_buffer),
-        ENCODES("port", port_encode_buffer)}},
+        BEFORE_ENCODES(before_encode_buffer), ENCODES("port", port_encode_buffer)}},
     {"encoding into a new vector", .vector = 1, .ways = {ENCODES("qoi.h", c_encode_vector),
         CRATE_ENCODES(crate_encode_vector), ENCODES("port", port_encode_vector)}},
     {"encoding to a writer, a slice", .ways = {CRATE_ENCODES(crate_encode_slice), ENCODES("port", port_encode_slice)}},
@@ -134,7 +146,7 @@ static const struct row { const char *name; int vector, channels, style; struct 
     {"decoding row by row from a `BufReader`", .ways = {DECODES("`from_buf_read`", port_decode_buf_read),
         DECODES("port", port_decode_rows_buf_read)}},
 };
-enum { ROWS = sizeof rows / sizeof *rows, WAYS = 3, MOST = 4000 };
+enum { ROWS = sizeof rows / sizeof *rows, WAYS = 4, MOST = 4000 };
 
 struct picture { uint32_t width, height, channels; size_t len, room, size; uint8_t *raw, *file, *out; };
 static struct picture pictures[MOST];
@@ -262,9 +274,24 @@ static int keep_files(const char *who, size_t wanted) {
     return 0;
 }
 
+static int count_chunks(void) {
+    size_t chunks = 0, full = 0;
+    for (int i = 0; i < count; i++) {
+        const struct picture *p = &pictures[i];
+        for (size_t at = QOI_HEADER_SIZE; at < p->size - sizeof qoi_padding; chunks++) {
+            int tag = p->file[at], is_full = tag >= QOI_OP_RGB;
+            full += is_full;
+            at += tag == QOI_OP_RGBA ? 5 : is_full ? 4 : (tag & QOI_MASK_2) == QOI_OP_LUMA ? 2 : 1;
+        }
+    }
+    printf("%zu %zu\n", chunks, full);
+    return 0;
+}
+
 int main(int argc, char **argv) {
     if (argc < 5) return 2;
     for (int a = 4; a < argc; a++) load(argv[a]);
+    if (!strcmp(argv[1], "chunks")) return count_chunks();
     if (!strcmp(argv[1], "keep")) return keep_files(argv[2], atoi(argv[3]));
     int anew = !strcmp(argv[3], "anew"), buffers = !strcmp(argv[3], "buffers");
     mallopt(M_MMAP_MAX, anew ? 65536 : 0);

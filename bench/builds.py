@@ -1,6 +1,7 @@
 """What bench/run and bench/compare share: copies and builds of the port and of the Rust crate, in a folder of their own."""
 import os
 import pathlib
+import re
 import shutil
 import subprocess
 import sys
@@ -11,6 +12,7 @@ HERE = pathlib.Path(__file__).resolve().parent
 TOP = HERE.parent
 ROOM = pathlib.Path(os.environ.get("BENCH_ROOM", pathlib.Path(tempfile.gettempdir(), "qoi-bench")))
 CRATE = os.environ.get("QOI_CRATE")
+BEFORE = os.environ.get("BEFORE")
 
 # Cargo takes the crate's dependency from Debian's package, and asks no registry.
 CARGO_CONFIG = """[source.crates-io]
@@ -51,17 +53,36 @@ def kit():
     return pathlib.Path(run("rt", "doc").strip()).parent
 
 
-def port(name, kind, source, uses=""):
+def port(name, kind, source, uses="", top=TOP, root=ROOM / "port"):
     """A crate over a copy of the library, with this source: its folder. What rt proved of an earlier copy is kept."""
-    root = ROOM / "port"
     for folder in ("src", "specs", "proofs"):
         shutil.rmtree(root / "crates/qoi" / folder, ignore_errors=True)
-        shutil.copytree(TOP / "crates/qoi" / folder, root / "crates/qoi" / folder)
+        shutil.copytree(top / "crates/qoi" / folder, root / "crates/qoi" / folder)
     (root / "crates" / name / "src").mkdir(parents=True, exist_ok=True)
-    shutil.copy(HERE / source, root / "crates" / name / "src" / ("main.rt" if kind == "" else "lib.rt"))
+    shutil.copy(top / "bench" / source, root / "crates" / name / "src" / ("main.rt" if kind == "" else "lib.rt"))
     (root / "crates.txt").write_text(f"qoi:\n{name}{kind}: qoi {uses}\n")
     run("git", "init", "-q", ".", cwd=root)
     return root / "crates" / name
+
+
+def entries(top=TOP, root=ROOM / "port"):
+    """The static library of the calls that bench.c times."""
+    library = port("qoi_bench", " staticlib", "entries.rt.txt", top=top, root=root)
+    run("rt", "lib", cwd=library)
+    return library / "out/libqoi_bench.a"
+
+
+def before():
+    """The same of the commit that BEFORE names. Its calls are named before_.. and not port_.."""
+    root = ROOM / "before"
+    shutil.rmtree(root / "tree", ignore_errors=True)
+    (root / "tree").mkdir(parents=True)
+    run("git", "-C", TOP, "archive", "-o", root / "tree.tar", BEFORE, "bench", "crates/qoi")
+    run("tar", "-x", "-f", root / "tree.tar", "-C", root / "tree")
+    built, to = entries(root / "tree", root), root / "before.a"
+    names = re.findall(r"fn port_(\w+)", (root / "tree/bench/entries.rt.txt").read_text())
+    run("objcopy", *(f"--redefine-sym=port_{it}=before_{it}" for it in names), built, to)
+    return to
 
 
 def peer(name, source, more, features=("reference",)):
