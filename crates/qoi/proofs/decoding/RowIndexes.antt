@@ -9,12 +9,12 @@ use Rattle.qoi.specs.Decoded.{HasHeader, HasRefusedFile}
 use Rattle.qoi.specs.DecoderState.{DecoderState, output_byte_count}
 use Rattle.qoi.specs.Qoi.{channels_number, pixel_count, header_of, header_size, meaning, chunk_bytes, end_marker}
 use Rattle.qoi.specs.Reading.{IsImage, StandsAhead}
-use Rattle.qoi.specs.Raw.{image_byte_count, output}
+use Rattle.qoi.specs.Raw.{output}
 use Rattle.qoi.specs.Images.{file_image, image_by}
 use Rattle.qoi.specs.pieces.PixelReader.{PixelsState, pixels_left, HasGiven, HasRows, RefusesPixels}
 use Rattle.qoi.specs.pieces.RowIndex.{file_decoder, row_size, PlaceState, StandsAt, ArePlaces, ReadsFile, IsRowIndex}
 use Rattle.qoi.proofs.format.HeaderBytes.{header_front, header_split}
-use Rattle.std.proofs.Math.Nat.{mul_comm}
+use Rattle.std.proofs.Math.Nat.{mul_assoc, mul_comm}
 use Rattle.std.proofs.lemmas.Nat.{mul-le}
 use Rattle.qoi.proofs.format.WholePixels.{length-output}
 use Rattle.qoi.proofs.decoding.FrontImage.{image_is}
@@ -181,8 +181,8 @@ at_row channels h file k p (is, given, r) within left =
     let all : length given + pixels_left p ≡ h.width * (rest + k) * c = r.left ∙ sym (ap (λ z. h.width * z * c) split) in
     (given, rows_before h.width rest k c (length given) (pixels_left p) left all, r)
 
--- the image of an index has as many bytes as its header says
-pub image_size : (h : Header) (file : List ℕ) (places : List PlaceState) → header_of file ≡ Ok h → IsRowIndex file places → length (file_image file) ≡ image_byte_count h
+-- the image of an index has as many rows as its header says
+pub image_size : (h : Header) (file : List ℕ) (places : List PlaceState) → header_of file ≡ Ok h → IsRowIndex file places → length (file_image file) ≡ row_size h.channels h * h.height
 unfolding StandsAhead file_image
 image_size h file places is index =
     let bytes = drop header_size file in
@@ -193,6 +193,7 @@ image_size h file places is index =
     let image : IsImage h.channels bytes h rest (output f f ps) = record { cs = cs; whole = whole; out_is = refl } in
     ap length (ap (λ r. image_by r bytes) is ∙ sym (image_is h.channels h bytes rest (output f f ps) image)) ∙ length-output f f ps (channels_are h.channels f refl)
     ∙ ap (λ k. f * k) (length-take-le n (meaning cs) whole.enough) ∙ mul_comm f n
+    ∙ mul_assoc h.width h.height f ∙ ap (λ k. h.width * k) (mul_comm h.height f) ∙ sym (mul_assoc h.width f h.height)
 
 -- a place that was found in an index
 pub place_found : (h : Header) (file : List ℕ) (places view : List PlaceState) (i : ℕ) (m : PlaceState) → view ≡ places → header_of file ≡ Ok h → IsRowIndex file view

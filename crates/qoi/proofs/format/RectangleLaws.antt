@@ -89,6 +89,12 @@ length-rectangle stride top left (suc rows) size raw fits inside =
       length-append (rectangle stride top left rows size raw) (take size (drop left (row_bytes stride raw (top + rows)))),
     )
 
+-- a rectangle that lies within a picture of so many rows, too
+pub length-part_of_picture : (stride height top left rows size : ℕ) (raw : List ℕ) → length raw ≡ stride * height → top + rows ≤ height → left + size ≤ stride
+    → length (rectangle stride top left rows size raw) ≡ size * rows
+length-part_of_picture stride height top left rows size raw many below fits =
+    length-rectangle stride top left rows size raw fits (omega (arith, many, mul-le stride (top + rows) stride height (omega arith) below))
+
 -- whole rows are one stretch of the raw bytes
 pub whole_rows : (stride top rows : ℕ) (raw : List ℕ) → rectangle stride top 0 rows stride raw ≡ take (stride * rows) (drop (stride * top) raw)
 whole_rows stride top zero raw = ap (λ n. take n (drop (stride * top) raw)) (sym (mul-zero stride))

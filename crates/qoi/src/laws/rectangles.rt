@@ -18,10 +18,14 @@ pub fn rectangles_are_parts()
         ≡ rectangle stride top left m size raw ++ rectangle stride (top + m) left n size raw }
 {}
 
-/// A rectangle that lies within the picture: how many bytes it has, its rows, and its bytes.
+/// A rectangle that lies within the picture: how many bytes it has (also within one of so many
+/// rows), its rows, and its bytes.
 pub fn rectangles_within()
     ensures size { (stride top left rows size : ℕ) (raw : List ℕ) → left + size ≤ stride
         → stride * (top + rows) ≤ length raw
+        → length (rectangle stride top left rows size raw) ≡ size * rows }
+    ensures size_in { (stride height top left rows size : ℕ) (raw : List ℕ)
+        → length raw ≡ stride * height → top + rows ≤ height → left + size ≤ stride
         → length (rectangle stride top left rows size raw) ≡ size * rows }
     ensures row { (stride top left rows size i : ℕ) (raw : List ℕ) → left + size ≤ stride
         → stride * (top + rows) ≤ length raw → i < rows

@@ -4,8 +4,8 @@ ghost use Rattle.qoi.specs.Decoded.{HasRefusedFile};
 ghost use Rattle.qoi.specs.DecoderState.{DecoderState};
 ghost use Rattle.qoi.specs.Images.{front_image, file_image};
 ghost use Rattle.qoi.specs.Qoi.{channels_number, header_of, header_size, pixel_count, pixels_max, IsValid};
-ghost use Rattle.qoi.specs.Raw.{image_byte_count};
 ghost use Rattle.qoi.specs.Reading.{StandsAhead};
+ghost use Rattle.qoi.specs.Rectangles.{rectangle};
 ghost use Rattle.qoi.specs.declared.error.Error.{Error};
 ghost use Rattle.qoi.specs.declared.header.Header.{Header};
 ghost use Rattle.qoi.specs.declared.types.Channels.{Channels};
@@ -138,6 +138,9 @@ impl RowIndex {
         // begins with it.
         ensures index { IfOk result (IsRowIndex file.now) }
         ensures index_then { (more : List ℕ) → IfOk result (IsRowIndex (file.now ++ more)) }
+        // The image has as many rows as its header says.
+        ensures size { (h : Header) → header_of file.now ≡ Ok h
+            → OnOk result (length (file_image file.now) ≡ row_size h.channels h * h.height) }
         // It has no more places than this.
         ensures few { (h : Header) → header_of file.now ≡ Ok h
             → IfOk result (λ i. length i ≤ (h.height - 1) / max every 1) }
@@ -205,7 +208,13 @@ impl RowIndex {
             ≡ file_image file.entry.now }
         ensures size { (h : Header) → header_of file.entry.now ≡ Ok h
             → IsRowIndex file.entry.now self.now
-            → length (file_image file.entry.now) ≡ image_byte_count h }
+            → length (file_image file.entry.now) ≡ row_size h.channels h * h.height }
+        // A rectangle that lies within it has `size` bytes of each row.
+        ensures part { (h : Header) (top left rows size : ℕ) → header_of file.entry.now ≡ Ok h
+            → IsRowIndex file.entry.now self.now → top + rows ≤ h.height
+            → left + size ≤ row_size h.channels h
+            → length (rectangle (row_size h.channels h) top left rows size
+            (file_image file.entry.now)) ≡ size * rows }
         // The refusals.
         ensures accepts { (h : Header) → header_of file.entry.now ≡ Ok h
             → IsRowIndex file.entry.now self.now → first ≤ h.height → IsOk result }

@@ -3,7 +3,7 @@ use Rattle.std.proofs.Common.{sym, ap, subst, inl, length, arith}
 use Rattle.std.proofs.lemmas.Result.{err_from_is_err_and}
 use Rattle.qoi.specs.Qoi.{pixel_count}
 use Rattle.qoi.specs.pieces.RowIndex.{ArePlaces}
-use Rattle.qoi.proofs.decoding.RowIndexes.{no_places, still_going, refused_header, row_index, row_index_then, stands_whole}
+use Rattle.qoi.proofs.decoding.RowIndexes.{image_size, no_places, still_going, refused_header, row_index, row_index_then, stands_whole}
 use Rattle.qoi.proofs.decode.pixel_reader.row_index.RowIndex.new.Goals as goal
 
 pub loop-k-init : goal.loop-k-init
@@ -29,6 +29,9 @@ returns-clause-index c =
 
 pub returns-clause-index_then : goal.returns-clause-index_then
 returns-clause-index_then c more = row_index_then c.args.file.now more c.loop-k.places.items (returns-clause-index c)
+
+pub returns-clause-size : goal.returns-clause-size
+returns-clause-size c h is = image_size h c.args.file.now _ is (returns-clause-index c)
 
 pub returns-in_err-header-clause-refused : goal.returns-in_err-header-clause-refused
 returns-in_err-header-clause-refused c =

@@ -6,6 +6,7 @@ use Rattle.qoi.specs.Qoi.{header_size}
 use Rattle.qoi.specs.pieces.PixelReader.{HasRows}
 use Rattle.qoi.specs.pieces.RowIndex.{file_decoder, row_size}
 use Rattle.qoi.proofs.decoding.RowIndexes.{image_size}
+use Rattle.qoi.proofs.format.RectangleLaws.{length-part_of_picture}
 use Rattle.qoi.proofs.decode.pixel_reader.row_index.RowIndex.rows.Goals as goal
 
 pub returns-clause-rows : goal.returns-clause-rows
@@ -21,3 +22,7 @@ returns-clause-image c h is = sym (ap (λ r. image_by r (drop header_size c.args
 
 pub returns-clause-size : goal.returns-clause-size
 returns-clause-size c h is index = image_size h _ _ is index
+
+pub returns-clause-part : goal.returns-clause-part
+returns-clause-part c h top left rows size is index below within =
+    length-part_of_picture (row_size h.channels h) h.height top left rows size (file_image c.args.file.now) (image_size h _ _ is index) below within
