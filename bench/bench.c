@@ -5,6 +5,9 @@
                                                   least of each; before it "wrong", row, who, and of how many
                                                   pictures it made other bytes or pixels, if of any
    bench chunks - - PICTURE..                     how many chunks the files have, and how many RGB and RGBA ones
+   bench index ROUNDS - PICTURE..                 a line for each picture and index of its rows: rows between two places,
+                                                  bytes, seconds of the last row with all rows above, of making the
+                                                  index, of the last row by it
    bench keep WHO COUNT PICTURE                   kilobytes that COUNT files take, which are made and kept, and the bytes
                                                   of one
 
@@ -94,6 +97,9 @@ encode port_encode_buffer, port_encode_vector, port_encode_slice, port_encode_gr
 decode port_decode_buffer, port_decode_vector, port_decode_stream, port_decode_stream_buffered, port_decode_buf_read,
     port_decode_rows, port_decode_rows_buf_read;
 keep port_keep;
+/* The last row, so many times: by an index with a place each `every` rows, which is made first, or if that is 0 with all
+   rows above. */
+size_t port_last_row(uint8_t *out, size_t room, const uint8_t *file, size_t len, uint32_t every, uint32_t times);
 
 #define ENCODES(who, call) {who, .encode = call}
 #define DECODES(who, call) {who, .decode = call}
@@ -252,6 +258,35 @@ static void time_row(const struct row *row, int rounds) {
     }
 }
 
+static double last_row(struct picture *p, uint32_t every, uint32_t times, int rounds) {
+    size_t row = (size_t)p->width * p->channels;
+    double least = 1e9;
+    for (int r = 0; r < rounds; r++) {
+        double start = now();
+        size_t size = port_last_row(p->out, row, p->file, p->size, every, times);
+        double taken = now() - start;
+        int wrong = times && memcmp(p->out, p->raw + p->len - row, row);
+        if (size != row || wrong) fail("the port reads another row", "an index");
+        if (taken < least) least = taken;
+    }
+    return least;
+}
+
+static int time_indexes(int rounds) {
+    enum { TIMES = 100, PLACE = 288 };
+    for (int i = 0; i < count; i++) {
+        struct picture *p = &pictures[i];
+        double above = last_row(p, 0, 1, rounds);
+        for (uint32_t every = 16; every <= 256; every *= 4) {
+            double made = last_row(p, every, 0, rounds);
+            double row = (last_row(p, every, TIMES, rounds) - made) / TIMES;
+            unsigned bytes = PLACE * ((p->height - 1) / every);
+            printf("%u\t%u\t%.9f\t%.9f\t%.9f\n", every, bytes, above, made, row);
+        }
+    }
+    return 0;
+}
+
 static long kilobytes(const char *field) {
     char line[200];
     long found = 0;
@@ -292,6 +327,7 @@ int main(int argc, char **argv) {
     if (argc < 5) return 2;
     for (int a = 4; a < argc; a++) load(argv[a]);
     if (!strcmp(argv[1], "chunks")) return count_chunks();
+    if (!strcmp(argv[1], "index")) return time_indexes(atoi(argv[2]));
     if (!strcmp(argv[1], "keep")) return keep_files(argv[2], atoi(argv[3]));
     int anew = !strcmp(argv[3], "anew"), buffers = !strcmp(argv[3], "buffers");
     mallopt(M_MMAP_MAX, anew ? 65536 : 0);

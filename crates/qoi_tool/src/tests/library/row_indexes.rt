@@ -1,6 +1,6 @@
-//! Callers that cut tiles out of a file by an index of its rows. Only the loop has a proof file, with
-//! its invariant.
-ghost use Rattle.std.specs.Prelude.{◌≡◌, ◌+◌, ◌<◌, ◌≤◌, ◌^◌, length, drop, Some, Ok, IfOk};
+//! Callers that cut tiles out of a file by an index of its rows, and put a picture together from them.
+//! Only the loops have proof files, with their invariants.
+ghost use Rattle.std.specs.Prelude.{◌≡◌, ℕ, ◌+◌, ◌*◌, ◌<◌, ◌≤◌, ◌^◌, List, length, drop, Some, Ok, IsTrue, IfOk, OnOk};
 ghost use Rattle.qoi.specs.Images.{front_image, file_image};
 ghost use Rattle.qoi.specs.Qoi.{header_of, header_size};
 ghost use Rattle.qoi.specs.Rectangles.{rectangle};
@@ -8,8 +8,9 @@ ghost use Rattle.qoi.specs.declared.header.Header.{Header};
 ghost use Rattle.qoi.specs.pieces.PixelReader.{HasRows};
 ghost use Rattle.qoi.specs.pieces.RowIndex.{file_decoder, row_size, IsRowIndex};
 
-use crate::tests::library::rectangles::{Area, keep, next_row, stride_of};
+use crate::tests::library::rectangles::{Area, keep, next_row, paste, stride_of};
 use crate::tests::library::support::assert_bytes;
+use qoi::laws::rectangles::{rectangles_are_parts, rows_are_put};
 use qoi::parts::Bytes;
 use qoi::{Error, Header, PixelReader, RowIndex, decode_header, encode_to_vec};
 use std::alloc::Global;
@@ -43,9 +44,10 @@ fn tile_rows(
 /// tile: no row above the index's place is decoded, nor any below the tile.
 pub fn tile(alloc: Global, index: &RowIndex, file: &[u8], area: Area) -> Result<Vec<u8>, Error>
     requires index { IsRowIndex file.now index.now }
-    ensures { (h : Header) → header_of file.now ≡ Ok h
+    ensures tile { (h : Header) → header_of file.now ≡ Ok h
         → IfOk result (λ tile. tile.items ≡ rectangle (row_size h.channels h)
         area.top area.left area.rows area.size (file_image file.now)) }
+    ensures size { IfOk result (λ tile. length tile.items ≡ area.size * area.rows) }
 {
     let header = decode_header(file)?;
     let stride = stride_of(&header);
@@ -56,6 +58,59 @@ pub fn tile(alloc: Global, index: &RowIndex, file: &[u8], area: Area) -> Result<
     let mut row = vec![in alloc; 0u8; stride]?;
     let tile = tile_rows(alloc, &mut pixels, file, header, &mut row, area)?;
     Ok(tile)
+}
+
+// How many rows a tile has, but for the last one.
+const ROWS: usize = 2;
+
+// Whether these are the raw bytes of so many rows.
+fn has_rows(raw: &[u8], stride: usize, height: usize) -> bool
+    ensures { IsTrue result → length raw.now ≡ stride * height }
+{
+    stride.checked_mul(height) == Some(raw.len())
+}
+
+// Puts a tile of whole rows below those that a picture has of an image already.
+fn put_rows(raw: &mut [u8], height: usize, area: Area, tile: &[u8])
+    requires picture { length raw.old ≡ area.size * height }
+    requires below { area.top + area.rows ≤ height }
+    requires whole { area.left ≡ 0 }
+    requires tile { length tile.now ≡ area.size * area.rows }
+    ensures size { length raw.new ≡ length raw.old }
+    ensures rows { (image : List ℕ) → tile.now ≡ rectangle area.size area.top 0 area.rows area.size
+        image → rectangle area.size 0 0 area.top area.size raw.old
+        ≡ rectangle area.size 0 0 area.top area.size image
+        → rectangle area.size 0 0 (area.top + area.rows) area.size raw.new
+        ≡ rectangle area.size 0 0 (area.top + area.rows) area.size image }
+{
+    rows_are_put();
+    paste(raw, area.size, height, area, tile);
+}
+
+/// Puts the image of a file together from tiles of whole rows, which are cut by one index.
+pub fn put_together(alloc: Global, file: &[u8], raw: &mut [u8]) -> Result<(), Error>
+    ensures { OnOk result (raw.new ≡ file_image file.now) }
+{
+    rectangles_are_parts();
+    let header = decode_header(file)?;
+    let (stride, height) = (stride_of(&header), header.height as usize);
+    if !has_rows(raw, stride, height) {
+        return Err(Error::UnexpectedBufferEnd);
+    }
+    let index = RowIndex::new(alloc, file, 1)?;
+    let mut top = 0;
+    while top < height {
+        let area = Area {
+            top,
+            rows: ROWS.min(height - top),
+            left: 0,
+            size: stride,
+        };
+        let tile = tile(alloc, &index, file, area)?;
+        put_rows(raw, height, area, &tile);
+        top += area.rows;
+    }
+    Ok(())
 }
 
 // Three rows of four bytes.
@@ -74,5 +129,8 @@ fn a_tile_by_an_index(rt: HostRuntime) -> Result<(), Error> {
     };
     let tile = tile(alloc, &index, &file, area)?;
     assert_bytes(&rt, &tile, &[22, 23, 32, 33]);
+    let mut picture = [0; 12];
+    put_together(alloc, &file, &mut picture)?;
+    assert_bytes(&rt, &picture, &PICTURE);
     Ok(())
 }
