@@ -9,10 +9,12 @@ ghost use Rattle.qoi.specs.Decoded.{HasHeader, HasRefusedHeader, HasDecoded, Has
 ghost use Rattle.qoi.specs.Raw.{capped_byte_count, image_byte_count};
 ghost use Rattle.qoi.specs.Sent.{IsFileFor};
 
+mod blocks;
 mod buffered;
 mod chunks;
 mod deltas;
 mod fast;
+mod full_rows;
 mod hashed;
 mod in_place;
 mod one_chunk;

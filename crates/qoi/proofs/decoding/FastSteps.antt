@@ -8,7 +8,7 @@ use mir.Val.{bool_byte}
 use Rattle.qoi.specs.declared.decode.fast.Progress.{Progress}
 use Rattle.qoi.specs.Qoi.{Past}
 use Rattle.qoi.specs.Raw.{IsChannels}
-use Rattle.qoi.specs.inner.Filling.{upto, Filling, filling, further, IsFillable, HasWritten, HasFilled, DecodesChunk, DecoderBetween, IsFrontAfter, Fast, fast, FastStep, FastChunks}
+use Rattle.qoi.specs.inner.Filling.{upto, filling, further, HasWritten, HasFilled, HasAhead, DecodesChunk, DecoderBetween, IsFrontAfter, Fast, fast, FastStep, FastChunks}
 use Rattle.qoi.specs.inner.Hashed.{pixel_of_lanes, HoldsSeen}
 use Rattle.qoi.proofs.format.WholePixels.{by_channels}
 use Rattle.qoi.proofs.decoding.FilledBuffer.{filled_copies}
@@ -94,21 +94,38 @@ fast_step {f} {c} {bytes = bytes} {table} {table'} {out} {out'} now new count is
       byte = byte;
     }
 
--- the output can still be filled after a step
-pub fillable_after : {f c input room : ℕ} {bytes : List ℕ} {old new : Fast} → FastStep f c input room bytes old new → IsFillable c (upto old.out old.now.at)
-    → length new.out ≡ length old.out → new.now.at ≤ length new.out → IsFillable c (upto new.out new.now.at)
-fillable_after {c = c} step h size within = record { three_or_four = h.three_or_four; within = within; whole = (ap (λ k. k % c) size ∙ h.whole.0, step.whole) }
+-- no chunk was taken yet
+pub no_chunks : {f c room : ℕ} {bytes table out : List ℕ} (now : Progress) → HasAhead c 1 room bytes out now → FastChunks f c bytes (fast now table out) (fast now table out)
+no_chunks now ahead = record {
+  between = λ gone n front h. h;
+  taken = (omega arith, omega (arith, ahead.input_is));
+  written = (omega arith, omega (arith, ahead.room_is));
+  below = λ less. less;
+  whole = ahead.whole;
+  byte = ahead.byte;
+}
 
 -- a step more of the fast loop
-pub step_more : {f c input room taken : ℕ} {bytes : List ℕ} {old : Filling} {middle new : Fast} → FastChunks f c bytes taken old middle
-    → FastStep f c input room bytes middle new → new.now.taken < length bytes → length new.out ≡ length middle.out → new.now.at < length new.out
-    → FastChunks f c bytes taken old new
-step_more before step within size below = record {
+pub step_more : {f c input room : ℕ} {bytes : List ℕ} {old middle new : Fast} → FastChunks f c bytes old middle
+    → FastStep f c input room bytes middle new → new.now.taken < length bytes → new.now.at < length new.out → FastChunks f c bytes old new
+step_more before step within below = record {
   between = λ gone n front h. step.between gone n front (before.between gone n front h);
-  within = within;
-  written = omega (arith, before.written, step.written);
+  taken = (omega (arith, before.taken, step.taken), within);
+  written = (omega (arith, before.written, step.written), omega (arith, below));
   below = λ _. below;
-  fillable = fillable_after step before.fillable size (omega (arith, below));
+  whole = step.whole;
+  byte = step.byte;
+}
+
+-- more chunks were taken after others
+pub chunks_then : {f c : ℕ} {bytes : List ℕ} {old middle new : Fast} → FastChunks f c bytes old middle → FastChunks f c bytes middle new → FastChunks f c bytes old new
+chunks_then a b = record {
+  between = λ gone n front h. b.between gone n front (a.between gone n front h);
+  taken = (omega (arith, a.taken, b.taken), b.taken.1);
+  written = (omega (arith, a.written, b.written), b.written.1);
+  below = λ less. b.below (a.below less);
+  whole = b.whole;
+  byte = b.byte;
 }
 
 -- two steps are one

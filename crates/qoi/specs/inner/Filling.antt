@@ -2,7 +2,7 @@
 use Rattle.std.specs.Prelude.{◌≡◌, ℕ, ◌-◌, ◌*◌, ◌/◌, ◌%◌, ◌+◌, ◌<◌, ◌≤◌, List, [], ◌++◌, length, take, reverse, replicate, min, slice_index, ◌⊎◌}
 use Rattle.qoi.specs.declared.chunk.Chunk.{Chunk}
 use Rattle.qoi.specs.declared.decode.fast.Progress.{Progress}
-use Rattle.qoi.specs.Qoi.{RgbaPixel, Past, run_tag, previous, IsChunk, AreChunks, bytes_of, chunk_bytes, times, then_chunk, then_chunks, StayBelow}
+use Rattle.qoi.specs.Qoi.{RgbaPixel, Past, run_tag, rgb_tag, rgba_tag, previous, IsChunk, AreChunks, bytes_of, chunk_bytes, times, then_chunk, then_chunks, StayBelow}
 use Rattle.qoi.specs.inner.Hashed.{pixel_of_lanes, HoldsSeen}
 use Rattle.qoi.specs.Raw.{IsChannels, output}
 
@@ -120,6 +120,14 @@ pub record Fast : Type 0 where
 abbrev pub fast : Progress → List ℕ → List ℕ → Fast
 fast now table out = record { now = now; table = table; out = out }
 
+-- the first byte of an RGB or of an RGBA chunk
+abbrev pub IsFullTag : ℕ → Type 0
+IsFullTag b = (b ≡ rgb_tag) ⊎ (b ≡ rgba_tag)
+
+-- in a row of RGB chunks the pixel has the alpha of the one before the row
+abbrev pub KeepsAlpha : ℕ → ℕ → ℕ → Type 0
+KeepsAlpha tag before now = tag ≡ rgb_tag → (pixel_of_lanes now).a ≡ (pixel_of_lanes before).a
+
 -- so many short chunks are decoded in a row at most
 abbrev pub IsRow : ℕ → Type 0
 IsRow n = (n ≡ 1) ⊎ (n ≡ 8)
@@ -134,11 +142,12 @@ pub record FastStep (file_channels channels input room : ℕ) (bytes : List ℕ)
   pub whole : new.now.at % channels ≡ 0
   pub byte : new.now.next < 256
 
--- the fast loop took chunks after the first `taken` bytes, and stopped before the end of its bytes
-pub record FastChunks (file_channels channels : ℕ) (bytes : List ℕ) (taken : ℕ) (old : Filling) (new : Fast) : Type 0 where
-  pub between : (gone : Past) (n : ℕ) (before : List ℕ) → DecoderBetween file_channels channels gone n (IsFrontAfter before bytes taken) old
+-- the fast loop took chunks, and stopped before the end of its bytes
+pub record FastChunks (file_channels channels : ℕ) (bytes : List ℕ) (old new : Fast) : Type 0 where
+  pub between : (gone : Past) (n : ℕ) (before : List ℕ) → FastBetween file_channels channels gone n before bytes old.now old.table old.out
       → FastBetween file_channels channels gone n before bytes new.now new.table new.out
-  pub within : new.now.taken < length bytes
-  pub written : old.buffer.at ≤ new.now.at
-  pub below : old.buffer.at < length old.buffer.out → new.now.at < length new.out
-  pub fillable : IsFillable channels (upto new.out new.now.at)
+  pub taken : (old.now.taken ≤ new.now.taken) × (new.now.taken < length bytes)
+  pub written : (old.now.at ≤ new.now.at) × (new.now.at ≤ length new.out)
+  pub below : old.now.at < length old.out → new.now.at < length new.out
+  pub whole : new.now.at % channels ≡ 0
+  pub byte : new.now.next < 256

@@ -1,6 +1,6 @@
 //! The loops over chunks in memory while input and output have room ahead: for eight short ones and
 //! a full one, which is tested once for all nine or, near the end of an output that goes on
-//! elsewhere, for one of each. They can go on from any pixel.
+//! elsewhere, for one of each.
 ghost use Rattle.std.specs.Prelude.{◌≡◌, ◌↔◌, IsTrue, ◌+◌, ◌-◌, ◌*◌, ◌/◌, ◌<◌, ◌≤◌, ◌^◌, length, replicate};
 ghost use Rattle.qoi.specs.Qoi.{run_tag, rgb_tag};
 ghost use Rattle.qoi.specs.Raw.{IsChannels};
@@ -11,7 +11,6 @@ ghost use Rattle.qoi.specs.inner.Hashed.{pixel_of_lanes};
 use crate::consts::{QOI_OP_RGB, QOI_OP_RGBA, QOI_OP_RUN};
 use crate::decode::deltas::{advance, is_luma};
 use crate::decode::hashed::Hashed;
-use crate::decode::one_chunk::Decoded;
 use crate::decode::output::{RUN_ROOM, VECTOR, store_late_run, store_run, store_vector};
 use crate::decode::table::TermTable;
 use crate::utils::pick;
@@ -60,7 +59,7 @@ fn leaves_room<const N: usize>(b1: u8, room: usize) -> bool
 }
 
 impl Progress {
-    ghost use Rattle.qoi.specs.inner.Filling.{IsFillable, upto, filling, further, TakesOn, TakesFront, HasWritten, IsRow, HasAhead, fast, FastStep};
+    ghost use Rattle.qoi.specs.inner.Filling.{upto, further, HasWritten, IsRow, HasAhead, fast, FastStep, FastChunks};
 
     // The same, with `count` bytes more taken.
     #[inline(always)]
@@ -71,6 +70,20 @@ impl Progress {
         Progress {
             last: self.last,
             taken: self.taken + count,
+            at: self.at,
+            next: self.next,
+        }
+    }
+
+    /// The same, field by field. A copy of the whole would take along the bytes after the last
+    /// field, for which a loop would need registers.
+    #[inline(always)]
+    pub(super) fn by_fields(self) -> Progress
+        ensures { result ≡ self }
+    {
+        Progress {
+            last: self.last,
+            taken: self.taken,
             at: self.at,
             next: self.next,
         }
@@ -250,37 +263,26 @@ impl Progress {
         }
     }
 
-    /// Decodes chunks while input and output have room ahead for `ROW` short ones and a full one, from
-    /// where other chunks stopped.
+    /// Decodes chunks up to the byte `near`, while input and output have room ahead for `ROW` short
+    /// ones and a full one.
     #[inline(always)]
-    pub(super) fn chunks_ahead<const N: usize, const F: usize, const ROW: usize>(
+    pub(super) fn chunks_until<const N: usize, const F: usize, const ROW: usize>(
+        self,
         table: &mut TermTable,
-        from: Decoded,
         bytes: &[u8],
         out: &mut [u8],
-    ) -> Decoded
+        near: usize,
+    ) -> Progress
         requires row { IsRow ROW }
-        requires input { INPUT_ROOM ≤ length bytes.now }
+        requires input { near + INPUT_ROOM ≤ length bytes.now }
         requires room { 16 * ROW + 16 ≤ length out.old }
-        requires within { from.taken < length bytes.now }
-        requires fillable { IsFillable N (upto out.old from.at) }
-        ensures between { TakesOn F N bytes.now from.taken result.taken
-            (filling table.old from.last out.old from.at)
-            (filling table.new result.last out.new result.at) }
-        ensures within { result.taken < length bytes.now }
-        ensures written { from.at ≤ result.at }
-        ensures below { from.at < length out.old → result.at < length out.new }
-        ensures fillable { IsFillable N (upto out.new result.at) }
+        requires ahead { HasAhead N 1 0 bytes.now out.old self }
+        ensures { FastChunks F N bytes.now
+            (fast self table.old out.old) (fast result table.new out.new) }
     {
-        let mut now = Progress {
-            last: from.last,
-            taken: from.taken,
-            at: from.at,
-            next: bytes[from.taken],
-        };
-        let far = bytes.len() - INPUT_ROOM;
+        let mut now = self.by_fields();
         let top = out.len() - (VECTOR * ROW + VECTOR);
-        while now.taken <= far && now.at <= top {
+        while now.taken <= near && now.at <= top {
             now = now.short_row::<N, F, ROW>(table, bytes, out);
             if is_short::<N>(now.next) {
                 continue;
@@ -290,39 +292,9 @@ impl Progress {
             } else if leaves_room::<N>(now.next, out.len() - now.at) {
                 now = now.long_run::<N, F>(table, bytes, out);
             } else {
-                break;
+                return now.by_fields();
             }
         }
-        Decoded {
-            taken: now.taken,
-            last: now.last,
-            at: now.at,
-        }
-    }
-
-    /// Decodes chunks from the front of the bytes, after the pixel `last` and the first `at` bytes
-    /// of `out`, while there is room ahead, and returns where it stopped. The caller goes on
-    /// chunk by chunk.
-    #[inline(always)]
-    pub(super) fn fast_chunks<const N: usize, const F: usize>(
-        table: &mut TermTable,
-        last: Hashed,
-        bytes: &[u8],
-        out: &mut [u8],
-        at: usize,
-    ) -> Decoded
-        requires { IsFillable N (upto out.old at) }
-        ensures between { TakesFront F N bytes.now result.taken
-            (filling table.old last out.old at) (filling table.new result.last out.new result.at) }
-        ensures within { result.taken ≤ length bytes.now }
-        ensures written { at ≤ result.at }
-        ensures below { at < length out.old → result.at < length out.new }
-        ensures fillable { IsFillable N (upto out.new result.at) }
-    {
-        let none = Decoded { taken: 0, last, at };
-        if bytes.len() < INPUT_ROOM || out.len() < OUTPUT_ROOM {
-            return none;
-        }
-        Progress::chunks_ahead::<N, F, 8>(table, none, bytes, out)
+        now.by_fields()
     }
 }

@@ -21,6 +21,7 @@ mod exact;
 mod facts;
 mod faults;
 mod following;
+mod full_rows;
 mod generated;
 mod lengths;
 mod memory;

@@ -11,7 +11,7 @@ use std::process::Abort;
 
 // The kinds of chunk; of runs, how many pixels they have.
 #[derive(Clone, Copy)]
-enum Kind {
+pub enum Kind {
     Place,
     Diff,
     Luma,
@@ -22,7 +22,7 @@ enum Kind {
 
 // Each kind; runs that a block of sixteen bytes holds in four channels, in three, and in none.
 #[rattlefmt::skip]
-const KINDS: [Kind; 10] = [Kind::Place, Kind::Diff, Kind::Luma, Kind::Rgb, Kind::Rgba,
+pub const KINDS: [Kind; 10] = [Kind::Place, Kind::Diff, Kind::Luma, Kind::Rgb, Kind::Rgba,
     Kind::Run(1), Kind::Run(4), Kind::Run(5), Kind::Run(6), Kind::Run(62)];
 
 // The last of the pixels whose index position is `i`, or transparent black.
@@ -38,14 +38,14 @@ fn seen(pixels: &[Rgba], i: usize) -> Rgba {
 
 // Chunks, and the pixels that they mean.
 #[derive(Drop)]
-struct List {
+pub struct List {
     chunks: Vec<u8>,
     pixels: Vec<Rgba>,
 }
 
 impl List {
     // No chunks.
-    fn new(alloc: Global) -> List {
+    pub fn new(alloc: Global) -> List {
         List {
             chunks: Vec::new(alloc),
             pixels: Vec::new(alloc),
@@ -68,7 +68,7 @@ impl List {
     }
 
     // Adds an RGBA chunk.
-    fn put_full(&mut self, px: Rgba) -> Result<()> {
+    pub fn put_full(&mut self, px: Rgba) -> Result<()> {
         let [r, g, b, a] = px;
         self.put(&[0xff, r, g, b, a], px)
     }
@@ -125,7 +125,7 @@ impl List {
 
     // Adds a chunk of a kind, which is another for other `n`. An index position is that of one of
     // the eight pixels before.
-    fn add(&mut self, kind: Kind, n: u8) -> Result<()> {
+    pub fn add(&mut self, kind: Kind, n: u8) -> Result<()> {
         let (x, y, z) = (n.wrapping_mul(37), n.wrapping_mul(91), n.wrapping_mul(151));
         match kind {
             Kind::Place => {
@@ -162,7 +162,7 @@ impl List {
     }
 
     // The same from each kind of reader.
-    fn check_readers(&self, rt: &impl Abort, alloc: Global, own: Channels) {
+    pub fn check_readers(&self, rt: &impl Abort, alloc: Global, own: Channels) {
         let (header, file) = self.file(rt, alloc, own);
         for channels in [Channels::Rgb, Channels::Rgba] {
             let raw = made::seen(rt, alloc, &self.pixels, own, channels);
@@ -176,7 +176,7 @@ impl List {
     }
 
     // Under both headers.
-    fn check(&self, rt: &impl Abort, alloc: Global) {
+    pub fn check(&self, rt: &impl Abort, alloc: Global) {
         self.check_in(rt, alloc, Channels::Rgb);
         self.check_in(rt, alloc, Channels::Rgba);
     }

@@ -1,0 +1,138 @@
+//! Chunks in memory while input and output have room ahead, from any pixel on: in blocks, after
+//! each of which a row of RGB or of RGBA chunks is looked for. So such rows cost the fast loop
+//! nothing.
+ghost use Rattle.std.specs.Prelude.{◌+◌, ◌*◌, ◌<◌, ◌≤◌, length};
+ghost use Rattle.qoi.specs.declared.decode.fast.TheConstants.{INPUT_ROOM, OUTPUT_ROOM};
+
+use crate::decode::fast::{INPUT_ROOM, OUTPUT_ROOM, Progress};
+use crate::decode::hashed::Hashed;
+use crate::decode::one_chunk::Decoded;
+use crate::decode::table::TermTable;
+
+// How many bytes of input the first block has, and a later one.
+const FIRST_BLOCK: usize = 128;
+
+const BLOCK: usize = 2048;
+
+// After a row of more bytes than `LONG_ROW` another one may soon follow, and a block has fewer.
+const LONG_ROW: usize = 32;
+
+const SHORT_BLOCK: usize = 8;
+
+impl Progress {
+    ghost use Rattle.qoi.specs.inner.Filling.{IsFillable, upto, filling, TakesOn, TakesFront, IsRow, HasAhead, fast, FastChunks};
+
+    // Decodes blocks of chunks and rows of full ones while there is room ahead.
+    #[inline(always)]
+    fn blocks_of_chunks<const N: usize, const F: usize>(
+        self,
+        table: &mut TermTable,
+        bytes: &[u8],
+        out: &mut [u8],
+    ) -> Progress
+        requires input { INPUT_ROOM ≤ length bytes.now }
+        requires room { OUTPUT_ROOM ≤ length out.old }
+        requires ahead { HasAhead N 1 0 bytes.now out.old self }
+        ensures { FastChunks F N bytes.now
+            (fast self table.old out.old) (fast result table.new out.new) }
+    {
+        let mut now = self;
+        let far = bytes.len() - INPUT_ROOM;
+        let mut near = far.min(now.taken + FIRST_BLOCK);
+        while now.taken <= far {
+            let block = now.chunks_until::<N, F, 8>(table, bytes, out, near);
+            now = block;
+            if block.taken <= near || far < block.taken {
+                break;
+            }
+            now = block.full_row::<N, F>(table, bytes, out);
+            let is_long = LONG_ROW < now.taken - block.taken;
+            near = far.min(now.taken + if is_long { SHORT_BLOCK } else { BLOCK });
+        }
+        now
+    }
+
+    // Decodes chunks while input and output have room ahead for `ROW` short ones and a full one.
+    #[inline(always)]
+    fn all_chunks<const N: usize, const F: usize, const ROW: usize>(
+        self,
+        table: &mut TermTable,
+        bytes: &[u8],
+        out: &mut [u8],
+    ) -> Progress
+        requires row { IsRow ROW }
+        requires input { INPUT_ROOM ≤ length bytes.now }
+        requires room { 16 * ROW + 16 ≤ length out.old }
+        requires ahead { HasAhead N 1 0 bytes.now out.old self }
+        ensures { FastChunks F N bytes.now
+            (fast self table.old out.old) (fast result table.new out.new) }
+    {
+        if ROW == 8 {
+            return self.blocks_of_chunks::<N, F>(table, bytes, out);
+        }
+        let far = bytes.len() - INPUT_ROOM;
+        self.chunks_until::<N, F, ROW>(table, bytes, out, far)
+    }
+
+    /// Decodes chunks while input and output have room ahead for `ROW` short ones and a full one,
+    /// from where other chunks stopped.
+    #[inline(always)]
+    pub(super) fn chunks_ahead<const N: usize, const F: usize, const ROW: usize>(
+        table: &mut TermTable,
+        from: Decoded,
+        bytes: &[u8],
+        out: &mut [u8],
+    ) -> Decoded
+        requires row { IsRow ROW }
+        requires input { INPUT_ROOM ≤ length bytes.now }
+        requires room { 16 * ROW + 16 ≤ length out.old }
+        requires within { from.taken < length bytes.now }
+        requires fillable { IsFillable N (upto out.old from.at) }
+        ensures between { TakesOn F N bytes.now from.taken result.taken
+            (filling table.old from.last out.old from.at)
+            (filling table.new result.last out.new result.at) }
+        ensures within { result.taken < length bytes.now }
+        ensures written { from.at ≤ result.at }
+        ensures below { from.at < length out.old → result.at < length out.new }
+        ensures fillable { IsFillable N (upto out.new result.at) }
+    {
+        let now = Progress {
+            last: from.last,
+            taken: from.taken,
+            at: from.at,
+            next: bytes[from.taken],
+        };
+        let now = now.all_chunks::<N, F, ROW>(table, bytes, out);
+        Decoded {
+            taken: now.taken,
+            last: now.last,
+            at: now.at,
+        }
+    }
+
+    /// Decodes chunks from the front of the bytes, after the pixel `last` and the first `at` bytes
+    /// of `out`, while there is room ahead, and returns where it stopped. The caller goes on
+    /// chunk by chunk.
+    #[inline(always)]
+    pub(super) fn fast_chunks<const N: usize, const F: usize>(
+        table: &mut TermTable,
+        last: Hashed,
+        bytes: &[u8],
+        out: &mut [u8],
+        at: usize,
+    ) -> Decoded
+        requires { IsFillable N (upto out.old at) }
+        ensures between { TakesFront F N bytes.now result.taken
+            (filling table.old last out.old at) (filling table.new result.last out.new result.at) }
+        ensures within { result.taken ≤ length bytes.now }
+        ensures written { at ≤ result.at }
+        ensures below { at < length out.old → result.at < length out.new }
+        ensures fillable { IsFillable N (upto out.new result.at) }
+    {
+        let none = Decoded { taken: 0, last, at };
+        if bytes.len() < INPUT_ROOM || out.len() < OUTPUT_ROOM {
+            return none;
+        }
+        Progress::chunks_ahead::<N, F, 8>(table, none, bytes, out)
+    }
+}

@@ -1,0 +1,127 @@
+//! Rows of RGB or of RGBA chunks, as noise has them, by a loop of their own.
+ghost use Rattle.std.specs.Prelude.{◌≡◌, ◌+◌, ◌<◌, ◌≤◌, length};
+ghost use Rattle.qoi.specs.declared.decode.fast.TheConstants.{INPUT_ROOM, OUTPUT_ROOM};
+
+use crate::consts::{QOI_OP_RGB, QOI_OP_RGBA};
+use crate::decode::fast::{INPUT_ROOM, OUTPUT_ROOM, Progress};
+use crate::decode::hashed::Hashed;
+use crate::decode::output::store_vector;
+use crate::decode::table::TermTable;
+
+impl Progress {
+    ghost use Rattle.qoi.specs.inner.Filling.{HasAhead, fast, FastStep, FastChunks, IsFullTag, KeepsAlpha};
+
+    // Decodes the chunk that comes next, whose first byte is `TAG`. The alpha that an RGB chunk
+    // keeps is that of `before`, the same pixel for a whole row: so no chunk waits for another.
+    #[inline(always)]
+    fn chunk_of<const N: usize, const F: usize, const TAG: u8>(
+        self,
+        table: &mut TermTable,
+        bytes: &[u8],
+        out: &mut [u8],
+        before: Hashed,
+    ) -> Progress
+        requires ahead { HasAhead N 6 16 bytes.now out.old self }
+        requires tag { IsFullTag TAG × (self.next ≡ TAG) }
+        requires alpha { KeepsAlpha TAG before self.last }
+        ensures step { FastStep F N 5 4 bytes.now
+            (fast self table.old out.old) (fast result table.new out.new) }
+        ensures on { self.taken < result.taken }
+        ensures alpha { KeepsAlpha TAG before result.last }
+    {
+        let last = before.after_full(TAG as usize, &bytes[self.taken..]);
+        table.put(last);
+        store_vector::<N, F>(out, self.at, last);
+        let taken = self.taken + (TAG - (QOI_OP_RGB - 4)) as usize;
+        Progress {
+            last,
+            taken,
+            at: self.at + N,
+            next: bytes[taken],
+        }
+    }
+
+    // Decodes such chunks, as many as come one after the other, but four at most.
+    #[inline(always)]
+    fn chunks_of<const N: usize, const F: usize, const TAG: u8>(
+        self,
+        table: &mut TermTable,
+        bytes: &[u8],
+        out: &mut [u8],
+        before: Hashed,
+    ) -> Progress
+        requires ahead { HasAhead N 21 28 bytes.now out.old self }
+        requires tag { IsFullTag TAG × (self.next ≡ TAG) }
+        requires alpha { KeepsAlpha TAG before self.last }
+        ensures step { FastStep F N 20 16 bytes.now
+            (fast self table.old out.old) (fast result table.new out.new) }
+        ensures on { self.taken < result.taken }
+        ensures alpha { KeepsAlpha TAG before result.last }
+    {
+        let one = self.chunk_of::<N, F, TAG>(table, bytes, out, before);
+        if one.next != TAG {
+            return one;
+        }
+        let two = one.chunk_of::<N, F, TAG>(table, bytes, out, before);
+        if two.next != TAG {
+            return two;
+        }
+        let three = two.chunk_of::<N, F, TAG>(table, bytes, out, before);
+        if three.next != TAG {
+            return three;
+        }
+        three.chunk_of::<N, F, TAG>(table, bytes, out, before)
+    }
+
+    // Decodes such chunks, as many as come one after the other, while there is room ahead.
+    #[inline(never)]
+    fn row_of<const N: usize, const F: usize, const TAG: u8>(
+        self,
+        table: &mut TermTable,
+        bytes: &[u8],
+        out: &mut [u8],
+    ) -> Progress
+        requires tag { IsFullTag TAG }
+        requires input { INPUT_ROOM ≤ length bytes.now }
+        requires room { OUTPUT_ROOM ≤ length out.old }
+        requires ahead { HasAhead N 1 0 bytes.now out.old self }
+        ensures { FastChunks F N bytes.now
+            (fast self table.old out.old) (fast result table.new out.new) }
+    {
+        let before = self.last;
+        let mut now = self.by_fields();
+        let far = bytes.len() - INPUT_ROOM;
+        let top = out.len() - OUTPUT_ROOM;
+        while now.next == TAG && now.taken <= far && now.at <= top {
+            now = now.chunks_of::<N, F, TAG>(table, bytes, out, before);
+        }
+        now.by_fields()
+    }
+
+    /// Decodes a row of RGB or of RGBA chunks, if one comes next.
+    #[inline(always)]
+    pub(super) fn full_row<const N: usize, const F: usize>(
+        self,
+        table: &mut TermTable,
+        bytes: &[u8],
+        out: &mut [u8],
+    ) -> Progress
+        requires input { INPUT_ROOM ≤ length bytes.now }
+        requires room { OUTPUT_ROOM ≤ length out.old }
+        requires ahead { HasAhead N 11 0 bytes.now out.old self }
+        ensures { FastChunks F N bytes.now
+            (fast self table.old out.old) (fast result table.new out.new) }
+    {
+        let at = self.taken;
+        if self.next == QOI_OP_RGB && bytes[at + 4] == QOI_OP_RGB && bytes[at + 8] == QOI_OP_RGB {
+            return self.row_of::<N, F, 0xfe>(table, bytes, out);
+        }
+        if self.next == QOI_OP_RGBA
+            && bytes[at + 5] == QOI_OP_RGBA
+            && bytes[at + 10] == QOI_OP_RGBA
+        {
+            return self.row_of::<N, F, 0xff>(table, bytes, out);
+        }
+        self
+    }
+}
