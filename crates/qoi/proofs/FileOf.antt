@@ -32,8 +32,6 @@ use Rattle.qoi.proofs.decoding.OneFile.{decodes_file}
 use Rattle.qoi.proofs.decoding.Tiles.{tile_put, sent_image, sent_kept, sent_known, sent_stay}
 use Rattle.qoi.proofs.format.ImageHeader.{accepted_says}
 use Rattle.qoi.proofs.format.RawPixels.{pixels_of_are, pixels_of_have, length-pixels_of, output-pixels_of}
-use Rattle.qoi.specs.writers.Writes.{WriterLaws, WroteBut, WroteBeginning}
-use Rattle.qoi.proofs.encoding.piece.WriterProgress.{wrote_next, wrote_part, wrote_all, left_fits}
 use Rattle.qoi.proofs.encoding.styles.StyleLists.{list_written, style_chunks, style_means, style_unique, style_reaches, style_fits, style_length, style_apart, style_regular, style_upper, places_as_long}
 use Rattle.qoi.proofs.shortness.RegularLists.{no_blank_regular}
 use Rattle.qoi.proofs.shortness.Lower.{lower}
@@ -240,52 +238,6 @@ pub file_of_accepted : (style : Style) (h : Header) (raw : List ℕ) (width heig
 file_of_accepted style h raw width height are e =
     let says = accepted_says raw width height h e in
     file_of_image style h raw says.0 says.1 are
-
--- A file of which all went to a writer but the bytes that are kept.
-module _ {W : Type 0} {wrote : W → List ℕ → W → Type 0} {room : W → ℕ} (laws : WriterLaws wrote room) (h : Header) (cs : List Chunk) (start : W) where
-  module _ (front : List ℕ) (is_head : front ≡ header_bytes h) where
-    -- header and chunks, and then the end marker
-    file_is : file h cs ≡ (front ++ chunk_bytes cs) ++ end_marker
-    file_is = ap (λ z. z ++ (chunk_bytes cs ++ end_marker)) (sym is_head) ∙ sym (append_assoc front (chunk_bytes cs) end_marker)
-
-    -- a beginning of header and chunks went
-    pub chunks_part : {now : W} → WroteBeginning wrote start (front ++ chunk_bytes cs) now → WroteBeginning wrote start (file h cs) now
-    chunks_part some = (
-      some.0 ++ end_marker,
-      record {
-        front = some.1.front;
-        split = file_is ∙ ap (λ z. z ++ end_marker) some.1.split
-            ∙ append_assoc some.1.front some.0 end_marker;
-        went = some.1.went;
-      },
-    )
-
-    -- the end marker is kept, too
-    pub marker_kept : {now : W} {kept last : List ℕ} → WroteBut wrote start (front ++ chunk_bytes cs) kept now → last ≡ kept ++ end_marker
-        → WroteBut wrote start (file h cs) last now
-    marker_kept {kept = kept} w is = record {
-      front = w.front;
-      split = file_is ∙ ap (λ z. z ++ end_marker) w.split ∙ append_assoc w.front kept end_marker ∙ ap (λ z. w.front ++ z) (sym is);
-      went = w.went;
-    }
-
-  module _ {now : W} {last : List ℕ} (w : WroteBut wrote start (file h cs) last now) where
-    -- there is room for what is kept
-    pub last_fits : 22 + length (chunk_bytes cs) ≤ room start → length last ≤ room now
-    last_fits enough = left_fits laws start now (file h cs) last w (omega (arith, length-file h cs))
-
-    -- a beginning of it went
-    pub last_part : {next : W} → WroteBeginning wrote now last next → WroteBeginning wrote start (file h cs) next
-    last_part {next} some = wrote_part laws start now next (file h cs) last last [] w (sym (append-nil last)) some
-
-    -- all of the file went
-    pub file_went : {next : W} → wrote now last next → wrote start (file h cs) next
-    file_went {next} went = wrote_all laws start next (file h cs)
-        (wrote_next laws start now next (file h cs) last last [] w (sym (append-nil last)) went)
-
-    -- as many bytes as the room fell by
-    pub file_counts : {next : W} → wrote now last next → room start - room next ≡ length (file h cs)
-    file_counts {next} went = omega (arith, laws.counts start next (file h cs) (file_went went))
 
 -- the chunks of the file in any style span the image
 file_spans : (style : Style) (h : Header) (raw bytes : List ℕ) → (f : IsFileOf style h raw bytes) → Spans h raw f.is_file.encoded.cs

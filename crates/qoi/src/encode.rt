@@ -29,9 +29,8 @@ mod pixels;
 pub(crate) mod runs;
 mod table;
 
-use crate::consts::QOI_HEADER_SIZE;
-use crate::encode::chunks::encode_chunks;
-use crate::encode::piece::{FULL_ROOM, Piece, SMALL_ROOM, TINY_ROOM};
+use crate::encode::chunks::encode_file;
+use crate::encode::piece::{FULL_ROOM, SMALL_ROOM, TINY_ROOM};
 pub use crate::encode::pixel_writer::PixelWriter;
 use crate::error::{Error, Result};
 use crate::header::{Header, max_len};
@@ -67,11 +66,7 @@ fn encode_image<W: Writer, const ROOM: usize>(
         × WroteBeginning W.wrote writer.old bytes writer.new) }
 {
     let room = writer.capacity();
-    let mut bytes = [0; ROOM];
-    let mut piece = Piece::<ROOM>::new(&mut bytes);
-    piece.append(&header.encode()[..QOI_HEADER_SIZE]);
-    let mut piece = encode_chunks(writer, piece.open(), style, header.channels, data)?;
-    piece.finish(writer)?;
+    encode_file::<W, ROOM>(writer, style, header, data)?;
     Ok(room - writer.capacity())
 }
 

@@ -5,13 +5,14 @@ ghost use Rattle.std.specs.List.{copy_within};
 ghost use Rattle.qoi.specs.declared.chunk.Chunk.{Chunk};
 ghost use Rattle.qoi.specs.declared.chunk.Chunk.TheVariants.{Run};
 ghost use Rattle.qoi.specs.declared.encode.piece.TheConstants.{PAST, RUNS_AT_ONCE, REPEATS_AT_ONCE};
-ghost use Rattle.qoi.specs.Qoi.{run_max, chunk_max, marker_size, end_marker, bytes_of, chunk_bytes};
+ghost use Rattle.qoi.specs.Qoi.{run_max, chunk_max, header_bytes, marker_size, end_marker, bytes_of, chunk_bytes};
 ghost use Rattle.qoi.specs.Raw.{IsChannels};
 ghost use Rattle.qoi.specs.Runs.{runs_by};
 ghost use Rattle.qoi.specs.writers.Writes.{WroteBeginning};
 
-use crate::consts::{QOI_OP_RUN, QOI_PADDING, QOI_RUN_MAX};
+use crate::consts::{QOI_HEADER_SIZE, QOI_OP_RUN, QOI_PADDING, QOI_RUN_MAX};
 use crate::error::Result;
+use crate::header::Header;
 use crate::utils::{copy_after, pick};
 use crate::writers::Writer;
 use std::simd::prelude::*;
@@ -70,6 +71,18 @@ impl<'a, const ROOM: usize> Piece<'a, ROOM> {
             bytes: room,
             end: 0,
         }
+    }
+
+    /// A piece in this room, with a header.
+    #[inline(always)]
+    pub(super) fn with_header(room: &'a mut [u8], header: &Header) -> Piece<'a, ROOM>
+        requires large { 2 * PAST ≤ ROOM }
+        requires room { length room.old ≡ ROOM }
+        ensures { kept_bytes result ≡ header_bytes header.now }
+    {
+        let mut piece = Piece::new(room);
+        piece.append(&header.encode()[..QOI_HEADER_SIZE]);
+        piece
     }
 
     /// Whether there are enough bytes for a full piece.

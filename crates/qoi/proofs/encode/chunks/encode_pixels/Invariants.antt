@@ -9,7 +9,7 @@ use Rattle.qoi.proofs.encode.chunks.encode_pixels.Given as goal
 abbrev pub invariant-loop-coder : goal.invariant-loop-coder
 invariant-loop-coder g l = record {
   state : PieceBetween g.W.Writer.wrote g.W.Writer.room g.row.N
-      (record { start = l.initial.writer; front = kept_bytes l.fn.piece.piece; style = l.fn.style; raw = l.data })
+      (record { start = l.initial.writer; header = l.header; style = l.fn.style; raw = l.data })
       (λ ahead kept. CoderBetween l.fn.style ahead (pixels_in l.rest ++ []) l.table l.coder.last kept) (kept_bytes l.piece.piece) l.writer;
 }
 
