@@ -2,7 +2,6 @@
 pub mod Qoi
 -- Raw bytes and pixels.
 pub mod Raw
-pub mod ProductHash
 -- Which bytes are accepted, and what decoding returns.
 pub mod Verdicts
 pub mod Decoding

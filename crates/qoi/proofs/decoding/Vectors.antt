@@ -142,7 +142,3 @@ ends_written p at k count is within most le w1 w2 =
 pub most_by_eight : (c count : ℕ) → IsChannels c → count ≤ 62 → count ≤ 2 * (8 * (16 / c))
 most_by_eight c count is = by_channels (λ d. count ≤ 62 → count ≤ 2 * (8 * (16 / d))) is (λ le. omega arith) (λ le. omega arith)
 
--- the copies of some vectors fit, if the vectors do
-pub vectors_fit : (c k at done more size : ℕ) → IsChannels c → more ≡ k * (16 / c) → at + c * done ≤ size → 16 * k ≤ size - (at + c * done) → at + c * (done + more) ≤ size
-vectors_fit c k at done more size is = by_channels (λ d. more ≡ k * (16 / d) → at + d * done ≤ size → 16 * k ≤ size - (at + d * done) → at + d * (done + more) ≤ size) is
-    (λ m a b. omega (arith, m, a, b)) (λ m a b. omega (arith, m, a, b))

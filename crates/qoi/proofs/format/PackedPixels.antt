@@ -5,8 +5,16 @@ use Rattle.std.specs.Int.Bits.{bit_and, bit_or, and_zero_r, or_zero_l, or_zero_r
 use Rattle.std.proofs.lemmas.Nat.{and_block, and_mask, or_block}
 use Rattle.qoi.specs.Qoi.{AreBytes, RgbaPixel, IsPixel, rgba, hash}
 use Rattle.qoi.proofs.format.SamePixels.{same_pixel}
-use Rattle.qoi.specs.ProductHash.{spread, product_hash}
 use Rattle.qoi.specs.inner.Packed.{word, pixel_of_word}
+
+-- a pixel spread over 64 bits: red, blue, green and alpha from bits 0, 16, 40 and 56 on
+abbrev pub spread : RgbaPixel → ℕ
+spread p = p.r + p.b * 2 ^ 16 + p.g * 2 ^ 40 + p.a * 2 ^ 56
+
+-- the six low bits of the highest byte of its product, in 64 bits, with the four weights of the
+-- hash: 3 * 2^56 + 7 * 2^40 + 5 * 2^16 + 11
+abbrev pub product_hash : RgbaPixel → ℕ
+product_hash p = spread p * 0x0300_0700_0005_000b % 2 ^ 64 / 2 ^ 56 % 64
 
 -- a pixel packed and unpacked
 pub unpacked : (p : RgbaPixel) → IsPixel p → pixel_of_word (word p) ≡ p

@@ -241,10 +241,11 @@ impl<R: PieceReader> PixelReader<R> {
     /// taken, and no byte past it.
     ///
     /// Refusals are those of `Decoder::decode_to_buf`, but for `OutputBufferTooSmall`. They come at
-    /// the latest with the last bytes, and up to 3,072 bytes earlier. After a refusal the bytes of `buf` may be overwritten, as
-    /// many as would have been read; a slice's tail is as before the call, and a stream stands
-    /// after the bytes that were read. `left` is as before, and no more of the image can be read:
-    /// each further `read` into a buffer that isn't empty returns `UnexpectedBufferEnd`.
+    /// the latest with the last bytes, and up to 3,072 bytes earlier. After a refusal the bytes of
+    /// `buf` may be overwritten, as many as would have been read; a slice's tail is as before the
+    /// call, and a stream stands after the bytes that were read. `left` is as before, and no more of
+    /// the image can be read: each further `read` into a buffer that isn't empty returns
+    /// `UnexpectedBufferEnd`.
     #[tactic(auto, unfolding(crate::specs::pieces::PixelReader::pixels_left))]
     pub fn read(&mut self, buf: &mut [u8]) -> Result<usize>
         // A success: the bytes follow those that were read before.

@@ -18,13 +18,6 @@ ghost use Rattle.qoi.specs.FrontFile.{BeginsWithFile, behind_files, BeginsWithFi
 ghost use Rattle.qoi.specs.Reading.{IsImage, StandsAhead};
 ghost use Rattle.qoi.specs.Images.{front_image, front_rest, file_image, file_rest};
 
-/// No chunk's bytes begin another's, and a part of a chunk begins with no whole chunk.
-pub fn chunks_are_apart()
-    ensures whole { (c d : Chunk) (x y : List ℕ) → IsChunk c → IsChunk d
-        → bytes_of c ++ x ≡ bytes_of d ++ y → (c ≡ d) × (x ≡ y) }
-    ensures part { (c : Chunk) (x : List ℕ) → IsChunk c → IsPartOfChunk (bytes_of c ++ x) → ⊥ }
-{}
-
 /// At most one verdict holds of any bytes, with one chunk list.
 pub fn verdict_is_one()
     ensures whole { (n : ℕ) (bytes : List ℕ) (cs ds : List Chunk) (x y : List ℕ)
@@ -159,8 +152,8 @@ pub fn image_files_are_read()
         → image_header raw width height ≡ Ok h → IsReadBack h raw (image_file style h raw) }
 {}
 
-/// A file after other bytes, of any origin, is a tile there, tiles stay whatever is appended, and the image of a
-/// tile is read at its offset.
+/// A file after other bytes, of any origin, is a tile there, tiles stay whatever is appended, and
+/// the image of a tile is read at its offset.
 pub fn tiles_stay()
     ensures put { (style : Style) (h : Header) (raw bytes old new : List ℕ)
         → IsFileOf style h raw bytes → new ≡ old ++ bytes → HasTile new (length old) raw }
@@ -172,16 +165,6 @@ pub fn tiles_stay()
         → file_image (drop offset bytes) ≡ raw }
     ensures within { (bytes raw : List ℕ) (offset : ℕ) → HasTile bytes offset raw
         → offset ≤ length bytes }
-{}
-
-/// An image of n pixels takes five bytes for each pixel at most; and if chunks stop short of n
-/// pixels, there is room for five bytes more.
-#[tactic(auto, using(crate::proofs::decoding::TakenBytes::reached_within, crate::proofs::decoding::TakenBytes::below_within))]
-pub fn bytes_taken()
-    ensures reached { (n : ℕ) (cs : List Chunk) → AreChunks cs → Reaches n cs
-        → length (chunk_bytes cs) ≤ chunk_max * n }
-    ensures short { (n : ℕ) (cs : List Chunk) → AreChunks cs → StayBelow n cs
-        → length (meaning cs) < n → chunk_max + length (chunk_bytes cs) ≤ chunk_max * n }
 {}
 
 /// Small images and headers, computed on the definitions.

@@ -176,16 +176,6 @@ pub none_held : (h : List ℕ) → length h ≡ 0 → h ≡ []
 none_held [] none = refl
 none_held (x ∷ h) none = absurd (omega (arith, none))
 
--- how many raw bytes are held or still come, but for whole pixels: after a block was taken
-pub count_on : (n h r left after : ℕ) → IsChannels n → left % n ≡ 0 → h < 16 * n → 16 * n ≤ h + r → after ≡ r - (16 * n - h) → (left + after) % n ≡ (h + r) % n
-count_on n h r left after is = by_channels (λ m. left % m ≡ 0 → h < 16 * m → 16 * m ≤ h + r → after ≡ r - (16 * m - h) → (left + after) % m ≡ (h + r) % m) is
-    (λ a b c d. omega arith) (λ a b c d. omega arith)
-
--- after whole pixels were
-pub count_part : (n r left part : ℕ) → IsChannels n → left % n ≡ 0 → part ≡ r - (r - r % n) → (left + part) % n ≡ (0 + r) % n
-count_part n r left part is = by_channels (λ m. left % m ≡ 0 → part ≡ r - (r - r % m) → (left + part) % m ≡ (0 + r) % m) is
-    (λ a b. omega arith) (λ a b. omega arith)
-
 -- before the first raw byte, once the header was sent
 pub image_starts : (e : EncoderState) (before now : Option (List ℕ)) (p : Pending) → AreBytes e.raw → Appends before now (header_bytes e.header)
     → p.last.repeats ≡ 0 → CoderAfter e.style [] None p.table p.last

@@ -48,15 +48,6 @@ pub fn pack(buf: &mut [u8], raw: &[u8], width: u32, height: u32) -> Result<usize
     Ok(size)
 }
 
-/// Buffer to buffer, in one call.
-pub fn pack_at_once(buf: &mut [u8], raw: &[u8], width: u32, height: u32) -> Result<usize, Error>
-    ensures { IfOk result (λ n. (h : Header) × (bytes : List ℕ) × IsFileOf Reference h raw.now bytes
-        × (n ≡ length bytes) × (buf.new ≡ bytes ++ drop n buf.old)) }
-{
-    let size = encode_to_buf(buf, raw, width, height)?;
-    Ok(size)
-}
-
 /// Stream out. The file of an image goes to a writer.
 pub fn send<W: Write>(raw: &[u8], width: u32, height: u32, out: &mut W) -> Result<usize, Error>
     ensures { OnOk result ((h : Header) × (bytes : List ℕ) × IsFileOf Reference h raw.now bytes
@@ -89,16 +80,6 @@ pub fn receive_buffered<R: BufRead + Drop>(alloc: Global, reader: R) -> Result<(
     let mut decoder = Decoder::from_buf_read(reader)?;
     let raw = decoder.decode_to_vec(alloc)?;
     Ok((raw, decoder.into_reader()))
-}
-
-/// There and back. The raw bytes of an image are encoded into a vector and decoded again, and are
-/// the same bytes.
-pub fn there_and_back(alloc: Global, raw: &[u8], width: u32, height: u32) -> Result<Vec<u8>, Error>
-    ensures { IfOk result (λ back. back.items ≡ raw.now) }
-{
-    let file = encode_to_vec(alloc, raw, width, height)?;
-    let (_, back) = decode_to_vec(alloc, &file)?;
-    Ok(back)
 }
 
 /// A writer and a vector. What went to the writer is what the vector holds.
@@ -190,20 +171,6 @@ pub fn pack_and_keep_in(
     Ok(file)
 }
 
-/// Two vectors. The free call and the method give the same file.
-pub fn keep_twice(
-    alloc: Global,
-    raw: &[u8],
-    width: u32,
-    height: u32,
-) -> Result<(Vec<u8>, Vec<u8>), Error>
-    ensures { IfOk result (λ x. x.0.items ≡ x.1.items) }
-{
-    let first = encode_to_vec(alloc, raw, width, height)?;
-    let second = Encoder::new(raw, width, height)?.encode_to_vec(alloc)?;
-    Ok((first, second))
-}
-
 /// A writer that may refuse. The file goes to a vector, and then to the writer; if that refuses, a
 /// beginning of the file went out.
 pub fn keep_and_try<W: Write>(
@@ -269,26 +236,6 @@ pub fn lengths<W: Write>(
     let same = places == reference;
     prove!(same);
     let no_longer = tight <= reference;
-    prove!(no_longer);
-    Ok((reference, places, tight))
-}
-
-/// Styles, the other way round: to a writer in `Tight`, in a buffer in `Places`.
-pub fn lengths_back<W: Write>(
-    buf: &mut [u8],
-    raw: &[u8],
-    width: u32,
-    height: u32,
-    out: &mut W,
-) -> Result<(usize, usize, usize), Error> {
-    let encoder = Encoder::new(raw, width, height)?;
-    let reference = encoder.encode_to_stream(out)?;
-    let encoder = encoder.with_style(Style::Places);
-    let places = encoder.encode_to_buf(buf)?;
-    let tight = encoder.with_style(Style::Tight).encode_to_stream(out)?;
-    let same = places == reference;
-    prove!(same);
-    let no_longer = tight <= places;
     prove!(no_longer);
     Ok((reference, places, tight))
 }
@@ -391,23 +338,6 @@ pub fn two_frames_buffered<R: BufRead + Drop>(
     let mut second = Decoder::from_buf_read(first.into_reader())?;
     let other = second.decode_to_vec(alloc)?;
     Ok((image, other))
-}
-
-/// A frame store. The files of two frames go to a vector, one after the other, and the frames come
-/// back from a reader of it.
-pub fn frame_store(
-    alloc: Global,
-    first: &[u8],
-    second: &[u8],
-    width: u32,
-    height: u32,
-) -> Result<(Vec<u8>, Vec<u8>), Error>
-    ensures { IfOk result (λ x. (x.0.items ≡ first.now) × (x.1.items ≡ second.now)) }
-{
-    let mut store = Vec::new(alloc);
-    Encoder::new(first, width, height)?.encode_to_stream(&mut store)?;
-    Encoder::new(second, width, height)?.encode_to_stream(&mut store)?;
-    two_frames(alloc, store.as_slice())
 }
 
 /// Memory. The raw bytes of a file are at most 248 for each of its bytes.

@@ -3,10 +3,10 @@
 use crate::tests::fakes::{Bad, End, ONE_RGB_PIXEL, PIXEL, Sink};
 use crate::tests::library::callers::{
     all_images, as_long, at_most, at_most_from, both_channels, both_images, bounded_bytes,
-    decoded_part, encoded_part, first_byte, frame_store, header_ahead, keep_and_try, keep_twice,
-    lengths, lengths_back, more_needed, near_shortest, no_longer, pack, pack_and_keep,
-    pack_and_keep_in, pack_at_once, raw_bytes, receive, receive_buffered, send, send_and_keep,
-    shortest, space_byte, there_and_back, tight_part, two_frames_buffered,
+    decoded_part, encoded_part, first_byte, header_ahead, keep_and_try, lengths, more_needed,
+    near_shortest, no_longer, pack, pack_and_keep, pack_and_keep_in, raw_bytes, receive,
+    receive_buffered, send, send_and_keep, shortest, space_byte, tight_part, two_frames,
+    two_frames_buffered,
 };
 use crate::tests::library::support::images::{file_of, row};
 use crate::tests::library::support::{
@@ -42,14 +42,7 @@ fn vectors(rt: HostRuntime) {
     let alloc = rt.alloc();
     assert_given(&rt, near_shortest(alloc, &PIXEL, 1, 1), &ONE_RGB_PIXEL);
     assert_given(&rt, shortest(alloc, &PIXEL, 1, 1), &ONE_RGB_PIXEL);
-    assert_given(&rt, there_and_back(alloc, &PIXEL, 1, 1), &PIXEL);
     assert!(rt; matches!(space_byte(alloc, &PIXEL, 1, 1), Ok(0)));
-}
-
-#[test]
-fn two_vectors(rt: HostRuntime) {
-    let twice = keep_twice(rt.alloc(), &PIXEL, 1, 1);
-    assert_both(&rt, twice, &ONE_RGB_PIXEL, &ONE_RGB_PIXEL);
 }
 
 #[test]
@@ -58,7 +51,6 @@ fn buffers(rt: HostRuntime) {
     assert!(rt; matches!(pack(&mut buf, &PIXEL, 1, 1), Ok(26)));
     assert_bytes(&rt, &buf[..26], &ONE_RGB_PIXEL);
     assert_bytes(&rt, &buf[26..], &[0xaa]);
-    assert!(rt; matches!(pack_at_once(&mut buf, &PIXEL, 1, 1), Ok(26)));
 }
 
 #[test]
@@ -155,21 +147,14 @@ fn lengths_in_all_styles(rt: HostRuntime) {
 }
 
 #[test]
-fn lengths_in_all_styles_back(rt: HostRuntime) {
-    let mut sent = Vec::new(rt.alloc());
-    let found = lengths_back(&mut [0; 34], &BLACK, 3, 1, &mut sent);
-    assert!(rt; matches!(found, Ok((31, 31, 28))));
-}
-
-#[test]
 fn many_files(rt: HostRuntime) {
     assert_both(&rt, both_images(rt.alloc(), &files()), &PIXEL, &PIXEL);
 }
 
 #[test]
 fn frames_come_back(rt: HostRuntime) {
-    let frames = frame_store(rt.alloc(), &PIXEL, &[1, 2, 3], 1, 1);
-    assert_both(&rt, frames, &PIXEL, &[1, 2, 3]);
+    let frames = two_frames(rt.alloc(), files().as_slice());
+    assert_both(&rt, frames, &PIXEL, &PIXEL);
 }
 
 #[test]

@@ -144,16 +144,7 @@ pub fn without_last(alloc: Global, raw: &[u8], width: u32, height: u32) -> Resul
     }
 }
 
-/// So is one of the free call, from which its last byte was popped.
-pub fn popped_is_err(alloc: Global, raw: &[u8], width: u32, height: u32) -> Result<bool, Error>
-    ensures { IfOk result (λ refused. refused ≡ true) }
-{
-    let mut file = encode_to_vec(alloc, raw, width, height)?;
-    file.pop();
-    Ok(decode_to_vec(alloc, &file).is_err())
-}
-
-/// The same, as the result.
+/// So is a file from which its last byte was popped.
 pub fn popped_result(
     alloc: Global,
     raw: &[u8],
@@ -224,7 +215,6 @@ fn cut_files_are_refused(rt: HostRuntime) {
     let alloc = rt.alloc();
     let refusal = without_last(alloc, &PIXEL, 1, 1);
     assert!(rt; matches!(refusal, Ok(Error::UnexpectedBufferEnd)));
-    assert!(rt; matches!(popped_is_err(alloc, &PIXEL, 1, 1), Ok(true)));
     let refused = popped_result(alloc, &PIXEL, 1, 1);
     assert!(rt; matches!(refused, Ok(Err(Error::UnexpectedBufferEnd))));
 }
