@@ -170,22 +170,3 @@ place_bytes Rgba h run left behind short most = record {
   run_short = omega (arith, short);
   behind = omega (arith, behind);
 }
-
--- and back: bytes of whole pixels
-pub record PlacePixels (c run undecoded : ℕ) : Type 0 where
-  pub behind : run / c < undecoded / c
-  pub short : run / c ≤ run_max
-
-pub place_pixels : (c run undecoded : ℕ) → IsChannels c → undecoded % c ≡ 0 → run % c ≡ 0 → run ≤ c * run_max → (0 < run → run < undecoded) → 0 < undecoded → PlacePixels c run undecoded
-place_pixels c run undecoded is whole run_whole short behind some =
-    by_channels (λ k. undecoded % k ≡ 0 → run % k ≡ 0 → run ≤ k * run_max → PlacePixels k run undecoded) is
-    (λ a b d. record { behind = by_three a b; short = omega (arith, d) }) (λ a b d. record { behind = by_four a b; short = omega (arith, d) }) whole run_whole short
-  where
-    less : run < undecoded
-    less = elim (cases_lt 0 run) [ inl more ↦ behind more | inr none ↦ omega (arith, none, some) ]
-
-    by_three : undecoded % 3 ≡ 0 → run % 3 ≡ 0 → run / 3 < undecoded / 3
-    by_three a b = omega (arith, a, b, less)
-
-    by_four : undecoded % 4 ≡ 0 → run % 4 ≡ 0 → run / 4 < undecoded / 4
-    by_four a b = omega (arith, a, b, less)
