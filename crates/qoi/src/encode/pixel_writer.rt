@@ -134,7 +134,7 @@ impl<W: Write + Drop> PixelWriter<W> {
     /// `InvalidImageLength`, with the number of all bytes that came, if there are more than the
     /// image has; then none of them is taken, and nothing is sent. `IoError` if the writer reports a
     /// fault or takes no byte; then a beginning of the file was sent, `left` is as before, and each
-    /// further `write`, and `finish`, refuses with an `IoError`.
+    /// further `write`, and `finish`, sends nothing and refuses with an `IoError`.
     pub fn write(&mut self, raw: &[u8]) -> Result<()>
         // A success: these raw bytes came, too.
         ensures taken { (e : EncoderState) (before : Option (List ℕ))
@@ -148,7 +148,7 @@ impl<W: Write + Drop> PixelWriter<W> {
             → IfErr result (RefusesRaw W.contents e raw.now before self.new) }
         ensures spent { (e : EncoderState) (before : Option (List ℕ))
             → HasFailed W.contents e before self.old
-            → IsErrAnd result IsIoError × HasFailed W.contents e before self.new }
+            → IsErrAnd result IsIoError × (self.new ≡ self.old) }
 
         // What they leave: all as it was, but after a fault.
         ensures unchanged { IfErr result (λ e. IsIoError e ⊎ (self.new ≡ self.old)) }
