@@ -13,12 +13,26 @@
 //!   more slowly, a `std::io::Read`, and gives what follows a file.
 //! - [`PixelReader`], of `Decoder::into_pixels`, and [`PixelWriter`] decode and encode images that
 //!   needn't fit into memory, piece by piece.
+//! - [`RowIndex`] reads the image of a file in memory from any row on; a [`Mark`] is one place in it,
+//!   from which a `PixelReader` goes on as often as you like.
 //! - [`decode_header`] looks at the first fourteen bytes alone; [`encode_max_len`] is the most
 //!   bytes that an encoded image can have.
 //!
 //! ```
 //! let file = encode_to_vec(alloc, &pixels, width, height)?;
 //! let (header, decoded) = decode_to_vec(alloc, &file)?;
+//! ```
+//!
+//! Row by row, from one file to another:
+//!
+//! ```
+//! let mut pixels = Decoder::from_buf_read(reader)?.into_pixels();
+//! let mut copy = PixelWriter::new(alloc, *pixels.header(), Style::Reference, writer)?;
+//! while pixels.left() > 0 {
+//!     let count = pixels.read(&mut row)?;
+//!     copy.write(&row[..count])?;
+//! }
+//! let writer = copy.finish()?;
 //! ```
 #![tactic(auto)]
 
