@@ -141,4 +141,3 @@ ends_written p at k count is within most le w1 w2 =
 -- eight vectors and eight more have room for the longest run
 pub most_by_eight : (c count : ℕ) → IsChannels c → count ≤ 62 → count ≤ 2 * (8 * (16 / c))
 most_by_eight c count is = by_channels (λ d. count ≤ 62 → count ≤ 2 * (8 * (16 / d))) is (λ le. omega arith) (λ le. omega arith)
-

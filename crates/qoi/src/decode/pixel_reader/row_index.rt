@@ -22,6 +22,10 @@ use crate::types::Channels;
 use std::alloc::Global;
 use std::marker::Model;
 
+// How many raw bytes are skipped at once. By 4096 the index of a picture of long runs took a fifth
+// longer.
+const SKIPPED: usize = 16384;
+
 /// Places in a file's image, so many rows apart, from which its rows are read without those above.
 /// It holds no part of the file.
 ///
@@ -76,7 +80,7 @@ fn read_to(pixels: &mut PixelReader<Bytes<'_>>, left: usize) -> Result<()>
         → HasGiven d (Some bytes) (Some pixels.old.reader) given pixels.old
         → IfErr result (RefusesPixels true d (Some bytes) (Some pixels.new.reader)) }
 {
-    let mut buf = [0; 4096];
+    let mut buf = [0; SKIPPED];
     while pixels.left() > left {
         let size = buf.len().min(pixels.left() - left);
         pixels.read(&mut buf[..size])?;
