@@ -12,6 +12,7 @@ use Rattle.qoi.specs.declared.header.Header.{Header}
 use Rattle.qoi.specs.Qoi.{colorspace_at, colorspace_number}
 use Rattle.qoi.specs.Encoded.{image_file, image_header, IsFileLength, IsFileOf, IsShortest}
 use Rattle.qoi.specs.Images.{file_image}
+use Rattle.qoi.specs.Raw.{image_byte_count}
 use Rattle.qoi.specs.EncoderState.{EncoderState, free_encoder}
 use Rattle.qoi.specs.Tiles.{HasTile}
 use Rattle.qoi.specs.writers.Writes.{AppendsBeginning}
@@ -83,6 +84,13 @@ pub record SendsFile (e : EncoderState) (old new : Option (List ℕ)) (n : ℕ) 
   pub put : (before after : List ℕ) → old ≡ Some before → new ≡ Some after → HasTile after (length before) e.raw
   -- and tiles before it stay
   pub kept : IfSome old (λ before. IfSome new (λ after. (offset : ℕ) (tile : List ℕ) → HasTile before offset tile → HasTile after offset tile))
+
+-- The file of some image with this header, in this style, was sent to a writer: of raw bytes that the
+-- contract doesn't tell, of the right number.
+pub record SendsSomeFile (style : Style) (h : Header) (old new : Option (List ℕ)) : Type 0 where
+  pub raw : List ℕ
+  pub size : length raw ≡ image_byte_count h
+  pub sent : Appends old new (image_file style h raw)
 
 -- The encoder sends a beginning of its file to a writer.
 pub record SendsPart (e : EncoderState) (old new : Option (List ℕ)) : Type 0 where

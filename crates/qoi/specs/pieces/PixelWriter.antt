@@ -33,7 +33,7 @@ and_raw e raw = record e { raw = e.raw ++ raw }
 
 -- The pixel writer was made with the style and header of e, over a writer that had the bytes
 -- `before`, if those are known, and took the raw bytes of e.
-pub record HasTaken {W : Type 0} (contents : W → Option (List ℕ)) (e : EncoderState) (before : Option (List ℕ)) (p : WriterState W) : Type 0 where
+pub record TakesSoFar {W : Type 0} (contents : W → Option (List ℕ)) (e : EncoderState) (before : Option (List ℕ)) (p : WriterState W) : Type 0 where
   pub header_is : p.header ≡ e.header
   pub style_is : p.style ≡ e.style
   pub works : p.failed ≡ false
@@ -42,6 +42,10 @@ pub record HasTaken {W : Type 0} (contents : W → Option (List ℕ)) (e : Encod
   pub writes : (more : List ℕ) → length more ≡ p.left → AreBytes more
       → ImageBetween (and_raw e more) before (contents p.writer)
       (pixels_of (channels_number p.header.channels) (p.held ++ more)) p.pending []
+
+-- The same, as HasGiven of a pixel reader: the prover passes it on whole.
+unfoldable pub HasTaken : {W : Type 0} → (W → Option (List ℕ)) → EncoderState → Option (List ℕ) → WriterState W → Type 0
+HasTaken contents e before p = TakesSoFar contents e before p
 
 -- A beginning of the file of each image whose raw bytes begin with those of e was sent.
 abbrev pub SendsSome : EncoderState → Option (List ℕ) → Option (List ℕ) → Type 0

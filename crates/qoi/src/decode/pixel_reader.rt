@@ -231,6 +231,9 @@ impl<R: PieceReader> PixelReader<R> {
         ensures all { (d : DecoderState R) (start : Option (List ℕ)) (given : List ℕ)
             → HasGiven d start (R.ahead self.now.reader) given self.now → result ≡ 0
             → HasDecoded d start (R.ahead self.now.reader) given }
+        ensures image { (d : DecoderState R) (start : Option (List ℕ)) (bytes given : List ℕ)
+            → HasGiven d start (R.ahead self.now.reader) given self.now → start ≡ Some bytes
+            → result ≡ 0 → given ≡ front_image d.channels d.header bytes }
     {
         self.pieces.left()
     }

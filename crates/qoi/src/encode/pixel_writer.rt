@@ -64,7 +64,7 @@ impl<W> Model for PixelWriter<W> {
 
 impl<W: Write + Drop> PixelWriter<W> {
     ghost use Rattle.qoi.specs.Encoded.{image_file};
-    ghost use Rattle.qoi.specs.Sent.{SendsFile, SendsPart};
+    ghost use Rattle.qoi.specs.Sent.{SendsFile, SendsPart, SendsSomeFile};
     ghost use Rattle.qoi.specs.pieces.PixelWriter.{HasTaken, HasFailed, RefusesRaw, SendsSome, and_raw, raw_left};
 
     /// Sends the header of the image to the writer.
@@ -99,6 +99,7 @@ impl<W: Write + Drop> PixelWriter<W> {
     }
 
     /// The header that was sent.
+    #[tactic(auto, unfolding(crate::specs::pieces::PixelWriter::HasTaken))]
     pub fn header(&self) -> &Header
         ensures { (e : EncoderState) (before : Option (List ℕ))
             → HasTaken W.contents e before self.now ⊎ HasFailed W.contents e before self.now
@@ -108,6 +109,7 @@ impl<W: Write + Drop> PixelWriter<W> {
     }
 
     /// The style of the file.
+    #[tactic(auto, unfolding(crate::specs::pieces::PixelWriter::HasTaken))]
     pub fn style(&self) -> Style
         ensures { (e : EncoderState) (before : Option (List ℕ))
             → HasTaken W.contents e before self.now ⊎ HasFailed W.contents e before self.now
@@ -117,6 +119,7 @@ impl<W: Write + Drop> PixelWriter<W> {
     }
 
     /// How many raw bytes of the image haven't come yet.
+    #[tactic(auto, unfolding(crate::specs::pieces::PixelWriter::HasTaken))]
     pub fn left(&self) -> usize
         ensures left { result ≡ raw_left self.now }
         ensures of_image { (e : EncoderState) (before : Option (List ℕ))
@@ -135,6 +138,7 @@ impl<W: Write + Drop> PixelWriter<W> {
     /// image has; then none of them is taken, and nothing is sent. `IoError` if the writer reports a
     /// fault or takes no byte; then a beginning of the file was sent, `left` is as before, and each
     /// further `write`, and `finish`, sends nothing and refuses with an `IoError`.
+    #[tactic(auto, unfolding(crate::specs::pieces::PixelWriter::HasTaken))]
     pub fn write(&mut self, raw: &[u8]) -> Result<()>
         // A success: these raw bytes came, too.
         ensures taken { (e : EncoderState) (before : Option (List ℕ))
@@ -195,6 +199,9 @@ impl<W: Write + Drop> PixelWriter<W> {
         ensures file { (e : EncoderState) (before : Option (List ℕ))
             → HasTaken W.contents e before self → IfOk result (λ w.
             Appends before (W.contents w) (image_file e.style e.header e.raw)) }
+        ensures some { (e : EncoderState) (before : Option (List ℕ))
+            → HasTaken W.contents e before self → IfOk result (λ w.
+            SendsSomeFile e.style e.header before (W.contents w)) }
 
         // The refusals: a fault, if all bytes came, or too few bytes; and after a fault any call.
         ensures refused { (e : EncoderState) (before : Option (List ℕ))
@@ -213,6 +220,7 @@ impl<W: Write + Drop> PixelWriter<W> {
 
     // Sends the rest of the file. It is apart from `finish`, whose contract can't say what became of
     // a writer that is dropped.
+    #[tactic(auto, unfolding(crate::specs::pieces::PixelWriter::HasTaken))]
     fn send_rest(&mut self) -> Result<()>
         ensures sent { (e : EncoderState) (before : Option (List ℕ))
             → HasTaken W.contents e before self.old

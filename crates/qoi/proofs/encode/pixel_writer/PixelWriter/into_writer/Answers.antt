@@ -9,6 +9,7 @@ use Rattle.qoi.proofs.encoding.piece.ImagePieces.{image_part}
 use Rattle.qoi.proofs.encode.pixel_writer.PixelWriter.into_writer.Goals as goal
 
 pub returns : goal.returns
+unfolding HasTaken
 returns g c = λ e before state.
     (let p = c.self.inside in
     let now = g.W.Write.contents p.writer in

@@ -8,6 +8,7 @@ use Rattle.qoi.specs.Raw.{pixels_of, image_byte_count}
 use Rattle.qoi.specs.declared.encode.pixel_writer.kept.Kept.{Kept}
 use Rattle.qoi.specs.EncoderState.{EncoderState}
 use Rattle.qoi.specs.pieces.WriterPieces.{ImageBetween}
+use Rattle.qoi.specs.pieces.PixelWriter.{HasTaken}
 use Rattle.qoi.proofs.decoding.Promised.{capped_is}
 use Rattle.qoi.proofs.format.HeaderBytes.{tried_says}
 use Rattle.qoi.proofs.encoding.piece.ImagePieces.{image_starts}
@@ -34,6 +35,7 @@ invariant_of-result g c =
     )
 
 pub returns-clause-made : goal.returns-clause-made
+unfolding HasTaken
 returns-clause-made g c =
     let h = c.in_ok-header.header in
     let said = says g (goal.at.returns-clause-made g c).After-n_bytes in

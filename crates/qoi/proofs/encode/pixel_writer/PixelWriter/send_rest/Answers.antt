@@ -22,6 +22,7 @@ write_any-requires-clause-whole g c =
 -- only the bytes that are held are ahead
 starts : (g : Over) (c : After-write_any g) (e : EncoderState) (before : _) → c.self.inside.left ≡ 0 → HasTaken g.W.Write.contents e before c.args.self.now
     → ImageBetween e before (g.W.Write.contents c.self.inside.writer) (pixels_of (channels_number c.self.inside.header.channels) c.deref_mut-kept.result.now.held) c.deref_mut-kept.result.now.pending []
+unfolding HasTaken
 starts g c e before none taken =
     let p = c.self.inside in
     let n = channels_number p.header.channels in
@@ -32,6 +33,7 @@ starts g c e before none taken =
     (subst (λ x. ImageBetween e before (g.W.Write.contents p.writer) (pixels_of n x) p.kept.value.pending []) (append-nil p.kept.value.held) same)
 
 pub returns-clause-sent : goal.returns-clause-sent
+unfolding HasTaken
 returns-clause-sent g c = λ e before t.
     let none : c.self.inside.left ≡ 0 = omega (arith, c.if-self-gt0.false) in
     let left = ap (λ s. s.left) c.self.view_is in
@@ -46,6 +48,7 @@ returns-clause-sent g c = λ e before t.
     (c.write_any.ensures.written e before style (starts g (goal.at.returns-clause-sent g c).After-write_any e before none t))
 
 pub returns-clause-part : goal.returns-clause-part
+unfolding HasTaken
 returns-clause-part g c = λ e before t.
     let none : c.self.inside.left ≡ 0 = omega (arith, c.if-self-gt0.false) in
     let left = ap (λ s. s.left) c.self.view_is in
@@ -62,4 +65,5 @@ returns-clause-part g c = λ e before t.
     c.write_any.ensures.refused
 
 pub returns-then-self-gt0-clause-missing : goal.returns-then-self-gt0-clause-missing
+unfolding HasTaken
 returns-then-self-gt0-clause-missing g c = inr (search rules, search rules, cc)

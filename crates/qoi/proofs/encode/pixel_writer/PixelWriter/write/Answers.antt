@@ -29,6 +29,7 @@ starts g c e before more b =
     (sym (append_assoc e.raw raw more)) b)
 
 pub returns-in_err-take_any-clause-refused : goal.returns-in_err-take_any-clause-refused
+unfolding HasTaken
 returns-in_err-take_any-clause-refused g c = λ e before taken.
     let t = subst (HasTaken g.W.Write.contents e before) (sym c.self.view_is) taken in
     let p = c.self.inside in
@@ -57,6 +58,7 @@ returns-in_err-take_any-clause-refused g c = λ e before taken.
     ))
 
 pub returns-clause-taken : goal.returns-clause-taken
+unfolding HasTaken
 returns-clause-taken g c = λ e before taken.
     let t = subst (HasTaken g.W.Write.contents e before) (sym c.self.view_is) taken in
     let p = c.self.inside in
