@@ -6,11 +6,10 @@ ghost use Rattle.qoi.specs.DecoderState.{DecoderState, output_byte_count};
 ghost use Rattle.qoi.specs.Images.{front_image, front_rest};
 ghost use Rattle.qoi.specs.pieces.PixelReader.{as_decoder, pixels_left, HasGiven, HasRows, RefusesPixels, IsSpent};
 ghost use Rattle.qoi.specs.Qoi.{channels_number, pixel_count};
-ghost use Rattle.qoi.specs.pieces.ReaderPieces.{bytes_left, KeepsPixels, GivesPieces};
+ghost use Rattle.qoi.specs.pieces.ReaderPieces.{bytes_left, KeepsPixels, GivesMore, RefusesMore};
 ghost use Rattle.qoi.specs.Reading.{StandsAhead};
 ghost use Rattle.qoi.specs.Rectangles.{row_bytes};
 ghost use Rattle.qoi.specs.declared.error.Error.{Error};
-ghost use Rattle.qoi.specs.inner.Chunks.{RefusesChunks, HasFault};
 
 pub(super) mod mark;
 pub(super) mod piece_reader;
@@ -108,26 +107,14 @@ impl<R: PieceReader> Decoder<R> {
         requires none { pieces.old.from ≡ pieces.old.to }
         requires fits { length out.old ≤ bytes_left pieces.old }
         requires pixels { KeepsPixels (channels_number self.old.channels) pieces.old }
-        ensures read { (start : Option (List ℕ)) (given : List ℕ)
-            → GivesPieces (channels_number self.old.header.channels)
-            (channels_number self.old.channels) (pixel_count self.old.header) start
-            (R.ahead self.old.reader) given pieces.old
-            → IfOk result (λ size. GivesPieces (channels_number self.old.header.channels)
-            (channels_number self.old.channels) (pixel_count self.old.header) start
-            (R.ahead self.new.reader) (given ++ take size out.new) pieces.new) }
-        ensures refused { (start : Option (List ℕ)) (given : List ℕ)
-            → GivesPieces (channels_number self.old.header.channels)
-            (channels_number self.old.channels) (pixel_count self.old.header) start
-            (R.ahead self.old.reader) given pieces.old
-            → OnErr result (HasFault (RefusesChunks R.in_memory (pixel_count self.old.header)
-            start (R.ahead self.new.reader)) fault.new) }
-        ensures within { IfOk result (λ size. size ≤ length out.new) }
+        ensures gives { IfOk result (GivesMore (channels_number self.old.header.channels)
+            (channels_number self.old.channels)
+            (R.ahead self.old.reader) (R.ahead self.new.reader) pieces.old pieces.new out.new) }
+        ensures refused { OnErr result (RefusesMore (channels_number self.old.header.channels)
+            (channels_number self.old.channels) R.in_memory
+            (R.ahead self.old.reader) (R.ahead self.new.reader) pieces.old fault.new) }
         ensures enough { IfOk result (λ size.
             length out.new ≤ size + (pieces.new.to - pieces.new.from)) }
-        ensures pixels { OnOk result
-            (KeepsPixels (channels_number self.old.channels) pieces.new) }
-        ensures left { IfOk result (λ size.
-            size + bytes_left pieces.new ≡ bytes_left pieces.old) }
         ensures kept { IsTrue R.in_memory
             → OnErr result (Keeps (R.ahead self.old.reader) (R.ahead self.new.reader)) }
         ensures unchanged { self.new ≡ record self.old { reader = self.new.reader } }
@@ -149,23 +136,12 @@ impl<R: PieceReader> Decoder<R> {
     ) -> PieceResult<()>
         requires fits { length out.old ≤ bytes_left pieces.old }
         requires pixels { KeepsPixels (channels_number self.old.channels) pieces.old }
-        ensures read { (start : Option (List ℕ)) (given : List ℕ)
-            → GivesPieces (channels_number self.old.header.channels)
-            (channels_number self.old.channels) (pixel_count self.old.header) start
-            (R.ahead self.old.reader) given pieces.old
-            → OnOk result (GivesPieces (channels_number self.old.header.channels)
-            (channels_number self.old.channels) (pixel_count self.old.header) start
-            (R.ahead self.new.reader) (given ++ out.new) pieces.new) }
-        ensures refused { (start : Option (List ℕ)) (given : List ℕ)
-            → GivesPieces (channels_number self.old.header.channels)
-            (channels_number self.old.channels) (pixel_count self.old.header) start
-            (R.ahead self.old.reader) given pieces.old
-            → OnErr result (HasFault (RefusesChunks R.in_memory (pixel_count self.old.header)
-            start (R.ahead self.new.reader)) fault.new) }
-        ensures pixels { OnOk result
-            (KeepsPixels (channels_number self.old.channels) pieces.new) }
-        ensures left { OnOk result
-            (length out.new + bytes_left pieces.new ≡ bytes_left pieces.old) }
+        ensures gives { OnOk result (GivesMore (channels_number self.old.header.channels)
+            (channels_number self.old.channels) (R.ahead self.old.reader)
+            (R.ahead self.new.reader) pieces.old pieces.new out.new (length out.new)) }
+        ensures refused { OnErr result (RefusesMore (channels_number self.old.header.channels)
+            (channels_number self.old.channels) R.in_memory
+            (R.ahead self.old.reader) (R.ahead self.new.reader) pieces.old fault.new) }
         ensures kept { IsTrue R.in_memory
             → OnErr result (Keeps (R.ahead self.old.reader) (R.ahead self.new.reader)) }
         ensures unchanged { self.new ≡ record self.old { reader = self.new.reader } }

@@ -2,9 +2,8 @@
 ghost use Rattle.std.specs.Io.KnownBytes.{Keeps};
 ghost use Rattle.std.specs.Prelude.{◌≡◌, ℕ, ◌+◌, ◌-◌, ◌<◌, ◌≤◌, List, ◌++◌, length, take, Option, Some, Ok, true, IsTrue, IfOk, IfErr, OnOk, OnErr};
 ghost use Rattle.qoi.specs.Raw.{AreChannels};
-ghost use Rattle.qoi.specs.pieces.ReaderPieces.{bytes_left, kept_count, KeepsNone, KeepsPixels, GivesPieces};
+ghost use Rattle.qoi.specs.pieces.ReaderPieces.{bytes_left, kept_count, KeepsNone, KeepsPixels, GivesMore, RefusesMore};
 ghost use Rattle.qoi.specs.declared.error.Error.{Error};
-ghost use Rattle.qoi.specs.inner.Chunks.{RefusesChunks, HasFault};
 
 use crate::decode::pixel_reader::pieces::{PieceResult, Pieces, Refused, fail};
 use crate::decode::reader::{Buffered, Bytes, Reader};
@@ -29,19 +28,12 @@ pub trait PieceReader: Reader {
         requires none { KeepsNone pieces.old }
         requires fits { length out.old ≤ bytes_left pieces.old }
         requires pixels { KeepsPixels channels pieces.old }
-        ensures read { (n : ℕ) (start : Option (List ℕ)) (given : List ℕ)
-            → GivesPieces file_channels channels n start (Self.ahead self.old) given pieces.old
-            → IfOk result (λ size. GivesPieces file_channels channels n start
-            (Self.ahead self.new) (given ++ take size out.new) pieces.new) }
-        ensures refused { (n : ℕ) (start : Option (List ℕ)) (given : List ℕ)
-            → GivesPieces file_channels channels n start (Self.ahead self.old) given pieces.old
-            → OnErr result
-            (HasFault (RefusesChunks Self.in_memory n start (Self.ahead self.new)) fault.new) }
-        ensures within { IfOk result (λ size. size ≤ length out.new) }
+        ensures gives { IfOk result (GivesMore file_channels channels
+            (Self.ahead self.old) (Self.ahead self.new) pieces.old pieces.new out.new) }
+        ensures refused { OnErr result (RefusesMore file_channels channels Self.in_memory
+            (Self.ahead self.old) (Self.ahead self.new) pieces.old fault.new) }
         ensures enough { IfOk result (λ size.
             length out.new ≤ size + kept_count pieces.new) }
-        ensures pixels { OnOk result (KeepsPixels channels pieces.new) }
-        ensures left { IfOk result (λ size. size + bytes_left pieces.new ≡ bytes_left pieces.old) }
         ensures kept { IsTrue Self.in_memory
             → OnErr result (Keeps (Self.ahead self.old) (Self.ahead self.new)) };
 }
@@ -69,18 +61,12 @@ fn piece_of_bytes(
     requires none { KeepsNone pieces.old }
     requires fits { length out.old ≤ bytes_left pieces.old }
     requires pixels { KeepsPixels channels pieces.old }
-    ensures read { (n : ℕ) (start : Option (List ℕ)) (given : List ℕ)
-        → GivesPieces file_channels channels n start (Some bytes.old) given pieces.old
-        → IfOk result (λ size. GivesPieces file_channels channels n start
-        (Some bytes.new) (given ++ take size out.new) pieces.new) }
-    ensures refused { (n : ℕ) (start : Option (List ℕ)) (given : List ℕ)
-        → GivesPieces file_channels channels n start (Some bytes.old) given pieces.old
-        → OnErr result (HasFault (RefusesChunks true n start (Some bytes.new)) fault.new) }
-    ensures within { IfOk result (λ size. size ≤ length out.new) }
+    ensures gives { IfOk result (GivesMore file_channels channels
+        (Some bytes.old) (Some bytes.new) pieces.old pieces.new out.new) }
+    ensures refused { OnErr result (RefusesMore file_channels channels true
+        (Some bytes.old) (Some bytes.new) pieces.old fault.new) }
     ensures enough { IfOk result (λ size.
         length out.new ≤ size + kept_count pieces.new) }
-    ensures pixels { OnOk result (KeepsPixels channels pieces.new) }
-    ensures left { IfOk result (λ size. size + bytes_left pieces.new ≡ bytes_left pieces.old) }
 {
     match (channels, file_channels) {
         (3, 3) => pieces.decode_more::<Bytes, 3, 3>(bytes, out, fault),
