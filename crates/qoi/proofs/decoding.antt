@@ -6,6 +6,7 @@ pub mod FilledBuffer
 pub mod FirstChunk
 pub mod FrontFile
 pub mod FrontImage
+pub mod GivenMore
 pub mod Grown
 pub mod ImageSize
 pub mod InPlace

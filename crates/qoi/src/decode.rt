@@ -27,8 +27,6 @@ mod table;
 
 pub use crate::decode::pixel_reader::PixelReader;
 pub use crate::decode::pixel_reader::mark::Mark;
-pub use crate::decode::pixel_reader::piece_reader::PieceReader;
-pub use crate::decode::pixel_reader::pieces::Pieces;
 pub use crate::decode::pixel_reader::row_index::RowIndex;
 pub use crate::decode::reader::{Buffered, Bytes, Reader};
 use crate::error::{Error, Result};
@@ -357,10 +355,8 @@ impl<R: Reader> Decoder<R> {
                 required: size,
             });
         }
-        let channels = self.channels.as_u8();
-        let file_channels = self.header.channels.as_u8();
         self.reader
-            .decode_image(&mut buf[..size], channels, file_channels)?;
+            .decode_image_in(&mut buf[..size], self.channels, self.header.channels)?;
         Ok(size)
     }
 
@@ -388,10 +384,8 @@ impl<R: Reader> Decoder<R> {
     {
         let size = self.required_buf_len();
         let mut out = Vec::with_capacity(alloc, size)?;
-        let channels = self.channels.as_u8();
-        let file_channels = self.header.channels.as_u8();
         self.reader
-            .decode_image_to_vec(&mut out, size, channels, file_channels)?;
+            .decode_image_to_vec(&mut out, size, self.channels, self.header.channels)?;
         Ok(out)
     }
 }

@@ -54,7 +54,7 @@ mod utils;
 mod writers;
 
 pub use crate::decode::{
-    Decoder, Mark, PixelReader, RowIndex, decode_header, decode_to_buf, decode_to_vec,
+    Decoder, Mark, PixelReader, Reader, RowIndex, decode_header, decode_to_buf, decode_to_vec,
 };
 pub use crate::encode::{Encoder, PixelWriter, encode_max_len, encode_to_buf, encode_to_vec};
 pub use crate::error::{Error, Result};

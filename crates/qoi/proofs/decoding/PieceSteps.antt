@@ -2,10 +2,9 @@
 use Rattle.std.proofs.Common.{◌≡◌, ℕ, ◌+◌, ◌-◌, ◌*◌, ◌/◌, ◌%◌, ◌<◌, ◌≤◌, List, [], ◌∷◌, ◌++◌, length, take, drop, replicate, reverse, min, Option, arith, refl, sym, ap, ◌∙◌, subst, append_assoc, append-nil, length-append}
 use Rattle.std.specs.Io.KnownBytes.{Consumes}
 use Rattle.std.proofs.KnownBytes.{Consumes-trans}
-use Rattle.std.proofs.lemmas.List.{length-replicate, length-reverse, reverse-append, length-take, length-take-le, length-drop, take-append-le, take-take, take_all, take_at, drop-drop}
-use Rattle.std.proofs.lemmas.Slice.{take-put_mid}
+use Rattle.std.proofs.lemmas.List.{length-replicate, length-reverse, reverse-append, length-take, length-take-le, length-drop, take-append-le, take-take, take_all, drop-drop}
 use Rattle.std.proofs.Math.Seq.{take-add}
-use borrow.Rule.Slice.PartMut.{put_mid, mid_of, mid_len, same_len_mid}
+use borrow.Rule.Slice.PartMut.{put_mid}
 use Rattle.std.proofs.lemmas.Grind.{flat_map-append}
 use Rattle.qoi.specs.declared.chunk.Chunk.{Chunk}
 use Rattle.qoi.specs.declared.decode.in_place.InPlace.{InPlace}
@@ -437,35 +436,6 @@ still_goes {f} {c} {n} {start} {now} {given} p is h some =
       fewer = by_channels (λ d. length given + length (kept p) ≡ d * length gone → length given + (p.to - p.from + p.undecoded) ≡ d * n → k ≡ p.run / d → length (replicate k px ++ gone) < n) is
           (λ a b e. omega (arith, count, kept_long p h.within, h.behind some)) (λ a b e. omega (arith, count, kept_long p h.within, h.behind some)) size h.size refl;
     }
-
--- a piece of two parts
-pub joined_two : (d : ℕ) (out long front rest : List ℕ) → out ≡ front ++ rest → length front ≡ d → length long ≡ length (mid_of d (length out - d) out)
-    → put_mid d (length out - d) out long ≡ front ++ long
-joined_two d out long front rest is size long_is =
-    let room : d ≤ length out = omega (arith, ap length is, length-append front rest, size) in
-    let long_size : length long ≡ length out - d = long_is ∙ mid_len d (length out) out (omega arith) in
-    sym (take_all (d + length long) (put_mid d (length out - d) out long) (omega (arith, same_len_mid d (length out - d) out long long_is, long_size, room)))
-    ∙ take-read d (length long) (length out - d) out long room (omega arith) ∙ ap (λ z. take d z ++ take (length long) long) is
-    ∙ ap (λ z. z ++ take (length long) long) (take_at front rest d size) ∙ ap (λ z. front ++ z) (take_all (length long) long (omega arith))
-
--- a piece of three parts
-pub joined : (d m : ℕ) (out long short front rest : List ℕ) → out ≡ front ++ rest → length front ≡ d → m ≤ length long
-    → length long ≡ length (mid_of d (length out - d) out)
-    → length short ≡ length (mid_of (d + m) (length (put_mid d (length out - d) out long) - (d + m)) (put_mid d (length out - d) out long))
-    → put_mid (d + m) (length (put_mid d (length out - d) out long) - (d + m)) (put_mid d (length out - d) out long) short ≡ (front ++ take m long) ++ short
-joined d m out long short front rest is size some long_is short_is =
-    let two = put_mid d (length out - d) out long in
-    let j = length two - (d + m) in
-    let whole = put_mid (d + m) j two short in
-    let room : d ≤ length out = omega (arith, ap length is, length-append front rest, size) in
-    let long_size : length long ≡ length out - d = long_is ∙ mid_len d (length out) out (omega arith) in
-    let same : length two ≡ length out = same_len_mid d (length out - d) out long long_is in
-    let within : d + m ≤ length two = omega (arith, same, long_size, some, room) in
-    let short_size : length short ≡ j = short_is ∙ mid_len (d + m) (length two) two (omega arith) in
-    let all : length whole ≡ length two = same_len_mid (d + m) j two short short_is in
-    sym (take_all (d + m + length short) whole (omega (arith, all, short_size, within)))
-    ∙ take-put_mid (d + m) j two short (d + m + length short) refl within
-    ∙ ap (λ z. z ++ short) (take-read d m (length out - d) out long room some ∙ ap (λ z. take d z ++ take m long) is ∙ ap (λ z. z ++ take m long) (take_at front rest d size))
 
 -- two parts of a piece that were read
 pub read_two : (given front more : List ℕ) (i j : ℕ) → i ≤ length front → j ≤ length more

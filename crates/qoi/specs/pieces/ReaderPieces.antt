@@ -1,11 +1,13 @@
 -- What stands between two pieces of an image.
-use Rattle.std.specs.Prelude.{◌≡◌, ℕ, ◌+◌, ◌-◌, ◌*◌, ◌%◌, ◌<◌, ◌≤◌, ◌/◌, List, [], ◌++◌, length, take, drop, reverse, replicate, Option}
+use Rattle.std.specs.Prelude.{◌≡◌, ℕ, ◌+◌, ◌-◌, ◌*◌, ◌%◌, ◌<◌, ◌≤◌, ◌/◌, List, [], ◌++◌, length, take, drop, reverse, replicate, Bool, Option}
 use Rattle.std.specs.Io.KnownBytes.{Consumes}
 use Rattle.qoi.specs.declared.chunk.Chunk.{Chunk}
+use Rattle.qoi.specs.declared.error.Error.{Error}
 use Rattle.qoi.specs.declared.decode.pixel_reader.pieces.Pieces.{Pieces}
 use Rattle.qoi.specs.Qoi.{Past, run_max, previous, AreChunks, chunk_bytes, then_chunks}
 use Rattle.qoi.specs.Raw.{output}
 use Rattle.qoi.specs.Decoding.{ReadsImage}
+use Rattle.qoi.specs.inner.Chunks.{RefusesChunks, HasFault}
 use Rattle.qoi.specs.inner.Hashed.{pixel_of_lanes, HoldsSeen}
 
 -- the bytes that are decoded and aren't given yet
@@ -66,3 +68,18 @@ pub record GivesPieces (file_channels channels n : ℕ) (start now : Option (Lis
   pub behind : 0 < p.undecoded → p.run < p.undecoded
   -- or the image and the end marker were read
   pub ends : p.undecoded ≡ 0 → ReadsImage file_channels channels n start now (given ++ kept p)
+
+-- A step over the pieces of an image gave the first `size` bytes of `out`: of each image they follow those
+-- that were given before.
+pub record GivesMore (file_channels channels : ℕ) (ahead rest : Option (List ℕ)) (old new : Pieces) (out : List ℕ) (size : ℕ) : Type 0 where
+  pub read : (n : ℕ) (start : Option (List ℕ)) (given : List ℕ) → GivesPieces file_channels channels n start ahead given old
+      → GivesPieces file_channels channels n start rest (given ++ take size out) new
+  pub within : size ≤ length out
+  pub pixels : KeepsPixels channels new
+  -- as many bytes fewer are left
+  pub left : size + bytes_left new ≡ bytes_left old
+
+-- A step was refused: the place for the error has one, and of each image it says why chunks are refused.
+pub record RefusesMore (file_channels channels : ℕ) (in_memory : Bool) (ahead rest : Option (List ℕ)) (old : Pieces) (fault : Option Error) : Type 0 where
+  pub refused : (n : ℕ) (start : Option (List ℕ)) (given : List ℕ) → GivesPieces file_channels channels n start ahead given old
+      → HasFault (RefusesChunks in_memory n start rest) fault

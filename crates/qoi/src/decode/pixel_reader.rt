@@ -1,27 +1,25 @@
 //! Decoding an image piece by piece.
 ghost use Rattle.std.specs.Io.KnownBytes.{Keeps};
-ghost use Rattle.std.specs.Prelude.{◌≡◌, ℕ, ◌+◌, ◌-◌, ◌%◌, ◌<◌, ◌≤◌, List, [], ◌++◌, length, take, drop, min, Option, Some, Ok, true, false, IsTrue, IfSome, IfOk, IfErr, OnOk, OnErr, IsErrOf};
+ghost use Rattle.std.specs.Prelude.{◌≡◌, ℕ, ◌+◌, ◌-◌, ◌<◌, ◌≤◌, List, [], ◌++◌, length, take, drop, min, Option, Some, Ok, true, false, IsTrue, IfSome, IfOk, IfErr, OnOk, OnErr, IsErrOf};
 ghost use Rattle.qoi.specs.Decoded.{HasDecoded};
 ghost use Rattle.qoi.specs.DecoderState.{DecoderState, output_byte_count};
 ghost use Rattle.qoi.specs.Images.{front_image, front_rest};
 ghost use Rattle.qoi.specs.pieces.PixelReader.{as_decoder, pixels_left, HasGiven, HasRows, RefusesPixels, IsSpent};
-ghost use Rattle.qoi.specs.Qoi.{channels_number, pixel_count};
-ghost use Rattle.qoi.specs.pieces.ReaderPieces.{bytes_left, KeepsPixels, GivesPieces};
+ghost use Rattle.qoi.specs.Qoi.{channels_number};
+ghost use Rattle.qoi.specs.pieces.ReaderPieces.{bytes_left, KeepsPixels, GivesMore, RefusesMore};
 ghost use Rattle.qoi.specs.Reading.{StandsAhead};
 ghost use Rattle.qoi.specs.Rectangles.{row_bytes};
 ghost use Rattle.qoi.specs.declared.error.Error.{Error};
-ghost use Rattle.qoi.specs.inner.Chunks.{RefusesChunks, HasFault};
 
 pub(super) mod mark;
-pub(super) mod piece_reader;
 pub(super) mod pieces;
 mod place;
 mod room;
 pub(super) mod row_index;
 
 use crate::decode::Decoder;
-use crate::decode::pixel_reader::piece_reader::PieceReader;
 use crate::decode::pixel_reader::pieces::{PieceResult, Pieces};
+use crate::decode::reader::Reader;
 use crate::error::{Error, Result};
 use crate::header::Header;
 use crate::types::Channels;
@@ -75,7 +73,7 @@ fn fault_of(fault: Option<Error>) -> Error
     }
 }
 
-impl<R: PieceReader> Decoder<R> {
+impl<R: Reader> Decoder<R> {
     /// Starts the decoding of the image ahead, in the decoder's channels, piece by piece. Nothing
     /// is read yet.
     pub fn into_pixels(self) -> PixelReader<R>
@@ -108,34 +106,20 @@ impl<R: PieceReader> Decoder<R> {
         requires none { pieces.old.from ≡ pieces.old.to }
         requires fits { length out.old ≤ bytes_left pieces.old }
         requires pixels { KeepsPixels (channels_number self.old.channels) pieces.old }
-        ensures read { (start : Option (List ℕ)) (given : List ℕ)
-            → GivesPieces (channels_number self.old.header.channels)
-            (channels_number self.old.channels) (pixel_count self.old.header) start
-            (R.ahead self.old.reader) given pieces.old
-            → IfOk result (λ size. GivesPieces (channels_number self.old.header.channels)
-            (channels_number self.old.channels) (pixel_count self.old.header) start
-            (R.ahead self.new.reader) (given ++ take size out.new) pieces.new) }
-        ensures refused { (start : Option (List ℕ)) (given : List ℕ)
-            → GivesPieces (channels_number self.old.header.channels)
-            (channels_number self.old.channels) (pixel_count self.old.header) start
-            (R.ahead self.old.reader) given pieces.old
-            → OnErr result (HasFault (RefusesChunks R.in_memory (pixel_count self.old.header)
-            start (R.ahead self.new.reader)) fault.new) }
-        ensures within { IfOk result (λ size. size ≤ length out.new) }
+        ensures gives { IfOk result (GivesMore (channels_number self.old.header.channels)
+            (channels_number self.old.channels)
+            (R.ahead self.old.reader) (R.ahead self.new.reader) pieces.old pieces.new out.new) }
+        ensures refused { OnErr result (RefusesMore (channels_number self.old.header.channels)
+            (channels_number self.old.channels) R.in_memory
+            (R.ahead self.old.reader) (R.ahead self.new.reader) pieces.old fault.new) }
         ensures enough { IfOk result (λ size.
             length out.new ≤ size + (pieces.new.to - pieces.new.from)) }
-        ensures pixels { OnOk result
-            (KeepsPixels (channels_number self.old.channels) pieces.new) }
-        ensures left { IfOk result (λ size.
-            size + bytes_left pieces.new ≡ bytes_left pieces.old) }
         ensures kept { IsTrue R.in_memory
             → OnErr result (Keeps (R.ahead self.old.reader) (R.ahead self.new.reader)) }
         ensures unchanged { self.new ≡ record self.old { reader = self.new.reader } }
     {
-        let channels = self.channels.as_u8();
-        let file_channels = self.header.channels.as_u8();
         self.reader
-            .decode_piece(pieces, out, channels, file_channels, fault)
+            .decode_piece(pieces, out, self.channels, self.header.channels, fault)
     }
 
     // Fills `out` with the next bytes of the image: with what is kept, with more that is decoded in
@@ -149,23 +133,12 @@ impl<R: PieceReader> Decoder<R> {
     ) -> PieceResult<()>
         requires fits { length out.old ≤ bytes_left pieces.old }
         requires pixels { KeepsPixels (channels_number self.old.channels) pieces.old }
-        ensures read { (start : Option (List ℕ)) (given : List ℕ)
-            → GivesPieces (channels_number self.old.header.channels)
-            (channels_number self.old.channels) (pixel_count self.old.header) start
-            (R.ahead self.old.reader) given pieces.old
-            → OnOk result (GivesPieces (channels_number self.old.header.channels)
-            (channels_number self.old.channels) (pixel_count self.old.header) start
-            (R.ahead self.new.reader) (given ++ out.new) pieces.new) }
-        ensures refused { (start : Option (List ℕ)) (given : List ℕ)
-            → GivesPieces (channels_number self.old.header.channels)
-            (channels_number self.old.channels) (pixel_count self.old.header) start
-            (R.ahead self.old.reader) given pieces.old
-            → OnErr result (HasFault (RefusesChunks R.in_memory (pixel_count self.old.header)
-            start (R.ahead self.new.reader)) fault.new) }
-        ensures pixels { OnOk result
-            (KeepsPixels (channels_number self.old.channels) pieces.new) }
-        ensures left { OnOk result
-            (length out.new + bytes_left pieces.new ≡ bytes_left pieces.old) }
+        ensures gives { OnOk result (GivesMore (channels_number self.old.header.channels)
+            (channels_number self.old.channels) (R.ahead self.old.reader)
+            (R.ahead self.new.reader) pieces.old pieces.new out.new (length out.new)) }
+        ensures refused { OnErr result (RefusesMore (channels_number self.old.header.channels)
+            (channels_number self.old.channels) R.in_memory
+            (R.ahead self.old.reader) (R.ahead self.new.reader) pieces.old fault.new) }
         ensures kept { IsTrue R.in_memory
             → OnErr result (Keeps (R.ahead self.old.reader) (R.ahead self.new.reader)) }
         ensures unchanged { self.new ≡ record self.old { reader = self.new.reader } }
@@ -184,7 +157,7 @@ impl<R: PieceReader> Decoder<R> {
     }
 }
 
-impl<R: PieceReader> PixelReader<R> {
+impl<R: Reader> PixelReader<R> {
     /// A second reader of the rest of the same image, over a clone of this one's source. If each
     /// clone of the source equals it, as with a `&[u8]`, the readers are equal, and so is what was
     /// read. A reader over `Bytes` is doubled by `mark` and `Mark::resume`.
@@ -323,7 +296,7 @@ impl<R: PieceReader> PixelReader<R> {
     }
 }
 
-impl<R: PieceReader + Drop> PixelReader<R> {
+impl<R: Reader + Drop> PixelReader<R> {
     /// Takes what is left of the image, and the end marker, without handing the bytes out: a file
     /// is checked, or its end found, without allocating. Gives back the decoder, which goes on behind
     /// the end marker.

@@ -1,20 +1,54 @@
 //! Where a decoder takes its bytes from: bytes in memory, a stream, or a reader with a buffer.
-ghost use Rattle.std.specs.Prelude.{◌≡◌, ◌≤◌, ℕ, ◌/◌, ◌%◌, List, length, Option, Some, IfErr, OnOk, IsSome, Bool, true, false, Err, refl};
+ghost use Rattle.std.specs.Io.KnownBytes.{Keeps};
+ghost use Rattle.std.specs.Prelude.{◌≡◌, ℕ, ◌+◌, ◌-◌, ◌≤◌, ◌/◌, ◌%◌, List, length, Option, Some, IfSome, IfNone, IfOk, IfErr, OnOk, OnErr, IsSome, IsTrue, Bool, true, false, Err, refl};
 ghost use Rattle.std.specs.Vec.{vec_len, vec_capacity};
+ghost use Rattle.qoi.specs.Qoi.{channels_number};
 ghost use Rattle.qoi.specs.Raw.{AreChannels};
 ghost use Rattle.qoi.specs.Decoding.{ReadsImage, ReadsHeader, RefusesImage};
 ghost use Rattle.qoi.specs.declared.error.Error.{Error};
+ghost use Rattle.qoi.specs.pieces.ReaderPieces.{bytes_left, kept_count, KeepsNone, KeepsPixels, GivesMore, RefusesMore};
 
 use crate::consts::QOI_HEADER_SIZE;
 use crate::decode::chunks::{image_to_buf, image_to_vec};
+use crate::decode::pixel_reader::pieces::{PieceResult, Pieces};
 use crate::decode::slice::{slice_image, slice_image_to_vec};
 use crate::decode::stream::read_exact;
 use crate::error::{Error, Result};
 use crate::header::Header;
+use crate::types::Channels;
 use std::io::{BufRead, Read};
 use std::marker::Model;
 
-/// Where a decoder takes its bytes from.
+// Calls a function of a kind of reader for the channels of output and file, which are constants of its
+// loops. Three channels don't show what the fourth is.
+macro_rules! in_channels {
+    ($channels:expr, $file_channels:expr, $($name:ident)::+[$($reader:ty)?]($($arg:expr),*)) => {
+        match ($channels, $file_channels) {
+            (Channels::Rgb, Channels::Rgb) => $($name)::+::<$($reader,)? 3, 3>($($arg),*),
+            (Channels::Rgb, Channels::Rgba) => $($name)::+::<$($reader,)? 3, 3>($($arg),*),
+            (Channels::Rgba, Channels::Rgb) => $($name)::+::<$($reader,)? 4, 3>($($arg),*),
+            (Channels::Rgba, Channels::Rgba) => $($name)::+::<$($reader,)? 4, 4>($($arg),*),
+        }
+    };
+}
+
+// The channels of an output and of a file, if both numbers are 3 or 4.
+fn both_channels(channels: u8, file_channels: u8) -> Option<(Channels, Channels)>
+    ensures both { IfSome result (λ both.
+        (channels_number both.0 ≡ channels) × (channels_number both.1 ≡ file_channels)) }
+    ensures none { IfNone result (AreChannels file_channels channels → ⊥) }
+{
+    match (
+        Channels::try_from(channels),
+        Channels::try_from(file_channels),
+    ) {
+        (Ok(channels), Ok(file_channels)) => Some((channels, file_channels)),
+        _ => None,
+    }
+}
+
+/// Where a decoder takes its bytes from: `Bytes`, any `R: Read`, or a `Buffered` reader. No other type
+/// can be one.
 pub trait Reader: Sized {
     /// The bytes that stand ahead, if the reader's contract states them.
     ghost ahead: { Self → Option (List ℕ) };
@@ -50,36 +84,79 @@ pub trait Reader: Sized {
             (ahead self.old) (ahead self.new)) }
         ensures channels { (AreChannels file_channels channels → ⊥)
             → (result ≡ Err (Error.InvalidChannels channels))
-            × (self.new ≡ self.old) × (out.new ≡ out.old) };
+            × (self.new ≡ self.old) × (out.new ≡ out.old) }
+    {
+        let Some(both) = both_channels(channels, file_channels) else {
+            return Err(Error::InvalidChannels { channels });
+        };
+        self.decode_image_in(out, both.0, both.1)
+    }
 
-    /// Like `decode_image`, into an empty vector, which then has `size` bytes.
+    /// Like `decode_image`, in channels that a header can have.
+    #[doc(hidden)]
+    fn decode_image_in(
+        &mut self,
+        out: &mut [u8],
+        channels: Channels,
+        file_channels: Channels,
+    ) -> Result<()>
+        requires { length out.old % channels_number channels ≡ 0 }
+        ensures read { OnOk result
+            (ReadsImage (channels_number file_channels) (channels_number channels)
+            (length out.old / channels_number channels)
+            (ahead self.old) (ahead self.new) out.new) }
+        ensures refused { IfErr result
+            (RefusesImage in_memory (length out.old / channels_number channels)
+            (ahead self.old) (ahead self.new)) };
+
+    /// The same into an empty vector, which then has `size` bytes.
     ///
     /// The caller sees to it that the vector has capacity for `size` bytes, and that they are a
-    /// multiple of `channels`. A reader need not have this method: without it the vector is filled
-    /// with zeros, and `decode_image` decodes into it. The readers here grow the vector by steps of
-    /// 16384 pixels, each of which is decoded before the next.
+    /// multiple of the channels. The vector grows by steps of 16384 pixels, each of which is decoded
+    /// before the next.
+    #[doc(hidden)]
     fn decode_image_to_vec(
         &mut self,
         out: &mut Vec<u8>,
         size: usize,
-        channels: u8,
-        file_channels: u8,
+        channels: Channels,
+        file_channels: Channels,
     ) -> Result<()>
-        requires whole { AreChannels file_channels channels → size % channels ≡ 0 }
+        requires whole { size % channels_number channels ≡ 0 }
         requires empty { vec_len out.old ≡ 0 }
         requires room { size ≤ vec_capacity out.old }
-        ensures read { OnOk result (AreChannels file_channels channels
-            × ReadsImage file_channels channels (size / channels)
-            (ahead self.old) (ahead self.new) out.new.items) }
-        ensures refused { AreChannels file_channels channels
-            → IfErr result (RefusesImage in_memory (size / channels)
-            (ahead self.old) (ahead self.new)) }
-        ensures channels { (AreChannels file_channels channels → ⊥)
-            → (result ≡ Err (Error.InvalidChannels channels)) × (self.new ≡ self.old) }
-    {
-        out.resize(size, 0)?;
-        self.decode_image(out, channels, file_channels)
-    }
+        ensures read { OnOk result
+            (ReadsImage (channels_number file_channels) (channels_number channels)
+            (size / channels_number channels) (ahead self.old) (ahead self.new) out.new.items) }
+        ensures refused { IfErr result (RefusesImage in_memory (size / channels_number channels)
+            (ahead self.old) (ahead self.new)) };
+
+    /// Decodes the next bytes of an image, while none are kept: into the front of `out`, and
+    /// returns how many; the rest of `out`, and more, are kept. With the last ones it takes the end
+    /// marker. After a refusal the error stands in `fault`.
+    ///
+    /// Only `PixelReader` can call it, and no other type can be a reader, since nobody else has a
+    /// `Pieces`.
+    #[doc(hidden)]
+    fn decode_piece(
+        &mut self,
+        pieces: &mut Pieces,
+        out: &mut [u8],
+        channels: Channels,
+        file_channels: Channels,
+        fault: &mut Option<Error>,
+    ) -> PieceResult<usize>
+        requires none { KeepsNone pieces.old }
+        requires fits { length out.old ≤ bytes_left pieces.old }
+        requires pixels { KeepsPixels (channels_number channels) pieces.old }
+        ensures gives { IfOk result
+            (GivesMore (channels_number file_channels) (channels_number channels)
+            (ahead self.old) (ahead self.new) pieces.old pieces.new out.new) }
+        ensures refused { OnErr result
+            (RefusesMore (channels_number file_channels) (channels_number channels) in_memory
+            (ahead self.old) (ahead self.new) pieces.old fault.new) }
+        ensures enough { IfOk result (λ size. length out.new ≤ size + kept_count pieces.new) }
+        ensures kept { IsTrue in_memory → OnErr result (Keeps (ahead self.old) (ahead self.new)) };
 
     /// The bytes of a reader in memory are stated.
     ghost stated: { (reader : Self) → in_memory ≡ true → IsSome (ahead reader) };
@@ -114,6 +191,33 @@ impl<'a> Bytes<'a> {
     }
 }
 
+// Decodes the next bytes of an image in memory.
+fn piece_of_bytes(
+    bytes: &mut Bytes,
+    pieces: &mut Pieces,
+    out: &mut [u8],
+    channels: Channels,
+    file_channels: Channels,
+    fault: &mut Option<Error>,
+) -> PieceResult<usize>
+    requires none { KeepsNone pieces.old }
+    requires fits { length out.old ≤ bytes_left pieces.old }
+    requires pixels { KeepsPixels (channels_number channels) pieces.old }
+    ensures gives { IfOk result
+        (GivesMore (channels_number file_channels) (channels_number channels)
+        (Some bytes.old) (Some bytes.new) pieces.old pieces.new out.new) }
+    ensures refused { OnErr result
+        (RefusesMore (channels_number file_channels) (channels_number channels) true
+        (Some bytes.old) (Some bytes.new) pieces.old fault.new) }
+    ensures enough { IfOk result (λ size. length out.new ≤ size + kept_count pieces.new) }
+{
+    in_channels!(
+        channels,
+        file_channels,
+        Pieces::decode_more[Bytes](pieces, bytes, out, fault)
+    )
+}
+
 impl<'a> Reader for Bytes<'a> {
     ghost ahead = { Some };
 
@@ -127,13 +231,13 @@ impl<'a> Reader for Bytes<'a> {
         Ok(header)
     }
 
-    fn decode_image(&mut self, out: &mut [u8], channels: u8, file_channels: u8) -> Result<()> {
-        self.0 = match (channels, file_channels) {
-            (3, 3) | (3, 4) => slice_image::<3, 3>(self.0, out)?,
-            (4, 3) => slice_image::<4, 3>(self.0, out)?,
-            (4, 4) => slice_image::<4, 4>(self.0, out)?,
-            _ => return Err(Error::InvalidChannels { channels }),
-        };
+    fn decode_image_in(
+        &mut self,
+        out: &mut [u8],
+        channels: Channels,
+        file_channels: Channels,
+    ) -> Result<()> {
+        self.0 = in_channels!(channels, file_channels, slice_image[](self.0, out))?;
         Ok(())
     }
 
@@ -141,16 +245,33 @@ impl<'a> Reader for Bytes<'a> {
         &mut self,
         out: &mut Vec<u8>,
         size: usize,
-        channels: u8,
-        file_channels: u8,
+        channels: Channels,
+        file_channels: Channels,
     ) -> Result<()> {
-        self.0 = match (channels, file_channels) {
-            (3, 3) | (3, 4) => slice_image_to_vec::<3, 3>(self.0, out, size)?,
-            (4, 3) => slice_image_to_vec::<4, 3>(self.0, out, size)?,
-            (4, 4) => slice_image_to_vec::<4, 4>(self.0, out, size)?,
-            _ => return Err(Error::InvalidChannels { channels }),
-        };
+        self.0 = in_channels!(channels, file_channels, slice_image_to_vec[](self.0, out, size))?;
         Ok(())
+    }
+
+    fn decode_piece(
+        &mut self,
+        pieces: &mut Pieces,
+        out: &mut [u8],
+        channels: Channels,
+        file_channels: Channels,
+        fault: &mut Option<Error>,
+    ) -> PieceResult<usize> {
+        let before = self.0;
+        match piece_of_bytes(self, pieces, out, channels, file_channels, fault) {
+            Ok(size) => Ok(size),
+            Err(refused) => {
+                // Put back as a part of itself, so that `before` is read as address and length, one by
+                // one, as the last piece stored them. A load of both at once waits for those stores
+                // and all before them.
+                let (_, all) = before.split_at(0);
+                self.0 = all;
+                Err(refused)
+            }
+        }
     }
 }
 
@@ -167,28 +288,38 @@ impl<R: Read> Reader for R {
         Header::decode(&bytes)
     }
 
-    fn decode_image(&mut self, out: &mut [u8], channels: u8, file_channels: u8) -> Result<()> {
-        match (channels, file_channels) {
-            (3, 3) | (3, 4) => image_to_buf::<R, 3, 3>(self, out),
-            (4, 3) => image_to_buf::<R, 4, 3>(self, out),
-            (4, 4) => image_to_buf::<R, 4, 4>(self, out),
-            _ => Err(Error::InvalidChannels { channels }),
-        }
+    fn decode_image_in(
+        &mut self,
+        out: &mut [u8],
+        channels: Channels,
+        file_channels: Channels,
+    ) -> Result<()> {
+        in_channels!(channels, file_channels, image_to_buf[R](self, out))
     }
 
     fn decode_image_to_vec(
         &mut self,
         out: &mut Vec<u8>,
         size: usize,
-        channels: u8,
-        file_channels: u8,
+        channels: Channels,
+        file_channels: Channels,
     ) -> Result<()> {
-        match (channels, file_channels) {
-            (3, 3) | (3, 4) => image_to_vec::<R, 3, 3>(self, out, size),
-            (4, 3) => image_to_vec::<R, 4, 3>(self, out, size),
-            (4, 4) => image_to_vec::<R, 4, 4>(self, out, size),
-            _ => Err(Error::InvalidChannels { channels }),
-        }
+        in_channels!(channels, file_channels, image_to_vec[R](self, out, size))
+    }
+
+    fn decode_piece(
+        &mut self,
+        pieces: &mut Pieces,
+        out: &mut [u8],
+        channels: Channels,
+        file_channels: Channels,
+        fault: &mut Option<Error>,
+    ) -> PieceResult<usize> {
+        in_channels!(
+            channels,
+            file_channels,
+            Pieces::decode_more[R](pieces, self, out, fault)
+        )
     }
 }
 
@@ -240,27 +371,37 @@ impl<R: BufRead> Reader for Buffered<R> {
         self.0.decode_header()
     }
 
-    fn decode_image(&mut self, out: &mut [u8], channels: u8, file_channels: u8) -> Result<()> {
-        match (channels, file_channels) {
-            (3, 3) | (3, 4) => image_to_buf::<Buffered<R>, 3, 3>(self, out),
-            (4, 3) => image_to_buf::<Buffered<R>, 4, 3>(self, out),
-            (4, 4) => image_to_buf::<Buffered<R>, 4, 4>(self, out),
-            _ => Err(Error::InvalidChannels { channels }),
-        }
+    fn decode_image_in(
+        &mut self,
+        out: &mut [u8],
+        channels: Channels,
+        file_channels: Channels,
+    ) -> Result<()> {
+        in_channels!(channels, file_channels, image_to_buf[Buffered<R>](self, out))
     }
 
     fn decode_image_to_vec(
         &mut self,
         out: &mut Vec<u8>,
         size: usize,
-        channels: u8,
-        file_channels: u8,
+        channels: Channels,
+        file_channels: Channels,
     ) -> Result<()> {
-        match (channels, file_channels) {
-            (3, 3) | (3, 4) => image_to_vec::<Buffered<R>, 3, 3>(self, out, size),
-            (4, 3) => image_to_vec::<Buffered<R>, 4, 3>(self, out, size),
-            (4, 4) => image_to_vec::<Buffered<R>, 4, 4>(self, out, size),
-            _ => Err(Error::InvalidChannels { channels }),
-        }
+        in_channels!(channels, file_channels, image_to_vec[Buffered<R>](self, out, size))
+    }
+
+    fn decode_piece(
+        &mut self,
+        pieces: &mut Pieces,
+        out: &mut [u8],
+        channels: Channels,
+        file_channels: Channels,
+        fault: &mut Option<Error>,
+    ) -> PieceResult<usize> {
+        in_channels!(
+            channels,
+            file_channels,
+            Pieces::decode_more[Buffered<R>](pieces, self, out, fault)
+        )
     }
 }

@@ -1,9 +1,8 @@
 //! The loops over the pieces of an image: what is decoded before a caller asks for it is kept.
 ghost use Rattle.std.specs.Prelude.{◌≡◌, ◌↔◌, ℕ, ◌+◌, ◌-◌, ◌*◌, ◌%◌, ◌^◌, ◌<◌, ◌≤◌, List, [], ◌++◌, length, take, drop, min, Option, Some, IsTrue, IfOk, OnOk, OnErr};
-ghost use Rattle.qoi.specs.Raw.{IsChannels, output};
+ghost use Rattle.qoi.specs.Raw.{IsChannels};
 ghost use Rattle.qoi.specs.declared.decode.output.TheConstants.{RUN_ROOM};
 ghost use Rattle.qoi.specs.declared.decode.pixel_reader.room.TheConstants.{KEPT, IN_PLACE};
-ghost use Rattle.qoi.specs.inner.Chunks.{RefusesChunks, HasFault};
 
 use crate::decode::chunks::Chunks;
 use crate::decode::hashed::Hashed;
@@ -47,7 +46,7 @@ pub(super) fn fail(fault: &mut Option<Error>, e: Error) -> Refused
 }
 
 impl Pieces {
-    ghost use Rattle.qoi.specs.pieces.ReaderPieces.{kept, bytes_left, KeepsWithin, KeepsNothing, KeepsPixels, GivesPieces};
+    ghost use Rattle.qoi.specs.pieces.ReaderPieces.{kept, bytes_left, KeepsWithin, KeepsNothing, KeepsPixels, GivesPieces, GivesMore, RefusesMore};
 
     /// At the beginning of an image of `size` bytes.
     pub(super) fn new(size: usize) -> Pieces
@@ -149,18 +148,11 @@ impl Pieces {
         requires room { IN_PLACE ≤ length out.old }
         requires fits { length out.old + RUN_ROOM ≤ self.old.undecoded }
         requires pixels { KeepsPixels N self.old }
-        ensures read { (n : ℕ) (start : Option (List ℕ)) (given : List ℕ)
-            → GivesPieces F N n start (R.ahead reader.old) given self.old
-            → IfOk result (λ size.
-            GivesPieces F N n start (R.ahead reader.new) (given ++ take size out.new) self.new) }
-        ensures refused { (n : ℕ) (start : Option (List ℕ)) (given : List ℕ)
-            → GivesPieces F N n start (R.ahead reader.old) given self.old
-            → OnErr result
-            (HasFault (RefusesChunks R.in_memory n start (R.ahead reader.new)) fault.new) }
-        ensures within { IfOk result (λ size. size ≤ length out.new) }
+        ensures gives { IfOk result (GivesMore F N (R.ahead reader.old) (R.ahead reader.new)
+            self.old self.new out.new) }
+        ensures refused { OnErr result (RefusesMore F N R.in_memory
+            (R.ahead reader.old) (R.ahead reader.new) self.old fault.new) }
         ensures none { OnOk result (self.new.from ≡ self.new.to) }
-        ensures pixels { OnOk result (KeepsPixels N self.new) }
-        ensures left { IfOk result (λ size. size + bytes_left self.new ≡ bytes_left self.old) }
     {
         let size = out.len() / N * N;
         store_run::<N, F>(out, 0, self.last, self.run / N);
@@ -187,12 +179,9 @@ impl Pieces {
         requires none { self.old.from ≡ self.old.to }
         requires some { 0 < self.old.run }
         requires pixels { KeepsPixels N self.old }
-        ensures read { (n : ℕ) (start now : Option (List ℕ)) (given : List ℕ)
-            → GivesPieces F N n start now given self.old
-            → GivesPieces F N n start now given self.new }
+        ensures gives { (now : Option (List ℕ)) → GivesMore F N now now self.old self.new [] 0 }
         ensures none { self.new.run ≡ 0 }
-        ensures pixels { KeepsPixels N self.new }
-        ensures left { bytes_left self.new ≡ bytes_left self.old }
+        ensures within { KeepsWithin self.new }
     {
         store_run::<N, F>(&mut self.bytes, 0, self.last, self.run / N);
         self.from = 0;
@@ -208,13 +197,10 @@ impl Pieces {
         requires channels { IsChannels N }
         requires none { self.old.from ≡ self.old.to }
         requires pixels { KeepsPixels N self.old }
-        ensures read { (n : ℕ) (start now : Option (List ℕ)) (given : List ℕ)
-            → GivesPieces F N n start now given self.old
-            → GivesPieces F N n start now (given ++ take result out.new) self.new }
+        ensures gives { (now : Option (List ℕ)) → GivesMore F N now now
+            self.old self.new out.new result }
         ensures within { result ≤ length out.new }
         ensures none { result < length out.new → KeepsNothing self.new }
-        ensures pixels { KeepsPixels N self.new }
-        ensures left { result + bytes_left self.new ≡ bytes_left self.old }
     {
         if self.run == 0 {
             return 0;
@@ -236,18 +222,11 @@ impl Pieces {
         requires none { self.old.from ≡ self.old.to }
         requires fits { length out.old ≤ bytes_left self.old }
         requires pixels { KeepsPixels N self.old }
-        ensures read { (n : ℕ) (start : Option (List ℕ)) (given : List ℕ)
-            → GivesPieces F N n start (R.ahead reader.old) given self.old
-            → IfOk result (λ size.
-            GivesPieces F N n start (R.ahead reader.new) (given ++ take size out.new) self.new) }
-        ensures refused { (n : ℕ) (start : Option (List ℕ)) (given : List ℕ)
-            → GivesPieces F N n start (R.ahead reader.old) given self.old
-            → OnErr result
-            (HasFault (RefusesChunks R.in_memory n start (R.ahead reader.new)) fault.new) }
-        ensures within { IfOk result (λ size. size ≤ length out.new) }
+        ensures gives { IfOk result (GivesMore F N (R.ahead reader.old) (R.ahead reader.new)
+            self.old self.new out.new) }
+        ensures refused { OnErr result (RefusesMore F N R.in_memory
+            (R.ahead reader.old) (R.ahead reader.new) self.old fault.new) }
         ensures none { IfOk result (λ size. size < length out.new → KeepsNothing self.new) }
-        ensures pixels { OnOk result (KeepsPixels N self.new) }
-        ensures left { IfOk result (λ size. size + bytes_left self.new ≡ bytes_left self.old) }
     {
         if !self.is_placed(out.len()) {
             return Ok(self.give_run::<N, F>(out));
@@ -273,21 +252,14 @@ impl Pieces {
         requires none { KeepsNothing self.old }
         requires fits { length out.old ≤ bytes_left self.old }
         requires pixels { KeepsPixels N self.old }
-        ensures read { (n : ℕ) (start : Option (List ℕ)) (given : List ℕ)
-            → GivesPieces F N n start (R.ahead reader.old) given self.old
-            → IfOk result (λ size.
-            GivesPieces F N n start (R.ahead reader.new) (given ++ take size out.new) self.new) }
-        ensures refused { (n : ℕ) (start : Option (List ℕ)) (given : List ℕ)
-            → GivesPieces F N n start (R.ahead reader.old) given self.old
-            → OnErr result
-            (HasFault (RefusesChunks R.in_memory n start (R.ahead reader.new)) fault.new) }
-        ensures within { IfOk result (λ size. size ≤ length out.new) }
+        ensures gives { IfOk result (GivesMore F N (R.ahead reader.old) (R.ahead reader.new)
+            self.old self.new out.new) }
+        ensures refused { OnErr result (RefusesMore F N R.in_memory
+            (R.ahead reader.old) (R.ahead reader.new) self.old fault.new) }
         ensures few { IfOk result (λ size. length out.new < size + IN_PLACE) }
         ensures last { IfOk result (λ size. 0 < done + size
             → length out.new < size + (RUN_ROOM + 3)) }
         ensures none { OnOk result (KeepsNothing self.new) }
-        ensures pixels { IfOk result (λ size. KeepsPixels N self.new) }
-        ensures left { IfOk result (λ size. size + bytes_left self.new ≡ bytes_left self.old) }
     {
         if out.len() < least_room(done) {
             return Ok(0);
@@ -316,17 +288,12 @@ impl Pieces {
         requires none { KeepsNothing self.old }
         requires some { 0 < self.old.undecoded }
         requires pixels { KeepsPixels N self.old }
-        ensures read { (n : ℕ) (start : Option (List ℕ)) (given : List ℕ)
-            → GivesPieces F N n start (R.ahead reader.old) given self.old
-            → OnOk result (GivesPieces F N n start (R.ahead reader.new) given self.new) }
-        ensures refused { (n : ℕ) (start : Option (List ℕ)) (given : List ℕ)
-            → GivesPieces F N n start (R.ahead reader.old) given self.old
-            → OnErr result
-            (HasFault (RefusesChunks R.in_memory n start (R.ahead reader.new)) fault.new) }
+        ensures gives { OnOk result (GivesMore F N (R.ahead reader.old) (R.ahead reader.new)
+            self.old self.new [] 0) }
+        ensures refused { OnErr result (RefusesMore F N R.in_memory
+            (R.ahead reader.old) (R.ahead reader.new) self.old fault.new) }
         ensures enough { OnOk result
             (min self.old.undecoded (room - RUN_ROOM) ≤ self.new.to - self.new.from) }
-        ensures pixels { OnOk result (KeepsPixels N self.new) }
-        ensures left { OnOk result (bytes_left self.new ≡ bytes_left self.old) }
     {
         self.from = 0;
         if KEPT < self.undecoded {
@@ -364,7 +331,7 @@ impl Pieces {
 
     /// Decodes the next bytes of an image, while none are kept: into the front of `out`, and
     /// returns how many; the rest of `out`, and more, are kept.
-    pub(super) fn decode_more<R: Chunks<N, F>, const N: usize, const F: usize>(
+    pub(in crate::decode) fn decode_more<R: Chunks<N, F>, const N: usize, const F: usize>(
         &mut self,
         reader: &mut R,
         out: &mut [u8],
@@ -374,19 +341,12 @@ impl Pieces {
         requires none { self.old.from ≡ self.old.to }
         requires fits { length out.old ≤ bytes_left self.old }
         requires pixels { KeepsPixels N self.old }
-        ensures read { (n : ℕ) (start : Option (List ℕ)) (given : List ℕ)
-            → GivesPieces F N n start (R.ahead reader.old) given self.old
-            → IfOk result (λ size.
-            GivesPieces F N n start (R.ahead reader.new) (given ++ take size out.new) self.new) }
-        ensures refused { (n : ℕ) (start : Option (List ℕ)) (given : List ℕ)
-            → GivesPieces F N n start (R.ahead reader.old) given self.old
-            → OnErr result
-            (HasFault (RefusesChunks R.in_memory n start (R.ahead reader.new)) fault.new) }
-        ensures within { IfOk result (λ size. size ≤ length out.new) }
+        ensures gives { IfOk result (GivesMore F N (R.ahead reader.old) (R.ahead reader.new)
+            self.old self.new out.new) }
+        ensures refused { OnErr result (RefusesMore F N R.in_memory
+            (R.ahead reader.old) (R.ahead reader.new) self.old fault.new) }
         ensures enough { IfOk result (λ size.
             length out.new ≤ size + (self.new.to - self.new.from)) }
-        ensures pixels { OnOk result (KeepsPixels N self.new) }
-        ensures left { IfOk result (λ size. size + bytes_left self.new ≡ bytes_left self.old) }
     {
         let done = self.piece_front::<R, N, F>(reader, out, fault)?;
         if done == out.len() {

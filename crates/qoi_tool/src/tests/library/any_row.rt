@@ -8,13 +8,13 @@ ghost use Rattle.qoi.specs.pieces.PixelReader.{pixels_left, HasRows};
 
 use crate::tests::fakes::{ONE_RGB_PIXEL, PIXEL};
 use crate::tests::library::support::{assert_both, assert_bytes};
-use qoi::parts::{Bytes, PieceReader};
-use qoi::{Decoder, Error, Mark, PixelReader, encode_to_vec};
+use qoi::parts::Bytes;
+use qoi::{Decoder, Error, Mark, PixelReader, Reader, encode_to_vec};
 use std::alloc::Global;
 
 /// Reads what is left of an image, of which k rows were read.
 #[tactic(auto, unfolding(qoi::specs::pieces::PixelReader::HasRows))]
-fn rest<R: PieceReader>(alloc: Global, pixels: &mut PixelReader<R>) -> Result<Vec<u8>, Error>
+fn rest<R: Reader>(alloc: Global, pixels: &mut PixelReader<R>) -> Result<Vec<u8>, Error>
     ensures { (d : DecoderState R) (bytes : List ℕ) (stride k : ℕ)
         → HasRows d (Some bytes) (R.ahead pixels.old.reader) stride k pixels.old
         → IfOk result (λ rest. rest.items ≡ take (pixels_left pixels.old)
@@ -28,7 +28,7 @@ fn rest<R: PieceReader>(alloc: Global, pixels: &mut PixelReader<R>) -> Result<Ve
 
 /// A reader of which k rows were read is cloned, and both are read to the end. If each clone of the
 /// source equals it, that gives the same bytes, which are those of the image from row k on.
-pub fn by_clone<R: PieceReader + Clone + Drop>(
+pub fn by_clone<R: Reader + Clone + Drop>(
     alloc: Global,
     pixels: PixelReader<R>,
 ) -> Result<(Vec<u8>, Vec<u8>), Error>

@@ -17,8 +17,7 @@ ghost use Rattle.qoi.specs.Errors.{IsErrorOfCut, IsErrorOfWrong, IsIoError, IsRe
 use crate::tests::fakes::{ONE_RGB_PIXEL, PIXEL};
 use crate::tests::library::support::{assert_bytes, assert_number};
 use qoi::laws::reading::files_are_read;
-use qoi::parts::Reader;
-use qoi::{Decoder, Error, Header, decode_to_buf, decode_to_vec};
+use qoi::{Decoder, Error, Header, Reader, decode_to_buf, decode_to_vec};
 use std::alloc::Global;
 use std::io::Read;
 

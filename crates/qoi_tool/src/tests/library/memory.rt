@@ -5,9 +5,8 @@ use crate::tests::library::support::images::row;
 use crate::tests::library::support::{
     assert_bytes, assert_decoded, assert_given, assert_header, assert_number, assert_refused, made,
 };
-use qoi::parts::Reader;
 use qoi::{
-    Channels, ColorSpace, Decoder, Error, Header, Result, decode_header, decode_to_buf,
+    Channels, ColorSpace, Decoder, Error, Header, Reader, Result, decode_header, decode_to_buf,
     decode_to_vec, encode_to_buf, encode_to_vec,
 };
 use std::alloc::{AllocError, Global};

@@ -8,8 +8,8 @@ use crate::tests::library::support::images::{Image, row};
 use crate::tests::library::support::{
     assert_bytes, assert_fails, assert_number, assert_refused, made,
 };
-use qoi::parts::{Bytes, PieceReader};
-use qoi::{Channels, Decoder, Error, PixelReader, Result, Style};
+use qoi::parts::Bytes;
+use qoi::{Channels, Decoder, Error, PixelReader, Reader, Result, Style};
 use std::alloc::Global;
 use std::io::ErrorKind;
 use std::process::Abort;
@@ -40,12 +40,12 @@ impl Lengths {
 }
 
 // Reads the next bytes of an image, and returns how many.
-fn read<R: PieceReader>(rt: &impl Abort, pixels: &mut PixelReader<R>, buf: &mut [u8]) -> usize {
+fn read<R: Reader>(rt: &impl Abort, pixels: &mut PixelReader<R>, buf: &mut [u8]) -> usize {
     pixels.read(buf).expect(rt, "refused")
 }
 
 // Reads the raw bytes of an image piece by piece.
-fn by_pieces<R: PieceReader>(
+fn by_pieces<R: Reader>(
     rt: &impl Abort,
     alloc: Global,
     pixels: &mut PixelReader<R>,
@@ -68,7 +68,7 @@ fn by_pieces<R: PieceReader>(
 }
 
 // Reads the image of a decoder's file piece by piece, in these channels, and returns the decoder.
-fn assert_image<R: PieceReader + Drop>(
+fn assert_image<R: Reader + Drop>(
     rt: &impl Abort,
     alloc: Global,
     decoder: Decoder<R>,
@@ -185,7 +185,7 @@ fn pieces_in_other_channels(rt: HostRuntime) {
 }
 
 // After a refusal some of the image is left for ever, and it can't be read or finished.
-fn assert_spent<R: PieceReader + Drop>(
+fn assert_spent<R: Reader + Drop>(
     rt: &impl Abort,
     alloc: Global,
     mut pixels: PixelReader<R>,
@@ -203,10 +203,7 @@ fn assert_spent<R: PieceReader + Drop>(
 
 // Reads whole pieces of an image until one is refused, and returns the refusal and how many bytes
 // were left before it.
-fn refusal_of<R: PieceReader>(
-    pixels: &mut PixelReader<R>,
-    buf: &mut [u8],
-) -> (Option<Error>, usize) {
+fn refusal_of<R: Reader>(pixels: &mut PixelReader<R>, buf: &mut [u8]) -> (Option<Error>, usize) {
     for _ in 0..u64::MAX {
         let left = pixels.left();
         match pixels.read(buf) {
@@ -220,7 +217,7 @@ fn refusal_of<R: PieceReader>(
 
 // The pieces of a cut file are refused: by a slice as `UnexpectedBufferEnd`, by a reader as an i/o
 // error of this kind.
-fn assert_cut<R: PieceReader + Drop>(
+fn assert_cut<R: Reader + Drop>(
     rt: &impl Abort,
     alloc: Global,
     decoder: Decoder<R>,
@@ -262,7 +259,7 @@ fn with_wrong_byte(alloc: Global, file: &[u8], before_end: usize) -> Result<Vec<
 }
 
 // A piece is refused for the end marker.
-fn assert_wrong<R: PieceReader + Drop>(
+fn assert_wrong<R: Reader + Drop>(
     rt: &impl Abort,
     alloc: Global,
     decoder: Decoder<R>,
@@ -293,7 +290,7 @@ fn wrong_markers(rt: HostRuntime) {
 
 // Reads an image with a wrong marker in pieces of this size. When it is refused, so many bytes are
 // left, at least and at most.
-fn assert_refused_at<R: PieceReader + Drop>(
+fn assert_refused_at<R: Reader + Drop>(
     rt: &impl Abort,
     decoder: Decoder<R>,
     buf: &mut [u8],
@@ -389,11 +386,7 @@ fn images_one_after_the_other(rt: HostRuntime) {
 }
 
 // Reads a part of an image, and finishes it.
-fn finished<R: PieceReader + Drop>(
-    rt: &impl Abort,
-    decoder: Decoder<R>,
-    buf: &mut [u8],
-) -> Decoder<R> {
+fn finished<R: Reader + Drop>(rt: &impl Abort, decoder: Decoder<R>, buf: &mut [u8]) -> Decoder<R> {
     let mut pixels = decoder.into_pixels();
     read(rt, &mut pixels, buf);
     pixels.finish().expect(rt, "refused")

@@ -4,8 +4,8 @@ ghost use Rattle.qoi.specs.Raw.{IsChannels};
 
 use crate::tests::fakes::{ONE_RGB_PIXEL, PIXEL};
 use crate::tests::library::support::{assert_bytes, assert_header};
-use qoi::parts::{Buffered, Bytes, Reader};
-use qoi::{Error, Header, Result};
+use qoi::parts::{Buffered, Bytes};
+use qoi::{Error, Header, Reader, Result};
 use std::process::Abort;
 
 // Reads an image, by the trait alone.

@@ -10,8 +10,8 @@ ghost use Rattle.qoi.specs.Rectangles.{row_bytes, rectangle, KeepsOutside};
 
 use crate::tests::library::support::assert_bytes;
 use qoi::laws::rectangles::{rows_are_put, rows_that_come};
-use qoi::parts::{Bytes, PieceReader};
-use qoi::{Decoder, Error, Header, PixelReader, encode_to_vec};
+use qoi::parts::Bytes;
+use qoi::{Decoder, Error, Header, PixelReader, Reader, encode_to_vec};
 use std::alloc::Global;
 
 /// Of each of `rows` rows, from row `top` on, the `size` bytes from byte `left` on.
@@ -77,7 +77,7 @@ pub fn stride_of(header: &Header) -> usize
 }
 
 /// Decodes the next row of an image.
-pub fn next_row<R: PieceReader>(pixels: &mut PixelReader<R>, row: &mut [u8]) -> Result<(), Error>
+pub fn next_row<R: Reader>(pixels: &mut PixelReader<R>, row: &mut [u8]) -> Result<(), Error>
     ensures rows { (d : DecoderState R) (start : Option (List ℕ)) (stride k : ℕ)
         → HasRows d start (R.ahead pixels.old.reader) stride k pixels.old
         → length row.old ≡ stride

@@ -2,8 +2,7 @@
 use crate::tests::fakes::{NONE, Source};
 use crate::tests::library::support::images::{file_of, row};
 use crate::tests::library::support::{assert_bytes, assert_decoded, assert_number, made};
-use qoi::parts::Reader;
-use qoi::{Channels, Decoder, Result};
+use qoi::{Channels, Decoder, Reader, Result};
 use std::alloc::Global;
 use std::io::{BufRead, BufWriter, Cursor, Read, Write};
 use std::process::Abort;

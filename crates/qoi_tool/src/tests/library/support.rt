@@ -9,8 +9,7 @@ pub mod made;
 pub mod plain;
 pub mod reference;
 
-use qoi::parts::Reader;
-use qoi::{Decoder, Error, Header, Result};
+use qoi::{Decoder, Error, Header, Reader, Result};
 use std::alloc::Global;
 use std::io::ErrorKind;
 use std::process::Abort;

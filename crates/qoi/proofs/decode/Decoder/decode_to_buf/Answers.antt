@@ -1,5 +1,5 @@
 -- The image is read or refused.
-use Rattle.std.proofs.Common.{◌≡◌, ℕ, List, Option, length, ap, ◌∙◌, arith, subst}
+use Rattle.std.proofs.Common.{◌≡◌, ℕ, List, Option, length, ap, arith, subst}
 use Rattle.std.proofs.lemmas.List.{length-take-le}
 use Rattle.std.proofs.lemmas.Result.{err_from_is_err_and}
 use lib.Seq.{take-append_seam}
@@ -8,7 +8,7 @@ use Rattle.qoi.specs.Raw.{HasImageLength}
 use Rattle.qoi.specs.Decoding.{ReadsImage, RefusesImage}
 use Rattle.qoi.specs.DecoderState.{output_byte_count}
 use Rattle.qoi.specs.Decoded.{HasDecoded}
-use Rattle.qoi.proofs.decoding.ImageSize.{channels_are, image_pixels}
+use Rattle.qoi.proofs.decoding.ImageSize.{image_pixels}
 use Rattle.qoi.proofs.decoding.Promised.{has_decoded, has_refused}
 use Rattle.qoi.proofs.decode.Decoder.decode_to_buf.Given.{Over}
 use Rattle.qoi.proofs.decode.Decoder.decode_to_buf.Goals.{After-from_residual}
@@ -16,40 +16,37 @@ use Rattle.qoi.proofs.decode.Decoder.decode_to_buf.Goals as goal
 
 -- the image was refused
 refused : (g : Over) (c : After-from_residual g) → RefusesImage g.R.Reader.in_memory (pixel_count c.args.self.now.header)
-    (g.R.Reader.ahead c.args.self.now.reader) (g.R.Reader.ahead c.decode_image.new.self) c.in_err-decode_image.field-0.0
+    (g.R.Reader.ahead c.args.self.now.reader) (g.R.Reader.ahead c.decode_image_in.new.self) c.in_err-decode_image_in.field-0.0
 refused g c =
     let d = c.args.self.now in
-    let channels : c.as_u8-channels.result ≡ channels_number d.channels =
-    c.as_u8-channels.ensures ∙ ap (λ s. channels_number s.channels) c.self.view_is in
-    let file : c.as_u8-file_channels.result ≡ channels_number d.header.channels =
-    c.as_u8-file_channels.ensures ∙ ap (λ s. channels_number s.header.channels) c.self.view_is in
-    let pixels = image_pixels d.header d.channels c.required_buf_len-size.result c.as_u8-channels.result c.args.buf.now c.required_buf_len-size.ensures.bytes
+    let channels = ap (λ s. channels_number s.channels) c.self.view_is in
+    let pixels = image_pixels d.header d.channels c.required_buf_len-size.result (channels_number c.self.inside.channels) c.args.buf.now c.required_buf_len-size.ensures.bytes
     (omega arith) channels in
-    let image = c.in_err-decode_image.ensures.refused (channels_are d.header.channels _ file, channels_are d.channels _ channels) in
-    subst (λ old. RefusesImage g.R.Reader.in_memory (pixel_count d.header) old (g.R.Reader.ahead c.decode_image.new.self) c.in_err-decode_image.field-0.0)
+    let image = c.in_err-decode_image_in.ensures.refused in
+    subst (λ old. RefusesImage g.R.Reader.in_memory (pixel_count d.header) old (g.R.Reader.ahead c.decode_image_in.new.self) c.in_err-decode_image_in.field-0.0)
     (ap (λ s. g.R.Reader.ahead s.reader) c.self.view_is) (rw pixels at image)
 
-pub returns-in_err-decode_image-clause-refused : goal.returns-in_err-decode_image-clause-refused
-returns-in_err-decode_image-clause-refused g c room =
+pub returns-in_err-decode_image_in-clause-refused : goal.returns-in_err-decode_image_in-clause-refused
+returns-in_err-decode_image_in-clause-refused g c room =
     let p = err_from_is_err_and c.from_residual.result c.from_residual.ensures.1 in
     rw (p.1, p.2) (has_refused g.R.Reader.in_memory c.args.self.now _ _ _
-    (refused g (goal.at.returns-in_err-decode_image-clause-refused g c).After-from_residual))
+    (refused g (goal.at.returns-in_err-decode_image_in-clause-refused g c).After-from_residual))
 
 pub returns-clause-decoded : goal.returns-clause-decoded
 returns-clause-decoded g c =
     let d = c.args.self.now in
-    let channels = c.as_u8-channels.ensures ∙ ap (λ s. channels_number s.channels) c.self.view_is in
-    let file = c.as_u8-file_channels.ensures ∙ ap (λ s. channels_number s.header.channels) c.self.view_is in
+    let channels = ap (λ s. channels_number s.channels) c.self.view_is in
+    let file = ap (λ s. channels_number s.header.channels) c.self.view_is in
     let size = c.required_buf_len-size.result in
     let asked = c.required_buf_len-size.ensures.bytes in
-    let pixels = image_pixels d.header d.channels size c.as_u8-channels.result c.args.buf.now asked (omega arith) channels in
-    let out = c.decode_image.new.out in
-    let same : size ≡ length out = omega (arith, c.decode_image.auto.out, length-take-le size c.args.buf.now (omega arith)) in
+    let pixels = image_pixels d.header d.channels size (channels_number c.self.inside.channels) c.args.buf.now asked (omega arith) channels in
+    let out = c.decode_image_in.new.out in
+    let same : size ≡ length out = omega (arith, c.decode_image_in.auto.out, length-take-le size c.args.buf.now (omega arith)) in
     let P = λ (old : Option (List ℕ)) (z : List ℕ). ReadsImage (channels_number d.header.channels) (channels_number d.channels) (pixel_count d.header) old
-    (g.R.Reader.ahead c.decode_image.new.self) z in
-    let read = rw (pixels, file, channels) at c.in_ok-decode_image.ensures.read.1 in
+    (g.R.Reader.ahead c.decode_image_in.new.self) z in
+    let read = rw (pixels, file, channels) at c.in_ok-decode_image_in.ensures.read in
     let filled : HasImageLength (output_byte_count d) out = (omega (arith, same, asked), omega (arith, same, c.required_buf_len-size.ensures.some)) in (
       asked,
-      subst (HasDecoded d (g.R.Reader.ahead d.reader) (g.R.Reader.ahead c.decode_image.new.self)) (grind (arith, same, take-append_seam))
+      subst (HasDecoded d (g.R.Reader.ahead d.reader) (g.R.Reader.ahead c.decode_image_in.new.self)) (grind (arith, same, take-append_seam))
           (has_decoded d _ _ out filled (subst (λ s. P (g.R.Reader.ahead s.reader) out) c.self.view_is read)),
     )

@@ -1,5 +1,5 @@
 -- The image is read into the vector or refused.
-use Rattle.std.proofs.Common.{◌≡◌, ℕ, List, Option, ap, ◌∙◌, arith, subst, inr, refl}
+use Rattle.std.proofs.Common.{ℕ, List, Option, ap, ◌∙◌, arith, subst, inr, refl}
 use Rattle.std.proofs.Math.Nat.{mul_comm}
 use Rattle.std.proofs.lemmas.Result.{err_from_is_err_and}
 use Rattle.qoi.specs.Qoi.{channels_number, pixel_count}
@@ -17,12 +17,9 @@ refused : (g : Over) (c : After-from_residual-in_err-decode_image_to_vec g) → 
     (g.R.Reader.ahead c.args.self.now.reader) (g.R.Reader.ahead c.decode_image_to_vec.new.self) c.in_err-decode_image_to_vec.field-0.0
 refused g c =
     let d = c.args.self.now in
-    let channels : c.as_u8-channels.result ≡ channels_number d.channels =
-    c.as_u8-channels.ensures ∙ ap (λ s. channels_number s.channels) c.self.view_is in
-    let file : c.as_u8-file_channels.result ≡ channels_number d.header.channels =
-    c.as_u8-file_channels.ensures ∙ ap (λ s. channels_number s.header.channels) c.self.view_is in
-    let pixels = pixels_of_size d.header d.channels c.required_buf_len-size.result c.as_u8-channels.result c.required_buf_len-size.ensures.bytes channels in
-    let image = c.in_err-decode_image_to_vec.ensures.refused (channels_are d.header.channels _ file, channels_are d.channels _ channels) in
+    let channels = ap (λ s. channels_number s.channels) c.self.view_is in
+    let pixels = pixels_of_size d.header d.channels c.required_buf_len-size.result (channels_number c.self.inside.channels) c.required_buf_len-size.ensures.bytes channels in
+    let image = c.in_err-decode_image_to_vec.ensures.refused in
     subst (λ old. RefusesImage g.R.Reader.in_memory (pixel_count d.header) old (g.R.Reader.ahead c.decode_image_to_vec.new.self) c.in_err-decode_image_to_vec.field-0.0)
     (ap (λ s. g.R.Reader.ahead s.reader) c.self.view_is) (rw pixels at image)
 
@@ -37,14 +34,14 @@ returns-clause-decoded g c =
     let d = c.args.self.now in
     let n = pixel_count d.header in
     let k = channels_number d.channels in
-    let channels = c.as_u8-channels.ensures ∙ ap (λ s. channels_number s.channels) c.self.view_is in
-    let file = c.as_u8-file_channels.ensures ∙ ap (λ s. channels_number s.header.channels) c.self.view_is in
-    let pixels = pixels_of_size d.header d.channels c.required_buf_len-size.result c.as_u8-channels.result c.required_buf_len-size.ensures.bytes channels in
+    let channels = ap (λ s. channels_number s.channels) c.self.view_is in
+    let file = ap (λ s. channels_number s.header.channels) c.self.view_is in
+    let pixels = pixels_of_size d.header d.channels c.required_buf_len-size.result (channels_number c.self.inside.channels) c.required_buf_len-size.ensures.bytes channels in
     let out = c.decode_image_to_vec.new.out.items in
     let P = λ (old : Option (List ℕ)). ReadsImage (channels_number d.header.channels) k n old
     (g.R.Reader.ahead c.decode_image_to_vec.new.self) out in
     let read : P (g.R.Reader.ahead d.reader) =
-    subst (λ s. P (g.R.Reader.ahead s.reader)) c.self.view_is (rw (pixels, file, channels) at c.in_ok-decode_image_to_vec.ensures.read.1) in
+    subst (λ s. P (g.R.Reader.ahead s.reader)) c.self.view_is (rw (pixels, file, channels) at c.in_ok-decode_image_to_vec.ensures.read) in
     let size = image_length _ k n _ _ _ (channels_are d.channels _ refl) read ∙ mul_comm k n in
     let filled : HasImageLength (output_byte_count d) out = (size, omega (arith, size, c.required_buf_len-size.ensures.some, c.required_buf_len-size.ensures.bytes)) in
     has_decoded d _ _ out filled read

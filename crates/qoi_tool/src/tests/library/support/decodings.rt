@@ -3,8 +3,7 @@
 use crate::tests::library::support::{
     assert_bytes, assert_fails, assert_given, assert_header, assert_number, assert_refused, made,
 };
-use qoi::parts::Reader;
-use qoi::{Channels, Decoder, Header, Result, decode_to_buf, decode_to_vec};
+use qoi::{Channels, Decoder, Header, Reader, Result, decode_to_buf, decode_to_vec};
 use std::alloc::Global;
 use std::io::ErrorKind;
 use std::process::Abort;

@@ -3,8 +3,8 @@
 use crate::tests::fakes::{Bad, Sink};
 use crate::tests::library::support::generator::{Numbers, Rgba, drawn};
 use crate::tests::library::support::images::{Image, file_of, raw_of, seen_raw};
-use qoi::parts::{Buffered, Bytes, Reader};
-use qoi::{Channels, Decoder, Encoder, Header, Style};
+use qoi::parts::{Buffered, Bytes};
+use qoi::{Channels, Decoder, Encoder, Header, Reader, Style};
 use std::alloc::Global;
 use std::io::{BufRead, BufReader, Read};
 use std::process::Abort;

@@ -1,14 +1,15 @@
 -- A piece more is given, or the image is refused.
 use Rattle.std.proofs.Common.{◌≡◌, ◌++◌, List, ℕ, Option, Some, None, IfSome, take, drop, length, arith, refl, sym, ap, ◌∙◌, subst}
-use Rattle.std.proofs.lemmas.List.{length-append, length-drop, length-take, length-take-le, drop_at, drop-take}
+use Rattle.std.proofs.lemmas.List.{length-append, length-drop, length-take, length-take-le, drop_at, drop-take, take_all}
 use Rattle.std.proofs.Math.Nat.{mul-suc}
 use lib.Seq.{take-append_seam}
 use Rattle.qoi.specs.declared.error.Error.{Error}
 use Rattle.qoi.specs.declared.header.Header.{Header}
 use Rattle.qoi.specs.declared.types.Channels.{Channels}
 use Rattle.qoi.specs.Images.{front_image}
-use Rattle.qoi.specs.Qoi.{IsValid, pixel_count}
+use Rattle.qoi.specs.Qoi.{IsValid, channels_number, pixel_count}
 use Rattle.qoi.specs.pieces.PixelReader.{PixelsState, HasGiven, HasRows}
+use Rattle.qoi.specs.pieces.ReaderPieces.{GivesPieces}
 use Rattle.qoi.specs.inner.Chunks.{RefusesChunks, HasFault}
 use Rattle.qoi.proofs.decoding.Rows.{row_more, row_next}
 use Rattle.qoi.proofs.decoding.PixelPieces.{byte_bounds, has_given, pieces_of, refuses_pixels}
@@ -35,8 +36,9 @@ returns-in-Ok-clause-read g c d start given h =
     let ahead = ap (λ s. g.R.Reader.ahead s.reader) c.self.view_is in
     let pieces = ap (λ s. s.pieces) c.self.view_is in
     let going = ap (λ s. s.refused) c.self.view_is ∙ h.going in
-    let after = pieces_of (sym header) (sym chosen) refl refl (c.in-Ok.ensures.read start given (pieces_of header chosen ahead pieces h.pieces)) in
+    let after = pieces_of (sym header) (sym chosen) refl refl (c.in-Ok.ensures.gives.read _ start given (pieces_of header chosen ahead pieces h.pieces)) in
     let out = c.next_piece.new.out in
+    let whole = take_all (length out) out (omega arith) in
     let size : c.min-size.result ≡ length out = omega (arith, c.next_piece.auto.out, length-take-le c.min-size.result c.args.buf.now (omega (arith, c.min-size.ensures))) in
     let front = ap (λ k. take k (out ++ drop c.min-size.result c.args.buf.now)) size ∙ take-append_seam out (drop c.min-size.result c.args.buf.now) in
     let valid : IsValid d.header = subst IsValid header c.self.invariant.0 in
@@ -44,7 +46,7 @@ returns-in-Ok-clause-read g c d start given h =
     let e = c.next_piece.new.self in
     let then : PixelsState _ = record { reader = e.reader; header = e.header; channels = e.channels; pieces = c.next_piece.new.pieces; refused = c.self.inside.refused } in
     subst (λ z. HasGiven d start (g.R.Reader.ahead e.reader) (given ++ z) then) (sym front)
-    (has_given d start _ (given ++ out) then after (ap (λ s. s.header) same ∙ header) (ap (λ s. s.channels) same ∙ chosen) going (byte_bounds d.header d.channels valid).0)
+    (has_given d start _ (given ++ out) then (subst (λ z. GivesPieces (channels_number d.header.channels) (channels_number d.channels) (pixel_count d.header) start (g.R.Reader.ahead e.reader) (given ++ z) then.pieces) whole after) (ap (λ s. s.header) same ∙ header) (ap (λ s. s.channels) same ∙ chosen) going (byte_bounds d.header d.channels valid).0)
 
 pub returns-in-Ok-clause-follows : goal.returns-in-Ok-clause-follows
 unfolding HasGiven
@@ -92,4 +94,4 @@ returns-in-Err-clause-refused g c d start given h =
     refuses_pixels g.R.Reader.in_memory d start _ c.fault_of.result
     (subst (λ k. RefusesChunks g.R.Reader.in_memory (pixel_count k) start ahead_now c.fault_of.result) header
     (fault_is _ c.take.result c.fault_of.result c.fault_of.ensures (subst (HasFault (RefusesChunks g.R.Reader.in_memory (pixel_count c.self.inside.decoder.header) start ahead_now)) (sym c.take.ensures.value)
-    (c.in-Err.ensures.refused start given (pieces_of header chosen ahead pieces h.pieces)))))
+    (c.in-Err.ensures.refused.refused _ start given (pieces_of header chosen ahead pieces h.pieces)))))

@@ -1,5 +1,5 @@
 -- What was lent is decoded, and at the end of the image the end marker is taken.
-use Rattle.std.proofs.Common.{◌≡◌, ℕ, ◌*◌, ◌/◌, ◌%◌, ◌<◌, ◌≤◌, ◌-◌, List, take, drop, take-append-drop, length, Option, arith, sym, ◌∙◌, subst}
+use Rattle.std.proofs.Common.{◌≡◌, ℕ, ◌/◌, ◌%◌, ◌<◌, ◌≤◌, ◌-◌, List, take, drop, take-append-drop, length, Option, arith, sym, ◌∙◌, subst}
 use Rattle.std.proofs.lemmas.List.{length-take-le}
 use Rattle.qoi.specs.declared.decode.pixel_reader.pieces.Pieces.{Pieces}
 use Rattle.qoi.specs.Raw.{IsChannels}
@@ -7,6 +7,7 @@ use Rattle.qoi.specs.inner.Chunks.{RefusesChunks, HasFault}
 use Rattle.qoi.specs.pieces.ReaderPieces.{KeepsNothing, GivesPieces}
 use Rattle.qoi.proofs.format.WholePixels.{whole_pixels}
 use Rattle.qoi.proofs.decoding.Progress.{none_written}
+use Rattle.qoi.proofs.decoding.GivenMore.{gives_none}
 use Rattle.qoi.proofs.decoding.PieceSteps.{Lent, lent, kept_read, rest_count, rest_read, rest_whole, minus_whole}
 use Rattle.qoi.proofs.decode.pixel_reader.pieces.Pieces.decode_on.Goals as goal
 
@@ -25,52 +26,52 @@ rest_lent {c = c} p is h same size some short =
     let front = length-take-le p.undecoded p.bytes (omega (arith, size, short)) in
     lent (p.undecoded / c) (take p.undecoded p.bytes) is h same some (front ∙ rest_whole is h same.0 some) (omega (arith, front))
 
-pub returns-then-self-gt-KEPT-clause-pixels : goal.returns-then-self-gt-KEPT-clause-pixels
-returns-then-self-gt-KEPT-clause-pixels g c =
-    let pixels = c.requires.pixels.1 in
-    let whole = minus_whole g.row.N c.args.self.now.undecoded c.in-Ok.now.at c.requires.channels pixels.0 c.in-Ok.ensures.read.fillable.whole.1 in (
-      (omega arith, omega (arith, c.in-Ok.ensures.below, c.requires.room.1)),
-      (whole, pixels.1, pixels.2, λ some. absurd (omega (arith, some, c.requires.none))),
-    )
-
-pub returns-clause-pixels : goal.returns-clause-pixels
-returns-clause-pixels g c =
-    let pixels = c.requires.pixels.1 in
-    ((omega arith, omega arith), (none_written g.row.N c.requires.channels, pixels.1, pixels.2, λ some. absurd (omega (arith, some, c.requires.none))))
-
 pub returns-in-Err-clause-refused : goal.returns-in-Err-clause-refused
-returns-in-Err-clause-refused g c n start given h =
-    let size : length c.args.self.now.bytes ≡ 3072 = omega arith in
-    let within : c.args.room ≤ length c.args.self.now.bytes = omega (arith, size, c.requires.room.1) in
-    let l = room_lent c.args.self.now c.args.room c.requires.channels h c.requires.none within c.requires.whole (omega (arith, c.if-self-gt-KEPT.true, c.requires.room.1)) in
-    subst (HasFault (RefusesChunks g.R.Chunks.in_memory n start (g.R.Chunks.ahead c.front_of_image-front.new.reader))) (sym c.fail.ensures)
-    (c.in-Err.ensures.refused l.gone _ _ l.before n l.most)
+returns-in-Err-clause-refused g c = record {
+  refused = λ n start given h.
+      let size : length c.args.self.now.bytes ≡ 3072 = omega arith in
+      let within : c.args.room ≤ length c.args.self.now.bytes = omega (arith, size, c.requires.room.1) in
+      let l = room_lent c.args.self.now c.args.room c.requires.channels h c.requires.none within c.requires.whole (omega (arith, c.if-self-gt-KEPT.true, c.requires.room.1)) in
+      subst (HasFault (RefusesChunks g.R.Chunks.in_memory n start (g.R.Chunks.ahead c.front_of_image-front.new.reader))) (sym c.fail.ensures)
+      (c.in-Err.ensures.refused l.gone _ _ l.before n l.most);
+}
 
-pub returns-then-self-gt-KEPT-clause-read : goal.returns-then-self-gt-KEPT-clause-read
-returns-then-self-gt-KEPT-clause-read g c n start given h =
+pub returns-then-self-gt-KEPT-clause-gives : goal.returns-then-self-gt-KEPT-clause-gives
+returns-then-self-gt-KEPT-clause-gives g c =
+    let pixels = c.requires.pixels.1 in
+    let out = c.front_of_image-front.new.out in
+    let now = c.in-Ok.now in
     let old : length c.args.self.now.bytes ≡ 3072 = omega arith in
     let within : c.args.room ≤ length c.args.self.now.bytes = omega (arith, old, c.requires.room.1) in
+    let whole = minus_whole g.row.N c.args.self.now.undecoded now.at c.requires.channels pixels.0 c.in-Ok.ensures.read.fillable.whole.1 in
+    gives_none (λ n start given h.
     let l = room_lent c.args.self.now c.args.room c.requires.channels h c.requires.none within c.requires.whole (omega (arith, c.if-self-gt-KEPT.true, c.requires.room.1)) in
-    let out = c.front_of_image-front.new.out in
     let front = length-take-le c.args.room out (omega (arith, within, c.front_of_image-front.auto.out)) in
-    let now = c.in-Ok.now in
     subst (λ z. GivesPieces g.row.F g.row.N n start (g.R.Chunks.ahead c.front_of_image-front.new.reader) given
     (record { table = c.front_of_image-front.new.table; last = now.last; bytes = z; from = 0; to = now.at; run = c.args.self.now.run; undecoded = c.args.self.now.undecoded - now.at })) (take-append-drop c.args.room out)
     (kept_read (take c.args.room out) (drop c.args.room out) now.at c.requires.channels h c.requires.none l (c.in-Ok.ensures.read.goes_on.between l.gone _ _ l.before)
-    (omega (arith, front, c.in-Ok.ensures.below)) (omega (arith, front, c.if-self-gt-KEPT.true, c.requires.room.1)))
+    (omega (arith, front, c.in-Ok.ensures.below)) (omega (arith, front, c.if-self-gt-KEPT.true, c.requires.room.1))))
+    ((omega arith, omega (arith, c.in-Ok.ensures.below, c.requires.room.1)), (whole, pixels.1, pixels.2, λ some. absurd (omega (arith, some, c.requires.none))))
+    (omega (arith, c.requires.none, c.in-Ok.ensures.below, c.if-self-gt-KEPT.true, c.requires.room.1))
 
 pub returns-in-Err-rest-clause-refused : goal.returns-in-Err-rest-clause-refused
-returns-in-Err-rest-clause-refused g c n start given h =
-    let l = rest_lent c.args.self.now c.requires.channels h c.requires.none (omega arith) c.requires.some (omega (arith, c.if-self-gt-KEPT.false)) in
-    let count = rest_count c.requires.channels h c.requires.none l (rest_whole c.requires.channels h c.requires.none.0 c.requires.some) in
-    subst (HasFault (RefusesChunks g.R.Chunks.in_memory n start (g.R.Chunks.ahead c.rest_of_image-rest.new.reader))) (sym c.fail-in-Err-rest.ensures)
-    (subst (λ k. RefusesChunks g.R.Chunks.in_memory k start (g.R.Chunks.ahead c.rest_of_image-rest.new.reader) c.in-Err-rest.e) count
-    (c.in-Err-rest.ensures.refused l.gone _ _ l.before))
+returns-in-Err-rest-clause-refused g c = record {
+  refused = λ n start given h.
+      let l = rest_lent c.args.self.now c.requires.channels h c.requires.none (omega arith) c.requires.some (omega (arith, c.if-self-gt-KEPT.false)) in
+      let count = rest_count c.requires.channels h c.requires.none l (rest_whole c.requires.channels h c.requires.none.0 c.requires.some) in
+      subst (HasFault (RefusesChunks g.R.Chunks.in_memory n start (g.R.Chunks.ahead c.rest_of_image-rest.new.reader))) (sym c.fail-in-Err-rest.ensures)
+      (subst (λ k. RefusesChunks g.R.Chunks.in_memory k start (g.R.Chunks.ahead c.rest_of_image-rest.new.reader) c.in-Err-rest.e) count
+      (c.in-Err-rest.ensures.refused l.gone _ _ l.before));
+}
 
-pub returns-clause-read : goal.returns-clause-read
-returns-clause-read g c n start given h =
+pub returns-clause-gives : goal.returns-clause-gives
+returns-clause-gives g c =
+    let pixels = c.requires.pixels.1 in
     let size : length c.args.self.now.bytes ≡ 3072 = omega arith in
     let short : c.args.self.now.undecoded ≤ 3072 = omega (arith, c.if-self-gt-KEPT.false) in
+    gives_none (λ n start given h.
     let l = rest_lent c.args.self.now c.requires.channels h c.requires.none size c.requires.some short in
     rest_read c.rest_of_image-rest.new.out c.requires.channels h c.requires.none l (c.in_default.ensures.read l.gone _ _ l.before)
-    (omega (arith, short, size, c.rest_of_image-rest.auto.out)) (rest_whole c.requires.channels h c.requires.none.0 c.requires.some)
+    (omega (arith, short, size, c.rest_of_image-rest.auto.out)) (rest_whole c.requires.channels h c.requires.none.0 c.requires.some))
+    ((omega arith, omega (arith, short, size, c.rest_of_image-rest.auto.out)), (none_written g.row.N c.requires.channels, pixels.1, pixels.2, λ some. absurd (omega (arith, some, c.requires.none))))
+    (omega (arith, c.requires.none))

@@ -1,5 +1,5 @@
 -- What was lent is decoded.
-use Rattle.std.proofs.Common.{◌≡◌, ◌*◌, ◌/◌, ◌≤◌, take, length, arith, refl, sym, subst}
+use Rattle.std.proofs.Common.{◌≡◌, ◌*◌, ◌/◌, ◌≤◌, take, length, arith, rules, refl, sym, subst}
 use Rattle.qoi.specs.inner.Chunks.{RefusesChunks, HasFault}
 use Rattle.qoi.proofs.decoding.PieceSteps.{whole_front, front_lent, front_most, long_read, times_fillable, minus_whole}
 use Rattle.qoi.proofs.decode.pixel_reader.pieces.Pieces.long_piece.Goals as goal
@@ -7,29 +7,33 @@ use Rattle.qoi.proofs.decode.pixel_reader.pieces.Pieces.long_piece.Goals as goal
 pub some_chunks-requires : goal.some_chunks-requires
 some_chunks-requires g c = times_fillable _ c.requires.channels (whole_front g.row.N c.args.out.now c.requires.channels)
 
-pub returns-clause-pixels : goal.returns-clause-pixels
-returns-clause-pixels g c =
-    let pixels = c.requires.pixels.1 in
-    let whole = minus_whole g.row.N c.args.self.now.undecoded c.in-Ok.now.at c.requires.channels pixels.0 c.in-Ok.ensures.read.fillable.whole.1 in
-    (c.requires.pixels.0, (whole, pixels.1, pixels.2, λ some. absurd (omega (arith, some, c.requires.none))))
-
 pub returns-clause-last : goal.returns-clause-last
 returns-clause-last g c long =
     omega (arith, (front_most g.row.N c.args.out.now c.requires.channels).1, c.some_chunks.auto.out, c.in-Ok.ensures.read.filled refl)
 
 pub returns-in-Err-clause-refused : goal.returns-in-Err-clause-refused
-returns-in-Err-clause-refused g c n start given h =
-    let l = front_lent c.args.self.now c.args.out.now c.requires.channels h c.requires.none c.requires.fits (omega (arith, c.if-out-least_room.false, c.least_room.ensures.run)) in
-    subst (HasFault (RefusesChunks g.R.Chunks.in_memory n start (g.R.Chunks.ahead c.some_chunks.new.self))) (sym c.fail.ensures)
-    (c.in-Err.ensures.refused l.gone _ _ l.before n l.most)
+returns-in-Err-clause-refused g c = record {
+  refused = λ n start given h.
+      let l = front_lent c.args.self.now c.args.out.now c.requires.channels h c.requires.none c.requires.fits (omega (arith, c.if-out-least_room.false, c.least_room.ensures.run)) in
+      subst (HasFault (RefusesChunks g.R.Chunks.in_memory n start (g.R.Chunks.ahead c.some_chunks.new.self))) (sym c.fail.ensures)
+      (c.in-Err.ensures.refused l.gone _ _ l.before n l.most);
+}
 
-pub returns-clause-read : goal.returns-clause-read
-returns-clause-read g c n start given h =
+pub returns-clause-gives : goal.returns-clause-gives
+returns-clause-gives g c =
     let out = c.args.out.now in
     let long : 256 ≤ length out = omega (arith, c.if-out-least_room.false, c.least_room.ensures.run) in
-    let l = front_lent c.args.self.now out c.requires.channels h c.requires.none c.requires.fits (omega (arith, long)) in
     let most = front_most g.row.N out c.requires.channels in
     let same = c.requires.none in
     let size : length c.some_chunks.new.out ≡ length (take (length out / g.row.N * g.row.N) out) = c.some_chunks.auto.out in
-    long_read c.some_chunks.new.out _ _ c.requires.channels h same l (c.in-Ok.ensures.read.goes_on.between l.gone _ _ l.before)
-    (c.in-Ok.ensures.read.below refl (omega (arith, most, long))) (omega (arith, size, most.0, c.requires.fits, same))
+    let pixels = c.requires.pixels.1 in
+    let whole = minus_whole g.row.N c.args.self.now.undecoded c.in-Ok.now.at c.requires.channels pixels.0 c.in-Ok.ensures.read.fillable.whole.1 in
+    record {
+      read = λ n start given h.
+          let l = front_lent c.args.self.now out c.requires.channels h c.requires.none c.requires.fits (omega (arith, long)) in
+          long_read c.some_chunks.new.out _ _ c.requires.channels h same l (c.in-Ok.ensures.read.goes_on.between l.gone _ _ l.before)
+          (c.in-Ok.ensures.read.below refl (omega (arith, most, long))) (omega (arith, size, most.0, c.requires.fits, same));
+      within = search rules;
+      pixels = (c.requires.pixels.0, (whole, pixels.1, pixels.2, λ some. absurd (omega (arith, some, same))));
+      left = search rules;
+    }

@@ -1,11 +1,10 @@
 -- A run may have more bytes than have room behind what was decoded.
-use Rattle.std.proofs.Common.{◌++◌, take, subst}
-use Rattle.qoi.specs.pieces.ReaderPieces.{GivesPieces}
-use Rattle.qoi.proofs.decoding.PieceSteps.{read_two}
+use Rattle.qoi.proofs.decoding.GivenMore.{gives_two}
 use Rattle.qoi.proofs.decode.pixel_reader.pieces.Pieces.piece_front.Goals as goal
 
-pub returns-clause-read : goal.returns-clause-read
-returns-clause-read g c n start given h =
-    subst (λ z. GivesPieces g.row.F g.row.N n start (g.R.Chunks.ahead c.piece_in_place.new.reader) z c.give_run-2.new.self)
-    (read_two given c.piece_in_place.new.out c.give_run-2.new.out c.in_ok-placed.placed c.give_run-2.result c.in_ok-placed.ensures.within c.give_run-2.ensures.within)
-    (c.give_run-2.ensures.read n start _ _ (c.in_ok-placed.ensures.read n start given h))
+pub returns-clause-gives : goal.returns-clause-gives
+returns-clause-gives g c =
+    gives_two c.give_run-2.new.out c.give_run-2.result c.in_ok-placed.ensures.gives (c.give_run-2.ensures.gives _) c.give_run-2.auto.out
+
+pub returns-then-not-is_placed-clause-gives : goal.returns-then-not-is_placed-clause-gives
+returns-then-not-is_placed-clause-gives g c = c.give_run.ensures.gives _

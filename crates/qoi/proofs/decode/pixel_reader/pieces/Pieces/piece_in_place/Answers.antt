@@ -1,17 +1,24 @@
 -- What is left of a run is stored, and what was lent is decoded behind it.
-use Rattle.std.proofs.Common.{◌≡◌, ◌+◌, ◌*◌, ◌/◌, ◌≤◌, take, length, arith, sym, subst}
+use Rattle.std.proofs.Common.{arith, rules, sym, subst}
 use Rattle.qoi.specs.inner.Chunks.{RefusesChunks, HasFault}
 use Rattle.qoi.proofs.decoding.PieceSteps.{piece_lent, piece_read, placed_most}
 use Rattle.qoi.proofs.decode.pixel_reader.pieces.Pieces.piece_in_place.Goals as goal
 
 pub returns-in-Err-clause-refused : goal.returns-in-Err-clause-refused
-returns-in-Err-clause-refused g c n start given h =
-    let l = piece_lent c.args.self.now c.args.out.now c.store_run.new.out c.requires.channels h c.requires.none c.requires.pixels.1 c.requires.room c.requires.fits c.store_run.auto.out c.store_run.ensures in
-    subst (HasFault (RefusesChunks g.R.Chunks.in_memory n start (g.R.Chunks.ahead c.chunks_in_place.new.self))) (sym c.fail.ensures)
-    (c.in-Err.ensures.refused l.gone _ _ l.before n l.most)
+returns-in-Err-clause-refused g c = record {
+  refused = λ n start given h.
+      let l = piece_lent c.args.self.now c.args.out.now c.store_run.new.out c.requires.channels h c.requires.none c.requires.pixels.1 c.requires.room c.requires.fits c.store_run.auto.out c.store_run.ensures in
+      subst (HasFault (RefusesChunks g.R.Chunks.in_memory n start (g.R.Chunks.ahead c.chunks_in_place.new.self))) (sym c.fail.ensures)
+      (c.in-Err.ensures.refused l.gone _ _ l.before n l.most);
+}
 
-pub returns-clause-read : goal.returns-clause-read
-returns-clause-read g c n start given h =
-    let l = piece_lent c.args.self.now c.args.out.now c.store_run.new.out c.requires.channels h c.requires.none c.requires.pixels.1 c.requires.room c.requires.fits c.store_run.auto.out c.store_run.ensures in
-    piece_read c.chunks_in_place.new.out _ c.in-Ok.placed c.requires.channels h c.requires.none l (c.in-Ok.ensures.takes l.gone _ _ l.before) c.in-Ok.ensures.sizes
-    (omega (arith, c.chunks_in_place.auto.out, placed_most g.row.N c.args.out.now c.store_run.new.out c.requires.channels, c.requires.fits))
+pub returns-clause-gives : goal.returns-clause-gives
+returns-clause-gives g c = record {
+  read = λ n start given h.
+      let l = piece_lent c.args.self.now c.args.out.now c.store_run.new.out c.requires.channels h c.requires.none c.requires.pixels.1 c.requires.room c.requires.fits c.store_run.auto.out c.store_run.ensures in
+      piece_read c.chunks_in_place.new.out _ c.in-Ok.placed c.requires.channels h c.requires.none l (c.in-Ok.ensures.takes l.gone _ _ l.before) c.in-Ok.ensures.sizes
+      (omega (arith, c.chunks_in_place.auto.out, placed_most g.row.N c.args.out.now c.store_run.new.out c.requires.channels, c.requires.fits));
+  within = search rules;
+  pixels = search rules;
+  left = search rules;
+}
