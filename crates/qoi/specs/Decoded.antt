@@ -5,6 +5,7 @@
 use Rattle.std.specs.Prelude.{◌≡◌, ℕ, ◌+◌, ◌-◌, ◌*◌, ◌<◌, ◌≤◌, List, ◌++◌, take, drop, length, slice_index, Bool, IsTrue, Option, Some, IfSome, Ok}
 use Rattle.qoi.specs.declared.error.Error.{Error}
 use Rattle.qoi.specs.declared.error.Error.TheVariants.{UnexpectedBufferEnd, InvalidPadding}
+use Rattle.qoi.specs.declared.types.Channels.{Channels}
 use Rattle.qoi.specs.declared.types.Channels.TheVariants.{Rgb, Rgba}
 use Rattle.qoi.specs.declared.chunk.Chunk.{Chunk}
 use Rattle.qoi.specs.declared.header.Header.{Header}
@@ -19,7 +20,7 @@ use Rattle.qoi.specs.Sent.{MakesFile}
 use Rattle.qoi.specs.Tiles.{HasTile}
 use Rattle.qoi.specs.DecoderState.{DecoderState, output_byte_count, TakesAtMost}
 use Rattle.qoi.specs.Reading.{IsDecoderOf, IsImage, StandsAhead}
-use Rattle.qoi.specs.Images.{front_image, front_rest, file_image, file_rest}
+use Rattle.qoi.specs.Images.{front_image, front_rest, file_image, file_image_in, file_rest}
 use Rattle.qoi.specs.Errors.{IsIoError, IsReaderFault, IsErrorOfCut, IsErrorOfWrong}
 
 -- The decoder d was made: it took the header from the bytes ahead.
@@ -35,6 +36,8 @@ pub record HasHeader {R : Type 0} (d : DecoderState R) (old new : Option (List �
   -- the image ahead, and what follows it, are those of the file at the front of the bytes
   pub image : IfSome old (λ bytes. IfSome new (λ ahead. (front_image d.channels d.header ahead ≡ file_image bytes)
       × (front_rest d.header ahead ≡ file_rest bytes)))
+  -- so it is in other channels
+  pub image_in : IfSome old (λ bytes. IfSome new (λ ahead. (channels : Channels) → front_image channels d.header ahead ≡ file_image_in channels bytes))
   -- the decoder is that of the bytes: for the field `file` of `HasDecoded`
   pub made : IfSome old (λ bytes. IsDecoderOf d bytes (drop header_size bytes))
 

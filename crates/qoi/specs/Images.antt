@@ -60,3 +60,12 @@ file_image bytes = image_by (header_of bytes) (drop header_size bytes)
 -- what follows that file
 unfoldable pub file_rest : List ℕ → List ℕ
 file_rest bytes = rest_by (header_of bytes) (drop header_size bytes)
+
+-- the image after a header, in these channels; none if the header was refused
+abbrev pub image_in_by : Channels → Result Header Error → List ℕ → List ℕ
+image_in_by channels (Err e) bytes = []
+image_in_by channels (Ok h) bytes = front_image channels h bytes
+
+-- the raw bytes, in these channels, of the file that the bytes begin with
+unfoldable pub file_image_in : Channels → List ℕ → List ℕ
+file_image_in channels bytes = image_in_by channels (header_of bytes) (drop header_size bytes)

@@ -14,7 +14,7 @@ use Rattle.qoi.specs.Raw.{output, without_fourth}
 use Rattle.qoi.specs.Verdicts.{IsWhole}
 use Rattle.qoi.specs.Decoding.{DecodesFile, TakesHeader}
 use Rattle.qoi.specs.Reading.{IsImage}
-use Rattle.qoi.specs.Images.{front_chunk, chunks_after, front_chunks, front_image, front_rest, image_by, rest_by, file_image, file_rest}
+use Rattle.qoi.specs.Images.{file_image_in, image_in_by, front_chunk, chunks_after, front_chunks, front_image, front_rest, image_by, rest_by, file_image, file_rest}
 use Rattle.qoi.proofs.decoding.Ahead.{header_read_from}
 use Rattle.qoi.proofs.decoding.LeastBytes.{nine_taken}
 use Rattle.qoi.proofs.decoding.OneFile.{decodes_more}
@@ -172,6 +172,27 @@ image_after_read (Some bytes) (Some ahead) h r =
     let same : ahead ≡ drop header_size bytes = cc read.1 in
     subst P (sym same) (image_after h.channels h bytes read.0 refl)
 
+-- after a header stands the file's image, in any channels
+pub image_in_after : (channels : Channels) (h : Header) (bytes : List ℕ) → header_of bytes ≡ Ok h
+    → front_image channels h (drop header_size bytes) ≡ file_image_in channels bytes
+unfolding file_image_in
+image_in_after channels h bytes read = ap (λ r. image_in_by channels r (drop header_size bytes)) (sym read)
+
+-- so it does if a stream's header was read
+pub image_in_after_read : (old left : Option (List ℕ)) (h : Header) → TakesHeader old left h → IfSome old (λ bytes. IfSome left (λ ahead.
+    (channels : Channels) → front_image channels h ahead ≡ file_image_in channels bytes))
+image_in_after_read None left h r = tt
+image_in_after_read (Some bytes) None h r = tt
+image_in_after_read (Some bytes) (Some ahead) h r = λ channels.
+    let read = header_read_from (Some bytes) (Some ahead) bytes h r refl in
+    let same : ahead ≡ drop header_size bytes = cc read.1 in
+    ap (front_image channels h) same ∙ image_in_after channels h bytes read.0
+
+-- in its own channels it is the one that `file_image` gives
+pub image_in_own : (h : Header) (bytes : List ℕ) → header_of bytes ≡ Ok h → file_image_in h.channels bytes ≡ file_image bytes
+unfolding file_image
+image_in_own h bytes read = sym (image_in_after h.channels h bytes read) ∙ ap (λ r. image_by r (drop header_size bytes)) (sym read)
+
 -- what is read of bytes, if they are known, is the image at their front, and what follows it is
 -- left
 pub front_read : (channels : Channels) (h : Header) (old left : Option (List ℕ)) (out : List ℕ)
@@ -186,6 +207,12 @@ front_read channels h (Some bytes) left out reads =
 three_of_front : (h : Header) (bytes : List ℕ) → front_image OfChannels.Rgb h bytes ≡ without_fourth (front_image OfChannels.Rgba h bytes)
 unfolding front_image
 three_of_front h bytes = rgb_is_without_fourth (channels_number h.channels) (take (pixel_count h) (meaning (front_chunks h bytes)))
+
+-- so it is of a file
+pub three_of_file : (h : Header) (bytes : List ℕ) → header_of bytes ≡ Ok h
+    → file_image_in OfChannels.Rgb bytes ≡ without_fourth (file_image_in OfChannels.Rgba bytes)
+three_of_file h bytes read =
+    sym (image_in_after OfChannels.Rgb h bytes read) ∙ three_of_front h (drop header_size bytes) ∙ ap without_fourth (image_in_after OfChannels.Rgba h bytes read)
 
 -- so is the image that was read
 pub three_read : (channels : Channels) (h : Header) (old left : Option (List ℕ)) (out : List ℕ) → channels ≡ OfChannels.Rgb

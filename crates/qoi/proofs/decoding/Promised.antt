@@ -20,7 +20,7 @@ use Rattle.qoi.specs.Encoded.{IsFileOf}
 use Rattle.qoi.specs.Verdicts.{IsWhole}
 use Rattle.qoi.proofs.decoding.Ahead.{decoder_of, fault_ahead, file_ahead, header_front, header_read_from, file_from_image, fourth_of_image, image_not_cut, image_not_wrong, image_read_from}
 use Rattle.qoi.proofs.decoding.LeastBytes.{whole_holds}
-use Rattle.qoi.proofs.decoding.FrontImage.{file_image_is, file_rest_then, image_after_read, front_read, nine_read, some_pixels, three_read}
+use Rattle.qoi.proofs.decoding.FrontImage.{file_image_is, file_rest_then, image_after_read, image_in_after_read, front_read, nine_read, some_pixels, three_read}
 use Rattle.qoi.proofs.decoding.ImageSize.{bounded_by}
 use Rattle.qoi.proofs.decoding.OneFile.{decodes_after, decodes_more, file_has_header, file_is_whole, header_is_one}
 use Rattle.qoi.proofs.format.HeaderBytes.{header_front as header_at_front}
@@ -45,6 +45,7 @@ has_header d old new takes own = record {
   after = if_known old _ (λ bytes told. (header_read_from old new bytes d.header takes told).1);
   image = subst (λ k. IfSome old (λ bytes. IfSome new (λ ahead. (front_image k d.header ahead ≡ file_image bytes)
       × (front_rest d.header ahead ≡ file_rest bytes)))) (sym own) (image_after_read old new d.header takes);
+  image_in = image_in_after_read old new d.header takes;
   made = if_known old _ (λ bytes told.
       let front = header_front old new bytes d.header takes told in decoder_of d bytes (drop header_size bytes) front.0 front.1 own);
 }

@@ -1,6 +1,6 @@
 //! Decoding an image piece by piece.
 ghost use Rattle.std.specs.Io.KnownBytes.{Keeps};
-ghost use Rattle.std.specs.Prelude.{◌≡◌, ℕ, ◌+◌, ◌-◌, ◌<◌, ◌≤◌, List, [], ◌++◌, length, take, drop, min, Option, Some, Ok, true, false, IsTrue, IfSome, IfOk, IfErr, OnOk, OnErr, IsErrOf};
+ghost use Rattle.std.specs.Prelude.{◌*◌, ◌≡◌, ℕ, ◌+◌, ◌-◌, ◌<◌, ◌≤◌, List, [], ◌++◌, length, take, drop, min, Option, Some, Ok, true, false, IsTrue, IfSome, IfOk, IfErr, OnOk, OnErr, IsErrOf};
 ghost use Rattle.qoi.specs.Decoded.{HasDecoded};
 ghost use Rattle.qoi.specs.DecoderState.{DecoderState, output_byte_count};
 ghost use Rattle.qoi.specs.Images.{front_image, front_rest};
@@ -8,7 +8,7 @@ ghost use Rattle.qoi.specs.pieces.PixelReader.{as_decoder, pixels_left, HasGiven
 ghost use Rattle.qoi.specs.Qoi.{channels_number};
 ghost use Rattle.qoi.specs.pieces.ReaderPieces.{bytes_left, KeepsPixels, GivesMore, RefusesMore};
 ghost use Rattle.qoi.specs.Reading.{StandsAhead};
-ghost use Rattle.qoi.specs.Rectangles.{row_bytes};
+ghost use Rattle.qoi.specs.Rectangles.{row_bytes, rectangle};
 ghost use Rattle.qoi.specs.declared.error.Error.{Error};
 
 pub(super) mod mark;
@@ -243,6 +243,15 @@ impl<R: Reader> PixelReader<R> {
             → HasRows d (Some bytes) (R.ahead self.old.reader) stride k self.old
             → length buf.old ≡ stride → IfOk result (λ size. stride ≤ size
             → buf.new ≡ row_bytes stride (front_image d.channels d.header bytes) k) }
+        // A buffer of n rows that is filled: the n rows behind those.
+        ensures strip { (d : DecoderState R) (start : Option (List ℕ)) (stride k n : ℕ)
+            → HasRows d start (R.ahead self.old.reader) stride k self.old
+            → length buf.old ≡ stride * n → IfOk result (λ size. length buf.old ≤ size
+            → HasRows d start (R.ahead self.new.reader) stride (k + n) self.new) }
+        ensures strip_rows { (d : DecoderState R) (bytes : List ℕ) (stride k n : ℕ)
+            → HasRows d (Some bytes) (R.ahead self.old.reader) stride k self.old
+            → length buf.old ≡ stride * n → IfOk result (λ size. length buf.old ≤ size
+            → buf.new ≡ rectangle stride k 0 n stride (front_image d.channels d.header bytes)) }
         ensures size { IfOk result (λ size. size ≡ min (length buf.old) (pixels_left self.old)) }
         ensures left { IfOk result (λ size. pixels_left self.new + size ≡ pixels_left self.old) }
         ensures none { min (length buf.old) (pixels_left self.old) ≡ 0

@@ -6,7 +6,7 @@ ghost use Rattle.qoi.specs.declared.types.Channels.{Channels};
 ghost use Rattle.qoi.specs.declared.types.ColorSpace.{ColorSpace};
 ghost use Rattle.qoi.specs.declared.chunk.Chunk.{Chunk};
 ghost use Rattle.qoi.specs.Qoi.{AreBytes, IsChunk, AreChunks, bytes_of, chunk_bytes, IsFile, file, file_pixels, header_bytes, pixel_count, IsValid, header_of, pixel, hash, Reaches, StayBelow, meaning, header_size, channels_number, chunk_max, pixels_max};
-ghost use Rattle.qoi.specs.Raw.{output, image_byte_count};
+ghost use Rattle.qoi.specs.Raw.{output, without_fourth, image_byte_count};
 ghost use Rattle.qoi.specs.declared.types.Style.{Style};
 ghost use Rattle.qoi.specs.Encoded.{IsFileOf, IsReadBack, image_file, image_header};
 ghost use Rattle.qoi.specs.Tiles.{HasTile};
@@ -16,7 +16,7 @@ ghost use Rattle.qoi.specs.Decoded.{HasHeader, HasDecoded};
 ghost use Rattle.qoi.specs.DecoderState.{DecoderState};
 ghost use Rattle.qoi.specs.FrontFile.{BeginsWithFile, behind_files, BeginsWithFiles};
 ghost use Rattle.qoi.specs.Reading.{IsImage, StandsAhead};
-ghost use Rattle.qoi.specs.Images.{front_image, front_rest, file_image, file_rest};
+ghost use Rattle.qoi.specs.Images.{front_image, front_rest, file_image, file_image_in, file_rest};
 
 /// At most one verdict holds of any bytes, with one chunk list.
 pub fn verdict_is_one()
@@ -110,7 +110,7 @@ pub fn files_stay()
 {}
 
 /// The image that bytes begin with, and what follows it, are functions of the bytes; likewise those
-/// of a file.
+/// of a file. In the file's own channels, and in three, the image is what one expects.
 pub fn images_are_functions()
     ensures ahead { (channels : Channels) (h : Header) (bytes rest out : List ℕ)
         → IsImage channels bytes h rest out
@@ -120,6 +120,10 @@ pub fn images_are_functions()
     ensures decoded { (bytes : List ℕ) (h : Header) (rest out : List ℕ)
         → DecodesFile bytes h rest out → DecodesFile bytes h rest out × (out ≡ file_image bytes)
         × (rest ≡ file_rest bytes) × StandsAhead h (drop header_size bytes) }
+    ensures own { (bytes : List ℕ) (h : Header) → header_of bytes ≡ Ok h
+        → file_image_in h.channels bytes ≡ file_image bytes }
+    ensures three { (bytes : List ℕ) (h : Header) → header_of bytes ≡ Ok h
+        → file_image_in Channels.Rgb bytes ≡ without_fourth (file_image_in Channels.Rgba bytes) }
 {}
 
 /// Raw bytes of a valid header's image, as decoding gives them, are accepted by an encoder with its

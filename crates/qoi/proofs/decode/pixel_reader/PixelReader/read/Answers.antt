@@ -1,7 +1,7 @@
 -- A piece more is given, or the image is refused.
 use Rattle.std.proofs.Common.{◌≡◌, ◌++◌, List, ℕ, Option, Some, None, IfSome, take, drop, length, arith, refl, sym, ap, ◌∙◌, subst}
 use Rattle.std.proofs.lemmas.List.{length-append, length-drop, length-take, length-take-le, drop_at, drop-take, take_all}
-use Rattle.std.proofs.Math.Nat.{mul-suc}
+use Rattle.std.proofs.Math.Nat.{mul-suc, mul-add}
 use lib.Seq.{take-append_seam}
 use Rattle.qoi.specs.declared.error.Error.{Error}
 use Rattle.qoi.specs.declared.header.Header.{Header}
@@ -11,7 +11,7 @@ use Rattle.qoi.specs.Qoi.{IsValid, channels_number, pixel_count}
 use Rattle.qoi.specs.pieces.PixelReader.{PixelsState, HasGiven, HasRows}
 use Rattle.qoi.specs.pieces.ReaderPieces.{GivesPieces}
 use Rattle.qoi.specs.inner.Chunks.{RefusesChunks, HasFault}
-use Rattle.qoi.proofs.decoding.Rows.{row_more, row_next}
+use Rattle.qoi.proofs.decoding.Rows.{row_more, row_next, rows_more, rows_next}
 use Rattle.qoi.proofs.decoding.PixelPieces.{byte_bounds, has_given, pieces_of, refuses_pixels}
 use Rattle.qoi.proofs.decode.pixel_reader.PixelReader.read.Goals as goal
 
@@ -76,6 +76,32 @@ returns-in-Ok-clause-row g c d bytes stride k (given, many, h) long fills =
     let size = c.min-size.result in
     let row = c.next_piece.new.out ++ drop size c.args.buf.now in
     row_next (front_image d.channels d.header bytes) given row stride k size (returns-in-Ok-clause-follows g c d bytes given h) many
+    (omega (arith, c.next_piece.auto.out, length-take size c.args.buf.now, length-append c.next_piece.new.out (drop size c.args.buf.now), length-drop size c.args.buf.now, c.min-size.ensures, long))
+    (omega (arith, fills, c.min-size.ensures, long))
+
+pub returns-then-size-eq0-clause-strip : goal.returns-then-size-eq0-clause-strip
+unfolding HasRows
+returns-then-size-eq0-clause-strip g c d start stride k n (given, many, h) long none = (given, omega (arith, many, none, long, mul-add stride k n), h)
+
+pub returns-then-size-eq0-clause-strip_rows : goal.returns-then-size-eq0-clause-strip_rows
+unfolding HasRows
+returns-then-size-eq0-clause-strip_rows g c d bytes stride k n (given, many, h) long none =
+    rows_next (front_image d.channels d.header bytes) given c.args.buf.now stride k n 0 refl many long (omega (arith, long, none))
+
+pub returns-in-Ok-clause-strip : goal.returns-in-Ok-clause-strip
+unfolding HasRows
+returns-in-Ok-clause-strip g c d start stride k n (given, many, h) long fills =
+    let size = c.min-size.result in
+    let rows = c.next_piece.new.out ++ drop size c.args.buf.now in
+    rows_more d start _ stride k n size given rows _ (returns-in-Ok-clause-read g c d start given h) many
+    (omega (arith, c.next_piece.auto.out, length-take size c.args.buf.now, length-append c.next_piece.new.out (drop size c.args.buf.now), length-drop size c.args.buf.now, c.min-size.ensures, long)) (omega (arith, fills, long))
+
+pub returns-in-Ok-clause-strip_rows : goal.returns-in-Ok-clause-strip_rows
+unfolding HasRows
+returns-in-Ok-clause-strip_rows g c d bytes stride k n (given, many, h) long fills =
+    let size = c.min-size.result in
+    let rows = c.next_piece.new.out ++ drop size c.args.buf.now in
+    rows_next (front_image d.channels d.header bytes) given rows stride k n size (returns-in-Ok-clause-follows g c d bytes given h) many
     (omega (arith, c.next_piece.auto.out, length-take size c.args.buf.now, length-append c.next_piece.new.out (drop size c.args.buf.now), length-drop size c.args.buf.now, c.min-size.ensures, long))
     (omega (arith, fills, c.min-size.ensures, long))
 
