@@ -1,11 +1,11 @@
 -- What was read of an image was read of it too if bytes are appended behind it.
-use Rattle.std.proofs.Common.{◌≡◌, ◌∙◌, ℕ, List, ◌++◌, Some, sym, ap, append_assoc}
+use Rattle.std.proofs.Common.{◌≡◌, ◌∙◌, ℕ, List, ◌++◌, Some, false, sym, ap, subst, append_assoc}
 use Rattle.std.specs.Io.KnownBytes.{Consumes}
 use Rattle.qoi.specs.declared.decode.pixel_reader.pieces.Pieces.{Pieces}
-use Rattle.qoi.specs.Qoi.{chunk_bytes, end_marker, IsValid}
+use Rattle.qoi.specs.Qoi.{channels_number, chunk_bytes, end_marker, IsValid}
 use Rattle.qoi.specs.DecoderState.{DecoderState}
 use Rattle.qoi.specs.pieces.PixelReader.{PixelsState, HasGiven}
-use Rattle.qoi.specs.pieces.ReaderPieces.{GivesPieces}
+use Rattle.qoi.specs.pieces.ReaderPieces.{KeepsPixels, GivesPieces}
 use Rattle.qoi.proofs.decoding.PixelPieces.{byte_bounds, has_given}
 
 -- what stands at the front is taken
@@ -16,7 +16,6 @@ consumes_then bytes rest taken more h = ap (λ z. z ++ more) h ∙ append_assoc 
 pieces_then : {f c n : ℕ} {given : List ℕ} {p : Pieces} (bytes rest more : List ℕ) → GivesPieces f c n (Some bytes) (Some rest) given p
     → GivesPieces f c n (Some (bytes ++ more)) (Some (rest ++ more)) given p
 pieces_then bytes rest more h = record {
-  within = h.within;
   size = h.size;
   goes_on = λ some.
       let (gone, s, e) = h.goes_on some in (
@@ -24,7 +23,6 @@ pieces_then bytes rest more h = record {
         record { cs = s.cs; chunks = s.chunks; pixels = s.pixels; taken = consumes_then bytes rest (chunk_bytes s.cs) more s.taken; table_is = s.table_is; last_is = s.last_is },
         e,
       );
-  behind = h.behind;
   ends = λ none.
       let r = h.ends none in
       record { cs = r.cs; chunks = r.chunks; reaches = r.reaches; taken = consumes_then bytes rest (chunk_bytes r.cs ++ end_marker) more r.taken; out_is = r.out_is };
@@ -33,9 +31,10 @@ pieces_then bytes rest more h = record {
 -- so much was given
 pub given_then : (d : DecoderState (List ℕ)) (bytes rest given more : List ℕ) (p q : PixelsState (List ℕ)) → IsValid p.header
     → q.header ≡ p.header → q.channels ≡ p.channels → q.pieces ≡ p.pieces → q.refused ≡ p.refused
-    → HasGiven d (Some bytes) (Some rest) given p → HasGiven d (Some (bytes ++ more)) (Some (rest ++ more)) given q
+    → (p.refused ≡ false → KeepsPixels (channels_number p.channels) p.pieces) → HasGiven d (Some bytes) (Some rest) given p → HasGiven d (Some (bytes ++ more)) (Some (rest ++ more)) given q
 unfolding HasGiven
-given_then d bytes rest given more p q valid header channels pieces refused h =
+given_then d bytes rest given more p q valid header channels pieces refused keeps h =
     let own : IsValid d.header = rw (sym h.header) valid in
-    has_given d (Some (bytes ++ more)) (Some (rest ++ more)) given q (rw pieces (pieces_then bytes rest more h.pieces)) (header ∙ h.header) (channels ∙ h.channels)
+    has_given d (Some (bytes ++ more)) (Some (rest ++ more)) given q (rw pieces (pieces_then bytes rest more h.pieces))
+    (subst (λ k. KeepsPixels (channels_number k) q.pieces) h.channels (rw pieces (keeps h.going))) (header ∙ h.header) (channels ∙ h.channels)
     (refused ∙ h.going) (byte_bounds d.header d.channels own).0

@@ -99,7 +99,7 @@ gives_kept {f} {c} {ahead} p new old out k pixels few out_is is =
     let size : length front ≡ k = length-take-le k (kept p) (omega (arith, few, kept_long p within)) in
     let same : take k out ≡ front = ap (take k) out_is ∙ take_at front (drop k old) k size in
     subst (λ q. GivesMore f c ahead ahead p q out k) (sym is) (record {
-      read = λ n start given h. subst (λ z. GivesPieces f c n start ahead (given ++ z) then) (sym same) (gives p then k refl (omega (arith, few)) h);
+      read = λ n start given h. subst (λ z. GivesPieces f c n start ahead (given ++ z) then) (sym same) (gives p then k refl (omega (arith, few)) within h);
       within = omega (arith, ap length out_is, length-append front (drop k old), size);
       pixels = ((omega (arith, few, within), within.1), pixels.1);
       left = omega (arith, few, within);

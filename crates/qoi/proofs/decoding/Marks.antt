@@ -1,12 +1,13 @@
 -- A mark of a reader, and the reader that goes on from it.
-use Rattle.std.proofs.Common.{◌≡◌, ◌≤◌, ◌-◌, ◌+◌, ℕ, ◌*◌, List, ◌++◌, length, drop, Some, Result, Ok, IsOk, IfOk, refl, sym, ap, ◌∙◌, subst, append_assoc, length-append, arith}
+use Rattle.std.proofs.Common.{◌≡◌, ◌≤◌, ◌-◌, ◌+◌, ℕ, ◌*◌, List, ◌++◌, length, drop, Some, false, Result, Ok, IsOk, IfOk, refl, sym, ap, ◌∙◌, subst, append_assoc, length-append, arith}
 use Rattle.std.proofs.lemmas.List.{drop_at}
 use Rattle.qoi.specs.declared.error.Error.{Error}
 use Rattle.qoi.specs.Decoded.{HasHeader}
 use Rattle.qoi.specs.DecoderState.{DecoderState}
-use Rattle.qoi.specs.Qoi.{header_size, IsValid}
+use Rattle.qoi.specs.Qoi.{channels_number, header_size, IsValid}
 use Rattle.qoi.specs.pieces.Mark.{MarkState, mark_of, reader_at, MarksGiven, MarksRows}
 use Rattle.qoi.specs.pieces.PixelReader.{PixelsState, HasGiven, HasRows}
+use Rattle.qoi.specs.pieces.ReaderPieces.{KeepsPixels}
 use Rattle.qoi.proofs.decoding.Appended.{given_then}
 
 -- the image stands behind the header, and the reader in it
@@ -37,17 +38,17 @@ unfolding HasRows MarksRows
 marks_rows d e file bytes stride k p m is made (given, many, h) = (given, many, marks_given d e file bytes given p m is made h)
 
 -- the same if bytes are appended
-pub marks_then : (d : DecoderState (List ℕ)) (bytes given more : List ℕ) (m : MarkState) → IsValid m.header → MarksGiven d bytes given m → MarksGiven d (bytes ++ more) given m
+pub marks_then : (d : DecoderState (List ℕ)) (bytes given more : List ℕ) (m : MarkState) → IsValid m.header → (m.refused ≡ false → KeepsPixels (channels_number m.channels) m.pieces) → MarksGiven d bytes given m → MarksGiven d (bytes ++ more) given m
 unfolding MarksGiven
-marks_then d bytes given more m valid (rest, at, h) = (
+marks_then d bytes given more m valid keeps (rest, at, h) = (
   rest ++ more,
   omega (arith, at, length-append rest more, length-append bytes more),
-  given_then d bytes rest given more (reader_at m rest) (reader_at m (rest ++ more)) valid refl refl refl refl h,
+  given_then d bytes rest given more (reader_at m rest) (reader_at m (rest ++ more)) valid refl refl refl refl keeps h,
 )
 
-pub marks_rows_then : (d : DecoderState (List ℕ)) (bytes more : List ℕ) (stride k : ℕ) (m : MarkState) → IsValid m.header → MarksRows d bytes stride k m → MarksRows d (bytes ++ more) stride k m
+pub marks_rows_then : (d : DecoderState (List ℕ)) (bytes more : List ℕ) (stride k : ℕ) (m : MarkState) → IsValid m.header → (m.refused ≡ false → KeepsPixels (channels_number m.channels) m.pieces) → MarksRows d bytes stride k m → MarksRows d (bytes ++ more) stride k m
 unfolding MarksRows
-marks_rows_then d bytes more stride k m valid (given, many, h) = (given, many, marks_then d bytes given more m valid h)
+marks_rows_then d bytes more stride k m valid keeps (given, many, h) = (given, many, marks_then d bytes given more m valid keeps h)
 
 -- a reader of which it was read goes on behind the mark
 goes_on_at : (d e : DecoderState (List ℕ)) (file bytes given : List ℕ) (m : MarkState) → HasHeader e (Some file) (Some bytes) → MarksGiven d bytes given m

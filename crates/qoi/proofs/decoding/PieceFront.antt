@@ -1,5 +1,5 @@
 -- The pieces so far are the beginning of the image ahead.
-use Rattle.std.proofs.Common.{◌≡◌, ℕ, ◌+◌, ◌-◌, ◌*◌, ◌<◌, inl, inr, List, [], ◌++◌, length, take, reverse, Option, None, Some, IfSome, arith, refl, sym, ap, ◌∙◌, append_assoc, length-append}
+use Rattle.std.proofs.Common.{◌≡◌, ℕ, ◌+◌, ◌-◌, ◌*◌, ◌<◌, inl, inr, List, [], ◌++◌, length, take, reverse, Option, None, Some, IfSome, arith, refl, sym, ap, ◌∙◌, append_assoc}
 use Rattle.std.proofs.lemmas.List.{length-reverse, reverse-append, reverse-reverse}
 use Rattle.std.proofs.lemmas.Bool.{cases_lt}
 use Rattle.std.proofs.lemmas.Grind.{flat_map-append}
@@ -12,9 +12,8 @@ use Rattle.qoi.specs.Qoi.{Past, chunk_bytes, then_chunks, meaning, channels_numb
 use Rattle.qoi.specs.Raw.{IsChannels, pixel_bytes, output}
 use Rattle.qoi.specs.Images.{front_image}
 use Rattle.qoi.specs.DecoderState.{TakesAtMost}
-use Rattle.qoi.specs.pieces.ReaderPieces.{kept, GivesPieces}
+use Rattle.qoi.specs.pieces.ReaderPieces.{kept, AreWhole, GivesPieces}
 use Rattle.qoi.proofs.format.ChunkSteps.{given as pixels_after, then_chunks_given, then_chunks-append}
-use Rattle.qoi.proofs.format.WholePixels.{by_channels, length-output}
 use Rattle.qoi.proofs.decoding.Ahead.{image_read}
 use Rattle.qoi.proofs.decoding.FrontImage.{image_begins, image_is}
 use Rattle.qoi.proofs.decoding.ImageSize.{channels_are}
@@ -26,12 +25,12 @@ seam : {A : Type 0} (xs ys zs : List A) → zs ≡ xs ++ ys → xs ≡ take (len
 seam xs ys zs e = sym (ap (take (length xs)) e ∙ take-append_seam xs ys)
 
 -- for n pixels at most 5n + 8 bytes were taken
-pub pieces_within : (f c n : ℕ) (start now : Option (List ℕ)) (given : List ℕ) (p : Pieces) → IsChannels c → GivesPieces f c n start now given p
+pub pieces_within : (f c n : ℕ) (start now : Option (List ℕ)) (given : List ℕ) (p : Pieces) → IsChannels c → GivesPieces f c n start now given p → AreWhole c p
     → TakesAtMost (5 * n + 8) start now
-pieces_within f c n start now given p is h =
+pieces_within f c n start now given p is h whole =
     elim (cases_lt 0 p.undecoded) [
       | inl some ↦
-          let so_far = still_goes p is h some in
+          let so_far = still_goes p is h whole some in
           let stands = so_far.stands in
           (chunk_bytes stands.cs, stands.taken, omega (arith, bytes_within [] stands.cs stands.chunks, ap length stands.pixels, so_far.fewer))
       | inr none ↦ read_within f c n start now (given ++ kept p) (h.ends (omega (arith, none)))
@@ -49,24 +48,24 @@ more_pixels n cs more gone is few =
 
 -- the pieces so far are the beginning of the image
 pub front_given : (channels : Channels) (h : Header) (start now : Option (List ℕ)) (given : List ℕ) (p : Pieces)
-    → GivesPieces (channels_number h.channels) (channels_number channels) (pixel_count h) start now given p
+    → GivesPieces (channels_number h.channels) (channels_number channels) (pixel_count h) start now given p → AreWhole (channels_number channels) p
     → IfSome start (λ bytes. given ≡ take (length given) (front_image channels h bytes))
-front_given channels h None now given p s = tt
-front_given channels h (Some bytes) now given p s =
+front_given channels h None now given p s whole = tt
+front_given channels h (Some bytes) now given p s whole =
     elim (cases_lt 0 p.undecoded) [
-      | inl some ↦ going now given p s some
+      | inl some ↦ going now given p s whole some
       | inr none ↦ let read = image_read channels h bytes now (given ++ kept p) (s.ends (omega (arith, none))) in
           seam given (kept p) _ (sym (image_is channels h bytes read.0 (given ++ kept p) read.2))
     ]
   where
     going : (now : Option (List ℕ)) (given : List ℕ) (p : Pieces) → GivesPieces (channels_number h.channels) (channels_number channels) (pixel_count h) (Some bytes) now given p
-        → 0 < p.undecoded → given ≡ take (length given) (front_image channels h bytes)
-    going None given p s some = let (gone, stands, e) = s.goes_on some in absurd stands.taken
-    going (Some left) given p s some =
+        → AreWhole (channels_number channels) p → 0 < p.undecoded → given ≡ take (length given) (front_image channels h bytes)
+    going None given p s whole some = let (gone, stands, e) = s.goes_on some in absurd stands.taken
+    going (Some left) given p s whole some =
         let f = channels_number h.channels in
         let c = channels_number channels in
         let n = pixel_count h in
-        let so_far = still_goes p (channels_are channels c refl) s some in
+        let so_far = still_goes p (channels_are channels c refl) s whole some in
         let gone = so_far.all in
         let stands = so_far.stands in
         let few = so_far.fewer in

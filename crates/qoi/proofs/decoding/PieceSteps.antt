@@ -1,8 +1,9 @@
 -- A piece more: what stands between two pieces, before and after chunks are decoded.
-use Rattle.std.proofs.Common.{◌≡◌, ℕ, ◌+◌, ◌-◌, ◌*◌, ◌/◌, ◌%◌, ◌<◌, ◌≤◌, List, [], ◌∷◌, ◌++◌, length, take, drop, replicate, reverse, min, Option, arith, refl, sym, ap, ◌∙◌, subst, append_assoc, append-nil, length-append}
+use Rattle.std.proofs.Common.{◌≡◌, ℕ, ◌+◌, ◌-◌, ◌*◌, ◌/◌, ◌%◌, ◌<◌, ◌≤◌, List, [], ◌∷◌, ◌++◌, length, take, drop, replicate, reverse, min, inl, inr, Option, arith, refl, sym, ap, ◌∙◌, subst, append_assoc, append-nil, length-append}
 use Rattle.std.specs.Io.KnownBytes.{Consumes}
 use Rattle.std.proofs.KnownBytes.{Consumes-trans}
 use Rattle.std.proofs.lemmas.List.{length-replicate, length-reverse, reverse-append, length-take, length-take-le, length-drop, take-append-le, take-take, take_all, drop-drop}
+use Rattle.std.proofs.lemmas.Bool.{cases_lt}
 use Rattle.std.proofs.Math.Seq.{take-add}
 use borrow.Rule.Slice.PartMut.{put_mid}
 use Rattle.std.proofs.lemmas.Grind.{flat_map-append}
@@ -244,14 +245,12 @@ run_kept {f} {c} {n} {start} {now} {given} p bytes is h same some whole room wri
     let many : p.run ≡ c * (p.run / c) = whole_pixels c p.run is whole.1 in
     let stored : take (p.run - 0) bytes ≡ output f c recent = ap (λ k. take k bytes) (none_off p.run ∙ many ∙ from_none (c * (p.run / c))) ∙ written.same in
     record {
-      within = (omega arith, omega (arith, room, run_fits c p.run (length bytes) is whole.2 room));
       size = kept_size (length given) (p.to - p.from) p.undecoded p.run (c * n) (omega (arith, same)) h.size (omega (arith, fits));
       goes_on = λ _. (
         recent ++ gone,
         subst (DecoderAfter (Consumes start now) p.table p.last) (sym (no_copies c 0 p.last (recent ++ gone) is refl)) stands,
         ap (λ z. given ++ z) stored ∙ ap (λ z. z ++ output f c recent) (sym (none_kept p given same) ∙ all) ∙ sym (output_copies f c (p.run / c) (pixel_of_lanes p.last) gone),
       );
-      behind = λ more. more;
       ends = λ none. absurd (omega (arith, none, fits));
     }
 
@@ -294,10 +293,8 @@ long_read {f} {c} {n} {m} {start} {old} {new} {given} {p} {out} {table} {last} n
     let size : length more ≡ length given + at =
     length-append given (take at (now ++ rest)) ∙ ap (λ k. length given + k) (ap length front ∙ length-take-le at now (omega (arith, inside))) in
     record {
-      within = h.within;
       size = ap (λ k. k + (p.to - p.from + (p.undecoded - at))) size ∙ moved_size (length given) at (p.to - p.from) p.undecoded at (c * n) h.size (omega (arith, inside, fits)) refl;
       goes_on = λ some. (all, subst (DecoderAfter (Consumes start new) table last) (sym (no_copies c p.run last all is same.1)) stands, none_kept then more same.0 ∙ ap (λ z. given ++ z) front ∙ e);
-      behind = λ some. omega (arith, some, same);
       ends = λ none. absurd (omega (arith, none, inside, fits));
     }
 
@@ -320,10 +317,8 @@ piece_read {f} {c} {n} {m} {start} {old} {new} {given} {p} {out} {table} now res
     let more = given ++ take at (now ++ rest) in
     let size : length more ≡ length given + at = length-append given (take at (now ++ rest)) ∙ ap (λ k. length given + k) (ap length front ∙ length-take-le at now inside) in
     record {
-      within = h.within;
       size = ap (λ k. k + (p.to - p.from + (p.undecoded - at))) size ∙ moved_size (length given) at (p.to - p.from) p.undecoded at (c * n) h.size (omega (arith, inside, fits)) refl;
       goes_on = λ some. (t.all, t.after, none_kept then more same ∙ ap (λ z. given ++ z) front ∙ ap (λ z. z ++ take at now) l.so_far ∙ t.bytes_are);
-      behind = λ some. by_channels (λ d. placed.run ≤ d * 62 → placed.run < p.undecoded - at) is (λ a. omega (arith, a, inside, fits)) (λ a. omega (arith, a, inside, fits)) sizes.run_short;
       ends = λ none. absurd (omega (arith, none, inside, fits));
     }
 
@@ -335,10 +330,8 @@ pub kept_read : {f c n m : ℕ} {start old new : Option (List ℕ)} {given : Lis
 kept_read {f} {c} {n} {m} {start} {old} {new} {given} {p} {out} {table} {last} now rest at is h same l after inside fits =
     let (all, stands, e) = closes given now at is after inside l.so_far in
     record {
-      within = (omega arith, omega (arith, inside, length-append now rest));
       size = kept_size (length given) (p.to - p.from) p.undecoded at (c * n) (omega (arith, same)) h.size (omega (arith, inside, fits));
       goes_on = λ some. (all, subst (DecoderAfter (Consumes start new) table last) (sym (no_copies c p.run last all is same.1)) stands, ap (λ k. given ++ take k (now ++ rest)) (none_off at) ∙ ap (λ z. given ++ z) (take-append-le at now rest (omega (arith, inside))) ∙ e);
-      behind = λ some. omega (arith, some, same);
       ends = λ none. absurd (omega (arith, none, inside, fits));
     }
 
@@ -358,10 +351,8 @@ rest_read {f} {c} {n} {m} {start} {old} {new} {given} {p} {out} {table} {last} n
     let none : p.to - p.from ≡ 0 = omega (arith, same) in
     let count : length l.gone + m ≡ n = rest_count is h same l all in
     record {
-      within = (omega arith, fits);
       size = rest_size (length given) (p.to - p.from) p.undecoded (c * n) none h.size;
       goes_on = λ some. absurd (omega arith);
-      behind = λ some. absurd (omega arith);
       ends = λ _. subst (ReadsImage f c n start new) (ap (λ z. z ++ take p.undecoded now) (sym l.so_far) ∙ ap (λ k. given ++ take k now) (sym (none_off p.undecoded)))
           (subst (λ k. ReadsImage f c k start new (output f c (reverse l.gone) ++ take p.undecoded now)) count read);
     }
@@ -380,8 +371,8 @@ rest_whole {f} {c} {n} {start} {now} {given} {p} is h same some =
 
 -- kept bytes were given
 pub gives : {f c n : ℕ} {start now : Option (List ℕ)} {given : List ℕ} (p new : Pieces) (k : ℕ) → new ≡ record p { from = p.from + k } → k ≤ p.to - p.from
-    → GivesPieces f c n start now given p → GivesPieces f c n start now (given ++ take k (kept p)) new
-gives {f} {c} {n} {start} {now} {given} p new k is few h =
+    → KeepsWithin p → GivesPieces f c n start now given p → GivesPieces f c n start now (given ++ take k (kept p)) new
+gives {f} {c} {n} {start} {now} {given} p new k is few within h =
     let then : Pieces = record p { from = p.from + k } in
     let rest = drop p.from p.bytes in
     let m = p.to - (p.from + k) in
@@ -391,12 +382,10 @@ gives {f} {c} {n} {start} {now} {given} p new k is few h =
     ap (λ z. z ++ kept then) front ∙ ap (λ z. take k rest ++ take m z) (sym (drop-drop k p.from p.bytes))
     ∙ sym (take-add k m rest) ∙ ap (λ i. take i rest) (sym parts) in
     let all : (given ++ take k (kept p)) ++ kept then ≡ given ++ kept p = append_assoc given (take k (kept p)) (kept then) ∙ ap (λ z. given ++ z) whole in
-    let long : length (take k (kept p)) ≡ k = length-take-le k (kept p) (omega (arith, few, length-take-le (p.to - p.from) rest (omega (arith, h.within, length-drop p.from p.bytes)))) in
+    let long : length (take k (kept p)) ≡ k = length-take-le k (kept p) (omega (arith, few, length-take-le (p.to - p.from) rest (omega (arith, within, length-drop p.from p.bytes)))) in
     subst (GivesPieces f c n start now (given ++ take k (kept p))) (sym is) (record {
-      within = (omega (arith, few, h.within), h.within.1);
       size = ap (λ z. z + (m + p.undecoded)) (length-append given (take k (kept p)) ∙ ap (λ z. length given + z) long) ∙ given_size (length given) k (p.to - p.from) m p.undecoded (c * n) parts h.size;
       goes_on = λ some. let (gone, stands, e) = h.goes_on some in (gone, stands, all ∙ e);
-      behind = h.behind;
       ends = λ none. subst (ReadsImage f c n start now) (sym all) (h.ends none);
     })
   where
@@ -416,10 +405,19 @@ pub record GoesOn (f c n : ℕ) (Taken : List ℕ → Type 0) (table : List ℕ)
   pub bytes_are : given ++ ahead ≡ output f c (reverse all)
   pub fewer : length all < n
 
-pub still_goes : {f c n : ℕ} {start now : Option (List ℕ)} {given : List ℕ} (p : Pieces) → IsChannels c → GivesPieces f c n start now given p → 0 < p.undecoded
+-- no more bytes are kept
+pub kept_most : (p : Pieces) → length (kept p) ≤ p.to - p.from
+kept_most p = omega (arith, length-take (p.to - p.from) (drop p.from p.bytes))
+
+-- pixels are missing behind a run
+run_short : (c : ℕ) (p : Pieces) → AreWhole c p → 0 < p.undecoded → p.run < p.undecoded
+run_short c p whole some = elim (cases_lt 0 p.run) [ inl run ↦ whole.3 run | inr none ↦ omega (arith, none, some) ]
+
+pub still_goes : {f c n : ℕ} {start now : Option (List ℕ)} {given : List ℕ} (p : Pieces) → IsChannels c → GivesPieces f c n start now given p → AreWhole c p → 0 < p.undecoded
     → GoesOn f c n (Consumes start now) p.table p.last given
-still_goes {f} {c} {n} {start} {now} {given} p is h some =
+still_goes {f} {c} {n} {start} {now} {given} p is h whole some =
     let (gone, stands, e) = h.goes_on some in
+    let fewer = run_short c p whole some in
     let k = p.run / c in
     let px = pixel_of_lanes p.last in
     let one = output f c (replicate k px) in
@@ -434,7 +432,7 @@ still_goes {f} {c} {n} {start} {now} {given} p is h some =
       ahead = kept p ++ one;
       bytes_are = bytes;
       fewer = by_channels (λ d. length given + length (kept p) ≡ d * length gone → length given + (p.to - p.from + p.undecoded) ≡ d * n → k ≡ p.run / d → length (replicate k px ++ gone) < n) is
-          (λ a b e. omega (arith, count, kept_long p h.within, h.behind some)) (λ a b e. omega (arith, count, kept_long p h.within, h.behind some)) size h.size refl;
+          (λ a b e. omega (arith, count, kept_most p, fewer)) (λ a b e. omega (arith, count, kept_most p, fewer)) size h.size refl;
     }
 
 -- two parts of a piece that were read

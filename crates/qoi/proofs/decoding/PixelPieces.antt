@@ -13,7 +13,7 @@ use Rattle.qoi.specs.Decoding.{ReadsImage}
 use Rattle.qoi.specs.DecoderState.{DecoderState, output_byte_count}
 use Rattle.qoi.specs.pieces.PixelReader.{PixelsState, pixels_left, HasGiven, RefusesPixels}
 use Rattle.qoi.specs.inner.Chunks.{RefusesChunks}
-use Rattle.qoi.specs.pieces.ReaderPieces.{bytes_left, GivesPieces}
+use Rattle.qoi.specs.pieces.ReaderPieces.{bytes_left, KeepsPixels, GivesPieces}
 use Rattle.qoi.proofs.decoding.PieceFront.{front_given, pieces_within}
 use Rattle.qoi.proofs.decoding.PieceSteps.{none_kept}
 use Rattle.qoi.proofs.decoding.ImageSize.{channels_are}
@@ -27,9 +27,9 @@ byte_bounds h Rgba valid = (omega (arith, valid), omega (arith, valid))
 -- what was given
 pub has_given : {R : Type 0} (d : DecoderState R) (start now : Option (List ℕ)) (given : List ℕ) (p : PixelsState R)
     → GivesPieces (channels_number d.header.channels) (channels_number d.channels) (pixel_count d.header) start now given p.pieces
-    → p.header ≡ d.header → p.channels ≡ d.channels → p.refused ≡ false → 3 ≤ output_byte_count d → HasGiven d start now given p
+    → KeepsPixels (channels_number d.channels) p.pieces → p.header ≡ d.header → p.channels ≡ d.channels → p.refused ≡ false → 3 ≤ output_byte_count d → HasGiven d start now given p
 unfolding pixels_left HasGiven
-has_given d start now given p h same chosen going some =
+has_given d start now given p h pixels same chosen going some =
     let n = pixel_count d.header in
     let k = channels_number d.channels in
     let all : length given + bytes_left p.pieces ≡ output_byte_count d = h.size ∙ mul_comm k n in
@@ -39,11 +39,11 @@ has_given d start now given p h same chosen going some =
       header = same;
       channels = chosen;
       left = all;
-      within = pieces_within (channels_number d.header.channels) k n start now given p.pieces (channels_are d.channels k refl) h;
-      front = front_given d.channels d.header start now given p.pieces h;
+      within = pieces_within (channels_number d.header.channels) k n start now given p.pieces (channels_are d.channels k refl) h pixels.1;
+      front = front_given d.channels d.header start now given p.pieces h pixels.1;
       whole = λ none.
           let q = p.pieces in
-          let empty : q.from ≡ q.to = omega (arith, none, h.within) in
+          let empty : q.from ≡ q.to = omega (arith, none, pixels.0) in
           has_decoded d start now given (omega (arith, all, none), omega (arith, all, none, some))
           (subst (ReadsImage (channels_number d.header.channels) k n start now) (none_kept q given empty) (h.ends (omega (arith, none))));
     }
@@ -66,20 +66,16 @@ pieces_as {n} {start} {given} {f} {g} {c} {k} {now} {other} {p} {q} file channel
 -- three channels of a file of four
 pub three_of_four : {n : ℕ} {start now : Option (List ℕ)} {given : List ℕ} {p : Pieces} → GivesPieces 4 3 n start now given p → GivesPieces 3 3 n start now given p
 three_of_four h = record {
-  within = h.within;
   size = h.size;
   goes_on = λ some. let (gone, stands, e) = h.goes_on some in (gone, stands, e);
-  behind = h.behind;
   ends = λ none. let r = h.ends none in record { cs = r.cs; chunks = r.chunks; reaches = r.reaches; taken = r.taken; out_is = r.out_is };
 }
 
 -- and back
 pub four_as_three : {n : ℕ} {start now : Option (List ℕ)} {given : List ℕ} {p : Pieces} → GivesPieces 3 3 n start now given p → GivesPieces 4 3 n start now given p
 four_as_three h = record {
-  within = h.within;
   size = h.size;
   goes_on = λ some. let (gone, stands, e) = h.goes_on some in (gone, stands, e);
-  behind = h.behind;
   ends = λ none. let r = h.ends none in record { cs = r.cs; chunks = r.chunks; reaches = r.reaches; taken = r.taken; out_is = r.out_is };
 }
 

@@ -1,14 +1,12 @@
 -- Places in the image of a file, and the readers that go on there.
-use Rattle.std.proofs.Common.{◌≡◌, ◌≤◌, ◌<◌, ◌+◌, ◌*◌, ◌/◌, ◌%◌, ◌∙◌, ℕ, List, ◌++◌, length, drop, reverse, replicate, Some, Result, Ok, Err, IfOk, refl, sym, ap, subst, arith, inl, inr, [], append_assoc, length-append, length-drop, length-take}
+use Rattle.std.proofs.Common.{◌≡◌, ◌≤◌, ◌<◌, ◌+◌, ◌*◌, ◌/◌, ◌%◌, ◌∙◌, ℕ, List, ◌++◌, length, drop, reverse, replicate, Some, Result, Ok, Err, IfOk, refl, sym, ap, subst, arith, [], append_assoc, length-append, length-drop, length-take}
 use Rattle.std.proofs.lemmas.List.{length-reverse, drop_at, drop-drop, drop-append-le}
-use Rattle.std.proofs.lemmas.Bool.{cases_lt}
 use Rattle.std.specs.Io.KnownBytes.{Consumes}
 use Rattle.qoi.specs.declared.error.Error.{Error}
 use Rattle.qoi.specs.declared.header.Header.{Header}
 use Rattle.qoi.specs.declared.types.Channels.{Channels}
-use Rattle.qoi.specs.declared.types.Channels.TheVariants.{Rgb, Rgba}
-use Rattle.qoi.specs.Qoi.{RgbaPixel, previous, channels_number, pixel_count, run_max, header_of, header_size, chunk_bytes, then_chunks}
-use Rattle.qoi.specs.Raw.{IsChannels, byte_count, output}
+use Rattle.qoi.specs.Qoi.{RgbaPixel, previous, channels_number, pixel_count, header_of, header_size, chunk_bytes, then_chunks}
+use Rattle.qoi.specs.Raw.{IsChannels, output}
 use Rattle.qoi.specs.inner.Hashed.{pixel_of_lanes, HoldsSeen}
 use Rattle.qoi.specs.pieces.PixelReader.{PixelsState, pixels_left, HasGiven}
 use Rattle.qoi.specs.pieces.ReaderPieces.{kept, copies, DecoderAfter, GivesPieces}
@@ -42,7 +40,7 @@ place_stands channels h file p m s (is, given, r) =
     let whole : p.pieces.undecoded % c ≡ 0 = ap (λ k. p.pieces.undecoded % k) (sym own) ∙ s.whole in
     let some : p.pieces.undecoded ≡ c * m.left = whole_pixels c p.pieces.undecoded is_c whole ∙ ap (λ k. c * k) (sym left) in
     let size : length (given ++ kept p.pieces) + p.pieces.undecoded ≡ c * pixel_count h =
-    omega (arith, r.pieces.size, length-append given (kept p.pieces), kept_long p.pieces r.pieces.within) in
+    omega (arith, r.pieces.size, length-append given (kept p.pieces), kept_long p.pieces s.within) in
     record {
       cs = stands.cs;
       rest = p.reader;
@@ -101,13 +99,11 @@ place_resumes channels h file m q s is p =
     let size : length given ≡ c * length p.gone = length-output f c (reverse p.gone) is_c ∙ ap (λ k. c * k) (length-reverse p.gone) in
     let more : q.pieces.run < q.pieces.undecoded = fewer_bytes c m.run m.left q.pieces.run q.pieces.undecoded is_c s.run s.left s.behind in
     let pieces : GivesPieces f c n start (Some q.reader) given q.pieces = record {
-      within = s.within;
       size = omega (arith, all_bytes c (length p.gone) m.left n (length given) q.pieces.undecoded is_c size s.left p.left, s.none);
       goes_on = λ some. (p.gone, after, none_kept q.pieces given s.none);
-      behind = λ some. more;
       ends = λ none. absurd (omega (arith, none, more));
     } in
-    (is, given, has_given (file_decoder channels h file) start (Some q.reader) given q pieces s.header s.channels s.going (byte_bounds h channels s.valid).0)
+    (is, given, has_given (file_decoder channels h file) start (Some q.reader) given q pieces s.pixels s.header s.channels s.going (byte_bounds h channels s.valid).0)
 
 -- the place stands in the file
 pub place_within : (h : Header) (file : List ℕ) (m : PlaceState) → header_of file ≡ Ok h → StandsAt (pixel_count h) file m → (m.at ≤ length file) × (m.left ≤ pixel_count h)
@@ -146,27 +142,3 @@ pub goes_on_left : (channels : Channels) (h : Header) (rest : List ℕ) (m : Pla
     → IfOk r (λ p. pixels_left p ≡ m.left * channels_number channels)
 goes_on_left channels h rest m (Ok q) s = left_at channels h rest m q s
 goes_on_left channels h rest m (Err e) s = tt
-
--- pixels of a place in bytes: whole ones, no more than the image has, and a run of one chunk at most
-pub record PlaceBytes (channels : Channels) (h : Header) (run left : ℕ) : Type 0 where
-  pub most : left * channels_number channels ≤ byte_count h (channels_number channels)
-  pub whole : (left * channels_number channels) % channels_number channels ≡ 0
-  pub run_whole : (run * channels_number channels) % channels_number channels ≡ 0
-  pub run_short : run * channels_number channels ≤ channels_number channels * run_max
-  pub behind : run * channels_number channels < left * channels_number channels
-
-pub place_bytes : (channels : Channels) (h : Header) (run left : ℕ) → run < left → run ≤ run_max → left ≤ pixel_count h → PlaceBytes channels h run left
-place_bytes Rgb h run left behind short most = record {
-  most = omega (arith, most);
-  whole = omega arith;
-  run_whole = omega arith;
-  run_short = omega (arith, short);
-  behind = omega (arith, behind);
-}
-place_bytes Rgba h run left behind short most = record {
-  most = omega (arith, most);
-  whole = omega arith;
-  run_whole = omega arith;
-  run_short = omega (arith, short);
-  behind = omega (arith, behind);
-}

@@ -59,13 +59,10 @@ pub record DecoderAfter (Taken : List ℕ → Type 0) (table : List ℕ) (last :
 -- Of an image of n pixels, which begins with the bytes `start`, these bytes were given, and `now` is
 -- ahead.
 pub record GivesPieces (file_channels channels n : ℕ) (start now : Option (List ℕ)) (given : List ℕ) (p : Pieces) : Type 0 where
-  pub within : KeepsWithin p
   pub size : length given + bytes_left p ≡ channels * n
   -- pixels are missing, and all bytes of those so far were given or are kept, but for those of a run
   pub goes_on : 0 < p.undecoded → (gone : Past) × DecoderAfter (Consumes start now) p.table p.last (copies channels p.run p.last ++ gone)
       × (given ++ kept p ≡ output file_channels channels (reverse gone))
-  -- others follow those of a run
-  pub behind : 0 < p.undecoded → p.run < p.undecoded
   -- or the image and the end marker were read
   pub ends : p.undecoded ≡ 0 → ReadsImage file_channels channels n start now (given ++ kept p)
 

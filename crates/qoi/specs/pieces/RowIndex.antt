@@ -8,7 +8,7 @@ use Rattle.qoi.specs.Reading.{StandsAhead}
 use Rattle.qoi.specs.inner.Hashed.{pixel_of_lanes, HoldsSeen}
 use Rattle.qoi.specs.inner.Table.{Holds}
 use Rattle.qoi.specs.DecoderState.{DecoderState}
-use Rattle.qoi.specs.pieces.ReaderPieces.{KeepsWithin}
+use Rattle.qoi.specs.pieces.ReaderPieces.{KeepsWithin, KeepsPixels}
 use Rattle.qoi.specs.pieces.PixelReader.{PixelsState, HasGiven}
 
 -- the decoder, into these channels, of the file with the header h at the front of the bytes
@@ -65,6 +65,7 @@ ReadsFile channels h file p = (header_of file ≡ Ok h) × (given : List ℕ) ×
 -- the place behind what a reader keeps, of which some pixels are to come
 pub record IsPlaceOf (file : List ℕ) (p : PixelsState (List ℕ)) (m : PlaceState) : Type 0 where
   pub some : 0 < p.pieces.undecoded
+  pub within : KeepsWithin p.pieces
   pub whole : p.pieces.undecoded % channels_number p.channels ≡ 0
   pub table : (past : Past) → HoldsSeen p.pieces.table past → Holds m.table past
   pub last : m.last ≡ pixel_of_lanes p.pieces.last
@@ -80,7 +81,7 @@ pub record GoesOnAt (c : Channels) (h : Header) (rest : List ℕ) (m : PlaceStat
   pub going : q.refused ≡ false
   pub reader : q.reader ≡ rest
   pub none : q.pieces.from ≡ q.pieces.to
-  pub within : KeepsWithin q.pieces
+  pub pixels : KeepsPixels (channels_number c) q.pieces
   pub table : (past : Past) → Holds m.table past → HoldsSeen q.pieces.table past
   pub last : pixel_of_lanes q.pieces.last ≡ m.last
   pub left : q.pieces.undecoded ≡ m.left * channels_number c

@@ -1,11 +1,12 @@
 //! Places in images, from which decoding goes on.
-ghost use Rattle.std.specs.Prelude.{◌≡◌, ℕ, ◌-◌, ◌<◌, ◌≤◌, List, ◌++◌, length, drop, Some, Ok, Err, IsOk, IfOk};
+ghost use Rattle.std.specs.Prelude.{◌≡◌, ℕ, ◌-◌, ◌<◌, ◌≤◌, List, ◌++◌, length, drop, Some, false, Ok, Err, IsOk, IfOk};
 ghost use Rattle.qoi.specs.DecoderState.{DecoderState};
 ghost use Rattle.qoi.specs.Decoded.{HasHeader};
-ghost use Rattle.qoi.specs.Qoi.{IsValid};
+ghost use Rattle.qoi.specs.Qoi.{channels_number, IsValid};
 ghost use Rattle.qoi.specs.declared.error.Error.{Error};
 ghost use Rattle.qoi.specs.pieces.Mark.{mark_of, reader_at, marked_left, MarksGiven, MarksRows};
 ghost use Rattle.qoi.specs.pieces.PixelReader.{pixels_left, HasGiven, HasRows};
+ghost use Rattle.qoi.specs.pieces.ReaderPieces.{KeepsPixels};
 
 use crate::decode::Decoder;
 use crate::decode::pixel_reader::PixelReader;
@@ -57,6 +58,8 @@ impl<'a> PixelReader<Bytes<'a>> {
     fn marked(&self, file: &[u8]) -> Mark
         ensures state { result ≡ mark_of (length file.now - length self.now.reader) self.now }
         ensures valid { IsValid result.header }
+        ensures keeps { result.refused ≡ false
+            → KeepsPixels (channels_number result.channels) result.pieces }
     {
         Mark {
             at: file.len().saturating_sub(self.decoder.reader.0.len()),

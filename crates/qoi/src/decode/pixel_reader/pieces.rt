@@ -53,6 +53,7 @@ impl Pieces {
         requires { 0 < size }
         ensures start { (f c n : ℕ) (start : Option (List ℕ)) → IsChannels c → size ≡ c * n
             → GivesPieces f c n start start [] result }
+        ensures pixels { (c n : ℕ) → IsChannels c → size ≡ c * n → KeepsPixels c result }
         ensures left { bytes_left result ≡ size }
         ensures within { KeepsWithin result }
         ensures undecoded { (result.undecoded ≡ size) × (result.run ≡ 0) }

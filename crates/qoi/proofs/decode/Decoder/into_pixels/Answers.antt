@@ -13,7 +13,7 @@ returns-clause-start g c =
     let n = pixel_count d.header in
     let k = channels_number d.channels in
     let size = c.required_buf_len-size.ensures in
-    has_given d _ _ _ _ (c.new.ensures.start (channels_number d.header.channels) k n _ (channels_are d.channels k refl) (size.bytes ∙ mul_comm n k)) refl refl refl (omega (arith, size.bytes, size.some))
+    has_given d _ _ _ _ (c.new.ensures.start (channels_number d.header.channels) k n _ (channels_are d.channels k refl) (size.bytes ∙ mul_comm n k)) (c.new.ensures.pixels k n (channels_are d.channels k refl) (size.bytes ∙ mul_comm n k)) refl refl refl (omega (arith, size.bytes, size.some))
 
 pub returns-clause-fresh : goal.returns-clause-fresh
 returns-clause-fresh = returns-clause-start

@@ -9,7 +9,7 @@ use Rattle.qoi.specs.declared.types.Channels.{Channels}
 use Rattle.qoi.specs.Images.{front_image}
 use Rattle.qoi.specs.Qoi.{IsValid, channels_number, pixel_count}
 use Rattle.qoi.specs.pieces.PixelReader.{PixelsState, HasGiven, HasRows}
-use Rattle.qoi.specs.pieces.ReaderPieces.{GivesPieces}
+use Rattle.qoi.specs.pieces.ReaderPieces.{KeepsPixels, GivesPieces}
 use Rattle.qoi.specs.inner.Chunks.{RefusesChunks, HasFault}
 use Rattle.qoi.proofs.decoding.Rows.{row_more, row_next, rows_more, rows_next}
 use Rattle.qoi.proofs.decoding.PixelPieces.{byte_bounds, has_given, pieces_of, refuses_pixels}
@@ -46,7 +46,7 @@ returns-in-Ok-clause-read g c d start given h =
     let e = c.next_piece.new.self in
     let then : PixelsState _ = record { reader = e.reader; header = e.header; channels = e.channels; pieces = c.next_piece.new.pieces; refused = c.self.inside.refused } in
     subst (λ z. HasGiven d start (g.R.Reader.ahead e.reader) (given ++ z) then) (sym front)
-    (has_given d start _ (given ++ out) then (subst (λ z. GivesPieces (channels_number d.header.channels) (channels_number d.channels) (pixel_count d.header) start (g.R.Reader.ahead e.reader) (given ++ z) then.pieces) whole after) (ap (λ s. s.header) same ∙ header) (ap (λ s. s.channels) same ∙ chosen) going (byte_bounds d.header d.channels valid).0)
+    (has_given d start _ (given ++ out) then (subst (λ z. GivesPieces (channels_number d.header.channels) (channels_number d.channels) (pixel_count d.header) start (g.R.Reader.ahead e.reader) (given ++ z) then.pieces) whole after) (subst (λ k. KeepsPixels (channels_number k) then.pieces) chosen c.in-Ok.ensures.gives.pixels) (ap (λ s. s.header) same ∙ header) (ap (λ s. s.channels) same ∙ chosen) going (byte_bounds d.header d.channels valid).0)
 
 pub returns-in-Ok-clause-follows : goal.returns-in-Ok-clause-follows
 unfolding HasGiven

@@ -14,11 +14,11 @@ returns-clause-rows c d e bytes stride k made h = marks_rows d e _ bytes stride 
 
 pub returns-clause-given_then : goal.returns-clause-given_then
 returns-clause-given_then c d e bytes given more made h =
-    marks_then d bytes given more _ c.marked.ensures.valid (marks_given d e _ bytes given _ _ c.marked.ensures.state made h)
+    marks_then d bytes given more _ c.marked.ensures.valid c.marked.ensures.keeps (marks_given d e _ bytes given _ _ c.marked.ensures.state made h)
 
 pub returns-clause-rows_then : goal.returns-clause-rows_then
 returns-clause-rows_then c d e bytes more stride k made h =
-    marks_rows_then d bytes more stride k _ c.marked.ensures.valid (marks_rows d e _ bytes stride k _ _ c.marked.ensures.state made h)
+    marks_rows_then d bytes more stride k _ c.marked.ensures.valid c.marked.ensures.keeps (marks_rows d e _ bytes stride k _ _ c.marked.ensures.state made h)
 
 pub returns-clause-left : goal.returns-clause-left
 unfolding marked_left pixels_left
