@@ -17,8 +17,8 @@ const BLOCK: usize = 2048;
 // After a row of more bytes than `LONG_ROW` another one may soon follow, and a block has fewer.
 const LONG_ROW: usize = 32;
 
-// The same of a row of plain chunks.
-const LONG_PLAIN_ROW: usize = 96;
+// The same of a row of plain chunks. One of RGBA chunks and short ones by turns ends after so many.
+const LONG_PLAIN_ROW: usize = 144;
 
 const SHORT_BLOCK: usize = 8;
 

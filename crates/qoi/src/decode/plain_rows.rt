@@ -12,25 +12,9 @@ use crate::decode::table::TermTable;
 // Bytes of eight RGBA chunks and of the byte after them.
 const ROW_ROOM: usize = 41;
 
-// So many bytes have eight chunks that are all short, or all full ones at least.
-const SHORT_EIGHT: usize = 8;
-
-const FULL_EIGHT: usize = 32;
-
-// After so many times eight short chunks the row ends: the loop for these is faster.
-const MOST_IDLE: usize = 3;
-
-// How many times eight short chunks came one after the other, once eight of `size` bytes came, too.
-// Full ones alone end the row, since they have a faster loop.
-#[inline(always)]
-fn idle_after(idle: usize, size: usize) -> usize
-    requires { idle < 2 ^ 32 }
-{
-    if size >= FULL_EIGHT {
-        return MOST_IDLE;
-    }
-    if size <= SHORT_EIGHT { idle + 1 } else { 0 }
-}
+// A row ends once so many times eight chunks have as many bytes as the eight before them: short ones
+// alone, full ones alone, and turns of both have jumps that are foreseen, so their loops are faster.
+const MOST_SAME: usize = 5;
 
 impl Progress {
     ghost use Rattle.qoi.specs.inner.Filling.{HasAhead, fast, FastStep, FastChunks, IsPlainSize};
@@ -120,7 +104,7 @@ impl Progress {
         four.plain_chunks::<N, F>(table, bytes, out, size)
     }
 
-    /// Decodes plain chunks while there is room ahead and full ones are among them.
+    /// Decodes plain chunks while there is room ahead, until another chunk comes or they come in turns.
     #[inline(never)]
     pub(super) fn plain_row<const N: usize, const F: usize>(
         self,
@@ -139,15 +123,17 @@ impl Progress {
         }
         let far = bytes.len() - ROW_ROOM;
         let top = out.len() - OUTPUT_ROOM;
-        let mut idle = 0;
-        while now.taken <= far && now.at <= top && idle < MOST_IDLE {
-            let size = plain_size::<N>(now.next as usize);
-            if size == 0 {
+        let (mut before, mut same) = (0, 0);
+        while now.taken <= far && now.at <= top && same < MOST_SAME {
+            let first = plain_size::<N>(now.next as usize);
+            if first == 0 {
                 break;
             }
             let from = now.taken;
-            now = now.eight_plain::<N, F>(table, bytes, out, size);
-            idle = idle_after(idle, now.taken - from);
+            now = now.eight_plain::<N, F>(table, bytes, out, first);
+            let size = now.taken - from;
+            same = if size == before { same + 1 } else { 0 };
+            before = size;
         }
         now.by_fields()
     }

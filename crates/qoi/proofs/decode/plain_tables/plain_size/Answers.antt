@@ -1,5 +1,5 @@
 -- Each entry of the tables is right.
-use Rattle.std.proofs.Common.{◌≡◌, ◌<◌, ◌≤◌, eqb, eqb-true, arith, refl}
+use Rattle.std.proofs.Common.{◌≡◌, eqb, eqb-true, arith, refl}
 use Rattle.qoi.specs.declared.decode.plain_tables.TheConstants.{PLAIN_TABLES}
 use Rattle.qoi.proofs.format.Entries.{entry}
 use Rattle.qoi.proofs.decode.plain_tables.plain_size.Goals as goal
