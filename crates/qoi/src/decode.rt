@@ -20,6 +20,8 @@ mod in_place;
 mod one_chunk;
 mod output;
 mod pixel_reader;
+mod plain_rows;
+mod plain_tables;
 mod reader;
 mod slice;
 mod stream;

@@ -1,5 +1,5 @@
 -- A chunk more, while there is room ahead.
-use Rattle.std.proofs.Common.{◌≡◌, ℕ, ◌+◌, ◌-◌, ◌*◌, ◌/◌, ◌%◌, ◌<◌, ◌≤◌, inl, inr, List, ◌++◌, length, take, drop, get_or, replicate, Bool, true, false, cond, nat_eq, arith, refl, sym, ap, ◌∙◌, subst, ◌∷◌, append_assoc}
+use Rattle.std.proofs.Common.{◌≡◌, ◌⊎◌, ℕ, ◌+◌, ◌-◌, ◌*◌, ◌/◌, ◌%◌, ◌<◌, ◌≤◌, inl, inr, List, ◌++◌, length, take, drop, get_or, replicate, Bool, true, false, cond, nat_eq, arith, refl, sym, ap, ◌∙◌, subst, ◌∷◌, append_assoc}
 use Rattle.std.proofs.lemmas.Bool.{cases_lt}
 use Rattle.std.proofs.lemmas.Bool.Decides.{nat_tests}
 use Rattle.std.proofs.lemmas.List.{get_or-drop}
@@ -8,11 +8,11 @@ use mir.Val.{bool_byte}
 use Rattle.qoi.specs.declared.decode.fast.Progress.{Progress}
 use Rattle.qoi.specs.Qoi.{Past}
 use Rattle.qoi.specs.Raw.{IsChannels}
-use Rattle.qoi.specs.inner.Filling.{upto, filling, further, HasWritten, HasFilled, HasAhead, DecodesChunk, DecoderBetween, IsFrontAfter, Fast, fast, FastStep, FastChunks}
+use Rattle.qoi.specs.inner.Filling.{upto, filling, further, HasWritten, HasFilled, HasAhead, DecodesChunk, DecoderBetween, IsFrontAfter, Fast, fast, FastStep, FastChunks, IsPlainSize}
 use Rattle.qoi.specs.inner.Hashed.{pixel_of_lanes, HoldsSeen}
 use Rattle.qoi.proofs.format.WholePixels.{by_channels}
 use Rattle.qoi.proofs.decoding.FilledBuffer.{filled_copies}
-use Rattle.qoi.proofs.decoding.FirstChunk.{PutsCopies}
+use Rattle.qoi.proofs.decoding.FirstChunk.{PutsCopies, HasSize}
 use Rattle.qoi.proofs.decoding.Progress.{goes_on}
 
 -- how many pixels a short chunk has, by its first byte and its number of output bytes
@@ -158,3 +158,29 @@ step_at_first {f} {c} {i} {r} {k} {t} {bytes} {table} {out} {new} p step taken w
     let to : (n : ℕ) → Progress = λ n. record { last = p.last; taken = n; at = p.at; next = p.next } in
     let same : p.taken + 0 ≡ p.taken = omega arith in
     step_within (subst (λ n. FastStep f c i r bytes (fast (to n) table out) new) same step) taken written
+
+-- a plain chunk that isn't a full one has a byte, and a vector holds its pixels
+pub plain_short : (c b size : ℕ) → IsPlainSize c b size → 0 < size → b < 254 → (size ≡ 1) × (b ≤ 191 + 16 / c) × ((b < 128) ⊎ (192 ≤ b))
+plain_short c b size is some low = elim (cases_lt b 128) [
+  | inl early ↦ (is.one early, omega (arith, early), inl early)
+  | inr other ↦ elim (cases_lt b 192) [
+    | inl luma ↦ absurd (omega (arith, some, is.luma other luma))
+    | inr run ↦ elim (cases_lt (191 + 16 / c) b) [
+      | inl long ↦ absurd (omega (arith, some, is.long long low))
+      | inr fits ↦ (is.run run fits, fits, inr run)
+    ]
+  ]
+]
+
+-- it has no second byte
+pub plain_sizes : (b count : ℕ) → (b < 128) ⊎ (192 ≤ b) → (b < 192 → count ≡ 1) → (192 ≤ b → count + 191 ≡ b) → HasSize b 1 count
+plain_sizes b count other once often = record {
+  one = λ l. refl;
+  luma = λ l h. elim other [
+    | inl early ↦ absurd (omega (arith, l, early))
+    | inr run ↦ absurd (omega (arith, h, run))
+  ];
+  run = λ l. refl;
+  once = once;
+  often = often;
+}

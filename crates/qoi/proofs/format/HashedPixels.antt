@@ -3,7 +3,7 @@ use Rattle.std.proofs.Common.{◌≡◌, ℕ, ◌+◌, ◌-◌, ◌*◌, ◌/◌
 use Rattle.std.specs.Int.Bits.{bit_and, and_zero_r}
 use Rattle.std.proofs.lemmas.Nat.{and_block, and_mask}
 use Rattle.qoi.specs.Qoi.{RgbaPixel, pixel, hash, moved}
-use Rattle.qoi.specs.inner.Hashed.{pixel_of_lanes, IsHashed, lane_mask, alpha_mask}
+use Rattle.qoi.specs.inner.Hashed.{pixel_of_lanes, IsHashed, IsPlain, lane_mask, alpha_mask, top_mask}
 use Rattle.qoi.proofs.format.SamePixels.{same_pixel}
 
 -- the bits of the mask, sixteen by sixteen
@@ -87,6 +87,49 @@ unfolding hash
 after_rgba s keep w is_keep hashed =
     let kept : bit_and s keep ≡ 0 = ap (λ m. bit_and s m) is_keep ∙ and_zero_r s in
     omega (arith, kept, hashed)
+
+-- the mask leaves the index position alone
+top_alone : (s : ℕ) → s < 2 ^ 64 → bit_and s top_mask ≡ s / 2 ^ 56 * 2 ^ 56
+top_alone s l =
+    ap (λ z. bit_and z top_mask) split
+    ∙ and_block 56 (s / 2 ^ 56) 0xff (s % 2 ^ 56) 0 (omega arith) (omega arith)
+    ∙ omega (arith, l, and_mask (s / 2 ^ 56) 8, and_zero_r (s % 2 ^ 56))
+  where
+    split : s ≡ s / 2 ^ 56 * 2 ^ 56 + s % 2 ^ 56
+    split = omega arith
+
+-- four lanes with the index position that their product has
+pub record PlacedLanes (t l : ℕ) : Type 0 where
+  pub pixel_is : pixel_of_lanes t ≡ pixel_of_lanes l
+  pub is_hashed : IsHashed t
+
+-- the index position is added to the lanes
+pub placed_lanes : (l mask : ℕ) → IsPlain l → mask ≡ top_mask → PlacedLanes ((l + bit_and (l * 0x0c0014001c002c00 % 2 ^ 64) mask) % 2 ^ 64) l
+unfolding hash
+placed_lanes l mask plain is =
+    let place = l * 0x0c0014001c002c00 % 2 ^ 64 / 2 ^ 56 in
+    let top : bit_and (l * 0x0c0014001c002c00 % 2 ^ 64) mask ≡ place * 2 ^ 56 = ap (λ m. bit_and (l * 0x0c0014001c002c00 % 2 ^ 64) m) is ∙ top_alone (l * 0x0c0014001c002c00 % 2 ^ 64) (omega arith) in
+    let sum : (l + bit_and (l * 0x0c0014001c002c00 % 2 ^ 64) mask) % 2 ^ 64 ≡ l + place * 2 ^ 56 = omega (arith, top, plain) in
+    let px : pixel_of_lanes ((l + bit_and (l * 0x0c0014001c002c00 % 2 ^ 64) mask) % 2 ^ 64) ≡ pixel_of_lanes l = same_pixel _ _ (omega (arith, sum)) (omega (arith, sum)) (omega (arith, sum)) (omega (arith, sum, plain)) in
+    record {
+      pixel_is = px;
+      is_hashed = omega (arith, sum, plain) ∙ ap (λ p. 4 * hash p) (sym px);
+    }
+
+-- three of four lanes, and alpha of the last pixel
+pub lanes_with_alpha : (s four kept read : ℕ) → IsPlain four → kept ≡ alpha_mask → read ≡ 2 ^ 48 - 1
+    → (bit_and s kept + bit_and four read) % 2 ^ 64 ≡ four % 2 ^ 48 + s / 2 ^ 48 % 2 ^ 8 * 2 ^ 48
+lanes_with_alpha s four kept read plain is_kept is_read =
+    let alpha : bit_and s kept ≡ s / 2 ^ 48 % 2 ^ 8 * 2 ^ 48 = ap (λ m. bit_and s m) is_kept ∙ alpha_alone s in
+    let lanes : bit_and four read ≡ four % 2 ^ 48 = ap (λ m. bit_and four m) is_read ∙ and_mask four 48 in
+    omega (arith, alpha, lanes)
+
+-- all four lanes, and nothing of the last pixel
+pub lanes_alone : (s four kept read : ℕ) → four < 2 ^ 64 → kept ≡ 0 → read ≡ 2 ^ 64 - 1 → (bit_and s kept + bit_and four read) % 2 ^ 64 ≡ four
+lanes_alone s four kept read l is_kept is_read =
+    let none : bit_and s kept ≡ 0 = ap (λ m. bit_and s m) is_kept ∙ and_zero_r s in
+    let lanes : bit_and four read ≡ four % 2 ^ 64 = ap (λ m. bit_and four m) is_read ∙ and_mask four 64 in
+    omega (arith, none, lanes, l)
 
 -- the index position of a moved pixel
 hash_moved : (p : RgbaPixel) (r g b k : ℕ) → k % 64 ≡ (3 * r + 5 * g + 7 * b) % 64 → hash (moved p r g b) ≡ (hash p + k) % 64

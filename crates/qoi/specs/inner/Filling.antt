@@ -2,7 +2,7 @@
 use Rattle.std.specs.Prelude.{◌≡◌, ℕ, ◌-◌, ◌*◌, ◌/◌, ◌%◌, ◌+◌, ◌<◌, ◌≤◌, List, [], ◌++◌, length, take, reverse, replicate, min, slice_index, ◌⊎◌}
 use Rattle.qoi.specs.declared.chunk.Chunk.{Chunk}
 use Rattle.qoi.specs.declared.decode.fast.Progress.{Progress}
-use Rattle.qoi.specs.Qoi.{RgbaPixel, Past, run_tag, rgb_tag, rgba_tag, previous, IsChunk, AreChunks, bytes_of, chunk_bytes, times, then_chunk, then_chunks, StayBelow}
+use Rattle.qoi.specs.Qoi.{RgbaPixel, Past, luma_tag, run_tag, rgb_tag, rgba_tag, previous, IsChunk, AreChunks, bytes_of, chunk_bytes, times, then_chunk, then_chunks, StayBelow}
 use Rattle.qoi.specs.inner.Hashed.{pixel_of_lanes, HoldsSeen}
 use Rattle.qoi.specs.Raw.{IsChannels, output}
 
@@ -123,6 +123,16 @@ fast now table out = record { now = now; table = table; out = out }
 -- the first byte of an RGB or of an RGBA chunk
 abbrev pub IsFullTag : ℕ → Type 0
 IsFullTag b = (b ≡ rgb_tag) ⊎ (b ≡ rgba_tag)
+
+-- how many bytes the chunk with the first byte b has: 0 stands for a luma, and for a run that a vector
+-- of sixteen bytes doesn't hold
+pub record IsPlainSize (channels b size : ℕ) : Type 0 where
+  pub one : b < luma_tag → size ≡ 1
+  pub luma : luma_tag ≤ b → b < run_tag → size ≡ 0
+  pub run : run_tag ≤ b → b ≤ run_tag - 1 + 16 / channels → size ≡ 1
+  pub long : run_tag - 1 + 16 / channels < b → b < rgb_tag → size ≡ 0
+  pub rgb : b ≡ rgb_tag → size ≡ 4
+  pub rgba : b ≡ rgba_tag → size ≡ 5
 
 -- in a row of RGB chunks the pixel has the alpha of the one before the row
 abbrev pub KeepsAlpha : ℕ → ℕ → ℕ → Type 0

@@ -23,6 +23,10 @@ lane_mask = 0xffff00ff00ff00ff
 abbrev pub alpha_mask : ℕ
 alpha_mask = 0xff000000000000
 
+-- those that say the index position
+abbrev pub top_mask : ℕ
+top_mask = 0xff00000000000000
+
 -- what is added to such a number, so that red, green and blue grow by these: the index position
 -- grows with them
 abbrev pub step : ℕ → ℕ → ℕ → ℕ

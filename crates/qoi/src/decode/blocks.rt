@@ -17,6 +17,9 @@ const BLOCK: usize = 2048;
 // After a row of more bytes than `LONG_ROW` another one may soon follow, and a block has fewer.
 const LONG_ROW: usize = 32;
 
+// The same of a row of plain chunks. One of RGBA chunks and short ones by turns ends after so many.
+const LONG_PLAIN_ROW: usize = 144;
+
 const SHORT_BLOCK: usize = 8;
 
 impl Progress {
@@ -45,8 +48,14 @@ impl Progress {
             if block.taken <= near || far < block.taken {
                 break;
             }
-            now = block.full_row::<N, F>(table, bytes, out);
-            let is_long = LONG_ROW < now.taken - block.taken;
+            let full = block.full_row::<N, F>(table, bytes, out);
+            let least = if full.taken > block.taken {
+                LONG_ROW
+            } else {
+                LONG_PLAIN_ROW
+            };
+            now = full.plain_row::<N, F>(table, bytes, out);
+            let is_long = least < now.taken - block.taken;
             near = far.min(now.taken + if is_long { SHORT_BLOCK } else { BLOCK });
         }
         now

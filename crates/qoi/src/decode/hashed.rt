@@ -5,6 +5,7 @@ ghost use Rattle.qoi.specs.Raw.{IsChannels, output};
 ghost use Rattle.qoi.specs.inner.Hashed.{pixel_of_lanes, IsPlain, IsHashed, HoldsSeen};
 
 use crate::decode::deltas::{full_kept_mask, kept_mask, read_mask, second_added, second_mask};
+use crate::decode::plain_tables::{kept_by, placed_by, read_by};
 use crate::decode::table::SizedTerms;
 use std::marker::Model;
 use std::simd::{Simd, u8x4, u8x16, u16x4, u64x2};
@@ -125,6 +126,34 @@ impl Hashed {
         let own = (self.0 & full_kept_mask(b1)).wrapping_mul(ALPHA_FACTOR);
         let read = Hashed::of_lanes(four_lanes(&bytes[1..5]) & read_mask(b1));
         Hashed(own.wrapping_add(read.0))
+    }
+
+    /// The pixel after the chunk that the bytes begin with, whose first byte is `b1`, if it isn't a
+    /// luma: `after_short` and `after_full` in one, without a jump.
+    #[inline(always)]
+    pub(super) fn after_plain<const SIZE: usize>(
+        self,
+        table: &SizedTerms<SIZE>,
+        b1: usize,
+        bytes: &[u8],
+    ) -> Hashed
+        requires { (b1 < 256) × (5 ≤ length bytes.now) }
+        ensures place { b1 < diff_tag → (past : Past) → HoldsSeen table.now past
+            → pixel_of_lanes result ≡ seen past b1 }
+        ensures diff { diff_tag ≤ b1 → b1 < luma_tag
+            → pixel_of_lanes result ≡ after_diff (pixel_of_lanes self) b1 }
+        ensures run { run_tag ≤ b1 → b1 < rgb_tag → pixel_of_lanes result ≡ pixel_of_lanes self }
+        ensures rgb { b1 ≡ rgb_tag
+            → pixel_of_lanes result ≡ pixel (slice_index bytes.now 1) (slice_index bytes.now 2)
+            (slice_index bytes.now 3) (pixel_of_lanes self).a }
+        ensures rgba { b1 ≡ rgba_tag
+            → pixel_of_lanes result ≡ pixel (slice_index bytes.now 1) (slice_index bytes.now 2)
+            (slice_index bytes.now 3) (slice_index bytes.now 4) }
+    {
+        let read = four_lanes(&bytes[1..5]) & read_by(b1);
+        let lanes = (self.0 & kept_by(b1)).wrapping_add(read);
+        let place = lanes.wrapping_mul(HASH_FACTOR) & placed_by(b1);
+        Hashed(lanes.wrapping_add(place).wrapping_add(table.at(b1)))
     }
 
     /// The first sixteen bytes of the pixel when it is written again and again in `N` channels, of

@@ -32,6 +32,7 @@ mod pieces;
 mod pixel;
 mod pixel_readers;
 mod pixel_writer;
+mod plain_rows;
 mod reader;
 mod rectangles;
 mod refusals;

@@ -1,0 +1,140 @@
+//! Rows of plain chunks, as palettes have them, by a loop of their own: index positions,
+//! differences, short runs, RGB and RGBA chunks in any order, without a jump between them.
+ghost use Rattle.std.specs.Prelude.{◌+◌, ◌<◌, ◌≤◌, ◌^◌, length};
+ghost use Rattle.qoi.specs.declared.decode.fast.TheConstants.{INPUT_ROOM, OUTPUT_ROOM};
+
+use crate::decode::deltas::advance;
+use crate::decode::fast::{INPUT_ROOM, OUTPUT_ROOM, Progress};
+use crate::decode::output::store_vector;
+use crate::decode::plain_tables::plain_size;
+use crate::decode::table::TermTable;
+
+// Bytes of eight RGBA chunks and of the byte after them.
+const ROW_ROOM: usize = 41;
+
+// A row ends once so many times eight chunks have as many bytes as the eight before them: short ones
+// alone, full ones alone, and turns of both have jumps that are foreseen, so their loops are faster.
+const MOST_SAME: usize = 5;
+
+impl Progress {
+    ghost use Rattle.qoi.specs.inner.Filling.{HasAhead, fast, FastStep, FastChunks, IsPlainSize};
+
+    // Decodes a plain chunk, which has `size` bytes, without a jump.
+    #[inline(always)]
+    fn plain_chunk<const N: usize, const F: usize>(
+        self,
+        table: &mut TermTable,
+        bytes: &[u8],
+        out: &mut [u8],
+        size: usize,
+    ) -> Progress
+        requires ahead { HasAhead N 6 16 bytes.now out.old self }
+        requires size { IsPlainSize N self.next size × (0 < size) }
+        ensures step { FastStep F N 5 16 bytes.now
+            (fast self table.old out.old) (fast result table.new out.new) }
+        ensures on { self.taken < result.taken }
+    {
+        let b1 = self.next as usize;
+        let last = self.last.after_plain(table, b1, &bytes[self.taken..]);
+        table.put(last);
+        store_vector::<N, F>(out, self.at, last);
+        let taken = self.taken + size;
+        Progress {
+            last,
+            taken,
+            at: self.at + advance::<N>(b1),
+            next: bytes[taken],
+        }
+    }
+
+    // Decodes plain chunks, of which the first has `size` bytes, as many as come one after the
+    // other, but four at most.
+    #[inline(always)]
+    fn plain_chunks<const N: usize, const F: usize>(
+        self,
+        table: &mut TermTable,
+        bytes: &[u8],
+        out: &mut [u8],
+        size: usize,
+    ) -> Progress
+        requires ahead { HasAhead N 21 64 bytes.now out.old self }
+        requires size { IsPlainSize N self.next size × (0 < size) }
+        ensures step { FastStep F N 20 64 bytes.now
+            (fast self table.old out.old) (fast result table.new out.new) }
+        ensures on { self.taken < result.taken }
+    {
+        let one = self.plain_chunk::<N, F>(table, bytes, out, size);
+        let size = plain_size::<N>(one.next as usize);
+        if size == 0 {
+            return one;
+        }
+        let two = one.plain_chunk::<N, F>(table, bytes, out, size);
+        let size = plain_size::<N>(two.next as usize);
+        if size == 0 {
+            return two;
+        }
+        let three = two.plain_chunk::<N, F>(table, bytes, out, size);
+        let size = plain_size::<N>(three.next as usize);
+        if size == 0 {
+            return three;
+        }
+        three.plain_chunk::<N, F>(table, bytes, out, size)
+    }
+
+    // The same, but eight at most.
+    #[inline(always)]
+    fn eight_plain<const N: usize, const F: usize>(
+        self,
+        table: &mut TermTable,
+        bytes: &[u8],
+        out: &mut [u8],
+        size: usize,
+    ) -> Progress
+        requires ahead { HasAhead N 41 128 bytes.now out.old self }
+        requires size { IsPlainSize N self.next size × (0 < size) }
+        ensures step { FastStep F N 40 128 bytes.now
+            (fast self table.old out.old) (fast result table.new out.new) }
+        ensures on { self.taken < result.taken }
+    {
+        let four = self.plain_chunks::<N, F>(table, bytes, out, size);
+        let size = plain_size::<N>(four.next as usize);
+        if size == 0 {
+            return four;
+        }
+        four.plain_chunks::<N, F>(table, bytes, out, size)
+    }
+
+    /// Decodes plain chunks while there is room ahead, until another chunk comes or they come in turns.
+    #[inline(never)]
+    pub(super) fn plain_row<const N: usize, const F: usize>(
+        self,
+        table: &mut TermTable,
+        bytes: &[u8],
+        out: &mut [u8],
+    ) -> Progress
+        requires room { OUTPUT_ROOM ≤ length out.old }
+        requires ahead { HasAhead N 1 0 bytes.now out.old self }
+        ensures { FastChunks F N bytes.now
+            (fast self table.old out.old) (fast result table.new out.new) }
+    {
+        let mut now = self.by_fields();
+        if bytes.len() < ROW_ROOM {
+            return now;
+        }
+        let far = bytes.len() - ROW_ROOM;
+        let top = out.len() - OUTPUT_ROOM;
+        let (mut before, mut same) = (0, 0);
+        while now.taken <= far && now.at <= top && same < MOST_SAME {
+            let first = plain_size::<N>(now.next as usize);
+            if first == 0 {
+                break;
+            }
+            let from = now.taken;
+            now = now.eight_plain::<N, F>(table, bytes, out, first);
+            let size = now.taken - from;
+            same = if size == before { same + 1 } else { 0 };
+            before = size;
+        }
+        now.by_fields()
+    }
+}
