@@ -10,7 +10,8 @@
 //!   [`encode_to_buf`] and [`decode_to_buf`] do so in buffers and allocate nothing.
 //! - [`Encoder`] also takes a color space and a style, and writes to a `std::io::Write`.
 //! - [`Decoder`] also decodes into three or four channels, reads from a `std::io::BufRead` or,
-//!   more slowly, a `std::io::Read`, and gives what follows a file.
+//!   more slowly, a `std::io::Read`, and gives what follows a file. [`Reader`] is the bound for all
+//!   that it reads from.
 //! - [`PixelReader`], of `Decoder::into_pixels`, and [`PixelWriter`] decode and encode images that
 //!   needn't fit into memory, piece by piece.
 //! - [`RowIndex`] reads the image of a file in memory from any row on; a [`Mark`] is one place in it,
