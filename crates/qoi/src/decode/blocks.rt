@@ -1,6 +1,6 @@
 //! Chunks in memory while input and output have room ahead, from any pixel on: in blocks, after
-//! each of which a row of RGB or of RGBA chunks is looked for. So such rows cost the fast loop
-//! nothing.
+//! each of which a row of RGB or of RGBA chunks is looked for, and then one of plain chunks. So
+//! such rows cost the fast loop nothing.
 ghost use Rattle.std.specs.Prelude.{◌+◌, ◌*◌, ◌<◌, ◌≤◌, length};
 ghost use Rattle.qoi.specs.declared.decode.fast.TheConstants.{INPUT_ROOM, OUTPUT_ROOM};
 
@@ -17,7 +17,8 @@ const BLOCK: usize = 2048;
 // After a row of more bytes than `LONG_ROW` another one may soon follow, and a block has fewer.
 const LONG_ROW: usize = 32;
 
-// The same of a row of plain chunks. One of RGBA chunks and short ones by turns ends after so many.
+// The same of a row of plain chunks. One of RGBA chunks and short ones by turns ends after so many
+// bytes.
 const LONG_PLAIN_ROW: usize = 144;
 
 const SHORT_BLOCK: usize = 8;
@@ -25,7 +26,7 @@ const SHORT_BLOCK: usize = 8;
 impl Progress {
     ghost use Rattle.qoi.specs.inner.Filling.{IsFillable, upto, filling, TakesOn, TakesFront, IsRow, HasAhead, fast, FastChunks};
 
-    // Decodes blocks of chunks and rows of full ones while there is room ahead.
+    // Decodes blocks of chunks and rows of full or of plain ones while there is room ahead.
     #[inline(always)]
     fn blocks_of_chunks<const N: usize, const F: usize>(
         self,

@@ -12,8 +12,9 @@ use crate::decode::table::TermTable;
 // Bytes of eight RGBA chunks and of the byte after them.
 const ROW_ROOM: usize = 41;
 
-// A row ends once so many times eight chunks have as many bytes as the eight before them: short ones
-// alone, full ones alone, and turns of both have jumps that are foreseen, so their loops are faster.
+// A row ends once so many times eight chunks have as many bytes as the eight before them: short
+// ones alone, full ones alone, and both by turns have jumps that are foreseen, so that the other
+// loops are faster.
 const MOST_SAME: usize = 5;
 
 impl Progress {
@@ -104,7 +105,8 @@ impl Progress {
         four.plain_chunks::<N, F>(table, bytes, out, size)
     }
 
-    /// Decodes plain chunks while there is room ahead, until another chunk comes or they come in turns.
+    /// Decodes plain chunks while there is room ahead, until another chunk comes or these come by
+    /// turns.
     #[inline(never)]
     pub(super) fn plain_row<const N: usize, const F: usize>(
         self,
