@@ -4,9 +4,8 @@ ghost use Rattle.qoi.specs.Qoi.{start};
 ghost use Rattle.qoi.specs.declared.types.Style.{Style};
 ghost use Rattle.qoi.specs.inner.CoderLoop.{CoderAfter};
 
-use crate::encode::last_pixel::LastPixel;
+use crate::encode::pending::Pending;
 use crate::encode::piece::FULL_ROOM;
-use crate::encode::table::PixelTable;
 use crate::utils::copy_after;
 use std::marker::Model;
 
@@ -30,21 +29,11 @@ impl Kept {
             → CoderAfter style [] None result.pending.table result.pending.last }
     {
         Kept {
-            pending: Pending {
-                table: PixelTable::new(),
-                last: LastPixel::start(),
-            },
+            pending: Pending::new(),
             held: Held::new(),
             room: [0; FULL_ROOM],
         }
     }
-}
-
-/// What is known between two calls: the table, and the last pixel that was written or repeated.
-#[derive(Drop)]
-pub(super) struct Pending {
-    pub(super) table: PixelTable,
-    pub(super) last: LastPixel,
 }
 
 /// Raw bytes that came and aren't encoded yet.
@@ -122,7 +111,8 @@ impl Held {
     /// The bytes that are held.
     #[inline(always)]
     pub(super) fn bytes(&self) -> &[u8]
-        ensures { result.now ≡ self.now }
+        ensures are { result.now ≡ self.now }
+        ensures most { length self.now ≤ HELD_MOST }
     {
         &self.bytes[..self.len]
     }
