@@ -1,17 +1,17 @@
 //! Callers that take an image row by row, proved by the contracts of the public calls alone: none
 //! holds the whole image but for the one that returns it.
-ghost use Rattle.std.specs.Prelude.{◌≡◌, ℕ, ◌++◌, List, IsTrue, IfOk, OnOk};
+ghost use Rattle.std.specs.Prelude.{◌≡◌, ℕ, ◌++◌, List, Some, IsTrue, IfOk, OnOk};
 ghost use Rattle.std.specs.Io.KnownBytes.{Appends};
 ghost use Rattle.qoi.specs.declared.header.Header.{Header};
 ghost use Rattle.qoi.specs.declared.chunk.Chunk.{Chunk};
 ghost use Rattle.qoi.specs.FrontFile.{BeginsWithFile};
 ghost use Rattle.qoi.specs.Qoi.{IsFile, file};
-ghost use Rattle.qoi.specs.Images.{file_image};
+ghost use Rattle.qoi.specs.Images.{front_image, file_image};
 
 use crate::tests::fakes::{ONE_RGB_PIXEL, PIXEL};
 use crate::tests::library::support::{assert_bytes, assert_given};
 use qoi::laws::reading::files_are_read;
-use qoi::{Decoder, Error};
+use qoi::{Decoder, Error, Reader};
 use std::alloc::Global;
 use std::io::Write;
 
@@ -29,17 +29,27 @@ pub fn copy_rows(alloc: Global, file: &[u8]) -> Result<Vec<u8>, Error>
     Ok(out)
 }
 
-/// Rows to a writer, in bounded memory.
+/// Rows from any reader to any writer, in bounded memory.
+pub fn to_raw<R: Reader + Drop, W: Write>(decoder: Decoder<R>, out: &mut W) -> Result<(), Error>
+    ensures { (bytes : List ℕ) → R.ahead decoder.reader ≡ Some bytes → OnOk result
+        (Appends (W.contents out.old) (W.contents out.new)
+        (front_image decoder.channels decoder.header bytes)) }
+{
+    let (mut pixels, mut row) = (decoder.into_pixels(), [0; 4096]);
+    while pixels.left() > 0 {
+        let size = pixels.read(&mut row)?;
+        out.write_all(&row[..size])?;
+    }
+    Ok(())
+}
+
+/// The rows of a file to a writer.
 pub fn send_rows<W: Write>(file: &[u8], out: &mut W) -> Result<(), Error>
     ensures { OnOk result
         (Appends (W.contents out.old) (W.contents out.new) (file_image «file».now)) }
 {
-    let mut pixels = Decoder::new(file)?.into_pixels();
-    let mut row = [0; 4096];
-    while pixels.left() > 0 {
-        let count = pixels.read(&mut row)?;
-        out.write_all(&row[..count])?;
-    }
+    let decoder = Decoder::new(file)?;
+    to_raw(decoder, out)?;
     Ok(())
 }
 

@@ -1,5 +1,4 @@
 -- One after the other.
-use Rattle.std.proofs.Common.{arith}
 use Rattle.qoi.proofs.decoding.InPlace.{piece_stops}
 use Rattle.qoi.proofs.decode.in_place.chunks_in_place.Goals as goal
 

@@ -1,5 +1,4 @@
 -- No chunk is decoded.
-use Rattle.std.proofs.Common.{arith}
 use Rattle.qoi.proofs.decoding.InPlace.{piece_stops}
 use Rattle.qoi.proofs.decode.chunks.Chunks.chunks_in_place.Goals as goal
 

@@ -1,5 +1,5 @@
 -- What went is a beginning of the file, whatever raw bytes follow.
-use Rattle.std.proofs.Common.{inl, inr, [], ◌++◌, refl, sym, ap, subst, arith, length-append}
+use Rattle.std.proofs.Common.{inl, inr, [], ◌++◌, refl, sym, subst, arith, length-append}
 use Rattle.std.proofs.KnownBytes.{Appends-nil}
 use Rattle.qoi.specs.Qoi.{IsValid, file}
 use Rattle.qoi.specs.pieces.PixelWriter.{and_raw, HasTaken, HasFailed}
