@@ -1,7 +1,7 @@
 -- What an encoding call promises: the one file of the encoder's image was made, put into a buffer,
 -- or sent to a writer. A record's meaning is its fields up to `same` (`HasFileLength`), `file`
--- (`MakesFile`), `new_is` (`PutsFile`), `sent` (`SendsFile`, `SendsPart`) and `makes`
--- (`IsFileFor`). The other fields follow from these; callers need them at hand.
+-- (`MakesFile`), `new_is` (`PutsFile`), `sent` (`SendsFile`, `SendsPart`), all (`SendsSomeFile`)
+-- and `makes` (`IsFileFor`). The other fields follow from these; callers need them at hand.
 use Rattle.std.specs.Prelude.{◌≡◌, ℕ, ◌≤◌, List, ◌++◌, take, drop, length, slice_set, Option, Some, IfSome, Ok}
 use Rattle.std.specs.Io.KnownBytes.{Appends}
 use Rattle.qoi.specs.declared.types.ColorSpace.{ColorSpace}

@@ -35,8 +35,8 @@ pub enum Error {
         size: usize,
         required: usize,
     },
-    /// The input slice ends before header, chunks and end marker are whole, or a `PixelReader`
-    /// refused the image before.
+    /// The input slice ends before header, chunks and end marker are whole, a mark or a row isn't in
+    /// it, or a `PixelReader` refused the image before.
     UnexpectedBufferEnd,
     /// The eight bytes after the chunks aren't the end marker.
     InvalidPadding,

@@ -1,6 +1,6 @@
 //! Chunks in memory while input and output have room ahead, from any pixel on: in blocks, after
 //! each of which a row of RGB or of RGBA chunks is looked for, and then one of plain chunks. So
-//! such rows cost the fast loop nothing.
+//! such rows cost the fast loop no test a chunk.
 ghost use Rattle.std.specs.Prelude.{◌+◌, ◌*◌, ◌<◌, ◌≤◌, length};
 ghost use Rattle.qoi.specs.declared.decode.fast.TheConstants.{INPUT_ROOM, OUTPUT_ROOM};
 

@@ -1,4 +1,5 @@
-//! The loops of every kind of reader: into a buffer, and into a vector that grows.
+//! What each kind of reader does with chunks (`Chunks`, of `slice`, `stream` and `buffered`), and the
+//! loops over it: into a buffer, and into a vector that grows.
 ghost use Rattle.std.specs.Prelude.{◌≡◌, ℕ, ◌+◌, ◌-◌, ◌*◌, ◌/◌, ◌%◌, ◌<◌, ◌≤◌, List, ◌++◌, length, replicate, Option, Bool, true, IfSome, IfOk, IfErr, OnOk};
 ghost use Rattle.std.specs.Vec.{vec_len, vec_capacity};
 ghost use Rattle.std.specs.Io.KnownBytes.{Consumes};
@@ -52,7 +53,7 @@ pub(super) trait Chunks<const N: usize, const F: usize>: Sized {
         ensures refused { IfErr result (RefusesFilling F N in_memory
             (ahead self.old) (ahead self.new) (filling table.old last out.old at)) };
 
-    /// The same until `out` is full; takes no byte past the last chunk.
+    /// `some_chunks`, but until `out` is full; takes no byte past the last chunk.
     fn all_chunks(
         &mut self,
         table: &mut TermTable,
@@ -68,7 +69,7 @@ pub(super) trait Chunks<const N: usize, const F: usize>: Sized {
 
     /// Decodes chunks that stand in memory into a piece of an image, after the pixel `last` and the
     /// first `at` bytes of `out`, and goes on near its end: a run that goes on past it is taken.
-    /// Without this method, and on a stream, none are decoded.
+    /// By default, and so from a stream, none are decoded.
     fn chunks_in_place(
         &mut self,
         table: &mut TermTable,

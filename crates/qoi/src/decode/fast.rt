@@ -1,6 +1,6 @@
 //! The loops over chunks in memory while input and output have room ahead: for eight short ones and
 //! a full one, which is tested once for all nine or, near the end of an output that goes on
-//! elsewhere, for one of each.
+//! elsewhere, for one of each. `fast_chunks` and `chunks_ahead` of `blocks` enter them.
 ghost use Rattle.std.specs.Prelude.{◌≡◌, ◌↔◌, IsTrue, ◌+◌, ◌-◌, ◌*◌, ◌/◌, ◌<◌, ◌≤◌, ◌^◌, length, replicate};
 ghost use Rattle.qoi.specs.Qoi.{run_tag, rgb_tag};
 ghost use Rattle.qoi.specs.Raw.{IsChannels};
@@ -173,7 +173,7 @@ impl Progress {
         three.short_chunk::<N, F, 3>(table, bytes, out).further(4)
     }
 
-    // The same, but `ROW` at most: one or eight.
+    // Decodes short chunks that follow each other, `ROW` at most: one or eight.
     #[inline(always)]
     fn short_row<const N: usize, const F: usize, const ROW: usize>(
         self,

@@ -93,8 +93,8 @@ impl<R: Reader> Decoder<R> {
         }
     }
 
-    // Decodes the next bytes of the image, while none are kept: into the front of `out`, and
-    // returns how many; the rest of `out`, and more, are kept. Not inlined: what `read` does for
+    // `next_piece` once nothing is kept: asks the reader for the front of `out`, and returns how many
+    // bytes it has; the rest of `out`, and more, are kept. Not inlined: what `read` does for
     // bytes that are kept is then a few instructions.
     #[inline(never)]
     fn decode_more(

@@ -1,10 +1,10 @@
 //! Rows of plain chunks, as palettes have them, by a loop of their own: index positions,
 //! differences, short runs, RGB and RGBA chunks in any order, without a jump between them.
 ghost use Rattle.std.specs.Prelude.{◌+◌, ◌<◌, ◌≤◌, ◌^◌, length};
-ghost use Rattle.qoi.specs.declared.decode.fast.TheConstants.{INPUT_ROOM, OUTPUT_ROOM};
+ghost use Rattle.qoi.specs.declared.decode.fast.TheConstants.{OUTPUT_ROOM};
 
 use crate::decode::deltas::advance;
-use crate::decode::fast::{INPUT_ROOM, OUTPUT_ROOM, Progress};
+use crate::decode::fast::{OUTPUT_ROOM, Progress};
 use crate::decode::output::store_vector;
 use crate::decode::plain_tables::plain_size;
 use crate::decode::table::TermTable;
@@ -12,8 +12,8 @@ use crate::decode::table::TermTable;
 // Bytes of eight RGBA chunks and of the byte after them.
 const ROW_ROOM: usize = 41;
 
-// A row ends once so many times eight chunks have as many bytes as the eight before them: short
-// ones alone, full ones alone, and both by turns have jumps that are foreseen, so that the other
+// A row ends once so many times in a row eight chunks have as many bytes as the eight before them:
+// short ones alone, full ones alone, and both by turns have jumps that are foreseen, so that the other
 // loops are faster.
 const MOST_SAME: usize = 5;
 
@@ -82,7 +82,7 @@ impl Progress {
         three.plain_chunk::<N, F>(table, bytes, out, size)
     }
 
-    // The same, but eight at most.
+    // Decodes plain chunks as `plain_chunks`, but eight at most.
     #[inline(always)]
     fn eight_plain<const N: usize, const F: usize>(
         self,
@@ -105,8 +105,8 @@ impl Progress {
         four.plain_chunks::<N, F>(table, bytes, out, size)
     }
 
-    /// Decodes plain chunks while there is room ahead, until another chunk comes or these come by
-    /// turns.
+    /// Decodes plain chunks while there is room ahead, until another chunk comes or `MOST_SAME` ends
+    /// the row.
     #[inline(never)]
     pub(super) fn plain_row<const N: usize, const F: usize>(
         self,

@@ -191,7 +191,7 @@ impl<'a> Bytes<'a> {
     }
 }
 
-// Decodes the next bytes of an image in memory.
+// `Pieces::decode_more` for a slice, with its channels as constants.
 fn piece_of_bytes(
     bytes: &mut Bytes,
     pieces: &mut Pieces,

@@ -71,8 +71,8 @@ fn careful_chunks<'a, const N: usize, const F: usize, const RUN_FITS: bool, cons
     Some(Left { last, rest, at })
 }
 
-// The same, by the fast loop while there is room ahead for it. It does without if `out` is the end
-// of a piece, which has room for few chunks.
+// `careful_chunks`, but by the fast loop while there is room ahead. It does without if `out` is the
+// end of a piece, which has room for few chunks.
 #[inline(always)]
 fn slice_chunks<'a, const N: usize, const F: usize, const RUN_FITS: bool>(
     table: &mut TermTable,

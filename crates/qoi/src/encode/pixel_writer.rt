@@ -165,6 +165,7 @@ impl<W: Write + Drop> PixelWriter<W> {
             let size = self.taken() + raw.len();
             return Err(wrong_length(&self.header, size));
         }
+        // It stays set if a fault ends the call.
         self.failed = true;
         let kept = &mut *self.kept;
         take_any(
@@ -247,6 +248,7 @@ impl<W: Write + Drop> PixelWriter<W> {
             let size = self.taken();
             return Err(wrong_length(&self.header, size));
         }
+        // It stays set if a fault ends the call.
         self.failed = true;
         let kept = &mut *self.kept;
         write_any(&mut self.writer, self.header.channels, self.style, kept)

@@ -210,8 +210,8 @@ impl Pieces {
         self.give(out)
     }
 
-    // Gives the rest of a run and, if such a piece is decoded in place, what follows it, and returns
-    // how many bytes; keeps what has no room of a run.
+    // Gives the rest of a run and, if `out` is a piece that is decoded in place (`is_placed`), what
+    // follows it, and returns how many bytes; keeps what has no room of a run.
     #[inline(always)]
     fn piece_front<R: Chunks<N, F>, const N: usize, const F: usize>(
         &mut self,
@@ -275,8 +275,8 @@ impl Pieces {
         Ok(now.at)
     }
 
-    // Decodes chunks that are kept, into `room` bytes or, near the end of the image, all of its
-    // rest, and then the end marker.
+    // Decodes ahead of the caller, into the bytes that are kept: chunks for `room` of them or, if at
+    // most `KEPT` of the image are left, all of these and then the end marker.
     fn decode_on<R: Chunks<N, F>, const N: usize, const F: usize>(
         &mut self,
         reader: &mut R,

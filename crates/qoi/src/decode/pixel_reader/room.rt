@@ -15,8 +15,8 @@ use crate::decode::output::RUN_ROOM;
 use crate::decode::table::TermTable;
 use crate::error::Result;
 
-/// How many bytes are decoded at once where a piece has no room for the vectors of any run: whole
-/// pixels of three channels and of four.
+/// How many bytes are kept at most, decoded ahead of a piece: whole pixels of three channels and of
+/// four.
 pub(super) const KEPT: usize = 3072;
 
 /// A piece of at least so many bytes is decoded in place.

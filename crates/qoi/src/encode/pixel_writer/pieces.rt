@@ -164,7 +164,7 @@ fn write_more<'a, 'p, W: Write, const N: usize, const COPY: u8, const ROOM: usiz
     Ok((rest, piece))
 }
 
-// `take_any` for `N` channels, if there is no room. `COPY` is a number for each style.
+// `take_any` for `N` channels, if `Held::takes` refuses. `COPY` is a number for each style.
 #[inline(never)]
 fn take_raw<W: Write, const N: usize, const COPY: u8, const ROOM: usize>(
     writer: &mut W,
@@ -196,7 +196,7 @@ fn take_raw<W: Write, const N: usize, const COPY: u8, const ROOM: usize>(
     Ok(())
 }
 
-// `write_any` for `N` channels.
+// `write_any` for `N` channels: the blocks that are held, the last pixels, and the end marker.
 fn write_last<W: Write, const N: usize, const COPY: u8, const ROOM: usize>(
     writer: &mut W,
     style: Style,
@@ -238,8 +238,8 @@ fn write_last<W: Write, const N: usize, const COPY: u8, const ROOM: usize>(
     Ok(())
 }
 
-/// Takes raw bytes of an image with these channels, in this style: holds them if there is room,
-/// else writes those that were held first.
+/// Takes raw bytes of an image with these channels, in this style: holds them if
+/// `Held::takes` them, else writes those that were held first.
 #[inline(always)]
 pub(super) fn take_any<W: Write>(
     writer: &mut W,

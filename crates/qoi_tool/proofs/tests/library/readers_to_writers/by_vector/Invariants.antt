@@ -1,7 +1,7 @@
 -- What was read so far was taken by the writer.
-use Rattle.std.proofs.Common.{ℕ, ◌<◌, List, length, Some}
+use Rattle.std.proofs.Common.{ℕ, ◌<◌, List, length}
 use Rattle.qoi.specs.declared.types.Style.TheVariants.{Reference}
-use Rattle.qoi.specs.pieces.PixelReader.{as_decoder, pixels_left, HasGiven}
+use Rattle.qoi.specs.pieces.PixelReader.{pixels_left, HasGiven}
 use Rattle.qoi.specs.pieces.PixelWriter.{HasTaken}
 use Rattle.qoi_tool.proofs.tests.library.readers_to_writers.by_vector.Given as goal
 
