@@ -1,10 +1,10 @@
--- A row more of an image is read.
+-- Rows more of an image are read.
 use Rattle.std.proofs.Common.{◌≡◌, ℕ, ◌+◌, ◌*◌, ◌≤◌, List, ◌++◌, length, take, drop, Option, arith, sym, ap, ◌∙◌, length-append}
 use Rattle.std.proofs.lemmas.List.{take_all}
-use Rattle.std.proofs.Math.Nat.{mul-suc, mul-add}
+use Rattle.std.proofs.Math.Nat.{mul-add}
 use Rattle.qoi.specs.DecoderState.{DecoderState}
 use Rattle.qoi.specs.pieces.PixelReader.{PixelsState, HasGiven, HasRows}
-use Rattle.qoi.specs.Rectangles.{row_bytes, rectangle}
+use Rattle.qoi.specs.Rectangles.{rectangle}
 use Rattle.qoi.proofs.format.RectangleLaws.{whole_rows}
 
 -- what fills a buffer of n rows is n rows more
@@ -24,19 +24,3 @@ pub rows_next : (image given rows : List ℕ) (stride k n size : ℕ) → take s
 rows_next image given rows stride k n size follows before long is =
     sym (take_all size rows (omega (arith, long, is))) ∙ follows ∙ ap (λ m. take m (drop (length given) image)) is
     ∙ ap (λ m. take (stride * n) (drop m image)) before ∙ sym (whole_rows stride k n image)
-
--- what fills a buffer of a row is a row more
-pub row_more : {R : Type 0} (d : DecoderState R) (start now : Option (List ℕ)) (stride k size : ℕ) (given row : List ℕ) (p : PixelsState R)
-    → HasGiven d start now (given ++ take size row) p → length given ≡ stride * k → length row ≡ stride → stride ≤ size → HasRows d start now stride (k + 1) p
-unfolding HasRows
-row_more d start now stride k size given row p h before long fills = (
-  given ++ take size row,
-  omega (arith, before, length-append given (take size row), ap length (take_all size row (omega (arith, long, fills))), long, mul-suc stride k),
-  h,
-)
-
--- and it is the next one
-pub row_next : (image given row : List ℕ) (stride k size : ℕ) → take size row ≡ take size (drop (length given) image) → length given ≡ stride * k
-    → length row ≡ stride → size ≡ stride → row ≡ row_bytes stride image k
-row_next image given row stride k size follows before long is =
-    sym (take_all size row (omega (arith, long, is))) ∙ follows ∙ ap (λ n. take n (drop (length given) image)) is ∙ ap (λ n. take stride (drop n image)) before

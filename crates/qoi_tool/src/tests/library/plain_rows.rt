@@ -2,19 +2,19 @@
 //! differences, short runs, RGB and RGBA chunks in any order, or by turns. They begin and end at
 //! each offset around the places where it looks for one, with a chunk of each kind after them or
 //! with none. The pixels are known from the rules by which the chunks are made.
+use crate::tests::library::neighbours::Kind::{Diff, Place, Rgb, Rgba, Run};
 use crate::tests::library::neighbours::{KINDS, Kind, List};
 use qoi::{Channels, Result};
 use std::alloc::Global;
 
-#[rattlefmt::skip]
-const PLAIN: [Kind; 6] = [Kind::Place, Kind::Diff, Kind::Rgb, Kind::Rgba, Kind::Run(1), Kind::Run(4)];
+const PLAIN: [Kind; 6] = [Place, Diff, Rgb, Rgba, Run(1), Run(4)];
 
 // `front` chunks of a byte, and `n` plain ones of kinds that `seed` decides.
 fn with_row(alloc: Global, front: usize, seed: u8, n: u8) -> Result<List> {
     let mut list = List::new(alloc);
     list.put_full([n, 30, 200, 77])?;
     for i in 0..front {
-        list.add(Kind::Diff, (i % 251) as u8)?;
+        list.add(Diff, (i % 251) as u8)?;
     }
     let mut state = seed;
     for i in 0..n {
@@ -30,7 +30,7 @@ fn with_row_before(alloc: Global, front: usize, seed: u8, n: u8, after: Kind) ->
     let mut list = with_row(alloc, front, seed, n)?;
     list.add(after, n)?;
     for i in 0..48u8 {
-        list.add(if i < 8 { Kind::Place } else { Kind::Diff }, i)?;
+        list.add(if i < 8 { Place } else { Diff }, i)?;
     }
     Ok(list)
 }

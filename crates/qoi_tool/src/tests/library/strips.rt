@@ -26,8 +26,8 @@ pub fn keep_strip(
     ensures { (d : DecoderState (List ℕ)) (bytes : List ℕ) (k : ℕ)
         → HasRows d (Some bytes) (Some pixels.old.reader) size.0 k pixels.old
         → out.old.items ≡ rectangle size.0 0 0 k size.0 (front_image d.channels d.header bytes)
-        → OnOk result (HasRows d (Some bytes) (Some pixels.new.reader) size.0 (k + size.1) pixels.new
-        × (out.new.items ≡ rectangle size.0 0 0 (k + size.1) size.0
+        → OnOk result (HasRows d (Some bytes) (Some pixels.new.reader) size.0 (k + size.1)
+        pixels.new × (out.new.items ≡ rectangle size.0 0 0 (k + size.1) size.0
         (front_image d.channels d.header bytes))) }
 {
     rectangles_are_parts();
@@ -73,7 +73,7 @@ pub fn in_strips(
 #[test]
 fn five_rows(rt: HostRuntime) -> Result<()> {
     let alloc = rt.alloc();
-    let raw = b"row 0 row 1 row 2 row 3 row 4 ";
+    let raw = b"first.secondthird.fourthfifth.";
     let file = encode_to_vec(alloc, raw, 2, 5)?;
     let mut strip = [0; 12];
     assert_given(&rt, in_strips(alloc, &file, 2, &mut strip, 5), raw);

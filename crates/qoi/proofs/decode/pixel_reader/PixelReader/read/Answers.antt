@@ -1,7 +1,7 @@
 -- A piece more is given, or the image is refused.
 use Rattle.std.proofs.Common.{◌≡◌, ◌++◌, List, ℕ, Option, Some, None, IfSome, take, drop, length, arith, refl, sym, ap, ◌∙◌, subst}
 use Rattle.std.proofs.lemmas.List.{length-append, length-drop, length-take, length-take-le, drop_at, drop-take, take_all}
-use Rattle.std.proofs.Math.Nat.{mul-suc, mul-add}
+use Rattle.std.proofs.Math.Nat.{mul-add}
 use lib.Seq.{take-append_seam}
 use Rattle.qoi.specs.declared.error.Error.{Error}
 use Rattle.qoi.specs.declared.header.Header.{Header}
@@ -11,7 +11,8 @@ use Rattle.qoi.specs.Qoi.{IsValid, channels_number, pixel_count}
 use Rattle.qoi.specs.pieces.PixelReader.{PixelsState, HasGiven, HasRows}
 use Rattle.qoi.specs.pieces.ReaderPieces.{KeepsPixels, GivesPieces}
 use Rattle.qoi.specs.inner.Chunks.{RefusesChunks, HasFault}
-use Rattle.qoi.proofs.decoding.Rows.{row_more, row_next, rows_more, rows_next}
+use Rattle.qoi.proofs.decoding.Rows.{rows_more, rows_next}
+use Rattle.qoi.proofs.format.RectangleLaws.{picture_row}
 use Rattle.qoi.proofs.decoding.PixelPieces.{byte_bounds, has_given, pieces_of, refuses_pixels}
 use Rattle.qoi.proofs.decode.pixel_reader.PixelReader.read.Goals as goal
 
@@ -58,27 +59,6 @@ returns-in-Ok-clause-follows g c d bytes given h =
     let after = returns-in-Ok-clause-read g c d (Some bytes) given h in
     rw many at (piece_follows d.channels d.header bytes given piece after.front)
 
-pub returns-then-size-eq0-clause-rows : goal.returns-then-size-eq0-clause-rows
-unfolding HasRows
-returns-then-size-eq0-clause-rows g c d start stride k (given, many, h) long none = (given, omega (arith, many, none, mul-suc stride k), h)
-
-pub returns-in-Ok-clause-rows : goal.returns-in-Ok-clause-rows
-unfolding HasRows
-returns-in-Ok-clause-rows g c d start stride k (given, many, h) long fills =
-    let size = c.min-size.result in
-    let row = c.next_piece.new.out ++ drop size c.args.buf.now in
-    row_more d start _ stride k size given row _ (returns-in-Ok-clause-read g c d start given h) many
-    (omega (arith, c.next_piece.auto.out, length-take size c.args.buf.now, length-append c.next_piece.new.out (drop size c.args.buf.now), length-drop size c.args.buf.now, c.min-size.ensures, long)) fills
-
-pub returns-in-Ok-clause-row : goal.returns-in-Ok-clause-row
-unfolding HasRows
-returns-in-Ok-clause-row g c d bytes stride k (given, many, h) long fills =
-    let size = c.min-size.result in
-    let row = c.next_piece.new.out ++ drop size c.args.buf.now in
-    row_next (front_image d.channels d.header bytes) given row stride k size (returns-in-Ok-clause-follows g c d bytes given h) many
-    (omega (arith, c.next_piece.auto.out, length-take size c.args.buf.now, length-append c.next_piece.new.out (drop size c.args.buf.now), length-drop size c.args.buf.now, c.min-size.ensures, long))
-    (omega (arith, fills, c.min-size.ensures, long))
-
 pub returns-then-size-eq0-clause-strip : goal.returns-then-size-eq0-clause-strip
 unfolding HasRows
 returns-then-size-eq0-clause-strip g c d start stride k n (given, many, h) long none = (given, omega (arith, many, none, long, mul-add stride k n), h)
@@ -104,6 +84,19 @@ returns-in-Ok-clause-strip_rows g c d bytes stride k n (given, many, h) long fil
     rows_next (front_image d.channels d.header bytes) given rows stride k n size (returns-in-Ok-clause-follows g c d bytes given h) many
     (omega (arith, c.next_piece.auto.out, length-take size c.args.buf.now, length-append c.next_piece.new.out (drop size c.args.buf.now), length-drop size c.args.buf.now, c.min-size.ensures, long))
     (omega (arith, fills, c.min-size.ensures, long))
+
+pub returns-then-size-eq0-clause-rows : goal.returns-then-size-eq0-clause-rows
+returns-then-size-eq0-clause-rows g c d start stride k rows long none =
+    returns-then-size-eq0-clause-strip g c d start stride k 1 rows (omega (arith, long)) (omega (arith, long, none))
+
+pub returns-in-Ok-clause-rows : goal.returns-in-Ok-clause-rows
+returns-in-Ok-clause-rows g c d start stride k rows long fills =
+    returns-in-Ok-clause-strip g c d start stride k 1 rows (omega (arith, long)) (omega (arith, long, fills))
+
+pub returns-in-Ok-clause-row : goal.returns-in-Ok-clause-row
+returns-in-Ok-clause-row g c d bytes stride k rows long fills =
+    returns-in-Ok-clause-strip_rows g c d bytes stride k 1 rows (omega (arith, long)) (omega (arith, long, fills))
+    ∙ picture_row stride k (front_image d.channels d.header bytes)
 
 pub returns-then-self-clause-refused : goal.returns-then-self-clause-refused
 unfolding HasGiven
