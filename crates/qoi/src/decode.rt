@@ -212,7 +212,7 @@ impl<R: Read + Drop> Decoder<R> {
     }
 }
 
-// The same decoder, which goes on from the reader's buffer.
+// The decoder goes on from the reader's buffer.
 fn over_buffer<R: BufRead>(decoder: Decoder<R>) -> Decoder<Buffered<R>>
     ensures { result ≡ decoder }
 {

@@ -234,7 +234,7 @@ impl<'a> Encoder<'a> {
         })
     }
 
-    /// The same encoder with another color space, which changes the fourteenth byte of the file
+    /// A copy with another color space, which changes the fourteenth byte of the file
     /// and no other.
     pub fn with_colorspace(mut self, colorspace: ColorSpace) -> Encoder<'a>
         ensures { result
@@ -244,7 +244,7 @@ impl<'a> Encoder<'a> {
         self
     }
 
-    /// The same encoder with another style: other chunks may be written. In style `Places` the file
+    /// A copy with another style: other chunks may be written. In style `Places` the file
     /// is as long as in `Reference`. In style `Tight` no other chunks of the image make a shorter
     /// file, but the Rust crate may decode it to other pixels: choose `Tight` only if all decoders
     /// of the file are known to follow QOI 1.0.

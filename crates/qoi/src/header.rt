@@ -125,7 +125,7 @@ impl Header {
         Header::try_new(width, height, channels, colorspace)
     }
 
-    /// The same header with other channels.
+    /// A copy with other channels.
     pub fn with_channels(mut self, channels: Channels) -> Header
         ensures { result ≡ record self { channels = channels } }
     {
@@ -133,7 +133,7 @@ impl Header {
         self
     }
 
-    /// The same header with another color space.
+    /// A copy with another color space.
     pub fn with_colorspace(mut self, colorspace: ColorSpace) -> Header
         ensures { result ≡ record self { colorspace = colorspace } }
     {

@@ -236,7 +236,7 @@ impl<const N: usize> Pixel<N> {
         writer.write_many(&bytes[..end])
     }
 
-    // The same pixel as one number, opaque if it has three channels.
+    // The pixel as one number, opaque if it has three channels.
     #[inline(always)]
     pub(crate) fn packed(self) -> Packed
         requires { IsChannels N }

@@ -17,8 +17,8 @@ const BLOCK: usize = 2048;
 // After a row of more bytes than `LONG_ROW` another one may soon follow, and a block has fewer.
 const LONG_ROW: usize = 32;
 
-// The same of a row of plain chunks. One of RGBA chunks and short ones by turns ends after so many
-// bytes.
+// After a row of plain chunks of more bytes than this a block has fewer, too. A row of RGBA chunks
+// and short ones by turns ends after so many bytes.
 const LONG_PLAIN_ROW: usize = 144;
 
 const SHORT_BLOCK: usize = 8;
@@ -64,7 +64,7 @@ impl Progress {
 
     // Decodes chunks while input and output have room ahead for `ROW` short ones and a full one.
     #[inline(always)]
-    fn all_chunks<const N: usize, const F: usize, const ROW: usize>(
+    fn chunks_in_room<const N: usize, const F: usize, const ROW: usize>(
         self,
         table: &mut TermTable,
         bytes: &[u8],
@@ -112,7 +112,7 @@ impl Progress {
             at: from.at,
             next: bytes[from.taken],
         };
-        let now = now.all_chunks::<N, F, ROW>(table, bytes, out);
+        let now = now.chunks_in_room::<N, F, ROW>(table, bytes, out);
         Decoded {
             taken: now.taken,
             last: now.last,

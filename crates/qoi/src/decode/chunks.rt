@@ -176,7 +176,8 @@ pub(super) fn image_to_buf<R: Chunks<N, F>, const N: usize, const F: usize>(
     reader.marker()
 }
 
-/// The same into an empty vector with capacity for `size` bytes, which then has as many.
+/// Decodes an image and its end marker into an empty vector with capacity for `size` bytes, which
+/// then has as many.
 pub(super) fn image_to_vec<R: Chunks<N, F>, const N: usize, const F: usize>(
     reader: &mut R,
     out: &mut Vec<u8>,

@@ -61,7 +61,7 @@ fn leaves_room<const N: usize>(b1: u8, room: usize) -> bool
 impl Progress {
     ghost use Rattle.qoi.specs.inner.Filling.{upto, further, HasWritten, IsRow, HasAhead, fast, FastStep, FastChunks};
 
-    // The same, with `count` bytes more taken.
+    // `count` bytes more are taken.
     #[inline(always)]
     fn further(self, count: usize) -> Progress
         requires { self.taken + count < 2 ^ 64 }
@@ -75,7 +75,7 @@ impl Progress {
         }
     }
 
-    /// The same, field by field. A copy of the whole would take along the bytes after the last
+    /// A copy, field by field. A copy of the whole would take along the bytes after the last
     /// field, for which a loop would need registers.
     #[inline(always)]
     pub(super) fn by_fields(self) -> Progress

@@ -57,7 +57,7 @@ fn store_two_vectors<const N: usize, const F: usize>(out: &mut [u8], at: usize, 
     store_vector::<N, F>(out, at + N * (VECTOR / N), px);
 }
 
-// The same with four.
+// Stores four vectors of a pixel one behind the other.
 #[inline(always)]
 fn store_four_vectors<const N: usize, const F: usize>(out: &mut [u8], at: usize, px: Hashed)
     requires channels { IsChannels N }
@@ -69,7 +69,7 @@ fn store_four_vectors<const N: usize, const F: usize>(out: &mut [u8], at: usize,
     store_two_vectors::<N, F>(out, at + N * (2 * (VECTOR / N)), px);
 }
 
-// The same with eight.
+// Stores eight vectors of a pixel one behind the other.
 #[inline(always)]
 fn store_eight_vectors<const N: usize, const F: usize>(out: &mut [u8], at: usize, px: Hashed)
     requires channels { IsChannels N }
@@ -181,7 +181,7 @@ pub(super) fn store_exactly<const N: usize, const F: usize>(
     }
 }
 
-/// The same, not inlined: inside the fast loop, which seldom needs it, it makes each chunk slower.
+/// `store_exactly` as a call: inside the fast loop, which seldom needs it, it makes each chunk slower.
 #[inline(never)]
 pub(super) fn store_late_run<const N: usize, const F: usize>(
     out: &mut [u8],

@@ -97,7 +97,7 @@ impl<R: Reader> Decoder<R> {
     // bytes it has; the rest of `out`, and more, are kept. Not inlined: what `read` does for
     // bytes that are kept is then a few instructions.
     #[inline(never)]
-    fn decode_more(
+    fn ask_reader(
         &mut self,
         pieces: &mut Pieces,
         out: &mut [u8],
@@ -147,7 +147,7 @@ impl<R: Reader> Decoder<R> {
         if done == out.len() {
             return Ok(());
         }
-        let more = self.decode_more(pieces, &mut out[done..], fault)?;
+        let more = self.ask_reader(pieces, &mut out[done..], fault)?;
         let given = done + more;
         if given == out.len() {
             return Ok(());

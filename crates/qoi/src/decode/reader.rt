@@ -109,7 +109,7 @@ pub trait Reader: Sized {
             (RefusesImage in_memory (length out.old / channels_number channels)
             (ahead self.old) (ahead self.new)) };
 
-    /// The same into an empty vector, which then has `size` bytes.
+    /// Decodes the image ahead into an empty vector, which then has `size` bytes.
     ///
     /// The caller sees to it that the vector has capacity for `size` bytes, and that they are a
     /// multiple of the channels. The vector grows by steps of 16384 pixels, each of which is decoded
@@ -335,7 +335,7 @@ impl<R> Model for Buffered<R> {
 }
 
 impl<R> Buffered<R> {
-    /// The same reader, decoded from its buffer.
+    /// Reads from this reader by its buffer.
     #[inline]
     pub fn new(reader: R) -> Buffered<R>
         ensures { result ≡ reader }

@@ -228,7 +228,7 @@ pub(super) fn slice_image<'a, const N: usize, const F: usize>(
     Ok(bytes.0)
 }
 
-// The same into an empty vector with capacity for `size` bytes. Fewer than eight bytes are
+// Decodes an image into an empty vector with capacity for `size` bytes. Fewer than eight bytes are
 // refused as cut, before it grows.
 pub(super) fn slice_image_to_vec<'a, const N: usize, const F: usize>(
     data: &'a [u8],

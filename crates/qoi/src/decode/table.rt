@@ -57,7 +57,7 @@ impl SizedTerms<64> {
 }
 
 impl<const SIZE: usize> SizedTerms<SIZE> {
-    /// The same numbers.
+    /// A copy.
     pub(super) fn copied(&self) -> SizedTerms<SIZE>
         ensures { result ≡ self.now }
     {

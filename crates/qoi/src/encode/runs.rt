@@ -108,7 +108,7 @@ fn same_in_block<const N: usize>(front: FrontBlock<N>, px: Packed) -> u64
     three + (same_in_part::<N, 3>(front, px) << 48)
 }
 
-// The same of the `PART`th sixteen bytes.
+// Which of the `PART`th sixteen bytes are so: a bit for each.
 #[inline(always)]
 fn same_in_part<const N: usize, const PART: usize>(front: FrontBlock<N>, px: Packed) -> u64
     requires { PART < N }

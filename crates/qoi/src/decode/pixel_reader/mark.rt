@@ -86,7 +86,7 @@ impl<'a> PixelReader<Bytes<'a>> {
             → HasHeader e (Some file.now) (Some bytes)
             → HasRows d (Some bytes) (Some self.now.reader) stride k self.now
             → MarksRows d bytes stride k result }
-        // The same, whatever is appended.
+        // It says so of the file with anything appended, too.
         ensures given_then { (d e : DecoderState (List ℕ)) (bytes given more : List ℕ)
             → HasHeader e (Some file.now) (Some bytes)
             → HasGiven d (Some bytes) (Some self.now.reader) given self.now
@@ -126,7 +126,7 @@ impl Mark {
         }
     }
 
-    // The same over the bytes of a slice behind the mark.
+    // The reader that goes on over the bytes of a slice behind the mark.
     #[tactic(auto, unfolding(crate::specs::pieces::Mark::marked_left, crate::specs::pieces::PixelReader::pixels_left))]
     fn goes_on<'a>(&self, file: &'a [u8]) -> Result<PixelReader<Bytes<'a>>>
         ensures same { self.now.at ≤ length file.entry.now

@@ -69,7 +69,7 @@ impl Pieces {
         }
     }
 
-    /// The same state.
+    /// A copy.
     pub(super) fn copied(&self) -> Pieces
         ensures { result ≡ self.now }
     {
@@ -127,7 +127,7 @@ impl Pieces {
     // Whether a piece of so many bytes is decoded in place to the last chunk that stands in memory:
     // it isn't short, and not at the end of the image.
     #[inline(always)]
-    fn is_placed(&self, size: usize) -> bool
+    fn goes_in_place(&self, size: usize) -> bool
         requires { size ≤ self.now.undecoded }
         ensures { IsTrue result
             ↔ (IN_PLACE ≤ size) × (size + RUN_ROOM ≤ self.now.undecoded) }
@@ -210,7 +210,7 @@ impl Pieces {
         self.give(out)
     }
 
-    // Gives the rest of a run and, if `out` is a piece that is decoded in place (`is_placed`), what
+    // Gives the rest of a run and, if `out` is a piece that is decoded in place (`goes_in_place`), what
     // follows it, and returns how many bytes; keeps what has no room of a run.
     #[inline(always)]
     fn piece_front<R: Chunks<N, F>, const N: usize, const F: usize>(
@@ -229,7 +229,7 @@ impl Pieces {
             (R.ahead reader.old) (R.ahead reader.new) self.old fault.new) }
         ensures none { IfOk result (λ size. size < length out.new → KeepsNothing self.new) }
     {
-        if !self.is_placed(out.len()) {
+        if !self.goes_in_place(out.len()) {
             return Ok(self.give_run::<N, F>(out));
         }
         let placed = self.piece_in_place::<R, N, F>(reader, out, fault)?;
@@ -277,7 +277,7 @@ impl Pieces {
 
     // Decodes ahead of the caller, into the bytes that are kept: chunks for `room` of them or, if at
     // most `KEPT` of the image are left, all of these and then the end marker.
-    fn decode_on<R: Chunks<N, F>, const N: usize, const F: usize>(
+    fn decode_ahead<R: Chunks<N, F>, const N: usize, const F: usize>(
         &mut self,
         reader: &mut R,
         room: usize,
@@ -359,7 +359,7 @@ impl Pieces {
             return Ok(size);
         }
         let room = kept_room(out.len(), size);
-        self.decode_on::<R, N, F>(reader, room, fault)?;
+        self.decode_ahead::<R, N, F>(reader, room, fault)?;
         Ok(size)
     }
 }

@@ -161,7 +161,7 @@ impl Place {
         }
     }
 
-    // The same in a file.
+    // The reader that goes on from this place in a file.
     fn goes_on<'a>(
         &self,
         file: &'a [u8],

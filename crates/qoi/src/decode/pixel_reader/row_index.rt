@@ -88,7 +88,7 @@ fn read_to(pixels: &mut PixelReader<Bytes<'_>>, left: usize) -> Result<()>
     Ok(())
 }
 
-// The same of a file's image.
+// `read_to` in a file's image.
 fn skip_to(pixels: &mut PixelReader<Bytes<'_>>, left: usize) -> Result<()>
     ensures file { (channels : Channels) (h : Header) (file : List ℕ)
         → ReadsFile channels h file pixels.old
@@ -230,7 +230,7 @@ impl RowIndex {
         self.rows_in(file, header.channels, first)
     }
 
-    /// The same into any channels.
+    /// `rows` into any channels.
     pub fn rows_in<'a>(
         &self,
         file: &'a [u8],

@@ -24,18 +24,18 @@ pub returns-then-given-out-clause-gives : goal.returns-then-given-out-clause-giv
 returns-then-given-out-clause-gives g c =
     let give = c.give-done.ensures in
     let front = gives_kept c.args.pieces.now c.give-done.new.self c.args.out.now c.give-done.new.out c.give-done.result c.requires.pixels give.size give.given give.state in
-    let two = gives_two c.decode_more.new.out c.in_ok-more.more front c.in_ok-more.ensures.gives c.decode_more.auto.out in
+    let two = gives_two c.ask_reader.new.out c.in_ok-more.more front c.in_ok-more.ensures.gives c.ask_reader.auto.out in
     let out = c.give-done.new.out in
     let all : c.give-done.result + c.in_ok-more.more ≡ length _ =
-    omega (arith, c.if-given-out.true, two.within, same_len_mid c.give-done.result _ out c.decode_more.new.out c.decode_more.auto.out, c.give-done.auto.out) in
+    omega (arith, c.if-given-out.true, two.within, same_len_mid c.give-done.result _ out c.ask_reader.new.out c.ask_reader.auto.out, c.give-done.auto.out) in
     subst (GivesMore _ _ _ _ _ _ _) all two
 
 pub returns-clause-gives : goal.returns-clause-gives
 returns-clause-gives g c =
     let give = c.give-done.ensures in
     let front = gives_kept c.args.pieces.now c.give-done.new.self c.args.out.now c.give-done.new.out c.give-done.result c.requires.pixels give.size give.given give.state in
-    let two = gives_two c.decode_more.new.out c.in_ok-more.more front c.in_ok-more.ensures.gives c.decode_more.auto.out in
-    let all = filled_by c.give-done.result c.in_ok-more.more c.give.result _ c.give-done.new.out c.decode_more.new.out c.give.new.out front.within c.decode_more.auto.out c.in_ok-more.ensures.gives.within
+    let two = gives_two c.ask_reader.new.out c.in_ok-more.more front c.in_ok-more.ensures.gives c.ask_reader.auto.out in
+    let all = filled_by c.give-done.result c.in_ok-more.more c.give.result _ c.give-done.new.out c.ask_reader.new.out c.give.new.out front.within c.ask_reader.auto.out c.in_ok-more.ensures.gives.within
     c.give.auto.out (omega (arith, c.give.ensures.size, c.give.auto.out)) c.in_ok-more.ensures.enough in
-    let last = gives_kept c.decode_more.new.pieces c.give.new.self _ c.give.new.out c.give.result two.pixels c.give.ensures.size c.give.ensures.given c.give.ensures.state in
+    let last = gives_kept c.ask_reader.new.pieces c.give.new.self _ c.give.new.out c.give.result two.pixels c.give.ensures.size c.give.ensures.given c.give.ensures.state in
     subst (GivesMore _ _ _ _ _ _ _) all (gives_two c.give.new.out c.give.result two last c.give.auto.out)

@@ -6,5 +6,5 @@ pub returns-clause-gives : goal.returns-clause-gives
 returns-clause-gives g c =
     gives_two c.give_run-2.new.out c.give_run-2.result c.in_ok-placed.ensures.gives (c.give_run-2.ensures.gives _) c.give_run-2.auto.out
 
-pub returns-then-not-is_placed-clause-gives : goal.returns-then-not-is_placed-clause-gives
-returns-then-not-is_placed-clause-gives g c = c.give_run.ensures.gives _
+pub returns-then-not-goes_in_place-clause-gives : goal.returns-then-not-goes_in_place-clause-gives
+returns-then-not-goes_in_place-clause-gives g c = c.give_run.ensures.gives _

@@ -9,7 +9,7 @@ use Rattle.qoi.proofs.format.WholePixels.{whole_pixels}
 use Rattle.qoi.proofs.decoding.Progress.{none_written}
 use Rattle.qoi.proofs.decoding.GivenMore.{gives_none}
 use Rattle.qoi.proofs.decoding.PieceSteps.{Lent, lent, kept_read, rest_count, rest_read, rest_whole, minus_whole}
-use Rattle.qoi.proofs.decode.pixel_reader.pieces.Pieces.decode_on.Goals as goal
+use Rattle.qoi.proofs.decode.pixel_reader.pieces.Pieces.decode_ahead.Goals as goal
 
 -- the front of all room is lent
 room_lent : {f c n : ℕ} {start old : Option (List ℕ)} {given : List ℕ} (p : Pieces) (room : ℕ) → IsChannels c → GivesPieces f c n start old given p

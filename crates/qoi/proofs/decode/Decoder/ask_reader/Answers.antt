@@ -4,7 +4,7 @@ use Rattle.qoi.proofs.Results.{if_ok_of, on_err_of}
 use Rattle.qoi.specs.Qoi.{channels_number}
 use Rattle.qoi.specs.pieces.ReaderPieces.{KeepsPixels}
 use Rattle.qoi.proofs.decoding.GivenMore.{gives_as, refuses_as}
-use Rattle.qoi.proofs.decode.Decoder.decode_more.Goals as goal
+use Rattle.qoi.proofs.decode.Decoder.ask_reader.Goals as goal
 
 pub decode_piece-requires-clause-pixels : goal.decode_piece-requires-clause-pixels
 decode_piece-requires-clause-pixels g c =
