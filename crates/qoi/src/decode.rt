@@ -43,6 +43,11 @@ use std::marker::Model;
 /// Refusals, in this order: `UnexpectedBufferEnd` if there are fewer than fourteen bytes,
 /// `InvalidChannels`, `InvalidColorSpace`, `InvalidMagic`, `InvalidImageDimensions` (QOI
 /// specification 1.0, "QOI Header").
+///
+/// ```
+/// let header = decode_header(file)?;
+/// let memory = header.n_bytes();
+/// ```
 pub fn decode_header(data: &[u8]) -> Result<Header>
     ensures { result ≡ header_of «data».now }
 {
@@ -54,6 +59,12 @@ pub fn decode_header(data: &[u8]) -> Result<Header>
 /// The refusals are those of `Decoder::new` and then of its `decode_to_buf`. After a refusal of the
 /// chunks or the end marker the first bytes of the buffer, as many as the image has, may be
 /// overwritten; later bytes are as before.
+///
+/// ```
+/// let mut buf = [0; 1024];
+/// let header = decode_to_buf(&mut buf, file)?;
+/// let raw = &buf[..header.n_bytes()];
+/// ```
 pub fn decode_to_buf(buf: &mut [u8], data: &[u8]) -> Result<Header>
     // A success: the image of the file at the front of the bytes stands in the front of the buffer,
     // which has at least the header's `n_bytes` (`capped_byte_count`; of a valid header that is
@@ -85,6 +96,10 @@ pub fn decode_to_buf(buf: &mut [u8], data: &[u8]) -> Result<Header>
 /// The refusals are those of `Decoder::new` and then of its `decode_to_vec`: those of the header,
 /// `OutOfMemory`, and those of the chunks and the end marker. The vector has the header's
 /// `n_bytes`, which are at most 248 for each byte of the slice.
+///
+/// ```
+/// let (header, raw) = decode_to_vec(alloc, file)?;
+/// ```
 pub fn decode_to_vec(alloc: Global, data: &[u8]) -> Result<(Header, Vec<u8>)>
     // A success: header and image of the file at the front of the bytes.
     ensures decoded { IfOk result (λ x. HasDecodedFile «data».now x.0 x.1.items) }
@@ -111,6 +126,12 @@ pub fn decode_to_vec(alloc: Global, data: &[u8]) -> Result<(Header, Vec<u8>)>
 /// the next file make another decoder, from `data` or from the reader.
 ///
 /// A contract sees the reader, the header, and the channels of the output.
+///
+/// ```
+/// let mut decoder = Decoder::new(bytes)?.with_channels(Channels::Rgba);
+/// let raw = decoder.decode_to_vec(alloc)?;
+/// let mut next = Decoder::new(decoder.into_data())?; // the file that follows
+/// ```
 #[derive(Drop)]
 pub struct Decoder<R> {
     reader: R,

@@ -126,6 +126,10 @@ fn channels_found(data: &[u8], header: &Header) -> Result<Channels>
 ///
 /// `width` and `height` are in pixels. An image of one pixel that needs the longest chunk (RGB, or
 /// RGBA in four channels) takes as many.
+///
+/// ```
+/// let most = encode_max_len(2, 2, 3); // 14 + 2 * 2 * (3 + 1) + 8
+/// ```
 pub fn encode_max_len(width: u32, height: u32, channels: u8) -> usize
     ensures { result ≡ max_len width height channels }
 {
@@ -136,6 +140,12 @@ pub fn encode_max_len(width: u32, height: u32, channels: u8) -> usize
 /// `Reference`, and returns how many bytes the file has. `width` and `height` are in pixels.
 ///
 /// The refusals are those of `Encoder::new` and then of its `encode_to_buf`.
+///
+/// ```
+/// let mut buf = [0; 38]; // encode_max_len(2, 2, 3)
+/// let size = encode_to_buf(&mut buf, &[7; 12], 2, 2)?;
+/// let file = &buf[..size];
+/// ```
 pub fn encode_to_buf(buf: &mut [u8], data: &[u8], width: u32, height: u32) -> Result<usize>
     // A success: the file stands in the front of the buffer, and later bytes stay.
     ensures encoded { IfOk result (λ n. (h : Header) × (image_header «data».now width height ≡ Ok h)
@@ -158,6 +168,10 @@ pub fn encode_to_buf(buf: &mut [u8], data: &[u8], width: u32, height: u32) -> Re
 /// style `Reference`. `width` and `height` are in pixels.
 ///
 /// The refusals are those of `Encoder::new` and then of its `encode_to_vec`.
+///
+/// ```
+/// let file = encode_to_vec(alloc, &[7; 12], 2, 2)?; // four pixels of three channels
+/// ```
 pub fn encode_to_vec(alloc: Global, data: &[u8], width: u32, height: u32) -> Result<Vec<u8>>
     // A success: the vector is the file.
     ensures encoded { IfOk result (λ v. IsFileFor «data».now width height v.items) }
@@ -181,6 +195,13 @@ pub fn encode_to_vec(alloc: Global, data: &[u8], width: u32, height: u32) -> Res
 /// 1.0, "File Format", "Data" and "Chunks").
 ///
 /// A contract sees the raw bytes, the header that the file gets, and the style.
+///
+/// ```
+/// let encoder = Encoder::new(&raw, 640, 480)?
+///     .with_colorspace(ColorSpace::Linear)
+///     .with_style(Style::Tight);
+/// let size = encoder.encode_to_stream(&mut writer)?;
+/// ```
 #[derive(Drop)]
 pub struct Encoder<'a> {
     data: &'a [u8],

@@ -4,6 +4,13 @@ use std::alloc::{AllocError, AllocFailed};
 use std::{fmt, io};
 
 /// Why a call refused.
+///
+/// ```
+/// match Decoder::new(bytes) {
+///     Err(Error::InvalidMagic { .. }) => Ok(None), // no QOI file
+///     decoder => Ok(Some(decoder?)),
+/// }
+/// ```
 #[derive(Debug, Drop)]
 pub enum Error {
     /// The first four bytes of a header aren't `qoif`; `magic` is their value, highest byte first.

@@ -12,6 +12,11 @@ use std::simd::prelude::*;
 /// Header").
 ///
 /// In a file's header, width times height is from 1 to 400,000,000; `try_new` checks that.
+///
+/// ```
+/// let header = Header::try_new(640, 480, Channels::Rgba, ColorSpace::Srgb)?;
+/// let (pixels, bytes) = (header.n_pixels(), header.n_bytes()); // 307200, 1228800
+/// ```
 #[derive(Clone, Copy, PartialEq, Eq, Hash, Debug)]
 pub struct Header {
     /// Width in pixels.

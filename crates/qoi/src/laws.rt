@@ -1,4 +1,6 @@
-//! Laws over the definitions.
+//! Laws over the definitions: empty functions, to be called for what their contracts state. `reading`
+//! and `rectangles` are for callers; `examples`, `surface` and `writing` show that the definitions
+//! are right.
 
 pub mod examples;
 pub mod reading;

@@ -11,11 +11,12 @@
 //! - [`Encoder`] also takes a color space and a style, and writes to a `std::io::Write`.
 //! - [`Decoder`] also decodes into three or four channels, reads from a `std::io::BufRead` or,
 //!   more slowly, a `std::io::Read`, and gives what follows a file. [`Reader`] is the bound for all
-//!   that it reads from.
+//!   that it reads from: [`Bytes`] of a slice, [`Buffered`], any `Read`.
 //! - [`PixelReader`], of `Decoder::into_pixels`, and [`PixelWriter`] decode and encode images that
 //!   needn't fit into memory, piece by piece.
 //! - [`RowIndex`] reads the image of a file in memory from any row on; a [`Mark`] is one place in it,
 //!   from which a `PixelReader` goes on as often as you like.
+//! - A function of [`laws`] does nothing: its contract states a fact, for a caller's proof.
 //! - [`decode_header`] looks at the first fourteen bytes alone; [`encode_max_len`] is the most
 //!   bytes that an encoded image can have.
 //!
@@ -44,7 +45,6 @@ mod decode;
 mod encode;
 mod error;
 mod header;
-#[doc(hidden)]
 pub mod laws;
 mod packed;
 #[doc(hidden)]
@@ -55,7 +55,8 @@ mod utils;
 mod writers;
 
 pub use crate::decode::{
-    Decoder, Mark, PixelReader, Reader, RowIndex, decode_header, decode_to_buf, decode_to_vec,
+    Buffered, Bytes, Decoder, Mark, PixelReader, Reader, RowIndex, decode_header, decode_to_buf,
+    decode_to_vec,
 };
 pub use crate::encode::{Encoder, PixelWriter, encode_max_len, encode_to_buf, encode_to_vec};
 pub use crate::error::{Error, Result};

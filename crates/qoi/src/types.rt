@@ -6,6 +6,10 @@ use crate::error::Error;
 /// How the color channels are to be read (QOI specification 1.0, "QOI Header").
 ///
 /// The color space is informative: it stands in the header and changes no chunk.
+///
+/// ```
+/// let number = ColorSpace::Linear.as_u8(); // 1
+/// ```
 #[derive(Clone, Copy, PartialEq, Eq, PartialOrd, Ord, Hash, Debug)]
 pub enum ColorSpace {
     /// sRGB with linear alpha.
@@ -81,6 +85,10 @@ impl TryFrom<u8> for ColorSpace {
 /// How many channels of 8 bits a pixel has (QOI specification 1.0, "QOI Header").
 ///
 /// The number of channels is informative: it stands in the header and changes no chunk.
+///
+/// ```
+/// let channels = Channels::try_from(4)?; // Channels::Rgba
+/// ```
 #[derive(Clone, Copy, PartialEq, Eq, PartialOrd, Ord, Hash, Debug)]
 pub enum Channels {
     /// Three channels: red, green and blue.
@@ -155,6 +163,10 @@ impl TryFrom<u8> for Channels {
 
 /// Which chunks an encoder writes, of all that mean the image (QOI specification 1.0, "Chunks"). By
 /// the specification, and by this crate's decoder, the pixels are the same in each style.
+///
+/// ```
+/// let encoder = Encoder::new(&raw, width, height)?.with_style(Style::Places);
+/// ```
 #[derive(Clone, Copy, PartialEq, Eq, Debug)]
 pub enum Style {
     /// Repeats by runs; each other pixel by its index position if that holds it, else by the first

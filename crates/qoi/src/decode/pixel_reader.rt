@@ -30,6 +30,14 @@ use std::marker::Model;
 ///
 /// A contract sees the reader, the header, the channels of the output, what stands between two
 /// pieces, and whether the image was refused.
+///
+/// ```
+/// let mut pixels = Decoder::from_buf_read(reader)?.into_pixels();
+/// while pixels.left() > 0 {
+///     let count = pixels.read(&mut row)?;
+///     writer.write_all(&row[..count])?;
+/// }
+/// ```
 #[derive(Drop)]
 pub struct PixelReader<R> {
     decoder: Decoder<R>,

@@ -49,6 +49,12 @@ fn both_channels(channels: u8, file_channels: u8) -> Option<(Channels, Channels)
 
 /// Where a decoder takes its bytes from: `Bytes`, any `R: Read`, or a `Buffered` reader. No other type
 /// can be one.
+///
+/// ```
+/// fn has_alpha<R: Reader>(decoder: &Decoder<R>) -> bool {
+///     decoder.header().channels.is_rgba()
+/// }
+/// ```
 pub trait Reader: Sized {
     /// The bytes that stand ahead, if the reader's contract states them.
     ghost ahead: { Self → Option (List ℕ) };

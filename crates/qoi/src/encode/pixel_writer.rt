@@ -28,6 +28,15 @@ use std::marker::Model;
 /// A contract sees the writer, header and style of the file, how many raw bytes haven't come,
 /// whether the writer reported a fault, the raw bytes that are held, and what stands between two
 /// blocks.
+///
+/// ```
+/// let header = Header::try_new(640, 480, Channels::Rgb, ColorSpace::Srgb)?;
+/// let mut pixels = PixelWriter::new(alloc, header, Style::Reference, writer)?;
+/// while pixels.left() > 0 {
+///     pixels.write(&next_row())?;
+/// }
+/// let writer = pixels.finish()?;
+/// ```
 #[derive(Drop)]
 pub struct PixelWriter<W> {
     writer: W,

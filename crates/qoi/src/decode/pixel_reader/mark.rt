@@ -22,6 +22,12 @@ use std::marker::Model;
 ///
 /// A contract sees how many bytes of the slice stand before the place, and the reader's state but
 /// for what is ahead.
+///
+/// ```
+/// let mark = pixels.mark(file);
+/// let mut once = mark.resume(file)?;
+/// let mut again = mark.resume(file)?;
+/// ```
 #[derive(Drop)]
 pub struct Mark {
     at: usize,

@@ -33,6 +33,12 @@ const SKIPPED: usize = 16384;
 /// 288 * ((`height` - 1) / `every`) bytes.
 ///
 /// A contract sees the places.
+///
+/// ```
+/// let index = RowIndex::new(alloc, file, 64)?;
+/// let mut pixels = index.rows(file, 4000)?; // behind 4000 rows
+/// let count = pixels.read(&mut row)?;
+/// ```
 #[derive(Drop)]
 pub struct RowIndex {
     every: u32,

@@ -8,8 +8,7 @@ ghost use Rattle.qoi.specs.pieces.PixelReader.{pixels_left, HasRows};
 
 use crate::tests::fakes::{ONE_RGB_PIXEL, PIXEL};
 use crate::tests::library::support::{assert_both, assert_bytes};
-use qoi::parts::Bytes;
-use qoi::{Decoder, Error, Mark, PixelReader, Reader, encode_to_vec};
+use qoi::{Bytes, Decoder, Error, Mark, PixelReader, Reader, encode_to_vec};
 use std::alloc::Global;
 
 /// Reads what is left of an image, of which k rows were read.

@@ -5,8 +5,7 @@ use crate::tests::fakes::take_memory;
 use crate::tests::library::support::generator::Numbers;
 use crate::tests::library::support::images::{Image, row};
 use crate::tests::library::support::{assert_bytes, assert_refused, made};
-use qoi::parts::Bytes;
-use qoi::{Channels, Header, PixelReader, RowIndex, Style, decode_to_vec};
+use qoi::{Bytes, Channels, Header, PixelReader, RowIndex, Style, decode_to_vec};
 use std::alloc::Global;
 use std::process::Abort;
 

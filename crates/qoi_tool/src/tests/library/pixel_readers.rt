@@ -8,8 +8,7 @@ use crate::tests::library::support::images::{Image, row};
 use crate::tests::library::support::{
     assert_bytes, assert_fails, assert_number, assert_refused, made,
 };
-use qoi::parts::Bytes;
-use qoi::{Channels, Decoder, Error, PixelReader, Reader, Result, Style};
+use qoi::{Bytes, Channels, Decoder, Error, PixelReader, Reader, Result, Style};
 use std::alloc::Global;
 use std::io::ErrorKind;
 use std::process::Abort;

@@ -4,8 +4,7 @@ ghost use Rattle.qoi.specs.Raw.{IsChannels};
 
 use crate::tests::fakes::{ONE_RGB_PIXEL, PIXEL};
 use crate::tests::library::support::{assert_bytes, assert_header};
-use qoi::parts::{Buffered, Bytes};
-use qoi::{Error, Header, Reader, Result};
+use qoi::{Buffered, Bytes, Error, Header, Reader, Result};
 use std::process::Abort;
 
 // Reads an image, by the trait alone.

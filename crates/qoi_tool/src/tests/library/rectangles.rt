@@ -10,8 +10,7 @@ ghost use Rattle.qoi.specs.Rectangles.{row_bytes, rectangle, KeepsOutside};
 
 use crate::tests::library::support::assert_bytes;
 use qoi::laws::rectangles::{rows_are_put, rows_that_come};
-use qoi::parts::Bytes;
-use qoi::{Decoder, Error, Header, PixelReader, Reader, encode_to_vec};
+use qoi::{Bytes, Decoder, Error, Header, PixelReader, Reader, encode_to_vec};
 use std::alloc::Global;
 
 /// Of each of `rows` rows, from row `top` on, the `size` bytes from byte `left` on.

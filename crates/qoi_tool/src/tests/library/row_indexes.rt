@@ -11,8 +11,7 @@ ghost use Rattle.qoi.specs.pieces.RowIndex.{file_decoder, row_size, IsRowIndex};
 use crate::tests::library::rectangles::{Area, keep, next_row, paste, stride_of};
 use crate::tests::library::support::assert_bytes;
 use qoi::laws::rectangles::{rectangles_are_parts, rows_are_put};
-use qoi::parts::Bytes;
-use qoi::{Error, Header, PixelReader, RowIndex, decode_header, encode_to_vec};
+use qoi::{Bytes, Error, Header, PixelReader, RowIndex, decode_header, encode_to_vec};
 use std::alloc::Global;
 
 // A tile cut out of the image of a file, whose rows above the tile were read.

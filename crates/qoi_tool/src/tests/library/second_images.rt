@@ -6,8 +6,7 @@ use crate::tests::library::support::{
     assert_bytes, assert_decoded, assert_fails, assert_given, assert_header, assert_number,
     assert_refused, made,
 };
-use qoi::parts::Bytes;
-use qoi::{Decoder, Header};
+use qoi::{Bytes, Decoder, Header};
 use std::io::{Cursor, ErrorKind};
 use std::process::Abort;
 

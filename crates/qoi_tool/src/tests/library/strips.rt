@@ -11,8 +11,7 @@ ghost use Rattle.qoi.specs.Rectangles.{rectangle};
 
 use crate::tests::library::support::assert_given;
 use qoi::laws::rectangles::rectangles_are_parts;
-use qoi::parts::Bytes;
-use qoi::{Decoder, Error, PixelReader, Result, encode_to_vec};
+use qoi::{Bytes, Decoder, Error, PixelReader, Result, encode_to_vec};
 use std::alloc::Global;
 
 /// Reads the next rows, as many as the strip has, and keeps them.

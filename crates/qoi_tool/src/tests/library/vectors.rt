@@ -9,8 +9,7 @@ use crate::tests::library::support::images::row;
 use crate::tests::library::support::{
     assert_bytes, assert_fails, assert_given, assert_header, assert_number, assert_refused, made,
 };
-use qoi::parts::{Buffered, Bytes};
-use qoi::{Channels, Decoder, Header, Reader, Result, Style, encode_to_vec};
+use qoi::{Buffered, Bytes, Channels, Decoder, Header, Reader, Result, Style, encode_to_vec};
 use std::alloc::Global;
 use std::io::ErrorKind;
 use std::process::Abort;

@@ -3,8 +3,7 @@
 use crate::tests::fakes::{Bad, Sink};
 use crate::tests::library::support::generator::{Numbers, Rgba, drawn};
 use crate::tests::library::support::images::{Image, file_of, raw_of, seen_raw};
-use qoi::parts::{Buffered, Bytes};
-use qoi::{Channels, Decoder, Encoder, Header, Reader, Style};
+use qoi::{Buffered, Bytes, Channels, Decoder, Encoder, Header, Reader, Style};
 use std::alloc::Global;
 use std::io::{BufRead, BufReader, Read};
 use std::process::Abort;
