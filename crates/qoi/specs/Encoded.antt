@@ -42,16 +42,16 @@ with_number h (Err e) = Err e
 with_number h (Ok channels) = Ok (record h { channels = channels })
 
 -- the header with the channels that the raw bytes have, or its first refusal
-abbrev pub measured : List ℕ → Result Header Error → Result Header Error
-measured raw (Err e) = Err e
-measured raw (Ok h) =
+abbrev pub measured_header : List ℕ → Result Header Error → Result Header Error
+measured_header raw (Err e) = Err e
+measured_header raw (Ok h) =
     if length raw % pixel_count h == 0 then with_number h (channels_of (min (length raw / pixel_count h) 255))
     else Err (InvalidImageLength (length raw) h.width h.height)
 
 -- The header of an image of raw bytes, or the first refusal: the dimensions, the length, the number
 -- of channels, given as 255 if it is greater.
 abbrev pub image_header : List ℕ → ℕ → ℕ → Result Header Error
-image_header raw width height = measured raw (tried_header width height Rgb Srgb)
+image_header raw width height = measured_header raw (tried_header width height Rgb Srgb)
 
 -- the pixels of an image's raw bytes
 abbrev pub image_pixels : Header → List ℕ → List RgbaPixel

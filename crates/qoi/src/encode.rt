@@ -9,7 +9,7 @@ ghost use Rattle.qoi.specs.declared.types.Style.{Style};
 ghost use Rattle.qoi.specs.declared.types.Style.TheVariants.{Reference, Places, Tight};
 ghost use Rattle.qoi.specs.Qoi.{IsValid, pixels_max};
 ghost use Rattle.qoi.specs.Raw.{image_byte_count};
-ghost use Rattle.qoi.specs.Encoded.{max_len, max_file_len, image_header, measured, with_number, IsFileOf};
+ghost use Rattle.qoi.specs.Encoded.{max_len, max_file_len, image_header, measured_header, with_number, IsFileOf};
 ghost use Rattle.qoi.specs.Errors.{IsIoError};
 ghost use Rattle.qoi.specs.EncoderState.{free_encoder};
 ghost use Rattle.qoi.specs.Sent.{IsFileFor, MakesFile, PutsFile, SendsFile, SendsPart};
@@ -100,7 +100,7 @@ fn encode_to_memory<W: Writer>(
 // The channels that an image of this size has in these raw bytes. Only a refusal takes a division.
 fn channels_found(data: &[u8], header: &Header) -> Result<Channels>
     requires { IsValid header.now }
-    ensures { with_number header.now result ≡ measured «data».now (Ok header.now) }
+    ensures { with_number header.now result ≡ measured_header «data».now (Ok header.now) }
 {
     let size = data.len();
     let n_pixels = header.n_pixels();

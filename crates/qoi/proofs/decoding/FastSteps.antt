@@ -8,7 +8,7 @@ use mir.Val.{bool_byte}
 use Rattle.qoi.specs.declared.decode.fast.Progress.{Progress}
 use Rattle.qoi.specs.Qoi.{Past}
 use Rattle.qoi.specs.Raw.{IsChannels}
-use Rattle.qoi.specs.inner.Filling.{upto, filling, further, HasWritten, HasFilled, HasAhead, DecodesChunk, DecoderBetween, IsFrontAfter, Fast, fast, FastStep, FastChunks, IsPlainSize}
+use Rattle.qoi.specs.inner.Filling.{upto, filling, taken_further, HasWritten, HasFilled, HasAhead, DecodesChunk, DecoderBetween, IsFrontAfter, Fast, fast, FastStep, FastChunks, IsPlainSize}
 use Rattle.qoi.specs.inner.Hashed.{pixel_of_lanes, HoldsSeen}
 use Rattle.qoi.proofs.format.WholePixels.{by_channels}
 use Rattle.qoi.proofs.decoding.FilledBuffer.{filled_copies}
@@ -152,7 +152,7 @@ step_within step taken written = record {
 }
 
 -- none of the bytes that are taken is left out at first
-pub step_at_first : {f c i r k t : ℕ} {bytes table out : List ℕ} {new : Fast} (p : Progress) → FastStep f c i r bytes (fast (further 0 p) table out) new → i ≤ k → r ≤ t
+pub step_at_first : {f c i r k t : ℕ} {bytes table out : List ℕ} {new : Fast} (p : Progress) → FastStep f c i r bytes (fast (taken_further 0 p) table out) new → i ≤ k → r ≤ t
     → FastStep f c k t bytes (fast p table out) new
 step_at_first {f} {c} {i} {r} {k} {t} {bytes} {table} {out} {new} p step taken written =
     let to : (n : ℕ) → Progress = λ n. record { last = p.last; taken = n; at = p.at; next = p.next } in

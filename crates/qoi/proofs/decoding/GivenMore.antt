@@ -4,7 +4,7 @@ use Rattle.std.proofs.lemmas.List.{length-take-le, take_at}
 use borrow.Rule.Slice.PartMut.{put_mid, mid_of, mid_len, same_len_mid}
 use Rattle.qoi.specs.declared.error.Error.{Error}
 use Rattle.qoi.specs.declared.decode.pixel_reader.pieces.Pieces.{Pieces}
-use Rattle.qoi.specs.pieces.ReaderPieces.{kept, bytes_left, KeepsPixels, GivesPieces, GivesMore, RefusesMore}
+use Rattle.qoi.specs.pieces.ReaderPieces.{kept_raw, bytes_left, KeepsPixels, GivesPieces, GivesMore, RefusesMore}
 use Rattle.qoi.proofs.decoding.PieceSteps.{gives, kept_long, read_two}
 use Rattle.qoi.proofs.decoding.PixelPieces.{three_of_four, four_as_three}
 
@@ -91,12 +91,12 @@ gives_after_none {f} {c} {ahead} {middle} {rest} {old} {between} {new} {out} {si
 
 -- kept bytes are given
 pub gives_kept : {f c : ℕ} {ahead : Option (List ℕ)} (p new : Pieces) (old out : List ℕ) (k : ℕ) → KeepsPixels c p → k ≡ min (length old) (p.to - p.from)
-    → out ≡ take k (kept p) ++ drop k old → new ≡ record p { from = p.from + k } → GivesMore f c ahead ahead p new out k
+    → out ≡ take k (kept_raw p) ++ drop k old → new ≡ record p { from = p.from + k } → GivesMore f c ahead ahead p new out k
 gives_kept {f} {c} {ahead} p new old out k pixels few out_is is =
     let within = pixels.0 in
     let then : Pieces = record p { from = p.from + k } in
-    let front = take k (kept p) in
-    let size : length front ≡ k = length-take-le k (kept p) (omega (arith, few, kept_long p within)) in
+    let front = take k (kept_raw p) in
+    let size : length front ≡ k = length-take-le k (kept_raw p) (omega (arith, few, kept_long p within)) in
     let same : take k out ≡ front = ap (take k) out_is ∙ take_at front (drop k old) k size in
     subst (λ q. GivesMore f c ahead ahead p q out k) (sym is) (record {
       read = λ n start given h. subst (λ z. GivesPieces f c n start ahead (given ++ z) then) (sym same) (gives p then k refl (omega (arith, few)) within h);

@@ -12,7 +12,7 @@ use Rattle.qoi.specs.Qoi.{Past, chunk_bytes, then_chunks, meaning, channels_numb
 use Rattle.qoi.specs.Raw.{IsChannels, pixel_bytes, output}
 use Rattle.qoi.specs.Images.{front_image}
 use Rattle.qoi.specs.DecoderState.{TakesAtMost}
-use Rattle.qoi.specs.pieces.ReaderPieces.{kept, AreWhole, GivesPieces}
+use Rattle.qoi.specs.pieces.ReaderPieces.{kept_raw, AreWhole, GivesPieces}
 use Rattle.qoi.proofs.format.ChunkSteps.{given as pixels_after, then_chunks_given, then_chunks-append}
 use Rattle.qoi.proofs.decoding.Ahead.{image_read}
 use Rattle.qoi.proofs.decoding.FrontImage.{image_begins, image_is}
@@ -33,7 +33,7 @@ pieces_within f c n start now given p is h whole =
           let so_far = still_goes p is h whole some in
           let stands = so_far.stands in
           (chunk_bytes stands.cs, stands.taken, omega (arith, bytes_within [] stands.cs stands.chunks, ap length stands.pixels, so_far.fewer))
-      | inr none ↦ read_within f c n start now (given ++ kept p) (h.ends (omega (arith, none)))
+      | inr none ↦ read_within f c n start now (given ++ kept_raw p) (h.ends (omega (arith, none)))
     ]
 
 -- the image's pixels are those that are gone and others
@@ -54,8 +54,8 @@ front_given channels h None now given p s whole = tt
 front_given channels h (Some bytes) now given p s whole =
     elim (cases_lt 0 p.undecoded) [
       | inl some ↦ going now given p s whole some
-      | inr none ↦ let read = image_read channels h bytes now (given ++ kept p) (s.ends (omega (arith, none))) in
-          seam given (kept p) _ (sym (image_is channels h bytes read.0 (given ++ kept p) read.2))
+      | inr none ↦ let read = image_read channels h bytes now (given ++ kept_raw p) (s.ends (omega (arith, none))) in
+          seam given (kept_raw p) _ (sym (image_is channels h bytes read.0 (given ++ kept_raw p) read.2))
     ]
   where
     going : (now : Option (List ℕ)) (given : List ℕ) (p : Pieces) → GivesPieces (channels_number h.channels) (channels_number channels) (pixel_count h) (Some bytes) now given p

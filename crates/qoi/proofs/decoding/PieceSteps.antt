@@ -16,7 +16,7 @@ use Rattle.qoi.specs.Decoding.{TakesImagePixels, ReadsImage}
 use Rattle.qoi.specs.inner.Filling.{HasSeen, HasWritten, IsFillable, upto, filling, DecoderBetween}
 use Rattle.qoi.specs.inner.Hashed.{pixel_of_lanes}
 use Rattle.qoi.specs.pieces.InPlace.{TakesPiece, IsInPlace}
-use Rattle.qoi.specs.pieces.ReaderPieces.{kept, bytes_left, copies, KeepsWithin, KeepsNothing, AreWhole, DecoderAfter, GivesPieces}
+use Rattle.qoi.specs.pieces.ReaderPieces.{kept_raw, bytes_left, copies, KeepsWithin, KeepsNothing, AreWhole, DecoderAfter, GivesPieces}
 use Rattle.qoi.proofs.format.ChunkSteps.{times_some, reverse-replicate}
 use Rattle.qoi.proofs.format.WholePixels.{by_channels, whole_pixels, length-output, take_whole}
 use Rattle.qoi.proofs.decoding.Progress.{fewer, none_written, fillable_whole}
@@ -84,7 +84,7 @@ output_copies f c k p past =
     ∙ flat_map-append (pixel_bytes f c) (reverse past) (replicate k p)
 
 -- with nothing kept, what was given are the pixels that are gone
-pub none_kept : (p : Pieces) (given : List ℕ) → p.from ≡ p.to → given ++ kept p ≡ given
+pub none_kept : (p : Pieces) (given : List ℕ) → p.from ≡ p.to → given ++ kept_raw p ≡ given
 none_kept p given same =
     let none : p.to - p.from ≡ 0 = omega (arith, same) in
     ap (λ k. given ++ take k (drop p.from p.bytes)) none ∙ append-nil given
@@ -371,20 +371,20 @@ rest_whole {f} {c} {n} {start} {now} {given} {p} is h same some =
 
 -- kept bytes were given
 pub gives : {f c n : ℕ} {start now : Option (List ℕ)} {given : List ℕ} (p new : Pieces) (k : ℕ) → new ≡ record p { from = p.from + k } → k ≤ p.to - p.from
-    → KeepsWithin p → GivesPieces f c n start now given p → GivesPieces f c n start now (given ++ take k (kept p)) new
+    → KeepsWithin p → GivesPieces f c n start now given p → GivesPieces f c n start now (given ++ take k (kept_raw p)) new
 gives {f} {c} {n} {start} {now} {given} p new k is few within h =
     let then : Pieces = record p { from = p.from + k } in
     let rest = drop p.from p.bytes in
     let m = p.to - (p.from + k) in
     let parts : p.to - p.from ≡ k + m = omega (arith, few) in
-    let front : take k (kept p) ≡ take k rest = take-take k (p.to - p.from) rest few in
-    let whole : take k (kept p) ++ kept then ≡ kept p =
-    ap (λ z. z ++ kept then) front ∙ ap (λ z. take k rest ++ take m z) (sym (drop-drop k p.from p.bytes))
+    let front : take k (kept_raw p) ≡ take k rest = take-take k (p.to - p.from) rest few in
+    let whole : take k (kept_raw p) ++ kept_raw then ≡ kept_raw p =
+    ap (λ z. z ++ kept_raw then) front ∙ ap (λ z. take k rest ++ take m z) (sym (drop-drop k p.from p.bytes))
     ∙ sym (take-add k m rest) ∙ ap (λ i. take i rest) (sym parts) in
-    let all : (given ++ take k (kept p)) ++ kept then ≡ given ++ kept p = append_assoc given (take k (kept p)) (kept then) ∙ ap (λ z. given ++ z) whole in
-    let long : length (take k (kept p)) ≡ k = length-take-le k (kept p) (omega (arith, few, length-take-le (p.to - p.from) rest (omega (arith, within, length-drop p.from p.bytes)))) in
-    subst (GivesPieces f c n start now (given ++ take k (kept p))) (sym is) (record {
-      size = ap (λ z. z + (m + p.undecoded)) (length-append given (take k (kept p)) ∙ ap (λ z. length given + z) long) ∙ given_size (length given) k (p.to - p.from) m p.undecoded (c * n) parts h.size;
+    let all : (given ++ take k (kept_raw p)) ++ kept_raw then ≡ given ++ kept_raw p = append_assoc given (take k (kept_raw p)) (kept_raw then) ∙ ap (λ z. given ++ z) whole in
+    let long : length (take k (kept_raw p)) ≡ k = length-take-le k (kept_raw p) (omega (arith, few, length-take-le (p.to - p.from) rest (omega (arith, within, length-drop p.from p.bytes)))) in
+    subst (GivesPieces f c n start now (given ++ take k (kept_raw p))) (sym is) (record {
+      size = ap (λ z. z + (m + p.undecoded)) (length-append given (take k (kept_raw p)) ∙ ap (λ z. length given + z) long) ∙ given_size (length given) k (p.to - p.from) m p.undecoded (c * n) parts h.size;
       goes_on = λ some. let (gone, stands, e) = h.goes_on some in (gone, stands, all ∙ e);
       ends = λ none. subst (ReadsImage f c n start now) (sym all) (h.ends none);
     })
@@ -393,7 +393,7 @@ gives {f} {c} {n} {start} {now} {given} p new k is few within h =
     given_size g k l m u t parts e = omega arith
 
 -- how many bytes are kept
-pub kept_long : (p : Pieces) → KeepsWithin p → length (kept p) ≡ p.to - p.from
+pub kept_long : (p : Pieces) → KeepsWithin p → length (kept_raw p) ≡ p.to - p.from
 kept_long p within = length-take-le (p.to - p.from) (drop p.from p.bytes) (omega (arith, within, length-drop p.from p.bytes))
 
 -- between two pieces, of an image that isn't decoded whole: the pixels of its chunks so far, and others
@@ -406,7 +406,7 @@ pub record GoesOn (f c n : ℕ) (Taken : List ℕ → Type 0) (table : List ℕ)
   pub fewer : length all < n
 
 -- no more bytes are kept
-pub kept_most : (p : Pieces) → length (kept p) ≤ p.to - p.from
+pub kept_most : (p : Pieces) → length (kept_raw p) ≤ p.to - p.from
 kept_most p = omega (arith, length-take (p.to - p.from) (drop p.from p.bytes))
 
 -- pixels are missing behind a run
@@ -421,17 +421,17 @@ still_goes {f} {c} {n} {start} {now} {given} p is h whole some =
     let k = p.run / c in
     let px = pixel_of_lanes p.last in
     let one = output f c (replicate k px) in
-    let bytes : given ++ (kept p ++ one) ≡ output f c (reverse (replicate k px ++ gone)) =
-    sym (append_assoc given (kept p) one) ∙ ap (λ z. z ++ one) e ∙ sym (output_copies f c k px gone) in
-    let size : length given + length (kept p) ≡ c * length gone =
-    sym (length-append given (kept p)) ∙ ap length e ∙ length-output f c (reverse gone) is ∙ ap (λ k. c * k) (length-reverse gone) in
+    let bytes : given ++ (kept_raw p ++ one) ≡ output f c (reverse (replicate k px ++ gone)) =
+    sym (append_assoc given (kept_raw p) one) ∙ ap (λ z. z ++ one) e ∙ sym (output_copies f c k px gone) in
+    let size : length given + length (kept_raw p) ≡ c * length gone =
+    sym (length-append given (kept_raw p)) ∙ ap length e ∙ length-output f c (reverse gone) is ∙ ap (λ k. c * k) (length-reverse gone) in
     let count : length (replicate k px ++ gone) ≡ k + length gone = length-append (replicate k px) gone ∙ ap (λ m. m + length gone) (length-replicate k px) in
     record {
       all = replicate k px ++ gone;
       stands = stands;
-      ahead = kept p ++ one;
+      ahead = kept_raw p ++ one;
       bytes_are = bytes;
-      fewer = by_channels (λ d. length given + length (kept p) ≡ d * length gone → length given + (p.to - p.from + p.undecoded) ≡ d * n → k ≡ p.run / d → length (replicate k px ++ gone) < n) is
+      fewer = by_channels (λ d. length given + length (kept_raw p) ≡ d * length gone → length given + (p.to - p.from + p.undecoded) ≡ d * n → k ≡ p.run / d → length (replicate k px ++ gone) < n) is
           (λ a b e. omega (arith, count, kept_most p, fewer)) (λ a b e. omega (arith, count, kept_most p, fewer)) size h.size refl;
     }
 

@@ -9,7 +9,7 @@ use Rattle.qoi.specs.Qoi.{RgbaPixel, previous, channels_number, pixel_count, hea
 use Rattle.qoi.specs.Raw.{IsChannels, output}
 use Rattle.qoi.specs.inner.Hashed.{pixel_of_lanes, HoldsSeen}
 use Rattle.qoi.specs.pieces.PixelReader.{PixelsState, pixels_left, HasGiven}
-use Rattle.qoi.specs.pieces.ReaderPieces.{kept, copies, DecoderAfter, GivesPieces}
+use Rattle.qoi.specs.pieces.ReaderPieces.{kept_raw, copies, DecoderAfter, GivesPieces}
 use Rattle.qoi.specs.pieces.RowIndex.{PlaceState, StandsAt, ReadsFile, IsPlaceOf, GoesOnAt, file_decoder}
 use Rattle.qoi.proofs.format.HeaderBytes.{header_front}
 use Rattle.qoi.proofs.format.WholePixels.{by_channels, whole_pixels, length-output}
@@ -39,8 +39,8 @@ place_stands channels h file p m s (is, given, r) =
     let left : m.left ≡ p.pieces.undecoded / c = s.left ∙ ap (λ k. p.pieces.undecoded / k) own in
     let whole : p.pieces.undecoded % c ≡ 0 = ap (λ k. p.pieces.undecoded % k) (sym own) ∙ s.whole in
     let some : p.pieces.undecoded ≡ c * m.left = whole_pixels c p.pieces.undecoded is_c whole ∙ ap (λ k. c * k) (sym left) in
-    let size : length (given ++ kept p.pieces) + p.pieces.undecoded ≡ c * pixel_count h =
-    omega (arith, r.pieces.size, length-append given (kept p.pieces), kept_long p.pieces s.within) in
+    let size : length (given ++ kept_raw p.pieces) + p.pieces.undecoded ≡ c * pixel_count h =
+    omega (arith, r.pieces.size, length-append given (kept_raw p.pieces), kept_long p.pieces s.within) in
     record {
       cs = stands.cs;
       rest = p.reader;
@@ -51,7 +51,7 @@ place_stands channels h file p m s (is, given, r) =
       pixels = stands.pixels ∙ ap (λ z. z ++ gone) (sym (copies_of c p.pieces.run p.pieces.last m.run m.last run s.last));
       table = s.table (then_chunks [] stands.cs) (subst (HoldsSeen p.pieces.table) (sym stands.pixels) stands.table_is);
       last = s.last ∙ stands.last_is ∙ ap previous (sym stands.pixels);
-      left = gone_count f c (pixel_count h) m.left gone (given ++ kept p.pieces) p.pieces.undecoded is_c so_far size some;
+      left = gone_count f c (pixel_count h) m.left gone (given ++ kept_raw p.pieces) p.pieces.undecoded is_c so_far size some;
     }
 
 -- the bytes of all pixels are those before the place and behind it

@@ -10,7 +10,7 @@ use Rattle.qoi.specs.declared.types.ColorSpace.TheVariants.{Srgb}
 use Rattle.qoi.specs.declared.header.Header.{Header}
 use Rattle.qoi.specs.Qoi.{channels_number, channels_of, pixel_count, pixels_max, IsValid}
 use Rattle.qoi.specs.Raw.{image_byte_count}
-use Rattle.qoi.specs.Encoded.{image_header, measured, with_number}
+use Rattle.qoi.specs.Encoded.{image_header, measured_header, with_number}
 use Rattle.qoi.proofs.format.HeaderBytes.{tried_valid}
 
 -- the channels of a header are found from their number
@@ -34,7 +34,7 @@ pub encoded_again : (h : Header) (raw : List ℕ) → IsValid h → length raw �
     → image_header raw h.width h.height ≡ Ok (record h { colorspace = Srgb })
 encoded_again h raw valid size =
     let k : Header = record h { channels = Rgb; colorspace = Srgb } in
-    ap (measured raw) (tried_valid k valid) ∙ found_by k h.channels (length raw) (pixel_count h) size (omega (arith, valid.0))
+    ap (measured_header raw) (tried_valid k valid) ∙ found_by k h.channels (length raw) (pixel_count h) size (omega (arith, valid.0))
 
 -- raw bytes of the right number get the header of their size
 pub size_accepted : (raw : List ℕ) (width height : ℕ) (channels : Channels) → 1 ≤ width * height → width * height ≤ pixels_max

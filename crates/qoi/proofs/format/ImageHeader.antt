@@ -10,7 +10,7 @@ use Rattle.qoi.specs.declared.types.ColorSpace.TheVariants.{Srgb}
 use Rattle.qoi.specs.declared.header.Header.{Header}
 use Rattle.qoi.specs.Qoi.{channels_number, channels_of, pixel_count, tried_header, IsValid}
 use Rattle.qoi.specs.Raw.{image_byte_count}
-use Rattle.qoi.specs.Encoded.{image_header, measured, with_number}
+use Rattle.qoi.specs.Encoded.{image_header, measured_header, with_number}
 use Rattle.qoi.proofs.format.HeaderBytes.{channels_from, guard_true, tried_says}
 
 -- a number of channels, of which greater ones are given as 255, is found from itself alone
@@ -27,7 +27,7 @@ found k h (Ok c) e = (c, refl, cc)
 found k h (Err x) e = absurd cc
 
 -- raw bytes that are measured by a valid header
-measured_says : (raw : List ℕ) (r : Result Header Error) (h : Header) → ((k : Header) → r ≡ Ok k → IsValid k) → measured raw r ≡ Ok h
+measured_says : (raw : List ℕ) (r : Result Header Error) (h : Header) → ((k : Header) → r ≡ Ok k → IsValid k) → measured_header raw r ≡ Ok h
     → IsValid h × (length raw ≡ image_byte_count h)
 measured_says raw (Err x) h valid e = absurd cc
 measured_says raw (Ok k) h valid e =

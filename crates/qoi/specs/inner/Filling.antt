@@ -94,8 +94,8 @@ abbrev pub TakesFront : ℕ → ℕ → List ℕ → ℕ → Filling → Filling
 TakesFront f c bytes size old new = TakesOn f c bytes 0 size old new
 
 -- the same, with `count` bytes more taken
-abbrev pub further : ℕ → Progress → Progress
-further count p = record { last = p.last; taken = p.taken + count; at = p.at; next = p.next }
+abbrev pub taken_further : ℕ → Progress → Progress
+taken_further count p = record { last = p.last; taken = p.taken + count; at = p.at; next = p.next }
 
 -- `DecoderBetween` for the fast loop over these bytes, which also has the byte that comes next
 pub record FastBetween (file_channels channels : ℕ) (gone : Past) (n : ℕ) (before bytes : List ℕ) (now : Progress) (table out : List ℕ) : Type 0 where

@@ -21,8 +21,8 @@ TakesInPlace f c ahead rest old table out now = (gone : Past) (n : ℕ) (start :
     → TakesPiece f c gone (Consumes start rest) table out now
 
 -- after chunks that end before the output does, nothing is left of a run
-abbrev pub stopped : Decoded → InPlace
-stopped now = record { last = now.last; taken = now.taken; at = now.at; run = 0 }
+abbrev pub in_place_at : Decoded → InPlace
+in_place_at now = record { last = now.last; taken = now.taken; at = now.at; run = 0 }
 
 -- whole pixels lie in an output of so many bytes, and what is left of a run are whole pixels
 pub record IsInPlace (channels size : ℕ) (p : InPlace) : Type 0 where

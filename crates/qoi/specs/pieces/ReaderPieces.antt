@@ -10,9 +10,9 @@ use Rattle.qoi.specs.Decoding.{ReadsImage}
 use Rattle.qoi.specs.inner.Chunks.{RefusesChunks, HasFault}
 use Rattle.qoi.specs.inner.Hashed.{pixel_of_lanes, HoldsSeen}
 
--- the bytes that are decoded and aren't given yet
-abbrev pub kept : Pieces → List ℕ
-kept p = take (p.to - p.from) (drop p.from p.bytes)
+-- the raw bytes that are decoded and aren't given yet
+abbrev pub kept_raw : Pieces → List ℕ
+kept_raw p = take (p.to - p.from) (drop p.from p.bytes)
 
 -- how many there are
 abbrev pub kept_count : Pieces → ℕ
@@ -62,9 +62,9 @@ pub record GivesPieces (file_channels channels n : ℕ) (start now : Option (Lis
   pub size : length given + bytes_left p ≡ channels * n
   -- pixels are missing, and all bytes of those so far were given or are kept, but for those of a run
   pub goes_on : 0 < p.undecoded → (gone : Past) × DecoderAfter (Consumes start now) p.table p.last (copies channels p.run p.last ++ gone)
-      × (given ++ kept p ≡ output file_channels channels (reverse gone))
+      × (given ++ kept_raw p ≡ output file_channels channels (reverse gone))
   -- or the image and the end marker were read
-  pub ends : p.undecoded ≡ 0 → ReadsImage file_channels channels n start now (given ++ kept p)
+  pub ends : p.undecoded ≡ 0 → ReadsImage file_channels channels n start now (given ++ kept_raw p)
 
 -- A step over the pieces of an image gave the first `size` bytes of `out`: of each image they follow those
 -- that were given before.

@@ -59,13 +59,13 @@ fn leaves_room<const N: usize>(b1: u8, room: usize) -> bool
 }
 
 impl Progress {
-    ghost use Rattle.qoi.specs.inner.Filling.{upto, further, HasWritten, IsRow, HasAhead, fast, FastStep, FastChunks};
+    ghost use Rattle.qoi.specs.inner.Filling.{upto, taken_further, HasWritten, IsRow, HasAhead, fast, FastStep, FastChunks};
 
     // `count` bytes more are taken.
     #[inline(always)]
-    fn further(self, count: usize) -> Progress
+    fn taken_further(self, count: usize) -> Progress
         requires { self.taken + count < 2 ^ 64 }
-        ensures { result ≡ further count self }
+        ensures { result ≡ taken_further count self }
     {
         Progress {
             last: self.last,
@@ -103,10 +103,10 @@ impl Progress {
         out: &mut [u8],
     ) -> Progress
         requires done { DONE < 4 }
-        requires ahead { HasAhead N 3 16 bytes.now out.old (further DONE self) }
+        requires ahead { HasAhead N 3 16 bytes.now out.old (taken_further DONE self) }
         requires short { self.next ≤ run_tag - 1 + 16 / N }
-        ensures { FastStep F N 2 16 bytes.now (fast (further DONE self) table.old out.old)
-            (fast (further (DONE + 1) result) table.new out.new) }
+        ensures { FastStep F N 2 16 bytes.now (fast (taken_further DONE self) table.old out.old)
+            (fast (taken_further (DONE + 1) result) table.new out.new) }
     {
         let b1 = self.next as usize;
         let (one, two) = (
@@ -140,7 +140,8 @@ impl Progress {
         if !is_short::<N>(self.next) {
             return self;
         }
-        self.short_chunk::<N, F, 0>(table, bytes, out).further(1)
+        self.short_chunk::<N, F, 0>(table, bytes, out)
+            .taken_further(1)
     }
 
     // Decodes short chunks, as many as come one after the other, but four at most.
@@ -160,17 +161,19 @@ impl Progress {
         }
         let one = self.short_chunk::<N, F, 0>(table, bytes, out);
         if !is_short::<N>(one.next) {
-            return one.further(1);
+            return one.taken_further(1);
         }
         let two = one.short_chunk::<N, F, 1>(table, bytes, out);
         if !is_short::<N>(two.next) {
-            return two.further(2);
+            return two.taken_further(2);
         }
         let three = two.short_chunk::<N, F, 2>(table, bytes, out);
         if !is_short::<N>(three.next) {
-            return three.further(3);
+            return three.taken_further(3);
         }
-        three.short_chunk::<N, F, 3>(table, bytes, out).further(4)
+        three
+            .short_chunk::<N, F, 3>(table, bytes, out)
+            .taken_further(4)
     }
 
     // Decodes short chunks that follow each other, `ROW` at most: one or eight.

@@ -4,7 +4,7 @@ ghost use Rattle.std.specs.Prelude.{◌≡◌, ◌↔◌, IsTrue, ◌-◌, ◌*�
 ghost use Rattle.qoi.specs.Qoi.{Past, run_tag, rgb_tag};
 ghost use Rattle.qoi.specs.Raw.{IsChannels};
 ghost use Rattle.qoi.specs.inner.Filling.{IsFillable, upto, filling, DecoderBetween, IsFrontAfter};
-ghost use Rattle.qoi.specs.pieces.InPlace.{stopped, TakesPiece, IsInPlace};
+ghost use Rattle.qoi.specs.pieces.InPlace.{in_place_at, TakesPiece, IsInPlace};
 
 use crate::consts::{QOI_OP_RGB, QOI_OP_RUN};
 use crate::decode::deltas::advance;
@@ -28,7 +28,7 @@ impl InPlace {
     /// After these chunks, with nothing of a run left.
     #[inline(always)]
     pub(super) fn after(now: Decoded) -> InPlace
-        ensures { result ≡ stopped now }
+        ensures { result ≡ in_place_at now }
     {
         InPlace {
             last: now.last,

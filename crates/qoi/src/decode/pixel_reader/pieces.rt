@@ -2,13 +2,13 @@
 ghost use Rattle.std.specs.Prelude.{◌≡◌, ◌↔◌, ℕ, ◌+◌, ◌-◌, ◌*◌, ◌%◌, ◌^◌, ◌<◌, ◌≤◌, List, [], ◌++◌, length, take, drop, min, Option, Some, IsTrue, IfOk, OnOk, OnErr};
 ghost use Rattle.qoi.specs.Raw.{IsChannels};
 ghost use Rattle.qoi.specs.declared.decode.output.TheConstants.{RUN_ROOM};
-ghost use Rattle.qoi.specs.declared.decode.pixel_reader.room.TheConstants.{KEPT, IN_PLACE};
+ghost use Rattle.qoi.specs.declared.decode.pixel_reader.room.TheConstants.{DECODED_AHEAD, IN_PLACE};
 
 use crate::decode::chunks::Chunks;
 use crate::decode::hashed::Hashed;
 use crate::decode::output::{RUN_ROOM, store_run};
 use crate::decode::pixel_reader::room::{
-    IN_PLACE, KEPT, front_of_image, kept_room, least_room, rest_of_image,
+    DECODED_AHEAD, IN_PLACE, front_of_image, kept_room, least_room, rest_of_image,
 };
 use crate::decode::table::TermTable;
 use crate::error::Error;
@@ -20,7 +20,7 @@ use crate::error::Error;
 pub struct Pieces {
     pub(super) table: TermTable,
     pub(super) last: Hashed,
-    pub(super) bytes: [u8; KEPT],
+    pub(super) bytes: [u8; DECODED_AHEAD],
     pub(super) from: usize,
     pub(super) to: usize,
     pub(super) run: usize,
@@ -46,7 +46,7 @@ pub(super) fn fail(fault: &mut Option<Error>, e: Error) -> Refused
 }
 
 impl Pieces {
-    ghost use Rattle.qoi.specs.pieces.ReaderPieces.{kept, bytes_left, KeepsWithin, KeepsNothing, KeepsPixels, GivesPieces, GivesMore, RefusesMore};
+    ghost use Rattle.qoi.specs.pieces.ReaderPieces.{kept_raw, bytes_left, KeepsWithin, KeepsNothing, KeepsPixels, GivesPieces, GivesMore, RefusesMore};
 
     /// At the beginning of an image of `size` bytes.
     pub(super) fn new(size: usize) -> Pieces
@@ -61,7 +61,7 @@ impl Pieces {
         Pieces {
             table: TermTable::new(),
             last: Hashed::start(),
-            bytes: [0; KEPT],
+            bytes: [0; DECODED_AHEAD],
             from: 0,
             to: 0,
             run: 0,
@@ -112,7 +112,7 @@ impl Pieces {
     pub(super) fn give(&mut self, out: &mut [u8]) -> usize
         requires { KeepsWithin self.old }
         ensures size { result ≡ min (length out.old) (self.old.to - self.old.from) }
-        ensures given { out.new ≡ take result (kept self.old) ++ drop result out.old }
+        ensures given { out.new ≡ take result (kept_raw self.old) ++ drop result out.old }
         ensures state { self.new ≡ record self.old { from = self.old.from + result } }
     {
         if self.from == self.to {
@@ -276,7 +276,7 @@ impl Pieces {
     }
 
     // Decodes ahead of the caller, into the bytes that are kept: chunks for `room` of them or, if at
-    // most `KEPT` of the image are left, all of these and then the end marker.
+    // most `DECODED_AHEAD` of the image are left, all of these and then the end marker.
     fn decode_ahead<R: Chunks<N, F>, const N: usize, const F: usize>(
         &mut self,
         reader: &mut R,
@@ -284,7 +284,7 @@ impl Pieces {
         fault: &mut Option<Error>,
     ) -> PieceResult<()>
         requires channels { IsChannels N }
-        requires room { (0 < room) × (room ≤ KEPT) }
+        requires room { (0 < room) × (room ≤ DECODED_AHEAD) }
         requires whole { room % N ≡ 0 }
         requires none { KeepsNothing self.old }
         requires some { 0 < self.old.undecoded }
@@ -297,7 +297,7 @@ impl Pieces {
             (min self.old.undecoded (room - RUN_ROOM) ≤ self.new.to - self.new.from) }
     {
         self.from = 0;
-        if KEPT < self.undecoded {
+        if DECODED_AHEAD < self.undecoded {
             let front = front_of_image::<R, N, F>(
                 reader,
                 &mut self.table,

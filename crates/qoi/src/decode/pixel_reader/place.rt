@@ -12,7 +12,7 @@ use crate::decode::Decoder;
 use crate::decode::hashed::Hashed;
 use crate::decode::pixel_reader::PixelReader;
 use crate::decode::pixel_reader::pieces::Pieces;
-use crate::decode::pixel_reader::room::KEPT;
+use crate::decode::pixel_reader::room::DECODED_AHEAD;
 use crate::decode::reader::Bytes;
 use crate::decode::table::TermTable;
 use crate::error::{Error, Result};
@@ -150,7 +150,7 @@ impl Place {
             pieces: Pieces {
                 table: table_of(&self.table),
                 last: hashed(self.last),
-                bytes: [0; KEPT],
+                bytes: [0; DECODED_AHEAD],
                 from: 0,
                 to: 0,
                 run: size_in(channels, self.run),

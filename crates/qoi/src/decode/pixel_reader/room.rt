@@ -5,7 +5,7 @@ ghost use Rattle.qoi.specs.Decoding.{ReadsImage};
 ghost use Rattle.qoi.specs.Qoi.{Past};
 ghost use Rattle.qoi.specs.Raw.{IsChannels, output};
 ghost use Rattle.qoi.specs.declared.decode.output.TheConstants.{RUN_ROOM};
-ghost use Rattle.qoi.specs.declared.decode.pixel_reader.room.TheConstants.{KEPT, IN_PLACE};
+ghost use Rattle.qoi.specs.declared.decode.pixel_reader.room.TheConstants.{DECODED_AHEAD, IN_PLACE};
 ghost use Rattle.qoi.specs.inner.Chunks.{RefusesChunks, TakesChunks, RefusesFilling};
 ghost use Rattle.qoi.specs.inner.Filling.{filling, DecoderBetween};
 
@@ -17,7 +17,7 @@ use crate::error::Result;
 
 /// How many bytes are kept at most, decoded ahead of a piece: whole pixels of three channels and of
 /// four.
-pub(super) const KEPT: usize = 3072;
+pub(super) const DECODED_AHEAD: usize = 3072;
 
 /// A piece of at least so many bytes is decoded in place.
 pub(super) const IN_PLACE: usize = 512;
@@ -39,12 +39,12 @@ pub(super) fn kept_room(size: usize, done: usize) -> usize
     requires within { done ≤ size }
     requires last { 0 < done → size < done + (RUN_ROOM + 3) }
     requires short { done ≡ 0 → size < IN_PLACE }
-    ensures within { result ≤ KEPT }
+    ensures within { result ≤ DECODED_AHEAD }
     ensures whole { result % 12 ≡ 0 }
     ensures enough { size - done + RUN_ROOM ≤ result }
 {
     if done == 0 {
-        KEPT
+        DECODED_AHEAD
     } else {
         (size - done + (RUN_ROOM + 11)) / 12 * 12
     }

@@ -4,7 +4,7 @@ use Rattle.std.proofs.lemmas.List.{get_or-drop, length-drop}
 use Rattle.qoi.specs.declared.decode.fast.Progress.{Progress}
 use Rattle.qoi.specs.Qoi.{after_luma}
 use Rattle.qoi.specs.inner.Hashed.{pixel_of_lanes}
-use Rattle.qoi.specs.inner.Filling.{further}
+use Rattle.qoi.specs.inner.Filling.{taken_further}
 use Rattle.qoi.proofs.decoding.FilledBuffer.{block_fits}
 use Rattle.qoi.proofs.decoding.FirstChunk.{size_of, decodes_short}
 use Rattle.qoi.proofs.decoding.FastSteps.{short_count, one_more, next_byte, fast_step}
@@ -13,7 +13,7 @@ use Rattle.qoi.proofs.decode.fast.Progress.short_chunk.Goals as goal
 pub returns : goal.returns
 returns g c =
     let ahead = c.requires.ahead in
-    let now = further g.row.DONE c.args.self in
+    let now = taken_further g.row.DONE c.args.self in
     let bytes = c.args.bytes.now in
     let is = ahead.three_or_four in
     let s = short_count g.row.N now.next c.advance.result is c.requires.short c.advance.ensures.once c.advance.ensures.run in

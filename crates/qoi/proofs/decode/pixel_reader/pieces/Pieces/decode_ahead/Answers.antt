@@ -31,13 +31,13 @@ returns-in-Err-clause-refused g c = record {
   refused = λ n start given h.
       let size : length c.args.self.now.bytes ≡ 3072 = omega arith in
       let within : c.args.room ≤ length c.args.self.now.bytes = omega (arith, size, c.requires.room.1) in
-      let l = room_lent c.args.self.now c.args.room c.requires.channels h c.requires.none within c.requires.whole (omega (arith, c.if-self-gt-KEPT.true, c.requires.room.1)) in
+      let l = room_lent c.args.self.now c.args.room c.requires.channels h c.requires.none within c.requires.whole (omega (arith, c.if-self-gt-DECODED_AHEAD.true, c.requires.room.1)) in
       subst (HasFault (RefusesChunks g.R.Chunks.in_memory n start (g.R.Chunks.ahead c.front_of_image-front.new.reader))) (sym c.fail.ensures)
       (c.in-Err.ensures.refused l.gone _ _ l.before n l.most);
 }
 
-pub returns-then-self-gt-KEPT-clause-gives : goal.returns-then-self-gt-KEPT-clause-gives
-returns-then-self-gt-KEPT-clause-gives g c =
+pub returns-then-self-gt-DECODED_AHEAD-clause-gives : goal.returns-then-self-gt-DECODED_AHEAD-clause-gives
+returns-then-self-gt-DECODED_AHEAD-clause-gives g c =
     let pixels = c.requires.pixels.1 in
     let out = c.front_of_image-front.new.out in
     let now = c.in-Ok.now in
@@ -45,19 +45,19 @@ returns-then-self-gt-KEPT-clause-gives g c =
     let within : c.args.room ≤ length c.args.self.now.bytes = omega (arith, old, c.requires.room.1) in
     let whole = minus_whole g.row.N c.args.self.now.undecoded now.at c.requires.channels pixels.0 c.in-Ok.ensures.read.fillable.whole.1 in
     gives_none (λ n start given h.
-    let l = room_lent c.args.self.now c.args.room c.requires.channels h c.requires.none within c.requires.whole (omega (arith, c.if-self-gt-KEPT.true, c.requires.room.1)) in
+    let l = room_lent c.args.self.now c.args.room c.requires.channels h c.requires.none within c.requires.whole (omega (arith, c.if-self-gt-DECODED_AHEAD.true, c.requires.room.1)) in
     let front = length-take-le c.args.room out (omega (arith, within, c.front_of_image-front.auto.out)) in
     subst (λ z. GivesPieces g.row.F g.row.N n start (g.R.Chunks.ahead c.front_of_image-front.new.reader) given
     (record { table = c.front_of_image-front.new.table; last = now.last; bytes = z; from = 0; to = now.at; run = c.args.self.now.run; undecoded = c.args.self.now.undecoded - now.at })) (take-append-drop c.args.room out)
     (kept_read (take c.args.room out) (drop c.args.room out) now.at c.requires.channels h c.requires.none l (c.in-Ok.ensures.read.goes_on.between l.gone _ _ l.before)
-    (omega (arith, front, c.in-Ok.ensures.below)) (omega (arith, front, c.if-self-gt-KEPT.true, c.requires.room.1))))
+    (omega (arith, front, c.in-Ok.ensures.below)) (omega (arith, front, c.if-self-gt-DECODED_AHEAD.true, c.requires.room.1))))
     ((omega arith, omega (arith, c.in-Ok.ensures.below, c.requires.room.1)), (whole, pixels.1, pixels.2, λ some. absurd (omega (arith, some, c.requires.none))))
-    (omega (arith, c.requires.none, c.in-Ok.ensures.below, c.if-self-gt-KEPT.true, c.requires.room.1))
+    (omega (arith, c.requires.none, c.in-Ok.ensures.below, c.if-self-gt-DECODED_AHEAD.true, c.requires.room.1))
 
 pub returns-in-Err-rest-clause-refused : goal.returns-in-Err-rest-clause-refused
 returns-in-Err-rest-clause-refused g c = record {
   refused = λ n start given h.
-      let l = rest_lent c.args.self.now c.requires.channels h c.requires.none (omega arith) c.requires.some (omega (arith, c.if-self-gt-KEPT.false)) in
+      let l = rest_lent c.args.self.now c.requires.channels h c.requires.none (omega arith) c.requires.some (omega (arith, c.if-self-gt-DECODED_AHEAD.false)) in
       let count = rest_count c.requires.channels h c.requires.none l (rest_whole c.requires.channels h c.requires.none.0 c.requires.some) in
       subst (HasFault (RefusesChunks g.R.Chunks.in_memory n start (g.R.Chunks.ahead c.rest_of_image-rest.new.reader))) (sym c.fail-in-Err-rest.ensures)
       (subst (λ k. RefusesChunks g.R.Chunks.in_memory k start (g.R.Chunks.ahead c.rest_of_image-rest.new.reader) c.in-Err-rest.e) count
@@ -68,7 +68,7 @@ pub returns-clause-gives : goal.returns-clause-gives
 returns-clause-gives g c =
     let pixels = c.requires.pixels.1 in
     let size : length c.args.self.now.bytes ≡ 3072 = omega arith in
-    let short : c.args.self.now.undecoded ≤ 3072 = omega (arith, c.if-self-gt-KEPT.false) in
+    let short : c.args.self.now.undecoded ≤ 3072 = omega (arith, c.if-self-gt-DECODED_AHEAD.false) in
     gives_none (λ n start given h.
     let l = rest_lent c.args.self.now c.requires.channels h c.requires.none size c.requires.some short in
     rest_read c.rest_of_image-rest.new.out c.requires.channels h c.requires.none l (c.in_default.ensures.read l.gone _ _ l.before)
