@@ -23,6 +23,7 @@ mod coder;
 pub(crate) mod fresh;
 mod last_pixel;
 mod marked;
+mod pairs;
 pub(crate) mod piece;
 mod pixel_writer;
 mod pixels;

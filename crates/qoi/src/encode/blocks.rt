@@ -19,6 +19,7 @@ use crate::encode::carry::{Carry, FRONT_CARRIED};
 use crate::encode::coder::Coder;
 use crate::encode::last_pixel::LastPixel;
 use crate::encode::marked::{goes_by_marks, write_marked};
+use crate::encode::pairs::{go_by_pairs, write_pairs};
 use crate::encode::piece::{OpenPiece, Piece, REPEATS_AT_ONCE};
 use crate::encode::pixels::{FrontBlock, PixelOf, Pixels};
 use crate::encode::runs::repeats_of;
@@ -231,7 +232,8 @@ fn fill<'a, 'p, const N: usize, const COPY: u8, const ROOM: usize>(
 }
 
 /// Writes what is at the front: blocks, until the piece is full or fewer pixels than a block has
-/// are left; or repeats and the fresh pixel after them. Returns the rest. Any pixels may follow.
+/// are left; or repeats and the fresh pixel after them; or pairs, until the piece is full or others
+/// come (`write_pairs`). Returns the rest. Any pixels may follow.
 pub(super) fn write_some<'a, 'p, const N: usize, const COPY: u8, const ROOM: usize>(
     coder: &mut Coder<N>,
     style: Style,
@@ -247,6 +249,12 @@ pub(super) fn write_some<'a, 'p, const N: usize, const COPY: u8, const ROOM: usi
         → CoderBetween style ahead (pixels_in result.0 ++ more) table.new coder.new.last
         (kept_bytes result.1) }
 {
+    if go_by_pairs(coder.last.px, raw) {
+        let last = Coder::new(coder.last);
+        let (rest, after, piece) = write_pairs::<N, COPY, ROOM>(style, table, piece, raw, last);
+        *coder = after;
+        return (rest, piece);
+    }
     if !goes_by_blocks(style, coder.last, raw) {
         let mut piece = piece.piece;
         let rest = coder.write_open(style, table, &mut piece, raw);

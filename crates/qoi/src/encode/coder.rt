@@ -4,7 +4,7 @@ ghost use Rattle.std.specs.Prelude.{◌≡◌, ◌≢◌, ℕ, ◌+◌, ◌-◌,
 ghost use Rattle.qoi.specs.declared.chunk.Chunk.{Chunk};
 ghost use Rattle.qoi.specs.declared.encode.piece.TheConstants.{PAST, RUNS_AT_ONCE};
 ghost use Rattle.qoi.specs.declared.types.Style.{Style};
-ghost use Rattle.qoi.specs.declared.types.Style.TheVariants.{Tight};
+ghost use Rattle.qoi.specs.declared.types.Style.TheVariants.{Places, Tight};
 ghost use Rattle.qoi.specs.Qoi.{RgbaPixel, Past, run_max, chunk_max, marker_size, previous, seen, hash, IsChunk, bytes_of};
 ghost use Rattle.qoi.specs.Raw.{IsChannels, IsChannels-prop};
 ghost use Rattle.qoi.specs.Runs.{runs_by};
@@ -128,6 +128,18 @@ impl<const N: usize> Coder<N> {
         }
     }
 
+    // Whether the last chunk names its pixel's index position, in the style that asks for it; in
+    // others a constant, which no register holds.
+    #[inline(always)]
+    fn placed_in(style: Style, stands: bool) -> bool
+        ensures { style ≡ Places → result ≡ stands }
+    {
+        match style {
+            Reference | Tight => false,
+            Places => stands,
+        }
+    }
+
     // Writes the fresh pixel `next`: by its index position if it stands there, else as
     // `chunk_if_absent` has it. Then puts it at its position, and it is the last pixel.
     #[inline(always)]
@@ -157,7 +169,7 @@ impl<const N: usize> Coder<N> {
         self.last = LastPixel {
             px,
             begun: true,
-            placed: stands,
+            placed: Coder::<N>::placed_in(style, stands),
             repeats: 0,
         };
         let number = pick(stands, u32::from(place), number);

@@ -29,6 +29,7 @@ mod memory;
 mod neighbours;
 mod ours;
 mod packs;
+mod pairs;
 mod pieces;
 mod pixel;
 mod pixel_readers;

@@ -40,5 +40,5 @@ returns-clause-written g c ahead rest differs none b =
       table_is = fresh_held style past c.args.table.now c.put.new.self p new state.table_is c.put.ensures;
       last_is = refl;
       begun_is = sym (ap has_pixel (fresh_more past p new));
-      placed_is = λ _. d.4;
+      placed_is = λ places. c.placed_in.ensures places ∙ d.4;
     })
