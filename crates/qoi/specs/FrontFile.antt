@@ -13,6 +13,11 @@ pub record BeginsWithFile (bytes : List ℕ) : Type 0 where
   pub split : bytes ≡ file header cs ++ file_rest bytes
   pub size : length (file header cs) + length (file_rest bytes) ≡ length bytes
 
+-- A file with this header stands at the front of the bytes, and n bytes follow it. It is no
+-- abbreviation, so that the prover passes it on whole.
+unfoldable pub HasFrontFile : Header → ℕ → List ℕ → Type 0
+HasFrontFile h n bytes = (cs : List Chunk) × (rest : List ℕ) × IsFile h cs × (bytes ≡ file h cs ++ rest) × (length rest ≡ n)
+
 -- what follows the first k files
 abbrev pub behind_files : ℕ → List ℕ → List ℕ
 behind_files zero bytes = bytes

@@ -1,16 +1,17 @@
 -- A header and an image behind it are a file; and files stay whatever is appended.
-use Rattle.std.proofs.Common.{◌≡◌, ℕ, zero, suc, ◌+◌, ◌<◌, inl, inr, List, ◌++◌, length, drop, Option, Some, arith, refl, sym, ap, ◌∙◌, subst, length-append}
+use Rattle.std.proofs.Common.{◌≡◌, ℕ, zero, suc, ◌+◌, ◌<◌, inl, inr, List, ◌++◌, length, drop, Option, Some, Ok, arith, refl, sym, ap, ◌∙◌, subst, length-append}
 use Rattle.std.proofs.lemmas.Bool.{cases_lt}
-use Rattle.qoi.specs.Qoi.{channels_number, file, file_pixels, header_bytes, header_size, IsFile}
+use Rattle.qoi.specs.declared.header.Header.{Header}
+use Rattle.qoi.specs.Qoi.{channels_number, file, file_pixels, header_bytes, header_of, header_size, IsFile}
 use Rattle.qoi.specs.Raw.{output}
 use Rattle.qoi.specs.Decoding.{DecodesFile}
 use Rattle.qoi.specs.DecoderState.{DecoderState}
 use Rattle.qoi.specs.Decoded.{HasHeader, HasDecoded}
-use Rattle.qoi.specs.Images.{file_image, file_rest}
+use Rattle.qoi.specs.Images.{file_image, file_rest, front_rest}
 use Rattle.qoi.specs.Reading.{IsDecoderOf, StandsAhead}
-use Rattle.qoi.specs.FrontFile.{BeginsWithFile, behind_files, BeginsWithFiles}
-use Rattle.qoi.proofs.decoding.FrontImage.{file_image_is, file_rest_is, file_rest_then}
-use Rattle.qoi.proofs.decoding.OneFile.{decodes_file, decodes_more, file_parts}
+use Rattle.qoi.specs.FrontFile.{BeginsWithFile, HasFrontFile, behind_files, BeginsWithFiles}
+use Rattle.qoi.proofs.decoding.FrontImage.{rest_is, file_image_is, file_rest_is, file_rest_then}
+use Rattle.qoi.proofs.decoding.OneFile.{decodes_file, decodes_more, file_has_header, file_is_whole, file_parts}
 
 -- so bytes whose header a decoder took, and behind which an image stands, begin with a file
 pub begins_with_file : (d : DecoderState (List ℕ)) (bytes : List ℕ) → HasHeader d (Some bytes) (Some d.reader) → StandsAhead d.header d.reader
@@ -25,6 +26,28 @@ begins_with_file d bytes made (cs, rest, whole) =
     let left : rest ≡ file_rest bytes = file_rest_is bytes h rest _ (decodes_file h cs bytes rest _ f split refl) in
     let all : bytes ≡ file h cs ++ file_rest bytes = split ∙ ap (λ z. file h cs ++ z) left in
     record { header = h; cs = cs; is_file = f; split = all; size = sym (ap length all ∙ length-append (file h cs) (file_rest bytes)) }
+
+-- of such bytes the file's header and the number of bytes behind it are known
+pub has_front_file : (d : DecoderState (List ℕ)) (bytes : List ℕ) → HasHeader d (Some bytes) (Some d.reader) → StandsAhead d.header d.reader
+    → HasFrontFile d.header (length (front_rest d.header d.reader)) bytes
+unfolding IsDecoderOf StandsAhead HasFrontFile
+has_front_file d bytes made (cs, rest, whole) =
+    let h = d.header in
+    let (front, valid, own) = made.made in
+    let after : d.reader ≡ drop header_size bytes = cc made.after in
+    let f : IsFile h cs = record { valid = valid; chunks = whole.has.chunks; reaches = record { stays_below = whole.has.stays_below; enough = whole.enough } } in
+    let split = front ∙ ap (λ l. header_bytes h ++ l) (sym after ∙ whole.has.split) ∙ sym (file_parts h cs rest) in
+    let left : rest ≡ front_rest h d.reader = rest_is h.channels h d.reader rest _ (record { cs = cs; whole = whole; out_is = refl }) in
+    (cs, rest, f, split, ap length left)
+
+-- and conversely such a file is a header and an image that stands behind it
+pub front_file_ahead : (h : Header) (n : ℕ) (bytes : List ℕ) → HasFrontFile h n bytes
+    → (header_of bytes ≡ Ok h) × StandsAhead h (drop header_size bytes) × (length (front_rest h (drop header_size bytes)) ≡ n)
+unfolding StandsAhead HasFrontFile
+front_file_ahead h n bytes (cs, rest, f, split, size) =
+    let whole = file_is_whole h cs bytes rest f split in
+    let left : rest ≡ front_rest h (drop header_size bytes) = rest_is h.channels h (drop header_size bytes) rest _ (record { cs = cs; whole = whole; out_is = refl }) in
+    (file_has_header h cs bytes rest f split, (cs, rest, whole), ap length (sym left) ∙ size)
 
 -- so do bytes of which a decoder took header and image
 pub decoded_file : (d : DecoderState (List ℕ)) (bytes : List ℕ) (new : Option (List ℕ)) (out : List ℕ) → HasHeader d (Some bytes) (Some d.reader)
