@@ -3,10 +3,10 @@ use Rattle.std.proofs.Common.{◌≡◌, List, ℕ, [], ◌++◌, take, Bool, tr
 use Rattle.std.proofs.lemmas.Result.{err_from_is_err_and}
 use Rattle.qoi.specs.declared.error.Error.TheVariants.{UnexpectedBufferEnd, InvalidPadding}
 use Rattle.qoi.specs.declared.error.Error.{Error}
-use Rattle.qoi.specs.Decoded.{HasDecoded}
+use Rattle.qoi.specs.Decoded.{HasDecoded, HasRefused}
 use Rattle.qoi.specs.DecoderState.{DecoderState}
 use Rattle.qoi.specs.Images.{front_image, front_rest}
-use Rattle.qoi.specs.Reading.{StandsAhead, IsCutAhead, IsWrongAhead, SaysWhy}
+use Rattle.qoi.specs.Reading.{StandsAhead}
 use Rattle.qoi.specs.pieces.PixelReader.{as_decoder, HasGiven, IsSpent, RefusesPixels}
 use Rattle.qoi.proofs.decoding.SlicesRefused.{why_refused, cut_refused, wrong_refused, decoded_not_cut, decoded_not_wrong}
 use Rattle.qoi.proofs.decode.pixel_reader.PixelReader.finish.Goals as goal
@@ -42,22 +42,11 @@ missing_of true d start new e held h = if_some_of start _ (λ bytes known stands
     h.not_whole held bytes rest cs known whole)
 missing_of false d start new e held h = absurd (cc)
 
--- why an image in memory is refused
-why_of : {R : Type 0} (in_memory : Bool) (d : DecoderState R) (start : List ℕ) (new : Option (List ℕ)) (e : Error) → IsTrue in_memory
-    → RefusesPixels in_memory d (Some start) new e → SaysWhy d.header start e
-why_of true d start new e held h = why_refused d start (Some start) e h
-why_of false d start new e held h = absurd (cc)
-
--- the error of a cut image in memory, and of a wrong one
-error_of_cut : {R : Type 0} (in_memory : Bool) (d : DecoderState R) (start : List ℕ) (new : Option (List ℕ)) (e : Error) → IsTrue in_memory
-    → RefusesPixels in_memory d (Some start) new e → IsCutAhead d.header start → e ≡ UnexpectedBufferEnd
-error_of_cut true d start new e held h cut = cut_refused d start (Some start) e h cut
-error_of_cut false d start new e held h cut = absurd (cc)
-
-error_of_wrong : {R : Type 0} (in_memory : Bool) (d : DecoderState R) (start : List ℕ) (new : Option (List ℕ)) (e : Error) → IsTrue in_memory
-    → RefusesPixels in_memory d (Some start) new e → IsWrongAhead d.header start → e ≡ InvalidPadding
-error_of_wrong true d start new e held h wrong = wrong_refused d start (Some start) e h wrong
-error_of_wrong false d start new e held h wrong = absurd (cc)
+-- a refused image is refused by its decoder
+by_decoder : {R : Type 0} (in_memory : Bool) (d : DecoderState R) (start new : Option (List ℕ)) (e : Error) → RefusesPixels in_memory d start new e
+    → (last : Option (List ℕ)) × HasRefused in_memory d start last e
+by_decoder true d start new e h = (start, h)
+by_decoder false d start new e h = (new, h)
 
 pub loop-buf-init : goal.loop-buf-init
 loop-buf-init g c = record {
@@ -141,30 +130,33 @@ pub returns-in_err-read-clause-why : goal.returns-in_err-read-clause-why
 returns-in_err-read-clause-why g c d start given h held =
     let p = err_from_is_err_and c.from_residual.result c.from_residual.ensures.1 in
     let (rest, before) = c.loop-buf.invariant.read d (Some start) given h in
-    rw (p.1, p.2) (why_of g.R.Reader.in_memory d start _ _ held (c.in_err-read.ensures.refused d (Some start) (given ++ rest) before))
+    let (last, why) = by_decoder g.R.Reader.in_memory d (Some start) _ _ (c.in_err-read.ensures.refused d (Some start) (given ++ rest) before) in
+    rw (p.1, p.2) (why_refused g.R.Reader.in_memory d (Some start) last start _ held refl why)
 
 pub returns-in_err-read-clause-cut : goal.returns-in_err-read-clause-cut
 returns-in_err-read-clause-cut g c d start given h held cut =
     let p = err_from_is_err_and c.from_residual.result c.from_residual.ensures.1 in
     let (rest, before) = c.loop-buf.invariant.read d (Some start) given h in
+    let (last, why) = by_decoder g.R.Reader.in_memory d (Some start) _ _ (c.in_err-read.ensures.refused d (Some start) (given ++ rest) before) in
     let e : c.in_err-read.field-0.0 ≡ UnexpectedBufferEnd =
-    error_of_cut g.R.Reader.in_memory d start _ _ held (c.in_err-read.ensures.refused d (Some start) (given ++ rest) before) cut in
+    cut_refused g.R.Reader.in_memory d (Some start) last start _ held refl why cut in
     rw (p.1, p.2) (ap Err e)
 
 pub returns-in_err-read-clause-wrong : goal.returns-in_err-read-clause-wrong
 returns-in_err-read-clause-wrong g c d start given h held wrong =
     let p = err_from_is_err_and c.from_residual.result c.from_residual.ensures.1 in
     let (rest, before) = c.loop-buf.invariant.read d (Some start) given h in
+    let (last, why) = by_decoder g.R.Reader.in_memory d (Some start) _ _ (c.in_err-read.ensures.refused d (Some start) (given ++ rest) before) in
     let e : c.in_err-read.field-0.0 ≡ InvalidPadding =
-    error_of_wrong g.R.Reader.in_memory d start _ _ held (c.in_err-read.ensures.refused d (Some start) (given ++ rest) before) wrong in
+    wrong_refused g.R.Reader.in_memory d (Some start) last start _ held refl why wrong in
     rw (p.1, p.2) (ap Err e)
 
 pub returns-clause-cut : goal.returns-clause-cut
 returns-clause-cut g c d start given h held cut =
     let (rest, all) = returns-clause-finished g c d (Some start) given h in
-    absurd (decoded_not_cut d start _ (given ++ rest) all cut)
+    absurd (decoded_not_cut d (Some start) _ start (given ++ rest) refl all cut)
 
 pub returns-clause-wrong : goal.returns-clause-wrong
 returns-clause-wrong g c d start given h held wrong =
     let (rest, all) = returns-clause-finished g c d (Some start) given h in
-    absurd (decoded_not_wrong d start _ (given ++ rest) all wrong)
+    absurd (decoded_not_wrong d (Some start) _ start (given ++ rest) refl all wrong)
