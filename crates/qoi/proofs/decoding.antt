@@ -23,6 +23,7 @@ pub mod Refusals
 pub mod RefusedBytes
 pub mod RowIndexes
 pub mod Rows
+pub mod SlicesRefused
 pub mod StreamReads
 pub mod StreamVerdicts
 pub mod TakenBytes

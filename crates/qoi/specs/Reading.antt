@@ -1,11 +1,13 @@
 -- What a decoder reads if the bytes that stand ahead of it are known.
-use Rattle.std.specs.Prelude.{◌≡◌, ℕ, List, ◌++◌, take}
+use Rattle.std.specs.Prelude.{◌≡◌, ◌⊎◌, ℕ, List, ◌++◌, take}
+use Rattle.qoi.specs.declared.error.Error.{Error}
+use Rattle.qoi.specs.declared.error.Error.TheVariants.{UnexpectedBufferEnd, InvalidPadding}
 use Rattle.qoi.specs.declared.types.Channels.{Channels}
 use Rattle.qoi.specs.declared.header.Header.{Header}
 use Rattle.qoi.specs.declared.chunk.Chunk.{Chunk}
 use Rattle.qoi.specs.Qoi.{channels_number, header_bytes, IsValid, pixel_count, meaning}
 use Rattle.qoi.specs.Raw.{output}
-use Rattle.qoi.specs.Verdicts.{IsWhole}
+use Rattle.qoi.specs.Verdicts.{IsWhole, AreCut, AreWrong}
 use Rattle.qoi.specs.DecoderState.{DecoderState}
 
 -- the bytes are chunks that reach the header's pixels, the end marker and then the rest, and `out`
@@ -19,6 +21,20 @@ pub record IsImage (channels : Channels) (bytes : List ℕ) (h : Header) (rest o
 -- abbreviation, so that the prover passes it on whole; nor is IsDecoderOf.
 unfoldable pub StandsAhead : Header → List ℕ → Type 0
 StandsAhead h bytes = (cs : List Chunk) × (rest : List ℕ) × IsWhole (pixel_count h) bytes cs rest
+
+-- The bytes end before an image of this header does, or within the eight bytes after its chunks. It
+-- is no abbreviation, so that the prover passes it on whole; nor is IsWrongAhead.
+unfoldable pub IsCutAhead : Header → List ℕ → Type 0
+IsCutAhead h bytes = AreCut (pixel_count h) bytes
+
+-- An image of this header stands at the front of the bytes, and eight bytes other than the end marker follow it.
+unfoldable pub IsWrongAhead : Header → List ℕ → Type 0
+IsWrongAhead h bytes = AreWrong (pixel_count h) bytes
+
+-- why bytes in memory are refused that stand ahead: cut is UnexpectedBufferEnd, and wrong is
+-- InvalidPadding
+abbrev pub SaysWhy : Header → List ℕ → Error → Type 0
+SaysWhy h bytes e = ((e ≡ UnexpectedBufferEnd) × IsCutAhead h bytes) ⊎ ((e ≡ InvalidPadding) × IsWrongAhead h bytes)
 
 -- The source is the bytes of the decoder's header, which is valid, and then `ahead`; and the
 -- decoder's channels are the file's own. It says nothing of the decoder's reader.

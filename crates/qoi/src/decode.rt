@@ -1,11 +1,12 @@
 //! Decoding, from slices, from streams and from readers with a buffer.
-ghost use Rattle.std.specs.Prelude.{◌≡◌, ℕ, ◌*◌, ◌-◌, ◌<◌, ◌≤◌, List, length, take, drop, Some, ◌+◌, IfOk, IfErr, IsErr, IsErrOf, ◌⊎◌, Ok, Err};
+ghost use Rattle.std.specs.Prelude.{◌≡◌, ℕ, ◌*◌, ◌-◌, ◌<◌, ◌≤◌, List, length, take, drop, Some, ◌+◌, IfOk, IfErr, IsErr, IsErrOf, IsTrue, ◌⊎◌, Ok, Err};
 ghost use Rattle.qoi.specs.declared.header.Header.{Header};
 ghost use Rattle.qoi.specs.declared.error.Error.{Error};
 ghost use Rattle.qoi.specs.Qoi.{header_of, file};
 ghost use Rattle.qoi.specs.Decoding.{RefusesBuffer};
 ghost use Rattle.qoi.specs.DecoderState.{output_byte_count};
 ghost use Rattle.qoi.specs.Decoded.{HasHeader, HasRefusedHeader, HasDecoded, HasRefused, HasDecodedFile, HasRefusedFile};
+ghost use Rattle.qoi.specs.Reading.{IsCutAhead, IsWrongAhead, SaysWhy};
 ghost use Rattle.qoi.specs.Raw.{capped_byte_count, image_byte_count};
 ghost use Rattle.qoi.specs.Sent.{IsFileFor};
 
@@ -365,6 +366,16 @@ impl<R: Reader> Decoder<R> {
         ensures refused { output_byte_count self.old ≤ length buf.old
             → IfErr result (HasRefused R.in_memory self.old
             (R.ahead self.old.reader) (R.ahead self.new.reader)) }
+        // In memory: of bytes that are cut, and of those that are wrong, and of no others.
+        ensures why { (start : List ℕ) → R.ahead self.old.reader ≡ Some start → IsTrue R.in_memory
+            → output_byte_count self.old ≤ length buf.old
+            → IfErr result (SaysWhy self.old.header start) }
+        ensures cut { (start : List ℕ) → R.ahead self.old.reader ≡ Some start → IsTrue R.in_memory
+            → output_byte_count self.old ≤ length buf.old → IsCutAhead self.old.header start
+            → IsErrOf result Error.UnexpectedBufferEnd }
+        ensures wrong { (start : List ℕ) → R.ahead self.old.reader ≡ Some start → IsTrue R.in_memory
+            → output_byte_count self.old ≤ length buf.old → IsWrongAhead self.old.header start
+            → IsErrOf result Error.InvalidPadding }
 
         // What stays: later bytes of the buffer, the header and the channels.
         ensures later { drop (output_byte_count self.old) buf.new

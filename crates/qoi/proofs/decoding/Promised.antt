@@ -157,7 +157,7 @@ not_refused bytes e (inr (k, found, why)) h cs rest read whole =
     (subst (λ j. IsWhole (pixel_count j) (drop header_size bytes) cs rest) (header_is_one bytes h k read found) whole) why
 
 -- why the bytes after a header that was read are refused
-why_after : (bytes : List ℕ) (e : Error) → RefusesFile bytes e → (h : Header) → header_of bytes ≡ Ok h → RefusesBytes (pixel_count h) (drop header_size bytes) e
+pub why_after : (bytes : List ℕ) (e : Error) → RefusesFile bytes e → (h : Header) → header_of bytes ≡ Ok h → RefusesBytes (pixel_count h) (drop header_size bytes) e
 why_after bytes e (inl refused) h read = absurd cc
 why_after bytes e (inr (k, found, why)) h read =
     subst (λ j. RefusesBytes (pixel_count j) (drop header_size bytes) e) (header_is_one bytes k h found read) why

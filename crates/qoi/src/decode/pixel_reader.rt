@@ -7,7 +7,7 @@ ghost use Rattle.qoi.specs.Images.{front_image, front_rest};
 ghost use Rattle.qoi.specs.pieces.PixelReader.{as_decoder, pixels_left, HasGiven, HasRows, RefusesPixels, IsSpent};
 ghost use Rattle.qoi.specs.Qoi.{channels_number};
 ghost use Rattle.qoi.specs.pieces.ReaderPieces.{bytes_left, KeepsPixels, GivesMore, RefusesMore};
-ghost use Rattle.qoi.specs.Reading.{StandsAhead};
+ghost use Rattle.qoi.specs.Reading.{StandsAhead, IsCutAhead, IsWrongAhead, SaysWhy};
 ghost use Rattle.qoi.specs.Rectangles.{row_bytes, rectangle};
 ghost use Rattle.qoi.specs.declared.error.Error.{Error};
 
@@ -345,6 +345,16 @@ impl<R: Reader + Drop> PixelReader<R> {
             self → IsTrue R.in_memory → OnErr result (IfSome (R.ahead self.reader) (λ bytes.
             StandsAhead self.header bytes → ⊥)) }
         ensures again { IsSpent self → IsErrOf result Error.UnexpectedBufferEnd }
+        // In memory: bytes that are cut, and bytes that are wrong, and no others.
+        ensures why { (d : DecoderState R) (start given : List ℕ)
+            → HasGiven d (Some start) (R.ahead self.reader) given self → IsTrue R.in_memory
+            → IfErr result (SaysWhy d.header start) }
+        ensures cut { (d : DecoderState R) (start given : List ℕ)
+            → HasGiven d (Some start) (R.ahead self.reader) given self → IsTrue R.in_memory
+            → IsCutAhead d.header start → IsErrOf result Error.UnexpectedBufferEnd }
+        ensures wrong { (d : DecoderState R) (start given : List ℕ)
+            → HasGiven d (Some start) (R.ahead self.reader) given self → IsTrue R.in_memory
+            → IsWrongAhead d.header start → IsErrOf result Error.InvalidPadding }
     {
         let mut buf = [0; 4096];
         while self.left() > 0 {

@@ -12,10 +12,10 @@ ghost use Rattle.qoi.specs.Encoded.{IsFileOf, IsReadBack, image_file, image_head
 ghost use Rattle.qoi.specs.Tiles.{HasTile};
 ghost use Rattle.qoi.specs.Verdicts.{IsPartOfChunk, IsWhole, IsCut, IsWrong};
 ghost use Rattle.qoi.specs.Decoding.{DecodesFile};
-ghost use Rattle.qoi.specs.Decoded.{HasHeader, HasDecoded};
+ghost use Rattle.qoi.specs.Decoded.{HasHeader, HasDecoded, HasRefusedFile};
 ghost use Rattle.qoi.specs.DecoderState.{DecoderState};
-ghost use Rattle.qoi.specs.FrontFile.{BeginsWithFile, behind_files, BeginsWithFiles};
-ghost use Rattle.qoi.specs.Reading.{IsImage, StandsAhead};
+ghost use Rattle.qoi.specs.FrontFile.{BeginsWithFile, HasFrontFile, IsNoFile, behind_files, BeginsWithFiles};
+ghost use Rattle.qoi.specs.Reading.{IsImage, StandsAhead, SaysWhy};
 ghost use Rattle.qoi.specs.Images.{front_image, front_rest, file_image, file_image_in, file_rest};
 
 /// At most one verdict holds of any bytes, with one chunk list.
@@ -82,6 +82,28 @@ pub fn files_are_read()
     ensures stands { (d : DecoderState (List ℕ)) (bytes : List ℕ)
         → HasHeader d (Some bytes) (Some d.reader) → StandsAhead d.header d.reader
         → BeginsWithFile bytes }
+    ensures front { (d : DecoderState (List ℕ)) (bytes : List ℕ)
+        → HasHeader d (Some bytes) (Some d.reader) → StandsAhead d.header d.reader
+        → HasFrontFile d.header (length (front_rest d.header d.reader)) bytes }
+    ensures front_decoded { (d : DecoderState (List ℕ)) (bytes rest out : List ℕ)
+        → HasHeader d (Some bytes) (Some d.reader)
+        → HasDecoded d (Some d.reader) (Some rest) out
+        → HasFrontFile d.header (length rest) bytes }
+    ensures ahead { (h : Header) (n : ℕ) (bytes : List ℕ) → HasFrontFile h n bytes
+        → (header_of bytes ≡ Ok h) × StandsAhead h (drop header_size bytes)
+        × (length (front_rest h (drop header_size bytes)) ≡ n) }
+{}
+
+/// Bytes in memory are no file if their header is refused, or if what follows it is cut or wrong;
+/// and conversely.
+pub fn refusals_say_why()
+    ensures header { (bytes : List ℕ) (e : Error) → header_of bytes ≡ Err e → IsNoFile bytes e }
+    ensures ahead { (d : DecoderState (List ℕ)) (bytes : List ℕ) (e : Error)
+        → HasHeader d (Some bytes) (Some d.reader) → SaysWhy d.header d.reader e
+        → IsNoFile bytes e }
+    ensures only { (bytes : List ℕ) (e : Error) (h : Header) → IsNoFile bytes e
+        → header_of bytes ≡ Ok h → SaysWhy h (drop header_size bytes) e }
+    ensures refused { (bytes : List ℕ) (e : Error) → IsNoFile bytes e → HasRefusedFile bytes e }
 {}
 
 /// What was decoded from bytes is decoded from them whatever is appended, and that is left, too.

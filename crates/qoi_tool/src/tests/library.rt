@@ -50,6 +50,7 @@ mod strips;
 pub mod support;
 mod table_of_callers;
 mod types;
+mod uploads;
 mod vectors;
 mod writers;
 mod written_rows;

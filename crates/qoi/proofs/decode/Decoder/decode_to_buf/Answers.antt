@@ -1,8 +1,9 @@
 -- The image is read or refused.
-use Rattle.std.proofs.Common.{◌≡◌, ℕ, List, Option, length, ap, arith, subst}
+use Rattle.std.proofs.Common.{◌≡◌, ℕ, List, Option, Err, length, ap, arith, subst}
 use Rattle.std.proofs.lemmas.List.{length-take-le}
 use Rattle.std.proofs.lemmas.Result.{err_from_is_err_and}
 use lib.Seq.{take-append_seam}
+use Rattle.qoi.specs.declared.error.Error.TheVariants.{UnexpectedBufferEnd, InvalidPadding}
 use Rattle.qoi.specs.Qoi.{channels_number, pixel_count}
 use Rattle.qoi.specs.Raw.{HasImageLength}
 use Rattle.qoi.specs.Decoding.{ReadsImage, RefusesImage}
@@ -10,6 +11,7 @@ use Rattle.qoi.specs.DecoderState.{output_byte_count}
 use Rattle.qoi.specs.Decoded.{HasDecoded}
 use Rattle.qoi.proofs.decoding.ImageSize.{image_pixels}
 use Rattle.qoi.proofs.decoding.Promised.{has_decoded, has_refused}
+use Rattle.qoi.proofs.decoding.SlicesRefused.{why_refused, cut_refused, wrong_refused, decoded_not_cut, decoded_not_wrong}
 use Rattle.qoi.proofs.decode.Decoder.decode_to_buf.Given.{Over}
 use Rattle.qoi.proofs.decode.Decoder.decode_to_buf.Goals.{After-from_residual}
 use Rattle.qoi.proofs.decode.Decoder.decode_to_buf.Goals as goal
@@ -32,6 +34,26 @@ returns-in_err-decode_image_in-clause-refused g c room =
     rw (p.1, p.2) (has_refused g.R.Reader.in_memory c.args.self.now _ _ _
     (refused g (goal.at.returns-in_err-decode_image_in-clause-refused g c).After-from_residual))
 
+pub returns-in_err-decode_image_in-clause-why : goal.returns-in_err-decode_image_in-clause-why
+returns-in_err-decode_image_in-clause-why g c start told held room =
+    let p = err_from_is_err_and c.from_residual.result c.from_residual.ensures.1 in
+    rw (p.1, p.2) (why_refused g.R.Reader.in_memory c.args.self.now _ _ start _ held told
+    (has_refused g.R.Reader.in_memory c.args.self.now _ _ _ (refused g (goal.at.returns-in_err-decode_image_in-clause-why g c).After-from_residual)))
+
+pub returns-in_err-decode_image_in-clause-cut : goal.returns-in_err-decode_image_in-clause-cut
+returns-in_err-decode_image_in-clause-cut g c start told held room cut =
+    let p = err_from_is_err_and c.from_residual.result c.from_residual.ensures.1 in
+    let e : c.in_err-decode_image_in.field-0.0 ≡ UnexpectedBufferEnd = cut_refused g.R.Reader.in_memory c.args.self.now _ _ start _ held told
+    (has_refused g.R.Reader.in_memory c.args.self.now _ _ _ (refused g (goal.at.returns-in_err-decode_image_in-clause-cut g c).After-from_residual)) cut in
+    rw (p.1, p.2) (ap Err e)
+
+pub returns-in_err-decode_image_in-clause-wrong : goal.returns-in_err-decode_image_in-clause-wrong
+returns-in_err-decode_image_in-clause-wrong g c start told held room wrong =
+    let p = err_from_is_err_and c.from_residual.result c.from_residual.ensures.1 in
+    let e : c.in_err-decode_image_in.field-0.0 ≡ InvalidPadding = wrong_refused g.R.Reader.in_memory c.args.self.now _ _ start _ held told
+    (has_refused g.R.Reader.in_memory c.args.self.now _ _ _ (refused g (goal.at.returns-in_err-decode_image_in-clause-wrong g c).After-from_residual)) wrong in
+    rw (p.1, p.2) (ap Err e)
+
 pub returns-clause-decoded : goal.returns-clause-decoded
 returns-clause-decoded g c =
     let d = c.args.self.now in
@@ -50,3 +72,11 @@ returns-clause-decoded g c =
       subst (HasDecoded d (g.R.Reader.ahead d.reader) (g.R.Reader.ahead c.decode_image_in.new.self)) (grind (arith, same, take-append_seam))
           (has_decoded d _ _ out filled (subst (λ s. P (g.R.Reader.ahead s.reader) out) c.self.view_is read)),
     )
+
+pub returns-clause-cut : goal.returns-clause-cut
+returns-clause-cut g c start told held room cut =
+    absurd (decoded_not_cut c.args.self.now _ _ start _ told (returns-clause-decoded g c).1 cut)
+
+pub returns-clause-wrong : goal.returns-clause-wrong
+returns-clause-wrong g c start told held room wrong =
+    absurd (decoded_not_wrong c.args.self.now _ _ start _ told (returns-clause-decoded g c).1 wrong)

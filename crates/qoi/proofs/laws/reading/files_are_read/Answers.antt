@@ -5,7 +5,7 @@ use Rattle.qoi.specs.declared.chunk.Chunk.{Chunk}
 use Rattle.qoi.specs.Images.{file_rest}
 use Rattle.qoi.specs.Qoi.{IsFile, file}
 use Rattle.qoi.specs.Reading.{StandsAhead}
-use Rattle.qoi.proofs.decoding.FrontFile.{begins_with_file}
+use Rattle.qoi.proofs.decoding.FrontFile.{begins_with_file, has_front_file, decoded_front_file, front_file_ahead}
 use Rattle.qoi.proofs.decoding.FrontImage.{file_rest_is}
 use Rattle.qoi.proofs.decoding.OneFile.{file_has_header, file_is_whole, file_from_whole, decodes_file}
 use Rattle.qoi.proofs.laws.reading.files_are_read.Goals as goal
@@ -24,4 +24,7 @@ returns c = record {
       let bytes = file h cs ++ rest in
       (file_has_header h cs bytes rest f refl, (cs, rest, file_is_whole h cs bytes rest f refl), rest_of_file h cs bytes rest f refl);
   stands = begins_with_file;
+  front = has_front_file;
+  front_decoded = decoded_front_file;
+  ahead = front_file_ahead;
 }

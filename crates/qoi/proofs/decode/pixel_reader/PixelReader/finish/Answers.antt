@@ -1,13 +1,14 @@
 -- More bytes of the image are read, until none are left.
 use Rattle.std.proofs.Common.{◌≡◌, List, ℕ, [], ◌++◌, take, Bool, true, false, IsTrue, Option, None, Some, IfSome, Result, Ok, Err, IsErrOf, refl, sym, ap, ◌∙◌, subst, append_assoc, append-nil, arith}
 use Rattle.std.proofs.lemmas.Result.{err_from_is_err_and}
-use Rattle.qoi.specs.declared.error.Error.TheVariants.{UnexpectedBufferEnd}
+use Rattle.qoi.specs.declared.error.Error.TheVariants.{UnexpectedBufferEnd, InvalidPadding}
 use Rattle.qoi.specs.declared.error.Error.{Error}
-use Rattle.qoi.specs.Decoded.{HasDecoded}
+use Rattle.qoi.specs.Decoded.{HasDecoded, HasRefused}
 use Rattle.qoi.specs.DecoderState.{DecoderState}
 use Rattle.qoi.specs.Images.{front_image, front_rest}
 use Rattle.qoi.specs.Reading.{StandsAhead}
 use Rattle.qoi.specs.pieces.PixelReader.{as_decoder, HasGiven, IsSpent, RefusesPixels}
+use Rattle.qoi.proofs.decoding.SlicesRefused.{why_refused, cut_refused, wrong_refused, decoded_not_cut, decoded_not_wrong}
 use Rattle.qoi.proofs.decode.pixel_reader.PixelReader.finish.Goals as goal
 
 -- a success is no error
@@ -40,6 +41,12 @@ missing_of true d start new e held h = if_some_of start _ (λ bytes known stands
     let (cs, rest, whole) = stands in
     h.not_whole held bytes rest cs known whole)
 missing_of false d start new e held h = absurd (cc)
+
+-- a refused image is refused by its decoder
+by_decoder : {R : Type 0} (in_memory : Bool) (d : DecoderState R) (start new : Option (List ℕ)) (e : Error) → RefusesPixels in_memory d start new e
+    → (last : Option (List ℕ)) × HasRefused in_memory d start last e
+by_decoder true d start new e h = (start, h)
+by_decoder false d start new e h = (new, h)
 
 pub loop-buf-init : goal.loop-buf-init
 loop-buf-init g c = record {
@@ -118,3 +125,38 @@ pub returns-clause-again : goal.returns-clause-again
 returns-clause-again g c is =
     let now : IsSpent c.loop-buf.self = subst IsSpent (sym (c.loop-buf.invariant.spent is)) is in
     absurd (omega (arith, now.1, c.left.ensures.left, c.loop-buf-test.false))
+
+pub returns-in_err-read-clause-why : goal.returns-in_err-read-clause-why
+returns-in_err-read-clause-why g c d start given h held =
+    let p = err_from_is_err_and c.from_residual.result c.from_residual.ensures.1 in
+    let (rest, before) = c.loop-buf.invariant.read d (Some start) given h in
+    let (last, why) = by_decoder g.R.Reader.in_memory d (Some start) _ _ (c.in_err-read.ensures.refused d (Some start) (given ++ rest) before) in
+    rw (p.1, p.2) (why_refused g.R.Reader.in_memory d (Some start) last start _ held refl why)
+
+pub returns-in_err-read-clause-cut : goal.returns-in_err-read-clause-cut
+returns-in_err-read-clause-cut g c d start given h held cut =
+    let p = err_from_is_err_and c.from_residual.result c.from_residual.ensures.1 in
+    let (rest, before) = c.loop-buf.invariant.read d (Some start) given h in
+    let (last, why) = by_decoder g.R.Reader.in_memory d (Some start) _ _ (c.in_err-read.ensures.refused d (Some start) (given ++ rest) before) in
+    let e : c.in_err-read.field-0.0 ≡ UnexpectedBufferEnd =
+    cut_refused g.R.Reader.in_memory d (Some start) last start _ held refl why cut in
+    rw (p.1, p.2) (ap Err e)
+
+pub returns-in_err-read-clause-wrong : goal.returns-in_err-read-clause-wrong
+returns-in_err-read-clause-wrong g c d start given h held wrong =
+    let p = err_from_is_err_and c.from_residual.result c.from_residual.ensures.1 in
+    let (rest, before) = c.loop-buf.invariant.read d (Some start) given h in
+    let (last, why) = by_decoder g.R.Reader.in_memory d (Some start) _ _ (c.in_err-read.ensures.refused d (Some start) (given ++ rest) before) in
+    let e : c.in_err-read.field-0.0 ≡ InvalidPadding =
+    wrong_refused g.R.Reader.in_memory d (Some start) last start _ held refl why wrong in
+    rw (p.1, p.2) (ap Err e)
+
+pub returns-clause-cut : goal.returns-clause-cut
+returns-clause-cut g c d start given h held cut =
+    let (rest, all) = returns-clause-finished g c d (Some start) given h in
+    absurd (decoded_not_cut d (Some start) _ start (given ++ rest) refl all cut)
+
+pub returns-clause-wrong : goal.returns-clause-wrong
+returns-clause-wrong g c d start given h held wrong =
+    let (rest, all) = returns-clause-finished g c d (Some start) given h in
+    absurd (decoded_not_wrong d (Some start) _ start (given ++ rest) refl all wrong)

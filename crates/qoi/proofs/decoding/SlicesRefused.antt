@@ -1,0 +1,78 @@
+-- What a refusal says of bytes in memory.
+use Rattle.std.proofs.Common.{◌≡◌, ◌⊎◌, ℕ, List, drop, Bool, true, false, IsTrue, Option, Some, Ok, Err, inl, inr, refl, sym, subst}
+use Rattle.qoi.specs.declared.error.Error.{Error}
+use Rattle.qoi.specs.declared.error.Error.TheVariants.{UnexpectedBufferEnd, InvalidPadding}
+use Rattle.qoi.specs.declared.header.Header.{Header}
+use Rattle.qoi.specs.Qoi.{pixel_count, header_of, header_size}
+use Rattle.qoi.specs.Decoding.{RefusesBytes}
+use Rattle.qoi.specs.DecoderState.{DecoderState}
+use Rattle.qoi.specs.Decoded.{HasHeader, HasDecoded, HasRefused, HasRefusedFile}
+use Rattle.qoi.specs.FrontFile.{IsNoFile}
+use Rattle.qoi.specs.Reading.{IsCutAhead, IsWrongAhead, SaysWhy}
+use Rattle.qoi.proofs.decoding.Promised.{has_refused_file, why_after}
+
+-- bytes are refused for one of two reasons
+two_reasons : (h : Header) (bytes : List ℕ) (e : Error) → RefusesBytes (pixel_count h) bytes e → SaysWhy h bytes e
+unfolding IsCutAhead IsWrongAhead
+two_reasons h bytes UnexpectedBufferEnd cut = inl (refl, cut)
+two_reasons h bytes InvalidPadding wrong = inr (refl, wrong)
+two_reasons h bytes _ none = absurd none
+
+-- why a decoder refuses bytes in memory
+pub why_refused : {R : Type 0} (in_memory : Bool) (d : DecoderState R) (old new : Option (List ℕ)) (start : List ℕ) (e : Error) → IsTrue in_memory
+    → old ≡ Some start → HasRefused in_memory d old new e → SaysWhy d.header start e
+why_refused true d old new start e held told h =
+    two_reasons d.header start e (subst (λ z. HasRefused true d z new e) told h).why.1
+why_refused false d old new start e held told h = absurd (cc)
+
+-- the error of those that are cut, and of those that are wrong
+pub cut_refused : {R : Type 0} (in_memory : Bool) (d : DecoderState R) (old new : Option (List ℕ)) (start : List ℕ) (e : Error) → IsTrue in_memory
+    → old ≡ Some start → HasRefused in_memory d old new e → IsCutAhead d.header start → e ≡ UnexpectedBufferEnd
+unfolding IsCutAhead
+cut_refused true d old new start e held told h cut = h.cut start told cut
+cut_refused false d old new start e held told h cut = absurd (cc)
+
+pub wrong_refused : {R : Type 0} (in_memory : Bool) (d : DecoderState R) (old new : Option (List ℕ)) (start : List ℕ) (e : Error) → IsTrue in_memory
+    → old ≡ Some start → HasRefused in_memory d old new e → IsWrongAhead d.header start → e ≡ InvalidPadding
+unfolding IsWrongAhead
+wrong_refused true d old new start e held told h wrong = h.wrong start told wrong
+wrong_refused false d old new start e held told h wrong = absurd (cc)
+
+-- those that are decoded are neither
+pub decoded_not_cut : {R : Type 0} (d : DecoderState R) (old new : Option (List ℕ)) (start out : List ℕ) → old ≡ Some start
+    → HasDecoded d old new out → IsCutAhead d.header start → ⊥
+unfolding IsCutAhead
+decoded_not_cut d old new start out told h cut = h.not_cut start told cut
+
+pub decoded_not_wrong : {R : Type 0} (d : DecoderState R) (old new : Option (List ℕ)) (start out : List ℕ) → old ≡ Some start
+    → HasDecoded d old new out → IsWrongAhead d.header start → ⊥
+unfolding IsWrongAhead
+decoded_not_wrong d old new start out told h wrong = h.not_wrong start told wrong
+
+-- bytes whose header is refused
+pub header_refused : (bytes : List ℕ) (e : Error) → header_of bytes ≡ Err e → IsNoFile bytes e
+unfolding IsNoFile
+header_refused bytes e refused = inl refused
+
+-- one of two reasons refuses bytes
+refuses : (h : Header) (bytes : List ℕ) (e : Error) → SaysWhy h bytes e → RefusesBytes (pixel_count h) bytes e
+unfolding IsCutAhead IsWrongAhead
+refuses h bytes e (inl (is, cut)) = subst (RefusesBytes (pixel_count h) bytes) (sym is) cut
+refuses h bytes e (inr (is, wrong)) = subst (RefusesBytes (pixel_count h) bytes) (sym is) wrong
+
+-- bytes behind whose header a decoder refuses what is ahead
+pub file_refused : (d : DecoderState (List ℕ)) (bytes : List ℕ) (e : Error) → HasHeader d (Some bytes) (Some d.reader) → SaysWhy d.header d.reader e
+    → IsNoFile bytes e
+unfolding IsNoFile
+file_refused d bytes e made why =
+    inr (d.header, made.header, subst (λ z. RefusesBytes (pixel_count d.header) z e) (cc made.after) (refuses d.header d.reader e why))
+
+-- why bytes behind a header are refused
+pub why_no_file : (bytes : List ℕ) (e : Error) (h : Header) → IsNoFile bytes e → header_of bytes ≡ Ok h → SaysWhy h (drop header_size bytes) e
+unfolding IsNoFile
+why_no_file bytes e h refused read = two_reasons h (drop header_size bytes) e (why_after bytes e refused h read)
+
+-- what such bytes promise
+pub refused_file : (bytes : List ℕ) (e : Error) → IsNoFile bytes e → HasRefusedFile bytes e
+unfolding IsNoFile
+refused_file bytes e refused = has_refused_file bytes e refused
