@@ -8,6 +8,7 @@ pub mod Hashed
 pub mod Packed
 pub mod Piece
 pub mod Pixels
+pub mod Sending
 pub mod SpelledOut
 pub mod Table
 -- One block: sixteen pixels at a time.

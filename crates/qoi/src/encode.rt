@@ -1,6 +1,7 @@
 //! Encoding, into buffers, vectors and writers.
 ghost use Rattle.std.specs.Prelude.{◌≡◌, ℕ, ◌*◌, ◌<◌, ◌≤◌, List, length, ◌⊎◌, Ok, Err, IsErrOf, IsOk, IsOkUnless, IfOk, IfErr};
 ghost use Rattle.qoi.specs.declared.header.Header.{Header};
+ghost use Rattle.qoi.specs.declared.encode.chunks.TheConstants.{FEW_BYTES};
 ghost use Rattle.qoi.specs.declared.encode.piece.TheConstants.{PAST, FULL_ROOM};
 ghost use Rattle.qoi.specs.declared.error.Error.{Error};
 ghost use Rattle.qoi.specs.declared.types.Channels.{Channels};
@@ -30,8 +31,8 @@ mod pixels;
 pub(crate) mod runs;
 mod table;
 
-use crate::encode::chunks::encode_file;
-use crate::encode::piece::{FULL_ROOM, SMALL_ROOM, TINY_ROOM};
+use crate::encode::chunks::{FEW_BYTES, encode_file, fill_few};
+use crate::encode::piece::{FEW_ROOM, FULL_ROOM, Piece, SMALL_ROOM, TINY_ROOM};
 pub use crate::encode::pixel_writer::PixelWriter;
 use crate::error::{Error, Result};
 use crate::header::{Header, max_len};
@@ -48,7 +49,34 @@ const LARGE_IMAGE: usize = 4096;
 // An image of fewer raw bytes goes to memory through a piece of 128 bytes.
 const TINY_IMAGE: usize = 128;
 
-// Writes the file of an image through a piece with this room, and returns how many bytes it has.
+// Writes the file of an image that has no block, and returns how many bytes it has. It is apart from
+// `encode_image`, which would clear its room too.
+fn encode_few<W: Writer>(
+    writer: &mut W,
+    style: Style,
+    header: &Header,
+    data: &[u8],
+) -> Result<usize>
+    requires valid { IsValid header.now }
+    requires image { length «data».now ≡ image_byte_count header.now }
+    requires few { length «data».now < FEW_BYTES }
+    requires room { max_file_len header.now ≤ W.room writer.old }
+    ensures written { IfOk result (λ n. (bytes : List ℕ)
+        × IsFileOf style header.now «data».now bytes
+        × (n ≡ length bytes) × W.wrote writer.old bytes writer.new) }
+    ensures refused { IfErr result (λ e. W.IsFault e × (bytes : List ℕ)
+        × IsFileOf style header.now «data».now bytes
+        × WroteBeginning W.wrote writer.old bytes writer.new) }
+{
+    let mut bytes = [0; FEW_ROOM];
+    let mut piece = Piece::<FEW_ROOM>::with_header(&mut bytes, header);
+    let n = fill_few(&mut piece, style, header, data);
+    writer.write_many(piece.front(n))?;
+    Ok(n)
+}
+
+// Writes the file of an image, and returns how many bytes it has. If the image has a block, they go
+// through a piece with this room.
 fn encode_image<W: Writer, const ROOM: usize>(
     writer: &mut W,
     style: Style,
@@ -66,6 +94,9 @@ fn encode_image<W: Writer, const ROOM: usize>(
         × IsFileOf style header.now «data».now bytes
         × WroteBeginning W.wrote writer.old bytes writer.new) }
 {
+    if data.len() < FEW_BYTES {
+        return encode_few(writer, style, header, data);
+    }
     let room = writer.capacity();
     encode_file::<W, ROOM>(writer, style, header, data)?;
     Ok(room - writer.capacity())

@@ -3,9 +3,7 @@ use Rattle.std.specs.Prelude.{◌≡◌, ℕ, List, ◌++◌, Option}
 use Rattle.std.specs.Io.KnownBytes.{Appends}
 use Rattle.qoi.specs.declared.chunk.Chunk.{Chunk}
 use Rattle.qoi.specs.declared.encode.pixel_writer.kept.Pending.{Pending}
-use Rattle.qoi.specs.declared.types.Style.{Style}
 use Rattle.qoi.specs.Qoi.{RgbaPixel, header_bytes, chunk_bytes, file}
-use Rattle.qoi.specs.Raw.{pixels_of}
 use Rattle.qoi.specs.Styles.{WrittenIn}
 use Rattle.qoi.specs.WrittenList.{written_list}
 use Rattle.qoi.specs.Encoded.{image_pixels}
@@ -35,13 +33,6 @@ WroteFile e before now = (cs : List Chunk) × WrittenIn e.style (image_pixels e.
 abbrev pub BeganFile : EncoderState → Option (List ℕ) → Option (List ℕ) → Type 0
 BeganFile e before now = (cs : List Chunk) × WrittenIn e.style (image_pixels e.header e.raw) cs × AppendsBeginning before now (file e.header cs)
 
--- From one state to another, for each image in this style that has these raw bytes ahead, some held
--- and some not, and any others after them.
-abbrev pub GoesOn : ℕ → Style → Option (List ℕ) → Pending → (kept held raw : List ℕ) → Option (List ℕ) → Pending → (kept' held' raw' : List ℕ) → Type 0
-GoesOn n style old p kept held raw new p' kept' held' raw' = (e : EncoderState) (before : Option (List ℕ)) (more : List ℕ) → e.style ≡ style
-    → ImageBetween e before old (pixels_of n (held ++ (raw ++ more))) p kept → ImageBetween e before new (pixels_of n (held' ++ (raw' ++ more))) p' kept'
-
--- From such a state to a fault.
-abbrev pub BreaksOff : ℕ → Style → Option (List ℕ) → Pending → (kept held raw : List ℕ) → Option (List ℕ) → Type 0
-BreaksOff n style old p kept held raw new = (e : EncoderState) (before : Option (List ℕ)) (more : List ℕ) → e.style ≡ style
-    → ImageBetween e before old (pixels_of n (held ++ (raw ++ more))) p kept → BeganFile e before new
+-- the bytes were appended to those that are known, as a writer's relation
+abbrev pub appended : Option (List ℕ) → List ℕ → Option (List ℕ) → Type 0
+appended a bytes b = Appends a b bytes

@@ -1,48 +1,62 @@
-//! The file of a whole image, through a piece to a writer (QOI specification 1.0, "Data").
-ghost use Rattle.std.specs.Prelude.{◌≡◌, ◌+◌, ◌*◌, ◌/◌, ◌%◌, ◌≤◌, length, OnOk, IfErr};
-ghost use Rattle.qoi.specs.declared.encode.piece.TheConstants.{PAST, FULL_ROOM};
-ghost use Rattle.qoi.specs.Qoi.{channels_number, header_size, marker_size};
+//! The chunks of an image, through a piece to a writer (QOI specification 1.0, "Data"): all at once,
+//! or those of some raw bytes.
+ghost use Rattle.std.specs.Prelude.{◌≡◌, ℕ, ◌+◌, ◌-◌, ◌*◌, ◌/◌, ◌%◌, ◌<◌, ◌≤◌, List, length, take, IfOk, OnOk, IfErr};
+ghost use Rattle.qoi.specs.declared.encode.piece.TheConstants.{PAST, FULL_ROOM, FEW_ROOM};
+ghost use Rattle.qoi.specs.declared.chunk.Chunk.{Chunk};
+ghost use Rattle.qoi.specs.Qoi.{channels_number, header_size, marker_size, header_bytes, file};
 ghost use Rattle.qoi.specs.Raw.{IsChannels, pixels_of};
-ghost use Rattle.qoi.specs.inner.Piece.{WroteFile, BeganFile};
+ghost use Rattle.qoi.specs.Styles.{WrittenIn};
+ghost use Rattle.qoi.specs.inner.CoderLoop.{CoderBetween};
+ghost use Rattle.qoi.specs.inner.Piece.{kept_bytes, WroteFile, BeganFile};
+ghost use Rattle.qoi.specs.inner.Sending.{GoesOn, BreaksOff, Ends, EndsEarly, HasRoom, AreLeft};
 
 use crate::encode::blocks::write_some;
 use crate::encode::coder::Coder;
 use crate::encode::last_pixel::LastPixel;
-use crate::encode::piece::Piece;
+use crate::encode::piece::{FEW_ROOM, OpenPiece, Piece};
 use crate::encode::pixels::Pixels;
 use crate::encode::table::PixelTable;
 use crate::error::Result;
 use crate::header::Header;
-use crate::types::Channels::{Rgb, Rgba};
+use crate::types::Channels::{self, Rgb, Rgba};
 use crate::types::Style::{self, Places, Reference, Tight};
 use crate::writers::Writer;
 
-// `encode_file` for `N` channels. `COPY` is a number for each style, so that each has a function of
+// `write_whole` for `N` channels. `COPY` is a number for each style, so that each has a function of
 // its own: one for all would test the style at each pixel.
-fn encode_pixels<W: Writer, const N: usize, const COPY: u8, const ROOM: usize>(
+#[inline(always)]
+fn write_blocks<'a, 'p, W: Writer, const N: usize, const COPY: u8, const ROOM: usize>(
     writer: &mut W,
     style: Style,
-    header: &Header,
-    data: &[u8],
-) -> Result<()>
+    table: &mut PixelTable,
+    last: &mut LastPixel,
+    piece: OpenPiece<'p, ROOM>,
+    data: &'a [u8],
+) -> Result<(&'a [u8], OpenPiece<'p, ROOM>)>
     requires channels { IsChannels N }
     requires whole { length «data».now % N ≡ 0 }
-    requires piece { (2 * PAST ≤ ROOM) × (ROOM ≤ FULL_ROOM) }
-    requires room { header_size + marker_size + (length «data».now + length «data».now / N)
-        ≤ W.room writer.old }
-    ensures written { OnOk result (WroteFile W.wrote style header.now (pixels_of N «data».now)
-        writer.old writer.new) }
-    ensures refused { IfErr result (λ e. W.IsFault e
-        × BeganFile W.wrote style header.now (pixels_of N «data».now) writer.old writer.new) }
+    requires opaque { N ≡ 3 → last.old.px.a ≡ 255 }
+    requires large { 2 * PAST ≤ ROOM }
+    requires room { HasRoom (W.room writer.old) ROOM N style
+        (record { table = table.old; last = last.old }) (kept_bytes piece.piece) «data».now }
+    ensures left { IfOk result (λ r. AreLeft N «data».entry.now r.0.now) }
+    ensures opaque { N ≡ 3 → last.new.px.a ≡ 255 }
+    ensures written { IfOk result (λ r. GoesOn W.wrote N style writer.old
+        (record { table = table.old; last = last.old })
+        (kept_bytes piece.entry.piece) «data».entry.now writer.new
+        (record { table = table.new; last = last.new }) (kept_bytes r.1.piece) r.0.now) }
+    ensures room { IfOk result (λ r. HasRoom (W.room writer.new) ROOM N style
+        (record { table = table.new; last = last.new }) (kept_bytes r.1.piece) r.0.now) }
+    ensures refused { IfErr result (λ e. W.IsFault e × BreaksOff W.wrote N style writer.old
+        (record { table = table.old; last = last.old })
+        (kept_bytes piece.entry.piece) «data».entry.now writer.new) }
 {
-    let mut bytes = [0; ROOM];
-    let mut piece = Piece::<ROOM>::with_header(&mut bytes, header).open();
-    let mut table = PixelTable::new();
-    let mut coder = Coder::<N>::new(LastPixel::start());
+    let mut coder = Coder::<N>::new(*last);
+    let mut piece = piece;
     let mut rest = Pixels::<N>::new(data);
     while rest.has_block() {
         let (after, mut filled) = write_some::<N, COPY, ROOM>(
-            &mut coder, style, &mut table, piece, rest,
+            &mut coder, style, table, piece, rest,
         );
         if filled.is_full() {
             filled.send(writer)?;
@@ -50,13 +64,111 @@ fn encode_pixels<W: Writer, const N: usize, const COPY: u8, const ROOM: usize>(
         rest = after;
         piece = filled.open();
     }
-    let mut last = piece.piece;
-    if rest.is_empty() {
-        coder.write_last(&mut last);
-    } else {
-        coder.write_few(style, &mut table, &mut last, rest);
+    *last = coder.last;
+    Ok((rest.bytes, piece))
+}
+
+/// Writes whole pixels through the piece, which the writer is sent each time it is full, but for
+/// fewer than a block has at their end. Returns those, and the piece.
+#[inline(always)]
+pub(super) fn write_whole<'a, 'p, W: Writer, const ROOM: usize>(
+    writer: &mut W,
+    channels: Channels,
+    style: Style,
+    table: &mut PixelTable,
+    last: &mut LastPixel,
+    piece: OpenPiece<'p, ROOM>,
+    data: &'a [u8],
+) -> Result<(&'a [u8], OpenPiece<'p, ROOM>)>
+    requires whole { length «data».now % channels_number channels ≡ 0 }
+    requires opaque { channels_number channels ≡ 3 → last.old.px.a ≡ 255 }
+    requires large { 2 * PAST ≤ ROOM }
+    requires room { HasRoom (W.room writer.old) ROOM (channels_number channels) style
+        (record { table = table.old; last = last.old }) (kept_bytes piece.piece) «data».now }
+    ensures left { IfOk result (λ r. AreLeft (channels_number channels) «data».entry.now r.0.now) }
+    ensures opaque { channels_number channels ≡ 3 → last.new.px.a ≡ 255 }
+    ensures room { IfOk result (λ r. HasRoom (W.room writer.new) ROOM (channels_number channels)
+        style (record { table = table.new; last = last.new }) (kept_bytes r.1.piece) r.0.now) }
+    ensures written { IfOk result (λ r. GoesOn W.wrote (channels_number channels) style writer.old
+        (record { table = table.old; last = last.old })
+        (kept_bytes piece.entry.piece) «data».entry.now writer.new
+        (record { table = table.new; last = last.new }) (kept_bytes r.1.piece) r.0.now) }
+    ensures refused { IfErr result (λ e. W.IsFault e × BreaksOff W.wrote (channels_number channels)
+        style writer.old (record { table = table.old; last = last.old })
+        (kept_bytes piece.entry.piece) «data».entry.now writer.new) }
+{
+    // A loop for each pair, in which channels and style are constants.
+    match (channels, style) {
+        (Rgb, Reference) => {
+            write_blocks::<W, 3, 0, ROOM>(writer, Reference, table, last, piece, data)
+        }
+        (Rgb, Places) => write_blocks::<W, 3, 1, ROOM>(writer, Places, table, last, piece, data),
+        (Rgb, Tight) => write_blocks::<W, 3, 2, ROOM>(writer, Tight, table, last, piece, data),
+        (Rgba, Reference) => {
+            write_blocks::<W, 4, 0, ROOM>(writer, Reference, table, last, piece, data)
+        }
+        (Rgba, Places) => write_blocks::<W, 4, 1, ROOM>(writer, Places, table, last, piece, data),
+        (Rgba, Tight) => write_blocks::<W, 4, 2, ROOM>(writer, Tight, table, last, piece, data),
     }
-    last.finish(writer)
+}
+
+// Writes an image's last pixels, fewer than a block has, into the piece.
+#[inline(always)]
+fn write_rest<const N: usize, const ROOM: usize>(
+    style: Style,
+    table: &mut PixelTable,
+    last: LastPixel,
+    piece: &mut Piece<ROOM>,
+    left: &[u8],
+)
+    requires channels { IsChannels N }
+    requires whole { length left.now % N ≡ 0 }
+    requires few { length left.now < 16 * N }
+    requires opaque { N ≡ 3 → last.px.a ≡ 255 }
+    requires not_full { piece.old.end < ROOM - PAST }
+    ensures written { (ahead : List ℕ) → CoderBetween style ahead (pixels_of N left.now)
+        table.old last (kept_bytes piece.old) → ahead ≡ kept_bytes piece.new }
+{
+    let mut coder = Coder::<N>::new(last);
+    let rest = Pixels::<N>::new(left);
+    if rest.is_empty() {
+        coder.write_last(piece);
+    } else if ROOM == FEW_ROOM {
+        // Inlined, since it is most of what is done.
+        coder.write_each(style, table, piece, rest);
+    } else {
+        coder.write_few(style, table, piece, rest);
+    }
+}
+
+/// Writes an image's last pixels, fewer than a block has, and then the end marker.
+pub(super) fn write_end<W: Writer, const ROOM: usize>(
+    writer: &mut W,
+    channels: Channels,
+    style: Style,
+    table: &mut PixelTable,
+    last: LastPixel,
+    piece: &mut Piece<ROOM>,
+    left: &[u8],
+) -> Result<()>
+    requires whole { length left.now % channels_number channels ≡ 0 }
+    requires few { length left.now < 16 * channels_number channels }
+    requires opaque { channels_number channels ≡ 3 → last.px.a ≡ 255 }
+    requires not_full { piece.old.end < ROOM - PAST }
+    requires large { 2 * PAST ≤ ROOM }
+    requires room { HasRoom (W.room writer.old) ROOM (channels_number channels) style
+        (record { table = table.old; last = last }) (kept_bytes piece.old) left.now }
+    ensures written { OnOk result (Ends W.wrote (channels_number channels) style writer.old
+        (record { table = table.old; last = last }) (kept_bytes piece.old) left.now writer.new) }
+    ensures refused { IfErr result (λ e. W.IsFault e × EndsEarly W.wrote (channels_number channels)
+        style writer.old (record { table = table.old; last = last })
+        (kept_bytes piece.old) left.now writer.new) }
+{
+    match channels {
+        Rgb => write_rest::<3, ROOM>(style, table, last, piece, left),
+        Rgba => write_rest::<4, ROOM>(style, table, last, piece, left),
+    }
+    piece.finish(writer)
 }
 
 /// Writes the file of an image: header, its raw bytes as chunks, and end marker. They go through a
@@ -77,13 +189,55 @@ pub(super) fn encode_file<W: Writer, const ROOM: usize>(
     ensures refused { IfErr result (λ e. W.IsFault e × BeganFile W.wrote style header.now
         (pixels_of (channels_number header.now.channels) «data».now) writer.old writer.new) }
 {
-    // A loop for each pair, in which channels and style are constants.
-    match (header.channels, style) {
-        (Rgb, Reference) => encode_pixels::<W, 3, 0, ROOM>(writer, Reference, header, data),
-        (Rgb, Places) => encode_pixels::<W, 3, 1, ROOM>(writer, Places, header, data),
-        (Rgb, Tight) => encode_pixels::<W, 3, 2, ROOM>(writer, Tight, header, data),
-        (Rgba, Reference) => encode_pixels::<W, 4, 0, ROOM>(writer, Reference, header, data),
-        (Rgba, Places) => encode_pixels::<W, 4, 1, ROOM>(writer, Places, header, data),
-        (Rgba, Tight) => encode_pixels::<W, 4, 2, ROOM>(writer, Tight, header, data),
+    let mut bytes = [0; ROOM];
+    let piece = Piece::<ROOM>::with_header(&mut bytes, header).open();
+    let mut table = PixelTable::new();
+    let mut last = LastPixel::start();
+    let (left, piece) = write_whole(
+        writer,
+        header.channels,
+        style,
+        &mut table,
+        &mut last,
+        piece,
+        data,
+    )?;
+    let mut piece = piece.piece;
+    write_end(
+        writer,
+        header.channels,
+        style,
+        &mut table,
+        last,
+        &mut piece,
+        left,
+    )
+}
+
+/// An image of fewer raw bytes has no block: fewer than sixteen pixels, of three channels or four.
+pub(super) const FEW_BYTES: usize = 48;
+
+/// Writes the chunks of an image that has no block behind its header, and the end marker. Returns how
+/// many bytes the file has.
+pub(super) fn fill_few(
+    piece: &mut Piece<FEW_ROOM>,
+    style: Style,
+    header: &Header,
+    data: &[u8],
+) -> usize
+    requires whole { length «data».now % channels_number header.now.channels ≡ 0 }
+    requires few { length «data».now < FEW_BYTES }
+    requires header { kept_bytes piece.old ≡ header_bytes header.now }
+    ensures within { result ≤ FEW_ROOM }
+    ensures written { (cs : List Chunk) × WrittenIn style
+        (pixels_of (channels_number header.now.channels) «data».now) cs
+        × (take result piece.new.bytes.now ≡ file header.now cs) }
+{
+    let mut table = PixelTable::new();
+    let last = LastPixel::start();
+    match header.channels {
+        Rgb => write_rest::<3, FEW_ROOM>(style, &mut table, last, piece, data),
+        Rgba => write_rest::<4, FEW_ROOM>(style, &mut table, last, piece, data),
     }
+    piece.store_marker()
 }

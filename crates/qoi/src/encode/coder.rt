@@ -292,10 +292,28 @@ impl<const N: usize> Coder<N> {
         after.skip(1)
     }
 
-    /// Writes the repeats that came before, and an image's last pixels, fewer than a block has, one
-    /// by one.
+    /// `write_each` as a function of its own, which all images of these channels share.
     #[inline(never)]
     pub(super) fn write_few<const ROOM: usize>(
+        &mut self,
+        style: Style,
+        table: &mut PixelTable,
+        piece: &mut Piece<ROOM>,
+        raw: Pixels<N>,
+    )
+        requires few { length (pixels_in raw) < 16 }
+        requires not_full { piece.old.end < ROOM - PAST }
+        ensures written { (ahead : List ℕ)
+            → CoderBetween style ahead (pixels_in raw.entry) table.old self.old.last
+            (kept_bytes piece.old) → ahead ≡ kept_bytes piece.new }
+    {
+        self.write_each(style, table, piece, raw);
+    }
+
+    /// Writes the repeats that came before, and an image's last pixels, fewer than a block has, one
+    /// by one.
+    #[inline(always)]
+    pub(super) fn write_each<const ROOM: usize>(
         &mut self,
         style: Style,
         table: &mut PixelTable,

@@ -33,6 +33,9 @@ pub(super) const SMALL_ROOM: usize = 512 + PAST;
 /// The least room, of a piece of 128 bytes, for a tiny image that goes to memory.
 pub(super) const TINY_ROOM: usize = 128 + PAST;
 
+/// The room for the file of an image of fewer than sixteen pixels: header, chunks and end marker.
+pub(super) const FEW_ROOM: usize = 16 + PAST;
+
 /// The most runs that are kept at a time, stored at once as a vector.
 pub(super) const RUNS_AT_ONCE: usize = 16;
 
@@ -45,7 +48,7 @@ pub(super) const REPEATS_AT_ONCE: usize = RUNS_AT_ONCE * QOI_RUN_MAX;
 pub(super) struct Piece<'a, const ROOM: usize> {
     pub(super) bytes: &'a mut [u8],
     pub(super) end: usize,
-    ghost large: { 2 * PAST ≤ ROOM },
+    ghost large: { PAST ≤ ROOM },
     ghost within: { end + marker_size ≤ ROOM },
     ghost room: { length bytes.now ≡ ROOM },
 }
@@ -63,7 +66,7 @@ impl<'a, const ROOM: usize> Piece<'a, ROOM> {
     /// An empty piece in this room.
     #[inline(always)]
     pub(super) fn new(room: &'a mut [u8]) -> Piece<'a, ROOM>
-        requires large { 2 * PAST ≤ ROOM }
+        requires large { PAST ≤ ROOM }
         requires room { length room.old ≡ ROOM }
         ensures { kept_bytes result ≡ [] }
     {
@@ -76,7 +79,7 @@ impl<'a, const ROOM: usize> Piece<'a, ROOM> {
     /// A piece in this room, with a header.
     #[inline(always)]
     pub(super) fn with_header(room: &'a mut [u8], header: &Header) -> Piece<'a, ROOM>
-        requires large { 2 * PAST ≤ ROOM }
+        requires large { PAST ≤ ROOM }
         requires room { length room.old ≡ ROOM }
         ensures { kept_bytes result ≡ header_bytes header.now }
     {
@@ -159,6 +162,7 @@ impl<'a, const ROOM: usize> Piece<'a, ROOM> {
     pub(super) fn send<W: Writer>(&mut self, writer: &mut W) -> Result<()>
         requires full { ROOM - PAST ≤ self.old.end }
         requires room { ROOM - PAST ≤ W.room writer.old }
+        requires large { 2 * PAST ≤ ROOM }
         ensures written { OnOk result
             (W.wrote writer.old (take (ROOM - PAST) (kept_bytes self.old)) writer.new) }
         ensures kept { OnOk result
@@ -180,10 +184,29 @@ impl<'a, const ROOM: usize> Piece<'a, ROOM> {
         &self.bytes[..self.end]
     }
 
+    /// Stores the end marker after the bytes, and returns where it ends.
+    #[inline(always)]
+    pub(super) fn store_marker(&mut self) -> usize
+        ensures within { result ≤ ROOM }
+        ensures stored { take result self.new.bytes.now ≡ kept_bytes self.old ++ end_marker }
+    {
+        copy_after(self.bytes, self.end, &QOI_PADDING)
+    }
+
+    /// The first `n` bytes of the room.
+    #[inline(always)]
+    pub(super) fn front(&self, n: usize) -> &[u8]
+        requires { n ≤ ROOM }
+        ensures { result.now ≡ take n self.now.bytes.now }
+    {
+        &self.bytes[..n]
+    }
+
     /// Sends all the bytes to a writer, and then the end marker. Doesn't empty the piece.
     #[inline(always)]
     pub(super) fn finish<W: Writer>(&mut self, writer: &mut W) -> Result<()>
-        requires { self.old.end + marker_size ≤ W.room writer.old }
+        requires room { self.old.end + marker_size ≤ W.room writer.old }
+        requires large { 2 * PAST ≤ ROOM }
         ensures written { OnOk result
             (W.wrote writer.old (kept_bytes self.old ++ end_marker) writer.new) }
         ensures refused { IfErr result (λ e. W.IsFault e

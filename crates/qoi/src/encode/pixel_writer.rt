@@ -13,7 +13,7 @@ mod pieces;
 
 use crate::consts::QOI_HEADER_SIZE;
 use crate::encode::pixel_writer::kept::Kept;
-use crate::encode::pixel_writer::pieces::{send_bytes, take_any, write_any};
+use crate::encode::pixel_writer::pieces::{send_bytes, take_any, write_held};
 use crate::error::{Error, Result};
 use crate::header::Header;
 use crate::types::Style;
@@ -260,7 +260,7 @@ impl<W: Write + Drop> PixelWriter<W> {
         // It stays set if a fault ends the call.
         self.failed = true;
         let kept = &mut *self.kept;
-        write_any(&mut self.writer, self.header.channels, self.style, kept)
+        write_held(&mut self.writer, self.header.channels, self.style, kept)
     }
 
     /// The writer as it stands: with a beginning of the file behind what it had.

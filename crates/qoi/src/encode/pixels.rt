@@ -38,7 +38,7 @@ impl<'a, const N: usize> Pixels<'a, N> {
     pub(super) fn new(bytes: &'a [u8]) -> Pixels<'a, N>
         requires channels { IsChannels N }
         requires whole { length bytes.now % N ≡ 0 }
-        ensures { pixels_in result ≡ pixels_of N bytes.entry.now }
+        ensures { result.bytes.now ≡ bytes.entry.now }
     {
         Pixels { bytes }
     }

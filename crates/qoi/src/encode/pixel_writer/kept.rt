@@ -13,12 +13,12 @@ use std::marker::Model;
 /// How many raw bytes are held at most: whole blocks of three channels, and of four.
 pub(super) const HELD_MOST: usize = 8256;
 
-/// What is kept between two calls, and the room of a piece, whose bytes mean nothing then.
+/// What is kept between two calls, and the bytes of a piece, which mean nothing then.
 #[derive(Drop)]
 pub(super) struct Kept {
     pub(super) pending: Pending,
     pub(super) held: Held,
-    pub(super) room: [u8; FULL_ROOM],
+    pub(super) piece_bytes: [u8; FULL_ROOM],
 }
 
 impl Kept {
@@ -35,7 +35,7 @@ impl Kept {
                 last: LastPixel::start(),
             },
             held: Held::new(),
-            room: [0; FULL_ROOM],
+            piece_bytes: [0; FULL_ROOM],
         }
     }
 }
@@ -122,7 +122,8 @@ impl Held {
     /// The bytes that are held.
     #[inline(always)]
     pub(super) fn bytes(&self) -> &[u8]
-        ensures { result.now ≡ self.now }
+        ensures are { result.now ≡ self.now }
+        ensures most { length self.now ≤ HELD_MOST }
     {
         &self.bytes[..self.len]
     }

@@ -8,19 +8,20 @@ use Rattle.qoi.specs.declared.encode.pixel_writer.kept.Kept.{Kept}
 use Rattle.qoi.specs.pieces.PixelWriter.{HasTaken}
 use Rattle.qoi.specs.pieces.WriterPieces.{ImageBetween}
 use Rattle.qoi.proofs.FileOf.{file_of, sends_file, sends_part}
+use Rattle.qoi.proofs.encoding.piece.ImagePieces.{image_ends, image_ends_early}
 use Rattle.qoi.proofs.encode.pixel_writer.PixelWriter.send_rest.Given.{Over}
-use Rattle.qoi.proofs.encode.pixel_writer.PixelWriter.send_rest.Goals.{After-write_any}
+use Rattle.qoi.proofs.encode.pixel_writer.PixelWriter.send_rest.Goals.{After-write_held}
 use Rattle.qoi.proofs.encode.pixel_writer.PixelWriter.send_rest.Goals as goal
 
-pub write_any-requires-clause-whole : goal.write_any-requires-clause-whole
-write_any-requires-clause-whole g c =
+pub write_held-requires-clause-whole : goal.write_held-requires-clause-whole
+write_held-requires-clause-whole g c =
     let p = c.self.inside in
     let none : p.left ≡ 0 = omega (arith, c.if-self-gt0.false) in
     ap (λ k. k % channels_number p.header.channels) (ap (λ (k : Kept). length k.held) c.deref_mut-kept.ensures.value ∙ (let same : length p.kept.value.held ≡ length p.kept.value.held + p.left = omega (arith, none) in same))
     ∙ c.self.invariant.3 c.if-self.false
 
 -- only the bytes that are held are ahead
-starts : (g : Over) (c : After-write_any g) (e : EncoderState) (before : _) → c.self.inside.left ≡ 0 → HasTaken g.W.Write.contents e before c.args.self.now
+starts : (g : Over) (c : After-write_held g) (e : EncoderState) (before : _) → c.self.inside.left ≡ 0 → HasTaken g.W.Write.contents e before c.args.self.now
     → ImageBetween e before (g.W.Write.contents c.self.inside.writer) (pixels_of (channels_number c.self.inside.header.channels) c.deref_mut-kept.result.now.held) c.deref_mut-kept.result.now.pending []
 unfolding HasTaken
 starts g c e before none taken =
@@ -37,32 +38,33 @@ unfolding HasTaken
 returns-clause-sent g c = λ e before t.
     let none : c.self.inside.left ≡ 0 = omega (arith, c.if-self-gt0.false) in
     let left = ap (λ s. s.left) c.self.view_is in
-    let style = sym t.style_is ∙ sym (ap (λ s. s.style) c.self.view_is) in
+    let style = ap (λ s. s.style) c.self.view_is ∙ t.style_is in
     let valid : IsValid e.header = subst IsValid (ap (λ s. s.header) c.self.view_is ∙ t.header_is) c.self.invariant.0 in
-    on_ok_weaker c.write_any.result
+    on_ok_weaker c.write_held.result
     (λ wrote. (
       length (file e.header wrote.0),
-      sends_file e (file e.header wrote.0) before (g.W.Write.contents c.write_any.new.writer) _
+      sends_file e (file e.header wrote.0) before (g.W.Write.contents c.write_held.new.writer) _
           (file_of e.header e.raw valid (omega (arith, t.size, none, left)) e.style t.are wrote.0 wrote.1) refl wrote.2,
     ))
-    (c.write_any.ensures.written e before style (starts g (goal.at.returns-clause-sent g c).After-write_any e before none t))
+    (on_ok_weaker c.write_held.result (λ ends. image_ends (starts g (goal.at.returns-clause-sent g c).After-write_held e before none t) style ends refl)
+    c.write_held.ensures.written)
 
 pub returns-clause-part : goal.returns-clause-part
 unfolding HasTaken
 returns-clause-part g c = λ e before t.
     let none : c.self.inside.left ≡ 0 = omega (arith, c.if-self-gt0.false) in
     let left = ap (λ s. s.left) c.self.view_is in
-    let style = sym t.style_is ∙ sym (ap (λ s. s.style) c.self.view_is) in
+    let style = ap (λ s. s.style) c.self.view_is ∙ t.style_is in
     let valid : IsValid e.header = subst IsValid (ap (λ s. s.header) c.self.view_is ∙ t.header_is) c.self.invariant.0 in
-    let here = (goal.at.returns-clause-part g c).After-write_any in
-    IfErr-weaker c.write_any.result _ _
+    let here = (goal.at.returns-clause-part g c).After-write_held in
+    IfErr-weaker c.write_held.result _ _
     (λ error r is.
-    let began = r.1 e before style (starts g here e before none t) in (
+    let began = image_ends_early (starts g here e before none t) style r.1 refl in (
       sym left ∙ none,
-      sends_part e (file e.header began.0) before (g.W.Write.contents c.write_any.new.writer)
+      sends_part e (file e.header began.0) before (g.W.Write.contents c.write_held.new.writer)
           (file_of e.header e.raw valid (omega (arith, t.size, none, left)) e.style t.are began.0 began.1) began.2,
     ))
-    c.write_any.ensures.refused
+    c.write_held.ensures.refused
 
 pub returns-then-self-gt0-clause-missing : goal.returns-then-self-gt0-clause-missing
 unfolding HasTaken

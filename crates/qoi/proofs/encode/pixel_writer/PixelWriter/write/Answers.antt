@@ -8,6 +8,7 @@ use Rattle.qoi.specs.EncoderState.{EncoderState}
 use Rattle.qoi.specs.pieces.PixelWriter.{HasTaken}
 use Rattle.qoi.specs.pieces.WriterPieces.{ImageBetween}
 use Rattle.qoi.proofs.FileOf.{file_of, sends_part}
+use Rattle.qoi.proofs.encoding.piece.ImagePieces.{image_on, image_off}
 use Rattle.qoi.proofs.decoding.StreamReads.{bytes_append}
 use Rattle.qoi.proofs.encode.pixel_writer.PixelWriter.write.Given.{Over}
 use Rattle.qoi.proofs.encode.pixel_writer.PixelWriter.write.Goals.{After-deref_mut-kept}
@@ -18,15 +19,17 @@ starts : (g : Over) (c : After-deref_mut-kept g) (e : EncoderState) (before : _)
     → ImageBetween (record e { raw = e.raw ++ (c.args.raw.now ++ more) }) before (g.W.Write.contents c.self.inside.writer)
     (pixels_of (channels_number c.self.inside.header.channels) (c.self.inside.kept.value.held ++ (c.args.raw.now ++ more))) c.self.inside.kept.value.pending []
     → ImageBetween (record e { raw = (e.raw ++ c.args.raw.now) ++ more }) before (g.W.Write.contents c.self.inside.writer)
-    (pixels_of (channels_number c.self.inside.header.channels) (c.deref_mut-kept.result.now.held ++ (c.args.raw.now ++ more))) c.deref_mut-kept.result.now.pending []
+    (pixels_of (channels_number c.self.inside.header.channels) ((c.deref_mut-kept.result.now.held ++ c.args.raw.now) ++ more)) c.deref_mut-kept.result.now.pending []
 starts g c e before more b =
     let p = c.self.inside in
     let raw = c.args.raw.now in
     let n = channels_number p.header.channels in
-    subst (λ (k : Kept). ImageBetween (record e { raw = (e.raw ++ raw) ++ more }) before (g.W.Write.contents p.writer) (pixels_of n (k.held ++ (raw ++ more))) k.pending [])
+    subst (λ (k : Kept). ImageBetween (record e { raw = (e.raw ++ raw) ++ more }) before (g.W.Write.contents p.writer) (pixels_of n ((k.held ++ raw) ++ more)) k.pending [])
     (sym c.deref_mut-kept.ensures.value)
-    (subst (λ x. ImageBetween (record e { raw = x }) before (g.W.Write.contents p.writer) (pixels_of n (p.kept.value.held ++ (raw ++ more))) p.kept.value.pending [])
-    (sym (append_assoc e.raw raw more)) b)
+    (subst (λ x. ImageBetween (record e { raw = x }) before (g.W.Write.contents p.writer) (pixels_of n ((p.kept.value.held ++ raw) ++ more)) p.kept.value.pending [])
+    (sym (append_assoc e.raw raw more))
+    (subst (λ x. ImageBetween (record e { raw = e.raw ++ (raw ++ more) }) before (g.W.Write.contents p.writer) (pixels_of n x) p.kept.value.pending [])
+    (sym (append_assoc p.kept.value.held raw more)) b))
 
 pub returns-in_err-take_any-clause-refused : goal.returns-in_err-take_any-clause-refused
 unfolding HasTaken
@@ -49,7 +52,7 @@ returns-in_err-take_any-clause-refused g c = λ e before taken.
             let all = record e { raw = (e.raw ++ raw) ++ more } in
             let left : length (raw ++ more) ≡ p.left = omega (arith, size, length-append (e.raw ++ raw) more, length-append e.raw raw, length-append raw more, t.size) in
             let start = starts g (goal.at.returns-in_err-take_any-clause-refused g c).After-deref_mut-kept e before more (t.writes (raw ++ more) left (bytes_append raw more raw_are are)) in
-            let began = r.1 all before more (sym t.style_is) start in
+            let began = image_off start t.style_is more r.1 refl in
             let all_are = bytes_append (e.raw ++ raw) more (bytes_append e.raw raw t.are raw_are) are in
             let valid : IsValid e.header = subst IsValid t.header_is c.self.invariant.0 in
             sends_part all (file e.header began.0) before (g.W.Write.contents c.take_any.new.writer)
@@ -74,5 +77,5 @@ returns-clause-taken g c = λ e before taken.
       writes = λ more size are.
           let left : length (raw ++ more) ≡ p.left = omega (arith, size, length-append raw more, c.if-raw-self.false) in
           let start = starts g (goal.at.returns-clause-taken g c).After-deref_mut-kept e before more (t.writes (raw ++ more) left (bytes_append raw more raw_are are)) in
-          c.in_ok-take_any.ensures.written (record e { raw = (e.raw ++ raw) ++ more }) before more (sym t.style_is) start;
+          image_on start t.style_is more c.in_ok-take_any.ensures.written refl;
     }

@@ -1,51 +1,82 @@
 -- What came is written or held.
-use Rattle.std.proofs.Common.{◌++◌, [], length, sym, ap, ◌∙◌, arith, subst, append_assoc}
+use Rattle.std.proofs.Common.{rules, ◌++◌, [], length, refl, sym, ◌∙◌, arith, subst, append-nil}
 use Rattle.std.proofs.lemmas.Result.{err_from_is_err_and}
+use Rattle.std.proofs.KnownBytes.{Appends-trans}
 use Rattle.std.specs.Io.KnownBytes.{Appends}
-use Rattle.qoi.specs.Raw.{pixels_of}
+use Rattle.qoi.specs.Qoi.{channels_number}
 use Rattle.qoi.specs.writers.Writes.{AppendsBeginning}
-use Rattle.qoi.specs.pieces.WriterPieces.{ImageBetween}
-use Rattle.qoi.proofs.encoding.piece.ImagePieces.{fills_block, has_block, image_part, image_emptied}
+use Rattle.qoi.specs.writers.GenericWriter.{stream_writer}
+use Rattle.qoi.specs.inner.Piece.{kept_bytes}
+use Rattle.qoi.specs.inner.Sending.{GoesOn}
+use Rattle.qoi.specs.pieces.WriterPieces.{appended}
+use Rattle.qoi.proofs.decoding.ImageSize.{channels_are}
+use Rattle.qoi.proofs.encoding.piece.BytesAhead.{then_on, then_breaks, stands, sent_on, sent_part}
+use Rattle.qoi.proofs.encoding.piece.ImagePieces.{fills_block, has_block}
+use Rattle.qoi.proofs.encoding.piece.StreamSent.{appends_as}
 use Rattle.qoi.proofs.encode.pixel_writer.pieces.take_raw.Goals as goal
 
 pub write_more-requires : goal.write_more-requires
 write_more-requires g c =
-    let n = g.row.N in
-    let held = length c.loop-style.held in
-    let rest = length c.loop-style.rest.now in
-    let many = c.takes.ensures.many c.loop-style-test.true in (
-      omega arith,
-      (
-        c.requires.channels,
-        (c.loop-style.invariant.opaque, (fills_block n held rest c.requires.channels c.takes.ensures.most many, has_block n held rest c.requires.channels many)),
-      ),
-    )
+    let n = channels_number c.args.channels in
+    let is = channels_are c.args.channels n refl in
+    let held = length c.loop-pending.held in
+    let rest = length c.loop-pending.rest.now in
+    let most = c.takes.ensures.most in
+    let many = c.takes.ensures.many c.loop-pending-test.true in
+    record {
+      opaque = c.loop-pending.invariant.opaque;
+      enough = fills_block n held rest is most many;
+      block = has_block n held rest is many;
+      room = omega (arith, c.new-stream.ensures.room, c.loop-pending.invariant.most, c.requires.most);
+    }
 
 pub returns-in_err-rest-clause-refused : goal.returns-in_err-rest-clause-refused
 returns-in_err-rest-clause-refused g c =
     let e = err_from_is_err_and c.from_residual.result c.from_residual.ensures.1 in
     let r = c.in_err-rest.ensures.refused in
-    rw (e.1, e.2) (r.0, λ e before more style b. r.1 e before more style (c.loop-style.invariant.written e before more style b))
+    rw (e.1, e.2) (
+      r.0,
+      then_breaks Appends-trans c.loop-pending.invariant.written (record {
+        off = λ ahead more s.
+            (let v = r.1.off ahead more s in
+            let same = v.1.went.same_writer in
+            let front = appends_as g.W.Write.contents (g.W.Write.contents (stream_writer c.write_more.new.writer)) v.1.front c.new-stream.ensures.value v.1.went.appended in
+            (v.0, record { front = v.1.front; split = v.1.split; went = search rules }));
+      }),
+    )
 
-pub loop-style-preserved : goal.loop-style-preserved
-loop-style-preserved g c =
+pub loop-pending-preserved : goal.loop-pending-preserved
+loop-pending-preserved g c =
     let step = c.in_ok-rest.ensures in
     record {
-      count = step.count ∙ c.loop-style.invariant.count;
+      most = omega (arith, step.less, c.loop-pending.invariant.most);
+      count = step.count ∙ c.loop-pending.invariant.count;
       opaque = step.opaque;
-      written = λ e before more style b. step.written e before more style (c.loop-style.invariant.written e before more style b);
+      written = then_on Appends-trans c.loop-pending.invariant.written (record {
+        on = λ ahead more s.
+            (let v = step.written.on ahead more s in
+            let same = v.1.went.same_writer in
+            let front = appends_as g.W.Write.contents (g.W.Write.contents (stream_writer c.write_more.new.writer)) v.1.front c.new-stream.ensures.value v.1.went.appended in
+            (v.0, record { front = v.1.front; split = v.1.split; went = search rules }, v.2));
+      });
     }
 
 pub returns-in_err-send_bytes-clause-refused : goal.returns-in_err-send_bytes-clause-refused
 returns-in_err-send_bytes-clause-refused g c =
     let e = err_from_is_err_and c.from_residual-in_err-send_bytes.result c.from_residual-in_err-send_bytes.ensures.1 in
     let r = c.in_err-send_bytes.ensures.refused in
-    let all = subst (AppendsBeginning (g.W.Write.contents c.loop-style.writer) (g.W.Write.contents c.send_bytes.new.writer)) c.kept.ensures r.1 in
-    rw (e.1, e.2) (r.0, λ e before more style b. image_part (c.loop-style.invariant.written e before more style b) (g.W.Write.contents c.send_bytes.new.writer) all)
+    let some = subst (AppendsBeginning (g.W.Write.contents c.loop-pending.writer) (g.W.Write.contents c.send_bytes.new.writer)) c.kept.ensures r.1 in
+    rw (e.1, e.2) (
+      r.0,
+      then_breaks Appends-trans c.loop-pending.invariant.written
+          (sent_part stands (some.1, record { front = some.0; split = some.2; went = some.3 })),
+    )
 
 pub returns-clause-written : goal.returns-clause-written
-returns-clause-written g c = λ e before more style b.
-    let all = subst (Appends (g.W.Write.contents c.loop-style.writer) (g.W.Write.contents c.send_bytes.new.writer)) c.kept.ensures c.in_ok-send_bytes.ensures.written in
-    let sent = image_emptied (c.loop-style.invariant.written e before more style b) (g.W.Write.contents c.send_bytes.new.writer) all in
-    subst (λ x. ImageBetween e before (g.W.Write.contents c.send_bytes.new.writer) x c.loop-style.pending [])
-    (ap (pixels_of g.row.N) (sym (append_assoc c.loop-style.held c.loop-style.rest.now more) ∙ ap (λ z. z ++ more) (sym c.push.ensures))) sent
+returns-clause-written g c =
+    let kept = kept_bytes c.loop-pending.piece.piece in
+    let all = subst (Appends (g.W.Write.contents c.loop-pending.writer) (g.W.Write.contents c.send_bytes.new.writer)) c.kept.ensures c.in_ok-send_bytes.ensures.written in
+    subst (λ x. GoesOn appended (channels_number c.args.channels) c.args.style (g.W.Write.contents c.args.writer.now) c.args.kept.now.pending [] (c.args.kept.now.held ++ c.args.raw.now)
+    (g.W.Write.contents c.send_bytes.new.writer) c.loop-pending.pending [] x) (sym c.push.ensures)
+    (then_on Appends-trans c.loop-pending.invariant.written
+    (sent_on stands (record { front = kept; split = sym (append-nil kept); went = all })))

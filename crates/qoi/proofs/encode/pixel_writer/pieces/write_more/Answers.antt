@@ -1,80 +1,68 @@
 -- Whole pixels are written: of what is held, or of what came.
-use Rattle.std.proofs.Common.{◌≡◌, ◌*◌, ◌%◌, ◌-◌, ◌++◌, sym, ap, ◌∙◌, arith, subst}
+use Rattle.std.proofs.Common.{◌≡◌, ◌*◌, ◌+◌, ◌%◌, ◌-◌, ◌++◌, length, length-append, refl, sym, ap, ◌∙◌, arith, append_assoc, take-append-drop}
 use Rattle.std.proofs.lemmas.Result.{err_from_is_err_and}
-use Rattle.qoi.specs.Raw.{pixels_of}
-use Rattle.qoi.specs.inner.Piece.{kept_bytes}
-use Rattle.qoi.specs.pieces.WriterPieces.{ImageBetween}
-use Rattle.qoi.proofs.encoding.piece.ImagePieces.{block_ahead, pixels_ahead, none_held, whole_ahead}
+use Rattle.qoi.specs.Qoi.{channels_number}
+use Rattle.qoi.proofs.format.WholePixels.{by_channels}
+use Rattle.qoi.proofs.decoding.ImageSize.{channels_are}
+use Rattle.qoi.proofs.encoding.piece.BytesAhead.{goes_within, breaks_within}
+use Rattle.qoi.proofs.encoding.piece.ImagePieces.{none_held, whole_blocks}
 use Rattle.qoi.proofs.encode.pixel_writer.pieces.write_more.Given.{Over}
-use Rattle.qoi.proofs.encode.pixel_writer.pieces.write_more.Goals.{After-write_whole, After-write_whole-2}
+use Rattle.qoi.proofs.encode.pixel_writer.pieces.write_more.Goals.{After-send_whole, After-send_whole-2}
 use Rattle.qoi.proofs.encode.pixel_writer.pieces.write_more.Goals as goal
 
--- whole pixels came, and none are held
-came : (g : Over) (c : After-write_whole g) (more : _) → pixels_of g.row.N (c.args.held.now ++ (c.args.raw.now ++ more))
-    ≡ pixels_of g.row.N c.split_at.result.0.now ++ pixels_of g.row.N (c.split_at.result.1.now ++ more)
-came g c more =
+-- none are held, and whole pixels came
+came : (g : Over) (c : After-send_whole g) → c.args.held.now ++ c.args.raw.now ≡ c.split_at.result.0.now ++ c.split_at.result.1.now
+came g c =
     let split = c.split_at.ensures in
-    pixels_ahead g.row.N c.args.held.now c.args.raw.now more c.split_at.result.0.now c.split_at.result.1.now _ c.requires.channels
-    (omega (arith, c.len.ensures.count, c.if-len-eq0.true)) (omega arith) split.front split.back
+    ap (λ z. z ++ c.args.raw.now) (none_held c.args.held.now (omega (arith, c.len.ensures.count, c.if-len-eq0.true)))
+    ∙ sym (take-append-drop _ c.args.raw.now) ∙ (λ i. sym split.front i ++ sym split.back i)
 
 -- they are held
-held : (g : Over) (c : After-write_whole-2 g) (more : _) → pixels_of g.row.N (c.args.held.now ++ (c.args.raw.now ++ more))
-    ≡ pixels_of g.row.N c.bytes.result.now ++ pixels_of g.row.N (c.split_at-2.result.1.now ++ more)
-held g c more =
-    let n = g.row.N in
+held : (g : Over) (c : After-send_whole-2 g) → c.args.held.now ++ c.args.raw.now ≡ c.bytes.result.now ++ c.split_at-2.result.1.now
+held g c =
     let split = c.split_at-2.ensures in
-    block_ahead n c.args.held.now c.args.raw.now more c.bytes.result.now c.split_at-2.result.0.now c.split_at-2.result.1.now _ c.requires.channels
-    (ap (λ l. (16 * n - l % (16 * n)) % (16 * n)) c.len-2.ensures.count) c.requires.enough split.front split.back (c.bytes.ensures ∙ c.push-2.ensures)
+    ap (λ z. c.args.held.now ++ z) (sym (take-append-drop _ c.args.raw.now) ∙ (λ i. sym split.front i ++ sym split.back i))
+    ∙ sym (append_assoc c.args.held.now c.split_at-2.result.0.now c.split_at-2.result.1.now)
+    ∙ ap (λ z. z ++ c.split_at-2.result.1.now) (sym (c.bytes.ensures.are ∙ c.push-2.ensures))
 
 pub returns-in_err-left-clause-refused : goal.returns-in_err-left-clause-refused
 returns-in_err-left-clause-refused g c =
-    let n = g.row.N in
     let e = err_from_is_err_and c.from_residual.result c.from_residual.ensures.1 in
     let r = c.in_err-left.ensures.refused in
-    let here = (goal.at.returns-in_err-left-clause-refused g c).After-write_whole in
-    rw (e.1, e.2) (
-      r.0,
-      λ e before more style b.
-          r.1 e before (pixels_of n (c.split_at.result.1.now ++ more)) style
-          (subst (λ x. ImageBetween e before (g.W.Write.contents c.args.writer.now) x c.args.pending.now (kept_bytes c.args.piece.piece)) (came g here more) b),
-    )
+    rw (e.1, e.2) (r.0, breaks_within c.split_at.result.1.now r.1 (came g (goal.at.returns-in_err-left-clause-refused g c).After-send_whole))
 
 pub returns-then-len-eq0-clause-written : goal.returns-then-len-eq0-clause-written
-returns-then-len-eq0-clause-written g c = λ e before more style b.
-    let n = g.row.N in
-    let step = c.in_ok-left.ensures in
-    let here = (goal.at.returns-then-len-eq0-clause-written g c).After-write_whole in
-    let left = c.in_ok-left.left.now in
+returns-then-len-eq0-clause-written g c =
     let part = c.split_at.result.1.now in
-    let now = step.written e before (pixels_of n (part ++ more)) style
-    (subst (λ x. ImageBetween e before (g.W.Write.contents c.args.writer.now) x c.args.pending.now (kept_bytes c.args.piece.piece)) (came g here more) b) in
-    let is : c.push.new.self ≡ left =
-    c.push.ensures ∙ ap (λ z. z ++ left) (none_held c.args.held.now (omega (arith, c.len.ensures.count, c.if-len-eq0.true))) in
-    subst (λ x. ImageBetween e before (g.W.Write.contents c.write_whole.new.writer) x c.write_whole.new.pending (kept_bytes c.in_ok-left.piece.piece))
-    (sym (ap (λ z. pixels_of n (z ++ (part ++ more))) is ∙ whole_ahead n left (part ++ more) c.requires.channels step.whole)) now
+    let left = c.in_ok-left.left.now in
+    goes_within part c.in_ok-left.ensures.written (came g (goal.at.returns-then-len-eq0-clause-written g c).After-send_whole)
+    (ap (λ z. z ++ part) (c.push.ensures ∙ ap (λ z. z ++ left) (none_held c.args.held.now (omega (arith, c.len.ensures.count, c.if-len-eq0.true)))))
 
 pub returns-in_err-left-2-clause-refused : goal.returns-in_err-left-2-clause-refused
 returns-in_err-left-2-clause-refused g c =
-    let n = g.row.N in
     let e = err_from_is_err_and c.from_residual-in_err-left-2.result c.from_residual-in_err-left-2.ensures.1 in
     let r = c.in_err-left-2.ensures.refused in
-    let here = (goal.at.returns-in_err-left-2-clause-refused g c).After-write_whole-2 in
-    rw (e.1, e.2) (
-      r.0,
-      λ e before more style b.
-          r.1 e before (pixels_of n (c.split_at-2.result.1.now ++ more)) style
-          (subst (λ x. ImageBetween e before (g.W.Write.contents c.args.writer.now) x c.args.pending.now (kept_bytes c.args.piece.piece)) (held g here more) b),
-    )
+    rw (e.1, e.2) (r.0, breaks_within c.split_at-2.result.1.now r.1 (held g (goal.at.returns-in_err-left-2-clause-refused g c).After-send_whole-2))
 
 pub returns-clause-written : goal.returns-clause-written
-returns-clause-written g c = λ e before more style b.
-    let n = g.row.N in
-    let step = c.in_ok-left-2.ensures in
-    let here = (goal.at.returns-clause-written g c).After-write_whole-2 in
-    let left = c.in_ok-left-2.left.now in
+returns-clause-written g c =
     let rest = c.split_at-2.result.1.now in
-    let now = step.written e before (pixels_of n (rest ++ more)) style
-    (subst (λ x. ImageBetween e before (g.W.Write.contents c.args.writer.now) x c.args.pending.now (kept_bytes c.args.piece.piece)) (held g here more) b) in
-    let is : c.replace.new.self ≡ left = c.replace.ensures ∙ c.copy_after-count.ensures.front in
-    subst (λ x. ImageBetween e before (g.W.Write.contents c.write_whole-2.new.writer) x c.write_whole-2.new.pending (kept_bytes c.in_ok-left-2.piece.piece))
-    (sym (ap (λ z. pixels_of n (z ++ (rest ++ more))) is ∙ whole_ahead n left (rest ++ more) c.requires.channels step.whole)) now
+    goes_within rest c.in_ok-left-2.ensures.written (held g (goal.at.returns-clause-written g c).After-send_whole-2)
+    (ap (λ z. z ++ rest) (c.replace.ensures ∙ c.copy_after-count.ensures.front))
+
+pub returns-clause-count : goal.returns-clause-count
+returns-clause-count g c =
+    let k = channels_number c.args.channels in
+    let is = channels_are c.args.channels k refl in
+    let split = c.split_at-2.ensures in
+    let h = length c.args.held.now in
+    let left = length c.in_ok-left-2.left.now in
+    let front = length c.split_at-2.result.0.now in
+    let rest = length c.split_at-2.result.1.now in
+    let n_is : c.from-n.result ≡ k = omega (arith, c.from-n.ensures, c.as_u8.ensures) in
+    let blocks = whole_blocks k h front is (split.front_len ∙ (λ i. (16 * n_is i - c.len-2.ensures.count i % (16 * n_is i)) % (16 * n_is i))) in
+    let same = by_channels (λ m. left % m ≡ 0 → (h + front) % m ≡ 0 → (left + rest) % m ≡ (h + (front + rest)) % m) is
+    (λ a b. omega (arith, a, b)) (λ a b. omega (arith, a, b)) in
+    let all : length c.args.raw.now ≡ front + rest = ap length (sym (take-append-drop _ c.args.raw.now) ∙ (λ i. sym split.front i ++ sym split.back i)) ∙ length-append c.split_at-2.result.0.now c.split_at-2.result.1.now in
+    ap (λ x. (length x + rest) % k) (c.replace.ensures ∙ c.copy_after-count.ensures.front) ∙ same c.in_ok-left-2.ensures.left.whole blocks
+    ∙ ap (λ x. (h + x) % k) (sym all)

@@ -6,7 +6,7 @@ use Rattle.qoi.specs.Qoi.{chunk_max}
 use Rattle.qoi.specs.inner.CoderLoop.{CoderBetween}
 use Rattle.qoi.specs.inner.Piece.{kept_bytes}
 use Rattle.qoi.specs.inner.Pixels.{pixels_in}
-use Rattle.qoi.proofs.encode.coder.Coder.write_few.Given as goal
+use Rattle.qoi.proofs.encode.coder.Coder.write_each.Given as goal
 
 abbrev pub invariant-loop-rest : goal.invariant-loop-rest
 invariant-loop-rest g l = record {

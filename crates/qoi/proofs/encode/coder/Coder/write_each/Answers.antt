@@ -8,7 +8,7 @@ use Rattle.qoi.specs.inner.CoderLoop.{CoderBetween}
 use Rattle.qoi.specs.inner.Piece.{kept_bytes}
 use Rattle.qoi.specs.inner.Pixels.{pixels_in}
 use Rattle.qoi.proofs.encoding.coder.CoderSteps.{last_run}
-use Rattle.qoi.proofs.encode.coder.Coder.write_few.Goals as goal
+use Rattle.qoi.proofs.encode.coder.Coder.write_each.Goals as goal
 
 pub loop-rest-preserved : goal.loop-rest-preserved
 loop-rest-preserved g c =

@@ -1,0 +1,42 @@
+-- The bytes ahead of a coder that go through a piece to a writer. `wrote a bytes b` says that the
+-- writer a became b by writing the bytes.
+use Rattle.std.specs.Prelude.{◌≡◌, ℕ, ◌+◌, ◌*◌, ◌%◌, ◌<◌, ◌≤◌, ◌⊎◌, List, ◌++◌, length}
+use Rattle.qoi.specs.declared.encode.pixel_writer.kept.Pending.{Pending}
+use Rattle.qoi.specs.declared.encode.piece.TheConstants.{FULL_ROOM}
+use Rattle.qoi.specs.declared.types.Style.{Style}
+use Rattle.qoi.specs.Qoi.{marker_size, end_marker}
+use Rattle.qoi.specs.Raw.{pixels_of}
+use Rattle.qoi.specs.writers.Writes.{WroteBut, WroteBeginning}
+use Rattle.qoi.specs.inner.CoderLoop.{CoderBetween}
+
+-- From one state to another, whatever raw bytes follow: of the bytes that were ahead the first ones
+-- were written, and the others are ahead.
+pub record GoesOn {W : Type 0} (wrote : W → List ℕ → W → Type 0) (n : ℕ) (style : Style) (a : W) (p : Pending) (kept raw : List ℕ)
+    (b : W) (p' : Pending) (kept' raw' : List ℕ) : Type 0 where
+  pub on : (ahead more : List ℕ) → CoderBetween style ahead (pixels_of n (raw ++ more)) p.table p.last kept
+      → (later : List ℕ) × WroteBut wrote a ahead later b × CoderBetween style later (pixels_of n (raw' ++ more)) p'.table p'.last kept'
+
+-- From such a state to a fault: a beginning of those bytes was written.
+pub record BreaksOff {W : Type 0} (wrote : W → List ℕ → W → Type 0) (n : ℕ) (style : Style) (a : W) (p : Pending) (kept raw : List ℕ) (b : W) : Type 0 where
+  pub off : (ahead more : List ℕ) → CoderBetween style ahead (pixels_of n (raw ++ more)) p.table p.last kept → WroteBeginning wrote a ahead b
+
+-- From such a state to the end, if no raw bytes follow: all that was ahead was written, and the end
+-- marker.
+pub record Ends {W : Type 0} (wrote : W → List ℕ → W → Type 0) (n : ℕ) (style : Style) (a : W) (p : Pending) (kept raw : List ℕ) (b : W) : Type 0 where
+  pub all : (ahead : List ℕ) → CoderBetween style ahead (pixels_of n raw) p.table p.last kept → wrote a (ahead ++ end_marker) b
+
+-- Or a beginning of that was.
+pub record EndsEarly {W : Type 0} (wrote : W → List ℕ → W → Type 0) (n : ℕ) (style : Style) (a : W) (p : Pending) (kept raw : List ℕ) (b : W) : Type 0 where
+  pub part : (ahead : List ℕ) → CoderBetween style ahead (pixels_of n raw) p.table p.last kept → WroteBeginning wrote a (ahead ++ end_marker) b
+
+-- A writer that can take `free` bytes has room: for what is ahead and the end marker, or for a full
+-- piece at each raw byte and one more.
+pub record HasRoom (free size n : ℕ) (style : Style) (p : Pending) (kept raw : List ℕ) : Type 0 where
+  pub enough : ((ahead : List ℕ) × CoderBetween style ahead (pixels_of n raw) p.table p.last kept × (length ahead + marker_size ≤ free))
+      ⊎ ((size ≤ FULL_ROOM) × (FULL_ROOM * (length raw + 1) ≤ free))
+
+-- whole pixels are left of others, fewer than a block has
+pub record AreLeft (n : ℕ) (raw left : List ℕ) : Type 0 where
+  pub few : length left < 16 * n
+  pub within : length left ≤ length raw
+  pub whole : length left % n ≡ 0
