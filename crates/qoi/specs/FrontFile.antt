@@ -1,5 +1,5 @@
--- The files that bytes begin with.
-use Rattle.std.specs.Prelude.{◌≡◌, ℕ, zero, suc, ◌+◌, ◌<◌, List, ◌++◌, length}
+-- The file that bytes begin with.
+use Rattle.std.specs.Prelude.{◌≡◌, ℕ, ◌+◌, List, ◌++◌, length}
 use Rattle.qoi.specs.declared.header.Header.{Header}
 use Rattle.qoi.specs.declared.chunk.Chunk.{Chunk}
 use Rattle.qoi.specs.Qoi.{IsFile, file}
@@ -12,12 +12,3 @@ pub record BeginsWithFile (bytes : List ℕ) : Type 0 where
   pub is_file : IsFile header cs
   pub split : bytes ≡ file header cs ++ file_rest bytes
   pub size : length (file header cs) + length (file_rest bytes) ≡ length bytes
-
--- what follows the first k files
-abbrev pub behind_files : ℕ → List ℕ → List ℕ
-behind_files zero bytes = bytes
-behind_files (suc k) bytes = file_rest (behind_files k bytes)
-
--- The bytes begin with k files, one after the other. It is no abbreviation, so that the prover passes it on whole.
-unfoldable pub BeginsWithFiles : ℕ → List ℕ → Type 0
-BeginsWithFiles k bytes = (i : ℕ) → i < k → BeginsWithFile (behind_files i bytes)
