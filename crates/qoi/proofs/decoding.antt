@@ -4,6 +4,7 @@ pub mod Appended
 pub mod FastSteps
 pub mod FilledBuffer
 pub mod FirstChunk
+pub mod Frames
 pub mod FrontFile
 pub mod FrontImage
 pub mod GivenMore

@@ -1,5 +1,5 @@
--- The files that bytes begin with.
-use Rattle.std.specs.Prelude.{◌≡◌, ℕ, zero, suc, ◌+◌, ◌<◌, List, ◌++◌, length}
+-- The file that bytes begin with.
+use Rattle.std.specs.Prelude.{◌≡◌, ℕ, ◌+◌, List, ◌++◌, length}
 use Rattle.qoi.specs.declared.error.Error.{Error}
 use Rattle.qoi.specs.declared.header.Header.{Header}
 use Rattle.qoi.specs.declared.chunk.Chunk.{Chunk}
@@ -24,12 +24,3 @@ HasFrontFile h n bytes = (cs : List Chunk) × (rest : List ℕ) × IsFile h cs �
 -- is no abbreviation either.
 unfoldable pub IsNoFile : List ℕ → Error → Type 0
 IsNoFile bytes e = RefusesFile bytes e
-
--- what follows the first k files
-abbrev pub behind_files : ℕ → List ℕ → List ℕ
-behind_files zero bytes = bytes
-behind_files (suc k) bytes = file_rest (behind_files k bytes)
-
--- The bytes begin with k files, one after the other. It is no abbreviation, so that the prover passes it on whole.
-unfoldable pub BeginsWithFiles : ℕ → List ℕ → Type 0
-BeginsWithFiles k bytes = (i : ℕ) → i < k → BeginsWithFile (behind_files i bytes)

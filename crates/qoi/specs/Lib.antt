@@ -27,6 +27,7 @@ pub mod Encoded
 pub mod EncoderState
 pub mod Sent
 pub mod Tiles
+pub mod Frames
 -- Images piece by piece.
 pub mod pieces
 -- Errors and their texts.

@@ -1,5 +1,5 @@
 //! Laws on reading: bytes have one verdict, and files are read as they were put together.
-ghost use Rattle.std.specs.Prelude.{◌≡◌, ℕ, ◌+◌, ◌*◌, ◌<◌, ◌≤◌, ◌⊎◌, List, [], ◌∷◌, ◌++◌, length, drop, replicate, Ok, Err, Option, Some};
+ghost use Rattle.std.specs.Prelude.{◌≡◌, ℕ, ◌+◌, ◌-◌, ◌*◌, ◌<◌, ◌≤◌, ◌⊎◌, List, [], ◌∷◌, ◌++◌, length, take, drop, slice_index, slice_index_or, replicate, Ok, Err, Option, Some};
 ghost use Rattle.qoi.specs.declared.error.Error.{Error};
 ghost use Rattle.qoi.specs.declared.header.Header.{Header};
 ghost use Rattle.qoi.specs.declared.types.Channels.{Channels};
@@ -13,8 +13,11 @@ ghost use Rattle.qoi.specs.Tiles.{HasTile};
 ghost use Rattle.qoi.specs.Verdicts.{IsPartOfChunk, IsWhole, IsCut, IsWrong};
 ghost use Rattle.qoi.specs.Decoding.{DecodesFile};
 ghost use Rattle.qoi.specs.Decoded.{HasHeader, HasDecoded, HasRefusedFile};
+ghost use Rattle.qoi.specs.EncoderState.{EncoderState};
+ghost use Rattle.qoi.specs.Sent.{SendsFile};
 ghost use Rattle.qoi.specs.DecoderState.{DecoderState};
-ghost use Rattle.qoi.specs.FrontFile.{BeginsWithFile, HasFrontFile, IsNoFile, behind_files, BeginsWithFiles};
+ghost use Rattle.qoi.specs.Frames.{AreFrames};
+ghost use Rattle.qoi.specs.FrontFile.{BeginsWithFile, HasFrontFile, IsNoFile};
 ghost use Rattle.qoi.specs.Reading.{IsImage, StandsAhead, SaysWhy};
 ghost use Rattle.qoi.specs.Images.{front_image, front_rest, file_image, file_image_in, file_rest};
 
@@ -118,19 +121,6 @@ pub fn files_may_be_followed()
         → DecodesFile bytes h rest out → file_rest (bytes ++ more) ≡ file_rest bytes ++ more }
 {}
 
-/// Bytes of which a file was decoded begin with one. Files that stand one after the other at the
-/// front of the bytes: none, and one more. The image of each stays whatever is appended.
-pub fn files_stay()
-    ensures decoded { (d : DecoderState (List ℕ)) (bytes : List ℕ) (new : Option (List ℕ))
-        (out : List ℕ) → HasHeader d (Some bytes) (Some d.reader)
-        → HasDecoded d (Some d.reader) new out → BeginsWithFile bytes }
-    ensures none { (bytes : List ℕ) → BeginsWithFiles 0 bytes }
-    ensures more { (k : ℕ) (bytes : List ℕ) → BeginsWithFiles k bytes
-        → BeginsWithFile (behind_files k bytes) → BeginsWithFiles (k + 1) bytes }
-    ensures kept { (k : ℕ) (old new more : List ℕ) → new ≡ old ++ more → BeginsWithFiles (k + 1) old
-        → file_image (behind_files k new) ≡ file_image (behind_files k old) }
-{}
-
 /// The image that bytes begin with, and what follows it, are functions of the bytes; likewise those
 /// of a file. In the file's own channels, and in three, the image is what one expects.
 pub fn images_are_functions()
@@ -191,6 +181,49 @@ pub fn tiles_stay()
         → file_image (drop offset bytes) ≡ raw }
     ensures within { (bytes raw : List ℕ) (offset : ℕ) → HasTile bytes offset raw
         → offset ≤ length bytes }
+{}
+
+/// A store of frames: none, one more that was sent behind them, and the last one cut off.
+pub fn frames_stay()
+    ensures none { AreFrames [] [] [] }
+    ensures put { (e : EncoderState) (n : ℕ) (before after : Option (List ℕ))
+        (raw old new offsets more : List ℕ) (images : List (List ℕ)) → SendsFile e before after n
+        → before ≡ Some old → after ≡ Some new → AreFrames old offsets images → raw ≡ e.raw
+        → more ≡ offsets ++ length old ∷ [] → AreFrames new more (images ++ raw ∷ []) }
+    ensures last { (bytes offsets fewer new last : List ℕ) (images : List (List ℕ)) (at : ℕ)
+        → AreFrames bytes offsets (images ++ last ∷ []) → offsets ≡ fewer ++ at ∷ []
+        → new ≡ take at bytes → AreFrames new fewer images }
+{}
+
+/// Each frame of a store is read at its offset.
+pub fn frames_are_read()
+    ensures read { (bytes offsets : List ℕ) (images : List (List ℕ)) (k : ℕ)
+        → AreFrames bytes offsets images → k < length offsets
+        → file_image (drop (slice_index offsets k) bytes) ≡ slice_index_or images k [] }
+    ensures within { (bytes offsets : List ℕ) (images : List (List ℕ)) (k : ℕ)
+        → AreFrames bytes offsets images → k < length offsets
+        → slice_index offsets k ≤ length bytes }
+    ensures stands { (bytes offsets : List ℕ) (images : List (List ℕ)) (k : ℕ)
+        → AreFrames bytes offsets images → k < length offsets
+        → BeginsWithFile (drop (slice_index offsets k) bytes) }
+    ensures count { (bytes offsets : List ℕ) (images : List (List ℕ))
+        → AreFrames bytes offsets images → length images ≡ length offsets }
+{}
+
+/// A file behind frames is one more, and has bytes. The frames in front of bytes are these and no
+/// others, if no file follows.
+pub fn frames_are_found()
+    ensures found { (bytes offsets more : List ℕ) (images : List (List ℕ)) (at end : ℕ)
+        → AreFrames (take at bytes) offsets images → BeginsWithFile (drop at bytes)
+        → at ≤ length bytes → end ≡ length bytes - length (file_rest (drop at bytes))
+        → more ≡ offsets ++ at ∷ []
+        → AreFrames (take end bytes) more (images ++ file_image (drop at bytes) ∷ []) }
+    ensures longer { (bytes : List ℕ) → BeginsWithFile bytes
+        → length (file_rest bytes) < length bytes }
+    ensures one { (bytes front rest new offsets ends : List ℕ) (at : ℕ)
+        (images found : List (List ℕ)) → AreFrames front offsets images → bytes ≡ front ++ rest
+        → (BeginsWithFile rest → ⊥) → AreFrames (take at bytes) ends found
+        → (BeginsWithFile (drop at bytes) → ⊥) → new ≡ take at bytes → AreFrames new ends images }
 {}
 
 /// Small images and headers, computed on the definitions.

@@ -22,6 +22,7 @@ mod exact;
 mod facts;
 mod faults;
 mod following;
+mod frames;
 mod full_rows;
 mod generated;
 mod lengths;

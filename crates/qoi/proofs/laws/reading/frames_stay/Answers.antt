@@ -1,0 +1,6 @@
+-- By the lemmas on frames.
+use Rattle.qoi.proofs.decoding.Frames.{no_frames, frame_put, last_cut}
+use Rattle.qoi.proofs.laws.reading.frames_stay.Goals as goal
+
+pub returns : goal.returns
+returns c = record { none = no_frames; put = frame_put; last = last_cut }

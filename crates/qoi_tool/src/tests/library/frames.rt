@@ -1,0 +1,272 @@
+//! A store of frames with an index: a frame is appended, read by its number, and dropped, and the
+//! store is recovered from its bytes alone. Only `find` has a proof file: its loop's invariant and
+//! measure.
+ghost use Rattle.std.specs.Prelude.{◌≡◌, ℕ, ◌+◌, ◌<◌, ◌≤◌, List, [], ◌∷◌, ◌++◌, None, IfOk, IfSome, IsErr, IsSome, OnOk, OnErr, length, take, drop, slice_index_or};
+ghost use Rattle.qoi.specs.FrontFile.{BeginsWithFile};
+ghost use Rattle.qoi.specs.Frames.{AreFrames};
+ghost use Rattle.qoi.specs.Images.{file_image, file_rest};
+
+use crate::tests::fakes::{ONE_RGB_PIXEL, PIXEL};
+use crate::tests::library::support::{assert_bytes, assert_given, assert_number};
+use qoi::laws::reading::{files_are_read, frames_are_found, frames_are_read, frames_stay};
+use qoi::{Decoder, Encoder, Error, decode_to_vec};
+use std::alloc::Global;
+
+/// Frames as files in one vector, one right behind the other, and the offset of each.
+#[derive(Drop)]
+pub struct Frames {
+    pub bytes: Vec<u8>,
+    pub offsets: Vec<usize>,
+}
+
+impl Frames {
+    /// A store of no frames.
+    pub fn new(alloc: Global) -> Frames
+        ensures { AreFrames result.bytes.items result.offsets.items [] }
+    {
+        frames_stay();
+        Frames {
+            bytes: Vec::new(alloc),
+            offsets: Vec::new(alloc),
+        }
+    }
+
+    /// Appends a frame; the others stay. A refusal leaves all as it was.
+    pub fn append(&mut self, raw: &[u8], width: u32, height: u32) -> Result<(), Error>
+        ensures added { (images : List (List ℕ))
+            → AreFrames self.old.bytes.items self.old.offsets.items images
+            → OnOk result (AreFrames self.new.bytes.items self.new.offsets.items
+            (images ++ raw.now ∷ [])) }
+        ensures refused { OnErr result ((self.new.bytes.items ≡ self.old.bytes.items)
+            × (self.new.offsets.items ≡ self.old.offsets.items)) }
+    {
+        frames_stay();
+        let at = self.bytes.len();
+        self.offsets.reserve(1)?;
+        let encoder = Encoder::new(raw, width, height)?;
+        if let Err(e) = encoder.encode_to_stream(&mut self.bytes) {
+            self.bytes.truncate(at);
+            return Err(e);
+        }
+        self.offsets.push(at)?;
+        Ok(())
+    }
+
+    /// The bytes from frame k on, if there are so many frames.
+    pub fn at<'a>(&'a self, k: usize) -> Option<&'a [u8]>
+        ensures image { (images : List (List ℕ))
+            → AreFrames self.entry.now.bytes.items self.entry.now.offsets.items images
+            → IfSome result (λ b. file_image b.now ≡ slice_index_or images k []) }
+        ensures stands { (images : List (List ℕ))
+            → AreFrames self.entry.now.bytes.items self.entry.now.offsets.items images
+            → IfSome result (λ b. BeginsWithFile b.now) }
+        ensures some { (images : List (List ℕ))
+            → AreFrames self.entry.now.bytes.items self.entry.now.offsets.items images
+            → k < length images → IsSome result }
+        ensures none { (images : List (List ℕ))
+            → AreFrames self.entry.now.bytes.items self.entry.now.offsets.items images
+            → length images ≤ k → result ≡ None }
+    {
+        frames_are_read();
+        if k >= self.offsets.len() {
+            return None;
+        }
+        let at = self.offsets[k];
+        if at > self.bytes.len() {
+            return None;
+        }
+        Some(&self.bytes[at..])
+    }
+
+    /// Frame k.
+    pub fn get(&self, alloc: Global, k: usize) -> Result<Vec<u8>, Error>
+        ensures frame { (images : List (List ℕ))
+            → AreFrames self.now.bytes.items self.now.offsets.items images
+            → IfOk result (λ raw. raw.items ≡ slice_index_or images k []) }
+        ensures none { (images : List (List ℕ))
+            → AreFrames self.now.bytes.items self.now.offsets.items images → length images ≤ k
+            → IsErr result }
+    {
+        let Some(bytes) = self.at(k) else {
+            return Err(Error::UnexpectedBufferEnd);
+        };
+        let (_, raw) = decode_to_vec(alloc, bytes)?;
+        Ok(raw)
+    }
+
+    /// Drops the last frame; the others stay.
+    pub fn drop_last(&mut self)
+        ensures { (images : List (List ℕ)) (last : List ℕ)
+            → AreFrames self.old.bytes.items self.old.offsets.items (images ++ last ∷ [])
+            → AreFrames self.new.bytes.items self.new.offsets.items images }
+    {
+        frames_stay();
+        if let Some(at) = self.offsets.pop() {
+            self.bytes.truncate(at);
+        }
+    }
+
+    /// The store of the whole frames that the bytes begin with, exactly; what follows is cut off.
+    pub fn recover(alloc: Global, bytes: Vec<u8>) -> Result<Frames, Error>
+        ensures frames { IfOk result (λ s. (images : List (List ℕ))
+            × AreFrames s.bytes.items s.offsets.items images) }
+        ensures whole { (front rest offsets : List ℕ) (images : List (List ℕ))
+            → AreFrames front offsets images → bytes.items ≡ front ++ rest
+            → (BeginsWithFile rest → ⊥)
+            → IfOk result (λ s. AreFrames s.bytes.items s.offsets.items images) }
+    {
+        let (offsets, end) = find(alloc, &bytes)?;
+        Ok(cut(bytes, end, offsets))
+    }
+}
+
+/// Cuts off what follows the frames.
+fn cut(mut bytes: Vec<u8>, end: usize, offsets: Vec<usize>) -> Frames
+    ensures frames { (images : List (List ℕ)) → AreFrames (take end bytes.items) offsets.items images
+        → AreFrames result.bytes.items result.offsets.items images }
+    ensures whole { (front rest others : List ℕ) (images found : List (List ℕ))
+        → AreFrames (take end bytes.items) offsets.items found
+        → (BeginsWithFile (drop end bytes.items) → ⊥) → AreFrames front others images
+        → bytes.items ≡ front ++ rest → (BeginsWithFile rest → ⊥)
+        → AreFrames result.bytes.items result.offsets.items images }
+{
+    frames_are_found();
+    bytes.truncate(end);
+    Frames { bytes, offsets }
+}
+
+/// The offsets of the whole frames that the bytes begin with, and where the last one ends.
+fn find(alloc: Global, bytes: &[u8]) -> Result<(Vec<usize>, usize), Error>
+    ensures frames { IfOk result (λ x. (images : List (List ℕ))
+        × AreFrames (take x.1 bytes.now) x.0.items images) }
+    ensures all { IfOk result (λ x. BeginsWithFile (drop x.1 bytes.now) → ⊥) }
+{
+    let (mut offsets, mut end) = (none(alloc), 0);
+    while let Some(next) = note(bytes, end, &mut offsets)? {
+        end = next;
+    }
+    Ok((offsets, end))
+}
+
+/// The offsets of no frames.
+fn none(alloc: Global) -> Vec<usize>
+    ensures { AreFrames [] result.items [] }
+{
+    frames_stay();
+    Vec::new(alloc)
+}
+
+/// Notes the frame at `at`, and returns its end; none if no whole one stands there.
+fn note(bytes: &[u8], at: usize, offsets: &mut Vec<usize>) -> Result<Option<usize>, Error>
+    requires { at ≤ length bytes.now }
+    ensures found { (images : List (List ℕ)) → AreFrames (take at bytes.now) offsets.old.items images
+        → IfOk result (λ o. IfSome o (λ end. AreFrames (take end bytes.now) offsets.new.items
+        (images ++ file_image (drop at bytes.now) ∷ []))) }
+    ensures within { IfOk result (λ o. IfSome o (λ end. (at < end) × (end ≤ length bytes.now))) }
+    ensures none { IfOk result (λ o. o ≡ None → offsets.new.items ≡ offsets.old.items) }
+    ensures last { IfOk result (λ o. o ≡ None → BeginsWithFile (drop at bytes.now) → ⊥) }
+{
+    frames_are_found();
+    let Some(n) = file_length(&bytes[at..]) else {
+        return Ok(None);
+    };
+    offsets.push(at)?;
+    Ok(Some(at + n))
+}
+
+/// How many bytes the file at the front has; none if no file stands there.
+fn file_length(bytes: &[u8]) -> Option<usize>
+    ensures some { IfSome result (λ n. BeginsWithFile bytes.now
+        × (n + length (file_rest bytes.now) ≡ length bytes.now)) }
+    ensures more { IfSome result (λ n. 0 < n) }
+    ensures none { BeginsWithFile bytes.now → IsSome result }
+{
+    files_are_read();
+    let Ok(decoder) = Decoder::new(bytes) else {
+        return None;
+    };
+    match decoder.into_pixels().finish() {
+        Ok(decoder) => Some(bytes.len() - decoder.into_data().len()),
+        Err(_) => None,
+    }
+}
+
+// A black pixel. Its file has the chunk `c0`.
+const BLACK: [u8; 3] = [0; 3];
+
+// The files of three frames: the pixel, a black one, and the pixel again.
+const THREE: [u8; 75] = [
+    0x71, 0x6f, 0x69, 0x66, 0, 0, 0, 1, 0, 0, 0, 1, 3, 0, 0xfe, 0x0b, 0x79, 0xe7, 0, 0, 0, 0, 0, 0,
+    0, 1, 0x71, 0x6f, 0x69, 0x66, 0, 0, 0, 1, 0, 0, 0, 1, 3, 0, 0xc0, 0, 0, 0, 0, 0, 0, 0, 1, 0x71,
+    0x6f, 0x69, 0x66, 0, 0, 0, 1, 0, 0, 0, 1, 3, 0, 0xfe, 0x0b, 0x79, 0xe7, 0, 0, 0, 0, 0, 0, 0, 1,
+];
+
+// A store of these frames.
+fn three(alloc: Global) -> Result<Frames, Error> {
+    let mut frames = Frames::new(alloc);
+    for raw in [PIXEL, BLACK, PIXEL] {
+        frames.append(&raw, 1, 1)?;
+    }
+    Ok(frames)
+}
+
+#[test]
+fn three_frames(rt: HostRuntime) -> Result<(), Error> {
+    let alloc = rt.alloc();
+    let mut frames = three(alloc)?;
+    assert_bytes(&rt, &frames.bytes, &THREE);
+    assert!(rt; frames.offsets.as_slice() == [0, 26, 49].as_slice());
+    assert_given(&rt, frames.get(alloc, 0), &PIXEL);
+    assert_given(&rt, frames.get(alloc, 1), &BLACK);
+    assert_given(&rt, frames.get(alloc, 2), &PIXEL);
+    assert!(rt; frames.get(alloc, 3).is_err());
+    // Two raw bytes are no image.
+    assert!(rt; frames.append(&[1, 2], 1, 1).is_err());
+    assert_bytes(&rt, &frames.bytes, &THREE);
+    assert_number(&rt, frames.offsets.len(), 3);
+    Ok(())
+}
+
+#[test]
+fn last_frame_dropped(rt: HostRuntime) -> Result<(), Error> {
+    let alloc = rt.alloc();
+    let mut frames = three(alloc)?;
+    frames.drop_last();
+    assert_number(&rt, frames.bytes.len(), 49);
+    assert_given(&rt, frames.get(alloc, 1), &BLACK);
+    assert!(rt; frames.get(alloc, 2).is_err());
+    frames.append(&PIXEL, 1, 1)?;
+    assert_bytes(&rt, &frames.bytes, &THREE);
+    for _ in 0..4 {
+        frames.drop_last();
+    }
+    assert_number(&rt, frames.bytes.len(), 0);
+    assert_number(&rt, frames.offsets.len(), 0);
+    Ok(())
+}
+
+#[test]
+fn recovered(rt: HostRuntime) -> Result<(), Error> {
+    let alloc = rt.alloc();
+    let mut bytes = three(alloc)?.bytes;
+    bytes.truncate(60);
+    let mut frames = Frames::recover(alloc, bytes)?;
+    assert_number(&rt, frames.bytes.len(), 49);
+    assert!(rt; frames.offsets.as_slice() == [0, 26].as_slice());
+    assert_given(&rt, frames.get(alloc, 1), &BLACK);
+    frames.append(&PIXEL, 1, 1)?;
+    assert_bytes(&rt, &frames.bytes, &THREE);
+    let frames = Frames::recover(alloc, frames.bytes)?;
+    assert!(rt; frames.offsets.as_slice() == [0, 26, 49].as_slice());
+    // Other bytes follow a file.
+    let mut bytes = Vec::from_slice(alloc, &ONE_RGB_PIXEL)?;
+    bytes.extend_from_slice(&[0x78, 0x79])?;
+    let frames = Frames::recover(alloc, bytes)?;
+    assert_bytes(&rt, &frames.bytes, &ONE_RGB_PIXEL);
+    assert_number(
+        &rt,
+        Frames::recover(alloc, Vec::new(alloc))?.offsets.len(),
+        0,
+    );
+    Ok(())
+}
