@@ -1,6 +1,7 @@
 //! Rows of plain chunks, as palettes have them, by a loop of their own: index positions,
 //! differences, short runs, RGB and RGBA chunks in any order, without a jump between them.
-ghost use Rattle.std.specs.Prelude.{◌+◌, ◌<◌, ◌≤◌, ◌^◌, length};
+ghost use Rattle.std.specs.Prelude.{◌≡◌, ◌+◌, ◌<◌, ◌≤◌, ◌^◌, length};
+ghost use Rattle.qoi.specs.Qoi.{rgb_tag, rgba_tag};
 ghost use Rattle.qoi.specs.declared.decode.fast.TheConstants.{OUTPUT_ROOM};
 
 use crate::decode::deltas::advance;
@@ -17,10 +18,24 @@ const ROW_ROOM: usize = 41;
 // loops are faster.
 const MOST_SAME: usize = 5;
 
+// How many bytes a plain chunk has, by its first byte: by a sum, which is known before a number of a
+// table would be. The next chunk waits for it.
+#[inline(always)]
+fn byte_count(b1: usize) -> usize
+    requires { b1 < 256 }
+    ensures few { (1 ≤ result) × (result ≤ 5) }
+    ensures short { b1 < rgb_tag → result ≡ 1 }
+    ensures rgb { b1 ≡ rgb_tag → result ≡ 4 }
+    ensures rgba { b1 ≡ rgba_tag → result ≡ 5 }
+{
+    1 + 3 * usize::from(b1 >= 0xfe) + usize::from(b1 == 0xff)
+}
+
 impl Progress {
     ghost use Rattle.qoi.specs.inner.Filling.{HasAhead, fast, FastStep, FastChunks, IsPlainSize};
 
-    // Decodes a plain chunk, which has `size` bytes, without a jump.
+    // Decodes a plain chunk, which has `size` bytes, without a jump. That is what the caller tested;
+    // where the next chunk stands, `byte_count` says sooner.
     #[inline(always)]
     fn plain_chunk<const N: usize, const F: usize>(
         self,
@@ -39,7 +54,7 @@ impl Progress {
         let last = self.last.after_plain(table, b1, &bytes[self.taken..]);
         table.put(last);
         store_vector::<N, F>(out, self.at, last);
-        let taken = self.taken + size;
+        let taken = self.taken + byte_count(b1);
         Progress {
             last,
             taken,
@@ -49,9 +64,10 @@ impl Progress {
     }
 
     // Decodes plain chunks, of which the first has `size` bytes, as many as come one after the
-    // other, but four at most.
+    // other, but four at most. `COPY` gives each call a function of its own, which the compiler
+    // inlines there.
     #[inline(always)]
-    fn plain_chunks<const N: usize, const F: usize>(
+    fn plain_chunks<const N: usize, const F: usize, const COPY: u8>(
         self,
         table: &mut TermTable,
         bytes: &[u8],
@@ -97,12 +113,12 @@ impl Progress {
             (fast self table.old out.old) (fast result table.new out.new) }
         ensures on { self.taken < result.taken }
     {
-        let four = self.plain_chunks::<N, F>(table, bytes, out, size);
+        let four = self.plain_chunks::<N, F, 0>(table, bytes, out, size);
         let size = plain_size::<N>(four.next as usize);
         if size == 0 {
             return four;
         }
-        four.plain_chunks::<N, F>(table, bytes, out, size)
+        four.plain_chunks::<N, F, 1>(table, bytes, out, size)
     }
 
     /// Decodes plain chunks while there is room ahead, until another chunk comes or `MOST_SAME` ends

@@ -22,7 +22,7 @@ returns-clause-step g c =
     let long : 5 ≤ length rest = omega (arith, ahead.input_is, length-drop now.taken bytes) in
     let fits : AreBytes rest = λ i. rw (get_or-drop now.taken bytes i 0) (omega (arith, c.type_inv.bytes (now.taken + i))) in
     let px = rw whole at c.after_plain-last.ensures in
-    let new : Progress = record { last = c.after_plain-last.result; taken = now.taken + c.args.size; at = now.at + c.advance.result; next = _ } in
+    let new : Progress = record { last = c.after_plain-last.result; taken = now.taken + c.byte_count.result; at = now.at + c.advance.result; next = _ } in
     elim (cases_lt now.next 254) [
       | inl low ↦
           let plain = plain_short g.row.N now.next c.args.size size c.requires.size.1 low in
@@ -30,7 +30,7 @@ returns-clause-step g c =
           let room = block_fits g.row.N now.at s.count (length c.args.out.now) is s.fits ahead.room_is in
           let few = block_fits g.row.N 0 s.count 16 is s.fits (omega arith) in
           fast_step {f = g.row.F} {input = 5} {room = 16} {bytes = bytes} {table' = c.put.new.self} {out' = c.store_vector.new.out} now new s.count is ahead.whole (omega (arith, ahead.room_is)) room c.store_vector.auto.out (ap (λ k. now.at + k) s.size_is) (omega (arith, few)) c.put.ensures
-          (c.store_vector.ensures s.count s.fits) refl (omega (arith, c.type_inv.bytes (now.taken + c.args.size))) 1 (omega (arith, plain.0)) (omega arith) (omega arith)
+          (c.store_vector.ensures s.count s.fits) refl (omega (arith, c.type_inv.bytes (now.taken + c.byte_count.result))) 1 (omega (arith, c.byte_count.ensures.short low)) (omega arith) (omega arith)
           (λ first. decodes_short rest now.next (get_or rest 1 0) 1 s.count (omega (arith, long)) first refl low (fits 1) (plain_sizes now.next s.count plain.2 s.once s.often)
           (record {
             place = λ l past h. px.place l past h;
@@ -47,13 +47,13 @@ returns-clause-step g c =
           let few = by_channels (λ k. k * 1 ≤ 16) is (omega arith) (omega arith) in
           let at : now.at + c.advance.result ≡ now.at + g.row.N * 1 = omega (arith, c.advance.ensures.full full) in
           let step = fast_step {f = g.row.F} {input = 5} {room = 16} {bytes = bytes} {table' = c.put.new.self} {out' = c.store_vector.new.out} now new 1 is ahead.whole (omega (arith, ahead.room_is)) room c.store_vector.auto.out at few c.put.ensures
-          (c.store_vector.ensures 1 one) refl (omega (arith, c.type_inv.bytes (now.taken + c.args.size))) in
+          (c.store_vector.ensures 1 one) refl (omega (arith, c.type_inv.bytes (now.taken + c.byte_count.result))) in
           elim (cases_lt now.next 255) [
             | inl less ↦
                 let rgb : now.next ≡ 254 = omega (arith, less, full) in
-                step 4 (omega (arith, size.rgb rgb)) (omega arith) (omega arith) (λ first. decodes_rgb rest (omega (arith, long)) fits (sym first ∙ rgb) (px.rgb rgb))
+                step 4 (omega (arith, c.byte_count.ensures.rgb rgb)) (omega arith) (omega arith) (λ first. decodes_rgb rest (omega (arith, long)) fits (sym first ∙ rgb) (px.rgb rgb))
             | inr more ↦
                 let rgba : now.next ≡ 255 = omega (arith, more, ahead.byte) in
-                step 5 (omega (arith, size.rgba rgba)) (omega arith) (omega arith) (λ first. decodes_rgba rest long fits (sym first ∙ rgba) (px.rgba rgba))
+                step 5 (omega (arith, c.byte_count.ensures.rgba rgba)) (omega arith) (omega arith) (λ first. decodes_rgba rest long fits (sym first ∙ rgba) (px.rgba rgba))
           ]
     ]
