@@ -6,7 +6,7 @@ use Rattle.std.proofs.Math.Seq.{get_or-append_seam, take-append_seam, take-appen
 use Rattle.qoi.specs.declared.header.Header.{Header}
 use Rattle.qoi.specs.declared.chunk.Chunk.{Chunk}
 use Rattle.qoi.specs.EncoderState.{EncoderState}
-use Rattle.qoi.specs.Qoi.{channels_number, chunk_bytes, end_marker, file, file_pixels, header_bytes, IsFile}
+use Rattle.qoi.specs.Qoi.{channels_number, file, file_pixels, IsFile}
 use Rattle.qoi.specs.Sent.{SendsFile}
 use Rattle.qoi.specs.Raw.{output}
 use Rattle.qoi.specs.Decoding.{DecodesFile}
@@ -164,10 +164,6 @@ last_cut bytes offsets fewer new last images at frames is cut = rw cut (cut_at b
 abbrev behind : ℕ → List ℕ → List ℕ
 behind zero bytes = bytes
 behind (suc k) bytes = file_rest (behind k bytes)
-
--- a file has bytes
-pub rest_shorter : (bytes : List ℕ) → BeginsWithFile bytes → length (file_rest bytes) < length bytes
-rest_shorter bytes f = omega (arith, f.size, length-append (header_bytes f.header) (chunk_bytes f.cs ++ end_marker), length-append (chunk_bytes f.cs) end_marker)
 
 -- what follows as many files as there are frames
 behind_frames : (bytes offsets rest : List ℕ) (images : List (List ℕ)) → AreFrames bytes offsets images → behind (length offsets) (bytes ++ rest) ≡ rest

@@ -210,16 +210,14 @@ pub fn frames_are_read()
         → AreFrames bytes offsets images → length images ≡ length offsets }
 {}
 
-/// A file behind frames is one more, and has bytes. The frames in front of bytes are these and no
-/// others, if no file follows.
+/// A file behind frames is one more. The frames in front of bytes are these and no others, if no
+/// file follows.
 pub fn frames_are_found()
     ensures found { (bytes offsets more : List ℕ) (images : List (List ℕ)) (at end : ℕ)
         → AreFrames (take at bytes) offsets images → BeginsWithFile (drop at bytes)
         → at ≤ length bytes → end ≡ length bytes - length (file_rest (drop at bytes))
         → more ≡ offsets ++ at ∷ []
         → AreFrames (take end bytes) more (images ++ file_image (drop at bytes) ∷ []) }
-    ensures longer { (bytes : List ℕ) → BeginsWithFile bytes
-        → length (file_rest bytes) < length bytes }
     ensures one { (bytes front rest new offsets ends : List ℕ) (at : ℕ)
         (images found : List (List ℕ)) → AreFrames front offsets images → bytes ≡ front ++ rest
         → (BeginsWithFile rest → ⊥) → AreFrames (take at bytes) ends found

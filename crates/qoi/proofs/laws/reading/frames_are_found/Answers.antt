@@ -1,6 +1,6 @@
 -- By the lemmas on frames.
-use Rattle.qoi.proofs.decoding.Frames.{frame_found, rest_shorter, frames_are_one}
+use Rattle.qoi.proofs.decoding.Frames.{frame_found, frames_are_one}
 use Rattle.qoi.proofs.laws.reading.frames_are_found.Goals as goal
 
 pub returns : goal.returns
-returns c = record { found = frame_found; longer = rest_shorter; one = frames_are_one }
+returns c = record { found = frame_found; one = frames_are_one }
