@@ -46,35 +46,26 @@ fn assert_one_allocation<R: Reader>(
 }
 
 // The same from a slice and from both kinds of reader.
-fn assert_allocations(
-    rt: &impl Abort,
-    alloc: Global,
-    file: &[u8],
-    header: &Header,
-    raw: &[u8],
-) -> Result<()> {
-    assert_one_allocation(rt, alloc, &mut Decoder::new(file)?, header, raw);
-    let mut stream = Decoder::from_stream(file)?;
-    assert_one_allocation(rt, alloc, &mut stream, header, raw);
-    let mut buffered = Decoder::from_buf_read(file)?;
-    assert_one_allocation(rt, alloc, &mut buffered, header, raw);
-    Ok(())
+fn assert_allocations(rt: &impl Abort, alloc: Global, file: &[u8], header: &Header, raw: &[u8]) {
+    assert_one_allocation(rt, alloc, &mut made::slice(rt, file), header, raw);
+    assert_one_allocation(rt, alloc, &mut made::stream(rt, file), header, raw);
+    assert_one_allocation(rt, alloc, &mut made::buffered(rt, file), header, raw);
 }
 
 #[test]
-fn each_allocation_of_decode_to_vec(rt: HostRuntime) -> Result<()> {
+fn each_allocation_of_decode_to_vec(rt: HostRuntime) {
     let alloc = rt.alloc();
-    assert_allocations(&rt, alloc, &ONE_RGB_PIXEL, &Header::default(), &PIXEL)
+    assert_allocations(&rt, alloc, &ONE_RGB_PIXEL, &Header::default(), &PIXEL);
 }
 
 // A vector that grows by several steps is allocated once.
 #[test]
-fn each_allocation_of_steps(rt: HostRuntime) -> Result<()> {
+fn each_allocation_of_steps(rt: HostRuntime) {
     let alloc = rt.alloc();
     let header = row(50_000, Channels::Rgb);
-    let raw = vec![in alloc; 9u8; 150_000]?;
-    let file = encode_to_vec(alloc, &raw, 50_000, 1)?;
-    assert_allocations(&rt, alloc, &file, &header, &raw)
+    let raw = made::filled(&rt, alloc, 9, 150_000);
+    let file = made::encoded(&rt, alloc, &raw, 50_000, 1);
+    assert_allocations(&rt, alloc, &file, &header, &raw);
 }
 
 // Encodes the pixel while all memory is taken but for one block of `spare` bytes.

@@ -10,7 +10,7 @@ use crate::tests::library::support::{
     assert_bytes, assert_fails, assert_given, assert_header, assert_number, assert_refused, made,
 };
 use qoi::parts::{Buffered, Bytes};
-use qoi::{Channels, Decoder, Header, Reader, Result, Style, encode_to_vec};
+use qoi::{Channels, Header, Reader, Result, Style, encode_to_vec};
 use std::alloc::Global;
 use std::io::ErrorKind;
 use std::process::Abort;
@@ -113,20 +113,19 @@ fn most_memory<R: Files + AllocGlobal>(rt: &R) -> io::Result<usize> {
 
 // A vector of 1.6 GB is asked for, and next to nothing of it is written.
 #[test]
-fn headers_take_no_memory(rt: HostRuntime) -> Result<()> {
+fn headers_take_no_memory(rt: HostRuntime) {
     let alloc = rt.alloc();
-    let before = most_memory(&rt)?;
-    let slice = Decoder::new(&LARGE)?.decode_to_vec(alloc);
+    let before = most_memory(&rt).expect(&rt, "refused");
+    let slice = made::slice(&rt, &LARGE).decode_to_vec(alloc);
     assert_refused(&rt, alloc, slice.err(), CUT);
-    let few = Decoder::new(&LARGE[..21])?.decode_to_vec(alloc);
+    let few = made::slice(&rt, &LARGE[..21]).decode_to_vec(alloc);
     assert_refused(&rt, alloc, few.err(), CUT);
-    let stream = Decoder::from_stream(&LARGE[..])?.decode_to_vec(alloc);
+    let stream = made::stream(&rt, &LARGE[..]).decode_to_vec(alloc);
     assert_fails(&rt, stream.err(), ErrorKind::UnexpectedEof);
-    let buffered = Decoder::from_buf_read(&LARGE[..])?.decode_to_vec(alloc);
+    let buffered = made::buffered(&rt, &LARGE[..]).decode_to_vec(alloc);
     assert_fails(&rt, buffered.err(), ErrorKind::UnexpectedEof);
-    let after = most_memory(&rt)?;
+    let after = most_memory(&rt).expect(&rt, "refused");
     assert!(rt; before > 0 && after <= before.saturating_add(16 * 1024));
-    Ok(())
 }
 
 // Reads an image of three channels into a new vector, by the trait alone.

@@ -4,7 +4,7 @@ use crate::tests::fakes::{Bad, Sink};
 use crate::tests::library::support::generator::{Numbers, Rgba, drawn};
 use crate::tests::library::support::images::{Image, file_of, raw_of, seen_raw};
 use qoi::parts::{Buffered, Bytes};
-use qoi::{Channels, Decoder, Encoder, Header, Reader, Style};
+use qoi::{Channels, Decoder, Encoder, Header, Reader, Style, encode_to_vec};
 use std::alloc::Global;
 use std::io::{BufRead, BufReader, Read};
 use std::process::Abort;
@@ -92,6 +92,11 @@ pub fn image(
 /// An encoder of these raw bytes.
 pub fn encoder<'a>(rt: &impl Abort, raw: &'a [u8], width: u32, height: u32) -> Encoder<'a> {
     Encoder::new(raw, width, height).expect(rt, "refused")
+}
+
+/// The file of an image, in style `Reference`.
+pub fn encoded(rt: &impl Abort, alloc: Global, raw: &[u8], width: u32, height: u32) -> Vec<u8> {
+    encode_to_vec(alloc, raw, width, height).expect(rt, "refused")
 }
 
 /// A decoder of a slice.
