@@ -7,7 +7,9 @@ ghost use Rattle.qoi.specs.pieces.Mark.{marked_left, MarksRows};
 ghost use Rattle.qoi.specs.pieces.PixelReader.{pixels_left, HasRows};
 
 use crate::tests::fakes::{ONE_RGB_PIXEL, PIXEL};
-use crate::tests::library::support::{assert_both, assert_bytes, assert_given, made};
+use crate::tests::library::support::{
+    assert_both, assert_bytes, assert_count, assert_cut, assert_given, assert_unmarked, made,
+};
 use qoi::parts::Bytes;
 use qoi::{Error, Mark, PixelReader, Reader};
 use std::alloc::Global;
@@ -143,21 +145,20 @@ fn a_mark_in_other_slices(rt: HostRuntime) {
     let mark = made::slice(&rt, &file).into_pixels().mark(&file);
     assert!(rt; mark.left() == 3);
     let mut out = [0; 3];
-    assert!(rt;
-        matches!(
-            mark.resume(&file).expect(&rt, "refused").read(&mut out),
-            Ok(3)
-        )
+    assert_count(
+        &rt,
+        mark.resume(&file).expect(&rt, "refused").read(&mut out),
+        3,
     );
     assert_bytes(&rt, &out, &PIXEL);
-    assert!(rt; matches!(mark.resume(&file[..13]), Err(Error::UnexpectedBufferEnd)));
+    assert_cut(&rt, mark.resume(&file[..13]));
     let refused = mark
         .resume(&file[..14])
         .expect(&rt, "refused")
         .read(&mut out);
-    assert!(rt; matches!(refused, Err(Error::UnexpectedBufferEnd)));
+    assert_cut(&rt, refused);
     let refused = mark.resume(&[0; 64]).expect(&rt, "refused").read(&mut out);
-    assert!(rt; matches!(refused, Err(Error::InvalidPadding)));
+    assert_unmarked(&rt, refused);
 }
 
 // A refusal is kept by a mark: what goes on from it reads no more.
@@ -167,11 +168,11 @@ fn a_mark_behind_a_refusal(rt: HostRuntime) {
     let cut = &file[..file.len() - 1];
     let mut pixels = made::slice(&rt, cut).into_pixels();
     let mut out = [0; 3];
-    assert!(rt; matches!(pixels.read(&mut out), Err(Error::UnexpectedBufferEnd)));
+    assert_cut(&rt, pixels.read(&mut out));
     let refused = pixels
         .mark(cut)
         .resume(&file)
         .expect(&rt, "refused")
         .read(&mut out);
-    assert!(rt; matches!(refused, Err(Error::UnexpectedBufferEnd)));
+    assert_cut(&rt, refused);
 }

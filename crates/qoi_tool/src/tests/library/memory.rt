@@ -3,10 +3,11 @@ use crate::tests::fakes::{ONE_RGB_PIXEL, PIXEL, take_memory};
 use crate::tests::library::support::decodings::CUT;
 use crate::tests::library::support::images::row;
 use crate::tests::library::support::{
-    assert_bytes, assert_decoded, assert_given, assert_header, assert_number, assert_refused, made,
+    assert_bytes, assert_decoded, assert_given, assert_header, assert_no_memory, assert_number,
+    assert_refused, made,
 };
 use qoi::{
-    Channels, ColorSpace, Decoder, Error, Header, Reader, Result, decode_header, decode_to_buf,
+    Channels, ColorSpace, Decoder, Header, Reader, Result, decode_header, decode_to_buf,
     decode_to_vec, encode_to_buf, encode_to_vec,
 };
 use std::alloc::{AllocError, Global};
@@ -158,7 +159,7 @@ fn assert_decodes(rt: &impl Abort) {
 
 // The clone of a reader that owns its bytes takes memory.
 fn assert_clone_is_refused(rt: &impl Abort, decoder: &Decoder<Cursor<Vec<u8>>>) {
-    assert!(rt; matches!(decoder.clone(), Err(Error::OutOfMemory)));
+    assert_no_memory(rt, decoder.clone());
 }
 
 // While all memory is taken, the calls that take none succeed, and a clone is refused. That leaves

@@ -8,7 +8,7 @@ ghost use Rattle.qoi.specs.Images.{front_image, file_image};
 ghost use Rattle.qoi.specs.pieces.PixelReader.{HasRows};
 ghost use Rattle.qoi.specs.Rectangles.{row_bytes, rectangle, KeepsOutside};
 
-use crate::tests::library::support::{assert_bytes, assert_given, made};
+use crate::tests::library::support::{assert_bytes, assert_cut, assert_given, made};
 use qoi::laws::rectangles::{rows_are_put, rows_that_come};
 use qoi::parts::Bytes;
 use qoi::{Decoder, Error, Header, PixelReader, Reader};
@@ -194,7 +194,7 @@ fn a_tile_of_a_file(rt: HostRuntime) {
     assert_given(&rt, cut_file(rt.alloc(), &file, MIDDLE), &[22, 23, 32, 33]);
     let wide = Area { size: 4, ..MIDDLE };
     let refused = cut_file(rt.alloc(), &file, wide);
-    assert!(rt; matches!(refused, Err(Error::UnexpectedBufferEnd)));
+    assert_cut(&rt, refused);
 }
 
 #[test]
@@ -218,5 +218,5 @@ fn a_tile_of_nine_pixels(rt: HostRuntime) {
         ..lower_right
     };
     let refused = cut_file(alloc, &file, high);
-    assert!(rt; matches!(refused, Err(Error::UnexpectedBufferEnd)));
+    assert_cut(&rt, refused);
 }

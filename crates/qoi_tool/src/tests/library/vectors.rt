@@ -32,7 +32,7 @@ fn files_take_their_length(rt: HostRuntime) {
     let mut numbers = Numbers::new(0xca9ac);
     let pixels = made::pixels(&rt, alloc, &mut numbers, Channels::Rgba, 5000);
     let image = made::image(&rt, alloc, row(5000, Channels::Rgba), Style::Tight, &pixels);
-    let encoder = image.encoder().expect(&rt, "refused");
+    let encoder = image.encoder(&rt);
     assert_exact(&rt, encoder.encode_to_vec(alloc));
 }
 
@@ -70,19 +70,19 @@ fn images_of_several_steps(rt: HostRuntime) {
 }
 
 // An RGB chunk and so many runs of 62.
-fn runs(alloc: Global, count: usize) -> Result<Vec<u8>> {
-    let mut chunks = vec![in alloc; 0xfdu8; count.saturating_add(4)]?;
+fn runs(rt: &impl Abort, alloc: Global, count: usize) -> Vec<u8> {
+    let mut chunks = vec![in alloc; 0xfdu8; count.saturating_add(4)].expect(rt, "refused");
     for (chunk, byte) in chunks.iter_mut().zip([0xfe, 1, 2, 3]) {
         *chunk = byte;
     }
-    Ok(chunks)
+    chunks
 }
 
 // Runs that stand across the ends of steps. The image ends within the last of them, too.
 #[test]
 fn runs_across_steps(rt: HostRuntime) {
     let alloc = rt.alloc();
-    let chunks = runs(alloc, 1100).expect(&rt, "refused");
+    let chunks = runs(&rt, alloc, 1100);
     for width in [68_201, 68_150] {
         let header = row(width, Channels::Rgb);
         let file = made::file(&rt, alloc, header, &chunks);
