@@ -111,9 +111,7 @@ fn the_program(rt: HostRuntime) {
         &file,
         &[0x0b, 0x79, 0xe7, 0xff],
     );
-    let place = PLACE_RGBA
-        .image(alloc, Style::Reference)
-        .expect(&rt, "refused");
+    let place = PLACE_RGBA.image(&rt, alloc, Style::Reference);
     let three = [101, 102, 103, 1, 2, 3, 101, 102, 103];
     assert_writes(&rt, alloc, &["dec", "rgb"], &place.file, &three);
     let mut linear = file;
@@ -181,10 +179,7 @@ static STYLED: [Styled; 5] = [
 
 // The image is encoded, and comes back.
 fn assert_styled(rt: &impl Abort, alloc: Global, styled: &Styled) {
-    let mut image = styled
-        .example
-        .image(alloc, Style::Reference)
-        .expect(rt, "refused");
+    let mut image = styled.example.image(rt, alloc, Style::Reference);
     if let Some(space) = image.file.get_mut(13) {
         *space = styled.space;
     }
@@ -204,7 +199,7 @@ fn styles(rt: HostRuntime) {
 #[test]
 fn beginnings(rt: HostRuntime) {
     let line = "qoi_tool: unexpected input buffer end while decoding\n";
-    for image in &files(rt.alloc()).expect(&rt, "refused") {
+    for image in &files(&rt, rt.alloc()) {
         assert_writes(&rt, rt.alloc(), &["dec"], &image.file, &image.raw);
         for size in 0..image.file.len() {
             assert_refuses(&rt, rt.alloc(), &["dec"], &image.file[..size], 1, line);
@@ -212,8 +207,13 @@ fn beginnings(rt: HostRuntime) {
     }
 }
 
+// The line of an i/o error.
+fn assert_line(rt: &impl Abort, line: &[u8]) {
+    assert!(rt; line.starts_with(b"qoi_tool: i/o error: ") && line.ends_with(b"\n"));
+}
+
 // Tests that the answer is a fault of this kind, and that its report is a line with status 1. If
-// kind or line is wrong, the call is named.
+// the kind is wrong, the call is named.
 fn assert_io(
     rt: &impl Abort,
     alloc: Global,
@@ -221,44 +221,62 @@ fn assert_io(
     kind: ErrorKind,
     call: usize,
 ) {
-    match answer {
-        Err(Fault::Image(Error::IoError(error))) => {
-            assert!(rt; error.kind() == kind, "at call {call}");
-            let mut err = made::sink(rt, alloc, usize::MAX, NONE);
-            let fault = Fault::Image(Error::IoError(error));
-            assert_eq!(rt; report(&fault, &mut err), 1);
-            assert!(rt;
-                err.got.starts_with(b"qoi_tool: i/o error: ") && err.got.ends_with(b"\n"),
-                "at call {call}"
-            );
-        }
+    let Err(fault) = answer else {
+        assert!(rt; false, "no fault at call {call}");
+        return;
+    };
+    match &fault {
+        Fault::Image(Error::IoError(error)) => assert!(rt; error.kind() == kind, "at call {call}"),
         _ => assert!(rt; false, "no i/o error at call {call}"),
     }
+    let mut err = made::sink(rt, alloc, usize::MAX, NONE);
+    assert_eq!(rt; report(&fault, &mut err), 1);
+    assert_line(rt, &err.got);
+}
+
+// The line of a header, and a cut header. The reader gives at most so many bytes a call.
+fn assert_lines(rt: &impl Abort, alloc: Global, most: usize) {
+    let mut input = Source::new(&ONE_RGB_PIXEL, most, NONE);
+    let mut output = made::sink(rt, alloc, usize::MAX, NONE);
+    assert!(rt; answer(alloc, &["info"], &mut input, &mut output).is_ok());
+    assert_bytes(rt, &output.got, LINE);
+    assert_number(rt, input.left.len(), 12);
+    let mut input = Source::new(&ONE_RGB_PIXEL[..13], most, NONE);
+    let mut output = made::sink(rt, alloc, usize::MAX, NONE);
+    let cut = answer(alloc, &["info"], &mut input, &mut output);
+    assert_io(rt, alloc, cut, ErrorKind::UnexpectedEof, 14);
+    assert!(rt; output.got.is_empty());
 }
 
 // The reader gives all that is asked for in a call, or a byte.
 #[test]
 fn header_lines(rt: HostRuntime) {
     let alloc = rt.alloc();
-    for most in [usize::MAX, 1] {
-        let mut input = Source::new(&ONE_RGB_PIXEL, most, NONE);
-        let mut output = made::sink(&rt, alloc, usize::MAX, NONE);
-        assert!(rt; answer(alloc, &["info"], &mut input, &mut output).is_ok());
-        assert_bytes(&rt, &output.got, LINE);
-        assert_number(&rt, input.left.len(), 12);
-
-        let mut input = Source::new(&ONE_RGB_PIXEL[..13], most, NONE);
-        let mut output = made::sink(&rt, alloc, usize::MAX, NONE);
-        let cut = answer(alloc, &["info"], &mut input, &mut output);
-        assert_io(&rt, alloc, cut, ErrorKind::UnexpectedEof, 14);
-        assert!(rt; output.got.is_empty());
-    }
+    assert_lines(&rt, alloc, usize::MAX);
+    assert_lines(&rt, alloc, 1);
     let line = b"20000x20000 channels 4 colorspace linear\n";
     let header = b"qoif\0\0\x4e\x20\0\0\x4e\x20\x04\x01";
     assert_writes(&rt, alloc, &["info"], header, line);
 }
 
-// The reader gives a byte a call, and its call 27 finds the end.
+// The program decodes from a reader that gives a byte a call, and fails at this one.
+fn assert_reader_stops(rt: &impl Abort, alloc: Global, bad: Bad, kind: ErrorKind) {
+    let mut input = Source::new(&ONE_RGB_PIXEL, 1, bad);
+    let mut output = made::sink(rt, alloc, usize::MAX, NONE);
+    let answer = dec(alloc, &mut input, &mut output);
+    assert_io(rt, alloc, answer, kind, bad.call);
+    assert_number(rt, input.calls, bad.call);
+    assert!(rt; output.got.is_empty());
+}
+
+// The bad call never comes: call 27 finds the end.
+fn assert_reader_ends(rt: &impl Abort, alloc: Global, end: End) {
+    let mut input = Source::new(&ONE_RGB_PIXEL, 1, Bad { call: 28, end });
+    let mut output = made::sink(rt, alloc, usize::MAX, NONE);
+    assert!(rt; dec(alloc, &mut input, &mut output).is_ok());
+    assert_number(rt, input.calls, 27);
+}
+
 #[test]
 fn failing_reader(rt: HostRuntime) {
     let alloc = rt.alloc();
@@ -270,17 +288,9 @@ fn failing_reader(rt: HostRuntime) {
     ];
     for (end, kind) in ends {
         for call in 1..28usize {
-            let mut input = Source::new(&ONE_RGB_PIXEL, 1, Bad { call, end });
-            let mut output = made::sink(&rt, alloc, usize::MAX, NONE);
-            let answer = dec(alloc, &mut input, &mut output);
-            assert_io(&rt, alloc, answer, kind, call);
-            assert_number(&rt, input.calls, call);
-            assert!(rt; output.got.is_empty(), "at call {call}");
+            assert_reader_stops(&rt, alloc, Bad { call, end }, kind);
         }
-        let mut input = Source::new(&ONE_RGB_PIXEL, 1, Bad { call: 28, end });
-        let mut output = made::sink(&rt, alloc, usize::MAX, NONE);
-        assert!(rt; dec(alloc, &mut input, &mut output).is_ok());
-        assert_number(&rt, input.calls, 27);
+        assert_reader_ends(&rt, alloc, end);
     }
 }
 
@@ -308,7 +318,24 @@ fn own_words(rt: HostRuntime) {
     }
 }
 
-// The writer takes a byte a call, and three calls take all.
+// The program decodes to a writer that takes a byte a call, and fails after so many bytes.
+fn assert_writer_stops(rt: &impl Abort, alloc: Global, end: End, written: usize, kind: ErrorKind) {
+    let call = written.saturating_add(1);
+    let mut input = Source::new(&ONE_RGB_PIXEL, usize::MAX, NONE);
+    let mut output = made::sink(rt, alloc, 1, Bad { call, end });
+    let answer = dec(alloc, &mut input, &mut output);
+    assert_io(rt, alloc, answer, kind, call);
+    assert_bytes(rt, &output.got, &PIXEL[..written.min(3)]);
+}
+
+// The bad call never comes: three calls take all.
+fn assert_writer_ends(rt: &impl Abort, alloc: Global, end: End) {
+    let mut input = Source::new(&ONE_RGB_PIXEL, usize::MAX, NONE);
+    let mut output = made::sink(rt, alloc, 1, Bad { call: 4, end });
+    assert!(rt; dec(alloc, &mut input, &mut output).is_ok());
+    assert_bytes(rt, &output.got, &PIXEL);
+}
+
 #[test]
 fn failing_writer(rt: HostRuntime) {
     let alloc = rt.alloc();
@@ -321,17 +348,9 @@ fn failing_writer(rt: HostRuntime) {
     ];
     for (end, kind) in ends {
         for written in 0..3usize {
-            let call = written + 1;
-            let mut input = Source::new(&ONE_RGB_PIXEL, usize::MAX, NONE);
-            let mut output = made::sink(&rt, alloc, 1, Bad { call, end });
-            let answer = dec(alloc, &mut input, &mut output);
-            assert_io(&rt, alloc, answer, kind, call);
-            assert_bytes(&rt, &output.got, &PIXEL[..written]);
+            assert_writer_stops(&rt, alloc, end, written, kind);
         }
-        let mut input = Source::new(&ONE_RGB_PIXEL, usize::MAX, NONE);
-        let mut output = made::sink(&rt, alloc, 1, Bad { call: 4, end });
-        assert!(rt; dec(alloc, &mut input, &mut output).is_ok());
-        assert_bytes(&rt, &output.got, &PIXEL);
+        assert_writer_ends(&rt, alloc, end);
     }
 }
 

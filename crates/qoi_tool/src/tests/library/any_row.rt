@@ -7,8 +7,10 @@ ghost use Rattle.qoi.specs.pieces.Mark.{marked_left, MarksRows};
 ghost use Rattle.qoi.specs.pieces.PixelReader.{pixels_left, HasRows};
 
 use crate::tests::fakes::{ONE_RGB_PIXEL, PIXEL};
-use crate::tests::library::support::{assert_both, assert_bytes};
-use qoi::{Bytes, Decoder, Error, Mark, PixelReader, Reader, encode_to_vec};
+use crate::tests::library::support::{
+    assert_both, assert_bytes, assert_count, assert_cut, assert_given, assert_unmarked, made,
+};
+use qoi::{Bytes, Error, Mark, PixelReader, Reader};
 use std::alloc::Global;
 
 /// Reads what is left of an image, of which k rows were read.
@@ -100,71 +102,76 @@ pub fn again(
 const PICTURE: [u8; 12] = [11, 12, 13, 14, 21, 22, 23, 24, 31, 32, 33, 34];
 
 #[test]
-fn the_third_row_by_a_clone(rt: HostRuntime) -> Result<(), Error> {
+fn the_third_row_by_a_clone(rt: HostRuntime) {
     let alloc = rt.alloc();
-    let file = encode_to_vec(alloc, &PICTURE, 1, 3)?;
-    let mut pixels = Decoder::from_stream(&file[..])?.into_pixels();
+    let file = made::encoded(&rt, alloc, &PICTURE, 1, 3);
+    let mut pixels = made::stream(&rt, &file[..]).into_pixels();
     let mut rows = [0; 8];
-    pixels.read(&mut rows)?;
+    pixels.read(&mut rows).expect(&rt, "refused");
     let both = by_clone(alloc, pixels);
     assert_both(&rt, both, &[31, 32, 33, 34], &[31, 32, 33, 34]);
-    Ok(())
 }
 
 #[test]
-fn the_rows_behind_a_mark(rt: HostRuntime) -> Result<(), Error> {
+fn the_rows_behind_a_mark(rt: HostRuntime) {
     let alloc = rt.alloc();
-    let file = encode_to_vec(alloc, &PICTURE, 1, 3)?;
-    let mut pixels = Decoder::new(&file)?.into_pixels();
+    let file = made::encoded(&rt, alloc, &PICTURE, 1, 3);
+    let mut pixels = made::slice(&rt, &file).into_pixels();
     let mut row = [0; 4];
-    pixels.read(&mut row)?;
+    pixels.read(&mut row).expect(&rt, "refused");
     let both = twice(alloc, pixels, &file);
     assert_both(&rt, both, &PICTURE[4..], &PICTURE[4..]);
-    Ok(())
 }
 
 // Bytes are appended behind the file, which the mark was made in.
 #[test]
-fn a_mark_in_a_longer_slice(rt: HostRuntime) -> Result<(), Error> {
+fn a_mark_in_a_longer_slice(rt: HostRuntime) {
     let alloc = rt.alloc();
-    let file = encode_to_vec(alloc, &PICTURE, 1, 3)?;
-    let mut longer = encode_to_vec(alloc, &PICTURE, 1, 3)?;
-    longer.push(7)?;
-    let mut pixels = Decoder::new(&file)?.into_pixels();
+    let file = made::encoded(&rt, alloc, &PICTURE, 1, 3);
+    let mut longer = made::encoded(&rt, alloc, &PICTURE, 1, 3);
+    made::append(&rt, &mut longer, &[7]);
+    let mut pixels = made::slice(&rt, &file).into_pixels();
     let mut row = [0; 4];
-    pixels.read(&mut row)?;
-    let rest = again(alloc, &pixels, &file, &longer)?;
-    assert_bytes(&rt, &rest, &PICTURE[4..]);
-    Ok(())
+    pixels.read(&mut row).expect(&rt, "refused");
+    assert_given(&rt, again(alloc, &pixels, &file, &longer), &PICTURE[4..]);
 }
 
 // A mark goes on in any slice: it is refused if that ends before it, else the bytes that stand there
 // are read.
 #[test]
-fn a_mark_in_other_slices(rt: HostRuntime) -> Result<(), Error> {
+fn a_mark_in_other_slices(rt: HostRuntime) {
     let file = ONE_RGB_PIXEL;
-    let mark = Decoder::new(&file)?.into_pixels().mark(&file);
+    let mark = made::slice(&rt, &file).into_pixels().mark(&file);
     assert!(rt; mark.left() == 3);
     let mut out = [0; 3];
-    assert!(rt; matches!(mark.resume(&file)?.read(&mut out), Ok(3)));
+    assert_count(
+        &rt,
+        mark.resume(&file).expect(&rt, "refused").read(&mut out),
+        3,
+    );
     assert_bytes(&rt, &out, &PIXEL);
-    assert!(rt; matches!(mark.resume(&file[..13]), Err(Error::UnexpectedBufferEnd)));
-    let refused = mark.resume(&file[..14])?.read(&mut out);
-    assert!(rt; matches!(refused, Err(Error::UnexpectedBufferEnd)));
-    let refused = mark.resume(&[0; 64])?.read(&mut out);
-    assert!(rt; matches!(refused, Err(Error::InvalidPadding)));
-    Ok(())
+    assert_cut(&rt, mark.resume(&file[..13]));
+    let refused = mark
+        .resume(&file[..14])
+        .expect(&rt, "refused")
+        .read(&mut out);
+    assert_cut(&rt, refused);
+    let refused = mark.resume(&[0; 64]).expect(&rt, "refused").read(&mut out);
+    assert_unmarked(&rt, refused);
 }
 
 // A refusal is kept by a mark: what goes on from it reads no more.
 #[test]
-fn a_mark_behind_a_refusal(rt: HostRuntime) -> Result<(), Error> {
+fn a_mark_behind_a_refusal(rt: HostRuntime) {
     let file = ONE_RGB_PIXEL;
     let cut = &file[..file.len() - 1];
-    let mut pixels = Decoder::new(cut)?.into_pixels();
+    let mut pixels = made::slice(&rt, cut).into_pixels();
     let mut out = [0; 3];
-    assert!(rt; matches!(pixels.read(&mut out), Err(Error::UnexpectedBufferEnd)));
-    let refused = pixels.mark(cut).resume(&file)?.read(&mut out);
-    assert!(rt; matches!(refused, Err(Error::UnexpectedBufferEnd)));
-    Ok(())
+    assert_cut(&rt, pixels.read(&mut out));
+    let refused = pixels
+        .mark(cut)
+        .resume(&file)
+        .expect(&rt, "refused")
+        .read(&mut out);
+    assert_cut(&rt, refused);
 }

@@ -49,16 +49,27 @@ fn behind(
     rest(rt, alloc, &mut pixels)
 }
 
+// The rows of an image that follow the first ones, by an index.
+fn assert_behind(
+    rt: &impl Abort,
+    alloc: Global,
+    image: &Image,
+    index: &RowIndex,
+    channels: Channels,
+    first: u32,
+) {
+    let found = index.rows_in(&image.file, channels, first);
+    let found = rest(rt, alloc, &mut found.expect(rt, "refused"));
+    assert_bytes(rt, &found, &behind(rt, alloc, image, channels, first));
+}
+
 // Some rows of an image by an index, and all rows above.
 fn assert_rows(rt: &impl Abort, alloc: Global, image: &Image, every: u32) {
     let index = index(rt, alloc, &image.file, every);
     let height = image.header.height;
     for first in [0, 1, height / 2, height.saturating_sub(1), height] {
-        let first = first.min(height);
         for channels in [Channels::Rgb, Channels::Rgba] {
-            let found = index.rows_in(&image.file, channels, first);
-            let found = rest(rt, alloc, &mut found.expect(rt, "refused"));
-            assert_bytes(rt, &found, &behind(rt, alloc, image, channels, first));
+            assert_behind(rt, alloc, image, &index, channels, first.min(height));
         }
     }
     let mut own = index.rows(&image.file, 0).expect(rt, "refused");

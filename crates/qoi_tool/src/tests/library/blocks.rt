@@ -4,7 +4,7 @@ use crate::tests::library::support::generator::{Groups, Numbers, Rgba, pixel};
 use crate::tests::library::support::images::row;
 use crate::tests::library::support::made;
 use qoi::Channels::{Rgb, Rgba as Four};
-use qoi::{Channels, Result, Style};
+use qoi::{Channels, Style};
 use std::alloc::Global;
 use std::process::Abort;
 
@@ -41,16 +41,16 @@ fn assert_row(rt: &impl Abort, alloc: Global, channels: Channels, style: Style, 
 }
 
 // The next 1 to 70 pixels: one of four is a repeat, and of the others each is one of the three.
-fn draw(alloc: Global, numbers: &mut Numbers, letters: [Rgba; 3]) -> Result<Vec<Rgba>> {
+fn draw(rt: &impl Abort, alloc: Global, numbers: &mut Numbers, letters: [Rgba; 3]) -> Vec<Rgba> {
     let [mut px, _, _] = letters;
     let mut pixels = Vec::new(alloc);
     for _ in 0..1 + numbers.below(70) {
         if let Some(drawn) = letters.get(numbers.below(4) as usize) {
             px = *drawn;
         }
-        pixels.push(px)?;
+        pixels.push(px).expect(rt, "refused");
     }
-    Ok(pixels)
+    pixels
 }
 
 // Draws 6,000 images in each style, as many from each alphabet.
@@ -60,7 +60,7 @@ fn drawn_rows(rt: HostRuntime) {
     for style in STYLES {
         for alphabet in ALPHABETS {
             for _ in 0..1000 {
-                let pixels = draw(rt.alloc(), &mut numbers, alphabet.pixels).expect(&rt, "refused");
+                let pixels = draw(&rt, rt.alloc(), &mut numbers, alphabet.pixels);
                 assert_row(&rt, rt.alloc(), alphabet.channels, style, &pixels);
             }
         }
@@ -70,12 +70,13 @@ fn drawn_rows(rt: HostRuntime) {
 // Fresh pixels, up to fifteen, and sixteen more, which are fresh where the pattern has a bit, and
 // else repeat. Each fresh one is one of the two that the one before isn't.
 fn patterned(
+    rt: &impl Abort,
     alloc: Global,
     numbers: &mut Numbers,
     letters: [Rgba; 3],
     pattern: u32,
     ahead: u32,
-) -> Result<Vec<Rgba>> {
+) -> Vec<Rgba> {
     let [mut px, _, _] = letters;
     let mut letter = 0;
     let mut pixels = Vec::new(alloc);
@@ -86,9 +87,9 @@ fn patterned(
         if let Some(drawn) = letters.get(letter as usize) {
             px = *drawn;
         }
-        pixels.push(px)?;
+        pixels.push(px).expect(rt, "refused");
     }
-    Ok(pixels)
+    pixels
 }
 
 // All 65,536 patterns of fresh pixels and repeats in sixteen lanes, each in one of the styles, with
@@ -100,8 +101,13 @@ fn patterns(rt: HostRuntime) {
         let style = STYLES[numbers.below(3) as usize];
         let alphabet = ALPHABETS[numbers.below(6) as usize];
         let ahead = numbers.below(16);
-        let pixels = patterned(rt.alloc(), &mut numbers, alphabet.pixels, pattern, ahead).expect(
-            &rt, "refused",
+        let pixels = patterned(
+            &rt,
+            rt.alloc(),
+            &mut numbers,
+            alphabet.pixels,
+            pattern,
+            ahead,
         );
         assert_row(&rt, rt.alloc(), alphabet.channels, style, &pixels);
     }
@@ -110,14 +116,15 @@ fn patterns(rt: HostRuntime) {
 // Forty pixels, of which each is a repeat or each differs a little from the one before, but for one
 // of another kind.
 fn one_other(
+    rt: &impl Abort,
     alloc: Global,
     numbers: &mut Numbers,
     background: usize,
     kind: usize,
     lane: usize,
-) -> Result<Vec<Rgba>> {
+) -> Vec<Rgba> {
     let mut px = [90, 120, 30, 255];
-    let mut pixels = vec![in alloc; px; 1]?;
+    let mut pixels = vec![in alloc; px; 1].expect(rt, "refused");
     for k in 1..40usize {
         px = pixel(
             numbers,
@@ -125,9 +132,9 @@ fn one_other(
             &pixels,
             px,
         );
-        pixels.push(px)?;
+        pixels.push(px).expect(rt, "refused");
     }
-    Ok(pixels)
+    pixels
 }
 
 // Each kind of pixel in each lane of two blocks, among repeats, differences and lumas.
@@ -138,9 +145,7 @@ fn kinds_in_lanes(rt: HostRuntime) {
         for kind in 0..6 {
             for background in 2..5 {
                 for style in STYLES {
-                    let pixels = one_other(rt.alloc(), &mut numbers, background, kind, lane).expect(
-                        &rt, "refused",
-                    );
+                    let pixels = one_other(&rt, rt.alloc(), &mut numbers, background, kind, lane);
                     assert_row(&rt, rt.alloc(), Four, style, &pixels);
                 }
             }
@@ -151,22 +156,23 @@ fn kinds_in_lanes(rt: HostRuntime) {
 // Sixteen pixels of which one or two are fresh, after so many repeats, and a few more. In style
 // `Tight` a pixel comes before them: there blocks begin behind the first pixel.
 fn few_fresh(
+    rt: &impl Abort,
     alloc: Global,
     numbers: &mut Numbers,
     style: Style,
     repeats: usize,
     (first, second): (usize, usize),
-) -> Result<Vec<Rgba>> {
+) -> Vec<Rgba> {
     let letters = ALPHABETS[numbers.below(6) as usize].pixels;
     let mut groups = Groups::new(alloc, letters);
     if style == Style::Tight {
-        groups.add(numbers, 0)?;
+        groups.add(rt, numbers, 0);
     }
-    groups.add_few(numbers, repeats, first, second)?;
+    groups.add_few(rt, numbers, repeats, first, second);
     for repeats in [4, 12] {
-        groups.add(numbers, repeats)?;
+        groups.add(rt, numbers, repeats);
     }
-    Ok(groups.pixels)
+    groups.pixels
 }
 
 // Each two lanes of a block, and each lane alone, fresh after each number of repeats that may be
@@ -179,9 +185,7 @@ fn few_fresh_pixels(rt: HostRuntime) {
             for first in 0..=second {
                 for style in STYLES {
                     let lanes = (first, second);
-                    let pixels = few_fresh(rt.alloc(), &mut numbers, style, repeats, lanes).expect(
-                        &rt, "refused",
-                    );
+                    let pixels = few_fresh(&rt, rt.alloc(), &mut numbers, style, repeats, lanes);
                     assert_row(&rt, rt.alloc(), Four, style, &pixels);
                 }
             }

@@ -7,7 +7,7 @@ use crate::tests::library::support::images::row;
 use crate::tests::library::support::lists::add;
 use crate::tests::library::support::made;
 use crate::tests::library::support::reference::pixels_of;
-use qoi::{Channels, Result};
+use qoi::Channels;
 use std::alloc::Global;
 use std::process::Abort;
 
@@ -60,20 +60,26 @@ struct Drawing {
 
 impl Drawing {
     // So many fours of chunks.
-    fn of(alloc: Global, numbers: &mut Numbers, kinds: [u32; 8], fours: u32) -> Result<Drawing> {
+    fn of(
+        rt: &impl Abort,
+        alloc: Global,
+        numbers: &mut Numbers,
+        kinds: [u32; 8],
+        fours: u32,
+    ) -> Drawing {
         let mut drawing = Drawing {
             kinds,
             chunks: Vec::new(alloc),
             given: 0,
         };
         for _ in 0..fours.saturating_mul(4) {
-            drawing.add(numbers, 5)?;
+            drawing.add(rt, numbers, 5);
         }
-        Ok(drawing)
+        drawing
     }
 
     // Adds a drawn chunk or, if that has more bytes than there is room for, a difference.
-    fn add(&mut self, numbers: &mut Numbers, room: usize) -> Result<()> {
+    fn add(&mut self, rt: &impl Abort, numbers: &mut Numbers, room: usize) {
         let drawn = self.kinds[numbers.below(8) as usize];
         let size = match drawn {
             2 => 2,
@@ -82,15 +88,14 @@ impl Drawing {
             _ => 1,
         };
         let kind = if size <= room { drawn } else { 1 };
-        let given = add(numbers, &mut self.chunks, kind)?;
+        let given = add(rt, numbers, &mut self.chunks, kind);
         self.given = self.given.saturating_add(given);
-        Ok(())
     }
 
     // The file of the first `n` pixels, under headers of three and of four channels, into three and
     // four.
     fn check(&self, rt: &impl Abort, alloc: Global, n: u32) {
-        let pixels = pixels_of(alloc, &self.chunks, n).expect(rt, "refused");
+        let pixels = pixels_of(rt, alloc, &self.chunks, n);
         for own in [Channels::Rgb, Channels::Rgba] {
             let header = row(n, own);
             let file = made::file(rt, alloc, header, &self.chunks);
@@ -116,12 +121,12 @@ fn assert_input_tails(
     fours: u32,
 ) {
     for size in 0..=20usize {
-        let mut drawing = Drawing::of(alloc, numbers, kinds, fours).expect(rt, "refused");
+        let mut drawing = Drawing::of(rt, alloc, numbers, kinds, fours);
         let end = drawing.chunks.len().saturating_add(size);
         for _ in 0..size {
             let room = end.saturating_sub(drawing.chunks.len());
             if room > 0 {
-                drawing.add(numbers, room).expect(rt, "refused");
+                drawing.add(rt, numbers, room);
             }
         }
         if drawing.given > 0 {
@@ -139,11 +144,11 @@ fn assert_output_tails(
     fours: u32,
 ) {
     for more in 0..=90u32 {
-        let mut drawing = Drawing::of(alloc, numbers, kinds, fours).expect(rt, "refused");
+        let mut drawing = Drawing::of(rt, alloc, numbers, kinds, fours);
         let n = drawing.given.saturating_add(more);
         for _ in 0..more {
             if drawing.given < n {
-                drawing.add(numbers, 5).expect(rt, "refused");
+                drawing.add(rt, numbers, 5);
             }
         }
         if n > 0 {

@@ -31,7 +31,7 @@ fn assert_no_header(rt: &impl Abort, alloc: Global, cut: &[u8]) {
 // Each beginning of a file but the whole.
 #[test]
 fn beginnings(rt: HostRuntime) {
-    for image in &files(rt.alloc()).expect(&rt, "refused") {
+    for image in &files(&rt, rt.alloc()) {
         for size in 0..image.file.len() {
             let cut = &image.file[..size];
             if size < 14 {
@@ -46,7 +46,7 @@ fn beginnings(rt: HostRuntime) {
 // Each byte of the end marker is another one in turn. A byte follows, which a stream keeps.
 #[test]
 fn changed_markers(rt: HostRuntime) {
-    for image in &files(rt.alloc()).expect(&rt, "refused") {
+    for image in &files(&rt, rt.alloc()) {
         for back in 1..9usize {
             let mut changed = made::bytes(&rt, rt.alloc(), &image.file);
             if let Some(byte) = changed.get_mut(image.file.len().saturating_sub(back)) {
@@ -62,7 +62,7 @@ fn changed_markers(rt: HostRuntime) {
 #[test]
 fn followed(rt: HostRuntime) {
     let all: [&[u8]; 3] = [&[], &[0x78], &[0, 0, 0, 0, 0, 0, 0, 1, 0x78]];
-    for image in &files(rt.alloc()).expect(&rt, "refused") {
+    for image in &files(&rt, rt.alloc()) {
         for rest in all {
             let mut bytes = made::bytes(&rt, rt.alloc(), &image.file);
             made::append(&rt, &mut bytes, rest);
@@ -113,7 +113,7 @@ fn assert_short(rt: &impl Abort, alloc: Global, image: &Image) {
 // A buffer that lacks a byte is refused and as before.
 #[test]
 fn short_buffers(rt: HostRuntime) {
-    for image in &files(rt.alloc()).expect(&rt, "refused") {
+    for image in &files(&rt, rt.alloc()) {
         assert_short(&rt, rt.alloc(), image);
     }
 }

@@ -6,7 +6,7 @@ use crate::tests::library::support::images::{file_of, row};
 use crate::tests::library::support::{
     assert_bytes, assert_decoded, assert_fails, assert_number, made,
 };
-use qoi::{Channels, Decoder, Error, Result, Style};
+use qoi::{Channels, Decoder, Error, Style};
 use std::alloc::Global;
 use std::io::{BufRead, BufReader, Cursor, ErrorKind};
 use std::process::Abort;
@@ -30,24 +30,24 @@ const PIXELS: [u8; 24] = [
 const TIMES: usize = 3;
 
 // A file of all kinds of chunks.
-fn file(alloc: Global) -> Result<Vec<u8>> {
+fn file(rt: &impl Abort, alloc: Global) -> Vec<u8> {
     let mut chunks = Vec::new(alloc);
     for _ in 0..TIMES {
-        chunks.extend_from_slice(&CHUNKS)?;
+        made::append(rt, &mut chunks, &CHUNKS);
     }
-    file_of(alloc, row(68 * TIMES as u32, Channels::Rgba), &chunks)
+    file_of(rt, alloc, row(68 * TIMES as u32, Channels::Rgba), &chunks)
 }
 
 // The raw bytes of its image.
-fn image(alloc: Global) -> Result<Vec<u8>> {
+fn image(rt: &impl Abort, alloc: Global) -> Vec<u8> {
     let mut raw = Vec::new(alloc);
     for _ in 0..TIMES {
-        raw.extend_from_slice(&PIXELS)?;
+        made::append(rt, &mut raw, &PIXELS);
         for _ in 0..62u32 {
-            raw.extend_from_slice(&PIXELS[..4])?;
+            made::append(rt, &mut raw, &PIXELS[..4]);
         }
     }
-    Ok(raw)
+    raw
 }
 
 // Whether so many bytes are the header and whole chunks of the file.
@@ -67,17 +67,17 @@ fn assert_two_files<R: BufRead + Drop>(rt: &impl Abort, alloc: Global, reader: R
 }
 
 // A file twice, and two bytes.
-fn twice(alloc: Global, file: &[u8]) -> Result<Vec<u8>> {
-    let mut bytes = Vec::from_slice(alloc, file)?;
-    bytes.extend_from_slice(file)?;
-    bytes.extend_from_slice(&[0x78, 0x79])?;
-    Ok(bytes)
+fn twice(rt: &impl Abort, alloc: Global, file: &[u8]) -> Vec<u8> {
+    let mut bytes = Vec::from_slice(alloc, file).expect(rt, "refused");
+    made::append(rt, &mut bytes, file);
+    made::append(rt, &mut bytes, &[0x78, 0x79]);
+    bytes
 }
 
 // A file twice and two bytes, from memory; from buffers of 0 to 47 bytes, which are filled at once
 // or by 1 to 7 bytes; and from readers that show 1 to 7 bytes at a time.
 fn assert_each_buffer(rt: &impl Abort, alloc: Global, file: &[u8], image: &[u8]) {
-    let bytes = twice(alloc, file).expect(rt, "refused");
+    let bytes = twice(rt, alloc, file);
     assert_two_files(rt, alloc, bytes.as_slice(), image);
     assert_two_files(rt, alloc, Cursor::new(bytes.as_slice()), image);
     for most in 1..=7usize {
@@ -96,8 +96,8 @@ fn assert_each_buffer(rt: &impl Abort, alloc: Global, file: &[u8], image: &[u8])
 #[test]
 fn each_kind_of_chunk(rt: HostRuntime) {
     let alloc = rt.alloc();
-    let file = file(alloc).expect(&rt, "refused");
-    let image = image(alloc).expect(&rt, "refused");
+    let file = file(&rt, alloc);
+    let image = image(&rt, alloc);
     assert_each_buffer(&rt, alloc, &file, &image);
 }
 
@@ -120,7 +120,7 @@ fn drawn_images(rt: HostRuntime) {
 #[test]
 fn rest_of_the_buffer(rt: HostRuntime) {
     let alloc = rt.alloc();
-    let mut bytes = file(alloc).expect(&rt, "refused");
+    let mut bytes = file(&rt, alloc);
     made::append(&rt, &mut bytes, &[0x78, 0x79]);
     let source = Source::new(&bytes, 100, NONE);
     let reader = made::buffer(&rt, alloc, 100, source);
@@ -201,7 +201,7 @@ fn assert_bad_reads(
 #[test]
 fn each_bad_call(rt: HostRuntime) {
     let alloc = rt.alloc();
-    let file = file(alloc).expect(&rt, "refused");
+    let file = file(&rt, alloc);
     for (end, kind) in BAD_ENDS {
         for most in [1, 2, 3, 4, 5, 6, 7, 14, 20, 33, 100] {
             let fills = assert_bad_fills(&rt, alloc, &file, most, end, kind);

@@ -21,16 +21,6 @@ use qoi::{
 use std::alloc::Global;
 use std::io::{BufRead, Read, Write};
 
-/// Vectors. The raw bytes of the image of a file, in the file's own channels; any bytes may follow
-/// the file.
-pub fn raw_bytes(alloc: Global, file: &[u8]) -> Result<Vec<u8>, Error>
-    ensures { IfOk result (λ raw. (h : Header) × (rest : List ℕ)
-        × DecodesFile file.now h rest raw.items) }
-{
-    let (_, raw) = decode_to_vec(alloc, file)?;
-    Ok(raw)
-}
-
 /// Buffer to buffer. The file of an image at the front of a buffer, and its length.
 pub fn pack(buf: &mut [u8], raw: &[u8], width: u32, height: u32) -> Result<usize, Error>
     ensures { IfOk result (λ n. (h : Header) × (bytes : List ℕ) × IsFileOf Reference h raw.now bytes

@@ -4,13 +4,13 @@ use crate::tests::fakes::{Bad, End, ONE_RGB_PIXEL, PIXEL, Sink};
 use crate::tests::library::callers::{
     all_images, as_long, at_most, at_most_from, both_channels, both_images, bounded_bytes,
     decoded_part, encoded_part, first_byte, header_ahead, keep_and_try, lengths, more_needed,
-    near_shortest, no_longer, pack, pack_and_keep, pack_and_keep_in, raw_bytes, receive,
-    receive_buffered, send, send_and_keep, shortest, space_byte, tight_part, two_frames,
-    two_frames_buffered,
+    near_shortest, no_longer, pack, pack_and_keep, pack_and_keep_in, receive, receive_buffered,
+    send, send_and_keep, shortest, space_byte, tight_part, two_frames, two_frames_buffered,
 };
 use crate::tests::library::support::images::{file_of, row};
 use crate::tests::library::support::{
-    assert_both, assert_bytes, assert_fails, assert_given, assert_header, assert_number,
+    assert_both, assert_bytes, assert_count, assert_cut, assert_fails, assert_given, assert_header,
+    assert_no_memory, assert_number,
 };
 use qoi::{Channels, Error, Header, Result, Style};
 use std::io::ErrorKind;
@@ -32,7 +32,6 @@ fn files() -> [u8; 52] {
 #[test]
 fn raw_bytes_of_a_file(rt: HostRuntime) {
     let alloc = rt.alloc();
-    assert_given(&rt, raw_bytes(alloc, &ONE_RGB_PIXEL), &PIXEL);
     assert_given(&rt, bounded_bytes(alloc, &ONE_RGB_PIXEL), &PIXEL);
     assert!(rt; matches!(first_byte(alloc, &ONE_RGB_PIXEL), Ok(0x0b)));
 }
@@ -80,7 +79,7 @@ fn buffers_and_vectors_in_a_style(rt: HostRuntime) {
 #[test]
 fn writers(rt: HostRuntime) {
     let mut sent = Vec::new(rt.alloc());
-    assert!(rt; matches!(send(&PIXEL, 1, 1, &mut sent), Ok(26)));
+    assert_count(&rt, send(&PIXEL, 1, 1, &mut sent), 26);
     assert_bytes(&rt, &sent, &ONE_RGB_PIXEL);
 }
 
@@ -132,8 +131,8 @@ fn styles(rt: HostRuntime) {
     let alloc = rt.alloc();
     let spelled = [0xc0, 0xfe, 0x65, 0x66, 0x67, 0xfe, 0, 0, 0];
     let named = [0xc0, 0xfe, 0x65, 0x66, 0x67, 0x35];
-    let spelled = file_of(alloc, row(3, Channels::Rgb), &spelled).expect(&rt, "refused");
-    let named = file_of(alloc, row(3, Channels::Rgb), &named).expect(&rt, "refused");
+    let spelled = file_of(&rt, alloc, row(3, Channels::Rgb), &spelled);
+    let named = file_of(&rt, alloc, row(3, Channels::Rgb), &named);
     assert_both(&rt, as_long(alloc, &BLACK, 3, 1), &spelled, &spelled);
     let other = no_longer(alloc, &BLACK, 3, 1, Style::Places);
     assert_both(&rt, other, &spelled, &named);
@@ -173,7 +172,7 @@ fn files_until_one_is_refused(rt: HostRuntime) {
     let all = files();
     if let Some((_, cut)) = all.split_last() {
         let refused = all_images(rt.alloc(), cut);
-        assert!(rt; matches!(refused, Err(Error::UnexpectedBufferEnd)));
+        assert_cut(&rt, refused);
     }
 }
 
@@ -181,14 +180,14 @@ fn files_until_one_is_refused(rt: HostRuntime) {
 fn channels_and_bounds(rt: HostRuntime) {
     let alloc = rt.alloc();
     assert_given(&rt, at_most(alloc, &ONE_RGB_PIXEL, 3), &PIXEL);
-    assert!(rt; matches!(at_most(alloc, &ONE_RGB_PIXEL, 2), Err(Error::OutOfMemory)));
+    assert_no_memory(&rt, at_most(alloc, &ONE_RGB_PIXEL, 2));
     assert_given(
         &rt,
         at_most_from(alloc, ONE_RGB_PIXEL.as_slice(), 3),
         &PIXEL,
     );
     let small = at_most_from(alloc, ONE_RGB_PIXEL.as_slice(), 2);
-    assert!(rt; matches!(small, Err(Error::OutOfMemory)));
+    assert_no_memory(&rt, small);
     let both = both_channels(alloc, &ONE_RGB_PIXEL);
     assert_both(&rt, both, &PIXEL, &[0x0b, 0x79, 0xe7, 255]);
     let cut = more_needed(alloc, &ONE_RGB_PIXEL[..25]);

@@ -18,7 +18,7 @@ fn assert_given_in(
     channels: Channels,
     raw: &[u8],
 ) {
-    let image = example.image(alloc).expect(rt, "refused");
+    let image = example.image(rt, alloc);
     let mut decoder = made::slice(rt, &image.file).with_channels(channels);
     let found = decoder.decode_to_vec(alloc).expect(rt, "refused");
     assert!(rt; found.as_slice() == raw, "{}", example.name);

@@ -6,8 +6,8 @@ ghost use Rattle.qoi.specs.Qoi.{header_of};
 ghost use Rattle.qoi.specs.Encoded.{image_file};
 ghost use Rattle.qoi.specs.Images.{file_image};
 
-use crate::tests::library::support::assert_bytes;
-use qoi::{Decoder, Encoder, PixelWriter, Result, Style};
+use crate::tests::library::support::{assert_bytes, assert_given, made};
+use qoi::{Decoder, PixelWriter, Result, Style};
 use std::alloc::Global;
 use std::io::Write;
 
@@ -37,15 +37,19 @@ pub fn encode_again<W: Write + Drop>(
 
 // Three pixels of three channels, each a row: a color, its repeat, and another.
 #[test]
-fn in_another_style(rt: HostRuntime) -> Result<()> {
+fn in_another_style(rt: HostRuntime) {
     let alloc = rt.alloc();
     let raw = [101, 102, 103, 101, 102, 103, 1, 2, 3];
-    let encoder = Encoder::new(&raw, 1, 3)?;
-    let file = encoder.encode_to_vec(alloc)?;
-    let again = encode_again(alloc, &file, &mut [0; 3], Style::Places, Vec::new(alloc))?;
+    let encoder = made::encoder(&rt, &raw, 1, 3);
+    let file = made::encoded(&rt, alloc, &raw, 1, 3);
+    let again = encode_again(alloc, &file, &mut [0; 3], Style::Places, Vec::new(alloc)).expect(
+        &rt, "refused",
+    );
     let chunks = [0xfe, 0x65, 0x66, 0x67, 0x33, 0xfe, 0x01, 0x02, 0x03];
     assert_bytes(&rt, again.get(14..23).unwrap_or(&[]), &chunks);
-    let places = encoder.with_style(Style::Places).encode_to_vec(alloc)?;
-    assert_bytes(&rt, &again, &places);
-    Ok(())
+    assert_given(
+        &rt,
+        encoder.with_style(Style::Places).encode_to_vec(alloc),
+        &again,
+    );
 }

@@ -5,37 +5,37 @@ use crate::tests::library::support::generator::Rgba;
 use crate::tests::library::support::images::{Image, row};
 use crate::tests::library::support::plain::plain_chunks;
 use crate::tests::library::support::{
-    assert_bytes, assert_given, assert_number, assert_refused, made,
+    assert_bytes, assert_count, assert_given, assert_number, assert_refused, made,
 };
 use qoi::{Channels, ColorSpace, Header, Result, Style, encode_to_buf};
 use std::alloc::Global;
 use std::process::Abort;
 
 // The pixels of raw bytes.
-fn pixels_of(alloc: Global, channels: Channels, raw: &[u8]) -> Result<Vec<Rgba>> {
+fn pixels_of(rt: &impl Abort, alloc: Global, channels: Channels, raw: &[u8]) -> Vec<Rgba> {
     let mut pixels = Vec::new(alloc);
     for px in raw.chunks_exact(usize::from(channels.as_u8())) {
         match px {
-            [r, g, b] => pixels.push([*r, *g, *b, 255])?,
-            [r, g, b, a] => pixels.push([*r, *g, *b, *a])?,
+            [r, g, b] => pixels.push([*r, *g, *b, 255]).expect(rt, "refused"),
+            [r, g, b, a] => pixels.push([*r, *g, *b, *a]).expect(rt, "refused"),
             _ => {}
         }
     }
-    Ok(pixels)
+    pixels
 }
 
 // The plain encoder, which drawn images are compared with, gives the example's chunks.
 fn assert_plain(rt: &impl Abort, alloc: Global, example: &Written, style: Style) {
-    let image = example.image(alloc, style).expect(rt, "refused");
-    let pixels = pixels_of(alloc, example.channels, &image.raw).expect(rt, "refused");
-    let chunks = plain_chunks(alloc, style, &pixels).expect(rt, "refused");
+    let image = example.image(rt, alloc, style);
+    let pixels = pixels_of(rt, alloc, example.channels, &image.raw);
+    let chunks = plain_chunks(rt, alloc, style, &pixels);
     assert!(rt; chunks.as_slice() == example.chunks, "{}", example.name);
 }
 
 // Each call encodes an example in this style.
 fn assert_written(rt: &impl Abort, alloc: Global, example: &Written, style: Style) {
     assert_plain(rt, alloc, example, style);
-    let image = example.image(alloc, style).expect(rt, "refused");
+    let image = example.image(rt, alloc, style);
     image.check(rt, alloc);
 }
 
@@ -59,15 +59,12 @@ fn written_examples(rt: HostRuntime) {
 // The color space is the fourteenth byte.
 #[test]
 fn one_rgb_pixel(rt: HostRuntime) {
-    let image = examples::one_rgb_pixel(rt.alloc()).expect(&rt, "refused");
+    let image = examples::one_rgb_pixel(&rt, rt.alloc());
     assert_number(&rt, image.header.encode_max_len(), 26);
     image.check(&rt, rt.alloc());
     let mut linear = ONE_RGB_PIXEL;
     linear[13] = 1;
-    let encoder = image
-        .encoder()
-        .expect(&rt, "refused")
-        .with_colorspace(ColorSpace::Linear);
+    let encoder = image.encoder(&rt).with_colorspace(ColorSpace::Linear);
     assert_given(&rt, encoder.encode_to_vec(rt.alloc()), &linear);
 }
 
@@ -80,7 +77,7 @@ fn black_into(buf: &mut [u8]) -> Result<usize> {
 #[test]
 fn one_black_pixel(rt: HostRuntime) {
     let mut buf = [0xaa; 26];
-    assert!(rt; matches!(black_into(&mut buf), Ok(23)));
+    assert_count(&rt, black_into(&mut buf), 23);
     assert_bytes(
         &rt,
         &buf[14..],

@@ -13,7 +13,7 @@ ghost use Rattle.qoi.specs.Images.{file_image};
 ghost use Rattle.qoi.specs.Encoded.{image_file, image_header};
 
 use crate::tests::fakes::{ONE_RGB_PIXEL, PIXEL};
-use crate::tests::library::support::{assert_both, assert_given, assert_number};
+use crate::tests::library::support::{assert_both, assert_count, assert_given, assert_number};
 use qoi::laws::reading::{image_files_are_read, sizes_are_accepted};
 use qoi::{
     Channels, ColorSpace, Decoder, Encoder, Error, Header, decode_to_vec, encode_to_buf,
@@ -253,6 +253,6 @@ fn saved_by_functions_of_our_own(rt: HostRuntime) {
 #[test]
 fn to_a_writer_and_from_a_reader(rt: HostRuntime) {
     let mut out = Vec::new(rt.alloc());
-    assert!(rt; matches!(save_to(&mut out, &PIXEL, 1, 1), Ok(26)));
+    assert_count(&rt, save_to(&mut out, &PIXEL, 1, 1), 26);
     assert_given(&rt, load_from(rt.alloc(), out.as_slice()), &PIXEL);
 }

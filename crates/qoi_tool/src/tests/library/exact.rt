@@ -15,7 +15,7 @@ ghost use Rattle.qoi.specs.Encoded.{IsFileOf};
 ghost use Rattle.qoi.specs.Errors.{IsErrorOfCut, IsErrorOfWrong, IsIoError, IsReaderFault};
 
 use crate::tests::fakes::{ONE_RGB_PIXEL, PIXEL};
-use crate::tests::library::support::{assert_bytes, assert_number};
+use crate::tests::library::support::{assert_bytes, assert_given, assert_number, made};
 use qoi::laws::reading::files_are_read;
 use qoi::{Decoder, Error, Header, Reader, decode_to_buf, decode_to_vec};
 use std::alloc::Global;
@@ -137,26 +137,34 @@ pub fn vector_of_stream<R: Read + Drop>(
 }
 
 #[test]
-fn by_each_call(rt: HostRuntime) -> Result<(), Error> {
+fn by_each_call(rt: HostRuntime) {
     let alloc = rt.alloc();
-    let (_, raw) = vector_of_file(alloc, &ONE_RGB_PIXEL)?;
+    let (_, raw) = vector_of_file(alloc, &ONE_RGB_PIXEL).expect(&rt, "refused");
     assert_bytes(&rt, &raw, &PIXEL);
     let mut buf = [0xaa; 4];
-    assert_number(&rt, buffer_of_file(&mut buf, &ONE_RGB_PIXEL)?.n_bytes(), 3);
-    let (_, raw) = vector_of_slice(alloc, &ONE_RGB_PIXEL)?;
+    assert_number(
+        &rt,
+        buffer_of_file(&mut buf, &ONE_RGB_PIXEL)
+            .expect(&rt, "refused")
+            .n_bytes(),
+        3,
+    );
+    let (_, raw) = vector_of_slice(alloc, &ONE_RGB_PIXEL).expect(&rt, "refused");
     assert_bytes(&rt, &raw, &PIXEL);
-    let (_, raw) = vector_of_stream(alloc, ONE_RGB_PIXEL.as_slice())?;
+    let (_, raw) = vector_of_stream(alloc, ONE_RGB_PIXEL.as_slice()).expect(&rt, "refused");
     assert_bytes(&rt, &raw, &PIXEL);
-    Ok(())
 }
 
 #[test]
-fn of_any_reader(rt: HostRuntime) -> Result<(), Error> {
+fn of_any_reader(rt: HostRuntime) {
     let alloc = rt.alloc();
-    let mut slice = Decoder::new(&ONE_RGB_PIXEL)?;
-    assert_bytes(&rt, &vector_ahead(alloc, &mut slice)?, &PIXEL);
-    let mut stream = Decoder::from_stream(ONE_RGB_PIXEL.as_slice())?;
+    let mut slice = made::slice(&rt, &ONE_RGB_PIXEL);
+    assert_given(&rt, vector_ahead(alloc, &mut slice), &PIXEL);
+    let mut stream = made::stream(&rt, ONE_RGB_PIXEL.as_slice());
     let mut buf = [0xaa; 4];
-    assert_number(&rt, buffer_ahead(&mut buf, &mut stream)?, 3);
-    Ok(())
+    assert_number(
+        &rt,
+        buffer_ahead(&mut buf, &mut stream).expect(&rt, "refused"),
+        3,
+    );
 }

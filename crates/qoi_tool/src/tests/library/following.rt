@@ -8,11 +8,11 @@ ghost use Rattle.qoi.specs.Qoi.{IsFile, file};
 ghost use Rattle.qoi.specs.FrontFile.{BeginsWithFile};
 
 use crate::tests::fakes::{ONE_RGB_PIXEL, PIXEL};
-use crate::tests::library::support::{assert_bytes, assert_number};
+use crate::tests::library::support::{assert_bytes, assert_given, assert_number, made};
 use qoi::laws::reading::files_are_read;
 use qoi::{Decoder, Error};
 use std::alloc::Global;
-use std::io::{BufRead, BufReader};
+use std::io::BufRead;
 
 /// The raw bytes of the next file, and what follows it.
 pub fn next<'a>(alloc: Global, bytes: &'a [u8]) -> Result<(Vec<u8>, &'a [u8]), Error>
@@ -97,23 +97,21 @@ pub fn count_files(alloc: Global, bytes: &[u8]) -> Result<usize, Error> {
 }
 
 #[test]
-fn three_files(rt: HostRuntime) -> Result<(), Error> {
+fn three_files(rt: HostRuntime) {
     let alloc = rt.alloc();
-    let mut bytes = Vec::new(alloc);
-    for _ in 0..3 {
-        bytes.extend_from_slice(&ONE_RGB_PIXEL)?;
-    }
-    let (first, rest) = next(alloc, &bytes)?;
+    let mut bytes = made::bytes(&rt, alloc, &ONE_RGB_PIXEL);
+    made::append(&rt, &mut bytes, &ONE_RGB_PIXEL);
+    made::append(&rt, &mut bytes, &ONE_RGB_PIXEL);
+    let (first, rest) = next(alloc, &bytes).expect(&rt, "refused");
     assert_bytes(&rt, &first, &PIXEL);
     assert_number(&rt, rest.len(), 52);
-    assert_bytes(&rt, &second(alloc, &bytes)?, &PIXEL);
-    let (_, _, rest) = both(alloc, &bytes)?;
+    assert_given(&rt, second(alloc, &bytes), &PIXEL);
+    let (_, _, rest) = both(alloc, &bytes).expect(&rt, "refused");
     assert_bytes(&rt, rest, &ONE_RGB_PIXEL);
-    assert_number(&rt, count_files(alloc, &bytes)?, 3);
+    assert_number(&rt, count_files(alloc, &bytes).expect(&rt, "refused"), 3);
     assert!(rt; file_length(&bytes) == Some(26));
     assert!(rt; file_length(&ONE_RGB_PIXEL[..25]).is_none());
     assert!(rt; file_length(&ONE_RGB_PIXEL[1..]).is_none());
-    let reader = BufReader::new(alloc, bytes.as_slice())?;
-    assert_bytes(&rt, &second_buffered(alloc, reader)?, &PIXEL);
-    Ok(())
+    let reader = made::buffer(&rt, alloc, 8, bytes.as_slice());
+    assert_given(&rt, second_buffered(alloc, reader), &PIXEL);
 }

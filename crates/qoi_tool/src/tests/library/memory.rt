@@ -3,10 +3,11 @@ use crate::tests::fakes::{ONE_RGB_PIXEL, PIXEL, take_memory};
 use crate::tests::library::support::decodings::CUT;
 use crate::tests::library::support::images::row;
 use crate::tests::library::support::{
-    assert_bytes, assert_decoded, assert_given, assert_header, assert_number, assert_refused, made,
+    assert_bytes, assert_decoded, assert_given, assert_header, assert_no_memory, assert_number,
+    assert_refused, made,
 };
 use qoi::{
-    Channels, ColorSpace, Decoder, Error, Header, Reader, Result, decode_header, decode_to_buf,
+    Channels, ColorSpace, Decoder, Header, Reader, Result, decode_header, decode_to_buf,
     decode_to_vec, encode_to_buf, encode_to_vec,
 };
 use std::alloc::{AllocError, Global};
@@ -46,35 +47,26 @@ fn assert_one_allocation<R: Reader>(
 }
 
 // The same from a slice and from both kinds of reader.
-fn assert_allocations(
-    rt: &impl Abort,
-    alloc: Global,
-    file: &[u8],
-    header: &Header,
-    raw: &[u8],
-) -> Result<()> {
-    assert_one_allocation(rt, alloc, &mut Decoder::new(file)?, header, raw);
-    let mut stream = Decoder::from_stream(file)?;
-    assert_one_allocation(rt, alloc, &mut stream, header, raw);
-    let mut buffered = Decoder::from_buf_read(file)?;
-    assert_one_allocation(rt, alloc, &mut buffered, header, raw);
-    Ok(())
+fn assert_allocations(rt: &impl Abort, alloc: Global, file: &[u8], header: &Header, raw: &[u8]) {
+    assert_one_allocation(rt, alloc, &mut made::slice(rt, file), header, raw);
+    assert_one_allocation(rt, alloc, &mut made::stream(rt, file), header, raw);
+    assert_one_allocation(rt, alloc, &mut made::buffered(rt, file), header, raw);
 }
 
 #[test]
-fn each_allocation_of_decode_to_vec(rt: HostRuntime) -> Result<()> {
+fn each_allocation_of_decode_to_vec(rt: HostRuntime) {
     let alloc = rt.alloc();
-    assert_allocations(&rt, alloc, &ONE_RGB_PIXEL, &Header::default(), &PIXEL)
+    assert_allocations(&rt, alloc, &ONE_RGB_PIXEL, &Header::default(), &PIXEL);
 }
 
 // A vector that grows by several steps is allocated once.
 #[test]
-fn each_allocation_of_steps(rt: HostRuntime) -> Result<()> {
+fn each_allocation_of_steps(rt: HostRuntime) {
     let alloc = rt.alloc();
     let header = row(50_000, Channels::Rgb);
-    let raw = vec![in alloc; 9u8; 150_000]?;
-    let file = encode_to_vec(alloc, &raw, 50_000, 1)?;
-    assert_allocations(&rt, alloc, &file, &header, &raw)
+    let raw = made::filled(&rt, alloc, 9, 150_000);
+    let file = made::encoded(&rt, alloc, &raw, 50_000, 1);
+    assert_allocations(&rt, alloc, &file, &header, &raw);
 }
 
 // Encodes the pixel while all memory is taken but for one block of `spare` bytes.
@@ -167,7 +159,7 @@ fn assert_decodes(rt: &impl Abort) {
 
 // The clone of a reader that owns its bytes takes memory.
 fn assert_clone_is_refused(rt: &impl Abort, decoder: &Decoder<Cursor<Vec<u8>>>) {
-    assert!(rt; matches!(decoder.clone(), Err(Error::OutOfMemory)));
+    assert_no_memory(rt, decoder.clone());
 }
 
 // While all memory is taken, the calls that take none succeed, and a clone is refused. That leaves

@@ -5,7 +5,7 @@ use crate::tests::library::support::decodings::Decoding;
 use crate::tests::library::support::generator::{Rgba, START, place};
 use crate::tests::library::support::images::row;
 use crate::tests::library::support::{assert_decoded, made};
-use qoi::{Channels, Header, Result};
+use qoi::{Channels, Header};
 use std::alloc::Global;
 use std::process::Abort;
 
@@ -61,36 +61,34 @@ impl List {
     }
 
     // Adds a chunk of one pixel.
-    fn put(&mut self, chunk: &[u8], px: Rgba) -> Result<()> {
-        self.chunks.extend_from_slice(chunk)?;
-        self.pixels.push(px)?;
-        Ok(())
+    fn put(&mut self, rt: &impl Abort, chunk: &[u8], px: Rgba) {
+        made::append(rt, &mut self.chunks, chunk);
+        self.pixels.push(px).expect(rt, "refused");
     }
 
     // Adds an RGBA chunk.
-    pub fn put_full(&mut self, px: Rgba) -> Result<()> {
+    pub fn put_full(&mut self, rt: &impl Abort, px: Rgba) {
         let [r, g, b, a] = px;
-        self.put(&[0xff, r, g, b, a], px)
+        self.put(rt, &[0xff, r, g, b, a], px);
     }
 
     // Names an index position.
-    fn name(&mut self, i: usize) -> Result<()> {
+    fn name(&mut self, rt: &impl Abort, i: usize) {
         let px = seen(&self.pixels, i);
-        self.put(&[(i % 64) as u8], px)
+        self.put(rt, &[(i % 64) as u8], px);
     }
 
     // Adds a run of `n` pixels.
-    fn repeat(&mut self, n: u8) -> Result<()> {
+    fn repeat(&mut self, rt: &impl Abort, n: u8) {
         let px = self.last();
-        self.chunks.push(0xbfu8.wrapping_add(n))?;
+        made::append(rt, &mut self.chunks, &[0xbfu8.wrapping_add(n)]);
         for _ in 0..n {
-            self.pixels.push(px)?;
+            self.pixels.push(px).expect(rt, "refused");
         }
-        Ok(())
     }
 
     // Adds a difference: red, green and blue move by -2 to 1 each.
-    fn differ(&mut self, six: u8) -> Result<()> {
+    fn differ(&mut self, rt: &impl Abort, six: u8) {
         let [r, g, b, a] = self.last();
         let (dr, dg, db) = (six / 16 % 4, six / 4 % 4, six % 4);
         let px = [
@@ -99,11 +97,11 @@ impl List {
             b.wrapping_sub(2).wrapping_add(db),
             a,
         ];
-        self.put(&[0x40 + six % 64], px)
+        self.put(rt, &[0x40 + six % 64], px);
     }
 
     // Adds a luma: green moves by -32 to 31, red and blue by that and by -8 to 7 more.
-    fn differ_more(&mut self, six: u8, second: u8) -> Result<()> {
+    fn differ_more(&mut self, rt: &impl Abort, six: u8, second: u8) {
         let [r, g, b, a] = self.last();
         let vg = (six % 64).wrapping_sub(32);
         let px = [
@@ -112,7 +110,7 @@ impl List {
             b.wrapping_add(vg).wrapping_sub(8).wrapping_add(second % 16),
             a,
         ];
-        self.put(&[0x80 + six % 64, second], px)
+        self.put(rt, &[0x80 + six % 64, second], px);
     }
 
     // The index position of the pixel `back` pixels before, or 0.
@@ -125,21 +123,21 @@ impl List {
 
     // Adds a chunk of a kind, which is another for other `n`. An index position is that of one of
     // the eight pixels before.
-    pub fn add(&mut self, kind: Kind, n: u8) -> Result<()> {
+    pub fn add(&mut self, rt: &impl Abort, kind: Kind, n: u8) {
         let (x, y, z) = (n.wrapping_mul(37), n.wrapping_mul(91), n.wrapping_mul(151));
         match kind {
             Kind::Place => {
                 let i = self.place_before(usize::from(n % 8) + 1);
-                self.name(i)
+                self.name(rt, i);
             }
-            Kind::Diff => self.differ(x % 64),
-            Kind::Luma => self.differ_more(x % 64, y),
+            Kind::Diff => self.differ(rt, x % 64),
+            Kind::Luma => self.differ_more(rt, x % 64, y),
             Kind::Rgb => {
                 let [_, _, _, a] = self.last();
-                self.put(&[0xfe, x, y, z], [x, y, z, a])
+                self.put(rt, &[0xfe, x, y, z], [x, y, z, a]);
             }
-            Kind::Rgba => self.put_full([x, y, z, n]),
-            Kind::Run(count) => self.repeat(count),
+            Kind::Rgba => self.put_full(rt, [x, y, z, n]),
+            Kind::Run(count) => self.repeat(rt, count),
         }
     }
 
@@ -183,19 +181,19 @@ impl List {
 }
 
 // `front` chunks of a byte, then the two, then thirty small ones.
-fn with_two(alloc: Global, front: u8, first: Kind, second: Kind) -> Result<List> {
+fn with_two(rt: &impl Abort, alloc: Global, front: u8, first: Kind, second: Kind) -> List {
     let mut list = List::new(alloc);
     for n in 0..front {
         let kind = if n % 5 == 3 { Kind::Place } else { Kind::Diff };
-        list.add(kind, n)?;
+        list.add(rt, kind, n);
     }
-    list.add(first, front)?;
-    list.add(second, front.wrapping_add(101))?;
+    list.add(rt, first, front);
+    list.add(rt, second, front.wrapping_add(101));
     for n in 0..30u8 {
         let kind = if n % 3 == 0 { Kind::Luma } else { Kind::Place };
-        list.add(kind, n)?;
+        list.add(rt, kind, n);
     }
-    Ok(list)
+    list
 }
 
 #[test]
@@ -204,7 +202,7 @@ fn each_kind_after_each(rt: HostRuntime) {
     for first in KINDS {
         for second in KINDS {
             for front in 0..64u8 {
-                let list = with_two(alloc, front, first, second).expect(&rt, "refused");
+                let list = with_two(&rt, alloc, front, first, second);
                 list.check(&rt, alloc);
             }
         }
@@ -212,16 +210,16 @@ fn each_kind_after_each(rt: HostRuntime) {
 }
 
 // Six full chunks, then `n` of a kind, and one more.
-fn of_one_kind(alloc: Global, kind: Kind, n: u8, end: Kind) -> Result<List> {
+fn of_one_kind(rt: &impl Abort, alloc: Global, kind: Kind, n: u8, end: Kind) -> List {
     let mut list = List::new(alloc);
     for full in 0..6u8 {
-        list.add(Kind::Rgba, full)?;
+        list.add(rt, Kind::Rgba, full);
     }
     for i in 0..n {
-        list.add(kind, i)?;
+        list.add(rt, kind, i);
     }
-    list.add(end, n)?;
-    Ok(list)
+    list.add(rt, end, n);
+    list
 }
 
 #[test]
@@ -230,7 +228,7 @@ fn kinds_end_anywhere(rt: HostRuntime) {
     for kind in KINDS {
         for end in [Kind::Place, Kind::Luma, Kind::Rgba, Kind::Run(62)] {
             for n in 0..40u8 {
-                let list = of_one_kind(alloc, kind, n, end).expect(&rt, "refused");
+                let list = of_one_kind(&rt, alloc, kind, n, end);
                 list.check_readers(&rt, alloc, Channels::Rgb);
                 list.check_readers(&rt, alloc, Channels::Rgba);
             }
@@ -239,16 +237,16 @@ fn kinds_end_anywhere(rt: HostRuntime) {
 }
 
 // Nine chunks of a byte, a run of `count` pixels, and `n` chunks of a byte.
-fn run_before(alloc: Global, count: u8, n: u8) -> Result<List> {
+fn run_before(rt: &impl Abort, alloc: Global, count: u8, n: u8) -> List {
     let mut list = List::new(alloc);
     for front in 0..9u8 {
-        list.add(Kind::Diff, front)?;
+        list.add(rt, Kind::Diff, front);
     }
-    list.add(Kind::Run(count), 0)?;
+    list.add(rt, Kind::Run(count), 0);
     for i in 0..n {
-        list.add(Kind::Diff, i)?;
+        list.add(rt, Kind::Diff, i);
     }
-    Ok(list)
+    list
 }
 
 // Runs that eight vectors of sixteen bytes just hold in four channels and in three, and those of a
@@ -258,7 +256,7 @@ fn runs_near_the_end(rt: HostRuntime) {
     let alloc = rt.alloc();
     for count in [32, 33, 40, 41, 62] {
         for n in 0..88u8 {
-            let list = run_before(alloc, count, n).expect(&rt, "refused");
+            let list = run_before(&rt, alloc, count, n);
             list.check(&rt, alloc);
         }
     }
@@ -266,22 +264,22 @@ fn runs_near_the_end(rt: HostRuntime) {
 
 // After an RGBA chunk with alpha `a`, `n` RGB chunks, of which the last pixel is named after another
 // one; then a chunk of each kind, and thirty of a byte.
-fn alpha_kept(alloc: Global, a: u8, n: u8) -> Result<List> {
+fn alpha_kept(rt: &impl Abort, alloc: Global, a: u8, n: u8) -> List {
     let mut list = List::new(alloc);
-    list.put_full([a, n, 7, a])?;
+    list.put_full(rt, [a, n, 7, a]);
     for i in 0..n {
-        list.add(Kind::Rgb, a.wrapping_add(i))?;
+        list.add(rt, Kind::Rgb, a.wrapping_add(i));
     }
     let last = place(list.last());
-    list.put_full([n, 7, a, !a])?;
-    list.name(last)?;
+    list.put_full(rt, [n, 7, a, !a]);
+    list.name(rt, last);
     for kind in KINDS {
-        list.add(kind, a)?;
+        list.add(rt, kind, a);
     }
     for more in 0..30u8 {
-        list.add(Kind::Diff, more)?;
+        list.add(rt, Kind::Diff, more);
     }
-    Ok(list)
+    list
 }
 
 #[test]
@@ -289,7 +287,7 @@ fn each_alpha_is_kept(rt: HostRuntime) {
     let alloc = rt.alloc();
     for a in 0..=255u8 {
         for n in [1, 2, 9] {
-            let list = alpha_kept(alloc, a, n).expect(&rt, "refused");
+            let list = alpha_kept(&rt, alloc, a, n);
             list.check(&rt, alloc);
         }
     }
@@ -297,24 +295,24 @@ fn each_alpha_is_kept(rt: HostRuntime) {
 
 // Another pixel stands at the index position where a chunk puts its own; then that one is named,
 // after it the pixel before it, and it again.
-fn named_again(alloc: Global, kind: Kind, n: u8) -> Result<List> {
+fn named_again(rt: &impl Abort, alloc: Global, kind: Kind, n: u8) -> List {
     let before = [n, n.wrapping_mul(3), n.wrapping_mul(5), 0xff - n % 4];
     let mut trial = List::new(alloc);
-    trial.put_full(before)?;
-    trial.add(kind, n)?;
+    trial.put_full(rt, before);
+    trial.add(rt, kind, n);
     let [r, g, b, a] = trial.last();
     let mut list = List::new(alloc);
     // 5 times 64 is 0 modulo 64.
-    list.put_full([r, g.wrapping_add(64), b, a])?;
-    list.put_full(before)?;
-    list.add(kind, n)?;
+    list.put_full(rt, [r, g.wrapping_add(64), b, a]);
+    list.put_full(rt, before);
+    list.add(rt, kind, n);
     for px in [[r, g, b, a], before, [r, g, b, a]] {
-        list.name(place(px))?;
+        list.name(rt, place(px));
     }
     for more in 0..30u8 {
-        list.add(Kind::Diff, more)?;
+        list.add(rt, Kind::Diff, more);
     }
-    Ok(list)
+    list
 }
 
 #[test]
@@ -322,7 +320,7 @@ fn named_as_soon_as_put(rt: HostRuntime) {
     let alloc = rt.alloc();
     for kind in [Kind::Diff, Kind::Luma, Kind::Rgb, Kind::Rgba] {
         for n in 0..=255u8 {
-            let list = named_again(alloc, kind, n).expect(&rt, "refused");
+            let list = named_again(&rt, alloc, kind, n);
             list.check(&rt, alloc);
         }
     }

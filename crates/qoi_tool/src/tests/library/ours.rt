@@ -56,24 +56,26 @@ pub fn back_in(
 }
 
 #[test]
-fn buffers_that_are_long_enough(rt: HostRuntime) -> Result<(), Error> {
+fn buffers_that_are_long_enough(rt: HostRuntime) {
     let mut buf = [0xaa; 5];
-    assert_number(&rt, surely_decoded(&mut buf, &ONE_RGB_PIXEL)?, 3);
+    assert_number(
+        &rt,
+        surely_decoded(&mut buf, &ONE_RGB_PIXEL).expect(&rt, "refused"),
+        3,
+    );
     assert_bytes(&rt, &buf, &[0x0b, 0x79, 0xe7, 0xaa, 0xaa]);
-    let rgba = surely_decoded_in(&mut buf, &ONE_RGB_PIXEL, Channels::Rgba)?;
+    let rgba = surely_decoded_in(&mut buf, &ONE_RGB_PIXEL, Channels::Rgba).expect(&rt, "refused");
     assert_number(&rt, rgba, 4);
     assert_bytes(&rt, &buf, &[0x0b, 0x79, 0xe7, 0xff, 0xaa]);
-    Ok(())
 }
 
 #[test]
-fn chosen_channels(rt: HostRuntime) -> Result<(), Error> {
-    let (header, rgba) = back_in(rt.alloc(), &PIXEL, 1, 1, Channels::Rgba)?;
+fn chosen_channels(rt: HostRuntime) {
+    let (header, rgba) = back_in(rt.alloc(), &PIXEL, 1, 1, Channels::Rgba).expect(&rt, "refused");
     assert_header(&rt, &header, &Header::default());
     assert_bytes(&rt, &rgba, &[0x0b, 0x79, 0xe7, 0xff]);
-    let (_, rgb) = back_in(rt.alloc(), &[1, 2, 3, 4], 1, 1, Channels::Rgb)?;
+    let (_, rgb) = back_in(rt.alloc(), &[1, 2, 3, 4], 1, 1, Channels::Rgb).expect(&rt, "refused");
     assert_bytes(&rt, &rgb, &[1, 2, 3]);
-    let (_, same) = back_in(rt.alloc(), &PIXEL, 1, 1, Channels::Rgb)?;
+    let (_, same) = back_in(rt.alloc(), &PIXEL, 1, 1, Channels::Rgb).expect(&rt, "refused");
     assert_bytes(&rt, &same, &PIXEL);
-    Ok(())
 }

@@ -8,33 +8,16 @@ ghost use Rattle.qoi.specs.Images.{file_image};
 ghost use Rattle.qoi.specs.Tiles.{HasTile};
 
 use crate::tests::fakes::{ONE_RGB_PIXEL, PIXEL};
-use crate::tests::library::support::{assert_both, assert_bytes, assert_given, assert_number};
+use crate::tests::library::support::{
+    assert_both, assert_bytes, assert_cut, assert_given, assert_number,
+};
 use qoi::laws::reading::tiles_stay;
 use qoi::{Decoder, Encoder, Error, decode_to_vec, encode_to_vec};
 use std::alloc::Global;
 use std::io::Read;
 use std::process::Abort;
 
-/// A file and what follows it, passed on to the free call.
-pub fn tile(alloc: Global, file: &[u8]) -> Result<Vec<u8>, Error>
-    ensures { (style : Style) (h : Header) (raw bytes rest : List ℕ) → IsFileOf style h raw bytes
-        → file.now ≡ bytes ++ rest → IfOk result (λ tile. tile.items ≡ raw) }
-{
-    let (_, tile) = decode_to_vec(alloc, file)?;
-    Ok(tile)
-}
-
-/// The same by the method of a slice.
-pub fn tile_by_method(alloc: Global, file: &[u8]) -> Result<Vec<u8>, Error>
-    ensures { (style : Style) (h : Header) (raw bytes rest : List ℕ) → IsFileOf style h raw bytes
-        → file.now ≡ bytes ++ rest → IfOk result (λ tile. tile.items ≡ raw) }
-{
-    let mut decoder = Decoder::new(file)?;
-    let tile = decoder.decode_to_vec(alloc)?;
-    Ok(tile)
-}
-
-/// The same from a reader.
+/// The file ahead of a reader, and what follows it.
 pub fn tile_ahead<R: Read + Drop>(alloc: Global, reader: R) -> Result<Vec<u8>, Error>
     ensures { (style : Style) (h : Header) (raw bytes rest : List ℕ) → IsFileOf style h raw bytes
         → R.remaining reader ≡ Some (bytes ++ rest) → IfOk result (λ tile. tile.items ≡ raw) }
@@ -53,18 +36,6 @@ pub fn tile_at(alloc: Global, pack: &[u8], offset: usize) -> Result<Vec<u8>, Err
         return Err(Error::UnexpectedBufferEnd);
     }
     let (_, tile) = decode_to_vec(alloc, &pack[offset..])?;
-    Ok(tile)
-}
-
-/// The same of the second part of a pack.
-pub fn tile_after(alloc: Global, pack: &[u8], offset: usize) -> Result<Vec<u8>, Error>
-    ensures { (style : Style) (h : Header) (raw bytes rest : List ℕ) → IsFileOf style h raw bytes
-        → drop offset pack.now ≡ bytes ++ rest → IfOk result (λ tile. tile.items ≡ raw) }
-{
-    if offset > pack.len() {
-        return Err(Error::UnexpectedBufferEnd);
-    }
-    let (_, tile) = decode_to_vec(alloc, pack.split_at(offset).1)?;
     Ok(tile)
 }
 
@@ -141,35 +112,6 @@ pub fn get(alloc: Global, atlas: &[u8], offset: usize) -> Result<Vec<u8>, Error>
     let mut decoder = Decoder::new(&atlas[offset..])?;
     let back = decoder.decode_to_vec(alloc)?;
     Ok(back)
-}
-
-/// A tile is put after an atlas, and read back from where it was put.
-pub fn appended(
-    alloc: Global,
-    atlas: &mut Vec<u8>,
-    raw: &[u8],
-    width: u32,
-    height: u32,
-) -> Result<Vec<u8>, Error>
-    ensures { IfOk result (λ back. back.items ≡ raw.now) }
-{
-    let offset = put(atlas, raw, width, height)?;
-    get(alloc, atlas, offset)
-}
-
-/// Two tiles are put at the end of an atlas, and the first one's offset returned.
-pub fn put_two(
-    atlas: &mut Vec<u8>,
-    first: &[u8],
-    second: &[u8],
-    width: u32,
-    height: u32,
-) -> Result<usize, Error>
-    ensures { IfOk result (λ offset. HasTile atlas.new.items offset first.now) }
-{
-    let offset = put(atlas, first, width, height)?;
-    put(atlas, second, width, height)?;
-    Ok(offset)
 }
 
 /// A tile is put at the end of an atlas, and its offset returned; another is put behind it, `count`
@@ -250,8 +192,6 @@ fn of_a_file_and_more(rt: HostRuntime) {
     let alloc = rt.alloc();
     let mut file = [1; 27];
     file[..26].copy_from_slice(&ONE_RGB_PIXEL);
-    assert_given(&rt, tile(alloc, &file), &PIXEL);
-    assert_given(&rt, tile_by_method(alloc, &file), &PIXEL);
     assert_given(&rt, tile_ahead(alloc, file.as_slice()), &PIXEL);
     assert_given(&rt, byte_after(alloc, &PIXEL, 1, 1), &PIXEL);
 }
@@ -262,16 +202,16 @@ fn at_an_offset(rt: HostRuntime) {
     let mut pack = [4; 30];
     pack[3..29].copy_from_slice(&ONE_RGB_PIXEL);
     assert_given(&rt, tile_at(alloc, &pack, 3), &PIXEL);
-    assert_given(&rt, tile_after(alloc, &pack, 3), &PIXEL);
     let past = tile_at(alloc, &pack, 31);
-    assert!(rt; matches!(past, Err(Error::UnexpectedBufferEnd)));
+    assert_cut(&rt, past);
 }
 
 #[test]
 fn at_the_end_of_an_atlas(rt: HostRuntime) {
     let alloc = rt.alloc();
     let mut atlas = Vec::from_slice(alloc, &ONE_RGB_PIXEL).expect(&rt, "refused");
-    assert_given(&rt, appended(alloc, &mut atlas, &OTHER, 1, 1), &OTHER);
+    let at = put(&mut atlas, &OTHER, 1, 1);
+    assert_tile(&rt, alloc, &atlas, at, &OTHER);
     // A file of one pixel has 22 bytes and a chunk: here an RGB of four bytes, and a luma of two.
     assert_number(&rt, atlas.len(), 26 + 24);
     let at = put_image(&mut atlas, &PIXEL, 1, 1);
@@ -281,8 +221,6 @@ fn at_the_end_of_an_atlas(rt: HostRuntime) {
 #[test]
 fn before_other_tiles(rt: HostRuntime) {
     let mut atlas = Vec::new(rt.alloc());
-    let offset = put_two(&mut atlas, &OTHER, &PIXEL, 1, 1);
-    assert_tile(&rt, rt.alloc(), &atlas, offset, &OTHER);
     let offset = put_many(&mut atlas, &OTHER, &PIXEL, 3, 1, 1);
     assert_tile(&rt, rt.alloc(), &atlas, offset, &OTHER);
 }

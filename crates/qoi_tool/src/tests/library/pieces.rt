@@ -4,7 +4,7 @@ use crate::tests::library::support::generator::{Rgba, START};
 use crate::tests::library::support::images::row;
 use crate::tests::library::support::{assert_number, made};
 use qoi::Channels::{Rgb, Rgba as Four};
-use qoi::{Channels, Result, Style};
+use qoi::{Channels, Style};
 use std::alloc::Global;
 use std::process::Abort;
 
@@ -41,7 +41,7 @@ struct Drawing {
 
 impl Drawing {
     // Adds a pixel that is this step from the last one, and repeats it.
-    fn add(&mut self, [dr, dg, db, da]: [u8; 4], repeats: usize) -> Result<()> {
+    fn add(&mut self, rt: &impl Abort, [dr, dg, db, da]: [u8; 4], repeats: usize) {
         let [r, g, b, a] = self.last;
         self.last = [
             r.wrapping_add(dr),
@@ -50,29 +50,28 @@ impl Drawing {
             a.wrapping_add(da),
         ];
         for _ in 0..repeats.saturating_add(1) {
-            self.pixels.push(self.last)?;
+            self.pixels.push(self.last).expect(rt, "refused");
         }
-        Ok(())
     }
 }
 
 // An image whose chunks have `size` bytes: RGB chunks, up to three differences, and the tail.
-fn ending(alloc: Global, tail: Tail, size: usize) -> Result<Vec<Rgba>> {
+fn ending(rt: &impl Abort, alloc: Global, tail: Tail, size: usize) -> Vec<Rgba> {
     let mut drawing = Drawing {
         pixels: Vec::new(alloc),
         last: START,
     };
     let front = size.saturating_sub(tail.bytes.saturating_mul(tail.times));
     for _ in 0..front / 4 {
-        drawing.add([3, 100, 7, 0], 0)?;
+        drawing.add(rt, [3, 100, 7, 0], 0);
     }
     for _ in 0..front % 4 {
-        drawing.add([1, 0, 0, 0], 0)?;
+        drawing.add(rt, [1, 0, 0, 0], 0);
     }
     for _ in 0..tail.times {
-        drawing.add(tail.step, tail.repeats)?;
+        drawing.add(rt, tail.step, tail.repeats);
     }
-    Ok(drawing.pixels)
+    drawing.pixels
 }
 
 // How many bytes the chunks have. With the header (14) or with header and end marker (22) they are
@@ -91,7 +90,7 @@ fn assert_sizes(rt: &impl Abort, alloc: Global, style: Style) {
     for tail in TAILS {
         for (least, most) in SIZES {
             for size in least..=most {
-                let pixels = ending(alloc, tail, size).expect(rt, "refused");
+                let pixels = ending(rt, alloc, tail, size);
                 let header = row(pixels.len().min(10_000) as u32, tail.channels);
                 let image = made::image(rt, alloc, header, style, &pixels);
                 assert_number(rt, image.file.len(), size.saturating_add(22));
@@ -114,7 +113,7 @@ fn files_close_to_whole_pieces(rt: HostRuntime) {
 fn writers_of_about_a_piece(rt: HostRuntime) {
     let [tail, ..] = TAILS;
     for size in [4074, 4075, 8170] {
-        let pixels = ending(rt.alloc(), tail, size).expect(&rt, "refused");
+        let pixels = ending(&rt, rt.alloc(), tail, size);
         let header = row(pixels.len().min(10_000) as u32, tail.channels);
         let image = made::image(&rt, rt.alloc(), header, Style::Reference, &pixels);
         for most in [4095, 4097] {

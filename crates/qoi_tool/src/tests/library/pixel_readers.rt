@@ -6,9 +6,9 @@ use crate::tests::library::support::decodings::{CUT, after};
 use crate::tests::library::support::generator::Numbers;
 use crate::tests::library::support::images::{Image, row};
 use crate::tests::library::support::{
-    assert_bytes, assert_fails, assert_number, assert_refused, made,
+    assert_bytes, assert_fails, assert_number, assert_refused, assert_unmarked, made,
 };
-use qoi::{Bytes, Channels, Decoder, Error, PixelReader, Reader, Result, Style};
+use qoi::{Bytes, Channels, Decoder, Error, PixelReader, Reader, Style};
 use std::alloc::Global;
 use std::io::ErrorKind;
 use std::process::Abort;
@@ -248,13 +248,13 @@ fn cut_pieces(rt: HostRuntime) {
 }
 
 // A file with one wrong byte, so many before its end.
-fn with_wrong_byte(alloc: Global, file: &[u8], before_end: usize) -> Result<Vec<u8>> {
-    let mut file = Vec::from_slice(alloc, file)?;
+fn with_wrong_byte(rt: &impl Abort, alloc: Global, file: &[u8], before_end: usize) -> Vec<u8> {
+    let mut file = Vec::from_slice(alloc, file).expect(rt, "refused");
     let at = file.len().saturating_sub(before_end);
     if let Some(byte) = file.get_mut(at) {
         *byte ^= 2;
     }
-    Ok(file)
+    file
 }
 
 // A piece is refused for the end marker.
@@ -270,20 +270,25 @@ fn assert_wrong<R: Reader + Drop>(
     assert_spent(rt, alloc, pixels, left);
 }
 
+// The same in pieces of this size, from a slice and from a stream.
+fn assert_wrong_by(rt: &impl Abort, alloc: Global, file: &[u8], size: usize) {
+    let mut buf = made::filled(rt, alloc, 0, size);
+    assert_wrong(rt, alloc, made::slice(rt, file), &mut buf);
+    assert_wrong(rt, alloc, made::stream(rt, file), &mut buf);
+}
+
 // A wrong byte of the end marker is refused, with the last bytes at the latest.
 #[test]
 fn wrong_markers(rt: HostRuntime) {
     let alloc = rt.alloc();
     let image = drawn_row(&rt, alloc, 0xbad, 2000, Channels::Rgb);
     for i in 1..=8usize {
-        let file = with_wrong_byte(alloc, &image.file, i).expect(&rt, "refused");
+        let file = with_wrong_byte(&rt, alloc, &image.file, i);
         for size in [1usize, 255, 1536, 6000] {
-            let mut buf = made::filled(&rt, alloc, 0, size);
-            assert_wrong(&rt, alloc, made::slice(&rt, &file), &mut buf);
-            assert_wrong(&rt, alloc, made::stream(&rt, file.as_slice()), &mut buf);
+            assert_wrong_by(&rt, alloc, &file, size);
         }
         let whole = made::slice(&rt, &file).into_pixels();
-        assert!(&rt; matches!(whole.finish(), Err(Error::InvalidPadding)));
+        assert_unmarked(&rt, whole.finish());
     }
 }
 
@@ -301,6 +306,22 @@ fn assert_refused_at<R: Reader + Drop>(
     assert!(rt; least <= left && left <= most);
 }
 
+// A row of so many pixels, from each kind of reader.
+fn assert_row_refused(
+    rt: &impl Abort,
+    alloc: Global,
+    width: u32,
+    size: usize,
+    left: (usize, usize),
+) {
+    let image = drawn_row(rt, alloc, 0xa4ead, width, Channels::Rgb);
+    let file = with_wrong_byte(rt, alloc, &image.file, 1);
+    let mut buf = made::filled(rt, alloc, 0, size);
+    assert_refused_at(rt, made::slice(rt, &file), &mut buf, left);
+    assert_refused_at(rt, made::stream(rt, file.as_slice()), &mut buf, left);
+    assert_refused_at(rt, made::buffered(rt, file.as_slice()), &mut buf, left);
+}
+
 // Up to 3,072 bytes are decoded ahead of those that are read, and then the end marker. So an image
 // that has no more is refused at its first piece, and a larger one only when at most so many bytes
 // follow the piece. From a slice, a piece of 512 bytes or more is decoded alone if 256 bytes of the
@@ -314,15 +335,10 @@ fn pieces_before_a_wrong_marker(rt: HostRuntime) {
         (1025, 1, (1, 3073)),
         (2000, 3, (3, 3075)),
     ] {
-        let image = drawn_row(&rt, alloc, 0xa4ead, count, Channels::Rgb);
-        let file = with_wrong_byte(alloc, &image.file, 1).expect(&rt, "refused");
-        let mut buf = made::filled(&rt, alloc, 0, size);
-        assert_refused_at(&rt, made::slice(&rt, &file), &mut buf, left);
-        assert_refused_at(&rt, made::stream(&rt, file.as_slice()), &mut buf, left);
-        assert_refused_at(&rt, made::buffered(&rt, file.as_slice()), &mut buf, left);
+        assert_row_refused(&rt, alloc, count, size, left);
     }
     let image = drawn_row(&rt, alloc, 0xa4ead, 2000, Channels::Rgb);
-    let file = with_wrong_byte(alloc, &image.file, 8).expect(&rt, "refused");
+    let file = with_wrong_byte(&rt, alloc, &image.file, 8);
     let last = (1392, 1392);
     assert_refused_at(&rt, made::slice(&rt, &file), &mut [0; 1536], last);
 }

@@ -92,9 +92,9 @@ fn assert_drawn(rt: &impl Abort, alloc: Global, seed: u64, counts: &[u32], sizes
     let mut numbers = Numbers::new(seed);
     for count in counts {
         for channels in [Channels::Rgb, Channels::Rgba] {
-            let pixels = drawn(alloc, &mut numbers, channels, *count as usize);
+            let pixels = drawn(rt, alloc, &mut numbers, channels, *count as usize);
             let header = row(*count, channels);
-            assert_styles(rt, alloc, header, &pixels.expect(rt, "refused"), sizes);
+            assert_styles(rt, alloc, header, &pixels, sizes);
         }
     }
 }
@@ -102,13 +102,12 @@ fn assert_drawn(rt: &impl Abort, alloc: Global, seed: u64, counts: &[u32], sizes
 // Pieces of each size from a byte up to those of six blocks: of an image that is held whole, and of
 // one that isn't.
 #[test]
-fn pieces_of_each_size(rt: HostRuntime) -> Result<()> {
+fn pieces_of_each_size(rt: HostRuntime) {
     let mut sizes = Vec::new(rt.alloc());
     for size in 1..=300 {
-        sizes.push(size)?;
+        sizes.push(size).expect(&rt, "refused");
     }
     assert_drawn(&rt, rt.alloc(), 0x0dd5, &[200, 2800], &sizes);
-    Ok(())
 }
 
 // Images of fewer pixels than two blocks have.
@@ -145,7 +144,7 @@ fn large_images(rt: HostRuntime) {
 }
 
 // Black, red, gray, black, gray and red, with repeats of the first black and of both reds.
-fn with_runs(alloc: Global, opening: usize, repeats: usize) -> Result<Vec<Rgba>> {
+fn with_runs(rt: &impl Abort, alloc: Global, opening: usize, repeats: usize) -> Vec<Rgba> {
     let (red, gray) = ([200, 0, 0, 255], [7, 7, 7, 255]);
     let mut pixels = Vec::new(alloc);
     for (px, count) in [
@@ -156,54 +155,56 @@ fn with_runs(alloc: Global, opening: usize, repeats: usize) -> Result<Vec<Rgba>>
         (gray, 1),
         (red, repeats.saturating_add(1)),
     ] {
-        pixels.resize(pixels.len().saturating_add(count), px)?;
+        pixels
+            .resize(pixels.len().saturating_add(count), px)
+            .expect(rt, "refused");
     }
-    Ok(pixels)
+    pixels
 }
 
 // Black opens the image, and is seen again later; a run goes on over many pieces; another run ends
 // the image. The numbers of repeats are about those of whole runs.
 #[test]
-fn runs_over_pieces(rt: HostRuntime) -> Result<()> {
+fn runs_over_pieces(rt: HostRuntime) {
     let alloc = rt.alloc();
     for opening in [0usize, 1, 15, 16, 61, 62, 63, 124, 500, 2000] {
         for repeats in [0usize, 1, 44, 45, 46, 60, 61, 62, 63, 123, 1000, 1500] {
-            let pixels = with_runs(alloc, opening, repeats)?;
+            let pixels = with_runs(&rt, alloc, opening, repeats);
             for channels in [Channels::Rgb, Channels::Rgba] {
                 let header = row(pixels.len().min(6000) as u32, channels);
                 assert_styles(&rt, alloc, header, &pixels, &[21, 64, 96, 1000]);
             }
         }
     }
-    Ok(())
 }
 
 // So many fresh pixels; then blocks of which one or two pixels are fresh, in each two lanes, after up
 // to fifteen repeats.
 fn few_fresh(
+    rt: &impl Abort,
     alloc: Global,
     numbers: &mut Numbers,
     letters: [Rgba; 3],
     ahead: usize,
-) -> Result<Vec<Rgba>> {
+) -> Vec<Rgba> {
     let mut groups = Groups::new(alloc, letters);
     for _ in 0..ahead {
-        groups.add(numbers, 0)?;
+        groups.add(rt, numbers, 0);
     }
     for second in 0..16 {
         for first in 0..=second {
             for repeats in 0..16 {
-                groups.add_few(numbers, repeats, first, second)?;
+                groups.add_few(rt, numbers, repeats, first, second);
             }
         }
     }
-    Ok(groups.pixels)
+    groups.pixels
 }
 
 // Blocks with few fresh pixels, over several pieces of 4096 bytes. In style `Tight` blocks begin
 // behind the first pixel.
 #[test]
-fn few_fresh_pixels(rt: HostRuntime) -> Result<()> {
+fn few_fresh_pixels(rt: HostRuntime) {
     let alloc = rt.alloc();
     let mut numbers = Numbers::new(0x5ba25e);
     for letters in [
@@ -211,13 +212,12 @@ fn few_fresh_pixels(rt: HostRuntime) -> Result<()> {
         [START, [1, 99, 2, 255], [0, 0, 0, 0]],
     ] {
         for ahead in 0..2 {
-            let pixels = few_fresh(alloc, &mut numbers, letters, ahead)?;
+            let pixels = few_fresh(&rt, alloc, &mut numbers, letters, ahead);
             let header = row(pixels.len().min(100_000) as u32, Channels::Rgba);
             let sizes = [4096, 4130, 8192, usize::MAX];
             assert_styles(&rt, alloc, header, &pixels, &sizes);
         }
     }
-    Ok(())
 }
 
 // The calls that a writer gets: the header; none for bytes that are held; the rest. None of them is
@@ -250,9 +250,9 @@ fn behind_other_bytes(rt: HostRuntime) {
 // More bytes than the image has are refused, and nothing is taken; fewer are refused at the end. The
 // writer, which is lent, got the header in one call, and no other.
 #[test]
-fn other_lengths(rt: HostRuntime) -> Result<()> {
+fn other_lengths(rt: HostRuntime) {
     let alloc = rt.alloc();
-    let header = Header::try_new(2, 2, Channels::Rgb, ColorSpace::Srgb)?;
+    let header = Header::try_new(2, 2, Channels::Rgb, ColorSpace::Srgb).expect(&rt, "refused");
     let mut sink = made::sink(&rt, alloc, usize::MAX, NONE);
     let mut pixels = before(&rt, alloc, header, Style::Reference, &mut sink);
     write(&rt, &mut pixels, &[1, 2, 3, 4, 5]);
@@ -268,7 +268,6 @@ fn other_lengths(rt: HostRuntime) -> Result<()> {
         &sink.got,
         &[0x71, 0x6f, 0x69, 0x66, 0, 0, 0, 2, 0, 0, 0, 2, 3, 0],
     );
-    Ok(())
 }
 
 // Writes pieces of an image of one row, of which so many bytes are left then, and takes the writer
@@ -308,7 +307,7 @@ fn unfinished(rt: HostRuntime) {
 
 // A header of no pixels, or of too many, is refused before anything is sent.
 #[test]
-fn invalid_headers(rt: HostRuntime) -> Result<()> {
+fn invalid_headers(rt: HostRuntime) {
     let alloc = rt.alloc();
     for (width, height) in [(0, 1), (1, 0), (20_001, 20_000)] {
         let header = Header {
@@ -316,13 +315,14 @@ fn invalid_headers(rt: HostRuntime) -> Result<()> {
             height,
             ..Header::default()
         };
-        let mut sink = Sink::new(alloc, usize::MAX, NONE)?;
+        let mut sink = Sink::new(alloc, usize::MAX, NONE).expect(&rt, "refused");
         let refusal = PixelWriter::new(alloc, header, Style::Places, &mut sink).err();
-        let text = format!(in alloc; "invalid image dimensions: {width}x{height}")?;
+        let text = format!(in alloc; "invalid image dimensions: {width}x{height}").expect(
+            &rt, "refused",
+        );
         assert_refused(&rt, alloc, refusal, text.as_str());
         assert_number(&rt, sink.calls, 0);
     }
-    Ok(())
 }
 
 // After a fault each further call refuses.
@@ -348,30 +348,44 @@ fn fault_of(rt: &impl Abort, alloc: Global, image: &Image, sink: &mut Sink) -> O
 }
 
 // Pixels of which none comes again while it is noted: RGB chunks alone.
-fn steps(alloc: Global, count: usize) -> Result<Vec<Rgba>> {
+fn steps(rt: &impl Abort, alloc: Global, count: usize) -> Vec<Rgba> {
     let mut pixels = Vec::new(alloc);
     let [mut r, mut g, mut b, a] = START;
     for _ in 0..count {
         r = r.wrapping_add(3);
         g = g.wrapping_add(100);
         b = b.wrapping_add(7);
-        pixels.push([r, g, b, a])?;
+        pixels.push([r, g, b, a]).expect(rt, "refused");
     }
-    Ok(pixels)
+    pixels
+}
+
+// Whether a lent writer has this bad call. It is the last one, and a beginning of the file was sent.
+fn fails_at(rt: &impl Abort, alloc: Global, image: &Image, bad: Bad, kind: ErrorKind) -> bool {
+    let mut sink = made::sink(rt, alloc, usize::MAX, bad);
+    let fault = fault_of(rt, alloc, image, &mut sink);
+    if fault.is_none() {
+        return false;
+    }
+    assert_fails(rt, fault, kind);
+    assert_number(rt, sink.calls, bad.call);
+    assert!(rt; image.file.starts_with(&sink.got));
+    true
 }
 
 // Each call of a lent writer fails in turn, or takes no byte, the first with the header, the last
-// ones in `finish`. It is the writer's last call, and a beginning of the file was sent.
+// ones in `finish`.
 #[test]
-fn failing_writers(rt: HostRuntime) -> Result<()> {
+fn failing_writers(rt: HostRuntime) {
     let alloc = rt.alloc();
-    let pixels = steps(alloc, 12_000)?;
+    let pixels = steps(&rt, alloc, 12_000);
     let image = Image::of(
+        &rt,
         alloc,
         row(12_000, Channels::Rgba),
         Style::Reference,
         &pixels,
-    )?;
+    );
     for (end, kind) in [
         (End::Fault, ErrorKind::BrokenPipe),
         (End::Interruption, ErrorKind::Interrupted),
@@ -379,21 +393,15 @@ fn failing_writers(rt: HostRuntime) -> Result<()> {
     ] {
         let mut bad = Bad { call: 1, end };
         for _ in 0..100 {
-            let mut sink = made::sink(&rt, alloc, usize::MAX, bad);
-            let fault = fault_of(&rt, alloc, &image, &mut sink);
-            if fault.is_none() {
+            if !fails_at(&rt, alloc, &image, bad, kind) {
                 break;
             }
-            assert_fails(&rt, fault, kind);
-            assert_number(&rt, sink.calls, bad.call);
-            assert!(&rt; image.file.starts_with(&sink.got));
             bad.call = bad.call.saturating_add(1);
         }
         // The call that sends the header; two or three for each of five times at which two pieces
         // that were held are written; two for the end. The one after them isn't reached.
         assert_number(&rt, bad.call, 18);
     }
-    Ok(())
 }
 
 // Writes the pixel while all memory is taken but for one block of `spare` bytes.

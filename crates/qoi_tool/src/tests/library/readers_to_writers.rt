@@ -12,12 +12,10 @@ ghost use Rattle.qoi.specs.Qoi.{header_of, header_size};
 ghost use Rattle.qoi.specs.Sent.{SendsSomeFile};
 
 use crate::tests::fakes::ONE_RGB_PIXEL;
-use crate::tests::library::support::{assert_bytes, assert_decoded};
-use qoi::{
-    Channels, ColorSpace, Decoder, Header, PixelWriter, Reader, Result, Style, encode_to_vec,
-};
+use crate::tests::library::support::{assert_decoded, assert_given, made};
+use qoi::{Channels, ColorSpace, Decoder, Header, PixelWriter, Reader, Result, Style};
 use std::alloc::Global;
-use std::io::{BufRead, BufReader, Write};
+use std::io::{BufRead, Write};
 
 /// By a row that is an array.
 pub fn by_array<R: Reader + Drop, W: Write + Drop>(
@@ -114,31 +112,29 @@ pub fn thumbnail<R: Reader + Drop, W: Write + Drop>(
 
 // The file of a pixel, in its own channels and in four.
 #[test]
-fn files_are_encoded_again(rt: HostRuntime) -> Result<()> {
+fn files_are_encoded_again(rt: HostRuntime) {
     let alloc = rt.alloc();
     let file: &[u8] = &ONE_RGB_PIXEL;
-    let same = by_array(alloc, Decoder::new(file)?, Vec::new(alloc))?;
-    assert_bytes(&rt, &same, file);
-    let same = by_vector(alloc, Decoder::from_stream(file)?, Vec::new(alloc))?;
-    assert_bytes(&rt, &same, file);
-    let four = in_four(alloc, BufReader::new(alloc, file)?, Vec::new(alloc))?;
-    let mut expected = Vec::from_slice(alloc, file)?;
-    if let Some(channels) = expected.get_mut(12) {
-        *channels = 4;
-    }
-    assert_bytes(&rt, &four, &expected);
-    Ok(())
+    let decoder = made::slice(&rt, file);
+    assert_given(&rt, by_array(alloc, decoder, Vec::new(alloc)), file);
+    let decoder = made::stream(&rt, file);
+    assert_given(&rt, by_vector(alloc, decoder, Vec::new(alloc)), file);
+    let reader = made::buffer(&rt, alloc, 8, file);
+    let mut four = ONE_RGB_PIXEL;
+    four[12] = 4;
+    assert_given(&rt, in_four(alloc, reader, Vec::new(alloc)), &four);
 }
 
 // Two rows of four pixels: of the second each second byte.
 #[test]
-fn a_smaller_picture(rt: HostRuntime) -> Result<()> {
+fn a_smaller_picture(rt: HostRuntime) {
     let alloc = rt.alloc();
-    let file = encode_to_vec(alloc, b"first row...sEcOnD rOw..", 4, 2)?;
-    let small = Header::try_new(2, 1, Channels::Rgb, ColorSpace::Srgb)?;
+    let file = made::encoded(&rt, alloc, b"first row...sEcOnD rOw..", 4, 2);
+    let small = Header::try_new(2, 1, Channels::Rgb, ColorSpace::Srgb).expect(&rt, "refused");
     let (mut row, mut half) = ([0; 12], [0; 6]);
-    let decoder = Decoder::new(&file)?;
-    let made = thumbnail(alloc, decoder, small, &mut row, &mut half, Vec::new(alloc))?;
-    assert_decoded(&rt, alloc, &mut Decoder::new(&made)?, b"scn O.");
-    Ok(())
+    let decoder = made::slice(&rt, &file);
+    let small = thumbnail(alloc, decoder, small, &mut row, &mut half, Vec::new(alloc)).expect(
+        &rt, "refused",
+    );
+    assert_decoded(&rt, alloc, &mut made::slice(&rt, &small), b"scn O.");
 }

@@ -8,9 +8,9 @@ ghost use Rattle.qoi.specs.Images.{front_image, file_image};
 ghost use Rattle.qoi.specs.pieces.PixelReader.{HasRows};
 ghost use Rattle.qoi.specs.Rectangles.{row_bytes, rectangle, KeepsOutside};
 
-use crate::tests::library::support::assert_bytes;
+use crate::tests::library::support::{assert_bytes, assert_cut, assert_given, made};
 use qoi::laws::rectangles::{rows_are_put, rows_that_come};
-use qoi::{Bytes, Decoder, Error, Header, PixelReader, Reader, encode_to_vec};
+use qoi::{Bytes, Decoder, Error, Header, PixelReader, Reader};
 use std::alloc::Global;
 
 /// Of each of `rows` rows, from row `top` on, the `size` bytes from byte `left` on.
@@ -175,38 +175,35 @@ const MIDDLE: Area = Area {
 };
 
 #[test]
-fn a_tile_of_a_picture(rt: HostRuntime) -> Result<(), Error> {
-    let tile = cut(rt.alloc(), &PICTURE, 4, 3, MIDDLE)?;
-    assert_bytes(&rt, &tile, &[22, 23, 32, 33]);
+fn a_tile_of_a_picture(rt: HostRuntime) {
+    assert_given(
+        &rt,
+        cut(rt.alloc(), &PICTURE, 4, 3, MIDDLE),
+        &[22, 23, 32, 33],
+    );
     let mut picture = PICTURE;
     paste(&mut picture, 4, 3, MIDDLE, &[1, 2, 3, 4]);
     assert_bytes(&rt, &picture, &[11, 12, 13, 14, 21, 1, 2, 24, 31, 3, 4, 34]);
-    Ok(())
 }
 
 #[test]
-fn a_tile_of_a_file(rt: HostRuntime) -> Result<(), Error> {
+fn a_tile_of_a_file(rt: HostRuntime) {
     // One pixel of four channels in a row.
-    let file = encode_to_vec(rt.alloc(), &PICTURE, 1, 3)?;
-    assert_bytes(
-        &rt,
-        &cut_file(rt.alloc(), &file, MIDDLE)?,
-        &[22, 23, 32, 33],
-    );
+    let file = made::encoded(&rt, rt.alloc(), &PICTURE, 1, 3);
+    assert_given(&rt, cut_file(rt.alloc(), &file, MIDDLE), &[22, 23, 32, 33]);
     let wide = Area { size: 4, ..MIDDLE };
     let refused = cut_file(rt.alloc(), &file, wide);
-    assert!(rt; matches!(refused, Err(Error::UnexpectedBufferEnd)));
-    Ok(())
+    assert_cut(&rt, refused);
 }
 
 #[test]
-fn a_tile_of_nine_pixels(rt: HostRuntime) -> Result<(), Error> {
+fn a_tile_of_nine_pixels(rt: HostRuntime) {
     let alloc = rt.alloc();
     let mut raw = [0; 27]; // three rows of three pixels of three channels
     for i in 0..27 {
         raw[i] = i as u8;
     }
-    let file = encode_to_vec(alloc, &raw, 3, 3)?;
+    let file = made::encoded(&rt, alloc, &raw, 3, 3);
     let lower_right = Area {
         top: 1,
         rows: 2,
@@ -214,12 +211,11 @@ fn a_tile_of_nine_pixels(rt: HostRuntime) -> Result<(), Error> {
         size: 6,
     };
     let cut = [12, 13, 14, 15, 16, 17, 21, 22, 23, 24, 25, 26];
-    assert_bytes(&rt, &cut_file(alloc, &file, lower_right)?, &cut);
+    assert_given(&rt, cut_file(alloc, &file, lower_right), &cut);
     let high = Area {
         rows: 3,
         ..lower_right
     };
     let refused = cut_file(alloc, &file, high);
-    assert!(rt; matches!(refused, Err(Error::UnexpectedBufferEnd)));
-    Ok(())
+    assert_cut(&rt, refused);
 }

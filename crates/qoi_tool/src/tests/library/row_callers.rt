@@ -77,16 +77,16 @@ fn callers_take_one_pixel(rt: HostRuntime) {
     let mut out = Vec::new(alloc);
     send_rows(&ONE_RGB_PIXEL, &mut out).expect(&rt, "refused");
     assert_bytes(&rt, &out, &PIXEL);
-    let mut bytes = Vec::from_slice(alloc, &ONE_RGB_PIXEL).expect(&rt, "refused");
-    bytes
-        .extend_from_slice(&[0x78, 0x79])
-        .expect(&rt, "refused");
+}
+
+#[test]
+fn whole_files_are_told(rt: HostRuntime) {
+    let mut bytes = [0x78; 28];
+    bytes[..26].copy_from_slice(&ONE_RGB_PIXEL);
     assert!(&rt; file_is_whole(&bytes));
     for end in 0..26usize {
         assert!(&rt; !file_is_whole(&ONE_RGB_PIXEL[..end]));
     }
-    if let Some(last) = bytes.get_mut(25) {
-        *last = 0;
-    }
+    bytes[25] = 0;
     assert!(&rt; !file_is_whole(&bytes));
 }

@@ -9,9 +9,9 @@ ghost use Rattle.qoi.specs.pieces.PixelReader.{HasRows};
 ghost use Rattle.qoi.specs.pieces.RowIndex.{file_decoder, row_size, IsRowIndex};
 
 use crate::tests::library::rectangles::{Area, keep, next_row, paste, stride_of};
-use crate::tests::library::support::assert_bytes;
+use crate::tests::library::support::{assert_bytes, assert_given, made};
 use qoi::laws::rectangles::{rectangles_are_parts, rows_are_put};
-use qoi::{Bytes, Error, Header, PixelReader, RowIndex, decode_header, encode_to_vec};
+use qoi::{Bytes, Error, Header, PixelReader, RowIndex, decode_header};
 use std::alloc::Global;
 
 // A tile cut out of the image of a file, whose rows above the tile were read.
@@ -116,20 +116,18 @@ pub fn put_together(alloc: Global, file: &[u8], raw: &mut [u8]) -> Result<(), Er
 const PICTURE: [u8; 12] = [11, 12, 13, 14, 21, 22, 23, 24, 31, 32, 33, 34];
 
 #[test]
-fn a_tile_by_an_index(rt: HostRuntime) -> Result<(), Error> {
+fn a_tile_by_an_index(rt: HostRuntime) {
     let alloc = rt.alloc();
-    let file = encode_to_vec(alloc, &PICTURE, 1, 3)?;
-    let index = RowIndex::new(alloc, &file, 2)?;
+    let file = made::encoded(&rt, alloc, &PICTURE, 1, 3);
+    let index = RowIndex::new(alloc, &file, 2).expect(&rt, "refused");
     let area = Area {
         top: 1,
         rows: 2,
         left: 1,
         size: 2,
     };
-    let tile = tile(alloc, &index, &file, area)?;
-    assert_bytes(&rt, &tile, &[22, 23, 32, 33]);
+    assert_given(&rt, tile(alloc, &index, &file, area), &[22, 23, 32, 33]);
     let mut picture = [0; 12];
-    put_together(alloc, &file, &mut picture)?;
+    put_together(alloc, &file, &mut picture).expect(&rt, "refused");
     assert_bytes(&rt, &picture, &PICTURE);
-    Ok(())
 }

@@ -2,7 +2,7 @@
 use crate::tests::fakes::{NONE, Source};
 use crate::tests::library::support::images::{file_of, row};
 use crate::tests::library::support::{assert_bytes, assert_decoded, assert_number, made};
-use qoi::{Channels, Decoder, Reader, Result};
+use qoi::{Channels, Decoder, Reader};
 use std::alloc::Global;
 use std::io::{BufRead, BufWriter, Cursor, Read, Write};
 use std::process::Abort;
@@ -20,16 +20,16 @@ const CHUNKS: [u8; 14] = [
 ];
 
 // The file of the image: a header, the chunks and the end marker.
-fn file(alloc: Global) -> Result<Vec<u8>> {
-    file_of(alloc, row(6, Channels::Rgba), &CHUNKS)
+fn file(rt: &impl Abort, alloc: Global) -> Vec<u8> {
+    file_of(rt, alloc, row(6, Channels::Rgba), &CHUNKS)
 }
 
 // The file, the same chunks and end marker again, and two bytes more.
-fn two_images(alloc: Global) -> Result<Vec<u8>> {
-    let mut bytes = file(alloc)?;
-    bytes.extend_from_slice(&CHUNKS)?;
-    bytes.extend_from_slice(&[0, 0, 0, 0, 0, 0, 0, 1, 0x78, 0x79])?;
-    Ok(bytes)
+fn two_images(rt: &impl Abort, alloc: Global) -> Vec<u8> {
+    let mut bytes = file(rt, alloc);
+    made::append(rt, &mut bytes, &CHUNKS);
+    made::append(rt, &mut bytes, &[0, 0, 0, 0, 0, 0, 0, 1, 0x78, 0x79]);
+    bytes
 }
 
 // Decodes the first image into a buffer and the second into a vector.
@@ -69,7 +69,7 @@ fn assert_slices(rt: &impl Abort, alloc: Global, bytes: &[u8]) {
 
 #[test]
 fn slices_and_cursors_are_read(rt: HostRuntime) {
-    let bytes = two_images(rt.alloc()).expect(&rt, "refused");
+    let bytes = two_images(&rt, rt.alloc());
     assert_slices(&rt, rt.alloc(), &bytes);
     assert_reads(&rt, rt.alloc(), Cursor::new(bytes));
 }
@@ -78,7 +78,7 @@ fn slices_and_cursors_are_read(rt: HostRuntime) {
 #[test]
 fn buffering_readers_are_read(rt: HostRuntime) {
     let alloc = rt.alloc();
-    let bytes = two_images(alloc).expect(&rt, "refused");
+    let bytes = two_images(&rt, alloc);
     for capacity in [1, 2, 3, 5, 7, 100] {
         let reader = made::buffer(&rt, alloc, capacity, bytes.as_slice());
         assert_reads(&rt, alloc, reader);
@@ -104,7 +104,7 @@ fn send<W: Write>(rt: &impl Abort, writer: &mut W) {
 
 #[test]
 fn vectors_and_cursors_take_the_file(rt: HostRuntime) {
-    let file = file(rt.alloc()).expect(&rt, "refused");
+    let file = file(&rt, rt.alloc());
     let mut vector: Vec<u8> = Vec::new(rt.alloc());
     send(&rt, &mut vector);
     assert_bytes(&rt, &vector, &file);
@@ -115,7 +115,7 @@ fn vectors_and_cursors_take_the_file(rt: HostRuntime) {
 
 #[test]
 fn buffering_writers_take_the_file(rt: HostRuntime) {
-    let file = file(rt.alloc()).expect(&rt, "refused");
+    let file = file(&rt, rt.alloc());
     for capacity in [1, 2, 3, 5, 7, 100] {
         let vector: Vec<u8> = Vec::new(rt.alloc());
         let mut writer = BufWriter::with_capacity(rt.alloc(), capacity, vector).expect(

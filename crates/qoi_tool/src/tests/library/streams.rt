@@ -47,22 +47,21 @@ fn clones(rt: HostRuntime) {
     assert_decodes(&rt, cloned);
 }
 
-// The error of decoding a lent reader into a buffer; the header takes fourteen calls. A refusal
-// leaves the header and the chosen channels.
+// The error of decoding into a buffer. It leaves the header and the chosen channels.
+fn refusal_of(rt: &impl Abort, mut decoder: Decoder<&mut Source<'_>>) -> Option<Error> {
+    let refusal = decoder.decode_to_buf(&mut [0xaa; 4]).err();
+    assert_header(rt, decoder.header(), &Header::default());
+    assert!(rt; decoder.channels().is_rgba());
+    refusal
+}
+
+// The error of decoding a lent reader; the header takes fourteen calls.
 fn refusal_at(rt: &impl Abort, reader: &mut Source<'_>, call: usize) -> Option<Error> {
-    match Decoder::from_stream(reader) {
-        Ok(decoder) => {
-            assert!(rt; call > 14);
-            let mut decoder = decoder.with_channels(Channels::Rgba);
-            let refusal = decoder.decode_to_buf(&mut [0xaa; 4]).err();
-            assert_header(rt, decoder.header(), &Header::default());
-            assert!(rt; decoder.channels().is_rgba());
-            refusal
-        }
-        Err(error) => {
-            assert!(rt; call <= 14);
-            Some(error)
-        }
+    let made = Decoder::from_stream(reader);
+    assert!(rt; made.is_ok() == (call > 14));
+    match made {
+        Ok(decoder) => refusal_of(rt, decoder.with_channels(Channels::Rgba)),
+        Err(error) => Some(error),
     }
 }
 

@@ -9,9 +9,9 @@ ghost use Rattle.qoi.specs.pieces.RowIndex.{row_size};
 ghost use Rattle.qoi.specs.Qoi.{header_of};
 ghost use Rattle.qoi.specs.Rectangles.{rectangle};
 
-use crate::tests::library::support::assert_given;
+use crate::tests::library::support::{assert_given, made};
 use qoi::laws::rectangles::rectangles_are_parts;
-use qoi::{Bytes, Decoder, Error, PixelReader, Result, encode_to_vec};
+use qoi::{Bytes, Decoder, Error, PixelReader, Result};
 use std::alloc::Global;
 
 /// Reads the next rows, as many as the strip has, and keeps them.
@@ -70,13 +70,12 @@ pub fn in_strips(
 
 // Five rows of two pixels in strips of two rows: all of them, the first three, and none.
 #[test]
-fn five_rows(rt: HostRuntime) -> Result<()> {
+fn five_rows(rt: HostRuntime) {
     let alloc = rt.alloc();
     let raw = b"first.secondthird.fourthfifth.";
-    let file = encode_to_vec(alloc, raw, 2, 5)?;
+    let file = made::encoded(&rt, alloc, raw, 2, 5);
     let mut strip = [0; 12];
     assert_given(&rt, in_strips(alloc, &file, 2, &mut strip, 5), raw);
     assert_given(&rt, in_strips(alloc, &file, 2, &mut strip, 3), &raw[..18]);
     assert_given(&rt, in_strips(alloc, &file, 2, &mut strip, 0), &[]);
-    Ok(())
 }

@@ -51,6 +51,26 @@ pub fn assert_number(rt: &impl Abort, found: usize, number: usize) {
     assert_eq!(rt; found, number);
 }
 
+/// Compares a number that a call gives.
+pub fn assert_count(rt: &impl Abort, given: Result<usize>, number: usize) {
+    assert_number(rt, given.expect(rt, "refused"), number);
+}
+
+/// Tests that a call refuses bytes as cut.
+pub fn assert_cut<T: Drop>(rt: &impl Abort, given: Result<T>) {
+    assert!(rt; matches!(given, Err(Error::UnexpectedBufferEnd)));
+}
+
+/// Tests that a call refuses the end marker.
+pub fn assert_unmarked<T: Drop>(rt: &impl Abort, given: Result<T>) {
+    assert!(rt; matches!(given, Err(Error::InvalidPadding)));
+}
+
+/// Tests that a call finds no memory.
+pub fn assert_no_memory<T: Drop>(rt: &impl Abort, given: Result<T>) {
+    assert!(rt; matches!(given, Err(Error::OutOfMemory)));
+}
+
 /// Compares headers.
 pub fn assert_header(rt: &impl Abort, found: &Header, header: &Header) {
     assert_eq!(rt; *found, *header);
@@ -75,7 +95,7 @@ pub fn assert_refused(rt: &impl Abort, alloc: Global, refusal: Option<Error>, te
 
 /// Tests that the refusal is an i/o error of this kind.
 pub fn assert_fails(rt: &impl Abort, refusal: Option<Error>, kind: ErrorKind) {
-    match refusal {
+    match &refusal {
         Some(Error::IoError(error)) => assert_eq!(rt; error.kind(), kind),
         _ => assert!(rt; false, "no i/o error, not: {kind:?}"),
     }

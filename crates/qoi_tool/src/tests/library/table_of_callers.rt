@@ -4,12 +4,13 @@
 ghost use Rattle.std.specs.Prelude.{◌≡◌, IfOk};
 
 use crate::tests::fakes::PIXEL;
-use crate::tests::library::support::assert_bytes;
+use crate::tests::library::support::{assert_bytes, assert_given};
 use qoi::{
     Decoder, Encoder, Error, Style, decode_to_buf, decode_to_vec, encode_to_buf, encode_to_vec,
 };
 use std::alloc::Global;
 use std::io::BufReader;
+use std::process::Abort;
 
 /// There by the free call into a buffer; back by the free call into a vector.
 pub fn free_buffer_then_free_vector(
@@ -105,23 +106,6 @@ pub fn writer_then_vector_of_stream(
     Ok(back)
 }
 
-/// There by the method into a vector; back by the method of a buffered reader into a vector.
-pub fn vector_then_vector_of_buffered(
-    alloc: Global,
-    raw: &[u8],
-    width: u32,
-    height: u32,
-) -> Result<Vec<u8>, Error>
-    ensures { IfOk result (λ back. back.items ≡ raw.now) }
-{
-    let encoder = Encoder::new(raw, width, height)?;
-    let file = encoder.encode_to_vec(alloc)?;
-    let reader = BufReader::new(alloc, file.as_slice())?;
-    let mut decoder = Decoder::from_buf_read(reader)?;
-    let back = decoder.decode_to_vec(alloc)?;
-    Ok(back)
-}
-
 /// There by the method into a buffer, in any style; back by the method of a stream into a buffer.
 pub fn styled_buffer_then_buffer_of_stream<'a>(
     buf: &mut [u8],
@@ -147,8 +131,9 @@ pub fn styled_buffer_then_buffer_of_stream<'a>(
     Ok(&out[..size])
 }
 
-/// There by the method into a vector, in any style; back by the method of a slice into a vector.
-pub fn styled_vector_then_vector(
+/// There by the method into a vector, in any style; back by the method of a buffered reader into a
+/// vector.
+pub fn styled_vector_then_vector_of_buffered(
     alloc: Global,
     raw: &[u8],
     width: u32,
@@ -159,25 +144,9 @@ pub fn styled_vector_then_vector(
 {
     let encoder = Encoder::new(raw, width, height)?.with_style(style);
     let file = encoder.encode_to_vec(alloc)?;
-    let mut decoder = Decoder::new(&file)?;
+    let reader = BufReader::new(alloc, file.as_slice())?;
+    let mut decoder = Decoder::from_buf_read(reader)?;
     let back = decoder.decode_to_vec(alloc)?;
-    Ok(back)
-}
-
-/// There by the method to a writer, in any style; back by the free call into a vector.
-pub fn styled_writer_then_free_vector(
-    alloc: Global,
-    raw: &[u8],
-    width: u32,
-    height: u32,
-    style: Style,
-) -> Result<Vec<u8>, Error>
-    ensures { IfOk result (λ back. back.items ≡ raw.now) }
-{
-    let encoder = Encoder::new(raw, width, height)?.with_style(style);
-    let mut file = Vec::new(alloc);
-    encoder.encode_to_stream(&mut file)?;
-    let (_, back) = decode_to_vec(alloc, &file)?;
     Ok(back)
 }
 
@@ -209,76 +178,45 @@ pub fn styled_writer_then_buffer_of_buffered<'a>(
     Ok(&out[..size])
 }
 
-#[test]
-fn by_the_free_calls(rt: HostRuntime) -> Result<(), Error> {
-    let alloc = rt.alloc();
-    let mut file = [0xaa; 27];
-    let mut out = [0xaa; 4];
-    assert_bytes(
-        &rt,
-        &free_buffer_then_free_vector(alloc, &mut file, &PIXEL, 1, 1)?,
-        &PIXEL,
-    );
-    assert_bytes(
-        &rt,
-        free_vector_then_free_buffer(alloc, &PIXEL, 1, 1, &mut out)?,
-        &PIXEL,
-    );
-    Ok(())
+// Compares bytes that a call gives in a buffer.
+fn assert_part(rt: &impl Abort, given: Result<&[u8], Error>, bytes: &[u8]) {
+    assert_bytes(rt, given.expect(rt, "refused"), bytes);
 }
 
 #[test]
-fn by_the_methods(rt: HostRuntime) -> Result<(), Error> {
+fn by_the_free_calls(rt: HostRuntime) {
     let alloc = rt.alloc();
     let mut file = [0xaa; 27];
     let mut out = [0xaa; 4];
-    assert_bytes(
-        &rt,
-        &buffer_then_vector(alloc, &mut file, &PIXEL, 1, 1)?,
-        &PIXEL,
-    );
-    assert_bytes(
-        &rt,
-        vector_then_buffer(alloc, &PIXEL, 1, 1, &mut out)?,
-        &PIXEL,
-    );
-    assert_bytes(
-        &rt,
-        &writer_then_vector_of_stream(alloc, &PIXEL, 1, 1)?,
-        &PIXEL,
-    );
-    assert_bytes(
-        &rt,
-        &vector_then_vector_of_buffered(alloc, &PIXEL, 1, 1)?,
-        &PIXEL,
-    );
-    Ok(())
+    let back = free_buffer_then_free_vector(alloc, &mut file, &PIXEL, 1, 1);
+    assert_given(&rt, back, &PIXEL);
+    let back = free_vector_then_free_buffer(alloc, &PIXEL, 1, 1, &mut out);
+    assert_part(&rt, back, &PIXEL);
 }
 
 #[test]
-fn in_any_style(rt: HostRuntime) -> Result<(), Error> {
+fn by_the_methods(rt: HostRuntime) {
     let alloc = rt.alloc();
     let mut file = [0xaa; 27];
     let mut out = [0xaa; 4];
-    assert_bytes(
-        &rt,
-        styled_buffer_then_buffer_of_stream(&mut file, &PIXEL, 1, 1, Style::Reference, &mut out)?,
-        &PIXEL,
-    );
-    assert_bytes(
-        &rt,
-        &styled_vector_then_vector(alloc, &PIXEL, 1, 1, Style::Places)?,
-        &PIXEL,
-    );
-    assert_bytes(
-        &rt,
-        &styled_writer_then_free_vector(alloc, &PIXEL, 1, 1, Style::Tight)?,
-        &PIXEL,
-    );
-    assert_bytes(
-        &rt,
-        styled_writer_then_buffer_of_buffered(alloc, &PIXEL, 1, 1, Style::Tight, &mut out)?,
-        &PIXEL,
-    );
-    Ok(())
+    let back = buffer_then_vector(alloc, &mut file, &PIXEL, 1, 1);
+    assert_given(&rt, back, &PIXEL);
+    let back = vector_then_buffer(alloc, &PIXEL, 1, 1, &mut out);
+    assert_part(&rt, back, &PIXEL);
+    let back = writer_then_vector_of_stream(alloc, &PIXEL, 1, 1);
+    assert_given(&rt, back, &PIXEL);
+}
+
+#[test]
+fn in_any_style(rt: HostRuntime) {
+    let alloc = rt.alloc();
+    let mut file = [0xaa; 27];
+    let mut out = [0xaa; 4];
+    let (style, tight) = (Style::Reference, Style::Tight);
+    let back = styled_buffer_then_buffer_of_stream(&mut file, &PIXEL, 1, 1, style, &mut out);
+    assert_part(&rt, back, &PIXEL);
+    let back = styled_vector_then_vector_of_buffered(alloc, &PIXEL, 1, 1, Style::Places);
+    assert_given(&rt, back, &PIXEL);
+    let back = styled_writer_then_buffer_of_buffered(alloc, &PIXEL, 1, 1, tight, &mut out);
+    assert_part(&rt, back, &PIXEL);
 }

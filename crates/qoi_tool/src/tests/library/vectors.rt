@@ -9,7 +9,7 @@ use crate::tests::library::support::images::row;
 use crate::tests::library::support::{
     assert_bytes, assert_fails, assert_given, assert_header, assert_number, assert_refused, made,
 };
-use qoi::{Buffered, Bytes, Channels, Decoder, Header, Reader, Result, Style, encode_to_vec};
+use qoi::{Buffered, Bytes, Channels, Header, Reader, Result, Style, encode_to_vec};
 use std::alloc::Global;
 use std::io::ErrorKind;
 use std::process::Abort;
@@ -31,7 +31,7 @@ fn files_take_their_length(rt: HostRuntime) {
     let mut numbers = Numbers::new(0xca9ac);
     let pixels = made::pixels(&rt, alloc, &mut numbers, Channels::Rgba, 5000);
     let image = made::image(&rt, alloc, row(5000, Channels::Rgba), Style::Tight, &pixels);
-    let encoder = image.encoder().expect(&rt, "refused");
+    let encoder = image.encoder(&rt);
     assert_exact(&rt, encoder.encode_to_vec(alloc));
 }
 
@@ -69,19 +69,19 @@ fn images_of_several_steps(rt: HostRuntime) {
 }
 
 // An RGB chunk and so many runs of 62.
-fn runs(alloc: Global, count: usize) -> Result<Vec<u8>> {
-    let mut chunks = vec![in alloc; 0xfdu8; count.saturating_add(4)]?;
+fn runs(rt: &impl Abort, alloc: Global, count: usize) -> Vec<u8> {
+    let mut chunks = vec![in alloc; 0xfdu8; count.saturating_add(4)].expect(rt, "refused");
     for (chunk, byte) in chunks.iter_mut().zip([0xfe, 1, 2, 3]) {
         *chunk = byte;
     }
-    Ok(chunks)
+    chunks
 }
 
 // Runs that stand across the ends of steps. The image ends within the last of them, too.
 #[test]
 fn runs_across_steps(rt: HostRuntime) {
     let alloc = rt.alloc();
-    let chunks = runs(alloc, 1100).expect(&rt, "refused");
+    let chunks = runs(&rt, alloc, 1100);
     for width in [68_201, 68_150] {
         let header = row(width, Channels::Rgb);
         let file = made::file(&rt, alloc, header, &chunks);
@@ -112,20 +112,19 @@ fn most_memory<R: Files + AllocGlobal>(rt: &R) -> io::Result<usize> {
 
 // A vector of 1.6 GB is asked for, and next to nothing of it is written.
 #[test]
-fn headers_take_no_memory(rt: HostRuntime) -> Result<()> {
+fn headers_take_no_memory(rt: HostRuntime) {
     let alloc = rt.alloc();
-    let before = most_memory(&rt)?;
-    let slice = Decoder::new(&LARGE)?.decode_to_vec(alloc);
+    let before = most_memory(&rt).expect(&rt, "refused");
+    let slice = made::slice(&rt, &LARGE).decode_to_vec(alloc);
     assert_refused(&rt, alloc, slice.err(), CUT);
-    let few = Decoder::new(&LARGE[..21])?.decode_to_vec(alloc);
+    let few = made::slice(&rt, &LARGE[..21]).decode_to_vec(alloc);
     assert_refused(&rt, alloc, few.err(), CUT);
-    let stream = Decoder::from_stream(&LARGE[..])?.decode_to_vec(alloc);
+    let stream = made::stream(&rt, &LARGE[..]).decode_to_vec(alloc);
     assert_fails(&rt, stream.err(), ErrorKind::UnexpectedEof);
-    let buffered = Decoder::from_buf_read(&LARGE[..])?.decode_to_vec(alloc);
+    let buffered = made::buffered(&rt, &LARGE[..]).decode_to_vec(alloc);
     assert_fails(&rt, buffered.err(), ErrorKind::UnexpectedEof);
-    let after = most_memory(&rt)?;
+    let after = most_memory(&rt).expect(&rt, "refused");
     assert!(rt; before > 0 && after <= before.saturating_add(16 * 1024));
-    Ok(())
 }
 
 // Reads an image of three channels into a new vector, by the trait alone.

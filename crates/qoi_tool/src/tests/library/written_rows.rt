@@ -5,7 +5,7 @@ ghost use Rattle.std.specs.Io.KnownBytes.{Appends};
 ghost use Rattle.qoi.specs.Encoded.{image_file};
 
 use crate::tests::fakes::{ONE_RGB_PIXEL, PIXEL};
-use crate::tests::library::support::assert_bytes;
+use crate::tests::library::support::{assert_both, assert_given};
 use qoi::{Encoder, Header, PixelWriter, Result, Style};
 use std::alloc::Global;
 use std::io::Write;
@@ -83,17 +83,24 @@ pub fn rows_and_whole(
 }
 
 #[test]
-fn in_parts_and_rows(rt: HostRuntime) -> Result<()> {
+fn in_parts_and_rows(rt: HostRuntime) {
     let alloc = rt.alloc();
     let header = Header::default();
-    let file = write_two(alloc, header, Style::Places, &PIXEL[..1], &PIXEL[1..])?;
-    assert_bytes(&rt, &file, &ONE_RGB_PIXEL);
-    let file = write_rows(alloc, header, Style::Tight, &PIXEL, 2)?;
-    assert_bytes(&rt, &file, &ONE_RGB_PIXEL);
-    let file = write_one(alloc, header, Style::Reference, &PIXEL, Vec::new(alloc))?;
-    assert_bytes(&rt, &file, &ONE_RGB_PIXEL);
-    let (rows, whole) = rows_and_whole(alloc, &PIXEL, 1, 1, Style::Reference)?;
-    assert_bytes(&rt, &rows, &ONE_RGB_PIXEL);
-    assert_bytes(&rt, &whole, &ONE_RGB_PIXEL);
-    Ok(())
+    assert_given(
+        &rt,
+        write_two(alloc, header, Style::Places, &PIXEL[..1], &PIXEL[1..]),
+        &ONE_RGB_PIXEL,
+    );
+    assert_given(
+        &rt,
+        write_rows(alloc, header, Style::Tight, &PIXEL, 2),
+        &ONE_RGB_PIXEL,
+    );
+    assert_given(
+        &rt,
+        write_one(alloc, header, Style::Reference, &PIXEL, Vec::new(alloc)),
+        &ONE_RGB_PIXEL,
+    );
+    let both = rows_and_whole(alloc, &PIXEL, 1, 1, Style::Reference);
+    assert_both(&rt, both, &ONE_RGB_PIXEL, &ONE_RGB_PIXEL);
 }

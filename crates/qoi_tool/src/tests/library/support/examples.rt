@@ -1,10 +1,12 @@
 //! The worked examples: files that the encoder writes, and files that are only decoded.
 use crate::tests::fakes::{ONE_RGB_PIXEL, PIXEL};
 use crate::tests::library::support::images::{Image, file_of, row};
+use crate::tests::library::support::made;
 use qoi::Channels::{Rgb, Rgba};
 use qoi::Style::{Places, Reference, Tight};
-use qoi::{Channels, Header, Result, Style};
+use qoi::{Channels, Header, Style};
 use std::alloc::Global;
+use std::process::Abort;
 
 /// An image of one row, and the chunks of its file in these styles.
 #[derive(Clone, Copy)]
@@ -23,19 +25,19 @@ pub struct Written {
 
 impl Written {
     /// The image, in a style.
-    pub fn image(&self, alloc: Global, style: Style) -> Result<Image> {
+    pub fn image(&self, rt: &impl Abort, alloc: Global, style: Style) -> Image {
         let header = row(self.width, self.channels);
         let mut raw = Vec::new(alloc);
         for _ in 0..self.times {
-            raw.extend_from_slice(self.first)?;
+            made::append(rt, &mut raw, self.first);
         }
-        raw.extend_from_slice(self.rest)?;
-        Ok(Image {
+        made::append(rt, &mut raw, self.rest);
+        Image {
             header,
             style,
             raw,
-            file: file_of(alloc, header, self.chunks)?,
-        })
+            file: file_of(rt, alloc, header, self.chunks),
+        }
     }
 }
 
@@ -275,18 +277,18 @@ impl Given {
     }
 
     /// The file, with its image in its own channels.
-    pub fn image(&self, alloc: Global) -> Result<Image> {
+    pub fn image(&self, rt: &impl Abort, alloc: Global) -> Image {
         let own = if self.channels.is_rgb() {
             self.three
         } else {
             self.four
         };
-        Ok(Image {
+        Image {
             header: self.header(),
             style: Reference,
-            raw: Vec::from_slice(alloc, own)?,
-            file: file_of(alloc, self.header(), self.chunks)?,
-        })
+            raw: made::bytes(rt, alloc, own),
+            file: file_of(rt, alloc, self.header(), self.chunks),
+        }
     }
 }
 
@@ -342,44 +344,43 @@ pub fn given_table() -> &'static [Given] {
 }
 
 /// The example `one_rgb_pixel`.
-pub fn one_rgb_pixel(alloc: Global) -> Result<Image> {
-    Ok(Image {
+pub fn one_rgb_pixel(rt: &impl Abort, alloc: Global) -> Image {
+    Image {
         header: Header::default(),
         style: Reference,
-        raw: Vec::from_slice(alloc, &PIXEL)?,
-        file: Vec::from_slice(alloc, &ONE_RGB_PIXEL)?,
-    })
+        raw: made::bytes(rt, alloc, &PIXEL),
+        file: made::bytes(rt, alloc, &ONE_RGB_PIXEL),
+    }
 }
 
 // Adds the files of a table.
-fn add_table(alloc: Global, images: &mut Vec<Image>, table: &[Written]) -> Result<()> {
+fn add_table(rt: &impl Abort, alloc: Global, images: &mut Vec<Image>, table: &[Written]) {
     for example in table {
-        images.push(example.image(alloc, Reference)?)?;
+        images
+            .push(example.image(rt, alloc, Reference))
+            .expect(rt, "refused");
     }
-    Ok(())
 }
 
 // Adds the files that the encoder writes.
-fn add_written(alloc: Global, images: &mut Vec<Image>) -> Result<()> {
+fn add_written(rt: &impl Abort, alloc: Global, images: &mut Vec<Image>) {
     for table in written_tables() {
-        add_table(alloc, images, table)?;
+        add_table(rt, alloc, images, table);
     }
-    Ok(())
 }
 
 // Adds the files that are only decoded.
-fn add_given(alloc: Global, images: &mut Vec<Image>) -> Result<()> {
+fn add_given(rt: &impl Abort, alloc: Global, images: &mut Vec<Image>) {
     for example in given_table() {
-        images.push(example.image(alloc)?)?;
+        images.push(example.image(rt, alloc)).expect(rt, "refused");
     }
-    Ok(())
 }
 
 /// All the examples that have a file.
-pub fn files(alloc: Global) -> Result<Vec<Image>> {
+pub fn files(rt: &impl Abort, alloc: Global) -> Vec<Image> {
     let mut images = Vec::new(alloc);
-    images.push(one_rgb_pixel(alloc)?)?;
-    add_written(alloc, &mut images)?;
-    add_given(alloc, &mut images)?;
-    Ok(images)
+    images.push(one_rgb_pixel(rt, alloc)).expect(rt, "refused");
+    add_written(rt, alloc, &mut images);
+    add_given(rt, alloc, &mut images);
+    images
 }

@@ -1,8 +1,9 @@
 //! Images of pixels of six kinds that are drawn at random, the same at each run.
 ghost use Rattle.std.specs.Prelude.{◌<◌};
 
-use qoi::{Channels, Result};
+use qoi::Channels;
 use std::alloc::Global;
+use std::process::Abort;
 
 /// A source of numbers: the state is shifted and combined with itself three times for each.
 #[derive(Drop)]
@@ -97,11 +98,12 @@ fn shares(numbers: &mut Numbers) -> [usize; 8] {
 /// The pixels of an image. The shares of the six kinds are drawn for it. One of four repeats stands
 /// for up to 200 of them.
 pub fn drawn(
+    rt: &impl Abort,
     alloc: Global,
     numbers: &mut Numbers,
     channels: Channels,
     n: usize,
-) -> Result<Vec<Rgba>> {
+) -> Vec<Rgba> {
     let shares = shares(numbers);
     let mut pixels: Vec<Rgba> = Vec::new(alloc);
     let mut last = START;
@@ -119,9 +121,9 @@ pub fn drawn(
         if channels.is_rgb() {
             last[3] = 255;
         }
-        pixels.push(last)?;
+        pixels.push(last).expect(rt, "refused");
     }
-    Ok(pixels)
+    pixels
 }
 
 /// Fresh pixels with their repeats: each is one of the two of three letters that the one before
@@ -145,13 +147,12 @@ impl Groups {
     }
 
     /// Adds a fresh pixel and so many repeats of it.
-    pub fn add(&mut self, numbers: &mut Numbers, repeats: usize) -> Result<()> {
+    pub fn add(&mut self, rt: &impl Abort, numbers: &mut Numbers, repeats: usize) {
         self.letter = (self.letter % 3 + 1 + numbers.below(2)) % 3;
         if let Some(px) = self.letters.get(self.letter as usize) {
             let size = self.pixels.len().saturating_add(repeats).saturating_add(1);
-            self.pixels.resize(size, *px)?;
+            self.pixels.resize(size, *px).expect(rt, "refused");
         }
-        Ok(())
     }
 
     /// Adds whole blocks of sixteen pixels: up to sixteen fresh ones, of which the last is repeated
@@ -159,18 +160,19 @@ impl Groups {
     /// or a single one if both are the same.
     pub fn add_few(
         &mut self,
+        rt: &impl Abort,
         numbers: &mut Numbers,
         repeats: usize,
         first: usize,
         second: usize,
-    ) -> Result<()> {
+    ) {
         for _ in 0..15 - repeats % 16 {
-            self.add(numbers, 0)?;
+            self.add(rt, numbers, 0);
         }
-        self.add(numbers, repeats.saturating_add(first))?;
+        self.add(rt, numbers, repeats.saturating_add(first));
         if first < second {
-            self.add(numbers, second - first - 1)?;
+            self.add(rt, numbers, second - first - 1);
         }
-        self.add(numbers, 15usize.saturating_sub(second))
+        self.add(rt, numbers, 15usize.saturating_sub(second))
     }
 }

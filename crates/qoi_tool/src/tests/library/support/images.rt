@@ -6,7 +6,7 @@ use crate::tests::library::support::plain::plain_chunks;
 use crate::tests::library::support::{
     assert_bytes, assert_fails, assert_given, assert_header, assert_number, made,
 };
-use qoi::{Channels, Encoder, Header, Result, Style, encode_to_buf, encode_to_vec};
+use qoi::{Channels, Encoder, Header, Style, encode_to_buf, encode_to_vec};
 use std::alloc::Global;
 use std::io::ErrorKind;
 use std::process::Abort;
@@ -32,34 +32,35 @@ fn header_bytes(header: Header) -> [u8; 14] {
 }
 
 /// A file: the fourteen bytes of a header, the chunks as they are given, and the end marker.
-pub fn file_of(alloc: Global, header: Header, chunks: &[u8]) -> Result<Vec<u8>> {
-    let mut file = Vec::from_slice(alloc, &header_bytes(header))?;
-    file.extend_from_slice(chunks)?;
-    file.extend_from_slice(&[0, 0, 0, 0, 0, 0, 0, 1])?;
-    Ok(file)
+pub fn file_of(rt: &impl Abort, alloc: Global, header: Header, chunks: &[u8]) -> Vec<u8> {
+    let mut file = made::bytes(rt, alloc, &header_bytes(header));
+    made::append(rt, &mut file, chunks);
+    made::append(rt, &mut file, &[0, 0, 0, 0, 0, 0, 0, 1]);
+    file
 }
 
 /// The raw bytes of pixels. In three channels their alpha is dropped.
-pub fn raw_of(alloc: Global, channels: Channels, pixels: &[Rgba]) -> Result<Vec<u8>> {
+pub fn raw_of(rt: &impl Abort, alloc: Global, channels: Channels, pixels: &[Rgba]) -> Vec<u8> {
     let mut raw = Vec::new(alloc);
     for [r, g, b, a] in pixels {
-        raw.extend_from_slice(&[*r, *g, *b])?;
+        made::append(rt, &mut raw, &[*r, *g, *b]);
         if channels.is_rgba() {
-            raw.push(*a)?;
+            raw.push(*a).expect(rt, "refused");
         }
     }
-    Ok(raw)
+    raw
 }
 
 /// The raw bytes, in these channels, of a file's pixels, which count as opaque if its own channels
 /// are three.
 pub fn seen_raw(
+    rt: &impl Abort,
     alloc: Global,
     pixels: &[Rgba],
     own: Channels,
     channels: Channels,
-) -> Result<Vec<u8>> {
-    let mut raw = raw_of(alloc, channels, pixels)?;
+) -> Vec<u8> {
+    let mut raw = raw_of(rt, alloc, channels, pixels);
     if own.is_rgb() && channels.is_rgba() {
         for px in raw.chunks_exact_mut(4) {
             if let [_, _, _, alpha] = px {
@@ -67,7 +68,7 @@ pub fn seen_raw(
             }
         }
     }
-    Ok(raw)
+    raw
 }
 
 /// An image: the header of its file, a style, its raw bytes, and its file in that style.
@@ -82,25 +83,33 @@ pub struct Image {
 impl Image {
     /// The image of these pixels, which are opaque if there are three channels, and the file that
     /// the plain encoder makes of it.
-    pub fn of(alloc: Global, header: Header, style: Style, pixels: &[Rgba]) -> Result<Image> {
-        let chunks = plain_chunks(alloc, style, pixels)?;
-        Ok(Image {
+    pub fn of(
+        rt: &impl Abort,
+        alloc: Global,
+        header: Header,
+        style: Style,
+        pixels: &[Rgba],
+    ) -> Image {
+        let chunks = plain_chunks(rt, alloc, style, pixels);
+        Image {
             header,
             style,
-            raw: raw_of(alloc, header.channels, pixels)?,
-            file: file_of(alloc, header, &chunks)?,
-        })
+            raw: raw_of(rt, alloc, header.channels, pixels),
+            file: file_of(rt, alloc, header, &chunks),
+        }
     }
 
     /// Its encoder.
-    pub fn encoder(&self) -> Result<Encoder<'_>> {
-        let encoder = Encoder::new(&self.raw, self.header.width, self.header.height)?;
-        Ok(encoder.with_style(self.style))
+    pub fn encoder(&self, rt: &impl Abort) -> Encoder<'_> {
+        let encoder = Encoder::new(&self.raw, self.header.width, self.header.height).expect(
+            rt, "refused",
+        );
+        encoder.with_style(self.style)
     }
 
     /// Encodes the image by each of the calls, compares with its file, and decodes it back.
     pub fn check(&self, rt: &impl Abort, alloc: Global) {
-        let encoder = self.encoder().expect(rt, "refused");
+        let encoder = self.encoder(rt);
         assert_header(rt, encoder.header(), &self.header);
         assert!(rt; encoder.style() == self.style);
         assert!(rt; encoder.channels() == self.header.channels);
@@ -152,8 +161,7 @@ impl Image {
     pub fn sent(&self, rt: &impl Abort, alloc: Global, most: usize) -> Sink {
         let mut writer = made::sink(rt, alloc, most, NONE);
         let size = self
-            .encoder()
-            .expect(rt, "refused")
+            .encoder(rt)
             .encode_to_stream(&mut writer)
             .expect(rt, "refused");
         assert_number(rt, size, self.file.len());
@@ -170,11 +178,7 @@ impl Image {
             let call = before.saturating_add(1);
             let end = End::Fault;
             let mut writer = made::sink(rt, alloc, usize::MAX, Bad { call, end });
-            let refusal = self
-                .encoder()
-                .expect(rt, "refused")
-                .encode_to_stream(&mut writer)
-                .err();
+            let refusal = self.encoder(rt).encode_to_stream(&mut writer).err();
             assert_fails(rt, refusal, ErrorKind::BrokenPipe);
             assert_number(rt, writer.calls, call);
             assert_number(rt, writer.got.len(), before.saturating_mul(4096));

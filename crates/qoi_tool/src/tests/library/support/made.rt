@@ -1,9 +1,13 @@
 //! What the tests make, with ample memory and of what isn't refused. Nothing is promised of it: the
 //! fewer facts a test sees, the faster it is proved.
 use crate::tests::fakes::{Bad, Sink};
-use crate::tests::library::support::generator::{Numbers, Rgba, drawn};
-use crate::tests::library::support::images::{Image, file_of, raw_of, seen_raw};
-use qoi::{Buffered, Bytes, Channels, Decoder, Encoder, Header, Reader, Style};
+use crate::tests::library::support::generator::Rgba;
+pub use crate::tests::library::support::generator::drawn as pixels;
+use crate::tests::library::support::images::Image;
+pub use crate::tests::library::support::images::{
+    file_of as file, raw_of as raw, seen_raw as seen,
+};
+use qoi::{Buffered, Bytes, Decoder, Encoder, Header, Reader, Style, encode_to_vec};
 use std::alloc::Global;
 use std::io::{BufRead, BufReader, Read};
 use std::process::Abort;
@@ -45,38 +49,6 @@ pub fn sink(rt: &impl Abort, alloc: Global, most: usize, bad: Bad) -> Sink {
     Sink::new(alloc, most, bad).expect(rt, "refused")
 }
 
-/// A file with these chunks.
-pub fn file(rt: &impl Abort, alloc: Global, header: Header, chunks: &[u8]) -> Vec<u8> {
-    file_of(alloc, header, chunks).expect(rt, "refused")
-}
-
-/// The raw bytes of pixels.
-pub fn raw(rt: &impl Abort, alloc: Global, channels: Channels, pixels: &[Rgba]) -> Vec<u8> {
-    raw_of(alloc, channels, pixels).expect(rt, "refused")
-}
-
-/// The raw bytes, in these channels, of a file's pixels.
-pub fn seen(
-    rt: &impl Abort,
-    alloc: Global,
-    pixels: &[Rgba],
-    own: Channels,
-    channels: Channels,
-) -> Vec<u8> {
-    seen_raw(alloc, pixels, own, channels).expect(rt, "refused")
-}
-
-/// Drawn pixels.
-pub fn pixels(
-    rt: &impl Abort,
-    alloc: Global,
-    numbers: &mut Numbers,
-    channels: Channels,
-    n: usize,
-) -> Vec<Rgba> {
-    drawn(alloc, numbers, channels, n).expect(rt, "refused")
-}
-
 /// An image of these pixels.
 pub fn image(
     rt: &impl Abort,
@@ -85,12 +57,17 @@ pub fn image(
     style: Style,
     pixels: &[Rgba],
 ) -> Image {
-    Image::of(alloc, header, style, pixels).expect(rt, "refused")
+    Image::of(rt, alloc, header, style, pixels)
 }
 
 /// An encoder of these raw bytes.
 pub fn encoder<'a>(rt: &impl Abort, raw: &'a [u8], width: u32, height: u32) -> Encoder<'a> {
     Encoder::new(raw, width, height).expect(rt, "refused")
+}
+
+/// The file of an image, in style `Reference`.
+pub fn encoded(rt: &impl Abort, alloc: Global, raw: &[u8], width: u32, height: u32) -> Vec<u8> {
+    encode_to_vec(alloc, raw, width, height).expect(rt, "refused")
 }
 
 /// A decoder of a slice.

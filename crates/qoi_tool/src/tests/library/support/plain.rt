@@ -1,7 +1,9 @@
 //! A plain encoder of lists of pixels, pixel by pixel and by the text of the rules alone.
 use crate::tests::library::support::generator::{Rgba, START, place};
-use qoi::{Result, Style};
+use crate::tests::library::support::made;
+use qoi::Style;
 use std::alloc::Global;
+use std::process::Abort;
 
 // What is known before a pixel, and the chunks so far.
 #[derive(Drop)]
@@ -22,16 +24,16 @@ struct Plain {
 }
 
 /// The chunks of an image's pixels in a style.
-pub fn plain_chunks(alloc: Global, style: Style, pixels: &[Rgba]) -> Result<Vec<u8>> {
+pub fn plain_chunks(rt: &impl Abort, alloc: Global, style: Style, pixels: &[Rgba]) -> Vec<u8> {
     let mut plain = Plain::new(alloc, style);
     if style == Style::Tight && pixels.first() == Some(&START) {
         plain.note(START);
     }
     let mut next = pixels.iter().skip(1);
     for px in pixels {
-        plain.add(*px, next.next())?;
+        plain.add(rt, *px, next.next());
     }
-    Ok(plain.chunks)
+    plain.chunks
 }
 
 impl Plain {
@@ -50,21 +52,20 @@ impl Plain {
     }
 
     // Adds `px`, which `next` follows, if any.
-    fn add(&mut self, px: Rgba, next: Option<&Rgba>) -> Result<()> {
+    fn add(&mut self, rt: &impl Abort, px: Rgba, next: Option<&Rgba>) {
         if px != self.last {
-            self.fresh(px)?;
+            self.fresh(rt, px);
             self.note(px);
         } else {
             self.repeats = self.repeats.saturating_add(1);
             if next != Some(&px) {
-                self.close(next.is_some())?;
+                self.close(rt, next.is_some());
             }
         }
         if let Some(seen) = self.seen.get_mut(place(px)) {
             *seen = true;
         }
         self.last = px;
-        Ok(())
     }
 
     // Notes a pixel at its index position.
@@ -75,26 +76,24 @@ impl Plain {
     }
 
     // Writes a chunk.
-    fn write(&mut self, chunk: &[u8]) -> Result<()> {
+    fn write(&mut self, rt: &impl Abort, chunk: &[u8]) {
         self.first_byte = chunk.first().copied();
-        self.chunks.extend_from_slice(chunk)?;
-        Ok(())
+        made::append(rt, &mut self.chunks, chunk);
     }
 
     // Writes a group of repeats: runs of 62, and at the end what is left.
-    fn close(&mut self, fresh_follows: bool) -> Result<()> {
+    fn close(&mut self, rt: &impl Abort, fresh_follows: bool) {
         for _ in 0..self.repeats / 62 {
-            self.write(&[0xfd])?;
+            self.write(rt, &[0xfd]);
         }
         let left = (self.repeats % 62) as u8;
         let position = place(self.last) as u8;
         if left == 1 && fresh_follows && self.is_position(position) {
-            self.write(&[position])?;
+            self.write(rt, &[position]);
         } else if left > 0 {
-            self.write(&[0xbf + left])?;
+            self.write(rt, &[0xbf + left]);
         }
         self.repeats = 0;
-        Ok(())
     }
 
     // Whether a run of 1 that a fresh pixel follows is written as this index position of its pixel.
@@ -103,18 +102,18 @@ impl Plain {
     }
 
     // Writes a fresh pixel.
-    fn fresh(&mut self, px: Rgba) -> Result<()> {
+    fn fresh(&mut self, rt: &impl Abort, px: Rgba) {
         self.begun = true;
         let position = place(px);
         if self.noted.get(position) == Some(&px) {
-            return self.write(&[position as u8]);
+            return self.write(rt, &[position as u8]);
         }
         if self.style == Style::Tight && px == [0; 4] {
             if let Some(unseen) = self.unseen() {
-                return self.write(&[unseen]);
+                return self.write(rt, &[unseen]);
             }
         }
-        self.spell(px)
+        self.spell(rt, px)
     }
 
     // The least index position of which no pixel was seen.
@@ -128,7 +127,7 @@ impl Plain {
     }
 
     // Writes the first of difference, luma, RGB and RGBA that gives the pixel.
-    fn spell(&mut self, [r, g, b, a]: Rgba) -> Result<()> {
+    fn spell(&mut self, rt: &impl Abort, [r, g, b, a]: Rgba) {
         let [r_1, g_1, b_1, a_1] = self.last;
         let (dr, dg, db) = (
             r.wrapping_sub(r_1),
@@ -143,13 +142,13 @@ impl Plain {
             db_dg.wrapping_add(8),
         );
         if a != a_1 {
-            self.write(&[0xff, r, g, b, a])
+            self.write(rt, &[0xff, r, g, b, a])
         } else if x < 4 && y < 4 && z < 4 {
-            self.write(&[0x40 + 16 * x + 4 * y + z])
+            self.write(rt, &[0x40 + 16 * x + 4 * y + z])
         } else if u < 64 && v < 16 && w < 16 {
-            self.write(&[0x80 + u, 16 * v + w])
+            self.write(rt, &[0x80 + u, 16 * v + w])
         } else {
-            self.write(&[0xfe, r, g, b])
+            self.write(rt, &[0xfe, r, g, b])
         }
     }
 }

@@ -1,7 +1,7 @@
 //! A plain decoder of lists of chunks, by the text of the specification alone.
 use crate::tests::library::support::generator::{Rgba, START, place};
-use qoi::Result;
 use std::alloc::Global;
+use std::process::Abort;
 
 // The byte and a difference, which is stored with a bias; sums wrap at 256.
 fn sum(byte: u8, stored: u8, bias: u8) -> u8 {
@@ -35,7 +35,7 @@ fn chunk<'a>(seen: &[Rgba; 64], last: Rgba, bytes: &'a [u8]) -> (Rgba, u8, &'a [
 }
 
 /// The first `n` pixels that a list means.
-pub fn pixels_of(alloc: Global, chunks: &[u8], n: u32) -> Result<Vec<Rgba>> {
+pub fn pixels_of(rt: &impl Abort, alloc: Global, chunks: &[u8], n: u32) -> Vec<Rgba> {
     let mut pixels = Vec::new(alloc);
     let mut seen = [[0; 4]; 64];
     let mut last = START;
@@ -51,7 +51,7 @@ pub fn pixels_of(alloc: Global, chunks: &[u8], n: u32) -> Result<Vec<Rgba>> {
         if let Some(px) = seen.get_mut(place(last)) {
             *px = last;
         }
-        pixels.push(last)?;
+        pixels.push(last).expect(rt, "refused");
     }
-    Ok(pixels)
+    pixels
 }
