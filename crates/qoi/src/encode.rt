@@ -361,6 +361,9 @@ impl<'a> Encoder<'a> {
             });
         }
         let mut writer = BytesMut::new(buf);
+        if self.data.len() < FEW_BYTES {
+            return encode_few(&mut writer, self.style, &self.header, self.data);
+        }
         encode_to_memory(&mut writer, self.style, &self.header, self.data)
     }
 

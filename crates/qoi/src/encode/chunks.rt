@@ -193,7 +193,8 @@ pub(super) fn encode_file<W: Writer, const ROOM: usize>(
     let piece = Piece::<ROOM>::with_header(&mut bytes, header).open();
     let mut table = PixelTable::new();
     let mut last = LastPixel::start();
-    let (left, piece) = write_whole(
+    // A `?` would copy the result.
+    match write_whole(
         writer,
         header.channels,
         style,
@@ -201,17 +202,21 @@ pub(super) fn encode_file<W: Writer, const ROOM: usize>(
         &mut last,
         piece,
         data,
-    )?;
-    let mut piece = piece.piece;
-    write_end(
-        writer,
-        header.channels,
-        style,
-        &mut table,
-        last,
-        &mut piece,
-        left,
-    )
+    ) {
+        Ok((left, piece)) => {
+            let mut piece = piece.piece;
+            write_end(
+                writer,
+                header.channels,
+                style,
+                &mut table,
+                last,
+                &mut piece,
+                left,
+            )
+        }
+        Err(e) => Err(e),
+    }
 }
 
 /// An image of fewer raw bytes has no block: fewer than sixteen pixels, of three channels or four.

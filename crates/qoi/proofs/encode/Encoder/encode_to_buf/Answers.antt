@@ -14,3 +14,13 @@ returns-clause-encoded c = IfOk-weaker c.encode_to_memory.result _ _ (λ n w.
     let file = own_file c.self.view_is w.1 in
     puts_file _ w.0 old _ n file w.2 (search rules)
     (omega (arith, w.2, file.is_file.fits, c.if-buf-required.false, c.required_buf_len-required.ensures))) c.encode_to_memory.ensures.written
+
+pub returns-then-self-lt-FEW_BYTES-clause-encoded : goal.returns-then-self-lt-FEW_BYTES-clause-encoded
+returns-then-self-lt-FEW_BYTES-clause-encoded c = IfOk-weaker c.encode_few.result _ _ (λ n w.
+    let old = c.args.buf.now in
+    let new = c.new-writer.ensures in
+    let filled = buffer_filled c.new-writer.result c.encode_few.new.writer old w.0 n new.written new.left w.3 w.2 in
+    let named = w.3.same_buffer in
+    let file = own_file c.self.view_is w.1 in
+    puts_file _ w.0 old _ n file w.2 (search rules)
+    (omega (arith, w.2, file.is_file.fits, c.if-buf-required.false, c.required_buf_len-required.ensures))) c.encode_few.ensures.written

@@ -1,6 +1,6 @@
 -- The header, and then what is ahead.
 use Rattle.std.proofs.Common.{◌≡◌, length, refl, sym, ap, ◌∙◌, arith, subst}
-use Rattle.std.proofs.lemmas.Result.{err_from_is_err_and, IfErr-weaker, on_ok_weaker}
+use Rattle.std.proofs.lemmas.Result.{IfErr-weaker, on_ok_weaker}
 use Rattle.qoi.specs.declared.encode.pixel_writer.kept.Pending.{Pending}
 use Rattle.qoi.specs.Qoi.{AreBytes, start, channels_number, header_bytes}
 use Rattle.qoi.specs.inner.Piece.{kept_bytes}
@@ -45,33 +45,31 @@ write_whole-requires g c =
       ),
     )
 
-pub returns-in_err-left-clause-refused : goal.returns-in_err-left-clause-refused
-returns-in_err-left-clause-refused g c =
-    let e = err_from_is_err_and c.from_residual.result c.from_residual.ensures.1 in
-    let r = c.in_err-left.ensures.refused in
-    let now = (goal.at.returns-in_err-left-clause-refused g c).After-start-last in
-    let k = channels_number c.args.header.now.channels in
-    rw (e.1, e.2) (
+pub returns-in-Err-clause-refused : goal.returns-in-Err-clause-refused
+returns-in-Err-clause-refused g c =
+    let r = c.in-Err.ensures.refused in
+    let now = (goal.at.returns-in-Err-clause-refused g c).After-start-last in
+    let k = channels_number c.args.header.now.channels in (
       r.0,
       file_ends_early c.args.style c.args.header.now k c.args.data.now (channels_are c.args.header.now.channels k refl) (are g now) (record { table = c.new-table.result; last = c.start-last.result }) c.start-last.ensures.none
           (c.start-last.ensures.state c.args.style c.new-table.result c.new-table.ensures) (subst (λ kept. EndsEarly g.W.Writer.wrote (channels_number c.args.header.now.channels) c.args.style c.args.writer.now (record { table = c.new-table.result; last = c.start-last.result }) kept
           c.args.data.now c.write_whole.new.writer) (sym (header_kept g now)) (ends_early r.1)),
     )
 
-pub returns-clause-written : goal.returns-clause-written
-returns-clause-written g c =
-    let now = (goal.at.returns-clause-written g c).After-start-last in
+pub returns-in-Ok-clause-written : goal.returns-in-Ok-clause-written
+returns-in-Ok-clause-written g c =
+    let now = (goal.at.returns-in-Ok-clause-written g c).After-start-last in
     let k = channels_number c.args.header.now.channels in
     on_ok_weaker c.write_end.result
     (λ e. file_ends c.args.style c.args.header.now k c.args.data.now (channels_are c.args.header.now.channels k refl) (are g now) (record { table = c.new-table.result; last = c.start-last.result }) c.start-last.ensures.none
     (c.start-last.ensures.state c.args.style c.new-table.result c.new-table.ensures)
     (subst (λ kept. Ends g.W.Writer.wrote k c.args.style c.args.writer.now (record { table = c.new-table.result; last = c.start-last.result }) kept c.args.data.now c.write_end.new.writer) (sym (header_kept g now))
-    (then_ends g.met.W.Writer.laws.both c.in_ok-left.ensures.written e)))
+    (then_ends g.met.W.Writer.laws.both c.in-Ok.ensures.written e)))
     c.write_end.ensures.written
 
-pub returns-clause-refused : goal.returns-clause-refused
-returns-clause-refused g c =
-    let now = (goal.at.returns-clause-refused g c).After-start-last in
+pub returns-in-Ok-clause-refused : goal.returns-in-Ok-clause-refused
+returns-in-Ok-clause-refused g c =
+    let now = (goal.at.returns-in-Ok-clause-refused g c).After-start-last in
     let k = channels_number c.args.header.now.channels in
     IfErr-weaker c.write_end.result _ _
     (λ e r. (
@@ -79,6 +77,6 @@ returns-clause-refused g c =
       file_ends_early c.args.style c.args.header.now k c.args.data.now (channels_are c.args.header.now.channels k refl) (are g now) (record { table = c.new-table.result; last = c.start-last.result }) c.start-last.ensures.none
           (c.start-last.ensures.state c.args.style c.new-table.result c.new-table.ensures)
           (subst (λ kept. EndsEarly g.W.Writer.wrote k c.args.style c.args.writer.now (record { table = c.new-table.result; last = c.start-last.result }) kept c.args.data.now c.write_end.new.writer) (sym (header_kept g now))
-          (then_ends_early g.met.W.Writer.laws.both c.in_ok-left.ensures.written r.1)),
+          (then_ends_early g.met.W.Writer.laws.both c.in-Ok.ensures.written r.1)),
     ))
     c.write_end.ensures.refused
