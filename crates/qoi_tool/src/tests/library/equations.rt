@@ -1,11 +1,10 @@
 //! Functions of one's own, each with a contract, that are put together: files and images are
 //! functions of each other's bytes. None has a proof file.
-ghost use Rattle.std.specs.Prelude.{◌≡◌, ◌*◌, ◌≤◌, ◌<◌, ◌++◌, ℕ, List, length, drop, true, Some, Ok, IfOk, IfErr, IsErr, OnOk};
+ghost use Rattle.std.specs.Prelude.{◌≡◌, ◌*◌, ◌≤◌, ◌<◌, ℕ, List, length, Some, Ok, IfOk, IfErr};
 ghost use Rattle.std.specs.Io.KnownBytes.{Appends};
 ghost use Rattle.qoi.specs.declared.error.Error.{Error};
 ghost use Rattle.qoi.specs.declared.header.Header.{Header};
 ghost use Rattle.qoi.specs.declared.types.Channels.{Channels};
-ghost use Rattle.qoi.specs.declared.types.Style.{Style};
 ghost use Rattle.qoi.specs.declared.types.Style.TheVariants.{Reference};
 ghost use Rattle.qoi.specs.Qoi.{IsValid, pixels_max};
 ghost use Rattle.qoi.specs.Raw.{image_byte_count};
@@ -15,26 +14,9 @@ ghost use Rattle.qoi.specs.Encoded.{image_file, image_header};
 use crate::tests::fakes::{ONE_RGB_PIXEL, PIXEL};
 use crate::tests::library::support::{assert_both, assert_count, assert_given, assert_number};
 use qoi::laws::reading::{image_files_are_read, sizes_are_accepted};
-use qoi::{
-    Channels, ColorSpace, Decoder, Encoder, Error, Header, decode_to_vec, encode_to_buf,
-    encode_to_vec,
-};
+use qoi::{Channels, ColorSpace, Decoder, Encoder, Error, Header, decode_to_vec, encode_to_vec};
 use std::alloc::Global;
 use std::io::{Read, Write};
-
-/// Twice. The same image gives the same file.
-pub fn encoded_twice(
-    alloc: Global,
-    raw: &[u8],
-    width: u32,
-    height: u32,
-) -> Result<(Vec<u8>, Vec<u8>), Error>
-    ensures { IfOk result (λ x. x.0.items ≡ x.1.items) }
-{
-    let first = encode_to_vec(alloc, raw, width, height)?;
-    let second = encode_to_vec(alloc, raw, width, height)?;
-    Ok((first, second))
-}
 
 /// Saved. The file of an image.
 pub fn save(alloc: Global, raw: &[u8], width: u32, height: u32) -> Result<Vec<u8>, Error>
@@ -144,20 +126,6 @@ pub fn without_last(alloc: Global, raw: &[u8], width: u32, height: u32) -> Resul
     }
 }
 
-/// So is a file from which its last byte was popped.
-pub fn popped_result(
-    alloc: Global,
-    raw: &[u8],
-    width: u32,
-    height: u32,
-) -> Result<Result<(Header, Vec<u8>), Error>, Error>
-    ensures { IfOk result (λ decoded. IsErr decoded) }
-{
-    let mut file = encode_to_vec(alloc, raw, width, height)?;
-    file.pop();
-    Ok(decode_to_vec(alloc, &file))
-}
-
 /// The alpha of the first pixel of a file with three channels, read as four, is 255.
 pub fn first_alpha(alloc: Global, file: &[u8]) -> Result<(Header, u8), Error>
     ensures { IfOk result (λ x. x.0.channels ≡ Channels.Rgb → x.1 ≡ 255) }
@@ -204,8 +172,6 @@ pub fn of_header(alloc: Global, raw: &[u8], header: &Header) -> Result<Vec<u8>, 
 
 #[test]
 fn twice_and_again(rt: HostRuntime) {
-    let twice = encoded_twice(rt.alloc(), &PIXEL, 1, 1);
-    assert_both(&rt, twice, &ONE_RGB_PIXEL, &ONE_RGB_PIXEL);
     let twice = again(rt.alloc(), &PIXEL, 1, 1);
     assert_both(&rt, twice, &ONE_RGB_PIXEL, &ONE_RGB_PIXEL);
 }
@@ -215,8 +181,6 @@ fn cut_files_are_refused(rt: HostRuntime) {
     let alloc = rt.alloc();
     let refusal = without_last(alloc, &PIXEL, 1, 1);
     assert!(rt; matches!(refusal, Ok(Error::UnexpectedBufferEnd)));
-    let refused = popped_result(alloc, &PIXEL, 1, 1);
-    assert!(rt; matches!(refused, Ok(Err(Error::UnexpectedBufferEnd))));
 }
 
 #[test]

@@ -1,6 +1,5 @@
-//! What users want to know of compositions of the calls. `file_ahead` and `decoded_unless` alone have
-//! a proof file.
-ghost use Rattle.std.specs.Prelude.{◌≡◌, ◌+◌, ◌≤◌, ℕ, List, length, slice_set, Option, Some, IfOk};
+//! What users want to know of compositions of the calls. None has a proof file.
+ghost use Rattle.std.specs.Prelude.{◌≡◌, ◌+◌, ◌≤◌, ℕ, List, length, slice_set, Some, IfOk};
 ghost use Rattle.qoi.specs.declared.header.Header.{Header};
 ghost use Rattle.qoi.specs.declared.types.Channels.{Channels};
 ghost use Rattle.qoi.specs.Decoding.{DecodesFile};
@@ -16,7 +15,7 @@ use qoi::{
     decode_to_vec, encode_to_vec,
 };
 use std::alloc::Global;
-use std::io::{BufReader, Cursor, Read};
+use std::io::{Cursor, Read};
 use std::process::Abort;
 
 /// The same bytes are the same image: into a vector and into a buffer.
@@ -30,26 +29,6 @@ pub fn vector_and_buffer<'a>(
     let (_, first) = decode_to_vec(alloc, file)?;
     let header = decode_to_buf(buf, file)?;
     Ok((first, &buf[..header.n_bytes()]))
-}
-
-/// The same bytes are the same image: by the free call and from a stream.
-pub fn call_and_stream(alloc: Global, file: &[u8]) -> Result<(Vec<u8>, Vec<u8>), Error>
-    ensures { IfOk result (λ x. x.0.items ≡ x.1.items) }
-{
-    let (_, first) = decode_to_vec(alloc, file)?;
-    let mut decoder = Decoder::from_stream(file)?;
-    let second = decoder.decode_to_vec(alloc)?;
-    Ok((first, second))
-}
-
-/// So they are from the buffer of a reader.
-pub fn call_and_buffered(alloc: Global, file: &[u8]) -> Result<(Vec<u8>, Vec<u8>), Error>
-    ensures { IfOk result (λ x. x.0.items ≡ x.1.items) }
-{
-    let (_, first) = decode_to_vec(alloc, file)?;
-    let mut decoder = Decoder::from_buf_read(BufReader::new(alloc, file)?)?;
-    let second = decoder.decode_to_vec(alloc)?;
-    Ok((first, second))
 }
 
 /// Headers. The encoder's comes back.
@@ -67,16 +46,7 @@ pub fn header_back(
     Ok((header, *encoder.header()))
 }
 
-/// Headers. The header of a file has the width and the height that were given.
-pub fn size_back(alloc: Global, raw: &[u8], width: u32, height: u32) -> Result<Header, Error>
-    ensures { IfOk result (λ h. (h.width ≡ width) × (h.height ≡ height)) }
-{
-    let file = encode_to_vec(alloc, raw, width, height)?;
-    let header = decode_header(&file)?;
-    Ok(header)
-}
-
-/// Headers. So has the header that is decoded with the image.
+/// Headers. The header that is decoded with the image has the width and the height that were given.
 pub fn size_with_image(
     alloc: Global,
     raw: &[u8],
@@ -118,21 +88,6 @@ pub fn rgb_of_own(
 {
     let file = encode_to_vec(alloc, raw, width, height)?;
     let mut decoder = Decoder::new(&file)?.with_channels(Channels::Rgb);
-    let rgb = decoder.decode_to_vec(alloc)?;
-    Ok((*decoder.header(), rgb))
-}
-
-/// Channels. The same from a stream.
-pub fn rgb_of_stream(
-    alloc: Global,
-    raw: &[u8],
-    width: u32,
-    height: u32,
-) -> Result<(Header, Vec<u8>), Error>
-    ensures { IfOk result (λ x. x.0.channels ≡ Channels.Rgba → x.1.items ≡ without_fourth raw.now) }
-{
-    let file = encode_to_vec(alloc, raw, width, height)?;
-    let mut decoder = Decoder::from_stream(file.as_slice())?.with_channels(Channels::Rgb);
     let rgb = decoder.decode_to_vec(alloc)?;
     Ok((*decoder.header(), rgb))
 }
@@ -223,17 +178,6 @@ pub fn by_clone_of_cursor(alloc: Global, file: &[u8]) -> Result<(Vec<u8>, Vec<u8
     Ok((first, second))
 }
 
-/// Clones. So do a decoder of a cursor's buffer and its clone.
-pub fn by_clone_of_buffered(alloc: Global, file: &[u8]) -> Result<(Vec<u8>, Vec<u8>), Error>
-    ensures { IfOk result (λ x. x.0.items ≡ x.1.items) }
-{
-    let mut decoder = Decoder::from_buf_read(Cursor::new(file))?;
-    let mut clone = decoder.clone()?;
-    let first = decoder.decode_to_vec(alloc)?;
-    let second = clone.decode_to_vec(alloc)?;
-    Ok((first, second))
-}
-
 #[test]
 fn the_same_image(rt: HostRuntime) {
     let mut buf = [0xaa; 4];
@@ -244,19 +188,9 @@ fn the_same_image(rt: HostRuntime) {
 }
 
 #[test]
-fn the_same_image_of_streams(rt: HostRuntime) {
-    let both = call_and_stream(rt.alloc(), &ONE_RGB_PIXEL);
-    assert_both(&rt, both, &PIXEL, &PIXEL);
-    let both = call_and_buffered(rt.alloc(), &ONE_RGB_PIXEL);
-    assert_both(&rt, both, &PIXEL, &PIXEL);
-}
-
-#[test]
 fn the_same_image_of_clones(rt: HostRuntime) {
     let alloc = rt.alloc();
     let both = by_clone_of_cursor(alloc, &ONE_RGB_PIXEL);
-    assert_both(&rt, both, &PIXEL, &PIXEL);
-    let both = by_clone_of_buffered(alloc, &ONE_RGB_PIXEL);
     assert_both(&rt, both, &PIXEL, &PIXEL);
 }
 
@@ -285,8 +219,6 @@ fn sizes(rt: HostRuntime) {
         ..Header::default()
     };
     let raw = [7; 18];
-    let header = size_back(rt.alloc(), &raw, 3, 2).expect(&rt, "refused");
-    assert_header(&rt, &header, &wide);
     let (header, back) = size_with_image(rt.alloc(), &raw, 3, 2).expect(&rt, "refused");
     assert_header(&rt, &header, &wide);
     assert_bytes(&rt, &back, &raw);
@@ -311,7 +243,6 @@ fn channels_of_own_files(rt: HostRuntime) {
     let rgba = [1, 2, 3, 4, 5, 6, 7, 8];
     let rgb = [1, 2, 3, 5, 6, 7];
     assert_image(&rt, rgb_of_own(alloc, &rgba, 2, 1), &rgb);
-    assert_image(&rt, rgb_of_stream(alloc, &rgba, 2, 1), &rgb);
 }
 
 #[test]

@@ -1,6 +1,6 @@
 //! Callers that keep several files in one slice (a pack): the image of the file at an offset comes
 //! back, whatever follows it. `put_many` alone has a proof file: its loop's invariant.
-ghost use Rattle.std.specs.Prelude.{◌≡◌, ℕ, List, ◌++◌, length, drop, Option, Some, IfOk, OnOk};
+ghost use Rattle.std.specs.Prelude.{◌≡◌, ℕ, List, ◌++◌, drop, Some, IfOk, OnOk};
 ghost use Rattle.qoi.specs.declared.header.Header.{Header};
 ghost use Rattle.qoi.specs.declared.types.Style.{Style};
 ghost use Rattle.qoi.specs.Encoded.{IsFileOf};
@@ -8,9 +8,7 @@ ghost use Rattle.qoi.specs.Images.{file_image};
 ghost use Rattle.qoi.specs.Tiles.{HasTile};
 
 use crate::tests::fakes::{ONE_RGB_PIXEL, PIXEL};
-use crate::tests::library::support::{
-    assert_both, assert_bytes, assert_cut, assert_given, assert_number,
-};
+use crate::tests::library::support::{assert_cut, assert_given, assert_number};
 use qoi::laws::reading::tiles_stay;
 use qoi::{Decoder, Encoder, Error, decode_to_vec, encode_to_vec};
 use std::alloc::Global;
@@ -49,16 +47,6 @@ pub fn byte_after(alloc: Global, raw: &[u8], width: u32, height: u32) -> Result<
     Ok(back)
 }
 
-/// A tile is put at the end of an atlas, and its offset returned: what was put is its file.
-pub fn put_image(atlas: &mut Vec<u8>, raw: &[u8], width: u32, height: u32) -> Result<usize, Error>
-    ensures { IfOk result (λ at. (at ≡ length atlas.old.items)
-        × (file_image (drop at atlas.new.items) ≡ raw.now)) }
-{
-    let at = atlas.len();
-    Encoder::new(raw, width, height)?.encode_to_stream(atlas)?;
-    Ok(at)
-}
-
 /// A tile is put at the end of an atlas, and its offset returned; the tiles before it stay.
 pub fn put(atlas: &mut Vec<u8>, raw: &[u8], width: u32, height: u32) -> Result<usize, Error>
     ensures put { IfOk result (λ offset. HasTile atlas.new.items offset raw.now) }
@@ -82,23 +70,6 @@ pub fn put_file(alloc: Global, atlas: &mut Vec<u8>, file: &[u8]) -> Result<usize
     decode_to_vec(alloc, file)?;
     atlas.extend_from_slice(file)?;
     Ok(offset)
-}
-
-/// What was decoded from a file is decoded again from an atlas that the file was put into, with a
-/// byte behind it.
-pub fn decoded_again(
-    alloc: Global,
-    atlas: &mut Vec<u8>,
-    file: &[u8],
-) -> Result<(Vec<u8>, Vec<u8>), Error>
-    ensures { IfOk result (λ x. x.1.items ≡ x.0.items) }
-{
-    let (_, raw) = decode_to_vec(alloc, file)?;
-    let offset = atlas.len();
-    atlas.extend_from_slice(file)?;
-    atlas.push(1)?;
-    let (_, again) = decode_to_vec(alloc, &atlas[offset..])?;
-    Ok((raw, again))
 }
 
 /// A tile is read back from its offset.
@@ -131,46 +102,6 @@ pub fn put_many(
         put(atlas, other, width, height)?;
     }
     Ok(offset)
-}
-
-/// Three tiles are put at the end of an atlas, and their offsets returned.
-pub fn put_three(
-    atlas: &mut Vec<u8>,
-    first: &[u8],
-    second: &[u8],
-    third: &[u8],
-    width: u32,
-    height: u32,
-) -> Result<(usize, usize, usize), Error>
-    ensures first { IfOk result (λ x. HasTile atlas.new.items x.0 first.now) }
-    ensures second { IfOk result (λ x. HasTile atlas.new.items x.1 second.now) }
-    ensures third { IfOk result (λ x. HasTile atlas.new.items x.2 third.now) }
-{
-    let one = put(atlas, first, width, height)?;
-    let two = put(atlas, second, width, height)?;
-    let three = put(atlas, third, width, height)?;
-    Ok((one, two, three))
-}
-
-/// Three tiles in an atlas, of which each is read back.
-pub fn three_tiles(
-    alloc: Global,
-    first: &[u8],
-    second: &[u8],
-    third: &[u8],
-    width: u32,
-    height: u32,
-) -> Result<(Vec<u8>, Vec<u8>, Vec<u8>), Error>
-    ensures first { IfOk result (λ x. x.0.items ≡ first.now) }
-    ensures second { IfOk result (λ x. x.1.items ≡ second.now) }
-    ensures third { IfOk result (λ x. x.2.items ≡ third.now) }
-{
-    let mut atlas = Vec::new(alloc);
-    let (one, two, three) = put_three(&mut atlas, first, second, third, width, height)?;
-    let first = get(alloc, &atlas, one)?;
-    let second = get(alloc, &atlas, two)?;
-    let third = get(alloc, &atlas, three)?;
-    Ok((first, second, third))
 }
 
 // A tile.
@@ -214,8 +145,6 @@ fn at_the_end_of_an_atlas(rt: HostRuntime) {
     assert_tile(&rt, alloc, &atlas, at, &OTHER);
     // A file of one pixel has 22 bytes and a chunk: here an RGB of four bytes, and a luma of two.
     assert_number(&rt, atlas.len(), 26 + 24);
-    let at = put_image(&mut atlas, &PIXEL, 1, 1);
-    assert_tile(&rt, alloc, &atlas, at, &PIXEL);
 }
 
 #[test]
@@ -231,15 +160,4 @@ fn files_in_an_atlas(rt: HostRuntime) {
     let mut atlas = Vec::new(alloc);
     let offset = put_file(alloc, &mut atlas, &ONE_RGB_PIXEL);
     assert_tile(&rt, alloc, &atlas, offset, &PIXEL);
-    let both = decoded_again(alloc, &mut atlas, &ONE_RGB_PIXEL);
-    assert_both(&rt, both, &PIXEL, &PIXEL);
-}
-
-#[test]
-fn three_in_an_atlas(rt: HostRuntime) {
-    let tiles = three_tiles(rt.alloc(), &PIXEL, &OTHER, &PIXEL, 1, 1);
-    let (first, second, third) = tiles.expect(&rt, "refused");
-    assert_bytes(&rt, &first, &PIXEL);
-    assert_bytes(&rt, &second, &OTHER);
-    assert_bytes(&rt, &third, &PIXEL);
 }

@@ -1,11 +1,8 @@
 //! Callers that take an image row by row, proved by the contracts of the public calls alone: none
 //! holds the whole image but for the one that returns it.
-ghost use Rattle.std.specs.Prelude.{◌≡◌, ℕ, ◌++◌, List, Some, IsTrue, IfOk, OnOk};
+ghost use Rattle.std.specs.Prelude.{◌≡◌, ℕ, List, Some, IfOk, OnOk};
 ghost use Rattle.std.specs.Io.KnownBytes.{Appends};
-ghost use Rattle.qoi.specs.declared.header.Header.{Header};
-ghost use Rattle.qoi.specs.declared.chunk.Chunk.{Chunk};
-ghost use Rattle.qoi.specs.FrontFile.{BeginsWithFile};
-ghost use Rattle.qoi.specs.Qoi.{IsFile, file};
+ghost use Rattle.qoi.specs.Qoi.{file};
 ghost use Rattle.qoi.specs.Images.{front_image, file_image};
 
 use crate::tests::fakes::{ONE_RGB_PIXEL, PIXEL};
@@ -53,22 +50,6 @@ pub fn send_rows<W: Write>(file: &[u8], out: &mut W) -> Result<(), Error>
     Ok(())
 }
 
-/// An upload that is checked and not held: whether the bytes begin with a file.
-pub fn file_is_whole(bytes: &[u8]) -> bool
-    ensures whole { IsTrue result → BeginsWithFile bytes.now }
-    ensures only { (h : Header) (cs : List Chunk) (rest : List ℕ) → IsFile h cs
-        → bytes.now ≡ file h cs ++ rest → IsTrue result }
-{
-    files_are_read();
-    let Ok(decoder) = Decoder::new(bytes) else {
-        return false;
-    };
-    let Ok(_behind) = decoder.into_pixels().finish() else {
-        return false;
-    };
-    true
-}
-
 // The file of a pixel, whole, followed by two bytes, cut at each byte, and with a wrong end marker.
 #[test]
 fn callers_take_one_pixel(rt: HostRuntime) {
@@ -77,16 +58,4 @@ fn callers_take_one_pixel(rt: HostRuntime) {
     let mut out = Vec::new(alloc);
     send_rows(&ONE_RGB_PIXEL, &mut out).expect(&rt, "refused");
     assert_bytes(&rt, &out, &PIXEL);
-}
-
-#[test]
-fn whole_files_are_told(rt: HostRuntime) {
-    let mut bytes = [0x78; 28];
-    bytes[..26].copy_from_slice(&ONE_RGB_PIXEL);
-    assert!(&rt; file_is_whole(&bytes));
-    for end in 0..26usize {
-        assert!(&rt; !file_is_whole(&ONE_RGB_PIXEL[..end]));
-    }
-    bytes[25] = 0;
-    assert!(&rt; !file_is_whole(&bytes));
 }

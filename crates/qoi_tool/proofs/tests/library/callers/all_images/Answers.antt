@@ -1,5 +1,5 @@
 -- Each turn takes a file from the front of the rest, and puts its image after the others.
-use Rattle.std.proofs.Common.{◌≡◌, ◌<◌, ◌≤◌, ℕ, List, [], ◌∷◌, Vec, Global, length, map, drop, ap, sym, ◌∙◌, subst, rules, append-nil}
+use Rattle.std.proofs.Common.{◌≡◌, ◌<◌, ◌≤◌, ℕ, List, [], ◌∷◌, Vec, Global, length, map, drop, sym, ◌∙◌, subst, rules, append-nil}
 use Rattle.std.proofs.lemmas.List.{drop_all}
 use Rattle.qoi.specs.Qoi.{header_size}
 use Rattle.qoi_tool.specs.Files.{AreFiles}

@@ -1,5 +1,5 @@
 -- What the first decoder leaves is what the second reads.
-use Rattle.std.proofs.Common.{◌≡◌, ◌∙◌, ◌++◌, ap, Some}
+use Rattle.std.proofs.Common.{◌≡◌, ◌∙◌, ap, Some}
 use Rattle.qoi_tool.proofs.tests.library.callers.two_frames_buffered.Goals as goal
 
 pub returns : goal.returns

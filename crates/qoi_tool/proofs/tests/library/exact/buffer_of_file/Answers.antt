@@ -1,7 +1,6 @@
 -- A refusal says that no file stands at the front, or that the buffer is too short.
-use Rattle.std.proofs.Common.{◌≡◌, ◌≤◌, ◌<◌, ◌∙◌, ℕ, List, Result, Ok, Err, IfOk, IfErr, length, take, ap, sym, subst, ⊎_elim, arith}
+use Rattle.std.proofs.Common.{◌≡◌, ◌∙◌, Result, Ok, Err, IfOk, IfErr, take, ap, sym, ⊎_elim, arith}
 use Rattle.std.proofs.lemmas.Result.{IfOk-weaker, IfErr-weaker}
-use Rattle.qoi.specs.declared.header.Header.{Header}
 use Rattle.qoi.specs.Qoi.{header_of}
 use Rattle.qoi.specs.Raw.{image_byte_count}
 use Rattle.qoi.specs.Images.{file_image}

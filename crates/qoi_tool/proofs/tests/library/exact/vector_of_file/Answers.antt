@@ -1,7 +1,6 @@
 -- A success is the file at the front, and a refusal says that none stands there.
-use Rattle.std.proofs.Common.{◌≡◌, ◌∙◌, ℕ, List, Ok, ap, sym, ⊎_elim}
+use Rattle.std.proofs.Common.{◌≡◌, ◌∙◌, Ok, ap, ⊎_elim}
 use Rattle.std.proofs.lemmas.Result.{IfOk-weaker, IfErr-weaker, MatchResult-from_both}
-use Rattle.qoi.specs.declared.header.Header.{Header}
 use Rattle.qoi.specs.Qoi.{header_of}
 use Rattle.qoi.specs.Images.{file_image}
 use Rattle.qoi_tool.proofs.tests.library.exact.vector_of_file.Goals as goal

@@ -1,5 +1,5 @@
 -- The rows that were read so far are those of the vector.
-use Rattle.std.proofs.Common.{◌≡◌, ◌-◌, ◌≤◌, ◌<◌, Some}
+use Rattle.std.proofs.Common.{◌≡◌, ◌-◌, ◌≤◌, Some}
 use Rattle.qoi.specs.Images.{front_image}
 use Rattle.qoi.specs.pieces.PixelReader.{as_decoder, HasRows}
 use Rattle.qoi.specs.Rectangles.{rectangle}
