@@ -122,7 +122,8 @@ impl Frames {
 
 /// Cuts off what follows the frames.
 fn cut(mut bytes: Vec<u8>, end: usize, offsets: Vec<usize>) -> Frames
-    ensures frames { (images : List (List ℕ)) → AreFrames (take end bytes.items) offsets.items images
+    ensures frames { (images : List (List ℕ))
+        → AreFrames (take end bytes.items) offsets.items images
         → AreFrames result.bytes.items result.offsets.items images }
     ensures whole { (front rest others : List ℕ) (images found : List (List ℕ))
         → AreFrames (take end bytes.items) offsets.items found
@@ -159,7 +160,8 @@ fn none(alloc: Global) -> Vec<usize>
 /// Notes the frame at `at`, and returns its end; none if no whole one stands there.
 fn note(bytes: &[u8], at: usize, offsets: &mut Vec<usize>) -> Result<Option<usize>, Error>
     requires { at ≤ length bytes.now }
-    ensures found { (images : List (List ℕ)) → AreFrames (take at bytes.now) offsets.old.items images
+    ensures found { (images : List (List ℕ))
+        → AreFrames (take at bytes.now) offsets.old.items images
         → IfOk result (λ o. IfSome o (λ end. AreFrames (take end bytes.now) offsets.new.items
         (images ++ file_image (drop at bytes.now) ∷ []))) }
     ensures within { IfOk result (λ o. IfSome o (λ end. (at < end) × (end ≤ length bytes.now))) }
