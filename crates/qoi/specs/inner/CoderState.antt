@@ -1,11 +1,15 @@
 -- What a style asks of a coder.
-use Rattle.std.specs.Prelude.{ℕ, Bool, not, ◌&&◌, ◌||◌, nat_lt, if◌then◌else◌, List, [], ◌∷◌, Option, Some}
+use Rattle.std.specs.Prelude.{ℕ, Bool, not, ◌==◌, ◌&&◌, ◌||◌, nat_lt, if◌then◌else◌, List, [], ◌∷◌, Option, Some}
 use Rattle.qoi.specs.declared.chunk.Chunk.{Chunk}
 use Rattle.qoi.specs.declared.chunk.Chunk.TheVariants.{Place, Run}
 use Rattle.qoi.specs.declared.types.Style.{Style}
 use Rattle.qoi.specs.declared.types.Style.TheVariants.{Reference, Places, Tight}
 use Rattle.qoi.specs.Qoi.{Past}
 use Rattle.qoi.specs.Written.{fresh}
+
+-- the style of a number
+abbrev pub style_of : ℕ → Style
+style_of n = if n == 0 then Reference else (if n == 1 then Places else Tight)
 
 -- the pixels that a coder puts at their index positions: the fresh ones, and in style Tight all of
 -- them

@@ -10,6 +10,7 @@ ghost use Rattle.qoi.specs.inner.block.Marks.{fresh_marks};
 ghost use Rattle.qoi.specs.inner.block.State.{State, NoneBlank};
 ghost use Rattle.qoi.specs.inner.block.Block.{ChangesFrom, FitsBlock, MissesNoBlank, last_pixel};
 ghost use Rattle.qoi.specs.inner.BlockLoop.{InBlocks};
+ghost use Rattle.qoi.specs.inner.CoderState.{style_of};
 ghost use Rattle.qoi.specs.inner.Piece.{kept_bytes};
 ghost use Rattle.qoi.specs.inner.Pixels.{pixels_in};
 ghost use Rattle.qoi.specs.inner.block.Planes.{ArePacked, ArePlanes, block_pixels};
@@ -36,6 +37,7 @@ use crate::encode::block::spelling::{Spelled, spell_block};
 use crate::encode::block::steps::{Changes, find_changes};
 use crate::encode::block::storing::store_sixteen;
 use crate::encode::carry::Carry;
+use crate::encode::coder::style_of;
 use crate::encode::piece::{OpenPiece, Piece};
 use crate::encode::pixels::FrontBlock;
 use crate::encode::table::PixelTable;
@@ -118,22 +120,22 @@ impl Block {
 
     // The block's chunks. `stands` marks the pixels that stand at their index positions, `places`.
     #[inline(always)]
-    fn spell<const N: usize>(
+    fn spell<const N: usize, const STYLE: u8>(
         self,
-        style: Style,
         stands: u8x16,
         places: u8x16,
         carry: Carry<N>,
     ) -> Spelled
         ensures { (s : State) → IsPixel s.last → s.last ≡ last_pixel carry.entry.before
             → ChangesFrom carry.entry.before (block_pixels self.words) self.changes
-            → s.carry ≡ carry.entry.count → (style ≡ Places → s.placed ≡ carry.entry.placed)
+            → s.carry ≡ carry.entry.count
+            → (style_of STYLE ≡ Places → s.placed ≡ carry.entry.placed)
             → stands ≡ map mask (stand_tests s.held (block_pixels self.words))
             → places ≡ map hash (block_pixels self.words)
-            → HasSpelled style s (block_pixels self.words) result }
+            → HasSpelled (style_of STYLE) s (block_pixels self.words) result }
     {
         let x = spell_block(self.changes, self.planes.r, stands, places, carry.count);
-        match style {
+        match style_of::<STYLE>() {
             Reference | Tight => x,
             Places => name_single(x, stands, places, carry.placed),
         }
@@ -164,11 +166,10 @@ impl Block {
 }
 
 /// Appends the chunks of a block that doesn't repeat whole, but for the repeats at its end. Returns
-/// what is carried then. `COPY` and `ROOM` give each loop that calls it a function of its own,
-/// which the compiler inlines there.
+/// what is carried then. Each loop that calls it has a function of its own, which the compiler
+/// inlines there.
 #[inline]
-pub(super) fn write_block<'p, const N: usize, const COPY: u8, const ROOM: usize>(
-    style: Style,
+pub(super) fn write_block<'p, const N: usize, const STYLE: u8, const ROOM: usize>(
     table: &mut PixelTable,
     piece: OpenPiece<'p, ROOM>,
     block: Block,
@@ -176,17 +177,19 @@ pub(super) fn write_block<'p, const N: usize, const COPY: u8, const ROOM: usize>
 ) -> (Carry<N>, Piece<'p, ROOM>)
     requires { N ≡ 3 → AreOpaque (block_pixels block.words) }
     ensures { (ahead : List ℕ) (n : ℕ) (rest more : List RgbaPixel)
-        → FitsBlock style table.old carry.entry.before (block_pixels block.words) block.changes
-        → InBlocks style ahead n (block_pixels block.words ++ rest) more table.old carry.entry
-        (kept_bytes piece.entry.piece)
-        → InBlocks style ahead n rest more table.new result.0 (kept_bytes result.1) }
+        → FitsBlock (style_of STYLE) table.old carry.entry.before (block_pixels block.words)
+        block.changes
+        → InBlocks (style_of STYLE) ahead n (block_pixels block.words ++ rest) more
+        table.old carry.entry (kept_bytes piece.entry.piece)
+        → InBlocks (style_of STYLE) ahead n rest more table.new result.0 (kept_bytes result.1) }
 {
+    let style = style_of::<STYLE>();
     let Piece { bytes, end } = piece.piece;
     let places = index_positions(block.planes);
     store_places::<ROOM>(places, bytes);
     carry.store_run(style, bytes, end);
     let stands = put_block(table, &bytes[ROOM - 16..], block.words);
-    let x = block.spell(style, stands, places, carry);
+    let x = block.spell::<N, STYLE>(stands, places, carry);
     let start = carry.run_end(end, x.rep.to_array()[0]);
     let end = store_sixteen::<N>(bytes, start, x, block.planes);
     (block.carry(style, x, stands), Piece { bytes, end })

@@ -9,6 +9,7 @@ ghost use Rattle.qoi.specs.inner.block.Block.{last_pixel};
 ghost use Rattle.qoi.specs.inner.block.Marks.{fresh_marks};
 ghost use Rattle.qoi.specs.inner.BlockLoop.{GoesByBlocks, InBlocks};
 ghost use Rattle.qoi.specs.inner.CoderLoop.{CoderBetween};
+ghost use Rattle.qoi.specs.inner.CoderState.{style_of};
 ghost use Rattle.qoi.specs.inner.Piece.{kept_bytes};
 ghost use Rattle.qoi.specs.inner.Pixels.{pixels_in};
 
@@ -16,12 +17,12 @@ use crate::consts::QOI_RUN_MAX;
 use crate::encode::block::planes::Planes;
 use crate::encode::block::{Block, write_block};
 use crate::encode::carry::{Carry, FRONT_CARRIED};
-use crate::encode::coder::Coder;
+use crate::encode::coder::{Coder, style_of};
 use crate::encode::last_pixel::LastPixel;
 use crate::encode::marked::{goes_by_marks, write_marked};
 use crate::encode::pairs::{go_by_pairs, write_pairs};
 use crate::encode::piece::{OpenPiece, Piece, REPEATS_AT_ONCE};
-use crate::encode::pixels::{FrontBlock, PixelOf, Pixels};
+use crate::encode::pixels::{FrontBlock, Marked, PixelOf, Pixels};
 use crate::encode::runs::repeats_of;
 use crate::encode::table::PixelTable;
 use crate::types::Style::{self, Places, Reference, Tight};
@@ -61,7 +62,8 @@ fn carried<const N: usize>(coder: &Coder<N>) -> Carry<N>
 
 // The coder after a fresh pixel and the repeats that are carried.
 #[inline(always)]
-fn coder_after<const N: usize>(carry: Carry<N>) -> Coder<N>
+fn coder_after<const N: usize, const STYLE: u8>(carry: Carry<N>) -> Coder<N>
+    ensures style { result.style ≡ style_of STYLE }
     ensures begun { result.last.begun ≡ true }
     ensures px { result.last.px ≡ last_pixel carry.entry.before }
     ensures repeats { result.last.repeats ≡ carry.entry.count }
@@ -76,7 +78,10 @@ fn coder_after<const N: usize>(carry: Carry<N>) -> Coder<N>
         placed: carry.placed,
         repeats: usize::from(carry.count),
     };
-    Coder { last }
+    Coder {
+        style: style_of::<STYLE>(),
+        last,
+    }
 }
 
 // Writes the full runs of the carried repeats and those at the front; the others are carried.
@@ -110,97 +115,95 @@ fn write_long_group<'a, 'p, const N: usize, const ROOM: usize>(
 // Writes the repeats at the front and the fresh pixel after them, in style `Tight`. Returns the
 // rest, and what is carried.
 #[inline(always)]
-fn write_group<'a, 'p, const N: usize, const ROOM: usize>(
+fn write_group<'a, 'p, const N: usize, const STYLE: u8, const ROOM: usize>(
     table: &mut PixelTable,
     piece: OpenPiece<'p, ROOM>,
     front: FrontBlock<'a, N>,
     carry: Carry<N>,
 ) -> (Pixels<'a, N>, Carry<N>, Piece<'p, ROOM>)
+    requires { style_of STYLE ≡ Tight }
     ensures less { length (pixels_in result.0) < length (pixels_in front.entry.raw) }
     ensures written { (ahead : List ℕ) (n : ℕ) (more : List RgbaPixel)
-        → InBlocks Tight ahead n (pixels_in front.entry.raw) more table.old carry.entry
-        (kept_bytes piece.entry.piece)
-        → InBlocks Tight ahead n (pixels_in result.0) more table.new result.1
-        (kept_bytes result.2) }
+        → InBlocks (style_of STYLE) ahead n (pixels_in front.entry.raw) more
+        table.old carry.entry (kept_bytes piece.entry.piece)
+        → InBlocks (style_of STYLE) ahead n (pixels_in result.0) more
+        table.new result.1 (kept_bytes result.2) }
 {
     let mut piece = piece.piece;
-    let mut coder = coder_after(carry);
-    let rest = coder.write_next(Tight, table, &mut piece, front.raw);
+    let mut coder = coder_after::<N, STYLE>(carry);
+    let rest = coder.write_next(table, &mut piece, front.raw);
     (rest, carried(&coder), piece)
 }
 
-// Writes a block, but for the repeats at its end, from one fresh pixel to the next; `marks` has a
-// bit for each. A fresh pixel came before it. Returns the rest, and what is carried.
+// Writes a block, but for the repeats at its end, from one fresh pixel to the next. A fresh pixel
+// came before it. Returns the rest, and what is carried.
 #[inline(always)]
-fn write_marked_block<'a, 'p, const N: usize, const ROOM: usize>(
-    style: Style,
+fn write_marked_block<'a, 'p, const N: usize, const STYLE: u8, const ROOM: usize>(
     table: &mut PixelTable,
     piece: OpenPiece<'p, ROOM>,
-    front: FrontBlock<'a, N>,
+    block: Marked<'a, N>,
     carry: Carry<N>,
-    marks: u64,
 ) -> (Pixels<'a, N>, Carry<N>, Piece<'p, ROOM>)
-    requires some { 0 < marks }
-    requires few { marks % 2 ≡ 0 → carry.count ≤ FRONT_CARRIED }
-    requires marks { marks ≡ fresh_marks (last_pixel carry.before) (take 16 (pixels_in front.raw)) }
-    ensures less { length (pixels_in result.0) < length (pixels_in front.entry.raw) }
+    requires some { 0 < block.marks }
+    requires few { block.marks % 2 ≡ 0 → carry.count ≤ FRONT_CARRIED }
+    requires marks { block.marks
+        ≡ fresh_marks (last_pixel carry.before) (take 16 (pixels_in block.front.raw)) }
+    ensures less { length (pixels_in result.0) < length (pixels_in block.entry.front.raw) }
     ensures written { (ahead : List ℕ) (n : ℕ) (more : List RgbaPixel)
-        → length (pixels_in front.entry.raw) < n
-        → InBlocks style ahead n (pixels_in front.entry.raw) more table.old carry.entry
-        (kept_bytes piece.entry.piece)
-        → InBlocks style ahead n (pixels_in result.0) more table.new result.1
-        (kept_bytes result.2) }
+        → length (pixels_in block.entry.front.raw) < n
+        → InBlocks (style_of STYLE) ahead n (pixels_in block.entry.front.raw) more
+        table.old carry.entry (kept_bytes piece.entry.piece)
+        → InBlocks (style_of STYLE) ahead n (pixels_in result.0) more
+        table.new result.1 (kept_bytes result.2) }
 {
     let mut piece = piece.piece;
-    let mut coder = coder_after(carry);
-    let rest = write_marked(&mut coder, style, table, &mut piece, front, marks);
+    let mut coder = coder_after::<N, STYLE>(carry);
+    let rest = write_marked(&mut coder, table, &mut piece, block);
     (rest, carried(&coder), piece)
 }
 
 // Writes what is at the front: a block, but for the repeats at its end; if all repeat, the full
 // runs of the repeats there, if any; or repeats and the fresh pixel after them, if in style `Tight`
-// a pixel may be given by another index position than its own. `whole` has the call's pixels, of
-// which these are the rest. Returns the rest, and what is carried.
+// a pixel may be given by another index position than its own. Returns the rest, and what is
+// carried.
 #[inline(always)]
-fn write_front<'a, 'p, const N: usize, const COPY: u8, const ROOM: usize>(
-    style: Style,
+fn write_front<'a, 'p, const N: usize, const STYLE: u8, const ROOM: usize>(
     table: &mut PixelTable,
     piece: OpenPiece<'p, ROOM>,
     front: FrontBlock<'a, N>,
     carry: Carry<N>,
-    whole: Pixels<N>,
 ) -> (Pixels<'a, N>, Carry<N>, Piece<'p, ROOM>)
     ensures less { length (pixels_in result.0) < length (pixels_in front.entry.raw) }
     ensures written { (ahead : List ℕ) (n : ℕ) (more : List RgbaPixel)
-        → length (pixels_in whole.entry) ≤ n
-        → InBlocks style ahead n (pixels_in front.entry.raw) more table.old carry.entry
-        (kept_bytes piece.entry.piece)
-        → InBlocks style ahead n (pixels_in result.0) more table.new result.1
-        (kept_bytes result.2) }
+        → length (pixels_in front.entry.whole) ≤ n
+        → InBlocks (style_of STYLE) ahead n (pixels_in front.entry.raw) more
+        table.old carry.entry (kept_bytes piece.entry.piece)
+        → InBlocks (style_of STYLE) ahead n (pixels_in result.0) more
+        table.new result.1 (kept_bytes result.2) }
 {
     let block = Block::first::<N>(front, carry);
     let marks = block.marks();
     if marks == 0 {
         return write_long_group(piece, front.raw, carry);
     }
-    if goes_by_marks(marks, carry, front.raw, whole) {
-        return write_marked_block(style, table, piece, front, carry, marks);
+    if goes_by_marks(marks, front, carry) {
+        let marked = Marked { front, marks };
+        return write_marked_block::<N, STYLE, ROOM>(table, piece, marked, carry);
     }
-    if block.may_miss_blank(style, table) {
-        return write_group(table, piece, front, carry);
+    if block.may_miss_blank(style_of::<STYLE>(), table) {
+        return write_group::<N, STYLE, ROOM>(table, piece, front, carry);
     }
-    let (after, piece) = write_block::<N, COPY, ROOM>(style, table, piece, block, carry);
+    let (after, piece) = write_block::<N, STYLE, ROOM>(table, piece, block, carry);
     (front.raw.skip(16), after, piece)
 }
 
 // Writes by blocks until the piece is full or fewer pixels than a block has are left. Returns the
 // rest, and what is carried.
 //
-// `COPY` is a number for the style, so that each has a loop of its own. The piece is a value, so
-// that the compiler keeps its fields in registers.
+// Each style has a loop of its own. The piece is a value, so that the compiler keeps its fields in
+// registers.
 #[inline(always)]
-fn fill<'a, 'p, const N: usize, const COPY: u8, const ROOM: usize>(
-    style: Style,
+fn fill<'a, 'p, const N: usize, const STYLE: u8, const ROOM: usize>(
     table: &mut PixelTable,
     piece: OpenPiece<'p, ROOM>,
     raw: Pixels<'a, N>,
@@ -210,22 +213,20 @@ fn fill<'a, 'p, const N: usize, const COPY: u8, const ROOM: usize>(
     ensures less { length (pixels_in result.0) < length (pixels_in raw.entry) }
     ensures written { (ahead : List ℕ) (n : ℕ) (more : List RgbaPixel)
         → length (pixels_in raw.entry) ≤ n
-        → InBlocks style ahead n (pixels_in raw.entry) more table.old carry.entry
-        (kept_bytes piece.entry.piece)
-        → InBlocks style ahead n (pixels_in result.0) more table.new result.1
-        (kept_bytes result.2) }
+        → InBlocks (style_of STYLE) ahead n (pixels_in raw.entry) more
+        table.old carry.entry (kept_bytes piece.entry.piece)
+        → InBlocks (style_of STYLE) ahead n (pixels_in result.0) more
+        table.new result.1 (kept_bytes result.2) }
 {
     let mut piece = piece.piece;
     let mut rest = raw;
     let mut now = carry;
     while !piece.is_full() && rest.has_block() {
-        (rest, now, piece) = write_front::<N, COPY, ROOM>(
-            style,
+        (rest, now, piece) = write_front::<N, STYLE, ROOM>(
             table,
             piece.open(),
-            rest.front(),
+            rest.front_of(raw),
             now,
-            raw,
         );
     }
     (rest, now, piece)
@@ -234,34 +235,35 @@ fn fill<'a, 'p, const N: usize, const COPY: u8, const ROOM: usize>(
 /// Writes what is at the front: blocks, until the piece is full or fewer pixels than a block has
 /// are left; or repeats and the fresh pixel after them; or pairs, until the piece is full or others
 /// come (`write_pairs`). Returns the rest. Any pixels may follow.
-pub(super) fn write_some<'a, 'p, const N: usize, const COPY: u8, const ROOM: usize>(
-    coder: &mut Coder<N>,
-    style: Style,
+pub(super) fn write_some<'a, 'p, const N: usize, const STYLE: u8, const ROOM: usize>(
+    last: &mut LastPixel,
     table: &mut PixelTable,
     piece: OpenPiece<'p, ROOM>,
     raw: Pixels<'a, N>,
 ) -> (Pixels<'a, N>, Piece<'p, ROOM>)
-    requires { 16 ≤ length (pixels_in raw) }
+    requires some { 16 ≤ length (pixels_in raw) }
+    requires opaque { N ≡ 3 → last.old.px.a ≡ 255 }
+    ensures opaque { N ≡ 3 → last.new.px.a ≡ 255 }
     ensures less { length (pixels_in result.0) < length (pixels_in raw.entry) }
     ensures written { (ahead : List ℕ) (more : List RgbaPixel)
-        → CoderBetween style ahead (pixels_in raw.entry ++ more) table.old coder.old.last
-        (kept_bytes piece.entry.piece)
-        → CoderBetween style ahead (pixels_in result.0 ++ more) table.new coder.new.last
-        (kept_bytes result.1) }
+        → CoderBetween (style_of STYLE) ahead (pixels_in raw.entry ++ more)
+        table.old last.old (kept_bytes piece.entry.piece)
+        → CoderBetween (style_of STYLE) ahead (pixels_in result.0 ++ more)
+        table.new last.new (kept_bytes result.1) }
 {
-    if go_by_pairs(coder.last.px, raw) {
-        let last = Coder::new(coder.last);
-        let (rest, after, piece) = write_pairs::<N, COPY, ROOM>(style, table, piece, raw, last);
-        *coder = after;
+    if go_by_pairs(last.px, raw) {
+        let (rest, after, piece) = write_pairs::<N, STYLE, ROOM>(*last, table, piece, raw);
+        *last = after;
         return (rest, piece);
     }
-    if !goes_by_blocks(style, coder.last, raw) {
+    let mut coder = Coder::<N>::new(style_of::<STYLE>(), *last);
+    if !goes_by_blocks(coder.style, coder.last, raw) {
         let mut piece = piece.piece;
-        let rest = coder.write_open(style, table, &mut piece, raw);
+        let rest = coder.write_open(table, &mut piece, raw);
+        *last = coder.last;
         return (rest, piece);
     }
-    let carry = carried(coder);
-    let (rest, after, piece) = fill::<N, COPY, ROOM>(style, table, piece, raw, carry);
-    *coder = coder_after(after);
+    let (rest, after, piece) = fill::<N, STYLE, ROOM>(table, piece, raw, carried(&coder));
+    *last = coder_after::<N, STYLE>(after).last;
     (rest, piece)
 }

@@ -7,6 +7,7 @@ ghost use Rattle.qoi.specs.Qoi.{channels_number, header_size, marker_size, heade
 ghost use Rattle.qoi.specs.Raw.{IsChannels, pixels_of};
 ghost use Rattle.qoi.specs.Styles.{WrittenIn};
 ghost use Rattle.qoi.specs.inner.CoderLoop.{CoderBetween};
+ghost use Rattle.qoi.specs.inner.CoderState.{style_of};
 ghost use Rattle.qoi.specs.inner.Piece.{kept_bytes, WroteFile, BeganFile};
 ghost use Rattle.qoi.specs.inner.Sending.{GoesOn, BreaksOff, Ends, EndsEarly, HasRoom, AreLeft};
 
@@ -22,12 +23,11 @@ use crate::types::Channels::{self, Rgb, Rgba};
 use crate::types::Style::{self, Places, Reference, Tight};
 use crate::writers::Writer;
 
-// `write_whole` for `N` channels. `COPY` is a number for each style, so that each has a function of
-// its own: one for all would test the style at each pixel.
+// `write_whole` for `N` channels, in the style of a number. Each has a function of its own: one for
+// all would test the style at each pixel.
 #[inline(always)]
-fn write_blocks<'a, 'p, W: Writer, const N: usize, const COPY: u8, const ROOM: usize>(
+fn write_blocks<'a, 'p, W: Writer, const N: usize, const STYLE: u8, const ROOM: usize>(
     writer: &mut W,
-    style: Style,
     table: &mut PixelTable,
     last: &mut LastPixel,
     piece: OpenPiece<'p, ROOM>,
@@ -37,34 +37,32 @@ fn write_blocks<'a, 'p, W: Writer, const N: usize, const COPY: u8, const ROOM: u
     requires whole { length «data».now % N ≡ 0 }
     requires opaque { N ≡ 3 → last.old.px.a ≡ 255 }
     requires large { 2 * PAST ≤ ROOM }
-    requires room { HasRoom (W.room writer.old) ROOM N style
+    requires room { HasRoom (W.room writer.old) ROOM N (style_of STYLE)
         (record { table = table.old; last = last.old }) (kept_bytes piece.piece) «data».now }
     ensures left { IfOk result (λ r. AreLeft N «data».entry.now r.0.now) }
     ensures opaque { N ≡ 3 → last.new.px.a ≡ 255 }
-    ensures written { IfOk result (λ r. GoesOn W.wrote N style writer.old
+    ensures written { IfOk result (λ r. GoesOn W.wrote N (style_of STYLE) writer.old
         (record { table = table.old; last = last.old })
         (kept_bytes piece.entry.piece) «data».entry.now writer.new
         (record { table = table.new; last = last.new }) (kept_bytes r.1.piece) r.0.now) }
-    ensures room { IfOk result (λ r. HasRoom (W.room writer.new) ROOM N style
+    ensures room { IfOk result (λ r. HasRoom (W.room writer.new) ROOM N (style_of STYLE)
         (record { table = table.new; last = last.new }) (kept_bytes r.1.piece) r.0.now) }
-    ensures refused { IfErr result (λ e. W.IsFault e × BreaksOff W.wrote N style writer.old
-        (record { table = table.old; last = last.old })
+    ensures refused { IfErr result (λ e. W.IsFault e × BreaksOff W.wrote N (style_of STYLE)
+        writer.old (record { table = table.old; last = last.old })
         (kept_bytes piece.entry.piece) «data».entry.now writer.new) }
 {
-    let mut coder = Coder::<N>::new(*last);
+    let mut now = *last;
     let mut piece = piece;
     let mut rest = Pixels::<N>::new(data);
     while rest.has_block() {
-        let (after, mut filled) = write_some::<N, COPY, ROOM>(
-            &mut coder, style, table, piece, rest,
-        );
+        let (after, mut filled) = write_some::<N, STYLE, ROOM>(&mut now, table, piece, rest);
         if filled.is_full() {
             filled.send(writer)?;
         }
         rest = after;
         piece = filled.open();
     }
-    *last = coder.last;
+    *last = now;
     Ok((rest.bytes, piece))
 }
 
@@ -99,16 +97,12 @@ pub(super) fn write_whole<'a, 'p, W: Writer, const ROOM: usize>(
 {
     // A loop for each pair, in which channels and style are constants.
     match (channels, style) {
-        (Rgb, Reference) => {
-            write_blocks::<W, 3, 0, ROOM>(writer, Reference, table, last, piece, data)
-        }
-        (Rgb, Places) => write_blocks::<W, 3, 1, ROOM>(writer, Places, table, last, piece, data),
-        (Rgb, Tight) => write_blocks::<W, 3, 2, ROOM>(writer, Tight, table, last, piece, data),
-        (Rgba, Reference) => {
-            write_blocks::<W, 4, 0, ROOM>(writer, Reference, table, last, piece, data)
-        }
-        (Rgba, Places) => write_blocks::<W, 4, 1, ROOM>(writer, Places, table, last, piece, data),
-        (Rgba, Tight) => write_blocks::<W, 4, 2, ROOM>(writer, Tight, table, last, piece, data),
+        (Rgb, Reference) => write_blocks::<W, 3, 0, ROOM>(writer, table, last, piece, data),
+        (Rgb, Places) => write_blocks::<W, 3, 1, ROOM>(writer, table, last, piece, data),
+        (Rgb, Tight) => write_blocks::<W, 3, 2, ROOM>(writer, table, last, piece, data),
+        (Rgba, Reference) => write_blocks::<W, 4, 0, ROOM>(writer, table, last, piece, data),
+        (Rgba, Places) => write_blocks::<W, 4, 1, ROOM>(writer, table, last, piece, data),
+        (Rgba, Tight) => write_blocks::<W, 4, 2, ROOM>(writer, table, last, piece, data),
     }
 }
 
@@ -129,15 +123,15 @@ fn write_rest<const N: usize, const ROOM: usize>(
     ensures written { (ahead : List ℕ) → CoderBetween style ahead (pixels_of N left.now)
         table.old last (kept_bytes piece.old) → ahead ≡ kept_bytes piece.new }
 {
-    let mut coder = Coder::<N>::new(last);
+    let mut coder = Coder::<N>::new(style, last);
     let rest = Pixels::<N>::new(left);
     if rest.is_empty() {
         coder.write_last(piece);
     } else if ROOM == FEW_ROOM {
         // Inlined, since it is most of what is done.
-        coder.write_each(style, table, piece, rest);
+        coder.write_each(table, piece, rest);
     } else {
-        coder.write_few(style, table, piece, rest);
+        coder.write_few(table, piece, rest);
     }
 }
 

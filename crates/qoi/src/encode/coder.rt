@@ -11,7 +11,7 @@ ghost use Rattle.qoi.specs.Runs.{runs_by};
 ghost use Rattle.qoi.specs.Written.{IsFirst};
 ghost use Rattle.qoi.specs.Styles.{choice_in};
 ghost use Rattle.qoi.specs.inner.CoderLoop.{CoderAfter, CoderBetween, single};
-ghost use Rattle.qoi.specs.inner.CoderState.{held_in, last_chunk};
+ghost use Rattle.qoi.specs.inner.CoderState.{held_in, last_chunk, style_of};
 ghost use Rattle.qoi.specs.inner.SpelledOut.{HasBytes};
 ghost use Rattle.qoi.specs.inner.Piece.{kept_bytes};
 ghost use Rattle.qoi.specs.inner.Table.{Holds};
@@ -20,18 +20,30 @@ use crate::consts::{QOI_OP_RUN, QOI_RUN_MAX};
 use crate::encode::fresh::spell_pixel;
 use crate::encode::last_pixel::LastPixel;
 use crate::encode::piece::{Piece, REPEATS_AT_ONCE};
-use crate::encode::pixels::{PixelOf, Pixels};
+use crate::encode::pixels::{Group, PixelOf, Pixels};
 use crate::encode::runs::repeats_of;
 use crate::encode::table::PixelTable;
 use crate::packed::Packed;
 use crate::types::Style::{self, Places, Reference, Tight};
 use crate::utils::pick;
 
-/// Writes pixels of `N` channels one by one, after this last one. The table is passed beside it, so
-/// that these few stay in registers, and so is the style, which is a constant where loops are
-/// called.
+/// The style of a number. It is a constant for the compiler, so that each number has loops of its own.
+#[inline(always)]
+pub(super) fn style_of<const STYLE: u8>() -> Style
+    ensures { result ≡ style_of STYLE }
+{
+    if STYLE == 0 {
+        return Reference;
+    }
+    if STYLE == 1 { Places } else { Tight }
+}
+
+/// Writes pixels of `N` channels one by one, in this style and after this last one. The table is
+/// passed beside it, so that these few stay in registers. Where loops are called, the style is that
+/// of a number (`style_of`), which no register holds.
 #[derive(Drop)]
 pub(super) struct Coder<const N: usize> {
+    pub(super) style: Style,
     pub(super) last: LastPixel,
     ghost channels: { IsChannels N } by { IsChannels-prop N },
     ghost opaque: { N ≡ 3 → last.px.a ≡ 255 },
@@ -40,25 +52,26 @@ pub(super) struct Coder<const N: usize> {
 impl<const N: usize> Coder<N> {
     ghost use Rattle.qoi.specs.inner.Pixels.{pixels_in};
 
-    /// The coder after this pixel.
+    /// The coder in this style, after this pixel.
     #[inline(always)]
-    pub(super) fn new(last: LastPixel) -> Coder<N>
+    pub(super) fn new(style: Style, last: LastPixel) -> Coder<N>
         requires channels { IsChannels N }
         requires opaque { N ≡ 3 → last.px.a ≡ 255 }
-        ensures { result.last ≡ last }
+        ensures style { result.style ≡ style }
+        ensures last { result.last ≡ last }
     {
-        Coder { last }
+        Coder { style, last }
     }
 
     // The byte of the single repeat left of `count` after runs of 62, before a fresh pixel; unused
     // if none or several are left. A run of 1; in style `Places` the index position, if a fresh
     // pixel came earlier and the chunk before isn't that position (a run of 62 never is).
     #[inline(always)]
-    fn single_repeat_byte(&self, style: Style, count: usize) -> u8
-        ensures { bytes_of (single style self.now.last count) ≡ result ∷ [] }
+    fn single_repeat_byte(&self, count: usize) -> u8
+        ensures { bytes_of (single self.now.style self.now.last count) ≡ result ∷ [] }
     {
         let named = self.last.begun & ((count > 1) | !self.last.placed);
-        match style {
+        match self.style {
             Reference | Tight => QOI_OP_RUN,
             Places => pick(named, self.last.px.hash_index(), QOI_OP_RUN),
         }
@@ -68,23 +81,18 @@ impl<const N: usize> Coder<N> {
     // left. Only style `Tight` puts the pixel at its position; that changes the table only before
     // the first fresh pixel.
     #[inline(always)]
-    fn update_after_repeats(
-        &mut self,
-        style: Style,
-        table: &mut PixelTable,
-        count: usize,
-        left: usize,
-    )
+    fn update_after_repeats(&mut self, table: &mut PixelTable, count: usize, left: usize)
         requires { left < run_max }
+        ensures style { self.new.style ≡ self.old.style }
         ensures same { (self.new.last.px ≡ self.old.last.px)
             × (self.new.last.begun ≡ self.old.last.begun) }
         ensures left { self.new.last.repeats ≡ left }
         ensures state { (past : Past) (before : Option Chunk)
-            → CoderAfter style past before table.old self.old.last
-            → CoderAfter style (replicate count (previous past) ++ past)
+            → CoderAfter self.old.style past before table.old self.old.last
+            → CoderAfter self.old.style (replicate count (previous past) ++ past)
             (last_chunk before (runs_by (Chunk.Run 1) count)) table.new self.new.last }
     {
-        match style {
+        match self.style {
             Reference | Places => {}
             Tight => table.put_if(count > 0, self.last.px.hash_index(), self.last.px),
         }
@@ -100,30 +108,24 @@ impl<const N: usize> Coder<N> {
     // that is passed; but in style `Tight`, for transparent black, the least position that holds
     // it (no pixel was put there), if there is one.
     #[inline(always)]
-    fn chunk_if_absent(
-        style: Style,
-        table: &PixelTable,
-        px: Packed,
-        number: u32,
-        size: u32,
-    ) -> (u32, u32)
-        ensures few { size ≤ N + 1 → result.1 ≤ N + 1 }
+    fn chunk_if_absent(&self, table: &PixelTable, px: Packed, spelled: (u32, u32)) -> (u32, u32)
+        ensures few { spelled.1 ≤ N + 1 → result.1 ≤ N + 1 }
         ensures choice { (past : Past) (alpha : ℕ) (c : Chunk)
-            → Holds table.now (held_in style past)
-            → IsChunk c → HasBytes alpha number size c → IsFirst past px c
-            → seen (held_in style past) (hash px) ≢ px
+            → Holds table.now (held_in self.now.style past)
+            → IsChunk c → HasBytes alpha spelled.0 spelled.1 c → IsFirst past px c
+            → seen (held_in self.now.style past) (hash px) ≢ px
             → (d : Chunk) × IsChunk d × HasBytes alpha result.0 result.1 d
-            × choice_in style past px d }
+            × choice_in self.now.style past px d }
     {
-        match style {
-            Reference | Places => (number, size),
+        match self.style {
+            Reference | Places => spelled,
             Tight => {
                 if px.is_same(Packed::blank()) {
                     if let Some(place) = table.first_blank() {
                         return (u32::from(place), 1);
                     }
                 }
-                (number, size)
+                spelled
             }
         }
     }
@@ -131,10 +133,10 @@ impl<const N: usize> Coder<N> {
     // Whether the last chunk names its pixel's index position, in the style that asks for it; in
     // others a constant, which no register holds.
     #[inline(always)]
-    fn placed_in(style: Style, stands: bool) -> bool
-        ensures { style ≡ Places → result ≡ stands }
+    fn placed_if(&self, stands: bool) -> bool
+        ensures { self.now.style ≡ Places → result ≡ stands }
     {
-        match style {
+        match self.style {
             Reference | Tight => false,
             Places => stands,
         }
@@ -145,31 +147,31 @@ impl<const N: usize> Coder<N> {
     #[inline(always)]
     fn write_pixel<const ROOM: usize>(
         &mut self,
-        style: Style,
         table: &mut PixelTable,
         piece: &mut Piece<ROOM>,
         next: PixelOf<N>,
     )
         requires { piece.old.end + (chunk_max + marker_size) ≤ ROOM }
         ensures end { piece.new.end ≤ piece.old.end + chunk_max }
+        ensures style { self.new.style ≡ self.old.style }
         ensures begun { (self.new.last.begun ≡ true) × (self.new.last.repeats ≡ 0) }
         ensures px { self.new.last.px ≡ next.entry.px }
         ensures written { (ahead : List ℕ) (rest : List RgbaPixel)
             → next.entry.px ≢ self.old.last.px → self.old.last.repeats ≡ 0
-            → CoderBetween style ahead (next.entry.px ∷ rest) table.old self.old.last
+            → CoderBetween self.old.style ahead (next.entry.px ∷ rest) table.old self.old.last
             (kept_bytes piece.old)
-            → CoderBetween style ahead rest table.new self.new.last (kept_bytes piece.new) }
+            → CoderBetween self.new.style ahead rest table.new self.new.last (kept_bytes piece.new) }
     {
         let px = next.px;
         let place = px.hash_index();
         let stands = table.at(place).is_same(px);
-        let (number, size) = spell_pixel::<N>(self.last.px, px);
-        let (number, size) = Coder::<N>::chunk_if_absent(style, table, px, number, size);
+        let spelled = spell_pixel::<N>(self.last.px, px);
+        let (number, size) = self.chunk_if_absent(table, px, spelled);
         table.put(place, px);
         self.last = LastPixel {
             px,
             begun: true,
-            placed: Coder::<N>::placed_in(style, stands),
+            placed: self.placed_if(stands),
             repeats: 0,
         };
         let number = pick(stands, u32::from(place), number);
@@ -182,7 +184,6 @@ impl<const N: usize> Coder<N> {
     #[inline(always)]
     fn write_runs<const ROOM: usize>(
         &mut self,
-        style: Style,
         table: &mut PixelTable,
         piece: &mut Piece<ROOM>,
         raw: Pixels<N>,
@@ -194,13 +195,14 @@ impl<const N: usize> Coder<N> {
         ensures none { drop result (pixels_in raw.entry) ≢ [] → self.new.last.repeats ≡ 0 }
         ensures some { slice_get (drop result (pixels_in raw.entry)) 0 ≡ Some self.old.last.px
             → 0 < result }
+        ensures style { self.new.style ≡ self.old.style }
         ensures same { (self.new.last.px ≡ self.old.last.px)
             × (self.new.last.begun ≡ self.old.last.begun) }
         ensures written { (ahead : List ℕ) (more : List RgbaPixel)
-            → CoderBetween style ahead (pixels_in raw.entry ++ more) table.old self.old.last
-            (kept_bytes piece.old)
-            → CoderBetween style ahead (drop result (pixels_in raw.entry) ++ more) table.new
-            self.new.last (kept_bytes piece.new) }
+            → CoderBetween self.old.style ahead (pixels_in raw.entry ++ more)
+            table.old self.old.last (kept_bytes piece.old)
+            → CoderBetween self.new.style ahead (drop result (pixels_in raw.entry) ++ more)
+            table.new self.new.last (kept_bytes piece.new) }
     {
         let carried = self.last.repeats;
         if carried == 0 && !raw.begin_with(self.last.px) {
@@ -215,46 +217,47 @@ impl<const N: usize> Coder<N> {
         piece.append_full_runs(runs);
         if raw.ends_after(ahead) {
             // Others may follow.
-            self.update_after_repeats(style, table, QOI_RUN_MAX * runs, left);
+            self.update_after_repeats(table, QOI_RUN_MAX * runs, left);
             return ahead;
         }
         // If more than 992 repeat, 992 are counted: sixteen runs of 62, and no single one.
-        piece.append_run(left, self.single_repeat_byte(style, count));
-        self.update_after_repeats(style, table, count, 0);
+        piece.append_run(left, self.single_repeat_byte(count));
+        self.update_after_repeats(table, count, 0);
         ahead
     }
 
-    /// Writes the repeats that came before these pixels and the first `ahead` ones, which repeat, too,
-    /// all as one run, and the fresh pixel after them. Returns the rest.
+    /// Writes the repeats that came before these pixels and those ahead, all as one run, and the fresh
+    /// pixel after them. Returns the rest.
     #[inline(always)]
     pub(super) fn write_short_group<'a, const ROOM: usize>(
         &mut self,
-        style: Style,
         table: &mut PixelTable,
         piece: &mut Piece<ROOM>,
-        raw: Pixels<'a, N>,
-        ahead: usize,
+        group: Group<'a, N>,
     ) -> Pixels<'a, N>
-        requires few { self.old.last.repeats + ahead < run_max }
-        requires inside { ahead < length (pixels_in raw) }
-        requires repeat { take ahead (pixels_in raw) ≡ replicate ahead self.old.last.px }
-        requires fresh { slice_get (pixels_in raw) ahead ≢ Some self.old.last.px }
+        requires few { self.old.last.repeats + group.ahead < run_max }
+        requires repeat { take group.ahead (pixels_in group.raw)
+            ≡ replicate group.ahead self.old.last.px }
+        requires fresh { slice_get (pixels_in group.raw) group.ahead ≢ Some self.old.last.px }
         requires room { piece.old.end + (1 + chunk_max + marker_size) ≤ ROOM }
         ensures end { piece.new.end ≤ piece.old.end + (1 + chunk_max) }
+        ensures style { self.new.style ≡ self.old.style }
         ensures begun { (self.new.last.begun ≡ true) × (self.new.last.repeats ≡ 0) }
-        ensures px { slice_get (pixels_in raw.entry) ahead ≡ Some self.new.last.px }
-        ensures rest { pixels_in result ≡ drop (ahead + 1) (pixels_in raw.entry) }
+        ensures px { slice_get (pixels_in group.entry.raw) group.entry.ahead
+            ≡ Some self.new.last.px }
+        ensures rest { pixels_in result
+            ≡ drop (group.entry.ahead + 1) (pixels_in group.entry.raw) }
         ensures written { (all : List ℕ) (more : List RgbaPixel)
-            → CoderBetween style all (pixels_in raw.entry ++ more) table.old self.old.last
-            (kept_bytes piece.old)
-            → CoderBetween style all (pixels_in result ++ more) table.new self.new.last
-            (kept_bytes piece.new) }
+            → CoderBetween self.old.style all (pixels_in group.entry.raw ++ more)
+            table.old self.old.last (kept_bytes piece.old)
+            → CoderBetween self.new.style all (pixels_in result ++ more)
+            table.new self.new.last (kept_bytes piece.new) }
     {
-        let count = self.last.repeats + ahead;
-        piece.append_run(count, self.single_repeat_byte(style, count));
-        self.update_after_repeats(style, table, count, 0);
-        let after = raw.skip(ahead);
-        self.write_pixel(style, table, piece, after.first());
+        let count = self.last.repeats + group.ahead;
+        piece.append_run(count, self.single_repeat_byte(count));
+        self.update_after_repeats(table, count, 0);
+        let after = group.raw.skip(group.ahead);
+        self.write_pixel(table, piece, after.first());
         after.skip(1)
     }
 
@@ -263,7 +266,6 @@ impl<const N: usize> Coder<N> {
     #[inline(always)]
     pub(super) fn write_next<'a, const ROOM: usize>(
         &mut self,
-        style: Style,
         table: &mut PixelTable,
         piece: &mut Piece<ROOM>,
         raw: Pixels<'a, N>,
@@ -276,19 +278,20 @@ impl<const N: usize> Coder<N> {
             ≤ piece.old.end + chunk_max * length (pixels_in raw.entry) }
         ensures less { length (pixels_in result) < length (pixels_in raw.entry) }
         ensures none { pixels_in result ≢ [] → self.new.last.repeats ≡ 0 }
+        ensures style { self.new.style ≡ self.old.style }
         ensures begun { self.old.last.begun ≡ true → self.new.last.begun ≡ true }
         ensures written { (ahead : List ℕ) (more : List RgbaPixel)
-            → CoderBetween style ahead (pixels_in raw.entry ++ more) table.old self.old.last
-            (kept_bytes piece.old)
-            → CoderBetween style ahead (pixels_in result ++ more) table.new self.new.last
-            (kept_bytes piece.new) }
+            → CoderBetween self.old.style ahead (pixels_in raw.entry ++ more)
+            table.old self.old.last (kept_bytes piece.old)
+            → CoderBetween self.new.style ahead (pixels_in result ++ more)
+            table.new self.new.last (kept_bytes piece.new) }
     {
-        let count = self.write_runs(style, table, piece, raw);
+        let count = self.write_runs(table, piece, raw);
         let after = raw.skip(count);
         if after.is_empty() || after.begin_with(self.last.px) {
             return after;
         }
-        self.write_pixel(style, table, piece, after.first());
+        self.write_pixel(table, piece, after.first());
         after.skip(1)
     }
 
@@ -296,7 +299,6 @@ impl<const N: usize> Coder<N> {
     #[inline(never)]
     pub(super) fn write_few<const ROOM: usize>(
         &mut self,
-        style: Style,
         table: &mut PixelTable,
         piece: &mut Piece<ROOM>,
         raw: Pixels<N>,
@@ -304,10 +306,10 @@ impl<const N: usize> Coder<N> {
         requires few { length (pixels_in raw) < 16 }
         requires not_full { piece.old.end < ROOM - PAST }
         ensures written { (ahead : List ℕ)
-            → CoderBetween style ahead (pixels_in raw.entry) table.old self.old.last
+            → CoderBetween self.old.style ahead (pixels_in raw.entry) table.old self.old.last
             (kept_bytes piece.old) → ahead ≡ kept_bytes piece.new }
     {
-        self.write_each(style, table, piece, raw);
+        self.write_each(table, piece, raw);
     }
 
     /// Writes the repeats that came before, and an image's last pixels, fewer than a block has, one
@@ -315,7 +317,6 @@ impl<const N: usize> Coder<N> {
     #[inline(always)]
     pub(super) fn write_each<const ROOM: usize>(
         &mut self,
-        style: Style,
         table: &mut PixelTable,
         piece: &mut Piece<ROOM>,
         raw: Pixels<N>,
@@ -323,12 +324,12 @@ impl<const N: usize> Coder<N> {
         requires few { length (pixels_in raw) < 16 }
         requires not_full { piece.old.end < ROOM - PAST }
         ensures written { (ahead : List ℕ)
-            → CoderBetween style ahead (pixels_in raw.entry) table.old self.old.last
+            → CoderBetween self.old.style ahead (pixels_in raw.entry) table.old self.old.last
             (kept_bytes piece.old) → ahead ≡ kept_bytes piece.new }
     {
         let mut rest = raw;
         while !rest.is_empty() {
-            rest = self.write_next(style, table, piece, rest);
+            rest = self.write_next(table, piece, rest);
         }
         piece.append_run(self.last.repeats, QOI_OP_RUN);
     }
@@ -337,8 +338,8 @@ impl<const N: usize> Coder<N> {
     #[inline(always)]
     pub(super) fn write_last<const ROOM: usize>(&self, piece: &mut Piece<ROOM>)
         requires { piece.old.end < ROOM - PAST }
-        ensures { (style : Style) (ahead : List ℕ) (table : List RgbaPixel)
-            → CoderBetween style ahead [] table self.now.last (kept_bytes piece.old)
+        ensures { (ahead : List ℕ) (table : List RgbaPixel)
+            → CoderBetween self.now.style ahead [] table self.now.last (kept_bytes piece.old)
             → ahead ≡ kept_bytes piece.new }
     {
         piece.append_run(self.last.repeats, QOI_OP_RUN);
@@ -348,20 +349,20 @@ impl<const N: usize> Coder<N> {
     #[inline(never)]
     pub(super) fn write_open<'a, const ROOM: usize>(
         &mut self,
-        style: Style,
         table: &mut PixelTable,
         piece: &mut Piece<ROOM>,
         raw: Pixels<'a, N>,
     ) -> Pixels<'a, N>
         requires some { pixels_in raw ≢ [] }
         requires room { piece.old.end + (RUNS_AT_ONCE + 1 + chunk_max + marker_size) ≤ ROOM }
+        ensures style { self.new.style ≡ self.old.style }
         ensures less { length (pixels_in result) < length (pixels_in raw.entry) }
         ensures written { (ahead : List ℕ) (more : List RgbaPixel)
-            → CoderBetween style ahead (pixels_in raw.entry ++ more) table.old self.old.last
-            (kept_bytes piece.old)
-            → CoderBetween style ahead (pixels_in result ++ more) table.new self.new.last
-            (kept_bytes piece.new) }
+            → CoderBetween self.old.style ahead (pixels_in raw.entry ++ more)
+            table.old self.old.last (kept_bytes piece.old)
+            → CoderBetween self.new.style ahead (pixels_in result ++ more)
+            table.new self.new.last (kept_bytes piece.new) }
     {
-        self.write_next(style, table, piece, raw)
+        self.write_next(table, piece, raw)
     }
 }

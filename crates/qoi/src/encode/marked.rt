@@ -13,9 +13,8 @@ use crate::encode::carry::{Carry, FRONT_CARRIED};
 use crate::encode::coder::Coder;
 use crate::encode::last_pixel::LastPixel;
 use crate::encode::piece::Piece;
-use crate::encode::pixels::{FrontBlock, Pixels};
+use crate::encode::pixels::{FrontBlock, Group, Marked, Pixels};
 use crate::encode::table::PixelTable;
-use crate::types::Style;
 
 // Whether at most two bits are set: each step drops the lowest.
 #[inline(always)]
@@ -24,59 +23,62 @@ fn are_few(marks: u64) -> bool {
     others & others.wrapping_sub(1) == 0
 }
 
-/// Whether a block at the front of `raw` with these marks goes pixel by pixel: if at most two are
-/// fresh. Not in three channels, where photographs take longer for it; nor the first block of the
-/// pixels `whole`, before which there may be no fresh one.
+/// Whether a block with these marks goes pixel by pixel: if at most two are fresh. Not in three
+/// channels, where photographs take longer for it; nor the first block of a call's pixels, before
+/// which there may be no fresh one.
 #[inline(always)]
 pub(super) fn goes_by_marks<const N: usize>(
     marks: u64,
+    front: FrontBlock<N>,
     carry: Carry<N>,
-    raw: Pixels<N>,
-    whole: Pixels<N>,
 ) -> bool
     ensures few { IsTrue result → marks % 2 ≡ 0 → carry.entry.count ≤ FRONT_CARRIED }
     ensures later { IsTrue result
-        → length (pixels_in raw.entry) < length (pixels_in whole.entry) }
+        → length (pixels_in front.entry.raw) < length (pixels_in front.entry.whole) }
 {
     if N == 3 || !are_few(marks) {
         return false;
     }
     let joins = (usize::from(carry.count) <= FRONT_CARRIED) | (marks % 2 == 1);
-    joins && raw.are_fewer(whole)
+    joins && front.raw.are_fewer(front.whole)
 }
 
 /// Writes the repeats that came before a block and its pixels, but for the repeats at its end.
-/// `marks` has a bit for each fresh pixel. Returns the pixels after the block.
+/// Returns the pixels after the block.
 #[inline(always)]
 pub(super) fn write_marked<'a, const N: usize, const ROOM: usize>(
     coder: &mut Coder<N>,
-    style: Style,
     table: &mut PixelTable,
     piece: &mut Piece<ROOM>,
-    front: FrontBlock<'a, N>,
-    marks: u64,
+    block: Marked<'a, N>,
 ) -> Pixels<'a, N>
-    requires few { slice_get (pixels_in front.raw) 0 ≡ Some coder.old.last.px
+    requires few { slice_get (pixels_in block.front.raw) 0 ≡ Some coder.old.last.px
         → coder.old.last.repeats ≤ FRONT_CARRIED }
     requires room { piece.old.end < ROOM - PAST }
-    requires some { 0 < marks }
-    requires marks { marks ≡ fresh_marks coder.old.last.px (take 16 (pixels_in front.raw)) }
-    ensures rest { pixels_in result ≡ drop 16 (pixels_in front.entry.raw) }
+    requires some { 0 < block.marks }
+    requires marks { block.marks
+        ≡ fresh_marks coder.old.last.px (take 16 (pixels_in block.front.raw)) }
+    ensures style { coder.new.style ≡ coder.old.style }
+    ensures rest { pixels_in result ≡ drop 16 (pixels_in block.entry.front.raw) }
     ensures few { coder.new.last.repeats ≤ FRONT_CARRIED }
     ensures begun { coder.new.last.begun ≡ true }
     ensures written { (all : List ℕ) (more : List RgbaPixel)
-        → CoderBetween style all (pixels_in front.entry.raw ++ more) table.old coder.old.last
-        (kept_bytes piece.old)
-        → CoderBetween style all (pixels_in result ++ more) table.new coder.new.last
-        (kept_bytes piece.new) }
+        → CoderBetween coder.old.style all (pixels_in block.entry.front.raw ++ more)
+        table.old coder.old.last (kept_bytes piece.old)
+        → CoderBetween coder.new.style all (pixels_in result ++ more)
+        table.new coder.new.last (kept_bytes piece.new) }
 {
-    let mut rest = front.raw;
+    let mut rest = block.front.raw;
     // How many pixels of the block are left, and their marks.
     let mut count = 16;
-    let mut left = marks;
+    let mut left = block.marks;
     while left != 0 {
         let ahead = left.trailing_zeros();
-        rest = coder.write_short_group(style, table, piece, rest, ahead as usize);
+        let group = Group {
+            raw: rest,
+            ahead: ahead as usize,
+        };
+        rest = coder.write_short_group(table, piece, group);
         count -= ahead as usize + 1;
         left = (left >> ahead) / 2;
     }

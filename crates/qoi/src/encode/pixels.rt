@@ -22,12 +22,28 @@ pub(super) struct PixelOf<const N: usize> {
     ghost opaque: { N ≡ 3 → px.a ≡ 255 },
 }
 
-/// Pixels that begin with a block: sixteen or more.
+/// Pixels of which the first `ahead` ones are repeats, and another pixel after them.
+#[derive(Clone, Copy)]
+pub(super) struct Group<'a, const N: usize> {
+    pub(super) raw: Pixels<'a, N>,
+    pub(super) ahead: usize,
+    ghost inside: { ahead < length (pixels_of N raw.bytes.now) },
+}
+
+/// Pixels that begin with a block, sixteen or more: what is left of a call's pixels, `whole`.
 #[derive(Clone, Copy)]
 pub(super) struct FrontBlock<'a, const N: usize> {
     pub(super) raw: Pixels<'a, N>,
+    pub(super) whole: Pixels<'a, N>,
     ghost enough: { 16 ≤ length (pixels_of N raw.bytes.now) },
     ghost long: { N * 16 ≤ length raw.bytes.now },
+}
+
+/// Such pixels, and a bit for each fresh one of the block.
+#[derive(Clone, Copy)]
+pub(super) struct Marked<'a, const N: usize> {
+    pub(super) front: FrontBlock<'a, N>,
+    pub(super) marks: u64,
 }
 
 impl<'a, const N: usize> Pixels<'a, N> {
@@ -68,13 +84,14 @@ impl<'a, const N: usize> Pixels<'a, N> {
         self.bytes.len() < than.bytes.len()
     }
 
-    /// These pixels, of which a block or more are left.
+    /// These pixels, a block or more, which are left of others.
     #[inline(always)]
-    pub(super) fn front(self) -> FrontBlock<'a, N>
+    pub(super) fn front_of(self, whole: Pixels<'a, N>) -> FrontBlock<'a, N>
         requires { 16 ≤ length (pixels_in self) }
-        ensures { result.raw ≡ self.entry }
+        ensures raw { result.raw ≡ self.entry }
+        ensures whole { result.whole ≡ whole.entry }
     {
-        FrontBlock { raw: self }
+        FrontBlock { raw: self, whole }
     }
 
     /// Whether there are `count`, and no more.

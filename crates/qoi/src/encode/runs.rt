@@ -34,7 +34,7 @@ pub(super) fn repeats_of<const N: usize>(raw: Pixels<N>, pixel: PixelOf<N>) -> u
     let mut count = 0;
     let mut rest = raw;
     while rest.has_block() {
-        let more = repeats_in_block::<N>(rest.front(), px);
+        let more = repeats_in_block::<N>(rest.front_of(raw), px);
         count += more;
         if more < 16 {
             return count;

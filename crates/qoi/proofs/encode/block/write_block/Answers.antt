@@ -8,7 +8,7 @@ use Rattle.qoi.specs.Raw.{IsChannels, AreOpaque}
 use Rattle.qoi.specs.Styles.{some_fresh, names}
 use Rattle.qoi.specs.inner.block.State.{State, group_bytes, lanes_of}
 use Rattle.qoi.specs.inner.CoderLoop.{Ahead}
-use Rattle.qoi.specs.inner.CoderState.{held_in}
+use Rattle.qoi.specs.inner.CoderState.{held_in, style_of}
 use Rattle.qoi.specs.inner.Piece.{kept_bytes}
 use Rattle.qoi.specs.inner.block.Bytes.{sizes}
 use Rattle.qoi.specs.inner.block.Block.{last_pixel, all_repeat}
@@ -41,7 +41,7 @@ put_block-stands-requires-clause-below g c = λ k lt.
 
 pub returns : goal.returns
 returns g c = λ ahead n rest more fits b.
-    let style = c.args.style in
+    let style = style_of g.row.STYLE in
     let carry = c.args.carry in
     let q = previous b.past in
     let s : State = record { held = held_in style b.past; last = q; carry = carry.count; placed = names b.before (hash q) } in
@@ -71,6 +71,8 @@ returns g c = λ ahead n rest more fits b.
     sym (take-take end (g.row.ROOM - 16) c.store_places.new.out low) ∙ ap (take end) c.store_places.ensures.front ∙ take-take end (g.row.ROOM - 16) c.args.piece.piece.bytes.now low in
     let at : c.index_positions-places.result ≡ map hash all = c.index_positions-places.ensures all sixteen planes in
     let put = c.put_block-stands.ensures s.held all b.state.table_is sixteen (block_words words c.args.block.packed) (read_back g.row.ROOM c.store_run.new.out v (c.store_run.ensures.same ∙ c.store_places.ensures.same ∙ c.args.piece.piece.room) lanes ∙ at) in
+    let run : 0 < carry.count → take (end + 1) c.store_run.new.out ≡ take end c.store_places.new.out ++ group_bytes style carry.placed (last_pixel carry.before) carry.count =
+    λ some. subst (λ s. take (end + 1) c.store_run.new.out ≡ take end c.store_places.new.out ++ group_bytes s carry.placed (last_pixel carry.before) carry.count) c.style_of-style.ensures (c.store_run.ensures.run some) in
     let placed : style ≡ Places → s.placed ≡ carry.placed = λ is. sym (b.state.placed_is is) in
     let spelled = c.spell-x.ensures s b.to_write.before_is b.state.last_is fits.changes refl placed put.stands_are at in
     let x = c.spell-x.result in
@@ -79,13 +81,13 @@ returns g c = λ ahead n rest more fits b.
     let now = ready style ahead s all later x _ carry.placed (last_pixel carry.before) carry.count _ _ c.args.carry.few (λ e. b.few (sym first ∙ e)) start
     spelled sixteen refl q_is refl placed
     (group_stored style (rep == 0) carry.placed (last_pixel carry.before) carry.count end c.run_end-start.result c.args.piece.piece.bytes.now c.store_run.new.out
-    (c.store_run.ensures.front ∙ front) (λ some. c.store_run.ensures.run some ∙ ap (λ z. z ++ group_bytes style carry.placed (last_pixel carry.before) carry.count) front)
+    (c.store_run.ensures.front ∙ front) (λ some. run some ∙ ap (λ z. z ++ group_bytes style carry.placed (last_pixel carry.before) carry.count) front)
     (λ e. c.run_end-start.ensures.stays (omega (arith, first_repeats s all x spelled sixteen e, c.args.carry.few)))
     (λ e. c.run_end-start.ensures.stays (omega (arith, e)))
     (λ e some. c.run_end-start.ensures.some (omega (arith, eqb-true rep 0 e, some)))) in
     block_step style ahead n s rest more all x c.args.block.planes c.put_block-stands.new.table c.carry.result _ _ sixteen
     (subst (λ q. all_repeat q all ≡ false) (sym q_is) fits.mixed) planes now put.holds
     (λ t held same tight. fits.no_blank tight t (subst (Holds c.args.table.now) (sym held) b.state.table_is) (same ∙ b.state.last_is))
-    c.carry.ensures.before c.carry.ensures.count (λ is. c.carry.ensures.placed (stand_tests s.held all) is put.stands_are)
+    c.carry.ensures.before c.carry.ensures.count (λ is. c.carry.ensures.placed (stand_tests s.held all) (c.style_of-style.ensures ∙ is) put.stands_are)
     (λ t same last_is few. c.store_sixteen-end.ensures.written style t all sixteen (subst IsPixel (sym last_is) b.to_write.before_is) planes same (omega arith)
     (sizes_in g.row.N t t.last all x.size carry.channels c.requires (λ three. ap (λ z. z.a) (last_is ∙ q_is) ∙ carry.opaque three) same.size_is))

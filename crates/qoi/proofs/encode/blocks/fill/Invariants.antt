@@ -3,6 +3,7 @@ use Rattle.std.proofs.Common.{◌≡◌, ◌⊎◌, ℕ, List, ◌-◌, ◌<◌,
 use Rattle.qoi.specs.declared.encode.piece.TheConstants.{PAST}
 use Rattle.qoi.specs.Qoi.{RgbaPixel}
 use Rattle.qoi.specs.inner.BlockLoop.{InBlocks}
+use Rattle.qoi.specs.inner.CoderState.{style_of}
 use Rattle.qoi.specs.inner.Piece.{kept_bytes}
 use Rattle.qoi.specs.inner.Pixels.{pixels_in}
 use Rattle.qoi.proofs.encode.blocks.fill.Given as goal
@@ -10,8 +11,8 @@ use Rattle.qoi.proofs.encode.blocks.fill.Given as goal
 abbrev pub invariant-loop-rest : goal.invariant-loop-rest
 invariant-loop-rest g l = record {
   less : (length (pixels_in l.rest) < length (pixels_in l.raw)) ⊎ ((length (pixels_in l.rest) ≡ length (pixels_in l.raw)) × (l.piece.end < g.row.ROOM - PAST));
-  written : (ahead : List ℕ) (n : ℕ) (more : List RgbaPixel) → length (pixels_in l.raw) ≤ n → InBlocks l.fn.style ahead n (pixels_in l.raw) more l.fn.table l.fn.carry (kept_bytes l.fn.piece.piece)
-      → InBlocks l.fn.style ahead n (pixels_in l.rest) more l.table l.now (kept_bytes l.piece);
+  written : (ahead : List ℕ) (n : ℕ) (more : List RgbaPixel) → length (pixels_in l.raw) ≤ n → InBlocks (style_of g.row.STYLE) ahead n (pixels_in l.raw) more l.fn.table l.fn.carry (kept_bytes l.fn.piece.piece)
+      → InBlocks (style_of g.row.STYLE) ahead n (pixels_in l.rest) more l.table l.now (kept_bytes l.piece);
 }
 
 abbrev pub decreases-loop-rest : goal.decreases-loop-rest

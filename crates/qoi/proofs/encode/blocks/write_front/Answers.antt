@@ -3,6 +3,7 @@ use Rattle.std.proofs.Common.{◌≡◌, ◌<◌, true, ◌++◌, take, drop, re
 use Rattle.std.proofs.lemmas.Bool.{eq-eqb, ne_eqb}
 use Rattle.qoi.specs.inner.block.Block.{FitsBlock, all_repeat, last_pixel}
 use Rattle.qoi.specs.inner.BlockLoop.{InBlocks}
+use Rattle.qoi.specs.inner.CoderState.{style_of}
 use Rattle.qoi.specs.inner.Piece.{kept_bytes}
 use Rattle.qoi.specs.inner.Pixels.{pixels_in}
 use Rattle.qoi.specs.inner.block.Planes.{block_pixels}
@@ -34,10 +35,7 @@ returns-then-goes_by_marks-clause-written g c = λ ahead n more whole b.
 
 pub returns-then-may_miss_blank-clause-written : goal.returns-then-may_miss_blank-clause-written
 returns-then-may_miss_blank-clause-written g c = λ ahead n more whole b.
-    let tight = c.may_miss_blank.ensures.tight c.if-may_miss_blank.true in
-    let group = c.write_group in
-    let start = subst (λ s. InBlocks s ahead n (pixels_in c.args.front.raw) more c.args.table.now c.args.carry (kept_bytes c.args.piece.piece)) tight b in
-    subst (λ s. InBlocks s ahead n (pixels_in group.result.0) more group.new.table group.result.1 (kept_bytes group.result.2)) (sym tight) (group.ensures.written ahead n more start)
+    c.write_group.ensures.written ahead n more b
 
 pub returns-clause-written : goal.returns-clause-written
 returns-clause-written g c = λ ahead n more whole b.
@@ -46,11 +44,11 @@ returns-clause-written g c = λ ahead n more whole b.
     let q = last_pixel before in
     let ps = block_pixels c.first-block.result.words in
     let after = drop 16 (pixels_in c.args.front.raw) in
-    let fits : FitsBlock c.args.style c.args.table.now before ps c.first-block.result.changes = record {
+    let fits : FitsBlock (style_of g.row.STYLE) c.args.table.now before ps c.first-block.result.changes = record {
       changes = block.changes;
       mixed = sym (all_unmarked q q ps refl) ∙ ne_eqb _ _ (λ none. c.if-marks-eq0.false (c.marks-marks.ensures before block.changes ∙ none));
-      no_blank = c.may_miss_blank.ensures.none before block.changes c.if-may_miss_blank.false;
+      no_blank = λ tight. c.may_miss_blank.ensures.none before block.changes c.if-may_miss_blank.false (c.style_of.ensures ∙ tight);
     } in
     let front = sym (take-append-drop 16 (pixels_in c.args.front.raw)) ∙ ap (λ ps. ps ++ after) (sym block.pixels) in
     rw c.skip.ensures.rest (c.write_block-piece.ensures ahead n after more fits
-    (subst (λ ps. InBlocks c.args.style ahead n ps more c.args.table.now c.args.carry (kept_bytes c.args.piece.piece)) front b))
+    (subst (λ ps. InBlocks (style_of g.row.STYLE) ahead n ps more c.args.table.now c.args.carry (kept_bytes c.args.piece.piece)) front b))

@@ -1,11 +1,28 @@
 -- By blocks, from what the coder knows to what is carried, and back.
-use Rattle.std.proofs.Common.{inr, length, arith}
+use Rattle.std.proofs.Common.{◌++◌, inr, length, sym, ◌∙◌, arith, subst}
+use Rattle.qoi.specs.inner.BlockLoop.{GoesByBlocks}
+use Rattle.qoi.specs.inner.CoderLoop.{CoderBetween}
+use Rattle.qoi.specs.inner.CoderState.{style_of}
+use Rattle.qoi.specs.inner.Piece.{kept_bytes}
 use Rattle.qoi.specs.inner.Pixels.{pixels_in}
 use Rattle.qoi.proofs.encode.blocks.write_some.Goals as goal
 
+pub returns-then-not-goes_by_blocks-clause-written : goal.returns-then-not-goes_by_blocks-clause-written
+returns-then-not-goes_by_blocks-clause-written g c = λ ahead more b.
+    let opened = c.write_open-rest in
+    let coder = c.new-coder in
+    let style = coder.ensures.style ∙ c.style_of.ensures in
+    let start = subst (λ s. CoderBetween s ahead (pixels_in c.args.raw ++ more) c.args.table.now coder.result.last (kept_bytes c.args.piece.piece)) (sym style)
+    (subst (λ last. CoderBetween (style_of g.row.STYLE) ahead (pixels_in c.args.raw ++ more) c.args.table.now last (kept_bytes c.args.piece.piece)) (sym coder.ensures.last) b) in
+    subst (λ s. CoderBetween s ahead (pixels_in opened.result ++ more) opened.new.table opened.new.self.last (kept_bytes opened.new.piece)) (opened.ensures.style ∙ style)
+    (opened.ensures.written ahead more start)
+
 pub returns-clause-written : goal.returns-clause-written
 returns-clause-written g c = λ ahead more b.
-    let style = c.args.style in
+    let style = style_of g.row.STYLE in
     let n = length (pixels_in c.args.raw) in
-    let start = c.carried-carry.ensures style ahead n _ more _ _ (c.goes_by_blocks.ensures c.if-not-goes_by_blocks.false) b in
+    let coder = c.new-coder in
+    let goes = subst (λ s. GoesByBlocks s coder.result.last n (pixels_in c.args.raw)) (coder.ensures.style ∙ c.style_of.ensures) (c.goes_by_blocks.ensures c.if-not-goes_by_blocks.false) in
+    let here = subst (λ last. CoderBetween style ahead (pixels_in c.args.raw ++ more) c.args.table.now last (kept_bytes c.args.piece.piece)) (sym coder.ensures.last) b in
+    let start = c.carried.ensures style ahead n _ more _ _ goes here in
     c.coder_after.ensures.between style ahead n _ more _ _ (inr c.fill-piece.ensures.less) (c.fill-piece.ensures.written ahead n more (omega arith) start)

@@ -12,11 +12,12 @@ use Rattle.qoi.proofs.encode.chunks.write_rest.Goals as goal
 -- the coder stands where it stood
 here : (g : Over) (c : After-new-rest g) (ahead : List ℕ)
     → CoderBetween c.args.style ahead (pixels_of g.row.N c.args.left.now) c.args.table.now c.args.last (kept_bytes c.args.piece.now)
-    → CoderBetween c.args.style ahead (pixels_in c.new-rest.result) c.args.table.now c.new-coder.result.last (kept_bytes c.args.piece.now)
+    → CoderBetween c.new-coder.result.style ahead (pixels_in c.new-rest.result) c.args.table.now c.new-coder.result.last (kept_bytes c.args.piece.now)
 here g c ahead s =
     let kept = kept_bytes c.args.piece.now in
-    subst (λ last. CoderBetween c.args.style ahead (pixels_in c.new-rest.result) c.args.table.now last kept) (sym c.new-coder.ensures)
-    (subst (λ x. CoderBetween c.args.style ahead (pixels_of g.row.N x) c.args.table.now c.args.last kept) (sym c.new-rest.ensures) s)
+    subst (λ style. CoderBetween style ahead (pixels_in c.new-rest.result) c.args.table.now c.new-coder.result.last kept) (sym c.new-coder.ensures.style)
+    (subst (λ last. CoderBetween c.args.style ahead (pixels_in c.new-rest.result) c.args.table.now last kept) (sym c.new-coder.ensures.last)
+    (subst (λ x. CoderBetween c.args.style ahead (pixels_of g.row.N x) c.args.table.now c.args.last kept) (sym c.new-rest.ensures) s))
 
 pub write_few-requires : goal.write_few-requires
 write_few-requires g c =
@@ -30,8 +31,8 @@ returns-then-is_empty g c = record {
       (let kept = kept_bytes c.args.piece.now in
       let table = c.args.table.now in
       let now = (goal.at.returns-then-is_empty g c).After-new-rest in
-      c.write_last.ensures c.args.style ahead table
-      (subst (λ ps. CoderBetween c.args.style ahead ps table c.new-coder.result.last kept) (c.is_empty.ensures.0 c.if-is_empty.true) (here g now ahead s)));
+      c.write_last.ensures ahead table
+      (subst (λ ps. CoderBetween c.new-coder.result.style ahead ps table c.new-coder.result.last kept) (c.is_empty.ensures.0 c.if-is_empty.true) (here g now ahead s)));
 }
 
 pub returns-else-this-eq-FEW_ROOM : goal.returns-else-this-eq-FEW_ROOM

@@ -10,8 +10,9 @@ use Rattle.qoi.proofs.encode.marked.write_marked.Goals as goal
 
 pub loop-left-init : goal.loop-left-init
 loop-left-init g c = record {
+  style = refl;
   lanes_few = omega arith;
-  enough = c.args.front.enough;
+  enough = c.args.block.front.enough;
   rest_is = refl;
   marks_are = c.requires.marks;
   few = c.requires.few;
@@ -19,6 +20,12 @@ loop-left-init g c = record {
   room = omega arith;
   written = λ all more b. b;
 }
+
+pub invariant_of-group : goal.invariant_of-group
+invariant_of-group g c =
+    let i = c.loop-left.invariant in
+    let group = marks_group c.loop-left.coder.last.px (pixels_in c.loop-left.rest) c.loop-left.count c.loop-left.left i.enough i.lanes_few i.marks_are (omega (arith, c.loop-left-test.true)) in
+    omega (arith, group.inside, i.enough)
 
 pub write_short_group-rest-requires : goal.write_short_group-rest-requires
 write_short_group-rest-requires g c =
@@ -29,7 +36,7 @@ write_short_group-rest-requires g c =
       | inl some ↦ omega (arith, i.few (group.first some), group.inside, i.lanes_few)
       | inr none ↦ omega (arith, none, c.loop-left.coder.last.few)
     ] in
-    (omega arith, (omega arith, (omega arith, (few, (omega (arith, group.inside, i.enough), (group.repeats, (group.other, omega (arith, i.room, group.inside, c.requires.room))))))))
+    (omega arith, (omega arith, (omega arith, (omega arith, (few, (group.repeats, (group.other, omega (arith, i.room, group.inside, c.requires.room))))))))
 
 pub overflow_sub-count : goal.overflow_sub-count
 overflow_sub-count g c =
@@ -46,6 +53,7 @@ loop-left-preserved g c =
     let step = c.write_short_group-rest.ensures in
     let left : lanes ≡ (n + 1) + (lanes - (n + 1)) = omega (arith, group.inside) in
     record {
+      style = step.style ∙ i.style;
       lanes_few = omega (arith, i.lanes_few);
       enough = omega (arith, i.enough, ap length step.rest, length-drop (n + 1) rest, group.inside);
       rest_is = ap (drop (lanes - (n + 1))) step.rest ∙ drop-drop (lanes - (n + 1)) (n + 1) rest ∙ ap (λ k. drop k rest) (omega (arith, left)) ∙ i.rest_is;

@@ -11,15 +11,16 @@ use Rattle.qoi.proofs.encode.marked.write_marked.Given as goal
 
 abbrev pub invariant-loop-left : goal.invariant-loop-left
 invariant-loop-left g l = record {
+  style : l.coder.style ≡ l.fn.coder.style;
   lanes_few : l.count ≤ 16;
   enough : l.count ≤ length (pixels_in l.rest);
-  rest_is : drop l.count (pixels_in l.rest) ≡ drop 16 (pixels_in l.fn.front.raw);
+  rest_is : drop l.count (pixels_in l.rest) ≡ drop 16 (pixels_in l.fn.block.front.raw);
   marks_are : l.left ≡ fresh_marks l.coder.last.px (take l.count (pixels_in l.rest));
   few : slice_get (pixels_in l.rest) 0 ≡ Some l.coder.last.px → l.coder.last.repeats ≤ FRONT_CARRIED;
   begun : (0 < l.left) ⊎ ((l.coder.last.begun ≡ true) × (l.coder.last.repeats ≡ 0) × (l.count < 16));
   room : l.piece.end + 6 * l.count ≤ l.fn.piece.end + 96;
-  written : (all : List ℕ) (more : List RgbaPixel) → CoderBetween l.fn.style all (pixels_in l.fn.front.raw ++ more) l.fn.table l.fn.coder.last (kept_bytes l.fn.piece)
-      → CoderBetween l.fn.style all (pixels_in l.rest ++ more) l.table l.coder.last (kept_bytes l.piece);
+  written : (all : List ℕ) (more : List RgbaPixel) → CoderBetween l.fn.coder.style all (pixels_in l.fn.block.front.raw ++ more) l.fn.table l.fn.coder.last (kept_bytes l.fn.piece)
+      → CoderBetween l.coder.style all (pixels_in l.rest ++ more) l.table l.coder.last (kept_bytes l.piece);
 }
 
 abbrev pub decreases-loop-left : goal.decreases-loop-left

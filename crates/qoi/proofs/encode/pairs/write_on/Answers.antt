@@ -1,5 +1,5 @@
 -- A pair after the other, each of two pixels.
-use Rattle.std.proofs.Common.{length, length-drop, refl, ap, arith}
+use Rattle.std.proofs.Common.{length, length-drop, refl, ap, ◌∙◌, arith}
 use Rattle.qoi.specs.inner.Pixels.{pixels_in}
 use Rattle.qoi.proofs.encode.pairs.write_on.Goals as goal
 
@@ -13,6 +13,7 @@ loop-rest-preserved g c =
     let i = c.loop-rest.invariant in
     let step = c.write_short_group-rest.ensures in
     record {
+      style = step.style ∙ i.style;
       less = omega (arith, ap length step.rest, length-drop 2 (pixels_in c.loop-rest.rest), i.less);
       last_is = refl;
       none = λ _. step.begun.1;

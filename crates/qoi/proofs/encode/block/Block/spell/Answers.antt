@@ -1,9 +1,10 @@
 -- The vectors, in each style.
-use Rattle.std.proofs.Common.{◌≡◌, ◌⊎◌, inl, inr, List, sym, subst}
+use Rattle.std.proofs.Common.{◌≡◌, ◌⊎◌, inl, inr, List, sym, ◌∙◌, subst}
 use Rattle.qoi.specs.declared.encode.block.spelling.Spelled.{Spelled}
 use Rattle.qoi.specs.declared.types.Style.{Style}
 use Rattle.qoi.specs.declared.types.Style.TheVariants.{Reference, Tight}
 use Rattle.qoi.specs.Qoi.{RgbaPixel}
+use Rattle.qoi.specs.inner.CoderState.{style_of}
 use Rattle.qoi.specs.inner.block.State.{State}
 use Rattle.qoi.specs.inner.block.Planes.{block_pixels}
 use Rattle.qoi.specs.inner.block.Spelling.{IsBlock, HasSpelled}
@@ -22,7 +23,7 @@ returns-in-Reference g c = λ s last before changes carry placed stands places.
     let ps : List RgbaPixel = block_pixels words in
     let sixteen = block_sixteen words c.args.self.packed in
     let block : IsBlock s ps c.args.self.planes.r c.args.stands c.args.places = record { sixteen = sixteen; last_is = last; red_is = c.args.self.planes_are.r_is; stands_are = stands; places_are = places } in
-    plain c.args.style s ps c.spell_block-x.result c.in-Reference.is (c.spell_block-x.ensures s ps carry (changes s before) block)
+    plain (style_of g.row.STYLE) s ps c.spell_block-x.result (subst (λ z. (z ≡ Reference) ⊎ (z ≡ Tight)) c.style_of.ensures c.in-Reference.is) (c.spell_block-x.ensures s ps carry (changes s before) block)
 
 pub returns-in-Places : goal.returns-in-Places
 returns-in-Places g c = λ s last before changes carry placed stands places.
@@ -31,4 +32,4 @@ returns-in-Places g c = λ s last before changes carry placed stands places.
     let sixteen = block_sixteen words c.args.self.packed in
     let block : IsBlock s ps c.args.self.planes.r c.args.stands c.args.places = record { sixteen = sixteen; last_is = last; red_is = c.args.self.planes_are.r_is; stands_are = stands; places_are = places } in
     let plain = c.spell_block-x.ensures s ps carry (changes s before) block in
-    subst (λ z. HasSpelled z s ps c.name_single.result) (sym c.in-Places.is) (c.name_single.ensures s ps sixteen (placed c.in-Places.is) stands places plain)
+    subst (λ z. HasSpelled z s ps c.name_single.result) (sym (sym c.style_of.ensures ∙ c.in-Places.is)) (c.name_single.ensures s ps sixteen (placed (sym c.style_of.ensures ∙ c.in-Places.is)) stands places plain)

@@ -9,7 +9,7 @@ use Rattle.qoi.proofs.encode.coder.Coder.chunk_if_absent.Goals as goal
 
 pub returns-in-Reference-clause-choice : goal.returns-in-Reference-clause-choice
 returns-in-Reference-clause-choice g c = λ past alpha chunk holds is bytes first differs.
-    (chunk, is, bytes, spelled_out c.args.style past c.args.px chunk c.in-Reference.is first differs)
+    (chunk, is, bytes, spelled_out c.args.self.now.style past c.args.px chunk c.in-Reference.is first differs)
 
 pub returns-in-Some-clause-choice : goal.returns-in-Some-clause-choice
 returns-in-Some-clause-choice g c = λ past alpha chunk holds is bytes first differs.

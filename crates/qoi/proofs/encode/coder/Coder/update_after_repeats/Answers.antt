@@ -13,10 +13,10 @@ use Rattle.qoi.proofs.encode.coder.Coder.update_after_repeats.Goals.{in-Referenc
 pub returns-clause-state : goal.returns-clause-state
 returns-clause-state g c past before s =
     let n = c.args.count in
-    let style = c.args.style in
+    let style = c.args.self.now.style in
     let pixels = replicate n (previous past) ++ past in
     record {
-      table_is = elim c.match-style.branch [
+      table_is = elim c.match-self.branch [
         | in-Reference w ↦ subst (λ t. Holds t (held_in style pixels)) (sym w.table-is)
             (repeats_unput style n past c.args.table.now w.in-Reference.is s.table_is)
         | in-Tight w ↦ (let held = rw w.in-Tight.is at s.table_is in

@@ -12,7 +12,6 @@ use Rattle.qoi.proofs.encode.coder.Coder.write_each.Goals as goal
 
 pub loop-rest-preserved : goal.loop-rest-preserved
 loop-rest-preserved g c =
-    let style = c.args.style in
     let i = c.loop-rest.invariant in
     let next = c.write_next-rest in
     let step = next.ensures in
@@ -26,14 +25,14 @@ loop-rest-preserved g c =
       end = near;
       first = λ left some. absurd (omega (arith, left, step.none some));
       written = λ ahead b.
-          subst (λ ps. CoderBetween style ahead ps next.new.table next.new.self.last (kept_bytes next.new.piece)) (append-nil (pixels_in next.result))
-          (step.written ahead [] (subst (λ ps. CoderBetween style ahead ps c.loop-rest.table c.loop-rest.self.last (kept_bytes c.loop-rest.piece)) (sym (append-nil (pixels_in c.loop-rest.rest))) (i.written ahead b)));
+          subst (λ ps. CoderBetween next.new.self.style ahead ps next.new.table next.new.self.last (kept_bytes next.new.piece)) (append-nil (pixels_in next.result))
+          (step.written ahead [] (subst (λ ps. CoderBetween c.loop-rest.self.style ahead ps c.loop-rest.table c.loop-rest.self.last (kept_bytes c.loop-rest.piece)) (sym (append-nil (pixels_in c.loop-rest.rest))) (i.written ahead b)));
     }
 
 pub returns : goal.returns
 returns g c = record {
   written = λ ahead b.
       (let none : pixels_in c.loop-rest.rest ≡ [] = c.is_empty.ensures.0 c.loop-rest-test.false in
-      let end = subst (λ ps. CoderBetween c.args.style ahead ps c.loop-rest.table c.loop-rest.self.last (kept_bytes c.loop-rest.piece)) none (c.loop-rest.invariant.written ahead b) in
+      let end = subst (λ ps. CoderBetween c.loop-rest.self.style ahead ps c.loop-rest.table c.loop-rest.self.last (kept_bytes c.loop-rest.piece)) none (c.loop-rest.invariant.written ahead b) in
       last_run end.to_write ∙ sym (c.append_run.ensures.kept (Run 1) refl));
 }

@@ -12,8 +12,8 @@ abbrev pub invariant-loop-rest : goal.invariant-loop-rest
 invariant-loop-rest g l = record {
   end : l.piece.end + chunk_max * length (pixels_in l.rest) ≤ l.fn.piece.end + (RUNS_AT_ONCE + 1) + chunk_max * length (pixels_in l.raw);
   first : 0 < l.self.last.repeats → pixels_in l.rest ≢ [] → l.piece.end + chunk_max * length (pixels_in l.rest) ≤ l.fn.piece.end + chunk_max * length (pixels_in l.raw);
-  written : (ahead : List ℕ) → CoderBetween l.fn.style ahead (pixels_in l.raw) l.fn.table l.fn.self.last (kept_bytes l.fn.piece)
-      → CoderBetween l.fn.style ahead (pixels_in l.rest) l.table l.self.last (kept_bytes l.piece);
+  written : (ahead : List ℕ) → CoderBetween l.fn.self.style ahead (pixels_in l.raw) l.fn.table l.fn.self.last (kept_bytes l.fn.piece)
+      → CoderBetween l.self.style ahead (pixels_in l.rest) l.table l.self.last (kept_bytes l.piece);
 }
 
 abbrev pub decreases-loop-rest : goal.decreases-loop-rest

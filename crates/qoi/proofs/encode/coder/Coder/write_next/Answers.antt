@@ -19,6 +19,6 @@ returns-clause-written g c all more b =
     let some : after ≢ [] = λ none. true≢false (sym (c.is_empty.ensures.1 none) ∙ c.if-is_empty.false) in
     let none : runs.new.self.last.repeats ≡ 0 = runs.ensures.none (λ e. some (c.skip-after.ensures.rest ∙ e)) in
     let differs : px ≢ runs.new.self.last.px = λ e. true≢false (sym (c.begin_with.ensures.1 (ap (λ x. slice_get x 0) ahead ∙ ap Some e)) ∙ c.if-begin_with.false) in
-    let stand = subst (λ ps. CoderBetween c.args.style all (ps ++ more) runs.new.table runs.new.self.last (kept_bytes runs.new.piece)) (sym c.skip-after.ensures.rest ∙ ahead)
+    let stand = subst (λ ps. CoderBetween runs.new.self.style all (ps ++ more) runs.new.table runs.new.self.last (kept_bytes runs.new.piece)) (sym c.skip-after.ensures.rest ∙ ahead)
     (runs.ensures.written all more b) in
     rw c.skip.ensures.rest (c.write_pixel.ensures.written all (drop 1 after ++ more) differs none stand)

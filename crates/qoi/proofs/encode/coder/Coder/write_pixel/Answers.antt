@@ -13,11 +13,11 @@ use Rattle.qoi.proofs.encode.coder.Coder.write_pixel.Goals as goal
 pub returns-clause-written : goal.returns-clause-written
 returns-clause-written g c ahead rest differs none b =
     let p = c.args.next.px in
-    let style = c.args.style in
+    let style = c.args.self.now.style in
     let past = b.past in
     let state = b.state in
     let last : IsPixel c.args.self.now.last.px = subst IsPixel (sym state.last_is) b.to_write.before_is in
-    let spells = c.spell_pixel-number.ensures.spelled last in
+    let spells = c.spell_pixel-spelled.ensures.spelled last in
     let chunk = spells.0 in
     let spelled = spells.1 in
     let i = c.hash_index-place.result in
@@ -40,5 +40,5 @@ returns-clause-written g c ahead rest differs none b =
       table_is = fresh_held style past c.args.table.now c.put.new.self p new state.table_is c.put.ensures;
       last_is = refl;
       begun_is = sym (ap has_pixel (fresh_more past p new));
-      placed_is = λ places. c.placed_in.ensures places ∙ d.4;
+      placed_is = λ places. c.placed_if.ensures places ∙ d.4;
     })
