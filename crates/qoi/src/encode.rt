@@ -25,6 +25,7 @@ pub(crate) mod fresh;
 mod last_pixel;
 mod marked;
 mod pairs;
+mod pending;
 pub(crate) mod piece;
 mod pixel_writer;
 mod pixels;

@@ -1,7 +1,7 @@
 -- The bytes ahead of a coder that go through a piece to a writer. `wrote a bytes b` says that the
 -- writer a became b by writing the bytes.
 use Rattle.std.specs.Prelude.{◌≡◌, ℕ, ◌+◌, ◌*◌, ◌%◌, ◌<◌, ◌≤◌, ◌⊎◌, List, ◌++◌, length}
-use Rattle.qoi.specs.declared.encode.pixel_writer.kept.Pending.{Pending}
+use Rattle.qoi.specs.declared.encode.pending.Pending.{Pending}
 use Rattle.qoi.specs.declared.encode.piece.TheConstants.{FULL_ROOM}
 use Rattle.qoi.specs.declared.types.Style.{Style}
 use Rattle.qoi.specs.Qoi.{marker_size, end_marker}
@@ -35,8 +35,22 @@ pub record HasRoom (free size n : ℕ) (style : Style) (p : Pending) (kept raw :
   pub enough : ((ahead : List ℕ) × CoderBetween style ahead (pixels_of n raw) p.table p.last kept × (length ahead + marker_size ≤ free))
       ⊎ ((size ≤ FULL_ROOM) × (FULL_ROOM * (length raw + 1) ≤ free))
 
+-- From one state to another the channels and the style stay, of n bytes for each pixel, and in three
+-- channels the last pixel is opaque.
+pub record StaysIn (n : ℕ) (p p' : Pending) : Type 0 where
+  pub channels_is : p'.channels ≡ p.channels
+  pub style_is : p'.style ≡ p.style
+  pub opaque : n ≡ 3 → p'.last.px.a ≡ 255
+
 -- whole pixels are left of others, fewer than a block has
 pub record AreLeft (n : ℕ) (raw left : List ℕ) : Type 0 where
   pub few : length left < 16 * n
   pub within : length left ≤ length raw
   pub whole : length left % n ≡ 0
+
+-- Whole pixels were written but for those that are left, and the writer has room for what is ahead.
+pub record WroteWhole {W : Type 0} (wrote : W → List ℕ → W → Type 0) (room : W → ℕ) (size n : ℕ) (style : Style) (a : W) (p : Pending) (kept raw : List ℕ)
+    (b : W) (p' : Pending) (kept' left : List ℕ) : Type 0 where
+  pub left_are : AreLeft n raw left
+  pub has_room : HasRoom (room b) size n style p' kept' left
+  pub written : GoesOn wrote n style a p kept raw b p' kept' left

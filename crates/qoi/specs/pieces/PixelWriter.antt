@@ -4,7 +4,7 @@ use Rattle.qoi.specs.declared.error.Error.{Error}
 use Rattle.qoi.specs.declared.error.Error.TheVariants.{InvalidImageLength}
 use Rattle.qoi.specs.declared.header.Header.{Header}
 use Rattle.qoi.specs.declared.types.Style.{Style}
-use Rattle.qoi.specs.declared.encode.pixel_writer.kept.Pending.{Pending}
+use Rattle.qoi.specs.declared.encode.pending.Pending.{Pending}
 use Rattle.qoi.specs.Qoi.{AreBytes, channels_number}
 use Rattle.qoi.specs.Raw.{pixels_of, image_byte_count}
 use Rattle.qoi.specs.EncoderState.{EncoderState}

@@ -256,14 +256,16 @@ pub(super) fn write_some<'a, 'p, const N: usize, const STYLE: u8, const ROOM: us
         *last = after;
         return (rest, piece);
     }
-    let mut coder = Coder::<N>::new(style_of::<STYLE>(), *last);
-    if !goes_by_blocks(coder.style, coder.last, raw) {
+    let style = style_of::<STYLE>();
+    if !goes_by_blocks(style, *last, raw) {
+        let mut coder = Coder::<N>::new(style, *last);
         let mut piece = piece.piece;
         let rest = coder.write_open(table, &mut piece, raw);
         *last = coder.last;
         return (rest, piece);
     }
-    let (rest, after, piece) = fill::<N, STYLE, ROOM>(table, piece, raw, carried(&coder));
+    let carry = carried(&Coder::<N>::new(style, *last));
+    let (rest, after, piece) = fill::<N, STYLE, ROOM>(table, piece, raw, carry);
     *last = coder_after::<N, STYLE>(after).last;
     (rest, piece)
 }

@@ -9,17 +9,18 @@ ghost use Rattle.qoi.specs.Styles.{WrittenIn};
 ghost use Rattle.qoi.specs.inner.CoderLoop.{CoderBetween};
 ghost use Rattle.qoi.specs.inner.CoderState.{style_of};
 ghost use Rattle.qoi.specs.inner.Piece.{kept_bytes, WroteFile, BeganFile};
-ghost use Rattle.qoi.specs.inner.Sending.{GoesOn, BreaksOff, Ends, EndsEarly, HasRoom, AreLeft};
+ghost use Rattle.qoi.specs.inner.Sending.{WroteWhole, StaysIn, BreaksOff, Ends, EndsEarly, HasRoom};
 
 use crate::encode::blocks::write_some;
 use crate::encode::coder::Coder;
 use crate::encode::last_pixel::LastPixel;
+use crate::encode::pending::Pending;
 use crate::encode::piece::{FEW_ROOM, OpenPiece, Piece};
 use crate::encode::pixels::Pixels;
 use crate::encode::table::PixelTable;
 use crate::error::Result;
 use crate::header::Header;
-use crate::types::Channels::{self, Rgb, Rgba};
+use crate::types::Channels::{Rgb, Rgba};
 use crate::types::Style::{self, Places, Reference, Tight};
 use crate::writers::Writer;
 
@@ -28,41 +29,36 @@ use crate::writers::Writer;
 #[inline(always)]
 fn write_blocks<'a, 'p, W: Writer, const N: usize, const STYLE: u8, const ROOM: usize>(
     writer: &mut W,
-    table: &mut PixelTable,
-    last: &mut LastPixel,
+    pending: &mut Pending,
     piece: OpenPiece<'p, ROOM>,
     data: &'a [u8],
 ) -> Result<(&'a [u8], OpenPiece<'p, ROOM>)>
     requires channels { IsChannels N }
     requires whole { length «data».now % N ≡ 0 }
-    requires opaque { N ≡ 3 → last.old.px.a ≡ 255 }
+    requires opaque { N ≡ 3 → pending.old.last.px.a ≡ 255 }
     requires large { 2 * PAST ≤ ROOM }
-    requires room { HasRoom (W.room writer.old) ROOM N (style_of STYLE)
-        (record { table = table.old; last = last.old }) (kept_bytes piece.piece) «data».now }
-    ensures left { IfOk result (λ r. AreLeft N «data».entry.now r.0.now) }
-    ensures opaque { N ≡ 3 → last.new.px.a ≡ 255 }
-    ensures written { IfOk result (λ r. GoesOn W.wrote N (style_of STYLE) writer.old
-        (record { table = table.old; last = last.old })
-        (kept_bytes piece.entry.piece) «data».entry.now writer.new
-        (record { table = table.new; last = last.new }) (kept_bytes r.1.piece) r.0.now) }
-    ensures room { IfOk result (λ r. HasRoom (W.room writer.new) ROOM N (style_of STYLE)
-        (record { table = table.new; last = last.new }) (kept_bytes r.1.piece) r.0.now) }
+    requires room { HasRoom (W.room writer.old) ROOM N (style_of STYLE) pending.old
+        (kept_bytes piece.piece) «data».now }
+    ensures stays { StaysIn N pending.old pending.new }
+    ensures written { IfOk result (λ r. WroteWhole W.wrote W.room ROOM N (style_of STYLE)
+        writer.old pending.old (kept_bytes piece.entry.piece) «data».entry.now
+        writer.new pending.new (kept_bytes r.1.piece) r.0.now) }
     ensures refused { IfErr result (λ e. W.IsFault e × BreaksOff W.wrote N (style_of STYLE)
-        writer.old (record { table = table.old; last = last.old })
-        (kept_bytes piece.entry.piece) «data».entry.now writer.new) }
+        writer.old pending.old (kept_bytes piece.entry.piece) «data».entry.now writer.new) }
 {
-    let mut now = *last;
+    let table = &mut pending.table;
+    let mut last = pending.last;
     let mut piece = piece;
     let mut rest = Pixels::<N>::new(data);
     while rest.has_block() {
-        let (after, mut filled) = write_some::<N, STYLE, ROOM>(&mut now, table, piece, rest);
+        let (after, mut filled) = write_some::<N, STYLE, ROOM>(&mut last, table, piece, rest);
         if filled.is_full() {
             filled.send(writer)?;
         }
         rest = after;
         piece = filled.open();
     }
-    *last = now;
+    pending.last = last;
     Ok((rest.bytes, piece))
 }
 
@@ -71,59 +67,52 @@ fn write_blocks<'a, 'p, W: Writer, const N: usize, const STYLE: u8, const ROOM: 
 #[inline(always)]
 pub(super) fn write_whole<'a, 'p, W: Writer, const ROOM: usize>(
     writer: &mut W,
-    channels: Channels,
-    style: Style,
-    table: &mut PixelTable,
-    last: &mut LastPixel,
+    pending: &mut Pending,
     piece: OpenPiece<'p, ROOM>,
     data: &'a [u8],
 ) -> Result<(&'a [u8], OpenPiece<'p, ROOM>)>
-    requires whole { length «data».now % channels_number channels ≡ 0 }
-    requires opaque { channels_number channels ≡ 3 → last.old.px.a ≡ 255 }
+    requires whole { length «data».now % channels_number pending.old.channels ≡ 0 }
+    requires opaque { channels_number pending.old.channels ≡ 3 → pending.old.last.px.a ≡ 255 }
     requires large { 2 * PAST ≤ ROOM }
-    requires room { HasRoom (W.room writer.old) ROOM (channels_number channels) style
-        (record { table = table.old; last = last.old }) (kept_bytes piece.piece) «data».now }
-    ensures left { IfOk result (λ r. AreLeft (channels_number channels) «data».entry.now r.0.now) }
-    ensures opaque { channels_number channels ≡ 3 → last.new.px.a ≡ 255 }
-    ensures room { IfOk result (λ r. HasRoom (W.room writer.new) ROOM (channels_number channels)
-        style (record { table = table.new; last = last.new }) (kept_bytes r.1.piece) r.0.now) }
-    ensures written { IfOk result (λ r. GoesOn W.wrote (channels_number channels) style writer.old
-        (record { table = table.old; last = last.old })
-        (kept_bytes piece.entry.piece) «data».entry.now writer.new
-        (record { table = table.new; last = last.new }) (kept_bytes r.1.piece) r.0.now) }
-    ensures refused { IfErr result (λ e. W.IsFault e × BreaksOff W.wrote (channels_number channels)
-        style writer.old (record { table = table.old; last = last.old })
-        (kept_bytes piece.entry.piece) «data».entry.now writer.new) }
+    requires room { HasRoom (W.room writer.old) ROOM (channels_number pending.old.channels)
+        pending.old.style pending.old (kept_bytes piece.piece) «data».now }
+    ensures stays { StaysIn (channels_number pending.old.channels) pending.old pending.new }
+    ensures written { IfOk result (λ r. WroteWhole W.wrote W.room ROOM
+        (channels_number pending.old.channels) pending.old.style
+        writer.old pending.old (kept_bytes piece.entry.piece) «data».entry.now
+        writer.new pending.new (kept_bytes r.1.piece) r.0.now) }
+    ensures refused { IfErr result (λ e. W.IsFault e × BreaksOff W.wrote
+        (channels_number pending.old.channels) pending.old.style
+        writer.old pending.old (kept_bytes piece.entry.piece) «data».entry.now writer.new) }
 {
     // A loop for each pair, in which channels and style are constants.
-    match (channels, style) {
-        (Rgb, Reference) => write_blocks::<W, 3, 0, ROOM>(writer, table, last, piece, data),
-        (Rgb, Places) => write_blocks::<W, 3, 1, ROOM>(writer, table, last, piece, data),
-        (Rgb, Tight) => write_blocks::<W, 3, 2, ROOM>(writer, table, last, piece, data),
-        (Rgba, Reference) => write_blocks::<W, 4, 0, ROOM>(writer, table, last, piece, data),
-        (Rgba, Places) => write_blocks::<W, 4, 1, ROOM>(writer, table, last, piece, data),
-        (Rgba, Tight) => write_blocks::<W, 4, 2, ROOM>(writer, table, last, piece, data),
+    match (pending.channels, pending.style) {
+        (Rgb, Reference) => write_blocks::<W, 3, 0, ROOM>(writer, pending, piece, data),
+        (Rgb, Places) => write_blocks::<W, 3, 1, ROOM>(writer, pending, piece, data),
+        (Rgb, Tight) => write_blocks::<W, 3, 2, ROOM>(writer, pending, piece, data),
+        (Rgba, Reference) => write_blocks::<W, 4, 0, ROOM>(writer, pending, piece, data),
+        (Rgba, Places) => write_blocks::<W, 4, 1, ROOM>(writer, pending, piece, data),
+        (Rgba, Tight) => write_blocks::<W, 4, 2, ROOM>(writer, pending, piece, data),
     }
 }
 
 // Writes an image's last pixels, fewer than a block has, into the piece.
 #[inline(always)]
 fn write_rest<const N: usize, const ROOM: usize>(
-    style: Style,
+    coder: Coder<N>,
     table: &mut PixelTable,
-    last: LastPixel,
     piece: &mut Piece<ROOM>,
     left: &[u8],
 )
     requires channels { IsChannels N }
     requires whole { length left.now % N ≡ 0 }
     requires few { length left.now < 16 * N }
-    requires opaque { N ≡ 3 → last.px.a ≡ 255 }
     requires not_full { piece.old.end < ROOM - PAST }
-    ensures written { (ahead : List ℕ) → CoderBetween style ahead (pixels_of N left.now)
-        table.old last (kept_bytes piece.old) → ahead ≡ kept_bytes piece.new }
+    ensures written { (ahead : List ℕ) → CoderBetween coder.entry.style ahead
+        (pixels_of N left.now) table.old coder.entry.last (kept_bytes piece.old)
+        → ahead ≡ kept_bytes piece.new }
 {
-    let mut coder = Coder::<N>::new(style, last);
+    let mut coder = coder;
     let rest = Pixels::<N>::new(left);
     if rest.is_empty() {
         coder.write_last(piece);
@@ -138,29 +127,38 @@ fn write_rest<const N: usize, const ROOM: usize>(
 /// Writes an image's last pixels, fewer than a block has, and then the end marker.
 pub(super) fn write_end<W: Writer, const ROOM: usize>(
     writer: &mut W,
-    channels: Channels,
-    style: Style,
-    table: &mut PixelTable,
-    last: LastPixel,
+    pending: &mut Pending,
     piece: &mut Piece<ROOM>,
     left: &[u8],
 ) -> Result<()>
-    requires whole { length left.now % channels_number channels ≡ 0 }
-    requires few { length left.now < 16 * channels_number channels }
-    requires opaque { channels_number channels ≡ 3 → last.px.a ≡ 255 }
+    requires whole { length left.now % channels_number pending.old.channels ≡ 0 }
+    requires few { length left.now < 16 * channels_number pending.old.channels }
+    requires opaque { channels_number pending.old.channels ≡ 3 → pending.old.last.px.a ≡ 255 }
     requires not_full { piece.old.end < ROOM - PAST }
     requires large { 2 * PAST ≤ ROOM }
-    requires room { HasRoom (W.room writer.old) ROOM (channels_number channels) style
-        (record { table = table.old; last = last }) (kept_bytes piece.old) left.now }
-    ensures written { OnOk result (Ends W.wrote (channels_number channels) style writer.old
-        (record { table = table.old; last = last }) (kept_bytes piece.old) left.now writer.new) }
-    ensures refused { IfErr result (λ e. W.IsFault e × EndsEarly W.wrote (channels_number channels)
-        style writer.old (record { table = table.old; last = last })
-        (kept_bytes piece.old) left.now writer.new) }
+    requires room { HasRoom (W.room writer.old) ROOM (channels_number pending.old.channels)
+        pending.old.style pending.old (kept_bytes piece.old) left.now }
+    ensures same { (pending.new.channels ≡ pending.old.channels)
+        × (pending.new.style ≡ pending.old.style) × (pending.new.last ≡ pending.old.last) }
+    ensures written { OnOk result (Ends W.wrote (channels_number pending.old.channels)
+        pending.old.style writer.old pending.old (kept_bytes piece.old) left.now writer.new) }
+    ensures refused { IfErr result (λ e. W.IsFault e × EndsEarly W.wrote
+        (channels_number pending.old.channels) pending.old.style
+        writer.old pending.old (kept_bytes piece.old) left.now writer.new) }
 {
-    match channels {
-        Rgb => write_rest::<3, ROOM>(style, table, last, piece, left),
-        Rgba => write_rest::<4, ROOM>(style, table, last, piece, left),
+    match pending.channels {
+        Rgb => write_rest::<3, ROOM>(
+            Coder::new(pending.style, pending.last),
+            &mut pending.table,
+            piece,
+            left,
+        ),
+        Rgba => write_rest::<4, ROOM>(
+            Coder::new(pending.style, pending.last),
+            &mut pending.table,
+            piece,
+            left,
+        ),
     }
     piece.finish(writer)
 }
@@ -185,29 +183,12 @@ pub(super) fn encode_file<W: Writer, const ROOM: usize>(
 {
     let mut bytes = [0; ROOM];
     let piece = Piece::<ROOM>::with_header(&mut bytes, header).open();
-    let mut table = PixelTable::new();
-    let mut last = LastPixel::start();
+    let mut pending = Pending::new(header.channels, style);
     // A `?` would copy the result.
-    match write_whole(
-        writer,
-        header.channels,
-        style,
-        &mut table,
-        &mut last,
-        piece,
-        data,
-    ) {
+    match write_whole(writer, &mut pending, piece, data) {
         Ok((left, piece)) => {
             let mut piece = piece.piece;
-            write_end(
-                writer,
-                header.channels,
-                style,
-                &mut table,
-                last,
-                &mut piece,
-                left,
-            )
+            write_end(writer, &mut pending, &mut piece, left)
         }
         Err(e) => Err(e),
     }
@@ -235,8 +216,8 @@ pub(super) fn fill_few(
     let mut table = PixelTable::new();
     let last = LastPixel::start();
     match header.channels {
-        Rgb => write_rest::<3, FEW_ROOM>(style, &mut table, last, piece, data),
-        Rgba => write_rest::<4, FEW_ROOM>(style, &mut table, last, piece, data),
+        Rgb => write_rest::<3, FEW_ROOM>(Coder::new(style, last), &mut table, piece, data),
+        Rgba => write_rest::<4, FEW_ROOM>(Coder::new(style, last), &mut table, piece, data),
     }
     piece.store_marker()
 }

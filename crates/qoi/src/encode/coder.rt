@@ -27,7 +27,7 @@ use crate::packed::Packed;
 use crate::types::Style::{self, Places, Reference, Tight};
 use crate::utils::pick;
 
-/// The style of a number. It is a constant for the compiler, so that each number has loops of its own.
+/// The style of a number. It is a constant for the compiler, so each number has loops of its own.
 #[inline(always)]
 pub(super) fn style_of<const STYLE: u8>() -> Style
     ensures { result ≡ style_of STYLE }
@@ -43,8 +43,8 @@ pub(super) fn style_of<const STYLE: u8>() -> Style
 /// of a number (`style_of`), which no register holds.
 #[derive(Drop)]
 pub(super) struct Coder<const N: usize> {
-    pub(super) style: Style,
     pub(super) last: LastPixel,
+    pub(super) style: Style,
     ghost channels: { IsChannels N } by { IsChannels-prop N },
     ghost opaque: { N ≡ 3 → last.px.a ≡ 255 },
 }

@@ -41,7 +41,6 @@ use std::marker::Model;
 pub struct PixelWriter<W> {
     writer: W,
     header: Header,
-    style: Style,
     left: usize,
     failed: bool,
     kept: Box<Kept>,
@@ -58,7 +57,7 @@ impl<W> Model for PixelWriter<W> {
     ghost view = { λ p. record {
       writer = p.writer;
       header = p.header;
-      style = p.style;
+      style = p.kept.value.pending.style;
       left = p.left;
       failed = p.failed;
       held = p.kept.value.held;
@@ -66,6 +65,7 @@ impl<W> Model for PixelWriter<W> {
     } };
 
     ghost invariant = { λ p. IsValid p.header × (p.left ≤ image_byte_count p.header)
+        × (p.kept.value.pending.channels ≡ p.header.channels)
         × (channels_number p.header.channels ≡ 3 → p.kept.value.pending.last.px.a ≡ 255)
         × (p.failed ≡ false
         → (length p.kept.value.held + p.left) % channels_number p.header.channels ≡ 0) };
@@ -94,13 +94,12 @@ impl<W: Write + Drop> PixelWriter<W> {
             header.channels,
             header.colorspace,
         )?;
-        let kept = Box::new(alloc, Kept::new())?;
+        let kept = Box::new(alloc, Kept::new(header.channels, style))?;
         let mut writer = writer;
         send_bytes(&mut writer, &header.encode()[..QOI_HEADER_SIZE])?;
         Ok(PixelWriter {
             writer,
             header,
-            style,
             left: header.n_bytes(),
             failed: false,
             kept,
@@ -124,7 +123,7 @@ impl<W: Write + Drop> PixelWriter<W> {
             → HasTaken W.contents e before self.now ⊎ HasFailed W.contents e before self.now
             → result ≡ e.style }
     {
-        self.style
+        self.kept.pending.style
     }
 
     /// How many raw bytes of the image haven't come yet.
@@ -177,13 +176,7 @@ impl<W: Write + Drop> PixelWriter<W> {
         // It stays set if a fault ends the call.
         self.failed = true;
         let kept = &mut *self.kept;
-        take_any(
-            &mut self.writer,
-            self.header.channels,
-            self.style,
-            kept,
-            raw,
-        )?;
+        take_any(&mut self.writer, kept, raw)?;
         self.failed = false;
         self.left -= raw.len();
         Ok(())
@@ -260,7 +253,7 @@ impl<W: Write + Drop> PixelWriter<W> {
         // It stays set if a fault ends the call.
         self.failed = true;
         let kept = &mut *self.kept;
-        write_held(&mut self.writer, self.header.channels, self.style, kept)
+        write_held(&mut self.writer, kept)
     }
 
     /// The writer as it stands: with a beginning of the file behind what it had.

@@ -1,13 +1,19 @@
 -- The bytes ahead of a coder, as they go through a piece to a writer.
 use Rattle.std.proofs.Common.{◌≡◌, inl, inr, ℕ, ◌+◌, ◌<◌, ◌≤◌, List, [], ◌++◌, length, refl, sym, ap, ◌∙◌, subst, arith, length-append, append_assoc, append-nil}
-use Rattle.qoi.specs.declared.encode.pixel_writer.kept.Pending.{Pending}
+use Rattle.qoi.specs.declared.encode.pending.Pending.{Pending}
+use Rattle.qoi.specs.declared.encode.last_pixel.LastPixel.{LastPixel}
+use Rattle.qoi.specs.declared.types.Channels.{Channels}
 use Rattle.qoi.specs.declared.types.Style.{Style}
-use Rattle.qoi.specs.Qoi.{marker_size, end_marker}
+use Rattle.qoi.specs.Qoi.{RgbaPixel, channels_number, marker_size, end_marker}
 use Rattle.qoi.specs.Raw.{pixels_of}
 use Rattle.qoi.specs.writers.Writes.{WroteBut, WroteBeginning}
 use Rattle.qoi.specs.inner.CoderLoop.{CoderBetween}
 use Rattle.qoi.specs.inner.Sending.{GoesOn, BreaksOff, Ends, EndsEarly, HasRoom}
 use Rattle.qoi.proofs.encoding.coder.CoderLink.{coder_sent}
+
+-- equal channels, and equal styles
+pub of_same : (F : ℕ → Style → Type 0) {x y : Channels} {s t : Style} → x ≡ y → s ≡ t → F (channels_number x) s → F (channels_number y) t
+of_same F {y = y} {s = s} channels style h = subst (F (channels_number y)) style (subst (λ x. F (channels_number x) s) channels h)
 
 -- two writings compose
 abbrev pub Composes : {W : Type 0} → (W → List ℕ → W → Type 0) → Type 0
@@ -16,6 +22,11 @@ Composes {W} wrote = (a b c : W) (xs ys : List ℕ) → wrote a xs b → wrote b
 -- the state of a coder ahead of raw bytes
 abbrev pub Between : ℕ → Style → (ahead : List ℕ) → Pending → (kept raw : List ℕ) → Type 0
 Between n style ahead p kept raw = CoderBetween style ahead (pixels_of n raw) p.table p.last kept
+
+-- a coder with this style and last pixel stands ahead of these
+pub of_coder : {ahead kept : List ℕ} {rest table : List RgbaPixel} {s t : Style} {q l : LastPixel} → t ≡ s → l ≡ q
+    → CoderBetween s ahead rest table q kept → CoderBetween t ahead rest table l kept
+of_coder {ahead} {kept} {rest} {table} {t = t} {q = q} style last b = subst (λ l. CoderBetween t ahead rest table l kept) (sym last) (subst (λ s. CoderBetween s ahead rest table q kept) (sym style) b)
 
 -- the coder went on
 pub record CoderGoes (n : ℕ) (style : Style) (p : Pending) (kept raw : List ℕ) (p' : Pending) (kept' raw' : List ℕ) : Type 0 where

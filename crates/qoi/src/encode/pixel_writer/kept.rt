@@ -4,9 +4,9 @@ ghost use Rattle.qoi.specs.Qoi.{start};
 ghost use Rattle.qoi.specs.declared.types.Style.{Style};
 ghost use Rattle.qoi.specs.inner.CoderLoop.{CoderAfter};
 
-use crate::encode::last_pixel::LastPixel;
+use crate::encode::pending::Pending;
 use crate::encode::piece::FULL_ROOM;
-use crate::encode::table::PixelTable;
+use crate::types::{Channels, Style};
 use crate::utils::copy_after;
 use std::marker::Model;
 
@@ -23,28 +23,20 @@ pub(super) struct Kept {
 
 impl Kept {
     /// What is kept before the first raw byte.
-    pub(super) fn new() -> Kept
+    pub(super) fn new(channels: Channels, style: Style) -> Kept
         ensures held { result.held ≡ [] }
+        ensures channels { result.pending.channels ≡ channels }
+        ensures style { result.pending.style ≡ style }
         ensures last { (result.pending.last.px ≡ start) × (result.pending.last.repeats ≡ 0) }
         ensures state { (style : Style)
             → CoderAfter style [] None result.pending.table result.pending.last }
     {
         Kept {
-            pending: Pending {
-                table: PixelTable::new(),
-                last: LastPixel::start(),
-            },
+            pending: Pending::new(channels, style),
             held: Held::new(),
             piece_bytes: [0; FULL_ROOM],
         }
     }
-}
-
-/// What is known between two calls: the table, and the last pixel that was written or repeated.
-#[derive(Drop)]
-pub(super) struct Pending {
-    pub(super) table: PixelTable,
-    pub(super) last: LastPixel,
 }
 
 /// Raw bytes that came and aren't encoded yet.

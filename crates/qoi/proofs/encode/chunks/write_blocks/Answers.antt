@@ -2,7 +2,7 @@
 use Rattle.std.proofs.Common.{◌≡◌, ◌-◌, ◌<◌, inl, inr, length, sym, ap, ◌∙◌, arith, subst}
 use Rattle.std.proofs.lemmas.Bool.{true≢false, cases_lt}
 use Rattle.std.proofs.lemmas.Result.{err_from_is_err_and}
-use Rattle.qoi.specs.declared.encode.pixel_writer.kept.Pending.{Pending}
+use Rattle.qoi.specs.declared.encode.pending.Pending.{Pending}
 use Rattle.qoi.specs.Raw.{pixels_of}
 use Rattle.qoi.specs.writers.Writes.{WroteBut}
 use Rattle.qoi.specs.inner.CoderLoop.{CoderBetween}
@@ -17,10 +17,10 @@ use Rattle.qoi.proofs.encode.chunks.write_blocks.Given.{Over}
 use Rattle.qoi.proofs.encode.chunks.write_blocks.Goals.{After-has_block, After-write_some-filled, then-is_full+in_ok-send, else-is_full}
 use Rattle.qoi.proofs.encode.chunks.write_blocks.Goals as goal
 
-pub loop-now-init : goal.loop-now-init
-loop-now-init g c =
+pub loop-table-init : goal.loop-table-init
+loop-table-init g c =
     let n = g.row.N in
-    let p : Pending = record { table = c.args.table.now; last = c.args.last.now } in
+    let p : Pending = c.args.pending.now in
     let style = style_of g.row.STYLE in
     let kept = kept_bytes c.args.piece.piece in
     let raw = c.args.data.now in
@@ -33,17 +33,17 @@ loop-now-init g c =
 
 -- some is written
 goes : (g : Over) (c : After-write_some-filled g)
-    → CoderGoes g.row.N (style_of g.row.STYLE) (record { table = c.loop-now.table; last = c.loop-now.now }) (kept_bytes c.loop-now.piece.piece) c.loop-now.rest.bytes.now
-    (record { table = c.write_some-filled.new.table; last = c.write_some-filled.new.last }) (kept_bytes c.write_some-filled.result.1) c.write_some-filled.result.0.bytes.now
+    → CoderGoes g.row.N (style_of g.row.STYLE) (record c.args.pending.now { table = c.loop-table.table; last = c.loop-table.last }) (kept_bytes c.loop-table.piece.piece) c.loop-table.rest.bytes.now
+    (record c.args.pending.now { table = c.write_some-filled.new.table; last = c.write_some-filled.new.last }) (kept_bytes c.write_some-filled.result.1) c.write_some-filled.result.0.bytes.now
 goes g c = record {
   on = λ ahead more s.
       (let n = g.row.N in
-      let rest = c.loop-now.rest in
+      let rest = c.loop-table.rest in
       let after = c.write_some-filled.result.0 in
       subst (λ ps. CoderBetween (style_of g.row.STYLE) ahead ps c.write_some-filled.new.table c.write_some-filled.new.last (kept_bytes c.write_some-filled.result.1))
       (sym (whole_ahead n after.bytes.now more after.channels after.whole))
       (c.write_some-filled.ensures.written ahead (pixels_of n more)
-      (subst (λ ps. CoderBetween (style_of g.row.STYLE) ahead ps c.loop-now.table c.loop-now.now (kept_bytes c.loop-now.piece.piece))
+      (subst (λ ps. CoderBetween (style_of g.row.STYLE) ahead ps c.loop-table.table c.loop-table.last (kept_bytes c.loop-table.piece.piece))
       (whole_ahead n rest.bytes.now more rest.channels rest.whole) s)));
 }
 
@@ -51,14 +51,14 @@ pub send-requires : goal.send-requires
 send-requires g c =
     let full = c.is_full.ensures.full c.if-is_full.true in
     let filled = c.write_some-filled.result.1 in
-    (omega arith, (full, (omega (arith, full, kept_length filled, room_kept c.loop-now.invariant.room (goes g (goal.at.send-requires g c).After-write_some-filled) (omega (arith, kept_length filled, filled.within))), c.requires.large)))
+    (omega arith, (full, (omega (arith, full, kept_length filled, room_kept c.loop-table.invariant.room (goes g (goal.at.send-requires g c).After-write_some-filled) (omega (arith, kept_length filled, filled.within))), c.requires.large)))
 
-pub loop-now-preserved : goal.loop-now-preserved
-loop-now-preserved g c =
+pub loop-table-preserved : goal.loop-table-preserved
+loop-table-preserved g c =
     let laws = g.met.W.Writer.laws in
-    let a = c.loop-now.writer in
+    let a = c.loop-table.writer in
     let old = c.write_some-filled.result.1 in
-    let step = goes g (goal.at.loop-now-preserved g c).After-write_some-filled in
+    let step = goes g (goal.at.loop-table-preserved g c).After-write_some-filled in
     let kept : kept_bytes c.open-piece.result.piece ≡ kept_bytes c.if-is_full.filled = c.open-piece.ensures in
     let but : WroteBut g.W.Writer.wrote a (kept_bytes old) (kept_bytes c.if-is_full.filled) c.if-is_full.writer = elim c.if-is_full.branch [
       | then-is_full+in_ok-send w ↦
@@ -68,12 +68,12 @@ loop-now-preserved g c =
     ] in
     let now = subst (λ z. WroteBut g.W.Writer.wrote a (kept_bytes old) z c.if-is_full.writer) (sym kept) but in
     let after = c.write_some-filled.result.0 in
-    let fewer = fewer_bytes after c.loop-now.rest c.write_some-filled.ensures.less in
+    let fewer = fewer_bytes after c.loop-table.rest c.write_some-filled.ensures.less in
     record {
       opaque = c.write_some-filled.ensures.opaque;
-      left = omega (arith, fewer, c.loop-now.invariant.left);
-      room = room_left c.loop-now.invariant.room now.front step (omega (arith, kept_length old, old.within)) now.split (laws.counts a c.if-is_full.writer now.front now.went) fewer;
-      written = then_on laws.both c.loop-now.invariant.written (sent_on step now);
+      left = omega (arith, fewer, c.loop-table.invariant.left);
+      room = room_left c.loop-table.invariant.room now.front step (omega (arith, kept_length old, old.within)) now.split (laws.counts a c.if-is_full.writer now.front now.went) fewer;
+      written = then_on laws.both c.loop-table.invariant.written (sent_on step now);
     }
 
 pub returns-in_err-send-clause-refused : goal.returns-in_err-send-clause-refused
@@ -81,17 +81,21 @@ returns-in_err-send-clause-refused g c =
     let e = err_from_is_err_and c.from_residual.result c.from_residual.ensures.1 in
     let r = c.in_err-send.ensures.refused in
     let step = goes g (goal.at.returns-in_err-send-clause-refused g c).After-write_some-filled in
-    rw (e.1, e.2) (r.0, then_breaks g.met.W.Writer.laws.both c.loop-now.invariant.written (sent_part step r.1))
+    rw (e.1, e.2) (r.0, then_breaks g.met.W.Writer.laws.both c.loop-table.invariant.written (sent_part step r.1))
 
-pub returns-clause-left : goal.returns-clause-left
-returns-clause-left g c =
-    let raw = c.loop-now.rest in
+pub returns-clause-written : goal.returns-clause-written
+returns-clause-written g c =
+    let raw = c.loop-table.rest in
     let few : length (pixels_in raw) < 16 = elim (cases_lt (length (pixels_in raw)) 16) [
       | inl few ↦ few
-      | inr many ↦ absurd (true≢false (sym (c.has_block.ensures.1 many) ∙ c.loop-now-test.false))
+      | inr many ↦ absurd (true≢false (sym (c.has_block.ensures.1 many) ∙ c.loop-table-test.false))
     ] in
     record {
-      few = omega (arith, bytes_in raw, few_bytes g.row.N (length (pixels_in raw)) raw.channels few);
-      within = c.loop-now.invariant.left;
-      whole = raw.whole;
+      left_are = record {
+        few = omega (arith, bytes_in raw, few_bytes g.row.N (length (pixels_in raw)) raw.channels few);
+        within = c.loop-table.invariant.left;
+        whole = raw.whole;
+      };
+      has_room = c.loop-table.invariant.room;
+      written = c.loop-table.invariant.written;
     }

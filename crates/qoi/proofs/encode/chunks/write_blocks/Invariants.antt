@@ -6,15 +6,15 @@ use Rattle.qoi.specs.inner.Pixels.{pixels_in}
 use Rattle.qoi.specs.inner.Sending.{GoesOn, HasRoom}
 use Rattle.qoi.proofs.encode.chunks.write_blocks.Given as goal
 
-abbrev pub invariant-loop-now : goal.invariant-loop-now
-invariant-loop-now g l = record {
-  opaque : g.row.N ≡ 3 → l.now.px.a ≡ 255;
+abbrev pub invariant-loop-table : goal.invariant-loop-table
+invariant-loop-table g l = record {
+  opaque : g.row.N ≡ 3 → l.last.px.a ≡ 255;
   left : length l.rest.bytes.now ≤ length l.data;
-  room : HasRoom (g.W.Writer.room l.writer) g.row.ROOM g.row.N (style_of g.row.STYLE) (record { table = l.table; last = l.now })
+  room : HasRoom (g.W.Writer.room l.writer) g.row.ROOM g.row.N (style_of g.row.STYLE) (record l.fn.pending { table = l.table; last = l.last })
       (kept_bytes l.piece.piece) l.rest.bytes.now;
-  written : GoesOn g.W.Writer.wrote g.row.N (style_of g.row.STYLE) l.fn.writer (record { table = l.fn.table; last = l.fn.last }) (kept_bytes l.fn.piece.piece) l.data
-      l.writer (record { table = l.table; last = l.now }) (kept_bytes l.piece.piece) l.rest.bytes.now;
+  written : GoesOn g.W.Writer.wrote g.row.N (style_of g.row.STYLE) l.fn.writer l.fn.pending (kept_bytes l.fn.piece.piece) l.data
+      l.writer (record l.fn.pending { table = l.table; last = l.last }) (kept_bytes l.piece.piece) l.rest.bytes.now;
 }
 
-abbrev pub decreases-loop-now : goal.decreases-loop-now
-decreases-loop-now g l = length (pixels_in l.rest)
+abbrev pub decreases-loop-table : goal.decreases-loop-table
+decreases-loop-table g l = length (pixels_in l.rest)

@@ -11,13 +11,10 @@ use Rattle.qoi.proofs.encode.chunks.write_rest.Goals as goal
 
 -- the coder stands where it stood
 here : (g : Over) (c : After-new-rest g) (ahead : List ℕ)
-    → CoderBetween c.args.style ahead (pixels_of g.row.N c.args.left.now) c.args.table.now c.args.last (kept_bytes c.args.piece.now)
-    → CoderBetween c.new-coder.result.style ahead (pixels_in c.new-rest.result) c.args.table.now c.new-coder.result.last (kept_bytes c.args.piece.now)
+    → CoderBetween c.args.coder.style ahead (pixels_of g.row.N c.args.left.now) c.args.table.now c.args.coder.last (kept_bytes c.args.piece.now)
+    → CoderBetween c.args.coder.style ahead (pixels_in c.new-rest.result) c.args.table.now c.args.coder.last (kept_bytes c.args.piece.now)
 here g c ahead s =
-    let kept = kept_bytes c.args.piece.now in
-    subst (λ style. CoderBetween style ahead (pixels_in c.new-rest.result) c.args.table.now c.new-coder.result.last kept) (sym c.new-coder.ensures.style)
-    (subst (λ last. CoderBetween c.args.style ahead (pixels_in c.new-rest.result) c.args.table.now last kept) (sym c.new-coder.ensures.last)
-    (subst (λ x. CoderBetween c.args.style ahead (pixels_of g.row.N x) c.args.table.now c.args.last kept) (sym c.new-rest.ensures) s))
+    subst (λ x. CoderBetween c.args.coder.style ahead (pixels_of g.row.N x) c.args.table.now c.args.coder.last (kept_bytes c.args.piece.now)) (sym c.new-rest.ensures) s
 
 pub write_few-requires : goal.write_few-requires
 write_few-requires g c =
@@ -32,7 +29,7 @@ returns-then-is_empty g c = record {
       let table = c.args.table.now in
       let now = (goal.at.returns-then-is_empty g c).After-new-rest in
       c.write_last.ensures ahead table
-      (subst (λ ps. CoderBetween c.new-coder.result.style ahead ps table c.new-coder.result.last kept) (c.is_empty.ensures.0 c.if-is_empty.true) (here g now ahead s)));
+      (subst (λ ps. CoderBetween c.args.coder.style ahead ps table c.args.coder.last kept) (c.is_empty.ensures.0 c.if-is_empty.true) (here g now ahead s)));
 }
 
 pub returns-else-this-eq-FEW_ROOM : goal.returns-else-this-eq-FEW_ROOM

@@ -29,6 +29,7 @@ invariant_of-result g c =
     let none : length c.in_ok-kept.kept.value.held ≡ 0 = ap (λ (k : Kept). length k.held) c.in_ok-kept.ensures.ok ∙ ap length c.new.ensures.held in (
       valid,
       omega (arith, count),
+      ap (λ (k : Kept). k.pending.channels) c.in_ok-kept.ensures.ok ∙ c.new.ensures.channels,
       λ _. ap (λ (k : Kept). k.pending.last.px.a) c.in_ok-kept.ensures.ok ∙ ap (λ (p : RgbaPixel). p.a) c.new.ensures.last.0,
       λ _. ap (λ k. k % channels_number h.channels) (let all : length c.in_ok-kept.kept.value.held + c.n_bytes.result ≡ image_byte_count h = omega (arith, none, count) in all)
           ∙ mul-mod_left (pixel_count h) (channels_number h.channels),
@@ -41,7 +42,7 @@ returns-clause-made g c =
     let said = says g (goal.at.returns-clause-made g c).After-n_bytes in
     record {
       header_is = sym said.0;
-      style_is = refl;
+      style_is = ap (λ (k : Kept). k.pending.style) c.in_ok-kept.ensures.ok ∙ c.new.ensures.style;
       works = refl;
       size = omega (arith, c.n_bytes.ensures ∙ capped_is h said.1 ∙ ap image_byte_count (sym said.0));
       are = λ i. omega arith;

@@ -17,8 +17,11 @@ pub write_held-requires-clause-whole : goal.write_held-requires-clause-whole
 write_held-requires-clause-whole g c =
     let p = c.self.inside in
     let none : p.left ≡ 0 = omega (arith, c.if-self-gt0.false) in
-    ap (λ k. k % channels_number p.header.channels) (ap (λ (k : Kept). length k.held) c.deref_mut-kept.ensures.value ∙ (let same : length p.kept.value.held ≡ length p.kept.value.held + p.left = omega (arith, none) in same))
-    ∙ c.self.invariant.3 c.if-self.false
+    let kept = c.deref_mut-kept.result.now in
+    let channels_is : kept.pending.channels ≡ p.header.channels = ap (λ (k : Kept). k.pending.channels) c.deref_mut-kept.ensures.value ∙ c.self.invariant.2 in
+    ap (λ k. length kept.held % channels_number k) channels_is
+    ∙ ap (λ k. k % channels_number p.header.channels) (ap (λ (k : Kept). length k.held) c.deref_mut-kept.ensures.value ∙ (let same : length p.kept.value.held ≡ length p.kept.value.held + p.left = omega (arith, none) in same))
+    ∙ c.self.invariant.4 c.if-self.false
 
 -- only the bytes that are held are ahead
 starts : (g : Over) (c : After-write_held g) (e : EncoderState) (before : _) → c.self.inside.left ≡ 0 → HasTaken g.W.Write.contents e before c.args.self.now
@@ -38,7 +41,10 @@ unfolding HasTaken
 returns-clause-sent g c = λ e before t.
     let none : c.self.inside.left ≡ 0 = omega (arith, c.if-self-gt0.false) in
     let left = ap (λ s. s.left) c.self.view_is in
-    let style = ap (λ s. s.style) c.self.view_is ∙ t.style_is in
+    let kept = c.deref_mut-kept.result.now in
+    let value = c.deref_mut-kept.ensures.value in
+    let style = ap (λ (k : Kept). k.pending.style) value ∙ ap (λ s. s.style) c.self.view_is ∙ t.style_is in
+    let pixels = ap (λ k. pixels_of (channels_number k) kept.held) (sym (ap (λ (k : Kept). k.pending.channels) value ∙ c.self.invariant.2)) in
     let valid : IsValid e.header = subst IsValid (ap (λ s. s.header) c.self.view_is ∙ t.header_is) c.self.invariant.0 in
     on_ok_weaker c.write_held.result
     (λ wrote. (
@@ -46,7 +52,7 @@ returns-clause-sent g c = λ e before t.
       sends_file e (file e.header wrote.0) before (g.W.Write.contents c.write_held.new.writer) _
           (file_of e.header e.raw valid (omega (arith, t.size, none, left)) e.style t.are wrote.0 wrote.1) refl wrote.2,
     ))
-    (on_ok_weaker c.write_held.result (λ ends. image_ends (starts g (goal.at.returns-clause-sent g c).After-write_held e before none t) style ends refl)
+    (on_ok_weaker c.write_held.result (λ ends. image_ends (starts g (goal.at.returns-clause-sent g c).After-write_held e before none t) style ends pixels)
     c.write_held.ensures.written)
 
 pub returns-clause-part : goal.returns-clause-part
@@ -54,12 +60,15 @@ unfolding HasTaken
 returns-clause-part g c = λ e before t.
     let none : c.self.inside.left ≡ 0 = omega (arith, c.if-self-gt0.false) in
     let left = ap (λ s. s.left) c.self.view_is in
-    let style = ap (λ s. s.style) c.self.view_is ∙ t.style_is in
+    let kept = c.deref_mut-kept.result.now in
+    let value = c.deref_mut-kept.ensures.value in
+    let style = ap (λ (k : Kept). k.pending.style) value ∙ ap (λ s. s.style) c.self.view_is ∙ t.style_is in
+    let pixels = ap (λ k. pixels_of (channels_number k) kept.held) (sym (ap (λ (k : Kept). k.pending.channels) value ∙ c.self.invariant.2)) in
     let valid : IsValid e.header = subst IsValid (ap (λ s. s.header) c.self.view_is ∙ t.header_is) c.self.invariant.0 in
     let here = (goal.at.returns-clause-part g c).After-write_held in
     IfErr-weaker c.write_held.result _ _
     (λ error r is.
-    let began = image_ends_early (starts g here e before none t) style r.1 refl in (
+    let began = image_ends_early (starts g here e before none t) style r.1 pixels in (
       sym left ∙ none,
       sends_part e (file e.header began.0) before (g.W.Write.contents c.write_held.new.writer)
           (file_of e.header e.raw valid (omega (arith, t.size, none, left)) e.style t.are began.0 began.1) began.2,

@@ -1,5 +1,5 @@
 -- Raw bytes more.
-use Rattle.std.proofs.Common.{◌≡◌, ◌++◌, [], inl, length, refl, sym, subst, arith, append_assoc, length-append}
+use Rattle.std.proofs.Common.{◌≡◌, ◌++◌, [], inl, length, refl, sym, ap, ◌∙◌, ℕ, List, subst, arith, append_assoc, length-append}
 use Rattle.std.proofs.lemmas.Result.{err_from_is_err_and}
 use Rattle.qoi.specs.Qoi.{IsValid, AreBytes, channels_number, file}
 use Rattle.qoi.specs.Raw.{pixels_of}
@@ -41,18 +41,23 @@ returns-in_err-take_any-clause-refused g c = λ e before taken.
     let err = err_from_is_err_and c.from_residual.result c.from_residual.ensures.1 in
     let r = c.in_err-take_any.ensures.refused in
     let raw_are : AreBytes raw = λ i. omega (arith, c.type_inv.raw i) in
+    let kept = c.deref_mut-kept.result.now in
+    let value = c.deref_mut-kept.ensures.value in
+    let style = ap (λ (k : Kept). k.pending.style) value ∙ t.style_is in
+    let channels : kept.pending.channels ≡ p.header.channels = ap (λ (k : Kept). k.pending.channels) value ∙ c.self.invariant.2 in
+    let pixels = λ (more : List ℕ). ap (λ k. pixels_of (channels_number k) ((kept.held ++ raw) ++ more)) (sym channels) in
     rw (err.1, err.2) (inl (
       r.0,
       record {
         header_is = t.header_is;
-        style_is = t.style_is;
+        style_is = c.take_any.ensures.stays.style_is ∙ style;
         fails = refl;
         size = omega (arith, t.size, length-append e.raw raw);
         part = λ more size are.
             let all = record e { raw = (e.raw ++ raw) ++ more } in
             let left : length (raw ++ more) ≡ p.left = omega (arith, size, length-append (e.raw ++ raw) more, length-append e.raw raw, length-append raw more, t.size) in
             let start = starts g (goal.at.returns-in_err-take_any-clause-refused g c).After-deref_mut-kept e before more (t.writes (raw ++ more) left (bytes_append raw more raw_are are)) in
-            let began = image_off start t.style_is more r.1 refl in
+            let began = image_off start style more r.1 (pixels more) in
             let all_are = bytes_append (e.raw ++ raw) more (bytes_append e.raw raw t.are raw_are) are in
             let valid : IsValid e.header = subst IsValid t.header_is c.self.invariant.0 in
             sends_part all (file e.header began.0) before (g.W.Write.contents c.take_any.new.writer)
@@ -68,14 +73,20 @@ returns-clause-taken g c = λ e before taken.
     let raw = c.args.raw.now in
     let n = channels_number p.header.channels in
     let raw_are : AreBytes raw = λ i. omega (arith, c.type_inv.raw i) in
+    let kept = c.deref_mut-kept.result.now in
+    let value = c.deref_mut-kept.ensures.value in
+    let style = ap (λ (k : Kept). k.pending.style) value ∙ t.style_is in
+    let channels : kept.pending.channels ≡ p.header.channels = ap (λ (k : Kept). k.pending.channels) value ∙ c.self.invariant.2 in
+    let pixels = λ (more : List ℕ). ap (λ k. pixels_of (channels_number k) ((kept.held ++ raw) ++ more)) (sym channels) in
     record {
       header_is = t.header_is;
-      style_is = t.style_is;
+      style_is = c.take_any.ensures.stays.style_is ∙ style;
       works = refl;
       size = omega (arith, t.size, length-append e.raw raw, c.if-raw-self.false);
       are = bytes_append e.raw raw t.are raw_are;
       writes = λ more size are.
           let left : length (raw ++ more) ≡ p.left = omega (arith, size, length-append raw more, c.if-raw-self.false) in
           let start = starts g (goal.at.returns-clause-taken g c).After-deref_mut-kept e before more (t.writes (raw ++ more) left (bytes_append raw more raw_are are)) in
-          image_on start t.style_is more c.in_ok-take_any.ensures.written refl;
+          subst (λ k. ImageBetween (record e { raw = (e.raw ++ raw) ++ more }) before (g.W.Write.contents c.take_any.new.writer) (pixels_of (channels_number k) (c.take_any.new.kept.held ++ more))
+          c.take_any.new.kept.pending []) channels (image_on start style more c.in_ok-take_any.ensures.written (pixels more));
     }

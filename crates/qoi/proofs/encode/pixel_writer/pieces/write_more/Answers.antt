@@ -35,7 +35,7 @@ pub returns-then-len-eq0-clause-written : goal.returns-then-len-eq0-clause-writt
 returns-then-len-eq0-clause-written g c =
     let part = c.split_at.result.1.now in
     let left = c.in_ok-left.left.now in
-    goes_within part c.in_ok-left.ensures.written (came g (goal.at.returns-then-len-eq0-clause-written g c).After-send_whole)
+    goes_within part c.in_ok-left.ensures.written.written (came g (goal.at.returns-then-len-eq0-clause-written g c).After-send_whole)
     (ap (λ z. z ++ part) (c.push.ensures ∙ ap (λ z. z ++ left) (none_held c.args.held.now (omega (arith, c.len.ensures.count, c.if-len-eq0.true)))))
 
 pub returns-in_err-left-2-clause-refused : goal.returns-in_err-left-2-clause-refused
@@ -47,13 +47,13 @@ returns-in_err-left-2-clause-refused g c =
 pub returns-clause-written : goal.returns-clause-written
 returns-clause-written g c =
     let rest = c.split_at-2.result.1.now in
-    goes_within rest c.in_ok-left-2.ensures.written (held g (goal.at.returns-clause-written g c).After-send_whole-2)
+    goes_within rest c.in_ok-left-2.ensures.written.written (held g (goal.at.returns-clause-written g c).After-send_whole-2)
     (ap (λ z. z ++ rest) (c.replace.ensures ∙ c.copy_after-count.ensures.front))
 
 pub returns-clause-count : goal.returns-clause-count
 returns-clause-count g c =
-    let k = channels_number c.args.channels in
-    let is = channels_are c.args.channels k refl in
+    let k = channels_number c.args.pending.now.channels in
+    let is = channels_are c.args.pending.now.channels k refl in
     let split = c.split_at-2.ensures in
     let h = length c.args.held.now in
     let left = length c.in_ok-left-2.left.now in
@@ -64,5 +64,5 @@ returns-clause-count g c =
     let same = by_channels (λ m. left % m ≡ 0 → (h + front) % m ≡ 0 → (left + rest) % m ≡ (h + (front + rest)) % m) is
     (λ a b. omega (arith, a, b)) (λ a b. omega (arith, a, b)) in
     let all : length c.args.raw.now ≡ front + rest = ap length (sym (take-append-drop _ c.args.raw.now) ∙ (λ i. sym split.front i ++ sym split.back i)) ∙ length-append c.split_at-2.result.0.now c.split_at-2.result.1.now in
-    ap (λ x. (length x + rest) % k) (c.replace.ensures ∙ c.copy_after-count.ensures.front) ∙ same c.in_ok-left-2.ensures.left.whole blocks
+    ap (λ x. (length x + rest) % k) (c.replace.ensures ∙ c.copy_after-count.ensures.front) ∙ same c.in_ok-left-2.ensures.written.left_are.whole blocks
     ∙ ap (λ x. (h + x) % k) (sym all)
