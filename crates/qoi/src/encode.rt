@@ -10,11 +10,11 @@ ghost use Rattle.qoi.specs.declared.types.Style.{Style};
 ghost use Rattle.qoi.specs.declared.types.Style.TheVariants.{Reference, Places, Tight};
 ghost use Rattle.qoi.specs.Qoi.{IsValid, pixels_max};
 ghost use Rattle.qoi.specs.Raw.{image_byte_count};
-ghost use Rattle.qoi.specs.Encoded.{max_len, max_file_len, image_header, measured_header, with_number, IsFileOf};
+ghost use Rattle.qoi.specs.Encoded.{max_len, max_file_len, image_header, measured_header, with_number};
 ghost use Rattle.qoi.specs.Errors.{IsIoError};
 ghost use Rattle.qoi.specs.EncoderState.{free_encoder};
 ghost use Rattle.qoi.specs.Sent.{IsFileFor, MakesFile, PutsFile, SendsFile, SendsPart};
-ghost use Rattle.qoi.specs.writers.Writes.{WroteBeginning};
+ghost use Rattle.qoi.specs.inner.Sending.{WroteImage, BeganImage};
 
 mod block;
 mod blocks;
@@ -62,12 +62,10 @@ fn encode_few<W: Writer>(
     requires image { length «data».now ≡ image_byte_count header.now }
     requires few { length «data».now < FEW_BYTES }
     requires room { max_file_len header.now ≤ W.room writer.old }
-    ensures written { IfOk result (λ n. (bytes : List ℕ)
-        × IsFileOf style header.now «data».now bytes
-        × (n ≡ length bytes) × W.wrote writer.old bytes writer.new) }
-    ensures refused { IfErr result (λ e. W.IsFault e × (bytes : List ℕ)
-        × IsFileOf style header.now «data».now bytes
-        × WroteBeginning W.wrote writer.old bytes writer.new) }
+    ensures written { IfOk result
+        (WroteImage W.wrote style header.now «data».now writer.old writer.new) }
+    ensures refused { IfErr result (λ e. W.IsFault e
+        × BeganImage W.wrote style header.now «data».now writer.old writer.new) }
 {
     let mut bytes = [0; FEW_ROOM];
     let mut piece = Piece::<FEW_ROOM>::with_header(&mut bytes, header);
@@ -88,12 +86,10 @@ fn encode_image<W: Writer, const ROOM: usize>(
     requires valid { IsValid header.now }
     requires image { length «data».now ≡ image_byte_count header.now }
     requires room { max_file_len header.now ≤ W.room writer.old }
-    ensures written { IfOk result (λ n. (bytes : List ℕ)
-        × IsFileOf style header.now «data».now bytes
-        × (n ≡ length bytes) × W.wrote writer.old bytes writer.new) }
-    ensures refused { IfErr result (λ e. W.IsFault e × (bytes : List ℕ)
-        × IsFileOf style header.now «data».now bytes
-        × WroteBeginning W.wrote writer.old bytes writer.new) }
+    ensures written { IfOk result
+        (WroteImage W.wrote style header.now «data».now writer.old writer.new) }
+    ensures refused { IfErr result (λ e. W.IsFault e
+        × BeganImage W.wrote style header.now «data».now writer.old writer.new) }
 {
     if data.len() < FEW_BYTES {
         return encode_few(writer, style, header, data);
@@ -114,12 +110,10 @@ fn encode_to_memory<W: Writer>(
     requires valid { IsValid header.now }
     requires image { length «data».now ≡ image_byte_count header.now }
     requires room { max_file_len header.now ≤ W.room writer.old }
-    ensures written { IfOk result (λ n. (bytes : List ℕ)
-        × IsFileOf style header.now «data».now bytes
-        × (n ≡ length bytes) × W.wrote writer.old bytes writer.new) }
-    ensures refused { IfErr result (λ e. W.IsFault e × (bytes : List ℕ)
-        × IsFileOf style header.now «data».now bytes
-        × WroteBeginning W.wrote writer.old bytes writer.new) }
+    ensures written { IfOk result
+        (WroteImage W.wrote style header.now «data».now writer.old writer.new) }
+    ensures refused { IfErr result (λ e. W.IsFault e
+        × BeganImage W.wrote style header.now «data».now writer.old writer.new) }
 {
     if data.len() < TINY_IMAGE {
         return encode_image::<W, TINY_ROOM>(writer, style, header, data);

@@ -3,7 +3,9 @@
 use Rattle.std.specs.Prelude.{◌≡◌, ℕ, ◌+◌, ◌*◌, ◌%◌, ◌<◌, ◌≤◌, ◌⊎◌, List, ◌++◌, length}
 use Rattle.qoi.specs.declared.encode.pending.Pending.{Pending}
 use Rattle.qoi.specs.declared.encode.piece.TheConstants.{FULL_ROOM}
+use Rattle.qoi.specs.declared.header.Header.{Header}
 use Rattle.qoi.specs.declared.types.Style.{Style}
+use Rattle.qoi.specs.Encoded.{IsFileOf}
 use Rattle.qoi.specs.Qoi.{marker_size, end_marker}
 use Rattle.qoi.specs.Raw.{pixels_of}
 use Rattle.qoi.specs.writers.Writes.{WroteBut, WroteBeginning}
@@ -54,3 +56,11 @@ pub record WroteWhole {W : Type 0} (wrote : W → List ℕ → W → Type 0) (ro
   pub left_are : AreLeft n raw left
   pub has_room : HasRoom (room b) size n style p' kept' left
   pub written : GoesOn wrote n style a p kept raw b p' kept' left
+
+-- the file of an image in a style was written, from its header and raw bytes; it has n bytes
+abbrev pub WroteImage : {W : Type 0} → (W → List ℕ → W → Type 0) → Style → Header → List ℕ → W → W → ℕ → Type 0
+WroteImage wrote style h raw a b n = (bytes : List ℕ) × IsFileOf style h raw bytes × (n ≡ length bytes) × wrote a bytes b
+
+-- a beginning of it was
+abbrev pub BeganImage : {W : Type 0} → (W → List ℕ → W → Type 0) → Style → Header → List ℕ → W → W → Type 0
+BeganImage wrote style h raw a b = (bytes : List ℕ) × IsFileOf style h raw bytes × WroteBeginning wrote a bytes b

@@ -28,7 +28,7 @@ returns-in_err-write_many-clause-refused g c =
     let e = err_from_is_err_and c.from_residual.result c.from_residual.ensures.1 in
     let r = c.in_err-write_many.ensures.refused in
     let f = few g (goal.at.returns-in_err-write_many-clause-refused g c).After-fill_few-n in
-    rw (e.1, e.2) (r.0, f.0, f.1, subst (λ z. WroteBeginning g.W.Writer.wrote c.args.writer.now z c.write_many.new.self) (c.front.ensures ∙ f.2) r.1)
+    rw (e.1, e.2) (r.0, (f.0, f.1, subst (λ z. WroteBeginning g.W.Writer.wrote c.args.writer.now z c.write_many.new.self) (c.front.ensures ∙ f.2) r.1))
 
 pub returns-clause-written : goal.returns-clause-written
 returns-clause-written g c =

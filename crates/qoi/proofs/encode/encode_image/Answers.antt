@@ -30,7 +30,7 @@ returns-in_err-encode_file-clause-refused g c =
     let e = err_from_is_err_and c.from_residual.result c.from_residual.ensures.1 in
     let r = c.in_err-encode_file.ensures.refused in
     let theirs = file_of h c.args.data.now c.requires.valid c.requires.image c.args.style (λ i. omega (arith, c.type_inv.data i)) r.1.0 r.1.1 in
-    rw (e.1, e.2) (r.0, file h r.1.0, theirs, r.1.2)
+    rw (e.1, e.2) (r.0, (file h r.1.0, theirs, r.1.2))
 
 pub returns-clause-written : goal.returns-clause-written
 returns-clause-written g c =

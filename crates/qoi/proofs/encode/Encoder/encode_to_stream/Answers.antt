@@ -10,11 +10,11 @@ pub returns-in_err-n-clause-refused : goal.returns-in_err-n-clause-refused
 returns-in_err-n-clause-refused g c =
     let e = err_from_is_err_and c.from_residual.result c.from_residual.ensures.1 in
     let r = c.in_err-n.ensures.refused in
-    let went = r.3.1.went in
+    let went = r.1.2.1.went in
     let same = went.same_writer in
     let front = appends_as g.W.Write.contents (g.W.Write.contents
-    (stream_writer c.encode_image.new.writer)) r.3.1.front c.new-writer.ensures.value went.appended in
-    rw (e.1, e.2) (r.0, sends_part _ r.1 _ _ (own_file c.self.view_is r.2) (r.3.1.front, r.3.0, r.3.1.split, search rules))
+    (stream_writer c.encode_image.new.writer)) r.1.2.1.front c.new-writer.ensures.value went.appended in
+    rw (e.1, e.2) (r.0, sends_part _ r.1.0 _ _ (own_file c.self.view_is r.1.1) (r.1.2.1.front, r.1.2.0, r.1.2.1.split, search rules))
 
 pub returns-clause-sent : goal.returns-clause-sent
 returns-clause-sent g c =
