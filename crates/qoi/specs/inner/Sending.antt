@@ -6,7 +6,7 @@ use Rattle.qoi.specs.declared.encode.piece.TheConstants.{FULL_ROOM}
 use Rattle.qoi.specs.declared.header.Header.{Header}
 use Rattle.qoi.specs.declared.types.Style.{Style}
 use Rattle.qoi.specs.Encoded.{IsFileOf}
-use Rattle.qoi.specs.Qoi.{marker_size, end_marker}
+use Rattle.qoi.specs.Qoi.{channels_number, marker_size, end_marker}
 use Rattle.qoi.specs.Raw.{pixels_of}
 use Rattle.qoi.specs.writers.Writes.{WroteBut, WroteBeginning}
 use Rattle.qoi.specs.inner.CoderLoop.{CoderBetween}
@@ -36,6 +36,10 @@ pub record EndsEarly {W : Type 0} (wrote : W → List ℕ → W → Type 0) (n :
 pub record HasRoom (free size n : ℕ) (style : Style) (p : Pending) (kept raw : List ℕ) : Type 0 where
   pub enough : ((ahead : List ℕ) × CoderBetween style ahead (pixels_of n raw) p.table p.last kept × (length ahead + marker_size ≤ free))
       ⊎ ((size ≤ FULL_ROOM) × (FULL_ROOM * (length raw + 1) ≤ free))
+
+-- how many bytes a pixel of the image has
+abbrev pub pixel_size : Pending → ℕ
+pixel_size p = channels_number p.channels
 
 -- From one state to another the channels and the style stay, of n bytes for each pixel, and in three
 -- channels the last pixel is opaque.

@@ -9,7 +9,7 @@ ghost use Rattle.qoi.specs.Styles.{WrittenIn};
 ghost use Rattle.qoi.specs.inner.CoderLoop.{CoderBetween};
 ghost use Rattle.qoi.specs.inner.CoderState.{style_of};
 ghost use Rattle.qoi.specs.inner.Piece.{kept_bytes, WroteFile, BeganFile};
-ghost use Rattle.qoi.specs.inner.Sending.{WroteWhole, StaysIn, BreaksOff, Ends, EndsEarly, HasRoom};
+ghost use Rattle.qoi.specs.inner.Sending.{WroteWhole, StaysIn, pixel_size, BreaksOff, Ends, EndsEarly, HasRoom};
 
 use crate::encode::blocks::write_some;
 use crate::encode::coder::Coder;
@@ -71,18 +71,18 @@ pub(super) fn write_whole<'a, 'p, W: Writer, const ROOM: usize>(
     piece: OpenPiece<'p, ROOM>,
     data: &'a [u8],
 ) -> Result<(&'a [u8], OpenPiece<'p, ROOM>)>
-    requires whole { length «data».now % channels_number pending.old.channels ≡ 0 }
-    requires opaque { channels_number pending.old.channels ≡ 3 → pending.old.last.px.a ≡ 255 }
+    requires whole { length «data».now % pixel_size pending.old ≡ 0 }
+    requires opaque { pixel_size pending.old ≡ 3 → pending.old.last.px.a ≡ 255 }
     requires large { 2 * PAST ≤ ROOM }
-    requires room { HasRoom (W.room writer.old) ROOM (channels_number pending.old.channels)
+    requires room { HasRoom (W.room writer.old) ROOM (pixel_size pending.old)
         pending.old.style pending.old (kept_bytes piece.piece) «data».now }
-    ensures stays { StaysIn (channels_number pending.old.channels) pending.old pending.new }
+    ensures stays { StaysIn (pixel_size pending.old) pending.old pending.new }
     ensures written { IfOk result (λ r. WroteWhole W.wrote W.room ROOM
-        (channels_number pending.old.channels) pending.old.style
+        (pixel_size pending.old) pending.old.style
         writer.old pending.old (kept_bytes piece.entry.piece) «data».entry.now
         writer.new pending.new (kept_bytes r.1.piece) r.0.now) }
     ensures refused { IfErr result (λ e. W.IsFault e × BreaksOff W.wrote
-        (channels_number pending.old.channels) pending.old.style
+        (pixel_size pending.old) pending.old.style
         writer.old pending.old (kept_bytes piece.entry.piece) «data».entry.now writer.new) }
 {
     // A loop for each pair, in which channels and style are constants.
@@ -131,19 +131,19 @@ pub(super) fn write_end<W: Writer, const ROOM: usize>(
     piece: &mut Piece<ROOM>,
     left: &[u8],
 ) -> Result<()>
-    requires whole { length left.now % channels_number pending.old.channels ≡ 0 }
-    requires few { length left.now < 16 * channels_number pending.old.channels }
-    requires opaque { channels_number pending.old.channels ≡ 3 → pending.old.last.px.a ≡ 255 }
+    requires whole { length left.now % pixel_size pending.old ≡ 0 }
+    requires few { length left.now < 16 * pixel_size pending.old }
+    requires opaque { pixel_size pending.old ≡ 3 → pending.old.last.px.a ≡ 255 }
     requires not_full { piece.old.end < ROOM - PAST }
     requires large { 2 * PAST ≤ ROOM }
-    requires room { HasRoom (W.room writer.old) ROOM (channels_number pending.old.channels)
+    requires room { HasRoom (W.room writer.old) ROOM (pixel_size pending.old)
         pending.old.style pending.old (kept_bytes piece.old) left.now }
     ensures same { (pending.new.channels ≡ pending.old.channels)
         × (pending.new.style ≡ pending.old.style) × (pending.new.last ≡ pending.old.last) }
-    ensures written { OnOk result (Ends W.wrote (channels_number pending.old.channels)
+    ensures written { OnOk result (Ends W.wrote (pixel_size pending.old)
         pending.old.style writer.old pending.old (kept_bytes piece.old) left.now writer.new) }
     ensures refused { IfErr result (λ e. W.IsFault e × EndsEarly W.wrote
-        (channels_number pending.old.channels) pending.old.style
+        (pixel_size pending.old) pending.old.style
         writer.old pending.old (kept_bytes piece.old) left.now writer.new) }
 {
     match pending.channels {

@@ -160,7 +160,8 @@ impl<const N: usize> Coder<N> {
             → next.entry.px ≢ self.old.last.px → self.old.last.repeats ≡ 0
             → CoderBetween self.old.style ahead (next.entry.px ∷ rest) table.old self.old.last
             (kept_bytes piece.old)
-            → CoderBetween self.new.style ahead rest table.new self.new.last (kept_bytes piece.new) }
+            → CoderBetween self.new.style ahead rest
+            table.new self.new.last (kept_bytes piece.new) }
     {
         let px = next.px;
         let place = px.hash_index();

@@ -57,18 +57,18 @@ impl<W> Model for PixelWriter<W> {
     ghost view = { λ p. record {
       writer = p.writer;
       header = p.header;
-      style = p.kept.value.pending.style;
+      style = p.kept.value.came.pending.style;
       left = p.left;
       failed = p.failed;
-      held = p.kept.value.held;
-      pending = p.kept.value.pending;
+      held = p.kept.value.came.held;
+      pending = p.kept.value.came.pending;
     } };
 
     ghost invariant = { λ p. IsValid p.header × (p.left ≤ image_byte_count p.header)
-        × (p.kept.value.pending.channels ≡ p.header.channels)
-        × (channels_number p.header.channels ≡ 3 → p.kept.value.pending.last.px.a ≡ 255)
+        × (p.kept.value.came.pending.channels ≡ p.header.channels)
+        × (channels_number p.header.channels ≡ 3 → p.kept.value.came.pending.last.px.a ≡ 255)
         × (p.failed ≡ false
-        → (length p.kept.value.held + p.left) % channels_number p.header.channels ≡ 0) };
+        → (length p.kept.value.came.held + p.left) % channels_number p.header.channels ≡ 0) };
 }
 
 impl<W: Write + Drop> PixelWriter<W> {
@@ -123,7 +123,7 @@ impl<W: Write + Drop> PixelWriter<W> {
             → HasTaken W.contents e before self.now ⊎ HasFailed W.contents e before self.now
             → result ≡ e.style }
     {
-        self.kept.pending.style
+        self.kept.came.pending.style
     }
 
     /// How many raw bytes of the image haven't come yet.

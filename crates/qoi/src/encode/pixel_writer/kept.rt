@@ -16,27 +16,37 @@ pub(super) const HELD_MOST: usize = 8256;
 /// What is kept between two calls, and the bytes of a piece, which mean nothing then.
 #[derive(Drop)]
 pub(super) struct Kept {
-    pub(super) pending: Pending,
-    pub(super) held: Held,
+    pub(super) came: Came,
     pub(super) piece_bytes: [u8; FULL_ROOM],
 }
 
 impl Kept {
     /// What is kept before the first raw byte.
     pub(super) fn new(channels: Channels, style: Style) -> Kept
-        ensures held { result.held ≡ [] }
-        ensures channels { result.pending.channels ≡ channels }
-        ensures style { result.pending.style ≡ style }
-        ensures last { (result.pending.last.px ≡ start) × (result.pending.last.repeats ≡ 0) }
+        ensures held { result.came.held ≡ [] }
+        ensures channels { result.came.pending.channels ≡ channels }
+        ensures style { result.came.pending.style ≡ style }
+        ensures last { (result.came.pending.last.px ≡ start)
+            × (result.came.pending.last.repeats ≡ 0) }
         ensures state { (style : Style)
-            → CoderAfter style [] None result.pending.table result.pending.last }
+            → CoderAfter style [] None result.came.pending.table result.came.pending.last }
     {
         Kept {
-            pending: Pending::new(channels, style),
-            held: Held::new(),
+            came: Came {
+                pending: Pending::new(channels, style),
+                held: Held::new(),
+            },
             piece_bytes: [0; FULL_ROOM],
         }
     }
+}
+
+/// What is known of the raw bytes that came: what is pending behind those that are encoded, and the
+/// others.
+#[derive(Drop)]
+pub(super) struct Came {
+    pub(super) pending: Pending,
+    pub(super) held: Held,
 }
 
 /// Raw bytes that came and aren't encoded yet.

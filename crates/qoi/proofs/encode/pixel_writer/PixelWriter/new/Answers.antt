@@ -26,12 +26,12 @@ invariant_of-result g c =
     let h = c.in_ok-header.header in
     let valid = (says g (goal.at.invariant_of-result g c).After-n_bytes).1 in
     let count = c.n_bytes.ensures ∙ capped_is h valid in
-    let none : length c.in_ok-kept.kept.value.held ≡ 0 = ap (λ (k : Kept). length k.held) c.in_ok-kept.ensures.ok ∙ ap length c.new.ensures.held in (
+    let none : length c.in_ok-kept.kept.value.came.held ≡ 0 = ap (λ (k : Kept). length k.came.held) c.in_ok-kept.ensures.ok ∙ ap length c.new.ensures.held in (
       valid,
       omega (arith, count),
-      ap (λ (k : Kept). k.pending.channels) c.in_ok-kept.ensures.ok ∙ c.new.ensures.channels,
-      λ _. ap (λ (k : Kept). k.pending.last.px.a) c.in_ok-kept.ensures.ok ∙ ap (λ (p : RgbaPixel). p.a) c.new.ensures.last.0,
-      λ _. ap (λ k. k % channels_number h.channels) (let all : length c.in_ok-kept.kept.value.held + c.n_bytes.result ≡ image_byte_count h = omega (arith, none, count) in all)
+      ap (λ (k : Kept). k.came.pending.channels) c.in_ok-kept.ensures.ok ∙ c.new.ensures.channels,
+      λ _. ap (λ (k : Kept). k.came.pending.last.px.a) c.in_ok-kept.ensures.ok ∙ ap (λ (p : RgbaPixel). p.a) c.new.ensures.last.0,
+      λ _. ap (λ k. k % channels_number h.channels) (let all : length c.in_ok-kept.kept.value.came.held + c.n_bytes.result ≡ image_byte_count h = omega (arith, none, count) in all)
           ∙ mul-mod_left (pixel_count h) (channels_number h.channels),
     )
 
@@ -42,7 +42,7 @@ returns-clause-made g c =
     let said = says g (goal.at.returns-clause-made g c).After-n_bytes in
     record {
       header_is = sym said.0;
-      style_is = ap (λ (k : Kept). k.pending.style) c.in_ok-kept.ensures.ok ∙ c.new.ensures.style;
+      style_is = ap (λ (k : Kept). k.came.pending.style) c.in_ok-kept.ensures.ok ∙ c.new.ensures.style;
       works = refl;
       size = omega (arith, c.n_bytes.ensures ∙ capped_is h said.1 ∙ ap image_byte_count (sym said.0));
       are = λ i. omega arith;
@@ -51,10 +51,10 @@ returns-clause-made g c =
           let n = channels_number h.channels in
           let sent = subst (λ k. Appends (g.W.Write.contents c.args.writer) (g.W.Write.contents c.send_bytes.new.writer) (header_bytes k)) (sym said.0) (subst (Appends (g.W.Write.contents c.args.writer) (g.W.Write.contents c.send_bytes.new.writer)) c.encode.ensures c.in_ok-send_bytes.ensures.written) in
           let kept = c.new.result in
-          let start = image_starts e (g.W.Write.contents c.args.writer) (g.W.Write.contents c.send_bytes.new.writer) kept.pending are sent
+          let start = image_starts e (g.W.Write.contents c.args.writer) (g.W.Write.contents c.send_bytes.new.writer) kept.came.pending are sent
           c.new.ensures.last.1 (c.new.ensures.state c.args.style) in
-          let here = subst (λ x. ImageBetween e (g.W.Write.contents c.args.writer) (g.W.Write.contents c.send_bytes.new.writer) (pixels_of n (x ++ more)) kept.pending [])
-          (sym c.new.ensures.held) (subst (λ (k : Header). ImageBetween e (g.W.Write.contents c.args.writer) (g.W.Write.contents c.send_bytes.new.writer) (pixels_of (channels_number k.channels) more) kept.pending []) said.0 start) in
-          subst (λ (k : Kept). ImageBetween e (g.W.Write.contents c.args.writer) (g.W.Write.contents c.send_bytes.new.writer) (pixels_of n (k.held ++ more)) k.pending [])
+          let here = subst (λ x. ImageBetween e (g.W.Write.contents c.args.writer) (g.W.Write.contents c.send_bytes.new.writer) (pixels_of n (x ++ more)) kept.came.pending [])
+          (sym c.new.ensures.held) (subst (λ (k : Header). ImageBetween e (g.W.Write.contents c.args.writer) (g.W.Write.contents c.send_bytes.new.writer) (pixels_of (channels_number k.channels) more) kept.came.pending []) said.0 start) in
+          subst (λ (k : Kept). ImageBetween e (g.W.Write.contents c.args.writer) (g.W.Write.contents c.send_bytes.new.writer) (pixels_of n (k.came.held ++ more)) k.came.pending [])
           (sym c.in_ok-kept.ensures.ok) here;
     }

@@ -18,23 +18,23 @@ write_held-requires-clause-whole g c =
     let p = c.self.inside in
     let none : p.left ≡ 0 = omega (arith, c.if-self-gt0.false) in
     let kept = c.deref_mut-kept.result.now in
-    let channels_is : kept.pending.channels ≡ p.header.channels = ap (λ (k : Kept). k.pending.channels) c.deref_mut-kept.ensures.value ∙ c.self.invariant.2 in
-    ap (λ k. length kept.held % channels_number k) channels_is
-    ∙ ap (λ k. k % channels_number p.header.channels) (ap (λ (k : Kept). length k.held) c.deref_mut-kept.ensures.value ∙ (let same : length p.kept.value.held ≡ length p.kept.value.held + p.left = omega (arith, none) in same))
+    let channels_is : kept.came.pending.channels ≡ p.header.channels = ap (λ (k : Kept). k.came.pending.channels) c.deref_mut-kept.ensures.value ∙ c.self.invariant.2 in
+    ap (λ k. length kept.came.held % channels_number k) channels_is
+    ∙ ap (λ k. k % channels_number p.header.channels) (ap (λ (k : Kept). length k.came.held) c.deref_mut-kept.ensures.value ∙ (let same : length p.kept.value.came.held ≡ length p.kept.value.came.held + p.left = omega (arith, none) in same))
     ∙ c.self.invariant.4 c.if-self.false
 
 -- only the bytes that are held are ahead
 starts : (g : Over) (c : After-write_held g) (e : EncoderState) (before : _) → c.self.inside.left ≡ 0 → HasTaken g.W.Write.contents e before c.args.self.now
-    → ImageBetween e before (g.W.Write.contents c.self.inside.writer) (pixels_of (channels_number c.self.inside.header.channels) c.deref_mut-kept.result.now.held) c.deref_mut-kept.result.now.pending []
+    → ImageBetween e before (g.W.Write.contents c.self.inside.writer) (pixels_of (channels_number c.self.inside.header.channels) c.deref_mut-kept.result.now.came.held) c.deref_mut-kept.result.now.came.pending []
 unfolding HasTaken
 starts g c e before none taken =
     let p = c.self.inside in
     let n = channels_number p.header.channels in
     let t = subst (HasTaken g.W.Write.contents e before) (sym c.self.view_is) taken in
     let last = t.writes [] (sym none) (λ i. omega arith) in
-    let same = subst (λ x. ImageBetween (record e { raw = x }) before (g.W.Write.contents p.writer) (pixels_of n (p.kept.value.held ++ [])) p.kept.value.pending []) (append-nil e.raw) last in
-    subst (λ (k : Kept). ImageBetween e before (g.W.Write.contents p.writer) (pixels_of n k.held) k.pending []) (sym c.deref_mut-kept.ensures.value)
-    (subst (λ x. ImageBetween e before (g.W.Write.contents p.writer) (pixels_of n x) p.kept.value.pending []) (append-nil p.kept.value.held) same)
+    let same = subst (λ x. ImageBetween (record e { raw = x }) before (g.W.Write.contents p.writer) (pixels_of n (p.kept.value.came.held ++ [])) p.kept.value.came.pending []) (append-nil e.raw) last in
+    subst (λ (k : Kept). ImageBetween e before (g.W.Write.contents p.writer) (pixels_of n k.came.held) k.came.pending []) (sym c.deref_mut-kept.ensures.value)
+    (subst (λ x. ImageBetween e before (g.W.Write.contents p.writer) (pixels_of n x) p.kept.value.came.pending []) (append-nil p.kept.value.came.held) same)
 
 pub returns-clause-sent : goal.returns-clause-sent
 unfolding HasTaken
@@ -43,8 +43,8 @@ returns-clause-sent g c = λ e before t.
     let left = ap (λ s. s.left) c.self.view_is in
     let kept = c.deref_mut-kept.result.now in
     let value = c.deref_mut-kept.ensures.value in
-    let style = ap (λ (k : Kept). k.pending.style) value ∙ ap (λ s. s.style) c.self.view_is ∙ t.style_is in
-    let pixels = ap (λ k. pixels_of (channels_number k) kept.held) (sym (ap (λ (k : Kept). k.pending.channels) value ∙ c.self.invariant.2)) in
+    let style = ap (λ (k : Kept). k.came.pending.style) value ∙ ap (λ s. s.style) c.self.view_is ∙ t.style_is in
+    let pixels = ap (λ k. pixels_of (channels_number k) kept.came.held) (sym (ap (λ (k : Kept). k.came.pending.channels) value ∙ c.self.invariant.2)) in
     let valid : IsValid e.header = subst IsValid (ap (λ s. s.header) c.self.view_is ∙ t.header_is) c.self.invariant.0 in
     on_ok_weaker c.write_held.result
     (λ wrote. (
@@ -62,8 +62,8 @@ returns-clause-part g c = λ e before t.
     let left = ap (λ s. s.left) c.self.view_is in
     let kept = c.deref_mut-kept.result.now in
     let value = c.deref_mut-kept.ensures.value in
-    let style = ap (λ (k : Kept). k.pending.style) value ∙ ap (λ s. s.style) c.self.view_is ∙ t.style_is in
-    let pixels = ap (λ k. pixels_of (channels_number k) kept.held) (sym (ap (λ (k : Kept). k.pending.channels) value ∙ c.self.invariant.2)) in
+    let style = ap (λ (k : Kept). k.came.pending.style) value ∙ ap (λ s. s.style) c.self.view_is ∙ t.style_is in
+    let pixels = ap (λ k. pixels_of (channels_number k) kept.came.held) (sym (ap (λ (k : Kept). k.came.pending.channels) value ∙ c.self.invariant.2)) in
     let valid : IsValid e.header = subst IsValid (ap (λ s. s.header) c.self.view_is ∙ t.header_is) c.self.invariant.0 in
     let here = (goal.at.returns-clause-part g c).After-write_held in
     IfErr-weaker c.write_held.result _ _

@@ -17,19 +17,19 @@ use Rattle.qoi.proofs.encode.pixel_writer.PixelWriter.write.Goals as goal
 -- the image with other bytes after these, before them
 starts : (g : Over) (c : After-deref_mut-kept g) (e : EncoderState) (before : _) (more : _)
     → ImageBetween (record e { raw = e.raw ++ (c.args.raw.now ++ more) }) before (g.W.Write.contents c.self.inside.writer)
-    (pixels_of (channels_number c.self.inside.header.channels) (c.self.inside.kept.value.held ++ (c.args.raw.now ++ more))) c.self.inside.kept.value.pending []
+    (pixels_of (channels_number c.self.inside.header.channels) (c.self.inside.kept.value.came.held ++ (c.args.raw.now ++ more))) c.self.inside.kept.value.came.pending []
     → ImageBetween (record e { raw = (e.raw ++ c.args.raw.now) ++ more }) before (g.W.Write.contents c.self.inside.writer)
-    (pixels_of (channels_number c.self.inside.header.channels) ((c.deref_mut-kept.result.now.held ++ c.args.raw.now) ++ more)) c.deref_mut-kept.result.now.pending []
+    (pixels_of (channels_number c.self.inside.header.channels) ((c.deref_mut-kept.result.now.came.held ++ c.args.raw.now) ++ more)) c.deref_mut-kept.result.now.came.pending []
 starts g c e before more b =
     let p = c.self.inside in
     let raw = c.args.raw.now in
     let n = channels_number p.header.channels in
-    subst (λ (k : Kept). ImageBetween (record e { raw = (e.raw ++ raw) ++ more }) before (g.W.Write.contents p.writer) (pixels_of n ((k.held ++ raw) ++ more)) k.pending [])
+    subst (λ (k : Kept). ImageBetween (record e { raw = (e.raw ++ raw) ++ more }) before (g.W.Write.contents p.writer) (pixels_of n ((k.came.held ++ raw) ++ more)) k.came.pending [])
     (sym c.deref_mut-kept.ensures.value)
-    (subst (λ x. ImageBetween (record e { raw = x }) before (g.W.Write.contents p.writer) (pixels_of n ((p.kept.value.held ++ raw) ++ more)) p.kept.value.pending [])
+    (subst (λ x. ImageBetween (record e { raw = x }) before (g.W.Write.contents p.writer) (pixels_of n ((p.kept.value.came.held ++ raw) ++ more)) p.kept.value.came.pending [])
     (sym (append_assoc e.raw raw more))
-    (subst (λ x. ImageBetween (record e { raw = e.raw ++ (raw ++ more) }) before (g.W.Write.contents p.writer) (pixels_of n x) p.kept.value.pending [])
-    (sym (append_assoc p.kept.value.held raw more)) b))
+    (subst (λ x. ImageBetween (record e { raw = e.raw ++ (raw ++ more) }) before (g.W.Write.contents p.writer) (pixels_of n x) p.kept.value.came.pending [])
+    (sym (append_assoc p.kept.value.came.held raw more)) b))
 
 pub returns-in_err-take_any-clause-refused : goal.returns-in_err-take_any-clause-refused
 unfolding HasTaken
@@ -43,9 +43,9 @@ returns-in_err-take_any-clause-refused g c = λ e before taken.
     let raw_are : AreBytes raw = λ i. omega (arith, c.type_inv.raw i) in
     let kept = c.deref_mut-kept.result.now in
     let value = c.deref_mut-kept.ensures.value in
-    let style = ap (λ (k : Kept). k.pending.style) value ∙ t.style_is in
-    let channels : kept.pending.channels ≡ p.header.channels = ap (λ (k : Kept). k.pending.channels) value ∙ c.self.invariant.2 in
-    let pixels = λ (more : List ℕ). ap (λ k. pixels_of (channels_number k) ((kept.held ++ raw) ++ more)) (sym channels) in
+    let style = ap (λ (k : Kept). k.came.pending.style) value ∙ t.style_is in
+    let channels : kept.came.pending.channels ≡ p.header.channels = ap (λ (k : Kept). k.came.pending.channels) value ∙ c.self.invariant.2 in
+    let pixels = λ (more : List ℕ). ap (λ k. pixels_of (channels_number k) ((kept.came.held ++ raw) ++ more)) (sym channels) in
     rw (err.1, err.2) (inl (
       r.0,
       record {
@@ -75,9 +75,9 @@ returns-clause-taken g c = λ e before taken.
     let raw_are : AreBytes raw = λ i. omega (arith, c.type_inv.raw i) in
     let kept = c.deref_mut-kept.result.now in
     let value = c.deref_mut-kept.ensures.value in
-    let style = ap (λ (k : Kept). k.pending.style) value ∙ t.style_is in
-    let channels : kept.pending.channels ≡ p.header.channels = ap (λ (k : Kept). k.pending.channels) value ∙ c.self.invariant.2 in
-    let pixels = λ (more : List ℕ). ap (λ k. pixels_of (channels_number k) ((kept.held ++ raw) ++ more)) (sym channels) in
+    let style = ap (λ (k : Kept). k.came.pending.style) value ∙ t.style_is in
+    let channels : kept.came.pending.channels ≡ p.header.channels = ap (λ (k : Kept). k.came.pending.channels) value ∙ c.self.invariant.2 in
+    let pixels = λ (more : List ℕ). ap (λ k. pixels_of (channels_number k) ((kept.came.held ++ raw) ++ more)) (sym channels) in
     record {
       header_is = t.header_is;
       style_is = c.take_any.ensures.stays.style_is ∙ style;
@@ -87,6 +87,6 @@ returns-clause-taken g c = λ e before taken.
       writes = λ more size are.
           let left : length (raw ++ more) ≡ p.left = omega (arith, size, length-append raw more, c.if-raw-self.false) in
           let start = starts g (goal.at.returns-clause-taken g c).After-deref_mut-kept e before more (t.writes (raw ++ more) left (bytes_append raw more raw_are are)) in
-          subst (λ k. ImageBetween (record e { raw = (e.raw ++ raw) ++ more }) before (g.W.Write.contents c.take_any.new.writer) (pixels_of (channels_number k) (c.take_any.new.kept.held ++ more))
-          c.take_any.new.kept.pending []) channels (image_on start style more c.in_ok-take_any.ensures.written (pixels more));
+          subst (λ k. ImageBetween (record e { raw = (e.raw ++ raw) ++ more }) before (g.W.Write.contents c.take_any.new.writer) (pixels_of (channels_number k) (c.take_any.new.kept.came.held ++ more))
+          c.take_any.new.kept.came.pending []) channels (image_on start style more c.in_ok-take_any.ensures.written (pixels more));
     }

@@ -13,17 +13,17 @@ use Rattle.qoi.proofs.encode.pixel_writer.pieces.write_held.Goals.{After-bytes}
 use Rattle.qoi.proofs.encode.pixel_writer.pieces.write_held.Goals as goal
 
 -- nothing is in the piece before the bytes that were held
-starts : (g : Over) (c : After-bytes g) (ahead : List ℕ) → Between (channels_number c.args.kept.now.pending.channels) c.args.kept.now.pending.style ahead c.args.kept.now.pending [] c.args.kept.now.held
-    → Between (channels_number c.args.kept.now.pending.channels) c.args.kept.now.pending.style ahead c.args.kept.now.pending (kept_bytes c.open-piece.result.piece) c.bytes.result.now
+starts : (g : Over) (c : After-bytes g) (ahead : List ℕ) → Between (channels_number c.args.kept.now.came.pending.channels) c.args.kept.now.came.pending.style ahead c.args.kept.now.came.pending [] c.args.kept.now.came.held
+    → Between (channels_number c.args.kept.now.came.pending.channels) c.args.kept.now.came.pending.style ahead c.args.kept.now.came.pending (kept_bytes c.open-piece.result.piece) c.bytes.result.now
 starts g c ahead s =
-    let p = c.args.kept.now.pending in
-    let n = channels_number c.args.kept.now.pending.channels in
-    subst (Between n c.args.kept.now.pending.style ahead p (kept_bytes c.open-piece.result.piece)) (sym c.bytes.ensures.are)
-    (subst (λ kept. Between n c.args.kept.now.pending.style ahead p kept c.args.kept.now.held) (sym (c.open-piece.ensures ∙ c.new.ensures)) s)
+    let p = c.args.kept.now.came.pending in
+    let n = channels_number c.args.kept.now.came.pending.channels in
+    subst (Between n c.args.kept.now.came.pending.style ahead p (kept_bytes c.open-piece.result.piece)) (sym c.bytes.ensures.are)
+    (subst (λ kept. Between n c.args.kept.now.came.pending.style ahead p kept c.args.kept.now.came.held) (sym (c.open-piece.ensures ∙ c.new.ensures)) s)
 
 pub send_whole-requires : goal.send_whole-requires
 send_whole-requires g c = record {
-  whole = ap (λ x. length x % channels_number c.args.kept.now.pending.channels) c.bytes.ensures.are ∙ c.requires.whole;
+  whole = ap (λ x. length x % channels_number c.args.kept.now.came.pending.channels) c.bytes.ensures.are ∙ c.requires.whole;
   opaque = c.requires.opaque;
   room = record { enough = inr (omega arith, omega (arith, ap length c.bytes.ensures.are, c.bytes.ensures.most, c.new-stream.ensures.room)) };
 }

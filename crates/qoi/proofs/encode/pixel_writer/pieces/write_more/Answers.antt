@@ -11,18 +11,18 @@ use Rattle.qoi.proofs.encode.pixel_writer.pieces.write_more.Goals.{After-send_wh
 use Rattle.qoi.proofs.encode.pixel_writer.pieces.write_more.Goals as goal
 
 -- none are held, and whole pixels came
-came : (g : Over) (c : After-send_whole g) → c.args.held.now ++ c.args.raw.now ≡ c.split_at.result.0.now ++ c.split_at.result.1.now
+came : (g : Over) (c : After-send_whole g) → c.args.came.now.held ++ c.args.raw.now ≡ c.split_at.result.0.now ++ c.split_at.result.1.now
 came g c =
     let split = c.split_at.ensures in
-    ap (λ z. z ++ c.args.raw.now) (none_held c.args.held.now (omega (arith, c.len.ensures.count, c.if-len-eq0.true)))
+    ap (λ z. z ++ c.args.raw.now) (none_held c.args.came.now.held (omega (arith, c.len.ensures.count, c.if-len-eq0.true)))
     ∙ sym (take-append-drop _ c.args.raw.now) ∙ (λ i. sym split.front i ++ sym split.back i)
 
 -- they are held
-held : (g : Over) (c : After-send_whole-2 g) → c.args.held.now ++ c.args.raw.now ≡ c.bytes.result.now ++ c.split_at-2.result.1.now
+held : (g : Over) (c : After-send_whole-2 g) → c.args.came.now.held ++ c.args.raw.now ≡ c.bytes.result.now ++ c.split_at-2.result.1.now
 held g c =
     let split = c.split_at-2.ensures in
-    ap (λ z. c.args.held.now ++ z) (sym (take-append-drop _ c.args.raw.now) ∙ (λ i. sym split.front i ++ sym split.back i))
-    ∙ sym (append_assoc c.args.held.now c.split_at-2.result.0.now c.split_at-2.result.1.now)
+    ap (λ z. c.args.came.now.held ++ z) (sym (take-append-drop _ c.args.raw.now) ∙ (λ i. sym split.front i ++ sym split.back i))
+    ∙ sym (append_assoc c.args.came.now.held c.split_at-2.result.0.now c.split_at-2.result.1.now)
     ∙ ap (λ z. z ++ c.split_at-2.result.1.now) (sym (c.bytes.ensures.are ∙ c.push-2.ensures))
 
 pub returns-in_err-left-clause-refused : goal.returns-in_err-left-clause-refused
@@ -36,7 +36,7 @@ returns-then-len-eq0-clause-written g c =
     let part = c.split_at.result.1.now in
     let left = c.in_ok-left.left.now in
     goes_within part c.in_ok-left.ensures.written.written (came g (goal.at.returns-then-len-eq0-clause-written g c).After-send_whole)
-    (ap (λ z. z ++ part) (c.push.ensures ∙ ap (λ z. z ++ left) (none_held c.args.held.now (omega (arith, c.len.ensures.count, c.if-len-eq0.true)))))
+    (ap (λ z. z ++ part) (c.push.ensures ∙ ap (λ z. z ++ left) (none_held c.args.came.now.held (omega (arith, c.len.ensures.count, c.if-len-eq0.true)))))
 
 pub returns-in_err-left-2-clause-refused : goal.returns-in_err-left-2-clause-refused
 returns-in_err-left-2-clause-refused g c =
@@ -52,10 +52,10 @@ returns-clause-written g c =
 
 pub returns-clause-count : goal.returns-clause-count
 returns-clause-count g c =
-    let k = channels_number c.args.pending.now.channels in
-    let is = channels_are c.args.pending.now.channels k refl in
+    let k = channels_number c.args.came.now.pending.channels in
+    let is = channels_are c.args.came.now.pending.channels k refl in
     let split = c.split_at-2.ensures in
-    let h = length c.args.held.now in
+    let h = length c.args.came.now.held in
     let left = length c.in_ok-left-2.left.now in
     let front = length c.split_at-2.result.0.now in
     let rest = length c.split_at-2.result.1.now in
