@@ -11,12 +11,13 @@ use Rattle.qoi.proofs.decoding.PixelPieces.{three_of_four, four_as_three}
 -- a step that gives none
 pub gives_none : {f c : ℕ} {ahead rest : Option (List ℕ)} {old new : Pieces}
     → ((n : ℕ) (start : Option (List ℕ)) (given : List ℕ) → GivesPieces f c n start ahead given old → GivesPieces f c n start rest given new)
-    → KeepsPixels c new → bytes_left new ≡ bytes_left old → GivesMore f c ahead rest old new [] 0
-gives_none {f} {c} {ahead} {rest} {old} {new} read pixels left = record {
+    → KeepsPixels c new → bytes_left new ≡ bytes_left old → new.fault ≡ old.fault → GivesMore f c ahead rest old new [] 0
+gives_none {f} {c} {ahead} {rest} {old} {new} read pixels left fault = record {
   read = λ n start given h. subst (λ z. GivesPieces f c n start rest z new) (sym (append-nil given)) (read n start given h);
   within = omega arith;
   pixels = pixels;
   left = omega (arith, left);
+  fault = fault;
 }
 
 -- a step that gives bytes behind those of another
@@ -31,6 +32,7 @@ gives_two {f} {c} {ahead} {middle} {rest} {old} {between} {new} {front} {i} more
       within = omega (arith, same_len_mid i (length front - i) front more same, same, room, one.within, two.within);
       pixels = two.pixels;
       left = omega (arith, one.left, two.left);
+      fault = two.fault ∙ one.fault;
     }
 
 -- a step that gives none after another
@@ -41,6 +43,7 @@ gives_then_none {f} {c} {ahead} {middle} {rest} {old} {between} {new} {out} {siz
   within = one.within;
   pixels = two.pixels;
   left = omega (arith, one.left, two.left);
+  fault = two.fault ∙ one.fault;
 }
 
 -- a step that is refused after another
@@ -72,6 +75,7 @@ gives_of_four h = record {
   within = h.within;
   pixels = h.pixels;
   left = h.left;
+  fault = h.fault;
 }
 
 -- and so are they if they are refused
@@ -87,6 +91,7 @@ gives_after_none {f} {c} {ahead} {middle} {rest} {old} {between} {new} {out} {si
   within = two.within;
   pixels = two.pixels;
   left = omega (arith, one.left, two.left);
+  fault = two.fault ∙ one.fault;
 }
 
 -- kept bytes are given
@@ -103,6 +108,7 @@ gives_kept {f} {c} {ahead} p new old out k pixels few out_is is =
       within = omega (arith, ap length out_is, length-append front (drop k old), size);
       pixels = ((omega (arith, few, within), within.1), pixels.1);
       left = omega (arith, few, within);
+      fault = refl;
     })
 
 -- an output that is filled by what is kept, and by a step and what it keeps

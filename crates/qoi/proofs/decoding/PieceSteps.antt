@@ -237,7 +237,7 @@ piece_lent {c = c} p before out is h same whole long fits same_size written =
 pub run_kept : {f c n : ℕ} {start now : Option (List ℕ)} {given : List ℕ} (p : Pieces) (bytes : List ℕ) → IsChannels c → GivesPieces f c n start now given p
     → p.from ≡ p.to → 0 < p.run → AreWhole c p → 256 ≤ length bytes
     → HasWritten f c (upto p.bytes 0) (upto bytes (0 + c * (p.run / c))) (replicate (p.run / c) (pixel_of_lanes p.last))
-    → GivesPieces f c n start now given (record { table = p.table; last = p.last; bytes = bytes; from = 0; to = p.run; run = 0; undecoded = p.undecoded - p.run })
+    → GivesPieces f c n start now given (record p { bytes = bytes; from = 0; to = p.run; run = 0; undecoded = p.undecoded - p.run })
 run_kept {f} {c} {n} {start} {now} {given} p bytes is h same some whole room written =
     let fits : p.run < p.undecoded = whole.3 some in
     let (gone, stands, all) = h.goes_on (omega (arith, fits)) in
@@ -284,11 +284,11 @@ moved_size g k l u a t e le same = omega arith
 pub long_read : {f c n m : ℕ} {start old new : Option (List ℕ)} {given : List ℕ} {p : Pieces} {out : List ℕ} {table : List ℕ} {last : ℕ}
     (now rest : List ℕ) (at : ℕ) → IsChannels c → GivesPieces f c n start old given p → KeepsNothing p → (l : Lent f c n m start old given p out 0)
     → DecoderBetween f c l.gone m (Consumes start new) (filling table last now at) → at < length now → length now ≤ p.undecoded
-    → GivesPieces f c n start new (given ++ take at (now ++ rest)) (record { table = table; last = last; bytes = p.bytes; from = p.from; to = p.to; run = p.run; undecoded = p.undecoded - at })
+    → GivesPieces f c n start new (given ++ take at (now ++ rest)) (record p { table = table; last = last; undecoded = p.undecoded - at })
 long_read {f} {c} {n} {m} {start} {old} {new} {given} {p} {out} {table} {last} now rest at is h same l after inside fits =
     let (all, stands, e) = closes given now at is after inside l.so_far in
     let front : take at (now ++ rest) ≡ take at now = take-append-le at now rest (omega (arith, inside)) in
-    let then : Pieces = record { table = table; last = last; bytes = p.bytes; from = p.from; to = p.to; run = p.run; undecoded = p.undecoded - at } in
+    let then : Pieces = record p { table = table; last = last; undecoded = p.undecoded - at } in
     let more = given ++ take at (now ++ rest) in
     let size : length more ≡ length given + at =
     length-append given (take at (now ++ rest)) ∙ ap (λ k. length given + k) (ap length front ∙ length-take-le at now (omega (arith, inside))) in
@@ -308,12 +308,12 @@ pub piece_read : {f c n m : ℕ} {start old new : Option (List ℕ)} {given : Li
     (now rest : List ℕ) (placed : InPlace) → IsChannels c → GivesPieces f c n start old given p → p.from ≡ p.to → (l : Lent f c n m start old given p out p.run)
     → TakesPiece f c l.gone (Consumes start new) table now placed → IsInPlace c (length now) placed → length now + 256 ≤ p.undecoded
     → GivesPieces f c n start new (given ++ take placed.at (now ++ rest))
-    (record { table = table; last = placed.last; bytes = p.bytes; from = p.from; to = p.to; run = placed.run; undecoded = p.undecoded - placed.at })
+    (record p { table = table; last = placed.last; run = placed.run; undecoded = p.undecoded - placed.at })
 piece_read {f} {c} {n} {m} {start} {old} {new} {given} {p} {out} {table} now rest placed is h same l t sizes fits =
     let at = placed.at in
     let inside = sizes.within in
     let front : take at (now ++ rest) ≡ take at now = take-append-le at now rest inside in
-    let then : Pieces = record { table = table; last = placed.last; bytes = p.bytes; from = p.from; to = p.to; run = placed.run; undecoded = p.undecoded - at } in
+    let then : Pieces = record p { table = table; last = placed.last; run = placed.run; undecoded = p.undecoded - at } in
     let more = given ++ take at (now ++ rest) in
     let size : length more ≡ length given + at = length-append given (take at (now ++ rest)) ∙ ap (λ k. length given + k) (ap length front ∙ length-take-le at now inside) in
     record {
@@ -326,7 +326,7 @@ piece_read {f} {c} {n} {m} {start} {old} {new} {given} {p} {out} {table} now res
 pub kept_read : {f c n m : ℕ} {start old new : Option (List ℕ)} {given : List ℕ} {p : Pieces} {out : List ℕ} {table : List ℕ} {last : ℕ}
     (now rest : List ℕ) (at : ℕ) → IsChannels c → GivesPieces f c n start old given p → KeepsNothing p → (l : Lent f c n m start old given p out 0)
     → DecoderBetween f c l.gone m (Consumes start new) (filling table last now at) → at < length now → length now < p.undecoded
-    → GivesPieces f c n start new given (record { table = table; last = last; bytes = now ++ rest; from = 0; to = at; run = p.run; undecoded = p.undecoded - at })
+    → GivesPieces f c n start new given (record p { table = table; last = last; bytes = now ++ rest; from = 0; to = at; undecoded = p.undecoded - at })
 kept_read {f} {c} {n} {m} {start} {old} {new} {given} {p} {out} {table} {last} now rest at is h same l after inside fits =
     let (all, stands, e) = closes given now at is after inside l.so_far in
     record {
@@ -346,7 +346,7 @@ pub rest_read : {f c n m : ℕ} {start old new : Option (List ℕ)} {given : Lis
     (now : List ℕ) → IsChannels c → GivesPieces f c n start old given p → KeepsNothing p → (l : Lent f c n m start old given p out 0)
     → ReadsImage f c (length l.gone + m) start new (output f c (reverse l.gone) ++ take p.undecoded now)
     → p.undecoded ≤ length now → p.undecoded ≡ c * m
-    → GivesPieces f c n start new given (record { table = table; last = last; bytes = now; from = 0; to = p.undecoded; run = p.run; undecoded = 0 })
+    → GivesPieces f c n start new given (record p { table = table; last = last; bytes = now; from = 0; to = p.undecoded; undecoded = 0 })
 rest_read {f} {c} {n} {m} {start} {old} {new} {given} {p} {out} {table} {last} now is h same l read fits all =
     let none : p.to - p.from ≡ 0 = omega (arith, same) in
     let count : length l.gone + m ≡ n = rest_count is h same l all in

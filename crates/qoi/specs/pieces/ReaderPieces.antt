@@ -75,6 +75,8 @@ pub record GivesMore (file_channels channels : ℕ) (ahead rest : Option (List �
   pub pixels : KeepsPixels channels new
   -- as many bytes fewer are left
   pub left : size + bytes_left new ≡ bytes_left old
+  -- and the place for an error is as before
+  pub fault : new.fault ≡ old.fault
 
 -- A step was refused: the place for the error has one, and of each image it says why chunks are refused.
 pub record RefusesMore (file_channels channels : ℕ) (in_memory : Bool) (ahead rest : Option (List ℕ)) (old : Pieces) (fault : Option Error) : Type 0 where

@@ -43,12 +43,10 @@ pub struct PixelReader<R> {
     decoder: Decoder<R>,
     pieces: Pieces,
     refused: bool,
-    // Where the error of a refusal stands until it is returned.
-    fault: Option<Error>,
 }
 
 impl<R> Model for PixelReader<R> {
-    ghost use Rattle.std.specs.Prelude.{◌≡◌, ◌≤◌, false};
+    ghost use Rattle.std.specs.Prelude.{◌≡◌, ◌≤◌, None, false};
     ghost use Rattle.qoi.specs.Qoi.{channels_number, IsValid};
     ghost use Rattle.qoi.specs.DecoderState.{output_byte_count};
     ghost use Rattle.qoi.specs.pieces.ReaderPieces.{bytes_left, KeepsWithin, AreWhole};
@@ -66,19 +64,8 @@ impl<R> Model for PixelReader<R> {
 
     ghost invariant = { λ p. IsValid p.decoder.header × KeepsWithin p.pieces
         × (bytes_left p.pieces ≤ output_byte_count p.decoder)
-        × (p.refused ≡ false → AreWhole (channels_number p.decoder.channels) p.pieces) };
-}
-
-// The error of a refusal.
-#[cold]
-#[inline(never)]
-fn fault_of(fault: Option<Error>) -> Error
-    ensures { IfSome fault (λ e. result ≡ e) }
-{
-    match fault {
-        Some(e) => e,
-        None => Error::UnexpectedBufferEnd,
-    }
+        × (p.refused ≡ false → AreWhole (channels_number p.decoder.channels) p.pieces)
+        × (p.pieces.fault ≡ None) };
 }
 
 impl<R: Reader> Decoder<R> {
@@ -97,7 +84,6 @@ impl<R: Reader> Decoder<R> {
             decoder: self,
             pieces: Pieces::new(size),
             refused: false,
-            fault: None,
         }
     }
 
@@ -105,12 +91,7 @@ impl<R: Reader> Decoder<R> {
     // bytes it has; the rest of `out`, and more, are kept. Not inlined: what `read` does for
     // bytes that are kept is then a few instructions.
     #[inline(never)]
-    fn ask_reader(
-        &mut self,
-        pieces: &mut Pieces,
-        out: &mut [u8],
-        fault: &mut Option<Error>,
-    ) -> PieceResult<usize>
+    fn ask_reader(&mut self, pieces: &mut Pieces, out: &mut [u8]) -> PieceResult<usize>
         requires none { pieces.old.from ≡ pieces.old.to }
         requires fits { length out.old ≤ bytes_left pieces.old }
         requires pixels { KeepsPixels (channels_number self.old.channels) pieces.old }
@@ -119,7 +100,7 @@ impl<R: Reader> Decoder<R> {
             (R.ahead self.old.reader) (R.ahead self.new.reader) pieces.old pieces.new out.new) }
         ensures refused { OnErr result (RefusesMore (channels_number self.old.header.channels)
             (channels_number self.old.channels) R.in_memory
-            (R.ahead self.old.reader) (R.ahead self.new.reader) pieces.old fault.new) }
+            (R.ahead self.old.reader) (R.ahead self.new.reader) pieces.old pieces.new.fault) }
         ensures enough { IfOk result (λ size.
             length out.new ≤ size + (pieces.new.to - pieces.new.from)) }
         ensures kept { IsTrue R.in_memory
@@ -127,18 +108,13 @@ impl<R: Reader> Decoder<R> {
         ensures unchanged { self.new ≡ record self.old { reader = self.new.reader } }
     {
         self.reader
-            .decode_piece(pieces, out, self.channels, self.header.channels, fault)
+            .decode_piece(pieces, out, self.channels, self.header.channels)
     }
 
     // Fills `out` with the next bytes of the image: with what is kept, with more that is decoded in
     // place, and with what is then kept.
     #[inline(always)]
-    fn next_piece(
-        &mut self,
-        pieces: &mut Pieces,
-        out: &mut [u8],
-        fault: &mut Option<Error>,
-    ) -> PieceResult<()>
+    fn next_piece(&mut self, pieces: &mut Pieces, out: &mut [u8]) -> PieceResult<()>
         requires fits { length out.old ≤ bytes_left pieces.old }
         requires pixels { KeepsPixels (channels_number self.old.channels) pieces.old }
         ensures gives { OnOk result (GivesMore (channels_number self.old.header.channels)
@@ -146,7 +122,7 @@ impl<R: Reader> Decoder<R> {
             (R.ahead self.new.reader) pieces.old pieces.new out.new (length out.new)) }
         ensures refused { OnErr result (RefusesMore (channels_number self.old.header.channels)
             (channels_number self.old.channels) R.in_memory
-            (R.ahead self.old.reader) (R.ahead self.new.reader) pieces.old fault.new) }
+            (R.ahead self.old.reader) (R.ahead self.new.reader) pieces.old pieces.new.fault) }
         ensures kept { IsTrue R.in_memory
             → OnErr result (Keeps (R.ahead self.old.reader) (R.ahead self.new.reader)) }
         ensures unchanged { self.new ≡ record self.old { reader = self.new.reader } }
@@ -155,7 +131,7 @@ impl<R: Reader> Decoder<R> {
         if done == out.len() {
             return Ok(());
         }
-        let more = self.ask_reader(pieces, &mut out[done..], fault)?;
+        let more = self.ask_reader(pieces, &mut out[done..])?;
         let given = done + more;
         if given == out.len() {
             return Ok(());
@@ -185,7 +161,6 @@ impl<R: Reader> PixelReader<R> {
             decoder: self.decoder.clone()?,
             pieces: self.pieces.copied(),
             refused: self.refused,
-            fault: None,
         })
     }
 
@@ -291,15 +266,11 @@ impl<R: Reader> PixelReader<R> {
         if self.refused {
             return Err(Error::UnexpectedBufferEnd);
         }
-        match self
-            .decoder
-            .next_piece(&mut self.pieces, &mut buf[..size], &mut self.fault)
-        {
+        match self.decoder.next_piece(&mut self.pieces, &mut buf[..size]) {
             Ok(()) => Ok(size),
             Err(_) => {
                 self.refused = true;
-                self.pieces.refuse(left);
-                Err(fault_of(self.fault.take()))
+                Err(self.pieces.refuse(left))
             }
         }
     }

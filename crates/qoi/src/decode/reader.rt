@@ -139,7 +139,7 @@ pub trait Reader: Sized {
 
     /// Decodes the next bytes of an image, while none are kept: into the front of `out`, and
     /// returns how many; the rest of `out`, and more, are kept. With the last ones it takes the end
-    /// marker. After a refusal the error stands in `fault`.
+    /// marker. After a refusal the error stands in `pieces`.
     ///
     /// Only `PixelReader` can call it, and no other type can be a reader, since nobody else has a
     /// `Pieces`.
@@ -150,7 +150,6 @@ pub trait Reader: Sized {
         out: &mut [u8],
         channels: Channels,
         file_channels: Channels,
-        fault: &mut Option<Error>,
     ) -> PieceResult<usize>
         requires none { KeepsNone pieces.old }
         requires fits { length out.old ≤ bytes_left pieces.old }
@@ -160,7 +159,7 @@ pub trait Reader: Sized {
             (ahead self.old) (ahead self.new) pieces.old pieces.new out.new) }
         ensures refused { OnErr result
             (RefusesMore (channels_number file_channels) (channels_number channels) in_memory
-            (ahead self.old) (ahead self.new) pieces.old fault.new) }
+            (ahead self.old) (ahead self.new) pieces.old pieces.new.fault) }
         ensures enough { IfOk result (λ size. length out.new ≤ size + kept_count pieces.new) }
         ensures kept { IsTrue in_memory → OnErr result (Keeps (ahead self.old) (ahead self.new)) };
 
@@ -204,7 +203,6 @@ fn piece_of_bytes(
     out: &mut [u8],
     channels: Channels,
     file_channels: Channels,
-    fault: &mut Option<Error>,
 ) -> PieceResult<usize>
     requires none { KeepsNone pieces.old }
     requires fits { length out.old ≤ bytes_left pieces.old }
@@ -214,13 +212,13 @@ fn piece_of_bytes(
         (Some bytes.old) (Some bytes.new) pieces.old pieces.new out.new) }
     ensures refused { OnErr result
         (RefusesMore (channels_number file_channels) (channels_number channels) true
-        (Some bytes.old) (Some bytes.new) pieces.old fault.new) }
+        (Some bytes.old) (Some bytes.new) pieces.old pieces.new.fault) }
     ensures enough { IfOk result (λ size. length out.new ≤ size + kept_count pieces.new) }
 {
     in_channels!(
         channels,
         file_channels,
-        Pieces::decode_more[Bytes](pieces, bytes, out, fault)
+        Pieces::decode_more[Bytes](pieces, bytes, out)
     )
 }
 
@@ -264,10 +262,9 @@ impl<'a> Reader for Bytes<'a> {
         out: &mut [u8],
         channels: Channels,
         file_channels: Channels,
-        fault: &mut Option<Error>,
     ) -> PieceResult<usize> {
         let before = self.0;
-        match piece_of_bytes(self, pieces, out, channels, file_channels, fault) {
+        match piece_of_bytes(self, pieces, out, channels, file_channels) {
             Ok(size) => Ok(size),
             Err(refused) => {
                 // Put back as a part of itself, so that `before` is read as address and length, one by
@@ -319,12 +316,11 @@ impl<R: Read> Reader for R {
         out: &mut [u8],
         channels: Channels,
         file_channels: Channels,
-        fault: &mut Option<Error>,
     ) -> PieceResult<usize> {
         in_channels!(
             channels,
             file_channels,
-            Pieces::decode_more[R](pieces, self, out, fault)
+            Pieces::decode_more[R](pieces, self, out)
         )
     }
 }
@@ -402,12 +398,11 @@ impl<R: BufRead> Reader for Buffered<R> {
         out: &mut [u8],
         channels: Channels,
         file_channels: Channels,
-        fault: &mut Option<Error>,
     ) -> PieceResult<usize> {
         in_channels!(
             channels,
             file_channels,
-            Pieces::decode_more[Buffered<R>](pieces, self, out, fault)
+            Pieces::decode_more[Buffered<R>](pieces, self, out)
         )
     }
 }

@@ -38,7 +38,7 @@ pub struct Mark {
 }
 
 impl Model for Mark {
-    ghost use Rattle.std.specs.Prelude.{◌≡◌, ◌≤◌, false};
+    ghost use Rattle.std.specs.Prelude.{◌≡◌, ◌≤◌, None, false};
     ghost use Rattle.qoi.specs.Qoi.{channels_number, IsValid};
     ghost use Rattle.qoi.specs.Raw.{byte_count};
     ghost use Rattle.qoi.specs.pieces.ReaderPieces.{bytes_left, KeepsWithin, AreWhole};
@@ -56,7 +56,8 @@ impl Model for Mark {
 
     ghost invariant = { λ m. IsValid m.header × KeepsWithin m.pieces
         × (bytes_left m.pieces ≤ byte_count m.header (channels_number m.channels))
-        × (m.refused ≡ false → AreWhole (channels_number m.channels) m.pieces) };
+        × (m.refused ≡ false → AreWhole (channels_number m.channels) m.pieces)
+        × (m.pieces.fault ≡ None) };
 }
 
 impl<'a> PixelReader<Bytes<'a>> {
@@ -128,7 +129,6 @@ impl Mark {
             },
             pieces: self.pieces.copied(),
             refused: self.refused,
-            fault: None,
         }
     }
 

@@ -1,5 +1,5 @@
 //! The loops over the pieces of an image: what is decoded before a caller asks for it is kept.
-ghost use Rattle.std.specs.Prelude.{◌≡◌, ◌↔◌, ℕ, ◌+◌, ◌-◌, ◌*◌, ◌%◌, ◌^◌, ◌<◌, ◌≤◌, List, [], ◌++◌, length, take, drop, min, Option, Some, IsTrue, IfOk, OnOk, OnErr};
+ghost use Rattle.std.specs.Prelude.{◌≡◌, ◌↔◌, ℕ, ◌+◌, ◌-◌, ◌*◌, ◌%◌, ◌^◌, ◌<◌, ◌≤◌, List, [], ◌++◌, length, take, drop, min, Option, Some, IsTrue, IfOk, OnOk, OnErr, IfSome, None};
 ghost use Rattle.qoi.specs.Raw.{IsChannels};
 ghost use Rattle.qoi.specs.declared.decode.output.TheConstants.{RUN_ROOM};
 ghost use Rattle.qoi.specs.declared.decode.pixel_reader.room.TheConstants.{DECODED_AHEAD, IN_PLACE};
@@ -15,7 +15,7 @@ use crate::error::Error;
 
 /// What stands between two pieces of an image: the table, the last pixel, bytes that are stored and
 /// weren't given yet, and how many bytes aren't stored; of those the first `run` are copies of the
-/// last pixel.
+/// last pixel. After a refusal its error stands in `fault`, until it is returned.
 #[derive(Drop)]
 pub struct Pieces {
     pub(super) table: TermTable,
@@ -25,25 +25,16 @@ pub struct Pieces {
     pub(super) to: usize,
     pub(super) run: usize,
     pub(super) undecoded: usize,
+    pub(super) fault: Option<Error>,
 }
 
-/// A piece was refused. The error stands in a place of the caller's: a result with the error in it
-/// has 104 bytes, which would be written for each piece.
+/// A piece was refused. The error stands in `fault`: a result with the error in it has 104 bytes,
+/// which would be written for each piece.
 #[derive(Clone, Copy)]
 pub struct Refused;
 
 /// What the loops over pieces return.
 pub type PieceResult<T> = std::result::Result<T, Refused>;
-
-// Puts the error of a refusal in its place.
-#[cold]
-#[inline(never)]
-pub(super) fn fail(fault: &mut Option<Error>, e: Error) -> Refused
-    ensures { fault.new ≡ Some e }
-{
-    *fault = Some(e);
-    Refused
-}
 
 impl Pieces {
     ghost use Rattle.qoi.specs.pieces.ReaderPieces.{kept_raw, bytes_left, KeepsWithin, KeepsNothing, KeepsPixels, GivesPieces, GivesMore, RefusesMore};
@@ -57,6 +48,7 @@ impl Pieces {
         ensures left { bytes_left result ≡ size }
         ensures within { KeepsWithin result }
         ensures undecoded { (result.undecoded ≡ size) × (result.run ≡ 0) }
+        ensures fault { result.fault ≡ None }
     {
         Pieces {
             table: TermTable::new(),
@@ -66,11 +58,13 @@ impl Pieces {
             to: 0,
             run: 0,
             undecoded: size,
+            fault: None,
         }
     }
 
-    /// A copy.
+    /// A copy, while no error stands in its place.
     pub(super) fn copied(&self) -> Pieces
+        requires { self.now.fault ≡ None }
         ensures { result ≡ self.now }
     {
         Pieces {
@@ -81,6 +75,7 @@ impl Pieces {
             to: self.to,
             run: self.run,
             undecoded: self.undecoded,
+            fault: None,
         }
     }
 
@@ -94,17 +89,34 @@ impl Pieces {
         self.to - self.from + self.undecoded
     }
 
-    /// Drops what is kept: no more of the image is given, and as many bytes are left of it as
-    /// before the piece that was refused.
+    // Puts the error of a refusal in its place.
     #[cold]
-    pub(super) fn refuse(&mut self, left: usize)
+    #[inline(never)]
+    fn fail(&mut self, e: Error) -> Refused
+        ensures { self.new.fault ≡ Some e }
+    {
+        self.fault = Some(e);
+        Refused
+    }
+
+    /// Drops what is kept: no more of the image is given, and as many bytes are left of it as
+    /// before the piece that was refused. Returns the error of the refusal.
+    #[cold]
+    #[inline(never)]
+    pub(super) fn refuse(&mut self, left: usize) -> Error
         ensures left { bytes_left self.new ≡ left }
         ensures within { KeepsWithin self.new }
+        ensures error { IfSome self.old.fault (λ e. result ≡ e) }
+        ensures none { self.new.fault ≡ None }
     {
         self.from = 0;
         self.to = 0;
         self.run = 0;
         self.undecoded = left;
+        match self.fault.take() {
+            Some(e) => e,
+            None => Error::UnexpectedBufferEnd,
+        }
     }
 
     /// Gives kept bytes into the front of `out`, and returns how many.
@@ -142,7 +154,6 @@ impl Pieces {
         &mut self,
         reader: &mut R,
         out: &mut [u8],
-        fault: &mut Option<Error>,
     ) -> PieceResult<usize>
         requires channels { IsChannels N }
         requires none { self.old.from ≡ self.old.to }
@@ -152,7 +163,7 @@ impl Pieces {
         ensures gives { IfOk result (GivesMore F N (R.ahead reader.old) (R.ahead reader.new)
             self.old self.new out.new) }
         ensures refused { OnErr result (RefusesMore F N R.in_memory
-            (R.ahead reader.old) (R.ahead reader.new) self.old fault.new) }
+            (R.ahead reader.old) (R.ahead reader.new) self.old self.new.fault) }
         ensures none { OnOk result (self.new.from ≡ self.new.to) }
     {
         let size = out.len() / N * N;
@@ -164,7 +175,7 @@ impl Pieces {
             self.run,
         ) {
             Ok(placed) => placed,
-            Err(e) => return Err(fail(fault, e)),
+            Err(e) => return Err(self.fail(e)),
         };
         self.last = placed.last;
         self.run = placed.run;
@@ -217,7 +228,6 @@ impl Pieces {
         &mut self,
         reader: &mut R,
         out: &mut [u8],
-        fault: &mut Option<Error>,
     ) -> PieceResult<usize>
         requires channels { IsChannels N }
         requires none { self.old.from ≡ self.old.to }
@@ -226,13 +236,13 @@ impl Pieces {
         ensures gives { IfOk result (GivesMore F N (R.ahead reader.old) (R.ahead reader.new)
             self.old self.new out.new) }
         ensures refused { OnErr result (RefusesMore F N R.in_memory
-            (R.ahead reader.old) (R.ahead reader.new) self.old fault.new) }
+            (R.ahead reader.old) (R.ahead reader.new) self.old self.new.fault) }
         ensures none { IfOk result (λ size. size < length out.new → KeepsNothing self.new) }
     {
         if !self.goes_in_place(out.len()) {
             return Ok(self.give_run::<N, F>(out));
         }
-        let placed = self.piece_in_place::<R, N, F>(reader, out, fault)?;
+        let placed = self.piece_in_place::<R, N, F>(reader, out)?;
         if placed == out.len() {
             return Ok(placed);
         }
@@ -247,7 +257,6 @@ impl Pieces {
         reader: &mut R,
         out: &mut [u8],
         done: usize,
-        fault: &mut Option<Error>,
     ) -> PieceResult<usize>
         requires channels { IsChannels N }
         requires none { KeepsNothing self.old }
@@ -256,7 +265,7 @@ impl Pieces {
         ensures gives { IfOk result (GivesMore F N (R.ahead reader.old) (R.ahead reader.new)
             self.old self.new out.new) }
         ensures refused { OnErr result (RefusesMore F N R.in_memory
-            (R.ahead reader.old) (R.ahead reader.new) self.old fault.new) }
+            (R.ahead reader.old) (R.ahead reader.new) self.old self.new.fault) }
         ensures few { IfOk result (λ size. length out.new < size + IN_PLACE) }
         ensures last { IfOk result (λ size. 0 < done + size
             → length out.new < size + (RUN_ROOM + 3)) }
@@ -268,7 +277,7 @@ impl Pieces {
         let size = out.len() / N * N;
         let now = match reader.some_chunks(&mut self.table, self.last, &mut out[..size], 0) {
             Ok(now) => now,
-            Err(e) => return Err(fail(fault, e)),
+            Err(e) => return Err(self.fail(e)),
         };
         self.last = now.last;
         self.undecoded -= now.at;
@@ -281,7 +290,6 @@ impl Pieces {
         &mut self,
         reader: &mut R,
         room: usize,
-        fault: &mut Option<Error>,
     ) -> PieceResult<()>
         requires channels { IsChannels N }
         requires room { (0 < room) × (room ≤ DECODED_AHEAD) }
@@ -292,7 +300,7 @@ impl Pieces {
         ensures gives { OnOk result (GivesMore F N (R.ahead reader.old) (R.ahead reader.new)
             self.old self.new [] 0) }
         ensures refused { OnErr result (RefusesMore F N R.in_memory
-            (R.ahead reader.old) (R.ahead reader.new) self.old fault.new) }
+            (R.ahead reader.old) (R.ahead reader.new) self.old self.new.fault) }
         ensures enough { OnOk result
             (min self.old.undecoded (room - RUN_ROOM) ≤ self.new.to - self.new.from) }
     {
@@ -307,7 +315,7 @@ impl Pieces {
             );
             let now = match front {
                 Ok(now) => now,
-                Err(e) => return Err(fail(fault, e)),
+                Err(e) => return Err(self.fail(e)),
             };
             self.last = now.last;
             self.to = now.at;
@@ -323,7 +331,7 @@ impl Pieces {
             size,
         );
         if let Err(e) = rest {
-            return Err(fail(fault, e));
+            return Err(self.fail(e));
         }
         self.to = size;
         self.undecoded = 0;
@@ -336,7 +344,6 @@ impl Pieces {
         &mut self,
         reader: &mut R,
         out: &mut [u8],
-        fault: &mut Option<Error>,
     ) -> PieceResult<usize>
         requires channels { IsChannels N }
         requires none { self.old.from ≡ self.old.to }
@@ -345,21 +352,21 @@ impl Pieces {
         ensures gives { IfOk result (GivesMore F N (R.ahead reader.old) (R.ahead reader.new)
             self.old self.new out.new) }
         ensures refused { OnErr result (RefusesMore F N R.in_memory
-            (R.ahead reader.old) (R.ahead reader.new) self.old fault.new) }
+            (R.ahead reader.old) (R.ahead reader.new) self.old self.new.fault) }
         ensures enough { IfOk result (λ size.
             length out.new ≤ size + (self.new.to - self.new.from)) }
     {
-        let done = self.piece_front::<R, N, F>(reader, out, fault)?;
+        let done = self.piece_front::<R, N, F>(reader, out)?;
         if done == out.len() {
             return Ok(done);
         }
-        let more = self.long_piece::<R, N, F>(reader, &mut out[done..], done, fault)?;
+        let more = self.long_piece::<R, N, F>(reader, &mut out[done..], done)?;
         let size = done + more;
         if size == out.len() {
             return Ok(size);
         }
         let room = kept_room(out.len(), size);
-        self.decode_ahead::<R, N, F>(reader, room, fault)?;
+        self.decode_ahead::<R, N, F>(reader, room)?;
         Ok(size)
     }
 }

@@ -155,9 +155,9 @@ impl Place {
                 to: 0,
                 run: size_in(channels, self.run),
                 undecoded: size_in(channels, self.left),
+                fault: None,
             },
             refused: false,
-            fault: None,
         }
     }
 

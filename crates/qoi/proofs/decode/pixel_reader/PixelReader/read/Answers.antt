@@ -110,7 +110,7 @@ returns-in-Err-clause-refused g c d start given h =
     let ahead = ap (λ s. g.R.Reader.ahead s.reader) c.self.view_is in
     let pieces = ap (λ s. s.pieces) c.self.view_is in
     let ahead_now = g.R.Reader.ahead c.next_piece.new.self.reader in
-    refuses_pixels g.R.Reader.in_memory d start _ c.fault_of.result
-    (subst (λ k. RefusesChunks g.R.Reader.in_memory (pixel_count k) start ahead_now c.fault_of.result) header
-    (fault_is _ c.take.result c.fault_of.result c.fault_of.ensures (subst (HasFault (RefusesChunks g.R.Reader.in_memory (pixel_count c.self.inside.decoder.header) start ahead_now)) (sym c.take.ensures.value)
-    (c.in-Err.ensures.refused.refused _ start given (pieces_of header chosen ahead pieces h.pieces)))))
+    refuses_pixels g.R.Reader.in_memory d start _ c.refuse.result
+    (subst (λ k. RefusesChunks g.R.Reader.in_memory (pixel_count k) start ahead_now c.refuse.result) header
+    (fault_is _ c.next_piece.new.pieces.fault c.refuse.result c.refuse.ensures.error
+    (c.in-Err.ensures.refused.refused _ start given (pieces_of header chosen ahead pieces h.pieces))))

@@ -1,5 +1,5 @@
 -- What was lent is decoded, and at the end of the image the end marker is taken.
-use Rattle.std.proofs.Common.{◌≡◌, ℕ, ◌/◌, ◌%◌, ◌<◌, ◌≤◌, ◌-◌, List, take, drop, take-append-drop, length, Option, arith, sym, ◌∙◌, subst}
+use Rattle.std.proofs.Common.{refl, ◌≡◌, ℕ, ◌/◌, ◌%◌, ◌<◌, ◌≤◌, ◌-◌, List, take, drop, take-append-drop, length, Option, arith, sym, ◌∙◌, subst}
 use Rattle.std.proofs.lemmas.List.{length-take-le}
 use Rattle.qoi.specs.declared.decode.pixel_reader.pieces.Pieces.{Pieces}
 use Rattle.qoi.specs.Raw.{IsChannels}
@@ -48,11 +48,11 @@ returns-then-self-gt-DECODED_AHEAD-clause-gives g c =
     let l = room_lent c.args.self.now c.args.room c.requires.channels h c.requires.none within c.requires.whole (omega (arith, c.if-self-gt-DECODED_AHEAD.true, c.requires.room.1)) in
     let front = length-take-le c.args.room out (omega (arith, within, c.front_of_image-front.auto.out)) in
     subst (λ z. GivesPieces g.row.F g.row.N n start (g.R.Chunks.ahead c.front_of_image-front.new.reader) given
-    (record { table = c.front_of_image-front.new.table; last = now.last; bytes = z; from = 0; to = now.at; run = c.args.self.now.run; undecoded = c.args.self.now.undecoded - now.at })) (take-append-drop c.args.room out)
+    (record c.args.self.now { table = c.front_of_image-front.new.table; last = now.last; bytes = z; from = 0; to = now.at; undecoded = c.args.self.now.undecoded - now.at })) (take-append-drop c.args.room out)
     (kept_read (take c.args.room out) (drop c.args.room out) now.at c.requires.channels h c.requires.none l (c.in-Ok.ensures.read.goes_on.between l.gone _ _ l.before)
     (omega (arith, front, c.in-Ok.ensures.below)) (omega (arith, front, c.if-self-gt-DECODED_AHEAD.true, c.requires.room.1))))
     ((omega arith, omega (arith, c.in-Ok.ensures.below, c.requires.room.1)), (whole, pixels.1, pixels.2, λ some. absurd (omega (arith, some, c.requires.none))))
-    (omega (arith, c.requires.none, c.in-Ok.ensures.below, c.if-self-gt-DECODED_AHEAD.true, c.requires.room.1))
+    (omega (arith, c.requires.none, c.in-Ok.ensures.below, c.if-self-gt-DECODED_AHEAD.true, c.requires.room.1)) refl
 
 pub returns-in-Err-rest-clause-refused : goal.returns-in-Err-rest-clause-refused
 returns-in-Err-rest-clause-refused g c = record {
@@ -74,4 +74,4 @@ returns-clause-gives g c =
     rest_read c.rest_of_image-rest.new.out c.requires.channels h c.requires.none l (c.in_default.ensures.read l.gone _ _ l.before)
     (omega (arith, short, size, c.rest_of_image-rest.auto.out)) (rest_whole c.requires.channels h c.requires.none.0 c.requires.some))
     ((omega arith, omega (arith, short, size, c.rest_of_image-rest.auto.out)), (none_written g.row.N c.requires.channels, pixels.1, pixels.2, λ some. absurd (omega (arith, some, c.requires.none))))
-    (omega (arith, c.requires.none))
+    (omega (arith, c.requires.none)) refl

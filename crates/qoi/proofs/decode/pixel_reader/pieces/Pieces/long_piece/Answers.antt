@@ -36,4 +36,5 @@ returns-clause-gives g c =
       within = search rules;
       pixels = (c.requires.pixels.0, (whole, pixels.1, pixels.2, λ some. absurd (omega (arith, some, same))));
       left = search rules;
+      fault = refl;
     }

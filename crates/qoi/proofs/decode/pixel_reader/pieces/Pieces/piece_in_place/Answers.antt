@@ -1,5 +1,5 @@
 -- What is left of a run is stored, and what was lent is decoded behind it.
-use Rattle.std.proofs.Common.{arith, rules, sym, subst}
+use Rattle.std.proofs.Common.{arith, rules, refl, sym, subst}
 use Rattle.qoi.specs.inner.Chunks.{RefusesChunks, HasFault}
 use Rattle.qoi.proofs.decoding.PieceSteps.{piece_lent, piece_read, placed_most}
 use Rattle.qoi.proofs.decode.pixel_reader.pieces.Pieces.piece_in_place.Goals as goal
@@ -21,4 +21,5 @@ returns-clause-gives g c = record {
   within = search rules;
   pixels = search rules;
   left = search rules;
+  fault = refl;
 }

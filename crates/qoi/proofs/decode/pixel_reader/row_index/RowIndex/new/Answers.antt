@@ -1,5 +1,5 @@
 -- The image is read whole, and the places are places of it.
-use Rattle.std.proofs.Common.{sym, ap, subst, inl, length, arith}
+use Rattle.std.proofs.Common.{sym, ap, subst, inl, inr, length, arith}
 use Rattle.std.proofs.lemmas.Result.{err_from_is_err_and}
 use Rattle.qoi.specs.Qoi.{pixel_count}
 use Rattle.qoi.specs.pieces.RowIndex.{ArePlaces}
@@ -37,3 +37,8 @@ pub returns-in_err-header-clause-refused : goal.returns-in_err-header-clause-ref
 returns-in_err-header-clause-refused c =
     let p = err_from_is_err_and c.from_residual.result c.from_residual.ensures.1 in
     rw (p.1, p.2) (inl (refused_header _ _ (sym c.in_err-header.ensures.read)))
+
+pub returns-in_err-keep_place-clause-refused : goal.returns-in_err-keep_place-clause-refused
+returns-in_err-keep_place-clause-refused c =
+    let p = err_from_is_err_and c.from_residual-in_err-keep_place.result c.from_residual-in_err-keep_place.ensures.1 in
+    rw (p.1, p.2) (inr (c.in_err-keep_place.ensures.refused, c.in_ok-header.header, sym c.in_ok-header.ensures.read))
