@@ -107,8 +107,8 @@ impl<R: Reader> Decoder<R> {
             → OnErr result (Keeps (R.ahead self.old.reader) (R.ahead self.new.reader)) }
         ensures unchanged { self.new ≡ record self.old { reader = self.new.reader } }
     {
-        self.reader
-            .decode_piece(pieces, out, self.channels, self.header.channels)
+        let conversion = self.conversion();
+        self.reader.decode_piece(pieces, out, conversion)
     }
 
     // Fills `out` with the next bytes of the image: with what is kept, with more that is decoded in
