@@ -1,10 +1,12 @@
 -- Steps over the pieces of an image, one after another.
-use Rattle.std.proofs.Common.{◌≡◌, ℕ, ◌+◌, ◌-◌, ◌≤◌, List, [], ◌++◌, length, take, drop, min, Bool, Option, arith, refl, sym, ap, ◌∙◌, subst, append-nil, length-append}
+use Rattle.std.proofs.Common.{◌≡◌, ℕ, ◌+◌, ◌-◌, ◌≤◌, List, [], ◌++◌, length, take, drop, min, Bool, Option, Result, arith, refl, sym, ap, ◌∙◌, subst, append-nil, length-append}
 use Rattle.std.proofs.lemmas.List.{length-take-le, take_at}
+use Rattle.std.proofs.lemmas.Result.{MatchResult-weaker}
 use borrow.Rule.Slice.PartMut.{put_mid, mid_of, mid_len, same_len_mid}
 use Rattle.qoi.specs.declared.error.Error.{Error}
 use Rattle.qoi.specs.declared.decode.pixel_reader.pieces.Pieces.{Pieces}
-use Rattle.qoi.specs.pieces.ReaderPieces.{kept_raw, bytes_left, KeepsPixels, GivesPieces, GivesMore, RefusesMore}
+use Rattle.qoi.specs.declared.decode.pixel_reader.pieces.Refused.{Refused}
+use Rattle.qoi.specs.pieces.ReaderPieces.{kept_raw, bytes_left, KeepsPixels, GivesPieces, GivesMore, RefusesMore, Steps}
 use Rattle.qoi.proofs.decoding.PieceSteps.{gives, kept_long, read_two}
 use Rattle.qoi.proofs.decoding.PixelPieces.{three_of_four, four_as_three}
 
@@ -82,6 +84,16 @@ gives_of_four h = record {
 pub refuses_of_four : {in_memory : Bool} {ahead rest : Option (List ℕ)} {old : Pieces} {fault : Option Error}
     → RefusesMore 3 3 in_memory ahead rest old fault → RefusesMore 4 3 in_memory ahead rest old fault
 refuses_of_four h = record { refused = λ n start given before. h.refused n start given (three_of_four before) }
+
+-- the same step, in values that are equal
+pub steps_as : {f g c k : ℕ} {ahead other : Option (List ℕ)} (in_memory : Bool) (rest : Option (List ℕ)) (old new : Pieces) (out : List ℕ) (result : Result ℕ Refused)
+    → f ≡ g → c ≡ k → ahead ≡ other → Steps g k in_memory other rest old new out result → Steps f c in_memory ahead rest old new out result
+steps_as in_memory rest old new out result file channels same h = MatchResult-weaker result h (λ size. gives_as file channels same) (λ e. refuses_as file channels same)
+
+-- a step into three channels of a file of four
+pub steps_of_four : (in_memory : Bool) (ahead rest : Option (List ℕ)) (old new : Pieces) (out : List ℕ) (result : Result ℕ Refused)
+    → Steps 3 3 in_memory ahead rest old new out result → Steps 4 3 in_memory ahead rest old new out result
+steps_of_four in_memory ahead rest old new out result h = MatchResult-weaker result h (λ size. gives_of_four) (λ e. refuses_of_four)
 
 -- a step after one that gives none
 pub gives_after_none : {f c : ℕ} {ahead middle rest : Option (List ℕ)} {old between new : Pieces} {out : List ℕ} {size : ℕ}

@@ -1,10 +1,12 @@
 -- What stands between two pieces of an image.
-use Rattle.std.specs.Prelude.{◌≡◌, ℕ, ◌+◌, ◌-◌, ◌*◌, ◌%◌, ◌<◌, ◌≤◌, ◌/◌, List, [], ◌++◌, length, take, drop, reverse, replicate, Bool, Option}
+use Rattle.std.specs.Prelude.{◌≡◌, ℕ, ◌+◌, ◌-◌, ◌*◌, ◌%◌, ◌<◌, ◌≤◌, ◌/◌, ⊤, List, [], ◌++◌, length, take, drop, reverse, replicate, Bool, Option, Result, MatchResult}
 use Rattle.std.specs.Io.KnownBytes.{Consumes}
 use Rattle.qoi.specs.declared.chunk.Chunk.{Chunk}
 use Rattle.qoi.specs.declared.error.Error.{Error}
+use Rattle.qoi.specs.declared.decode.conversion.Conversion.{Conversion}
 use Rattle.qoi.specs.declared.decode.pixel_reader.pieces.Pieces.{Pieces}
-use Rattle.qoi.specs.Qoi.{Past, run_max, previous, AreChunks, chunk_bytes, then_chunks}
+use Rattle.qoi.specs.declared.decode.pixel_reader.pieces.Refused.{Refused}
+use Rattle.qoi.specs.Qoi.{Past, run_max, previous, channels_number, AreChunks, chunk_bytes, then_chunks}
 use Rattle.qoi.specs.Raw.{output}
 use Rattle.qoi.specs.Decoding.{ReadsImage}
 use Rattle.qoi.specs.inner.Chunks.{RefusesChunks, HasFault}
@@ -24,7 +26,7 @@ KeepsNone p = p.from ≡ p.to
 
 -- how many bytes of the image aren't given yet
 abbrev pub bytes_left : Pieces → ℕ
-bytes_left p = (p.to - p.from) + p.undecoded
+bytes_left p = kept_count p + p.undecoded
 
 -- the kept bytes lie in their array
 abbrev pub KeepsWithin : Pieces → Type 0
@@ -32,7 +34,7 @@ KeepsWithin p = (p.from ≤ p.to) × (p.to ≤ length p.bytes)
 
 -- nothing is kept, and nothing of a run is left
 abbrev pub KeepsNothing : Pieces → Type 0
-KeepsNothing p = (p.from ≡ p.to) × (p.run ≡ 0)
+KeepsNothing p = KeepsNone p × (p.run ≡ 0)
 
 -- those that aren't stored are whole pixels, and others follow those of a run
 abbrev pub AreWhole : ℕ → Pieces → Type 0
@@ -82,3 +84,21 @@ pub record GivesMore (file_channels channels : ℕ) (ahead rest : Option (List �
 pub record RefusesMore (file_channels channels : ℕ) (in_memory : Bool) (ahead rest : Option (List ℕ)) (old : Pieces) (fault : Option Error) : Type 0 where
   pub refused : (n : ℕ) (start : Option (List ℕ)) (given : List ℕ) → GivesPieces file_channels channels n start ahead given old
       → HasFault (RefusesChunks in_memory n start rest) fault
+
+-- so many bytes may be asked of a step: none are kept, and as many are left
+pub record Asks (channels : ℕ) (p : Pieces) (size : ℕ) : Type 0 where
+  pub none : KeepsNone p
+  pub fits : size ≤ bytes_left p
+  pub pixels : KeepsPixels channels p
+
+-- a step gave as many bytes as it returned, or was refused
+abbrev pub Steps : ℕ → ℕ → Bool → Option (List ℕ) → Option (List ℕ) → Pieces → Pieces → List ℕ → Result ℕ Refused → Type 0
+Steps f c in_memory ahead rest old new out result = MatchResult result (GivesMore f c ahead rest old new out) (λ _. RefusesMore f c in_memory ahead rest old new.fault)
+
+-- the same in these channels
+abbrev pub StepsIn : Conversion → Bool → Option (List ℕ) → Option (List ℕ) → Pieces → Pieces → List ℕ → Result ℕ Refused → Type 0
+StepsIn k in_memory ahead rest old new out result = Steps (channels_number k.file_channels) (channels_number k.channels) in_memory ahead rest old new out result
+
+-- a step gave all of `out`, or was refused
+abbrev pub Fills : ℕ → ℕ → Bool → Option (List ℕ) → Option (List ℕ) → Pieces → Pieces → List ℕ → Result ⊤ Refused → Type 0
+Fills f c in_memory ahead rest old new out result = MatchResult result (λ _. GivesMore f c ahead rest old new out (length out)) (λ _. RefusesMore f c in_memory ahead rest old new.fault)

@@ -1,12 +1,13 @@
 //! Decoding an image piece by piece.
 ghost use Rattle.std.specs.Io.KnownBytes.{Keeps};
-ghost use Rattle.std.specs.Prelude.{◌*◌, ◌≡◌, ℕ, ◌+◌, ◌-◌, ◌<◌, ◌≤◌, List, [], ◌++◌, length, take, drop, min, Option, Some, Ok, true, false, IsTrue, IfSome, IfOk, IfErr, OnOk, OnErr, IsErrOf};
+ghost use Rattle.std.specs.Prelude.{◌*◌, ◌≡◌, ℕ, ◌+◌, ◌-◌, ◌<◌, ◌≤◌, List, [], ◌++◌, length, take, drop, min, Option, Some, Ok, true, false, IsTrue, IfSome, IfOk, IfErr, OnErr, IsErrOf};
 ghost use Rattle.qoi.specs.Decoded.{HasDecoded};
 ghost use Rattle.qoi.specs.DecoderState.{DecoderState, output_byte_count};
 ghost use Rattle.qoi.specs.Images.{front_image, front_rest};
+ghost use Rattle.qoi.specs.inner.Conversion.{conversion_of};
 ghost use Rattle.qoi.specs.pieces.PixelReader.{as_decoder, pixels_left, HasGiven, HasRows, RefusesPixels, IsSpent};
 ghost use Rattle.qoi.specs.Qoi.{channels_number};
-ghost use Rattle.qoi.specs.pieces.ReaderPieces.{bytes_left, KeepsPixels, GivesMore, RefusesMore};
+ghost use Rattle.qoi.specs.pieces.ReaderPieces.{bytes_left, kept_count, KeepsPixels, Asks, StepsIn, Fills};
 ghost use Rattle.qoi.specs.Reading.{StandsAhead, IsCutAhead, IsWrongAhead, SaysWhy};
 ghost use Rattle.qoi.specs.Rectangles.{row_bytes, rectangle};
 ghost use Rattle.qoi.specs.declared.error.Error.{Error};
@@ -92,17 +93,11 @@ impl<R: Reader> Decoder<R> {
     // bytes that are kept is then a few instructions.
     #[inline(never)]
     fn ask_reader(&mut self, pieces: &mut Pieces, out: &mut [u8]) -> PieceResult<usize>
-        requires none { pieces.old.from ≡ pieces.old.to }
-        requires fits { length out.old ≤ bytes_left pieces.old }
-        requires pixels { KeepsPixels (channels_number self.old.channels) pieces.old }
-        ensures gives { IfOk result (GivesMore (channels_number self.old.header.channels)
-            (channels_number self.old.channels)
-            (R.ahead self.old.reader) (R.ahead self.new.reader) pieces.old pieces.new out.new) }
-        ensures refused { OnErr result (RefusesMore (channels_number self.old.header.channels)
-            (channels_number self.old.channels) R.in_memory
-            (R.ahead self.old.reader) (R.ahead self.new.reader) pieces.old pieces.new.fault) }
-        ensures enough { IfOk result (λ size.
-            length out.new ≤ size + (pieces.new.to - pieces.new.from)) }
+        requires { Asks (channels_number self.old.channels) pieces.old (length out.old) }
+        ensures step { StepsIn (conversion_of self.old) R.in_memory
+            (R.ahead self.old.reader) (R.ahead self.new.reader)
+            pieces.old pieces.new out.new result }
+        ensures enough { IfOk result (λ size. length out.new ≤ size + kept_count pieces.new) }
         ensures kept { IsTrue R.in_memory
             → OnErr result (Keeps (R.ahead self.old.reader) (R.ahead self.new.reader)) }
         ensures unchanged { self.new ≡ record self.old { reader = self.new.reader } }
@@ -117,12 +112,9 @@ impl<R: Reader> Decoder<R> {
     fn next_piece(&mut self, pieces: &mut Pieces, out: &mut [u8]) -> PieceResult<()>
         requires fits { length out.old ≤ bytes_left pieces.old }
         requires pixels { KeepsPixels (channels_number self.old.channels) pieces.old }
-        ensures gives { OnOk result (GivesMore (channels_number self.old.header.channels)
-            (channels_number self.old.channels) (R.ahead self.old.reader)
-            (R.ahead self.new.reader) pieces.old pieces.new out.new (length out.new)) }
-        ensures refused { OnErr result (RefusesMore (channels_number self.old.header.channels)
-            (channels_number self.old.channels) R.in_memory
-            (R.ahead self.old.reader) (R.ahead self.new.reader) pieces.old pieces.new.fault) }
+        ensures step { Fills (channels_number self.old.header.channels)
+            (channels_number self.old.channels) R.in_memory (R.ahead self.old.reader)
+            (R.ahead self.new.reader) pieces.old pieces.new out.new result }
         ensures kept { IsTrue R.in_memory
             → OnErr result (Keeps (R.ahead self.old.reader) (R.ahead self.new.reader)) }
         ensures unchanged { self.new ≡ record self.old { reader = self.new.reader } }

@@ -1,13 +1,13 @@
 //! Where a decoder takes its bytes from: bytes in memory, a stream, or a reader with a buffer.
 ghost use Rattle.std.specs.Io.KnownBytes.{Keeps};
-ghost use Rattle.std.specs.Prelude.{◌≡◌, ℕ, ◌+◌, ◌-◌, ◌≤◌, ◌/◌, ◌%◌, List, length, Option, Some, IfSome, IfNone, IfOk, IfErr, OnOk, OnErr, IsSome, IsTrue, Bool, true, false, Err, refl};
+ghost use Rattle.std.specs.Prelude.{◌≡◌, ℕ, ◌+◌, ◌-◌, ◌≤◌, ◌/◌, ◌%◌, List, length, Option, Some, IfOk, IfErr, OnOk, OnErr, IsSome, IsTrue, Bool, true, false, Err, refl};
 ghost use Rattle.std.specs.Vec.{vec_len, vec_capacity};
 ghost use Rattle.qoi.specs.Qoi.{channels_number};
 ghost use Rattle.qoi.specs.Raw.{AreChannels};
 ghost use Rattle.qoi.specs.Decoding.{ReadsImage, ReadsHeader, RefusesImage};
 ghost use Rattle.qoi.specs.inner.Conversion.{IsWholeIn, ReadsIn, RefusesIn};
 ghost use Rattle.qoi.specs.declared.error.Error.{Error};
-ghost use Rattle.qoi.specs.pieces.ReaderPieces.{bytes_left, kept_count, KeepsNone, KeepsPixels, GivesMore, RefusesMore};
+ghost use Rattle.qoi.specs.pieces.ReaderPieces.{kept_count, Asks, StepsIn};
 
 use crate::consts::QOI_HEADER_SIZE;
 use crate::decode::chunks::{image_to_buf, image_to_vec};
@@ -127,17 +127,9 @@ pub trait Reader: Sized {
         out: &mut [u8],
         conversion: Conversion,
     ) -> PieceResult<usize>
-        requires none { KeepsNone pieces.old }
-        requires fits { length out.old ≤ bytes_left pieces.old }
-        requires pixels { KeepsPixels (channels_number conversion.channels) pieces.old }
-        ensures gives { IfOk result
-            (GivesMore (channels_number conversion.file_channels)
-            (channels_number conversion.channels)
-            (ahead self.old) (ahead self.new) pieces.old pieces.new out.new) }
-        ensures refused { OnErr result
-            (RefusesMore (channels_number conversion.file_channels)
-            (channels_number conversion.channels) in_memory
-            (ahead self.old) (ahead self.new) pieces.old pieces.new.fault) }
+        requires { Asks (channels_number conversion.channels) pieces.old (length out.old) }
+        ensures step { StepsIn conversion in_memory (ahead self.old) (ahead self.new)
+            pieces.old pieces.new out.new result }
         ensures enough { IfOk result (λ size. length out.new ≤ size + kept_count pieces.new) }
         ensures kept { IsTrue in_memory → OnErr result (Keeps (ahead self.old) (ahead self.new)) };
 
@@ -181,17 +173,9 @@ fn piece_of_bytes(
     out: &mut [u8],
     conversion: Conversion,
 ) -> PieceResult<usize>
-    requires none { KeepsNone pieces.old }
-    requires fits { length out.old ≤ bytes_left pieces.old }
-    requires pixels { KeepsPixels (channels_number conversion.channels) pieces.old }
-    ensures gives { IfOk result
-        (GivesMore (channels_number conversion.file_channels)
-        (channels_number conversion.channels)
-        (Some bytes.old) (Some bytes.new) pieces.old pieces.new out.new) }
-    ensures refused { OnErr result
-        (RefusesMore (channels_number conversion.file_channels)
-        (channels_number conversion.channels) true
-        (Some bytes.old) (Some bytes.new) pieces.old pieces.new.fault) }
+    requires { Asks (channels_number conversion.channels) pieces.old (length out.old) }
+    ensures step { StepsIn conversion true (Some bytes.old) (Some bytes.new)
+        pieces.old pieces.new out.new result }
     ensures enough { IfOk result (λ size. length out.new ≤ size + kept_count pieces.new) }
 {
     in_channels!(conversion, Pieces::decode_more[Bytes](pieces, bytes, out))

@@ -1,5 +1,5 @@
 //! The loops over the pieces of an image: what is decoded before a caller asks for it is kept.
-ghost use Rattle.std.specs.Prelude.{◌≡◌, ◌↔◌, ℕ, ◌+◌, ◌-◌, ◌*◌, ◌%◌, ◌^◌, ◌<◌, ◌≤◌, List, [], ◌++◌, length, take, drop, min, Option, Some, IsTrue, IfOk, OnOk, OnErr, IfSome, None};
+ghost use Rattle.std.specs.Prelude.{◌≡◌, ◌↔◌, ℕ, ◌+◌, ◌-◌, ◌*◌, ◌%◌, ◌^◌, ◌<◌, ◌≤◌, List, [], ◌++◌, length, take, drop, min, Option, Some, IsTrue, IfOk, OnOk, IfSome, None};
 ghost use Rattle.qoi.specs.Raw.{IsChannels};
 ghost use Rattle.qoi.specs.declared.decode.output.TheConstants.{RUN_ROOM};
 ghost use Rattle.qoi.specs.declared.decode.pixel_reader.room.TheConstants.{DECODED_AHEAD, IN_PLACE};
@@ -37,7 +37,7 @@ pub struct Refused;
 pub type PieceResult<T> = std::result::Result<T, Refused>;
 
 impl Pieces {
-    ghost use Rattle.qoi.specs.pieces.ReaderPieces.{kept_raw, bytes_left, KeepsWithin, KeepsNothing, KeepsPixels, GivesPieces, GivesMore, RefusesMore};
+    ghost use Rattle.qoi.specs.pieces.ReaderPieces.{kept_raw, kept_count, bytes_left, KeepsWithin, KeepsNone, KeepsNothing, KeepsPixels, GivesPieces, GivesMore, Asks, Steps, Fills};
 
     /// At the beginning of an image of `size` bytes.
     pub(super) fn new(size: usize) -> Pieces
@@ -123,7 +123,7 @@ impl Pieces {
     #[inline]
     pub(super) fn give(&mut self, out: &mut [u8]) -> usize
         requires { KeepsWithin self.old }
-        ensures size { result ≡ min (length out.old) (self.old.to - self.old.from) }
+        ensures size { result ≡ min (length out.old) (kept_count self.old) }
         ensures given { out.new ≡ take result (kept_raw self.old) ++ drop result out.old }
         ensures state { self.new ≡ record self.old { from = self.old.from + result } }
     {
@@ -156,15 +156,12 @@ impl Pieces {
         out: &mut [u8],
     ) -> PieceResult<usize>
         requires channels { IsChannels N }
-        requires none { self.old.from ≡ self.old.to }
+        requires asks { Asks N self.old (length out.old) }
         requires room { IN_PLACE ≤ length out.old }
         requires fits { length out.old + RUN_ROOM ≤ self.old.undecoded }
-        requires pixels { KeepsPixels N self.old }
-        ensures gives { IfOk result (GivesMore F N (R.ahead reader.old) (R.ahead reader.new)
-            self.old self.new out.new) }
-        ensures refused { OnErr result (RefusesMore F N R.in_memory
-            (R.ahead reader.old) (R.ahead reader.new) self.old self.new.fault) }
-        ensures none { OnOk result (self.new.from ≡ self.new.to) }
+        ensures step { Steps F N R.in_memory (R.ahead reader.old) (R.ahead reader.new)
+            self.old self.new out.new result }
+        ensures none { OnOk result (KeepsNone self.new) }
     {
         let size = out.len() / N * N;
         store_run::<N, F>(out, 0, self.last, self.run / N);
@@ -188,7 +185,7 @@ impl Pieces {
     #[inline(never)]
     fn keep_run<const N: usize, const F: usize>(&mut self)
         requires channels { IsChannels N }
-        requires none { self.old.from ≡ self.old.to }
+        requires none { KeepsNone self.old }
         requires some { 0 < self.old.run }
         requires pixels { KeepsPixels N self.old }
         ensures gives { (now : Option (List ℕ)) → GivesMore F N now now self.old self.new [] 0 }
@@ -207,7 +204,7 @@ impl Pieces {
     #[inline(always)]
     fn give_run<const N: usize, const F: usize>(&mut self, out: &mut [u8]) -> usize
         requires channels { IsChannels N }
-        requires none { self.old.from ≡ self.old.to }
+        requires none { KeepsNone self.old }
         requires pixels { KeepsPixels N self.old }
         ensures gives { (now : Option (List ℕ)) → GivesMore F N now now
             self.old self.new out.new result }
@@ -230,13 +227,9 @@ impl Pieces {
         out: &mut [u8],
     ) -> PieceResult<usize>
         requires channels { IsChannels N }
-        requires none { self.old.from ≡ self.old.to }
-        requires fits { length out.old ≤ bytes_left self.old }
-        requires pixels { KeepsPixels N self.old }
-        ensures gives { IfOk result (GivesMore F N (R.ahead reader.old) (R.ahead reader.new)
-            self.old self.new out.new) }
-        ensures refused { OnErr result (RefusesMore F N R.in_memory
-            (R.ahead reader.old) (R.ahead reader.new) self.old self.new.fault) }
+        requires asks { Asks N self.old (length out.old) }
+        ensures step { Steps F N R.in_memory (R.ahead reader.old) (R.ahead reader.new)
+            self.old self.new out.new result }
         ensures none { IfOk result (λ size. size < length out.new → KeepsNothing self.new) }
     {
         if !self.goes_in_place(out.len()) {
@@ -259,13 +252,10 @@ impl Pieces {
         done: usize,
     ) -> PieceResult<usize>
         requires channels { IsChannels N }
-        requires none { KeepsNothing self.old }
-        requires fits { length out.old ≤ bytes_left self.old }
-        requires pixels { KeepsPixels N self.old }
-        ensures gives { IfOk result (GivesMore F N (R.ahead reader.old) (R.ahead reader.new)
-            self.old self.new out.new) }
-        ensures refused { OnErr result (RefusesMore F N R.in_memory
-            (R.ahead reader.old) (R.ahead reader.new) self.old self.new.fault) }
+        requires asks { Asks N self.old (length out.old) }
+        requires run { self.old.run ≡ 0 }
+        ensures step { Steps F N R.in_memory (R.ahead reader.old) (R.ahead reader.new)
+            self.old self.new out.new result }
         ensures few { IfOk result (λ size. length out.new < size + IN_PLACE) }
         ensures last { IfOk result (λ size. 0 < done + size
             → length out.new < size + (RUN_ROOM + 3)) }
@@ -297,12 +287,10 @@ impl Pieces {
         requires none { KeepsNothing self.old }
         requires some { 0 < self.old.undecoded }
         requires pixels { KeepsPixels N self.old }
-        ensures gives { OnOk result (GivesMore F N (R.ahead reader.old) (R.ahead reader.new)
-            self.old self.new [] 0) }
-        ensures refused { OnErr result (RefusesMore F N R.in_memory
-            (R.ahead reader.old) (R.ahead reader.new) self.old self.new.fault) }
+        ensures step { Fills F N R.in_memory (R.ahead reader.old) (R.ahead reader.new)
+            self.old self.new [] result }
         ensures enough { OnOk result
-            (min self.old.undecoded (room - RUN_ROOM) ≤ self.new.to - self.new.from) }
+            (min self.old.undecoded (room - RUN_ROOM) ≤ kept_count self.new) }
     {
         self.from = 0;
         if DECODED_AHEAD < self.undecoded {
@@ -346,15 +334,10 @@ impl Pieces {
         out: &mut [u8],
     ) -> PieceResult<usize>
         requires channels { IsChannels N }
-        requires none { self.old.from ≡ self.old.to }
-        requires fits { length out.old ≤ bytes_left self.old }
-        requires pixels { KeepsPixels N self.old }
-        ensures gives { IfOk result (GivesMore F N (R.ahead reader.old) (R.ahead reader.new)
-            self.old self.new out.new) }
-        ensures refused { OnErr result (RefusesMore F N R.in_memory
-            (R.ahead reader.old) (R.ahead reader.new) self.old self.new.fault) }
-        ensures enough { IfOk result (λ size.
-            length out.new ≤ size + (self.new.to - self.new.from)) }
+        requires asks { Asks N self.old (length out.old) }
+        ensures step { Steps F N R.in_memory (R.ahead reader.old) (R.ahead reader.new)
+            self.old self.new out.new result }
+        ensures enough { IfOk result (λ size. length out.new ≤ size + kept_count self.new) }
     {
         let done = self.piece_front::<R, N, F>(reader, out)?;
         if done == out.len() {

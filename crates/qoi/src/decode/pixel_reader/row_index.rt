@@ -1,5 +1,5 @@
 //! Rows of an image, read from any of them on.
-ghost use Rattle.std.specs.Prelude.{◌≡◌, ℕ, ◌+◌, ◌-◌, ◌*◌, ◌/◌, ◌<◌, ◌≤◌, List, [], ◌++◌, ◌⊎◌, max, length, drop, Some, Ok, Err, true, false, IsOk, IfOk, IfErr, OnOk, IsErrOf};
+ghost use Rattle.std.specs.Prelude.{◌≡◌, ℕ, ◌+◌, ◌-◌, ◌*◌, ◌/◌, ◌<◌, ◌≤◌, List, [], ◌++◌, ◌⊎◌, max, min, length, drop, Some, Ok, Err, true, false, IsOk, IfOk, IfErr, OnOk, IsErrOf};
 ghost use Rattle.qoi.specs.Decoded.{HasRefusedFile};
 ghost use Rattle.qoi.specs.DecoderState.{DecoderState};
 ghost use Rattle.qoi.specs.Images.{front_image, file_image};
@@ -80,8 +80,7 @@ fn read_to(pixels: &mut PixelReader<Bytes<'_>>, left: usize) -> Result<()>
         → HasGiven d (Some bytes) (Some pixels.old.reader) given pixels.old
         → OnOk result ((more : List ℕ)
         × HasGiven d (Some bytes) (Some pixels.new.reader) (given ++ more) pixels.new) }
-    ensures left { left ≤ pixels_left pixels.old → OnOk result (pixels_left pixels.new ≡ left) }
-    ensures most { OnOk result (pixels_left pixels.new ≤ left) }
+    ensures left { OnOk result (pixels_left pixels.new ≡ min left (pixels_left pixels.old)) }
     ensures refused { (d : DecoderState (List ℕ)) (bytes given : List ℕ)
         → HasGiven d (Some bytes) (Some pixels.old.reader) given pixels.old
         → IfErr result (RefusesPixels true d (Some bytes) (Some pixels.new.reader)) }
@@ -99,8 +98,7 @@ fn skip_to(pixels: &mut PixelReader<Bytes<'_>>, left: usize) -> Result<()>
     ensures file { (channels : Channels) (h : Header) (file : List ℕ)
         → ReadsFile channels h file pixels.old
         → OnOk result (ReadsFile channels h file pixels.new) }
-    ensures left { left ≤ pixels_left pixels.old → OnOk result (pixels_left pixels.new ≡ left) }
-    ensures most { OnOk result (pixels_left pixels.new ≤ left) }
+    ensures left { OnOk result (pixels_left pixels.new ≡ min left (pixels_left pixels.old)) }
     ensures refused { (channels : Channels) (h : Header) (file : List ℕ)
         → ReadsFile channels h file pixels.old → IfErr result (HasRefusedFile file) }
     ensures accepts { (channels : Channels) (h : Header) (file : List ℕ)

@@ -37,7 +37,7 @@ returns-in-Ok-clause-read g c d start given h =
     let ahead = ap (λ s. g.R.Reader.ahead s.reader) c.self.view_is in
     let pieces = ap (λ s. s.pieces) c.self.view_is in
     let going = ap (λ s. s.refused) c.self.view_is ∙ h.going in
-    let after = pieces_of (sym header) (sym chosen) refl refl (c.in-Ok.ensures.gives.read _ start given (pieces_of header chosen ahead pieces h.pieces)) in
+    let after = pieces_of (sym header) (sym chosen) refl refl (c.in-Ok.ensures.step.read _ start given (pieces_of header chosen ahead pieces h.pieces)) in
     let out = c.next_piece.new.out in
     let whole = take_all (length out) out (omega arith) in
     let size : c.min-size.result ≡ length out = omega (arith, c.next_piece.auto.out, length-take-le c.min-size.result c.args.buf.now (omega (arith, c.min-size.ensures))) in
@@ -47,7 +47,7 @@ returns-in-Ok-clause-read g c d start given h =
     let e = c.next_piece.new.self in
     let then : PixelsState _ = record { reader = e.reader; header = e.header; channels = e.channels; pieces = c.next_piece.new.pieces; refused = c.self.inside.refused } in
     subst (λ z. HasGiven d start (g.R.Reader.ahead e.reader) (given ++ z) then) (sym front)
-    (has_given d start _ (given ++ out) then (subst (λ z. GivesPieces (channels_number d.header.channels) (channels_number d.channels) (pixel_count d.header) start (g.R.Reader.ahead e.reader) (given ++ z) then.pieces) whole after) (subst (λ k. KeepsPixels (channels_number k) then.pieces) chosen c.in-Ok.ensures.gives.pixels) (ap (λ s. s.header) same ∙ header) (ap (λ s. s.channels) same ∙ chosen) going (byte_bounds d.header d.channels valid).0)
+    (has_given d start _ (given ++ out) then (subst (λ z. GivesPieces (channels_number d.header.channels) (channels_number d.channels) (pixel_count d.header) start (g.R.Reader.ahead e.reader) (given ++ z) then.pieces) whole after) (subst (λ k. KeepsPixels (channels_number k) then.pieces) chosen c.in-Ok.ensures.step.pixels) (ap (λ s. s.header) same ∙ header) (ap (λ s. s.channels) same ∙ chosen) going (byte_bounds d.header d.channels valid).0)
 
 pub returns-in-Ok-clause-follows : goal.returns-in-Ok-clause-follows
 unfolding HasGiven
@@ -113,4 +113,4 @@ returns-in-Err-clause-refused g c d start given h =
     refuses_pixels g.R.Reader.in_memory d start _ c.refuse.result
     (subst (λ k. RefusesChunks g.R.Reader.in_memory (pixel_count k) start ahead_now c.refuse.result) header
     (fault_is _ c.next_piece.new.pieces.fault c.refuse.result c.refuse.ensures.error
-    (c.in-Err.ensures.refused.refused _ start given (pieces_of header chosen ahead pieces h.pieces))))
+    (c.in-Err.ensures.step.refused _ start given (pieces_of header chosen ahead pieces h.pieces))))

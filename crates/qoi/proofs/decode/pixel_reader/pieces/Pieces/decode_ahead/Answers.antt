@@ -26,8 +26,8 @@ rest_lent {c = c} p is h same size some short =
     let front = length-take-le p.undecoded p.bytes (omega (arith, size, short)) in
     lent (p.undecoded / c) (take p.undecoded p.bytes) is h same some (front ∙ rest_whole is h same.0 some) (omega (arith, front))
 
-pub returns-in-Err-clause-refused : goal.returns-in-Err-clause-refused
-returns-in-Err-clause-refused g c = record {
+pub returns-in-Err-clause-step : goal.returns-in-Err-clause-step
+returns-in-Err-clause-step g c = record {
   refused = λ n start given h.
       let size : length c.args.self.now.bytes ≡ 3072 = omega arith in
       let within : c.args.room ≤ length c.args.self.now.bytes = omega (arith, size, c.requires.room.1) in
@@ -36,8 +36,8 @@ returns-in-Err-clause-refused g c = record {
       (c.in-Err.ensures.refused l.gone _ _ l.before n l.most);
 }
 
-pub returns-then-self-gt-DECODED_AHEAD-clause-gives : goal.returns-then-self-gt-DECODED_AHEAD-clause-gives
-returns-then-self-gt-DECODED_AHEAD-clause-gives g c =
+pub returns-then-self-gt-DECODED_AHEAD-clause-step : goal.returns-then-self-gt-DECODED_AHEAD-clause-step
+returns-then-self-gt-DECODED_AHEAD-clause-step g c =
     let pixels = c.requires.pixels.1 in
     let out = c.front_of_image-front.new.out in
     let now = c.in-Ok.now in
@@ -54,8 +54,8 @@ returns-then-self-gt-DECODED_AHEAD-clause-gives g c =
     ((omega arith, omega (arith, c.in-Ok.ensures.below, c.requires.room.1)), (whole, pixels.1, pixels.2, λ some. absurd (omega (arith, some, c.requires.none))))
     (omega (arith, c.requires.none, c.in-Ok.ensures.below, c.if-self-gt-DECODED_AHEAD.true, c.requires.room.1)) refl
 
-pub returns-in-Err-rest-clause-refused : goal.returns-in-Err-rest-clause-refused
-returns-in-Err-rest-clause-refused g c = record {
+pub returns-in-Err-rest-clause-step : goal.returns-in-Err-rest-clause-step
+returns-in-Err-rest-clause-step g c = record {
   refused = λ n start given h.
       let l = rest_lent c.args.self.now c.requires.channels h c.requires.none (omega arith) c.requires.some (omega (arith, c.if-self-gt-DECODED_AHEAD.false)) in
       let count = rest_count c.requires.channels h c.requires.none l (rest_whole c.requires.channels h c.requires.none.0 c.requires.some) in
@@ -64,8 +64,8 @@ returns-in-Err-rest-clause-refused g c = record {
       (c.in-Err-rest.ensures.refused l.gone _ _ l.before));
 }
 
-pub returns-clause-gives : goal.returns-clause-gives
-returns-clause-gives g c =
+pub returns-clause-step : goal.returns-clause-step
+returns-clause-step g c =
     let pixels = c.requires.pixels.1 in
     let size : length c.args.self.now.bytes ≡ 3072 = omega arith in
     let short : c.args.self.now.undecoded ≤ 3072 = omega (arith, c.if-self-gt-DECODED_AHEAD.false) in

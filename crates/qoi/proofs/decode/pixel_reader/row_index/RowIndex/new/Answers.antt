@@ -25,7 +25,7 @@ returns-clause-index c =
     let h = c.in_ok-header.header in
     let read = c.in_ok-skip_to-2.ensures.file h.channels h c.args.file.now c.loop-k.invariant.reads in
     row_index h c.args.file.now c.loop-k.places.items (sym c.in_ok-header.ensures.read) c.loop-k.invariant.are
-    (stands_whole h.channels h c.args.file.now c.skip_to-2.new.pixels read (omega (arith, c.in_ok-skip_to-2.ensures.most)))
+    (stands_whole h.channels h c.args.file.now c.skip_to-2.new.pixels read (omega (arith, c.in_ok-skip_to-2.ensures.left)))
 
 pub returns-clause-index_then : goal.returns-clause-index_then
 returns-clause-index_then c more = row_index_then c.args.file.now more c.loop-k.places.items (returns-clause-index c)

@@ -1,5 +1,5 @@
 -- The reader stands before the row that many bytes stand behind, and an image of an index isn't refused.
-use Rattle.std.proofs.Common.{◌≡◌, ◌∙◌, ◌-◌, ◌*◌, Some, Ok, drop, sym, subst, arith}
+use Rattle.std.proofs.Common.{◌≡◌, ◌-◌, ◌*◌, Some, Ok, drop, sym, subst, arith}
 use Rattle.qoi.specs.declared.header.Header.{Header}
 use Rattle.qoi.specs.Qoi.{channels_number, header_of, header_size}
 use Rattle.qoi.specs.pieces.PixelReader.{pixels_left, HasRows}
@@ -22,6 +22,6 @@ returns-clause-rows c h is index =
     let own : header_of file ≡ Ok g = sym c.in_ok-header.ensures.read in
     let same : g ≡ h = cc (own, is) in
     let left : pixels_left c.skip_to.new.pixels ≡ g.width * (g.height - k) * channels_number channels =
-    c.in_ok-skip_to.ensures.left (omega (arith, c.bytes_behind.ensures, c.in_ok-pixels.ensures.left)) ∙ c.bytes_behind.ensures in
+    omega (arith, c.in_ok-skip_to.ensures.left, c.bytes_behind.ensures, c.in_ok-pixels.ensures.left) in
     subst (λ (z : Header). HasRows (file_decoder channels z file) (Some (drop header_size file)) (Some c.skip_to.new.pixels.reader) (row_size channels z) k c.skip_to.new.pixels) same
     (at_row channels g file k c.skip_to.new.pixels (c.in_ok-skip_to.ensures.file channels g file (c.in_ok-pixels.ensures.file index)) (omega (arith, c.if-first-header.false)) left)
