@@ -7,12 +7,12 @@ ghost use Rattle.qoi.specs.Raw.{AreChannels};
 ghost use Rattle.qoi.specs.Decoding.{ReadsImage, ReadsHeader, RefusesImage};
 ghost use Rattle.qoi.specs.inner.Conversion.{IsWholeIn, ReadsIn, RefusesIn};
 ghost use Rattle.qoi.specs.declared.error.Error.{Error};
-ghost use Rattle.qoi.specs.pieces.ReaderPieces.{kept_count, Asks, StepsIn};
+ghost use Rattle.qoi.specs.pieces.Unread.{kept_count, Asks, StepsIn};
 
 use crate::consts::QOI_HEADER_SIZE;
 use crate::decode::chunks::{image_to_buf, image_to_vec};
 use crate::decode::conversion::Conversion;
-use crate::decode::pixel_reader::pieces::{PieceResult, Pieces};
+use crate::decode::pixel_reader::unread::{PieceResult, Unread};
 use crate::decode::slice::{slice_image, slice_image_to_vec};
 use crate::decode::stream::read_exact;
 use crate::error::{Error, Result};
@@ -116,21 +116,21 @@ pub trait Reader: Sized {
 
     /// Decodes the next bytes of an image, while none are kept: into the front of `out`, and
     /// returns how many; the rest of `out`, and more, are kept. With the last ones it takes the end
-    /// marker. After a refusal the error stands in `pieces`.
+    /// marker. After a refusal the error stands in `unread`.
     ///
-    /// Only `PixelReader` can call it, and no other type can be a reader, since nobody else has a
-    /// `Pieces`.
+    /// Only `PixelReader` can call it, and no other type can be a reader, since nobody else has an
+    /// `Unread`.
     #[doc(hidden)]
     fn decode_piece(
         &mut self,
-        pieces: &mut Pieces,
+        unread: &mut Unread,
         out: &mut [u8],
         conversion: Conversion,
     ) -> PieceResult<usize>
-        requires { Asks (channels_number conversion.channels) pieces.old (length out.old) }
+        requires { Asks (channels_number conversion.channels) unread.old (length out.old) }
         ensures step { StepsIn conversion in_memory (ahead self.old) (ahead self.new)
-            pieces.old pieces.new out.new result }
-        ensures enough { IfOk result (λ size. length out.new ≤ size + kept_count pieces.new) }
+            unread.old unread.new out.new result }
+        ensures enough { IfOk result (λ size. length out.new ≤ size + kept_count unread.new) }
         ensures kept { IsTrue in_memory → OnErr result (Keeps (ahead self.old) (ahead self.new)) };
 
     /// The bytes of a reader in memory are stated.
@@ -166,19 +166,19 @@ impl<'a> Bytes<'a> {
     }
 }
 
-// `Pieces::decode_more` for a slice, with its channels as constants.
+// `Unread::decode_more` for a slice, with its channels as constants.
 fn piece_of_bytes(
     bytes: &mut Bytes,
-    pieces: &mut Pieces,
+    unread: &mut Unread,
     out: &mut [u8],
     conversion: Conversion,
 ) -> PieceResult<usize>
-    requires { Asks (channels_number conversion.channels) pieces.old (length out.old) }
+    requires { Asks (channels_number conversion.channels) unread.old (length out.old) }
     ensures step { StepsIn conversion true (Some bytes.old) (Some bytes.new)
-        pieces.old pieces.new out.new result }
-    ensures enough { IfOk result (λ size. length out.new ≤ size + kept_count pieces.new) }
+        unread.old unread.new out.new result }
+    ensures enough { IfOk result (λ size. length out.new ≤ size + kept_count unread.new) }
 {
-    in_channels!(conversion, Pieces::decode_more[Bytes](pieces, bytes, out))
+    in_channels!(conversion, Unread::decode_more[Bytes](unread, bytes, out))
 }
 
 impl<'a> Reader for Bytes<'a> {
@@ -211,12 +211,12 @@ impl<'a> Reader for Bytes<'a> {
 
     fn decode_piece(
         &mut self,
-        pieces: &mut Pieces,
+        unread: &mut Unread,
         out: &mut [u8],
         conversion: Conversion,
     ) -> PieceResult<usize> {
         let before = self.0;
-        match piece_of_bytes(self, pieces, out, conversion) {
+        match piece_of_bytes(self, unread, out, conversion) {
             Ok(size) => Ok(size),
             Err(refused) => {
                 // Put back as a part of itself, so that `before` is read as address and length, one by
@@ -258,11 +258,11 @@ impl<R: Read> Reader for R {
 
     fn decode_piece(
         &mut self,
-        pieces: &mut Pieces,
+        unread: &mut Unread,
         out: &mut [u8],
         conversion: Conversion,
     ) -> PieceResult<usize> {
-        in_channels!(conversion, Pieces::decode_more[R](pieces, self, out))
+        in_channels!(conversion, Unread::decode_more[R](unread, self, out))
     }
 }
 
@@ -329,13 +329,13 @@ impl<R: BufRead> Reader for Buffered<R> {
 
     fn decode_piece(
         &mut self,
-        pieces: &mut Pieces,
+        unread: &mut Unread,
         out: &mut [u8],
         conversion: Conversion,
     ) -> PieceResult<usize> {
         in_channels!(
             conversion,
-            Pieces::decode_more[Buffered<R>](pieces, self, out)
+            Unread::decode_more[Buffered<R>](unread, self, out)
         )
     }
 }

@@ -11,8 +11,8 @@ ghost use Rattle.qoi.specs.pieces.RowIndex.{StandsAt, ReadsFile, IsPlaceOf, Goes
 use crate::decode::Decoder;
 use crate::decode::hashed::Hashed;
 use crate::decode::pixel_reader::PixelReader;
-use crate::decode::pixel_reader::pieces::Pieces;
 use crate::decode::pixel_reader::room::DECODED_AHEAD;
+use crate::decode::pixel_reader::unread::Unread;
 use crate::decode::reader::Bytes;
 use crate::decode::table::TermTable;
 use crate::error::{Error, Result};
@@ -105,23 +105,23 @@ impl Place {
     // The place behind what a reader of the file keeps.
     fn behind(file: &[u8], pixels: &PixelReader<Bytes<'_>>) -> Place
         requires going { pixels.now.refused ≡ false }
-        requires some { 0 < pixels.now.pieces.undecoded }
+        requires some { 0 < pixels.now.unread.undecoded }
         ensures { IsPlaceOf file.now pixels.now result }
     {
         let channels = pixels.decoder.channels.as_u8() as usize;
         Place {
-            table: pixels_of(&pixels.pieces.table),
-            last: packed(pixels.pieces.last),
+            table: pixels_of(&pixels.unread.table),
+            last: packed(pixels.unread.last),
             at: file.len().saturating_sub(pixels.decoder.reader.0.len()),
-            left: pixels.pieces.undecoded / channels,
-            run: pixels.pieces.run / channels,
+            left: pixels.unread.undecoded / channels,
+            run: pixels.unread.run / channels,
         }
     }
 
     /// The place behind what a reader of the file keeps, which isn't the end of the image.
     pub(super) fn of(file: &[u8], pixels: &PixelReader<Bytes<'_>>) -> Place
         requires going { pixels.now.refused ≡ false }
-        requires some { 0 < pixels.now.pieces.undecoded }
+        requires some { 0 < pixels.now.unread.undecoded }
         ensures { (channels : Channels) (h : Header) → ReadsFile channels h file.now pixels.now
             → StandsAt (pixel_count h) file.now result }
     {
@@ -147,7 +147,7 @@ impl Place {
                 header,
                 channels,
             },
-            pieces: Pieces {
+            unread: Unread {
                 table: table_of(&self.table),
                 last: hashed(self.last),
                 bytes: [0; DECODED_AHEAD],

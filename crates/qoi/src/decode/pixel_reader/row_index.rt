@@ -129,7 +129,7 @@ fn keep_place(places: &mut Vec<Place>, file: &[u8], pixels: &PixelReader<Bytes<'
     ensures few { OnOk result (length places.new.items ≤ length places.old.items + 1) }
     ensures refused { IfErr result (λ e. e ≡ Error.OutOfMemory) }
 {
-    if pixels.pieces.undecoded > 0 {
+    if pixels.unread.undecoded > 0 {
         places.push(Place::of(file, pixels))?;
     }
     Ok(())

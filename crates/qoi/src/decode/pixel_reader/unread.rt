@@ -1,4 +1,5 @@
-//! The loops over the pieces of an image: what is decoded before a caller asks for it is kept.
+//! What is unread of an image, and the loops that decode it piece by piece: what is decoded before a
+//! caller asks for it is kept.
 ghost use Rattle.std.specs.Prelude.{◌≡◌, ◌↔◌, ℕ, ◌+◌, ◌-◌, ◌*◌, ◌%◌, ◌^◌, ◌<◌, ◌≤◌, List, [], ◌++◌, length, take, drop, min, Option, Some, IsTrue, IfOk, OnOk, IfSome, None};
 ghost use Rattle.qoi.specs.Raw.{IsChannels};
 ghost use Rattle.qoi.specs.declared.decode.output.TheConstants.{RUN_ROOM};
@@ -13,11 +14,11 @@ use crate::decode::pixel_reader::room::{
 use crate::decode::table::TermTable;
 use crate::error::Error;
 
-/// What stands between two pieces of an image: the table, the last pixel, bytes that are stored and
-/// weren't given yet, and how many bytes aren't stored; of those the first `run` are copies of the
-/// last pixel. After a refusal its error stands in `fault`, until it is returned.
+/// What is unread of an image: bytes that are decoded and weren't given yet, and how many others there
+/// are, of which the first `run` are copies of the last pixel. Table and last pixel are those behind
+/// all chunks so far. After a refusal its error stands in `fault`, until it is returned.
 #[derive(Drop)]
-pub struct Pieces {
+pub struct Unread {
     pub(super) table: TermTable,
     pub(super) last: Hashed,
     pub(super) bytes: [u8; DECODED_AHEAD],
@@ -33,24 +34,24 @@ pub struct Pieces {
 #[derive(Clone, Copy)]
 pub struct Refused;
 
-/// What the loops over pieces return.
+/// What the calls return that decode a piece.
 pub type PieceResult<T> = std::result::Result<T, Refused>;
 
-impl Pieces {
-    ghost use Rattle.qoi.specs.pieces.ReaderPieces.{kept_raw, kept_count, bytes_left, KeepsWithin, KeepsNone, KeepsNothing, KeepsPixels, GivesPieces, GivesMore, Asks, Steps, Fills};
+impl Unread {
+    ghost use Rattle.qoi.specs.pieces.Unread.{kept_raw, kept_count, bytes_left, KeepsWithin, KeepsNone, KeepsNothing, KeepsPixels, IsUnread, GivesMore, Asks, Steps, Fills};
 
-    /// At the beginning of an image of `size` bytes.
-    pub(super) fn new(size: usize) -> Pieces
+    /// All of an image of `size` bytes.
+    pub(super) fn new(size: usize) -> Unread
         requires { 0 < size }
         ensures start { (f c n : ℕ) (start : Option (List ℕ)) → IsChannels c → size ≡ c * n
-            → GivesPieces f c n start start [] result }
+            → IsUnread f c n start start [] result }
         ensures pixels { (c n : ℕ) → IsChannels c → size ≡ c * n → KeepsPixels c result }
         ensures left { bytes_left result ≡ size }
         ensures within { KeepsWithin result }
         ensures undecoded { (result.undecoded ≡ size) × (result.run ≡ 0) }
         ensures fault { result.fault ≡ None }
     {
-        Pieces {
+        Unread {
             table: TermTable::new(),
             last: Hashed::start(),
             bytes: [0; DECODED_AHEAD],
@@ -63,11 +64,11 @@ impl Pieces {
     }
 
     /// A copy, while no error stands in its place.
-    pub(super) fn copied(&self) -> Pieces
+    pub(super) fn copied(&self) -> Unread
         requires { self.now.fault ≡ None }
         ensures { result ≡ self.now }
     {
-        Pieces {
+        Unread {
             table: self.table.copied(),
             last: self.last,
             bytes: self.bytes,

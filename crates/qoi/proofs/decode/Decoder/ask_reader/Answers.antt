@@ -1,13 +1,13 @@
 -- The decoder's channels are handed on.
 use Rattle.std.proofs.Common.{length, sym, ap, subst}
 use Rattle.qoi.specs.Qoi.{channels_number}
-use Rattle.qoi.specs.pieces.ReaderPieces.{Asks}
+use Rattle.qoi.specs.pieces.Unread.{Asks}
 use Rattle.qoi.proofs.decoding.GivenMore.{steps_as}
 use Rattle.qoi.proofs.decode.Decoder.ask_reader.Goals as goal
 
 pub decode_piece-requires : goal.decode_piece-requires
 decode_piece-requires g c =
-    subst (λ k. Asks (channels_number k.channels) c.args.pieces.now (length c.args.out.now)) (sym c.conversion-conversion.ensures) c.requires
+    subst (λ k. Asks (channels_number k.channels) c.args.unread.now (length c.args.out.now)) (sym c.conversion-conversion.ensures) c.requires
 
 pub returns-clause-step : goal.returns-clause-step
 returns-clause-step g c =

@@ -3,7 +3,7 @@ use Rattle.std.proofs.Common.{◌≡◌, ◌%◌, arith}
 use Rattle.std.proofs.lemmas.Result.{err_from_is_err_and}
 use Rattle.qoi.proofs.format.WholePixels.{by_channels}
 use Rattle.qoi.proofs.decoding.GivenMore.{gives_two, gives_then_none, refused_after}
-use Rattle.qoi.proofs.decode.pixel_reader.pieces.Pieces.decode_more.Goals as goal
+use Rattle.qoi.proofs.decode.pixel_reader.unread.Unread.decode_more.Goals as goal
 
 pub decode_ahead-requires-clause-whole : goal.decode_ahead-requires-clause-whole
 decode_ahead-requires-clause-whole g c =

@@ -2,7 +2,7 @@
 use Rattle.std.proofs.Common.{◌≤◌, length, arith, rules, refl}
 use Rattle.qoi.proofs.decoding.GivenMore.{gives_none}
 use Rattle.qoi.proofs.decoding.PieceSteps.{run_kept}
-use Rattle.qoi.proofs.decode.pixel_reader.pieces.Pieces.keep_run.Goals as goal
+use Rattle.qoi.proofs.decode.pixel_reader.unread.Unread.keep_run.Goals as goal
 
 pub returns-clause-gives : goal.returns-clause-gives
 returns-clause-gives g c now =

@@ -1,9 +1,9 @@
 -- What was lent is decoded.
 use Rattle.std.proofs.Common.{◌≡◌, ◌*◌, ◌/◌, ◌≤◌, take, length, arith, rules, refl, sym, subst}
 use Rattle.qoi.specs.inner.Chunks.{RefusesChunks, HasFault}
-use Rattle.qoi.specs.pieces.ReaderPieces.{KeepsNothing}
+use Rattle.qoi.specs.pieces.Unread.{KeepsNothing}
 use Rattle.qoi.proofs.decoding.PieceSteps.{whole_front, front_lent, front_most, long_read, times_fillable, minus_whole}
-use Rattle.qoi.proofs.decode.pixel_reader.pieces.Pieces.long_piece.Goals as goal
+use Rattle.qoi.proofs.decode.pixel_reader.unread.Unread.long_piece.Goals as goal
 
 pub some_chunks-requires : goal.some_chunks-requires
 some_chunks-requires g c = times_fillable _ c.requires.channels (whole_front g.row.N c.args.out.now c.requires.channels)

@@ -1,6 +1,6 @@
 -- A run may have more bytes than have room behind what was decoded.
 use Rattle.qoi.proofs.decoding.GivenMore.{gives_two}
-use Rattle.qoi.proofs.decode.pixel_reader.pieces.Pieces.piece_front.Goals as goal
+use Rattle.qoi.proofs.decode.pixel_reader.unread.Unread.piece_front.Goals as goal
 
 pub returns-clause-step : goal.returns-clause-step
 returns-clause-step g c =

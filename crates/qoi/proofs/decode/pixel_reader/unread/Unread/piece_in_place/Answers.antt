@@ -2,7 +2,7 @@
 use Rattle.std.proofs.Common.{arith, rules, refl, sym, subst}
 use Rattle.qoi.specs.inner.Chunks.{RefusesChunks, HasFault}
 use Rattle.qoi.proofs.decoding.PieceSteps.{piece_lent, piece_read, placed_most}
-use Rattle.qoi.proofs.decode.pixel_reader.pieces.Pieces.piece_in_place.Goals as goal
+use Rattle.qoi.proofs.decode.pixel_reader.unread.Unread.piece_in_place.Goals as goal
 
 pub returns-in-Err-clause-step : goal.returns-in-Err-clause-step
 returns-in-Err-clause-step g c = record {
